@@ -1,0 +1,10 @@
+//! What every crate of `qvto` stands on: places and numbers, lists and texts that contracts see as
+//! plain lists, names, and the outside (files and the sink) as traits that count their faults.
+#![tactic(auto)]
+
+pub mod list_fault;
+pub mod seq;
+pub mod text;
+pub mod numbers;
+pub mod copied;
+pub mod lists;
