@@ -1,0 +1,4 @@
+//! Metamodels: an EMOF subset, numbered and looked up.
+#![tactic(auto)]
+
+pub mod info;

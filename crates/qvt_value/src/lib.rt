@@ -1,0 +1,4 @@
+//! Values: null, Booleans, Integers, Strings, literals of enumerations, objects, collections and invalid.
+#![tactic(auto)]
+
+pub mod value;
