@@ -22,7 +22,6 @@ pub record IsWellFormed (m : Metamodels) : Type 0 where
   pub few_metamodels : length m.metamodels < 2 ^ 32
   pub few_classes : length m.classes < 2 ^ 32
   pub few_features : length m.features < 2 ^ 32
-
   -- the numbers inside are those of what is there
   pub live_metamodel : (c : ℕ) → c < length m.classes → (class_at m c).metamodel < length m.metamodels
   pub live_superclass : (c d : ℕ) → IsTrue (is_superclass m c d) → d < length m.classes
@@ -31,7 +30,6 @@ pub record IsWellFormed (m : Metamodels) : Type 0 where
   pub live_class : (c f : ℕ) → IsTrue (has_feature m c f) → c < length m.classes
   pub live_opposite : (p q : ℕ) → IsTrue (is_opposite m p q) → q < length m.features
   pub live_type : (f : ℕ) → f < length m.features → IsLiveKind m (shape_of m f).kind
-
   -- opposites
   pub mutual_opposites : (p q : ℕ) → IsTrue (is_opposite m p q) → IsTrue (is_opposite m q p)
   pub other_feature : (p : ℕ) → IsFalse (is_opposite m p p)
@@ -41,10 +39,8 @@ pub record IsWellFormed (m : Metamodels) : Type 0 where
   pub opposite_has_type : (p q c : ℕ) → IsTrue (is_opposite m p q) → IsTrue (has_feature m c p) → IsTrue (is_class_kind m c (shape_of m q).kind)
   pub type_has_opposite : (p q c : ℕ) → IsTrue (is_opposite m p q) → IsTrue (is_class_kind m c (shape_of m p).kind) → IsTrue (has_feature m c q)
   pub unnamed_alone : (p q c : ℕ) → IsTrue (has_feature m c p) → (metamodel_at m (class_at m c).metamodel).name ≡ [] → IsFalse (is_opposite m p q)
-
   -- no class has a feature twice
   pub distinct_features : (c i j : ℕ) → i < j → j < length (features_of m c) → (slice_index_or (features_of m c) i (record { 0 = 0 })).0 ≢ (slice_index_or (features_of m c) j (record { 0 = 0 })).0
-
   -- names are texts, and each name finds what has it
   pub text_metamodel : (k : ℕ) → IsTrue (is_utf8 (metamodel_at m k).name)
   pub text_class : (c : ℕ) → IsTrue (is_utf8 (class_at m c).name)

@@ -1,9 +1,12 @@
-ghost use Rattle.std.specs.Prelude.{◌≡◌, [], length, None};
+ghost use Rattle.std.specs.Prelude.{◌≡◌, [], length, None, IfOk};
 ghost use Rattle.qvt_meta.specs.Metamodels.{class_at, feature_at, shape_of, opposite, features_of};
 ghost use Rattle.qvt_meta.specs.Descends.{descends};
 ghost use Rattle.qvt_meta.specs.WellFormed.{IsWellFormed};
 
+use crate::copied::copies;
 use crate::info::{ClassInfo, FeatureInfo, FeatureShape, MetamodelInfo, TypeKind};
+use qvt_base::copied::Copied;
+use qvt_base::list_fault::ListFault;
 use qvt_base::lists::FeatureNoList;
 use qvt_base::numbers::{ClassNo, FeatureNo};
 use qvt_base::seq::Seq;
@@ -175,5 +178,29 @@ impl Metas {
         } else {
             ""
         }
+    }
+}
+
+/// Copies of these rows, in order.
+fn copies_of_rows(alloc: Global, rows: &[Seq<bool>]) -> Result<Vec<Seq<bool>>, ListFault>
+    ensures { IfOk result (λ v. v.items ≡ rows.now) }
+{
+    let mut copies = Seq::new(alloc);
+    for row in rows {
+        copies.push(Seq::from_slice(alloc, row.as_slice())?)?;
+    }
+    Ok(copies.into_vec())
+}
+
+impl Copied for Metas {
+    fn copy(&self, alloc: Global) -> Result<Metas, ListFault> {
+        Ok(Metas {
+            metamodels: copies(alloc, self.metamodels.as_slice())?,
+            classes: copies(alloc, self.classes.as_slice())?,
+            features: copies(alloc, self.features.as_slice())?,
+            element: self.element,
+            lists: copies(alloc, self.lists.as_slice())?,
+            rows: copies_of_rows(alloc, self.rows.as_slice())?,
+        })
     }
 }
