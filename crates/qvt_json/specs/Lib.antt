@@ -1,0 +1,4 @@
+pub mod Json
+pub mod Leaves
+pub mod Shape
+pub mod Steps
