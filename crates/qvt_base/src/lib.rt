@@ -8,3 +8,6 @@ pub mod text;
 pub mod numbers;
 pub mod copied;
 pub mod lists;
+pub mod names;
+pub mod outside;
+pub mod mem_files;
