@@ -1,0 +1,6 @@
+pub mod Outcome
+pub mod Reported
+pub mod Steps
+pub mod Words
+pub mod Plans
+pub mod Commands
