@@ -11,3 +11,5 @@ pub mod lists;
 pub mod names;
 pub mod outside;
 pub mod mem_files;
+pub mod mem_sink;
+pub mod real;

@@ -1,4 +1,5 @@
 //! Values: null, Booleans, Integers, Strings, literals of enumerations, objects, collections and invalid.
 #![tactic(auto)]
 
+pub mod copy;
 pub mod value;
