@@ -3,3 +3,5 @@ pub mod Descends
 pub mod Named
 pub mod WellFormed
 pub mod Kept
+pub mod MetaData
+pub mod DataOf

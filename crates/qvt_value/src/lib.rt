@@ -2,4 +2,6 @@
 #![tactic(auto)]
 
 pub mod copy;
+pub mod laws;
+pub mod order;
 pub mod value;

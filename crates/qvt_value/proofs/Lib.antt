@@ -1,0 +1,4 @@
+pub mod Exact
+pub mod OrderOfValues
+pub mod Orders
+pub mod Same
