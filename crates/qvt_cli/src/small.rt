@@ -2,5 +2,5 @@
 
 pub mod scan;
 pub mod token;
-
-
+pub mod tokens;
+pub mod text;
