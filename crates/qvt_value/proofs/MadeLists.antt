@@ -1,8 +1,9 @@
 -- A collection keeps one list of what it is made of, and that list again when it is made again.
 use Rattle.std.proofs.Common.{◌≡◌, ℕ, ◌≤◌, List, refl, sym, ap, ◌∙◌, subst, arith}
-use Rattle.std.specs.Prelude.{min}
+use Rattle.std.specs.Prelude.{min, [], ◌↔◌}
 use Rattle.std.specs.List.Sorted.{IsSorted}
-use Rattle.qvt_value.specs.declared.value.Value.{Value}
+use Rattle.qvt_value.specs.declared.value.Value.{Value, Coll', items-the_row-Value, items_hidden-the_row-Value-0}
+use Rattle.qvt_value.specs.declared.value.Value.TheViews.{Coll}
 use Rattle.qvt_value.specs.declared.value.Kind.{Kind}
 use Rattle.qvt_value.specs.declared.value.Kind.TheVariants.{Set, Bag, Sequence, OrderedSet}
 use Rattle.qvt_value.specs.Kept.{times, EachOnce, EachAsOften, by_first_place, sorted, firsts}
@@ -78,3 +79,18 @@ made_again Set xs =
 made_again Bag xs = sorted_same (sorted order_of xs) (order_sorted xs)
 made_again Sequence xs = refl
 made_again OrderedSet xs = firsts_same (firsts order_of xs) (few xs)
+
+abbrev kind_of : Value → Kind
+kind_of (Coll' k shape row) = k
+kind_of v = Set
+
+abbrev items_of : Value → List Value
+items_of (Coll' k shape row) = items-the_row-Value _ row
+items_of v = []
+
+-- two collections are equal exactly where their kinds and their lists are
+pub same_lists : (k l : Kind) (xs ys : List Value) → (Coll k xs ≡ Coll l ys) ↔ ((k ≡ l) × (xs ≡ ys))
+same_lists k l xs ys = (parts, λ h i. Coll (h.0 i) (h.1 i))
+  where
+    parts : Coll k xs ≡ Coll l ys → (k ≡ l) × (xs ≡ ys)
+    parts h = (ap kind_of h, sym (items_hidden-the_row-Value-0 xs) ∙ ap items_of h ∙ items_hidden-the_row-Value-0 ys)
