@@ -70,3 +70,44 @@ fn set_of(alloc: Global, items: Values) -> Result<IndexSet<Value>, ValueFault>
     }
     Ok(set)
 }
+
+#[cfg(test)]
+mod tests {
+    use super::*;
+    use qvt_base::list_fault::ListFault;
+    use std::test::Fail;
+
+    fn three_one_three_two(alloc: Global) -> Result<Values, ListFault>
+        ensures few { IfOk result (λ items. length items ≤ MOST_ITEMS) }
+        ensures none_invalid { IfOk result (λ items. list_any is_invalid items ≡ false) }
+    {
+        let mut items = Seq::new(alloc);
+        items.push(Value::Int(3))?;
+        items.push(Value::Int(1))?;
+        items.push(Value::Int(3))?;
+        items.push(Value::Int(2))?;
+        Ok(items)
+    }
+
+    fn collection(alloc: Global, kind: Kind, numbers: &[i64]) -> Result<Value, ListFault> {
+        let mut items = Seq::new(alloc);
+        for number in numbers {
+            items.push(Value::Int(*number))?;
+        }
+        Ok(Value::Coll(kind, items))
+    }
+
+    #[test]
+    fn each_kind_keeps_its_own(rt: HostRuntime) -> Result<(), Fail> {
+        for (kind, kept) in [
+            (Kind::Set, [1, 2, 3].as_slice()),
+            (Kind::Bag, [1, 2, 3, 3].as_slice()),
+            (Kind::Sequence, [3, 1, 3, 2].as_slice()),
+            (Kind::OrderedSet, [3, 1, 2].as_slice()),
+        ] {
+            let made = make(rt.alloc(), kind, three_one_three_two(rt.alloc())?)?;
+            assert_eq!(rt; made, collection(rt.alloc(), kind, kept)?, "{kind:?}");
+        }
+        Ok(())
+    }
+}
