@@ -3,6 +3,8 @@
 
 pub mod copied;
 pub mod declared;
+mod forms;
 pub mod info;
 pub mod metas;
+mod names;
 mod reading;
