@@ -8,3 +8,5 @@ pub mod DataOf
 pub mod Names
 pub mod MetaForm
 pub mod SmallMeta
+pub mod Added
+pub mod Checked
