@@ -10,3 +10,4 @@ pub mod MetaForm
 pub mod SmallMeta
 pub mod Added
 pub mod Checked
+pub mod Places

@@ -1,6 +1,7 @@
 //! Metamodels: an EMOF subset, read, numbered and looked up.
 #![tactic(auto)]
 
+mod adding;
 mod begin;
 pub mod copied;
 pub mod declared;

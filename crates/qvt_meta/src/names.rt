@@ -1,7 +1,8 @@
-ghost use Rattle.std.specs.Prelude.{◌≡◌, ℕ, List, [], map, IfOk, OnErr, OnOk, MatchResult, codes, ◌∷◌, ◌++◌, false};
+ghost use Rattle.std.specs.Prelude.{◌≡◌, ℕ, None, List, [], map, IfOk, OnErr, OnOk, MatchResult, codes, ◌∷◌, ◌++◌, false};
 ghost use Rattle.qvt_meta.specs.Names.{primitive_names, is_among, repeated};
 
 use crate::declared::{DeclaredClass, DeclaredFeature};
+use crate::info::EnumInfo;
 use indexmap::IndexSet;
 use qvt_base::copied::Copied;
 use qvt_base::list_fault::ListFault;
@@ -78,4 +79,24 @@ pub fn repeated<T: Named>(
         add_name(&mut taken, name.copy(alloc)?)?;
     }
     Ok(None)
+}
+
+impl Named for EnumInfo {
+    ghost name_of = { λ e. e.name };
+
+    fn name(&self) -> &Text {
+        &self.name
+    }
+}
+
+/// The names of these, no two of which are the same.
+pub fn names_of<T: Named>(alloc: Global, items: &[T]) -> Result<IndexSet<Text>, ListFault>
+    requires { repeated [] (map T.name_of items.now) ≡ None }
+    ensures { IfOk result (λ names. names.keys ≡ map T.name_of items.now) }
+{
+    let mut names = IndexSet::new(alloc);
+    for item in items {
+        add_name(&mut names, item.name().copy(alloc)?)?;
+    }
+    Ok(names)
 }
