@@ -1,0 +1,4 @@
+//! Objects with slots, opposites and containers, in numbered extents.
+#![tactic(auto)]
+
+pub mod extent;
