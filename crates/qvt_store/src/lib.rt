@@ -1,4 +1,9 @@
 //! Objects with slots, opposites and containers, in numbered extents.
 #![tactic(auto)]
 
+mod add;
+mod cell;
 pub mod extent;
+pub mod fault;
+mod put;
+pub mod store;
