@@ -1,1 +1,7 @@
 pub mod Metamodels
+pub mod Descends
+pub mod Named
+pub mod WellFormed
+pub mod Kept
+pub mod MetaData
+pub mod DataOf
