@@ -1,5 +1,5 @@
 -- The closure of a relation on numbers, and a test that computes it.
-use Rattle.std.specs.Prelude.{◌≡◌, ℕ, zero, suc, ◌<◌, Bool, true, false, ◌||◌, ◌&&◌, IsTrue}
+use Rattle.std.specs.Prelude.{ℕ, zero, suc, ◌<◌, Bool, false, ◌||◌, ◌&&◌, IsTrue}
 
 -- one or more steps of the relation lead from x to y
 pub data Closure (r : ℕ → ℕ → Type 0) : ℕ → ℕ → Type 0 where

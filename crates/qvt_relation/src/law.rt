@@ -4,5 +4,4 @@ ghost use Rattle.qvt_relation.specs.Law.{ReachesIsClosure};
 /// holds exactly where the closure does.
 pub fn reaches_is_closure()
     ensures { ReachesIsClosure }
-{
-}
+{}

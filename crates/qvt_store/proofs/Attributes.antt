@@ -1,20 +1,19 @@
 -- A slot of values that are no objects, set.
-use Rattle.std.proofs.Common.{◌≡◌, ℕ, zero, suc, ◌+◌, ◌<◌, ◌≤◌, Bool, true, false, ◌||◌, ◌==◌, ◌&&◌, cond, ◌⊎◌, inl, inr, refl, sym, ap, ◌∙◌, subst, List, [], ◌∷◌, length, get_or, arith}
-use Rattle.std.specs.Prelude.{slice_index_or, nat_lt}
-use Rattle.std.specs.List.{list_all, list_any}
+use Rattle.std.proofs.Common.{◌≡◌, ℕ, ◌<◌, ◌≤◌, Bool, true, false, ◌==◌, ◌&&◌, cond, refl, sym, ap, ◌∙◌, subst, List, [], ◌∷◌, length, arith}
+use Rattle.std.specs.Prelude.{nat_lt}
+use Rattle.std.specs.List.{list_all}
 use Rattle.std.proofs.lemmas.Bool.Decides.{Decides-eqb}
 use Rattle.qvt_base.specs.declared.numbers.Oid.{Oid}
 use Rattle.qvt_value.specs.declared.value.Value.{Value}
-use Rattle.qvt_meta.specs.Metamodels.{Metamodels, shape_of, is_containment}
-use Rattle.qvt_relation.proofs.Bools.{and_left, and_right, either, clash, or_none}
-use Rattle.qvt_store.specs.declared.cell.Holder.{Holder}
+use Rattle.qvt_meta.specs.Metamodels.{Metamodels, shape_of}
+use Rattle.qvt_relation.proofs.Bools.{and_left, and_right}
 use Rattle.qvt_store.specs.declared.cell.Cell.{Cell}
 use Rattle.qvt_store.specs.declared.extent.Extent.{Extent}
 use Rattle.qvt_store.specs.Slots.{Slots, has, Contains, Inside, directly, through}
-use Rattle.qvt_store.specs.Contents.{Contents, Instance, no_instance, is_live, class_of, slot_in, slot_of, members_from}
-use Rattle.qvt_store.specs.Types.{is_of_type, is_class_type, IsAssignable}
-use Rattle.qvt_store.specs.Repeats.{repeats, same_value}
-use Rattle.qvt_store.specs.Cells.{instances, instance_in, contents_of, holder_at, AreWhole, AreTyped, AreUnique, AreMembers, IsKept, SameObjects, IsPut, with_list}
+use Rattle.qvt_store.specs.Contents.{Instance, no_instance, is_live, class_of, slot_in}
+use Rattle.qvt_store.specs.Types.{is_of_type, is_class_type}
+use Rattle.qvt_store.specs.Repeats.{repeats}
+use Rattle.qvt_store.specs.Cells.{instances, contents_of, AreUnique, AreMembers, IsKept, SameObjects, IsPut, with_list}
 use Rattle.qvt_store.proofs.Cells.{length-instances}
 use Rattle.qvt_store.proofs.Lists.{any_default}
 use Rattle.qvt_store.proofs.Members.{members_same}
@@ -27,11 +26,11 @@ stays_live m extents old new same y live =
 
 pub listed_same : (m : Metamodels) (extents : List Extent) (old new : List Cell) (members : List (List Oid)) → SameObjects m old new → AreMembers extents old members → AreMembers extents new members
 listed_same m extents old new members same are = record {
-    count = are.count;
-    lists = λ e h. are.lists e h ∙ members_same (instances old) (instances new) 0 e (length-instances old ∙ sym same.same_length ∙ sym (length-instances new))
+  count = are.count;
+  lists = λ e h. are.lists e h ∙ members_same (instances old) (instances new) 0 e (length-instances old ∙ sym same.same_length ∙ sym (length-instances new))
       (λ k d b. ap (λ (ob : Instance). ob.extent) (any_default (instances old) k d no_instance b) ∙ sym (same.extents k)
-        ∙ ap (λ (ob : Instance). ob.extent) (any_default (instances new) k no_instance d (subst (λ n. k < n) (length-instances old ∙ sym same.same_length ∙ sym (length-instances new)) b)));
-  }
+      ∙ ap (λ (ob : Instance). ob.extent) (any_default (instances new) k no_instance d (subst (λ n. k < n) (length-instances old ∙ sym same.same_length ∙ sym (length-instances new)) b)));
+}
 
 -- a fact of each list, after one is set
 pub each_put : (P : ℕ → ℕ → List Value → Type 0) (s : Slots) (o p : ℕ) (vs : List Value) → P o p vs → ((x f : ℕ) → P x f (s x f)) → (x f : ℕ) → P x f (with_list s o p vs x f)
@@ -80,10 +79,14 @@ module _ (m : Metamodels) (extents : List Extent) (old new : List Cell) (members
       };
       acyclic = λ x i. store.whole.acyclic x (old_inside i);
     };
-    typed = record { types = λ x f. all_kept (contents_of m extents old) (contents_of m extents new) refl (stays_live m extents old new put.objects) f (slot_in m (instances new) x f)
-      (subst (λ (l : List Value). list_all (is_of_type (contents_of m extents old) f) l ≡ true) (sym (put.slots x f))
-        (each_put (λ _ g l. list_all (is_of_type (contents_of m extents old) g) l ≡ true) (slot_in m (instances old)) o p vs types store.typed.types x f)) };
+    typed = record {
+      types = λ x f. all_kept (contents_of m extents old) (contents_of m extents new) refl (stays_live m extents old new put.objects) f (slot_in m (instances new) x f)
+          (subst (λ (l : List Value). list_all (is_of_type (contents_of m extents old) f) l ≡ true) (sym (put.slots x f))
+          (each_put (λ _ g l. list_all (is_of_type (contents_of m extents old) g) l ≡ true) (slot_in m (instances old)) o p vs types store.typed.types x f));
+    };
     listed = listed_same m extents old new members put.objects store.listed;
-    unique = λ d. let u : AreUnique (contents_of m extents old) = store.unique d in record { unique = λ x f t. ap repeats (put.slots x f)
-      ∙ each_put (λ _ g l. (shape_of m g).unique ≡ true → repeats l ≡ false) (slot_in m (instances old)) o p vs (λ _. few_repeat vs few) u.unique x f t };
+    unique = λ d. let u : AreUnique (contents_of m extents old) = store.unique d in record {
+      unique = λ x f t. ap repeats (put.slots x f)
+          ∙ each_put (λ _ g l. (shape_of m g).unique ≡ true → repeats l ≡ false) (slot_in m (instances old)) o p vs (λ _. few_repeat vs few) u.unique x f t;
+    };
   }

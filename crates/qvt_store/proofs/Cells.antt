@@ -1,18 +1,16 @@
 -- The cells of a store and the slots that they stand for.
-use Rattle.std.proofs.Common.{◌≡◌, ◌≢◌, ℕ, zero, suc, ◌+◌, ◌<◌, ◌≤◌, Bool, true, false, ◌||◌, ◌&&◌, ◌==◌, cond, ◌⊎◌, inl, inr, refl, sym, ap, ◌∙◌, subst, List, [], ◌∷◌, ◌++◌, map, length, get_or, set, arith}
-use Rattle.std.specs.Prelude.{slice_index_or, slice_set, Option, Some, None, nat_lt, IfSome}
-use Rattle.std.proofs.lemmas.Bool.{ltb-true, lt-ltb, cases_eq, eq-eqb, ne_eqb}
-use Rattle.std.proofs.lemmas.List.{get_or-set_same, get_or-set_other, length-set, set-get_or}
-use Rattle.qvt_base.specs.declared.numbers.FeatureNo.{FeatureNo}
+use Rattle.std.proofs.Common.{◌≡◌, ◌≢◌, ℕ, zero, suc, ◌<◌, ◌≤◌, true, false, ◌&&◌, ◌==◌, cond, inl, inr, refl, sym, ap, ◌∙◌, subst, List, [], ◌∷◌, map, length, get_or, set, arith}
+use Rattle.std.specs.Prelude.{slice_index_or, Option, Some, None, nat_lt, IfSome}
+use Rattle.std.proofs.lemmas.Bool.{ltb-true, cases_eq, eq-eqb, ne_eqb}
+use Rattle.std.proofs.lemmas.List.{get_or-set_same, get_or-set_other, length-set}
 use Rattle.qvt_value.specs.declared.value.Value.{Value}
 use Rattle.qvt_meta.specs.Metamodels.{Metamodels, features_of, has_feature, is_containment}
-use Rattle.qvt_relation.proofs.Bools.{clash}
 use Rattle.qvt_store.specs.declared.cell.Holder.{Holder}
 use Rattle.qvt_store.specs.declared.cell.Cell.{Cell}
 use Rattle.qvt_store.specs.declared.extent.Extent.{Extent}
-use Rattle.qvt_store.specs.Slots.{Slots, has}
-use Rattle.qvt_store.specs.Contents.{Contents, Instance, no_instance, list_of, slot_in, set_list, set_slot}
-use Rattle.qvt_store.specs.Cells.{instance_of, instances, contents_of, instance_in, holder_at, AreHolders, HaveSlots, SameObjects, IsPlaceOf, with_list, IsPut}
+use Rattle.qvt_store.specs.Slots.{has}
+use Rattle.qvt_store.specs.Contents.{Contents, Instance, no_instance, list_of, slot_in, set_slot}
+use Rattle.qvt_store.specs.Cells.{instance_of, instances, contents_of, instance_in, holder_at, AreHolders, HaveSlots, IsPlaceOf, with_list, IsPut}
 use Rattle.qvt_store.proofs.Lists.{any_default, past_end}
 use Rattle.qvt_store.proofs.Places.{list_of-place, set_list-place, list_of-other, list_of-absent, list_of-nil}
 
@@ -80,19 +78,21 @@ module _ (m : Metamodels) (cells : List Cell) (o p i : ℕ) (vs : List Value) (c
 
   kept_field : {A : Type 0} (field : Instance → A) → field (instance_of k) ≡ field (instance_of cell) → (x : ℕ) → field (instance_in (set cells o k) x) ≡ field (instance_in cells x)
   kept_field field same x = elim (cases_eq x o) [
-      | inl e ↦ subst (λ n. field (instance_in (set cells o k) n) ≡ field (instance_in cells n)) (sym e) (ap field at_same ∙ same ∙ sym (ap field was))
-      | inr n ↦ ap field (at_other x n)
-    ]
+    | inl e ↦ subst (λ n. field (instance_in (set cells o k) n) ≡ field (instance_in cells n)) (sym e) (ap field at_same ∙ same ∙ sym (ap field was))
+    | inr n ↦ ap field (at_other x n)
+  ]
 
   old_length : length cell.slots.items ≡ length (features_of m cell.class.0)
   old_length = cell-slots m cells o cell live is have'
 
   new_slots : HaveSlots m (set cells o k)
-  new_slots = record { slots = λ x h. elim (cases_eq x o) [
+  new_slots = record {
+    slots = λ x h. elim (cases_eq x o) [
       | inl e ↦ subst (λ n. length (instance_in (set cells o k) n).slots ≡ length (features_of m (instance_in (set cells o k) n).class)) (sym e)
           (ap (λ (ob : Instance). length ob.slots) at_same ∙ ap length items ∙ length-set cell.slots.items i vs ∙ old_length ∙ sym (ap (λ n. length (features_of m n)) same_class) ∙ sym (ap (λ (ob : Instance). length (features_of m ob.class)) at_same))
       | inr n ↦ ap (λ (ob : Instance). length ob.slots) (at_other x n) ∙ have'.slots x (subst (λ l. x < l) (length-set cells o k) h) ∙ sym (ap (λ (ob : Instance). length (features_of m ob.class)) (at_other x n))
-    ] }
+    ];
+  }
 
   slot_there : (f : ℕ) → slot_in m (instances (set cells o k)) o f ≡ with_list (slot_in m (instances cells)) o p vs o f
   slot_there f =

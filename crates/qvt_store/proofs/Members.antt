@@ -1,6 +1,6 @@
 -- The lists of the objects of extents.
-use Rattle.std.proofs.Common.{◌≡◌, ◌≢◌, ℕ, zero, suc, ◌+◌, ◌<◌, ◌≤◌, Bool, true, false, ◌==◌, cond, ◌⊎◌, inl, inr, refl, sym, ap, ◌∙◌, subst, List, [], ◌∷◌, ◌++◌, length, get_or, set, arith}
-use Rattle.std.specs.Prelude.{slice_index_or, slice_set}
+use Rattle.std.proofs.Common.{◌≡◌, ℕ, suc, ◌+◌, ◌<◌, Bool, true, false, ◌==◌, cond, inl, inr, refl, sym, ap, ◌∙◌, subst, List, [], ◌∷◌, ◌++◌, length, get_or, set, arith}
+use Rattle.std.specs.Prelude.{slice_index_or}
 use Rattle.std.proofs.lemmas.Bool.{cases_eq, eq-eqb, ne_eqb}
 use Rattle.std.proofs.lemmas.List.{get_or-set_same, get_or-set_other, length-set}
 use Rattle.qvt_base.specs.declared.numbers.Oid.{Oid}
@@ -29,24 +29,24 @@ pub members_added : (extents : List Extent) (cells new : List Cell) (k : Cell) (
     instances new ≡ instances cells ++ instance_of k ∷ [] → k.extent < length members →
     lists ≡ set members k.extent (slice_index_or members k.extent [] ++ oid n ∷ []) → AreMembers extents cells members → AreMembers extents new lists
 members_added extents cells new k members lists n count pushed live is are = record {
-    count = ap length is ∙ length-set members k.extent (slice_index_or members k.extent [] ++ oid n ∷ []) ∙ are.count;
-    lists = λ e h.
+  count = ap length is ∙ length-set members k.extent (slice_index_or members k.extent [] ++ oid n ∷ []) ∙ are.count;
+  lists = λ e h.
       let h' : e < length members = subst (λ i. e < i) (ap length is ∙ length-set members k.extent (slice_index_or members k.extent [] ++ oid n ∷ [])) h in
       ap (λ l. slice_index_or l e []) is ∙ go e h'
       ∙ sym (ap (λ l. members_from 0 l e) pushed ∙ members-push 0 n (instances cells) (instance_of k) e (omega (arith, count)));
-  }
+}
   where
     go : (e : ℕ) → e < length members → slice_index_or (set members k.extent (slice_index_or members k.extent [] ++ oid n ∷ [])) e []
         ≡ cond (k.extent == e) (members_from 0 (instances cells) e ++ oid n ∷ []) (members_from 0 (instances cells) e)
     go e h = elim (cases_eq e k.extent) [
-        | inl same ↦ subst (λ i. slice_index_or (set members k.extent (slice_index_or members k.extent [] ++ oid n ∷ [])) i [] ≡ cond (k.extent == i) (members_from 0 (instances cells) i ++ oid n ∷ []) (members_from 0 (instances cells) i)) (sym same)
-            (get_or-set_same members k.extent (slice_index_or members k.extent [] ++ oid n ∷ []) [] live
-            ∙ ap (λ (l : List Oid). l ++ oid n ∷ []) (are.lists k.extent live)
-            ∙ sym (ap (λ b. cond b (members_from 0 (instances cells) k.extent ++ oid n ∷ []) (members_from 0 (instances cells) k.extent)) (eq-eqb k.extent k.extent refl)))
-        | inr other ↦ get_or-set_other members k.extent e (slice_index_or members k.extent [] ++ oid n ∷ []) [] other
-            ∙ are.lists e h
-            ∙ sym (ap (λ b. cond b (members_from 0 (instances cells) e ++ oid n ∷ []) (members_from 0 (instances cells) e)) (ne_eqb k.extent e (λ q. other (sym q))))
-      ]
+      | inl same ↦ subst (λ i. slice_index_or (set members k.extent (slice_index_or members k.extent [] ++ oid n ∷ [])) i [] ≡ cond (k.extent == i) (members_from 0 (instances cells) i ++ oid n ∷ []) (members_from 0 (instances cells) i)) (sym same)
+          (get_or-set_same members k.extent (slice_index_or members k.extent [] ++ oid n ∷ []) [] live
+          ∙ ap (λ (l : List Oid). l ++ oid n ∷ []) (are.lists k.extent live)
+          ∙ sym (ap (λ b. cond b (members_from 0 (instances cells) k.extent ++ oid n ∷ []) (members_from 0 (instances cells) k.extent)) (eq-eqb k.extent k.extent refl)))
+      | inr other ↦ get_or-set_other members k.extent e (slice_index_or members k.extent [] ++ oid n ∷ []) [] other
+          ∙ are.lists e h
+          ∙ sym (ap (λ b. cond b (members_from 0 (instances cells) e ++ oid n ∷ []) (members_from 0 (instances cells) e)) (ne_eqb k.extent e (λ q. other (sym q))))
+    ]
 
 pub no_members : (extents : List Extent) (lists : List (List Oid)) → AreEmpty (length extents) lists → AreMembers extents [] lists
 no_members extents lists are = record { count = are.same; lists = λ e h. are.empty e }

@@ -1,19 +1,17 @@
 -- The types of items, where objects are added or slots change.
-use Rattle.std.proofs.Common.{◌≡◌, ℕ, Bool, true, false, ◌||◌, ◌&&◌, ◌==◌, cond, ◌⊎◌, inl, inr, refl, sym, ap, ◌∙◌, subst, List, [], ◌∷◌, ◌++◌, length}
-use Rattle.std.specs.Prelude.{Option, Some, None, nat_lt, IsFalse, IsTrue}
-use Rattle.std.specs.List.{list_any, list_all}
-use Rattle.std.proofs.lemmas.Bool.Decides.{Decides-eqb}
+use Rattle.std.proofs.Common.{◌≡◌, ℕ, Bool, true, false, ◌||◌, ◌&&◌, ◌==◌, refl, ap, ◌∙◌, subst, List, [], ◌∷◌}
+use Rattle.std.specs.Prelude.{Option, Some, None}
+use Rattle.std.specs.List.{list_all}
 use Rattle.qvt_value.specs.declared.value.Value.{Value}
 use Rattle.qvt_value.specs.declared.value.Value.TheVariants.{Obj}
 use Rattle.qvt_meta.specs.declared.info.TypeKind.{TypeKind}
 use Rattle.qvt_meta.specs.declared.info.TypeKind.TheVariants.{Bool as BoolKind, Int as IntKind, Str as StrKind, Enum as EnumKind, Class as ClassKind}
-use Rattle.qvt_meta.specs.Metamodels.{Metamodels, shape_of}
+use Rattle.qvt_meta.specs.Metamodels.{shape_of}
 use Rattle.qvt_meta.specs.Descends.{descends}
-use Rattle.qvt_relation.proofs.Bools.{and_left, and_right, and_both, or_cases, or_left, or_right, clash}
-use Rattle.qvt_store.specs.Slots.{object_in, passes, is_object_with, is_object, has}
-use Rattle.qvt_store.specs.Change.{object_value}
+use Rattle.qvt_relation.proofs.Bools.{and_left, and_right, and_both}
+use Rattle.qvt_store.specs.Slots.{object_in, passes, has}
 use Rattle.qvt_store.specs.Contents.{Contents, is_live, class_of}
-use Rattle.qvt_store.specs.Types.{is_bool, is_int, is_text, is_literal, is_instance, is_of_kind, is_of_type, is_class_type}
+use Rattle.qvt_store.specs.Types.{is_literal, is_of_kind, is_of_type, is_class_type}
 
 -- a test of objects that follows from another
 pub passes_more : (p q : ℕ → Bool) → ((y : ℕ) → p y ≡ true → q y ≡ true) → (o : Option ℕ) → passes p o ≡ true → passes q o ≡ true

@@ -1,5 +1,5 @@
 -- The lists of the objects of extents.
-use Rattle.std.specs.Prelude.{◌≡◌, ℕ, ◌<◌, List, [], length, slice_index_or}
+use Rattle.std.specs.Prelude.{◌≡◌, ℕ, List, [], length, slice_index_or}
 use Rattle.qvt_base.specs.declared.numbers.Oid.{Oid}
 
 -- so many empty lists

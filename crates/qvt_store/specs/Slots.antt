@@ -1,7 +1,6 @@
 -- Slots as lists of values (EMOF 12: a slot is what an object holds for a feature), and what holds of all slots of a store.
-use Rattle.std.specs.Prelude.{◌≡◌, ℕ, Bool, true, false, ◌==◌, List, [], ◌∷◌, IsTrue, Option, Some, None}
+use Rattle.std.specs.Prelude.{◌≡◌, ℕ, Bool, false, ◌==◌, List, IsTrue, Option, Some, None}
 use Rattle.std.specs.List.{list_any}
-use Rattle.qvt_base.specs.declared.numbers.Oid.{Oid}
 use Rattle.qvt_value.specs.declared.value.Value.{Value}
 use Rattle.qvt_value.specs.declared.value.Value.TheVariants.{Obj}
 use Rattle.qvt_meta.specs.Metamodels.{Metamodels, is_opposite, is_containment}

@@ -1,11 +1,10 @@
 -- Values of the types of features: Boolean, Integer, String, the literals of an enumeration, the objects of a class.
-use Rattle.std.specs.Prelude.{◌≡◌, ℕ, Bool, true, false, ◌==◌, ◌||◌, ◌&&◌, nat_lt, List, [], ◌∷◌, length, IsTrue, IsFalse, FitsSigned}
+use Rattle.std.specs.Prelude.{ℕ, Bool, true, false, ◌==◌, ◌&&◌, nat_lt, List, length, IsTrue, IsFalse, FitsSigned}
 use Rattle.std.specs.Int.{w64}
-use Rattle.std.specs.List.{list_any, list_all}
+use Rattle.std.specs.List.{list_all}
 use Rattle.std.specs.Str.{IsUtf8}
-use Rattle.qvt_value.specs.declared.value.LiteralRef.{LiteralRef}
 use Rattle.qvt_value.specs.declared.value.Value.{Value}
-use Rattle.qvt_value.specs.declared.value.Value.TheVariants.{Null, Bool as BoolValue, Int as IntValue, Str as StrValue, Enum as EnumValue, Obj, Coll, Invalid}
+use Rattle.qvt_value.specs.declared.value.Value.TheVariants.{Bool as BoolValue, Int as IntValue, Str as StrValue, Enum as EnumValue}
 use Rattle.qvt_meta.specs.declared.info.TypeKind.{TypeKind}
 use Rattle.qvt_meta.specs.declared.info.TypeKind.TheVariants.{Bool as BoolKind, Int as IntKind, Str as StrKind, Enum as EnumKind, Class as ClassKind}
 use Rattle.qvt_meta.specs.Metamodels.{Metamodels, shape_of, is_single, has_feature}

@@ -23,13 +23,7 @@ pub fn place_of(features: &[FeatureNo], feature: FeatureNo) -> usize
 }
 
 /// Sets one slot.
-pub fn put(
-    metas: &Metas,
-    cells: &mut Vec<Cell>,
-    object: Oid,
-    feature: FeatureNo,
-    items: Values,
-)
+pub fn put(metas: &Metas, cells: &mut Vec<Cell>, object: Oid, feature: FeatureNo, items: Values)
     requires live { object.0 < length cells.old.items }
     requires there { IsTrue (has_feature metas.now (instance_in cells.old.items object.0).class feature.0) }
     requires have_slots { HaveSlots metas.now cells.old.items }

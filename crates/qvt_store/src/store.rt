@@ -7,10 +7,10 @@ ghost use Rattle.qvt_store.specs.Types.{IsAssignable, IsSingleAttribute};
 ghost use Rattle.qvt_store.specs.Members.{AreEmpty};
 ghost use Rattle.qvt_store.specs.Fault.{IsAddFault};
 
+use crate::add::{add_cell, empty_slots};
 use crate::cell::{Cell, Holder};
 use crate::extent::{Extent, ExtentList};
 use crate::fault::StoreFault;
-use crate::add::{add_cell, empty_slots};
 use crate::put::{place_of, put};
 use qvt_base::copied::Copied;
 use qvt_base::list_fault::ListFault;

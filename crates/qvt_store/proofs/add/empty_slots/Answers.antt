@@ -1,4 +1,4 @@
-use Rattle.std.proofs.Common.{◌≡◌, ◌∙◌, ◌++◌, ◌∷◌, [], sym, ap, List}
+use Rattle.std.proofs.Common.{◌∙◌, ◌++◌, ◌∷◌, [], sym, ap, List}
 use Rattle.qvt_value.specs.declared.value.Value.{Value}
 use Rattle.qvt_store.proofs.Added.{empties_more}
 use Rattle.qvt_store.proofs.add.empty_slots.Goals as goal

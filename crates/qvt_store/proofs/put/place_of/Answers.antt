@@ -1,4 +1,4 @@
-use Rattle.std.proofs.Common.{◌≡◌, ◌<◌, arith}
+use Rattle.std.proofs.Common.{arith}
 use Rattle.qvt_relation.proofs.Bools.{clash}
 use Rattle.qvt_store.proofs.Places.{absent}
 use Rattle.qvt_store.proofs.put.place_of.Goals as goal

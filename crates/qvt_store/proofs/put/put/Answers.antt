@@ -1,4 +1,4 @@
-use Rattle.std.proofs.Common.{◌≡◌, refl, subst, List}
+use Rattle.std.proofs.Common.{refl, subst, List}
 use Rattle.qvt_base.specs.declared.numbers.FeatureNo.{FeatureNo}
 use Rattle.qvt_store.proofs.Cells.{put_is}
 use Rattle.qvt_store.specs.Cells.{IsPlaceOf}

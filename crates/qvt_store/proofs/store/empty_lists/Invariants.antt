@@ -1,5 +1,3 @@
-use Rattle.std.proofs.Common.{◌≡◌, ℕ, length, []}
-use Rattle.std.specs.Prelude.{slice_index_or}
 use Rattle.qvt_store.specs.Members.{AreEmpty}
 use Rattle.qvt_store.proofs.store.empty_lists.Given as goal
 

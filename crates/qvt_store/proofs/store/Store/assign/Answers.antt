@@ -1,4 +1,4 @@
-use Rattle.std.proofs.Common.{◌≡◌, ◌∙◌, ◌<◌, ◌≤◌, refl, sym, ap, subst, List, [], length, true, false, ℕ}
+use Rattle.std.proofs.Common.{◌≡◌, ◌≤◌, sym, subst, List, length, true, false}
 use Rattle.std.specs.List.{list_all}
 use Rattle.qvt_meta.specs.Metamodels.{shape_of}
 use Rattle.qvt_value.specs.declared.value.Value.{Value}
@@ -13,5 +13,5 @@ invariant_of-self c = attribute_kept c.self.inside.metas c.self.inside.extents c
     c.args.object.0 c.args.feature.0 c.in_ok-items.items c.self.invariant c.put.ensures
     (subst (λ (s : Contents). is_class_type (shape_of s.metas c.args.feature.0).kind ≡ false) (sym c.self.view_is) c.requires.attribute.attribute)
     (subst (λ (l : List Value). list_all (is_of_type (contents_of c.self.inside.metas c.self.inside.extents c.self.inside.cells.items) c.args.feature.0) l ≡ true) (sym c.in_ok-items.ensures)
-      (subst (λ (s : Contents). list_all (is_of_type s c.args.feature.0) c.args.values.now ≡ true) (sym c.self.view_is) c.requires.assignable.types))
+    (subst (λ (s : Contents). list_all (is_of_type s c.args.feature.0) c.args.values.now ≡ true) (sym c.self.view_is) c.requires.assignable.types))
     (subst (λ (l : List Value). length l ≤ 1) (sym c.in_ok-items.ensures) c.requires.one)

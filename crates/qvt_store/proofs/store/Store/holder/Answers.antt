@@ -1,4 +1,4 @@
-use Rattle.std.proofs.Common.{◌≡◌, ◌<◌, ◌≤◌, ◌∙◌, sym, subst, arith, ℕ, true, length}
+use Rattle.std.proofs.Common.{◌≡◌, ◌∙◌, sym, subst, arith, ℕ, true}
 use Rattle.std.specs.Prelude.{IfSome, Some, None, Option}
 use Rattle.qvt_store.proofs.Cells.{cell-holder, holder_some, no_holder}
 use Rattle.qvt_store.specs.declared.cell.Holder.{Holder}
