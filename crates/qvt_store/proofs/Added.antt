@@ -16,8 +16,8 @@ use Rattle.qvt_store.specs.declared.extent.Extent.{Extent}
 use Rattle.qvt_store.specs.Slots.{Slots, has, Contains, Inside, directly, through}
 use Rattle.qvt_store.specs.Contents.{Instance, no_instance, is_live, class_of, list_of, slot_in}
 use Rattle.qvt_store.specs.Types.{is_of_type}
-use Rattle.qvt_store.specs.Repeats.{repeats}
-use Rattle.qvt_store.specs.Cells.{instance_of, instances, contents_of, holder_at, AreWhole, AreUnique, IsKept}
+use Rattle.qvt_store.specs.Repeats.{repeats, AreUnique}
+use Rattle.qvt_store.specs.Cells.{instance_of, instances, contents_of, holder_at, AreWhole, IsKept}
 use Rattle.qvt_store.specs.Members.{AreEmpty}
 use Rattle.qvt_store.proofs.Lists.{length-push, below_end, at_end, past_end}
 use Rattle.qvt_store.proofs.Places.{no_lists, list_of-nil}

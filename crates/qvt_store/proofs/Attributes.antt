@@ -12,8 +12,8 @@ use Rattle.qvt_store.specs.declared.extent.Extent.{Extent}
 use Rattle.qvt_store.specs.Slots.{Slots, has, Contains, Inside, directly, through}
 use Rattle.qvt_store.specs.Contents.{Instance, no_instance, is_live, class_of, slot_in}
 use Rattle.qvt_store.specs.Types.{is_of_type, is_class_type}
-use Rattle.qvt_store.specs.Repeats.{repeats}
-use Rattle.qvt_store.specs.Cells.{instances, contents_of, AreUnique, AreMembers, IsKept, SameObjects, IsPut, with_list}
+use Rattle.qvt_store.specs.Repeats.{repeats, AreUnique}
+use Rattle.qvt_store.specs.Cells.{instances, contents_of, AreMembers, IsKept, SameObjects, IsPut, with_list}
 use Rattle.qvt_store.proofs.Cells.{length-instances}
 use Rattle.qvt_store.proofs.Lists.{any_default}
 use Rattle.qvt_store.proofs.Members.{members_same}

@@ -5,3 +5,7 @@ pub mod Members
 pub mod Typed
 pub mod Added
 pub mod Attributes
+pub mod Objects
+pub mod Held
+pub mod Opposites
+pub mod Containers

@@ -12,8 +12,8 @@ use Rattle.qvt_store.specs.declared.cell.Holder.{Holder}
 use Rattle.qvt_store.specs.declared.cell.Cell.{Cell}
 use Rattle.qvt_store.specs.Slots.{Slots, has, Inside}
 use Rattle.qvt_store.specs.Contents.{Instance, Contents, no_instance, slot_in, slot_of, members_from, set_slot}
-use Rattle.qvt_store.specs.Types.{is_of_type}
-use Rattle.qvt_store.specs.Repeats.{repeats}
+use Rattle.qvt_store.specs.Types.{AreTyped}
+use Rattle.qvt_store.specs.Repeats.{AreUnique}
 
 abbrev pub instance_of : Cell → Instance
 instance_of cell = record { class = cell.class.0; extent = cell.extent; slots = cell.slots.items }
@@ -54,14 +54,6 @@ pub record AreWhole (m : Metamodels) (cells : List Cell) : Type 0 where
 pub record AreMembers (extents : List Extent) (cells : List Cell) (members : List (List Oid)) : Type 0 where
   pub count : length members ≡ length extents
   pub lists : (e : ℕ) → e < length members → slice_index_or members e [] ≡ members_from 0 (instances cells) e
-
--- every item is of the type of its slot
-pub record AreTyped (s : Contents) : Type 0 where
-  pub types : (x f : ℕ) → IsTrue (list_all (is_of_type s f) (slot_of s x f))
-
--- no unique slot repeats a value
-pub record AreUnique (s : Contents) : Type 0 where
-  pub unique : (x f : ℕ) → IsTrue (shape_of s.metas f).unique → IsFalse (repeats (slot_of s x f))
 
 -- `distinct` is set only where no unique slot repeats a value
 pub record IsKept (m : Metamodels) (extents : List Extent) (cells : List Cell) (members : List (List Oid)) (distinct : Bool) : Type 0 where

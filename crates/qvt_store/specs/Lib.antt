@@ -6,3 +6,6 @@ pub mod Repeats
 pub mod Cells
 pub mod Members
 pub mod Fault
+pub mod Assign
+pub mod Sound
+pub mod Law

@@ -1,5 +1,5 @@
 -- Equality of the values of slots, and lists that repeat one. In a list without repeats the first of equal values is kept.
-use Rattle.std.specs.Prelude.{ℕ, ℤ, Bool, false, ◌==◌, ◌||◌, ◌&&◌, not, List, [], ◌∷◌, filter, if◌then◌else◌}
+use Rattle.std.specs.Prelude.{ℕ, ℤ, Bool, false, ◌==◌, ◌||◌, ◌&&◌, not, List, [], ◌∷◌, filter, if◌then◌else◌, IsTrue, IsFalse}
 use Rattle.std.proofs.Math.Bool.{beq}
 use Rattle.std.specs.Ordering.{int_eq}
 use Rattle.std.specs.List.{list_any}
@@ -9,6 +9,7 @@ use Rattle.qvt_value.specs.declared.value.Value.{Value}
 use Rattle.qvt_value.specs.declared.value.Value.TheVariants.{Bool as BoolValue, Int as IntValue, Str as StrValue, Enum as EnumValue, Obj}
 use Rattle.qvt_meta.specs.Metamodels.{Metamodels, shape_of}
 use Rattle.qvt_store.specs.Slots.{is_object}
+use Rattle.qvt_store.specs.Contents.{Contents, slot_of}
 
 abbrev pub same_literal : LiteralRef → LiteralRef → Bool
 same_literal a b = (a.metamodel == b.metamodel) && (a.enumeration == b.enumeration) && (a.literal == b.literal)
@@ -49,3 +50,7 @@ repeats (v ∷ vs) = list_any (same_value v) vs || repeats vs
 -- the new list of a slot: in a unique one no value stands twice
 abbrev pub new_list : Metamodels → ℕ → List Value → List Value
 new_list m p vs = if (shape_of m p).unique then without_repeats vs else vs
+
+-- no unique slot holds a value twice
+pub record AreUnique (s : Contents) : Type 0 where
+  pub unique : (x f : ℕ) → IsTrue (shape_of s.metas f).unique → IsFalse (repeats (slot_of s x f))

@@ -11,7 +11,7 @@ use Rattle.qvt_meta.specs.Metamodels.{Metamodels, shape_of, is_single, has_featu
 use Rattle.qvt_meta.specs.Named.{enumeration_at}
 use Rattle.qvt_meta.specs.Descends.{descends}
 use Rattle.qvt_store.specs.Slots.{is_object_with}
-use Rattle.qvt_store.specs.Contents.{Contents, is_live, class_of}
+use Rattle.qvt_store.specs.Contents.{Contents, is_live, class_of, slot_of}
 
 abbrev pub is_bool : Value → Bool
 is_bool (BoolValue b) = true
@@ -43,6 +43,10 @@ is_of_kind s (ClassKind c) v = is_instance s c.0 v
 
 abbrev pub is_of_type : Contents → ℕ → Value → Bool
 is_of_type s f v = is_of_kind s (shape_of s.metas f).kind v
+
+-- every item of a slot is there and of the slot's type
+pub record AreTyped (s : Contents) : Type 0 where
+  pub types : (x f : ℕ) → IsTrue (list_all (is_of_type s f) (slot_of s x f))
 
 -- what a value has by the types that the code gives it: an Integer fits 64 bits, a String is UTF-8
 abbrev pub IsPlain : Value → Type 0

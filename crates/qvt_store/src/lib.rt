@@ -5,5 +5,6 @@ mod add;
 mod cell;
 pub mod extent;
 pub mod fault;
+pub mod law;
 mod put;
 pub mod store;
