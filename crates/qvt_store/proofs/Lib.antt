@@ -9,3 +9,6 @@ pub mod Objects
 pub mod Held
 pub mod Opposites
 pub mod Containers
+pub mod Cyclic
+pub mod After
+pub mod Repeating

@@ -42,7 +42,7 @@ all_kept s s' metas stay f vs h = all_more (is_of_type s f) (is_of_type s' f)
     (λ v t. subst (λ m. is_of_kind s' (shape_of m f).kind v ≡ true) metas (type_kept s s' metas stay (shape_of s.metas f).kind v t)) vs h
 
 -- a value of a type that is no class is no object
-no_object : (s : Contents) (k : TypeKind) (v : Value) → is_class_type k ≡ false → is_of_kind s k v ≡ true → object_in v ≡ None
+pub no_object : (s : Contents) (k : TypeKind) (v : Value) → is_class_type k ≡ false → is_of_kind s k v ≡ true → object_in v ≡ None
 no_object s (ClassKind c) v n h = cc
 no_object s BoolKind (Obj o) n h = cc
 no_object s BoolKind v n h = refl
