@@ -1,5 +1,5 @@
 -- A job: what its file holds, or the first refusal.
-use Rattle.std.specs.Prelude.{ℕ, ◌+◌, List, [], ◌∷◌, ◌++◌, length, map, Bool, nat_lt, is_some, Option, Some, None, option_map, option_and_then, unwrap_or, Result, Ok, Err, ⊤, codes, if◌then◌else◌}
+use Rattle.std.specs.Prelude.{ℕ, ◌+◌, List, [], ◌∷◌, length, map, nat_lt, is_some, Option, Some, None, option_map, option_and_then, unwrap_or, Result, Ok, Err, ⊤, codes, if◌then◌else◌}
 use Rattle.std.specs.List.{list_any}
 use Rattle.std.specs.Str.{bytes_eq}
 use Rattle.serde_json.specs.Data.{Data}
@@ -7,6 +7,7 @@ use Rattle.qvt_base.specs.Names.{is_name, is_file}
 use Rattle.qvt_json.specs.Json.{json, text_at, number_at, items_or, text_or, texts_at, map_items}
 use Rattle.qvt_json.specs.Leaves.{is_text_of, is_count}
 use Rattle.qvt_json.specs.Shape.{Form, leaf, list_of, object_of, required, optional, shown}
+use Rattle.qvt_json.specs.Repeated.{repeated}
 use Rattle.qvt_json.specs.Steps.{◌>>=◌, or_fault, none_of, or_next}
 use Rattle.qvt_cli.specs.declared.job.JobModel.{JobModel}
 use Rattle.qvt_cli.specs.declared.job.Job.{Job}
@@ -54,11 +55,6 @@ too_many job = if nat_lt 16 (file_count job) then Some TooManyFiles else None
 -- the file, if it is one of these
 abbrev pub if_among : List (List ℕ) → List ℕ → Option (List ℕ)
 if_among files file = if list_any (bytes_eq file) files then Some file else None
-
--- the first file that is one of those before it
-abbrev pub repeated : List (List ℕ) → List (List ℕ) → Option (List ℕ)
-repeated earlier [] = None
-repeated earlier (file ∷ files) = or_next (if_among earlier file) (repeated (earlier ++ file ∷ []) files)
 
 abbrev pub output_files : Job → List (List ℕ)
 output_files job = map (λ o. o.file) job.outputs

@@ -4,8 +4,9 @@ ghost use Rattle.std.specs.Option.{option_copied};
 ghost use Rattle.std.specs.Str.{bytes_eq};
 ghost use Rattle.serde_json.specs.View.{view, items_view};
 ghost use Rattle.qvt_json.specs.Json.{map_items};
+ghost use Rattle.qvt_json.specs.Repeated.{repeated};
 ghost use Rattle.qvt_json.specs.Steps.{Gives};
-ghost use Rattle.qvt_cli.specs.Job.{job_model_in, job_models_at, job_in, file_count, if_among, repeated, same_file, job_of};
+ghost use Rattle.qvt_cli.specs.Job.{job_model_in, job_models_at, job_in, file_count, same_file, job_of};
 
 use crate::job::{Job, JobFault, JobModel, JobModelList};
 use crate::job_form::JobForm;

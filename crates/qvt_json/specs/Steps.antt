@@ -38,13 +38,12 @@ each_item f (item d ds) = do
   ys ← each_item f ds
   Ok (y ∷ ys)
 
--- the same over the members of an object
-abbrev pub each_member : {Y F : Type 0} → (List ℕ → Data → Result Y F) → Members → Result (List Y) F
-each_member f no_members = Ok []
-each_member f (member k d ms) = do
-  y ← f k d
-  ys ← each_member f ms
-  Ok (y ∷ ys)
+-- a check of each item, or the first fault
+abbrev pub walk_items : {F : Type 0} → (Data → Result ⊤ F) → Items → Result ⊤ F
+walk_items f no_items = Ok tt
+walk_items f (item d ds) = do
+  _ ← f d
+  walk_items f ds
 
 -- all of the items, or none
 abbrev pub all_items : {Y : Type 0} → (Data → Option Y) → Items → Option (List Y)

@@ -1,5 +1,5 @@
 use Rattle.std.proofs.Common.{◌≡◌, [], drop, take, map}
-use Rattle.qvt_cli.specs.Job.{repeated}
+use Rattle.qvt_json.specs.Repeated.{repeated}
 use Rattle.qvt_cli.proofs.read_job.repeated_file.Given as goal
 
 abbrev pub invariant-loop-i : goal.invariant-loop-i
