@@ -49,13 +49,13 @@ text_order s t = slice_cmp nat_cmp s t
 abbrev pub literal_order : LiteralRef → LiteralRef → Ordering
 literal_order l m =
     ordering_then (nat_cmp l.metamodel m.metamodel)
-      (ordering_then (nat_cmp l.enumeration m.enumeration) (nat_cmp l.literal m.literal))
+    (ordering_then (nat_cmp l.enumeration m.enumeration) (nat_cmp l.literal m.literal))
 
 -- places by line, then column, then offset
 abbrev pub place_order : Place → Place → Ordering
 place_order p q =
     ordering_then (nat_cmp p.line q.line)
-      (ordering_then (nat_cmp p.column q.column) (nat_cmp p.offset q.offset))
+    (ordering_then (nat_cmp p.column q.column) (nat_cmp p.offset q.offset))
 
 abbrev mutual
   -- values of one sort by what they hold (false before true, collections by their kinds and then

@@ -90,11 +90,11 @@ mod tests {
     }
 
     fn collection(alloc: Global, kind: Kind, numbers: &[i64]) -> Result<Value, ListFault> {
-        let mut items = Seq::new(alloc);
+        let mut kept = Seq::new(alloc);
         for number in numbers {
-            items.push(Value::Int(*number))?;
+            kept.push(Value::Int(*number))?;
         }
-        Ok(Value::Coll(kind, items))
+        Ok(Value::Coll(kind, kept))
     }
 
     #[test]
