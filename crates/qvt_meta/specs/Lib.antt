@@ -1,1 +1,13 @@
 pub mod Metamodels
+pub mod Descends
+pub mod Named
+pub mod WellFormed
+pub mod Kept
+pub mod MetaData
+pub mod DataOf
+pub mod Names
+pub mod MetaForm
+pub mod SmallMeta
+pub mod Added
+pub mod Checked
+pub mod Places
