@@ -7,3 +7,4 @@ pub mod Plans
 pub mod Commands
 pub mod SmallTokens
 pub mod SmallText
+pub mod SmallRun

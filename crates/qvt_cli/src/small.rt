@@ -4,3 +4,4 @@ pub mod scan;
 pub mod token;
 pub mod tokens;
 pub mod text;
+pub mod program;
