@@ -13,3 +13,4 @@ pub mod Cyclic
 pub mod After
 pub mod Repeating
 pub mod SoundKept
+mod Vectors
