@@ -12,3 +12,5 @@ pub mod Containers
 pub mod Cyclic
 pub mod After
 pub mod Repeating
+pub mod SoundKept
+mod Vectors
