@@ -3,4 +3,5 @@ pub mod Sent
 pub mod Settle
 pub mod SmallLoops
 pub mod SmallTurns
+pub mod SmallWritten
 pub mod Written

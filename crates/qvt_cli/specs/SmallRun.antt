@@ -1,87 +1,69 @@
--- What a small text means: each `object` makes an object of its class, and each `:=` in it sets an attribute (QVT 1.3, 8.2.2.24 and 8.2.2.12).
-use Rattle.std.specs.Prelude.{ℕ, ◌+◌, ◌*◌, ◌≡◌, ◌<◌, pos, Bool, true, false, ◌&&◌, not, nat_le, List, [], ◌∷◌, ◌++◌, length, fold, sum_by, map, Option, Some, None, option_map, option_and_then, if◌then◌else◌, decimal, codes, IsTrue, IsFalse}
-use Rattle.std.specs.List.{AllByRecursion}
+-- What a small text means: each `object` makes an object of its class, and each `:=` in it sets an attribute to a literal,
+-- in order, so that the last literal of an attribute stays (QVT 1.3, 8.2.2.24 and 8.2.2.12).
+use Rattle.std.specs.Prelude.{ℕ, suc, ◌+◌, ◌*◌, Bool, true, false, ◌&&◌, not, List, [], ◌∷◌, ◌++◌, length, fold, sum_by, Option, Some, None, option_map, option_and_then, is_some, if◌then◌else◌, decimal, codes}
+use Rattle.std.specs.List.{list_all}
+use Rattle.std.specs.Option.{option_map_or}
 use Rattle.std.specs.Str.{bytes_eq}
-use Rattle.qvt_value.specs.declared.value.Value.TheVariants.{Int as IntValue}
+use Rattle.serde_json.specs.Data.{Data, number, string, array, object, Items, no_items, item, Members, no_members, member, put}
+use Rattle.serde_json.specs.Find.{of_integer}
+use Rattle.qvt_json.specs.Plain.{file_text}
+use Rattle.qvt_base.specs.declared.numbers.FeatureNo.{FeatureNo}
 use Rattle.qvt_meta.specs.declared.info.TypeKind.{TypeKind}
 use Rattle.qvt_meta.specs.declared.info.TypeKind.TheVariants.{Bool as BoolKind, Int as IntKind, Str as StrKind, Enum as EnumKind, Class as ClassKind}
-use Rattle.qvt_base.specs.declared.numbers.FeatureNo.{FeatureNo}
-use Rattle.qvt_meta.specs.Metamodels.{Metamodels, class_at, shape_of, is_single, has_feature}
-use Rattle.qvt_meta.specs.Named.{class_named, feature_named, metamodel_at}
-use Rattle.qvt_store.specs.Contents.{Contents, with_new, with_slot}
-use Rattle.qvt_store.specs.declared.extent.Extent.{Extent}
+use Rattle.qvt_meta.specs.Metamodels.{Metamodels, class_at, shape_of, is_single}
+use Rattle.qvt_meta.specs.Named.{class_named, feature_named, metamodel_named}
 use Rattle.qvt_cli.specs.declared.small.text.Assignment.{Assignment}
 use Rattle.qvt_cli.specs.declared.small.text.SmallObject.{SmallObject}
 use Rattle.qvt_cli.specs.declared.small.text.SmallText.{SmallText}
-use Rattle.qvt_cli.specs.declared.small.program.AttributeValue.{AttributeValue}
-use Rattle.qvt_cli.specs.declared.small.program.NewObject.{NewObject}
 
-abbrev pub is_integer : TypeKind → Bool
-is_integer IntKind = true
-is_integer BoolKind = false
-is_integer StrKind = false
-is_integer (EnumKind m e) = false
-is_integer (ClassKind c) = false
+-- the name is that of an attribute of the class
+abbrev pub is_attribute : Metamodels → ℕ → Assignment → Bool
+is_attribute m c a = is_some (feature_named m c a.attribute)
 
--- an Integer of upper bound 1
-abbrev pub is_integer_attribute : Metamodels → ℕ → Bool
-is_integer_attribute m f = is_integer (shape_of m f).kind && is_single m f
+abbrev pub fits_class : Metamodels → SmallObject → ℕ → Bool
+fits_class m o c = list_all (is_attribute m c) o.assignments
 
-abbrev pub if_attribute : Metamodels → FeatureNo → Option FeatureNo
-if_attribute m f = if is_integer_attribute m f.0 then Some f else None
+-- the object's class is in the metamodel, and each assigned name is an attribute of it
+abbrev pub fits_object : Metamodels → SmallObject → Bool
+fits_object m o = option_map_or (fits_class m o) (class_named m 0 o.class) false
 
--- the attribute of this name
-abbrev pub attribute_named : Metamodels → ℕ → List ℕ → Option FeatureNo
-attribute_named m c name = option_and_then (if_attribute m) (feature_named m c name)
-
-abbrev pub if_concrete : Metamodels → ℕ → Option ℕ
-if_concrete m c = if (class_at m c).is_abstract then None else Some c
-
--- the concrete class of this name in the first metamodel
-abbrev pub concrete_named : Metamodels → List ℕ → Option ℕ
-concrete_named m name = option_and_then (if_concrete m) (class_named m 0 name)
-
-abbrev pub value_of : Metamodels → ℕ → Assignment → Option AttributeValue
-value_of m c a = option_map (λ f. record { feature = f; value = pos a.value }) (attribute_named m c a.attribute)
-
-abbrev pub all_of : {A B : Type 0} → (A → Option B) → List A → Option (List B)
-all_of f [] = Some []
-all_of f (x ∷ xs) = option_and_then (λ y. option_map (λ ys. y ∷ ys) (all_of f xs)) (f x)
-
-abbrev pub object_of_class : Metamodels → SmallObject → ℕ → Option NewObject
-object_of_class m o c = option_map (λ vs. record { class = record { 0 = c }; values = vs }) (all_of (value_of m c) o.assignments)
-
--- an object with the numbers of its class and attributes
-abbrev pub object_named : Metamodels → SmallObject → Option NewObject
-object_named m o = option_and_then (object_of_class m o) (concrete_named m o.class)
-
--- the objects with numbers for names, none where a name is no class or attribute
-unfoldable pub program_of : Metamodels → List SmallObject → Option (List NewObject)
-program_of m os = all_of (object_named m) os
+-- the text fits the metamodel, which is the first, and the model that the job names for its output
+unfoldable pub fits : Metamodels → List ℕ → SmallText → Bool
+fits m model t = is_some (metamodel_named m t.uses) && bytes_eq t.parameter_type t.type_name && bytes_eq t.parameter model
+    && list_all (fits_object m) t.objects
 
 -- two units for an object and two for each assignment
-abbrev pub cost_of : NewObject → ℕ
-cost_of o = 2 * (1 + length o.values)
+abbrev pub cost_of : SmallObject → ℕ
+cost_of o = 2 * (1 + length o.assignments)
 
-unfoldable pub cost : List NewObject → ℕ
+unfoldable pub cost : List SmallObject → ℕ
 cost os = sum_by cost_of os
 
-abbrev pub assigned : ℕ → Contents → AttributeValue → Contents
-assigned o s a = with_slot s o a.feature.0 (IntValue a.value ∷ [])
+-- an attribute and its literal, in the place of an earlier one
+abbrev pub with_value : Members → Assignment → Members
+with_value ms a = put a.attribute (number (of_integer a.value)) ms
 
--- a new object, then its assignments in order
-abbrev pub made_one : Contents → NewObject → Contents
-made_one s o = fold (assigned (length s.objects)) (with_new s o.class.0 0) o.values
+abbrev pub slots_of : SmallObject → Members
+slots_of o = fold with_value no_members o.assignments
 
-unfoldable pub made : Contents → List NewObject → Contents
-made s os = fold made_one s os
+-- the id of the object that stands n-th, from 1
+abbrev pub own_id : ℕ → List ℕ
+own_id n = codes "o" ++ decimal n
 
--- the one output, and the intermediate instances come later
-abbrev pub output_extent : List ℕ → Extent
-output_extent name = record { name = name; metamodel = 0; writable = true }
+unfoldable pub object_value : ℕ → SmallObject → Data
+object_value n o = object (member (codes "class") (string o.class) (member (codes "id") (string (own_id n)) (member (codes "slots") (object (slots_of o)) no_members)))
 
-abbrev pub empty_store : Metamodels → List ℕ → Contents
-empty_store m name = record { metas = m; extents = output_extent name ∷ []; objects = [] }
+-- the objects, of which the first stands n-th
+abbrev pub objects_from : ℕ → List SmallObject → Items
+objects_from n [] = no_items
+objects_from n (o ∷ os) = item (object_value n o) (objects_from (suc n) os)
+
+unfoldable pub model_value : List SmallObject → Data
+model_value os = object (member (codes "objects") (array (objects_from 1 os)) no_members)
+
+-- the written model
+unfoldable pub model_text : List SmallObject → List ℕ
+model_text os = file_text (model_value os)
 
 abbrev pub done_line : ℕ → ℕ → List ℕ
 done_line objects cost = codes "done: " ++ (decimal objects ++ (codes " objects, 0 records, 0 late, cost " ++ (decimal cost ++ 10 ∷ [])))

@@ -1,5 +1,5 @@
 -- The small text by its tokens: a model type, a transformation with one output, and a `main` that makes objects with literals (QVT 1.3, 8.2.1 and 8.2.2).
-use Rattle.std.specs.Prelude.{ℕ, zero, suc, Bool, true, false, ◌||◌, List, [], ◌∷◌, length, if◌then◌else◌, Option, Some, None, codes}
+use Rattle.std.specs.Prelude.{ℕ, ℤ, zero, suc, Bool, true, false, ◌||◌, List, [], ◌∷◌, length, if◌then◌else◌, Option, Some, None, codes}
 use Rattle.std.specs.List.{list_any}
 use Rattle.std.specs.Str.{bytes_eq}
 use Rattle.qvt_cli.specs.declared.small.token.Token.{Token}
@@ -58,7 +58,7 @@ signed k (Integer n ∷ ts) = None
 signed k (Quoted t ∷ ts) = None
 signed k (SignToken s ∷ ts) = if same_sign s k then Some ts else None
 
-abbrev pub numbered : List Token → Option (ℕ × List Token)
+abbrev pub numbered : List Token → Option (ℤ × List Token)
 numbered [] = None
 numbered (Word w ∷ ts) = None
 numbered (Integer n ∷ ts) = Some (n, ts)

@@ -1,5 +1,5 @@
 -- The tokens of a small text: words, whole numbers, quoted texts and signs, each the longest front of what is left, with blanks between.
-use Rattle.std.specs.Prelude.{ℕ, ◌+◌, ◌-◌, ◌*◌, zero, suc, Bool, true, false, ◌&&◌, ◌||◌, ◌==◌, not, nat_le, List, [], ◌∷◌, fold, if◌then◌else◌, Option, Some, None, option_map, option_and_then, encode_utf8_all}
+use Rattle.std.specs.Prelude.{ℕ, pos, ◌+◌, ◌-◌, ◌*◌, zero, suc, Bool, true, false, ◌&&◌, ◌||◌, ◌==◌, not, nat_le, List, [], ◌∷◌, fold, if◌then◌else◌, Option, Some, None, option_map, option_and_then, encode_utf8_all}
 use Rattle.std.specs.Str.{chars}
 use Rattle.std.specs.Borrow.{Bor}
 use Rattle.qvt_cli.specs.declared.small.token.Token.{Token}
@@ -63,7 +63,7 @@ abbrev pub word_at : List ℕ → Token × List ℕ
 word_at cs = (Word (run_of class.Word cs), past (is_in class.Word) cs)
 
 abbrev pub integer_at : List ℕ → Option (Token × List ℕ)
-integer_at cs = option_map (λ n. (Integer n, past (is_in class.Digit) cs)) (greatest (number_of (run_of class.Digit cs)))
+integer_at cs = option_map (λ n. (Integer (pos n), past (is_in class.Digit) cs)) (greatest (number_of (run_of class.Digit cs)))
 
 -- the closing quote, and the characters after it
 abbrev pub after_quote : List ℕ → Option (List ℕ)

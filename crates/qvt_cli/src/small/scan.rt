@@ -1,4 +1,4 @@
-ghost use Rattle.std.specs.Prelude.{◌≡◌, ◌≤◌, length, IfOk, encode_utf8_all};
+ghost use Rattle.std.specs.Prelude.{◌≡◌, ◌≤◌, IfOk, IfSome, encode_utf8_all};
 ghost use Rattle.std.specs.Str.{chars, IsUtf8};
 ghost use Rattle.qvt_cli.specs.SmallTokens.{is_in, front, past, number_of, greatest};
 
@@ -74,7 +74,8 @@ pub fn front(alloc: Global, class: Class, text: &str) -> Result<Text, ListFault>
 
 /// The number that decimal digits spell, None where it is above 9223372036854775807.
 pub fn number_of(digits: &[u8]) -> Option<u64>
-    ensures { result ≡ greatest (number_of digits.now) }
+    ensures number { result ≡ greatest (number_of digits.now) }
+    ensures fits { IfSome result (λ n. n ≤ 9223372036854775807) }
 {
     let mut number: u64 = 0;
     for digit in digits {

@@ -14,7 +14,7 @@ use std::alloc::Global;
 #[derive(Debug, Drop)]
 pub struct Assignment {
     pub attribute: Text,
-    pub value: u64,
+    pub value: i64,
 }
 
 /// An object that is made, with its assignments in order.
@@ -111,7 +111,7 @@ fn signed(sign: Sign, tokens: &[Token]) -> Option<&[Token]>
 }
 
 /// A whole number.
-fn numbered(tokens: &[Token]) -> Option<(u64, &[Token])>
+fn numbered(tokens: &[Token]) -> Option<(i64, &[Token])>
     ensures { option_map (λ x. (x.0, x.1.now)) result ≡ numbered tokens.now }
 {
     let (first, rest) = tokens.split_first()?;

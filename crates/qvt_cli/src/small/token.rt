@@ -18,7 +18,7 @@ pub enum Token {
     /// A name or a reserved word.
     Word(Text),
     /// A whole number of at most 9223372036854775807.
-    Integer(u64),
+    Integer(i64),
     /// What stands between two quotes.
     Quoted(Text),
     Sign(Sign),

@@ -52,7 +52,7 @@ fn integer_at(alloc: Global, text: &str) -> Result<Option<(Token, &str)>, ListFa
 {
     let digits = front(alloc, Class::Digit, text)?;
     match number_of(digits.as_str().as_bytes()) {
-        Some(number) => Ok(Some((Token::Integer(number), past(Class::Digit, text)))),
+        Some(number) => Ok(Some((Token::Integer(number as i64), past(Class::Digit, text)))),
         None => Ok(None),
     }
 }
