@@ -71,3 +71,20 @@ pub carried : (p : Plan) (names : List (List ℕ)) (before : Held) (c : Change) 
     → Answers (outcome_of p) names before c answer
 carried p names before c answer (inl h) = told_of (outcome_of p) names before c answer h.0 h.1
 carried p names before c answer (inr h) = file_failed p names before c answer h.0 c.held refl h.1 h.2 h.3 h.4
+
+-- a plan of a run was carried out
+pub carried_after : (p : Plan) (run : Result Outcome Outcome) (names : List (List ℕ)) (before : Held) (c : Change) (answer : Status) (held : Option Held) (writes : ℕ)
+    → run ≡ Ok (outcome_of p) → held ≡ Some before → writes ≡ c.writes_before
+    → CarriedOut p held c.held writes c.writes c.written_before c.written c.sinks_before c.sinks answer → Answers (settled run) names before c answer
+carried_after p run names before c answer held writes is told same h =
+    subst (λ r. Answers (settled r) names before c answer) (sym is)
+      (carried p names before c answer
+        (subst (λ w. CarriedOut p (Some before) c.held w c.writes c.written_before c.written c.sinks_before c.sinks answer) same
+          (subst (λ t. CarriedOut p t c.held writes c.writes c.written_before c.written c.sinks_before c.sinks answer) told h)))
+
+-- a run that ended early was told, or that memory was wanting
+pub finished_after : (e : Stop) (run : Result Outcome Outcome) (names : List (List ℕ)) (before : Held) (c : Change) (answer : Status) → Stops e run
+    → c.held ≡ Some before → IsFaultWith e (λ file. Rose c.reads_before c.reads) → IsFaultWith e (λ file. IsAmong file names)
+    → ReportsOf (stop_line e) (stop_status e) c answer ⊎ ReportsOf no_memory_line status.NoMemory c answer → Answers (settled run) names before c answer
+finished_after e run names before c answer stops files rose among (inl h) = stopped e run names before c answer stops files rose among h
+finished_after e run names before c answer stops files rose among (inr h) = memory_of (settled run) names before c answer files h

@@ -2,6 +2,7 @@ pub mod Job
 pub mod Outcome
 pub mod Reported
 pub mod Steps
+pub mod Run
 pub mod Words
 pub mod Plans
 pub mod Commands

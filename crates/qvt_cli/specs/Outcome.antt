@@ -32,6 +32,10 @@ pub data Outcome : Type 0 where
 abbrev pub refusal_text : Refusal → List ℕ
 refusal_text refusal.Missing = codes "Missing"
 refusal_text refusal.TooLarge = codes "TooLarge"
+refusal_text refusal.Json = codes "Json"
+refusal_text (refusal.Shape path) = codes "Shape " ++ path
+refusal_text refusal.TooManyFiles = codes "TooManyFiles"
+refusal_text (refusal.SameFile file) = codes "SameFile " ++ file
 refusal_text refusal.NotBuilt = codes "NotBuilt"
 
 abbrev pub usage_line : List ℕ

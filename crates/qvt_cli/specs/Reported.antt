@@ -22,6 +22,12 @@ pub record Change : Type 0 where
   pub sinks_before : ℕ
   pub sinks : ℕ
 
+abbrev pub change_of : Option Held → Option (List ℕ) → Option (List ℕ) → ℕ → ℕ → ℕ → ℕ → ℕ → ℕ → Change
+change_of held written_before written reads_before reads writes_before writes sinks_before sinks = record {
+  held = held; written_before = written_before; written = written;
+  reads_before = reads_before; reads = reads; writes_before = writes_before; writes = writes; sinks_before = sinks_before; sinks = sinks;
+}
+
 abbrev pub appended : List ℕ → Option (List ℕ) → Option (List ℕ)
 appended text told = option_map (λ bytes. bytes ++ text) told
 

@@ -1,6 +1,6 @@
 ghost use Rattle.std.specs.Prelude.{◌≡◌, ◌≤◌, Some, OnOk};
 ghost use Rattle.qvt_base.specs.Outside.{Held, Rose};
-ghost use Rattle.qvt_cli.specs.Steps.{Gives, IfFaultOf, joined, read_step, RefusedOrNoMemory, ReadFaultOrNoMemory};
+ghost use Rattle.qvt_cli.specs.Steps.{Gives, IfFaultOf, IsFaultWith, joined, read_step, RefusedOrNoMemory, ReadFaultOrNoMemory};
 
 use crate::refusal::Refusal;
 use crate::stop::Stop;
@@ -12,7 +12,8 @@ use std::alloc::Global;
 
 /// The refusal of a file.
 pub fn refused(alloc: Global, file: &Text, why: Refusal) -> Stop
-    ensures { RefusedOrNoMemory file.now why result }
+    ensures refused { RefusedOrNoMemory file.now why result }
+    ensures no_reads { IsFaultWith result (λ file. ⊥) }
 {
     match file.copy(alloc) {
         Ok(file) => Stop::Refused(file, why),

@@ -12,3 +12,5 @@ pub mod read_job;
 pub mod plan;
 pub mod fetch;
 pub mod small;
+pub mod run;
+pub mod top;

@@ -1,3 +1,5 @@
+use qvt_base::text::Text;
+
 /// Why a file was refused.
 #[derive(Debug, Drop)]
 pub enum Refusal {
@@ -5,6 +7,14 @@ pub enum Refusal {
     Missing,
     /// The file has more bytes than its limit.
     TooLarge,
-    /// The file is read by a form that is not built yet.
+    /// The file has no JSON value.
+    Json,
+    /// The value is not of its form. The path names the first fault.
+    Shape(Text),
+    /// The job names more than 16 files, repeats counted.
+    TooManyFiles,
+    /// This file of an output or of the trace is that of an earlier output.
+    SameFile(Text),
+    /// What the file asks for is not built yet.
     NotBuilt,
 }

@@ -1,6 +1,6 @@
-ghost use Rattle.std.specs.Prelude.{◌≡◌, ◌⊎◌, MatchBool, IfOk, string_bytes};
+ghost use Rattle.std.specs.Prelude.{◌≡◌, ◌⊎◌, ◌++◌, MatchBool, IfOk, string_bytes, codes};
 ghost use Rattle.qvt_base.specs.Outside.{Rose};
-ghost use Rattle.qvt_cli.specs.Outcome.{refused_line, out_of_fuel_line, read_fault_line, write_fault_line, no_memory_line};
+ghost use Rattle.qvt_cli.specs.Outcome.{refusal_text, refused_line, out_of_fuel_line, read_fault_line, write_fault_line, no_memory_line};
 ghost use Rattle.qvt_cli.specs.Steps.{stop_line, stop_status};
 ghost use Rattle.qvt_cli.specs.Reported.{appended, IsCut, Reports};
 
@@ -60,16 +60,33 @@ pub fn out_of_fuel_line(alloc: Global, fuel: u64) -> Result<Bytes, AllocError>
     Ok(bytes_of(format!(in alloc; "out of fuel: {fuel}\n")?))
 }
 
+/// A refusal's name and detail.
+fn refusal_text(alloc: Global, why: &Refusal) -> Result<String, AllocError>
+    ensures { IfOk result (λ text. string_bytes text ≡ refusal_text why.now) }
+{
+    match why {
+        Refusal::Missing => String::from_str(alloc, "Missing"),
+        Refusal::TooLarge => String::from_str(alloc, "TooLarge"),
+        Refusal::Json => String::from_str(alloc, "Json"),
+        Refusal::Shape(path) => detailed(alloc, "Shape", path.as_str()),
+        Refusal::TooManyFiles => String::from_str(alloc, "TooManyFiles"),
+        Refusal::SameFile(file) => detailed(alloc, "SameFile", file.as_str()),
+        Refusal::NotBuilt => String::from_str(alloc, "NotBuilt"),
+    }
+}
+
+fn detailed(alloc: Global, name: &str, detail: &str) -> Result<String, AllocError>
+    ensures { IfOk result (λ text. string_bytes text ≡ name.now ++ (codes " " ++ detail.now)) }
+{
+    format!(in alloc; "{name} {detail}")
+}
+
 /// The line of a refusal: the file, the refusal's name and its detail.
 pub fn refused_line(alloc: Global, file: &str, why: &Refusal) -> Result<Bytes, AllocError>
     ensures { IfOk result (λ line. line ≡ refused_line file.now why.now) }
 {
-    let line = match why {
-        Refusal::Missing => format!(in alloc; "refused: {file}: Missing\n")?,
-        Refusal::TooLarge => format!(in alloc; "refused: {file}: TooLarge\n")?,
-        Refusal::NotBuilt => format!(in alloc; "refused: {file}: NotBuilt\n")?,
-    };
-    Ok(bytes_of(line))
+    let text = refusal_text(alloc, why)?;
+    Ok(bytes_of(format!(in alloc; "refused: {file}: {text}\n")?))
 }
 
 /// The line and the status of an early end.

@@ -1,4 +1,5 @@
 use crate::refusal::Refusal;
+use qvt_base::list_fault::ListFault;
 use qvt_base::text::Text;
 
 /// Why the work of a command ended before its end.
@@ -11,4 +12,15 @@ pub enum Stop {
     /// This file could not be read.
     ReadFault(Text),
     NoMemory,
+}
+
+impl From<ListFault> for Stop {
+    ghost use Rattle.std.specs.Prelude.{◌≡◌};
+    ghost use Rattle.qvt_cli.specs.declared.stop.Stop.TheVariants.{NoMemory};
+
+    ghost from_gives = { λ _ e. e ≡ NoMemory };
+
+    fn from(_: ListFault) -> Stop {
+        Stop::NoMemory
+    }
 }

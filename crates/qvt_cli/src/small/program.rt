@@ -52,8 +52,7 @@ pub fn fits(metas: &Metas, model: &str, text: &SmallText) -> bool
 
 /// Charges for an object and its assignments, None where the cost would pass the fuel.
 fn charge(spent: u64, fuel: u64, object: &SmallObject) -> Option<u64>
-    requires spent { spent ≤ fuel }
-    requires fuel { fuel ≤ 1000000000 }
+    requires { spent ≤ fuel }
     ensures { MatchOption result (fuel < spent + cost_of object.now) (λ now. (now ≡ spent + cost_of object.now) × (now ≤ fuel)) }
 {
     let room = (fuel - spent) / 2;
@@ -68,7 +67,6 @@ fn charge(spent: u64, fuel: u64, object: &SmallObject) -> Option<u64>
 /// The cost of all objects, None where it would pass the fuel.
 #[tactic(auto, unfolding(crate::specs::SmallRun::cost))]
 pub fn cost_within(fuel: u64, objects: &[SmallObject]) -> Option<u64>
-    requires { fuel ≤ 1000000000 }
     ensures { MatchOption result (fuel < cost objects.now) (λ spent. (spent ≡ cost objects.now) × (spent ≤ fuel)) }
 {
     let mut spent = 0;

@@ -1,0 +1,316 @@
+ghost use Rattle.std.specs.Prelude.{◌≡◌, ◌≤◌, ◌∷◌, [], OnOk, IfOk, Some};
+ghost use Rattle.qvt_base.specs.Outside.{Held, Rose};
+ghost use Rattle.qvt_cli.specs.Reported.{IsAmong};
+ghost use Rattle.qvt_cli.specs.Steps.{Gives, IfFaultOf, IsFaultWith, joined};
+ghost use Rattle.qvt_cli.specs.Plans.{outcome_of, IsReady};
+ghost use Rattle.qvt_cli.specs.Run.{small_job, job_in, job_read, metas_in, metas_read, parsed, small_text_of, text_in, text_read, performed, after_metas, after_job, run_of, turns_after_job, run_turns, IsJobStop, done_outcome};
+ghost use Rattle.qvt_cli.specs.SmallRun.{done_line};
+
+use crate::fetch::{fetch, refused};
+use crate::job::{Job, JobFault};
+use crate::plan::{Output, Plan};
+use crate::read_job::read_job;
+use crate::refusal::Refusal;
+use crate::report::write_fault_line;
+use crate::small::program::{cost_within, fits};
+use crate::small::text::{SmallText, small_in};
+use crate::small::tokens::tokens_of;
+use crate::small::written::model_text;
+use crate::stop::Stop;
+use qvt_base::copied::Copied;
+use qvt_base::list_fault::ListFault;
+use qvt_base::lists::Bytes;
+use qvt_base::outside::Files;
+use qvt_base::seq::Seq;
+use qvt_base::text::Text;
+use qvt_meta::fault::MetaFault;
+use qvt_meta::meta::read_meta;
+use qvt_meta::metas::Metas;
+use std::alloc::{AllocError, Global};
+use std::str;
+
+/// A job with one metamodel, one output, no input and no trace.
+#[derive(Debug, Drop)]
+pub struct SmallJob {
+    pub fuel: u64,
+    pub metamodel: Text,
+    pub text: Text,
+    /// The file of the output.
+    pub file: Text,
+    /// The model of the output.
+    pub model: Text,
+}
+
+/// The job as a small one, None where it is none.
+fn small_job(alloc: Global, job: &Job) -> Result<Option<SmallJob>, ListFault>
+    ensures { IfOk result (λ o. o ≡ small_job job.now) }
+{
+    if !job.inputs.is_empty() || job.trace.is_some() {
+        return Ok(None);
+    }
+    let [metamodel] = job.metamodels.as_slice() else {
+        return Ok(None);
+    };
+    let [output] = job.outputs.as_slice() else {
+        return Ok(None);
+    };
+    Ok(Some(SmallJob {
+        fuel: job.fuel,
+        metamodel: metamodel.copy(alloc)?,
+        text: job.text.copy(alloc)?,
+        file: output.file.copy(alloc)?,
+        model: output.model.copy(alloc)?,
+    }))
+}
+
+/// The refusal of a job's file.
+fn job_stop(alloc: Global, name: &Text, why: JobFault) -> Stop
+    ensures stop { IsJobStop name.now why result }
+    ensures no_reads { IsFaultWith result (λ file. ⊥) }
+{
+    match why {
+        JobFault::NoMemory => Stop::NoMemory,
+        JobFault::Json => refused(alloc, name, Refusal::Json),
+        JobFault::Shape(path) => refused(alloc, name, Refusal::Shape(path)),
+        JobFault::TooManyFiles => refused(alloc, name, Refusal::TooManyFiles),
+        JobFault::SameFile(file) => refused(alloc, name, Refusal::SameFile(file)),
+    }
+}
+
+/// The small job of a file's bytes.
+#[tactic(auto, unfolding(crate::specs::Run::job_in))]
+fn job_in(alloc: Global, name: &Text, bytes: &[u8]) -> Result<SmallJob, Stop>
+    ensures no_reads { IfFaultOf result (λ file. ⊥) }
+    ensures gives { Gives (λ job. job) result (job_in name.now bytes.now) }
+{
+    match read_job(alloc, bytes) {
+        Err(why) => Err(job_stop(alloc, name, why)),
+        Ok(job) => match small_job(alloc, &job) {
+            Err(_) => Err(Stop::NoMemory),
+            Ok(None) => Err(refused(alloc, name, Refusal::NotBuilt)),
+            Ok(Some(job)) => Ok(job),
+        },
+    }
+}
+
+/// Reads the job.
+#[tactic(auto, unfolding(crate::specs::Run::job_read))]
+fn read_small_job<F: Files>(alloc: Global, files: &mut F, name: &Text) -> Result<SmallJob, Stop>
+    ensures gives { (held : Held) → F.held files.old ≡ Some held → Gives (λ job. job) result (job_read held name.now) }
+    ensures held { F.held files.new ≡ F.held files.old }
+    ensures later { F.read_faults files.old ≤ F.read_faults files.new }
+    ensures rose { IfFaultOf result (λ file. Rose (F.read_faults files.old) (F.read_faults files.new)) }
+    ensures writes { F.write_faults files.new ≡ F.write_faults files.old }
+    ensures named { IfFaultOf result (λ file. file ≡ name.now) }
+    ensures failed { IfFaultOf result (λ file. F.failed_reads files.new ≡ joined file (F.failed_reads files.old)) }
+    ensures quiet { OnOk result (F.failed_reads files.new ≡ F.failed_reads files.old) }
+{
+    match fetch(alloc, files, name, 65_536) {
+        Err(stop) => Err(stop),
+        Ok(bytes) => job_in(alloc, name, bytes.as_slice()),
+    }
+}
+
+/// The metamodels of a file's bytes: the one that it has.
+#[tactic(auto, unfolding(crate::specs::Run::metas_in))]
+fn metas_in(alloc: Global, name: &Text, bytes: &[u8]) -> Result<Metas, Stop>
+    ensures no_reads { IfFaultOf result (λ file. ⊥) }
+    ensures gives { Gives (λ metas. metas) result (metas_in name.now bytes.now) }
+{
+    let meta = match read_meta(alloc, bytes) {
+        Err(MetaFault::NotBuilt) => return Err(refused(alloc, name, Refusal::NotBuilt)),
+        Err(MetaFault::NoMemory) => return Err(Stop::NoMemory),
+        Ok(meta) => meta,
+    };
+    // No file within its limit has so many classes or features.
+    if !meta.has_few() {
+        return Err(Stop::NoMemory);
+    }
+    let mut metas = Metas::new(alloc);
+    match metas.add(meta) {
+        Err(_) => Err(Stop::NoMemory),
+        Ok(()) => Ok(metas),
+    }
+}
+
+/// Reads the metamodel.
+#[tactic(auto, unfolding(crate::specs::Run::metas_read))]
+fn read_metas<F: Files>(alloc: Global, files: &mut F, job: &SmallJob) -> Result<Metas, Stop>
+    ensures gives { (held : Held) → F.held files.old ≡ Some held → Gives (λ metas. metas) result (metas_read held job.now) }
+    ensures held { F.held files.new ≡ F.held files.old }
+    ensures later { F.read_faults files.old ≤ F.read_faults files.new }
+    ensures rose { IfFaultOf result (λ file. Rose (F.read_faults files.old) (F.read_faults files.new)) }
+    ensures writes { F.write_faults files.new ≡ F.write_faults files.old }
+    ensures named { IfFaultOf result (λ file. file ≡ job.now.metamodel) }
+    ensures failed { IfFaultOf result (λ file. F.failed_reads files.new ≡ joined file (F.failed_reads files.old)) }
+    ensures quiet { OnOk result (F.failed_reads files.new ≡ F.failed_reads files.old) }
+{
+    match fetch(alloc, files, &job.metamodel, 1_048_576) {
+        Err(stop) => Err(stop),
+        Ok(bytes) => metas_in(alloc, &job.metamodel, bytes.as_slice()),
+    }
+}
+
+/// The small text of a text, None where it is none.
+fn parsed(alloc: Global, text: &str) -> Result<Option<SmallText>, ListFault>
+    ensures { IfOk result (λ o. o ≡ parsed text.now) }
+{
+    match tokens_of(alloc, text)? {
+        None => Ok(None),
+        Some(tokens) => {
+            let small = small_in(alloc, tokens.as_slice())?;
+            Ok(small)
+        }
+    }
+}
+
+/// The small text of a file's bytes, None where it is none.
+fn small_text_of(alloc: Global, bytes: &[u8]) -> Result<Option<SmallText>, ListFault>
+    ensures { IfOk result (λ o. o ≡ small_text_of bytes.now) }
+{
+    match str::from_utf8(bytes) {
+        Err(_) => Ok(None),
+        Ok(text) => {
+            let small = parsed(alloc, text)?;
+            Ok(small)
+        }
+    }
+}
+
+/// The text of a file's bytes, which is small and fits the metamodel and the output.
+#[tactic(auto, unfolding(crate::specs::Run::text_in))]
+fn text_in(alloc: Global, metas: &Metas, job: &SmallJob, bytes: &[u8]) -> Result<SmallText, Stop>
+    ensures no_reads { IfFaultOf result (λ file. ⊥) }
+    ensures gives { Gives (λ text. text) result (text_in metas.now job.now bytes.now) }
+{
+    match small_text_of(alloc, bytes) {
+        Err(_) => Err(Stop::NoMemory),
+        Ok(None) => Err(refused(alloc, &job.text, Refusal::NotBuilt)),
+        Ok(Some(text)) => {
+            if fits(metas, job.model.as_str(), &text) {
+                Ok(text)
+            } else {
+                Err(refused(alloc, &job.text, Refusal::NotBuilt))
+            }
+        }
+    }
+}
+
+/// Reads the text.
+#[tactic(auto, unfolding(crate::specs::Run::text_read))]
+fn read_text<F: Files>(alloc: Global, files: &mut F, job: &SmallJob, metas: &Metas) -> Result<SmallText, Stop>
+    ensures gives { (held : Held) → F.held files.old ≡ Some held → Gives (λ text. text) result (text_read held job.now metas.now) }
+    ensures held { F.held files.new ≡ F.held files.old }
+    ensures later { F.read_faults files.old ≤ F.read_faults files.new }
+    ensures rose { IfFaultOf result (λ file. Rose (F.read_faults files.old) (F.read_faults files.new)) }
+    ensures writes { F.write_faults files.new ≡ F.write_faults files.old }
+    ensures named { IfFaultOf result (λ file. file ≡ job.now.text) }
+    ensures failed { IfFaultOf result (λ file. F.failed_reads files.new ≡ joined file (F.failed_reads files.old)) }
+    ensures quiet { OnOk result (F.failed_reads files.new ≡ F.failed_reads files.old) }
+{
+    match fetch(alloc, files, &job.text, 262_144) {
+        Err(stop) => Err(stop),
+        Ok(bytes) => text_in(alloc, metas, job, bytes.as_slice()),
+    }
+}
+
+/// The line of a run that is done.
+fn done_line(alloc: Global, objects: usize, cost: u64) -> Result<Bytes, AllocError>
+    ensures { IfOk result (λ line. line ≡ done_line objects cost) }
+{
+    let text = format!(in alloc; "done: {objects} objects, 0 records, 0 late, cost {cost}\n")?;
+    Ok(Seq::from_vec(text.into_bytes()))
+}
+
+/// The plan of a run that is done.
+fn plan_of(alloc: Global, job: &SmallJob, text: &SmallText, cost: u64) -> Result<Plan, ListFault>
+    ensures plan { IfOk result (λ p. outcome_of p ≡ done_outcome job.now text.now cost) }
+    ensures ready { IfOk result (λ p. IsReady p.outputs) }
+{
+    let objects = text.objects.as_slice();
+    let bytes = model_text(alloc, objects)?;
+    let Ok(line) = done_line(alloc, objects.len(), cost) else {
+        return Err(ListFault::NoMemory);
+    };
+    let Ok(fault_line) = write_fault_line(alloc, job.file.as_str()) else {
+        return Err(ListFault::NoMemory);
+    };
+    let file = job.file.copy(alloc)?;
+    let mut outputs = Seq::new(alloc);
+    outputs.push(Output {
+        file,
+        bytes,
+        fault_line,
+    })?;
+    Ok(Plan { outputs, line })
+}
+
+/// Runs a small text with the job's fuel, and makes every byte that is to be written.
+#[tactic(auto, unfolding(crate::specs::Run::performed))]
+fn perform_text(alloc: Global, job: &SmallJob, text: &SmallText) -> Result<Plan, Stop>
+    ensures gives { Gives outcome_of result (performed job.now text.now) }
+    ensures ready { IfOk result (λ p. IsReady p.outputs) }
+    ensures no_reads { IfFaultOf result (λ file. ⊥) }
+{
+    let Some(cost) = cost_within(job.fuel, text.objects.as_slice()) else {
+        return Err(Stop::OutOfFuel(job.fuel));
+    };
+    match plan_of(alloc, job, text, cost) {
+        Err(_) => Err(Stop::NoMemory),
+        Ok(plan) => Ok(plan),
+    }
+}
+
+/// Reads the text and runs it.
+#[tactic(auto, unfolding(crate::specs::Run::after_metas))]
+fn perform_with_metas<F: Files>(alloc: Global, files: &mut F, job: &SmallJob, metas: &Metas) -> Result<Plan, Stop>
+    ensures gives { (held : Held) → F.held files.old ≡ Some held → Gives outcome_of result (after_metas held job.now metas.now) }
+    ensures ready { IfOk result (λ p. IsReady p.outputs) }
+    ensures turn { (held : Held) → F.held files.old ≡ Some held → IfFaultOf result (λ file. IsAmong file (job.now.text ∷ [])) }
+    ensures held { F.held files.new ≡ F.held files.old }
+    ensures rose { IfFaultOf result (λ file. Rose (F.read_faults files.old) (F.read_faults files.new)) }
+    ensures later { F.read_faults files.old ≤ F.read_faults files.new }
+    ensures writes { F.write_faults files.new ≡ F.write_faults files.old }
+    ensures failed { IfFaultOf result (λ file. F.failed_reads files.new ≡ joined file (F.failed_reads files.old)) }
+{
+    match read_text(alloc, files, job, metas) {
+        Err(stop) => Err(stop),
+        Ok(text) => perform_text(alloc, job, &text),
+    }
+}
+
+/// Reads the metamodel, then the text, and runs it.
+#[tactic(auto, unfolding(crate::specs::Run::after_job))]
+fn perform_job<F: Files>(alloc: Global, files: &mut F, job: &SmallJob) -> Result<Plan, Stop>
+    ensures gives { (held : Held) → F.held files.old ≡ Some held → Gives outcome_of result (after_job held job.now) }
+    ensures ready { IfOk result (λ p. IsReady p.outputs) }
+    ensures turn { (held : Held) → F.held files.old ≡ Some held → IfFaultOf result (λ file. IsAmong file (turns_after_job held job.now)) }
+    ensures held { F.held files.new ≡ F.held files.old }
+    ensures rose { IfFaultOf result (λ file. Rose (F.read_faults files.old) (F.read_faults files.new)) }
+    ensures later { F.read_faults files.old ≤ F.read_faults files.new }
+    ensures writes { F.write_faults files.new ≡ F.write_faults files.old }
+    ensures failed { IfFaultOf result (λ file. F.failed_reads files.new ≡ joined file (F.failed_reads files.old)) }
+{
+    match read_metas(alloc, files, job) {
+        Err(stop) => Err(stop),
+        Ok(metas) => perform_with_metas(alloc, files, job, &metas),
+    }
+}
+
+/// Reads a job and all that it names, and runs it.
+#[tactic(auto, unfolding(crate::specs::Run::run_of))]
+pub fn perform_run<F: Files>(alloc: Global, files: &mut F, name: &Text) -> Result<Plan, Stop>
+    ensures gives { (held : Held) → F.held files.old ≡ Some held → Gives outcome_of result (run_of held name.now) }
+    ensures ready { IfOk result (λ p. IsReady p.outputs) }
+    ensures turn { (held : Held) → F.held files.old ≡ Some held → IfFaultOf result (λ file. IsAmong file (run_turns held name.now)) }
+    ensures held { F.held files.new ≡ F.held files.old }
+    ensures rose { IfFaultOf result (λ file. Rose (F.read_faults files.old) (F.read_faults files.new)) }
+    ensures later { F.read_faults files.old ≤ F.read_faults files.new }
+    ensures writes { F.write_faults files.new ≡ F.write_faults files.old }
+    ensures failed { IfFaultOf result (λ file. F.failed_reads files.new ≡ joined file (F.failed_reads files.old)) }
+{
+    match read_small_job(alloc, files, name) {
+        Err(stop) => Err(stop),
+        Ok(job) => perform_job(alloc, files, &job),
+    }
+}
