@@ -1,21 +1,23 @@
-ghost use Rattle.std.specs.Prelude.{◌≡◌, [], length, None, IfOk, IfErr, OnOk, OnErr, IfSome, option_map, position, ◌==◌, ◌&&◌, ◌||◌, ◌<◌};
+ghost use Rattle.std.specs.Prelude.{◌≡◌, ◌≢◌, [], true, false, length, None, IfOk, IfErr, OnOk, OnErr, IfSome, option_map, position, ◌==◌, ◌&&◌, ◌||◌, ◌<◌};
 ghost use Rattle.std.specs.Str.{bytes_eq};
+ghost use Rattle.std.specs.List.{list_any};
 ghost use Rattle.qvt_meta.specs.Metamodels.{class_at, feature_at, shape_of, opposite, features_of};
 ghost use Rattle.qvt_meta.specs.Descends.{descends};
 ghost use Rattle.qvt_meta.specs.WellFormed.{IsWellFormed};
 ghost use Rattle.qvt_meta.specs.Named.{is_text};
+ghost use Rattle.qvt_meta.specs.Kept.{is_marked};
 
-use crate::adding::with_numbers;
 use crate::begin::Begin;
 use crate::copied::{copies, joined};
 use crate::fault::MetasFault;
 use crate::info::{ClassInfo, FeatureInfo, FeatureShape, MetamodelInfo, TypeKind};
+use crate::joining::{class_infos_on, feature_infos_on, lists_on, ranks_on, rows_on};
 use crate::meta::Meta;
+use crate::row::Row;
 use qvt_base::copied::Copied;
 use qvt_base::list_fault::ListFault;
 use qvt_base::lists::FeatureNoList;
 use qvt_base::numbers::{ClassNo, FeatureNo};
-use qvt_base::seq::Seq;
 use qvt_base::text::Text;
 use std::alloc::Global;
 use std::marker::Model;
@@ -30,7 +32,8 @@ pub struct Metas {
     features: Vec<FeatureInfo>,
     element: Option<ClassNo>,
     lists: Vec<FeatureNoList>,
-    rows: Vec<Seq<bool>>,
+    rows: Vec<Row>,
+    ranks: Vec<u32>,
 }
 
 impl Model for Metas {
@@ -41,7 +44,7 @@ impl Model for Metas {
 
     ghost view = { λ m. record { metamodels = m.metamodels.items; classes = m.classes.items; features = m.features.items; element = m.element } };
 
-    ghost invariant = { λ m. IsKept (record { metamodels = m.metamodels.items; classes = m.classes.items; features = m.features.items; element = m.element }) m.lists.items m.rows.items };
+    ghost invariant = { λ m. IsKept (record { metamodels = m.metamodels.items; classes = m.classes.items; features = m.features.items; element = m.element }) m.lists.items m.rows.items m.ranks.items };
 }
 
 impl Metas {
@@ -58,31 +61,83 @@ impl Metas {
             element: None,
             lists: Vec::new(alloc),
             rows: Vec::new(alloc),
+            ranks: Vec::new(alloc),
         }
     }
 
-    /// Adds a metamodel, the first. A refused call changes nothing.
+    /// The metamodels of these parts. It takes no memory.
+    pub fn from_parts(
+        metamodels: Vec<MetamodelInfo>,
+        classes: Vec<ClassInfo>,
+        features: Vec<FeatureInfo>,
+        lists: Vec<FeatureNoList>,
+        rows: Vec<Row>,
+        ranks: Vec<u32>,
+    ) -> Metas
+        requires { IsKept (record { metamodels = metamodels.items; classes = classes.items; features = features.items; element = None }) lists.items rows.items ranks.items }
+        ensures { result ≡ record { metamodels = metamodels.items; classes = classes.items; features = features.items; element = None } }
+    {
+        Metas {
+            metamodels,
+            classes,
+            features,
+            element: None,
+            lists,
+            rows,
+            ranks,
+        }
+    }
+
+    ghost use Rattle.qvt_meta.specs.Kept.{IsKept};
+
+    /// Adds a metamodel: its numbers go on from those that are there, which stay. It is refused
+    /// where a metamodel of its name is there. A refused call changes nothing.
     pub fn add(&mut self, meta: Meta) -> Result<(), MetasFault>
-        requires first { self.old ≡ record { metamodels = []; classes = []; features = []; element = None } }
+        requires element { self.old.element ≡ None }
         requires room { HasRoom self.old meta }
         ensures ok { OnOk result (self.new ≡ added self.old meta) }
-        ensures no_memory { IfErr result (λ fault. fault ≡ MetasFault.NoMemory) }
+        ensures fresh { OnOk result (has_metamodel self.old meta.name ≡ false) }
+        ensures element { OnOk result (self.new.element ≡ None) }
+        ensures same { IfErr result (λ fault. fault ≢ MetasFault.NoMemory → (has_metamodel self.old meta.name ≡ true) × (fault ≡ MetasFault.SameMetamodel meta.name)) }
         ensures err { OnErr result (self.new ≡ self.old) }
     {
-        let next = self.with(meta)?;
+        let next = self.with_meta(&meta)?;
         *self = next;
         Ok(())
     }
 
-    ghost use Rattle.qvt_meta.specs.Added.{added, HasRoom};
-
     /// These metamodels with one more.
-    #[tactic(auto, unfolding(crate::specs::Added::added))]
-    fn with(&self, meta: Meta) -> Result<Metas, MetasFault>
-        requires first { self.now ≡ record { metamodels = []; classes = []; features = []; element = None } }
-        requires room { HasRoom self.now meta }
-        ensures ok { IfOk result (λ next. next ≡ added self.now meta) }
-        ensures no_memory { IfErr result (λ fault. fault ≡ MetasFault.NoMemory) }
+    fn with_meta(&self, meta: &Meta) -> Result<Metas, MetasFault>
+        requires element { self.now.element ≡ None }
+        requires room { HasRoom self.now meta.now }
+        ensures ok { IfOk result (λ next. next ≡ added self.now meta.now) }
+        ensures fresh { OnOk result (has_metamodel self.now meta.now.name ≡ false) }
+        ensures element { IfOk result (λ next. next.element ≡ None) }
+        ensures same { IfErr result (λ fault. fault ≢ MetasFault.NoMemory → (has_metamodel self.now meta.now.name ≡ true) × (fault ≡ MetasFault.SameMetamodel meta.now.name)) }
+    {
+        let alloc = *self.classes.allocator();
+        if self.has_metamodel(meta.name()) {
+            return Err(MetasFault::SameMetamodel(meta.name().copy(alloc)?));
+        }
+        Ok(self.with(meta.alone())?)
+    }
+
+    ghost use Rattle.qvt_meta.specs.Added.{added, HasRoom};
+    ghost use Rattle.qvt_meta.specs.Named.{has_metamodel};
+
+    /// Whether a metamodel of this name is there.
+    fn has_metamodel(&self, name: &Text) -> bool
+        ensures { result ≡ has_metamodel self.now name.now }
+    {
+        are_named(self.metamodels.as_slice(), name)
+    }
+
+    /// These metamodels, and then the others, whose numbers go on.
+    fn with(&self, others: &Metas) -> Result<Metas, ListFault>
+        requires element { self.now.element ≡ None }
+        requires others_element { others.now.element ≡ None }
+        requires room { FitTogether self.now others.now }
+        ensures { IfOk result (λ next. next ≡ joined self.now others.now) }
     {
         let alloc = *self.classes.allocator();
         let begin = Begin {
@@ -90,18 +145,24 @@ impl Metas {
             class: self.classes.len() as u32,
             feature: self.features.len() as u32,
         };
-        let numbered = with_numbers(alloc, begin, meta)?;
-        let mut one = Vec::new(alloc);
-        one.push(numbered.metamodel)?;
+        let metamodels = copies(alloc, others.metamodels.as_slice())?;
+        let classes = class_infos_on(alloc, begin, others.classes.as_slice())?;
+        let features = feature_infos_on(alloc, begin, others.features.as_slice())?;
+        let lists = lists_on(alloc, begin, others.lists.as_slice())?;
+        let rows = rows_on(alloc, begin, others.rows.as_slice())?;
+        let ranks = ranks_on(alloc, begin, others.ranks.as_slice())?;
         Ok(Metas {
-            metamodels: joined(alloc, self.metamodels.as_slice(), one)?,
-            classes: joined(alloc, self.classes.as_slice(), numbered.classes)?,
-            features: joined(alloc, self.features.as_slice(), numbered.features)?,
-            element: self.element,
-            lists: joined(alloc, self.lists.as_slice(), numbered.lists)?,
-            rows: Vec::new(alloc),
+            metamodels: joined(alloc, self.metamodels.as_slice(), metamodels)?,
+            classes: joined(alloc, self.classes.as_slice(), classes)?,
+            features: joined(alloc, self.features.as_slice(), features)?,
+            element: None,
+            lists: joined(alloc, self.lists.as_slice(), lists)?,
+            rows: joined(alloc, self.rows.as_slice(), rows)?,
+            ranks: joined(alloc, self.ranks.as_slice(), ranks)?,
         })
     }
+
+    ghost use Rattle.qvt_meta.specs.Joined.{joined, FitTogether};
 
     pub fn metamodel_count(&self) -> u32
         ensures { result ≡ length self.now.metamodels }
@@ -215,12 +276,7 @@ impl Metas {
         ensures { result ≡ reaches self.now sub.0 sup.0 }
     {
         let at = sub.0 as usize;
-        let bit = sup.0 as usize;
-        if at < self.rows.len() && bit < self.rows[at].len() {
-            self.rows[at].as_slice()[bit]
-        } else {
-            false
-        }
+        at < self.rows.len() && is_marked(&self.rows[at], sup.0)
     }
 
     pub fn shape(&self, feature: FeatureNo) -> FeatureShape
@@ -264,15 +320,26 @@ impl Metas {
     }
 }
 
-/// Copies of these rows, in order.
-fn copies_of_rows(alloc: Global, rows: &[Seq<bool>]) -> Result<Vec<Seq<bool>>, ListFault>
-    ensures { IfOk result (λ v. v.items ≡ rows.now) }
+/// Whether one of the metamodels has this name.
+fn are_named(metamodels: &[MetamodelInfo], name: &Text) -> bool
+    ensures { result ≡ list_any (λ m. bytes_eq name.now m.name) metamodels.now }
 {
-    let mut copies = Seq::new(alloc);
-    for row in rows {
-        copies.push(Seq::from_slice(alloc, row.as_slice())?)?;
+    metamodels.iter().any(|m| name.as_str() == m.name.as_str())
+}
+
+/// Whether a class is marked in a row.
+fn is_marked(row: &Row, class: u32) -> bool
+    ensures { result ≡ is_marked row.now class }
+{
+    if class < row.first {
+        return false;
     }
-    Ok(copies.into_vec())
+    let place = (class - row.first) as usize;
+    if place < row.above.len() {
+        row.above.as_slice()[place]
+    } else {
+        false
+    }
 }
 
 impl Copied for Metas {
@@ -283,7 +350,8 @@ impl Copied for Metas {
             features: copies(alloc, self.features.as_slice())?,
             element: self.element,
             lists: copies(alloc, self.lists.as_slice())?,
-            rows: copies_of_rows(alloc, self.rows.as_slice())?,
+            rows: copies(alloc, self.rows.as_slice())?,
+            ranks: copies(alloc, self.ranks.as_slice())?,
         })
     }
 }
