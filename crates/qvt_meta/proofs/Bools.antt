@@ -39,3 +39,7 @@ and_no false b h = refl
 
 pub ap2 : {X Y Z : Type 0} (f : X → Y → Z) {a c : X} {b d : Y} → a ≡ c → b ≡ d → f a b ≡ f c d
 ap2 f p q = λ i. f (p i) (q i)
+
+pub no-and : (a b : Bool) → a ≡ false → (a && b) ≡ false
+no-and true b h = absurd (cc)
+no-and false b h = refl

@@ -1,5 +1,5 @@
 -- Without metamodels everything is kept.
-use Rattle.std.proofs.Common.{◌≡◌, ◌≢◌, ℕ, ◌<◌, ◌^◌, List, [], ◌∷◌, length, None, Some, Bool, true, false, refl, arith, lit<, slice_index_or, subst, sym}
+use Rattle.std.proofs.Common.{◌≡◌, ◌≢◌, ℕ, ◌<◌, ◌^◌, List, [], ◌∷◌, length, None, Some, Bool, true, false, refl, arith, lit<, slice_index_or, subst, sym, leb, ◌∙◌}
 use Rattle.std.specs.Prelude.{IsTrue, IsFalse}
 use Rattle.std.specs.Str.{is_utf8}
 use Rattle.std.proofs.lemmas.Str.{is_utf8-from_IsUtf8, IsUtf8-nil}
@@ -8,6 +8,7 @@ use Rattle.qvt_meta.specs.Metamodels.{Metamodels, features_of, has_feature}
 use Rattle.qvt_meta.specs.Descends.{reaches}
 use Rattle.qvt_meta.specs.WellFormed.{IsWellFormed}
 use Rattle.qvt_meta.specs.Kept.{IsKept}
+use Rattle.qvt_meta.proofs.Bools.{and_no}
 
 abbrev pub no_metamodels : Metamodels
 no_metamodels = record { metamodels = []; classes = []; features = []; element = None }
@@ -29,6 +30,8 @@ well_formed = record {
   few_metamodels = lit< tt;
   few_classes = lit< tt;
   few_features = lit< tt;
+  few_enumerations = λ k. lit< tt;
+  few_literals = λ k e. lit< tt;
   live_metamodel = λ c h. absurd (omega arith);
   live_superclass = λ c d h. absurd (cc);
   live_owner = λ f h. absurd (omega arith);
@@ -56,5 +59,13 @@ well_formed = record {
   literal_found = λ k e l h. absurd (omega arith);
 }
 
-pub kept : IsKept no_metamodels [] []
-kept = record { well_formed = well_formed; each = refl; features = λ c. sym (no_features c); ancestors = λ c d. sym (no_ancestor c d) }
+pub kept : IsKept no_metamodels [] [] []
+kept = record {
+  well_formed = well_formed;
+  ranked = record { each = refl; bounded = λ c h. absurd (omega arith); rise = λ c. tt };
+  each = refl;
+  each_row = refl;
+  first_rows = λ c. omega arith;
+  features = λ c. sym (no_features c);
+  ancestors = λ c d. and_no (leb 0 d) false refl ∙ sym (no_ancestor c d);
+}

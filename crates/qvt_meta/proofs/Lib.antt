@@ -1,6 +1,17 @@
 pub mod Empty
 pub mod Bools
 pub mod Counts
+pub mod Firsts
 pub mod Lookups
 pub mod Infos
+pub mod Halves
+pub mod Joins
+pub mod JoinsKept
+pub mod JoinsTables
+pub mod Fits
+pub mod Withs
 pub mod Thin
+pub mod Rooms
+pub mod Ones
+pub mod Lists
+pub mod Stable

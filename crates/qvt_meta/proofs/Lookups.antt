@@ -1,10 +1,10 @@
 -- The first place at which a test passes, and names that are not repeated.
 use Rattle.std.proofs.Common.{◌≡◌, ◌∙◌, ℕ, zero, suc, ◌+◌, ◌<◌, List, [], ◌∷◌, ◌++◌, length, map, get_or, Bool, true, false, cond, not, nat_lt, Option, Some, None, refl, ap, sym, arith, position, ◌⊎◌, inl, inr, find}
-use Rattle.std.specs.Prelude.{if◌then◌else◌, is_none}
-use Rattle.std.specs.List.{position_or_len}
+use Rattle.std.specs.Prelude.{if◌then◌else◌, is_none, option_map}
+use Rattle.std.specs.List.{position_or_len, AllByRecursion}
 use Rattle.std.specs.Str.{bytes_eq}
-use Rattle.std.proofs.lemmas.List.{length-map}
-use Rattle.std.proofs.lemmas.Bool.{lt-ltb}
+use Rattle.std.proofs.lemmas.List.{length-map, length-append}
+use Rattle.std.proofs.lemmas.Bool.{lt-ltb, ltb-true}
 use Rattle.qvt_meta.specs.Names.{is_among, repeated}
 use Rattle.qvt_meta.proofs.Bools.{or_cases, or_left, or_right, not_true, clash}
 use Rattle.std.proofs.lemmas.Slice.Eq.{bytes_eq-Decides}
@@ -96,3 +96,55 @@ repeated-fewer t u (x ∷ xs) fewer fresh =
 pub none_from : {X : Type 0} (o : Option X) → is_none o ≡ true → o ≡ None
 none_from None h = refl
 none_from (Some x) h = absurd (cc)
+
+prefix-append : {X : Type 0} (p : X → Bool) (xs ys : List X) → position_or_len p xs < length xs → position_or_len p (xs ++ ys) ≡ position_or_len p xs
+prefix-append p [] ys lt = absurd (omega arith)
+prefix-append p (x ∷ xs) ys lt = by (p x) refl (λ less. prefix-append p xs ys less)
+  where
+    by : (t : Bool) → p x ≡ t → (position_or_len p xs < length xs → position_or_len p (xs ++ ys) ≡ position_or_len p xs) → position_or_len p (x ∷ (xs ++ ys)) ≡ position_or_len p (x ∷ xs)
+    by true e next = ap (λ t. cond (not t) (1 + position_or_len p (xs ++ ys)) 0) e ∙ sym (ap (λ t. cond (not t) (1 + position_or_len p xs) 0) e)
+    by false e next =
+        let here : position_or_len p (x ∷ xs) ≡ 1 + position_or_len p xs = ap (λ t. cond (not t) (1 + position_or_len p xs) 0) e in
+        ap (λ t. cond (not t) (1 + position_or_len p (xs ++ ys)) 0) e ∙ ap (λ n. 1 + n) (next (omega (arith, lt, here))) ∙ sym here
+
+some-within : (n k i : ℕ) → cond (nat_lt n k) (Some n) None ≡ Some i → (n < k) × (n ≡ i)
+some-within n k i e = by (nat_lt n k) refl
+  where
+    by : (t : Bool) → nat_lt n k ≡ t → (n < k) × (n ≡ i)
+    by true is = (ltb-true n k is, (let same : Some n ≡ Some i = sym (ap (λ t. cond t (Some n) None) is) ∙ e in cc))
+    by false is = absurd (let no : None ≡ Some i = sym (ap (λ t. cond t (Some n) None) is) ∙ e in cc)
+
+pub position-left : {X : Type 0} (p : X → Bool) (xs ys : List X) (i : ℕ) → position p xs ≡ Some i → position p (xs ++ ys) ≡ Some i
+position-left p xs ys i e =
+    let at : (position_or_len p xs < length xs) × (position_or_len p xs ≡ i) = some-within (position_or_len p xs) (length xs) i e in
+    let same : position_or_len p (xs ++ ys) ≡ i = prefix-append p xs ys at.0 ∙ at.1 in
+    ap (λ n. cond (nat_lt n (length (xs ++ ys))) (Some n) None) same ∙ ap (λ t. cond t (Some i) None) (lt-ltb i (length (xs ++ ys)) (omega (arith, at.0, at.1, length-append xs ys)))
+
+prefix-past : {X : Type 0} (p : X → Bool) (xs ys : List X) → AllByRecursion (λ x. p x ≡ false) xs → position_or_len p (xs ++ ys) ≡ length xs + position_or_len p ys
+prefix-past p [] ys all = omega arith
+prefix-past p (x ∷ xs) ys all = ap (λ t. cond (not t) (1 + position_or_len p (xs ++ ys)) 0) all.0 ∙ ap (λ n. 1 + n) (prefix-past p xs ys all.1) ∙ omega arith
+
+pub position-right : {X : Type 0} (p : X → Bool) (xs ys : List X) (i : ℕ) → AllByRecursion (λ x. p x ≡ false) xs → position p ys ≡ Some i → position p (xs ++ ys) ≡ Some (length xs + i)
+position-right p xs ys i all e =
+    let at : (position_or_len p ys < length ys) × (position_or_len p ys ≡ i) = some-within (position_or_len p ys) (length ys) i e in
+    let same : position_or_len p (xs ++ ys) ≡ length xs + i = prefix-past p xs ys all ∙ ap (λ n. length xs + n) at.1 in
+    ap (λ n. cond (nat_lt n (length (xs ++ ys))) (Some n) None) same ∙ ap (λ t. cond t (Some (length xs + i)) None) (lt-ltb (length xs + i) (length (xs ++ ys)) (omega (arith, at.0, at.1, length-append xs ys)))
+
+prefix-cong : {X : Type 0} (p q : X → Bool) (xs : List X) → ((x : X) → p x ≡ q x) → position_or_len p xs ≡ position_or_len q xs
+prefix-cong p q [] same = refl
+prefix-cong p q (x ∷ xs) same = λ i. cond (not (same x i)) (1 + prefix-cong p q xs same i) 0
+
+pub position-cong : {X : Type 0} (p q : X → Bool) (xs : List X) → ((x : X) → p x ≡ q x) → position p xs ≡ position q xs
+position-cong p q xs same = ap (λ n. cond (nat_lt n (length xs)) (Some n) None) (prefix-cong p q xs same)
+
+pub find-cong : {X : Type 0} (p q : X → Bool) (xs : List X) → AllByRecursion (λ x. p x ≡ q x) xs → find p xs ≡ find q xs
+find-cong p q [] all = refl
+find-cong p q (x ∷ xs) all = λ i. cond (all.0 i) (Some x) (find-cong p q xs all.1 i)
+
+pub find-map : {X Y : Type 0} (p : Y → Bool) (g : X → Y) (xs : List X) → find p (map g xs) ≡ option_map g (find (λ x. p (g x)) xs)
+find-map p g [] = refl
+find-map p g (x ∷ xs) = by (p (g x)) (find-map p g xs)
+  where
+    by : (t : Bool) → find p (map g xs) ≡ option_map g (find (λ x. p (g x)) xs) → cond t (Some (g x)) (find p (map g xs)) ≡ option_map g (cond t (Some x) (find (λ x. p (g x)) xs))
+    by true e = refl
+    by false e = e

@@ -1,7 +1,7 @@
 -- A small metamodel alone is well formed.
-use Rattle.std.proofs.Common.{◌≡◌, ◌≢◌, ◌∙◌, ℕ, zero, suc, ◌+◌, ◌-◌, ◌<◌, ◌≤◌, ◌^◌, List, [], ◌∷◌, ◌++◌, length, map, take, get_or, Bool, true, false, None, Some, Option, option_map, refl, ap, sym, subst, arith, ◌==◌, ◌&&◌, ◌||◌, nat_lt, lit<, find, position, ◌⊎◌, inl, inr, cond, ltb}
-use Rattle.std.specs.Prelude.{IsTrue, IsFalse, slice_index_or, is_none, codes, if◌then◌else◌}
-use Rattle.std.specs.List.{list_all, list_any, flat_map}
+use Rattle.std.proofs.Common.{◌≡◌, ◌≢◌, ◌∙◌, ℕ, zero, suc, ◌+◌, ◌-◌, ◌<◌, ◌≤◌, ◌^◌, List, [], ◌∷◌, ◌++◌, length, map, take, get_or, Bool, true, false, None, Some, Option, option_map, refl, ap, sym, subst, arith, ◌==◌, ◌&&◌, ◌||◌, nat_lt, lit<, find, position, ◌⊎◌, inl, inr, cond, ltb, leb}
+use Rattle.std.specs.Prelude.{IsTrue, IsFalse, slice_index, slice_index_or, is_none, codes, if◌then◌else◌}
+use Rattle.std.specs.List.{list_all, list_any, flat_map, AllByRecursion}
 use Rattle.std.specs.Str.{is_utf8, bytes_eq}
 use Rattle.std.proofs.lemmas.Str.{is_utf8-from_IsUtf8, IsUtf8-nil}
 use Rattle.std.proofs.lemmas.Slice.Eq.{bytes_eq-Decides}
@@ -22,11 +22,12 @@ use Rattle.qvt_meta.specs.Descends.{is_superclass, reaches, is_above}
 use Rattle.qvt_meta.specs.Named.{metamodel_at, enumeration_at, literal_at, nowhere_enumeration, class_named, feature_named}
 use Rattle.qvt_meta.specs.declared.info.EnumInfo.{EnumInfo}
 use Rattle.qvt_meta.specs.WellFormed.{IsWellFormed, IsLiveKind}
-use Rattle.qvt_meta.specs.Kept.{IsKept}
+use Rattle.qvt_meta.specs.Kept.{IsKept, no_row, is_marked}
+use Rattle.qvt_meta.specs.declared.row.Row.{Row}
 use Rattle.qvt_meta.specs.MetaData.{MetaData, enum_names, class_names, feature_names}
 use Rattle.qvt_meta.specs.Names.{repeated, primitive_names}
 use Rattle.qvt_meta.specs.Checked.{is_plain, is_plain_class, is_plain_feature, has_text, has_texts, IsChecked}
-use Rattle.qvt_meta.specs.Added.{declared_at, names_of, feature_count, feature_info, feature_infos, numbers_from, class_info, class_infos, added, HasRoom, kind_of, nothing_declared}
+use Rattle.qvt_meta.specs.Added.{declared_at, names_of, feature_count, feature_info, feature_infos, numbers_from, class_info, class_infos, numbered, HasRoom, kind_of, nothing_declared}
 use Rattle.qvt_meta.proofs.Bools.{and_both, and_left, and_right, and_no, ap2, clash}
 use Rattle.qvt_meta.proofs.Counts.{count_within}
 use Rattle.qvt_meta.proofs.Empty.{no_metamodels}
@@ -55,9 +56,9 @@ module _ (d : MetaData) (ok : IsChecked d) (room : HasRoom no_metamodels d) wher
   abbrev m : Metamodels
   m = record { metamodels = record { name = d.name; uri = d.uri; enums = d.enums } ∷ []; classes = infos; features = features; element = None }
 
-  is_added : added no_metamodels d ≡ m
-  unfolding added
-  is_added = refl
+  is_numbered : numbered d ≡ m
+  unfolding numbered
+  is_numbered = refl
 
   no_enums : (length d.enums == 0) ≡ true
   no_enums = and_left _ (list_all is_plain_class ks && is_none (repeated primitive_names (class_names d))) ok.plain
@@ -257,6 +258,8 @@ module _ (d : MetaData) (ok : IsChecked d) (room : HasRoom no_metamodels d) wher
     few_metamodels = lit< tt;
     few_classes = omega (arith, room.classes, length-class_infos b (names_of ks) 0 ks);
     few_features = omega (arith, room.features, length-feature_infos b (enum_names d) ks 0 ks);
+    few_enumerations = λ k. subst (λ (es : List EnumInfo). length es < 2 ^ 32) (sym (no_enums_at k)) (lit< tt);
+    few_literals = λ k e. subst (λ (es : List EnumInfo). length (slice_index_or es e nowhere_enumeration).literals < 2 ^ 32) (sym (no_enums_at k)) (lit< tt);
     live_metamodel = λ c h. live_metamodel_of c;
     live_superclass = λ c e h. clash h (ap (list_any (λ (s : ClassNo). s.0 == e)) (no_superclass c));
     live_owner = live_owner_at;
@@ -284,10 +287,20 @@ module _ (d : MetaData) (ok : IsChecked d) (room : HasRoom no_metamodels d) wher
     literal_found = λ k e l h. absurd (omega (arith, h, ap (λ (es : List EnumInfo). length (slice_index_or es e nowhere_enumeration).literals) (no_enums_at k)));
   }
 
-  pub kept : IsKept (added no_metamodels d) (map (λ k. k.own) infos) []
-  kept = subst (λ x. IsKept x (map (λ k. k.own) infos) []) (sym is_added) (record {
+  none_marked : (c e : ℕ) → is_marked (get_or (map (λ (k : ClassInfo). no_row) infos) c no_row) e ≡ false
+  none_marked c e = ap (λ r. is_marked r e) (map-at_all (λ (k : ClassInfo). no_row) infos c nowhere_class) ∙ and_no (leb 0 e) false refl
+
+  pub kept : IsKept (numbered d) (map (λ k. k.own) infos) (map (λ k. no_row) infos) (map (λ k. 0) infos)
+  kept = subst (λ x. IsKept x (map (λ k. k.own) infos) (map (λ k. no_row) infos) (map (λ k. 0) infos)) (sym is_numbered) (record {
     well_formed = well_formed;
+    ranked = record {
+      each = length-map infos (λ (k : ClassInfo). 0);
+      bounded = λ c h. (let none : slice_index (map (λ (k : ClassInfo). 0) infos) c ≡ 0 = map-at_all (λ (k : ClassInfo). 0) infos c nowhere_class in omega (arith, none, h));
+      rise = λ c. subst (λ (ss : List ClassNo). AllByRecursion (λ (s : ClassNo). slice_index (map (λ (k : ClassInfo). 0) infos) s.0 < slice_index (map (λ (k : ClassInfo). 0) infos) c) ss) (sym (no_superclass c)) tt;
+    };
     each = length-map infos (λ (k : ClassInfo). k.own);
+    each_row = length-map infos (λ (k : ClassInfo). no_row);
+    first_rows = λ c. omega (arith, ap (λ (r : Row). r.first) (map-at_all (λ (k : ClassInfo). no_row) infos c nowhere_class));
     features = λ c. map-at_all (λ (k : ClassInfo). k.own) infos c nowhere_class ∙ sym (features_are c);
-    ancestors = λ c e. sym (reaches_none c e);
+    ancestors = λ c e. none_marked c e ∙ sym (reaches_none c e);
   })

@@ -11,6 +11,7 @@ use Rattle.qvt_meta.specs.declared.declared.DeclaredFeature.{DeclaredFeature}
 use Rattle.qvt_meta.specs.declared.declared.DeclaredClass.{DeclaredClass}
 use Rattle.qvt_meta.specs.declared.begin.Begin.{Begin}
 use Rattle.qvt_meta.specs.Metamodels.{Metamodels}
+use Rattle.qvt_meta.specs.Joined.{joined}
 use Rattle.qvt_meta.specs.MetaData.{MetaData, enum_names, feature_names}
 
 abbrev pub nothing_declared : DeclaredClass
@@ -82,17 +83,21 @@ abbrev pub class_infos : Begin → List (List ℕ) → ℕ → List DeclaredClas
 class_infos b classes f [] = []
 class_infos b classes f (k ∷ left) = class_info b classes f k ∷ class_infos b classes (f + length k.features) left
 
-abbrev pub begin_after : Metamodels → Begin
-begin_after m = record { metamodel = length m.metamodels; class = length m.classes; feature = length m.features }
+abbrev pub first_begin : Begin
+first_begin = record { metamodel = 0; class = 0; feature = 0 }
+
+-- the metamodel alone, its numbers from 0 on
+unfoldable pub numbered : MetaData → Metamodels
+numbered d = record {
+  metamodels = record { name = d.name; uri = d.uri; enums = d.enums } ∷ [];
+  classes = class_infos first_begin (names_of d.classes) 0 d.classes;
+  features = feature_infos first_begin (enum_names d) d.classes 0 d.classes;
+  element = None;
+}
 
 -- the metamodels with this one after them
-unfoldable pub added : Metamodels → MetaData → Metamodels
-added m d = let b = begin_after m in record {
-  metamodels = m.metamodels ++ record { name = d.name; uri = d.uri; enums = d.enums } ∷ [];
-  classes = m.classes ++ class_infos b (names_of d.classes) b.feature d.classes;
-  features = m.features ++ feature_infos b (enum_names d) d.classes b.class d.classes;
-  element = m.element;
-}
+abbrev pub added : Metamodels → MetaData → Metamodels
+added m d = joined m (numbered d)
 
 -- the numbers still fit 32 bits when this metamodel is added
 pub record HasRoom (m : Metamodels) (d : MetaData) : Type 0 where

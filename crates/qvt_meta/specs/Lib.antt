@@ -8,6 +8,8 @@ pub mod DataOf
 pub mod Names
 pub mod MetaForm
 pub mod SmallMeta
+pub mod Joined
 pub mod Added
 pub mod Checked
+pub mod Numbered
 pub mod Places

@@ -1,5 +1,6 @@
 -- Look-ups by name. A name is looked up by its bytes; the first that has it is the one meant.
 use Rattle.std.specs.Prelude.{ℕ, Bool, false, ◌==◌, ◌&&◌, ◌||◌, List, [], Option, Some, None, slice_index_or, position, find, option_map}
+use Rattle.std.specs.List.{list_any}
 use Rattle.std.specs.Str.{bytes_eq}
 use Rattle.qvt_base.specs.declared.numbers.FeatureNo.{FeatureNo}
 use Rattle.qvt_meta.specs.declared.info.EnumInfo.{EnumInfo}
@@ -28,6 +29,10 @@ is_text (Some text) name = bytes_eq name text
 -- the first metamodel whose name or uri this is
 abbrev pub metamodel_named : Metamodels → List ℕ → Option ℕ
 metamodel_named m name = position (λ i. bytes_eq name i.name || is_text i.uri name) m.metamodels
+
+-- a metamodel has this name
+abbrev pub has_metamodel : Metamodels → List ℕ → Bool
+has_metamodel m name = list_any (λ i. bytes_eq name i.name) m.metamodels
 
 -- the class of a metamodel that has this name
 abbrev pub class_named : Metamodels → ℕ → List ℕ → Option ℕ

@@ -1,18 +1,21 @@
 //! A metamodel's data as numbered data.
 
-ghost use Rattle.std.specs.Prelude.{◌≡◌, ◌+◌, ◌<◌, ◌≤◌, ◌^◌, ℕ, List, length, map, take, slice_index, IfOk, OnOk, ◌++◌, option_map, position, IfSome, [], None};
+ghost use Rattle.std.specs.Prelude.{◌≡◌, ◌+◌, ◌<◌, ◌≤◌, ◌^◌, ℕ, List, length, map, take, slice_index, IfOk, OnOk, ◌++◌, option_map, position, IfSome, IsTrue, [], None, ◌∷◌};
 ghost use Rattle.std.specs.Str.{bytes_eq};
 ghost use Rattle.qvt_meta.specs.MetaData.{feature_names};
 ghost use Rattle.qvt_meta.specs.Places.{ArePlaces, firsts_of};
 ghost use Rattle.qvt_meta.specs.Names.{repeated};
 ghost use Rattle.qvt_meta.specs.Checked.{IsChecked};
-ghost use Rattle.qvt_meta.specs.Added.{declared_at, place_in, kind_of, feature_count, feature_number, feature_info, feature_infos, numbers_from, class_info, class_infos, names_of};
+ghost use Rattle.qvt_meta.specs.Kept.{no_row};
+ghost use Rattle.qvt_meta.specs.Added.{numbered, declared_at, place_in, kind_of, feature_count, feature_number, feature_info, feature_infos, numbers_from, class_info, class_infos, names_of};
 
 use crate::begin::Begin;
+use crate::copied::copy_of_text;
 use crate::declared::{DeclaredClass, DeclaredFeature};
 use crate::info::{ClassInfo, EnumInfo, FeatureInfo, FeatureShape, MetamodelInfo, TypeKind};
-use crate::meta::{Meta, MetaParts};
+use crate::metas::Metas;
 use crate::names::names_of as distinct_names;
+use crate::row::Row;
 use indexmap::IndexSet;
 use qvt_base::copied::Copied;
 use qvt_base::list_fault::ListFault;
@@ -167,7 +170,7 @@ fn own_place(classes: &[DeclaredClass], class: usize, name: &Text) -> usize
 }
 
 /// The number of the feature of this name that the class at a place declares.
-#[tactic(auto, using(crate::proofs::Counts::firsts_length))]
+#[tactic(auto, using(crate::proofs::Firsts::firsts_length))]
 fn feature_number(
     begin: Begin,
     places: &Places,
@@ -321,41 +324,102 @@ pub fn own_lists(alloc: Global, classes: &[ClassInfo]) -> Result<Vec<FeatureNoLi
     Ok(lists.into_vec())
 }
 
-/// A metamodel's data with its numbers.
-#[derive(Debug, Drop)]
-pub struct Numbered {
-    pub metamodel: MetamodelInfo,
-    pub classes: Vec<ClassInfo>,
-    pub features: Vec<FeatureInfo>,
-    pub lists: Vec<FeatureNoList>,
+/// A row without marks for each class.
+fn empty_rows(alloc: Global, classes: &[ClassInfo]) -> Result<Vec<Row>, ListFault>
+    ensures { IfOk result (λ v. v.items ≡ map (λ k. no_row) classes.now) }
+{
+    let mut rows = Seq::new(alloc);
+    for class in classes {
+        rows.push(Row {
+            first: 0,
+            above: Seq::new(alloc),
+        })?;
+    }
+    Ok(rows.into_vec())
 }
 
-/// Numbers a metamodel's data from these numbers on.
-pub fn with_numbers(alloc: Global, begin: Begin, meta: Meta) -> Result<Numbered, ListFault>
-    requires few_enums { length meta.enums < 2 ^ 32 }
-    requires few_classes { begin.class + length meta.classes < 2 ^ 32 }
-    requires few_features { begin.feature + feature_count meta.classes < 2 ^ 32 }
-    ensures metamodel { IfOk result (λ n. n.metamodel ≡ record { name = meta.name; uri = meta.uri; enums = meta.enums }) }
-    ensures classes { IfOk result (λ n. n.classes.items ≡ class_infos begin (names_of meta.classes) begin.feature meta.classes) }
-    ensures features { IfOk result (λ n. n.features.items ≡ feature_infos begin (map (λ e. e.name) meta.enums) meta.classes begin.class meta.classes) }
-    ensures lists { IfOk result (λ n. n.lists.items ≡ map (λ k. k.own) n.classes.items) }
-    ensures checked { IsChecked meta }
+/// The rank 0 for each class.
+fn zero_ranks(alloc: Global, classes: &[ClassInfo]) -> Result<Vec<u32>, ListFault>
+    ensures { IfOk result (λ v. v.items ≡ map (λ k. 0) classes.now) }
 {
-    let parts = meta.into_parts();
-    let places = places_of(alloc, parts.enums.as_slice(), parts.classes.as_slice())?;
-    let classes = class_infos(alloc, begin, &places.classes, parts.classes.as_slice())?;
-    let features = feature_infos(alloc, begin, &places, parts.classes.as_slice())?;
-    let lists = own_lists(alloc, classes.as_slice())?;
-    let MetaParts {
-        name,
-        uri,
-        enums,
-        ..
-    } = parts;
-    Ok(Numbered {
-        metamodel: MetamodelInfo { name, uri, enums },
-        classes,
-        features,
-        lists,
-    })
+    let mut ranks = Seq::new(alloc);
+    for class in classes {
+        ranks.push(0)?;
+    }
+    Ok(ranks.into_vec())
+}
+
+/// How many features the classes declare, None where the number does not fit 32 bits.
+fn feature_total(classes: &[DeclaredClass]) -> Option<u32>
+    ensures { IfSome result (λ n. n ≡ feature_count classes.now) }
+{
+    let mut total: u32 = 0;
+    for class in classes {
+        let Ok(count) = u32::try_from(class.features.len()) else {
+            return None;
+        };
+        let Some(sum) = total.checked_add(count) else {
+            return None;
+        };
+        total = sum;
+    }
+    Some(total)
+}
+
+/// Whether all numbers of a metamodel fit 32 bits.
+fn has_room(enums: &[EnumInfo], classes: &[DeclaredClass]) -> bool
+    ensures enums { IsTrue result → length enums.now < 2 ^ 32 }
+    ensures classes { IsTrue result → length classes.now < 2 ^ 32 }
+    ensures features { IsTrue result → feature_count classes.now < 2 ^ 32 }
+{
+    let few_enums = u32::try_from(enums.len()).is_ok();
+    let few_classes = u32::try_from(classes.len()).is_ok();
+    few_enums && few_classes && feature_total(classes).is_some()
+}
+
+/// A metamodel alone, its numbers from 0 on. Where they do not fit 32 bits, there is no memory.
+pub fn alone_of(
+    alloc: Global,
+    name: &Text,
+    uri: &Option<Text>,
+    enums: &Seq<EnumInfo>,
+    classes: &Seq<DeclaredClass>,
+) -> Result<Metas, ListFault>
+    requires { IsChecked (record { name = name.now; uri = uri.now; enums = enums.now; classes = classes.now }) }
+    ensures { IfOk result (λ m. m ≡ numbered (record { name = name.now; uri = uri.now; enums = enums.now; classes = classes.now })) }
+{
+    if !has_room(enums.as_slice(), classes.as_slice()) {
+        return Err(ListFault::NoMemory);
+    }
+    let begin = Begin {
+        metamodel: 0,
+        class: 0,
+        feature: 0,
+    };
+    let places = places_of(alloc, enums.as_slice(), classes.as_slice())?;
+    let infos = class_infos(alloc, begin, &places.classes, classes.as_slice())?;
+    let features = feature_infos(alloc, begin, &places, classes.as_slice())?;
+    let lists = own_lists(alloc, infos.as_slice())?;
+    let rows = empty_rows(alloc, infos.as_slice())?;
+    let ranks = zero_ranks(alloc, infos.as_slice())?;
+    let metamodels = one_metamodel(alloc, name, uri, enums)?;
+    Ok(Metas::from_parts(metamodels, infos, features, lists, rows, ranks))
+}
+
+/// The list of one metamodel.
+fn one_metamodel(
+    alloc: Global,
+    name: &Text,
+    uri: &Option<Text>,
+    enums: &Seq<EnumInfo>,
+) -> Result<Vec<MetamodelInfo>, ListFault>
+    ensures { IfOk result (λ v. v.items ≡ record { name = name.now; uri = uri.now; enums = enums.now } ∷ []) }
+{
+    let mut one = Seq::new(alloc);
+    one.push(MetamodelInfo {
+        name: name.copy(alloc)?,
+        uri: copy_of_text(alloc, uri)?,
+        enums: enums.copy(alloc)?,
+    })?;
+    Ok(one.into_vec())
 }

@@ -1,6 +1,7 @@
 ghost use Rattle.std.specs.Prelude.{◌≡◌, ◌++◌, IfOk};
 
 use crate::info::{ClassInfo, EnumInfo, FeatureInfo, MetamodelInfo};
+use crate::row::Row;
 use qvt_base::copied::Copied;
 use qvt_base::list_fault::ListFault;
 use qvt_base::seq::Seq;
@@ -33,7 +34,8 @@ pub fn joined<T: Copied>(
     }
 }
 
-fn copy_of_text(alloc: Global, text: &Option<Text>) -> Result<Option<Text>, ListFault>
+/// A copy of the text, if there is one.
+pub fn copy_of_text(alloc: Global, text: &Option<Text>) -> Result<Option<Text>, ListFault>
     ensures { IfOk result (λ o. o ≡ text.now) }
 {
     match text {
@@ -80,6 +82,15 @@ impl Copied for FeatureInfo {
             name: self.name.copy(alloc)?,
             shape: self.shape,
             opposite: self.opposite,
+        })
+    }
+}
+
+impl Copied for Row {
+    fn copy(&self, alloc: Global) -> Result<Row, ListFault> {
+        Ok(Row {
+            first: self.first,
+            above: Seq::from_slice(alloc, self.above.as_slice())?,
         })
     }
 }

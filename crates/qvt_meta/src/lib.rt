@@ -8,8 +8,13 @@ pub mod declared;
 pub mod fault;
 mod forms;
 pub mod info;
+mod joining;
 pub mod meta;
 pub mod metas;
 mod names;
 mod plain;
 mod reading;
+mod row;
+
+#[cfg(test)]
+mod tests;

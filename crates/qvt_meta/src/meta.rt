@@ -3,12 +3,15 @@ ghost use Rattle.qvt_meta.specs.Added.{feature_count};
 ghost use Rattle.qvt_meta.specs.Checked.{is_plain};
 ghost use Rattle.qvt_meta.specs.SmallMeta.{small_meta_of};
 
+use crate::adding::alone_of;
 use crate::declared::DeclaredClass;
 use crate::fault::MetaFault;
 use crate::forms::SmallForm;
 use crate::info::EnumInfo;
+use crate::metas::Metas;
 use crate::plain::{have_texts, is_plain};
 use crate::reading::{classes_at, enums_at, text_of_key};
+use qvt_base::list_fault::ListFault;
 use qvt_base::seq::Seq;
 use qvt_base::text::Text;
 use qvt_json::shape::Form;
@@ -23,31 +26,57 @@ pub struct Meta {
     uri: Option<Text>,
     enums: Seq<EnumInfo>,
     classes: Seq<DeclaredClass>,
+    alone: Metas,
 }
 
 impl Model for Meta {
     ghost use Rattle.qvt_meta.specs.MetaData.{MetaData};
-    ghost use Rattle.qvt_meta.specs.Checked.{IsChecked};
+    ghost use Rattle.qvt_meta.specs.Numbered.{IsMeta};
 
     ghost Value = { MetaData };
 
     ghost view = { λ m. record { name = m.name; uri = m.uri; enums = m.enums; classes = m.classes } };
 
-    ghost invariant = { λ m. IsChecked (record { name = m.name; uri = m.uri; enums = m.enums; classes = m.classes }) };
+    ghost invariant = { λ m. IsMeta (record { name = m.name; uri = m.uri; enums = m.enums; classes = m.classes }) m.alone };
 }
 
 /// A metamodel of checked data.
-fn checked(name: Text, uri: Option<Text>, enums: Seq<EnumInfo>, classes: Seq<DeclaredClass>) -> Meta
+fn checked(
+    alloc: Global,
+    name: Text,
+    uri: Option<Text>,
+    enums: Seq<EnumInfo>,
+    classes: Seq<DeclaredClass>,
+) -> Result<Meta, ListFault>
     requires { IsTrue (is_plain (record { name = name; uri = uri; enums = enums; classes = classes })) }
-    ensures { result ≡ record { name = name; uri = uri; enums = enums; classes = classes } }
+    ensures { IfOk result (λ m. m ≡ record { name = name; uri = uri; enums = enums; classes = classes }) }
 {
     let _name = name.as_str();
     have_texts(classes.as_slice());
-    Meta {
+    let alone = alone_of(alloc, &name, &uri, &enums, &classes)?;
+    Ok(Meta {
         name,
         uri,
         enums,
         classes,
+        alone,
+    })
+}
+
+impl Meta {
+    ghost use Rattle.qvt_meta.specs.Added.{numbered};
+
+    pub fn name(&self) -> &Text
+        ensures { result.now ≡ self.now.name }
+    {
+        &self.name
+    }
+
+    /// The metamodel with numbers from 0 on.
+    pub fn alone(&self) -> &Metas
+        ensures { result.now ≡ numbered self.now }
+    {
+        &self.alone
     }
 }
 
@@ -73,40 +102,7 @@ pub fn read_meta(alloc: Global, bytes: &[u8]) -> Result<Meta, MetaFault>
     if !is_plain(alloc, enums.as_slice(), classes.as_slice())? {
         return Err(MetaFault::NotBuilt);
     }
-    Ok(checked(name, uri, enums, classes))
-}
-
-/// The parts of a metamodel.
-#[derive(Debug, Drop)]
-pub struct MetaParts {
-    pub name: Text,
-    pub uri: Option<Text>,
-    pub enums: Seq<EnumInfo>,
-    pub classes: Seq<DeclaredClass>,
-}
-
-impl Meta {
-    ghost use Rattle.qvt_meta.specs.Checked.{IsChecked};
-    ghost use Rattle.qvt_meta.specs.MetaData.{MetaData};
-
-    /// Takes the metamodel apart.
-    pub fn into_parts(self) -> MetaParts
-        ensures parts { record { name = result.name; uri = result.uri; enums = result.enums; classes = result.classes } ≡ self }
-        ensures checked { IsChecked self }
-    {
-        let Meta {
-            name,
-            uri,
-            enums,
-            classes,
-        } = self;
-        MetaParts {
-            name,
-            uri,
-            enums,
-            classes,
-        }
-    }
+    Ok(checked(alloc, name, uri, enums, classes)?)
 }
 
 /// How many features the classes declare, None where the number is past `usize`.

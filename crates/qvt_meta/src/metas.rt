@@ -1,21 +1,23 @@
-ghost use Rattle.std.specs.Prelude.{◌≡◌, [], length, None, IfOk, IfErr, OnOk, OnErr, IfSome, option_map, position, ◌==◌, ◌&&◌, ◌||◌, ◌<◌};
+ghost use Rattle.std.specs.Prelude.{◌≡◌, ◌≢◌, ◌^◌, [], true, false, length, None, IfOk, IfErr, IsTrue, OnOk, OnErr, IfSome, option_map, position, ◌==◌, ◌&&◌, ◌||◌, ◌<◌};
 ghost use Rattle.std.specs.Str.{bytes_eq};
+ghost use Rattle.std.specs.List.{list_any};
 ghost use Rattle.qvt_meta.specs.Metamodels.{class_at, feature_at, shape_of, opposite, features_of};
 ghost use Rattle.qvt_meta.specs.Descends.{descends};
 ghost use Rattle.qvt_meta.specs.WellFormed.{IsWellFormed};
 ghost use Rattle.qvt_meta.specs.Named.{is_text};
+ghost use Rattle.qvt_meta.specs.Kept.{is_marked};
 
-use crate::adding::with_numbers;
 use crate::begin::Begin;
 use crate::copied::{copies, joined};
 use crate::fault::MetasFault;
-use crate::info::{ClassInfo, FeatureInfo, FeatureShape, MetamodelInfo, TypeKind};
+use crate::info::{ClassInfo, EnumInfo, FeatureInfo, FeatureShape, MetamodelInfo, TypeKind};
+use crate::joining::{class_infos_on, feature_infos_on, lists_on, ranks_on, rows_on};
 use crate::meta::Meta;
+use crate::row::Row;
 use qvt_base::copied::Copied;
 use qvt_base::list_fault::ListFault;
 use qvt_base::lists::FeatureNoList;
 use qvt_base::numbers::{ClassNo, FeatureNo};
-use qvt_base::seq::Seq;
 use qvt_base::text::Text;
 use std::alloc::Global;
 use std::marker::Model;
@@ -30,7 +32,8 @@ pub struct Metas {
     features: Vec<FeatureInfo>,
     element: Option<ClassNo>,
     lists: Vec<FeatureNoList>,
-    rows: Vec<Seq<bool>>,
+    rows: Vec<Row>,
+    ranks: Vec<u32>,
 }
 
 impl Model for Metas {
@@ -41,7 +44,7 @@ impl Model for Metas {
 
     ghost view = { λ m. record { metamodels = m.metamodels.items; classes = m.classes.items; features = m.features.items; element = m.element } };
 
-    ghost invariant = { λ m. IsKept (record { metamodels = m.metamodels.items; classes = m.classes.items; features = m.features.items; element = m.element }) m.lists.items m.rows.items };
+    ghost invariant = { λ m. IsKept (record { metamodels = m.metamodels.items; classes = m.classes.items; features = m.features.items; element = m.element }) m.lists.items m.rows.items m.ranks.items };
 }
 
 impl Metas {
@@ -58,31 +61,98 @@ impl Metas {
             element: None,
             lists: Vec::new(alloc),
             rows: Vec::new(alloc),
+            ranks: Vec::new(alloc),
         }
     }
 
-    /// Adds a metamodel, the first. A refused call changes nothing.
+    /// The metamodels of these parts. It takes no memory.
+    pub fn from_parts(
+        metamodels: Vec<MetamodelInfo>,
+        classes: Vec<ClassInfo>,
+        features: Vec<FeatureInfo>,
+        lists: Vec<FeatureNoList>,
+        rows: Vec<Row>,
+        ranks: Vec<u32>,
+    ) -> Metas
+        requires { IsKept (record { metamodels = metamodels.items; classes = classes.items; features = features.items; element = None }) lists.items rows.items ranks.items }
+        ensures { result ≡ record { metamodels = metamodels.items; classes = classes.items; features = features.items; element = None } }
+    {
+        Metas {
+            metamodels,
+            classes,
+            features,
+            element: None,
+            lists,
+            rows,
+            ranks,
+        }
+    }
+
+    ghost use Rattle.qvt_meta.specs.Kept.{IsKept};
+
+    /// Adds a metamodel: its numbers go on from those that are there, which stay. It is refused
+    /// where a metamodel of its name is there. A refused call changes nothing.
     pub fn add(&mut self, meta: Meta) -> Result<(), MetasFault>
-        requires first { self.old ≡ record { metamodels = []; classes = []; features = []; element = None } }
+        requires element { self.old.element ≡ None }
         requires room { HasRoom self.old meta }
         ensures ok { OnOk result (self.new ≡ added self.old meta) }
-        ensures no_memory { IfErr result (λ fault. fault ≡ MetasFault.NoMemory) }
+        ensures fresh { OnOk result (has_metamodel self.old meta.name ≡ false) }
+        ensures element { OnOk result (self.new.element ≡ None) }
+        ensures same { IfErr result (λ fault. fault ≢ MetasFault.NoMemory → (has_metamodel self.old meta.name ≡ true) × (fault ≡ MetasFault.SameMetamodel meta.name)) }
         ensures err { OnErr result (self.new ≡ self.old) }
     {
-        let next = self.with(meta)?;
+        let next = self.with_meta(&meta)?;
         *self = next;
         Ok(())
     }
 
-    ghost use Rattle.qvt_meta.specs.Added.{added, HasRoom};
+    /// Whether the numbers still fit 32 bits when this metamodel is added.
+    pub fn has_room(&self, meta: &Meta) -> bool
+        ensures { IsTrue result → HasRoom self.now meta.now }
+    {
+        let others = meta.alone();
+        let _enums = others.enumerations(0);
+        let metamodels = self.metamodels.len() + others.metamodels.len();
+        let classes = self.classes.len() + others.classes.len();
+        let features = self.features.len() + others.features.len();
+        if metamodels > u32::MAX as usize || classes > u32::MAX as usize {
+            return false;
+        }
+        features <= u32::MAX as usize
+    }
 
     /// These metamodels with one more.
-    #[tactic(auto, unfolding(crate::specs::Added::added))]
-    fn with(&self, meta: Meta) -> Result<Metas, MetasFault>
-        requires first { self.now ≡ record { metamodels = []; classes = []; features = []; element = None } }
-        requires room { HasRoom self.now meta }
-        ensures ok { IfOk result (λ next. next ≡ added self.now meta) }
-        ensures no_memory { IfErr result (λ fault. fault ≡ MetasFault.NoMemory) }
+    fn with_meta(&self, meta: &Meta) -> Result<Metas, MetasFault>
+        requires element { self.now.element ≡ None }
+        requires room { HasRoom self.now meta.now }
+        ensures ok { IfOk result (λ next. next ≡ added self.now meta.now) }
+        ensures fresh { OnOk result (has_metamodel self.now meta.now.name ≡ false) }
+        ensures element { IfOk result (λ next. next.element ≡ None) }
+        ensures same { IfErr result (λ fault. fault ≢ MetasFault.NoMemory → (has_metamodel self.now meta.now.name ≡ true) × (fault ≡ MetasFault.SameMetamodel meta.now.name)) }
+    {
+        let alloc = *self.classes.allocator();
+        if self.has_metamodel(meta.name()) {
+            return Err(MetasFault::SameMetamodel(meta.name().copy(alloc)?));
+        }
+        Ok(self.with(meta.alone())?)
+    }
+
+    ghost use Rattle.qvt_meta.specs.Added.{added, HasRoom};
+    ghost use Rattle.qvt_meta.specs.Named.{has_metamodel};
+
+    /// Whether a metamodel of this name is there.
+    fn has_metamodel(&self, name: &Text) -> bool
+        ensures { result ≡ has_metamodel self.now name.now }
+    {
+        are_named(self.metamodels.as_slice(), name)
+    }
+
+    /// These metamodels, and then the others, whose numbers go on.
+    fn with(&self, others: &Metas) -> Result<Metas, ListFault>
+        requires element { self.now.element ≡ None }
+        requires others_element { others.now.element ≡ None }
+        requires room { FitTogether self.now others.now }
+        ensures { IfOk result (λ next. next ≡ joined self.now others.now) }
     {
         let alloc = *self.classes.allocator();
         let begin = Begin {
@@ -90,18 +160,24 @@ impl Metas {
             class: self.classes.len() as u32,
             feature: self.features.len() as u32,
         };
-        let numbered = with_numbers(alloc, begin, meta)?;
-        let mut one = Vec::new(alloc);
-        one.push(numbered.metamodel)?;
+        let metamodels = copies(alloc, others.metamodels.as_slice())?;
+        let classes = class_infos_on(alloc, begin, others.classes.as_slice())?;
+        let features = feature_infos_on(alloc, begin, others.features.as_slice())?;
+        let lists = lists_on(alloc, begin, others.lists.as_slice())?;
+        let rows = rows_on(alloc, begin, others.rows.as_slice())?;
+        let ranks = ranks_on(alloc, begin, others.ranks.as_slice())?;
         Ok(Metas {
-            metamodels: joined(alloc, self.metamodels.as_slice(), one)?,
-            classes: joined(alloc, self.classes.as_slice(), numbered.classes)?,
-            features: joined(alloc, self.features.as_slice(), numbered.features)?,
-            element: self.element,
-            lists: joined(alloc, self.lists.as_slice(), numbered.lists)?,
-            rows: Vec::new(alloc),
+            metamodels: joined(alloc, self.metamodels.as_slice(), metamodels)?,
+            classes: joined(alloc, self.classes.as_slice(), classes)?,
+            features: joined(alloc, self.features.as_slice(), features)?,
+            element: None,
+            lists: joined(alloc, self.lists.as_slice(), lists)?,
+            rows: joined(alloc, self.rows.as_slice(), rows)?,
+            ranks: joined(alloc, self.ranks.as_slice(), ranks)?,
         })
     }
+
+    ghost use Rattle.qvt_meta.specs.Joined.{joined, FitTogether};
 
     pub fn metamodel_count(&self) -> u32
         ensures { result ≡ length self.now.metamodels }
@@ -125,6 +201,90 @@ impl Metas {
         match find_metamodel(self.metamodels.as_slice(), name) {
             Some(place) => Some(place as u32),
             None => None,
+        }
+    }
+
+    pub fn metamodel_name(&self, metamodel: u32) -> &str
+        ensures { result.now ≡ (metamodel_at self.now metamodel).name }
+    {
+        let at = metamodel as usize;
+        if at < self.metamodels.len() {
+            self.metamodels[at].name.as_str()
+        } else {
+            ""
+        }
+    }
+
+    ghost use Rattle.qvt_meta.specs.Named.{metamodel_at, enumeration_at, literal_at, enumeration_named, literal_named};
+
+    /// The enumerations of a metamodel, in order.
+    pub fn enumerations(&self, metamodel: u32) -> &[EnumInfo]
+        ensures enumerations { result.now ≡ (metamodel_at self.now metamodel).enums }
+        ensures few { length result.now < 2 ^ 32 }
+    {
+        let at = metamodel as usize;
+        if at < self.metamodels.len() {
+            self.metamodels[at].enums.as_slice()
+        } else {
+            &[]
+        }
+    }
+
+    /// The literals of an enumeration, in order.
+    pub fn literals(&self, metamodel: u32, enumeration: u32) -> &[Text]
+        ensures literals { result.now ≡ (enumeration_at self.now metamodel enumeration).literals }
+        ensures few { length result.now < 2 ^ 32 }
+    {
+        let at = metamodel as usize;
+        let place = enumeration as usize;
+        if at < self.metamodels.len() && place < self.metamodels[at].enums.len() {
+            self.metamodels[at].enums.as_slice()[place].literals.as_slice()
+        } else {
+            &[]
+        }
+    }
+
+    /// The enumeration of this name in a metamodel.
+    pub fn enumeration(&self, metamodel: u32, name: &str) -> Option<u32>
+        ensures { result ≡ enumeration_named self.now metamodel name.now }
+    {
+        match find_enumeration(self.enumerations(metamodel), name) {
+            Some(place) => Some(place as u32),
+            None => None,
+        }
+    }
+
+    /// The literal of this name in an enumeration.
+    pub fn literal(&self, metamodel: u32, enumeration: u32, name: &str) -> Option<u32>
+        ensures { result ≡ literal_named self.now metamodel enumeration name.now }
+    {
+        match find_text(self.literals(metamodel, enumeration), name) {
+            Some(place) => Some(place as u32),
+            None => None,
+        }
+    }
+
+    pub fn enumeration_name(&self, metamodel: u32, enumeration: u32) -> &str
+        ensures { result.now ≡ (enumeration_at self.now metamodel enumeration).name }
+    {
+        let enums = self.enumerations(metamodel);
+        let place = enumeration as usize;
+        if place < enums.len() {
+            enums[place].name.as_str()
+        } else {
+            ""
+        }
+    }
+
+    pub fn literal_name(&self, metamodel: u32, enumeration: u32, literal: u32) -> &str
+        ensures { result.now ≡ literal_at self.now metamodel enumeration literal }
+    {
+        let literals = self.literals(metamodel, enumeration);
+        let place = literal as usize;
+        if place < literals.len() {
+            literals[place].as_str()
+        } else {
+            ""
         }
     }
 
@@ -215,12 +375,7 @@ impl Metas {
         ensures { result ≡ reaches self.now sub.0 sup.0 }
     {
         let at = sub.0 as usize;
-        let bit = sup.0 as usize;
-        if at < self.rows.len() && bit < self.rows[at].len() {
-            self.rows[at].as_slice()[bit]
-        } else {
-            false
-        }
+        at < self.rows.len() && is_marked(&self.rows[at], sup.0)
     }
 
     pub fn shape(&self, feature: FeatureNo) -> FeatureShape
@@ -264,15 +419,26 @@ impl Metas {
     }
 }
 
-/// Copies of these rows, in order.
-fn copies_of_rows(alloc: Global, rows: &[Seq<bool>]) -> Result<Vec<Seq<bool>>, ListFault>
-    ensures { IfOk result (λ v. v.items ≡ rows.now) }
+/// Whether one of the metamodels has this name.
+fn are_named(metamodels: &[MetamodelInfo], name: &Text) -> bool
+    ensures { result ≡ list_any (λ m. bytes_eq name.now m.name) metamodels.now }
 {
-    let mut copies = Seq::new(alloc);
-    for row in rows {
-        copies.push(Seq::from_slice(alloc, row.as_slice())?)?;
+    metamodels.iter().any(|m| name.as_str() == m.name.as_str())
+}
+
+/// Whether a class is marked in a row.
+fn is_marked(row: &Row, class: u32) -> bool
+    ensures { result ≡ is_marked row.now class }
+{
+    if class < row.first {
+        return false;
     }
-    Ok(copies.into_vec())
+    let place = (class - row.first) as usize;
+    if place < row.above.len() {
+        row.above.as_slice()[place]
+    } else {
+        false
+    }
 }
 
 impl Copied for Metas {
@@ -283,7 +449,8 @@ impl Copied for Metas {
             features: copies(alloc, self.features.as_slice())?,
             element: self.element,
             lists: copies(alloc, self.lists.as_slice())?,
-            rows: copies_of_rows(alloc, self.rows.as_slice())?,
+            rows: copies(alloc, self.rows.as_slice())?,
+            ranks: copies(alloc, self.ranks.as_slice())?,
         })
     }
 }
@@ -313,4 +480,18 @@ fn find_class(classes: &[ClassInfo], metamodel: u32, name: &str) -> Option<usize
     classes
         .iter()
         .position(|c| c.metamodel == metamodel && name == c.name.as_str())
+}
+
+fn find_enumeration(enums: &[EnumInfo], name: &str) -> Option<usize>
+    ensures value { result ≡ position (λ e. bytes_eq name.now e.name) enums.now }
+    ensures bound { IfSome result (λ i. i < length enums.now) }
+{
+    enums.iter().position(|e| name == e.name.as_str())
+}
+
+fn find_text(texts: &[Text], name: &str) -> Option<usize>
+    ensures value { result ≡ position (bytes_eq name.now) texts.now }
+    ensures bound { IfSome result (λ i. i < length texts.now) }
+{
+    texts.iter().position(|text| name == text.as_str())
 }

@@ -2,7 +2,8 @@ use Rattle.std.proofs.Common.{◌≡◌, ◌∙◌, ◌+◌, ◌<◌, ◌≤◌,
 use Rattle.qvt_meta.specs.Added.{feature_count}
 use Rattle.qvt_meta.specs.Places.{firsts_of}
 use Rattle.qvt_meta.specs.declared.declared.DeclaredClass.{DeclaredClass}
-use Rattle.qvt_meta.proofs.Counts.{count_within, firsts_of-at, firsts_length}
+use Rattle.qvt_meta.proofs.Counts.{count_within}
+use Rattle.qvt_meta.proofs.Firsts.{firsts_of-at}
 use Rattle.qvt_meta.proofs.adding.feature_number.Goals as goal
 
 at_place : (xs : List ℕ) (ks : List DeclaredClass) (i r : ℕ) → xs ≡ firsts_of 0 ks → i ≤ length ks → r ≡ get_or xs i r → r ≡ feature_count (take i ks)

@@ -6,9 +6,19 @@ use Rattle.qvt_meta.specs.Checked.{has_texts}
 use Rattle.qvt_meta.specs.declared.declared.DeclaredClass.{DeclaredClass}
 use Rattle.qvt_meta.proofs.meta.checked.Goals as goal
 
-pub invariant_of-result : goal.invariant_of-result
-invariant_of-result c = record {
+pub alone_of-requires : goal.alone_of-requires
+alone_of-requires c = record {
   plain = c.requires;
   name = subst (λ (t : List ℕ). is_utf8 t ≡ true) c.as_str-name.ensures (is_utf8-from_IsUtf8 _ c.as_str-name.utf8);
   texts = subst (λ (cs : List DeclaredClass). list_all has_texts cs ≡ true) c.as_slice.ensures c.have_texts.ensures;
+}
+
+pub invariant_of-result : goal.invariant_of-result
+invariant_of-result c = record {
+  checked = record {
+    plain = c.requires;
+    name = subst (λ (t : List ℕ). is_utf8 t ≡ true) c.as_str-name.ensures (is_utf8-from_IsUtf8 _ c.as_str-name.utf8);
+    texts = subst (λ (cs : List DeclaredClass). list_all has_texts cs ≡ true) c.as_slice.ensures c.have_texts.ensures;
+  };
+  numbers = c.in_ok-alone.ensures;
 }

@@ -1,65 +1,102 @@
-use Rattle.std.proofs.Common.{◌≡◌, ◌∙◌, ℕ, List, [], ◌∷◌, ◌++◌, length, map, Option, None, Bool, ap, sym, subst, arith, refl}
-use Rattle.qvt_base.specs.declared.numbers.ClassNo.{ClassNo}
+use Rattle.std.proofs.Common.{◌≡◌, ◌∙◌, ℕ, ◌+◌, ◌<◌, ◌^◌, List, ◌++◌, length, map, Option, None, ap, sym, subst, arith}
+use Rattle.std.specs.List.{AllByRecursion}
 use Rattle.qvt_base.specs.declared.numbers.FeatureNo.{FeatureNo}
-use Rattle.qvt_meta.specs.declared.info.MetamodelInfo.{MetamodelInfo}
 use Rattle.qvt_meta.specs.declared.info.ClassInfo.{ClassInfo}
 use Rattle.qvt_meta.specs.declared.info.FeatureInfo.{FeatureInfo}
-use Rattle.qvt_meta.specs.declared.begin.Begin.{Begin}
+use Rattle.qvt_meta.specs.declared.row.Row.{Row}
 use Rattle.qvt_meta.specs.Metamodels.{Metamodels}
-use Rattle.qvt_meta.specs.MetaData.{MetaData, enum_names}
-use Rattle.qvt_meta.specs.Checked.{IsChecked}
 use Rattle.qvt_meta.specs.Kept.{IsKept}
-use Rattle.qvt_meta.specs.Added.{names_of, class_infos, feature_infos, added, HasRoom}
-use Rattle.qvt_meta.proofs.Empty.{no_metamodels}
-use Rattle.qvt_meta.proofs.Thin.{kept}
+use Rattle.qvt_meta.specs.Joined.{ClassFits, FeatureFits, FeaturesFit, feature_on, class_info_on, feature_info_on, row_on, joined, FitTogether}
+use Rattle.qvt_meta.proofs.Bools.{ap2}
+use Rattle.qvt_meta.proofs.Withs.{Both, both_of, classes_go_on, features_go_on, lists_go_on, rows_go_on, ranks_go_on, same, tables}
 use Rattle.qvt_meta.proofs.metas.Metas.with.Goals as goal
 
-abbrev first : Begin
-first = record { metamodel = 0; class = 0; feature = 0 }
+pub class_infos_on-requires : goal.class_infos_on-requires
+class_infos_on-requires c =
+    let n0 : c.len.result ≡ length c.self.inside.metamodels.items = omega (arith, c.len.ensures) in
+    let n1 : c.len-2.result ≡ length c.self.inside.classes.items = omega (arith, c.len-2.ensures) in
+    let n2 : c.len-3.result ≡ length c.self.inside.features.items = omega (arith, c.len-3.ensures) in
+    let m : Metamodels = record { metamodels = c.self.inside.metamodels.items; classes = c.self.inside.classes.items; features = c.self.inside.features.items; element = c.self.inside.element } in
+    let n : Metamodels = record { metamodels = c.others.inside.metamodels.items; classes = c.others.inside.classes.items; features = c.others.inside.features.items; element = c.others.inside.element } in
+    let both : Both m n c.others.inside.lists.items c.others.inside.rows.items c.others.inside.ranks.items (record { metamodel = c.len.result; class = c.len-2.result; feature = c.len-3.result }) =
+    both_of m n _ _ c.self.view_is c.others.view_is c.requires.room _ _ _ c.others.invariant _ _ _ n0 n1 n2 in
+    subst (AllByRecursion (ClassFits (record { metamodel = c.len.result; class = c.len-2.result; feature = c.len-3.result }))) (sym c.as_slice-2.ensures.value) (classes_go_on _ _ _ _ _ _ both)
 
-whole : (d : MetaData) (b : Begin) (ms0 ms : List MetamodelInfo) (cs0 cs ncs : List ClassInfo) (fs0 fs nfs : List FeatureInfo) (el : Option ClassNo) (ls0 ls nls : List (List FeatureNo)) (rows : List (List Bool))
-    → b ≡ first
-    → ms0 ≡ [] → ms ≡ ms0 ++ record { name = d.name; uri = d.uri; enums = d.enums } ∷ []
-    → cs0 ≡ [] → cs ≡ cs0 ++ ncs → ncs ≡ class_infos b (names_of d.classes) b.feature d.classes
-    → fs0 ≡ [] → fs ≡ fs0 ++ nfs → nfs ≡ feature_infos b (enum_names d) d.classes b.class d.classes
-    → el ≡ None → ls0 ≡ [] → ls ≡ ls0 ++ nls → nls ≡ map (λ k. k.own) ncs → rows ≡ []
-    → IsChecked d → HasRoom no_metamodels d
-    → IsKept (record { metamodels = ms; classes = cs; features = fs; element = el }) ls rows
-unfolding added
-whole d b ms0 ms cs0 cs ncs fs0 fs nfs el ls0 ls nls rows eb em0 em ec0 ec enc ef0 ef enf eel el0 els enl er ok room =
-    let classes : ncs ≡ class_infos first (names_of d.classes) 0 d.classes = enc ∙ ap (λ (x : Begin). class_infos x (names_of d.classes) x.feature d.classes) eb in
-    let features : nfs ≡ feature_infos first (enum_names d) d.classes 0 d.classes = enf ∙ ap (λ (x : Begin). feature_infos x (enum_names d) d.classes x.class d.classes) eb in
-    let m1 : ms ≡ record { name = d.name; uri = d.uri; enums = d.enums } ∷ [] = em ∙ ap (λ xs. xs ++ record { name = d.name; uri = d.uri; enums = d.enums } ∷ []) em0 in
-    let c1 : cs ≡ class_infos first (names_of d.classes) 0 d.classes = ec ∙ ap (λ xs. xs ++ ncs) ec0 ∙ classes in
-    let f1 : fs ≡ feature_infos first (enum_names d) d.classes 0 d.classes = ef ∙ ap (λ xs. xs ++ nfs) ef0 ∙ features in
-    let l1 : ls ≡ map (λ k. k.own) (class_infos first (names_of d.classes) 0 d.classes) = els ∙ ap (λ xs. xs ++ nls) el0 ∙ enl ∙ ap (map (λ (k : ClassInfo). k.own)) classes in
-    let same : record { metamodels = ms; classes = cs; features = fs; element = el } ≡ added no_metamodels d = λ i. record { metamodels = m1 i; classes = c1 i; features = f1 i; element = eel i } in
-    subst (λ (x : Metamodels). IsKept x ls rows) (sym same)
-    (subst (λ (x : List (List FeatureNo)). IsKept (added no_metamodels d) x rows) (sym l1)
-    (subst (λ (x : List (List Bool)). IsKept (added no_metamodels d) (map (λ k. k.own) (class_infos first (names_of d.classes) 0 d.classes)) x) (sym er) (kept d ok room)))
+pub feature_infos_on-requires : goal.feature_infos_on-requires
+feature_infos_on-requires c =
+    let n0 : c.len.result ≡ length c.self.inside.metamodels.items = omega (arith, c.len.ensures) in
+    let n1 : c.len-2.result ≡ length c.self.inside.classes.items = omega (arith, c.len-2.ensures) in
+    let n2 : c.len-3.result ≡ length c.self.inside.features.items = omega (arith, c.len-3.ensures) in
+    let m : Metamodels = record { metamodels = c.self.inside.metamodels.items; classes = c.self.inside.classes.items; features = c.self.inside.features.items; element = c.self.inside.element } in
+    let n : Metamodels = record { metamodels = c.others.inside.metamodels.items; classes = c.others.inside.classes.items; features = c.others.inside.features.items; element = c.others.inside.element } in
+    let both : Both m n c.others.inside.lists.items c.others.inside.rows.items c.others.inside.ranks.items (record { metamodel = c.len.result; class = c.len-2.result; feature = c.len-3.result }) =
+    both_of m n _ _ c.self.view_is c.others.view_is c.requires.room _ _ _ c.others.invariant _ _ _ n0 n1 n2 in
+    subst (AllByRecursion (FeatureFits (record { metamodel = c.len.result; class = c.len-2.result; feature = c.len-3.result }))) (sym c.as_slice-3.ensures.value) (features_go_on _ _ _ _ _ _ both)
 
-no_list : {X : Type 0} (xs : List X) → length xs ≡ 0 → xs ≡ []
-no_list [] h = refl
-no_list (x ∷ xs) h = absurd (omega (arith, h))
+pub lists_on-requires : goal.lists_on-requires
+lists_on-requires c =
+    let n0 : c.len.result ≡ length c.self.inside.metamodels.items = omega (arith, c.len.ensures) in
+    let n1 : c.len-2.result ≡ length c.self.inside.classes.items = omega (arith, c.len-2.ensures) in
+    let n2 : c.len-3.result ≡ length c.self.inside.features.items = omega (arith, c.len-3.ensures) in
+    let m : Metamodels = record { metamodels = c.self.inside.metamodels.items; classes = c.self.inside.classes.items; features = c.self.inside.features.items; element = c.self.inside.element } in
+    let n : Metamodels = record { metamodels = c.others.inside.metamodels.items; classes = c.others.inside.classes.items; features = c.others.inside.features.items; element = c.others.inside.element } in
+    let both : Both m n c.others.inside.lists.items c.others.inside.rows.items c.others.inside.ranks.items (record { metamodel = c.len.result; class = c.len-2.result; feature = c.len-3.result }) =
+    both_of m n _ _ c.self.view_is c.others.view_is c.requires.room _ _ _ c.others.invariant _ _ _ n0 n1 n2 in
+    subst (AllByRecursion (FeaturesFit (record { metamodel = c.len.result; class = c.len-2.result; feature = c.len-3.result }))) (sym c.as_slice-4.ensures.value) (lists_go_on _ _ _ _ _ _ both)
+
+pub rows_on-requires : goal.rows_on-requires
+rows_on-requires c =
+    let n0 : c.len.result ≡ length c.self.inside.metamodels.items = omega (arith, c.len.ensures) in
+    let n1 : c.len-2.result ≡ length c.self.inside.classes.items = omega (arith, c.len-2.ensures) in
+    let n2 : c.len-3.result ≡ length c.self.inside.features.items = omega (arith, c.len-3.ensures) in
+    let m : Metamodels = record { metamodels = c.self.inside.metamodels.items; classes = c.self.inside.classes.items; features = c.self.inside.features.items; element = c.self.inside.element } in
+    let n : Metamodels = record { metamodels = c.others.inside.metamodels.items; classes = c.others.inside.classes.items; features = c.others.inside.features.items; element = c.others.inside.element } in
+    let both : Both m n c.others.inside.lists.items c.others.inside.rows.items c.others.inside.ranks.items (record { metamodel = c.len.result; class = c.len-2.result; feature = c.len-3.result }) =
+    both_of m n _ _ c.self.view_is c.others.view_is c.requires.room _ _ _ c.others.invariant _ _ _ n0 n1 n2 in
+    subst (AllByRecursion (λ (r : Row). c.len-2.result + r.first < 2 ^ 32)) (sym c.as_slice-5.ensures.value) (rows_go_on _ _ _ _ _ _ both)
+
+pub ranks_on-requires : goal.ranks_on-requires
+ranks_on-requires c =
+    let n0 : c.len.result ≡ length c.self.inside.metamodels.items = omega (arith, c.len.ensures) in
+    let n1 : c.len-2.result ≡ length c.self.inside.classes.items = omega (arith, c.len-2.ensures) in
+    let n2 : c.len-3.result ≡ length c.self.inside.features.items = omega (arith, c.len-3.ensures) in
+    let m : Metamodels = record { metamodels = c.self.inside.metamodels.items; classes = c.self.inside.classes.items; features = c.self.inside.features.items; element = c.self.inside.element } in
+    let n : Metamodels = record { metamodels = c.others.inside.metamodels.items; classes = c.others.inside.classes.items; features = c.others.inside.features.items; element = c.others.inside.element } in
+    let both : Both m n c.others.inside.lists.items c.others.inside.rows.items c.others.inside.ranks.items (record { metamodel = c.len.result; class = c.len-2.result; feature = c.len-3.result }) =
+    both_of m n _ _ c.self.view_is c.others.view_is c.requires.room _ _ _ c.others.invariant _ _ _ n0 n1 n2 in
+    subst (AllByRecursion (λ (r : ℕ). c.len-2.result + r < 2 ^ 32)) (sym c.as_slice-6.ensures.value) (ranks_go_on _ _ _ _ _ _ both)
 
 pub invariant_of-result : goal.invariant_of-result
 invariant_of-result c =
-    let e = c.self.view_is ∙ c.requires.first in
-    let em = ap (λ (m : Metamodels). m.metamodels) e in
-    let ec = ap (λ (m : Metamodels). m.classes) e in
-    let ef = ap (λ (m : Metamodels). m.features) e in
-    let n0 : c.len.result ≡ 0 = omega (arith, c.len.ensures, ap length em) in
-    let n1 : c.len-2.result ≡ 0 = omega (arith, c.len-2.ensures, ap length ec) in
-    let n2 : c.len-3.result ≡ 0 = omega (arith, c.len-3.ensures, ap length ef) in
-    let el = no_list c.self.inside.lists.items (c.self.invariant.each ∙ ap length ec) in
-    let one : c.push.new.self.items ≡ record { name = c.args.meta.name; uri = c.args.meta.uri; enums = c.args.meta.enums } ∷ [] =
-    c.in_ok-push.ensures.items ∙ (λ i. c.new-one.ensures.items i ++ c.in_ok-numbered.ensures.metamodel i ∷ []) in
-    whole c.args.meta _ c.as_slice.result.now _ c.as_slice-2.result.now _ _ c.as_slice-3.result.now _ _ _ c.as_slice-4.result.now _ _ _
-    (λ i. record { metamodel = n0 i; class = n1 i; feature = n2 i })
-    (c.as_slice.ensures.value ∙ em) (c.in_ok-joined.ensures ∙ ap (λ xs. c.as_slice.result.now ++ xs) one)
-    (c.as_slice-2.ensures.value ∙ ec) c.in_ok-joined-2.ensures c.in_ok-numbered.ensures.classes
-    (c.as_slice-3.ensures.value ∙ ef) c.in_ok-joined-3.ensures c.in_ok-numbered.ensures.features
-    (ap (λ (m : Metamodels). m.element) e)
-    (c.as_slice-4.ensures.value ∙ el) c.in_ok-joined-4.ensures c.in_ok-numbered.ensures.lists
-    c.new.ensures.items c.in_ok-numbered.ensures.checked
-    (subst (λ (m : Metamodels). HasRoom m c.args.meta) c.requires.first c.requires.room)
+    let n0 : c.len.result ≡ length c.self.inside.metamodels.items = omega (arith, c.len.ensures) in
+    let n1 : c.len-2.result ≡ length c.self.inside.classes.items = omega (arith, c.len-2.ensures) in
+    let n2 : c.len-3.result ≡ length c.self.inside.features.items = omega (arith, c.len-3.ensures) in
+    let m : Metamodels = record { metamodels = c.self.inside.metamodels.items; classes = c.self.inside.classes.items; features = c.self.inside.features.items; element = c.self.inside.element } in
+    let n : Metamodels = record { metamodels = c.others.inside.metamodels.items; classes = c.others.inside.classes.items; features = c.others.inside.features.items; element = c.others.inside.element } in
+    let both : Both m n c.others.inside.lists.items c.others.inside.rows.items c.others.inside.ranks.items (record { metamodel = c.len.result; class = c.len-2.result; feature = c.len-3.result }) =
+    both_of m n _ _ c.self.view_is c.others.view_is c.requires.room _ _ _ c.others.invariant _ _ _ n0 n1 n2 in
+    let ems = c.in_ok-joined.ensures ∙ ap2 (λ x y. x ++ y) c.as_slice-7.ensures.value (c.in_ok-metamodels.ensures ∙ c.as_slice.ensures.value) in
+    let ecs = c.in_ok-joined-2.ensures ∙ ap2 (λ x y. x ++ y) c.as_slice-8.ensures.value (c.in_ok-classes.ensures ∙ ap (map (class_info_on (record { metamodel = c.len.result; class = c.len-2.result; feature = c.len-3.result }))) c.as_slice-2.ensures.value) in
+    let efs = c.in_ok-joined-3.ensures ∙ ap2 (λ x y. x ++ y) c.as_slice-9.ensures.value (c.in_ok-features.ensures ∙ ap (map (feature_info_on (record { metamodel = c.len.result; class = c.len-2.result; feature = c.len-3.result }))) c.as_slice-3.ensures.value) in
+    let alone = ap (λ (x : Metamodels). x.element) c.self.view_is ∙ c.requires.element in
+    let other = ap (λ (x : Metamodels). x.element) c.others.view_is ∙ c.requires.others_element in
+    let els = c.in_ok-joined-4.ensures ∙ ap2 (λ x y. x ++ y) c.as_slice-10.ensures.value (c.in_ok-lists.ensures ∙ ap (map (map (feature_on (record { metamodel = c.len.result; class = c.len-2.result; feature = c.len-3.result })))) c.as_slice-4.ensures.value) in
+    let ers = c.in_ok-joined-5.ensures ∙ ap2 (λ x y. x ++ y) c.as_slice-11.ensures.value (c.in_ok-rows.ensures ∙ ap (map (row_on (record { metamodel = c.len.result; class = c.len-2.result; feature = c.len-3.result }))) c.as_slice-5.ensures.value) in
+    let eks = c.in_ok-joined-6.ensures ∙ ap2 (λ x y. x ++ y) c.as_slice-12.ensures.value (c.in_ok-ranks.ensures ∙ ap (map (λ (r : ℕ). c.len-2.result + r)) c.as_slice-6.ensures.value) in
+    tables m n _ _ _ _ both _ _ _ alone other ems ecs efs _ _ _ _ _ _ c.self.invariant els ers eks
+
+pub returns : goal.returns
+returns c =
+    let n0 : c.len.result ≡ length c.self.inside.metamodels.items = omega (arith, c.len.ensures) in
+    let n1 : c.len-2.result ≡ length c.self.inside.classes.items = omega (arith, c.len-2.ensures) in
+    let n2 : c.len-3.result ≡ length c.self.inside.features.items = omega (arith, c.len-3.ensures) in
+    let m : Metamodels = record { metamodels = c.self.inside.metamodels.items; classes = c.self.inside.classes.items; features = c.self.inside.features.items; element = c.self.inside.element } in
+    let n : Metamodels = record { metamodels = c.others.inside.metamodels.items; classes = c.others.inside.classes.items; features = c.others.inside.features.items; element = c.others.inside.element } in
+    let both : Both m n c.others.inside.lists.items c.others.inside.rows.items c.others.inside.ranks.items (record { metamodel = c.len.result; class = c.len-2.result; feature = c.len-3.result }) =
+    both_of m n _ _ c.self.view_is c.others.view_is c.requires.room _ _ _ c.others.invariant _ _ _ n0 n1 n2 in
+    let ems = c.in_ok-joined.ensures ∙ ap2 (λ x y. x ++ y) c.as_slice-7.ensures.value (c.in_ok-metamodels.ensures ∙ c.as_slice.ensures.value) in
+    let ecs = c.in_ok-joined-2.ensures ∙ ap2 (λ x y. x ++ y) c.as_slice-8.ensures.value (c.in_ok-classes.ensures ∙ ap (map (class_info_on (record { metamodel = c.len.result; class = c.len-2.result; feature = c.len-3.result }))) c.as_slice-2.ensures.value) in
+    let efs = c.in_ok-joined-3.ensures ∙ ap2 (λ x y. x ++ y) c.as_slice-9.ensures.value (c.in_ok-features.ensures ∙ ap (map (feature_info_on (record { metamodel = c.len.result; class = c.len-2.result; feature = c.len-3.result }))) c.as_slice-3.ensures.value) in
+    let alone = ap (λ (x : Metamodels). x.element) c.self.view_is ∙ c.requires.element in
+    let other = ap (λ (x : Metamodels). x.element) c.others.view_is ∙ c.requires.others_element in
+    same m n _ _ _ _ both _ _ _ alone other ems ecs efs ∙ ap2 joined c.self.view_is c.others.view_is

@@ -1,0 +1,78 @@
+-- Facts of lists that the tables of metamodels stand on.
+use Rattle.std.proofs.Common.{◌≡◌, ◌∙◌, ℕ, zero, suc, ◌+◌, ◌<◌, ◌≤◌, List, [], ◌∷◌, ◌++◌, length, map, get_or, Bool, true, false, cond, refl, ap, sym, arith, ◌==◌, ◌||◌, ◌⊎◌, inl, inr, eqb}
+use Rattle.std.specs.Prelude.{if◌then◌else◌}
+use Rattle.std.specs.List.{list_any, flat_map, AllByRecursion}
+use Rattle.std.proofs.lemmas.List.{map-append}
+use Rattle.std.proofs.lemmas.Bool.{eqb-true, eq-eqb}
+use Rattle.qvt_base.specs.declared.numbers.ClassNo.{ClassNo}
+use Rattle.qvt_base.specs.declared.numbers.FeatureNo.{FeatureNo}
+use Rattle.qvt_meta.specs.declared.begin.Begin.{Begin}
+use Rattle.qvt_meta.specs.Metamodels.{among_features, each_once}
+use Rattle.qvt_meta.specs.Joined.{feature_on}
+use Rattle.qvt_meta.proofs.Bools.{ap2, not_true, clash, or_left, or_right}
+
+pub all-imply : {X : Type 0} (P Q : X → Type 0) (xs : List X) → ((x : X) → P x → Q x) → AllByRecursion P xs → AllByRecursion Q xs
+all-imply P Q [] f all = tt
+all-imply P Q (x ∷ xs) f all = (f x all.0, all-imply P Q xs f all.1)
+
+pub all-every : {X : Type 0} (P : X → Type 0) (xs : List X) → ((x : X) → P x) → AllByRecursion P xs
+all-every P [] f = tt
+all-every P (x ∷ xs) f = (f x, all-every P xs f)
+
+pub all-both : {X : Type 0} (P Q R : X → Type 0) (xs : List X) → ((x : X) → P x → Q x → R x) → AllByRecursion P xs → AllByRecursion Q xs → AllByRecursion R xs
+all-both P Q R [] f a b = tt
+all-both P Q R (x ∷ xs) f a b = (f x a.0 b.0, all-both P Q R xs f a.1 b.1)
+
+pub list_any-cong : {X : Type 0} (p q : X → Bool) (xs : List X) → AllByRecursion (λ x. p x ≡ q x) xs → list_any p xs ≡ list_any q xs
+list_any-cong p q [] all = refl
+list_any-cong p q (x ∷ xs) all = ap2 (λ a b. a || b) all.0 (list_any-cong p q xs all.1)
+
+pub list_any-map : {X Y : Type 0} (p : Y → Bool) (g : X → Y) (xs : List X) → list_any p (map g xs) ≡ list_any (λ x. p (g x)) xs
+list_any-map p g [] = refl
+list_any-map p g (x ∷ xs) = ap (λ b. p (g x) || b) (list_any-map p g xs)
+
+pub list_any-none : {X : Type 0} (p : X → Bool) (xs : List X) → AllByRecursion (λ x. p x ≡ false) xs → list_any p xs ≡ false
+list_any-none p [] all = refl
+list_any-none p (x ∷ xs) all = ap2 (λ a b. a || b) all.0 (list_any-none p xs all.1)
+
+pub flat_map-cong : {X Y : Type 0} (f g : X → List Y) (xs : List X) → AllByRecursion (λ x. f x ≡ g x) xs → flat_map f xs ≡ flat_map g xs
+flat_map-cong f g [] all = refl
+flat_map-cong f g (x ∷ xs) all = ap2 (λ a b. a ++ b) all.0 (flat_map-cong f g xs all.1)
+
+pub flat_map-map : {X Y Z : Type 0} (f : Y → List Z) (g : X → Y) (xs : List X) → flat_map f (map g xs) ≡ flat_map (λ x. f (g x)) xs
+flat_map-map f g [] = refl
+flat_map-map f g (x ∷ xs) = ap (λ l. f (g x) ++ l) (flat_map-map f g xs)
+
+pub map-flat_map : {X Y Z : Type 0} (g : Y → Z) (f : X → List Y) (xs : List X) → flat_map (λ x. map g (f x)) xs ≡ map g (flat_map f xs)
+map-flat_map g f [] = refl
+map-flat_map g f (x ∷ xs) = ap (λ l. map g (f x) ++ l) (map-flat_map g f xs) ∙ sym (map-append g (f x) (flat_map f xs))
+
+-- a fact of each number that stands in a list of classes
+pub all-found : (P : ℕ → Type 0) (xs : List ClassNo) → ((d : ℕ) → list_any (λ s. s.0 == d) xs ≡ true → P d) → AllByRecursion (λ s. P s.0) xs
+all-found P [] f = tt
+all-found P (x ∷ xs) f = (f x.0 (or_left (x.0 == x.0) (list_any (λ s. s.0 == x.0) xs) (eq-eqb x.0 x.0 refl)), all-found P xs (λ d h. f d (or_right (x.0 == d) (list_any (λ s. s.0 == d) xs) h)))
+
+pub eqb-add : (b x y : ℕ) → eqb (b + x) (b + y) ≡ eqb x y
+eqb-add b x y = by (eqb x y) refl
+  where
+    by : (t : Bool) → eqb x y ≡ t → eqb (b + x) (b + y) ≡ t
+    by true e = eq-eqb (b + x) (b + y) (let same : x ≡ y = eqb-true x y e in ap (λ z. b + z) same)
+    by false e = not_true (eqb (b + x) (b + y)) (λ h. clash (eq-eqb x y (let same : b + x ≡ b + y = eqb-true (b + x) (b + y) h in omega (arith, same))) e)
+
+pub among-on : (b : Begin) (f : ℕ) (gs : List FeatureNo) → among_features (b.feature + f) (map (feature_on b) gs) ≡ among_features f gs
+among-on b f [] = refl
+among-on b f (g ∷ gs) = ap2 (λ x y. x || y) (eqb-add b.feature g.0 f) (among-on b f gs)
+
+once_step : (b : Begin) (seen : List FeatureNo) (g : FeatureNo) (gs : List FeatureNo) (t : Bool)
+    → each_once (map (feature_on b) seen) (map (feature_on b) gs) ≡ map (feature_on b) (each_once seen gs)
+    → each_once (map (feature_on b) (seen ++ g ∷ [])) (map (feature_on b) gs) ≡ map (feature_on b) (each_once (seen ++ g ∷ []) gs)
+    → (if t then each_once (map (feature_on b) seen) (map (feature_on b) gs) else feature_on b g ∷ each_once (map (feature_on b) seen ++ feature_on b g ∷ []) (map (feature_on b) gs))
+    ≡ map (feature_on b) (if t then each_once seen gs else g ∷ each_once (seen ++ g ∷ []) gs)
+once_step b seen g gs true same more = same
+once_step b seen g gs false same more = ap (λ l. feature_on b g ∷ l) (ap (λ x. each_once x (map (feature_on b) gs)) (sym (map-append (feature_on b) seen (g ∷ []))) ∙ more)
+
+pub each_once-on : (b : Begin) (seen gs : List FeatureNo) → each_once (map (feature_on b) seen) (map (feature_on b) gs) ≡ map (feature_on b) (each_once seen gs)
+each_once-on b seen [] = refl
+each_once-on b seen (g ∷ gs) =
+    ap (λ t. if t then each_once (map (feature_on b) seen) (map (feature_on b) gs) else feature_on b g ∷ each_once (map (feature_on b) seen ++ feature_on b g ∷ []) (map (feature_on b) gs)) (among-on b g.0 seen)
+    ∙ once_step b seen g gs (among_features g.0 seen) (each_once-on b seen gs) (each_once-on b (seen ++ g ∷ []) gs)

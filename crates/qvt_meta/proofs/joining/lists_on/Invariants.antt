@@ -1,0 +1,10 @@
+use Rattle.std.proofs.Common.{◌≡◌, ◌+◌, ◌<◌, ◌^◌, ◌++◌, drop, map}
+use Rattle.std.specs.List.{AllByRecursion}
+use Rattle.qvt_meta.specs.Joined.{class_on, feature_on, class_info_on, feature_info_on, row_on, ClassesFit, FeaturesFit, ClassFits, FeatureFits}
+use Rattle.qvt_meta.proofs.joining.lists_on.Given as goal
+
+abbrev pub invariant-loop-list : goal.invariant-loop-list
+invariant-loop-list l = record {
+  built : l.all ++ map (map (feature_on l.begin)) (drop l.list-index l.lists) ≡ map (map (feature_on l.begin)) l.lists;
+  few : AllByRecursion (FeaturesFit l.begin) (drop l.list-index l.lists);
+}
