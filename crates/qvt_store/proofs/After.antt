@@ -20,6 +20,7 @@ use Rattle.qvt_store.specs.Types.{is_of_kind, is_of_type, IsAssignable}
 use Rattle.qvt_store.specs.Repeats.{new_list, without_repeats, same_value}
 use Rattle.qvt_store.specs.Assign.{instance_after, instances_after, store_after, change_to}
 use Rattle.qvt_store.specs.Law.{IsMade}
+use Rattle.qvt_store.specs.Ready.{IsFit}
 use Rattle.qvt_store.proofs.Lists.{past_end}
 use Rattle.qvt_store.proofs.Places.{list_of-absent, list_of-nil}
 use Rattle.qvt_store.proofs.Objects.{in_list}
@@ -107,11 +108,6 @@ holder_slot s x f y h = elim (either (is_slot s x f)) [
     | inl yes' ↦ yes'
     | inr no' ↦ clash false (sym (ap (λ l. has l y) (no_slot_empty s x f no')) ∙ h) refl
   ]
-
--- the slot is there, and the new items are of its type
-pub record IsFit (s : Contents) (o p : ℕ) (ws : List Value) : Type 0 where
-  pub slot : is_slot s o p ≡ true
-  pub types : list_all (is_of_type s p) ws ≡ true
 
 pub fit_of : (s : Contents) (o p : ℕ) (vs : List Value) → IsAssignable s o p vs → IsFit s o p (new_list s.metas p vs)
 fit_of s o p vs can = record { slot = and_both _ _ can.live can.feature; types = all-new_list s.metas p (is_of_type s p) vs can.types }

@@ -14,3 +14,13 @@ pub mod After
 pub mod Repeating
 pub mod SoundKept
 mod Vectors
+pub mod Holds
+pub mod Plans
+pub mod Walks
+pub mod Cycles
+pub mod Untouched
+pub mod Done
+pub mod CycleTests
+pub mod Refusals
+pub mod Moved
+pub mod Assigning

@@ -111,3 +111,13 @@ none_beyond others vs y l h was = refuted _ (λ some.
     let b : (has vs r.0 && not (has others r.0)) ≡ true = sym (beyond-is others vs r.0) ∙ r.1 in
     let same : r.0 ≡ y = one_object vs r.0 y l (and_left _ _ b) h in
     clash (has others y) was (subst (λ n. has others n ≡ false) same (not_true _ (and_right (has vs r.0) _ b))))
+
+-- where the other list holds all the objects, none is beyond it
+pub none_beyond_all : (others vs : List Value) → ((y : ℕ) → has vs y ≡ true → has others y ≡ true) → objects_beyond others vs ≡ []
+none_beyond_all others vs all = empty (objects_beyond others vs) (λ y. refuted _ (λ h.
+    let b : (has vs y && not (has others y)) ≡ true = sym (beyond-is others vs y) ∙ h in
+    clash _ (all y (and_left _ _ b)) (not_true _ (and_right (has vs y) _ b))))
+  where
+    empty : (os : List Oid) → ((y : ℕ) → among os y ≡ false) → os ≡ []
+    empty [] h = refl
+    empty (o ∷ os) h = clash (among (o ∷ os) o.0) (or_left _ _ ((Decides-eqb o.0 o.0).1 refl)) (h o.0)

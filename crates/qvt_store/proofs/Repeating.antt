@@ -1,5 +1,5 @@
 -- Lists that repeat no value, and the bounds of slots.
-use Rattle.std.proofs.Common.{◌≡◌, ℕ, ℤ, zero, suc, ◌+◌, ◌<◌, ◌≤◌, Bool, true, false, ◌||◌, ◌&&◌, ◌==◌, not, cond, ◌⊎◌, inl, inr, refl, sym, ap, ◌∙◌, subst, List, [], ◌∷◌, ◌++◌, length, take, get_or, arith}
+use Rattle.std.proofs.Common.{◌≡◌, ℕ, ℤ, zero, suc, ◌+◌, ◌<◌, ◌≤◌, Bool, true, false, ◌||◌, ◌&&◌, ◌==◌, not, cond, ◌⊎◌, inl, inr, refl, sym, ap, ◌∙◌, subst, List, [], ◌∷◌, ◌++◌, length, take, drop, get_or, arith}
 use Rattle.std.specs.Prelude.{Option, Some, None, filter, nat_lt}
 use Rattle.std.specs.Ordering.{int_eq}
 use Rattle.std.specs.List.{list_any}
@@ -103,3 +103,87 @@ repeats-with_object o vs r = go (has vs o) refl
     go : (b : Bool) → has vs o ≡ b → repeats (cond b vs (vs ++ object_value o ∷ [])) ≡ false
     go true e = r
     go false e = repeats-object vs o r e
+
+-- equal values are the same
+pub same_true : (v w : Value) → same_value v w ≡ true → v ≡ w
+same_true (BoolValue a) (BoolValue b) h = ap BoolValue ((booleans_Decides a b).0 h)
+same_true (BoolValue a) w h = cc
+same_true (IntValue a) (IntValue b) h = ap IntValue ((Decides-int_eq a b).0 h)
+same_true (IntValue a) w h = cc
+same_true (StrValue a) (StrValue b) h = ap StrValue ((bytes_eq-Decides a b).0 h)
+same_true (StrValue a) w h = cc
+same_true (EnumValue a) (EnumValue b) h =
+    let first : ((a.metamodel == b.metamodel) && (a.enumeration == b.enumeration)) ≡ true = and_left _ _ h in
+    let m : a.metamodel ≡ b.metamodel = (Decides-eqb a.metamodel b.metamodel).0 (and_left _ _ first) in
+    let e : a.enumeration ≡ b.enumeration = (Decides-eqb a.enumeration b.enumeration).0 (and_right (a.metamodel == b.metamodel) _ first) in
+    let l : a.literal ≡ b.literal = (Decides-eqb a.literal b.literal).0 (and_right ((a.metamodel == b.metamodel) && (a.enumeration == b.enumeration)) _ h) in
+    λ i. EnumValue (record { metamodel = m i; enumeration = e i; literal = l i })
+same_true (EnumValue a) w h = cc
+same_true (Obj x) (Obj y) h = ap (λ (n : ℕ). Obj (record { 0 = n })) (sym ((Decides-eqb y.0 x.0).0 h))
+same_true (Obj x) w h = cc
+same_true v w h = cc
+
+any-rest : (u v : Value) (vs : List Value) → same_value u v ≡ false → list_any (λ w. same_value w v) (filter (λ w. not (same_value u w)) vs) ≡ list_any (λ w. same_value w v) vs
+any-rest u v [] n = refl
+any-rest u v (x ∷ vs) n = go (same_value u x) refl (any-rest u v vs n)
+  where
+    go : (b : Bool) → same_value u x ≡ b → list_any (λ w. same_value w v) (filter (λ w. not (same_value u w)) vs) ≡ list_any (λ w. same_value w v) vs →
+        list_any (λ w. same_value w v) (cond (not b) (x ∷ filter (λ w. not (same_value u w)) vs) (filter (λ w. not (same_value u w)) vs)) ≡ (same_value x v || list_any (λ w. same_value w v) vs)
+    go true e ih = ih ∙ ap (λ b. b || list_any (λ w. same_value w v) vs) (sym (ap (λ z. same_value z v) (sym (same_true u x e)) ∙ n))
+    go false e ih = ap (λ b. same_value x v || b) ih
+
+pub any-without : (v : Value) (vs : List Value) → list_any (λ w. same_value w v) (without_repeats vs) ≡ list_any (λ w. same_value w v) vs
+any-without v [] = refl
+any-without v (u ∷ vs) = go (same_value u v) refl (any-without v vs)
+  where
+    go : (b : Bool) → same_value u v ≡ b → list_any (λ w. same_value w v) (without_repeats vs) ≡ list_any (λ w. same_value w v) vs →
+        (b || list_any (λ w. same_value w v) (filter (λ w. not (same_value u w)) (without_repeats vs))) ≡ (b || list_any (λ w. same_value w v) vs)
+    go true e ih = refl
+    go false e ih = any-rest u v (without_repeats vs) e ∙ ih
+
+no_more : (l : List Value) → l ++ [] ≡ l
+no_more [] = refl
+no_more (x ∷ l) = ap (λ t. x ∷ t) (no_more l)
+
+pub without-push : (vs : List Value) (v : Value) → without_repeats (vs ++ v ∷ []) ≡ cond (list_any (λ w. same_value w v) vs) (without_repeats vs) (without_repeats vs ++ v ∷ [])
+without-push [] v = refl
+without-push (u ∷ vs) v = ap (λ l. u ∷ filter (λ w. not (same_value u w)) l) (without-push vs v) ∙ go (same_value u v) (list_any (λ w. same_value w v) vs) refl
+  where
+    go : (a b : Bool) → same_value u v ≡ a → u ∷ filter (λ w. not (same_value u w)) (cond b (without_repeats vs) (without_repeats vs ++ v ∷ [])) ≡
+        cond (a || b) (u ∷ filter (λ w. not (same_value u w)) (without_repeats vs)) ((u ∷ filter (λ w. not (same_value u w)) (without_repeats vs)) ++ v ∷ [])
+    go true true e = refl
+    go false true e = refl
+    go true false e = ap (λ l. u ∷ l) (filter-append (λ w. not (same_value u w)) (without_repeats vs) (v ∷ []) ∙ ap (λ b. filter (λ w. not (same_value u w)) (without_repeats vs) ++ cond (not b) (v ∷ []) []) e ∙ no_more (filter (λ w. not (same_value u w)) (without_repeats vs)))
+    go false false e = ap (λ l. u ∷ l) (filter-append (λ w. not (same_value u w)) (without_repeats vs) (v ∷ []) ∙ ap (λ b. filter (λ w. not (same_value u w)) (without_repeats vs) ++ cond (not b) (v ∷ []) []) e)
+
+pub without_step : (vs : List Value) (i : ℕ) (d : Value) (list new : List Value) (b : Bool) → i < length vs → list ≡ without_repeats (take i vs) →
+    b ≡ list_any (λ w. same_value w (get_or vs i d)) list → new ≡ cond b list (list ++ get_or vs i d ∷ []) → new ≡ without_repeats (take (i + 1) vs)
+without_step vs i d list new b h so test is = is ∙ ap (λ t. cond t list (list ++ get_or vs i d ∷ [])) test
+    ∙ ap (λ l. cond (list_any (λ w. same_value w (get_or vs i d)) l) l (l ++ get_or vs i d ∷ [])) so
+    ∙ sym (ap without_repeats (take_more vs i d h) ∙ without-push (take i vs) (get_or vs i d)
+      ∙ ap (λ b. cond b (without_repeats (take i vs)) (without_repeats (take i vs) ++ get_or vs i d ∷ [])) (sym (any-without (get_or vs i d) (take i vs))))
+
+filter_none : (test : Value → Bool) (vs : List Value) → list_any test vs ≡ false → filter (λ w. not (test w)) vs ≡ vs
+filter_none test [] h = refl
+filter_none test (v ∷ vs) h = go (test v) (none_left (test v) _ h) (filter_none test vs (none_right (test v) _ h))
+  where
+    go : (b : Bool) → b ≡ false → filter (λ w. not (test w)) vs ≡ vs → cond (not b) (v ∷ filter (λ w. not (test w)) vs) (filter (λ w. not (test w)) vs) ≡ v ∷ vs
+    go true e ih = cc
+    go false e ih = ap (λ t. v ∷ t) ih
+
+-- a list that repeats no value is left as it is
+pub without_same : (vs : List Value) → repeats vs ≡ false → without_repeats vs ≡ vs
+without_same [] h = refl
+without_same (v ∷ vs) h = ap (λ l. v ∷ filter (λ w. not (same_value v w)) l) (without_same vs (none_right (list_any (same_value v) vs) _ h))
+    ∙ ap (λ t. v ∷ t) (filter_none (same_value v) vs (none_left _ _ h))
+
+pub repeats-drop : (vs : List Value) (i : ℕ) (d : Value) → i < length vs → repeats (drop i vs) ≡ (list_any (same_value (get_or vs i d)) (drop (i + 1) vs) || repeats (drop (i + 1) vs))
+repeats-drop vs i d h = ap repeats (drop-at vs i d h)
+  where
+    drop-at : (vs : List Value) (i : ℕ) (d : Value) → i < length vs → drop i vs ≡ get_or vs i d ∷ drop (i + 1) vs
+    drop-at [] i d h = absurd (omega arith)
+    drop-at (v ∷ vs) zero d h = refl
+    drop-at (v ∷ vs) (suc i) d h = drop-at vs i d (omega arith) ∙ ap (λ n. get_or vs i d ∷ drop n (v ∷ vs)) one_more
+      where
+        one_more : suc (i + 1) ≡ suc i + 1
+        one_more = omega arith

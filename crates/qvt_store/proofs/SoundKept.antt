@@ -30,7 +30,8 @@ use Rattle.qvt_store.proofs.Containers.{keeps_one_container}
 use Rattle.qvt_store.proofs.Cyclic.{Bounded, inside-cyclic}
 use Rattle.qvt_store.proofs.Typed.{all_kept}
 use Rattle.qvt_store.proofs.Repeating.{length-filter, fewer_fit, single_fits, repeats-filter, repeats-with_object, new_no_repeats}
-use Rattle.qvt_store.proofs.After.{IsFit, fit_of, all-filter, kind_of_object, features_always, holder_slot, slot-after, slots-after, live-after, class-after, extent-after}
+use Rattle.qvt_store.specs.Ready.{IsFit}
+use Rattle.qvt_store.proofs.After.{fit_of, all-filter, kind_of_object, features_always, holder_slot, slot-after, slots-after, live-after, class-after, extent-after}
 
 pub no_refusal : (a b d e : Bool) → cond a (Some TooMany) (cond b (Some ContainmentCycle) (cond d (Some ReadOnly) (cond e (Some CrossModel) None))) ≡ None →
     (a ≡ false) × (b ≡ false) × (d ≡ false) × (e ≡ false)
@@ -97,6 +98,33 @@ plain-new_list m p vs all = go (shape_of m p).unique
 pub fits_of : (c : Change) → is_too_many c ≡ false → FitsSingle c
 fits_of c e = record { single = λ one. single_fits (length c.items) (shape_of c.metas c.feature).upper one (none_left _ _ e) }
 
+module _ (s : Contents) (o p : ℕ) (ws : List Value) where
+  abbrev k : Change
+  k = change_to s o p ws
+
+  stays_unique : AreUnique s → (x f : ℕ) → (shape_of s.metas f).unique ≡ true → repeats (filter (keeps k x f) (k.slots x f)) ≡ false
+  stays_unique old x f u = repeats-filter (keeps k x f) (k.slots x f) (old.unique x f u)
+
+  pub unique_after : ((shape_of s.metas p).unique ≡ true → repeats ws ≡ false) → AreUnique s → (x f : ℕ) → (shape_of s.metas f).unique ≡ true → repeats (slot_after k x f) ≡ false
+  unique_after uniq old x f u = each_list k (λ l. repeats l ≡ false) x f
+      (λ at. uniq (subst (λ n. (shape_of s.metas n).unique ≡ true) (here k x f at).1 u))
+      (λ _. end_list k f (λ l. repeats l ≡ false) (filter (keeps k x f) (k.slots x f)) refl (repeats-with_object o (filter (keeps k x f) (k.slots x f)) (stays_unique old x f u)))
+      (stays_unique old x f u)
+
+  pub types_after : IsWellFormed s.metas → IsFit s o p ws → AreTyped s → (x f : ℕ) → list_all (is_of_type s f) (slot_after k x f) ≡ true
+  types_after well fit old x f = each_list k (λ l. list_all (is_of_type s f) l ≡ true) x f
+      (λ at. subst (λ n. list_all (is_of_type s n) ws ≡ true) (sym (here k x f at).1) fit.types)
+      (λ g. end_list k f (λ l. list_all (is_of_type s f) l ≡ true) stays (and_both _ _ (own_type g) refl)
+        (with_object_list o (λ l. list_all (is_of_type s f) l ≡ true) stays rest (all-push (is_of_type s f) stays (object_value o) rest (own_type g))))
+      rest
+    where
+      stays : List Value
+      stays = filter (keeps k x f) (k.slots x f)
+      rest : list_all (is_of_type s f) (filter (keeps k x f) (k.slots x f)) ≡ true
+      rest = all-filter (is_of_type s f) (keeps k x f) (k.slots x f) (old.types x f)
+      own_type : gains k x f ≡ true → is_of_type s f (object_value o) ≡ true
+      own_type g = kind_of_object s (shape_of s.metas f).kind o (and_left _ _ fit.slot) (well.opposite_has_type p f (class_of s o) (and_left _ _ g) (and_right (is_live s o) _ fit.slot))
+
 module _ (s : Contents) (o p : ℕ) (ws : List Value) (well : IsWellFormed s.metas) (named : AreNamed s) (fit : IsFit s o p ws) (plain : All IsPlain ws)
     (uniq : (shape_of s.metas p).unique ≡ true → repeats ws ≡ false) (sound : Sound s) (none : refusal_of s (change_to s o p ws) ≡ None) where
   abbrev c : Change
@@ -129,29 +157,6 @@ module _ (s : Contents) (o p : ℕ) (ws : List Value) (well : IsWellFormed s.met
           (λ g. clash _ g n)
           (fewer_fit _ _ (shape_of s.metas f).upper (length-filter (keeps c x f) (c.slots x f)) (sound.bounds x f))
     ]
-
-  stays_unique : (x f : ℕ) → (shape_of s.metas f).unique ≡ true → repeats (filter (keeps c x f) (c.slots x f)) ≡ false
-  stays_unique x f u = repeats-filter (keeps c x f) (c.slots x f) (sound.unique.unique x f u)
-
-  no_repeats : (x f : ℕ) → (shape_of s.metas f).unique ≡ true → repeats (slot_after c x f) ≡ false
-  no_repeats x f u = each_list c (λ l. repeats l ≡ false) x f
-      (λ at. uniq (subst (λ k. (shape_of s.metas k).unique ≡ true) (here c x f at).1 u))
-      (λ _. end_list c f (λ l. repeats l ≡ false) (filter (keeps c x f) (c.slots x f)) refl (repeats-with_object o (filter (keeps c x f) (c.slots x f)) (stays_unique x f u)))
-      (stays_unique x f u)
-
-  types : (x f : ℕ) → list_all (is_of_type s f) (slot_after c x f) ≡ true
-  types x f = each_list c (λ l. list_all (is_of_type s f) l ≡ true) x f
-      (λ at. subst (λ k. list_all (is_of_type s k) ws ≡ true) (sym (here c x f at).1) fit.types)
-      (λ g. end_list c f (λ l. list_all (is_of_type s f) l ≡ true) stays (and_both _ _ (own_type g) refl)
-        (with_object_list o (λ l. list_all (is_of_type s f) l ≡ true) stays rest (all-push (is_of_type s f) stays (object_value o) rest (own_type g))))
-      rest
-    where
-      stays : List Value
-      stays = filter (keeps c x f) (c.slots x f)
-      rest : list_all (is_of_type s f) (filter (keeps c x f) (c.slots x f)) ≡ true
-      rest = all-filter (is_of_type s f) (keeps c x f) (c.slots x f) (sound.typed.types x f)
-      own_type : gains c x f ≡ true → is_of_type s f (object_value o) ≡ true
-      own_type g = kind_of_object s (shape_of s.metas f).kind o (and_left _ _ fit.slot) (well.opposite_has_type p f (class_of s o) (and_left _ _ g) (and_right (is_live s o) _ fit.slot))
 
   all_plain : (x f : ℕ) → All IsPlain (slot_after c x f)
   all_plain x f = each_list c (λ l. All IsPlain l) x f
@@ -215,10 +220,10 @@ module _ (s : Contents) (o p : ℕ) (ws : List Value) (well : IsWellFormed s.met
     };
     features = features_always s';
     typed = record { types = λ x f. subst (λ (l : List Value). list_all (is_of_type s' f) l ≡ true) (sym (slot-after s o p ws well fit x f))
-        (all_kept s s' refl stays_live f (slot_after c x f) (types x f)) };
+        (all_kept s s' refl stays_live f (slot_after c x f) (types_after s o p ws well fit sound.typed x f)) };
     plain = λ x f. subst (λ (l : List Value). All IsPlain l) (sym (slot-after s o p ws well fit x f)) (all_plain x f);
     bounds = λ x f. subst (λ (l : List Value). is_beyond (length l) (shape_of s.metas f).upper ≡ false) (sym (slot-after s o p ws well fit x f)) (bound x f);
-    unique = record { unique = λ x f u. subst (λ (l : List Value). repeats l ≡ false) (sym (slot-after s o p ws well fit x f)) (no_repeats x f u) };
+    unique = record { unique = λ x f u. subst (λ (l : List Value). repeats l ≡ false) (sym (slot-after s o p ws well fit x f)) (unique_after s o p ws uniq sound.unique x f u) };
     opposites = subst (OppositesAgree s.metas) (sym (slots-after s o p ws well fit)) (keeps_opposites c made well fits sound.opposites);
     containers = subst (OneContainer s.metas) (sym (slots-after s o p ws well fit)) (keeps_one_container c made well fits sound.containers);
     outside_itself = λ x i. clash _ (inside-cyclic s.metas (slot_after c) (length s.objects) bounded x (subst (λ (t : Slots). Inside s.metas t x x) (slots-after s o p ws well fit) i)) causes.1;

@@ -9,3 +9,8 @@ pub mod Fault
 pub mod Assign
 pub mod Sound
 pub mod Law
+pub mod Walk
+pub mod Draft
+pub mod Writes
+pub mod Plan
+pub mod Ready

@@ -1,5 +1,5 @@
 -- Values of the types of features: Boolean, Integer, String, the literals of an enumeration, the objects of a class.
-use Rattle.std.specs.Prelude.{ℕ, Bool, true, false, ◌==◌, ◌&&◌, nat_lt, List, length, IsTrue, IsFalse, FitsSigned}
+use Rattle.std.specs.Prelude.{ℕ, Bool, true, false, ◌==◌, ◌&&◌, nat_lt, ◌≤◌, List, length, IsTrue, IsFalse, FitsSigned}
 use Rattle.std.specs.Int.{w64}
 use Rattle.std.specs.List.{list_all}
 use Rattle.std.specs.Str.{IsUtf8}
@@ -11,7 +11,7 @@ use Rattle.qvt_meta.specs.Metamodels.{Metamodels, shape_of, is_single, has_featu
 use Rattle.qvt_meta.specs.Named.{enumeration_at}
 use Rattle.qvt_meta.specs.Descends.{descends}
 use Rattle.qvt_store.specs.Slots.{is_object_with}
-use Rattle.qvt_store.specs.Contents.{Contents, is_live, class_of, slot_of}
+use Rattle.qvt_store.specs.Contents.{Contents, is_live, is_writable, class_of, slot_of}
 
 abbrev pub is_bool : Value → Bool
 is_bool (BoolValue b) = true
@@ -64,7 +64,9 @@ pub record IsAssignable (s : Contents) (o p : ℕ) (vs : List Value) : Type 0 wh
   pub feature : IsTrue (has_feature s.metas (class_of s o) p)
   pub types : IsTrue (list_all (is_of_type s p) vs)
 
--- the feature holds at most one value, which is no object
-pub record IsSingleAttribute (m : Metamodels) (p : ℕ) : Type 0 where
-  pub attribute : IsFalse (is_class_type (shape_of m p).kind)
-  pub single : IsTrue (is_single m p)
+-- the slot of a single attribute gets one value at most, in an extent that can be changed
+pub record IsAttributeChange (s : Contents) (o p : ℕ) (vs : List Value) : Type 0 where
+  pub attribute : IsFalse (is_class_type (shape_of s.metas p).kind)
+  pub single : IsTrue (is_single s.metas p)
+  pub few : length vs ≤ 1
+  pub writable : IsTrue (is_writable s o)

@@ -1,6 +1,6 @@
 //! Slots set in the cells of a store.
 
-ghost use Rattle.std.specs.Prelude.{◌≡◌, ◌<◌, length, IsTrue};
+ghost use Rattle.std.specs.Prelude.{◌≡◌, ◌<◌, length, IsTrue, IsFalse, IfNone, IfSome};
 ghost use Rattle.qvt_meta.specs.Metamodels.{has_feature, among_features};
 ghost use Rattle.qvt_store.specs.Cells.{HaveSlots, IsPut, IsPlaceOf, instance_in};
 
@@ -20,6 +20,19 @@ pub fn place_of(features: &[FeatureNo], feature: FeatureNo) -> usize
         }
     }
     unreachable!()
+}
+
+/// The place of a feature among those of a class, if it is there.
+pub fn find_place(features: &[FeatureNo], feature: FeatureNo) -> Option<usize>
+    ensures none { IfNone result (IsFalse (among_features feature.0 features.now)) }
+    ensures some { IfSome result (λ place. IsPlaceOf features.now feature.0 place) }
+{
+    for (i, known) in features.iter().enumerate() {
+        if known.0 == feature.0 {
+            return Some(i);
+        }
+    }
+    None
 }
 
 /// Sets one slot.

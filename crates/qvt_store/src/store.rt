@@ -2,23 +2,27 @@ ghost use Rattle.std.specs.Prelude.{◌≡◌, ◌<◌, ◌≤◌, [], length, I
 ghost use Rattle.qvt_store.specs.Slots.{Contains, has};
 ghost use Rattle.qvt_store.specs.Cells.{holder_in};
 ghost use Rattle.qvt_meta.specs.Metamodels.{has_feature, is_containment};
-ghost use Rattle.qvt_store.specs.Contents.{is_live, is_extent, is_writable, class_of, extent_of, slot_of, members_of, with_slot, with_new};
-ghost use Rattle.qvt_store.specs.Types.{IsAssignable, IsSingleAttribute};
+ghost use Rattle.qvt_store.specs.Contents.{is_live, is_extent, class_of, extent_of, slot_of, members_of, with_new};
 ghost use Rattle.qvt_store.specs.Members.{AreEmpty};
 ghost use Rattle.qvt_store.specs.Fault.{IsAddFault};
+
+mod assign;
+mod change;
+mod check;
+mod plan;
 
 use crate::add::{add_cell, empty_slots};
 use crate::cell::{Cell, Holder};
 use crate::extent::{Extent, ExtentList};
 use crate::fault::StoreFault;
-use crate::put::{place_of, put};
+use crate::put::{find_place, place_of};
 use qvt_base::copied::Copied;
 use qvt_base::list_fault::ListFault;
 use qvt_base::lists::OidList;
 use qvt_base::numbers::{ClassNo, FeatureNo, Oid};
 use qvt_base::seq::Seq;
 use qvt_meta::metas::Metas;
-use qvt_value::value::{Value, Values};
+use qvt_value::value::Value;
 use std::alloc::Global;
 use std::marker::Model;
 
@@ -120,6 +124,20 @@ impl Store {
         cell.slots[place].as_slice()
     }
 
+    /// The list of a slot, also of a pair that is no slot, which has none.
+    fn list(&self, object: Oid, feature: FeatureNo) -> &[Value]
+        ensures { result.now ≡ slot_of self.now object.0 feature.0 }
+    {
+        let at = object.0 as usize;
+        if at < self.cells.len() {
+            let cell = &self.cells[at];
+            if let Some(place) = find_place(self.metas.features(cell.class), feature) {
+                return cell.slots[place].as_slice();
+            }
+        }
+        &[]
+    }
+
     /// The containment slot that an object stands in.
     fn holder(&self, object: Oid) -> Option<Holder>
         ensures some { IfSome result (λ h. IsTrue (is_containment self.now.metas h.feature.0) × IsTrue (has (slot_of self.now h.object.0 h.feature.0) object.0)) }
@@ -143,28 +161,6 @@ impl Store {
             None => None,
             Some(holder) => Some(holder.object),
         }
-    }
-
-    /// Sets a slot of a feature that holds at most one value, which is no object. A refused call
-    /// changes nothing.
-    pub fn assign(
-        &mut self,
-        alloc: Global,
-        object: Oid,
-        feature: FeatureNo,
-        values: &[Value],
-    ) -> Result<(), StoreFault>
-        requires assignable { IsAssignable self.old object.0 feature.0 values.now }
-        requires attribute { IsSingleAttribute self.old.metas feature.0 }
-        requires one { length values.now ≤ 1 }
-        requires writable { IsTrue (is_writable self.old object.0) }
-        ensures ok { OnOk result (self.new ≡ with_slot self.old object.0 feature.0 values.now) }
-        ensures refused { IfErr result (λ fault. fault ≡ StoreFault.NoMemory) }
-        ensures err { OnErr result (self.new ≡ self.old) }
-    {
-        let items = copied(alloc, values)?;
-        put(&self.metas, &mut self.cells, object, feature, items);
-        Ok(())
     }
 
     /// Adds an object with empty slots, of a concrete class of the extent's metamodel. A refused
@@ -208,15 +204,4 @@ fn empty_lists(alloc: Global, extents: &[Extent]) -> Result<Vec<OidList>, ListFa
         lists.push(Seq::new(alloc))?;
     }
     Ok(lists.into_vec())
-}
-
-/// Copies of the values, in order.
-fn copied(alloc: Global, values: &[Value]) -> Result<Values, ListFault>
-    ensures { IfOk result (λ copies. copies ≡ values.now) }
-{
-    let mut copies = Seq::new(alloc);
-    for value in values {
-        copies.push(value.copy(alloc)?)?;
-    }
-    Ok(copies)
 }

@@ -1,0 +1,7 @@
+use Rattle.std.proofs.Common.{subst}
+use Rattle.qvt_store.specs.Contents.{Contents}
+use Rattle.qvt_store.specs.Ready.{IsKnown}
+use Rattle.qvt_store.proofs.store.Store.is_unique_feature.Goals as goal
+
+pub returns-clause-known : goal.returns-clause-known
+returns-clause-known c = subst IsKnown c.self.view_is (record { well_formed = c.self.invariant.whole.well_formed; acyclic = c.self.invariant.whole.acyclic; typed = c.self.invariant.typed })

@@ -1,0 +1,17 @@
+use Rattle.std.proofs.Common.{◌≡◌, ◌∙◌, sym, ap, subst, List, take, get_or, ℕ}
+use Rattle.std.proofs.lemmas.List.{take_all}
+use Rattle.qvt_base.specs.declared.numbers.Oid.{Oid}
+use Rattle.qvt_value.specs.declared.value.Value.{Value}
+use Rattle.qvt_store.specs.Draft.{drafted}
+use Rattle.qvt_store.specs.Contents.{slot_of}
+use Rattle.qvt_store.specs.Plan.{Plans, IsHeldSlot}
+use Rattle.qvt_store.proofs.Plans.{values_more}
+use Rattle.qvt_store.proofs.store.Store.plan_values.Goals as goal
+
+pub loop-value-preserved : goal.loop-value-preserved
+loop-value-preserved c = values_more c.args.self.now (drafted c.args.self.now c.args.draft.now) c.args.writes.now.items c.loop-value.writes.items c.plan_owner.new.writes.items
+    c.args.values.now c.loop-value.value-index c.args.draft.now.feature.0 c.value-item.result c.loop-value-test.true c.value-item.is c.loop-value.invariant c.in_ok-plan_owner.ensures
+
+pub returns : goal.returns
+returns c = subst (λ (l : List Value). Plans c.args.self.now (drafted c.args.self.now c.args.draft.now) c.args.writes.now.items c.loop-value.writes.items (IsHeldSlot l c.args.draft.now.feature.0))
+    (take_all c.loop-value.value-index c.args.values.now c.loop-value-test.false) c.loop-value.invariant

@@ -1,0 +1,44 @@
+-- What is known before a change is carried out.
+use Rattle.std.specs.Prelude.{◌≡◌, ℕ, List, IsTrue, IsFalse}
+use Rattle.std.specs.List.{list_all}
+use Rattle.qvt_base.specs.declared.numbers.Oid.{Oid}
+use Rattle.qvt_value.specs.declared.value.Value.{Value}
+use Rattle.qvt_meta.specs.Metamodels.{shape_of}
+use Rattle.qvt_store.specs.declared.commit.Write.{Write}
+use Rattle.qvt_store.specs.declared.draft.Draft.{Draft}
+use Rattle.qvt_store.specs.Change.{Change, slot_after, slot_elsewhere}
+use Rattle.qvt_store.specs.Contents.{Contents, is_slot, slot_of}
+use Rattle.qvt_store.specs.Types.{is_of_type, AreTyped}
+use Rattle.qvt_store.specs.Slots.{Inside}
+use Rattle.qvt_meta.specs.WellFormed.{IsWellFormed}
+use Rattle.qvt_store.specs.Repeats.{repeats}
+use Rattle.qvt_store.specs.Assign.{change_to}
+use Rattle.qvt_store.specs.Law.{FitsSingle}
+use Rattle.qvt_store.specs.Draft.{drafted, IsDraft}
+use Rattle.qvt_store.specs.Walk.{IsCyclic}
+use Rattle.qvt_store.specs.Writes.{released_of}
+use Rattle.qvt_store.specs.Plan.{IsPlan}
+
+-- the slot is there, and the new items are of its type
+pub record IsFit (s : Contents) (o p : ℕ) (ws : List Value) : Type 0 where
+  pub slot : IsTrue (is_slot s o p)
+  pub types : IsTrue (list_all (is_of_type s p) ws)
+
+pub record Ready (s : Contents) (d : Draft) (items : List Value) (ws : List Write) (released : List Oid) : Type 0 where
+  pub draft : IsDraft s d items
+  pub fit : IsFit s d.object.0 d.feature.0 items
+  pub single : FitsSingle (change_to s d.object.0 d.feature.0 items)
+  pub acyclic : IsCyclic s.metas (slot_after (change_to s d.object.0 d.feature.0 items)) → ⊥
+  pub unique : IsTrue (shape_of s.metas d.feature.0).unique → IsFalse (repeats items)
+  pub plan : IsPlan s (drafted s d) ws
+  pub is_released : released ≡ released_of s.metas (slot_of s) d ws
+
+-- what every store keeps, and a change relies on
+pub record IsKnown (s : Contents) : Type 0 where
+  pub well_formed : IsWellFormed s.metas
+  pub acyclic : (x : ℕ) → Inside s.metas (slot_of s) x x → ⊥
+  pub typed : AreTyped s
+
+-- the slots other than the changed one stay
+pub record StaysElsewhere (c : Change) : Type 0 where
+  pub stays : (x f : ℕ) → slot_elsewhere c x f ≡ c.slots x f

@@ -1,0 +1,142 @@
+//! Changes of slots, with all that follows for the other slots.
+
+ghost use Rattle.std.specs.Prelude.{◌≡◌, ◌≢◌, ◌++◌, Ok, Err, if◌then◌else◌, IfOk, IfErr, OnOk, OnErr};
+ghost use Rattle.qvt_store.specs.Change.{objects_beyond};
+ghost use Rattle.qvt_store.specs.Contents.{slot_of, with_slot};
+ghost use Rattle.qvt_meta.specs.Metamodels.{shape_of};
+ghost use Rattle.qvt_store.specs.Repeats.{without_repeats};
+ghost use Rattle.qvt_store.specs.Assign.{assign, change_to, store_after};
+ghost use Rattle.qvt_store.specs.Types.{IsAssignable, IsAttributeChange};
+ghost use Rattle.qvt_store.specs.Writes.{released_by, released_of};
+ghost use Rattle.qvt_store.specs.Ready.{IsKnown, Ready, StaysElsewhere};
+
+use crate::commit::{Write, settle};
+use crate::draft::Draft;
+use crate::fault::StoreFault;
+use crate::features::{is_containment, is_unique};
+use crate::put::put;
+use crate::store::Store;
+use crate::values::{copied, push_beyond, without_repeats};
+use qvt_base::list_fault::ListFault;
+use qvt_base::lists::OidList;
+use qvt_base::numbers::{FeatureNo, Oid};
+use qvt_base::seq::Seq;
+use qvt_value::value::{Value, Values};
+use std::alloc::Global;
+
+impl Store {
+    /// Puts the objects last that the write takes out of a containment slot, or leaves there.
+    fn release(&self, list: &mut OidList, write: &Write) -> Result<(), ListFault>
+        ensures { OnOk result (list.new ≡ list.old ++ released_by self.now.metas (slot_of self.now) write.now) }
+    {
+        if is_containment(&self.metas, write.feature) {
+            push_beyond(list, &[], self.list(write.object, write.feature))?;
+        }
+        Ok(())
+    }
+
+    /// The objects whose containment slots change.
+    fn released(
+        &self,
+        alloc: Global,
+        draft: &Draft,
+        writes: &[Write],
+    ) -> Result<OidList, ListFault>
+        ensures { IfOk result (λ list. list ≡ released_of self.now.metas (slot_of self.now) draft.now writes.now) }
+    {
+        let mut list = Seq::new(alloc);
+        if is_containment(&self.metas, draft.feature) {
+            list.extend(draft.removed.as_slice())?;
+        }
+        for write in writes {
+            self.release(&mut list, write)?;
+        }
+        Ok(list)
+    }
+
+    pub fn is_unique_feature(&self, feature: FeatureNo) -> bool
+        ensures value { result ≡ (shape_of self.now.metas feature.0).unique }
+        ensures known { IsKnown self.now }
+    {
+        is_unique(&self.metas, feature)
+    }
+
+    /// Carries out a change.
+    fn carry_out(&mut self, draft: &Draft, items: Values, writes: Vec<Write>, released: &[Oid])
+        requires { Ready self.old draft.now items writes.items released.now }
+        ensures after { self.new ≡ store_after self.old (change_to self.old draft.now.object.0 draft.now.feature.0 items) }
+        ensures plain { StaysElsewhere (change_to self.old draft.now.object.0 draft.now.feature.0 items) → self.new ≡ with_slot self.old draft.now.object.0 draft.now.feature.0 items }
+    {
+        put(
+            &self.metas,
+            &mut self.cells,
+            draft.object,
+            draft.feature,
+            items,
+        );
+        settle(&self.metas, &mut self.cells, draft, writes, released);
+    }
+
+    /// Sets a slot, with all that follows for the other slots: opposites and containers. The
+    /// refusals are judged on the store as it would be. After each of them, and for want of memory,
+    /// the store is unchanged. A single attribute in a writable extent is set alone, and refused only
+    /// for want of memory.
+    pub fn assign(
+        &mut self,
+        alloc: Global,
+        object: Oid,
+        feature: FeatureNo,
+        values: &[Value],
+    ) -> Result<(), StoreFault>
+        requires { IsAssignable self.old object.0 feature.0 values.now }
+        ensures ok { OnOk result (assign self.old object.0 feature.0 values.now ≡ Ok self.new) }
+        ensures refused { IfErr result (λ fault. fault ≢ StoreFault.NoMemory → assign self.old object.0 feature.0 values.now ≡ Err fault) }
+        ensures err { OnErr result (self.new ≡ self.old) }
+        ensures set { IsAttributeChange self.old object.0 feature.0 values.now → OnOk result (self.new ≡ with_slot self.old object.0 feature.0 values.now) }
+        ensures memory { IsAttributeChange self.old object.0 feature.0 values.now → IfErr result (λ fault. fault ≡ StoreFault.NoMemory) }
+    {
+        let unique = self.is_unique_feature(feature);
+        let items = new_list(alloc, unique, values)?;
+        let added = beyond(alloc, self.list(object, feature), items.as_slice())?;
+        let removed = beyond(alloc, items.as_slice(), self.list(object, feature))?;
+        let draft = Draft {
+            object,
+            feature,
+            added,
+            removed,
+        };
+        match self.check(alloc, &draft, items.len()) {
+            Err(fault) => return Err(fault),
+            Ok(()) => {}
+        }
+        if self.crosses(object, items.as_slice()) {
+            return Err(StoreFault::CrossModel);
+        }
+        let Ok(writes) = self.plan(alloc, &draft) else {
+            return Err(StoreFault::NoMemory);
+        };
+        let released = self.released(alloc, &draft, &writes)?;
+        self.carry_out(&draft, items, writes, released.as_slice());
+        Ok(())
+    }
+}
+
+/// The objects of the list that the other list does not hold.
+fn beyond(alloc: Global, others: &[Value], values: &[Value]) -> Result<OidList, ListFault>
+    ensures { IfOk result (λ list. list ≡ objects_beyond others.now values.now) }
+{
+    let mut list = Seq::new(alloc);
+    push_beyond(&mut list, others, values)?;
+    Ok(list)
+}
+
+/// The new list of a slot: in a unique one the first of equal values is kept.
+fn new_list(alloc: Global, unique: bool, values: &[Value]) -> Result<Values, ListFault>
+    ensures { IfOk result (λ list. list ≡ (if unique then without_repeats values.now else values.now)) }
+{
+    if unique {
+        without_repeats(alloc, values)
+    } else {
+        copied(alloc, values)
+    }
+}

@@ -1,0 +1,178 @@
+//! The refusals of a change.
+
+ghost use Rattle.std.specs.Prelude.{◌≡◌, ◌↔◌, IsTrue, IfOk, IfErr, OnOk};
+ghost use Rattle.std.specs.List.{list_any};
+ghost use Rattle.qvt_meta.specs.Metamodels.{opposite};
+ghost use Rattle.qvt_store.specs.Change.{among};
+ghost use Rattle.qvt_store.specs.Contents.{slot_of, is_live, extent_of, is_model, is_writable};
+ghost use Rattle.qvt_store.specs.Assign.{is_elsewhere, crosses};
+ghost use Rattle.qvt_store.specs.Draft.{drafted, overfills_elsewhere, is_overfilling, AddsLive, IsAllowed, IsEarlyFault};
+ghost use Rattle.qvt_store.specs.Walk.{ClosesCycle, IsOver, SomeOver, IsOverSome};
+ghost use Rattle.std.specs.Prelude.{ℕ};
+
+use crate::draft::Draft;
+use crate::fault::StoreFault;
+use crate::features::{is_beyond, is_container, is_containment, upper};
+use crate::store::Store;
+use crate::walk::is_under;
+use qvt_base::list_fault::ListFault;
+use qvt_base::numbers::{FeatureNo, Oid};
+use qvt_value::value::Value;
+use std::alloc::Global;
+
+impl Store {
+    fn overfills_at(
+        &self,
+        alloc: Global,
+        draft: &Draft,
+        opposite: Option<FeatureNo>,
+        added: Oid,
+    ) -> Result<bool, ListFault>
+        ensures { IfOk result (λ b. b ≡ overfills_elsewhere (drafted self.now draft.now) opposite added) }
+    {
+        match opposite {
+            None => Ok(false),
+            Some(back) => {
+                let list = self.list_elsewhere(alloc, draft, added, back)?;
+                Ok(is_beyond(list.len(), upper(&self.metas, back)))
+            }
+        }
+    }
+
+    fn overfills_any(&self, alloc: Global, draft: &Draft) -> Result<bool, ListFault>
+        ensures { IfOk result (λ b. b ≡ list_any (overfills_elsewhere (drafted self.now draft.now) (opposite self.now.metas draft.now.feature.0)) draft.now.added) }
+    {
+        let back = self.metas.opposite(draft.feature);
+        let objects = draft.added.as_slice();
+        for added in objects {
+            if self.overfills_at(alloc, draft, back, *added)? {
+                return Ok(true);
+            }
+        }
+        Ok(false)
+    }
+
+    /// Whether the new list, of so many items, or an opposite slot would pass its upper bound.
+    fn overfills(&self, alloc: Global, draft: &Draft, count: usize) -> Result<bool, ListFault>
+        ensures { IfOk result (λ b. b ≡ is_overfilling (drafted self.now draft.now) count) }
+    {
+        if is_beyond(count, upper(&self.metas, draft.feature)) {
+            return Ok(true);
+        }
+        let any = self.overfills_any(alloc, draft)?;
+        Ok(any)
+    }
+
+    /// Whether the object is one of these, or contains one of them.
+    fn is_over_some(&self, object: Oid, objects: &[Oid]) -> bool
+        requires { (y : ℕ) → IsTrue (among objects.now y) → IsTrue (is_live self.now y) }
+        ensures { IsTrue result ↔ IsOverSome self.now.metas (slot_of self.now) object.0 objects.now }
+    {
+        for item in objects {
+            if self.is_over(object, *item) {
+                return true;
+            }
+        }
+        false
+    }
+
+    fn is_over(&self, object: Oid, item: Oid) -> bool
+        requires { IsTrue (is_live self.now item.0) }
+        ensures { IsTrue result ↔ IsOver self.now.metas (slot_of self.now) object.0 item.0 }
+    {
+        is_under(&self.metas, &self.cells, &[object], item)
+    }
+
+    fn is_some_over(&self, objects: &[Oid], item: Oid) -> bool
+        requires { IsTrue (is_live self.now item.0) }
+        ensures { IsTrue result ↔ SomeOver self.now.metas (slot_of self.now) objects.now item.0 }
+    {
+        is_under(&self.metas, &self.cells, objects, item)
+    }
+
+    /// Whether an object would be inside itself.
+    fn closes_cycle(&self, draft: &Draft) -> bool
+        requires live { IsTrue (is_live self.now draft.now.object.0) }
+        requires added { AddsLive self.now (drafted self.now draft.now) }
+        ensures { IsTrue result ↔ ClosesCycle (drafted self.now draft.now) }
+    {
+        if is_containment(&self.metas, draft.feature) {
+            return self.is_some_over(draft.added.as_slice(), draft.object);
+        }
+        if is_container(&self.metas, draft.feature) {
+            return self.is_over_some(draft.object, draft.added.as_slice());
+        }
+        false
+    }
+
+    fn extent_or_first(&self, object: Oid) -> u32
+        ensures { result ≡ extent_of self.now object.0 }
+    {
+        let at = object.0 as usize;
+        if at < self.cells.len() {
+            self.cells[at].extent
+        } else {
+            0
+        }
+    }
+
+    fn is_writable(&self, object: Oid) -> bool
+        ensures { result ≡ is_writable self.now object.0 }
+    {
+        match self.extents.get(self.extent_or_first(object) as usize) {
+            Some(extent) => extent.writable,
+            None => false,
+        }
+    }
+
+    fn is_model(&self, extent: u32) -> bool
+        ensures { result ≡ is_model self.now extent }
+    {
+        match self.extents.get(extent as usize) {
+            Some(extent) => !extent.name.is_empty(),
+            None => false,
+        }
+    }
+
+    fn is_elsewhere(&self, object: Oid, value: &Value) -> bool
+        ensures { result ≡ is_elsewhere self.now object.0 value.now }
+    {
+        match value {
+            Value::Obj(item) => self.extent_or_first(*item) != self.extent_or_first(object),
+            _ => false,
+        }
+    }
+
+    /// Whether the object is in a model, and the list holds an object of another extent.
+    pub fn crosses(&self, object: Oid, values: &[Value]) -> bool
+        ensures { result ≡ crosses self.now object.0 values.now }
+    {
+        self.is_model(self.extent_or_first(object)) && self.holds_elsewhere(object, values)
+    }
+
+    /// Whether the list holds an object of another extent than the object's.
+    pub fn holds_elsewhere(&self, object: Oid, values: &[Value]) -> bool
+        ensures { result ≡ list_any (is_elsewhere self.now object.0) values.now }
+    {
+        values.iter().any(|value| self.is_elsewhere(object, value))
+    }
+
+    /// The refusals of a change but that of another model. The new list has so many items.
+    pub fn check(&self, alloc: Global, draft: &Draft, count: usize) -> Result<(), StoreFault>
+        requires live { IsTrue (is_live self.now draft.now.object.0) }
+        requires added { AddsLive self.now (drafted self.now draft.now) }
+        ensures ok { OnOk result (IsAllowed self.now (drafted self.now draft.now) count) }
+        ensures refused { IfErr result (λ fault. IsEarlyFault self.now (drafted self.now draft.now) count fault) }
+    {
+        if self.overfills(alloc, draft, count)? {
+            return Err(StoreFault::TooMany);
+        }
+        if self.closes_cycle(draft) {
+            return Err(StoreFault::ContainmentCycle);
+        }
+        if !self.is_writable(draft.object) {
+            return Err(StoreFault::ReadOnly);
+        }
+        Ok(())
+    }
+}
