@@ -1,5 +1,14 @@
 //! Models from and to JSON.
 #![tactic(auto)]
 
+mod dangling;
 pub mod data;
+mod forms;
+mod ids;
+mod items;
 pub mod laws;
+mod named;
+mod objects;
+mod places;
+pub mod read;
+mod slots;
