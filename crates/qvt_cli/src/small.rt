@@ -1,0 +1,6 @@
+//! The transformations that are run today: one metamodel, one output, and objects with literals.
+
+pub mod scan;
+pub mod token;
+
+
