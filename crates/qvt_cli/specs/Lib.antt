@@ -6,3 +6,5 @@ pub mod Words
 pub mod Plans
 pub mod Commands
 pub mod SmallTokens
+pub mod SmallText
+pub mod SmallRun

@@ -2,5 +2,6 @@
 
 pub mod scan;
 pub mod token;
-
-
+pub mod tokens;
+pub mod text;
+pub mod program;

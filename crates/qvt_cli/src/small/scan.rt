@@ -78,10 +78,14 @@ pub fn number_of(digits: &[u8]) -> Option<u64>
 {
     let mut number: u64 = 0;
     for digit in digits {
-        number = number * 10 + u64::from(digit.saturating_sub(48));
-        if number > 9223372036854775807 {
+        if number > 922337203685477580 {
             return None;
         }
+        let next = number * 10 + u64::from(digit.saturating_sub(48));
+        if next > 9223372036854775807 {
+            return None;
+        }
+        number = next;
     }
     Some(number)
 }
