@@ -1,5 +1,7 @@
+pub mod Extents
 pub mod IdSets
 pub mod Lists
+pub mod OwnIds
 pub mod Passes
 pub mod Sound
 pub mod Steps
