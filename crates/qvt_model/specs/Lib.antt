@@ -3,4 +3,5 @@ pub mod Reading
 pub mod WellFormed
 pub mod Written
 pub mod Extents
+pub mod Writing
 pub mod Laws

@@ -1,5 +1,5 @@
 ghost use Rattle.std.specs.Prelude.{◌≡◌, option_map};
-ghost use Rattle.qvt_meta.specs.Named.{class_named, feature_named, literal_named};
+ghost use Rattle.qvt_meta.specs.Named.{class_named, feature_named, literal_named, literal_at};
 
 use qvt_base::numbers::{ClassNo, FeatureNo};
 use qvt_meta::metas::Metas;
@@ -20,4 +20,10 @@ pub fn literal_named(metas: &Metas, metamodel: u32, enumeration: u32, name: &str
     ensures { result ≡ literal_named metas.now metamodel enumeration name.now }
 {
     None
+}
+
+pub fn literal_name(metas: &Metas, metamodel: u32, enumeration: u32, literal: u32) -> &str
+    ensures { result.now ≡ literal_at metas.now metamodel enumeration literal }
+{
+    ""
 }
