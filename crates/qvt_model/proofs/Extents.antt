@@ -86,7 +86,7 @@ order-insert m t (u ∷ us) a = by (order-insert m t us a.1) (slice_cmp nat_cmp 
     by rest Greater e = (after-insert m (name_of m u) t us e a.0, rest)
 
 module _ (s : Contents) (xs : List ℕ) (x : ℕ) where
-  onto-all : (P : SlotData → Type 0) (ts : List SlotData) (fs : List FeatureNo) → AllByRecursion (λ f. has_items (slot_in s xs x f) ≡ true → P (slot_in s xs x f)) fs → AllByRecursion P ts → AllByRecursion P (slots_onto s xs x ts fs)
+  pub onto-all : (P : SlotData → Type 0) (ts : List SlotData) (fs : List FeatureNo) → AllByRecursion (λ f. has_items (slot_in s xs x f) ≡ true → P (slot_in s xs x f)) fs → AllByRecursion P ts → AllByRecursion P (slots_onto s xs x ts fs)
   onto-all P ts [] h a = a
   onto-all P ts (f ∷ fs) h a = onto-all P (cond (has_items (slot_in s xs x f)) (insert_slot s.metas (slot_in s xs x f) ts) ts) fs h.1 (by (has_items (slot_in s xs x f)) refl)
     where
@@ -94,7 +94,7 @@ module _ (s : Contents) (xs : List ℕ) (x : ℕ) where
       by true e = insert-all s.metas P (slot_in s xs x f) ts (h.0 e) a
       by false e = a
 
-  onto-order : (ts : List SlotData) (fs : List FeatureNo) → AreInOrder s.metas ts → AreInOrder s.metas (slots_onto s xs x ts fs)
+  pub onto-order : (ts : List SlotData) (fs : List FeatureNo) → AreInOrder s.metas ts → AreInOrder s.metas (slots_onto s xs x ts fs)
   onto-order ts [] a = a
   onto-order ts (f ∷ fs) a = onto-order (cond (has_items (slot_in s xs x f)) (insert_slot s.metas (slot_in s xs x f) ts) ts) fs (by (has_items (slot_in s xs x f)))
     where
@@ -112,7 +112,7 @@ each-among : (fs : List FeatureNo) → AllByRecursion (λ f. among_features f.0 
 each-among [] = tt
 each-among (g ∷ fs) = (rw (eq-eqb g.0 g.0 refl) refl, All-weaken (λ f. among_features f.0 fs ≡ true) (λ f. among_features f.0 (g ∷ fs) ≡ true) (λ f h. or-right (g.0 == f.0) (among_features f.0 fs) h) fs (each-among fs))
 
-by_recursion : {X : Type 0} (P : X → Type 0) (ys : List X) → All P ys → AllByRecursion P ys
+pub by_recursion : {X : Type 0} (P : X → Type 0) (ys : List X) → All P ys → AllByRecursion P ys
 by_recursion P [] h = tt
 by_recursion P (y ∷ ys) h = (h zero y (omega arith), by_recursion P ys (λ i d lt. h (suc i) d (omega arith)))
 
@@ -120,7 +120,7 @@ all-passing : {X : Type 0} (p : X → Bool) (ys : List X) → list_all p ys ≡ 
 all-passing p [] e = tt
 all-passing p (y ∷ ys) e = let q = and_parts (p y) (list_all p ys) e in (q.0, all-passing p ys q.1)
 
-given-all : {X Y : Type 0} (h : X → Option Y) (P R : X → Type 0) (Q : Y → Type 0) → ((x : X) (y : Y) → h x ≡ Some y → P x → R x → Q y)
+pub given-all : {X Y : Type 0} (h : X → Option Y) (P R : X → Type 0) (Q : Y → Type 0) → ((x : X) (y : Y) → h x ≡ Some y → P x → R x → Q y)
     → (ys : List X) → AllByRecursion P ys → AllByRecursion R ys → AllByRecursion Q (filter_map h ys)
 given-all h P R Q step [] a b = tt
 given-all {Y = Y} h P R Q step (y ∷ ys) a b = by (given-all h P R Q step ys a.1 b.1) (h y) refl
@@ -139,10 +139,10 @@ given-fewer {Y = Y} h (y ∷ ys) = by (given-fewer h ys) (h y)
 
 -- ---- the objects of an extent
 
-abbrev IsMember : Contents → ℕ → ℕ → Type 0
+abbrev pub IsMember : Contents → ℕ → ℕ → Type 0
 IsMember s e x = (x < length s.objects) × (extent_of s x ≡ e)
 
-members-are : (s : Contents) (e n : ℕ) (rest : List Instance) → ((i : ℕ) → slice_index_or rest i no_instance ≡ slice_index_or s.objects (n + i) no_instance) → n + length rest ≡ length s.objects
+pub members-are : (s : Contents) (e n : ℕ) (rest : List Instance) → ((i : ℕ) → slice_index_or rest i no_instance ≡ slice_index_or s.objects (n + i) no_instance) → n + length rest ≡ length s.objects
     → AllByRecursion (IsMember s e) (numbers (members_from n rest e))
 members-are s e n [] same count = tt
 members-are s e n (o ∷ rest) same count =
@@ -155,7 +155,7 @@ members-are s e n (o ∷ rest) same count =
         ((omega (arith, count), ap (λ (p : Instance). p.extent) here ∙ eqb-true o.extent e is), more)
     by more false is = more
 
-members-few : (e n : ℕ) (rest : List Instance) → length (numbers (members_from n rest e)) ≤ length rest
+pub members-few : (e n : ℕ) (rest : List Instance) → length (numbers (members_from n rest e)) ≤ length rest
 members-few e n [] = omega arith
 members-few e n (o ∷ rest) = by (members-few e (suc n) rest) (o.extent == e)
   where
@@ -184,7 +184,7 @@ module _ (s : Contents) (xs : List ℕ) where
   ids-differ n [] fits = refl
   ids-differ n (y ∷ ys) fits = rw (ids-later n (suc n) ys (omega arith) (omega arith), ids-differ (suc n) ys (omega arith)) refl
 
-  ids-texts : (n : ℕ) (ys : List ℕ) → n + length ys < 2 ^ 64 → AllByRecursion (λ o. IsUtf8 o.id) (objects_from s xs n ys)
+  pub ids-texts : (n : ℕ) (ys : List ℕ) → n + length ys < 2 ^ 64 → AllByRecursion (λ o. IsUtf8 o.id) (objects_from s xs n ys)
   unfolding object_in
   ids-texts n [] fits = tt
   ids-texts n (y ∷ ys) fits = (IsUtf8-own_id n (omega arith), ids-texts (suc n) ys (omega arith))
@@ -194,7 +194,7 @@ module _ (s : Contents) (xs : List ℕ) where
   ids-forms n [] fits = tt
   ids-forms n (y ∷ ys) fits = (is_id-own_id n (omega arith), ids-forms (suc n) ys (omega arith))
 
-  all-objects : (P : ℕ → Type 0) (Q : ObjectData → Type 0) → ((n y : ℕ) → P y → Q (object_in s xs n y)) → (n : ℕ) (ys : List ℕ) → AllByRecursion P ys → AllByRecursion Q (objects_from s xs n ys)
+  pub all-objects : (P : ℕ → Type 0) (Q : ObjectData → Type 0) → ((n y : ℕ) → P y → Q (object_in s xs n y)) → (n : ℕ) (ys : List ℕ) → AllByRecursion P ys → AllByRecursion Q (objects_from s xs n ys)
   all-objects P Q step n [] a = tt
   all-objects P Q step n (y ∷ ys) a = (step n y a.0, all-objects P Q step (suc n) ys a.1)
 

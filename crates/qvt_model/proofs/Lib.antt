@@ -6,3 +6,4 @@ pub mod Passes
 pub mod Sound
 pub mod Steps
 pub mod Whole
+pub mod Writing

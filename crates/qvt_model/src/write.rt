@@ -1,13 +1,13 @@
-ghost use Rattle.std.specs.Prelude.{◌≡◌, ◌<◌, [], true, suc, length, map, option_map, IsTrue, IfOk, IfErr, OnOk};
+ghost use Rattle.std.specs.Prelude.{◌≡◌, [], suc, length, map, string_bytes, option_map, IsTrue, IfOk, IfErr, OnOk};
 ghost use Rattle.std.specs.List.{filter_map, AllByRecursion};
 ghost use Rattle.serde_json.specs.Data.{string, object, no_members, put};
 ghost use Rattle.serde_json.specs.View.{view, members_view};
-ghost use Rattle.qvt_meta.specs.Metamodels.{features_of};
+ghost use Rattle.qvt_meta.specs.Metamodels.{class_at, feature_at, features_of, has_feature};
 ghost use Rattle.qvt_store.specs.Contents.{class_of, extent_at, is_extent, is_live, is_model};
 ghost use Rattle.qvt_store.specs.Sound.{Sound};
-ghost use Rattle.qvt_model.specs.Extents.{numbers, data_of};
+ghost use Rattle.qvt_model.specs.Extents.{own_id, numbers, data_of};
 ghost use Rattle.qvt_model.specs.Written.{model_text};
-ghost use Rattle.qvt_model.specs.Writing.{id_at, value_written, head_of, list_value, slot_written, members_onto, object_written, objects_written, model_written, are_new};
+ghost use Rattle.qvt_model.specs.Writing.{value_written, values_written, head_of, list_value, slot_written, put_some, members_onto, object_written, objects_written, model_written, are_new};
 
 use crate::data::ModelFault;
 use crate::named::literal_name;
@@ -46,12 +46,12 @@ fn text_value(alloc: Global, text: &str) -> Result<Value, ListFault>
 
 /// The id of the object at this place, from 0: `o` and its position, from 1.
 #[tactic(auto, unfolding(crate::specs::Extents::own_id))]
-fn id_value(alloc: Global, place: usize) -> Result<Value, ListFault>
-    ensures { IfOk result (λ v. view v ≡ id_at place) }
+fn id_text(alloc: Global, place: usize) -> Result<String, ListFault>
+    ensures { IfOk result (λ text. string_bytes text ≡ own_id (suc place)) }
 {
     let position = place as u128 + 1;
     match format!(in alloc; "o{position}") {
-        Ok(text) => Ok(Value::String(text)),
+        Ok(text) => Ok(text),
         Err(_) => Err(ListFault::NoMemory),
     }
 }
@@ -74,7 +74,7 @@ fn value_written(
             Ok(Some(text_value(alloc, name)?))
         }
         Item::Obj(object) => match places.position(object.0) {
-            Some(place) => Ok(Some(id_value(alloc, place)?)),
+            Some(place) => Ok(Some(Value::String(id_text(alloc, place)?))),
             None => Ok(None),
         },
         Item::Null => Ok(None),
@@ -170,20 +170,83 @@ fn put_slot(
     Ok(())
 }
 
+/// Puts a slot among the members, if it is not empty.
+fn put_some(
+    alloc: Global,
+    name: &str,
+    value: Option<Value>,
+    members: &mut Map<String, Value>,
+) -> Result<(), ListFault>
+    ensures { OnOk result (members_view members.new.entries ≡ put_some name.now (option_map view value) (members_view members.old.entries)) }
+{
+    match value {
+        Some(value) => put_slot(alloc, name, value, members),
+        None => Ok(()),
+    }
+}
+
+/// The features of an object.
+fn features_of(store: &Store, owner: Oid) -> &[FeatureNo]
+    requires { IsTrue (is_live store.now owner.0) }
+    ensures { result.now ≡ features_of store.now.metas (class_of store.now owner.0) }
+{
+    store.metas().features(store.class_of(owner))
+}
+
+/// The name of an object's class.
+fn class_name_of(store: &Store, owner: Oid) -> &str
+    requires { IsTrue (is_live store.now owner.0) }
+    ensures { result.now ≡ (class_at store.now.metas (class_of store.now owner.0)).name }
+{
+    store.metas().class_name(store.class_of(owner))
+}
+
+/// The name of a feature.
+fn feature_name_of(store: &Store, feature: FeatureNo) -> &str
+    ensures { result.now ≡ (feature_at store.now.metas feature.0).name }
+{
+    store.metas().feature_name(feature)
+}
+
+/// What is written for a slot of an object.
+fn feature_written(
+    alloc: Global,
+    store: &Store,
+    places: &NumberSet,
+    owner: Oid,
+    feature: FeatureNo,
+) -> Result<Option<Value>, ListFault>
+    requires live { IsTrue (is_live store.now owner.0) }
+    requires there { IsTrue (has_feature store.now.metas (class_of store.now owner.0) feature.0) }
+    ensures { IfOk result (λ o. option_map view o ≡ slot_written store.now.metas feature (values_written store.now places.now owner.0 feature)) }
+{
+    slot_written(alloc, store.metas(), places, feature, store.slot(owner, feature))
+}
+
+/// What is written for the slots of an object, by the names of the features.
+fn members_written(
+    alloc: Global,
+    store: &Store,
+    places: &NumberSet,
+    owner: Oid,
+) -> Result<Map<String, Value>, ListFault>
+    requires { IsTrue (is_live store.now owner.0) }
+    ensures { IfOk result (λ ms. members_view ms.entries ≡ members_onto store.now places.now owner.0 no_members (features_of store.now.metas (class_of store.now owner.0))) }
+{
+    let mut members = Map::new(alloc);
+    for feature in features_of(store, owner) {
+        let value = feature_written(alloc, store, places, owner, *feature)?;
+        put_some(alloc, feature_name_of(store, *feature), value, &mut members)?;
+    }
+    Ok(members)
+}
+
 /// What is written for the slots of an object.
 fn slots_written(alloc: Global, store: &Store, places: &NumberSet, owner: Oid) -> Result<Value, ListFault>
     requires { IsTrue (is_live store.now owner.0) }
     ensures { IfOk result (λ v. view v ≡ object (members_onto store.now places.now owner.0 no_members (features_of store.now.metas (class_of store.now owner.0)))) }
 {
-    let metas = store.metas();
-    let mut members = Map::new(alloc);
-    for feature in metas.features(store.class_of(owner)) {
-        let values = store.slot(owner, *feature);
-        if let Some(value) = slot_written(alloc, metas, places, *feature, values)? {
-            put_slot(alloc, metas.feature_name(*feature), value, &mut members)?;
-        }
-    }
-    Ok(Value::Object(members))
+    Ok(Value::Object(members_written(alloc, store, places, owner)?))
 }
 
 /// What is written for the object at this place, from 0.
@@ -197,10 +260,9 @@ fn object_written(
     requires { IsTrue (is_live store.now owner.0) }
     ensures { IfOk result (λ v. view v ≡ object_written store.now places.now (suc place) owner.0) }
 {
-    let class = store.metas().class_name(store.class_of(owner));
-    let id = id_value(alloc, place)?;
+    let id = id_text(alloc, place)?;
     let slots = slots_written(alloc, store, places, owner)?;
-    match json!(in alloc; {"class": class, "id": id, "slots": slots}) {
+    match json!(in alloc; {"class": class_name_of(store, owner), "id": id.as_str(), "slots": slots}) {
         Ok(value) => Ok(value),
         Err(_) => Err(ListFault::NoMemory),
     }

@@ -2,7 +2,7 @@ use Rattle.std.proofs.Common.{◌≡◌, drop}
 use Rattle.serde_json.specs.Data.{no_members}
 use Rattle.serde_json.specs.View.{members_view}
 use Rattle.qvt_model.specs.Writing.{members_onto}
-use Rattle.qvt_model.proofs.write.slots_written.Given as goal
+use Rattle.qvt_model.proofs.write.members_written.Given as goal
 
 abbrev pub invariant-loop-feature : goal.invariant-loop-feature
 invariant-loop-feature l =
