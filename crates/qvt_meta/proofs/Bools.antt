@@ -25,3 +25,17 @@ or_left false b p = absurd (cc)
 pub or_right : (a b : Bool) → b ≡ true → (a || b) ≡ true
 or_right true b p = refl
 or_right false b p = p
+
+pub clash : {A : Type 0} {b : Bool} → b ≡ true → b ≡ false → A
+clash {A} {b} t f = absurd (cc)
+
+pub not_true : (b : Bool) → (b ≡ true → ⊥) → b ≡ false
+not_true true h = absurd (h refl)
+not_true false h = refl
+
+pub and_no : (a b : Bool) → b ≡ false → (a && b) ≡ false
+and_no true b h = h
+and_no false b h = refl
+
+pub ap2 : {X Y Z : Type 0} (f : X → Y → Z) {a c : X} {b d : Y} → a ≡ c → b ≡ d → f a b ≡ f c d
+ap2 f p q = λ i. f (p i) (q i)

@@ -1,14 +1,18 @@
 //! A metamodel's data as numbered data.
 
-ghost use Rattle.std.specs.Prelude.{◌≡◌, ◌+◌, ◌<◌, ◌≤◌, ◌^◌, ℕ, List, length, map, take, slice_index, IfOk, OnOk, ◌++◌, option_map, position, IfSome};
+ghost use Rattle.std.specs.Prelude.{◌≡◌, ◌+◌, ◌<◌, ◌≤◌, ◌^◌, ℕ, List, length, map, take, slice_index, IfOk, OnOk, ◌++◌, option_map, position, IfSome, [], None};
 ghost use Rattle.std.specs.Str.{bytes_eq};
 ghost use Rattle.qvt_meta.specs.MetaData.{feature_names};
-ghost use Rattle.qvt_meta.specs.Places.{ArePlaces};
+ghost use Rattle.qvt_meta.specs.Places.{ArePlaces, firsts_of};
+ghost use Rattle.qvt_meta.specs.Names.{repeated};
+ghost use Rattle.qvt_meta.specs.Checked.{IsChecked};
 ghost use Rattle.qvt_meta.specs.Added.{declared_at, place_in, kind_of, feature_count, feature_number, feature_info, feature_infos, numbers_from, class_info, class_infos, names_of};
 
 use crate::begin::Begin;
 use crate::declared::{DeclaredClass, DeclaredFeature};
-use crate::info::{ClassInfo, FeatureInfo, FeatureShape, TypeKind};
+use crate::info::{ClassInfo, EnumInfo, FeatureInfo, FeatureShape, MetamodelInfo, TypeKind};
+use crate::meta::{Meta, MetaParts};
+use crate::names::names_of as distinct_names;
 use indexmap::IndexSet;
 use qvt_base::copied::Copied;
 use qvt_base::list_fault::ListFault;
@@ -163,7 +167,7 @@ fn own_place(classes: &[DeclaredClass], class: usize, name: &Text) -> usize
 }
 
 /// The number of the feature of this name that the class at a place declares.
-#[tactic(auto, using(crate::proofs::Counts::count_within))]
+#[tactic(auto, using(crate::proofs::Counts::firsts_length))]
 fn feature_number(
     begin: Begin,
     places: &Places,
@@ -269,4 +273,89 @@ pub fn feature_infos(
         owner += 1;
     }
     Ok(infos.into_vec())
+}
+
+/// How many features stand before those of each class, and before the end.
+fn firsts(alloc: Global, classes: &[DeclaredClass]) -> Result<Vec<u32>, ListFault>
+    requires { feature_count classes.now < 2 ^ 32 }
+    ensures { IfOk result (λ v. v.items ≡ firsts_of 0 classes.now) }
+{
+    let mut firsts = Seq::new(alloc);
+    let mut count = 0;
+    for class in classes {
+        firsts.push(count)?;
+        count += class.features.len() as u32;
+    }
+    firsts.push(count)?;
+    Ok(firsts.into_vec())
+}
+
+/// Where the names of these are, no two of which are the same.
+pub fn places_of(
+    alloc: Global,
+    enums: &[EnumInfo],
+    classes: &[DeclaredClass],
+) -> Result<Places, ListFault>
+    requires enums { repeated [] (map (λ e. e.name) enums.now) ≡ None }
+    requires classes { repeated [] (names_of classes.now) ≡ None }
+    requires few { feature_count classes.now < 2 ^ 32 }
+    ensures enums { IfOk result (λ p. p.enums.keys ≡ map (λ e. e.name) enums.now) }
+    ensures classes { IfOk result (λ p. p.classes.keys ≡ names_of classes.now) }
+    ensures firsts { IfOk result (λ p. p.firsts.items ≡ firsts_of 0 classes.now) }
+{
+    Ok(Places {
+        enums: distinct_names(alloc, enums)?,
+        classes: distinct_names(alloc, classes)?,
+        firsts: firsts(alloc, classes)?,
+    })
+}
+
+/// The features that each class declares itself.
+pub fn own_lists(alloc: Global, classes: &[ClassInfo]) -> Result<Vec<FeatureNoList>, ListFault>
+    ensures { IfOk result (λ v. v.items ≡ map (λ k. k.own) classes.now) }
+{
+    let mut lists = Seq::new(alloc);
+    for class in classes {
+        lists.push(class.own.copy(alloc)?)?;
+    }
+    Ok(lists.into_vec())
+}
+
+/// A metamodel's data with its numbers.
+#[derive(Debug, Drop)]
+pub struct Numbered {
+    pub metamodel: MetamodelInfo,
+    pub classes: Vec<ClassInfo>,
+    pub features: Vec<FeatureInfo>,
+    pub lists: Vec<FeatureNoList>,
+}
+
+/// Numbers a metamodel's data from these numbers on.
+pub fn with_numbers(alloc: Global, begin: Begin, meta: Meta) -> Result<Numbered, ListFault>
+    requires few_enums { length meta.enums < 2 ^ 32 }
+    requires few_classes { begin.class + length meta.classes < 2 ^ 32 }
+    requires few_features { begin.feature + feature_count meta.classes < 2 ^ 32 }
+    ensures metamodel { IfOk result (λ n. n.metamodel ≡ record { name = meta.name; uri = meta.uri; enums = meta.enums }) }
+    ensures classes { IfOk result (λ n. n.classes.items ≡ class_infos begin (names_of meta.classes) begin.feature meta.classes) }
+    ensures features { IfOk result (λ n. n.features.items ≡ feature_infos begin (map (λ e. e.name) meta.enums) meta.classes begin.class meta.classes) }
+    ensures lists { IfOk result (λ n. n.lists.items ≡ map (λ k. k.own) n.classes.items) }
+    ensures checked { IsChecked meta }
+{
+    let parts = meta.into_parts();
+    let places = places_of(alloc, parts.enums.as_slice(), parts.classes.as_slice())?;
+    let classes = class_infos(alloc, begin, &places.classes, parts.classes.as_slice())?;
+    let features = feature_infos(alloc, begin, &places, parts.classes.as_slice())?;
+    let lists = own_lists(alloc, classes.as_slice())?;
+    let MetaParts {
+        name,
+        uri,
+        enums,
+        ..
+    } = parts;
+    Ok(Numbered {
+        metamodel: MetamodelInfo { name, uri, enums },
+        classes,
+        features,
+        lists,
+    })
 }

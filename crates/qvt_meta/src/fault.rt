@@ -1,5 +1,6 @@
 use qvt_base::list_fault::ListFault;
 use qvt_base::text::Text;
+use std::alloc::AllocFailed;
 
 /// Why a metamodel's file is refused.
 #[derive(Debug, Drop)]
@@ -37,6 +38,17 @@ impl From<ListFault> for MetasFault {
     ghost from_gives = { λ _ e. e ≡ NoMemory };
 
     fn from(_: ListFault) -> MetasFault {
+        MetasFault::NoMemory
+    }
+}
+
+impl<T: Drop> From<AllocFailed<T>> for MetasFault {
+    ghost use Rattle.std.specs.Prelude.{◌≡◌};
+    ghost use Rattle.qvt_meta.specs.declared.fault.MetasFault.TheVariants.{NoMemory};
+
+    ghost from_gives = { λ _ e. e ≡ NoMemory };
+
+    fn from(_: AllocFailed<T>) -> MetasFault {
         MetasFault::NoMemory
     }
 }

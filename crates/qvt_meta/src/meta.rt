@@ -74,3 +74,36 @@ pub fn read_meta(alloc: Global, bytes: &[u8]) -> Result<Meta, MetaFault>
     }
     Ok(checked(name, uri, enums, classes))
 }
+
+/// The parts of a metamodel.
+#[derive(Debug, Drop)]
+pub struct MetaParts {
+    pub name: Text,
+    pub uri: Option<Text>,
+    pub enums: Seq<EnumInfo>,
+    pub classes: Seq<DeclaredClass>,
+}
+
+impl Meta {
+    ghost use Rattle.qvt_meta.specs.Checked.{IsChecked};
+    ghost use Rattle.qvt_meta.specs.MetaData.{MetaData};
+
+    /// Takes the metamodel apart.
+    pub fn into_parts(self) -> MetaParts
+        ensures parts { record { name = result.name; uri = result.uri; enums = result.enums; classes = result.classes } ≡ self }
+        ensures checked { IsChecked self }
+    {
+        let Meta {
+            name,
+            uri,
+            enums,
+            classes,
+        } = self;
+        MetaParts {
+            name,
+            uri,
+            enums,
+            classes,
+        }
+    }
+}

@@ -1,6 +1,6 @@
 //! Collections made of lists (OCL 2.4, 11.6).
 
-ghost use Rattle.std.specs.Prelude.{◌≡◌, ◌≤◌, false, length, IfOk, List, []};
+ghost use Rattle.std.specs.Prelude.{◌≡◌, ◌≢◌, ◌≤◌, false, length, IfOk, IsOk, List, []};
 ghost use Rattle.std.specs.List.{list_any};
 ghost use Rattle.indexmap.specs.IndexSet.{insert_all};
 ghost use Rattle.qvt_value.specs.contracts.value.ValuePartialEq.TheImpl.{ghosts};
@@ -24,6 +24,7 @@ pub fn make(alloc: Global, kind: Kind, items: Values) -> Result<Value, ValueFaul
     requires none_invalid { list_any is_invalid items ≡ false }
     ensures keeps { IfOk result (λ v. (ys : List Value) × (v ≡ Value.Coll kind ys) × IsMade kind items ys) }
     ensures is { IfOk result (λ v. v ≡ Value.Coll kind (made kind items)) }
+    ensures memory { kind ≢ Kind.OrderedSet → IsOk result }
 {
     let items = match kind {
         Kind::Set => in_order_once(items),
@@ -90,11 +91,11 @@ mod tests {
     }
 
     fn collection(alloc: Global, kind: Kind, numbers: &[i64]) -> Result<Value, ListFault> {
-        let mut items = Seq::new(alloc);
+        let mut kept = Seq::new(alloc);
         for number in numbers {
-            items.push(Value::Int(*number))?;
+            kept.push(Value::Int(*number))?;
         }
-        Ok(Value::Coll(kind, items))
+        Ok(Value::Coll(kind, kept))
     }
 
     #[test]
