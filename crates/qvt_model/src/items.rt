@@ -8,7 +8,6 @@ ghost use Rattle.qvt_model.specs.Reading.{class_at_place, ref_of, literal_in, da
 ghost use Rattle.qvt_model.specs.WellFormed.{IsPlainDatum};
 
 use crate::data::{Datum, DatumList};
-use crate::named::literal_named;
 use crate::places::Places;
 use qvt_base::list_fault::ListFault;
 use qvt_base::numbers::{ClassNo, FeatureNo};
@@ -50,17 +49,30 @@ fn ref_of(metas: &Metas, places: &Places, class: ClassNo, id: &str) -> Option<Da
     None
 }
 
-/// The literal of this name.
-fn literal_of(metas: &Metas, metamodel: u32, enumeration: u32, value: &Value) -> Option<Datum>
-    ensures { result ≡ option_map (literal_in metamodel enumeration) (option_and_then (literal_named metas.now metamodel enumeration) (as_str (view value.now))) }
+/// The literal of this name. One whose number passes 32 bits has no room.
+fn literal_of(
+    metas: &Metas,
+    metamodel: u32,
+    enumeration: u32,
+    value: &Value,
+) -> Result<Option<Datum>, ListFault>
+    ensures value { IfOk result (λ o. o ≡ option_map (literal_in metamodel enumeration) (option_and_then (literal_named metas.now metamodel enumeration) (as_str (view value.now)))) }
+    ensures plain { IfOk result (λ o. IfSome o IsPlainDatum) }
 {
-    let name = value.as_str()?;
-    let literal = literal_named(metas, metamodel, enumeration, name)?;
-    Some(Datum::Literal(LiteralRef {
+    let Some(name) = value.as_str() else {
+        return Ok(None);
+    };
+    let Some(place) = metas.literal_place(metamodel, enumeration, name) else {
+        return Ok(None);
+    };
+    if place > u32::MAX as usize {
+        return Err(ListFault::NoMemory);
+    }
+    Ok(Some(Datum::Literal(LiteralRef {
         metamodel,
         enumeration,
-        literal,
-    }))
+        literal: place as u32,
+    })))
 }
 
 /// The item of a type that the value is.
@@ -89,7 +101,7 @@ fn datum_of(
             Some(text) => Ok(Some(Datum::Str(Text::from_str(alloc, text)?))),
             None => Ok(None),
         },
-        TypeKind::Enum(metamodel, enumeration) => Ok(literal_of(metas, metamodel, enumeration, value)),
+        TypeKind::Enum(metamodel, enumeration) => literal_of(metas, metamodel, enumeration, value),
         TypeKind::Class(class) => match value.as_str() {
             Some(id) => Ok(ref_of(metas, places, class, id)),
             None => Ok(None),

@@ -4,10 +4,10 @@
 mod dangling;
 pub mod data;
 mod forms;
+pub mod id_table;
 mod ids;
 mod items;
 pub mod laws;
-mod named;
 mod numbers;
 mod objects;
 mod places;

@@ -7,7 +7,6 @@ ghost use Rattle.qvt_model.specs.WellFormed.{IsPlainSlot, IsPlainObject};
 
 use crate::data::{ModelFault, ObjectData, ObjectList, SlotList};
 use crate::ids::IdSet;
-use crate::named::class_named;
 use crate::places::Places;
 use crate::slots::{features_known, slots_of};
 use qvt_base::lists::ClassNoList;
@@ -39,7 +38,7 @@ pub fn distinct_ids(alloc: Global, items: &Vec<Value>) -> Result<IdSet, ModelFau
 fn class_of(alloc: Global, metas: &Metas, metamodel: u32, item: &Value) -> Result<ClassNo, ModelFault>
     ensures { Gives ModelFault.NoMemory (λ c. c) result (class_of metas.now metamodel (view item.now)) }
 {
-    match class_named(metas, metamodel, text_or(item, "class")) {
+    match metas.class(metamodel, text_or(item, "class")) {
         Some(class) => Ok(class),
         None => Err(ModelFault::UnknownClass(Text::from_str(alloc, text_or(item, "id"))?)),
     }

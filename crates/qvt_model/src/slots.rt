@@ -7,7 +7,6 @@ ghost use Rattle.qvt_model.specs.WellFormed.{IsPlainDatum, IsPlainSlot};
 
 use crate::data::{ModelFault, SlotData, SlotList};
 use crate::items::items_of;
-use crate::named::feature_named;
 use crate::places::Places;
 use qvt_base::numbers::{ClassNo, FeatureNo};
 use qvt_base::text::Text;
@@ -26,7 +25,7 @@ fn feature_of(
 ) -> Result<FeatureNo, ModelFault>
     ensures { Gives ModelFault.NoMemory (λ f. f) result (feature_of metas.now class id.now name.now) }
 {
-    match feature_named(metas, class, name) {
+    match metas.feature(class, name) {
         Some(feature) => Ok(feature),
         None => Err(ModelFault::UnknownFeature(Text::from_str(alloc, id)?)),
     }

@@ -10,7 +10,6 @@ ghost use Rattle.qvt_model.specs.Written.{model_text};
 ghost use Rattle.qvt_model.specs.Writing.{value_written, values_written, head_of, list_value, slot_written, put_some, members_onto, object_written, objects_written, model_written, are_new};
 
 use crate::data::ModelFault;
-use crate::named::literal_name;
 use crate::numbers::NumberSet;
 use qvt_base::list_fault::ListFault;
 use qvt_base::lists::Bytes;
@@ -70,7 +69,7 @@ fn value_written(
         Item::Int(number) => Ok(Some(Value::from(*number))),
         Item::Str(text) => Ok(Some(text_value(alloc, text.as_str())?)),
         Item::Enum(l) => {
-            let name = literal_name(metas, l.metamodel, l.enumeration, l.literal);
+            let name = metas.literal_name(l.metamodel, l.enumeration, l.literal);
             Ok(Some(text_value(alloc, name)?))
         }
         Item::Obj(object) => match places.position(object.0) {
