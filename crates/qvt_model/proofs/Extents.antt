@@ -247,8 +247,8 @@ module _ (s : Contents) (e : ℕ) (store : IsStore s) (sound : Sound s) where
     own = own;
     some = ltb-true 0 (length (slot_in s xs x f).items) some;
     items = given-all (datum_in xs) (λ v. is_of_type s f.0 v ≡ true) IsPlain (IsItem s.metas os (shape_of s.metas f.0).kind)
-      (λ v y e t p. value-item s xs os (count-objects s xs 1 xs) (λ i lt. class-there s xs 1 xs i lt) (shape_of s.metas f.0).kind v y e t p)
-      (slot_of s x f.0) (all-passing (is_of_type s f.0) (slot_of s x f.0) (sound.typed.types x f.0)) (by_recursion IsPlain (slot_of s x f.0) (sound.plain x f.0));
+        (λ v y e t p. value-item s xs os (count-objects s xs 1 xs) (λ i lt. class-there s xs 1 xs i lt) (shape_of s.metas f.0).kind v y e t p)
+        (slot_of s x f.0) (all-passing (is_of_type s f.0) (slot_of s x f.0) (sound.typed.types x f.0)) (by_recursion IsPlain (slot_of s x f.0) (sound.plain x f.0));
   }
 
   is-object : (n x : ℕ) → IsMember s e x → IsObject s.metas (extent_at s e).metamodel os (object_in s xs n x)
@@ -260,14 +260,16 @@ module _ (s : Contents) (e : ℕ) (store : IsStore s) (sound : Sound s) where
         class = store.classes x live;
         metamodel = (sound.classes x live).metamodel ∙ ap (λ k. (extent_at s k).metamodel) h.1;
         slots = onto-all s xs x (IsSlot s.metas os (class_of s x)) [] features
-          (All-weaken (λ f. among_features f.0 features ≡ true) (λ f. has_items (slot_in s xs x f) ≡ true → IsSlot s.metas os (class_of s x) (slot_in s xs x f)) (λ f own some. is-slot x f own some) features (each-among features)) tt;
+            (All-weaken (λ f. among_features f.0 features ≡ true) (λ f. has_items (slot_in s xs x f) ≡ true → IsSlot s.metas os (class_of s x) (slot_in s xs x f)) (λ f own some. is-slot x f own some) features (each-among features)) tt;
         order = onto-order s xs x [] features tt;
       }
 
   holds-one : (x : ℕ) (f : FeatureNo) → HoldsOne s.metas (slot_in s xs x f)
-  holds-one x f = record { one = λ single.
-    let within = one-bound (length (slot_of s x f.0)) (shape_of s.metas f.0).upper single (sound.bounds x f.0) in
-    omega (arith, within, given-fewer (datum_in xs) (slot_of s x f.0)) }
+  holds-one x f = record {
+    one = λ single.
+        let within = one-bound (length (slot_of s x f.0)) (shape_of s.metas f.0).upper single (sound.bounds x f.0) in
+        omega (arith, within, given-fewer (datum_in xs) (slot_of s x f.0));
+  }
 
   every : (fs : List FeatureNo) (x : ℕ) → AllByRecursion (λ f. has_items (slot_in s xs x f) ≡ true → HoldsOne s.metas (slot_in s xs x f)) fs
   every [] x = tt

@@ -146,7 +146,7 @@ module _ (m : Metamodels) (places : Places) (os : List ObjectData) (classes : pl
       by true e = one-items (shape_of m f.0).kind v xs e a
       by false e = list-items (shape_of m f.0).kind v xs e a
 
--- ---- slots
+  -- ---- slots
 
   pub record HasParts (c : ClassNo) (name : List ℕ) (v : Data) (s : SlotData) : Type 0 where
     pub own : IsTrue (has_feature m c.0 s.feature.0)
@@ -246,19 +246,19 @@ sound : (m : Metamodels) (k : ℕ) (ds : Items) (places : Places) (os : List Obj
     → each_item (class_of m k) ds ≡ Ok places.classes → each_item (object_of m k places) ds ≡ Ok os → dangling m (length os) os ≡ None → AllByRecursion IsPlainObject os → IsModel m k os
 sound m k ds places os ordered same_ids none classes_are objects_are clear plain =
     let classes : places.classes ≡ map (λ o. o.class) os =
-      ok-injective places.classes (map (λ o. o.class) os)
-      (sym classes_are ∙ each_item-through (class_of m k) (object_of m k places) (λ o. o.class) (λ d o e. (object-parts m k places d o e).class) ds os objects_are) in
+    ok-injective places.classes (map (λ o. o.class) os)
+    (sym classes_are ∙ each_item-through (class_of m k) (object_of m k places) (λ o. o.class) (λ d o e. (object-parts m k places d o e).class) ds os objects_are) in
     let named : map_items id_of ds ≡ ids os = sym (each_item-map id_of (object_of m k places) (λ o. o.id) (λ d o e. (object-parts m k places d o e).id) ds os objects_are) in
     let count : length places.ids ≡ length os = ap length (sym same_ids ∙ named) ∙ length-map os (λ o. o.id) in
     record {
       ids = ap differ (sym named) ∙ differ-repeated (map_items id_of ds) none;
       objects = each_item-all (object_of m k places) (IsClear m (length os)) (IsObject m k os)
-        (λ d o in_order e c.
+          (λ d o in_order e c.
           let h = object-parts m k places d o e in
           let class = class-parts m k d o.class h.class in
           let slots = slots-sound m places os classes count o.class (id_of d) (slots_in d) o.slots (members_or-ordered (codes "slots") d in_order) h.slots c.0 (ap (λ id. slots_dangling m (length os) id o.slots) (sym h.id) ∙ c.1) in
           record { class = class.0; metamodel = class.1; slots = slots.0; order = slots.1 })
-        ds os ordered objects_are (all-clear m (length os) os plain clear)
+          ds os ordered objects_are (all-clear m (length os) os plain clear);
     }
 
 pub IsModel-model_from : (m : Metamodels) (k : ℕ) (ds : Items) (os : List ObjectData) → ItemsOrdered ds → model_from m k ds ≡ Ok os → AllByRecursion IsPlainObject os → IsModel m k os

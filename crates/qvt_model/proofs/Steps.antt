@@ -83,6 +83,7 @@ find-any p q (y ∷ xs) x e h = by (find-any p q xs x) (p y) e
     or-true : (a b : Bool) → b ≡ true → (a || b) ≡ true
     or-true true b e = refl
     or-true false b e = e
+
     by : (find p xs ≡ Some x → q x ≡ true → list_any q xs ≡ true) → (b : Bool) → cond b (Some y) (find p xs) ≡ Some x → list_any q (y ∷ xs) ≡ true
     by rest true e = rw (ap q (some-injective y x e) ∙ h) refl
     by rest false e = or-true (q y) (list_any q xs) (rest e h)

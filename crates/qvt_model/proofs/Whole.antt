@@ -88,9 +88,10 @@ plain-item m os (ClassKind c) (Ref i) h = tt
 
 pub plain-model : (m : Metamodels) (k : ℕ) (os ws : List ObjectData) → AllByRecursion (IsObject m k os) ws → AllByRecursion (IsWrittenObject m) ws
 plain-model m k os [] a = tt
-plain-model m k os (w ∷ ws) a =
-    ((All-weaken (IsSlot m os w.class.0) IsPlainSlot (λ s h. All-weaken (IsItem m os (shape_of m s.feature.0).kind) IsPlainDatum (λ x i. plain-item m os (shape_of m s.feature.0).kind x i) s.items h.items) w.slots a.0.slots, a.0.order),
-      plain-model m k os ws a.1)
+plain-model m k os (w ∷ ws) a = (
+  (All-weaken (IsSlot m os w.class.0) IsPlainSlot (λ s h. All-weaken (IsItem m os (shape_of m s.feature.0).kind) IsPlainDatum (λ x i. plain-item m os (shape_of m s.feature.0).kind x i) s.items h.items) w.slots a.0.slots, a.0.order),
+  plain-model m k os ws a.1,
+)
 
 module _ (m : Metamodels) (os : List ObjectData) (named : IsWellFormed m) (texts : AllByRecursion (λ o. IsUtf8 o.id) os) where
   plain_datum : (x : Datum) → IsPlainDatum x → IsPlain (datum_value m os x)
@@ -125,10 +126,22 @@ module _ (m : Metamodels) (os : List ObjectData) (named : IsWellFormed m) (texts
       (IsUtf8-from_is_utf8 _ (named.text_feature s.feature.0), plain_slot s h.0, keys_after (feature_at m s.feature.0).name ss a.0, plain_slots ss h.1 a.1)
 
   plain_object : (o : ObjectData) → IsUtf8 o.id → IsWrittenObject m o → IsPlain (object_value m os o)
-  plain_object o id h =
-      (IsUtf8-are_ascii (codes "class") refl, IsUtf8-from_is_utf8 _ (named.text_class o.class.0), (refl, (refl, tt)), (
-        IsUtf8-are_ascii (codes "id") refl, id, (refl, tt), (
-          IsUtf8-are_ascii (codes "slots") refl, plain_slots o.slots h.0 h.1, tt, tt)))
+  plain_object o id h = (
+    IsUtf8-are_ascii (codes "class") refl,
+    IsUtf8-from_is_utf8 _ (named.text_class o.class.0),
+    (refl, (refl, tt)),
+    (
+      IsUtf8-are_ascii (codes "id") refl,
+      id,
+      (refl, tt),
+      (
+        IsUtf8-are_ascii (codes "slots") refl,
+        plain_slots o.slots h.0 h.1,
+        tt,
+        tt,
+      ),
+    ),
+  )
 
   plain_objects : (ws : List ObjectData) → AllByRecursion (λ o. IsUtf8 o.id) ws → AllByRecursion (IsWrittenObject m) ws → ItemsPlain (items_of (map (object_value m os) ws))
   plain_objects [] a h = tt

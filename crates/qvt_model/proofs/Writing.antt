@@ -112,7 +112,7 @@ module _ (s : Contents) (xs : List ℕ) where
       by : slot_members s.metas os (insert_slot s.metas t us) ≡ put (name_of s.metas t) (slot_value s.metas os t) (slot_members s.metas os us) → (o : Ordering) → slice_cmp nat_cmp (name_of s.metas t) (name_of s.metas u) ≡ o
           → slot_members s.metas os (match_ordering o (t ∷ u ∷ us) (t ∷ us) (u ∷ insert_slot s.metas t us))
           ≡ match_ordering o (member (name_of s.metas t) (slot_value s.metas os t) (slot_members s.metas os (u ∷ us))) (member (name_of s.metas u) (slot_value s.metas os t) (slot_members s.metas os us))
-            (member (name_of s.metas u) (slot_value s.metas os u) (put (name_of s.metas t) (slot_value s.metas os t) (slot_members s.metas os us)))
+          (member (name_of s.metas u) (slot_value s.metas os u) (put (name_of s.metas t) (slot_value s.metas os t) (slot_members s.metas os us)))
       by rest Less e = refl
       by rest Equal e = ap (λ name. member name (slot_value s.metas os t) (slot_members s.metas os us)) (same-text (name_of s.metas t) (name_of s.metas u) e)
       by rest Greater e = ap (member (name_of s.metas u) (slot_value s.metas os u)) rest
@@ -129,8 +129,10 @@ module _ (s : Contents) (xs : List ℕ) where
     where
       t : SlotData
       t = record { feature = f; items = d ∷ ds }
+
       some : nat_lt 0 (suc (length ds)) ≡ true
       some = lt-ltb 0 (suc (length ds)) (omega arith)
+
       by : (b : Bool) → is_single s.metas f.0 ≡ b
           → put_some (feature_at s.metas f.0).name (slot_written s.metas f (map (datum_value s.metas os) (d ∷ ds))) (slot_members s.metas os us)
           ≡ slot_members s.metas os (cond (nat_lt 0 (suc (length ds))) (insert_slot s.metas (record { feature = f; items = d ∷ ds }) us) us)
@@ -168,10 +170,11 @@ module _ (s : Contents) (xs : List ℕ) where
 
   slots-plain : Sound s → (x : ℕ) (fs : List FeatureNo) → AllByRecursion (λ f. has_items (slot_in s xs x f) ≡ true → IsPlainSlot (slot_in s xs x f)) fs
   slots-plain sound x [] = tt
-  slots-plain sound x (f ∷ fs) =
-      ((λ some. let plain = by_recursion IsPlain (slot_of s x f.0) (sound.plain x f.0) in
+  slots-plain sound x (f ∷ fs) = (
+    (λ some. let plain = by_recursion IsPlain (slot_of s x f.0) (sound.plain x f.0) in
         given-all (datum_in xs) IsPlain IsPlain IsPlainDatum (λ v y e p q. value-plain v y e p) (slot_of s x f.0) plain plain),
-        slots-plain sound x fs)
+    slots-plain sound x fs,
+  )
 
   object-plain : Sound s → (n x : ℕ) → IsWrittenObject s.metas (object_in s xs n x)
   unfolding object_in

@@ -48,9 +48,9 @@ members_onto s xs x ms (f ∷ fs) = members_onto s xs x (put_some (feature_at s.
 
 abbrev pub object_written : Contents → List ℕ → ℕ → ℕ → Data
 object_written s xs n x = object (
-  member (codes "class") (string (class_at s.metas (class_of s x)).name)
-  (member (codes "id") (string (own_id n))
-  (member (codes "slots") (object (members_onto s xs x no_members (features_of s.metas (class_of s x)))) no_members)))
+    member (codes "class") (string (class_at s.metas (class_of s x)).name)
+    (member (codes "id") (string (own_id n))
+    (member (codes "slots") (object (members_onto s xs x no_members (features_of s.metas (class_of s x)))) no_members)))
 
 -- the objects of these numbers, the first of which stands n-th
 abbrev pub objects_written : Contents → List ℕ → ℕ → List ℕ → List Data

@@ -62,7 +62,13 @@ pub fn dangling(
     ensures { IfOk result (λ o. o ≡ dangling metas.now count objects.now) }
 {
     for object in objects {
-        let found = slots_dangling(alloc, metas, count, object.id.as_str(), object.slots.as_slice())?;
+        let found = slots_dangling(
+            alloc,
+            metas,
+            count,
+            object.id.as_str(),
+            object.slots.as_slice(),
+        )?;
         if let Some(fault) = found {
             return Ok(Some(fault));
         }

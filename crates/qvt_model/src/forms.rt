@@ -4,7 +4,7 @@ ghost use Rattle.qvt_model.specs.Forms.{object_form, model_form};
 use qvt_base::list_fault::ListFault;
 use qvt_base::text::Text;
 use qvt_json::leaves::{IdForm, ObjectForm, TextForm};
-use qvt_json::shape::{optional_fault, required_fault, Form, ListOf};
+use qvt_json::shape::{Form, ListOf, optional_fault, required_fault};
 use qvt_json::value::has_only;
 use serde_json::Value;
 use std::alloc::Global;

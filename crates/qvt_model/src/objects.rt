@@ -35,7 +35,12 @@ pub fn distinct_ids(alloc: Global, items: &Vec<Value>) -> Result<IdSet, ModelFau
 
 /// The class of the metamodel that the object names.
 #[tactic(auto, unfolding(crate::specs::Reading::class_of))]
-fn class_of(alloc: Global, metas: &Metas, metamodel: u32, item: &Value) -> Result<ClassNo, ModelFault>
+fn class_of(
+    alloc: Global,
+    metas: &Metas,
+    metamodel: u32,
+    item: &Value,
+) -> Result<ClassNo, ModelFault>
     ensures { Gives ModelFault.NoMemory (λ c. c) result (class_of metas.now metamodel (view item.now)) }
 {
     match metas.class(metamodel, text_or(item, "class")) {
@@ -62,7 +67,12 @@ pub fn classes_of(
 
 /// Checks that the slots of the object name features of its class.
 #[tactic(auto, unfolding(crate::specs::Reading::object_known))]
-fn object_known(alloc: Global, metas: &Metas, metamodel: u32, item: &Value) -> Result<(), ModelFault>
+fn object_known(
+    alloc: Global,
+    metas: &Metas,
+    metamodel: u32,
+    item: &Value,
+) -> Result<(), ModelFault>
     ensures { Gives ModelFault.NoMemory (λ _. tt) result (object_known metas.now metamodel (view item.now)) }
 {
     let class = class_of(alloc, metas, metamodel, item)?;

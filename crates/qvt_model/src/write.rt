@@ -219,7 +219,13 @@ fn feature_written(
     requires there { IsTrue (has_feature store.now.metas (class_of store.now owner.0) feature.0) }
     ensures { IfOk result (λ o. option_map view o ≡ slot_written store.now.metas feature (values_written store.now places.now owner.0 feature)) }
 {
-    slot_written(alloc, store.metas(), places, feature, store.slot(owner, feature))
+    slot_written(
+        alloc,
+        store.metas(),
+        places,
+        feature,
+        store.slot(owner, feature),
+    )
 }
 
 /// What is written for the slots of an object, by the names of the features.
@@ -241,7 +247,12 @@ fn members_written(
 }
 
 /// What is written for the slots of an object.
-fn slots_written(alloc: Global, store: &Store, places: &NumberSet, owner: Oid) -> Result<Value, ListFault>
+fn slots_written(
+    alloc: Global,
+    store: &Store,
+    places: &NumberSet,
+    owner: Oid,
+) -> Result<Value, ListFault>
     requires { IsTrue (is_live store.now owner.0) }
     ensures { IfOk result (λ v. view v ≡ object (members_onto store.now places.now owner.0 no_members (features_of store.now.metas (class_of store.now owner.0)))) }
 {
@@ -261,7 +272,8 @@ fn object_written(
 {
     let id = id_text(alloc, place)?;
     let slots = slots_written(alloc, store, places, owner)?;
-    match json!(in alloc; {"class": class_name_of(store, owner), "id": id.as_str(), "slots": slots}) {
+    match json!(in alloc; {"class": class_name_of(store, owner), "id": id.as_str(), "slots": slots})
+    {
         Ok(value) => Ok(value),
         Err(_) => Err(ListFault::NoMemory),
     }

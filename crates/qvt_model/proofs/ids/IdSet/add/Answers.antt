@@ -10,5 +10,5 @@ returns c =
     let key = c.in-Ok.key in
     let named : string_bytes key ≡ c.args.id.now = c.in-Ok.ensures.ok in
     let absent : list_any (λ k. bytes_eq (string_bytes key) (string_bytes k)) keys ≡ false =
-      any-texts (string_bytes key) keys ∙ (λ i. list_any (bytes_eq (named i)) (c.self.view_is i)) ∙ c.requires in
+    any-texts (string_bytes key) keys ∙ (λ i. list_any (bytes_eq (named i)) (c.self.view_is i)) ∙ c.requires in
     ap (map string_bytes) (c.in-Ok-insert.ensures.keys ∙ ap (λ b. cond b keys (keys ++ key ∷ [])) absent) ∙ texts-push keys key ∙ (λ i. c.self.view_is i ++ named i ∷ [])
