@@ -1,1 +1,4 @@
 pub mod Empty
+pub mod Bools
+pub mod Counts
+pub mod Lookups

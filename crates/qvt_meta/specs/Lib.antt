@@ -5,3 +5,9 @@ pub mod WellFormed
 pub mod Kept
 pub mod MetaData
 pub mod DataOf
+pub mod Names
+pub mod MetaForm
+pub mod SmallMeta
+pub mod Added
+pub mod Checked
+pub mod Places

@@ -45,7 +45,7 @@ fn upper_of(value: &Value) -> Option<u32>
 }
 
 /// The text at the key, if there is one.
-fn text_of_key(alloc: Global, value: &Value, key: &str) -> Result<Option<Text>, ListFault>
+pub fn text_of_key(alloc: Global, value: &Value, key: &str) -> Result<Option<Text>, ListFault>
     ensures { IfOk result (λ o. o ≡ text_at key.now (view value.now)) }
 {
     match text_at(value, key) {

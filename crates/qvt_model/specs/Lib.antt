@@ -2,4 +2,5 @@ pub mod Forms
 pub mod Reading
 pub mod WellFormed
 pub mod Written
+pub mod Extents
 pub mod Laws

@@ -2,4 +2,7 @@
 #![tactic(auto)]
 
 pub mod data;
+mod forms;
+mod ids;
 pub mod laws;
+mod places;
