@@ -26,6 +26,10 @@ All-index P [] i d a lt = absurd (omega arith)
 All-index P (x ∷ xs) zero d a lt = a.0
 All-index P (x ∷ xs) (suc i) d a lt = All-index P xs i d a.1 (omega arith)
 
+pub All-push : {X : Type 0} (P : X → Type 0) (xs : List X) (x : X) → AllByRecursion P xs → P x → AllByRecursion P (xs ++ x ∷ [])
+All-push P [] x a p = (p, tt)
+All-push P (y ∷ xs) x a p = (a.0, All-push P xs x a.1 p)
+
 pub index-map : {X Y : Type 0} (f : X → Y) (xs : List X) (i : ℕ) (d : X) → slice_index_or (map f xs) i (f d) ≡ f (slice_index_or xs i d)
 index-map f [] i d = refl
 index-map f (x ∷ xs) zero d = refl

@@ -18,9 +18,10 @@ use Rattle.qvt_meta.specs.Named.{class_named, literal_named, literal_at}
 use Rattle.qvt_meta.specs.WellFormed.{IsWellFormed}
 use Rattle.qvt_json.specs.Json.{map_items}
 use Rattle.qvt_json.specs.Leaves.{is_id}
-use Rattle.qvt_model.specs.Reading.{id_of, class_of, feature_of, features_known, object_known, Places, class_at_place, ref_at, ref_of, literal_in, datum_of, one_item, items_of as slot_items_of, slot_of, slots_of, object_of, is_dangling, slots_dangling, dangling, model_from, numbered_class}
+use Rattle.qvt_model.specs.Reading.{id_of, class_of, feature_of, features_known, object_known, distinct_ids, class_at_place, ref_at, ref_of, literal_in, datum_of, one_item, items_of as slot_items_of, slot_of, slots_of, object_of, is_dangling, slots_dangling, dangling, model_from, numbered_class}
 use Rattle.qvt_model.specs.WellFormed.{object_at, no_object, ids, differ, IsItem, IsSlot, IsObject, IsModel, HoldsOne, IsStorable}
 use Rattle.qvt_model.specs.Written.{datum_value, first_value, slot_value, slot_members, object_value, object_values}
+use Rattle.qvt_model.specs.declared.places.Places.{Places}
 use Rattle.qvt_model.specs.declared.data.Datum.{Datum}
 use Rattle.qvt_model.specs.declared.data.Datum.TheVariants.{Bool as BoolDatum, Int, Str, Literal, Ref}
 use Rattle.qvt_model.specs.declared.data.SlotData.{SlotData}
@@ -173,7 +174,7 @@ module _ (m : Metamodels) (k : ℕ) (os : List ObjectData) (named : IsWellFormed
   ids-back (w ∷ ws) = ap (λ is. w.id ∷ is) (ids-back ws)
 
   pub model_from-object_values : model_from m k (object_values m os) ≡ Ok os
-  unfolding model_from
+  unfolding model_from distinct_ids
   model_from-object_values =
       let classes = each_item-is (class_of m k) (object_value m os) (λ o. o.class) os (All-weaken (IsObject m k os) (λ o. class_of m k (object_value m os o) ≡ Ok o.class) (λ o h. class-back o h) os model.objects) in
       let features = walk_items-ok (object_known m k) (object_value m os) os (All-weaken (IsObject m k os) (λ o. object_known m k (object_value m os o) ≡ Ok tt) (λ o h. object-known o h) os model.objects) in

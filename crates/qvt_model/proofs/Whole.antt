@@ -20,7 +20,7 @@ use Rattle.qvt_json.specs.Leaves.{is_id}
 use Rattle.qvt_json.proofs.Back.{json-file_text}
 use Rattle.qvt_model.specs.Forms.{object_form, model_form}
 use Rattle.qvt_model.specs.Reading.{model_of}
-use Rattle.qvt_model.specs.WellFormed.{object_at, no_object, IsItem, IsSlot, ComeAfter, AreInOrder, IsObject, IsModel, IsStorable}
+use Rattle.qvt_model.specs.WellFormed.{object_at, no_object, IsItem, IsPlainDatum, IsPlainSlot, IsPlainObject, IsSlot, ComeAfter, AreInOrder, IsObject, IsModel, IsStorable}
 use Rattle.qvt_model.specs.Written.{datum_value, first_value, slot_value, slot_members, object_value, model_value, model_text}
 use Rattle.qvt_model.specs.declared.data.Datum.{Datum}
 use Rattle.qvt_model.specs.declared.data.Datum.TheVariants.{Bool as BoolDatum, Int, Str, Literal, Ref}
@@ -54,59 +54,78 @@ id_text [] i a = IsUtf8-nil
 id_text (o ∷ os) zero a = a.0
 id_text (o ∷ os) (suc i) a = id_text os i a.1
 
-module _ (m : Metamodels) (k : ℕ) (os : List ObjectData) (named : IsWellFormed m) (texts : AllByRecursion (λ o. IsUtf8 o.id) os) where
-  plain_datum : (kind : TypeKind) (x : Datum) → IsItem m os kind x → IsPlain (datum_value m os x)
-  plain_datum BoolKind (BoolDatum b') h = tt
-  plain_datum BoolKind (Int z) h = absurd h
-  plain_datum BoolKind (Str s) h = absurd h
-  plain_datum BoolKind (Literal l) h = absurd h
-  plain_datum BoolKind (Ref i) h = absurd h
-  plain_datum IntKind (BoolDatum b') h = absurd h
-  plain_datum IntKind (Int z) h = whole z h
-  plain_datum IntKind (Str s) h = absurd h
-  plain_datum IntKind (Literal l) h = absurd h
-  plain_datum IntKind (Ref i) h = absurd h
-  plain_datum StrKind (BoolDatum b') h = absurd h
-  plain_datum StrKind (Int z) h = absurd h
-  plain_datum StrKind (Str s) h = h
-  plain_datum StrKind (Literal l) h = absurd h
-  plain_datum StrKind (Ref i) h = absurd h
-  plain_datum (EnumKind a b) (BoolDatum b') h = absurd h
-  plain_datum (EnumKind a b) (Int z) h = absurd h
-  plain_datum (EnumKind a b) (Str s) h = absurd h
-  plain_datum (EnumKind a b) (Literal l) h = IsUtf8-from_is_utf8 _ (named.text_literal l.metamodel l.enumeration l.literal)
-  plain_datum (EnumKind a b) (Ref i) h = absurd h
-  plain_datum (ClassKind c) (BoolDatum b') h = absurd h
-  plain_datum (ClassKind c) (Int z) h = absurd h
-  plain_datum (ClassKind c) (Str s) h = absurd h
-  plain_datum (ClassKind c) (Literal l) h = absurd h
-  plain_datum (ClassKind c) (Ref i) h = id_text os i texts
+-- an object with plain items and its slots in order
+abbrev pub IsWrittenObject : Metamodels → ObjectData → Type 0
+IsWrittenObject m o = IsPlainObject o × AreInOrder m o.slots
 
-  plain_items : (kind : TypeKind) (xs : List Datum) → AllByRecursion (IsItem m os kind) xs → ItemsPlain (items_of (map (datum_value m os) xs))
-  plain_items kind [] a = tt
-  plain_items kind (x ∷ xs) a = (plain_datum kind x a.0, plain_items kind xs a.1)
+-- an item of a type is plain
+plain-item : (m : Metamodels) (os : List ObjectData) (kind : TypeKind) (x : Datum) → IsItem m os kind x → IsPlainDatum x
+plain-item m os BoolKind (BoolDatum b') h = tt
+plain-item m os BoolKind (Int z) h = absurd h
+plain-item m os BoolKind (Str s) h = absurd h
+plain-item m os BoolKind (Literal l) h = absurd h
+plain-item m os BoolKind (Ref i) h = absurd h
+plain-item m os IntKind (BoolDatum b') h = absurd h
+plain-item m os IntKind (Int z) h = h
+plain-item m os IntKind (Str s) h = absurd h
+plain-item m os IntKind (Literal l) h = absurd h
+plain-item m os IntKind (Ref i) h = absurd h
+plain-item m os StrKind (BoolDatum b') h = absurd h
+plain-item m os StrKind (Int z) h = absurd h
+plain-item m os StrKind (Str s) h = h
+plain-item m os StrKind (Literal l) h = absurd h
+plain-item m os StrKind (Ref i) h = absurd h
+plain-item m os (EnumKind a b) (BoolDatum b') h = absurd h
+plain-item m os (EnumKind a b) (Int z) h = absurd h
+plain-item m os (EnumKind a b) (Str s) h = absurd h
+plain-item m os (EnumKind a b) (Literal l) h = tt
+plain-item m os (EnumKind a b) (Ref i) h = absurd h
+plain-item m os (ClassKind c) (BoolDatum b') h = absurd h
+plain-item m os (ClassKind c) (Int z) h = absurd h
+plain-item m os (ClassKind c) (Str s) h = absurd h
+plain-item m os (ClassKind c) (Literal l) h = absurd h
+plain-item m os (ClassKind c) (Ref i) h = tt
 
-  plain_first : (kind : TypeKind) (xs : List Datum) → AllByRecursion (IsItem m os kind) xs → IsPlain (first_value m os xs)
-  plain_first kind [] a = tt
-  plain_first kind (x ∷ xs) a = plain_datum kind x a.0
+pub plain-model : (m : Metamodels) (k : ℕ) (os ws : List ObjectData) → AllByRecursion (IsObject m k os) ws → AllByRecursion (IsWrittenObject m) ws
+plain-model m k os [] a = tt
+plain-model m k os (w ∷ ws) a = (
+  (All-weaken (IsSlot m os w.class.0) IsPlainSlot (λ s h. All-weaken (IsItem m os (shape_of m s.feature.0).kind) IsPlainDatum (λ x i. plain-item m os (shape_of m s.feature.0).kind x i) s.items h.items) w.slots a.0.slots, a.0.order),
+  plain-model m k os ws a.1,
+)
 
-  plain_slot : (c : ℕ) (s : SlotData) → IsSlot m os c s → IsPlain (slot_value m os s)
-  plain_slot c s h = by (is_single m s.feature.0) refl
+module _ (m : Metamodels) (os : List ObjectData) (named : IsWellFormed m) (texts : AllByRecursion (λ o. IsUtf8 o.id) os) where
+  plain_datum : (x : Datum) → IsPlainDatum x → IsPlain (datum_value m os x)
+  plain_datum (BoolDatum b) h = tt
+  plain_datum (Int z) h = whole z h
+  plain_datum (Str s) h = h
+  plain_datum (Literal l) h = IsUtf8-from_is_utf8 _ (named.text_literal l.metamodel l.enumeration l.literal)
+  plain_datum (Ref i) h = id_text os i texts
+
+  plain_items : (xs : List Datum) → AllByRecursion IsPlainDatum xs → ItemsPlain (items_of (map (datum_value m os) xs))
+  plain_items [] a = tt
+  plain_items (x ∷ xs) a = (plain_datum x a.0, plain_items xs a.1)
+
+  plain_first : (xs : List Datum) → AllByRecursion IsPlainDatum xs → IsPlain (first_value m os xs)
+  plain_first [] a = tt
+  plain_first (x ∷ xs) a = plain_datum x a.0
+
+  plain_slot : (s : SlotData) → IsPlainSlot s → IsPlain (slot_value m os s)
+  plain_slot s h = by (is_single m s.feature.0) refl
     where
       by : (b : Bool) → is_single m s.feature.0 ≡ b → IsPlain (slot_value m os s)
-      by true is = rw is (plain_first (shape_of m s.feature.0).kind s.items h.items)
-      by false is = rw is (plain_items (shape_of m s.feature.0).kind s.items h.items)
+      by true is = rw is (plain_first s.items h)
+      by false is = rw is (plain_items s.items h)
 
   keys_after : (name : List ℕ) (ss : List SlotData) → ComeAfter m name ss → KeysAfter name (slot_members m os ss)
   keys_after name [] h = tt
   keys_after name (s ∷ ss) h = (h.0, keys_after name ss h.1)
 
-  plain_slots : (c : ℕ) (ss : List SlotData) → AllByRecursion (IsSlot m os c) ss → AreInOrder m ss → MembersPlain (slot_members m os ss)
-  plain_slots c [] h a = tt
-  plain_slots c (s ∷ ss) h a =
-      (IsUtf8-from_is_utf8 _ (named.text_feature s.feature.0), plain_slot c s h.0, keys_after (feature_at m s.feature.0).name ss a.0, plain_slots c ss h.1 a.1)
+  plain_slots : (ss : List SlotData) → AllByRecursion IsPlainSlot ss → AreInOrder m ss → MembersPlain (slot_members m os ss)
+  plain_slots [] h a = tt
+  plain_slots (s ∷ ss) h a =
+      (IsUtf8-from_is_utf8 _ (named.text_feature s.feature.0), plain_slot s h.0, keys_after (feature_at m s.feature.0).name ss a.0, plain_slots ss h.1 a.1)
 
-  plain_object : (o : ObjectData) → IsUtf8 o.id → IsObject m k os o → IsPlain (object_value m os o)
+  plain_object : (o : ObjectData) → IsUtf8 o.id → IsWrittenObject m o → IsPlain (object_value m os o)
   plain_object o id h = (
     IsUtf8-are_ascii (codes "class") refl,
     IsUtf8-from_is_utf8 _ (named.text_class o.class.0),
@@ -117,18 +136,18 @@ module _ (m : Metamodels) (k : ℕ) (os : List ObjectData) (named : IsWellFormed
       (refl, tt),
       (
         IsUtf8-are_ascii (codes "slots") refl,
-        plain_slots o.class.0 o.slots h.slots h.order,
+        plain_slots o.slots h.0 h.1,
         tt,
         tt,
       ),
     ),
   )
 
-  plain_objects : (ws : List ObjectData) → AllByRecursion (λ o. IsUtf8 o.id) ws → AllByRecursion (IsObject m k os) ws → ItemsPlain (items_of (map (object_value m os) ws))
+  plain_objects : (ws : List ObjectData) → AllByRecursion (λ o. IsUtf8 o.id) ws → AllByRecursion (IsWrittenObject m) ws → ItemsPlain (items_of (map (object_value m os) ws))
   plain_objects [] a h = tt
   plain_objects (o ∷ ws) a h = (plain_object o a.0 h.0, plain_objects ws a.1 h.1)
 
-  pub IsPlain-model_value : AllByRecursion (IsObject m k os) os → IsPlain (model_value m os)
+  pub IsPlain-model_value : AllByRecursion (IsWrittenObject m) os → IsPlain (model_value m os)
   IsPlain-model_value objects = (IsUtf8-are_ascii (codes "objects") refl, plain_objects os texts objects, tt, tt)
 
 -- ---- its depth
@@ -170,5 +189,5 @@ pub model_of-model_text : (m : Metamodels) (k : ℕ) (os : List ObjectData) → 
 unfolding model_of model_text
 model_of-model_text m k os named model storable =
     let shallow : depth (model_value m os) ≤ max_depth = omega (arith, objects_depth m os os) in
-    let value : json (model_text m os) ≡ Some (model_value m os) = json-file_text (model_value m os) (IsPlain-model_value m k os named storable.texts model.objects) shallow in
+    let value : json (model_text m os) ≡ Some (model_value m os) = json-file_text (model_value m os) (IsPlain-model_value m os named storable.texts (plain-model m k os os model.objects)) shallow in
     rw (value, model-shape m os storable.forms) (model_from-object_values m k os named model storable)

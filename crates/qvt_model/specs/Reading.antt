@@ -19,6 +19,7 @@ use Rattle.qvt_json.specs.Shape.{shown}
 use Rattle.qvt_json.specs.Steps.{◌>>=◌, or_fault, none_of, or_next, each_item, walk_items, all_items}
 use Rattle.qvt_json.specs.Repeated.{repeated}
 use Rattle.qvt_model.specs.Forms.{model_form}
+use Rattle.qvt_model.specs.declared.places.Places.{Places}
 use Rattle.qvt_model.specs.declared.data.Datum.{Datum}
 use Rattle.qvt_model.specs.declared.data.Datum.TheVariants.{Bool as BoolDatum, Int, Str, Literal, Ref}
 use Rattle.qvt_model.specs.declared.data.SlotData.{SlotData}
@@ -28,6 +29,12 @@ use Rattle.qvt_model.specs.declared.data.ModelFault.TheVariants.{Json, Shape, Sa
 
 abbrev pub id_of : Data → List ℕ
 id_of d = text_or (codes "id") d
+
+-- the ids of the objects, which differ
+unfoldable pub distinct_ids : Items → Result (List (List ℕ)) ModelFault
+distinct_ids ds = do
+  _ ← none_of (option_map SameId (repeated [] (map_items id_of ds)))
+  Ok (map_items id_of ds)
 
 abbrev pub slots_in : Data → Members
 slots_in d = members_or (codes "slots") d
@@ -53,11 +60,6 @@ unfoldable pub object_known : Metamodels → ℕ → Data → Result ⊤ ModelFa
 object_known m k d = do
   c ← class_of m k d
   features_known m c (id_of d) (slots_in d)
-
--- the objects that a reference may name: the id of each, and its class
-pub record Places : Type 0 where
-  pub ids : List (List ℕ)
-  pub classes : List ClassNo
 
 abbrev pub class_at_place : Places → ℕ → ClassNo
 class_at_place places i = slice_index_or places.classes i (record { 0 = 0 })
@@ -136,10 +138,10 @@ dangling m n (o ∷ os) = or_next (slots_dangling m n o.id o.slots) (dangling m 
 -- what the objects of a model are, by one check after the other
 unfoldable pub model_from : Metamodels → ℕ → Items → Result (List ObjectData) ModelFault
 model_from m k ds = do
-  _ ← none_of (option_map SameId (repeated [] (map_items id_of ds)))
+  ids ← distinct_ids ds
   classes ← each_item (class_of m k) ds
   _ ← walk_items (object_known m k) ds
-  os ← each_item (object_of m k (record { ids = map_items id_of ds; classes = classes })) ds
+  os ← each_item (object_of m k (record { ids = ids; classes = classes })) ds
   _ ← none_of (dangling m (length os) os)
   Ok os
 

@@ -41,6 +41,20 @@ IsItem m os (EnumKind k e) (Literal l) = (l.metamodel ≡ k) × (l.enumeration �
 IsItem m os (ClassKind c) (Ref i) = (i < length os) × IsTrue (descends m (object_at os i).class.0 c.0)
 IsItem m os _ _ = ⊥
 
+-- what an item has by its type in the code: an Integer fits 64 bits, a String is UTF-8
+abbrev pub IsPlainDatum : Datum → Type 0
+IsPlainDatum (BoolDatum b) = ⊤
+IsPlainDatum (Int z) = FitsSigned w64 z
+IsPlainDatum (Str s) = IsUtf8 s
+IsPlainDatum (Literal l) = ⊤
+IsPlainDatum (Ref i) = ⊤
+
+abbrev pub IsPlainSlot : SlotData → Type 0
+IsPlainSlot s = AllByRecursion IsPlainDatum s.items
+
+abbrev pub IsPlainObject : ObjectData → Type 0
+IsPlainObject o = AllByRecursion IsPlainSlot o.slots
+
 pub record IsSlot (m : Metamodels) (os : List ObjectData) (c : ℕ) (s : SlotData) : Type 0 where
   pub own : IsTrue (has_feature m c s.feature.0)
   pub some : 0 < length s.items

@@ -1,5 +1,16 @@
 //! Models from and to JSON.
 #![tactic(auto)]
 
+mod dangling;
 pub mod data;
+mod forms;
+pub mod id_table;
+mod ids;
+mod items;
 pub mod laws;
+mod numbers;
+mod objects;
+mod places;
+pub mod read;
+mod slots;
+pub mod write;

@@ -1,0 +1,50 @@
+ghost use Rattle.std.specs.Prelude.{◌≡◌, ◌==◌, [], ◌∷◌, ◌++◌, length, false, position, OnOk};
+ghost use Rattle.std.specs.List.{list_any};
+
+use indexmap::IndexSet;
+use qvt_base::list_fault::ListFault;
+use std::alloc::Global;
+use std::marker::Model;
+
+/// Numbers in an order of their own, each once, looked up by hash.
+#[derive(Drop)]
+pub struct NumberSet {
+    keys: IndexSet<u32>,
+}
+
+impl Model for NumberSet {
+    ghost use Rattle.std.specs.Prelude.{List, ℕ};
+
+    ghost Value = { List ℕ };
+
+    ghost view = { λ s. s.keys.keys };
+}
+
+impl NumberSet {
+    /// No numbers. It takes no memory.
+    pub fn new(alloc: Global) -> NumberSet
+        ensures { result ≡ [] }
+    {
+        NumberSet {
+            keys: IndexSet::new(alloc),
+        }
+    }
+
+    /// The place of the number.
+    pub fn position(&self, number: u32) -> Option<usize>
+        ensures { result ≡ position (λ x. number == x) self.now }
+    {
+        self.keys.get_index_of(&number)
+    }
+
+    /// Puts a new number last.
+    pub fn add(&mut self, number: u32) -> Result<(), ListFault>
+        requires { list_any (λ x. number == x) self.old ≡ false }
+        ensures { OnOk result (self.new ≡ self.old ++ number ∷ []) }
+    {
+        let Ok(_) = self.keys.insert(number) else {
+            return Err(ListFault::NoMemory);
+        };
+        Ok(())
+    }
+}
