@@ -8,3 +8,8 @@ pub mod text;
 pub mod numbers;
 pub mod copied;
 pub mod lists;
+pub mod names;
+pub mod outside;
+pub mod mem_files;
+pub mod mem_sink;
+pub mod real;

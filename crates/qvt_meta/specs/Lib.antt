@@ -1,1 +1,5 @@
 pub mod Metamodels
+pub mod Descends
+pub mod Named
+pub mod WellFormed
+pub mod Kept

@@ -1,0 +1,186 @@
+ghost use Rattle.std.specs.Prelude.{◌≡◌, ◌≢◌, OnOk, OnErr, Some, []};
+ghost use Rattle.std.specs.Option.{option_copied};
+ghost use Rattle.std.specs.FinMap as map;
+ghost use Rattle.qvt_base.specs.Outside.{Reads, IsWithin, failed_after, ReadCause, WriteCause};
+ghost use Rattle.qvt_base.specs.MemFiles.{held_of, held_in, failed_in, IsUnread};
+
+use crate::copied::Copied;
+use crate::lists::{Bytes, CallList, NameList};
+use crate::outside::{Files, ReadAnswer, WriteAnswer};
+use crate::seq::Seq;
+use crate::text::Text;
+use std::alloc::Global;
+use std::collections::VecDeque;
+
+/// Why a file in memory could not be made.
+#[derive(Clone, Copy, Debug, PartialEq, Eq)]
+pub enum FilesFault {
+    NoMemory,
+}
+
+/// A name and the bytes that it holds.
+#[derive(Debug, Drop)]
+pub struct Entry {
+    name: Text,
+    bytes: Bytes,
+}
+
+/// Files in memory: they tell their bytes and the names of their failed reads, and calls whose
+/// numbers (from 0, reads and writes counted together) stand in a list fail.
+#[derive(Debug, Drop)]
+pub struct MemFiles {
+    /// The newest write first.
+    log: VecDeque<Entry>,
+    failing: CallList,
+    calls: u64,
+    failed: NameList,
+    read_faults: u64,
+    write_faults: u64,
+}
+
+/// The newest bytes under the name.
+fn find<'a>(log: &'a VecDeque<Entry>, name: &str) -> Option<&'a Bytes>
+    ensures { option_copied result ≡ map.get (held_of log.now.items) name.now }
+{
+    for entry in log {
+        if entry.name.as_str() == name {
+            return Some(&entry.bytes);
+        }
+    }
+    None
+}
+
+/// Puts a write in front.
+fn put(alloc: Global, log: &mut VecDeque<Entry>, name: &str, bytes: &[u8]) -> Result<(), FilesFault>
+    ensures ok { OnOk result (held_of log.new.items ≡ map.insert (held_of log.old.items) name.now bytes.now) }
+    ensures err { OnErr result (log.new.items ≡ log.old.items) }
+{
+    let Ok(name) = Text::from_str(alloc, name) else {
+        return Err(FilesFault::NoMemory);
+    };
+    let Ok(bytes) = Seq::from_slice(alloc, bytes) else {
+        return Err(FilesFault::NoMemory);
+    };
+    let Ok(()) = log.push_front(Entry { name, bytes }) else {
+        return Err(FilesFault::NoMemory);
+    };
+    Ok(())
+}
+
+impl MemFiles {
+    /// No files, no faults. The calls of these numbers are to fail, the first call being 1.
+    pub fn new(alloc: Global, failing: CallList) -> MemFiles
+        ensures held { held_in result ≡ map.empty }
+        ensures failed { failed_in result ≡ [] }
+        ensures reads { result.read_faults ≡ 0 }
+        ensures writes { result.write_faults ≡ 0 }
+    {
+        MemFiles {
+            log: VecDeque::new(alloc),
+            failing,
+            calls: 0,
+            failed: Seq::new(alloc),
+            read_faults: 0,
+            write_faults: 0,
+        }
+    }
+
+    /// Makes the name hold these bytes. This is no counted call.
+    pub fn hold(&mut self, alloc: Global, name: &str, bytes: &[u8]) -> Result<(), FilesFault>
+        ensures ok { OnOk result (held_in self.new ≡ map.insert (held_in self.old) name.now bytes.now) }
+        ensures err { OnErr result (held_in self.new ≡ held_in self.old) }
+        ensures rest { self.new ≡ record self.old { log = self.new.log } }
+    {
+        put(alloc, &mut self.log, name, bytes)
+    }
+
+    /// The bytes under the name, None exactly where it is not held. It takes no memory.
+    pub fn held(&self, name: &str) -> Option<&[u8]>
+        ensures { option_copied result ≡ map.get (held_in self.now) name.now }
+    {
+        match find(&self.log, name) {
+            Some(bytes) => Some(bytes.as_slice()),
+            None => None,
+        }
+    }
+
+    /// Counts a call, and tells whether it is to fail.
+    fn is_failing(&mut self) -> bool
+        ensures { self.new ≡ record self.old { calls = self.new.calls } }
+    {
+        self.calls = self.calls.saturating_add(1);
+        let calls = self.calls;
+        self.failing.as_slice().contains(&calls)
+    }
+
+    /// A write that failed.
+    fn fail_write(&mut self) -> WriteAnswer
+        ensures after { self.new ≡ record self.old { write_faults = self.new.write_faults } }
+        ensures cause { WriteCause self.old.write_faults self.new.write_faults result }
+        ensures failed { result ≡ WriteAnswer.Failed }
+    {
+        self.write_faults = self.write_faults.saturating_add(1);
+        WriteAnswer::Failed
+    }
+
+    /// A read that failed, whose name is kept.
+    fn fail_read(&mut self, alloc: Global, name: &str) -> ReadAnswer
+        ensures held { held_in self.new ≡ held_in self.old }
+        ensures failed { Some (failed_in self.new) ≡ failed_after (Some (failed_in self.old)) name.now result }
+        ensures cause { ReadCause self.old.read_faults self.new.read_faults result }
+        ensures writes { self.new.write_faults ≡ self.old.write_faults }
+        ensures answer { IsUnread result }
+    {
+        let Ok(name) = Text::from_str(alloc, name) else {
+            return ReadAnswer::NoMemory;
+        };
+        let Ok(()) = self.failed.push(name) else {
+            return ReadAnswer::NoMemory;
+        };
+        self.read_faults = self.read_faults.saturating_add(1);
+        ReadAnswer::Failed
+    }
+}
+
+/// What stands under the name, copied.
+fn read_from(alloc: Global, log: &VecDeque<Entry>, name: &str, limit: u32) -> ReadAnswer
+    ensures answer { Reads (Some (held_of log.now.items)) name.now limit result }
+    ensures within { IsWithin limit result }
+    ensures never_failed { result ≢ ReadAnswer.Failed }
+{
+    let Some(bytes) = find(log, name) else {
+        return ReadAnswer::Missing;
+    };
+    if bytes.len() > limit as usize {
+        return ReadAnswer::TooLarge;
+    }
+    match bytes.copy(alloc) {
+        Ok(bytes) => ReadAnswer::Found(bytes),
+        Err(_) => ReadAnswer::NoMemory,
+    }
+}
+
+impl Files for MemFiles {
+    ghost held = { λ f. Some (held_in f) };
+    ghost failed_reads = { λ f. Some (failed_in f) };
+    ghost read_faults = { λ f. f.read_faults };
+    ghost write_faults = { λ f. f.write_faults };
+
+    fn read(&mut self, alloc: Global, name: &str, limit: u32) -> ReadAnswer {
+        if self.is_failing() {
+            return self.fail_read(alloc, name);
+        }
+        read_from(alloc, &self.log, name, limit)
+    }
+
+    fn write(&mut self, name: &str, bytes: &[u8]) -> WriteAnswer {
+        if self.is_failing() {
+            return self.fail_write();
+        }
+        let alloc = *self.log.allocator();
+        match put(alloc, &mut self.log, name, bytes) {
+            Ok(()) => WriteAnswer::Written,
+            Err(_) => self.fail_write(),
+        }
+    }
+}

@@ -1,0 +1,5 @@
+pub mod Json
+pub mod Leaves
+pub mod Plain
+pub mod Shape
+pub mod Steps

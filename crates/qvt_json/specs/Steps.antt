@@ -1,0 +1,52 @@
+-- Steps of which the first that fails ends the whole, and walks over lists that end at the first fault.
+use Rattle.std.specs.Prelude.{ℕ, List, [], ◌∷◌, Option, Some, None, option_map, option_and_then, Result, Ok, Err, ◌++◌, ⊤}
+use Rattle.serde_json.specs.Data.{Data, Items, no_items, item, Members, no_members, member}
+
+infixl 10 ◌>>=◌
+abbrev pub ◌>>=◌ : {A B F : Type 0} → Result A F → (A → Result B F) → Result B F
+(Ok x) >>= f = f x
+(Err e) >>= f = Err e
+
+-- the value, or this fault where there is none
+abbrev pub or_fault : {A F : Type 0} → F → Option A → Result A F
+or_fault e None = Err e
+or_fault e (Some x) = Ok x
+
+-- no value, or the fault that was found
+abbrev pub none_of : {F : Type 0} → Option F → Result ⊤ F
+none_of None = Ok tt
+none_of (Some e) = Err e
+
+-- the first of two faults
+abbrev pub or_next : {F : Type 0} → Option F → Option F → Option F
+or_next None o = o
+or_next (Some e) o = Some e
+
+-- a step for each, or the first fault
+abbrev pub each : {X Y F : Type 0} → (X → Result Y F) → List X → Result (List Y) F
+each f [] = Ok []
+each f (x ∷ xs) = do
+  y ← f x
+  ys ← each f xs
+  Ok (y ∷ ys)
+
+-- the same over the items of an array
+abbrev pub each_item : {Y F : Type 0} → (Data → Result Y F) → Items → Result (List Y) F
+each_item f no_items = Ok []
+each_item f (item d ds) = do
+  y ← f d
+  ys ← each_item f ds
+  Ok (y ∷ ys)
+
+-- the same over the members of an object
+abbrev pub each_member : {Y F : Type 0} → (List ℕ → Data → Result Y F) → Members → Result (List Y) F
+each_member f no_members = Ok []
+each_member f (member k d ms) = do
+  y ← f k d
+  ys ← each_member f ms
+  Ok (y ∷ ys)
+
+-- all of the items, or none
+abbrev pub all_items : {Y : Type 0} → (Data → Option Y) → Items → Option (List Y)
+all_items f no_items = Some []
+all_items f (item d ds) = option_and_then (λ y. option_map (λ ys. y ∷ ys) (all_items f ds)) (f d)

@@ -1,0 +1,139 @@
+ghost use Rattle.std.specs.Prelude.{◌≡◌, not, length, None, Some, [], if◌then◌else◌};
+ghost use Rattle.std.specs.List.{list_all};
+ghost use Rattle.std.specs.Str.{chars};
+ghost use Rattle.serde_json.specs.View.{view};
+ghost use Rattle.qvt_json.specs.Shape.{leaf};
+ghost use Rattle.qvt_json.specs.Leaves.{is_control, is_file, is_id, is_text, is_text_of, is_flag, is_object, is_count};
+
+use crate::shape::Form;
+use qvt_base::list_fault::ListFault;
+use qvt_base::text::Text;
+use serde_json::Value;
+use std::alloc::Global;
+
+/// How many characters the text has.
+#[tactic(auto, using(std::proofs::lemmas::Str::chars_from_encodes))]
+fn char_count(text: &str) -> usize
+    ensures { result ≡ length (chars text.now) }
+{
+    text.chars().count()
+}
+
+/// Whether no character of the text is a control character.
+#[tactic(auto, using(std::proofs::lemmas::Str::chars_from_encodes))]
+fn is_without_controls(text: &str) -> bool
+    ensures { result ≡ list_all (λ c. not (is_control c)) (chars text.now) }
+{
+    text.chars().all(|c| !(c < ' ' || c == '\u{7f}'))
+}
+
+/// Whether the text is of the form of a file's name.
+#[tactic(auto, unfolding(crate::specs::Leaves::is_file))]
+pub fn is_file(text: &str) -> bool
+    ensures { result ≡ is_file text.now }
+{
+    let count = char_count(text);
+    if count < 1 || count > 200 {
+        return false;
+    }
+    is_without_controls(text)
+}
+
+/// Whether the text is of the form of an object's id.
+#[tactic(auto, unfolding(crate::specs::Leaves::is_id))]
+pub fn is_id(text: &str) -> bool
+    ensures { result ≡ is_id text.now }
+{
+    is_file(text) && !text.as_bytes().contains(&b':')
+}
+
+/// The answer for a value that is at fault itself, or is not.
+fn here(alloc: Global, is_right: bool) -> Option<Text>
+    ensures { result ≡ (if is_right then None else Some []) }
+{
+    if is_right {
+        return None;
+    }
+    Some(Text::new(alloc))
+}
+
+/// A text.
+pub struct TextForm {}
+
+impl Form for TextForm {
+    ghost form = { λ f. leaf is_text };
+
+    fn fault(&self, alloc: Global, value: &Value) -> Result<Option<Text>, ListFault> {
+        Ok(here(alloc, value.as_str().is_some()))
+    }
+}
+
+/// The name of a file.
+pub struct FileForm {}
+
+impl Form for FileForm {
+    ghost form = { λ f. leaf (is_text_of is_file) };
+
+    fn fault(&self, alloc: Global, value: &Value) -> Result<Option<Text>, ListFault> {
+        let Some(text) = value.as_str() else {
+            return Ok(here(alloc, false));
+        };
+        Ok(here(alloc, is_file(text)))
+    }
+}
+
+/// The id of an object.
+pub struct IdForm {}
+
+impl Form for IdForm {
+    ghost form = { λ f. leaf (is_text_of is_id) };
+
+    fn fault(&self, alloc: Global, value: &Value) -> Result<Option<Text>, ListFault> {
+        let Some(text) = value.as_str() else {
+            return Ok(here(alloc, false));
+        };
+        Ok(here(alloc, is_id(text)))
+    }
+}
+
+/// True or false.
+pub struct FlagForm {}
+
+impl Form for FlagForm {
+    ghost form = { λ f. leaf is_flag };
+
+    fn fault(&self, alloc: Global, value: &Value) -> Result<Option<Text>, ListFault> {
+        Ok(here(alloc, value.as_bool().is_some()))
+    }
+}
+
+/// An object of any keys.
+pub struct ObjectForm {}
+
+impl Form for ObjectForm {
+    ghost form = { λ f. leaf is_object };
+
+    fn fault(&self, alloc: Global, value: &Value) -> Result<Option<Text>, ListFault> {
+        Ok(here(alloc, value.as_object().is_some()))
+    }
+}
+
+/// A whole number within these bounds, which belong to the range.
+pub struct CountForm {
+    pub low: u64,
+    pub high: u64,
+}
+
+impl Form for CountForm {
+    ghost form = { λ f. leaf (is_count f.low f.high) };
+
+    fn fault(&self, alloc: Global, value: &Value) -> Result<Option<Text>, ListFault> {
+        let Some(number) = value.as_u64() else {
+            return Ok(here(alloc, false));
+        };
+        if number < self.low {
+            return Ok(here(alloc, false));
+        }
+        Ok(here(alloc, number <= self.high))
+    }
+}

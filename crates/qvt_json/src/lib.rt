@@ -1,0 +1,7 @@
+//! JSON values: looking into them, the form that a value is to have, and what is written reads back.
+#![tactic(auto)]
+
+pub mod leaves;
+pub mod written;
+pub mod shape;
+pub mod value;
