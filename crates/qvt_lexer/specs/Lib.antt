@@ -1,0 +1,6 @@
+pub mod Characters
+pub mod Words
+pub mod Literals
+pub mod Pieces
+pub mod Scan
+pub mod State

@@ -1,0 +1,7 @@
+//! The tokens of a transformation's text, one call after the other. Nothing here takes memory: each
+//! token's text is a slice of the source.
+#![tactic(auto)]
+
+pub mod lexer;
+pub mod scan;
+pub mod token;
