@@ -1,5 +1,5 @@
 -- What stands between two quotes.
-use Rattle.std.proofs.Common.{◌≡◌, ℕ, zero, suc, ◌+◌, ◌*◌, ◌≤◌, ◌<◌, List, [], ◌∷◌, ◌++◌, length, Bool, true, false, ◌&&◌, ◌||◌, ◌==◌, nat_le, IsTrue, ◌⊎◌, inl, inr, refl, sym, ap, ◌∙◌, subst, arith, append_assoc, length-append, cond, Option, Some, None}
+use Rattle.std.proofs.Common.{◌≡◌, ℕ, zero, suc, ◌+◌, ◌*◌, ◌≤◌, ◌<◌, List, [], ◌∷◌, ◌++◌, length, Bool, true, false, ◌||◌, ◌==◌, refl, sym, ap, ◌∙◌, subst, arith, append_assoc, length-append, cond, Option, Some, None}
 use Rattle.qvt_lexer.specs.Characters.{is_hex, hex_value}
 use Rattle.qvt_lexer.specs.Literals.{Taken, hex_at, is_surrogate, no_surrogate, simple_escape, simple_at, escape_at, item_at, Content}
 use Rattle.qvt_lexer.specs.Scan.{items_end, content_end}

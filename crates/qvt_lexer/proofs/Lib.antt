@@ -1,4 +1,10 @@
+pub mod Ends
+pub mod Numbers
+pub mod Cuts
+pub mod Divided
+pub mod Slices
 pub mod Runs
+pub mod Steps
 pub mod Sorts
 pub mod Items
 pub mod Simple

@@ -1,12 +1,12 @@
 -- Symbols and comments: the scan gives the next piece.
-use Rattle.std.proofs.Common.{◌≡◌, ℕ, ◌+◌, ◌≤◌, ◌<◌, List, [], ◌∷◌, ◌++◌, length, Bool, true, false, ◌&&◌, ◌||◌, ◌==◌, ◌⊎◌, inl, inr, refl, sym, ap, ◌∙◌, subst, arith, append_assoc, length-append, Ok, Err, cond, Option, Some, None}
+use Rattle.std.proofs.Common.{◌≡◌, ℕ, ◌+◌, ◌≤◌, List, [], ◌∷◌, ◌++◌, length, Bool, true, false, ◌&&◌, ◌==◌, ◌⊎◌, inl, inr, refl, sym, ap, ◌∙◌, arith, length-append, Ok, Err, cond, Option, Some, None}
 use Rattle.std.proofs.lemmas.Bool.Decides.{nat_tests}
 use Rattle.qvt_lexer.specs.Characters.{is_blank, is_start, is_digit, is_quote, is_in_line, is_single, is_double, is_line_comment, is_block_comment}
-use Rattle.qvt_lexer.specs.Literals.{run, skip, every, begins, after_close}
-use Rattle.qvt_lexer.specs.Pieces.{IsLineComment, IsBlockComment, IsSymbol, IsPiece, IsNext, NoPiece, IsFaultOf, OpensEscape, OpensComment}
-use Rattle.qvt_lexer.specs.Scan.{Scan, IsScanOf, block_at, single_at, mark_at}
+use Rattle.qvt_lexer.specs.Literals.{run, skip, after_close}
+use Rattle.qvt_lexer.specs.Pieces.{IsLineComment, IsBlockComment, IsSymbol, IsPiece, NoPiece, OpensEscape, OpensComment}
+use Rattle.qvt_lexer.specs.Scan.{IsScanOf, block_at, single_at, mark_at}
 use Rattle.qvt_lexer.specs.declared.token.TokenKind.TheVariants.{Name, Integer, Str, Word, Symbol, End}
-use Rattle.qvt_lexer.specs.declared.token.LexKind.TheVariants.{BadChar, OpenComment}
+use Rattle.qvt_lexer.specs.declared.token.LexKind.TheVariants.{BadChar}
 use Rattle.qvt_lexer.specs.declared.scan.Piece.{Piece}
 use Rattle.qvt_lexer.specs.declared.scan.Piece.TheVariants.{Blank, Comment, Token}
 use Rattle.qvt_lexer.proofs.Runs.{no_both, run_skip, every_run, run_longest}
@@ -69,16 +69,22 @@ module _ (c : ℕ) (cs : List ℕ) (blank : is_blank c ≡ false) (start : is_st
   bad_char none comment = (none, (refl, quote, digit, mark_line, comment))
 
   symbol_of : (u r : List ℕ) → c ∷ cs ≡ u ++ r → IsSymbol u → ((v s : List ℕ) → c ∷ cs ≡ v ++ s → (IsLineComment v ⊎ IsBlockComment v) ⊎ IsSymbol v → length v ≤ length u) → IsScanOf (c ∷ cs) (Ok (Token Symbol, r))
-  symbol_of u r e h far = (u, record {
-    piece = record { cut = e; spells = h; uncut = λ e. absurd cc; alone = λ w e. absurd (mark_line (w, e)) };
-    longest = λ p v s k. far v s k.cut (mark_piece p v s k);
-  })
+  symbol_of u r e h far = (
+    u,
+    record {
+      piece = record { cut = e; spells = h; uncut = λ e. absurd cc; alone = λ w e. absurd (mark_line (w, e)) };
+      longest = λ p v s k. far v s k.cut (mark_piece p v s k);
+    },
+  )
 
   comment_of : (u r : List ℕ) → c ∷ cs ≡ u ++ r → IsLineComment u ⊎ IsBlockComment u → ((v s : List ℕ) → c ∷ cs ≡ v ++ s → (IsLineComment v ⊎ IsBlockComment v) ⊎ IsSymbol v → length v ≤ length u) → IsScanOf (c ∷ cs) (Ok (Comment, r))
-  comment_of u r e h far = (u, record {
-    piece = record { cut = e; spells = h; uncut = λ e. absurd cc; alone = λ w e. absurd (mark_line (w, e)) };
-    longest = λ p v s k. far v s k.cut (mark_piece p v s k);
-  })
+  comment_of u r e h far = (
+    u,
+    record {
+      piece = record { cut = e; spells = h; uncut = λ e. absurd cc; alone = λ w e. absurd (mark_line (w, e)) };
+      longest = λ p v s k. far v s k.cut (mark_piece p v s k);
+    },
+  )
 
 -- the first two characters of a piece
 two_are : (c d x y : ℕ) (cs w v s : List ℕ) → c ∷ d ∷ cs ≡ v ++ s → v ≡ x ∷ y ∷ w → (x ≡ c) × (y ≡ d) × (cs ≡ w ++ s)
@@ -167,16 +173,17 @@ module _ (c : ℕ) (blank : is_blank c ≡ false) (start : is_start c ≡ false)
         symbol_of c (d ∷ cs) blank start digit quote (c ∷ []) (d ∷ cs) refl (inl (c, refl, h)) (λ v s e k. let w = at_most_one c d cs v s e l b o k in omega (arith, ap length w.1))
     single_cases o l b false h =
         bad_char c (d ∷ cs) blank start digit quote
-          (λ p v s k. let w = at_most_one c d cs v s k.cut l b o (mark_piece c (d ∷ cs) blank start digit quote p v s k) in
-            no_both (is_single c) (ap is_single (sym (one_is c w.0 (d ∷ cs) v s k.cut w.1)) ∙ w.2) h)
-          (λ w. let e = w.1 in let x : c ≡ 47 = cc in let y : d ≡ 42 = cc in
-            no_both (is_block_comment 47 42) refl (ap (λ z. is_block_comment z 42) (sym x) ∙ ap (is_block_comment c) (sym y) ∙ b))
+        (λ p v s k. let w = at_most_one c d cs v s k.cut l b o (mark_piece c (d ∷ cs) blank start digit quote p v s k) in
+        no_both (is_single c) (ap is_single (sym (one_is c w.0 (d ∷ cs) v s k.cut w.1)) ∙ w.2) h)
+        (λ w. let e = w.1 in let x : c ≡ 47 = cc in let y : d ≡ 42 = cc in
+        no_both (is_block_comment 47 42) refl (ap (λ z. is_block_comment z 42) (sym x) ∙ ap (is_block_comment c) (sym y) ∙ b))
 
     block_cases : is_double c d ≡ false → is_block_comment c d ≡ true → (o : Option (List ℕ)) → after_close cs ≡ o → IsScanOf (c ∷ d ∷ cs) (block_at (c ∷ d ∷ cs) o)
-    block_cases o b None h =
-        ((λ p v s k. let z = block_close c d cs v s k.cut (block_line c d b) o (block_single c d b) (mark_piece c (d ∷ cs) blank start digit quote p v s k) in
+    block_cases o b None h = (
+      (λ p v s k. let z = block_close c d cs v s k.cut (block_line c d b) o (block_single c d b) (mark_piece c (d ∷ cs) blank start digit quote p v s k) in
           let y : None ≡ Some s = sym h ∙ z in cc),
-         (refl, (cs, λ i. block_first c d b i ∷ block_second c d b i ∷ cs)))
+      (refl, (cs, λ i. block_first c d b i ∷ block_second c d b i ∷ cs)),
+    )
     block_cases o b (Some r) h = closed cs h where
       closed : (w : List ℕ) → after_close w ≡ Some r → IsScanOf (c ∷ d ∷ w) (Ok (Comment, r))
       closed [] h = absurd cc
@@ -185,17 +192,17 @@ module _ (c : ℕ) (blank : is_blank c ≡ false) (start : is_start c ≡ false)
           let first = block_first c d b in
           let second = block_second c d b in
           comment_of c (d ∷ x ∷ w) blank start digit quote (c ∷ d ∷ x ∷ k.front) r (ap (λ z. c ∷ d ∷ z) k.cut)
-            (inr (x ∷ k.front, (λ i. first i ∷ second i ∷ x ∷ k.front), k.closes))
-            (λ v s e q. let z = block_close c d (x ∷ w) v s e (block_line c d b) o (block_single c d b) q in
-              let same : r ≡ s = same_rest r s (sym h ∙ z) in
-              omega (arith, ap length same, ap length e, length-append v s, ap length k.cut, length-append k.front r))
+          (inr (x ∷ k.front, (λ i. first i ∷ second i ∷ x ∷ k.front), k.closes))
+          (λ v s e q. let z = block_close c d (x ∷ w) v s e (block_line c d b) o (block_single c d b) q in
+          let same : r ≡ s = same_rest r s (sym h ∙ z) in
+          omega (arith, ap length same, ap length e, length-append v s, ap length k.cut, length-append k.front r))
 
     line_cases : is_double c d ≡ false → (l b : Bool) → is_line_comment c d ≡ l → is_block_comment c d ≡ b
         → IsScanOf (c ∷ d ∷ cs) (cond l (Ok (Comment, skip is_in_line cs)) (cond b (block_at (c ∷ d ∷ cs) (after_close cs)) (single_at c (d ∷ cs))))
     line_cases o true b h k =
         comment_of c (d ∷ cs) blank start digit quote (c ∷ d ∷ run is_in_line cs) (skip is_in_line cs) (ap (λ z. c ∷ d ∷ z) (run_skip is_in_line cs))
-          (inl (c, d, run is_in_line cs, refl, h, every_run is_in_line cs))
-          (λ v s e q. let z = line_length c d cs v s e (line_block c d h) q in omega arith)
+        (inl (c, d, run is_in_line cs, refl, h, every_run is_in_line cs))
+        (λ v s e q. let z = line_length c d cs v s e (line_block c d h) q in omega arith)
     line_cases o false true h k = block_cases o k (after_close cs) refl
     line_cases o false false h k = single_cases o h k (is_single c) refl
 

@@ -1,10 +1,10 @@
 -- Strings: the scan gives the next piece.
-use Rattle.std.proofs.Common.{◌≡◌, ℕ, ◌≤◌, ◌<◌, List, [], ◌∷◌, ◌++◌, length, Bool, true, false, ◌||◌, ◌==◌, ◌⊎◌, inl, inr, refl, sym, ap, ◌∙◌, subst, arith, append_assoc, length-append, Ok, Err, cond, Option, Some, None}
+use Rattle.std.proofs.Common.{◌≡◌, ℕ, List, [], ◌∷◌, ◌++◌, length, Bool, true, false, ◌||◌, ◌==◌, inl, refl, sym, ap, ◌∙◌, subst, arith, append_assoc, length-append, Ok, Err, cond, Some, None}
 use Rattle.std.proofs.lemmas.Bool.Decides.{nat_tests}
 use Rattle.qvt_lexer.specs.Characters.{is_quote}
-use Rattle.qvt_lexer.specs.Literals.{Taken, escape_at, item_at, Content}
-use Rattle.qvt_lexer.specs.Pieces.{IsString, IsPiece, IsNext, NoPiece, IsFaultOf, EndsLine, OpensText}
-use Rattle.qvt_lexer.specs.Scan.{Scan, IsScanOf, content_end, quoted_at, string_at}
+use Rattle.qvt_lexer.specs.Literals.{escape_at, item_at, Content}
+use Rattle.qvt_lexer.specs.Pieces.{IsString, IsPiece, NoPiece, OpensText}
+use Rattle.qvt_lexer.specs.Scan.{IsScanOf, content_end, quoted_at, string_at}
 use Rattle.qvt_lexer.specs.declared.token.TokenKind.TheVariants.{Name, Integer, Str, Word, Symbol, End}
 use Rattle.qvt_lexer.specs.declared.token.LexKind.TheVariants.{BadEscape, OpenText}
 use Rattle.qvt_lexer.specs.declared.scan.Piece.{Piece}
@@ -55,17 +55,19 @@ module _ (q : ℕ) (cs : List ℕ) (quote : is_quote q ≡ true) where
   closed r h =
       let found = content_ends q cs in
       let front = content_front q found.values cs (q ∷ r) (subst (Content q cs found.values) h found.content) in
-      let cut : q ∷ cs ≡ (q ∷ (front.front ++ q ∷ [])) ++ r = ap (λ z. q ∷ z) (front.cut ∙ sym (append_assoc front.front (q ∷ []) r)) in
-      (q ∷ (front.front ++ q ∷ []), record {
-        piece = record {
-          cut = cut;
-          spells = (q, front.front ++ q ∷ [], found.values, refl, quote, front.again (q ∷ []));
-          uncut = λ e. absurd cc;
-          alone = λ w e. absurd (quote_line w e);
-        };
-        longest = λ p v s k. (let same : q ∷ r ≡ q ∷ s = sym h ∙ end_of_piece p v s k in
-          omega (arith, ap length same, ap length k.cut, length-append v s, ap length cut, length-append (front.front ++ q ∷ []) r));
-      })
+      let cut : q ∷ cs ≡ (q ∷ (front.front ++ q ∷ [])) ++ r = ap (λ z. q ∷ z) (front.cut ∙ sym (append_assoc front.front (q ∷ []) r)) in (
+        q ∷ (front.front ++ q ∷ []),
+        record {
+          piece = record {
+            cut = cut;
+            spells = (q, front.front ++ q ∷ [], found.values, refl, quote, front.again (q ∷ []));
+            uncut = λ e. absurd cc;
+            alone = λ w e. absurd (quote_line w e);
+          };
+          longest = λ p v s k. (let same : q ∷ r ≡ q ∷ s = sym h ∙ end_of_piece p v s k in
+              omega (arith, ap length same, ap length k.cut, length-append v s, ap length cut, length-append (front.front ++ q ∷ []) r));
+        },
+      )
 
   no_string : (c : ℕ) (r : List ℕ) → content_end q cs ≡ c ∷ r → (c == q) ≡ false → NoPiece (q ∷ cs)
   no_string c r h f p v s k =
@@ -80,8 +82,8 @@ module _ (q : ℕ) (cs : List ℕ) (quote : is_quote q ≡ true) where
     cases true h = grind (arith, nat_tests)
     cases false h =
         let k : item_at q (c ∷ r) ≡ Some (c, r) =
-            ap (λ b. cond (b || c == 10) None (cond (c == 92) (escape_at r) (Some (c, r)))) f ∙ ap (λ b. cond b None (cond (c == 92) (escape_at r) (Some (c, r)))) h
-            ∙ ap (λ b. cond b (escape_at r) (Some (c, r))) g in
+        ap (λ b. cond (b || c == 10) None (cond (c == 92) (escape_at r) (Some (c, r)))) f ∙ ap (λ b. cond b None (cond (c == 92) (escape_at r) (Some (c, r)))) h
+        ∙ ap (λ b. cond b (escape_at r) (Some (c, r))) g in
         absurd (let z : Some (c, r) ≡ None = sym k ∙ stops in cc)
 
   quote_cases : (c : ℕ) (r : List ℕ) → content_end q cs ≡ c ∷ r → (b d : Bool) → (c == q) ≡ b → (c == 92) ≡ d

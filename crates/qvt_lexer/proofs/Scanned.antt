@@ -1,9 +1,9 @@
 -- The scan of a text is right.
-use Rattle.std.proofs.Common.{◌≡◌, ℕ, List, [], ◌∷◌, drop, Bool, true, false, ◌&&◌, ◌==◌, refl, sym, ap, ◌∙◌, subst, arith, Ok, cond}
+use Rattle.std.proofs.Common.{◌≡◌, ℕ, List, [], ◌∷◌, drop, Bool, true, false, ◌&&◌, ◌==◌, refl, sym, subst, arith, Ok, cond}
 use Rattle.std.proofs.lemmas.Bool.Decides.{nat_tests}
 use Rattle.qvt_lexer.specs.Characters.{is_blank, is_start, is_digit, is_quote}
 use Rattle.qvt_lexer.specs.Literals.{begins}
-use Rattle.qvt_lexer.specs.Scan.{Scan, IsScanOf, is_apostrophe, word_at, escaped_at, number_at, string_at, mark_at, scan_at}
+use Rattle.qvt_lexer.specs.Scan.{IsScanOf, is_apostrophe, word_at, escaped_at, number_at, string_at, mark_at, scan_at}
 use Rattle.qvt_lexer.specs.declared.scan.Piece.TheVariants.{Blank}
 use Rattle.qvt_lexer.proofs.Runs.{and_left, and_right}
 use Rattle.qvt_lexer.proofs.Simple.{blank_next, word_next, escaped_next, number_next}

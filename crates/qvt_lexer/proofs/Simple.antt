@@ -1,19 +1,18 @@
 -- Blanks, names, words and numbers: the scan gives the next piece.
-use Rattle.std.proofs.Common.{◌≡◌, ℕ, ◌≤◌, ◌<◌, List, [], ◌∷◌, ◌++◌, length, drop, Bool, true, false, ◌&&◌, ◌==◌, nat_le, IsTrue, ◌⊎◌, inl, inr, refl, sym, ap, ◌∙◌, subst, arith, append_assoc, length-append, Ok, Err, cond}
+use Rattle.std.proofs.Common.{◌≡◌, ℕ, ◌≤◌, List, [], ◌∷◌, ◌++◌, length, Bool, true, false, ◌&&◌, ◌==◌, nat_le, inl, inr, refl, sym, ap, ◌∙◌, subst, arith, append_assoc, Ok, Err, cond}
 use Rattle.std.proofs.lemmas.Bool.Decides.{nat_tests}
 use Rattle.std.specs.Str.{encode_utf8_all}
-use Rattle.qvt_lexer.specs.Characters.{is_blank, is_start, is_continue, is_digit, is_quote}
+use Rattle.qvt_lexer.specs.Characters.{is_blank, is_start, is_continue, is_digit}
 use Rattle.qvt_lexer.specs.Words.{is_reserved}
 use Rattle.qvt_lexer.specs.Literals.{run, skip, every, begins, number_of, greatest_number}
-use Rattle.qvt_lexer.specs.Pieces.{IsPlainName, IsEscapedName, IsDigits, Spells, IsPiece, IsNext, NoPiece, IsFaultOf, OpensEscape}
-use Rattle.qvt_lexer.specs.Scan.{Scan, IsScanOf, word_kind, word_at, is_apostrophe, closed_at, escaped_at, number_at}
-use Rattle.qvt_lexer.specs.declared.token.TokenKind.{TokenKind}
+use Rattle.qvt_lexer.specs.Pieces.{IsPlainName, IsEscapedName, IsDigits, Spells, IsPiece, NoPiece}
+use Rattle.qvt_lexer.specs.Scan.{IsScanOf, word_at, is_apostrophe, closed_at, escaped_at, number_at}
 use Rattle.qvt_lexer.specs.declared.token.TokenKind.TheVariants.{Name, Integer, Str, Word, Symbol, End}
 use Rattle.qvt_lexer.specs.declared.token.LexKind.TheVariants.{BadEscape, NumberTooLarge}
 use Rattle.qvt_lexer.specs.declared.scan.Piece.{Piece}
 use Rattle.qvt_lexer.specs.declared.scan.Piece.TheVariants.{Blank, Comment, Token}
-use Rattle.qvt_lexer.proofs.Runs.{and_both, and_left, and_right, no_both, run_more, skip_more, run_skip, every_run, begins_skip, run_longest, run_only}
-use Rattle.qvt_lexer.proofs.Sorts.{Sort, AtBlank, AtStart, AtDigit, AtQuote, AtMark, IsOf, sort_of, piece_of_sort, quote_continues}
+use Rattle.qvt_lexer.proofs.Runs.{and_both, and_left, no_both, run_more, run_skip, every_run, begins_skip, run_longest, run_only}
+use Rattle.qvt_lexer.proofs.Sorts.{AtBlank, AtStart, AtDigit, sort_of, piece_of_sort, quote_continues}
 
 -- a character that is no `_` begins no escaped name
 not_escape : (c : ℕ) (cs w : List ℕ) → (c ≡ 95 → ⊥) → c ∷ cs ≡ 95 ∷ 39 ∷ w → ⊥
@@ -31,15 +30,18 @@ blank_longest c cs (Token Symbol) v s k e = absurd cc
 blank_longest c cs (Token End) v s k e = absurd k.spells
 
 pub blank_next : (c : ℕ) (cs : List ℕ) → is_blank c ≡ true → IsScanOf (c ∷ cs) (Ok (Blank, cs))
-blank_next c cs h = (c ∷ [], record {
-  piece = record {
-    cut = refl;
-    spells = (c, refl, h);
-    uncut = λ e. absurd cc;
-    alone = λ w e. absurd (let k : c ≡ 95 = cc in no_both (is_blank 95) (subst (λ z. is_blank z ≡ true) k h) refl);
-  };
-  longest = λ p v s k. blank_longest c cs p v s k (piece_of_sort AtBlank p c cs v s h k);
-})
+blank_next c cs h = (
+  c ∷ [],
+  record {
+    piece = record {
+      cut = refl;
+      spells = (c, refl, h);
+      uncut = λ e. absurd cc;
+      alone = λ w e. absurd (let k : c ≡ 95 = cc in no_both (is_blank 95) (subst (λ z. is_blank z ≡ true) k h) refl);
+    };
+    longest = λ p v s k. blank_longest c cs p v s k (piece_of_sort AtBlank p c cs v s h k);
+  },
+)
 
 -- names and words
 module _ (c : ℕ) (cs : List ℕ) (starts : is_start c ≡ true) where
@@ -68,8 +70,9 @@ module _ (c : ℕ) (cs : List ℕ) (starts : is_start c ≡ true) where
     word_longest Blank v s k e = absurd cc
     word_longest Comment v s k e = absurd cc
     word_longest (Token Name) v s k e = elim k.spells [
-        inl n ↦ plain_longest v s k.cut n.0
-        | inr n ↦ absurd (no_escape ((n.0 ++ 39 ∷ []) ++ s) (k.cut ∙ ap (λ z. z ++ s) n.1)) ]
+      | inl n ↦ plain_longest v s k.cut n.0
+      | inr n ↦ absurd (no_escape ((n.0 ++ 39 ∷ []) ++ s) (k.cut ∙ ap (λ z. z ++ s) n.1))
+    ]
     word_longest (Token Word) v s k e = plain_longest v s k.cut k.spells.0
     word_longest (Token Integer) v s k e = absurd cc
     word_longest (Token Str) v s k e = absurd cc
@@ -77,15 +80,18 @@ module _ (c : ℕ) (cs : List ℕ) (starts : is_start c ≡ true) where
     word_longest (Token End) v s k e = absurd k.spells
 
     pub word_next : IsScanOf (c ∷ cs) (word_at c cs)
-    word_next = (c ∷ run is_continue cs, record {
-      piece = record {
-        cut = ap (λ z. c ∷ z) (run_skip is_continue cs);
-        spells = word_spells (is_reserved (encode_utf8_all (c ∷ run is_continue cs))) refl;
-        uncut = λ e. absurd (word_uncut (is_reserved (encode_utf8_all (c ∷ run is_continue cs))) e);
-        alone = λ w e. absurd (no_escape w e);
-      };
-      longest = λ p v s k. word_longest p v s k (piece_of_sort AtStart p c cs v s starts k);
-    })
+    word_next = (
+      c ∷ run is_continue cs,
+      record {
+        piece = record {
+          cut = ap (λ z. c ∷ z) (run_skip is_continue cs);
+          spells = word_spells (is_reserved (encode_utf8_all (c ∷ run is_continue cs))) refl;
+          uncut = λ e. absurd (word_uncut (is_reserved (encode_utf8_all (c ∷ run is_continue cs))) e);
+          alone = λ w e. absurd (no_escape w e);
+        };
+        longest = λ p v s k. word_longest p v s k (piece_of_sort AtStart p c cs v s starts k);
+      },
+    )
 
 -- what a piece of a text that begins with `_'` is: the escaped name
 module _ (w : List ℕ) where
@@ -117,18 +123,19 @@ module _ (w : List ℕ) where
         rest = sym only.1;
         text = d ∙ ap (λ z. 95 ∷ 39 ∷ (z ++ 39 ∷ [])) (n.2 ∙ ap (λ z. n.0 ∷ z) only.0);
       } where
-    stops : (s : List ℕ) → begins is_continue (39 ∷ s) ≡ false
-    stops s = no_continue (is_continue 39) refl where
-      no_continue : (b : Bool) → is_continue 39 ≡ b → b ≡ false
-      no_continue true h = absurd (quote_continues h)
-      no_continue false h = refl
+        stops : (s : List ℕ) → begins is_continue (39 ∷ s) ≡ false
+        stops s = no_continue (is_continue 39) refl where
+          no_continue : (b : Bool) → is_continue 39 ≡ b → b ≡ false
+          no_continue true h = absurd (quote_continues h)
+          no_continue false h = refl
 
   piece_escaped : (p : Piece) (v s : List ℕ) → IsPiece (95 ∷ 39 ∷ w) p v s → AtStart ≡ sort_of p → IsEscaped v s
   piece_escaped Blank v s k e = absurd cc
   piece_escaped Comment v s k e = absurd cc
   piece_escaped (Token Name) v s k e = let a = k.alone w refl in elim k.spells [
-      inl n ↦ absurd (not_plain v a.0 a.1 n.0)
-      | inr n ↦ escaped_is v s k.cut n ]
+    | inl n ↦ absurd (not_plain v a.0 a.1 n.0)
+    | inr n ↦ escaped_is v s k.cut n
+  ]
   piece_escaped (Token Word) v s k e = let a = k.alone w refl in absurd (not_plain v a.0 a.1 k.spells.0)
   piece_escaped (Token Integer) v s k e = absurd cc
   piece_escaped (Token Str) v s k e = absurd cc
@@ -159,21 +166,23 @@ module _ (d : ℕ) (ds : List ℕ) where
       → IsScanOf (95 ∷ 39 ∷ d ∷ ds) (cond b (Ok (Token Name, q)) (Err (BadEscape, 95 ∷ 39 ∷ d ∷ ds)))
   closed_scan r h starts true e q a t =
       let quote : e ≡ 39 = grind (arith, nat_tests) in
-      let cut : 39 ∷ q ≡ skip is_continue ds = sym (ap (λ z. z ∷ q) quote) ∙ sym (h ∙ a) in
-      (95 ∷ 39 ∷ ((d ∷ run is_continue ds) ++ 39 ∷ []), record {
-        piece = record {
-          cut = ap (λ z. 95 ∷ 39 ∷ d ∷ z) (run_skip is_continue ds ∙ ap (λ z. run is_continue ds ++ z) (sym cut) ∙ sym (append_assoc (run is_continue ds) (39 ∷ []) q));
-          spells = inr (d ∷ run is_continue ds, refl, (d, run is_continue ds, refl, starts, every_run is_continue ds));
-          uncut = λ e. absurd cc;
-          alone = λ w e. ((d ∷ run is_continue ds) ++ 39 ∷ [], refl);
-        };
-        longest = λ p v s k. omega (arith, ap length (rest_is p v s k).1);
-      })
+      let cut : 39 ∷ q ≡ skip is_continue ds = sym (ap (λ z. z ∷ q) quote) ∙ sym (h ∙ a) in (
+        95 ∷ 39 ∷ ((d ∷ run is_continue ds) ++ 39 ∷ []),
+        record {
+          piece = record {
+            cut = ap (λ z. 95 ∷ 39 ∷ d ∷ z) (run_skip is_continue ds ∙ ap (λ z. run is_continue ds ++ z) (sym cut) ∙ sym (append_assoc (run is_continue ds) (39 ∷ []) q));
+            spells = inr (d ∷ run is_continue ds, refl, (d, run is_continue ds, refl, starts, every_run is_continue ds));
+            uncut = λ e. absurd cc;
+            alone = λ w e. ((d ∷ run is_continue ds) ++ 39 ∷ [], refl);
+          };
+          longest = λ p v s k. omega (arith, ap length (rest_is p v s k).1);
+        },
+      )
   closed_scan r h starts false e q a t =
       fault (d ∷ ds) (λ p v s k.
-        let same : e ∷ q ≡ 39 ∷ s = sym (h ∙ a) ∙ (rest_is p v s k).0 in
-        let head : e ≡ 39 = cc in
-        no_both (39 == 39) refl (ap (λ z. z == 39) (sym head) ∙ t))
+      let same : e ∷ q ≡ 39 ∷ s = sym (h ∙ a) ∙ (rest_is p v s k).0 in
+      let head : e ≡ 39 = cc in
+      no_both (39 == 39) refl (ap (λ z. z == 39) (sym head) ∙ t))
 
   closed_cases : is_start d ≡ true → (r : List ℕ) → skip is_continue ds ≡ r → IsScanOf (95 ∷ 39 ∷ d ∷ ds) (closed_at (95 ∷ 39 ∷ d ∷ ds) r)
   closed_cases starts [] h = fault (d ∷ ds) (λ p v s k. let same : [] ≡ 39 ∷ s = sym h ∙ (rest_is p v s k).0 in absurd cc)
@@ -212,19 +221,25 @@ module _ (c : ℕ) (cs : List ℕ) (digit : is_digit c ≡ true) where
 
   number_cases : (b : Bool) → nat_le (number_of (run is_digit (c ∷ cs))) greatest_number ≡ b
       → IsScanOf (c ∷ cs) (cond b (Ok (Token Integer, skip is_digit (c ∷ cs))) (Err (NumberTooLarge, c ∷ cs)))
-  number_cases true h = (run is_digit (c ∷ cs), record {
-    piece = record {
-      cut = run_skip is_digit (c ∷ cs);
-      spells = ((c, run is_digit cs, run_more is_digit c cs digit, digit, every_run is_digit cs), grind (arith, h));
-      uncut = λ e. begins_skip is_digit (c ∷ cs);
-      alone = λ w e. absurd (digit_line w e);
-    };
-    longest = λ p v s k. omega (arith, ap length (number_of_piece p v s k).0);
-  })
-  number_cases false h = ((λ p v s k.
-      let n = number_of_piece p v s k in
-      let le = subst (λ z. number_of z ≤ greatest_number) n.0 n.1 in
-      too_large (number_of (run is_digit (c ∷ cs))) le h), (refl, digit)) where
+  number_cases true h = (
+    run is_digit (c ∷ cs),
+    record {
+      piece = record {
+        cut = run_skip is_digit (c ∷ cs);
+        spells = ((c, run is_digit cs, run_more is_digit c cs digit, digit, every_run is_digit cs), grind (arith, h));
+        uncut = λ e. begins_skip is_digit (c ∷ cs);
+        alone = λ w e. absurd (digit_line w e);
+      };
+      longest = λ p v s k. omega (arith, ap length (number_of_piece p v s k).0);
+    },
+  )
+  number_cases false h = (
+    (λ p v s k.
+        let n = number_of_piece p v s k in
+        let le = subst (λ z. number_of z ≤ greatest_number) n.0 n.1 in
+        too_large (number_of (run is_digit (c ∷ cs))) le h),
+    (refl, digit),
+  ) where
     too_large : (n : ℕ) → n ≤ greatest_number → nat_le n greatest_number ≡ false → ⊥
     too_large n le f = absurd (grind (arith, nat_tests))
 

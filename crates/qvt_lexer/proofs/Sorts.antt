@@ -1,15 +1,15 @@
 -- Each piece tells by its first character of which sort it is: the sorts are apart.
-use Rattle.std.proofs.Common.{◌≡◌, ℕ, ◌≤◌, ◌<◌, List, [], ◌∷◌, ◌++◌, length, Bool, true, false, ◌&&◌, ◌||◌, ◌==◌, not, ◌⊎◌, inl, inr, refl, sym, ap, ◌∙◌, subst, arith}
+use Rattle.std.proofs.Common.{◌≡◌, ℕ, ◌<◌, List, [], ◌∷◌, ◌++◌, Bool, true, false, ◌||◌, ◌==◌, inl, inr, refl, ap, ◌∙◌, subst, arith}
 use Rattle.std.proofs.lemmas.Bool.Decides.{nat_tests}
-use Rattle.std.specs.Char.{is_ascii_alphabetic, is_ascii_alphanumeric}
-use Rattle.unicode_ident.specs.Ident.{is_xid_start, is_xid_continue}
+use Rattle.std.specs.Char.{is_ascii_alphabetic}
+use Rattle.unicode_ident.specs.Ident.{is_xid_start}
 use Rattle.unicode_ident.proofs.IdentLemmas.{is_xid_start-ascii, is_xid_continue-ascii}
-use Rattle.qvt_lexer.specs.Characters.{is_blank, is_start, is_continue, is_digit, is_quote, is_in_line, is_single, is_double, is_line_comment, is_block_comment}
+use Rattle.qvt_lexer.specs.Characters.{is_blank, is_start, is_continue, is_digit, is_quote, is_single, is_double, is_line_comment}
 use Rattle.qvt_lexer.specs.Pieces.{IsPiece}
 use Rattle.qvt_lexer.specs.declared.token.TokenKind.TheVariants.{Name, Integer, Str, Word, Symbol, End}
 use Rattle.qvt_lexer.specs.declared.scan.Piece.{Piece}
 use Rattle.qvt_lexer.specs.declared.scan.Piece.TheVariants.{Blank, Comment, Token}
-use Rattle.qvt_lexer.proofs.Runs.{and_left, no_both}
+use Rattle.qvt_lexer.proofs.Runs.{no_both}
 
 -- what begins a symbol or a comment
 abbrev pub is_mark : ℕ → Bool
@@ -121,17 +121,20 @@ moved s c x cs u v r e d h = subst (IsOf s) (first_is c x cs u v r e d) h
 pub piece_sort : (p : Piece) (c : ℕ) (cs v s : List ℕ) → IsPiece (c ∷ cs) p v s → IsOf (sort_of p) c
 piece_sort Blank c cs v s k = let w = k.spells in moved AtBlank c w.0 cs [] v s k.cut w.1 w.2
 piece_sort Comment c cs v s k = elim k.spells [
-    inl w ↦ moved AtMark c w.0 cs (w.1 ∷ w.2) v s k.cut w.3 (line_mark w.0 w.1 w.4)
-    | inr w ↦ moved AtMark c 47 cs (42 ∷ w.0) v s k.cut w.1 refl ]
+  | inl w ↦ moved AtMark c w.0 cs (w.1 ∷ w.2) v s k.cut w.3 (line_mark w.0 w.1 w.4)
+  | inr w ↦ moved AtMark c 47 cs (42 ∷ w.0) v s k.cut w.1 refl
+]
 piece_sort (Token Name) c cs v s k = elim k.spells [
-    inl w ↦ moved AtStart c w.0.0 cs w.0.1 v s k.cut w.0.2 w.0.3
-    | inr w ↦ moved AtStart c 95 cs (39 ∷ (w.0 ++ 39 ∷ [])) v s k.cut w.1 refl ]
+  | inl w ↦ moved AtStart c w.0.0 cs w.0.1 v s k.cut w.0.2 w.0.3
+  | inr w ↦ moved AtStart c 95 cs (39 ∷ (w.0 ++ 39 ∷ [])) v s k.cut w.1 refl
+]
 piece_sort (Token Word) c cs v s k = let w = k.spells.0 in moved AtStart c w.0 cs w.1 v s k.cut w.2 w.3
 piece_sort (Token Integer) c cs v s k = let w = k.spells.0 in moved AtDigit c w.0 cs w.1 v s k.cut w.2 w.3
 piece_sort (Token Str) c cs v s k = let w = k.spells in moved AtQuote c w.0 cs w.1 v s k.cut w.3 w.4
 piece_sort (Token Symbol) c cs v s k = elim k.spells [
-    inl w ↦ moved AtMark c w.0 cs [] v s k.cut w.1 (single_mark w.0 w.2)
-    | inr w ↦ moved AtMark c w.0 cs (w.1 ∷ []) v s k.cut w.2 (double_mark w.0 w.1 w.3) ]
+  | inl w ↦ moved AtMark c w.0 cs [] v s k.cut w.1 (single_mark w.0 w.2)
+  | inr w ↦ moved AtMark c w.0 cs (w.1 ∷ []) v s k.cut w.2 (double_mark w.0 w.1 w.3)
+]
 piece_sort (Token End) c cs v s k = absurd k.spells
 
 -- a piece of a text whose first character is of a sort is of that sort

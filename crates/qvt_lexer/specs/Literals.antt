@@ -1,6 +1,6 @@
 -- Runs of characters, numbers, and what stands between quotes.
-use Rattle.std.specs.Prelude.{◌≡◌, ℕ, zero, suc, ◌+◌, ◌*◌, ◌-◌, Bool, true, false, ◌||◌, ◌&&◌, ◌==◌, nat_le, List, [], ◌∷◌, length, Option, Some, None, if◌then◌else◌}
-use Rattle.qvt_lexer.specs.Characters.{is_quote, is_hex, hex_value}
+use Rattle.std.specs.Prelude.{◌≡◌, ℕ, zero, suc, ◌+◌, ◌*◌, ◌-◌, Bool, true, false, ◌||◌, ◌&&◌, ◌==◌, nat_le, List, [], ◌∷◌, Option, Some, None, if◌then◌else◌}
+use Rattle.qvt_lexer.specs.Characters.{is_hex, hex_value}
 
 -- the longest front of characters that pass the test
 abbrev pub run : (ℕ → Bool) → List ℕ → List ℕ

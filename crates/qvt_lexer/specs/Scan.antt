@@ -1,5 +1,5 @@
 -- The next piece of a text, as a function of its characters.
-use Rattle.std.specs.Prelude.{◌≡◌, ℕ, zero, suc, Bool, ◌||◌, ◌&&◌, ◌==◌, nat_le, List, [], ◌∷◌, ◌++◌, length, drop, Option, Some, None, Result, Ok, Err, if◌then◌else◌}
+use Rattle.std.specs.Prelude.{ℕ, zero, suc, Bool, ◌&&◌, ◌==◌, nat_le, List, [], ◌∷◌, length, drop, Option, Some, None, Result, Ok, Err, if◌then◌else◌}
 use Rattle.std.specs.Str.{encode_utf8_all}
 use Rattle.qvt_lexer.specs.Characters.{is_blank, is_start, is_continue, is_digit, is_quote, is_in_line, is_single, is_double, is_line_comment, is_block_comment}
 use Rattle.qvt_lexer.specs.Words.{is_reserved}
@@ -38,6 +38,11 @@ escaped_at text (c ∷ cs) = if is_start c then closed_at text (skip is_continue
 abbrev pub number_at : List ℕ → Scan
 number_at text =
     if nat_le (number_of (run is_digit text)) greatest_number then Ok (Token Integer, skip is_digit text) else Err (NumberTooLarge, text)
+
+-- what is left after a `/` where c is `*`
+abbrev pub closes_at : ℕ → List ℕ → Option (List ℕ)
+closes_at c [] = None
+closes_at c (d ∷ cs) = if c == 42 && d == 47 then Some cs else None
 
 -- what is left after n items at most
 abbrev pub items_end : ℕ → ℕ → List ℕ → List ℕ

@@ -2,6 +2,10 @@
 //! token's text is a slice of the source.
 #![tactic(auto)]
 
+mod chars;
+mod cursor;
 pub mod lexer;
-pub mod scan;
+pub mod literals;
+mod scan;
 pub mod token;
+mod words;
