@@ -5,6 +5,7 @@ pub mod Divided
 pub mod Slices
 pub mod Runs
 pub mod Steps
+pub mod Unique
 pub mod Sorts
 pub mod Items
 pub mod Simple

@@ -65,7 +65,7 @@ blank_quote c h k = absurd (grind (arith, nat_tests))
 blank_mark : (c : ℕ) → is_blank c ≡ true → is_mark c ≡ true → ⊥
 blank_mark c h k = absurd (grind (arith, nat_tests))
 
-digit_quote : (c : ℕ) → is_digit c ≡ true → is_quote c ≡ true → ⊥
+pub digit_quote : (c : ℕ) → is_digit c ≡ true → is_quote c ≡ true → ⊥
 digit_quote c h k = absurd (grind (arith, nat_tests))
 
 digit_mark : (c : ℕ) → is_digit c ≡ true → is_mark c ≡ true → ⊥

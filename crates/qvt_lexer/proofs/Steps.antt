@@ -22,7 +22,7 @@ use Rattle.qvt_lexer.proofs.Items.{content_front}
 use Rattle.qvt_lexer.proofs.Scanned.{scan_is}
 
 -- a piece has a character
-spells_some : (p : Piece) (u : List ℕ) → Spells p u → 0 < length u
+pub spells_some : (p : Piece) (u : List ℕ) → Spells p u → 0 < length u
 spells_some Blank u k = omega (arith, ap length k.1)
 spells_some Comment u (inl k) = omega (arith, ap length k.3)
 spells_some Comment u (inr k) = omega (arith, ap length k.1)

@@ -10,3 +10,4 @@ pub mod Scanned
 pub mod Rooms
 pub mod Cursors
 pub mod State
+pub mod Unique

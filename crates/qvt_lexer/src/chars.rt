@@ -54,7 +54,7 @@ pub fn is_start(c: char) -> bool
 pub fn is_digit(c: char) -> bool
     ensures { result ≡ class.is_digit c }
 {
-    (c >= '0') & (c <= '9')
+    (c <= '9') & (c >= '0')
 }
 
 pub fn is_quote(c: char) -> bool

@@ -1,4 +1,5 @@
 ghost use Rattle.std.specs.Prelude.{◌≡◌, ◌+◌, ◌<◌, ◌≤◌, ◌^◌, length, drop, slice_range, IfOk, IfErr, OnErr};
+ghost use Rattle.qvt_lexer.specs.Unique.{OneDivision, OneFault};
 
 use crate::chars::split_char;
 use crate::cursor::{Cursor, next_token};
@@ -97,3 +98,13 @@ impl<'a> Lexer<'a> {
         }
     }
 }
+
+/// Its clauses are the law that a text has one division and one fault, so that the tokens and the
+/// fault that `next` gives are those of the text. It does nothing.
+pub fn one_division()
+    ensures division { OneDivision }
+    ensures fault { OneFault }
+{}
+
+#[cfg(test)]
+mod tests;
