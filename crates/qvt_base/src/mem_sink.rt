@@ -67,6 +67,7 @@ impl Sink for MemSink {
     ghost use Rattle.qvt_base.specs.MemSink.{bytes_in};
 
     ghost written = { λ s. Some (bytes_in s) };
+
     ghost faults = { λ s. s.faults };
 
     fn write(&mut self, piece: &[u8]) -> SinkAnswer {

@@ -79,8 +79,11 @@ impl<R: rt::Files + Drop> DirFiles<R> {
 
 impl<R: rt::Files + Drop> Files for DirFiles<R> {
     ghost held = { λ f. None };
+
     ghost failed_reads = { λ f. None };
+
     ghost read_faults = { λ f. f.read_faults };
+
     ghost write_faults = { λ f. f.write_faults };
 
     fn read(&mut self, alloc: Global, name: &str, limit: u32) -> ReadAnswer {
@@ -114,6 +117,7 @@ impl<R: Print + Drop> StdSink<R> {
 
 impl<R: Print + Drop> Sink for StdSink<R> {
     ghost written = { λ s. None };
+
     ghost faults = { λ s. s.faults };
 
     fn write(&mut self, piece: &[u8]) -> SinkAnswer {

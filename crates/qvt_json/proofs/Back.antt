@@ -25,7 +25,7 @@ read-compact_text d h shallow =
     let ts = tree.json_tokens (outline d) in
     let printable : ArePrintable ts = ArePrintable-json_tokens (outline d) (HasNumbers-outline d h) in
     let these : tokens (compact_text d ++ 10 ∷ []) ≡ ts ++ [] =
-      ap (λ text. tokens (text ++ 10 ∷ [])) (sym (print-outline d)) ∙ tokens-line_feed ts printable ∙ tokens-print ts printable ∙ sym (append-nil ts) in
+    ap (λ text. tokens (text ++ 10 ∷ [])) (sym (print-outline d)) ∙ tokens-line_feed ts printable ∙ tokens-print ts printable ∙ sym (append-nil ts) in
     let within : tree.depth (outline d) ≤ max_depth = omega (arith, depth-outline d, shallow) in
     ap (λ o. option_and_then of_json (option_and_then (λ p. json.if_last p.0 p.1) o)) (ap (json.value max_depth) these ∙ value-json_tokens (outline d) max_depth [] within)
     ∙ of_json-outline d h

@@ -2,6 +2,6 @@
 #![tactic(auto)]
 
 pub mod leaves;
-pub mod written;
 pub mod shape;
 pub mod value;
+pub mod written;

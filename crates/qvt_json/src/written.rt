@@ -24,5 +24,4 @@ pub fn write_value(alloc: Global, value: &Value) -> Result<Bytes, ListFault>
 /// What is written is read as the same value: for every plain value that nests no deeper than is read.
 pub fn written_is_read()
     ensures { WrittenIsRead }
-{
-}
+{}

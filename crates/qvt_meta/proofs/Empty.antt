@@ -57,4 +57,4 @@ well_formed = record {
 }
 
 pub kept : IsKept no_metamodels [] []
-kept = record { well_formed = well_formed; features = λ c. sym (no_features c); ancestors = λ c d. sym (no_ancestor c d) }
+kept = record { well_formed = well_formed; each = refl; features = λ c. sym (no_features c); ancestors = λ c d. sym (no_ancestor c d) }

@@ -3,3 +3,11 @@ pub mod Descends
 pub mod Named
 pub mod WellFormed
 pub mod Kept
+pub mod MetaData
+pub mod DataOf
+pub mod Names
+pub mod MetaForm
+pub mod SmallMeta
+pub mod Added
+pub mod Checked
+pub mod Places

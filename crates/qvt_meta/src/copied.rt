@@ -1,4 +1,4 @@
-ghost use Rattle.std.specs.Prelude.{◌≡◌, IfOk};
+ghost use Rattle.std.specs.Prelude.{◌≡◌, ◌++◌, IfOk};
 
 use crate::info::{ClassInfo, EnumInfo, FeatureInfo, MetamodelInfo};
 use qvt_base::copied::Copied;
@@ -16,6 +16,21 @@ pub fn copies<T: Copied>(alloc: Global, items: &[T]) -> Result<Vec<T>, ListFault
         copies.push(item.copy(alloc)?)?;
     }
     Ok(copies.into_vec())
+}
+
+/// Copies of the first ones, and then the others.
+pub fn joined<T: Copied>(
+    alloc: Global,
+    first: &[T],
+    mut others: Vec<T>,
+) -> Result<Vec<T>, ListFault>
+    ensures { IfOk result (λ v. v.items ≡ first.now ++ others.items) }
+{
+    let mut all = copies(alloc, first)?;
+    match all.append(&mut others) {
+        Ok(()) => Ok(all),
+        Err(_) => Err(ListFault::NoMemory),
+    }
 }
 
 fn copy_of_text(alloc: Global, text: &Option<Text>) -> Result<Option<Text>, ListFault>

@@ -1,15 +1,22 @@
-ghost use Rattle.std.specs.Prelude.{◌≡◌, [], length, None, IfOk};
+ghost use Rattle.std.specs.Prelude.{◌≡◌, [], length, None, IfOk, IfErr, OnOk, OnErr, IfSome, option_map, position, ◌==◌, ◌&&◌, ◌||◌, ◌<◌};
+ghost use Rattle.std.specs.Str.{bytes_eq};
 ghost use Rattle.qvt_meta.specs.Metamodels.{class_at, feature_at, shape_of, opposite, features_of};
 ghost use Rattle.qvt_meta.specs.Descends.{descends};
 ghost use Rattle.qvt_meta.specs.WellFormed.{IsWellFormed};
+ghost use Rattle.qvt_meta.specs.Named.{is_text};
 
-use crate::copied::copies;
+use crate::adding::with_numbers;
+use crate::begin::Begin;
+use crate::copied::{copies, joined};
+use crate::fault::MetasFault;
 use crate::info::{ClassInfo, FeatureInfo, FeatureShape, MetamodelInfo, TypeKind};
+use crate::meta::Meta;
 use qvt_base::copied::Copied;
 use qvt_base::list_fault::ListFault;
 use qvt_base::lists::FeatureNoList;
 use qvt_base::numbers::{ClassNo, FeatureNo};
 use qvt_base::seq::Seq;
+use qvt_base::text::Text;
 use std::alloc::Global;
 use std::marker::Model;
 
@@ -54,6 +61,48 @@ impl Metas {
         }
     }
 
+    /// Adds a metamodel, the first. A refused call changes nothing.
+    pub fn add(&mut self, meta: Meta) -> Result<(), MetasFault>
+        requires first { self.old ≡ record { metamodels = []; classes = []; features = []; element = None } }
+        requires room { HasRoom self.old meta }
+        ensures ok { OnOk result (self.new ≡ added self.old meta) }
+        ensures no_memory { IfErr result (λ fault. fault ≡ MetasFault.NoMemory) }
+        ensures err { OnErr result (self.new ≡ self.old) }
+    {
+        let next = self.with(meta)?;
+        *self = next;
+        Ok(())
+    }
+
+    ghost use Rattle.qvt_meta.specs.Added.{added, HasRoom};
+
+    /// These metamodels with one more.
+    #[tactic(auto, unfolding(crate::specs::Added::added))]
+    fn with(&self, meta: Meta) -> Result<Metas, MetasFault>
+        requires first { self.now ≡ record { metamodels = []; classes = []; features = []; element = None } }
+        requires room { HasRoom self.now meta }
+        ensures ok { IfOk result (λ next. next ≡ added self.now meta) }
+        ensures no_memory { IfErr result (λ fault. fault ≡ MetasFault.NoMemory) }
+    {
+        let alloc = *self.classes.allocator();
+        let begin = Begin {
+            metamodel: self.metamodels.len() as u32,
+            class: self.classes.len() as u32,
+            feature: self.features.len() as u32,
+        };
+        let numbered = with_numbers(alloc, begin, meta)?;
+        let mut one = Vec::new(alloc);
+        one.push(numbered.metamodel)?;
+        Ok(Metas {
+            metamodels: joined(alloc, self.metamodels.as_slice(), one)?,
+            classes: joined(alloc, self.classes.as_slice(), numbered.classes)?,
+            features: joined(alloc, self.features.as_slice(), numbered.features)?,
+            element: self.element,
+            lists: joined(alloc, self.lists.as_slice(), numbered.lists)?,
+            rows: Vec::new(alloc),
+        })
+    }
+
     pub fn metamodel_count(&self) -> u32
         ensures { result ≡ length self.now.metamodels }
     {
@@ -65,6 +114,40 @@ impl Metas {
         ensures well_formed { IsWellFormed self.now }
     {
         self.classes.len() as u32
+    }
+
+    ghost use Rattle.qvt_meta.specs.Named.{metamodel_named, class_named, feature_named};
+
+    /// The first metamodel whose name or uri this is.
+    pub fn metamodel(&self, name: &str) -> Option<u32>
+        ensures { result ≡ metamodel_named self.now name.now }
+    {
+        match find_metamodel(self.metamodels.as_slice(), name) {
+            Some(place) => Some(place as u32),
+            None => None,
+        }
+    }
+
+    /// The class of this name in a metamodel.
+    pub fn class(&self, metamodel: u32, name: &str) -> Option<ClassNo>
+        ensures { option_map (λ c. c.0) result ≡ class_named self.now metamodel name.now }
+    {
+        match find_class(self.classes.as_slice(), metamodel, name) {
+            Some(place) => Some(ClassNo(place as u32)),
+            None => None,
+        }
+    }
+
+    /// The feature of this name that objects of the class have.
+    pub fn feature(&self, class: ClassNo, name: &str) -> Option<FeatureNo>
+        ensures { result ≡ feature_named self.now class.0 name.now }
+    {
+        for feature in self.features(class) {
+            if name == self.feature_name(*feature) {
+                return Some(*feature);
+            }
+        }
+        None
     }
 
     pub fn metamodel_of(&self, class: ClassNo) -> u32
@@ -203,4 +286,31 @@ impl Copied for Metas {
             rows: copies_of_rows(alloc, self.rows.as_slice())?,
         })
     }
+}
+
+fn is_text(text: &Option<Text>, name: &str) -> bool
+    ensures { result ≡ is_text text.now name.now }
+{
+    match text {
+        None => false,
+        Some(text) => name == text.as_str(),
+    }
+}
+
+fn find_metamodel(metamodels: &[MetamodelInfo], name: &str) -> Option<usize>
+    ensures value { result ≡ position (λ m. bytes_eq name.now m.name || is_text m.uri name.now) metamodels.now }
+    ensures bound { IfSome result (λ i. i < length metamodels.now) }
+{
+    metamodels
+        .iter()
+        .position(|m| name == m.name.as_str() || is_text(&m.uri, name))
+}
+
+fn find_class(classes: &[ClassInfo], metamodel: u32, name: &str) -> Option<usize>
+    ensures value { result ≡ position (λ c. (c.metamodel == metamodel) && bytes_eq name.now c.name) classes.now }
+    ensures bound { IfSome result (λ i. i < length classes.now) }
+{
+    classes
+        .iter()
+        .position(|c| c.metamodel == metamodel && name == c.name.as_str())
 }

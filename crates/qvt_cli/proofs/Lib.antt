@@ -1,0 +1,6 @@
+pub mod Numbers
+pub mod Sent
+pub mod Settle
+pub mod SmallLoops
+pub mod SmallTurns
+pub mod Written

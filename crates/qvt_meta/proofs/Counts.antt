@@ -1,0 +1,21 @@
+-- How many features stand before those of a class.
+use Rattle.std.proofs.Common.{◌≡◌, ℕ, zero, suc, ◌+◌, ◌≤◌, ◌<◌, ◌∙◌, List, [], ◌∷◌, length, take, get_or, arith}
+use Rattle.qvt_meta.specs.declared.declared.DeclaredClass.{DeclaredClass}
+use Rattle.qvt_meta.specs.Added.{declared_at, feature_count}
+use Rattle.qvt_meta.specs.Places.{firsts_of}
+
+pub count_within : (ks : List DeclaredClass) (i : ℕ) → feature_count (take i ks) + length (declared_at ks i).features ≤ feature_count ks
+count_within [] zero = omega arith
+count_within [] (suc i) = omega arith
+count_within (k ∷ ks) zero = omega arith
+count_within (k ∷ ks) (suc i) = omega (arith, count_within ks i)
+
+pub firsts_length : (n : ℕ) (ks : List DeclaredClass) → length (firsts_of n ks) ≡ length ks + 1
+firsts_length n [] = omega arith
+firsts_length n (k ∷ ks) = omega (arith, firsts_length (n + length k.features) ks)
+
+pub firsts_of-at : (n : ℕ) (ks : List DeclaredClass) (i d : ℕ) → i ≤ length ks → get_or (firsts_of n ks) i d ≡ n + feature_count (take i ks)
+firsts_of-at n [] zero d h = omega arith
+firsts_of-at n [] (suc i) d h = absurd (omega arith)
+firsts_of-at n (k ∷ ks) zero d h = omega arith
+firsts_of-at n (k ∷ ks) (suc i) d h = firsts_of-at (n + length k.features) ks i d (omega arith) ∙ omega arith

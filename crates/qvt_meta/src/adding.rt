@@ -1,0 +1,361 @@
+//! A metamodel's data as numbered data.
+
+ghost use Rattle.std.specs.Prelude.{◌≡◌, ◌+◌, ◌<◌, ◌≤◌, ◌^◌, ℕ, List, length, map, take, slice_index, IfOk, OnOk, ◌++◌, option_map, position, IfSome, [], None};
+ghost use Rattle.std.specs.Str.{bytes_eq};
+ghost use Rattle.qvt_meta.specs.MetaData.{feature_names};
+ghost use Rattle.qvt_meta.specs.Places.{ArePlaces, firsts_of};
+ghost use Rattle.qvt_meta.specs.Names.{repeated};
+ghost use Rattle.qvt_meta.specs.Checked.{IsChecked};
+ghost use Rattle.qvt_meta.specs.Added.{declared_at, place_in, kind_of, feature_count, feature_number, feature_info, feature_infos, numbers_from, class_info, class_infos, names_of};
+
+use crate::begin::Begin;
+use crate::declared::{DeclaredClass, DeclaredFeature};
+use crate::info::{ClassInfo, EnumInfo, FeatureInfo, FeatureShape, MetamodelInfo, TypeKind};
+use crate::meta::{Meta, MetaParts};
+use crate::names::names_of as distinct_names;
+use indexmap::IndexSet;
+use qvt_base::copied::Copied;
+use qvt_base::list_fault::ListFault;
+use qvt_base::lists::{ClassNoList, FeatureNoList};
+use qvt_base::numbers::{ClassNo, FeatureNo};
+use qvt_base::seq::Seq;
+use qvt_base::text::Text;
+use std::alloc::Global;
+
+/// Where the names of a metamodel that is added are: its enumerations, its classes, and how many
+/// features stand before those of each class, and before the end.
+#[derive(Drop)]
+pub struct Places {
+    pub enums: IndexSet<Text>,
+    pub classes: IndexSet<Text>,
+    pub firsts: Vec<u32>,
+}
+
+/// The place of a name that is there.
+fn place_in(names: &IndexSet<Text>, name: &Text) -> usize
+    ensures place { result ≡ place_in names.now.keys name.now }
+    ensures bound { result ≤ length names.now.keys }
+{
+    match names.get_index_of(name) {
+        Some(place) => place,
+        None => 0,
+    }
+}
+
+/// The type of this name, among these enumerations and classes.
+fn kind_of(begin: Begin, enums: &IndexSet<Text>, classes: &IndexSet<Text>, name: &Text) -> TypeKind
+    requires few_enums { length enums.now.keys < 2 ^ 32 }
+    requires few_classes { begin.class + length classes.now.keys < 2 ^ 32 }
+    ensures { result ≡ kind_of begin enums.now.keys classes.now.keys name.now }
+{
+    if name.as_str() == "Boolean" {
+        return TypeKind::Bool;
+    }
+    if name.as_str() == "Integer" {
+        return TypeKind::Int;
+    }
+    if name.as_str() == "String" {
+        return TypeKind::Str;
+    }
+    match enums.get_index_of(name) {
+        Some(place) => TypeKind::Enum(begin.metamodel, place as u32),
+        None => TypeKind::Class(ClassNo(begin.class + place_in(classes, name) as u32)),
+    }
+}
+
+/// The numbers of the superclasses.
+fn supers_of(
+    alloc: Global,
+    begin: Begin,
+    classes: &IndexSet<Text>,
+    supers: &[Text],
+) -> Result<ClassNoList, ListFault>
+    requires { begin.class + length classes.now.keys < 2 ^ 32 }
+    ensures { IfOk result (λ s. s ≡ map (λ name. record { 0 = begin.class + place_in classes.now.keys name }) supers.now) }
+{
+    let mut numbers = Seq::new(alloc);
+    for name in supers {
+        numbers.push(ClassNo(begin.class + place_in(classes, name) as u32))?;
+    }
+    Ok(numbers)
+}
+
+/// As many numbers from this one on.
+fn numbers_from(alloc: Global, first: u32, count: usize) -> Result<FeatureNoList, ListFault>
+    requires { first + count < 2 ^ 32 }
+    ensures { IfOk result (λ s. s ≡ numbers_from first count) }
+{
+    let last = first + count as u32;
+    let mut numbers = Seq::new(alloc);
+    for number in first..last {
+        numbers.push(FeatureNo(number))?;
+    }
+    Ok(numbers)
+}
+
+#[tactic(auto, unfolding(crate::specs::Added::class_info))]
+fn class_info(
+    alloc: Global,
+    begin: Begin,
+    classes: &IndexSet<Text>,
+    first: u32,
+    class: &DeclaredClass,
+) -> Result<ClassInfo, ListFault>
+    requires few_classes { begin.class + length classes.now.keys < 2 ^ 32 }
+    requires few_features { first + length class.now.features < 2 ^ 32 }
+    ensures { IfOk result (λ k. k ≡ class_info begin classes.now.keys first class.now) }
+{
+    Ok(ClassInfo {
+        metamodel: begin.metamodel,
+        name: class.name.copy(alloc)?,
+        is_abstract: class.is_abstract,
+        supers: supers_of(alloc, begin, classes, class.supers.as_slice())?,
+        own: numbers_from(alloc, first, class.features.len())?,
+    })
+}
+
+/// The classes, whose features have the numbers from the first on.
+pub fn class_infos(
+    alloc: Global,
+    begin: Begin,
+    names: &IndexSet<Text>,
+    classes: &[DeclaredClass],
+) -> Result<Vec<ClassInfo>, ListFault>
+    requires few_classes { begin.class + length names.now.keys < 2 ^ 32 }
+    requires few_features { begin.feature + feature_count classes.now < 2 ^ 32 }
+    ensures { IfOk result (λ v. v.items ≡ class_infos begin names.now.keys begin.feature classes.now) }
+{
+    let mut infos = Seq::new(alloc);
+    let mut first = begin.feature;
+    for class in classes {
+        infos.push(class_info(alloc, begin, names, first, class)?)?;
+        first += class.features.len() as u32;
+    }
+    Ok(infos.into_vec())
+}
+
+fn find_feature(features: &[DeclaredFeature], name: &Text) -> Option<usize>
+    ensures value { result ≡ position (λ f. bytes_eq name.now f.name) features.now }
+    ensures bound { IfSome result (λ i. i < length features.now) }
+{
+    features
+        .iter()
+        .position(|f| name.as_str() == f.name.as_str())
+}
+
+/// The place among these features of the one with this name, 0 where there is none.
+fn feature_place(features: &[DeclaredFeature], name: &Text) -> usize
+    ensures place { result ≡ place_in (map (λ f. f.name) features.now) name.now }
+    ensures bound { result ≤ length features.now }
+{
+    match find_feature(features, name) {
+        Some(place) => place,
+        None => 0,
+    }
+}
+
+/// The same among the features of the class at a place.
+fn own_place(classes: &[DeclaredClass], class: usize, name: &Text) -> usize
+    ensures place { result ≡ place_in (feature_names (declared_at classes.now class)) name.now }
+    ensures bound { result ≤ length (declared_at classes.now class).features }
+{
+    if class < classes.len() {
+        feature_place(classes[class].features.as_slice(), name)
+    } else {
+        0
+    }
+}
+
+/// The number of the feature of this name that the class at a place declares.
+#[tactic(auto, using(crate::proofs::Counts::firsts_length))]
+fn feature_number(
+    begin: Begin,
+    places: &Places,
+    classes: &[DeclaredClass],
+    class: usize,
+    name: &Text,
+) -> FeatureNo
+    requires live { class ≤ length classes.now }
+    requires places { ArePlaces begin places.now classes.now }
+    ensures { result ≡ feature_number begin classes.now class name.now }
+{
+    let place = own_place(classes, class, name);
+    FeatureNo(begin.feature + (places.firsts[class] + place as u32))
+}
+
+/// The number of the opposite that a feature names.
+fn opposite_of(
+    begin: Begin,
+    places: &Places,
+    classes: &[DeclaredClass],
+    feature: &DeclaredFeature,
+) -> Option<FeatureNo>
+    requires { ArePlaces begin places.now classes.now }
+    ensures { result ≡ option_map (feature_number begin classes.now (place_in (names_of classes.now) feature.now.kind)) feature.now.opposite }
+{
+    match &feature.opposite {
+        None => None,
+        Some(name) => {
+            let class = place_in(&places.classes, &feature.kind);
+            Some(feature_number(begin, places, classes, class, name))
+        }
+    }
+}
+
+#[tactic(auto, unfolding(crate::specs::Added::feature_info))]
+fn feature_info(
+    alloc: Global,
+    begin: Begin,
+    places: &Places,
+    classes: &[DeclaredClass],
+    owner: u32,
+    feature: &DeclaredFeature,
+) -> Result<FeatureInfo, ListFault>
+    requires { ArePlaces begin places.now classes.now }
+    ensures { IfOk result (λ f. f ≡ feature_info begin places.now.enums.keys classes.now owner feature.now) }
+{
+    Ok(FeatureInfo {
+        owner: ClassNo(owner),
+        name: feature.name.copy(alloc)?,
+        shape: FeatureShape {
+            kind: kind_of(begin, &places.enums, &places.classes, &feature.kind),
+            lower: feature.lower,
+            upper: feature.upper,
+            ordered: feature.ordered,
+            unique: feature.unique,
+            containment: feature.containment,
+        },
+        opposite: opposite_of(begin, places, classes, feature),
+    })
+}
+
+/// Puts the features of one class last.
+fn add_features(
+    alloc: Global,
+    begin: Begin,
+    places: &Places,
+    classes: &[DeclaredClass],
+    owner: u32,
+    infos: &mut Seq<FeatureInfo>,
+    features: &[DeclaredFeature],
+) -> Result<(), ListFault>
+    requires { ArePlaces begin places.now classes.now }
+    ensures { OnOk result (infos.new ≡ infos.old ++ map (feature_info begin places.now.enums.keys classes.now owner) features.now) }
+{
+    for feature in features {
+        infos.push(feature_info(alloc, begin, places, classes, owner, feature)?)?;
+    }
+    Ok(())
+}
+
+/// The features of the classes, in order.
+pub fn feature_infos(
+    alloc: Global,
+    begin: Begin,
+    places: &Places,
+    classes: &[DeclaredClass],
+) -> Result<Vec<FeatureInfo>, ListFault>
+    requires { ArePlaces begin places.now classes.now }
+    ensures { IfOk result (λ v. v.items ≡ feature_infos begin places.now.enums.keys classes.now begin.class classes.now) }
+{
+    let mut infos = Seq::new(alloc);
+    let mut owner = begin.class;
+    for class in classes {
+        add_features(
+            alloc,
+            begin,
+            places,
+            classes,
+            owner,
+            &mut infos,
+            class.features.as_slice(),
+        )?;
+        owner += 1;
+    }
+    Ok(infos.into_vec())
+}
+
+/// How many features stand before those of each class, and before the end.
+fn firsts(alloc: Global, classes: &[DeclaredClass]) -> Result<Vec<u32>, ListFault>
+    requires { feature_count classes.now < 2 ^ 32 }
+    ensures { IfOk result (λ v. v.items ≡ firsts_of 0 classes.now) }
+{
+    let mut firsts = Seq::new(alloc);
+    let mut count = 0;
+    for class in classes {
+        firsts.push(count)?;
+        count += class.features.len() as u32;
+    }
+    firsts.push(count)?;
+    Ok(firsts.into_vec())
+}
+
+/// Where the names of these are, no two of which are the same.
+pub fn places_of(
+    alloc: Global,
+    enums: &[EnumInfo],
+    classes: &[DeclaredClass],
+) -> Result<Places, ListFault>
+    requires enums { repeated [] (map (λ e. e.name) enums.now) ≡ None }
+    requires classes { repeated [] (names_of classes.now) ≡ None }
+    requires few { feature_count classes.now < 2 ^ 32 }
+    ensures enums { IfOk result (λ p. p.enums.keys ≡ map (λ e. e.name) enums.now) }
+    ensures classes { IfOk result (λ p. p.classes.keys ≡ names_of classes.now) }
+    ensures firsts { IfOk result (λ p. p.firsts.items ≡ firsts_of 0 classes.now) }
+{
+    Ok(Places {
+        enums: distinct_names(alloc, enums)?,
+        classes: distinct_names(alloc, classes)?,
+        firsts: firsts(alloc, classes)?,
+    })
+}
+
+/// The features that each class declares itself.
+pub fn own_lists(alloc: Global, classes: &[ClassInfo]) -> Result<Vec<FeatureNoList>, ListFault>
+    ensures { IfOk result (λ v. v.items ≡ map (λ k. k.own) classes.now) }
+{
+    let mut lists = Seq::new(alloc);
+    for class in classes {
+        lists.push(class.own.copy(alloc)?)?;
+    }
+    Ok(lists.into_vec())
+}
+
+/// A metamodel's data with its numbers.
+#[derive(Debug, Drop)]
+pub struct Numbered {
+    pub metamodel: MetamodelInfo,
+    pub classes: Vec<ClassInfo>,
+    pub features: Vec<FeatureInfo>,
+    pub lists: Vec<FeatureNoList>,
+}
+
+/// Numbers a metamodel's data from these numbers on.
+pub fn with_numbers(alloc: Global, begin: Begin, meta: Meta) -> Result<Numbered, ListFault>
+    requires few_enums { length meta.enums < 2 ^ 32 }
+    requires few_classes { begin.class + length meta.classes < 2 ^ 32 }
+    requires few_features { begin.feature + feature_count meta.classes < 2 ^ 32 }
+    ensures metamodel { IfOk result (λ n. n.metamodel ≡ record { name = meta.name; uri = meta.uri; enums = meta.enums }) }
+    ensures classes { IfOk result (λ n. n.classes.items ≡ class_infos begin (names_of meta.classes) begin.feature meta.classes) }
+    ensures features { IfOk result (λ n. n.features.items ≡ feature_infos begin (map (λ e. e.name) meta.enums) meta.classes begin.class meta.classes) }
+    ensures lists { IfOk result (λ n. n.lists.items ≡ map (λ k. k.own) n.classes.items) }
+    ensures checked { IsChecked meta }
+{
+    let parts = meta.into_parts();
+    let places = places_of(alloc, parts.enums.as_slice(), parts.classes.as_slice())?;
+    let classes = class_infos(alloc, begin, &places.classes, parts.classes.as_slice())?;
+    let features = feature_infos(alloc, begin, &places, parts.classes.as_slice())?;
+    let lists = own_lists(alloc, classes.as_slice())?;
+    let MetaParts {
+        name,
+        uri,
+        enums,
+        ..
+    } = parts;
+    Ok(Numbered {
+        metamodel: MetamodelInfo { name, uri, enums },
+        classes,
+        features,
+        lists,
+    })
+}

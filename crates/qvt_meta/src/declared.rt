@@ -1,0 +1,26 @@
+use qvt_base::lists::NameList;
+use qvt_base::seq::Seq;
+use qvt_base::text::Text;
+
+/// A feature as a metamodel's file declares it, its type and opposite by name. `upper` is None
+/// where there is no upper bound.
+#[derive(Debug, Drop)]
+pub struct DeclaredFeature {
+    pub name: Text,
+    pub kind: Text,
+    pub lower: u32,
+    pub upper: Option<u32>,
+    pub ordered: bool,
+    pub unique: bool,
+    pub containment: bool,
+    pub opposite: Option<Text>,
+}
+
+/// A class as a metamodel's file declares it, its superclasses by name.
+#[derive(Debug, Drop)]
+pub struct DeclaredClass {
+    pub name: Text,
+    pub is_abstract: bool,
+    pub supers: NameList,
+    pub features: Seq<DeclaredFeature>,
+}

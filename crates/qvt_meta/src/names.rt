@@ -1,0 +1,102 @@
+ghost use Rattle.std.specs.Prelude.{◌≡◌, ℕ, None, List, [], map, IfOk, OnErr, OnOk, MatchResult, codes, ◌∷◌, ◌++◌, false};
+ghost use Rattle.qvt_meta.specs.Names.{primitive_names, is_among, repeated};
+
+use crate::declared::{DeclaredClass, DeclaredFeature};
+use crate::info::EnumInfo;
+use indexmap::IndexSet;
+use qvt_base::copied::Copied;
+use qvt_base::list_fault::ListFault;
+use qvt_base::text::Text;
+use std::alloc::Global;
+
+/// What has a name.
+pub trait Named {
+    ghost name_of: { Self → List ℕ };
+
+    fn name(&self) -> &Text
+        ensures { result.now ≡ name_of self.now };
+}
+
+impl Named for Text {
+    ghost name_of = { λ t. t };
+
+    fn name(&self) -> &Text {
+        self
+    }
+}
+
+impl Named for DeclaredClass {
+    ghost name_of = { λ c. c.name };
+
+    fn name(&self) -> &Text {
+        &self.name
+    }
+}
+
+impl Named for DeclaredFeature {
+    ghost name_of = { λ f. f.name };
+
+    fn name(&self) -> &Text {
+        &self.name
+    }
+}
+
+/// Puts a name last that is not among these.
+pub fn add_name(names: &mut IndexSet<Text>, name: Text) -> Result<(), ListFault>
+    requires { is_among name names.old.keys ≡ false }
+    ensures { OnOk result (names.new.keys ≡ names.old.keys ++ name ∷ []) }
+{
+    match names.insert(name) {
+        Ok(_) => Ok(()),
+        Err(_) => Err(ListFault::NoMemory),
+    }
+}
+
+/// The names of the types that every metamodel has.
+pub fn primitive_names(alloc: Global) -> Result<IndexSet<Text>, ListFault>
+    ensures { IfOk result (λ names. names.keys ≡ primitive_names) }
+{
+    let mut names = IndexSet::new(alloc);
+    add_name(&mut names, Text::from_str(alloc, "Boolean")?)?;
+    add_name(&mut names, Text::from_str(alloc, "Integer")?)?;
+    add_name(&mut names, Text::from_str(alloc, "String")?)?;
+    Ok(names)
+}
+
+/// The first of the names that is taken, or stands before.
+pub fn repeated<T: Named>(
+    alloc: Global,
+    mut taken: IndexSet<Text>,
+    items: &[T],
+) -> Result<Option<Text>, ListFault>
+    ensures { IfOk result (λ o. o ≡ repeated taken.keys (map T.name_of items.now)) }
+{
+    for item in items {
+        let name = item.name();
+        if taken.contains(name) {
+            return Ok(Some(name.copy(alloc)?));
+        }
+        add_name(&mut taken, name.copy(alloc)?)?;
+    }
+    Ok(None)
+}
+
+impl Named for EnumInfo {
+    ghost name_of = { λ e. e.name };
+
+    fn name(&self) -> &Text {
+        &self.name
+    }
+}
+
+/// The names of these, no two of which are the same.
+pub fn names_of<T: Named>(alloc: Global, items: &[T]) -> Result<IndexSet<Text>, ListFault>
+    requires { repeated [] (map T.name_of items.now) ≡ None }
+    ensures { IfOk result (λ names. names.keys ≡ map T.name_of items.now) }
+{
+    let mut names = IndexSet::new(alloc);
+    for item in items {
+        add_name(&mut names, item.name().copy(alloc)?)?;
+    }
+    Ok(names)
+}
