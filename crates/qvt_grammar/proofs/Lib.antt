@@ -1,0 +1,10 @@
+pub mod Lists
+pub mod Firsts
+pub mod Sequences
+pub mod Choices
+pub mod Repeats
+pub mod Endings
+pub mod Wider
+pub mod Fronts
+pub mod Rooms
+pub mod Loops

@@ -1,0 +1,14 @@
+pub mod Ends
+pub mod Numbers
+pub mod Cuts
+pub mod Divided
+pub mod Slices
+pub mod Runs
+pub mod Steps
+pub mod Unique
+pub mod Sorts
+pub mod Items
+pub mod Simple
+pub mod Quoted
+pub mod Marks
+pub mod Scanned

@@ -1,0 +1,13 @@
+pub mod Characters
+pub mod Words
+pub mod Literals
+pub mod Pieces
+pub mod Division
+pub mod Ends
+pub mod Classes
+pub mod Scan
+pub mod Scanned
+pub mod Rooms
+pub mod Cursors
+pub mod State
+pub mod Unique
