@@ -78,9 +78,9 @@ pub carried_after : (p : Plan) (run : Result Outcome Outcome) (names : List (Lis
     → CarriedOut p held c.held writes c.writes c.written_before c.written c.sinks_before c.sinks answer → Answers (settled run) names before c answer
 carried_after p run names before c answer held writes is told same h =
     subst (λ r. Answers (settled r) names before c answer) (sym is)
-      (carried p names before c answer
-        (subst (λ w. CarriedOut p (Some before) c.held w c.writes c.written_before c.written c.sinks_before c.sinks answer) same
-          (subst (λ t. CarriedOut p t c.held writes c.writes c.written_before c.written c.sinks_before c.sinks answer) told h)))
+    (carried p names before c answer
+    (subst (λ w. CarriedOut p (Some before) c.held w c.writes c.written_before c.written c.sinks_before c.sinks answer) same
+    (subst (λ t. CarriedOut p t c.held writes c.writes c.written_before c.written c.sinks_before c.sinks answer) told h)))
 
 -- a run that ended early was told, or that memory was wanting
 pub finished_after : (e : Stop) (run : Result Outcome Outcome) (names : List (List ℕ)) (before : Held) (c : Change) (answer : Status) → Stops e run

@@ -45,7 +45,7 @@ pub broken : (front : List Token) (n : ℕ) (cs : List ℕ) (all : Option (List 
 broken front n cs all so_far some e bad =
     let turn : n ≡ suc (n - 1) = omega arith in
     sym (sym so_far ∙ ap (λ k. with_front front (tokens_from k cs)) turn ∙ ap (with_front front) (one_turn (n - 1) cs e)
-      ∙ ap (λ o. with_front front (option_and_then (λ x. option_map (λ ts. x.0 ∷ ts) (tokens_from (n - 1) (past (is_in class.Blank) x.1))) o)) (sym bad))
+    ∙ ap (λ o. with_front front (option_and_then (λ x. option_map (λ ts. x.0 ∷ ts) (tokens_from (n - 1) (past (is_in class.Blank) x.1))) o)) (sym bad))
 
 -- one token more
 pub one_more : (front : List Token) (n m : ℕ) (cs rest : List ℕ) (t : Token) (all : Option (List Token)) → with_front front (tokens_from n cs) ≡ all → n ≡ suc m → is_nil cs ≡ false

@@ -48,8 +48,8 @@ stopped_next before now after outputs i o file within is file_is so_far failed =
     let name : file ≡ name_at (files_in outputs) i = file_is ∙ ap (λ x. x.file) is ∙ sym (ap (λ f. f.0) (get_or-map file_of outputs i o ([], []) within)) in
     let front : files_in (take i outputs) ≡ take i (files_in outputs) = sym (take-map file_of i outputs) in
     subst (λ n. BothTold (λ old new. SameBut n (put_all (take i (files_in outputs)) old) new) before after) name
-      (subst (λ fs. BothTold (λ old new. SameBut file (put_all fs old) new) before after) front
-        (moved before now after file (files_in (take i outputs)) so_far failed))
+    (subst (λ fs. BothTold (λ old new. SameBut file (put_all fs old) new) before after) front
+    (moved before now after file (files_in (take i outputs)) so_far failed))
 
 ready_at : (outputs : List Output) (k : ℕ) (d : Output) → k < length outputs → IsReady outputs → (get_or outputs k d).fault_line ≡ write_fault_line (get_or outputs k d).file
 ready_at [] k d within ready = absurd (omega arith)

@@ -31,4 +31,4 @@ abbrev pub CarriedOut : Plan → Option Held → Option Held → ℕ → ℕ →
 CarriedOut p before now writes_before writes sink_before sink faults_before faults answer =
     ((now ≡ option_map (put_all (files_in p.outputs)) before) × Reports p.line status.Done sink_before sink faults_before faults answer)
     ⊎ ((k : ℕ) × StoppedWriting (files_in p.outputs) k before now × (k < length (files_in p.outputs)) × Rose writes_before writes
-      × Reports (write_fault_line (name_at (files_in p.outputs) k)) status.WriteFault sink_before sink faults_before faults answer)
+    × Reports (write_fault_line (name_at (files_in p.outputs) k)) status.WriteFault sink_before sink faults_before faults answer)

@@ -24,8 +24,15 @@ pub record Change : Type 0 where
 
 abbrev pub change_of : Option Held → Option (List ℕ) → Option (List ℕ) → ℕ → ℕ → ℕ → ℕ → ℕ → ℕ → Change
 change_of held written_before written reads_before reads writes_before writes sinks_before sinks = record {
-  held = held; written_before = written_before; written = written;
-  reads_before = reads_before; reads = reads; writes_before = writes_before; writes = writes; sinks_before = sinks_before; sinks = sinks;
+  held = held;
+  written_before = written_before;
+  written = written;
+  reads_before = reads_before;
+  reads = reads;
+  writes_before = writes_before;
+  writes = writes;
+  sinks_before = sinks_before;
+  sinks = sinks;
 }
 
 abbrev pub appended : List ℕ → Option (List ℕ) → Option (List ℕ)
@@ -66,7 +73,7 @@ pub record FileFailed (o : Outcome) (before : Held) (c : Change) : Type 0 where
   pub done : status_of o ≡ status.Done
   pub at : (k : ℕ) × (k < length (files_of o)) × (now : Held) × (c.held ≡ Some now) × SameBut (name_at (files_of o) k) (put_all (take k (files_of o)) before) now
       × ((c.written ≡ appended (write_fault_line (name_at (files_of o) k)) c.written_before)
-        ⊎ (Rose c.sinks_before c.sinks × IsCut (write_fault_line (name_at (files_of o) k)) c.written_before c.written))
+      ⊎ (Rose c.sinks_before c.sinks × IsCut (write_fault_line (name_at (files_of o) k)) c.written_before c.written))
 
 -- the sink failed on the outcome's own text
 pub record ReportFailed (o : Outcome) (before : Held) (c : Change) : Type 0 where

@@ -30,7 +30,11 @@ fn send<S: Sink>(out: &mut S, text: &[u8]) -> bool
 pub fn report<S: Sink>(out: &mut S, text: &[u8], status: Status) -> Status
     ensures { Reports text.now status (S.written out.old) (S.written out.new) (S.faults out.old) (S.faults out.new) result }
 {
-    if send(out, text) { status } else { Status::WriteFault }
+    if send(out, text) {
+        status
+    } else {
+        Status::WriteFault
+    }
 }
 
 fn bytes_of(text: String) -> Bytes

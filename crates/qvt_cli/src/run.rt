@@ -123,10 +123,10 @@ fn metas_in(alloc: Global, name: &Text, bytes: &[u8]) -> Result<Metas, Stop>
         Ok(meta) => meta,
     };
     // No file within its limit has so many classes or features.
-    if !meta.has_few() {
+    let mut metas = Metas::new(alloc);
+    if !metas.has_room(&meta) {
         return Err(Stop::NoMemory);
     }
-    let mut metas = Metas::new(alloc);
     match metas.add(meta) {
         Err(_) => Err(Stop::NoMemory),
         Ok(()) => Ok(metas),
@@ -198,7 +198,12 @@ fn text_in(alloc: Global, metas: &Metas, job: &SmallJob, bytes: &[u8]) -> Result
 
 /// Reads the text.
 #[tactic(auto, unfolding(crate::specs::Run::text_read))]
-fn read_text<F: Files>(alloc: Global, files: &mut F, job: &SmallJob, metas: &Metas) -> Result<SmallText, Stop>
+fn read_text<F: Files>(
+    alloc: Global,
+    files: &mut F,
+    job: &SmallJob,
+    metas: &Metas,
+) -> Result<SmallText, Stop>
     ensures gives { (held : Held) → F.held files.old ≡ Some held → Gives (λ text. text) result (text_read held job.now metas.now) }
     ensures held { F.held files.new ≡ F.held files.old }
     ensures later { F.read_faults files.old ≤ F.read_faults files.new }
@@ -263,7 +268,12 @@ fn perform_text(alloc: Global, job: &SmallJob, text: &SmallText) -> Result<Plan,
 
 /// Reads the text and runs it.
 #[tactic(auto, unfolding(crate::specs::Run::after_metas))]
-fn perform_with_metas<F: Files>(alloc: Global, files: &mut F, job: &SmallJob, metas: &Metas) -> Result<Plan, Stop>
+fn perform_with_metas<F: Files>(
+    alloc: Global,
+    files: &mut F,
+    job: &SmallJob,
+    metas: &Metas,
+) -> Result<Plan, Stop>
     ensures gives { (held : Held) → F.held files.old ≡ Some held → Gives outcome_of result (after_metas held job.now metas.now) }
     ensures ready { IfOk result (λ p. IsReady p.outputs) }
     ensures turn { (held : Held) → F.held files.old ≡ Some held → IfFaultOf result (λ file. IsAmong file (job.now.text ∷ [])) }

@@ -25,7 +25,7 @@ fn run_and_report<F: Files, S: Sink>(
 ) -> Status
     ensures answer { (held : Held) → F.held files.old ≡ Some held → Answers (settled (run_of held name.now)) (run_turns held name.now) held
         (change_of (F.held files.new) (S.written out.old) (S.written out.new) (F.read_faults files.old) (F.read_faults files.new)
-            (F.write_faults files.old) (F.write_faults files.new) (S.faults out.old) (S.faults out.new)) result }
+        (F.write_faults files.old) (F.write_faults files.new) (S.faults out.old) (S.faults out.new)) result }
     ensures complete { (held : Held) → F.held files.old ≡ Some held
         → ¬ Rose (F.read_faults files.old) (F.read_faults files.new)
         → ¬ Rose (F.write_faults files.old) (F.write_faults files.new)
@@ -58,7 +58,7 @@ pub fn qvto<F: Files, S: Sink>(
     // says; or a read, a write or the sink failed, or memory was wanting, with what that leaves.
     ensures answer { (held : Held) → F.held files.old ≡ Some held → Answers (job words.now held) (turns words.now held) held
         (change_of (F.held files.new) (S.written out.old) (S.written out.new) (F.read_faults files.old) (F.read_faults files.new)
-            (F.write_faults files.old) (F.write_faults files.new) (S.faults out.old) (S.faults out.new)) result }
+        (F.write_faults files.old) (F.write_faults files.new) (S.faults out.old) (S.faults out.new)) result }
 
     // Where nothing failed, the answer is the outcome's or want of memory.
     ensures complete { (held : Held) → F.held files.old ≡ Some held

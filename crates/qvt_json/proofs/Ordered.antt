@@ -131,6 +131,7 @@ members_or-ordered key d a = by (get key d) refl
     inside (string s) a = tt
     inside (array ds) a = tt
     inside (object ms) a = a
+
     by : (o : Option Data) → get key d ≡ o → MembersOrdered (unwrap_or (option_and_then as_object o) no_members)
     by None e = tt
     by (Some x) e = inside x (get-ordered key d x e a)
@@ -145,6 +146,7 @@ items_or-ordered key d a = by (get key d) refl
     inside (string s) a = tt
     inside (array ds) a = a
     inside (object ms) a = tt
+
     by : (o : Option Data) → get key d ≡ o → ItemsOrdered (unwrap_or (option_and_then as_array o) no_items)
     by None e = tt
     by (Some x) e = inside x (get-ordered key d x e a)

@@ -31,7 +31,7 @@ room_apart m d room few = record {
   metamodels = room.metamodels;
   classes = omega (arith, room.classes, length-class_infos first_begin (names_of d.classes) 0 d.classes);
   features = omega (arith, room.features, length-feature_infos first_begin (enum_names d) d.classes 0 d.classes);
-  enumerations = few
+  enumerations = few;
 }
 
 pub first_enums : (d : MetaData) → (metamodel_at (numbered d) 0).enums ≡ d.enums

@@ -87,11 +87,11 @@ type_features d f = (declared_at d.classes (place_in (class_names d) f.kind)).fe
 
 abbrev pub is_bad_opposite : MetaData → DeclaredClass → DeclaredFeature → Bool
 is_bad_opposite d k f =
-  ((f.containment || is_some f.opposite) && (not (is_among f.kind (class_names d)) || not f.unique))
-  || (is_some f.opposite && (
-      not (list_any (is_mutual k f) (type_features d f))
-      || list_any (λ g. is_mutual k f g && is_contained_wrong f g) (type_features d f)
-      || (bytes_eq f.kind k.name && is_name f.opposite f.name)))
+    ((f.containment || is_some f.opposite) && (not (is_among f.kind (class_names d)) || not f.unique))
+    || (is_some f.opposite && (
+    not (list_any (is_mutual k f) (type_features d f))
+    || list_any (λ g. is_mutual k f g && is_contained_wrong f g) (type_features d f)
+    || (bytes_eq f.kind k.name && is_name f.opposite f.name)))
 
 unfoldable pub bad_opposite : MetaData → Option Told
 bad_opposite d = first_in (feature_fault (is_bad_opposite d)) d.classes

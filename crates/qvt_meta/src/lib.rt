@@ -15,6 +15,5 @@ mod names;
 mod plain;
 mod reading;
 mod row;
-
 #[cfg(test)]
 mod tests;

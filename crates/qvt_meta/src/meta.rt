@@ -1,5 +1,4 @@
-ghost use Rattle.std.specs.Prelude.{◌≡◌, IfOk, IfSome, IsTrue};
-ghost use Rattle.qvt_meta.specs.Added.{feature_count};
+ghost use Rattle.std.specs.Prelude.{◌≡◌, IfOk, IsTrue};
 ghost use Rattle.qvt_meta.specs.Checked.{is_plain};
 ghost use Rattle.qvt_meta.specs.SmallMeta.{small_meta_of};
 
@@ -103,31 +102,4 @@ pub fn read_meta(alloc: Global, bytes: &[u8]) -> Result<Meta, MetaFault>
         return Err(MetaFault::NotBuilt);
     }
     Ok(checked(alloc, name, uri, enums, classes)?)
-}
-
-/// How many features the classes declare, None where the number is past `usize`.
-fn count_features(classes: &[DeclaredClass]) -> Option<usize>
-    ensures { IfSome result (λ n. n ≡ feature_count classes.now) }
-{
-    let mut count: usize = 0;
-    for class in classes {
-        count = count.checked_add(class.features.len())?;
-    }
-    Some(count)
-}
-
-impl Meta {
-    ghost use Rattle.std.specs.Prelude.{[]};
-    ghost use Rattle.qvt_meta.specs.Added.{HasRoom};
-
-    /// Whether the numbers of its classes and features fit 32 bits. It takes no memory.
-    pub fn has_few(&self) -> bool
-        ensures { IsTrue result → HasRoom (record { metamodels = []; classes = []; features = []; element = None }) self.now }
-    {
-        let Some(features) = count_features(self.classes.as_slice()) else {
-            return false;
-        };
-        let most = u32::MAX as usize;
-        self.enums.len() < most && self.classes.len() < most && features < most
-    }
 }

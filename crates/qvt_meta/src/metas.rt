@@ -240,7 +240,9 @@ impl Metas {
         let at = metamodel as usize;
         let place = enumeration as usize;
         if at < self.metamodels.len() && place < self.metamodels[at].enums.len() {
-            self.metamodels[at].enums.as_slice()[place].literals.as_slice()
+            self.metamodels[at].enums.as_slice()[place]
+                .literals
+                .as_slice()
         } else {
             &[]
         }

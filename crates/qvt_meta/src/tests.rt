@@ -6,8 +6,11 @@ use qvt_base::numbers::{ClassNo, FeatureNo};
 use std::alloc::Global;
 use std::test::Fail;
 
-const M: &str = "{\"classes\":[{\"features\":[{\"name\":\"a\",\"type\":\"Integer\"}],\"name\":\"C\"}],\"name\":\"M\"}";
-const N: &str = "{\"classes\":[{\"name\":\"A\"},{\"features\":[{\"name\":\"x\",\"type\":\"Integer\"},{\"name\":\"y\",\"type\":\"Integer\"}],\"name\":\"C\"}],\"name\":\"N\"}";
+const M: &str =
+    "{\"classes\":[{\"features\":[{\"name\":\"a\",\"type\":\"Integer\"}],\"name\":\"C\"}],\"name\":\"M\"}";
+
+const N: &str =
+    "{\"classes\":[{\"name\":\"A\"},{\"features\":[{\"name\":\"x\",\"type\":\"Integer\"},{\"name\":\"y\",\"type\":\"Integer\"}],\"name\":\"C\"}],\"name\":\"N\"}";
 
 /// Whether the text is a small metamodel.
 fn is_read(alloc: Global, text: &str) -> Result<bool, MetaFault> {
@@ -24,7 +27,10 @@ fn only_small_metamodels_are_read(rt: HostRuntime) -> Result<(), Fail> {
         (M, true),
         (N, true),
         ("{\"classes\":[],\"name\":\"M\"}", true),
-        ("{\"classes\":[],\"classes\":[{\"name\":\"A\"}],\"name\":\"M\"}", true),
+        (
+            "{\"classes\":[],\"classes\":[{\"name\":\"A\"}],\"name\":\"M\"}",
+            true,
+        ),
         ("", false),
         ("[", false),
         ("{}", false),
@@ -32,11 +38,26 @@ fn only_small_metamodels_are_read(rt: HostRuntime) -> Result<(), Fail> {
         ("{\"classes\":[],\"name\":\"1\"}", false),
         ("{\"classes\":{},\"name\":\"M\"}", false),
         ("{\"classes\":[],\"enums\":[],\"name\":\"M\"}", false),
-        ("{\"classes\":[{\"name\":\"A\"},{\"name\":\"A\"}],\"name\":\"M\"}", false),
-        ("{\"classes\":[{\"name\":\"String\"}],\"name\":\"M\"}", false),
-        ("{\"classes\":[{\"name\":\"A\",\"supers\":[]}],\"name\":\"M\"}", false),
-        ("{\"classes\":[{\"features\":[{\"name\":\"a\",\"type\":\"String\"}],\"name\":\"A\"}],\"name\":\"M\"}", false),
-        ("{\"classes\":[{\"features\":[{\"name\":\"a\",\"type\":\"Integer\"},{\"name\":\"a\",\"type\":\"Integer\"}],\"name\":\"A\"}],\"name\":\"M\"}", false),
+        (
+            "{\"classes\":[{\"name\":\"A\"},{\"name\":\"A\"}],\"name\":\"M\"}",
+            false,
+        ),
+        (
+            "{\"classes\":[{\"name\":\"String\"}],\"name\":\"M\"}",
+            false,
+        ),
+        (
+            "{\"classes\":[{\"name\":\"A\",\"supers\":[]}],\"name\":\"M\"}",
+            false,
+        ),
+        (
+            "{\"classes\":[{\"features\":[{\"name\":\"a\",\"type\":\"String\"}],\"name\":\"A\"}],\"name\":\"M\"}",
+            false,
+        ),
+        (
+            "{\"classes\":[{\"features\":[{\"name\":\"a\",\"type\":\"Integer\"},{\"name\":\"a\",\"type\":\"Integer\"}],\"name\":\"A\"}],\"name\":\"M\"}",
+            false,
+        ),
     ];
     for (text, expected) in cases.iter() {
         assert_eq!(rt; is_read(rt.alloc(), *text)?, *expected);
@@ -66,7 +87,10 @@ fn two_metamodels_are_numbered_and_looked_up(rt: HostRuntime) -> Result<(), Fail
     assert_eq!(rt; metas.feature(ClassNo(2), "y"), Some(FeatureNo(2)));
     assert_eq!(rt; metas.feature(ClassNo(1), "y"), None);
     assert_eq!(rt; metas.feature_name(FeatureNo(1)), "x");
-    assert_eq!(rt; metas.features(ClassNo(2)), [FeatureNo(1), FeatureNo(2)].as_slice());
+    assert_eq!(rt;
+        metas.features(ClassNo(2)),
+        [FeatureNo(1), FeatureNo(2)].as_slice()
+    );
     assert!(rt; metas.descends(ClassNo(2), ClassNo(2)));
     assert!(rt; !metas.descends(ClassNo(2), ClassNo(1)));
     assert_eq!(rt; metas.opposite(FeatureNo(0)), None);

@@ -93,21 +93,21 @@ dead_empty s x f dead =
 
 pub no_slot_empty : (s : Contents) (x f : ℕ) → is_slot s x f ≡ false → slot_of s x f ≡ []
 no_slot_empty s x f n = elim (either (is_live s x)) [
-    | inl live ↦ elim (either (has_feature s.metas (class_of s x) f)) [
-        | inl has' ↦ clash _ (and_both _ _ live has') n
-        | inr no' ↦ list_of-absent (features_of s.metas (class_of s x)) (object_at s x).slots f no'
-      ]
-    | inr dead ↦ dead_empty s x f dead
+  | inl live ↦ elim (either (has_feature s.metas (class_of s x) f)) [
+    | inl has' ↦ clash _ (and_both _ _ live has') n
+    | inr no' ↦ list_of-absent (features_of s.metas (class_of s x)) (object_at s x).slots f no'
   ]
+  | inr dead ↦ dead_empty s x f dead
+]
 
 pub features_always : (s : Contents) (x f : ℕ) → (is_slot s x f ≡ true) ⊎ (slot_of s x f ≡ [])
 features_always s x f = elim (either (is_slot s x f)) [ inl yes' ↦ inl yes' | inr no' ↦ inr (no_slot_empty s x f no') ]
 
 pub holder_slot : (s : Contents) (x f y : ℕ) → has (slot_of s x f) y ≡ true → is_slot s x f ≡ true
 holder_slot s x f y h = elim (either (is_slot s x f)) [
-    | inl yes' ↦ yes'
-    | inr no' ↦ clash false (sym (ap (λ l. has l y) (no_slot_empty s x f no')) ∙ h) refl
-  ]
+  | inl yes' ↦ yes'
+  | inr no' ↦ clash false (sym (ap (λ l. has l y) (no_slot_empty s x f no')) ∙ h) refl
+]
 
 pub fit_of : (s : Contents) (o p : ℕ) (vs : List Value) → IsAssignable s o p vs → IsFit s o p (new_list s.metas p vs)
 fit_of s o p vs can = record { slot = and_both _ _ can.live can.feature; types = all-new_list s.metas p (is_of_type s p) vs can.types }
@@ -133,6 +133,7 @@ module _ (s : Contents) (o p : ℕ) (ws : List Value) (well : IsWellFormed s.met
     where
       kept_none : filter (keeps c x f) (c.slots x f) ≡ []
       kept_none = ap (filter (keeps c x f)) (no_slot_empty s x f n)
+
       go : (b : Bool) → is_here c x f ≡ b → (g : Bool) → gains c x f ≡ g → cond b c.items (cond g (with_end c f (filter (keeps c x f) (c.slots x f))) (filter (keeps c x f) (c.slots x f))) ≡ []
       go true e g k = clash (is_slot s x f) (subst (λ i. is_slot s i f ≡ true) (sym (here c x f e).0) (subst (λ i. is_slot s o i ≡ true) (sym (here c x f e).1) fit.slot)) n
       go false e true k = clash (is_slot s x f) (gains_slot x f k) n
@@ -143,20 +144,20 @@ module _ (s : Contents) (o p : ℕ) (ws : List Value) (well : IsWellFormed s.met
 
   pub slot-after : (x f : ℕ) → slot_of (store_after s c) x f ≡ slot_after c x f
   slot-after x f = elim (either (is_live s x)) [
-      | inl live ↦
+    | inl live ↦
         ap (λ (ob : Instance). list_of (features_of s.metas ob.class) ob.slots f) (same_instance x live)
         ∙ list_of-map (features_of s.metas (class_of s x)) (slot_after c x) f
         ∙ elim (either (has_feature s.metas (class_of s x) f)) [
           | inl has' ↦ ap (λ b. cond b (slot_after c x f) []) has'
           | inr no' ↦ ap (λ b. cond b (slot_after c x f) []) no'
-            ∙ sym (empty_after x f (refuted _ (λ slot. clash _ (and_right (is_live s x) _ slot) no')))
+              ∙ sym (empty_after x f (refuted _ (λ slot. clash _ (and_right (is_live s x) _ slot) no')))
         ]
-      | inr dead ↦
+    | inr dead ↦
         ap (λ (ob : Instance). list_of (features_of s.metas ob.class) ob.slots f)
-          (past_end (instances_after c 0 s.objects) x no_instance (subst (λ n. n ≤ x) (sym (length-after c 0 s.objects)) (ltb-false x (length s.objects) dead)))
+        (past_end (instances_after c 0 s.objects) x no_instance (subst (λ n. n ≤ x) (sym (length-after c 0 s.objects)) (ltb-false x (length s.objects) dead)))
         ∙ list_of-nil (features_of s.metas 0) f
         ∙ sym (empty_after x f (refuted _ (λ slot. clash _ (and_left _ _ slot) dead)))
-    ]
+  ]
 
   pub slots-after : slot_of (store_after s c) ≡ slot_after c
   slots-after = λ i x f. slot-after x f i
@@ -166,10 +167,10 @@ module _ (s : Contents) (o p : ℕ) (ws : List Value) (well : IsWellFormed s.met
 
   kept_field : {A : Type 0} (field : Instance → A) → ((x : ℕ) (ob : Instance) → field (instance_after c x ob) ≡ field ob) → (x : ℕ) → field (object_at (store_after s c) x) ≡ field (object_at s x)
   kept_field field same x = elim (either (is_live s x)) [
-      | inl live ↦ ap field (same_instance x live) ∙ same x (object_at s x)
-      | inr dead ↦ ap field (past_end (instances_after c 0 s.objects) x no_instance (subst (λ n. n ≤ x) (sym (length-after c 0 s.objects)) (ltb-false x (length s.objects) dead))
-          ∙ sym (past_end s.objects x no_instance (ltb-false x (length s.objects) dead)))
-    ]
+    | inl live ↦ ap field (same_instance x live) ∙ same x (object_at s x)
+    | inr dead ↦ ap field (past_end (instances_after c 0 s.objects) x no_instance (subst (λ n. n ≤ x) (sym (length-after c 0 s.objects)) (ltb-false x (length s.objects) dead))
+        ∙ sym (past_end s.objects x no_instance (ltb-false x (length s.objects) dead)))
+  ]
 
   pub class-after : (x : ℕ) → class_of (store_after s c) x ≡ class_of s x
   class-after x = kept_field (λ ob. ob.class) (λ _ _. refl) x

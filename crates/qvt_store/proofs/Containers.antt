@@ -27,8 +27,8 @@ module _ (c : Change) (made : IsMade c) (well : IsWellFormed c.metas) (fits : Fi
       let kp : is_containment c.metas c.feature ≡ true = subst (λ g. is_containment c.metas g ≡ true) f_is k in
       elim (either (has (c.slots c.object c.feature) y)) [
         | inl held ↦
-          let s : (c.object ≡ x') × (c.feature ≡ f') = old.one c.object c.feature x' f' y kp k' held was in
-          (x_is ∙ s.0, f_is ∙ s.1)
+            let s : (c.object ≡ x') × (c.feature ≡ f') = old.one c.object c.feature x' f' y kp k' held was in
+            (x_is ∙ s.0, f_is ∙ s.1)
         | inr free ↦ clash (loses c x' f' y) (or_left (leaves c x' f' y) _ (third_of_4 (is_taken c x' f' y) (is_replaced c x' f' y) (is_moved_in c x' f' y) (is_moved c x' f' y)
             (and_both _ _ (and_both _ _ (and_both _ _ kp k') (adds c made y new free)) (not_of_false _ n)))) stays
       ]
@@ -50,27 +50,29 @@ module _ (c : Change) (made : IsMade c) (well : IsWellFormed c.metas) (fits : Fi
 
   kept_gained : (x f x' f' y : ℕ) → is_containment c.metas f ≡ true → is_containment c.metas f' ≡ true → loses c x f y ≡ false → gains c x' f' ≡ true → c.object ≡ y → Same x f x' f'
   kept_gained x f x' f' y k k' stays g at = elim (either (gains c x f)) [
-      | inl g' ↦ both_gain x f x' f' k g' g
-      | inr n ↦ clash (loses c x f y) (or_left (leaves c x f y) _ (fourth_of_4 (is_taken c x f y) (is_replaced c x f y) (is_moved_in c x f y) (is_moved c x f y)
-          (and_both _ _ (and_both _ _ (and_both _ _ (and_both _ _ (gains_container x' f' k' g) (some_among c.added x' (and_right (is_opposite c.metas c.feature f') _ g))) k)
-            ((Decides-eqb y c.object).1 (sym at))) (not_of_false _ n)))) stays
-    ]
+    | inl g' ↦ both_gain x f x' f' k g' g
+    | inr n ↦ clash (loses c x f y) (or_left (leaves c x f y) _ (fourth_of_4 (is_taken c x f y) (is_replaced c x f y) (is_moved_in c x f y) (is_moved c x f y)
+        (and_both _ _ (and_both _ _ (and_both _ _ (and_both _ _ (gains_container x' f' k' g) (some_among c.added x' (and_right (is_opposite c.metas c.feature f') _ g))) k)
+        ((Decides-eqb y c.object).1 (sym at))) (not_of_false _ n)))) stays
+  ]
 
   pub keeps_one_container : OneContainer c.metas (slot_after c)
-  keeps_one_container = record { one = λ x f x' f' y k k' h h'. elim (held_after c x f y h) [
+  keeps_one_container = record {
+    one = λ x f x' f' y k k' h h'. elim (held_after c x f y h) [
       | given at new ↦ elim (held_after c x' f' y h') [
-          | given at' new' ↦ ((here c x f at).0 ∙ sym (here c x' f' at').0, (here c x f at).1 ∙ sym (here c x' f' at').1)
-          | kept n' was' stays' ↦ given_kept x f x' f' y k k' at new n' was' stays'
-          | gained n' g' at' ↦ given_gained x f x' f' k k' at g'
-        ]
+        | given at' new' ↦ ((here c x f at).0 ∙ sym (here c x' f' at').0, (here c x f at).1 ∙ sym (here c x' f' at').1)
+        | kept n' was' stays' ↦ given_kept x f x' f' y k k' at new n' was' stays'
+        | gained n' g' at' ↦ given_gained x f x' f' k k' at g'
+      ]
       | kept n was stays ↦ elim (held_after c x' f' y h') [
-          | given at' new' ↦ same_sym x' f' x f (given_kept x' f' x f y k' k at' new' n was stays)
-          | kept n' was' stays' ↦ old.one x f x' f' y k k' was was'
-          | gained n' g' at' ↦ kept_gained x f x' f' y k k' stays g' at'
-        ]
+        | given at' new' ↦ same_sym x' f' x f (given_kept x' f' x f y k' k at' new' n was stays)
+        | kept n' was' stays' ↦ old.one x f x' f' y k k' was was'
+        | gained n' g' at' ↦ kept_gained x f x' f' y k k' stays g' at'
+      ]
       | gained n g at ↦ elim (held_after c x' f' y h') [
-          | given at' new' ↦ same_sym x' f' x f (given_gained x' f' x f k' k at' g)
-          | kept n' was' stays' ↦ same_sym x' f' x f (kept_gained x' f' x f y k' k stays' g at)
-          | gained n' g' at' ↦ both_gain x f x' f' k g g'
-        ]
-    ] }
+        | given at' new' ↦ same_sym x' f' x f (given_gained x' f' x f k' k at' g)
+        | kept n' was' stays' ↦ same_sym x' f' x f (kept_gained x' f' x f y k' k stays' g at)
+        | gained n' g' at' ↦ both_gain x f x' f' k g g'
+      ]
+    ];
+  }

@@ -20,9 +20,9 @@ some_one m s o y = (λ some. subst (λ n. IsOver m s n y) (sym (only_one o some.
 
 pub over_more : (m : Metamodels) (s : Slots) (o : ℕ) (os : List Oid) (i : ℕ) (d : Oid) → i < length os → (IsOverSome m s o (take i os) → ⊥) → (IsOver m s o (get_or os i d).0 → ⊥) → IsOverSome m s o (take (i + 1) os) → ⊥
 over_more m s o os i d h none last some = elim (more_cases os i d some.object h some.listed) [
-    | inl a ↦ none (record { object = some.object; listed = a; under = some.under })
-    | inr a ↦ last (subst (λ n. IsOver m s o n) a some.under)
-  ]
+  | inl a ↦ none (record { object = some.object; listed = a; under = some.under })
+  | inr a ↦ last (subst (λ n. IsOver m s o n) a some.under)
+]
 
 pub over_found : (m : Metamodels) (s : Slots) (o : ℕ) (os : List Oid) (i : ℕ) (d : Oid) → i < length os → IsOver m s o (get_or os i d).0 → IsOverSome m s o os
 over_found m s o os i d h over = record { object = (get_or os i d).0; listed = in_among os i d h; under = over }

@@ -51,6 +51,7 @@ right_written s c (w ∷ ws) t right x f =
   where
     is : IsRight s c w
     is = All-head (IsRight s c) w ws right
+
     go : (b : Bool) → is_write_of x f w ≡ b → (l : Bool) → cond l (slot_elsewhere c x f) (cond b w.items (t x f)) ≡ cond (b || l) (slot_elsewhere c x f) (t x f)
     go true e true = refl
     go true e false = is.items
@@ -62,17 +63,17 @@ right_written s c (w ∷ ws) t right x f =
 listed_elsewhere : (s : Contents) (c : Change) (ws : List Write) (x f : ℕ) → All (IsRight s c) ws → listed ws x f ≡ true → is_here c x f ≡ false
 listed_elsewhere s c [] x f right l = clash false l refl
 listed_elsewhere s c (w ∷ ws) x f right l = elim (or_cases (is_write_of x f w) (listed ws x f) l) [
-    | inl a ↦ let is : IsRight s c w = All-head (IsRight s c) w ws right in
+  | inl a ↦ let is : IsRight s c w = All-head (IsRight s c) w ws right in
       subst (λ n. is_here c x n ≡ false) (sym ((Decides-eqb f w.feature.0).0 (and_right (x == w.object.0) _ a))) (subst (λ n. is_here c n w.feature.0 ≡ false) (sym ((Decides-eqb x w.object.0).0 (and_left _ _ a))) is.elsewhere)
-    | inr a ↦ listed_elsewhere s c ws x f (All-tail (IsRight s c) w ws right) a
-  ]
+  | inr a ↦ listed_elsewhere s c ws x f (All-tail (IsRight s c) w ws right) a
+]
 
 among-both : (us vs : List Oid) (y : ℕ) → among (us ++ vs) y ≡ true → (among us y ≡ true) ⊎ (among vs y ≡ true)
 among-both [] vs y h = inr h
 among-both (u ∷ us) vs y h = elim (or_cases (u.0 == y) (among (us ++ vs) y) h) [
-    | inl a ↦ inl (or_left _ _ a)
-    | inr a ↦ elim (among-both us vs y a) [ inl b ↦ inl (or_right (u.0 == y) _ b) | inr b ↦ inr b ]
-  ]
+  | inl a ↦ inl (or_left _ _ a)
+  | inr a ↦ elim (among-both us vs y a) [ inl b ↦ inl (or_right (u.0 == y) _ b) | inr b ↦ inr b ]
+]
 
 among-left : (us vs : List Oid) (y : ℕ) → among us y ≡ true → among (us ++ vs) y ≡ true
 among-left [] vs y h = clash false h refl
@@ -92,14 +93,14 @@ all_among vs y h = and_left _ _ (sym (beyond-is [] vs y) ∙ h)
 released_all : (m : Metamodels) (s : Slots) (ws : List Write) (x f y : ℕ) → listed ws x f ≡ true → is_containment m f ≡ true → has (s x f) y ≡ true → among (flat_map (released_by m s) ws) y ≡ true
 released_all m s [] x f y l k h = clash false l refl
 released_all m s (w ∷ ws) x f y l k h = elim (or_cases (is_write_of x f w) (listed ws x f) l) [
-    | inl a ↦
+  | inl a ↦
       let x_is : x ≡ w.object.0 = (Decides-eqb x w.object.0).0 (and_left _ _ a) in
       let f_is : f ≡ w.feature.0 = (Decides-eqb f w.feature.0).0 (and_right (x == w.object.0) _ a) in
       let k' : is_containment m w.feature.0 ≡ true = subst (λ n. is_containment m n ≡ true) f_is k in
       let h' : has (s w.object.0 w.feature.0) y ≡ true = subst (λ n. has (s w.object.0 n) y ≡ true) f_is (subst (λ n. has (s n f) y ≡ true) x_is h) in
       among-left (released_by m s w) (flat_map (released_by m s) ws) y (ap (λ b. among (cond b (objects_beyond [] (s w.object.0 w.feature.0)) []) y) k' ∙ among_all (s w.object.0 w.feature.0) y h')
-    | inr a ↦ among-right (released_by m s w) (flat_map (released_by m s) ws) y (released_all m s ws x f y a k h)
-  ]
+  | inr a ↦ among-right (released_by m s w) (flat_map (released_by m s) ws) y (released_all m s ws x f y a k h)
+]
 
 record Source (m : Metamodels) (s : Slots) (ws : List Write) (y : ℕ) : Type 0 where
   object : ℕ
@@ -111,9 +112,9 @@ record Source (m : Metamodels) (s : Slots) (ws : List Write) (y : ℕ) : Type 0 
 released_from : (m : Metamodels) (s : Slots) (ws : List Write) (y : ℕ) → among (flat_map (released_by m s) ws) y ≡ true → Source m s ws y
 released_from m s [] y h = clash false h refl
 released_from m s (w ∷ ws) y h = elim (among-both (released_by m s w) (flat_map (released_by m s) ws) y h) [
-    | inl a ↦ at (is_containment m w.feature.0) refl a
-    | inr a ↦ let r : Source m s ws y = released_from m s ws y a in record { object = r.object; feature = r.feature; is_listed = or_right (is_write_of r.object r.feature w) _ r.is_listed; cont = r.cont; held = r.held }
-  ]
+  | inl a ↦ at (is_containment m w.feature.0) refl a
+  | inr a ↦ let r : Source m s ws y = released_from m s ws y a in record { object = r.object; feature = r.feature; is_listed = or_right (is_write_of r.object r.feature w) _ r.is_listed; cont = r.cont; held = r.held }
+]
   where
     at : (b : Bool) → is_containment m w.feature.0 ≡ b → among (cond b (objects_beyond [] (s w.object.0 w.feature.0)) []) y ≡ true → Source m s (w ∷ ws) y
     at true e a = record { object = w.object.0; feature = w.feature.0; is_listed = or_left _ _ (and_both _ _ ((Decides-eqb w.object.0 w.object.0).1 refl) ((Decides-eqb w.feature.0 w.feature.0).1 refl)); cont = e; held = all_among (s w.object.0 w.feature.0) y a }
@@ -125,6 +126,7 @@ held_all s c m (w ∷ ws) x f y right l k h e = rest (held_of m ws y) refl e (λ
   where
     is : IsRight s c w
     is = All-head (IsRight s c) w ws right
+
     at : is_write_of x f w ≡ true → held_by m w y ≡ Some (holder_in w.object.0 w.feature.0)
     at a =
         let x_is : x ≡ w.object.0 = (Decides-eqb x w.object.0).0 (and_left _ _ a) in
@@ -132,12 +134,13 @@ held_all s c m (w ∷ ws) x f y right l k h e = rest (held_of m ws y) refl e (λ
         let k' : is_containment m w.feature.0 ≡ true = subst (λ n. is_containment m n ≡ true) f_is k in
         let h' : has w.items y ≡ true = ap (λ l'. has l' y) is.items ∙ subst (λ n. has (slot_elsewhere c w.object.0 n) y ≡ true) f_is (subst (λ n. has (slot_elsewhere c n f) y ≡ true) x_is h) in
         ap (λ b. cond b (Some (holder_in w.object.0 w.feature.0)) None) (and_both _ _ k' h')
+
     rest : (o : Option Holder) → held_of m ws y ≡ o → or_else o (held_by m w y) ≡ None → (listed ws x f ≡ true → held_of m ws y ≡ None → ⊥) → ⊥
     rest (Some g) eq n ih = cc
     rest None eq n ih = elim (or_cases (is_write_of x f w) (listed ws x f) l) [
-        | inl a ↦ let t : held_by m w y ≡ Some (holder_in w.object.0 w.feature.0) = at a in cc
-        | inr a ↦ ih a eq
-      ]
+      | inl a ↦ let t : held_by m w y ≡ Some (holder_in w.object.0 w.feature.0) = at a in cc
+      | inr a ↦ ih a eq
+    ]
 
 record HeldBack (m : Metamodels) (after : Slots) (y : ℕ) (h : Holder) : Type 0 where
   cont : is_containment m h.feature.0 ≡ true
@@ -149,13 +152,16 @@ held_right s c m (w ∷ ws) y h right e = rest (held_of m ws y) refl e (held_rig
   where
     is : IsRight s c w
     is = All-head (IsRight s c) w ws right
+
     after_is : slot_after c w.object.0 w.feature.0 ≡ w.items
     after_is = ap (λ b. cond b c.items (slot_elsewhere c w.object.0 w.feature.0)) is.elsewhere ∙ sym is.items
+
     by : (b : Bool) → (is_containment m w.feature.0 && has w.items y) ≡ b → cond b (Some (holder_in w.object.0 w.feature.0)) None ≡ Some h → HeldBack m (slot_after c) y h
     by true t n =
         let same : ◌≡◌ {A = Holder} (holder_in w.object.0 w.feature.0) h = cc in
         subst (HeldBack m (slot_after c) y) same (record { cont = and_left _ _ t; held = ap (λ l. has l y) after_is ∙ and_right (is_containment m w.feature.0) _ t })
     by false t n = cc
+
     rest : (o : Option Holder) → held_of m ws y ≡ o → or_else o (held_by m w y) ≡ Some h → (held_of m ws y ≡ Some h → HeldBack m (slot_after c) y h) → HeldBack m (slot_after c) y h
     rest (Some g) eq n ih = ih (eq ∙ n)
     rest None eq n ih = by (is_containment m w.feature.0 && has w.items y) refl n
@@ -168,17 +174,19 @@ lists_told : (m : Metamodels) (well : IsWellFormed m) (k : ℕ) (lists : List (L
     ((f : ℕ) → among_features f (features_of m k) ≡ true → list_of (features_of m k) lists f ≡ h f) → lists ≡ map (λ (g : FeatureNo). h g.0) (features_of m k)
 lists_told m well k lists h l told = same_lists lists (map (λ (g : FeatureNo). h g.0) (features_of m k)) (l ∙ sym (length-mapped (features_of m k)))
     (λ i d b.
-      let w : i < length (features_of m k) = subst (λ n. i < n) l b in
-      get_or_default lists i d [] b
-      ∙ sym (list_of-place (features_of m k) lists (slice_index_or (features_of m k) i none_feature).0 i l (place_at m well k i w))
-      ∙ told (slice_index_or (features_of m k) i none_feature).0 (listed_at (features_of m k) i w)
-      ∙ sym (get_or-map (λ (g : FeatureNo). h g.0) (features_of m k) i none_feature d w))
+    let w : i < length (features_of m k) = subst (λ n. i < n) l b in
+    get_or_default lists i d [] b
+    ∙ sym (list_of-place (features_of m k) lists (slice_index_or (features_of m k) i none_feature).0 i l (place_at m well k i w))
+    ∙ told (slice_index_or (features_of m k) i none_feature).0 (listed_at (features_of m k) i w)
+    ∙ sym (get_or-map (λ (g : FeatureNo). h g.0) (features_of m k) i none_feature d w))
   where
     none_feature : FeatureNo
     none_feature = record { 0 = 0 }
+
     length-mapped : (gs : List FeatureNo) → length (map (λ (g : FeatureNo). h g.0) gs) ≡ length gs
     length-mapped [] = refl
     length-mapped (g ∷ gs) = ap suc (length-mapped gs)
+
     listed_at : (gs : List FeatureNo) (i : ℕ) → i < length gs → among_features (slice_index_or gs i none_feature).0 gs ≡ true
     listed_at [] i b = absurd (omega arith)
     listed_at (g ∷ gs) zero b = or_left (g.0 == g.0) _ ((Decides-eqb g.0 g.0).1 refl)
@@ -192,36 +200,36 @@ instances_told : (m : Metamodels) (well : IsWellFormed m) (c : Change) (metas : 
     ((x f : ℕ) → slot_in m (instances new) x f ≡ slot_after c x f) → instances new ≡ instances_after c 0 (instances old)
 instances_told m well c metas old new same told = same_lists (instances new) (instances_after c 0 (instances old)) (length-instances new ∙ same.same_length ∙ sym (length-instances old) ∙ sym (length-after c 0 (instances old)))
     (λ k d b.
-      let live : k < length old = subst (λ n. k < n) (length-instances new ∙ same.same_length) b in
-      let live' : k < length (instances old) = subst (λ n. k < n) (sym (length-instances old)) live in
-      get_or_default (instances new) k d no_instance b
-      ∙ same_instance (instance_in new k) (instance_after c k (instance_in old k)) (same.classes k) (same.extents k) (slots_told k live)
-      ∙ sym (instance-after c (instances old) 0 k k no_instance (omega arith) live')
-      ∙ get_or_default (instances_after c 0 (instances old)) k no_instance d (subst (λ n. k < n) (sym (length-after c 0 (instances old))) live'))
+    let live : k < length old = subst (λ n. k < n) (length-instances new ∙ same.same_length) b in
+    let live' : k < length (instances old) = subst (λ n. k < n) (sym (length-instances old)) live in
+    get_or_default (instances new) k d no_instance b
+    ∙ same_instance (instance_in new k) (instance_after c k (instance_in old k)) (same.classes k) (same.extents k) (slots_told k live)
+    ∙ sym (instance-after c (instances old) 0 k k no_instance (omega arith) live')
+    ∙ get_or_default (instances_after c 0 (instances old)) k no_instance d (subst (λ n. k < n) (sym (length-after c 0 (instances old))) live'))
   where
     slots_told : (k : ℕ) → k < length old → (instance_in new k).slots ≡ map (λ (g : FeatureNo). slot_after c k g.0) (features_of c.metas (instance_in old k).class)
     slots_told k live =
         lists_told m well (instance_in old k).class (instance_in new k).slots (slot_after c k)
-          (same.have_slots.slots k (subst (λ n. k < n) (sym same.same_length) live) ∙ ap (λ n. length (features_of m n)) (same.classes k))
-          (λ f is. ap (λ n. list_of (features_of m n) (instance_in new k).slots f) (sym (same.classes k)) ∙ told k f)
+        (same.have_slots.slots k (subst (λ n. k < n) (sym same.same_length) live) ∙ ap (λ n. length (features_of m n)) (same.classes k))
+        (λ f is. ap (λ n. list_of (features_of m n) (instance_in new k).slots f) (sym (same.classes k)) ∙ told k f)
         ∙ ap (λ mm. map (λ (g : FeatureNo). slot_after c k g.0) (features_of mm (instance_in old k).class)) (sym metas)
 
 same_both : (m : Metamodels) (old mid new : List Cell) → SameObjects m old mid → SameObjects m mid new → SameObjects m old new
 same_both m old mid new a b = record {
-    same_length = b.same_length ∙ a.same_length;
-    classes = λ x. b.classes x ∙ a.classes x;
-    extents = λ x. b.extents x ∙ a.extents x;
-    have_slots = b.have_slots;
-  }
+  same_length = b.same_length ∙ a.same_length;
+  classes = λ x. b.classes x ∙ a.classes x;
+  extents = λ x. b.extents x ∙ a.extents x;
+  have_slots = b.have_slots;
+}
 
 pub same_change : (s : Contents) (d : Draft) (ws : List Value) → IsDraft s d ws → change_with s d ws ≡ change_to s d.object.0 d.feature.0 ws
 same_change s d ws is = λ i. record { metas = s.metas; slots = slot_of s; object = d.object.0; feature = d.feature.0; items = ws; added = is.adds i; removed = is.removes i }
 
 plan_with : (s : Contents) (d : Draft) (ws : List Value) (writes : List Write) → IsPlan s (drafted s d) writes → IsPlan s (change_with s d ws) writes
 plan_with s d ws writes plan = record {
-    right = λ k w h. let r : IsRight s (drafted s d) (get_or writes k w) = plan.right k w h in record { slot = r.slot; elsewhere = r.elsewhere; items = r.items };
-    others = plan.others;
-  }
+  right = λ k w h. let r : IsRight s (drafted s d) (get_or writes k w) = plan.right k w h in record { slot = r.slot; elsewhere = r.elsewhere; items = r.items };
+  others = plan.others;
+}
 
 module _ (m : Metamodels) (extents : List Extent) (old : List Cell) (d : Draft) (items : List Value) (ws : List Write) (released : List Oid) (store : AreWhole m old)
     (ready : Ready (contents_of m extents old) d items ws released) where
@@ -244,19 +252,21 @@ module _ (m : Metamodels) (extents : List Extent) (old : List Cell) (d : Draft) 
   plan = subst (λ (k : Change). IsPlan s k ws) (same_change s d items ready.draft) (plan_with s d items ws ready.plan)
 
   one_old : OneContainer m (slot_of s)
-  one_old = record { one = λ x f x' f' y k k' h h'.
-      let e : ◌≡◌ {A = Option Holder} (Some (holder_in x f)) (Some (holder_in x' f')) = sym (store.holders.held x f y k h) ∙ store.holders.held x' f' y k' h' in
-      let g : ◌≡◌ {A = Holder} (holder_in x f) (holder_in x' f') = cc in
-      (ap (λ (h'' : Holder). h''.object.0) g, ap (λ (h'' : Holder). h''.feature.0) g) }
+  one_old = record {
+    one = λ x f x' f' y k k' h h'.
+        let e : ◌≡◌ {A = Option Holder} (Some (holder_in x f)) (Some (holder_in x' f')) = sym (store.holders.held x f y k h) ∙ store.holders.held x' f' y k' h' in
+        let g : ◌≡◌ {A = Holder} (holder_in x f) (holder_in x' f') = cc in
+        (ap (λ (h'' : Holder). h''.object.0) g, ap (λ (h'' : Holder). h''.feature.0) g);
+  }
 
   one_after : OneContainer m (slot_after c)
   one_after = keeps_one_container c made store.well_formed ready.single one_old
 
   others : (x f : ℕ) → is_here c x f ≡ false → listed ws x f ≡ false → slot_after c x f ≡ slot_of s x f
   others x f away l = elim (either (is_slot s x f)) [
-      | inl yes' ↦ ap (λ b. cond b items (slot_elsewhere c x f)) away ∙ plan.others x f yes' away l
-      | inr no' ↦ empty_after s o p items store.well_formed ready.fit x f no' ∙ sym (no_slot_empty s x f no')
-    ]
+    | inl yes' ↦ ap (λ b. cond b items (slot_elsewhere c x f)) away ∙ plan.others x f yes' away l
+    | inr no' ↦ empty_after s o p items store.well_formed ready.fit x f no' ∙ sym (no_slot_empty s x f no')
+  ]
 
   here_after : (x f : ℕ) → is_here c x f ≡ true → slot_after c x f ≡ items
   here_after x f at = ap (λ b. cond b items (slot_elsewhere c x f)) at
@@ -266,31 +276,31 @@ module _ (m : Metamodels) (extents : List Extent) (old : List Cell) (d : Draft) 
 
   all_written : (x f : ℕ) → written ws (with_list (slot_of s) o p items) x f ≡ slot_after c x f
   all_written x f = right_written s c ws (with_list (slot_of s) o p items) plan.right x f ∙ elim (either (listed ws x f)) [
-      | inl l ↦ ap (λ b. cond b (slot_elsewhere c x f) (with_list (slot_of s) o p items x f)) l ∙ sym (listed_after x f l)
-      | inr l ↦ ap (λ b. cond b (slot_elsewhere c x f) (with_list (slot_of s) o p items x f)) l ∙ elim (either (is_here c x f)) [
-          | inl at ↦ ap (λ b. cond b items (slot_of s x f)) at ∙ sym (here_after x f at)
-          | inr away ↦ ap (λ b. cond b items (slot_of s x f)) away ∙ sym (others x f away l)
-        ]
+    | inl l ↦ ap (λ b. cond b (slot_elsewhere c x f) (with_list (slot_of s) o p items x f)) l ∙ sym (listed_after x f l)
+    | inr l ↦ ap (λ b. cond b (slot_elsewhere c x f) (with_list (slot_of s) o p items x f)) l ∙ elim (either (is_here c x f)) [
+      | inl at ↦ ap (λ b. cond b items (slot_of s x f)) at ∙ sym (here_after x f at)
+      | inr away ↦ ap (λ b. cond b items (slot_of s x f)) away ∙ sym (others x f away l)
     ]
+  ]
 
   is_below : (y : ℕ) → is_live s y ≡ true → y < length old
   is_below y live = subst (λ k. y < k) (length-instances old) (ltb-true y (length (instances old)) live)
 
   held_live : (x f y : ℕ) → is_containment m f ≡ true → has (slot_of s x f) y ≡ true → y < length old
   held_live x f y k h = elim (cases_lt y (length old)) [
-      | inl l ↦ l
-      | inr l ↦ let e : ◌≡◌ {A = Option Holder} None (Some (holder_in x f)) = sym (no_holder old y l) ∙ store.holders.held x f y k h in cc
-    ]
+    | inl l ↦ l
+    | inr l ↦ let e : ◌≡◌ {A = Option Holder} None (Some (holder_in x f)) = sym (no_holder old y l) ∙ store.holders.held x f y k h in cc
+  ]
 
   item_live : (y : ℕ) → has items y ≡ true → y < length old
   item_live y h = is_below y (and_left _ _ (item_object s p items y ready.fit.types h))
 
   after_live : (x f y : ℕ) → is_containment m f ≡ true → has (slot_after c x f) y ≡ true → y < length old
   after_live x f y k h = elim (held_after c x f y h) [
-      | given at new ↦ item_live y new
-      | kept n was stays ↦ held_live x f y k was
-      | gained n g at ↦ subst (λ i. i < length old) at (is_below o (and_left _ _ ready.fit.slot))
-    ]
+    | given at new ↦ item_live y new
+    | kept n was stays ↦ held_live x f y k was
+    | gained n g at ↦ subst (λ i. i < length old) at (is_below o (and_left _ _ ready.fit.slot))
+  ]
 
   -- added and removed, as the draft has them
   draft_added : (y : ℕ) → among d.added y ≡ is_added c y
@@ -298,9 +308,9 @@ module _ (m : Metamodels) (extents : List Extent) (old : List Cell) (d : Draft) 
 
   released_is : (y : ℕ) → among released y ≡ true → (among (released_here m d) y ≡ true) ⊎ Source m (slot_of s) ws y
   released_is y h = elim (among-both (released_here m d) (flat_map (released_by m (slot_of s)) ws) y (ap (λ l. among l y) (sym ready.is_released) ∙ h)) [
-      | inl a ↦ inl a
-      | inr a ↦ inr (released_from m (slot_of s) ws y a)
-    ]
+    | inl a ↦ inl a
+    | inr a ↦ inr (released_from m (slot_of s) ws y a)
+  ]
 
   -- what the changed slot, a containment, loses
   record Removed (y : ℕ) : Type 0 where
@@ -318,10 +328,12 @@ module _ (m : Metamodels) (extents : List Extent) (old : List Cell) (d : Draft) 
           record { cont = e; was = and_left _ _ k; gone = not_true _ (and_right (has (slot_of s o p) y) _ k) }
 
   pub released_live : AllLive old (among released)
-  released_live = record { live = λ y h. elim (released_is y h) [
+  released_live = record {
+    live = λ y h. elim (released_is y h) [
       | inl a ↦ let r : Removed y = removed_is y a in held_live o p y r.cont r.was
       | inr r ↦ held_live r.object r.feature y r.cont r.held
-    ] }
+    ];
+  }
 
   pub added_live : AllLive old (among d.added)
   added_live = record { live = λ y h. item_live y (added_new c made y (sym (draft_added y) ∙ h)) }
@@ -333,8 +345,10 @@ module _ (m : Metamodels) (extents : List Extent) (old : List Cell) (d : Draft) 
       is = plan.right k w h
 
   pub items_live : (k : ℕ) (w : Write) → k < length ws → is_containment m (get_or ws k w).feature.0 ≡ true → AllLive old (has (get_or ws k w).items)
-  items_live k w h cont = record { live = λ y i. after_live (get_or ws k w).object.0 (get_or ws k w).feature.0 y cont
-      (ap (λ b. has (cond b items (slot_elsewhere c (get_or ws k w).object.0 (get_or ws k w).feature.0)) y) is.elsewhere ∙ ap (λ l. has l y) (sym is.items) ∙ i) }
+  items_live k w h cont = record {
+    live = λ y i. after_live (get_or ws k w).object.0 (get_or ws k w).feature.0 y cont
+        (ap (λ b. has (cond b items (slot_elsewhere c (get_or ws k w).object.0 (get_or ws k w).feature.0)) y) is.elsewhere ∙ ap (λ l. has l y) (sym is.items) ∙ i);
+  }
     where
       is : IsRight s c (get_or ws k w)
       is = plan.right k w h
@@ -361,6 +375,7 @@ module _ (m : Metamodels) (extents : List Extent) (old : List Cell) (d : Draft) 
             held = ap (λ l. has l y) (here_after o p here_is) ∙ added_new c made y (sym (draft_added y) ∙ and_right (is_containment m p) _ t);
           })
       by false t n = cc
+
       go : (r : Option Holder) → held_of m ws y ≡ r → or_else r (held_here m d y) ≡ Some h → HeldBack m (slot_after c) y h
       go (Some g) e n = held_right s c m ws y h plan.right (e ∙ n)
       go None e n = by (is_containment m p && among d.added y) refl n
@@ -376,14 +391,17 @@ module _ (m : Metamodels) (extents : List Extent) (old : List Cell) (d : Draft) 
   -- an object of the changed slot is given a holder, or keeps its own
   here_given : (y : ℕ) → is_containment m p ≡ true → has items y ≡ true → held_now y ≡ None → (has (slot_of s o p) y ≡ true) × (among released y ≡ false)
   here_given y k h none = elim (either (has (slot_of s o p) y)) [
-      | inl was ↦ (was, refuted _ (λ r. elim (released_is y r) [
-          | inl a ↦ clash _ h (removed_is y a).gone
-          | inr t ↦
+    | inl was ↦ (
+      was,
+      refuted _ (λ r. elim (released_is y r) [
+        | inl a ↦ clash _ h (removed_is y a).gone
+        | inr t ↦
             let same : (t.object ≡ o) × (t.feature ≡ p) = one_old.one t.object t.feature o p y t.cont k t.held was in
             clash (is_here c o p) here_is (subst (λ n. is_here c o n ≡ false) same.1 (subst (λ n. is_here c n t.feature ≡ false) same.0 (listed_elsewhere s c ws t.object t.feature plan.right t.is_listed)))
-        ]))
-      | inr free ↦ absurd (go (held_of m ws y) none (and_both _ _ k (draft_added y ∙ adds c made y h free)))
-    ]
+      ]),
+    )
+    | inr free ↦ absurd (go (held_of m ws y) none (and_both _ _ k (draft_added y ∙ adds c made y h free)))
+  ]
     where
       go : (r : Option Holder) → or_else r (held_here m d y) ≡ None → (is_containment m p && among d.added y) ≡ true → ⊥
       go (Some g) n t = cc
@@ -409,49 +427,52 @@ module _ (m : Metamodels) (extents : List Extent) (old : List Cell) (d : Draft) 
         let at : (g.object.0 ≡ x) × (g.feature.0 ≡ f) = one_after.one g.object.0 g.feature.0 x f y right.cont k right.held h in
         λ i. Some (holder_in (at.0 i) (at.1 i))
     find x f y k h None e = elim (either (listed ws x f)) [
-        | inl yes' ↦ absurd (listed_given x f y yes' k h e)
-        | inr no' ↦ elim (either (is_here c x f)) [
-            | inl at ↦
-              let x_is : x ≡ o = (here c x f at).0 in
-              let f_is : f ≡ p = (here c x f at).1 in
-              let r : (has (slot_of s o p) y ≡ true) × (among released y ≡ false) = here_given y (subst (λ n. is_containment m n ≡ true) f_is k) (ap (λ l. has l y) (sym (here_after x f at)) ∙ h) e in
-              ap (λ b. cond b None (holder_at old y)) r.1 ∙ store.holders.held x f y k (subst (λ n. has (slot_of s n f) y ≡ true) (sym x_is) (subst (λ n. has (slot_of s o n) y ≡ true) (sym f_is) r.0))
-            | inr away ↦
-              let was : has (slot_of s x f) y ≡ true = subst (λ l. has l y ≡ true) (others x f away no') h in
-              let free : among released y ≡ false = refuted _ (λ r. elim (released_is y r) [
-                | inl a ↦
+      | inl yes' ↦ absurd (listed_given x f y yes' k h e)
+      | inr no' ↦ elim (either (is_here c x f)) [
+        | inl at ↦
+            let x_is : x ≡ o = (here c x f at).0 in
+            let f_is : f ≡ p = (here c x f at).1 in
+            let r : (has (slot_of s o p) y ≡ true) × (among released y ≡ false) = here_given y (subst (λ n. is_containment m n ≡ true) f_is k) (ap (λ l. has l y) (sym (here_after x f at)) ∙ h) e in
+            ap (λ b. cond b None (holder_at old y)) r.1 ∙ store.holders.held x f y k (subst (λ n. has (slot_of s n f) y ≡ true) (sym x_is) (subst (λ n. has (slot_of s o n) y ≡ true) (sym f_is) r.0))
+        | inr away ↦
+            let was : has (slot_of s x f) y ≡ true = subst (λ l. has l y ≡ true) (others x f away no') h in
+            let free : among released y ≡ false = refuted _ (λ r. elim (released_is y r) [
+              | inl a ↦
                   let g : Removed y = removed_is y a in
                   let at : (o ≡ x) × (p ≡ f) = one_old.one o p x f y g.cont k g.was was in
                   clash (is_here c x f) (and_both _ _ ((Decides-eqb x o).1 (sym at.0)) ((Decides-eqb f p).1 (sym at.1))) away
-                | inr t ↦
+              | inr t ↦
                   let at : (t.object ≡ x) × (t.feature ≡ f) = one_old.one t.object t.feature x f y t.cont k t.held was in
                   clash (listed ws x f) (subst (λ n. listed ws x n ≡ true) at.1 (subst (λ n. listed ws n t.feature ≡ true) at.0 t.is_listed)) no'
-              ]) in
-              ap (λ b. cond b None (holder_at old y)) free ∙ store.holders.held x f y k was
-          ]
+            ]) in
+            ap (λ b. cond b None (holder_at old y)) free ∙ store.holders.held x f y k was
       ]
+    ]
 
     back : (h : Holder) (y : ℕ) (g : Option Holder) → held_now y ≡ g → (b : Bool) → among released y ≡ b → or_else g (cond b None (holder_at old y)) ≡ Some h → HeldBack m (slot_after c) y h
     back h y (Some g) e b r is = given_right y h (e ∙ is)
     back h y None e true r is = cc
     back h y None e false r is =
         let was : (is_containment m h.feature.0 ≡ true) × (has (slot_of s h.object.0 h.feature.0) y ≡ true) = store.holders.contains h y is in
-        record { cont = was.0; held = elim (either (listed ws h.object.0 h.feature.0)) [
-          | inl yes' ↦ clash _ (ap (λ l. among l y) ready.is_released ∙ among-right (released_here m d) (flat_map (released_by m (slot_of s)) ws) y (released_all m (slot_of s) ws h.object.0 h.feature.0 y yes' was.0 was.1)) r
-          | inr no' ↦ elim (either (is_here c h.object.0 h.feature.0)) [
+        record {
+          cont = was.0;
+          held = elim (either (listed ws h.object.0 h.feature.0)) [
+            | inl yes' ↦ clash _ (ap (λ l. among l y) ready.is_released ∙ among-right (released_here m d) (flat_map (released_by m (slot_of s)) ws) y (released_all m (slot_of s) ws h.object.0 h.feature.0 y yes' was.0 was.1)) r
+            | inr no' ↦ elim (either (is_here c h.object.0 h.feature.0)) [
               | inl at ↦
-                let x_is : h.object.0 ≡ o = (here c h.object.0 h.feature.0 at).0 in
-                let f_is : h.feature.0 ≡ p = (here c h.object.0 h.feature.0 at).1 in
-                let was' : has (slot_of s o p) y ≡ true = subst (λ n. has (slot_of s o n) y ≡ true) f_is (subst (λ n. has (slot_of s n h.feature.0) y ≡ true) x_is was.1) in
-                ap (λ l. has l y) (here_after h.object.0 h.feature.0 at) ∙ elim (either (has items y)) [
-                  | inl stays ↦ stays
-                  | inr gone ↦ clash _ (ap (λ l. among l y) ready.is_released ∙ among-left (released_here m d) (flat_map (released_by m (slot_of s)) ws) y
-                      (ap (λ b. among (cond b d.removed []) y) (subst (λ n. is_containment m n ≡ true) f_is was.0)
-                      ∙ ap (λ l. among l y) ready.draft.removes ∙ beyond-is items (slot_of s o p) y ∙ and_both _ _ was' (not_of_false _ gone))) r
-                ]
+                  let x_is : h.object.0 ≡ o = (here c h.object.0 h.feature.0 at).0 in
+                  let f_is : h.feature.0 ≡ p = (here c h.object.0 h.feature.0 at).1 in
+                  let was' : has (slot_of s o p) y ≡ true = subst (λ n. has (slot_of s o n) y ≡ true) f_is (subst (λ n. has (slot_of s n h.feature.0) y ≡ true) x_is was.1) in
+                  ap (λ l. has l y) (here_after h.object.0 h.feature.0 at) ∙ elim (either (has items y)) [
+                    | inl stays ↦ stays
+                    | inr gone ↦ clash _ (ap (λ l. among l y) ready.is_released ∙ among-left (released_here m d) (flat_map (released_by m (slot_of s)) ws) y
+                        (ap (λ b. among (cond b d.removed []) y) (subst (λ n. is_containment m n ≡ true) f_is was.0)
+                        ∙ ap (λ l. among l y) ready.draft.removes ∙ beyond-is items (slot_of s o p) y ∙ and_both _ _ was' (not_of_false _ gone))) r
+                  ]
               | inr away ↦ subst (λ l. has l y ≡ true) (sym (others h.object.0 h.feature.0 away no')) was.1
             ]
-        ] }
+          ];
+        }
 
     whole_after : AreWhole m new
     whole_after = record {
@@ -461,8 +482,8 @@ module _ (m : Metamodels) (extents : List Extent) (old : List Cell) (d : Draft) 
       holders = record {
         held = λ x f y k h. new_holder y ∙ find x f y k (subst (λ l. has l y ≡ true) (slots_are x f) h) (held_now y) refl;
         contains = λ h y e.
-          let r : HeldBack m (slot_after c) y h = back h y (held_now y) refl (among released y) refl (sym (new_holder y) ∙ e) in
-          (r.cont, subst (λ l. has l y ≡ true) (sym (slots_are h.object.0 h.feature.0)) r.held);
+            let r : HeldBack m (slot_after c) y h = back h y (held_now y) refl (among released y) refl (sym (new_holder y) ∙ e) in
+            (r.cont, subst (λ l. has l y ≡ true) (sym (slots_are h.object.0 h.feature.0)) r.held);
       };
       acyclic = λ x i. ready.acyclic (record { object = x; inside = subst (λ (t : Slots). Inside m t x x) (λ j y f. slots_are y f j) i });
     }
@@ -470,8 +491,10 @@ module _ (m : Metamodels) (extents : List Extent) (old : List Cell) (d : Draft) 
     pub kept_whole : (members : List (List Oid)) (distinct : Bool) → IsKept m extents old members distinct → IsKept m extents new members distinct
     kept_whole members distinct kept' = record {
       whole = whole_after;
-      typed = record { types = λ x f. subst (λ (l : List Value). list_all (is_of_type (contents_of m extents new) f) l ≡ true) (sym (slots_are x f))
-        (all_kept s (contents_of m extents new) refl (stays_live m extents old new same) f (slot_after c x f) (types_after s o p items store.well_formed ready.fit kept'.typed x f)) };
+      typed = record {
+        types = λ x f. subst (λ (l : List Value). list_all (is_of_type (contents_of m extents new) f) l ≡ true) (sym (slots_are x f))
+            (all_kept s (contents_of m extents new) refl (stays_live m extents old new same) f (slot_after c x f) (types_after s o p items store.well_formed ready.fit kept'.typed x f));
+      };
       listed = listed_same m extents old new members same kept'.listed;
       unique = λ t. record { unique = λ x f u. ap repeats (slots_are x f) ∙ unique_after s o p items ready.unique (kept'.unique t) x f u };
     }

@@ -49,9 +49,9 @@ has-with_object o vs y = go (has vs o) refl
     go : (b : Bool) → has vs o ≡ b → has (cond b vs (vs ++ object_value o ∷ [])) y ≡ (has vs y || (o == y))
     go false e = has-push vs (object_value o) y
     go true e = elim (either (o == y)) [
-        | inl same ↦ (let at : o ≡ y = (Decides-eqb o y).0 same in subst (λ n. has vs n ≡ true) at e) ∙ sym (or_right (has vs y) (o == y) same)
-        | inr other ↦ sym (ap (λ b. has vs y || b) other ∙ or_false (has vs y))
-      ]
+      | inl same ↦ (let at : o ≡ y = (Decides-eqb o y).0 same in subst (λ n. has vs n ≡ true) at e) ∙ sym (or_right (has vs y) (o == y) same)
+      | inr other ↦ sym (ap (λ b. has vs y || b) other ∙ or_false (has vs y))
+    ]
 
 abbrev staying : Change → ℕ → ℕ → List Value
 staying c x f = filter (keeps c x f) (c.slots x f)
@@ -62,14 +62,15 @@ held_after c x f y = go (is_here c x f) refl (gains c x f) refl (is_single c.met
     rest : has (staying c x f) y ≡ true → is_here c x f ≡ false → HeldAfter c x f y
     rest h n = let both : (has (c.slots x f) y && not (loses c x f y)) ≡ true = sym (has-filter (loses c x f) (c.slots x f) y) ∙ h in
         kept n (and_left _ _ both) (not_true _ (and_right (has (c.slots x f) y) _ both))
+
     go : (b : Bool) → is_here c x f ≡ b → (g : Bool) → gains c x f ≡ g → (s : Bool) →
         has (cond b c.items (cond g (cond s (object_value c.object ∷ []) (with_object c.object (staying c x f))) (staying c x f))) y ≡ true → HeldAfter c x f y
     go true e g k s h = given e h
     go false e true k true h = gained e k ((Decides-eqb c.object y).0 (sym (or_false (c.object == y)) ∙ h))
     go false e true k false h = elim (or_cases _ _ (sym (has-with_object c.object (staying c x f) y) ∙ h)) [
-        | inl old ↦ rest old e
-        | inr new ↦ gained e k ((Decides-eqb c.object y).0 new)
-      ]
+      | inl old ↦ rest old e
+      | inr new ↦ gained e k ((Decides-eqb c.object y).0 new)
+    ]
     go false e false k s h = rest h e
 
 -- what is not replaced in a single opposite slot is the changed object
@@ -87,8 +88,10 @@ after_held c x f y (kept e h l) = go (is_here c x f) e (gains c x f) refl (is_si
   where
     stays : has (staying c x f) y ≡ true
     stays = has-filter (loses c x f) (c.slots x f) y ∙ and_both _ _ h (not_of_false _ l)
+
     in_place : is_replaced c x f y ≡ false
     in_place = none_right (is_taken c x f y) _ (none_left _ (is_moved_in c x f y) (none_left _ (is_moved c x f y) (none_left (leaves c x f y) _ l)))
+
     go : (b : Bool) → b ≡ false → (g : Bool) → gains c x f ≡ g → (s : Bool) → is_single c.metas f ≡ s →
         has (cond b c.items (cond g (cond s (object_value c.object ∷ []) (with_object c.object (staying c x f))) (staying c x f))) y ≡ true
     go true e g k s t = cc

@@ -23,40 +23,40 @@ use Rattle.qvt_store.proofs.Cells.{length-instances, length-holders, cell-instan
 
 pub hold_is : (cells : List Cell) (y : ℕ) (cell k : Cell) → y < length cells → cell ≡ get_or cells y cell → instance_of k ≡ instance_of cell → IsHeld cells (set cells y k) y k.holder
 hold_is cells y cell k live is same = record {
-    objects = instances-set cells y k ∙ ap (set (instances cells) y) (same ∙ sym (cell-instance cells y cell no_instance live is)) ∙ set-get_or (instances cells) y no_instance;
-    holders = λ z. ap (λ l. slice_index_or l z None) (holders-set cells y k) ∙ elim (cases_eq z y) [
-      | inl e ↦ subst (λ n. slice_index_or (set (map (λ (c : Cell). c.holder) cells) y k.holder) n None ≡ cond (n == y) k.holder (holder_at cells n)) (sym e)
-          (get_or-set_same (map (λ (c : Cell). c.holder) cells) y k.holder None (subst (λ n. y < n) (sym (length-holders cells)) live) ∙ sym (ap (λ b. cond b k.holder (holder_at cells y)) (eq-eqb y y refl)))
-      | inr n ↦ get_or-set_other (map (λ (c : Cell). c.holder) cells) y z k.holder None n ∙ sym (ap (λ b. cond b k.holder (holder_at cells z)) (ne_eqb z y n))
-    ];
-  }
+  objects = instances-set cells y k ∙ ap (set (instances cells) y) (same ∙ sym (cell-instance cells y cell no_instance live is)) ∙ set-get_or (instances cells) y no_instance;
+  holders = λ z. ap (λ l. slice_index_or l z None) (holders-set cells y k) ∙ elim (cases_eq z y) [
+    | inl e ↦ subst (λ n. slice_index_or (set (map (λ (c : Cell). c.holder) cells) y k.holder) n None ≡ cond (n == y) k.holder (holder_at cells n)) (sym e)
+        (get_or-set_same (map (λ (c : Cell). c.holder) cells) y k.holder None (subst (λ n. y < n) (sym (length-holders cells)) live) ∙ sym (ap (λ b. cond b k.holder (holder_at cells y)) (eq-eqb y y refl)))
+    | inr n ↦ get_or-set_other (map (λ (c : Cell). c.holder) cells) y z k.holder None n ∙ sym (ap (λ b. cond b k.holder (holder_at cells z)) (ne_eqb z y n))
+  ];
+}
 
 pub same_count : (old new : List Cell) → instances new ≡ instances old → length new ≡ length old
 same_count old new e = sym (length-instances new) ∙ ap length e ∙ length-instances old
 
 eqb-sym : (a b : ℕ) → (a == b) ≡ (b == a)
 eqb-sym a b = elim (cases_eq a b) [
-    | inl e ↦ eq-eqb a b e ∙ sym (eq-eqb b a (sym e))
-    | inr n ↦ ne_eqb a b n ∙ sym (ne_eqb b a (λ e. n (sym e)))
-  ]
+  | inl e ↦ eq-eqb a b e ∙ sym (eq-eqb b a (sym e))
+  | inr n ↦ ne_eqb a b n ∙ sym (ne_eqb b a (λ e. n (sym e)))
+]
 
 pub held_none : (cells : List Cell) (test : ℕ → Bool) (holder : Option Holder) → ((z : ℕ) → test z ≡ false) → AreHeld cells cells test holder
 held_none cells test holder none = record { objects = refl; holders = λ z. sym (ap (λ b. cond b holder (holder_at cells z)) (none z)) }
 
 pub held_object : (old new : List Cell) (child : ℕ) (test : ℕ → Bool) (holder : Option Holder) → ((z : ℕ) → test z ≡ (child == z)) → IsHeld old new child holder → AreHeld old new test holder
 held_object old new child test holder are is = record {
-    objects = is.objects;
-    holders = λ z. is.holders z ∙ ap (λ b. cond b holder (holder_at old z)) (eqb-sym z child ∙ sym (are z));
-  }
+  objects = is.objects;
+  holders = λ z. is.holders z ∙ ap (λ b. cond b holder (holder_at old z)) (eqb-sym z child ∙ sym (are z));
+}
 
 -- after some objects and then some more
 pub held_both : (old now next : List Cell) (p q r : ℕ → Bool) (holder : Option Holder) → ((z : ℕ) → r z ≡ (p z || q z)) → AreHeld old now p holder → AreHeld now next q holder → AreHeld old next r holder
 held_both old now next p q r holder are so step = record {
-    objects = step.objects ∙ so.objects;
-    holders = λ z. step.holders z
+  objects = step.objects ∙ so.objects;
+  holders = λ z. step.holders z
       ∙ go (q z) (p z) (holder_at old z) (holder_at now z) (so.holders z)
       ∙ ap (λ b. cond b holder (holder_at old z)) (sym (are z));
-  }
+}
   where
     go : (b e : Bool) (o n : Option Holder) → n ≡ cond e holder o → cond b holder n ≡ cond (e || b) holder o
     go true true o n k = refl
@@ -110,10 +110,10 @@ by_plain m cells w k = record { objects = refl; holders = λ z. ap (λ b. or_els
 
 pub by_contained : (m : Metamodels) (old new : List Cell) (w : Write) → is_containment m w.feature.0 ≡ true → AreHeld old new (has w.items) (Some (holder_in w.object.0 w.feature.0)) → AreHeldBy m old new (w ∷ [])
 by_contained m old new w k is = record {
-    objects = is.objects;
-    holders = λ z. is.holders z ∙ go (has w.items z) (holder_in w.object.0 w.feature.0) (holder_at old z)
+  objects = is.objects;
+  holders = λ z. is.holders z ∙ go (has w.items z) (holder_in w.object.0 w.feature.0) (holder_at old z)
       ∙ ap (λ b. or_else (or_else None (cond (b && has w.items z) (Some (holder_in w.object.0 w.feature.0)) None)) (holder_at old z)) (sym k);
-  }
+}
   where
     go : (b : Bool) (h : Holder) (o : Option Holder) → cond b (Some h) o ≡ or_else (or_else None (cond b (Some h) None)) o
     go true h o = refl
@@ -121,26 +121,28 @@ by_contained m old new w k is = record {
 
 pub by_more : (m : Metamodels) (old now next : List Cell) (ws : List Write) (w : Write) → AreHeldBy m old now ws → AreHeldBy m now next (w ∷ []) → AreHeldBy m old next (ws ++ w ∷ [])
 by_more m old now next ws w so step = record {
-    objects = step.objects ∙ so.objects;
-    holders = λ z. step.holders z ∙ ap (λ o. or_else (or_else None (held_by m w z)) o) (so.holders z)
+  objects = step.objects ∙ so.objects;
+  holders = λ z. step.holders z ∙ ap (λ o. or_else (or_else None (held_by m w z)) o) (so.holders z)
       ∙ assoc (held_by m w z) (held_of m ws z) (holder_at old z)
       ∙ sym (ap (λ o. or_else o (holder_at old z)) (held_of-push m ws w z));
-  }
+}
   where
     assoc : (a b d : Option Holder) → or_else (or_else None a) (or_else b d) ≡ or_else (or_else a b) d
     assoc None b d = refl
     assoc (Some h) b d = refl
 
 pub have_same : (m : Metamodels) (old now : List Cell) → instances now ≡ instances old → HaveSlots m old → HaveSlots m now
-have_same m old now e have' = record { slots = λ x h.
-    subst (λ (l : List Instance). length (slice_index_or l x no_instance).slots ≡ length (features_of m (slice_index_or l x no_instance).class)) (sym e)
-      (have'.slots x (subst (λ n. x < n) (same_count old now e) h)) }
+have_same m old now e have' = record {
+  slots = λ x h.
+      subst (λ (l : List Instance). length (slice_index_or l x no_instance).slots ≡ length (features_of m (slice_index_or l x no_instance).class)) (sym e)
+      (have'.slots x (subst (λ n. x < n) (same_count old now e) h));
+}
 
 pub write_same : (m : Metamodels) (old now : List Cell) (w : Write) → instances now ≡ instances old → IsWrite m old w → IsWrite m now w
 write_same m old now w e is = record {
-    live = subst (λ n. w.object.0 < n) (sym (same_count old now e)) is.live;
-    there = subst (λ (l : List Instance). has_feature m (slice_index_or l w.object.0 no_instance).class w.feature.0 ≡ true) (sym e) is.there;
-  }
+  live = subst (λ n. w.object.0 < n) (sym (same_count old now e)) is.live;
+  there = subst (λ (l : List Instance). has_feature m (slice_index_or l w.object.0 no_instance).class w.feature.0 ≡ true) (sym e) is.there;
+}
 
 with_same : (s t : Slots) (o p : ℕ) (vs : List Value) → ((x f : ℕ) → s x f ≡ t x f) → (x f : ℕ) → with_list s o p vs x f ≡ with_list t o p vs x f
 with_same s t o p vs same x f = ap (λ l. cond ((x == o) && (f == p)) vs l) (same x f)
@@ -151,10 +153,10 @@ written-push (v ∷ ws) w s = written-push ws w (with_list s v.object.0 v.featur
 
 pub written_none : (m : Metamodels) (cells : List Cell) → HaveSlots m cells → IsWritten m cells cells []
 written_none m cells have' = record {
-    objects = record { same_length = refl; classes = λ x. refl; extents = λ x. refl; have_slots = have' };
-    holders = λ y. refl;
-    slots = λ x f. refl;
-  }
+  objects = record { same_length = refl; classes = λ x. refl; extents = λ x. refl; have_slots = have' };
+  holders = λ y. refl;
+  slots = λ x f. refl;
+}
 
 pub written_more : (m : Metamodels) (old now next : List Cell) (ws : List Write) (w : Write) → IsWritten m old now ws → IsPut m now next w.object.0 w.feature.0 w.items → IsWritten m old next (ws ++ w ∷ [])
 written_more m old now next ws w so step =
@@ -169,16 +171,16 @@ written_more m old now next ws w so step =
       };
       holders = λ y. step.holders y ∙ so.holders y;
       slots = λ x f. step.slots x f
-        ∙ with_same (slot_in m (instances now)) (written ws (slot_in m (instances old))) w.object.0 w.feature.0 w.items so.slots x f
-        ∙ sym (ap (λ (s : Slots). s x f) (written-push ws w (slot_in m (instances old))));
+          ∙ with_same (slot_in m (instances now)) (written ws (slot_in m (instances old))) w.object.0 w.feature.0 w.items so.slots x f
+          ∙ sym (ap (λ (s : Slots). s x f) (written-push ws w (slot_in m (instances old))));
     }
 
 -- a write of the old cells is one of the new
 pub still_write : (m : Metamodels) (old now : List Cell) (w : Write) → SameObjects m old now → IsWrite m old w → IsWrite m now w
 still_write m old now w same is = record {
-    live = subst (λ n. w.object.0 < n) (sym same.same_length) is.live;
-    there = subst (λ n. has_feature m n w.feature.0 ≡ true) (sym (same.classes w.object.0)) is.there;
-  }
+  live = subst (λ n. w.object.0 < n) (sym same.same_length) is.live;
+  there = subst (λ n. has_feature m n w.feature.0 ≡ true) (sym (same.classes w.object.0)) is.there;
+}
 
 pub not_false : (a : Bool) → not a ≡ false → a ≡ true
 not_false true h = refl
@@ -189,10 +191,10 @@ here_plain m d cells k = record { objects = refl; holders = λ z. ap (λ b. or_e
 
 pub here_contained : (m : Metamodels) (d : Draft) (old new : List Cell) → is_containment m d.feature.0 ≡ true → AreHeld old new (among d.added) (Some (holder_in d.object.0 d.feature.0)) → AreHeldHere m d old new
 here_contained m d old new k is = record {
-    objects = is.objects;
-    holders = λ z. is.holders z ∙ go (among d.added z) (holder_in d.object.0 d.feature.0) (holder_at old z)
+  objects = is.objects;
+  holders = λ z. is.holders z ∙ go (among d.added z) (holder_in d.object.0 d.feature.0) (holder_at old z)
       ∙ ap (λ b. or_else (cond (b && among d.added z) (Some (holder_in d.object.0 d.feature.0)) None) (holder_at old z)) (sym k);
-  }
+}
   where
     go : (b : Bool) (h : Holder) (o : Option Holder) → cond b (Some h) o ≡ or_else (cond b (Some h) None) o
     go true h o = refl

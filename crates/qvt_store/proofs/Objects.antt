@@ -55,23 +55,23 @@ object_itself y = (Decides-eqb y y).1 refl
 pub in_all : (t : ℕ → Bool) (vs : List Value) (y : ℕ) → list_all (is_object_with t) vs ≡ true → has vs y ≡ true → t y ≡ true
 in_all t [] y all h = cc
 in_all t (v ∷ vs) y all h = elim (or_cases (is_object y v) (has vs y) h) [
-    | inl same ↦ sym (ap (passes t) (object-is v y same)) ∙ and_left _ _ all
-    | inr more ↦ in_all t vs y (and_right (is_object_with t v) _ all) more
-  ]
+  | inl same ↦ sym (ap (passes t) (object-is v y same)) ∙ and_left _ _ all
+  | inr more ↦ in_all t vs y (and_right (is_object_with t v) _ all) more
+]
 
 pub in_list : (p : Value → Bool) (q : ℕ → Bool) → ((v : Value) (y : ℕ) → p v ≡ true → object_in v ≡ Some y → q y ≡ true) → (vs : List Value) (y : ℕ) → list_all p vs ≡ true → has vs y ≡ true → q y ≡ true
 in_list p q at [] y all h = cc
 in_list p q at (v ∷ vs) y all h = elim (or_cases (is_object y v) (has vs y) h) [
-    | inl same ↦ at v y (and_left _ _ all) (object-is v y same)
-    | inr more ↦ in_list p q at vs y (and_right (p v) _ all) more
-  ]
+  | inl same ↦ at v y (and_left _ _ all) (object-is v y same)
+  | inr more ↦ in_list p q at vs y (and_right (p v) _ all) more
+]
 
 pub not_any : (t : ℕ → Bool) (vs : List Value) (y : ℕ) → list_any (is_object_with t) vs ≡ false → has vs y ≡ true → t y ≡ false
 not_any t [] y n h = cc
 not_any t (v ∷ vs) y n h = elim (or_cases (is_object y v) (has vs y) h) [
-    | inl same ↦ sym (ap (passes t) (object-is v y same)) ∙ none_left _ _ n
-    | inr more ↦ not_any t vs y (none_right (is_object_with t v) _ n) more
-  ]
+  | inl same ↦ sym (ap (passes t) (object-is v y same)) ∙ none_left _ _ n
+  | inr more ↦ not_any t vs y (none_right (is_object_with t v) _ n) more
+]
 
 pub has_none : (vs : List Value) (y : ℕ) → vs ≡ [] → has vs y ≡ true → ⊥
 has_none vs y e h = let k : false ≡ true = sym (ap (λ l. has l y) e) ∙ h in cc

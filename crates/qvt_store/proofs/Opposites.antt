@@ -45,25 +45,30 @@ module _ (c : Change) (made : IsMade c) (well : IsWellFormed c.metas) (fits : Fi
     where
       back : is_opposite c.metas g c.feature ≡ true
       back = well.mutual_opposites c.feature g e
+
       no_gain : gains c y g ≡ false
       no_gain = and_false (is_opposite c.metas c.feature g) _ (λ _. not_added c made y was)
+
       one_item : is_container c.metas c.feature ≡ true → length c.items ≤ 1
       one_item k = fits.single (well.one_container g c.feature back (sym (container-of c.metas (opposite c.metas c.feature) g e) ∙ k))
+
       none_added : is_container c.metas c.feature ≡ true → is_some_object c.added ≡ false
       none_added k = ap is_some_object made.adds ∙ none_beyond (c.slots c.object c.feature) c.items y (one_item k) new was
+
       direct : leaves c y g c.object ≡ false
       direct = none_of (is_taken c y g c.object) (is_replaced c y g c.object) (is_moved_in c y g c.object) (is_moved c y g c.object)
           (and_false_left _ _ (not_here y g e))
           (and_false_left _ _ (and_false_left _ _ no_gain))
           (and_false_left _ _ (and_false_left _ _ (and_false (is_containment c.metas c.feature) _ (λ k. well.one_containment c.feature g e k))))
           (and_false_left _ _ (and_false_left _ _ (and_false_left _ _ (and_false (is_container c.metas c.feature) _ (λ k. none_added k)))))
+
       mirrored : leaves c c.object c.feature y ≡ false
       mirrored = none_of (is_taken c c.object c.feature y) (is_replaced c c.object c.feature y) (is_moved_in c c.object c.feature y) (is_moved c c.object c.feature y)
           (and_false (is_here c c.object c.feature) _ (λ _. not_removed c made y new))
           (and_false_left _ _ (and_false_left _ _ (and_false_left _ _ (well.other_feature c.feature))))
           (and_false (is_containment c.metas c.feature && is_containment c.metas c.feature && is_added c y) _ (λ _. not_of_true _ (here_again c)))
           (and_false_left _ _ (and_false_left _ _ (and_false (is_container c.metas c.feature && is_some_object c.added) _ (λ k.
-            well.one_containment g c.feature back (sym (container-of c.metas (opposite c.metas c.feature) g e) ∙ and_left _ _ k)))))
+          well.one_containment g c.feature back (sym (container-of c.metas (opposite c.metas c.feature) g e) ∙ and_left _ _ k)))))
 
   from_given : (x f y g : ℕ) → x ≡ c.object → f ≡ c.feature → is_opposite c.metas f g ≡ true → has c.items y ≡ true → HeldAfter c y g x
   from_given x f y g at of e new =
@@ -77,23 +82,24 @@ module _ (c : Change) (made : IsMade c) (well : IsWellFormed c.metas) (fits : Fi
   from_kept x f y g e was stays =
       elim (either (is_here c y g)) [
         | inl h ↦ given h (elim (either (has c.items x)) [
-            | inl new ↦ new
-            | inr gone ↦
+          | inl new ↦ new
+          | inr gone ↦
               let y_is : y ≡ c.object = (here c y g h).0 in
               let g_is : g ≡ c.feature = (here c y g h).1 in
               let was' : has (c.slots c.object c.feature) x ≡ true = subst (λ k. has (c.slots k c.feature) x ≡ true) y_is (subst (λ k. has (c.slots y k) x ≡ true) g_is back_held) in
               clash (leaves c y g x) (first_of_4 (is_taken c y g x) (is_replaced c y g x) (is_moved_in c y g x) (is_moved c y g x) (and_both _ _ h (removes c made x was' gone))) mirror_stays
-          ])
+        ])
         | inr h ↦ kept h back_held (or_none _ _ mirror_stays (left-of c (opposite c.metas g) y x f (well.mutual_opposites f g e) ∙ and_false (has (c.slots x f) y) _ (λ _. none_left (leaves c x f y) (is_left c (opposite c.metas f) x y) stays)))
       ]
     where
       back_held : has (c.slots y g) x ≡ true
       back_held = old.agree x f y g e was
+
       mirror_stays : leaves c y g x ≡ false
       mirror_stays = elim (either (leaves c y g x)) [
-          | inl l ↦ clash _ (left-of c (opposite c.metas f) x y g e ∙ and_both _ _ back_held l) (none_right (leaves c x f y) _ stays)
-          | inr l ↦ l
-        ]
+        | inl l ↦ clash _ (left-of c (opposite c.metas f) x y g e ∙ and_both _ _ back_held l) (none_right (leaves c x f y) _ stays)
+        | inr l ↦ l
+      ]
 
   from_gained : (x f y g : ℕ) → is_opposite c.metas f g ≡ true → gains c x f ≡ true → c.object ≡ y → HeldAfter c y g x
   from_gained x f y g e k at =
@@ -102,8 +108,10 @@ module _ (c : Change) (made : IsMade c) (well : IsWellFormed c.metas) (fits : Fi
       subst (λ n. HeldAfter c y n x) g_is (subst (λ n. HeldAfter c n c.feature x) at (given (here_again c) (added_new c made x (and_right (is_opposite c.metas c.feature f) _ k))))
 
   pub keeps_opposites : OppositesAgree c.metas (slot_after c)
-  keeps_opposites = record { agree = λ x f y g e h. after_held c y g x (elim (held_after c x f y h) [
+  keeps_opposites = record {
+    agree = λ x f y g e h. after_held c y g x (elim (held_after c x f y h) [
       | given at new ↦ from_given x f y g (here c x f at).0 (here c x f at).1 e new
       | kept n was stays ↦ from_kept x f y g e was stays
       | gained n k at ↦ from_gained x f y g e k at
-    ]) }
+    ]);
+  }

@@ -29,9 +29,9 @@ listed-push (v ∷ ws) w x f = go (is_write_of x f v) (listed-push ws w x f)
 
 pub more_cases : (os : List Oid) (i : ℕ) (d : Oid) (x : ℕ) → i < length os → among (take (i + 1) os) x ≡ true → (among (take i os) x ≡ true) ⊎ (x ≡ (get_or os i d).0)
 more_cases os i d x h k = elim (or_cases (among (take i os) x) ((get_or os i d).0 == x) (sym (among-more os i d x h) ∙ k)) [
-    | inl l ↦ inl l
-    | inr l ↦ inr (sym ((Decides-eqb (get_or os i d).0 x).0 l))
-  ]
+  | inl l ↦ inl l
+  | inr l ↦ inr (sym ((Decides-eqb (get_or os i d).0 x).0 l))
+]
 
 module _ (s : Contents) (c : Change) where
   pub extends_none : (ws : List Write) → Extends s c ws ws
@@ -71,8 +71,8 @@ module _ (s : Contents) (c : Change) where
   pub no_need : (ws : List Write) (o p : ℕ) → ((is_slot s o p ≡ true) → (is_here c o p ≡ false) → listed ws o p ≡ true) → Plans s c ws ws (IsSlotOf o p)
   no_need ws o p known = plans_none ws (IsSlotOf o p) (λ x f q slot away.
       subst (λ n. listed ws n f ≡ true) (sym q.object) (subst (λ n. listed ws o n ≡ true) (sym q.feature)
-        (known (subst (λ n. is_slot s n p ≡ true) q.object (subst (λ n. is_slot s x n ≡ true) q.feature slot))
-               (subst (λ n. is_here c n p ≡ false) q.object (subst (λ n. is_here c x n ≡ false) q.feature away)))))
+      (known (subst (λ n. is_slot s n p ≡ true) q.object (subst (λ n. is_slot s x n ≡ true) q.feature slot))
+      (subst (λ n. is_here c n p ≡ false) q.object (subst (λ n. is_here c x n ≡ false) q.feature away)))))
 
   pub each_more : (a b d : List Write) (os : List Oid) (i p : ℕ) (d0 : Oid) → i < length os →
       Plans s c a b (IsSlotOfSome (take i os) p) → Plans s c b d (IsSlotOf (get_or os i d0).0 p) → Plans s c a d (IsSlotOfSome (take (i + 1) os) p)
@@ -158,6 +158,7 @@ module _ (s : Contents) (c : Change) where
     where
       Two : ℕ → ℕ → Type 0
       Two x f = IsSlotOfSome c.removed q x f ⊎ IsSlotOfSome c.added q x f
+
       split : (x f : ℕ) → IsOpposed s c x f → Two x f ⊎ IsOwnerSlot s c.added q c.feature x f
       split x f (before k h) = inl (inl (record { object = h; feature = one f k }))
       split x f (after k h) = inl (inr (record { object = h; feature = one f k }))
@@ -168,6 +169,7 @@ module _ (s : Contents) (c : Change) where
     where
       no' : (f : ℕ) → is_opposite c.metas c.feature f ≡ true → ⊥
       no' f o = clash _ o (ap (λ r. is_feature_number r f) e)
+
       never : (x f : ℕ) → IsOpposed s c x f → ⊥
       never x f (before k h) = no' f k
       never x f (after k h) = no' f k

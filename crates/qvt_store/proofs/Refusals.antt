@@ -40,8 +40,10 @@ any_end c well (Some q) e (a ∷ os) =
   where
     opp : is_opposite c.metas c.feature q.0 ≡ true
     opp = ap (λ r. is_feature_number r q.0) e ∙ (Decides-eqb q.0 q.0).1 refl
+
     away : is_here c a.0 q.0 ≡ false
     away = refuted _ (λ h. clash _ opp (subst (λ n. is_opposite c.metas c.feature n ≡ false) (sym (here c a.0 q.0 h).1) (well.other_feature c.feature)))
+
     after_is : slot_after c a.0 q.0 ≡ slot_elsewhere c a.0 q.0
     after_is = ap (λ b. cond b c.items (slot_elsewhere c a.0 q.0)) away
 
@@ -77,11 +79,13 @@ module _ (s : Contents) (d : Draft) (ws : List Value) (well : IsWellFormed s.met
   adds_live = record { live = λ y h. and_left _ _ (item_object s d.feature.0 ws y fit.types (added_new c made y (subst (λ (k : Change). is_added k y ≡ true) (same_change s d ws is) h))) }
 
   bounded : Bounded (slot_after c) (length s.objects)
-  bounded = record { held = λ x f y h. ltb-true x (length s.objects) (elim (held_after c x f y h) [
+  bounded = record {
+    held = λ x f y h. ltb-true x (length s.objects) (elim (held_after c x f y h) [
       | given at new ↦ subst (λ n. is_live s n ≡ true) (sym (here c x f at).0) (and_left _ _ fit.slot)
       | kept n was stays ↦ and_left _ _ (holder_slot s x f y was)
       | gained n g at ↦ and_left _ _ (item_object s d.feature.0 ws x fit.types (added_new c made x (gains_added x f g)))
-    ]) }
+    ]);
+  }
     where
       gains_added : (x f : ℕ) → gains c x f ≡ true → is_added c x ≡ true
       gains_added x f g = right (is_opposite s.metas d.feature.0 f) (is_added c x) g

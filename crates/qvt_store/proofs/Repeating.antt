@@ -161,7 +161,7 @@ pub without_step : (vs : List Value) (i : ℕ) (d : Value) (list new : List Valu
 without_step vs i d list new b h so test is = is ∙ ap (λ t. cond t list (list ++ get_or vs i d ∷ [])) test
     ∙ ap (λ l. cond (list_any (λ w. same_value w (get_or vs i d)) l) l (l ++ get_or vs i d ∷ [])) so
     ∙ sym (ap without_repeats (take_more vs i d h) ∙ without-push (take i vs) (get_or vs i d)
-      ∙ ap (λ b. cond b (without_repeats (take i vs)) (without_repeats (take i vs) ++ get_or vs i d ∷ [])) (sym (any-without (get_or vs i d) (take i vs))))
+    ∙ ap (λ b. cond b (without_repeats (take i vs)) (without_repeats (take i vs) ++ get_or vs i d ∷ [])) (sym (any-without (get_or vs i d) (take i vs))))
 
 filter_none : (test : Value → Bool) (vs : List Value) → list_any test vs ≡ false → filter (λ w. not (test w)) vs ≡ vs
 filter_none test [] h = refl

@@ -77,9 +77,9 @@ each_list c P x f new more rest = go (is_here c x f) refl (gains c x f) refl
 not_among : (test : Oid → Bool) (os : List Oid) (y : ℕ) → list_any test os ≡ false → among os y ≡ true → test (record { 0 = y }) ≡ false
 not_among test [] y n h = cc
 not_among test (o ∷ os) y n h = elim (or_cases (o.0 == y) (among os y) h) [
-    | inl same ↦ subst (λ k. test (record { 0 = k }) ≡ false) ((Decides-eqb o.0 y).0 same) (none_left _ _ n)
-    | inr more ↦ not_among test os y (none_right (test o) _ n) more
-  ]
+  | inl same ↦ subst (λ k. test (record { 0 = k }) ≡ false) ((Decides-eqb o.0 y).0 same) (none_left _ _ n)
+  | inr more ↦ not_among test os y (none_right (test o) _ n) more
+]
 
 end_fits : (c : Change) (q : Option FeatureNo) (x f : ℕ) → is_feature_number q f ≡ true → overfills_end c q (record { 0 = x }) ≡ false → is_overfull c x f ≡ false
 end_fits c None x f e h = cc
@@ -91,6 +91,7 @@ plain-new_list m p vs all = go (shape_of m p).unique
     without : (vs : List Value) → All IsPlain vs → All IsPlain (without_repeats vs)
     without [] all = all
     without (v ∷ vs) all = All-cons IsPlain v _ (All-head IsPlain v vs all) (All-filter (λ w. not (same_value v w)) IsPlain (without_repeats vs) (without vs (All-tail IsPlain v vs all)))
+
     go : (b : Bool) → All IsPlain (cond b (without_repeats vs) vs)
     go true = without vs all
     go false = all
@@ -115,13 +116,15 @@ module _ (s : Contents) (o p : ℕ) (ws : List Value) where
   types_after well fit old x f = each_list k (λ l. list_all (is_of_type s f) l ≡ true) x f
       (λ at. subst (λ n. list_all (is_of_type s n) ws ≡ true) (sym (here k x f at).1) fit.types)
       (λ g. end_list k f (λ l. list_all (is_of_type s f) l ≡ true) stays (and_both _ _ (own_type g) refl)
-        (with_object_list o (λ l. list_all (is_of_type s f) l ≡ true) stays rest (all-push (is_of_type s f) stays (object_value o) rest (own_type g))))
+      (with_object_list o (λ l. list_all (is_of_type s f) l ≡ true) stays rest (all-push (is_of_type s f) stays (object_value o) rest (own_type g))))
       rest
     where
       stays : List Value
       stays = filter (keeps k x f) (k.slots x f)
+
       rest : list_all (is_of_type s f) (filter (keeps k x f) (k.slots x f)) ≡ true
       rest = all-filter (is_of_type s f) (keeps k x f) (k.slots x f) (old.types x f)
+
       own_type : gains k x f ≡ true → is_of_type s f (object_value o) ≡ true
       own_type g = kind_of_object s (shape_of s.metas f).kind o (and_left _ _ fit.slot) (well.opposite_has_type p f (class_of s o) (and_left _ _ g) (and_right (is_live s o) _ fit.slot))
 
@@ -151,18 +154,18 @@ module _ (s : Contents) (o p : ℕ) (ws : List Value) (well : IsWellFormed s.met
 
   bound : (x f : ℕ) → is_beyond (length (slot_after c x f)) (shape_of s.metas f).upper ≡ false
   bound x f = elim (either (gains c x f)) [
-      | inl g ↦ gained_fits x f g
-      | inr n ↦ each_list c (λ l. is_beyond (length l) (shape_of s.metas f).upper ≡ false) x f
-          (λ at. subst (λ k. is_beyond (length ws) (shape_of s.metas k).upper ≡ false) (sym (here c x f at).1) new_fits)
-          (λ g. clash _ g n)
-          (fewer_fit _ _ (shape_of s.metas f).upper (length-filter (keeps c x f) (c.slots x f)) (sound.bounds x f))
-    ]
+    | inl g ↦ gained_fits x f g
+    | inr n ↦ each_list c (λ l. is_beyond (length l) (shape_of s.metas f).upper ≡ false) x f
+        (λ at. subst (λ k. is_beyond (length ws) (shape_of s.metas k).upper ≡ false) (sym (here c x f at).1) new_fits)
+        (λ g. clash _ g n)
+        (fewer_fit _ _ (shape_of s.metas f).upper (length-filter (keeps c x f) (c.slots x f)) (sound.bounds x f))
+  ]
 
   all_plain : (x f : ℕ) → All IsPlain (slot_after c x f)
   all_plain x f = each_list c (λ l. All IsPlain l) x f
       (λ at. plain)
       (λ g. end_list c f (λ l. All IsPlain l) (filter (keeps c x f) (c.slots x f)) (All-cons IsPlain (object_value o) [] tt (All-nil IsPlain))
-        (with_object_list o (λ l. All IsPlain l) (filter (keeps c x f) (c.slots x f)) rest (All-push IsPlain (filter (keeps c x f) (c.slots x f)) (object_value o) rest tt)))
+      (with_object_list o (λ l. All IsPlain l) (filter (keeps c x f) (c.slots x f)) rest (All-push IsPlain (filter (keeps c x f) (c.slots x f)) (object_value o) rest tt)))
       rest
     where
       rest : All IsPlain (filter (keeps c x f) (c.slots x f))
@@ -174,13 +177,13 @@ module _ (s : Contents) (o p : ℕ) (ws : List Value) (well : IsWellFormed s.met
   -- an extent of no model has no object with an opposite
   own_model : (f : ℕ) → is_opposite s.metas p f ≡ true → is_model s (extent_of s o) ≡ true
   own_model f opp = elim (either (is_model s (extent_of s o))) [
-      | inl yes' ↦ yes'
-      | inr no' ↦
+    | inl yes' ↦ yes'
+    | inr no' ↦
         let own : IsOwnClass s o = sound.classes o (and_left _ _ fit.slot) in
         let unnamed : is_named (metamodel_at s.metas (class_at s.metas (class_of s o)).metamodel).name ≡ false =
-          ap (λ n. is_named (metamodel_at s.metas n).name) own.metamodel ∙ sym (named.named (extent_of s o) own.extent) ∙ no' in
+        ap (λ n. is_named (metamodel_at s.metas n).name) own.metamodel ∙ sym (named.named (extent_of s o) own.extent) ∙ no' in
         clash _ opp (well.unnamed_alone p f (class_of s o) (and_right (is_live s o) _ fit.slot) (no_name (metamodel_at s.metas (class_at s.metas (class_of s o)).metamodel).name unnamed))
-    ]
+  ]
     where
       no_name : (n : List ℕ) → is_named n ≡ false → n ≡ []
       no_name [] h = refl
@@ -188,28 +191,30 @@ module _ (s : Contents) (o p : ℕ) (ws : List Value) (well : IsWellFormed s.met
 
   same_extent : (a : ℕ) → is_model s (extent_of s o) ≡ true → has ws a ≡ true → extent_of s a ≡ extent_of s o
   same_extent a model new = elim (either (extent_of s a == extent_of s o)) [
-      | inl same ↦ (Decides-eqb (extent_of s a) (extent_of s o)).0 same
-      | inr other ↦ clash _ (not_of_false _ other) (not_any (λ b. not (extent_of s b == extent_of s o)) ws a (elim (either (list_any (is_elsewhere s o) ws)) [
-          | inl some ↦ clash _ (and_both _ _ model some) causes.3
-          | inr no' ↦ no'
-        ]) new)
-    ]
+    | inl same ↦ (Decides-eqb (extent_of s a) (extent_of s o)).0 same
+    | inr other ↦ clash _ (not_of_false _ other) (not_any (λ b. not (extent_of s b == extent_of s o)) ws a (elim (either (list_any (is_elsewhere s o) ws)) [
+      | inl some ↦ clash _ (and_both _ _ model some) causes.3
+      | inr no' ↦ no'
+    ]) new)
+  ]
 
   own : (x f y : ℕ) → is_model s (extent_of s x) ≡ true → has (slot_after c x f) y ≡ true → extent_of s y ≡ extent_of s x
   own x f y model h = elim (held_after c x f y h) [
-      | given at new ↦
+    | given at new ↦
         let x_is : x ≡ o = (here c x f at).0 in
         subst (λ k. extent_of s y ≡ extent_of s k) (sym x_is) (same_extent y (subst (λ k. is_model s (extent_of s k) ≡ true) x_is model) new)
-      | kept n was stays ↦ sound.own_objects x f y model was
-      | gained n g at ↦
+    | kept n was stays ↦ sound.own_objects x f y model was
+    | gained n g at ↦
         let new : has ws x ≡ true = added_new c made x (and_right (is_opposite s.metas p f) _ g) in
         subst (λ k. extent_of s k ≡ extent_of s x) at (sym (same_extent x (own_model f (and_left _ _ g)) new))
-    ]
+  ]
 
   bounded : Bounded (slot_after c) (length s.objects)
-  bounded = record { held = λ x f y h.
-      let h' : has (slot_of s' x f) y ≡ true = subst (λ (l : List Value). has l y ≡ true) (sym (slot-after s o p ws well fit x f)) h in
-      ltb-true x (length s.objects) (sym (live-after s o p ws well fit x) ∙ and_left _ _ (holder_slot s' x f y h')) }
+  bounded = record {
+    held = λ x f y h.
+        let h' : has (slot_of s' x f) y ≡ true = subst (λ (l : List Value). has l y ≡ true) (sym (slot-after s o p ws well fit x f)) h in
+        ltb-true x (length s.objects) (sym (live-after s o p ws well fit x) ∙ and_left _ _ (holder_slot s' x f y h'));
+  }
 
   pub keeps_sound : Sound s'
   keeps_sound = record {
@@ -219,8 +224,10 @@ module _ (s : Contents) (o p : ℕ) (ws : List Value) (well : IsWellFormed s.met
       concrete = ap (λ n. (class_at s.metas n).is_abstract) (class-after s o p ws well fit x) ∙ old.concrete;
     };
     features = features_always s';
-    typed = record { types = λ x f. subst (λ (l : List Value). list_all (is_of_type s' f) l ≡ true) (sym (slot-after s o p ws well fit x f))
-        (all_kept s s' refl stays_live f (slot_after c x f) (types_after s o p ws well fit sound.typed x f)) };
+    typed = record {
+      types = λ x f. subst (λ (l : List Value). list_all (is_of_type s' f) l ≡ true) (sym (slot-after s o p ws well fit x f))
+          (all_kept s s' refl stays_live f (slot_after c x f) (types_after s o p ws well fit sound.typed x f));
+    };
     plain = λ x f. subst (λ (l : List Value). All IsPlain l) (sym (slot-after s o p ws well fit x f)) (all_plain x f);
     bounds = λ x f. subst (λ (l : List Value). is_beyond (length l) (shape_of s.metas f).upper ≡ false) (sym (slot-after s o p ws well fit x f)) (bound x f);
     unique = record { unique = λ x f u. subst (λ (l : List Value). repeats l ≡ false) (sym (slot-after s o p ws well fit x f)) (unique_after s o p ws uniq sound.unique x f u) };
@@ -241,5 +248,5 @@ assign_keeps_sound s s' o p vs well named can plain sound e =
 pub append_keeps_sound : AppendKeepsSound
 append_keeps_sound s s' o p v well named can plain sound e =
     assign_keeps_sound s s' o p (slot_of s o p ++ v ∷ []) well named
-      (record { live = can.live; feature = can.feature; types = all-push (is_of_type s p) (slot_of s o p) v (sound.typed.types o p) (and_left _ _ can.types) })
-      (All-push IsPlain (slot_of s o p) v (sound.plain o p) (All-head IsPlain v [] plain)) sound e
+    (record { live = can.live; feature = can.feature; types = all-push (is_of_type s p) (slot_of s o p) v (sound.typed.types o p) (and_left _ _ can.types) })
+    (All-push IsPlain (slot_of s o p) v (sound.plain o p) (All-head IsPlain v [] plain)) sound e

@@ -38,25 +38,25 @@ filter_all keep (v ∷ vs) h = go (keep v) (none_left (not (keep v)) _ h) (filte
 module _ (c : Change) (well : IsWellFormed c.metas) where
   loses_touched : (x f y : ℕ) → has (c.slots x f) y ≡ true → loses c x f y ≡ true → Touched c x f
   loses_touched x f y h l = elim (or_cases (leaves c x f y) (is_left c (opposite c.metas f) x y) l) [
-      | inl out ↦ elim (or_cases (is_taken c x f y || is_replaced c x f y || is_moved_in c x f y) (is_moved c x f y) out) [
-          | inl a ↦ elim (or_cases (is_taken c x f y || is_replaced c x f y) (is_moved_in c x f y) a) [
-              | inl b ↦ elim (or_cases (is_taken c x f y) (is_replaced c x f y) b) [
-                  | inl d ↦ touched_itself (and_left _ _ d)
-                  | inr d ↦ let g : gains c x f ≡ true = and_left _ _ (and_left _ _ d) in opposite_new (and_left _ _ g) (and_right (is_opposite c.metas c.feature f) _ g)
-                ]
-              | inr b ↦
-                let d : (is_containment c.metas c.feature && is_containment c.metas f && is_added c y) ≡ true = and_left _ _ b in
-                let e : (is_containment c.metas c.feature && is_containment c.metas f) ≡ true = and_left _ _ d in
-                old_container y (and_left _ _ e) (and_right (is_containment c.metas c.feature && is_containment c.metas f) _ d) (and_right (is_containment c.metas c.feature) _ e) h
-            ]
-          | inr a ↦
-            let b : (is_container c.metas c.feature && is_some_object c.added && is_containment c.metas f && (y == c.object)) ≡ true = and_left _ _ a in
-            let d : (is_container c.metas c.feature && is_some_object c.added && is_containment c.metas f) ≡ true = and_left _ _ b in
-            own_container (and_left _ _ (and_left _ _ d)) (and_right (is_container c.metas c.feature && is_some_object c.added) _ d)
-              (subst (λ n. has (c.slots x f) n ≡ true) ((Decides-eqb y c.object).0 (and_right (is_container c.metas c.feature && is_some_object c.added && is_containment c.metas f) _ b)) h)
+    | inl out ↦ elim (or_cases (is_taken c x f y || is_replaced c x f y || is_moved_in c x f y) (is_moved c x f y) out) [
+      | inl a ↦ elim (or_cases (is_taken c x f y || is_replaced c x f y) (is_moved_in c x f y) a) [
+        | inl b ↦ elim (or_cases (is_taken c x f y) (is_replaced c x f y) b) [
+          | inl d ↦ touched_itself (and_left _ _ d)
+          | inr d ↦ let g : gains c x f ≡ true = and_left _ _ (and_left _ _ d) in opposite_new (and_left _ _ g) (and_right (is_opposite c.metas c.feature f) _ g)
         ]
-      | inr away ↦ mirrored (opposite c.metas f) refl away
+        | inr b ↦
+            let d : (is_containment c.metas c.feature && is_containment c.metas f && is_added c y) ≡ true = and_left _ _ b in
+            let e : (is_containment c.metas c.feature && is_containment c.metas f) ≡ true = and_left _ _ d in
+            old_container y (and_left _ _ e) (and_right (is_containment c.metas c.feature && is_containment c.metas f) _ d) (and_right (is_containment c.metas c.feature) _ e) h
+      ]
+      | inr a ↦
+          let b : (is_container c.metas c.feature && is_some_object c.added && is_containment c.metas f && (y == c.object)) ≡ true = and_left _ _ a in
+          let d : (is_container c.metas c.feature && is_some_object c.added && is_containment c.metas f) ≡ true = and_left _ _ b in
+          own_container (and_left _ _ (and_left _ _ d)) (and_right (is_container c.metas c.feature && is_some_object c.added) _ d)
+          (subst (λ n. has (c.slots x f) n ≡ true) ((Decides-eqb y c.object).0 (and_right (is_container c.metas c.feature && is_some_object c.added && is_containment c.metas f) _ b)) h)
     ]
+    | inr away ↦ mirrored (opposite c.metas f) refl away
+  ]
     where
       mirrored : (q : Option FeatureNo) → opposite c.metas f ≡ q → is_left c q x y ≡ true → Touched c x f
       mirrored None e away = cc
@@ -67,24 +67,24 @@ module _ (c : Change) (well : IsWellFormed c.metas) where
           let out : leaves c y g.0 x ≡ true = and_right (has (c.slots y g.0) x) _ away in
           elim (or_cases (is_taken c y g.0 x || is_replaced c y g.0 x || is_moved_in c y g.0 x) (is_moved c y g.0 x) out) [
             | inl a ↦ elim (or_cases (is_taken c y g.0 x || is_replaced c y g.0 x) (is_moved_in c y g.0 x) a) [
-                | inl b ↦ elim (or_cases (is_taken c y g.0 x) (is_replaced c y g.0 x) b) [
-                    | inl d ↦
-                      let at : is_here c y g.0 ≡ true = and_left _ _ d in
-                      opposite_old (subst (λ n. is_opposite c.metas n f ≡ true) (here c y g.0 at).1 back) (and_right (is_here c y g.0) _ d)
-                    | inr d ↦
-                      let k : gains c y g.0 ≡ true = and_left _ _ (and_left _ _ d) in
-                      let opp' : is_opposite c.metas c.feature g.0 ≡ true = and_left _ _ k in
-                      other_owner y g.0 opp' (and_right (is_opposite c.metas c.feature g.0) _ k) held (same_number (opposite c.metas g.0) f c.feature back (well.mutual_opposites c.feature g.0 opp'))
-                  ]
-                | inr b ↦
+              | inl b ↦ elim (or_cases (is_taken c y g.0 x) (is_replaced c y g.0 x) b) [
+                | inl d ↦
+                    let at : is_here c y g.0 ≡ true = and_left _ _ d in
+                    opposite_old (subst (λ n. is_opposite c.metas n f ≡ true) (here c y g.0 at).1 back) (and_right (is_here c y g.0) _ d)
+                | inr d ↦
+                    let k : gains c y g.0 ≡ true = and_left _ _ (and_left _ _ d) in
+                    let opp' : is_opposite c.metas c.feature g.0 ≡ true = and_left _ _ k in
+                    other_owner y g.0 opp' (and_right (is_opposite c.metas c.feature g.0) _ k) held (same_number (opposite c.metas g.0) f c.feature back (well.mutual_opposites c.feature g.0 opp'))
+              ]
+              | inr b ↦
                   let d : (is_containment c.metas c.feature && is_containment c.metas g.0 && is_added c x) ≡ true = and_left _ _ b in
                   let k : (is_containment c.metas c.feature && is_containment c.metas g.0) ≡ true = and_left _ _ d in
                   old_container_end y g.0 (and_left _ _ k) (and_right (is_containment c.metas c.feature && is_containment c.metas g.0) _ d) (and_right (is_containment c.metas c.feature) _ k) held back
-              ]
+            ]
             | inr a ↦
-              let b : (is_container c.metas c.feature && is_some_object c.added && is_containment c.metas g.0 && (x == c.object)) ≡ true = and_left _ _ a in
-              let d : (is_container c.metas c.feature && is_some_object c.added && is_containment c.metas g.0) ≡ true = and_left _ _ b in
-              own_container_end y g.0 (and_left _ _ (and_left _ _ d)) ((Decides-eqb x c.object).0 (and_right (is_container c.metas c.feature && is_some_object c.added && is_containment c.metas g.0) _ b))
+                let b : (is_container c.metas c.feature && is_some_object c.added && is_containment c.metas g.0 && (x == c.object)) ≡ true = and_left _ _ a in
+                let d : (is_container c.metas c.feature && is_some_object c.added && is_containment c.metas g.0) ≡ true = and_left _ _ b in
+                own_container_end y g.0 (and_left _ _ (and_left _ _ d)) ((Decides-eqb x c.object).0 (and_right (is_container c.metas c.feature && is_some_object c.added && is_containment c.metas g.0) _ b))
                 (and_right (is_container c.metas c.feature && is_some_object c.added) _ d) held back
           ]
 
@@ -95,6 +95,7 @@ module _ (c : Change) (well : IsWellFormed c.metas) where
       twice : (b : Bool) → b ≡ false → not (not b) ≡ false
       twice true e = e
       twice false e = e
+
       at : (o : Option ℕ) → ((y : ℕ) → o ≡ Some y → has (v ∷ vs) y ≡ true) → not (not (passes (loses c x f) o)) ≡ false
       at None k = refl
       at (Some y) k = twice (loses c x f y) (refuted _ (λ l. h y (k y refl) l))
@@ -104,6 +105,7 @@ module _ (c : Change) (well : IsWellFormed c.metas) where
     where
       same : filter (keeps c x f) (c.slots x f) ≡ c.slots x f
       same = filter_all (keeps c x f) (c.slots x f) (none_lost x f (c.slots x f) (λ y h l. free (loses_touched x f y h l)))
+
       go : (g : Bool) → gains c x f ≡ g → cond g (with_end c f (filter (keeps c x f) (c.slots x f))) (filter (keeps c x f) (c.slots x f)) ≡ c.slots x f
       go true k = absurd (free (opposite_new (and_left _ _ k) (and_right (is_opposite c.metas c.feature f) _ k)))
       go false k = same
@@ -161,6 +163,7 @@ module _ (c : Change) (well : IsWellFormed c.metas) (none : c.added ≡ []) (gon
     where
       same : filter (keeps c x f) (c.slots x f) ≡ c.slots x f
       same = filter_all (keeps c x f) (c.slots x f) (none_lost c well x f (c.slots x f) (λ y h l. clash _ l (or_none _ _ (no_leave x f y) (no_left (opposite c.metas f) x y))))
+
       go : (g : Bool) → g ≡ false → cond g (with_end c f (filter (keeps c x f) (c.slots x f))) (filter (keeps c x f) (c.slots x f)) ≡ c.slots x f
       go true e = cc
       go false e = same

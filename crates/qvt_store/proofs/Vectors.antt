@@ -15,7 +15,8 @@ use Rattle.qvt_store.specs.Assign.{assign, append}
 
 abbrev reference : ℕ → Option ℕ → Bool → Option FeatureNo → FeatureInfo
 reference c upper containment opposite = record {
-  owner = record { 0 = 0 }; name = [];
+  owner = record { 0 = 0 };
+  name = [];
   shape = record { kind = ClassKind (record { 0 = c }); lower = 0; upper = upper; ordered = false; unique = true; containment = containment };
   opposite = opposite;
 }
@@ -29,21 +30,21 @@ abbrev metas : Metamodels
 metas = record {
   metamodels = [];
   classes =
-    record { metamodel = 0; name = []; is_abstract = false; supers = []; own = feature 0 ∷ feature 2 ∷ [] }
-    ∷ record { metamodel = 0; name = []; is_abstract = false; supers = []; own = feature 1 ∷ feature 3 ∷ [] }
-    ∷ record { metamodel = 0; name = []; is_abstract = false; supers = []; own = feature 4 ∷ feature 5 ∷ feature 6 ∷ feature 7 ∷ feature 8 ∷ [] }
-    ∷ [];
+      record { metamodel = 0; name = []; is_abstract = false; supers = []; own = feature 0 ∷ feature 2 ∷ [] }
+      ∷ record { metamodel = 0; name = []; is_abstract = false; supers = []; own = feature 1 ∷ feature 3 ∷ [] }
+      ∷ record { metamodel = 0; name = []; is_abstract = false; supers = []; own = feature 4 ∷ feature 5 ∷ feature 6 ∷ feature 7 ∷ feature 8 ∷ [] }
+      ∷ [];
   features =
-    reference 1 None true (Some (feature 1))
-    ∷ reference 0 (Some 1) false (Some (feature 0))
-    ∷ reference 1 None true (Some (feature 3))
-    ∷ reference 0 (Some 1) false (Some (feature 2))
-    ∷ reference 2 None true (Some (feature 5))
-    ∷ reference 2 (Some 1) false (Some (feature 4))
-    ∷ reference 2 (Some 1) true None
-    ∷ reference 2 None false (Some (feature 8))
-    ∷ reference 2 (Some 2) false (Some (feature 7))
-    ∷ [];
+      reference 1 None true (Some (feature 1))
+      ∷ reference 0 (Some 1) false (Some (feature 0))
+      ∷ reference 1 None true (Some (feature 3))
+      ∷ reference 0 (Some 1) false (Some (feature 2))
+      ∷ reference 2 None true (Some (feature 5))
+      ∷ reference 2 (Some 1) false (Some (feature 4))
+      ∷ reference 2 (Some 1) true None
+      ∷ reference 2 None false (Some (feature 8))
+      ∷ reference 2 (Some 2) false (Some (feature 7))
+      ∷ [];
   element = None;
 }
 

@@ -22,23 +22,26 @@ use Rattle.qvt_store.proofs.Cyclic.{decides, contains-is_in, closure-inside}
 pub last_step : (m : Metamodels) (s : Slots) {y z : ℕ} → Inside m s y z → (c : ℕ) × Contains m s c z × IsOver m s y c
 last_step m s (directly {x} {y} k) = (x, k, inl refl)
 last_step m s (through {x} {y} {z} k i) =
-    let r : (c : ℕ) × Contains m s c z × IsOver m s y c = last_step m s i in
-    (r.0, r.1, elim r.2 [
-      | inl same ↦ inr (directly (subst (λ n. Contains m s x n) same k))
-      | inr more ↦ inr (through k more)
-    ])
+    let r : (c : ℕ) × Contains m s c z × IsOver m s y c = last_step m s i in (
+      r.0,
+      r.1,
+      elim r.2 [
+        | inl same ↦ inr (directly (subst (λ n. Contains m s x n) same k))
+        | inr more ↦ inr (through k more)
+      ],
+    )
 
 pub inside_directly : (m : Metamodels) (s : Slots) (x y z : ℕ) → Contains m s x y → IsOver m s y z → Inside m s x z
 inside_directly m s x y z k over = elim over [
-    | inl same ↦ directly (subst (λ n. Contains m s x n) same k)
-    | inr more ↦ through k more
-  ]
+  | inl same ↦ directly (subst (λ n. Contains m s x n) same k)
+  | inr more ↦ through k more
+]
 
 pub in_live : (m : Metamodels) (cells : List Cell) (x f y : ℕ) → has (slot_in m (instances cells) x f) y ≡ true → x < length cells
 in_live m cells x f y h = elim (cases_lt x (length cells)) [
-    | inl live ↦ live
-    | inr dead ↦ clash false (sym (ap (λ l. has l y) (dead_slot m cells x f dead)) ∙ h) refl
-  ]
+  | inl live ↦ live
+  | inr dead ↦ clash false (sym (ap (λ l. has l y) (dead_slot m cells x f dead)) ∙ h) refl
+]
 
 pub count-le : (n : ℕ) (p q : ℕ → Bool) → ((y : ℕ) → p y ≡ true → q y ≡ true) → count_below n p ≤ count_below n q
 count-le zero p q h = omega arith
@@ -64,14 +67,14 @@ lt_le false false i j k h = omega arith
 pub count-lt : (n : ℕ) (p q : ℕ → Bool) (z : ℕ) → ((y : ℕ) → p y ≡ true → q y ≡ true) → z < n → p z ≡ false → q z ≡ true → count_below n p < count_below n q
 count-lt zero p q z h l pz qz = absurd (omega arith)
 count-lt (suc n) p q z h l pz qz = elim (cases_eq z n) [
-    | inl same ↦
+  | inl same ↦
       let pn : p n ≡ false = subst (λ i. p i ≡ false) same pz in
       let qn : q n ≡ true = subst (λ i. q i ≡ true) same qz in
       let below : count_below n p ≤ count_below n q = count-le n p q h in
       suc_le (p n) (q n) (count_below n p) (count_below n q) pn qn below
-    | inr other ↦
+  | inr other ↦
       lt_le (p n) (q n) (count_below n p) (count_below n q) (h n) (count-lt n p q z h (omega arith) pz qz)
-  ]
+]
 
 -- what the walk keeps
 pub record Walked (m : Metamodels) (cells : List Cell) (objects : List Oid) (start at : ℕ) : Type 0 where
@@ -115,13 +118,13 @@ module _ (m : Metamodels) (cells : List Cell) (whole : AreWhole m cells) where
       let step : is_in m s h.object.0 at ≡ true = contains-is_in m s h.object.0 at k in
       let n = length cells in
       count-lt n (λ y. reaches (is_in m s) n y h.object.0) (λ y. reaches (is_in m s) n y at) h.object.0
-        (λ y r. reaches-join (is_in m s) n y h.object.0 at (container_live at h e) r (reaches-step (is_in m s) n h.object.0 at step))
-        (container_live at h e)
-        (elim (either (reaches (is_in m s) n h.object.0 h.object.0)) [
-          | inl loop ↦ absurd (whole.acyclic h.object.0 (closure-inside m s (reaches-closure (is_in m s) (Contains m s) (decides m s) n h.object.0 h.object.0 loop)))
-          | inr no' ↦ no'
-        ])
-        (reaches-step (is_in m s) n h.object.0 at step)
+      (λ y r. reaches-join (is_in m s) n y h.object.0 at (container_live at h e) r (reaches-step (is_in m s) n h.object.0 at step))
+      (container_live at h e)
+      (elim (either (reaches (is_in m s) n h.object.0 h.object.0)) [
+        | inl loop ↦ absurd (whole.acyclic h.object.0 (closure-inside m s (reaches-closure (is_in m s) (Contains m s) (decides m s) n h.object.0 h.object.0 loop)))
+        | inr no' ↦ no'
+      ])
+      (reaches-step (is_in m s) n h.object.0 at step)
 
   pub walk_starts : (objects : List Oid) (start : ℕ) → start < length cells → Walked m cells objects start start
   walk_starts objects start live = record { live = live; reached = inl refl; passed = λ y _ over. over }
@@ -141,6 +144,6 @@ module _ (m : Metamodels) (cells : List Cell) (whole : AreWhole m cells) where
 
   pub walk_ends : (objects : List Oid) (start at : ℕ) → Walked m cells objects start at → among objects at ≡ false → holder_at cells at ≡ None → SomeOver m s objects start → ⊥
   walk_ends objects start at w free e some = elim (w.passed some.object some.listed some.over) [
-      | inl same ↦ clash _ some.listed (subst (λ n. among objects n ≡ false) (sym same) free)
-      | inr more ↦ at_top some.object at e more
-    ]
+    | inl same ↦ clash _ some.listed (subst (λ n. among objects n ≡ false) (sym same) free)
+    | inr more ↦ at_top some.object at e more
+  ]

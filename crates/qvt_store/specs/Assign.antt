@@ -16,8 +16,13 @@ use Rattle.qvt_store.specs.Repeats.{new_list}
 -- the change of slot (o, p) to a list in which repeats are left out already
 abbrev pub change_to : Contents → ℕ → ℕ → List Value → Change
 change_to s o p ws = record {
-  metas = s.metas; slots = slot_of s; object = o; feature = p; items = ws;
-  added = objects_beyond (slot_of s o p) ws; removed = objects_beyond ws (slot_of s o p);
+  metas = s.metas;
+  slots = slot_of s;
+  object = o;
+  feature = p;
+  items = ws;
+  added = objects_beyond (slot_of s o p) ws;
+  removed = objects_beyond ws (slot_of s o p);
 }
 
 abbrev pub change_of : Contents → ℕ → ℕ → List Value → Change

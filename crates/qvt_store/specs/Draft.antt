@@ -15,7 +15,13 @@ use Rattle.qvt_store.specs.Walk.{ClosesCycle}
 
 abbrev pub change_with : Contents → Draft → List Value → Change
 change_with s d ws = record {
-  metas = s.metas; slots = slot_of s; object = d.object.0; feature = d.feature.0; items = ws; added = d.added; removed = d.removed;
+  metas = s.metas;
+  slots = slot_of s;
+  object = d.object.0;
+  feature = d.feature.0;
+  items = ws;
+  added = d.added;
+  removed = d.removed;
 }
 
 -- what the draft says of the other slots

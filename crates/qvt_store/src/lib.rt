@@ -3,12 +3,12 @@
 
 mod add;
 mod cell;
+mod commit;
+mod draft;
 pub mod extent;
 pub mod fault;
 mod features;
 pub mod law;
-mod commit;
-mod draft;
 mod put;
 pub mod store;
 mod values;

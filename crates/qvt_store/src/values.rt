@@ -39,7 +39,11 @@ pub fn push_beyond(list: &mut OidList, others: &[Value], values: &[Value]) -> Re
 }
 
 /// Puts the value last, if it is an object that the list does not hold.
-pub fn push_value_beyond(list: &mut OidList, others: &[Value], value: &Value) -> Result<(), ListFault>
+pub fn push_value_beyond(
+    list: &mut OidList,
+    others: &[Value],
+    value: &Value,
+) -> Result<(), ListFault>
     ensures ok { OnOk result (list.new ≡ list.old ++ objects_beyond others.now (value.now ∷ [])) }
 {
     match value {

@@ -11,7 +11,10 @@ fn are_attributes(metas: &Metas, class: ClassNo, assignments: &[Assignment]) -> 
     ensures { result ≡ list_all (is_attribute metas.now class.0) assignments.now }
 {
     for assignment in assignments {
-        if metas.feature(class, assignment.attribute.as_str()).is_none() {
+        if metas
+            .feature(class, assignment.attribute.as_str())
+            .is_none()
+        {
             return false;
         }
     }

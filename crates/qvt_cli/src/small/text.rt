@@ -52,11 +52,86 @@ fn is_one_of(word: &str, words: &[&str]) -> bool
 fn is_reserved(word: &str) -> bool
     ensures { result ≡ is_reserved word.now }
 {
-    is_one_of(word, &["and", "Bag", "class", "constructor", "disjuncts", "elif", "else", "end", "endif", "extends", "false", "forEach"])
-        || is_one_of(word, &["helper", "if", "implies", "import", "in", "inherits", "init", "inout", "intermediate", "invresolve", "invresolveIn", "invresolveone", "invresolveoneIn"])
-        || is_one_of(word, &["late", "library", "main", "map", "mapping", "merges", "modeltype", "new", "not", "null", "object", "or", "OrderedSet"])
-        || is_one_of(word, &["out", "population", "query", "resolve", "resolveIn", "resolveone", "resolveoneIn", "result", "return", "self", "Sequence", "Set"])
-        || is_one_of(word, &["then", "transformation", "true", "uses", "var", "when", "while", "xmap", "xor"])
+    is_one_of(
+        word,
+        &[
+            "and",
+            "Bag",
+            "class",
+            "constructor",
+            "disjuncts",
+            "elif",
+            "else",
+            "end",
+            "endif",
+            "extends",
+            "false",
+            "forEach",
+        ],
+    ) || is_one_of(
+        word,
+        &[
+            "helper",
+            "if",
+            "implies",
+            "import",
+            "in",
+            "inherits",
+            "init",
+            "inout",
+            "intermediate",
+            "invresolve",
+            "invresolveIn",
+            "invresolveone",
+            "invresolveoneIn",
+        ],
+    ) || is_one_of(
+        word,
+        &[
+            "late",
+            "library",
+            "main",
+            "map",
+            "mapping",
+            "merges",
+            "modeltype",
+            "new",
+            "not",
+            "null",
+            "object",
+            "or",
+            "OrderedSet",
+        ],
+    ) || is_one_of(
+        word,
+        &[
+            "out",
+            "population",
+            "query",
+            "resolve",
+            "resolveIn",
+            "resolveone",
+            "resolveoneIn",
+            "result",
+            "return",
+            "self",
+            "Sequence",
+            "Set",
+        ],
+    ) || is_one_of(
+        word,
+        &[
+            "then",
+            "transformation",
+            "true",
+            "uses",
+            "var",
+            "when",
+            "while",
+            "xmap",
+            "xor",
+        ],
+    )
 }
 
 /// A name.
@@ -99,13 +174,7 @@ fn signed(sign: Sign, tokens: &[Token]) -> Option<&[Token]>
 {
     let (first, rest) = tokens.split_first()?;
     match first {
-        Token::Sign(other) => {
-            if *other == sign {
-                Some(rest)
-            } else {
-                None
-            }
-        }
+        Token::Sign(other) => { if *other == sign { Some(rest) } else { None } }
         _ => None,
     }
 }
@@ -134,7 +203,10 @@ fn quoted(tokens: &[Token]) -> Option<(&Text, &[Token])>
 
 /// `Name ":=" Integer ";"`.
 #[tactic(auto, unfolding(crate::specs::SmallText::assignment_in))]
-fn assignment_in(alloc: Global, tokens: &[Token]) -> Result<Option<(Assignment, &[Token])>, ListFault>
+fn assignment_in(
+    alloc: Global,
+    tokens: &[Token],
+) -> Result<Option<(Assignment, &[Token])>, ListFault>
     ensures { IfOk result (λ o. option_map (λ x. (x.0, x.1.now)) o ≡ assignment_in tokens.now) }
 {
     let Some((name, rest)) = named(tokens) else {
@@ -164,7 +236,10 @@ fn begins_with_word(tokens: &[Token]) -> bool
 }
 
 /// The assignments at the front, as many as there are.
-fn assignments_in(alloc: Global, tokens: &[Token]) -> Result<Option<(Seq<Assignment>, &[Token])>, ListFault>
+fn assignments_in(
+    alloc: Global,
+    tokens: &[Token],
+) -> Result<Option<(Seq<Assignment>, &[Token])>, ListFault>
     ensures { IfOk result (λ o. option_map (λ x. (x.0, x.1.now)) o ≡ assignments_in (length tokens.now) tokens.now) }
 {
     let mut assignments = Seq::new(alloc);
@@ -210,7 +285,10 @@ fn object_in(alloc: Global, tokens: &[Token]) -> Result<Option<(SmallObject, &[T
 }
 
 /// The objects at the front, as many as there are.
-fn objects_in(alloc: Global, tokens: &[Token]) -> Result<Option<(Seq<SmallObject>, &[Token])>, ListFault>
+fn objects_in(
+    alloc: Global,
+    tokens: &[Token],
+) -> Result<Option<(Seq<SmallObject>, &[Token])>, ListFault>
     ensures { IfOk result (λ o. option_map (λ x. (x.0, x.1.now)) o ≡ objects_in (length tokens.now) tokens.now) }
 {
     let mut objects = Seq::new(alloc);

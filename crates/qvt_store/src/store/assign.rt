@@ -36,12 +36,7 @@ impl Store {
     }
 
     /// The objects whose containment slots change.
-    fn released(
-        &self,
-        alloc: Global,
-        draft: &Draft,
-        writes: &[Write],
-    ) -> Result<OidList, ListFault>
+    fn released(&self, alloc: Global, draft: &Draft, writes: &[Write]) -> Result<OidList, ListFault>
         ensures { IfOk result (λ list. list ≡ released_of self.now.metas (slot_of self.now) draft.now writes.now) }
     {
         let mut list = Seq::new(alloc);

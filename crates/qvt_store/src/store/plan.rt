@@ -232,7 +232,5 @@ impl Store {
 fn is_listed(writes: &[Write], object: Oid, feature: FeatureNo) -> bool
     ensures { result ≡ listed writes.now object.0 feature.0 }
 {
-    writes
-        .iter()
-        .any(|write| object.0 == write.object.0 && feature.0 == write.feature.0)
+    writes.iter().any(|write| object.0 == write.object.0 && feature.0 == write.feature.0)
 }

@@ -11,12 +11,12 @@ pub returns-in-Some-clause-carried : goal.returns-in-Some-clause-carried
 returns-in-Some-clause-carried g c =
     let outputs = c.args.plan.now.outputs in
     let stopped = stopped_among outputs c.as_slice.result.now c.in-Some.k (g.F.Files.held c.args.files.now) (g.F.Files.held c.write_all.new.files)
-        c.as_slice.ensures c.in-Some.ensures.within c.in-Some.ensures.stopped in
+    c.as_slice.ensures c.in-Some.ensures.within c.in-Some.ensures.stopped in
     let within : c.in-Some.k < length outputs = subst (λ (os : List Output). c.in-Some.k < length os) c.as_slice.ensures c.in-Some.ensures.within in
     let is : c.index-as_slice-k.result ≡ get_or outputs c.in-Some.k c.index-as_slice-k.result =
-        c.index-as_slice-k.is ∙ ap (λ os. get_or os c.in-Some.k c.index-as_slice-k.result) c.as_slice-in-Some.ensures in
+    c.index-as_slice-k.is ∙ ap (λ os. get_or os c.in-Some.k c.index-as_slice-k.result) c.as_slice-in-Some.ensures in
     let line : c.as_slice-in-Some-2.result.now ≡ write_fault_line (name_at (files_in outputs) c.in-Some.k) =
-        c.as_slice-in-Some-2.ensures ∙ line_at outputs c.in-Some.k c.index-as_slice-k.result within is c.requires in
+    c.as_slice-in-Some-2.ensures ∙ line_at outputs c.in-Some.k c.index-as_slice-k.result within is c.requires in
     let reports : List ℕ → Type 0 = λ text. Reports text status.WriteFault (g.S.Sink.written c.args.out.now) (g.S.Sink.written c.report-in-Some.new.out)
-        (g.S.Sink.faults c.args.out.now) (g.S.Sink.faults c.report-in-Some.new.out) c.report-in-Some.result in
+    (g.S.Sink.faults c.args.out.now) (g.S.Sink.faults c.report-in-Some.new.out) c.report-in-Some.result in
     inr (c.in-Some.k, stopped.1, stopped.0, c.in-Some.ensures.rose, subst reports line c.report-in-Some.ensures)

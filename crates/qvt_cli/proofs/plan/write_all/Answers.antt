@@ -9,10 +9,10 @@ returns-in-Failed-clause-stopped g c = stopped_next (g.F.Files.held c.args.files
 
 pub loop-i-preserved : goal.loop-i-preserved
 loop-i-preserved g c = (
-    c.in-Written.ensures.answer
-    ∙ wrote_next (g.F.Files.held c.args.files.now) (g.F.Files.held c.loop-i.files) c.args.outputs.now c.loop-i.i c.index-outputs-i.result
+  c.in-Written.ensures.answer
+      ∙ wrote_next (g.F.Files.held c.args.files.now) (g.F.Files.held c.loop-i.files) c.args.outputs.now c.loop-i.i c.index-outputs-i.result
       c.as_str.result.now c.as_slice.result.now c.loop-i-test.true c.index-outputs-i.is c.as_str.ensures c.as_slice.ensures c.loop-i.invariant.0,
-    omega (arith, c.in-Written.ensures.cause.count.later),
-    c.in-Written.ensures.reads ∙ c.loop-i.invariant.2,
-    c.in-Written.ensures.failed ∙ c.loop-i.invariant.3
-  )
+  omega (arith, c.in-Written.ensures.cause.count.later),
+  c.in-Written.ensures.reads ∙ c.loop-i.invariant.2,
+  c.in-Written.ensures.failed ∙ c.loop-i.invariant.3,
+)

@@ -5,9 +5,9 @@ use Rattle.qvt_cli.proofs.report.send.Goals as goal
 
 pub loop-at-preserved : goal.loop-at-preserved
 loop-at-preserved g c = (
-    grind (arith, take_rest, c.in-Taken.ensures.part.0),
-    omega (arith, c.in-Taken.ensures.cause.count.later),
-    c.in-Taken.ensures.taken
-    ∙ next_piece _ _ c.loop-at.at c.in-Taken.count c.args.text.now (take (length c.args.text.now - c.loop-at.at) (drop c.loop-at.at c.args.text.now))
-      (take_rest c.args.text.now c.loop-at.at) c.loop-at.invariant.2
-  )
+  grind (arith, take_rest, c.in-Taken.ensures.part.0),
+  omega (arith, c.in-Taken.ensures.cause.count.later),
+  c.in-Taken.ensures.taken
+      ∙ next_piece _ _ c.loop-at.at c.in-Taken.count c.args.text.now (take (length c.args.text.now - c.loop-at.at) (drop c.loop-at.at c.args.text.now))
+      (take_rest c.args.text.now c.loop-at.at) c.loop-at.invariant.2,
+)

@@ -11,10 +11,10 @@ loop-value-preserved c = without_step c.args.values.now c.loop-value.value-index
     (c.holds_value.ensures ∙ ap (λ l. list_any (λ w. same_value w c.value-item.result) l) c.as_slice.ensures ∙ ap (λ v. list_any (λ w. same_value w v) c.loop-value.list) c.value-item.is)
     (elim c.if-not-holds_value.branch [
       | then-not-holds_value+in_ok-copy+in_ok-push w ↦
-        w.list-is ∙ w.in_ok-push.ensures.ok
-        ∙ ap (λ (v : Value). c.loop-value.list ++ v ∷ []) (w.in_ok-copy.ensures ∙ c.value-item.is)
-        ∙ sym (ap (λ b. cond b c.loop-value.list (c.loop-value.list ++ get_or c.args.values.now c.loop-value.value-index c.value-item.result ∷ [])) w.if-not-holds_value.true)
+          w.list-is ∙ w.in_ok-push.ensures.ok
+          ∙ ap (λ (v : Value). c.loop-value.list ++ v ∷ []) (w.in_ok-copy.ensures ∙ c.value-item.is)
+          ∙ sym (ap (λ b. cond b c.loop-value.list (c.loop-value.list ++ get_or c.args.values.now c.loop-value.value-index c.value-item.result ∷ [])) w.if-not-holds_value.true)
       | else-not-holds_value w ↦
-        w.list-is
-        ∙ sym (ap (λ b. cond b c.loop-value.list (c.loop-value.list ++ get_or c.args.values.now c.loop-value.value-index c.value-item.result ∷ [])) w.if-not-holds_value.false)
+          w.list-is
+          ∙ sym (ap (λ b. cond b c.loop-value.list (c.loop-value.list ++ get_or c.args.values.now c.loop-value.value-index c.value-item.result ∷ [])) w.if-not-holds_value.false)
     ])

@@ -17,12 +17,12 @@ returns-in-None c =
 pub loop-at-smaller : goal.loop-at-smaller
 loop-at-smaller c =
     depth_falls c.args.metas.now c.args.cells.now.items c.requires.whole c.loop-at.at.0 c.in-Some.holder
-      (cell-holder c.args.cells.now.items c.loop-at.at.0 c.index.result.now c.loop-at.invariant.live c.index.ensures ∙ c.in-Some.is)
+    (cell-holder c.args.cells.now.items c.loop-at.at.0 c.index.result.now c.loop-at.invariant.live c.index.ensures ∙ c.in-Some.is)
 
 pub loop-at-preserved : goal.loop-at-preserved
 loop-at-preserved c =
     walk_goes_on c.args.metas.now c.args.cells.now.items c.requires.whole c.args.objects.now c.args.start.0 c.loop-at.at.0 c.in-Some.holder c.loop-at.invariant (sym c.is_among.ensures ∙ c.loop-at-test.true)
-      (cell-holder c.args.cells.now.items c.loop-at.at.0 c.index.result.now c.loop-at.invariant.live c.index.ensures ∙ c.in-Some.is)
+    (cell-holder c.args.cells.now.items c.loop-at.at.0 c.index.result.now c.loop-at.invariant.live c.index.ensures ∙ c.in-Some.is)
 
 pub returns : goal.returns
 returns c =

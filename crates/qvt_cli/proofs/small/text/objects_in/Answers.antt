@@ -20,7 +20,7 @@ loop-preserved c =
     let found : Some (c.in-Some.item, c.in-Some.more.now) ≡ object_in c.loop.rest.now = search rules in
     (λ j. with_front (c.in_ok-push.ensures.ok j) (turns object_in (length c.args.tokens.now - (c.loop.counter + 1)) c.in-Some.more.now))
     ∙ one_more object_in c.loop.objects (length c.args.tokens.now - c.loop.counter) (length c.args.tokens.now - (c.loop.counter + 1)) c.loop.rest.now c.in-Some.more.now
-      c.in-Some.item _ c.loop.invariant (omega arith) (omega arith) e found
+    c.in-Some.item _ c.loop.invariant (omega arith) (omega arith) e found
 
 pub returns : goal.returns
 returns c = exhausted object_in c.loop.objects (length c.args.tokens.now - c.loop.counter) c.loop.rest.now _ c.loop.invariant (omega arith)

@@ -16,11 +16,12 @@ returns-in_default c =
 pub loop-preserved : goal.loop-preserved
 loop-preserved c =
     let e : is_nil (chars c.loop.rest.now) ≡ false = search rules in
-    let found : Some (c.in-Some.token, chars c.in-Some.more.now) ≡ token_at (chars c.loop.rest.now) = search rules in
-    (c.past-rest-in-loop.ensures.text,
+    let found : Some (c.in-Some.token, chars c.in-Some.more.now) ≡ token_at (chars c.loop.rest.now) = search rules in (
+      c.past-rest-in-loop.ensures.text,
       (λ j. with_front (c.in_ok-push.ensures.ok j) (tokens_from (length c.args.text.now - (c.loop.counter + 1)) (c.past-rest-in-loop.ensures.characters j)))
-      ∙ one_more c.loop.tokens (length c.args.text.now - c.loop.counter) (length c.args.text.now - (c.loop.counter + 1)) (chars c.loop.rest.now) (chars c.in-Some.more.now)
-        c.in-Some.token _ c.loop.invariant.1 (omega arith) e found)
+          ∙ one_more c.loop.tokens (length c.args.text.now - c.loop.counter) (length c.args.text.now - (c.loop.counter + 1)) (chars c.loop.rest.now) (chars c.in-Some.more.now)
+          c.in-Some.token _ c.loop.invariant.1 (omega arith) e found,
+    )
 
 pub returns-then-is_at_end-2 : goal.returns-then-is_at_end-2
 returns-then-is_at_end-2 c = ended c.loop.tokens (length c.args.text.now - c.loop.counter) (chars c.loop.rest.now) _ c.loop.invariant.1 (search rules)

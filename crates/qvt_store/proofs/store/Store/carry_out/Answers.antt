@@ -37,13 +37,13 @@ pub invariant_of-self : goal.invariant_of-self
 invariant_of-self c =
     let ready = subst (λ (s : Contents). Ready s c.args.draft.now c.args.items c.args.writes.items c.args.released.now) (sym c.self.view_is) c.requires in
     kept_whole c.self.inside.metas c.self.inside.extents c.self.inside.cells.items c.args.draft.now c.args.items c.args.writes.items c.args.released.now c.self.invariant.whole ready
-      c.put.new.cells.items c.settle.new.cells.items c.put.ensures c.settle.ensures c.self.inside.members.items c.self.inside.distinct c.self.invariant
+    c.put.new.cells.items c.settle.new.cells.items c.put.ensures c.settle.ensures c.self.inside.members.items c.self.inside.distinct c.self.invariant
 
 pub returns-clause-after : goal.returns-clause-after
 returns-clause-after c =
     let ready = subst (λ (s : Contents). Ready s c.args.draft.now c.args.items c.args.writes.items c.args.released.now) (sym c.self.view_is) c.requires in
     gives_store c.self.inside.metas c.self.inside.extents c.self.inside.cells.items c.args.draft.now c.args.items c.args.writes.items c.args.released.now c.self.invariant.whole ready
-      c.put.new.cells.items c.settle.new.cells.items c.put.ensures c.settle.ensures
+    c.put.new.cells.items c.settle.new.cells.items c.put.ensures c.settle.ensures
     ∙ ap (λ (s : Contents). store_after s (change_to s c.args.draft.now.object.0 c.args.draft.now.feature.0 c.args.items)) c.self.view_is
 
 pub returns-clause-plain : goal.returns-clause-plain
@@ -51,8 +51,8 @@ returns-clause-plain c stays =
     let ready = subst (λ (s : Contents). Ready s c.args.draft.now c.args.items c.args.writes.items c.args.released.now) (sym c.self.view_is) c.requires in
     let s : Contents = contents_of c.self.inside.metas c.self.inside.extents c.self.inside.cells.items in
     let still : StaysElsewhere (change_to s c.args.draft.now.object.0 c.args.draft.now.feature.0 c.args.items) =
-      subst (λ (t : Contents). StaysElsewhere (change_to t c.args.draft.now.object.0 c.args.draft.now.feature.0 c.args.items)) (sym c.self.view_is) stays in
+    subst (λ (t : Contents). StaysElsewhere (change_to t c.args.draft.now.object.0 c.args.draft.now.feature.0 c.args.items)) (sym c.self.view_is) stays in
     gives_slot c.self.inside.metas c.self.inside.extents c.self.inside.cells.items c.args.draft.now c.args.items c.args.writes.items c.args.released.now c.self.invariant.whole ready
-      c.put.new.cells.items c.settle.new.cells.items c.put.ensures c.settle.ensures
-      (λ x f. ap (λ (l : List Value). cond ((x == c.args.draft.now.object.0) && (f == c.args.draft.now.feature.0)) c.args.items l) (still.stays x f))
+    c.put.new.cells.items c.settle.new.cells.items c.put.ensures c.settle.ensures
+    (λ x f. ap (λ (l : List Value). cond ((x == c.args.draft.now.object.0) && (f == c.args.draft.now.feature.0)) c.args.items l) (still.stays x f))
     ∙ ap (λ (s : Contents). with_slot s c.args.draft.now.object.0 c.args.draft.now.feature.0 c.args.items) c.self.view_is

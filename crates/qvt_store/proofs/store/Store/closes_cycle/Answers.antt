@@ -31,6 +31,9 @@ returns-then-is_container c =
     (λ t. e.1 (here.0 t), λ k. here.1 (e.0 k))
 
 pub returns : goal.returns
-returns c = (λ t. clash false t refl, λ k. absurd (closes_none (drafted c.args.self.now c.args.draft.now)
-    (subst (λ (s : Contents). is_containment s.metas c.args.draft.now.feature.0 ≡ false) c.self.view_is (sym c.is_containment.ensures ∙ c.if-is_containment.false))
-    (subst (λ (s : Contents). is_container s.metas c.args.draft.now.feature.0 ≡ false) c.self.view_is (sym c.is_container.ensures ∙ c.if-is_container.false)) k))
+returns c = (
+  λ t. clash false t refl,
+  λ k. absurd (closes_none (drafted c.args.self.now c.args.draft.now)
+      (subst (λ (s : Contents). is_containment s.metas c.args.draft.now.feature.0 ≡ false) c.self.view_is (sym c.is_containment.ensures ∙ c.if-is_containment.false))
+      (subst (λ (s : Contents). is_container s.metas c.args.draft.now.feature.0 ≡ false) c.self.view_is (sym c.is_container.ensures ∙ c.if-is_container.false)) k),
+)

@@ -17,8 +17,9 @@ loop-item-preserved c = over_more c.args.self.now.metas (slot_of c.args.self.now
 
 pub returns-then-is_over : goal.returns-then-is_over
 returns-then-is_over c = (
-    λ _. over_found c.args.self.now.metas (slot_of c.args.self.now) c.args.object.0 c.args.objects.now c.loop-item.item-index (record { 0 = 0 }) c.loop-item-test.true (c.is_over.ensures.0 c.if-is_over.true),
-    λ _. refl)
+  λ _. over_found c.args.self.now.metas (slot_of c.args.self.now) c.args.object.0 c.args.objects.now c.loop-item.item-index (record { 0 = 0 }) c.loop-item-test.true (c.is_over.ensures.0 c.if-is_over.true),
+  λ _. refl,
+)
 
 pub returns : goal.returns
 returns c = (λ t. clash false t refl, λ some. absurd (c.loop-item.invariant (subst (λ (l : List Oid). IsOverSome c.args.self.now.metas (slot_of c.args.self.now) c.args.object.0 l) (sym (take_all c.loop-item.item-index c.args.objects.now c.loop-item-test.false)) some)))
