@@ -12,5 +12,7 @@ pub mod run;
 pub mod small;
 pub mod status;
 pub mod stop;
+#[cfg(test)]
+mod tests;
 pub mod top;
 pub mod words;

@@ -22,8 +22,6 @@ use qvt_base::text::Text;
 use std::alloc::Global;
 use std::marker::Model;
 
-mod literals;
-
 /// Metamodels with numbers: metamodels, classes and features are numbered from 0 in the order of
 /// adding and then of the document. Every look-up by a number is total: past the end it answers
 /// what a class or feature without anything would have.

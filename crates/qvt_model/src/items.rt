@@ -62,16 +62,13 @@ fn literal_of(
     let Some(name) = value.as_str() else {
         return Ok(None);
     };
-    let Some(place) = metas.literal_place(metamodel, enumeration, name) else {
+    let Some(literal) = metas.literal(metamodel, enumeration, name) else {
         return Ok(None);
     };
-    if place > u32::MAX as usize {
-        return Err(ListFault::NoMemory);
-    }
     Ok(Some(Datum::Literal(LiteralRef {
         metamodel,
         enumeration,
-        literal: place as u32,
+        literal,
     })))
 }
 
