@@ -1,5 +1,5 @@
 -- A scan of a log of writes finds what its map holds.
-use Rattle.std.proofs.Common.{◌≡◌, ◌∙◌, ap, sym, ℕ, List, ◌∷◌, Bool, true, false, cond, Option, Some}
+use Rattle.std.proofs.Common.{◌≡◌, ◌∙◌, ap, ℕ, List, ◌∷◌, Bool, true, false, cond, Some}
 use Rattle.std.specs.Str.{bytes_eq}
 use Rattle.std.specs.Ordering.{nat_cmp}
 use Rattle.std.specs.Cmp.Lexicographic.{slice_cmp}
@@ -15,7 +15,7 @@ at_first : (name : List ℕ) (es rest : List Entry) (e : Entry) (b : Bool) → e
 at_first name es rest e b is same =
     ap (λ xs. find (slice_cmp nat_cmp) name (pairs xs)) is
     ∙ ap (λ t. cond t (Some e.bytes) (find (slice_cmp nat_cmp) name (pairs rest)))
-      (is_eq-slice_cmp name e.name ∙ nat_list_eq_equiv.symm name e.name ∙ same)
+    (is_eq-slice_cmp name e.name ∙ nat_list_eq_equiv.symm name e.name ∙ same)
 
 pub found_first : (name : List ℕ) (es rest : List Entry) (e : Entry) → es ≡ e ∷ rest → bytes_eq e.name name ≡ true
     → find (slice_cmp nat_cmp) name (pairs es) ≡ Some e.bytes

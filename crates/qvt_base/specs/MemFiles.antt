@@ -1,7 +1,5 @@
 -- What files in memory hold: under each name the newest bytes written there.
 use Rattle.std.specs.Prelude.{ℕ, List, map, ⊤}
-use Rattle.std.specs.Ordering.{nat_cmp}
-use Rattle.std.specs.Cmp.Lexicographic.{slice_cmp}
 use Rattle.std.specs.FinMap as finite
 use Rattle.qvt_base.specs.Outside.{Held}
 use Rattle.qvt_base.specs.declared.mem_files.Entry.{Entry}

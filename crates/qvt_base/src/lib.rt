@@ -2,12 +2,16 @@
 //! plain lists, names, and the outside (files and the sink) as traits that count their faults.
 #![tactic(auto)]
 
-pub mod list_fault;
-pub mod seq;
-pub mod text;
-pub mod numbers;
 pub mod copied;
+pub mod list_fault;
 pub mod lists;
-pub mod names;
-pub mod outside;
 pub mod mem_files;
+pub mod mem_sink;
+pub mod names;
+pub mod numbers;
+pub mod outside;
+pub mod real;
+pub mod seq;
+#[cfg(test)]
+mod tests;
+pub mod text;

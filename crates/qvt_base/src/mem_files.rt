@@ -162,8 +162,11 @@ fn read_from(alloc: Global, log: &VecDeque<Entry>, name: &str, limit: u32) -> Re
 
 impl Files for MemFiles {
     ghost held = { λ f. Some (held_in f) };
+
     ghost failed_reads = { λ f. Some (failed_in f) };
+
     ghost read_faults = { λ f. f.read_faults };
+
     ghost write_faults = { λ f. f.write_faults };
 
     fn read(&mut self, alloc: Global, name: &str, limit: u32) -> ReadAnswer {

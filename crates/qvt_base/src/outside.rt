@@ -38,8 +38,11 @@ pub enum SinkAnswer {
 /// counts of faults never fall and stop at the greatest `u64`.
 pub trait Files {
     ghost held: { Self → Option Held };
+
     ghost failed_reads: { Self → Option (List (List ℕ)) };
+
     ghost read_faults: { Self → ℕ };
+
     ghost write_faults: { Self → ℕ };
 
     /// Reads a whole file of at most `limit` bytes.
@@ -62,6 +65,7 @@ pub trait Files {
 /// Where reports and printed text go. The bytes written are told optionally.
 pub trait Sink {
     ghost written: { Self → Option (List ℕ) };
+
     ghost faults: { Self → ℕ };
 
     /// Takes a front of the piece: at least a byte where it is not empty.

@@ -3,7 +3,7 @@ use Rattle.std.specs.Prelude.{ℕ, List, [], ◌∷◌, Bool, true, false, ◌&&
 use Rattle.std.specs.List.{list_any}
 use Rattle.std.specs.Option.{option_map_or}
 use Rattle.std.specs.Str.{is_utf8, bytes_eq}
-use Rattle.serde_json.specs.Data.{Data, Items, no_items, Members, no_members, member}
+use Rattle.serde_json.specs.Data.{Data, Items, no_items, item, Members, no_members, member}
 use Rattle.serde_json.specs.Find.{get, as_str, as_number, as_u64, as_bool, as_array, as_object}
 use Rattle.serde_json.specs.Read.{read}
 
@@ -38,11 +38,24 @@ members_at key d = option_and_then as_object (get key d)
 abbrev pub text_or : List ℕ → Data → List ℕ
 text_or key d = unwrap_or (text_at key d) []
 
+-- the text that a value is
+abbrev pub text_of : Data → List ℕ
+text_of d = unwrap_or (as_str d) []
+
 abbrev pub items_or : List ℕ → Data → Items
 items_or key d = unwrap_or (items_at key d) no_items
 
 abbrev pub members_or : List ℕ → Data → Members
 members_or key d = unwrap_or (members_at key d) no_members
+
+-- what each item is read as
+abbrev pub map_items : {Y : Type 0} → (Data → Y) → Items → List Y
+map_items f no_items = []
+map_items f (item d ds) = f d ∷ map_items f ds
+
+-- the texts of the list at a key
+abbrev pub texts_at : List ℕ → Data → List (List ℕ)
+texts_at key d = map_items text_of (items_or key d)
 
 abbrev pub keys_among : List (List ℕ) → Members → Bool
 keys_among keys no_members = true

@@ -1,18 +1,11 @@
 -- The forms of single values.
-use Rattle.std.specs.Prelude.{ℕ, List, Bool, true, false, not, ◌&&◌, ◌||◌, ◌==◌, nat_le, nat_lt, length, Option, Some, None, is_some}
-use Rattle.std.specs.List.{list_all, list_any}
+use Rattle.std.specs.Prelude.{ℕ, List, Bool, true, false, not, ◌&&◌, ◌==◌, nat_le, Option, Some, None, is_some}
+use Rattle.std.specs.List.{list_any}
 use Rattle.std.specs.Option.{option_map_or}
-use Rattle.std.specs.Str.{chars}
+use Rattle.qvt_base.specs.Names.{is_file}
 use Rattle.serde_json.specs.Data.{Data}
 use Rattle.serde_json.specs.Find.{as_str, as_bool, as_object}
 use Rattle.qvt_json.specs.Json.{as_count}
-
-abbrev pub is_control : ℕ → Bool
-is_control c = nat_lt c 32 || (c == 127)
-
--- the name of a file: 1 to 200 characters, none of them a control character
-unfoldable pub is_file : List ℕ → Bool
-is_file s = nat_le 1 (length (chars s)) && nat_le (length (chars s)) 200 && list_all (λ c. not (is_control c)) (chars s)
 
 -- the id of an object: of the form of a file's name, without a colon
 unfoldable pub is_id : List ℕ → Bool

@@ -1,4 +1,6 @@
 pub mod Json
 pub mod Leaves
+pub mod Plain
+pub mod Repeated
 pub mod Shape
 pub mod Steps

@@ -1,5 +1,5 @@
 -- Steps of which the first that fails ends the whole, and walks over lists that end at the first fault.
-use Rattle.std.specs.Prelude.{ℕ, List, [], ◌∷◌, Option, Some, None, option_map, option_and_then, Result, Ok, Err, ◌++◌, ⊤}
+use Rattle.std.specs.Prelude.{◌≡◌, ◌≢◌, ℕ, List, [], ◌∷◌, Option, Some, None, option_map, option_and_then, Result, Ok, Err, ◌++◌, ⊤}
 use Rattle.serde_json.specs.Data.{Data, Items, no_items, item, Members, no_members, member}
 
 infixl 10 ◌>>=◌
@@ -38,15 +38,19 @@ each_item f (item d ds) = do
   ys ← each_item f ds
   Ok (y ∷ ys)
 
--- the same over the members of an object
-abbrev pub each_member : {Y F : Type 0} → (List ℕ → Data → Result Y F) → Members → Result (List Y) F
-each_member f no_members = Ok []
-each_member f (member k d ms) = do
-  y ← f k d
-  ys ← each_member f ms
-  Ok (y ∷ ys)
+-- a check of each item, or the first fault
+abbrev pub walk_items : {F : Type 0} → (Data → Result ⊤ F) → Items → Result ⊤ F
+walk_items f no_items = Ok tt
+walk_items f (item d ds) = do
+  _ ← f d
+  walk_items f ds
 
 -- all of the items, or none
 abbrev pub all_items : {Y : Type 0} → (Data → Option Y) → Items → Option (List Y)
 all_items f no_items = Some []
 all_items f (item d ds) = option_and_then (λ y. option_map (λ ys. y ∷ ys) (all_items f ds)) (f d)
+
+-- what was read is what is stated, but for one fault that is free: want of memory
+abbrev pub Gives : {X Y F : Type 0} → F → (X → Y) → Result X F → Result Y F → Type 0
+Gives free seen (Ok x) stated = stated ≡ Ok (seen x)
+Gives free seen (Err e) stated = e ≢ free → stated ≡ Err e

@@ -1,43 +1,15 @@
-ghost use Rattle.std.specs.Prelude.{◌≡◌, not, length, None, Some, [], if◌then◌else◌};
-ghost use Rattle.std.specs.List.{list_all};
-ghost use Rattle.std.specs.Str.{chars};
+ghost use Rattle.std.specs.Prelude.{◌≡◌, None, Some, [], if◌then◌else◌};
+ghost use Rattle.qvt_base.specs.Names.{is_name, is_file};
 ghost use Rattle.serde_json.specs.View.{view};
 ghost use Rattle.qvt_json.specs.Shape.{leaf};
-ghost use Rattle.qvt_json.specs.Leaves.{is_control, is_file, is_id, is_text, is_text_of, is_flag, is_object, is_count};
+ghost use Rattle.qvt_json.specs.Leaves.{is_id, is_text, is_text_of, is_flag, is_object, is_count};
 
 use crate::shape::Form;
 use qvt_base::list_fault::ListFault;
+use qvt_base::names::{is_file, is_name};
 use qvt_base::text::Text;
 use serde_json::Value;
 use std::alloc::Global;
-
-/// How many characters the text has.
-#[tactic(auto, using(std::proofs::lemmas::Str::chars_from_encodes))]
-fn char_count(text: &str) -> usize
-    ensures { result ≡ length (chars text.now) }
-{
-    text.chars().count()
-}
-
-/// Whether no character of the text is a control character.
-#[tactic(auto, using(std::proofs::lemmas::Str::chars_from_encodes))]
-fn is_without_controls(text: &str) -> bool
-    ensures { result ≡ list_all (λ c. not (is_control c)) (chars text.now) }
-{
-    text.chars().all(|c| !(c < ' ' || c == '\u{7f}'))
-}
-
-/// Whether the text is of the form of a file's name.
-#[tactic(auto, unfolding(crate::specs::Leaves::is_file))]
-pub fn is_file(text: &str) -> bool
-    ensures { result ≡ is_file text.now }
-{
-    let count = char_count(text);
-    if count < 1 || count > 200 {
-        return false;
-    }
-    is_without_controls(text)
-}
 
 /// Whether the text is of the form of an object's id.
 #[tactic(auto, unfolding(crate::specs::Leaves::is_id))]
@@ -65,6 +37,20 @@ impl Form for TextForm {
 
     fn fault(&self, alloc: Global, value: &Value) -> Result<Option<Text>, ListFault> {
         Ok(here(alloc, value.as_str().is_some()))
+    }
+}
+
+/// A name.
+pub struct NameForm {}
+
+impl Form for NameForm {
+    ghost form = { λ f. leaf (is_text_of is_name) };
+
+    fn fault(&self, alloc: Global, value: &Value) -> Result<Option<Text>, ListFault> {
+        let Some(text) = value.as_str() else {
+            return Ok(here(alloc, false));
+        };
+        Ok(here(alloc, is_name(text)))
     }
 }
 

@@ -4,3 +4,4 @@
 pub mod leaves;
 pub mod shape;
 pub mod value;
+pub mod written;

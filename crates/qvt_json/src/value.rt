@@ -2,9 +2,11 @@ ghost use Rattle.std.specs.Prelude.{◌≡◌, ◌∷◌, [], List, map, IfOk, o
 ghost use Rattle.std.specs.List.{list_any};
 ghost use Rattle.std.specs.Str.{bytes_eq};
 ghost use Rattle.serde_json.specs.View.{view, items_view, members_view};
-ghost use Rattle.qvt_json.specs.Json.{json, text_at, as_count, number_at, flag_at, items_at, members_at, text_or, has_only, keys_among};
+ghost use Rattle.qvt_json.specs.Json.{json, text_at, as_count, number_at, flag_at, items_at, members_at, text_or, text_of, texts_at, map_items, has_only, keys_among};
 
 use qvt_base::list_fault::ListFault;
+use qvt_base::lists::NameList;
+use qvt_base::text::Text;
 use serde_json::{Map, Value};
 use std::alloc::Global;
 use std::str;
@@ -66,6 +68,28 @@ pub fn members_at<'a>(value: &'a Value, key: &str) -> Option<&'a Map<String, Val
     ensures { option_map (λ m. members_view m.now.entries) result ≡ members_at key.now (view value.now) }
 {
     value.get(key)?.as_object()
+}
+
+/// The texts that the items are.
+pub fn text_list(alloc: Global, items: &Vec<Value>) -> Result<NameList, ListFault>
+    ensures { IfOk result (λ texts. texts ≡ map_items text_of (items_view items.now.items)) }
+{
+    let mut texts = NameList::new(alloc);
+    for item in items {
+        let text = item.as_str().unwrap_or("");
+        texts.push(Text::from_str(alloc, text)?)?;
+    }
+    Ok(texts)
+}
+
+/// The texts of the list at a key, none where there is no list.
+pub fn texts_at(alloc: Global, value: &Value, key: &str) -> Result<NameList, ListFault>
+    ensures { IfOk result (λ texts. texts ≡ texts_at key.now (view value.now)) }
+{
+    match items_at(value, key) {
+        Some(items) => text_list(alloc, items),
+        None => Ok(NameList::new(alloc)),
+    }
 }
 
 /// Whether the key is one of these.

@@ -483,6 +483,8 @@ module _ (m n : Metamodels) (rm rn : List ℕ) (wm : IsWellFormed m) (wn : IsWel
     few_metamodels = omega (arith, few_ms, metamodel_count m n rm rn wm wn am an);
     few_classes = omega (arith, few_cs, class_count m n rm rn wm wn am an);
     few_features = omega (arith, few_fs, feature_count m n rm rn wm wn am an);
+    few_enumerations = each_metamodel (λ k i. length i.enums < 2 ^ 32) (λ k h. wm.few_enumerations k) wn.few_enumerations;
+    few_literals = λ k e. each_metamodel (λ k i. length (slice_index_or i.enums e nowhere_enumeration).literals < 2 ^ 32) (λ k h. wm.few_literals k e) (λ k. wn.few_literals k e) k;
     live_metamodel = live_metamodel;
     live_superclass = live_superclass;
     live_owner = live_owner;

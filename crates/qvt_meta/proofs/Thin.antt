@@ -258,6 +258,8 @@ module _ (d : MetaData) (ok : IsChecked d) (room : HasRoom no_metamodels d) wher
     few_metamodels = lit< tt;
     few_classes = omega (arith, room.classes, length-class_infos b (names_of ks) 0 ks);
     few_features = omega (arith, room.features, length-feature_infos b (enum_names d) ks 0 ks);
+    few_enumerations = λ k. subst (λ (es : List EnumInfo). length es < 2 ^ 32) (sym (no_enums_at k)) (lit< tt);
+    few_literals = λ k e. subst (λ (es : List EnumInfo). length (slice_index_or es e nowhere_enumeration).literals < 2 ^ 32) (sym (no_enums_at k)) (lit< tt);
     live_metamodel = λ c h. live_metamodel_of c;
     live_superclass = λ c e h. clash h (ap (list_any (λ (s : ClassNo). s.0 == e)) (no_superclass c));
     live_owner = live_owner_at;

@@ -3,7 +3,8 @@ use Rattle.std.specs.Prelude.{ℕ, List, [], ◌∷◌, Bool, ◌&&◌, ◌||◌
 use Rattle.std.specs.Str.{bytes_eq}
 use Rattle.serde_json.specs.Data.{Data}
 use Rattle.qvt_base.specs.Names.{is_name}
-use Rattle.qvt_json.specs.Leaves.{is_file, is_text_of, is_flag, is_count}
+use Rattle.qvt_base.specs.Names.{is_file}
+use Rattle.qvt_json.specs.Leaves.{is_text_of, is_flag, is_count}
 use Rattle.qvt_json.specs.Shape.{Form, Key, leaf, list_of, object_of, required, optional}
 
 abbrev pub name_form : Form

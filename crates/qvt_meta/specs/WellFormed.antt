@@ -22,6 +22,8 @@ pub record IsWellFormed (m : Metamodels) : Type 0 where
   pub few_metamodels : length m.metamodels < 2 ^ 32
   pub few_classes : length m.classes < 2 ^ 32
   pub few_features : length m.features < 2 ^ 32
+  pub few_enumerations : (k : ℕ) → length (metamodel_at m k).enums < 2 ^ 32
+  pub few_literals : (k e : ℕ) → length (enumeration_at m k e).literals < 2 ^ 32
   -- the numbers inside are those of what is there
   pub live_metamodel : (c : ℕ) → c < length m.classes → (class_at m c).metamodel < length m.metamodels
   pub live_superclass : (c d : ℕ) → IsTrue (is_superclass m c d) → d < length m.classes

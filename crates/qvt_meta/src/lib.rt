@@ -15,3 +15,6 @@ mod names;
 mod plain;
 mod reading;
 mod row;
+
+#[cfg(test)]
+mod tests;

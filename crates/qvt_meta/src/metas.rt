@@ -1,8 +1,8 @@
-ghost use Rattle.std.specs.Prelude.{◌≡◌, ◌≢◌, [], true, false, length, None, IfOk, IfErr, OnOk, OnErr, IfSome, option_map, position, ◌==◌, ◌&&◌, ◌||◌, ◌<◌};
+ghost use Rattle.std.specs.Prelude.{◌≡◌, ◌≢◌, ◌↔◌, ℕ, ◌^◌, [], true, false, length, None, IfOk, IfErr, IsTrue, OnOk, OnErr, IfSome, option_map, position, ◌==◌, ◌&&◌, ◌||◌, ◌<◌};
 ghost use Rattle.std.specs.Str.{bytes_eq};
 ghost use Rattle.std.specs.List.{list_any};
 ghost use Rattle.qvt_meta.specs.Metamodels.{class_at, feature_at, shape_of, opposite, features_of};
-ghost use Rattle.qvt_meta.specs.Descends.{descends};
+ghost use Rattle.qvt_meta.specs.Descends.{descends, Descends};
 ghost use Rattle.qvt_meta.specs.WellFormed.{IsWellFormed};
 ghost use Rattle.qvt_meta.specs.Named.{is_text};
 ghost use Rattle.qvt_meta.specs.Kept.{is_marked};
@@ -10,7 +10,7 @@ ghost use Rattle.qvt_meta.specs.Kept.{is_marked};
 use crate::begin::Begin;
 use crate::copied::{copies, joined};
 use crate::fault::MetasFault;
-use crate::info::{ClassInfo, FeatureInfo, FeatureShape, MetamodelInfo, TypeKind};
+use crate::info::{ClassInfo, EnumInfo, FeatureInfo, FeatureShape, MetamodelInfo, TypeKind};
 use crate::joining::{class_infos_on, feature_infos_on, lists_on, ranks_on, rows_on};
 use crate::meta::Meta;
 use crate::row::Row;
@@ -106,6 +106,24 @@ impl Metas {
         Ok(())
     }
 
+    /// Whether the numbers still fit 32 bits when this metamodel is added.
+    pub fn has_room(&self, meta: &Meta) -> bool
+        ensures { IsTrue result → HasRoom self.now meta.now }
+    {
+        let others = meta.alone();
+        let _enums = others.enumerations(0);
+        let metamodels = self.metamodels.len() + others.metamodels.len();
+        let classes = self.classes.len() + others.classes.len();
+        let features = self.features.len() + others.features.len();
+        if metamodels > u32::MAX as usize {
+            return false;
+        }
+        if classes > u32::MAX as usize {
+            return false;
+        }
+        features <= u32::MAX as usize
+    }
+
     /// These metamodels with one more.
     fn with_meta(&self, meta: &Meta) -> Result<Metas, MetasFault>
         requires element { self.now.element ≡ None }
@@ -189,6 +207,90 @@ impl Metas {
         }
     }
 
+    pub fn metamodel_name(&self, metamodel: u32) -> &str
+        ensures { result.now ≡ (metamodel_at self.now metamodel).name }
+    {
+        let at = metamodel as usize;
+        if at < self.metamodels.len() {
+            self.metamodels[at].name.as_str()
+        } else {
+            ""
+        }
+    }
+
+    ghost use Rattle.qvt_meta.specs.Named.{metamodel_at, enumeration_at, literal_at, enumeration_named, literal_named};
+
+    /// The enumerations of a metamodel, in order.
+    pub fn enumerations(&self, metamodel: u32) -> &[EnumInfo]
+        ensures enumerations { result.now ≡ (metamodel_at self.now metamodel).enums }
+        ensures few { length result.now < 2 ^ 32 }
+    {
+        let at = metamodel as usize;
+        if at < self.metamodels.len() {
+            self.metamodels[at].enums.as_slice()
+        } else {
+            &[]
+        }
+    }
+
+    /// The literals of an enumeration, in order.
+    pub fn literals(&self, metamodel: u32, enumeration: u32) -> &[Text]
+        ensures literals { result.now ≡ (enumeration_at self.now metamodel enumeration).literals }
+        ensures few { length result.now < 2 ^ 32 }
+    {
+        let at = metamodel as usize;
+        let place = enumeration as usize;
+        if at < self.metamodels.len() && place < self.metamodels[at].enums.len() {
+            self.metamodels[at].enums.as_slice()[place].literals.as_slice()
+        } else {
+            &[]
+        }
+    }
+
+    /// The enumeration of this name in a metamodel.
+    pub fn enumeration(&self, metamodel: u32, name: &str) -> Option<u32>
+        ensures { result ≡ enumeration_named self.now metamodel name.now }
+    {
+        match find_enumeration(self.enumerations(metamodel), name) {
+            Some(place) => Some(place as u32),
+            None => None,
+        }
+    }
+
+    /// The literal of this name in an enumeration.
+    pub fn literal(&self, metamodel: u32, enumeration: u32, name: &str) -> Option<u32>
+        ensures { result ≡ literal_named self.now metamodel enumeration name.now }
+    {
+        match find_text(self.literals(metamodel, enumeration), name) {
+            Some(place) => Some(place as u32),
+            None => None,
+        }
+    }
+
+    pub fn enumeration_name(&self, metamodel: u32, enumeration: u32) -> &str
+        ensures { result.now ≡ (enumeration_at self.now metamodel enumeration).name }
+    {
+        let enums = self.enumerations(metamodel);
+        let place = enumeration as usize;
+        if place < enums.len() {
+            enums[place].name.as_str()
+        } else {
+            ""
+        }
+    }
+
+    pub fn literal_name(&self, metamodel: u32, enumeration: u32, literal: u32) -> &str
+        ensures { result.now ≡ literal_at self.now metamodel enumeration literal }
+    {
+        let literals = self.literals(metamodel, enumeration);
+        let place = literal as usize;
+        if place < literals.len() {
+            literals[place].as_str()
+        } else {
+            ""
+        }
+    }
+
     /// The class of this name in a metamodel.
     pub fn class(&self, metamodel: u32, name: &str) -> Option<ClassNo>
         ensures { option_map (λ c. c.0) result ≡ class_named self.now metamodel name.now }
@@ -257,6 +359,14 @@ impl Metas {
         ensures { result ≡ descends self.now sub.0 sup.0 }
     {
         sub.0 == sup.0 || self.is_element(sup) || self.reaches(sub, sup)
+    }
+
+    /// A law: the classes above a class are the least set that has its superclasses and what is
+    /// above these.
+    pub fn ancestors_are_least(&self)
+        ensures { (sub sup : ℕ) → IsTrue (descends self.now sub sup) ↔ Descends self.now sub sup }
+    {
+        let _ = &self.classes;
     }
 
     ghost use Rattle.qvt_meta.specs.Metamodels.{is_element};
@@ -381,4 +491,18 @@ fn find_class(classes: &[ClassInfo], metamodel: u32, name: &str) -> Option<usize
     classes
         .iter()
         .position(|c| c.metamodel == metamodel && name == c.name.as_str())
+}
+
+fn find_enumeration(enums: &[EnumInfo], name: &str) -> Option<usize>
+    ensures value { result ≡ position (λ e. bytes_eq name.now e.name) enums.now }
+    ensures bound { IfSome result (λ i. i < length enums.now) }
+{
+    enums.iter().position(|e| name == e.name.as_str())
+}
+
+fn find_text(texts: &[Text], name: &str) -> Option<usize>
+    ensures value { result ≡ position (bytes_eq name.now) texts.now }
+    ensures bound { IfSome result (λ i. i < length texts.now) }
+{
+    texts.iter().position(|text| name == text.as_str())
 }

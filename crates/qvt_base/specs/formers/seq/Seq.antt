@@ -45,7 +45,7 @@ module _ (R S : RattleType) (along : R.Denot → S.Denot) where
       (invariant R.Denot) (invariant S.Denot) (λ u p q. refl) (λ u p q. refl) (λ u e. tt) (λ u e. tt)
       (over (row_of_fields.the_row R)) (over (row_of_fields.the_row S))
       (struct_places (row_of_fields.the_type R) (row_of_fields.the_type S) (vec.mapped along, tt) _ (λ fields. refl) refl
-        (laid _ _ _ (vec.the_places heap.the_row ghosts R S along alike), tt))
+      (laid _ _ _ (vec.the_places heap.the_row ghosts R S along alike), tt))
 
   pub the_codes_placed : Recodes R S along → Recodes (row_of_list.the_row R) (row_of_list.the_row S) ((the_former this).map R.Denot S.Denot along)
   the_codes_placed recodes items = sym (code_map R.coded.code S.coded.code along (λ x. sym (recodes x)) items)

@@ -1,5 +1,5 @@
 -- The items of the field are the list itself.
-use Rattle.std.proofs.Common.{◌≡◌, ◌∙◌, ap}
+use Rattle.std.proofs.Common.{◌∙◌, ap}
 use Rattle.std.specs.List.{dedup}
 use Rattle.std.proofs.lemmas.List.Filters.{dedup_is}
 use Rattle.qvt_base.proofs.seq.Seq.dedup.Goals as goal

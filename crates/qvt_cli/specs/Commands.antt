@@ -1,0 +1,7 @@
+-- The code's commands as their words.
+use Rattle.qvt_cli.specs.Words as words
+use Rattle.qvt_cli.specs.declared.words.Command.{Command}
+use Rattle.qvt_cli.specs.declared.words.Command.TheVariants.{Run}
+
+abbrev pub command_view : Command → words.Command
+command_view (Run job) = words.run job.now

@@ -1,0 +1,10 @@
+pub mod Job
+pub mod Outcome
+pub mod Reported
+pub mod Steps
+pub mod Words
+pub mod Plans
+pub mod Commands
+pub mod SmallTokens
+pub mod SmallText
+pub mod SmallRun

@@ -1,0 +1,96 @@
+ghost use Rattle.std.specs.Prelude.{◌≡◌, ◌⊎◌, MatchBool, IfOk, string_bytes};
+ghost use Rattle.qvt_base.specs.Outside.{Rose};
+ghost use Rattle.qvt_cli.specs.Outcome.{refused_line, out_of_fuel_line, read_fault_line, write_fault_line, no_memory_line};
+ghost use Rattle.qvt_cli.specs.Steps.{stop_line, stop_status};
+ghost use Rattle.qvt_cli.specs.Reported.{appended, IsCut, Reports};
+
+use crate::refusal::Refusal;
+use crate::status::Status;
+use crate::stop::Stop;
+use qvt_base::lists::Bytes;
+use qvt_base::outside::{Sink, SinkAnswer};
+use qvt_base::seq::Seq;
+use std::alloc::{AllocError, Global};
+
+/// Sends the whole text, piece by piece. False where the sink failed.
+fn send<S: Sink>(out: &mut S, text: &[u8]) -> bool
+    ensures { MatchBool result (S.written out.new ≡ appended text.now (S.written out.old)) (Rose (S.faults out.old) (S.faults out.new) × IsCut text.now (S.written out.old) (S.written out.new)) }
+{
+    let mut at = 0usize;
+    while at < text.len() {
+        match out.write(&text[at..]) {
+            SinkAnswer::Taken(count) => at += count,
+            SinkAnswer::Failed => return false,
+        }
+    }
+    true
+}
+
+/// Sends a text, and answers this status; WriteFault where the sink failed.
+pub fn report<S: Sink>(out: &mut S, text: &[u8], status: Status) -> Status
+    ensures { Reports text.now status (S.written out.old) (S.written out.new) (S.faults out.old) (S.faults out.new) result }
+{
+    if send(out, text) { status } else { Status::WriteFault }
+}
+
+fn bytes_of(text: String) -> Bytes
+    ensures { result ≡ string_bytes text }
+{
+    Seq::from_vec(text.into_bytes())
+}
+
+/// The line that a file could not be written.
+pub fn write_fault_line(alloc: Global, file: &str) -> Result<Bytes, AllocError>
+    ensures { IfOk result (λ line. line ≡ write_fault_line file.now) }
+{
+    Ok(bytes_of(format!(in alloc; "cannot write: {file}\n")?))
+}
+
+/// The line that a file could not be read.
+pub fn read_fault_line(alloc: Global, file: &str) -> Result<Bytes, AllocError>
+    ensures { IfOk result (λ line. line ≡ read_fault_line file.now) }
+{
+    Ok(bytes_of(format!(in alloc; "cannot read: {file}\n")?))
+}
+
+/// The line that the cost would pass the fuel.
+pub fn out_of_fuel_line(alloc: Global, fuel: u64) -> Result<Bytes, AllocError>
+    ensures { IfOk result (λ line. line ≡ out_of_fuel_line fuel) }
+{
+    Ok(bytes_of(format!(in alloc; "out of fuel: {fuel}\n")?))
+}
+
+/// The line of a refusal: the file, the refusal's name and its detail.
+pub fn refused_line(alloc: Global, file: &str, why: &Refusal) -> Result<Bytes, AllocError>
+    ensures { IfOk result (λ line. line ≡ refused_line file.now why.now) }
+{
+    let line = match why {
+        Refusal::Missing => format!(in alloc; "refused: {file}: Missing\n")?,
+        Refusal::TooLarge => format!(in alloc; "refused: {file}: TooLarge\n")?,
+        Refusal::NotBuilt => format!(in alloc; "refused: {file}: NotBuilt\n")?,
+    };
+    Ok(bytes_of(line))
+}
+
+/// The line and the status of an early end.
+fn line_of(alloc: Global, stop: &Stop) -> Result<(Bytes, Status), AllocError>
+    ensures { IfOk result (λ x. (x.0 ≡ stop_line stop.now) × (x.1 ≡ stop_status stop.now)) }
+{
+    match stop {
+        Stop::Refused(file, why) => Ok((refused_line(alloc, file.as_str(), why)?, Status::Refused)),
+        Stop::OutOfFuel(fuel) => Ok((out_of_fuel_line(alloc, *fuel)?, Status::OutOfFuel)),
+        Stop::ReadFault(file) => Ok((read_fault_line(alloc, file.as_str())?, Status::ReadFault)),
+        Stop::NoMemory => Err(AllocError),
+    }
+}
+
+/// Tells of an early end, or that there was no memory for it.
+pub fn finish<S: Sink>(alloc: Global, out: &mut S, stop: &Stop) -> Status
+    ensures { Reports (stop_line stop.now) (stop_status stop.now) (S.written out.old) (S.written out.new) (S.faults out.old) (S.faults out.new) result
+        ⊎ Reports no_memory_line Status.NoMemory (S.written out.old) (S.written out.new) (S.faults out.old) (S.faults out.new) result }
+{
+    match line_of(alloc, stop) {
+        Ok((line, status)) => report(out, line.as_slice(), status),
+        Err(_) => report(out, b"no memory\n", Status::NoMemory),
+    }
+}

@@ -1,0 +1,29 @@
+ghost use Rattle.std.specs.Prelude.{◌≡◌, option_map};
+ghost use Rattle.qvt_cli.specs.Words.{command_of};
+ghost use Rattle.qvt_cli.specs.Commands.{command_view};
+
+use qvt_base::text::Text;
+
+/// A command with its words.
+#[derive(Clone, Copy, Debug)]
+pub enum Command<'a> {
+    /// Runs the job of this file.
+    Run(&'a Text),
+}
+
+/// The command that the words give.
+#[tactic(auto, unfolding(crate::specs::Words::command_of))]
+pub fn command_of(words: &[Text]) -> Option<Command<'_>>
+    ensures { option_map command_view result ≡ command_of words.now }
+{
+    match words {
+        [word, job] => {
+            if word.as_str() == "run" {
+                Some(Command::Run(job))
+            } else {
+                None
+            }
+        }
+        _ => None,
+    }
+}

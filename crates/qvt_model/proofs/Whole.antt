@@ -1,0 +1,174 @@
+-- The value that is written for a model has the form of a model, is plain, and nests little; so its text is read as the model.
+use Rattle.std.proofs.Common.{◌≡◌, ℕ, ℤ, pos, negsuc, zero, suc, ◌+◌, ◌<◌, ◌≤◌, ◌^◌, List, [], ◌∷◌, length, map, Bool, true, false, IsTrue, Some, None, Ok, slice_index_or, refl, sym, ap, ◌∙◌, arith, IsUtf8}
+use Rattle.std.specs.Prelude.{codes, FitsSigned}
+use Rattle.std.specs.Int.{w64}
+use Rattle.std.specs.List.{AllByRecursion}
+use Rattle.std.proofs.lemmas.Str.{IsUtf8-nil, IsUtf8-from_is_utf8}
+use Rattle.json.proofs.Printed.Utf8.{IsUtf8-are_ascii}
+use Rattle.serde_json.specs.Data.{Data, depth, items_depth, members_depth}
+use Rattle.serde_json.specs.Find.{of_integer}
+use Rattle.serde_json.specs.Read.{max_depth}
+use Rattle.serde_json.specs.View.{items_of}
+use Rattle.qvt_meta.specs.declared.info.TypeKind.{TypeKind}
+use Rattle.qvt_meta.specs.declared.info.TypeKind.TheVariants.{Bool as BoolKind, Int as IntKind, Str as StrKind, Enum as EnumKind, Class as ClassKind}
+use Rattle.qvt_meta.specs.Metamodels.{Metamodels, class_at, feature_at, shape_of, is_single}
+use Rattle.qvt_meta.specs.WellFormed.{IsWellFormed}
+use Rattle.qvt_json.specs.Json.{json}
+use Rattle.qvt_json.specs.Plain.{IsWhole, KeysAfter, IsPlain, ItemsPlain, MembersPlain}
+use Rattle.qvt_json.specs.Shape.{items_fault}
+use Rattle.qvt_json.specs.Leaves.{is_id}
+use Rattle.qvt_json.proofs.Back.{json-file_text}
+use Rattle.qvt_model.specs.Forms.{object_form, model_form}
+use Rattle.qvt_model.specs.Reading.{model_of}
+use Rattle.qvt_model.specs.WellFormed.{object_at, no_object, IsItem, IsSlot, ComeAfter, AreInOrder, IsObject, IsModel, IsStorable}
+use Rattle.qvt_model.specs.Written.{datum_value, first_value, slot_value, slot_members, object_value, model_value, model_text}
+use Rattle.qvt_model.specs.declared.data.Datum.{Datum}
+use Rattle.qvt_model.specs.declared.data.Datum.TheVariants.{Bool as BoolDatum, Int, Str, Literal, Ref}
+use Rattle.qvt_model.specs.declared.data.SlotData.{SlotData}
+use Rattle.qvt_model.specs.declared.data.ObjectData.{ObjectData}
+use Rattle.qvt_model.proofs.Lists.{All-weaken}
+use Rattle.qvt_model.proofs.Passes.{model_from-object_values}
+
+-- ---- its form
+
+object-shape : (m : Metamodels) (os : List ObjectData) (o : ObjectData) → is_id o.id ≡ true → object_form (object_value m os o) ≡ None
+unfolding object_form
+object-shape m os o form = rw form
+
+objects-shape : (m : Metamodels) (os ws : List ObjectData) (n : ℕ) → AllByRecursion (λ o. IsTrue (is_id o.id)) ws → items_fault object_form n (items_of (map (object_value m os) ws)) ≡ None
+objects-shape m os [] n a = refl
+objects-shape m os (w ∷ ws) n a = rw (object-shape m os w a.0) (objects-shape m os ws (suc n) a.1)
+
+model-shape : (m : Metamodels) (os : List ObjectData) → AllByRecursion (λ o. IsTrue (is_id o.id)) os → model_form (model_value m os) ≡ None
+unfolding model_form
+model-shape m os a = rw (objects-shape m os os 0 a)
+
+-- ---- it is plain
+
+whole : (z : ℤ) → FitsSigned w64 z → IsWhole (of_integer z)
+whole (pos n) h = let lt : n < 2 ^ 63 = h.sfits in omega arith
+whole (negsuc n) h = h.sfits
+
+id_text : (os : List ObjectData) (i : ℕ) → AllByRecursion (λ o. IsUtf8 o.id) os → IsUtf8 (object_at os i).id
+id_text [] i a = IsUtf8-nil
+id_text (o ∷ os) zero a = a.0
+id_text (o ∷ os) (suc i) a = id_text os i a.1
+
+module _ (m : Metamodels) (k : ℕ) (os : List ObjectData) (named : IsWellFormed m) (texts : AllByRecursion (λ o. IsUtf8 o.id) os) where
+  plain_datum : (kind : TypeKind) (x : Datum) → IsItem m os kind x → IsPlain (datum_value m os x)
+  plain_datum BoolKind (BoolDatum b') h = tt
+  plain_datum BoolKind (Int z) h = absurd h
+  plain_datum BoolKind (Str s) h = absurd h
+  plain_datum BoolKind (Literal l) h = absurd h
+  plain_datum BoolKind (Ref i) h = absurd h
+  plain_datum IntKind (BoolDatum b') h = absurd h
+  plain_datum IntKind (Int z) h = whole z h
+  plain_datum IntKind (Str s) h = absurd h
+  plain_datum IntKind (Literal l) h = absurd h
+  plain_datum IntKind (Ref i) h = absurd h
+  plain_datum StrKind (BoolDatum b') h = absurd h
+  plain_datum StrKind (Int z) h = absurd h
+  plain_datum StrKind (Str s) h = h
+  plain_datum StrKind (Literal l) h = absurd h
+  plain_datum StrKind (Ref i) h = absurd h
+  plain_datum (EnumKind a b) (BoolDatum b') h = absurd h
+  plain_datum (EnumKind a b) (Int z) h = absurd h
+  plain_datum (EnumKind a b) (Str s) h = absurd h
+  plain_datum (EnumKind a b) (Literal l) h = IsUtf8-from_is_utf8 _ (named.text_literal l.metamodel l.enumeration l.literal)
+  plain_datum (EnumKind a b) (Ref i) h = absurd h
+  plain_datum (ClassKind c) (BoolDatum b') h = absurd h
+  plain_datum (ClassKind c) (Int z) h = absurd h
+  plain_datum (ClassKind c) (Str s) h = absurd h
+  plain_datum (ClassKind c) (Literal l) h = absurd h
+  plain_datum (ClassKind c) (Ref i) h = id_text os i texts
+
+  plain_items : (kind : TypeKind) (xs : List Datum) → AllByRecursion (IsItem m os kind) xs → ItemsPlain (items_of (map (datum_value m os) xs))
+  plain_items kind [] a = tt
+  plain_items kind (x ∷ xs) a = (plain_datum kind x a.0, plain_items kind xs a.1)
+
+  plain_first : (kind : TypeKind) (xs : List Datum) → AllByRecursion (IsItem m os kind) xs → IsPlain (first_value m os xs)
+  plain_first kind [] a = tt
+  plain_first kind (x ∷ xs) a = plain_datum kind x a.0
+
+  plain_slot : (c : ℕ) (s : SlotData) → IsSlot m os c s → IsPlain (slot_value m os s)
+  plain_slot c s h = by (is_single m s.feature.0) refl
+    where
+      by : (b : Bool) → is_single m s.feature.0 ≡ b → IsPlain (slot_value m os s)
+      by true is = rw is (plain_first (shape_of m s.feature.0).kind s.items h.items)
+      by false is = rw is (plain_items (shape_of m s.feature.0).kind s.items h.items)
+
+  keys_after : (name : List ℕ) (ss : List SlotData) → ComeAfter m name ss → KeysAfter name (slot_members m os ss)
+  keys_after name [] h = tt
+  keys_after name (s ∷ ss) h = (h.0, keys_after name ss h.1)
+
+  plain_slots : (c : ℕ) (ss : List SlotData) → AllByRecursion (IsSlot m os c) ss → AreInOrder m ss → MembersPlain (slot_members m os ss)
+  plain_slots c [] h a = tt
+  plain_slots c (s ∷ ss) h a =
+      (IsUtf8-from_is_utf8 _ (named.text_feature s.feature.0), plain_slot c s h.0, keys_after (feature_at m s.feature.0).name ss a.0, plain_slots c ss h.1 a.1)
+
+  plain_object : (o : ObjectData) → IsUtf8 o.id → IsObject m k os o → IsPlain (object_value m os o)
+  plain_object o id h = (
+    IsUtf8-are_ascii (codes "class") refl,
+    IsUtf8-from_is_utf8 _ (named.text_class o.class.0),
+    (refl, (refl, tt)),
+    (
+      IsUtf8-are_ascii (codes "id") refl,
+      id,
+      (refl, tt),
+      (
+        IsUtf8-are_ascii (codes "slots") refl,
+        plain_slots o.class.0 o.slots h.slots h.order,
+        tt,
+        tt,
+      ),
+    ),
+  )
+
+  plain_objects : (ws : List ObjectData) → AllByRecursion (λ o. IsUtf8 o.id) ws → AllByRecursion (IsObject m k os) ws → ItemsPlain (items_of (map (object_value m os) ws))
+  plain_objects [] a h = tt
+  plain_objects (o ∷ ws) a h = (plain_object o a.0 h.0, plain_objects ws a.1 h.1)
+
+  pub IsPlain-model_value : AllByRecursion (IsObject m k os) os → IsPlain (model_value m os)
+  IsPlain-model_value objects = (IsUtf8-are_ascii (codes "objects") refl, plain_objects os texts objects, tt, tt)
+
+-- ---- its depth
+
+module _ (m : Metamodels) (os : List ObjectData) where
+  datum_depth : (x : Datum) → depth (datum_value m os x) ≡ 0
+  datum_depth (BoolDatum b) = refl
+  datum_depth (Int z) = refl
+  datum_depth (Str s) = refl
+  datum_depth (Literal l) = refl
+  datum_depth (Ref i) = refl
+
+  data_depth : (xs : List Datum) → items_depth (items_of (map (datum_value m os) xs)) ≡ 0
+  data_depth [] = refl
+  data_depth (x ∷ xs) = rw (datum_depth x, data_depth xs)
+
+  first_depth : (xs : List Datum) → depth (first_value m os xs) ≤ 1
+  first_depth [] = omega arith
+  first_depth (x ∷ xs) = omega (arith, datum_depth x)
+
+  slot_depth : (s : SlotData) → depth (slot_value m os s) ≤ 1
+  slot_depth s = by (is_single m s.feature.0) refl
+    where
+      by : (b : Bool) → is_single m s.feature.0 ≡ b → depth (slot_value m os s) ≤ 1
+      by true is = rw is (first_depth s.items)
+      by false is = rw is (omega (arith, data_depth s.items))
+
+  slots_depth : (ss : List SlotData) → members_depth (slot_members m os ss) ≤ 1
+  slots_depth [] = omega arith
+  slots_depth (s ∷ ss) = omega (arith, slot_depth s, slots_depth ss)
+
+  objects_depth : (ws : List ObjectData) → items_depth (items_of (map (object_value m os) ws)) ≤ 3
+  objects_depth [] = omega arith
+  objects_depth (o ∷ ws) = omega (arith, slots_depth o.slots, objects_depth ws)
+
+-- ---- the whole
+
+pub model_of-model_text : (m : Metamodels) (k : ℕ) (os : List ObjectData) → IsWellFormed m → IsModel m k os → IsStorable m os → model_of m k (model_text m os) ≡ Ok os
+unfolding model_of model_text
+model_of-model_text m k os named model storable =
+    let shallow : depth (model_value m os) ≤ max_depth = omega (arith, objects_depth m os os) in
+    let value : json (model_text m os) ≡ Some (model_value m os) = json-file_text (model_value m os) (IsPlain-model_value m k os named storable.texts model.objects) shallow in
+    rw (value, model-shape m os storable.forms) (model_from-object_values m k os named model storable)

@@ -1,0 +1,5 @@
+//! Models from and to JSON.
+#![tactic(auto)]
+
+pub mod data;
+pub mod laws;

@@ -1,0 +1,22 @@
+use Rattle.std.proofs.Common.{◌≡◌, ◌∙◌, ◌<◌, ◌++◌, ◌∷◌, refl, sym, ap, subst, List, [], map, length, arith}
+use Rattle.std.specs.Prelude.{None, slice_set, slice_index_or}
+use Rattle.std.proofs.lemmas.Bool.{ltb-true}
+use Rattle.qvt_base.specs.declared.numbers.FeatureNo.{FeatureNo}
+use Rattle.qvt_store.specs.declared.cell.Cell.{Cell}
+use Rattle.qvt_store.specs.Contents.{Contents}
+use Rattle.qvt_store.specs.Cells.{IsKept}
+use Rattle.qvt_store.proofs.Added.{added_kept}
+use Rattle.qvt_store.proofs.store.Store.add_object.Goals as goal
+
+pub invariant_of-self-2 : goal.invariant_of-self-2
+invariant_of-self-2 c =
+    let k : Cell = record { class = c.args.class; extent = c.args.extent; slots = c.in_ok-slots.slots; holder = None } in
+    let live : c.args.extent < length c.self.inside.members.items =
+    subst (λ n. c.args.extent < n) (ap (λ (s : Contents). length s.extents) (sym c.self.view_is) ∙ sym c.self.invariant.listed.count) (ltb-true c.args.extent (length c.args.self.now.extents) c.requires) in
+    let count : c.len-count.result ≡ length c.self.inside.cells.items = omega arith in
+    let few : length c.self.inside.cells.items < 1000000 = omega arith in
+    subst (λ (l : List Cell). IsKept c.self.inside.metas c.self.inside.extents l c.add_cell.new.members.items c.self.inside.distinct) (sym c.in_ok-add_cell.ensures.cells)
+    (added_kept c.self.inside.metas c.self.inside.cells.items k c.self.invariant.whole few refl
+    (c.in_ok-slots.ensures ∙ ap (λ (gs : List FeatureNo). map (λ _. []) gs) c.features.ensures)
+    c.self.inside.extents c.self.inside.members.items c.add_cell.new.members.items c.self.inside.distinct c.self.invariant live
+    (c.in_ok-add_cell.ensures.members ∙ ap (λ n. slice_set c.self.inside.members.items c.args.extent (slice_index_or c.self.inside.members.items c.args.extent [] ++ record { 0 = n } ∷ [])) count))

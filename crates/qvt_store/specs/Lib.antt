@@ -1,0 +1,11 @@
+pub mod Slots
+pub mod Change
+pub mod Contents
+pub mod Types
+pub mod Repeats
+pub mod Cells
+pub mod Members
+pub mod Fault
+pub mod Assign
+pub mod Sound
+pub mod Law

@@ -1,0 +1,18 @@
+use qvt_base::numbers::{ClassNo, FeatureNo, Oid};
+use qvt_value::value::Values;
+
+/// The containment slot that an object stands in.
+#[derive(Debug, Clone, Copy, PartialEq, Eq)]
+pub struct Holder {
+    pub object: Oid,
+    pub feature: FeatureNo,
+}
+
+/// An object with its slots, in the order of the features of its class.
+#[derive(Debug, Drop)]
+pub struct Cell {
+    pub class: ClassNo,
+    pub extent: u32,
+    pub slots: Vec<Values>,
+    pub holder: Option<Holder>,
+}

@@ -1,0 +1,35 @@
+//! Slots set in the cells of a store.
+
+ghost use Rattle.std.specs.Prelude.{◌≡◌, ◌<◌, length, IsTrue};
+ghost use Rattle.qvt_meta.specs.Metamodels.{has_feature, among_features};
+ghost use Rattle.qvt_store.specs.Cells.{HaveSlots, IsPut, IsPlaceOf, instance_in};
+
+use crate::cell::Cell;
+use qvt_base::numbers::{FeatureNo, Oid};
+use qvt_meta::metas::Metas;
+use qvt_value::value::Values;
+
+/// The place of a feature among those of a class.
+pub fn place_of(features: &[FeatureNo], feature: FeatureNo) -> usize
+    requires { IsTrue (among_features feature.0 features.now) }
+    ensures { IsPlaceOf features.now feature.0 result }
+{
+    for (i, known) in features.iter().enumerate() {
+        if known.0 == feature.0 {
+            return i;
+        }
+    }
+    unreachable!()
+}
+
+/// Sets one slot.
+pub fn put(metas: &Metas, cells: &mut Vec<Cell>, object: Oid, feature: FeatureNo, items: Values)
+    requires live { object.0 < length cells.old.items }
+    requires there { IsTrue (has_feature metas.now (instance_in cells.old.items object.0).class feature.0) }
+    requires have_slots { HaveSlots metas.now cells.old.items }
+    ensures { IsPut metas.now cells.old.items cells.new.items object.0 feature.0 items }
+{
+    let cell = &mut cells[object.0 as usize];
+    let place = place_of(metas.features(cell.class), feature);
+    cell.slots[place] = items;
+}

@@ -1,0 +1,222 @@
+ghost use Rattle.std.specs.Prelude.{◌≡◌, ◌<◌, ◌≤◌, [], length, IsTrue, IfOk, IfErr, OnOk, OnErr, IfSome, ℕ};
+ghost use Rattle.qvt_store.specs.Slots.{Contains, has};
+ghost use Rattle.qvt_store.specs.Cells.{holder_in};
+ghost use Rattle.qvt_meta.specs.Metamodels.{has_feature, is_containment};
+ghost use Rattle.qvt_store.specs.Contents.{is_live, is_extent, is_writable, class_of, extent_of, slot_of, members_of, with_slot, with_new};
+ghost use Rattle.qvt_store.specs.Types.{IsAssignable, IsSingleAttribute};
+ghost use Rattle.qvt_store.specs.Members.{AreEmpty};
+ghost use Rattle.qvt_store.specs.Fault.{IsAddFault};
+
+use crate::add::{add_cell, empty_slots};
+use crate::cell::{Cell, Holder};
+use crate::extent::{Extent, ExtentList};
+use crate::fault::StoreFault;
+use crate::put::{place_of, put};
+use qvt_base::copied::Copied;
+use qvt_base::list_fault::ListFault;
+use qvt_base::lists::OidList;
+use qvt_base::numbers::{ClassNo, FeatureNo, Oid};
+use qvt_base::seq::Seq;
+use qvt_meta::metas::Metas;
+use qvt_value::value::{Value, Values};
+use std::alloc::Global;
+use std::marker::Model;
+
+/// Objects of numbered extents with their slots. Objects are numbered from 0 in the order in which
+/// they are added.
+#[derive(Debug, Drop)]
+pub struct Store {
+    metas: Metas,
+    extents: ExtentList,
+    cells: Vec<Cell>,
+    members: Vec<OidList>,
+    distinct: bool,
+}
+
+impl Model for Store {
+    ghost use Rattle.qvt_store.specs.Contents.{Contents};
+    ghost use Rattle.std.specs.Coded.{codes};
+    ghost use Rattle.qvt_value.specs.contracts.value.Value as value;
+
+    ghost Value = { Contents };
+
+    ghost coded = { Prim.hlevel (codes, value.the_row.coded) };
+
+    ghost use Rattle.qvt_store.specs.Cells.{contents_of, IsKept};
+
+    ghost view = { λ s. contents_of s.metas s.extents s.cells.items };
+
+    ghost invariant = { λ s. IsKept s.metas s.extents s.cells.items s.members.items s.distinct };
+}
+
+impl Store {
+    /// A store with no objects.
+    pub fn new(alloc: Global, metas: &Metas, extents: &ExtentList) -> Result<Store, StoreFault>
+        ensures ok { IfOk result (λ store. store ≡ record { metas = metas.now; extents = extents.now; objects = [] }) }
+        ensures err { IfErr result (λ fault. fault ≡ StoreFault.NoMemory) }
+    {
+        let metas = metas.copy(alloc)?;
+        let _count = metas.class_count();
+        let extents = extents.copy(alloc)?;
+        let members = empty_lists(alloc, extents.as_slice())?;
+        Ok(Store {
+            metas,
+            extents,
+            cells: Vec::new(alloc),
+            members,
+            distinct: true,
+        })
+    }
+
+    /// How many objects there are.
+    pub fn len(&self) -> u32
+        ensures { result ≡ length self.now.objects }
+    {
+        self.cells.len() as u32
+    }
+
+    pub fn metas(&self) -> &Metas
+        ensures { result.now ≡ self.now.metas }
+    {
+        &self.metas
+    }
+
+    pub fn extents(&self) -> &ExtentList
+        ensures { result.now ≡ self.now.extents }
+    {
+        &self.extents
+    }
+
+    pub fn class_of(&self, object: Oid) -> ClassNo
+        requires { IsTrue (is_live self.now object.0) }
+        ensures { result.0 ≡ class_of self.now object.0 }
+    {
+        self.cells[object.0 as usize].class
+    }
+
+    pub fn extent_of(&self, object: Oid) -> u32
+        requires { IsTrue (is_live self.now object.0) }
+        ensures { result ≡ extent_of self.now object.0 }
+    {
+        self.cells[object.0 as usize].extent
+    }
+
+    /// The objects of an extent, in order.
+    pub fn extent(&self, extent: u32) -> &[Oid]
+        requires { IsTrue (is_extent self.now extent) }
+        ensures { result.now ≡ members_of self.now extent }
+    {
+        self.members[extent as usize].as_slice()
+    }
+
+    /// What an object holds for a feature of its class.
+    pub fn slot(&self, object: Oid, feature: FeatureNo) -> &[Value]
+        requires live { IsTrue (is_live self.now object.0) }
+        requires there { IsTrue (has_feature self.now.metas (class_of self.now object.0) feature.0) }
+        ensures { result.now ≡ slot_of self.now object.0 feature.0 }
+    {
+        let cell = &self.cells[object.0 as usize];
+        let place = place_of(self.metas.features(cell.class), feature);
+        cell.slots[place].as_slice()
+    }
+
+    /// The containment slot that an object stands in.
+    fn holder(&self, object: Oid) -> Option<Holder>
+        ensures some { IfSome result (λ h. IsTrue (is_containment self.now.metas h.feature.0) × IsTrue (has (slot_of self.now h.object.0 h.feature.0) object.0)) }
+        ensures only { (x f : ℕ) → IsTrue (is_containment self.now.metas f) → IsTrue (has (slot_of self.now x f) object.0) → result ≡ Some (holder_in x f) }
+    {
+        let at = object.0 as usize;
+        if at < self.cells.len() {
+            self.cells[at].holder
+        } else {
+            None
+        }
+    }
+
+    /// The object that contains this one.
+    pub fn container(&self, object: Oid) -> Option<Oid>
+        requires { IsTrue (is_live self.now object.0) }
+        ensures some { IfSome result (λ x. Contains self.now.metas (slot_of self.now) x.0 object.0) }
+        ensures only { (x : ℕ) → Contains self.now.metas (slot_of self.now) x object.0 → result ≡ Some (record { 0 = x }) }
+    {
+        match self.holder(object) {
+            None => None,
+            Some(holder) => Some(holder.object),
+        }
+    }
+
+    /// Sets a slot of a feature that holds at most one value, which is no object. A refused call
+    /// changes nothing.
+    pub fn assign(
+        &mut self,
+        alloc: Global,
+        object: Oid,
+        feature: FeatureNo,
+        values: &[Value],
+    ) -> Result<(), StoreFault>
+        requires assignable { IsAssignable self.old object.0 feature.0 values.now }
+        requires attribute { IsSingleAttribute self.old.metas feature.0 }
+        requires one { length values.now ≤ 1 }
+        requires writable { IsTrue (is_writable self.old object.0) }
+        ensures ok { OnOk result (self.new ≡ with_slot self.old object.0 feature.0 values.now) }
+        ensures refused { IfErr result (λ fault. fault ≡ StoreFault.NoMemory) }
+        ensures err { OnErr result (self.new ≡ self.old) }
+    {
+        let items = copied(alloc, values)?;
+        put(&self.metas, &mut self.cells, object, feature, items);
+        Ok(())
+    }
+
+    /// Adds an object with empty slots, of a concrete class of the extent's metamodel. A refused
+    /// call changes nothing.
+    pub fn add_object(
+        &mut self,
+        alloc: Global,
+        class: ClassNo,
+        extent: u32,
+    ) -> Result<Oid, StoreFault>
+        requires { IsTrue (is_extent self.old extent) }
+        ensures number { IfOk result (λ object. object.0 ≡ length self.old.objects) }
+        ensures ok { OnOk result (self.new ≡ with_new self.old class.0 extent) }
+        ensures room { OnOk result (length self.old.objects < 1000000) }
+        ensures refused { IfErr result (λ fault. IsAddFault (length self.old.objects) fault) }
+        ensures err { OnErr result (self.new ≡ self.old) }
+    {
+        let count = self.cells.len();
+        if count >= 1_000_000 {
+            return Err(StoreFault::TooManyObjects);
+        }
+        let object = Oid(count as u32);
+        let slots = empty_slots(alloc, self.metas.features(class))?;
+        let cell = Cell {
+            class,
+            extent,
+            slots,
+            holder: None,
+        };
+        add_cell(&mut self.cells, &mut self.members, cell, object)?;
+        Ok(object)
+    }
+}
+
+/// An empty list for each extent.
+fn empty_lists(alloc: Global, extents: &[Extent]) -> Result<Vec<OidList>, ListFault>
+    ensures { IfOk result (λ lists. AreEmpty (length extents.now) lists.items) }
+{
+    let mut lists = Seq::new(alloc);
+    for _extent in extents {
+        lists.push(Seq::new(alloc))?;
+    }
+    Ok(lists.into_vec())
+}
+
+/// Copies of the values, in order.
+fn copied(alloc: Global, values: &[Value]) -> Result<Values, ListFault>
+    ensures { IfOk result (λ copies. copies ≡ values.now) }
+{
+    let mut copies = Seq::new(alloc);
+    for value in values {
+        copies.push(value.copy(alloc)?)?;
+    }
+    Ok(copies)
+}

@@ -1,0 +1,114 @@
+//! Collections made of lists (OCL 2.4, 11.6).
+
+ghost use Rattle.std.specs.Prelude.{◌≡◌, ◌≢◌, ◌≤◌, false, length, IfOk, IsOk, List, []};
+ghost use Rattle.std.specs.List.{list_any};
+ghost use Rattle.indexmap.specs.IndexSet.{insert_all};
+ghost use Rattle.qvt_value.specs.contracts.value.ValuePartialEq.TheImpl.{ghosts};
+ghost use Rattle.qvt_value.specs.declared.value.Value.{Value};
+ghost use Rattle.qvt_value.specs.Kept.{sorted, firsts};
+ghost use Rattle.qvt_value.specs.Make.{IsMade, made, is_invalid};
+ghost use Rattle.qvt_value.specs.Order.{order_of};
+
+use crate::fault::ValueFault;
+use crate::value::{Kind, Value, Values};
+use indexmap::IndexSet;
+use qvt_base::seq::Seq;
+use std::alloc::Global;
+
+/// How many items a collection holds at most.
+pub const MOST_ITEMS: usize = 1_000_000;
+
+/// Makes the items a collection of the kind. Only an OrderedSet takes memory.
+pub fn make(alloc: Global, kind: Kind, items: Values) -> Result<Value, ValueFault>
+    requires few { length items ≤ MOST_ITEMS }
+    requires none_invalid { list_any is_invalid items ≡ false }
+    ensures keeps { IfOk result (λ v. (ys : List Value) × (v ≡ Value.Coll kind ys) × IsMade kind items ys) }
+    ensures is { IfOk result (λ v. v ≡ Value.Coll kind (made kind items)) }
+    ensures memory { kind ≢ Kind.OrderedSet → IsOk result }
+{
+    let items = match kind {
+        Kind::Set => in_order_once(items),
+        Kind::Bag => in_order(items),
+        Kind::Sequence => items,
+        Kind::OrderedSet => each_first(alloc, items)?,
+    };
+    Ok(Value::Coll(kind, items))
+}
+
+fn in_order(mut items: Values) -> Values
+    ensures { result ≡ sorted order_of items }
+{
+    items.sort();
+    items
+}
+
+fn in_order_once(mut items: Values) -> Values
+    ensures { result ≡ sorted order_of (firsts order_of items) }
+{
+    items.sort();
+    items.dedup();
+    items
+}
+
+/// Each item where it first stands.
+fn each_first(alloc: Global, items: Values) -> Result<Values, ValueFault>
+    ensures { IfOk result (λ kept. kept ≡ firsts order_of items) }
+{
+    let set = set_of(alloc, items)?;
+    let mut kept = Seq::new(alloc);
+    for item in set {
+        kept.push(item)?;
+    }
+    Ok(kept)
+}
+
+fn set_of(alloc: Global, items: Values) -> Result<IndexSet<Value>, ValueFault>
+    ensures { IfOk result (λ set. set.keys ≡ insert_all ghosts.eq [] items) }
+{
+    let mut set = IndexSet::new(alloc);
+    for item in items.into_vec() {
+        set.insert(item)?;
+    }
+    Ok(set)
+}
+
+#[cfg(test)]
+mod tests {
+    use super::*;
+    use qvt_base::list_fault::ListFault;
+    use std::test::Fail;
+
+    fn three_one_three_two(alloc: Global) -> Result<Values, ListFault>
+        ensures few { IfOk result (λ items. length items ≤ MOST_ITEMS) }
+        ensures none_invalid { IfOk result (λ items. list_any is_invalid items ≡ false) }
+    {
+        let mut items = Seq::new(alloc);
+        items.push(Value::Int(3))?;
+        items.push(Value::Int(1))?;
+        items.push(Value::Int(3))?;
+        items.push(Value::Int(2))?;
+        Ok(items)
+    }
+
+    fn collection(alloc: Global, kind: Kind, numbers: &[i64]) -> Result<Value, ListFault> {
+        let mut kept = Seq::new(alloc);
+        for number in numbers {
+            kept.push(Value::Int(*number))?;
+        }
+        Ok(Value::Coll(kind, kept))
+    }
+
+    #[test]
+    fn each_kind_keeps_its_own(rt: HostRuntime) -> Result<(), Fail> {
+        for (kind, kept) in [
+            (Kind::Set, [1, 2, 3].as_slice()),
+            (Kind::Bag, [1, 2, 3, 3].as_slice()),
+            (Kind::Sequence, [3, 1, 3, 2].as_slice()),
+            (Kind::OrderedSet, [3, 1, 2].as_slice()),
+        ] {
+            let made = make(rt.alloc(), kind, three_one_three_two(rt.alloc())?)?;
+            assert_eq!(rt; made, collection(rt.alloc(), kind, kept)?, "{kind:?}");
+        }
+        Ok(())
+    }
+}
