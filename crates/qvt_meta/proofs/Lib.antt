@@ -10,6 +10,7 @@ pub mod JoinsKept
 pub mod JoinsTables
 pub mod Fits
 pub mod Withs
+pub mod Ancestors
 pub mod Thin
 pub mod Rooms
 pub mod Ones

@@ -1,6 +1,6 @@
 -- Which classes are above a class (EMOF 12.4.1, Class::superClass): the least set that has its superclasses and what is
 -- above these. The class Element, where there is one, is above every class.
-use Rattle.std.specs.Prelude.{ℕ, Bool, true, false, ◌==◌, ◌||◌, length, IsTrue, zero, suc}
+use Rattle.std.specs.Prelude.{◌≡◌, ℕ, Bool, true, false, ◌==◌, ◌||◌, ◌⊎◌, length, IsTrue, zero, suc}
 use Rattle.std.specs.List.{list_any}
 use Rattle.qvt_base.specs.declared.numbers.ClassNo.{ClassNo}
 use Rattle.qvt_meta.specs.declared.info.TypeKind.{TypeKind}
@@ -36,3 +36,7 @@ is_class_kind m c Int = false
 is_class_kind m c Str = false
 is_class_kind m c (Enum k e) = false
 is_class_kind m c (Class d) = descends m c d.0
+
+-- sub is sup, or sup is among the classes above it
+abbrev pub Descends : Metamodels → ℕ → ℕ → Type 0
+Descends m sub sup = (sub ≡ sup) ⊎ IsAncestor m sup sub

@@ -10,6 +10,7 @@ pub mod MetaForm
 pub mod SmallMeta
 pub mod Joined
 pub mod Added
+pub mod Checks
 pub mod Checked
 pub mod Numbered
 pub mod Places

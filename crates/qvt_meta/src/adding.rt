@@ -367,7 +367,7 @@ fn feature_total(classes: &[DeclaredClass]) -> Option<u32>
 }
 
 /// Whether all numbers of a metamodel fit 32 bits.
-fn has_room(enums: &[EnumInfo], classes: &[DeclaredClass]) -> bool
+pub fn has_room(enums: &[EnumInfo], classes: &[DeclaredClass]) -> bool
     ensures enums { IsTrue result → length enums.now < 2 ^ 32 }
     ensures classes { IsTrue result → length classes.now < 2 ^ 32 }
     ensures features { IsTrue result → feature_count classes.now < 2 ^ 32 }

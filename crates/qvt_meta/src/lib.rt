@@ -15,5 +15,3 @@ mod names;
 mod plain;
 mod reading;
 mod row;
-#[cfg(test)]
-mod tests;

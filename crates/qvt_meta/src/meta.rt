@@ -2,7 +2,7 @@ ghost use Rattle.std.specs.Prelude.{◌≡◌, IfOk, IsTrue};
 ghost use Rattle.qvt_meta.specs.Checked.{is_plain};
 ghost use Rattle.qvt_meta.specs.SmallMeta.{small_meta_of};
 
-use crate::adding::alone_of;
+use crate::adding::{alone_of, has_room};
 use crate::declared::DeclaredClass;
 use crate::fault::MetaFault;
 use crate::forms::SmallForm;
@@ -102,4 +102,16 @@ pub fn read_meta(alloc: Global, bytes: &[u8]) -> Result<Meta, MetaFault>
         return Err(MetaFault::NotBuilt);
     }
     Ok(checked(alloc, name, uri, enums, classes)?)
+}
+
+impl Meta {
+    ghost use Rattle.std.specs.Prelude.{[]};
+    ghost use Rattle.qvt_meta.specs.Added.{HasRoom};
+
+    /// Whether the numbers of its classes and features fit 32 bits. It takes no memory.
+    pub fn has_few(&self) -> bool
+        ensures { IsTrue result → HasRoom (record { metamodels = []; classes = []; features = []; element = None }) self.now }
+    {
+        has_room(self.enums.as_slice(), self.classes.as_slice())
+    }
 }

@@ -1,8 +1,8 @@
-ghost use Rattle.std.specs.Prelude.{◌≡◌, ◌≢◌, ◌^◌, [], true, false, length, None, IfOk, IfErr, IsTrue, OnOk, OnErr, IfSome, option_map, position, ◌==◌, ◌&&◌, ◌||◌, ◌<◌};
+ghost use Rattle.std.specs.Prelude.{◌≡◌, ◌≢◌, ◌↔◌, ℕ, ◌^◌, [], true, false, length, None, IfOk, IfErr, IsTrue, OnOk, OnErr, IfSome, option_map, position, ◌==◌, ◌&&◌, ◌||◌, ◌<◌};
 ghost use Rattle.std.specs.Str.{bytes_eq};
 ghost use Rattle.std.specs.List.{list_any};
 ghost use Rattle.qvt_meta.specs.Metamodels.{class_at, feature_at, shape_of, opposite, features_of};
-ghost use Rattle.qvt_meta.specs.Descends.{descends};
+ghost use Rattle.qvt_meta.specs.Descends.{descends, Descends};
 ghost use Rattle.qvt_meta.specs.WellFormed.{IsWellFormed};
 ghost use Rattle.qvt_meta.specs.Named.{is_text};
 ghost use Rattle.qvt_meta.specs.Kept.{is_marked};
@@ -115,7 +115,10 @@ impl Metas {
         let metamodels = self.metamodels.len() + others.metamodels.len();
         let classes = self.classes.len() + others.classes.len();
         let features = self.features.len() + others.features.len();
-        if metamodels > u32::MAX as usize || classes > u32::MAX as usize {
+        if metamodels > u32::MAX as usize {
+            return false;
+        }
+        if classes > u32::MAX as usize {
             return false;
         }
         features <= u32::MAX as usize
@@ -358,6 +361,14 @@ impl Metas {
         ensures { result ≡ descends self.now sub.0 sup.0 }
     {
         sub.0 == sup.0 || self.is_element(sup) || self.reaches(sub, sup)
+    }
+
+    /// A law: the classes above a class are the least set that has its superclasses and what is
+    /// above these.
+    pub fn ancestors_are_least(&self)
+        ensures { (sub sup : ℕ) → IsTrue (descends self.now sub sup) ↔ Descends self.now sub sup }
+    {
+        let _ = &self.classes;
     }
 
     ghost use Rattle.qvt_meta.specs.Metamodels.{is_element};
