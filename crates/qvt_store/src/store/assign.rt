@@ -36,7 +36,7 @@ impl Store {
     }
 
     /// The objects whose containment slots change.
-    fn released(
+    pub fn released(
         &self,
         alloc: Global,
         draft: &Draft,
