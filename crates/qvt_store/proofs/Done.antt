@@ -214,6 +214,12 @@ instances_told m well c metas old new same told = same_lists (instances new) (in
         (λ f is. ap (λ n. list_of (features_of m n) (instance_in new k).slots f) (sym (same.classes k)) ∙ told k f)
         ∙ ap (λ mm. map (λ (g : FeatureNo). slot_after c k g.0) (features_of mm (instance_in old k).class)) (sym metas)
 
+-- a store without change
+pub nothing_told : (m : Metamodels) (extents : List Extent) (cells : List Cell) → AreWhole m cells → (c : Change) → c.metas ≡ m →
+    ((x f : ℕ) → slot_of (contents_of m extents cells) x f ≡ slot_after c x f) → store_after (contents_of m extents cells) c ≡ contents_of m extents cells
+nothing_told m extents cells whole c metas told = ap (λ (l : List Instance). record { metas = m; extents = extents; objects = l })
+    (sym (instances_told m whole.well_formed c metas cells cells (record { same_length = refl; classes = λ x. refl; extents = λ x. refl; have_slots = whole.have_slots }) told))
+
 same_both : (m : Metamodels) (old mid new : List Cell) → SameObjects m old mid → SameObjects m mid new → SameObjects m old new
 same_both m old mid new a b = record {
   same_length = b.same_length ∙ a.same_length;

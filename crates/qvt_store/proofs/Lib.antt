@@ -24,3 +24,7 @@ pub mod CycleTests
 pub mod Refusals
 pub mod Moved
 pub mod Assigning
+pub mod Placed
+pub mod Appending
+pub mod Pushed
+pub mod SameCells

@@ -45,7 +45,7 @@ pub accepted : (r : Option StoreFault) (s s' : Contents) → ok_unless r s ≡ O
 accepted None s s' e = (refl, cc)
 accepted (Some fault) s s' e = cc
 
-all-push : (test : Value → Bool) (vs : List Value) (v : Value) → list_all test vs ≡ true → test v ≡ true → list_all test (vs ++ v ∷ []) ≡ true
+pub all-push : (test : Value → Bool) (vs : List Value) (v : Value) → list_all test vs ≡ true → test v ≡ true → list_all test (vs ++ v ∷ []) ≡ true
 all-push test [] v all t = and_both _ _ t refl
 all-push test (w ∷ vs) v all t = and_both _ _ (and_left _ _ all) (all-push test vs v (and_right (test w) _ all) t)
 

@@ -84,3 +84,8 @@ pub record IsPut (m : Metamodels) (old new : List Cell) (o p : ℕ) (vs : List V
   pub holders : (y : ℕ) → holder_at new y ≡ holder_at old y
   pub slots : (x f : ℕ) → slot_in m (instances new) x f ≡ with_list (slot_in m (instances old)) o p vs x f
   pub whole : instances new ≡ slice_set (instances old) o (set_slot (features_of m (instance_in old o).class) (instance_in old o) p vs)
+
+-- the cells stand for the same
+pub record IsSameCells (old new : List Cell) : Type 0 where
+  pub objects : instances new ≡ instances old
+  pub holders : (y : ℕ) → holder_at new y ≡ holder_at old y

@@ -14,3 +14,4 @@ pub mod Draft
 pub mod Writes
 pub mod Plan
 pub mod Ready
+pub mod Place

@@ -12,7 +12,7 @@ use Rattle.qvt_store.specs.Types.{is_of_type, AreTyped}
 use Rattle.qvt_store.specs.Slots.{Inside}
 use Rattle.qvt_meta.specs.WellFormed.{IsWellFormed}
 use Rattle.qvt_store.specs.Repeats.{repeats}
-use Rattle.qvt_store.specs.Assign.{change_to}
+use Rattle.qvt_store.specs.Assign.{change_to, store_after}
 use Rattle.qvt_store.specs.Law.{FitsSingle}
 use Rattle.qvt_store.specs.Draft.{drafted, IsDraft}
 use Rattle.qvt_store.specs.Walk.{IsCyclic}
@@ -38,6 +38,8 @@ pub record IsKnown (s : Contents) : Type 0 where
   pub well_formed : IsWellFormed s.metas
   pub acyclic : (x : ℕ) → Inside s.metas (slot_of s) x x → ⊥
   pub typed : AreTyped s
+  -- a change that leaves each slot as it is leaves the store
+  pub told : (c : Change) → c.metas ≡ s.metas → ((x f : ℕ) → slot_of s x f ≡ slot_after c x f) → store_after s c ≡ s
 
 -- the slots other than the changed one stay
 pub record StaysElsewhere (c : Change) : Type 0 where

@@ -73,7 +73,7 @@ fn hold_value(cells: &mut Vec<Cell>, value: &Value, holder: Option<Holder>)
     }
 }
 
-fn hold_write(metas: &Metas, cells: &mut Vec<Cell>, write: &Write)
+pub fn hold_write(metas: &Metas, cells: &mut Vec<Cell>, write: &Write)
     requires { IsTrue (is_containment metas.now write.now.feature.0) → AllLive cells.old.items (has write.now.items) }
     ensures { AreHeldBy metas.now cells.old.items cells.new.items (write.now ∷ []) }
 {

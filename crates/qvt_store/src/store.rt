@@ -6,9 +6,11 @@ ghost use Rattle.qvt_store.specs.Contents.{is_live, is_extent, class_of, extent_
 ghost use Rattle.qvt_store.specs.Members.{AreEmpty};
 ghost use Rattle.qvt_store.specs.Fault.{IsAddFault};
 
+mod append;
 mod assign;
 mod change;
 mod check;
+mod place;
 mod plan;
 
 use crate::add::{add_cell, empty_slots};

@@ -36,7 +36,12 @@ impl Store {
     }
 
     /// The objects whose containment slots change.
-    fn released(&self, alloc: Global, draft: &Draft, writes: &[Write]) -> Result<OidList, ListFault>
+    pub fn released(
+        &self,
+        alloc: Global,
+        draft: &Draft,
+        writes: &[Write],
+    ) -> Result<OidList, ListFault>
         ensures { IfOk result (λ list. list ≡ released_of self.now.metas (slot_of self.now) draft.now writes.now) }
     {
         let mut list = Seq::new(alloc);

@@ -1,6 +1,6 @@
 //! The refusals of a change.
 
-ghost use Rattle.std.specs.Prelude.{◌≡◌, ◌↔◌, IsTrue, IfOk, IfErr, OnOk};
+ghost use Rattle.std.specs.Prelude.{◌≡◌, ◌↔◌, ◌++◌, ◌∷◌, [], IsTrue, IfOk, IfErr, OnOk};
 ghost use Rattle.std.specs.List.{list_any};
 ghost use Rattle.qvt_meta.specs.Metamodels.{opposite};
 ghost use Rattle.qvt_store.specs.Change.{among};
@@ -148,6 +148,14 @@ impl Store {
         ensures { result ≡ crosses self.now object.0 values.now }
     {
         self.is_model(self.extent_or_first(object)) && self.holds_elsewhere(object, values)
+    }
+
+    /// The same of the list with the value last.
+    pub fn crosses_with(&self, object: Oid, values: &[Value], value: &Value) -> bool
+        ensures { result ≡ crosses self.now object.0 (values.now ++ value.now ∷ []) }
+    {
+        self.is_model(self.extent_or_first(object))
+            && (self.holds_elsewhere(object, values) || self.is_elsewhere(object, value))
     }
 
     /// Whether the list holds an object of another extent than the object's.

@@ -1,7 +1,13 @@
 use Rattle.std.proofs.Common.{subst}
 use Rattle.qvt_store.specs.Contents.{Contents}
 use Rattle.qvt_store.specs.Ready.{IsKnown}
+use Rattle.qvt_store.proofs.Done.{nothing_told}
 use Rattle.qvt_store.proofs.store.Store.is_unique_feature.Goals as goal
 
 pub returns-clause-known : goal.returns-clause-known
-returns-clause-known c = subst IsKnown c.self.view_is (record { well_formed = c.self.invariant.whole.well_formed; acyclic = c.self.invariant.whole.acyclic; typed = c.self.invariant.typed })
+returns-clause-known c = subst IsKnown c.self.view_is (record {
+  well_formed = c.self.invariant.whole.well_formed;
+  acyclic = c.self.invariant.whole.acyclic;
+  typed = c.self.invariant.typed;
+  told = nothing_told c.self.inside.metas c.self.inside.extents c.self.inside.cells.items c.self.invariant.whole;
+})

@@ -1,0 +1,32 @@
+-- Cells that stand for the same keep the store.
+use Rattle.std.proofs.Common.{◌≡◌, ℕ, ◌≤◌, ◌<◌, Bool, true, refl, sym, ap, ◌∙◌, subst, List, length}
+use Rattle.qvt_base.specs.declared.numbers.Oid.{Oid}
+use Rattle.qvt_meta.specs.Metamodels.{Metamodels}
+use Rattle.qvt_store.specs.declared.cell.Cell.{Cell}
+use Rattle.qvt_store.specs.declared.extent.Extent.{Extent}
+use Rattle.qvt_store.specs.Slots.{has, Inside}
+use Rattle.qvt_store.specs.Contents.{Contents, Instance, slot_in, members_from}
+use Rattle.qvt_store.specs.Types.{AreTyped}
+use Rattle.qvt_store.specs.Repeats.{AreUnique}
+use Rattle.qvt_store.specs.Cells.{instances, contents_of, IsKept, IsSameCells}
+use Rattle.qvt_store.proofs.Holds.{same_count, have_same}
+
+pub same_kept : (m : Metamodels) (extents : List Extent) (old new : List Cell) (members : List (List Oid)) (distinct : Bool) → IsSameCells old new → IsKept m extents old members distinct → IsKept m extents new members distinct
+same_kept m extents old new members distinct same kept' = record {
+  whole = record {
+    well_formed = kept'.whole.well_formed;
+    few = subst (λ n. n ≤ 1000000) (sym (same_count old new same.objects)) kept'.whole.few;
+    have_slots = have_same m old new same.objects kept'.whole.have_slots;
+    holders = record {
+      held = λ x f y k h. same.holders y ∙ kept'.whole.holders.held x f y k (ap (λ (l : List Instance). has (slot_in m l x f) y) (sym same.objects) ∙ h);
+      contains = λ h y e. let r = kept'.whole.holders.contains h y (sym (same.holders y) ∙ e) in (r.0, ap (λ (l : List Instance). has (slot_in m l h.object.0 h.feature.0) y) same.objects ∙ r.1);
+    };
+    acyclic = λ x i. kept'.whole.acyclic x (subst (λ (l : List Instance). Inside m (slot_in m l) x x) same.objects i);
+  };
+  typed = subst (λ (l : List Instance). AreTyped (record { metas = m; extents = extents; objects = l })) (sym same.objects) kept'.typed;
+  listed = record { count = kept'.listed.count; lists = λ e h. kept'.listed.lists e h ∙ ap (λ (l : List Instance). members_from 0 l e) (sym same.objects) };
+  unique = λ t. subst (λ (l : List Instance). AreUnique (record { metas = m; extents = extents; objects = l })) (sym same.objects) (kept'.unique t);
+}
+
+pub same_view : (m : Metamodels) (extents : List Extent) (old new : List Cell) → IsSameCells old new → contents_of m extents new ≡ contents_of m extents old
+same_view m extents old new same = ap (λ (l : List Instance). record { metas = m; extents = extents; objects = l }) same.objects

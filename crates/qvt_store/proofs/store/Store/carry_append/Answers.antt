@@ -1,0 +1,47 @@
+use Rattle.std.proofs.Common.{◌≡◌, ◌∙◌, ◌<◌, ◌++◌, ◌∷◌, [], sym, ap, subst, List, ℕ, true, length, get_or}
+use Rattle.qvt_base.specs.declared.numbers.Oid.{Oid}
+use Rattle.qvt_store.specs.Contents.{Contents, slot_in, slot_of}
+use Rattle.qvt_store.specs.Assign.{change_to, store_after}
+use Rattle.qvt_store.specs.Cells.{instances}
+use Rattle.qvt_store.specs.Ready.{Ready}
+use Rattle.qvt_store.proofs.Done.{writes_live, items_live, released_live, added_live, kept_whole, gives_store}
+use Rattle.qvt_store.proofs.Moved.{moved_live, moved_write, slot_there, cells_live}
+use Rattle.qvt_store.proofs.SameCells.{same_kept, same_view}
+use Rattle.qvt_store.proofs.store.Store.carry_append.Goals as goal
+
+pub push_value-requires : goal.push_value-requires
+push_value-requires c =
+    let ready = (subst (λ (s : Contents). Ready s c.args.draft.now (slot_of s c.args.draft.now.object.0 c.args.draft.now.feature.0 ++ c.args.value ∷ []) c.args.writes.items c.args.released.now) (sym c.self.view_is) c.requires) in
+    record {
+      live = cells_live c.self.inside.metas c.self.inside.extents c.self.inside.cells.items c.args.draft.now.object.0 c.args.draft.now.feature.0 ready.fit.slot;
+      there = slot_there c.self.inside.metas c.self.inside.extents c.self.inside.cells.items c.args.draft.now.object.0 c.args.draft.now.feature.0 ready.fit.slot;
+      have_slots = c.self.invariant.whole.have_slots;
+    }
+
+pub invariant_of-self : goal.invariant_of-self
+invariant_of-self c = same_kept c.self.inside.metas c.self.inside.extents c.self.inside.cells.items c.push_value.new.cells.items c.self.inside.members.items c.self.inside.distinct c.in_err-push_value.ensures.err c.self.invariant
+
+pub settle-requires : goal.settle-requires
+settle-requires c =
+    let ready = (subst (λ (s : Contents). Ready s c.args.draft.now (slot_of s c.args.draft.now.object.0 c.args.draft.now.feature.0 ++ c.args.value ∷ []) c.args.writes.items c.args.released.now) (sym c.self.view_is) c.requires) in
+    let put = c.in_ok-push_value.ensures.ok in
+    record {
+      have_slots = put.objects.have_slots;
+      writes = λ k w h. moved_write c.self.inside.metas c.self.inside.cells.items c.push_value.new.cells.items (get_or c.args.writes.items k w) put.objects (writes_live c.self.inside.metas c.self.inside.extents c.self.inside.cells.items c.args.draft.now (slot_in c.self.inside.metas (instances c.self.inside.cells.items) c.args.draft.now.object.0 c.args.draft.now.feature.0 ++ c.args.value ∷ []) c.args.writes.items c.args.released.now c.self.invariant.whole ready k w h);
+      items = λ k w h cont. moved_live c.self.inside.metas c.self.inside.cells.items c.push_value.new.cells.items _ put.objects (items_live c.self.inside.metas c.self.inside.extents c.self.inside.cells.items c.args.draft.now (slot_in c.self.inside.metas (instances c.self.inside.cells.items) c.args.draft.now.object.0 c.args.draft.now.feature.0 ++ c.args.value ∷ []) c.args.writes.items c.args.released.now c.self.invariant.whole ready k w h cont);
+      released = moved_live c.self.inside.metas c.self.inside.cells.items c.push_value.new.cells.items _ put.objects (released_live c.self.inside.metas c.self.inside.extents c.self.inside.cells.items c.args.draft.now (slot_in c.self.inside.metas (instances c.self.inside.cells.items) c.args.draft.now.object.0 c.args.draft.now.feature.0 ++ c.args.value ∷ []) c.args.writes.items c.args.released.now c.self.invariant.whole ready);
+      added = moved_live c.self.inside.metas c.self.inside.cells.items c.push_value.new.cells.items _ put.objects (added_live c.self.inside.metas c.self.inside.extents c.self.inside.cells.items c.args.draft.now (slot_in c.self.inside.metas (instances c.self.inside.cells.items) c.args.draft.now.object.0 c.args.draft.now.feature.0 ++ c.args.value ∷ []) c.args.writes.items c.args.released.now c.self.invariant.whole ready);
+    }
+
+pub invariant_of-self-2 : goal.invariant_of-self-2
+invariant_of-self-2 c =
+    let ready = (subst (λ (s : Contents). Ready s c.args.draft.now (slot_of s c.args.draft.now.object.0 c.args.draft.now.feature.0 ++ c.args.value ∷ []) c.args.writes.items c.args.released.now) (sym c.self.view_is) c.requires) in
+    kept_whole c.self.inside.metas c.self.inside.extents c.self.inside.cells.items c.args.draft.now (slot_in c.self.inside.metas (instances c.self.inside.cells.items) c.args.draft.now.object.0 c.args.draft.now.feature.0 ++ c.args.value ∷ []) c.args.writes.items c.args.released.now c.self.invariant.whole ready
+    c.push_value.new.cells.items c.settle.new.cells.items c.in_ok-push_value.ensures.ok c.settle.ensures c.self.inside.members.items c.self.inside.distinct c.self.invariant
+
+pub returns-clause-ok : goal.returns-clause-ok
+returns-clause-ok c =
+    let ready = (subst (λ (s : Contents). Ready s c.args.draft.now (slot_of s c.args.draft.now.object.0 c.args.draft.now.feature.0 ++ c.args.value ∷ []) c.args.writes.items c.args.released.now) (sym c.self.view_is) c.requires) in
+    gives_store c.self.inside.metas c.self.inside.extents c.self.inside.cells.items c.args.draft.now (slot_in c.self.inside.metas (instances c.self.inside.cells.items) c.args.draft.now.object.0 c.args.draft.now.feature.0 ++ c.args.value ∷ []) c.args.writes.items c.args.released.now c.self.invariant.whole ready
+    c.push_value.new.cells.items c.settle.new.cells.items c.in_ok-push_value.ensures.ok c.settle.ensures
+    ∙ ap (λ (s : Contents). store_after s (change_to s c.args.draft.now.object.0 c.args.draft.now.feature.0 (slot_of s c.args.draft.now.object.0 c.args.draft.now.feature.0 ++ c.args.value ∷ []))) c.self.view_is

@@ -1,0 +1,37 @@
+use Rattle.std.proofs.Common.{◌≡◌, ◌∙◌, sym, ap, subst, ◌&&◌, not, List}
+use Rattle.qvt_value.specs.declared.value.Value.{Value}
+use Rattle.qvt_meta.specs.Metamodels.{shape_of}
+use Rattle.qvt_store.specs.Contents.{Contents, with_slot}
+use Rattle.qvt_store.specs.Repeats.{repeats}
+use Rattle.qvt_store.specs.Place.{IsPlaceable}
+use Rattle.qvt_store.proofs.Holds.{have_same}
+use Rattle.qvt_store.proofs.Placed.{placed_kept, gives_placed, items_there, still_distinct, mid_live, mid_there}
+use Rattle.qvt_store.proofs.store.Store.load.Goals as goal
+
+pub hold_write-requires : goal.hold_write-requires
+hold_write-requires c _ =
+    let can = subst (λ (s : Contents). IsPlaceable s c.args.write.object.0 c.args.write.feature.0 c.args.write.items) (sym c.self.view_is) c.requires in
+    items_there c.self.inside.metas c.self.inside.extents c.self.inside.cells.items c.args.write.object.0 c.args.write.feature.0 c.args.write.items can
+
+pub put-requires : goal.put-requires
+put-requires c =
+    let can = subst (λ (s : Contents). IsPlaceable s c.args.write.object.0 c.args.write.feature.0 c.args.write.items) (sym c.self.view_is) c.requires in
+    record {
+      live = mid_live c.self.inside.metas c.self.inside.extents c.self.inside.cells.items c.hold_write.new.cells.items c.args.write.object.0 c.args.write.feature.0 c.args.write.items can c.hold_write.ensures.objects;
+      there = mid_there c.self.inside.metas c.self.inside.extents c.self.inside.cells.items c.hold_write.new.cells.items c.args.write.object.0 c.args.write.feature.0 c.args.write.items can c.hold_write.ensures.objects;
+      have_slots = have_same c.self.inside.metas c.self.inside.cells.items c.hold_write.new.cells.items c.hold_write.ensures.objects c.self.invariant.whole.have_slots;
+    }
+
+pub invariant_of-self : goal.invariant_of-self
+invariant_of-self c =
+    let can = subst (λ (s : Contents). IsPlaceable s c.args.write.object.0 c.args.write.feature.0 c.args.write.items) (sym c.self.view_is) c.requires in
+    placed_kept c.self.inside.metas c.self.inside.extents c.self.inside.cells.items c.hold_write.new.cells.items c.put.new.cells.items c.args.write can c.hold_write.ensures c.put.ensures c.self.invariant.whole
+    c.self.inside.members.items c.self.inside.distinct c.stays_distinct-self-inside.result c.self.invariant
+    (still_distinct c.self.inside.metas c.args.write.feature.0 c.args.write.items c.self.inside.distinct c.stays_distinct-self-inside.result
+    (c.stays_distinct-self-inside.ensures ∙ ap (λ (l : List Value). c.self.inside.distinct && not ((shape_of c.self.inside.metas c.args.write.feature.0).unique && repeats l)) c.as_slice.ensures))
+
+pub returns : goal.returns
+returns c =
+    let can = subst (λ (s : Contents). IsPlaceable s c.args.write.object.0 c.args.write.feature.0 c.args.write.items) (sym c.self.view_is) c.requires in
+    gives_placed c.self.inside.metas c.self.inside.extents c.self.inside.cells.items c.hold_write.new.cells.items c.put.new.cells.items c.args.write can c.hold_write.ensures c.put.ensures
+    ∙ ap (λ (s : Contents). with_slot s c.args.write.object.0 c.args.write.feature.0 c.args.write.items) c.self.view_is

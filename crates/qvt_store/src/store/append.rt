@@ -1,0 +1,208 @@
+//! Values put last in slots, with all that follows for the other slots.
+
+ghost use Rattle.std.specs.Prelude.{◌≡◌, ◌≢◌, ◌++◌, ◌∷◌, [], Ok, Err, IsTrue, IfOk, IfErr, OnOk, OnErr};
+ghost use Rattle.qvt_store.specs.Contents.{slot_of};
+ghost use Rattle.qvt_store.specs.Repeats.{new_list, AreUnique};
+ghost use Rattle.qvt_store.specs.Assign.{append, crosses, change_to, store_after};
+ghost use Rattle.qvt_store.specs.Types.{IsAssignable};
+ghost use Rattle.qvt_store.specs.Ready.{IsKnown, Ready};
+
+use crate::commit::{Write, settle};
+use crate::draft::Draft;
+use crate::fault::StoreFault;
+use crate::put::push_value;
+use crate::store::Store;
+use crate::values::{copied, holds_value, push_value_beyond};
+use qvt_base::copied::Copied;
+use qvt_base::list_fault::ListFault;
+use qvt_base::numbers::{FeatureNo, Oid};
+use qvt_base::seq::Seq;
+use qvt_value::value::{Value, Values};
+use std::alloc::Global;
+
+impl Store {
+    /// Puts a value last in a slot, with all that follows for the other slots: opposites and
+    /// containers. In a unique slot that holds the value nothing is put. The refusals are those of an
+    /// assignment of the whole list; after each of them, and for want of memory, the store is
+    /// unchanged. The list itself is not copied.
+    pub fn append(
+        &mut self,
+        alloc: Global,
+        object: Oid,
+        feature: FeatureNo,
+        value: &Value,
+    ) -> Result<(), StoreFault>
+        requires { IsAssignable self.old object.0 feature.0 (value.now ∷ []) }
+        ensures ok { OnOk result (append self.old object.0 feature.0 value.now ≡ Ok self.new) }
+        ensures refused { IfErr result (λ fault. fault ≢ StoreFault.NoMemory → append self.old object.0 feature.0 value.now ≡ Err fault) }
+        ensures err { OnErr result (self.new ≡ self.old) }
+    {
+        let unique = self.is_unique_feature(feature);
+        if !unique {
+            match self.append_last(alloc, object, feature, value) {
+                Ok(()) => return Ok(()),
+                Err(fault) => return Err(fault),
+            }
+        }
+        if !self.is_distinct() {
+            match self.append_whole(alloc, object, feature, value) {
+                Ok(()) => return Ok(()),
+                Err(fault) => return Err(fault),
+            }
+        }
+        if holds_value(self.list(object, feature), value) {
+            match self.append_none(alloc, object, feature, value) {
+                Ok(()) => return Ok(()),
+                Err(fault) => return Err(fault),
+            }
+        }
+        match self.append_last(alloc, object, feature, value) {
+            Ok(()) => Ok(()),
+            Err(fault) => Err(fault),
+        }
+    }
+
+    /// Whether it is known that no unique slot holds a value twice.
+    fn is_distinct(&self) -> bool
+        ensures { IsTrue result → AreUnique self.now }
+    {
+        self.distinct
+    }
+
+    /// The list of a slot, and the value last.
+    fn appended(
+        &self,
+        alloc: Global,
+        object: Oid,
+        feature: FeatureNo,
+        value: &Value,
+    ) -> Result<Values, ListFault>
+        ensures { IfOk result (λ list. list ≡ slot_of self.now object.0 feature.0 ++ value.now ∷ []) }
+    {
+        let mut list = copied(alloc, self.list(object, feature))?;
+        list.push(value.copy(alloc)?)?;
+        Ok(list)
+    }
+
+    /// As an assignment of the whole list.
+    fn append_whole(
+        &mut self,
+        alloc: Global,
+        object: Oid,
+        feature: FeatureNo,
+        value: &Value,
+    ) -> Result<(), StoreFault>
+        requires can { IsAssignable self.old object.0 feature.0 (value.now ∷ []) }
+        requires known { IsKnown self.old }
+        ensures ok { OnOk result (append self.old object.0 feature.0 value.now ≡ Ok self.new) }
+        ensures refused { IfErr result (λ fault. fault ≢ StoreFault.NoMemory → append self.old object.0 feature.0 value.now ≡ Err fault) }
+        ensures err { OnErr result (self.new ≡ self.old) }
+    {
+        let list = self.appended(alloc, object, feature, value)?;
+        match self.assign(alloc, object, feature, list.as_slice()) {
+            Ok(()) => Ok(()),
+            Err(fault) => Err(fault),
+        }
+    }
+
+    /// Where the slot holds the value: it is judged, and stays.
+    fn append_none(
+        &mut self,
+        alloc: Global,
+        object: Oid,
+        feature: FeatureNo,
+        _value: &Value,
+    ) -> Result<(), StoreFault>
+        requires can { IsAssignable self.old object.0 feature.0 (_value.now ∷ []) }
+        requires known { IsKnown self.old }
+        requires same { new_list self.old.metas feature.0 (slot_of self.old object.0 feature.0 ++ _value.now ∷ []) ≡ slot_of self.old object.0 feature.0 }
+        ensures ok { OnOk result (append self.old object.0 feature.0 _value.now ≡ Ok self.new) }
+        ensures refused { IfErr result (λ fault. fault ≢ StoreFault.NoMemory → append self.old object.0 feature.0 _value.now ≡ Err fault) }
+        ensures err { OnErr result (self.new ≡ self.old) }
+    {
+        let added = Seq::new(alloc);
+        let removed = Seq::new(alloc);
+        let draft = Draft {
+            object,
+            feature,
+            added,
+            removed,
+        };
+        let old = self.list(object, feature);
+        match self.check(alloc, &draft, old.len()) {
+            Err(fault) => return Err(fault),
+            Ok(()) => {}
+        }
+        if self.crosses(object, self.list(object, feature)) {
+            return Err(StoreFault::CrossModel);
+        }
+        Ok(())
+    }
+
+    /// Where the value is put last.
+    fn append_last(
+        &mut self,
+        alloc: Global,
+        object: Oid,
+        feature: FeatureNo,
+        value: &Value,
+    ) -> Result<(), StoreFault>
+        requires can { IsAssignable self.old object.0 feature.0 (value.now ∷ []) }
+        requires known { IsKnown self.old }
+        requires last { new_list self.old.metas feature.0 (slot_of self.old object.0 feature.0 ++ value.now ∷ []) ≡ slot_of self.old object.0 feature.0 ++ value.now ∷ [] }
+        ensures ok { OnOk result (append self.old object.0 feature.0 value.now ≡ Ok self.new) }
+        ensures refused { IfErr result (λ fault. fault ≢ StoreFault.NoMemory → append self.old object.0 feature.0 value.now ≡ Err fault) }
+        ensures err { OnErr result (self.new ≡ self.old) }
+    {
+        let mut added = Seq::new(alloc);
+        push_value_beyond(&mut added, self.list(object, feature), value)?;
+        let draft = Draft {
+            object,
+            feature,
+            added,
+            removed: Seq::new(alloc),
+        };
+        let Some(count) = self.list(object, feature).len().checked_add(1) else {
+            return Err(StoreFault::NoMemory);
+        };
+        match self.check(alloc, &draft, count) {
+            Err(fault) => return Err(fault),
+            Ok(()) => {}
+        }
+        if self.crosses_with(object, self.list(object, feature), value) {
+            return Err(StoreFault::CrossModel);
+        }
+        let Ok(writes) = self.plan(alloc, &draft) else {
+            return Err(StoreFault::NoMemory);
+        };
+        let released = self.released(alloc, &draft, &writes)?;
+        let copy = value.copy(alloc)?;
+        match self.carry_append(&draft, copy, writes, released.as_slice()) {
+            Ok(()) => Ok(()),
+            Err(_) => Err(StoreFault::NoMemory),
+        }
+    }
+
+    /// Carries out a change that puts the value last in the changed slot.
+    fn carry_append(
+        &mut self,
+        draft: &Draft,
+        value: Value,
+        writes: Vec<Write>,
+        released: &[Oid],
+    ) -> Result<(), ListFault>
+        requires { Ready self.old draft.now (slot_of self.old draft.now.object.0 draft.now.feature.0 ++ value ∷ []) writes.items released.now }
+        ensures ok { OnOk result (self.new ≡ store_after self.old (change_to self.old draft.now.object.0 draft.now.feature.0 (slot_of self.old draft.now.object.0 draft.now.feature.0 ++ value ∷ []))) }
+        ensures err { OnErr result (self.new ≡ self.old) }
+    {
+        push_value(
+            &self.metas,
+            &mut self.cells,
+            draft.object,
+            draft.feature,
+            value,
+        )?;
+        settle(&self.metas, &mut self.cells, draft, writes, released);
+        Ok(())
+    }
+}

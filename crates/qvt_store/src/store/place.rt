@@ -1,0 +1,71 @@
+//! Slots loaded.
+
+ghost use Rattle.std.specs.Prelude.{◌≡◌, ◌&&◌, not, IfErr, OnOk, OnErr};
+ghost use Rattle.qvt_meta.specs.Metamodels.{shape_of};
+ghost use Rattle.qvt_store.specs.Repeats.{repeats};
+ghost use Rattle.qvt_store.specs.Contents.{with_slot};
+ghost use Rattle.qvt_store.specs.Place.{IsPlaceable};
+
+use crate::commit::{Write, hold_write};
+use crate::fault::StoreFault;
+use crate::features::is_unique;
+use crate::put::put;
+use crate::store::Store;
+use crate::values::{copied, repeats};
+use qvt_base::numbers::{FeatureNo, Oid};
+use qvt_meta::metas::Metas;
+use qvt_value::value::Value;
+use std::alloc::Global;
+
+impl Store {
+    /// Sets an empty slot, and nothing else, in an extent of every direction. A refused call
+    /// changes nothing.
+    pub fn place(
+        &mut self,
+        alloc: Global,
+        object: Oid,
+        feature: FeatureNo,
+        values: &[Value],
+    ) -> Result<(), StoreFault>
+        requires { IsPlaceable self.old object.0 feature.0 values.now }
+        ensures ok { OnOk result (self.new ≡ with_slot self.old object.0 feature.0 values.now) }
+        ensures refused { IfErr result (λ fault. fault ≡ StoreFault.NoMemory) }
+        ensures err { OnErr result (self.new ≡ self.old) }
+    {
+        let items = copied(alloc, values)?;
+        let write = Write {
+            object,
+            feature,
+            items,
+        };
+        self.load(write);
+        Ok(())
+    }
+
+    fn load(&mut self, write: Write)
+        requires { IsPlaceable self.old write.object.0 write.feature.0 write.items }
+        ensures { self.new ≡ with_slot self.old write.object.0 write.feature.0 write.items }
+    {
+        self.distinct = stays_distinct(
+            &self.metas,
+            self.distinct,
+            write.feature,
+            write.items.as_slice(),
+        );
+        hold_write(&self.metas, &mut self.cells, &write);
+        put(
+            &self.metas,
+            &mut self.cells,
+            write.object,
+            write.feature,
+            write.items,
+        );
+    }
+}
+
+/// Whether no unique slot holds a value twice, where one more slot gets this list.
+fn stays_distinct(metas: &Metas, distinct: bool, feature: FeatureNo, values: &[Value]) -> bool
+    ensures { result ≡ (distinct && not ((shape_of metas.now feature.0).unique && repeats values.now)) }
+{
+    distinct && !(is_unique(metas, feature) && repeats(values))
+}
