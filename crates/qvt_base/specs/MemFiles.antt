@@ -1,11 +1,14 @@
 -- What files in memory hold: under each name the newest bytes written there.
-use Rattle.std.specs.Prelude.{ℕ, List, map, ⊤}
+use Rattle.std.specs.Prelude.{ℕ, ◌+◌, ◌-◌, ◌^◌, ◌==◌, ◌≢◌, ◌≡◌, List, map, min, ⊤, Bool, true, false}
+use Rattle.std.specs.List.{list_any}
 use Rattle.std.specs.FinMap as finite
 use Rattle.qvt_base.specs.Outside.{Held}
 use Rattle.qvt_base.specs.declared.mem_files.Entry.{Entry}
 use Rattle.qvt_base.specs.declared.mem_files.MemFiles.{MemFiles}
 use Rattle.qvt_base.specs.declared.outside.ReadAnswer.{ReadAnswer}
 use Rattle.qvt_base.specs.declared.outside.ReadAnswer.TheVariants as read
+use Rattle.qvt_base.specs.declared.outside.WriteAnswer.{WriteAnswer}
+use Rattle.qvt_base.specs.declared.outside.WriteAnswer.TheVariants as write
 
 abbrev pub pairs : List Entry → List (List ℕ × List ℕ)
 pairs entries = map (λ e. (e.name, e.bytes)) entries
@@ -27,3 +30,27 @@ IsUnread read.Missing = ⊥
 IsUnread read.TooLarge = ⊥
 IsUnread read.Failed = ⊤
 IsUnread read.NoMemory = ⊤
+
+-- the number of the coming call, the first being 1; it stops at the greatest number of 64 bits
+abbrev pub next_call : ℕ → ℕ
+next_call calls = min (calls + 1) (2 ^ 64 - 1)
+
+abbrev pub is_listed : List ℕ → ℕ → Bool
+is_listed numbers call = list_any (λ number. number == call) numbers
+
+-- the coming call stands in the list of those that are to fail
+abbrev pub is_to_fail : MemFiles → Bool
+is_to_fail f = is_listed f.failing (next_call f.calls)
+
+abbrev pub after_call : MemFiles → MemFiles
+after_call f = record f { calls = next_call f.calls }
+
+-- a read that is to fail gives nothing, and no other read fails
+abbrev pub FailsAsListed : Bool → ReadAnswer → Type 0
+FailsAsListed true answer = IsUnread answer
+FailsAsListed false answer = answer ≢ read.Failed
+
+-- a write that is to fail fails
+abbrev pub FailsWhereListed : Bool → WriteAnswer → Type 0
+FailsWhereListed true answer = answer ≡ write.Failed
+FailsWhereListed false answer = ⊤

@@ -1,8 +1,8 @@
 ghost use Rattle.std.specs.Prelude.{◌≡◌, ◌≢◌, OnOk, OnErr, Some, []};
 ghost use Rattle.std.specs.Option.{option_copied};
 ghost use Rattle.std.specs.FinMap as map;
-ghost use Rattle.qvt_base.specs.Outside.{Reads, IsWithin, failed_after, ReadCause, WriteCause};
-ghost use Rattle.qvt_base.specs.MemFiles.{held_of, held_in, failed_in, IsUnread};
+ghost use Rattle.qvt_base.specs.Outside.{Reads, IsWithin, failed_after, ReadCause, Writes, WriteCause, IfWriteFailed};
+ghost use Rattle.qvt_base.specs.MemFiles.{held_of, held_in, failed_in, IsUnread, after_call, is_to_fail, FailsAsListed, FailsWhereListed};
 
 use crate::copied::Copied;
 use crate::lists::{Bytes, CallList, NameList};
@@ -74,6 +74,8 @@ impl MemFiles {
         ensures failed { failed_in result ≡ [] }
         ensures reads { result.read_faults ≡ 0 }
         ensures writes { result.write_faults ≡ 0 }
+        ensures failing { result.failing ≡ failing }
+        ensures calls { result.calls ≡ 0 }
     {
         MemFiles {
             log: VecDeque::new(alloc),
@@ -106,7 +108,8 @@ impl MemFiles {
 
     /// Counts a call, and tells whether it is to fail.
     fn is_failing(&mut self) -> bool
-        ensures { self.new ≡ record self.old { calls = self.new.calls } }
+        ensures answer { result ≡ is_to_fail self.old }
+        ensures after { self.new ≡ after_call self.old }
     {
         self.calls = self.calls.saturating_add(1);
         let calls = self.calls;
@@ -129,6 +132,8 @@ impl MemFiles {
         ensures failed { Some (failed_in self.new) ≡ failed_after (Some (failed_in self.old)) name.now result }
         ensures cause { ReadCause self.old.read_faults self.new.read_faults result }
         ensures writes { self.new.write_faults ≡ self.old.write_faults }
+        ensures calls { self.new.calls ≡ self.old.calls }
+        ensures failing { self.new.failing ≡ self.old.failing }
         ensures answer { IsUnread result }
     {
         let Ok(name) = Text::from_str(alloc, name) else {
@@ -169,14 +174,36 @@ impl Files for MemFiles {
 
     ghost write_faults = { λ f. f.write_faults };
 
-    fn read(&mut self, alloc: Global, name: &str, limit: u32) -> ReadAnswer {
+    /// It fails exactly where the number of the call is listed; where there is no memory for the
+    /// name of a failed read, the answer is NoMemory.
+    fn read(&mut self, alloc: Global, name: &str, limit: u32) -> ReadAnswer
+        ensures answer { Reads (Some (held_in self.old)) name.now limit result }
+        ensures within { IsWithin limit result }
+        ensures held { Some (held_in self.new) ≡ Some (held_in self.old) }
+        ensures failed { Some (failed_in self.new) ≡ failed_after (Some (failed_in self.old)) name.now result }
+        ensures cause { ReadCause self.old.read_faults self.new.read_faults result }
+        ensures writes { self.new.write_faults ≡ self.old.write_faults }
+        ensures listed { FailsAsListed (is_to_fail self.old) result }
+        ensures calls { self.new.calls ≡ (after_call self.old).calls }
+        ensures failing { self.new.failing ≡ self.old.failing }
+    {
         if self.is_failing() {
             return self.fail_read(alloc, name);
         }
         read_from(alloc, &self.log, name, limit)
     }
 
-    fn write(&mut self, name: &str, bytes: &[u8]) -> WriteAnswer {
+    /// It fails where the number of the call is listed, and where there is no memory for the bytes.
+    fn write(&mut self, name: &str, bytes: &[u8]) -> WriteAnswer
+        ensures answer { Writes (Some (held_in self.old)) name.now bytes.now (Some (held_in self.new)) result }
+        ensures failed { Some (failed_in self.new) ≡ Some (failed_in self.old) }
+        ensures cause { WriteCause self.old.write_faults self.new.write_faults result }
+        ensures reads { self.new.read_faults ≡ self.old.read_faults }
+        ensures kept { IfWriteFailed result (held_in self.new ≡ held_in self.old) }
+        ensures listed { FailsWhereListed (is_to_fail self.old) result }
+        ensures calls { self.new.calls ≡ (after_call self.old).calls }
+        ensures failing { self.new.failing ≡ self.old.failing }
+    {
         if self.is_failing() {
             return self.fail_write();
         }
