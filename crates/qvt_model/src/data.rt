@@ -7,7 +7,7 @@ use qvt_base::text::Text;
 use qvt_value::value::LiteralRef;
 
 /// An item of a slot.
-#[derive(Debug, Drop)]
+#[derive(Debug, Drop, PartialEq, Eq, Hash)]
 pub enum Datum {
     Bool(bool),
     Int(i64),

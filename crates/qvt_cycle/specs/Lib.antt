@@ -1,0 +1,4 @@
+pub mod Counts
+pub mod Ready
+pub mod Search
+pub mod Successors
