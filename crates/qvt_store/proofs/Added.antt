@@ -14,14 +14,15 @@ use Rattle.qvt_store.specs.declared.cell.Holder.{Holder}
 use Rattle.qvt_store.specs.declared.cell.Cell.{Cell}
 use Rattle.qvt_store.specs.declared.extent.Extent.{Extent}
 use Rattle.qvt_store.specs.Slots.{Slots, has, Contains, Inside, directly, through}
-use Rattle.qvt_store.specs.Contents.{Instance, no_instance, is_live, class_of, list_of, slot_in}
+use Rattle.qvt_store.specs.Contents.{Instance, AreNamed, no_instance, is_live, class_of, slot_in}
 use Rattle.qvt_store.specs.Types.{is_of_type}
 use Rattle.qvt_store.specs.Repeats.{repeats, AreUnique}
 use Rattle.qvt_store.specs.Cells.{instance_of, instances, contents_of, holder_at, AreWhole, IsKept}
 use Rattle.qvt_store.specs.Members.{AreEmpty}
-use Rattle.qvt_store.proofs.Lists.{length-push, below_end, at_end, past_end}
-use Rattle.qvt_store.proofs.Places.{no_lists, list_of-nil}
-use Rattle.qvt_store.proofs.Cells.{length-instances, dead_slot}
+use Rattle.qvt_store.proofs.Lists.{length-push, below_end, at_end, length-map}
+use Rattle.qvt_store.proofs.Places.{list_of-nil}
+use Rattle.qvt_store.proofs.Instances.{slot-push}
+use Rattle.qvt_store.proofs.Cells.{length-instances}
 use Rattle.qvt_store.proofs.Members.{members_added, no_members}
 use Rattle.qvt_store.proofs.Typed.{all_kept}
 
@@ -39,27 +40,15 @@ holder-push [] k (suc y) e = refl
 holder-push (cell ∷ cells) k zero e = refl
 holder-push (cell ∷ cells) k (suc y) e = holder-push cells k y e
 
-length-mapped : (gs : List FeatureNo) → length (map (λ (g : FeatureNo). let l : List Value = [] in l) gs) ≡ length gs
-length-mapped [] = refl
-length-mapped (g ∷ gs) = ap suc (length-mapped gs)
-
 module _ (m : Metamodels) (cells : List Cell) (k : Cell) (kept : AreWhole m cells) (room : length cells < 1000000) (no_holder : k.holder ≡ None)
     (no_slots : k.slots.items ≡ map (λ _. []) (features_of m k.class.0)) where
   pub same_slots : (x f : ℕ) → slot_in m (instances (cells ++ k ∷ [])) x f ≡ slot_in m (instances cells) x f
-  same_slots x f = ap (λ (l : List Instance). slot_in m l x f) (instances-push cells k) ∙ elim (cases_order x (length (instances cells))) [
-    | inl e ↦ subst (λ n. slot_in m (instances cells ++ instance_of k ∷ []) n f ≡ slot_in m (instances cells) n f) (sym e)
-        (ap (λ (ob : Instance). list_of (features_of m ob.class) ob.slots f) (at_end (instances cells) (instance_of k) no_instance)
-        ∙ ap (λ l. list_of (features_of m k.class.0) l f) no_slots ∙ no_lists (features_of m k.class.0) f
-        ∙ sym (dead_slot m cells (length (instances cells)) f (subst (λ n. length cells ≤ n) (sym (length-instances cells)) (omega arith))))
-    | inr (inl l) ↦ ap (λ (ob : Instance). list_of (features_of m ob.class) ob.slots f) (below_end (instances cells) (instance_of k) x no_instance l)
-    | inr (inr l) ↦ ap (λ (ob : Instance). list_of (features_of m ob.class) ob.slots f) (past_end (instances cells ++ instance_of k ∷ []) x no_instance (subst (λ n. n ≤ x) (sym (length-push (instances cells) (instance_of k))) (omega arith)))
-        ∙ sym (ap (λ (ob : Instance). list_of (features_of m ob.class) ob.slots f) (past_end (instances cells) x no_instance (omega arith)))
-  ]
+  same_slots x f = ap (λ (l : List Instance). slot_in m l x f) (instances-push cells k) ∙ slot-push m (instances cells) (instance_of k) no_slots x f
 
   full : (x : ℕ) → x < suc (length cells) → length (slice_index_or (instances cells ++ instance_of k ∷ []) x no_instance).slots ≡ length (features_of m (slice_index_or (instances cells ++ instance_of k ∷ []) x no_instance).class)
   full x h = elim (cases_order x (length (instances cells))) [
     | inl e ↦ subst (λ n. length (slice_index_or (instances cells ++ instance_of k ∷ []) n no_instance).slots ≡ length (features_of m (slice_index_or (instances cells ++ instance_of k ∷ []) n no_instance).class)) (sym e)
-        (ap (λ (ob : Instance). length ob.slots) (at_end (instances cells) (instance_of k) no_instance) ∙ ap length no_slots ∙ length-mapped (features_of m k.class.0)
+        (ap (λ (ob : Instance). length ob.slots) (at_end (instances cells) (instance_of k) no_instance) ∙ ap length no_slots ∙ length-map (λ (g : FeatureNo). let l : List Value = [] in l) (features_of m k.class.0)
         ∙ sym (ap (λ (ob : Instance). length (features_of m ob.class)) (at_end (instances cells) (instance_of k) no_instance)))
     | inr (inl l) ↦ ap (λ (ob : Instance). length ob.slots) (below_end (instances cells) (instance_of k) x no_instance l)
         ∙ kept.have_slots.slots x (subst (λ n. x < n) (length-instances cells) l)
@@ -99,6 +88,7 @@ module _ (m : Metamodels) (cells : List Cell) (k : Cell) (kept : AreWhole m cell
         types = λ x f. subst (λ (l : List Value). list_all (is_of_type (contents_of m extents (cells ++ k ∷ [])) f) l ≡ true) (sym (same_slots x f))
             (all_kept (contents_of m extents cells) (contents_of m extents (cells ++ k ∷ [])) refl stays f (slot_in m (instances cells) x f) (store.typed.types x f));
       };
+      named = store.named;
       listed = members_added extents cells (cells ++ k ∷ []) k members lists (length cells) (length-instances cells) (instances-push cells k) live is store.listed;
       unique = λ d. let u : AreUnique (contents_of m extents cells) = store.unique d in record { unique = λ x f t. ap repeats (same_slots x f) ∙ u.unique x f t };
     }
@@ -114,8 +104,8 @@ empties_more gs i d h = ap (λ (l : List FeatureNo). map (λ (g : FeatureNo). le
 pub no_slots : (m : Metamodels) (x f : ℕ) → slot_in m [] x f ≡ []
 no_slots m x f = list_of-nil (features_of m 0) f
 
-pub empty_kept : (m : Metamodels) (extents : List Extent) (lists : List (List Oid)) → IsWellFormed m → AreEmpty (length extents) lists → IsKept m extents [] lists true
-empty_kept m extents lists well are = record {
+pub empty_kept : (m : Metamodels) (extents : List Extent) (lists : List (List Oid)) → IsWellFormed m → AreNamed m extents → AreEmpty (length extents) lists → IsKept m extents [] lists true
+empty_kept m extents lists well named are = record {
   whole = record {
     well_formed = well;
     few = omega arith;
@@ -128,6 +118,7 @@ empty_kept m extents lists well are = record {
         let k : Contains m (slot_in m []) x r.0 = r.1 in none x k.feature r.0 k.held;
   };
   typed = record { types = λ x f. ap (list_all (is_of_type (contents_of m extents []) f)) (no_slots m x f) };
+  named = named;
   listed = no_members extents lists are;
   unique = λ d. record { unique = λ x f t. ap repeats (no_slots m x f) };
 }

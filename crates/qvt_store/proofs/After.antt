@@ -1,27 +1,26 @@
 -- The slots of the store after a change are those that the change says.
-use Rattle.std.proofs.Common.{◌≡◌, ℕ, zero, suc, ◌+◌, ◌<◌, ◌≤◌, Bool, true, false, ◌||◌, ◌&&◌, ◌==◌, not, cond, ◌⊎◌, inl, inr, refl, sym, ap, ◌∙◌, subst, List, [], ◌∷◌, map, length, get_or, arith}
-use Rattle.std.specs.Prelude.{Option, Some, None, filter, slice_index_or, nat_lt, All}
-use Rattle.std.specs.List.{list_any, list_all}
-use Rattle.std.proofs.lemmas.Bool.{lt-ltb, ltb-true, ltb-false, cases_lt}
+use Rattle.std.proofs.Common.{◌≡◌, ℕ, zero, suc, ◌+◌, ◌<◌, ◌≤◌, Bool, true, false, ◌||◌, ◌&&◌, ◌==◌, not, cond, ◌⊎◌, inl, inr, refl, sym, ap, ◌∙◌, subst, List, [], ◌∷◌, map, length, arith}
+use Rattle.std.specs.Prelude.{Option, Some, None, filter, slice_index_or, nat_lt}
+use Rattle.std.specs.List.{list_all}
+use Rattle.std.proofs.lemmas.Bool.{ltb-true, ltb-false}
 use Rattle.std.proofs.lemmas.Bool.Decides.{Decides-eqb}
-use Rattle.std.proofs.lemmas.List.Elements.{All-head, All-tail, All-nil, All-cons}
 use Rattle.qvt_base.specs.declared.numbers.FeatureNo.{FeatureNo}
 use Rattle.qvt_value.specs.declared.value.Value.{Value}
 use Rattle.qvt_meta.specs.declared.info.TypeKind.{TypeKind}
 use Rattle.qvt_meta.specs.declared.info.TypeKind.TheVariants.{Bool as BoolKind, Int as IntKind, Str as StrKind, Enum as EnumKind, Class as ClassKind}
-use Rattle.qvt_meta.specs.Metamodels.{Metamodels, opposite, is_opposite, features_of, has_feature, among_features, shape_of}
+use Rattle.qvt_meta.specs.Metamodels.{Metamodels, is_opposite, features_of, has_feature, among_features, shape_of}
 use Rattle.qvt_meta.specs.Descends.{descends, is_class_kind}
 use Rattle.qvt_meta.specs.WellFormed.{IsWellFormed}
-use Rattle.qvt_relation.proofs.Bools.{and_left, and_right, and_both, or_cases, or_left, or_right, either, clash, refuted}
-use Rattle.qvt_store.specs.Slots.{Slots, has, object_in, passes, is_object_with}
-use Rattle.qvt_store.specs.Change.{Change, object_value, is_here, is_added, gains, keeps, with_end, slot_elsewhere, slot_after}
+use Rattle.qvt_relation.proofs.Bools.{and_left, and_right, and_both, either, clash, refuted}
+use Rattle.qvt_store.specs.Slots.{has, object_in, passes}
+use Rattle.qvt_store.specs.Change.{Change, object_value, is_here, is_added, gains, keeps, with_end, slot_after}
 use Rattle.qvt_store.specs.Contents.{Contents, Instance, no_instance, object_at, class_of, extent_of, is_live, is_slot, list_of, slot_of}
 use Rattle.qvt_store.specs.Types.{is_of_kind, is_of_type, IsAssignable}
 use Rattle.qvt_store.specs.Repeats.{new_list, without_repeats, same_value}
 use Rattle.qvt_store.specs.Assign.{instance_after, instances_after, store_after, change_to}
 use Rattle.qvt_store.specs.Law.{IsMade}
 use Rattle.qvt_store.specs.Ready.{IsFit}
-use Rattle.qvt_store.proofs.Lists.{past_end}
+use Rattle.qvt_store.proofs.Lists.{past_end, length-map}
 use Rattle.qvt_store.proofs.Places.{list_of-absent, list_of-nil}
 use Rattle.qvt_store.proofs.Objects.{in_list}
 use Rattle.qvt_store.proofs.Typed.{no_object}
@@ -177,3 +176,9 @@ module _ (s : Contents) (o p : ℕ) (ws : List Value) (well : IsWellFormed s.met
 
   pub extent-after : (x : ℕ) → extent_of (store_after s c) x ≡ extent_of s x
   extent-after x = kept_field (λ ob. ob.extent) (λ _ _. refl) x
+
+  pub lists-after : (x : ℕ) → is_live s x ≡ true → length (object_at (store_after s c) x).slots ≡ length (features_of s.metas (class_of (store_after s c) x))
+  lists-after x live =
+      ap (λ (ob : Instance). length ob.slots) (same_instance x live)
+      ∙ length-map (λ (g : FeatureNo). slot_after c x g.0) (features_of s.metas (class_of s x))
+      ∙ ap (λ n. length (features_of s.metas n)) (sym (class-after x))

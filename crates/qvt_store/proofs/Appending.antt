@@ -1,17 +1,15 @@
 -- An append as the code makes it.
-use Rattle.std.proofs.Common.{◌≡◌, ◌≢◌, ℕ, Bool, true, false, ◌||◌, ◌&&◌, not, cond, ◌⊎◌, inl, inr, refl, sym, ap, ◌∙◌, subst, List, [], ◌∷◌, ◌++◌, map, length, suc, ◌+◌, arith}
-use Rattle.std.specs.Prelude.{filter, Ok, Err, Result, Option, Some, None, SomeIff, ◌^◌, ◌<◌}
-use Rattle.std.specs.List.{list_any, list_all}
-use Rattle.qvt_base.specs.declared.numbers.FeatureNo.{FeatureNo}
+use Rattle.std.proofs.Common.{◌≡◌, ℕ, Bool, true, false, ◌||◌, ◌&&◌, cond, refl, sym, ap, ◌∙◌, List, [], ◌∷◌, ◌++◌, map, length, suc, ◌+◌, arith}
+use Rattle.std.specs.Prelude.{filter, Option, Some, None, SomeIff, ◌^◌, ◌<◌}
+use Rattle.std.specs.List.{list_any}
 use Rattle.qvt_base.specs.declared.numbers.Oid.{Oid}
 use Rattle.qvt_value.specs.declared.value.Value.{Value}
 use Rattle.qvt_meta.specs.Metamodels.{Metamodels, shape_of}
-use Rattle.qvt_relation.proofs.Bools.{and_left, and_right, and_both, or_left, or_false, clash}
-use Rattle.qvt_store.specs.Slots.{is_object, has}
+use Rattle.qvt_relation.proofs.Bools.{and_left, or_left, or_false}
 use Rattle.qvt_store.specs.Change.{oid_of, is_new_object, objects_beyond, is_here, slot_elsewhere}
 use Rattle.qvt_store.specs.Contents.{Contents, slot_of, extent_of, is_model}
 use Rattle.qvt_store.specs.Types.{is_of_type, IsAssignable}
-use Rattle.qvt_store.specs.Repeats.{same_value, repeats, without_repeats, new_list, AreUnique}
+use Rattle.qvt_store.specs.Repeats.{same_value, repeats, without_repeats, new_list}
 use Rattle.qvt_store.specs.Assign.{is_elsewhere, crosses, change_to, store_after}
 use Rattle.qvt_store.specs.Ready.{IsKnown}
 use Rattle.qvt_store.proofs.Objects.{none_beyond_all, has-push}

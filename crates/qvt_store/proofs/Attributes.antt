@@ -84,6 +84,7 @@ module _ (m : Metamodels) (extents : List Extent) (old new : List Cell) (members
           (subst (λ (l : List Value). list_all (is_of_type (contents_of m extents old) f) l ≡ true) (sym (put.slots x f))
           (each_put (λ _ g l. list_all (is_of_type (contents_of m extents old) g) l ≡ true) (slot_in m (instances old)) o p vs types store.typed.types x f));
     };
+    named = store.named;
     listed = listed_same m extents old new members put.objects store.listed;
     unique = λ d. let u : AreUnique (contents_of m extents old) = store.unique d in record {
       unique = λ x f t. ap repeats (put.slots x f)

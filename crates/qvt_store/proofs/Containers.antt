@@ -1,14 +1,14 @@
 -- A change keeps that an object stands in one containment slot at most.
-use Rattle.std.proofs.Common.{◌≡◌, ℕ, ◌<◌, ◌≤◌, Bool, true, false, ◌||◌, ◌&&◌, ◌==◌, not, ◌⊎◌, inl, inr, refl, sym, ap, ◌∙◌, subst, List, [], ◌∷◌, length, arith}
+use Rattle.std.proofs.Common.{◌≡◌, ℕ, ◌≤◌, true, false, inl, inr, sym, ◌∙◌, subst, length}
 use Rattle.std.proofs.lemmas.Bool.Decides.{Decides-eqb}
-use Rattle.qvt_meta.specs.Metamodels.{Metamodels, opposite, is_opposite, is_containment, is_single}
+use Rattle.qvt_meta.specs.Metamodels.{opposite, is_opposite, is_containment}
 use Rattle.qvt_meta.specs.WellFormed.{IsWellFormed}
-use Rattle.qvt_relation.proofs.Bools.{and_left, and_right, and_both, or_cases, or_left, or_right, not_true, not_of_false, either, clash, third_of_4, fourth_of_4}
-use Rattle.qvt_store.specs.Slots.{Slots, has, is_object, OneContainer}
-use Rattle.qvt_store.specs.Change.{Change, is_some_object, is_here, is_added, is_container, gains, is_taken, is_replaced, is_moved_in, is_moved, leaves, is_left, loses, slot_after}
+use Rattle.qvt_relation.proofs.Bools.{and_left, and_right, and_both, or_left, not_of_false, either, clash, third_of_4, fourth_of_4}
+use Rattle.qvt_store.specs.Slots.{has, OneContainer}
+use Rattle.qvt_store.specs.Change.{Change, is_here, is_container, gains, is_taken, is_replaced, is_moved_in, is_moved, leaves, loses, slot_after}
 use Rattle.qvt_store.specs.Law.{IsMade, FitsSingle}
 use Rattle.qvt_store.proofs.Objects.{one_object, some_among}
-use Rattle.qvt_store.proofs.Held.{HeldAfter, given, kept, gained, held_after, added_new, adds}
+use Rattle.qvt_store.proofs.Held.{given, kept, gained, held_after, added_new, adds}
 use Rattle.qvt_store.proofs.Opposites.{same_number, container-of, here}
 
 module _ (c : Change) (made : IsMade c) (well : IsWellFormed c.metas) (fits : FitsSingle c) (old : OneContainer c.metas c.slots) where

@@ -1,13 +1,12 @@
 -- The tests for cycles, as the code makes them.
-use Rattle.std.proofs.Common.{◌≡◌, ℕ, zero, suc, ◌+◌, ◌<◌, Bool, true, false, ◌||◌, ◌==◌, cond, ◌⊎◌, inl, inr, ◌↔◌, refl, sym, ap, ◌∙◌, subst, List, [], ◌∷◌, ◌++◌, take, length, get_or, arith}
-use Rattle.std.specs.Prelude.{slice_get, slice_index_or, Option, Some, None}
+use Rattle.std.proofs.Common.{◌≡◌, ℕ, zero, suc, ◌+◌, ◌<◌, true, false, ◌==◌, inl, inr, ◌↔◌, refl, sym, subst, List, [], ◌∷◌, take, length, get_or}
+use Rattle.std.specs.Prelude.{slice_get, slice_index_or, Some, None}
 use Rattle.std.proofs.lemmas.Bool.Decides.{Decides-eqb}
 use Rattle.qvt_base.specs.declared.numbers.Oid.{Oid}
 use Rattle.qvt_meta.specs.Metamodels.{Metamodels, is_containment}
 use Rattle.qvt_relation.proofs.Bools.{or_cases, or_left, clash}
 use Rattle.qvt_store.specs.Slots.{Slots}
 use Rattle.qvt_store.specs.Change.{Change, among, is_container}
-use Rattle.qvt_store.specs.Contents.{is_named}
 use Rattle.qvt_store.specs.Walk.{IsOver, SomeOver, IsOverSome, ClosesCycle, by_items, by_end}
 use Rattle.qvt_store.proofs.Holds.{in_among}
 use Rattle.qvt_store.proofs.Plans.{more_cases}

@@ -1,7 +1,7 @@
 -- The test for cycles of containment tells exactly whether an object is inside itself.
-use Rattle.std.proofs.Common.{◌≡◌, ℕ, zero, suc, ◌+◌, ◌<◌, ◌≤◌, Bool, true, false, ◌||◌, ◌&&◌, ◌⊎◌, inl, inr, refl, sym, ap, ◌∙◌, subst, List, [], ◌∷◌, length, get_or, arith}
+use Rattle.std.proofs.Common.{◌≡◌, ℕ, zero, suc, ◌<◌, true, false, ◌&&◌, refl, List, [], ◌∷◌, length, arith}
 use Rattle.std.specs.Prelude.{slice_index_or}
-use Rattle.qvt_relation.specs.Closure.{Closure, any_below, reaches, Decides, IsBelow}
+use Rattle.qvt_relation.specs.Closure.{Closure, reaches, Decides, IsBelow}
 use Rattle.qvt_relation.specs.Closure.Closure.{directly as one_step, through as more_steps}
 use Rattle.qvt_relation.proofs.Bools.{and_left, and_right, and_both}
 use Rattle.qvt_relation.proofs.Closures.{any_below-at, any_below-some, first_step, reaches-closure, closure-reaches}

@@ -1,18 +1,17 @@
 -- A change that is carried out keeps the store whole and gives the store after the change.
-use Rattle.std.proofs.Common.{◌≡◌, ◌≢◌, ℕ, zero, suc, ◌+◌, ◌<◌, ◌≤◌, Bool, true, false, ◌||◌, ◌&&◌, ◌==◌, not, cond, ◌⊎◌, inl, inr, refl, sym, ap, ◌∙◌, subst, List, [], ◌∷◌, ◌++◌, map, length, get_or, arith}
-use Rattle.std.specs.Prelude.{All, slice_index_or, Option, Some, None, nat_lt}
-use Rattle.std.specs.List.{list_any, list_all, flat_map}
+use Rattle.std.proofs.Common.{◌≡◌, ℕ, zero, suc, ◌<◌, ◌≤◌, Bool, true, false, ◌||◌, ◌&&◌, ◌==◌, not, cond, ◌⊎◌, inl, inr, refl, sym, ap, ◌∙◌, subst, List, [], ◌∷◌, ◌++◌, map, length, get_or, arith}
+use Rattle.std.specs.Prelude.{All, slice_index_or, Option, Some, None}
+use Rattle.std.specs.List.{list_all, flat_map}
 use Rattle.std.proofs.lemmas.List.{same_lists, get_or-map, get_or_default}
 use Rattle.std.proofs.lemmas.List.Elements.{All-head, All-tail}
-use Rattle.std.proofs.lemmas.Bool.{cases_lt, ltb-true, lt-ltb}
+use Rattle.std.proofs.lemmas.Bool.{cases_lt, ltb-true}
 use Rattle.std.proofs.lemmas.Bool.Decides.{Decides-eqb}
 use Rattle.qvt_base.specs.declared.numbers.FeatureNo.{FeatureNo}
 use Rattle.qvt_base.specs.declared.numbers.Oid.{Oid}
 use Rattle.qvt_value.specs.declared.value.Value.{Value}
-use Rattle.qvt_meta.specs.Metamodels.{Metamodels, features_of, has_feature, among_features, is_containment, is_opposite, shape_of}
-use Rattle.qvt_meta.specs.Descends.{is_class_kind}
+use Rattle.qvt_meta.specs.Metamodels.{Metamodels, features_of, among_features, is_containment}
 use Rattle.qvt_meta.specs.WellFormed.{IsWellFormed}
-use Rattle.qvt_relation.proofs.Bools.{and_left, and_right, and_both, or_cases, or_left, or_right, or_none, not_true, not_of_false, either, clash, refuted}
+use Rattle.qvt_relation.proofs.Bools.{and_left, and_right, and_both, or_cases, or_left, or_right, not_true, not_of_false, either, clash, refuted}
 use Rattle.qvt_store.specs.declared.cell.Holder.{Holder}
 use Rattle.qvt_store.specs.declared.cell.Cell.{Cell}
 use Rattle.qvt_store.specs.declared.commit.Write.{Write}
@@ -20,26 +19,25 @@ use Rattle.qvt_store.specs.declared.draft.Draft.{Draft}
 use Rattle.qvt_store.specs.declared.extent.Extent.{Extent}
 use Rattle.qvt_store.specs.Slots.{Slots, has, OneContainer, Inside}
 use Rattle.qvt_store.specs.Change.{Change, among, objects_beyond, is_here, is_added, slot_elsewhere, slot_after}
-use Rattle.qvt_store.specs.Contents.{Contents, Instance, no_instance, is_live, is_slot, list_of, slot_in, slot_of, class_of, with_slot}
-use Rattle.qvt_store.specs.Types.{is_of_type, AreTyped}
-use Rattle.qvt_store.specs.Repeats.{repeats, AreUnique}
+use Rattle.qvt_store.specs.Contents.{Contents, Instance, no_instance, is_live, is_slot, list_of, slot_in, slot_of, with_slot}
+use Rattle.qvt_store.specs.Types.{is_of_type}
+use Rattle.qvt_store.specs.Repeats.{repeats}
 use Rattle.qvt_store.specs.Assign.{change_to, instance_after, instances_after, store_after}
-use Rattle.qvt_store.specs.Law.{IsMade, FitsSingle}
+use Rattle.qvt_store.specs.Law.{IsMade}
 use Rattle.qvt_store.specs.Draft.{change_with, drafted, IsDraft}
-use Rattle.qvt_store.specs.Walk.{IsCyclic}
-use Rattle.qvt_store.specs.Cells.{instances, instance_in, contents_of, holder_at, holder_in, AreHolders, AreWhole, AreMembers, IsKept, IsPlaceOf, HaveSlots, SameObjects, IsPut, with_list}
-use Rattle.qvt_store.specs.Writes.{IsWrite, AllLive, written, or_else, held_by, held_of, held_here, holder_after, IsSettled, released_by, released_here, released_of}
+use Rattle.qvt_store.specs.Cells.{instances, instance_in, contents_of, holder_at, holder_in, AreWhole, IsKept, IsPlaceOf, SameObjects, IsPut, with_list}
+use Rattle.qvt_store.specs.Writes.{IsWrite, AllLive, written, or_else, held_by, held_of, held_here, holder_after, IsSettled, released_by, released_here}
 use Rattle.qvt_store.specs.Plan.{is_write_of, listed, IsRight, IsPlan}
 use Rattle.qvt_store.proofs.Places.{list_of-place}
-use Rattle.qvt_store.proofs.Cells.{length-instances, no_holder, dead_slot}
-use Rattle.qvt_store.proofs.Objects.{has_none, beyond-is}
-use Rattle.qvt_store.proofs.Held.{HeldAfter, given, kept, gained, held_after, added_new, adds, removes}
+use Rattle.qvt_store.proofs.Cells.{length-instances, no_holder}
+use Rattle.qvt_store.proofs.Objects.{beyond-is}
+use Rattle.qvt_store.proofs.Held.{given, kept, gained, held_after, added_new, adds}
 use Rattle.qvt_store.proofs.Opposites.{here, here_again}
 use Rattle.qvt_store.proofs.Containers.{keeps_one_container}
 use Rattle.qvt_store.proofs.Typed.{all_kept}
 use Rattle.qvt_store.proofs.Attributes.{stays_live, listed_same}
-use Rattle.qvt_store.specs.Ready.{IsFit, Ready}
-use Rattle.qvt_store.proofs.After.{instance-after, length-after, no_slot_empty, empty_after, item_object, added_object}
+use Rattle.qvt_store.specs.Ready.{Ready}
+use Rattle.qvt_store.proofs.After.{instance-after, length-after, no_slot_empty, empty_after, item_object}
 use Rattle.qvt_store.proofs.SoundKept.{types_after, unique_after}
 
 -- the writes leave the lists of the slots that they list, and the others as they are
@@ -501,6 +499,7 @@ module _ (m : Metamodels) (extents : List Extent) (old : List Cell) (d : Draft) 
         types = λ x f. subst (λ (l : List Value). list_all (is_of_type (contents_of m extents new) f) l ≡ true) (sym (slots_are x f))
             (all_kept s (contents_of m extents new) refl (stays_live m extents old new same) f (slot_after c x f) (types_after s o p items store.well_formed ready.fit kept'.typed x f));
       };
+      named = kept'.named;
       listed = listed_same m extents old new members same kept'.listed;
       unique = λ t. record { unique = λ x f u. ap repeats (slots_are x f) ∙ unique_after s o p items ready.unique (kept'.unique t) x f u };
     }

@@ -1,12 +1,12 @@
 -- Which objects a slot holds after a change.
-use Rattle.std.proofs.Common.{◌≡◌, ℕ, Bool, true, false, ◌⊎◌, inl, inr, ◌==◌, ◌||◌, ◌&&◌, not, cond, List, [], ◌∷◌, ◌++◌, refl, sym, ap, ◌∙◌, subst}
+use Rattle.std.proofs.Common.{◌≡◌, ℕ, Bool, true, false, inl, inr, ◌==◌, ◌||◌, ◌&&◌, not, cond, List, [], ◌∷◌, ◌++◌, refl, sym, ap, ◌∙◌, subst}
 use Rattle.std.specs.Prelude.{filter}
 use Rattle.std.proofs.lemmas.Bool.Decides.{Decides-eqb}
 use Rattle.qvt_value.specs.declared.value.Value.{Value}
-use Rattle.qvt_meta.specs.Metamodels.{is_opposite, is_single}
-use Rattle.qvt_relation.proofs.Bools.{and_left, and_right, and_both, or_cases, or_left, or_right, or_none, none_left, none_right, not_true, not_of_false, not_of_true, either, or_false, clash, refuted, second_of_4}
-use Rattle.qvt_store.specs.Slots.{Slots, is_object, has}
-use Rattle.qvt_store.specs.Change.{Change, object_value, objects_beyond, among, is_here, is_added, is_removed, gains, is_taken, is_replaced, is_moved_in, is_moved, leaves, is_left, loses, keeps, with_object, with_end, slot_elsewhere, slot_after}
+use Rattle.qvt_meta.specs.Metamodels.{is_single}
+use Rattle.qvt_relation.proofs.Bools.{and_left, and_right, and_both, or_cases, or_left, or_right, none_left, none_right, not_true, not_of_false, either, or_false, clash, refuted}
+use Rattle.qvt_store.specs.Slots.{has}
+use Rattle.qvt_store.specs.Change.{Change, object_value, among, is_here, is_added, is_removed, gains, is_taken, is_replaced, is_moved_in, is_moved, leaves, loses, keeps, with_object, slot_elsewhere, slot_after}
 use Rattle.qvt_store.specs.Law.{IsMade}
 use Rattle.qvt_store.proofs.Objects.{has-filter, has-push, beyond-is}
 

@@ -1,14 +1,12 @@
 -- Holders set one after another, and writes carried out one after another.
-use Rattle.std.proofs.Common.{◌≡◌, ◌≢◌, ℕ, zero, suc, ◌+◌, ◌<◌, ◌≤◌, Bool, true, false, ◌||◌, ◌&&◌, ◌==◌, not, cond, ◌⊎◌, inl, inr, refl, sym, ap, ◌∙◌, subst, List, [], ◌∷◌, ◌++◌, map, take, length, get_or, set, arith}
+use Rattle.std.proofs.Common.{◌≡◌, ℕ, zero, suc, ◌+◌, ◌<◌, Bool, true, false, ◌||◌, ◌&&◌, ◌==◌, not, cond, inl, inr, refl, sym, ap, ◌∙◌, subst, List, [], ◌∷◌, ◌++◌, map, take, length, get_or, set, arith}
 use Rattle.std.specs.Prelude.{Option, Some, None, slice_index_or}
-use Rattle.std.specs.List.{list_any}
 use Rattle.std.proofs.lemmas.List.{take_more, get_or-set_same, get_or-set_other, set-get_or}
 use Rattle.std.proofs.lemmas.Bool.{eq-eqb, ne_eqb, cases_eq}
 use Rattle.qvt_base.specs.declared.numbers.Oid.{Oid}
 use Rattle.qvt_value.specs.declared.value.Value.{Value}
-use Rattle.qvt_value.specs.declared.value.Value.TheVariants.{Obj}
 use Rattle.qvt_meta.specs.Metamodels.{Metamodels, is_containment, features_of, has_feature}
-use Rattle.qvt_relation.proofs.Bools.{or_cases, or_left, or_right, or_none, or_false, either, clash, refuted}
+use Rattle.qvt_relation.proofs.Bools.{or_left, or_right, or_false}
 use Rattle.qvt_store.specs.declared.cell.Holder.{Holder}
 use Rattle.qvt_store.specs.declared.cell.Cell.{Cell}
 use Rattle.qvt_store.specs.declared.commit.Write.{Write}
@@ -16,7 +14,7 @@ use Rattle.qvt_store.specs.declared.draft.Draft.{Draft}
 use Rattle.qvt_store.specs.Slots.{Slots, has, is_object}
 use Rattle.qvt_store.specs.Change.{among}
 use Rattle.qvt_store.specs.Contents.{Instance, no_instance, slot_in}
-use Rattle.qvt_store.specs.Cells.{instance_of, instances, instance_in, holder_at, holder_in, HaveSlots, SameObjects, IsPut, with_list}
+use Rattle.qvt_store.specs.Cells.{instance_of, instances, holder_at, holder_in, HaveSlots, SameObjects, IsPut, with_list}
 use Rattle.qvt_store.specs.Writes.{IsWrite, written, IsWritten, IsHeld, AllLive, AreHeld, or_else, held_by, held_of, AreHeldBy, held_here, AreHeldHere, IsSettled}
 use Rattle.qvt_store.proofs.Objects.{has-push}
 use Rattle.qvt_store.proofs.Cells.{length-instances, length-holders, cell-instance, instances-set, holders-set}

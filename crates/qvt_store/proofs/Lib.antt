@@ -3,6 +3,7 @@ pub mod Lists
 pub mod Cells
 pub mod Members
 pub mod Typed
+pub mod Instances
 pub mod Added
 pub mod Attributes
 pub mod Objects
@@ -13,6 +14,7 @@ pub mod Cyclic
 pub mod After
 pub mod Repeating
 pub mod SoundKept
+pub mod SoundGrown
 mod Vectors
 pub mod Holds
 pub mod Plans

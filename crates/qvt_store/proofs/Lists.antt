@@ -1,5 +1,5 @@
 -- Lists read by number.
-use Rattle.std.proofs.Common.{◌≡◌, ℕ, zero, suc, ◌<◌, ◌≤◌, refl, ap, List, [], ◌∷◌, ◌++◌, length, get_or, arith}
+use Rattle.std.proofs.Common.{◌≡◌, ℕ, zero, suc, ◌<◌, ◌≤◌, refl, ap, List, [], ◌∷◌, ◌++◌, map, length, get_or, arith}
 
 pub any_default : {X : Type 0} (xs : List X) (i : ℕ) (d e : X) → i < length xs → get_or xs i d ≡ get_or xs i e
 any_default [] i d e h = absurd (omega arith)
@@ -23,3 +23,7 @@ pub past_end : {X : Type 0} (xs : List X) (i : ℕ) (d : X) → length xs ≤ i 
 past_end [] i d h = refl
 past_end (x ∷ xs) zero d h = absurd (omega arith)
 past_end (x ∷ xs) (suc i) d h = past_end xs i d (omega arith)
+
+pub length-map : {X Y : Type 0} (g : X → Y) (xs : List X) → length (map g xs) ≡ length xs
+length-map g [] = refl
+length-map g (x ∷ xs) = ap suc (length-map g xs)

@@ -1,13 +1,13 @@
 -- Which objects lists hold.
-use Rattle.std.proofs.Common.{◌≡◌, ℕ, zero, suc, ◌+◌, ◌<◌, ◌≤◌, Bool, true, false, ◌⊎◌, inl, inr, ◌==◌, ◌||◌, ◌&&◌, not, cond, List, [], ◌∷◌, ◌++◌, map, length, refl, sym, ap, ◌∙◌, arith, subst}
+use Rattle.std.proofs.Common.{◌≡◌, ℕ, ◌≤◌, Bool, true, false, inl, inr, ◌==◌, ◌||◌, ◌&&◌, not, cond, List, [], ◌∷◌, ◌++◌, map, length, refl, sym, ap, ◌∙◌, arith, subst}
 use Rattle.std.specs.Prelude.{filter, Option, Some, None}
 use Rattle.std.specs.List.{list_any, list_all}
 use Rattle.std.proofs.lemmas.Bool.Decides.{Decides-eqb}
 use Rattle.qvt_base.specs.declared.numbers.Oid.{Oid}
 use Rattle.qvt_value.specs.declared.value.Value.{Value}
 use Rattle.qvt_value.specs.declared.value.Value.TheVariants.{Obj}
-use Rattle.qvt_relation.proofs.Bools.{and_left, and_right, and_both, or_cases, or_left, or_right, or_none, none_left, none_right, not_true, not_of_false, either, or_false, clash, refuted}
-use Rattle.qvt_store.specs.Slots.{Slots, object_in, passes, is_object_with, is_object, has}
+use Rattle.qvt_relation.proofs.Bools.{and_left, and_right, or_cases, or_left, none_left, none_right, not_true, or_false, clash, refuted}
+use Rattle.qvt_store.specs.Slots.{object_in, passes, is_object_with, is_object, has}
 use Rattle.qvt_store.specs.Change.{object_value, oid_of, is_new_object, objects_beyond, among, is_some_object}
 
 step : (l ly e : Bool) (kept rest : Bool) → (e ≡ true → l ≡ ly) → kept ≡ (rest && not ly) →

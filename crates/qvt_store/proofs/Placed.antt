@@ -1,5 +1,5 @@
 -- A slot that is loaded keeps the store whole.
-use Rattle.std.proofs.Common.{◌≡◌, ℕ, ◌<◌, ◌≤◌, Bool, true, false, ◌||◌, ◌==◌, ◌&&◌, not, cond, ◌⊎◌, inl, inr, refl, sym, ap, ◌∙◌, subst, List, [], ◌∷◌, length}
+use Rattle.std.proofs.Common.{◌≡◌, ℕ, ◌<◌, ◌≤◌, Bool, true, false, ◌==◌, ◌&&◌, not, cond, inl, inr, refl, sym, ap, ◌∙◌, subst, List, [], ◌∷◌, length}
 use Rattle.std.specs.Prelude.{Option, Some, None, slice_set, slice_index_or}
 use Rattle.std.specs.List.{list_all}
 use Rattle.std.proofs.lemmas.Bool.Decides.{Decides-eqb}
@@ -13,10 +13,10 @@ use Rattle.qvt_store.specs.declared.cell.Cell.{Cell}
 use Rattle.qvt_store.specs.declared.commit.Write.{Write}
 use Rattle.qvt_store.specs.declared.extent.Extent.{Extent}
 use Rattle.qvt_store.specs.Slots.{Slots, has, Contains, Inside, directly, through}
-use Rattle.qvt_store.specs.Contents.{Contents, Instance, no_instance, is_live, slot_in, slot_of, set_slot, with_slot, class_of}
+use Rattle.qvt_store.specs.Contents.{Contents, Instance, no_instance, is_live, slot_in, slot_of, set_slot, with_slot}
 use Rattle.qvt_store.specs.Types.{is_of_type}
 use Rattle.qvt_store.specs.Repeats.{repeats, AreUnique}
-use Rattle.qvt_store.specs.Cells.{instances, instance_in, contents_of, holder_at, holder_in, AreWhole, IsKept, SameObjects, HaveSlots, IsPut, with_list}
+use Rattle.qvt_store.specs.Cells.{instances, instance_in, contents_of, holder_at, holder_in, AreWhole, IsKept, SameObjects, IsPut, with_list}
 use Rattle.qvt_store.specs.Writes.{AllLive, or_else, held_by, AreHeldBy}
 use Rattle.qvt_store.specs.Place.{IsPlaceable}
 use Rattle.qvt_store.proofs.Attributes.{stays_live, listed_same, each_put}
@@ -143,6 +143,7 @@ module _ (m : Metamodels) (extents : List Extent) (old mid new : List Cell) (w :
             (subst (λ (l : List Value). list_all (is_of_type s f) l ≡ true) (sym (slots_are x f))
             (each_put (λ _ g l. list_all (is_of_type s g) l ≡ true) (slot_of s) o p vs can.assignable.types kept'.typed.types x f));
       };
+      named = kept'.named;
       listed = listed_same m extents old new members same kept'.listed;
       unique = λ d. let r : (distinct ≡ true) × ((shape_of m p).unique ≡ true → repeats vs ≡ false) = only d in let u : AreUnique s = kept'.unique r.0 in
           record { unique = λ x f t. ap repeats (slots_are x f) ∙ each_put (λ _ g l. (shape_of m g).unique ≡ true → repeats l ≡ false) (slot_of s) o p vs r.1 u.unique x f t };

@@ -1,22 +1,20 @@
 -- Writes planned one after another.
-use Rattle.std.proofs.Common.{◌≡◌, ℕ, zero, suc, ◌<◌, ◌+◌, Bool, true, false, ◌||◌, ◌&&◌, ◌==◌, ◌⊎◌, inl, inr, refl, sym, ap, ◌∙◌, subst, List, [], ◌∷◌, ◌++◌, length, take, get_or, arith}
-use Rattle.std.specs.Prelude.{All, Option, Some, None}
-use Rattle.std.specs.List.{list_any}
-use Rattle.std.proofs.lemmas.List.Elements.{All-push, All-nil}
-use Rattle.std.proofs.lemmas.List.{take_more}
+use Rattle.std.proofs.Common.{◌≡◌, ℕ, ◌<◌, ◌+◌, Bool, true, false, ◌||◌, ◌==◌, ◌⊎◌, inl, inr, refl, sym, ap, ◌∙◌, subst, List, [], ◌∷◌, ◌++◌, length, take, get_or}
+use Rattle.std.specs.Prelude.{Option, Some, None}
+use Rattle.std.proofs.lemmas.List.Elements.{All-push}
 use Rattle.std.proofs.lemmas.Bool.Decides.{Decides-eqb}
 use Rattle.qvt_base.specs.declared.numbers.FeatureNo.{FeatureNo}
 use Rattle.qvt_base.specs.declared.numbers.Oid.{Oid}
 use Rattle.qvt_value.specs.declared.value.Value.{Value}
 use Rattle.qvt_meta.specs.Metamodels.{Metamodels, opposite, is_opposite, is_containment, is_feature_number}
-use Rattle.qvt_relation.proofs.Bools.{and_left, and_right, and_both, or_cases, or_left, or_right, or_false, clash}
+use Rattle.qvt_relation.proofs.Bools.{and_both, or_cases, or_left, or_right, or_false, clash}
 use Rattle.qvt_store.specs.declared.cell.Holder.{Holder}
 use Rattle.qvt_store.specs.declared.commit.Write.{Write}
-use Rattle.qvt_store.specs.Slots.{Slots, has, is_object}
-use Rattle.qvt_store.specs.Change.{Change, among, is_here, is_container, slot_elsewhere}
+use Rattle.qvt_store.specs.Slots.{has}
+use Rattle.qvt_store.specs.Change.{Change, among, is_here, is_container}
 use Rattle.qvt_store.specs.Contents.{Contents, is_slot, slot_of}
 use Rattle.qvt_store.specs.Cells.{holder_in}
-use Rattle.qvt_store.specs.Plan.{is_write_of, listed, IsRight, Extends, Plans, IsSlotOf, IsSlotOfSome, IsHeldSlot, IsOppositeSlot, IsOwnerSlot, IsAround, holding, opposed, IsAroundSome, IsOpposed, before, after, owner, IsRehoused, items, itself, IsPlan}
+use Rattle.qvt_store.specs.Plan.{is_write_of, listed, IsRight, Extends, Plans, IsSlotOf, IsSlotOfSome, IsHeldSlot, IsOppositeSlot, IsOwnerSlot, IsAround, holding, opposed, IsAroundSome, IsOpposed, before, after, owner, IsRehoused, items, itself}
 use Rattle.qvt_store.proofs.Holds.{among-more, has-more}
 
 pub listed-push : (ws : List Write) (w : Write) (x f : ℕ) → listed (ws ++ w ∷ []) x f ≡ (listed ws x f || is_write_of x f w)

@@ -1,15 +1,13 @@
 -- A value put last in a slot, or not.
-use Rattle.std.proofs.Common.{◌≡◌, ℕ, zero, suc, ◌<◌, refl, sym, ap, ◌∙◌, subst, List, [], ◌∷◌, map, length, get_or, set, cond, ◌==◌, ◌⊎◌, inl, inr}
-use Rattle.std.specs.Prelude.{slice_index_or, Option, Some, None, Result, Ok, Err, OnErr}
+use Rattle.std.proofs.Common.{◌≡◌, ℕ, ◌<◌, sym, ap, ◌∙◌, subst, List, length, get_or, set, cond, ◌==◌, inl, inr}
+use Rattle.std.specs.Prelude.{slice_index_or, Result, Ok, Err, OnErr}
 use Rattle.std.proofs.lemmas.List.{set-get_or}
 use Rattle.std.proofs.lemmas.Bool.Decides.{Decides-eqb}
 use Rattle.std.proofs.lemmas.Bool.{cases_eq, ne_eqb}
 use Rattle.qvt_value.specs.declared.value.Value.{Value}
-use Rattle.qvt_store.specs.declared.cell.Holder.{Holder}
 use Rattle.qvt_store.specs.declared.cell.Cell.{Cell}
-use Rattle.qvt_store.specs.Cells.{instance_of, instances, holder_at, IsSameCells, IsPut}
+use Rattle.qvt_store.specs.Cells.{instance_of, holder_at, IsSameCells, IsPut}
 use Rattle.qvt_meta.specs.Metamodels.{Metamodels}
-use Rattle.qvt_store.specs.Contents.{Instance}
 use Rattle.qvt_store.proofs.Cells.{cell-holder}
 use Rattle.qvt_store.proofs.Holds.{hold_is}
 use Rattle.qvt_store.specs.Writes.{IsHeld}

@@ -1,33 +1,32 @@
 -- What the tests of a change tell of its refusal.
-use Rattle.std.proofs.Common.{◌≡◌, ◌≢◌, ℕ, ◌<◌, Bool, true, false, ◌||◌, ◌&&◌, cond, ◌⊎◌, inl, inr, refl, sym, ap, ◌∙◌, subst, List, [], ◌∷◌, length}
-use Rattle.std.specs.Prelude.{Option, Some, None, Ok, Err, Result}
-use Rattle.std.specs.List.{list_any, list_all}
+use Rattle.std.proofs.Common.{◌≡◌, ◌≢◌, ℕ, ◌<◌, Bool, true, false, ◌||◌, ◌&&◌, cond, refl, sym, ap, ◌∙◌, subst, List, [], ◌∷◌, length}
+use Rattle.std.specs.Prelude.{Option, Some, None, Ok, Err}
+use Rattle.std.specs.List.{list_any}
 use Rattle.std.proofs.lemmas.Bool.{ltb-true}
 use Rattle.std.proofs.lemmas.Bool.Decides.{Decides-eqb}
 use Rattle.qvt_base.specs.declared.numbers.FeatureNo.{FeatureNo}
 use Rattle.qvt_base.specs.declared.numbers.Oid.{Oid}
 use Rattle.qvt_value.specs.declared.value.Value.{Value}
-use Rattle.qvt_meta.specs.Metamodels.{Metamodels, opposite, is_opposite, is_feature_number, shape_of}
+use Rattle.qvt_meta.specs.Metamodels.{opposite, is_opposite, is_feature_number, shape_of}
 use Rattle.qvt_meta.specs.WellFormed.{IsWellFormed}
-use Rattle.qvt_relation.proofs.Bools.{and_left, either, clash, refuted, none_left}
+use Rattle.qvt_relation.proofs.Bools.{and_left, clash, refuted}
 use Rattle.qvt_store.specs.declared.draft.Draft.{Draft}
 use Rattle.qvt_store.specs.declared.fault.StoreFault.{StoreFault}
 use Rattle.qvt_store.specs.declared.fault.StoreFault.TheVariants.{TooMany, ContainmentCycle, ReadOnly, CrossModel, TooManyObjects, NoMemory}
-use Rattle.qvt_store.specs.Slots.{Slots, has, Inside}
+use Rattle.qvt_store.specs.Slots.{Inside}
 use Rattle.qvt_store.specs.Change.{Change, is_here, is_added, gains, slot_elsewhere, slot_after}
-use Rattle.qvt_store.specs.Contents.{Contents, is_live, is_slot, slot_of}
-use Rattle.qvt_store.specs.Types.{IsAssignable}
+use Rattle.qvt_store.specs.Contents.{Contents, is_live, slot_of}
 use Rattle.qvt_store.specs.Repeats.{new_list}
-use Rattle.qvt_store.specs.Assign.{change_to, change_of, is_beyond, overfills_end, is_too_many, is_cyclic, is_read_only, crosses, refusal_of, store_after, ok_unless, assign}
+use Rattle.qvt_store.specs.Assign.{change_to, is_beyond, overfills_end, is_too_many, is_cyclic, is_read_only, crosses, refusal_of, store_after, ok_unless, assign}
 use Rattle.qvt_store.specs.Law.{IsMade, FitsSingle}
-use Rattle.qvt_store.specs.Draft.{change_with, drafted, IsDraft, overfills_elsewhere, is_overfilling, AddsLive, IsAllowed, IsCycleFault, IsReadOnlyFault, IsEarlyFault}
+use Rattle.qvt_store.specs.Draft.{change_with, drafted, IsDraft, overfills_elsewhere, is_overfilling, AddsLive, IsAllowed, IsEarlyFault}
 use Rattle.qvt_store.specs.Ready.{IsFit}
-use Rattle.qvt_store.specs.Walk.{SomeOver, IsOverSome, ClosesCycle, by_items, by_end, IsCyclic}
-use Rattle.qvt_store.proofs.Held.{HeldAfter, given, kept, gained, held_after, added_new}
+use Rattle.qvt_store.specs.Walk.{ClosesCycle, by_items, by_end, IsCyclic}
+use Rattle.qvt_store.proofs.Held.{given, kept, gained, held_after, added_new}
 use Rattle.qvt_store.proofs.Opposites.{here}
 use Rattle.qvt_store.proofs.Cyclic.{Bounded, cyclic-inside, inside-cyclic}
 use Rattle.qvt_store.proofs.Cycles.{cycle_closes, closes_cycle}
-use Rattle.qvt_store.proofs.After.{fit_of, holder_slot, item_object}
+use Rattle.qvt_store.proofs.After.{holder_slot, item_object}
 use Rattle.qvt_store.proofs.SoundKept.{fits_of}
 use Rattle.qvt_store.proofs.Done.{same_change}
 

@@ -1,27 +1,21 @@
 -- Lists that repeat no value, and the bounds of slots.
-use Rattle.std.proofs.Common.{◌≡◌, ℕ, ℤ, zero, suc, ◌+◌, ◌<◌, ◌≤◌, Bool, true, false, ◌||◌, ◌&&◌, ◌==◌, not, cond, ◌⊎◌, inl, inr, refl, sym, ap, ◌∙◌, subst, List, [], ◌∷◌, ◌++◌, length, take, drop, get_or, arith}
-use Rattle.std.specs.Prelude.{Option, Some, None, filter, nat_lt}
-use Rattle.std.specs.Ordering.{int_eq}
+use Rattle.std.proofs.Common.{◌≡◌, ℕ, zero, suc, ◌+◌, ◌<◌, ◌≤◌, Bool, true, false, ◌||◌, ◌&&◌, ◌==◌, not, cond, refl, sym, ap, ◌∙◌, List, [], ◌∷◌, ◌++◌, length, take, drop, get_or, arith}
+use Rattle.std.specs.Prelude.{Option, Some, None, filter}
 use Rattle.std.specs.List.{list_any}
-use Rattle.std.specs.Str.{bytes_eq}
 use Rattle.std.specs.Cmp.{booleans_Decides}
-use Rattle.std.proofs.Math.Bool.{beq}
-use Rattle.std.proofs.lemmas.Bool.{lt-ltb, le-ltb, ltb-true, ltb-false}
+use Rattle.std.proofs.lemmas.Bool.{le-ltb, ltb-false}
 use Rattle.std.proofs.lemmas.Bool.Decides.{Decides-eqb, Decides-int_eq}
 use Rattle.std.proofs.lemmas.List.{take_more}
 use Rattle.std.proofs.lemmas.List.Elements.{filter-append}
 use Rattle.std.proofs.lemmas.Slice.Eq.{bytes_eq-Decides}
-use Rattle.qvt_base.specs.declared.numbers.Oid.{Oid}
-use Rattle.qvt_value.specs.declared.value.LiteralRef.{LiteralRef}
 use Rattle.qvt_value.specs.declared.value.Value.{Value}
 use Rattle.qvt_value.specs.declared.value.Value.TheVariants.{Bool as BoolValue, Int as IntValue, Str as StrValue, Enum as EnumValue, Obj}
 use Rattle.qvt_meta.specs.Metamodels.{Metamodels, is_one, shape_of}
-use Rattle.qvt_relation.proofs.Bools.{and_left, and_right, or_none, none_left, none_right, or_false, clash, either}
-use Rattle.qvt_store.specs.Slots.{is_object, has, object_in}
+use Rattle.qvt_relation.proofs.Bools.{and_left, and_right, or_none, none_left, none_right, or_false, clash}
+use Rattle.qvt_store.specs.Slots.{is_object, has}
 use Rattle.qvt_store.specs.Change.{object_value, with_object}
-use Rattle.qvt_store.specs.Repeats.{same_literal, is_bool_of, is_int_of, is_text_of, is_literal_of, same_value, without_repeats, repeats, new_list}
+use Rattle.qvt_store.specs.Repeats.{same_value, without_repeats, repeats, new_list}
 use Rattle.qvt_store.specs.Assign.{is_beyond}
-use Rattle.qvt_store.proofs.Objects.{object-is}
 
 pub length-filter : (keep : Value → Bool) (vs : List Value) → length (filter keep vs) ≤ length vs
 length-filter keep [] = omega arith

@@ -1,14 +1,14 @@
 -- Cells that stand for the same keep the store.
-use Rattle.std.proofs.Common.{◌≡◌, ℕ, ◌≤◌, ◌<◌, Bool, true, refl, sym, ap, ◌∙◌, subst, List, length}
+use Rattle.std.proofs.Common.{◌≡◌, ◌≤◌, Bool, sym, ap, ◌∙◌, subst, List}
 use Rattle.qvt_base.specs.declared.numbers.Oid.{Oid}
 use Rattle.qvt_meta.specs.Metamodels.{Metamodels}
 use Rattle.qvt_store.specs.declared.cell.Cell.{Cell}
 use Rattle.qvt_store.specs.declared.extent.Extent.{Extent}
 use Rattle.qvt_store.specs.Slots.{has, Inside}
-use Rattle.qvt_store.specs.Contents.{Contents, Instance, slot_in, members_from}
+use Rattle.qvt_store.specs.Contents.{Instance, slot_in, members_from}
 use Rattle.qvt_store.specs.Types.{AreTyped}
 use Rattle.qvt_store.specs.Repeats.{AreUnique}
-use Rattle.qvt_store.specs.Cells.{instances, contents_of, IsKept, IsSameCells}
+use Rattle.qvt_store.specs.Cells.{contents_of, IsKept, IsSameCells}
 use Rattle.qvt_store.proofs.Holds.{same_count, have_same}
 
 pub same_kept : (m : Metamodels) (extents : List Extent) (old new : List Cell) (members : List (List Oid)) (distinct : Bool) → IsSameCells old new → IsKept m extents old members distinct → IsKept m extents new members distinct
@@ -24,6 +24,7 @@ same_kept m extents old new members distinct same kept' = record {
     acyclic = λ x i. kept'.whole.acyclic x (subst (λ (l : List Instance). Inside m (slot_in m l) x x) same.objects i);
   };
   typed = subst (λ (l : List Instance). AreTyped (record { metas = m; extents = extents; objects = l })) (sym same.objects) kept'.typed;
+  named = kept'.named;
   listed = record { count = kept'.listed.count; lists = λ e h. kept'.listed.lists e h ∙ ap (λ (l : List Instance). members_from 0 l e) (sym same.objects) };
   unique = λ t. subst (λ (l : List Instance). AreUnique (record { metas = m; extents = extents; objects = l })) (sym same.objects) (kept'.unique t);
 }

@@ -1,37 +1,36 @@
 -- An assignment that is not refused keeps a store sound.
-use Rattle.std.proofs.Common.{◌≡◌, ℕ, zero, suc, ◌+◌, ◌<◌, ◌≤◌, Bool, true, false, ◌||◌, ◌&&◌, ◌==◌, not, cond, ◌⊎◌, inl, inr, refl, sym, ap, ◌∙◌, subst, List, [], ◌∷◌, ◌++◌, map, length, get_or, arith, length-append}
-use Rattle.std.specs.Prelude.{Option, Some, None, Result, Ok, Err, filter, slice_index_or, nat_lt, All}
+use Rattle.std.proofs.Common.{◌≡◌, ℕ, ◌<◌, Bool, true, false, ◌==◌, not, cond, inl, inr, refl, sym, ap, ◌∙◌, subst, List, [], ◌∷◌, ◌++◌, length}
+use Rattle.std.specs.Prelude.{Option, Some, None, Ok, filter, All}
 use Rattle.std.specs.List.{list_any, list_all}
-use Rattle.std.proofs.lemmas.Bool.{lt-ltb, le-ltb, ltb-true, ltb-false}
+use Rattle.std.proofs.lemmas.Bool.{ltb-true}
 use Rattle.std.proofs.lemmas.Bool.Decides.{Decides-eqb}
 use Rattle.std.proofs.lemmas.List.Elements.{All-filter, All-head, All-tail, All-nil, All-cons, All-push}
 use Rattle.qvt_base.specs.declared.numbers.FeatureNo.{FeatureNo}
 use Rattle.qvt_base.specs.declared.numbers.Oid.{Oid}
 use Rattle.qvt_value.specs.declared.value.Value.{Value}
-use Rattle.qvt_value.specs.declared.value.Value.TheVariants.{Obj}
-use Rattle.qvt_meta.specs.Metamodels.{Metamodels, opposite, is_opposite, is_feature_number, is_single, is_one, has_feature, shape_of, class_at}
+use Rattle.qvt_meta.specs.Metamodels.{Metamodels, opposite, is_opposite, is_feature_number, is_single, shape_of, class_at}
 use Rattle.qvt_meta.specs.Named.{metamodel_at}
 use Rattle.qvt_meta.specs.WellFormed.{IsWellFormed}
-use Rattle.qvt_relation.proofs.Bools.{and_left, and_right, and_both, or_cases, or_left, or_right, or_none, none_left, none_right, either, clash, refuted, not_true, not_of_false, not_of_true}
+use Rattle.qvt_relation.proofs.Bools.{and_left, and_right, and_both, or_cases, none_left, none_right, either, clash, not_of_false}
 use Rattle.qvt_store.specs.declared.fault.StoreFault.{StoreFault}
 use Rattle.qvt_store.specs.declared.fault.StoreFault.TheVariants.{TooMany, ContainmentCycle, ReadOnly, CrossModel}
 use Rattle.qvt_store.specs.Slots.{Slots, has, OppositesAgree, OneContainer, Inside}
-use Rattle.qvt_store.specs.Change.{Change, object_value, is_here, is_added, among, gains, keeps, with_object, with_end, slot_elsewhere, slot_after}
-use Rattle.qvt_store.specs.Contents.{Contents, class_of, extent_of, extent_at, is_extent, is_live, is_model, is_named, is_slot, slot_of}
-use Rattle.qvt_store.specs.Types.{is_of_type, AreTyped, IsPlain, IsAssignable}
+use Rattle.qvt_store.specs.Change.{Change, object_value, is_here, among, gains, keeps, with_object, with_end, slot_after}
+use Rattle.qvt_store.specs.Contents.{Contents, AreNamed, class_of, extent_of, extent_at, is_extent, is_live, is_model, is_named, slot_of}
+use Rattle.qvt_store.specs.Types.{is_of_type, AreTyped, IsPlain}
 use Rattle.qvt_store.specs.Repeats.{repeats, same_value, without_repeats, new_list, AreUnique}
-use Rattle.qvt_store.specs.Assign.{change_to, change_of, is_beyond, is_overfull, overfills_end, is_too_many, is_cyclic, is_read_only, is_elsewhere, crosses, refusal_of, store_after, ok_unless, assign, append}
+use Rattle.qvt_store.specs.Assign.{change_to, change_of, is_beyond, is_overfull, overfills_end, is_too_many, is_cyclic, is_read_only, is_elsewhere, crosses, refusal_of, store_after, ok_unless}
 use Rattle.qvt_store.specs.Law.{IsMade, FitsSingle}
-use Rattle.qvt_store.specs.Sound.{IsOwnClass, Sound, AreNamed, AssignKeepsSound, AppendKeepsSound}
+use Rattle.qvt_store.specs.Sound.{IsClassFor, Sound, AssignKeepsSound, AppendKeepsSound}
 use Rattle.qvt_store.proofs.Objects.{not_any}
-use Rattle.qvt_store.proofs.Held.{HeldAfter, given, kept, gained, held_after, added_new}
-use Rattle.qvt_store.proofs.Opposites.{here, here_again, same_number, keeps_opposites}
+use Rattle.qvt_store.proofs.Held.{given, kept, gained, held_after, added_new}
+use Rattle.qvt_store.proofs.Opposites.{here, keeps_opposites}
 use Rattle.qvt_store.proofs.Containers.{keeps_one_container}
 use Rattle.qvt_store.proofs.Cyclic.{Bounded, inside-cyclic}
 use Rattle.qvt_store.proofs.Typed.{all_kept}
 use Rattle.qvt_store.proofs.Repeating.{length-filter, fewer_fit, single_fits, repeats-filter, repeats-with_object, new_no_repeats}
 use Rattle.qvt_store.specs.Ready.{IsFit}
-use Rattle.qvt_store.proofs.After.{fit_of, all-filter, kind_of_object, features_always, holder_slot, slot-after, slots-after, live-after, class-after, extent-after}
+use Rattle.qvt_store.proofs.After.{fit_of, all-filter, kind_of_object, features_always, holder_slot, slot-after, slots-after, live-after, class-after, extent-after, lists-after}
 
 pub no_refusal : (a b d e : Bool) → cond a (Some TooMany) (cond b (Some ContainmentCycle) (cond d (Some ReadOnly) (cond e (Some CrossModel) None))) ≡ None →
     (a ≡ false) × (b ≡ false) × (d ≡ false) × (e ≡ false)
@@ -128,7 +127,7 @@ module _ (s : Contents) (o p : ℕ) (ws : List Value) where
       own_type : gains k x f ≡ true → is_of_type s f (object_value o) ≡ true
       own_type g = kind_of_object s (shape_of s.metas f).kind o (and_left _ _ fit.slot) (well.opposite_has_type p f (class_of s o) (and_left _ _ g) (and_right (is_live s o) _ fit.slot))
 
-module _ (s : Contents) (o p : ℕ) (ws : List Value) (well : IsWellFormed s.metas) (named : AreNamed s) (fit : IsFit s o p ws) (plain : All IsPlain ws)
+module _ (s : Contents) (o p : ℕ) (ws : List Value) (well : IsWellFormed s.metas) (named : AreNamed s.metas s.extents) (fit : IsFit s o p ws) (plain : All IsPlain ws)
     (uniq : (shape_of s.metas p).unique ≡ true → repeats ws ≡ false) (sound : Sound s) (none : refusal_of s (change_to s o p ws) ≡ None) where
   abbrev c : Change
   c = change_to s o p ws
@@ -179,7 +178,7 @@ module _ (s : Contents) (o p : ℕ) (ws : List Value) (well : IsWellFormed s.met
   own_model f opp = elim (either (is_model s (extent_of s o))) [
     | inl yes' ↦ yes'
     | inr no' ↦
-        let own : IsOwnClass s o = sound.classes o (and_left _ _ fit.slot) in
+        let own : IsClassFor s (class_of s o) (extent_of s o) = sound.classes o (and_left _ _ fit.slot) in
         let unnamed : is_named (metamodel_at s.metas (class_at s.metas (class_of s o)).metamodel).name ≡ false =
         ap (λ n. is_named (metamodel_at s.metas n).name) own.metamodel ∙ sym (named.named (extent_of s o) own.extent) ∙ no' in
         clash _ opp (well.unnamed_alone p f (class_of s o) (and_right (is_live s o) _ fit.slot) (no_name (metamodel_at s.metas (class_at s.metas (class_of s o)).metamodel).name unnamed))
@@ -218,11 +217,13 @@ module _ (s : Contents) (o p : ℕ) (ws : List Value) (well : IsWellFormed s.met
 
   pub keeps_sound : Sound s'
   keeps_sound = record {
-    classes = λ x live. let old : IsOwnClass s x = sound.classes x (sym (live-after s o p ws well fit x) ∙ live) in record {
+    classes = λ x live. let old : IsClassFor s (class_of s x) (extent_of s x) = sound.classes x (sym (live-after s o p ws well fit x) ∙ live) in record {
       extent = ap (λ e. is_extent s e) (extent-after s o p ws well fit x) ∙ old.extent;
+      live = subst (λ n. n < length s.metas.classes) (sym (class-after s o p ws well fit x)) old.live;
       metamodel = ap (λ n. (class_at s.metas n).metamodel) (class-after s o p ws well fit x) ∙ old.metamodel ∙ ap (λ n. (extent_at s n).metamodel) (sym (extent-after s o p ws well fit x));
       concrete = ap (λ n. (class_at s.metas n).is_abstract) (class-after s o p ws well fit x) ∙ old.concrete;
     };
+    lists = λ x live. lists-after s o p ws well fit x (sym (live-after s o p ws well fit x) ∙ live);
     features = features_always s';
     typed = record {
       types = λ x f. subst (λ (l : List Value). list_all (is_of_type s' f) l ≡ true) (sym (slot-after s o p ws well fit x f))

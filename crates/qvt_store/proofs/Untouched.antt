@@ -1,19 +1,19 @@
 -- A slot that no rule names has the list that it had.
-use Rattle.std.proofs.Common.{◌≡◌, ◌≢◌, ℕ, Bool, true, false, ◌||◌, ◌&&◌, ◌==◌, not, cond, ◌⊎◌, inl, inr, refl, sym, ap, ◌∙◌, subst, List, [], ◌∷◌}
+use Rattle.std.proofs.Common.{◌≡◌, ℕ, Bool, true, false, ◌||◌, ◌&&◌, ◌==◌, not, cond, inl, inr, refl, ap, ◌∙◌, subst, List, [], ◌∷◌}
 use Rattle.std.specs.Prelude.{Option, Some, None, filter}
 use Rattle.std.specs.List.{list_any}
 use Rattle.std.proofs.lemmas.Bool.Decides.{Decides-eqb}
 use Rattle.std.proofs.lemmas.List.Elements.{All-nil}
 use Rattle.qvt_base.specs.declared.numbers.FeatureNo.{FeatureNo}
 use Rattle.qvt_value.specs.declared.value.Value.{Value}
-use Rattle.qvt_meta.specs.Metamodels.{Metamodels, opposite, is_opposite, is_feature_number, is_containment, is_single}
+use Rattle.qvt_meta.specs.Metamodels.{opposite, is_opposite, is_feature_number, is_containment}
 use Rattle.qvt_meta.specs.WellFormed.{IsWellFormed}
-use Rattle.qvt_relation.proofs.Bools.{and_left, and_right, and_both, and_false, and_false_left, or_left, or_right, or_cases, or_none, none_left, none_right, none_of, either, refuted, clash}
+use Rattle.qvt_relation.proofs.Bools.{and_left, and_right, and_false, and_false_left, or_left, or_right, or_cases, or_none, none_left, none_right, none_of, refuted, clash}
 use Rattle.qvt_store.specs.declared.commit.Write.{Write}
-use Rattle.qvt_store.specs.Slots.{Slots, object_in, passes, is_object_with, is_object, has}
+use Rattle.qvt_store.specs.Slots.{Slots, object_in, passes, is_object, has}
 use Rattle.qvt_store.specs.Change.{Change, is_some_object, among, is_here, is_added, is_removed, is_container, gains, is_taken, is_replaced, is_moved_in, is_moved, leaves, is_left, loses, keeps, with_end, slot_elsewhere}
 use Rattle.qvt_store.specs.Contents.{Contents, is_slot, slot_of}
-use Rattle.qvt_store.specs.Plan.{listed, IsRight, Plans, IsOwnerSlot, IsAround, holding, opposed, IsAroundSome, IsOpposed, before, after, owner, IsRehoused, items, itself, IsPlan}
+use Rattle.qvt_store.specs.Plan.{listed, IsRight, Plans, holding, opposed, IsOpposed, before, after, owner, IsRehoused, items, itself, IsPlan}
 use Rattle.qvt_store.proofs.Opposites.{same_number, here}
 
 -- the ways in which slot (x, f) may get another list

@@ -1,7 +1,6 @@
 -- Small stores, computed.
 use Rattle.std.proofs.Common.{◌≡◌, ℕ, Bool, true, false, List, [], ◌∷◌, refl}
-use Rattle.std.specs.Prelude.{Option, Some, None, Result, Ok, Err}
-use Rattle.qvt_base.specs.declared.numbers.ClassNo.{ClassNo}
+use Rattle.std.specs.Prelude.{Option, Some, None, Ok, Err}
 use Rattle.qvt_base.specs.declared.numbers.FeatureNo.{FeatureNo}
 use Rattle.qvt_value.specs.declared.value.Value.{Value}
 use Rattle.qvt_meta.specs.declared.info.TypeKind.TheVariants.{Class as ClassKind}

@@ -1,5 +1,5 @@
 -- A store after an assignment to a slot, or the first refusal. It is given for all slots at once, by what the change does to each.
-use Rattle.std.specs.Prelude.{◌≡◌, ℕ, zero, suc, Bool, true, false, ◌==◌, ◌||◌, ◌&&◌, nat_lt, not, List, [], ◌∷◌, ◌++◌, map, length, IsTrue, IsFalse, if◌then◌else◌, Option, Some, None, Result, Ok, Err}
+use Rattle.std.specs.Prelude.{ℕ, suc, Bool, false, ◌==◌, ◌||◌, ◌&&◌, nat_lt, not, List, [], ◌∷◌, ◌++◌, map, length, if◌then◌else◌, Option, Some, None, Result, Ok, Err}
 use Rattle.std.specs.List.{list_any}
 use Rattle.qvt_base.specs.declared.numbers.FeatureNo.{FeatureNo}
 use Rattle.qvt_base.specs.declared.numbers.Oid.{Oid}

@@ -1,17 +1,16 @@
 -- How a store is kept: numbered cells of objects, each with the containment slot that holds it, and for each extent the list
 -- of its objects.
-use Rattle.std.specs.Prelude.{◌≡◌, ◌≢◌, ℕ, ◌<◌, ◌≤◌, Bool, List, [], map, length, slice_index_or, slice_set, IsTrue, IsFalse, Option, Some, None, ◌==◌, ◌&&◌, if◌then◌else◌}
-use Rattle.std.specs.List.{list_all}
+use Rattle.std.specs.Prelude.{◌≡◌, ◌≢◌, ℕ, ◌<◌, ◌≤◌, Bool, List, [], map, length, slice_index_or, slice_set, IsTrue, Option, Some, None, ◌==◌, ◌&&◌, if◌then◌else◌}
 use Rattle.qvt_base.specs.declared.numbers.FeatureNo.{FeatureNo}
 use Rattle.qvt_base.specs.declared.numbers.Oid.{Oid}
 use Rattle.qvt_value.specs.declared.value.Value.{Value}
-use Rattle.qvt_meta.specs.Metamodels.{Metamodels, features_of, is_containment, shape_of}
+use Rattle.qvt_meta.specs.Metamodels.{Metamodels, features_of, is_containment}
 use Rattle.qvt_meta.specs.WellFormed.{IsWellFormed}
 use Rattle.qvt_store.specs.declared.extent.Extent.{Extent}
 use Rattle.qvt_store.specs.declared.cell.Holder.{Holder}
 use Rattle.qvt_store.specs.declared.cell.Cell.{Cell}
 use Rattle.qvt_store.specs.Slots.{Slots, has, Inside}
-use Rattle.qvt_store.specs.Contents.{Instance, Contents, no_instance, slot_in, slot_of, members_from, set_slot}
+use Rattle.qvt_store.specs.Contents.{Instance, Contents, AreNamed, no_instance, slot_in, members_from, set_slot}
 use Rattle.qvt_store.specs.Types.{AreTyped}
 use Rattle.qvt_store.specs.Repeats.{AreUnique}
 
@@ -58,6 +57,7 @@ pub record AreMembers (extents : List Extent) (cells : List Cell) (members : Lis
 -- `distinct` is set only where no unique slot repeats a value
 pub record IsKept (m : Metamodels) (extents : List Extent) (cells : List Cell) (members : List (List Oid)) (distinct : Bool) : Type 0 where
   pub whole : AreWhole m cells
+  pub named : AreNamed m extents
   pub typed : AreTyped (contents_of m extents cells)
   pub listed : AreMembers extents cells members
   pub unique : IsTrue distinct → AreUnique (contents_of m extents cells)

@@ -1,11 +1,12 @@
 -- A store as plain data (EMOF 12): its metamodels, its extents, and its objects by number with their class, their extent and
 -- their slots. Look-ups are total: past the end they answer a default, and a pair that is no slot has the empty list.
-use Rattle.std.specs.Prelude.{ℕ, suc, Bool, true, false, ◌==◌, ◌&&◌, nat_lt, List, [], ◌∷◌, ◌++◌, map, length, slice_index_or, slice_set, if◌then◌else◌}
+use Rattle.std.specs.Prelude.{◌≡◌, ℕ, suc, Bool, true, false, IsTrue, ◌==◌, ◌&&◌, nat_lt, List, [], ◌∷◌, ◌++◌, map, length, slice_index_or, slice_set, if◌then◌else◌}
 use Rattle.qvt_base.specs.declared.numbers.FeatureNo.{FeatureNo}
 use Rattle.qvt_base.specs.declared.numbers.Oid.{Oid}
 use Rattle.qvt_value.specs.declared.value.Value.{Value}
 use Rattle.qvt_store.specs.declared.extent.Extent.{Extent}
 use Rattle.qvt_meta.specs.Metamodels.{Metamodels, features_of, has_feature}
+use Rattle.qvt_meta.specs.Named.{metamodel_at}
 use Rattle.qvt_store.specs.Slots.{Slots}
 
 -- `slots` has the list of each feature of the class, in their order
@@ -50,6 +51,10 @@ is_named (b ∷ bs) = true
 
 abbrev pub is_model : Contents → ℕ → Bool
 is_model s e = is_named (extent_at s e).name
+
+-- an extent has a name exactly where its metamodel has one
+pub record AreNamed (m : Metamodels) (extents : List Extent) : Type 0 where
+  pub named : (e : ℕ) → IsTrue (nat_lt e (length extents)) → is_named (slice_index_or extents e no_extent).name ≡ is_named (metamodel_at m (slice_index_or extents e no_extent).metamodel).name
 
 abbrev pub is_writable : Contents → ℕ → Bool
 is_writable s x = (extent_at s (extent_of s x)).writable

@@ -1,12 +1,12 @@
 -- A change as it is prepared: the slot, and what is added and removed. The new list is not needed for the other slots.
-use Rattle.std.specs.Prelude.{◌≡◌, ℕ, Bool, true, false, ◌||◌, List, [], length, IsTrue, IsFalse, Option, Some, None}
+use Rattle.std.specs.Prelude.{◌≡◌, ℕ, Bool, false, ◌||◌, List, [], length, IsTrue, IsFalse, Option, Some, None}
 use Rattle.std.specs.List.{list_any}
 use Rattle.qvt_base.specs.declared.numbers.FeatureNo.{FeatureNo}
 use Rattle.qvt_base.specs.declared.numbers.Oid.{Oid}
 use Rattle.qvt_value.specs.declared.value.Value.{Value}
 use Rattle.qvt_meta.specs.Metamodels.{shape_of, opposite}
 use Rattle.qvt_store.specs.declared.fault.StoreFault.{StoreFault}
-use Rattle.qvt_store.specs.declared.fault.StoreFault.TheVariants.{TooMany, ContainmentCycle, ReadOnly, CrossModel, TooManyObjects, NoMemory}
+use Rattle.qvt_store.specs.declared.fault.StoreFault.TheVariants.{TooMany, ContainmentCycle, ReadOnly, NoMemory}
 use Rattle.qvt_store.specs.declared.draft.Draft.{Draft}
 use Rattle.qvt_store.specs.Change.{Change, objects_beyond, is_added, slot_elsewhere}
 use Rattle.qvt_store.specs.Contents.{Contents, is_live, slot_of}

@@ -1,6 +1,6 @@
 -- What a change keeps of all slots.
-use Rattle.std.specs.Prelude.{◌≡◌, ℕ, ◌≤◌, length, IsTrue}
-use Rattle.qvt_meta.specs.Metamodels.{Metamodels, is_single}
+use Rattle.std.specs.Prelude.{◌≡◌, ◌≤◌, length, IsTrue}
+use Rattle.qvt_meta.specs.Metamodels.{is_single}
 use Rattle.qvt_meta.specs.WellFormed.{IsWellFormed}
 use Rattle.qvt_store.specs.Slots.{OppositesAgree, OneContainer}
 use Rattle.qvt_store.specs.Change.{Change, objects_beyond, slot_after}

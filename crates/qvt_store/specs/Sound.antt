@@ -1,23 +1,28 @@
 -- What every store keeps that is changed by assignments alone (EMOF 12, and the rules of models): `Sound`, part by part.
-use Rattle.std.specs.Prelude.{◌≡◌, ℕ, ◌<◌, Bool, true, false, List, [], ◌∷◌, ◌++◌, length, IsTrue, IsFalse, ◌⊎◌, All, Result, Ok, Err}
+use Rattle.std.specs.Prelude.{◌≡◌, ℕ, ◌<◌, List, [], ◌∷◌, length, IsTrue, IsFalse, ◌⊎◌, All, Ok}
 use Rattle.qvt_value.specs.declared.value.Value.{Value}
-use Rattle.qvt_meta.specs.Metamodels.{Metamodels, class_at, shape_of, has_feature}
-use Rattle.qvt_meta.specs.Named.{metamodel_at}
+use Rattle.qvt_meta.specs.Metamodels.{Metamodels, class_at, features_of, shape_of}
 use Rattle.qvt_meta.specs.WellFormed.{IsWellFormed}
-use Rattle.qvt_store.specs.Slots.{Slots, has, OppositesAgree, OneContainer, Inside}
-use Rattle.qvt_store.specs.Contents.{Contents, class_of, extent_of, extent_at, is_extent, is_live, is_model, is_named, is_slot, slot_of}
-use Rattle.qvt_store.specs.Types.{AreTyped, IsPlain, IsAssignable, is_of_type}
-use Rattle.qvt_store.specs.Repeats.{AreUnique}
-use Rattle.qvt_store.specs.Assign.{is_beyond, assign, append}
+use Rattle.qvt_store.specs.declared.extent.Extent.{Extent}
+use Rattle.qvt_store.specs.Slots.{has, OppositesAgree, OneContainer, Inside}
+use Rattle.qvt_store.specs.Contents.{Contents, AreNamed, object_at, class_of, extent_of, extent_at, is_extent, is_live, is_model, is_slot, slot_of, with_new, with_slot}
+use Rattle.qvt_store.specs.Types.{AreTyped, IsPlain, IsAssignable}
+use Rattle.qvt_store.specs.Repeats.{AreUnique, repeats}
+use Rattle.qvt_store.specs.Place.{IsPlaceable}
+use Rattle.qvt_store.specs.Assign.{is_beyond, crosses, assign, append}
 
--- object x is in an extent that is there, and of a concrete class of the extent's metamodel
-pub record IsOwnClass (s : Contents) (x : ℕ) : Type 0 where
-  pub extent : IsTrue (is_extent s (extent_of s x))
-  pub metamodel : (class_at s.metas (class_of s x)).metamodel ≡ (extent_at s (extent_of s x)).metamodel
-  pub concrete : IsFalse (class_at s.metas (class_of s x)).is_abstract
+-- class c is concrete and of the metamodel of extent e, and both are there
+pub record IsClassFor (s : Contents) (c e : ℕ) : Type 0 where
+  pub extent : IsTrue (is_extent s e)
+  pub live : c < length s.metas.classes
+  pub metamodel : (class_at s.metas c).metamodel ≡ (extent_at s e).metamodel
+  pub concrete : IsFalse (class_at s.metas c).is_abstract
 
 pub record Sound (s : Contents) : Type 0 where
-  pub classes : (x : ℕ) → IsTrue (is_live s x) → IsOwnClass s x
+  -- each object is of a concrete class of its extent's metamodel
+  pub classes : (x : ℕ) → IsTrue (is_live s x) → IsClassFor s (class_of s x) (extent_of s x)
+  -- and has a list for each feature of its class
+  pub lists : (x : ℕ) → IsTrue (is_live s x) → length (object_at s x).slots ≡ length (features_of s.metas (class_of s x))
   -- only an object that is there has a slot with items, of a feature of its class
   pub features : (x f : ℕ) → IsTrue (is_slot s x f) ⊎ (slot_of s x f ≡ [])
   pub typed : AreTyped s
@@ -31,16 +36,53 @@ pub record Sound (s : Contents) : Type 0 where
   -- an extent of a model holds references to its own objects alone
   pub own_objects : (x f y : ℕ) → IsTrue (is_model s (extent_of s x)) → IsTrue (has (slot_of s x f) y) → extent_of s y ≡ extent_of s x
 
--- an extent has a name exactly where its metamodel has one
-pub record AreNamed (s : Contents) : Type 0 where
-  pub named : (e : ℕ) → IsTrue (is_extent s e) → is_model s e ≡ is_named (metamodel_at s.metas (extent_at s e).metamodel).name
+-- what a store keeps while a model is loaded: every part of `Sound` but that opposite slots agree
+pub record SoundButOpposites (s : Contents) : Type 0 where
+  pub classes : (x : ℕ) → IsTrue (is_live s x) → IsClassFor s (class_of s x) (extent_of s x)
+  pub lists : (x : ℕ) → IsTrue (is_live s x) → length (object_at s x).slots ≡ length (features_of s.metas (class_of s x))
+  pub features : (x f : ℕ) → IsTrue (is_slot s x f) ⊎ (slot_of s x f ≡ [])
+  pub typed : AreTyped s
+  pub plain : (x f : ℕ) → All IsPlain (slot_of s x f)
+  pub bounds : (x f : ℕ) → IsFalse (is_beyond (length (slot_of s x f)) (shape_of s.metas f).upper)
+  pub unique : AreUnique s
+  pub containers : OneContainer s.metas (slot_of s)
+  pub outside_itself : (x : ℕ) → Inside s.metas (slot_of s) x x → ⊥
+  pub own_objects : (x f y : ℕ) → IsTrue (is_model s (extent_of s x)) → IsTrue (has (slot_of s x f) y) → extent_of s y ≡ extent_of s x
+
+-- a list that a sound store may hold in slot (o, p)
+pub record IsSoundList (s : Contents) (o p : ℕ) (vs : List Value) : Type 0 where
+  pub plain : All IsPlain vs
+  pub bound : IsFalse (is_beyond (length vs) (shape_of s.metas p).upper)
+  pub unique : IsTrue (shape_of s.metas p).unique → IsFalse (repeats vs)
+  pub own_objects : IsFalse (crosses s o vs)
+
+-- a store with no objects is sound
+abbrev pub NewIsSound : Type 0
+NewIsSound = (m : Metamodels) (extents : List Extent) → Sound (record { metas = m; extents = extents; objects = [] })
+
+-- one more object keeps a store sound
+abbrev pub AddKeepsSound : Type 0
+AddKeepsSound = (s : Contents) (c e : ℕ) → IsClassFor s c e → Sound s → Sound (with_new s c e)
 
 -- an assignment that is not refused keeps a store sound
 abbrev pub AssignKeepsSound : Type 0
-AssignKeepsSound = (s s' : Contents) (o p : ℕ) (vs : List Value) → IsWellFormed s.metas → AreNamed s → IsAssignable s o p vs → All IsPlain vs →
+AssignKeepsSound = (s s' : Contents) (o p : ℕ) (vs : List Value) → IsWellFormed s.metas → AreNamed s.metas s.extents → IsAssignable s o p vs → All IsPlain vs →
     Sound s → assign s o p vs ≡ Ok s' → Sound s'
 
 -- so does an append
 abbrev pub AppendKeepsSound : Type 0
-AppendKeepsSound = (s s' : Contents) (o p : ℕ) (v : Value) → IsWellFormed s.metas → AreNamed s → IsAssignable s o p (v ∷ []) → All IsPlain (v ∷ []) →
+AppendKeepsSound = (s s' : Contents) (o p : ℕ) (v : Value) → IsWellFormed s.metas → AreNamed s.metas s.extents → IsAssignable s o p (v ∷ []) → All IsPlain (v ∷ []) →
     Sound s → append s o p v ≡ Ok s' → Sound s'
+
+-- Loading begins with a sound store, and ends with one where the opposite slots agree again. Each step between keeps all else.
+abbrev pub LoadBegins : Type 0
+LoadBegins = (s : Contents) → Sound s → SoundButOpposites s
+
+abbrev pub AddKeepsLoading : Type 0
+AddKeepsLoading = (s : Contents) (c e : ℕ) → IsClassFor s c e → SoundButOpposites s → SoundButOpposites (with_new s c e)
+
+abbrev pub PlaceKeepsLoading : Type 0
+PlaceKeepsLoading = (s : Contents) (o p : ℕ) (vs : List Value) → IsPlaceable s o p vs → IsSoundList s o p vs → SoundButOpposites s → SoundButOpposites (with_slot s o p vs)
+
+abbrev pub LoadEnds : Type 0
+LoadEnds = (s : Contents) → SoundButOpposites s → OppositesAgree s.metas (slot_of s) → Sound s

@@ -1,8 +1,7 @@
 -- Writes of whole slots into the cells, and the holders that follow.
-use Rattle.std.specs.Prelude.{◌≡◌, ℕ, ◌<◌, Bool, true, false, List, [], ◌∷◌, ◌++◌, length, IsTrue, Option, Some, None, ◌==◌, ◌&&◌, if◌then◌else◌}
-use Rattle.std.specs.List.{list_any, flat_map}
+use Rattle.std.specs.Prelude.{◌≡◌, ℕ, ◌<◌, Bool, List, [], ◌∷◌, ◌++◌, length, IsTrue, Option, Some, None, ◌==◌, ◌&&◌, if◌then◌else◌}
+use Rattle.std.specs.List.{flat_map}
 use Rattle.qvt_base.specs.declared.numbers.Oid.{Oid}
-use Rattle.qvt_value.specs.declared.value.Value.{Value}
 use Rattle.qvt_meta.specs.Metamodels.{Metamodels, has_feature, is_containment}
 use Rattle.qvt_store.specs.declared.cell.Holder.{Holder}
 use Rattle.qvt_store.specs.declared.cell.Cell.{Cell}

@@ -1,7 +1,7 @@
 //! Laws of the definitions, each on a function that does nothing.
 
 ghost use Rattle.qvt_store.specs.Law.{KeepsOpposites, KeepsOneContainer};
-ghost use Rattle.qvt_store.specs.Sound.{AssignKeepsSound, AppendKeepsSound};
+ghost use Rattle.qvt_store.specs.Sound.{NewIsSound, AddKeepsSound, AssignKeepsSound, AppendKeepsSound, LoadBegins, AddKeepsLoading, PlaceKeepsLoading, LoadEnds};
 
 /// A change keeps that opposite slots agree.
 pub fn change_keeps_opposites()
@@ -13,6 +13,16 @@ pub fn change_keeps_one_container()
     ensures { KeepsOneContainer }
 {}
 
+/// A store with no objects is sound.
+pub fn new_is_sound()
+    ensures { NewIsSound }
+{}
+
+/// One more object keeps a store sound.
+pub fn add_keeps_sound()
+    ensures { AddKeepsSound }
+{}
+
 /// An assignment that is not refused keeps a store sound.
 pub fn assign_keeps_sound()
     ensures { AssignKeepsSound }
@@ -21,4 +31,25 @@ pub fn assign_keeps_sound()
 /// An append that is not refused keeps a store sound.
 pub fn append_keeps_sound()
     ensures { AppendKeepsSound }
+{}
+
+/// A sound store can be loaded into: while it is loaded, opposite slots may disagree.
+pub fn load_begins()
+    ensures { LoadBegins }
+{}
+
+/// One more object keeps a store that is loaded.
+pub fn add_keeps_loading()
+    ensures { AddKeepsLoading }
+{}
+
+/// A slot that is placed, with a list that a sound store may hold there, keeps a store that is
+/// loaded.
+pub fn place_keeps_loading()
+    ensures { PlaceKeepsLoading }
+{}
+
+/// A store that is loaded is sound where opposite slots agree again.
+pub fn load_ends()
+    ensures { LoadEnds }
 {}

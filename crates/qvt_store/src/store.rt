@@ -2,9 +2,10 @@ ghost use Rattle.std.specs.Prelude.{◌≡◌, ◌<◌, ◌≤◌, [], length, I
 ghost use Rattle.qvt_store.specs.Slots.{Contains, has};
 ghost use Rattle.qvt_store.specs.Cells.{holder_in};
 ghost use Rattle.qvt_meta.specs.Metamodels.{has_feature, is_containment};
-ghost use Rattle.qvt_store.specs.Contents.{is_live, is_extent, class_of, extent_of, slot_of, members_of, with_new};
+ghost use Rattle.qvt_store.specs.Contents.{AreNamed, is_live, is_extent, class_of, extent_of, slot_of, members_of, with_new};
 ghost use Rattle.qvt_store.specs.Members.{AreEmpty};
 ghost use Rattle.qvt_store.specs.Fault.{IsAddFault};
+ghost use Rattle.qvt_store.specs.Sound.{IsClassFor};
 
 mod append;
 mod assign;
@@ -58,6 +59,7 @@ impl Model for Store {
 impl Store {
     /// A store with no objects.
     pub fn new(alloc: Global, metas: &Metas, extents: &ExtentList) -> Result<Store, StoreFault>
+        requires { AreNamed metas.now extents.now }
         ensures ok { IfOk result (λ store. store ≡ record { metas = metas.now; extents = extents.now; objects = [] }) }
         ensures err { IfErr result (λ fault. fault ≡ StoreFault.NoMemory) }
     {
@@ -87,8 +89,10 @@ impl Store {
         &self.metas
     }
 
+    /// What the store was made with. An extent has a name exactly where its metamodel has one.
     pub fn extents(&self) -> &ExtentList
-        ensures { result.now ≡ self.now.extents }
+        ensures lent { result.now ≡ self.now.extents }
+        ensures named { AreNamed self.now.metas self.now.extents }
     {
         &self.extents
     }
@@ -173,7 +177,7 @@ impl Store {
         class: ClassNo,
         extent: u32,
     ) -> Result<Oid, StoreFault>
-        requires { IsTrue (is_extent self.old extent) }
+        requires { IsClassFor self.old class.0 extent }
         ensures number { IfOk result (λ object. object.0 ≡ length self.old.objects) }
         ensures ok { OnOk result (self.new ≡ with_new self.old class.0 extent) }
         ensures room { OnOk result (length self.old.objects < 1000000) }

@@ -1,4 +1,4 @@
-use Rattle.std.proofs.Common.{◌≡◌, ◌∙◌, ◌<◌, true, ◌++◌, ◌∷◌, [], sym, ap, subst, List, ℕ, take}
+use Rattle.std.proofs.Common.{◌≡◌, ◌∙◌, true, ◌++◌, ◌∷◌, [], sym, ap, subst, List, take}
 use Rattle.std.proofs.lemmas.List.{take_all, take_more}
 use Rattle.qvt_meta.specs.Metamodels.{is_containment}
 use Rattle.qvt_store.proofs.Holds.{by_more, live_same}

@@ -1,4 +1,4 @@
-use Rattle.std.proofs.Common.{◌≡◌, ◌==◌, ◌<◌, ◌+◌, sym, subst, refl, ℕ, List, take, get_or}
+use Rattle.std.proofs.Common.{◌==◌, ◌<◌, ◌+◌, sym, subst, refl, ℕ, List, take, get_or}
 use Rattle.std.proofs.lemmas.List.{take_all}
 use Rattle.qvt_base.specs.declared.numbers.Oid.{Oid}
 use Rattle.qvt_store.specs.Change.{among}

@@ -1,4 +1,4 @@
-use Rattle.std.proofs.Common.{◌≡◌, ◌∙◌, ◌∷◌, [], ◌||◌, ◌+◌, sym, ap, subst, List, take, get_or}
+use Rattle.std.proofs.Common.{◌∙◌, ◌∷◌, [], ◌||◌, ◌+◌, sym, ap, subst, List, take}
 use Rattle.std.proofs.lemmas.List.{take_all}
 use Rattle.qvt_value.specs.declared.value.Value.{Value}
 use Rattle.qvt_store.specs.Slots.{has}

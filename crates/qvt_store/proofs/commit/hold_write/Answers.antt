@@ -1,11 +1,11 @@
-use Rattle.std.proofs.Common.{◌≡◌, ◌∙◌, sym, ap, subst, List}
+use Rattle.std.proofs.Common.{◌∙◌, sym, ap, subst, List}
 use Rattle.std.specs.Prelude.{Some}
 use Rattle.qvt_value.specs.declared.value.Value.{Value}
 use Rattle.qvt_meta.specs.declared.info.FeatureShape.{FeatureShape}
 use Rattle.qvt_store.specs.Slots.{has}
 use Rattle.qvt_store.specs.Cells.{holder_in}
 use Rattle.qvt_store.specs.Writes.{AreHeld}
-use Rattle.qvt_store.proofs.Holds.{by_contained, by_plain, not_false}
+use Rattle.qvt_store.proofs.Holds.{by_contained, not_false}
 use Rattle.qvt_store.proofs.commit.hold_write.Goals as goal
 
 pub returns : goal.returns

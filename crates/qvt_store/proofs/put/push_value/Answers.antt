@@ -1,9 +1,8 @@
-use Rattle.std.proofs.Common.{◌≡◌, ◌∙◌, ◌++◌, ◌∷◌, [], refl, sym, ap, subst, List, set}
+use Rattle.std.proofs.Common.{◌∙◌, ◌++◌, ◌∷◌, [], refl, sym, ap, subst, List}
 use Rattle.std.specs.Prelude.{slice_index_or}
 use Rattle.qvt_base.specs.declared.numbers.FeatureNo.{FeatureNo}
 use Rattle.qvt_value.specs.declared.value.Value.{Value}
-use Rattle.qvt_store.specs.Contents.{slot_in}
-use Rattle.qvt_store.specs.Cells.{IsPlaceOf, IsPut, IsSameCells, instances}
+use Rattle.qvt_store.specs.Cells.{IsPlaceOf}
 use Rattle.qvt_store.proofs.Cells.{put_is, slot-cell}
 use Rattle.qvt_store.proofs.Pushed.{same_cells, on_err, put_same}
 use Rattle.qvt_store.proofs.put.push_value.Goals as goal

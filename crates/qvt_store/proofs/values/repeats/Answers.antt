@@ -1,7 +1,6 @@
-use Rattle.std.proofs.Common.{◌≡◌, ◌∙◌, ◌||◌, ◌+◌, drop, List, [], true, false, sym, ap, get_or}
+use Rattle.std.proofs.Common.{◌∙◌, ◌||◌, ◌+◌, drop, sym, ap}
 use Rattle.std.specs.List.{list_any}
 use Rattle.std.proofs.lemmas.List.{drop_all}
-use Rattle.qvt_value.specs.declared.value.Value.{Value}
 use Rattle.qvt_store.specs.Repeats.{same_value, repeats}
 use Rattle.qvt_store.proofs.Repeating.{repeats-drop}
 use Rattle.qvt_store.proofs.values.repeats.Goals as goal

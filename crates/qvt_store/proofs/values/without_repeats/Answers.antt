@@ -1,4 +1,4 @@
-use Rattle.std.proofs.Common.{◌≡◌, ◌∙◌, ◌++◌, ◌∷◌, [], List, true, false, cond, sym, ap, get_or, subst}
+use Rattle.std.proofs.Common.{◌∙◌, ◌++◌, ◌∷◌, [], cond, sym, ap, get_or}
 use Rattle.std.specs.List.{list_any}
 use Rattle.qvt_value.specs.declared.value.Value.{Value}
 use Rattle.qvt_store.specs.Repeats.{same_value}

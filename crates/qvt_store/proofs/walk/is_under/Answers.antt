@@ -1,9 +1,9 @@
-use Rattle.std.proofs.Common.{◌≡◌, ◌<◌, ◌↔◌, length, refl, sym, ◌∙◌, ap, false, true}
-use Rattle.std.specs.Prelude.{Some, None}
+use Rattle.std.proofs.Common.{◌≡◌, refl, sym, ◌∙◌, false}
+use Rattle.std.specs.Prelude.{None}
 use Rattle.qvt_relation.proofs.Bools.{clash}
 use Rattle.qvt_store.specs.Cells.{holder_at}
 use Rattle.qvt_store.proofs.Cells.{cell-holder}
-use Rattle.qvt_store.proofs.Walks.{Walked, walk_starts, walk_goes_on, walk_finds, walk_ends, depth_falls}
+use Rattle.qvt_store.proofs.Walks.{walk_starts, walk_goes_on, walk_finds, walk_ends, depth_falls}
 use Rattle.qvt_store.proofs.walk.is_under.Goals as goal
 
 pub loop-at-init : goal.loop-at-init

@@ -12,7 +12,7 @@ pub invariant_of-self-2 : goal.invariant_of-self-2
 invariant_of-self-2 c =
     let k : Cell = record { class = c.args.class; extent = c.args.extent; slots = c.in_ok-slots.slots; holder = None } in
     let live : c.args.extent < length c.self.inside.members.items =
-    subst (λ n. c.args.extent < n) (ap (λ (s : Contents). length s.extents) (sym c.self.view_is) ∙ sym c.self.invariant.listed.count) (ltb-true c.args.extent (length c.args.self.now.extents) c.requires) in
+    subst (λ n. c.args.extent < n) (ap (λ (s : Contents). length s.extents) (sym c.self.view_is) ∙ sym c.self.invariant.listed.count) (ltb-true c.args.extent (length c.args.self.now.extents) c.requires.extent) in
     let count : c.len-count.result ≡ length c.self.inside.cells.items = omega arith in
     let few : length c.self.inside.cells.items < 1000000 = omega arith in
     subst (λ (l : List Cell). IsKept c.self.inside.metas c.self.inside.extents l c.add_cell.new.members.items c.self.inside.distinct) (sym c.in_ok-add_cell.ensures.cells)

@@ -1,4 +1,4 @@
-use Rattle.std.proofs.Common.{◌≡◌, ◌∙◌, sym, ap, List, true, false}
+use Rattle.std.proofs.Common.{◌∙◌, sym, ap, List}
 use Rattle.std.specs.List.{list_any}
 use Rattle.qvt_value.specs.declared.value.Value.{Value}
 use Rattle.qvt_store.specs.Contents.{slot_of}

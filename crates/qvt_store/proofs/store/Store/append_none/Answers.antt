@@ -1,14 +1,9 @@
-use Rattle.std.proofs.Common.{◌≡◌, ◌∙◌, ◌++◌, ◌∷◌, [], ◌+◌, ◌<◌, sym, ap, subst, List, length, true, false, ℕ}
-use Rattle.std.specs.Prelude.{Ok, Err}
-use Rattle.qvt_base.specs.declared.numbers.Oid.{Oid}
+use Rattle.std.proofs.Common.{◌≡◌, ◌∙◌, ◌++◌, ◌∷◌, [], sym, ap, subst, List, length, true, false}
+use Rattle.std.specs.Prelude.{Ok}
 use Rattle.qvt_value.specs.declared.value.Value.{Value}
-use Rattle.qvt_store.specs.declared.commit.Write.{Write}
-use Rattle.qvt_store.specs.Change.{objects_beyond}
 use Rattle.qvt_store.specs.Contents.{Contents, slot_of}
-use Rattle.qvt_store.specs.Assign.{crosses, assign, change_to, store_after}
-use Rattle.qvt_store.specs.Ready.{Ready}
-use Rattle.qvt_store.specs.Writes.{released_of}
-use Rattle.qvt_store.proofs.Assigning.{live_added, early, cross, done, ready}
+use Rattle.qvt_store.specs.Assign.{crosses}
+use Rattle.qvt_store.proofs.Assigning.{live_added, early, cross, done}
 use Rattle.qvt_store.proofs.Appending.{same_none, list_assignable, none_told}
 use Rattle.qvt_store.proofs.store.Store.append_none.Goals as goal
 

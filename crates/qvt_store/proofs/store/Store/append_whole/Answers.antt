@@ -1,7 +1,6 @@
-use Rattle.std.proofs.Common.{◌≡◌, ◌∙◌, ◌++◌, ◌∷◌, [], sym, ap, subst, List}
+use Rattle.std.proofs.Common.{◌≡◌, ◌∙◌, sym, subst, List}
 use Rattle.std.specs.Prelude.{Ok, Err}
 use Rattle.qvt_value.specs.declared.value.Value.{Value}
-use Rattle.qvt_store.specs.Contents.{slot_of}
 use Rattle.qvt_store.specs.Types.{IsAssignable}
 use Rattle.qvt_store.specs.Assign.{assign}
 use Rattle.qvt_store.proofs.Appending.{list_assignable}

@@ -1,12 +1,11 @@
-use Rattle.std.proofs.Common.{◌≡◌, ◌∙◌, ◌<◌, ◌++◌, ◌∷◌, [], sym, ap, subst, List, ℕ, true, length, get_or}
-use Rattle.qvt_base.specs.declared.numbers.Oid.{Oid}
+use Rattle.std.proofs.Common.{◌∙◌, ◌++◌, ◌∷◌, [], sym, ap, subst, get_or}
 use Rattle.qvt_store.specs.Contents.{Contents, slot_in, slot_of}
 use Rattle.qvt_store.specs.Assign.{change_to, store_after}
 use Rattle.qvt_store.specs.Cells.{instances}
 use Rattle.qvt_store.specs.Ready.{Ready}
 use Rattle.qvt_store.proofs.Done.{writes_live, items_live, released_live, added_live, kept_whole, gives_store}
 use Rattle.qvt_store.proofs.Moved.{moved_live, moved_write, slot_there, cells_live}
-use Rattle.qvt_store.proofs.SameCells.{same_kept, same_view}
+use Rattle.qvt_store.proofs.SameCells.{same_kept}
 use Rattle.qvt_store.proofs.store.Store.carry_append.Goals as goal
 
 pub push_value-requires : goal.push_value-requires

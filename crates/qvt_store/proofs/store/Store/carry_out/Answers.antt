@@ -1,9 +1,7 @@
-use Rattle.std.proofs.Common.{◌≡◌, ◌∙◌, ◌<◌, sym, ap, cond, ◌==◌, ◌&&◌, subst, List, ℕ, true, length, get_or}
+use Rattle.std.proofs.Common.{◌∙◌, sym, ap, cond, ◌==◌, ◌&&◌, subst, List, get_or}
 use Rattle.qvt_value.specs.declared.value.Value.{Value}
 use Rattle.qvt_store.specs.Cells.{contents_of}
-use Rattle.qvt_meta.specs.Metamodels.{has_feature, is_containment}
-use Rattle.qvt_store.specs.declared.commit.Write.{Write}
-use Rattle.qvt_store.specs.Contents.{Contents, is_live, is_slot, with_slot}
+use Rattle.qvt_store.specs.Contents.{Contents, with_slot}
 use Rattle.qvt_store.specs.Assign.{change_to, store_after}
 use Rattle.qvt_store.specs.Ready.{Ready, StaysElsewhere}
 use Rattle.qvt_store.proofs.Done.{writes_live, items_live, released_live, added_live, kept_whole, gives_store, gives_slot}

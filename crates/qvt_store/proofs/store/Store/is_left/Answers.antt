@@ -1,4 +1,4 @@
-use Rattle.std.proofs.Common.{◌≡◌, ◌∙◌, sym, ap}
+use Rattle.std.proofs.Common.{◌∙◌, sym, ap}
 use Rattle.qvt_relation.proofs.Bools.{and_false}
 use Rattle.qvt_store.specs.Slots.{has}
 use Rattle.qvt_store.specs.Change.{is_left, leaves}

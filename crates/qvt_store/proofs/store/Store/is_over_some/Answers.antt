@@ -1,4 +1,4 @@
-use Rattle.std.proofs.Common.{◌≡◌, ◌↔◌, ◌∙◌, refl, sym, subst, List, true, false, take}
+use Rattle.std.proofs.Common.{refl, sym, subst, List, false}
 use Rattle.std.proofs.lemmas.List.{take_all}
 use Rattle.qvt_base.specs.declared.numbers.Oid.{Oid}
 use Rattle.qvt_relation.proofs.Bools.{clash}

@@ -1,5 +1,4 @@
 use Rattle.std.proofs.Common.{subst}
-use Rattle.qvt_store.specs.Contents.{Contents}
 use Rattle.qvt_store.specs.Ready.{IsKnown}
 use Rattle.qvt_store.proofs.Done.{nothing_told}
 use Rattle.qvt_store.proofs.store.Store.is_unique_feature.Goals as goal

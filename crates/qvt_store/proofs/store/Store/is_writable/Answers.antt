@@ -1,4 +1,4 @@
-use Rattle.std.proofs.Common.{◌≡◌, ◌∙◌, ap, sym}
+use Rattle.std.proofs.Common.{◌∙◌, ap, sym}
 use Rattle.std.specs.Prelude.{slice_index_or}
 use Rattle.qvt_store.specs.declared.extent.Extent.{Extent}
 use Rattle.qvt_store.specs.Contents.{Contents, no_extent, extent_of}

@@ -1,4 +1,4 @@
-use Rattle.std.proofs.Common.{◌≡◌, ◌∙◌, sym, ap, subst, ◌&&◌, not, List}
+use Rattle.std.proofs.Common.{◌∙◌, sym, ap, subst, ◌&&◌, not, List}
 use Rattle.qvt_value.specs.declared.value.Value.{Value}
 use Rattle.qvt_meta.specs.Metamodels.{shape_of}
 use Rattle.qvt_store.specs.Contents.{Contents, with_slot}

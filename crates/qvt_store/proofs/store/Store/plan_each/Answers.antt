@@ -1,9 +1,7 @@
-use Rattle.std.proofs.Common.{◌≡◌, ◌∙◌, sym, ap, subst, List, take, get_or, ℕ}
+use Rattle.std.proofs.Common.{subst, List}
 use Rattle.std.proofs.lemmas.List.{take_all}
 use Rattle.qvt_base.specs.declared.numbers.Oid.{Oid}
-use Rattle.qvt_value.specs.declared.value.Value.{Value}
 use Rattle.qvt_store.specs.Draft.{drafted}
-use Rattle.qvt_store.specs.Contents.{slot_of}
 use Rattle.qvt_store.specs.Plan.{Plans, IsSlotOfSome}
 use Rattle.qvt_store.proofs.Plans.{each_more}
 use Rattle.qvt_store.proofs.store.Store.plan_each.Goals as goal
