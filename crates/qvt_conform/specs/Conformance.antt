@@ -8,7 +8,8 @@ use Rattle.qvt_meta.specs.Metamodels.{Metamodels, class_at, feature_at, shape_of
 use Rattle.qvt_model.specs.declared.data.ObjectData.{ObjectData}
 use Rattle.qvt_model.specs.WellFormed.{IsModel}
 use Rattle.qvt_conform.specs.Items.{items_of, is_within, repeats, lack_opposite}
-use Rattle.qvt_conform.specs.Containment.{contents, is_inside, holders}
+use Rattle.qvt_cycle.specs.Successors.{is_on_cycle, how_often_in}
+use Rattle.qvt_conform.specs.Containment.{contents}
 use Rattle.qvt_conform.specs.declared.fault.ConformFault.{ConformFault}
 use Rattle.qvt_conform.specs.declared.fault.ConformFault.TheVariants.{Abstract, Bounds, NotUnique, Opposite, TwoContainers, ContainmentCycle}
 
@@ -33,7 +34,7 @@ features_fault m os i o (f ∷ fs) = or_next (feature_fault m os i o f) (feature
 
 -- the containment of object i, where cs is what each object contains
 unfoldable pub containment_fault : List (List ℕ) → ℕ → ObjectData → Option ConformFault
-containment_fault cs i o = or_next (fault_if (nat_lt 1 (holders cs i)) (TwoContainers o.id)) (fault_if (is_inside cs i i) (ContainmentCycle o.id))
+containment_fault cs i o = or_next (fault_if (nat_lt 1 (how_often_in cs i)) (TwoContainers o.id)) (fault_if (is_on_cycle cs i) (ContainmentCycle o.id))
 
 -- object i
 unfoldable pub object_fault : Metamodels → List ObjectData → ℕ → ObjectData → Option ConformFault

@@ -1,7 +1,5 @@
--- Which objects of a model stand in containment slots of which (EMOF 12.4), and which are inside themselves.
-use Rattle.std.specs.Prelude.{ℕ, ◌+◌, Bool, ◌==◌, length, List, [], ◌∷◌, ◌++◌, map, slice_index_or, if◌then◌else◌}
-use Rattle.std.specs.List.{list_any}
-use Rattle.qvt_relation.specs.Closure.{reaches}
+-- Which objects of a model stand in containment slots of which (EMOF 12.4).
+use Rattle.std.specs.Prelude.{ℕ, List, [], ◌∷◌, ◌++◌, map, if◌then◌else◌}
 use Rattle.qvt_meta.specs.Metamodels.{Metamodels, is_containment}
 use Rattle.qvt_model.specs.declared.data.Datum.{Datum}
 use Rattle.qvt_model.specs.declared.data.Datum.TheVariants.{Bool as BoolDatum, Int, Str, Literal, Ref}
@@ -34,23 +32,3 @@ contents_of m o = contents_of_slots m o.slots
 -- of each object of a model
 abbrev pub contents : Metamodels → List ObjectData → List (List ℕ)
 contents m os = map (contents_of m) os
-
-abbrev pub among : List ℕ → ℕ → Bool
-among xs y = list_any (λ x. x == y) xs
-
--- object x holds object y in a containment slot
-abbrev pub contains : List (List ℕ) → ℕ → ℕ → Bool
-contains cs x y = among (slice_index_or cs x []) y
-
--- the closure of the containment pairs holds of x and y
-abbrev pub is_inside : List (List ℕ) → ℕ → ℕ → Bool
-is_inside cs y x = reaches (contains cs) (length cs) x y
-
-abbrev pub how_often : ℕ → List ℕ → ℕ
-how_often y [] = 0
-how_often y (x ∷ xs) = (if x == y then 1 else 0) + how_often y xs
-
--- how often object y stands in containment slots, over the model
-abbrev pub holders : List (List ℕ) → ℕ → ℕ
-holders [] y = 0
-holders (c ∷ cs) y = how_often y c + holders cs y

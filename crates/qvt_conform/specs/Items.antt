@@ -1,5 +1,5 @@
 -- What an object of a model holds for a feature (EMOF 12.4), and the checks of one slot.
-use Rattle.std.specs.Prelude.{ℕ, ℤ, Bool, true, false, not, ◌==◌, ◌&&◌, ◌||◌, nat_le, length, List, [], ◌∷◌, ◌++◌, Option, Some, None, if◌then◌else◌}
+use Rattle.std.specs.Prelude.{ℕ, Bool, true, false, not, ◌==◌, ◌&&◌, ◌||◌, nat_le, List, [], ◌∷◌, ◌++◌, Option, Some, None, if◌then◌else◌}
 use Rattle.std.specs.List.{list_any}
 use Rattle.std.specs.Str.{bytes_eq}
 use Rattle.std.specs.Ordering.{int_eq}
@@ -7,7 +7,6 @@ use Rattle.std.proofs.Math.Bool.{beq}
 use Rattle.qvt_base.specs.declared.numbers.FeatureNo.{FeatureNo}
 use Rattle.qvt_value.specs.declared.value.LiteralRef.{LiteralRef}
 use Rattle.qvt_meta.specs.declared.info.FeatureShape.{FeatureShape}
-use Rattle.qvt_meta.specs.Metamodels.{Metamodels, opposite}
 use Rattle.qvt_model.specs.declared.data.Datum.{Datum}
 use Rattle.qvt_model.specs.declared.data.Datum.TheVariants.{Bool as BoolDatum, Int, Str, Literal, Ref}
 use Rattle.qvt_model.specs.declared.data.SlotData.{SlotData}
@@ -31,7 +30,7 @@ abbrev pub is_within : FeatureShape → ℕ → Bool
 is_within shape n = nat_le shape.lower n && is_at_most n shape.upper
 
 abbrev pub same_literal : LiteralRef → LiteralRef → Bool
-same_literal a b = (a.metamodel == b.metamodel) && (a.enumeration == b.enumeration) && (a.literal == b.literal)
+same_literal a b = (a.metamodel == b.metamodel) && ((a.enumeration == b.enumeration) && (a.literal == b.literal))
 
 -- items are equal where they are of one sort and the same
 abbrev pub same_item : Datum → Datum → Bool
@@ -55,7 +54,7 @@ is_ref i (BoolDatum b) = false
 is_ref i (Int z) = false
 is_ref i (Str s) = false
 is_ref i (Literal l) = false
-is_ref i (Ref j) = j == i
+is_ref i (Ref j) = i == j
 
 -- the item is an object that does not hold object i for feature q
 abbrev pub lacks : List ObjectData → ℕ → ℕ → Datum → Bool

@@ -1,7 +1,9 @@
 pub mod Conformance
+pub mod Contained
 pub mod Containment
-pub mod Counts
-pub mod Search
 pub mod Items
+pub mod Joined
+pub mod Lacking
+pub mod Links
 pub mod LowerBounds
 pub mod Results

@@ -1,5 +1,5 @@
 -- A result without a value, as the fault that it is.
-use Rattle.std.specs.Prelude.{◌≡◌, ◌≢◌, ⊤, Result, Ok, Err, Option, Some, None}
+use Rattle.std.specs.Prelude.{◌≡◌, ◌≢◌, Result, Ok, Err, Option, Some, None}
 
 abbrev pub err_of : {A F : Type 0} → Result A F → Option F
 err_of (Ok x) = None

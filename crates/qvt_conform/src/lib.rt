@@ -1,8 +1,11 @@
 //! Conformance of models to their metamodels (EMOF 12), and the lower bounds of a store.
 #![tactic(auto)]
 
-pub mod contents;
-mod counts;
+pub mod conform;
+mod containment;
+mod contents;
 pub mod fault;
+mod items;
+mod links;
 pub mod low;
-mod search;
+mod seen;

@@ -1,11 +1,11 @@
 -- Where classes never rise along a step, a number that alone is of its class and does not lead to itself is on no cycle.
 use Rattle.std.proofs.Common.{◌≡◌, ◌≢◌, ◌∙◌, ℕ, zero, suc, ◌+◌, ◌<◌, ◌≤◌, ◌==◌, List, [], ◌∷◌, length, Bool, true, false, inl, inr, refl, sym, ap, subst, arith}
-use Rattle.std.specs.Prelude.{slice_index_or, slice_set, min, nat_le, if◌then◌else◌}
+use Rattle.std.specs.Prelude.{fold, slice_index_or, slice_set, min, nat_le, if◌then◌else◌}
 use Rattle.std.proofs.lemmas.Bool.{and_parts, eqb-true, eq-eqb, cases_eq, leb-true}
 use Rattle.std.proofs.lemmas.List.{get_or-set_same, get_or-set_other, length-set}
 use Rattle.qvt_relation.specs.Closure.{directly, through}
 use Rattle.qvt_relation.proofs.Bools.{or_cases, refuted, and_both}
-use Rattle.qvt_cycle.specs.Successors.{among, leads, is_on_cycle, how_often}
+use Rattle.qvt_cycle.specs.Successors.{among, leads, is_on_cycle, how_often, how_often_in}
 use Rattle.qvt_cycle.specs.Counts.{counted, counted_all, zeros}
 use Rattle.qvt_cycle.specs.Search.{class_of, are_below, fall_from, fall, is_alone}
 use Rattle.qvt_cycle.proofs.Searched.{Way, begins, on_cycle-way}
@@ -96,6 +96,20 @@ counts_tell items y xs lt =
     let all = all_counted y xs (zeros items) (omega (arith, lt, long)) (omega (arith, none)) in
     omega (arith, none, all.more)
 
+lists_counted : (y : ℕ) (lists : List (List ℕ)) (counts : List ℕ) → y < length counts → slice_index_or counts y 0 ≤ 2 → Counts y counts (fold counted_all counts lists) (how_often_in lists y)
+lists_counted y [] counts lt small = record { same_len = refl; more = omega (arith, small) }
+lists_counted y (xs ∷ lists) counts lt small =
+    let first = all_counted y xs counts lt small in
+    let rest = lists_counted y lists (counted_all counts xs) (omega (arith, lt, first.same_len)) (omega (arith, first.more)) in
+    record { same_len = rest.same_len ∙ first.same_len; more = omega (arith, first.more, rest.more) }
+
+pub lists_tell : (lists : List (List ℕ)) (y : ℕ) → y < length lists → slice_index_or (fold counted_all (zeros lists) lists) y 0 ≡ min 2 (how_often_in lists y)
+lists_tell lists y lt =
+    let none = zeros-none lists y in
+    let long = zeros-long lists in
+    let all = lists_counted y lists (zeros lists) (omega (arith, lt, long)) (omega (arith, none)) in
+    omega (arith, none, all.more)
+
 past_none : (xs : List ℕ) (k : ℕ) → slice_index_or xs k 0 ≢ 0 → k < length xs
 past_none [] k h = absurd (h refl)
 past_none (x ∷ xs) zero h = omega arith
@@ -104,6 +118,13 @@ past_none (x ∷ xs) (suc k) h = let ih = past_none xs k h in omega (arith, ih)
 counted-long : (xs counts : List ℕ) → length (counted_all counts xs) ≡ length counts
 counted-long [] counts = refl
 counted-long (x ∷ xs) counts = counted-long xs (counted counts x) ∙ length-set counts x _
+
+folded-long : (lists : List (List ℕ)) (counts : List ℕ) → length (fold counted_all counts lists) ≡ length counts
+folded-long [] counts = refl
+folded-long (xs ∷ lists) counts = folded-long lists (counted_all counts xs) ∙ counted-long xs counts
+
+pub lists-long : (lists : List (List ℕ)) → length (fold counted_all (zeros lists) lists) ≡ length lists
+lists-long lists = folded-long lists (zeros lists) ∙ zeros-long lists
 
 used_once : {X : Type 0} (items : List X) (classes : List ℕ) (x : ℕ) → is_alone classes (counted_all (zeros items) classes) x ≡ true → how_often (class_of classes x) classes ≡ 1
 used_once items classes x h =

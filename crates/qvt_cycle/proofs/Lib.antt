@@ -1,3 +1,4 @@
 pub mod Visits
 pub mod Searched
 pub mod Falling
+pub mod Tests

@@ -1,0 +1,52 @@
+//! The checks of one slot.
+
+ghost use Rattle.std.specs.Prelude.{◌≡◌, length, IfOk};
+ghost use Rattle.qvt_conform.specs.Items.{items_in, is_at_most, is_within, repeats};
+
+use crate::seen::Seen;
+use qvt_base::list_fault::ListFault;
+use qvt_base::numbers::FeatureNo;
+use qvt_meta::info::FeatureShape;
+use qvt_model::data::{Datum, SlotData};
+use std::alloc::Global;
+
+/// What an object with these slots holds for a feature.
+pub fn items_in(slots: &[SlotData], feature: FeatureNo) -> &[Datum]
+    ensures { result.now ≡ items_in feature.0 slots.now }
+{
+    for slot in slots {
+        if slot.feature.0 == feature.0 {
+            return slot.items.as_slice();
+        }
+    }
+    &[]
+}
+
+fn is_at_most(count: usize, most: Option<u32>) -> bool
+    ensures { result ≡ is_at_most count most }
+{
+    match most {
+        None => true,
+        Some(most) => count <= most as usize,
+    }
+}
+
+/// Whether so many items are not fewer than the lower bound and not more than the upper.
+pub fn is_within(shape: FeatureShape, count: usize) -> bool
+    ensures { result ≡ is_within shape count }
+{
+    shape.lower as usize <= count && is_at_most(count, shape.upper)
+}
+
+/// Whether an item stands twice.
+pub fn repeats(alloc: Global, items: &[Datum]) -> Result<bool, ListFault>
+    ensures { IfOk result (λ b. b ≡ repeats items.now) }
+{
+    let mut seen = Seen::new(alloc);
+    for item in items {
+        if !seen.add(item)? {
+            return Ok(true);
+        }
+    }
+    Ok(false)
+}
