@@ -1,9 +1,6 @@
 pub mod Chained
-pub mod Numbers
+pub mod Faults
 pub mod Sent
 pub mod Settle
-pub mod SmallLoops
-pub mod SmallTurns
-pub mod SmallWritten
 pub mod Texts
 pub mod Written

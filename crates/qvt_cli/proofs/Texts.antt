@@ -3,7 +3,7 @@ use Rattle.std.proofs.Common.{◌≡◌, ◌∙◌, ap, sym, refl, ℕ, List, Bo
 use Rattle.std.specs.Str.{is_utf8}
 use Rattle.std.proofs.lemmas.Str.{is_utf8-from_IsUtf8, IsUtf8-from_is_utf8}
 use Rattle.qvt_cli.specs.Run.{small_text_of, parsed}
-use Rattle.qvt_cli.specs.declared.small.text.SmallText.{SmallText}
+use Rattle.qvt_small.specs.declared.text.SmallText.{SmallText}
 
 not_utf8 : (bytes : List ℕ) (b : Bool) → ¬ IsUtf8 bytes → is_utf8 bytes ≡ b → b ≡ false
 not_utf8 bytes true isnt is = absurd (isnt (IsUtf8-from_is_utf8 bytes is))

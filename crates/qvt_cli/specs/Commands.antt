@@ -1,7 +1,8 @@
 -- The code's commands as their words.
 use Rattle.qvt_cli.specs.Words as words
 use Rattle.qvt_cli.specs.declared.words.Command.{Command}
-use Rattle.qvt_cli.specs.declared.words.Command.TheVariants.{Run}
+use Rattle.qvt_cli.specs.declared.words.Command.TheVariants.{Run, Check}
 
 abbrev pub command_view : Command → words.Command
 command_view (Run job) = words.run job.now
+command_view (Check metamodel model) = words.check metamodel.now model.now

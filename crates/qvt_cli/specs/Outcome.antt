@@ -2,6 +2,12 @@
 use Rattle.std.specs.Prelude.{ℕ, List, [], ◌∷◌, ◌++◌, codes, decimal}
 use Rattle.std.specs.FinMap as map
 use Rattle.qvt_base.specs.Outside.{Held}
+use Rattle.qvt_meta.specs.declared.fault.MetaFault.{MetaFault}
+use Rattle.qvt_meta.specs.declared.fault.MetaFault.TheVariants as meta
+use Rattle.qvt_model.specs.declared.data.ModelFault.{ModelFault}
+use Rattle.qvt_model.specs.declared.data.ModelFault.TheVariants as model
+use Rattle.qvt_conform.specs.declared.fault.ConformFault.{ConformFault}
+use Rattle.qvt_conform.specs.declared.fault.ConformFault.TheVariants as conform
 use Rattle.qvt_cli.specs.declared.status.Status.{Status}
 use Rattle.qvt_cli.specs.declared.status.Status.TheVariants as status
 use Rattle.qvt_cli.specs.declared.refusal.Refusal.{Refusal}
@@ -28,14 +34,55 @@ pub data Outcome : Type 0 where
   out_of_fuel : ℕ → Outcome
   done : List File → List ℕ → Outcome
 
+-- a name and what it carries, parted by blanks
+abbrev pub with_one : List ℕ → List ℕ → List ℕ
+with_one name a = name ++ (codes " " ++ a)
+
+abbrev pub with_two : List ℕ → List ℕ → List ℕ → List ℕ
+with_two name a b = name ++ (codes " " ++ (a ++ (codes " " ++ b)))
+
+abbrev pub metamodel_text : MetaFault → List ℕ
+metamodel_text meta.NoMemory = codes "no memory"
+metamodel_text meta.Json = codes "Json"
+metamodel_text (meta.Shape path) = with_one (codes "Shape") path
+metamodel_text (meta.SameName name) = with_one (codes "SameName") name
+metamodel_text (meta.UnknownType class name) = with_two (codes "UnknownType") class name
+metamodel_text (meta.InheritanceCycle class) = with_one (codes "InheritanceCycle") class
+metamodel_text (meta.BadBounds class feature) = with_two (codes "BadBounds") class feature
+metamodel_text (meta.BadOpposite class feature) = with_two (codes "BadOpposite") class feature
+metamodel_text (meta.SameFeature class feature) = with_two (codes "SameFeature") class feature
+
+abbrev pub model_text : ModelFault → List ℕ
+model_text model.NoMemory = codes "no memory"
+model_text model.Json = codes "Json"
+model_text (model.Shape path) = with_one (codes "Shape") path
+model_text (model.SameId id) = with_one (codes "SameId") id
+model_text (model.UnknownClass id) = with_one (codes "UnknownClass") id
+model_text (model.UnknownFeature id) = with_one (codes "UnknownFeature") id
+model_text (model.WrongValue id feature) = with_two (codes "WrongValue") id feature
+model_text (model.DanglingId id feature) = with_two (codes "DanglingId") id feature
+
+abbrev pub conform_text : ConformFault → List ℕ
+conform_text conform.NoMemory = codes "no memory"
+conform_text (conform.Abstract id) = with_one (codes "Abstract") id
+conform_text (conform.Bounds id feature) = with_two (codes "Bounds") id feature
+conform_text (conform.NotUnique id feature) = with_two (codes "NotUnique") id feature
+conform_text (conform.Opposite id feature) = with_two (codes "Opposite") id feature
+conform_text (conform.TwoContainers id) = with_one (codes "TwoContainers") id
+conform_text (conform.ContainmentCycle id) = with_one (codes "ContainmentCycle") id
+
 -- the refusal's name and detail
 abbrev pub refusal_text : Refusal → List ℕ
 refusal_text refusal.Missing = codes "Missing"
 refusal_text refusal.TooLarge = codes "TooLarge"
 refusal_text refusal.Json = codes "Json"
-refusal_text (refusal.Shape path) = codes "Shape " ++ path
+refusal_text (refusal.Shape path) = with_one (codes "Shape") path
 refusal_text refusal.TooManyFiles = codes "TooManyFiles"
-refusal_text (refusal.SameFile file) = codes "SameFile " ++ file
+refusal_text (refusal.SameFile file) = with_one (codes "SameFile") file
+refusal_text (refusal.Metamodel why) = metamodel_text why
+refusal_text (refusal.Model why) = model_text why
+refusal_text refusal.TooManyObjects = codes "TooManyObjects"
+refusal_text (refusal.Conform why) = conform_text why
 refusal_text refusal.NotBuilt = codes "NotBuilt"
 
 abbrev pub usage_line : List ℕ
@@ -49,6 +96,9 @@ refused_line file why = codes "refused: " ++ (file ++ (codes ": " ++ (refusal_te
 
 abbrev pub out_of_fuel_line : ℕ → List ℕ
 out_of_fuel_line fuel = codes "out of fuel: " ++ (decimal fuel ++ 10 ∷ [])
+
+abbrev pub conforms_line : ℕ → List ℕ
+conforms_line objects = codes "conforms: " ++ (decimal objects ++ (codes " objects" ++ 10 ∷ []))
 
 abbrev pub read_fault_line : List ℕ → List ℕ
 read_fault_line file = codes "cannot read: " ++ (file ++ 10 ∷ [])

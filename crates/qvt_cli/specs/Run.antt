@@ -3,8 +3,7 @@ use Rattle.std.specs.Prelude.{◌≡◌, ℕ, List, [], ◌∷◌, length, nat_l
 use Rattle.std.specs.Str.{is_utf8, chars}
 use Rattle.qvt_base.specs.Outside.{Held}
 use Rattle.qvt_meta.specs.Metamodels.{Metamodels}
-use Rattle.qvt_meta.specs.Added.{added}
-use Rattle.qvt_meta.specs.SmallMeta.{small_meta_of}
+use Rattle.qvt_meta.specs.SmallMeta.{is_small}
 use Rattle.qvt_cli.specs.Job.{job_of}
 use Rattle.qvt_cli.specs.declared.job.Job.{Job}
 use Rattle.qvt_cli.specs.declared.job.JobModel.{JobModel}
@@ -13,15 +12,15 @@ use Rattle.qvt_cli.specs.declared.job.JobFault.TheVariants as fault
 use Rattle.qvt_cli.specs.declared.refusal.Refusal.{Refusal}
 use Rattle.qvt_cli.specs.declared.refusal.Refusal.TheVariants as refusal
 use Rattle.qvt_cli.specs.declared.run.SmallJob.{SmallJob}
-use Rattle.qvt_cli.specs.declared.small.text.SmallText.{SmallText}
-use Rattle.qvt_cli.specs.SmallTokens.{tokens_of}
-use Rattle.qvt_cli.specs.SmallText.{small_in}
-use Rattle.qvt_cli.specs.SmallRun.{fits, cost, model_text, done_line}
+use Rattle.qvt_small.specs.declared.text.SmallText.{SmallText}
+use Rattle.qvt_small.specs.SmallTokens.{tokens_of}
+use Rattle.qvt_small.specs.SmallText.{small_in}
+use Rattle.qvt_small.specs.SmallRun.{fits, cost, model_text, done_line}
 use Rattle.qvt_cli.specs.Outcome.{Outcome, usage, refused, out_of_fuel, done}
 use Rattle.qvt_cli.specs.Steps.{◌>>=◌, read_step, built, settled, RefusedOrNoMemory}
 use Rattle.qvt_cli.specs.declared.stop.Stop.{Stop}
 use Rattle.qvt_cli.specs.declared.stop.Stop.TheVariants as stop
-use Rattle.qvt_cli.specs.Words.{Command, run, command_of}
+use Rattle.qvt_cli.specs.Metas.{metas_in}
 
 -- a job's refusal by its name
 abbrev pub job_refusal : JobFault → Refusal
@@ -58,15 +57,16 @@ job_in name bytes = job_or_refused name (job_of bytes) >>= (λ job. built name (
 unfoldable pub job_read : Held → List ℕ → Result SmallJob Outcome
 job_read held name = read_step held name 65536 >>= job_in name
 
-abbrev pub no_metamodels : Metamodels
-no_metamodels = record { metamodels = []; classes = []; features = []; element = None }
+-- the metamodels, if the file is of the form of a small one
+abbrev pub if_small : List ℕ → Metamodels → Option Metamodels
+if_small bytes metas = if is_small bytes then Some metas else None
 
-unfoldable pub metas_in : List ℕ → List ℕ → Result Metamodels Outcome
-metas_in name bytes = built name (option_map (added no_metamodels) (small_meta_of bytes))
+unfoldable pub small_metas_in : List ℕ → List ℕ → Result Metamodels Outcome
+small_metas_in name bytes = metas_in name bytes >>= (λ metas. built name (if_small bytes metas))
 
 -- reads the metamodel
-unfoldable pub metas_read : Held → SmallJob → Result Metamodels Outcome
-metas_read held job = read_step held job.metamodel 1048576 >>= metas_in job.metamodel
+unfoldable pub small_metas_read : Held → SmallJob → Result Metamodels Outcome
+small_metas_read held job = read_step held job.metamodel 1048576 >>= small_metas_in job.metamodel
 
 abbrev pub parsed : List ℕ → Option SmallText
 parsed text = option_and_then small_in (tokens_of (length text) (chars text))
@@ -98,7 +98,7 @@ unfoldable pub after_metas : Held → SmallJob → Metamodels → Result Outcome
 after_metas held job metas = text_read held job metas >>= performed job
 
 unfoldable pub after_job : Held → SmallJob → Result Outcome Outcome
-after_job held job = metas_read held job >>= after_metas held job
+after_job held job = small_metas_read held job >>= after_metas held job
 
 unfoldable pub run_of : Held → List ℕ → Result Outcome Outcome
 run_of held name = job_read held name >>= after_job held
@@ -109,29 +109,7 @@ on_ok (Ok x) f = f x
 on_ok (Err o) f = []
 
 unfoldable pub turns_after_job : Held → SmallJob → List (List ℕ)
-turns_after_job held job = job.metamodel ∷ on_ok (metas_read held job) (λ metas. job.text ∷ [])
+turns_after_job held job = job.metamodel ∷ on_ok (small_metas_read held job) (λ metas. job.text ∷ [])
 
 unfoldable pub run_turns : Held → List ℕ → List (List ℕ)
 run_turns held name = name ∷ on_ok (job_read held name) (turns_after_job held)
-
-abbrev pub command_outcome : Held → Command → Outcome
-command_outcome held (run name) = settled (run_of held name)
-
-abbrev pub command_turns : Held → Command → List (List ℕ)
-command_turns held (run name) = run_turns held name
-
-abbrev pub outcome_or_usage : Held → Option Command → Outcome
-outcome_or_usage held None = usage
-outcome_or_usage held (Some command) = command_outcome held command
-
-abbrev pub turns_or_none : Held → Option Command → List (List ℕ)
-turns_or_none held None = []
-turns_or_none held (Some command) = command_turns held command
-
--- the outcome of the words over the bytes of the files
-unfoldable pub job : List (List ℕ) → Held → Outcome
-job words held = outcome_or_usage held (command_of words)
-
--- the names of the files that are read for it
-unfoldable pub turns : List (List ℕ) → Held → List (List ℕ)
-turns words held = turns_or_none held (command_of words)

@@ -1,5 +1,5 @@
 -- The work of a command as steps, of which the first that ends it gives the outcome.
-use Rattle.std.specs.Prelude.{ℕ, ◌≡◌, ⊤, List, [], ◌∷◌, ◌++◌, Result, Ok, Err, Option, Some, None, option_map}
+use Rattle.std.specs.Prelude.{ℕ, ◌≡◌, ◌≢◌, ⊤, List, [], ◌∷◌, ◌++◌, Result, Ok, Err, Option, Some, None, option_map}
 use Rattle.qvt_base.specs.Outside.{Held, Look, found, missing, too_large, look}
 use Rattle.qvt_cli.specs.Outcome.{Outcome, refused, out_of_fuel, refused_line, out_of_fuel_line, read_fault_line, no_memory_line}
 use Rattle.qvt_cli.specs.declared.stop.Stop.{Stop}
@@ -28,6 +28,11 @@ read_step held name limit = read_of name (look held name limit)
 abbrev pub built : {A : Type 0} → List ℕ → Option A → Result A Outcome
 built name None = Err (refused name refusal.NotBuilt)
 built name (Some x) = Ok x
+
+-- what is read of a file, or its refusal by the fault
+abbrev pub or_refused : {A F : Type 0} → (F → Refusal) → List ℕ → Result A F → Result A Outcome
+or_refused say name (Ok x) = Ok x
+or_refused say name (Err why) = Err (refused name (say why))
 
 -- an early end of the code is an early end of what is stated; a failed read and want of memory say nothing of it
 abbrev pub Stops : {A : Type 0} → Stop → Result A Outcome → Type 0
@@ -85,3 +90,7 @@ ReadFaultOrNoMemory file (stop.Refused name cause) = ⊥
 ReadFaultOrNoMemory file (stop.OutOfFuel fuel) = ⊥
 ReadFaultOrNoMemory file (stop.ReadFault name) = name ≡ file
 ReadFaultOrNoMemory file stop.NoMemory = ⊤
+
+-- the refusal of this file by the fault, or want of memory
+abbrev pub StopsBy : {F : Type 0} → F → (F → Refusal) → List ℕ → F → Stop → Type 0
+StopsBy free say name why end = (why ≢ free → RefusedOrNoMemory name (say why) end) × (why ≡ free → end ≡ stop.NoMemory)

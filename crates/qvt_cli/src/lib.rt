@@ -1,18 +1,21 @@
 //! The top call: the words of a command line, the files and the sink, and the status that is answered.
 #![tactic(auto)]
 
+pub mod check;
 pub mod fetch;
 pub mod job;
 pub mod job_form;
+pub mod metas;
 pub mod plan;
 pub mod read_job;
 pub mod refusal;
+mod refusal_text;
 pub mod report;
 pub mod run;
-pub mod small;
 pub mod status;
 pub mod stop;
 #[cfg(test)]
 mod tests;
 pub mod top;
 pub mod words;
+pub mod work;

@@ -1,4 +1,7 @@
 use qvt_base::text::Text;
+use qvt_conform::fault::ConformFault;
+use qvt_meta::fault::MetaFault;
+use qvt_model::data::ModelFault;
 
 /// Why a file was refused.
 #[derive(Debug, Drop)]
@@ -15,6 +18,14 @@ pub enum Refusal {
     TooManyFiles,
     /// This file of an output or of the trace is that of an earlier output.
     SameFile(Text),
+    /// The file is no metamodel.
+    Metamodel(MetaFault),
+    /// The file is no model of its metamodel.
+    Model(ModelFault),
+    /// The models have more than 1,000,000 objects.
+    TooManyObjects,
+    /// The model does not conform to its metamodel.
+    Conform(ConformFault),
     /// What the file asks for is not built yet.
     NotBuilt,
 }

@@ -1,10 +1,11 @@
-ghost use Rattle.std.specs.Prelude.{◌≡◌, ◌⊎◌, ◌++◌, MatchBool, IfOk, string_bytes, codes};
+ghost use Rattle.std.specs.Prelude.{◌≡◌, ◌⊎◌, MatchBool, IfOk, string_bytes};
 ghost use Rattle.qvt_base.specs.Outside.{Rose};
-ghost use Rattle.qvt_cli.specs.Outcome.{refusal_text, refused_line, out_of_fuel_line, read_fault_line, write_fault_line, no_memory_line};
+ghost use Rattle.qvt_cli.specs.Outcome.{refusal_text, refused_line, out_of_fuel_line, read_fault_line, write_fault_line, no_memory_line, conforms_line};
 ghost use Rattle.qvt_cli.specs.Steps.{stop_line, stop_status};
 ghost use Rattle.qvt_cli.specs.Reported.{appended, IsCut, Reports};
 
 use crate::refusal::Refusal;
+use crate::refusal_text::{conform_text, metamodel_text, model_text, with_one};
 use crate::status::Status;
 use crate::stop::Stop;
 use qvt_base::lists::Bytes;
@@ -72,17 +73,23 @@ fn refusal_text(alloc: Global, why: &Refusal) -> Result<String, AllocError>
         Refusal::Missing => String::from_str(alloc, "Missing"),
         Refusal::TooLarge => String::from_str(alloc, "TooLarge"),
         Refusal::Json => String::from_str(alloc, "Json"),
-        Refusal::Shape(path) => detailed(alloc, "Shape", path.as_str()),
+        Refusal::Shape(path) => with_one(alloc, "Shape", path),
         Refusal::TooManyFiles => String::from_str(alloc, "TooManyFiles"),
-        Refusal::SameFile(file) => detailed(alloc, "SameFile", file.as_str()),
+        Refusal::SameFile(file) => with_one(alloc, "SameFile", file),
+        Refusal::Metamodel(why) => metamodel_text(alloc, why),
+        Refusal::Model(why) => model_text(alloc, why),
+        Refusal::TooManyObjects => String::from_str(alloc, "TooManyObjects"),
+        Refusal::Conform(why) => conform_text(alloc, why),
         Refusal::NotBuilt => String::from_str(alloc, "NotBuilt"),
     }
 }
 
-fn detailed(alloc: Global, name: &str, detail: &str) -> Result<String, AllocError>
-    ensures { IfOk result (λ text. string_bytes text ≡ name.now ++ (codes " " ++ detail.now)) }
+
+/// The line of a model that conforms.
+pub fn conforms_line(alloc: Global, objects: usize) -> Result<Bytes, AllocError>
+    ensures { IfOk result (λ line. line ≡ conforms_line objects) }
 {
-    format!(in alloc; "{name} {detail}")
+    Ok(bytes_of(format!(in alloc; "conforms: {objects} objects\n")?))
 }
 
 /// The line of a refusal: the file, the refusal's name and its detail.

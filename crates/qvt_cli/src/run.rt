@@ -3,19 +3,16 @@ ghost use Rattle.qvt_base.specs.Outside.{Held, Rose};
 ghost use Rattle.qvt_cli.specs.Reported.{IsAmong};
 ghost use Rattle.qvt_cli.specs.Steps.{Gives, IfFaultOf, IsFaultWith, joined};
 ghost use Rattle.qvt_cli.specs.Plans.{outcome_of, IsReady};
-ghost use Rattle.qvt_cli.specs.Run.{small_job, job_in, job_read, metas_in, metas_read, parsed, small_text_of, text_in, text_read, performed, after_metas, after_job, run_of, turns_after_job, run_turns, IsJobStop, done_outcome};
-ghost use Rattle.qvt_cli.specs.SmallRun.{done_line};
+ghost use Rattle.qvt_cli.specs.Run.{small_job, job_in, job_read, small_metas_in, small_metas_read, parsed, small_text_of, text_in, text_read, performed, after_metas, after_job, run_of, turns_after_job, run_turns, IsJobStop, done_outcome};
+ghost use Rattle.qvt_small.specs.SmallRun.{done_line};
 
 use crate::fetch::{fetch, refused};
 use crate::job::{Job, JobFault};
+use crate::metas::metas_in;
 use crate::plan::{Output, Plan};
 use crate::read_job::read_job;
 use crate::refusal::Refusal;
 use crate::report::write_fault_line;
-use crate::small::program::{cost_within, fits};
-use crate::small::text::{SmallText, small_in};
-use crate::small::tokens::tokens_of;
-use crate::small::written::model_text;
 use crate::stop::Stop;
 use qvt_base::copied::Copied;
 use qvt_base::list_fault::ListFault;
@@ -23,9 +20,12 @@ use qvt_base::lists::Bytes;
 use qvt_base::outside::Files;
 use qvt_base::seq::Seq;
 use qvt_base::text::Text;
-use qvt_meta::fault::MetaFault;
-use qvt_meta::meta::read_meta;
 use qvt_meta::metas::Metas;
+use qvt_meta::small::is_small;
+use qvt_small::program::{cost_within, fits};
+use qvt_small::text::{SmallText, small_in};
+use qvt_small::tokens::tokens_of;
+use qvt_small::written::model_text;
 use std::alloc::{AllocError, Global};
 use std::str;
 
@@ -111,32 +111,26 @@ fn read_small_job<F: Files>(alloc: Global, files: &mut F, name: &Text) -> Result
     }
 }
 
-/// The metamodels of a file's bytes: the one that it has.
-#[tactic(auto, unfolding(crate::specs::Run::metas_in))]
-fn metas_in(alloc: Global, name: &Text, bytes: &[u8]) -> Result<Metas, Stop>
+/// The metamodels of a file's bytes, which is of the form of a small metamodel.
+#[tactic(auto, unfolding(crate::specs::Run::small_metas_in))]
+fn small_metas_in(alloc: Global, name: &Text, bytes: &[u8]) -> Result<Metas, Stop>
     ensures no_reads { IfFaultOf result (λ file. ⊥) }
-    ensures gives { Gives (λ metas. metas) result (metas_in name.now bytes.now) }
+    ensures gives { Gives (λ metas. metas) result (small_metas_in name.now bytes.now) }
 {
-    let meta = match read_meta(alloc, bytes) {
-        Err(MetaFault::NotBuilt) => return Err(refused(alloc, name, Refusal::NotBuilt)),
-        Err(MetaFault::NoMemory) => return Err(Stop::NoMemory),
-        Ok(meta) => meta,
-    };
-    // No file within its limit has so many classes or features.
-    let mut metas = Metas::new(alloc);
-    if !metas.has_room(&meta) {
-        return Err(Stop::NoMemory);
-    }
-    match metas.add(meta) {
-        Err(_) => Err(Stop::NoMemory),
-        Ok(()) => Ok(metas),
+    match metas_in(alloc, name, bytes) {
+        Err(stop) => Err(stop),
+        Ok(metas) => match is_small(alloc, bytes) {
+            Err(_) => Err(Stop::NoMemory),
+            Ok(false) => Err(refused(alloc, name, Refusal::NotBuilt)),
+            Ok(true) => Ok(metas),
+        },
     }
 }
 
 /// Reads the metamodel.
-#[tactic(auto, unfolding(crate::specs::Run::metas_read))]
-fn read_metas<F: Files>(alloc: Global, files: &mut F, job: &SmallJob) -> Result<Metas, Stop>
-    ensures gives { (held : Held) → F.held files.old ≡ Some held → Gives (λ metas. metas) result (metas_read held job.now) }
+#[tactic(auto, unfolding(crate::specs::Run::small_metas_read))]
+fn read_small_metas<F: Files>(alloc: Global, files: &mut F, job: &SmallJob) -> Result<Metas, Stop>
+    ensures gives { (held : Held) → F.held files.old ≡ Some held → Gives (λ metas. metas) result (small_metas_read held job.now) }
     ensures held { F.held files.new ≡ F.held files.old }
     ensures later { F.read_faults files.old ≤ F.read_faults files.new }
     ensures rose { IfFaultOf result (λ file. Rose (F.read_faults files.old) (F.read_faults files.new)) }
@@ -147,7 +141,7 @@ fn read_metas<F: Files>(alloc: Global, files: &mut F, job: &SmallJob) -> Result<
 {
     match fetch(alloc, files, &job.metamodel, 1_048_576) {
         Err(stop) => Err(stop),
-        Ok(bytes) => metas_in(alloc, &job.metamodel, bytes.as_slice()),
+        Ok(bytes) => small_metas_in(alloc, &job.metamodel, bytes.as_slice()),
     }
 }
 
@@ -301,7 +295,7 @@ fn perform_job<F: Files>(alloc: Global, files: &mut F, job: &SmallJob) -> Result
     ensures writes { F.write_faults files.new ≡ F.write_faults files.old }
     ensures failed { IfFaultOf result (λ file. F.failed_reads files.new ≡ joined file (F.failed_reads files.old)) }
 {
-    match read_metas(alloc, files, job) {
+    match read_small_metas(alloc, files, job) {
         Err(stop) => Err(stop),
         Ok(metas) => perform_with_metas(alloc, files, job, &metas),
     }

@@ -2,35 +2,35 @@ ghost use Rattle.std.specs.Prelude.{◌≡◌, ◌≢◌, ◌⊎◌, List, ℕ, 
 ghost use Rattle.qvt_base.specs.Outside.{Held, Rose};
 ghost use Rattle.qvt_cli.specs.Outcome.{status_of, read_fault_line, usage_line};
 ghost use Rattle.qvt_cli.specs.Reported.{Answers, appended, change_of};
-ghost use Rattle.qvt_cli.specs.Run.{run_of, run_turns, job, turns};
+ghost use Rattle.qvt_cli.specs.Commands.{command_view};
+ghost use Rattle.qvt_cli.specs.Work.{work_of, work_turns, job, turns};
 ghost use Rattle.qvt_cli.specs.Steps.{joined, settled};
 ghost use Rattle.qvt_cli.specs.Words.{command_of};
 
 use crate::plan::carry_out;
 use crate::report::{finish, report};
-use crate::run::perform_run;
 use crate::status::Status;
 use crate::words::{Command, command_of};
+use crate::work::perform;
 use qvt_base::lists::WordList;
 use qvt_base::outside::{Files, Sink};
-use qvt_base::text::Text;
 use std::alloc::Global;
 
-/// Runs a job, and reports.
-fn run_and_report<F: Files, S: Sink>(
+/// Does the work of a command, and reports.
+fn work_and_report<F: Files, S: Sink>(
     alloc: Global,
-    name: &Text,
+    command: Command<'_>,
     files: &mut F,
     out: &mut S,
 ) -> Status
-    ensures answer { (held : Held) → F.held files.old ≡ Some held → Answers (settled (run_of held name.now)) (run_turns held name.now) held
+    ensures answer { (held : Held) → F.held files.old ≡ Some held → Answers (settled (work_of held (command_view command))) (work_turns held (command_view command)) held
         (change_of (F.held files.new) (S.written out.old) (S.written out.new) (F.read_faults files.old) (F.read_faults files.new)
         (F.write_faults files.old) (F.write_faults files.new) (S.faults out.old) (S.faults out.new)) result }
     ensures complete { (held : Held) → F.held files.old ≡ Some held
         → ¬ Rose (F.read_faults files.old) (F.read_faults files.new)
         → ¬ Rose (F.write_faults files.old) (F.write_faults files.new)
         → ¬ Rose (S.faults out.old) (S.faults out.new)
-        → (result ≡ status_of (settled (run_of held name.now))) ⊎ (result ≡ Status.NoMemory) }
+        → (result ≡ status_of (settled (work_of held (command_view command)))) ⊎ (result ≡ Status.NoMemory) }
     ensures no_usage { result ≢ Status.Usage }
     ensures read_fault { result ≡ Status.ReadFault → Rose (F.read_faults files.old) (F.read_faults files.new) }
     ensures write_fault { result ≡ Status.WriteFault
@@ -39,7 +39,7 @@ fn run_and_report<F: Files, S: Sink>(
         × (S.written out.new ≡ appended (read_fault_line file) (S.written out.old))
         × (F.failed_reads files.new ≡ joined file (F.failed_reads files.old)) }
 {
-    match perform_run(alloc, files, name) {
+    match perform(alloc, files, command) {
         Ok(plan) => carry_out(files, out, &plan),
         Err(stop) => finish(alloc, out, &stop),
     }
@@ -47,7 +47,7 @@ fn run_and_report<F: Files, S: Sink>(
 
 /// Does what the words of a command line ask for, over these files and this sink, and answers how it
 /// ended. The words are those after the program's name.
-#[tactic(auto, unfolding(crate::specs::Run::job, crate::specs::Run::turns))]
+#[tactic(auto, unfolding(crate::specs::Work::job, crate::specs::Work::turns))]
 pub fn qvto<F: Files, S: Sink>(
     alloc: Global,
     words: &WordList,
@@ -86,6 +86,6 @@ pub fn qvto<F: Files, S: Sink>(
             b"usage: qvto run JOB or check METAMODEL MODEL or print FILE or demo N\n",
             Status::Usage,
         ),
-        Some(Command::Run(name)) => run_and_report(alloc, name, files, out),
+        Some(command) => work_and_report(alloc, command, files, out),
     }
 }

@@ -9,6 +9,8 @@ use qvt_base::text::Text;
 pub enum Command<'a> {
     /// Runs the job of this file.
     Run(&'a Text),
+    /// Tells whether the model of a file conforms to the metamodel of another.
+    Check(&'a Text, &'a Text),
 }
 
 /// The command that the words give.
@@ -20,6 +22,13 @@ pub fn command_of(words: &[Text]) -> Option<Command<'_>>
         [word, job] => {
             if word.as_str() == "run" {
                 Some(Command::Run(job))
+            } else {
+                None
+            }
+        }
+        [word, metamodel, model] => {
+            if word.as_str() == "check" {
+                Some(Command::Check(metamodel, model))
             } else {
                 None
             }

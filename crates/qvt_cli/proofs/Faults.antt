@@ -1,0 +1,51 @@
+-- An early end by the fault of a file is one of what is stated.
+use Rattle.std.proofs.Common.{◌≡◌, ◌≢◌, ◌∙◌, ap, sym, subst, ℕ, List, Bool, true, false, Option, Some, None, Result, Ok, Err}
+use Rattle.std.specs.Prelude.{nat_lt, length, if◌then◌else◌}
+use Rattle.qvt_model.specs.declared.data.ObjectData.{ObjectData}
+use Rattle.qvt_meta.specs.Metamodels.{Metamodels}
+use Rattle.qvt_conform.specs.Conformance.{IsWellFormed, conform_fault}
+use Rattle.qvt_model.specs.WellFormed.{IsModel}
+use Rattle.qvt_conform.specs.declared.fault.ConformFault.{ConformFault}
+use Rattle.qvt_conform.specs.declared.fault.ConformFault.TheVariants as conform
+use Rattle.qvt_cli.specs.Check.{few_objects, unless_fault, conforming, most_objects}
+use Rattle.qvt_cli.specs.Outcome.{Outcome, refused}
+use Rattle.qvt_cli.specs.declared.refusal.Refusal.{Refusal}
+use Rattle.qvt_cli.specs.declared.refusal.Refusal.TheVariants as refusal
+use Rattle.qvt_cli.specs.Steps.{◌>>=◌, Stops, StopsBy, or_refused}
+use Rattle.qvt_cli.specs.declared.stop.Stop.{Stop}
+use Rattle.qvt_cli.specs.declared.stop.Stop.TheVariants as stop
+
+-- what is stated is the refusal by this fault, unless the end is free
+pub stops_at : {A F : Type 0} (free : F) (say : F → Refusal) (name : List ℕ) (why : F) (e : Stop) (r : Result A Outcome)
+    → StopsBy free say name why e → (why ≢ free → r ≡ Err (refused name (say why))) → Stops e r
+stops_at free say name why (stop.Refused file cause) r h is =
+    let other : why ≢ free = λ p. (let q : stop.Refused file cause ≡ stop.NoMemory = h.1 p in absurd cc) in
+    let same = h.0 other in
+    is other ∙ (λ i. Err (refused (sym same.0 i) (sym same.1 i)))
+stops_at free say name why (stop.OutOfFuel fuel) r h is =
+    let other : why ≢ free = λ p. (let q : stop.OutOfFuel fuel ≡ stop.NoMemory = h.1 p in absurd cc) in
+    absurd (h.0 other)
+stops_at free say name why (stop.ReadFault file) r h is = tt
+stops_at free say name why stop.NoMemory r h is = tt
+
+-- of a file that was read by steps
+pub stops_by : {A B F : Type 0} (free : F) (say : F → Refusal) (name : List ℕ) (why : F) (e : Stop) (r : Result A F) (f : A → Result B Outcome)
+    → StopsBy free say name why e → (why ≢ free → r ≡ Err why) → Stops e (or_refused say name r >>= f)
+stops_by free say name why e r f h is = stops_at free say name why e (or_refused say name r >>= f) h (λ other. ap (λ s. or_refused say name s >>= f) (is other))
+
+pub well_formed_of : (m : Metamodels) (k : ℕ) (os : List ObjectData) → IsModel m k os → IsWellFormed m os
+well_formed_of m k os h = record { metamodel = k; model = h }
+
+few : (name : List ℕ) (n : ℕ) → nat_lt most_objects n ≡ false → few_objects name n ≡ Ok n
+few name n h = ap (λ b. if b then Err (refused name refusal.TooManyObjects) else Ok n) h
+
+-- a model that does not conform
+pub conform_stops : (m : Metamodels) (name : List ℕ) (os : List ObjectData) (why : ConformFault) (e : Stop) → nat_lt most_objects (length os) ≡ false
+    → StopsBy conform.NoMemory refusal.Conform name why e → (why ≢ conform.NoMemory → conform_fault m os ≡ Some why) → Stops e (conforming m name os)
+unfolding conforming
+conform_stops m name os why e small h is = stops_at conform.NoMemory refusal.Conform name why e _ h
+    (λ other. ap (λ r. r >>= (λ n. unless_fault name n (conform_fault m os))) (few name (length os) small) ∙ ap (unless_fault name (length os)) (is other))
+
+pub conform_goes_on : (m : Metamodels) (name : List ℕ) (os : List ObjectData) → nat_lt most_objects (length os) ≡ false → conform_fault m os ≡ None → conforming m name os ≡ Ok (length os)
+unfolding conforming
+conform_goes_on m name os small none = ap (λ r. r >>= (λ n. unless_fault name n (conform_fault m os))) (few name (length os) small) ∙ ap (unless_fault name (length os)) none

@@ -1,0 +1,24 @@
+-- The plan was carried out, or the run ended early and that was told.
+use Rattle.std.proofs.Common.{◌∙◌}
+use Rattle.qvt_cli.specs.Reported.{change_of}
+use Rattle.qvt_cli.specs.Work.{work_of, work_turns}
+use Rattle.qvt_cli.specs.Commands.{command_view}
+use Rattle.qvt_cli.proofs.Settle.{carried_after, finished_after}
+use Rattle.qvt_cli.proofs.top.work_and_report.Goals as goal
+
+pub returns-in-Ok-clause-answer : goal.returns-in-Ok-clause-answer
+returns-in-Ok-clause-answer g c = λ held e. carried_after c.in-Ok.plan (work_of held (command_view c.args.command)) (work_turns held (command_view c.args.command)) held
+    (change_of (g.F.Files.held c.carry_out.new.files) (g.S.Sink.written c.args.out.now) (g.S.Sink.written c.carry_out.new.out)
+    (g.F.Files.read_faults c.args.files.now) (g.F.Files.read_faults c.carry_out.new.files)
+    (g.F.Files.write_faults c.args.files.now) (g.F.Files.write_faults c.carry_out.new.files)
+    (g.S.Sink.faults c.args.out.now) (g.S.Sink.faults c.carry_out.new.out))
+    c.carry_out.result (g.F.Files.held c.perform.new.files) (g.F.Files.write_faults c.perform.new.files)
+    (c.in-Ok.ensures.gives held e) (c.in-Ok.ensures.held ∙ e) c.in-Ok.ensures.writes c.carry_out.ensures.carried
+
+pub returns-in-Err-clause-answer : goal.returns-in-Err-clause-answer
+returns-in-Err-clause-answer g c = λ held e. finished_after c.in-Err.stop (work_of held (command_view c.args.command)) (work_turns held (command_view c.args.command)) held
+    (change_of (g.F.Files.held c.perform.new.files) (g.S.Sink.written c.args.out.now) (g.S.Sink.written c.finish.new.out)
+    (g.F.Files.read_faults c.args.files.now) (g.F.Files.read_faults c.perform.new.files)
+    (g.F.Files.write_faults c.args.files.now) (g.F.Files.write_faults c.perform.new.files)
+    (g.S.Sink.faults c.args.out.now) (g.S.Sink.faults c.finish.new.out))
+    c.finish.result (c.in-Err.ensures.gives held e) (c.in-Err.ensures.held ∙ e) c.in-Err.ensures.rose (c.in-Err.ensures.turn held e) c.finish.ensures

@@ -1,0 +1,80 @@
+//! The metamodel of a file, alone.
+
+ghost use Rattle.std.specs.Prelude.{◌≡◌, ◌≤◌, ◌<◌, Some, OnOk, IfOk, length};
+ghost use Rattle.qvt_base.specs.Outside.{Held, Rose};
+ghost use Rattle.qvt_cli.specs.Steps.{Gives, IfFaultOf, IsFaultWith, joined, StopsBy};
+ghost use Rattle.qvt_cli.specs.Metas.{metas_in, metas_read};
+
+use crate::fetch::{fetch, refused};
+use crate::refusal::Refusal;
+use crate::stop::Stop;
+use qvt_base::outside::Files;
+use qvt_base::text::Text;
+use qvt_meta::fault::MetaFault;
+use qvt_meta::meta::{Meta, read_meta};
+use qvt_meta::metas::Metas;
+use std::alloc::Global;
+
+/// The refusal of a metamodel's file.
+fn meta_stop(alloc: Global, name: &Text, why: MetaFault) -> Stop
+    ensures stop { StopsBy MetaFault.NoMemory Refusal.Metamodel name.now why result }
+    ensures no_reads { IsFaultWith result (λ file. ⊥) }
+{
+    match why {
+        MetaFault::NoMemory => Stop::NoMemory,
+        why => refused(alloc, name, Refusal::Metamodel(why)),
+    }
+}
+
+ghost use Rattle.qvt_meta.specs.Added.{added};
+ghost use Rattle.qvt_cli.specs.Metas.{no_metamodels};
+
+/// The metamodels that have this one alone.
+fn alone(alloc: Global, meta: Meta) -> Result<Metas, Stop>
+    ensures alone { IfOk result (λ metas. metas ≡ added no_metamodels meta) }
+    ensures memory { IfErr result (λ stop. stop ≡ Stop.NoMemory) }
+{
+    // No file within its limit has so many classes or features.
+    let mut metas = Metas::new(alloc);
+    if !metas.has_room(&meta) {
+        return Err(Stop::NoMemory);
+    }
+    match metas.add(meta) {
+        Err(_) => Err(Stop::NoMemory),
+        Ok(()) => Ok(metas),
+    }
+}
+
+ghost use Rattle.std.specs.Prelude.{IfErr};
+
+/// The metamodels of a file's bytes: the one that it has.
+#[tactic(auto, unfolding(crate::specs::Metas::metas_in))]
+pub fn metas_in(alloc: Global, name: &Text, bytes: &[u8]) -> Result<Metas, Stop>
+    ensures no_reads { IfFaultOf result (λ file. ⊥) }
+    ensures gives { Gives (λ metas. metas) result (metas_in name.now bytes.now) }
+    ensures one { IfOk result (λ metas. 0 < length metas.metamodels) }
+{
+    match read_meta(alloc, bytes) {
+        Err(why) => Err(meta_stop(alloc, name, why)),
+        Ok(meta) => alone(alloc, meta),
+    }
+}
+
+/// Reads the metamodel.
+#[tactic(auto, unfolding(crate::specs::Metas::metas_read))]
+pub fn read_metas<F: Files>(alloc: Global, files: &mut F, name: &Text) -> Result<Metas, Stop>
+    ensures gives { (held : Held) → F.held files.old ≡ Some held → Gives (λ metas. metas) result (metas_read held name.now) }
+    ensures held { F.held files.new ≡ F.held files.old }
+    ensures later { F.read_faults files.old ≤ F.read_faults files.new }
+    ensures rose { IfFaultOf result (λ file. Rose (F.read_faults files.old) (F.read_faults files.new)) }
+    ensures writes { F.write_faults files.new ≡ F.write_faults files.old }
+    ensures named { IfFaultOf result (λ file. file ≡ name.now) }
+    ensures failed { IfFaultOf result (λ file. F.failed_reads files.new ≡ joined file (F.failed_reads files.old)) }
+    ensures quiet { OnOk result (F.failed_reads files.new ≡ F.failed_reads files.old) }
+    ensures one { IfOk result (λ metas. 0 < length metas.metamodels) }
+{
+    match fetch(alloc, files, name, 1_048_576) {
+        Err(stop) => Err(stop),
+        Ok(bytes) => metas_in(alloc, name, bytes.as_slice()),
+    }
+}

@@ -1,8 +1,0 @@
-//! The transformations that are run today: one metamodel, one output, and objects with literals.
-
-pub mod program;
-pub mod scan;
-pub mod text;
-pub mod token;
-pub mod tokens;
-pub mod written;

@@ -1,0 +1,4 @@
+pub mod Numbers
+pub mod SmallLoops
+pub mod SmallTurns
+pub mod SmallWritten

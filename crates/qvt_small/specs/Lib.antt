@@ -1,0 +1,3 @@
+pub mod SmallRun
+pub mod SmallText
+pub mod SmallTokens
