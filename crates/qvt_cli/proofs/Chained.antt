@@ -16,6 +16,7 @@ use Rattle.qvt_cli.specs.declared.stop.Stop.TheVariants as stop
 pub ended : {A B : Type 0} (e : Stop) (step : Result A Outcome) (f : A → Result B Outcome) → Stops e step → Stops e (step >>= f)
 ended (stop.Refused file why) step f h = ap (λ r. r >>= f) h
 ended (stop.OutOfFuel fuel) step f h = ap (λ r. r >>= f) h
+ended (stop.Low model id feature) step f h = ap (λ r. r >>= f) h
 ended (stop.ReadFault file) step f h = h
 ended stop.NoMemory step f h = h
 
@@ -26,6 +27,7 @@ goes_on view r step x f is h = subst (λ s. Gives view r (s >>= f)) (sym is) h
 wider_stop : (e : Stop) (P Q : List ℕ → Type 0) → IsFaultWith e P → ((file : List ℕ) → P file → Q file) → IsFaultWith e Q
 wider_stop (stop.Refused file why) P Q h f = h
 wider_stop (stop.OutOfFuel fuel) P Q h f = h
+wider_stop (stop.Low model id feature) P Q h f = h
 wider_stop (stop.ReadFault file) P Q h f = f file h
 wider_stop stop.NoMemory P Q h f = h
 
@@ -54,6 +56,7 @@ refused_job : (name : List ℕ) (why : Refusal) (e : Stop) (f : Job → Result S
     → Stops {A = SmallJob} e (Err (refused name why))
 refused_job name why (stop.Refused file cause) f h = λ i. Err (refused (sym h.0 i) (sym h.1 i))
 refused_job name why (stop.OutOfFuel fuel) f h = absurd h
+refused_job name why (stop.Low model id feature) f h = absurd h
 refused_job name why (stop.ReadFault file) f h = absurd h
 refused_job name why stop.NoMemory f h = tt
 

@@ -25,6 +25,9 @@ stops_at free say name why (stop.Refused file cause) r h is =
 stops_at free say name why (stop.OutOfFuel fuel) r h is =
     let other : why ≢ free = λ p. (let q : stop.OutOfFuel fuel ≡ stop.NoMemory = h.1 p in absurd cc) in
     absurd (h.0 other)
+stops_at free say name why (stop.Low model id feature) r h is =
+    let other : why ≢ free = λ p. (let q : stop.Low model id feature ≡ stop.NoMemory = h.1 p in absurd cc) in
+    absurd (h.0 other)
 stops_at free say name why (stop.ReadFault file) r h is = tt
 stops_at free say name why stop.NoMemory r h is = tt
 

@@ -2,7 +2,7 @@
 use Rattle.std.proofs.Common.{◌≡◌, ◌∙◌, ap, sym, refl, subst, ℕ, ◌<◌, List, [], ◌∷◌, take, length, Option, Some, None, ◌⊎◌, inl, inr, Result, Ok, Err}
 use Rattle.std.specs.Option.{option_map}
 use Rattle.qvt_base.specs.Outside.{Held, Rose, SameBut, BothTold}
-use Rattle.qvt_cli.specs.Outcome.{Outcome, usage, refused, out_of_fuel, done, File, status_of, report, files_of, files_after, put_all, read_fault_line, write_fault_line, no_memory_line}
+use Rattle.qvt_cli.specs.Outcome.{Outcome, usage, refused, out_of_fuel, low, done, File, status_of, report, files_of, files_after, put_all, read_fault_line, write_fault_line, no_memory_line}
 use Rattle.qvt_cli.specs.Reported.{Change, Reports, Answers, Told, FileFailed, ReportFailed, ReadLineFailed, MemoryLineFailed, IsAmong, IsCut, appended, name_at}
 use Rattle.qvt_cli.specs.Plans.{files_in, outcome_of, StoppedWriting, CarriedOut}
 use Rattle.qvt_cli.specs.Steps.{Stops, IsFaultWith, settled, stop_line, stop_status}
@@ -21,6 +21,7 @@ told_whole : (o : Outcome) (names : List (List ℕ)) (before : Held) (c : Change
 told_whole usage names before c files sink = record { status = refl; files = files; sink = sink }
 told_whole (refused file why) names before c files sink = record { status = refl; files = files; sink = sink }
 told_whole (out_of_fuel fuel) names before c files sink = record { status = refl; files = files; sink = sink }
+told_whole (low model id feature) names before c files sink = record { status = refl; files = files; sink = sink }
 told_whole (done fs text) names before c files sink = record { status = refl; files = files; sink = sink }
 
 -- the outcome's own text went to the sink
@@ -51,6 +52,8 @@ stopped (stop.Refused file why) run names before c answer stops files rose among
     subst (λ r. Answers (settled r) names before c answer) (sym stops) (told_of (refused file why) names before c answer files h)
 stopped (stop.OutOfFuel fuel) run names before c answer stops files rose among h =
     subst (λ r. Answers (settled r) names before c answer) (sym stops) (told_of (out_of_fuel fuel) names before c answer files h)
+stopped (stop.Low model id feature) run names before c answer stops files rose among h =
+    subst (λ r. Answers (settled r) names before c answer) (sym stops) (told_of (low model id feature) names before c answer files h)
 stopped (stop.ReadFault file) run names before c answer stops files rose among h = read_fault_of (settled run) names before c answer file files rose among h
 stopped stop.NoMemory run names before c answer stops files rose among h = memory_of (settled run) names before c answer files h
 

@@ -32,6 +32,7 @@ pub data Outcome : Type 0 where
   usage : Outcome
   refused : List ℕ → Refusal → Outcome
   out_of_fuel : ℕ → Outcome
+  low : List ℕ → List ℕ → List ℕ → Outcome
   done : List File → List ℕ → Outcome
 
 -- a name and what it carries, parted by blanks
@@ -97,6 +98,10 @@ refused_line file why = codes "refused: " ++ (file ++ (codes ": " ++ (refusal_te
 abbrev pub out_of_fuel_line : ℕ → List ℕ
 out_of_fuel_line fuel = codes "out of fuel: " ++ (decimal fuel ++ 10 ∷ [])
 
+-- the model, the id of the object, and the feature
+abbrev pub low_line : List ℕ → List ℕ → List ℕ → List ℕ
+low_line model id feature = codes "low: " ++ (model ++ (codes ":" ++ (id ++ (codes " " ++ (feature ++ 10 ∷ [])))))
+
 abbrev pub conforms_line : ℕ → List ℕ
 conforms_line objects = codes "conforms: " ++ (decimal objects ++ (codes " objects" ++ 10 ∷ []))
 
@@ -110,6 +115,7 @@ abbrev pub status_of : Outcome → Status
 status_of usage = status.Usage
 status_of (refused file why) = status.Refused
 status_of (out_of_fuel fuel) = status.OutOfFuel
+status_of (low model id feature) = status.Low
 status_of (done files text) = status.Done
 
 -- the text on the sink
@@ -117,6 +123,7 @@ abbrev pub report : Outcome → List ℕ
 report usage = usage_line
 report (refused file why) = refused_line file why
 report (out_of_fuel fuel) = out_of_fuel_line fuel
+report (low model id feature) = low_line model id feature
 report (done files text) = text
 
 -- one file after the other
@@ -129,6 +136,7 @@ abbrev pub files_of : Outcome → List File
 files_of usage = []
 files_of (refused file why) = []
 files_of (out_of_fuel fuel) = []
+files_of (low model id feature) = []
 files_of (done files text) = files
 
 abbrev pub files_after : Outcome → Held → Held

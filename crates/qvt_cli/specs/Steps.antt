@@ -1,7 +1,7 @@
 -- The work of a command as steps, of which the first that ends it gives the outcome.
 use Rattle.std.specs.Prelude.{ℕ, ◌≡◌, ◌≢◌, ⊤, List, [], ◌∷◌, ◌++◌, Result, Ok, Err, Option, Some, None, option_map}
 use Rattle.qvt_base.specs.Outside.{Held, Look, found, missing, too_large, look}
-use Rattle.qvt_cli.specs.Outcome.{Outcome, refused, out_of_fuel, refused_line, out_of_fuel_line, read_fault_line, no_memory_line}
+use Rattle.qvt_cli.specs.Outcome.{Outcome, refused, out_of_fuel, low, refused_line, out_of_fuel_line, low_line, read_fault_line, no_memory_line}
 use Rattle.qvt_cli.specs.declared.stop.Stop.{Stop}
 use Rattle.qvt_cli.specs.declared.stop.Stop.TheVariants as stop
 use Rattle.qvt_cli.specs.declared.refusal.Refusal.{Refusal}
@@ -38,6 +38,7 @@ or_refused say name (Err why) = Err (refused name (say why))
 abbrev pub Stops : {A : Type 0} → Stop → Result A Outcome → Type 0
 Stops (stop.Refused file why) stated = stated ≡ Err (refused file why)
 Stops (stop.OutOfFuel fuel) stated = stated ≡ Err (out_of_fuel fuel)
+Stops (stop.Low model id feature) stated = stated ≡ Err (low model id feature)
 Stops (stop.ReadFault file) stated = ⊤
 Stops stop.NoMemory stated = ⊤
 
@@ -50,6 +51,7 @@ Gives view (Err e) stated = Stops e stated
 abbrev pub IsFaultWith : Stop → (List ℕ → Type 0) → Type 0
 IsFaultWith (stop.Refused file why) P = ⊤
 IsFaultWith (stop.OutOfFuel fuel) P = ⊤
+IsFaultWith (stop.Low model id feature) P = ⊤
 IsFaultWith (stop.ReadFault file) P = P file
 IsFaultWith stop.NoMemory P = ⊤
 
@@ -64,12 +66,14 @@ joined file told = option_map (λ names. names ++ file ∷ []) told
 abbrev pub stop_line : Stop → List ℕ
 stop_line (stop.Refused file why) = refused_line file why
 stop_line (stop.OutOfFuel fuel) = out_of_fuel_line fuel
+stop_line (stop.Low model id feature) = low_line model id feature
 stop_line (stop.ReadFault file) = read_fault_line file
 stop_line stop.NoMemory = no_memory_line
 
 abbrev pub stop_status : Stop → Status
 stop_status (stop.Refused file why) = status.Refused
 stop_status (stop.OutOfFuel fuel) = status.OutOfFuel
+stop_status (stop.Low model id feature) = status.Low
 stop_status (stop.ReadFault file) = status.ReadFault
 stop_status stop.NoMemory = status.NoMemory
 
@@ -82,12 +86,14 @@ settled (Err o) = o
 abbrev pub RefusedOrNoMemory : List ℕ → Refusal → Stop → Type 0
 RefusedOrNoMemory file why (stop.Refused name cause) = (name ≡ file) × (cause ≡ why)
 RefusedOrNoMemory file why (stop.OutOfFuel fuel) = ⊥
+RefusedOrNoMemory file why (stop.Low model id feature) = ⊥
 RefusedOrNoMemory file why (stop.ReadFault name) = ⊥
 RefusedOrNoMemory file why stop.NoMemory = ⊤
 
 abbrev pub ReadFaultOrNoMemory : List ℕ → Stop → Type 0
 ReadFaultOrNoMemory file (stop.Refused name cause) = ⊥
 ReadFaultOrNoMemory file (stop.OutOfFuel fuel) = ⊥
+ReadFaultOrNoMemory file (stop.Low model id feature) = ⊥
 ReadFaultOrNoMemory file (stop.ReadFault name) = name ≡ file
 ReadFaultOrNoMemory file stop.NoMemory = ⊤
 

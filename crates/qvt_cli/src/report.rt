@@ -1,6 +1,6 @@
 ghost use Rattle.std.specs.Prelude.{◌≡◌, ◌⊎◌, MatchBool, IfOk, string_bytes};
 ghost use Rattle.qvt_base.specs.Outside.{Rose};
-ghost use Rattle.qvt_cli.specs.Outcome.{refusal_text, refused_line, out_of_fuel_line, read_fault_line, write_fault_line, no_memory_line, conforms_line};
+ghost use Rattle.qvt_cli.specs.Outcome.{refusal_text, refused_line, out_of_fuel_line, read_fault_line, write_fault_line, no_memory_line, low_line, conforms_line};
 ghost use Rattle.qvt_cli.specs.Steps.{stop_line, stop_status};
 ghost use Rattle.qvt_cli.specs.Reported.{appended, IsCut, Reports};
 
@@ -11,6 +11,7 @@ use crate::stop::Stop;
 use qvt_base::lists::Bytes;
 use qvt_base::outside::{Sink, SinkAnswer};
 use qvt_base::seq::Seq;
+use qvt_base::text::Text;
 use std::alloc::{AllocError, Global};
 
 /// Sends the whole text, piece by piece. False where the sink failed.
@@ -85,6 +86,16 @@ fn refusal_text(alloc: Global, why: &Refusal) -> Result<String, AllocError>
 }
 
 
+/// The line that an object has too few items for a feature.
+fn low_line(alloc: Global, model: &Text, id: &Text, feature: &Text) -> Result<Bytes, AllocError>
+    ensures { IfOk result (λ line. line ≡ low_line model.now id.now feature.now) }
+{
+    let model = model.as_str();
+    let id = id.as_str();
+    let feature = feature.as_str();
+    Ok(bytes_of(format!(in alloc; "low: {model}:{id} {feature}\n")?))
+}
+
 /// The line of a model that conforms.
 pub fn conforms_line(alloc: Global, objects: usize) -> Result<Bytes, AllocError>
     ensures { IfOk result (λ line. line ≡ conforms_line objects) }
@@ -107,6 +118,7 @@ fn line_of(alloc: Global, stop: &Stop) -> Result<(Bytes, Status), AllocError>
     match stop {
         Stop::Refused(file, why) => Ok((refused_line(alloc, file.as_str(), why)?, Status::Refused)),
         Stop::OutOfFuel(fuel) => Ok((out_of_fuel_line(alloc, *fuel)?, Status::OutOfFuel)),
+        Stop::Low(model, id, feature) => Ok((low_line(alloc, model, id, feature)?, Status::Low)),
         Stop::ReadFault(file) => Ok((read_fault_line(alloc, file.as_str())?, Status::ReadFault)),
         Stop::NoMemory => Err(AllocError),
     }

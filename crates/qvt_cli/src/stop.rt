@@ -9,6 +9,8 @@ pub enum Stop {
     Refused(Text, Refusal),
     /// The cost would pass this fuel.
     OutOfFuel(u64),
+    /// A model, the id of an object in it, and the name of a feature of which it has too few items.
+    Low(Text, Text, Text),
     /// This file could not be read.
     ReadFault(Text),
     NoMemory,
