@@ -1,0 +1,131 @@
+//! Which classes are above each class.
+
+ghost use Rattle.std.specs.Prelude.{replicate, ◌≡◌, ◌<◌, ◌≤◌, ◌+◌, ◌^◌, ℕ, ◌||◌, ◌==◌, length, IfOk, slice_index_or};
+ghost use Rattle.std.specs.List.{list_any};
+ghost use Rattle.qvt_meta.specs.Descends.{reaches};
+ghost use Rattle.qvt_meta.specs.Kept.{no_row, is_marked};
+ghost use Rattle.qvt_meta.specs.Tables.{of_classes, IsOrder, IsWithin};
+
+use crate::info::ClassInfo;
+use crate::order::Order;
+use crate::row::Row;
+use qvt_base::list_fault::ListFault;
+use qvt_base::numbers::ClassNo;
+use qvt_base::seq::Seq;
+use std::alloc::Global;
+
+/// Whether a class is marked in a row.
+pub fn is_marked(row: &Row, class: u32) -> bool
+    ensures { result ≡ is_marked row.now class }
+{
+    if class < row.first {
+        return false;
+    }
+    let place = (class - row.first) as usize;
+    if place < row.above.len() {
+        row.above.as_slice()[place]
+    } else {
+        false
+    }
+}
+
+/// Where the marks of a row end. Every class has a number below the bound.
+fn end_of(row: &Row, bound: u32) -> u32
+    requires { IsWithin bound row.now }
+    ensures { result ≡ row.now.first + length row.now.above }
+{
+    let _ = bound;
+    row.first + row.above.len() as u32
+}
+
+/// A row with the marks of both and one for this class.
+fn with_row(
+    alloc: Global,
+    bound: u32,
+    row: &Row,
+    class: u32,
+    other: &Row,
+) -> Result<Row, ListFault>
+    requires class { class < bound }
+    requires row { IsWithin bound row.now }
+    requires other { IsWithin bound other.now }
+    ensures marks { IfOk result (λ r. (d : ℕ) → is_marked r d ≡ (is_marked row.now d || ((class == d) || is_marked other.now d))) }
+    ensures within { IfOk result (λ r. IsWithin bound r) }
+{
+    let mut first = class;
+    if !row.above.is_empty() {
+        first = first.min(row.first);
+    }
+    if !other.above.is_empty() {
+        first = first.min(other.first);
+    }
+    let end = (class + 1).max(end_of(row, bound)).max(end_of(other, bound));
+    let mut above = Seq::new(alloc);
+    for at in first..end {
+        above.push(is_marked(row, at) || class == at || is_marked(other, at))?;
+    }
+    Ok(Row { first, above })
+}
+
+/// The row of a class, by those of its superclasses.
+fn row_at(
+    alloc: Global,
+    bound: u32,
+    rows: &Vec<Row>,
+    supers: &[ClassNo],
+) -> Result<Row, ListFault>
+    requires count { length rows.now.items ≡ bound }
+    requires rows { (c : ℕ) → IsWithin bound (slice_index_or rows.now.items c no_row) }
+    ensures marks { IfOk result (λ r. (d : ℕ) → is_marked r d ≡ list_any (λ s. (s.0 == d) || is_marked (slice_index_or rows.now.items s.0 no_row) d) supers.now) }
+    ensures within { IfOk result (λ r. IsWithin bound r) }
+{
+    let mut row = Row {
+        first: 0,
+        above: Seq::new(alloc),
+    };
+    for superclass in supers {
+        let at = superclass.0 as usize;
+        if at < rows.len() {
+            row = with_row(alloc, bound, &row, superclass.0, &rows[at])?;
+        }
+    }
+    Ok(row)
+}
+
+/// A row without marks for each of as many classes.
+fn empty_rows(alloc: Global, count: u32) -> Result<Vec<Row>, ListFault>
+    ensures { IfOk result (λ v. v.items ≡ replicate count no_row) }
+{
+    let mut rows = Seq::new(alloc);
+    for at in 0..count {
+        rows.push(Row {
+            first: 0,
+            above: Seq::new(alloc),
+        })?;
+    }
+    Ok(rows.into_vec())
+}
+
+/// Which classes are above each class.
+pub fn rows_of(
+    alloc: Global,
+    order: &Order,
+    classes: &[ClassInfo],
+    count: u32,
+) -> Result<Vec<Row>, ListFault>
+    requires count { length classes.now ≡ count }
+    requires order { IsOrder (of_classes classes.now) order.now.classes order.now.ranks }
+    ensures each { IfOk result (λ v. length v.items ≡ count) }
+    ensures first { IfOk result (λ v. (c : ℕ) → (slice_index_or v.items c no_row).first ≤ count) }
+    ensures ancestors { IfOk result (λ v. (c d : ℕ) → is_marked (slice_index_or v.items c no_row) d ≡ reaches (of_classes classes.now) c d) }
+{
+    let mut rows = empty_rows(alloc, count)?;
+    for class in order.classes.as_slice() {
+        let at = *class as usize;
+        if at < classes.len() {
+            let row = row_at(alloc, count, &rows, classes[at].supers.as_slice())?;
+            rows[at] = row;
+        }
+    }
+    Ok(rows)
+}

@@ -1,0 +1,65 @@
+//! The check of the names among all features of a class.
+
+ghost use Rattle.std.specs.Prelude.{◌≡◌, ℕ, List, [], map, length, IfOk, slice_index_or};
+ghost use Rattle.qvt_meta.specs.Names.{repeated};
+ghost use Rattle.qvt_meta.specs.Metamodels.{nowhere_feature, features_of};
+ghost use Rattle.qvt_meta.specs.Added.{numbered};
+ghost use Rattle.qvt_meta.specs.Numbered.{AreNumbers};
+ghost use Rattle.qvt_meta.specs.Checks.{same_feature};
+
+use crate::adding::Numbers;
+use crate::declared::MetaData;
+use crate::info::FeatureInfo;
+use crate::names::add_name;
+use indexmap::IndexSet;
+use qvt_base::copied::Copied;
+use qvt_base::list_fault::ListFault;
+use qvt_base::lists::FeatureNoList;
+use qvt_base::numbers::FeatureNo;
+use qvt_base::text::Text;
+use std::alloc::Global;
+
+/// A name of one of these features that an earlier one has.
+fn repeated_name(
+    alloc: Global,
+    features: &[FeatureInfo],
+    list: &[FeatureNo],
+) -> Result<Option<Text>, ListFault>
+    ensures { IfOk result (λ o. o ≡ repeated [] (map (λ f. (slice_index_or features.now f.0 nowhere_feature).name) list.now)) }
+{
+    let nothing = Text::new(alloc);
+    let mut taken = IndexSet::new(alloc);
+    for number in list {
+        let name = match features.get(number.0 as usize) {
+            Some(feature) => &feature.name,
+            None => &nothing,
+        };
+        if taken.contains(name) {
+            return Ok(Some(name.copy(alloc)?));
+        }
+        add_name(&mut taken, name.copy(alloc)?)?;
+    }
+    Ok(None)
+}
+
+/// The class and the name that SameFeature tells.
+#[tactic(auto, unfolding(crate::specs::Checks::same_feature))]
+pub fn same_feature(
+    alloc: Global,
+    meta: &MetaData,
+    numbers: &Numbers,
+    lists: &Vec<FeatureNoList>,
+) -> Result<Option<(Text, Text)>, ListFault>
+    requires numbers { AreNumbers meta.now numbers.now }
+    requires each { length lists.now.items ≡ length meta.now.classes }
+    requires lists { (c : ℕ) → slice_index_or lists.now.items c [] ≡ features_of (numbered meta.now) c }
+    ensures { IfOk result (λ o. o ≡ same_feature meta.now) }
+{
+    let features = numbers.features.as_slice();
+    for (at, class) in meta.classes.as_slice().iter().enumerate() {
+        if let Some(name) = repeated_name(alloc, features, lists[at].as_slice())? {
+            return Ok(Some((class.name.copy(alloc)?, name)));
+        }
+    }
+    Ok(None)
+}

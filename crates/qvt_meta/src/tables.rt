@@ -1,0 +1,134 @@
+//! The tables of classes: for each its features in order, and which classes are above it.
+
+ghost use Rattle.std.specs.Prelude.{◌≡◌, ◌<◌, ◌≤◌, ◌+◌, ◌++◌, ◌^◌, ℕ, [], ◌||◌, ◌==◌, length, map, IfOk, IfSome, OnOk, slice_index_or};
+ghost use Rattle.std.specs.List.{list_any, flat_map};
+ghost use Rattle.qvt_meta.specs.Metamodels.{each_once, features_of};
+ghost use Rattle.qvt_meta.specs.Descends.{reaches};
+ghost use Rattle.qvt_meta.specs.Kept.{no_row, is_marked};
+ghost use Rattle.qvt_meta.specs.Tables.{of_classes, IsOrder, AreTables};
+
+use crate::info::ClassInfo;
+use crate::order::{Order, order_of};
+use crate::row::Row;
+use crate::rows::rows_of;
+use indexmap::IndexSet;
+use qvt_base::list_fault::ListFault;
+use qvt_base::lists::FeatureNoList;
+use qvt_base::numbers::{ClassNo, FeatureNo};
+use qvt_base::seq::Seq;
+use std::alloc::Global;
+
+/// For each class its features in order, and which classes are above it; and ranks of the classes
+/// that lie above those of their superclasses.
+#[derive(Drop)]
+pub struct Tables {
+    pub lists: Vec<FeatureNoList>,
+    pub rows: Vec<Row>,
+    pub ranks: Vec<u32>,
+}
+
+/// Puts those of the features last that are not there.
+fn add_new(
+    seen: &mut IndexSet<u32>,
+    list: &mut FeatureNoList,
+    features: &[FeatureNo],
+) -> Result<(), ListFault>
+    requires { seen.old.keys ≡ map (λ g. g.0) list.old }
+    ensures list { OnOk result (list.new ≡ list.old ++ each_once list.old features.now) }
+    ensures seen { OnOk result (seen.new.keys ≡ map (λ g. g.0) list.new) }
+{
+    for feature in features {
+        if !seen.contains(&feature.0) {
+            if seen.insert(feature.0).is_err() {
+                return Err(ListFault::NoMemory);
+            }
+            list.push(*feature)?;
+        }
+    }
+    Ok(())
+}
+
+/// The features of these classes, each once.
+fn inherited(
+    alloc: Global,
+    lists: &Vec<FeatureNoList>,
+    supers: &[ClassNo],
+) -> Result<FeatureNoList, ListFault>
+    ensures { IfOk result (λ s. s ≡ each_once [] (flat_map (λ s. slice_index_or lists.now.items s.0 []) supers.now)) }
+{
+    let mut seen = IndexSet::new(alloc);
+    let mut list = Seq::new(alloc);
+    for superclass in supers {
+        let at = superclass.0 as usize;
+        if at < lists.len() {
+            add_new(&mut seen, &mut list, lists[at].as_slice())?;
+        }
+    }
+    Ok(list)
+}
+
+/// The features of a class, by those of its superclasses.
+fn features_at(
+    alloc: Global,
+    lists: &Vec<FeatureNoList>,
+    class: &ClassInfo,
+) -> Result<FeatureNoList, ListFault>
+    ensures { IfOk result (λ s. s ≡ each_once [] (flat_map (λ s. slice_index_or lists.now.items s.0 []) class.now.supers) ++ class.now.own) }
+{
+    let mut list = inherited(alloc, lists, class.supers.as_slice())?;
+    list.extend(class.own.as_slice())?;
+    Ok(list)
+}
+
+/// An empty list for each of as many classes.
+fn empty_lists(alloc: Global, count: usize) -> Result<Vec<FeatureNoList>, ListFault>
+    ensures { IfOk result (λ v. length v.items ≡ count) }
+{
+    let mut lists = Seq::new(alloc);
+    for _ in 0..count {
+        lists.push(Seq::new(alloc))?;
+    }
+    Ok(lists.into_vec())
+}
+
+/// The features of each class.
+fn lists_of(
+    alloc: Global,
+    order: &Order,
+    classes: &[ClassInfo],
+) -> Result<Vec<FeatureNoList>, ListFault>
+    requires { IsOrder (of_classes classes.now) order.now.classes order.now.ranks }
+    ensures each { IfOk result (λ v. length v.items ≡ length classes.now) }
+    ensures features { IfOk result (λ v. (c : ℕ) → slice_index_or v.items c [] ≡ features_of (of_classes classes.now) c) }
+{
+    let mut lists = empty_lists(alloc, classes.len())?;
+    for class in order.classes.as_slice() {
+        let at = *class as usize;
+        if at < classes.len() {
+            let list = features_at(alloc, &lists, &classes[at])?;
+            lists[at] = list;
+        }
+    }
+    Ok(lists)
+}
+
+/// The tables of these classes, None where no order of them is found.
+pub fn tables_of(
+    alloc: Global,
+    classes: &[ClassInfo],
+    count: u32,
+) -> Result<Option<Tables>, ListFault>
+    requires { length classes.now ≡ count }
+    ensures { IfOk result (λ o. IfSome o (λ t. AreTables (of_classes classes.now) t.lists.items t.rows.items t.ranks.items)) }
+{
+    let Some(order) = order_of(alloc, classes, count)? else {
+        return Ok(None);
+    };
+    let lists = lists_of(alloc, &order, classes)?;
+    let rows = rows_of(alloc, &order, classes, count)?;
+    Ok(Some(Tables {
+        lists,
+        rows,
+        ranks: order.ranks.into_vec(),
+    }))
+}
