@@ -4,6 +4,7 @@ pub mod Counts
 pub mod Firsts
 pub mod Lookups
 pub mod Whole
+pub mod Made
 pub mod Passing
 pub mod Orders
 pub mod Owners

@@ -268,7 +268,7 @@ module _ (d : MetaData) (ok : IsChecked d) (ranks : List ℕ) (ranked : AreRanks
   class_place c l = ap (place_in (names_of ls)) (sym (class_name_is d c)) ∙ place-is (names_of ls) c (omega (arith, l, name_total d)) (λ j h. class_differ c j l h)
 
   -- no name stands twice among the features of a class
-  named : FeatureNo → List ℕ
+  abbrev named : FeatureNo → List ℕ
   named g = (feature_at w g.0).name
 
   fresh_at : (c : ℕ) → c < length ls → repeated_feature (numbered d) c ≡ None
@@ -372,69 +372,69 @@ module _ (d : MetaData) (ok : IsChecked d) (ranks : List ℕ) (ranked : AreRanks
   no_class : (c : ℕ) → length ls ≤ c → many d c ≡ 0
   no_class c h = ap (λ (k : DeclaredClass). length k.features) (get_or_past ls c nothing_declared h)
 
-  pair_at : (c j q : ℕ) → c < length ls → j < many d c → is_feature_number (option_map (feature_number first_begin ls (place_in (names_of ls) (featured_at (declared_at ls c) j).kind)) (featured_at (declared_at ls c) j).opposite) q ≡ true
-      → Pair (before d c + j) q
-  pair_at c j q l h same = by f.opposite refl same
-    where
-      abbrev k : DeclaredClass
-      k = declared_at ls c
+  abbrev K : ℕ → DeclaredClass
+  K c = declared_at ls c
 
-      abbrev f : DeclaredFeature
-      f = featured_at k j
+  abbrev F : ℕ → ℕ → DeclaredFeature
+  F c j = featured_at (declared_at ls c) j
 
-      abbrev e : ℕ
-      e = place_in (names_of ls) f.kind
+  -- the place of the class that is the type of a feature
+  abbrev E : ℕ → ℕ → ℕ
+  E c j = place_in (names_of ls) (F c j).kind
 
-      by : (o : Option (List ℕ)) → f.opposite ≡ o → is_feature_number (option_map (feature_number first_begin ls e) o) q ≡ true → Pair (before d c + j) q
-      by None at eq = absurd (cc)
-      by (Some name) at eq =
-          let some : is_some f.opposite ≡ true = ap is_some at in
-          let fine : is_bad_opposite d k f ≡ false = allowed c j l h in
-          let a : ((f.containment || is_some f.opposite) && (not (is_among f.kind (class_names d)) || not f.unique)) ≡ false = none_left _ _ fine in
-          let a2 : (not (is_among f.kind (class_names d)) || not f.unique) ≡ false = and_false_right _ _ (or_right f.containment (is_some f.opposite) some) a in
-          let there : is_among f.kind (class_names d) ≡ true = not_false _ (none_left _ _ a2) in
-          let unique : f.unique ≡ true = not_false _ (none_right (not (is_among f.kind (class_names d))) _ a2) in
-          let v : (not (list_any (is_mutual k f) (type_features d f)) || list_any (λ g. is_mutual k f g && is_contained_wrong f g) (type_features d f) || (bytes_eq f.kind k.name && is_named f.opposite f.name)) ≡ false =
-          and_false_right _ _ some (none_right ((f.containment || is_some f.opposite) && (not (is_among f.kind (class_names d)) || not f.unique)) _ fine) in
-          let v2 : (not (list_any (is_mutual k f) (type_features d f)) || list_any (λ g. is_mutual k f g && is_contained_wrong f g) (type_features d f)) ≡ false = none_left _ _ v in
-          let z : (bytes_eq f.kind k.name && is_named f.opposite f.name) ≡ false = none_right (not (list_any (is_mutual k f) (type_features d f)) || list_any (λ g. is_mutual k f g && is_contained_wrong f g) (type_features d f)) _ v in
-          let some_mutual : list_any (is_mutual k f) (type_features d f) ≡ true = not_false _ (none_left _ _ v2) in
-          let none_wrong : list_any (λ g. is_mutual k f g && is_contained_wrong f g) (type_features d f) ≡ false = none_right (not (list_any (is_mutual k f) (type_features d f))) _ v2 in
-          let i : ℕ = position_or_len (is_mutual k f) (type_features d f) in
-          let within : i < many d e = any-within (is_mutual k f) (type_features d f) some_mutual in
-          let mutual : is_mutual k f (featured_at (declared_at ls e) i) ≡ true = any-passes (is_mutual k f) (type_features d f) nothing_featured some_mutual in
-          let wrong : (is_mutual k f (featured_at (declared_at ls e) i) && is_contained_wrong f (featured_at (declared_at ls e) i)) ≡ false =
-          none-at (λ g. is_mutual k f g && is_contained_wrong f g) (type_features d f) i nothing_featured none_wrong within in
-          let g : DeclaredFeature = featured_at (declared_at ls e) i in
-          let place : (e < length (names_of ls)) × (bytes_eq f.kind (get_or (names_of ls) e []) ≡ true) = place-found (names_of ls) f.kind there in
-          let live : e < length ls = omega (arith, place.0, name_total d) in
-          let two : (is_named f.opposite g.name && bytes_eq g.kind k.name) ≡ true = and_left _ _ mutual in
-          let name_eq : f.opposite ≡ Some g.name = name_is f.opposite g.name (and_left _ _ two) in
-          let name_g : name ≡ g.name = some_same name g.name (sym at ∙ name_eq) in
-          let number : 0 + (before d e + place_in (feature_names (declared_at ls e)) name) ≡ q = eqb-true (0 + (before d e + place_in (feature_names (declared_at ls e)) name)) q eq in
-          let spot : place_in (feature_names (declared_at ls e)) name ≡ i = ap (place_in (feature_names (declared_at ls e))) name_g ∙ feature_place e i live within in
-          record {
-            c = c;
-            j = j;
-            live_p = l;
-            within_p = h;
-            is_p = refl;
-            e = e;
-            i = i;
-            live_q = live;
-            within_q = within;
-            is_q = omega (arith, number, spot);
-            type_p = same_bytes f.kind (get_or (names_of ls) e []) place.1 ∙ class_name_is d e;
-            type_q = same_bytes g.kind k.name (and_right (is_named f.opposite g.name) _ two);
-            opposite_p = name_eq;
-            opposite_q = name_is g.opposite f.name (and_right (is_named f.opposite g.name && bytes_eq g.kind k.name) _ mutual);
-            contained = and_false_right _ _ mutual wrong;
-            unique = unique;
-            other = z;
-          }
-        where
-          some_same : (x y : List ℕ) → Some x ≡ Some y → x ≡ y
-          some_same x y e = cc
+  some_same : (x y : List ℕ) → Some x ≡ Some y → x ≡ y
+  some_same x y e = cc
+
+  pair_by : (c j q : ℕ) → c < length ls → j < many d c → (o : Option (List ℕ)) → (F c j).opposite ≡ o → is_feature_number (option_map (feature_number first_begin ls (E c j)) o) q ≡ true → Pair (before d c + j) q
+  pair_by c j q l h None at eq = absurd (cc)
+  pair_by c j q l h (Some name) at eq =
+      let some : is_some (F c j).opposite ≡ true = ap is_some at in
+      let fine : is_bad_opposite d (K c) (F c j) ≡ false = allowed c j l h in
+      let a : (((F c j).containment || is_some (F c j).opposite) && (not (is_among (F c j).kind (class_names d)) || not (F c j).unique)) ≡ false = none_left _ _ fine in
+      let a2 : (not (is_among (F c j).kind (class_names d)) || not (F c j).unique) ≡ false = and_false_right _ _ (or_right (F c j).containment (is_some (F c j).opposite) some) a in
+      let there : is_among (F c j).kind (class_names d) ≡ true = not_false _ (none_left _ _ a2) in
+      let unique : (F c j).unique ≡ true = not_false _ (none_right (not (is_among (F c j).kind (class_names d))) _ a2) in
+      let v : (not (list_any (is_mutual (K c) (F c j)) (type_features d (F c j))) || list_any (λ g. is_mutual (K c) (F c j) g && is_contained_wrong (F c j) g) (type_features d (F c j)) || (bytes_eq (F c j).kind (K c).name && is_named (F c j).opposite (F c j).name)) ≡ false =
+      and_false_right _ _ some (none_right (((F c j).containment || is_some (F c j).opposite) && (not (is_among (F c j).kind (class_names d)) || not (F c j).unique)) _ fine) in
+      let v2 : (not (list_any (is_mutual (K c) (F c j)) (type_features d (F c j))) || list_any (λ g. is_mutual (K c) (F c j) g && is_contained_wrong (F c j) g) (type_features d (F c j))) ≡ false = none_left _ _ v in
+      let z : (bytes_eq (F c j).kind (K c).name && is_named (F c j).opposite (F c j).name) ≡ false = none_right (not (list_any (is_mutual (K c) (F c j)) (type_features d (F c j))) || list_any (λ g. is_mutual (K c) (F c j) g && is_contained_wrong (F c j) g) (type_features d (F c j))) _ v in
+      let some_mutual : list_any (is_mutual (K c) (F c j)) (type_features d (F c j)) ≡ true = not_false _ (none_left _ _ v2) in
+      let none_wrong : list_any (λ g. is_mutual (K c) (F c j) g && is_contained_wrong (F c j) g) (type_features d (F c j)) ≡ false = none_right (not (list_any (is_mutual (K c) (F c j)) (type_features d (F c j)))) _ v2 in
+      let i : ℕ = position_or_len (is_mutual (K c) (F c j)) (type_features d (F c j)) in
+      let within : i < many d (E c j) = any-within (is_mutual (K c) (F c j)) (type_features d (F c j)) some_mutual in
+      let paired : is_mutual (K c) (F c j) (featured_at (declared_at ls (E c j)) i) ≡ true = any-passes (is_mutual (K c) (F c j)) (type_features d (F c j)) nothing_featured some_mutual in
+      let wrong : (is_mutual (K c) (F c j) (featured_at (declared_at ls (E c j)) i) && is_contained_wrong (F c j) (featured_at (declared_at ls (E c j)) i)) ≡ false =
+      none-at (λ g. is_mutual (K c) (F c j) g && is_contained_wrong (F c j) g) (type_features d (F c j)) i nothing_featured none_wrong within in
+      let g : DeclaredFeature = featured_at (declared_at ls (E c j)) i in
+      let place : ((E c j) < length (names_of ls)) × (bytes_eq (F c j).kind (get_or (names_of ls) (E c j) []) ≡ true) = place-found (names_of ls) (F c j).kind there in
+      let live : (E c j) < length ls = omega (arith, place.0, name_total d) in
+      let two : (is_named (F c j).opposite g.name && bytes_eq g.kind (K c).name) ≡ true = and_left _ _ paired in
+      let name_eq : (F c j).opposite ≡ Some g.name = name_is (F c j).opposite g.name (and_left _ _ two) in
+      let name_g : name ≡ g.name = some_same name g.name (sym at ∙ name_eq) in
+      let number : 0 + (before d (E c j) + place_in (feature_names (declared_at ls (E c j))) name) ≡ q = eqb-true (0 + (before d (E c j) + place_in (feature_names (declared_at ls (E c j))) name)) q eq in
+      let spot : place_in (feature_names (declared_at ls (E c j))) name ≡ i = ap (place_in (feature_names (declared_at ls (E c j)))) name_g ∙ feature_place (E c j) i live within in
+      record {
+        c = c;
+        j = j;
+        live_p = l;
+        within_p = h;
+        is_p = refl;
+        e = E c j;
+        i = i;
+        live_q = live;
+        within_q = within;
+        is_q = omega (arith, number, spot);
+        type_p = same_bytes (F c j).kind (get_or (names_of ls) (E c j) []) place.1 ∙ class_name_is d (E c j);
+        type_q = same_bytes g.kind (K c).name (and_right (is_named (F c j).opposite g.name) _ two);
+        opposite_p = name_eq;
+        opposite_q = name_is g.opposite (F c j).name (and_right (is_named (F c j).opposite g.name && bytes_eq g.kind (K c).name) _ paired);
+        contained = and_false_right _ _ paired wrong;
+        unique = unique;
+        other = z;
+      }
+
+  pair_at : (c j q : ℕ) → c < length ls → j < many d c → is_feature_number (option_map (feature_number first_begin ls (E c j)) (F c j).opposite) q ≡ true → Pair (before d c + j) q
+  pair_at c j q l h same = pair_by c j q l h (F c j).opposite refl same
 
   pair : (p q : ℕ) → is_opposite w p q ≡ true → Pair p q
   unfolding feature_info
@@ -445,3 +445,254 @@ module _ (d : MetaData) (ok : IsChecked d) (ranks : List ℕ) (ranked : AreRanks
         (subst (λ (k : FeatureInfo). is_feature_number k.opposite q ≡ true) (feature_is d at.class at.place at.live at.within) (subst (λ n. is_opposite w n q ≡ true) at.is h))))
     | inr f ↦ absurd (clash h (ap (λ (k : FeatureInfo). is_feature_number k.opposite q) (get_or_past (features d) p nowhere_feature (omega (arith, feature_total d, f.1)))))
   ]
+
+  opposite_at : (c j q : ℕ) → c < length ls → j < many d c → is_opposite w (before d c + j) q ≡ is_feature_number (option_map (feature_number first_begin ls (place_in (names_of ls) (featured_at (declared_at ls c) j).kind)) (featured_at (declared_at ls c) j).opposite) q
+  unfolding feature_info
+  opposite_at c j q l h = ap (λ (k : FeatureInfo). is_feature_number k.opposite q) (feature_is d c j l h)
+
+  -- opposites are mutual
+  mutual_at : (p q : ℕ) → is_opposite w p q ≡ true → is_opposite w q p ≡ true
+  mutual_at p q h = back (pair p q h)
+    where
+      back : Pair p q → is_opposite w q p ≡ true
+      back o =
+          let g : DeclaredFeature = featured_at (declared_at ls o.e) o.i in
+          let class : place_in (names_of ls) g.kind ≡ o.c = ap (place_in (names_of ls)) o.type_q ∙ class_place o.c o.live_p in
+          let spot : place_in (feature_names (declared_at ls o.c)) (featured_at (declared_at ls o.c) o.j).name ≡ o.j = feature_place o.c o.j o.live_p o.within_p in
+          let number : 0 + (before d o.c + place_in (feature_names (declared_at ls o.c)) (featured_at (declared_at ls o.c) o.j).name) ≡ p = omega (arith, spot, o.is_p) in
+          ap (λ n. is_opposite w n p) o.is_q
+          ∙ opposite_at o.e o.i p o.live_q o.within_q
+          ∙ (λ t. is_feature_number (option_map (feature_number first_begin ls (class t)) (o.opposite_q t)) p)
+          ∙ eq-eqb (0 + (before d o.c + place_in (feature_names (declared_at ls o.c)) (featured_at (declared_at ls o.c) o.j).name)) p number
+
+  kind_at : (c j : ℕ) → c < length ls → j < many d c → (shape_of w (before d c + j)).kind ≡ kind_of first_begin (enum_names d) (names_of ls) (featured_at (declared_at ls c) j).kind
+  unfolding feature_info
+  kind_at c j l h = ap (λ (k : FeatureInfo). k.shape.kind) (feature_is d c j l h)
+
+  -- the type of the name of a class
+  class_kind : (c : ℕ) → c < length ls → kind_of first_begin (enum_names d) (names_of ls) (declared_at ls c).name ≡ Class (record { 0 = c })
+  class_kind c l =
+      let name : List ℕ = (declared_at ls c).name in
+      let untaken_c : is_among name (primitive_names ++ enum_names d) ≡ false =
+      ap (λ x. is_among x (primitive_names ++ enum_names d)) (sym (class_name_is d c)) ∙ untaken (primitive_names ++ enum_names d) (class_names d) c classes_fresh (omega (arith, l, name_total d)) in
+      let first : bytes_eq name (codes "Boolean") ≡ false = none_left (bytes_eq name (codes "Boolean")) _ untaken_c in
+      let rest : is_among name (codes "Integer" ∷ codes "String" ∷ enum_names d) ≡ false = none_right (bytes_eq name (codes "Boolean")) _ untaken_c in
+      let second : bytes_eq name (codes "Integer") ≡ false = none_left (bytes_eq name (codes "Integer")) _ rest in
+      let rest2 : is_among name (codes "String" ∷ enum_names d) ≡ false = none_right (bytes_eq name (codes "Integer")) _ rest in
+      let third : bytes_eq name (codes "String") ≡ false = none_left (bytes_eq name (codes "String")) _ rest2 in
+      let fourth : position (bytes_eq name) (enum_names d) ≡ None = no-position (bytes_eq name) (enum_names d) (none_right (bytes_eq name (codes "String")) _ rest2) in
+      let number : 0 + place_in (names_of ls) name ≡ c = omega (arith, class_place c l) in
+      (λ t. if first t then BoolKind else (if second t then Int else (if third t then Str else enum_or_class first_begin (names_of ls) name (fourth t))))
+      ∙ ap (λ (n : ℕ). Class (record { 0 = n })) number
+
+  shape_name : (c j : ℕ) → c < length ls → j < many d c → (shape_of w (before d c + j)).containment ≡ (featured_at (declared_at ls c) j).containment
+  unfolding feature_info
+  shape_name c j l h = ap (λ (k : FeatureInfo). k.shape.containment) (feature_is d c j l h)
+
+  shape_unique : (c j : ℕ) → c < length ls → j < many d c → (shape_of w (before d c + j)).unique ≡ (featured_at (declared_at ls c) j).unique
+  unfolding feature_info
+  shape_unique c j l h = ap (λ (k : FeatureInfo). k.shape.unique) (feature_is d c j l h)
+
+  shape_upper : (c j : ℕ) → c < length ls → j < many d c → (shape_of w (before d c + j)).upper ≡ (featured_at (declared_at ls c) j).upper
+  unfolding feature_info
+  shape_upper c j l h = ap (λ (k : FeatureInfo). k.shape.upper) (feature_is d c j l h)
+
+  one_containment_at : (p q : ℕ) → is_opposite w p q ≡ true → is_containment w p ≡ true → is_containment w q ≡ false
+  one_containment_at p q h t = by (pair p q h)
+    where
+      by : Pair p q → is_containment w q ≡ false
+      by o =
+          let contains : (featured_at (declared_at ls o.c) o.j).containment ≡ true = sym (shape_name o.c o.j o.live_p o.within_p) ∙ ap (λ n. is_containment w n) (sym o.is_p) ∙ t in
+          ap (λ n. is_containment w n) o.is_q ∙ shape_name o.e o.i o.live_q o.within_q
+          ∙ not_true _ (λ both. clash (and_both _ _ both (or_left (featured_at (declared_at ls o.c) o.j).containment (not (is_one_at_most (featured_at (declared_at ls o.c) o.j).upper)) contains)) o.contained)
+
+  one_container_at : (p q : ℕ) → is_opposite w p q ≡ true → is_containment w p ≡ true → is_single w q ≡ true
+  one_container_at p q h t = by (pair q p (mutual_at p q h))
+    where
+      by : Pair q p → is_single w q ≡ true
+      by o =
+          let contains : (featured_at (declared_at ls o.e) o.i).containment ≡ true = sym (shape_name o.e o.i o.live_q o.within_q) ∙ ap (λ n. is_containment w n) (sym o.is_q) ∙ t in
+          let less : ((featured_at (declared_at ls o.c) o.j).containment || not (is_one_at_most (featured_at (declared_at ls o.c) o.j).upper)) ≡ false = and_false_right _ _ contains o.contained in
+          ap (λ n. is_single w n) o.is_p ∙ ap is_one (shape_upper o.c o.j o.live_p o.within_p)
+          ∙ one_is (featured_at (declared_at ls o.c) o.j).upper (not_false _ (none_right (featured_at (declared_at ls o.c) o.j).containment _ less))
+
+  unique_at : (p q : ℕ) → is_opposite w p q ≡ true → (shape_of w p).unique ≡ true
+  unique_at p q h = by (pair p q h)
+    where
+      by : Pair p q → (shape_of w p).unique ≡ true
+      by o = ap (λ n. (shape_of w n).unique) o.is_p ∙ shape_unique o.c o.j o.live_p o.within_p ∙ o.unique
+
+  live_opposite_at : (p q : ℕ) → is_opposite w p q ≡ true → q < length (features d)
+  live_opposite_at p q h = by (pair p q h)
+    where
+      by : Pair p q → q < length (features d)
+      by o = omega (arith, o.is_q, o.within_q, count_within ls o.e, feature_total d)
+
+  other_at : (p : ℕ) → is_opposite w p p ≡ false
+  other_at p = not_true (is_opposite w p p) (λ h. itself (pair p p h))
+    where
+      itself : Pair p p → ⊥
+      itself o =
+          let owner : o.c ≡ o.e = sym (owner_is d o.c o.j o.live_p o.within_p) ∙ ap (λ n. (feature_at w n).owner.0) (sym o.is_p ∙ o.is_q) ∙ owner_is d o.e o.i o.live_q o.within_q in
+          let name : (featured_at (declared_at ls o.c) o.j).name ≡ (featured_at (declared_at ls o.e) o.i).name =
+          sym (feature_name_is d o.c o.j o.live_p o.within_p) ∙ ap (λ n. (feature_at w n).name) (sym o.is_p ∙ o.is_q) ∙ feature_name_is d o.e o.i o.live_q o.within_q in
+          let type_is : bytes_eq (featured_at (declared_at ls o.c) o.j).kind (declared_at ls o.c).name ≡ true =
+          ap (λ x. bytes_eq x (declared_at ls o.c).name) (o.type_p ∙ ap (λ n. (declared_at ls n).name) (sym owner)) ∙ bytes_eq-refl (declared_at ls o.c).name in
+          let names_it : is_named (featured_at (declared_at ls o.c) o.j).opposite (featured_at (declared_at ls o.c) o.j).name ≡ true =
+          ap (λ x. is_named x (featured_at (declared_at ls o.c) o.j).name) (o.opposite_p ∙ ap (λ z. Some z) (sym name)) ∙ bytes_eq-refl (featured_at (declared_at ls o.c) o.j).name in
+          clash (and_both _ _ type_is names_it) o.other
+
+  -- the class that declares a feature is the one of its owner
+  declarer : (c f : ℕ) → (t : Declared w (length (infos d)) c f) → (feature_at w f).owner.0 ≡ t.class
+  declarer c f t =
+      let o : Own d t.class f = owns d t.class f t.own in
+      ap (λ n. (feature_at w n).owner.0) o.is ∙ owner_is d t.class o.place o.live o.within
+
+  descends_to : (c e : ℕ) → (e ≡ c) ⊎ (is_above (length (infos d)) w e c ≡ true) → descends w c e ≡ true
+  unfolding reaches
+  descends_to c e (inl same) = or_left ((c == e) || false) (reaches w c e) (or_left (c == e) false (eq-eqb c e (sym same)))
+  descends_to c e (inr up) = or_right ((c == e) || false) (reaches w c e) up
+
+  descends_from : (c e : ℕ) → descends w c e ≡ true → (c ≡ e) ⊎ (is_above (length (infos d)) w e c ≡ true)
+  unfolding reaches
+  descends_from c e h = elim (or_cases ((c == e) || false) (reaches w c e) h) [
+    | inl l ↦ elim (or_cases (c == e) false l) [ inl same ↦ inl (eqb-true c e same) | inr never ↦ absurd (cc) ]
+    | inr up ↦ inr up
+  ]
+
+  opposite_has_type_at : (p q c : ℕ) → is_opposite w p q ≡ true → has_feature w c p ≡ true → is_class_kind w c (shape_of w q).kind ≡ true
+  opposite_has_type_at p q c h has = by (pair p q h)
+    where
+      by : Pair p q → is_class_kind w c (shape_of w q).kind ≡ true
+      by o =
+          let t : Declared w (length (infos d)) c p = declares d c p has in
+          let same : t.class ≡ o.c = sym (declarer c p t) ∙ ap (λ n. (feature_at w n).owner.0) o.is_p ∙ owner_is d o.c o.j o.live_p o.within_p in
+          let kind : (shape_of w q).kind ≡ Class (record { 0 = o.c }) =
+          ap (λ n. (shape_of w n).kind) o.is_q ∙ kind_at o.e o.i o.live_q o.within_q ∙ ap (kind_of first_begin (enum_names d) (names_of ls)) o.type_q ∙ class_kind o.c o.live_p in
+          ap (is_class_kind w c) kind ∙ subst (λ e. descends w c e ≡ true) same (descends_to c t.class t.up)
+
+  low_rank : (c f : ℕ) → among_features f (class_at w c).own ≡ true → slice_index ranks c < length (infos d)
+  low_rank c f h = ranked.bounded c (omega (arith, (owns d c f h).live, class_total d))
+
+  live_above : (k i c : ℕ) → is_above k w i c ≡ true → c < length (infos d)
+  live_above k i c h = elim (leb_tells (suc c) (length (infos d))) [
+    | inl t ↦ omega (arith, t.1)
+    | inr p ↦ absurd (clash h (none-above-past w k i c (get_or_past (infos d) c nowhere_class (omega (arith, p.1)))))
+  ]
+
+  inherits : (c e f : ℕ) → (c ≡ e) ⊎ (is_above (length (infos d)) w e c ≡ true) → among_features f (class_at w e).own ≡ true → has_feature w c f ≡ true
+  unfolding features_of
+  inherits c e f (inl same) own = includes w ranks ranked (length (infos d)) e c f (subst (λ x. slice_index ranks x < length (infos d)) (sym same) (low_rank e f own)) (inl same) own
+  inherits c e f (inr up) own = includes w ranks ranked (length (infos d)) e c f (ranked.bounded c (live_above (length (infos d)) e c up)) (inr up) own
+
+  type_has_opposite_at : (p q c : ℕ) → is_opposite w p q ≡ true → is_class_kind w c (shape_of w p).kind ≡ true → has_feature w c q ≡ true
+  type_has_opposite_at p q c h is = by (pair p q h)
+    where
+      by : Pair p q → has_feature w c q ≡ true
+      by o =
+          let kind : (shape_of w p).kind ≡ Class (record { 0 = o.e }) =
+          ap (λ n. (shape_of w n).kind) o.is_p ∙ kind_at o.c o.j o.live_p o.within_p ∙ ap (kind_of first_begin (enum_names d) (names_of ls)) o.type_p ∙ class_kind o.e o.live_q in
+          inherits c o.e q (descends_from c o.e (ap (is_class_kind w c) (sym kind) ∙ is)) (subst (λ n. among_features n (class_at w o.e).own ≡ true) (sym o.is_q) (own_has d o.e o.i o.live_q o.within_q))
+
+  unnamed : (p q c : ℕ) → has_feature w c p ≡ true → (metamodel_at w (class_at w c).metamodel).name ≡ [] → is_opposite w p q ≡ false
+  unnamed p q c h none = absurd (ok.named (ap (λ k. (metamodel_at w k).name) (sym (metamodel_is d c)) ∙ none))
+
+  -- names are texts
+  texts_of_class : (c : ℕ) → has_texts (declared_at ls c) ≡ true
+  texts_of_class c = all-at has_texts ls c nothing_declared (and_both _ _ no_text refl) ok.texts
+
+  texts_of_enum : (e : ℕ) → are_texts (get_or d.enums e nowhere_enumeration) ≡ true
+  texts_of_enum e = all-at are_texts d.enums e nowhere_enumeration (and_both _ _ no_text refl) ok.enum_texts
+
+  text_metamodel_at : (k : ℕ) → is_utf8 (metamodel_at w k).name ≡ true
+  text_metamodel_at zero = ok.name
+  text_metamodel_at (suc k) = no_text
+
+  text_class_at : (c : ℕ) → is_utf8 (class_at w c).name ≡ true
+  unfolding class_info
+  text_class_at c = either_class d (λ k. is_utf8 k.name ≡ true) c (λ h. and_left _ (list_all has_text (declared_at ls c).features) (texts_of_class c)) no_text
+
+  text_feature_at : (f : ℕ) → is_utf8 (feature_at w f).name ≡ true
+  unfolding feature_info
+  text_feature_at f = either_feature d (λ k. is_utf8 k.name ≡ true) f
+      (λ c j h v. all-at has_text (declared_at ls c).features j nothing_featured no_text (and_right (is_utf8 (declared_at ls c).name) _ (texts_of_class c))) no_text
+
+  text_enum_at : (k e : ℕ) → is_utf8 (enumeration_at w k e).name ≡ true
+  text_enum_at zero e = and_left _ (list_all is_utf8 (get_or d.enums e nowhere_enumeration).literals) (texts_of_enum e)
+  text_enum_at (suc k) e = no_text
+
+  text_literal_at : (k e l : ℕ) → is_utf8 (literal_at w k e l) ≡ true
+  text_literal_at zero e l = all-at is_utf8 (get_or d.enums e nowhere_enumeration).literals l [] no_text (and_right (is_utf8 (get_or d.enums e nowhere_enumeration).name) _ (texts_of_enum e))
+  text_literal_at (suc k) e l = no_text
+
+  known_name : (c : ℕ) → c < length ls → (class_at w c).name ≡ get_or (names_of ls) c []
+  unfolding class_info
+  known_name c l = ap (λ k. k.name) (class_is d c l) ∙ sym (class_name_is d c)
+
+  found_class : (c : ℕ) → c < length (infos d) → class_named w (class_at w c).metamodel (class_at w c).name ≡ Some c
+  found_class c h =
+      let live : c < length ls = omega (arith, class_total d, h) in
+      position-first _ (infos d) c nowhere_class h
+      (and_both _ _ (eq-eqb (class_at w c).metamodel (class_at w c).metamodel refl) (bytes_eq-refl (class_at w c).name))
+      (λ j less. and_no ((class_at w j).metamodel == (class_at w c).metamodel) _ (ap2 bytes_eq (known_name c live) (known_name j (omega (arith, live, less))) ∙ class_differ c j live less))
+
+  found_enum : (k e : ℕ) → e < length (metamodel_at w k).enums → enumeration_named w k (enumeration_at w k e).name ≡ Some e
+  found_enum zero e h =
+      position-first _ d.enums e nowhere_enumeration h (bytes_eq-refl (enumeration_at w zero e).name)
+      (λ j less. ap2 bytes_eq (sym (enum_name e)) (sym (enum_name j))
+      ∙ differ-before [] (enum_names d) e j (enums_alone d ok.passes.same_name) (omega (arith, h, length-map d.enums (λ (e : EnumInfo). e.name))) less)
+    where
+      enum_name : (e : ℕ) → get_or (enum_names d) e [] ≡ (get_or d.enums e nowhere_enumeration).name
+      enum_name e = map-at_all (λ (e : EnumInfo). e.name) d.enums e nowhere_enumeration
+  found_enum (suc k) e h = absurd (omega arith)
+
+  found_literal : (k e l : ℕ) → l < length (enumeration_at w k e).literals → literal_named w k e (literal_at w k e l) ≡ Some l
+  found_literal zero e l h =
+      position-first (bytes_eq (literal_at w zero e l)) (enumeration_at w zero e).literals l [] h (bytes_eq-refl (literal_at w zero e l))
+      (λ j less. differ-before [] (enumeration_at w zero e).literals l j (literals_alone d ok.passes.same_name e) h less)
+  found_literal (suc k) e l h = absurd (omega arith)
+
+  module _ (room : HasRoom no_metamodels d) (few : list_all has_few_literals d.enums ≡ true) where
+    few_enums : (k : ℕ) → length (metamodel_at w k).enums < 2 ^ 32
+    few_enums zero = room.enumerations
+    few_enums (suc k) = lit< tt
+
+    few_literals_at : (k e : ℕ) → length (enumeration_at w k e).literals < 2 ^ 32
+    few_literals_at zero e =
+        let at : has_few_literals (get_or d.enums e nowhere_enumeration) ≡ true = all-at has_few_literals d.enums e nowhere_enumeration refl few in
+        omega (arith, leb-true (length (get_or d.enums e nowhere_enumeration).literals) 4294967295 at)
+    few_literals_at (suc k) e = lit< tt
+
+    pub well_formed : IsWellFormed w
+    well_formed = record {
+      few_metamodels = lit< tt;
+      few_classes = omega (arith, room.classes, class_total d);
+      few_features = omega (arith, room.features, feature_total d);
+      few_enumerations = few_enums;
+      few_literals = few_literals_at;
+      live_metamodel = λ c h. live_metamodel_of d c;
+      live_superclass = λ c e h. live_superclass_at d c e h;
+      live_owner = live_owner_at d;
+      live_feature = live_feature_of d;
+      live_class = live_class_of d;
+      live_opposite = live_opposite_at;
+      live_type = live_type_of d;
+      mutual_opposites = mutual_at;
+      other_feature = other_at;
+      one_containment = one_containment_at;
+      one_container = one_container_at;
+      unique_opposites = unique_at;
+      opposite_has_type = opposite_has_type_at;
+      type_has_opposite = type_has_opposite_at;
+      unnamed_alone = unnamed;
+      distinct_features = distinct;
+      text_metamodel = text_metamodel_at;
+      text_class = text_class_at;
+      text_feature = text_feature_at;
+      text_enumeration = text_enum_at;
+      text_literal = text_literal_at;
+      class_found = found_class;
+      feature_found = found_feature;
+      enumeration_found = found_enum;
+      literal_found = found_literal;
+    }
