@@ -1,7 +1,7 @@
 //! Which classes are above each class.
 
-ghost use Rattle.std.specs.Prelude.{replicate, ◌≡◌, ◌<◌, ◌≤◌, ◌+◌, ◌^◌, ℕ, ◌||◌, ◌==◌, length, IfOk, slice_index_or};
-ghost use Rattle.std.specs.List.{list_any};
+ghost use Rattle.std.specs.Prelude.{replicate, nat_lt, true, ◌≡◌, ◌<◌, ◌≤◌, ◌+◌, ◌^◌, ℕ, ◌||◌, ◌==◌, length, IfOk, slice_index_or};
+ghost use Rattle.std.specs.List.{list_any, list_all};
 ghost use Rattle.qvt_meta.specs.Descends.{reaches};
 ghost use Rattle.qvt_meta.specs.Kept.{no_row, is_marked};
 ghost use Rattle.qvt_meta.specs.Tables.{of_classes, IsOrder, IsWithin};
@@ -9,6 +9,7 @@ ghost use Rattle.qvt_meta.specs.Tables.{of_classes, IsOrder, IsWithin};
 use crate::info::ClassInfo;
 use crate::order::Order;
 use crate::row::Row;
+use crate::tables::{put, supers_at};
 use qvt_base::list_fault::ListFault;
 use qvt_base::numbers::ClassNo;
 use qvt_base::seq::Seq;
@@ -75,6 +76,7 @@ fn row_at(
     supers: &[ClassNo],
 ) -> Result<Row, ListFault>
     requires count { length rows.now.items ≡ bound }
+    requires live { list_all (λ s. nat_lt s.0 bound) supers.now ≡ true }
     requires rows { (c : ℕ) → IsWithin bound (slice_index_or rows.now.items c no_row) }
     ensures marks { IfOk result (λ r. (d : ℕ) → is_marked r d ≡ list_any (λ s. (s.0 == d) || is_marked (slice_index_or rows.now.items s.0 no_row) d) supers.now) }
     ensures within { IfOk result (λ r. IsWithin bound r) }
@@ -84,10 +86,7 @@ fn row_at(
         above: Seq::new(alloc),
     };
     for superclass in supers {
-        let at = superclass.0 as usize;
-        if at < rows.len() {
-            row = with_row(alloc, bound, &row, superclass.0, &rows[at])?;
-        }
+        row = with_row(alloc, bound, &row, superclass.0, &rows[superclass.0 as usize])?;
     }
     Ok(row)
 }
@@ -121,11 +120,8 @@ pub fn rows_of(
 {
     let mut rows = empty_rows(alloc, count)?;
     for class in order.classes.as_slice() {
-        let at = *class as usize;
-        if at < classes.len() {
-            let row = row_at(alloc, count, &rows, classes[at].supers.as_slice())?;
-            rows[at] = row;
-        }
+        let row = row_at(alloc, count, &rows, supers_at(classes, *class))?;
+        put(&mut rows, *class as usize, row);
     }
     Ok(rows)
 }

@@ -19,7 +19,20 @@ use qvt_base::numbers::FeatureNo;
 use qvt_base::text::Text;
 use std::alloc::Global;
 
-/// A name of one of these features that an earlier one has.
+/// The name of a feature, this empty one where there is none of that number.
+fn name_at<'a>(features: &'a [FeatureInfo], number: FeatureNo, nothing: &'a Text) -> &'a Text
+    requires { nothing.now ≡ [] }
+    ensures { result.now ≡ (slice_index_or features.now number.0 nowhere_feature).name }
+{
+    let at = number.0 as usize;
+    if at < features.len() {
+        &features[at].name
+    } else {
+        nothing
+    }
+}
+
+/// The first name of these features that an earlier one has.
 fn repeated_name(
     alloc: Global,
     features: &[FeatureInfo],
@@ -30,10 +43,7 @@ fn repeated_name(
     let nothing = Text::new(alloc);
     let mut taken = IndexSet::new(alloc);
     for number in list {
-        let name = match features.get(number.0 as usize) {
-            Some(feature) => &feature.name,
-            None => &nothing,
-        };
+        let name = name_at(features, *number, &nothing);
         if taken.contains(name) {
             return Ok(Some(name.copy(alloc)?));
         }
