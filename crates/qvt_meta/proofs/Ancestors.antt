@@ -58,7 +58,7 @@ module _ (m : Metamodels) where
         by _ (old c l) h = l
         by _ (new k) h = clash h (ap (λ (x : ClassInfo). list_any (λ s. s.0 == d) x.supers) (get_or_past m.classes (length m.classes + k) nowhere_class (omega arith)))
 
-    one_more : (n c d : ℕ) → length m.classes ≡ n → c < n → reaches m c d ≡ list_any (λ s. (s.0 == d) || reaches m s.0 d) (class_at m c).supers
+    pub one_more : (n c d : ℕ) → length m.classes ≡ n → c < n → reaches m c d ≡ list_any (λ s. (s.0 == d) || reaches m s.0 d) (class_at m c).supers
     unfolding reaches
     one_more zero c d e l = absurd (omega arith)
     one_more (suc n) c d e l =

@@ -6,6 +6,7 @@ pub mod Lookups
 pub mod Whole
 pub mod Made
 pub mod Passing
+pub mod Marks
 pub mod Filling
 pub mod Orders
 pub mod Owners

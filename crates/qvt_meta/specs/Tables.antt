@@ -1,5 +1,5 @@
 -- The tables of a list of classes, and an order in which they are made.
-use Rattle.std.specs.Prelude.{◌≡◌, ℕ, ◌<◌, ◌≤◌, Bool, ◌&&◌, ◌==◌, nat_lt, ◌+◌, true, List, [], ◌∷◌, length, slice_index, slice_index_or, None}
+use Rattle.std.specs.Prelude.{◌≡◌, ℕ, ◌<◌, ◌≤◌, Bool, ◌&&◌, ◌==◌, nat_lt, ◌+◌, true, List, [], ◌∷◌, length, slice_index, slice_index_or, None, IsTrue}
 use Rattle.std.specs.List.{list_all, AllByRecursion}
 use Rattle.qvt_base.specs.declared.numbers.ClassNo.{ClassNo}
 use Rattle.qvt_base.specs.declared.numbers.FeatureNo.{FeatureNo}
@@ -30,6 +30,7 @@ pub record IsOrder (m : Metamodels) (order ranks : List ℕ) : Type 0 where
   pub ranked : AreRanks m ranks
   pub placed : (c : ℕ) → c < length m.classes → slice_index order (slice_index ranks c) ≡ c
   pub all : length order ≡ length m.classes
+  pub live : (c : ℕ) → IsTrue (list_all (λ s. nat_lt s.0 (length m.classes)) (class_at m c).supers)
 
 -- the marks of a row are those of classes below this one
 abbrev pub IsWithin : ℕ → Row → Type 0

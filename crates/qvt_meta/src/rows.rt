@@ -1,6 +1,6 @@
 //! Which classes are above each class.
 
-ghost use Rattle.std.specs.Prelude.{replicate, nat_lt, true, ◌≡◌, ◌<◌, ◌≤◌, ◌+◌, ◌^◌, ℕ, ◌||◌, ◌==◌, length, IfOk, slice_index_or};
+ghost use Rattle.std.specs.Prelude.{replicate, nat_lt, IsTrue, ◌≡◌, ◌<◌, ◌≤◌, ◌+◌, ◌^◌, ℕ, ◌||◌, ◌==◌, length, IfOk, slice_index_or};
 ghost use Rattle.std.specs.List.{list_any, list_all};
 ghost use Rattle.qvt_meta.specs.Descends.{reaches};
 ghost use Rattle.qvt_meta.specs.Kept.{no_row, is_marked};
@@ -39,6 +39,18 @@ fn end_of(row: &Row, bound: u32) -> u32
     row.first + row.above.len() as u32
 }
 
+/// The first class of a row, or the other class if that comes first or nothing is marked.
+fn first_of(class: u32, row: &Row) -> u32
+    ensures class { result ≤ class }
+    ensures first { 0 < length row.now.above → result ≤ row.now.first }
+{
+    if row.above.is_empty() {
+        class
+    } else {
+        class.min(row.first)
+    }
+}
+
 /// A row with the marks of both and one for this class.
 fn with_row(
     alloc: Global,
@@ -50,17 +62,13 @@ fn with_row(
     requires class { class < bound }
     requires row { IsWithin bound row.now }
     requires other { IsWithin bound other.now }
-    ensures marks { IfOk result (λ r. (d : ℕ) → is_marked r d ≡ (is_marked row.now d || ((class == d) || is_marked other.now d))) }
+    ensures marks { IfOk result (λ r. (d : ℕ) → is_marked r d ≡ (is_marked row.now d || (class == d) || is_marked other.now d)) }
     ensures within { IfOk result (λ r. IsWithin bound r) }
 {
-    let mut first = class;
-    if !row.above.is_empty() {
-        first = first.min(row.first);
-    }
-    if !other.above.is_empty() {
-        first = first.min(other.first);
-    }
-    let end = (class + 1).max(end_of(row, bound)).max(end_of(other, bound));
+    let first = first_of(first_of(class, row), other);
+    let end = (class + 1)
+        .max(end_of(row, bound))
+        .max(end_of(other, bound));
     let mut above = Seq::new(alloc);
     for at in first..end {
         above.push(is_marked(row, at) || class == at || is_marked(other, at))?;
@@ -76,7 +84,7 @@ fn row_at(
     supers: &[ClassNo],
 ) -> Result<Row, ListFault>
     requires count { length rows.now.items ≡ bound }
-    requires live { list_all (λ s. nat_lt s.0 bound) supers.now ≡ true }
+    requires live { IsTrue (list_all (λ s. nat_lt s.0 bound) supers.now) }
     requires rows { (c : ℕ) → IsWithin bound (slice_index_or rows.now.items c no_row) }
     ensures marks { IfOk result (λ r. (d : ℕ) → is_marked r d ≡ list_any (λ s. (s.0 == d) || is_marked (slice_index_or rows.now.items s.0 no_row) d) supers.now) }
     ensures within { IfOk result (λ r. IsWithin bound r) }
