@@ -6,6 +6,8 @@ pub mod Lookups
 pub mod Whole
 pub mod Made
 pub mod Passing
+pub mod Cyclic
+pub mod Visits
 pub mod Marks
 pub mod Filling
 pub mod Orders

@@ -127,10 +127,10 @@ module _ (d : MetaData) where
   name_total = length-map ks (λ (k : DeclaredClass). k.name)
 
   -- what the class at a place is
-  class_is : (c : ℕ) → c < length ks → class_at m c ≡ class_info first_begin names (before c) (declared_at ks c)
+  pub class_is : (c : ℕ) → c < length ks → class_at m c ≡ class_info first_begin names (before c) (declared_at ks c)
   class_is c h = class_infos-at first_begin names 0 ks c nowhere_class h ∙ ap (λ n. class_info first_begin names n (declared_at ks c)) (omega arith)
 
-  past_class : (c : ℕ) → length ks ≤ c → class_at m c ≡ nowhere_class
+  pub past_class : (c : ℕ) → length ks ≤ c → class_at m c ≡ nowhere_class
   past_class c h = get_or_past infos c nowhere_class (omega (arith, class_total, h))
 
   either_class : (P : ClassInfo → Type 0) (c : ℕ) → (c < length ks → P (class_info first_begin names (before c) (declared_at ks c))) → P nowhere_class → P (class_at m c)

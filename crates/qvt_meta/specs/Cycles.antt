@@ -29,14 +29,14 @@ pub record Marked (marks : List Bool) (visits : List ClassNo) (supers : List Cla
   pub stay : (c : ℕ) → IsTrue (flag marks c) → IsTrue (flag after c)
   pub come : (c : ℕ) → IsTrue (is_in c supers) → c < length marks → IsTrue (flag after c)
   pub only : (c : ℕ) → IsTrue (flag after c) → IsTrue (flag marks c) ⊎ IsTrue (is_in c supers)
-  pub visits : (c : ℕ) → IsTrue (is_in c visits) → IsTrue (is_in c next)
+  pub keep : (c : ℕ) → IsTrue (is_in c visits) → IsTrue (is_in c next)
   pub new_visits : (c : ℕ) → IsTrue (flag after c) → IsTrue (flag marks c) ⊎ IsTrue (is_in c next)
   pub marked_visits : (c : ℕ) → IsTrue (is_in c next) → IsTrue (is_in c visits) ⊎ IsTrue (flag after c)
   pub fewer : unmarked after + length next ≡ unmarked marks + length visits
 
 -- exactly those classes are marked that are these or above one of them
 pub record AreAbove (ks : List ClassInfo) (start : List ClassNo) (marks : List Bool) : Type 0 where
-  pub start : (c : ℕ) → IsTrue (is_in c start) → c < length ks → IsTrue (flag marks c)
+  pub starts : (c : ℕ) → IsTrue (is_in c start) → c < length ks → IsTrue (flag marks c)
   pub closed : (c s : ℕ) → IsTrue (flag marks c) → IsTrue (is_superclass (of_classes ks) c s) → IsTrue (flag marks s)
   pub only : (c : ℕ) → IsTrue (flag marks c) → IsTrue (is_in c start) ⊎ ((s : ℕ) × IsTrue (is_in s start) × Closure (λ x y. IsTrue (is_superclass (of_classes ks) x y)) s c)
 
@@ -45,7 +45,7 @@ is_own_ancestor ks c = reaches (is_superclass (of_classes ks)) (length ks) c c
 
 abbrev pub cycle_from : List ClassInfo → ℕ → ℕ → Option ℕ
 cycle_from ks c zero = None
-cycle_from ks c (suc n) = if is_own_ancestor ks c then Some c else cycle_from ks (c + 1) n
+cycle_from ks c (suc n) = if is_own_ancestor ks c then Some c else cycle_from ks (suc c) n
 
 -- the first class that is above itself
 abbrev pub first_cycle : List ClassInfo → Option ℕ

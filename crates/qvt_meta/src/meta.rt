@@ -1,6 +1,6 @@
-ghost use Rattle.std.specs.Prelude.{◌≡◌, ◌≢◌, [], None, Some, IfOk, IsTrue, option_map};
+ghost use Rattle.std.specs.Prelude.{◌≡◌, ◌≢◌, ◌<◌, [], None, Some, length, IfOk, IsTrue, option_map};
 ghost use Rattle.qvt_json.specs.Steps.{Gives};
-ghost use Rattle.qvt_meta.specs.Added.{first_begin, names_of, class_infos};
+ghost use Rattle.qvt_meta.specs.Added.{declared_at, first_begin, names_of, class_infos};
 ghost use Rattle.qvt_meta.specs.Checked.{Passes};
 ghost use Rattle.qvt_meta.specs.Checks.{inheritance_cycle};
 ghost use Rattle.qvt_meta.specs.MetaOf.{checked, meta_of};
@@ -10,7 +10,7 @@ ghost use Rattle.qvt_meta.specs.Tables.{of_classes, AreTables};
 use crate::adding::{Numbers, has_room, numbers_of};
 use crate::checks::{bad_bounds, same_name, unknown_type};
 use crate::cycle::first_cycle;
-use crate::declared::MetaData;
+use crate::declared::{DeclaredClass, MetaData};
 use crate::fault::MetaFault;
 use crate::forms::MetaForm;
 use crate::info::ClassInfo;
@@ -65,19 +65,28 @@ fn made(meta: MetaData, numbers: Numbers, tables: Tables) -> Meta
     Meta { meta, alone }
 }
 
+fn class_name(classes: &[DeclaredClass], class: usize) -> &Text
+    requires { class < length classes.now }
+    ensures { result.now ≡ (declared_at classes.now class).name }
+{
+    &classes[class].name
+}
+
 /// The refusal of classes of which one is above itself.
 fn cycle_fault(
     alloc: Global,
     meta: &MetaData,
     classes: &[ClassInfo],
+    count: u32,
 ) -> Result<MetaFault, ListFault>
-    requires { classes.now ≡ class_infos first_begin (names_of meta.now.classes) 0 meta.now.classes }
+    requires count { length classes.now ≡ count }
+    requires classes { classes.now ≡ class_infos first_begin (names_of meta.now.classes) 0 meta.now.classes }
     ensures { IfOk result (λ fault. fault ≢ MetaFault.NoMemory → option_map MetaFault.InheritanceCycle (inheritance_cycle meta.now) ≡ Some fault) }
 {
-    match first_cycle(alloc, classes)? {
+    match first_cycle(alloc, classes, count)? {
         Some(class) => {
-            let name = meta.classes.as_slice()[class].name.copy(alloc)?;
-            Ok(MetaFault::InheritanceCycle(name))
+            let name = class_name(meta.classes.as_slice(), class as usize);
+            Ok(MetaFault::InheritanceCycle(name.copy(alloc)?))
         }
         None => Ok(MetaFault::NoMemory),
     }
@@ -99,8 +108,9 @@ fn checked(alloc: Global, meta: MetaData) -> Result<Meta, MetaFault>
     }
     let numbers = numbers_of(alloc, &meta)?;
     let classes = numbers.classes.as_slice();
-    let Some(tables) = tables_of(alloc, classes, classes.len() as u32)? else {
-        return Err(cycle_fault(alloc, &meta, classes)?);
+    let count = classes.len() as u32;
+    let Some(tables) = tables_of(alloc, classes, count)? else {
+        return Err(cycle_fault(alloc, &meta, classes, count)?);
     };
     if let Some((class, feature)) = bad_bounds(alloc, &meta)? {
         return Err(MetaFault::BadBounds(class, feature));
