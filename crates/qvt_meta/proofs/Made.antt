@@ -1,5 +1,5 @@
 -- A metamodel that passed the checks with the tables that the code makes.
-use Rattle.std.proofs.Common.{◌≡◌, ◌∙◌, ℕ, zero, suc, List, [], ◌∷◌, ◌++◌, length, refl, ap, sym, subst, None, true, ◌==◌, ◌||◌}
+use Rattle.std.proofs.Common.{◌≡◌, ◌∙◌, ℕ, zero, suc, List, [], ◌∷◌, ◌++◌, length, map, get_or, refl, ap, sym, subst, None, true, ◌==◌, ◌||◌}
 use Rattle.std.specs.List.{list_all, list_any, flat_map}
 use Rattle.qvt_base.specs.declared.numbers.FeatureNo.{FeatureNo}
 use Rattle.qvt_base.specs.declared.numbers.ClassNo.{ClassNo}
@@ -8,7 +8,7 @@ use Rattle.qvt_meta.specs.declared.info.ClassInfo.{ClassInfo}
 use Rattle.qvt_meta.specs.declared.info.FeatureInfo.{FeatureInfo}
 use Rattle.qvt_meta.specs.declared.row.Row.{Row}
 use Rattle.qvt_meta.specs.declared.adding.Numbers.{Numbers}
-use Rattle.qvt_meta.specs.Metamodels.{Metamodels, class_at, features_in, features_of, each_once}
+use Rattle.qvt_meta.specs.Metamodels.{Metamodels, class_at, features_in, features_of, each_once, nowhere_feature}
 use Rattle.qvt_meta.specs.Descends.{is_above, reaches}
 use Rattle.qvt_meta.specs.Kept.{AreRanks, IsKept}
 use Rattle.qvt_meta.specs.MetaData.{MetaData, enum_names}
@@ -16,6 +16,9 @@ use Rattle.qvt_meta.specs.Checked.{Passes, IsChecked}
 use Rattle.qvt_meta.specs.Numbered.{AreNumbers, IsMeta}
 use Rattle.qvt_meta.specs.Added.{numbered, first_begin, names_of, class_infos, feature_infos}
 use Rattle.qvt_meta.specs.Tables.{of_classes, AreTables}
+use Rattle.qvt_meta.specs.Names.{repeated}
+use Rattle.qvt_meta.specs.Checks.{repeated_feature}
+use Rattle.qvt_meta.proofs.Infos.{length-class_infos}
 use Rattle.qvt_meta.proofs.Lists.{all-every, list_any-cong, flat_map-cong}
 use Rattle.qvt_meta.proofs.Whole.{M, is_numbered, well_formed}
 
@@ -74,3 +77,17 @@ one_kept d n lists rows ranks ok numbers tables =
 pub one_numbered : (d : MetaData) (n : Numbers) → AreNumbers d n
     → record { metamodels = n.metamodels.items; classes = n.classes.items; features = n.features.items; element = None } ≡ numbered d
 one_numbered d n ok = same_parts d n ok ∙ sym (is_numbered d)
+
+pub repeated_same : (d : MetaData) (n : Numbers) (c : ℕ) (fs : List FeatureInfo) (gs : List FeatureNo) → AreNumbers d n → fs ≡ n.features.items → gs ≡ features_of (numbered d) c
+    → repeated [] (map (λ f. (get_or fs f.0 nowhere_feature).name) gs) ≡ repeated_feature (numbered d) c
+repeated_same d n c fs gs ok e is =
+    let same : fs ≡ (numbered d).features = e ∙ ok.features ∙ sym (ap (λ (m : Metamodels). m.features) (is_numbered d)) in
+    λ i. repeated [] (map (λ f. (get_or (same i) f.0 nowhere_feature).name) (is i))
+
+pub lists_numbered : (d : MetaData) (n : Numbers) (lists : List (List FeatureNo)) (rows : List Row) (ranks : List ℕ) → AreNumbers d n → AreTables (of_classes n.classes.items) lists rows ranks
+    → (c : ℕ) → get_or lists c [] ≡ features_of (numbered d) c
+lists_numbered d n lists rows ranks ok tables c =
+    (tables_same (M d) lists rows ranks (subst (λ ks. AreTables (of_classes ks) lists rows ranks) ok.classes tables)).features c ∙ ap (λ m. features_of m c) (sym (is_numbered d))
+
+pub lists_total : (d : MetaData) (n : Numbers) (lists : List (List FeatureNo)) (rows : List Row) (ranks : List ℕ) → AreNumbers d n → AreTables (of_classes n.classes.items) lists rows ranks → length lists ≡ length d.classes
+lists_total d n lists rows ranks ok tables = tables.each ∙ ap length ok.classes ∙ length-class_infos first_begin (names_of d.classes) 0 d.classes

@@ -1,6 +1,7 @@
 -- What it says that a check of a metamodel finds nothing.
-use Rattle.std.proofs.Common.{◌≡◌, ◌∙◌, ℕ, zero, suc, ◌+◌, ◌<◌, List, [], ◌∷◌, ◌++◌, length, map, get_or, Bool, true, false, Option, Some, None, refl, ap, sym, subst, arith, append_assoc}
+use Rattle.std.proofs.Common.{◌≡◌, ◌∙◌, ℕ, zero, suc, ◌+◌, ◌<◌, List, [], ◌∷◌, ◌++◌, length, map, get_or, Bool, true, false, Option, Some, None, refl, ap, sym, subst, arith, append_assoc, drop}
 use Rattle.std.specs.Prelude.{if◌then◌else◌, option_map}
+use Rattle.std.proofs.lemmas.List.{drop_more}
 use Rattle.qvt_json.specs.Steps.{or_next}
 use Rattle.qvt_meta.specs.declared.info.EnumInfo.{EnumInfo}
 use Rattle.qvt_meta.specs.declared.declared.DeclaredFeature.{DeclaredFeature}
@@ -44,6 +45,18 @@ no_fault is ks c j h l w =
     let k : DeclaredClass = declared_at ks c in
     if_none (is k (featured_at k j)) (k.name, (featured_at k j).name)
     (first_in-none (λ f. if is k f then Some (k.name, f.name) else None) k.features j nothing_featured (first_in-none (feature_fault is) ks c nothing_declared h l) w)
+
+-- the next of those that are left
+pub from_next : {X F : Type 0} (f : ℕ → X → Option F) (n : ℕ) (xs : List X) (d : X) (all : Option F) → n < length xs → first_from f n (drop n xs) ≡ all → f n (get_or xs n d) ≡ None → first_from f (n + 1) (drop (n + 1) xs) ≡ all
+from_next f n xs d all l h none =
+    ap (λ k. first_from f k (drop (n + 1) xs)) (let one : n + 1 ≡ suc n = omega arith in one)
+    ∙ sym (ap (λ o. or_next o (first_from f (suc n) (drop (n + 1) xs))) none)
+    ∙ sym (ap (first_from f n) (drop_more xs n d l)) ∙ h
+
+pub from_found : {X F : Type 0} (f : ℕ → X → Option F) (n : ℕ) (xs : List X) (d : X) (all : Option F) (x : F) → n < length xs → first_from f n (drop n xs) ≡ all → f n (get_or xs n d) ≡ Some x → Some x ≡ all
+from_found f n xs d all x l h found =
+    sym (ap (λ o. or_next o (first_from f (suc n) (drop (n + 1) xs))) found)
+    ∙ sym (ap (first_from f n) (drop_more xs n d l)) ∙ h
 
 pub enum_names_differ : (taken : List (List ℕ)) (es : List EnumInfo) → same_enum taken es ≡ None → repeated taken (map (λ e. e.name) es) ≡ None
 enum_names_differ taken [] h = refl

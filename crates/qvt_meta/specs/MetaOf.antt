@@ -13,16 +13,28 @@ use Rattle.qvt_meta.specs.Checks.{Told, same_name, unknown_type, inheritance_cyc
 abbrev pub tell : (List ℕ → List ℕ → MetaFault) → Told → MetaFault
 tell fault t = fault t.0 t.1
 
--- the data, or the first check that fails
-unfoldable pub checked : MetaData → Result MetaData MetaFault
-checked d = do
-  _ ← none_of (option_map SameName (same_name d))
-  _ ← none_of (option_map (tell UnknownType) (unknown_type d))
-  _ ← none_of (option_map InheritanceCycle (inheritance_cycle d))
+-- the data, or the first of these checks that fails: of the features, after these of the classes, of the types, and all
+unfoldable pub features_checked : MetaData → Result MetaData MetaFault
+features_checked d = do
   _ ← none_of (option_map (tell BadBounds) (bad_bounds d))
   _ ← none_of (option_map (tell BadOpposite) (bad_opposite d))
   _ ← none_of (option_map (tell SameFeature) (same_feature d))
   Ok d
+
+unfoldable pub classes_checked : MetaData → Result MetaData MetaFault
+classes_checked d = do
+  _ ← none_of (option_map InheritanceCycle (inheritance_cycle d))
+  features_checked d
+
+unfoldable pub types_checked : MetaData → Result MetaData MetaFault
+types_checked d = do
+  _ ← none_of (option_map (tell UnknownType) (unknown_type d))
+  classes_checked d
+
+unfoldable pub checked : MetaData → Result MetaData MetaFault
+checked d = do
+  _ ← none_of (option_map SameName (same_name d))
+  types_checked d
 
 unfoldable pub meta_of : List ℕ → Result MetaData MetaFault
 meta_of bytes = do

@@ -1,9 +1,10 @@
-ghost use Rattle.std.specs.Prelude.{◌≡◌, ◌≢◌, ◌<◌, [], None, Some, length, IfOk, IsTrue, option_map};
+ghost use Rattle.std.specs.Prelude.{◌≡◌, ◌≢◌, ◌<◌, ◌^◌, [], None, Some, length, IfOk, IfErr, OnOk, IsTrue, option_map};
 ghost use Rattle.qvt_json.specs.Steps.{Gives};
 ghost use Rattle.qvt_meta.specs.Added.{declared_at, first_begin, names_of, class_infos};
 ghost use Rattle.qvt_meta.specs.Checked.{Passes};
-ghost use Rattle.qvt_meta.specs.Checks.{inheritance_cycle};
-ghost use Rattle.qvt_meta.specs.MetaOf.{checked, meta_of};
+ghost use Rattle.qvt_meta.specs.Checks.{same_name, unknown_type, inheritance_cycle};
+ghost use Rattle.qvt_meta.specs.MetaData.{class_names};
+ghost use Rattle.qvt_meta.specs.MetaOf.{features_checked, classes_checked, types_checked, checked, meta_of};
 ghost use Rattle.qvt_meta.specs.Numbered.{AreNumbers};
 ghost use Rattle.qvt_meta.specs.Tables.{of_classes, AreTables};
 
@@ -21,6 +22,7 @@ use crate::reading::meta_data;
 use crate::same_feature::same_feature;
 use crate::tables::{Tables, tables_of};
 use crate::texts::have_texts;
+use indexmap::IndexSet;
 use qvt_base::copied::Copied;
 use qvt_base::list_fault::ListFault;
 use qvt_base::text::Text;
@@ -92,6 +94,89 @@ fn cycle_fault(
     }
 }
 
+/// The tables of the classes, or the refusal of one that is above itself.
+fn tables_or_cycle(
+    alloc: Global,
+    meta: &MetaData,
+    classes: &[ClassInfo],
+) -> Result<Tables, MetaFault>
+    requires few { length classes.now < 2 ^ 32 }
+    requires classes { classes.now ≡ class_infos first_begin (names_of meta.now.classes) 0 meta.now.classes }
+    ensures tables { IfOk result (λ t. AreTables (of_classes classes.now) t.lists.items t.rows.items t.ranks.items) }
+    ensures none { OnOk result (inheritance_cycle meta.now ≡ None) }
+    ensures cycle { IfErr result (λ fault. fault ≢ MetaFault.NoMemory → option_map MetaFault.InheritanceCycle (inheritance_cycle meta.now) ≡ Some fault) }
+{
+    let count = classes.len() as u32;
+    match tables_of(alloc, classes, count)? {
+        Some(tables) => Ok(tables),
+        None => Err(cycle_fault(alloc, meta, classes, count)?),
+    }
+}
+
+/// A metamodel whose names, types and classes passed the checks, or the first check of its features
+/// that fails.
+#[tactic(auto, unfolding(crate::specs::MetaOf::features_checked))]
+fn features_checked(
+    alloc: Global,
+    meta: MetaData,
+    names: &IndexSet<Text>,
+    numbers: Numbers,
+    tables: Tables,
+) -> Result<Meta, MetaFault>
+    requires named { meta.name ≢ [] }
+    requires names { names.now.keys ≡ class_names meta }
+    requires same_name { same_name meta ≡ None }
+    requires unknown_type { unknown_type meta ≡ None }
+    requires cycle { inheritance_cycle meta ≡ None }
+    requires numbers { AreNumbers meta numbers }
+    requires tables { AreTables (of_classes numbers.classes.items) tables.lists.items tables.rows.items tables.ranks.items }
+    ensures { Gives MetaFault.NoMemory (λ read. read) result (features_checked meta) }
+{
+    if let Some((class, feature)) = bad_bounds(alloc, &meta)? {
+        return Err(MetaFault::BadBounds(class, feature));
+    }
+    if let Some((class, feature)) = bad_opposite(alloc, names, &meta)? {
+        return Err(MetaFault::BadOpposite(class, feature));
+    }
+    if let Some((class, name)) = same_feature(alloc, &meta, &numbers, &tables.lists)? {
+        return Err(MetaFault::SameFeature(class, name));
+    }
+    Ok(made(meta, numbers, tables))
+}
+
+/// The same after the checks of names and types.
+#[tactic(auto, unfolding(crate::specs::MetaOf::classes_checked))]
+fn classes_checked(
+    alloc: Global,
+    meta: MetaData,
+    names: &IndexSet<Text>,
+) -> Result<Meta, MetaFault>
+    requires named { meta.name ≢ [] }
+    requires names { names.now.keys ≡ class_names meta }
+    requires same_name { same_name meta ≡ None }
+    requires unknown_type { unknown_type meta ≡ None }
+    ensures { Gives MetaFault.NoMemory (λ read. read) result (classes_checked meta) }
+{
+    let numbers = numbers_of(alloc, &meta)?;
+    let tables = tables_or_cycle(alloc, &meta, numbers.classes.as_slice())?;
+    features_checked(alloc, meta, names, numbers, tables)
+}
+
+/// The same after the check of names.
+#[tactic(auto, unfolding(crate::specs::MetaOf::types_checked))]
+fn types_checked(alloc: Global, meta: MetaData) -> Result<Meta, MetaFault>
+    requires named { meta.name ≢ [] }
+    requires same_name { same_name meta ≡ None }
+    ensures { Gives MetaFault.NoMemory (λ read. read) result (types_checked meta) }
+{
+    let names = names_of(alloc, meta.classes.as_slice())?;
+    let types = type_names(alloc, &meta)?;
+    if let Some((class, name)) = unknown_type(alloc, &names, &types, &meta)? {
+        return Err(MetaFault::UnknownType(class, name));
+    }
+    classes_checked(alloc, meta, &names)
+}
+
 /// A metamodel of this data, or the first check that fails.
 #[tactic(auto, unfolding(crate::specs::MetaOf::checked))]
 fn checked(alloc: Global, meta: MetaData) -> Result<Meta, MetaFault>
@@ -101,27 +186,7 @@ fn checked(alloc: Global, meta: MetaData) -> Result<Meta, MetaFault>
     if let Some(name) = same_name(alloc, &meta)? {
         return Err(MetaFault::SameName(name));
     }
-    let names = names_of(alloc, meta.classes.as_slice())?;
-    let types = type_names(alloc, &meta)?;
-    if let Some((class, name)) = unknown_type(alloc, &names, &types, &meta)? {
-        return Err(MetaFault::UnknownType(class, name));
-    }
-    let numbers = numbers_of(alloc, &meta)?;
-    let classes = numbers.classes.as_slice();
-    let count = classes.len() as u32;
-    let Some(tables) = tables_of(alloc, classes, count)? else {
-        return Err(cycle_fault(alloc, &meta, classes, count)?);
-    };
-    if let Some((class, feature)) = bad_bounds(alloc, &meta)? {
-        return Err(MetaFault::BadBounds(class, feature));
-    }
-    if let Some((class, feature)) = bad_opposite(alloc, &names, &meta)? {
-        return Err(MetaFault::BadOpposite(class, feature));
-    }
-    if let Some((class, name)) = same_feature(alloc, &meta, &numbers, &tables.lists)? {
-        return Err(MetaFault::SameFeature(class, name));
-    }
-    Ok(made(meta, numbers, tables))
+    types_checked(alloc, meta)
 }
 
 /// The metamodel of a file, or the first refusal: the file has no JSON value, the value is not of

@@ -1,11 +1,11 @@
 //! The check of the names among all features of a class.
 
-ghost use Rattle.std.specs.Prelude.{◌≡◌, ℕ, List, [], map, length, IfOk, slice_index_or};
+ghost use Rattle.std.specs.Prelude.{◌≡◌, ◌<◌, ℕ, List, [], map, length, IfOk, slice_index_or};
 ghost use Rattle.qvt_meta.specs.Names.{repeated};
 ghost use Rattle.qvt_meta.specs.Metamodels.{nowhere_feature, features_of};
 ghost use Rattle.qvt_meta.specs.Added.{numbered};
 ghost use Rattle.qvt_meta.specs.Numbered.{AreNumbers};
-ghost use Rattle.qvt_meta.specs.Checks.{same_feature};
+ghost use Rattle.qvt_meta.specs.Checks.{repeated_feature, same_feature};
 
 use crate::adding::Numbers;
 use crate::declared::MetaData;
@@ -52,6 +52,23 @@ fn repeated_name(
     Ok(None)
 }
 
+/// A name that two different features of a class have.
+fn repeated_feature(
+    alloc: Global,
+    meta: &MetaData,
+    numbers: &Numbers,
+    lists: &Vec<FeatureNoList>,
+    class: usize,
+) -> Result<Option<Text>, ListFault>
+    requires numbers { AreNumbers meta.now numbers.now }
+    requires class { class < length lists.now.items }
+    requires lists { (c : ℕ) → slice_index_or lists.now.items c [] ≡ features_of (numbered meta.now) c }
+    ensures { IfOk result (λ o. o ≡ repeated_feature (numbered meta.now) class) }
+{
+    let _classes = &meta.classes;
+    repeated_name(alloc, numbers.features.as_slice(), lists[class].as_slice())
+}
+
 /// The class and the name that SameFeature tells.
 #[tactic(auto, unfolding(crate::specs::Checks::same_feature))]
 pub fn same_feature(
@@ -65,9 +82,8 @@ pub fn same_feature(
     requires lists { (c : ℕ) → slice_index_or lists.now.items c [] ≡ features_of (numbered meta.now) c }
     ensures { IfOk result (λ o. o ≡ same_feature meta.now) }
 {
-    let features = numbers.features.as_slice();
     for (at, class) in meta.classes.as_slice().iter().enumerate() {
-        if let Some(name) = repeated_name(alloc, features, lists[at].as_slice())? {
+        if let Some(name) = repeated_feature(alloc, meta, numbers, lists, at)? {
             return Ok(Some((class.name.copy(alloc)?, name)));
         }
     }
