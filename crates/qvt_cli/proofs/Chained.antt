@@ -2,7 +2,11 @@
 use Rattle.std.proofs.Common.{◌≡◌, ◌≢◌, ◌∙◌, ap, sym, subst, ℕ, List, [], ◌∷◌, Result, Ok, Err, ◌⊎◌, inl, inr}
 use Rattle.qvt_cli.specs.Outcome.{Outcome, refused}
 use Rattle.qvt_cli.specs.Reported.{IsAmong}
-use Rattle.qvt_cli.specs.Run.{on_ok, IsJobStop, job_or_refused}
+use Rattle.qvt_meta.specs.Metamodels.{Metamodels}
+use Rattle.qvt_meta.specs.MetaData.{MetaData}
+use Rattle.qvt_meta.specs.declared.fault.MetaFault.{MetaFault}
+use Rattle.qvt_meta.specs.declared.fault.MetaFault.TheVariants as meta_fault
+use Rattle.qvt_cli.specs.Run.{on_ok, IsJobStop, job_or_refused, IsMetaStop, meta_or_refused}
 use Rattle.qvt_cli.specs.declared.run.SmallJob.{SmallJob}
 use Rattle.qvt_cli.specs.declared.job.Job.{Job}
 use Rattle.qvt_cli.specs.declared.job.JobFault.{JobFault}
@@ -69,3 +73,30 @@ job_stopped name fault.TooManyFiles e r f h is =
     subst (λ s. Stops e (job_or_refused name s >>= f)) (sym (is (λ q. cc))) (refused_job name refusal.TooManyFiles e f h)
 job_stopped name (fault.SameFile file) e r f h is =
     subst (λ s. Stops e (job_or_refused name s >>= f)) (sym (is (λ q. cc))) (refused_job name (refusal.SameFile file) e f h)
+
+refused_meta : (name : List ℕ) (why : Refusal) (e : Stop) → RefusedOrNoMemory name why e → Stops {A = Metamodels} e (Err (refused name why))
+refused_meta name why (stop.Refused file cause) h = λ i. Err (refused (sym h.0 i) (sym h.1 i))
+refused_meta name why (stop.OutOfFuel fuel) h = absurd h
+refused_meta name why (stop.ReadFault file) h = absurd h
+refused_meta name why stop.NoMemory h = tt
+
+-- a metamodel that is refused
+pub meta_stopped : (name : List ℕ) (why : MetaFault) (e : Stop) (r : Result MetaData MetaFault) (f : MetaData → Result Metamodels Outcome) → IsMetaStop name why e
+    → (why ≢ meta_fault.NoMemory → r ≡ Err why) → Stops e (meta_or_refused name r >>= f)
+meta_stopped name meta_fault.NoMemory e r f h is = subst (λ t. Stops t (meta_or_refused name r >>= f)) (sym h) tt
+meta_stopped name meta_fault.Json e r f h is =
+    subst (λ s. Stops e (meta_or_refused name s >>= f)) (sym (is (λ q. cc))) (refused_meta name refusal.Json e h)
+meta_stopped name (meta_fault.Shape path) e r f h is =
+    subst (λ s. Stops e (meta_or_refused name s >>= f)) (sym (is (λ q. cc))) (refused_meta name (refusal.Shape path) e h)
+meta_stopped name (meta_fault.SameName told) e r f h is =
+    subst (λ s. Stops e (meta_or_refused name s >>= f)) (sym (is (λ q. cc))) (refused_meta name (refusal.SameName told) e h)
+meta_stopped name (meta_fault.UnknownType class told) e r f h is =
+    subst (λ s. Stops e (meta_or_refused name s >>= f)) (sym (is (λ q. cc))) (refused_meta name (refusal.UnknownType class told) e h)
+meta_stopped name (meta_fault.InheritanceCycle class) e r f h is =
+    subst (λ s. Stops e (meta_or_refused name s >>= f)) (sym (is (λ q. cc))) (refused_meta name (refusal.InheritanceCycle class) e h)
+meta_stopped name (meta_fault.BadBounds class feature) e r f h is =
+    subst (λ s. Stops e (meta_or_refused name s >>= f)) (sym (is (λ q. cc))) (refused_meta name (refusal.BadBounds class feature) e h)
+meta_stopped name (meta_fault.BadOpposite class feature) e r f h is =
+    subst (λ s. Stops e (meta_or_refused name s >>= f)) (sym (is (λ q. cc))) (refused_meta name (refusal.BadOpposite class feature) e h)
+meta_stopped name (meta_fault.SameFeature class told) e r f h is =
+    subst (λ s. Stops e (meta_or_refused name s >>= f)) (sym (is (λ q. cc))) (refused_meta name (refusal.SameFeature class told) e h)

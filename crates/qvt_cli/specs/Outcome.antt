@@ -36,6 +36,12 @@ refusal_text refusal.Json = codes "Json"
 refusal_text (refusal.Shape path) = codes "Shape " ++ path
 refusal_text refusal.TooManyFiles = codes "TooManyFiles"
 refusal_text (refusal.SameFile file) = codes "SameFile " ++ file
+refusal_text (refusal.SameName name) = codes "SameName " ++ name
+refusal_text (refusal.UnknownType class name) = codes "UnknownType " ++ (class ++ (codes " " ++ name))
+refusal_text (refusal.InheritanceCycle class) = codes "InheritanceCycle " ++ class
+refusal_text (refusal.BadBounds class feature) = codes "BadBounds " ++ (class ++ (codes " " ++ feature))
+refusal_text (refusal.BadOpposite class feature) = codes "BadOpposite " ++ (class ++ (codes " " ++ feature))
+refusal_text (refusal.SameFeature class name) = codes "SameFeature " ++ (class ++ (codes " " ++ name))
 refusal_text refusal.NotBuilt = codes "NotBuilt"
 
 abbrev pub usage_line : List ℕ

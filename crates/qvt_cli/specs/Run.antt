@@ -4,7 +4,11 @@ use Rattle.std.specs.Str.{is_utf8, chars}
 use Rattle.qvt_base.specs.Outside.{Held}
 use Rattle.qvt_meta.specs.Metamodels.{Metamodels}
 use Rattle.qvt_meta.specs.Added.{added}
-use Rattle.qvt_meta.specs.SmallMeta.{small_meta_of}
+use Rattle.qvt_meta.specs.MetaData.{MetaData}
+use Rattle.qvt_meta.specs.MetaOf.{meta_of}
+use Rattle.qvt_meta.specs.SmallMeta.{is_small}
+use Rattle.qvt_meta.specs.declared.fault.MetaFault.{MetaFault}
+use Rattle.qvt_meta.specs.declared.fault.MetaFault.TheVariants as meta_fault
 use Rattle.qvt_cli.specs.Job.{job_of}
 use Rattle.qvt_cli.specs.declared.job.Job.{Job}
 use Rattle.qvt_cli.specs.declared.job.JobModel.{JobModel}
@@ -61,8 +65,40 @@ job_read held name = read_step held name 65536 >>= job_in name
 abbrev pub no_metamodels : Metamodels
 no_metamodels = record { metamodels = []; classes = []; features = []; element = None }
 
+-- a metamodel's refusal by its name
+abbrev pub meta_refusal : MetaFault → Refusal
+meta_refusal meta_fault.NoMemory = refusal.NotBuilt
+meta_refusal meta_fault.Json = refusal.Json
+meta_refusal (meta_fault.Shape path) = refusal.Shape path
+meta_refusal (meta_fault.SameName name) = refusal.SameName name
+meta_refusal (meta_fault.UnknownType class name) = refusal.UnknownType class name
+meta_refusal (meta_fault.InheritanceCycle class) = refusal.InheritanceCycle class
+meta_refusal (meta_fault.BadBounds class feature) = refusal.BadBounds class feature
+meta_refusal (meta_fault.BadOpposite class feature) = refusal.BadOpposite class feature
+meta_refusal (meta_fault.SameFeature class name) = refusal.SameFeature class name
+
+abbrev pub meta_or_refused : List ℕ → Result MetaData MetaFault → Result MetaData Outcome
+meta_or_refused name (Ok meta) = Ok meta
+meta_or_refused name (Err why) = Err (refused name (meta_refusal why))
+
+-- the refusal of the metamodel's file, unless there was no memory
+abbrev pub IsMetaStop : List ℕ → MetaFault → Stop → Type 0
+IsMetaStop name meta_fault.NoMemory end = end ≡ stop.NoMemory
+IsMetaStop name meta_fault.Json end = RefusedOrNoMemory name refusal.Json end
+IsMetaStop name (meta_fault.Shape path) end = RefusedOrNoMemory name (refusal.Shape path) end
+IsMetaStop name (meta_fault.SameName told) end = RefusedOrNoMemory name (refusal.SameName told) end
+IsMetaStop name (meta_fault.UnknownType class told) end = RefusedOrNoMemory name (refusal.UnknownType class told) end
+IsMetaStop name (meta_fault.InheritanceCycle class) end = RefusedOrNoMemory name (refusal.InheritanceCycle class) end
+IsMetaStop name (meta_fault.BadBounds class feature) end = RefusedOrNoMemory name (refusal.BadBounds class feature) end
+IsMetaStop name (meta_fault.BadOpposite class feature) end = RefusedOrNoMemory name (refusal.BadOpposite class feature) end
+IsMetaStop name (meta_fault.SameFeature class told) end = RefusedOrNoMemory name (refusal.SameFeature class told) end
+
+-- the metamodel alone, if its file has the form of a small one
+abbrev pub if_small : List ℕ → MetaData → Option Metamodels
+if_small bytes meta = if is_small bytes then Some (added no_metamodels meta) else None
+
 unfoldable pub metas_in : List ℕ → List ℕ → Result Metamodels Outcome
-metas_in name bytes = built name (option_map (added no_metamodels) (small_meta_of bytes))
+metas_in name bytes = meta_or_refused name (meta_of bytes) >>= (λ meta. built name (if_small bytes meta))
 
 -- reads the metamodel
 unfoldable pub metas_read : Held → SmallJob → Result Metamodels Outcome

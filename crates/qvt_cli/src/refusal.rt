@@ -15,6 +15,19 @@ pub enum Refusal {
     TooManyFiles,
     /// This file of an output or of the trace is that of an earlier output.
     SameFile(Text),
+    /// An enumeration or class of a metamodel has this name, which is taken, or an enumeration has
+    /// the literal twice.
+    SameName(Text),
+    /// A class, and the name in it that is no class as a superclass must be, or no type.
+    UnknownType(Text, Text),
+    /// A class that is its own ancestor.
+    InheritanceCycle(Text),
+    /// A class, and its feature whose lower bound is above the upper one.
+    BadBounds(Text, Text),
+    /// A class, and its feature that may not be a containment or have its opposite.
+    BadOpposite(Text, Text),
+    /// A class, and the name that two different ones of its features have.
+    SameFeature(Text, Text),
     /// What the file asks for is not built yet.
     NotBuilt,
 }

@@ -76,7 +76,32 @@ fn refusal_text(alloc: Global, why: &Refusal) -> Result<String, AllocError>
         Refusal::TooManyFiles => String::from_str(alloc, "TooManyFiles"),
         Refusal::SameFile(file) => detailed(alloc, "SameFile", file.as_str()),
         Refusal::NotBuilt => String::from_str(alloc, "NotBuilt"),
+        Refusal::SameName(name) => detailed(alloc, "SameName", name.as_str()),
+        Refusal::UnknownType(class, name) => {
+            twice_detailed(alloc, "UnknownType", class.as_str(), name.as_str())
+        }
+        Refusal::InheritanceCycle(class) => detailed(alloc, "InheritanceCycle", class.as_str()),
+        Refusal::BadBounds(class, feature) => {
+            twice_detailed(alloc, "BadBounds", class.as_str(), feature.as_str())
+        }
+        Refusal::BadOpposite(class, feature) => {
+            twice_detailed(alloc, "BadOpposite", class.as_str(), feature.as_str())
+        }
+        Refusal::SameFeature(class, name) => {
+            twice_detailed(alloc, "SameFeature", class.as_str(), name.as_str())
+        }
     }
+}
+
+fn twice_detailed(
+    alloc: Global,
+    name: &str,
+    first: &str,
+    second: &str,
+) -> Result<String, AllocError>
+    ensures { IfOk result (λ text. string_bytes text ≡ name.now ++ (codes " " ++ (first.now ++ (codes " " ++ second.now)))) }
+{
+    format!(in alloc; "{name} {first} {second}")
 }
 
 fn detailed(alloc: Global, name: &str, detail: &str) -> Result<String, AllocError>

@@ -1,9 +1,10 @@
-ghost use Rattle.std.specs.Prelude.{◌≡◌, ◌≤◌, ◌∷◌, [], OnOk, IfOk, Some};
+ghost use Rattle.std.specs.Prelude.{◌≡◌, ◌≤◌, ◌∷◌, [], OnOk, IfOk, Some, Ok};
 ghost use Rattle.qvt_base.specs.Outside.{Held, Rose};
+ghost use Rattle.qvt_meta.specs.Added.{added};
 ghost use Rattle.qvt_cli.specs.Reported.{IsAmong};
 ghost use Rattle.qvt_cli.specs.Steps.{Gives, IfFaultOf, IsFaultWith, joined};
 ghost use Rattle.qvt_cli.specs.Plans.{outcome_of, IsReady};
-ghost use Rattle.qvt_cli.specs.Run.{small_job, job_in, job_read, metas_in, metas_read, parsed, small_text_of, text_in, text_read, performed, after_metas, after_job, run_of, turns_after_job, run_turns, IsJobStop, done_outcome};
+ghost use Rattle.qvt_cli.specs.Run.{small_job, job_in, job_read, metas_in, metas_read, parsed, small_text_of, text_in, text_read, performed, after_metas, after_job, run_of, turns_after_job, run_turns, IsJobStop, IsMetaStop, no_metamodels, done_outcome};
 ghost use Rattle.qvt_cli.specs.SmallRun.{done_line};
 
 use crate::fetch::{fetch, refused};
@@ -24,8 +25,9 @@ use qvt_base::outside::Files;
 use qvt_base::seq::Seq;
 use qvt_base::text::Text;
 use qvt_meta::fault::MetaFault;
-use qvt_meta::meta::read_meta;
+use qvt_meta::meta::{Meta, read_meta};
 use qvt_meta::metas::Metas;
+use qvt_meta::small::is_small;
 use std::alloc::{AllocError, Global};
 use std::str;
 
@@ -111,18 +113,40 @@ fn read_small_job<F: Files>(alloc: Global, files: &mut F, name: &Text) -> Result
     }
 }
 
-/// The metamodels of a file's bytes: the one that it has.
-#[tactic(auto, unfolding(crate::specs::Run::metas_in))]
-fn metas_in(alloc: Global, name: &Text, bytes: &[u8]) -> Result<Metas, Stop>
-    ensures no_reads { IfFaultOf result (λ file. ⊥) }
-    ensures gives { Gives (λ metas. metas) result (metas_in name.now bytes.now) }
+/// The refusal of a metamodel's file.
+fn meta_stop(alloc: Global, name: &Text, why: MetaFault) -> Stop
+    ensures stop { IsMetaStop name.now why result }
+    ensures no_reads { IsFaultWith result (λ file. ⊥) }
 {
-    let meta = match read_meta(alloc, bytes) {
-        Err(MetaFault::NotBuilt) => return Err(refused(alloc, name, Refusal::NotBuilt)),
-        Err(MetaFault::NoMemory) => return Err(Stop::NoMemory),
-        Ok(meta) => meta,
-    };
-    // No file within its limit has so many classes or features.
+    match why {
+        MetaFault::NoMemory => Stop::NoMemory,
+        MetaFault::Json => refused(alloc, name, Refusal::Json),
+        MetaFault::Shape(path) => refused(alloc, name, Refusal::Shape(path)),
+        MetaFault::SameName(told) => refused(alloc, name, Refusal::SameName(told)),
+        MetaFault::UnknownType(class, told) => {
+            refused(alloc, name, Refusal::UnknownType(class, told))
+        }
+        MetaFault::InheritanceCycle(class) => {
+            refused(alloc, name, Refusal::InheritanceCycle(class))
+        }
+        MetaFault::BadBounds(class, feature) => {
+            refused(alloc, name, Refusal::BadBounds(class, feature))
+        }
+        MetaFault::BadOpposite(class, feature) => {
+            refused(alloc, name, Refusal::BadOpposite(class, feature))
+        }
+        MetaFault::SameFeature(class, told) => {
+            refused(alloc, name, Refusal::SameFeature(class, told))
+        }
+    }
+}
+
+/// The metamodel alone. No file within its limit has so many classes or features that their
+/// numbers do not fit 32 bits.
+fn alone(alloc: Global, meta: Meta) -> Result<Metas, Stop>
+    ensures no_reads { IfFaultOf result (λ file. ⊥) }
+    ensures gives { Gives (λ metas. metas) result (Ok (added no_metamodels meta)) }
+{
     let mut metas = Metas::new(alloc);
     if !metas.has_room(&meta) {
         return Err(Stop::NoMemory);
@@ -130,6 +154,22 @@ fn metas_in(alloc: Global, name: &Text, bytes: &[u8]) -> Result<Metas, Stop>
     match metas.add(meta) {
         Err(_) => Err(Stop::NoMemory),
         Ok(()) => Ok(metas),
+    }
+}
+
+/// The metamodels of a file's bytes: the one that it has, if its form is small.
+#[tactic(auto, unfolding(crate::specs::Run::metas_in))]
+fn metas_in(alloc: Global, name: &Text, bytes: &[u8]) -> Result<Metas, Stop>
+    ensures no_reads { IfFaultOf result (λ file. ⊥) }
+    ensures gives { Gives (λ metas. metas) result (metas_in name.now bytes.now) }
+{
+    match read_meta(alloc, bytes) {
+        Err(why) => Err(meta_stop(alloc, name, why)),
+        Ok(meta) => match is_small(alloc, bytes) {
+            Err(_) => Err(Stop::NoMemory),
+            Ok(false) => Err(refused(alloc, name, Refusal::NotBuilt)),
+            Ok(true) => alone(alloc, meta),
+        },
     }
 }
 

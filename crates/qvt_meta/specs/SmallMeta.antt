@@ -1,14 +1,11 @@
 -- A small metamodel: classes whose features are Integers, and nothing else.
-use Rattle.std.specs.Prelude.{ℕ, List, [], ◌∷◌, Bool, false, Option, Some, None, is_none, option_and_then, if◌then◌else◌, codes, Result, Ok, Err}
+use Rattle.std.specs.Prelude.{ℕ, List, [], ◌∷◌, Bool, false, is_none, codes}
 use Rattle.std.specs.Option.{option_map_or}
 use Rattle.std.specs.Str.{bytes_eq}
 use Rattle.qvt_json.specs.Json.{json}
 use Rattle.qvt_json.specs.Leaves.{is_text_of}
 use Rattle.qvt_json.specs.Shape.{Form, leaf, list_of, object_of, required, optional}
-use Rattle.qvt_meta.specs.declared.fault.MetaFault.{MetaFault}
-use Rattle.qvt_meta.specs.MetaData.{MetaData}
 use Rattle.qvt_meta.specs.MetaForm.{name_form}
-use Rattle.qvt_meta.specs.MetaOf.{meta_of}
 
 unfoldable pub small_feature_form : Form
 small_feature_form = object_of (required (codes "name") name_form ∷ required (codes "type") (leaf (is_text_of (bytes_eq (codes "Integer")))) ∷ [])
@@ -22,11 +19,3 @@ small_form = object_of (required (codes "classes") (list_of small_class_form) �
 -- the bytes are a value of the form of a small metamodel
 unfoldable pub is_small : List ℕ → Bool
 is_small bytes = option_map_or (λ d. is_none (small_form d)) (json bytes) false
-
-abbrev pub data_of : Result MetaData MetaFault → Option MetaData
-data_of (Ok d) = Some d
-data_of (Err e) = None
-
--- the data of a small metamodel's file, none where the bytes are no such file
-unfoldable pub small_meta_of : List ℕ → Option MetaData
-small_meta_of bytes = if is_small bytes then data_of (meta_of bytes) else None
