@@ -6,6 +6,7 @@ pub mod Lookups
 pub mod Whole
 pub mod Made
 pub mod Passing
+pub mod NameThere
 pub mod Cyclic
 pub mod Visits
 pub mod Marks
