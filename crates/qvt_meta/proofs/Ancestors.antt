@@ -19,14 +19,14 @@ pub record Found (p : ℕ → Bool) (xs : List ClassNo) : Type 0 where
   pub there : list_any (λ s. s.0 == class) xs ≡ true
   pub passes : p class ≡ true
 
-found : (p : ℕ → Bool) (xs : List ClassNo) → list_any (λ s. p s.0) xs ≡ true → Found p xs
+pub found : (p : ℕ → Bool) (xs : List ClassNo) → list_any (λ s. p s.0) xs ≡ true → Found p xs
 found p [] h = absurd (cc)
 found p (x ∷ xs) h = elim (or_cases (p x.0) (list_any (λ s. p s.0) xs) h) [
   | inl here ↦ record { class = x.0; there = or_left (x.0 == x.0) (list_any (λ s. s.0 == x.0) xs) (eq-eqb x.0 x.0 refl); passes = here }
   | inr later ↦ (let f : Found p xs = found p xs later in record { class = f.class; there = or_right (x.0 == f.class) (list_any (λ s. s.0 == f.class) xs) f.there; passes = f.passes })
 ]
 
-passing : (p : ℕ → Bool) (xs : List ClassNo) (d : ℕ) → list_any (λ s. s.0 == d) xs ≡ true → p d ≡ true → list_any (λ s. p s.0) xs ≡ true
+pub passing : (p : ℕ → Bool) (xs : List ClassNo) (d : ℕ) → list_any (λ s. s.0 == d) xs ≡ true → p d ≡ true → list_any (λ s. p s.0) xs ≡ true
 passing p [] d h t = absurd (cc)
 passing p (x ∷ xs) d h t = elim (or_cases (x.0 == d) (list_any (λ s. s.0 == d) xs) h) [
   | inl e ↦ or_left (p x.0) (list_any (λ s. p s.0) xs) (ap p (eqb-true x.0 d e) ∙ t)
@@ -58,7 +58,7 @@ module _ (m : Metamodels) where
         by _ (old c l) h = l
         by _ (new k) h = clash h (ap (λ (x : ClassInfo). list_any (λ s. s.0 == d) x.supers) (get_or_past m.classes (length m.classes + k) nowhere_class (omega arith)))
 
-    one_more : (n c d : ℕ) → length m.classes ≡ n → c < n → reaches m c d ≡ list_any (λ s. (s.0 == d) || reaches m s.0 d) (class_at m c).supers
+    pub one_more : (n c d : ℕ) → length m.classes ≡ n → c < n → reaches m c d ≡ list_any (λ s. (s.0 == d) || reaches m s.0 d) (class_at m c).supers
     unfolding reaches
     one_more zero c d e l = absurd (omega arith)
     one_more (suc n) c d e l =

@@ -3,6 +3,17 @@ pub mod Bools
 pub mod Counts
 pub mod Firsts
 pub mod Lookups
+pub mod Whole
+pub mod Made
+pub mod Passing
+pub mod NameThere
+pub mod Cyclic
+pub mod Visits
+pub mod Marks
+pub mod Filling
+pub mod Orders
+pub mod Owners
+pub mod Positions
 pub mod Infos
 pub mod Halves
 pub mod Joins
@@ -11,8 +22,6 @@ pub mod JoinsTables
 pub mod Fits
 pub mod Withs
 pub mod Ancestors
-pub mod Thin
 pub mod Rooms
-pub mod Ones
 pub mod Lists
 pub mod Stable

@@ -1,8 +1,8 @@
 -- Facts of lists that the tables of metamodels stand on.
-use Rattle.std.proofs.Common.{◌≡◌, ◌∙◌, ℕ, zero, suc, ◌+◌, ◌<◌, ◌≤◌, List, [], ◌∷◌, ◌++◌, length, map, get_or, Bool, true, false, cond, refl, ap, sym, arith, ◌==◌, ◌||◌, ◌⊎◌, inl, inr, eqb}
+use Rattle.std.proofs.Common.{◌≡◌, ◌∙◌, ℕ, zero, suc, ◌+◌, ◌<◌, ◌≤◌, List, [], ◌∷◌, ◌++◌, length, map, get_or, Bool, true, false, cond, refl, ap, sym, arith, ◌==◌, ◌||◌, ◌⊎◌, inl, inr, eqb, append_assoc, drop}
 use Rattle.std.specs.Prelude.{if◌then◌else◌}
 use Rattle.std.specs.List.{list_any, flat_map, AllByRecursion}
-use Rattle.std.proofs.lemmas.List.{map-append}
+use Rattle.std.proofs.lemmas.List.{map-append, drop_more}
 use Rattle.std.proofs.lemmas.Bool.{eqb-true, eq-eqb}
 use Rattle.qvt_base.specs.declared.numbers.ClassNo.{ClassNo}
 use Rattle.qvt_base.specs.declared.numbers.FeatureNo.{FeatureNo}
@@ -76,3 +76,45 @@ each_once-on b seen [] = refl
 each_once-on b seen (g ∷ gs) =
     ap (λ t. if t then each_once (map (feature_on b) seen) (map (feature_on b) gs) else feature_on b g ∷ each_once (map (feature_on b) seen ++ feature_on b g ∷ []) (map (feature_on b) gs)) (among-on b g.0 seen)
     ∙ once_step b seen g gs (among_features g.0 seen) (each_once-on b seen gs) (each_once-on b (seen ++ g ∷ []) gs)
+
+append_none : {X : Type 0} (xs : List X) → xs ++ [] ≡ xs
+append_none [] = refl
+append_none (x ∷ xs) = ap (λ l. x ∷ l) (append_none xs)
+
+-- those of more features come after those of the first ones
+pub once-append : (list xs ys : List FeatureNo) → (list ++ each_once list xs) ++ each_once (list ++ each_once list xs) ys ≡ list ++ each_once list (xs ++ ys)
+once-append list [] ys = ap (λ l. l ++ each_once l ys) (append_none list)
+once-append list (x ∷ xs) ys = by (among_features x.0 list) (once-append list xs ys) (once-append (list ++ x ∷ []) xs ys)
+  where
+    by : (t : Bool) → (list ++ each_once list xs) ++ each_once (list ++ each_once list xs) ys ≡ list ++ each_once list (xs ++ ys)
+        → ((list ++ x ∷ []) ++ each_once (list ++ x ∷ []) xs) ++ each_once ((list ++ x ∷ []) ++ each_once (list ++ x ∷ []) xs) ys ≡ (list ++ x ∷ []) ++ each_once (list ++ x ∷ []) (xs ++ ys)
+        → (list ++ (if t then each_once list xs else x ∷ each_once (list ++ x ∷ []) xs)) ++ each_once (list ++ (if t then each_once list xs else x ∷ each_once (list ++ x ∷ []) xs)) ys
+        ≡ list ++ (if t then each_once list (xs ++ ys) else x ∷ each_once (list ++ x ∷ []) (xs ++ ys))
+    by true same more = same
+    by false same more =
+        ap (λ l. l ++ each_once l ys) (sym (append_assoc list (x ∷ []) (each_once (list ++ x ∷ []) xs))) ∙ more ∙ append_assoc list (x ∷ []) (each_once (list ++ x ∷ []) (xs ++ ys))
+
+pub among-map : (f : ℕ) (gs : List FeatureNo) → list_any (eqb f) (map (λ g. g.0) gs) ≡ among_features f gs
+among-map f [] = refl
+among-map f (g ∷ gs) = ap2 (λ a b. a || b) (flip f g.0) (among-map f gs)
+  where
+    flip : (x y : ℕ) → eqb x y ≡ eqb y x
+    flip x y = by (eqb y x) refl
+      where
+        by : (t : Bool) → eqb y x ≡ t → eqb x y ≡ t
+        by true e = eq-eqb x y (sym (eqb-true y x e))
+        by false e = not_true (eqb x y) (λ h. clash (eq-eqb y x (sym (eqb-true x y h))) e)
+
+pub once-there : (g : FeatureNo) (list : List FeatureNo) → among_features g.0 list ≡ true → list ≡ list ++ each_once list (g ∷ [])
+once-there g list h = sym (ap (λ t. list ++ (if t then [] else g ∷ [])) h ∙ append_none list)
+
+pub once-new : (g : FeatureNo) (list : List FeatureNo) → among_features g.0 list ≡ false → list ++ g ∷ [] ≡ list ++ each_once list (g ∷ [])
+once-new g list h = sym (ap (λ t. list ++ (if t then [] else g ∷ [])) h)
+
+-- the next list of those that are left
+pub once_next : {X : Type 0} (f : X → List FeatureNo) (all : List FeatureNo) (list : List FeatureNo) (next : List FeatureNo) (xs : List X) (i : ℕ) (d : X) → i < length xs
+    → list ++ each_once list (flat_map f (drop i xs)) ≡ all → next ≡ list ++ each_once list (f (get_or xs i d)) → next ++ each_once next (flat_map f (drop (i + 1) xs)) ≡ all
+once_next f all list next xs i d l h e =
+    ap (λ n. n ++ each_once n (flat_map f (drop (i + 1) xs))) e
+    ∙ once-append list (f (get_or xs i d)) (flat_map f (drop (i + 1) xs))
+    ∙ sym (ap (λ ys. list ++ each_once list (flat_map f ys)) (drop_more xs i d l)) ∙ h

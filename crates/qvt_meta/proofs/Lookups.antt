@@ -39,12 +39,12 @@ pub bytes_eq-refl : (xs : List ℕ) → bytes_eq xs xs ≡ true
 bytes_eq-refl xs = (bytes_eq-Decides xs xs).1 refl
 
 -- a name that is among names stands at some place
-among-at : (x : List ℕ) (xs : List (List ℕ)) (i : ℕ) → i < length xs → bytes_eq x (get_or xs i []) ≡ true → is_among x xs ≡ true
+pub among-at : (x : List ℕ) (xs : List (List ℕ)) (i : ℕ) → i < length xs → bytes_eq x (get_or xs i []) ≡ true → is_among x xs ≡ true
 among-at x [] i lt same = absurd (omega arith)
 among-at x (y ∷ ys) zero lt same = or_left (bytes_eq x y) (is_among x ys) same
 among-at x (y ∷ ys) (suc i) lt same = or_right (bytes_eq x y) (is_among x ys) (among-at x ys i (omega arith) same)
 
-among-append : (x : List ℕ) (xs ys : List (List ℕ)) → is_among x xs ≡ true → is_among x (xs ++ ys) ≡ true
+pub among-append : (x : List ℕ) (xs ys : List (List ℕ)) → is_among x xs ≡ true → is_among x (xs ++ ys) ≡ true
 among-append x [] ys h = absurd (cc)
 among-append x (y ∷ xs) ys h = elim (or_cases (bytes_eq x y) (is_among x xs) h) [
   | inl e ↦ or_left (bytes_eq x y) (is_among x (xs ++ ys)) e
@@ -55,12 +55,12 @@ among-last : (x y : List ℕ) (xs : List (List ℕ)) → bytes_eq x y ≡ true �
 among-last x y [] h = or_left (bytes_eq x y) false h
 among-last x y (z ∷ xs) h = or_right (bytes_eq x z) (is_among x (xs ++ y ∷ [])) (among-last x y xs h)
 
-none_repeated : (b : Bool) (x : List ℕ) (o : Option (List ℕ)) → (if b then Some x else o) ≡ None → (b ≡ false) × (o ≡ None)
+pub none_repeated : (b : Bool) (x : List ℕ) (o : Option (List ℕ)) → (if b then Some x else o) ≡ None → (b ≡ false) × (o ≡ None)
 none_repeated true x o h = absurd (cc)
 none_repeated false x o h = (refl, h)
 
 -- where no name is repeated, none is among those taken
-untaken : (taken xs : List (List ℕ)) (i : ℕ) → repeated taken xs ≡ None → i < length xs → is_among (get_or xs i []) taken ≡ false
+pub untaken : (taken xs : List (List ℕ)) (i : ℕ) → repeated taken xs ≡ None → i < length xs → is_among (get_or xs i []) taken ≡ false
 untaken taken [] i fresh lt = absurd (omega arith)
 untaken taken (x ∷ xs) zero fresh lt = (none_repeated (is_among x taken) x (repeated (taken ++ x ∷ []) xs) fresh).0
 untaken taken (x ∷ xs) (suc i) fresh lt =
@@ -107,7 +107,7 @@ prefix-append p (x ∷ xs) ys lt = by (p x) refl (λ less. prefix-append p xs ys
         let here : position_or_len p (x ∷ xs) ≡ 1 + position_or_len p xs = ap (λ t. cond (not t) (1 + position_or_len p xs) 0) e in
         ap (λ t. cond (not t) (1 + position_or_len p (xs ++ ys)) 0) e ∙ ap (λ n. 1 + n) (next (omega (arith, lt, here))) ∙ sym here
 
-some-within : (n k i : ℕ) → cond (nat_lt n k) (Some n) None ≡ Some i → (n < k) × (n ≡ i)
+pub some-within : (n k i : ℕ) → cond (nat_lt n k) (Some n) None ≡ Some i → (n < k) × (n ≡ i)
 some-within n k i e = by (nat_lt n k) refl
   where
     by : (t : Bool) → nat_lt n k ≡ t → (n < k) × (n ≡ i)

@@ -3,6 +3,9 @@ pub mod Descends
 pub mod Named
 pub mod WellFormed
 pub mod Kept
+pub mod Tables
+pub mod Cycles
+pub mod MetaOf
 pub mod MetaData
 pub mod DataOf
 pub mod Names

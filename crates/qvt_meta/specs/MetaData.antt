@@ -1,13 +1,7 @@
 -- The data of a metamodel's file: everything by name.
-use Rattle.std.specs.Prelude.{ℕ, List, map, Option}
-use Rattle.qvt_meta.specs.declared.info.EnumInfo.{EnumInfo}
+use Rattle.std.specs.Prelude.{ℕ, List, map}
 use Rattle.qvt_meta.specs.declared.declared.DeclaredClass.{DeclaredClass}
-
-pub record MetaData : Type 0 where
-  pub name : List ℕ
-  pub uri : Option (List ℕ)
-  pub enums : List EnumInfo
-  pub classes : List DeclaredClass
+pub use Rattle.qvt_meta.specs.declared.declared.MetaData.{MetaData}
 
 abbrev pub class_names : MetaData → List (List ℕ)
 class_names d = map (λ c. c.name) d.classes

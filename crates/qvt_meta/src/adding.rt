@@ -5,17 +5,16 @@ ghost use Rattle.std.specs.Str.{bytes_eq};
 ghost use Rattle.qvt_meta.specs.MetaData.{feature_names};
 ghost use Rattle.qvt_meta.specs.Places.{ArePlaces, firsts_of};
 ghost use Rattle.qvt_meta.specs.Names.{repeated};
-ghost use Rattle.qvt_meta.specs.Checked.{IsChecked};
-ghost use Rattle.qvt_meta.specs.Kept.{no_row};
-ghost use Rattle.qvt_meta.specs.Added.{numbered, declared_at, place_in, kind_of, feature_count, feature_number, feature_info, feature_infos, numbers_from, class_info, class_infos, names_of};
+ghost use Rattle.std.specs.List.{list_all};
+ghost use Rattle.qvt_meta.specs.Checks.{same_name};
+ghost use Rattle.qvt_meta.specs.Numbered.{has_few_literals, AreNumbers};
+ghost use Rattle.qvt_meta.specs.Added.{declared_at, place_in, kind_of, feature_count, feature_number, feature_info, feature_infos, numbers_from, class_info, class_infos, names_of};
 
 use crate::begin::Begin;
 use crate::copied::copy_of_text;
-use crate::declared::{DeclaredClass, DeclaredFeature};
+use crate::declared::{DeclaredClass, DeclaredFeature, MetaData};
 use crate::info::{ClassInfo, EnumInfo, FeatureInfo, FeatureShape, MetamodelInfo, TypeKind};
-use crate::metas::Metas;
 use crate::names::names_of as distinct_names;
-use crate::row::Row;
 use indexmap::IndexSet;
 use qvt_base::copied::Copied;
 use qvt_base::list_fault::ListFault;
@@ -34,8 +33,16 @@ pub struct Places {
     pub firsts: Vec<u32>,
 }
 
+/// The numbered parts of one metamodel.
+#[derive(Drop)]
+pub struct Numbers {
+    pub metamodels: Vec<MetamodelInfo>,
+    pub classes: Vec<ClassInfo>,
+    pub features: Vec<FeatureInfo>,
+}
+
 /// The place of a name that is there.
-fn place_in(names: &IndexSet<Text>, name: &Text) -> usize
+pub fn place_in(names: &IndexSet<Text>, name: &Text) -> usize
     ensures place { result ≡ place_in names.now.keys name.now }
     ensures bound { result ≤ length names.now.keys }
 {
@@ -313,42 +320,6 @@ pub fn places_of(
     })
 }
 
-/// The features that each class declares itself.
-pub fn own_lists(alloc: Global, classes: &[ClassInfo]) -> Result<Vec<FeatureNoList>, ListFault>
-    ensures { IfOk result (λ v. v.items ≡ map (λ k. k.own) classes.now) }
-{
-    let mut lists = Seq::new(alloc);
-    for class in classes {
-        lists.push(class.own.copy(alloc)?)?;
-    }
-    Ok(lists.into_vec())
-}
-
-/// A row without marks for each class.
-fn empty_rows(alloc: Global, classes: &[ClassInfo]) -> Result<Vec<Row>, ListFault>
-    ensures { IfOk result (λ v. v.items ≡ map (λ k. no_row) classes.now) }
-{
-    let mut rows = Seq::new(alloc);
-    for class in classes {
-        rows.push(Row {
-            first: 0,
-            above: Seq::new(alloc),
-        })?;
-    }
-    Ok(rows.into_vec())
-}
-
-/// The rank 0 for each class.
-fn zero_ranks(alloc: Global, classes: &[ClassInfo]) -> Result<Vec<u32>, ListFault>
-    ensures { IfOk result (λ v. v.items ≡ map (λ k. 0) classes.now) }
-{
-    let mut ranks = Seq::new(alloc);
-    for class in classes {
-        ranks.push(0)?;
-    }
-    Ok(ranks.into_vec())
-}
-
 /// How many features the classes declare, None where the number does not fit 32 bits.
 fn feature_total(classes: &[DeclaredClass]) -> Option<u32>
     ensures { IfSome result (λ n. n ≡ feature_count classes.now) }
@@ -377,18 +348,21 @@ pub fn has_room(enums: &[EnumInfo], classes: &[DeclaredClass]) -> bool
     few_enums && few_classes && feature_total(classes).is_some()
 }
 
-/// A metamodel alone, its numbers from 0 on. Where they do not fit 32 bits, there is no memory.
-pub fn alone_of(
-    alloc: Global,
-    name: &Text,
-    uri: &Option<Text>,
-    enums: &Seq<EnumInfo>,
-    classes: &Seq<DeclaredClass>,
-) -> Result<Metas, ListFault>
-    requires { IsChecked (record { name = name.now; uri = uri.now; enums = enums.now; classes = classes.now }) }
-    ensures { IfOk result (λ m. m ≡ numbered (record { name = name.now; uri = uri.now; enums = enums.now; classes = classes.now })) }
+/// Whether each enumeration has so few literals that their numbers fit 32 bits.
+fn have_few_literals(enums: &[EnumInfo]) -> bool
+    ensures { result ≡ list_all has_few_literals enums.now }
 {
-    if !has_room(enums.as_slice(), classes.as_slice()) {
+    enums.iter().all(|e| e.literals.len() <= u32::MAX as usize)
+}
+
+/// A metamodel alone, its numbers from 0 on. Where they do not fit 32 bits, there is no memory.
+pub fn numbers_of(alloc: Global, meta: &MetaData) -> Result<Numbers, ListFault>
+    requires { same_name meta.now ≡ None }
+    ensures { IfOk result (AreNumbers meta.now) }
+{
+    let enums = meta.enums.as_slice();
+    let classes = meta.classes.as_slice();
+    if !has_room(enums, classes) || !have_few_literals(enums) {
         return Err(ListFault::NoMemory);
     }
     let begin = Begin {
@@ -396,30 +370,23 @@ pub fn alone_of(
         class: 0,
         feature: 0,
     };
-    let places = places_of(alloc, enums.as_slice(), classes.as_slice())?;
-    let infos = class_infos(alloc, begin, &places.classes, classes.as_slice())?;
-    let features = feature_infos(alloc, begin, &places, classes.as_slice())?;
-    let lists = own_lists(alloc, infos.as_slice())?;
-    let rows = empty_rows(alloc, infos.as_slice())?;
-    let ranks = zero_ranks(alloc, infos.as_slice())?;
-    let metamodels = one_metamodel(alloc, name, uri, enums)?;
-    Ok(Metas::from_parts(metamodels, infos, features, lists, rows, ranks))
+    let places = places_of(alloc, enums, classes)?;
+    Ok(Numbers {
+        metamodels: one_metamodel(alloc, meta)?,
+        classes: class_infos(alloc, begin, &places.classes, classes)?,
+        features: feature_infos(alloc, begin, &places, classes)?,
+    })
 }
 
 /// The list of one metamodel.
-fn one_metamodel(
-    alloc: Global,
-    name: &Text,
-    uri: &Option<Text>,
-    enums: &Seq<EnumInfo>,
-) -> Result<Vec<MetamodelInfo>, ListFault>
-    ensures { IfOk result (λ v. v.items ≡ record { name = name.now; uri = uri.now; enums = enums.now } ∷ []) }
+fn one_metamodel(alloc: Global, meta: &MetaData) -> Result<Vec<MetamodelInfo>, ListFault>
+    ensures { IfOk result (λ v. v.items ≡ record { name = meta.now.name; uri = meta.now.uri; enums = meta.now.enums } ∷ []) }
 {
     let mut one = Seq::new(alloc);
     one.push(MetamodelInfo {
-        name: name.copy(alloc)?,
-        uri: copy_of_text(alloc, uri)?,
-        enums: enums.copy(alloc)?,
+        name: meta.name.copy(alloc)?,
+        uri: copy_of_text(alloc, &meta.uri)?,
+        enums: meta.enums.copy(alloc)?,
     })?;
     Ok(one.into_vec())
 }

@@ -1,3 +1,4 @@
+use crate::info::EnumInfo;
 use qvt_base::lists::NameList;
 use qvt_base::seq::Seq;
 use qvt_base::text::Text;
@@ -23,4 +24,13 @@ pub struct DeclaredClass {
     pub is_abstract: bool,
     pub supers: NameList,
     pub features: Seq<DeclaredFeature>,
+}
+
+/// What a metamodel's file declares, everything by name.
+#[derive(Debug, Drop)]
+pub struct MetaData {
+    pub name: Text,
+    pub uri: Option<Text>,
+    pub enums: Seq<EnumInfo>,
+    pub classes: Seq<DeclaredClass>,
 }

@@ -5,10 +5,25 @@ use std::alloc::AllocFailed;
 /// Why a metamodel's file is refused.
 #[derive(Debug, Drop)]
 pub enum MetaFault {
-    /// The file is no small metamodel.
-    NotBuilt,
     /// There was no memory.
     NoMemory,
+    /// The file has no JSON value.
+    Json,
+    /// The value is not of the form of a metamodel. The path names the first fault.
+    Shape(Text),
+    /// The name of an enumeration or a class that an earlier one has, or Boolean, Integer or String;
+    /// or a literal that stands twice in its enumeration.
+    SameName(Text),
+    /// A class, and the name in it that is no class as a superclass must be, or no type.
+    UnknownType(Text, Text),
+    /// A class that is its own ancestor.
+    InheritanceCycle(Text),
+    /// A class, and its feature whose lower bound is above the upper one.
+    BadBounds(Text, Text),
+    /// A class, and its feature that may not be a containment or have its opposite.
+    BadOpposite(Text, Text),
+    /// A class, and the name that two different ones of its features have.
+    SameFeature(Text, Text),
 }
 
 impl From<ListFault> for MetaFault {

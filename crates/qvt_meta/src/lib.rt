@@ -3,7 +3,9 @@
 
 mod adding;
 mod begin;
+mod checks;
 pub mod copied;
+mod cycle;
 pub mod declared;
 pub mod fault;
 mod forms;
@@ -12,6 +14,12 @@ mod joining;
 pub mod meta;
 pub mod metas;
 mod names;
-mod plain;
+mod opposites;
+mod order;
 mod reading;
 mod row;
+mod rows;
+mod same_feature;
+pub mod small;
+mod tables;
+mod texts;

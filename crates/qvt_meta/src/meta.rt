@@ -1,30 +1,40 @@
-ghost use Rattle.std.specs.Prelude.{◌≡◌, IfOk, IsTrue};
-ghost use Rattle.qvt_meta.specs.Checked.{is_plain};
-ghost use Rattle.qvt_meta.specs.SmallMeta.{small_meta_of};
+ghost use Rattle.std.specs.Prelude.{◌≡◌, ◌≢◌, ◌<◌, ◌^◌, [], None, Some, length, IfOk, IfErr, OnOk, IsTrue, option_map};
+ghost use Rattle.qvt_json.specs.Steps.{Gives};
+ghost use Rattle.qvt_meta.specs.Added.{declared_at, first_begin, names_of, class_infos};
+ghost use Rattle.qvt_meta.specs.Checked.{Passes};
+ghost use Rattle.qvt_meta.specs.Checks.{same_name, unknown_type, inheritance_cycle};
+ghost use Rattle.qvt_meta.specs.MetaData.{class_names};
+ghost use Rattle.qvt_meta.specs.MetaOf.{features_checked, classes_checked, types_checked, checked, meta_of};
+ghost use Rattle.qvt_meta.specs.Numbered.{AreNumbers};
+ghost use Rattle.qvt_meta.specs.Tables.{of_classes, AreTables};
 
-use crate::adding::{alone_of, has_room};
-use crate::declared::DeclaredClass;
+use crate::adding::{Numbers, has_room, numbers_of};
+use crate::checks::{bad_bounds, same_name, unknown_type};
+use crate::cycle::first_cycle;
+use crate::declared::{DeclaredClass, MetaData};
 use crate::fault::MetaFault;
-use crate::forms::SmallForm;
-use crate::info::EnumInfo;
+use crate::forms::MetaForm;
+use crate::info::ClassInfo;
 use crate::metas::Metas;
-use crate::plain::{have_texts, is_plain};
-use crate::reading::{classes_at, enums_at, text_of_key};
+use crate::names::{names_of, type_names};
+use crate::opposites::bad_opposite;
+use crate::reading::meta_data;
+use crate::same_feature::same_feature;
+use crate::tables::{Tables, tables_of};
+use crate::texts::have_texts;
+use indexmap::IndexSet;
+use qvt_base::copied::Copied;
 use qvt_base::list_fault::ListFault;
-use qvt_base::seq::Seq;
 use qvt_base::text::Text;
-use qvt_json::shape::Form;
-use qvt_json::value::{read_value, text_or};
+use qvt_json::shape::shape_fault;
+use qvt_json::value::read_value;
 use std::alloc::Global;
 use std::marker::Model;
 
 /// A metamodel that was read and checked.
 #[derive(Debug, Drop)]
 pub struct Meta {
-    name: Text,
-    uri: Option<Text>,
-    enums: Seq<EnumInfo>,
-    classes: Seq<DeclaredClass>,
+    meta: MetaData,
     alone: Metas,
 }
 
@@ -34,41 +44,173 @@ impl Model for Meta {
 
     ghost Value = { MetaData };
 
-    ghost view = { λ m. record { name = m.name; uri = m.uri; enums = m.enums; classes = m.classes } };
+    ghost view = { λ m. m.meta };
 
-    ghost invariant = { λ m. IsMeta (record { name = m.name; uri = m.uri; enums = m.enums; classes = m.classes }) m.alone };
+    ghost invariant = { λ m. IsMeta m.meta m.alone };
 }
 
-/// A metamodel of checked data.
-fn checked(
-    alloc: Global,
-    name: Text,
-    uri: Option<Text>,
-    enums: Seq<EnumInfo>,
-    classes: Seq<DeclaredClass>,
-) -> Result<Meta, ListFault>
-    requires { IsTrue (is_plain (record { name = name; uri = uri; enums = enums; classes = classes })) }
-    ensures { IfOk result (λ m. m ≡ record { name = name; uri = uri; enums = enums; classes = classes }) }
+/// A metamodel whose data passed every check, from its numbered parts.
+fn made(meta: MetaData, numbers: Numbers, tables: Tables) -> Meta
+    requires passes { Passes meta }
+    requires named { meta.name ≢ [] }
+    requires numbers { AreNumbers meta numbers }
+    requires tables { AreTables (of_classes numbers.classes.items) tables.lists.items tables.rows.items tables.ranks.items }
+    ensures { result ≡ meta }
 {
-    let _name = name.as_str();
-    have_texts(classes.as_slice());
-    let alone = alone_of(alloc, &name, &uri, &enums, &classes)?;
-    Ok(Meta {
-        name,
-        uri,
-        enums,
+    have_texts(&meta);
+    let Numbers {
+        metamodels,
         classes,
-        alone,
-    })
+        features,
+    } = numbers;
+    let alone = Metas::from_parts(metamodels, classes, features, tables);
+    Meta { meta, alone }
+}
+
+fn class_name(classes: &[DeclaredClass], class: usize) -> &Text
+    requires { class < length classes.now }
+    ensures { result.now ≡ (declared_at classes.now class).name }
+{
+    &classes[class].name
+}
+
+/// The refusal of classes of which one is above itself.
+fn cycle_fault(
+    alloc: Global,
+    meta: &MetaData,
+    classes: &[ClassInfo],
+    count: u32,
+) -> Result<MetaFault, ListFault>
+    requires count { length classes.now ≡ count }
+    requires classes { classes.now ≡ class_infos first_begin (names_of meta.now.classes) 0 meta.now.classes }
+    ensures { IfOk result (λ fault. fault ≢ MetaFault.NoMemory → option_map MetaFault.InheritanceCycle (inheritance_cycle meta.now) ≡ Some fault) }
+{
+    match first_cycle(alloc, classes, count)? {
+        Some(class) => {
+            let name = class_name(meta.classes.as_slice(), class as usize);
+            Ok(MetaFault::InheritanceCycle(name.copy(alloc)?))
+        }
+        None => Ok(MetaFault::NoMemory),
+    }
+}
+
+/// The tables of the classes, or the refusal of one that is above itself.
+fn tables_or_cycle(
+    alloc: Global,
+    meta: &MetaData,
+    classes: &[ClassInfo],
+) -> Result<Tables, MetaFault>
+    requires few { length classes.now < 2 ^ 32 }
+    requires classes { classes.now ≡ class_infos first_begin (names_of meta.now.classes) 0 meta.now.classes }
+    ensures tables { IfOk result (λ t. AreTables (of_classes classes.now) t.lists.items t.rows.items t.ranks.items) }
+    ensures none { OnOk result (inheritance_cycle meta.now ≡ None) }
+    ensures cycle { IfErr result (λ fault. fault ≢ MetaFault.NoMemory → option_map MetaFault.InheritanceCycle (inheritance_cycle meta.now) ≡ Some fault) }
+{
+    let count = classes.len() as u32;
+    match tables_of(alloc, classes, count)? {
+        Some(tables) => Ok(tables),
+        None => Err(cycle_fault(alloc, meta, classes, count)?),
+    }
+}
+
+/// A metamodel whose names, types and classes passed the checks, or the first check of its features
+/// that fails.
+#[tactic(auto, unfolding(crate::specs::MetaOf::features_checked))]
+fn features_checked(
+    alloc: Global,
+    meta: MetaData,
+    names: &IndexSet<Text>,
+    numbers: Numbers,
+    tables: Tables,
+) -> Result<Meta, MetaFault>
+    requires named { meta.name ≢ [] }
+    requires names { names.now.keys ≡ class_names meta }
+    requires same_name { same_name meta ≡ None }
+    requires unknown_type { unknown_type meta ≡ None }
+    requires cycle { inheritance_cycle meta ≡ None }
+    requires numbers { AreNumbers meta numbers }
+    requires tables { AreTables (of_classes numbers.classes.items) tables.lists.items tables.rows.items tables.ranks.items }
+    ensures { Gives MetaFault.NoMemory (λ read. read) result (features_checked meta) }
+{
+    if let Some((class, feature)) = bad_bounds(alloc, &meta)? {
+        return Err(MetaFault::BadBounds(class, feature));
+    }
+    if let Some((class, feature)) = bad_opposite(alloc, names, &meta)? {
+        return Err(MetaFault::BadOpposite(class, feature));
+    }
+    if let Some((class, name)) = same_feature(alloc, &meta, &numbers, &tables.lists)? {
+        return Err(MetaFault::SameFeature(class, name));
+    }
+    Ok(made(meta, numbers, tables))
+}
+
+/// The same after the checks of names and types.
+#[tactic(auto, unfolding(crate::specs::MetaOf::classes_checked))]
+fn classes_checked(
+    alloc: Global,
+    meta: MetaData,
+    names: &IndexSet<Text>,
+) -> Result<Meta, MetaFault>
+    requires named { meta.name ≢ [] }
+    requires names { names.now.keys ≡ class_names meta }
+    requires same_name { same_name meta ≡ None }
+    requires unknown_type { unknown_type meta ≡ None }
+    ensures { Gives MetaFault.NoMemory (λ read. read) result (classes_checked meta) }
+{
+    let numbers = numbers_of(alloc, &meta)?;
+    let tables = tables_or_cycle(alloc, &meta, numbers.classes.as_slice())?;
+    features_checked(alloc, meta, names, numbers, tables)
+}
+
+/// The same after the check of names.
+#[tactic(auto, unfolding(crate::specs::MetaOf::types_checked))]
+fn types_checked(alloc: Global, meta: MetaData) -> Result<Meta, MetaFault>
+    requires named { meta.name ≢ [] }
+    requires same_name { same_name meta ≡ None }
+    ensures { Gives MetaFault.NoMemory (λ read. read) result (types_checked meta) }
+{
+    let names = names_of(alloc, meta.classes.as_slice())?;
+    let types = type_names(alloc, &meta)?;
+    if let Some((class, name)) = unknown_type(alloc, &names, &types, &meta)? {
+        return Err(MetaFault::UnknownType(class, name));
+    }
+    classes_checked(alloc, meta, &names)
+}
+
+/// A metamodel of this data, or the first check that fails.
+#[tactic(auto, unfolding(crate::specs::MetaOf::checked))]
+fn checked(alloc: Global, meta: MetaData) -> Result<Meta, MetaFault>
+    requires { meta.name ≢ [] }
+    ensures { Gives MetaFault.NoMemory (λ read. read) result (checked meta) }
+{
+    if let Some(name) = same_name(alloc, &meta)? {
+        return Err(MetaFault::SameName(name));
+    }
+    types_checked(alloc, meta)
+}
+
+/// The metamodel of a file, or the first refusal: the file has no JSON value, the value is not of
+/// the form of a metamodel, or the first check that fails (EMOF 12.5).
+#[tactic(auto, unfolding(crate::specs::MetaOf::meta_of))]
+pub fn read_meta(alloc: Global, bytes: &[u8]) -> Result<Meta, MetaFault>
+    ensures { Gives MetaFault.NoMemory (λ read. read) result (meta_of bytes.now) }
+{
+    let Some(value) = read_value(alloc, bytes)? else {
+        return Err(MetaFault::Json);
+    };
+    if let Some(path) = shape_fault(alloc, &MetaForm {}, &value)? {
+        return Err(MetaFault::Shape(path));
+    }
+    checked(alloc, meta_data(alloc, &value)?)
 }
 
 impl Meta {
-    ghost use Rattle.qvt_meta.specs.Added.{numbered};
+    ghost use Rattle.qvt_meta.specs.Added.{numbered, HasRoom};
 
     pub fn name(&self) -> &Text
         ensures { result.now ≡ self.now.name }
     {
-        &self.name
+        &self.meta.name
     }
 
     /// The metamodel with numbers from 0 on.
@@ -77,41 +219,11 @@ impl Meta {
     {
         &self.alone
     }
-}
-
-/// Reads a small metamodel from the bytes of its file: classes whose features are whole numbers.
-#[tactic(auto, unfolding(crate::specs::SmallMeta::small_meta_of, crate::specs::DataOf::meta_data))]
-pub fn read_meta(alloc: Global, bytes: &[u8]) -> Result<Meta, MetaFault>
-    ensures ok { IfOk result (λ meta. small_meta_of bytes.now ≡ Some meta) }
-
-    // Refused as not built exactly where the bytes are no small metamodel.
-    ensures not_built { result ≡ Err MetaFault.NotBuilt → small_meta_of bytes.now ≡ None }
-{
-    let Some(value) = read_value(alloc, bytes)? else {
-        return Err(MetaFault::NotBuilt);
-    };
-    let form = SmallForm {}.fault(alloc, &value)?;
-    if form.is_some() {
-        return Err(MetaFault::NotBuilt);
-    }
-    let name = Text::from_str(alloc, text_or(&value, "name"))?;
-    let uri = text_of_key(alloc, &value, "uri")?;
-    let enums = enums_at(alloc, &value)?;
-    let classes = classes_at(alloc, &value)?;
-    if !is_plain(alloc, enums.as_slice(), classes.as_slice())? {
-        return Err(MetaFault::NotBuilt);
-    }
-    Ok(checked(alloc, name, uri, enums, classes)?)
-}
-
-impl Meta {
-    ghost use Rattle.std.specs.Prelude.{[]};
-    ghost use Rattle.qvt_meta.specs.Added.{HasRoom};
 
     /// Whether the numbers of its classes and features fit 32 bits. It takes no memory.
     pub fn has_few(&self) -> bool
         ensures { IsTrue result → HasRoom (record { metamodels = []; classes = []; features = []; element = None }) self.now }
     {
-        has_room(self.enums.as_slice(), self.classes.as_slice())
+        has_room(self.meta.enums.as_slice(), self.meta.classes.as_slice())
     }
 }

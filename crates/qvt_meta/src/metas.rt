@@ -5,7 +5,6 @@ ghost use Rattle.qvt_meta.specs.Metamodels.{class_at, feature_at, shape_of, oppo
 ghost use Rattle.qvt_meta.specs.Descends.{descends, Descends};
 ghost use Rattle.qvt_meta.specs.WellFormed.{IsWellFormed};
 ghost use Rattle.qvt_meta.specs.Named.{is_text};
-ghost use Rattle.qvt_meta.specs.Kept.{is_marked};
 
 use crate::begin::Begin;
 use crate::copied::{copies, joined};
@@ -14,6 +13,8 @@ use crate::info::{ClassInfo, EnumInfo, FeatureInfo, FeatureShape, MetamodelInfo,
 use crate::joining::{class_infos_on, feature_infos_on, lists_on, ranks_on, rows_on};
 use crate::meta::Meta;
 use crate::row::Row;
+use crate::rows::is_marked;
+use crate::tables::Tables;
 use qvt_base::copied::Copied;
 use qvt_base::list_fault::ListFault;
 use qvt_base::lists::FeatureNoList;
@@ -70,13 +71,12 @@ impl Metas {
         metamodels: Vec<MetamodelInfo>,
         classes: Vec<ClassInfo>,
         features: Vec<FeatureInfo>,
-        lists: Vec<FeatureNoList>,
-        rows: Vec<Row>,
-        ranks: Vec<u32>,
+        tables: Tables,
     ) -> Metas
-        requires { IsKept (record { metamodels = metamodels.items; classes = classes.items; features = features.items; element = None }) lists.items rows.items ranks.items }
+        requires { IsKept (record { metamodels = metamodels.items; classes = classes.items; features = features.items; element = None }) tables.lists.items tables.rows.items tables.ranks.items }
         ensures { result ≡ record { metamodels = metamodels.items; classes = classes.items; features = features.items; element = None } }
     {
+        let Tables { lists, rows, ranks } = tables;
         Metas {
             metamodels,
             classes,
@@ -437,21 +437,6 @@ fn are_named(metamodels: &[MetamodelInfo], name: &Text) -> bool
     ensures { result ≡ list_any (λ m. bytes_eq name.now m.name) metamodels.now }
 {
     metamodels.iter().any(|m| name.as_str() == m.name.as_str())
-}
-
-/// Whether a class is marked in a row.
-fn is_marked(row: &Row, class: u32) -> bool
-    ensures { result ≡ is_marked row.now class }
-{
-    if class < row.first {
-        return false;
-    }
-    let place = (class - row.first) as usize;
-    if place < row.above.len() {
-        row.above.as_slice()[place]
-    } else {
-        false
-    }
 }
 
 impl Copied for Metas {

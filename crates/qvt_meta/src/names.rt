@@ -1,7 +1,8 @@
 ghost use Rattle.std.specs.Prelude.{◌≡◌, ℕ, None, List, [], map, IfOk, OnErr, OnOk, MatchResult, codes, ◌∷◌, ◌++◌, false};
+ghost use Rattle.qvt_meta.specs.Checks.{same_name, type_names};
 ghost use Rattle.qvt_meta.specs.Names.{primitive_names, is_among, repeated};
 
-use crate::declared::{DeclaredClass, DeclaredFeature};
+use crate::declared::{DeclaredClass, DeclaredFeature, MetaData};
 use crate::info::EnumInfo;
 use indexmap::IndexSet;
 use qvt_base::copied::Copied;
@@ -89,14 +90,35 @@ impl Named for EnumInfo {
     }
 }
 
+/// These names, and then those of the items, none of which is taken or stands twice.
+pub fn names_with<T: Named>(
+    alloc: Global,
+    mut names: IndexSet<Text>,
+    items: &[T],
+) -> Result<IndexSet<Text>, ListFault>
+    requires { repeated names.keys (map T.name_of items.now) ≡ None }
+    ensures { IfOk result (λ all. all.keys ≡ names.keys ++ map T.name_of items.now) }
+{
+    for item in items {
+        add_name(&mut names, item.name().copy(alloc)?)?;
+    }
+    Ok(names)
+}
+
+/// The names of all types: the primitive ones, the enumerations and the classes.
+#[tactic(auto, using(crate::proofs::Passing::enums_differ, crate::proofs::Passing::classes_differ))]
+pub fn type_names(alloc: Global, meta: &MetaData) -> Result<IndexSet<Text>, ListFault>
+    requires { same_name meta.now ≡ None }
+    ensures { IfOk result (λ names. names.keys ≡ type_names meta.now) }
+{
+    let types = names_with(alloc, primitive_names(alloc)?, meta.enums.as_slice())?;
+    names_with(alloc, types, meta.classes.as_slice())
+}
+
 /// The names of these, no two of which are the same.
 pub fn names_of<T: Named>(alloc: Global, items: &[T]) -> Result<IndexSet<Text>, ListFault>
     requires { repeated [] (map T.name_of items.now) ≡ None }
     ensures { IfOk result (λ names. names.keys ≡ map T.name_of items.now) }
 {
-    let mut names = IndexSet::new(alloc);
-    for item in items {
-        add_name(&mut names, item.name().copy(alloc)?)?;
-    }
-    Ok(names)
+    names_with(alloc, IndexSet::new(alloc), items)
 }

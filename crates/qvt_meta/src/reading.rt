@@ -4,9 +4,9 @@ ghost use Rattle.std.specs.Prelude.{◌≡◌, codes, IfOk, option_map, min};
 ghost use Rattle.serde_json.specs.Find.{get};
 ghost use Rattle.serde_json.specs.View.{view, items_view};
 ghost use Rattle.qvt_json.specs.Json.{text_at, items_or};
-ghost use Rattle.qvt_meta.specs.DataOf.{map_items, text_of, bound, flag_or, upper_of, feature_data, class_data, enum_data};
+ghost use Rattle.qvt_meta.specs.DataOf.{map_items, text_of, bound, flag_or, upper_of, feature_data, class_data, enum_data, meta_data};
 
-use crate::declared::{DeclaredClass, DeclaredFeature};
+use crate::declared::{DeclaredClass, DeclaredFeature, MetaData};
 use crate::info::EnumInfo;
 use qvt_base::list_fault::ListFault;
 use qvt_base::lists::NameList;
@@ -45,7 +45,7 @@ fn upper_of(value: &Value) -> Option<u32>
 }
 
 /// The text at the key, if there is one.
-pub fn text_of_key(alloc: Global, value: &Value, key: &str) -> Result<Option<Text>, ListFault>
+fn text_of_key(alloc: Global, value: &Value, key: &str) -> Result<Option<Text>, ListFault>
     ensures { IfOk result (λ o. o ≡ text_at key.now (view value.now)) }
 {
     match text_at(value, key) {
@@ -140,7 +140,7 @@ fn classes_of(alloc: Global, items: &Vec<Value>) -> Result<Seq<DeclaredClass>, L
 }
 
 /// The classes of a metamodel's value.
-pub fn classes_at(alloc: Global, value: &Value) -> Result<Seq<DeclaredClass>, ListFault>
+fn classes_at(alloc: Global, value: &Value) -> Result<Seq<DeclaredClass>, ListFault>
     ensures { IfOk result (λ cs. cs ≡ map_items class_data (items_or (codes "classes") (view value.now))) }
 {
     match items_at(value, "classes") {
@@ -170,11 +170,24 @@ fn enums_of(alloc: Global, items: &Vec<Value>) -> Result<Seq<EnumInfo>, ListFaul
 }
 
 /// The enumerations of a metamodel's value.
-pub fn enums_at(alloc: Global, value: &Value) -> Result<Seq<EnumInfo>, ListFault>
+fn enums_at(alloc: Global, value: &Value) -> Result<Seq<EnumInfo>, ListFault>
     ensures { IfOk result (λ es. es ≡ map_items enum_data (items_or (codes "enums") (view value.now))) }
 {
     match items_at(value, "enums") {
         Some(items) => Ok(enums_of(alloc, items)?),
         None => Ok(Seq::new(alloc)),
     }
+}
+
+/// The data of a metamodel's value.
+#[tactic(auto, unfolding(crate::specs::DataOf::meta_data))]
+pub fn meta_data(alloc: Global, value: &Value) -> Result<MetaData, ListFault>
+    ensures { IfOk result (λ d. d ≡ meta_data (view value.now)) }
+{
+    Ok(MetaData {
+        name: Text::from_str(alloc, text_or(value, "name"))?,
+        uri: text_of_key(alloc, value, "uri")?,
+        enums: enums_at(alloc, value)?,
+        classes: classes_at(alloc, value)?,
+    })
 }

@@ -1,0 +1,96 @@
+-- The classes of a metamodel that are their own ancestors, by name and by number.
+use Rattle.std.proofs.Common.{◌≡◌, ◌∙◌, ℕ, zero, suc, ◌+◌, ◌<◌, ◌≤◌, List, [], ◌∷◌, length, map, get_or, Bool, true, false, refl, ap, sym, subst, arith, ◌==◌, ◌||◌, ◌⊎◌, inl, inr, Option, Some, None, option_map}
+use Rattle.std.specs.Prelude.{slice_index, if◌then◌else◌, IsTrue}
+use Rattle.std.specs.List.{list_any}
+use Rattle.std.proofs.lemmas.List.{get_or_past}
+use Rattle.std.proofs.lemmas.Bool.Decides.{leb_tells}
+use Rattle.qvt_base.specs.declared.numbers.ClassNo.{ClassNo}
+use Rattle.qvt_relation.specs.Closure.{Closure, directly, through, reaches}
+use Rattle.qvt_relation.proofs.Closures.{reaches-closure}
+use Rattle.qvt_meta.specs.declared.info.ClassInfo.{ClassInfo}
+use Rattle.qvt_meta.specs.declared.declared.DeclaredClass.{DeclaredClass}
+use Rattle.qvt_meta.specs.MetaData.{MetaData, class_names}
+use Rattle.qvt_meta.specs.Metamodels.{class_at, nowhere_class}
+use Rattle.qvt_meta.specs.Descends.{is_superclass}
+use Rattle.qvt_meta.specs.Kept.{AreRanks}
+use Rattle.qvt_meta.specs.Added.{declared_at, nothing_declared, names_of, place_in, first_begin, class_info, class_infos}
+use Rattle.qvt_meta.specs.Checks.{first_from, is_super, inheritance_cycle}
+use Rattle.qvt_meta.specs.Tables.{of_classes}
+use Rattle.qvt_json.specs.Steps.{or_next}
+use Rattle.qvt_meta.specs.Cycles.{AreLive, is_own_ancestor, cycle_from, first_cycle}
+use Rattle.qvt_meta.proofs.Bools.{ap2, clash, not_true}
+use Rattle.qvt_meta.proofs.Lists.{list_any-map}
+use Rattle.qvt_meta.proofs.Owners.{all-there}
+use Rattle.qvt_meta.proofs.Infos.{length-class_infos}
+use Rattle.qvt_meta.proofs.Visits.{R}
+use Rattle.qvt_meta.proofs.Whole.{class_is, past_class, live_superclass_at}
+
+module _ (d : MetaData) where
+  abbrev ks : List DeclaredClass
+  ks = d.classes
+
+  abbrev infos : List ClassInfo
+  infos = class_infos first_begin (names_of ks) 0 ks
+
+  pub live : AreLive infos
+  live c s h = live_superclass_at d c s h
+
+  pub total : length infos ≡ length ks
+  total = length-class_infos first_begin (names_of ks) 0 ks
+
+  any_place : (names xs : List (List ℕ)) (j : ℕ) → list_any (λ (s : ClassNo). s.0 == j) (map (λ name. record { 0 = 0 + place_in names name }) xs) ≡ list_any (λ name. place_in names name == j) xs
+  any_place names [] j = refl
+  any_place names (x ∷ xs) j = ap2 (λ a b. a || b) (ap (λ n. n == j) (let same : 0 + place_in names x ≡ place_in names x = omega arith in same)) (any_place names xs j)
+
+  super_same : (i j : ℕ) → is_superclass (of_classes infos) i j ≡ is_super d i j
+  unfolding class_info
+  super_same i j = elim (leb_tells (suc i) (length ks)) [
+    | inl t ↦ ap (λ (k : ClassInfo). list_any (λ s. s.0 == j) k.supers) (class_is d i (omega (arith, t.1))) ∙ any_place (names_of ks) (declared_at ks i).supers j
+    | inr f ↦ ap (λ (k : ClassInfo). list_any (λ s. s.0 == j) k.supers) (past_class d i (omega (arith, f.1)))
+        ∙ sym (ap (λ (k : DeclaredClass). list_any (λ name. place_in (class_names d) name == j) k.supers) (get_or_past ks i nothing_declared (omega (arith, f.1))))
+  ]
+
+  own_same : (i : ℕ) → is_own_ancestor infos i ≡ reaches (is_super d) (length ks) i i
+  own_same i = (λ t. reaches (λ x y. super_same x y t) (total t) i i)
+
+  cycle_names : (c : ℕ) (left : List DeclaredClass) → ((i : ℕ) → i < length left → declared_at ks (c + i) ≡ get_or left i nothing_declared)
+      → first_from (λ i k. if reaches (is_super d) (length ks) i i then Some k.name else None) c left ≡ option_map (λ i. (declared_at ks i).name) (cycle_from infos c (length left))
+  cycle_names c [] at = refl
+  cycle_names c (k ∷ left) at =
+      by (is_own_ancestor infos c) (reaches (is_super d) (length ks) c c) (own_same c) k.name
+      (sym (ap (λ (x : DeclaredClass). x.name) (ap (declared_at ks) (let same : c ≡ c + 0 = omega arith in same) ∙ at 0 (omega arith))))
+      (first_from (λ i k. if reaches (is_super d) (length ks) i i then Some k.name else None) (suc c) left) (cycle_from infos (suc c) (length left))
+      (cycle_names (suc c) left (λ i l. ap (declared_at ks) (let same : suc c + i ≡ c + suc i = omega arith in same) ∙ at (suc i) (omega (arith, l))))
+    where
+      by : (a b : Bool) → a ≡ b → (x : List ℕ) → x ≡ (declared_at ks c).name → (o : Option (List ℕ)) (p : Option ℕ) → o ≡ option_map (λ i. (declared_at ks i).name) p
+          → or_next (if b then Some x else None) o ≡ option_map (λ i. (declared_at ks i).name) (if a then Some c else p)
+      by true true e x n o p q = ap (λ z. Some z) n
+      by true false e x n o p q = clash refl e
+      by false true e x n o p q = clash refl (sym e)
+      by false false e x n o p q = q
+
+  pub cycle_is : inheritance_cycle d ≡ option_map (λ i. (declared_at ks i).name) (first_cycle infos)
+  unfolding inheritance_cycle
+  cycle_is = cycle_names 0 ks (λ i l. ap (declared_at ks) (let same : 0 + i ≡ i = omega arith in same)) ∙ ap (λ n. option_map (λ i. (declared_at ks i).name) (cycle_from infos 0 n)) (sym total)
+
+-- ranks that rise leave no class above itself
+module _ (ks : List ClassInfo) (ranks : List ℕ) (ok : AreRanks (of_classes ks) ranks) where
+  rises : {x y : ℕ} → Closure (R ks) x y → slice_index ranks y < slice_index ranks x
+  rises (directly {x} {y} h) = all-there (λ s. slice_index ranks s < slice_index ranks x) (class_at (of_classes ks) x).supers y (ok.rise x) h
+  rises (through {x} {y} {z} h p) = (let more : slice_index ranks z < slice_index ranks y = rises p in let step : slice_index ranks y < slice_index ranks x = all-there (λ s. slice_index ranks s < slice_index ranks x) (class_at (of_classes ks) x).supers y (ok.rise x) h in omega (arith, more, step))
+
+  not_itself : (c : ℕ) → is_own_ancestor ks c ≡ false
+  not_itself c = not_true (is_own_ancestor ks c) (λ h. never (rises (reaches-closure (is_superclass (of_classes ks)) (R ks) (record { sound = λ x y h. h; complete = λ x y h. h }) (length ks) c c h)))
+    where
+      never : slice_index ranks c < slice_index ranks c → ⊥
+      never l = omega arith
+
+  none_from : (c n : ℕ) → cycle_from ks c n ≡ None
+  none_from c zero = refl
+  none_from c (suc n) = ap (λ b. if b then Some c else cycle_from ks (suc c) n) (not_itself c) ∙ none_from (suc c) n
+
+  pub no_cycle : first_cycle ks ≡ None
+  no_cycle = none_from 0 (length ks)
+
+pub no_inheritance_cycle : (d : MetaData) (ks : List ClassInfo) (ranks : List ℕ) → ks ≡ class_infos first_begin (names_of d.classes) 0 d.classes → AreRanks (of_classes ks) ranks → inheritance_cycle d ≡ None
+no_inheritance_cycle d ks ranks e ok = cycle_is d ∙ ap (option_map (λ i. (declared_at d.classes i).name)) (ap first_cycle (sym e) ∙ no_cycle ks ranks ok)

@@ -1,0 +1,93 @@
+-- A metamodel that passed the checks with the tables that the code makes.
+use Rattle.std.proofs.Common.{◌≡◌, ◌∙◌, ℕ, zero, suc, List, [], ◌∷◌, ◌++◌, length, map, get_or, refl, ap, sym, subst, None, true, ◌==◌, ◌||◌}
+use Rattle.std.specs.List.{list_all, list_any, flat_map}
+use Rattle.qvt_base.specs.declared.numbers.FeatureNo.{FeatureNo}
+use Rattle.qvt_base.specs.declared.numbers.ClassNo.{ClassNo}
+use Rattle.qvt_meta.specs.declared.info.MetamodelInfo.{MetamodelInfo}
+use Rattle.qvt_meta.specs.declared.info.ClassInfo.{ClassInfo}
+use Rattle.qvt_meta.specs.declared.info.FeatureInfo.{FeatureInfo}
+use Rattle.qvt_meta.specs.declared.row.Row.{Row}
+use Rattle.qvt_meta.specs.declared.adding.Numbers.{Numbers}
+use Rattle.qvt_meta.specs.Metamodels.{Metamodels, class_at, features_in, features_of, each_once, nowhere_feature}
+use Rattle.qvt_meta.specs.Descends.{is_above, reaches}
+use Rattle.qvt_meta.specs.Kept.{AreRanks, IsKept}
+use Rattle.qvt_meta.specs.MetaData.{MetaData, enum_names}
+use Rattle.qvt_meta.specs.Checked.{Passes, IsChecked}
+use Rattle.qvt_meta.specs.Numbered.{AreNumbers, IsMeta}
+use Rattle.qvt_meta.specs.Added.{numbered, first_begin, names_of, class_infos, feature_infos}
+use Rattle.qvt_meta.specs.Tables.{of_classes, AreTables}
+use Rattle.qvt_meta.specs.Names.{repeated}
+use Rattle.qvt_meta.specs.Checks.{repeated_feature}
+use Rattle.qvt_meta.proofs.Infos.{length-class_infos}
+use Rattle.qvt_meta.proofs.Lists.{all-every, list_any-cong, flat_map-cong}
+use Rattle.qvt_meta.proofs.Whole.{M, is_numbered, well_formed}
+
+-- what the tables hold depends on the classes alone
+pub features_same : (m : Metamodels) (k c : ℕ) → features_in k (of_classes m.classes) c ≡ features_in k m c
+features_same m zero c = refl
+features_same m (suc k) c =
+    ap (λ l. each_once [] l ++ (class_at m c).own)
+    (flat_map-cong _ _ (class_at m c).supers (all-every (λ (s : ClassNo). features_in k (of_classes m.classes) s.0 ≡ features_in k m s.0) (class_at m c).supers (λ s. features_same m k s.0)))
+
+pub above_same : (m : Metamodels) (k d c : ℕ) → is_above k (of_classes m.classes) d c ≡ is_above k m d c
+above_same m zero d c = refl
+above_same m (suc k) d c =
+    list_any-cong _ _ (class_at m c).supers
+    (all-every (λ (s : ClassNo). ((s.0 == d) || is_above k (of_classes m.classes) d s.0) ≡ ((s.0 == d) || is_above k m d s.0)) (class_at m c).supers (λ s. ap (λ t. (s.0 == d) || t) (above_same m k d s.0)))
+
+pub features_of_same : (m : Metamodels) (c : ℕ) → features_of (of_classes m.classes) c ≡ features_of m c
+unfolding features_of
+features_of_same m c = features_same m (length m.classes) c
+
+pub reaches_same : (m : Metamodels) (c d : ℕ) → reaches (of_classes m.classes) c d ≡ reaches m c d
+unfolding reaches
+reaches_same m c d = above_same m (length m.classes) d c
+
+pub ranks_same : (m : Metamodels) (ranks : List ℕ) → AreRanks (of_classes m.classes) ranks → AreRanks m ranks
+ranks_same m ranks ok = record { each = ok.each; bounded = ok.bounded; rise = ok.rise }
+
+pub tables_same : (m : Metamodels) (lists : List (List FeatureNo)) (rows : List Row) (ranks : List ℕ) → AreTables (of_classes m.classes) lists rows ranks → AreTables m lists rows ranks
+tables_same m lists rows ranks ok = record {
+  ranked = ranks_same m ranks ok.ranked;
+  each = ok.each;
+  each_row = ok.each_row;
+  first_rows = ok.first_rows;
+  features = λ c. ok.features c ∙ features_of_same m c;
+  ancestors = λ c d. ok.ancestors c d ∙ reaches_same m c d;
+}
+
+pub same_parts : (d : MetaData) (n : Numbers) → AreNumbers d n
+    → record { metamodels = n.metamodels.items; classes = n.classes.items; features = n.features.items; element = None } ≡ M d
+same_parts d n ok = λ i. record { metamodels = ok.metamodels i; classes = ok.classes i; features = ok.features i; element = None }
+
+pub one_kept : (d : MetaData) (n : Numbers) (lists : List (List FeatureNo)) (rows : List Row) (ranks : List ℕ) → IsChecked d → AreNumbers d n → AreTables (of_classes n.classes.items) lists rows ranks
+    → IsKept (record { metamodels = n.metamodels.items; classes = n.classes.items; features = n.features.items; element = None }) lists rows ranks
+one_kept d n lists rows ranks ok numbers tables =
+    let t : AreTables (M d) lists rows ranks = tables_same (M d) lists rows ranks (subst (λ ks. AreTables (of_classes ks) lists rows ranks) numbers.classes tables) in
+    subst (λ m. IsKept m lists rows ranks) (sym (same_parts d n numbers)) (record {
+      well_formed = well_formed d ok ranks t.ranked numbers.room numbers.literals;
+      ranked = t.ranked;
+      each = t.each;
+      each_row = t.each_row;
+      first_rows = t.first_rows;
+      features = t.features;
+      ancestors = t.ancestors;
+    })
+
+pub one_numbered : (d : MetaData) (n : Numbers) → AreNumbers d n
+    → record { metamodels = n.metamodels.items; classes = n.classes.items; features = n.features.items; element = None } ≡ numbered d
+one_numbered d n ok = same_parts d n ok ∙ sym (is_numbered d)
+
+pub repeated_same : (d : MetaData) (n : Numbers) (c : ℕ) (fs : List FeatureInfo) (gs : List FeatureNo) → AreNumbers d n → fs ≡ n.features.items → gs ≡ features_of (numbered d) c
+    → repeated [] (map (λ f. (get_or fs f.0 nowhere_feature).name) gs) ≡ repeated_feature (numbered d) c
+repeated_same d n c fs gs ok e is =
+    let same : fs ≡ (numbered d).features = e ∙ ok.features ∙ sym (ap (λ (m : Metamodels). m.features) (is_numbered d)) in
+    λ i. repeated [] (map (λ f. (get_or (same i) f.0 nowhere_feature).name) (is i))
+
+pub lists_numbered : (d : MetaData) (n : Numbers) (lists : List (List FeatureNo)) (rows : List Row) (ranks : List ℕ) → AreNumbers d n → AreTables (of_classes n.classes.items) lists rows ranks
+    → (c : ℕ) → get_or lists c [] ≡ features_of (numbered d) c
+lists_numbered d n lists rows ranks ok tables c =
+    (tables_same (M d) lists rows ranks (subst (λ ks. AreTables (of_classes ks) lists rows ranks) ok.classes tables)).features c ∙ ap (λ m. features_of m c) (sym (is_numbered d))
+
+pub lists_total : (d : MetaData) (n : Numbers) (lists : List (List FeatureNo)) (rows : List Row) (ranks : List ℕ) → AreNumbers d n → AreTables (of_classes n.classes.items) lists rows ranks → length lists ≡ length d.classes
+lists_total d n lists rows ranks ok tables = tables.each ∙ ap length ok.classes ∙ length-class_infos first_begin (names_of d.classes) 0 d.classes

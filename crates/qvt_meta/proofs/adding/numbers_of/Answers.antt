@@ -1,0 +1,12 @@
+use Rattle.std.proofs.Common.{◌≡◌, ◌∙◌, [], map, ap}
+use Rattle.qvt_meta.specs.declared.info.EnumInfo.{EnumInfo}
+use Rattle.qvt_meta.specs.Names.{repeated}
+use Rattle.qvt_meta.specs.Added.{names_of}
+use Rattle.qvt_meta.proofs.Passing.{enums_alone, classes_alone}
+use Rattle.qvt_meta.proofs.adding.numbers_of.Goals as goal
+
+pub places_of-requires-clause-enums : goal.places_of-requires-clause-enums
+places_of-requires-clause-enums c = ap (λ es. repeated [] (map (λ (e : EnumInfo). e.name) es)) c.as_slice-enums.ensures ∙ enums_alone c.args.meta.now c.requires
+
+pub places_of-requires-clause-classes : goal.places_of-requires-clause-classes
+places_of-requires-clause-classes c = ap (λ ks. repeated [] (names_of ks)) c.as_slice-classes.ensures ∙ classes_alone c.args.meta.now c.requires

@@ -1,0 +1,16 @@
+use Rattle.std.proofs.Common.{◌≡◌, ◌∙◌, [], ap, sym, option_map}
+use Rattle.qvt_json.specs.Steps.{◌>>=◌, none_of}
+use Rattle.qvt_meta.specs.declared.fault.MetaFault.TheVariants.{UnknownType}
+use Rattle.qvt_meta.specs.MetaOf.{tell, classes_checked, types_checked}
+use Rattle.qvt_meta.specs.Names.{repeated}
+use Rattle.qvt_meta.specs.Added.{names_of}
+use Rattle.qvt_meta.proofs.Passing.{classes_alone}
+use Rattle.qvt_meta.proofs.meta.types_checked.Goals as goal
+
+pub names_of-requires : goal.names_of-requires
+names_of-requires c = ap (λ ks. repeated [] (names_of ks)) c.as_slice.ensures ∙ classes_alone c.args.meta c.requires.same_name
+
+pub returns-in-Some : goal.returns-in-Some
+unfolding types_checked
+returns-in-Some c = λ other.
+    ap (λ o. none_of (option_map (tell UnknownType) o) >>= (λ passed. classes_checked c.args.meta)) (sym c.in_ok-class.ensures ∙ c.in-Some.is)

@@ -1,0 +1,43 @@
+-- The metamodel of a file: what it declares, or the first refusal.
+use Rattle.std.specs.Prelude.{ℕ, List, Option, Some, None, option_map, Result, Ok, Err, ⊤}
+use Rattle.qvt_json.specs.Json.{json}
+use Rattle.qvt_json.specs.Shape.{shown}
+use Rattle.qvt_json.specs.Steps.{◌>>=◌, or_fault, none_of}
+use Rattle.qvt_meta.specs.declared.fault.MetaFault.{MetaFault}
+use Rattle.qvt_meta.specs.declared.fault.MetaFault.TheVariants.{Json, Shape, SameName, UnknownType, InheritanceCycle, BadBounds, BadOpposite, SameFeature}
+use Rattle.qvt_meta.specs.MetaData.{MetaData}
+use Rattle.qvt_meta.specs.MetaForm.{meta_form}
+use Rattle.qvt_meta.specs.DataOf.{meta_data}
+use Rattle.qvt_meta.specs.Checks.{Told, same_name, unknown_type, inheritance_cycle, bad_bounds, bad_opposite, same_feature}
+
+abbrev pub tell : (List ℕ → List ℕ → MetaFault) → Told → MetaFault
+tell fault t = fault t.0 t.1
+
+-- the data, or the first of these checks that fails: of the features, after these of the classes, of the types, and all
+unfoldable pub features_checked : MetaData → Result MetaData MetaFault
+features_checked d = do
+  _ ← none_of (option_map (tell BadBounds) (bad_bounds d))
+  _ ← none_of (option_map (tell BadOpposite) (bad_opposite d))
+  _ ← none_of (option_map (tell SameFeature) (same_feature d))
+  Ok d
+
+unfoldable pub classes_checked : MetaData → Result MetaData MetaFault
+classes_checked d = do
+  _ ← none_of (option_map InheritanceCycle (inheritance_cycle d))
+  features_checked d
+
+unfoldable pub types_checked : MetaData → Result MetaData MetaFault
+types_checked d = do
+  _ ← none_of (option_map (tell UnknownType) (unknown_type d))
+  classes_checked d
+
+unfoldable pub checked : MetaData → Result MetaData MetaFault
+checked d = do
+  _ ← none_of (option_map SameName (same_name d))
+  types_checked d
+
+unfoldable pub meta_of : List ℕ → Result MetaData MetaFault
+meta_of bytes = do
+  d ← or_fault Json (json bytes)
+  _ ← none_of (option_map (λ path. Shape (shown path)) (meta_form d))
+  checked (meta_data d)
