@@ -1,18 +1,18 @@
 //! What a change does to the slots other than the changed one.
 
 ghost use Rattle.std.specs.Prelude.{◌≡◌, ◌==◌, ◌&&◌, filter, IfOk};
-ghost use Rattle.qvt_store.specs.Change.{is_some_object, is_here, is_added, is_removed, gains, is_taken, is_replaced, is_moved_in, is_moved, leaves, is_left, loses, keeps, with_end, slot_elsewhere};
-ghost use Rattle.qvt_store.specs.Contents.{slot_of};
+ghost use Rattle.qvt_slots.specs.Change.{is_some_object, is_here, is_added, is_removed, gains, is_taken, is_replaced, is_moved_in, is_moved, leaves, is_left, loses, keeps, with_end, slot_elsewhere};
+ghost use Rattle.qvt_slots.specs.Contents.{slot_of};
 ghost use Rattle.qvt_store.specs.Draft.{drafted};
 
-use crate::draft::Draft;
-use crate::features::{is_container, is_containment, is_opposite, is_single};
 use crate::store::Store;
-use crate::values::{holds, is_among};
 use qvt_base::copied::Copied;
 use qvt_base::list_fault::ListFault;
 use qvt_base::numbers::{FeatureNo, Oid};
 use qvt_base::seq::Seq;
+use qvt_slots::draft::Draft;
+use qvt_slots::features::{is_container, is_containment, is_opposite, is_single};
+use qvt_slots::values::{holds, is_among};
 use qvt_value::value::{Value, Values};
 use std::alloc::Global;
 

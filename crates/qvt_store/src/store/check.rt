@@ -3,20 +3,20 @@
 ghost use Rattle.std.specs.Prelude.{◌≡◌, ◌↔◌, ◌++◌, ◌∷◌, [], IsTrue, IfOk, IfErr, OnOk};
 ghost use Rattle.std.specs.List.{list_any};
 ghost use Rattle.qvt_meta.specs.Metamodels.{opposite};
-ghost use Rattle.qvt_store.specs.Change.{among};
-ghost use Rattle.qvt_store.specs.Contents.{slot_of, is_live, extent_of, is_model, is_writable};
-ghost use Rattle.qvt_store.specs.Assign.{is_elsewhere, crosses};
+ghost use Rattle.qvt_slots.specs.Change.{among};
+ghost use Rattle.qvt_slots.specs.Contents.{slot_of, is_live, extent_of, is_model, is_writable};
+ghost use Rattle.qvt_slots.specs.Assign.{is_elsewhere, crosses};
 ghost use Rattle.qvt_store.specs.Draft.{drafted, overfills_elsewhere, is_overfilling, AddsLive, IsAllowed, IsEarlyFault};
-ghost use Rattle.qvt_store.specs.Walk.{ClosesCycle, IsOver, SomeOver, IsOverSome};
+ghost use Rattle.qvt_slots.specs.Walk.{ClosesCycle, IsOver, SomeOver, IsOverSome};
 ghost use Rattle.std.specs.Prelude.{ℕ};
 
-use crate::draft::Draft;
-use crate::fault::StoreFault;
-use crate::features::{is_beyond, is_container, is_containment, upper};
 use crate::store::Store;
-use crate::walk::is_under;
 use qvt_base::list_fault::ListFault;
 use qvt_base::numbers::{FeatureNo, Oid};
+use qvt_slots::draft::Draft;
+use qvt_slots::fault::StoreFault;
+use qvt_slots::features::{is_beyond, is_container, is_containment, upper};
+use qvt_slots::walk::is_under;
 use qvt_value::value::Value;
 use std::alloc::Global;
 

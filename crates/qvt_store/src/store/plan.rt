@@ -2,20 +2,20 @@
 
 ghost use Rattle.std.specs.Prelude.{◌≡◌, ◌∷◌, [], IsTrue, IfOk, OnOk};
 ghost use Rattle.qvt_meta.specs.Metamodels.{is_containment, is_opposite};
-ghost use Rattle.qvt_store.specs.Change.{among, is_container};
-ghost use Rattle.qvt_store.specs.Contents.{slot_of, is_slot};
+ghost use Rattle.qvt_slots.specs.Change.{among, is_container};
+ghost use Rattle.qvt_slots.specs.Contents.{slot_of, is_slot};
 ghost use Rattle.qvt_store.specs.Draft.{drafted};
 ghost use Rattle.qvt_store.specs.Plan.{listed, Plans, IsSlotOf, IsSlotOfSome, IsOwnerSlot, IsAround, IsAroundSome, IsHeldSlot, IsOppositeSlot, IsOpposed, IsRehoused, IsPlan};
-ghost use Rattle.qvt_store.specs.Slots.{has};
+ghost use Rattle.qvt_slots.specs.Slots.{has};
 ghost use Rattle.std.specs.Prelude.{ℕ};
 
-use crate::commit::Write;
-use crate::draft::Draft;
-use crate::fault::StoreFault;
-use crate::features::{is_container, is_containment};
-use crate::put::find_place;
 use crate::store::Store;
 use qvt_base::numbers::{FeatureNo, Oid};
+use qvt_slots::commit::Write;
+use qvt_slots::draft::Draft;
+use qvt_slots::fault::StoreFault;
+use qvt_slots::features::{is_container, is_containment};
+use qvt_slots::put::find_place;
 use qvt_value::value::Value;
 use std::alloc::Global;
 
