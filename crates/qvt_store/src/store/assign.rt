@@ -36,7 +36,7 @@ impl Store {
     }
 
     /// The objects whose containment slots change.
-    pub fn released(
+    pub(super) fn released(
         &self,
         alloc: Global,
         draft: &Draft,
@@ -54,7 +54,7 @@ impl Store {
         Ok(list)
     }
 
-    pub fn is_unique_feature(&self, feature: FeatureNo) -> bool
+    pub(super) fn is_unique_feature(&self, feature: FeatureNo) -> bool
         ensures value { result ≡ (shape_of self.now.metas feature.0).unique }
         ensures known { IsKnown self.now }
     {

@@ -17,7 +17,7 @@ use qvt_value::value::{Value, Values};
 use std::alloc::Global;
 
 impl Store {
-    pub fn is_here(&self, draft: &Draft, object: Oid, feature: FeatureNo) -> bool
+    pub(super) fn is_here(&self, draft: &Draft, object: Oid, feature: FeatureNo) -> bool
         ensures { result ≡ is_here (drafted self.now draft.now) object.0 feature.0 }
     {
         object.0 == draft.object.0 && feature.0 == draft.feature.0
@@ -167,7 +167,7 @@ impl Store {
     }
 
     /// The list that a slot other than the changed one then holds.
-    pub fn list_elsewhere(
+    pub(super) fn list_elsewhere(
         &self,
         alloc: Global,
         draft: &Draft,

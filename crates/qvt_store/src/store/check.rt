@@ -144,14 +144,14 @@ impl Store {
     }
 
     /// Whether the object is in a model, and the list holds an object of another extent.
-    pub fn crosses(&self, object: Oid, values: &[Value]) -> bool
+    pub(super) fn crosses(&self, object: Oid, values: &[Value]) -> bool
         ensures { result ≡ crosses self.now object.0 values.now }
     {
         self.is_model(self.extent_or_first(object)) && self.holds_elsewhere(object, values)
     }
 
     /// The same of the list with the value last.
-    pub fn crosses_with(&self, object: Oid, values: &[Value], value: &Value) -> bool
+    pub(super) fn crosses_with(&self, object: Oid, values: &[Value], value: &Value) -> bool
         ensures { result ≡ crosses self.now object.0 (values.now ++ value.now ∷ []) }
     {
         self.is_model(self.extent_or_first(object))
@@ -159,14 +159,14 @@ impl Store {
     }
 
     /// Whether the list holds an object of another extent than the object's.
-    pub fn holds_elsewhere(&self, object: Oid, values: &[Value]) -> bool
+    pub(super) fn holds_elsewhere(&self, object: Oid, values: &[Value]) -> bool
         ensures { result ≡ list_any (is_elsewhere self.now object.0) values.now }
     {
         values.iter().any(|value| self.is_elsewhere(object, value))
     }
 
     /// The refusals of a change but that of another model. The new list has so many items.
-    pub fn check(&self, alloc: Global, draft: &Draft, count: usize) -> Result<(), StoreFault>
+    pub(super) fn check(&self, alloc: Global, draft: &Draft, count: usize) -> Result<(), StoreFault>
         requires live { IsTrue (is_live self.now draft.now.object.0) }
         requires added { AddsLive self.now (drafted self.now draft.now) }
         ensures ok { OnOk result (IsAllowed self.now (drafted self.now draft.now) count) }
