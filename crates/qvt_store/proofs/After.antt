@@ -12,18 +12,18 @@ use Rattle.qvt_meta.specs.Metamodels.{Metamodels, is_opposite, features_of, has_
 use Rattle.qvt_meta.specs.Descends.{descends, is_class_kind}
 use Rattle.qvt_meta.specs.WellFormed.{IsWellFormed}
 use Rattle.qvt_relation.proofs.Bools.{and_left, and_right, and_both, either, clash, refuted}
-use Rattle.qvt_store.specs.Slots.{has, object_in, passes}
-use Rattle.qvt_store.specs.Change.{Change, object_value, is_here, is_added, gains, keeps, with_end, slot_after}
-use Rattle.qvt_store.specs.Contents.{Contents, Instance, no_instance, object_at, class_of, extent_of, is_live, is_slot, list_of, slot_of}
-use Rattle.qvt_store.specs.Types.{is_of_kind, is_of_type, IsAssignable}
-use Rattle.qvt_store.specs.Repeats.{new_list, without_repeats, same_value}
-use Rattle.qvt_store.specs.Assign.{instance_after, instances_after, store_after, change_to}
+use Rattle.qvt_slots.specs.Slots.{has, object_in, passes}
+use Rattle.qvt_slots.specs.Change.{Change, object_value, is_here, is_added, gains, keeps, with_end, slot_after}
+use Rattle.qvt_slots.specs.Contents.{Contents, Instance, no_instance, object_at, class_of, extent_of, is_live, is_slot, list_of, slot_of}
+use Rattle.qvt_slots.specs.Types.{is_of_kind, is_of_type, IsAssignable}
+use Rattle.qvt_slots.specs.Repeats.{new_list, without_repeats, same_value}
+use Rattle.qvt_slots.specs.Assign.{instance_after, instances_after, store_after, change_to}
 use Rattle.qvt_store.specs.Law.{IsMade}
 use Rattle.qvt_store.specs.Ready.{IsFit}
-use Rattle.qvt_store.proofs.Lists.{past_end, length-map}
-use Rattle.qvt_store.proofs.Places.{list_of-absent, list_of-nil}
-use Rattle.qvt_store.proofs.Objects.{in_list}
-use Rattle.qvt_store.proofs.Typed.{no_object}
+use Rattle.qvt_slots.proofs.Lists.{past_end, length-map}
+use Rattle.qvt_slots.proofs.Places.{list_of-absent, list_of-nil}
+use Rattle.qvt_slots.proofs.Objects.{in_list}
+use Rattle.qvt_slots.proofs.Typed.{no_object}
 use Rattle.qvt_store.proofs.Held.{added_new}
 use Rattle.qvt_store.proofs.Opposites.{here}
 

@@ -6,14 +6,14 @@ use Rattle.qvt_base.specs.declared.numbers.Oid.{Oid}
 use Rattle.qvt_value.specs.declared.value.Value.{Value}
 use Rattle.qvt_meta.specs.Metamodels.{Metamodels, shape_of}
 use Rattle.qvt_relation.proofs.Bools.{and_left, or_left, or_false}
-use Rattle.qvt_store.specs.Change.{oid_of, is_new_object, objects_beyond, is_here, slot_elsewhere}
-use Rattle.qvt_store.specs.Contents.{Contents, slot_of, extent_of, is_model}
-use Rattle.qvt_store.specs.Types.{is_of_type, IsAssignable}
-use Rattle.qvt_store.specs.Repeats.{same_value, repeats, without_repeats, new_list}
-use Rattle.qvt_store.specs.Assign.{is_elsewhere, crosses, change_to, store_after}
+use Rattle.qvt_slots.specs.Change.{oid_of, is_new_object, objects_beyond, is_here, slot_elsewhere}
+use Rattle.qvt_slots.specs.Contents.{Contents, slot_of, extent_of, is_model}
+use Rattle.qvt_slots.specs.Types.{is_of_type, IsAssignable}
+use Rattle.qvt_slots.specs.Repeats.{same_value, repeats, without_repeats, new_list}
+use Rattle.qvt_slots.specs.Assign.{is_elsewhere, crosses, change_to, store_after}
 use Rattle.qvt_store.specs.Ready.{IsKnown}
-use Rattle.qvt_store.proofs.Objects.{none_beyond_all, has-push}
-use Rattle.qvt_store.proofs.Repeating.{without-push, without_same}
+use Rattle.qvt_slots.proofs.Objects.{none_beyond_all, has-push}
+use Rattle.qvt_slots.proofs.Repeating.{without-push, without_same}
 use Rattle.qvt_store.proofs.SoundKept.{all-push}
 use Rattle.qvt_store.proofs.Opposites.{here}
 use Rattle.qvt_store.proofs.Untouched.{all_stay}

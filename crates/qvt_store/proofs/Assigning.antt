@@ -9,25 +9,25 @@ use Rattle.qvt_base.specs.declared.numbers.Oid.{Oid}
 use Rattle.qvt_value.specs.declared.value.Value.{Value}
 use Rattle.qvt_meta.specs.Metamodels.{shape_of, opposite, is_one}
 use Rattle.qvt_relation.proofs.Bools.{and_right, or_none, none_left, none_right, not_true, clash}
-use Rattle.qvt_store.specs.declared.commit.Write.{Write}
-use Rattle.qvt_store.specs.declared.draft.Draft.{Draft}
-use Rattle.qvt_store.specs.declared.fault.StoreFault.{StoreFault}
-use Rattle.qvt_store.specs.declared.fault.StoreFault.TheVariants.{TooMany, ContainmentCycle, ReadOnly, CrossModel, TooManyObjects, NoMemory}
-use Rattle.qvt_store.specs.Change.{Change, objects_beyond, among}
-use Rattle.qvt_store.specs.Slots.{object_in, passes, is_object, has}
-use Rattle.qvt_store.specs.Contents.{Contents, slot_of, extent_of, is_model}
-use Rattle.qvt_store.specs.Types.{IsAssignable, IsAttributeChange}
-use Rattle.qvt_store.specs.Repeats.{without_repeats, repeats, new_list}
-use Rattle.qvt_store.specs.Assign.{change_to, is_beyond, is_elsewhere, crosses, store_after, assign}
+use Rattle.qvt_slots.specs.declared.commit.Write.{Write}
+use Rattle.qvt_slots.specs.declared.draft.Draft.{Draft}
+use Rattle.qvt_slots.specs.declared.fault.StoreFault.{StoreFault}
+use Rattle.qvt_slots.specs.declared.fault.StoreFault.TheVariants.{TooMany, ContainmentCycle, ReadOnly, CrossModel, TooManyObjects, NoMemory}
+use Rattle.qvt_slots.specs.Change.{Change, objects_beyond, among}
+use Rattle.qvt_slots.specs.Slots.{object_in, passes, is_object, has}
+use Rattle.qvt_slots.specs.Contents.{Contents, slot_of, extent_of, is_model}
+use Rattle.qvt_slots.specs.Types.{IsAssignable, IsAttributeChange}
+use Rattle.qvt_slots.specs.Repeats.{without_repeats, repeats, new_list}
+use Rattle.qvt_slots.specs.Assign.{change_to, is_beyond, is_elsewhere, crosses, store_after, assign}
 use Rattle.qvt_store.specs.Draft.{drafted, IsDraft, overfills_elsewhere, is_overfilling, AddsLive, IsAllowed, IsEarlyFault}
-use Rattle.qvt_store.specs.Walk.{ClosesCycle, by_items, by_end}
+use Rattle.qvt_slots.specs.Walk.{ClosesCycle, by_items, by_end}
 use Rattle.qvt_store.specs.Ready.{IsFit, Ready, IsKnown, StaysElsewhere}
-use Rattle.qvt_store.specs.Writes.{released_of}
+use Rattle.qvt_slots.specs.Writes.{released_of}
 use Rattle.qvt_store.specs.Plan.{IsPlan}
 use Rattle.qvt_store.proofs.After.{fit_of}
-use Rattle.qvt_store.proofs.Repeating.{new_no_repeats}
-use Rattle.qvt_store.proofs.Objects.{none_beyond_all}
-use Rattle.qvt_store.proofs.Typed.{no_objects}
+use Rattle.qvt_slots.proofs.Repeating.{new_no_repeats}
+use Rattle.qvt_slots.proofs.Objects.{none_beyond_all}
+use Rattle.qvt_slots.proofs.Typed.{no_objects}
 use Rattle.qvt_store.proofs.Untouched.{all_stay}
 use Rattle.qvt_store.proofs.Refusals.{adds_live, fits, stays_acyclic, none_refused, cross_refused, early_refused, assigned, not_assigned}
 

@@ -7,17 +7,17 @@ use Rattle.qvt_base.specs.declared.numbers.Oid.{Oid}
 use Rattle.qvt_value.specs.declared.value.Value.{Value}
 use Rattle.qvt_meta.specs.Metamodels.{Metamodels, shape_of}
 use Rattle.qvt_relation.proofs.Bools.{and_left, and_right}
-use Rattle.qvt_store.specs.declared.cell.Cell.{Cell}
-use Rattle.qvt_store.specs.declared.extent.Extent.{Extent}
-use Rattle.qvt_store.specs.Slots.{Slots, has, Contains, Inside, directly, through}
-use Rattle.qvt_store.specs.Contents.{Instance, no_instance, is_live, class_of, slot_in}
-use Rattle.qvt_store.specs.Types.{is_of_type, is_class_type}
-use Rattle.qvt_store.specs.Repeats.{repeats, AreUnique}
-use Rattle.qvt_store.specs.Cells.{instances, contents_of, AreMembers, IsKept, SameObjects, IsPut, with_list}
-use Rattle.qvt_store.proofs.Cells.{length-instances}
-use Rattle.qvt_store.proofs.Lists.{any_default}
-use Rattle.qvt_store.proofs.Members.{members_same}
-use Rattle.qvt_store.proofs.Typed.{all_kept, no_objects}
+use Rattle.qvt_slots.specs.declared.cell.Cell.{Cell}
+use Rattle.qvt_slots.specs.declared.extent.Extent.{Extent}
+use Rattle.qvt_slots.specs.Slots.{Slots, has, Contains, Inside, directly, through}
+use Rattle.qvt_slots.specs.Contents.{Instance, no_instance, is_live, class_of, slot_in}
+use Rattle.qvt_slots.specs.Types.{is_of_type, is_class_type}
+use Rattle.qvt_slots.specs.Repeats.{repeats, AreUnique}
+use Rattle.qvt_slots.specs.Cells.{instances, contents_of, AreMembers, IsKept, SameObjects, IsPut, with_list}
+use Rattle.qvt_slots.proofs.Cells.{length-instances}
+use Rattle.qvt_slots.proofs.Lists.{any_default}
+use Rattle.qvt_slots.proofs.Members.{members_same}
+use Rattle.qvt_slots.proofs.Typed.{all_kept, no_objects}
 
 pub stays_live : (m : Metamodels) (extents : List Extent) (old new : List Cell) → SameObjects m old new → (y : ℕ) → is_live (contents_of m extents old) y ≡ true →
     (is_live (contents_of m extents new) y ≡ true) × (class_of (contents_of m extents old) y ≡ class_of (contents_of m extents new) y)

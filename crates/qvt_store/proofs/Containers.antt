@@ -4,10 +4,10 @@ use Rattle.std.proofs.lemmas.Bool.Decides.{Decides-eqb}
 use Rattle.qvt_meta.specs.Metamodels.{opposite, is_opposite, is_containment}
 use Rattle.qvt_meta.specs.WellFormed.{IsWellFormed}
 use Rattle.qvt_relation.proofs.Bools.{and_left, and_right, and_both, or_left, not_of_false, either, clash, third_of_4, fourth_of_4}
-use Rattle.qvt_store.specs.Slots.{has, OneContainer}
-use Rattle.qvt_store.specs.Change.{Change, is_here, is_container, gains, is_taken, is_replaced, is_moved_in, is_moved, leaves, loses, slot_after}
+use Rattle.qvt_slots.specs.Slots.{has, OneContainer}
+use Rattle.qvt_slots.specs.Change.{Change, is_here, is_container, gains, is_taken, is_replaced, is_moved_in, is_moved, leaves, loses, slot_after}
 use Rattle.qvt_store.specs.Law.{IsMade, FitsSingle}
-use Rattle.qvt_store.proofs.Objects.{one_object, some_among}
+use Rattle.qvt_slots.proofs.Objects.{one_object, some_among}
 use Rattle.qvt_store.proofs.Held.{given, kept, gained, held_after, added_new, adds}
 use Rattle.qvt_store.proofs.Opposites.{same_number, container-of, here}
 

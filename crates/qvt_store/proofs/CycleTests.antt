@@ -5,10 +5,10 @@ use Rattle.std.proofs.lemmas.Bool.Decides.{Decides-eqb}
 use Rattle.qvt_base.specs.declared.numbers.Oid.{Oid}
 use Rattle.qvt_meta.specs.Metamodels.{Metamodels, is_containment}
 use Rattle.qvt_relation.proofs.Bools.{or_cases, or_left, clash}
-use Rattle.qvt_store.specs.Slots.{Slots}
-use Rattle.qvt_store.specs.Change.{Change, among, is_container}
-use Rattle.qvt_store.specs.Walk.{IsOver, SomeOver, IsOverSome, ClosesCycle, by_items, by_end}
-use Rattle.qvt_store.proofs.Holds.{in_among}
+use Rattle.qvt_slots.specs.Slots.{Slots}
+use Rattle.qvt_slots.specs.Change.{Change, among, is_container}
+use Rattle.qvt_slots.specs.Walk.{IsOver, SomeOver, IsOverSome, ClosesCycle, by_items, by_end}
+use Rattle.qvt_slots.proofs.Holds.{in_among}
 use Rattle.qvt_store.proofs.Plans.{more_cases}
 
 pub only_one : (o : Oid) (n : ℕ) → among (o ∷ []) n ≡ true → o.0 ≡ n

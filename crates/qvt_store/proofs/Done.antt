@@ -12,29 +12,29 @@ use Rattle.qvt_value.specs.declared.value.Value.{Value}
 use Rattle.qvt_meta.specs.Metamodels.{Metamodels, features_of, among_features, is_containment}
 use Rattle.qvt_meta.specs.WellFormed.{IsWellFormed}
 use Rattle.qvt_relation.proofs.Bools.{and_left, and_right, and_both, or_cases, or_left, or_right, not_true, not_of_false, either, clash, refuted}
-use Rattle.qvt_store.specs.declared.cell.Holder.{Holder}
-use Rattle.qvt_store.specs.declared.cell.Cell.{Cell}
-use Rattle.qvt_store.specs.declared.commit.Write.{Write}
-use Rattle.qvt_store.specs.declared.draft.Draft.{Draft}
-use Rattle.qvt_store.specs.declared.extent.Extent.{Extent}
-use Rattle.qvt_store.specs.Slots.{Slots, has, OneContainer, Inside}
-use Rattle.qvt_store.specs.Change.{Change, among, objects_beyond, is_here, is_added, slot_elsewhere, slot_after}
-use Rattle.qvt_store.specs.Contents.{Contents, Instance, no_instance, is_live, is_slot, list_of, slot_in, slot_of, with_slot}
-use Rattle.qvt_store.specs.Types.{is_of_type}
-use Rattle.qvt_store.specs.Repeats.{repeats}
-use Rattle.qvt_store.specs.Assign.{change_to, instance_after, instances_after, store_after}
+use Rattle.qvt_slots.specs.declared.cell.Holder.{Holder}
+use Rattle.qvt_slots.specs.declared.cell.Cell.{Cell}
+use Rattle.qvt_slots.specs.declared.commit.Write.{Write}
+use Rattle.qvt_slots.specs.declared.draft.Draft.{Draft}
+use Rattle.qvt_slots.specs.declared.extent.Extent.{Extent}
+use Rattle.qvt_slots.specs.Slots.{Slots, has, OneContainer, Inside}
+use Rattle.qvt_slots.specs.Change.{Change, among, objects_beyond, is_here, is_added, slot_elsewhere, slot_after}
+use Rattle.qvt_slots.specs.Contents.{Contents, Instance, no_instance, is_live, is_slot, list_of, slot_in, slot_of, with_slot}
+use Rattle.qvt_slots.specs.Types.{is_of_type}
+use Rattle.qvt_slots.specs.Repeats.{repeats}
+use Rattle.qvt_slots.specs.Assign.{change_to, instance_after, instances_after, store_after}
 use Rattle.qvt_store.specs.Law.{IsMade}
 use Rattle.qvt_store.specs.Draft.{change_with, drafted, IsDraft}
-use Rattle.qvt_store.specs.Cells.{instances, instance_in, contents_of, holder_at, holder_in, AreWhole, IsKept, IsPlaceOf, SameObjects, IsPut, with_list}
-use Rattle.qvt_store.specs.Writes.{IsWrite, AllLive, written, or_else, held_by, held_of, held_here, holder_after, IsSettled, released_by, released_here}
+use Rattle.qvt_slots.specs.Cells.{instances, instance_in, contents_of, holder_at, holder_in, AreWhole, IsKept, IsPlaceOf, SameObjects, IsPut, with_list}
+use Rattle.qvt_slots.specs.Writes.{IsWrite, AllLive, written, or_else, held_by, held_of, held_here, holder_after, IsSettled, released_by, released_here}
 use Rattle.qvt_store.specs.Plan.{is_write_of, listed, IsRight, IsPlan}
-use Rattle.qvt_store.proofs.Places.{list_of-place}
-use Rattle.qvt_store.proofs.Cells.{length-instances, no_holder}
-use Rattle.qvt_store.proofs.Objects.{beyond-is}
+use Rattle.qvt_slots.proofs.Places.{list_of-place}
+use Rattle.qvt_slots.proofs.Cells.{length-instances, no_holder}
+use Rattle.qvt_slots.proofs.Objects.{beyond-is}
 use Rattle.qvt_store.proofs.Held.{given, kept, gained, held_after, added_new, adds}
 use Rattle.qvt_store.proofs.Opposites.{here, here_again}
 use Rattle.qvt_store.proofs.Containers.{keeps_one_container}
-use Rattle.qvt_store.proofs.Typed.{all_kept}
+use Rattle.qvt_slots.proofs.Typed.{all_kept}
 use Rattle.qvt_store.proofs.Attributes.{stays_live, listed_same}
 use Rattle.qvt_store.specs.Ready.{Ready}
 use Rattle.qvt_store.proofs.After.{instance-after, length-after, no_slot_empty, empty_after, item_object}

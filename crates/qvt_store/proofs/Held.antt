@@ -5,10 +5,10 @@ use Rattle.std.proofs.lemmas.Bool.Decides.{Decides-eqb}
 use Rattle.qvt_value.specs.declared.value.Value.{Value}
 use Rattle.qvt_meta.specs.Metamodels.{is_single}
 use Rattle.qvt_relation.proofs.Bools.{and_left, and_right, and_both, or_cases, or_left, or_right, none_left, none_right, not_true, not_of_false, either, or_false, clash, refuted}
-use Rattle.qvt_store.specs.Slots.{has}
-use Rattle.qvt_store.specs.Change.{Change, object_value, among, is_here, is_added, is_removed, gains, is_taken, is_replaced, is_moved_in, is_moved, leaves, loses, keeps, with_object, slot_elsewhere, slot_after}
+use Rattle.qvt_slots.specs.Slots.{has}
+use Rattle.qvt_slots.specs.Change.{Change, object_value, among, is_here, is_added, is_removed, gains, is_taken, is_replaced, is_moved_in, is_moved, leaves, loses, keeps, with_object, slot_elsewhere, slot_after}
 use Rattle.qvt_store.specs.Law.{IsMade}
-use Rattle.qvt_store.proofs.Objects.{has-filter, has-push, beyond-is}
+use Rattle.qvt_slots.proofs.Objects.{has-filter, has-push, beyond-is}
 
 module _ (c : Change) (made : IsMade c) where
   pub added-is : (y : ℕ) → is_added c y ≡ (has c.items y && not (has (c.slots c.object c.feature) y))

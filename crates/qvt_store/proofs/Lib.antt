@@ -1,24 +1,11 @@
-pub mod Places
-pub mod Lists
-pub mod Cells
-pub mod Members
-pub mod Typed
-pub mod Instances
-pub mod Added
 pub mod Attributes
-pub mod Objects
 pub mod Held
 pub mod Opposites
 pub mod Containers
-pub mod Cyclic
 pub mod After
-pub mod Repeating
 pub mod SoundKept
 pub mod SoundGrown
-mod Vectors
-pub mod Holds
 pub mod Plans
-pub mod Walks
 pub mod Cycles
 pub mod Untouched
 pub mod Done
@@ -28,5 +15,4 @@ pub mod Moved
 pub mod Assigning
 pub mod Placed
 pub mod Appending
-pub mod Pushed
 pub mod SameCells

@@ -3,14 +3,14 @@ use Rattle.std.proofs.Common.{◌≡◌, ℕ, ◌<◌, Bool, true, sym, subst, L
 use Rattle.std.proofs.lemmas.Bool.{ltb-true}
 use Rattle.qvt_meta.specs.Metamodels.{Metamodels, has_feature}
 use Rattle.qvt_relation.proofs.Bools.{and_left, and_right}
-use Rattle.qvt_store.specs.declared.cell.Cell.{Cell}
-use Rattle.qvt_store.specs.declared.commit.Write.{Write}
-use Rattle.qvt_store.specs.declared.extent.Extent.{Extent}
-use Rattle.qvt_store.specs.Contents.{is_live, is_slot}
-use Rattle.qvt_store.specs.Cells.{instances, instance_in, contents_of, SameObjects}
-use Rattle.qvt_store.specs.Writes.{IsWrite, AllLive}
-use Rattle.qvt_store.proofs.Cells.{length-instances}
-use Rattle.qvt_store.proofs.Holds.{still_write}
+use Rattle.qvt_slots.specs.declared.cell.Cell.{Cell}
+use Rattle.qvt_slots.specs.declared.commit.Write.{Write}
+use Rattle.qvt_slots.specs.declared.extent.Extent.{Extent}
+use Rattle.qvt_slots.specs.Contents.{is_live, is_slot}
+use Rattle.qvt_slots.specs.Cells.{instances, instance_in, contents_of, SameObjects}
+use Rattle.qvt_slots.specs.Writes.{IsWrite, AllLive}
+use Rattle.qvt_slots.proofs.Cells.{length-instances}
+use Rattle.qvt_slots.proofs.Holds.{still_write}
 
 pub cells_live : (m : Metamodels) (extents : List Extent) (cells : List Cell) (o p : ℕ) → is_slot (contents_of m extents cells) o p ≡ true → o < length cells
 cells_live m extents cells o p h = subst (λ n. o < n) (length-instances cells) (ltb-true o (length (instances cells)) (and_left _ _ h))

@@ -6,10 +6,10 @@ use Rattle.qvt_base.specs.declared.numbers.FeatureNo.{FeatureNo}
 use Rattle.qvt_meta.specs.Metamodels.{Metamodels, opposite, is_opposite, is_feature_number, is_containment}
 use Rattle.qvt_meta.specs.WellFormed.{IsWellFormed}
 use Rattle.qvt_relation.proofs.Bools.{and_left, and_right, and_both, and_false, and_false_left, or_none, none_left, none_right, not_of_true, either, refuted, clash, none_of, first_of_4}
-use Rattle.qvt_store.specs.Slots.{has, OppositesAgree}
-use Rattle.qvt_store.specs.Change.{Change, is_some_object, is_here, is_added, names_containment, is_container, gains, is_taken, is_replaced, is_moved_in, is_moved, leaves, is_left, loses, slot_after}
+use Rattle.qvt_slots.specs.Slots.{has, OppositesAgree}
+use Rattle.qvt_slots.specs.Change.{Change, is_some_object, is_here, is_added, names_containment, is_container, gains, is_taken, is_replaced, is_moved_in, is_moved, leaves, is_left, loses, slot_after}
 use Rattle.qvt_store.specs.Law.{IsMade, FitsSingle}
-use Rattle.qvt_store.proofs.Objects.{none_beyond}
+use Rattle.qvt_slots.proofs.Objects.{none_beyond}
 use Rattle.qvt_store.proofs.Held.{HeldAfter, given, kept, gained, held_after, after_held, added_new, adds, not_added, removes, not_removed}
 
 -- a feature has one opposite

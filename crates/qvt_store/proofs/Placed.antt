@@ -8,22 +8,22 @@ use Rattle.qvt_base.specs.declared.numbers.Oid.{Oid}
 use Rattle.qvt_value.specs.declared.value.Value.{Value}
 use Rattle.qvt_meta.specs.Metamodels.{Metamodels, features_of, has_feature, is_containment, shape_of}
 use Rattle.qvt_relation.proofs.Bools.{and_left, and_right, and_both, not_true, either, clash, refuted}
-use Rattle.qvt_store.specs.declared.cell.Holder.{Holder}
-use Rattle.qvt_store.specs.declared.cell.Cell.{Cell}
-use Rattle.qvt_store.specs.declared.commit.Write.{Write}
-use Rattle.qvt_store.specs.declared.extent.Extent.{Extent}
-use Rattle.qvt_store.specs.Slots.{Slots, has, Contains, Inside, directly, through}
-use Rattle.qvt_store.specs.Contents.{Contents, Instance, no_instance, is_live, slot_in, slot_of, set_slot, with_slot}
-use Rattle.qvt_store.specs.Types.{is_of_type}
-use Rattle.qvt_store.specs.Repeats.{repeats, AreUnique}
-use Rattle.qvt_store.specs.Cells.{instances, instance_in, contents_of, holder_at, holder_in, AreWhole, IsKept, SameObjects, IsPut, with_list}
-use Rattle.qvt_store.specs.Writes.{AllLive, or_else, held_by, AreHeldBy}
+use Rattle.qvt_slots.specs.declared.cell.Holder.{Holder}
+use Rattle.qvt_slots.specs.declared.cell.Cell.{Cell}
+use Rattle.qvt_slots.specs.declared.commit.Write.{Write}
+use Rattle.qvt_slots.specs.declared.extent.Extent.{Extent}
+use Rattle.qvt_slots.specs.Slots.{Slots, has, Contains, Inside, directly, through}
+use Rattle.qvt_slots.specs.Contents.{Contents, Instance, no_instance, is_live, slot_in, slot_of, set_slot, with_slot}
+use Rattle.qvt_slots.specs.Types.{is_of_type}
+use Rattle.qvt_slots.specs.Repeats.{repeats, AreUnique}
+use Rattle.qvt_slots.specs.Cells.{instances, instance_in, contents_of, holder_at, holder_in, AreWhole, IsKept, SameObjects, IsPut, with_list}
+use Rattle.qvt_slots.specs.Writes.{AllLive, or_else, held_by, AreHeldBy}
 use Rattle.qvt_store.specs.Place.{IsPlaceable}
 use Rattle.qvt_store.proofs.Attributes.{stays_live, listed_same, each_put}
-use Rattle.qvt_store.proofs.Typed.{all_kept}
+use Rattle.qvt_slots.proofs.Typed.{all_kept}
 use Rattle.qvt_store.proofs.After.{item_object}
-use Rattle.qvt_store.proofs.Cells.{length-instances}
-use Rattle.qvt_store.proofs.Holds.{same_count}
+use Rattle.qvt_slots.proofs.Cells.{length-instances}
+use Rattle.qvt_slots.proofs.Holds.{same_count}
 
 module _ (m : Metamodels) (extents : List Extent) (old mid new : List Cell) (w : Write)
     (can : IsPlaceable (contents_of m extents old) w.object.0 w.feature.0 w.items) (held : AreHeldBy m old mid (w ∷ [])) (put : IsPut m mid new w.object.0 w.feature.0 w.items) where

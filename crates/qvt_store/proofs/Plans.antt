@@ -8,14 +8,14 @@ use Rattle.qvt_base.specs.declared.numbers.Oid.{Oid}
 use Rattle.qvt_value.specs.declared.value.Value.{Value}
 use Rattle.qvt_meta.specs.Metamodels.{Metamodels, opposite, is_opposite, is_containment, is_feature_number}
 use Rattle.qvt_relation.proofs.Bools.{and_both, or_cases, or_left, or_right, or_false, clash}
-use Rattle.qvt_store.specs.declared.cell.Holder.{Holder}
-use Rattle.qvt_store.specs.declared.commit.Write.{Write}
-use Rattle.qvt_store.specs.Slots.{has}
-use Rattle.qvt_store.specs.Change.{Change, among, is_here, is_container}
-use Rattle.qvt_store.specs.Contents.{Contents, is_slot, slot_of}
-use Rattle.qvt_store.specs.Cells.{holder_in}
+use Rattle.qvt_slots.specs.declared.cell.Holder.{Holder}
+use Rattle.qvt_slots.specs.declared.commit.Write.{Write}
+use Rattle.qvt_slots.specs.Slots.{has}
+use Rattle.qvt_slots.specs.Change.{Change, among, is_here, is_container}
+use Rattle.qvt_slots.specs.Contents.{Contents, is_slot, slot_of}
+use Rattle.qvt_slots.specs.Cells.{holder_in}
 use Rattle.qvt_store.specs.Plan.{is_write_of, listed, IsRight, Extends, Plans, IsSlotOf, IsSlotOfSome, IsHeldSlot, IsOppositeSlot, IsOwnerSlot, IsAround, holding, opposed, IsAroundSome, IsOpposed, before, after, owner, IsRehoused, items, itself}
-use Rattle.qvt_store.proofs.Holds.{among-more, has-more}
+use Rattle.qvt_slots.proofs.Holds.{among-more, has-more}
 
 pub listed-push : (ws : List Write) (w : Write) (x f : ℕ) → listed (ws ++ w ∷ []) x f ≡ (listed ws x f || is_write_of x f w)
 listed-push [] w x f = or_false (is_write_of x f w)

@@ -10,21 +10,21 @@ use Rattle.qvt_value.specs.declared.value.Value.{Value}
 use Rattle.qvt_meta.specs.Metamodels.{opposite, is_opposite, is_feature_number, shape_of}
 use Rattle.qvt_meta.specs.WellFormed.{IsWellFormed}
 use Rattle.qvt_relation.proofs.Bools.{and_left, clash, refuted}
-use Rattle.qvt_store.specs.declared.draft.Draft.{Draft}
-use Rattle.qvt_store.specs.declared.fault.StoreFault.{StoreFault}
-use Rattle.qvt_store.specs.declared.fault.StoreFault.TheVariants.{TooMany, ContainmentCycle, ReadOnly, CrossModel, TooManyObjects, NoMemory}
-use Rattle.qvt_store.specs.Slots.{Inside}
-use Rattle.qvt_store.specs.Change.{Change, is_here, is_added, gains, slot_elsewhere, slot_after}
-use Rattle.qvt_store.specs.Contents.{Contents, is_live, slot_of}
-use Rattle.qvt_store.specs.Repeats.{new_list}
-use Rattle.qvt_store.specs.Assign.{change_to, is_beyond, overfills_end, is_too_many, is_cyclic, is_read_only, crosses, refusal_of, store_after, ok_unless, assign}
+use Rattle.qvt_slots.specs.declared.draft.Draft.{Draft}
+use Rattle.qvt_slots.specs.declared.fault.StoreFault.{StoreFault}
+use Rattle.qvt_slots.specs.declared.fault.StoreFault.TheVariants.{TooMany, ContainmentCycle, ReadOnly, CrossModel, TooManyObjects, NoMemory}
+use Rattle.qvt_slots.specs.Slots.{Inside}
+use Rattle.qvt_slots.specs.Change.{Change, is_here, is_added, gains, slot_elsewhere, slot_after}
+use Rattle.qvt_slots.specs.Contents.{Contents, is_live, slot_of}
+use Rattle.qvt_slots.specs.Repeats.{new_list}
+use Rattle.qvt_slots.specs.Assign.{change_to, is_beyond, overfills_end, is_too_many, is_cyclic, is_read_only, crosses, refusal_of, store_after, ok_unless, assign}
 use Rattle.qvt_store.specs.Law.{IsMade, FitsSingle}
 use Rattle.qvt_store.specs.Draft.{change_with, drafted, IsDraft, overfills_elsewhere, is_overfilling, AddsLive, IsAllowed, IsEarlyFault}
 use Rattle.qvt_store.specs.Ready.{IsFit}
-use Rattle.qvt_store.specs.Walk.{ClosesCycle, by_items, by_end, IsCyclic}
+use Rattle.qvt_slots.specs.Walk.{ClosesCycle, by_items, by_end, IsCyclic}
 use Rattle.qvt_store.proofs.Held.{given, kept, gained, held_after, added_new}
 use Rattle.qvt_store.proofs.Opposites.{here}
-use Rattle.qvt_store.proofs.Cyclic.{Bounded, cyclic-inside, inside-cyclic}
+use Rattle.qvt_slots.proofs.Cyclic.{Bounded, cyclic-inside, inside-cyclic}
 use Rattle.qvt_store.proofs.Cycles.{cycle_closes, closes_cycle}
 use Rattle.qvt_store.proofs.After.{holder_slot, item_object}
 use Rattle.qvt_store.proofs.SoundKept.{fits_of}

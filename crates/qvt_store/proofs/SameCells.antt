@@ -2,14 +2,14 @@
 use Rattle.std.proofs.Common.{◌≡◌, ◌≤◌, Bool, sym, ap, ◌∙◌, subst, List}
 use Rattle.qvt_base.specs.declared.numbers.Oid.{Oid}
 use Rattle.qvt_meta.specs.Metamodels.{Metamodels}
-use Rattle.qvt_store.specs.declared.cell.Cell.{Cell}
-use Rattle.qvt_store.specs.declared.extent.Extent.{Extent}
-use Rattle.qvt_store.specs.Slots.{has, Inside}
-use Rattle.qvt_store.specs.Contents.{Instance, slot_in, members_from}
-use Rattle.qvt_store.specs.Types.{AreTyped}
-use Rattle.qvt_store.specs.Repeats.{AreUnique}
-use Rattle.qvt_store.specs.Cells.{contents_of, IsKept, IsSameCells}
-use Rattle.qvt_store.proofs.Holds.{same_count, have_same}
+use Rattle.qvt_slots.specs.declared.cell.Cell.{Cell}
+use Rattle.qvt_slots.specs.declared.extent.Extent.{Extent}
+use Rattle.qvt_slots.specs.Slots.{has, Inside}
+use Rattle.qvt_slots.specs.Contents.{Instance, slot_in, members_from}
+use Rattle.qvt_slots.specs.Types.{AreTyped}
+use Rattle.qvt_slots.specs.Repeats.{AreUnique}
+use Rattle.qvt_slots.specs.Cells.{contents_of, IsKept, IsSameCells}
+use Rattle.qvt_slots.proofs.Holds.{same_count, have_same}
 
 pub same_kept : (m : Metamodels) (extents : List Extent) (old new : List Cell) (members : List (List Oid)) (distinct : Bool) → IsSameCells old new → IsKept m extents old members distinct → IsKept m extents new members distinct
 same_kept m extents old new members distinct same kept' = record {

@@ -8,22 +8,22 @@ use Rattle.std.proofs.lemmas.List.Elements.{All-nil}
 use Rattle.qvt_value.specs.declared.value.Value.{Value}
 use Rattle.qvt_meta.specs.Metamodels.{Metamodels, class_at, features_of, is_containment, shape_of}
 use Rattle.qvt_relation.proofs.Bools.{and_left, and_right, and_both, either, clash, refuted, not_of_false}
-use Rattle.qvt_store.specs.declared.extent.Extent.{Extent}
-use Rattle.qvt_store.specs.Slots.{Slots, has, OppositesAgree, OneContainer, Contains, Inside, directly, through}
-use Rattle.qvt_store.specs.Contents.{Contents, Instance, object_at, class_of, extent_of, extent_at, is_extent, is_live, is_model, slot_of, with_new, with_slot}
-use Rattle.qvt_store.specs.Types.{is_of_type, IsPlain}
-use Rattle.qvt_store.specs.Repeats.{repeats}
-use Rattle.qvt_store.specs.Cells.{with_list}
+use Rattle.qvt_slots.specs.declared.extent.Extent.{Extent}
+use Rattle.qvt_slots.specs.Slots.{Slots, has, OppositesAgree, OneContainer, Contains, Inside, directly, through}
+use Rattle.qvt_slots.specs.Contents.{Contents, Instance, object_at, class_of, extent_of, extent_at, is_extent, is_live, is_model, slot_of, with_new, with_slot}
+use Rattle.qvt_slots.specs.Types.{is_of_type, IsPlain}
+use Rattle.qvt_slots.specs.Repeats.{repeats}
+use Rattle.qvt_slots.specs.Cells.{with_list}
 use Rattle.qvt_store.specs.Place.{IsPlaceable}
-use Rattle.qvt_store.specs.Assign.{is_beyond, is_elsewhere}
+use Rattle.qvt_slots.specs.Assign.{is_beyond, is_elsewhere}
 use Rattle.qvt_store.specs.Sound.{IsClassFor, Sound, SoundButOpposites, IsSoundList, NewIsSound, AddKeepsSound, LoadBegins, AddKeepsLoading, PlaceKeepsLoading, LoadEnds}
-use Rattle.qvt_store.proofs.Lists.{length-map}
-use Rattle.qvt_store.proofs.Objects.{not_any}
-use Rattle.qvt_store.proofs.Typed.{all_kept}
+use Rattle.qvt_slots.proofs.Lists.{length-map}
+use Rattle.qvt_slots.proofs.Objects.{not_any}
+use Rattle.qvt_slots.proofs.Typed.{all_kept}
 use Rattle.qvt_store.proofs.Attributes.{each_put}
 use Rattle.qvt_store.proofs.After.{features_always, holder_slot, item_object}
-use Rattle.qvt_store.proofs.Added.{first_contained, no_slots}
-use Rattle.qvt_store.proofs.Instances as objects
+use Rattle.qvt_slots.proofs.Added.{first_contained, no_slots}
+use Rattle.qvt_slots.proofs.Instances as objects
 
 pub load_begins : LoadBegins
 load_begins s sound = record {

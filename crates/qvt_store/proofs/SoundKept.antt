@@ -12,23 +12,23 @@ use Rattle.qvt_meta.specs.Metamodels.{Metamodels, opposite, is_opposite, is_feat
 use Rattle.qvt_meta.specs.Named.{metamodel_at}
 use Rattle.qvt_meta.specs.WellFormed.{IsWellFormed}
 use Rattle.qvt_relation.proofs.Bools.{and_left, and_right, and_both, or_cases, none_left, none_right, either, clash, not_of_false}
-use Rattle.qvt_store.specs.declared.fault.StoreFault.{StoreFault}
-use Rattle.qvt_store.specs.declared.fault.StoreFault.TheVariants.{TooMany, ContainmentCycle, ReadOnly, CrossModel}
-use Rattle.qvt_store.specs.Slots.{Slots, has, OppositesAgree, OneContainer, Inside}
-use Rattle.qvt_store.specs.Change.{Change, object_value, is_here, among, gains, keeps, with_object, with_end, slot_after}
-use Rattle.qvt_store.specs.Contents.{Contents, AreNamed, class_of, extent_of, extent_at, is_extent, is_live, is_model, is_named, slot_of}
-use Rattle.qvt_store.specs.Types.{is_of_type, AreTyped, IsPlain}
-use Rattle.qvt_store.specs.Repeats.{repeats, same_value, without_repeats, new_list, AreUnique}
-use Rattle.qvt_store.specs.Assign.{change_to, change_of, is_beyond, is_overfull, overfills_end, is_too_many, is_cyclic, is_read_only, is_elsewhere, crosses, refusal_of, store_after, ok_unless}
+use Rattle.qvt_slots.specs.declared.fault.StoreFault.{StoreFault}
+use Rattle.qvt_slots.specs.declared.fault.StoreFault.TheVariants.{TooMany, ContainmentCycle, ReadOnly, CrossModel}
+use Rattle.qvt_slots.specs.Slots.{Slots, has, OppositesAgree, OneContainer, Inside}
+use Rattle.qvt_slots.specs.Change.{Change, object_value, is_here, among, gains, keeps, with_object, with_end, slot_after}
+use Rattle.qvt_slots.specs.Contents.{Contents, AreNamed, class_of, extent_of, extent_at, is_extent, is_live, is_model, is_named, slot_of}
+use Rattle.qvt_slots.specs.Types.{is_of_type, AreTyped, IsPlain}
+use Rattle.qvt_slots.specs.Repeats.{repeats, same_value, without_repeats, new_list, AreUnique}
+use Rattle.qvt_slots.specs.Assign.{change_to, change_of, is_beyond, is_overfull, overfills_end, is_too_many, is_cyclic, is_read_only, is_elsewhere, crosses, refusal_of, store_after, ok_unless}
 use Rattle.qvt_store.specs.Law.{IsMade, FitsSingle}
 use Rattle.qvt_store.specs.Sound.{IsClassFor, Sound, AssignKeepsSound, AppendKeepsSound}
-use Rattle.qvt_store.proofs.Objects.{not_any}
+use Rattle.qvt_slots.proofs.Objects.{not_any}
 use Rattle.qvt_store.proofs.Held.{given, kept, gained, held_after, added_new}
 use Rattle.qvt_store.proofs.Opposites.{here, keeps_opposites}
 use Rattle.qvt_store.proofs.Containers.{keeps_one_container}
-use Rattle.qvt_store.proofs.Cyclic.{Bounded, inside-cyclic}
-use Rattle.qvt_store.proofs.Typed.{all_kept}
-use Rattle.qvt_store.proofs.Repeating.{length-filter, fewer_fit, single_fits, repeats-filter, repeats-with_object, new_no_repeats}
+use Rattle.qvt_slots.proofs.Cyclic.{Bounded, inside-cyclic}
+use Rattle.qvt_slots.proofs.Typed.{all_kept}
+use Rattle.qvt_slots.proofs.Repeating.{length-filter, fewer_fit, single_fits, repeats-filter, repeats-with_object, new_no_repeats}
 use Rattle.qvt_store.specs.Ready.{IsFit}
 use Rattle.qvt_store.proofs.After.{fit_of, all-filter, kind_of_object, features_always, holder_slot, slot-after, slots-after, live-after, class-after, extent-after, lists-after}
 

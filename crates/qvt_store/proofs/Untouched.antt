@@ -9,10 +9,10 @@ use Rattle.qvt_value.specs.declared.value.Value.{Value}
 use Rattle.qvt_meta.specs.Metamodels.{opposite, is_opposite, is_feature_number, is_containment}
 use Rattle.qvt_meta.specs.WellFormed.{IsWellFormed}
 use Rattle.qvt_relation.proofs.Bools.{and_left, and_right, and_false, and_false_left, or_left, or_right, or_cases, or_none, none_left, none_right, none_of, refuted, clash}
-use Rattle.qvt_store.specs.declared.commit.Write.{Write}
-use Rattle.qvt_store.specs.Slots.{Slots, object_in, passes, is_object, has}
-use Rattle.qvt_store.specs.Change.{Change, is_some_object, among, is_here, is_added, is_removed, is_container, gains, is_taken, is_replaced, is_moved_in, is_moved, leaves, is_left, loses, keeps, with_end, slot_elsewhere}
-use Rattle.qvt_store.specs.Contents.{Contents, is_slot, slot_of}
+use Rattle.qvt_slots.specs.declared.commit.Write.{Write}
+use Rattle.qvt_slots.specs.Slots.{Slots, object_in, passes, is_object, has}
+use Rattle.qvt_slots.specs.Change.{Change, is_some_object, among, is_here, is_added, is_removed, is_container, gains, is_taken, is_replaced, is_moved_in, is_moved, leaves, is_left, loses, keeps, with_end, slot_elsewhere}
+use Rattle.qvt_slots.specs.Contents.{Contents, is_slot, slot_of}
 use Rattle.qvt_store.specs.Plan.{listed, IsRight, Plans, holding, opposed, IsOpposed, before, after, owner, IsRehoused, items, itself, IsPlan}
 use Rattle.qvt_store.proofs.Opposites.{same_number, here}
 

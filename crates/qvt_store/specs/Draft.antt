@@ -5,13 +5,13 @@ use Rattle.qvt_base.specs.declared.numbers.FeatureNo.{FeatureNo}
 use Rattle.qvt_base.specs.declared.numbers.Oid.{Oid}
 use Rattle.qvt_value.specs.declared.value.Value.{Value}
 use Rattle.qvt_meta.specs.Metamodels.{shape_of, opposite}
-use Rattle.qvt_store.specs.declared.fault.StoreFault.{StoreFault}
-use Rattle.qvt_store.specs.declared.fault.StoreFault.TheVariants.{TooMany, ContainmentCycle, ReadOnly, NoMemory}
-use Rattle.qvt_store.specs.declared.draft.Draft.{Draft}
-use Rattle.qvt_store.specs.Change.{Change, objects_beyond, is_added, slot_elsewhere}
-use Rattle.qvt_store.specs.Contents.{Contents, is_live, slot_of}
-use Rattle.qvt_store.specs.Assign.{is_beyond, is_read_only}
-use Rattle.qvt_store.specs.Walk.{ClosesCycle}
+use Rattle.qvt_slots.specs.declared.fault.StoreFault.{StoreFault}
+use Rattle.qvt_slots.specs.declared.fault.StoreFault.TheVariants.{TooMany, ContainmentCycle, ReadOnly, NoMemory}
+use Rattle.qvt_slots.specs.declared.draft.Draft.{Draft}
+use Rattle.qvt_slots.specs.Change.{Change, objects_beyond, is_added, slot_elsewhere}
+use Rattle.qvt_slots.specs.Contents.{Contents, is_live, slot_of}
+use Rattle.qvt_slots.specs.Assign.{is_beyond, is_read_only}
+use Rattle.qvt_slots.specs.Walk.{ClosesCycle}
 
 abbrev pub change_with : Contents → Draft → List Value → Change
 change_with s d ws = record {

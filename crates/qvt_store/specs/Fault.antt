@@ -1,7 +1,7 @@
 -- When the calls of a store are refused.
 use Rattle.std.specs.Prelude.{◌≡◌, ℕ}
-use Rattle.qvt_store.specs.declared.fault.StoreFault.{StoreFault}
-use Rattle.qvt_store.specs.declared.fault.StoreFault.TheVariants.{TooManyObjects, NoMemory}
+use Rattle.qvt_slots.specs.declared.fault.StoreFault.{StoreFault}
+use Rattle.qvt_slots.specs.declared.fault.StoreFault.TheVariants.{TooManyObjects, NoMemory}
 
 -- an object is refused for want of memory, or where there are 1,000,000 of them
 abbrev pub IsAddFault : ℕ → StoreFault → Type 0

@@ -2,8 +2,8 @@
 use Rattle.std.specs.Prelude.{◌≡◌, ◌≤◌, length, IsTrue}
 use Rattle.qvt_meta.specs.Metamodels.{is_single}
 use Rattle.qvt_meta.specs.WellFormed.{IsWellFormed}
-use Rattle.qvt_store.specs.Slots.{OppositesAgree, OneContainer}
-use Rattle.qvt_store.specs.Change.{Change, objects_beyond, slot_after}
+use Rattle.qvt_slots.specs.Slots.{OppositesAgree, OneContainer}
+use Rattle.qvt_slots.specs.Change.{Change, objects_beyond, slot_after}
 
 -- what is added and removed is told by the old list and the new one
 pub record IsMade (c : Change) : Type 0 where

@@ -2,11 +2,11 @@
 use Rattle.std.specs.Prelude.{◌≡◌, ℕ, List, [], IsTrue, IsFalse}
 use Rattle.qvt_value.specs.declared.value.Value.{Value}
 use Rattle.qvt_meta.specs.Metamodels.{is_containment}
-use Rattle.qvt_store.specs.Slots.{has, Inside}
-use Rattle.qvt_store.specs.Contents.{Contents, slot_of}
-use Rattle.qvt_store.specs.Types.{IsAssignable}
-use Rattle.qvt_store.specs.Repeats.{repeats}
-use Rattle.qvt_store.specs.Cells.{with_list}
+use Rattle.qvt_slots.specs.Slots.{has, Inside}
+use Rattle.qvt_slots.specs.Contents.{Contents, slot_of}
+use Rattle.qvt_slots.specs.Types.{IsAssignable}
+use Rattle.qvt_slots.specs.Repeats.{repeats}
+use Rattle.qvt_slots.specs.Cells.{with_list}
 
 -- slot (o, p) is there and empty, and the values are of its type; where p is a containment no value stands twice, none stands
 -- in a containment slot already, and no object would be inside itself

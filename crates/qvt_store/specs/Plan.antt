@@ -4,10 +4,10 @@ use Rattle.std.specs.List.{list_any}
 use Rattle.qvt_base.specs.declared.numbers.Oid.{Oid}
 use Rattle.qvt_value.specs.declared.value.Value.{Value}
 use Rattle.qvt_meta.specs.Metamodels.{is_containment, is_opposite}
-use Rattle.qvt_store.specs.declared.commit.Write.{Write}
-use Rattle.qvt_store.specs.Slots.{has}
-use Rattle.qvt_store.specs.Change.{Change, among, is_here, is_container, slot_elsewhere}
-use Rattle.qvt_store.specs.Contents.{Contents, is_slot, slot_of}
+use Rattle.qvt_slots.specs.declared.commit.Write.{Write}
+use Rattle.qvt_slots.specs.Slots.{has}
+use Rattle.qvt_slots.specs.Change.{Change, among, is_here, is_container, slot_elsewhere}
+use Rattle.qvt_slots.specs.Contents.{Contents, is_slot, slot_of}
 
 abbrev pub is_write_of : ℕ → ℕ → Write → Bool
 is_write_of x f w = (x == w.object.0) && (f == w.feature.0)

@@ -3,13 +3,13 @@ use Rattle.std.specs.Prelude.{◌≡◌, ℕ, ◌<◌, List, [], ◌∷◌, leng
 use Rattle.qvt_value.specs.declared.value.Value.{Value}
 use Rattle.qvt_meta.specs.Metamodels.{Metamodels, class_at, features_of, shape_of}
 use Rattle.qvt_meta.specs.WellFormed.{IsWellFormed}
-use Rattle.qvt_store.specs.declared.extent.Extent.{Extent}
-use Rattle.qvt_store.specs.Slots.{has, OppositesAgree, OneContainer, Inside}
-use Rattle.qvt_store.specs.Contents.{Contents, AreNamed, object_at, class_of, extent_of, extent_at, is_extent, is_live, is_model, is_slot, slot_of, with_new, with_slot}
-use Rattle.qvt_store.specs.Types.{AreTyped, IsPlain, IsAssignable}
-use Rattle.qvt_store.specs.Repeats.{AreUnique, repeats}
+use Rattle.qvt_slots.specs.declared.extent.Extent.{Extent}
+use Rattle.qvt_slots.specs.Slots.{has, OppositesAgree, OneContainer, Inside}
+use Rattle.qvt_slots.specs.Contents.{Contents, AreNamed, object_at, class_of, extent_of, extent_at, is_extent, is_live, is_model, is_slot, slot_of, with_new, with_slot}
+use Rattle.qvt_slots.specs.Types.{AreTyped, IsPlain, IsAssignable}
+use Rattle.qvt_slots.specs.Repeats.{AreUnique, repeats}
 use Rattle.qvt_store.specs.Place.{IsPlaceable}
-use Rattle.qvt_store.specs.Assign.{is_beyond, crosses, assign, append}
+use Rattle.qvt_slots.specs.Assign.{is_beyond, crosses, assign, append}
 
 -- class c is concrete and of the metamodel of extent e, and both are there
 pub record IsClassFor (s : Contents) (c e : ℕ) : Type 0 where

@@ -1,9 +1,9 @@
 ghost use Rattle.std.specs.Prelude.{◌≡◌, ◌<◌, ◌≤◌, [], length, IsTrue, IfOk, IfErr, OnOk, OnErr, IfSome, ℕ};
-ghost use Rattle.qvt_store.specs.Slots.{Contains, has};
-ghost use Rattle.qvt_store.specs.Cells.{holder_in};
+ghost use Rattle.qvt_slots.specs.Slots.{Contains, has};
+ghost use Rattle.qvt_slots.specs.Cells.{holder_in};
 ghost use Rattle.qvt_meta.specs.Metamodels.{has_feature, is_containment};
-ghost use Rattle.qvt_store.specs.Contents.{AreNamed, is_live, is_extent, class_of, extent_of, slot_of, members_of, with_new};
-ghost use Rattle.qvt_store.specs.Members.{AreEmpty};
+ghost use Rattle.qvt_slots.specs.Contents.{AreNamed, is_live, is_extent, class_of, extent_of, slot_of, members_of, with_new};
+ghost use Rattle.qvt_slots.specs.Members.{AreEmpty};
 ghost use Rattle.qvt_store.specs.Fault.{IsAddFault};
 ghost use Rattle.qvt_store.specs.Sound.{IsClassFor};
 
@@ -14,17 +14,17 @@ mod check;
 mod place;
 mod plan;
 
-use crate::add::{add_cell, empty_slots};
-use crate::cell::{Cell, Holder};
-use crate::extent::{Extent, ExtentList};
-use crate::fault::StoreFault;
-use crate::put::{find_place, place_of};
 use qvt_base::copied::Copied;
 use qvt_base::list_fault::ListFault;
 use qvt_base::lists::OidList;
 use qvt_base::numbers::{ClassNo, FeatureNo, Oid};
 use qvt_base::seq::Seq;
 use qvt_meta::metas::Metas;
+use qvt_slots::add::{add_cell, empty_slots};
+use qvt_slots::cell::{Cell, Holder};
+use qvt_slots::extent::{Extent, ExtentList};
+use qvt_slots::fault::StoreFault;
+use qvt_slots::put::{find_place, place_of};
 use qvt_value::value::Value;
 use std::alloc::Global;
 use std::marker::Model;
@@ -41,7 +41,7 @@ pub struct Store {
 }
 
 impl Model for Store {
-    ghost use Rattle.qvt_store.specs.Contents.{Contents};
+    ghost use Rattle.qvt_slots.specs.Contents.{Contents};
     ghost use Rattle.std.specs.Coded.{codes};
     ghost use Rattle.qvt_value.specs.contracts.value.Value as value;
 
@@ -49,7 +49,7 @@ impl Model for Store {
 
     ghost coded = { Prim.hlevel (codes, value.the_row.coded) };
 
-    ghost use Rattle.qvt_store.specs.Cells.{contents_of, IsKept};
+    ghost use Rattle.qvt_slots.specs.Cells.{contents_of, IsKept};
 
     ghost view = { λ s. contents_of s.metas s.extents s.cells.items };
 

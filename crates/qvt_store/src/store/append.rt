@@ -1,22 +1,22 @@
 //! Values put last in slots, with all that follows for the other slots.
 
 ghost use Rattle.std.specs.Prelude.{◌≡◌, ◌≢◌, ◌++◌, ◌∷◌, [], Ok, Err, IsTrue, IfOk, IfErr, OnOk, OnErr};
-ghost use Rattle.qvt_store.specs.Contents.{slot_of};
-ghost use Rattle.qvt_store.specs.Repeats.{new_list, AreUnique};
-ghost use Rattle.qvt_store.specs.Assign.{append, crosses, change_to, store_after};
-ghost use Rattle.qvt_store.specs.Types.{IsAssignable};
+ghost use Rattle.qvt_slots.specs.Contents.{slot_of};
+ghost use Rattle.qvt_slots.specs.Repeats.{new_list, AreUnique};
+ghost use Rattle.qvt_slots.specs.Assign.{append, crosses, change_to, store_after};
+ghost use Rattle.qvt_slots.specs.Types.{IsAssignable};
 ghost use Rattle.qvt_store.specs.Ready.{IsKnown, Ready};
 
-use crate::commit::{Write, settle};
-use crate::draft::Draft;
-use crate::fault::StoreFault;
-use crate::put::push_value;
 use crate::store::Store;
-use crate::values::{copied, holds_value, push_value_beyond};
 use qvt_base::copied::Copied;
 use qvt_base::list_fault::ListFault;
 use qvt_base::numbers::{FeatureNo, Oid};
 use qvt_base::seq::Seq;
+use qvt_slots::commit::{Write, settle};
+use qvt_slots::draft::Draft;
+use qvt_slots::fault::StoreFault;
+use qvt_slots::put::push_value;
+use qvt_slots::values::{copied, holds_value, push_value_beyond};
 use qvt_value::value::{Value, Values};
 use std::alloc::Global;
 

@@ -1,26 +1,26 @@
 //! Changes of slots, with all that follows for the other slots.
 
 ghost use Rattle.std.specs.Prelude.{◌≡◌, ◌≢◌, ◌++◌, Ok, Err, if◌then◌else◌, IfOk, IfErr, OnOk, OnErr};
-ghost use Rattle.qvt_store.specs.Change.{objects_beyond};
-ghost use Rattle.qvt_store.specs.Contents.{slot_of, with_slot};
+ghost use Rattle.qvt_slots.specs.Change.{objects_beyond};
+ghost use Rattle.qvt_slots.specs.Contents.{slot_of, with_slot};
 ghost use Rattle.qvt_meta.specs.Metamodels.{shape_of};
-ghost use Rattle.qvt_store.specs.Repeats.{without_repeats};
-ghost use Rattle.qvt_store.specs.Assign.{assign, change_to, store_after};
-ghost use Rattle.qvt_store.specs.Types.{IsAssignable, IsAttributeChange};
-ghost use Rattle.qvt_store.specs.Writes.{released_by, released_of};
+ghost use Rattle.qvt_slots.specs.Repeats.{without_repeats};
+ghost use Rattle.qvt_slots.specs.Assign.{assign, change_to, store_after};
+ghost use Rattle.qvt_slots.specs.Types.{IsAssignable, IsAttributeChange};
+ghost use Rattle.qvt_slots.specs.Writes.{released_by, released_of};
 ghost use Rattle.qvt_store.specs.Ready.{IsKnown, Ready, StaysElsewhere};
 
-use crate::commit::{Write, settle};
-use crate::draft::Draft;
-use crate::fault::StoreFault;
-use crate::features::{is_containment, is_unique};
-use crate::put::put;
 use crate::store::Store;
-use crate::values::{copied, push_beyond, without_repeats};
 use qvt_base::list_fault::ListFault;
 use qvt_base::lists::OidList;
 use qvt_base::numbers::{FeatureNo, Oid};
 use qvt_base::seq::Seq;
+use qvt_slots::commit::{Write, settle};
+use qvt_slots::draft::Draft;
+use qvt_slots::fault::StoreFault;
+use qvt_slots::features::{is_containment, is_unique};
+use qvt_slots::put::put;
+use qvt_slots::values::{copied, push_beyond, without_repeats};
 use qvt_value::value::{Value, Values};
 use std::alloc::Global;
 
@@ -36,7 +36,7 @@ impl Store {
     }
 
     /// The objects whose containment slots change.
-    pub fn released(
+    pub(super) fn released(
         &self,
         alloc: Global,
         draft: &Draft,
@@ -54,7 +54,7 @@ impl Store {
         Ok(list)
     }
 
-    pub fn is_unique_feature(&self, feature: FeatureNo) -> bool
+    pub(super) fn is_unique_feature(&self, feature: FeatureNo) -> bool
         ensures value { result ≡ (shape_of self.now.metas feature.0).unique }
         ensures known { IsKnown self.now }
     {

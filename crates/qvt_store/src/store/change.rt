@@ -1,23 +1,23 @@
 //! What a change does to the slots other than the changed one.
 
 ghost use Rattle.std.specs.Prelude.{◌≡◌, ◌==◌, ◌&&◌, filter, IfOk};
-ghost use Rattle.qvt_store.specs.Change.{is_some_object, is_here, is_added, is_removed, gains, is_taken, is_replaced, is_moved_in, is_moved, leaves, is_left, loses, keeps, with_end, slot_elsewhere};
-ghost use Rattle.qvt_store.specs.Contents.{slot_of};
+ghost use Rattle.qvt_slots.specs.Change.{is_some_object, is_here, is_added, is_removed, gains, is_taken, is_replaced, is_moved_in, is_moved, leaves, is_left, loses, keeps, with_end, slot_elsewhere};
+ghost use Rattle.qvt_slots.specs.Contents.{slot_of};
 ghost use Rattle.qvt_store.specs.Draft.{drafted};
 
-use crate::draft::Draft;
-use crate::features::{is_container, is_containment, is_opposite, is_single};
 use crate::store::Store;
-use crate::values::{holds, is_among};
 use qvt_base::copied::Copied;
 use qvt_base::list_fault::ListFault;
 use qvt_base::numbers::{FeatureNo, Oid};
 use qvt_base::seq::Seq;
+use qvt_slots::draft::Draft;
+use qvt_slots::features::{is_container, is_containment, is_opposite, is_single};
+use qvt_slots::values::{holds, is_among};
 use qvt_value::value::{Value, Values};
 use std::alloc::Global;
 
 impl Store {
-    pub fn is_here(&self, draft: &Draft, object: Oid, feature: FeatureNo) -> bool
+    pub(super) fn is_here(&self, draft: &Draft, object: Oid, feature: FeatureNo) -> bool
         ensures { result ≡ is_here (drafted self.now draft.now) object.0 feature.0 }
     {
         object.0 == draft.object.0 && feature.0 == draft.feature.0
@@ -167,7 +167,7 @@ impl Store {
     }
 
     /// The list that a slot other than the changed one then holds.
-    pub fn list_elsewhere(
+    pub(super) fn list_elsewhere(
         &self,
         alloc: Global,
         draft: &Draft,

@@ -3,20 +3,20 @@
 ghost use Rattle.std.specs.Prelude.{◌≡◌, ◌↔◌, ◌++◌, ◌∷◌, [], IsTrue, IfOk, IfErr, OnOk};
 ghost use Rattle.std.specs.List.{list_any};
 ghost use Rattle.qvt_meta.specs.Metamodels.{opposite};
-ghost use Rattle.qvt_store.specs.Change.{among};
-ghost use Rattle.qvt_store.specs.Contents.{slot_of, is_live, extent_of, is_model, is_writable};
-ghost use Rattle.qvt_store.specs.Assign.{is_elsewhere, crosses};
+ghost use Rattle.qvt_slots.specs.Change.{among};
+ghost use Rattle.qvt_slots.specs.Contents.{slot_of, is_live, extent_of, is_model, is_writable};
+ghost use Rattle.qvt_slots.specs.Assign.{is_elsewhere, crosses};
 ghost use Rattle.qvt_store.specs.Draft.{drafted, overfills_elsewhere, is_overfilling, AddsLive, IsAllowed, IsEarlyFault};
-ghost use Rattle.qvt_store.specs.Walk.{ClosesCycle, IsOver, SomeOver, IsOverSome};
+ghost use Rattle.qvt_slots.specs.Walk.{ClosesCycle, IsOver, SomeOver, IsOverSome};
 ghost use Rattle.std.specs.Prelude.{ℕ};
 
-use crate::draft::Draft;
-use crate::fault::StoreFault;
-use crate::features::{is_beyond, is_container, is_containment, upper};
 use crate::store::Store;
-use crate::walk::is_under;
 use qvt_base::list_fault::ListFault;
 use qvt_base::numbers::{FeatureNo, Oid};
+use qvt_slots::draft::Draft;
+use qvt_slots::fault::StoreFault;
+use qvt_slots::features::{is_beyond, is_container, is_containment, upper};
+use qvt_slots::walk::is_under;
 use qvt_value::value::Value;
 use std::alloc::Global;
 
@@ -144,14 +144,14 @@ impl Store {
     }
 
     /// Whether the object is in a model, and the list holds an object of another extent.
-    pub fn crosses(&self, object: Oid, values: &[Value]) -> bool
+    pub(super) fn crosses(&self, object: Oid, values: &[Value]) -> bool
         ensures { result ≡ crosses self.now object.0 values.now }
     {
         self.is_model(self.extent_or_first(object)) && self.holds_elsewhere(object, values)
     }
 
     /// The same of the list with the value last.
-    pub fn crosses_with(&self, object: Oid, values: &[Value], value: &Value) -> bool
+    pub(super) fn crosses_with(&self, object: Oid, values: &[Value], value: &Value) -> bool
         ensures { result ≡ crosses self.now object.0 (values.now ++ value.now ∷ []) }
     {
         self.is_model(self.extent_or_first(object))
@@ -159,14 +159,14 @@ impl Store {
     }
 
     /// Whether the list holds an object of another extent than the object's.
-    pub fn holds_elsewhere(&self, object: Oid, values: &[Value]) -> bool
+    pub(super) fn holds_elsewhere(&self, object: Oid, values: &[Value]) -> bool
         ensures { result ≡ list_any (is_elsewhere self.now object.0) values.now }
     {
         values.iter().any(|value| self.is_elsewhere(object, value))
     }
 
     /// The refusals of a change but that of another model. The new list has so many items.
-    pub fn check(&self, alloc: Global, draft: &Draft, count: usize) -> Result<(), StoreFault>
+    pub(super) fn check(&self, alloc: Global, draft: &Draft, count: usize) -> Result<(), StoreFault>
         requires live { IsTrue (is_live self.now draft.now.object.0) }
         requires added { AddsLive self.now (drafted self.now draft.now) }
         ensures ok { OnOk result (IsAllowed self.now (drafted self.now draft.now) count) }

@@ -2,18 +2,18 @@
 
 ghost use Rattle.std.specs.Prelude.{◌≡◌, ◌&&◌, not, IfErr, OnOk, OnErr};
 ghost use Rattle.qvt_meta.specs.Metamodels.{shape_of};
-ghost use Rattle.qvt_store.specs.Repeats.{repeats};
-ghost use Rattle.qvt_store.specs.Contents.{with_slot};
+ghost use Rattle.qvt_slots.specs.Repeats.{repeats};
+ghost use Rattle.qvt_slots.specs.Contents.{with_slot};
 ghost use Rattle.qvt_store.specs.Place.{IsPlaceable};
 
-use crate::commit::{Write, hold_write};
-use crate::fault::StoreFault;
-use crate::features::is_unique;
-use crate::put::put;
 use crate::store::Store;
-use crate::values::{copied, repeats};
 use qvt_base::numbers::{FeatureNo, Oid};
 use qvt_meta::metas::Metas;
+use qvt_slots::commit::{Write, hold_write};
+use qvt_slots::fault::StoreFault;
+use qvt_slots::features::is_unique;
+use qvt_slots::put::put;
+use qvt_slots::values::{copied, repeats};
 use qvt_value::value::Value;
 use std::alloc::Global;
 

@@ -2,20 +2,20 @@
 
 ghost use Rattle.std.specs.Prelude.{◌≡◌, ◌∷◌, [], IsTrue, IfOk, OnOk};
 ghost use Rattle.qvt_meta.specs.Metamodels.{is_containment, is_opposite};
-ghost use Rattle.qvt_store.specs.Change.{among, is_container};
-ghost use Rattle.qvt_store.specs.Contents.{slot_of, is_slot};
+ghost use Rattle.qvt_slots.specs.Change.{among, is_container};
+ghost use Rattle.qvt_slots.specs.Contents.{slot_of, is_slot};
 ghost use Rattle.qvt_store.specs.Draft.{drafted};
 ghost use Rattle.qvt_store.specs.Plan.{listed, Plans, IsSlotOf, IsSlotOfSome, IsOwnerSlot, IsAround, IsAroundSome, IsHeldSlot, IsOppositeSlot, IsOpposed, IsRehoused, IsPlan};
-ghost use Rattle.qvt_store.specs.Slots.{has};
+ghost use Rattle.qvt_slots.specs.Slots.{has};
 ghost use Rattle.std.specs.Prelude.{ℕ};
 
-use crate::commit::Write;
-use crate::draft::Draft;
-use crate::fault::StoreFault;
-use crate::features::{is_container, is_containment};
-use crate::put::find_place;
 use crate::store::Store;
+use qvt_base::list_fault::ListFault;
 use qvt_base::numbers::{FeatureNo, Oid};
+use qvt_slots::commit::Write;
+use qvt_slots::draft::Draft;
+use qvt_slots::features::{is_container, is_containment};
+use qvt_slots::put::find_place;
 use qvt_value::value::Value;
 use std::alloc::Global;
 
@@ -36,7 +36,7 @@ impl Store {
         draft: &Draft,
         object: Oid,
         feature: FeatureNo,
-    ) -> Result<(), StoreFault>
+    ) -> Result<(), ListFault>
         ensures { OnOk result (Plans self.now (drafted self.now draft.now) writes.old.items writes.new.items (IsSlotOf object.0 feature.0)) }
     {
         if !self.is_slot(object, feature) || self.is_here(draft, object, feature) {
@@ -46,11 +46,14 @@ impl Store {
             return Ok(());
         }
         let items = self.list_elsewhere(alloc, draft, object, feature)?;
-        writes.push(Write {
+        let write = Write {
             object,
             feature,
             items,
-        })?;
+        };
+        let Ok(()) = writes.push(write) else {
+            return Err(ListFault::NoMemory);
+        };
         Ok(())
     }
 
@@ -62,7 +65,7 @@ impl Store {
         draft: &Draft,
         objects: &[Oid],
         feature: FeatureNo,
-    ) -> Result<(), StoreFault>
+    ) -> Result<(), ListFault>
         ensures { OnOk result (Plans self.now (drafted self.now draft.now) writes.old.items writes.new.items (IsSlotOfSome objects.now feature.0)) }
     {
         for object in objects {
@@ -78,7 +81,7 @@ impl Store {
         writes: &mut Vec<Write>,
         draft: &Draft,
         value: &Value,
-    ) -> Result<(), StoreFault>
+    ) -> Result<(), ListFault>
         ensures { OnOk result (Plans self.now (drafted self.now draft.now) writes.old.items writes.new.items (IsHeldSlot (value.now ∷ []) draft.now.feature.0)) }
     {
         match value {
@@ -97,7 +100,7 @@ impl Store {
         writes: &mut Vec<Write>,
         draft: &Draft,
         values: &[Value],
-    ) -> Result<(), StoreFault>
+    ) -> Result<(), ListFault>
         ensures { OnOk result (Plans self.now (drafted self.now draft.now) writes.old.items writes.new.items (IsHeldSlot values.now draft.now.feature.0)) }
     {
         for value in values {
@@ -114,7 +117,7 @@ impl Store {
         draft: &Draft,
         objects: &[Oid],
         opposite: FeatureNo,
-    ) -> Result<(), StoreFault>
+    ) -> Result<(), ListFault>
         ensures { OnOk result (Plans self.now (drafted self.now draft.now) writes.old.items writes.new.items (IsOwnerSlot self.now objects.now opposite.0 draft.now.feature.0)) }
     {
         for object in objects {
@@ -132,7 +135,7 @@ impl Store {
         draft: &Draft,
         object: Oid,
         feature: FeatureNo,
-    ) -> Result<(), StoreFault>
+    ) -> Result<(), ListFault>
         ensures { OnOk result (Plans self.now (drafted self.now draft.now) writes.old.items writes.new.items (IsOppositeSlot self.now object.0 feature.0)) }
     {
         match self.metas.opposite(feature) {
@@ -151,7 +154,7 @@ impl Store {
         writes: &mut Vec<Write>,
         draft: &Draft,
         object: Oid,
-    ) -> Result<(), StoreFault>
+    ) -> Result<(), ListFault>
         ensures { OnOk result (Plans self.now (drafted self.now draft.now) writes.old.items writes.new.items (IsAround self.now object.0)) }
     {
         match self.holder(object) {
@@ -170,7 +173,7 @@ impl Store {
         writes: &mut Vec<Write>,
         draft: &Draft,
         objects: &[Oid],
-    ) -> Result<(), StoreFault>
+    ) -> Result<(), ListFault>
         ensures { OnOk result (Plans self.now (drafted self.now draft.now) writes.old.items writes.new.items (IsAroundSome self.now objects.now)) }
     {
         for object in objects {
@@ -184,7 +187,7 @@ impl Store {
         alloc: Global,
         writes: &mut Vec<Write>,
         draft: &Draft,
-    ) -> Result<(), StoreFault>
+    ) -> Result<(), ListFault>
         ensures { OnOk result (Plans self.now (drafted self.now draft.now) writes.old.items writes.new.items (IsRehoused self.now (drafted self.now draft.now))) }
     {
         if is_containment(&self.metas, draft.feature) {
@@ -203,7 +206,7 @@ impl Store {
         alloc: Global,
         writes: &mut Vec<Write>,
         draft: &Draft,
-    ) -> Result<(), StoreFault>
+    ) -> Result<(), ListFault>
         ensures { OnOk result (Plans self.now (drafted self.now draft.now) writes.old.items writes.new.items (IsOpposed self.now (drafted self.now draft.now))) }
     {
         match self.metas.opposite(draft.feature) {
@@ -218,7 +221,7 @@ impl Store {
     }
 
     /// Every slot other than the changed one that may change, with its new list.
-    pub fn plan(&self, alloc: Global, draft: &Draft) -> Result<Vec<Write>, StoreFault>
+    pub(super) fn plan(&self, alloc: Global, draft: &Draft) -> Result<Vec<Write>, ListFault>
         ensures { IfOk result (λ writes. IsPlan self.now (drafted self.now draft.now) writes.items) }
     {
         let mut writes = Vec::new(alloc);

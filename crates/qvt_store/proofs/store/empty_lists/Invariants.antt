@@ -1,4 +1,4 @@
-use Rattle.qvt_store.specs.Members.{AreEmpty}
+use Rattle.qvt_slots.specs.Members.{AreEmpty}
 use Rattle.qvt_store.proofs.store.empty_lists.Given as goal
 
 abbrev pub invariant-loop-extent : goal.invariant-loop-extent

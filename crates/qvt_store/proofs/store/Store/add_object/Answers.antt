@@ -2,10 +2,10 @@ use Rattle.std.proofs.Common.{◌≡◌, ◌∙◌, ◌<◌, ◌++◌, ◌∷◌
 use Rattle.std.specs.Prelude.{None, slice_set, slice_index_or}
 use Rattle.std.proofs.lemmas.Bool.{ltb-true}
 use Rattle.qvt_base.specs.declared.numbers.FeatureNo.{FeatureNo}
-use Rattle.qvt_store.specs.declared.cell.Cell.{Cell}
-use Rattle.qvt_store.specs.Contents.{Contents}
-use Rattle.qvt_store.specs.Cells.{IsKept}
-use Rattle.qvt_store.proofs.Added.{added_kept}
+use Rattle.qvt_slots.specs.declared.cell.Cell.{Cell}
+use Rattle.qvt_slots.specs.Contents.{Contents}
+use Rattle.qvt_slots.specs.Cells.{IsKept}
+use Rattle.qvt_slots.proofs.Added.{added_kept}
 use Rattle.qvt_store.proofs.store.Store.add_object.Goals as goal
 
 pub invariant_of-self-2 : goal.invariant_of-self-2

@@ -1,8 +1,8 @@
 use Rattle.std.proofs.Common.{◌∙◌, sym, ap, List}
 use Rattle.std.specs.List.{list_any}
 use Rattle.qvt_value.specs.declared.value.Value.{Value}
-use Rattle.qvt_store.specs.Contents.{slot_of}
-use Rattle.qvt_store.specs.Repeats.{same_value}
+use Rattle.qvt_slots.specs.Contents.{slot_of}
+use Rattle.qvt_slots.specs.Repeats.{same_value}
 use Rattle.qvt_store.proofs.Appending.{new_last, new_none}
 use Rattle.qvt_store.proofs.store.Store.append.Goals as goal
 

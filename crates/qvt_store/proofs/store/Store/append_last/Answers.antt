@@ -2,12 +2,12 @@ use Rattle.std.proofs.Common.{◌≡◌, ◌∙◌, ◌++◌, ◌∷◌, [], sym
 use Rattle.std.specs.Prelude.{Ok}
 use Rattle.qvt_base.specs.declared.numbers.Oid.{Oid}
 use Rattle.qvt_value.specs.declared.value.Value.{Value}
-use Rattle.qvt_store.specs.declared.commit.Write.{Write}
-use Rattle.qvt_store.specs.Change.{objects_beyond}
-use Rattle.qvt_store.specs.Contents.{Contents, slot_of}
-use Rattle.qvt_store.specs.Assign.{crosses, change_to, store_after}
+use Rattle.qvt_slots.specs.declared.commit.Write.{Write}
+use Rattle.qvt_slots.specs.Change.{objects_beyond}
+use Rattle.qvt_slots.specs.Contents.{Contents, slot_of}
+use Rattle.qvt_slots.specs.Assign.{crosses, change_to, store_after}
 use Rattle.qvt_store.specs.Ready.{Ready}
-use Rattle.qvt_store.specs.Writes.{released_of}
+use Rattle.qvt_slots.specs.Writes.{released_of}
 use Rattle.qvt_store.proofs.Assigning.{live_added, early, cross, done, ready}
 use Rattle.qvt_store.proofs.Appending.{adds_last, removes_none, list_assignable, length-last, count_is}
 use Rattle.qvt_store.proofs.store.Store.append_last.Goals as goal

@@ -1,8 +1,8 @@
 use Rattle.std.proofs.Common.{◌≡◌, ◌∙◌, ◌++◌, ◌∷◌, [], sym, ap, subst, List, length, true, false}
 use Rattle.std.specs.Prelude.{Ok}
 use Rattle.qvt_value.specs.declared.value.Value.{Value}
-use Rattle.qvt_store.specs.Contents.{Contents, slot_of}
-use Rattle.qvt_store.specs.Assign.{crosses}
+use Rattle.qvt_slots.specs.Contents.{Contents, slot_of}
+use Rattle.qvt_slots.specs.Assign.{crosses}
 use Rattle.qvt_store.proofs.Assigning.{live_added, early, cross, done}
 use Rattle.qvt_store.proofs.Appending.{same_none, list_assignable, none_told}
 use Rattle.qvt_store.proofs.store.Store.append_none.Goals as goal

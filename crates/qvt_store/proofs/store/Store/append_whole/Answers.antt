@@ -1,8 +1,8 @@
 use Rattle.std.proofs.Common.{◌≡◌, ◌∙◌, sym, subst, List}
 use Rattle.std.specs.Prelude.{Ok, Err}
 use Rattle.qvt_value.specs.declared.value.Value.{Value}
-use Rattle.qvt_store.specs.Types.{IsAssignable}
-use Rattle.qvt_store.specs.Assign.{assign}
+use Rattle.qvt_slots.specs.Types.{IsAssignable}
+use Rattle.qvt_slots.specs.Assign.{assign}
 use Rattle.qvt_store.proofs.Appending.{list_assignable}
 use Rattle.qvt_store.proofs.store.Store.append_whole.Goals as goal
 

@@ -1,12 +1,12 @@
 use Rattle.std.proofs.Common.{◌≡◌, ◌∙◌, sym, ap, cond, subst, List, true, false}
 use Rattle.std.specs.Prelude.{Ok}
 use Rattle.qvt_value.specs.declared.value.Value.{Value}
-use Rattle.qvt_store.specs.declared.commit.Write.{Write}
-use Rattle.qvt_store.specs.Change.{objects_beyond}
-use Rattle.qvt_store.specs.Contents.{Contents, slot_of, with_slot}
-use Rattle.qvt_store.specs.Repeats.{without_repeats}
-use Rattle.qvt_store.specs.Assign.{crosses}
-use Rattle.qvt_store.specs.Writes.{released_of}
+use Rattle.qvt_slots.specs.declared.commit.Write.{Write}
+use Rattle.qvt_slots.specs.Change.{objects_beyond}
+use Rattle.qvt_slots.specs.Contents.{Contents, slot_of, with_slot}
+use Rattle.qvt_slots.specs.Repeats.{without_repeats}
+use Rattle.qvt_slots.specs.Assign.{crosses}
+use Rattle.qvt_slots.specs.Writes.{released_of}
 use Rattle.qvt_store.proofs.Assigning.{live_added, early, cross, done, ready, stays_elsewhere, items_same, no_early, no_cross}
 use Rattle.qvt_store.proofs.store.Store.assign.Goals as goal
 

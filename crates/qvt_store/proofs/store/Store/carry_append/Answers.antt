@@ -1,7 +1,7 @@
 use Rattle.std.proofs.Common.{◌∙◌, ◌++◌, ◌∷◌, [], sym, ap, subst, get_or}
-use Rattle.qvt_store.specs.Contents.{Contents, slot_in, slot_of}
-use Rattle.qvt_store.specs.Assign.{change_to, store_after}
-use Rattle.qvt_store.specs.Cells.{instances}
+use Rattle.qvt_slots.specs.Contents.{Contents, slot_in, slot_of}
+use Rattle.qvt_slots.specs.Assign.{change_to, store_after}
+use Rattle.qvt_slots.specs.Cells.{instances}
 use Rattle.qvt_store.specs.Ready.{Ready}
 use Rattle.qvt_store.proofs.Done.{writes_live, items_live, released_live, added_live, kept_whole, gives_store}
 use Rattle.qvt_store.proofs.Moved.{moved_live, moved_write, slot_there, cells_live}

@@ -1,8 +1,8 @@
 use Rattle.std.proofs.Common.{◌∙◌, sym, ap, cond, ◌==◌, ◌&&◌, subst, List, get_or}
 use Rattle.qvt_value.specs.declared.value.Value.{Value}
-use Rattle.qvt_store.specs.Cells.{contents_of}
-use Rattle.qvt_store.specs.Contents.{Contents, with_slot}
-use Rattle.qvt_store.specs.Assign.{change_to, store_after}
+use Rattle.qvt_slots.specs.Cells.{contents_of}
+use Rattle.qvt_slots.specs.Contents.{Contents, with_slot}
+use Rattle.qvt_slots.specs.Assign.{change_to, store_after}
 use Rattle.qvt_store.specs.Ready.{Ready, StaysElsewhere}
 use Rattle.qvt_store.proofs.Done.{writes_live, items_live, released_live, added_live, kept_whole, gives_store, gives_slot}
 use Rattle.qvt_store.proofs.Moved.{slot_there, cells_live, moved_live, moved_write}

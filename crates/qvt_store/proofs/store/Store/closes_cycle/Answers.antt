@@ -3,10 +3,10 @@ use Rattle.qvt_base.specs.declared.numbers.Oid.{Oid}
 use Rattle.qvt_meta.specs.Metamodels.{is_containment}
 use Rattle.qvt_meta.specs.WellFormed.{IsWellFormed}
 use Rattle.qvt_relation.proofs.Bools.{clash}
-use Rattle.qvt_store.specs.Change.{is_container, among}
-use Rattle.qvt_store.specs.Contents.{Contents, slot_of, is_live}
+use Rattle.qvt_slots.specs.Change.{is_container, among}
+use Rattle.qvt_slots.specs.Contents.{Contents, slot_of, is_live}
 use Rattle.qvt_store.specs.Draft.{drafted}
-use Rattle.qvt_store.specs.Walk.{SomeOver, IsOverSome}
+use Rattle.qvt_slots.specs.Walk.{SomeOver, IsOverSome}
 use Rattle.qvt_store.proofs.CycleTests.{items_only, end_only, closes_none}
 use Rattle.qvt_store.proofs.Cycles.{not_container}
 use Rattle.qvt_store.proofs.store.Store.closes_cycle.Goals as goal

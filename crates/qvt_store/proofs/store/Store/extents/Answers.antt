@@ -1,5 +1,5 @@
 use Rattle.std.proofs.Common.{subst}
-use Rattle.qvt_store.specs.Contents.{Contents, AreNamed}
+use Rattle.qvt_slots.specs.Contents.{Contents, AreNamed}
 use Rattle.qvt_store.proofs.store.Store.extents.Goals as goal
 
 pub returns-clause-named : goal.returns-clause-named

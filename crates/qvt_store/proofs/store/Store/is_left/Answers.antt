@@ -1,8 +1,8 @@
 use Rattle.std.proofs.Common.{◌∙◌, sym, ap}
 use Rattle.qvt_relation.proofs.Bools.{and_false}
-use Rattle.qvt_store.specs.Slots.{has}
-use Rattle.qvt_store.specs.Change.{is_left, leaves}
-use Rattle.qvt_store.specs.Contents.{slot_of}
+use Rattle.qvt_slots.specs.Slots.{has}
+use Rattle.qvt_slots.specs.Change.{is_left, leaves}
+use Rattle.qvt_slots.specs.Contents.{slot_of}
 use Rattle.qvt_store.specs.Draft.{drafted}
 use Rattle.qvt_store.proofs.store.Store.is_left.Goals as goal
 

@@ -1,7 +1,7 @@
 use Rattle.std.proofs.Common.{◌∙◌, ap, sym}
 use Rattle.std.specs.Prelude.{slice_index_or}
-use Rattle.qvt_store.specs.declared.extent.Extent.{Extent}
-use Rattle.qvt_store.specs.Contents.{Contents, no_extent, is_named}
+use Rattle.qvt_slots.specs.declared.extent.Extent.{Extent}
+use Rattle.qvt_slots.specs.Contents.{Contents, no_extent, is_named}
 use Rattle.qvt_store.proofs.CycleTests.{none_at}
 use Rattle.qvt_store.proofs.store.Store.is_model.Goals as goal
 

@@ -1,8 +1,8 @@
 use Rattle.std.proofs.Common.{◌≡◌, ◌↔◌, subst, true}
 use Rattle.qvt_store.proofs.CycleTests.{some_one}
-use Rattle.qvt_store.specs.Contents.{Contents, slot_of, slot_in}
-use Rattle.qvt_store.specs.Cells.{instances}
-use Rattle.qvt_store.specs.Walk.{IsOver}
+use Rattle.qvt_slots.specs.Contents.{Contents, slot_of, slot_in}
+use Rattle.qvt_slots.specs.Cells.{instances}
+use Rattle.qvt_slots.specs.Walk.{IsOver}
 use Rattle.qvt_store.proofs.store.Store.is_over.Goals as goal
 
 pub returns : goal.returns

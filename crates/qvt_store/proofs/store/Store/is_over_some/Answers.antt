@@ -2,9 +2,9 @@ use Rattle.std.proofs.Common.{refl, sym, subst, List, false}
 use Rattle.std.proofs.lemmas.List.{take_all}
 use Rattle.qvt_base.specs.declared.numbers.Oid.{Oid}
 use Rattle.qvt_relation.proofs.Bools.{clash}
-use Rattle.qvt_store.specs.Contents.{slot_of}
-use Rattle.qvt_store.specs.Walk.{IsOverSome}
-use Rattle.qvt_store.proofs.Holds.{in_among}
+use Rattle.qvt_slots.specs.Contents.{slot_of}
+use Rattle.qvt_slots.specs.Walk.{IsOverSome}
+use Rattle.qvt_slots.proofs.Holds.{in_among}
 use Rattle.qvt_store.proofs.CycleTests.{over_more, over_found}
 use Rattle.qvt_store.proofs.store.Store.is_over_some.Goals as goal
 

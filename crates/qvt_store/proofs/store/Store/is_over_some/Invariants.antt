@@ -1,6 +1,6 @@
 use Rattle.std.proofs.Common.{take}
-use Rattle.qvt_store.specs.Contents.{slot_of}
-use Rattle.qvt_store.specs.Walk.{IsOverSome}
+use Rattle.qvt_slots.specs.Contents.{slot_of}
+use Rattle.qvt_slots.specs.Walk.{IsOverSome}
 use Rattle.qvt_store.proofs.store.Store.is_over_some.Given as goal
 
 abbrev pub invariant-loop-item : goal.invariant-loop-item

@@ -1,6 +1,6 @@
 use Rattle.std.proofs.Common.{◌≡◌, ◌↔◌, subst, true}
-use Rattle.qvt_store.specs.Contents.{Contents, slot_of}
-use Rattle.qvt_store.specs.Walk.{SomeOver}
+use Rattle.qvt_slots.specs.Contents.{Contents, slot_of}
+use Rattle.qvt_slots.specs.Walk.{SomeOver}
 use Rattle.qvt_store.proofs.store.Store.is_some_over.Goals as goal
 
 pub returns : goal.returns

@@ -1,6 +1,6 @@
 use Rattle.std.proofs.Common.{◌≡◌, take}
 use Rattle.std.specs.Prelude.{filter}
-use Rattle.qvt_store.specs.Change.{keeps}
+use Rattle.qvt_slots.specs.Change.{keeps}
 use Rattle.qvt_store.specs.Draft.{drafted}
 use Rattle.qvt_store.proofs.store.Store.kept.Given as goal
 

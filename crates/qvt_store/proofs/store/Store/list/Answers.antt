@@ -3,9 +3,9 @@ use Rattle.std.specs.Prelude.{slice_index_or}
 use Rattle.qvt_base.specs.declared.numbers.FeatureNo.{FeatureNo}
 use Rattle.qvt_value.specs.declared.value.Value.{Value}
 use Rattle.qvt_meta.specs.Metamodels.{features_of, among_features}
-use Rattle.qvt_store.specs.Cells.{IsPlaceOf}
-use Rattle.qvt_store.specs.Contents.{Contents, slot_of}
-use Rattle.qvt_store.proofs.Cells.{cell-slots, slot-cell, empty_slot, dead_slot}
+use Rattle.qvt_slots.specs.Cells.{IsPlaceOf}
+use Rattle.qvt_slots.specs.Contents.{Contents, slot_of}
+use Rattle.qvt_slots.proofs.Cells.{cell-slots, slot-cell, empty_slot, dead_slot}
 use Rattle.qvt_store.proofs.store.Store.list.Goals as goal
 use Rattle.qvt_store.proofs.store.Store.list.Goals.{then-at-len+in_default, else-at-len}
 

@@ -1,10 +1,10 @@
 use Rattle.std.proofs.Common.{◌∙◌, sym, ap, subst, ◌&&◌, not, List}
 use Rattle.qvt_value.specs.declared.value.Value.{Value}
 use Rattle.qvt_meta.specs.Metamodels.{shape_of}
-use Rattle.qvt_store.specs.Contents.{Contents, with_slot}
-use Rattle.qvt_store.specs.Repeats.{repeats}
+use Rattle.qvt_slots.specs.Contents.{Contents, with_slot}
+use Rattle.qvt_slots.specs.Repeats.{repeats}
 use Rattle.qvt_store.specs.Place.{IsPlaceable}
-use Rattle.qvt_store.proofs.Holds.{have_same}
+use Rattle.qvt_slots.proofs.Holds.{have_same}
 use Rattle.qvt_store.proofs.Placed.{placed_kept, gives_placed, items_there, still_distinct, mid_live, mid_there}
 use Rattle.qvt_store.proofs.store.Store.load.Goals as goal
 

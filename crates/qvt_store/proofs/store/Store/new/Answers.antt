@@ -1,11 +1,11 @@
 use Rattle.std.proofs.Common.{sym, subst, List, length, true}
-use Rattle.qvt_store.specs.declared.cell.Cell.{Cell}
-use Rattle.qvt_store.specs.declared.extent.Extent.{Extent}
+use Rattle.qvt_slots.specs.declared.cell.Cell.{Cell}
+use Rattle.qvt_slots.specs.declared.extent.Extent.{Extent}
 use Rattle.qvt_meta.specs.Metamodels.{Metamodels}
-use Rattle.qvt_store.specs.Contents.{AreNamed}
-use Rattle.qvt_store.specs.Cells.{IsKept}
-use Rattle.qvt_store.specs.Members.{AreEmpty}
-use Rattle.qvt_store.proofs.Added.{empty_kept}
+use Rattle.qvt_slots.specs.Contents.{AreNamed}
+use Rattle.qvt_slots.specs.Cells.{IsKept}
+use Rattle.qvt_slots.specs.Members.{AreEmpty}
+use Rattle.qvt_slots.proofs.Added.{empty_kept}
 use Rattle.qvt_store.proofs.store.Store.new.Goals as goal
 
 pub invariant_of-result : goal.invariant_of-result

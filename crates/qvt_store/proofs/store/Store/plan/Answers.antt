@@ -1,7 +1,7 @@
 use Rattle.std.proofs.Common.{refl, subst, List}
 use Rattle.qvt_meta.specs.WellFormed.{IsWellFormed}
-use Rattle.qvt_store.specs.declared.commit.Write.{Write}
-use Rattle.qvt_store.specs.Contents.{Contents}
+use Rattle.qvt_slots.specs.declared.commit.Write.{Write}
+use Rattle.qvt_slots.specs.Contents.{Contents}
 use Rattle.qvt_store.specs.Draft.{drafted}
 use Rattle.qvt_store.specs.Plan.{Plans, IsOpposed}
 use Rattle.qvt_store.proofs.Untouched.{plan_is}

@@ -2,7 +2,7 @@ use Rattle.std.proofs.Common.{◌≡◌, ◌∙◌, sym, subst, List, true, fals
 use Rattle.qvt_base.specs.declared.numbers.Oid.{Oid}
 use Rattle.qvt_meta.specs.Metamodels.{is_containment}
 use Rattle.qvt_meta.specs.WellFormed.{IsWellFormed}
-use Rattle.qvt_store.specs.Contents.{Contents}
+use Rattle.qvt_slots.specs.Contents.{Contents}
 use Rattle.qvt_store.specs.Draft.{drafted}
 use Rattle.qvt_store.specs.Plan.{Plans, IsAroundSome}
 use Rattle.qvt_store.proofs.Plans.{rehoused_items, rehoused_itself}

@@ -1,6 +1,6 @@
 use Rattle.std.proofs.Common.{◌≡◌, take}
-use Rattle.qvt_store.specs.Contents.{slot_of}
-use Rattle.qvt_store.specs.Writes.{released_of}
+use Rattle.qvt_slots.specs.Contents.{slot_of}
+use Rattle.qvt_slots.specs.Writes.{released_of}
 use Rattle.qvt_store.proofs.store.Store.released.Given as goal
 
 abbrev pub invariant-loop-write : goal.invariant-loop-write

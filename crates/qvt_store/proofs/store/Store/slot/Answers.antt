@@ -2,9 +2,9 @@ use Rattle.std.proofs.Common.{◌≡◌, ◌∙◌, sym, subst, List}
 use Rattle.std.specs.Prelude.{slice_index_or}
 use Rattle.qvt_base.specs.declared.numbers.FeatureNo.{FeatureNo}
 use Rattle.qvt_value.specs.declared.value.Value.{Value}
-use Rattle.qvt_store.specs.Cells.{IsPlaceOf}
-use Rattle.qvt_store.specs.Contents.{Contents, slot_of}
-use Rattle.qvt_store.proofs.Cells.{slot-cell, live_cell}
+use Rattle.qvt_slots.specs.Cells.{IsPlaceOf}
+use Rattle.qvt_slots.specs.Contents.{Contents, slot_of}
+use Rattle.qvt_slots.proofs.Cells.{slot-cell, live_cell}
 use Rattle.qvt_store.proofs.store.Store.slot.Goals as goal
 
 pub returns : goal.returns

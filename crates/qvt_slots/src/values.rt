@@ -1,0 +1,173 @@
+//! Lists of values, and the objects in them.
+
+ghost use Rattle.std.specs.Prelude.{◌≡◌, ◌++◌, ◌∷◌, [], length, IfOk, OnOk, OnErr};
+ghost use Rattle.std.specs.List.{list_any};
+ghost use Rattle.qvt_slots.specs.Slots.{has, is_object};
+ghost use Rattle.qvt_slots.specs.Change.{among, objects_beyond};
+ghost use Rattle.qvt_slots.specs.Repeats.{same_literal, is_bool_of, is_int_of, is_text_of, is_literal_of, same_value, repeats, without_repeats};
+
+use qvt_base::copied::Copied;
+use qvt_base::list_fault::ListFault;
+use qvt_base::lists::OidList;
+use qvt_base::numbers::Oid;
+use qvt_base::seq::Seq;
+use qvt_value::value::{LiteralRef, Value, Values};
+use std::alloc::Global;
+
+/// Whether the list holds the object.
+pub fn holds(values: &[Value], object: Oid) -> bool
+    ensures { result ≡ has values.now object.0 }
+{
+    values.iter().any(|value| is_object_of(object, value))
+}
+
+/// Whether the object is one of these.
+pub fn is_among(objects: &[Oid], object: Oid) -> bool
+    ensures { result ≡ among objects.now object.0 }
+{
+    objects.iter().any(|other| other.0 == object.0)
+}
+
+/// Puts the objects of the list last that the other list does not hold.
+pub fn push_beyond(list: &mut OidList, others: &[Value], values: &[Value]) -> Result<(), ListFault>
+    ensures ok { OnOk result (list.new ≡ list.old ++ objects_beyond others.now values.now) }
+{
+    for value in values {
+        push_value_beyond(list, others, value)?;
+    }
+    Ok(())
+}
+
+/// Puts the value last, if it is an object that the list does not hold.
+pub fn push_value_beyond(
+    list: &mut OidList,
+    others: &[Value],
+    value: &Value,
+) -> Result<(), ListFault>
+    ensures ok { OnOk result (list.new ≡ list.old ++ objects_beyond others.now (value.now ∷ [])) }
+{
+    match value {
+        Value::Obj(object) => {
+            if !holds(others, *object) {
+                list.push(*object)?;
+            }
+            Ok(())
+        }
+        _ => Ok(()),
+    }
+}
+
+fn same_literal(a: LiteralRef, b: LiteralRef) -> bool
+    ensures { result ≡ same_literal a b }
+{
+    a.metamodel == b.metamodel && a.enumeration == b.enumeration && a.literal == b.literal
+}
+
+fn is_bool_of(truth: bool, value: &Value) -> bool
+    ensures { result ≡ is_bool_of truth value.now }
+{
+    match value {
+        Value::Bool(other) => truth == *other,
+        _ => false,
+    }
+}
+
+fn is_int_of(number: i64, value: &Value) -> bool
+    ensures { result ≡ is_int_of number value.now }
+{
+    match value {
+        Value::Int(other) => number == *other,
+        _ => false,
+    }
+}
+
+fn is_text_of(text: &str, value: &Value) -> bool
+    ensures { result ≡ is_text_of text.now value.now }
+{
+    match value {
+        Value::Str(other) => text == other.as_str(),
+        _ => false,
+    }
+}
+
+fn is_literal_of(literal: LiteralRef, value: &Value) -> bool
+    ensures { result ≡ is_literal_of literal value.now }
+{
+    match value {
+        Value::Enum(other) => same_literal(literal, *other),
+        _ => false,
+    }
+}
+
+pub fn is_object_of(object: Oid, value: &Value) -> bool
+    ensures { result ≡ is_object object.0 value.now }
+{
+    match value {
+        Value::Obj(other) => other.0 == object.0,
+        _ => false,
+    }
+}
+
+/// Whether the values are equal, of values that stand in slots.
+pub fn same_value(a: &Value, b: &Value) -> bool
+    ensures { result ≡ same_value a.now b.now }
+{
+    match a {
+        Value::Bool(truth) => is_bool_of(*truth, b),
+        Value::Int(number) => is_int_of(*number, b),
+        Value::Str(text) => is_text_of(text.as_str(), b),
+        Value::Enum(literal) => is_literal_of(*literal, b),
+        Value::Obj(object) => is_object_of(*object, b),
+        _ => false,
+    }
+}
+
+/// Whether a value of the list equals this one.
+pub fn holds_value(values: &[Value], value: &Value) -> bool
+    ensures { result ≡ list_any (λ other. same_value other value.now) values.now }
+{
+    values.iter().any(|other| same_value(other, value))
+}
+
+fn stands_in(value: &Value, values: &[Value]) -> bool
+    ensures { result ≡ list_any (same_value value.now) values.now }
+{
+    values.iter().any(|other| same_value(value, other))
+}
+
+/// Whether a value stands twice in the list.
+pub fn repeats(values: &[Value]) -> bool
+    ensures { result ≡ repeats values.now }
+{
+    for (i, value) in values.iter().enumerate() {
+        let (_, rest) = values.split_at(i + 1);
+        if stands_in(value, rest) {
+            return true;
+        }
+    }
+    false
+}
+
+/// Copies of the values, in order.
+pub fn copied(alloc: Global, values: &[Value]) -> Result<Values, ListFault>
+    ensures { IfOk result (λ copies. copies ≡ values.now) }
+{
+    let mut copies = Seq::new(alloc);
+    for value in values {
+        copies.push(value.copy(alloc)?)?;
+    }
+    Ok(copies)
+}
+
+/// Copies of the values, with the first of equal values kept.
+pub fn without_repeats(alloc: Global, values: &[Value]) -> Result<Values, ListFault>
+    ensures { IfOk result (λ list. list ≡ without_repeats values.now) }
+{
+    let mut list = Seq::new(alloc);
+    for value in values {
+        if !holds_value(list.as_slice(), value) {
+            list.push(value.copy(alloc)?)?;
+        }
+    }
+    Ok(list)
+}

@@ -1,6 +1,0 @@
-use Rattle.std.proofs.Common.{take}
-use Rattle.qvt_store.specs.Writes.{AreHeldBy}
-use Rattle.qvt_store.proofs.commit.hold_all.Given as goal
-
-abbrev pub invariant-loop-write : goal.invariant-loop-write
-invariant-loop-write l = AreHeldBy l.metas l.fn.cells.items l.cells.items (take l.write-index l.writes)

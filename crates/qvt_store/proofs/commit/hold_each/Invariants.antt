@@ -1,7 +1,0 @@
-use Rattle.std.proofs.Common.{take}
-use Rattle.qvt_store.specs.Change.{among}
-use Rattle.qvt_store.specs.Writes.{AreHeld}
-use Rattle.qvt_store.proofs.commit.hold_each.Given as goal
-
-abbrev pub invariant-loop-object : goal.invariant-loop-object
-invariant-loop-object l = AreHeld l.fn.cells.items l.cells.items (among (take l.object-index l.objects)) l.holder

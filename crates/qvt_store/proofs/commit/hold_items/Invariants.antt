@@ -1,7 +1,0 @@
-use Rattle.std.proofs.Common.{take}
-use Rattle.qvt_store.specs.Slots.{has}
-use Rattle.qvt_store.specs.Writes.{AreHeld}
-use Rattle.qvt_store.proofs.commit.hold_items.Given as goal
-
-abbrev pub invariant-loop-value : goal.invariant-loop-value
-invariant-loop-value l = AreHeld l.fn.cells.items l.cells.items (has (take l.value-index l.values)) l.holder

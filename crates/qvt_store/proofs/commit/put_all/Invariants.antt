@@ -1,5 +1,0 @@
-use Rattle.qvt_store.specs.Writes.{IsWritten}
-use Rattle.qvt_store.proofs.commit.put_all.Given as goal
-
-abbrev pub invariant-loop-write : goal.invariant-loop-write
-invariant-loop-write l = IsWritten l.metas l.fn.cells.items l.cells.items l.yielded

@@ -1,6 +1,0 @@
-use Rattle.std.proofs.Common.{◌≡◌, drop}
-use Rattle.qvt_store.specs.Repeats.{repeats}
-use Rattle.qvt_store.proofs.values.repeats.Given as goal
-
-abbrev pub invariant-loop-i : goal.invariant-loop-i
-invariant-loop-i l = repeats l.values ≡ repeats (drop l.i l.values)
