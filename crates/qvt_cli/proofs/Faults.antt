@@ -1,8 +1,12 @@
 -- An early end by the fault of a file is one of what is stated.
-use Rattle.std.proofs.Common.{◌≡◌, ◌≢◌, ◌∙◌, ap, sym, subst, ℕ, List, Bool, true, false, Option, Some, None, Result, Ok, Err}
+use Rattle.std.proofs.Common.{◌≡◌, ◌≢◌, ◌∙◌, ◌<◌, ap, sym, subst, arith, ℕ, List, Bool, true, false, Option, Some, None, Result, Ok, Err, IfOk}
 use Rattle.std.specs.Prelude.{nat_lt, length, if◌then◌else◌}
 use Rattle.qvt_model.specs.declared.data.ObjectData.{ObjectData}
 use Rattle.qvt_meta.specs.Metamodels.{Metamodels}
+use Rattle.qvt_meta.specs.Added.{added, numbered}
+use Rattle.qvt_meta.specs.Joined.{joined}
+use Rattle.qvt_meta.specs.declared.declared.MetaData.{MetaData}
+use Rattle.qvt_cli.specs.Metas.{no_metamodels}
 use Rattle.qvt_conform.specs.Conformance.{IsWellFormed, conform_fault}
 use Rattle.qvt_model.specs.WellFormed.{IsModel}
 use Rattle.qvt_conform.specs.declared.fault.ConformFault.{ConformFault}
@@ -52,3 +56,12 @@ conform_stops m name os why e small h is = stops_at conform.NoMemory refusal.Con
 pub conform_goes_on : (m : Metamodels) (name : List ℕ) (os : List ObjectData) → nat_lt most_objects (length os) ≡ false → conform_fault m os ≡ None → conforming m name os ≡ Ok (length os)
 unfolding conforming
 conform_goes_on m name os small none = ap (λ r. r >>= (λ n. unless_fault name n (conform_fault m os))) (few name (length os) small) ∙ ap (unless_fault name (length os)) none
+
+one_added : (d : MetaData) → 0 < length (added no_metamodels d).metamodels
+unfolding joined numbered
+one_added d = omega arith
+
+-- a metamodel alone is one
+pub some_metamodel : {F : Type 0} (r : Result Metamodels F) (d : MetaData) → IfOk r (λ m. m ≡ added no_metamodels d) → IfOk r (λ m. 0 < length m.metamodels)
+some_metamodel (Ok m) d h = subst (λ m. 0 < length m.metamodels) (sym h) (one_added d)
+some_metamodel (Err e) d h = h

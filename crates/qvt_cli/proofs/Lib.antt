@@ -1,4 +1,5 @@
 pub mod Chained
+pub mod Ended
 pub mod Faults
 pub mod Sent
 pub mod Settle

@@ -23,14 +23,14 @@ fn work_and_report<F: Files, S: Sink>(
     files: &mut F,
     out: &mut S,
 ) -> Status
-    ensures answer { (held : Held) → F.held files.old ≡ Some held → Answers (settled (work_of held (command_view command))) (work_turns held (command_view command)) held
+    ensures answer { (held : Held) → F.held files.old ≡ Some held → Answers (settled (work_of held (command_view command.entry))) (work_turns held (command_view command.entry)) held
         (change_of (F.held files.new) (S.written out.old) (S.written out.new) (F.read_faults files.old) (F.read_faults files.new)
         (F.write_faults files.old) (F.write_faults files.new) (S.faults out.old) (S.faults out.new)) result }
     ensures complete { (held : Held) → F.held files.old ≡ Some held
         → ¬ Rose (F.read_faults files.old) (F.read_faults files.new)
         → ¬ Rose (F.write_faults files.old) (F.write_faults files.new)
         → ¬ Rose (S.faults out.old) (S.faults out.new)
-        → (result ≡ status_of (settled (work_of held (command_view command)))) ⊎ (result ≡ Status.NoMemory) }
+        → (result ≡ status_of (settled (work_of held (command_view command.entry)))) ⊎ (result ≡ Status.NoMemory) }
     ensures no_usage { result ≢ Status.Usage }
     ensures read_fault { result ≡ Status.ReadFault → Rose (F.read_faults files.old) (F.read_faults files.new) }
     ensures write_fault { result ≡ Status.WriteFault

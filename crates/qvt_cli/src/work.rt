@@ -16,9 +16,9 @@ use std::alloc::Global;
 
 /// Does the work of a command up to its first write, and plans what is to be written.
 pub fn perform<F: Files>(alloc: Global, files: &mut F, command: Command<'_>) -> Result<Plan, Stop>
-    ensures gives { (held : Held) → F.held files.old ≡ Some held → Gives outcome_of result (work_of held (command_view command)) }
+    ensures gives { (held : Held) → F.held files.old ≡ Some held → Gives outcome_of result (work_of held (command_view command.entry)) }
     ensures ready { IfOk result (λ p. IsReady p.outputs) }
-    ensures turn { (held : Held) → F.held files.old ≡ Some held → IfFaultOf result (λ file. IsAmong file (work_turns held (command_view command))) }
+    ensures turn { (held : Held) → F.held files.old ≡ Some held → IfFaultOf result (λ file. IsAmong file (work_turns held (command_view command.entry))) }
     ensures held { F.held files.new ≡ F.held files.old }
     ensures rose { IfFaultOf result (λ file. Rose (F.read_faults files.old) (F.read_faults files.new)) }
     ensures later { F.read_faults files.old ≤ F.read_faults files.new }
