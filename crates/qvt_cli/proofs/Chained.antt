@@ -3,7 +3,7 @@ use Rattle.std.proofs.Common.{◌≡◌, ◌≢◌, ◌∙◌, ap, sym, subst, �
 use Rattle.qvt_cli.specs.Outcome.{Outcome, refused}
 use Rattle.qvt_cli.specs.Reported.{IsAmong}
 use Rattle.qvt_meta.specs.Metamodels.{Metamodels}
-use Rattle.qvt_meta.specs.MetaData.{MetaData}
+use Rattle.qvt_meta.specs.declared.declared.MetaData.{MetaData}
 use Rattle.qvt_meta.specs.declared.fault.MetaFault.{MetaFault}
 use Rattle.qvt_meta.specs.declared.fault.MetaFault.TheVariants as meta_fault
 use Rattle.qvt_cli.specs.Run.{on_ok, IsJobStop, job_or_refused, IsMetaStop, meta_or_refused}

@@ -4,7 +4,7 @@ use Rattle.std.specs.Str.{is_utf8, chars}
 use Rattle.qvt_base.specs.Outside.{Held}
 use Rattle.qvt_meta.specs.Metamodels.{Metamodels}
 use Rattle.qvt_meta.specs.Added.{added}
-use Rattle.qvt_meta.specs.MetaData.{MetaData}
+use Rattle.qvt_meta.specs.declared.declared.MetaData.{MetaData}
 use Rattle.qvt_meta.specs.MetaOf.{meta_of}
 use Rattle.qvt_meta.specs.SmallMeta.{is_small}
 use Rattle.qvt_meta.specs.declared.fault.MetaFault.{MetaFault}
