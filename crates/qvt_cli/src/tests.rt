@@ -48,6 +48,8 @@ fn small_jobs_answer_as_their_files_say(rt: HostRuntime) -> Result<(), Fail> {
         "{\"fuel\":3,\"inputs\":[],\"metamodels\":[\"m.json\"],\"outputs\":[{\"file\":\"o.json\",\"model\":\"t\"}],\"text\":\"t.qvto\"}";
     let traced =
         "{\"fuel\":3,\"inputs\":[],\"metamodels\":[\"m.json\"],\"outputs\":[{\"file\":\"o.json\",\"model\":\"t\"}],\"text\":\"t.qvto\",\"trace\":\"o.json\"}";
+    let unknown_super = "{\"classes\":[{\"name\":\"C\",\"supers\":[\"D\"]}],\"name\":\"M\"}";
+    let not_small = "{\"classes\":[{\"abstract\":true,\"name\":\"C\"}],\"name\":\"M\"}";
     for (job, meta, text, status, line, model) in [
         (
             JOB,
@@ -109,6 +111,22 @@ fn small_jobs_answer_as_their_files_say(rt: HostRuntime) -> Result<(), Fail> {
         (
             JOB,
             "{}",
+            TEXT,
+            Status::Refused,
+            "refused: m.json: Shape /classes\n",
+            "",
+        ),
+        (
+            JOB,
+            unknown_super,
+            TEXT,
+            Status::Refused,
+            "refused: m.json: UnknownType C D\n",
+            "",
+        ),
+        (
+            JOB,
+            not_small,
             TEXT,
             Status::Refused,
             "refused: m.json: NotBuilt\n",
