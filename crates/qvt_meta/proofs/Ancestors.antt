@@ -1,7 +1,7 @@
 -- The test for what is above a class tells exactly the least set.
-use Rattle.std.proofs.Common.{◌≡◌, ◌∙◌, ℕ, zero, suc, ◌+◌, ◌<◌, ◌≤◌, List, [], ◌∷◌, length, Bool, true, false, refl, ap, sym, arith, ◌==◌, ◌||◌, eqb, subst, ◌⊎◌, inl, inr}
+use Rattle.std.proofs.Common.{◌≡◌, ◌∙◌, ℕ, zero, suc, ◌+◌, ◌<◌, List, [], ◌∷◌, length, Bool, true, refl, ap, arith, ◌==◌, ◌||◌, subst, ◌⊎◌, inl, inr}
 use Rattle.std.specs.Prelude.{slice_index, ◌↔◌, IsTrue}
-use Rattle.std.specs.List.{list_any, AllByRecursion}
+use Rattle.std.specs.List.{list_any}
 use Rattle.std.proofs.lemmas.Bool.{eqb-true, eq-eqb}
 use Rattle.std.proofs.lemmas.List.{get_or_past}
 use Rattle.qvt_base.specs.declared.numbers.ClassNo.{ClassNo}

@@ -1,5 +1,5 @@
 -- How many features stand before those of a class.
-use Rattle.std.proofs.Common.{◌≡◌, ℕ, zero, suc, ◌+◌, ◌≤◌, List, [], ◌∷◌, length, take, arith}
+use Rattle.std.proofs.Common.{ℕ, zero, suc, ◌+◌, ◌≤◌, List, [], ◌∷◌, length, take, arith}
 use Rattle.qvt_meta.specs.declared.declared.DeclaredClass.{DeclaredClass}
 use Rattle.qvt_meta.specs.Added.{declared_at, feature_count}
 

@@ -1,6 +1,6 @@
 -- The classes of a metamodel that are their own ancestors, by name and by number.
-use Rattle.std.proofs.Common.{◌≡◌, ◌∙◌, ℕ, zero, suc, ◌+◌, ◌<◌, ◌≤◌, List, [], ◌∷◌, length, map, get_or, Bool, true, false, refl, ap, sym, subst, arith, ◌==◌, ◌||◌, ◌⊎◌, inl, inr, Option, Some, None, option_map}
-use Rattle.std.specs.Prelude.{slice_index, if◌then◌else◌, IsTrue}
+use Rattle.std.proofs.Common.{◌≡◌, ◌∙◌, ℕ, zero, suc, ◌+◌, ◌<◌, List, [], ◌∷◌, length, map, get_or, Bool, true, false, refl, ap, sym, arith, ◌==◌, ◌||◌, inl, inr, Option, Some, None, option_map}
+use Rattle.std.specs.Prelude.{slice_index, if◌then◌else◌}
 use Rattle.std.specs.List.{list_any}
 use Rattle.std.proofs.lemmas.List.{get_or_past}
 use Rattle.std.proofs.lemmas.Bool.Decides.{leb_tells}
@@ -10,7 +10,7 @@ use Rattle.qvt_relation.proofs.Closures.{reaches-closure}
 use Rattle.qvt_meta.specs.declared.info.ClassInfo.{ClassInfo}
 use Rattle.qvt_meta.specs.declared.declared.DeclaredClass.{DeclaredClass}
 use Rattle.qvt_meta.specs.MetaData.{MetaData, class_names}
-use Rattle.qvt_meta.specs.Metamodels.{class_at, nowhere_class}
+use Rattle.qvt_meta.specs.Metamodels.{class_at}
 use Rattle.qvt_meta.specs.Descends.{is_superclass}
 use Rattle.qvt_meta.specs.Kept.{AreRanks}
 use Rattle.qvt_meta.specs.Added.{declared_at, nothing_declared, names_of, place_in, first_begin, class_info, class_infos}
@@ -19,7 +19,6 @@ use Rattle.qvt_meta.specs.Tables.{of_classes}
 use Rattle.qvt_json.specs.Steps.{or_next}
 use Rattle.qvt_meta.specs.Cycles.{AreLive, is_own_ancestor, cycle_from, first_cycle}
 use Rattle.qvt_meta.proofs.Bools.{ap2, clash, not_true}
-use Rattle.qvt_meta.proofs.Lists.{list_any-map}
 use Rattle.qvt_meta.proofs.Owners.{all-there}
 use Rattle.qvt_meta.proofs.Infos.{length-class_infos}
 use Rattle.qvt_meta.proofs.Visits.{R}

@@ -1,10 +1,8 @@
 -- Without metamodels everything is kept.
-use Rattle.std.proofs.Common.{◌≡◌, ◌≢◌, ℕ, ◌<◌, ◌^◌, List, [], ◌∷◌, length, None, Some, Bool, true, false, refl, arith, lit<, slice_index_or, subst, sym, leb, ◌∙◌}
-use Rattle.std.specs.Prelude.{IsTrue, IsFalse}
+use Rattle.std.proofs.Common.{◌≡◌, ℕ, [], None, true, false, refl, arith, lit<, sym, leb, ◌∙◌}
 use Rattle.std.specs.Str.{is_utf8}
 use Rattle.std.proofs.lemmas.Str.{is_utf8-from_IsUtf8, IsUtf8-nil}
-use Rattle.qvt_base.specs.declared.numbers.FeatureNo.{FeatureNo}
-use Rattle.qvt_meta.specs.Metamodels.{Metamodels, features_of, has_feature}
+use Rattle.qvt_meta.specs.Metamodels.{Metamodels, features_of}
 use Rattle.qvt_meta.specs.Descends.{reaches}
 use Rattle.qvt_meta.specs.WellFormed.{IsWellFormed}
 use Rattle.qvt_meta.specs.Kept.{IsKept}

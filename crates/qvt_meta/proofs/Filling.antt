@@ -1,7 +1,7 @@
 -- A table of classes that is made in an order.
-use Rattle.std.proofs.Common.{◌≡◌, ◌≢◌, ◌∙◌, ℕ, zero, suc, ◌+◌, ◌<◌, ◌≤◌, List, [], ◌∷◌, ◌++◌, length, get_or, set, Bool, true, false, refl, ap, sym, subst, arith, ◌==◌, ◌||◌, ◌⊎◌, inl, inr, replicate}
-use Rattle.std.specs.Prelude.{slice_index, slice_index_or, slice_set}
-use Rattle.std.specs.List.{list_any, flat_map, AllByRecursion}
+use Rattle.std.proofs.Common.{◌≡◌, ◌≢◌, ◌∙◌, ℕ, zero, suc, ◌+◌, ◌<◌, ◌≤◌, List, [], ◌∷◌, ◌++◌, length, get_or, set, false, refl, ap, sym, subst, arith, ◌⊎◌, inl, inr, replicate}
+use Rattle.std.specs.Prelude.{slice_index}
+use Rattle.std.specs.List.{flat_map}
 use Rattle.std.proofs.lemmas.List.{get_or_past, get_or-set_same, get_or-set_other}
 use Rattle.std.proofs.lemmas.Bool.{cases_eq}
 use Rattle.std.proofs.lemmas.Bool.Decides.{leb_tells}
@@ -9,10 +9,10 @@ use Rattle.qvt_base.specs.declared.numbers.ClassNo.{ClassNo}
 use Rattle.qvt_base.specs.declared.numbers.FeatureNo.{FeatureNo}
 use Rattle.qvt_meta.specs.declared.info.ClassInfo.{ClassInfo}
 use Rattle.qvt_meta.specs.Metamodels.{Metamodels, class_at, features_in, features_of, each_once, nowhere_class}
-use Rattle.qvt_meta.specs.Descends.{is_above, reaches}
+use Rattle.qvt_meta.specs.Descends.{reaches}
 use Rattle.qvt_meta.specs.Kept.{AreRanks}
 use Rattle.qvt_meta.specs.Tables.{of_classes, IsOrder}
-use Rattle.qvt_meta.proofs.Lists.{all-imply, flat_map-cong, list_any-cong}
+use Rattle.qvt_meta.proofs.Lists.{all-imply, flat_map-cong}
 use Rattle.qvt_meta.proofs.Stable.{features-stable, no-features-past, none-above-past}
 
 set_past : {X : Type 0} (xs : List X) (i : ℕ) (x : X) → length xs ≤ i → set xs i x ≡ xs

@@ -1,7 +1,6 @@
 -- The numbers of a well formed list of metamodels fit 32 bits where they go on from those of another with room for both.
-use Rattle.std.proofs.Common.{◌≡◌, ◌∙◌, ℕ, zero, suc, ◌+◌, ◌<◌, ◌≤◌, ◌^◌, List, [], ◌∷◌, ◌++◌, length, get_or, Bool, true, false, Option, None, Some, refl, ap, sym, subst, arith, ◌||◌, ◌==◌}
-use Rattle.std.specs.Prelude.{slice_index, slice_index_or}
-use Rattle.std.specs.List.{AllByRecursion, list_any, flat_map}
+use Rattle.std.proofs.Common.{◌≡◌, ℕ, zero, suc, ◌+◌, ◌<◌, ◌^◌, List, [], ◌∷◌, ◌++◌, length, true, Option, None, Some, refl, sym, subst, arith, ◌==◌}
+use Rattle.std.specs.List.{AllByRecursion, flat_map}
 use Rattle.std.proofs.lemmas.Bool.{eq-eqb}
 use Rattle.qvt_base.specs.declared.numbers.ClassNo.{ClassNo}
 use Rattle.qvt_base.specs.declared.numbers.FeatureNo.{FeatureNo}
@@ -9,11 +8,11 @@ use Rattle.qvt_meta.specs.declared.info.TypeKind.{TypeKind}
 use Rattle.qvt_meta.specs.declared.info.TypeKind.TheVariants.{Bool as BoolKind, Int, Str, Enum, Class}
 use Rattle.qvt_meta.specs.declared.begin.Begin.{Begin}
 use Rattle.qvt_meta.specs.declared.row.Row.{Row}
-use Rattle.qvt_meta.specs.Metamodels.{Metamodels, class_at, feature_at, shape_of, opposite, is_feature_number, features_of, features_in, each_once, among_features, nowhere_class, nowhere_feature, has_feature}
+use Rattle.qvt_meta.specs.Metamodels.{Metamodels, class_at, shape_of, opposite, is_feature_number, features_of, features_in, each_once, among_features, nowhere_class, nowhere_feature, has_feature}
 use Rattle.qvt_meta.specs.WellFormed.{IsWellFormed, IsLiveKind}
-use Rattle.qvt_meta.specs.Kept.{IsKept, AreRanks, no_row}
-use Rattle.qvt_meta.specs.Joined.{ClassesFit, FeaturesFit, KindFits, OppositeFits, ClassFits, FeatureFits}
-use Rattle.qvt_meta.proofs.Bools.{or_left, or_right}
+use Rattle.qvt_meta.specs.Kept.{IsKept, no_row}
+use Rattle.qvt_meta.specs.Joined.{FeaturesFit, KindFits, OppositeFits, ClassFits, FeatureFits}
+use Rattle.qvt_meta.proofs.Bools.{or_right}
 use Rattle.qvt_meta.proofs.Lists.{all-imply, all-found}
 use Rattle.qvt_meta.proofs.JoinsKept.{all-at_index, all-among}
 

@@ -1,28 +1,21 @@
 -- Two lists of metamodels as one: what the first had stays, and what the second had goes on from there.
-use Rattle.std.proofs.Common.{◌≡◌, ◌≢◌, ◌∙◌, ℕ, zero, suc, ◌+◌, ◌-◌, ◌<◌, ◌≤◌, ◌^◌, List, [], ◌∷◌, ◌++◌, length, map, get_or, Bool, true, false, None, Some, Option, option_map, refl, ap, sym, subst, arith, ◌==◌, ◌&&◌, ◌||◌, eqb, position, find, cond, ◌⊎◌, inl, inr}
-use Rattle.std.specs.Prelude.{IsTrue, IsFalse, slice_index}
+use Rattle.std.proofs.Common.{◌≡◌, ◌∙◌, ℕ, zero, suc, ◌+◌, ◌<◌, List, [], ◌++◌, length, map, false, option_map, refl, ap, sym, subst, arith, ◌==◌, ◌||◌, eqb}
 use Rattle.std.specs.List.{list_any, flat_map, AllByRecursion}
-use Rattle.std.specs.Str.{is_utf8, bytes_eq}
 use Rattle.std.proofs.lemmas.List.{length-map, length-append, map-append, get_or_past}
-use Rattle.std.proofs.lemmas.Bool.{eqb-true, eq-eqb}
+use Rattle.std.proofs.lemmas.Bool.{eqb-true}
 use Rattle.qvt_base.specs.declared.numbers.ClassNo.{ClassNo}
-use Rattle.qvt_base.specs.declared.numbers.FeatureNo.{FeatureNo}
-use Rattle.qvt_meta.specs.declared.info.TypeKind.{TypeKind}
-use Rattle.qvt_meta.specs.declared.info.TypeKind.TheVariants.{Bool as BoolKind, Int, Str, Enum, Class}
-use Rattle.qvt_meta.specs.declared.info.MetamodelInfo.{MetamodelInfo}
 use Rattle.qvt_meta.specs.declared.info.ClassInfo.{ClassInfo}
 use Rattle.qvt_meta.specs.declared.info.FeatureInfo.{FeatureInfo}
 use Rattle.qvt_meta.specs.declared.begin.Begin.{Begin}
-use Rattle.qvt_meta.specs.Metamodels.{Metamodels, class_at, feature_at, shape_of, opposite, is_opposite, is_feature_number, is_element, is_class_number, features_of, features_in, each_once, has_feature, among_features, nowhere_class, nowhere_feature, is_single, is_containment}
-use Rattle.qvt_meta.specs.Descends.{is_superclass, reaches, is_above, descends, is_class_kind}
-use Rattle.qvt_meta.specs.Named.{metamodel_at, nowhere_metamodel, enumeration_at, literal_at, class_named, feature_named, enumeration_named, literal_named}
-use Rattle.qvt_meta.specs.WellFormed.{IsWellFormed, IsLiveKind}
+use Rattle.qvt_meta.specs.Metamodels.{Metamodels, class_at, feature_at, features_of, features_in, each_once, nowhere_class, nowhere_feature}
+use Rattle.qvt_meta.specs.Descends.{reaches, is_above}
+use Rattle.qvt_meta.specs.WellFormed.{IsWellFormed}
 use Rattle.qvt_meta.specs.Kept.{AreRanks}
-use Rattle.qvt_meta.specs.Joined.{class_on, feature_on, kind_on, shape_on, class_info_on, feature_info_on, begin_after, first_some, joined}
-use Rattle.qvt_meta.proofs.Bools.{ap2, clash, not_true, or_cases, or_left, or_right, and_no}
+use Rattle.qvt_meta.specs.Joined.{class_on, feature_on, class_info_on, feature_info_on, begin_after, first_some, joined}
+use Rattle.qvt_meta.proofs.Bools.{ap2, not_true}
 use Rattle.qvt_meta.proofs.Halves.{Half, old, new, half, old-at, new-at}
 use Rattle.qvt_meta.proofs.Infos.{map-at}
-use Rattle.qvt_meta.proofs.Lists.{all-imply, all-every, all-found, list_any-cong, list_any-map, list_any-none, flat_map-cong, flat_map-map, map-flat_map, eqb-add, among-on, each_once-on}
+use Rattle.qvt_meta.proofs.Lists.{all-imply, all-every, all-found, list_any-cong, list_any-map, list_any-none, flat_map-cong, flat_map-map, map-flat_map, eqb-add, each_once-on}
 use Rattle.qvt_meta.proofs.Stable.{above-stable, features-stable, no-features-past, none-above-past}
 
 module _ (m n : Metamodels) (rm rn : List ℕ) (wm : IsWellFormed m) (wn : IsWellFormed n) (am : AreRanks m rm) (an : AreRanks n rn) where

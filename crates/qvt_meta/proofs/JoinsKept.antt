@@ -1,6 +1,6 @@
 -- Two well formed lists of metamodels are well formed as one.
-use Rattle.std.proofs.Common.{◌≡◌, ◌≢◌, ◌∙◌, ℕ, zero, suc, ◌+◌, ◌-◌, ◌<◌, ◌≤◌, ◌^◌, List, [], ◌∷◌, ◌++◌, length, map, get_or, Bool, true, false, None, Some, Option, option_map, refl, ap, sym, subst, arith, ◌==◌, ◌&&◌, ◌||◌, eqb, position, find, cond, ◌⊎◌, inl, inr}
-use Rattle.std.specs.Prelude.{IsTrue, IsFalse, slice_index, slice_index_or}
+use Rattle.std.proofs.Common.{◌≡◌, ◌≢◌, ◌∙◌, ℕ, zero, suc, ◌+◌, ◌<◌, ◌≤◌, ◌^◌, List, [], ◌∷◌, length, map, get_or, Bool, true, false, None, Some, Option, option_map, refl, ap, sym, subst, arith, ◌==◌, ◌&&◌, ◌||◌, eqb, position, find}
+use Rattle.std.specs.Prelude.{slice_index_or}
 use Rattle.std.specs.List.{list_any, AllByRecursion}
 use Rattle.std.specs.Str.{is_utf8, bytes_eq}
 use Rattle.std.proofs.lemmas.List.{length-map}
@@ -11,19 +11,18 @@ use Rattle.qvt_meta.specs.declared.info.TypeKind.{TypeKind}
 use Rattle.qvt_meta.specs.declared.info.TypeKind.TheVariants.{Bool as BoolKind, Int, Str, Enum, Class}
 use Rattle.qvt_meta.specs.declared.info.MetamodelInfo.{MetamodelInfo}
 use Rattle.qvt_meta.specs.declared.info.ClassInfo.{ClassInfo}
-use Rattle.qvt_meta.specs.declared.info.FeatureInfo.{FeatureInfo}
-use Rattle.qvt_meta.specs.Metamodels.{Metamodels, class_at, feature_at, shape_of, opposite, is_opposite, is_feature_number, is_element, is_class_number, features_of, has_feature, among_features, nowhere_class, nowhere_feature, is_single, is_containment, is_one}
+use Rattle.qvt_meta.specs.Metamodels.{Metamodels, class_at, feature_at, shape_of, opposite, is_opposite, is_feature_number, is_element, is_class_number, features_of, has_feature, among_features, nowhere_class, is_single, is_containment, is_one}
 use Rattle.qvt_meta.specs.Descends.{is_superclass, reaches, is_above, descends, is_class_kind}
 use Rattle.qvt_meta.specs.Named.{metamodel_at, nowhere_metamodel, nowhere_enumeration, enumeration_at, literal_at, class_named, feature_named, enumeration_named, literal_named}
 use Rattle.qvt_meta.specs.WellFormed.{IsWellFormed, IsLiveKind}
 use Rattle.qvt_meta.specs.Kept.{AreRanks}
-use Rattle.qvt_meta.specs.Joined.{class_on, feature_on, kind_on, class_info_on, feature_info_on, begin_after, first_some, joined}
-use Rattle.qvt_meta.proofs.Bools.{ap2, clash, not_true, or_cases, or_left, or_right, no-and}
+use Rattle.qvt_meta.specs.Joined.{class_on, feature_on, kind_on, class_info_on, feature_info_on, begin_after, first_some}
+use Rattle.qvt_meta.proofs.Bools.{ap2, clash, not_true, or_left, or_right, no-and}
 use Rattle.qvt_meta.proofs.Halves.{Half, old, new, half, old-at, new-at}
 use Rattle.qvt_meta.proofs.Infos.{map-at}
 use Rattle.qvt_meta.proofs.Lists.{all-imply, all-every, all-found, list_any-cong, list_any-map, list_any-none, eqb-add, among-on}
 use Rattle.qvt_meta.proofs.Lookups.{position-left, position-right, position-cong, position-map, find-cong, find-map}
-use Rattle.qvt_meta.proofs.Joins.{J, is_joined, class_count, feature_count, metamodel_count, class_old, class_new, either_class, feature_old, feature_new, either_feature, features_old, features_new, reaches_old, reaches_new, reaches_new_old}
+use Rattle.qvt_meta.proofs.Joins.{J, class_count, feature_count, metamodel_count, class_old, class_new, either_class, feature_old, feature_new, either_feature, features_old, features_new, reaches_old, reaches_new, reaches_new_old}
 
 -- a fact at each index is one of each item
 pub all-at_index : {X : Type 0} (P : X → Type 0) (xs : List X) (d : X) → ((i : ℕ) → i < length xs → P (get_or xs i d)) → AllByRecursion P xs

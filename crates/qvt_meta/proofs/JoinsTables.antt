@@ -1,5 +1,5 @@
 -- The tables of two lists of metamodels are those of both as one.
-use Rattle.std.proofs.Common.{◌≡◌, ◌∙◌, ℕ, zero, suc, ◌+◌, ◌-◌, ◌<◌, ◌≤◌, ◌^◌, List, [], ◌∷◌, ◌++◌, length, map, get_or, Bool, true, false, None, refl, ap, sym, subst, arith, ◌&&◌, leb}
+use Rattle.std.proofs.Common.{◌≡◌, ◌∙◌, ℕ, ◌+◌, ◌-◌, ◌<◌, ◌≤◌, ◌^◌, List, [], ◌∷◌, ◌++◌, length, map, get_or, Bool, true, false, None, refl, ap, sym, subst, arith, ◌&&◌, leb}
 use Rattle.std.specs.Prelude.{slice_index, slice_index_or}
 use Rattle.std.specs.List.{AllByRecursion}
 use Rattle.std.proofs.lemmas.List.{length-map, length-append, get_or_past}
@@ -12,11 +12,11 @@ use Rattle.qvt_meta.specs.Metamodels.{Metamodels, class_at, features_of, nowhere
 use Rattle.qvt_meta.specs.Descends.{reaches}
 use Rattle.qvt_meta.specs.Kept.{AreRanks, IsKept, no_row, is_marked}
 use Rattle.qvt_meta.specs.Joined.{class_on, feature_on, class_info_on, row_on, begin_after, joined}
-use Rattle.qvt_meta.proofs.Bools.{ap2, not_true, and_no, no-and}
+use Rattle.qvt_meta.proofs.Bools.{not_true, and_no, no-and}
 use Rattle.qvt_meta.proofs.Halves.{Half, old, new, half, old-at, new-at}
 use Rattle.qvt_meta.proofs.Infos.{map-at, map-at_all}
-use Rattle.qvt_meta.proofs.Lists.{all-imply, all-every, all-both, all-found}
-use Rattle.qvt_meta.proofs.Joins.{J, is_joined, class_count, class_old, class_new, either_class, features_old, features_new, reaches_old, reaches_new, reaches_new_old}
+use Rattle.qvt_meta.proofs.Lists.{all-both, all-found}
+use Rattle.qvt_meta.proofs.Joins.{J, is_joined, class_count, class_old, class_new, features_old, features_new, reaches_old, reaches_new, reaches_new_old}
 use Rattle.qvt_meta.proofs.JoinsKept.{well_formed}
 
 all-map : {X Y : Type 0} (P : Y → Type 0) (g : X → Y) (xs : List X) → AllByRecursion (λ x. P (g x)) xs → AllByRecursion P (map g xs)

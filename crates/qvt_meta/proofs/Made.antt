@@ -1,20 +1,17 @@
 -- A metamodel that passed the checks with the tables that the code makes.
-use Rattle.std.proofs.Common.{◌≡◌, ◌∙◌, ℕ, zero, suc, List, [], ◌∷◌, ◌++◌, length, map, get_or, refl, ap, sym, subst, None, true, ◌==◌, ◌||◌}
-use Rattle.std.specs.List.{list_all, list_any, flat_map}
+use Rattle.std.proofs.Common.{◌≡◌, ◌∙◌, ℕ, zero, suc, List, [], ◌++◌, length, map, get_or, refl, ap, sym, subst, None, ◌==◌, ◌||◌}
 use Rattle.qvt_base.specs.declared.numbers.FeatureNo.{FeatureNo}
 use Rattle.qvt_base.specs.declared.numbers.ClassNo.{ClassNo}
-use Rattle.qvt_meta.specs.declared.info.MetamodelInfo.{MetamodelInfo}
-use Rattle.qvt_meta.specs.declared.info.ClassInfo.{ClassInfo}
 use Rattle.qvt_meta.specs.declared.info.FeatureInfo.{FeatureInfo}
 use Rattle.qvt_meta.specs.declared.row.Row.{Row}
 use Rattle.qvt_meta.specs.declared.adding.Numbers.{Numbers}
 use Rattle.qvt_meta.specs.Metamodels.{Metamodels, class_at, features_in, features_of, each_once, nowhere_feature}
 use Rattle.qvt_meta.specs.Descends.{is_above, reaches}
 use Rattle.qvt_meta.specs.Kept.{AreRanks, IsKept}
-use Rattle.qvt_meta.specs.MetaData.{MetaData, enum_names}
-use Rattle.qvt_meta.specs.Checked.{Passes, IsChecked}
-use Rattle.qvt_meta.specs.Numbered.{AreNumbers, IsMeta}
-use Rattle.qvt_meta.specs.Added.{numbered, first_begin, names_of, class_infos, feature_infos}
+use Rattle.qvt_meta.specs.MetaData.{MetaData}
+use Rattle.qvt_meta.specs.Checked.{IsChecked}
+use Rattle.qvt_meta.specs.Numbered.{AreNumbers}
+use Rattle.qvt_meta.specs.Added.{numbered, first_begin, names_of}
 use Rattle.qvt_meta.specs.Tables.{of_classes, AreTables}
 use Rattle.qvt_meta.specs.Names.{repeated}
 use Rattle.qvt_meta.specs.Checks.{repeated_feature}

@@ -1,6 +1,6 @@
 -- The marks of rows.
-use Rattle.std.proofs.Common.{◌≡◌, ◌∙◌, ℕ, zero, suc, ◌+◌, ◌-◌, ◌<◌, ◌≤◌, List, [], ◌∷◌, ◌++◌, length, get_or, set, drop, Bool, true, false, refl, ap, sym, subst, arith, ◌==◌, ◌||◌, ◌&&◌, ◌⊎◌, inl, inr, leb}
-use Rattle.std.specs.List.{list_any, list_all, AllByRecursion}
+use Rattle.std.proofs.Common.{◌≡◌, ◌∙◌, ℕ, zero, suc, ◌+◌, ◌-◌, ◌<◌, ◌≤◌, List, [], ◌∷◌, length, get_or, set, drop, Bool, true, false, refl, ap, sym, subst, arith, ◌==◌, ◌||◌, ◌&&◌, ◌⊎◌, inl, inr, leb}
+use Rattle.std.specs.List.{list_any, list_all}
 use Rattle.std.specs.Prelude.{slice_index, nat_lt}
 use Rattle.std.proofs.lemmas.List.{get_or_past, drop_more, get_or-set_same, get_or-set_other}
 use Rattle.std.proofs.lemmas.Bool.{eqb-true, leb-true, cases_eq, ltb-true}
@@ -8,7 +8,7 @@ use Rattle.std.proofs.lemmas.Bool.Decides.{leb_tells}
 use Rattle.qvt_base.specs.declared.numbers.ClassNo.{ClassNo}
 use Rattle.qvt_meta.specs.declared.row.Row.{Row}
 use Rattle.qvt_meta.specs.declared.info.ClassInfo.{ClassInfo}
-use Rattle.qvt_meta.specs.Metamodels.{class_at, nowhere_class}
+use Rattle.qvt_meta.specs.Metamodels.{class_at}
 use Rattle.qvt_meta.specs.Descends.{reaches}
 use Rattle.qvt_meta.specs.Kept.{is_marked, no_row}
 use Rattle.qvt_meta.specs.Tables.{of_classes, IsOrder, IsWithin}
@@ -20,11 +20,13 @@ use Rattle.qvt_meta.proofs.Lists.{all-imply, list_any-cong}
 pub marked_within : (r : Row) (d : ℕ) → is_marked r d ≡ true → (r.first ≤ d) × (d < r.first + length r.above)
 marked_within r d h =
     let low : r.first ≤ d = leb-true r.first d (and_left (leb r.first d) (get_or r.above (d - r.first) false) h) in
-    let mark : get_or r.above (d - r.first) false ≡ true = and_right (leb r.first d) (get_or r.above (d - r.first) false) h in
-    (low, elim (leb_tells (length r.above) (d - r.first)) [
-      | inl t ↦ absurd (clash mark (get_or_past r.above (d - r.first) false t.1))
-      | inr f ↦ omega (arith, low, f.1)
-    ])
+    let mark : get_or r.above (d - r.first) false ≡ true = and_right (leb r.first d) (get_or r.above (d - r.first) false) h in (
+      low,
+      elim (leb_tells (length r.above) (d - r.first)) [
+        | inl t ↦ absurd (clash mark (get_or_past r.above (d - r.first) false t.1))
+        | inr f ↦ omega (arith, low, f.1)
+      ],
+    )
 
 pub row_marks : (f : ℕ → Bool) (first : ℕ) (above : List Bool) → ((i : ℕ) → i < length above → get_or above i false ≡ f (first + i)) → ((d : ℕ) → f d ≡ true → (first ≤ d) × (d < first + length above))
     → (d : ℕ) → is_marked (record { first = first; above = above }) d ≡ f d

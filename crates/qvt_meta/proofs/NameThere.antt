@@ -1,14 +1,14 @@
 -- A value of the form of a metamodel has a name.
-use Rattle.std.proofs.Common.{◌≡◌, ◌≢◌, ◌∙◌, ℕ, List, [], Bool, true, false, Option, Some, None, refl, ap, sym, subst, ◌&&◌, nat_le, length}
-use Rattle.std.specs.Prelude.{if◌then◌else◌, option_map, option_and_then, unwrap_or, codes}
+use Rattle.std.proofs.Common.{◌≡◌, ◌≢◌, ◌∙◌, ℕ, List, [], Bool, true, false, Option, Some, None, refl, ap, ◌&&◌, nat_le, length}
+use Rattle.std.specs.Prelude.{if◌then◌else◌, option_and_then, unwrap_or, codes}
 use Rattle.std.specs.Option.{option_map_or}
 use Rattle.std.proofs.lemmas.Str.{chars-nil}
 use Rattle.serde_json.specs.Data.{Data}
 use Rattle.serde_json.specs.Find.{get, as_str}
 use Rattle.qvt_base.specs.Names.{is_name, begins_name}
-use Rattle.qvt_json.specs.Json.{text_or, has_only}
+use Rattle.qvt_json.specs.Json.{text_or}
 use Rattle.qvt_json.specs.Leaves.{is_text_of}
-use Rattle.qvt_json.specs.Shape.{key_fault, keys_fault, under, shown}
+use Rattle.qvt_json.specs.Shape.{key_fault}
 use Rattle.qvt_meta.specs.MetaForm.{name_form, meta_form}
 use Rattle.qvt_meta.specs.DataOf.{meta_data}
 use Rattle.qvt_meta.proofs.Bools.{clash}

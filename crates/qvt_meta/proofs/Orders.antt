@@ -1,5 +1,5 @@
 -- An order that passes the test.
-use Rattle.std.proofs.Common.{◌≡◌, ◌∙◌, ℕ, zero, suc, ◌+◌, ◌<◌, ◌≤◌, List, [], ◌∷◌, length, get_or, Bool, true, refl, ap, sym, subst, arith, ◌&&◌, ◌==◌, nat_lt, ◌⊎◌, inl, inr}
+use Rattle.std.proofs.Common.{◌≡◌, ◌∙◌, ℕ, zero, suc, ◌+◌, ◌<◌, List, [], ◌∷◌, length, get_or, true, refl, ap, sym, subst, arith, ◌&&◌, nat_lt, inl, inr}
 use Rattle.std.specs.Prelude.{slice_index}
 use Rattle.std.specs.List.{AllByRecursion, list_all}
 use Rattle.std.proofs.lemmas.Bool.{eqb-true, ltb-true}
@@ -8,7 +8,6 @@ use Rattle.std.proofs.lemmas.List.{get_or_past}
 use Rattle.qvt_base.specs.declared.numbers.ClassNo.{ClassNo}
 use Rattle.qvt_meta.specs.declared.info.ClassInfo.{ClassInfo}
 use Rattle.qvt_meta.specs.Metamodels.{class_at, nowhere_class}
-use Rattle.qvt_meta.specs.Kept.{AreRanks}
 use Rattle.qvt_meta.specs.Tables.{are_lower, is_placed, are_placed, of_classes, IsOrder}
 use Rattle.qvt_meta.proofs.Bools.{and_left, and_right, and_both}
 
@@ -21,9 +20,10 @@ placed-at order ranks n (k ∷ ks) (suc i) h l =
 
 all_lower : (ranks : List ℕ) (rank : ℕ) (ss : List ClassNo) → are_lower ranks rank ss ≡ true → AllByRecursion (λ s. slice_index ranks s.0 < rank) ss
 all_lower ranks rank [] h = tt
-all_lower ranks rank (s ∷ ss) h =
-    (ltb-true (slice_index ranks s.0) rank (and_right (nat_lt s.0 (length ranks)) (nat_lt (slice_index ranks s.0) rank) (and_left _ (are_lower ranks rank ss) h)),
-    all_lower ranks rank ss (and_right (nat_lt s.0 (length ranks) && nat_lt (slice_index ranks s.0) rank) (are_lower ranks rank ss) h))
+all_lower ranks rank (s ∷ ss) h = (
+  ltb-true (slice_index ranks s.0) rank (and_right (nat_lt s.0 (length ranks)) (nat_lt (slice_index ranks s.0) rank) (and_left _ (are_lower ranks rank ss) h)),
+  all_lower ranks rank ss (and_right (nat_lt s.0 (length ranks) && nat_lt (slice_index ranks s.0) rank) (are_lower ranks rank ss) h),
+)
 
 all_live : (ranks : List ℕ) (rank : ℕ) (ss : List ClassNo) (n : ℕ) → length ranks ≡ n → are_lower ranks rank ss ≡ true → list_all (λ s. nat_lt s.0 n) ss ≡ true
 all_live ranks rank [] n e h = refl

@@ -1,14 +1,14 @@
 -- Which class declares a feature of a class, and that a class has the features of those above it.
-use Rattle.std.proofs.Common.{◌≡◌, ◌∙◌, ℕ, zero, suc, ◌<◌, List, [], ◌∷◌, ◌++◌, length, Bool, true, false, refl, ap, sym, subst, arith, ◌==◌, ◌||◌, ◌⊎◌, inl, inr}
+use Rattle.std.proofs.Common.{◌≡◌, ◌∙◌, ℕ, zero, suc, ◌<◌, List, [], ◌∷◌, ◌++◌, Bool, true, false, refl, ap, sym, subst, arith, ◌==◌, ◌||◌, ◌⊎◌, inl, inr}
 use Rattle.std.specs.Prelude.{slice_index, if◌then◌else◌}
 use Rattle.std.specs.List.{list_any, flat_map, AllByRecursion}
 use Rattle.std.proofs.lemmas.Bool.{eqb-true, eq-eqb}
 use Rattle.qvt_base.specs.declared.numbers.ClassNo.{ClassNo}
 use Rattle.qvt_base.specs.declared.numbers.FeatureNo.{FeatureNo}
-use Rattle.qvt_meta.specs.Metamodels.{Metamodels, class_at, features_in, features_of, among_features, each_once, has_feature}
-use Rattle.qvt_meta.specs.Descends.{is_above, reaches}
+use Rattle.qvt_meta.specs.Metamodels.{Metamodels, class_at, features_in, among_features, each_once}
+use Rattle.qvt_meta.specs.Descends.{is_above}
 use Rattle.qvt_meta.specs.Kept.{AreRanks}
-use Rattle.qvt_meta.proofs.Bools.{or_cases, or_left, or_right, clash}
+use Rattle.qvt_meta.proofs.Bools.{or_cases, or_left, or_right}
 use Rattle.qvt_meta.proofs.Ancestors.{Found, found, passing}
 
 pub among-append : (f : ℕ) (xs ys : List FeatureNo) → among_features f (xs ++ ys) ≡ (among_features f xs || among_features f ys)

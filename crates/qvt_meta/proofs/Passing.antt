@@ -1,5 +1,5 @@
 -- What it says that a check of a metamodel finds nothing.
-use Rattle.std.proofs.Common.{◌≡◌, ◌∙◌, ℕ, zero, suc, ◌+◌, ◌<◌, List, [], ◌∷◌, ◌++◌, length, map, get_or, Bool, true, false, Option, Some, None, refl, ap, sym, subst, arith, append_assoc, drop}
+use Rattle.std.proofs.Common.{◌≡◌, ◌∙◌, ℕ, zero, suc, ◌+◌, ◌<◌, List, [], ◌∷◌, ◌++◌, length, map, get_or, Bool, true, false, Option, Some, None, refl, ap, sym, arith, append_assoc, drop}
 use Rattle.std.specs.Prelude.{if◌then◌else◌, option_map}
 use Rattle.std.proofs.lemmas.List.{drop_more}
 use Rattle.qvt_json.specs.Steps.{or_next}
@@ -10,8 +10,7 @@ use Rattle.qvt_meta.specs.MetaData.{MetaData, class_names, enum_names}
 use Rattle.qvt_meta.specs.Names.{primitive_names, is_among, repeated}
 use Rattle.qvt_meta.specs.Named.{nowhere_enumeration}
 use Rattle.qvt_meta.specs.Added.{declared_at, nothing_declared}
-use Rattle.qvt_meta.specs.Checks.{first_in, first_from, feature_fault, same_enum, same_name, Told}
-use Rattle.qvt_meta.proofs.Bools.{ap2}
+use Rattle.qvt_meta.specs.Checks.{first_in, first_from, feature_fault, same_enum, same_name}
 use Rattle.qvt_meta.proofs.Infos.{featured_at, nothing_featured}
 use Rattle.qvt_meta.proofs.Lookups.{none_repeated, repeated-fewer}
 

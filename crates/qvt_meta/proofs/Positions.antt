@@ -1,12 +1,12 @@
 -- The place of a name among names.
-use Rattle.std.proofs.Common.{◌≡◌, ◌∙◌, ℕ, zero, suc, ◌+◌, ◌<◌, List, [], ◌∷◌, length, get_or, Bool, true, false, cond, not, Option, Some, None, refl, ap, sym, subst, arith, position, nat_lt, ◌||◌}
+use Rattle.std.proofs.Common.{◌≡◌, ℕ, zero, suc, ◌+◌, ◌<◌, List, [], ◌∷◌, length, get_or, Bool, true, false, cond, not, Option, Some, None, refl, ap, sym, subst, arith, position, ◌||◌}
 use Rattle.std.specs.Prelude.{unwrap_or}
 use Rattle.std.specs.List.{list_any, position_or_len}
 use Rattle.std.specs.Str.{bytes_eq}
 use Rattle.std.proofs.lemmas.Bool.{lt-ltb}
 use Rattle.qvt_meta.specs.Names.{is_among}
 use Rattle.qvt_meta.specs.Added.{place_in}
-use Rattle.qvt_meta.proofs.Bools.{or_cases, or_left, or_right, clash, not_true}
+use Rattle.qvt_meta.proofs.Bools.{or_left, or_right, clash, not_true}
 use Rattle.qvt_meta.proofs.Lookups.{some-within, position-first, bytes_eq-refl}
 
 pub any-within : {X : Type 0} (p : X → Bool) (xs : List X) → list_any p xs ≡ true → position_or_len p xs < length xs

@@ -1,5 +1,5 @@
 -- The room for a metamodel that is added.
-use Rattle.std.proofs.Common.{◌≡◌, ◌∙◌, ℕ, ◌+◌, ◌<◌, ◌^◌, List, [], ◌∷◌, length, map, Option, Some, None, refl, ap, arith, zero-add}
+use Rattle.std.proofs.Common.{◌≡◌, ◌<◌, ◌^◌, List, [], ◌∷◌, length, map, Option, Some, None, refl, ap, arith, zero-add}
 use Rattle.std.specs.Prelude.{option_map}
 use Rattle.qvt_base.specs.declared.numbers.ClassNo.{ClassNo}
 use Rattle.qvt_base.specs.declared.numbers.FeatureNo.{FeatureNo}
@@ -10,7 +10,7 @@ use Rattle.qvt_meta.specs.declared.info.FeatureInfo.{FeatureInfo}
 use Rattle.qvt_meta.specs.Metamodels.{Metamodels}
 use Rattle.qvt_meta.specs.MetaData.{MetaData, enum_names}
 use Rattle.qvt_meta.specs.Named.{metamodel_at}
-use Rattle.qvt_meta.specs.Joined.{FitTogether, joined, first_some, class_on, feature_on, kind_on, class_info_on, feature_info_on, begin_after}
+use Rattle.qvt_meta.specs.Joined.{FitTogether, joined, first_some, class_on, feature_on, kind_on, class_info_on, feature_info_on}
 use Rattle.qvt_meta.specs.Added.{numbered, added, HasRoom, first_begin, names_of, class_infos, feature_infos}
 use Rattle.qvt_meta.proofs.Empty.{no_metamodels}
 use Rattle.qvt_meta.proofs.Infos.{length-class_infos, length-feature_infos}

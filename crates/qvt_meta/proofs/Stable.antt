@@ -1,15 +1,12 @@
 -- With ranks that rise towards the subclasses, more steps than a class's rank change nothing.
-use Rattle.std.proofs.Common.{◌≡◌, ◌∙◌, ℕ, zero, suc, ◌+◌, ◌<◌, ◌≤◌, List, [], ◌∷◌, ◌++◌, length, Bool, true, false, refl, ap, sym, arith, ◌==◌, ◌||◌, subst}
+use Rattle.std.proofs.Common.{◌≡◌, ℕ, zero, suc, ◌<◌, List, [], ◌++◌, false, refl, ap, arith, ◌==◌, ◌||◌}
 use Rattle.std.specs.Prelude.{slice_index}
-use Rattle.std.specs.List.{list_any, flat_map, AllByRecursion}
-use Rattle.std.proofs.lemmas.List.{get_or_past}
+use Rattle.std.specs.List.{list_any, flat_map}
 use Rattle.qvt_base.specs.declared.numbers.ClassNo.{ClassNo}
-use Rattle.qvt_base.specs.declared.numbers.FeatureNo.{FeatureNo}
 use Rattle.qvt_meta.specs.declared.info.ClassInfo.{ClassInfo}
-use Rattle.qvt_meta.specs.Metamodels.{Metamodels, class_at, nowhere_class, features_in, features_of, each_once}
-use Rattle.qvt_meta.specs.Descends.{is_above, reaches}
+use Rattle.qvt_meta.specs.Metamodels.{Metamodels, class_at, nowhere_class, features_in, each_once}
+use Rattle.qvt_meta.specs.Descends.{is_above}
 use Rattle.qvt_meta.specs.Kept.{AreRanks}
-use Rattle.qvt_meta.proofs.Bools.{ap2}
 use Rattle.qvt_meta.proofs.Lists.{all-imply, list_any-cong, flat_map-cong}
 
 module _ (m : Metamodels) (ranks : List ℕ) (ok : AreRanks m ranks) where

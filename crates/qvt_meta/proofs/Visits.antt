@@ -1,12 +1,12 @@
 -- The visits of the classes that are above others.
-use Rattle.std.proofs.Common.{◌≡◌, ◌≢◌, ◌∙◌, ℕ, zero, suc, ◌+◌, ◌<◌, ◌≤◌, List, [], ◌∷◌, ◌++◌, length, get_or, set, take, drop, Bool, true, false, refl, ap, sym, subst, arith, ◌==◌, ◌||◌, ◌⊎◌, inl, inr, replicate, ◌-◌, Option, Some, None}
+use Rattle.std.proofs.Common.{◌≡◌, ◌∙◌, ℕ, zero, suc, ◌+◌, ◌<◌, ◌≤◌, List, [], ◌∷◌, ◌++◌, length, get_or, set, take, Bool, true, false, refl, ap, sym, subst, arith, ◌==◌, ◌||◌, ◌⊎◌, inl, inr, replicate, ◌-◌, Option, Some, None}
 use Rattle.std.specs.List.{list_any}
-use Rattle.std.specs.Prelude.{slice_index, IsTrue, if◌then◌else◌}
+use Rattle.std.specs.Prelude.{IsTrue, if◌then◌else◌}
 use Rattle.std.proofs.lemmas.List.{get_or_past, get_or-set_same, get_or-set_other, length-set, length-append, take_more}
 use Rattle.std.proofs.lemmas.Bool.{eqb-true, eq-eqb, cases_eq}
 use Rattle.std.proofs.lemmas.Bool.Decides.{leb_tells}
 use Rattle.qvt_base.specs.declared.numbers.ClassNo.{ClassNo}
-use Rattle.qvt_relation.specs.Closure.{Closure, directly, through, reaches}
+use Rattle.qvt_relation.specs.Closure.{Closure, directly, through}
 use Rattle.qvt_relation.proofs.Bools.{same_test}
 use Rattle.qvt_relation.proofs.Closures.{join, reaches-closure, closure-reaches}
 use Rattle.qvt_meta.specs.declared.info.ClassInfo.{ClassInfo}
@@ -14,7 +14,7 @@ use Rattle.qvt_meta.specs.Metamodels.{class_at, nowhere_class}
 use Rattle.qvt_meta.specs.Descends.{is_superclass}
 use Rattle.qvt_meta.specs.Tables.{of_classes}
 use Rattle.qvt_meta.specs.Cycles.{is_in, flag, unmarked, AreLive, Marked, AreAbove, is_own_ancestor, cycle_from}
-use Rattle.qvt_meta.proofs.Bools.{or_cases, or_left, or_right, clash, not_true}
+use Rattle.qvt_meta.proofs.Bools.{or_cases, or_left, or_right, clash}
 use Rattle.qvt_meta.proofs.Filling.{replicate-at}
 
 in_append : (c : ℕ) (xs ys : List ClassNo) → is_in c (xs ++ ys) ≡ (is_in c xs || is_in c ys)

@@ -1,7 +1,6 @@
 -- What the code that puts two lists of metamodels together needs of both.
-use Rattle.std.proofs.Common.{◌≡◌, ◌∙◌, ℕ, ◌+◌, ◌<◌, ◌^◌, List, ◌++◌, length, map, Option, None, option_map, ap, sym, subst, arith}
+use Rattle.std.proofs.Common.{◌≡◌, ◌∙◌, ℕ, ◌+◌, ◌<◌, ◌^◌, List, ◌++◌, length, map, None, option_map, ap, sym, subst, arith}
 use Rattle.std.specs.List.{AllByRecursion}
-use Rattle.qvt_base.specs.declared.numbers.ClassNo.{ClassNo}
 use Rattle.qvt_base.specs.declared.numbers.FeatureNo.{FeatureNo}
 use Rattle.qvt_meta.specs.declared.info.MetamodelInfo.{MetamodelInfo}
 use Rattle.qvt_meta.specs.declared.info.ClassInfo.{ClassInfo}

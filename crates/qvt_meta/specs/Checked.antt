@@ -1,5 +1,5 @@
 -- What the data of a metamodel that was read keeps.
-use Rattle.std.specs.Prelude.{◌≡◌, ◌≢◌, List, [], Bool, ◌&&◌, None, IsTrue}
+use Rattle.std.specs.Prelude.{◌≡◌, ◌≢◌, [], Bool, ◌&&◌, None, IsTrue}
 use Rattle.std.specs.List.{list_all}
 use Rattle.std.specs.Str.{is_utf8}
 use Rattle.qvt_meta.specs.declared.info.EnumInfo.{EnumInfo}

@@ -1,5 +1,5 @@
 -- The checks of a metamodel (EMOF 12.5), in their order, each in document order: the first that fails is told.
-use Rattle.std.specs.Prelude.{ℕ, suc, List, [], ◌∷◌, ◌++◌, map, Bool, true, false, ◌&&◌, ◌||◌, ◌==◌, not, nat_lt, length, Option, Some, None, is_some, option_map, option_and_then, if◌then◌else◌, unwrap_or, find, codes, zero}
+use Rattle.std.specs.Prelude.{ℕ, suc, List, [], ◌∷◌, ◌++◌, map, Bool, false, ◌&&◌, ◌||◌, ◌==◌, not, nat_lt, length, Option, Some, None, is_some, option_map, if◌then◌else◌, find, zero}
 use Rattle.std.specs.List.{list_any}
 use Rattle.std.specs.Option.{option_map_or}
 use Rattle.std.specs.Str.{bytes_eq}

@@ -1,8 +1,7 @@
 -- Which classes are above a class (EMOF 12.4.1, Class::superClass): the least set that has its superclasses and what is
 -- above these. The class Element, where there is one, is above every class.
-use Rattle.std.specs.Prelude.{◌≡◌, ℕ, Bool, true, false, ◌==◌, ◌||◌, ◌⊎◌, length, IsTrue, zero, suc}
+use Rattle.std.specs.Prelude.{◌≡◌, ℕ, Bool, false, ◌==◌, ◌||◌, ◌⊎◌, length, IsTrue, zero, suc}
 use Rattle.std.specs.List.{list_any}
-use Rattle.qvt_base.specs.declared.numbers.ClassNo.{ClassNo}
 use Rattle.qvt_meta.specs.declared.info.TypeKind.{TypeKind}
 use Rattle.qvt_meta.specs.declared.info.TypeKind.TheVariants.{Bool as BoolKind, Int, Str, Enum, Class}
 use Rattle.qvt_meta.specs.Metamodels.{Metamodels, class_at, is_element}

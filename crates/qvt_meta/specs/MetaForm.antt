@@ -1,11 +1,11 @@
 -- The form of a metamodel's file: which keys its objects have, and what stands at each. Keys stand in byte order.
-use Rattle.std.specs.Prelude.{ℕ, List, [], ◌∷◌, Bool, ◌&&◌, ◌||◌, codes}
+use Rattle.std.specs.Prelude.{[], ◌∷◌, Bool, ◌||◌, codes}
 use Rattle.std.specs.Str.{bytes_eq}
 use Rattle.serde_json.specs.Data.{Data}
 use Rattle.qvt_base.specs.Names.{is_name}
 use Rattle.qvt_base.specs.Names.{is_file}
 use Rattle.qvt_json.specs.Leaves.{is_text_of, is_flag, is_count}
-use Rattle.qvt_json.specs.Shape.{Form, Key, leaf, list_of, object_of, required, optional}
+use Rattle.qvt_json.specs.Shape.{Form, leaf, list_of, object_of, required, optional}
 
 abbrev pub name_form : Form
 name_form = leaf (is_text_of is_name)

@@ -1,5 +1,5 @@
 -- The metamodel of a file: what it declares, or the first refusal.
-use Rattle.std.specs.Prelude.{ℕ, List, Option, Some, None, option_map, Result, Ok, Err, ⊤}
+use Rattle.std.specs.Prelude.{ℕ, List, option_map, Result, Ok}
 use Rattle.qvt_json.specs.Json.{json}
 use Rattle.qvt_json.specs.Shape.{shown}
 use Rattle.qvt_json.specs.Steps.{◌>>=◌, or_fault, none_of}

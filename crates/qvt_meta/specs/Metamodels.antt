@@ -1,11 +1,10 @@
 -- A list of metamodels as numbered data (EMOF 12): metamodels, classes and features have numbers from 0, in the order
 -- of adding and then of the document. Look-ups by number are total: past the end they answer a default.
-use Rattle.std.specs.Prelude.{ℕ, Bool, true, false, ◌==◌, ◌||◌, List, [], ◌∷◌, ◌++◌, length, slice_index_or, Option, Some, None, if◌then◌else◌, zero, suc}
+use Rattle.std.specs.Prelude.{ℕ, Bool, false, ◌==◌, List, [], ◌∷◌, ◌++◌, length, slice_index_or, Option, Some, None, if◌then◌else◌, zero, suc}
 use Rattle.std.specs.List.{list_any, flat_map}
 use Rattle.qvt_base.specs.declared.numbers.ClassNo.{ClassNo}
 use Rattle.qvt_base.specs.declared.numbers.FeatureNo.{FeatureNo}
-use Rattle.qvt_meta.specs.declared.info.TypeKind.{TypeKind}
-use Rattle.qvt_meta.specs.declared.info.TypeKind.TheVariants.{Int, Class}
+use Rattle.qvt_meta.specs.declared.info.TypeKind.TheVariants.{Int}
 use Rattle.qvt_meta.specs.declared.info.FeatureShape.{FeatureShape}
 use Rattle.qvt_meta.specs.declared.info.MetamodelInfo.{MetamodelInfo}
 use Rattle.qvt_meta.specs.declared.info.ClassInfo.{ClassInfo}

@@ -1,11 +1,11 @@
 -- Look-ups by name. A name is looked up by its bytes; the first that has it is the one meant.
-use Rattle.std.specs.Prelude.{ℕ, Bool, false, ◌==◌, ◌&&◌, ◌||◌, List, [], Option, Some, None, slice_index_or, position, find, option_map}
+use Rattle.std.specs.Prelude.{ℕ, Bool, false, ◌==◌, ◌&&◌, ◌||◌, List, [], Option, Some, None, slice_index_or, position, find}
 use Rattle.std.specs.List.{list_any}
 use Rattle.std.specs.Str.{bytes_eq}
 use Rattle.qvt_base.specs.declared.numbers.FeatureNo.{FeatureNo}
 use Rattle.qvt_meta.specs.declared.info.EnumInfo.{EnumInfo}
 use Rattle.qvt_meta.specs.declared.info.MetamodelInfo.{MetamodelInfo}
-use Rattle.qvt_meta.specs.Metamodels.{Metamodels, class_at, feature_at, features_of}
+use Rattle.qvt_meta.specs.Metamodels.{Metamodels, feature_at, features_of}
 
 abbrev pub nowhere_metamodel : MetamodelInfo
 nowhere_metamodel = record { name = []; uri = None; enums = [] }

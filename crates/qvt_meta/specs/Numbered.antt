@@ -1,5 +1,5 @@
 -- A metamodel that was read: its data passed the checks, and beside it stands the same with numbers.
-use Rattle.std.specs.Prelude.{◌≡◌, ◌<◌, ◌^◌, nat_le, Bool, [], ◌∷◌, length, IsTrue, None}
+use Rattle.std.specs.Prelude.{◌≡◌, nat_le, Bool, [], ◌∷◌, length, IsTrue, None}
 use Rattle.std.specs.List.{list_all}
 use Rattle.qvt_meta.specs.declared.info.EnumInfo.{EnumInfo}
 use Rattle.qvt_meta.specs.declared.adding.Numbers.{Numbers}

@@ -1,11 +1,9 @@
 -- What every list of metamodels keeps, since each of its metamodels passed the checks (EMOF 12.5).
-use Rattle.std.specs.Prelude.{◌≡◌, ◌≢◌, ℕ, ◌<◌, ◌^◌, length, slice_index_or, IsTrue, IsFalse, Option, Some, None, [], zero}
+use Rattle.std.specs.Prelude.{◌≡◌, ◌≢◌, ℕ, ◌<◌, ◌^◌, length, slice_index_or, IsTrue, IsFalse, Some, []}
 use Rattle.std.specs.Str.{is_utf8}
-use Rattle.qvt_base.specs.declared.numbers.ClassNo.{ClassNo}
-use Rattle.qvt_base.specs.declared.numbers.FeatureNo.{FeatureNo}
 use Rattle.qvt_meta.specs.declared.info.TypeKind.{TypeKind}
 use Rattle.qvt_meta.specs.declared.info.TypeKind.TheVariants.{Bool as BoolKind, Int, Str, Enum, Class}
-use Rattle.qvt_meta.specs.Metamodels.{Metamodels, class_at, feature_at, shape_of, is_opposite, is_containment, is_single, features_of, has_feature, is_element}
+use Rattle.qvt_meta.specs.Metamodels.{Metamodels, class_at, feature_at, shape_of, is_opposite, is_containment, is_single, features_of, has_feature}
 use Rattle.qvt_meta.specs.Descends.{is_class_kind, is_superclass}
 use Rattle.qvt_meta.specs.Named.{metamodel_at, enumeration_at, literal_at, class_named, feature_named, enumeration_named, literal_named}
 

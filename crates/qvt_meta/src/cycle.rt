@@ -46,11 +46,7 @@ fn mark(
 }
 
 /// Which classes are above these.
-fn above(
-    alloc: Global,
-    classes: &[ClassInfo],
-    start: &[ClassNo],
-) -> Result<Seq<bool>, ListFault>
+fn above(alloc: Global, classes: &[ClassInfo], start: &[ClassNo]) -> Result<Seq<bool>, ListFault>
     requires { AreLive classes.now }
     ensures { IfOk result (λ marks. AreAbove classes.now start.now marks) }
 {

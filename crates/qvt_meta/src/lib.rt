@@ -22,4 +22,6 @@ mod rows;
 mod same_feature;
 pub mod small;
 mod tables;
+#[cfg(test)]
+mod tests;
 mod texts;

@@ -146,11 +146,7 @@ fn features_checked(
 
 /// The same after the checks of names and types.
 #[tactic(auto, unfolding(crate::specs::MetaOf::classes_checked))]
-fn classes_checked(
-    alloc: Global,
-    meta: MetaData,
-    names: &IndexSet<Text>,
-) -> Result<Meta, MetaFault>
+fn classes_checked(alloc: Global, meta: MetaData, names: &IndexSet<Text>) -> Result<Meta, MetaFault>
     requires named { meta.name ≢ [] }
     requires names { names.now.keys ≡ class_names meta }
     requires same_name { same_name meta ≡ None }

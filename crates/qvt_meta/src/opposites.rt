@@ -48,11 +48,7 @@ fn is_contained_wrong(feature: &DeclaredFeature, other: &DeclaredFeature) -> boo
     other.containment && (feature.containment || !is_one_at_most(feature.upper))
 }
 
-fn has_mutual(
-    class: &DeclaredClass,
-    feature: &DeclaredFeature,
-    others: &[DeclaredFeature],
-) -> bool
+fn has_mutual(class: &DeclaredClass, feature: &DeclaredFeature, others: &[DeclaredFeature]) -> bool
     ensures { result ≡ list_any (is_mutual class.now feature.now) others.now }
 {
     others.iter().any(|other| is_mutual(class, feature, other))
@@ -65,9 +61,8 @@ fn has_contained_wrong(
 ) -> bool
     ensures { result ≡ list_any (λ g. is_mutual class.now feature.now g && is_contained_wrong feature.now g) others.now }
 {
-    others
-        .iter()
-        .any(|other| is_mutual(class, feature, other) && is_contained_wrong(feature, other))
+    others.iter().any(|other| is_mutual(class, feature, other)
+        && is_contained_wrong(feature, other))
 }
 
 ghost use Rattle.std.specs.Prelude.{◌&&◌};

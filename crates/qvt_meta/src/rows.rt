@@ -52,13 +52,7 @@ fn first_of(class: u32, row: &Row) -> u32
 }
 
 /// A row with the marks of both and one for this class.
-fn with_row(
-    alloc: Global,
-    bound: u32,
-    row: &Row,
-    class: u32,
-    other: &Row,
-) -> Result<Row, ListFault>
+fn with_row(alloc: Global, bound: u32, row: &Row, class: u32, other: &Row) -> Result<Row, ListFault>
     requires class { class < bound }
     requires row { IsWithin bound row.now }
     requires other { IsWithin bound other.now }
@@ -77,12 +71,7 @@ fn with_row(
 }
 
 /// The row of a class, by those of its superclasses.
-fn row_at(
-    alloc: Global,
-    bound: u32,
-    rows: &Vec<Row>,
-    supers: &[ClassNo],
-) -> Result<Row, ListFault>
+fn row_at(alloc: Global, bound: u32, rows: &Vec<Row>, supers: &[ClassNo]) -> Result<Row, ListFault>
     requires count { length rows.now.items ≡ bound }
     requires live { IsTrue (list_all (λ s. nat_lt s.0 bound) supers.now) }
     requires rows { (c : ℕ) → IsWithin bound (slice_index_or rows.now.items c no_row) }
@@ -94,7 +83,13 @@ fn row_at(
         above: Seq::new(alloc),
     };
     for superclass in supers {
-        row = with_row(alloc, bound, &row, superclass.0, &rows[superclass.0 as usize])?;
+        row = with_row(
+            alloc,
+            bound,
+            &row,
+            superclass.0,
+            &rows[superclass.0 as usize],
+        )?;
     }
     Ok(row)
 }

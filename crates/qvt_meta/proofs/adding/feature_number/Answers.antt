@@ -1,4 +1,4 @@
-use Rattle.std.proofs.Common.{◌≡◌, ◌∙◌, ◌+◌, ◌<◌, ◌≤◌, ℕ, List, length, take, get_or, arith, subst, ap}
+use Rattle.std.proofs.Common.{◌≡◌, ◌∙◌, ◌+◌, ◌≤◌, ℕ, List, length, take, get_or, arith, ap}
 use Rattle.qvt_meta.specs.Added.{feature_count}
 use Rattle.qvt_meta.specs.Places.{firsts_of}
 use Rattle.qvt_meta.specs.declared.declared.DeclaredClass.{DeclaredClass}

@@ -1,4 +1,4 @@
-use Rattle.std.proofs.Common.{◌≡◌, ◌+◌, ◌-◌, ◌++◌}
+use Rattle.std.proofs.Common.{◌≡◌, ◌-◌, ◌++◌}
 use Rattle.qvt_meta.specs.Added.{numbers_from}
 use Rattle.qvt_meta.proofs.adding.numbers_from.Given as goal
 

@@ -1,4 +1,4 @@
-use Rattle.std.proofs.Common.{◌≡◌, ◌∙◌, [], map, ap}
+use Rattle.std.proofs.Common.{◌∙◌, [], map, ap}
 use Rattle.qvt_meta.specs.declared.info.EnumInfo.{EnumInfo}
 use Rattle.qvt_meta.specs.Names.{repeated}
 use Rattle.qvt_meta.specs.Added.{names_of}

@@ -1,6 +1,6 @@
 use Rattle.std.proofs.Common.{subst}
 use Rattle.qvt_meta.specs.Cycles.{Marked}
-use Rattle.qvt_meta.proofs.Visits.{going_first, going_next, going_last}
+use Rattle.qvt_meta.proofs.Visits.{going_next, going_last}
 use Rattle.qvt_meta.proofs.cycle.above.Goals as goal
 
 pub returns : goal.returns

@@ -1,4 +1,4 @@
-use Rattle.std.proofs.Common.{◌≡◌, ◌∙◌, sym}
+use Rattle.std.proofs.Common.{◌∙◌, sym}
 use Rattle.qvt_meta.proofs.Visits.{cycle_next}
 use Rattle.qvt_meta.proofs.cycle.first_cycle.Goals as goal
 

@@ -1,4 +1,4 @@
-use Rattle.std.proofs.Common.{◌≡◌, ◌-◌, length}
+use Rattle.std.proofs.Common.{◌≡◌, ◌-◌}
 use Rattle.qvt_meta.specs.Cycles.{cycle_from, first_cycle}
 use Rattle.qvt_meta.proofs.cycle.first_cycle.Given as goal
 

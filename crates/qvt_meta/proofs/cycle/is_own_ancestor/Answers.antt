@@ -1,4 +1,4 @@
-use Rattle.std.proofs.Common.{◌≡◌, ◌∙◌, subst}
+use Rattle.std.proofs.Common.{◌∙◌, subst}
 use Rattle.qvt_meta.specs.Cycles.{AreAbove}
 use Rattle.qvt_meta.proofs.Visits.{own_ancestor_is}
 use Rattle.qvt_meta.proofs.cycle.is_own_ancestor.Goals as goal

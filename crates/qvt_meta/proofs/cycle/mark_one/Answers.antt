@@ -1,6 +1,6 @@
 use Rattle.std.proofs.Common.{◌≡◌, ◌++◌, ◌∷◌, [], sym, subst, arith, rules, false}
 use Rattle.qvt_meta.specs.Cycles.{Marked, flag}
-use Rattle.qvt_meta.proofs.Visits.{marked_old, marked_new}
+use Rattle.qvt_meta.proofs.Visits.{marked_new}
 use Rattle.qvt_meta.proofs.cycle.mark_one.Goals as goal
 
 pub returns : goal.returns

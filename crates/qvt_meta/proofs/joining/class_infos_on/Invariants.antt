@@ -1,6 +1,6 @@
-use Rattle.std.proofs.Common.{◌≡◌, ◌+◌, ◌<◌, ◌^◌, ◌++◌, drop, map}
+use Rattle.std.proofs.Common.{◌≡◌, ◌++◌, drop, map}
 use Rattle.std.specs.List.{AllByRecursion}
-use Rattle.qvt_meta.specs.Joined.{class_on, feature_on, class_info_on, feature_info_on, row_on, ClassesFit, FeaturesFit, ClassFits, FeatureFits}
+use Rattle.qvt_meta.specs.Joined.{class_info_on, ClassFits}
 use Rattle.qvt_meta.proofs.joining.class_infos_on.Given as goal
 
 abbrev pub invariant-loop-class : goal.invariant-loop-class

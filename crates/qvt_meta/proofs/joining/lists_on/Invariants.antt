@@ -1,6 +1,6 @@
-use Rattle.std.proofs.Common.{◌≡◌, ◌+◌, ◌<◌, ◌^◌, ◌++◌, drop, map}
+use Rattle.std.proofs.Common.{◌≡◌, ◌++◌, drop, map}
 use Rattle.std.specs.List.{AllByRecursion}
-use Rattle.qvt_meta.specs.Joined.{class_on, feature_on, class_info_on, feature_info_on, row_on, ClassesFit, FeaturesFit, ClassFits, FeatureFits}
+use Rattle.qvt_meta.specs.Joined.{feature_on, FeaturesFit}
 use Rattle.qvt_meta.proofs.joining.lists_on.Given as goal
 
 abbrev pub invariant-loop-list : goal.invariant-loop-list

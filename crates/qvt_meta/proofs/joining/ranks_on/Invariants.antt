@@ -1,6 +1,5 @@
 use Rattle.std.proofs.Common.{◌≡◌, ◌+◌, ◌<◌, ◌^◌, ◌++◌, drop, map}
 use Rattle.std.specs.List.{AllByRecursion}
-use Rattle.qvt_meta.specs.Joined.{class_on, feature_on, class_info_on, feature_info_on, row_on, ClassesFit, FeaturesFit, ClassFits, FeatureFits}
 use Rattle.qvt_meta.proofs.joining.ranks_on.Given as goal
 
 abbrev pub invariant-loop-rank : goal.invariant-loop-rank

@@ -1,4 +1,4 @@
-use Rattle.std.proofs.Common.{◌≡◌, ◌∙◌, ◌<◌, Some, option_map, ap, sym, subst, length, arith}
+use Rattle.std.proofs.Common.{◌∙◌, ◌<◌, Some, option_map, ap, sym, subst, length, arith}
 use Rattle.std.specs.Prelude.{IfSome}
 use Rattle.qvt_meta.specs.declared.fault.MetaFault.TheVariants.{InheritanceCycle}
 use Rattle.qvt_meta.specs.Added.{declared_at}

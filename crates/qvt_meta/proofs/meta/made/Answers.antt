@@ -1,5 +1,4 @@
-use Rattle.std.proofs.Common.{◌≡◌, ◌∙◌}
-use Rattle.qvt_meta.specs.Checked.{IsChecked}
+use Rattle.std.proofs.Common.{◌∙◌}
 use Rattle.qvt_meta.proofs.Made.{one_kept, one_numbered}
 use Rattle.qvt_meta.proofs.meta.made.Goals as goal
 

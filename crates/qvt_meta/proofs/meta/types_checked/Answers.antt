@@ -1,4 +1,4 @@
-use Rattle.std.proofs.Common.{◌≡◌, ◌∙◌, [], ap, sym, option_map}
+use Rattle.std.proofs.Common.{◌∙◌, [], ap, sym, option_map}
 use Rattle.qvt_json.specs.Steps.{◌>>=◌, none_of}
 use Rattle.qvt_meta.specs.declared.fault.MetaFault.TheVariants.{UnknownType}
 use Rattle.qvt_meta.specs.MetaOf.{tell, classes_checked, types_checked}

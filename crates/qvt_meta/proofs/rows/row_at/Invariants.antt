@@ -1,4 +1,4 @@
-use Rattle.std.proofs.Common.{◌≡◌, ℕ, ◌≤◌, ◌||◌, ◌==◌, drop, slice_index_or}
+use Rattle.std.proofs.Common.{◌≡◌, ℕ, ◌||◌, ◌==◌, drop, slice_index_or}
 use Rattle.std.specs.List.{list_any}
 use Rattle.qvt_meta.specs.Kept.{is_marked, no_row}
 use Rattle.qvt_meta.specs.Tables.{IsWithin}

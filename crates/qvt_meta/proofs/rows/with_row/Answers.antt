@@ -1,4 +1,4 @@
-use Rattle.std.proofs.Common.{◌≡◌, ℕ, ◌+◌, ◌<◌, ◌≤◌, ◌==◌, ◌||◌, length, arith}
+use Rattle.std.proofs.Common.{◌+◌, ◌<◌, ◌≤◌, ◌==◌, ◌||◌, length, arith}
 use Rattle.qvt_meta.specs.Kept.{is_marked}
 use Rattle.qvt_meta.proofs.Marks.{row_marks, joined_span}
 use Rattle.qvt_meta.proofs.rows.with_row.Goals as goal

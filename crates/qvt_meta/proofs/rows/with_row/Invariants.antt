@@ -1,4 +1,4 @@
-use Rattle.std.proofs.Common.{◌≡◌, ℕ, ◌+◌, ◌<◌, ◌≤◌, length, false, slice_index_or, ◌||◌, ◌==◌}
+use Rattle.std.proofs.Common.{◌≡◌, ℕ, ◌+◌, ◌<◌, length, false, slice_index_or, ◌||◌, ◌==◌}
 use Rattle.qvt_meta.specs.Kept.{is_marked}
 use Rattle.qvt_meta.proofs.rows.with_row.Given as goal
 

@@ -1,7 +1,7 @@
-use Rattle.std.proofs.Common.{◌≡◌, ◌∙◌, ap, sym, get_or, option_map, None, Some, length, arith, ℕ, Option}
+use Rattle.std.proofs.Common.{◌≡◌, ◌∙◌, ap, sym, get_or, option_map, Some, length, arith, ℕ, Option}
 use Rattle.qvt_meta.specs.Added.{numbered}
 use Rattle.qvt_meta.specs.MetaData.{MetaData}
-use Rattle.qvt_meta.specs.Checks.{same_feature, repeated_feature, first_from, Told}
+use Rattle.qvt_meta.specs.Checks.{same_feature, repeated_feature, Told}
 use Rattle.qvt_meta.specs.declared.declared.DeclaredClass.{DeclaredClass}
 use Rattle.qvt_meta.proofs.Passing.{from_next, from_found}
 use Rattle.qvt_meta.proofs.same_feature.same_feature.Goals as goal

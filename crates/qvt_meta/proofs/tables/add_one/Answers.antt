@@ -1,7 +1,6 @@
-use Rattle.std.proofs.Common.{◌≡◌, ◌∙◌, ◌++◌, ◌∷◌, [], true, false, ap, sym, subst, eqb}
+use Rattle.std.proofs.Common.{◌≡◌, ◌∙◌, ap, sym, subst, eqb}
 use Rattle.std.specs.Prelude.{OnOk}
 use Rattle.std.specs.List.{list_any}
-use Rattle.qvt_meta.specs.Metamodels.{among_features}
 use Rattle.qvt_meta.proofs.Lists.{among-map, once-there, once-new}
 use Rattle.qvt_meta.proofs.tables.add_one.Goals as goal
 

@@ -1,12 +1,8 @@
-use Rattle.std.proofs.Common.{◌≡◌, ◌∙◌, ℕ, ◌+◌, ◌<◌, ◌^◌, List, ◌++◌, length, map, Option, None, ap, sym, subst, arith}
+use Rattle.std.proofs.Common.{◌≡◌, ◌∙◌, ℕ, ◌+◌, ◌<◌, ◌^◌, ◌++◌, length, map, ap, sym, subst, arith}
 use Rattle.std.specs.List.{AllByRecursion}
-use Rattle.qvt_base.specs.declared.numbers.FeatureNo.{FeatureNo}
-use Rattle.qvt_meta.specs.declared.info.ClassInfo.{ClassInfo}
-use Rattle.qvt_meta.specs.declared.info.FeatureInfo.{FeatureInfo}
 use Rattle.qvt_meta.specs.declared.row.Row.{Row}
 use Rattle.qvt_meta.specs.Metamodels.{Metamodels}
-use Rattle.qvt_meta.specs.Kept.{IsKept}
-use Rattle.qvt_meta.specs.Joined.{ClassFits, FeatureFits, FeaturesFit, feature_on, class_info_on, feature_info_on, row_on, joined, FitTogether}
+use Rattle.qvt_meta.specs.Joined.{ClassFits, FeatureFits, FeaturesFit, feature_on, class_info_on, feature_info_on, row_on, joined}
 use Rattle.qvt_meta.proofs.Bools.{ap2}
 use Rattle.qvt_meta.proofs.Withs.{Both, both_of, classes_go_on, features_go_on, lists_go_on, rows_go_on, ranks_go_on, same, tables}
 use Rattle.qvt_meta.proofs.metas.Metas.with.Goals as goal

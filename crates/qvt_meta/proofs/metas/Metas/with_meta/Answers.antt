@@ -1,4 +1,4 @@
-use Rattle.std.proofs.Common.{◌≡◌, ◌∙◌, None, ap, sym, subst}
+use Rattle.std.proofs.Common.{◌∙◌, ap, sym, subst}
 use Rattle.qvt_meta.specs.Metamodels.{Metamodels}
 use Rattle.qvt_meta.specs.Joined.{FitTogether, joined}
 use Rattle.qvt_meta.proofs.Rooms.{together, numbered_element, added_element}
