@@ -1,5 +1,6 @@
 -- A loop that reads turns until one is the last: what it has read, and what is read of the rest.
-use Rattle.std.proofs.Common.{◌≡◌, ℕ, zero, suc, ◌≤◌, ◌<◌, List, [], ◌∷◌, ◌++◌, length, Bool, true, false, ◌⊎◌, inl, inr, refl, sym, ap, ◌∙◌, arith, append_assoc, Option, Some, None, Ok, Err, cond}
+use Rattle.std.proofs.Common.{◌≡◌, ℕ, zero, suc, ◌≤◌, ◌<◌, List, [], ◌∷◌, ◌++◌, length, Bool, true, false, ◌⊎◌, inl, inr, refl, sym, ap, ◌∙◌, arith, append_assoc, append-nil, map, Option, Some, None, Ok, Err, cond}
+use Rattle.std.proofs.lemmas.List.{map-append}
 use Rattle.qvt_grammar.specs.Reader.{Fault, Answer, ◌>>=◌, starts, after_turn, ended_turns, ended_at}
 
 -- the turns before, and then those of the answer
@@ -62,3 +63,24 @@ module _ {T A B : Type 0} (p : T → Bool) (f : List T → Answer T (A ⊎ B)) (
   -- the invariant of a loop is whole ≡ turns_before xs (ended_at p f ts)
   pub loop_turn : (whole : Answer T (List A × Option B)) (xs : List A) (ts : List T) (a : A) (r : List T) → whole ≡ turns_before xs (ended_at p f ts) → starts p ts ≡ true → f ts ≡ Ok (inl a, r) → whole ≡ turns_before (xs ++ a ∷ []) (ended_at p f r)
   loop_turn whole xs ts a r i h e = i ∙ ap (turns_before xs) (ended_more ts a r h e) ∙ before_before xs (a ∷ []) (ended_at p f r)
+
+  -- and so with what a clause sees of the turns, where the turn was pushed
+  pub loop_pushed : {X : Type 0} (v : X → A) (whole : Answer T (List A × Option B)) (xs new : List X) (x : X) (ts r : List T) → whole ≡ turns_before (map v xs) (ended_at p f ts) → starts p ts ≡ true → f ts ≡ Ok (inl (v x), r) → new ≡ xs ++ x ∷ [] → whole ≡ turns_before (map v new) (ended_at p f r)
+  loop_pushed v whole xs new x ts r i h e n =
+      loop_turn whole (map v xs) ts (v x) r i h e ∙ ap (λ z. turns_before z (ended_at p f r)) (sym (ap (map v) n ∙ map-append v xs (x ∷ [])))
+
+  pub loop_last : (whole : Answer T (List A × Option B)) (xs : List A) (ts : List T) (b : B) (r : List T) → whole ≡ turns_before xs (ended_at p f ts) → starts p ts ≡ true → f ts ≡ Ok (inr b, r) → whole ≡ Ok ((xs, Some b), r)
+  loop_last whole xs ts b r i h e = i ∙ ap (turns_before xs) (ended_last ts b r h e) ∙ ap (λ z. Ok ((z, Some b), r)) (append-nil xs)
+
+  pub loop_stuck : (whole : Answer T (List A × Option B)) (xs : List A) (ts : List T) (e : Fault T) → whole ≡ turns_before xs (ended_at p f ts) → starts p ts ≡ true → f ts ≡ Err e → whole ≡ Err e
+  loop_stuck whole xs ts e i h q = i ∙ ap (turns_before xs) (ended_stuck ts e h q)
+
+  pub loop_stop : (whole : Answer T (List A × Option B)) (xs : List A) (ts : List T) → whole ≡ turns_before xs (ended_at p f ts) → starts p ts ≡ false → whole ≡ Ok ((xs, None), ts)
+  loop_stop whole xs ts i h = i ∙ ap (turns_before xs) (ended_stop ts h) ∙ ap (λ z. Ok ((z, None), ts)) (append-nil xs)
+
+  nothing_before : (y : Answer T (List A × Option B)) → y ≡ turns_before [] y
+  nothing_before (Ok (got, r)) = refl
+  nothing_before (Err e) = refl
+
+  pub loop_start : (ts : List T) → ended_at p f ts ≡ turns_before [] (ended_at p f ts)
+  loop_start ts = nothing_before (ended_at p f ts)

@@ -121,6 +121,9 @@ is_tag k t = ap (λ x. nat_eq x (code_of k)) (sym (code-tag t.class)) ∙ ap (λ
 pub starts_at : (p : List Token) (i : ℕ) (d : Token) (k : Class) → i < length p → nat_eq (tag (get_or p i d).class) (tag k) ≡ starts (is k) (drop i (toks_of p))
 starts_at p i d k h = sym (ap (starts (is k)) (next_token p i d h) ∙ is_tag k (get_or p i d))
 
+pub text_at : (p : List Token) (i : ℕ) (d : Token) → i < length p → (get_or p i d).text.now ≡ head_of (λ t. t.text) [] (drop i (toks_of p))
+text_at p i d h = sym (ap (head_of (λ t. t.text) []) (next_token p i d h))
+
 pub head_at : (p : List Token) (i : ℕ) (d : Token) (k : _) → i < length p → (get_or p i d).place ≡ head_of (λ t. t.place) k (drop i (toks_of p))
 head_at p i d k h = sym (ap (head_of (λ t. t.place) k) (next_token p i d h))
 

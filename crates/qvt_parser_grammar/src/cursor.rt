@@ -1,4 +1,4 @@
-ghost use Rattle.std.specs.Prelude.{◌≡◌, ◌<◌, ◌≤◌, length, OnOk};
+ghost use Rattle.std.specs.Prelude.{◌≡◌, ◌<◌, ◌≤◌, [], length, OnOk};
 ghost use Rattle.qvt_grammar.specs.Language.{head_of};
 ghost use Rattle.qvt_grammar.specs.Reader.{starts, maybe_at};
 ghost use Rattle.qvt_parser_grammar.specs.Tokens.{is, tok_of};
@@ -98,6 +98,17 @@ impl<'a> Parser<'a> {
             self.tokens[self.index].place
         } else {
             NOWHERE
+        }
+    }
+
+    /// The text of the next token.
+    pub fn text(&self) -> &'a str
+        ensures { result.now ≡ head_of (λ t. t.text) [] (toks self.now) }
+    {
+        if self.index < self.tokens.len() {
+            self.tokens[self.index].text
+        } else {
+            ""
         }
     }
 
