@@ -1,8 +1,0 @@
-use Rattle.qvt_parser.proofs.LiveNesting.{front_of_read, read_of_front}
-use Rattle.qvt_parser.proofs.laws.beginnings.Goals as goal
-
-pub returns-clause-begins : goal.returns-clause-begins
-returns-clause-begins c = front_of_read
-
-pub returns-clause-completed : goal.returns-clause-completed
-returns-clause-completed c = read_of_front

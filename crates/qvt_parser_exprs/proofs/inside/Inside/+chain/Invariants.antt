@@ -1,0 +1,37 @@
+use Rattle.std.proofs.Common.{◌≡◌, ◌+◌, ◌*◌, ◌≤◌, ◌<◌, length, map}
+use Rattle.qvt_grammar.specs.Reader.{many_at, made_at, then_at, with_front}
+use Rattle.qvt_parser_grammar.specs.Tokens.{is, of}
+use Rattle.qvt_parser_grammar.specs.Readers.{the_at}
+use Rattle.qvt_parser_grammar.specs.Trees.{second, cons_of, with_head}
+use Rattle.qvt_parser_grammar.specs.Gives.{toks}
+use Rattle.qvt_parser_grammar.specs.declared.token.Class.TheVariants.{Comma}
+use Rattle.qvt_parser_grammar.specs.Firsts.{step_first}
+use Rattle.qvt_parser_grammar.specs.Reading.{expr_at, item_at, step_at, lead_step_at, pre_at, link_at, chain_at, operators}
+use Rattle.qvt_parser_grammar.specs.Nesting.{nested_at}
+use Rattle.qvt_parser_grammar.proofs.EndedLoops.{turns_before}
+use Rattle.qvt_tree.specs.View.{expr_view, item_view, step_view, link_view}
+use Rattle.qvt_parser_exprs.proofs.inside.Inside.+chain.Given as goal
+
+abbrev pub decreases-chain : goal.decreases-chain
+decreases-chain g l = 5 * l.level + 0
+
+abbrev pub decreases-above : goal.decreases-above
+decreases-above g l = 5 * l.below + 4
+
+abbrev pub decreases-link : goal.decreases-link
+decreases-link g l = 5 * l.level + 1
+
+abbrev pub decreases-operands : goal.decreases-operands
+decreases-operands g l = 5 * l.level + 2
+
+abbrev pub decreases-links : goal.decreases-links
+decreases-links g l = 5 * l.level + 3
+
+abbrev pub invariant-operands-loop-parser : goal.invariant-operands-loop-parser
+invariant-operands-loop-parser g l = record {
+  so_far : many_at (of (operators l.level)) (link_at l.level (chain_at l.level (pre_at (nested_at l.self.room)) (pre_at (nested_at l.self.room)))) (toks l.fn.parser) ≡ with_front (map link_view l.links) (many_at (of (operators l.level)) (link_at l.level (chain_at l.level (pre_at (nested_at l.self.room)) (pre_at (nested_at l.self.room)))) (toks l.parser));
+  fewer : length (toks l.parser) ≤ length (toks l.fn.parser);
+}
+
+abbrev pub decreases-operands-loop-parser : goal.decreases-operands-loop-parser
+decreases-operands-loop-parser g l = length (toks l.parser)

@@ -1,0 +1,20 @@
+use Rattle.std.proofs.Common.{sym, ap, ◌∙◌, arith}
+use Rattle.qvt_grammar.specs.Reader.{many_at, made_at, then_at, with_front}
+use Rattle.qvt_grammar.proofs.Loops.{loop_push}
+use Rattle.qvt_parser_grammar.specs.Tokens.{is, of}
+use Rattle.qvt_parser_grammar.specs.Readers.{the_at}
+use Rattle.qvt_parser_grammar.specs.Trees.{second}
+use Rattle.qvt_parser_grammar.specs.Gives.{toks}
+use Rattle.qvt_parser_grammar.specs.declared.token.Class.TheVariants.{Comma}
+use Rattle.qvt_parser_grammar.specs.Firsts.{step_first}
+use Rattle.qvt_parser_grammar.specs.Reading.{expr_at, item_at, step_at, pre_at, link_at, chain_at, operators}
+use Rattle.qvt_parser_grammar.specs.Nesting.{nested_at}
+use Rattle.qvt_parser_grammar.proofs.LessExprs.{less_expr, less_item, less_step, less_link}
+use Rattle.qvt_tree.specs.View.{expr_view, item_view, step_view, link_view}
+use Rattle.qvt_parser_exprs.proofs.inside.Inside.items.Goals as goal
+
+pub loop-parser-preserved : goal.loop-parser-preserved
+loop-parser-preserved g c = record {
+  so_far = loop_push (is Comma) (made_at second (then_at (the_at Comma) (item_at (nested_at c.args.self.now.room)))) (less_item c.args.self.now.room) item_view _ c.loop-parser.items _ c.in_ok-next.next (toks c.loop-parser.parser) (toks c.next_item.new.parser) c.loop-parser.invariant.so_far (sym c.at.ensures ∙ c.loop-parser-test.true) c.in_ok-next.ensures.gives c.in_ok-push-2.ensures.ok;
+  fewer = omega (arith, c.in_ok-next.ensures.fewer);
+}

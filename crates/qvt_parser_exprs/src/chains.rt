@@ -1,0 +1,277 @@
+ghost use Rattle.std.specs.Prelude.{◌<◌, ◌≤◌, length, OnOk};
+ghost use Rattle.qvt_grammar.specs.Reader.{made_at, follow_at, many_at, ended_at};
+ghost use Rattle.qvt_parser_grammar.specs.Readers.{placed_at};
+ghost use Rattle.qvt_parser_grammar.specs.Grammar.{level_of};
+ghost use Rattle.qvt_parser_grammar.specs.Trees.{chain_of};
+ghost use Rattle.qvt_tree.specs.View.{link_view};
+ghost use Rattle.qvt_parser_grammar.specs.Tokens.{of};
+ghost use Rattle.qvt_parser_grammar.specs.Firsts.{step_first};
+ghost use Rattle.qvt_parser_grammar.specs.Reading.{operators, post_at, signed_post_at, pre_at, each_tail_at, lead_step_at, link_at, links_at, chain_at, lead_post_at, lead_pre_at, lead_at};
+ghost use Rattle.qvt_parser_grammar.specs.Nesting.{nested_at};
+ghost use Rattle.qvt_parser_exprs.specs.Views.{lead_view, each_view, links_view, lead_step_view, lead_steps_view};
+ghost use Rattle.qvt_parser_grammar.specs.Gives.{Gives, toks};
+ghost use Rattle.qvt_parser_exprs.specs.Inside.{IsInside};
+
+use crate::inside::Inside;
+use crate::leading::{EachTail, LeadStep, Leading};
+use crate::made::{binary_op, chained, each_lead, finish, post_lead, prefixed};
+use qvt_base::seq::Seq;
+use qvt_parser_grammar::cursor::{ParseError, Parser};
+use qvt_parser_grammar::token::Class;
+use qvt_tree::tree::{Link, Step, Stmts};
+
+impl<
+    F: Fn(&mut Parser<'_>) -> Result<Leading, ParseError>,
+    G: Fn(&mut Parser<'_>) -> Result<Stmts, ParseError>,
+> Inside<F, G> {
+    #[tactic(auto, unfolding(qvt_parser_grammar::specs::Reading::post_at))]
+    fn post(&self, parser: &mut Parser<'_>) -> Result<Leading, ParseError>
+        requires { IsInside F.Fn G.Fn self.now }
+        ensures gives { Gives lead_view result (toks parser.new) (post_at (nested_at self.now.room) (toks parser.old)) }
+        ensures fewer { length (toks parser.new) ≤ length (toks parser.old) }
+        ensures less { OnOk result (length (toks parser.new) < length (toks parser.old)) }
+    {
+        let place = parser.place();
+        let first = self.primary(parser)?;
+        let steps = self.steps(parser)?;
+        Ok(post_lead(place, first, steps))
+    }
+
+    #[tactic(auto, unfolding(qvt_parser_grammar::specs::Reading::signed_post_at, qvt_parser_grammar::specs::Reading::signs_at))]
+    fn signed_post(&self, parser: &mut Parser<'_>) -> Result<Leading, ParseError>
+        requires { IsInside F.Fn G.Fn self.now }
+        ensures gives { Gives lead_view result (toks parser.new) (signed_post_at (nested_at self.now.room) (toks parser.old)) }
+        ensures fewer { length (toks parser.new) ≤ length (toks parser.old) }
+        ensures less { OnOk result (length (toks parser.new) < length (toks parser.old)) }
+    {
+        let place = parser.place();
+        let sign = parser.sign()?;
+        let more = parser.more_signs()?;
+        let operand = self.post(parser)?;
+        let operand = finish(parser.alloc, operand)?;
+        prefixed(parser.alloc, place, sign, more, operand)
+    }
+
+    #[tactic(auto, unfolding(qvt_parser_grammar::specs::Reading::pre_at))]
+    fn pre(&self, parser: &mut Parser<'_>) -> Result<Leading, ParseError>
+        requires { IsInside F.Fn G.Fn self.now }
+        ensures gives { Gives lead_view result (toks parser.new) (pre_at (nested_at self.now.room) (toks parser.old)) }
+        ensures fewer { length (toks parser.new) ≤ length (toks parser.old) }
+        ensures less { OnOk result (length (toks parser.new) < length (toks parser.old)) }
+    {
+        if parser.at_sign() {
+            return self.signed_post(parser);
+        }
+        self.post(parser)
+    }
+
+    #[cycle(chain)]
+    #[tactic(auto, unfolding(qvt_parser_grammar::specs::Reading::chain_at))]
+    fn chain(&self, parser: &mut Parser<'_>, level: usize) -> Result<Leading, ParseError>
+        requires nested { IsInside F.Fn G.Fn self.now }
+        requires tight { level ≤ 8 }
+        ensures gives { Gives lead_view result (toks parser.new) (chain_at level (pre_at (nested_at self.now.room)) (pre_at (nested_at self.now.room)) (toks parser.old)) }
+        ensures fewer { length (toks parser.new) ≤ length (toks parser.old) }
+        ensures less { OnOk result (length (toks parser.new) < length (toks parser.old)) }
+    {
+        if level == 0 {
+            return self.pre(parser);
+        }
+        self.above(parser, level - 1)
+    }
+
+    /// A chain of the level above the `below` tightest ones.
+    #[cycle(chain)]
+    fn above(&self, parser: &mut Parser<'_>, below: usize) -> Result<Leading, ParseError>
+        requires nested { IsInside F.Fn G.Fn self.now }
+        requires tight { below < 8 }
+        ensures gives { Gives lead_view result (toks parser.new) (made_at (chain_of (level_of below)) (placed_at (follow_at (chain_at below (pre_at (nested_at self.now.room)) (pre_at (nested_at self.now.room))) (links_at below (chain_at below (pre_at (nested_at self.now.room)) (pre_at (nested_at self.now.room)))))) (toks parser.old)) }
+        ensures fewer { length (toks parser.new) ≤ length (toks parser.old) }
+        ensures less { OnOk result (length (toks parser.new) < length (toks parser.old)) }
+    {
+        let place = parser.place();
+        let first = self.chain(parser, below)?;
+        let rest = self.links(parser, &first, below)?;
+        chained(parser.alloc, below, place, first, rest)
+    }
+
+    /// The operands after the first. A `forEach` has none.
+    #[cycle(chain)]
+    fn links(
+        &self,
+        parser: &mut Parser<'_>,
+        first: &Leading,
+        level: usize,
+    ) -> Result<Seq<Link>, ParseError>
+        requires nested { IsInside F.Fn G.Fn self.now }
+        requires tight { level < 8 }
+        ensures gives { Gives links_view result (toks parser.new) (links_at level (chain_at level (pre_at (nested_at self.now.room)) (pre_at (nested_at self.now.room))) (lead_view first.now) (toks parser.old)) }
+        ensures fewer { length (toks parser.new) ≤ length (toks parser.old) }
+    {
+        match first {
+            Leading::Each { .. } => Ok(Seq::new(parser.alloc)),
+            _ => self.operands(parser, level),
+        }
+    }
+
+    #[cycle(chain)]
+    fn operands(&self, parser: &mut Parser<'_>, level: usize) -> Result<Seq<Link>, ParseError>
+        requires nested { IsInside F.Fn G.Fn self.now }
+        requires tight { level < 8 }
+        ensures gives { Gives links_view result (toks parser.new) (many_at (of (operators level)) (link_at level (chain_at level (pre_at (nested_at self.now.room)) (pre_at (nested_at self.now.room)))) (toks parser.old)) }
+        ensures fewer { length (toks parser.new) ≤ length (toks parser.old) }
+    {
+        let mut links = Seq::new(parser.alloc);
+        while parser.at_operator(level) {
+            let link = self.link(parser, level)?;
+            links.push(link)?;
+        }
+        Ok(links)
+    }
+
+    #[cycle(chain)]
+    #[tactic(auto, unfolding(qvt_parser_grammar::specs::Reading::link_at))]
+    fn link(&self, parser: &mut Parser<'_>, level: usize) -> Result<Link, ParseError>
+        requires nested { IsInside F.Fn G.Fn self.now }
+        requires tight { level < 8 }
+        ensures gives { Gives link_view result (toks parser.new) (link_at level (chain_at level (pre_at (nested_at self.now.room)) (pre_at (nested_at self.now.room))) (toks parser.old)) }
+        ensures fewer { length (toks parser.new) ≤ length (toks parser.old) }
+        ensures less { OnOk result (length (toks parser.new) < length (toks parser.old)) }
+    {
+        let sign = parser.operator(level)?;
+        let operand = self.chain(parser, level)?;
+        let operand = finish(parser.alloc, operand)?;
+        Ok(Link {
+            op: binary_op(sign.class),
+            operand,
+            place: sign.place,
+        })
+    }
+
+    #[tactic(auto, unfolding(qvt_parser_grammar::specs::Reading::each_tail_at))]
+    fn each_tail(&self, parser: &mut Parser<'_>) -> Result<EachTail, ParseError>
+        requires { IsInside F.Fn G.Fn self.now }
+        ensures gives { Gives each_view result (toks parser.new) (each_tail_at (nested_at self.now.room) (toks parser.old)) }
+        ensures fewer { length (toks parser.new) ≤ length (toks parser.old) }
+        ensures less { OnOk result (length (toks parser.new) < length (toks parser.old)) }
+    {
+        parser.take(Class::ForEachWord)?;
+        parser.take(Class::OpenRound)?;
+        let name = parser.name()?;
+        let kind = parser.optional_type(self.room)?;
+        let condition = self.optional_bar(parser)?;
+        parser.take(Class::CloseRound)?;
+        let body = self.block(parser)?;
+        Ok(EachTail {
+            name: name.text,
+            kind,
+            condition,
+            body,
+        })
+    }
+
+    #[tactic(auto, unfolding(qvt_parser_grammar::specs::Reading::lead_step_at))]
+    fn lead_step(&self, parser: &mut Parser<'_>) -> Result<LeadStep, ParseError>
+        requires { IsInside F.Fn G.Fn self.now }
+        ensures gives { Gives lead_step_view result (toks parser.new) (lead_step_at (nested_at self.now.room) (toks parser.old)) }
+        ensures fewer { length (toks parser.new) ≤ length (toks parser.old) }
+        ensures less { OnOk result (length (toks parser.new) < length (toks parser.old)) }
+    {
+        if parser.at(Class::Dot) {
+            let step = self.dot_step(parser)?;
+            return Ok(LeadStep::Step(step));
+        }
+        parser.take(Class::Arrow)?;
+        if parser.at(Class::ForEachWord) {
+            let part = self.each_tail(parser)?;
+            return Ok(LeadStep::Each(part));
+        }
+        let step = self.arrow_rest(parser)?;
+        Ok(LeadStep::Step(step))
+    }
+
+    fn lead_steps(
+        &self,
+        parser: &mut Parser<'_>,
+    ) -> Result<(Seq<Step>, Option<EachTail>), ParseError>
+        requires { IsInside F.Fn G.Fn self.now }
+        ensures gives { Gives lead_steps_view result (toks parser.new) (ended_at (of step_first) (lead_step_at (nested_at self.now.room)) (toks parser.old)) }
+        ensures fewer { length (toks parser.new) ≤ length (toks parser.old) }
+    {
+        let mut steps = Seq::new(parser.alloc);
+        while parser.at_step() {
+            let step = self.lead_step(parser)?;
+            match step {
+                LeadStep::Step(step) => steps.push(step)?,
+                LeadStep::Each(part) => return Ok((steps, Some(part))),
+            }
+        }
+        Ok((steps, None))
+    }
+
+    #[tactic(auto, unfolding(qvt_parser_grammar::specs::Reading::lead_post_at))]
+    fn lead_post(&self, parser: &mut Parser<'_>) -> Result<Leading, ParseError>
+        requires { IsInside F.Fn G.Fn self.now }
+        ensures gives { Gives lead_view result (toks parser.new) (lead_post_at (nested_at self.now.room) (toks parser.old)) }
+        ensures fewer { length (toks parser.new) ≤ length (toks parser.old) }
+        ensures less { OnOk result (length (toks parser.new) < length (toks parser.old)) }
+    {
+        let place = parser.place();
+        let first = self.other_primary(parser)?;
+        let (steps, part) = self.lead_steps(parser)?;
+        each_lead(parser.alloc, place, first, steps, part)
+    }
+
+    #[tactic(auto, unfolding(qvt_parser_grammar::specs::Reading::lead_pre_at))]
+    fn lead_pre(&self, parser: &mut Parser<'_>) -> Result<Leading, ParseError>
+        requires { IsInside F.Fn G.Fn self.now }
+        ensures gives { Gives lead_view result (toks parser.new) (lead_pre_at (nested_at self.now.room) (toks parser.old)) }
+        ensures fewer { length (toks parser.new) ≤ length (toks parser.old) }
+        ensures less { OnOk result (length (toks parser.new) < length (toks parser.old)) }
+    {
+        if parser.at_sign() {
+            return self.signed_post(parser);
+        }
+        self.lead_post(parser)
+    }
+
+    #[cycle(lead)]
+    #[tactic(auto, unfolding(qvt_parser_grammar::specs::Reading::chain_at))]
+    fn lead_chain(&self, parser: &mut Parser<'_>, level: usize) -> Result<Leading, ParseError>
+        requires nested { IsInside F.Fn G.Fn self.now }
+        requires tight { level ≤ 8 }
+        ensures gives { Gives lead_view result (toks parser.new) (chain_at level (lead_pre_at (nested_at self.now.room)) (pre_at (nested_at self.now.room)) (toks parser.old)) }
+        ensures fewer { length (toks parser.new) ≤ length (toks parser.old) }
+        ensures less { OnOk result (length (toks parser.new) < length (toks parser.old)) }
+    {
+        if level == 0 {
+            return self.lead_pre(parser);
+        }
+        self.lead_above(parser, level - 1)
+    }
+
+    /// The same, for an expression at the front of a statement.
+    #[cycle(lead)]
+    fn lead_above(&self, parser: &mut Parser<'_>, below: usize) -> Result<Leading, ParseError>
+        requires nested { IsInside F.Fn G.Fn self.now }
+        requires tight { below < 8 }
+        ensures gives { Gives lead_view result (toks parser.new) (made_at (chain_of (level_of below)) (placed_at (follow_at (chain_at below (lead_pre_at (nested_at self.now.room)) (pre_at (nested_at self.now.room))) (links_at below (chain_at below (pre_at (nested_at self.now.room)) (pre_at (nested_at self.now.room)))))) (toks parser.old)) }
+        ensures fewer { length (toks parser.new) ≤ length (toks parser.old) }
+        ensures less { OnOk result (length (toks parser.new) < length (toks parser.old)) }
+    {
+        let place = parser.place();
+        let first = self.lead_chain(parser, below)?;
+        let rest = self.links(parser, &first, below)?;
+        chained(parser.alloc, below, place, first, rest)
+    }
+
+    #[tactic(auto, unfolding(qvt_parser_grammar::specs::Reading::lead_at))]
+    pub fn lead(&self, parser: &mut Parser<'_>) -> Result<Leading, ParseError>
+        requires { IsInside F.Fn G.Fn self.now }
+        ensures gives { Gives lead_view result (toks parser.new) (lead_at (nested_at self.now.room) (toks parser.old)) }
+        ensures fewer { length (toks parser.new) ≤ length (toks parser.old) }
+        ensures less { OnOk result (length (toks parser.new) < length (toks parser.old)) }
+    {
+        self.lead_chain(parser, 8)
+    }
+}

@@ -1,0 +1,544 @@
+ghost use Rattle.std.specs.Prelude.{◌<◌, ◌≤◌, length, OnOk};
+ghost use Rattle.qvt_grammar.specs.Reader.{made_at, then_at, choose_at, many_at, maybe_at};
+ghost use Rattle.qvt_tree.specs.View.{expr_view, item_view, filter_view, range_view, map_view, resolve_view};
+ghost use Rattle.qvt_parser_grammar.specs.Tokens.{of, is};
+ghost use Rattle.qvt_parser_grammar.specs.Readers.{the_at};
+ghost use Rattle.qvt_parser_grammar.specs.Firsts.{all_first};
+ghost use Rattle.qvt_parser_grammar.specs.Trees.{second, inner, cons_of, range_of, with_head};
+ghost use Rattle.qvt_parser_grammar.specs.Reading.{expr_at, exprs_at, args_at, named_expr_at, item_at, coll_at, if_expr_at, object_at, new_expr_at, map_call_at, filter_head_at, bar_expr_at, filter_at, all_form_at, in_form_at, resolve_at, brackets_at, longer_at, bare_expr_at, other_primary_at, primary_at, more_exprs_at};
+ghost use Rattle.qvt_parser_grammar.specs.Nesting.{nested_at};
+ghost use Rattle.qvt_parser_grammar.specs.Options.{option_view};
+ghost use Rattle.qvt_parser_exprs.specs.Views.{first_view, lead_view, exprs_view, items_view, stmts_view, filter_head_view, form_view};
+ghost use Rattle.qvt_parser_grammar.specs.Gives.{Gives, toks};
+ghost use Rattle.qvt_parser_exprs.specs.Inside.{IsInside};
+
+use crate::inside::Inside;
+use crate::leading::{First, Leading};
+use crate::made::{conditional, finish, is_strict, resolve_word};
+use qvt_base::seq::Seq;
+use qvt_base::text::Text;
+use qvt_parser_grammar::cursor::{ParseError, Parser};
+use qvt_parser_grammar::names::{coll_kind, path_of};
+use qvt_parser_grammar::token::Class;
+use qvt_tree::tree::{Expr, Filter, Item, MapCall, RangeEnd, ResolveCall, Stmts};
+use qvt_tree::types::{PathTree, TypeTree};
+use qvt_tree::words::ResolveWord;
+
+impl<
+    F: Fn(&mut Parser<'_>) -> Result<Leading, ParseError>,
+    G: Fn(&mut Parser<'_>) -> Result<Stmts, ParseError>,
+> Inside<F, G> {
+    /// An expression that may still become a target.
+    pub fn flagged(&self, parser: &mut Parser<'_>) -> Result<Leading, ParseError>
+        requires { IsInside F.Fn G.Fn self.now }
+        ensures gives { Gives lead_view result (toks parser.new) ((nested_at self.now.room).flagged (toks parser.old)) }
+        ensures fewer { length (toks parser.new) ≤ length (toks parser.old) }
+    {
+        (self.lead)(parser)
+    }
+
+    /// A block.
+    pub fn block(&self, parser: &mut Parser<'_>) -> Result<Stmts, ParseError>
+        requires { IsInside F.Fn G.Fn self.now }
+        ensures gives { Gives stmts_view result (toks parser.new) ((nested_at self.now.room).block (toks parser.old)) }
+        ensures fewer { length (toks parser.new) ≤ length (toks parser.old) }
+    {
+        (self.block)(parser)
+    }
+
+    #[tactic(auto, unfolding(qvt_parser_grammar::specs::Reading::expr_at))]
+    pub fn expr(&self, parser: &mut Parser<'_>) -> Result<Expr, ParseError>
+        requires { IsInside F.Fn G.Fn self.now }
+        ensures gives { Gives expr_view result (toks parser.new) (expr_at (nested_at self.now.room) (toks parser.old)) }
+        ensures fewer { length (toks parser.new) ≤ length (toks parser.old) }
+    {
+        let lead = self.flagged(parser)?;
+        finish(parser.alloc, lead)
+    }
+
+    fn next_expr(&self, parser: &mut Parser<'_>) -> Result<Expr, ParseError>
+        requires { IsInside F.Fn G.Fn self.now }
+        ensures gives { Gives expr_view result (toks parser.new) (made_at second (then_at (the_at Class.Comma) (expr_at (nested_at self.now.room))) (toks parser.old)) }
+        ensures fewer { length (toks parser.new) ≤ length (toks parser.old) }
+        ensures less { OnOk result (length (toks parser.new) < length (toks parser.old)) }
+    {
+        parser.take(Class::Comma)?;
+        self.expr(parser)
+    }
+
+    #[tactic(auto, unfolding(qvt_parser_grammar::specs::Reading::exprs_at, qvt_parser_grammar::specs::Reading::more_exprs_at))]
+    fn exprs(&self, parser: &mut Parser<'_>) -> Result<Seq<Expr>, ParseError>
+        requires { IsInside F.Fn G.Fn self.now }
+        ensures gives { Gives exprs_view result (toks parser.new) (exprs_at (nested_at self.now.room) (toks parser.old)) }
+        ensures fewer { length (toks parser.new) ≤ length (toks parser.old) }
+    {
+        let first = self.expr(parser)?;
+        self.exprs_from(parser, first)
+    }
+
+    #[tactic(auto, unfolding(qvt_parser_grammar::specs::Reading::more_exprs_at))]
+    pub fn exprs_from(&self, parser: &mut Parser<'_>, first: Expr) -> Result<Seq<Expr>, ParseError>
+        requires { IsInside F.Fn G.Fn self.now }
+        ensures gives { Gives exprs_view result (toks parser.new) (made_at (with_head (expr_view first)) (more_exprs_at (nested_at self.now.room)) (toks parser.old)) }
+        ensures fewer { length (toks parser.new) ≤ length (toks parser.old) }
+    {
+        let mut exprs = Seq::new(parser.alloc);
+        exprs.push(first)?;
+        while parser.at(Class::Comma) {
+            let next = self.next_expr(parser)?;
+            exprs.push(next)?;
+        }
+        Ok(exprs)
+    }
+
+    #[tactic(auto, unfolding(qvt_parser_grammar::specs::Reading::args_at))]
+    pub fn args(&self, parser: &mut Parser<'_>) -> Result<Seq<Expr>, ParseError>
+        requires { IsInside F.Fn G.Fn self.now }
+        ensures gives { Gives exprs_view result (toks parser.new) (args_at (nested_at self.now.room) (toks parser.old)) }
+        ensures fewer { length (toks parser.new) ≤ length (toks parser.old) }
+        ensures less { OnOk result (length (toks parser.new) < length (toks parser.old)) }
+    {
+        parser.take(Class::OpenRound)?;
+        if parser.at(Class::CloseRound) {
+            parser.take(Class::CloseRound)?;
+            return Ok(Seq::new(parser.alloc));
+        }
+        let exprs = self.exprs(parser)?;
+        parser.take(Class::CloseRound)?;
+        Ok(exprs)
+    }
+
+    #[tactic(auto, unfolding(qvt_parser_grammar::specs::Reading::named_expr_at))]
+    fn named_expr(&self, parser: &mut Parser<'_>) -> Result<Expr, ParseError>
+        requires { IsInside F.Fn G.Fn self.now }
+        ensures gives { Gives expr_view result (toks parser.new) (named_expr_at (nested_at self.now.room) (toks parser.old)) }
+        ensures fewer { length (toks parser.new) ≤ length (toks parser.old) }
+        ensures less { OnOk result (length (toks parser.new) < length (toks parser.old)) }
+    {
+        let name = parser.name()?;
+        if parser.at(Class::OpenRound) {
+            let args = self.args(parser)?;
+            return Ok(Expr::Call {
+                name: name.text,
+                args,
+                place: name.place,
+            });
+        }
+        let more = parser.more_names()?;
+        let path = path_of(parser.alloc, name, more)?;
+        Ok(Expr::Path(path))
+    }
+
+    fn range(&self, parser: &mut Parser<'_>) -> Result<Option<RangeEnd>, ParseError>
+        requires { IsInside F.Fn G.Fn self.now }
+        ensures gives { Gives (option_view range_view) result (toks parser.new) (maybe_at (is Class.DotDot) (made_at range_of (then_at (the_at Class.DotDot) (expr_at (nested_at self.now.room)))) (toks parser.old)) }
+        ensures fewer { length (toks parser.new) ≤ length (toks parser.old) }
+    {
+        if parser.at(Class::DotDot) {
+            let dots = parser.take(Class::DotDot)?;
+            let last = self.expr(parser)?;
+            return Ok(Some(RangeEnd {
+                last,
+                place: dots.place,
+            }));
+        }
+        Ok(None)
+    }
+
+    #[tactic(auto, unfolding(qvt_parser_grammar::specs::Reading::item_at))]
+    fn item(&self, parser: &mut Parser<'_>) -> Result<Item, ParseError>
+        requires { IsInside F.Fn G.Fn self.now }
+        ensures gives { Gives item_view result (toks parser.new) (item_at (nested_at self.now.room) (toks parser.old)) }
+        ensures fewer { length (toks parser.new) ≤ length (toks parser.old) }
+    {
+        let place = parser.place();
+        let first = self.expr(parser)?;
+        let last = self.range(parser)?;
+        Ok(Item { first, last, place })
+    }
+
+    fn next_item(&self, parser: &mut Parser<'_>) -> Result<Item, ParseError>
+        requires { IsInside F.Fn G.Fn self.now }
+        ensures gives { Gives item_view result (toks parser.new) (made_at second (then_at (the_at Class.Comma) (item_at (nested_at self.now.room))) (toks parser.old)) }
+        ensures fewer { length (toks parser.new) ≤ length (toks parser.old) }
+        ensures less { OnOk result (length (toks parser.new) < length (toks parser.old)) }
+    {
+        parser.take(Class::Comma)?;
+        self.item(parser)
+    }
+
+    fn items(&self, parser: &mut Parser<'_>) -> Result<Seq<Item>, ParseError>
+        requires { IsInside F.Fn G.Fn self.now }
+        ensures gives { Gives items_view result (toks parser.new) (made_at cons_of (then_at (item_at (nested_at self.now.room)) (many_at (is Class.Comma) (made_at second (then_at (the_at Class.Comma) (item_at (nested_at self.now.room)))))) (toks parser.old)) }
+        ensures fewer { length (toks parser.new) ≤ length (toks parser.old) }
+    {
+        let mut items = Seq::new(parser.alloc);
+        let first = self.item(parser)?;
+        items.push(first)?;
+        while parser.at(Class::Comma) {
+            let next = self.next_item(parser)?;
+            items.push(next)?;
+        }
+        Ok(items)
+    }
+
+    #[tactic(auto, unfolding(qvt_parser_grammar::specs::Reading::coll_at))]
+    fn coll(&self, parser: &mut Parser<'_>) -> Result<Expr, ParseError>
+        requires { IsInside F.Fn G.Fn self.now }
+        ensures gives { Gives expr_view result (toks parser.new) (coll_at (nested_at self.now.room) (toks parser.old)) }
+        ensures fewer { length (toks parser.new) ≤ length (toks parser.old) }
+        ensures less { OnOk result (length (toks parser.new) < length (toks parser.old)) }
+    {
+        let word = parser.kind_word()?;
+        parser.take(Class::OpenBrace)?;
+        if parser.at(Class::CloseBrace) {
+            parser.take(Class::CloseBrace)?;
+            return Ok(Expr::Coll {
+                kind: coll_kind(word.class),
+                items: Seq::new(parser.alloc),
+                place: word.place,
+            });
+        }
+        let items = self.items(parser)?;
+        parser.take(Class::CloseBrace)?;
+        Ok(Expr::Coll {
+            kind: coll_kind(word.class),
+            items,
+            place: word.place,
+        })
+    }
+
+    fn then_expr(&self, parser: &mut Parser<'_>) -> Result<Expr, ParseError>
+        requires { IsInside F.Fn G.Fn self.now }
+        ensures gives { Gives expr_view result (toks parser.new) (made_at second (then_at (the_at Class.ThenWord) (expr_at (nested_at self.now.room))) (toks parser.old)) }
+        ensures fewer { length (toks parser.new) ≤ length (toks parser.old) }
+        ensures less { OnOk result (length (toks parser.new) < length (toks parser.old)) }
+    {
+        parser.take(Class::ThenWord)?;
+        self.expr(parser)
+    }
+
+    fn else_expr(&self, parser: &mut Parser<'_>) -> Result<Expr, ParseError>
+        requires { IsInside F.Fn G.Fn self.now }
+        ensures gives { Gives expr_view result (toks parser.new) (made_at inner (then_at (the_at Class.ElseWord) (then_at (expr_at (nested_at self.now.room)) (the_at Class.EndifWord))) (toks parser.old)) }
+        ensures fewer { length (toks parser.new) ≤ length (toks parser.old) }
+        ensures less { OnOk result (length (toks parser.new) < length (toks parser.old)) }
+    {
+        parser.take(Class::ElseWord)?;
+        let expr = self.expr(parser)?;
+        parser.take(Class::EndifWord)?;
+        Ok(expr)
+    }
+
+    #[tactic(auto, unfolding(qvt_parser_grammar::specs::Reading::if_expr_at))]
+    fn if_expr(&self, parser: &mut Parser<'_>) -> Result<Expr, ParseError>
+        requires { IsInside F.Fn G.Fn self.now }
+        ensures gives { Gives expr_view result (toks parser.new) (if_expr_at (nested_at self.now.room) (toks parser.old)) }
+        ensures fewer { length (toks parser.new) ≤ length (toks parser.old) }
+        ensures less { OnOk result (length (toks parser.new) < length (toks parser.old)) }
+    {
+        let place = parser.place();
+        parser.take(Class::IfWord)?;
+        let condition = self.expr(parser)?;
+        let yes = self.then_expr(parser)?;
+        let no = self.else_expr(parser)?;
+        conditional(parser.alloc, condition, yes, no, place)
+    }
+
+    #[tactic(auto, unfolding(qvt_parser_grammar::specs::Reading::object_at))]
+    fn object(&self, parser: &mut Parser<'_>) -> Result<Expr, ParseError>
+        requires { IsInside F.Fn G.Fn self.now }
+        ensures gives { Gives expr_view result (toks parser.new) (object_at (nested_at self.now.room) (toks parser.old)) }
+        ensures fewer { length (toks parser.new) ≤ length (toks parser.old) }
+        ensures less { OnOk result (length (toks parser.new) < length (toks parser.old)) }
+    {
+        let word = parser.take(Class::ObjectWord)?;
+        let (variable, path) = parser.object_head()?;
+        let extent = parser.extent()?;
+        let body = self.block(parser)?;
+        Ok(Expr::Object {
+            variable,
+            path,
+            extent,
+            body,
+            place: word.place,
+        })
+    }
+
+    #[tactic(auto, unfolding(qvt_parser_grammar::specs::Reading::new_expr_at))]
+    fn new_expr(&self, parser: &mut Parser<'_>) -> Result<Expr, ParseError>
+        requires { IsInside F.Fn G.Fn self.now }
+        ensures gives { Gives expr_view result (toks parser.new) (new_expr_at (nested_at self.now.room) (toks parser.old)) }
+        ensures fewer { length (toks parser.new) ≤ length (toks parser.old) }
+        ensures less { OnOk result (length (toks parser.new) < length (toks parser.old)) }
+    {
+        let word = parser.take(Class::NewWord)?;
+        let path = parser.path()?;
+        let extent = parser.extent()?;
+        let args = self.args(parser)?;
+        Ok(Expr::New {
+            path,
+            extent,
+            args,
+            place: word.place,
+        })
+    }
+
+    #[tactic(auto, unfolding(qvt_parser_grammar::specs::Reading::map_call_at))]
+    pub fn map_call(&self, parser: &mut Parser<'_>) -> Result<MapCall, ParseError>
+        requires { IsInside F.Fn G.Fn self.now }
+        ensures gives { Gives map_view result (toks parser.new) (map_call_at (nested_at self.now.room) (toks parser.old)) }
+        ensures fewer { length (toks parser.new) ≤ length (toks parser.old) }
+        ensures less { OnOk result (length (toks parser.new) < length (toks parser.old)) }
+    {
+        let word = parser.map_word()?;
+        let name = parser.name()?;
+        let args = self.args(parser)?;
+        Ok(MapCall {
+            strict: is_strict(word.class),
+            name: name.text,
+            args,
+            place: name.place,
+        })
+    }
+
+    #[tactic(auto, unfolding(qvt_parser_grammar::specs::Reading::filter_head_at))]
+    fn filter_head(&self, parser: &mut Parser<'_>) -> Result<(Option<Text>, TypeTree), ParseError>
+        ensures gives { Gives filter_head_view result (toks parser.new) (filter_head_at (nested_at self.now.room) (toks parser.old)) }
+        ensures fewer { length (toks parser.new) ≤ length (toks parser.old) }
+        ensures less { OnOk result (length (toks parser.new) < length (toks parser.old)) }
+    {
+        if parser.at_kind() {
+            let kind = parser.coll_type(self.room)?;
+            return Ok((None, kind));
+        }
+        let name = parser.name()?;
+        if parser.at(Class::Colon) {
+            let kind = parser.colon_type(self.room)?;
+            return Ok((Some(name.text), kind));
+        }
+        let more = parser.more_names()?;
+        let path = path_of(parser.alloc, name, more)?;
+        Ok((None, TypeTree::Path(path)))
+    }
+
+    #[tactic(auto, unfolding(qvt_parser_grammar::specs::Reading::bar_expr_at))]
+    pub fn bar_expr(&self, parser: &mut Parser<'_>) -> Result<Expr, ParseError>
+        requires { IsInside F.Fn G.Fn self.now }
+        ensures gives { Gives expr_view result (toks parser.new) (bar_expr_at (nested_at self.now.room) (toks parser.old)) }
+        ensures fewer { length (toks parser.new) ≤ length (toks parser.old) }
+        ensures less { OnOk result (length (toks parser.new) < length (toks parser.old)) }
+    {
+        parser.take(Class::Bar)?;
+        self.expr(parser)
+    }
+
+    pub fn optional_bar(&self, parser: &mut Parser<'_>) -> Result<Option<Expr>, ParseError>
+        requires { IsInside F.Fn G.Fn self.now }
+        ensures gives { Gives (option_view expr_view) result (toks parser.new) (maybe_at (is Class.Bar) (bar_expr_at (nested_at self.now.room)) (toks parser.old)) }
+        ensures fewer { length (toks parser.new) ≤ length (toks parser.old) }
+    {
+        if parser.at(Class::Bar) {
+            let expr = self.bar_expr(parser)?;
+            return Ok(Some(expr));
+        }
+        Ok(None)
+    }
+
+    #[tactic(auto, unfolding(qvt_parser_grammar::specs::Reading::filter_at))]
+    fn filter(&self, parser: &mut Parser<'_>) -> Result<Filter, ParseError>
+        requires { IsInside F.Fn G.Fn self.now }
+        ensures gives { Gives filter_view result (toks parser.new) (filter_at (nested_at self.now.room) (toks parser.old)) }
+        ensures fewer { length (toks parser.new) ≤ length (toks parser.old) }
+        ensures less { OnOk result (length (toks parser.new) < length (toks parser.old)) }
+    {
+        let place = parser.place();
+        let (name, kind) = self.filter_head(parser)?;
+        if parser.at(Class::Bar) {
+            let condition = self.bar_expr(parser)?;
+            let condition = Box::new(parser.alloc, condition)?;
+            return Ok(Filter {
+                name,
+                kind,
+                condition: Some(condition),
+                place,
+            });
+        }
+        Ok(Filter {
+            name,
+            kind,
+            condition: None,
+            place,
+        })
+    }
+
+    fn next_filter(&self, parser: &mut Parser<'_>) -> Result<Option<Filter>, ParseError>
+        requires { IsInside F.Fn G.Fn self.now }
+        ensures gives { Gives (option_view filter_view) result (toks parser.new) (maybe_at (is Class.Comma) (made_at second (then_at (the_at Class.Comma) (filter_at (nested_at self.now.room)))) (toks parser.old)) }
+        ensures fewer { length (toks parser.new) ≤ length (toks parser.old) }
+    {
+        if parser.at(Class::Comma) {
+            parser.take(Class::Comma)?;
+            let filter = self.filter(parser)?;
+            return Ok(Some(filter));
+        }
+        Ok(None)
+    }
+
+    #[tactic(auto, unfolding(qvt_parser_grammar::specs::Reading::all_form_at))]
+    fn all_form(
+        &self,
+        parser: &mut Parser<'_>,
+    ) -> Result<(ResolveWord, (Option<PathTree>, Option<Filter>)), ParseError>
+        requires { IsInside F.Fn G.Fn self.now }
+        ensures gives { Gives form_view result (toks parser.new) (all_form_at (nested_at self.now.room) (toks parser.old)) }
+        ensures fewer { length (toks parser.new) ≤ length (toks parser.old) }
+        ensures less { OnOk result (length (toks parser.new) < length (toks parser.old)) }
+    {
+        let word = parser.all_word()?;
+        parser.take(Class::OpenRound)?;
+        let filter = self.filter(parser)?;
+        parser.take(Class::CloseRound)?;
+        Ok((resolve_word(word.class), (None, Some(filter))))
+    }
+
+    #[tactic(auto, unfolding(qvt_parser_grammar::specs::Reading::in_form_at))]
+    fn in_form(
+        &self,
+        parser: &mut Parser<'_>,
+    ) -> Result<(ResolveWord, (Option<PathTree>, Option<Filter>)), ParseError>
+        requires { IsInside F.Fn G.Fn self.now }
+        ensures gives { Gives form_view result (toks parser.new) (in_form_at (nested_at self.now.room) (toks parser.old)) }
+        ensures fewer { length (toks parser.new) ≤ length (toks parser.old) }
+        ensures less { OnOk result (length (toks parser.new) < length (toks parser.old)) }
+    {
+        let word = parser.in_word()?;
+        parser.take(Class::OpenRound)?;
+        let path = parser.path()?;
+        let filter = self.next_filter(parser)?;
+        parser.take(Class::CloseRound)?;
+        Ok((resolve_word(word.class), (Some(path), filter)))
+    }
+
+    fn form(
+        &self,
+        parser: &mut Parser<'_>,
+    ) -> Result<(ResolveWord, (Option<PathTree>, Option<Filter>)), ParseError>
+        requires { IsInside F.Fn G.Fn self.now }
+        ensures gives { Gives form_view result (toks parser.new) (choose_at (of all_first) (all_form_at (nested_at self.now.room)) (in_form_at (nested_at self.now.room)) (toks parser.old)) }
+        ensures fewer { length (toks parser.new) ≤ length (toks parser.old) }
+        ensures less { OnOk result (length (toks parser.new) < length (toks parser.old)) }
+    {
+        if parser.at_all() {
+            return self.all_form(parser);
+        }
+        self.in_form(parser)
+    }
+
+    #[tactic(auto, unfolding(qvt_parser_grammar::specs::Reading::resolve_at))]
+    pub fn resolve(&self, parser: &mut Parser<'_>) -> Result<ResolveCall, ParseError>
+        requires { IsInside F.Fn G.Fn self.now }
+        ensures gives { Gives resolve_view result (toks parser.new) (resolve_at (nested_at self.now.room) (toks parser.old)) }
+        ensures fewer { length (toks parser.new) ≤ length (toks parser.old) }
+        ensures less { OnOk result (length (toks parser.new) < length (toks parser.old)) }
+    {
+        let place = parser.place();
+        let late = parser.at(Class::LateWord);
+        if late {
+            parser.take(Class::LateWord)?;
+        }
+        let (word, (within, filter)) = self.form(parser)?;
+        Ok(ResolveCall {
+            late,
+            word,
+            within,
+            filter,
+            place,
+        })
+    }
+
+    #[tactic(auto, unfolding(qvt_parser_grammar::specs::Reading::brackets_at))]
+    fn brackets(&self, parser: &mut Parser<'_>) -> Result<Expr, ParseError>
+        requires { IsInside F.Fn G.Fn self.now }
+        ensures gives { Gives expr_view result (toks parser.new) (brackets_at (nested_at self.now.room) (toks parser.old)) }
+        ensures fewer { length (toks parser.new) ≤ length (toks parser.old) }
+        ensures less { OnOk result (length (toks parser.new) < length (toks parser.old)) }
+    {
+        parser.take(Class::OpenRound)?;
+        let expr = self.expr(parser)?;
+        parser.take(Class::CloseRound)?;
+        Ok(expr)
+    }
+
+    #[tactic(auto, unfolding(qvt_parser_grammar::specs::Reading::bare_expr_at))]
+    fn bare_expr(&self, parser: &mut Parser<'_>) -> Result<Expr, ParseError>
+        requires { IsInside F.Fn G.Fn self.now }
+        ensures gives { Gives expr_view result (toks parser.new) (bare_expr_at (nested_at self.now.room) (toks parser.old)) }
+        ensures fewer { length (toks parser.new) ≤ length (toks parser.old) }
+        ensures less { OnOk result (length (toks parser.new) < length (toks parser.old)) }
+    {
+        if parser.at_literal() {
+            return parser.literal();
+        }
+        if parser.at_word() {
+            return parser.word();
+        }
+        if parser.at(Class::Name) {
+            return self.named_expr(parser);
+        }
+        self.longer(parser)
+    }
+
+    #[tactic(auto, unfolding(qvt_parser_grammar::specs::Reading::longer_at))]
+    fn longer(&self, parser: &mut Parser<'_>) -> Result<Expr, ParseError>
+        requires { IsInside F.Fn G.Fn self.now }
+        ensures gives { Gives expr_view result (toks parser.new) (longer_at (nested_at self.now.room) (toks parser.old)) }
+        ensures fewer { length (toks parser.new) ≤ length (toks parser.old) }
+        ensures less { OnOk result (length (toks parser.new) < length (toks parser.old)) }
+    {
+        if parser.at_kind() {
+            return self.coll(parser);
+        }
+        if parser.at(Class::ObjectWord) {
+            return self.object(parser);
+        }
+        if parser.at(Class::NewWord) {
+            return self.new_expr(parser);
+        }
+        if parser.at_map() {
+            let call = self.map_call(parser)?;
+            return Ok(Expr::Map(call));
+        }
+        let call = self.resolve(parser)?;
+        Ok(Expr::Resolve(call))
+    }
+
+    #[tactic(auto, unfolding(qvt_parser_grammar::specs::Reading::other_primary_at))]
+    pub fn other_primary(&self, parser: &mut Parser<'_>) -> Result<First, ParseError>
+        requires { IsInside F.Fn G.Fn self.now }
+        ensures gives { Gives first_view result (toks parser.new) (other_primary_at (nested_at self.now.room) (toks parser.old)) }
+        ensures fewer { length (toks parser.new) ≤ length (toks parser.old) }
+        ensures less { OnOk result (length (toks parser.new) < length (toks parser.old)) }
+    {
+        if parser.at(Class::OpenRound) {
+            let expr = self.brackets(parser)?;
+            return Ok(First { expr, bare: false });
+        }
+        let expr = self.bare_expr(parser)?;
+        Ok(First { expr, bare: true })
+    }
+
+    #[tactic(auto, unfolding(qvt_parser_grammar::specs::Reading::primary_at))]
+    pub fn primary(&self, parser: &mut Parser<'_>) -> Result<First, ParseError>
+        requires { IsInside F.Fn G.Fn self.now }
+        ensures gives { Gives first_view result (toks parser.new) (primary_at (nested_at self.now.room) (toks parser.old)) }
+        ensures fewer { length (toks parser.new) ≤ length (toks parser.old) }
+        ensures less { OnOk result (length (toks parser.new) < length (toks parser.old)) }
+    {
+        if parser.at(Class::IfWord) {
+            let expr = self.if_expr(parser)?;
+            return Ok(First { expr, bare: true });
+        }
+        self.other_primary(parser)
+    }
+}

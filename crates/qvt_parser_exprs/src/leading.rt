@@ -1,0 +1,48 @@
+use qvt_base::numbers::Place;
+use qvt_base::text::Text;
+use qvt_parser_grammar::named::Named;
+use qvt_tree::tree::{Expr, Step, StepList, Stmts};
+use qvt_tree::types::TypeTree;
+
+/// A primary, and whether it stands without brackets.
+#[derive(Drop)]
+pub struct First {
+    pub expr: Expr,
+    pub bare: bool,
+}
+
+/// A step, or the rest of a `forEach`.
+#[derive(Drop)]
+pub enum LeadStep {
+    Step(Step),
+    Each(EachTail),
+}
+
+/// An expression that may still become a target, or the source and the rest of a `forEach`.
+#[derive(Drop)]
+pub enum Leading {
+    Name(Named),
+    /// The word `result`.
+    Result(Place),
+    /// Steps, at least one, after an expression.
+    Post {
+        first: Expr,
+        steps: StepList,
+        place: Place,
+    },
+    /// An expression that is no target.
+    Done(Expr),
+    Each {
+        source: Expr,
+        part: EachTail,
+    },
+}
+
+/// What stands after the source of a `forEach`.
+#[derive(Drop)]
+pub struct EachTail {
+    pub name: Text,
+    pub kind: Option<TypeTree>,
+    pub condition: Option<Expr>,
+    pub body: Stmts,
+}

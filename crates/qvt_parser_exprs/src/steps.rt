@@ -1,0 +1,267 @@
+ghost use Rattle.std.specs.Prelude.{◌<◌, ◌≤◌, IsTrue, length, OnOk};
+ghost use Rattle.qvt_grammar.specs.Reader.{starts, made_at, then_at, many_at, maybe_at};
+ghost use Rattle.qvt_tree.specs.View.{expr_view, step_view, accumulator_view};
+ghost use Rattle.qvt_parser_grammar.specs.Tokens.{of, is};
+ghost use Rattle.qvt_parser_grammar.specs.Firsts.{head_first, step_first};
+ghost use Rattle.qvt_parser_grammar.specs.Trees.{dot_of, arrow_of, with_first};
+ghost use Rattle.qvt_parser_grammar.specs.Reading.{name_at, args_at, dot_rest_at, dot_step_at, accumulator_at, head_rest_at, more_exprs_at, after_first_at, arrow_body_at, arrow_args_at, arrow_rest_at, step_at};
+ghost use Rattle.qvt_parser_grammar.specs.Nesting.{nested_at};
+ghost use Rattle.qvt_parser_grammar.specs.Options.{option_view};
+ghost use Rattle.qvt_parser_exprs.specs.Views.{lead_view, exprs_view, steps_view, head_rest_view, arrow_args_view};
+ghost use Rattle.qvt_parser_grammar.specs.Gives.{Gives, toks};
+ghost use Rattle.qvt_parser_exprs.specs.Inside.{IsInside};
+
+use crate::inside::Inside;
+use crate::leading::Leading;
+use crate::made::{finish, one_expr};
+use qvt_base::seq::Seq;
+use qvt_parser_grammar::cursor::{ParseError, Parser};
+use qvt_parser_grammar::token::Class;
+use qvt_tree::tree::{Accumulator, Expr, Head, Step, Stmts};
+use qvt_tree::types::TypeTree;
+
+impl<
+    F: Fn(&mut Parser<'_>) -> Result<Leading, ParseError>,
+    G: Fn(&mut Parser<'_>) -> Result<Stmts, ParseError>,
+> Inside<F, G> {
+    #[tactic(auto, unfolding(qvt_parser_grammar::specs::Reading::dot_rest_at))]
+    fn dot_rest(&self, parser: &mut Parser<'_>) -> Result<Step, ParseError>
+        requires { IsInside F.Fn G.Fn self.now }
+        ensures gives { Gives step_view result (toks parser.new) (dot_rest_at (nested_at self.now.room) (toks parser.old)) }
+        ensures fewer { length (toks parser.new) ≤ length (toks parser.old) }
+        ensures less { OnOk result (length (toks parser.new) < length (toks parser.old)) }
+    {
+        if parser.at(Class::Name) {
+            return self.dot_name(parser);
+        }
+        if parser.at_map() {
+            let call = self.map_call(parser)?;
+            return Ok(Step::DotMap(call));
+        }
+        let call = self.resolve(parser)?;
+        Ok(Step::DotResolve(call))
+    }
+
+    fn optional_args(&self, parser: &mut Parser<'_>) -> Result<Option<Seq<Expr>>, ParseError>
+        requires { IsInside F.Fn G.Fn self.now }
+        ensures gives { Gives (option_view exprs_view) result (toks parser.new) (maybe_at (is Class.OpenRound) (args_at (nested_at self.now.room)) (toks parser.old)) }
+        ensures fewer { length (toks parser.new) ≤ length (toks parser.old) }
+    {
+        if parser.at(Class::OpenRound) {
+            let args = self.args(parser)?;
+            return Ok(Some(args));
+        }
+        Ok(None)
+    }
+
+    fn dot_name(&self, parser: &mut Parser<'_>) -> Result<Step, ParseError>
+        requires { IsInside F.Fn G.Fn self.now }
+        ensures gives { Gives step_view result (toks parser.new) (made_at dot_of (then_at name_at (maybe_at (is Class.OpenRound) (args_at (nested_at self.now.room)))) (toks parser.old)) }
+        ensures fewer { length (toks parser.new) ≤ length (toks parser.old) }
+        ensures less { OnOk result (length (toks parser.new) < length (toks parser.old)) }
+    {
+        let name = parser.name()?;
+        let args = self.optional_args(parser)?;
+        Ok(Step::Dot {
+            name: name.text,
+            args,
+            place: name.place,
+        })
+    }
+
+    #[tactic(auto, unfolding(qvt_parser_grammar::specs::Reading::dot_step_at))]
+    pub fn dot_step(&self, parser: &mut Parser<'_>) -> Result<Step, ParseError>
+        requires { IsInside F.Fn G.Fn self.now }
+        ensures gives { Gives step_view result (toks parser.new) (dot_step_at (nested_at self.now.room) (toks parser.old)) }
+        ensures fewer { length (toks parser.new) ≤ length (toks parser.old) }
+        ensures less { OnOk result (length (toks parser.new) < length (toks parser.old)) }
+    {
+        parser.take(Class::Dot)?;
+        self.dot_rest(parser)
+    }
+
+    #[tactic(auto, unfolding(qvt_parser_grammar::specs::Reading::accumulator_at))]
+    fn accumulator(&self, parser: &mut Parser<'_>) -> Result<Accumulator, ParseError>
+        requires { IsInside F.Fn G.Fn self.now }
+        ensures gives { Gives accumulator_view result (toks parser.new) (accumulator_at (nested_at self.now.room) (toks parser.old)) }
+        ensures fewer { length (toks parser.new) ≤ length (toks parser.old) }
+        ensures less { OnOk result (length (toks parser.new) < length (toks parser.old)) }
+    {
+        parser.take(Class::Semicolon)?;
+        let name = parser.name()?;
+        let kind = parser.colon_type(self.room)?;
+        parser.take(Class::EqualSign)?;
+        let first = self.expr(parser)?;
+        Ok(Accumulator {
+            name: name.text,
+            kind,
+            first,
+            place: name.place,
+        })
+    }
+
+    fn optional_accumulator(
+        &self,
+        parser: &mut Parser<'_>,
+    ) -> Result<Option<Accumulator>, ParseError>
+        requires { IsInside F.Fn G.Fn self.now }
+        ensures gives { Gives (option_view accumulator_view) result (toks parser.new) (maybe_at (is Class.Semicolon) (accumulator_at (nested_at self.now.room)) (toks parser.old)) }
+        ensures fewer { length (toks parser.new) ≤ length (toks parser.old) }
+    {
+        if parser.at(Class::Semicolon) {
+            let accumulator = self.accumulator(parser)?;
+            return Ok(Some(accumulator));
+        }
+        Ok(None)
+    }
+
+    #[tactic(auto, unfolding(qvt_parser_grammar::specs::Reading::head_rest_at))]
+    fn head_rest(
+        &self,
+        parser: &mut Parser<'_>,
+    ) -> Result<(Option<TypeTree>, (Option<Accumulator>, Expr)), ParseError>
+        requires { IsInside F.Fn G.Fn self.now }
+        ensures gives { Gives head_rest_view result (toks parser.new) (head_rest_at (nested_at self.now.room) (toks parser.old)) }
+        ensures fewer { length (toks parser.new) ≤ length (toks parser.old) }
+        ensures less { OnOk result (length (toks parser.new) < length (toks parser.old)) }
+    {
+        let kind = parser.optional_type(self.room)?;
+        let accumulator = self.optional_accumulator(parser)?;
+        let body = self.bar_expr(parser)?;
+        Ok((kind, (accumulator, body)))
+    }
+
+    #[tactic(auto, unfolding(qvt_parser_grammar::specs::Reading::arrow_body_at))]
+    fn arrow_body(&self, parser: &mut Parser<'_>) -> Result<(Option<Head>, Seq<Expr>), ParseError>
+        requires { IsInside F.Fn G.Fn self.now }
+        ensures gives { Gives arrow_args_view result (toks parser.new) (arrow_body_at (nested_at self.now.room) (toks parser.old)) }
+        ensures fewer { length (toks parser.new) ≤ length (toks parser.old) }
+    {
+        let lead = self.flagged(parser)?;
+        if parser.at_head() {
+            return self.head_after(parser, lead);
+        }
+        let first = finish(parser.alloc, lead)?;
+        self.exprs_after(parser, first)
+    }
+
+    fn head_after(
+        &self,
+        parser: &mut Parser<'_>,
+        lead: Leading,
+    ) -> Result<(Option<Head>, Seq<Expr>), ParseError>
+        requires nested { IsInside F.Fn G.Fn self.now }
+        requires head { IsTrue (starts (of head_first) (toks parser.old)) }
+        ensures gives { Gives arrow_args_view result (toks parser.new) (after_first_at (nested_at self.now.room) (lead_view lead) (toks parser.old)) }
+        ensures fewer { length (toks parser.new) ≤ length (toks parser.old) }
+    {
+        match lead {
+            Leading::Name(name) => {
+                let (kind, (accumulator, body)) = self.head_rest(parser)?;
+                let head = Head {
+                    name: name.text,
+                    kind,
+                    accumulator,
+                    place: name.place,
+                };
+                let args = one_expr(parser.alloc, body)?;
+                Ok((Some(head), args))
+            }
+            lead => {
+                let first = finish(parser.alloc, lead)?;
+                self.exprs_after(parser, first)
+            }
+        }
+    }
+
+    fn exprs_after(
+        &self,
+        parser: &mut Parser<'_>,
+        first: Expr,
+    ) -> Result<(Option<Head>, Seq<Expr>), ParseError>
+        requires { IsInside F.Fn G.Fn self.now }
+        ensures gives { Gives arrow_args_view result (toks parser.new) (made_at (with_first (expr_view first)) (more_exprs_at (nested_at self.now.room)) (toks parser.old)) }
+        ensures fewer { length (toks parser.new) ≤ length (toks parser.old) }
+    {
+        let exprs = self.exprs_from(parser, first)?;
+        Ok((None, exprs))
+    }
+
+    #[tactic(auto, unfolding(qvt_parser_grammar::specs::Reading::arrow_args_at))]
+    fn arrow_args(&self, parser: &mut Parser<'_>) -> Result<(Option<Head>, Seq<Expr>), ParseError>
+        requires { IsInside F.Fn G.Fn self.now }
+        ensures gives { Gives arrow_args_view result (toks parser.new) (arrow_args_at (nested_at self.now.room) (toks parser.old)) }
+        ensures fewer { length (toks parser.new) ≤ length (toks parser.old) }
+        ensures less { OnOk result (length (toks parser.new) < length (toks parser.old)) }
+    {
+        parser.take(Class::OpenRound)?;
+        if parser.at(Class::CloseRound) {
+            parser.take(Class::CloseRound)?;
+            return Ok((None, Seq::new(parser.alloc)));
+        }
+        let body = self.arrow_body(parser)?;
+        parser.take(Class::CloseRound)?;
+        Ok(body)
+    }
+
+    fn arrow_name(&self, parser: &mut Parser<'_>) -> Result<Step, ParseError>
+        requires { IsInside F.Fn G.Fn self.now }
+        ensures gives { Gives step_view result (toks parser.new) (made_at arrow_of (then_at name_at (arrow_args_at (nested_at self.now.room))) (toks parser.old)) }
+        ensures fewer { length (toks parser.new) ≤ length (toks parser.old) }
+        ensures less { OnOk result (length (toks parser.new) < length (toks parser.old)) }
+    {
+        let name = parser.name()?;
+        let (head, args) = self.arrow_args(parser)?;
+        Ok(Step::Arrow {
+            name: name.text,
+            head,
+            args,
+            place: name.place,
+        })
+    }
+
+    #[tactic(auto, unfolding(qvt_parser_grammar::specs::Reading::arrow_rest_at))]
+    pub fn arrow_rest(&self, parser: &mut Parser<'_>) -> Result<Step, ParseError>
+        requires { IsInside F.Fn G.Fn self.now }
+        ensures gives { Gives step_view result (toks parser.new) (arrow_rest_at (nested_at self.now.room) (toks parser.old)) }
+        ensures fewer { length (toks parser.new) ≤ length (toks parser.old) }
+        ensures less { OnOk result (length (toks parser.new) < length (toks parser.old)) }
+    {
+        if parser.at(Class::Name) {
+            return self.arrow_name(parser);
+        }
+        if parser.at_map() {
+            let call = self.map_call(parser)?;
+            return Ok(Step::ArrowMap(call));
+        }
+        let call = self.resolve(parser)?;
+        Ok(Step::ArrowResolve(call))
+    }
+
+    #[tactic(auto, unfolding(qvt_parser_grammar::specs::Reading::step_at))]
+    fn step(&self, parser: &mut Parser<'_>) -> Result<Step, ParseError>
+        requires { IsInside F.Fn G.Fn self.now }
+        ensures gives { Gives step_view result (toks parser.new) (step_at (nested_at self.now.room) (toks parser.old)) }
+        ensures fewer { length (toks parser.new) ≤ length (toks parser.old) }
+        ensures less { OnOk result (length (toks parser.new) < length (toks parser.old)) }
+    {
+        if parser.at(Class::Dot) {
+            return self.dot_step(parser);
+        }
+        parser.take(Class::Arrow)?;
+        self.arrow_rest(parser)
+    }
+
+    pub fn steps(&self, parser: &mut Parser<'_>) -> Result<Seq<Step>, ParseError>
+        requires { IsInside F.Fn G.Fn self.now }
+        ensures gives { Gives steps_view result (toks parser.new) (many_at (of step_first) (step_at (nested_at self.now.room)) (toks parser.old)) }
+        ensures fewer { length (toks parser.new) ≤ length (toks parser.old) }
+    {
+        let mut steps = Seq::new(parser.alloc);
+        while parser.at_step() {
+            let step = self.step(parser)?;
+            steps.push(step)?;
+        }
+        Ok(steps)
+    }
+}

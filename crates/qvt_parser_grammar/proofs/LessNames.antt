@@ -1,0 +1,16 @@
+-- What is read in a loop takes a token.
+use Rattle.std.proofs.Common.{zero, refl}
+use Rattle.qvt_grammar.specs.Reader.{Consumes, made_at, then_at}
+use Rattle.qvt_parser_grammar.specs.declared.token.Class.TheVariants.{DoubleColon, Comma}
+use Rattle.qvt_parser_grammar.specs.Readers.{the_at}
+use Rattle.qvt_parser_grammar.specs.Trees.{second}
+use Rattle.qvt_parser_grammar.specs.Reading.{name_at, path_at}
+use Rattle.qvt_parser_grammar.proofs.Forms.{good_the, good_made, good_then}
+use Rattle.qvt_parser_grammar.proofs.GoodExprs.{good_name, good_path}
+use Rattle.qvt_parser_grammar.proofs.GoodNesting.{consumes}
+
+pub less_name : Consumes (made_at second (then_at (the_at DoubleColon) name_at))
+less_name = consumes {n = zero} (good_made second (good_then (good_the DoubleColon) good_name refl))
+
+pub less_path : Consumes (made_at second (then_at (the_at Comma) path_at))
+less_path = consumes {n = zero} (good_made second (good_then (good_the Comma) good_path refl))

@@ -1,0 +1,18 @@
+use Rattle.std.proofs.Common.{sym, ap, ◌∙◌, arith}
+use Rattle.qvt_grammar.specs.Reader.{many_at, made_at, then_at, with_front}
+use Rattle.qvt_grammar.proofs.Loops.{loop_more}
+use Rattle.qvt_parser_grammar.specs.Tokens.{is}
+use Rattle.qvt_parser_grammar.specs.Readers.{the_at}
+use Rattle.qvt_parser_grammar.specs.Trees.{second}
+use Rattle.qvt_parser_grammar.specs.Gives.{toks}
+use Rattle.qvt_parser_grammar.specs.declared.token.Class.TheVariants.{DoubleColon}
+use Rattle.qvt_parser_grammar.specs.Reading.{name_at}
+use Rattle.qvt_parser_grammar.proofs.LessNames.{less_name}
+use Rattle.qvt_parser_grammar.proofs.cursor.Parser.more_names.Goals as goal
+
+pub loop-self-preserved : goal.loop-self-preserved
+loop-self-preserved c = record {
+  so_far = loop_more (is DoubleColon) (made_at second (then_at (the_at DoubleColon) name_at)) (less_name) _ c.loop-self.names (toks c.loop-self.self) c.in_ok-next.next (toks c.next_name.new.self) c.loop-self.invariant.so_far (sym c.at.ensures ∙ c.loop-self-test.true) c.in_ok-next.ensures.gives
+      ∙ ap (λ z. with_front z (many_at (is DoubleColon) (made_at second (then_at (the_at DoubleColon) name_at)) (toks c.next_name.new.self))) (sym c.in_ok-push.ensures.ok);
+  fewer = omega (arith, c.in_ok-next.ensures.fewer);
+}
