@@ -85,7 +85,6 @@ fn refusal_text(alloc: Global, why: &Refusal) -> Result<String, AllocError>
     }
 }
 
-
 /// The line that an object has too few items for a feature.
 fn low_line(alloc: Global, model: &Text, id: &Text, feature: &Text) -> Result<Bytes, AllocError>
     ensures { IfOk result (λ line. line ≡ low_line model.now id.now feature.now) }

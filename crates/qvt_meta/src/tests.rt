@@ -106,7 +106,11 @@ fn what_has_not_the_form_is_told_by_its_first_path(rt: HostRuntime) -> Result<()
             "Shape /classes/0/features/1/containment ",
         ),
     ] {
-        assert_eq!(rt; told_with(rt.alloc(), features)?.as_str(), line, "{features}");
+        assert_eq!(rt;
+            told_with(rt.alloc(), features)?.as_str(),
+            line,
+            "{features}"
+        );
     }
     Ok(())
 }
@@ -132,10 +136,7 @@ fn checks_are_told_in_their_order(rt: HostRuntime) -> Result<(), Fail> {
             "{\"name\":\"D\",\"supers\":[\"B\"]},{\"name\":\"A\"},{\"name\":\"C\",\"supers\":[\"A\",\"B\"]},{\"name\":\"B\",\"supers\":[\"C\"]}",
             "InheritanceCycle C ",
         ),
-        (
-            "{\"name\":\"A\",\"supers\":[\"A\"]}",
-            "InheritanceCycle A ",
-        ),
+        ("{\"name\":\"A\",\"supers\":[\"A\"]}", "InheritanceCycle A "),
         (
             "{\"name\":\"A\",\"features\":[{\"name\":\"f\",\"type\":\"Integer\",\"lower\":2}]}",
             "BadBounds A f",
@@ -267,7 +268,10 @@ fn names_and_numbers_are_looked_up(rt: HostRuntime) -> Result<(), Fail> {
     ] {
         assert_eq!(rt; metas.feature(ClassNo(class), name), feature, "{name}");
     }
-    assert_eq!(rt; metas.features(ClassNo(1)), [FeatureNo(0), FeatureNo(1), FeatureNo(2)].as_slice());
+    assert_eq!(rt;
+        metas.features(ClassNo(1)),
+        [FeatureNo(0), FeatureNo(1), FeatureNo(2)].as_slice()
+    );
     assert_eq!(rt; metas.opposite(FeatureNo(2)), Some(FeatureNo(3)));
     assert_eq!(rt; metas.opposite(FeatureNo(4)), None);
     assert!(rt; metas.is_abstract(ClassNo(0)));
