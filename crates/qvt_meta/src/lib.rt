@@ -22,6 +22,4 @@ mod rows;
 mod same_feature;
 pub mod small;
 mod tables;
-#[cfg(test)]
-mod tests;
 mod texts;
