@@ -65,10 +65,9 @@ impl<
         self.post(parser)
     }
 
-    /// Operands with operators of the `level` tightest levels between them: at 8 an expression.
     #[cycle(chain)]
     #[tactic(auto, unfolding(qvt_parser_grammar::specs::Reading::chain_at))]
-    pub fn chain(&self, parser: &mut Parser<'_>, level: usize) -> Result<Leading, ParseError>
+    fn chain(&self, parser: &mut Parser<'_>, level: usize) -> Result<Leading, ParseError>
         requires nested { IsInside F.Fn G.Fn self.now }
         requires tight { level ≤ 8 }
         ensures gives { Gives lead_view result (toks parser.new) (chain_at level (pre_at (nested_at self.now.room)) (pre_at (nested_at self.now.room)) (toks parser.old)) }
