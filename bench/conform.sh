@@ -20,7 +20,7 @@ cycle() { # the first in the last
   awk -v n="$1" 'BEGIN { printf "{\"objects\":["; for (i = 0; i < n; i++) printf "%s{\"class\":\"N\",\"id\":\"n%d\",\"slots\":{\"parts\":[\"n%d\"],\"whole\":\"n%d\"}}", i ? "," : "", i, (i + 1) % n, (i + n - 1) % n; print "]}" }' >"cycle$1.json"
 }
 star() { # all held by the first
-  awk -v n="$1" 'BEGIN { printf "{\"objects\":[{\"class\":\"N\",\"id\":\"n0\",\"slots\":{\"likes\":["; for (i = 1; i < n; i++) printf "%s\"n%d\"", i > 1 ? "," : "", i; printf "]}}";
+  awk -v n="$1" 'BEGIN { printf "{\"objects\":[{\"class\":\"N\",\"id\":\"n0\",\"slots\":{\"likes\":["; for (i = 1; i < n; i++) printf "%s\"n%d\"", (i > 1 ? "," : ""), i; printf "]}}";
     for (i = 1; i < n; i++) printf ",{\"class\":\"N\",\"id\":\"n%d\",\"slots\":{\"liked\":[\"n0\"]}}", i; print "]}" }' >"star$1.json"
 }
 seconds() { # of a run, in microseconds
