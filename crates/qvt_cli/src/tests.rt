@@ -111,7 +111,7 @@ fn small_jobs_answer_as_their_files_say(rt: HostRuntime) -> Result<(), Fail> {
             "{}",
             TEXT,
             Status::Refused,
-            "refused: m.json: NotBuilt\n",
+            "refused: m.json: Shape /classes\n",
             "",
         ),
         (
