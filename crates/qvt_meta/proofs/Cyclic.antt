@@ -9,7 +9,8 @@ use Rattle.qvt_relation.specs.Closure.{Closure, directly, through, reaches}
 use Rattle.qvt_relation.proofs.Closures.{reaches-closure}
 use Rattle.qvt_metamodel.specs.declared.info.ClassInfo.{ClassInfo}
 use Rattle.qvt_metamodel.specs.declared.declared.DeclaredClass.{DeclaredClass}
-use Rattle.qvt_metamodel.specs.MetaData.{MetaData, class_names}
+use Rattle.qvt_metamodel.specs.declared.declared.MetaData.{MetaData}
+use Rattle.qvt_metamodel.specs.MetaData.{class_names}
 use Rattle.qvt_metamodel.specs.Metamodels.{class_at}
 use Rattle.qvt_metamodel.specs.Descends.{is_superclass}
 use Rattle.qvt_metamodel.specs.Kept.{AreRanks}

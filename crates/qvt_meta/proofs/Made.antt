@@ -8,12 +8,12 @@ use Rattle.qvt_meta.specs.declared.adding.Numbers.{Numbers}
 use Rattle.qvt_metamodel.specs.Metamodels.{Metamodels, class_at, features_in, features_of, each_once, nowhere_feature}
 use Rattle.qvt_metamodel.specs.Descends.{is_above, reaches}
 use Rattle.qvt_metamodel.specs.Kept.{AreRanks, IsKept}
-use Rattle.qvt_metamodel.specs.MetaData.{MetaData}
+use Rattle.qvt_metamodel.specs.declared.declared.MetaData.{MetaData}
 use Rattle.qvt_metamodel.specs.Checked.{IsChecked}
 use Rattle.qvt_meta.specs.Numbers.{AreNumbers}
 use Rattle.qvt_metamodel.specs.Added.{numbered, first_begin, names_of}
 use Rattle.qvt_meta_tables.specs.Tables.{of_classes, AreTables}
-use Rattle.qvt_metamodel.specs.Names.{repeated}
+use Rattle.qvt_json.specs.Repeated.{repeated}
 use Rattle.qvt_metamodel.specs.Checks.{repeated_feature}
 use Rattle.qvt_metamodel.proofs.Infos.{length-class_infos}
 use Rattle.qvt_metamodel.proofs.Lists.{all-every, list_any-cong, flat_map-cong}

@@ -4,7 +4,7 @@ ghost use Rattle.std.specs.Prelude.{◌≡◌, ◌+◌, ◌<◌, ◌≤◌, ◌^
 ghost use Rattle.std.specs.Str.{bytes_eq};
 ghost use Rattle.qvt_metamodel.specs.MetaData.{feature_names};
 ghost use Rattle.qvt_meta.specs.Places.{ArePlaces, firsts_of};
-ghost use Rattle.qvt_metamodel.specs.Names.{repeated};
+ghost use Rattle.qvt_json.specs.Repeated.{repeated};
 ghost use Rattle.std.specs.List.{list_all};
 ghost use Rattle.qvt_metamodel.specs.Checks.{same_name};
 ghost use Rattle.qvt_meta.specs.Numbers.{has_few_literals, AreNumbers};
@@ -17,7 +17,7 @@ use qvt_base::lists::{ClassNoList, FeatureNoList};
 use qvt_base::numbers::{ClassNo, FeatureNo};
 use qvt_base::seq::Seq;
 use qvt_base::text::Text;
-use qvt_meta_checks::names::names_of as distinct_names;
+use qvt_meta_checks::names::{names_of as distinct_names, place_in};
 use qvt_metamodel::begin::Begin;
 use qvt_metamodel::copied::copy_of_text;
 use qvt_metamodel::declared::{DeclaredClass, DeclaredFeature, MetaData};
@@ -42,17 +42,6 @@ pub struct Numbers {
     pub metamodels: Vec<MetamodelInfo>,
     pub classes: Vec<ClassInfo>,
     pub features: Vec<FeatureInfo>,
-}
-
-/// The place of a name that is there.
-pub fn place_in(names: &IndexSet<Text>, name: &Text) -> usize
-    ensures place { result ≡ place_in names.now.keys name.now }
-    ensures bound { result ≤ length names.now.keys }
-{
-    match names.get_index_of(name) {
-        Some(place) => place,
-        None => 0,
-    }
 }
 
 /// The type of this name, among these enumerations and classes.

@@ -1,7 +1,7 @@
 //! The check of the names among all features of a class.
 
 ghost use Rattle.std.specs.Prelude.{◌≡◌, ◌<◌, ℕ, List, [], map, length, IfOk, slice_index_or};
-ghost use Rattle.qvt_metamodel.specs.Names.{repeated};
+ghost use Rattle.qvt_json.specs.Repeated.{repeated};
 ghost use Rattle.qvt_metamodel.specs.Metamodels.{nowhere_feature, features_of};
 ghost use Rattle.qvt_metamodel.specs.Added.{numbered};
 ghost use Rattle.qvt_meta.specs.Numbers.{AreNumbers};

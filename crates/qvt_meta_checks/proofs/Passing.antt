@@ -6,8 +6,10 @@ use Rattle.qvt_json.specs.Steps.{or_next}
 use Rattle.qvt_metamodel.specs.declared.info.EnumInfo.{EnumInfo}
 use Rattle.qvt_metamodel.specs.declared.declared.DeclaredFeature.{DeclaredFeature}
 use Rattle.qvt_metamodel.specs.declared.declared.DeclaredClass.{DeclaredClass}
-use Rattle.qvt_metamodel.specs.MetaData.{MetaData, class_names, enum_names}
-use Rattle.qvt_metamodel.specs.Names.{primitive_names, is_among, repeated}
+use Rattle.qvt_metamodel.specs.declared.declared.MetaData.{MetaData}
+use Rattle.qvt_metamodel.specs.MetaData.{class_names, enum_names}
+use Rattle.qvt_json.specs.Repeated.{repeated}
+use Rattle.qvt_metamodel.specs.Names.{primitive_names, is_among}
 use Rattle.qvt_metamodel.specs.Named.{nowhere_enumeration}
 use Rattle.qvt_metamodel.specs.Added.{declared_at, nothing_declared}
 use Rattle.qvt_metamodel.specs.Checks.{first_in, first_from, feature_fault, same_enum, same_name}

@@ -1,6 +1,8 @@
-ghost use Rattle.std.specs.Prelude.{◌≡◌, ℕ, None, List, [], map, IfOk, OnErr, OnOk, MatchResult, codes, ◌∷◌, ◌++◌, false};
+ghost use Rattle.std.specs.Prelude.{◌≡◌, ℕ, None, List, [], map, IfOk, OnErr, OnOk, MatchResult, codes, ◌∷◌, ◌++◌, false, ◌≤◌, length};
+ghost use Rattle.qvt_metamodel.specs.Added.{place_in};
 ghost use Rattle.qvt_metamodel.specs.Checks.{same_name, type_names};
-ghost use Rattle.qvt_metamodel.specs.Names.{primitive_names, is_among, repeated};
+ghost use Rattle.qvt_json.specs.Repeated.{repeated};
+ghost use Rattle.qvt_metamodel.specs.Names.{primitive_names, is_among};
 
 use indexmap::IndexSet;
 use qvt_base::copied::Copied;
@@ -121,4 +123,15 @@ pub fn names_of<T: Named>(alloc: Global, items: &[T]) -> Result<IndexSet<Text>, 
     ensures { IfOk result (λ names. names.keys ≡ map T.name_of items.now) }
 {
     names_with(alloc, IndexSet::new(alloc), items)
+}
+
+/// The place of a name that is there.
+pub fn place_in(names: &IndexSet<Text>, name: &Text) -> usize
+    ensures place { result ≡ place_in names.now.keys name.now }
+    ensures bound { result ≤ length names.now.keys }
+{
+    match names.get_index_of(name) {
+        Some(place) => place,
+        None => 0,
+    }
 }

@@ -6,10 +6,10 @@ ghost use Rattle.qvt_metamodel.specs.MetaData.{class_names};
 ghost use Rattle.qvt_metamodel.specs.Checks.{is_name, is_one_at_most, is_mutual, is_contained_wrong, type_features, is_bad_opposite, bad_opposite};
 
 use crate::checks::{FeatureTest, first_fault};
+use crate::names::place_in;
 use indexmap::IndexSet;
 use qvt_base::list_fault::ListFault;
 use qvt_base::text::Text;
-use qvt_meta::adding::place_in;
 use qvt_metamodel::declared::{DeclaredClass, DeclaredFeature, MetaData};
 use std::alloc::Global;
 

@@ -6,7 +6,7 @@ use Rattle.qvt_json.specs.Json.{text_at, text_or, as_count, number_at, flag_at, 
 use Rattle.qvt_metamodel.specs.declared.info.EnumInfo.{EnumInfo}
 use Rattle.qvt_metamodel.specs.declared.declared.DeclaredFeature.{DeclaredFeature}
 use Rattle.qvt_metamodel.specs.declared.declared.DeclaredClass.{DeclaredClass}
-use Rattle.qvt_metamodel.specs.MetaData.{MetaData}
+use Rattle.qvt_metamodel.specs.declared.declared.MetaData.{MetaData}
 
 abbrev pub map_items : {Y : Type 0} → (Data → Y) → Items → List Y
 map_items f no_items = []

@@ -8,7 +8,8 @@ use Rattle.qvt_metamodel.specs.declared.info.TypeKind.TheVariants.{Bool as BoolK
 use Rattle.qvt_metamodel.specs.declared.info.ClassInfo.{ClassInfo}
 use Rattle.qvt_metamodel.specs.declared.info.FeatureInfo.{FeatureInfo}
 use Rattle.qvt_metamodel.specs.Metamodels.{Metamodels}
-use Rattle.qvt_metamodel.specs.MetaData.{MetaData, enum_names}
+use Rattle.qvt_metamodel.specs.declared.declared.MetaData.{MetaData}
+use Rattle.qvt_metamodel.specs.MetaData.{enum_names}
 use Rattle.qvt_metamodel.specs.Named.{metamodel_at}
 use Rattle.qvt_metamodel.specs.Joined.{FitTogether, joined, first_some, class_on, feature_on, kind_on, class_info_on, feature_info_on}
 use Rattle.qvt_metamodel.specs.Added.{numbered, added, HasRoom, first_begin, names_of, class_infos, feature_infos}

@@ -14,7 +14,7 @@ pub struct Meta {
 }
 
 impl Model for Meta {
-    ghost use Rattle.qvt_metamodel.specs.MetaData.{MetaData};
+    ghost use Rattle.qvt_metamodel.specs.declared.declared.MetaData.{MetaData};
     ghost use Rattle.qvt_metamodel.specs.Numbered.{IsMeta};
 
     ghost Value = { MetaData };

@@ -1,6 +1,6 @@
 use Rattle.std.proofs.Common.{◌≡◌, ◌∙◌, ap, sym, get_or, option_map, Some, length, arith, ℕ, Option}
 use Rattle.qvt_metamodel.specs.Added.{numbered}
-use Rattle.qvt_metamodel.specs.MetaData.{MetaData}
+use Rattle.qvt_metamodel.specs.declared.declared.MetaData.{MetaData}
 use Rattle.qvt_metamodel.specs.Checks.{same_feature, repeated_feature, Told}
 use Rattle.qvt_metamodel.specs.declared.declared.DeclaredClass.{DeclaredClass}
 use Rattle.qvt_meta_checks.proofs.Passing.{from_next, from_found}

@@ -1,5 +1,5 @@
 use Rattle.std.proofs.Common.{◌≡◌, ◌++◌, None, drop, map}
-use Rattle.qvt_metamodel.specs.Names.{repeated}
+use Rattle.qvt_json.specs.Repeated.{repeated}
 use Rattle.qvt_meta_checks.proofs.names.names_with.Given as goal
 
 abbrev pub invariant-loop-item : goal.invariant-loop-item
