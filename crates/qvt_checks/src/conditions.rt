@@ -2,16 +2,16 @@
 
 ghost use Rattle.std.specs.Prelude.{◌≡◌, IsTrue};
 ghost use Rattle.std.specs.List.{list_all};
-ghost use Rattle.qvt_meta.specs.Metamodels.{has_feature};
-ghost use Rattle.qvt_meta.specs.Named.{metamodel_at};
+ghost use Rattle.qvt_metamodel.specs.Metamodels.{has_feature};
+ghost use Rattle.qvt_metamodel.specs.Named.{metamodel_at};
 ghost use Rattle.qvt_store.specs.Contents.{AreNamed, is_named};
 ghost use Rattle.qvt_store.specs.Sound.{IsClassFor};
 ghost use Rattle.qvt_store.specs.Place.{IsPlaceable};
 ghost use Rattle.qvt_store.specs.Types.{is_bool, is_int, is_text, is_literal, is_instance, is_of_type, IsAssignable};
 
 use qvt_base::numbers::{ClassNo, FeatureNo, Oid};
-use qvt_meta::info::TypeKind;
-use qvt_meta::metas::Metas;
+use qvt_metamodel::info::TypeKind;
+use qvt_metas::metas::Metas;
 use qvt_store::extent::{Extent, ExtentList};
 use qvt_store::store::Store;
 use qvt_value::value::Value;

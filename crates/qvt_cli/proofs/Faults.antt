@@ -2,10 +2,10 @@
 use Rattle.std.proofs.Common.{◌≡◌, ◌≢◌, ◌∙◌, ◌<◌, ap, sym, subst, arith, ℕ, List, Bool, true, false, Option, Some, None, Result, Ok, Err, IfOk}
 use Rattle.std.specs.Prelude.{nat_lt, length, if◌then◌else◌}
 use Rattle.qvt_model.specs.declared.data.ObjectData.{ObjectData}
-use Rattle.qvt_meta.specs.Metamodels.{Metamodels}
-use Rattle.qvt_meta.specs.Added.{added, numbered}
-use Rattle.qvt_meta.specs.Joined.{joined}
-use Rattle.qvt_meta.specs.declared.declared.MetaData.{MetaData}
+use Rattle.qvt_metamodel.specs.Metamodels.{Metamodels}
+use Rattle.qvt_metamodel.specs.Added.{added, numbered}
+use Rattle.qvt_metamodel.specs.Joined.{joined}
+use Rattle.qvt_metamodel.specs.declared.declared.MetaData.{MetaData}
 use Rattle.qvt_cli.specs.Metas.{no_metamodels}
 use Rattle.qvt_conform.specs.Conformance.{IsWellFormed, conform_fault}
 use Rattle.qvt_model.specs.WellFormed.{IsModel}

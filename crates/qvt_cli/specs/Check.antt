@@ -2,7 +2,7 @@
 -- whether it conforms, in this order.
 use Rattle.std.specs.Prelude.{ℕ, List, [], ◌∷◌, length, nat_lt, Option, Some, None, Result, Ok, Err, if◌then◌else◌}
 use Rattle.qvt_base.specs.Outside.{Held}
-use Rattle.qvt_meta.specs.Metamodels.{Metamodels}
+use Rattle.qvt_metamodel.specs.Metamodels.{Metamodels}
 use Rattle.qvt_model.specs.Reading.{model_of}
 use Rattle.qvt_model.specs.declared.data.ObjectData.{ObjectData}
 use Rattle.qvt_conform.specs.Conformance.{conform_fault}

@@ -1,9 +1,9 @@
 -- The metamodel of a file, alone.
 use Rattle.std.specs.Prelude.{ℕ, List, [], None, Result, Ok}
 use Rattle.qvt_base.specs.Outside.{Held}
-use Rattle.qvt_meta.specs.Metamodels.{Metamodels}
-use Rattle.qvt_meta.specs.Added.{added}
-use Rattle.qvt_meta.specs.declared.declared.MetaData.{MetaData}
+use Rattle.qvt_metamodel.specs.Metamodels.{Metamodels}
+use Rattle.qvt_metamodel.specs.Added.{added}
+use Rattle.qvt_metamodel.specs.declared.declared.MetaData.{MetaData}
 use Rattle.qvt_meta.specs.MetaOf.{meta_of}
 use Rattle.qvt_cli.specs.Outcome.{Outcome}
 use Rattle.qvt_cli.specs.Steps.{◌>>=◌, read_step, or_refused}

@@ -2,8 +2,8 @@
 use Rattle.std.specs.Prelude.{ℕ, List, [], ◌∷◌, ◌++◌, codes, decimal}
 use Rattle.std.specs.FinMap as map
 use Rattle.qvt_base.specs.Outside.{Held}
-use Rattle.qvt_meta.specs.declared.fault.MetaFault.{MetaFault}
-use Rattle.qvt_meta.specs.declared.fault.MetaFault.TheVariants as meta
+use Rattle.qvt_metamodel.specs.declared.fault.MetaFault.{MetaFault}
+use Rattle.qvt_metamodel.specs.declared.fault.MetaFault.TheVariants as meta
 use Rattle.qvt_model.specs.declared.data.ModelFault.{ModelFault}
 use Rattle.qvt_model.specs.declared.data.ModelFault.TheVariants as model
 use Rattle.qvt_conform.specs.declared.fault.ConformFault.{ConformFault}

@@ -2,8 +2,8 @@
 use Rattle.std.specs.Prelude.{◌≡◌, ℕ, List, [], ◌∷◌, length, nat_lt, if◌then◌else◌, Option, Some, None, option_map, option_and_then, Result, Ok, Err}
 use Rattle.std.specs.Str.{is_utf8, chars}
 use Rattle.qvt_base.specs.Outside.{Held}
-use Rattle.qvt_meta.specs.Metamodels.{Metamodels}
-use Rattle.qvt_meta.specs.SmallMeta.{is_small}
+use Rattle.qvt_metamodel.specs.Metamodels.{Metamodels}
+use Rattle.qvt_meta_read.specs.SmallMeta.{is_small}
 use Rattle.qvt_cli.specs.Job.{job_of}
 use Rattle.qvt_cli.specs.declared.job.Job.{Job}
 use Rattle.qvt_cli.specs.declared.job.JobModel.{JobModel}

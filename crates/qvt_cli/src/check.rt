@@ -20,7 +20,7 @@ use qvt_base::seq::Seq;
 use qvt_base::text::Text;
 use qvt_conform::conform::conform;
 use qvt_conform::fault::ConformFault;
-use qvt_meta::metas::Metas;
+use qvt_metas::metas::Metas;
 use qvt_model::data::{ModelData, ModelFault};
 use qvt_model::read::read_model;
 use std::alloc::Global;

@@ -10,9 +10,9 @@ use crate::refusal::Refusal;
 use crate::stop::Stop;
 use qvt_base::outside::Files;
 use qvt_base::text::Text;
-use qvt_meta::fault::MetaFault;
 use qvt_meta::meta::{Meta, read_meta};
-use qvt_meta::metas::Metas;
+use qvt_metamodel::fault::MetaFault;
+use qvt_metas::metas::Metas;
 use std::alloc::Global;
 
 /// The refusal of a metamodel's file.
@@ -26,7 +26,7 @@ fn meta_stop(alloc: Global, name: &Text, why: MetaFault) -> Stop
     }
 }
 
-ghost use Rattle.qvt_meta.specs.Added.{added};
+ghost use Rattle.qvt_metamodel.specs.Added.{added};
 ghost use Rattle.qvt_cli.specs.Metas.{no_metamodels};
 
 /// The metamodels that have this one alone.

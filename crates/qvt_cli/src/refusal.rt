@@ -1,6 +1,6 @@
 use qvt_base::text::Text;
 use qvt_conform::fault::ConformFault;
-use qvt_meta::fault::MetaFault;
+use qvt_metamodel::fault::MetaFault;
 use qvt_model::data::ModelFault;
 
 /// Why a file was refused.

@@ -5,7 +5,7 @@ ghost use Rattle.qvt_cli.specs.Outcome.{with_one, with_two, metamodel_text, mode
 
 use qvt_base::text::Text;
 use qvt_conform::fault::ConformFault;
-use qvt_meta::fault::MetaFault;
+use qvt_metamodel::fault::MetaFault;
 use qvt_model::data::ModelFault;
 use std::alloc::{AllocError, Global};
 

@@ -8,7 +8,7 @@ use Rattle.std.specs.declared.cmp.Ordering.TheVariants.{Greater}
 use Rattle.std.proofs.lemmas.Bool.{eqb-true, eq-eqb}
 use Rattle.qvt_base.specs.declared.numbers.FeatureNo.{FeatureNo}
 use Rattle.qvt_json.specs.Steps.{or_next}
-use Rattle.qvt_meta.specs.Metamodels.{Metamodels, class_at, feature_at, shape_of, opposite, is_opposite, is_feature_number, features_of}
+use Rattle.qvt_metamodel.specs.Metamodels.{Metamodels, class_at, feature_at, shape_of, opposite, is_opposite, is_feature_number, features_of}
 use Rattle.qvt_model.specs.declared.data.Datum.{Datum}
 use Rattle.qvt_model.specs.declared.data.Datum.TheVariants.{Bool as BoolDatum, Int, Str, Literal, Ref}
 use Rattle.qvt_model.specs.declared.data.SlotData.{SlotData}

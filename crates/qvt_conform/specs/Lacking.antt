@@ -3,7 +3,7 @@ use Rattle.std.specs.Prelude.{ℕ, suc, Bool, false, not, ◌&&◌, length, List
 use Rattle.std.specs.List.{list_any}
 use Rattle.qvt_base.specs.declared.numbers.FeatureNo.{FeatureNo}
 use Rattle.qvt_json.specs.Steps.{or_next}
-use Rattle.qvt_meta.specs.Metamodels.{Metamodels, class_at, feature_at, shape_of, opposite, features_of}
+use Rattle.qvt_metamodel.specs.Metamodels.{Metamodels, class_at, feature_at, shape_of, opposite, features_of}
 use Rattle.qvt_model.specs.declared.data.Datum.{Datum}
 use Rattle.qvt_model.specs.declared.data.Datum.TheVariants.{Bool as BoolDatum, Int, Str, Literal, Ref}
 use Rattle.qvt_model.specs.declared.data.ObjectData.{ObjectData}

@@ -1,7 +1,7 @@
 //! The first fault of a model.
 
 ghost use Rattle.std.specs.Prelude.{◌≡◌, ◌<◌, ◌^◌, ℕ, [], length, IfOk, slice_get, Some};
-ghost use Rattle.qvt_meta.specs.Metamodels.{features_of};
+ghost use Rattle.qvt_metamodel.specs.Metamodels.{features_of};
 ghost use Rattle.qvt_conform.specs.declared.fault.ConformFault.TheVariants.{NoMemory};
 ghost use Rattle.qvt_conform.specs.Conformance.{IsWellFormed, feature_fault, features_fault, object_fault, conform_fault};
 ghost use Rattle.qvt_conform.specs.Containment.{contents};
@@ -20,7 +20,7 @@ use qvt_base::copied::Copied;
 use qvt_base::list_fault::ListFault;
 use qvt_base::numbers::FeatureNo;
 use qvt_base::text::Text;
-use qvt_meta::metas::Metas;
+use qvt_metas::metas::Metas;
 use qvt_model::data::{Datum, ModelData, ObjectData};
 use std::alloc::Global;
 
@@ -94,7 +94,7 @@ fn feature_fault(
 }
 
 ghost use Rattle.qvt_conform.specs.Lacking.{feature_fault_by, features_fault_by, object_fault_by, faults_by};
-ghost use Rattle.qvt_meta.specs.Metamodels.{feature_at};
+ghost use Rattle.qvt_metamodel.specs.Metamodels.{feature_at};
 
 /// A copy of a feature's name.
 fn name_of(alloc: Global, metas: &Metas, feature: FeatureNo) -> Result<Text, ListFault>

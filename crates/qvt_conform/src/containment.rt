@@ -14,7 +14,7 @@ use qvt_base::seq::Seq;
 use qvt_cycle::counts::{count_lists, zeros};
 use qvt_cycle::cycles::Cycles;
 use qvt_cycle::lists::Positions;
-use qvt_meta::metas::Metas;
+use qvt_metas::metas::Metas;
 use qvt_model::data::ObjectData;
 use std::alloc::Global;
 

@@ -6,7 +6,7 @@ ghost use Rattle.qvt_conform.specs.Containment.{refs_of, refs, contents_of_slot,
 use qvt_base::list_fault::ListFault;
 use qvt_base::seq::Seq;
 use qvt_cycle::lists::Positions;
-use qvt_meta::metas::Metas;
+use qvt_metas::metas::Metas;
 use qvt_model::data::{Datum, ObjectData, SlotData};
 use std::alloc::Global;
 

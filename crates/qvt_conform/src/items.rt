@@ -6,7 +6,7 @@ ghost use Rattle.qvt_conform.specs.Items.{items_in, is_at_most, is_within, repea
 use crate::seen::Seen;
 use qvt_base::list_fault::ListFault;
 use qvt_base::numbers::FeatureNo;
-use qvt_meta::info::FeatureShape;
+use qvt_metamodel::info::FeatureShape;
 use qvt_model::data::{Datum, SlotData};
 use std::alloc::Global;
 

@@ -6,7 +6,7 @@ ghost use Rattle.std.specs.List.{list_any};
 use indexmap::IndexSet;
 use qvt_base::list_fault::ListFault;
 use qvt_base::numbers::FeatureNo;
-use qvt_meta::metas::Metas;
+use qvt_metas::metas::Metas;
 use qvt_model::data::{Datum, ObjectData, SlotData};
 use std::alloc::Global;
 use std::marker::Model;

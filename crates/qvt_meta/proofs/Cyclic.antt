@@ -7,21 +7,22 @@ use Rattle.std.proofs.lemmas.Bool.Decides.{leb_tells}
 use Rattle.qvt_base.specs.declared.numbers.ClassNo.{ClassNo}
 use Rattle.qvt_relation.specs.Closure.{Closure, directly, through, reaches}
 use Rattle.qvt_relation.proofs.Closures.{reaches-closure}
-use Rattle.qvt_meta.specs.declared.info.ClassInfo.{ClassInfo}
-use Rattle.qvt_meta.specs.declared.declared.DeclaredClass.{DeclaredClass}
-use Rattle.qvt_meta.specs.MetaData.{MetaData, class_names}
-use Rattle.qvt_meta.specs.Metamodels.{class_at}
-use Rattle.qvt_meta.specs.Descends.{is_superclass}
-use Rattle.qvt_meta.specs.Kept.{AreRanks}
-use Rattle.qvt_meta.specs.Added.{declared_at, nothing_declared, names_of, place_in, first_begin, class_info, class_infos}
-use Rattle.qvt_meta.specs.Checks.{first_from, is_super, inheritance_cycle}
-use Rattle.qvt_meta.specs.Tables.{of_classes}
+use Rattle.qvt_metamodel.specs.declared.info.ClassInfo.{ClassInfo}
+use Rattle.qvt_metamodel.specs.declared.declared.DeclaredClass.{DeclaredClass}
+use Rattle.qvt_metamodel.specs.declared.declared.MetaData.{MetaData}
+use Rattle.qvt_metamodel.specs.MetaData.{class_names}
+use Rattle.qvt_metamodel.specs.Metamodels.{class_at}
+use Rattle.qvt_metamodel.specs.Descends.{is_superclass}
+use Rattle.qvt_metamodel.specs.Kept.{AreRanks}
+use Rattle.qvt_metamodel.specs.Added.{declared_at, nothing_declared, names_of, place_in, first_begin, class_info, class_infos}
+use Rattle.qvt_metamodel.specs.Checks.{first_from, is_super, inheritance_cycle}
+use Rattle.qvt_meta_tables.specs.Tables.{of_classes}
 use Rattle.qvt_json.specs.Steps.{or_next}
-use Rattle.qvt_meta.specs.Cycles.{AreLive, is_own_ancestor, cycle_from, first_cycle}
-use Rattle.qvt_meta.proofs.Bools.{ap2, clash, not_true}
+use Rattle.qvt_meta_tables.specs.Cycles.{AreLive, is_own_ancestor, cycle_from, first_cycle}
+use Rattle.qvt_metamodel.proofs.Bools.{ap2, clash, not_true}
 use Rattle.qvt_meta.proofs.Owners.{all-there}
-use Rattle.qvt_meta.proofs.Infos.{length-class_infos}
-use Rattle.qvt_meta.proofs.Visits.{R}
+use Rattle.qvt_metamodel.proofs.Infos.{length-class_infos}
+use Rattle.qvt_meta_tables.proofs.Visits.{R}
 use Rattle.qvt_meta.proofs.Whole.{class_is, past_class, live_superclass_at}
 
 module _ (d : MetaData) where

@@ -2,21 +2,21 @@
 use Rattle.std.proofs.Common.{◌≡◌, ◌∙◌, ℕ, zero, suc, List, [], ◌++◌, length, map, get_or, refl, ap, sym, subst, None, ◌==◌, ◌||◌}
 use Rattle.qvt_base.specs.declared.numbers.FeatureNo.{FeatureNo}
 use Rattle.qvt_base.specs.declared.numbers.ClassNo.{ClassNo}
-use Rattle.qvt_meta.specs.declared.info.FeatureInfo.{FeatureInfo}
-use Rattle.qvt_meta.specs.declared.row.Row.{Row}
+use Rattle.qvt_metamodel.specs.declared.info.FeatureInfo.{FeatureInfo}
+use Rattle.qvt_metamodel.specs.declared.row.Row.{Row}
 use Rattle.qvt_meta.specs.declared.adding.Numbers.{Numbers}
-use Rattle.qvt_meta.specs.Metamodels.{Metamodels, class_at, features_in, features_of, each_once, nowhere_feature}
-use Rattle.qvt_meta.specs.Descends.{is_above, reaches}
-use Rattle.qvt_meta.specs.Kept.{AreRanks, IsKept}
-use Rattle.qvt_meta.specs.MetaData.{MetaData}
-use Rattle.qvt_meta.specs.Checked.{IsChecked}
-use Rattle.qvt_meta.specs.Numbered.{AreNumbers}
-use Rattle.qvt_meta.specs.Added.{numbered, first_begin, names_of}
-use Rattle.qvt_meta.specs.Tables.{of_classes, AreTables}
-use Rattle.qvt_meta.specs.Names.{repeated}
-use Rattle.qvt_meta.specs.Checks.{repeated_feature}
-use Rattle.qvt_meta.proofs.Infos.{length-class_infos}
-use Rattle.qvt_meta.proofs.Lists.{all-every, list_any-cong, flat_map-cong}
+use Rattle.qvt_metamodel.specs.Metamodels.{Metamodels, class_at, features_in, features_of, each_once, nowhere_feature}
+use Rattle.qvt_metamodel.specs.Descends.{is_above, reaches}
+use Rattle.qvt_metamodel.specs.Kept.{AreRanks, IsKept}
+use Rattle.qvt_metamodel.specs.declared.declared.MetaData.{MetaData}
+use Rattle.qvt_metamodel.specs.Checked.{IsChecked}
+use Rattle.qvt_meta.specs.Numbers.{AreNumbers}
+use Rattle.qvt_metamodel.specs.Added.{numbered, first_begin, names_of}
+use Rattle.qvt_meta_tables.specs.Tables.{of_classes, AreTables}
+use Rattle.qvt_json.specs.Repeated.{repeated}
+use Rattle.qvt_metamodel.specs.Checks.{repeated_feature}
+use Rattle.qvt_metamodel.proofs.Infos.{length-class_infos}
+use Rattle.qvt_metamodel.proofs.Lists.{all-every, list_any-cong, flat_map-cong}
 use Rattle.qvt_meta.proofs.Whole.{M, is_numbered, well_formed}
 
 -- what the tables hold depends on the classes alone

@@ -9,10 +9,10 @@ use Rattle.qvt_base.specs.Names.{is_name, begins_name}
 use Rattle.qvt_json.specs.Json.{text_or}
 use Rattle.qvt_json.specs.Leaves.{is_text_of}
 use Rattle.qvt_json.specs.Shape.{key_fault}
-use Rattle.qvt_meta.specs.MetaForm.{name_form, meta_form}
-use Rattle.qvt_meta.specs.DataOf.{meta_data}
-use Rattle.qvt_meta.proofs.Bools.{clash}
-use Rattle.qvt_meta.proofs.Passing.{next_none, map_none}
+use Rattle.qvt_meta_read.specs.MetaForm.{name_form, meta_form}
+use Rattle.qvt_meta_read.specs.DataOf.{meta_data}
+use Rattle.qvt_metamodel.proofs.Bools.{clash}
+use Rattle.qvt_meta_checks.proofs.Passing.{next_none, map_none}
 
 no_empty_name : is_name [] ≡ false
 unfolding is_name

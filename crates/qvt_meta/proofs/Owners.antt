@@ -5,11 +5,11 @@ use Rattle.std.specs.List.{list_any, flat_map, AllByRecursion}
 use Rattle.std.proofs.lemmas.Bool.{eqb-true, eq-eqb}
 use Rattle.qvt_base.specs.declared.numbers.ClassNo.{ClassNo}
 use Rattle.qvt_base.specs.declared.numbers.FeatureNo.{FeatureNo}
-use Rattle.qvt_meta.specs.Metamodels.{Metamodels, class_at, features_in, among_features, each_once}
-use Rattle.qvt_meta.specs.Descends.{is_above}
-use Rattle.qvt_meta.specs.Kept.{AreRanks}
-use Rattle.qvt_meta.proofs.Bools.{or_cases, or_left, or_right}
-use Rattle.qvt_meta.proofs.Ancestors.{Found, found, passing}
+use Rattle.qvt_metamodel.specs.Metamodels.{Metamodels, class_at, features_in, among_features, each_once}
+use Rattle.qvt_metamodel.specs.Descends.{is_above}
+use Rattle.qvt_metamodel.specs.Kept.{AreRanks}
+use Rattle.qvt_metamodel.proofs.Bools.{or_cases, or_left, or_right}
+use Rattle.qvt_metamodel.proofs.Ancestors.{Found, found, passing}
 
 pub among-append : (f : ℕ) (xs ys : List FeatureNo) → among_features f (xs ++ ys) ≡ (among_features f xs || among_features f ys)
 among-append f [] ys = refl

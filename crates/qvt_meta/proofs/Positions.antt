@@ -4,10 +4,10 @@ use Rattle.std.specs.Prelude.{unwrap_or}
 use Rattle.std.specs.List.{list_any, position_or_len}
 use Rattle.std.specs.Str.{bytes_eq}
 use Rattle.std.proofs.lemmas.Bool.{lt-ltb}
-use Rattle.qvt_meta.specs.Names.{is_among}
-use Rattle.qvt_meta.specs.Added.{place_in}
-use Rattle.qvt_meta.proofs.Bools.{or_left, or_right, clash, not_true}
-use Rattle.qvt_meta.proofs.Lookups.{some-within, position-first, bytes_eq-refl}
+use Rattle.qvt_metamodel.specs.Names.{is_among}
+use Rattle.qvt_metamodel.specs.Added.{place_in}
+use Rattle.qvt_metamodel.proofs.Bools.{or_left, or_right, clash, not_true}
+use Rattle.qvt_metamodel.proofs.Lookups.{some-within, position-first, bytes_eq-refl}
 
 pub any-within : {X : Type 0} (p : X → Bool) (xs : List X) → list_any p xs ≡ true → position_or_len p xs < length xs
 any-within p [] h = absurd (cc)

@@ -11,32 +11,34 @@ use Rattle.std.proofs.lemmas.Bool.Decides.{leb_tells}
 use Rattle.qvt_relation.proofs.Bools.{none_left, none_right}
 use Rattle.qvt_base.specs.declared.numbers.ClassNo.{ClassNo}
 use Rattle.qvt_base.specs.declared.numbers.FeatureNo.{FeatureNo}
-use Rattle.qvt_meta.specs.declared.info.TypeKind.TheVariants.{Bool as BoolKind, Int, Str, Class}
-use Rattle.qvt_meta.specs.declared.info.ClassInfo.{ClassInfo}
-use Rattle.qvt_meta.specs.declared.info.FeatureInfo.{FeatureInfo}
-use Rattle.qvt_meta.specs.declared.info.EnumInfo.{EnumInfo}
-use Rattle.qvt_meta.specs.declared.declared.DeclaredFeature.{DeclaredFeature}
-use Rattle.qvt_meta.specs.declared.declared.DeclaredClass.{DeclaredClass}
-use Rattle.qvt_meta.specs.Metamodels.{Metamodels, class_at, feature_at, shape_of, is_opposite, is_feature_number, features_of, features_in, each_once, has_feature, among_features, nowhere_class, nowhere_feature, is_single, is_one, is_containment}
-use Rattle.qvt_meta.specs.Descends.{is_superclass, reaches, is_above, descends, is_class_kind}
-use Rattle.qvt_meta.specs.Named.{metamodel_at, enumeration_at, literal_at, nowhere_enumeration, class_named, feature_named, enumeration_named, literal_named}
-use Rattle.qvt_meta.specs.WellFormed.{IsWellFormed, IsLiveKind}
-use Rattle.qvt_meta.specs.Kept.{AreRanks}
-use Rattle.qvt_meta.specs.MetaData.{MetaData, enum_names, class_names, feature_names}
-use Rattle.qvt_meta.specs.Names.{repeated, primitive_names, is_among}
-use Rattle.qvt_meta.specs.Checks.{same_feature, repeated_feature, bad_opposite, is_bad_opposite, is_mutual, is_contained_wrong, is_one_at_most, type_features, is_name as is_named}
-use Rattle.qvt_meta.specs.Checked.{has_text, has_texts, are_texts, IsChecked}
-use Rattle.qvt_meta.specs.Added.{declared_at, names_of, feature_count, feature_info, feature_infos, feature_number, numbers_from, class_info, class_infos, numbered, first_begin, HasRoom, kind_of, enum_or_class, nothing_declared, place_in}
-use Rattle.qvt_meta.specs.Numbered.{has_few_literals}
-use Rattle.qvt_meta.proofs.Bools.{and_both, and_left, and_right, and_no, ap2, clash, or_cases, or_left, or_right, not_true}
+use Rattle.qvt_metamodel.specs.declared.info.TypeKind.TheVariants.{Bool as BoolKind, Int, Str, Class}
+use Rattle.qvt_metamodel.specs.declared.info.ClassInfo.{ClassInfo}
+use Rattle.qvt_metamodel.specs.declared.info.FeatureInfo.{FeatureInfo}
+use Rattle.qvt_metamodel.specs.declared.info.EnumInfo.{EnumInfo}
+use Rattle.qvt_metamodel.specs.declared.declared.DeclaredFeature.{DeclaredFeature}
+use Rattle.qvt_metamodel.specs.declared.declared.DeclaredClass.{DeclaredClass}
+use Rattle.qvt_metamodel.specs.Metamodels.{Metamodels, class_at, feature_at, shape_of, is_opposite, is_feature_number, features_of, features_in, each_once, has_feature, among_features, nowhere_class, nowhere_feature, is_single, is_one, is_containment}
+use Rattle.qvt_metamodel.specs.Descends.{is_superclass, reaches, is_above, descends, is_class_kind}
+use Rattle.qvt_metamodel.specs.Named.{metamodel_at, enumeration_at, literal_at, nowhere_enumeration, class_named, feature_named, enumeration_named, literal_named}
+use Rattle.qvt_metamodel.specs.WellFormed.{IsWellFormed, IsLiveKind}
+use Rattle.qvt_metamodel.specs.Kept.{AreRanks}
+use Rattle.qvt_metamodel.specs.declared.declared.MetaData.{MetaData}
+use Rattle.qvt_metamodel.specs.MetaData.{enum_names, class_names, feature_names}
+use Rattle.qvt_json.specs.Repeated.{repeated}
+use Rattle.qvt_metamodel.specs.Names.{primitive_names, is_among}
+use Rattle.qvt_metamodel.specs.Checks.{same_feature, repeated_feature, bad_opposite, is_bad_opposite, is_mutual, is_contained_wrong, is_one_at_most, type_features, is_name as is_named}
+use Rattle.qvt_metamodel.specs.Checked.{has_text, has_texts, are_texts, IsChecked}
+use Rattle.qvt_metamodel.specs.Added.{declared_at, names_of, feature_count, feature_info, feature_infos, feature_number, numbers_from, class_info, class_infos, numbered, first_begin, HasRoom, kind_of, enum_or_class, nothing_declared, place_in}
+use Rattle.qvt_meta.specs.Numbers.{has_few_literals}
+use Rattle.qvt_metamodel.proofs.Bools.{and_both, and_left, and_right, and_no, ap2, clash, or_cases, or_left, or_right, not_true}
 use Rattle.qvt_meta.proofs.Counts.{count_within}
-use Rattle.qvt_meta.proofs.Empty.{no_metamodels}
-use Rattle.qvt_meta.proofs.Infos.{featured_at, nothing_featured, all-at, map-at, map-at_all, length-class_infos, class_infos-at, length-feature_infos, feature_infos-at, FeatureAt, feature_at_place, length-numbers_from, numbers_from-at, among_numbers}
-use Rattle.qvt_meta.proofs.Lookups.{position-first, find-first, bytes_eq-refl, differ-before, some-within, untaken}
+use Rattle.qvt_metamodel.proofs.Empty.{no_metamodels}
+use Rattle.qvt_metamodel.proofs.Infos.{featured_at, nothing_featured, all-at, map-at, map-at_all, length-class_infos, class_infos-at, length-feature_infos, feature_infos-at, FeatureAt, feature_at_place, length-numbers_from, numbers_from-at, among_numbers}
+use Rattle.qvt_metamodel.proofs.Lookups.{position-first, find-first, bytes_eq-refl, differ-before, some-within, untaken}
 use Rattle.qvt_meta.proofs.Owners.{Declared, declared, includes}
-use Rattle.qvt_meta.proofs.Passing.{map_none, first_from-none, no_fault, repeated-append, repeated-alone, enums_alone, literals_alone, classes_differ}
+use Rattle.qvt_meta_checks.proofs.Passing.{map_none, first_from-none, no_fault, repeated-append, repeated-alone, enums_alone, literals_alone, classes_differ}
 use Rattle.qvt_meta.proofs.Positions.{any-within, any-passes, none-at, no-position, place-below, place-found, place-is}
-use Rattle.qvt_meta.proofs.Stable.{no-features-past, none-above-past}
+use Rattle.qvt_metamodel.proofs.Stable.{no-features-past, none-above-past}
 
 no_text : is_utf8 [] ≡ true
 no_text = is_utf8-from_IsUtf8 [] IsUtf8-nil

@@ -3,12 +3,12 @@ use Rattle.std.specs.Prelude.{ℕ, List, option_map, Result, Ok}
 use Rattle.qvt_json.specs.Json.{json}
 use Rattle.qvt_json.specs.Shape.{shown}
 use Rattle.qvt_json.specs.Steps.{◌>>=◌, or_fault, none_of}
-use Rattle.qvt_meta.specs.declared.fault.MetaFault.{MetaFault}
-use Rattle.qvt_meta.specs.declared.fault.MetaFault.TheVariants.{Json, Shape, SameName, UnknownType, InheritanceCycle, BadBounds, BadOpposite, SameFeature}
-use Rattle.qvt_meta.specs.MetaData.{MetaData}
-use Rattle.qvt_meta.specs.MetaForm.{meta_form}
-use Rattle.qvt_meta.specs.DataOf.{meta_data}
-use Rattle.qvt_meta.specs.Checks.{Told, same_name, unknown_type, inheritance_cycle, bad_bounds, bad_opposite, same_feature}
+use Rattle.qvt_metamodel.specs.declared.fault.MetaFault.{MetaFault}
+use Rattle.qvt_metamodel.specs.declared.fault.MetaFault.TheVariants.{Json, Shape, SameName, UnknownType, InheritanceCycle, BadBounds, BadOpposite, SameFeature}
+use Rattle.qvt_metamodel.specs.declared.declared.MetaData.{MetaData}
+use Rattle.qvt_meta_read.specs.MetaForm.{meta_form}
+use Rattle.qvt_meta_read.specs.DataOf.{meta_data}
+use Rattle.qvt_metamodel.specs.Checks.{Told, same_name, unknown_type, inheritance_cycle, bad_bounds, bad_opposite, same_feature}
 
 abbrev pub tell : (List ℕ → List ℕ → MetaFault) → Told → MetaFault
 tell fault t = fault t.0 t.1

@@ -1,9 +1,9 @@
 -- What the places of the names of a metamodel that is added are.
 use Rattle.std.specs.Prelude.{◌≡◌, ℕ, ◌+◌, ◌<◌, ◌^◌, List, [], ◌∷◌, length}
-use Rattle.qvt_meta.specs.declared.declared.DeclaredClass.{DeclaredClass}
-use Rattle.qvt_meta.specs.declared.begin.Begin.{Begin}
+use Rattle.qvt_metamodel.specs.declared.declared.DeclaredClass.{DeclaredClass}
+use Rattle.qvt_metamodel.specs.declared.begin.Begin.{Begin}
 use Rattle.qvt_meta.specs.declared.adding.Places.{Places}
-use Rattle.qvt_meta.specs.Added.{names_of, feature_count}
+use Rattle.qvt_metamodel.specs.Added.{names_of, feature_count}
 
 -- how many features stand before those of each of these classes, and before the end, where n stand before the first
 abbrev pub firsts_of : ℕ → List DeclaredClass → List ℕ

@@ -2,19 +2,14 @@
 
 ghost use Rattle.std.specs.Prelude.{◌≡◌, ◌+◌, ◌<◌, ◌≤◌, ◌^◌, ℕ, List, length, map, take, slice_index, IfOk, OnOk, ◌++◌, option_map, position, IfSome, IsTrue, [], None, ◌∷◌};
 ghost use Rattle.std.specs.Str.{bytes_eq};
-ghost use Rattle.qvt_meta.specs.MetaData.{feature_names};
+ghost use Rattle.qvt_metamodel.specs.MetaData.{feature_names};
 ghost use Rattle.qvt_meta.specs.Places.{ArePlaces, firsts_of};
-ghost use Rattle.qvt_meta.specs.Names.{repeated};
+ghost use Rattle.qvt_json.specs.Repeated.{repeated};
 ghost use Rattle.std.specs.List.{list_all};
-ghost use Rattle.qvt_meta.specs.Checks.{same_name};
-ghost use Rattle.qvt_meta.specs.Numbered.{has_few_literals, AreNumbers};
-ghost use Rattle.qvt_meta.specs.Added.{declared_at, place_in, kind_of, feature_count, feature_number, feature_info, feature_infos, numbers_from, class_info, class_infos, names_of};
+ghost use Rattle.qvt_metamodel.specs.Checks.{same_name};
+ghost use Rattle.qvt_meta.specs.Numbers.{has_few_literals, AreNumbers};
+ghost use Rattle.qvt_metamodel.specs.Added.{declared_at, place_in, kind_of, feature_count, feature_number, feature_info, feature_infos, numbers_from, class_info, class_infos, names_of};
 
-use crate::begin::Begin;
-use crate::copied::copy_of_text;
-use crate::declared::{DeclaredClass, DeclaredFeature, MetaData};
-use crate::info::{ClassInfo, EnumInfo, FeatureInfo, FeatureShape, MetamodelInfo, TypeKind};
-use crate::names::names_of as distinct_names;
 use indexmap::IndexSet;
 use qvt_base::copied::Copied;
 use qvt_base::list_fault::ListFault;
@@ -22,6 +17,14 @@ use qvt_base::lists::{ClassNoList, FeatureNoList};
 use qvt_base::numbers::{ClassNo, FeatureNo};
 use qvt_base::seq::Seq;
 use qvt_base::text::Text;
+use qvt_meta_checks::names::{names_of as distinct_names, place_in};
+use qvt_metamodel::begin::Begin;
+use qvt_metamodel::copied::copy_of_text;
+use qvt_metamodel::declared::{DeclaredClass, DeclaredFeature, MetaData};
+use qvt_metamodel::info::{
+    ClassInfo, EnumInfo, FeatureInfo, FeatureShape, MetamodelInfo, TypeKind,
+};
+use qvt_metamodel::room::has_room;
 use std::alloc::Global;
 
 /// Where the names of a metamodel that is added are: its enumerations, its classes, and how many
@@ -39,17 +42,6 @@ pub struct Numbers {
     pub metamodels: Vec<MetamodelInfo>,
     pub classes: Vec<ClassInfo>,
     pub features: Vec<FeatureInfo>,
-}
-
-/// The place of a name that is there.
-pub fn place_in(names: &IndexSet<Text>, name: &Text) -> usize
-    ensures place { result ≡ place_in names.now.keys name.now }
-    ensures bound { result ≤ length names.now.keys }
-{
-    match names.get_index_of(name) {
-        Some(place) => place,
-        None => 0,
-    }
 }
 
 /// The type of this name, among these enumerations and classes.
@@ -103,7 +95,7 @@ fn numbers_from(alloc: Global, first: u32, count: usize) -> Result<FeatureNoList
     Ok(numbers)
 }
 
-#[tactic(auto, unfolding(crate::specs::Added::class_info))]
+#[tactic(auto, unfolding(qvt_metamodel::specs::Added::class_info))]
 fn class_info(
     alloc: Global,
     begin: Begin,
@@ -212,7 +204,7 @@ fn opposite_of(
     }
 }
 
-#[tactic(auto, unfolding(crate::specs::Added::feature_info))]
+#[tactic(auto, unfolding(qvt_metamodel::specs::Added::feature_info))]
 fn feature_info(
     alloc: Global,
     begin: Begin,
@@ -318,34 +310,6 @@ pub fn places_of(
         classes: distinct_names(alloc, classes)?,
         firsts: firsts(alloc, classes)?,
     })
-}
-
-/// How many features the classes declare, None where the number does not fit 32 bits.
-fn feature_total(classes: &[DeclaredClass]) -> Option<u32>
-    ensures { IfSome result (λ n. n ≡ feature_count classes.now) }
-{
-    let mut total: u32 = 0;
-    for class in classes {
-        let Ok(count) = u32::try_from(class.features.len()) else {
-            return None;
-        };
-        let Some(sum) = total.checked_add(count) else {
-            return None;
-        };
-        total = sum;
-    }
-    Some(total)
-}
-
-/// Whether all numbers of a metamodel fit 32 bits.
-pub fn has_room(enums: &[EnumInfo], classes: &[DeclaredClass]) -> bool
-    ensures enums { IsTrue result → length enums.now < 2 ^ 32 }
-    ensures classes { IsTrue result → length classes.now < 2 ^ 32 }
-    ensures features { IsTrue result → feature_count classes.now < 2 ^ 32 }
-{
-    let few_enums = u32::try_from(enums.len()).is_ok();
-    let few_classes = u32::try_from(classes.len()).is_ok();
-    few_enums && few_classes && feature_total(classes).is_some()
 }
 
 /// Whether each enumeration has so few literals that their numbers fit 32 bits.

@@ -1,53 +1,36 @@
 ghost use Rattle.std.specs.Prelude.{◌≡◌, ◌≢◌, ◌<◌, ◌^◌, [], None, Some, length, IfOk, IfErr, OnOk, IsTrue, option_map};
 ghost use Rattle.qvt_json.specs.Steps.{Gives};
-ghost use Rattle.qvt_meta.specs.Added.{declared_at, first_begin, names_of, class_infos};
-ghost use Rattle.qvt_meta.specs.Checked.{Passes};
-ghost use Rattle.qvt_meta.specs.Checks.{same_name, unknown_type, inheritance_cycle};
-ghost use Rattle.qvt_meta.specs.MetaData.{class_names};
+ghost use Rattle.qvt_metamodel.specs.Added.{declared_at, first_begin, names_of, class_infos};
+ghost use Rattle.qvt_metamodel.specs.Checked.{Passes};
+ghost use Rattle.qvt_metamodel.specs.Checks.{same_name, unknown_type, inheritance_cycle};
+ghost use Rattle.qvt_metamodel.specs.MetaData.{class_names};
 ghost use Rattle.qvt_meta.specs.MetaOf.{features_checked, classes_checked, types_checked, checked, meta_of};
-ghost use Rattle.qvt_meta.specs.Numbered.{AreNumbers};
-ghost use Rattle.qvt_meta.specs.Tables.{of_classes, AreTables};
+ghost use Rattle.qvt_meta.specs.Numbers.{AreNumbers};
+ghost use Rattle.qvt_meta_tables.specs.Tables.{of_classes, AreTables};
 
-use crate::adding::{Numbers, has_room, numbers_of};
-use crate::checks::{bad_bounds, same_name, unknown_type};
-use crate::cycle::first_cycle;
-use crate::declared::{DeclaredClass, MetaData};
-use crate::fault::MetaFault;
-use crate::forms::MetaForm;
-use crate::info::ClassInfo;
-use crate::metas::Metas;
-use crate::names::{names_of, type_names};
-use crate::opposites::bad_opposite;
-use crate::reading::meta_data;
+use crate::adding::{Numbers, numbers_of};
 use crate::same_feature::same_feature;
-use crate::tables::{Tables, tables_of};
-use crate::texts::have_texts;
 use indexmap::IndexSet;
 use qvt_base::copied::Copied;
 use qvt_base::list_fault::ListFault;
 use qvt_base::text::Text;
 use qvt_json::shape::shape_fault;
 use qvt_json::value::read_value;
+use qvt_meta_checks::checks::{bad_bounds, same_name, unknown_type};
+use qvt_meta_checks::names::{names_of, type_names};
+use qvt_meta_checks::opposites::bad_opposite;
+use qvt_meta_checks::texts::have_texts;
+use qvt_meta_read::forms::MetaForm;
+use qvt_meta_read::reading::meta_data;
+use qvt_meta_tables::cycle::first_cycle;
+use qvt_meta_tables::tables::tables_of;
+use qvt_metamodel::declared::{DeclaredClass, MetaData};
+use qvt_metamodel::fault::MetaFault;
+use qvt_metamodel::info::ClassInfo;
+use qvt_metamodel::tables::Tables;
+pub use qvt_metas::meta::Meta;
+use qvt_metas::metas::Metas;
 use std::alloc::Global;
-use std::marker::Model;
-
-/// A metamodel that was read and checked.
-#[derive(Debug, Drop)]
-pub struct Meta {
-    meta: MetaData,
-    alone: Metas,
-}
-
-impl Model for Meta {
-    ghost use Rattle.qvt_meta.specs.MetaData.{MetaData};
-    ghost use Rattle.qvt_meta.specs.Numbered.{IsMeta};
-
-    ghost Value = { MetaData };
-
-    ghost view = { λ m. m.meta };
-
-    ghost invariant = { λ m. IsMeta m.meta m.alone };
-}
 
 /// A metamodel whose data passed every check, from its numbered parts.
 fn made(meta: MetaData, numbers: Numbers, tables: Tables) -> Meta
@@ -64,7 +47,7 @@ fn made(meta: MetaData, numbers: Numbers, tables: Tables) -> Meta
         features,
     } = numbers;
     let alone = Metas::from_parts(metamodels, classes, features, tables);
-    Meta { meta, alone }
+    Meta::from_parts(meta, alone)
 }
 
 fn class_name(classes: &[DeclaredClass], class: usize) -> &Text
@@ -198,28 +181,4 @@ pub fn read_meta(alloc: Global, bytes: &[u8]) -> Result<Meta, MetaFault>
         return Err(MetaFault::Shape(path));
     }
     checked(alloc, meta_data(alloc, &value)?)
-}
-
-impl Meta {
-    ghost use Rattle.qvt_meta.specs.Added.{numbered, HasRoom};
-
-    pub fn name(&self) -> &Text
-        ensures { result.now ≡ self.now.name }
-    {
-        &self.meta.name
-    }
-
-    /// The metamodel with numbers from 0 on.
-    pub fn alone(&self) -> &Metas
-        ensures { result.now ≡ numbered self.now }
-    {
-        &self.alone
-    }
-
-    /// Whether the numbers of its classes and features fit 32 bits. It takes no memory.
-    pub fn has_few(&self) -> bool
-        ensures { IsTrue result → HasRoom (record { metamodels = []; classes = []; features = []; element = None }) self.now }
-    {
-        has_room(self.meta.enums.as_slice(), self.meta.classes.as_slice())
-    }
 }

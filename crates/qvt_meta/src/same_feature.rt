@@ -1,22 +1,22 @@
 //! The check of the names among all features of a class.
 
 ghost use Rattle.std.specs.Prelude.{◌≡◌, ◌<◌, ℕ, List, [], map, length, IfOk, slice_index_or};
-ghost use Rattle.qvt_meta.specs.Names.{repeated};
-ghost use Rattle.qvt_meta.specs.Metamodels.{nowhere_feature, features_of};
-ghost use Rattle.qvt_meta.specs.Added.{numbered};
-ghost use Rattle.qvt_meta.specs.Numbered.{AreNumbers};
-ghost use Rattle.qvt_meta.specs.Checks.{repeated_feature, same_feature};
+ghost use Rattle.qvt_json.specs.Repeated.{repeated};
+ghost use Rattle.qvt_metamodel.specs.Metamodels.{nowhere_feature, features_of};
+ghost use Rattle.qvt_metamodel.specs.Added.{numbered};
+ghost use Rattle.qvt_meta.specs.Numbers.{AreNumbers};
+ghost use Rattle.qvt_metamodel.specs.Checks.{repeated_feature, same_feature};
 
 use crate::adding::Numbers;
-use crate::declared::MetaData;
-use crate::info::FeatureInfo;
-use crate::names::add_name;
 use indexmap::IndexSet;
 use qvt_base::copied::Copied;
 use qvt_base::list_fault::ListFault;
 use qvt_base::lists::FeatureNoList;
 use qvt_base::numbers::FeatureNo;
 use qvt_base::text::Text;
+use qvt_meta_checks::names::add_name;
+use qvt_metamodel::declared::MetaData;
+use qvt_metamodel::info::FeatureInfo;
 use std::alloc::Global;
 
 /// The name of a feature, this empty one where there is none of that number.
@@ -70,7 +70,7 @@ fn repeated_feature(
 }
 
 /// The class and the name that SameFeature tells.
-#[tactic(auto, unfolding(crate::specs::Checks::same_feature))]
+#[tactic(auto, unfolding(qvt_metamodel::specs::Checks::same_feature))]
 pub fn same_feature(
     alloc: Global,
     meta: &MetaData,

@@ -14,11 +14,11 @@ use Rattle.qvt_base.specs.declared.numbers.FeatureNo.{FeatureNo}
 use Rattle.qvt_base.specs.declared.numbers.Oid.{Oid}
 use Rattle.qvt_value.specs.declared.value.Value.{Value}
 use Rattle.qvt_value.specs.declared.value.Value.TheVariants.{Bool as BoolValue, Int as IntValue, Str as StrValue, Enum as EnumValue, Obj}
-use Rattle.qvt_meta.specs.declared.info.TypeKind.{TypeKind}
-use Rattle.qvt_meta.specs.declared.info.TypeKind.TheVariants.{Bool as BoolKind, Int as IntKind, Str as StrKind, Enum as EnumKind, Class as ClassKind}
-use Rattle.qvt_meta.specs.Metamodels.{Metamodels, class_at, feature_at, shape_of, is_one, is_single, features_of, has_feature, among_features}
-use Rattle.qvt_meta.specs.Descends.{descends}
-use Rattle.qvt_meta.specs.Named.{enumeration_at}
+use Rattle.qvt_metamodel.specs.declared.info.TypeKind.{TypeKind}
+use Rattle.qvt_metamodel.specs.declared.info.TypeKind.TheVariants.{Bool as BoolKind, Int as IntKind, Str as StrKind, Enum as EnumKind, Class as ClassKind}
+use Rattle.qvt_metamodel.specs.Metamodels.{Metamodels, class_at, feature_at, shape_of, is_one, is_single, features_of, has_feature, among_features}
+use Rattle.qvt_metamodel.specs.Descends.{descends}
+use Rattle.qvt_metamodel.specs.Named.{enumeration_at}
 use Rattle.qvt_json.specs.Leaves.{is_id}
 use Rattle.qvt_store.specs.Slots.{is_object_with}
 use Rattle.qvt_store.specs.Contents.{Instance, Contents, no_instance, class_of, extent_of, extent_at, is_extent, is_live, is_model, slot_of, members_from, members_of}

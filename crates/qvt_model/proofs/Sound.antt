@@ -15,11 +15,11 @@ use Rattle.serde_json.specs.Find.{as_null, as_bool, as_str, as_number, as_i64, a
 use Rattle.qvt_base.specs.declared.numbers.ClassNo.{ClassNo}
 use Rattle.qvt_base.specs.declared.numbers.FeatureNo.{FeatureNo}
 use Rattle.qvt_value.specs.declared.value.LiteralRef.{LiteralRef}
-use Rattle.qvt_meta.specs.declared.info.TypeKind.{TypeKind}
-use Rattle.qvt_meta.specs.declared.info.TypeKind.TheVariants.{Bool as BoolKind, Int as IntKind, Str as StrKind, Enum as EnumKind, Class as ClassKind}
-use Rattle.qvt_meta.specs.Metamodels.{Metamodels, class_at, feature_at, shape_of, is_single, features_of, has_feature, nowhere_class}
-use Rattle.qvt_meta.specs.Descends.{descends}
-use Rattle.qvt_meta.specs.Named.{class_named, feature_named, literal_named, enumeration_at}
+use Rattle.qvt_metamodel.specs.declared.info.TypeKind.{TypeKind}
+use Rattle.qvt_metamodel.specs.declared.info.TypeKind.TheVariants.{Bool as BoolKind, Int as IntKind, Str as StrKind, Enum as EnumKind, Class as ClassKind}
+use Rattle.qvt_metamodel.specs.Metamodels.{Metamodels, class_at, feature_at, shape_of, is_single, features_of, has_feature, nowhere_class}
+use Rattle.qvt_metamodel.specs.Descends.{descends}
+use Rattle.qvt_metamodel.specs.Named.{class_named, feature_named, literal_named, enumeration_at}
 use Rattle.qvt_json.specs.Json.{map_items, text_or}
 use Rattle.qvt_json.specs.Leaves.{is_id}
 use Rattle.qvt_json.specs.Plain.{KeysAfter}

@@ -9,10 +9,10 @@ use Rattle.serde_json.specs.Data.{Data, depth, items_depth, members_depth}
 use Rattle.serde_json.specs.Find.{of_integer}
 use Rattle.serde_json.specs.Read.{max_depth}
 use Rattle.serde_json.specs.View.{items_of}
-use Rattle.qvt_meta.specs.declared.info.TypeKind.{TypeKind}
-use Rattle.qvt_meta.specs.declared.info.TypeKind.TheVariants.{Bool as BoolKind, Int as IntKind, Str as StrKind, Enum as EnumKind, Class as ClassKind}
-use Rattle.qvt_meta.specs.Metamodels.{Metamodels, class_at, feature_at, shape_of, is_single}
-use Rattle.qvt_meta.specs.WellFormed.{IsWellFormed}
+use Rattle.qvt_metamodel.specs.declared.info.TypeKind.{TypeKind}
+use Rattle.qvt_metamodel.specs.declared.info.TypeKind.TheVariants.{Bool as BoolKind, Int as IntKind, Str as StrKind, Enum as EnumKind, Class as ClassKind}
+use Rattle.qvt_metamodel.specs.Metamodels.{Metamodels, class_at, feature_at, shape_of, is_single}
+use Rattle.qvt_metamodel.specs.WellFormed.{IsWellFormed}
 use Rattle.qvt_json.specs.Json.{json}
 use Rattle.qvt_json.specs.Plain.{IsWhole, KeysAfter, IsPlain, ItemsPlain, MembersPlain}
 use Rattle.qvt_json.specs.Shape.{items_fault}

@@ -13,8 +13,8 @@ use Rattle.qvt_base.specs.declared.numbers.FeatureNo.{FeatureNo}
 use Rattle.qvt_base.specs.declared.numbers.Oid.{Oid}
 use Rattle.qvt_value.specs.declared.value.Value.{Value}
 use Rattle.qvt_value.specs.declared.value.Value.TheVariants.{Bool as BoolValue, Int as IntValue, Str as StrValue, Enum as EnumValue, Obj}
-use Rattle.qvt_meta.specs.Metamodels.{Metamodels, class_at, feature_at, features_of, is_single}
-use Rattle.qvt_meta.specs.WellFormed.{IsWellFormed}
+use Rattle.qvt_metamodel.specs.Metamodels.{Metamodels, class_at, feature_at, features_of, is_single}
+use Rattle.qvt_metamodel.specs.WellFormed.{IsWellFormed}
 use Rattle.qvt_json.specs.Plain as written
 use Rattle.qvt_json.proofs.Ordered.{some-injective, map-some}
 use Rattle.qvt_store.specs.Contents.{Instance, Contents, no_instance, class_of, is_live, slot_of, members_from, members_of}

@@ -7,7 +7,7 @@ use Rattle.qvt_base.specs.declared.numbers.FeatureNo.{FeatureNo}
 use Rattle.qvt_base.specs.declared.numbers.Oid.{Oid}
 use Rattle.qvt_value.specs.declared.value.Value.{Value}
 use Rattle.qvt_value.specs.declared.value.Value.TheVariants.{Bool as BoolValue, Int as IntValue, Str as StrValue, Enum as EnumValue, Obj}
-use Rattle.qvt_meta.specs.Metamodels.{Metamodels, feature_at, features_of}
+use Rattle.qvt_metamodel.specs.Metamodels.{Metamodels, feature_at, features_of}
 use Rattle.qvt_store.specs.Contents.{Contents, class_of, slot_of, members_of}
 use Rattle.qvt_model.specs.Reading.{has_items, numbered_class}
 use Rattle.qvt_model.specs.declared.data.Datum.{Datum}

@@ -1,7 +1,7 @@
 -- What is written is read as the same model.
 use Rattle.std.specs.Prelude.{◌≡◌, ℕ, ◌<◌, ◌≤◌, List, length, IsTrue, Ok}
-use Rattle.qvt_meta.specs.Metamodels.{Metamodels}
-use Rattle.qvt_meta.specs.WellFormed.{IsWellFormed}
+use Rattle.qvt_metamodel.specs.Metamodels.{Metamodels}
+use Rattle.qvt_metamodel.specs.WellFormed.{IsWellFormed}
 use Rattle.qvt_store.specs.Contents.{Contents, class_of, extent_at, is_extent, is_live, is_model}
 use Rattle.qvt_store.specs.Sound.{Sound}
 use Rattle.qvt_model.specs.Extents.{data_of}

@@ -8,11 +8,11 @@ use Rattle.serde_json.specs.Find.{as_null, as_bool, as_str, as_number, as_i64, a
 use Rattle.qvt_base.specs.declared.numbers.ClassNo.{ClassNo}
 use Rattle.qvt_base.specs.declared.numbers.FeatureNo.{FeatureNo}
 use Rattle.qvt_value.specs.declared.value.LiteralRef.{LiteralRef}
-use Rattle.qvt_meta.specs.declared.info.TypeKind.{TypeKind}
-use Rattle.qvt_meta.specs.declared.info.TypeKind.TheVariants.{Bool as BoolKind, Int as IntKind, Str as StrKind, Enum as EnumKind, Class as ClassKind}
-use Rattle.qvt_meta.specs.Metamodels.{Metamodels, feature_at, shape_of, is_single}
-use Rattle.qvt_meta.specs.Descends.{descends}
-use Rattle.qvt_meta.specs.Named.{class_named, feature_named, literal_named}
+use Rattle.qvt_metamodel.specs.declared.info.TypeKind.{TypeKind}
+use Rattle.qvt_metamodel.specs.declared.info.TypeKind.TheVariants.{Bool as BoolKind, Int as IntKind, Str as StrKind, Enum as EnumKind, Class as ClassKind}
+use Rattle.qvt_metamodel.specs.Metamodels.{Metamodels, feature_at, shape_of, is_single}
+use Rattle.qvt_metamodel.specs.Descends.{descends}
+use Rattle.qvt_metamodel.specs.Named.{class_named, feature_named, literal_named}
 use Rattle.qvt_json.specs.Json.{json, text_or, items_or, members_or, map_items}
 use Rattle.qvt_json.specs.Leaves.{is_id}
 use Rattle.qvt_json.specs.Shape.{shown}

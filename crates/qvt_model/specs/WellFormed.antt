@@ -6,11 +6,11 @@ use Rattle.std.specs.Str.{bytes_eq, IsUtf8}
 use Rattle.std.specs.Ordering.{nat_cmp}
 use Rattle.std.specs.Cmp.Lexicographic.{slice_cmp}
 use Rattle.std.specs.declared.cmp.Ordering.TheVariants.{Greater}
-use Rattle.qvt_meta.specs.declared.info.TypeKind.{TypeKind}
-use Rattle.qvt_meta.specs.declared.info.TypeKind.TheVariants.{Bool as BoolKind, Int as IntKind, Str as StrKind, Enum as EnumKind, Class as ClassKind}
-use Rattle.qvt_meta.specs.Metamodels.{Metamodels, class_at, feature_at, shape_of, is_single, has_feature}
-use Rattle.qvt_meta.specs.Descends.{descends}
-use Rattle.qvt_meta.specs.Named.{enumeration_at}
+use Rattle.qvt_metamodel.specs.declared.info.TypeKind.{TypeKind}
+use Rattle.qvt_metamodel.specs.declared.info.TypeKind.TheVariants.{Bool as BoolKind, Int as IntKind, Str as StrKind, Enum as EnumKind, Class as ClassKind}
+use Rattle.qvt_metamodel.specs.Metamodels.{Metamodels, class_at, feature_at, shape_of, is_single, has_feature}
+use Rattle.qvt_metamodel.specs.Descends.{descends}
+use Rattle.qvt_metamodel.specs.Named.{enumeration_at}
 use Rattle.qvt_json.specs.Leaves.{is_id}
 use Rattle.qvt_model.specs.declared.data.Datum.{Datum}
 use Rattle.qvt_model.specs.declared.data.Datum.TheVariants.{Bool as BoolDatum, Int, Str, Literal, Ref}

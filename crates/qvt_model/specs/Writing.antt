@@ -7,8 +7,8 @@ use Rattle.serde_json.specs.View.{items_of}
 use Rattle.qvt_base.specs.declared.numbers.FeatureNo.{FeatureNo}
 use Rattle.qvt_value.specs.declared.value.Value.{Value}
 use Rattle.qvt_value.specs.declared.value.Value.TheVariants.{Bool as BoolValue, Int as IntValue, Str as StrValue, Enum as EnumValue, Obj}
-use Rattle.qvt_meta.specs.Metamodels.{Metamodels, class_at, feature_at, features_of, is_single}
-use Rattle.qvt_meta.specs.Named.{literal_at}
+use Rattle.qvt_metamodel.specs.Metamodels.{Metamodels, class_at, feature_at, features_of, is_single}
+use Rattle.qvt_metamodel.specs.Named.{literal_at}
 use Rattle.qvt_store.specs.Contents.{Contents, class_of, slot_of}
 use Rattle.qvt_model.specs.Extents.{own_id, place_of}
 

@@ -4,8 +4,8 @@ use Rattle.std.specs.Prelude.{ℕ, List, [], ◌∷◌, map, codes, if◌then◌
 use Rattle.serde_json.specs.Data.{Data, null, boolean, number, string, array, object, Items, Members, no_members, member}
 use Rattle.serde_json.specs.Find.{of_integer}
 use Rattle.serde_json.specs.View.{items_of}
-use Rattle.qvt_meta.specs.Metamodels.{Metamodels, class_at, feature_at, is_single}
-use Rattle.qvt_meta.specs.Named.{literal_at}
+use Rattle.qvt_metamodel.specs.Metamodels.{Metamodels, class_at, feature_at, is_single}
+use Rattle.qvt_metamodel.specs.Named.{literal_at}
 use Rattle.qvt_json.specs.Plain.{file_text}
 use Rattle.qvt_model.specs.WellFormed.{object_at}
 use Rattle.qvt_model.specs.declared.data.Datum.{Datum}

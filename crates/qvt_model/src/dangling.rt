@@ -5,7 +5,7 @@ ghost use Rattle.qvt_model.specs.Reading.{is_dangling, slots_dangling, dangling}
 use crate::data::{Datum, ModelFault, ObjectData, SlotData};
 use qvt_base::list_fault::ListFault;
 use qvt_base::text::Text;
-use qvt_meta::metas::Metas;
+use qvt_metas::metas::Metas;
 use std::alloc::Global;
 
 /// Whether the item refers to none of so many objects.

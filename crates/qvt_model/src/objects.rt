@@ -13,7 +13,7 @@ use qvt_base::lists::ClassNoList;
 use qvt_base::numbers::ClassNo;
 use qvt_base::text::Text;
 use qvt_json::value::{members_at, text_or};
-use qvt_meta::metas::Metas;
+use qvt_metas::metas::Metas;
 use serde_json::Value;
 use std::alloc::Global;
 

@@ -12,7 +12,7 @@ use crate::objects::{classes_of, distinct_ids, objects_known, objects_of};
 use crate::places::Places;
 use qvt_json::shape::shape_fault;
 use qvt_json::value::{items_at, read_value};
-use qvt_meta::metas::Metas;
+use qvt_metas::metas::Metas;
 use serde_json::Value;
 use std::alloc::Global;
 

@@ -10,7 +10,7 @@ use crate::items::items_of;
 use crate::places::Places;
 use qvt_base::numbers::{ClassNo, FeatureNo};
 use qvt_base::text::Text;
-use qvt_meta::metas::Metas;
+use qvt_metas::metas::Metas;
 use serde_json::{Map, Value};
 use std::alloc::Global;
 

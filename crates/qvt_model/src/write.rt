@@ -2,7 +2,7 @@ ghost use Rattle.std.specs.Prelude.{◌≡◌, [], suc, length, map, string_byte
 ghost use Rattle.std.specs.List.{filter_map, AllByRecursion};
 ghost use Rattle.serde_json.specs.Data.{string, object, no_members, put};
 ghost use Rattle.serde_json.specs.View.{view, members_view};
-ghost use Rattle.qvt_meta.specs.Metamodels.{class_at, feature_at, features_of, has_feature};
+ghost use Rattle.qvt_metamodel.specs.Metamodels.{class_at, feature_at, features_of, has_feature};
 ghost use Rattle.qvt_store.specs.Contents.{class_of, extent_at, is_extent, is_live, is_model};
 ghost use Rattle.qvt_store.specs.Sound.{Sound};
 ghost use Rattle.qvt_model.specs.Extents.{own_id, numbers, data_of};
@@ -15,7 +15,7 @@ use qvt_base::list_fault::ListFault;
 use qvt_base::lists::Bytes;
 use qvt_base::numbers::{FeatureNo, Oid};
 use qvt_json::written::write_value;
-use qvt_meta::metas::Metas;
+use qvt_metas::metas::Metas;
 use qvt_store::store::Store;
 use qvt_value::value::Value as Item;
 use serde_json::{Map, Value, json};

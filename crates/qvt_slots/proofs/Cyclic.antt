@@ -5,8 +5,8 @@ use Rattle.qvt_relation.specs.Closure.{Closure, reaches, Decides, IsBelow}
 use Rattle.qvt_relation.specs.Closure.Closure.{directly as one_step, through as more_steps}
 use Rattle.qvt_relation.proofs.Bools.{and_left, and_right, and_both}
 use Rattle.qvt_relation.proofs.Closures.{any_below-at, any_below-some, first_step, reaches-closure, closure-reaches}
-use Rattle.qvt_meta.specs.declared.info.FeatureInfo.{FeatureInfo}
-use Rattle.qvt_meta.specs.Metamodels.{Metamodels, is_containment}
+use Rattle.qvt_metamodel.specs.declared.info.FeatureInfo.{FeatureInfo}
+use Rattle.qvt_metamodel.specs.Metamodels.{Metamodels, is_containment}
 use Rattle.qvt_slots.specs.Slots.{Slots, has, Contains, Inside, directly, through}
 use Rattle.qvt_slots.specs.Assign.{is_in, is_cyclic}
 

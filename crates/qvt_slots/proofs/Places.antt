@@ -5,7 +5,7 @@ use Rattle.std.proofs.lemmas.Bool.{eq-eqb, ne_eqb}
 use Rattle.std.proofs.lemmas.Bool.Decides.{Decides-eqb}
 use Rattle.qvt_base.specs.declared.numbers.FeatureNo.{FeatureNo}
 use Rattle.qvt_value.specs.declared.value.Value.{Value}
-use Rattle.qvt_meta.specs.Metamodels.{among_features}
+use Rattle.qvt_metamodel.specs.Metamodels.{among_features}
 use Rattle.qvt_relation.proofs.Bools.{or_none, refuted}
 use Rattle.qvt_slots.specs.Cells.{IsPlaceOf}
 use Rattle.qvt_slots.specs.Contents.{list_of, set_list}

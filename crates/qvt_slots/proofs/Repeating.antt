@@ -10,7 +10,7 @@ use Rattle.std.proofs.lemmas.List.Elements.{filter-append}
 use Rattle.std.proofs.lemmas.Slice.Eq.{bytes_eq-Decides}
 use Rattle.qvt_value.specs.declared.value.Value.{Value}
 use Rattle.qvt_value.specs.declared.value.Value.TheVariants.{Bool as BoolValue, Int as IntValue, Str as StrValue, Enum as EnumValue, Obj}
-use Rattle.qvt_meta.specs.Metamodels.{Metamodels, is_one, shape_of}
+use Rattle.qvt_metamodel.specs.Metamodels.{Metamodels, is_one, shape_of}
 use Rattle.qvt_relation.proofs.Bools.{and_left, and_right, or_none, none_left, none_right, or_false, clash}
 use Rattle.qvt_slots.specs.Slots.{is_object, has}
 use Rattle.qvt_slots.specs.Change.{object_value, with_object}

@@ -3,9 +3,9 @@ use Rattle.std.proofs.Common.{◌≡◌, ℕ, Bool, true, false, List, [], ◌�
 use Rattle.std.specs.Prelude.{Option, Some, None, Ok, Err}
 use Rattle.qvt_base.specs.declared.numbers.FeatureNo.{FeatureNo}
 use Rattle.qvt_value.specs.declared.value.Value.{Value}
-use Rattle.qvt_meta.specs.declared.info.TypeKind.TheVariants.{Class as ClassKind}
-use Rattle.qvt_meta.specs.declared.info.FeatureInfo.{FeatureInfo}
-use Rattle.qvt_meta.specs.Metamodels.{Metamodels, features_of}
+use Rattle.qvt_metamodel.specs.declared.info.TypeKind.TheVariants.{Class as ClassKind}
+use Rattle.qvt_metamodel.specs.declared.info.FeatureInfo.{FeatureInfo}
+use Rattle.qvt_metamodel.specs.Metamodels.{Metamodels, features_of}
 use Rattle.qvt_relation.specs.Closure.{reaches}
 use Rattle.qvt_slots.specs.declared.fault.StoreFault.TheVariants.{TooMany, ContainmentCycle, ReadOnly, CrossModel}
 use Rattle.qvt_slots.specs.Change.{object_value}

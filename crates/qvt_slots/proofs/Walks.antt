@@ -3,7 +3,7 @@ use Rattle.std.proofs.Common.{◌≡◌, ℕ, zero, suc, ◌+◌, ◌<◌, ◌�
 use Rattle.std.specs.Prelude.{Some, None}
 use Rattle.std.proofs.lemmas.Bool.{cases_lt, cases_eq}
 use Rattle.qvt_base.specs.declared.numbers.Oid.{Oid}
-use Rattle.qvt_meta.specs.Metamodels.{Metamodels, is_containment}
+use Rattle.qvt_metamodel.specs.Metamodels.{Metamodels, is_containment}
 use Rattle.qvt_relation.specs.Closure.{reaches}
 use Rattle.qvt_relation.proofs.Bools.{either, clash}
 use Rattle.qvt_relation.proofs.Closures.{reaches-step, reaches-join, reaches-closure}

@@ -6,7 +6,7 @@ use Rattle.qvt_base.specs.declared.numbers.FeatureNo.{FeatureNo}
 use Rattle.qvt_base.specs.declared.numbers.Oid.{Oid}
 use Rattle.qvt_value.specs.declared.value.Value.{Value}
 use Rattle.qvt_value.specs.declared.value.Value.TheVariants.{Obj}
-use Rattle.qvt_meta.specs.Metamodels.{Metamodels, opposite, is_opposite, is_containment, is_single}
+use Rattle.qvt_metamodel.specs.Metamodels.{Metamodels, opposite, is_opposite, is_containment, is_single}
 use Rattle.qvt_slots.specs.Slots.{Slots, is_object_with, has}
 
 abbrev pub object_value : ℕ → Value

@@ -7,7 +7,7 @@ use Rattle.std.specs.Str.{bytes_eq}
 use Rattle.qvt_value.specs.declared.value.LiteralRef.{LiteralRef}
 use Rattle.qvt_value.specs.declared.value.Value.{Value}
 use Rattle.qvt_value.specs.declared.value.Value.TheVariants.{Bool as BoolValue, Int as IntValue, Str as StrValue, Enum as EnumValue, Obj}
-use Rattle.qvt_meta.specs.Metamodels.{Metamodels, shape_of}
+use Rattle.qvt_metamodel.specs.Metamodels.{Metamodels, shape_of}
 use Rattle.qvt_slots.specs.Slots.{is_object}
 use Rattle.qvt_slots.specs.Contents.{Contents, slot_of}
 

@@ -5,11 +5,11 @@ use Rattle.std.specs.List.{list_all}
 use Rattle.std.specs.Str.{IsUtf8}
 use Rattle.qvt_value.specs.declared.value.Value.{Value}
 use Rattle.qvt_value.specs.declared.value.Value.TheVariants.{Bool as BoolValue, Int as IntValue, Str as StrValue, Enum as EnumValue}
-use Rattle.qvt_meta.specs.declared.info.TypeKind.{TypeKind}
-use Rattle.qvt_meta.specs.declared.info.TypeKind.TheVariants.{Bool as BoolKind, Int as IntKind, Str as StrKind, Enum as EnumKind, Class as ClassKind}
-use Rattle.qvt_meta.specs.Metamodels.{Metamodels, shape_of, is_single, has_feature}
-use Rattle.qvt_meta.specs.Named.{enumeration_at}
-use Rattle.qvt_meta.specs.Descends.{descends}
+use Rattle.qvt_metamodel.specs.declared.info.TypeKind.{TypeKind}
+use Rattle.qvt_metamodel.specs.declared.info.TypeKind.TheVariants.{Bool as BoolKind, Int as IntKind, Str as StrKind, Enum as EnumKind, Class as ClassKind}
+use Rattle.qvt_metamodel.specs.Metamodels.{Metamodels, shape_of, is_single, has_feature}
+use Rattle.qvt_metamodel.specs.Named.{enumeration_at}
+use Rattle.qvt_metamodel.specs.Descends.{descends}
 use Rattle.qvt_slots.specs.Slots.{is_object_with}
 use Rattle.qvt_slots.specs.Contents.{Contents, is_live, is_writable, class_of, slot_of}
 

@@ -1,7 +1,7 @@
 -- The objects around an object, and when a change would put an object inside itself.
 use Rattle.std.specs.Prelude.{◌≡◌, ℕ, zero, suc, ◌+◌, Bool, ◌⊎◌, IsTrue, List, if◌then◌else◌}
 use Rattle.qvt_base.specs.declared.numbers.Oid.{Oid}
-use Rattle.qvt_meta.specs.Metamodels.{Metamodels, is_containment}
+use Rattle.qvt_metamodel.specs.Metamodels.{Metamodels, is_containment}
 use Rattle.qvt_relation.specs.Closure.{reaches}
 use Rattle.qvt_slots.specs.Slots.{Slots, Inside}
 use Rattle.qvt_slots.specs.Change.{Change, among, is_container}

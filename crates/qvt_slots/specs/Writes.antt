@@ -2,7 +2,7 @@
 use Rattle.std.specs.Prelude.{◌≡◌, ℕ, ◌<◌, Bool, List, [], ◌∷◌, ◌++◌, length, IsTrue, Option, Some, None, ◌==◌, ◌&&◌, if◌then◌else◌}
 use Rattle.std.specs.List.{flat_map}
 use Rattle.qvt_base.specs.declared.numbers.Oid.{Oid}
-use Rattle.qvt_meta.specs.Metamodels.{Metamodels, has_feature, is_containment}
+use Rattle.qvt_metamodel.specs.Metamodels.{Metamodels, has_feature, is_containment}
 use Rattle.qvt_slots.specs.declared.cell.Holder.{Holder}
 use Rattle.qvt_slots.specs.declared.cell.Cell.{Cell}
 use Rattle.qvt_slots.specs.declared.commit.Write.{Write}

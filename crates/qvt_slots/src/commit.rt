@@ -1,7 +1,7 @@
 //! A change carried out in the cells. It takes no memory.
 
 ghost use Rattle.std.specs.Prelude.{◌≡◌, ◌<◌, ◌++◌, ◌∷◌, [], length, IsTrue, All, OnOk, OnErr};
-ghost use Rattle.qvt_meta.specs.Metamodels.{has_feature, is_containment};
+ghost use Rattle.qvt_metamodel.specs.Metamodels.{has_feature, is_containment};
 ghost use Rattle.qvt_slots.specs.Slots.{has, is_object};
 ghost use Rattle.qvt_slots.specs.Change.{among};
 ghost use Rattle.qvt_slots.specs.Cells.{HaveSlots, IsPut, instance_in, instances};
@@ -12,7 +12,7 @@ use crate::draft::Draft;
 use crate::put::put;
 use crate::values::is_object_of;
 use qvt_base::numbers::{FeatureNo, Oid};
-use qvt_meta::metas::Metas;
+use qvt_metas::metas::Metas;
 use qvt_value::value::{Value, Values};
 
 /// A slot with its new list.

@@ -1,12 +1,12 @@
 //! Tests of features.
 
 ghost use Rattle.std.specs.Prelude.{◌≡◌};
-ghost use Rattle.qvt_meta.specs.Metamodels.{is_containment, is_single, is_opposite, shape_of};
+ghost use Rattle.qvt_metamodel.specs.Metamodels.{is_containment, is_single, is_opposite, shape_of};
 ghost use Rattle.qvt_slots.specs.Change.{is_container};
 ghost use Rattle.qvt_slots.specs.Assign.{is_beyond};
 
 use qvt_base::numbers::FeatureNo;
-use qvt_meta::metas::Metas;
+use qvt_metas::metas::Metas;
 
 pub fn is_containment(metas: &Metas, feature: FeatureNo) -> bool
     ensures { result ≡ is_containment metas.now feature.0 }

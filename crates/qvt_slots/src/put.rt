@@ -1,7 +1,7 @@
 //! Slots set in the cells of a store.
 
 ghost use Rattle.std.specs.Prelude.{◌≡◌, ◌<◌, length, IsTrue, IsFalse, IfNone, IfSome};
-ghost use Rattle.qvt_meta.specs.Metamodels.{has_feature, among_features};
+ghost use Rattle.qvt_metamodel.specs.Metamodels.{has_feature, among_features};
 ghost use Rattle.qvt_slots.specs.Cells.{HaveSlots, IsPut, IsPlaceOf, IsSameCells, instance_in, instances};
 ghost use Rattle.std.specs.Prelude.{◌++◌, ◌∷◌, [], OnOk, OnErr};
 ghost use Rattle.qvt_slots.specs.Contents.{slot_in};
@@ -9,7 +9,7 @@ ghost use Rattle.qvt_slots.specs.Contents.{slot_in};
 use crate::cell::Cell;
 use qvt_base::list_fault::ListFault;
 use qvt_base::numbers::{FeatureNo, Oid};
-use qvt_meta::metas::Metas;
+use qvt_metas::metas::Metas;
 use qvt_value::value::{Value, Values};
 
 /// The place of a feature among those of a class.

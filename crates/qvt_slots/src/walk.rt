@@ -8,7 +8,7 @@ ghost use Rattle.qvt_slots.specs.Walk.{SomeOver};
 use crate::cell::Cell;
 use crate::values::is_among;
 use qvt_base::numbers::Oid;
-use qvt_meta::metas::Metas;
+use qvt_metas::metas::Metas;
 
 /// Whether the object, or one around it, is among these.
 pub fn is_under(metas: &Metas, cells: &Vec<Cell>, objects: &[Oid], start: Oid) -> bool

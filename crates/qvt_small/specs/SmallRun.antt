@@ -8,10 +8,10 @@ use Rattle.serde_json.specs.Data.{Data, number, string, array, object, Items, no
 use Rattle.serde_json.specs.Find.{of_integer}
 use Rattle.qvt_json.specs.Plain.{file_text}
 use Rattle.qvt_base.specs.declared.numbers.FeatureNo.{FeatureNo}
-use Rattle.qvt_meta.specs.declared.info.TypeKind.{TypeKind}
-use Rattle.qvt_meta.specs.declared.info.TypeKind.TheVariants.{Bool as BoolKind, Int as IntKind, Str as StrKind, Enum as EnumKind, Class as ClassKind}
-use Rattle.qvt_meta.specs.Metamodels.{Metamodels, class_at, shape_of, is_single}
-use Rattle.qvt_meta.specs.Named.{class_named, feature_named, metamodel_named}
+use Rattle.qvt_metamodel.specs.declared.info.TypeKind.{TypeKind}
+use Rattle.qvt_metamodel.specs.declared.info.TypeKind.TheVariants.{Bool as BoolKind, Int as IntKind, Str as StrKind, Enum as EnumKind, Class as ClassKind}
+use Rattle.qvt_metamodel.specs.Metamodels.{Metamodels, class_at, shape_of, is_single}
+use Rattle.qvt_metamodel.specs.Named.{class_named, feature_named, metamodel_named}
 use Rattle.qvt_small.specs.declared.text.Assignment.{Assignment}
 use Rattle.qvt_small.specs.declared.text.SmallObject.{SmallObject}
 use Rattle.qvt_small.specs.declared.text.SmallText.{SmallText}

@@ -4,7 +4,7 @@ ghost use Rattle.qvt_small.specs.SmallRun.{cost_of, cost, is_attribute, fits_obj
 
 use crate::text::{Assignment, SmallObject, SmallText};
 use qvt_base::numbers::ClassNo;
-use qvt_meta::metas::Metas;
+use qvt_metas::metas::Metas;
 
 /// Whether each assigned name is an attribute of the class.
 fn are_attributes(metas: &Metas, class: ClassNo, assignments: &[Assignment]) -> bool

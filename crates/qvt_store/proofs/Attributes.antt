@@ -5,7 +5,7 @@ use Rattle.std.specs.List.{list_all}
 use Rattle.std.proofs.lemmas.Bool.Decides.{Decides-eqb}
 use Rattle.qvt_base.specs.declared.numbers.Oid.{Oid}
 use Rattle.qvt_value.specs.declared.value.Value.{Value}
-use Rattle.qvt_meta.specs.Metamodels.{Metamodels, shape_of}
+use Rattle.qvt_metamodel.specs.Metamodels.{Metamodels, shape_of}
 use Rattle.qvt_relation.proofs.Bools.{and_left, and_right}
 use Rattle.qvt_slots.specs.declared.cell.Cell.{Cell}
 use Rattle.qvt_slots.specs.declared.extent.Extent.{Extent}

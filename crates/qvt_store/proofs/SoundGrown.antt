@@ -6,7 +6,7 @@ use Rattle.std.proofs.lemmas.Bool.{le-ltb, ltb-true}
 use Rattle.std.proofs.lemmas.Bool.Decides.{Decides-eqb}
 use Rattle.std.proofs.lemmas.List.Elements.{All-nil}
 use Rattle.qvt_value.specs.declared.value.Value.{Value}
-use Rattle.qvt_meta.specs.Metamodels.{Metamodels, class_at, features_of, is_containment, shape_of}
+use Rattle.qvt_metamodel.specs.Metamodels.{Metamodels, class_at, features_of, is_containment, shape_of}
 use Rattle.qvt_relation.proofs.Bools.{and_left, and_right, and_both, either, clash, refuted, not_of_false}
 use Rattle.qvt_slots.specs.declared.extent.Extent.{Extent}
 use Rattle.qvt_slots.specs.Slots.{Slots, has, OppositesAgree, OneContainer, Contains, Inside, directly, through}

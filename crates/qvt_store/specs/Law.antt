@@ -1,7 +1,7 @@
 -- What a change keeps of all slots.
 use Rattle.std.specs.Prelude.{◌≡◌, ◌≤◌, length, IsTrue}
-use Rattle.qvt_meta.specs.Metamodels.{is_single}
-use Rattle.qvt_meta.specs.WellFormed.{IsWellFormed}
+use Rattle.qvt_metamodel.specs.Metamodels.{is_single}
+use Rattle.qvt_metamodel.specs.WellFormed.{IsWellFormed}
 use Rattle.qvt_slots.specs.Slots.{OppositesAgree, OneContainer}
 use Rattle.qvt_slots.specs.Change.{Change, objects_beyond, slot_after}
 

@@ -3,7 +3,7 @@ use Rattle.std.specs.Prelude.{◌≡◌, ℕ, ◌==◌, ◌&&◌, Bool, List, Is
 use Rattle.std.specs.List.{list_any}
 use Rattle.qvt_base.specs.declared.numbers.Oid.{Oid}
 use Rattle.qvt_value.specs.declared.value.Value.{Value}
-use Rattle.qvt_meta.specs.Metamodels.{is_containment, is_opposite}
+use Rattle.qvt_metamodel.specs.Metamodels.{is_containment, is_opposite}
 use Rattle.qvt_slots.specs.declared.commit.Write.{Write}
 use Rattle.qvt_slots.specs.Slots.{has}
 use Rattle.qvt_slots.specs.Change.{Change, among, is_here, is_container, slot_elsewhere}

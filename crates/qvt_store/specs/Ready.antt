@@ -3,14 +3,14 @@ use Rattle.std.specs.Prelude.{◌≡◌, ℕ, List, IsTrue, IsFalse}
 use Rattle.std.specs.List.{list_all}
 use Rattle.qvt_base.specs.declared.numbers.Oid.{Oid}
 use Rattle.qvt_value.specs.declared.value.Value.{Value}
-use Rattle.qvt_meta.specs.Metamodels.{shape_of}
+use Rattle.qvt_metamodel.specs.Metamodels.{shape_of}
 use Rattle.qvt_slots.specs.declared.commit.Write.{Write}
 use Rattle.qvt_slots.specs.declared.draft.Draft.{Draft}
 use Rattle.qvt_slots.specs.Change.{Change, slot_after, slot_elsewhere}
 use Rattle.qvt_slots.specs.Contents.{Contents, is_slot, slot_of}
 use Rattle.qvt_slots.specs.Types.{is_of_type, AreTyped}
 use Rattle.qvt_slots.specs.Slots.{Inside}
-use Rattle.qvt_meta.specs.WellFormed.{IsWellFormed}
+use Rattle.qvt_metamodel.specs.WellFormed.{IsWellFormed}
 use Rattle.qvt_slots.specs.Repeats.{repeats}
 use Rattle.qvt_slots.specs.Assign.{change_to, store_after}
 use Rattle.qvt_store.specs.Law.{FitsSingle}

@@ -1,8 +1,8 @@
 -- What every store keeps that is changed by assignments alone (EMOF 12, and the rules of models): `Sound`, part by part.
 use Rattle.std.specs.Prelude.{◌≡◌, ℕ, ◌<◌, List, [], ◌∷◌, length, IsTrue, IsFalse, ◌⊎◌, All, Ok}
 use Rattle.qvt_value.specs.declared.value.Value.{Value}
-use Rattle.qvt_meta.specs.Metamodels.{Metamodels, class_at, features_of, shape_of}
-use Rattle.qvt_meta.specs.WellFormed.{IsWellFormed}
+use Rattle.qvt_metamodel.specs.Metamodels.{Metamodels, class_at, features_of, shape_of}
+use Rattle.qvt_metamodel.specs.WellFormed.{IsWellFormed}
 use Rattle.qvt_slots.specs.declared.extent.Extent.{Extent}
 use Rattle.qvt_slots.specs.Slots.{has, OppositesAgree, OneContainer, Inside}
 use Rattle.qvt_slots.specs.Contents.{Contents, AreNamed, object_at, class_of, extent_of, extent_at, is_extent, is_live, is_model, is_slot, slot_of, with_new, with_slot}

@@ -1,7 +1,7 @@
 ghost use Rattle.std.specs.Prelude.{◌≡◌, ◌<◌, ◌≤◌, [], length, IsTrue, IfOk, IfErr, OnOk, OnErr, IfSome, ℕ};
 ghost use Rattle.qvt_slots.specs.Slots.{Contains, has};
 ghost use Rattle.qvt_slots.specs.Cells.{holder_in};
-ghost use Rattle.qvt_meta.specs.Metamodels.{has_feature, is_containment};
+ghost use Rattle.qvt_metamodel.specs.Metamodels.{has_feature, is_containment};
 ghost use Rattle.qvt_slots.specs.Contents.{AreNamed, is_live, is_extent, class_of, extent_of, slot_of, members_of, with_new};
 ghost use Rattle.qvt_slots.specs.Members.{AreEmpty};
 ghost use Rattle.qvt_store.specs.Fault.{IsAddFault};
@@ -19,7 +19,7 @@ use qvt_base::list_fault::ListFault;
 use qvt_base::lists::OidList;
 use qvt_base::numbers::{ClassNo, FeatureNo, Oid};
 use qvt_base::seq::Seq;
-use qvt_meta::metas::Metas;
+use qvt_metas::metas::Metas;
 use qvt_slots::add::{add_cell, empty_slots};
 use qvt_slots::cell::{Cell, Holder};
 use qvt_slots::extent::{Extent, ExtentList};

@@ -7,7 +7,7 @@ use qvt_base::seq::Seq;
 use qvt_base::text::Text;
 use qvt_checks::conditions::{are_named, can_assign, is_class_for};
 use qvt_meta::meta::read_meta;
-use qvt_meta::metas::Metas;
+use qvt_metas::metas::Metas;
 use qvt_store::extent::{Extent, ExtentList};
 use qvt_store::store::Store;
 use qvt_value::value::Value;

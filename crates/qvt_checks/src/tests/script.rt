@@ -5,7 +5,7 @@ use qvt_base::numbers::{FeatureNo, Oid};
 use qvt_base::seq::Seq;
 use qvt_base::text::Text;
 use qvt_meta::meta::read_meta;
-use qvt_meta::metas::Metas;
+use qvt_metas::metas::Metas;
 use qvt_store::extent::{Extent, ExtentList};
 use qvt_store::fault::StoreFault;
 use qvt_store::store::Store;

@@ -3,7 +3,7 @@
 ghost use Rattle.std.specs.Prelude.{◌≡◌, ◌≢◌, ◌++◌, Ok, Err, if◌then◌else◌, IfOk, IfErr, OnOk, OnErr};
 ghost use Rattle.qvt_slots.specs.Change.{objects_beyond};
 ghost use Rattle.qvt_slots.specs.Contents.{slot_of, with_slot};
-ghost use Rattle.qvt_meta.specs.Metamodels.{shape_of};
+ghost use Rattle.qvt_metamodel.specs.Metamodels.{shape_of};
 ghost use Rattle.qvt_slots.specs.Repeats.{without_repeats};
 ghost use Rattle.qvt_slots.specs.Assign.{assign, change_to, store_after};
 ghost use Rattle.qvt_slots.specs.Types.{IsAssignable, IsAttributeChange};

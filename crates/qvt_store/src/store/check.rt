@@ -2,7 +2,7 @@
 
 ghost use Rattle.std.specs.Prelude.{◌≡◌, ◌↔◌, ◌++◌, ◌∷◌, [], IsTrue, IfOk, IfErr, OnOk};
 ghost use Rattle.std.specs.List.{list_any};
-ghost use Rattle.qvt_meta.specs.Metamodels.{opposite};
+ghost use Rattle.qvt_metamodel.specs.Metamodels.{opposite};
 ghost use Rattle.qvt_slots.specs.Change.{among};
 ghost use Rattle.qvt_slots.specs.Contents.{slot_of, is_live, extent_of, is_model, is_writable};
 ghost use Rattle.qvt_slots.specs.Assign.{is_elsewhere, crosses};

@@ -1,14 +1,14 @@
 //! Slots loaded.
 
 ghost use Rattle.std.specs.Prelude.{◌≡◌, ◌&&◌, not, IfErr, OnOk, OnErr};
-ghost use Rattle.qvt_meta.specs.Metamodels.{shape_of};
+ghost use Rattle.qvt_metamodel.specs.Metamodels.{shape_of};
 ghost use Rattle.qvt_slots.specs.Repeats.{repeats};
 ghost use Rattle.qvt_slots.specs.Contents.{with_slot};
 ghost use Rattle.qvt_store.specs.Place.{IsPlaceable};
 
 use crate::store::Store;
 use qvt_base::numbers::{FeatureNo, Oid};
-use qvt_meta::metas::Metas;
+use qvt_metas::metas::Metas;
 use qvt_slots::commit::{Write, hold_write};
 use qvt_slots::fault::StoreFault;
 use qvt_slots::features::is_unique;

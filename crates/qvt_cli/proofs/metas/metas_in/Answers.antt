@@ -1,5 +1,5 @@
 use Rattle.qvt_meta.specs.MetaOf.{meta_of}
-use Rattle.qvt_meta.specs.declared.fault.MetaFault.TheVariants as meta
+use Rattle.qvt_metamodel.specs.declared.fault.MetaFault.TheVariants as meta
 use Rattle.qvt_cli.specs.declared.refusal.Refusal.TheVariants as refusal
 use Rattle.qvt_cli.specs.Metas.{metas_in, alone}
 use Rattle.qvt_cli.proofs.Faults.{stops_by, some_metamodel}

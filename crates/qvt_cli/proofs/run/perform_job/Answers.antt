@@ -4,7 +4,7 @@ use Rattle.qvt_cli.specs.Steps.{joined}
 use Rattle.qvt_cli.proofs.Chained.{first_stop, later_turn}
 use Rattle.qvt_cli.specs.Run.{small_metas_read, on_ok, turns_after_job}
 use Rattle.qvt_cli.specs.declared.stop.Stop.{Stop}
-use Rattle.qvt_meta.specs.Metamodels.{Metamodels}
+use Rattle.qvt_metamodel.specs.Metamodels.{Metamodels}
 use Rattle.std.proofs.Common.{[], ◌∷◌}
 use Rattle.qvt_cli.proofs.run.perform_job.Goals as goal
 

@@ -1,8 +1,8 @@
 use Rattle.std.proofs.Common.{◌≡◌, ◌∙◌, ℕ, List, map, Option, ap, position}
 use Rattle.std.specs.Prelude.{unwrap_or}
 use Rattle.std.specs.Str.{bytes_eq}
-use Rattle.qvt_meta.specs.declared.declared.DeclaredFeature.{DeclaredFeature}
-use Rattle.qvt_meta.proofs.Lookups.{position-map}
+use Rattle.qvt_metamodel.specs.declared.declared.DeclaredFeature.{DeclaredFeature}
+use Rattle.qvt_metamodel.proofs.Lookups.{position-map}
 use Rattle.qvt_meta.proofs.adding.feature_place.Goals as goal
 
 found : (o : Option ℕ) (name : List ℕ) (fs : List DeclaredFeature) → o ≡ position (λ f. bytes_eq name f.name) fs → o ≡ position (bytes_eq name) (map (λ f. f.name) fs)

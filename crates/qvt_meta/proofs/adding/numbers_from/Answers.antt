@@ -1,6 +1,6 @@
 use Rattle.std.proofs.Common.{◌≡◌, ◌∙◌, ℕ, suc, ◌+◌, ◌-◌, ◌<◌, List, [], ◌∷◌, ◌++◌, ap, subst, sym, arith, append_assoc}
 use Rattle.qvt_base.specs.declared.numbers.FeatureNo.{FeatureNo}
-use Rattle.qvt_meta.specs.Added.{numbers_from}
+use Rattle.qvt_metamodel.specs.Added.{numbers_from}
 use Rattle.qvt_meta.proofs.adding.numbers_from.Goals as goal
 
 step : (front : List FeatureNo) (n last : ℕ) (total : List FeatureNo) → n < last → front ++ numbers_from n (last - n) ≡ total

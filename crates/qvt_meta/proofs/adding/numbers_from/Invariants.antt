@@ -1,5 +1,5 @@
 use Rattle.std.proofs.Common.{◌≡◌, ◌-◌, ◌++◌}
-use Rattle.qvt_meta.specs.Added.{numbers_from}
+use Rattle.qvt_metamodel.specs.Added.{numbers_from}
 use Rattle.qvt_meta.proofs.adding.numbers_from.Given as goal
 
 abbrev pub invariant-loop-number : goal.invariant-loop-number

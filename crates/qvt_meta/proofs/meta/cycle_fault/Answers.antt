@@ -1,8 +1,8 @@
 use Rattle.std.proofs.Common.{◌∙◌, ◌<◌, Some, option_map, ap, sym, subst, length, arith}
 use Rattle.std.specs.Prelude.{IfSome}
-use Rattle.qvt_meta.specs.declared.fault.MetaFault.TheVariants.{InheritanceCycle}
-use Rattle.qvt_meta.specs.Added.{declared_at}
-use Rattle.qvt_meta.specs.Cycles.{AreLive, first_cycle}
+use Rattle.qvt_metamodel.specs.declared.fault.MetaFault.TheVariants.{InheritanceCycle}
+use Rattle.qvt_metamodel.specs.Added.{declared_at}
+use Rattle.qvt_meta_tables.specs.Cycles.{AreLive, first_cycle}
 use Rattle.qvt_meta.proofs.Cyclic.{live, total, cycle_is}
 use Rattle.qvt_meta.proofs.meta.cycle_fault.Goals as goal
 

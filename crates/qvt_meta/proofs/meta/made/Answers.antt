@@ -8,8 +8,8 @@ from_parts-alone-requires c =
     (record { passes = c.requires.passes; named = c.requires.named; name = c.have_texts.ensures.name; texts = c.have_texts.ensures.classes; enum_texts = c.have_texts.ensures.enums })
     c.requires.numbers c.requires.tables
 
-pub invariant_of-result : goal.invariant_of-result
-invariant_of-result c = record {
+pub from_parts-requires : goal.from_parts-requires
+from_parts-requires c = record {
   checked = record { passes = c.requires.passes; named = c.requires.named; name = c.have_texts.ensures.name; texts = c.have_texts.ensures.classes; enum_texts = c.have_texts.ensures.enums };
   numbers = c.from_parts-alone.ensures ∙ one_numbered c.args.meta c.args.numbers c.requires.numbers;
 }

@@ -1,6 +1,6 @@
 use Rattle.std.proofs.Common.{subst}
 use Rattle.std.specs.Prelude.{IfSome}
-use Rattle.qvt_meta.specs.Tables.{of_classes, AreTables}
+use Rattle.qvt_meta_tables.specs.Tables.{of_classes, AreTables}
 use Rattle.qvt_meta.proofs.Cyclic.{no_inheritance_cycle}
 use Rattle.qvt_meta.proofs.meta.tables_or_cycle.Goals as goal
 

@@ -1,10 +1,10 @@
 use Rattle.std.proofs.Common.{◌∙◌, [], ap, sym, option_map}
 use Rattle.qvt_json.specs.Steps.{◌>>=◌, none_of}
-use Rattle.qvt_meta.specs.declared.fault.MetaFault.TheVariants.{UnknownType}
+use Rattle.qvt_metamodel.specs.declared.fault.MetaFault.TheVariants.{UnknownType}
 use Rattle.qvt_meta.specs.MetaOf.{tell, classes_checked, types_checked}
-use Rattle.qvt_meta.specs.Names.{repeated}
-use Rattle.qvt_meta.specs.Added.{names_of}
-use Rattle.qvt_meta.proofs.Passing.{classes_alone}
+use Rattle.qvt_json.specs.Repeated.{repeated}
+use Rattle.qvt_metamodel.specs.Added.{names_of}
+use Rattle.qvt_meta_checks.proofs.Passing.{classes_alone}
 use Rattle.qvt_meta.proofs.meta.types_checked.Goals as goal
 
 pub names_of-requires : goal.names_of-requires

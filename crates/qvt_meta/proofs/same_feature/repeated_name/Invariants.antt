@@ -1,6 +1,6 @@
 use Rattle.std.proofs.Common.{◌≡◌, [], drop, map, slice_index_or}
-use Rattle.qvt_meta.specs.Names.{repeated}
-use Rattle.qvt_meta.specs.Metamodels.{nowhere_feature}
+use Rattle.qvt_json.specs.Repeated.{repeated}
+use Rattle.qvt_metamodel.specs.Metamodels.{nowhere_feature}
 use Rattle.qvt_meta.proofs.same_feature.repeated_name.Given as goal
 
 abbrev pub invariant-loop-number : goal.invariant-loop-number

@@ -1,9 +1,9 @@
 use Rattle.std.proofs.Common.{◌≡◌, ◌∙◌, ap, sym, get_or, option_map, Some, length, arith, ℕ, Option}
-use Rattle.qvt_meta.specs.Added.{numbered}
-use Rattle.qvt_meta.specs.MetaData.{MetaData}
-use Rattle.qvt_meta.specs.Checks.{same_feature, repeated_feature, Told}
-use Rattle.qvt_meta.specs.declared.declared.DeclaredClass.{DeclaredClass}
-use Rattle.qvt_meta.proofs.Passing.{from_next, from_found}
+use Rattle.qvt_metamodel.specs.Added.{numbered}
+use Rattle.qvt_metamodel.specs.declared.declared.MetaData.{MetaData}
+use Rattle.qvt_metamodel.specs.Checks.{same_feature, repeated_feature, Told}
+use Rattle.qvt_metamodel.specs.declared.declared.DeclaredClass.{DeclaredClass}
+use Rattle.qvt_meta_checks.proofs.Passing.{from_next, from_found}
 use Rattle.qvt_meta.proofs.same_feature.same_feature.Goals as goal
 
 abbrev told : MetaData → ℕ → DeclaredClass → Option Told

@@ -1,6 +1,6 @@
 use Rattle.std.proofs.Common.{◌≡◌, drop, option_map}
-use Rattle.qvt_meta.specs.Added.{numbered}
-use Rattle.qvt_meta.specs.Checks.{first_from, repeated_feature, Told}
+use Rattle.qvt_metamodel.specs.Added.{numbered}
+use Rattle.qvt_metamodel.specs.Checks.{first_from, repeated_feature, Told}
 use Rattle.qvt_meta.proofs.same_feature.same_feature.Given as goal
 
 abbrev pub invariant-loop-at : goal.invariant-loop-at

@@ -1,6 +1,6 @@
 use Rattle.std.proofs.Common.{◌≡◌, ◌∙◌, ◌<◌, ◌^◌, [], length, sym, ap, subst, rules, arith}
 use Rattle.serde_json.specs.View.{view}
-use Rattle.qvt_meta.specs.WellFormed.{IsWellFormed}
+use Rattle.qvt_metamodel.specs.WellFormed.{IsWellFormed}
 use Rattle.qvt_json.specs.Plain.{IsPlain, file_text}
 use Rattle.qvt_store.specs.Contents.{is_live, members_of}
 use Rattle.std.specs.List.{AllByRecursion}

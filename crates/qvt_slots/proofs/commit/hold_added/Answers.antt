@@ -1,7 +1,7 @@
 use Rattle.std.proofs.Common.{◌∙◌, sym, ap, subst, List}
 use Rattle.std.specs.Prelude.{Some}
 use Rattle.qvt_base.specs.declared.numbers.Oid.{Oid}
-use Rattle.qvt_meta.specs.declared.info.FeatureShape.{FeatureShape}
+use Rattle.qvt_metamodel.specs.declared.info.FeatureShape.{FeatureShape}
 use Rattle.qvt_slots.specs.Change.{among}
 use Rattle.qvt_slots.specs.Cells.{holder_in}
 use Rattle.qvt_slots.specs.Writes.{AreHeld}

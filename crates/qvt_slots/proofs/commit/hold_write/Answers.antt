@@ -1,7 +1,7 @@
 use Rattle.std.proofs.Common.{◌∙◌, sym, ap, subst, List}
 use Rattle.std.specs.Prelude.{Some}
 use Rattle.qvt_value.specs.declared.value.Value.{Value}
-use Rattle.qvt_meta.specs.declared.info.FeatureShape.{FeatureShape}
+use Rattle.qvt_metamodel.specs.declared.info.FeatureShape.{FeatureShape}
 use Rattle.qvt_slots.specs.Slots.{has}
 use Rattle.qvt_slots.specs.Cells.{holder_in}
 use Rattle.qvt_slots.specs.Writes.{AreHeld}

@@ -1,5 +1,5 @@
 use Rattle.std.proofs.Common.{◌≡◌, ◌∙◌, ◌<◌, true, sym, subst, List, ℕ, length, get_or}
-use Rattle.qvt_meta.specs.Metamodels.{is_containment}
+use Rattle.qvt_metamodel.specs.Metamodels.{is_containment}
 use Rattle.qvt_slots.specs.declared.commit.Write.{Write}
 use Rattle.qvt_slots.specs.Slots.{has}
 use Rattle.qvt_slots.specs.Change.{among}

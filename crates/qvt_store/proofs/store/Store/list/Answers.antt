@@ -2,7 +2,7 @@ use Rattle.std.proofs.Common.{◌≡◌, ◌<◌, ◌∙◌, sym, subst, length,
 use Rattle.std.specs.Prelude.{slice_index_or}
 use Rattle.qvt_base.specs.declared.numbers.FeatureNo.{FeatureNo}
 use Rattle.qvt_value.specs.declared.value.Value.{Value}
-use Rattle.qvt_meta.specs.Metamodels.{features_of, among_features}
+use Rattle.qvt_metamodel.specs.Metamodels.{features_of, among_features}
 use Rattle.qvt_slots.specs.Cells.{IsPlaceOf}
 use Rattle.qvt_slots.specs.Contents.{Contents, slot_of}
 use Rattle.qvt_slots.proofs.Cells.{cell-slots, slot-cell, empty_slot, dead_slot}

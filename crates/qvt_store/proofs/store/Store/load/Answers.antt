@@ -1,6 +1,6 @@
 use Rattle.std.proofs.Common.{◌∙◌, sym, ap, subst, ◌&&◌, not, List}
 use Rattle.qvt_value.specs.declared.value.Value.{Value}
-use Rattle.qvt_meta.specs.Metamodels.{shape_of}
+use Rattle.qvt_metamodel.specs.Metamodels.{shape_of}
 use Rattle.qvt_slots.specs.Contents.{Contents, with_slot}
 use Rattle.qvt_slots.specs.Repeats.{repeats}
 use Rattle.qvt_store.specs.Place.{IsPlaceable}

@@ -1,6 +1,0 @@
-use Rattle.std.proofs.Common.{◌≡◌, ◌+◌, drop}
-use Rattle.qvt_meta.specs.Added.{feature_count}
-use Rattle.qvt_meta.proofs.adding.feature_total.Given as goal
-
-abbrev pub invariant-loop-class : goal.invariant-loop-class
-invariant-loop-class l = l.total + feature_count (drop l.class-index l.classes) ≡ feature_count l.classes

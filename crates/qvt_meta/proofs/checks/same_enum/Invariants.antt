@@ -1,6 +1,0 @@
-use Rattle.std.proofs.Common.{◌≡◌, drop}
-use Rattle.qvt_meta.specs.Checks.{same_enum}
-use Rattle.qvt_meta.proofs.checks.same_enum.Given as goal
-
-abbrev pub invariant-loop-item : goal.invariant-loop-item
-invariant-loop-item l = same_enum l.taken.keys (drop l.item-index l.enums) ≡ same_enum l.initial.taken.keys l.enums

@@ -1,6 +1,0 @@
-use Rattle.std.proofs.Common.{◌≡◌, drop}
-use Rattle.qvt_meta.specs.Checks.{first_in, unknown_in}
-use Rattle.qvt_meta.proofs.checks.unknown_type.Given as goal
-
-abbrev pub invariant-loop-class : goal.invariant-loop-class
-invariant-loop-class l = first_in (unknown_in l.meta) (drop l.class-index l.meta.classes) ≡ first_in (unknown_in l.meta) l.meta.classes

@@ -1,9 +1,0 @@
-use Rattle.std.proofs.Common.{ℕ, subst}
-use Rattle.std.specs.Prelude.{IsTrue, ◌↔◌}
-use Rattle.qvt_meta.specs.Metamodels.{Metamodels}
-use Rattle.qvt_meta.specs.Descends.{descends, Descends}
-use Rattle.qvt_meta.proofs.Ancestors.{exact}
-use Rattle.qvt_meta.proofs.metas.Metas.ancestors_are_least.Goals as goal
-
-pub returns : goal.returns
-returns c = subst (λ (m : Metamodels). (sub sup : ℕ) → IsTrue (descends m sub sup) ↔ Descends m sub sup) c.self.view_is (exact _ _ c.self.invariant.ranked)

@@ -1,9 +1,0 @@
-use Rattle.std.proofs.Common.{◌≡◌, ◌++◌, None, drop, map}
-use Rattle.qvt_meta.specs.Names.{repeated}
-use Rattle.qvt_meta.proofs.names.names_with.Given as goal
-
-abbrev pub invariant-loop-item : goal.invariant-loop-item
-invariant-loop-item g l = record {
-  built : l.names.keys ++ map g.T.Named.name_of (drop l.item-index l.items) ≡ l.initial.names.keys ++ map g.T.Named.name_of l.items;
-  fresh : repeated l.names.keys (map g.T.Named.name_of (drop l.item-index l.items)) ≡ None;
-}

@@ -1,6 +1,0 @@
-use Rattle.std.proofs.Common.{◌≡◌, drop, map}
-use Rattle.qvt_meta.specs.Names.{repeated}
-use Rattle.qvt_meta.proofs.names.repeated.Given as goal
-
-abbrev pub invariant-loop-item : goal.invariant-loop-item
-invariant-loop-item g l = repeated l.taken.keys (map g.T.Named.name_of (drop l.item-index l.items)) ≡ repeated l.initial.taken.keys (map g.T.Named.name_of l.items)

@@ -1,7 +1,0 @@
-use Rattle.std.proofs.Common.{◌≡◌, ℕ, List, true, subst}
-use Rattle.std.specs.Str.{is_utf8}
-use Rattle.std.proofs.lemmas.Str.{is_utf8-from_IsUtf8}
-use Rattle.qvt_meta.proofs.texts.text_is_text.Goals as goal
-
-pub returns : goal.returns
-returns c = subst (λ (t : List ℕ). is_utf8 t ≡ true) c.as_str-text.ensures (is_utf8-from_IsUtf8 _ c.as_str-text.utf8)

@@ -1,0 +1,21 @@
+-- The numbered parts of a metamodel that is read.
+use Rattle.std.specs.Prelude.{◌≡◌, nat_le, Bool, [], ◌∷◌, length, IsTrue, None}
+use Rattle.std.specs.List.{list_all}
+use Rattle.qvt_metamodel.specs.declared.info.EnumInfo.{EnumInfo}
+use Rattle.qvt_meta.specs.declared.adding.Numbers.{Numbers}
+use Rattle.qvt_metamodel.specs.Metamodels.{Metamodels}
+use Rattle.qvt_metamodel.specs.declared.declared.MetaData.{MetaData}
+use Rattle.qvt_metamodel.specs.MetaData.{enum_names}
+use Rattle.qvt_metamodel.specs.Added.{first_begin, names_of, class_infos, feature_infos, HasRoom}
+
+-- the numbers of its literals fit 32 bits
+abbrev pub has_few_literals : EnumInfo → Bool
+has_few_literals e = nat_le (length e.literals) 4294967295
+
+-- the numbered parts of the metamodel, whose numbers fit 32 bits
+pub record AreNumbers (d : MetaData) (n : Numbers) : Type 0 where
+  pub metamodels : n.metamodels.items ≡ record { name = d.name; uri = d.uri; enums = d.enums } ∷ []
+  pub classes : n.classes.items ≡ class_infos first_begin (names_of d.classes) 0 d.classes
+  pub features : n.features.items ≡ feature_infos first_begin (enum_names d) d.classes 0 d.classes
+  pub room : HasRoom (record { metamodels = []; classes = []; features = []; element = None }) d
+  pub literals : IsTrue (list_all has_few_literals d.enums)

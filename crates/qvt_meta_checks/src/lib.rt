@@ -1,0 +1,7 @@
+//! The checks of a metamodel by its names.
+#![tactic(auto)]
+
+pub mod checks;
+pub mod names;
+pub mod opposites;
+pub mod texts;

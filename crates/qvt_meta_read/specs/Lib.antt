@@ -1,0 +1,3 @@
+pub mod MetaForm
+pub mod SmallMeta
+pub mod DataOf

@@ -1,0 +1,4 @@
+pub mod Filling
+pub mod Marks
+pub mod Orders
+pub mod Visits

@@ -1,0 +1,11 @@
+use Rattle.std.proofs.Common.{◌≡◌, ◌<◌, ℕ, [], length, slice_index_or}
+use Rattle.std.specs.Prelude.{slice_index}
+use Rattle.qvt_metamodel.specs.Metamodels.{features_of}
+use Rattle.qvt_meta_tables.specs.Tables.{of_classes}
+use Rattle.qvt_meta_tables.proofs.tables.lists_of.Given as goal
+
+abbrev pub invariant-loop-class : goal.invariant-loop-class
+invariant-loop-class l = record {
+  each : length l.lists.items ≡ length l.classes;
+  done : (c : ℕ) → c < length l.classes → slice_index l.order.ranks c < l.class-index → slice_index_or l.lists.items c [] ≡ features_of (of_classes l.classes) c;
+}

@@ -1,0 +1,46 @@
+-- The tables of a list of classes, and an order in which they are made.
+use Rattle.std.specs.Prelude.{◌≡◌, ℕ, ◌<◌, ◌≤◌, Bool, ◌&&◌, ◌==◌, nat_lt, ◌+◌, true, List, [], ◌∷◌, length, slice_index, slice_index_or, None, IsTrue}
+use Rattle.std.specs.List.{list_all}
+use Rattle.qvt_base.specs.declared.numbers.ClassNo.{ClassNo}
+use Rattle.qvt_base.specs.declared.numbers.FeatureNo.{FeatureNo}
+use Rattle.qvt_metamodel.specs.declared.row.Row.{Row}
+use Rattle.qvt_metamodel.specs.declared.info.ClassInfo.{ClassInfo}
+use Rattle.qvt_metamodel.specs.Metamodels.{Metamodels, class_at, features_of}
+use Rattle.qvt_metamodel.specs.Descends.{reaches}
+use Rattle.qvt_metamodel.specs.Kept.{AreRanks, no_row, is_marked}
+
+-- the superclasses have lower ranks
+abbrev pub are_lower : List ℕ → ℕ → List ClassNo → Bool
+are_lower ranks rank supers = list_all (λ s. nat_lt s.0 (length ranks) && nat_lt (slice_index ranks s.0) rank) supers
+
+-- the class stands in the order at the place that is its rank, and its superclasses have lower ranks
+abbrev pub is_placed : List ℕ → List ℕ → ℕ → List ClassNo → Bool
+is_placed order ranks c supers = nat_lt (slice_index ranks c) (length order) && ((slice_index order (slice_index ranks c) == c) && are_lower ranks (slice_index ranks c) supers)
+
+-- so do the classes that are left, of which the first has this number
+abbrev pub are_placed : List ℕ → List ℕ → ℕ → List ClassInfo → Bool
+are_placed order ranks c [] = true
+are_placed order ranks c (k ∷ left) = is_placed order ranks c k.supers && are_placed order ranks (c + 1) left
+
+-- these classes and nothing else
+abbrev pub of_classes : List ClassInfo → Metamodels
+of_classes ks = record { metamodels = []; classes = ks; features = []; element = None }
+
+pub record IsOrder (m : Metamodels) (order ranks : List ℕ) : Type 0 where
+  pub ranked : AreRanks m ranks
+  pub placed : (c : ℕ) → c < length m.classes → slice_index order (slice_index ranks c) ≡ c
+  pub all : length order ≡ length m.classes
+  pub live : (c : ℕ) → IsTrue (list_all (λ s. nat_lt s.0 (length m.classes)) (class_at m c).supers)
+
+-- the marks of a row are those of classes below this one
+abbrev pub IsWithin : ℕ → Row → Type 0
+IsWithin n r = r.first + length r.above ≤ n
+
+-- the features of each class, and which classes are above it
+pub record AreTables (m : Metamodels) (lists : List (List FeatureNo)) (rows : List Row) (ranks : List ℕ) : Type 0 where
+  pub ranked : AreRanks m ranks
+  pub each : length lists ≡ length m.classes
+  pub each_row : length rows ≡ length m.classes
+  pub first_rows : (c : ℕ) → (slice_index_or rows c no_row).first ≤ length m.classes
+  pub features : (c : ℕ) → slice_index_or lists c [] ≡ features_of m c
+  pub ancestors : (c d : ℕ) → is_marked (slice_index_or rows c no_row) d ≡ reaches m c d

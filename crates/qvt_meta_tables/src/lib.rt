@@ -1,0 +1,7 @@
+//! The tables of numbered classes: the features of each, and what is above it.
+#![tactic(auto)]
+
+pub mod cycle;
+pub mod order;
+pub mod rows;
+pub mod tables;

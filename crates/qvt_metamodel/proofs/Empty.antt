@@ -1,0 +1,69 @@
+-- Without metamodels everything is kept.
+use Rattle.std.proofs.Common.{◌≡◌, ℕ, [], None, true, false, refl, arith, lit<, sym, leb, ◌∙◌}
+use Rattle.std.specs.Str.{is_utf8}
+use Rattle.std.proofs.lemmas.Str.{is_utf8-from_IsUtf8, IsUtf8-nil}
+use Rattle.qvt_metamodel.specs.Metamodels.{Metamodels, features_of}
+use Rattle.qvt_metamodel.specs.Descends.{reaches}
+use Rattle.qvt_metamodel.specs.WellFormed.{IsWellFormed}
+use Rattle.qvt_metamodel.specs.Kept.{IsKept}
+use Rattle.qvt_metamodel.proofs.Bools.{and_no}
+
+abbrev pub no_metamodels : Metamodels
+no_metamodels = record { metamodels = []; classes = []; features = []; element = None }
+
+no_features : (c : ℕ) → features_of no_metamodels c ≡ []
+unfolding features_of
+no_features c = refl
+
+no_ancestor : (c d : ℕ) → reaches no_metamodels c d ≡ false
+unfolding reaches
+no_ancestor c d = refl
+
+no_text : is_utf8 [] ≡ true
+no_text = is_utf8-from_IsUtf8 [] IsUtf8-nil
+
+pub well_formed : IsWellFormed no_metamodels
+unfolding features_of
+well_formed = record {
+  few_metamodels = lit< tt;
+  few_classes = lit< tt;
+  few_features = lit< tt;
+  few_enumerations = λ k. lit< tt;
+  few_literals = λ k e. lit< tt;
+  live_metamodel = λ c h. absurd (omega arith);
+  live_superclass = λ c d h. absurd (cc);
+  live_owner = λ f h. absurd (omega arith);
+  live_feature = λ c f h. absurd (cc);
+  live_class = λ c f h. absurd (cc);
+  live_opposite = λ p q h. absurd (cc);
+  live_type = λ f h. absurd (omega arith);
+  mutual_opposites = λ p q h. absurd (cc);
+  other_feature = λ p. refl;
+  one_containment = λ p q h i. absurd (cc);
+  one_container = λ p q h i. absurd (cc);
+  unique_opposites = λ p q h. absurd (cc);
+  opposite_has_type = λ p q c h i. absurd (cc);
+  type_has_opposite = λ p q c h i. absurd (cc);
+  unnamed_alone = λ p q c h i. absurd (cc);
+  distinct_features = λ c i j h k. absurd (omega arith);
+  text_metamodel = λ k. no_text;
+  text_class = λ c. no_text;
+  text_feature = λ f. no_text;
+  text_enumeration = λ k e. no_text;
+  text_literal = λ k e l. no_text;
+  class_found = λ c h. absurd (omega arith);
+  feature_found = λ c f h. absurd (cc);
+  enumeration_found = λ k e h. absurd (omega arith);
+  literal_found = λ k e l h. absurd (omega arith);
+}
+
+pub kept : IsKept no_metamodels [] [] []
+kept = record {
+  well_formed = well_formed;
+  ranked = record { each = refl; bounded = λ c h. absurd (omega arith); rise = λ c. tt };
+  each = refl;
+  each_row = refl;
+  first_rows = λ c. omega arith;
+  features = λ c. sym (no_features c);
+  ancestors = λ c d. and_no (leb 0 d) false refl ∙ sym (no_ancestor c d);
+}

@@ -1,0 +1,41 @@
+-- Which classes are above a class (EMOF 12.4.1, Class::superClass): the least set that has its superclasses and what is
+-- above these. The class Element, where there is one, is above every class.
+use Rattle.std.specs.Prelude.{◌≡◌, ℕ, Bool, false, ◌==◌, ◌||◌, ◌⊎◌, length, IsTrue, zero, suc}
+use Rattle.std.specs.List.{list_any}
+use Rattle.qvt_metamodel.specs.declared.info.TypeKind.{TypeKind}
+use Rattle.qvt_metamodel.specs.declared.info.TypeKind.TheVariants.{Bool as BoolKind, Int, Str, Enum, Class}
+use Rattle.qvt_metamodel.specs.Metamodels.{Metamodels, class_at, is_element}
+
+-- sup is a superclass of sub
+abbrev pub is_superclass : Metamodels → ℕ → ℕ → Bool
+is_superclass m sub sup = list_any (λ s. s.0 == sup) (class_at m sub).supers
+
+-- sup is above sub
+pub data IsAncestor (m : Metamodels) (sup : ℕ) : ℕ → Type 0 where
+  superclass : (sub : ℕ) → IsTrue (is_superclass m sub sup) → IsAncestor m sup sub
+  above : (sub c : ℕ) → IsTrue (is_superclass m sub c) → IsAncestor m sup c → IsAncestor m sup sub
+  element : (sub : ℕ) → IsTrue (is_element m sup) → IsAncestor m sup sub
+
+-- the same as a word that computes: sup is above sub in at most n steps
+abbrev pub is_above : ℕ → Metamodels → ℕ → ℕ → Bool
+is_above zero m sup sub = false
+is_above (suc n) m sup sub = list_any (λ s. (s.0 == sup) || is_above n m sup s.0) (class_at m sub).supers
+
+unfoldable pub reaches : Metamodels → ℕ → ℕ → Bool
+reaches m sub sup = is_above (length m.classes) m sup sub
+
+-- sub is sup, or sup is above it
+abbrev pub descends : Metamodels → ℕ → ℕ → Bool
+descends m sub sup = (sub == sup) || is_element m sup || reaches m sub sup
+
+-- an object of class c conforms to the type
+abbrev pub is_class_kind : Metamodels → ℕ → TypeKind → Bool
+is_class_kind m c BoolKind = false
+is_class_kind m c Int = false
+is_class_kind m c Str = false
+is_class_kind m c (Enum k e) = false
+is_class_kind m c (Class d) = descends m c d.0
+
+-- sub is sup, or sup is among the classes above it
+abbrev pub Descends : Metamodels → ℕ → ℕ → Type 0
+Descends m sub sup = (sub ≡ sup) ⊎ IsAncestor m sup sub

@@ -1,0 +1,12 @@
+pub mod Metamodels
+pub mod Descends
+pub mod Named
+pub mod WellFormed
+pub mod Kept
+pub mod MetaData
+pub mod Names
+pub mod Joined
+pub mod Added
+pub mod Checks
+pub mod Checked
+pub mod Numbered

@@ -1,0 +1,11 @@
+//! Metamodels as data, and what every layer above says of them.
+#![tactic(auto)]
+
+pub mod begin;
+pub mod copied;
+pub mod declared;
+pub mod fault;
+pub mod info;
+pub mod room;
+pub mod row;
+pub mod tables;

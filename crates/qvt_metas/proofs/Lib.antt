@@ -1,0 +1,6 @@
+pub mod Joins
+pub mod JoinsKept
+pub mod JoinsTables
+pub mod Fits
+pub mod Withs
+pub mod Rooms

@@ -1,0 +1,6 @@
+//! Numbered metamodels, and the look-ups in them.
+#![tactic(auto)]
+
+mod joining;
+pub mod meta;
+pub mod metas;

@@ -1,0 +1,496 @@
+ghost use Rattle.std.specs.Prelude.{◌≡◌, ◌≢◌, ◌↔◌, ℕ, ◌^◌, [], true, false, length, None, IfOk, IfErr, IsTrue, OnOk, OnErr, IfSome, option_map, position, ◌==◌, ◌&&◌, ◌||◌, ◌<◌};
+ghost use Rattle.std.specs.Str.{bytes_eq};
+ghost use Rattle.std.specs.List.{list_any};
+ghost use Rattle.qvt_metamodel.specs.Metamodels.{class_at, feature_at, shape_of, opposite, features_of};
+ghost use Rattle.qvt_metamodel.specs.Descends.{descends, Descends};
+ghost use Rattle.qvt_metamodel.specs.WellFormed.{IsWellFormed};
+ghost use Rattle.qvt_metamodel.specs.Named.{is_text};
+
+use crate::joining::{class_infos_on, feature_infos_on, lists_on, ranks_on, rows_on};
+use crate::meta::Meta;
+use qvt_base::copied::Copied;
+use qvt_base::list_fault::ListFault;
+use qvt_base::lists::FeatureNoList;
+use qvt_base::numbers::{ClassNo, FeatureNo};
+use qvt_base::text::Text;
+use qvt_metamodel::begin::Begin;
+use qvt_metamodel::copied::{copies, joined};
+use qvt_metamodel::fault::MetasFault;
+use qvt_metamodel::info::{
+    ClassInfo, EnumInfo, FeatureInfo, FeatureShape, MetamodelInfo, TypeKind,
+};
+use qvt_metamodel::row::{Row, is_marked};
+use qvt_metamodel::tables::Tables;
+use std::alloc::Global;
+use std::marker::Model;
+
+/// Metamodels with numbers: metamodels, classes and features are numbered from 0 in the order of
+/// adding and then of the document. Every look-up by a number is total: past the end it answers
+/// what a class or feature without anything would have.
+#[derive(Debug, Drop)]
+pub struct Metas {
+    metamodels: Vec<MetamodelInfo>,
+    classes: Vec<ClassInfo>,
+    features: Vec<FeatureInfo>,
+    element: Option<ClassNo>,
+    lists: Vec<FeatureNoList>,
+    rows: Vec<Row>,
+    ranks: Vec<u32>,
+}
+
+impl Model for Metas {
+    ghost use Rattle.qvt_metamodel.specs.Metamodels.{Metamodels};
+    ghost use Rattle.qvt_metamodel.specs.Kept.{IsKept};
+
+    ghost Value = { Metamodels };
+
+    ghost view = { λ m. record { metamodels = m.metamodels.items; classes = m.classes.items; features = m.features.items; element = m.element } };
+
+    ghost invariant = { λ m. IsKept (record { metamodels = m.metamodels.items; classes = m.classes.items; features = m.features.items; element = m.element }) m.lists.items m.rows.items m.ranks.items };
+}
+
+impl Metas {
+    ghost use Rattle.qvt_metamodel.specs.Metamodels.{Metamodels};
+
+    /// No metamodels. It takes no memory.
+    pub fn new(alloc: Global) -> Metas
+        ensures { result ≡ record { metamodels = []; classes = []; features = []; element = None } }
+    {
+        Metas {
+            metamodels: Vec::new(alloc),
+            classes: Vec::new(alloc),
+            features: Vec::new(alloc),
+            element: None,
+            lists: Vec::new(alloc),
+            rows: Vec::new(alloc),
+            ranks: Vec::new(alloc),
+        }
+    }
+
+    /// The metamodels of these parts. It takes no memory.
+    pub fn from_parts(
+        metamodels: Vec<MetamodelInfo>,
+        classes: Vec<ClassInfo>,
+        features: Vec<FeatureInfo>,
+        tables: Tables,
+    ) -> Metas
+        requires { IsKept (record { metamodels = metamodels.items; classes = classes.items; features = features.items; element = None }) tables.lists.items tables.rows.items tables.ranks.items }
+        ensures { result ≡ record { metamodels = metamodels.items; classes = classes.items; features = features.items; element = None } }
+    {
+        let Tables { lists, rows, ranks } = tables;
+        Metas {
+            metamodels,
+            classes,
+            features,
+            element: None,
+            lists,
+            rows,
+            ranks,
+        }
+    }
+
+    ghost use Rattle.qvt_metamodel.specs.Kept.{IsKept};
+
+    /// Adds a metamodel: its numbers go on from those that are there, which stay. It is refused
+    /// where a metamodel of its name is there. A refused call changes nothing.
+    pub fn add(&mut self, meta: Meta) -> Result<(), MetasFault>
+        requires element { self.old.element ≡ None }
+        requires room { HasRoom self.old meta }
+        ensures ok { OnOk result (self.new ≡ added self.old meta) }
+        ensures fresh { OnOk result (has_metamodel self.old meta.name ≡ false) }
+        ensures element { OnOk result (self.new.element ≡ None) }
+        ensures same { IfErr result (λ fault. fault ≢ MetasFault.NoMemory → (has_metamodel self.old meta.name ≡ true) × (fault ≡ MetasFault.SameMetamodel meta.name)) }
+        ensures err { OnErr result (self.new ≡ self.old) }
+    {
+        let next = self.with_meta(&meta)?;
+        *self = next;
+        Ok(())
+    }
+
+    /// Whether the numbers still fit 32 bits when this metamodel is added.
+    pub fn has_room(&self, meta: &Meta) -> bool
+        ensures { IsTrue result → HasRoom self.now meta.now }
+    {
+        let others = meta.alone();
+        let _enums = others.enumerations(0);
+        let metamodels = self.metamodels.len() + others.metamodels.len();
+        let classes = self.classes.len() + others.classes.len();
+        let features = self.features.len() + others.features.len();
+        if metamodels > u32::MAX as usize {
+            return false;
+        }
+        if classes > u32::MAX as usize {
+            return false;
+        }
+        features <= u32::MAX as usize
+    }
+
+    /// These metamodels with one more.
+    fn with_meta(&self, meta: &Meta) -> Result<Metas, MetasFault>
+        requires element { self.now.element ≡ None }
+        requires room { HasRoom self.now meta.now }
+        ensures ok { IfOk result (λ next. next ≡ added self.now meta.now) }
+        ensures fresh { OnOk result (has_metamodel self.now meta.now.name ≡ false) }
+        ensures element { IfOk result (λ next. next.element ≡ None) }
+        ensures same { IfErr result (λ fault. fault ≢ MetasFault.NoMemory → (has_metamodel self.now meta.now.name ≡ true) × (fault ≡ MetasFault.SameMetamodel meta.now.name)) }
+    {
+        let alloc = *self.classes.allocator();
+        if self.has_metamodel(meta.name()) {
+            return Err(MetasFault::SameMetamodel(meta.name().copy(alloc)?));
+        }
+        Ok(self.with(meta.alone())?)
+    }
+
+    ghost use Rattle.qvt_metamodel.specs.Added.{added, HasRoom};
+    ghost use Rattle.qvt_metamodel.specs.Named.{has_metamodel};
+
+    /// Whether a metamodel of this name is there.
+    fn has_metamodel(&self, name: &Text) -> bool
+        ensures { result ≡ has_metamodel self.now name.now }
+    {
+        are_named(self.metamodels.as_slice(), name)
+    }
+
+    /// These metamodels, and then the others, whose numbers go on.
+    fn with(&self, others: &Metas) -> Result<Metas, ListFault>
+        requires element { self.now.element ≡ None }
+        requires others_element { others.now.element ≡ None }
+        requires room { FitTogether self.now others.now }
+        ensures { IfOk result (λ next. next ≡ joined self.now others.now) }
+    {
+        let alloc = *self.classes.allocator();
+        let begin = Begin {
+            metamodel: self.metamodels.len() as u32,
+            class: self.classes.len() as u32,
+            feature: self.features.len() as u32,
+        };
+        let metamodels = copies(alloc, others.metamodels.as_slice())?;
+        let classes = class_infos_on(alloc, begin, others.classes.as_slice())?;
+        let features = feature_infos_on(alloc, begin, others.features.as_slice())?;
+        let lists = lists_on(alloc, begin, others.lists.as_slice())?;
+        let rows = rows_on(alloc, begin, others.rows.as_slice())?;
+        let ranks = ranks_on(alloc, begin, others.ranks.as_slice())?;
+        Ok(Metas {
+            metamodels: joined(alloc, self.metamodels.as_slice(), metamodels)?,
+            classes: joined(alloc, self.classes.as_slice(), classes)?,
+            features: joined(alloc, self.features.as_slice(), features)?,
+            element: None,
+            lists: joined(alloc, self.lists.as_slice(), lists)?,
+            rows: joined(alloc, self.rows.as_slice(), rows)?,
+            ranks: joined(alloc, self.ranks.as_slice(), ranks)?,
+        })
+    }
+
+    ghost use Rattle.qvt_metamodel.specs.Joined.{joined, FitTogether};
+
+    pub fn metamodel_count(&self) -> u32
+        ensures { result ≡ length self.now.metamodels }
+    {
+        self.metamodels.len() as u32
+    }
+
+    pub fn class_count(&self) -> u32
+        ensures count { result ≡ length self.now.classes }
+        ensures well_formed { IsWellFormed self.now }
+    {
+        self.classes.len() as u32
+    }
+
+    ghost use Rattle.qvt_metamodel.specs.Named.{metamodel_named, class_named, feature_named};
+
+    /// The first metamodel whose name or uri this is.
+    pub fn metamodel(&self, name: &str) -> Option<u32>
+        ensures { result ≡ metamodel_named self.now name.now }
+    {
+        match find_metamodel(self.metamodels.as_slice(), name) {
+            Some(place) => Some(place as u32),
+            None => None,
+        }
+    }
+
+    pub fn metamodel_name(&self, metamodel: u32) -> &str
+        ensures { result.now ≡ (metamodel_at self.now metamodel).name }
+    {
+        let at = metamodel as usize;
+        if at < self.metamodels.len() {
+            self.metamodels[at].name.as_str()
+        } else {
+            ""
+        }
+    }
+
+    ghost use Rattle.qvt_metamodel.specs.Named.{metamodel_at, enumeration_at, literal_at, enumeration_named, literal_named};
+
+    /// The enumerations of a metamodel, in order.
+    pub fn enumerations(&self, metamodel: u32) -> &[EnumInfo]
+        ensures enumerations { result.now ≡ (metamodel_at self.now metamodel).enums }
+        ensures few { length result.now < 2 ^ 32 }
+    {
+        let at = metamodel as usize;
+        if at < self.metamodels.len() {
+            self.metamodels[at].enums.as_slice()
+        } else {
+            &[]
+        }
+    }
+
+    /// The literals of an enumeration, in order.
+    pub fn literals(&self, metamodel: u32, enumeration: u32) -> &[Text]
+        ensures literals { result.now ≡ (enumeration_at self.now metamodel enumeration).literals }
+        ensures few { length result.now < 2 ^ 32 }
+    {
+        let at = metamodel as usize;
+        let place = enumeration as usize;
+        if at < self.metamodels.len() && place < self.metamodels[at].enums.len() {
+            self.metamodels[at].enums.as_slice()[place]
+                .literals
+                .as_slice()
+        } else {
+            &[]
+        }
+    }
+
+    /// The enumeration of this name in a metamodel.
+    pub fn enumeration(&self, metamodel: u32, name: &str) -> Option<u32>
+        ensures { result ≡ enumeration_named self.now metamodel name.now }
+    {
+        match find_enumeration(self.enumerations(metamodel), name) {
+            Some(place) => Some(place as u32),
+            None => None,
+        }
+    }
+
+    /// The literal of this name in an enumeration.
+    pub fn literal(&self, metamodel: u32, enumeration: u32, name: &str) -> Option<u32>
+        ensures { result ≡ literal_named self.now metamodel enumeration name.now }
+    {
+        match find_text(self.literals(metamodel, enumeration), name) {
+            Some(place) => Some(place as u32),
+            None => None,
+        }
+    }
+
+    pub fn enumeration_name(&self, metamodel: u32, enumeration: u32) -> &str
+        ensures { result.now ≡ (enumeration_at self.now metamodel enumeration).name }
+    {
+        let enums = self.enumerations(metamodel);
+        let place = enumeration as usize;
+        if place < enums.len() {
+            enums[place].name.as_str()
+        } else {
+            ""
+        }
+    }
+
+    pub fn literal_name(&self, metamodel: u32, enumeration: u32, literal: u32) -> &str
+        ensures { result.now ≡ literal_at self.now metamodel enumeration literal }
+    {
+        let literals = self.literals(metamodel, enumeration);
+        let place = literal as usize;
+        if place < literals.len() {
+            literals[place].as_str()
+        } else {
+            ""
+        }
+    }
+
+    /// The class of this name in a metamodel.
+    pub fn class(&self, metamodel: u32, name: &str) -> Option<ClassNo>
+        ensures { option_map (λ c. c.0) result ≡ class_named self.now metamodel name.now }
+    {
+        match find_class(self.classes.as_slice(), metamodel, name) {
+            Some(place) => Some(ClassNo(place as u32)),
+            None => None,
+        }
+    }
+
+    /// The feature of this name that objects of the class have.
+    pub fn feature(&self, class: ClassNo, name: &str) -> Option<FeatureNo>
+        ensures { result ≡ feature_named self.now class.0 name.now }
+    {
+        for feature in self.features(class) {
+            if name == self.feature_name(*feature) {
+                return Some(*feature);
+            }
+        }
+        None
+    }
+
+    pub fn metamodel_of(&self, class: ClassNo) -> u32
+        ensures { result ≡ (class_at self.now class.0).metamodel }
+    {
+        let at = class.0 as usize;
+        if at < self.classes.len() {
+            self.classes[at].metamodel
+        } else {
+            0
+        }
+    }
+
+    pub fn is_abstract(&self, class: ClassNo) -> bool
+        ensures { result ≡ (class_at self.now class.0).is_abstract }
+    {
+        let at = class.0 as usize;
+        at < self.classes.len() && self.classes[at].is_abstract
+    }
+
+    pub fn class_name(&self, class: ClassNo) -> &str
+        ensures { result.now ≡ (class_at self.now class.0).name }
+    {
+        let at = class.0 as usize;
+        if at < self.classes.len() {
+            self.classes[at].name.as_str()
+        } else {
+            ""
+        }
+    }
+
+    /// The features of the class: those of its superclasses in order, each once, then its own.
+    pub fn features(&self, class: ClassNo) -> &[FeatureNo]
+        ensures { result.now ≡ features_of self.now class.0 }
+    {
+        let at = class.0 as usize;
+        if at < self.lists.len() {
+            self.lists[at].as_slice()
+        } else {
+            &[]
+        }
+    }
+
+    /// Whether the first class is the second, or the second is above it.
+    pub fn descends(&self, sub: ClassNo, sup: ClassNo) -> bool
+        ensures { result ≡ descends self.now sub.0 sup.0 }
+    {
+        sub.0 == sup.0 || self.is_element(sup) || self.reaches(sub, sup)
+    }
+
+    /// A law: the classes above a class are the least set that has its superclasses and what is
+    /// above these.
+    pub fn ancestors_are_least(&self)
+        ensures { (sub sup : ℕ) → IsTrue (descends self.now sub sup) ↔ Descends self.now sub sup }
+    {
+        let _ = &self.classes;
+    }
+
+    ghost use Rattle.qvt_metamodel.specs.Metamodels.{is_element};
+
+    fn is_element(&self, class: ClassNo) -> bool
+        ensures { result ≡ is_element self.now class.0 }
+    {
+        match self.element {
+            None => false,
+            Some(element) => element.0 == class.0,
+        }
+    }
+
+    ghost use Rattle.qvt_metamodel.specs.Descends.{reaches};
+
+    fn reaches(&self, sub: ClassNo, sup: ClassNo) -> bool
+        ensures { result ≡ reaches self.now sub.0 sup.0 }
+    {
+        let at = sub.0 as usize;
+        at < self.rows.len() && is_marked(&self.rows[at], sup.0)
+    }
+
+    pub fn shape(&self, feature: FeatureNo) -> FeatureShape
+        ensures { result ≡ shape_of self.now feature.0 }
+    {
+        let at = feature.0 as usize;
+        if at < self.features.len() {
+            self.features[at].shape
+        } else {
+            FeatureShape {
+                kind: TypeKind::Int,
+                lower: 0,
+                upper: None,
+                ordered: false,
+                unique: false,
+                containment: false,
+            }
+        }
+    }
+
+    pub fn opposite(&self, feature: FeatureNo) -> Option<FeatureNo>
+        ensures { result ≡ opposite self.now feature.0 }
+    {
+        let at = feature.0 as usize;
+        if at < self.features.len() {
+            self.features[at].opposite
+        } else {
+            None
+        }
+    }
+
+    pub fn feature_name(&self, feature: FeatureNo) -> &str
+        ensures { result.now ≡ (feature_at self.now feature.0).name }
+    {
+        let at = feature.0 as usize;
+        if at < self.features.len() {
+            self.features[at].name.as_str()
+        } else {
+            ""
+        }
+    }
+}
+
+/// Whether one of the metamodels has this name.
+fn are_named(metamodels: &[MetamodelInfo], name: &Text) -> bool
+    ensures { result ≡ list_any (λ m. bytes_eq name.now m.name) metamodels.now }
+{
+    metamodels.iter().any(|m| name.as_str() == m.name.as_str())
+}
+
+impl Copied for Metas {
+    fn copy(&self, alloc: Global) -> Result<Metas, ListFault> {
+        Ok(Metas {
+            metamodels: copies(alloc, self.metamodels.as_slice())?,
+            classes: copies(alloc, self.classes.as_slice())?,
+            features: copies(alloc, self.features.as_slice())?,
+            element: self.element,
+            lists: copies(alloc, self.lists.as_slice())?,
+            rows: copies(alloc, self.rows.as_slice())?,
+            ranks: copies(alloc, self.ranks.as_slice())?,
+        })
+    }
+}
+
+fn is_text(text: &Option<Text>, name: &str) -> bool
+    ensures { result ≡ is_text text.now name.now }
+{
+    match text {
+        None => false,
+        Some(text) => name == text.as_str(),
+    }
+}
+
+fn find_metamodel(metamodels: &[MetamodelInfo], name: &str) -> Option<usize>
+    ensures value { result ≡ position (λ m. bytes_eq name.now m.name || is_text m.uri name.now) metamodels.now }
+    ensures bound { IfSome result (λ i. i < length metamodels.now) }
+{
+    metamodels
+        .iter()
+        .position(|m| name == m.name.as_str() || is_text(&m.uri, name))
+}
+
+fn find_class(classes: &[ClassInfo], metamodel: u32, name: &str) -> Option<usize>
+    ensures value { result ≡ position (λ c. (c.metamodel == metamodel) && bytes_eq name.now c.name) classes.now }
+    ensures bound { IfSome result (λ i. i < length classes.now) }
+{
+    classes
+        .iter()
+        .position(|c| c.metamodel == metamodel && name == c.name.as_str())
+}
+
+fn find_enumeration(enums: &[EnumInfo], name: &str) -> Option<usize>
+    ensures value { result ≡ position (λ e. bytes_eq name.now e.name) enums.now }
+    ensures bound { IfSome result (λ i. i < length enums.now) }
+{
+    enums.iter().position(|e| name == e.name.as_str())
+}
+
+fn find_text(texts: &[Text], name: &str) -> Option<usize>
+    ensures value { result ≡ position (bytes_eq name.now) texts.now }
+    ensures bound { IfSome result (λ i. i < length texts.now) }
+{
+    texts.iter().position(|text| name == text.as_str())
+}
