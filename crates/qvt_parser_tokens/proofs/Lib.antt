@@ -1,0 +1,4 @@
+pub mod Depths
+pub mod Contents
+pub mod Numerals
+pub mod Lexings

@@ -1,0 +1,7 @@
+pub mod Depth
+pub mod Tables
+pub mod WordClasses
+pub mod SymbolClasses
+pub mod Said
+pub mod Text
+pub mod Owned

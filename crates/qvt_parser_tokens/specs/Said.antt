@@ -1,0 +1,54 @@
+-- What a token of the text says to the grammar: of a name the name without quotes, of a string its characters, of an integer
+-- its number.
+use Rattle.std.specs.Prelude.{ℕ, zero, suc, ◌-◌, ℤ, pos, Bool, ◌&&◌, ◌==◌, nat_le, List, [], ◌∷◌, length, Some, None, slice_index, slice_range, if◌then◌else◌}
+use Rattle.std.specs.Str.{chars, encode_utf8_all}
+use Rattle.qvt_lexer.specs.Literals.{number_of, item_at}
+use Rattle.qvt_lexer.specs.Division.{TokenData}
+use Rattle.qvt_lexer.specs.declared.token.TokenKind.{TokenKind}
+use Rattle.qvt_lexer.specs.declared.token.TokenKind.TheVariants.{Name, Integer, Str, Word, Symbol}
+use Rattle.qvt_parser_grammar.specs.Tokens.{Tok}
+use Rattle.qvt_parser_grammar.specs.declared.token.Class as class
+use Rattle.qvt_parser_grammar.specs.declared.token.Class.TheVariants as classes
+use Rattle.qvt_parser_tokens.specs.WordClasses.{word_class}
+use Rattle.qvt_parser_tokens.specs.SymbolClasses.{symbol_class}
+
+-- whether a name stands in `_'..'`
+abbrev pub is_quoted : List ℕ → Bool
+is_quoted text = nat_le 3 (length text) && (slice_index text 0 == 95) && (slice_index text 1 == 39) && (slice_index text (length text - 1) == 39)
+
+-- the name between `_'` and `'`, or as it is written
+abbrev pub name_of : List ℕ → List ℕ
+name_of text = if is_quoted text then slice_range text 2 (length text - 1) else text
+
+-- the characters that n items at most stand for, one item after the other
+abbrev pub items : ℕ → ℕ → List ℕ → List ℕ
+items zero q cs = []
+items (suc n) q cs = elim (item_at q cs) [ None ↦ [] | Some x ↦ x.0 ∷ items n q x.1 ]
+
+-- the characters that all items stand for, as far as there are any
+abbrev pub content : ℕ → List ℕ → List ℕ
+content q cs = items (length cs) q cs
+
+-- the characters of a string, by what is written: its first character is the quote
+abbrev pub string_of : List ℕ → List ℕ
+string_of [] = []
+string_of (q ∷ cs) = content q cs
+
+abbrev pub text_of : TokenKind → List ℕ → List ℕ
+text_of Name text = name_of text
+text_of Str text = encode_utf8_all (string_of (chars text))
+text_of _ text = []
+
+abbrev pub number_in : TokenKind → List ℕ → ℤ
+number_in Integer text = pos (number_of (chars text))
+number_in _ text = pos 0
+
+abbrev pub class_of : TokenKind → List ℕ → class.Class
+class_of Integer text = classes.Integer
+class_of Str text = classes.Str
+class_of Word text = word_class text
+class_of Symbol text = symbol_class text
+class_of _ text = classes.Name
+
+abbrev pub said : TokenData → Tok
+said d = record { class = class_of d.kind d.text; text = text_of d.kind d.text; number = number_in d.kind d.text; place = d.place }
