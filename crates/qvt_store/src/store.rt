@@ -21,7 +21,7 @@ use qvt_base::numbers::{ClassNo, FeatureNo, Oid};
 use qvt_base::seq::Seq;
 use qvt_meta::metas::Metas;
 use qvt_slots::add::{add_cell, empty_slots};
-use qvt_slots::cell::{Cell, Holder};
+use qvt_slots::cell::{Cell, Holder, Marks};
 use qvt_slots::extent::{Extent, ExtentList};
 use qvt_slots::fault::StoreFault;
 use qvt_slots::put::{find_place, place_of};
@@ -37,7 +37,7 @@ pub struct Store {
     extents: ExtentList,
     cells: Vec<Cell>,
     members: Vec<OidList>,
-    distinct: bool,
+    marks: Marks,
 }
 
 impl Model for Store {
@@ -53,7 +53,7 @@ impl Model for Store {
 
     ghost view = { λ s. contents_of s.metas s.extents s.cells.items };
 
-    ghost invariant = { λ s. IsKept s.metas s.extents s.cells.items s.members.items s.distinct };
+    ghost invariant = { λ s. IsKept s.metas s.extents s.cells.items s.members.items s.marks };
 }
 
 impl Store {
@@ -72,7 +72,10 @@ impl Store {
             extents,
             cells: Vec::new(alloc),
             members,
-            distinct: true,
+            marks: Marks {
+                distinct: true,
+                own: true,
+            },
         })
     }
 

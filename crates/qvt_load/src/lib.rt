@@ -1,0 +1,4 @@
+//! Models loaded into stores.
+#![tactic(auto)]
+
+pub mod laws;
