@@ -70,7 +70,7 @@ module _ (s : Contents) (e k : ℕ) (os : List ObjectData) (model : IsModel s.me
   abbrev n : ℕ
   n = length s.objects
 
-  pub abbrev final : List Instance
+  abbrev pub final : List Instance
   final = s.objects ++ map (instance_at m e n) os
 
   pub object : (i : ℕ) → i < length os → IsObject m k os (object_at os i)

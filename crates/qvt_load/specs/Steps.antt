@@ -1,5 +1,5 @@
 -- How a model is loaded: its objects are added, and then their slots are set one by one.
-use Rattle.std.specs.Prelude.{ℕ, suc, List, [], ◌∷◌, map, slice_index_or, slice_set}
+use Rattle.std.specs.Prelude.{◌≡◌, ℕ, suc, Option, List, [], ◌∷◌, map, slice_index_or, slice_set}
 use Rattle.qvt_value.specs.declared.value.Value.{Value}
 use Rattle.qvt_meta.specs.Metamodels.{Metamodels, features_of}
 use Rattle.qvt_slots.specs.Contents.{Contents, Instance, no_instance, set_slot, with_new}
@@ -7,7 +7,9 @@ use Rattle.qvt_model.specs.declared.data.ObjectData.{ObjectData}
 use Rattle.qvt_model.specs.declared.data.SlotData.{SlotData}
 use Rattle.qvt_store.specs.Place.{IsPlaceable}
 use Rattle.qvt_store.specs.Sound.{IsClassFor}
-use Rattle.qvt_load.specs.Loaded.{value_at}
+use Rattle.qvt_slots.specs.declared.extent.Extent.{Extent}
+use Rattle.qvt_model.specs.IdTables.{id_in}
+use Rattle.qvt_load.specs.Loaded.{value_at, id_told}
 
 abbrev pub added : Contents → ℕ → List ObjectData → Contents
 added s e [] = s
@@ -37,10 +39,26 @@ abbrev pub with_objects : Contents → List Instance → Contents
 with_objects s obs = record s { objects = obs }
 
 -- each of them can be set when its turn comes
-abbrev pub CanPutSlots : Contents → ℕ → ℕ → List Instance → List SlotData → Type 0
-CanPutSlots s n x obs [] = ⊤
-CanPutSlots s n x obs (t ∷ ts) = IsPlaceable (with_objects s obs) x t.feature.0 (slot_values n t) × CanPutSlots s n x (put_slot s.metas obs x t.feature.0 (slot_values n t)) ts
+abbrev pub CanPutSlots : Metamodels → List Extent → ℕ → ℕ → List Instance → List SlotData → Type 0
+CanPutSlots m es n x obs [] = ⊤
+CanPutSlots m es n x obs (t ∷ ts) = IsPlaceable (record { metas = m; extents = es; objects = obs }) x t.feature.0 (slot_values n t) × CanPutSlots m es n x (put_slot m obs x t.feature.0 (slot_values n t)) ts
 
-abbrev pub CanPutObjects : Contents → ℕ → ℕ → List Instance → List ObjectData → Type 0
-CanPutObjects s n x obs [] = ⊤
-CanPutObjects s n x obs (o ∷ os) = CanPutSlots s n x obs o.slots × CanPutObjects s n (suc x) (put_slots s.metas n x obs o.slots) os
+abbrev pub CanPutObjects : Metamodels → List Extent → ℕ → ℕ → List Instance → List ObjectData → Type 0
+CanPutObjects m es n x obs [] = ⊤
+CanPutObjects m es n x obs (o ∷ os) = CanPutSlots m es n x obs o.slots × CanPutObjects m es n (suc x) (put_slots m n x obs o.slots) os
+
+-- On the way: what is left can be done, and then leaves what all of it leaves from the beginning.
+pub record IsAdding (old now : Contents) (e : ℕ) (all rest : List ObjectData) : Type 0 where
+  pub can : CanAdd now e rest
+  pub same : added now e rest ≡ added old e all
+
+pub record ArePutting (old now : Contents) (n x : ℕ) (all rest : List SlotData) : Type 0 where
+  pub can : CanPutSlots now.metas now.extents n x now.objects rest
+  pub same : with_objects now (put_slots now.metas n x now.objects rest) ≡ with_objects old (put_slots old.metas n x old.objects all)
+
+pub record IsPutting (old now : Contents) (n x : ℕ) (all rest : List ObjectData) : Type 0 where
+  pub can : CanPutObjects now.metas now.extents n x now.objects rest
+  pub same : with_objects now (put_objects now.metas n x now.objects rest) ≡ with_objects old (put_objects old.metas n n old.objects all)
+
+pub record IsTelling (old now : List (Option (List ℕ))) (n x : ℕ) (all rest : List ObjectData) : Type 0 where
+  pub same : (y : ℕ) → id_told x rest y (id_in now y) ≡ id_told n all y (id_in old y)

@@ -1,4 +1,5 @@
-//! Models loaded into stores.
+//! Models loaded into the extents of stores.
 #![tactic(auto)]
 
-pub mod laws;
+pub mod load;
+mod values;

@@ -1,23 +1,19 @@
 -- A slot of values that are no objects, set.
-use Rattle.std.proofs.Common.{◌≡◌, ℕ, ◌<◌, ◌≤◌, Bool, true, false, ◌==◌, ◌&&◌, cond, refl, sym, ap, ◌∙◌, subst, List, [], ◌∷◌, length, arith}
+use Rattle.std.proofs.Common.{◌≡◌, ℕ, ◌<◌, Bool, true, false, ◌==◌, ◌&&◌, cond, refl, sym, ap, ◌∙◌, subst, List}
 use Rattle.std.specs.Prelude.{nat_lt}
-use Rattle.std.specs.List.{list_all}
 use Rattle.std.proofs.lemmas.Bool.Decides.{Decides-eqb}
 use Rattle.qvt_base.specs.declared.numbers.Oid.{Oid}
 use Rattle.qvt_value.specs.declared.value.Value.{Value}
-use Rattle.qvt_meta.specs.Metamodels.{Metamodels, shape_of}
+use Rattle.qvt_meta.specs.Metamodels.{Metamodels}
 use Rattle.qvt_relation.proofs.Bools.{and_left, and_right}
 use Rattle.qvt_slots.specs.declared.cell.Cell.{Cell}
 use Rattle.qvt_slots.specs.declared.extent.Extent.{Extent}
-use Rattle.qvt_slots.specs.Slots.{Slots, has, Contains, Inside, directly, through}
-use Rattle.qvt_slots.specs.Contents.{Instance, no_instance, is_live, class_of, slot_in}
-use Rattle.qvt_slots.specs.Types.{is_of_type, is_class_type}
-use Rattle.qvt_slots.specs.Repeats.{repeats, AreUnique}
-use Rattle.qvt_slots.specs.Cells.{instances, contents_of, AreMembers, IsKept, SameObjects, IsPut, with_list}
+use Rattle.qvt_slots.specs.Slots.{Slots}
+use Rattle.qvt_slots.specs.Contents.{Instance, no_instance, is_live, class_of}
+use Rattle.qvt_slots.specs.Cells.{instances, contents_of, AreMembers, SameObjects, with_list}
 use Rattle.qvt_slots.proofs.Cells.{length-instances}
 use Rattle.qvt_slots.proofs.Lists.{any_default}
 use Rattle.qvt_slots.proofs.Members.{members_same}
-use Rattle.qvt_slots.proofs.Typed.{all_kept, no_objects}
 
 pub stays_live : (m : Metamodels) (extents : List Extent) (old new : List Cell) → SameObjects m old new → (y : ℕ) → is_live (contents_of m extents old) y ≡ true →
     (is_live (contents_of m extents new) y ≡ true) × (class_of (contents_of m extents old) y ≡ class_of (contents_of m extents new) y)

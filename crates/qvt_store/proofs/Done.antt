@@ -170,7 +170,7 @@ held_right s c m (w ∷ ws) y h right e = rest (held_of m ws y) refl e (held_rig
 place_at : (m : Metamodels) (well : IsWellFormed m) (k i : ℕ) → i < length (features_of m k) → IsPlaceOf (features_of m k) (slice_index_or (features_of m k) i (record { 0 = 0 })).0 i
 place_at m well k i h = record { within = h; here = refl; earlier = λ j l. well.distinct_features k j i l h }
 
-lists_told : (m : Metamodels) (well : IsWellFormed m) (k : ℕ) (lists : List (List Value)) (h : ℕ → List Value) → length lists ≡ length (features_of m k) →
+pub lists_told : (m : Metamodels) (well : IsWellFormed m) (k : ℕ) (lists : List (List Value)) (h : ℕ → List Value) → length lists ≡ length (features_of m k) →
     ((f : ℕ) → among_features f (features_of m k) ≡ true → list_of (features_of m k) lists f ≡ h f) → lists ≡ map (λ (g : FeatureNo). h g.0) (features_of m k)
 lists_told m well k lists h l told = same_lists lists (map (λ (g : FeatureNo). h g.0) (features_of m k)) (l ∙ sym (length-mapped (features_of m k)))
     (λ i d b.

@@ -30,7 +30,7 @@ same_extent s o ws stays a model new = elim (either (extent_of s a == extent_of 
 ]
 
 -- and the other way round
-nowhere : (s : Contents) (o : ℕ) (l : List Value) → ((y : ℕ) → has l y ≡ true → extent_of s y ≡ extent_of s o) → list_any (is_elsewhere s o) l ≡ false
+pub nowhere : (s : Contents) (o : ℕ) (l : List Value) → ((y : ℕ) → has l y ≡ true → extent_of s y ≡ extent_of s o) → list_any (is_elsewhere s o) l ≡ false
 nowhere s o [] h = refl
 nowhere s o (v ∷ l) h = or_none _ _ (at (object_in v) (λ y t. h y (or_left (is_object y v) (has l y) t))) (nowhere s o l (λ y t. h y (or_right (is_object y v) (has l y) t)))
   where

@@ -1,13 +1,13 @@
 -- Sound stores made and loaded: no objects, one more object, one slot placed.
-use Rattle.std.proofs.Common.{◌≡◌, ℕ, ◌<◌, Bool, true, false, ◌==◌, ◌&&◌, not, cond, inl, inr, refl, sym, ap, ◌∙◌, subst, List, [], length, arith}
+use Rattle.std.proofs.Common.{◌≡◌, ℕ, ◌<◌, Bool, true, false, ◌==◌, ◌&&◌, cond, inl, inr, refl, sym, ap, ◌∙◌, subst, List, [], length, arith}
 use Rattle.std.specs.Prelude.{Option, Some, None, nat_lt, All}
-use Rattle.std.specs.List.{list_any, list_all}
+use Rattle.std.specs.List.{list_all}
 use Rattle.std.proofs.lemmas.Bool.{le-ltb, ltb-true}
 use Rattle.std.proofs.lemmas.Bool.Decides.{Decides-eqb}
 use Rattle.std.proofs.lemmas.List.Elements.{All-nil}
 use Rattle.qvt_value.specs.declared.value.Value.{Value}
 use Rattle.qvt_meta.specs.Metamodels.{Metamodels, class_at, features_of, is_containment, shape_of}
-use Rattle.qvt_relation.proofs.Bools.{and_left, and_right, and_both, either, clash, refuted, not_of_false}
+use Rattle.qvt_relation.proofs.Bools.{and_left, and_right, either, clash}
 use Rattle.qvt_slots.specs.declared.extent.Extent.{Extent}
 use Rattle.qvt_slots.specs.Slots.{Slots, has, OppositesAgree, OneContainer, Contains, Inside, directly, through}
 use Rattle.qvt_slots.specs.Contents.{Contents, Instance, object_at, class_of, extent_of, extent_at, is_extent, is_live, is_model, slot_of, with_new, with_slot}
@@ -15,14 +15,13 @@ use Rattle.qvt_slots.specs.Types.{is_of_type, IsPlain}
 use Rattle.qvt_slots.specs.Repeats.{repeats}
 use Rattle.qvt_slots.specs.Cells.{with_list}
 use Rattle.qvt_store.specs.Place.{IsPlaceable}
-use Rattle.qvt_slots.specs.Assign.{is_beyond, is_elsewhere}
+use Rattle.qvt_slots.specs.Assign.{is_beyond}
 use Rattle.qvt_store.specs.Sound.{IsClassFor, Sound, SoundButOpposites, IsSoundList, NewIsSound, AddKeepsSound, LoadBegins, AddKeepsLoading, PlaceKeepsLoading, LoadEnds}
 use Rattle.qvt_slots.proofs.Lists.{length-map}
-use Rattle.qvt_slots.proofs.Objects.{not_any}
 use Rattle.qvt_slots.proofs.Typed.{all_kept}
 use Rattle.qvt_store.proofs.Own.{own_grown, same_extent}
 use Rattle.qvt_store.proofs.Attributes.{each_put}
-use Rattle.qvt_store.proofs.After.{features_always, holder_slot, item_object}
+use Rattle.qvt_store.proofs.After.{features_always}
 use Rattle.qvt_slots.proofs.Added.{first_contained, no_slots}
 use Rattle.qvt_slots.proofs.Instances as objects
 

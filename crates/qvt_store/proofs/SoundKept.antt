@@ -11,7 +11,7 @@ use Rattle.qvt_value.specs.declared.value.Value.{Value}
 use Rattle.qvt_meta.specs.Metamodels.{Metamodels, opposite, is_opposite, is_feature_number, is_single, shape_of, class_at}
 use Rattle.qvt_meta.specs.Named.{metamodel_at}
 use Rattle.qvt_meta.specs.WellFormed.{IsWellFormed}
-use Rattle.qvt_relation.proofs.Bools.{and_left, and_right, and_both, or_cases, none_left, none_right, either, clash, not_of_false}
+use Rattle.qvt_relation.proofs.Bools.{and_left, and_right, and_both, or_cases, none_left, none_right, either, clash}
 use Rattle.qvt_slots.specs.declared.fault.StoreFault.{StoreFault}
 use Rattle.qvt_slots.specs.declared.fault.StoreFault.TheVariants.{TooMany, ContainmentCycle, ReadOnly, CrossModel}
 use Rattle.qvt_slots.specs.Slots.{Slots, has, OppositesAgree, OneContainer, Inside}
@@ -19,11 +19,9 @@ use Rattle.qvt_slots.specs.Change.{Change, object_value, is_here, among, gains, 
 use Rattle.qvt_slots.specs.Contents.{Contents, AreNamed, class_of, extent_of, extent_at, is_extent, is_live, is_model, is_named, slot_of}
 use Rattle.qvt_slots.specs.Types.{is_of_type, AreTyped, IsPlain}
 use Rattle.qvt_slots.specs.Repeats.{repeats, same_value, without_repeats, new_list, AreUnique}
-use Rattle.qvt_slots.specs.Assign.{change_to, change_of, is_beyond, is_overfull, overfills_end, is_too_many, is_cyclic, is_read_only, is_elsewhere, crosses, refusal_of, store_after, ok_unless}
+use Rattle.qvt_slots.specs.Assign.{change_to, change_of, is_beyond, is_overfull, overfills_end, is_too_many, is_cyclic, is_read_only, crosses, refusal_of, store_after, ok_unless}
 use Rattle.qvt_store.specs.Law.{IsMade, FitsSingle}
 use Rattle.qvt_store.specs.Sound.{IsClassFor, Sound, AssignKeepsSound, AppendKeepsSound}
-use Rattle.qvt_slots.proofs.Objects.{not_any}
-use Rattle.qvt_store.proofs.Held.{given, kept, gained, held_after, added_new}
 use Rattle.qvt_store.proofs.Opposites.{here, keeps_opposites}
 use Rattle.qvt_store.proofs.Containers.{keeps_one_container}
 use Rattle.qvt_store.proofs.Own.{own_after}

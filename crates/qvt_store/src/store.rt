@@ -1,5 +1,6 @@
 ghost use Rattle.std.specs.Prelude.{◌≡◌, ◌<◌, ◌≤◌, [], length, IsTrue, IfOk, IfErr, OnOk, OnErr, IfSome, ℕ};
-ghost use Rattle.qvt_slots.specs.Slots.{Contains, has};
+ghost use Rattle.qvt_slots.specs.Slots.{Contains, Inside, has};
+ghost use Rattle.qvt_slots.specs.Types.{AreTyped};
 ghost use Rattle.qvt_slots.specs.Cells.{holder_in};
 ghost use Rattle.qvt_meta.specs.Metamodels.{has_feature, is_containment};
 ghost use Rattle.qvt_slots.specs.Contents.{AreNamed, is_live, is_extent, class_of, extent_of, slot_of, members_of, with_new};
@@ -92,10 +93,13 @@ impl Store {
         &self.metas
     }
 
-    /// What the store was made with. An extent has a name exactly where its metamodel has one.
+    /// What the store was made with. An extent has a name exactly where its metamodel has one. What
+    /// a slot holds is there and of the slot's type, and no object is inside itself.
     pub fn extents(&self) -> &ExtentList
         ensures lent { result.now ≡ self.now.extents }
         ensures named { AreNamed self.now.metas self.now.extents }
+        ensures typed { AreTyped self.now }
+        ensures outside_itself { (x : ℕ) → Inside self.now.metas (slot_of self.now) x x → ⊥ }
     {
         &self.extents
     }

@@ -1,1 +1,0 @@
-//! Laws of the definitions, each on a function that does nothing.
