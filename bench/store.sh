@@ -3,7 +3,7 @@
 # * how many assignments are done in a second on a one-to-one pair of opposites among 10,000 and among 100,000 objects, and the
 #   ratio of the two costs. A change costs its slots and not the store, so the ratio is that of the machine's caches;
 # * for 20,000 objects put last in one slot against 2,000, one after the other, the ratio of the costs: near 10 where the slot is
-#   not unique, a containment or not; in a unique slot each is compared with those that are there, so it nears 100;
+#   not unique; in a unique one, as each containment is, each is compared with those that are there, so it nears 100;
 # * the ratio for 20,000 objects without links against 2,000.
 set -u
 here=$(cd "$(dirname "${BASH_SOURCE[0]}")/.." && pwd)
@@ -29,7 +29,7 @@ few=$(cost link 10000 $changes)
 many=$(cost link 100000 $changes)
 echo "assignments a second: $(awk "BEGIN{printf \"%.0f\", $changes*1000000/$few}") among 10000 objects," \
   "$(awk "BEGIN{printf \"%.0f\", $changes*1000000/$many}") among 100000; ratio of the costs $(ratio "$many" "$few")"
-for form in pieces likes parts; do
+for form in likes parts; do
   few=$(cost $form 2001 2000)
   many=$(cost $form 20001 20000)
   echo "$form: 2000 appends $few us, 20000 appends $many us, ratio $(ratio "$many" "$few")"

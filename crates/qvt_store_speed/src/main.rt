@@ -1,8 +1,7 @@
 //! Makes a store of so many objects and changes its slots so many times. Its words are the form of the
-//! changes and the two numbers: `link` sets one-to-one slots, each with its opposite; `parts`,
-//! `pieces` and `likes` put one object after the other last in a slot of the first object, which is a
-//! unique containment with an opposite, a containment that is not unique, and a reference that is
-//! not unique. `bench/store.sh` times it.
+//! changes and the two numbers: `link` sets one-to-one slots, each with its opposite; `parts` and
+//! `likes` put one object after the other last in a slot of the first object, which is a containment
+//! with an opposite, and a reference that is not unique. `bench/store.sh` times it.
 #![tactic(auto)]
 
 use qvt_base::numbers::{ClassNo, FeatureNo, Oid};
@@ -19,7 +18,7 @@ use std::rt::Env;
 use std::{env, io};
 
 const NODES: &str =
-    "{\"classes\":[{\"features\":[{\"name\":\"left\",\"opposite\":\"right\",\"type\":\"N\"},{\"name\":\"right\",\"opposite\":\"left\",\"type\":\"N\"},{\"containment\":true,\"name\":\"parts\",\"opposite\":\"whole\",\"type\":\"N\",\"upper\":\"*\"},{\"name\":\"whole\",\"opposite\":\"parts\",\"type\":\"N\"},{\"containment\":true,\"name\":\"pieces\",\"type\":\"N\",\"unique\":false,\"upper\":\"*\"},{\"name\":\"likes\",\"type\":\"N\",\"unique\":false,\"upper\":\"*\"}],\"name\":\"N\"}],\"name\":\"P\"}";
+    "{\"classes\":[{\"features\":[{\"name\":\"left\",\"opposite\":\"right\",\"type\":\"N\"},{\"name\":\"right\",\"opposite\":\"left\",\"type\":\"N\"},{\"containment\":true,\"name\":\"parts\",\"opposite\":\"whole\",\"type\":\"N\",\"upper\":\"*\"},{\"name\":\"whole\",\"opposite\":\"parts\",\"type\":\"N\"},{\"name\":\"likes\",\"type\":\"N\",\"unique\":false,\"upper\":\"*\"}],\"name\":\"N\"}],\"name\":\"P\"}";
 
 fn metas_of(alloc: Global, text: &str) -> Option<Metas> {
     let meta = read_meta(alloc, text.as_bytes()).ok()?;
