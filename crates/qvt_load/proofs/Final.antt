@@ -18,8 +18,7 @@ use Rattle.qvt_store.proofs.After.{item_object}
 use Rattle.qvt_model.specs.declared.data.SlotData.{SlotData}
 use Rattle.qvt_model.specs.declared.data.ObjectData.{ObjectData}
 use Rattle.qvt_model.specs.WellFormed.{object_at, no_object, IsSlot, IsObject, IsModel}
-use Rattle.qvt_conform.specs.Items.{items_in}
-use Rattle.qvt_load.specs.Loaded.{value_at, list_in, instance_at}
+use Rattle.qvt_load.specs.Loaded.{items_in, value_at, list_in, instance_at}
 use Rattle.qvt_load.specs.Conforming.{slots_at, Conforms}
 use Rattle.qvt_load.proofs.Shift.{HeldItem, held_item}
 
@@ -50,7 +49,7 @@ list_of-map (g ∷ gs) h f = go (g.0 == f) refl
     go true e = ap h ((Decides-eqb g.0 f).0 e)
     go false e = list_of-map gs h f
 
-not_own : (m : Metamodels) (all : List ObjectData) (c f : ℕ) (ts : List SlotData) → AllByRecursion (IsSlot m all c) ts → has_feature m c f ≡ false → items_in f ts ≡ []
+pub not_own : (m : Metamodels) (all : List ObjectData) (c f : ℕ) (ts : List SlotData) → AllByRecursion (IsSlot m all c) ts → has_feature m c f ≡ false → items_in f ts ≡ []
 not_own m all c f [] h n = refl
 not_own m all c f (t ∷ ts) h n = go (t.feature.0 == f) refl
   where
@@ -58,7 +57,7 @@ not_own m all c f (t ∷ ts) h n = go (t.feature.0 == f) refl
     go true e = let is : IsSlot m all c t = h.0 in clash _ (subst (λ g. has_feature m c g ≡ true) ((Decides-eqb t.feature.0 f).0 e) is.own) n
     go false e = not_own m all c f ts h.1 n
 
-all_at : (m : Metamodels) (k : ℕ) (all os : List ObjectData) (i : ℕ) → AllByRecursion (IsObject m k all) os → i < length os → IsObject m k all (object_at os i)
+pub all_at : (m : Metamodels) (k : ℕ) (all os : List ObjectData) (i : ℕ) → AllByRecursion (IsObject m k all) os → i < length os → IsObject m k all (object_at os i)
 all_at m k all [] i h l = absurd (omega arith)
 all_at m k all (o ∷ os) zero h l = h.0
 all_at m k all (o ∷ os) (suc i) h l = all_at m k all os i h.1 (omega arith)

@@ -11,9 +11,8 @@ use Rattle.qvt_store.specs.Sound.{IsClassFor, Sound, SoundButOpposites}
 use Rattle.qvt_store.proofs.SoundGrown.{load_begins, load_ends, add_keeps_loading}
 use Rattle.qvt_model.specs.declared.data.ObjectData.{ObjectData}
 use Rattle.qvt_model.specs.WellFormed.{IsObject, IsModel}
-use Rattle.qvt_model.specs.WellFormed as data
-use Rattle.qvt_conform.specs.Items.{items_in}
-use Rattle.qvt_load.specs.Loaded.{loaded, IsLoadable}
+use Rattle.qvt_model.specs.WellFormed as parts
+use Rattle.qvt_load.specs.Loaded.{items_in, loaded, IsLoadable}
 use Rattle.qvt_load.specs.Conforming.{slots_at, Conforms}
 use Rattle.qvt_load.specs.Steps.{added, CanAdd, put_objects, with_objects, CanPutObjects}
 use Rattle.qvt_load.proofs.Shift.{HeldItem, has-shift}
@@ -26,7 +25,7 @@ AreConcrete : Metamodels → List ObjectData → Type 0
 AreConcrete m [] = ⊤
 AreConcrete m (o ∷ os) = ((class_at m o.class.0).is_abstract ≡ false) × AreConcrete m os
 
-each_concrete : (m : Metamodels) (os : List ObjectData) → ((i : ℕ) → i < length os → (class_at m (data.object_at os i).class.0).is_abstract ≡ false) → AreConcrete m os
+each_concrete : (m : Metamodels) (os : List ObjectData) → ((i : ℕ) → i < length os → (class_at m (parts.object_at os i).class.0).is_abstract ≡ false) → AreConcrete m os
 each_concrete m [] h = tt
 each_concrete m (o ∷ os) h = (h 0 (omega arith), each_concrete m os (λ i l. h (suc i) (omega arith)))
 
@@ -85,9 +84,9 @@ module _ (s : Contents) (e : ℕ) (os : List ObjectData) (load : IsLoadable s e 
       where
         new : (i f y g : ℕ) → is_opposite m f g ≡ true → has (slot_in m fin (n + i) f) y ≡ true → has (slot_in m fin y g) (n + i) ≡ true
         new i f y g o h =
-            let p : HeldItem n y (items_in f (data.object_at os i).slots) = new_held s e k os load.model i f y h in
+            let p : HeldItem n y (items_in f (parts.object_at os i).slots) = new_held s e k os load.model i f y h in
             subst (λ z. has (slot_in m fin z g) (n + i) ≡ true) (sym p.number)
-            (ap (λ t. has t (n + i)) (slot-new s e k os load.model p.place g) ∙ has-shift n i (items_in g (data.object_at os p.place).slots) ∙ conforms.opposites.agree i f p.place g o p.held)
+            (ap (λ t. has t (n + i)) (slot-new s e k os load.model p.place g) ∙ has-shift n i (items_in g (parts.object_at os p.place).slots) ∙ conforms.opposites.agree i f p.place g o p.held)
 
     loading : SoundButOpposites (with_objects s fin)
     loading = subst (λ (l : List Instance). SoundButOpposites (with_objects s l)) (put_is m well k e s.objects os load.model.objects)

@@ -30,9 +30,8 @@ use Rattle.qvt_model.specs.declared.data.Datum.TheVariants.{Bool as BoolDatum, I
 use Rattle.qvt_model.specs.declared.data.SlotData.{SlotData}
 use Rattle.qvt_model.specs.declared.data.ObjectData.{ObjectData}
 use Rattle.qvt_model.specs.WellFormed.{no_object, IsItem, IsSlot, IsObject, IsModel}
-use Rattle.qvt_model.specs.WellFormed as data
-use Rattle.qvt_conform.specs.Items.{items_in}
-use Rattle.qvt_load.specs.Loaded.{value_at, list_in, instance_at}
+use Rattle.qvt_model.specs.WellFormed as parts
+use Rattle.qvt_load.specs.Loaded.{items_in, value_at, list_in, instance_at}
 use Rattle.qvt_load.specs.Conforming.{slots_at, Conforms}
 use Rattle.qvt_load.specs.Steps.{put_slot, slot_values, put_slots, put_objects, with_objects, CanPutSlots, CanPutObjects}
 use Rattle.qvt_load.proofs.Shift.{HeldItem, held_item, length-shift, repeats-shift, all_plain}
@@ -40,7 +39,7 @@ use Rattle.qvt_load.proofs.Final.{final, object, at_old, at_new, count, slot-old
 use Rattle.qvt_load.proofs.Filled.{listed, AreDistinct, distinct_slots, empty_of}
 
 -- a reference of a well formed slot is one of the model
-ref_below : (m : Metamodels) (os : List ObjectData) (k : TypeKind) (j : ℕ) (xs : List Datum) → AllByRecursion (IsItem m os k) xs → has (map (value_at 0) xs) j ≡ true → j < length os
+pub ref_below : (m : Metamodels) (os : List ObjectData) (k : TypeKind) (j : ℕ) (xs : List Datum) → AllByRecursion (IsItem m os k) xs → has (map (value_at 0) xs) j ≡ true → j < length os
 ref_below m os k j [] h t = clash false t refl
 ref_below m os k j (x ∷ xs) h t = elim (or_cases (is_object j (value_at 0 x)) (has (map (value_at 0) xs) j) t) [ inl here ↦ at k x h.0 here | inr rest ↦ ref_below m os k j xs h.1 rest ]
   where
@@ -75,14 +74,14 @@ module _ (s : Contents) (e k : ℕ) (os : List ObjectData) (model : IsModel s.me
 
   -- a slot of object i
   record IsFor (i : ℕ) (t : SlotData) : Type 0 where
-    is : IsSlot m os (data.object_at os i).class.0 t
-    list : items_in t.feature.0 (data.object_at os i).slots ≡ t.items
+    is : IsSlot m os (parts.object_at os i).class.0 t
+    list : items_in t.feature.0 (parts.object_at os i).slots ≡ t.items
 
   module _ (obs : List Instance) (part : Partial obs) where
     live_new : (i : ℕ) → i < length os → nat_lt (n + i) (length obs) ≡ true
     live_new i l = lt-ltb (n + i) (length obs) (let c : length obs ≡ length fin = part.count in let d : length fin ≡ n + length os = count s e k os model in omega arith)
 
-    class_new : (i : ℕ) → i < length os → (slice_index_or obs (n + i) no_instance).class ≡ (data.object_at os i).class.0
+    class_new : (i : ℕ) → i < length os → (slice_index_or obs (n + i) no_instance).class ≡ (parts.object_at os i).class.0
     class_new i l = part.classes (n + i) ∙ ap (λ (ob : Instance). ob.class) (at_new s e k os model i l)
 
     extent_new : (i : ℕ) → i < length os → (slice_index_or obs (n + i) no_instance).extent ≡ e
@@ -94,7 +93,26 @@ module _ (s : Contents) (e k : ℕ) (os : List ObjectData) (model : IsModel s.me
     type_of StrKind (Str t) h = refl
     type_of (EnumKind a b) (Literal l) h = and_both _ _ (and_both _ _ ((Decides-eqb l.metamodel a).1 h.0) ((Decides-eqb l.enumeration b).1 h.1)) (lt-ltb l.literal (length (enumeration_at m a b).literals) h.2)
     type_of (ClassKind c) (Ref i) h = and_both _ _ (live_new i h.0) (ap (λ z. descends m z c.0) (class_new i h.0) ∙ h.1)
-    type_of _ _ h = absurd h
+    type_of BoolKind (Int x) h = absurd h
+    type_of BoolKind (Str x) h = absurd h
+    type_of BoolKind (Literal x) h = absurd h
+    type_of BoolKind (Ref x) h = absurd h
+    type_of IntKind (BoolDatum x) h = absurd h
+    type_of IntKind (Str x) h = absurd h
+    type_of IntKind (Literal x) h = absurd h
+    type_of IntKind (Ref x) h = absurd h
+    type_of StrKind (BoolDatum x) h = absurd h
+    type_of StrKind (Int x) h = absurd h
+    type_of StrKind (Literal x) h = absurd h
+    type_of StrKind (Ref x) h = absurd h
+    type_of (EnumKind a b) (BoolDatum x) h = absurd h
+    type_of (EnumKind a b) (Int x) h = absurd h
+    type_of (EnumKind a b) (Str x) h = absurd h
+    type_of (EnumKind a b) (Ref x) h = absurd h
+    type_of (ClassKind c) (BoolDatum x) h = absurd h
+    type_of (ClassKind c) (Int x) h = absurd h
+    type_of (ClassKind c) (Str x) h = absurd h
+    type_of (ClassKind c) (Literal x) h = absurd h
 
     all_types : (f : ℕ) (xs : List Datum) → AllByRecursion (IsItem m os (shape_of m f).kind) xs → list_all (is_of_type (with_objects s obs) f) (map (value_at n) xs) ≡ true
     all_types f [] h = refl
@@ -138,7 +156,7 @@ module _ (s : Contents) (e k : ℕ) (os : List ObjectData) (model : IsModel s.me
       placeable = record {
         assignable = record { live = live_new i below; feature = ap (λ z. has_feature m z p) (class_new i below) ∙ for.is.own; types = all_types p t.items for.is.items };
         empty = free;
-        once = λ c. no_repeat (conforms.once i p c);
+        once = λ c k'. no_repeat (conforms.once i p c k');
         free = λ c x f y c' h. refuted _ (λ h'.
             let r : (n + i ≡ x) × (p ≡ f) = one_new s e k os model typed conforms (n + i) p x f y c c' (omega arith) (ap (λ l. has l y) fin_list ∙ h) (sub_held x f y h') in
             clash false (ap (λ l. has l y) (sym free) ∙ subst (λ z. has (slot_in m obs (n + i) z) y ≡ true) (sym r.1) (subst (λ z. has (slot_in m obs z f) y ≡ true) (sym r.0) h')) refl);
@@ -223,7 +241,7 @@ module _ (s : Contents) (e k : ℕ) (os : List ObjectData) (model : IsModel s.me
       )
 
   -- the slots of a well formed object are for it
-  all_for : (i : ℕ) (all : List SlotData) (ts : List SlotData) → AllByRecursion (IsSlot m os (data.object_at os i).class.0) ts → AllByRecursion (λ (t : SlotData). items_in t.feature.0 (data.object_at os i).slots ≡ t.items) ts → AllByRecursion (IsFor i) ts
+  all_for : (i : ℕ) (all : List SlotData) (ts : List SlotData) → AllByRecursion (IsSlot m os (parts.object_at os i).class.0) ts → AllByRecursion (λ (t : SlotData). items_in t.feature.0 (parts.object_at os i).slots ≡ t.items) ts → AllByRecursion (IsFor i) ts
   all_for i all [] h l = tt
   all_for i all (t ∷ ts) h l = (record { is = h.0; list = l.0 }, all_for i all ts h.1 l.1)
 
@@ -236,7 +254,7 @@ module _ (s : Contents) (e k : ℕ) (os : List ObjectData) (model : IsModel s.me
       past [] n' h = tt
       past (u ∷ us) n' h = (
         ap (λ b. cond b t.items (items_in u.feature.0 ts)) (refuted (t.feature.0 == u.feature.0) (λ q. clash (u.feature.0 == t.feature.0) ((Decides-eqb u.feature.0 t.feature.0).1 (sym ((Decides-eqb t.feature.0 u.feature.0).0 q))) (none_left (u.feature.0 == t.feature.0) (listed t.feature.0 us) n')))
-        ∙ h.0,
+            ∙ h.0,
         past us (none_right (u.feature.0 == t.feature.0) (listed t.feature.0 us) n') h.1,
       )
 
@@ -250,13 +268,13 @@ module _ (s : Contents) (e k : ℕ) (os : List ObjectData) (model : IsModel s.me
     pub part : Partial (put_objects m n x obs rest)
     pub sound : SoundButOpposites (with_objects s obs) → SoundButOpposites (with_objects s (put_objects m n x obs rest))
 
-  objects_put : (obs : List Instance) (i : ℕ) (rest : List ObjectData) → Partial obs → ((j : ℕ) → data.object_at rest j ≡ data.object_at os (j + i)) → length rest + i ≡ length os →
+  objects_put : (obs : List Instance) (i : ℕ) (rest : List ObjectData) → Partial obs → ((j : ℕ) → parts.object_at rest j ≡ parts.object_at os (j + i)) → length rest + i ≡ length os →
       ((x f : ℕ) → n + i ≤ x → slot_in m obs x f ≡ []) → ObjectsPut (n + i) obs rest
   objects_put obs i [] part same len later = record { can = tt; part = part; sound = λ h. h }
   objects_put obs i (o ∷ rest) part same len later =
       let mine : SlotsPut obs i o.slots = slots_put obs i o.slots part below for distinct (all_free obs i o.slots (λ f. later (n + i) f (omega arith))) (λ x f h. later x f (omega arith)) in
       let r : ObjectsPut (suc (n + i)) next rest = subst (λ x. ObjectsPut x next rest) (omega arith)
-      (objects_put next (suc i) rest mine.part (λ j. same (suc j) ∙ ap (data.object_at os) (omega arith)) (omega arith) (λ x f h. mine.later x f (omega arith))) in
+      (objects_put next (suc i) rest mine.part (λ j. same (suc j) ∙ ap (parts.object_at os) (omega arith)) (omega arith) (λ x f h. mine.later x f (omega arith))) in
       record { can = (mine.can, r.can); part = r.part; sound = λ h. r.sound (mine.sound h) }
     where
       next : List Instance
@@ -265,27 +283,27 @@ module _ (s : Contents) (e k : ℕ) (os : List ObjectData) (model : IsModel s.me
       below : i < length os
       below = omega arith
 
-      is : IsObject m k os (data.object_at os i)
+      is : IsObject m k os (parts.object_at os i)
       is = object s e k os model i below
 
-      slots_same : o.slots ≡ (data.object_at os i).slots
+      slots_same : o.slots ≡ (parts.object_at os i).slots
       slots_same = ap (λ (q : ObjectData). q.slots) (same 0)
 
       distinct : AreDistinct o.slots
-      distinct = subst AreDistinct (sym slots_same) (distinct_slots m (data.object_at os i).slots is.order)
+      distinct = subst AreDistinct (sym slots_same) (distinct_slots m (parts.object_at os i).slots is.order)
 
       for : AllByRecursion (IsFor i) o.slots
       for = subst (λ (ts : List SlotData). AllByRecursion (IsFor i) ts) (sym slots_same)
-          (all_for i (data.object_at os i).slots (data.object_at os i).slots is.slots (each_found (data.object_at os i).slots (distinct_slots m (data.object_at os i).slots is.order)))
+          (all_for i (parts.object_at os i).slots (parts.object_at os i).slots is.slots (each_found (parts.object_at os i).slots (distinct_slots m (parts.object_at os i).slots is.order)))
 
   -- the objects as they are added
   abbrev start : List Instance
   start = s.objects ++ map (empty_of m e) os
 
-  start_new : (i : ℕ) → i < length os → slice_index_or start (n + i) no_instance ≡ empty_of m e (data.object_at os i)
+  start_new : (i : ℕ) → i < length os → slice_index_or start (n + i) no_instance ≡ empty_of m e (parts.object_at os i)
   start_new i l = app_right s.objects (map (empty_of m e) os) i no_instance ∙ mapped os i l
     where
-      mapped : (xs : List ObjectData) (i : ℕ) → i < length xs → slice_index_or (map (empty_of m e) xs) i no_instance ≡ empty_of m e (data.object_at xs i)
+      mapped : (xs : List ObjectData) (i : ℕ) → i < length xs → slice_index_or (map (empty_of m e) xs) i no_instance ≡ empty_of m e (parts.object_at xs i)
       mapped [] i l = absurd (omega arith)
       mapped (x ∷ xs) zero l = refl
       mapped (x ∷ xs) (suc i) l = mapped xs i (omega arith)
@@ -304,7 +322,7 @@ module _ (s : Contents) (e k : ℕ) (os : List ObjectData) (model : IsModel s.me
   start_free x f h =
       let a : (i : ℕ) × (x ≡ n + i) = beyond n x h in
       subst (λ z. slot_in m start z f ≡ []) (sym a.1) (elim (cases_lt a.0 (length os)) [
-        | inl l ↦ ap (λ (ob : Instance). list_of (features_of m ob.class) ob.slots f) (start_new a.0 l) ∙ no_lists (features_of m (data.object_at os a.0).class.0) f
+        | inl l ↦ ap (λ (ob : Instance). list_of (features_of m ob.class) ob.slots f) (start_new a.0 l) ∙ no_lists (features_of m (parts.object_at os a.0).class.0) f
         | inr l ↦ ap (λ (ob : Instance). list_of (features_of m ob.class) ob.slots f) (past_end start (n + a.0) no_instance (let c : length start ≡ n + length os = start_count in omega arith)) ∙ list_of-nil (features_of m 0) f
       ])
 
@@ -322,7 +340,7 @@ module _ (s : Contents) (e k : ℕ) (os : List ObjectData) (model : IsModel s.me
         (λ i l. ap (λ (ob : Instance). ob.class) (start_new i l) ∙ sym (ap (λ (ob : Instance). ob.class) (at_new s e k os model i l))) (λ i l. ap (λ (ob : Instance). ob.class) (start_past i l));
     extents = each_number (λ x. (slice_index_or start x no_instance).extent ≡ (slice_index_or fin x no_instance).extent) (λ x l. ap (λ (ob : Instance). ob.extent) (start_old x l))
         (λ i l. ap (λ (ob : Instance). ob.extent) (start_new i l) ∙ sym (ap (λ (ob : Instance). ob.extent) (at_new s e k os model i l))) (λ i l. ap (λ (ob : Instance). ob.extent) (start_past i l));
-    lists = λ i l. ap (λ (ob : Instance). length ob.slots) (start_new i l) ∙ length-map (λ _. []) (features_of m (data.object_at os i).class.0)
+    lists = λ i l. ap (λ (ob : Instance). length ob.slots) (start_new i l) ∙ length-map (λ _. []) (features_of m (parts.object_at os i).class.0)
         ∙ sym (ap (λ (ob : Instance). length (features_of m ob.class)) (start_new i l));
     subs = λ x f. elim (cases_lt x n) [
       | inl l ↦ inl (ap (λ (ob : Instance). list_of (features_of m ob.class) ob.slots f) (start_old x l))
@@ -332,4 +350,4 @@ module _ (s : Contents) (e k : ℕ) (os : List ObjectData) (model : IsModel s.me
 
   pub all_put : ObjectsPut n start os
   all_put = subst (λ x. ObjectsPut x start os) (omega arith)
-      (objects_put start 0 os start_part (λ j. ap (data.object_at os) (omega arith)) (omega arith) (λ x f h. start_free x f (omega arith)))
+      (objects_put start 0 os start_part (λ j. ap (parts.object_at os) (omega arith)) (omega arith) (λ x f h. start_free x f (omega arith)))

@@ -104,7 +104,26 @@ plain_item m os n IntKind (Int z) h = h
 plain_item m os n StrKind (Str t) h = h
 plain_item m os n (EnumKind k e) (Literal l) h = tt
 plain_item m os n (ClassKind c) (Ref i) h = tt
-plain_item m os n _ _ h = absurd h
+plain_item m os n BoolKind (Int x) h = absurd h
+plain_item m os n BoolKind (Str x) h = absurd h
+plain_item m os n BoolKind (Literal x) h = absurd h
+plain_item m os n BoolKind (Ref x) h = absurd h
+plain_item m os n IntKind (BoolDatum x) h = absurd h
+plain_item m os n IntKind (Str x) h = absurd h
+plain_item m os n IntKind (Literal x) h = absurd h
+plain_item m os n IntKind (Ref x) h = absurd h
+plain_item m os n StrKind (BoolDatum x) h = absurd h
+plain_item m os n StrKind (Int x) h = absurd h
+plain_item m os n StrKind (Literal x) h = absurd h
+plain_item m os n StrKind (Ref x) h = absurd h
+plain_item m os n (EnumKind a b) (BoolDatum x) h = absurd h
+plain_item m os n (EnumKind a b) (Int x) h = absurd h
+plain_item m os n (EnumKind a b) (Str x) h = absurd h
+plain_item m os n (EnumKind a b) (Ref x) h = absurd h
+plain_item m os n (ClassKind c) (BoolDatum x) h = absurd h
+plain_item m os n (ClassKind c) (Int x) h = absurd h
+plain_item m os n (ClassKind c) (Str x) h = absurd h
+plain_item m os n (ClassKind c) (Literal x) h = absurd h
 
 pub all_plain : (m : Metamodels) (os : List ObjectData) (n : ℕ) (k : TypeKind) (xs : List Datum) → AllByRecursion (IsItem m os k) xs → All IsPlain (map (value_at n) xs)
 all_plain m os n k [] h = All-nil IsPlain

@@ -9,8 +9,8 @@ use Rattle.qvt_slots.specs.Contents.{Contents, Instance, is_extent, extent_at, m
 use Rattle.qvt_model.specs.declared.data.Datum.{Datum}
 use Rattle.qvt_model.specs.declared.data.Datum.TheVariants.{Bool as BoolDatum, Int, Str, Literal, Ref}
 use Rattle.qvt_model.specs.declared.data.ObjectData.{ObjectData}
+use Rattle.qvt_model.specs.declared.data.SlotData.{SlotData}
 use Rattle.qvt_model.specs.WellFormed.{IsModel}
-use Rattle.qvt_conform.specs.Items.{items_in}
 
 -- the value of an item, where the first object of the model gets number n
 abbrev pub value_at : ℕ → Datum → Value
@@ -19,6 +19,11 @@ value_at n (Int z) = IntValue z
 value_at n (Str t) = StrValue t
 value_at n (Literal l) = EnumValue l
 value_at n (Ref i) = Obj (record { 0 = n + i })
+
+-- the items of feature f among the slots of an object: none where it has no slot of it
+abbrev pub items_in : ℕ → List SlotData → List Datum
+items_in f [] = []
+items_in f (t ∷ ts) = if t.feature.0 == f then t.items else items_in f ts
 
 -- what an object holds for a feature
 abbrev pub list_in : ℕ → ObjectData → ℕ → List Value
