@@ -1,6 +1,6 @@
 -- The objects that are added and set slot by slot are those of a loaded model.
 use Rattle.std.proofs.Common.{◌≡◌, ℕ, zero, suc, ◌+◌, ◌<◌, Bool, true, false, ◌==◌, ◌||◌, cond, inl, inr, refl, sym, ap, ◌∙◌, subst, List, [], ◌∷◌, ◌++◌, map, length, get_or, Greater, arith}
-use Rattle.std.specs.Prelude.{slice_index_or, slice_set}
+use Rattle.std.specs.Prelude.{⊤, slice_index_or, slice_set}
 use Rattle.std.specs.List.{AllByRecursion}
 use Rattle.std.specs.Ordering.{nat_cmp, is_eq}
 use Rattle.std.specs.Cmp.Lexicographic.{slice_cmp}
@@ -27,11 +27,11 @@ use Rattle.qvt_load.specs.Steps.{added, put_slot, slot_values, put_slots, put_ob
 
 -- ---- slots without repeats
 
-pub listed : ℕ → List SlotData → Bool
+abbrev pub listed : ℕ → List SlotData → Bool
 listed f [] = false
 listed f (t ∷ ts) = (t.feature.0 == f) || listed f ts
 
-pub AreDistinct : List SlotData → Type 0
+abbrev pub AreDistinct : List SlotData → Type 0
 AreDistinct [] = ⊤
 AreDistinct (t ∷ ts) = (listed t.feature.0 ts ≡ false) × AreDistinct ts
 
@@ -54,11 +54,11 @@ unlisted_none f (t ∷ ts) n = ap (λ b. cond b t.items (items_in f ts)) (none_l
 
 -- ---- one object
 
-pub set_lists : List FeatureNo → ℕ → List (List Value) → List SlotData → List (List Value)
+abbrev pub set_lists : List FeatureNo → ℕ → List (List Value) → List SlotData → List (List Value)
 set_lists gs n lists [] = lists
 set_lists gs n lists (t ∷ ts) = set_lists gs n (set_list gs lists t.feature.0 (slot_values n t)) ts
 
-pub set_slots : Metamodels → ℕ → Instance → List SlotData → Instance
+abbrev pub set_slots : Metamodels → ℕ → Instance → List SlotData → Instance
 set_slots m n ob ts = record ob { slots = set_lists (features_of m ob.class) n ob.slots ts }
 
 length-set_lists : (gs : List FeatureNo) (n : ℕ) (lists : List (List Value)) (ts : List SlotData) → length lists ≡ length gs → length (set_lists gs n lists ts) ≡ length gs
@@ -85,7 +85,7 @@ list-sets m all c n lists (t ∷ ts) f l own distinct =
     here : among_features t.feature.0 (features_of m c) ≡ true
     here = let is : IsSlot m all c t = own.0 in is.own
 
-pub empty_of : Metamodels → ℕ → ObjectData → Instance
+abbrev pub empty_of : Metamodels → ℕ → ObjectData → Instance
 empty_of m e o = record { class = o.class.0; extent = e; slots = map (λ _. []) (features_of m o.class.0) }
 
 filled : (m : Metamodels) (well : IsWellFormed m) (k e n : ℕ) (all : List ObjectData) (o : ObjectData) → IsObject m k all o → set_slots m n (empty_of m e o) o.slots ≡ instance_at m e n o

@@ -28,34 +28,35 @@ app_left (x ∷ xs) ys zero d h = refl
 app_left (x ∷ xs) ys (suc i) d h = app_left xs ys i d (omega arith)
 
 pub app_right : {X : Type 0} (xs ys : List X) (i : ℕ) (d : X) → get_or (xs ++ ys) (length xs + i) d ≡ get_or ys i d
-app_right [] ys i d = refl
-app_right (x ∷ xs) ys i d = app_right xs ys i d
+app_right [] ys i d = ap (λ k. get_or ys k d) (let q : 0 + i ≡ i = omega arith in q)
+app_right (x ∷ xs) ys i d = ap (λ k. get_or (x ∷ (xs ++ ys)) k d) (let q : suc (length xs) + i ≡ suc (length xs + i) = omega arith in q) ∙ app_right xs ys i d
 
 pub length-app : {X : Type 0} (xs ys : List X) → length (xs ++ ys) ≡ length xs + length ys
-length-app [] ys = refl
-length-app (x ∷ xs) ys = ap suc (length-app xs ys)
+length-app [] ys = let q : length ys ≡ 0 + length ys = omega arith in q
+length-app (x ∷ xs) ys = ap suc (length-app xs ys) ∙ (let q : suc (length xs + length ys) ≡ suc (length xs) + length ys = omega arith in q)
 
 pub beyond : (n x : ℕ) → n ≤ x → (i : ℕ) × (x ≡ n + i)
-beyond zero x h = (x, refl)
+beyond zero x h = (x, omega arith)
 beyond (suc n) zero h = absurd (omega arith)
-beyond (suc n) (suc x) h = let r : (i : ℕ) × (x ≡ n + i) = beyond n x (omega arith) in (r.0, ap suc r.1)
+beyond (suc n) (suc x) h = let r : (i : ℕ) × (x ≡ n + i) = beyond n x (omega arith) in (r.0, let q : x ≡ n + r.0 = r.1 in omega arith)
 
 -- the list of a feature, where each feature's is told
 list_of-map : (gs : List FeatureNo) (h : ℕ → List Value) (f : ℕ) → list_of gs (map (λ (g : FeatureNo). h g.0) gs) f ≡ cond (among_features f gs) (h f) []
 list_of-map [] h f = refl
-list_of-map (g ∷ gs) h f = go (g.0 == f) refl
+list_of-map (g ∷ gs) h f = go (g.0 == f) refl (list_of-map gs h f)
   where
-    go : (b : Bool) → (g.0 == f) ≡ b → cond b (h g.0) (list_of gs (map (λ (g : FeatureNo). h g.0) gs) f) ≡ cond (b || among_features f gs) (h f) []
-    go true e = ap h ((Decides-eqb g.0 f).0 e)
-    go false e = list_of-map gs h f
+    go : (b : Bool) → (g.0 == f) ≡ b → list_of gs (map (λ (g : FeatureNo). h g.0) gs) f ≡ cond (among_features f gs) (h f) [] →
+        cond b (h g.0) (list_of gs (map (λ (g : FeatureNo). h g.0) gs) f) ≡ cond (b || among_features f gs) (h f) []
+    go true e rest = ap h ((Decides-eqb g.0 f).0 e)
+    go false e rest = rest
 
 pub not_own : (m : Metamodels) (all : List ObjectData) (c f : ℕ) (ts : List SlotData) → AllByRecursion (IsSlot m all c) ts → has_feature m c f ≡ false → items_in f ts ≡ []
 not_own m all c f [] h n = refl
-not_own m all c f (t ∷ ts) h n = go (t.feature.0 == f) refl
+not_own m all c f (t ∷ ts) h n = go (t.feature.0 == f) refl (not_own m all c f ts h.1 n)
   where
-    go : (b : Bool) → (t.feature.0 == f) ≡ b → cond b t.items (items_in f ts) ≡ []
-    go true e = let is : IsSlot m all c t = h.0 in clash _ (subst (λ g. has_feature m c g ≡ true) ((Decides-eqb t.feature.0 f).0 e) is.own) n
-    go false e = not_own m all c f ts h.1 n
+    go : (b : Bool) → (t.feature.0 == f) ≡ b → items_in f ts ≡ [] → cond b t.items (items_in f ts) ≡ []
+    go true e rest = let is : IsSlot m all c t = h.0 in clash _ (subst (λ g. has_feature m c g ≡ true) ((Decides-eqb t.feature.0 f).0 e) is.own) n
+    go false e rest = rest
 
 pub all_at : (m : Metamodels) (k : ℕ) (all os : List ObjectData) (i : ℕ) → AllByRecursion (IsObject m k all) os → i < length os → IsObject m k all (object_at os i)
 all_at m k all [] i h l = absurd (omega arith)

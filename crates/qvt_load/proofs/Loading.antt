@@ -1,5 +1,6 @@
 -- A model that conforms can be loaded, and leaves the loaded store, which is sound where the store was.
 use Rattle.std.proofs.Common.{◌≡◌, ℕ, suc, ◌+◌, ◌<◌, ◌≤◌, Bool, true, false, inl, inr, refl, sym, ap, ◌∙◌, subst, List, [], ◌∷◌, ◌++◌, map, length, arith}
+use Rattle.std.specs.Prelude.{⊤}
 use Rattle.std.specs.List.{AllByRecursion}
 use Rattle.std.proofs.lemmas.Bool.{cases_lt}
 use Rattle.qvt_meta.specs.Metamodels.{Metamodels, class_at, is_opposite}
@@ -21,7 +22,7 @@ use Rattle.qvt_load.proofs.Filled.{empty_of, added_is, put_is}
 use Rattle.qvt_load.proofs.Placing.{ObjectsPut, all_put}
 
 -- each object is of a concrete class of the extent's metamodel
-AreConcrete : Metamodels → List ObjectData → Type 0
+abbrev AreConcrete : Metamodels → List ObjectData → Type 0
 AreConcrete m [] = ⊤
 AreConcrete m (o ∷ os) = ((class_at m o.class.0).is_abstract ≡ false) × AreConcrete m os
 

@@ -44,7 +44,7 @@ ref_below m os k j [] h t = clash false t refl
 ref_below m os k j (x ∷ xs) h t = elim (or_cases (is_object j (value_at 0 x)) (has (map (value_at 0) xs) j) t) [ inl here ↦ at k x h.0 here | inr rest ↦ ref_below m os k j xs h.1 rest ]
   where
     at : (k : TypeKind) (x : Datum) → IsItem m os k x → is_object j (value_at 0 x) ≡ true → j < length os
-    at (ClassKind c) (Ref i) h t = subst (λ z. z < length os) ((Decides-eqb i j).0 t) h.0
+    at (ClassKind c) (Ref i) h t = let q : 0 + i ≡ j = (Decides-eqb (0 + i) j).0 t in subst (λ z. z < length os) (let r : i ≡ j = omega arith in r) h.0
     at k (BoolDatum a) h t = clash false t refl
     at k (Int a) h t = clash false t refl
     at k (Str a) h t = clash false t refl
@@ -73,9 +73,9 @@ module _ (s : Contents) (e k : ℕ) (os : List ObjectData) (model : IsModel s.me
     pub subs : (x f : ℕ) → (slot_in m obs x f ≡ slot_in m fin x f) ⊎ (slot_in m obs x f ≡ [])
 
   -- a slot of object i
-  record IsFor (i : ℕ) (t : SlotData) : Type 0 where
-    is : IsSlot m os (parts.object_at os i).class.0 t
-    list : items_in t.feature.0 (parts.object_at os i).slots ≡ t.items
+  pub record IsFor (i : ℕ) (t : SlotData) : Type 0 where
+    pub is : IsSlot m os (parts.object_at os i).class.0 t
+    pub list : items_in t.feature.0 (parts.object_at os i).slots ≡ t.items
 
   module _ (obs : List Instance) (part : Partial obs) where
     live_new : (i : ℕ) → i < length os → nat_lt (n + i) (length obs) ≡ true
@@ -222,7 +222,7 @@ module _ (s : Contents) (e k : ℕ) (os : List ObjectData) (model : IsModel s.me
   slots_put obs i (t ∷ ts) part below for distinct free later =
       let can : IsPlaceable (with_objects s obs) (n + i) t.feature.0 (slot_values n t) = placeable obs part i below t for.0 free.0 in
       let r : SlotsPut next i ts = slots_put next i ts (part_now obs part i below t for.0 free.0) below for.1 distinct.1 (still_free ts distinct.0 free.1)
-      (λ x f h. slot_other obs part i below t for.0 free.0 x f (ap (λ b. b && (f == t.feature.0)) (ne_eqb x (n + i) (λ q. (omega arith)))) ∙ later x f h) in
+      (λ x f h. slot_other obs part i below t for.0 free.0 x f (ap (λ b. b && (f == t.feature.0)) (ne_eqb x (n + i) (λ q. let r : x ≡ n + i = q in omega arith))) ∙ later x f h) in
       record {
         can = (can, r.can);
         part = r.part;
@@ -273,8 +273,8 @@ module _ (s : Contents) (e k : ℕ) (os : List ObjectData) (model : IsModel s.me
   objects_put obs i [] part same len later = record { can = tt; part = part; sound = λ h. h }
   objects_put obs i (o ∷ rest) part same len later =
       let mine : SlotsPut obs i o.slots = slots_put obs i o.slots part below for distinct (all_free obs i o.slots (λ f. later (n + i) f (omega arith))) (λ x f h. later x f (omega arith)) in
-      let r : ObjectsPut (suc (n + i)) next rest = subst (λ x. ObjectsPut x next rest) (omega arith)
-      (objects_put next (suc i) rest mine.part (λ j. same (suc j) ∙ ap (parts.object_at os) (omega arith)) (omega arith) (λ x f h. mine.later x f (omega arith))) in
+      let r : ObjectsPut (suc (n + i)) next rest = subst (λ x. ObjectsPut x next rest) (let q : n + suc i ≡ suc (n + i) = omega arith in q)
+      (objects_put next (suc i) rest mine.part (λ j. same (suc j) ∙ ap (parts.object_at os) (let q : suc j + i ≡ j + suc i = omega arith in q)) (let q : length rest + suc i ≡ length os = omega arith in q) (λ x f h. mine.later x f (omega arith))) in
       record { can = (mine.can, r.can); part = r.part; sound = λ h. r.sound (mine.sound h) }
     where
       next : List Instance
@@ -287,7 +287,7 @@ module _ (s : Contents) (e k : ℕ) (os : List ObjectData) (model : IsModel s.me
       is = object s e k os model i below
 
       slots_same : o.slots ≡ (parts.object_at os i).slots
-      slots_same = ap (λ (q : ObjectData). q.slots) (same 0)
+      slots_same = ap (λ (q : ObjectData). q.slots) (same 0 ∙ ap (parts.object_at os) (let q : 0 + i ≡ i = omega arith in q))
 
       distinct : AreDistinct o.slots
       distinct = subst AreDistinct (sym slots_same) (distinct_slots m (parts.object_at os i).slots is.order)
@@ -349,5 +349,5 @@ module _ (s : Contents) (e k : ℕ) (os : List ObjectData) (model : IsModel s.me
   }
 
   pub all_put : ObjectsPut n start os
-  all_put = subst (λ x. ObjectsPut x start os) (omega arith)
-      (objects_put start 0 os start_part (λ j. ap (parts.object_at os) (omega arith)) (omega arith) (λ x f h. start_free x f (omega arith)))
+  all_put = subst (λ x. ObjectsPut x start os) (let q : n + 0 ≡ n = omega arith in q)
+      (objects_put start 0 os start_part (λ j. ap (parts.object_at os) (let q : j ≡ j + 0 = omega arith in q)) (let q : length os + 0 ≡ length os = omega arith in q) (λ x f h. start_free x f (omega arith)))

@@ -1,5 +1,5 @@
 -- The values of items where the first object of a model has number n, against those where it has number 0.
-use Rattle.std.proofs.Common.{◌≡◌, ℕ, ◌+◌, ◌<◌, Bool, true, false, ◌==◌, ◌||◌, ◌&&◌, inl, inr, refl, sym, ap, ◌∙◌, subst, List, [], ◌∷◌, map, length, arith}
+use Rattle.std.proofs.Common.{◌≡◌, ℕ, suc, ◌+◌, ◌<◌, Bool, true, false, ◌==◌, ◌||◌, ◌&&◌, inl, inr, refl, sym, ap, ◌∙◌, subst, List, [], ◌∷◌, map, length, arith}
 use Rattle.std.specs.List.{list_any, list_all, AllByRecursion}
 use Rattle.std.specs.Prelude.{All}
 use Rattle.std.proofs.lemmas.Bool.{cases_eq, eq-eqb, ne_eqb, lt-ltb}
@@ -31,7 +31,7 @@ item-shift n j (BoolDatum a) = refl
 item-shift n j (Int a) = refl
 item-shift n j (Str a) = refl
 item-shift n j (Literal a) = refl
-item-shift n j (Ref i) = eq-shift n i j
+item-shift n j (Ref i) = eq-shift n i j ∙ ap (λ k. k == j) (let q : i ≡ 0 + i = omega arith in q)
 
 pub has-shift : (n j : ℕ) (xs : List Datum) → has (map (value_at n) xs) (n + j) ≡ has (map (value_at 0) xs) j
 has-shift n j [] = refl
@@ -55,11 +55,11 @@ held_item n y (x ∷ xs) h = elim (or_cases (is_object y (value_at n x)) (has (m
     at (Int a) h = clash false h refl
     at (Str a) h = clash false h refl
     at (Literal a) h = clash false h refl
-    at (Ref i) h = record { place = i; number = sym ((Decides-eqb (n + i) y).0 h); held = or_left (i == i) (has (map (value_at 0) xs) i) ((Decides-eqb i i).1 refl) }
+    at (Ref i) h = record { place = i; number = sym ((Decides-eqb (n + i) y).0 h); held = or_left (0 + i == i) (has (map (value_at 0) xs) i) ((Decides-eqb (0 + i) i).1 (omega arith)) }
 
 pub length-shift : (n : ℕ) (xs : List Datum) → length (map (value_at n) xs) ≡ length (map (value_at 0) xs)
 length-shift n [] = refl
-length-shift n (x ∷ xs) = ap (λ k. 1 + k) (length-shift n xs)
+length-shift n (x ∷ xs) = ap suc (length-shift n xs)
 
 -- equal items stay equal, and others differ
 same-shift : (n : ℕ) (a b : Datum) → same_value (value_at n a) (value_at n b) ≡ same_value (value_at 0 a) (value_at 0 b)
@@ -87,7 +87,7 @@ same-shift n (Ref a) (BoolDatum b) = refl
 same-shift n (Ref a) (Int b) = refl
 same-shift n (Ref a) (Str b) = refl
 same-shift n (Ref a) (Literal b) = refl
-same-shift n (Ref a) (Ref b) = eq-shift n b a
+same-shift n (Ref a) (Ref b) = eq-shift n b a ∙ sym (eq-shift 0 b a)
 
 any-shift : (n : ℕ) (a : Datum) (xs : List Datum) → list_any (same_value (value_at n a)) (map (value_at n) xs) ≡ list_any (same_value (value_at 0 a)) (map (value_at 0) xs)
 any-shift n a [] = refl

@@ -12,8 +12,8 @@ use Rattle.qvt_load.specs.Steps.{added, CanAdd, slot_values, put_slots, put_obje
 
 pub drop_cons : {X : Type 0} (xs : List X) (i : ℕ) (x : X) → i < length xs → x ≡ get_or xs i x → drop i xs ≡ x ∷ drop (i + 1) xs
 drop_cons [] i x h e = absurd (omega arith)
-drop_cons (y ∷ xs) zero x h e = ap (λ z. z ∷ xs) (sym e)
-drop_cons (y ∷ xs) (suc i) x h e = drop_cons xs i x (omega arith) e
+drop_cons (y ∷ xs) zero x h e = ap (λ z. z ∷ xs) (sym e) ∙ ap (λ k. x ∷ drop k (y ∷ xs)) (let q : 1 ≡ 0 + 1 = omega arith in q)
+drop_cons (y ∷ xs) (suc i) x h e = drop_cons xs i x (omega arith) e ∙ ap (λ k. x ∷ drop k (y ∷ xs)) (let q : suc (i + 1) ≡ suc i + 1 = omega arith in q)
 
 pub drop_none : {X : Type 0} (xs : List X) (i : ℕ) → length xs ≤ i → drop i xs ≡ []
 drop_none [] zero h = refl
@@ -32,7 +32,7 @@ objects_more old now now' n x y all rest o next is h = subst (λ z. IsPutting ol
 
 told_past : (n : ℕ) (os : List ObjectData) (x : ℕ) (old : Option (List ℕ)) → x < n → id_told n os x old ≡ old
 told_past n [] x old h = refl
-told_past n (o ∷ os) x old h = ap (λ b. cond b (Some o.id) (id_told (suc n) os x old)) (ne_eqb x n (λ e. (omega arith))) ∙ told_past (suc n) os x old (omega arith)
+told_past n (o ∷ os) x old h = ap (λ b. cond b (Some o.id) (id_told (suc n) os x old)) (ne_eqb x n (λ e. let r : x ≡ n = e in omega arith)) ∙ told_past (suc n) os x old (omega arith)
 
 pub told_more : (old now now' : List (Option (List ℕ))) (n x y : ℕ) (all rest : List ObjectData) (o : ObjectData) → y ≡ suc x →
     ((z : ℕ) → id_in now' z ≡ cond (z == x) (Some o.id) (id_in now z)) → IsTelling old now n x all (o ∷ rest) → IsTelling old now' n y all rest

@@ -1,5 +1,5 @@
 -- How a model is loaded: its objects are added, and then their slots are set one by one.
-use Rattle.std.specs.Prelude.{◌≡◌, ℕ, suc, Option, List, [], ◌∷◌, map, slice_index_or, slice_set}
+use Rattle.std.specs.Prelude.{⊤, ◌≡◌, ℕ, suc, Option, List, [], ◌∷◌, map, slice_index_or, slice_set}
 use Rattle.qvt_value.specs.declared.value.Value.{Value}
 use Rattle.qvt_meta.specs.Metamodels.{Metamodels, features_of}
 use Rattle.qvt_slots.specs.Contents.{Contents, Instance, no_instance, set_slot, with_new}
@@ -17,7 +17,7 @@ added s e (o ∷ os) = added (with_new s o.class.0 e) e os
 
 abbrev pub CanAdd : Contents → ℕ → List ObjectData → Type 0
 CanAdd s e [] = ⊤
-CanAdd s e (o ∷ os) = IsClassFor s o.class.0 e × CanAdd s e os
+CanAdd s e (o ∷ os) = IsClassFor s o.class.0 e × CanAdd (with_new s o.class.0 e) e os
 
 abbrev pub put_slot : Metamodels → List Instance → ℕ → ℕ → List Value → List Instance
 put_slot m obs o p vs = slice_set obs o (set_slot (features_of m (slice_index_or obs o no_instance).class) (slice_index_or obs o no_instance) p vs)

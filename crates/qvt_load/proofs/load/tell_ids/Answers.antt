@@ -11,7 +11,7 @@ loop-i-preserved c =
     let more = subst (λ (l : List ObjectData). IsTelling c.args.ids.now c.loop-i.ids c.args.first (c.args.first + c.loop-i.i) c.args.objects.now l)
     (drop_cons c.args.objects.now c.loop-i.i c.index-objects-i.result c.loop-i-test.true c.index-objects-i.is) c.loop-i.invariant in
     told_more c.args.ids.now c.loop-i.ids c.set.new.self c.args.first (c.args.first + c.loop-i.i) (c.args.first + (c.loop-i.i + 1)) c.args.objects.now _ c.index-objects-i.result (next c.args.first c.loop-i.i)
-    (λ z. c.in_ok-set.ensures z ∙ ap (λ x. cond (z == x) (Some c.in_ok-id.id) (id_in c.loop-i.ids z)) c.in_ok-number.ensures
+    (λ z. c.in_ok-set.ensures.ok z ∙ ap (λ x. cond (z == x) (Some c.in_ok-id.id) (id_in c.loop-i.ids z)) c.in_ok-number.ensures
     ∙ ap (λ (t : List ℕ). cond (z == (c.args.first + c.loop-i.i)) (Some t) (id_in c.loop-i.ids z)) c.in_ok-id.ensures) more
   where
     next : (n i : ℕ) → n + (i + 1) ≡ suc (n + i)
