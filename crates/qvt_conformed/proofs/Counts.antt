@@ -17,7 +17,7 @@ use Rattle.qvt_conform.specs.Containment.{refs_of, refs, contents_of_slot, conte
 use Rattle.qvt_load.specs.Loaded.{value_at, items_in}
 
 count-app : (y : ℕ) (xs ys : List ℕ) → how_often y (xs ++ ys) ≡ how_often y xs + how_often y ys
-count-app y [] ys = refl
+count-app y [] ys = let q : how_often y ys ≡ 0 + how_often y ys = omega arith in q
 count-app y (x ∷ xs) ys = let r : how_often y (xs ++ ys) ≡ how_often y xs + how_often y ys = count-app y xs ys in go (cond (x == y) 1 0) r
   where
     go : (k : ℕ) → how_often y (xs ++ ys) ≡ how_often y xs + how_often y ys → k + how_often y (xs ++ ys) ≡ k + how_often y xs + how_often y ys
@@ -34,7 +34,7 @@ among_right (x ∷ xs) ys y h = or_right (x == y) _ (among_right xs ys y h)
 counted : (xs : List ℕ) (y : ℕ) → among xs y ≡ true → 1 ≤ how_often y xs
 counted [] y h = clash false h refl
 counted (x ∷ xs) y h = elim (or_cases (x == y) (among xs y) h) [
-  | inl a ↦ subst (λ b. 1 ≤ cond b 1 0 + how_often y xs) (sym a) (omega arith)
+  | inl a ↦ subst (λ b. 1 ≤ cond b 1 0 + how_often y xs) (sym a) (let q : 1 ≤ 1 + how_often y xs = omega arith in q)
   | inr a ↦ let r : 1 ≤ how_often y xs = counted xs y a in more (cond (x == y) 1 0) r
 ]
   where
@@ -55,7 +55,7 @@ held_among (x ∷ xs) j h = elim (or_cases (is_object j (value_at 0 x)) (has (ma
     at (Int a) h = clash false h refl
     at (Str a) h = clash false h refl
     at (Literal a) h = clash false h refl
-    at (Ref i) h = or_left (i == j) false h
+    at (Ref i) h = or_left (i == j) false (ap (λ k. k == j) (let q : i ≡ 0 + i = omega arith in q) ∙ h)
 
 -- ---- slots of an object
 
@@ -105,15 +105,27 @@ two_slots m (t ∷ ts) f g j c d n h k = go (t.feature.0 == f) refl (t.feature.0
 
 in_lists : (lists : List (List ℕ)) (i y : ℕ) → how_often y (slice_index_or lists i []) ≤ how_often_in lists y
 in_lists [] i y = omega arith
-in_lists (l ∷ lists) zero y = omega arith
-in_lists (l ∷ lists) (suc i) y = let r : how_often y (slice_index_or lists i []) ≤ how_often_in lists y = in_lists lists i y in omega (arith, r)
+in_lists (l ∷ lists) zero y = let q : how_often y l ≤ how_often y l + how_often_in lists y = omega arith in q
+in_lists (l ∷ lists) (suc i) y =
+    let r : how_often y (slice_index_or lists i []) ≤ how_often_in lists y = in_lists lists i y in
+    let q : how_often y (slice_index_or lists i []) ≤ how_often y l + how_often_in lists y = omega (arith, r) in q
 
 in_two_lists : (lists : List (List ℕ)) (i k y : ℕ) → i ≢ k → 1 ≤ how_often y (slice_index_or lists i []) → 1 ≤ how_often y (slice_index_or lists k []) → 2 ≤ how_often_in lists y
 in_two_lists [] i k y n h g = absurd (omega arith)
 in_two_lists (l ∷ lists) zero zero y n h g = absurd (n refl)
-in_two_lists (l ∷ lists) zero (suc k) y n h g = let r = in_lists lists k y in omega (arith, r, h, g)
-in_two_lists (l ∷ lists) (suc i) zero y n h g = let r = in_lists lists i y in omega (arith, r, h, g)
-in_two_lists (l ∷ lists) (suc i) (suc k) y n h g = let r = in_two_lists lists i k y (λ e. n (ap suc e)) h g in omega (arith, r)
+in_two_lists (l ∷ lists) zero (suc k) y n h g =
+    let r : how_often y (slice_index_or lists k []) ≤ how_often_in lists y = in_lists lists k y in
+    let a : 1 ≤ how_often y l = h in
+    let b : 1 ≤ how_often y (slice_index_or lists k []) = g in
+    let q : 2 ≤ how_often y l + how_often_in lists y = omega (arith, r, a, b) in q
+in_two_lists (l ∷ lists) (suc i) zero y n h g =
+    let r : how_often y (slice_index_or lists i []) ≤ how_often_in lists y = in_lists lists i y in
+    let a : 1 ≤ how_often y (slice_index_or lists i []) = h in
+    let b : 1 ≤ how_often y l = g in
+    let q : 2 ≤ how_often y l + how_often_in lists y = omega (arith, r, a, b) in q
+in_two_lists (l ∷ lists) (suc i) (suc k) y n h g =
+    let r : 2 ≤ how_often_in lists y = in_two_lists lists i k y (λ e. n (ap suc e)) h g in
+    let q : 2 ≤ how_often y l + how_often_in lists y = omega (arith, r) in q
 
 pub once_in_lists : (lists : List (List ℕ)) (i k y : ℕ) → how_often_in lists y ≤ 1 → among (slice_index_or lists i []) y ≡ true → among (slice_index_or lists k []) y ≡ true → i ≡ k
 once_in_lists lists i k y few h g = elim (cases_eq i k) [
@@ -137,7 +149,7 @@ AreRefs xs = AllByRecursion (λ x. (i : ℕ) × (x ≡ Ref i)) xs
 
 same_has : (i : ℕ) (xs : List Datum) → list_any (same_value (value_at 0 (Ref i))) (map (value_at 0) xs) ≡ has (map (value_at 0) xs) i
 same_has i [] = refl
-same_has i (x ∷ xs) = ap (λ b. is_object i (value_at 0 x) || b) (same_has i xs)
+same_has i (x ∷ xs) = ap (λ k. is_object k (value_at 0 x) || list_any (same_value (value_at 0 (Ref i))) (map (value_at 0) xs)) (let q : 0 + i ≡ i = omega arith in q) ∙ ap (λ b. is_object i (value_at 0 x) || b) (same_has i xs)
 
 pub repeated_twice : (xs : List Datum) → AllByRecursion (λ x. (i : ℕ) × (x ≡ Ref i)) xs → repeats (map (value_at 0) xs) ≡ true → Twice xs
 repeated_twice [] a h = clash false h refl
@@ -149,7 +161,7 @@ repeated_twice (x ∷ xs) a h = elim (or_cases (list_any (same_value (value_at 0
       record {
         place = i;
         held = or_right (is_object i (value_at 0 x)) _ again;
-        twice = subst (λ y. 2 ≤ how_often i (refs_of y ++ refs xs)) (sym a.0.1) (subst (λ b. 2 ≤ cond b 1 0 + how_often i (refs xs)) (sym ((Decides-eqb i i).1 refl)) (omega (arith, more)));
+        twice = subst (λ y. 2 ≤ how_often i (refs_of y ++ refs xs)) (sym a.0.1) (subst (λ b. 2 ≤ cond b 1 0 + how_often i (refs xs)) (sym ((Decides-eqb i i).1 refl)) (let q : 2 ≤ 1 + how_often i (refs xs) = omega (arith, more) in q));
       }
   | inr rest ↦
       let r : Twice xs = repeated_twice xs a.1 rest in

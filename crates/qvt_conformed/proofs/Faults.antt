@@ -157,7 +157,7 @@ same_back (Ref a) (BoolDatum b) h = h
 same_back (Ref a) (Int b) h = h
 same_back (Ref a) (Str b) h = h
 same_back (Ref a) (Literal b) h = h
-same_back (Ref a) (Ref b) h = h
+same_back (Ref a) (Ref b) h = (Decides-eqb a b).1 (let q : 0 + a ≡ 0 + b = (Decides-eqb (0 + a) (0 + b)).0 h in omega arith)
 
 any_one : (x : Datum) (before : List Datum) → list_any (same_item x) before ≡ false → AllByRecursion (λ b. same_value (value_at 0 b) (value_at 0 x) ≡ false) before
 any_one x [] n = tt
@@ -198,7 +198,7 @@ ref_item j (BoolDatum a) = refl
 ref_item j (Int a) = refl
 ref_item j (Str a) = refl
 ref_item j (Literal a) = refl
-ref_item j (Ref i) = eq_turned i j
+ref_item j (Ref i) = ap (λ k. k == j) (let q : 0 + i ≡ i = omega arith in q) ∙ eq_turned i j
 
 has_ref : (xs : List Datum) (j : ℕ) → has (map (value_at 0) xs) j ≡ list_any (is_ref j) xs
 has_ref [] j = refl
@@ -218,7 +218,7 @@ none_lacks os g i j (x ∷ xs) n h = elim (or_cases (is_object j (value_at 0 x))
     at (Str a) h n = clash false h refl
     at (Literal a) h n = clash false h refl
     at (Ref k) h n = has_ref (items_in g (object_at os j).slots) i ∙ ap (list_any (is_ref i)) (sym (same_items g (object_at os j).slots))
-        ∙ not_out _ (subst (λ z. not (list_any (is_ref i) (item.items_in g (object_at os z).slots)) ≡ false) ((Decides-eqb k j).0 h) n)
+        ∙ not_out _ (subst (λ z. not (list_any (is_ref i) (item.items_in g (object_at os z).slots)) ≡ false) (let q : 0 + k ≡ j = (Decides-eqb (0 + k) j).0 h in let r : k ≡ j = omega arith in r) n)
 
 linked_back : (m : Metamodels) (os : List ObjectData) (q : Option FeatureNo) (g i j : ℕ) (xs : List Datum) → is_feature_number q g ≡ true → lack_opposite q os i xs ≡ false → has (map (value_at 0) xs) j ≡ true → has (slots_at os j g) i ≡ true
 linked_back m os None g i j xs o n h = clash false o refl
