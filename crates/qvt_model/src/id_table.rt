@@ -1,6 +1,7 @@
-ghost use Rattle.std.specs.Prelude.{◌≡◌, [], option_map};
-ghost use Rattle.qvt_model.specs.IdTables.{id_in};
+ghost use Rattle.std.specs.Prelude.{◌≡◌, ◌==◌, ℕ, [], option_map, Some, if◌then◌else◌, OnOk};
+ghost use Rattle.qvt_model.specs.IdTables.{id_in, IsReached};
 
+use qvt_base::list_fault::ListFault;
 use qvt_base::numbers::Oid;
 use qvt_base::text::Text;
 use std::alloc::Global;
@@ -44,4 +45,26 @@ impl IdTable {
             None => None,
         }
     }
+
+    /// Tells the id of an object in its file.
+    pub fn set(&mut self, object: Oid, id: Text) -> Result<(), ListFault>
+        ensures ok { OnOk result ((x : ℕ) → id_in self.new x ≡ (if x == object.0 then Some id else id_in self.old x)) }
+    {
+        let at = object.0 as usize;
+        reach(&mut self.ids, at + 1)?;
+        self.ids[at] = Some(id);
+        Ok(())
+    }
+}
+
+/// Makes room for so many ids.
+fn reach(ids: &mut Vec<Option<Text>>, count: usize) -> Result<(), ListFault>
+    ensures { OnOk result (IsReached ids.old.items ids.new.items count) }
+{
+    for _place in ids.len()..count {
+        let Ok(()) = ids.push(None) else {
+            return Err(ListFault::NoMemory);
+        };
+    }
+    Ok(())
 }

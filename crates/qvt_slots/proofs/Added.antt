@@ -12,9 +12,10 @@ use Rattle.qvt_metamodel.specs.WellFormed.{IsWellFormed}
 use Rattle.qvt_relation.proofs.Bools.{clash}
 use Rattle.qvt_slots.specs.declared.cell.Holder.{Holder}
 use Rattle.qvt_slots.specs.declared.cell.Cell.{Cell}
+use Rattle.qvt_slots.specs.declared.cell.Marks.{Marks}
 use Rattle.qvt_slots.specs.declared.extent.Extent.{Extent}
 use Rattle.qvt_slots.specs.Slots.{Slots, has, Contains, Inside, directly, through}
-use Rattle.qvt_slots.specs.Contents.{Instance, AreNamed, no_instance, is_live, class_of, slot_in}
+use Rattle.qvt_slots.specs.Contents.{Instance, AreNamed, HoldOwn, no_instance, is_live, class_of, slot_in, with_new}
 use Rattle.qvt_slots.specs.Types.{is_of_type}
 use Rattle.qvt_slots.specs.Repeats.{repeats, AreUnique}
 use Rattle.qvt_slots.specs.Cells.{instance_of, instances, contents_of, holder_at, AreWhole, IsKept}
@@ -33,6 +34,11 @@ first_contained m s (through {x} {y} {z} k i) = (y, k)
 pub instances-push : (cells : List Cell) (k : Cell) → instances (cells ++ k ∷ []) ≡ instances cells ++ instance_of k ∷ []
 instances-push [] k = refl
 instances-push (cell ∷ cells) k = ap (λ l. instance_of cell ∷ l) (instances-push cells k)
+
+-- the view of one more cell
+pub cells_new : (m : Metamodels) (extents : List Extent) (cells : List Cell) (k : Cell) → k.slots.items ≡ map (λ _. []) (features_of m k.class.0) → contents_of m extents (cells ++ k ∷ []) ≡ with_new (contents_of m extents cells) k.class.0 k.extent
+cells_new m extents cells k e = ap (λ (l : List Instance). record { metas = m; extents = extents; objects = l })
+    (instances-push cells k ∙ ap (λ (t : List (List Value)). instances cells ++ record { class = k.class.0; extent = k.extent; slots = t } ∷ []) e)
 
 holder-push : (cells : List Cell) (k : Cell) (y : ℕ) → k.holder ≡ None → holder_at (cells ++ k ∷ []) y ≡ holder_at cells y
 holder-push [] k zero e = e
@@ -80,9 +86,10 @@ module _ (m : Metamodels) (cells : List Cell) (k : Cell) (kept : AreWhole m cell
           sym (ap (λ (l : List Instance). (slice_index_or l y no_instance).class) (instances-push cells k) ∙ ap (λ (ob : Instance). ob.class) (below_end (instances cells) (instance_of k) y no_instance h)),
         )
 
-    pub added_kept : (members lists : List (List Oid)) (distinct : Bool) → IsKept m extents cells members distinct → k.extent < length members →
-        lists ≡ set members k.extent (slice_index_or members k.extent [] ++ record { 0 = length cells } ∷ []) → IsKept m extents (cells ++ k ∷ []) lists distinct
-    added_kept members lists distinct store live is = record {
+    pub added_kept : (members lists : List (List Oid)) (marks : Marks) → IsKept m extents cells members marks → k.extent < length members →
+        lists ≡ set members k.extent (slice_index_or members k.extent [] ++ record { 0 = length cells } ∷ []) →
+        (HoldOwn (contents_of m extents cells) → HoldOwn (contents_of m extents (cells ++ k ∷ []))) → IsKept m extents (cells ++ k ∷ []) lists marks
+    added_kept members lists marks store live is own = record {
       whole = added_whole;
       typed = record {
         types = λ x f. subst (λ (l : List Value). list_all (is_of_type (contents_of m extents (cells ++ k ∷ [])) f) l ≡ true) (sym (same_slots x f))
@@ -91,6 +98,7 @@ module _ (m : Metamodels) (cells : List Cell) (k : Cell) (kept : AreWhole m cell
       named = store.named;
       listed = members_added extents cells (cells ++ k ∷ []) k members lists (length cells) (length-instances cells) (instances-push cells k) live is store.listed;
       unique = λ d. let u : AreUnique (contents_of m extents cells) = store.unique d in record { unique = λ x f t. ap repeats (same_slots x f) ∙ u.unique x f t };
+      own = λ t. own (store.own t);
     }
 
 pub empties_more : (gs : List FeatureNo) (i : ℕ) (d : FeatureNo) → i < length gs → ◌≡◌ {A = List (List Value)} (map (λ (g : FeatureNo). []) (take (i + 1) gs)) (map (λ (g : FeatureNo). []) (take i gs) ++ [] ∷ [])
@@ -104,7 +112,7 @@ empties_more gs i d h = ap (λ (l : List FeatureNo). map (λ (g : FeatureNo). le
 pub no_slots : (m : Metamodels) (x f : ℕ) → slot_in m [] x f ≡ []
 no_slots m x f = list_of-nil (features_of m 0) f
 
-pub empty_kept : (m : Metamodels) (extents : List Extent) (lists : List (List Oid)) → IsWellFormed m → AreNamed m extents → AreEmpty (length extents) lists → IsKept m extents [] lists true
+pub empty_kept : (m : Metamodels) (extents : List Extent) (lists : List (List Oid)) → IsWellFormed m → AreNamed m extents → AreEmpty (length extents) lists → IsKept m extents [] lists (record { distinct = true; own = true })
 empty_kept m extents lists well named are = record {
   whole = record {
     well_formed = well;
@@ -121,6 +129,7 @@ empty_kept m extents lists well named are = record {
   named = named;
   listed = no_members extents lists are;
   unique = λ d. record { unique = λ x f t. ap repeats (no_slots m x f) };
+  own = λ d. record { own = λ x f y model h. absurd (none x f y h) };
 }
   where
     none : (x f y : ℕ) → has (slot_in m [] x f) y ≡ true → ⊥

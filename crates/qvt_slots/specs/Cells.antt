@@ -1,6 +1,6 @@
 -- How a store is kept: numbered cells of objects, each with the containment slot that holds it, and for each extent the list
 -- of its objects.
-use Rattle.std.specs.Prelude.{◌≡◌, ◌≢◌, ℕ, ◌<◌, ◌≤◌, Bool, List, [], map, length, slice_index_or, slice_set, IsTrue, Option, Some, None, ◌==◌, ◌&&◌, if◌then◌else◌}
+use Rattle.std.specs.Prelude.{◌≡◌, ◌≢◌, ℕ, ◌<◌, ◌≤◌, List, [], map, length, slice_index_or, slice_set, IsTrue, Option, Some, None, ◌==◌, ◌&&◌, if◌then◌else◌}
 use Rattle.qvt_base.specs.declared.numbers.FeatureNo.{FeatureNo}
 use Rattle.qvt_base.specs.declared.numbers.Oid.{Oid}
 use Rattle.qvt_value.specs.declared.value.Value.{Value}
@@ -9,8 +9,9 @@ use Rattle.qvt_metamodel.specs.WellFormed.{IsWellFormed}
 use Rattle.qvt_slots.specs.declared.extent.Extent.{Extent}
 use Rattle.qvt_slots.specs.declared.cell.Holder.{Holder}
 use Rattle.qvt_slots.specs.declared.cell.Cell.{Cell}
+use Rattle.qvt_slots.specs.declared.cell.Marks.{Marks}
 use Rattle.qvt_slots.specs.Slots.{Slots, has, Inside}
-use Rattle.qvt_slots.specs.Contents.{Instance, Contents, AreNamed, no_instance, slot_in, members_from, set_slot}
+use Rattle.qvt_slots.specs.Contents.{Instance, Contents, AreNamed, HoldOwn, no_instance, slot_in, members_from, set_slot}
 use Rattle.qvt_slots.specs.Types.{AreTyped}
 use Rattle.qvt_slots.specs.Repeats.{AreUnique}
 
@@ -54,13 +55,14 @@ pub record AreMembers (extents : List Extent) (cells : List Cell) (members : Lis
   pub count : length members ≡ length extents
   pub lists : (e : ℕ) → e < length members → slice_index_or members e [] ≡ members_from 0 (instances cells) e
 
--- `distinct` is set only where no unique slot repeats a value
-pub record IsKept (m : Metamodels) (extents : List Extent) (cells : List Cell) (members : List (List Oid)) (distinct : Bool) : Type 0 where
+-- each mark is set only where it holds
+pub record IsKept (m : Metamodels) (extents : List Extent) (cells : List Cell) (members : List (List Oid)) (marks : Marks) : Type 0 where
   pub whole : AreWhole m cells
   pub named : AreNamed m extents
   pub typed : AreTyped (contents_of m extents cells)
   pub listed : AreMembers extents cells members
-  pub unique : IsTrue distinct → AreUnique (contents_of m extents cells)
+  pub unique : IsTrue marks.distinct → AreUnique (contents_of m extents cells)
+  pub own : IsTrue marks.own → HoldOwn (contents_of m extents cells)
 
 -- feature f stands at i, and at no earlier place
 pub record IsPlaceOf (features : List FeatureNo) (f i : ℕ) : Type 0 where

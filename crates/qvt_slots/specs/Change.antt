@@ -56,6 +56,14 @@ names_containment m (Some q) = is_containment m q.0
 abbrev pub is_container : Metamodels → ℕ → Bool
 is_container m f = names_containment m (opposite m f)
 
+abbrev pub is_some_feature : Option FeatureNo → Bool
+is_some_feature None = false
+is_some_feature (Some q) = true
+
+-- a change of a slot of the feature may touch other slots
+abbrev pub is_linked : Metamodels → ℕ → Bool
+is_linked m f = is_containment m f || is_some_feature (opposite m f)
+
 -- slot (x, f) is the opposite slot of an added object
 abbrev pub gains : Change → ℕ → ℕ → Bool
 gains c x f = is_opposite c.metas c.feature f && is_added c x

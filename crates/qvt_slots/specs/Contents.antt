@@ -7,7 +7,7 @@ use Rattle.qvt_value.specs.declared.value.Value.{Value}
 use Rattle.qvt_slots.specs.declared.extent.Extent.{Extent}
 use Rattle.qvt_metamodel.specs.Metamodels.{Metamodels, features_of, has_feature}
 use Rattle.qvt_metamodel.specs.Named.{metamodel_at}
-use Rattle.qvt_slots.specs.Slots.{Slots}
+use Rattle.qvt_slots.specs.Slots.{Slots, has}
 
 -- `slots` has the list of each feature of the class, in their order
 pub record Instance : Type 0 where
@@ -74,6 +74,10 @@ slot_of s = slot_in s.metas s.objects
 -- object x is there and its class has feature f
 abbrev pub is_slot : Contents → ℕ → ℕ → Bool
 is_slot s x f = is_live s x && has_feature s.metas (class_of s x) f
+
+-- the slots of a model hold objects of its own extent alone
+pub record HoldOwn (s : Contents) : Type 0 where
+  pub own : (x f y : ℕ) → IsTrue (is_model s (extent_of s x)) → IsTrue (has (slot_of s x f) y) → extent_of s y ≡ extent_of s x
 
 -- the objects of extent e in order, numbered from x on
 abbrev pub members_from : ℕ → List Instance → ℕ → List Oid

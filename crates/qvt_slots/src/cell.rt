@@ -8,6 +8,15 @@ pub struct Holder {
     pub feature: FeatureNo,
 }
 
+/// What is known of all slots. Where a mark is not set, nothing is known.
+#[derive(Debug, Clone, Copy, PartialEq, Eq)]
+pub struct Marks {
+    /// No unique slot holds a value twice.
+    pub distinct: bool,
+    /// No slot of a model holds an object of another extent.
+    pub own: bool,
+}
+
 /// An object with its slots, in the order of the features of its class.
 #[derive(Debug, Drop)]
 pub struct Cell {

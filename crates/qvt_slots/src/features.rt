@@ -1,8 +1,8 @@
 //! Tests of features.
 
 ghost use Rattle.std.specs.Prelude.{◌≡◌};
-ghost use Rattle.qvt_metamodel.specs.Metamodels.{is_containment, is_single, is_opposite, shape_of};
-ghost use Rattle.qvt_slots.specs.Change.{is_container};
+ghost use Rattle.qvt_metamodel.specs.Metamodels.{is_containment, is_single, is_opposite, opposite, shape_of};
+ghost use Rattle.qvt_slots.specs.Change.{is_container, is_linked, is_some_feature};
 ghost use Rattle.qvt_slots.specs.Assign.{is_beyond};
 
 use qvt_base::numbers::FeatureNo;
@@ -54,6 +54,19 @@ pub fn is_container(metas: &Metas, feature: FeatureNo) -> bool
         None => false,
         Some(opposite) => is_containment(metas, opposite),
     }
+}
+
+fn has_opposite(metas: &Metas, feature: FeatureNo) -> bool
+    ensures { result ≡ is_some_feature (opposite metas.now feature.0) }
+{
+    metas.opposite(feature).is_some()
+}
+
+/// Whether it is a containment or has an opposite.
+pub fn is_linked(metas: &Metas, feature: FeatureNo) -> bool
+    ensures { result ≡ is_linked metas.now feature.0 }
+{
+    is_containment(metas, feature) || has_opposite(metas, feature)
 }
 
 /// Whether so many items pass the upper bound.

@@ -5,7 +5,7 @@ use Rattle.std.specs.List.{list_any}
 use Rattle.qvt_base.specs.declared.numbers.Oid.{Oid}
 use Rattle.qvt_value.specs.declared.value.Value.{Value}
 use Rattle.qvt_metamodel.specs.Metamodels.{Metamodels, shape_of}
-use Rattle.qvt_relation.proofs.Bools.{and_left, or_left, or_false}
+use Rattle.qvt_relation.proofs.Bools.{and_left, or_left}
 use Rattle.qvt_slots.specs.Change.{oid_of, is_new_object, objects_beyond, is_here, slot_elsewhere}
 use Rattle.qvt_slots.specs.Contents.{Contents, slot_of, extent_of, is_model}
 use Rattle.qvt_slots.specs.Types.{is_of_type, IsAssignable}
@@ -16,6 +16,7 @@ use Rattle.qvt_slots.proofs.Objects.{none_beyond_all, has-push}
 use Rattle.qvt_slots.proofs.Repeating.{without-push, without_same}
 use Rattle.qvt_store.proofs.SoundKept.{all-push}
 use Rattle.qvt_store.proofs.Opposites.{here}
+use Rattle.qvt_store.proofs.Own.{any-push}
 use Rattle.qvt_store.proofs.Untouched.{all_stay}
 
 pub beyond-append : (others xs ys : List Value) → objects_beyond others (xs ++ ys) ≡ objects_beyond others xs ++ objects_beyond others ys
@@ -55,10 +56,6 @@ new_last m p old v u distinct absent = ap (λ b. cond b (without_repeats (old ++
 pub new_none : (m : Metamodels) (p : ℕ) (old : List Value) (v : Value) → (shape_of m p).unique ≡ true → repeats old ≡ false → list_any (λ w. same_value w v) old ≡ true → new_list m p (old ++ v ∷ []) ≡ old
 new_none m p old v u distinct there = ap (λ b. cond b (without_repeats (old ++ v ∷ [])) (old ++ v ∷ [])) u ∙ without-push old v
     ∙ ap (λ b. cond b (without_repeats old) (without_repeats old ++ v ∷ [])) there ∙ without_same old distinct
-
-pub any-push : (t : Value → Bool) (vs : List Value) (v : Value) → list_any t (vs ++ v ∷ []) ≡ (list_any t vs || t v)
-any-push t [] v = or_false (t v)
-any-push t (w ∷ vs) v = elim (t w) as (λ b. (b || list_any t (vs ++ v ∷ [])) ≡ ((b || list_any t vs) || t v)) [ true ↦ refl | false ↦ any-push t vs v ]
 
 pub crosses-push : (s : Contents) (o : ℕ) (vs : List Value) (v : Value) → (is_model s (extent_of s o) && (list_any (is_elsewhere s o) vs || is_elsewhere s o v)) ≡ crosses s o (vs ++ v ∷ [])
 crosses-push s o vs v = ap (λ b. is_model s (extent_of s o) && b) (sym (any-push (is_elsewhere s o) vs v))

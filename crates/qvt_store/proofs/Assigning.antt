@@ -57,8 +57,8 @@ module _ (s : Contents) (o : Oid) (p : FeatureNo) (vs items : List Value) (added
   done n e ok' c = assigned s d items known.well_formed known.acyclic is fit vs new
       (none_refused s d items known.well_formed known.acyclic is fit (subst (λ k. IsAllowed s (drafted s d) k) e ok') c)
 
-  pub ready : (n : ℕ) → n ≡ length items → IsAllowed s (drafted s d) n → (ws : List Write) (released : List Oid) → IsPlan s (drafted s d) ws → released ≡ released_of s.metas (slot_of s) d ws → Ready s d items ws released
-  ready n e ok' ws released plan r =
+  pub ready : (n : ℕ) → n ≡ length items → IsAllowed s (drafted s d) n → crosses s o.0 items ≡ false → (ws : List Write) (released : List Oid) → IsPlan s (drafted s d) ws → released ≡ released_of s.metas (slot_of s) d ws → Ready s d items ws released
+  ready n e ok' own ws released plan r =
       let all : IsAllowed s (drafted s d) (length items) = subst (λ k. IsAllowed s (drafted s d) k) e ok' in
       record {
         draft = is;
@@ -66,6 +66,7 @@ module _ (s : Contents) (o : Oid) (p : FeatureNo) (vs items : List Value) (added
         single = fits s d items known.well_formed known.acyclic is fit all.few;
         acyclic = stays_acyclic s d items known.well_formed known.acyclic is fit all.few all.acyclic;
         unique = λ u. ap repeats new ∙ new_no_repeats s.metas p.0 vs u;
+        own = own;
         plan = plan;
         is_released = r;
       }

@@ -14,12 +14,13 @@ use Rattle.qvt_metamodel.specs.WellFormed.{IsWellFormed}
 use Rattle.qvt_relation.proofs.Bools.{and_left, and_right, and_both, or_cases, or_left, or_right, not_true, not_of_false, either, clash, refuted}
 use Rattle.qvt_slots.specs.declared.cell.Holder.{Holder}
 use Rattle.qvt_slots.specs.declared.cell.Cell.{Cell}
+use Rattle.qvt_slots.specs.declared.cell.Marks.{Marks}
 use Rattle.qvt_slots.specs.declared.commit.Write.{Write}
 use Rattle.qvt_slots.specs.declared.draft.Draft.{Draft}
 use Rattle.qvt_slots.specs.declared.extent.Extent.{Extent}
 use Rattle.qvt_slots.specs.Slots.{Slots, has, OneContainer, Inside}
-use Rattle.qvt_slots.specs.Change.{Change, among, objects_beyond, is_here, is_added, slot_elsewhere, slot_after}
-use Rattle.qvt_slots.specs.Contents.{Contents, Instance, no_instance, is_live, is_slot, list_of, slot_in, slot_of, with_slot}
+use Rattle.qvt_slots.specs.Change.{Change, is_linked, among, objects_beyond, is_here, is_added, slot_elsewhere, slot_after}
+use Rattle.qvt_slots.specs.Contents.{Contents, Instance, HoldOwn, no_instance, is_live, is_model, extent_of, is_slot, list_of, slot_in, slot_of, with_slot}
 use Rattle.qvt_slots.specs.Types.{is_of_type}
 use Rattle.qvt_slots.specs.Repeats.{repeats}
 use Rattle.qvt_slots.specs.Assign.{change_to, instance_after, instances_after, store_after}
@@ -39,6 +40,7 @@ use Rattle.qvt_store.proofs.Attributes.{stays_live, listed_same}
 use Rattle.qvt_store.specs.Ready.{Ready}
 use Rattle.qvt_store.proofs.After.{instance-after, length-after, no_slot_empty, empty_after, item_object}
 use Rattle.qvt_store.proofs.SoundKept.{types_after, unique_after}
+use Rattle.qvt_store.proofs.Own.{own_after, in_model}
 
 -- the writes leave the lists of the slots that they list, and the others as they are
 right_written : (s : Contents) (c : Change) (ws : List Write) (t : Slots) → All (IsRight s c) ws → (x f : ℕ) → written ws t x f ≡ cond (listed ws x f) (slot_elsewhere c x f) (t x f)
@@ -168,7 +170,7 @@ held_right s c m (w ∷ ws) y h right e = rest (held_of m ws y) refl e (held_rig
 place_at : (m : Metamodels) (well : IsWellFormed m) (k i : ℕ) → i < length (features_of m k) → IsPlaceOf (features_of m k) (slice_index_or (features_of m k) i (record { 0 = 0 })).0 i
 place_at m well k i h = record { within = h; here = refl; earlier = λ j l. well.distinct_features k j i l h }
 
-lists_told : (m : Metamodels) (well : IsWellFormed m) (k : ℕ) (lists : List (List Value)) (h : ℕ → List Value) → length lists ≡ length (features_of m k) →
+pub lists_told : (m : Metamodels) (well : IsWellFormed m) (k : ℕ) (lists : List (List Value)) (h : ℕ → List Value) → length lists ≡ length (features_of m k) →
     ((f : ℕ) → among_features f (features_of m k) ≡ true → list_of (features_of m k) lists f ≡ h f) → lists ≡ map (λ (g : FeatureNo). h g.0) (features_of m k)
 lists_told m well k lists h l told = same_lists lists (map (λ (g : FeatureNo). h g.0) (features_of m k)) (l ∙ sym (length-mapped (features_of m k)))
     (λ i d b.
@@ -492,8 +494,17 @@ module _ (m : Metamodels) (extents : List Extent) (old : List Cell) (d : Draft) 
       acyclic = λ x i. ready.acyclic (record { object = x; inside = subst (λ (t : Slots). Inside m t x x) (λ j y f. slots_are y f j) i });
     }
 
-    pub kept_whole : (members : List (List Oid)) (distinct : Bool) → IsKept m extents old members distinct → IsKept m extents new members distinct
-    kept_whole members distinct kept' = record {
+    own_new : HoldOwn s → (is_model s (extent_of s o) || not (is_linked m p)) ≡ true → HoldOwn (contents_of m extents new)
+    own_new before inside = record {
+      own = λ x f y model h.
+          same.extents y
+          ∙ own_after s o p items before ready.own (in_model s o p items inside) x f y (subst (λ n. is_model s n ≡ true) (same.extents x) model) (subst (λ l. has l y ≡ true) (slots_are x f) h)
+          ∙ sym (same.extents x);
+    }
+
+    pub kept_whole : (members : List (List Oid)) (marks marks' : Marks) → IsKept m extents old members marks → marks'.distinct ≡ marks.distinct →
+        (marks'.own ≡ true → (marks.own ≡ true) × ((is_model s (extent_of s o) || not (is_linked m p)) ≡ true)) → IsKept m extents new members marks'
+    kept_whole members marks marks' kept' same_mark only = record {
       whole = whole_after;
       typed = record {
         types = λ x f. subst (λ (l : List Value). list_all (is_of_type (contents_of m extents new) f) l ≡ true) (sym (slots_are x f))
@@ -501,7 +512,8 @@ module _ (m : Metamodels) (extents : List Extent) (old : List Cell) (d : Draft) 
       };
       named = kept'.named;
       listed = listed_same m extents old new members same kept'.listed;
-      unique = λ t. record { unique = λ x f u. ap repeats (slots_are x f) ∙ unique_after s o p items ready.unique (kept'.unique t) x f u };
+      unique = λ t. record { unique = λ x f u. ap repeats (slots_are x f) ∙ unique_after s o p items ready.unique (kept'.unique (sym same_mark ∙ t)) x f u };
+      own = λ t. let r : (marks.own ≡ true) × ((is_model s (extent_of s o) || not (is_linked m p)) ≡ true) = only t in own_new (kept'.own r.0) r.1;
     }
 
     pub gives_store : contents_of m extents new ≡ store_after s c

@@ -3,6 +3,8 @@ pub mod Held
 pub mod Opposites
 pub mod Containers
 pub mod After
+pub mod Own
+pub mod Alone
 pub mod SoundKept
 pub mod SoundGrown
 pub mod Plans

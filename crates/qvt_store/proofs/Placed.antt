@@ -10,10 +10,11 @@ use Rattle.qvt_metamodel.specs.Metamodels.{Metamodels, features_of, has_feature,
 use Rattle.qvt_relation.proofs.Bools.{and_left, and_right, and_both, not_true, either, clash, refuted}
 use Rattle.qvt_slots.specs.declared.cell.Holder.{Holder}
 use Rattle.qvt_slots.specs.declared.cell.Cell.{Cell}
+use Rattle.qvt_slots.specs.declared.cell.Marks.{Marks}
 use Rattle.qvt_slots.specs.declared.commit.Write.{Write}
 use Rattle.qvt_slots.specs.declared.extent.Extent.{Extent}
 use Rattle.qvt_slots.specs.Slots.{Slots, has, Contains, Inside, directly, through}
-use Rattle.qvt_slots.specs.Contents.{Contents, Instance, no_instance, is_live, slot_in, slot_of, set_slot, with_slot}
+use Rattle.qvt_slots.specs.Contents.{Contents, Instance, HoldOwn, no_instance, extent_of, is_model, is_live, slot_in, slot_of, set_slot, with_slot}
 use Rattle.qvt_slots.specs.Types.{is_of_type}
 use Rattle.qvt_slots.specs.Repeats.{repeats, AreUnique}
 use Rattle.qvt_slots.specs.Cells.{instances, instance_in, contents_of, holder_at, holder_in, AreWhole, IsKept, SameObjects, IsPut, with_list}
@@ -22,6 +23,8 @@ use Rattle.qvt_store.specs.Place.{IsPlaceable}
 use Rattle.qvt_store.proofs.Attributes.{stays_live, listed_same, each_put}
 use Rattle.qvt_slots.proofs.Typed.{all_kept}
 use Rattle.qvt_store.proofs.After.{item_object}
+use Rattle.qvt_slots.specs.Assign.{crosses}
+use Rattle.qvt_store.proofs.Own.{same_extent}
 use Rattle.qvt_slots.proofs.Cells.{length-instances}
 use Rattle.qvt_slots.proofs.Holds.{same_count}
 
@@ -134,9 +137,18 @@ module _ (m : Metamodels) (extents : List Extent) (old mid new : List Cell) (w :
       acyclic = acyclic_new;
     }
 
-    pub placed_kept : (members : List (List Oid)) (distinct distinct' : Bool) → IsKept m extents old members distinct →
-        (distinct' ≡ true → (distinct ≡ true) × ((shape_of m p).unique ≡ true → repeats vs ≡ false)) → IsKept m extents new members distinct'
-    placed_kept members distinct distinct' kept' only = record {
+    own_new : HoldOwn s → crosses s o vs ≡ false → HoldOwn (contents_of m extents new)
+    own_new before stays = record {
+      own = λ x f y model h. same.extents y
+          ∙ each_put (λ x f l. (y : ℕ) → is_model s (extent_of s x) ≡ true → has l y ≡ true → extent_of s y ≡ extent_of s x) (slot_of s) o p vs
+          (same_extent s o vs stays) (λ x f y. before.own x f y) x f y (subst (λ n. is_model s n ≡ true) (same.extents x) model) (subst (λ l. has l y ≡ true) (slots_are x f) h)
+          ∙ sym (same.extents x);
+    }
+
+    pub placed_kept : (members : List (List Oid)) (marks marks' : Marks) → IsKept m extents old members marks →
+        (marks'.distinct ≡ true → (marks.distinct ≡ true) × ((shape_of m p).unique ≡ true → repeats vs ≡ false)) →
+        (marks'.own ≡ true → (marks.own ≡ true) × (crosses s o vs ≡ false)) → IsKept m extents new members marks'
+    placed_kept members marks marks' kept' only stay = record {
       whole = whole_new;
       typed = record {
         types = λ x f. all_kept s (contents_of m extents new) refl (stays_live m extents old new same) f (slot_in m (instances new) x f)
@@ -145,8 +157,9 @@ module _ (m : Metamodels) (extents : List Extent) (old mid new : List Cell) (w :
       };
       named = kept'.named;
       listed = listed_same m extents old new members same kept'.listed;
-      unique = λ d. let r : (distinct ≡ true) × ((shape_of m p).unique ≡ true → repeats vs ≡ false) = only d in let u : AreUnique s = kept'.unique r.0 in
+      unique = λ d. let r : (marks.distinct ≡ true) × ((shape_of m p).unique ≡ true → repeats vs ≡ false) = only d in let u : AreUnique s = kept'.unique r.0 in
           record { unique = λ x f t. ap repeats (slots_are x f) ∙ each_put (λ _ g l. (shape_of m g).unique ≡ true → repeats l ≡ false) (slot_of s) o p vs r.1 u.unique x f t };
+      own = λ d. let r : (marks.own ≡ true) × (crosses s o vs ≡ false) = stay d in own_new (kept'.own r.0) r.1;
     }
 
   pub gives_placed : contents_of m extents new ≡ with_slot s o p vs
@@ -165,6 +178,9 @@ pub still_distinct : (m : Metamodels) (p : ℕ) (vs : List Value) (distinct dist
 still_distinct m p vs distinct distinct' e t =
     let h : (distinct && not ((shape_of m p).unique && repeats vs)) ≡ true = sym e ∙ t in
     (and_left _ _ h, λ u. refuted _ (λ r. clash _ (and_both _ _ u r) (not_true _ (and_right distinct _ h))))
+
+pub still_own : (own own' crossing : Bool) → own' ≡ (own && not crossing) → own' ≡ true → (own ≡ true) × (crossing ≡ false)
+still_own own own' crossing e t = let h : (own && not crossing) ≡ true = sym e ∙ t in (and_left _ _ h, not_true _ (and_right own _ h))
 
 pub mid_live : (m : Metamodels) (extents : List Extent) (old mid : List Cell) (o p : ℕ) (vs : List Value) → IsPlaceable (contents_of m extents old) o p vs → instances mid ≡ instances old → o < length mid
 mid_live m extents old mid o p items can e = subst (λ n. o < n) (sym (same_count old mid e)) (subst (λ n. o < n) (length-instances old) (ltb-true o (length (instances old)) can.assignable.live))

@@ -1,18 +1,19 @@
 -- Cells that stand for the same keep the store.
-use Rattle.std.proofs.Common.{◌≡◌, ◌≤◌, Bool, sym, ap, ◌∙◌, subst, List}
+use Rattle.std.proofs.Common.{◌≡◌, ◌≤◌, sym, ap, ◌∙◌, subst, List}
 use Rattle.qvt_base.specs.declared.numbers.Oid.{Oid}
 use Rattle.qvt_metamodel.specs.Metamodels.{Metamodels}
 use Rattle.qvt_slots.specs.declared.cell.Cell.{Cell}
+use Rattle.qvt_slots.specs.declared.cell.Marks.{Marks}
 use Rattle.qvt_slots.specs.declared.extent.Extent.{Extent}
 use Rattle.qvt_slots.specs.Slots.{has, Inside}
-use Rattle.qvt_slots.specs.Contents.{Instance, slot_in, members_from}
+use Rattle.qvt_slots.specs.Contents.{Instance, HoldOwn, slot_in, members_from}
 use Rattle.qvt_slots.specs.Types.{AreTyped}
 use Rattle.qvt_slots.specs.Repeats.{AreUnique}
 use Rattle.qvt_slots.specs.Cells.{contents_of, IsKept, IsSameCells}
 use Rattle.qvt_slots.proofs.Holds.{same_count, have_same}
 
-pub same_kept : (m : Metamodels) (extents : List Extent) (old new : List Cell) (members : List (List Oid)) (distinct : Bool) → IsSameCells old new → IsKept m extents old members distinct → IsKept m extents new members distinct
-same_kept m extents old new members distinct same kept' = record {
+pub same_kept : (m : Metamodels) (extents : List Extent) (old new : List Cell) (members : List (List Oid)) (marks : Marks) → IsSameCells old new → IsKept m extents old members marks → IsKept m extents new members marks
+same_kept m extents old new members marks same kept' = record {
   whole = record {
     well_formed = kept'.whole.well_formed;
     few = subst (λ n. n ≤ 1000000) (sym (same_count old new same.objects)) kept'.whole.few;
@@ -27,6 +28,7 @@ same_kept m extents old new members distinct same kept' = record {
   named = kept'.named;
   listed = record { count = kept'.listed.count; lists = λ e h. kept'.listed.lists e h ∙ ap (λ (l : List Instance). members_from 0 l e) (sym same.objects) };
   unique = λ t. subst (λ (l : List Instance). AreUnique (record { metas = m; extents = extents; objects = l })) (sym same.objects) (kept'.unique t);
+  own = λ t. subst (λ (l : List Instance). HoldOwn (record { metas = m; extents = extents; objects = l })) (sym same.objects) (kept'.own t);
 }
 
 pub same_view : (m : Metamodels) (extents : List Extent) (old new : List Cell) → IsSameCells old new → contents_of m extents new ≡ contents_of m extents old

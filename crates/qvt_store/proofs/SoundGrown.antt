@@ -1,13 +1,13 @@
 -- Sound stores made and loaded: no objects, one more object, one slot placed.
-use Rattle.std.proofs.Common.{◌≡◌, ℕ, ◌<◌, Bool, true, false, ◌==◌, ◌&&◌, not, cond, inl, inr, refl, sym, ap, ◌∙◌, subst, List, [], length, arith}
+use Rattle.std.proofs.Common.{◌≡◌, ℕ, ◌<◌, Bool, true, false, ◌==◌, ◌&&◌, cond, inl, inr, refl, sym, ap, ◌∙◌, subst, List, [], length, arith}
 use Rattle.std.specs.Prelude.{Option, Some, None, nat_lt, All}
-use Rattle.std.specs.List.{list_any, list_all}
+use Rattle.std.specs.List.{list_all}
 use Rattle.std.proofs.lemmas.Bool.{le-ltb, ltb-true}
 use Rattle.std.proofs.lemmas.Bool.Decides.{Decides-eqb}
 use Rattle.std.proofs.lemmas.List.Elements.{All-nil}
 use Rattle.qvt_value.specs.declared.value.Value.{Value}
 use Rattle.qvt_metamodel.specs.Metamodels.{Metamodels, class_at, features_of, is_containment, shape_of}
-use Rattle.qvt_relation.proofs.Bools.{and_left, and_right, and_both, either, clash, refuted, not_of_false}
+use Rattle.qvt_relation.proofs.Bools.{and_left, and_right, either, clash}
 use Rattle.qvt_slots.specs.declared.extent.Extent.{Extent}
 use Rattle.qvt_slots.specs.Slots.{Slots, has, OppositesAgree, OneContainer, Contains, Inside, directly, through}
 use Rattle.qvt_slots.specs.Contents.{Contents, Instance, object_at, class_of, extent_of, extent_at, is_extent, is_live, is_model, slot_of, with_new, with_slot}
@@ -15,13 +15,13 @@ use Rattle.qvt_slots.specs.Types.{is_of_type, IsPlain}
 use Rattle.qvt_slots.specs.Repeats.{repeats}
 use Rattle.qvt_slots.specs.Cells.{with_list}
 use Rattle.qvt_store.specs.Place.{IsPlaceable}
-use Rattle.qvt_slots.specs.Assign.{is_beyond, is_elsewhere}
+use Rattle.qvt_slots.specs.Assign.{is_beyond}
 use Rattle.qvt_store.specs.Sound.{IsClassFor, Sound, SoundButOpposites, IsSoundList, NewIsSound, AddKeepsSound, LoadBegins, AddKeepsLoading, PlaceKeepsLoading, LoadEnds}
 use Rattle.qvt_slots.proofs.Lists.{length-map}
-use Rattle.qvt_slots.proofs.Objects.{not_any}
 use Rattle.qvt_slots.proofs.Typed.{all_kept}
+use Rattle.qvt_store.proofs.Own.{own_grown, same_extent}
 use Rattle.qvt_store.proofs.Attributes.{each_put}
-use Rattle.qvt_store.proofs.After.{features_always, holder_slot, item_object}
+use Rattle.qvt_store.proofs.After.{features_always}
 use Rattle.qvt_slots.proofs.Added.{first_contained, no_slots}
 use Rattle.qvt_slots.proofs.Instances as objects
 
@@ -125,13 +125,6 @@ module _ (s : Contents) (c e : ℕ) (own : IsClassFor s c e) (kept' : SoundButOp
       (ap (λ (i : Instance). length i.slots) (objects.object-last s c e) ∙ length-map (λ _. []) (features_of s.metas c)
       ∙ sym (ap (λ (i : Instance). length (features_of s.metas i.class)) (objects.object-last s c e)))
 
-  own_grown : (x f y : ℕ) → is_model s (extent_of grown x) ≡ true → has (slot_of grown x f) y ≡ true → extent_of grown y ≡ extent_of grown x
-  own_grown x f y model h =
-      let h' : has (slot_of s x f) y ≡ true = ap (λ (l : List Value). has l y) (sym (same x f)) ∙ h in
-      let live_x : is_live s x ≡ true = and_left _ _ (holder_slot s x f y h') in
-      let live_y : is_live s y ≡ true = and_left _ _ (item_object s f (slot_of s x f) y (kept'.typed.types x f) h') in
-      extent-grown y live_y ∙ kept'.own_objects x f y (subst (λ n. is_model s n ≡ true) (extent-grown x live_x) model) h' ∙ sym (extent-grown x live_x)
-
   pub grown_kept : SoundButOpposites grown
   grown_kept = record {
     classes = classes_grown;
@@ -145,7 +138,7 @@ module _ (s : Contents) (c e : ℕ) (own : IsClassFor s c e) (kept' : SoundButOp
     unique = record { unique = λ x f t. ap repeats (same x f) ∙ kept'.unique.unique x f t };
     containers = subst (OneContainer s.metas) (sym (objects.slots-new s c e)) kept'.containers;
     outside_itself = λ x i. kept'.outside_itself x (subst (λ (t : Slots). Inside s.metas t x x) (objects.slots-new s c e) i);
-    own_objects = own_grown;
+    own_objects = (own_grown s c e kept'.typed (record { own = kept'.own_objects })).own;
   }
 
 pub add_keeps_loading : AddKeepsLoading
@@ -213,18 +206,9 @@ module _ (s : Contents) (o p : ℕ) (vs : List Value) (can : IsPlaceable s o p v
     | inr plain ↦ kept'.outside_itself x (old_inside plain i)
   ]
 
-  no_stranger : is_model s (extent_of s o) ≡ true → list_any (is_elsewhere s o) vs ≡ false
-  no_stranger model = refuted _ (λ some. clash _ (and_both _ _ model some) fits.own_objects)
-
-  own_new : (y : ℕ) → is_model s (extent_of s o) ≡ true → has vs y ≡ true → extent_of s y ≡ extent_of s o
-  own_new y model new = elim (either (extent_of s y == extent_of s o)) [
-    | inl same ↦ (Decides-eqb (extent_of s y) (extent_of s o)).0 same
-    | inr other ↦ clash _ (not_of_false _ other) (not_any (λ b. not (extent_of s b == extent_of s o)) vs y (no_stranger model) new)
-  ]
-
   own_placed : (x f y : ℕ) → is_model s (extent_of s x) ≡ true → has (with_list (slot_of s) o p vs x f) y ≡ true → extent_of s y ≡ extent_of s x
   own_placed x f y model h = held (extent_of s y ≡ extent_of s x) x f y
-      (λ e q new. own_new y (subst (λ n. is_model s (extent_of s n) ≡ true) e model) new ∙ ap (extent_of s) (sym e))
+      (λ e q new. same_extent s o vs fits.own_objects y (subst (λ n. is_model s (extent_of s n) ≡ true) e model) new ∙ ap (extent_of s) (sym e))
       (λ old. kept'.own_objects x f y model old) h
 
   pub placed_kept : SoundButOpposites placed

@@ -11,7 +11,7 @@ use Rattle.qvt_value.specs.declared.value.Value.{Value}
 use Rattle.qvt_metamodel.specs.Metamodels.{Metamodels, opposite, is_opposite, is_feature_number, is_single, shape_of, class_at}
 use Rattle.qvt_metamodel.specs.Named.{metamodel_at}
 use Rattle.qvt_metamodel.specs.WellFormed.{IsWellFormed}
-use Rattle.qvt_relation.proofs.Bools.{and_left, and_right, and_both, or_cases, none_left, none_right, either, clash, not_of_false}
+use Rattle.qvt_relation.proofs.Bools.{and_left, and_right, and_both, or_cases, none_left, none_right, either, clash}
 use Rattle.qvt_slots.specs.declared.fault.StoreFault.{StoreFault}
 use Rattle.qvt_slots.specs.declared.fault.StoreFault.TheVariants.{TooMany, ContainmentCycle, ReadOnly, CrossModel}
 use Rattle.qvt_slots.specs.Slots.{Slots, has, OppositesAgree, OneContainer, Inside}
@@ -19,13 +19,12 @@ use Rattle.qvt_slots.specs.Change.{Change, object_value, is_here, among, gains, 
 use Rattle.qvt_slots.specs.Contents.{Contents, AreNamed, class_of, extent_of, extent_at, is_extent, is_live, is_model, is_named, slot_of}
 use Rattle.qvt_slots.specs.Types.{is_of_type, AreTyped, IsPlain}
 use Rattle.qvt_slots.specs.Repeats.{repeats, same_value, without_repeats, new_list, AreUnique}
-use Rattle.qvt_slots.specs.Assign.{change_to, change_of, is_beyond, is_overfull, overfills_end, is_too_many, is_cyclic, is_read_only, is_elsewhere, crosses, refusal_of, store_after, ok_unless}
+use Rattle.qvt_slots.specs.Assign.{change_to, change_of, is_beyond, is_overfull, overfills_end, is_too_many, is_cyclic, is_read_only, crosses, refusal_of, store_after, ok_unless}
 use Rattle.qvt_store.specs.Law.{IsMade, FitsSingle}
 use Rattle.qvt_store.specs.Sound.{IsClassFor, Sound, AssignKeepsSound, AppendKeepsSound}
-use Rattle.qvt_slots.proofs.Objects.{not_any}
-use Rattle.qvt_store.proofs.Held.{given, kept, gained, held_after, added_new}
 use Rattle.qvt_store.proofs.Opposites.{here, keeps_opposites}
 use Rattle.qvt_store.proofs.Containers.{keeps_one_container}
+use Rattle.qvt_store.proofs.Own.{own_after}
 use Rattle.qvt_slots.proofs.Cyclic.{Bounded, inside-cyclic}
 use Rattle.qvt_slots.proofs.Typed.{all_kept}
 use Rattle.qvt_slots.proofs.Repeating.{length-filter, fewer_fit, single_fits, repeats-filter, repeats-with_object, new_no_repeats}
@@ -188,25 +187,8 @@ module _ (s : Contents) (o p : ℕ) (ws : List Value) (well : IsWellFormed s.met
       no_name [] h = refl
       no_name (b ∷ bs) h = cc
 
-  same_extent : (a : ℕ) → is_model s (extent_of s o) ≡ true → has ws a ≡ true → extent_of s a ≡ extent_of s o
-  same_extent a model new = elim (either (extent_of s a == extent_of s o)) [
-    | inl same ↦ (Decides-eqb (extent_of s a) (extent_of s o)).0 same
-    | inr other ↦ clash _ (not_of_false _ other) (not_any (λ b. not (extent_of s b == extent_of s o)) ws a (elim (either (list_any (is_elsewhere s o) ws)) [
-      | inl some ↦ clash _ (and_both _ _ model some) causes.3
-      | inr no' ↦ no'
-    ]) new)
-  ]
-
   own : (x f y : ℕ) → is_model s (extent_of s x) ≡ true → has (slot_after c x f) y ≡ true → extent_of s y ≡ extent_of s x
-  own x f y model h = elim (held_after c x f y h) [
-    | given at new ↦
-        let x_is : x ≡ o = (here c x f at).0 in
-        subst (λ k. extent_of s y ≡ extent_of s k) (sym x_is) (same_extent y (subst (λ k. is_model s (extent_of s k) ≡ true) x_is model) new)
-    | kept n was stays ↦ sound.own_objects x f y model was
-    | gained n g at ↦
-        let new : has ws x ≡ true = added_new c made x (and_right (is_opposite s.metas p f) _ g) in
-        subst (λ k. extent_of s k ≡ extent_of s x) at (sym (same_extent x (own_model f (and_left _ _ g)) new))
-  ]
+  own x f y model h = own_after s o p ws (record { own = sound.own_objects }) causes.3 own_model x f y model h
 
   bounded : Bounded (slot_after c) (length s.objects)
   bounded = record {

@@ -11,7 +11,7 @@ use Rattle.qvt_metamodel.specs.WellFormed.{IsWellFormed}
 use Rattle.qvt_relation.proofs.Bools.{and_left, and_right, and_false, and_false_left, or_left, or_right, or_cases, or_none, none_left, none_right, none_of, refuted, clash}
 use Rattle.qvt_slots.specs.declared.commit.Write.{Write}
 use Rattle.qvt_slots.specs.Slots.{Slots, object_in, passes, is_object, has}
-use Rattle.qvt_slots.specs.Change.{Change, is_some_object, among, is_here, is_added, is_removed, is_container, gains, is_taken, is_replaced, is_moved_in, is_moved, leaves, is_left, loses, keeps, with_end, slot_elsewhere}
+use Rattle.qvt_slots.specs.Change.{Change, is_some_object, among, is_here, is_added, is_removed, names_containment, is_container, gains, is_taken, is_replaced, is_moved_in, is_moved, leaves, is_left, loses, keeps, with_end, slot_elsewhere}
 use Rattle.qvt_slots.specs.Contents.{Contents, is_slot, slot_of}
 use Rattle.qvt_store.specs.Plan.{listed, IsRight, Plans, holding, opposed, IsOpposed, before, after, owner, IsRehoused, items, itself, IsPlan}
 use Rattle.qvt_store.proofs.Opposites.{same_number, here}
@@ -136,6 +136,22 @@ module _ (s : Contents) (c : Change) (metas : c.metas ≡ s.metas) (slots : c.sl
       touched x f slot away (own_container k k' held) = house.there x f (itself k (holding (same_meta f k') (same_held x f c.object held))) slot away
       touched x f slot away (own_container_end y g k at k' held o) = house.there x f (itself k (opposed y g at (same_meta g k') (subst (λ n. has (slot_of s y g) n ≡ true) at (same_held y g x held)) (same_opposite g f o))) slot away
 
+-- a change by which no slot gains or loses leaves all other slots
+module _ (c : Change) (well : IsWellFormed c.metas) (no_gain : (x f : ℕ) → gains c x f ≡ false) (no_leave : (x f y : ℕ) → leaves c x f y ≡ false) where
+  no_left : (q : Option FeatureNo) (x y : ℕ) → is_left c q x y ≡ false
+  no_left None x y = refl
+  no_left (Some g) x y = and_false (has (c.slots y g.0) x) _ (λ _. no_leave y g.0 x)
+
+  quiet_stay : (x f : ℕ) → slot_elsewhere c x f ≡ c.slots x f
+  quiet_stay x f = go (gains c x f) (no_gain x f)
+    where
+      same : filter (keeps c x f) (c.slots x f) ≡ c.slots x f
+      same = filter_all (keeps c x f) (c.slots x f) (none_lost c well x f (c.slots x f) (λ y h l. clash _ l (or_none _ _ (no_leave x f y) (no_left (opposite c.metas f) x y))))
+
+      go : (g : Bool) → g ≡ false → cond g (with_end c f (filter (keeps c x f) (c.slots x f))) (filter (keeps c x f) (c.slots x f)) ≡ c.slots x f
+      go true e = cc
+      go false e = same
+
 -- a change that adds and removes no object leaves all other slots
 module _ (c : Change) (well : IsWellFormed c.metas) (none : c.added ≡ []) (gone : c.removed ≡ []) where
   no_added : (y : ℕ) → is_added c y ≡ false
@@ -154,16 +170,20 @@ module _ (c : Change) (well : IsWellFormed c.metas) (none : c.added ≡ []) (gon
       (and_false_left _ _ (and_false (is_containment c.metas c.feature && is_containment c.metas f) _ (λ _. no_added y)))
       (and_false_left _ _ (and_false_left _ _ (and_false_left _ _ (and_false (is_container c.metas c.feature) _ (λ _. ap is_some_object none)))))
 
-  no_left : (q : Option FeatureNo) (x y : ℕ) → is_left c q x y ≡ false
-  no_left None x y = refl
-  no_left (Some g) x y = and_false (has (c.slots y g.0) x) _ (λ _. no_leave y g.0 x)
-
   pub all_stay : (x f : ℕ) → slot_elsewhere c x f ≡ c.slots x f
-  all_stay x f = go (gains c x f) (no_gain x f)
-    where
-      same : filter (keeps c x f) (c.slots x f) ≡ c.slots x f
-      same = filter_all (keeps c x f) (c.slots x f) (none_lost c well x f (c.slots x f) (λ y h l. clash _ l (or_none _ _ (no_leave x f y) (no_left (opposite c.metas f) x y))))
+  all_stay = quiet_stay c well no_gain no_leave
 
-      go : (g : Bool) → g ≡ false → cond g (with_end c f (filter (keeps c x f) (c.slots x f))) (filter (keeps c x f) (c.slots x f)) ≡ c.slots x f
-      go true e = cc
-      go false e = same
+-- so does one of a slot that is no containment and has no opposite, where no object is removed
+module _ (c : Change) (well : IsWellFormed c.metas) (alone : opposite c.metas c.feature ≡ None) (plain : is_containment c.metas c.feature ≡ false) (gone : c.removed ≡ []) where
+  never_gain : (x f : ℕ) → gains c x f ≡ false
+  never_gain x f = and_false_left (is_opposite c.metas c.feature f) _ (ap (λ q. is_feature_number q f) alone)
+
+  never_leave : (x f y : ℕ) → leaves c x f y ≡ false
+  never_leave x f y = none_of (is_taken c x f y) (is_replaced c x f y) (is_moved_in c x f y) (is_moved c x f y)
+      (and_false (is_here c x f) _ (λ _. ap (λ os. among os y) gone))
+      (and_false_left _ _ (and_false_left _ _ (never_gain x f)))
+      (and_false_left _ _ (and_false_left _ _ (and_false_left _ _ plain)))
+      (and_false_left _ _ (and_false_left _ _ (and_false_left _ _ (and_false_left _ _ (ap (names_containment c.metas) alone)))))
+
+  pub alone_stay : (x f : ℕ) → slot_elsewhere c x f ≡ c.slots x f
+  alone_stay = quiet_stay c well never_gain never_leave

@@ -1,18 +1,18 @@
 -- What is known before a change is carried out.
-use Rattle.std.specs.Prelude.{◌≡◌, ℕ, List, IsTrue, IsFalse}
+use Rattle.std.specs.Prelude.{◌≡◌, ℕ, List, [], ◌∷◌, ◌++◌, length, IsTrue, IsFalse}
 use Rattle.std.specs.List.{list_all}
 use Rattle.qvt_base.specs.declared.numbers.Oid.{Oid}
 use Rattle.qvt_value.specs.declared.value.Value.{Value}
 use Rattle.qvt_metamodel.specs.Metamodels.{shape_of}
 use Rattle.qvt_slots.specs.declared.commit.Write.{Write}
 use Rattle.qvt_slots.specs.declared.draft.Draft.{Draft}
-use Rattle.qvt_slots.specs.Change.{Change, slot_after, slot_elsewhere}
-use Rattle.qvt_slots.specs.Contents.{Contents, is_slot, slot_of}
-use Rattle.qvt_slots.specs.Types.{is_of_type, AreTyped}
+use Rattle.qvt_slots.specs.Change.{Change, is_linked, slot_after, slot_elsewhere}
+use Rattle.qvt_slots.specs.Contents.{Contents, is_slot, is_writable, slot_of}
+use Rattle.qvt_slots.specs.Types.{is_of_type, AreTyped, IsAssignable}
 use Rattle.qvt_slots.specs.Slots.{Inside}
 use Rattle.qvt_metamodel.specs.WellFormed.{IsWellFormed}
-use Rattle.qvt_slots.specs.Repeats.{repeats}
-use Rattle.qvt_slots.specs.Assign.{change_to, store_after}
+use Rattle.qvt_slots.specs.Repeats.{repeats, new_list}
+use Rattle.qvt_slots.specs.Assign.{is_beyond, crosses, change_to, store_after}
 use Rattle.qvt_store.specs.Law.{FitsSingle}
 use Rattle.qvt_store.specs.Draft.{drafted, IsDraft}
 use Rattle.qvt_slots.specs.Walk.{IsCyclic}
@@ -30,6 +30,7 @@ pub record Ready (s : Contents) (d : Draft) (items : List Value) (ws : List Writ
   pub single : FitsSingle (change_to s d.object.0 d.feature.0 items)
   pub acyclic : IsCyclic s.metas (slot_after (change_to s d.object.0 d.feature.0 items)) → ⊥
   pub unique : IsTrue (shape_of s.metas d.feature.0).unique → IsFalse (repeats items)
+  pub own : IsFalse (crosses s d.object.0 items)
   pub plan : IsPlan s (drafted s d) ws
   pub is_released : released ≡ released_of s.metas (slot_of s) d ws
 
@@ -40,6 +41,16 @@ pub record IsKnown (s : Contents) : Type 0 where
   pub typed : AreTyped s
   -- a change that leaves each slot as it is leaves the store
   pub told : (c : Change) → c.metas ≡ s.metas → ((x f : ℕ) → slot_of s x f ≡ slot_after c x f) → store_after s c ≡ s
+
+-- value v can be put last in slot (o, p), whose changes touch no other slot
+pub record IsLone (s : Contents) (o p : ℕ) (v : Value) : Type 0 where
+  pub known : IsKnown s
+  pub can : IsAssignable s o p (v ∷ [])
+  pub alone : IsFalse (is_linked s.metas p)
+  pub last : new_list s.metas p (slot_of s o p ++ v ∷ []) ≡ slot_of s o p ++ v ∷ []
+  pub few : IsFalse (is_beyond (length (slot_of s o p ++ v ∷ [])) (shape_of s.metas p).upper)
+  pub writable : IsTrue (is_writable s o)
+  pub own : IsFalse (crosses s o (slot_of s o p ++ v ∷ []))
 
 -- the slots other than the changed one stay
 pub record StaysElsewhere (c : Change) : Type 0 where

@@ -1,5 +1,6 @@
 ghost use Rattle.std.specs.Prelude.{◌≡◌, ◌<◌, ◌≤◌, [], length, IsTrue, IfOk, IfErr, OnOk, OnErr, IfSome, ℕ};
-ghost use Rattle.qvt_slots.specs.Slots.{Contains, has};
+ghost use Rattle.qvt_slots.specs.Slots.{Contains, Inside, has};
+ghost use Rattle.qvt_slots.specs.Types.{AreTyped};
 ghost use Rattle.qvt_slots.specs.Cells.{holder_in};
 ghost use Rattle.qvt_metamodel.specs.Metamodels.{has_feature, is_containment};
 ghost use Rattle.qvt_slots.specs.Contents.{AreNamed, is_live, is_extent, class_of, extent_of, slot_of, members_of, with_new};
@@ -21,7 +22,7 @@ use qvt_base::numbers::{ClassNo, FeatureNo, Oid};
 use qvt_base::seq::Seq;
 use qvt_metas::metas::Metas;
 use qvt_slots::add::{add_cell, empty_slots};
-use qvt_slots::cell::{Cell, Holder};
+use qvt_slots::cell::{Cell, Holder, Marks};
 use qvt_slots::extent::{Extent, ExtentList};
 use qvt_slots::fault::StoreFault;
 use qvt_slots::put::{find_place, place_of};
@@ -37,7 +38,7 @@ pub struct Store {
     extents: ExtentList,
     cells: Vec<Cell>,
     members: Vec<OidList>,
-    distinct: bool,
+    marks: Marks,
 }
 
 impl Model for Store {
@@ -53,7 +54,7 @@ impl Model for Store {
 
     ghost view = { λ s. contents_of s.metas s.extents s.cells.items };
 
-    ghost invariant = { λ s. IsKept s.metas s.extents s.cells.items s.members.items s.distinct };
+    ghost invariant = { λ s. IsKept s.metas s.extents s.cells.items s.members.items s.marks };
 }
 
 impl Store {
@@ -72,7 +73,10 @@ impl Store {
             extents,
             cells: Vec::new(alloc),
             members,
-            distinct: true,
+            marks: Marks {
+                distinct: true,
+                own: true,
+            },
         })
     }
 
@@ -89,10 +93,13 @@ impl Store {
         &self.metas
     }
 
-    /// What the store was made with. An extent has a name exactly where its metamodel has one.
+    /// What the store was made with. An extent has a name exactly where its metamodel has one. What
+    /// a slot holds is there and of the slot's type, and no object is inside itself.
     pub fn extents(&self) -> &ExtentList
         ensures lent { result.now ≡ self.now.extents }
         ensures named { AreNamed self.now.metas self.now.extents }
+        ensures typed { AreTyped self.now }
+        ensures outside_itself { (x : ℕ) → Inside self.now.metas (slot_of self.now) x x → ⊥ }
     {
         &self.extents
     }

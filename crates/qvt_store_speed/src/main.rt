@@ -1,5 +1,7 @@
-//! Makes a store of so many objects and sets so many one-to-one slots in it, each with its opposite:
-//! two numbers are its words. `bench/store.sh` times it.
+//! Makes a store of so many objects and changes its slots so many times. Its words are the form of the
+//! changes and the two numbers: `link` sets one-to-one slots, each with its opposite; `parts` and
+//! `likes` put one object after the other last in a slot of the first object, which is a containment
+//! with an opposite, and a reference that is not unique. `bench/store.sh` times it.
 #![tactic(auto)]
 
 use qvt_base::numbers::{ClassNo, FeatureNo, Oid};
@@ -15,8 +17,8 @@ use std::alloc::Global;
 use std::rt::Env;
 use std::{env, io};
 
-const PAIRS: &str =
-    "{\"classes\":[{\"features\":[{\"name\":\"left\",\"opposite\":\"right\",\"type\":\"N\"},{\"name\":\"right\",\"opposite\":\"left\",\"type\":\"N\"}],\"name\":\"N\"}],\"name\":\"P\"}";
+const NODES: &str =
+    "{\"classes\":[{\"features\":[{\"name\":\"left\",\"opposite\":\"right\",\"type\":\"N\"},{\"name\":\"right\",\"opposite\":\"left\",\"type\":\"N\"},{\"containment\":true,\"name\":\"parts\",\"opposite\":\"whole\",\"type\":\"N\",\"upper\":\"*\"},{\"name\":\"whole\",\"opposite\":\"parts\",\"type\":\"N\"},{\"name\":\"likes\",\"type\":\"N\",\"unique\":false,\"upper\":\"*\"}],\"name\":\"N\"}],\"name\":\"P\"}";
 
 fn metas_of(alloc: Global, text: &str) -> Option<Metas> {
     let meta = read_meta(alloc, text.as_bytes()).ok()?;
@@ -75,18 +77,35 @@ fn link(alloc: Global, store: &mut Store, changes: u32) -> Option<()> {
     Some(())
 }
 
+/// Puts so many objects last in a slot of the first one, one after the other.
+fn append(alloc: Global, store: &mut Store, name: &str, changes: u32) -> Option<()> {
+    let feature = store.metas().feature(ClassNo(0), name)?;
+    for change in 0..changes {
+        let values = [Value::Obj(Oid(change.checked_add(1)?))];
+        if !can_assign(store, Oid(0), feature, &values) {
+            return None;
+        }
+        store.append(alloc, Oid(0), feature, &values[0]).ok()?;
+    }
+    Some(())
+}
+
 fn number(word: Option<String>) -> Option<u32> {
     word?.as_str().parse::<u32>().ok()
 }
 
 fn changed(rt: &(impl Env + AllocGlobal)) -> Option<(u32, u32)> {
     let mut words = env::args(rt).ok()?.skip(1);
+    let form = words.next()?;
     let objects = number(words.next())?;
     let changes = number(words.next())?;
     let alloc = rt.alloc();
-    let mut store = empty_store(alloc, PAIRS)?;
+    let mut store = empty_store(alloc, NODES)?;
     fill(alloc, &mut store, objects)?;
-    link(alloc, &mut store, changes)?;
+    match form.as_str() {
+        "link" => link(alloc, &mut store, changes)?,
+        name => append(alloc, &mut store, name, changes)?,
+    }
     Some((objects, changes))
 }
 

@@ -1,22 +1,27 @@
 //! Values put last in slots, with all that follows for the other slots.
 
-ghost use Rattle.std.specs.Prelude.{◌≡◌, ◌≢◌, ◌++◌, ◌∷◌, [], Ok, Err, IsTrue, IfOk, IfErr, OnOk, OnErr};
+ghost use Rattle.std.specs.Prelude.{◌≡◌, ◌≢◌, ◌++◌, ◌∷◌, [], Ok, Err, IsTrue, IsFalse, IfOk, IfErr, OnOk, OnErr};
 ghost use Rattle.qvt_slots.specs.Contents.{slot_of};
 ghost use Rattle.qvt_slots.specs.Repeats.{new_list, AreUnique};
 ghost use Rattle.qvt_slots.specs.Assign.{append, crosses, change_to, store_after};
 ghost use Rattle.qvt_slots.specs.Types.{IsAssignable};
-ghost use Rattle.qvt_store.specs.Ready.{IsKnown, Ready};
+ghost use Rattle.qvt_slots.specs.Change.{is_linked, objects_beyond};
+ghost use Rattle.qvt_slots.specs.Slots.{has};
+ghost use Rattle.qvt_store.specs.Ready.{IsKnown, IsLone, Ready};
 
 use crate::store::Store;
+use crate::store::assign::marks_changed;
 use qvt_base::copied::Copied;
 use qvt_base::list_fault::ListFault;
+use qvt_base::lists::OidList;
 use qvt_base::numbers::{FeatureNo, Oid};
 use qvt_base::seq::Seq;
 use qvt_slots::commit::{Write, settle};
 use qvt_slots::draft::Draft;
 use qvt_slots::fault::StoreFault;
+use qvt_slots::features::{is_beyond, is_containment, is_linked, upper};
 use qvt_slots::put::push_value;
-use qvt_slots::values::{copied, holds_value, push_value_beyond};
+use qvt_slots::values::{copied, holds, holds_value};
 use qvt_value::value::{Value, Values};
 use std::alloc::Global;
 
@@ -66,7 +71,7 @@ impl Store {
     fn is_distinct(&self) -> bool
         ensures { IsTrue result → AreUnique self.now }
     {
-        self.distinct
+        self.marks.distinct
     }
 
     /// The list of a slot, and the value last.
@@ -154,8 +159,127 @@ impl Store {
         ensures refused { IfErr result (λ fault. fault ≢ StoreFault.NoMemory → append self.old object.0 feature.0 value.now ≡ Err fault) }
         ensures err { OnErr result (self.new ≡ self.old) }
     {
+        if self.is_linked_feature(feature) {
+            match self.append_linked(alloc, object, feature, value) {
+                Ok(()) => return Ok(()),
+                Err(fault) => return Err(fault),
+            }
+        }
+        match self.append_alone(alloc, object, feature, value) {
+            Ok(()) => Ok(()),
+            Err(fault) => Err(fault),
+        }
+    }
+
+    /// Whether a change of a slot of the feature may touch other slots.
+    fn is_linked_feature(&self, feature: FeatureNo) -> bool
+        ensures { result ≡ is_linked self.now.metas feature.0 }
+    {
+        is_linked(&self.metas, feature)
+    }
+
+    /// Whether the slot holds the object. A containment is not looked through: the object knows its
+    /// holder.
+    fn holds_item(&self, object: Oid, feature: FeatureNo, item: Oid) -> bool
+        ensures { result ≡ has (slot_of self.now object.0 feature.0) item.0 }
+    {
+        if is_containment(&self.metas, feature) {
+            return match self.holder(item) {
+                None => false,
+                Some(holder) => holder.object.0 == object.0 && holder.feature.0 == feature.0,
+            };
+        }
+        holds(self.list(object, feature), item)
+    }
+
+    /// Puts the value last, if it is an object that the slot does not hold.
+    fn push_added(
+        &self,
+        list: &mut OidList,
+        object: Oid,
+        feature: FeatureNo,
+        value: &Value,
+    ) -> Result<(), ListFault>
+        ensures ok { OnOk result (list.new ≡ list.old ++ objects_beyond (slot_of self.now object.0 feature.0) (value.now ∷ [])) }
+    {
+        match value {
+            Value::Obj(item) => {
+                if !self.holds_item(object, feature, *item) {
+                    list.push(*item)?;
+                }
+                Ok(())
+            }
+            _ => Ok(()),
+        }
+    }
+
+    /// Where the value is put last in a slot whose changes touch no other.
+    fn append_alone(
+        &mut self,
+        alloc: Global,
+        object: Oid,
+        feature: FeatureNo,
+        value: &Value,
+    ) -> Result<(), StoreFault>
+        requires can { IsAssignable self.old object.0 feature.0 (value.now ∷ []) }
+        requires known { IsKnown self.old }
+        requires last { new_list self.old.metas feature.0 (slot_of self.old object.0 feature.0 ++ value.now ∷ []) ≡ slot_of self.old object.0 feature.0 ++ value.now ∷ [] }
+        requires alone { IsFalse (is_linked self.old.metas feature.0) }
+        ensures ok { OnOk result (append self.old object.0 feature.0 value.now ≡ Ok self.new) }
+        ensures refused { IfErr result (λ fault. fault ≢ StoreFault.NoMemory → append self.old object.0 feature.0 value.now ≡ Err fault) }
+        ensures err { OnErr result (self.new ≡ self.old) }
+    {
+        let Some(count) = self.list(object, feature).len().checked_add(1) else {
+            return Err(StoreFault::NoMemory);
+        };
+        if is_beyond(count, upper(&self.metas, feature)) {
+            return Err(StoreFault::TooMany);
+        }
+        if !self.is_writable(object) {
+            return Err(StoreFault::ReadOnly);
+        }
+        if self.crosses_last(object, feature, value) {
+            return Err(StoreFault::CrossModel);
+        }
+        let copy = value.copy(alloc)?;
+        match self.carry_alone(object, feature, copy) {
+            Ok(()) => Ok(()),
+            Err(_) => Err(StoreFault::NoMemory),
+        }
+    }
+
+    /// Puts the value last in a slot whose changes touch no other.
+    fn carry_alone(
+        &mut self,
+        object: Oid,
+        feature: FeatureNo,
+        value: Value,
+    ) -> Result<(), ListFault>
+        requires { IsLone self.old object.0 feature.0 value }
+        ensures ok { OnOk result (self.new ≡ store_after self.old (change_to self.old object.0 feature.0 (slot_of self.old object.0 feature.0 ++ value ∷ []))) }
+        ensures err { OnErr result (self.new ≡ self.old) }
+    {
+        push_value(&self.metas, &mut self.cells, object, feature, value)?;
+        Ok(())
+    }
+
+    /// Where the value is put last in a slot whose changes may touch others.
+    fn append_linked(
+        &mut self,
+        alloc: Global,
+        object: Oid,
+        feature: FeatureNo,
+        value: &Value,
+    ) -> Result<(), StoreFault>
+        requires can { IsAssignable self.old object.0 feature.0 (value.now ∷ []) }
+        requires known { IsKnown self.old }
+        requires last { new_list self.old.metas feature.0 (slot_of self.old object.0 feature.0 ++ value.now ∷ []) ≡ slot_of self.old object.0 feature.0 ++ value.now ∷ [] }
+        ensures ok { OnOk result (append self.old object.0 feature.0 value.now ≡ Ok self.new) }
+        ensures refused { IfErr result (λ fault. fault ≢ StoreFault.NoMemory → append self.old object.0 feature.0 value.now ≡ Err fault) }
+        ensures err { OnErr result (self.new ≡ self.old) }
+    {
         let mut added = Seq::new(alloc);
-        push_value_beyond(&mut added, self.list(object, feature), value)?;
+        self.push_added(&mut added, object, feature, value)?;
         let draft = Draft {
             object,
             feature,
@@ -169,7 +293,7 @@ impl Store {
             Err(fault) => return Err(fault),
             Ok(()) => {}
         }
-        if self.crosses_with(object, self.list(object, feature), value) {
+        if self.crosses_last(object, feature, value) {
             return Err(StoreFault::CrossModel);
         }
         let Ok(writes) = self.plan(alloc, &draft) else {
@@ -195,6 +319,7 @@ impl Store {
         ensures ok { OnOk result (self.new ≡ store_after self.old (change_to self.old draft.now.object.0 draft.now.feature.0 (slot_of self.old draft.now.object.0 draft.now.feature.0 ++ value ∷ []))) }
         ensures err { OnErr result (self.new ≡ self.old) }
     {
+        let in_model = self.is_in_model(draft.object);
         push_value(
             &self.metas,
             &mut self.cells,
@@ -202,6 +327,7 @@ impl Store {
             draft.feature,
             value,
         )?;
+        self.marks = marks_changed(&self.metas, self.marks, in_model, draft.feature);
         settle(&self.metas, &mut self.cells, draft, writes, released);
         Ok(())
     }

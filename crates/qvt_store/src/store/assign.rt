@@ -1,7 +1,7 @@
 //! Changes of slots, with all that follows for the other slots.
 
-ghost use Rattle.std.specs.Prelude.{◌≡◌, ◌≢◌, ◌++◌, Ok, Err, if◌then◌else◌, IfOk, IfErr, OnOk, OnErr};
-ghost use Rattle.qvt_slots.specs.Change.{objects_beyond};
+ghost use Rattle.std.specs.Prelude.{◌≡◌, ◌≢◌, ◌++◌, ◌&&◌, ◌||◌, not, Ok, Err, if◌then◌else◌, IfOk, IfErr, OnOk, OnErr};
+ghost use Rattle.qvt_slots.specs.Change.{is_linked, objects_beyond};
 ghost use Rattle.qvt_slots.specs.Contents.{slot_of, with_slot};
 ghost use Rattle.qvt_metamodel.specs.Metamodels.{shape_of};
 ghost use Rattle.qvt_slots.specs.Repeats.{without_repeats};
@@ -15,10 +15,12 @@ use qvt_base::list_fault::ListFault;
 use qvt_base::lists::OidList;
 use qvt_base::numbers::{FeatureNo, Oid};
 use qvt_base::seq::Seq;
+use qvt_metas::metas::Metas;
+use qvt_slots::cell::Marks;
 use qvt_slots::commit::{Write, settle};
 use qvt_slots::draft::Draft;
 use qvt_slots::fault::StoreFault;
-use qvt_slots::features::{is_containment, is_unique};
+use qvt_slots::features::{is_containment, is_linked, is_unique};
 use qvt_slots::put::put;
 use qvt_slots::values::{copied, push_beyond, without_repeats};
 use qvt_value::value::{Value, Values};
@@ -67,6 +69,8 @@ impl Store {
         ensures after { self.new ≡ store_after self.old (change_to self.old draft.now.object.0 draft.now.feature.0 items) }
         ensures plain { StaysElsewhere (change_to self.old draft.now.object.0 draft.now.feature.0 items) → self.new ≡ with_slot self.old draft.now.object.0 draft.now.feature.0 items }
     {
+        let in_model = self.is_in_model(draft.object);
+        self.marks = marks_changed(&self.metas, self.marks, in_model, draft.feature);
         put(
             &self.metas,
             &mut self.cells,
@@ -118,6 +122,22 @@ impl Store {
         let released = self.released(alloc, &draft, &writes)?;
         self.carry_out(&draft, items, writes, released.as_slice());
         Ok(())
+    }
+}
+
+/// What is known after a change of a slot whose object is in a model or not.
+pub(super) fn marks_changed(
+    metas: &Metas,
+    marks: Marks,
+    in_model: bool,
+    feature: FeatureNo,
+) -> Marks
+    ensures distinct { result.distinct ≡ marks.distinct }
+    ensures own { result.own ≡ (marks.own && (in_model || not (is_linked metas.now feature.0))) }
+{
+    Marks {
+        distinct: marks.distinct,
+        own: marks.own && (in_model || !is_linked(metas, feature)),
     }
 }
 

@@ -4,7 +4,7 @@ ghost use Rattle.std.specs.Prelude.{◌≡◌, ◌↔◌, ◌++◌, ◌∷◌, [
 ghost use Rattle.std.specs.List.{list_any};
 ghost use Rattle.qvt_metamodel.specs.Metamodels.{opposite};
 ghost use Rattle.qvt_slots.specs.Change.{among};
-ghost use Rattle.qvt_slots.specs.Contents.{slot_of, is_live, extent_of, is_model, is_writable};
+ghost use Rattle.qvt_slots.specs.Contents.{HoldOwn, slot_of, is_live, extent_of, is_model, is_writable};
 ghost use Rattle.qvt_slots.specs.Assign.{is_elsewhere, crosses};
 ghost use Rattle.qvt_store.specs.Draft.{drafted, overfills_elsewhere, is_overfilling, AddsLive, IsAllowed, IsEarlyFault};
 ghost use Rattle.qvt_slots.specs.Walk.{ClosesCycle, IsOver, SomeOver, IsOverSome};
@@ -116,7 +116,7 @@ impl Store {
         }
     }
 
-    fn is_writable(&self, object: Oid) -> bool
+    pub(super) fn is_writable(&self, object: Oid) -> bool
         ensures { result ≡ is_writable self.now object.0 }
     {
         match self.extents.get(self.extent_or_first(object) as usize) {
@@ -147,19 +147,43 @@ impl Store {
     pub(super) fn crosses(&self, object: Oid, values: &[Value]) -> bool
         ensures { result ≡ crosses self.now object.0 values.now }
     {
-        self.is_model(self.extent_or_first(object)) && self.holds_elsewhere(object, values)
+        self.is_in_model(object) && self.holds_elsewhere(object, values)
     }
 
     /// The same of the list with the value last.
-    pub(super) fn crosses_with(&self, object: Oid, values: &[Value], value: &Value) -> bool
+    fn crosses_with(&self, object: Oid, values: &[Value], value: &Value) -> bool
         ensures { result ≡ crosses self.now object.0 (values.now ++ value.now ∷ []) }
     {
-        self.is_model(self.extent_or_first(object))
+        self.is_in_model(object)
             && (self.holds_elsewhere(object, values) || self.is_elsewhere(object, value))
     }
 
+    /// Whether it is known that the slots of models hold objects of their own extents alone.
+    fn holds_own(&self) -> bool
+        ensures { IsTrue result → HoldOwn self.now }
+    {
+        self.marks.own
+    }
+
+    pub(super) fn is_in_model(&self, object: Oid) -> bool
+        ensures { result ≡ is_model self.now (extent_of self.now object.0) }
+    {
+        self.is_model(self.extent_or_first(object))
+    }
+
+    /// The same of the object's list with the value last. The list is only looked through where it
+    /// is not known to hold objects of its own extent alone.
+    pub(super) fn crosses_last(&self, object: Oid, feature: FeatureNo, value: &Value) -> bool
+        ensures { result ≡ crosses self.now object.0 (slot_of self.now object.0 feature.0 ++ value.now ∷ []) }
+    {
+        if self.holds_own() {
+            return self.is_in_model(object) && self.is_elsewhere(object, value);
+        }
+        self.crosses_with(object, self.list(object, feature), value)
+    }
+
     /// Whether the list holds an object of another extent than the object's.
-    pub(super) fn holds_elsewhere(&self, object: Oid, values: &[Value]) -> bool
+    fn holds_elsewhere(&self, object: Oid, values: &[Value]) -> bool
         ensures { result ≡ list_any (is_elsewhere self.now object.0) values.now }
     {
         values.iter().any(|value| self.is_elsewhere(object, value))

@@ -9,6 +9,7 @@ ghost use Rattle.qvt_store.specs.Place.{IsPlaceable};
 use crate::store::Store;
 use qvt_base::numbers::{FeatureNo, Oid};
 use qvt_metas::metas::Metas;
+use qvt_slots::cell::Marks;
 use qvt_slots::commit::{Write, hold_write};
 use qvt_slots::fault::StoreFault;
 use qvt_slots::features::is_unique;
@@ -46,9 +47,11 @@ impl Store {
         requires { IsPlaceable self.old write.object.0 write.feature.0 write.items }
         ensures { self.new ≡ with_slot self.old write.object.0 write.feature.0 write.items }
     {
-        self.distinct = stays_distinct(
+        let crosses = self.crosses(write.object, write.items.as_slice());
+        self.marks = marks_placed(
             &self.metas,
-            self.distinct,
+            self.marks,
+            crosses,
             write.feature,
             write.items.as_slice(),
         );
@@ -63,9 +66,19 @@ impl Store {
     }
 }
 
-/// Whether no unique slot holds a value twice, where one more slot gets this list.
-fn stays_distinct(metas: &Metas, distinct: bool, feature: FeatureNo, values: &[Value]) -> bool
-    ensures { result ≡ (distinct && not ((shape_of metas.now feature.0).unique && repeats values.now)) }
+/// What is known where one more slot gets this list, which crosses to another extent or does not.
+fn marks_placed(
+    metas: &Metas,
+    marks: Marks,
+    crosses: bool,
+    feature: FeatureNo,
+    values: &[Value],
+) -> Marks
+    ensures distinct { result.distinct ≡ (marks.distinct && not ((shape_of metas.now feature.0).unique && repeats values.now)) }
+    ensures own { result.own ≡ (marks.own && not crosses) }
 {
-    distinct && !(is_unique(metas, feature) && repeats(values))
+    Marks {
+        distinct: marks.distinct && !(is_unique(metas, feature) && repeats(values)),
+        own: marks.own && !crosses,
+    }
 }

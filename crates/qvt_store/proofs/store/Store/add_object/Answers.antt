@@ -3,9 +3,10 @@ use Rattle.std.specs.Prelude.{None, slice_set, slice_index_or}
 use Rattle.std.proofs.lemmas.Bool.{ltb-true}
 use Rattle.qvt_base.specs.declared.numbers.FeatureNo.{FeatureNo}
 use Rattle.qvt_slots.specs.declared.cell.Cell.{Cell}
-use Rattle.qvt_slots.specs.Contents.{Contents}
-use Rattle.qvt_slots.specs.Cells.{IsKept}
-use Rattle.qvt_slots.proofs.Added.{added_kept}
+use Rattle.qvt_slots.specs.Contents.{Contents, HoldOwn}
+use Rattle.qvt_slots.specs.Cells.{contents_of, IsKept}
+use Rattle.qvt_slots.proofs.Added.{cells_new, added_kept}
+use Rattle.qvt_store.proofs.Own.{own_grown}
 use Rattle.qvt_store.proofs.store.Store.add_object.Goals as goal
 
 pub invariant_of-self-2 : goal.invariant_of-self-2
@@ -15,8 +16,10 @@ invariant_of-self-2 c =
     subst (λ n. c.args.extent < n) (ap (λ (s : Contents). length s.extents) (sym c.self.view_is) ∙ sym c.self.invariant.listed.count) (ltb-true c.args.extent (length c.args.self.now.extents) c.requires.extent) in
     let count : c.len-count.result ≡ length c.self.inside.cells.items = omega arith in
     let few : length c.self.inside.cells.items < 1000000 = omega arith in
-    subst (λ (l : List Cell). IsKept c.self.inside.metas c.self.inside.extents l c.add_cell.new.members.items c.self.inside.distinct) (sym c.in_ok-add_cell.ensures.cells)
+    subst (λ (l : List Cell). IsKept c.self.inside.metas c.self.inside.extents l c.add_cell.new.members.items c.self.inside.marks) (sym c.in_ok-add_cell.ensures.cells)
     (added_kept c.self.inside.metas c.self.inside.cells.items k c.self.invariant.whole few refl
     (c.in_ok-slots.ensures ∙ ap (λ (gs : List FeatureNo). map (λ _. []) gs) c.features.ensures)
-    c.self.inside.extents c.self.inside.members.items c.add_cell.new.members.items c.self.inside.distinct c.self.invariant live
-    (c.in_ok-add_cell.ensures.members ∙ ap (λ n. slice_set c.self.inside.members.items c.args.extent (slice_index_or c.self.inside.members.items c.args.extent [] ++ record { 0 = n } ∷ [])) count))
+    c.self.inside.extents c.self.inside.members.items c.add_cell.new.members.items c.self.inside.marks c.self.invariant live
+    (c.in_ok-add_cell.ensures.members ∙ ap (λ n. slice_set c.self.inside.members.items c.args.extent (slice_index_or c.self.inside.members.items c.args.extent [] ++ record { 0 = n } ∷ [])) count)
+    (λ own. subst HoldOwn (sym (cells_new c.self.inside.metas c.self.inside.extents c.self.inside.cells.items k (c.in_ok-slots.ensures ∙ ap (λ (gs : List FeatureNo). map (λ _. []) gs) c.features.ensures)))
+    (own_grown (contents_of c.self.inside.metas c.self.inside.extents c.self.inside.cells.items) c.args.class.0 c.args.extent c.self.invariant.typed own)))

@@ -31,7 +31,7 @@ pub carry_out-requires : goal.carry_out-requires
 carry_out-requires c = ready c.args.self.now c.args.object c.args.feature c.args.values.now c.in_ok-items.items c.in_ok-added.added c.in_ok-removed.removed c.is_unique_feature-unique.ensures.known c.requires (c.in_ok-items.ensures ∙ ap (λ b. cond b (without_repeats c.args.values.now) c.args.values.now) c.is_unique_feature-unique.ensures.value)
     (c.in_ok-added.ensures ∙ ap (λ (l : List Value). objects_beyond l c.as_slice.result.now) c.list.ensures ∙ ap (λ (l : List Value). objects_beyond (slot_of c.args.self.now c.args.object.0 c.args.feature.0) l) c.as_slice.ensures)
     (c.in_ok-removed.ensures ∙ ap (λ (l : List Value). objects_beyond l c.list-2.result.now) c.as_slice-2.ensures ∙ ap (λ (l : List Value). objects_beyond c.in_ok-items.items l) c.list-2.ensures)
-    c.len.result c.len.ensures c.in-Ok.ensures.ok c.in-Ok-plan.writes.items c.as_slice-4.result.now c.in-Ok-plan.ensures
+    c.len.result c.len.ensures c.in-Ok.ensures.ok (subst (λ (l : List Value). crosses c.args.self.now c.args.object.0 l ≡ false) c.as_slice-3.ensures (sym c.crosses.ensures ∙ c.if-crosses.false)) c.in-Ok-plan.writes.items c.as_slice-4.result.now c.in-Ok-plan.ensures
     (c.as_slice-4.ensures ∙ c.in_ok-released.ensures ∙ ap (λ (l : List Write). released_of c.args.self.now.metas (slot_of c.args.self.now) (record { object = c.args.object; feature = c.args.feature; added = c.in_ok-added.added; removed = c.in_ok-removed.removed }) l) c.deref.ensures.value)
 
 pub returns-clause-ok : goal.returns-clause-ok

@@ -1,5 +1,7 @@
-use Rattle.std.proofs.Common.{◌∙◌, ◌++◌, ◌∷◌, [], sym, ap, subst, get_or}
-use Rattle.qvt_slots.specs.Contents.{Contents, slot_in, slot_of}
+use Rattle.std.proofs.Common.{◌≡◌, Bool, true, ◌||◌, not, ◌∙◌, ◌++◌, ◌∷◌, [], sym, ap, subst, get_or}
+use Rattle.qvt_relation.proofs.Bools.{and_left, and_right}
+use Rattle.qvt_slots.specs.Change.{is_linked}
+use Rattle.qvt_slots.specs.Contents.{Contents, extent_of, is_model, slot_in, slot_of}
 use Rattle.qvt_slots.specs.Assign.{change_to, store_after}
 use Rattle.qvt_slots.specs.Cells.{instances}
 use Rattle.qvt_store.specs.Ready.{Ready}
@@ -18,7 +20,7 @@ push_value-requires c =
     }
 
 pub invariant_of-self : goal.invariant_of-self
-invariant_of-self c = same_kept c.self.inside.metas c.self.inside.extents c.self.inside.cells.items c.push_value.new.cells.items c.self.inside.members.items c.self.inside.distinct c.in_err-push_value.ensures.err c.self.invariant
+invariant_of-self c = same_kept c.self.inside.metas c.self.inside.extents c.self.inside.cells.items c.push_value.new.cells.items c.self.inside.members.items c.self.inside.marks c.in_err-push_value.ensures.err c.self.invariant
 
 pub settle-requires : goal.settle-requires
 settle-requires c =
@@ -36,7 +38,8 @@ pub invariant_of-self-2 : goal.invariant_of-self-2
 invariant_of-self-2 c =
     let ready = (subst (λ (s : Contents). Ready s c.args.draft.now (slot_of s c.args.draft.now.object.0 c.args.draft.now.feature.0 ++ c.args.value ∷ []) c.args.writes.items c.args.released.now) (sym c.self.view_is) c.requires) in
     kept_whole c.self.inside.metas c.self.inside.extents c.self.inside.cells.items c.args.draft.now (slot_in c.self.inside.metas (instances c.self.inside.cells.items) c.args.draft.now.object.0 c.args.draft.now.feature.0 ++ c.args.value ∷ []) c.args.writes.items c.args.released.now c.self.invariant.whole ready
-    c.push_value.new.cells.items c.settle.new.cells.items c.in_ok-push_value.ensures.ok c.settle.ensures c.self.inside.members.items c.self.inside.distinct c.self.invariant
+    c.push_value.new.cells.items c.settle.new.cells.items c.in_ok-push_value.ensures.ok c.settle.ensures c.self.inside.members.items c.self.inside.marks c.marks_changed-self-inside.result c.self.invariant c.marks_changed-self-inside.ensures.distinct
+    (λ t. let h = sym c.marks_changed-self-inside.ensures.own ∙ t in (and_left _ _ h, subst (λ (b : Bool). (b || not (is_linked c.self.inside.metas c.args.draft.now.feature.0)) ≡ true) (c.is_in_model-in_model.ensures ∙ ap (λ (s : Contents). is_model s (extent_of s c.args.draft.now.object.0)) (sym c.self.view_is)) (and_right c.self.inside.marks.own _ h)))
 
 pub returns-clause-ok : goal.returns-clause-ok
 returns-clause-ok c =

@@ -1,7 +1,9 @@
-use Rattle.std.proofs.Common.{◌∙◌, sym, ap, cond, ◌==◌, ◌&&◌, subst, List, get_or}
+use Rattle.std.proofs.Common.{◌≡◌, Bool, true, ◌||◌, not, ◌∙◌, sym, ap, cond, ◌==◌, ◌&&◌, subst, List, get_or}
 use Rattle.qvt_value.specs.declared.value.Value.{Value}
 use Rattle.qvt_slots.specs.Cells.{contents_of}
-use Rattle.qvt_slots.specs.Contents.{Contents, with_slot}
+use Rattle.qvt_relation.proofs.Bools.{and_left, and_right}
+use Rattle.qvt_slots.specs.Change.{is_linked}
+use Rattle.qvt_slots.specs.Contents.{Contents, extent_of, is_model, with_slot}
 use Rattle.qvt_slots.specs.Assign.{change_to, store_after}
 use Rattle.qvt_store.specs.Ready.{Ready, StaysElsewhere}
 use Rattle.qvt_store.proofs.Done.{writes_live, items_live, released_live, added_live, kept_whole, gives_store, gives_slot}
@@ -35,7 +37,8 @@ pub invariant_of-self : goal.invariant_of-self
 invariant_of-self c =
     let ready = subst (λ (s : Contents). Ready s c.args.draft.now c.args.items c.args.writes.items c.args.released.now) (sym c.self.view_is) c.requires in
     kept_whole c.self.inside.metas c.self.inside.extents c.self.inside.cells.items c.args.draft.now c.args.items c.args.writes.items c.args.released.now c.self.invariant.whole ready
-    c.put.new.cells.items c.settle.new.cells.items c.put.ensures c.settle.ensures c.self.inside.members.items c.self.inside.distinct c.self.invariant
+    c.put.new.cells.items c.settle.new.cells.items c.put.ensures c.settle.ensures c.self.inside.members.items c.self.inside.marks c.marks_changed-self-inside.result c.self.invariant c.marks_changed-self-inside.ensures.distinct
+    (λ t. let h = sym c.marks_changed-self-inside.ensures.own ∙ t in (and_left _ _ h, subst (λ (b : Bool). (b || not (is_linked c.self.inside.metas c.args.draft.now.feature.0)) ≡ true) (c.is_in_model-in_model.ensures ∙ ap (λ (s : Contents). is_model s (extent_of s c.args.draft.now.object.0)) (sym c.self.view_is)) (and_right c.self.inside.marks.own _ h)))
 
 pub returns-clause-after : goal.returns-clause-after
 returns-clause-after c =

@@ -1,0 +1,5 @@
+//! Models loaded into the extents of stores.
+#![tactic(auto)]
+
+pub mod load;
+mod values;
