@@ -1,17 +1,16 @@
 -- The search for an order of classes: each visit leaves it as it is to be, and where none is left all classes are placed.
-use Rattle.std.proofs.Common.{◌≡◌, ◌∙◌, ℕ, zero, suc, ◌+◌, ◌<◌, ◌≤◌, List, [], ◌∷◌, ◌++◌, length, map, get_or, set, take, Bool, true, false, refl, ap, sym, subst, arith, ◌==◌, ◌||◌, ◌⊎◌, inl, inr, append_assoc, replicate}
+use Rattle.std.proofs.Common.{◌≡◌, ◌∙◌, ℕ, zero, suc, ◌+◌, ◌<◌, List, [], ◌∷◌, ◌++◌, length, map, get_or, set, take, Bool, true, false, refl, ap, sym, subst, arith, ◌==◌, ◌||◌, ◌⊎◌, inl, inr, append_assoc, replicate}
 use Rattle.std.specs.List.{list_any, list_all, AllByRecursion}
-use Rattle.std.specs.Prelude.{IsTrue, slice_index, nat_lt, if◌then◌else◌}
-use Rattle.std.proofs.lemmas.List.{get_or_past, get_or-set_same, get_or-set_other, length-set, length-append, append-nil, take-append-le, length-replicate}
+use Rattle.std.specs.Prelude.{slice_index, nat_lt, if◌then◌else◌}
+use Rattle.std.proofs.lemmas.List.{get_or_past, get_or-set_other, length-set, length-append, append-nil, take-append-le, length-replicate}
 use Rattle.std.proofs.Math.Seq.{take-append_seam}
 use Rattle.std.proofs.lemmas.Bool.{eqb-true, eq-eqb, cases_eq, lt-ltb}
 use Rattle.std.proofs.lemmas.Bool.Decides.{leb_tells}
 use Rattle.qvt_base.specs.declared.numbers.ClassNo.{ClassNo}
-use Rattle.qvt_relation.specs.Closure.{Closure, directly, through}
+use Rattle.qvt_relation.specs.Closure.{Closure, directly}
 use Rattle.qvt_relation.proofs.Closures.{join}
 use Rattle.qvt_metamodel.specs.declared.info.ClassInfo.{ClassInfo}
 use Rattle.qvt_metamodel.specs.Metamodels.{class_at, nowhere_class}
-use Rattle.qvt_metamodel.specs.Descends.{is_superclass}
 use Rattle.qvt_metamodel.proofs.Bools.{or_cases, or_left, or_right, and_both, clash}
 use Rattle.qvt_metamodel.proofs.Halves.{old-at, new-at}
 use Rattle.qvt_metamodel.proofs.Lists.{list_any-map, all-found}

@@ -1,6 +1,6 @@
 -- The search for an order of classes in which each comes after its superclasses: a class is entered, then its superclasses are,
 -- and after these it is left, and so placed. A class between the two is open.
-use Rattle.std.specs.Prelude.{◌≡◌, ℕ, zero, suc, ◌+◌, ◌<◌, Bool, true, false, ◌==◌, ◌⊎◌, List, [], ◌∷◌, length, take, slice_index_or, IsTrue, if◌then◌else◌}
+use Rattle.std.specs.Prelude.{◌≡◌, ℕ, suc, ◌+◌, ◌<◌, Bool, true, false, ◌==◌, ◌⊎◌, List, [], ◌∷◌, length, take, slice_index_or, IsTrue, if◌then◌else◌}
 use Rattle.std.specs.List.{list_any}
 use Rattle.qvt_relation.specs.Closure.{Closure}
 use Rattle.qvt_metamodel.specs.declared.info.ClassInfo.{ClassInfo}

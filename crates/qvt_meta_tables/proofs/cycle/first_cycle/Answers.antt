@@ -1,6 +1,6 @@
-use Rattle.std.proofs.Common.{◌≡◌, ◌∙◌, ap, sym, true, false, Bool}
+use Rattle.std.proofs.Common.{◌≡◌, ◌∙◌, ap, sym}
 use Rattle.qvt_cycle.specs.Successors.{is_on_cycle}
-use Rattle.qvt_meta_tables.specs.Cycles.{super_numbers, is_own_ancestor}
+use Rattle.qvt_meta_tables.specs.Cycles.{is_own_ancestor}
 use Rattle.qvt_meta_tables.proofs.Cyclic.{on_cycle_is, cycle_next, cycle_found}
 use Rattle.qvt_meta_tables.proofs.cycle.first_cycle.Goals as goal
 

@@ -1,5 +1,4 @@
-use Rattle.std.proofs.Common.{◌≡◌, ◌∙◌, ◌<◌, ap, sym, subst, arith}
-use Rattle.std.specs.Prelude.{slice_index}
+use Rattle.std.proofs.Common.{◌∙◌, ap, sym, arith}
 use Rattle.qvt_meta_tables.specs.Search.{stands_in, place_of}
 use Rattle.qvt_meta_tables.proofs.Searching.{is_order}
 use Rattle.qvt_meta_tables.proofs.order.order_of.Goals as goal

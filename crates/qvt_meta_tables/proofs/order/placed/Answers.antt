@@ -1,4 +1,4 @@
-use Rattle.std.proofs.Common.{◌≡◌, ◌∙◌, [], length, replicate, false, ap, sym, subst, arith}
+use Rattle.std.proofs.Common.{◌∙◌, [], length, replicate, false, sym, subst, arith}
 use Rattle.qvt_meta_tables.specs.Search.{IsSearch}
 use Rattle.qvt_meta_tables.proofs.Searching.{first, all_placed}
 use Rattle.qvt_meta_tables.proofs.order.placed.Goals as goal
