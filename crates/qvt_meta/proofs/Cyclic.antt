@@ -1,28 +1,24 @@
 -- The classes of a metamodel that are their own ancestors, by name and by number.
-use Rattle.std.proofs.Common.{◌≡◌, ◌∙◌, ℕ, zero, suc, ◌+◌, ◌<◌, List, [], ◌∷◌, length, map, get_or, Bool, true, false, refl, ap, sym, arith, ◌==◌, ◌||◌, inl, inr, Option, Some, None, option_map}
-use Rattle.std.specs.Prelude.{slice_index, if◌then◌else◌}
+use Rattle.std.proofs.Common.{◌≡◌, ◌∙◌, ℕ, suc, ◌+◌, ◌<◌, List, [], ◌∷◌, length, map, get_or, Bool, true, false, refl, ap, sym, arith, ◌==◌, ◌||◌, inl, inr, Option, Some, None, option_map}
+use Rattle.std.specs.Prelude.{if◌then◌else◌}
 use Rattle.std.specs.List.{list_any}
 use Rattle.std.proofs.lemmas.List.{get_or_past}
 use Rattle.std.proofs.lemmas.Bool.Decides.{leb_tells}
 use Rattle.qvt_base.specs.declared.numbers.ClassNo.{ClassNo}
-use Rattle.qvt_relation.specs.Closure.{Closure, directly, through, reaches}
-use Rattle.qvt_relation.proofs.Closures.{reaches-closure}
+use Rattle.qvt_relation.specs.Closure.{reaches}
 use Rattle.qvt_metamodel.specs.declared.info.ClassInfo.{ClassInfo}
 use Rattle.qvt_metamodel.specs.declared.declared.DeclaredClass.{DeclaredClass}
 use Rattle.qvt_metamodel.specs.declared.declared.MetaData.{MetaData}
 use Rattle.qvt_metamodel.specs.MetaData.{class_names}
-use Rattle.qvt_metamodel.specs.Metamodels.{class_at}
 use Rattle.qvt_metamodel.specs.Descends.{is_superclass}
-use Rattle.qvt_metamodel.specs.Kept.{AreRanks}
 use Rattle.qvt_metamodel.specs.Added.{declared_at, nothing_declared, names_of, place_in, first_begin, class_info, class_infos}
 use Rattle.qvt_metamodel.specs.Checks.{first_from, is_super, inheritance_cycle}
 use Rattle.qvt_meta_tables.specs.Tables.{of_classes}
 use Rattle.qvt_json.specs.Steps.{or_next}
-use Rattle.qvt_meta_tables.specs.Cycles.{AreLive, is_own_ancestor, cycle_from, first_cycle}
-use Rattle.qvt_metamodel.proofs.Bools.{ap2, clash, not_true}
-use Rattle.qvt_meta.proofs.Owners.{all-there}
+use Rattle.qvt_meta_tables.specs.Search.{AreLive}
+use Rattle.qvt_meta_tables.specs.Cycles.{is_own_ancestor, cycle_from, first_cycle}
+use Rattle.qvt_metamodel.proofs.Bools.{ap2, clash}
 use Rattle.qvt_metamodel.proofs.Infos.{length-class_infos}
-use Rattle.qvt_meta_tables.proofs.Visits.{R}
 use Rattle.qvt_meta.proofs.Whole.{class_is, past_class, live_superclass_at}
 
 module _ (d : MetaData) where
@@ -72,25 +68,3 @@ module _ (d : MetaData) where
   pub cycle_is : inheritance_cycle d ≡ option_map (λ i. (declared_at ks i).name) (first_cycle infos)
   unfolding inheritance_cycle
   cycle_is = cycle_names 0 ks (λ i l. ap (declared_at ks) (let same : 0 + i ≡ i = omega arith in same)) ∙ ap (λ n. option_map (λ i. (declared_at ks i).name) (cycle_from infos 0 n)) (sym total)
-
--- ranks that rise leave no class above itself
-module _ (ks : List ClassInfo) (ranks : List ℕ) (ok : AreRanks (of_classes ks) ranks) where
-  rises : {x y : ℕ} → Closure (R ks) x y → slice_index ranks y < slice_index ranks x
-  rises (directly {x} {y} h) = all-there (λ s. slice_index ranks s < slice_index ranks x) (class_at (of_classes ks) x).supers y (ok.rise x) h
-  rises (through {x} {y} {z} h p) = (let more : slice_index ranks z < slice_index ranks y = rises p in let step : slice_index ranks y < slice_index ranks x = all-there (λ s. slice_index ranks s < slice_index ranks x) (class_at (of_classes ks) x).supers y (ok.rise x) h in omega (arith, more, step))
-
-  not_itself : (c : ℕ) → is_own_ancestor ks c ≡ false
-  not_itself c = not_true (is_own_ancestor ks c) (λ h. never (rises (reaches-closure (is_superclass (of_classes ks)) (R ks) (record { sound = λ x y h. h; complete = λ x y h. h }) (length ks) c c h)))
-    where
-      never : slice_index ranks c < slice_index ranks c → ⊥
-      never l = omega arith
-
-  none_from : (c n : ℕ) → cycle_from ks c n ≡ None
-  none_from c zero = refl
-  none_from c (suc n) = ap (λ b. if b then Some c else cycle_from ks (suc c) n) (not_itself c) ∙ none_from (suc c) n
-
-  pub no_cycle : first_cycle ks ≡ None
-  no_cycle = none_from 0 (length ks)
-
-pub no_inheritance_cycle : (d : MetaData) (ks : List ClassInfo) (ranks : List ℕ) → ks ≡ class_infos first_begin (names_of d.classes) 0 d.classes → AreRanks (of_classes ks) ranks → inheritance_cycle d ≡ None
-no_inheritance_cycle d ks ranks e ok = cycle_is d ∙ ap (option_map (λ i. (declared_at d.classes i).name)) (ap first_cycle (sym e) ∙ no_cycle ks ranks ok)

@@ -3,7 +3,6 @@ use Rattle.std.specs.Prelude.{◌≡◌, nat_le, Bool, [], ◌∷◌, length, Is
 use Rattle.std.specs.List.{list_all}
 use Rattle.qvt_metamodel.specs.declared.info.EnumInfo.{EnumInfo}
 use Rattle.qvt_meta.specs.declared.adding.Numbers.{Numbers}
-use Rattle.qvt_metamodel.specs.Metamodels.{Metamodels}
 use Rattle.qvt_metamodel.specs.declared.declared.MetaData.{MetaData}
 use Rattle.qvt_metamodel.specs.MetaData.{enum_names}
 use Rattle.qvt_metamodel.specs.Added.{first_begin, names_of, class_infos, feature_infos, HasRoom}

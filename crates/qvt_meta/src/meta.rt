@@ -7,6 +7,7 @@ ghost use Rattle.qvt_metamodel.specs.MetaData.{class_names};
 ghost use Rattle.qvt_meta.specs.MetaOf.{features_checked, classes_checked, types_checked, checked, meta_of};
 ghost use Rattle.qvt_meta.specs.Numbers.{AreNumbers};
 ghost use Rattle.qvt_meta_tables.specs.Tables.{of_classes, AreTables};
+ghost use Rattle.qvt_meta_tables.specs.Search.{IsAcyclic};
 
 use crate::adding::{Numbers, numbers_of};
 use crate::same_feature::same_feature;
@@ -57,42 +58,24 @@ fn class_name(classes: &[DeclaredClass], class: usize) -> &Text
     &classes[class].name
 }
 
-/// The refusal of classes of which one is above itself.
-fn cycle_fault(
+/// The name of the first class that is above itself.
+fn inheritance_cycle(
     alloc: Global,
     meta: &MetaData,
     classes: &[ClassInfo],
     count: u32,
-) -> Result<MetaFault, ListFault>
+) -> Result<Option<Text>, ListFault>
     requires count { length classes.now ≡ count }
     requires classes { classes.now ≡ class_infos first_begin (names_of meta.now.classes) 0 meta.now.classes }
-    ensures { IfOk result (λ fault. fault ≢ MetaFault.NoMemory → option_map MetaFault.InheritanceCycle (inheritance_cycle meta.now) ≡ Some fault) }
+    ensures cycle { IfOk result (λ o. o ≡ inheritance_cycle meta.now) }
+    ensures acyclic { IfOk result (λ o. o ≡ None → IsAcyclic classes.now) }
 {
     match first_cycle(alloc, classes, count)? {
         Some(class) => {
             let name = class_name(meta.classes.as_slice(), class as usize);
-            Ok(MetaFault::InheritanceCycle(name.copy(alloc)?))
+            Ok(Some(name.copy(alloc)?))
         }
-        None => Ok(MetaFault::NoMemory),
-    }
-}
-
-/// The tables of the classes, or the refusal of one that is above itself.
-fn tables_or_cycle(
-    alloc: Global,
-    meta: &MetaData,
-    classes: &[ClassInfo],
-) -> Result<Tables, MetaFault>
-    requires few { length classes.now < 2 ^ 32 }
-    requires classes { classes.now ≡ class_infos first_begin (names_of meta.now.classes) 0 meta.now.classes }
-    ensures tables { IfOk result (λ t. AreTables (of_classes classes.now) t.lists.items t.rows.items t.ranks.items) }
-    ensures none { OnOk result (inheritance_cycle meta.now ≡ None) }
-    ensures cycle { IfErr result (λ fault. fault ≢ MetaFault.NoMemory → option_map MetaFault.InheritanceCycle (inheritance_cycle meta.now) ≡ Some fault) }
-{
-    let count = classes.len() as u32;
-    match tables_of(alloc, classes, count)? {
-        Some(tables) => Ok(tables),
-        None => Err(cycle_fault(alloc, meta, classes, count)?),
+        None => Ok(None),
     }
 }
 
@@ -137,7 +120,11 @@ fn classes_checked(alloc: Global, meta: MetaData, names: &IndexSet<Text>) -> Res
     ensures { Gives MetaFault.NoMemory (λ read. read) result (classes_checked meta) }
 {
     let numbers = numbers_of(alloc, &meta)?;
-    let tables = tables_or_cycle(alloc, &meta, numbers.classes.as_slice())?;
+    let count = numbers.classes.len() as u32;
+    if let Some(class) = inheritance_cycle(alloc, &meta, numbers.classes.as_slice(), count)? {
+        return Err(MetaFault::InheritanceCycle(class));
+    }
+    let tables = tables_of(alloc, numbers.classes.as_slice(), count)?;
     features_checked(alloc, meta, names, numbers, tables)
 }
 

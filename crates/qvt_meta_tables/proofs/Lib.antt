@@ -1,4 +1,4 @@
 pub mod Filling
 pub mod Marks
-pub mod Orders
-pub mod Visits
+pub mod Cyclic
+pub mod Searching

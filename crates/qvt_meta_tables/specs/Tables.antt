@@ -1,26 +1,12 @@
 -- The tables of a list of classes, and an order in which they are made.
-use Rattle.std.specs.Prelude.{◌≡◌, ℕ, ◌<◌, ◌≤◌, Bool, ◌&&◌, ◌==◌, nat_lt, ◌+◌, true, List, [], ◌∷◌, length, slice_index, slice_index_or, None, IsTrue}
+use Rattle.std.specs.Prelude.{◌≡◌, ℕ, ◌<◌, ◌≤◌, nat_lt, ◌+◌, List, [], length, slice_index, slice_index_or, None, IsTrue}
 use Rattle.std.specs.List.{list_all}
-use Rattle.qvt_base.specs.declared.numbers.ClassNo.{ClassNo}
 use Rattle.qvt_base.specs.declared.numbers.FeatureNo.{FeatureNo}
 use Rattle.qvt_metamodel.specs.declared.row.Row.{Row}
 use Rattle.qvt_metamodel.specs.declared.info.ClassInfo.{ClassInfo}
 use Rattle.qvt_metamodel.specs.Metamodels.{Metamodels, class_at, features_of}
 use Rattle.qvt_metamodel.specs.Descends.{reaches}
 use Rattle.qvt_metamodel.specs.Kept.{AreRanks, no_row, is_marked}
-
--- the superclasses have lower ranks
-abbrev pub are_lower : List ℕ → ℕ → List ClassNo → Bool
-are_lower ranks rank supers = list_all (λ s. nat_lt s.0 (length ranks) && nat_lt (slice_index ranks s.0) rank) supers
-
--- the class stands in the order at the place that is its rank, and its superclasses have lower ranks
-abbrev pub is_placed : List ℕ → List ℕ → ℕ → List ClassNo → Bool
-is_placed order ranks c supers = nat_lt (slice_index ranks c) (length order) && ((slice_index order (slice_index ranks c) == c) && are_lower ranks (slice_index ranks c) supers)
-
--- so do the classes that are left, of which the first has this number
-abbrev pub are_placed : List ℕ → List ℕ → ℕ → List ClassInfo → Bool
-are_placed order ranks c [] = true
-are_placed order ranks c (k ∷ left) = is_placed order ranks c k.supers && are_placed order ranks (c + 1) left
 
 -- these classes and nothing else
 abbrev pub of_classes : List ClassInfo → Metamodels

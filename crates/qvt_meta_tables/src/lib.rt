@@ -5,3 +5,4 @@ pub mod cycle;
 pub mod order;
 pub mod rows;
 pub mod tables;
+pub mod visit;

@@ -6,6 +6,7 @@ ghost use Rattle.qvt_metamodel.specs.Metamodels.{each_once, features_of, nowhere
 ghost use Rattle.qvt_metamodel.specs.Descends.{reaches};
 ghost use Rattle.qvt_metamodel.specs.Kept.{no_row, is_marked};
 ghost use Rattle.qvt_meta_tables.specs.Tables.{of_classes, IsOrder, AreTables};
+ghost use Rattle.qvt_meta_tables.specs.Search.{AreLive, IsAcyclic};
 
 use crate::order::{Order, order_of};
 use crate::rows::rows_of;
@@ -159,23 +160,19 @@ fn lists_of(
     Ok(lists)
 }
 
-/// The tables of these classes, None where no order of them is found.
-pub fn tables_of(
-    alloc: Global,
-    classes: &[ClassInfo],
-    count: u32,
-) -> Result<Option<Tables>, ListFault>
-    requires { length classes.now ≡ count }
-    ensures { IfOk result (λ o. IfSome o (λ t. AreTables (of_classes classes.now) t.lists.items t.rows.items t.ranks.items)) }
+/// The tables of these classes, of which none is above itself.
+pub fn tables_of(alloc: Global, classes: &[ClassInfo], count: u32) -> Result<Tables, ListFault>
+    requires live { AreLive classes.now }
+    requires acyclic { IsAcyclic classes.now }
+    requires count { length classes.now ≡ count }
+    ensures { IfOk result (λ t. AreTables (of_classes classes.now) t.lists.items t.rows.items t.ranks.items) }
 {
-    let Some(order) = order_of(alloc, classes, count)? else {
-        return Ok(None);
-    };
+    let order = order_of(alloc, classes, count)?;
     let lists = lists_of(alloc, &order, classes)?;
     let rows = rows_of(alloc, &order, classes, count)?;
-    Ok(Some(Tables {
+    Ok(Tables {
         lists,
         rows,
         ranks: order.ranks.into_vec(),
-    }))
+    })
 }

@@ -130,6 +130,51 @@ position-right p xs ys i all e =
     let same : position_or_len p (xs ++ ys) ≡ length xs + i = prefix-past p xs ys all ∙ ap (λ n. length xs + n) at.1 in
     ap (λ n. cond (nat_lt n (length (xs ++ ys))) (Some n) None) same ∙ ap (λ t. cond t (Some (length xs + i)) None) (lt-ltb (length xs + i) (length (xs ++ ys)) (omega (arith, at.0, at.1, length-append xs ys)))
 
+abbrev PrefixIs : {X : Type 0} → (X → Bool) → List X → List X → Type 0
+PrefixIs p xs ys =
+    ((position_or_len p xs < length xs) × (position_or_len p (xs ++ ys) ≡ position_or_len p xs))
+    ⊎ ((position_or_len p xs ≡ length xs) × (position_or_len p (xs ++ ys) ≡ length xs + length ys))
+
+prefix-none : {X : Type 0} (p : X → Bool) (ys : List X) → AllByRecursion (λ x. p x ≡ false) ys → position_or_len p ys ≡ length ys
+prefix-none p [] none = refl
+prefix-none p (y ∷ ys) none = ap (λ t. cond (not t) (1 + position_or_len p ys) 0) none.0 ∙ ap (λ n. 1 + n) (prefix-none p ys none.1) ∙ omega arith
+
+prefix-is : {X : Type 0} (p : X → Bool) (xs ys : List X) → AllByRecursion (λ x. p x ≡ false) ys → PrefixIs p xs ys
+prefix-is p [] ys none = inr (refl, prefix-none p ys none ∙ omega arith)
+prefix-is p (x ∷ xs) ys none = by (p x) refl (prefix-is p xs ys none)
+  where
+    by : (t : Bool) → p x ≡ t → PrefixIs p xs ys → PrefixIs p (x ∷ xs) ys
+    by true e r =
+        let here : position_or_len p (x ∷ xs) ≡ 0 = ap (λ t. cond (not t) (1 + position_or_len p xs) 0) e in
+        inl (omega (arith, here), ap (λ t. cond (not t) (1 + position_or_len p (xs ++ ys)) 0) e ∙ sym here)
+    by false e r =
+        let here : position_or_len p (x ∷ xs) ≡ 1 + position_or_len p xs = ap (λ t. cond (not t) (1 + position_or_len p xs) 0) e in
+        let all : position_or_len p (x ∷ (xs ++ ys)) ≡ 1 + position_or_len p (xs ++ ys) = ap (λ t. cond (not t) (1 + position_or_len p (xs ++ ys)) 0) e in
+        elim r [
+          | inl f ↦ inl (omega (arith, here, f.0), all ∙ ap (λ n. 1 + n) f.1 ∙ sym here)
+          | inr n ↦ inr (omega (arith, here, n.0), omega (arith, all, n.1))
+        ]
+
+-- what is not found among the items that come last is not found sooner
+pub position-none_past : {X : Type 0} (p : X → Bool) (xs ys : List X) → AllByRecursion (λ x. p x ≡ false) ys → position p (xs ++ ys) ≡ position p xs
+position-none_past p xs ys none = elim (prefix-is p xs ys none) [
+  | inl f ↦ position-left p xs ys (position_or_len p xs) (found f.0) ∙ sym (found f.0)
+  | inr n ↦ absent n.0 n.1
+]
+  where
+    found : position_or_len p xs < length xs → position p xs ≡ Some (position_or_len p xs)
+    found l = ap (λ t. cond t (Some (position_or_len p xs)) None) (lt-ltb (position_or_len p xs) (length xs) l)
+
+    past : (n k : ℕ) → n ≡ k → cond (nat_lt n k) (Some n) None ≡ None
+    past n k e = by (nat_lt n k) refl
+      where
+        by : (t : Bool) → nat_lt n k ≡ t → cond (nat_lt n k) (Some n) None ≡ None
+        by true is = absurd (let less : n < k = ltb-true n k is in omega (arith, less, e))
+        by false is = ap (λ t. cond t (Some n) None) is
+
+    absent : position_or_len p xs ≡ length xs → position_or_len p (xs ++ ys) ≡ length xs + length ys → position p (xs ++ ys) ≡ position p xs
+    absent a b = past (position_or_len p (xs ++ ys)) (length (xs ++ ys)) (b ∙ sym (length-append xs ys)) ∙ sym (past (position_or_len p xs) (length xs) a)
+
 prefix-cong : {X : Type 0} (p q : X → Bool) (xs : List X) → ((x : X) → p x ≡ q x) → position_or_len p xs ≡ position_or_len q xs
 prefix-cong p q [] same = refl
 prefix-cong p q (x ∷ xs) same = λ i. cond (not (same x i)) (1 + prefix-cong p q xs same i) 0

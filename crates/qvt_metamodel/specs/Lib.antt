@@ -3,6 +3,7 @@ pub mod Descends
 pub mod Named
 pub mod WellFormed
 pub mod Kept
+pub mod Stay
 pub mod MetaData
 pub mod Names
 pub mod Joined

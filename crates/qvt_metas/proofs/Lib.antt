@@ -1,4 +1,5 @@
 pub mod Joins
+pub mod GoesOn
 pub mod JoinsKept
 pub mod JoinsTables
 pub mod Fits

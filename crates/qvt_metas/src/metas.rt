@@ -372,6 +372,16 @@ impl Metas {
         let _ = &self.classes;
     }
 
+    /// A law: when a metamodel is added, the numbers that were there stay, and each look-up says of
+    /// them what it said.
+    pub fn numbers_stay(&self)
+        ensures { (d : MetaData) → StaysIn self.now (added self.now d) }
+    {
+        let _ = &self.classes;
+    }
+
+    ghost use Rattle.qvt_metamodel.specs.Stay.{StaysIn};
+    ghost use Rattle.qvt_metamodel.specs.declared.declared.MetaData.{MetaData};
     ghost use Rattle.qvt_metamodel.specs.Metamodels.{is_element};
 
     fn is_element(&self, class: ClassNo) -> bool
