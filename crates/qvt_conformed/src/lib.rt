@@ -1,0 +1,7 @@
+//! What the check of a model says of loading it.
+#![tactic(auto)]
+
+pub mod laws;
+mod room;
+#[cfg(test)]
+mod tests;
