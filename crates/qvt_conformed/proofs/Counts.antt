@@ -61,29 +61,29 @@ held_among (x ∷ xs) j h = elim (or_cases (is_object j (value_at 0 x)) (has (ma
 
 pub in_slots : (m : Metamodels) (ts : List SlotData) (f j : ℕ) → is_containment m f ≡ true → among (refs (items_in f ts)) j ≡ true → among (contents_of_slots m ts) j ≡ true
 in_slots m [] f j c h = clash false h refl
-in_slots m (t ∷ ts) f j c h = go (t.feature.0 == f) refl h
+in_slots m (t ∷ ts) f j c h = go (t.feature.0 == f) refl (in_slots m ts f j c) h
   where
-    go : (b : Bool) → (t.feature.0 == f) ≡ b → among (refs (cond b t.items (items_in f ts))) j ≡ true → among (contents_of_slot m t ++ contents_of_slots m ts) j ≡ true
-    go true e h = among_left (contents_of_slot m t) (contents_of_slots m ts) j
+    go : (b : Bool) → (t.feature.0 == f) ≡ b → (among (refs (items_in f ts)) j ≡ true → among (contents_of_slots m ts) j ≡ true) → among (refs (cond b t.items (items_in f ts))) j ≡ true → among (contents_of_slot m t ++ contents_of_slots m ts) j ≡ true
+    go true e rest h = among_left (contents_of_slot m t) (contents_of_slots m ts) j
         (ap (λ b. among (cond b (refs t.items) []) j) (ap (is_containment m) ((Decides-eqb t.feature.0 f).0 e) ∙ c) ∙ h)
-    go false e h = among_right (contents_of_slot m t) (contents_of_slots m ts) j (in_slots m ts f j c h)
+    go false e rest h = among_right (contents_of_slot m t) (contents_of_slots m ts) j (rest h)
 
 count_slot : (m : Metamodels) (ts : List SlotData) (f j : ℕ) → is_containment m f ≡ true → how_often j (refs (items_in f ts)) ≤ how_often j (contents_of_slots m ts)
 count_slot m [] f j c = omega arith
-count_slot m (t ∷ ts) f j c = go (t.feature.0 == f) refl
+count_slot m (t ∷ ts) f j c = go (t.feature.0 == f) refl (count_slot m ts f j c)
   where
     joined : how_often j (contents_of_slot m t ++ contents_of_slots m ts) ≡ how_often j (contents_of_slot m t) + how_often j (contents_of_slots m ts)
     joined = count-app j (contents_of_slot m t) (contents_of_slots m ts)
 
-    go : (b : Bool) → (t.feature.0 == f) ≡ b → how_often j (refs (cond b t.items (items_in f ts))) ≤ how_often j (contents_of_slot m t ++ contents_of_slots m ts)
-    go true e =
+    go : (b : Bool) → (t.feature.0 == f) ≡ b → how_often j (refs (items_in f ts)) ≤ how_often j (contents_of_slots m ts) → how_often j (refs (cond b t.items (items_in f ts))) ≤ how_often j (contents_of_slot m t ++ contents_of_slots m ts)
+    go true e rest =
         let here : how_often j (contents_of_slot m t) ≡ how_often j (refs t.items) = ap (λ b. how_often j (cond b (refs t.items) [])) (ap (is_containment m) ((Decides-eqb t.feature.0 f).0 e) ∙ c) in
         let q = joined in omega (arith, here, q)
-    go false e = let r : how_often j (refs (items_in f ts)) ≤ how_often j (contents_of_slots m ts) = count_slot m ts f j c in let q = joined in omega (arith, r, q)
+    go false e rest = let q = joined in omega (arith, rest, q)
 
 pub two_slots : (m : Metamodels) (ts : List SlotData) (f g j : ℕ) → is_containment m f ≡ true → is_containment m g ≡ true → f ≢ g → among (refs (items_in f ts)) j ≡ true → among (refs (items_in g ts)) j ≡ true → 2 ≤ how_often j (contents_of_slots m ts)
 two_slots m [] f g j c d n h k = clash false h refl
-two_slots m (t ∷ ts) f g j c d n h k = go (t.feature.0 == f) refl (t.feature.0 == g) refl h k
+two_slots m (t ∷ ts) f g j c d n h k = go (t.feature.0 == f) refl (t.feature.0 == g) refl (two_slots m ts f g j c d n) h k
   where
     joined : how_often j (contents_of_slot m t ++ contents_of_slots m ts) ≡ how_often j (contents_of_slot m t) + how_often j (contents_of_slots m ts)
     joined = count-app j (contents_of_slot m t) (contents_of_slots m ts)
@@ -94,12 +94,13 @@ two_slots m (t ∷ ts) f g j c d n h k = go (t.feature.0 == f) refl (t.feature.0
     rest : (a : ℕ) → is_containment m a ≡ true → among (refs (items_in a ts)) j ≡ true → 1 ≤ how_often j (contents_of_slots m ts)
     rest a c h = counted (contents_of_slots m ts) j (in_slots m ts a j c h)
 
-    go : (b : Bool) → (t.feature.0 == f) ≡ b → (b' : Bool) → (t.feature.0 == g) ≡ b' → among (refs (cond b t.items (items_in f ts))) j ≡ true → among (refs (cond b' t.items (items_in g ts))) j ≡ true →
+    go : (b : Bool) → (t.feature.0 == f) ≡ b → (b' : Bool) → (t.feature.0 == g) ≡ b' →
+        (among (refs (items_in f ts)) j ≡ true → among (refs (items_in g ts)) j ≡ true → 2 ≤ how_often j (contents_of_slots m ts)) → among (refs (cond b t.items (items_in f ts))) j ≡ true → among (refs (cond b' t.items (items_in g ts))) j ≡ true →
         2 ≤ how_often j (contents_of_slot m t ++ contents_of_slots m ts)
-    go true e true e' h k = absurd (n (sym ((Decides-eqb t.feature.0 f).0 e) ∙ (Decides-eqb t.feature.0 g).0 e'))
-    go true e false e' h k = let p = one f e c h in let r = rest g d k in let q = joined in omega (arith, p, r, q)
-    go false e true e' h k = let p = one g e' d k in let r = rest f c h in let q = joined in omega (arith, p, r, q)
-    go false e false e' h k = let r = two_slots m ts f g j c d n h k in let q = joined in omega (arith, r, q)
+    go true e true e' both h k = absurd (n (sym ((Decides-eqb t.feature.0 f).0 e) ∙ (Decides-eqb t.feature.0 g).0 e'))
+    go true e false e' both h k = let p = one f e c h in let r = rest g d k in let q = joined in omega (arith, p, r, q)
+    go false e true e' both h k = let p = one g e' d k in let r = rest f c h in let q = joined in omega (arith, p, r, q)
+    go false e false e' both h k = let r = both h k in let q = joined in omega (arith, r, q)
 
 -- ---- objects of a model
 

@@ -58,7 +58,7 @@ same_items f (t ∷ ts) = ap (λ xs. cond (t.feature.0 == f) t.items xs) (same_i
 
 objects_none : (m : Metamodels) (all : List ObjectData) (i : ℕ) (os : List ObjectData) → faults_from m all i os ≡ None → (j : ℕ) → j < length os → object_fault m all (j + i) (object_at os j) ≡ None
 objects_none m all i [] e j l = absurd (omega arith)
-objects_none m all i (o ∷ os) e zero l = (neither (object_fault m all i o) (faults_from m all (suc i) os) e).0
+objects_none m all i (o ∷ os) e zero l = ap (λ k. object_fault m all k o) (let q : 0 + i ≡ i = omega arith in q) ∙ (neither (object_fault m all i o) (faults_from m all (suc i) os) e).0
 objects_none m all i (o ∷ os) e (suc j) l =
     ap (λ k. object_fault m all k (object_at os j)) (let q : suc j + i ≡ j + suc i = omega arith in q)
     ∙ objects_none m all (suc i) os (neither (object_fault m all i o) (faults_from m all (suc i) os) e).1 j (omega arith)
@@ -232,11 +232,11 @@ no_bound (Some n) = le-ltb n 0 (omega arith)
 
 item_types : (m : Metamodels) (os : List ObjectData) (c f : ℕ) (ts : List SlotData) → AllByRecursion (IsSlot m os c) ts → AllByRecursion (IsItem m os (shape_of m f).kind) (items_in f ts)
 item_types m os c f [] h = tt
-item_types m os c f (t ∷ ts) h = go (t.feature.0 == f) refl
+item_types m os c f (t ∷ ts) h = go (t.feature.0 == f) refl (item_types m os c f ts h.1)
   where
-    go : (b : Bool) → (t.feature.0 == f) ≡ b → AllByRecursion (IsItem m os (shape_of m f).kind) (cond b t.items (items_in f ts))
-    go true e = let is : IsSlot m os c t = h.0 in subst (λ g. AllByRecursion (IsItem m os (shape_of m g).kind) t.items) ((Decides-eqb t.feature.0 f).0 e) is.items
-    go false e = item_types m os c f ts h.1
+    go : (b : Bool) → (t.feature.0 == f) ≡ b → AllByRecursion (IsItem m os (shape_of m f).kind) (items_in f ts) → AllByRecursion (IsItem m os (shape_of m f).kind) (cond b t.items (items_in f ts))
+    go true e rest = let is : IsSlot m os c t = h.0 in subst (λ g. AllByRecursion (IsItem m os (shape_of m g).kind) t.items) ((Decides-eqb t.feature.0 f).0 e) is.items
+    go false e rest = rest
 
 -- items of a class are references
 refs_alone : (m : Metamodels) (os : List ObjectData) (k : TypeKind) (xs : List Datum) → is_class_type k ≡ true → AllByRecursion (IsItem m os k) xs → AllByRecursion (λ x. (i : ℕ) × (x ≡ Ref i)) xs

@@ -2,6 +2,3 @@
 #![tactic(auto)]
 
 pub mod laws;
-mod room;
-#[cfg(test)]
-mod tests;
