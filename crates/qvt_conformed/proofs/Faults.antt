@@ -1,0 +1,369 @@
+-- A model without a fault conforms in the terms of a store.
+use Rattle.std.proofs.Common.{◌≡◌, ◌≢◌, ℕ, zero, suc, ◌+◌, ◌<◌, ◌≤◌, Bool, true, false, ◌==◌, ◌||◌, ◌&&◌, not, cond, inl, inr, refl, sym, ap, ◌∙◌, subst, List, [], ◌∷◌, ◌++◌, map, length, nat_lt, arith}
+use Rattle.std.specs.Prelude.{Option, Some, None, slice_index_or}
+use Rattle.std.specs.List.{list_any, AllByRecursion}
+use Rattle.std.specs.Str.{bytes_eq}
+use Rattle.std.proofs.Math.Bool.{beq}
+use Rattle.std.proofs.lemmas.Bool.{cases_lt, cases_eq, eq-eqb, ne_eqb, le-ltb, lt-ltb, leb-true, ltb-true, ltb-false}
+use Rattle.std.proofs.lemmas.Bool.Decides.{Decides-eqb, Decides-int_eq}
+use Rattle.std.proofs.lemmas.List.{get_or-map}
+use Rattle.std.proofs.lemmas.Slice.Eq.{bytes_eq-Decides}
+use Rattle.qvt_base.specs.declared.numbers.FeatureNo.{FeatureNo}
+use Rattle.qvt_value.specs.declared.value.LiteralRef.{LiteralRef}
+use Rattle.qvt_value.specs.declared.value.Value.{Value}
+use Rattle.qvt_metamodel.specs.Metamodels.{Metamodels, class_at, feature_at, features_of, among_features, has_feature, shape_of, opposite, is_opposite, is_feature_number, is_containment}
+use Rattle.qvt_relation.specs.Closure.{Closure, reaches, Decides, IsBelow}
+use Rattle.qvt_relation.specs.Closure.Closure.{directly as one_step, through as more_steps}
+use Rattle.qvt_relation.proofs.Bools.{and_left, and_right, and_both, or_left, or_right, or_cases, or_none, none_left, none_right, either, clash, refuted}
+use Rattle.qvt_relation.proofs.Closures.{closure-reaches}
+use Rattle.qvt_json.specs.Steps.{or_next}
+use Rattle.qvt_model.proofs.Steps.{neither}
+use Rattle.qvt_slots.specs.Slots.{is_object, has, Contains, Inside, directly, through}
+use Rattle.qvt_slots.specs.Types.{is_class_type}
+use Rattle.qvt_slots.specs.Repeats.{same_value, repeats}
+use Rattle.qvt_metamodel.specs.declared.info.TypeKind.{TypeKind}
+use Rattle.qvt_metamodel.specs.declared.info.TypeKind.TheVariants.{Bool as BoolKind, Int as IntKind, Str as StrKind, Enum as EnumKind, Class as ClassKind}
+use Rattle.qvt_slots.specs.Assign.{is_beyond}
+use Rattle.qvt_slots.proofs.Lists.{length-map, past_end}
+use Rattle.qvt_model.specs.declared.data.Datum.{Datum}
+use Rattle.qvt_model.specs.declared.data.Datum.TheVariants.{Bool as BoolDatum, Int, Str, Literal, Ref}
+use Rattle.qvt_model.specs.declared.data.SlotData.{SlotData}
+use Rattle.qvt_model.specs.declared.data.ObjectData.{ObjectData}
+use Rattle.qvt_model.specs.WellFormed.{object_at, no_object, IsItem, IsSlot, IsObject, IsModel}
+use Rattle.qvt_cycle.specs.Successors.{among, leads, is_on_cycle, how_often, how_often_in}
+use Rattle.qvt_conform.specs.declared.fault.ConformFault.{ConformFault}
+use Rattle.qvt_conform.specs.declared.fault.ConformFault.TheVariants.{Bounds, NotUnique, Opposite, Abstract, TwoContainers, ContainmentCycle}
+use Rattle.qvt_conform.specs.Items.{is_at_most, is_within, same_literal, same_item, repeats_after, is_ref, lacks, lack_opposite}
+use Rattle.qvt_conform.specs.Items as item
+use Rattle.qvt_conform.specs.Containment.{refs_of, refs, contents_of_slot, contents_of_slots, contents_of, contents}
+use Rattle.qvt_conform.specs.Conformance.{fault_if, feature_fault, features_fault, containment_fault, object_fault, faults_from, conform_fault}
+use Rattle.qvt_load.specs.Loaded.{value_at, items_in}
+use Rattle.qvt_load.specs.Conforming.{slots_at, Conforms}
+use Rattle.qvt_load.proofs.Final.{not_own, all_at}
+use Rattle.qvt_load.proofs.Placing.{ref_below}
+use Rattle.qvt_model.proofs.Lists.{index-map}
+use Rattle.qvt_conformed.proofs.Counts.{Twice, held_among, in_slots, two_slots, slot_count, once_in_lists, at_most_here, repeated_twice}
+use Rattle.qvt_conformed.specs.Law.{FaultlessConforms}
+
+no_fault : (b : Bool) (f : ConformFault) → fault_if b f ≡ None → b ≡ false
+no_fault true f e = cc
+no_fault false f e = refl
+
+-- what an object holds for a feature is told alike
+same_items : (f : ℕ) (ts : List SlotData) → item.items_in f ts ≡ items_in f ts
+same_items f [] = refl
+same_items f (t ∷ ts) = ap (λ xs. cond (t.feature.0 == f) t.items xs) (same_items f ts)
+
+-- ---- each object, each feature
+
+objects_none : (m : Metamodels) (all : List ObjectData) (i : ℕ) (os : List ObjectData) → faults_from m all i os ≡ None → (j : ℕ) → j < length os → object_fault m all (j + i) (object_at os j) ≡ None
+objects_none m all i [] e j l = absurd (omega arith)
+objects_none m all i (o ∷ os) e zero l = ap (λ k. object_fault m all k o) (let q : 0 + i ≡ i = omega arith in q) ∙ (neither (object_fault m all i o) (faults_from m all (suc i) os) e).0
+objects_none m all i (o ∷ os) e (suc j) l =
+    ap (λ k. object_fault m all k (object_at os j)) (let q : suc j + i ≡ j + suc i = omega arith in q)
+    ∙ objects_none m all (suc i) os (neither (object_fault m all i o) (faults_from m all (suc i) os) e).1 j (omega arith)
+
+features_none : (m : Metamodels) (os : List ObjectData) (i : ℕ) (o : ObjectData) (fs : List FeatureNo) (f : ℕ) → features_fault m os i o fs ≡ None → among_features f fs ≡ true → feature_fault m os i o (record { 0 = f }) ≡ None
+features_none m os i o [] f e h = clash false h refl
+features_none m os i o (g ∷ gs) f e h = elim (or_cases (g.0 == f) (among_features f gs) h) [
+  | inl here ↦ ap (λ n. feature_fault m os i o (record { 0 = n })) (sym ((Decides-eqb g.0 f).0 here)) ∙ (neither (feature_fault m os i o g) (features_fault m os i o gs) e).0
+  | inr rest ↦ features_none m os i o gs f (neither (feature_fault m os i o g) (features_fault m os i o gs) e).1 rest
+]
+
+record SlotFine (m : Metamodels) (os : List ObjectData) (i f : ℕ) (xs : List Datum) : Type 0 where
+  bound : is_at_most (length xs) (shape_of m f).upper ≡ true
+  unique : ((shape_of m f).unique && item.repeats xs) ≡ false
+  linked : lack_opposite (opposite m f) os i xs ≡ false
+
+not_out : (b : Bool) → not b ≡ false → b ≡ true
+not_out true e = refl
+not_out false e = cc
+
+own_fine : (m : Metamodels) (os : List ObjectData) (i f : ℕ) (o : ObjectData) → feature_fault m os i o (record { 0 = f }) ≡ None → SlotFine m os i f (item.items_in f o.slots)
+unfolding feature_fault
+own_fine m os i f o e =
+    let xs : List Datum = item.items_in f o.slots in
+    let a = neither (fault_if (not (is_within (shape_of m f) (length xs))) (Bounds o.id (feature_at m f).name)) (or_next (fault_if ((shape_of m f).unique && item.repeats xs) (NotUnique o.id (feature_at m f).name)) (fault_if (lack_opposite (opposite m f) os i xs) (Opposite o.id (feature_at m f).name))) e in
+    let b = neither (fault_if ((shape_of m f).unique && item.repeats xs) (NotUnique o.id (feature_at m f).name)) (fault_if (lack_opposite (opposite m f) os i xs) (Opposite o.id (feature_at m f).name)) a.1 in
+    record {
+      bound = and_right _ _ (not_out (is_within (shape_of m f) (length xs)) (no_fault (not (is_within (shape_of m f) (length xs))) (Bounds o.id (feature_at m f).name) a.0));
+      unique = no_fault ((shape_of m f).unique && item.repeats xs) (NotUnique o.id (feature_at m f).name) b.0;
+      linked = no_fault (lack_opposite (opposite m f) os i xs) (Opposite o.id (feature_at m f).name) b.1;
+    }
+
+slot_fine : (m : Metamodels) (os : List ObjectData) (i f : ℕ) (o : ObjectData) → feature_fault m os i o (record { 0 = f }) ≡ None → SlotFine m os i f (items_in f o.slots)
+slot_fine m os i f o e = subst (SlotFine m os i f) (same_items f o.slots) (own_fine m os i f o e)
+
+record ObjectFine (m : Metamodels) (os : List ObjectData) (i : ℕ) (o : ObjectData) : Type 0 where
+  concrete : (class_at m o.class.0).is_abstract ≡ false
+  slots : (f : ℕ) → has_feature m o.class.0 f ≡ true → SlotFine m os i f (items_in f o.slots)
+  alone : nat_lt 1 (how_often_in (contents m os) i) ≡ false
+  outside : is_on_cycle (contents m os) i ≡ false
+
+object_fine : (m : Metamodels) (os : List ObjectData) (i : ℕ) (o : ObjectData) → object_fault m os i o ≡ None → ObjectFine m os i o
+unfolding object_fault containment_fault
+object_fine m os i o e =
+    let a = neither (fault_if (class_at m o.class.0).is_abstract (Abstract o.id)) (or_next (features_fault m os i o (features_of m o.class.0)) (containment_fault (contents m os) i o)) e in
+    let b = neither (features_fault m os i o (features_of m o.class.0)) (containment_fault (contents m os) i o) a.1 in
+    let d = neither (fault_if (nat_lt 1 (how_often_in (contents m os) i)) (TwoContainers o.id)) (fault_if (is_on_cycle (contents m os) i) (ContainmentCycle o.id)) b.1 in
+    record {
+      concrete = no_fault (class_at m o.class.0).is_abstract (Abstract o.id) a.0;
+      slots = λ f h. slot_fine m os i f o (features_none m os i o (features_of m o.class.0) f b.0 h);
+      alone = no_fault (nat_lt 1 (how_often_in (contents m os) i)) (TwoContainers o.id) d.0;
+      outside = no_fault (is_on_cycle (contents m os) i) (ContainmentCycle o.id) d.1;
+    }
+
+-- ---- items as values
+
+within_bound : (n : ℕ) (u : Option ℕ) → is_at_most n u ≡ true → is_beyond n u ≡ false
+within_bound n None h = refl
+within_bound n (Some most) h = le-ltb most n (leb-true n most h)
+
+same_bool : (a b : Bool) → beq a b ≡ true → beq b a ≡ true
+same_bool true true h = h
+same_bool true false h = h
+same_bool false true h = h
+same_bool false false h = h
+
+same_literal_back : (a b : LiteralRef) → same_value (value_at 0 (Literal b)) (value_at 0 (Literal a)) ≡ true → same_literal a b ≡ true
+same_literal_back a b h =
+    let l = and_left _ (b.literal == a.literal) h in
+    and_both _ _ ((Decides-eqb a.metamodel b.metamodel).1 (sym ((Decides-eqb b.metamodel a.metamodel).0 (and_left _ _ l))))
+    (and_both _ _ ((Decides-eqb a.enumeration b.enumeration).1 (sym ((Decides-eqb b.enumeration a.enumeration).0 (and_right (b.metamodel == a.metamodel) _ l))))
+    ((Decides-eqb a.literal b.literal).1 (sym ((Decides-eqb b.literal a.literal).0 (and_right ((b.metamodel == a.metamodel) && (b.enumeration == a.enumeration)) _ h)))))
+
+same_back : (a b : Datum) → same_value (value_at 0 b) (value_at 0 a) ≡ true → same_item a b ≡ true
+same_back (BoolDatum a) (BoolDatum b) h = same_bool b a h
+same_back (BoolDatum a) (Int b) h = h
+same_back (BoolDatum a) (Str b) h = h
+same_back (BoolDatum a) (Literal b) h = h
+same_back (BoolDatum a) (Ref b) h = h
+same_back (Int a) (BoolDatum b) h = h
+same_back (Int a) (Int b) h = (Decides-int_eq a b).1 (sym ((Decides-int_eq b a).0 h))
+same_back (Int a) (Str b) h = h
+same_back (Int a) (Literal b) h = h
+same_back (Int a) (Ref b) h = h
+same_back (Str a) (BoolDatum b) h = h
+same_back (Str a) (Int b) h = h
+same_back (Str a) (Str b) h = (bytes_eq-Decides a b).1 (sym ((bytes_eq-Decides b a).0 h))
+same_back (Str a) (Literal b) h = h
+same_back (Str a) (Ref b) h = h
+same_back (Literal a) (BoolDatum b) h = h
+same_back (Literal a) (Int b) h = h
+same_back (Literal a) (Str b) h = h
+same_back (Literal a) (Literal b) h = same_literal_back a b h
+same_back (Literal a) (Ref b) h = h
+same_back (Ref a) (BoolDatum b) h = h
+same_back (Ref a) (Int b) h = h
+same_back (Ref a) (Str b) h = h
+same_back (Ref a) (Literal b) h = h
+same_back (Ref a) (Ref b) h = (Decides-eqb a b).1 (let q : 0 + a ≡ 0 + b = (Decides-eqb (0 + a) (0 + b)).0 h in omega arith)
+
+any_one : (x : Datum) (before : List Datum) → list_any (same_item x) before ≡ false → AllByRecursion (λ b. same_value (value_at 0 b) (value_at 0 x) ≡ false) before
+any_one x [] n = tt
+any_one x (b ∷ before) n = (refuted _ (λ t. clash _ (same_back x b t) (none_left (same_item x b) (list_any (same_item x) before) n)), any_one x before (none_right (same_item x b) (list_any (same_item x) before) n))
+
+record NoRepeat (before xs : List Datum) : Type 0 where
+  alone : repeats (map (value_at 0) xs) ≡ false
+  apart : AllByRecursion (λ b. list_any (same_value (value_at 0 b)) (map (value_at 0) xs) ≡ false) before
+
+last_of : (P : Datum → Type 0) (xs : List Datum) (x : Datum) → AllByRecursion P (xs ++ x ∷ []) → AllByRecursion P xs × P x
+last_of P [] x h = (tt, h.0)
+last_of P (y ∷ xs) x h = let r : AllByRecursion P xs × P x = last_of P xs x h.1 in ((h.0, r.0), r.1)
+
+both_none : (before : List Datum) (x : Datum) (xs : List Datum) → AllByRecursion (λ b. same_value (value_at 0 b) (value_at 0 x) ≡ false) before →
+    AllByRecursion (λ b. list_any (same_value (value_at 0 b)) (map (value_at 0) xs) ≡ false) before → AllByRecursion (λ b. list_any (same_value (value_at 0 b)) (map (value_at 0) (x ∷ xs)) ≡ false) before
+both_none [] x xs h k = tt
+both_none (b ∷ before) x xs h k = (or_none _ _ h.0 k.0, both_none before x xs h.1 k.1)
+
+no_values : (xs : List Datum) → AllByRecursion (λ (b : Datum). list_any (same_value (value_at 0 b)) [] ≡ false) xs
+no_values [] = tt
+no_values (x ∷ xs) = (refl, no_values xs)
+
+no_repeat : (before xs : List Datum) → repeats_after before xs ≡ false → NoRepeat before xs
+no_repeat before [] n = record { alone = refl; apart = no_values before }
+no_repeat before (x ∷ xs) n =
+    let r : NoRepeat (before ++ x ∷ []) xs = no_repeat (before ++ x ∷ []) xs (none_right (list_any (same_item x) before) (repeats_after (before ++ x ∷ []) xs) n) in
+    let s = last_of (λ b. list_any (same_value (value_at 0 b)) (map (value_at 0) xs) ≡ false) before x r.apart in
+    record {
+      alone = or_none _ _ s.1 r.alone;
+      apart = both_none before x xs (any_one x before (none_left (list_any (same_item x) before) (repeats_after (before ++ x ∷ []) xs) n)) s.0;
+    }
+
+eq_turned : (i j : ℕ) → (i == j) ≡ (j == i)
+eq_turned i j = elim (cases_eq i j) [ inl e ↦ eq-eqb i j e ∙ sym (eq-eqb j i (sym e)) | inr n ↦ ne_eqb i j n ∙ sym (ne_eqb j i (λ q. n (sym q))) ]
+
+ref_item : (j : ℕ) (x : Datum) → is_object j (value_at 0 x) ≡ is_ref j x
+ref_item j (BoolDatum a) = refl
+ref_item j (Int a) = refl
+ref_item j (Str a) = refl
+ref_item j (Literal a) = refl
+ref_item j (Ref i) = ap (λ k. k == j) (let q : 0 + i ≡ i = omega arith in q) ∙ eq_turned i j
+
+has_ref : (xs : List Datum) (j : ℕ) → has (map (value_at 0) xs) j ≡ list_any (is_ref j) xs
+has_ref [] j = refl
+has_ref (x ∷ xs) j = ap (λ b. b || has (map (value_at 0) xs) j) (ref_item j x) ∙ ap (λ b. is_ref j x || b) (has_ref xs j)
+
+-- an item that is an object holds this one for the opposite
+none_lacks : (os : List ObjectData) (g i j : ℕ) (xs : List Datum) → list_any (lacks os g i) xs ≡ false → has (map (value_at 0) xs) j ≡ true → has (slots_at os j g) i ≡ true
+none_lacks os g i j [] n h = clash false h refl
+none_lacks os g i j (x ∷ xs) n h = elim (or_cases (is_object j (value_at 0 x)) (has (map (value_at 0) xs) j) h) [
+  | inl here ↦ at x here (none_left (lacks os g i x) (list_any (lacks os g i) xs) n)
+  | inr rest ↦ none_lacks os g i j xs (none_right (lacks os g i x) (list_any (lacks os g i) xs) n) rest
+]
+  where
+    at : (x : Datum) → is_object j (value_at 0 x) ≡ true → lacks os g i x ≡ false → has (slots_at os j g) i ≡ true
+    at (BoolDatum a) h n = clash false h refl
+    at (Int a) h n = clash false h refl
+    at (Str a) h n = clash false h refl
+    at (Literal a) h n = clash false h refl
+    at (Ref k) h n = has_ref (items_in g (object_at os j).slots) i ∙ ap (list_any (is_ref i)) (sym (same_items g (object_at os j).slots))
+        ∙ not_out _ (subst (λ z. not (list_any (is_ref i) (item.items_in g (object_at os z).slots)) ≡ false) (let q : 0 + k ≡ j = (Decides-eqb (0 + k) j).0 h in let r : k ≡ j = omega arith in r) n)
+
+linked_back : (m : Metamodels) (os : List ObjectData) (q : Option FeatureNo) (g i j : ℕ) (xs : List Datum) → is_feature_number q g ≡ true → lack_opposite q os i xs ≡ false → has (map (value_at 0) xs) j ≡ true → has (slots_at os j g) i ≡ true
+linked_back m os None g i j xs o n h = clash false o refl
+linked_back m os (Some q) g i j xs o n h = subst (λ z. has (slots_at os j z) i ≡ true) ((Decides-eqb q.0 g).0 o) (none_lacks os q.0 i j xs n h)
+
+-- ---- the model
+
+no_bound : (u : Option ℕ) → is_beyond 0 u ≡ false
+no_bound None = refl
+no_bound (Some n) = le-ltb n 0 (omega arith)
+
+item_types : (m : Metamodels) (os : List ObjectData) (c f : ℕ) (ts : List SlotData) → AllByRecursion (IsSlot m os c) ts → AllByRecursion (IsItem m os (shape_of m f).kind) (items_in f ts)
+item_types m os c f [] h = tt
+item_types m os c f (t ∷ ts) h = go (t.feature.0 == f) refl (item_types m os c f ts h.1)
+  where
+    go : (b : Bool) → (t.feature.0 == f) ≡ b → AllByRecursion (IsItem m os (shape_of m f).kind) (items_in f ts) → AllByRecursion (IsItem m os (shape_of m f).kind) (cond b t.items (items_in f ts))
+    go true e rest = let is : IsSlot m os c t = h.0 in subst (λ g. AllByRecursion (IsItem m os (shape_of m g).kind) t.items) ((Decides-eqb t.feature.0 f).0 e) is.items
+    go false e rest = rest
+
+-- items of a class are references
+refs_alone : (m : Metamodels) (os : List ObjectData) (k : TypeKind) (xs : List Datum) → is_class_type k ≡ true → AllByRecursion (IsItem m os k) xs → AllByRecursion (λ x. (i : ℕ) × (x ≡ Ref i)) xs
+refs_alone m os k [] c h = tt
+refs_alone m os k (x ∷ xs) c h = (at k x c h.0, refs_alone m os k xs c h.1)
+  where
+    at : (k : TypeKind) (x : Datum) → is_class_type k ≡ true → IsItem m os k x → (i : ℕ) × (x ≡ Ref i)
+    at (ClassKind d) (Ref i) c h = (i, refl)
+    at (ClassKind d) (BoolDatum x) c h = absurd h
+    at (ClassKind d) (Int x) c h = absurd h
+    at (ClassKind d) (Str x) c h = absurd h
+    at (ClassKind d) (Literal x) c h = absurd h
+    at BoolKind x c h = clash false c refl
+    at IntKind x c h = clash false c refl
+    at StrKind x c h = clash false c refl
+    at (EnumKind a b) x c h = clash false c refl
+
+module _ (m : Metamodels) (k : ℕ) (os : List ObjectData) (model : IsModel m k os) (none : faults_from m os 0 os ≡ None) where
+  is : (i : ℕ) → i < length os → IsObject m k os (object_at os i)
+  is i l = all_at m k os os i model.objects l
+
+  fine : (i : ℕ) → i < length os → ObjectFine m os i (object_at os i)
+  fine i l = object_fine m os i (object_at os i) (ap (λ z. object_fault m os z (object_at os i)) (let q : i ≡ i + 0 = omega arith in q) ∙ objects_none m os 0 os none i l)
+
+  -- a fact of each slot: of those that are there, and of no items
+  each_slot : (P : ℕ → ℕ → List Datum → Type 0) → ((i f : ℕ) → P i f []) → ((i f : ℕ) (l : i < length os) → has_feature m (object_at os i).class.0 f ≡ true → P i f (items_in f (object_at os i).slots)) → (i f : ℕ) → P i f (items_in f (object_at os i).slots)
+  each_slot P empty some i f = elim (cases_lt i (length os)) [
+    | inl l ↦ elim (either (has_feature m (object_at os i).class.0 f)) [
+      | inl h ↦ some i f l h
+      | inr n ↦ let o : IsObject m k os (object_at os i) = is i l in subst (P i f) (sym (not_own m os (object_at os i).class.0 f (object_at os i).slots o.slots n)) (empty i f)
+    ]
+    | inr l ↦ subst (P i f) (sym (ap (λ (o : ObjectData). items_in f o.slots) (past_end os i no_object l))) (empty i f)
+  ]
+
+  bounds : (i f : ℕ) → is_beyond (length (slots_at os i f)) (shape_of m f).upper ≡ false
+  bounds = each_slot (λ i f xs. is_beyond (length (map (value_at 0) xs)) (shape_of m f).upper ≡ false) (λ i f. no_bound (shape_of m f).upper)
+      (λ i f l h. let s : SlotFine m os i f (items_in f (object_at os i).slots) = (fine i l).slots f h in
+      ap (λ n. is_beyond n (shape_of m f).upper) (length-map (value_at 0) (items_in f (object_at os i).slots)) ∙ within_bound (length (items_in f (object_at os i).slots)) (shape_of m f).upper s.bound)
+
+  unique : (i f : ℕ) → (shape_of m f).unique ≡ true → repeats (slots_at os i f) ≡ false
+  unique = each_slot (λ i f xs. (shape_of m f).unique ≡ true → repeats (map (value_at 0) xs) ≡ false) (λ i f u. refl)
+      (λ i f l h u. let s : SlotFine m os i f (items_in f (object_at os i).slots) = (fine i l).slots f h in
+      (no_repeat [] (items_in f (object_at os i).slots) (refuted _ (λ t. clash _ (and_both _ _ u t) s.unique))).alone)
+
+  linked : (g j i f : ℕ) → is_opposite m f g ≡ true → has (slots_at os i f) j ≡ true → has (slots_at os j g) i ≡ true
+  linked g j = each_slot (λ i f xs. is_opposite m f g ≡ true → has (map (value_at 0) xs) j ≡ true → has (slots_at os j g) i ≡ true) (λ i f o h. clash false h refl)
+      (λ i f l h o held. let s : SlotFine m os i f (items_in f (object_at os i).slots) = (fine i l).slots f h in
+      linked_back m os (opposite m f) g i j (items_in f (object_at os i).slots) o s.linked held)
+
+  below : (j i f : ℕ) → has (slots_at os i f) j ≡ true → j < length os
+  below j = each_slot (λ i f xs. has (map (value_at 0) xs) j ≡ true → j < length os) (λ i f h. clash false h refl)
+      (λ i f l h held. let o : IsObject m k os (object_at os i) = is i l in
+      ref_below m os (shape_of m f).kind j (items_in f (object_at os i).slots) (item_types m os (object_at os i).class.0 f (object_at os i).slots o.slots) held)
+
+  lists_at : (i : ℕ) → slice_index_or (contents m os) i [] ≡ contents_of m (object_at os i)
+  lists_at i = index-map (contents_of m) os i no_object
+
+  few : (j : ℕ) → j < length os → how_often_in (contents m os) j ≤ 1
+  few j l = ltb-false 1 (how_often_in (contents m os) j) (fine j l).alone
+
+  member : (i f j : ℕ) → is_containment m f ≡ true → has (slots_at os i f) j ≡ true → among (slice_index_or (contents m os) i []) j ≡ true
+  member i f j c h = ap (λ l. among l j) (lists_at i) ∙ in_slots m (object_at os i).slots f j c (held_among (items_in f (object_at os i).slots) j h)
+
+  one : (i f i' f' j : ℕ) → is_containment m f ≡ true → is_containment m f' ≡ true → has (slots_at os i f) j ≡ true → has (slots_at os i' f') j ≡ true → (i ≡ i') × (f ≡ f')
+  one i f i' f' j c c' h h' =
+      let less : how_often_in (contents m os) j ≤ 1 = few j (below j i f h) in
+      let same : i ≡ i' = once_in_lists (contents m os) i i' j less (member i f j c h) (member i' f' j c' h') in (
+        same,
+        elim (cases_eq f f') [
+          | inl e ↦ e
+          | inr n ↦
+              let two : 2 ≤ how_often j (contents_of_slots m (object_at os i).slots) = two_slots m (object_at os i).slots f f' j c c' n (held_among (items_in f (object_at os i).slots) j h)
+              (held_among (items_in f' (object_at os i).slots) j (subst (λ z. has (slots_at os z f') j ≡ true) (sym same) h')) in
+              let most : how_often j (slice_index_or (contents m os) i []) ≤ 1 = at_most_here (contents m os) i j less in
+              let here : how_often j (slice_index_or (contents m os) i []) ≡ how_often j (contents_of_slots m (object_at os i).slots) = ap (how_often j) (lists_at i) in
+              absurd (omega (arith, two, most, here))
+        ],
+      )
+
+  once : (i f : ℕ) → is_containment m f ≡ true → is_class_type (shape_of m f).kind ≡ true → repeats (slots_at os i f) ≡ false
+  once i f c k' = refuted _ (λ t.
+      let twice : Twice (items_in f (object_at os i).slots) = repeated_twice (items_in f (object_at os i).slots) (all_refs i f k') t in
+      let less : how_often_in (contents m os) twice.place ≤ 1 = few twice.place (below twice.place i f twice.held) in
+      let most : how_often twice.place (slice_index_or (contents m os) i []) ≤ 1 = at_most_here (contents m os) i twice.place less in
+      let here : how_often twice.place (slice_index_or (contents m os) i []) ≡ how_often twice.place (contents_of_slots m (object_at os i).slots) = ap (how_often twice.place) (lists_at i) in
+      let part : how_often twice.place (refs (items_in f (object_at os i).slots)) ≤ how_often twice.place (contents_of_slots m (object_at os i).slots) = slot_count m (object_at os i).slots f twice.place c in
+      let two : 2 ≤ how_often twice.place (refs (items_in f (object_at os i).slots)) = twice.twice in
+      omega (arith, most, here, part, two))
+    where
+      all_refs : (i f : ℕ) → is_class_type (shape_of m f).kind ≡ true → AllByRecursion (λ x. (j : ℕ) × (x ≡ Ref j)) (items_in f (object_at os i).slots)
+      all_refs = each_slot (λ i f xs. is_class_type (shape_of m f).kind ≡ true → AllByRecursion (λ x. (j : ℕ) × (x ≡ Ref j)) xs) (λ i f t. tt)
+          (λ i f l h t. let o : IsObject m k os (object_at os i) = is i l in
+          refs_alone m os (shape_of m f).kind (items_in f (object_at os i).slots) t (item_types m os (object_at os i).class.0 f (object_at os i).slots o.slots))
+
+  leading : {x y : ℕ} → Inside m (slots_at os) x y → Closure (λ a b. leads (contents m os) a b ≡ true) x y
+  leading (directly {x} {y} c) = one_step (member x c.feature y c.containment c.held)
+  leading (through {x} {y} {z} c p) = more_steps (member x c.feature y c.containment c.held) (leading p)
+
+  starts : (x y : ℕ) → leads (contents m os) x y ≡ true → x < length (contents m os)
+  starts x y h = elim (cases_lt x (length (contents m os))) [ inl l ↦ l | inr l ↦ clash false (ap (λ t. among t y) (sym (past_end (contents m os) x [] l)) ∙ h) refl ]
+
+  first_held : {x y : ℕ} → Inside m (slots_at os) x y → x < length os
+  first_held (directly {x} {y} c) = is_below x c.feature y c.held
+    where
+      is_below : (i f y : ℕ) → has (slots_at os i f) y ≡ true → i < length os
+      is_below i f y h = elim (cases_lt i (length os)) [ inl l ↦ l | inr l ↦ clash false (ap (λ (o : ObjectData). has (map (value_at 0) (items_in f o.slots)) y) (sym (past_end os i no_object l)) ∙ h) refl ]
+  first_held (through {x} {y} {z} c p) = is_below x c.feature y c.held
+    where
+      is_below : (i f y : ℕ) → has (slots_at os i f) y ≡ true → i < length os
+      is_below i f y h = elim (cases_lt i (length os)) [ inl l ↦ l | inr l ↦ clash false (ap (λ (o : ObjectData). has (map (value_at 0) (items_in f o.slots)) y) (sym (past_end os i no_object l)) ∙ h) refl ]
+
+  outside : (i : ℕ) → Inside m (slots_at os) i i → ⊥
+  outside i p = clash _
+      (closure-reaches (leads (contents m os)) (λ a b. leads (contents m os) a b ≡ true) (record { sound = λ x y h. h; complete = λ x y h. h }) (length (contents m os)) (record { starts = starts }) (leading p))
+      (fine i (first_held p)).outside
+
+  pub conforms : Conforms m os
+  conforms = record {
+    concrete = λ i l. (fine i l).concrete;
+    bounds = bounds;
+    unique = unique;
+    opposites = record { agree = λ x f y g o h. linked g y x f o h };
+    once = once;
+    containers = record { one = one };
+    outside_itself = outside;
+  }
+
+pub faultless_conforms : FaultlessConforms
+unfolding conform_fault
+faultless_conforms m k os model none = conforms m k os model none

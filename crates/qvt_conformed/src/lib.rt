@@ -1,0 +1,4 @@
+//! What the check of a model says of loading it.
+#![tactic(auto)]
+
+pub mod laws;
