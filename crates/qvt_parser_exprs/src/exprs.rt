@@ -46,6 +46,7 @@ impl<
         (self.block)(parser)
     }
 
+    /// An expression.
     #[tactic(auto, unfolding(qvt_parser_grammar::specs::Reading::expr_at))]
     pub fn expr(&self, parser: &mut Parser<'_>) -> Result<Expr, ParseError>
         requires { IsInside F.Fn G.Fn self.now }
@@ -76,6 +77,7 @@ impl<
         self.exprs_from(parser, first)
     }
 
+    /// The expressions after the first one, with it.
     #[tactic(auto, unfolding(qvt_parser_grammar::specs::Reading::more_exprs_at))]
     pub fn exprs_from(&self, parser: &mut Parser<'_>, first: Expr) -> Result<Seq<Expr>, ParseError>
         requires { IsInside F.Fn G.Fn self.now }
@@ -91,6 +93,7 @@ impl<
         Ok(exprs)
     }
 
+    /// Arguments in brackets.
     #[tactic(auto, unfolding(qvt_parser_grammar::specs::Reading::args_at))]
     pub fn args(&self, parser: &mut Parser<'_>) -> Result<Seq<Expr>, ParseError>
         requires { IsInside F.Fn G.Fn self.now }
@@ -284,6 +287,7 @@ impl<
         })
     }
 
+    /// A mapping call.
     #[tactic(auto, unfolding(qvt_parser_grammar::specs::Reading::map_call_at))]
     pub fn map_call(&self, parser: &mut Parser<'_>) -> Result<MapCall, ParseError>
         requires { IsInside F.Fn G.Fn self.now }
@@ -322,6 +326,7 @@ impl<
         Ok((None, TypeTree::Path(path)))
     }
 
+    /// A bar and an expression.
     #[tactic(auto, unfolding(qvt_parser_grammar::specs::Reading::bar_expr_at))]
     pub fn bar_expr(&self, parser: &mut Parser<'_>) -> Result<Expr, ParseError>
         requires { IsInside F.Fn G.Fn self.now }
@@ -333,6 +338,7 @@ impl<
         self.expr(parser)
     }
 
+    /// The same, or nothing.
     pub fn optional_bar(&self, parser: &mut Parser<'_>) -> Result<Option<Expr>, ParseError>
         requires { IsInside F.Fn G.Fn self.now }
         ensures gives { Gives (option_view expr_view) result (toks parser.new) (maybe_at (is Class.Bar) (bar_expr_at (nested_at self.now.room)) (toks parser.old)) }
@@ -435,6 +441,7 @@ impl<
         self.in_form(parser)
     }
 
+    /// A resolve, with `late` or without.
     #[tactic(auto, unfolding(qvt_parser_grammar::specs::Reading::resolve_at))]
     pub fn resolve(&self, parser: &mut Parser<'_>) -> Result<ResolveCall, ParseError>
         requires { IsInside F.Fn G.Fn self.now }
@@ -513,6 +520,7 @@ impl<
         Ok(Expr::Resolve(call))
     }
 
+    /// A primary that is no `if`: such a one may begin a statement.
     #[tactic(auto, unfolding(qvt_parser_grammar::specs::Reading::other_primary_at))]
     pub fn other_primary(&self, parser: &mut Parser<'_>) -> Result<First, ParseError>
         requires { IsInside F.Fn G.Fn self.now }
@@ -528,6 +536,7 @@ impl<
         Ok(First { expr, bare: true })
     }
 
+    /// What stands before steps and between operators.
     #[tactic(auto, unfolding(qvt_parser_grammar::specs::Reading::primary_at))]
     pub fn primary(&self, parser: &mut Parser<'_>) -> Result<First, ParseError>
         requires { IsInside F.Fn G.Fn self.now }

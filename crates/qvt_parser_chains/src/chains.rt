@@ -12,35 +12,42 @@ ghost use Rattle.qvt_parser_exprs.specs.Views.{lead_view, each_view, links_view,
 ghost use Rattle.qvt_parser_grammar.specs.Gives.{Gives, toks};
 ghost use Rattle.qvt_parser_exprs.specs.Inside.{IsInside};
 
-use crate::inside::Inside;
-use crate::leading::{EachTail, LeadStep, Leading};
-use crate::made::{binary_op, chained, each_lead, finish, post_lead, prefixed};
+use crate::made::{binary_op, chained, each_lead, post_lead, prefixed};
 use qvt_base::seq::Seq;
+use qvt_parser_exprs::inside::Inside;
+use qvt_parser_exprs::leading::{EachTail, LeadStep, Leading};
+use qvt_parser_exprs::made::finish;
 use qvt_parser_grammar::cursor::{ParseError, Parser};
 use qvt_parser_grammar::token::Class;
 use qvt_tree::tree::{Link, Step, Stmts};
 
+/// The calls that read steps and chains of operands, over those that read the expressions in them.
+#[derive(Drop)]
+pub struct Chains<F, G> {
+    pub inside: Inside<F, G>,
+}
+
 impl<
     F: Fn(&mut Parser<'_>) -> Result<Leading, ParseError>,
     G: Fn(&mut Parser<'_>) -> Result<Stmts, ParseError>,
-> Inside<F, G> {
+> Chains<F, G> {
     #[tactic(auto, unfolding(qvt_parser_grammar::specs::Reading::post_at))]
     fn post(&self, parser: &mut Parser<'_>) -> Result<Leading, ParseError>
-        requires { IsInside F.Fn G.Fn self.now }
-        ensures gives { Gives lead_view result (toks parser.new) (post_at (nested_at self.now.room) (toks parser.old)) }
+        requires { IsInside F.Fn G.Fn self.now.inside }
+        ensures gives { Gives lead_view result (toks parser.new) (post_at (nested_at self.now.inside.room) (toks parser.old)) }
         ensures fewer { length (toks parser.new) ≤ length (toks parser.old) }
         ensures less { OnOk result (length (toks parser.new) < length (toks parser.old)) }
     {
         let place = parser.place();
-        let first = self.primary(parser)?;
+        let first = self.inside.primary(parser)?;
         let steps = self.steps(parser)?;
         Ok(post_lead(place, first, steps))
     }
 
     #[tactic(auto, unfolding(qvt_parser_grammar::specs::Reading::signed_post_at, qvt_parser_grammar::specs::Reading::signs_at))]
     fn signed_post(&self, parser: &mut Parser<'_>) -> Result<Leading, ParseError>
-        requires { IsInside F.Fn G.Fn self.now }
-        ensures gives { Gives lead_view result (toks parser.new) (signed_post_at (nested_at self.now.room) (toks parser.old)) }
+        requires { IsInside F.Fn G.Fn self.now.inside }
+        ensures gives { Gives lead_view result (toks parser.new) (signed_post_at (nested_at self.now.inside.room) (toks parser.old)) }
         ensures fewer { length (toks parser.new) ≤ length (toks parser.old) }
         ensures less { OnOk result (length (toks parser.new) < length (toks parser.old)) }
     {
@@ -54,8 +61,8 @@ impl<
 
     #[tactic(auto, unfolding(qvt_parser_grammar::specs::Reading::pre_at))]
     fn pre(&self, parser: &mut Parser<'_>) -> Result<Leading, ParseError>
-        requires { IsInside F.Fn G.Fn self.now }
-        ensures gives { Gives lead_view result (toks parser.new) (pre_at (nested_at self.now.room) (toks parser.old)) }
+        requires { IsInside F.Fn G.Fn self.now.inside }
+        ensures gives { Gives lead_view result (toks parser.new) (pre_at (nested_at self.now.inside.room) (toks parser.old)) }
         ensures fewer { length (toks parser.new) ≤ length (toks parser.old) }
         ensures less { OnOk result (length (toks parser.new) < length (toks parser.old)) }
     {
@@ -65,12 +72,13 @@ impl<
         self.post(parser)
     }
 
+    /// Operands with operators of the `level` tightest levels between them: at 8 an expression.
     #[cycle(chain)]
     #[tactic(auto, unfolding(qvt_parser_grammar::specs::Reading::chain_at))]
-    fn chain(&self, parser: &mut Parser<'_>, level: usize) -> Result<Leading, ParseError>
-        requires nested { IsInside F.Fn G.Fn self.now }
+    pub fn chain(&self, parser: &mut Parser<'_>, level: usize) -> Result<Leading, ParseError>
+        requires nested { IsInside F.Fn G.Fn self.now.inside }
         requires tight { level ≤ 8 }
-        ensures gives { Gives lead_view result (toks parser.new) (chain_at level (pre_at (nested_at self.now.room)) (pre_at (nested_at self.now.room)) (toks parser.old)) }
+        ensures gives { Gives lead_view result (toks parser.new) (chain_at level (pre_at (nested_at self.now.inside.room)) (pre_at (nested_at self.now.inside.room)) (toks parser.old)) }
         ensures fewer { length (toks parser.new) ≤ length (toks parser.old) }
         ensures less { OnOk result (length (toks parser.new) < length (toks parser.old)) }
     {
@@ -83,9 +91,9 @@ impl<
     /// A chain of the level above the `below` tightest ones.
     #[cycle(chain)]
     fn above(&self, parser: &mut Parser<'_>, below: usize) -> Result<Leading, ParseError>
-        requires nested { IsInside F.Fn G.Fn self.now }
+        requires nested { IsInside F.Fn G.Fn self.now.inside }
         requires tight { below < 8 }
-        ensures gives { Gives lead_view result (toks parser.new) (made_at (chain_of (level_of below)) (placed_at (follow_at (chain_at below (pre_at (nested_at self.now.room)) (pre_at (nested_at self.now.room))) (links_at below (chain_at below (pre_at (nested_at self.now.room)) (pre_at (nested_at self.now.room)))))) (toks parser.old)) }
+        ensures gives { Gives lead_view result (toks parser.new) (made_at (chain_of (level_of below)) (placed_at (follow_at (chain_at below (pre_at (nested_at self.now.inside.room)) (pre_at (nested_at self.now.inside.room))) (links_at below (chain_at below (pre_at (nested_at self.now.inside.room)) (pre_at (nested_at self.now.inside.room)))))) (toks parser.old)) }
         ensures fewer { length (toks parser.new) ≤ length (toks parser.old) }
         ensures less { OnOk result (length (toks parser.new) < length (toks parser.old)) }
     {
@@ -103,9 +111,9 @@ impl<
         first: &Leading,
         level: usize,
     ) -> Result<Seq<Link>, ParseError>
-        requires nested { IsInside F.Fn G.Fn self.now }
+        requires nested { IsInside F.Fn G.Fn self.now.inside }
         requires tight { level < 8 }
-        ensures gives { Gives links_view result (toks parser.new) (links_at level (chain_at level (pre_at (nested_at self.now.room)) (pre_at (nested_at self.now.room))) (lead_view first.now) (toks parser.old)) }
+        ensures gives { Gives links_view result (toks parser.new) (links_at level (chain_at level (pre_at (nested_at self.now.inside.room)) (pre_at (nested_at self.now.inside.room))) (lead_view first.now) (toks parser.old)) }
         ensures fewer { length (toks parser.new) ≤ length (toks parser.old) }
     {
         match first {
@@ -116,9 +124,9 @@ impl<
 
     #[cycle(chain)]
     fn operands(&self, parser: &mut Parser<'_>, level: usize) -> Result<Seq<Link>, ParseError>
-        requires nested { IsInside F.Fn G.Fn self.now }
+        requires nested { IsInside F.Fn G.Fn self.now.inside }
         requires tight { level < 8 }
-        ensures gives { Gives links_view result (toks parser.new) (many_at (of (operators level)) (link_at level (chain_at level (pre_at (nested_at self.now.room)) (pre_at (nested_at self.now.room)))) (toks parser.old)) }
+        ensures gives { Gives links_view result (toks parser.new) (many_at (of (operators level)) (link_at level (chain_at level (pre_at (nested_at self.now.inside.room)) (pre_at (nested_at self.now.inside.room)))) (toks parser.old)) }
         ensures fewer { length (toks parser.new) ≤ length (toks parser.old) }
     {
         let mut links = Seq::new(parser.alloc);
@@ -132,9 +140,9 @@ impl<
     #[cycle(chain)]
     #[tactic(auto, unfolding(qvt_parser_grammar::specs::Reading::link_at))]
     fn link(&self, parser: &mut Parser<'_>, level: usize) -> Result<Link, ParseError>
-        requires nested { IsInside F.Fn G.Fn self.now }
+        requires nested { IsInside F.Fn G.Fn self.now.inside }
         requires tight { level < 8 }
-        ensures gives { Gives link_view result (toks parser.new) (link_at level (chain_at level (pre_at (nested_at self.now.room)) (pre_at (nested_at self.now.room))) (toks parser.old)) }
+        ensures gives { Gives link_view result (toks parser.new) (link_at level (chain_at level (pre_at (nested_at self.now.inside.room)) (pre_at (nested_at self.now.inside.room))) (toks parser.old)) }
         ensures fewer { length (toks parser.new) ≤ length (toks parser.old) }
         ensures less { OnOk result (length (toks parser.new) < length (toks parser.old)) }
     {
@@ -150,18 +158,18 @@ impl<
 
     #[tactic(auto, unfolding(qvt_parser_grammar::specs::Reading::each_tail_at))]
     fn each_tail(&self, parser: &mut Parser<'_>) -> Result<EachTail, ParseError>
-        requires { IsInside F.Fn G.Fn self.now }
-        ensures gives { Gives each_view result (toks parser.new) (each_tail_at (nested_at self.now.room) (toks parser.old)) }
+        requires { IsInside F.Fn G.Fn self.now.inside }
+        ensures gives { Gives each_view result (toks parser.new) (each_tail_at (nested_at self.now.inside.room) (toks parser.old)) }
         ensures fewer { length (toks parser.new) ≤ length (toks parser.old) }
         ensures less { OnOk result (length (toks parser.new) < length (toks parser.old)) }
     {
         parser.take(Class::ForEachWord)?;
         parser.take(Class::OpenRound)?;
         let name = parser.name()?;
-        let kind = parser.optional_type(self.room)?;
-        let condition = self.optional_bar(parser)?;
+        let kind = parser.optional_type(self.inside.room)?;
+        let condition = self.inside.optional_bar(parser)?;
         parser.take(Class::CloseRound)?;
-        let body = self.block(parser)?;
+        let body = self.inside.block(parser)?;
         Ok(EachTail {
             name: name.text,
             kind,
@@ -172,8 +180,8 @@ impl<
 
     #[tactic(auto, unfolding(qvt_parser_grammar::specs::Reading::lead_step_at))]
     fn lead_step(&self, parser: &mut Parser<'_>) -> Result<LeadStep, ParseError>
-        requires { IsInside F.Fn G.Fn self.now }
-        ensures gives { Gives lead_step_view result (toks parser.new) (lead_step_at (nested_at self.now.room) (toks parser.old)) }
+        requires { IsInside F.Fn G.Fn self.now.inside }
+        ensures gives { Gives lead_step_view result (toks parser.new) (lead_step_at (nested_at self.now.inside.room) (toks parser.old)) }
         ensures fewer { length (toks parser.new) ≤ length (toks parser.old) }
         ensures less { OnOk result (length (toks parser.new) < length (toks parser.old)) }
     {
@@ -194,8 +202,8 @@ impl<
         &self,
         parser: &mut Parser<'_>,
     ) -> Result<(Seq<Step>, Option<EachTail>), ParseError>
-        requires { IsInside F.Fn G.Fn self.now }
-        ensures gives { Gives lead_steps_view result (toks parser.new) (ended_at (of step_first) (lead_step_at (nested_at self.now.room)) (toks parser.old)) }
+        requires { IsInside F.Fn G.Fn self.now.inside }
+        ensures gives { Gives lead_steps_view result (toks parser.new) (ended_at (of step_first) (lead_step_at (nested_at self.now.inside.room)) (toks parser.old)) }
         ensures fewer { length (toks parser.new) ≤ length (toks parser.old) }
     {
         let mut steps = Seq::new(parser.alloc);
@@ -211,21 +219,21 @@ impl<
 
     #[tactic(auto, unfolding(qvt_parser_grammar::specs::Reading::lead_post_at))]
     fn lead_post(&self, parser: &mut Parser<'_>) -> Result<Leading, ParseError>
-        requires { IsInside F.Fn G.Fn self.now }
-        ensures gives { Gives lead_view result (toks parser.new) (lead_post_at (nested_at self.now.room) (toks parser.old)) }
+        requires { IsInside F.Fn G.Fn self.now.inside }
+        ensures gives { Gives lead_view result (toks parser.new) (lead_post_at (nested_at self.now.inside.room) (toks parser.old)) }
         ensures fewer { length (toks parser.new) ≤ length (toks parser.old) }
         ensures less { OnOk result (length (toks parser.new) < length (toks parser.old)) }
     {
         let place = parser.place();
-        let first = self.other_primary(parser)?;
+        let first = self.inside.other_primary(parser)?;
         let (steps, part) = self.lead_steps(parser)?;
         each_lead(parser.alloc, place, first, steps, part)
     }
 
     #[tactic(auto, unfolding(qvt_parser_grammar::specs::Reading::lead_pre_at))]
     fn lead_pre(&self, parser: &mut Parser<'_>) -> Result<Leading, ParseError>
-        requires { IsInside F.Fn G.Fn self.now }
-        ensures gives { Gives lead_view result (toks parser.new) (lead_pre_at (nested_at self.now.room) (toks parser.old)) }
+        requires { IsInside F.Fn G.Fn self.now.inside }
+        ensures gives { Gives lead_view result (toks parser.new) (lead_pre_at (nested_at self.now.inside.room) (toks parser.old)) }
         ensures fewer { length (toks parser.new) ≤ length (toks parser.old) }
         ensures less { OnOk result (length (toks parser.new) < length (toks parser.old)) }
     {
@@ -238,9 +246,9 @@ impl<
     #[cycle(lead)]
     #[tactic(auto, unfolding(qvt_parser_grammar::specs::Reading::chain_at))]
     fn lead_chain(&self, parser: &mut Parser<'_>, level: usize) -> Result<Leading, ParseError>
-        requires nested { IsInside F.Fn G.Fn self.now }
+        requires nested { IsInside F.Fn G.Fn self.now.inside }
         requires tight { level ≤ 8 }
-        ensures gives { Gives lead_view result (toks parser.new) (chain_at level (lead_pre_at (nested_at self.now.room)) (pre_at (nested_at self.now.room)) (toks parser.old)) }
+        ensures gives { Gives lead_view result (toks parser.new) (chain_at level (lead_pre_at (nested_at self.now.inside.room)) (pre_at (nested_at self.now.inside.room)) (toks parser.old)) }
         ensures fewer { length (toks parser.new) ≤ length (toks parser.old) }
         ensures less { OnOk result (length (toks parser.new) < length (toks parser.old)) }
     {
@@ -253,9 +261,9 @@ impl<
     /// The same, for an expression at the front of a statement.
     #[cycle(lead)]
     fn lead_above(&self, parser: &mut Parser<'_>, below: usize) -> Result<Leading, ParseError>
-        requires nested { IsInside F.Fn G.Fn self.now }
+        requires nested { IsInside F.Fn G.Fn self.now.inside }
         requires tight { below < 8 }
-        ensures gives { Gives lead_view result (toks parser.new) (made_at (chain_of (level_of below)) (placed_at (follow_at (chain_at below (lead_pre_at (nested_at self.now.room)) (pre_at (nested_at self.now.room))) (links_at below (chain_at below (pre_at (nested_at self.now.room)) (pre_at (nested_at self.now.room)))))) (toks parser.old)) }
+        ensures gives { Gives lead_view result (toks parser.new) (made_at (chain_of (level_of below)) (placed_at (follow_at (chain_at below (lead_pre_at (nested_at self.now.inside.room)) (pre_at (nested_at self.now.inside.room))) (links_at below (chain_at below (pre_at (nested_at self.now.inside.room)) (pre_at (nested_at self.now.inside.room)))))) (toks parser.old)) }
         ensures fewer { length (toks parser.new) ≤ length (toks parser.old) }
         ensures less { OnOk result (length (toks parser.new) < length (toks parser.old)) }
     {
@@ -265,10 +273,11 @@ impl<
         chained(parser.alloc, below, place, first, rest)
     }
 
+    /// An expression at the front of a statement, which may go on as a `forEach`.
     #[tactic(auto, unfolding(qvt_parser_grammar::specs::Reading::lead_at))]
     pub fn lead(&self, parser: &mut Parser<'_>) -> Result<Leading, ParseError>
-        requires { IsInside F.Fn G.Fn self.now }
-        ensures gives { Gives lead_view result (toks parser.new) (lead_at (nested_at self.now.room) (toks parser.old)) }
+        requires { IsInside F.Fn G.Fn self.now.inside }
+        ensures gives { Gives lead_view result (toks parser.new) (lead_at (nested_at self.now.inside.room) (toks parser.old)) }
         ensures fewer { length (toks parser.new) ≤ length (toks parser.old) }
         ensures less { OnOk result (length (toks parser.new) < length (toks parser.old)) }
     {

@@ -11,10 +11,11 @@ ghost use Rattle.qvt_parser_exprs.specs.Views.{lead_view, exprs_view, steps_view
 ghost use Rattle.qvt_parser_grammar.specs.Gives.{Gives, toks};
 ghost use Rattle.qvt_parser_exprs.specs.Inside.{IsInside};
 
-use crate::inside::Inside;
-use crate::leading::Leading;
-use crate::made::{finish, one_expr};
+use crate::chains::Chains;
+use crate::made::one_expr;
 use qvt_base::seq::Seq;
+use qvt_parser_exprs::leading::Leading;
+use qvt_parser_exprs::made::finish;
 use qvt_parser_grammar::cursor::{ParseError, Parser};
 use qvt_parser_grammar::token::Class;
 use qvt_tree::tree::{Accumulator, Expr, Head, Step, Stmts};
@@ -23,11 +24,11 @@ use qvt_tree::types::TypeTree;
 impl<
     F: Fn(&mut Parser<'_>) -> Result<Leading, ParseError>,
     G: Fn(&mut Parser<'_>) -> Result<Stmts, ParseError>,
-> Inside<F, G> {
+> Chains<F, G> {
     #[tactic(auto, unfolding(qvt_parser_grammar::specs::Reading::dot_rest_at))]
     fn dot_rest(&self, parser: &mut Parser<'_>) -> Result<Step, ParseError>
-        requires { IsInside F.Fn G.Fn self.now }
-        ensures gives { Gives step_view result (toks parser.new) (dot_rest_at (nested_at self.now.room) (toks parser.old)) }
+        requires { IsInside F.Fn G.Fn self.now.inside }
+        ensures gives { Gives step_view result (toks parser.new) (dot_rest_at (nested_at self.now.inside.room) (toks parser.old)) }
         ensures fewer { length (toks parser.new) ≤ length (toks parser.old) }
         ensures less { OnOk result (length (toks parser.new) < length (toks parser.old)) }
     {
@@ -35,28 +36,28 @@ impl<
             return self.dot_name(parser);
         }
         if parser.at_map() {
-            let call = self.map_call(parser)?;
+            let call = self.inside.map_call(parser)?;
             return Ok(Step::DotMap(call));
         }
-        let call = self.resolve(parser)?;
+        let call = self.inside.resolve(parser)?;
         Ok(Step::DotResolve(call))
     }
 
     fn optional_args(&self, parser: &mut Parser<'_>) -> Result<Option<Seq<Expr>>, ParseError>
-        requires { IsInside F.Fn G.Fn self.now }
-        ensures gives { Gives (option_view exprs_view) result (toks parser.new) (maybe_at (is Class.OpenRound) (args_at (nested_at self.now.room)) (toks parser.old)) }
+        requires { IsInside F.Fn G.Fn self.now.inside }
+        ensures gives { Gives (option_view exprs_view) result (toks parser.new) (maybe_at (is Class.OpenRound) (args_at (nested_at self.now.inside.room)) (toks parser.old)) }
         ensures fewer { length (toks parser.new) ≤ length (toks parser.old) }
     {
         if parser.at(Class::OpenRound) {
-            let args = self.args(parser)?;
+            let args = self.inside.args(parser)?;
             return Ok(Some(args));
         }
         Ok(None)
     }
 
     fn dot_name(&self, parser: &mut Parser<'_>) -> Result<Step, ParseError>
-        requires { IsInside F.Fn G.Fn self.now }
-        ensures gives { Gives step_view result (toks parser.new) (made_at dot_of (then_at name_at (maybe_at (is Class.OpenRound) (args_at (nested_at self.now.room)))) (toks parser.old)) }
+        requires { IsInside F.Fn G.Fn self.now.inside }
+        ensures gives { Gives step_view result (toks parser.new) (made_at dot_of (then_at name_at (maybe_at (is Class.OpenRound) (args_at (nested_at self.now.inside.room)))) (toks parser.old)) }
         ensures fewer { length (toks parser.new) ≤ length (toks parser.old) }
         ensures less { OnOk result (length (toks parser.new) < length (toks parser.old)) }
     {
@@ -69,10 +70,11 @@ impl<
         })
     }
 
+    /// A step that begins with a dot.
     #[tactic(auto, unfolding(qvt_parser_grammar::specs::Reading::dot_step_at))]
     pub fn dot_step(&self, parser: &mut Parser<'_>) -> Result<Step, ParseError>
-        requires { IsInside F.Fn G.Fn self.now }
-        ensures gives { Gives step_view result (toks parser.new) (dot_step_at (nested_at self.now.room) (toks parser.old)) }
+        requires { IsInside F.Fn G.Fn self.now.inside }
+        ensures gives { Gives step_view result (toks parser.new) (dot_step_at (nested_at self.now.inside.room) (toks parser.old)) }
         ensures fewer { length (toks parser.new) ≤ length (toks parser.old) }
         ensures less { OnOk result (length (toks parser.new) < length (toks parser.old)) }
     {
@@ -82,16 +84,16 @@ impl<
 
     #[tactic(auto, unfolding(qvt_parser_grammar::specs::Reading::accumulator_at))]
     fn accumulator(&self, parser: &mut Parser<'_>) -> Result<Accumulator, ParseError>
-        requires { IsInside F.Fn G.Fn self.now }
-        ensures gives { Gives accumulator_view result (toks parser.new) (accumulator_at (nested_at self.now.room) (toks parser.old)) }
+        requires { IsInside F.Fn G.Fn self.now.inside }
+        ensures gives { Gives accumulator_view result (toks parser.new) (accumulator_at (nested_at self.now.inside.room) (toks parser.old)) }
         ensures fewer { length (toks parser.new) ≤ length (toks parser.old) }
         ensures less { OnOk result (length (toks parser.new) < length (toks parser.old)) }
     {
         parser.take(Class::Semicolon)?;
         let name = parser.name()?;
-        let kind = parser.colon_type(self.room)?;
+        let kind = parser.colon_type(self.inside.room)?;
         parser.take(Class::EqualSign)?;
-        let first = self.expr(parser)?;
+        let first = self.inside.expr(parser)?;
         Ok(Accumulator {
             name: name.text,
             kind,
@@ -104,8 +106,8 @@ impl<
         &self,
         parser: &mut Parser<'_>,
     ) -> Result<Option<Accumulator>, ParseError>
-        requires { IsInside F.Fn G.Fn self.now }
-        ensures gives { Gives (option_view accumulator_view) result (toks parser.new) (maybe_at (is Class.Semicolon) (accumulator_at (nested_at self.now.room)) (toks parser.old)) }
+        requires { IsInside F.Fn G.Fn self.now.inside }
+        ensures gives { Gives (option_view accumulator_view) result (toks parser.new) (maybe_at (is Class.Semicolon) (accumulator_at (nested_at self.now.inside.room)) (toks parser.old)) }
         ensures fewer { length (toks parser.new) ≤ length (toks parser.old) }
     {
         if parser.at(Class::Semicolon) {
@@ -120,24 +122,24 @@ impl<
         &self,
         parser: &mut Parser<'_>,
     ) -> Result<(Option<TypeTree>, (Option<Accumulator>, Expr)), ParseError>
-        requires { IsInside F.Fn G.Fn self.now }
-        ensures gives { Gives head_rest_view result (toks parser.new) (head_rest_at (nested_at self.now.room) (toks parser.old)) }
+        requires { IsInside F.Fn G.Fn self.now.inside }
+        ensures gives { Gives head_rest_view result (toks parser.new) (head_rest_at (nested_at self.now.inside.room) (toks parser.old)) }
         ensures fewer { length (toks parser.new) ≤ length (toks parser.old) }
         ensures less { OnOk result (length (toks parser.new) < length (toks parser.old)) }
     {
-        let kind = parser.optional_type(self.room)?;
+        let kind = parser.optional_type(self.inside.room)?;
         let accumulator = self.optional_accumulator(parser)?;
-        let body = self.bar_expr(parser)?;
+        let body = self.inside.bar_expr(parser)?;
         Ok((kind, (accumulator, body)))
     }
 
     #[tactic(auto, unfolding(qvt_parser_grammar::specs::Reading::arrow_body_at))]
     fn arrow_body(&self, parser: &mut Parser<'_>) -> Result<(Option<Head>, Seq<Expr>), ParseError>
-        requires { IsInside F.Fn G.Fn self.now }
-        ensures gives { Gives arrow_args_view result (toks parser.new) (arrow_body_at (nested_at self.now.room) (toks parser.old)) }
+        requires { IsInside F.Fn G.Fn self.now.inside }
+        ensures gives { Gives arrow_args_view result (toks parser.new) (arrow_body_at (nested_at self.now.inside.room) (toks parser.old)) }
         ensures fewer { length (toks parser.new) ≤ length (toks parser.old) }
     {
-        let lead = self.flagged(parser)?;
+        let lead = self.inside.flagged(parser)?;
         if parser.at_head() {
             return self.head_after(parser, lead);
         }
@@ -150,9 +152,9 @@ impl<
         parser: &mut Parser<'_>,
         lead: Leading,
     ) -> Result<(Option<Head>, Seq<Expr>), ParseError>
-        requires nested { IsInside F.Fn G.Fn self.now }
+        requires nested { IsInside F.Fn G.Fn self.now.inside }
         requires head { IsTrue (starts (of head_first) (toks parser.old)) }
-        ensures gives { Gives arrow_args_view result (toks parser.new) (after_first_at (nested_at self.now.room) (lead_view lead) (toks parser.old)) }
+        ensures gives { Gives arrow_args_view result (toks parser.new) (after_first_at (nested_at self.now.inside.room) (lead_view lead) (toks parser.old)) }
         ensures fewer { length (toks parser.new) ≤ length (toks parser.old) }
     {
         match lead {
@@ -179,18 +181,18 @@ impl<
         parser: &mut Parser<'_>,
         first: Expr,
     ) -> Result<(Option<Head>, Seq<Expr>), ParseError>
-        requires { IsInside F.Fn G.Fn self.now }
-        ensures gives { Gives arrow_args_view result (toks parser.new) (made_at (with_first (expr_view first)) (more_exprs_at (nested_at self.now.room)) (toks parser.old)) }
+        requires { IsInside F.Fn G.Fn self.now.inside }
+        ensures gives { Gives arrow_args_view result (toks parser.new) (made_at (with_first (expr_view first)) (more_exprs_at (nested_at self.now.inside.room)) (toks parser.old)) }
         ensures fewer { length (toks parser.new) ≤ length (toks parser.old) }
     {
-        let exprs = self.exprs_from(parser, first)?;
+        let exprs = self.inside.exprs_from(parser, first)?;
         Ok((None, exprs))
     }
 
     #[tactic(auto, unfolding(qvt_parser_grammar::specs::Reading::arrow_args_at))]
     fn arrow_args(&self, parser: &mut Parser<'_>) -> Result<(Option<Head>, Seq<Expr>), ParseError>
-        requires { IsInside F.Fn G.Fn self.now }
-        ensures gives { Gives arrow_args_view result (toks parser.new) (arrow_args_at (nested_at self.now.room) (toks parser.old)) }
+        requires { IsInside F.Fn G.Fn self.now.inside }
+        ensures gives { Gives arrow_args_view result (toks parser.new) (arrow_args_at (nested_at self.now.inside.room) (toks parser.old)) }
         ensures fewer { length (toks parser.new) ≤ length (toks parser.old) }
         ensures less { OnOk result (length (toks parser.new) < length (toks parser.old)) }
     {
@@ -205,8 +207,8 @@ impl<
     }
 
     fn arrow_name(&self, parser: &mut Parser<'_>) -> Result<Step, ParseError>
-        requires { IsInside F.Fn G.Fn self.now }
-        ensures gives { Gives step_view result (toks parser.new) (made_at arrow_of (then_at name_at (arrow_args_at (nested_at self.now.room))) (toks parser.old)) }
+        requires { IsInside F.Fn G.Fn self.now.inside }
+        ensures gives { Gives step_view result (toks parser.new) (made_at arrow_of (then_at name_at (arrow_args_at (nested_at self.now.inside.room))) (toks parser.old)) }
         ensures fewer { length (toks parser.new) ≤ length (toks parser.old) }
         ensures less { OnOk result (length (toks parser.new) < length (toks parser.old)) }
     {
@@ -220,10 +222,11 @@ impl<
         })
     }
 
+    /// What stands after an arrow, but for `forEach`.
     #[tactic(auto, unfolding(qvt_parser_grammar::specs::Reading::arrow_rest_at))]
     pub fn arrow_rest(&self, parser: &mut Parser<'_>) -> Result<Step, ParseError>
-        requires { IsInside F.Fn G.Fn self.now }
-        ensures gives { Gives step_view result (toks parser.new) (arrow_rest_at (nested_at self.now.room) (toks parser.old)) }
+        requires { IsInside F.Fn G.Fn self.now.inside }
+        ensures gives { Gives step_view result (toks parser.new) (arrow_rest_at (nested_at self.now.inside.room) (toks parser.old)) }
         ensures fewer { length (toks parser.new) ≤ length (toks parser.old) }
         ensures less { OnOk result (length (toks parser.new) < length (toks parser.old)) }
     {
@@ -231,17 +234,17 @@ impl<
             return self.arrow_name(parser);
         }
         if parser.at_map() {
-            let call = self.map_call(parser)?;
+            let call = self.inside.map_call(parser)?;
             return Ok(Step::ArrowMap(call));
         }
-        let call = self.resolve(parser)?;
+        let call = self.inside.resolve(parser)?;
         Ok(Step::ArrowResolve(call))
     }
 
     #[tactic(auto, unfolding(qvt_parser_grammar::specs::Reading::step_at))]
     fn step(&self, parser: &mut Parser<'_>) -> Result<Step, ParseError>
-        requires { IsInside F.Fn G.Fn self.now }
-        ensures gives { Gives step_view result (toks parser.new) (step_at (nested_at self.now.room) (toks parser.old)) }
+        requires { IsInside F.Fn G.Fn self.now.inside }
+        ensures gives { Gives step_view result (toks parser.new) (step_at (nested_at self.now.inside.room) (toks parser.old)) }
         ensures fewer { length (toks parser.new) ≤ length (toks parser.old) }
         ensures less { OnOk result (length (toks parser.new) < length (toks parser.old)) }
     {
@@ -252,9 +255,10 @@ impl<
         self.arrow_rest(parser)
     }
 
+    /// Any number of steps.
     pub fn steps(&self, parser: &mut Parser<'_>) -> Result<Seq<Step>, ParseError>
-        requires { IsInside F.Fn G.Fn self.now }
-        ensures gives { Gives steps_view result (toks parser.new) (many_at (of step_first) (step_at (nested_at self.now.room)) (toks parser.old)) }
+        requires { IsInside F.Fn G.Fn self.now.inside }
+        ensures gives { Gives steps_view result (toks parser.new) (many_at (of step_first) (step_at (nested_at self.now.inside.room)) (toks parser.old)) }
         ensures fewer { length (toks parser.new) ≤ length (toks parser.old) }
     {
         let mut steps = Seq::new(parser.alloc);

@@ -1,5 +1,5 @@
 use Rattle.std.proofs.Common.{◌+◌, ◌*◌}
-use Rattle.qvt_parser_exprs.proofs.inside.Inside.+lead.Given as goal
+use Rattle.qvt_parser_chains.proofs.chains.Chains.+lead.Given as goal
 
 abbrev pub decreases-lead_chain : goal.decreases-lead_chain
 decreases-lead_chain g l = 2 * l.level

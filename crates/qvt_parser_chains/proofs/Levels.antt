@@ -1,5 +1,5 @@
 -- A chain of a level above the tightest.
-use Rattle.std.proofs.Common.{◌≡◌, ◌≢◌, ◌-◌, ℕ, zero, suc, refl, sym, subst, arith}
+use Rattle.std.proofs.Common.{◌≡◌, ◌≢◌, ◌-◌, ℕ, zero, suc, refl, subst, arith}
 use Rattle.qvt_grammar.specs.Reader.{made_at, follow_at}
 use Rattle.qvt_parser_grammar.specs.Readers.{Reader, placed_at}
 use Rattle.qvt_parser_grammar.specs.Leads.{Lead}

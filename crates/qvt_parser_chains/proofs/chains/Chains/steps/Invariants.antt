@@ -1,0 +1,18 @@
+use Rattle.std.proofs.Common.{◌≡◌, ◌≤◌, length, map}
+use Rattle.qvt_grammar.specs.Reader.{many_at, with_front}
+use Rattle.qvt_parser_grammar.specs.Tokens.{of}
+use Rattle.qvt_parser_grammar.specs.Gives.{toks}
+use Rattle.qvt_parser_grammar.specs.Firsts.{step_first}
+use Rattle.qvt_parser_grammar.specs.Reading.{step_at}
+use Rattle.qvt_parser_grammar.specs.Nesting.{nested_at}
+use Rattle.qvt_tree.specs.View.{step_view}
+use Rattle.qvt_parser_chains.proofs.chains.Chains.steps.Given as goal
+
+abbrev pub invariant-loop-parser : goal.invariant-loop-parser
+invariant-loop-parser g l = record {
+  so_far : many_at (of step_first) (step_at (nested_at l.self.inside.room)) (toks l.fn.parser) ≡ with_front (map step_view l.steps) (many_at (of step_first) (step_at (nested_at l.self.inside.room)) (toks l.parser));
+  fewer : length (toks l.parser) ≤ length (toks l.fn.parser);
+}
+
+abbrev pub decreases-loop-parser : goal.decreases-loop-parser
+decreases-loop-parser g l = length (toks l.parser)

@@ -1,0 +1,217 @@
+ghost use Rattle.std.specs.Prelude.{◌≡◌, ◌<◌, ◌∷◌, ◌++◌, []};
+ghost use Rattle.qvt_tree.specs.Tree.{PathExpr};
+ghost use Rattle.qvt_tree.specs.View.{expr_view};
+ghost use Rattle.qvt_parser_grammar.specs.Leads.{Plain};
+ghost use Rattle.qvt_parser_grammar.specs.Trees as trees;
+ghost use Rattle.qvt_parser_grammar.specs.Grammar as grammar;
+ghost use Rattle.qvt_parser_grammar.specs.Options.{option_view};
+ghost use Rattle.qvt_parser_exprs.specs.Views.{first_view, lead_view, each_view, exprs_view, links_view, steps_view};
+ghost use Rattle.qvt_parser_grammar.specs.Gives.{Makes, same};
+
+use qvt_base::numbers::Place;
+use qvt_base::seq::Seq;
+use qvt_parser_exprs::leading::{EachTail, First, Leading};
+use qvt_parser_exprs::made::{finish, posted};
+use qvt_parser_grammar::cursor::ParseError;
+use qvt_parser_grammar::named::Named;
+use qvt_parser_grammar::token::Class;
+use qvt_tree::tree::{Expr, Link, Step};
+use qvt_tree::types::PathTree;
+use qvt_tree::words::{BinaryOp, Level, Sign};
+use std::alloc::Global;
+
+/// The operator of the sign. `==` means `=`, and `!=` means `<>`.
+pub fn binary_op(class: Class) -> BinaryOp
+    ensures { result ≡ trees.binary_op class }
+{
+    match class {
+        Class::ImpliesWord => BinaryOp::Implies,
+        Class::XorWord => BinaryOp::Xor,
+        Class::OrWord => BinaryOp::Or,
+        Class::AndWord => BinaryOp::And,
+        Class::EqualSign => BinaryOp::Equal,
+        Class::DoubleEqual => BinaryOp::Equal,
+        Class::Diamond => BinaryOp::NotEqual,
+        Class::BangEqual => BinaryOp::NotEqual,
+        Class::LessSign => BinaryOp::Less,
+        Class::AtMost => BinaryOp::LessEqual,
+        Class::GreaterSign => BinaryOp::Greater,
+        Class::AtLeast => BinaryOp::GreaterEqual,
+        Class::PlusSign => BinaryOp::Plus,
+        Class::MinusSign => BinaryOp::Minus,
+        _ => BinaryOp::Times,
+    }
+}
+
+/// The level of this number, the tightest first.
+fn level_of(level: usize) -> Level
+    requires { level < 8 }
+    ensures { result ≡ grammar.level_of level }
+{
+    match level {
+        0 => Level::Product,
+        1 => Level::Sum,
+        2 => Level::Relation,
+        3 => Level::Equality,
+        4 => Level::And,
+        5 => Level::Or,
+        6 => Level::Xor,
+        _ => Level::Implies,
+    }
+}
+
+/// The list of one expression.
+pub fn one_expr(alloc: Global, expr: Expr) -> Result<Seq<Expr>, ParseError>
+    ensures { Makes exprs_view result (expr_view expr ∷ []) }
+{
+    let mut exprs = Seq::new(alloc);
+    exprs.push(expr)?;
+    Ok(exprs)
+}
+
+/// A path of one name may be a target.
+fn path_lead(path: PathTree) -> Leading
+    ensures { lead_view result ≡ Plain (PathExpr path) (trees.bare_target (PathExpr path)) }
+{
+    let mut names = path.names;
+    if names.len() == 1 {
+        match names.pop() {
+            Some(text) => Leading::Name(Named {
+                text,
+                place: path.place,
+            }),
+            None => Leading::Done(Expr::Path(PathTree {
+                names,
+                place: path.place,
+            })),
+        }
+    } else {
+        Leading::Done(Expr::Path(PathTree {
+            names,
+            place: path.place,
+        }))
+    }
+}
+
+fn bare_lead(expr: Expr) -> Leading
+    ensures { lead_view result ≡ Plain (expr_view expr) (trees.bare_target (expr_view expr)) }
+{
+    match expr {
+        Expr::Path(path) => path_lead(path),
+        Expr::ResultRef { place } => Leading::Result(place),
+        expr => Leading::Done(expr),
+    }
+}
+
+/// A primary with the steps after it. It is a target where the last step is a name without
+/// arguments, or where it is a name or `result` without brackets and steps.
+pub fn post_lead(place: Place, first: First, steps: Seq<Step>) -> Leading
+    ensures { lead_view result ≡ trees.post_lead (place, (first_view first, steps_view steps)) }
+{
+    if !steps.is_empty() {
+        return Leading::Post {
+            first: first.expr,
+            steps,
+            place,
+        };
+    }
+    if first.bare {
+        bare_lead(first.expr)
+    } else {
+        Leading::Done(first.expr)
+    }
+}
+
+/// The same, or a `forEach` over it.
+pub fn each_lead(
+    alloc: Global,
+    place: Place,
+    first: First,
+    steps: Seq<Step>,
+    part: Option<EachTail>,
+) -> Result<Leading, ParseError>
+    ensures { Makes lead_view result (trees.each_lead (place, (first_view first, (steps_view steps, option_view each_view part)))) }
+{
+    match part {
+        None => Ok(post_lead(place, first, steps)),
+        Some(part) => {
+            let source = posted(alloc, place, first.expr, steps)?;
+            Ok(Leading::Each { source, part })
+        }
+    }
+}
+
+/// These signs, and then the old ones.
+fn all_signs(
+    alloc: Global,
+    first: Sign,
+    more: Seq<Sign>,
+    old: &[Sign],
+) -> Result<Seq<Sign>, ParseError>
+    ensures { Makes same result (first ∷ (more ++ old.now)) }
+{
+    let mut signs = Seq::new(alloc);
+    signs.push(first)?;
+    signs.extend(more.as_slice())?;
+    signs.extend(old)?;
+    Ok(signs)
+}
+
+/// Signs before an operand. Where it has signs of its own, they join them.
+pub fn prefixed(
+    alloc: Global,
+    place: Place,
+    first: Sign,
+    more: Seq<Sign>,
+    operand: Expr,
+) -> Result<Leading, ParseError>
+    ensures { Makes lead_view result (Plain (trees.signed place (first ∷ more) (expr_view operand)) None) }
+{
+    match operand {
+        Expr::Prefix {
+            signs: old,
+            operand,
+            ..
+        } => {
+            let signs = all_signs(alloc, first, more, old.as_slice())?;
+            Ok(Leading::Done(Expr::Prefix {
+                signs,
+                operand,
+                place,
+            }))
+        }
+        operand => {
+            let signs = all_signs(alloc, first, more, &[])?;
+            let operand = Box::new(alloc, operand)?;
+            Ok(Leading::Done(Expr::Prefix {
+                signs,
+                operand,
+                place,
+            }))
+        }
+    }
+}
+
+/// Operands with operators between them. One operand alone is itself.
+pub fn chained(
+    alloc: Global,
+    level: usize,
+    place: Place,
+    first: Leading,
+    rest: Seq<Link>,
+) -> Result<Leading, ParseError>
+    requires { level < 8 }
+    ensures { Makes lead_view result (trees.chain_of (grammar.level_of level) (place, (lead_view first, links_view rest))) }
+{
+    if rest.is_empty() {
+        return Ok(first);
+    }
+    let first = finish(alloc, first)?;
+    let first = Box::new(alloc, first)?;
+    Ok(Leading::Done(Expr::Chain {
+        level: level_of(level),
+        first,
+        rest,
+        place,
+    }))
+}
