@@ -1,0 +1,59 @@
+ghost use Rattle.std.specs.Prelude.{◌≡◌, ◌≢◌, ◌+◌, ◌<◌, ◌^◌, length, IfOk, IfErr};
+ghost use Rattle.qvt_tree.specs.Module.{ModuleTerm, module_view};
+ghost use Rattle.qvt_parser_grammar.specs.Tokens.{toks_of};
+ghost use Rattle.qvt_parser_grammar.specs.Module.{Reads};
+ghost use Rattle.qvt_parser.specs.Parsing.{IsTransformation, IsFaultOf, IsReadAs};
+ghost use Rattle.qvt_parser.specs.declared.fault.ParseFault.TheVariants as faults;
+
+use crate::fault::ParseFault;
+use qvt_base::numbers::Place;
+use qvt_parser_grammar::cursor::{ParseError, Parser};
+use qvt_parser_grammar::laws::answers;
+use qvt_parser_grammar::token::Token;
+use qvt_parser_tokens::depth::deep;
+use qvt_parser_tokens::text::{borrowed, read};
+use qvt_parser_units::units::transformation;
+use qvt_tree::module::Module;
+use std::alloc::Global;
+
+/// The transformation of these tokens, after which `end` stands. They are not too deep.
+fn read_tokens<'a>(alloc: Global, tokens: &'a [Token<'a>], end: Place) -> Result<Module, ParseFault>
+    ensures read { IsReadAs (toks_of tokens.entry.now) end result }
+    ensures one { IfOk result (λ m. (other : ModuleTerm) → Reads (toks_of tokens.entry.now) other → other ≡ module_view m) }
+{
+    answers();
+    let room = tokens.len();
+    let mut parser = Parser::new(alloc, tokens);
+    match transformation(&mut parser, room) {
+        Ok(module) => {
+            if parser.is_empty() {
+                Ok(module)
+            } else {
+                Err(ParseFault::Syntax(parser.place_or(end)))
+            }
+        }
+        Err(ParseError::NoMemory) => Err(ParseFault::NoMemory),
+        Err(ParseError::Syntax) => Err(ParseFault::Syntax(parser.place_or(end))),
+    }
+}
+
+/// The transformation that the text is (QVT 1.3, 8.4), with each place in the text. The text has
+/// fewer than 2^32 - 1 bytes.
+pub fn parse(alloc: Global, text: &str) -> Result<Module, ParseFault>
+    requires { length text.now + 1 < 2 ^ 32 }
+    ensures tree { IfOk result (λ m. IsTransformation text.now (module_view m)) }
+    ensures one { IfOk result (λ m. (other : ModuleTerm) → IsTransformation text.now other → other ≡ module_view m) }
+    ensures fault { IfErr result (IsFaultOf text.now) }
+    ensures no_tree { IfErr result (λ fault. fault ≢ faults.NoMemory → (other : ModuleTerm) → IsTransformation text.now other → ⊥) }
+{
+    let lexed = read(alloc, text)?;
+    let tokens = borrowed(alloc, lexed.tokens.as_slice())?;
+    match deep(alloc, tokens.as_slice()) {
+        Ok(None) => read_tokens(alloc, tokens.as_slice(), lexed.end),
+        Ok(Some(place)) => Err(ParseFault::TooDeep(place)),
+        Err(_) => Err(ParseFault::NoMemory),
+    }
+}
+
+#[cfg(test)]
+mod tests;

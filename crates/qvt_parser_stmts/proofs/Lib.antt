@@ -1,0 +1,3 @@
+pub mod StmtLoops
+pub mod Members
+pub mod Tails

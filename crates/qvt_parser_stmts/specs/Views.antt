@@ -1,0 +1,29 @@
+-- What clauses see of the parts of statements.
+use Rattle.std.specs.Prelude.{List, [], ◌∷◌, map}
+use Rattle.std.proofs.Common.{inl, inr}
+use Rattle.qvt_tree.specs.Tree.{ExprTerm, ArmTerm}
+use Rattle.qvt_tree.specs.View.{expr_view, stmt_view, arm_view}
+use Rattle.qvt_tree.specs.declared.tree.Arm.{Arm}
+use Rattle.qvt_tree.specs.declared.tree.Expr.{Expr}
+use Rattle.qvt_parser_grammar.specs.declared.token.Token.{Token}
+use Rattle.qvt_parser_grammar.specs.Tokens.{Tok, tok_of}
+use Rattle.qvt_parser_grammar.specs.Leads.{Ended}
+use Rattle.qvt_parser_grammar.specs.StmtTrees.{Turn}
+use Rattle.qvt_parser_exprs.specs.Views.{stmts_view}
+use Rattle.qvt_parser_stmts.specs.declared.turns.Turn.{Turn as CodeTurn}
+use Rattle.qvt_parser_stmts.specs.declared.turns.Turn.TheVariants.{Empty, Closed, Last}
+use Rattle.qvt_parser_stmts.specs.declared.turns.EndedStmts.{EndedStmts}
+
+abbrev pub arms_view : List Arm → List ArmTerm
+arms_view = map arm_view
+
+abbrev pub turn_view : CodeTurn → Turn
+turn_view Empty = inl []
+turn_view (Closed s) = inl (stmt_view s ∷ [])
+turn_view (Last s) = inr (stmt_view s)
+
+abbrev pub ended_view : EndedStmts → Ended
+ended_view e = record { stmts = stmts_view e.stmts; open_end = e.open_end }
+
+abbrev pub assigned_view : Token × Expr → Tok × ExprTerm
+assigned_view (sign, value) = (tok_of sign, expr_view value)

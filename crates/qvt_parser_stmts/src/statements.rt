@@ -1,0 +1,347 @@
+ghost use Rattle.std.specs.Prelude.{◌<◌, ◌≤◌, length, OnOk, ◌≡◌, ◌&&◌, IsTrue, Ok};
+ghost use Rattle.qvt_grammar.specs.Reader.{starts, made_at, then_at, many_at, maybe_at};
+ghost use Rattle.qvt_tree.specs.View.{expr_view, stmt_view, arm_view};
+ghost use Rattle.qvt_parser_grammar.specs.Tokens.{of, is};
+ghost use Rattle.qvt_parser_grammar.specs.Readers.{the_at};
+ghost use Rattle.qvt_parser_grammar.specs.Firsts.{expr_first, assign_first};
+ghost use Rattle.qvt_parser_grammar.specs.Trees.{second, is_there};
+ghost use Rattle.qvt_parser_grammar.specs.StmtTrees.{simple_turn, written_turn, target_in, IsPlain};
+ghost use Rattle.qvt_parser_grammar.specs.Reading.{expr_at};
+ghost use Rattle.qvt_parser_grammar.specs.ReadingStatements.{condition_at, var_stmt_at, return_stmt_at, arm_at, else_part_at, if_stmt_at, while_stmt_at, assignment_at, semicolon_at, lead_tail_at, lead_stmt_at, statement_at, statements_at, block_at};
+ghost use Rattle.qvt_parser_grammar.specs.Nesting.{nested_at};
+ghost use Rattle.qvt_parser_grammar.specs.Options.{option_view};
+ghost use Rattle.qvt_parser_grammar.specs.Gives.{Gives, toks};
+ghost use Rattle.qvt_parser_exprs.specs.Views.{lead_view, stmts_view};
+ghost use Rattle.qvt_parser_exprs.specs.Inside.{IsInside};
+ghost use Rattle.qvt_parser_stmts.specs.Views.{arms_view, turn_view, ended_view, assigned_view};
+
+use crate::made::{add_turn, assign, evaluate, for_each, has_target, into_target};
+use crate::turns::{EndedStmts, Turn};
+use qvt_base::numbers::Place;
+use qvt_base::seq::Seq;
+use qvt_parser_chains::chains::Chains;
+use qvt_parser_exprs::leading::Leading;
+use qvt_parser_exprs::made::finish;
+use qvt_parser_grammar::cursor::{ParseError, Parser};
+use qvt_parser_grammar::token::{Class, Token};
+use qvt_tree::tree::{Arm, Expr, Stmt, Stmts};
+
+/// The calls that read statements, over those that read the expressions in them.
+#[derive(Drop)]
+pub struct Statements<F, G> {
+    pub chains: Chains<F, G>,
+}
+
+/// A statement with the `;` that may stand after it.
+#[tactic(auto, unfolding(qvt_parser_grammar::specs::ReadingStatements::semicolon_at))]
+fn ended(parser: &mut Parser<'_>, stmt: Stmt) -> Turn
+    ensures gives { made_at (λ t. simple_turn (stmt_view stmt, t)) semicolon_at (toks parser.old) ≡ Ok (turn_view result, toks parser.new) }
+    ensures fewer { length (toks parser.new) ≤ length (toks parser.old) }
+{
+    match parser.skip(Class::Semicolon) {
+        Some(_) => Turn::Closed(stmt),
+        None => Turn::Last(stmt),
+    }
+}
+
+/// Whether a target stands before the sign of an assignment.
+fn assigns(parser: &Parser<'_>, lead: &Leading) -> bool
+    ensures { result ≡ (is_there (target_in (lead_view lead.now)) && starts (of assign_first) (toks parser.now)) }
+{
+    has_target(lead) && parser.at_assign()
+}
+
+impl<
+    F: Fn(&mut Parser<'_>) -> Result<Leading, ParseError>,
+    G: Fn(&mut Parser<'_>) -> Result<Stmts, ParseError>,
+> Statements<F, G> {
+    #[tactic(auto, unfolding(qvt_parser_grammar::specs::ReadingStatements::condition_at))]
+    fn condition(&self, parser: &mut Parser<'_>) -> Result<Expr, ParseError>
+        requires { IsInside F.Fn G.Fn self.now.chains.inside }
+        ensures gives { Gives expr_view result (toks parser.new) (condition_at (nested_at self.now.chains.inside.room) (toks parser.old)) }
+        ensures fewer { length (toks parser.new) ≤ length (toks parser.old) }
+        ensures less { OnOk result (length (toks parser.new) < length (toks parser.old)) }
+    {
+        parser.take(Class::OpenRound)?;
+        let condition = self.chains.inside.expr(parser)?;
+        parser.take(Class::CloseRound)?;
+        Ok(condition)
+    }
+
+    #[tactic(auto, unfolding(qvt_parser_grammar::specs::ReadingStatements::var_stmt_at))]
+    fn var_stmt(&self, parser: &mut Parser<'_>) -> Result<Stmt, ParseError>
+        requires { IsInside F.Fn G.Fn self.now.chains.inside }
+        ensures gives { Gives stmt_view result (toks parser.new) (var_stmt_at (nested_at self.now.chains.inside.room) (toks parser.old)) }
+        ensures fewer { length (toks parser.new) ≤ length (toks parser.old) }
+        ensures less { OnOk result (length (toks parser.new) < length (toks parser.old)) }
+    {
+        let place = parser.place();
+        parser.take(Class::VarWord)?;
+        let name = parser.name()?;
+        let kind = parser.optional_type(self.chains.inside.room)?;
+        let value = self.initial(parser)?;
+        Ok(Stmt::Var {
+            name: name.text,
+            kind,
+            value,
+            place,
+        })
+    }
+
+    fn initial(&self, parser: &mut Parser<'_>) -> Result<Option<Expr>, ParseError>
+        requires { IsInside F.Fn G.Fn self.now.chains.inside }
+        ensures gives { Gives (option_view expr_view) result (toks parser.new) (maybe_at (is Class.Becomes) (made_at second (then_at (the_at Class.Becomes) (expr_at (nested_at self.now.chains.inside.room)))) (toks parser.old)) }
+        ensures fewer { length (toks parser.new) ≤ length (toks parser.old) }
+    {
+        if parser.at(Class::Becomes) {
+            parser.take(Class::Becomes)?;
+            let value = self.chains.inside.expr(parser)?;
+            return Ok(Some(value));
+        }
+        Ok(None)
+    }
+
+    #[tactic(auto, unfolding(qvt_parser_grammar::specs::ReadingStatements::return_stmt_at))]
+    fn return_stmt(&self, parser: &mut Parser<'_>) -> Result<Stmt, ParseError>
+        requires { IsInside F.Fn G.Fn self.now.chains.inside }
+        ensures gives { Gives stmt_view result (toks parser.new) (return_stmt_at (nested_at self.now.chains.inside.room) (toks parser.old)) }
+        ensures fewer { length (toks parser.new) ≤ length (toks parser.old) }
+        ensures less { OnOk result (length (toks parser.new) < length (toks parser.old)) }
+    {
+        let place = parser.place();
+        parser.take(Class::ReturnWord)?;
+        let value = self.returned(parser)?;
+        Ok(Stmt::Return { value, place })
+    }
+
+    /// The value after `return`, if there is one.
+    fn returned(&self, parser: &mut Parser<'_>) -> Result<Option<Expr>, ParseError>
+        requires { IsInside F.Fn G.Fn self.now.chains.inside }
+        ensures gives { Gives (option_view expr_view) result (toks parser.new) (maybe_at (of expr_first) (expr_at (nested_at self.now.chains.inside.room)) (toks parser.old)) }
+        ensures fewer { length (toks parser.new) ≤ length (toks parser.old) }
+    {
+        if parser.at_expr() {
+            let value = self.chains.inside.expr(parser)?;
+            return Ok(Some(value));
+        }
+        Ok(None)
+    }
+
+    #[tactic(auto, unfolding(qvt_parser_grammar::specs::ReadingStatements::arm_at))]
+    fn arm(&self, parser: &mut Parser<'_>) -> Result<Arm, ParseError>
+        requires { IsInside F.Fn G.Fn self.now.chains.inside }
+        ensures gives { Gives arm_view result (toks parser.new) (arm_at (nested_at self.now.chains.inside.room) (toks parser.old)) }
+        ensures fewer { length (toks parser.new) ≤ length (toks parser.old) }
+        ensures less { OnOk result (length (toks parser.new) < length (toks parser.old)) }
+    {
+        parser.take(Class::ElifWord)?;
+        let condition = self.condition(parser)?;
+        parser.skip(Class::ThenWord);
+        let body = self.chains.inside.block(parser)?;
+        Ok(Arm { condition, body })
+    }
+
+    fn arms(&self, parser: &mut Parser<'_>) -> Result<Seq<Arm>, ParseError>
+        requires { IsInside F.Fn G.Fn self.now.chains.inside }
+        ensures gives { Gives arms_view result (toks parser.new) (many_at (is Class.ElifWord) (arm_at (nested_at self.now.chains.inside.room)) (toks parser.old)) }
+        ensures fewer { length (toks parser.new) ≤ length (toks parser.old) }
+    {
+        let mut arms = Seq::new(parser.alloc);
+        while parser.at(Class::ElifWord) {
+            let arm = self.arm(parser)?;
+            arms.push(arm)?;
+        }
+        Ok(arms)
+    }
+
+    #[tactic(auto, unfolding(qvt_parser_grammar::specs::ReadingStatements::else_part_at))]
+    fn else_part(&self, parser: &mut Parser<'_>) -> Result<Option<Seq<Stmt>>, ParseError>
+        requires { IsInside F.Fn G.Fn self.now.chains.inside }
+        ensures gives { Gives (option_view stmts_view) result (toks parser.new) (maybe_at (is Class.ElseWord) (else_part_at (nested_at self.now.chains.inside.room)) (toks parser.old)) }
+        ensures fewer { length (toks parser.new) ≤ length (toks parser.old) }
+    {
+        if parser.at(Class::ElseWord) {
+            parser.take(Class::ElseWord)?;
+            let body = self.chains.inside.block(parser)?;
+            return Ok(Some(body));
+        }
+        Ok(None)
+    }
+
+    #[tactic(auto, unfolding(qvt_parser_grammar::specs::ReadingStatements::if_stmt_at))]
+    fn if_stmt(&self, parser: &mut Parser<'_>) -> Result<Stmt, ParseError>
+        requires { IsInside F.Fn G.Fn self.now.chains.inside }
+        ensures gives { Gives stmt_view result (toks parser.new) (if_stmt_at (nested_at self.now.chains.inside.room) (toks parser.old)) }
+        ensures fewer { length (toks parser.new) ≤ length (toks parser.old) }
+        ensures less { OnOk result (length (toks parser.new) < length (toks parser.old)) }
+    {
+        let place = parser.place();
+        parser.take(Class::IfWord)?;
+        let condition = self.condition(parser)?;
+        parser.skip(Class::ThenWord);
+        let body = self.chains.inside.block(parser)?;
+        let arms = self.arms(parser)?;
+        let otherwise = self.else_part(parser)?;
+        parser.skip(Class::EndifWord);
+        Ok(Stmt::If {
+            condition,
+            body,
+            arms,
+            otherwise,
+            place,
+        })
+    }
+
+    #[tactic(auto, unfolding(qvt_parser_grammar::specs::ReadingStatements::while_stmt_at))]
+    fn while_stmt(&self, parser: &mut Parser<'_>) -> Result<Stmt, ParseError>
+        requires { IsInside F.Fn G.Fn self.now.chains.inside }
+        ensures gives { Gives stmt_view result (toks parser.new) (while_stmt_at (nested_at self.now.chains.inside.room) (toks parser.old)) }
+        ensures fewer { length (toks parser.new) ≤ length (toks parser.old) }
+        ensures less { OnOk result (length (toks parser.new) < length (toks parser.old)) }
+    {
+        let place = parser.place();
+        parser.take(Class::WhileWord)?;
+        let condition = self.condition(parser)?;
+        let body = self.chains.inside.block(parser)?;
+        Ok(Stmt::While {
+            condition,
+            body,
+            place,
+        })
+    }
+
+    #[tactic(auto, unfolding(qvt_parser_grammar::specs::ReadingStatements::assignment_at))]
+    fn assignment<'a>(&self, parser: &mut Parser<'a>) -> Result<(Token<'a>, Expr), ParseError>
+        requires { IsInside F.Fn G.Fn self.now.chains.inside }
+        ensures gives { Gives assigned_view result (toks parser.new) (assignment_at (nested_at self.now.chains.inside.room) (toks parser.old)) }
+        ensures fewer { length (toks parser.new) ≤ length (toks parser.old) }
+        ensures less { OnOk result (length (toks parser.new) < length (toks parser.old)) }
+    {
+        let sign = parser.assign_sign()?;
+        let value = self.chains.inside.expr(parser)?;
+        Ok((sign, value))
+    }
+
+    #[tactic(auto, unfolding(qvt_parser_grammar::specs::ReadingStatements::lead_stmt_at))]
+    fn lead_stmt(&self, parser: &mut Parser<'_>) -> Result<Turn, ParseError>
+        requires { IsInside F.Fn G.Fn self.now.chains.inside }
+        ensures gives { Gives turn_view result (toks parser.new) (lead_stmt_at (nested_at self.now.chains.inside.room) (toks parser.old)) }
+        ensures fewer { length (toks parser.new) ≤ length (toks parser.old) }
+        ensures less { OnOk result (length (toks parser.new) < length (toks parser.old)) }
+    {
+        let place = parser.place();
+        let lead = self.chains.lead(parser)?;
+        match lead {
+            Leading::Each { source, part } => Ok(Turn::Closed(for_each(source, part, place))),
+            lead => self.written(parser, lead, place),
+        }
+    }
+
+    /// What stands after an expression at the front of a statement.
+    fn written(
+        &self,
+        parser: &mut Parser<'_>,
+        lead: Leading,
+        place: Place,
+    ) -> Result<Turn, ParseError>
+        requires nested { IsInside F.Fn G.Fn self.now.chains.inside }
+        requires plain { IsPlain (lead_view lead) }
+        ensures gives { Gives turn_view result (toks parser.new) (made_at (written_turn place (lead_view lead)) (lead_tail_at (nested_at self.now.chains.inside.room) (lead_view lead)) (toks parser.old)) }
+        ensures fewer { length (toks parser.new) ≤ length (toks parser.old) }
+    {
+        if assigns(parser, &lead) {
+            return self.assigned(parser, lead, place);
+        }
+        let value = finish(parser.alloc, lead)?;
+        let stmt = evaluate(value, place);
+        Ok(ended(parser, stmt))
+    }
+
+    /// The same, where a target and the sign of an assignment stand.
+    fn assigned(
+        &self,
+        parser: &mut Parser<'_>,
+        lead: Leading,
+        place: Place,
+    ) -> Result<Turn, ParseError>
+        requires nested { IsInside F.Fn G.Fn self.now.chains.inside }
+        requires target { IsTrue (is_there (target_in (lead_view lead))) }
+        requires sign { IsTrue (starts (of assign_first) (toks parser.old)) }
+        ensures gives { Gives turn_view result (toks parser.new) (made_at (written_turn place (lead_view lead)) (lead_tail_at (nested_at self.now.chains.inside.room) (lead_view lead)) (toks parser.old)) }
+        ensures fewer { length (toks parser.new) ≤ length (toks parser.old) }
+    {
+        let target = into_target(parser.alloc, lead)?;
+        let pair = self.assignment(parser)?;
+        let (sign, value) = pair;
+        let stmt = assign(target, sign.class, value, sign.place);
+        Ok(ended(parser, stmt))
+    }
+
+    #[tactic(auto, unfolding(qvt_parser_grammar::specs::ReadingStatements::statement_at))]
+    fn statement(&self, parser: &mut Parser<'_>) -> Result<Turn, ParseError>
+        requires { IsInside F.Fn G.Fn self.now.chains.inside }
+        ensures gives { Gives turn_view result (toks parser.new) (statement_at (nested_at self.now.chains.inside.room) (toks parser.old)) }
+        ensures fewer { length (toks parser.new) ≤ length (toks parser.old) }
+        ensures less { OnOk result (length (toks parser.new) < length (toks parser.old)) }
+    {
+        if parser.at(Class::Semicolon) {
+            parser.take(Class::Semicolon)?;
+            return Ok(Turn::Empty);
+        }
+        if parser.at(Class::IfWord) {
+            let stmt = self.if_stmt(parser)?;
+            return Ok(Turn::Closed(stmt));
+        }
+        if parser.at(Class::WhileWord) {
+            let stmt = self.while_stmt(parser)?;
+            return Ok(Turn::Closed(stmt));
+        }
+        if parser.at(Class::VarWord) {
+            let stmt = self.var_stmt(parser)?;
+            return Ok(ended(parser, stmt));
+        }
+        if parser.at(Class::ReturnWord) {
+            let stmt = self.return_stmt(parser)?;
+            return Ok(ended(parser, stmt));
+        }
+        self.lead_stmt(parser)
+    }
+
+    /// The statements of a block without its braces.
+    #[tactic(auto, unfolding(qvt_parser_grammar::specs::ReadingStatements::statements_at))]
+    pub fn statements(&self, parser: &mut Parser<'_>) -> Result<EndedStmts, ParseError>
+        requires { IsInside F.Fn G.Fn self.now.chains.inside }
+        ensures gives { Gives ended_view result (toks parser.new) (statements_at (nested_at self.now.chains.inside.room) (toks parser.old)) }
+        ensures fewer { length (toks parser.new) ≤ length (toks parser.old) }
+    {
+        let mut stmts = Seq::new(parser.alloc);
+        while parser.at_stmt() {
+            let turn = self.statement(parser)?;
+            let last = add_turn(&mut stmts, turn)?;
+            if last {
+                return Ok(EndedStmts {
+                    stmts,
+                    open_end: true,
+                });
+            }
+        }
+        Ok(EndedStmts {
+            stmts,
+            open_end: false,
+        })
+    }
+
+    /// A block.
+    #[tactic(auto, unfolding(qvt_parser_grammar::specs::ReadingStatements::block_at))]
+    pub fn block_inside(&self, parser: &mut Parser<'_>) -> Result<Seq<Stmt>, ParseError>
+        requires { IsInside F.Fn G.Fn self.now.chains.inside }
+        ensures gives { Gives stmts_view result (toks parser.new) (block_at (nested_at self.now.chains.inside.room) (toks parser.old)) }
+        ensures fewer { length (toks parser.new) ≤ length (toks parser.old) }
+        ensures less { OnOk result (length (toks parser.new) < length (toks parser.old)) }
+    {
+        parser.take(Class::OpenBrace)?;
+        let ended = self.statements(parser)?;
+        parser.take(Class::CloseBrace)?;
+        Ok(ended.stmts)
+    }
+}

@@ -1,0 +1,2 @@
+pub mod LessUnits
+pub mod UnitLoops

@@ -1,0 +1,25 @@
+use Rattle.std.proofs.Common.{◌≡◌, ◌≤◌, ◌<◌, length, map}
+use Rattle.qvt_grammar.specs.Reader.{many_at, made_at, then_at, choose_at, with_front}
+use Rattle.qvt_tree.specs.Module.{param_view, field_view}
+use Rattle.qvt_parser_grammar.specs.Tokens.{is, of}
+use Rattle.qvt_parser_grammar.specs.Readers.{the_at}
+use Rattle.qvt_parser_grammar.specs.Trees.{second, cons_of, nothing}
+use Rattle.qvt_parser_grammar.specs.UnitTrees.{some_unit}
+use Rattle.qvt_parser_grammar.specs.Gives.{toks}
+use Rattle.qvt_parser_grammar.specs.Firsts.{unit_first}
+use Rattle.qvt_parser_grammar.specs.declared.token.Class.TheVariants.{Comma, Name, ModelTypeWord, Semicolon}
+use Rattle.qvt_parser_grammar.specs.ReadingUnits.{param_at, feature_at, model_type_at, model_param_at, unit_at}
+use Rattle.qvt_parser_grammar.specs.Nesting.{nested_at}
+use Rattle.qvt_parser_units.specs.UnitViews.{units_view}
+use Rattle.qvt_parser_units.proofs.LessUnits.{less_unit}
+use Rattle.qvt_parser_units.proofs.UnitLoops.{all_at}
+use Rattle.qvt_parser_units.proofs.units.some_params.Given as goal
+
+abbrev pub invariant-loop-parser : goal.invariant-loop-parser
+invariant-loop-parser l = record {
+  so_far : made_at cons_of (then_at (param_at (nested_at l.room)) (many_at (is Comma) (made_at second (then_at (the_at Comma) (param_at (nested_at l.room)))))) (toks l.fn.parser) ≡ with_front (map param_view l.params) (many_at (is Comma) (made_at second (then_at (the_at Comma) (param_at (nested_at l.room)))) (toks l.parser));
+  fewer : length (toks l.parser) < length (toks l.fn.parser);
+}
+
+abbrev pub decreases-loop-parser : goal.decreases-loop-parser
+decreases-loop-parser l = length (toks l.parser)

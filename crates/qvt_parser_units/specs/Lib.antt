@@ -1,0 +1,2 @@
+pub mod UnitViews
+pub mod Adding
