@@ -10,9 +10,9 @@ here=$(cd "$(dirname "${BASH_SOURCE[0]}")/.." && pwd)
 program="$here/crates/qvt_store_speed/out/qvt_store_speed"
 [ -x "$program" ] || (cd "$here/crates/qvt_store_speed" && rt run -- link 10 20 >/dev/null 2>&1)
 changes=1000000
-spent() { # the least microseconds of nine runs of a form with so many objects and changes
+spent() { # the least microseconds of nine runs, or so many, of a form with so many objects and changes
   local begin end best=0 spent run
-  for run in 1 2 3 4 5 6 7 8 9; do
+  for run in $(seq "${4:-9}"); do
     begin=$(date +%s%N)
     "$program" "$1" "$2" "$3" >/dev/null
     end=$(date +%s%N)
@@ -34,7 +34,7 @@ for form in likes parts; do
   many=$(cost $form 20001 20000)
   echo "$form: 2000 appends $few us, 20000 appends $many us, ratio $(ratio "$many" "$few")"
 done
-start=$(spent link 0 0)
-few=$(($(spent link 2000 0) - start))
-many=$(($(spent link 20000 0) - start))
+start=$(spent link 0 0 200)
+few=$(($(spent link 2000 0 200) - start))
+many=$(($(spent link 20000 0 200) - start))
 echo "objects without links: 2000 $few us, 20000 $many us, ratio $(ratio "$many" "$few")"
