@@ -8,4 +8,4 @@ pub mod lexer;
 pub mod literals;
 mod scan;
 pub mod token;
-mod words;
+pub mod words;

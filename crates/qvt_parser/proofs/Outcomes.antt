@@ -3,8 +3,8 @@ use Rattle.std.proofs.Common.{◌≡◌, ◌≢◌, ℕ, List, refl, sym, ap, �
 use Rattle.std.specs.Result.{IsErrAnd}
 use Rattle.qvt_base.specs.declared.numbers.Place.{Place}
 use Rattle.qvt_lexer.specs.declared.token.LexFault.{LexFault}
-use Rattle.qvt_tree.specs.Module.{ModuleTerm, module_view}
-use Rattle.qvt_tree.specs.declared.module.Module.{Module}
+use Rattle.qvt_tree_types.specs.Module.{ModuleTerm, module_view}
+use Rattle.qvt_tree_types.specs.declared.module.Module.{Module}
 use Rattle.qvt_parser_grammar.specs.Tokens.{Tok}
 use Rattle.qvt_parser_grammar.specs.Module.{Reads, IsFault}
 use Rattle.qvt_parser_tokens.specs.Depth.{deep}

@@ -1,8 +1,8 @@
 -- Which texts are a transformation, and what is wrong with the others.
 use Rattle.std.specs.Prelude.{◌≡◌, ℕ, List, Some, None, Result, Ok, Err}
 use Rattle.qvt_base.specs.declared.numbers.Place.{Place}
-use Rattle.qvt_tree.specs.Module.{ModuleTerm, module_view}
-use Rattle.qvt_tree.specs.declared.module.Module.{Module}
+use Rattle.qvt_tree_types.specs.Module.{ModuleTerm, module_view}
+use Rattle.qvt_tree_types.specs.declared.module.Module.{Module}
 use Rattle.qvt_parser_grammar.specs.Tokens.{Tok}
 use Rattle.qvt_parser_grammar.specs.Gives.{place_of}
 use Rattle.qvt_parser_grammar.specs.Module.{Reads, IsFault}

@@ -1,5 +1,5 @@
 ghost use Rattle.std.specs.Prelude.{◌≡◌, ◌≢◌, ◌+◌, ◌<◌, ◌^◌, length, IfOk, IfErr};
-ghost use Rattle.qvt_tree.specs.Module.{ModuleTerm, module_view};
+ghost use Rattle.qvt_tree_types.specs.Module.{ModuleTerm, module_view};
 ghost use Rattle.qvt_parser_grammar.specs.Tokens.{toks_of};
 ghost use Rattle.qvt_parser_grammar.specs.Module.{Reads};
 ghost use Rattle.qvt_parser.specs.Parsing.{IsTransformation, IsFaultOf, IsReadAs};
@@ -13,7 +13,7 @@ use qvt_parser_grammar::token::Token;
 use qvt_parser_tokens::depth::deep;
 use qvt_parser_tokens::text::{borrowed, read};
 use qvt_parser_units::units::transformation;
-use qvt_tree::module::Module;
+use qvt_tree_types::module::Module;
 use std::alloc::Global;
 
 /// The transformation of these tokens, after which `end` stands. They are not too deep.

@@ -3,7 +3,7 @@ ghost use Rattle.qvt_grammar.specs.Reader.{made_at, follow_at, many_at, ended_at
 ghost use Rattle.qvt_parser_grammar.specs.Readers.{placed_at};
 ghost use Rattle.qvt_parser_grammar.specs.Grammar.{level_of};
 ghost use Rattle.qvt_parser_grammar.specs.Trees.{chain_of};
-ghost use Rattle.qvt_tree.specs.View.{link_view};
+ghost use Rattle.qvt_tree_types.specs.View.{link_view};
 ghost use Rattle.qvt_parser_grammar.specs.Tokens.{of};
 ghost use Rattle.qvt_parser_grammar.specs.Firsts.{step_first};
 ghost use Rattle.qvt_parser_grammar.specs.Reading.{operators, post_at, signed_post_at, pre_at, each_tail_at, lead_step_at, link_at, links_at, chain_at, lead_post_at, lead_pre_at, lead_at};
@@ -19,7 +19,7 @@ use qvt_parser_exprs::leading::{EachTail, LeadStep, Leading};
 use qvt_parser_exprs::made::finish;
 use qvt_parser_grammar::cursor::{ParseError, Parser};
 use qvt_parser_grammar::token::Class;
-use qvt_tree::tree::{Link, Step, Stmts};
+use qvt_tree_types::tree::{Link, Step, Stmts};
 
 /// The calls that read steps and chains of operands, over those that read the expressions in them.
 #[derive(Drop)]

@@ -1,6 +1,6 @@
 ghost use Rattle.std.specs.Prelude.{◌≡◌, ◌<◌, ◌∷◌, ◌++◌, []};
-ghost use Rattle.qvt_tree.specs.Tree.{PathExpr};
-ghost use Rattle.qvt_tree.specs.View.{expr_view};
+ghost use Rattle.qvt_tree_types.specs.Tree.{PathExpr};
+ghost use Rattle.qvt_tree_types.specs.View.{expr_view};
 ghost use Rattle.qvt_parser_grammar.specs.Leads.{Plain};
 ghost use Rattle.qvt_parser_grammar.specs.Trees as trees;
 ghost use Rattle.qvt_parser_grammar.specs.Grammar as grammar;
@@ -15,9 +15,9 @@ use qvt_parser_exprs::made::{finish, posted};
 use qvt_parser_grammar::cursor::ParseError;
 use qvt_parser_grammar::named::Named;
 use qvt_parser_grammar::token::Class;
-use qvt_tree::tree::{Expr, Link, Step};
-use qvt_tree::types::PathTree;
-use qvt_tree::words::{BinaryOp, Level, Sign};
+use qvt_tree_types::tree::{Expr, Link, Step};
+use qvt_tree_types::types::PathTree;
+use qvt_tree_types::words::{BinaryOp, Level, Sign};
 use std::alloc::Global;
 
 /// The operator of the sign. `==` means `=`, and `!=` means `<>`.

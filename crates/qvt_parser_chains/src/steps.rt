@@ -1,6 +1,6 @@
 ghost use Rattle.std.specs.Prelude.{◌<◌, ◌≤◌, IsTrue, length, OnOk};
 ghost use Rattle.qvt_grammar.specs.Reader.{starts, made_at, then_at, many_at, maybe_at};
-ghost use Rattle.qvt_tree.specs.View.{expr_view, step_view, accumulator_view};
+ghost use Rattle.qvt_tree_types.specs.View.{expr_view, step_view, accumulator_view};
 ghost use Rattle.qvt_parser_grammar.specs.Tokens.{of, is};
 ghost use Rattle.qvt_parser_grammar.specs.Firsts.{head_first, step_first};
 ghost use Rattle.qvt_parser_grammar.specs.Trees.{dot_of, arrow_of, with_first};
@@ -18,8 +18,8 @@ use qvt_parser_exprs::leading::Leading;
 use qvt_parser_exprs::made::finish;
 use qvt_parser_grammar::cursor::{ParseError, Parser};
 use qvt_parser_grammar::token::Class;
-use qvt_tree::tree::{Accumulator, Expr, Head, Step, Stmts};
-use qvt_tree::types::TypeTree;
+use qvt_tree_types::tree::{Accumulator, Expr, Head, Step, Stmts};
+use qvt_tree_types::types::TypeTree;
 
 impl<
     F: Fn(&mut Parser<'_>) -> Result<Leading, ParseError>,

@@ -1,9 +1,9 @@
 -- Steps that join the steps before them.
 use Rattle.std.proofs.Common.{◌≡◌, List, [], ◌∷◌, ◌++◌, map, refl, sym, ap, ◌∙◌, Result, Ok, Err}
 use Rattle.std.proofs.lemmas.List.{map-append}
-use Rattle.qvt_tree.specs.Tree.{StepTerm, MoreSteps}
-use Rattle.qvt_tree.specs.View.{step_view, steps_of}
-use Rattle.qvt_tree.specs.declared.tree.Step.{Step}
+use Rattle.qvt_tree_types.specs.Tree.{StepTerm, MoreSteps}
+use Rattle.qvt_tree_types.specs.View.{step_view, steps_of}
+use Rattle.qvt_tree_types.specs.declared.tree.Step.{Step}
 use Rattle.qvt_parser_grammar.specs.declared.cursor.ParseError.{ParseError}
 use Rattle.qvt_parser_grammar.specs.declared.cursor.ParseError.TheVariants.{NoMemory, Syntax}
 use Rattle.qvt_parser_grammar.specs.Gives.{Makes, same}

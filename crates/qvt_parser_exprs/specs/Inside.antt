@@ -2,7 +2,7 @@
 use Rattle.std.specs.Prelude.{◌≤◌, List, length, Result}
 use Rattle.std.specs.Fn.{Shared, always_fn}
 use denote.Ref.{MutBor}
-use Rattle.qvt_tree.specs.declared.tree.Stmt.{Stmt}
+use Rattle.qvt_tree_types.specs.declared.tree.Stmt.{Stmt}
 use Rattle.qvt_parser_grammar.specs.declared.cursor.ParseError.{ParseError}
 use Rattle.qvt_parser_grammar.specs.declared.cursor.Parser.{Parser}
 use Rattle.qvt_parser_grammar.specs.Tokens.{Tok}

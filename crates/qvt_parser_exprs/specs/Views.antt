@@ -2,19 +2,19 @@
 use Rattle.std.specs.Prelude.{ℕ, Bool, true, false, List, [], ◌∷◌, map, Option, Some, None, ◌⊎◌}
 use Rattle.std.proofs.Common.{inl, inr}
 use Rattle.qvt_base.specs.declared.numbers.Place.{Place}
-use Rattle.qvt_tree.specs.Tree.{TypeTerm, ExprTerm, OptionalExpr, HeadTerm, ItemTerm, LinkTerm, StepTerm, FilterTerm, RangeTerm, AccumulatorTerm, StmtTerm, ArmTerm, PathExpr, ResultExpr, TargetTerm, BareTarget, ResultTarget}
-use Rattle.qvt_tree.specs.View.{type_view, optional_type, optional_expr, expr_view, item_view, link_view, step_view, filter_view, range_view, accumulator_view, head_view, optional_head, stmt_view, arm_view}
-use Rattle.qvt_tree.specs.declared.types.TypeTree.{TypeTree}
-use Rattle.qvt_tree.specs.declared.tree.Expr.{Expr}
-use Rattle.qvt_tree.specs.declared.tree.Item.{Item}
-use Rattle.qvt_tree.specs.declared.tree.Link.{Link}
-use Rattle.qvt_tree.specs.declared.tree.Step.{Step}
-use Rattle.qvt_tree.specs.declared.tree.Stmt.{Stmt}
-use Rattle.qvt_tree.specs.declared.tree.Filter.{Filter}
-use Rattle.qvt_tree.specs.declared.tree.Head.{Head}
-use Rattle.qvt_tree.specs.declared.tree.Accumulator.{Accumulator}
-use Rattle.qvt_tree.specs.declared.types.PathTree.{PathTree}
-use Rattle.qvt_tree.specs.declared.words.ResolveWord.{ResolveWord}
+use Rattle.qvt_tree_types.specs.Tree.{TypeTerm, ExprTerm, OptionalExpr, HeadTerm, ItemTerm, LinkTerm, StepTerm, FilterTerm, RangeTerm, AccumulatorTerm, StmtTerm, ArmTerm, PathExpr, ResultExpr, TargetTerm, BareTarget, ResultTarget}
+use Rattle.qvt_tree_types.specs.View.{type_view, optional_type, optional_expr, expr_view, item_view, link_view, step_view, filter_view, range_view, accumulator_view, head_view, optional_head, stmt_view, arm_view}
+use Rattle.qvt_tree_types.specs.declared.types.TypeTree.{TypeTree}
+use Rattle.qvt_tree_types.specs.declared.tree.Expr.{Expr}
+use Rattle.qvt_tree_types.specs.declared.tree.Item.{Item}
+use Rattle.qvt_tree_types.specs.declared.tree.Link.{Link}
+use Rattle.qvt_tree_types.specs.declared.tree.Step.{Step}
+use Rattle.qvt_tree_types.specs.declared.tree.Stmt.{Stmt}
+use Rattle.qvt_tree_types.specs.declared.tree.Filter.{Filter}
+use Rattle.qvt_tree_types.specs.declared.tree.Head.{Head}
+use Rattle.qvt_tree_types.specs.declared.tree.Accumulator.{Accumulator}
+use Rattle.qvt_tree_types.specs.declared.types.PathTree.{PathTree}
+use Rattle.qvt_tree_types.specs.declared.words.ResolveWord.{ResolveWord}
 use Rattle.qvt_parser_grammar.specs.Tokens.{Tok, tok_of}
 use Rattle.qvt_parser_exprs.specs.declared.leading.LeadStep.{LeadStep}
 use Rattle.qvt_parser_exprs.specs.declared.leading.LeadStep.TheVariants.{Step as OneStep, Each as EachStep}

@@ -1,6 +1,6 @@
 ghost use Rattle.std.specs.Prelude.{◌<◌, ◌≤◌, length, OnOk};
 ghost use Rattle.qvt_grammar.specs.Reader.{made_at, then_at, choose_at, many_at, maybe_at};
-ghost use Rattle.qvt_tree.specs.View.{expr_view, item_view, filter_view, range_view, map_view, resolve_view};
+ghost use Rattle.qvt_tree_types.specs.View.{expr_view, item_view, filter_view, range_view, map_view, resolve_view};
 ghost use Rattle.qvt_parser_grammar.specs.Tokens.{of, is};
 ghost use Rattle.qvt_parser_grammar.specs.Readers.{the_at};
 ghost use Rattle.qvt_parser_grammar.specs.Firsts.{all_first};
@@ -20,9 +20,9 @@ use qvt_base::text::Text;
 use qvt_parser_grammar::cursor::{ParseError, Parser};
 use qvt_parser_grammar::names::{coll_kind, path_of};
 use qvt_parser_grammar::token::Class;
-use qvt_tree::tree::{Expr, Filter, Item, MapCall, RangeEnd, ResolveCall, Stmts};
-use qvt_tree::types::{PathTree, TypeTree};
-use qvt_tree::words::ResolveWord;
+use qvt_tree_types::tree::{Expr, Filter, Item, MapCall, RangeEnd, ResolveCall, Stmts};
+use qvt_tree_types::types::{PathTree, TypeTree};
+use qvt_tree_types::words::ResolveWord;
 
 impl<
     F: Fn(&mut Parser<'_>) -> Result<Leading, ParseError>,

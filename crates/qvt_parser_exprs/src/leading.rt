@@ -1,8 +1,8 @@
 use qvt_base::numbers::Place;
 use qvt_base::text::Text;
 use qvt_parser_grammar::named::Named;
-use qvt_tree::tree::{Expr, Step, StepList, Stmts};
-use qvt_tree::types::TypeTree;
+use qvt_tree_types::tree::{Expr, Step, StepList, Stmts};
+use qvt_tree_types::types::TypeTree;
 
 /// A primary, and whether it stands without brackets.
 #[derive(Drop)]

@@ -1,6 +1,6 @@
 ghost use Rattle.std.specs.Prelude.{◌≡◌, ◌++◌};
-ghost use Rattle.qvt_tree.specs.Tree.{IfExpr};
-ghost use Rattle.qvt_tree.specs.View.{expr_view, steps_of};
+ghost use Rattle.qvt_tree_types.specs.Tree.{IfExpr};
+ghost use Rattle.qvt_tree_types.specs.View.{expr_view, steps_of};
 ghost use Rattle.qvt_parser_grammar.specs.Trees as trees;
 ghost use Rattle.qvt_parser_exprs.specs.Views.{lead_view, steps_view};
 ghost use Rattle.qvt_parser_grammar.specs.Gives.{Makes, same};
@@ -10,9 +10,9 @@ use qvt_base::numbers::Place;
 use qvt_base::seq::Seq;
 use qvt_parser_grammar::cursor::ParseError;
 use qvt_parser_grammar::token::Class;
-use qvt_tree::tree::{Expr, Step};
-use qvt_tree::types::PathTree;
-use qvt_tree::words::ResolveWord;
+use qvt_tree_types::tree::{Expr, Step};
+use qvt_tree_types::types::PathTree;
+use qvt_tree_types::words::ResolveWord;
 use std::alloc::Global;
 
 /// Whether the word of a mapping call is `xmap`.

@@ -4,8 +4,8 @@ use Rattle.qvt_base.specs.declared.numbers.Place.{Place}
 use Rattle.qvt_grammar.specs.Language.{Language, then, made}
 use Rattle.qvt_grammar.proofs.Firsts.{Within}
 use Rattle.qvt_grammar.proofs.Lists.{nil_right}
-use Rattle.qvt_tree.specs.Tree.{ExprTerm, StepTerm, LinkTerm, StmtTerm, TargetTerm}
-use Rattle.qvt_tree.specs.declared.words.Sign.{Sign}
+use Rattle.qvt_tree_types.specs.Tree.{ExprTerm, StepTerm, LinkTerm, StmtTerm, TargetTerm}
+use Rattle.qvt_tree_types.specs.declared.words.Sign.{Sign}
 use Rattle.qvt_parser_grammar.specs.Tokens.{Tok, of, code_of}
 use Rattle.qvt_parser_grammar.specs.declared.token.Class.TheVariants.{NotWord, MinusSign, Dot, Arrow, OpenRound, ForEachWord, Becomes, PlusEqual, Semicolon, Colon, OpenBrace, CloseBrace, IfWord, WhileWord, VarWord, ReturnWord, ElifWord, ElseWord, EndifWord}
 use Rattle.qvt_parser_grammar.specs.Readers.{Reader}

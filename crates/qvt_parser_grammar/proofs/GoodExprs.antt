@@ -2,7 +2,7 @@
 use Rattle.std.specs.Prelude.{ℕ, [], ◌∷◌}
 use Rattle.std.proofs.Common.{inl, inr}
 use Rattle.std.proofs.Common.{true, false, refl}
-use Rattle.qvt_tree.specs.Tree.{PathType, MapExpr, ResolveExpr, DotMapStep, DotResolveStep}
+use Rattle.qvt_tree_types.specs.Tree.{PathType, MapExpr, ResolveExpr, DotMapStep, DotResolveStep}
 use Rattle.qvt_parser_grammar.specs.Tokens.{code_of}
 use Rattle.qvt_parser_grammar.specs.Firsts.{kind_first, map_first, all_first, resolve_first, literal_first, word_first, primary_first, expr_first, expr_next}
 use Rattle.qvt_parser_grammar.specs.Grammar.{Nested, name, more_names, path, paths, unit_path, extent, kind_word, coll_type, typed, colon_type, expr, exprs, args, literal, word, named_expr, item, coll, if_expr, colon_path, object_head, object, new_expr, map_call, filter_head, bar_expr, filter, all_word, in_word, all_form, in_form, resolve, brackets, longer, bare_expr, other_primary, primary, dot_rest, dot_step, accumulator, head_rest, more_exprs}

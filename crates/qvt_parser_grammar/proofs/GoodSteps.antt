@@ -2,7 +2,7 @@
 use Rattle.std.specs.Prelude.{ℕ, [], ◌∷◌, Some}
 use Rattle.std.proofs.Common.{inl, inr}
 use Rattle.std.proofs.Common.{true, false, refl}
-use Rattle.qvt_tree.specs.Tree.{ArrowMapStep, ArrowResolveStep, BareTarget}
+use Rattle.qvt_tree_types.specs.Tree.{ArrowMapStep, ArrowResolveStep, BareTarget}
 use Rattle.qvt_parser_grammar.specs.Tokens.{code_of}
 use Rattle.qvt_parser_grammar.specs.Firsts.{map_first, resolve_first, primary_first, expr_first, expr_next, head_first, step_first, sign_first}
 use Rattle.qvt_parser_grammar.specs.Leads.{Lead, Plain}

@@ -3,8 +3,8 @@ use Rattle.std.proofs.Common.{◌≡◌, ℕ, zero, suc, List, [], ◌∷◌, �
 use Rattle.qvt_grammar.specs.Language.{Language, never}
 use Rattle.qvt_grammar.specs.Reader.{Exact}
 use Rattle.qvt_grammar.proofs.Wider.{Sub}
-use Rattle.qvt_tree.specs.Tree.{IntExpr, PathType}
-use Rattle.qvt_tree.specs.Module.{ModuleTerm}
+use Rattle.qvt_tree_types.specs.Tree.{IntExpr, PathType}
+use Rattle.qvt_tree_types.specs.Module.{ModuleTerm}
 use Rattle.qvt_parser_grammar.specs.Tokens.{Tok, of}
 use Rattle.qvt_parser_grammar.specs.declared.token.Class.TheVariants.{Integer, Name, OpenBrace, CloseBrace}
 use Rattle.qvt_parser_grammar.specs.Readers.{nowhere}

@@ -2,7 +2,7 @@
 use Rattle.std.proofs.Common.{◌≡◌, ℕ, zero, suc, ◌+◌, ◌≤◌, ◌<◌, List, [], ◌∷◌, ◌++◌, length, true, false, inl, inr, refl, sym, ap, ◌∙◌, subst, Ok, Err, arith, append-nil, length-append}
 use Rattle.qvt_grammar.specs.Reader.{At, Answer, Exact}
 use Rattle.qvt_grammar.proofs.Wider.{Sub, sub_same, sub_trans}
-use Rattle.qvt_tree.specs.Module.{ModuleTerm}
+use Rattle.qvt_tree_types.specs.Module.{ModuleTerm}
 use Rattle.qvt_parser_grammar.specs.Tokens.{Tok, of}
 use Rattle.qvt_parser_grammar.specs.Firsts.{unit_first}
 use Rattle.qvt_parser_grammar.specs.Gives.{is_nil}

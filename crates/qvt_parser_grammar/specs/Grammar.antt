@@ -2,13 +2,13 @@
 use Rattle.std.specs.Prelude.{ℕ, zero, suc, Bool, List, Option, Some, ◌⊎◌}
 use Rattle.std.proofs.Common.{inl, inr}
 use Rattle.qvt_grammar.specs.Language.{Language, then, either, follow, many, made, never, empty, maybe}
-use Rattle.qvt_tree.specs.Tree.{TypeTerm, PathType, ExprTerm, MapExpr, ResolveExpr, ItemTerm, MapTerm, ResolveTerm, FilterTerm, HeadTerm, AccumulatorTerm, StepTerm, DotMapStep, DotResolveStep, ArrowMapStep, ArrowResolveStep, LinkTerm, BareTarget, StmtTerm}
-use Rattle.qvt_tree.specs.declared.types.PathTree.{PathTree}
-use Rattle.qvt_tree.specs.declared.types.ObjectVar.{ObjectVar}
-use Rattle.qvt_tree.specs.declared.words.Level.{Level}
-use Rattle.qvt_tree.specs.declared.words.Level.TheVariants as levels
-use Rattle.qvt_tree.specs.declared.words.Sign.{Sign}
-use Rattle.qvt_tree.specs.declared.words.ResolveWord.{ResolveWord}
+use Rattle.qvt_tree_types.specs.Tree.{TypeTerm, PathType, ExprTerm, MapExpr, ResolveExpr, ItemTerm, MapTerm, ResolveTerm, FilterTerm, HeadTerm, AccumulatorTerm, StepTerm, DotMapStep, DotResolveStep, ArrowMapStep, ArrowResolveStep, LinkTerm, BareTarget, StmtTerm}
+use Rattle.qvt_tree_types.specs.declared.types.PathTree.{PathTree}
+use Rattle.qvt_tree_types.specs.declared.types.ObjectVar.{ObjectVar}
+use Rattle.qvt_tree_types.specs.declared.words.Level.{Level}
+use Rattle.qvt_tree_types.specs.declared.words.Level.TheVariants as levels
+use Rattle.qvt_tree_types.specs.declared.words.Sign.{Sign}
+use Rattle.qvt_tree_types.specs.declared.words.ResolveWord.{ResolveWord}
 use Rattle.qvt_parser_grammar.specs.declared.named.Named.{Named}
 use Rattle.qvt_parser_grammar.specs.declared.named.UnitPath.{UnitPath}
 use Rattle.qvt_parser_grammar.specs.declared.token.Class.TheVariants.{Name, Integer, Str, OpenRound, CloseRound, OpenBrace, CloseBrace, Comma, Semicolon, Colon, DoubleColon, Dot, DotDot, Arrow, Bar, AtSign, EqualSign, DoubleEqual, Diamond, BangEqual, LessSign, AtMost, GreaterSign, AtLeast, PlusSign, MinusSign, Star, AndWord, BagWord, ElseWord, EndifWord, FalseWord, ForEachWord, IfWord, ImpliesWord, InvResolveWord, InvResolveInWord, InvResolveOneWord, InvResolveOneInWord, LateWord, MapWord, NewWord, NotWord, NullWord, ObjectWord, OrWord, OrderedSetWord, ResolveAllWord, ResolveInWord, ResolveOneWord, ResolveOneInWord, ResultWord, SelfWord, SequenceWord, SetWord, ThenWord, TrueWord, XmapWord, XorWord}

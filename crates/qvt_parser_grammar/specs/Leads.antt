@@ -1,6 +1,6 @@
 -- Values on the way to the tree: expressions that may be targets, and the parts of statements.
 use Rattle.std.specs.Prelude.{ℕ, Bool, List, Option}
-use Rattle.qvt_tree.specs.Tree.{TypeTerm, ExprTerm, OptionalExpr, StmtTerm, TargetTerm}
+use Rattle.qvt_tree_types.specs.Tree.{TypeTerm, ExprTerm, OptionalExpr, StmtTerm, TargetTerm}
 
 -- after the source of a `forEach`: the variable with its type, the condition and the body
 pub record EachPart : Type 0 where

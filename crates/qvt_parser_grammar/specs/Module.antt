@@ -1,6 +1,6 @@
 -- Which lists of tokens are a transformation, which are the beginning of one, and where the first fault is.
 use Rattle.std.specs.Prelude.{◌≡◌, ◌≤◌, ◌++◌, length, ℕ, List}
-use Rattle.qvt_tree.specs.Module.{ModuleTerm}
+use Rattle.qvt_tree_types.specs.Module.{ModuleTerm}
 use Rattle.qvt_parser_grammar.specs.Tokens.{Tok}
 use Rattle.qvt_parser_grammar.specs.Units.{transformation}
 use Rattle.qvt_parser_grammar.specs.Nesting.{nested}

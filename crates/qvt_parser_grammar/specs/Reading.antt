@@ -3,11 +3,11 @@ use Rattle.std.specs.Prelude.{ℕ, zero, suc, Bool, List, [], ◌∷◌, Option,
 use Rattle.std.proofs.Common.{inl, inr}
 use Rattle.std.specs.Prelude.{Err}
 use Rattle.qvt_grammar.specs.Reader.{At, then_at, choose_at, follow_at, many_at, made_at, empty_at, maybe_at, ended_at}
-use Rattle.qvt_tree.specs.Tree.{TypeTerm, PathType, ExprTerm, MapExpr, ResolveExpr, ItemTerm, MapTerm, ResolveTerm, FilterTerm, HeadTerm, AccumulatorTerm, StepTerm, DotMapStep, DotResolveStep, ArrowMapStep, ArrowResolveStep, LinkTerm, BareTarget, StmtTerm}
-use Rattle.qvt_tree.specs.declared.types.PathTree.{PathTree}
-use Rattle.qvt_tree.specs.declared.types.ObjectVar.{ObjectVar}
-use Rattle.qvt_tree.specs.declared.words.Sign.{Sign}
-use Rattle.qvt_tree.specs.declared.words.ResolveWord.{ResolveWord}
+use Rattle.qvt_tree_types.specs.Tree.{TypeTerm, PathType, ExprTerm, MapExpr, ResolveExpr, ItemTerm, MapTerm, ResolveTerm, FilterTerm, HeadTerm, AccumulatorTerm, StepTerm, DotMapStep, DotResolveStep, ArrowMapStep, ArrowResolveStep, LinkTerm, BareTarget, StmtTerm}
+use Rattle.qvt_tree_types.specs.declared.types.PathTree.{PathTree}
+use Rattle.qvt_tree_types.specs.declared.types.ObjectVar.{ObjectVar}
+use Rattle.qvt_tree_types.specs.declared.words.Sign.{Sign}
+use Rattle.qvt_tree_types.specs.declared.words.ResolveWord.{ResolveWord}
 use Rattle.qvt_parser_grammar.specs.declared.named.Named.{Named}
 use Rattle.qvt_parser_grammar.specs.declared.named.UnitPath.{UnitPath}
 use Rattle.qvt_parser_grammar.specs.declared.token.Class.TheVariants.{Name, Integer, Str, OpenRound, CloseRound, OpenBrace, CloseBrace, Comma, Semicolon, Colon, DoubleColon, Dot, DotDot, Arrow, Bar, AtSign, EqualSign, DoubleEqual, Diamond, BangEqual, LessSign, AtMost, GreaterSign, AtLeast, PlusSign, MinusSign, Star, AndWord, BagWord, ElseWord, EndifWord, FalseWord, ForEachWord, IfWord, ImpliesWord, InvResolveWord, InvResolveInWord, InvResolveOneWord, InvResolveOneInWord, LateWord, MapWord, NewWord, NotWord, NullWord, ObjectWord, OrWord, OrderedSetWord, ResolveAllWord, ResolveInWord, ResolveOneWord, ResolveOneInWord, ResultWord, SelfWord, SequenceWord, SetWord, ThenWord, TrueWord, XmapWord, XorWord}

@@ -1,6 +1,6 @@
 -- The readers of statements and blocks, production by production.
 use Rattle.std.specs.Prelude.{List, Option, Some, None}
-use Rattle.qvt_tree.specs.Tree.{ExprTerm, StmtTerm, ArmTerm}
+use Rattle.qvt_tree_types.specs.Tree.{ExprTerm, StmtTerm, ArmTerm}
 use Rattle.qvt_grammar.specs.Reader.{then_at, choose_at, follow_at, many_at, made_at, empty_at, maybe_at, ended_at}
 use Rattle.qvt_parser_grammar.specs.declared.token.Class.TheVariants.{OpenRound, CloseRound, OpenBrace, CloseBrace, Semicolon, Colon, Becomes, PlusEqual, ElifWord, ElseWord, EndifWord, IfWord, ReturnWord, ThenWord, VarWord, WhileWord}
 use Rattle.qvt_parser_grammar.specs.Tokens.{Tok, of, is}

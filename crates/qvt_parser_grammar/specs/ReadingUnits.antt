@@ -1,10 +1,10 @@
 -- The readers of units and of the module, production by production.
 use Rattle.std.specs.Prelude.{ℕ, zero, suc, Bool, true, false, List, Option}
-use Rattle.qvt_tree.specs.Tree.{ExprTerm, StmtTerm}
-use Rattle.qvt_tree.specs.Module.{TypedName, UnitTerm, ModuleTerm}
-use Rattle.qvt_tree.specs.declared.module.ResultDecl.{ResultDecl}
-use Rattle.qvt_tree.specs.declared.module.ModelType.{ModelType}
-use Rattle.qvt_tree.specs.declared.module.ModelParam.{ModelParam}
+use Rattle.qvt_tree_types.specs.Tree.{ExprTerm, StmtTerm}
+use Rattle.qvt_tree_types.specs.Module.{TypedName, UnitTerm, ModuleTerm}
+use Rattle.qvt_tree_types.specs.declared.module.ResultDecl.{ResultDecl}
+use Rattle.qvt_tree_types.specs.declared.module.ModelType.{ModelType}
+use Rattle.qvt_tree_types.specs.declared.module.ModelParam.{ModelParam}
 use Rattle.qvt_parser_grammar.specs.Leads.{Ended}
 use Rattle.qvt_grammar.specs.Reader.{token_at, then_at, choose_at, follow_at, many_at, made_at, empty_at, maybe_at}
 use Rattle.qvt_parser_grammar.specs.declared.token.Class.TheVariants.{Name, Str, OpenRound, CloseRound, OpenBrace, CloseBrace, Comma, Semicolon, Colon, EqualSign, ClassWord, ConstructorWord, DisjunctsWord, EndWord, ExtendsWord, HelperWord, InWord, InheritsWord, InitWord, InoutWord, IntermediateWord, MainWord, MappingWord, MergesWord, ModelTypeWord, OutWord, PopulationWord, QueryWord, TransformationWord, UsesWord, WhenWord}

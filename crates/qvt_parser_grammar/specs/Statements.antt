@@ -1,6 +1,6 @@
 -- The productions of statements and blocks (QVT 1.3, 8.2.2 and 8.4).
 use Rattle.std.specs.Prelude.{List, Option, Some, None}
-use Rattle.qvt_tree.specs.Tree.{ExprTerm, StmtTerm, ArmTerm}
+use Rattle.qvt_tree_types.specs.Tree.{ExprTerm, StmtTerm, ArmTerm}
 use Rattle.qvt_grammar.specs.Language.{Language, then, either, follow, many, made, empty, maybe}
 use Rattle.qvt_parser_grammar.specs.declared.token.Class.TheVariants.{OpenRound, CloseRound, OpenBrace, CloseBrace, Semicolon, Becomes, PlusEqual, ElifWord, ElseWord, EndifWord, IfWord, ReturnWord, ThenWord, VarWord, WhileWord}
 use Rattle.qvt_parser_grammar.specs.Tokens.{Tok}

@@ -2,8 +2,8 @@
 use Rattle.std.specs.Prelude.{Bool, true, false, List, [], ◌∷◌, ◌++◌, Option, Some, None, ◌⊎◌}
 use Rattle.std.proofs.Common.{inl, inr}
 use Rattle.qvt_base.specs.declared.numbers.Place.{Place}
-use Rattle.qvt_tree.specs.Tree.{TypeTerm, ExprTerm, StmtTerm, VarStmt, AssignStmt, ReturnStmt, ValueStmt, IfStmt, WhileStmt, ForEachStmt, ArmTerm, ArmOf, TargetTerm}
-use Rattle.qvt_tree.specs.View.{stmts_of, arms_of, optional_expr, optional_else}
+use Rattle.qvt_tree_types.specs.Tree.{TypeTerm, ExprTerm, StmtTerm, VarStmt, AssignStmt, ReturnStmt, ValueStmt, IfStmt, WhileStmt, ForEachStmt, ArmTerm, ArmOf, TargetTerm}
+use Rattle.qvt_tree_types.specs.View.{stmts_of, arms_of, optional_expr, optional_else}
 use Rattle.qvt_parser_grammar.specs.declared.named.Named.{Named}
 use Rattle.qvt_parser_grammar.specs.declared.token.Class.{Class}
 use Rattle.qvt_parser_grammar.specs.declared.token.Class.TheVariants.{PlusEqual}

@@ -2,21 +2,21 @@
 use Rattle.std.specs.Prelude.{ℕ, Bool, true, false, List, [], ◌∷◌, ◌++◌, map, Option, Some, None, ◌⊎◌}
 use Rattle.std.proofs.Common.{inl, inr}
 use Rattle.qvt_base.specs.declared.numbers.Place.{Place}
-use Rattle.qvt_tree.specs.Tree.{TypeTerm, CollType, PathType, ExprTerm, LinkTerm, ItemTerm, RangeTerm, MapTerm, ResolveTerm, FilterTerm, HeadTerm, AccumulatorTerm, StepTerm, StepTerms, TargetTerm, StmtTerm}
-use Rattle.qvt_tree.specs.Tree.{IntExpr, StrExpr, BoolExpr, NullExpr, SelfExpr, ResultExpr, PathExpr, CallExpr, CollExpr, IfExpr, ObjectExpr, NewExpr, ChainExpr, PrefixExpr, PostExpr, NoArgs, LinkOf, ItemOf, RangeTo, MapOf, ResolveOf, FilterOf, NoHead, HeadOf, AccumulatorOf, DotStep, ArrowStep, NoSteps, MoreSteps, BareTarget, ResultTarget, MemberTarget}
-use Rattle.qvt_tree.specs.View.{exprs_of, links_of, items_of, steps_of, stmts_of, optional_expr, optional_args, optional_range, optional_filter, optional_accumulator}
-use Rattle.qvt_tree.specs.declared.types.PathTree.{PathTree}
-use Rattle.qvt_tree.specs.declared.types.ObjectVar.{ObjectVar}
-use Rattle.qvt_tree.specs.declared.types.ObjectVar.TheVariants as variables
-use Rattle.qvt_tree.specs.declared.words.CollKind.{CollKind}
-use Rattle.qvt_tree.specs.declared.words.CollKind.TheVariants as kinds
-use Rattle.qvt_tree.specs.declared.words.Level.{Level}
-use Rattle.qvt_tree.specs.declared.words.BinaryOp.{BinaryOp}
-use Rattle.qvt_tree.specs.declared.words.BinaryOp.TheVariants as operators
-use Rattle.qvt_tree.specs.declared.words.PrefixOp.TheVariants as prefixes
-use Rattle.qvt_tree.specs.declared.words.Sign.{Sign}
-use Rattle.qvt_tree.specs.declared.words.ResolveWord.{ResolveWord}
-use Rattle.qvt_tree.specs.declared.words.ResolveWord.TheVariants as resolves
+use Rattle.qvt_tree_types.specs.Tree.{TypeTerm, CollType, PathType, ExprTerm, LinkTerm, ItemTerm, RangeTerm, MapTerm, ResolveTerm, FilterTerm, HeadTerm, AccumulatorTerm, StepTerm, StepTerms, TargetTerm, StmtTerm}
+use Rattle.qvt_tree_types.specs.Tree.{IntExpr, StrExpr, BoolExpr, NullExpr, SelfExpr, ResultExpr, PathExpr, CallExpr, CollExpr, IfExpr, ObjectExpr, NewExpr, ChainExpr, PrefixExpr, PostExpr, NoArgs, LinkOf, ItemOf, RangeTo, MapOf, ResolveOf, FilterOf, NoHead, HeadOf, AccumulatorOf, DotStep, ArrowStep, NoSteps, MoreSteps, BareTarget, ResultTarget, MemberTarget}
+use Rattle.qvt_tree_types.specs.View.{exprs_of, links_of, items_of, steps_of, stmts_of, optional_expr, optional_args, optional_range, optional_filter, optional_accumulator}
+use Rattle.qvt_tree_types.specs.declared.types.PathTree.{PathTree}
+use Rattle.qvt_tree_types.specs.declared.types.ObjectVar.{ObjectVar}
+use Rattle.qvt_tree_types.specs.declared.types.ObjectVar.TheVariants as variables
+use Rattle.qvt_tree_types.specs.declared.words.CollKind.{CollKind}
+use Rattle.qvt_tree_types.specs.declared.words.CollKind.TheVariants as kinds
+use Rattle.qvt_tree_types.specs.declared.words.Level.{Level}
+use Rattle.qvt_tree_types.specs.declared.words.BinaryOp.{BinaryOp}
+use Rattle.qvt_tree_types.specs.declared.words.BinaryOp.TheVariants as operators
+use Rattle.qvt_tree_types.specs.declared.words.PrefixOp.TheVariants as prefixes
+use Rattle.qvt_tree_types.specs.declared.words.Sign.{Sign}
+use Rattle.qvt_tree_types.specs.declared.words.ResolveWord.{ResolveWord}
+use Rattle.qvt_tree_types.specs.declared.words.ResolveWord.TheVariants as resolves
 use Rattle.qvt_parser_grammar.specs.declared.named.Named.{Named}
 use Rattle.qvt_parser_grammar.specs.declared.named.UnitPath.{UnitPath}
 use Rattle.qvt_parser_grammar.specs.declared.token.Class.{Class}

@@ -1,15 +1,15 @@
 -- The trees that the productions of units and of the module make (QVT 1.3, 8.2.1).
 use Rattle.std.specs.Prelude.{ℕ, Bool, true, false, List, [], ◌∷◌, ◌++◌, Option, Some, None}
 use Rattle.qvt_base.specs.declared.numbers.Place.{Place}
-use Rattle.qvt_tree.specs.Tree.{TypeTerm, ExprTerm, StmtTerm, ReturnStmt, SomeExpr}
-use Rattle.qvt_tree.specs.View.{stmts_of, optional_expr}
-use Rattle.qvt_tree.specs.Module.{TypedName, UnitTerm, ClassOf, MainOf, HelperOf, ConstructorOf, MappingOf, ModuleTerm}
-use Rattle.qvt_tree.specs.declared.types.PathTree.{PathTree}
-use Rattle.qvt_tree.specs.declared.module.ResultDecl.{ResultDecl}
-use Rattle.qvt_tree.specs.declared.module.ModelType.{ModelType}
-use Rattle.qvt_tree.specs.declared.module.ModelParam.{ModelParam}
-use Rattle.qvt_tree.specs.declared.words.Direction.{Direction}
-use Rattle.qvt_tree.specs.declared.words.Direction.TheVariants.{Input, Output, Both}
+use Rattle.qvt_tree_types.specs.Tree.{TypeTerm, ExprTerm, StmtTerm, ReturnStmt, SomeExpr}
+use Rattle.qvt_tree_types.specs.View.{stmts_of, optional_expr}
+use Rattle.qvt_tree_types.specs.Module.{TypedName, UnitTerm, ClassOf, MainOf, HelperOf, ConstructorOf, MappingOf, ModuleTerm}
+use Rattle.qvt_tree_types.specs.declared.types.PathTree.{PathTree}
+use Rattle.qvt_tree_types.specs.declared.module.ResultDecl.{ResultDecl}
+use Rattle.qvt_tree_types.specs.declared.module.ModelType.{ModelType}
+use Rattle.qvt_tree_types.specs.declared.module.ModelParam.{ModelParam}
+use Rattle.qvt_tree_types.specs.declared.words.Direction.{Direction}
+use Rattle.qvt_tree_types.specs.declared.words.Direction.TheVariants.{Input, Output, Both}
 use Rattle.qvt_parser_grammar.specs.declared.named.Named.{Named}
 use Rattle.qvt_parser_grammar.specs.declared.named.UnitPath.{UnitPath}
 use Rattle.qvt_parser_grammar.specs.declared.token.Class.{Class}

@@ -1,11 +1,11 @@
 -- The productions of units and of the module (QVT 1.3, 8.2.1 and 8.4).
 use Rattle.std.specs.Prelude.{ℕ, zero, suc, Bool, true, false, ◌&&◌, ◌||◌, List, Option, codes}
 use Rattle.std.specs.Str.{bytes_eq}
-use Rattle.qvt_tree.specs.Tree.{ExprTerm, StmtTerm}
-use Rattle.qvt_tree.specs.Module.{TypedName, UnitTerm, ModuleTerm}
-use Rattle.qvt_tree.specs.declared.module.ResultDecl.{ResultDecl}
-use Rattle.qvt_tree.specs.declared.module.ModelType.{ModelType}
-use Rattle.qvt_tree.specs.declared.module.ModelParam.{ModelParam}
+use Rattle.qvt_tree_types.specs.Tree.{ExprTerm, StmtTerm}
+use Rattle.qvt_tree_types.specs.Module.{TypedName, UnitTerm, ModuleTerm}
+use Rattle.qvt_tree_types.specs.declared.module.ResultDecl.{ResultDecl}
+use Rattle.qvt_tree_types.specs.declared.module.ModelType.{ModelType}
+use Rattle.qvt_tree_types.specs.declared.module.ModelParam.{ModelParam}
 use Rattle.qvt_parser_grammar.specs.Leads.{Ended}
 use Rattle.qvt_grammar.specs.Language.{Language, token, then, either, follow, many, made, empty, maybe}
 use Rattle.qvt_parser_grammar.specs.declared.token.Class.TheVariants.{Name, Str, OpenRound, CloseRound, OpenBrace, CloseBrace, Comma, Semicolon, Colon, EqualSign, ClassWord, ConstructorWord, DisjunctsWord, EndWord, ExtendsWord, HelperWord, InWord, InheritsWord, InitWord, InoutWord, IntermediateWord, MainWord, MappingWord, MergesWord, ModelTypeWord, OutWord, PopulationWord, QueryWord, TransformationWord, UsesWord, WhenWord}

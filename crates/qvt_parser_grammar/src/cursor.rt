@@ -69,6 +69,7 @@ const NOWHERE: Place = Place {
 impl<'a> Parser<'a> {
     ghost use Rattle.qvt_parser_grammar.specs.Tokens.{toks_of};
 
+    /// A parser at the first of the tokens.
     pub fn new(alloc: Global, tokens: &'a [Token<'a>]) -> Parser<'a>
         ensures { toks result ≡ toks_of tokens.entry.now }
     {
@@ -112,6 +113,7 @@ impl<'a> Parser<'a> {
         }
     }
 
+    /// Whether no token is left.
     pub fn is_empty(&self) -> bool
         ensures { result ≡ is_nil (toks self.now) }
     {

@@ -1,6 +1,6 @@
 ghost use Rattle.std.specs.Prelude.{◌≡◌, ◌≤◌, ◌++◌, List, length, ℕ, Bool, true, false, Ok, Err};
 ghost use Rattle.qvt_grammar.specs.Reader.{At};
-ghost use Rattle.qvt_tree.specs.Module.{ModuleTerm};
+ghost use Rattle.qvt_tree_types.specs.Module.{ModuleTerm};
 ghost use Rattle.qvt_parser_grammar.specs.Tokens.{Tok};
 ghost use Rattle.qvt_parser_grammar.specs.Gives.{is_nil};
 ghost use Rattle.qvt_parser_grammar.specs.Nesting.{nested_at};

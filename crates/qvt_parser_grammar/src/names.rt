@@ -1,6 +1,6 @@
 ghost use Rattle.std.specs.Prelude.{◌≡◌, ◌<◌, ◌≤◌, ◌∷◌, length, map, OnOk};
 ghost use Rattle.qvt_grammar.specs.Reader.{starts, made_at, then_at, many_at, maybe_at};
-ghost use Rattle.qvt_tree.specs.View.{type_view, optional_type};
+ghost use Rattle.qvt_tree_types.specs.View.{type_view, optional_type};
 ghost use Rattle.qvt_parser_grammar.specs.Tokens.{of, is, tok_of};
 ghost use Rattle.qvt_parser_grammar.specs.Readers.{the_at};
 ghost use Rattle.qvt_parser_grammar.specs.Firsts.{kind_first};
@@ -16,8 +16,8 @@ use crate::token::{Class, Token};
 use qvt_base::lists::NameList;
 use qvt_base::seq::Seq;
 use qvt_base::text::Text;
-use qvt_tree::types::{PathTree, TypeTree};
-use qvt_tree::words::CollKind;
+use qvt_tree_types::types::{PathTree, TypeTree};
+use qvt_tree_types::words::CollKind;
 use std::alloc::Global;
 
 /// The kind of collection that the word names.
@@ -67,6 +67,7 @@ fn unit_path_of(alloc: Global, first: Named, more: Seq<Named>) -> Result<UnitPat
 }
 
 impl<'a> Parser<'a> {
+    /// A name.
     #[tactic(auto, unfolding(crate::specs::Reading::name_at))]
     pub fn name(&mut self) -> Result<Named, ParseError>
         ensures gives { Gives same result (toks self.new) (name_at (toks self.old)) }
@@ -90,6 +91,7 @@ impl<'a> Parser<'a> {
         self.name()
     }
 
+    /// The further names of a path, each after `::`.
     #[tactic(auto, unfolding(crate::specs::Reading::more_names_at))]
     pub fn more_names(&mut self) -> Result<Seq<Named>, ParseError>
         ensures gives { Gives same result (toks self.new) (more_names_at (toks self.old)) }
@@ -103,6 +105,7 @@ impl<'a> Parser<'a> {
         Ok(names)
     }
 
+    /// A path: names with `::` between them, with the place of the first.
     #[tactic(auto, unfolding(crate::specs::Reading::path_at))]
     pub fn path(&mut self) -> Result<PathTree, ParseError>
         ensures gives { Gives same result (toks self.new) (path_at (toks self.old)) }
@@ -114,6 +117,7 @@ impl<'a> Parser<'a> {
         path_of(self.alloc, first, more)
     }
 
+    /// The path of a unit's name, with the place of the last name.
     #[tactic(auto, unfolding(crate::specs::Reading::unit_path_at))]
     pub fn unit_path(&mut self) -> Result<UnitPath, ParseError>
         ensures gives { Gives same result (toks self.new) (unit_path_at (toks self.old)) }
@@ -134,6 +138,7 @@ impl<'a> Parser<'a> {
         self.path()
     }
 
+    /// Paths with commas between them, at least one.
     #[tactic(auto, unfolding(crate::specs::Reading::paths_at))]
     pub fn paths(&mut self) -> Result<Seq<PathTree>, ParseError>
         ensures gives { Gives same result (toks self.new) (paths_at (toks self.old)) }
@@ -150,6 +155,7 @@ impl<'a> Parser<'a> {
         Ok(paths)
     }
 
+    /// A name's text.
     pub fn name_text(&mut self) -> Result<Text, ParseError>
         ensures gives { Gives same result (toks self.new) (made_at text_of (the_at Class.Name) (toks self.old)) }
         ensures fewer { length (toks self.new) ≤ length (toks self.old) }
@@ -160,6 +166,7 @@ impl<'a> Parser<'a> {
         Ok(text)
     }
 
+    /// The extent that an object is made in, after `@`, if one is told.
     #[tactic(auto, unfolding(crate::specs::Reading::extent_at))]
     pub fn extent(&mut self) -> Result<Option<Text>, ParseError>
         ensures gives { Gives same result (toks self.new) (extent_at (toks self.old)) }
@@ -173,6 +180,7 @@ impl<'a> Parser<'a> {
         Ok(None)
     }
 
+    /// The word of a kind of collection.
     #[tactic(auto, unfolding(crate::specs::Reading::kind_word_at))]
     pub fn kind_word(&mut self) -> Result<Token<'a>, ParseError>
         ensures gives { Gives tok_of result (toks self.new) (kind_word_at (toks self.old)) }
@@ -191,6 +199,7 @@ impl<'a> Parser<'a> {
         self.take(Class::OrderedSetWord)
     }
 
+    /// A path after a colon.
     #[tactic(auto, unfolding(crate::specs::Reading::colon_path_at))]
     pub fn colon_path(&mut self) -> Result<PathTree, ParseError>
         ensures gives { Gives same result (toks self.new) (colon_path_at (toks self.old)) }
@@ -211,6 +220,7 @@ impl<'a> Parser<'a> {
             || self.at(Class::BagWord)
     }
 
+    /// The type of a collection: its kind, and the type of its items in brackets.
     #[cycle(types)]
     #[tactic(auto, unfolding(crate::specs::Reading::coll_type_at))]
     pub fn coll_type(&mut self, room: usize) -> Result<TypeTree, ParseError>
@@ -230,6 +240,7 @@ impl<'a> Parser<'a> {
         })
     }
 
+    /// A type: that of a collection, or a path. Types are nested in at most `room` others.
     #[cycle(types)]
     #[tactic(auto, unfolding(crate::specs::Reading::typed_at))]
     pub fn typed(&mut self, room: usize) -> Result<TypeTree, ParseError>
@@ -256,6 +267,7 @@ impl<'a> Parser<'a> {
         self.typed(room - 1)
     }
 
+    /// A type after a colon.
     #[tactic(auto, unfolding(crate::specs::Reading::colon_type_at))]
     pub fn colon_type(&mut self, room: usize) -> Result<TypeTree, ParseError>
         ensures gives { Gives type_view result (toks self.new) (colon_type_at (nested_at room) (toks self.old)) }
@@ -266,6 +278,7 @@ impl<'a> Parser<'a> {
         self.typed(room)
     }
 
+    /// A type after a colon, if a colon is next.
     pub fn optional_type(&mut self, room: usize) -> Result<Option<TypeTree>, ParseError>
         ensures gives { Gives optional_type result (toks self.new) (maybe_at (is Class.Colon) (colon_type_at (nested_at room)) (toks self.old)) }
         ensures fewer { length (toks self.new) ≤ length (toks self.old) }

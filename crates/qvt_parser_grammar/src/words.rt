@@ -1,6 +1,6 @@
 ghost use Rattle.std.specs.Prelude.{◌≡◌, ◌<◌, ◌≤◌, length, OnOk};
 ghost use Rattle.qvt_grammar.specs.Reader.{starts, choose_at};
-ghost use Rattle.qvt_tree.specs.View.{expr_view};
+ghost use Rattle.qvt_tree_types.specs.View.{expr_view};
 ghost use Rattle.qvt_parser_grammar.specs.Tokens.{of, is, tok_of};
 ghost use Rattle.qvt_parser_grammar.specs.Readers.{the_at};
 ghost use Rattle.qvt_parser_grammar.specs.Firsts.{map_first, all_first, resolve_first, late_first, maker_first, plain_first, front_first, simple_first, primary_first, literal_first, word_first, head_first, step_first, sign_first, assign_first, expr_first, stmt_first};
@@ -12,9 +12,9 @@ use crate::names::path_of;
 use crate::token::{Class, Token};
 use qvt_base::seq::Seq;
 use qvt_base::text::Text;
-use qvt_tree::tree::Expr;
-use qvt_tree::types::{ObjectVar, PathTree};
-use qvt_tree::words::{PrefixOp, Sign};
+use qvt_tree_types::tree::Expr;
+use qvt_tree_types::types::{ObjectVar, PathTree};
+use qvt_tree_types::words::{PrefixOp, Sign};
 
 impl<'a> Parser<'a> {
     /// Whether a mapping call begins.
@@ -79,6 +79,7 @@ impl<'a> Parser<'a> {
         self.at(Class::PlusEqual) || self.at(Class::Becomes)
     }
 
+    /// A literal: a number, a text, `true` or `false`.
     #[tactic(auto, unfolding(crate::specs::Reading::literal_at))]
     pub fn literal(&mut self) -> Result<Expr, ParseError>
         ensures gives { Gives expr_view result (toks self.new) (literal_at (toks self.old)) }
@@ -114,6 +115,7 @@ impl<'a> Parser<'a> {
         })
     }
 
+    /// `null`, `self` or `result`.
     #[tactic(auto, unfolding(crate::specs::Reading::word_at))]
     pub fn word(&mut self) -> Result<Expr, ParseError>
         ensures gives { Gives expr_view result (toks self.new) (word_at (toks self.old)) }
@@ -132,6 +134,7 @@ impl<'a> Parser<'a> {
         Ok(Expr::ResultRef { place: token.place })
     }
 
+    /// The variable of an object expression, if one is told, and the path of its class.
     #[tactic(auto, unfolding(crate::specs::Reading::object_head_at))]
     pub fn object_head(&mut self) -> Result<(Option<ObjectVar>, PathTree), ParseError>
         ensures gives { Gives same result (toks self.new) (object_head_at (toks self.old)) }
@@ -159,6 +162,7 @@ impl<'a> Parser<'a> {
         Ok((None, path))
     }
 
+    /// The word of a resolve over all mappings.
     #[tactic(auto, unfolding(crate::specs::Reading::all_word_at))]
     pub fn all_word(&mut self) -> Result<Token<'a>, ParseError>
         ensures gives { Gives tok_of result (toks self.new) (all_word_at (toks self.old)) }
@@ -177,6 +181,7 @@ impl<'a> Parser<'a> {
         self.take(Class::InvResolveOneWord)
     }
 
+    /// The word of a resolve in one mapping.
     #[tactic(auto, unfolding(crate::specs::Reading::in_word_at))]
     pub fn in_word(&mut self) -> Result<Token<'a>, ParseError>
         ensures gives { Gives tok_of result (toks self.new) (in_word_at (toks self.old)) }
@@ -195,6 +200,7 @@ impl<'a> Parser<'a> {
         self.take(Class::InvResolveOneInWord)
     }
 
+    /// `map` or `xmap`.
     pub fn map_word(&mut self) -> Result<Token<'a>, ParseError>
         ensures gives { Gives tok_of result (toks self.new) (choose_at (is Class.MapWord) (the_at Class.MapWord) (the_at Class.XmapWord) (toks self.old)) }
         ensures fewer { length (toks self.new) ≤ length (toks self.old) }
@@ -206,6 +212,7 @@ impl<'a> Parser<'a> {
         self.take(Class::XmapWord)
     }
 
+    /// `:=` or `+=`.
     pub fn assign_sign(&mut self) -> Result<Token<'a>, ParseError>
         ensures gives { Gives tok_of result (toks self.new) (choose_at (is Class.Becomes) (the_at Class.Becomes) (the_at Class.PlusEqual) (toks self.old)) }
         ensures fewer { length (toks self.new) ≤ length (toks self.old) }
@@ -217,6 +224,7 @@ impl<'a> Parser<'a> {
         self.take(Class::PlusEqual)
     }
 
+    /// `not` or the sign `-`.
     #[tactic(auto, unfolding(crate::specs::Reading::sign_at))]
     pub fn sign(&mut self) -> Result<Sign, ParseError>
         ensures gives { Gives same result (toks self.new) (sign_at (toks self.old)) }
@@ -237,6 +245,7 @@ impl<'a> Parser<'a> {
         })
     }
 
+    /// The signs before an operand, as many as stand there.
     #[tactic(auto, unfolding(crate::specs::Reading::more_signs_at))]
     pub fn more_signs(&mut self) -> Result<Seq<Sign>, ParseError>
         ensures gives { Gives same result (toks self.new) (more_signs_at (toks self.old)) }
@@ -250,6 +259,7 @@ impl<'a> Parser<'a> {
         Ok(signs)
     }
 
+    /// `<`, `<=`, `>` or `>=`.
     pub fn relation_operator(&mut self) -> Result<Token<'a>, ParseError>
         ensures gives { Gives tok_of result (toks self.new) (operator_at 2 (toks self.old)) }
         ensures fewer { length (toks self.new) ≤ length (toks self.old) }
@@ -267,6 +277,7 @@ impl<'a> Parser<'a> {
         self.take(Class::AtLeast)
     }
 
+    /// `=`, `==`, `<>` or `!=`.
     pub fn equality_operator(&mut self) -> Result<Token<'a>, ParseError>
         ensures gives { Gives tok_of result (toks self.new) (operator_at 3 (toks self.old)) }
         ensures fewer { length (toks self.new) ≤ length (toks self.old) }
@@ -284,6 +295,7 @@ impl<'a> Parser<'a> {
         self.take(Class::BangEqual)
     }
 
+    /// An operator of the level, from 0 for `*` to 7.
     pub fn operator(&mut self, level: usize) -> Result<Token<'a>, ParseError>
         requires { level < 8 }
         ensures gives { Gives tok_of result (toks self.new) (operator_at level (toks self.old)) }

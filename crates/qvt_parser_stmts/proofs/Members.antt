@@ -2,9 +2,9 @@
 use Rattle.std.proofs.Common.{◌≡◌, List, [], ◌∷◌, ◌++◌, map, refl, sym, ap, ◌∙◌}
 use Rattle.std.proofs.lemmas.List.{map-append}
 use Rattle.qvt_base.specs.declared.numbers.Place.{Place}
-use Rattle.qvt_tree.specs.Tree.{ExprTerm, StepTerm}
-use Rattle.qvt_tree.specs.View.{step_view}
-use Rattle.qvt_tree.specs.declared.tree.Step.{Step}
+use Rattle.qvt_tree_types.specs.Tree.{ExprTerm, StepTerm}
+use Rattle.qvt_tree_types.specs.View.{step_view}
+use Rattle.qvt_tree_types.specs.declared.tree.Step.{Step}
 use Rattle.qvt_parser_grammar.specs.Trees.{split_last, member_of, member_target}
 
 split_end : (s : StepTerm) (ss : List StepTerm) (t : StepTerm) → split_last s (ss ++ t ∷ []) ≡ (s ∷ ss, t)

@@ -3,7 +3,7 @@ use Rattle.std.proofs.Common.{◌≡◌, List, Bool, true, false, ◌&&◌, IsTr
 use Rattle.qvt_base.specs.declared.numbers.Place.{Place}
 use Rattle.qvt_grammar.specs.Language.{head_of}
 use Rattle.qvt_grammar.specs.Reader.{Fault, Answer, ◌>>=◌, starts, made_at, follow_at}
-use Rattle.qvt_tree.specs.Tree.{ExprTerm, StmtTerm, AssignStmt, ValueStmt, TargetTerm}
+use Rattle.qvt_tree_types.specs.Tree.{ExprTerm, StmtTerm, AssignStmt, ValueStmt, TargetTerm}
 use Rattle.qvt_parser_grammar.specs.Tokens.{Tok, of}
 use Rattle.qvt_parser_grammar.specs.Readers.{Reader, placed_at, nowhere}
 use Rattle.qvt_parser_grammar.specs.Firsts.{assign_first}

@@ -1,10 +1,10 @@
 -- What clauses see of the parts of statements.
 use Rattle.std.specs.Prelude.{List, [], ◌∷◌, map}
 use Rattle.std.proofs.Common.{inl, inr}
-use Rattle.qvt_tree.specs.Tree.{ExprTerm, ArmTerm}
-use Rattle.qvt_tree.specs.View.{expr_view, stmt_view, arm_view}
-use Rattle.qvt_tree.specs.declared.tree.Arm.{Arm}
-use Rattle.qvt_tree.specs.declared.tree.Expr.{Expr}
+use Rattle.qvt_tree_types.specs.Tree.{ExprTerm, ArmTerm}
+use Rattle.qvt_tree_types.specs.View.{expr_view, stmt_view, arm_view}
+use Rattle.qvt_tree_types.specs.declared.tree.Arm.{Arm}
+use Rattle.qvt_tree_types.specs.declared.tree.Expr.{Expr}
 use Rattle.qvt_parser_grammar.specs.declared.token.Token.{Token}
 use Rattle.qvt_parser_grammar.specs.Tokens.{Tok, tok_of}
 use Rattle.qvt_parser_grammar.specs.Leads.{Ended}

@@ -1,7 +1,7 @@
 ghost use Rattle.std.specs.Prelude.{◌≡◌, IsTrue, Some, List};
 ghost use Rattle.qvt_base.specs.declared.numbers.Place as places;
-ghost use Rattle.qvt_tree.specs.Tree.{ExprTerm, StepTerm, AssignStmt, ValueStmt};
-ghost use Rattle.qvt_tree.specs.View.{expr_view, step_view, target_view, stmt_view};
+ghost use Rattle.qvt_tree_types.specs.Tree.{ExprTerm, StepTerm, AssignStmt, ValueStmt};
+ghost use Rattle.qvt_tree_types.specs.View.{expr_view, step_view, target_view, stmt_view};
 ghost use Rattle.qvt_parser_grammar.specs.Gives.{Makes};
 ghost use Rattle.qvt_parser_grammar.specs.StmtTrees as statements;
 ghost use Rattle.qvt_parser_grammar.specs.Trees as trees;
@@ -17,7 +17,7 @@ use qvt_parser_exprs::leading::{EachTail, Leading};
 use qvt_parser_exprs::made::posted;
 use qvt_parser_grammar::cursor::ParseError;
 use qvt_parser_grammar::token::Class;
-use qvt_tree::tree::{Expr, Step, Stmt, Target};
+use qvt_tree_types::tree::{Expr, Step, Stmt, Target};
 use std::alloc::Global;
 
 /// Whether the sign of an assignment is `+=`.

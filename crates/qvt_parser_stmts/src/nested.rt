@@ -1,5 +1,5 @@
 ghost use Rattle.std.specs.Prelude.{◌≤◌, length};
-ghost use Rattle.qvt_tree.specs.View.{expr_view};
+ghost use Rattle.qvt_tree_types.specs.View.{expr_view};
 ghost use Rattle.qvt_parser_grammar.specs.Reading.{expr_at};
 ghost use Rattle.qvt_parser_grammar.specs.ReadingStatements.{statements_at};
 ghost use Rattle.qvt_parser_grammar.specs.Nesting.{nested_at};
@@ -14,7 +14,7 @@ use qvt_parser_exprs::inside::Inside;
 use qvt_parser_exprs::leading::Leading;
 use qvt_parser_exprs::made::finish;
 use qvt_parser_grammar::cursor::{ParseError, Parser};
-use qvt_tree::tree::{Expr, Stmts};
+use qvt_tree_types::tree::{Expr, Stmts};
 
 /// An expression that may still become a target, with fewer than `room` expressions and blocks
 /// inside each other.

@@ -1,6 +1,6 @@
 ghost use Rattle.std.specs.Prelude.{◌<◌, ◌≤◌, length, OnOk, ◌≡◌, ◌&&◌, IsTrue, Ok};
 ghost use Rattle.qvt_grammar.specs.Reader.{starts, made_at, then_at, many_at, maybe_at};
-ghost use Rattle.qvt_tree.specs.View.{expr_view, stmt_view, arm_view};
+ghost use Rattle.qvt_tree_types.specs.View.{expr_view, stmt_view, arm_view};
 ghost use Rattle.qvt_parser_grammar.specs.Tokens.{of, is};
 ghost use Rattle.qvt_parser_grammar.specs.Readers.{the_at};
 ghost use Rattle.qvt_parser_grammar.specs.Firsts.{expr_first, assign_first};
@@ -24,7 +24,7 @@ use qvt_parser_exprs::leading::Leading;
 use qvt_parser_exprs::made::finish;
 use qvt_parser_grammar::cursor::{ParseError, Parser};
 use qvt_parser_grammar::token::{Class, Token};
-use qvt_tree::tree::{Arm, Expr, Stmt, Stmts};
+use qvt_tree_types::tree::{Arm, Expr, Stmt, Stmts};
 
 /// The calls that read statements, over those that read the expressions in them.
 #[derive(Drop)]

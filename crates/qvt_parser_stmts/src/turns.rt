@@ -1,4 +1,4 @@
-use qvt_tree::tree::{Stmt, Stmts};
+use qvt_tree_types::tree::{Stmt, Stmts};
 
 /// An item of a block.
 #[derive(Drop)]

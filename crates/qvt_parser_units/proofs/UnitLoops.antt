@@ -2,7 +2,7 @@
 use Rattle.std.proofs.Common.{◌≡◌, List, [], ◌∷◌, ◌++◌, Bool, true, false, refl, sym, ap, ◌∙◌, append_assoc, append-nil, Ok, Err}
 use Rattle.qvt_grammar.specs.Reader.{Fault, Answer, ◌>>=◌, Consumes, starts, made_at, many_at, with_front}
 use Rattle.qvt_grammar.proofs.Loops.{many_more, many_stop, many_stuck}
-use Rattle.qvt_tree.specs.Module.{UnitTerm}
+use Rattle.qvt_tree_types.specs.Module.{UnitTerm}
 use Rattle.qvt_parser_grammar.specs.Tokens.{Tok}
 use Rattle.qvt_parser_grammar.specs.Readers.{Reader}
 use Rattle.qvt_parser_grammar.specs.UnitTrees.{units_of}

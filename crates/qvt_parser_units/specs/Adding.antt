@@ -1,7 +1,7 @@
 -- What a list of units has after one more turn.
 use Rattle.std.specs.Prelude.{◌≡◌, List, [], ◌∷◌, ◌++◌, Option, Some, None, Result, Ok, Err}
-use Rattle.qvt_tree.specs.Module.{UnitTerm, unit_view}
-use Rattle.qvt_tree.specs.declared.module.Unit.{Unit as CodeUnit}
+use Rattle.qvt_tree_types.specs.Module.{UnitTerm, unit_view}
+use Rattle.qvt_tree_types.specs.declared.module.Unit.{Unit as CodeUnit}
 use Rattle.qvt_parser_grammar.specs.declared.cursor.ParseError.{ParseError}
 use Rattle.qvt_parser_grammar.specs.declared.cursor.ParseError.TheVariants.{NoMemory, Syntax}
 

@@ -1,12 +1,12 @@
 -- What clauses see of the parts of units.
 use Rattle.std.specs.Prelude.{List, map, Option}
-use Rattle.qvt_tree.specs.Tree.{StmtTerm}
-use Rattle.qvt_tree.specs.View.{expr_view}
-use Rattle.qvt_tree.specs.Module.{TypedName, UnitTerm, param_view, field_view, unit_view}
-use Rattle.qvt_tree.specs.declared.tree.Stmt.{Stmt}
-use Rattle.qvt_tree.specs.declared.module.Param.{Param}
-use Rattle.qvt_tree.specs.declared.module.Field.{Field}
-use Rattle.qvt_tree.specs.declared.module.Unit as code
+use Rattle.qvt_tree_types.specs.Tree.{StmtTerm}
+use Rattle.qvt_tree_types.specs.View.{expr_view}
+use Rattle.qvt_tree_types.specs.Module.{TypedName, UnitTerm, param_view, field_view, unit_view}
+use Rattle.qvt_tree_types.specs.declared.tree.Stmt.{Stmt}
+use Rattle.qvt_tree_types.specs.declared.module.Param.{Param}
+use Rattle.qvt_tree_types.specs.declared.module.Field.{Field}
+use Rattle.qvt_tree_types.specs.declared.module.Unit as code
 use Rattle.qvt_parser_units.specs.declared.clauses.Clause.{Clause as CodeClause}
 use Rattle.qvt_parser_units.specs.declared.clauses.Clause.TheVariants.{Inherits, Merges, Disjuncts, When}
 use Rattle.qvt_parser_units.specs.declared.clauses.Clauses.{Clauses as CodeClauses}

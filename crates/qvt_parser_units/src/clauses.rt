@@ -1,7 +1,7 @@
 ghost use Rattle.std.specs.Prelude.{◌≡◌, ◌∷◌, [], None};
-ghost use Rattle.qvt_tree.specs.View.{expr_view};
-ghost use Rattle.qvt_tree.specs.Tree.{ReturnStmt, SomeExpr};
-ghost use Rattle.qvt_tree.specs.Module.{mapping_view, MappingOf};
+ghost use Rattle.qvt_tree_types.specs.View.{expr_view};
+ghost use Rattle.qvt_tree_types.specs.Tree.{ReturnStmt, SomeExpr};
+ghost use Rattle.qvt_tree_types.specs.Module.{mapping_view, MappingOf};
 ghost use Rattle.qvt_parser_grammar.specs.UnitTrees as units;
 ghost use Rattle.qvt_parser_grammar.specs.Options.{option_view};
 ghost use Rattle.qvt_parser_exprs.specs.Views.{stmts_view};
@@ -13,10 +13,10 @@ use qvt_base::seq::Seq;
 use qvt_parser_grammar::cursor::ParseError;
 use qvt_parser_grammar::named::UnitPath;
 use qvt_parser_grammar::token::Class;
-use qvt_tree::module::{Mapping, Param, ResultDecl};
-use qvt_tree::tree::{Expr, Stmt};
-use qvt_tree::types::PathTree;
-use qvt_tree::words::Direction;
+use qvt_tree_types::module::{Mapping, Param, ResultDecl};
+use qvt_tree_types::tree::{Expr, Stmt};
+use qvt_tree_types::types::PathTree;
+use qvt_tree_types::words::Direction;
 use std::alloc::Global;
 
 /// A clause of a mapping.

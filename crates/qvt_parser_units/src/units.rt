@@ -1,7 +1,7 @@
 ghost use Rattle.std.specs.Prelude.{◌≡◌, ◌<◌, ◌≤◌, ◌∷◌, [], length, OnOk};
 ghost use Rattle.qvt_grammar.specs.Reader.{starts, made_at, then_at, choose_at, many_at, maybe_at};
-ghost use Rattle.qvt_tree.specs.View.{expr_view};
-ghost use Rattle.qvt_tree.specs.Module.{param_view, field_view, unit_view, module_view};
+ghost use Rattle.qvt_tree_types.specs.View.{expr_view};
+ghost use Rattle.qvt_tree_types.specs.Module.{param_view, field_view, unit_view, module_view};
 ghost use Rattle.qvt_parser_grammar.specs.Tokens.{of, is, tok_of, code_of};
 ghost use Rattle.qvt_parser_grammar.specs.Readers.{the_at};
 ghost use Rattle.qvt_parser_grammar.specs.Firsts.{clause_first, unit_first};
@@ -25,11 +25,11 @@ use qvt_base::text::Text;
 use qvt_parser_grammar::cursor::{ParseError, Parser};
 use qvt_parser_grammar::token::{Class, Token};
 use qvt_parser_stmts::nested::{block, expr, statements};
-use qvt_tree::module::{
+use qvt_tree_types::module::{
     ClassDecl, Field, Helper, ModelParam, ModelType, Module, Param, ResultDecl, Unit,
 };
-use qvt_tree::tree::{Expr, Stmt};
-use qvt_tree::types::PathTree;
+use qvt_tree_types::tree::{Expr, Stmt};
+use qvt_tree_types::types::PathTree;
 
 #[tactic(auto, unfolding(qvt_parser_grammar::specs::ReadingUnits::param_at))]
 fn param(parser: &mut Parser<'_>, room: usize) -> Result<Param, ParseError>

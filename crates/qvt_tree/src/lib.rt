@@ -1,8 +1,4 @@
-//! The tree of a transformation's text (QVT 1.3, 8.4): modules and units, types, statements and
-//! expressions, each with the place where it stands.
+//! The tree of a transformation's text (QVT 1.3, 8.4), with what compares trees without places.
 #![tactic(auto)]
 
-pub mod module;
-pub mod tree;
-pub mod types;
-pub mod words;
+pub use qvt_tree_types::{module, tree, types, words};

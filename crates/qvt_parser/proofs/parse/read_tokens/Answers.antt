@@ -1,6 +1,6 @@
 use Rattle.std.proofs.Common.{◌≡◌, ◌≤◌, length, sym, ap, ◌∙◌, arith}
 use Rattle.std.proofs.lemmas.List.{length-map}
-use Rattle.qvt_tree.specs.Module.{module_view}
+use Rattle.qvt_tree_types.specs.Module.{module_view}
 use Rattle.qvt_parser_grammar.specs.Tokens.{tok_of, toks_of}
 use Rattle.qvt_parser_grammar.specs.Gives.{toks}
 use Rattle.qvt_parser_grammar.specs.Nesting.{nested_at}

@@ -1,5 +1,5 @@
 use Rattle.std.proofs.Common.{sym, ap, ◌∙◌}
-use Rattle.qvt_tree.specs.View.{expr_view}
+use Rattle.qvt_tree_types.specs.View.{expr_view}
 use Rattle.qvt_parser_grammar.specs.Trees.{is_there, member_target}
 use Rattle.qvt_parser_grammar.specs.StmtTrees.{target_in}
 use Rattle.qvt_parser_exprs.specs.Views.{lead_view, steps_view}

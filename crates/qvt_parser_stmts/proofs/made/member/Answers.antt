@@ -1,5 +1,5 @@
 use Rattle.std.proofs.Common.{IsTrue, Some, sym, ap, ◌∙◌, subst}
-use Rattle.qvt_tree.specs.View.{expr_view, target_view}
+use Rattle.qvt_tree_types.specs.View.{expr_view, target_view}
 use Rattle.qvt_parser_grammar.specs.Gives.{Makes}
 use Rattle.qvt_parser_grammar.specs.Trees as trees
 use Rattle.qvt_parser_stmts.proofs.Members.{member_last}

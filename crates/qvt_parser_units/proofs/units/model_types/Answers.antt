@@ -1,7 +1,7 @@
 use Rattle.std.proofs.Common.{sym, ap, ◌∙◌, arith}
 use Rattle.qvt_grammar.specs.Reader.{many_at, made_at, then_at, choose_at, with_front}
 use Rattle.qvt_grammar.proofs.Loops.{loop_push, loop_more}
-use Rattle.qvt_tree.specs.Module.{param_view, field_view}
+use Rattle.qvt_tree_types.specs.Module.{param_view, field_view}
 use Rattle.qvt_parser_grammar.specs.Tokens.{is, of}
 use Rattle.qvt_parser_grammar.specs.Readers.{the_at}
 use Rattle.qvt_parser_grammar.specs.Trees.{second, nothing}

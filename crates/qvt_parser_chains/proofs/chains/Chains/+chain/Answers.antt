@@ -8,7 +8,7 @@ use Rattle.qvt_parser_grammar.specs.Gives.{Gives}
 use Rattle.qvt_parser_exprs.specs.Views.{lead_view}
 use Rattle.qvt_parser_chains.proofs.Levels.{chain_above}
 use Rattle.qvt_parser_grammar.proofs.LessExprs.{less_link}
-use Rattle.qvt_tree.specs.View.{link_view}
+use Rattle.qvt_tree_types.specs.View.{link_view}
 use Rattle.qvt_parser_chains.proofs.chains.Chains.+chain.Goals as goal
 
 pub operands-loop-parser-preserved : goal.operands-loop-parser-preserved

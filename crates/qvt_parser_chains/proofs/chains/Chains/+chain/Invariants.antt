@@ -4,7 +4,7 @@ use Rattle.qvt_parser_grammar.specs.Tokens.{of}
 use Rattle.qvt_parser_grammar.specs.Gives.{toks}
 use Rattle.qvt_parser_grammar.specs.Reading.{pre_at, link_at, chain_at, operators}
 use Rattle.qvt_parser_grammar.specs.Nesting.{nested_at}
-use Rattle.qvt_tree.specs.View.{link_view}
+use Rattle.qvt_tree_types.specs.View.{link_view}
 use Rattle.qvt_parser_chains.proofs.chains.Chains.+chain.Given as goal
 
 abbrev pub decreases-chain : goal.decreases-chain

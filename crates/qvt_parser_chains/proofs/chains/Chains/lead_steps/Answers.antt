@@ -1,5 +1,5 @@
 use Rattle.std.proofs.Common.{sym, ap, ◌∙◌, arith, map, Ok}
-use Rattle.qvt_tree.specs.View.{step_view}
+use Rattle.qvt_tree_types.specs.View.{step_view}
 use Rattle.qvt_parser_grammar.specs.Tokens.{of}
 use Rattle.qvt_parser_grammar.specs.Gives.{toks}
 use Rattle.qvt_parser_grammar.specs.Firsts.{step_first}

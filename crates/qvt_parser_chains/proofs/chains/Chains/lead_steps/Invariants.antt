@@ -6,7 +6,7 @@ use Rattle.qvt_parser_grammar.specs.Firsts.{step_first}
 use Rattle.qvt_parser_grammar.specs.Reading.{lead_step_at}
 use Rattle.qvt_parser_grammar.specs.Nesting.{nested_at}
 use Rattle.qvt_parser_grammar.proofs.EndedLoops.{turns_before}
-use Rattle.qvt_tree.specs.View.{step_view}
+use Rattle.qvt_tree_types.specs.View.{step_view}
 use Rattle.qvt_parser_chains.proofs.chains.Chains.lead_steps.Given as goal
 
 abbrev pub invariant-loop-parser : goal.invariant-loop-parser

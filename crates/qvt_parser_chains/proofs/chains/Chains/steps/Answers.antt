@@ -6,7 +6,7 @@ use Rattle.qvt_parser_grammar.specs.Firsts.{step_first}
 use Rattle.qvt_parser_grammar.specs.Reading.{step_at}
 use Rattle.qvt_parser_grammar.specs.Nesting.{nested_at}
 use Rattle.qvt_parser_grammar.proofs.LessExprs.{less_step}
-use Rattle.qvt_tree.specs.View.{step_view}
+use Rattle.qvt_tree_types.specs.View.{step_view}
 use Rattle.qvt_parser_chains.proofs.chains.Chains.steps.Goals as goal
 
 pub loop-parser-preserved : goal.loop-parser-preserved

@@ -10,7 +10,7 @@ use Rattle.qvt_parser_grammar.specs.Firsts.{step_first}
 use Rattle.qvt_parser_grammar.specs.Reading.{expr_at, item_at, step_at, pre_at, link_at, chain_at, operators}
 use Rattle.qvt_parser_grammar.specs.Nesting.{nested_at}
 use Rattle.qvt_parser_grammar.proofs.LessExprs.{less_expr, less_item, less_step, less_link}
-use Rattle.qvt_tree.specs.View.{expr_view, item_view, step_view, link_view}
+use Rattle.qvt_tree_types.specs.View.{expr_view, item_view, step_view, link_view}
 use Rattle.qvt_parser_exprs.proofs.inside.Inside.exprs_from.Goals as goal
 
 pub loop-parser-preserved : goal.loop-parser-preserved

@@ -9,7 +9,7 @@ use Rattle.qvt_parser_grammar.specs.Firsts.{step_first}
 use Rattle.qvt_parser_grammar.specs.Reading.{expr_at, item_at, step_at, lead_step_at, pre_at, link_at, chain_at, operators}
 use Rattle.qvt_parser_grammar.specs.Nesting.{nested_at}
 use Rattle.qvt_parser_grammar.proofs.EndedLoops.{turns_before}
-use Rattle.qvt_tree.specs.View.{expr_view, item_view, step_view, link_view}
+use Rattle.qvt_tree_types.specs.View.{expr_view, item_view, step_view, link_view}
 use Rattle.qvt_parser_exprs.proofs.inside.Inside.exprs_from.Given as goal
 
 abbrev pub invariant-loop-parser : goal.invariant-loop-parser

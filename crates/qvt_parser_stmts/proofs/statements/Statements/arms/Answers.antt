@@ -6,7 +6,7 @@ use Rattle.qvt_parser_grammar.specs.declared.token.Class.TheVariants.{ElifWord}
 use Rattle.qvt_parser_grammar.specs.ReadingStatements.{arm_at}
 use Rattle.qvt_parser_grammar.specs.Nesting.{nested_at}
 use Rattle.qvt_parser_grammar.proofs.LessExprs.{less_arm}
-use Rattle.qvt_tree.specs.View.{arm_view}
+use Rattle.qvt_tree_types.specs.View.{arm_view}
 use Rattle.qvt_parser_stmts.proofs.statements.Statements.arms.Goals as goal
 
 pub loop-parser-preserved : goal.loop-parser-preserved

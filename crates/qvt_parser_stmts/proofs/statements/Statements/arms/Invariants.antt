@@ -5,7 +5,7 @@ use Rattle.qvt_parser_grammar.specs.Gives.{toks}
 use Rattle.qvt_parser_grammar.specs.declared.token.Class.TheVariants.{ElifWord}
 use Rattle.qvt_parser_grammar.specs.ReadingStatements.{arm_at}
 use Rattle.qvt_parser_grammar.specs.Nesting.{nested_at}
-use Rattle.qvt_tree.specs.View.{arm_view}
+use Rattle.qvt_tree_types.specs.View.{arm_view}
 use Rattle.qvt_parser_stmts.proofs.statements.Statements.arms.Given as goal
 
 abbrev pub invariant-loop-parser : goal.invariant-loop-parser

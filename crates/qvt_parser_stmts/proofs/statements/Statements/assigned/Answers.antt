@@ -1,5 +1,5 @@
 use Rattle.std.proofs.Common.{sym, ap, ◌∙◌}
-use Rattle.qvt_tree.specs.View.{expr_view, target_view}
+use Rattle.qvt_tree_types.specs.View.{expr_view, target_view}
 use Rattle.qvt_parser_grammar.specs.Tokens.{tok_of}
 use Rattle.qvt_parser_grammar.specs.Gives.{toks}
 use Rattle.qvt_parser_grammar.specs.Nesting.{nested_at}

@@ -2,13 +2,13 @@
 -- places. A box leaves nothing, and each list has a type of its own.
 use Rattle.std.specs.Prelude.{ℕ, ℤ, Bool, List, Option}
 use Rattle.qvt_base.specs.declared.numbers.Place.{Place}
-use Rattle.qvt_tree.specs.declared.words.CollKind.{CollKind}
-use Rattle.qvt_tree.specs.declared.words.Level.{Level}
-use Rattle.qvt_tree.specs.declared.words.BinaryOp.{BinaryOp}
-use Rattle.qvt_tree.specs.declared.words.Sign.{Sign}
-use Rattle.qvt_tree.specs.declared.words.ResolveWord.{ResolveWord}
-use Rattle.qvt_tree.specs.declared.types.PathTree.{PathTree}
-use Rattle.qvt_tree.specs.declared.types.ObjectVar.{ObjectVar}
+use Rattle.qvt_tree_types.specs.declared.words.CollKind.{CollKind}
+use Rattle.qvt_tree_types.specs.declared.words.Level.{Level}
+use Rattle.qvt_tree_types.specs.declared.words.BinaryOp.{BinaryOp}
+use Rattle.qvt_tree_types.specs.declared.words.Sign.{Sign}
+use Rattle.qvt_tree_types.specs.declared.words.ResolveWord.{ResolveWord}
+use Rattle.qvt_tree_types.specs.declared.types.PathTree.{PathTree}
+use Rattle.qvt_tree_types.specs.declared.types.ObjectVar.{ObjectVar}
 
 pub data TypeTerm : Type 0 where
   CollType : CollKind → TypeTerm → Place → TypeTerm

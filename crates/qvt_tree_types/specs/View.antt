@@ -1,25 +1,25 @@
 -- The plain tree of a tree of the program. Each cycle of types is seen by one fold, with one step for each of its types.
 use Rattle.std.specs.Prelude.{List, [], ◌∷◌, map, Option, Some, None, Box}
 use Rattle.std.specs.declared.alloc.Global.{Global}
-use Rattle.qvt_tree.specs.Tree.{TypeTerm, CollType, PathType, ExprTerm, ExprTerms, OptionalExpr, OptionalArgs, LinkTerm, LinkTerms, ItemTerm, RangeTerm, ItemTerms, MapTerm, ResolveTerm, FilterTerm, HeadTerm, AccumulatorTerm, StepTerm, StepTerms, TargetTerm, StmtTerm, StmtTerms, ElseTerm, ArmTerm, ArmTerms}
-use Rattle.qvt_tree.specs.Tree.{IntExpr, StrExpr, BoolExpr, NullExpr, SelfExpr, ResultExpr, PathExpr, CallExpr, CollExpr, IfExpr, ObjectExpr, NewExpr, MapExpr, ResolveExpr, ChainExpr, PrefixExpr, PostExpr, NoExprs, MoreExprs, NoExpr, SomeExpr, NoArgs, SomeArgs, LinkOf, NoLinks, MoreLinks, ItemOf, NoRange, RangeTo, NoItems, MoreItems, MapOf, ResolveOf, NoFilter, FilterOf, NoHead, HeadOf, NoAccumulator, AccumulatorOf, DotStep, ArrowStep, DotMapStep, ArrowMapStep, DotResolveStep, ArrowResolveStep, NoSteps, MoreSteps, BareTarget, ResultTarget, MemberTarget, VarStmt, AssignStmt, ReturnStmt, ValueStmt, IfStmt, WhileStmt, ForEachStmt, NoStmts, MoreStmts, NoElse, ElseOf, ArmOf, NoArms, MoreArms}
-use Rattle.qvt_tree.specs.declared.types.TypeTree.{TypeTree, fold-TypeTree}
-use Rattle.qvt_tree.specs.declared.types.TypeTree.TheOpen.{TypeTree-F}
-use Rattle.qvt_tree.specs.declared.tree.Expr.{Expr}
-use Rattle.qvt_tree.specs.declared.tree.Step.{Step}
-use Rattle.qvt_tree.specs.declared.tree.Stmt.{Stmt}
-use Rattle.qvt_tree.specs.declared.tree.Target.{Target}
-use Rattle.qvt_tree.specs.declared.tree.Accumulator.{Accumulator}
-use Rattle.qvt_tree.specs.declared.tree.Arm.{Arm}
-use Rattle.qvt_tree.specs.declared.tree.Filter.{Filter}
-use Rattle.qvt_tree.specs.declared.tree.Head.{Head}
-use Rattle.qvt_tree.specs.declared.tree.Item.{Item}
-use Rattle.qvt_tree.specs.declared.tree.Link.{Link}
-use Rattle.qvt_tree.specs.declared.tree.MapCall.{MapCall}
-use Rattle.qvt_tree.specs.declared.tree.RangeEnd.{RangeEnd}
-use Rattle.qvt_tree.specs.declared.tree.ResolveCall.{ResolveCall}
-use Rattle.qvt_tree.specs.declared.tree.Expr.TheOpen.{Accumulator-F, Arm-F, Expr-F, Filter-F, Head-F, Item-F, Link-F, MapCall-F, RangeEnd-F, ResolveCall-F, Step-F, Stmt-F, Target-F}
-use Rattle.qvt_tree.specs.declared.tree.Expr.TheFolds.{fold-Accumulator, fold-Arm, fold-Expr, fold-Filter, fold-Head, fold-Item, fold-Link, fold-MapCall, fold-RangeEnd, fold-ResolveCall, fold-Step, fold-Stmt, fold-Target}
+use Rattle.qvt_tree_types.specs.Tree.{TypeTerm, CollType, PathType, ExprTerm, ExprTerms, OptionalExpr, OptionalArgs, LinkTerm, LinkTerms, ItemTerm, RangeTerm, ItemTerms, MapTerm, ResolveTerm, FilterTerm, HeadTerm, AccumulatorTerm, StepTerm, StepTerms, TargetTerm, StmtTerm, StmtTerms, ElseTerm, ArmTerm, ArmTerms}
+use Rattle.qvt_tree_types.specs.Tree.{IntExpr, StrExpr, BoolExpr, NullExpr, SelfExpr, ResultExpr, PathExpr, CallExpr, CollExpr, IfExpr, ObjectExpr, NewExpr, MapExpr, ResolveExpr, ChainExpr, PrefixExpr, PostExpr, NoExprs, MoreExprs, NoExpr, SomeExpr, NoArgs, SomeArgs, LinkOf, NoLinks, MoreLinks, ItemOf, NoRange, RangeTo, NoItems, MoreItems, MapOf, ResolveOf, NoFilter, FilterOf, NoHead, HeadOf, NoAccumulator, AccumulatorOf, DotStep, ArrowStep, DotMapStep, ArrowMapStep, DotResolveStep, ArrowResolveStep, NoSteps, MoreSteps, BareTarget, ResultTarget, MemberTarget, VarStmt, AssignStmt, ReturnStmt, ValueStmt, IfStmt, WhileStmt, ForEachStmt, NoStmts, MoreStmts, NoElse, ElseOf, ArmOf, NoArms, MoreArms}
+use Rattle.qvt_tree_types.specs.declared.types.TypeTree.{TypeTree, fold-TypeTree}
+use Rattle.qvt_tree_types.specs.declared.types.TypeTree.TheOpen.{TypeTree-F}
+use Rattle.qvt_tree_types.specs.declared.tree.Expr.{Expr}
+use Rattle.qvt_tree_types.specs.declared.tree.Step.{Step}
+use Rattle.qvt_tree_types.specs.declared.tree.Stmt.{Stmt}
+use Rattle.qvt_tree_types.specs.declared.tree.Target.{Target}
+use Rattle.qvt_tree_types.specs.declared.tree.Accumulator.{Accumulator}
+use Rattle.qvt_tree_types.specs.declared.tree.Arm.{Arm}
+use Rattle.qvt_tree_types.specs.declared.tree.Filter.{Filter}
+use Rattle.qvt_tree_types.specs.declared.tree.Head.{Head}
+use Rattle.qvt_tree_types.specs.declared.tree.Item.{Item}
+use Rattle.qvt_tree_types.specs.declared.tree.Link.{Link}
+use Rattle.qvt_tree_types.specs.declared.tree.MapCall.{MapCall}
+use Rattle.qvt_tree_types.specs.declared.tree.RangeEnd.{RangeEnd}
+use Rattle.qvt_tree_types.specs.declared.tree.ResolveCall.{ResolveCall}
+use Rattle.qvt_tree_types.specs.declared.tree.Expr.TheOpen.{Accumulator-F, Arm-F, Expr-F, Filter-F, Head-F, Item-F, Link-F, MapCall-F, RangeEnd-F, ResolveCall-F, Step-F, Stmt-F, Target-F}
+use Rattle.qvt_tree_types.specs.declared.tree.Expr.TheFolds.{fold-Accumulator, fold-Arm, fold-Expr, fold-Filter, fold-Head, fold-Item, fold-Link, fold-MapCall, fold-RangeEnd, fold-ResolveCall, fold-Step, fold-Stmt, fold-Target}
 
 abbrev pub type_step : TypeTree-F TypeTerm → TypeTerm
 type_step (TypeTree-F.Coll kind item place) = CollType kind item.value place

@@ -1,21 +1,21 @@
 -- The units of a transformation and the transformation itself as plain data (QVT 1.3, 8.2.1).
 use Rattle.std.specs.Prelude.{ℕ, Bool, List, map, Option, Some, None}
 use Rattle.qvt_base.specs.declared.numbers.Place.{Place}
-use Rattle.qvt_tree.specs.Tree.{TypeTerm, OptionalExpr, NoExpr, SomeExpr, StmtTerms}
-use Rattle.qvt_tree.specs.View.{type_view, optional_type, expr_view, block_view}
-use Rattle.qvt_tree.specs.declared.types.PathTree.{PathTree}
-use Rattle.qvt_tree.specs.declared.tree.Expr.{Expr}
-use Rattle.qvt_tree.specs.declared.module.Field.{Field}
-use Rattle.qvt_tree.specs.declared.module.Param.{Param}
-use Rattle.qvt_tree.specs.declared.module.ClassDecl.{ClassDecl}
-use Rattle.qvt_tree.specs.declared.module.Helper.{Helper}
-use Rattle.qvt_tree.specs.declared.module.ResultDecl.{ResultDecl}
-use Rattle.qvt_tree.specs.declared.module.Mapping.{Mapping}
-use Rattle.qvt_tree.specs.declared.module.Unit as code
-use Rattle.qvt_tree.specs.declared.module.Unit.TheVariants.{Class, Main, Helper as HelperUnit, Constructor, Mapping as MappingUnit}
-use Rattle.qvt_tree.specs.declared.module.ModelType.{ModelType}
-use Rattle.qvt_tree.specs.declared.module.ModelParam.{ModelParam}
-use Rattle.qvt_tree.specs.declared.module.Module.{Module}
+use Rattle.qvt_tree_types.specs.Tree.{TypeTerm, OptionalExpr, NoExpr, SomeExpr, StmtTerms}
+use Rattle.qvt_tree_types.specs.View.{type_view, optional_type, expr_view, block_view}
+use Rattle.qvt_tree_types.specs.declared.types.PathTree.{PathTree}
+use Rattle.qvt_tree_types.specs.declared.tree.Expr.{Expr}
+use Rattle.qvt_tree_types.specs.declared.module.Field.{Field}
+use Rattle.qvt_tree_types.specs.declared.module.Param.{Param}
+use Rattle.qvt_tree_types.specs.declared.module.ClassDecl.{ClassDecl}
+use Rattle.qvt_tree_types.specs.declared.module.Helper.{Helper}
+use Rattle.qvt_tree_types.specs.declared.module.ResultDecl.{ResultDecl}
+use Rattle.qvt_tree_types.specs.declared.module.Mapping.{Mapping}
+use Rattle.qvt_tree_types.specs.declared.module.Unit as code
+use Rattle.qvt_tree_types.specs.declared.module.Unit.TheVariants.{Class, Main, Helper as HelperUnit, Constructor, Mapping as MappingUnit}
+use Rattle.qvt_tree_types.specs.declared.module.ModelType.{ModelType}
+use Rattle.qvt_tree_types.specs.declared.module.ModelParam.{ModelParam}
+use Rattle.qvt_tree_types.specs.declared.module.Module.{Module}
 
 -- a field of a class, or a parameter
 pub record TypedName : Type 0 where
