@@ -8,7 +8,7 @@ use Rattle.qvt_slots.specs.declared.extent.Extent.{Extent}
 use Rattle.qvt_slots.specs.Contents.{Contents, class_of, with_new, with_slot}
 use Rattle.qvt_store.specs.Sound.{Sound}
 use Rattle.qvt_model.specs.Extents.{data_of}
-use Rattle.qvt_model.specs.Written as written
+use Rattle.qvt_model.specs.Written as model
 use Rattle.qvt_small.specs.SmallRun.{attribute_named, concrete_named}
 use Rattle.qvt_small.specs.declared.text.Assignment.{Assignment}
 use Rattle.qvt_small.specs.declared.text.SmallObject.{SmallObject}
@@ -42,9 +42,12 @@ store_before m model = record { metas = m; extents = outputs model; objects = []
 unfoldable pub store_after : Metamodels → List ℕ → List SmallObject → Contents
 store_after m model os = fold with_object (store_before m model) os
 
--- the text that is written for the model
+-- the text that is written for the model of a store
+abbrev pub written : Contents → List ℕ
+written s = model.model_text s.metas (data_of s 0)
+
 unfoldable pub model_text : Metamodels → List ℕ → List SmallObject → List ℕ
-model_text m model os = written.model_text m (data_of (store_after m model os) 0)
+model_text m model os = written (store_after m model os)
 
 -- what holds while the objects are made
 pub record IsMaking (model : List ℕ) (s : Contents) : Type 0 where

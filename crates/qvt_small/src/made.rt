@@ -1,7 +1,8 @@
 //! The objects of a small text, made in a store and written.
 
-ghost use Rattle.std.specs.Prelude.{◌≡◌, fold, IsTrue, IfOk, OnOk};
-ghost use Rattle.qvt_slots.specs.Contents.{is_live};
+ghost use Rattle.std.specs.Prelude.{◌≡◌, fold, All, IsTrue, IfOk, OnOk};
+ghost use Rattle.qvt_slots.specs.Contents.{is_live, with_slot};
+ghost use Rattle.qvt_slots.specs.Types.{IsAssignable, IsAttributeChange, IsPlain};
 ghost use Rattle.qvt_small.specs.SmallRun.{have_names};
 ghost use Rattle.qvt_small.specs.SmallStore.{with_assignment, with_object, outputs, store_after, model_text, IsMaking};
 
@@ -10,7 +11,7 @@ use crate::text::{Assignment, SmallObject};
 use qvt_base::copied::Copied;
 use qvt_base::list_fault::ListFault;
 use qvt_base::lists::Bytes;
-use qvt_base::numbers::Oid;
+use qvt_base::numbers::{FeatureNo, Oid};
 use qvt_base::seq::Seq;
 use qvt_base::text::Text;
 use qvt_metas::metas::Metas;
@@ -20,6 +21,31 @@ use qvt_store::law::{add_keeps_sound, assign_keeps_sound, new_is_sound};
 use qvt_store::store::Store;
 use qvt_value::value::Value;
 use std::alloc::Global;
+
+/// Sets the slot of an attribute.
+fn set_slot(
+    alloc: Global,
+    store: &mut Store,
+    model: &str,
+    object: Oid,
+    feature: FeatureNo,
+    values: &[Value],
+) -> Result<(), ListFault>
+    requires making { IsMaking model.now store.old }
+    requires can { IsAssignable store.old object.0 feature.0 values.now }
+    requires change { IsAttributeChange store.old object.0 feature.0 values.now }
+    requires plain { All IsPlain values.now }
+    ensures set { OnOk result (store.new ≡ with_slot store.old object.0 feature.0 values.now) }
+    ensures making { OnOk result (IsMaking model.now store.new) }
+{
+    assign_keeps_sound();
+    let _extents = store.extents();
+    let _classes = store.metas().class_count();
+    match store.assign(alloc, object, feature, values) {
+        Ok(()) => Ok(()),
+        Err(_) => Err(ListFault::NoMemory),
+    }
+}
 
 /// Sets an attribute of an object.
 fn set_attribute(
@@ -35,16 +61,13 @@ fn set_attribute(
     ensures making { OnOk result (IsMaking model.now store.new) }
     ensures live { OnOk result (IsTrue (is_live store.new object.0)) }
 {
-    assign_keeps_sound();
-    let _extents = store.extents();
-    let _classes = store.metas().class_count();
     let class = store.class_of(object);
     match attribute(store.metas(), class, assignment.attribute.as_str()) {
         None => Ok(()),
-        Some(feature) => match store.assign(alloc, object, feature, &[Value::Int(assignment.value)]) {
-            Ok(()) => Ok(()),
-            Err(_) => Err(ListFault::NoMemory),
-        },
+        Some(feature) => {
+            let values = [Value::Int(assignment.value)];
+            set_slot(alloc, store, model, object, feature, &values)
+        }
     }
 }
 
