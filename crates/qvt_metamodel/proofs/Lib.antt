@@ -6,3 +6,4 @@ pub mod Infos
 pub mod Lookups
 pub mod Ancestors
 pub mod Empty
+pub mod Owners

@@ -5,6 +5,7 @@ pub mod begin;
 pub mod copied;
 pub mod declared;
 pub mod fault;
+pub mod given;
 pub mod info;
 pub mod room;
 pub mod row;

@@ -1,0 +1,43 @@
+#!/usr/bin/env bash
+# Reading metamodels of up to 1 MiB against reading their JSON values alone, in one run: prints both times, less that of a
+# metamodel without classes, and their ratio. Wants the program of crates/qvt_meta_speed, and makes it where it is missing.
+set -u
+here=$(cd "$(dirname "${BASH_SOURCE[0]}")/.." && pwd)
+work=$(mktemp -d)
+trap 'rm -rf "$work"' EXIT
+program="$here/crates/qvt_meta_speed/out/qvt_meta_speed"
+[ -x "$program" ] || (cd "$here/crates/qvt_meta_speed" && rt run >/dev/null 2>&1)
+cd "$work" || exit 1
+times=${1:-10}
+measure() { # microseconds a run of $times runs
+  local begin end
+  begin=$(date +%s%N)
+  for _ in $(seq "$times"); do "$program" "$1" || exit 1; done
+  end=$(date +%s%N)
+  echo $(((end - begin) / times / 1000))
+}
+tell() { # what the file is
+  local json meta
+  json=$(($(measure json) - least))
+  meta=$(($(measure meta) - least))
+  echo "$1, $(wc -c <m.json) bytes: JSON $json us, metamodel $meta us, ratio $(awk "BEGIN{printf \"%.1f\", $meta/$json}")"
+}
+printf '{"classes":[],"name":"M"}' >m.json
+least=$(measure json)
+awk 'BEGIN{
+  name = "ClassOfALongChainOfSuperclassesNo_"
+  printf "{\"classes\":[{\"name\":\"%s0\"}", name
+  for (i = 1; i < 10000; i++) printf ",{\"name\":\"%s%d\",\"supers\":[\"%s%d\"]}", name, i, name, i - 1
+  printf "],\"name\":\"M\"}"
+}' >m.json
+tell "a chain of 10,000 classes"
+awk 'BEGIN{
+  printf "{\"classes\":["
+  for (i = 0; i < 3000; i++) {
+    printf "%s{\"features\":[", (i ? "," : "")
+    for (j = 0; j < 6; j++) printf "%s{\"name\":\"feature%d\",\"type\":\"Integer\",\"upper\":\"*\"}", (j ? "," : ""), j
+    printf "],\"name\":\"Class%d\"}", i
+  }
+  printf "],\"name\":\"M\"}"
+}' >m.json
+tell "3,000 classes of 6 features"
