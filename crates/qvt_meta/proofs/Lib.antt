@@ -1,7 +1,6 @@
 pub mod Whole
 pub mod Made
 pub mod Cyclic
-pub mod Positions
 pub mod Counts
 pub mod Firsts
 pub mod NameThere

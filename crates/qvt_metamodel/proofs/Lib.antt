@@ -7,3 +7,5 @@ pub mod Lookups
 pub mod Ancestors
 pub mod Empty
 pub mod Owners
+pub mod FeatureNames
+pub mod Positions

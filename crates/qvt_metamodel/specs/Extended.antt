@@ -1,6 +1,6 @@
 -- Metamodels and one more, the last, which has no name: the class Element, which is above all classes, and after it classes
 -- that are declared beside metamodels (QVT 8.2.1.1, intermediate classes).
-use Rattle.std.specs.Prelude.{◌≡◌, ℕ, suc, ◌+◌, ◌<◌, ◌^◌, List, [], ◌∷◌, ◌++◌, length, map, IsTrue, true, false, Some, None, codes}
+use Rattle.std.specs.Prelude.{◌≡◌, ℕ, Bool, ◌&&◌, ◌+◌, ◌<◌, ◌^◌, List, [], ◌∷◌, ◌++◌, length, map, IsTrue, true, false, Some, None, codes}
 use Rattle.std.specs.List.{list_all, AllByRecursion}
 use Rattle.std.specs.Str.{is_utf8}
 use Rattle.qvt_base.specs.declared.numbers.ClassNo.{ClassNo}
@@ -70,6 +70,8 @@ pub record HasRoomFor (m : Metamodels) (cs : List ClassData) : Type 0 where
   pub features : length m.features + given_count cs < 2 ^ 32
 
 -- names are texts
-pub record AreTexts (cs : List ClassData) : Type 0 where
-  pub classes : AllByRecursion (λ c. IsTrue (is_utf8 c.name)) cs
-  pub features : AllByRecursion (λ c. AllByRecursion (λ f. IsTrue (is_utf8 f.name)) c.features) cs
+abbrev pub has_text : FeatureData → Bool
+has_text f = is_utf8 f.name
+
+abbrev pub has_texts : ClassData → Bool
+has_texts c = is_utf8 c.name && list_all has_text c.features

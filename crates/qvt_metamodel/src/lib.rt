@@ -7,6 +7,7 @@ pub mod declared;
 pub mod fault;
 pub mod given;
 pub mod info;
+pub mod numbering;
 pub mod room;
 pub mod row;
 pub mod tables;
