@@ -1,6 +1,5 @@
 -- The tables of a list of metamodels are those of its classes alone.
 use Rattle.std.proofs.Common.{◌≡◌, ◌∙◌, ℕ, zero, suc, List, [], ◌++◌, length, refl, ap, ◌==◌, ◌||◌}
-use Rattle.std.specs.List.{list_any, flat_map}
 use Rattle.qvt_base.specs.declared.numbers.ClassNo.{ClassNo}
 use Rattle.qvt_base.specs.declared.numbers.FeatureNo.{FeatureNo}
 use Rattle.qvt_metamodel.specs.declared.row.Row.{Row}

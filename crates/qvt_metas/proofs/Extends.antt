@@ -1,6 +1,6 @@
 -- Metamodels that are well formed are so with the class Element and the given classes after them.
-use Rattle.std.proofs.Common.{◌≡◌, ◌≢◌, ◌∙◌, ℕ, zero, suc, ◌+◌, ◌<◌, ◌≤◌, ◌^◌, List, [], ◌∷◌, ◌++◌, length, map, get_or, Bool, true, false, Option, Some, None, refl, ap, sym, subst, arith, ◌==◌, ◌&&◌, ◌||◌, ◌⊎◌, inl, inr, eqb, position, find, codes, lit<}
-use Rattle.std.specs.Prelude.{slice_index_or, nat_lt, IsTrue}
+use Rattle.std.proofs.Common.{◌≡◌, ◌≢◌, ◌∙◌, ℕ, zero, suc, ◌+◌, ◌<◌, ◌≤◌, ◌^◌, List, [], ◌∷◌, ◌++◌, length, map, get_or, true, false, Some, None, refl, ap, sym, subst, arith, ◌==◌, ◌||◌, inl, inr, eqb, position, codes, lit<}
+use Rattle.std.specs.Prelude.{slice_index_or, nat_lt}
 use Rattle.std.specs.List.{list_any, list_all, flat_map, AllByRecursion}
 use Rattle.std.specs.Str.{is_utf8, bytes_eq}
 use Rattle.std.proofs.lemmas.List.{length-append, length-map, get_or_past}
@@ -15,22 +15,20 @@ use Rattle.qvt_metamodel.specs.declared.info.TypeKind.TheVariants.{Bool as BoolK
 use Rattle.qvt_metamodel.specs.declared.info.MetamodelInfo.{MetamodelInfo}
 use Rattle.qvt_metamodel.specs.declared.info.ClassInfo.{ClassInfo}
 use Rattle.qvt_metamodel.specs.declared.info.FeatureInfo.{FeatureInfo}
-use Rattle.qvt_metamodel.specs.Metamodels.{Metamodels, class_at, feature_at, shape_of, opposite, is_opposite, is_feature_number, is_element, is_class_number, features_of, features_in, has_feature, among_features, each_once, nowhere_class, nowhere_feature, is_single, is_containment, is_one}
-use Rattle.qvt_metamodel.specs.Descends.{is_superclass, reaches, is_above, descends, is_class_kind}
-use Rattle.qvt_metamodel.specs.Named.{metamodel_at, nowhere_metamodel, nowhere_enumeration, enumeration_at, literal_at, class_named, feature_named, enumeration_named, literal_named}
+use Rattle.qvt_metamodel.specs.Metamodels.{Metamodels, class_at, feature_at, shape_of, is_opposite, is_feature_number, is_class_number, features_of, features_in, has_feature, among_features, each_once, nowhere_class, nowhere_feature, is_single, is_containment, is_one}
+use Rattle.qvt_metamodel.specs.Descends.{is_superclass, reaches, is_above, is_class_kind}
+use Rattle.qvt_metamodel.specs.Named.{metamodel_at, nowhere_metamodel, nowhere_enumeration, class_named, feature_named}
 use Rattle.qvt_metamodel.specs.WellFormed.{IsWellFormed, IsLiveKind}
 use Rattle.qvt_metamodel.specs.Kept.{AreRanks, IsKept}
 use Rattle.qvt_metamodel.specs.declared.row.Row.{Row}
 use Rattle.qvt_meta_tables.specs.Tables.{of_classes, AreTables}
 use Rattle.qvt_meta_tables.proofs.Same.{tables_same}
-use Rattle.qvt_metamodel.specs.Added.{numbers_from}
 use Rattle.qvt_metamodel.specs.Extended.{unnamed, element_class, given_class, given_classes, given_feature, given_features, given_count, extended, IsGivenNumber, AreGiven, HasRoomFor, has_text, has_texts}
 use Rattle.std.proofs.lemmas.Str.{is_utf8-from_IsUtf8, IsUtf8-nil, IsUtf8-from_ascii}
 use Rattle.qvt_metamodel.proofs.Bools.{ap2, clash, not_true, or_cases, and_left, and_right}
-use Rattle.qvt_metamodel.proofs.Halves.{Half, old, new, half, old-at, new-at}
+use Rattle.qvt_metamodel.proofs.Halves.{Half, old, new, half, new-at}
 use Rattle.qvt_metamodel.proofs.Ancestors.{Found, found}
 use Rattle.qvt_metamodel.proofs.Infos.{among_numbers}
-use Rattle.qvt_metamodel.proofs.Lookups.{position-left}
 use Rattle.qvt_metamodel.proofs.Owners.{Declared, declared}
 use Rattle.qvt_metamodel.proofs.Stable.{no-features-past}
 use Rattle.qvt_metamodel.proofs.FeatureNames.{distinct, found_feature}

@@ -1,5 +1,5 @@
 -- A list of metamodels that goes on from another: what the other had stays.
-use Rattle.std.proofs.Common.{◌≡◌, ◌∙◌, ℕ, zero, suc, ◌+◌, ◌<◌, ◌≤◌, List, [], ◌∷◌, ◌++◌, length, map, get_or, Bool, true, false, Option, Some, None, option_map, refl, ap, sym, subst, arith, ◌==◌, ◌&&◌, ◌||◌, eqb, position, find}
+use Rattle.std.proofs.Common.{◌≡◌, ◌∙◌, ℕ, zero, suc, ◌<◌, ◌≤◌, List, [], ◌∷◌, ◌++◌, length, map, get_or, false, Option, Some, None, refl, ap, arith, ◌==◌, ◌&&◌, ◌||◌, eqb, position, find}
 use Rattle.std.specs.List.{list_any, flat_map, AllByRecursion}
 use Rattle.std.specs.Str.{bytes_eq}
 use Rattle.std.proofs.lemmas.List.{length-append}
@@ -10,8 +10,8 @@ use Rattle.qvt_metamodel.specs.declared.info.ClassInfo.{ClassInfo}
 use Rattle.qvt_metamodel.specs.declared.info.FeatureInfo.{FeatureInfo}
 use Rattle.qvt_metamodel.specs.declared.info.MetamodelInfo.{MetamodelInfo}
 use Rattle.qvt_metamodel.specs.Metamodels.{Metamodels, class_at, feature_at, features_of, features_in, each_once, nowhere_class, nowhere_feature, is_element, is_class_number}
-use Rattle.qvt_metamodel.specs.Descends.{reaches, is_above, descends}
-use Rattle.qvt_metamodel.specs.Named.{metamodel_at, nowhere_metamodel, nowhere_enumeration, is_text, metamodel_named, class_named, feature_named, enumeration_named, literal_named}
+use Rattle.qvt_metamodel.specs.Descends.{reaches, is_above}
+use Rattle.qvt_metamodel.specs.Named.{metamodel_at, nowhere_metamodel, nowhere_enumeration, is_text, class_named, feature_named}
 use Rattle.qvt_metamodel.specs.WellFormed.{IsWellFormed}
 use Rattle.qvt_metamodel.specs.Kept.{AreRanks}
 use Rattle.qvt_metamodel.specs.Stay.{StaysIn}
