@@ -1,13 +1,11 @@
 -- A metamodel that passed the checks with the tables that the code makes.
-use Rattle.std.proofs.Common.{◌≡◌, ◌∙◌, ℕ, zero, suc, List, [], ◌++◌, length, map, get_or, refl, ap, sym, subst, None, ◌==◌, ◌||◌}
+use Rattle.std.proofs.Common.{◌≡◌, ◌∙◌, ℕ, List, [], length, map, get_or, ap, sym, subst, None}
 use Rattle.qvt_base.specs.declared.numbers.FeatureNo.{FeatureNo}
-use Rattle.qvt_base.specs.declared.numbers.ClassNo.{ClassNo}
 use Rattle.qvt_metamodel.specs.declared.info.FeatureInfo.{FeatureInfo}
 use Rattle.qvt_metamodel.specs.declared.row.Row.{Row}
 use Rattle.qvt_meta.specs.declared.adding.Numbers.{Numbers}
-use Rattle.qvt_metamodel.specs.Metamodels.{Metamodels, class_at, features_in, features_of, each_once, nowhere_feature}
-use Rattle.qvt_metamodel.specs.Descends.{is_above, reaches}
-use Rattle.qvt_metamodel.specs.Kept.{AreRanks, IsKept}
+use Rattle.qvt_metamodel.specs.Metamodels.{Metamodels, features_of, nowhere_feature}
+use Rattle.qvt_metamodel.specs.Kept.{IsKept}
 use Rattle.qvt_metamodel.specs.declared.declared.MetaData.{MetaData}
 use Rattle.qvt_metamodel.specs.Checked.{IsChecked}
 use Rattle.qvt_meta.specs.Numbers.{AreNumbers}
@@ -16,7 +14,6 @@ use Rattle.qvt_meta_tables.specs.Tables.{of_classes, AreTables}
 use Rattle.qvt_json.specs.Repeated.{repeated}
 use Rattle.qvt_metamodel.specs.Checks.{repeated_feature}
 use Rattle.qvt_metamodel.proofs.Infos.{length-class_infos}
-use Rattle.qvt_metamodel.proofs.Lists.{all-every, list_any-cong, flat_map-cong}
 use Rattle.qvt_meta.proofs.Whole.{M, is_numbered, well_formed}
 use Rattle.qvt_meta_tables.proofs.Same.{tables_same}
 

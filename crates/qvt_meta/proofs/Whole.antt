@@ -34,7 +34,7 @@ use Rattle.qvt_metamodel.proofs.Bools.{and_both, and_left, and_right, and_no, ap
 use Rattle.qvt_meta.proofs.Counts.{count_within}
 use Rattle.qvt_metamodel.proofs.Empty.{no_metamodels}
 use Rattle.qvt_metamodel.proofs.Infos.{featured_at, nothing_featured, all-at, map-at, map-at_all, length-class_infos, class_infos-at, length-feature_infos, feature_infos-at, FeatureAt, feature_at_place, length-numbers_from, numbers_from-at, among_numbers}
-use Rattle.qvt_metamodel.proofs.Lookups.{position-first, find-first, bytes_eq-refl, differ-before, some-within, untaken}
+use Rattle.qvt_metamodel.proofs.Lookups.{position-first, bytes_eq-refl, differ-before, some-within, untaken}
 use Rattle.qvt_metamodel.proofs.FeatureNames.{distinct as distinct_features, found_feature as named_feature}
 use Rattle.qvt_metamodel.proofs.Owners.{Declared, declared, includes}
 use Rattle.qvt_meta_checks.proofs.Passing.{map_none, first_from-none, no_fault, repeated-append, repeated-alone, enums_alone, literals_alone, classes_differ}
