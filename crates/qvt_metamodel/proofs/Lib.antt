@@ -6,3 +6,6 @@ pub mod Infos
 pub mod Lookups
 pub mod Ancestors
 pub mod Empty
+pub mod Owners
+pub mod FeatureNames
+pub mod Positions
