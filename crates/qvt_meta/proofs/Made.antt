@@ -30,7 +30,7 @@ one_kept d n lists rows ranks ok numbers tables =
       ranked = t.ranked;
       each = t.each;
       each_row = t.each_row;
-      first_rows = t.first_rows;
+      starts = t.starts;
       features = t.features;
       ancestors = t.ancestors;
     })

@@ -3,3 +3,4 @@ pub mod Marks
 pub mod Cyclic
 pub mod Searching
 pub mod Same
+pub mod Words

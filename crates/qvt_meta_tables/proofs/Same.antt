@@ -38,7 +38,7 @@ tables_same m lists rows ranks ok = record {
   ranked = ranks_same m ranks ok.ranked;
   each = ok.each;
   each_row = ok.each_row;
-  first_rows = ok.first_rows;
+  starts = ok.starts;
   features = λ c. ok.features c ∙ features_of_same m c;
   ancestors = λ c d. ok.ancestors c d ∙ reaches_same m c d;
 }

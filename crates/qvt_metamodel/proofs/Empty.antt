@@ -1,12 +1,12 @@
 -- Without metamodels everything is kept.
-use Rattle.std.proofs.Common.{◌≡◌, ℕ, [], None, true, false, refl, arith, lit<, sym, leb, ◌∙◌}
+use Rattle.std.proofs.Common.{◌≡◌, ℕ, [], None, true, false, refl, arith, lit<, sym, ◌∙◌}
 use Rattle.std.specs.Str.{is_utf8}
 use Rattle.std.proofs.lemmas.Str.{is_utf8-from_IsUtf8, IsUtf8-nil}
 use Rattle.qvt_metamodel.specs.Metamodels.{Metamodels, features_of}
 use Rattle.qvt_metamodel.specs.Descends.{reaches}
 use Rattle.qvt_metamodel.specs.WellFormed.{IsWellFormed}
 use Rattle.qvt_metamodel.specs.Kept.{IsKept}
-use Rattle.qvt_metamodel.proofs.Bools.{and_no}
+use Rattle.qvt_metamodel.proofs.Rows.{no_mark}
 
 abbrev pub no_metamodels : Metamodels
 no_metamodels = record { metamodels = []; classes = []; features = []; element = None }
@@ -63,7 +63,7 @@ kept = record {
   ranked = record { each = refl; bounded = λ c h. absurd (omega arith); rise = λ c. tt };
   each = refl;
   each_row = refl;
-  first_rows = λ c. omega arith;
+  starts = λ c. omega arith;
   features = λ c. sym (no_features c);
-  ancestors = λ c d. and_no (leb 0 d) false refl ∙ sym (no_ancestor c d);
+  ancestors = λ c d. no_mark d ∙ sym (no_ancestor c d);
 }

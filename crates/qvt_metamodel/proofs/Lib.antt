@@ -5,6 +5,7 @@ pub mod Stable
 pub mod Infos
 pub mod Lookups
 pub mod Ancestors
+pub mod Rows
 pub mod Empty
 pub mod Owners
 pub mod FeatureNames

@@ -32,7 +32,8 @@ use Rattle.qvt_metamodel.proofs.Infos.{among_numbers}
 use Rattle.qvt_metamodel.proofs.Owners.{Declared, declared}
 use Rattle.qvt_metamodel.proofs.Stable.{no-features-past}
 use Rattle.qvt_metamodel.proofs.FeatureNames.{distinct, found_feature}
-use Rattle.qvt_metas.proofs.GoesOn.{GoesOn, metamodel_old, class_old, feature_old, features_old, reaches_old, class_named_old, feature_named_old}
+use Rattle.qvt_metamodel.specs.Stay.{StaysIn}
+use Rattle.qvt_metas.proofs.GoesOn.{stays_in, GoesOn, metamodel_old, class_old, feature_old, features_old, reaches_old, class_named_old, feature_named_old}
 
 no_text : is_utf8 [] ≡ true
 no_text = is_utf8-from_IsUtf8 [] IsUtf8-nil
@@ -503,7 +504,10 @@ module _ (m : Metamodels) (cs : List ClassData) where
       ranked = t.ranked;
       each = t.each;
       each_row = t.each_row;
-      first_rows = t.first_rows;
+      starts = t.starts;
       features = t.features;
       ancestors = t.ancestors;
     })
+
+pub extended_stays : (m : Metamodels) (cs : List ClassData) (ranks : List ℕ) → IsWellFormed m → AreRanks m ranks → m.element ≡ None → StaysIn m (extended m cs)
+extended_stays m cs ranks wm am alone = subst (StaysIn m) (sym (is_extended m cs)) (stays_in m (W m cs) ranks wm am (goes_on m cs alone))

@@ -1,4 +1,4 @@
-ghost use Rattle.std.specs.Prelude.{◌≡◌, ◌≢◌, ◌↔◌, ℕ, ◌^◌, [], true, false, length, None, IfOk, IfErr, IsTrue, OnOk, OnErr, IfSome, option_map, position, ◌==◌, ◌&&◌, ◌||◌, ◌<◌};
+ghost use Rattle.std.specs.Prelude.{◌≡◌, ◌≢◌, ◌↔◌, ℕ, ◌^◌, List, [], true, false, length, None, IfOk, IfErr, IsTrue, OnOk, OnErr, IfSome, option_map, position, ◌==◌, ◌&&◌, ◌||◌, ◌<◌};
 ghost use Rattle.std.specs.Str.{bytes_eq};
 ghost use Rattle.std.specs.List.{list_any};
 ghost use Rattle.qvt_metamodel.specs.Metamodels.{class_at, feature_at, shape_of, opposite, features_of};
@@ -417,16 +417,18 @@ impl Metas {
         let _ = &self.classes;
     }
 
-    /// A law: when a metamodel is added, the numbers that were there stay, and each look-up says of
-    /// them what it said.
+    /// A law: when a metamodel is added, and when Element and given classes are, the numbers that
+    /// were there stay, and each look-up says of them what it said.
     pub fn numbers_stay(&self)
-        ensures { (d : MetaData) → StaysIn self.now (added self.now d) }
+        ensures added { (d : MetaData) → StaysIn self.now (added self.now d) }
+        ensures extended { self.now.element ≡ None → (classes : List ClassData) → StaysIn self.now (extended self.now classes) }
     {
         let _ = &self.classes;
     }
 
     ghost use Rattle.qvt_metamodel.specs.Stay.{StaysIn};
     ghost use Rattle.qvt_metamodel.specs.declared.declared.MetaData.{MetaData};
+    ghost use Rattle.qvt_metamodel.specs.declared.given.ClassData.{ClassData};
     ghost use Rattle.qvt_metamodel.specs.Metamodels.{is_element};
 
     fn is_element(&self, class: ClassNo) -> bool
