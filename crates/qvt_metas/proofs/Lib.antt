@@ -5,3 +5,4 @@ pub mod JoinsTables
 pub mod Fits
 pub mod Withs
 pub mod Rooms
+pub mod Extends

@@ -1,4 +1,4 @@
-ghost use Rattle.std.specs.Prelude.{◌≡◌, ◌≢◌, ◌↔◌, ℕ, ◌^◌, [], true, false, length, None, IfOk, IfErr, IsTrue, OnOk, OnErr, IfSome, option_map, position, ◌==◌, ◌&&◌, ◌||◌, ◌<◌};
+ghost use Rattle.std.specs.Prelude.{◌≡◌, ◌≢◌, ◌↔◌, ℕ, ◌^◌, List, [], true, false, length, None, IfOk, IfErr, IsTrue, OnOk, OnErr, IfSome, option_map, position, ◌==◌, ◌&&◌, ◌||◌, ◌<◌};
 ghost use Rattle.std.specs.Str.{bytes_eq};
 ghost use Rattle.std.specs.List.{list_any};
 ghost use Rattle.qvt_metamodel.specs.Metamodels.{class_at, feature_at, shape_of, opposite, features_of};
@@ -6,6 +6,7 @@ ghost use Rattle.qvt_metamodel.specs.Descends.{descends, Descends};
 ghost use Rattle.qvt_metamodel.specs.WellFormed.{IsWellFormed};
 ghost use Rattle.qvt_metamodel.specs.Named.{is_text};
 
+use crate::extending::{given_classes, given_features, have_texts, one_unnamed};
 use crate::joining::{class_infos_on, feature_infos_on, lists_on, ranks_on, rows_on};
 use crate::meta::Meta;
 use qvt_base::copied::Copied;
@@ -13,9 +14,11 @@ use qvt_base::list_fault::ListFault;
 use qvt_base::lists::FeatureNoList;
 use qvt_base::numbers::{ClassNo, FeatureNo};
 use qvt_base::text::Text;
+use qvt_meta_tables::tables::tables_of;
 use qvt_metamodel::begin::Begin;
 use qvt_metamodel::copied::{copies, joined};
 use qvt_metamodel::fault::MetasFault;
+use qvt_metamodel::given::{ClassData, ClassDataList};
 use qvt_metamodel::info::{
     ClassInfo, EnumInfo, FeatureInfo, FeatureShape, MetamodelInfo, TypeKind,
 };
@@ -182,6 +185,48 @@ impl Metas {
     }
 
     ghost use Rattle.qvt_metamodel.specs.Joined.{joined, FitTogether};
+
+    /// These metamodels and one more, the last, which has no name: its first class is Element, which
+    /// is abstract, has no features and is above every class, and after it come the given classes,
+    /// whose superclasses are the given ones alone.
+    pub fn extended(&self, classes: &ClassDataList) -> Result<Metas, MetasFault>
+        requires element { self.now.element ≡ None }
+        requires given { AreGiven self.now classes.now }
+        requires room { HasRoomFor self.now classes.now }
+        ensures ok { IfOk result (λ next. next ≡ extended self.now classes.now) }
+        ensures err { IfErr result (λ fault. fault ≡ MetasFault.NoMemory) }
+    {
+        Ok(self.with_given(classes.as_slice())?)
+    }
+
+    ghost use Rattle.qvt_metamodel.specs.Extended.{extended, AreGiven, HasRoomFor};
+
+    /// The same of a slice.
+    fn with_given(&self, classes: &[ClassData]) -> Result<Metas, ListFault>
+        requires element { self.now.element ≡ None }
+        requires given { AreGiven self.now classes.now }
+        requires room { HasRoomFor self.now classes.now }
+        ensures { IfOk result (λ next. next ≡ extended self.now classes.now) }
+    {
+        let alloc = *self.classes.allocator();
+        have_texts(classes);
+        let metamodel = self.metamodels.len() as u32;
+        let element = self.classes.len() as u32;
+        let first = self.features.len() as u32;
+        let given = given_classes(alloc, metamodel, first, classes)?;
+        let features = given_features(alloc, element + 1, classes)?;
+        let infos = joined(alloc, self.classes.as_slice(), given)?;
+        let tables = tables_of(alloc, infos.as_slice(), infos.len() as u32)?;
+        Ok(Metas {
+            metamodels: joined(alloc, self.metamodels.as_slice(), one_unnamed(alloc)?)?,
+            classes: infos,
+            features: joined(alloc, self.features.as_slice(), features)?,
+            element: Some(ClassNo(element)),
+            lists: tables.lists,
+            rows: tables.rows,
+            ranks: tables.ranks,
+        })
+    }
 
     pub fn metamodel_count(&self) -> u32
         ensures { result ≡ length self.now.metamodels }
@@ -372,16 +417,18 @@ impl Metas {
         let _ = &self.classes;
     }
 
-    /// A law: when a metamodel is added, the numbers that were there stay, and each look-up says of
-    /// them what it said.
+    /// A law: when a metamodel is added, and when Element and given classes are, the numbers that
+    /// were there stay, and each look-up says of them what it said.
     pub fn numbers_stay(&self)
-        ensures { (d : MetaData) → StaysIn self.now (added self.now d) }
+        ensures added { (d : MetaData) → StaysIn self.now (added self.now d) }
+        ensures extended { self.now.element ≡ None → (classes : List ClassData) → StaysIn self.now (extended self.now classes) }
     {
         let _ = &self.classes;
     }
 
     ghost use Rattle.qvt_metamodel.specs.Stay.{StaysIn};
     ghost use Rattle.qvt_metamodel.specs.declared.declared.MetaData.{MetaData};
+    ghost use Rattle.qvt_metamodel.specs.declared.given.ClassData.{ClassData};
     ghost use Rattle.qvt_metamodel.specs.Metamodels.{is_element};
 
     fn is_element(&self, class: ClassNo) -> bool

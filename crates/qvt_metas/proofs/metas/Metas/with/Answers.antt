@@ -49,7 +49,7 @@ rows_on-requires c =
     let n : Metamodels = record { metamodels = c.others.inside.metamodels.items; classes = c.others.inside.classes.items; features = c.others.inside.features.items; element = c.others.inside.element } in
     let both : Both m n c.others.inside.lists.items c.others.inside.rows.items c.others.inside.ranks.items (record { metamodel = c.len.result; class = c.len-2.result; feature = c.len-3.result }) =
     both_of m n _ _ c.self.view_is c.others.view_is c.requires.room _ _ _ c.others.invariant _ _ _ n0 n1 n2 in
-    subst (AllByRecursion (λ (r : Row). c.len-2.result + r.first < 2 ^ 32)) (sym c.as_slice-5.ensures.value) (rows_go_on _ _ _ _ _ _ both)
+    subst (AllByRecursion (λ (r : Row). c.len-2.result + r.start < 2 ^ 32)) (sym c.as_slice-5.ensures.value) (rows_go_on _ _ _ _ _ _ both)
 
 pub ranks_on-requires : goal.ranks_on-requires
 ranks_on-requires c =

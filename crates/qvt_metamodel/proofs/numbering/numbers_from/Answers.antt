@@ -1,7 +1,7 @@
 use Rattle.std.proofs.Common.{◌≡◌, ◌∙◌, ℕ, suc, ◌+◌, ◌-◌, ◌<◌, List, [], ◌∷◌, ◌++◌, ap, subst, sym, arith, append_assoc}
 use Rattle.qvt_base.specs.declared.numbers.FeatureNo.{FeatureNo}
 use Rattle.qvt_metamodel.specs.Added.{numbers_from}
-use Rattle.qvt_meta.proofs.adding.numbers_from.Goals as goal
+use Rattle.qvt_metamodel.proofs.numbering.numbers_from.Goals as goal
 
 step : (front : List FeatureNo) (n last : ℕ) (total : List FeatureNo) → n < last → front ++ numbers_from n (last - n) ≡ total
     → (front ++ record { 0 = n } ∷ []) ++ numbers_from (n + 1) (last - (n + 1)) ≡ total
