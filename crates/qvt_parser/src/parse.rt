@@ -6,9 +6,9 @@ ghost use Rattle.qvt_parsed.specs.Parsing.{IsTransformation, IsFaultOf, IsReadAs
 ghost use Rattle.qvt_parsed.specs.Parsed.{parsed};
 ghost use Rattle.qvt_parsed.specs.declared.fault.ParseFault.TheVariants as faults;
 
+use qvt_base::numbers::Place;
 use qvt_parsed::fault::ParseFault;
 use qvt_parsed::law::parsing;
-use qvt_base::numbers::Place;
 use qvt_parser_grammar::cursor::{ParseError, Parser};
 use qvt_parser_grammar::laws::answers;
 use qvt_parser_grammar::token::Token;

@@ -105,9 +105,7 @@ fn make_object(
     match concrete_class(store.metas(), object.class.as_str()) {
         None => Ok(()),
         Some(class) => match store.add_object(alloc, class, 0) {
-            Ok(made) => {
-                set_attributes(alloc, store, model, made, object.assignments.as_slice())
-            }
+            Ok(made) => { set_attributes(alloc, store, model, made, object.assignments.as_slice()) }
             Err(_) => Err(ListFault::NoMemory),
         },
     }

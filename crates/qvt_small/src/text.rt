@@ -7,7 +7,7 @@ use qvt_base::copied::Copied;
 use qvt_base::list_fault::ListFault;
 use qvt_base::seq::Seq;
 use qvt_base::text::Text;
-use qvt_tree_types::module::{Module, ModelParam, ModelType, Unit};
+use qvt_tree_types::module::{ModelParam, ModelType, Module, Unit};
 use qvt_tree_types::tree::{Expr, Stmt, Target};
 use qvt_tree_types::types::PathTree;
 use qvt_tree_types::words::Direction;
