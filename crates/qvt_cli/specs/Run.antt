@@ -1,5 +1,5 @@
 -- The outcome of `run JOB` over the bytes that the files hold: the job, its metamodel, its text, the fuel, in this order.
-use Rattle.std.specs.Prelude.{◌≡◌, ℕ, List, [], ◌∷◌, length, nat_lt, if◌then◌else◌, Option, Some, None, option_map, option_and_then, Result, Ok, Err}
+use Rattle.std.specs.Prelude.{◌≡◌, ℕ, List, [], ◌∷◌, length, nat_lt, if◌then◌else◌, Option, Some, None, option_and_then, Result, Ok, Err}
 use Rattle.qvt_base.specs.Outside.{Held}
 use Rattle.qvt_metamodel.specs.Metamodels.{Metamodels}
 use Rattle.qvt_meta_read.specs.SmallMeta.{is_small}
@@ -17,8 +17,8 @@ use Rattle.qvt_small.specs.SmallText.{small_of}
 use Rattle.qvt_small.specs.SmallRun.{fits, cost, done_line}
 use Rattle.qvt_small.specs.SmallStore.{model_text}
 use Rattle.qvt_cli.specs.Source.{tree_in}
-use Rattle.qvt_cli.specs.Outcome.{Outcome, usage, refused, out_of_fuel, done}
-use Rattle.qvt_cli.specs.Steps.{◌>>=◌, read_step, built, settled, RefusedOrNoMemory}
+use Rattle.qvt_cli.specs.Outcome.{Outcome, refused, out_of_fuel, done}
+use Rattle.qvt_cli.specs.Steps.{◌>>=◌, read_step, built, RefusedOrNoMemory}
 use Rattle.qvt_cli.specs.declared.stop.Stop.{Stop}
 use Rattle.qvt_cli.specs.declared.stop.Stop.TheVariants as stop
 use Rattle.qvt_cli.specs.Metas.{metas_in}

@@ -1,12 +1,10 @@
 -- Every text is lexed.
-use Rattle.std.proofs.Common.{◌≡◌, ◌∙◌, ap, sym, refl, subst, arith, ℕ, zero, suc, ◌+◌, ◌-◌, ◌<◌, ◌≤◌, List, [], ◌∷◌, ◌++◌, take, length, length-append, inl, inr, Ok, Err, cond}
+use Rattle.std.proofs.Common.{◌≡◌, ◌∙◌, ap, sym, refl, subst, arith, ℕ, zero, suc, ◌-◌, ◌<◌, ◌≤◌, List, [], ◌∷◌, ◌++◌, take, length, length-append, inl, inr, Ok, Err, cond}
 use Rattle.std.specs.Prelude.{◌==◌, Bool, true, false}
 use Rattle.std.specs.Str.{chars}
-use Rattle.qvt_base.specs.declared.numbers.Place.{Place}
 use Rattle.qvt_lexer.specs.Pieces.{IsNext, NoPiece, IsFaultOf}
-use Rattle.qvt_lexer.specs.Division.{Position, Written, TokenData, token_of, place_after, Reads, IsFaulty, start_at, moved, first_place}
+use Rattle.qvt_lexer.specs.Division.{Position, Written, TokenData, token_of, place_after, Reads, start_at, moved, first_place}
 use Rattle.qvt_lexer.specs.Scan.{Scan, IsScanOf, scan_at}
-use Rattle.qvt_lexer.specs.declared.token.LexFault.{LexFault}
 use Rattle.qvt_lexer.specs.declared.token.LexKind.{LexKind}
 use Rattle.qvt_lexer.specs.declared.token.LexKind.TheVariants.{BadChar, OpenText, OpenComment, BadEscape, NumberTooLarge}
 use Rattle.qvt_lexer.specs.declared.scan.Piece.{Piece}
@@ -14,7 +12,7 @@ use Rattle.qvt_lexer.proofs.Divided.{reads_more, reads_nothing}
 use Rattle.qvt_lexer.proofs.Items.{content_front}
 use Rattle.qvt_lexer.proofs.Scanned.{scan_is}
 use Rattle.qvt_lexer.proofs.Steps.{spells_some}
-use Rattle.qvt_lexed.specs.Lexed.{Lexed, front_of, by_scan, going_on, lexed_from, lexed, LexesFrom, EveryTextIsLexed}
+use Rattle.qvt_lexed.specs.Lexed.{front_of, by_scan, going_on, lexed_from, lexed, LexesFrom, EveryTextIsLexed}
 
 take_front : (u r : List ℕ) → take (length u) (u ++ r) ≡ u
 take_front [] r = refl

@@ -1,10 +1,9 @@
 -- What a text is read as is what the text is, and it is one thing.
-use Rattle.std.proofs.Common.{◌≡◌, ◌≢◌, ℕ, ◌+◌, ◌≤◌, List, [], ◌∷◌, ◌++◌, map, length, length-append, true, false, refl, sym, ap, ◌∙◌, subst, arith, Option, Some, None, Result, Ok, Err}
+use Rattle.std.proofs.Common.{◌≡◌, ◌≢◌, ℕ, List, [], ◌∷◌, ◌++◌, map, length, length-append, refl, sym, ap, ◌∙◌, subst, arith, Option, Some, None, Result, Ok, Err}
 use Rattle.std.specs.Str.{chars}
 use Rattle.qvt_base.specs.declared.numbers.Place.{Place}
 use Rattle.qvt_grammar.specs.Reader.{At, Answer}
-use Rattle.qvt_lexer.specs.Division.{TokenData, start_at}
-use Rattle.qvt_lexer.specs.declared.token.LexFault.{LexFault}
+use Rattle.qvt_lexer.specs.Division.{start_at}
 use Rattle.qvt_lexed.specs.Lexed.{Lexed, lexed, LexesFrom}
 use Rattle.qvt_lexed.proofs.Lexing.{every_text}
 use Rattle.qvt_tree_types.specs.Module.{ModuleTerm}

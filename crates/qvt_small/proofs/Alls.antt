@@ -1,7 +1,7 @@
 -- One turn of a loop over the statements of a body.
 use Rattle.std.proofs.Common.{◌≡◌, ◌<◌, ◌≤◌, ◌+◌, ◌∙◌, ap, sym, refl, ℕ, List, [], ◌∷◌, ◌++◌, drop, length, get_or, Option, Some, None, append_assoc, append-nil}
 use Rattle.std.proofs.lemmas.List.{drop_more, drop_all}
-use Rattle.qvt_tree_types.specs.Tree.{StmtTerm, StmtTerms, NoStmts, MoreStmts}
+use Rattle.qvt_tree_types.specs.Tree.{StmtTerm}
 use Rattle.qvt_tree_types.specs.View.{stmt_view, block_view}
 use Rattle.qvt_tree_types.specs.declared.tree.Stmt.{Stmt}
 use Rattle.qvt_small.specs.SmallText.{◌>>=◌, all_of}

@@ -1,6 +1,6 @@
 -- What holds while the objects are made, and what each step of it needs.
-use Rattle.std.proofs.Common.{◌≡◌, ◌∙◌, ap, sym, refl, subst, arith, ℕ, zero, suc, ◌+◌, ◌<◌, List, [], ◌∷◌, ◌++◌, drop, length, length-append, get_or, fold, add-one, Bool, true, false, ◌||◌, ◌&&◌, ◌==◌, cond, Option, Some, None, ℤ, set}
-use Rattle.std.specs.Prelude.{nat_lt, find, slice_index_or, IsTrue}
+use Rattle.std.proofs.Common.{◌≡◌, ◌∙◌, ap, sym, refl, subst, arith, ℕ, zero, suc, ◌+◌, ◌<◌, List, [], ◌∷◌, drop, length, length-append, get_or, fold, add-one, Bool, true, false, ◌||◌, ◌&&◌, ◌==◌, cond, Some, ℤ}
+use Rattle.std.specs.Prelude.{nat_lt, find, slice_index_or}
 use Rattle.std.specs.Str.{bytes_eq}
 use Rattle.std.proofs.Math.Seq.{drop-cons}
 use Rattle.std.proofs.lemmas.Bool.{eq-eqb, eqb-true, lt-ltb, ltb-true}

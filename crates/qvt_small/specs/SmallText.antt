@@ -1,6 +1,6 @@
 -- The transformations that are run today, by their tree: one model type, one model that is written, and a `main` that
 -- makes objects with literals (QVT 1.3, 8.2.1 and 8.2.2).
-use Rattle.std.specs.Prelude.{ℕ, ℤ, Bool, true, false, List, [], ◌∷◌, Option, Some, None}
+use Rattle.std.specs.Prelude.{ℕ, ℤ, false, List, [], ◌∷◌, Option, Some, None}
 use Rattle.std.specs.Option.{option_map}
 use Rattle.qvt_tree_types.specs.Tree.{ExprTerm, IntExpr, ObjectExpr, TargetTerm, BareTarget, StmtTerm, AssignStmt, ValueStmt, StmtTerms, NoStmts, MoreStmts}
 use Rattle.qvt_tree_types.specs.Module.{UnitTerm, MainOf, ModuleTerm}

@@ -1,4 +1,4 @@
-use Rattle.std.proofs.Common.{rules, arith, ◌≡◌, Option, Some, None}
+use Rattle.std.proofs.Common.{rules, arith, ◌≡◌, Some, None}
 use Rattle.qvt_tree_types.specs.View.{stmt_view}
 use Rattle.qvt_small.specs.SmallText.{object_of}
 use Rattle.qvt_small.proofs.Alls.{fails, one_more, ended}
