@@ -6,3 +6,4 @@ pub mod Fits
 pub mod Withs
 pub mod Rooms
 pub mod Extends
+pub mod ClassNames

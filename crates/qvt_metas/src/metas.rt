@@ -14,6 +14,8 @@ use qvt_base::list_fault::ListFault;
 use qvt_base::lists::FeatureNoList;
 use qvt_base::numbers::{ClassNo, FeatureNo};
 use qvt_base::text::Text;
+use qvt_meta_names::class_tables::class_tables;
+use qvt_meta_names::name_table::NameTable;
 use qvt_meta_tables::tables::tables_of;
 use qvt_metamodel::begin::Begin;
 use qvt_metamodel::copied::{copies, joined};
@@ -39,17 +41,18 @@ pub struct Metas {
     lists: Vec<FeatureNoList>,
     rows: Vec<Row>,
     ranks: Vec<u32>,
+    names: Vec<NameTable>,
 }
 
 impl Model for Metas {
     ghost use Rattle.qvt_metamodel.specs.Metamodels.{Metamodels};
-    ghost use Rattle.qvt_metamodel.specs.Kept.{IsKept};
+    ghost use Rattle.qvt_metas.specs.Held.{IsHeld};
 
     ghost Value = { Metamodels };
 
     ghost view = { λ m. record { metamodels = m.metamodels.items; classes = m.classes.items; features = m.features.items; element = m.element } };
 
-    ghost invariant = { λ m. IsKept (record { metamodels = m.metamodels.items; classes = m.classes.items; features = m.features.items; element = m.element }) m.lists.items m.rows.items m.ranks.items };
+    ghost invariant = { λ m. IsHeld (record { metamodels = m.metamodels.items; classes = m.classes.items; features = m.features.items; element = m.element }) m.lists.items m.rows.items m.ranks.items m.names.items };
 }
 
 impl Metas {
@@ -67,29 +70,54 @@ impl Metas {
             lists: Vec::new(alloc),
             rows: Vec::new(alloc),
             ranks: Vec::new(alloc),
+            names: Vec::new(alloc),
         }
     }
 
-    /// The metamodels of these parts. It takes no memory.
+    /// The metamodels of these parts.
     pub fn from_parts(
+        alloc: Global,
         metamodels: Vec<MetamodelInfo>,
         classes: Vec<ClassInfo>,
         features: Vec<FeatureInfo>,
         tables: Tables,
-    ) -> Metas
+    ) -> Result<Metas, ListFault>
         requires { IsKept (record { metamodels = metamodels.items; classes = classes.items; features = features.items; element = None }) tables.lists.items tables.rows.items tables.ranks.items }
-        ensures { result ≡ record { metamodels = metamodels.items; classes = classes.items; features = features.items; element = None } }
+        ensures { IfOk result (λ m. m ≡ record { metamodels = metamodels.items; classes = classes.items; features = features.items; element = None }) }
     {
         let Tables { lists, rows, ranks } = tables;
-        Metas {
+        let metas = Metas::whole(
+            alloc, metamodels, classes, features, None, lists, rows, ranks,
+        )?;
+        Ok(metas)
+    }
+
+    /// The metamodels of these parts, with their classes by name.
+    fn whole(
+        alloc: Global,
+        metamodels: Vec<MetamodelInfo>,
+        classes: Vec<ClassInfo>,
+        features: Vec<FeatureInfo>,
+        element: Option<ClassNo>,
+        lists: Vec<FeatureNoList>,
+        rows: Vec<Row>,
+        ranks: Vec<u32>,
+    ) -> Result<Metas, ListFault>
+        requires { IsKept (record { metamodels = metamodels.items; classes = classes.items; features = features.items; element = element }) lists.items rows.items ranks.items }
+        ensures { IfOk result (λ m. m ≡ record { metamodels = metamodels.items; classes = classes.items; features = features.items; element = element }) }
+    {
+        let count = classes.len() as u32;
+        let names = class_tables(alloc, metamodels.len() as u32, classes.as_slice(), count)?;
+        Ok(Metas {
             metamodels,
             classes,
             features,
-            element: None,
+            element,
             lists,
             rows,
             ranks,
-        }
+            names,
+        })
     }
 
     ghost use Rattle.qvt_metamodel.specs.Kept.{IsKept};
@@ -173,15 +201,17 @@ impl Metas {
         let lists = lists_on(alloc, begin, others.lists.as_slice())?;
         let rows = rows_on(alloc, begin, others.rows.as_slice())?;
         let ranks = ranks_on(alloc, begin, others.ranks.as_slice())?;
-        Ok(Metas {
-            metamodels: joined(alloc, self.metamodels.as_slice(), metamodels)?,
-            classes: joined(alloc, self.classes.as_slice(), classes)?,
-            features: joined(alloc, self.features.as_slice(), features)?,
-            element: None,
-            lists: joined(alloc, self.lists.as_slice(), lists)?,
-            rows: joined(alloc, self.rows.as_slice(), rows)?,
-            ranks: joined(alloc, self.ranks.as_slice(), ranks)?,
-        })
+        let next = Metas::whole(
+            alloc,
+            joined(alloc, self.metamodels.as_slice(), metamodels)?,
+            joined(alloc, self.classes.as_slice(), classes)?,
+            joined(alloc, self.features.as_slice(), features)?,
+            None,
+            joined(alloc, self.lists.as_slice(), lists)?,
+            joined(alloc, self.rows.as_slice(), rows)?,
+            joined(alloc, self.ranks.as_slice(), ranks)?,
+        )?;
+        Ok(next)
     }
 
     ghost use Rattle.qvt_metamodel.specs.Joined.{joined, FitTogether};
@@ -217,15 +247,17 @@ impl Metas {
         let features = given_features(alloc, element + 1, classes)?;
         let infos = joined(alloc, self.classes.as_slice(), given)?;
         let tables = tables_of(alloc, infos.as_slice(), infos.len() as u32)?;
-        Ok(Metas {
-            metamodels: joined(alloc, self.metamodels.as_slice(), one_unnamed(alloc)?)?,
-            classes: infos,
-            features: joined(alloc, self.features.as_slice(), features)?,
-            element: Some(ClassNo(element)),
-            lists: tables.lists,
-            rows: tables.rows,
-            ranks: tables.ranks,
-        })
+        let next = Metas::whole(
+            alloc,
+            joined(alloc, self.metamodels.as_slice(), one_unnamed(alloc)?)?,
+            infos,
+            joined(alloc, self.features.as_slice(), features)?,
+            Some(ClassNo(element)),
+            tables.lists,
+            tables.rows,
+            tables.ranks,
+        )?;
+        Ok(next)
     }
 
     pub fn metamodel_count(&self) -> u32
@@ -343,8 +375,12 @@ impl Metas {
     pub fn class(&self, metamodel: u32, name: &str) -> Option<ClassNo>
         ensures { option_map (λ c. c.0) result ≡ class_named self.now metamodel name.now }
     {
-        match find_class(self.classes.as_slice(), metamodel, name) {
-            Some(place) => Some(ClassNo(place as u32)),
+        let at = metamodel as usize;
+        if at >= self.names.len() {
+            return None;
+        }
+        match self.names[at].find(name) {
+            Some(number) => Some(ClassNo(number)),
             None => None,
         }
     }
@@ -499,15 +535,17 @@ fn are_named(metamodels: &[MetamodelInfo], name: &Text) -> bool
 
 impl Copied for Metas {
     fn copy(&self, alloc: Global) -> Result<Metas, ListFault> {
-        Ok(Metas {
-            metamodels: copies(alloc, self.metamodels.as_slice())?,
-            classes: copies(alloc, self.classes.as_slice())?,
-            features: copies(alloc, self.features.as_slice())?,
-            element: self.element,
-            lists: copies(alloc, self.lists.as_slice())?,
-            rows: copies(alloc, self.rows.as_slice())?,
-            ranks: copies(alloc, self.ranks.as_slice())?,
-        })
+        let copy = Metas::whole(
+            alloc,
+            copies(alloc, self.metamodels.as_slice())?,
+            copies(alloc, self.classes.as_slice())?,
+            copies(alloc, self.features.as_slice())?,
+            self.element,
+            copies(alloc, self.lists.as_slice())?,
+            copies(alloc, self.rows.as_slice())?,
+            copies(alloc, self.ranks.as_slice())?,
+        )?;
+        Ok(copy)
     }
 }
 
@@ -527,15 +565,6 @@ fn find_metamodel(metamodels: &[MetamodelInfo], name: &str) -> Option<usize>
     metamodels
         .iter()
         .position(|m| name == m.name.as_str() || is_text(&m.uri, name))
-}
-
-fn find_class(classes: &[ClassInfo], metamodel: u32, name: &str) -> Option<usize>
-    ensures value { result ≡ position (λ c. (c.metamodel == metamodel) && bytes_eq name.now c.name) classes.now }
-    ensures bound { IfSome result (λ i. i < length classes.now) }
-{
-    classes
-        .iter()
-        .position(|c| c.metamodel == metamodel && name == c.name.as_str())
 }
 
 fn find_enumeration(enums: &[EnumInfo], name: &str) -> Option<usize>

@@ -9,4 +9,4 @@ use Rattle.qvt_meta_names.proofs.class_tables.class_table.Given as goal
 abbrev pub invariant-loop-number : goal.invariant-loop-number
 invariant-loop-number l =
     (name : List ℕ) → option_or (lookup (bytes_eq name) l.table) (first_at (λ (c : ClassInfo). (c.metamodel == l.metamodel) && bytes_eq name c.name) l.number (drop l.number l.classes))
-        ≡ first_at (λ (c : ClassInfo). (c.metamodel == l.metamodel) && bytes_eq name c.name) 0 l.classes
+    ≡ first_at (λ (c : ClassInfo). (c.metamodel == l.metamodel) && bytes_eq name c.name) 0 l.classes

@@ -10,8 +10,8 @@ use Rattle.qvt_metas.proofs.Extends.{extended_stays}
 use Rattle.qvt_metas.proofs.metas.Metas.numbers_stay.Goals as goal
 
 pub returns-clause-added : goal.returns-clause-added
-returns-clause-added c = subst (λ (m : Metamodels). (d : MetaData) → StaysIn m (added m d)) c.self.view_is (added_stays _ _ c.self.invariant.well_formed c.self.invariant.ranked)
+returns-clause-added c = subst (λ (m : Metamodels). (d : MetaData) → StaysIn m (added m d)) c.self.view_is (added_stays _ _ c.self.invariant.kept.well_formed c.self.invariant.kept.ranked)
 
 pub returns-clause-extended : goal.returns-clause-extended
 returns-clause-extended c = subst (λ (m : Metamodels). m.element ≡ None → (cs : List ClassData) → StaysIn m (extended m cs)) c.self.view_is
-    (λ alone cs. extended_stays _ cs _ c.self.invariant.well_formed c.self.invariant.ranked alone)
+    (λ alone cs. extended_stays _ cs _ c.self.invariant.kept.well_formed c.self.invariant.kept.ranked alone)
