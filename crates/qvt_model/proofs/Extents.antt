@@ -257,7 +257,7 @@ module _ (s : Contents) (e : ℕ) (store : IsStore s) (sound : Sound s) where
       let live : is_live s x ≡ true = lt-ltb x (length s.objects) h.0 in
       let features = features_of s.metas (class_of s x) in
       record {
-        class = store.classes x live;
+        class = (sound.classes x live).live;
         metamodel = (sound.classes x live).metamodel ∙ ap (λ k. (extent_at s k).metamodel) h.1;
         slots = onto-all s xs x (IsSlot s.metas os (class_of s x)) [] features
             (All-weaken (λ f. among_features f.0 features ≡ true) (λ f. has_items (slot_in s xs x f) ≡ true → IsSlot s.metas os (class_of s x) (slot_in s xs x f)) (λ f own some. is-slot x f own some) features (each-among features)) tt;
