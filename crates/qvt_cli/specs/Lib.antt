@@ -6,6 +6,7 @@ pub mod Outcome
 pub mod Plans
 pub mod Reported
 pub mod Source
+pub mod Printing
 pub mod Run
 pub mod Steps
 pub mod Words

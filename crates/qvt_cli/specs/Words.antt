@@ -5,11 +5,12 @@ use Rattle.std.specs.Str.{bytes_eq}
 pub data Command : Type 0 where
   run : List ℕ → Command
   check : List ℕ → List ℕ → Command
+  print : List ℕ → Command
 
--- `run JOB` and `check METAMODEL MODEL`; every other list of words is no command
+-- `run JOB`, `check METAMODEL MODEL` and `print FILE`; every other list of words is no command
 unfoldable pub command_of : List (List ℕ) → Option Command
 command_of [] = None
 command_of (word ∷ []) = None
-command_of (word ∷ job ∷ []) = if bytes_eq word (codes "run") then Some (run job) else None
+command_of (word ∷ file ∷ []) = if bytes_eq word (codes "run") then Some (run file) else if bytes_eq word (codes "print") then Some (print file) else None
 command_of (word ∷ metamodel ∷ model ∷ []) = if bytes_eq word (codes "check") then Some (check metamodel model) else None
 command_of (word ∷ a ∷ b ∷ more ∷ rest) = None

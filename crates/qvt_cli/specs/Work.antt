@@ -3,18 +3,21 @@ use Rattle.std.specs.Prelude.{List, ℕ, [], Option, Some, None, Result}
 use Rattle.qvt_base.specs.Outside.{Held}
 use Rattle.qvt_cli.specs.Check.{check_of, check_turns}
 use Rattle.qvt_cli.specs.Outcome.{Outcome, usage}
+use Rattle.qvt_cli.specs.Printing.{print_of, print_turns}
 use Rattle.qvt_cli.specs.Run.{run_of, run_turns}
 use Rattle.qvt_cli.specs.Steps.{settled}
-use Rattle.qvt_cli.specs.Words.{Command, run, check, command_of}
+use Rattle.qvt_cli.specs.Words.{Command, run, check, print, command_of}
 
 abbrev pub work_of : Held → Command → Result Outcome Outcome
 work_of held (run name) = run_of held name
 work_of held (check metamodel model) = check_of held metamodel model
+work_of held (print name) = print_of held name
 
 -- the names that are read for it, in order
 abbrev pub work_turns : Held → Command → List (List ℕ)
 work_turns held (run name) = run_turns held name
 work_turns held (check metamodel model) = check_turns held metamodel model
+work_turns held (print name) = print_turns name
 
 abbrev pub outcome_or_usage : Held → Option Command → Outcome
 outcome_or_usage held None = usage

@@ -7,6 +7,7 @@ pub mod job;
 pub mod job_form;
 pub mod metas;
 pub mod plan;
+pub mod print;
 pub mod read_job;
 pub mod refusal;
 mod refusal_text;

@@ -11,6 +11,8 @@ pub enum Command<'a> {
     Run(&'a Text),
     /// Tells whether the model of a file conforms to the metamodel of another.
     Check(&'a Text, &'a Text),
+    /// Prints the text of this file in its one printed form.
+    Print(&'a Text),
 }
 
 /// The command that the words give.
@@ -19,9 +21,11 @@ pub fn command_of(words: &[Text]) -> Option<Command<'_>>
     ensures { option_map command_view result ≡ command_of words.now }
 {
     match words {
-        [word, job] => {
+        [word, file] => {
             if word.as_str() == "run" {
-                Some(Command::Run(job))
+                Some(Command::Run(file))
+            } else if word.as_str() == "print" {
+                Some(Command::Print(file))
             } else {
                 None
             }

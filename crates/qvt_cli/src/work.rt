@@ -8,6 +8,7 @@ ghost use Rattle.qvt_cli.specs.Work.{work_of, work_turns};
 
 use crate::check::perform_check;
 use crate::plan::Plan;
+use crate::print::perform_print;
 use crate::run::perform_run;
 use crate::stop::Stop;
 use crate::words::Command;
@@ -28,5 +29,6 @@ pub fn perform<F: Files>(alloc: Global, files: &mut F, command: Command<'_>) -> 
     match command {
         Command::Run(job) => perform_run(alloc, files, job),
         Command::Check(metamodel, model) => perform_check(alloc, files, metamodel, model),
+        Command::Print(file) => perform_print(alloc, files, file),
     }
 }
