@@ -32,6 +32,12 @@ awk 'BEGIN{
 }' >m.json
 tell "a chain of 10,000 classes"
 awk 'BEGIN{
+  printf "{\"classes\":[{\"name\":\"C0\"}"
+  for (i = 1; i < 27000; i++) printf ",{\"name\":\"C%d\",\"supers\":[\"C%d\"]}", i, i - 1
+  printf "],\"name\":\"M\"}"
+}' >m.json
+tell "a chain of 27,000 classes"
+awk 'BEGIN{
   printf "{\"classes\":["
   for (i = 0; i < 3000; i++) {
     printf "%s{\"features\":[", (i ? "," : "")
