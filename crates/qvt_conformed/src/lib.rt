@@ -1,4 +1,7 @@
-//! What the check of a model says of loading it.
+//! Models without a fault, and what is asked before a model is loaded.
 #![tactic(auto)]
 
 pub mod laws;
+pub mod loading;
+#[cfg(test)]
+mod tests;
