@@ -3,3 +3,5 @@
 
 pub mod laws;
 pub mod loading;
+#[cfg(test)]
+mod tests;

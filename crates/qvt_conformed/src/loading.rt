@@ -3,15 +3,21 @@
 ghost use Rattle.std.specs.Prelude.{◌≡◌, ◌<◌, ◌≤◌, ◌+◌, [], length, IsTrue, IfSome};
 ghost use Rattle.qvt_slots.specs.Contents.{AreNamed, extent_at, is_extent, is_model, members_of};
 ghost use Rattle.qvt_store.specs.Sound.{Sound};
+ghost use Rattle.qvt_model.specs.Extents.{data_of};
 ghost use Rattle.qvt_model.specs.WellFormed.{IsModel};
+ghost use Rattle.qvt_model.specs.Written.{model_text};
 ghost use Rattle.qvt_load.specs.Conforming.{Conforms};
 ghost use Rattle.qvt_load.specs.Loaded.{IsLoadable};
 
 use crate::laws::faultless_conforms;
+use qvt_base::lists::Bytes;
 use qvt_conform::conform::conform;
+use qvt_load::load::load;
 use qvt_metas::metas::Metas;
 use qvt_model::data::ModelData;
+use qvt_model::id_table::IdTable;
 use qvt_model::read::read_model;
+use qvt_model::write::write_model;
 use qvt_store::extent::ExtentList;
 use qvt_store::law::new_is_sound;
 use qvt_store::store::Store;
@@ -97,7 +103,7 @@ fn has_room(store: &Store, model: &ModelData) -> bool
 }
 
 /// Whether the extent has this metamodel and no objects, and the store has room for the model.
-pub fn is_loadable(store: &Store, extent: u32, metamodel: u32, model: &ModelData) -> bool
+fn is_loadable(store: &Store, extent: u32, metamodel: u32, model: &ModelData) -> bool
     requires { IsModel store.now.metas metamodel model.now.objects }
     ensures { IsTrue result → IsLoadable store.now extent model.now.objects }
 {
@@ -111,7 +117,7 @@ pub fn is_loadable(store: &Store, extent: u32, metamodel: u32, model: &ModelData
 }
 
 /// Whether the extent is a writable one of a model.
-pub fn is_written(store: &Store, extent: u32) -> bool
+fn is_written(store: &Store, extent: u32) -> bool
     ensures live { IsTrue result → IsTrue (is_extent store.now extent) }
     ensures model { IsTrue result → IsTrue (is_model store.now extent) }
     ensures writable { IsTrue result → IsTrue (extent_at store.now extent).writable }
@@ -119,5 +125,46 @@ pub fn is_written(store: &Store, extent: u32) -> bool
     match store.extents().get(extent as usize) {
         None => false,
         Some(known) => known.writable && !known.name.is_empty(),
+    }
+}
+
+/// Loads the model of a text into an extent, if it is a model of the metamodel without a fault and can be loaded there. Else the
+/// store and the table are to be given up.
+pub fn load_text(
+    alloc: Global,
+    store: &mut Store,
+    ids: &mut IdTable,
+    bytes: &[u8],
+    extent: u32,
+    metamodel: u32,
+) -> bool
+    ensures { Sound store.old → IsTrue result → Sound store.new }
+{
+    if metamodel >= store.metas().metamodel_count() {
+        return false;
+    }
+    let Some(model) = read_faultless(alloc, bytes, store.metas(), metamodel) else {
+        return false;
+    };
+    if !is_loadable(store, extent, metamodel, &model) {
+        return false;
+    }
+    match load(alloc, store, ids, &model, extent) {
+        Ok(()) => true,
+        Err(_) => false,
+    }
+}
+
+/// The text of a sound store's extent, if it is a writable one of a model.
+pub fn written_text(alloc: Global, store: &Store, extent: u32) -> Option<Bytes>
+    requires { Sound store.now }
+    ensures { IfSome result (λ text. text ≡ model_text store.now.metas (data_of store.now extent)) }
+{
+    if !is_written(store, extent) {
+        return None;
+    }
+    match write_model(alloc, store, extent) {
+        Ok(text) => Some(text),
+        Err(_) => None,
     }
 }
