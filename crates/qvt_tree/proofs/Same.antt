@@ -1,26 +1,19 @@
 -- The test of one shape is true exactly where the shapes are equal.
-use Rattle.std.proofs.Common.{◌≡◌, ℕ, ℤ, Bool, true, false, ◌&&◌, ◌==◌, List, [], ◌∷◌, Option, Some, None, refl, sym, ap, ◌∙◌, subst, cond}
-use Rattle.std.proofs.lemmas.Bool.Decides.{Decides-eqb, Decides-int_eq}
+use Rattle.std.proofs.Common.{◌≡◌, ℕ, ℤ, Bool, true, false, ◌&&◌, List, [], ◌∷◌, Option, Some, None, refl, ap}
+use Rattle.std.proofs.lemmas.Bool.Decides.{Decides-int_eq}
 use Rattle.std.proofs.lemmas.Slice.Eq.{bytes_eq-Decides, slice_eq-Decides}
 use Rattle.std.specs.Bool.{beq}
 use Rattle.std.specs.Ordering.{int_eq}
 use Rattle.std.specs.Str.{bytes_eq}
-use Rattle.std.specs.Cmp.Lexicographic.{pointwise}
 use Rattle.qvt_tree.specs.SameWords.{same_kind, same_level, same_op, same_prefix, same_word}
-use Rattle.qvt_base.specs.declared.numbers.Place.{Place}
 use Rattle.qvt_tree_types.specs.Tree.{TypeTerm, ExprTerm, ExprTerms, OptionalExpr, OptionalArgs, LinkTerm, LinkTerms, ItemTerm, RangeTerm, ItemTerms, MapTerm, ResolveTerm, FilterTerm, HeadTerm, AccumulatorTerm, StepTerm, StepTerms, TargetTerm, StmtTerm, StmtTerms, ElseTerm, ArmTerm, ArmTerms}
 use Rattle.qvt_tree_types.specs.Tree.{CollType, PathType, IntExpr, StrExpr, BoolExpr, NullExpr, SelfExpr, ResultExpr, PathExpr, CallExpr, CollExpr, IfExpr, ObjectExpr, NewExpr, MapExpr, ResolveExpr, ChainExpr, PrefixExpr, PostExpr, NoExprs, MoreExprs, NoExpr, SomeExpr, NoArgs, SomeArgs, LinkOf, NoLinks, MoreLinks, ItemOf, NoRange, RangeTo, NoItems, MoreItems, MapOf, ResolveOf, NoFilter, FilterOf, NoHead, HeadOf, NoAccumulator, AccumulatorOf, DotStep, ArrowStep, DotMapStep, ArrowMapStep, DotResolveStep, ArrowResolveStep, NoSteps, MoreSteps, BareTarget, ResultTarget, MemberTarget, VarStmt, AssignStmt, ReturnStmt, ValueStmt, IfStmt, WhileStmt, ForEachStmt, NoStmts, MoreStmts, NoElse, ElseOf, ArmOf, NoArms, MoreArms}
-use Rattle.qvt_tree_types.specs.declared.words.CollKind.{CollKind}
 use Rattle.qvt_tree_types.specs.declared.words.Sign.{Sign}
 use Rattle.qvt_tree_types.specs.declared.types.PathTree.{PathTree}
 use Rattle.qvt_tree_types.specs.declared.types.ObjectVar.{ObjectVar}
 use Rattle.qvt_tree_types.specs.declared.types.ObjectVar.TheVariants.{Named, ResultVar}
-use Rattle.qvt_tree.specs.Shape.{nowhere, erase_path, erase_optional_path, erase_variable, erase_optional_variable, erase_sign, erase_signs, erase_optional_type, erase_type, erase_expr, erase_exprs, erase_optional_expr, erase_args, erase_link, erase_links, erase_item, erase_range, erase_items, erase_map_call, erase_resolve, erase_filter, erase_head, erase_accumulator, erase_step, erase_steps, erase_target, erase_stmt, erase_stmts, erase_else, erase_arm, erase_arms}
-use Rattle.qvt_tree.specs.Same.{same_names, same_path, same_optional_path, same_optional_text, same_variable, same_optional_variable, same_sign, same_signs, same_optional_type, same_type, same_expr, same_exprs, same_optional_expr, same_args, same_link, same_links, same_item, same_range, same_items, same_map_call, same_resolve, same_filter, same_head, same_accumulator, same_step, same_steps, same_target, same_stmt, same_stmts, same_else, same_arm, same_arms}
-use Rattle.qvt_tree_types.specs.declared.words.Level.{Level}
-use Rattle.qvt_tree_types.specs.declared.words.BinaryOp.{BinaryOp}
-use Rattle.qvt_tree_types.specs.declared.words.PrefixOp.{PrefixOp}
-use Rattle.qvt_tree_types.specs.declared.words.ResolveWord.{ResolveWord}
+use Rattle.qvt_tree.specs.Shape.{nowhere, erase_path, erase_optional_path, erase_variable, erase_optional_variable, erase_signs, erase_optional_type, erase_type, erase_expr, erase_exprs, erase_optional_expr, erase_args, erase_link, erase_links, erase_item, erase_range, erase_items, erase_map_call, erase_resolve, erase_filter, erase_head, erase_accumulator, erase_step, erase_steps, erase_target, erase_stmt, erase_stmts, erase_else, erase_arm, erase_arms}
+use Rattle.qvt_tree.specs.Same.{same_names, same_path, same_optional_path, same_optional_text, same_variable, same_optional_variable, same_signs, same_optional_type, same_type, same_expr, same_exprs, same_optional_expr, same_args, same_link, same_links, same_item, same_range, same_items, same_map_call, same_resolve, same_filter, same_head, same_accumulator, same_step, same_steps, same_target, same_stmt, same_stmts, same_else, same_arm, same_arms}
 use Rattle.qvt_tree.proofs.Numbered.{and_left, and_right, and_both, kind_sound, kind_self, level_sound, level_self, op_sound, op_self, prefix_sound, prefix_self, word_sound, word_self}
 
 integer_sound : (x y : ℤ) → int_eq x y ≡ true → x ≡ y
