@@ -2,3 +2,6 @@
 #![tactic(auto)]
 
 pub use qvt_tree_types::{module, tree, types, words};
+
+mod equal;
+pub mod shape;

@@ -1,0 +1,4 @@
+pub mod Numbered
+pub mod Pairs
+pub mod Same
+pub mod SameModule

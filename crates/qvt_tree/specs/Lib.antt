@@ -1,0 +1,5 @@
+pub mod ModuleShape
+pub mod Same
+pub mod SameModule
+pub mod SameWords
+pub mod Shape
