@@ -3,6 +3,8 @@ use qvt_base::text::Text;
 use qvt_parser::fault::ParseFault;
 use qvt_parser::parse::parse;
 use qvt_printer::print::{PrintFault, print};
+use qvt_tree::module::Module;
+use qvt_tree::shape::same_shape;
 use std::alloc::Global;
 use std::process::Abort;
 
@@ -35,20 +37,22 @@ impl From<ListFault> for Fault {
 
 const SMALL: usize = 100_000;
 
-fn printed(alloc: Global, text: &str) -> Result<Text, Fault> {
+fn tree_of(alloc: Global, text: &str) -> Result<Module, Fault> {
     if text.len() > SMALL {
         return Err(Fault::TooLong);
     }
-    let module = parse(alloc, text)?;
-    let text = print(alloc, &module)?;
-    Ok(text)
+    let tree = parse(alloc, text)?;
+    Ok(tree)
 }
 
-/// The text is printed as this, which is printed as itself.
+/// The text is printed as this, which has a tree of the same shape and is printed as itself.
 fn check(rt: &impl Abort, alloc: Global, text: &str, expected: &str) -> Result<(), Fault> {
-    let once = printed(alloc, text)?;
+    let tree = tree_of(alloc, text)?;
+    let once = print(alloc, &tree)?;
     assert!(rt; once.as_str() == expected);
-    let twice = printed(alloc, expected)?;
+    let again = tree_of(alloc, expected)?;
+    assert!(rt; same_shape(&tree, &again));
+    let twice = print(alloc, &again)?;
     assert!(rt; twice.as_str() == expected);
     Ok(())
 }
