@@ -21,7 +21,7 @@ pub named-last : (es : List (String Global × ℕ)) (k : String Global) (n : ℕ
 named-last [] k n = refl
 named-last (e ∷ es) k n = ap (λ xs. (string_bytes e.0, e.1) ∷ xs) (named-last es k n)
 
-pub lookup-last : (p : List ℕ → Bool) (es : List (List ℕ × ℕ)) (k : List ℕ) (n : ℕ) → lookup p (es ++ (k, n) ∷ []) ≡ option_or (lookup p es) (if p k then Some n else None)
+pub lookup-last : {K : Type 0} (p : K → Bool) (es : List (K × ℕ)) (k : K) (n : ℕ) → lookup p (es ++ (k, n) ∷ []) ≡ option_or (lookup p es) (if p k then Some n else None)
 lookup-last p [] k n = refl
 lookup-last p (e ∷ es) k n = ap (cond (p e.0) (Some e.1)) (lookup-last p es k n) ∙ chosen (p e.0) e.1 (lookup p es) (if p k then Some n else None)
   where
@@ -89,7 +89,7 @@ pub first-all : {X : Type 0} (p : X → Bool) (n : ℕ) (xs : List X) (o : Optio
 first-all p n xs o l is = sym (or_none o) ∙ ap (λ ys. option_or o (first_at p n ys)) (sym (drop_of_length-le xs l)) ∙ is ∙ first-position p xs
 
 -- a fact of each table, when one more is put last
-pub each-next : (P : ℕ → List (List ℕ × ℕ) → Type 0) (ts : List (List (List ℕ × ℕ))) (n : ℕ) (t : List (List ℕ × ℕ)) → length ts ≡ n → ((k : ℕ) → k < n → P k (get_or ts k [])) → P n t
+pub each-next : {K : Type 0} (P : ℕ → List (K × ℕ) → Type 0) (ts : List (List (K × ℕ))) (n : ℕ) (t : List (K × ℕ)) → length ts ≡ n → ((k : ℕ) → k < n → P k (get_or ts k [])) → P n t
     → (k : ℕ) → k < n + 1 → P k (get_or (ts ++ t ∷ []) k [])
 each-next P ts n t each all here k h = by k (half n k) h
   where

@@ -1,5 +1,7 @@
-//! The classes of metamodels by name.
+//! The classes and features of metamodels by name.
 #![tactic(auto)]
 
 pub mod class_tables;
+pub mod feature_tables;
 pub mod name_table;
+pub mod number_table;
