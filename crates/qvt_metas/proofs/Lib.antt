@@ -7,3 +7,4 @@ pub mod Withs
 pub mod Rooms
 pub mod Extends
 pub mod ClassNames
+pub mod FeaturePlaces

@@ -15,7 +15,9 @@ use qvt_base::lists::FeatureNoList;
 use qvt_base::numbers::{ClassNo, FeatureNo};
 use qvt_base::text::Text;
 use qvt_meta_names::class_tables::class_tables;
+use qvt_meta_names::feature_tables::{feature_table, name_numbers, place_tables};
 use qvt_meta_names::name_table::NameTable;
+use qvt_meta_names::number_table::NumberTable;
 use qvt_meta_tables::tables::tables_of;
 use qvt_metamodel::begin::Begin;
 use qvt_metamodel::copied::{copies, joined};
@@ -42,6 +44,9 @@ pub struct Metas {
     rows: Vec<Row>,
     ranks: Vec<u32>,
     names: Vec<NameTable>,
+    feature_names: NameTable,
+    numbers: Vec<u32>,
+    places: Vec<NumberTable>,
 }
 
 impl Model for Metas {
@@ -52,7 +57,7 @@ impl Model for Metas {
 
     ghost view = { λ m. record { metamodels = m.metamodels.items; classes = m.classes.items; features = m.features.items; element = m.element } };
 
-    ghost invariant = { λ m. IsHeld (record { metamodels = m.metamodels.items; classes = m.classes.items; features = m.features.items; element = m.element }) m.lists.items m.rows.items m.ranks.items m.names.items };
+    ghost invariant = { λ m. IsHeld (record { metamodels = m.metamodels.items; classes = m.classes.items; features = m.features.items; element = m.element }) m.lists.items m.rows.items m.ranks.items m.names.items m.feature_names m.numbers.items m.places.items };
 }
 
 impl Metas {
@@ -71,6 +76,9 @@ impl Metas {
             rows: Vec::new(alloc),
             ranks: Vec::new(alloc),
             names: Vec::new(alloc),
+            feature_names: NameTable::new(alloc),
+            numbers: Vec::new(alloc),
+            places: Vec::new(alloc),
         }
     }
 
@@ -92,7 +100,7 @@ impl Metas {
         Ok(metas)
     }
 
-    /// The metamodels of these parts, with their classes by name.
+    /// The metamodels of these parts, with their classes and features by name.
     fn whole(
         alloc: Global,
         metamodels: Vec<MetamodelInfo>,
@@ -108,6 +116,9 @@ impl Metas {
     {
         let count = classes.len() as u32;
         let names = class_tables(alloc, metamodels.len() as u32, classes.as_slice(), count)?;
+        let feature_names = feature_table(alloc, features.as_slice(), features.len() as u32)?;
+        let numbers = name_numbers(alloc, &feature_names, features.as_slice())?;
+        let places = place_tables(alloc, numbers.as_slice(), lists.as_slice())?;
         Ok(Metas {
             metamodels,
             classes,
@@ -117,6 +128,9 @@ impl Metas {
             rows,
             ranks,
             names,
+            feature_names,
+            numbers,
+            places,
         })
     }
 
@@ -389,12 +403,39 @@ impl Metas {
     pub fn feature(&self, class: ClassNo, name: &str) -> Option<FeatureNo>
         ensures { result ≡ feature_named self.now class.0 name.now }
     {
-        for feature in self.features(class) {
-            if name == self.feature_name(*feature) {
-                return Some(*feature);
-            }
+        let Some(number) = self.feature_names.find(name) else {
+            return None;
+        };
+        let at = class.0 as usize;
+        if at >= self.places.len() {
+            return None;
         }
-        None
+        match self.places[at].find(number) {
+            Some(place) => Some(self.features(class)[place]),
+            None => None,
+        }
+    }
+
+    /// The place of the feature among those of the class, from 0.
+    pub fn place(&self, class: ClassNo, feature: FeatureNo) -> Option<usize>
+        ensures { result ≡ position (λ f. f.0 == feature.0) (features_of self.now class.0) }
+    {
+        let at = class.0 as usize;
+        let named = feature.0 as usize;
+        if at >= self.places.len() {
+            return None;
+        }
+        if named >= self.numbers.len() {
+            return None;
+        }
+        let Some(place) = self.places[at].find(self.numbers[named]) else {
+            return None;
+        };
+        if self.features(class)[place].0 == feature.0 {
+            Some(place)
+        } else {
+            None
+        }
     }
 
     pub fn metamodel_of(&self, class: ClassNo) -> u32

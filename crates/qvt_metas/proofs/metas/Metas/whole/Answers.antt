@@ -1,0 +1,24 @@
+use Rattle.std.proofs.Common.{◌≡◌, ◌∙◌, ℕ, ◌==◌, ◌&&◌, List, [], length, ap, sym, arith, position, slice_index_or}
+use Rattle.std.specs.Str.{bytes_eq}
+use Rattle.qvt_base.specs.declared.numbers.FeatureNo.{FeatureNo}
+use Rattle.qvt_metamodel.specs.declared.info.ClassInfo.{ClassInfo}
+use Rattle.qvt_metamodel.specs.declared.info.FeatureInfo.{FeatureInfo}
+use Rattle.qvt_metamodel.proofs.Bools.{ap2}
+use Rattle.qvt_meta_names.specs.Named.{numbers_of, number_at}
+use Rattle.qvt_metas.proofs.metas.Metas.whole.Goals as goal
+
+pub invariant_of-result : goal.invariant_of-result
+invariant_of-result c = let many : c.len.result ≡ length c.args.metamodels.items = omega (arith, c.len.ensures) in record {
+  kept = c.requires;
+  each = c.in_ok-names.ensures.each ∙ many;
+  named = λ k h name. c.in_ok-names.ensures.names k (omega (arith, h, many)) name ∙ ap (λ (cs : List ClassInfo). position (λ (x : ClassInfo). (x.metamodel == k) && bytes_eq name x.name) cs) c.as_slice.ensures.value;
+  numbered = record {
+    first = λ name. c.in_ok-feature_names.ensures name ∙ ap (λ (fs : List FeatureInfo). position (λ (x : FeatureInfo). bytes_eq name x.name) fs) c.as_slice-2.ensures.value;
+    each = c.in_ok-numbers.ensures ∙ ap (λ (fs : List FeatureInfo). numbers_of c.in_ok-feature_names.feature_names fs) c.as_slice-3.ensures.value;
+  };
+  placed = record {
+    each = c.in_ok-places.ensures.each ∙ ap length c.as_slice-5.ensures.value;
+    at = λ k h n. c.in_ok-places.ensures.places k (omega (arith, h, ap length c.as_slice-5.ensures.value)) n
+        ∙ ap2 (λ (ns : List ℕ) (ls : List (List FeatureNo)). position (λ (f : FeatureNo). n == number_at ns f) (slice_index_or ls k [])) c.as_slice-4.ensures.value c.as_slice-5.ensures.value;
+  };
+}
