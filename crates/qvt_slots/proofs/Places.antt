@@ -1,12 +1,15 @@
 -- The place of a feature among those of a class.
-use Rattle.std.proofs.Common.{◌≡◌, ◌≢◌, ℕ, zero, suc, ◌<◌, Bool, true, false, ◌||◌, ◌==◌, cond, refl, sym, ap, ◌∙◌, List, [], ◌∷◌, map, length, set, arith}
-use Rattle.std.specs.Prelude.{slice_index_or}
-use Rattle.std.proofs.lemmas.Bool.{eq-eqb, ne_eqb}
+use Rattle.std.proofs.Common.{◌≡◌, ◌≢◌, ℕ, zero, suc, ◌<◌, Bool, true, false, ◌||◌, ◌==◌, cond, refl, sym, ap, ◌∙◌, List, [], ◌∷◌, map, length, set, get_or, position, Option, Some, None, arith}
+use Rattle.std.specs.Prelude.{slice_index_or, IfNone, IfSome, IsFalse}
+use Rattle.std.specs.List.{position_or_len}
+use Rattle.std.proofs.lemmas.Bool.{eq-eqb, ne_eqb, eqb-true, lt-ltb}
+use Rattle.std.proofs.lemmas.List.Quantifiers.{position-Some}
 use Rattle.std.proofs.lemmas.Bool.Decides.{Decides-eqb}
 use Rattle.qvt_base.specs.declared.numbers.FeatureNo.{FeatureNo}
 use Rattle.qvt_value.specs.declared.value.Value.{Value}
 use Rattle.qvt_metamodel.specs.Metamodels.{among_features}
-use Rattle.qvt_relation.proofs.Bools.{or_none, refuted}
+use Rattle.qvt_metamodel.proofs.Positions.{any-within}
+use Rattle.qvt_relation.proofs.Bools.{or_none, refuted, clash}
 use Rattle.qvt_slots.specs.Cells.{IsPlaceOf}
 use Rattle.qvt_slots.specs.Contents.{list_of, set_list}
 
@@ -62,3 +65,31 @@ no_lists (g ∷ gs) f = go (g.0 == f) (no_lists gs f)
     go : (b : Bool) → list_of gs (map (λ _. []) gs) f ≡ [] → cond b [] (list_of gs (map (λ _. []) gs) f) ≡ []
     go true e = refl
     go false e = e
+
+-- the first place at which a feature stands, as it is looked up
+
+pub place_found : (gs : List FeatureNo) (f i : ℕ) → position (λ (g : FeatureNo). g.0 == f) gs ≡ Some i → IsPlaceOf gs f i
+place_found gs f i e =
+    let at = position-Some (λ (g : FeatureNo). g.0 == f) gs i (record { 0 = 0 }) e in
+    record {
+      within = at.0;
+      here = eqb-true (get_or gs i (record { 0 = 0 })).0 f at.1;
+      earlier = λ k l same. clash _ (eq-eqb (get_or gs k (record { 0 = 0 })).0 f same) (at.2 k l);
+    }
+
+pub place_missing : (gs : List FeatureNo) (f : ℕ) → position (λ (g : FeatureNo). g.0 == f) gs ≡ None → among_features f gs ≡ false
+place_missing gs f e = by (among_features f gs) refl
+  where
+    by : (b : Bool) → among_features f gs ≡ b → among_features f gs ≡ false
+    by false h = h
+    by true h = absurd (let some : position (λ (g : FeatureNo). g.0 == f) gs ≡ Some (position_or_len (λ (g : FeatureNo). g.0 == f) gs) =
+        ap (λ b. cond b (Some (position_or_len (λ (g : FeatureNo). g.0 == f) gs)) None) (lt-ltb _ (length gs) (any-within (λ (g : FeatureNo). g.0 == f) gs h)) in
+        let no : None ≡ Some (position_or_len (λ (g : FeatureNo). g.0 == f) gs) = sym e ∙ some in cc)
+
+pub if_missing : (gs : List FeatureNo) (f : ℕ) (o : Option ℕ) → o ≡ position (λ (g : FeatureNo). g.0 == f) gs → IfNone o (IsFalse (among_features f gs))
+if_missing gs f None e = place_missing gs f (sym e)
+if_missing gs f (Some i) e = tt
+
+pub if_found : (gs : List FeatureNo) (f : ℕ) (o : Option ℕ) → o ≡ position (λ (g : FeatureNo). g.0 == f) gs → IfSome o (λ i. IsPlaceOf gs f i)
+if_found gs f None e = tt
+if_found gs f (Some i) e = place_found gs f i (sym e)

@@ -1,41 +1,34 @@
 //! Slots set in the cells of a store.
 
 ghost use Rattle.std.specs.Prelude.{◌≡◌, ◌<◌, length, IsTrue, IsFalse, IfNone, IfSome};
-ghost use Rattle.qvt_metamodel.specs.Metamodels.{has_feature, among_features};
+ghost use Rattle.qvt_metamodel.specs.Metamodels.{has_feature, features_of};
 ghost use Rattle.qvt_slots.specs.Cells.{HaveSlots, IsPut, IsPlaceOf, IsSameCells, instance_in, instances};
 ghost use Rattle.std.specs.Prelude.{◌++◌, ◌∷◌, [], OnOk, OnErr};
 ghost use Rattle.qvt_slots.specs.Contents.{slot_in};
 
 use crate::cell::Cell;
 use qvt_base::list_fault::ListFault;
-use qvt_base::numbers::{FeatureNo, Oid};
+use qvt_base::numbers::{ClassNo, FeatureNo, Oid};
 use qvt_metas::metas::Metas;
 use qvt_value::value::{Value, Values};
 
-/// The place of a feature among those of a class.
-pub fn place_of(features: &[FeatureNo], feature: FeatureNo) -> usize
-    requires { IsTrue (among_features feature.0 features.now) }
-    ensures { IsPlaceOf features.now feature.0 result }
+/// The place of a feature of a class among its features.
+pub fn place_of(metas: &Metas, class: ClassNo, feature: FeatureNo) -> usize
+    requires { IsTrue (has_feature metas.now class.0 feature.0) }
+    ensures { IsPlaceOf (features_of metas.now class.0) feature.0 result }
 {
-    for (i, known) in features.iter().enumerate() {
-        if known.0 == feature.0 {
-            return i;
-        }
+    match metas.place(class, feature) {
+        Some(place) => place,
+        None => unreachable!(),
     }
-    unreachable!()
 }
 
 /// The place of a feature among those of a class, if it is there.
-pub fn find_place(features: &[FeatureNo], feature: FeatureNo) -> Option<usize>
-    ensures none { IfNone result (IsFalse (among_features feature.0 features.now)) }
-    ensures some { IfSome result (λ place. IsPlaceOf features.now feature.0 place) }
+pub fn find_place(metas: &Metas, class: ClassNo, feature: FeatureNo) -> Option<usize>
+    ensures none { IfNone result (IsFalse (has_feature metas.now class.0 feature.0)) }
+    ensures some { IfSome result (λ place. IsPlaceOf (features_of metas.now class.0) feature.0 place) }
 {
-    for (i, known) in features.iter().enumerate() {
-        if known.0 == feature.0 {
-            return Some(i);
-        }
-    }
-    None
+    metas.place(class, feature)
 }
 
 /// Sets one slot.
@@ -46,7 +39,7 @@ pub fn put(metas: &Metas, cells: &mut Vec<Cell>, object: Oid, feature: FeatureNo
     ensures { IsPut metas.now cells.old.items cells.new.items object.0 feature.0 items }
 {
     let cell = &mut cells[object.0 as usize];
-    let place = place_of(metas.features(cell.class), feature);
+    let place = place_of(metas, cell.class, feature);
     cell.slots[place] = items;
 }
 
@@ -65,7 +58,7 @@ pub fn push_value(
     ensures err { OnErr result (IsSameCells cells.old.items cells.new.items) }
 {
     let cell = &mut cells[object.0 as usize];
-    let place = place_of(metas.features(cell.class), feature);
+    let place = place_of(metas, cell.class, feature);
     let list = &mut cell.slots[place];
     list.push(value)?;
     Ok(())

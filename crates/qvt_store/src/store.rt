@@ -133,7 +133,7 @@ impl Store {
         ensures { result.now ≡ slot_of self.now object.0 feature.0 }
     {
         let cell = &self.cells[object.0 as usize];
-        let place = place_of(self.metas.features(cell.class), feature);
+        let place = place_of(&self.metas, cell.class, feature);
         cell.slots[place].as_slice()
     }
 
@@ -144,7 +144,7 @@ impl Store {
         let at = object.0 as usize;
         if at < self.cells.len() {
             let cell = &self.cells[at];
-            if let Some(place) = find_place(self.metas.features(cell.class), feature) {
+            if let Some(place) = find_place(&self.metas, cell.class, feature) {
                 return cell.slots[place].as_slice();
             }
         }

@@ -24,8 +24,7 @@ impl Store {
         ensures { result ≡ is_slot self.now object.0 feature.0 }
     {
         let at = object.0 as usize;
-        at < self.cells.len()
-            && find_place(self.metas.features(self.cells[at].class), feature).is_some()
+        at < self.cells.len() && find_place(&self.metas, self.cells[at].class, feature).is_some()
     }
 
     /// Plans a write of the slot, where it is one, is not the changed one and is not planned yet.

@@ -1,8 +1,6 @@
-use Rattle.std.proofs.Common.{◌∙◌, ◌++◌, ◌∷◌, [], refl, sym, ap, subst, List}
+use Rattle.std.proofs.Common.{◌∙◌, ◌++◌, ◌∷◌, [], refl, sym, ap, List}
 use Rattle.std.specs.Prelude.{slice_index_or}
-use Rattle.qvt_base.specs.declared.numbers.FeatureNo.{FeatureNo}
 use Rattle.qvt_value.specs.declared.value.Value.{Value}
-use Rattle.qvt_slots.specs.Cells.{IsPlaceOf}
 use Rattle.qvt_slots.proofs.Cells.{put_is, slot-cell}
 use Rattle.qvt_slots.proofs.Pushed.{same_cells, on_err, put_same}
 use Rattle.qvt_slots.proofs.put.push_value.Goals as goal
@@ -13,7 +11,7 @@ returns-in_err-push-clause-err c = on_err c.from_residual.result (same_cells c.a
 
 pub returns-clause-ok : goal.returns-clause-ok
 returns-clause-ok c =
-    let at = subst (λ (gs : List FeatureNo). IsPlaceOf gs c.args.feature.0 c.place_of-place.result) c.features.ensures c.place_of-place.ensures in
+    let at = c.place_of-place.ensures in
     put_same _ _ _ _ _ c.push.new.self _
     (put_is c.args.metas.now c.args.cells.now.items c.args.object.0 c.args.feature.0 c.place_of-place.result c.push.new.self c.index_mut-cell.result.now _
     c.requires.live c.index_mut-cell.ensures.value c.requires.have_slots at refl refl refl refl)
