@@ -1,0 +1,5 @@
+mod Answering
+mod AnsweringExprs
+mod AnsweringBlocks
+mod AnsweringUnits
+mod Parsing
