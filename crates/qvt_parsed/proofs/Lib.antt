@@ -1,5 +1,0 @@
-mod Answering
-mod AnsweringExprs
-mod AnsweringBlocks
-mod AnsweringUnits
-mod Parsing
