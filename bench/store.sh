@@ -3,7 +3,8 @@
 # * how many assignments are done in a second on a one-to-one pair of opposites among 10,000 and among 100,000 objects, and the
 #   ratio of the two costs. A change costs its slots and not the store, so the ratio is that of the machine's caches;
 # * for 20,000 objects put last in one slot against 2,000, one after the other, the ratio of the costs: near 10 where the slot is
-#   not unique; in a unique one, as each containment is, each is compared with those that are there, so it nears 100;
+#   not unique, and in a containment, since an object knows the slot that holds it; in another unique slot each is compared with
+#   those that are there, so it would near 100;
 # * the ratio for 20,000 objects without links against 2,000.
 set -u
 here=$(cd "$(dirname "${BASH_SOURCE[0]}")/.." && pwd)

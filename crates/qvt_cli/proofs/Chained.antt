@@ -1,5 +1,5 @@
 -- Steps one after the other: an early end of the first is one of the whole, and what the first gives goes into the second.
-use Rattle.std.proofs.Common.{◌≡◌, ◌≢◌, ◌∙◌, ap, sym, subst, ℕ, List, [], ◌∷◌, Result, Ok, Err, ◌⊎◌, inl, inr}
+use Rattle.std.proofs.Common.{◌≡◌, ◌≢◌, ap, sym, subst, ℕ, List, ◌∷◌, Result, Ok, Err, inl, inr}
 use Rattle.qvt_cli.specs.Outcome.{Outcome, refused}
 use Rattle.qvt_cli.specs.Reported.{IsAmong}
 use Rattle.qvt_cli.specs.Run.{on_ok, IsJobStop, job_or_refused}

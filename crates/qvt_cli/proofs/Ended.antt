@@ -1,8 +1,8 @@
 -- What the answer is after an early end was told.
-use Rattle.std.proofs.Common.{◌≡◌, ◌≢◌, ◌∙◌, ap, sym, subst, ℕ, List, Option, ◌⊎◌, inl, inr, Result, Ok, Err}
+use Rattle.std.proofs.Common.{◌≡◌, ◌≢◌, ◌∙◌, ap, sym, ℕ, List, Option, ◌⊎◌, inl, inr, Result}
 use Rattle.qvt_base.specs.Outside.{Rose}
 use Rattle.qvt_cli.specs.Outcome.{Outcome, status_of, read_fault_line, no_memory_line}
-use Rattle.qvt_cli.specs.Reported.{Reports, appended, IsCut}
+use Rattle.qvt_cli.specs.Reported.{Reports, appended}
 use Rattle.qvt_cli.specs.Steps.{Stops, IsFaultWith, settled, stop_line, stop_status}
 use Rattle.qvt_cli.specs.declared.status.Status.{Status}
 use Rattle.qvt_cli.specs.declared.status.Status.TheVariants as status

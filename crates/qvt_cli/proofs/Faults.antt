@@ -1,5 +1,5 @@
 -- An early end by the fault of a file is one of what is stated.
-use Rattle.std.proofs.Common.{◌≡◌, ◌≢◌, ◌∙◌, ◌<◌, ap, sym, subst, arith, ℕ, List, Bool, true, false, Option, Some, None, Result, Ok, Err, IfOk}
+use Rattle.std.proofs.Common.{◌≡◌, ◌≢◌, ◌∙◌, ◌<◌, ap, sym, subst, arith, ℕ, List, false, Some, None, Result, Ok, Err, IfOk}
 use Rattle.std.specs.Prelude.{nat_lt, length, if◌then◌else◌}
 use Rattle.qvt_model.specs.declared.data.ObjectData.{ObjectData}
 use Rattle.qvt_metamodel.specs.Metamodels.{Metamodels}

@@ -3,5 +3,5 @@ pub mod Ended
 pub mod Faults
 pub mod Sent
 pub mod Settle
-pub mod Texts
+pub mod Sources
 pub mod Written

@@ -1,6 +1,5 @@
 -- A text that goes out in pieces.
 use Rattle.std.proofs.Common.{◌≡◌, ◌∙◌, ap, sym, refl, ℕ, ◌+◌, List, ◌++◌, take, drop, Option, Some, None, append_assoc}
-use Rattle.std.specs.Option.{option_map}
 use Rattle.std.proofs.Math.Seq.{take-add}
 use Rattle.qvt_cli.specs.Reported.{appended}
 

@@ -1,10 +1,9 @@
 -- What stands after a report, by the answer that it gives.
-use Rattle.std.proofs.Common.{◌≡◌, ◌∙◌, ap, sym, refl, subst, ℕ, ◌<◌, List, [], ◌∷◌, take, length, Option, Some, None, ◌⊎◌, inl, inr, Result, Ok, Err}
-use Rattle.std.specs.Option.{option_map}
+use Rattle.std.proofs.Common.{◌≡◌, sym, refl, subst, ℕ, ◌<◌, List, take, length, Option, Some, None, ◌⊎◌, inl, inr, Result, Ok}
 use Rattle.qvt_base.specs.Outside.{Held, Rose, SameBut, BothTold}
-use Rattle.qvt_cli.specs.Outcome.{Outcome, usage, refused, out_of_fuel, low, done, File, status_of, report, files_of, files_after, put_all, read_fault_line, write_fault_line, no_memory_line}
-use Rattle.qvt_cli.specs.Reported.{Change, Reports, Answers, Told, FileFailed, ReportFailed, ReadLineFailed, MemoryLineFailed, IsAmong, IsCut, appended, name_at}
-use Rattle.qvt_cli.specs.Plans.{files_in, outcome_of, StoppedWriting, CarriedOut}
+use Rattle.qvt_cli.specs.Outcome.{Outcome, usage, refused, out_of_fuel, low, done, status_of, report, files_after, put_all, read_fault_line, write_fault_line, no_memory_line}
+use Rattle.qvt_cli.specs.Reported.{Change, Reports, Answers, IsAmong, appended, name_at}
+use Rattle.qvt_cli.specs.Plans.{files_in, outcome_of, CarriedOut}
 use Rattle.qvt_cli.specs.Steps.{Stops, IsFaultWith, settled, stop_line, stop_status}
 use Rattle.qvt_cli.specs.declared.status.Status.{Status}
 use Rattle.qvt_cli.specs.declared.status.Status.TheVariants as status

@@ -1,7 +1,6 @@
 -- Files written one after the other.
-use Rattle.std.proofs.Common.{arith, zero, suc, ◌≡◌, ◌∙◌, ap, sym, refl, subst, ℕ, ◌+◌, ◌<◌, List, [], ◌∷◌, ◌++◌, take, length, get_or, map, Option, Some, None}
+use Rattle.std.proofs.Common.{arith, zero, suc, ◌≡◌, ◌∙◌, ap, sym, refl, subst, ℕ, ◌+◌, ◌<◌, List, [], ◌∷◌, ◌++◌, take, length, get_or, Option, Some, None}
 use Rattle.std.specs.Option.{option_map}
-use Rattle.std.specs.List.{AllByRecursion}
 use Rattle.std.specs.FinMap as finite
 use Rattle.std.proofs.lemmas.List.{map_more, get_or-map, take-map, length-map}
 use Rattle.qvt_base.specs.Outside.{Held, BothTold, SameBut}

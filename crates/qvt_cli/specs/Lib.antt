@@ -5,6 +5,7 @@ pub mod Metas
 pub mod Outcome
 pub mod Plans
 pub mod Reported
+pub mod Source
 pub mod Run
 pub mod Steps
 pub mod Words

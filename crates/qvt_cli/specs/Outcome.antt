@@ -2,6 +2,11 @@
 use Rattle.std.specs.Prelude.{ℕ, List, [], ◌∷◌, ◌++◌, codes, decimal}
 use Rattle.std.specs.FinMap as map
 use Rattle.qvt_base.specs.Outside.{Held}
+use Rattle.qvt_base.specs.declared.numbers.Place.{Place}
+use Rattle.qvt_lexer.specs.declared.token.LexKind.{LexKind}
+use Rattle.qvt_lexer.specs.declared.token.LexKind.TheVariants as lex
+use Rattle.qvt_parsed.specs.declared.fault.ParseFault.{ParseFault}
+use Rattle.qvt_parsed.specs.declared.fault.ParseFault.TheVariants as parse
 use Rattle.qvt_metamodel.specs.declared.fault.MetaFault.{MetaFault}
 use Rattle.qvt_metamodel.specs.declared.fault.MetaFault.TheVariants as meta
 use Rattle.qvt_model.specs.declared.data.ModelFault.{ModelFault}
@@ -41,6 +46,23 @@ with_one name a = name ++ (codes " " ++ a)
 
 abbrev pub with_two : List ℕ → List ℕ → List ℕ → List ℕ
 with_two name a b = name ++ (codes " " ++ (a ++ (codes " " ++ b)))
+
+-- a name and a place in the text, by its line and its column
+abbrev pub with_place : List ℕ → Place → List ℕ
+with_place name p = name ++ (codes " at " ++ (decimal p.line ++ (codes ":" ++ decimal p.column)))
+
+abbrev pub lex_name : LexKind → List ℕ
+lex_name lex.BadChar = codes "BadChar"
+lex_name lex.OpenText = codes "OpenText"
+lex_name lex.OpenComment = codes "OpenComment"
+lex_name lex.BadEscape = codes "BadEscape"
+lex_name lex.NumberTooLarge = codes "NumberTooLarge"
+
+abbrev pub parse_text : ParseFault → List ℕ
+parse_text parse.NoMemory = codes "no memory"
+parse_text (parse.Lex fault) = with_place (lex_name fault.kind) fault.place
+parse_text (parse.TooDeep place) = with_place (codes "TooDeep") place
+parse_text (parse.Syntax place) = with_place (codes "Syntax") place
 
 abbrev pub metamodel_text : MetaFault → List ℕ
 metamodel_text meta.NoMemory = codes "no memory"
@@ -84,6 +106,8 @@ refusal_text (refusal.Metamodel why) = metamodel_text why
 refusal_text (refusal.Model why) = model_text why
 refusal_text refusal.TooManyObjects = codes "TooManyObjects"
 refusal_text (refusal.Conform why) = conform_text why
+refusal_text refusal.Utf8 = codes "Utf8"
+refusal_text (refusal.Parse why) = parse_text why
 refusal_text refusal.NotBuilt = codes "NotBuilt"
 
 abbrev pub usage_line : List ℕ

@@ -1,5 +1,5 @@
 -- What is to be written: files in order, then a line; and what stands after the writing.
-use Rattle.std.specs.Prelude.{ℕ, ◌≡◌, ◌⊎◌, ◌<◌, List, [], map, take, length, Option, option_map}
+use Rattle.std.specs.Prelude.{ℕ, ◌≡◌, ◌⊎◌, ◌<◌, List, map, take, length, Option, option_map}
 use Rattle.std.specs.List.{AllByRecursion}
 use Rattle.qvt_base.specs.Outside.{Held, Rose, SameBut, BothTold}
 use Rattle.qvt_cli.specs.Outcome.{Outcome, done, File, put_all, write_fault_line}

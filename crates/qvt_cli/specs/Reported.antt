@@ -1,5 +1,5 @@
 -- What a call changed: the files, the sink and the counts of faults before and after; and what each status promises of it.
-use Rattle.std.specs.Prelude.{ℕ, ◌≡◌, ◌⊎◌, ◌<◌, ⊤, List, [], ◌∷◌, ◌++◌, length, take, Option, Some, None, option_map, slice_index_or}
+use Rattle.std.specs.Prelude.{ℕ, ◌≡◌, ◌⊎◌, ◌<◌, List, [], ◌∷◌, ◌++◌, length, take, Option, Some, option_map, slice_index_or}
 use Rattle.qvt_base.specs.Outside.{Held, Rose, SameBut}
 use Rattle.qvt_cli.specs.Outcome.{Outcome, File, status_of, report, files_of, files_after, put_all, read_fault_line, write_fault_line, no_memory_line}
 use Rattle.qvt_cli.specs.declared.status.Status.{Status}

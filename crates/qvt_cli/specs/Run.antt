@@ -1,6 +1,5 @@
 -- The outcome of `run JOB` over the bytes that the files hold: the job, its metamodel, its text, the fuel, in this order.
-use Rattle.std.specs.Prelude.{◌≡◌, ℕ, List, [], ◌∷◌, length, nat_lt, if◌then◌else◌, Option, Some, None, option_map, option_and_then, Result, Ok, Err}
-use Rattle.std.specs.Str.{is_utf8, chars}
+use Rattle.std.specs.Prelude.{◌≡◌, ℕ, List, [], ◌∷◌, length, nat_lt, if◌then◌else◌, Option, Some, None, option_and_then, Result, Ok, Err}
 use Rattle.qvt_base.specs.Outside.{Held}
 use Rattle.qvt_metamodel.specs.Metamodels.{Metamodels}
 use Rattle.qvt_meta_read.specs.SmallMeta.{is_small}
@@ -13,11 +12,13 @@ use Rattle.qvt_cli.specs.declared.refusal.Refusal.{Refusal}
 use Rattle.qvt_cli.specs.declared.refusal.Refusal.TheVariants as refusal
 use Rattle.qvt_cli.specs.declared.run.SmallJob.{SmallJob}
 use Rattle.qvt_small.specs.declared.text.SmallText.{SmallText}
-use Rattle.qvt_small.specs.SmallTokens.{tokens_of}
-use Rattle.qvt_small.specs.SmallText.{small_in}
-use Rattle.qvt_small.specs.SmallRun.{fits, cost, model_text, done_line}
-use Rattle.qvt_cli.specs.Outcome.{Outcome, usage, refused, out_of_fuel, done}
-use Rattle.qvt_cli.specs.Steps.{◌>>=◌, read_step, built, settled, RefusedOrNoMemory}
+use Rattle.qvt_tree_types.specs.Module.{ModuleTerm}
+use Rattle.qvt_small.specs.SmallText.{small_of}
+use Rattle.qvt_small.specs.SmallRun.{fits, cost, done_line}
+use Rattle.qvt_small.specs.SmallStore.{model_text}
+use Rattle.qvt_cli.specs.Source.{tree_in}
+use Rattle.qvt_cli.specs.Outcome.{Outcome, refused, out_of_fuel, done}
+use Rattle.qvt_cli.specs.Steps.{◌>>=◌, read_step, built, RefusedOrNoMemory}
 use Rattle.qvt_cli.specs.declared.stop.Stop.{Stop}
 use Rattle.qvt_cli.specs.declared.stop.Stop.TheVariants as stop
 use Rattle.qvt_cli.specs.Metas.{metas_in}
@@ -68,34 +69,31 @@ small_metas_in name bytes = metas_in name bytes >>= (λ metas. built name (if_sm
 unfoldable pub small_metas_read : Held → SmallJob → Result Metamodels Outcome
 small_metas_read held job = read_step held job.metamodel 1048576 >>= small_metas_in job.metamodel
 
-abbrev pub parsed : List ℕ → Option SmallText
-parsed text = option_and_then small_in (tokens_of (length text) (chars text))
-
--- the small text of a file
-unfoldable pub small_text_of : List ℕ → Option SmallText
-small_text_of bytes = if is_utf8 bytes then parsed bytes else None
-
 abbrev pub if_fits : Metamodels → List ℕ → SmallText → Option SmallText
 if_fits metas model text = if fits metas model text then Some text else None
 
+-- the small text of a tree, which fits the metamodel and the output
+unfoldable pub small_in : Metamodels → SmallJob → ModuleTerm → Result SmallText Outcome
+small_in metas job tree = built job.text (option_and_then (if_fits metas job.model) (small_of tree))
+
 unfoldable pub text_in : Metamodels → SmallJob → List ℕ → Result SmallText Outcome
-text_in metas job bytes = built job.text (option_and_then (if_fits metas job.model) (small_text_of bytes))
+text_in metas job bytes = tree_in job.text bytes >>= small_in metas job
 
 -- reads the text
 unfoldable pub text_read : Held → SmallJob → Metamodels → Result SmallText Outcome
 text_read held job metas = read_step held job.text 262144 >>= text_in metas job
 
-abbrev pub done_outcome : SmallJob → SmallText → ℕ → Outcome
-done_outcome job text spent = done ((job.file, model_text text.objects) ∷ []) (done_line (length text.objects) spent)
+abbrev pub done_outcome : SmallJob → Metamodels → SmallText → ℕ → Outcome
+done_outcome job metas text spent = done ((job.file, model_text metas job.model text.objects) ∷ []) (done_line (length text.objects) spent)
 
 -- runs: the fuel is enough, or the cost would pass it
-unfoldable pub performed : SmallJob → SmallText → Result Outcome Outcome
-performed job text = if nat_lt job.fuel (cost text.objects)
+unfoldable pub performed : SmallJob → Metamodels → SmallText → Result Outcome Outcome
+performed job metas text = if nat_lt job.fuel (cost text.objects)
     then Err (out_of_fuel job.fuel)
-    else Ok (done_outcome job text (cost text.objects))
+    else Ok (done_outcome job metas text (cost text.objects))
 
 unfoldable pub after_metas : Held → SmallJob → Metamodels → Result Outcome Outcome
-after_metas held job metas = text_read held job metas >>= performed job
+after_metas held job metas = text_read held job metas >>= performed job metas
 
 unfoldable pub after_job : Held → SmallJob → Result Outcome Outcome
 after_job held job = small_metas_read held job >>= after_metas held job

@@ -1,4 +1,4 @@
-ghost use Rattle.std.specs.Prelude.{◌≡◌, ◌≤◌, Some, OnOk};
+ghost use Rattle.std.specs.Prelude.{◌≡◌, ◌≤◌, length, Some, IfOk, OnOk};
 ghost use Rattle.qvt_base.specs.Outside.{Held, Rose};
 ghost use Rattle.qvt_cli.specs.Steps.{Gives, IfFaultOf, IsFaultWith, joined, read_step, RefusedOrNoMemory, ReadFaultOrNoMemory};
 
@@ -42,6 +42,7 @@ pub fn fetch<F: Files>(alloc: Global, files: &mut F, name: &Text, limit: u32) ->
     ensures named { IfFaultOf result (λ file. file ≡ name.now) }
     ensures failed { IfFaultOf result (λ file. F.failed_reads files.new ≡ joined file (F.failed_reads files.old)) }
     ensures quiet { OnOk result (F.failed_reads files.new ≡ F.failed_reads files.old) }
+    ensures within { IfOk result (λ bytes. length bytes ≤ limit) }
 {
     match files.read(alloc, name.as_str(), limit) {
         ReadAnswer::Found(bytes) => Ok(bytes),

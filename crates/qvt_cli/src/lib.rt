@@ -12,6 +12,7 @@ pub mod refusal;
 mod refusal_text;
 pub mod report;
 pub mod run;
+pub mod source;
 pub mod status;
 pub mod stop;
 #[cfg(test)]

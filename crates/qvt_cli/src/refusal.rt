@@ -2,6 +2,7 @@ use qvt_base::text::Text;
 use qvt_conform::fault::ConformFault;
 use qvt_metamodel::fault::MetaFault;
 use qvt_model::data::ModelFault;
+use qvt_parsed::fault::ParseFault;
 
 /// Why a file was refused.
 #[derive(Debug, Drop)]
@@ -26,6 +27,10 @@ pub enum Refusal {
     TooManyObjects,
     /// The model does not conform to its metamodel.
     Conform(ConformFault),
+    /// The text is not UTF-8.
+    Utf8,
+    /// The text is no transformation.
+    Parse(ParseFault),
     /// What the file asks for is not built yet.
     NotBuilt,
 }

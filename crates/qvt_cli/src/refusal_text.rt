@@ -1,12 +1,15 @@
 //! The names of refusals with what they carry.
 
 ghost use Rattle.std.specs.Prelude.{◌≡◌, IfOk, string_bytes};
-ghost use Rattle.qvt_cli.specs.Outcome.{with_one, with_two, metamodel_text, model_text, conform_text};
+ghost use Rattle.qvt_cli.specs.Outcome.{with_one, with_two, with_place, lex_name, parse_text, metamodel_text, model_text, conform_text};
 
+use qvt_base::numbers::Place;
 use qvt_base::text::Text;
 use qvt_conform::fault::ConformFault;
+use qvt_lexer::token::LexKind;
 use qvt_metamodel::fault::MetaFault;
 use qvt_model::data::ModelFault;
+use qvt_parsed::fault::ParseFault;
 use std::alloc::{AllocError, Global};
 
 pub fn with_one(alloc: Global, name: &str, a: &Text) -> Result<String, AllocError>
@@ -22,6 +25,38 @@ fn with_two(alloc: Global, name: &str, a: &Text, b: &Text) -> Result<String, All
     let a = a.as_str();
     let b = b.as_str();
     format!(in alloc; "{name} {a} {b}")
+}
+
+fn with_place(alloc: Global, name: &str, place: Place) -> Result<String, AllocError>
+    ensures { IfOk result (λ text. string_bytes text ≡ with_place name.now place) }
+{
+    let line = place.line;
+    let column = place.column;
+    format!(in alloc; "{name} at {line}:{column}")
+}
+
+fn lex_name(kind: LexKind) -> &'static str
+    ensures { result.now ≡ lex_name kind }
+{
+    match kind {
+        LexKind::BadChar => "BadChar",
+        LexKind::OpenText => "OpenText",
+        LexKind::OpenComment => "OpenComment",
+        LexKind::BadEscape => "BadEscape",
+        LexKind::NumberTooLarge => "NumberTooLarge",
+    }
+}
+
+/// The refusal of a text.
+pub fn parse_text(alloc: Global, why: &ParseFault) -> Result<String, AllocError>
+    ensures { IfOk result (λ text. string_bytes text ≡ parse_text why.now) }
+{
+    match why {
+        ParseFault::NoMemory => String::from_str(alloc, "no memory"),
+        ParseFault::Lex(fault) => with_place(alloc, lex_name(fault.kind), fault.place),
+        ParseFault::TooDeep(place) => with_place(alloc, "TooDeep", *place),
+        ParseFault::Syntax(place) => with_place(alloc, "Syntax", *place),
+    }
 }
 
 /// The refusal of a metamodel.

@@ -5,7 +5,7 @@ ghost use Rattle.qvt_cli.specs.Steps.{stop_line, stop_status};
 ghost use Rattle.qvt_cli.specs.Reported.{appended, IsCut, Reports};
 
 use crate::refusal::Refusal;
-use crate::refusal_text::{conform_text, metamodel_text, model_text, with_one};
+use crate::refusal_text::{conform_text, metamodel_text, model_text, parse_text, with_one};
 use crate::status::Status;
 use crate::stop::Stop;
 use qvt_base::lists::Bytes;
@@ -81,6 +81,8 @@ fn refusal_text(alloc: Global, why: &Refusal) -> Result<String, AllocError>
         Refusal::Model(why) => model_text(alloc, why),
         Refusal::TooManyObjects => String::from_str(alloc, "TooManyObjects"),
         Refusal::Conform(why) => conform_text(alloc, why),
+        Refusal::Utf8 => String::from_str(alloc, "Utf8"),
+        Refusal::Parse(why) => parse_text(alloc, why),
         Refusal::NotBuilt => String::from_str(alloc, "NotBuilt"),
     }
 }

@@ -1,10 +1,11 @@
-ghost use Rattle.std.specs.Prelude.{◌≡◌, ◌≤◌, ◌∷◌, [], OnOk, IfOk, Some};
+ghost use Rattle.std.specs.Prelude.{◌≡◌, ◌≤◌, ◌∷◌, [], length, OnOk, IfOk, IsTrue, Some};
 ghost use Rattle.qvt_base.specs.Outside.{Held, Rose};
 ghost use Rattle.qvt_cli.specs.Reported.{IsAmong};
 ghost use Rattle.qvt_cli.specs.Steps.{Gives, IfFaultOf, IsFaultWith, joined};
 ghost use Rattle.qvt_cli.specs.Plans.{outcome_of, IsReady};
-ghost use Rattle.qvt_cli.specs.Run.{small_job, job_in, job_read, small_metas_in, small_metas_read, parsed, small_text_of, text_in, text_read, performed, after_metas, after_job, run_of, turns_after_job, run_turns, IsJobStop, done_outcome};
-ghost use Rattle.qvt_small.specs.SmallRun.{done_line};
+ghost use Rattle.qvt_cli.specs.Run.{small_job, job_in, job_read, small_metas_in, small_metas_read, small_in, text_in, text_read, performed, after_metas, after_job, run_of, turns_after_job, run_turns, IsJobStop, done_outcome};
+ghost use Rattle.qvt_tree_types.specs.Module.{module_view};
+ghost use Rattle.qvt_small.specs.SmallRun.{have_names, done_line};
 
 use crate::fetch::{fetch, refused};
 use crate::job::{Job, JobFault};
@@ -13,6 +14,7 @@ use crate::plan::{Output, Plan};
 use crate::read_job::read_job;
 use crate::refusal::Refusal;
 use crate::report::write_fault_line;
+use crate::source::tree_in;
 use crate::stop::Stop;
 use qvt_base::copied::Copied;
 use qvt_base::list_fault::ListFault;
@@ -22,12 +24,11 @@ use qvt_base::seq::Seq;
 use qvt_base::text::Text;
 use qvt_meta_read::small::is_small;
 use qvt_metas::metas::Metas;
+use qvt_small::made::model_text;
 use qvt_small::program::{cost_within, fits};
-use qvt_small::text::{SmallText, small_in};
-use qvt_small::tokens::tokens_of;
-use qvt_small::written::model_text;
+use qvt_small::text::{SmallText, small_of};
+use qvt_tree_types::module::Module;
 use std::alloc::{AllocError, Global};
-use std::str;
 
 /// A job with one metamodel, one output, no input and no trace.
 #[derive(Debug, Drop)]
@@ -145,39 +146,14 @@ fn read_small_metas<F: Files>(alloc: Global, files: &mut F, job: &SmallJob) -> R
     }
 }
 
-/// The small text of a text, None where it is none.
-fn parsed(alloc: Global, text: &str) -> Result<Option<SmallText>, ListFault>
-    ensures { IfOk result (λ o. o ≡ parsed text.now) }
-{
-    match tokens_of(alloc, text)? {
-        None => Ok(None),
-        Some(tokens) => {
-            let small = small_in(alloc, tokens.as_slice())?;
-            Ok(small)
-        }
-    }
-}
-
-/// The small text of a file's bytes, None where it is none.
-fn small_text_of(alloc: Global, bytes: &[u8]) -> Result<Option<SmallText>, ListFault>
-    ensures { IfOk result (λ o. o ≡ small_text_of bytes.now) }
-{
-    match str::from_utf8(bytes) {
-        Err(_) => Ok(None),
-        Ok(text) => {
-            let small = parsed(alloc, text)?;
-            Ok(small)
-        }
-    }
-}
-
-/// The text of a file's bytes, which is small and fits the metamodel and the output.
-#[tactic(auto, unfolding(crate::specs::Run::text_in))]
-fn text_in(alloc: Global, metas: &Metas, job: &SmallJob, bytes: &[u8]) -> Result<SmallText, Stop>
+/// The small text of a tree, which fits the metamodel and the output.
+#[tactic(auto, unfolding(crate::specs::Run::small_in))]
+fn small_in(alloc: Global, metas: &Metas, job: &SmallJob, tree: &Module) -> Result<SmallText, Stop>
     ensures no_reads { IfFaultOf result (λ file. ⊥) }
-    ensures gives { Gives (λ text. text) result (text_in metas.now job.now bytes.now) }
+    ensures gives { Gives (λ text. text) result (small_in metas.now job.now (module_view tree.now)) }
+    ensures named { IfOk result (λ text. IsTrue (have_names metas.now job.now.model)) }
 {
-    match small_text_of(alloc, bytes) {
+    match small_of(alloc, tree) {
         Err(_) => Err(Stop::NoMemory),
         Ok(None) => Err(refused(alloc, &job.text, Refusal::NotBuilt)),
         Ok(Some(text)) => {
@@ -187,6 +163,20 @@ fn text_in(alloc: Global, metas: &Metas, job: &SmallJob, bytes: &[u8]) -> Result
                 Err(refused(alloc, &job.text, Refusal::NotBuilt))
             }
         }
+    }
+}
+
+/// The text of a file's bytes, which is small and fits the metamodel and the output.
+#[tactic(auto, unfolding(crate::specs::Run::text_in))]
+fn text_in(alloc: Global, metas: &Metas, job: &SmallJob, bytes: &[u8]) -> Result<SmallText, Stop>
+    requires { length bytes.now ≤ 262144 }
+    ensures no_reads { IfFaultOf result (λ file. ⊥) }
+    ensures gives { Gives (λ text. text) result (text_in metas.now job.now bytes.now) }
+    ensures named { IfOk result (λ text. IsTrue (have_names metas.now job.now.model)) }
+{
+    match tree_in(alloc, &job.text, bytes) {
+        Err(stop) => Err(stop),
+        Ok(tree) => small_in(alloc, metas, job, &tree),
     }
 }
 
@@ -206,6 +196,7 @@ fn read_text<F: Files>(
     ensures named { IfFaultOf result (λ file. file ≡ job.now.text) }
     ensures failed { IfFaultOf result (λ file. F.failed_reads files.new ≡ joined file (F.failed_reads files.old)) }
     ensures quiet { OnOk result (F.failed_reads files.new ≡ F.failed_reads files.old) }
+    ensures have_names { IfOk result (λ text. IsTrue (have_names metas.now job.now.model)) }
 {
     match fetch(alloc, files, &job.text, 262_144) {
         Err(stop) => Err(stop),
@@ -222,12 +213,19 @@ fn done_line(alloc: Global, objects: usize, cost: u64) -> Result<Bytes, AllocErr
 }
 
 /// The plan of a run that is done.
-fn plan_of(alloc: Global, job: &SmallJob, text: &SmallText, cost: u64) -> Result<Plan, ListFault>
-    ensures plan { IfOk result (λ p. outcome_of p ≡ done_outcome job.now text.now cost) }
+fn plan_of(
+    alloc: Global,
+    job: &SmallJob,
+    metas: &Metas,
+    text: &SmallText,
+    cost: u64,
+) -> Result<Plan, ListFault>
+    requires { IsTrue (have_names metas.now job.now.model) }
+    ensures plan { IfOk result (λ p. outcome_of p ≡ done_outcome job.now metas.now text.now cost) }
     ensures ready { IfOk result (λ p. IsReady p.outputs) }
 {
     let objects = text.objects.as_slice();
-    let bytes = model_text(alloc, objects)?;
+    let bytes = model_text(alloc, metas, &job.model, objects)?;
     let Ok(line) = done_line(alloc, objects.len(), cost) else {
         return Err(ListFault::NoMemory);
     };
@@ -246,15 +244,21 @@ fn plan_of(alloc: Global, job: &SmallJob, text: &SmallText, cost: u64) -> Result
 
 /// Runs a small text with the job's fuel, and makes every byte that is to be written.
 #[tactic(auto, unfolding(crate::specs::Run::performed))]
-fn perform_text(alloc: Global, job: &SmallJob, text: &SmallText) -> Result<Plan, Stop>
-    ensures gives { Gives outcome_of result (performed job.now text.now) }
+fn perform_text(
+    alloc: Global,
+    job: &SmallJob,
+    metas: &Metas,
+    text: &SmallText,
+) -> Result<Plan, Stop>
+    requires { IsTrue (have_names metas.now job.now.model) }
+    ensures gives { Gives outcome_of result (performed job.now metas.now text.now) }
     ensures ready { IfOk result (λ p. IsReady p.outputs) }
     ensures no_reads { IfFaultOf result (λ file. ⊥) }
 {
     let Some(cost) = cost_within(job.fuel, text.objects.as_slice()) else {
         return Err(Stop::OutOfFuel(job.fuel));
     };
-    match plan_of(alloc, job, text, cost) {
+    match plan_of(alloc, job, metas, text, cost) {
         Err(_) => Err(Stop::NoMemory),
         Ok(plan) => Ok(plan),
     }
@@ -279,7 +283,7 @@ fn perform_with_metas<F: Files>(
 {
     match read_text(alloc, files, job, metas) {
         Err(stop) => Err(stop),
-        Ok(text) => perform_text(alloc, job, &text),
+        Ok(text) => perform_text(alloc, job, metas, &text),
     }
 }
 

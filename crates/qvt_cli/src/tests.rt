@@ -127,7 +127,7 @@ fn small_jobs_answer_as_their_files_say(rt: HostRuntime) -> Result<(), Fail> {
             META,
             wide,
             Status::Refused,
-            "refused: t.qvto: NotBuilt\n",
+            "refused: t.qvto: NumberTooLarge at 1:79\n",
             "",
         ),
     ] {

@@ -16,7 +16,8 @@ use Rattle.qvt_model.specs.declared.data.ObjectData.{ObjectData}
 use Rattle.qvt_model.specs.WellFormed.{IsModel, IsObject, AreInOrder, ComeAfter, object_at}
 use Rattle.qvt_conform.specs.declared.links.Link.{Link}
 use Rattle.qvt_conform.specs.declared.fault.ConformFault.TheVariants.{Abstract, Bounds, NotUnique, Opposite}
-use Rattle.qvt_conform.specs.Items.{items_in, items_of, is_within, repeats, is_ref, lacks, lack_opposite}
+use Rattle.qvt_model.specs.Items.{items_in}
+use Rattle.qvt_conform.specs.Items.{items_of, is_within, repeats, is_ref, lacks, lack_opposite}
 use Rattle.qvt_conform.specs.Links.{link, same_link, links_of_item, links_of_items, links_of_slot, links_of_slots, links_from}
 use Rattle.qvt_conform.specs.Joined.{Joined}
 use Rattle.qvt_conform.specs.Lacking.{lacks_link, lack_links, feature_fault_by, features_fault_by, object_fault_by, faults_by}

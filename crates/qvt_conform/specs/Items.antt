@@ -1,4 +1,4 @@
--- What an object of a model holds for a feature (EMOF 12.4), and the checks of one slot.
+-- The checks of one slot (EMOF 12.4).
 use Rattle.std.specs.Prelude.{ℕ, Bool, true, false, not, ◌==◌, ◌&&◌, ◌||◌, nat_le, List, [], ◌∷◌, ◌++◌, Option, Some, None, if◌then◌else◌}
 use Rattle.std.specs.List.{list_any}
 use Rattle.std.specs.Str.{bytes_eq}
@@ -9,13 +9,9 @@ use Rattle.qvt_value.specs.declared.value.LiteralRef.{LiteralRef}
 use Rattle.qvt_metamodel.specs.declared.info.FeatureShape.{FeatureShape}
 use Rattle.qvt_model.specs.declared.data.Datum.{Datum}
 use Rattle.qvt_model.specs.declared.data.Datum.TheVariants.{Bool as BoolDatum, Int, Str, Literal, Ref}
-use Rattle.qvt_model.specs.declared.data.SlotData.{SlotData}
 use Rattle.qvt_model.specs.declared.data.ObjectData.{ObjectData}
+use Rattle.qvt_model.specs.Items.{items_in}
 use Rattle.qvt_model.specs.WellFormed.{object_at}
-
-abbrev pub items_in : ℕ → List SlotData → List Datum
-items_in f [] = []
-items_in f (s ∷ ss) = if s.feature.0 == f then s.items else items_in f ss
 
 -- what an object holds for feature f: nothing where it has no slot of it
 abbrev pub items_of : ObjectData → ℕ → List Datum

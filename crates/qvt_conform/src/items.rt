@@ -1,7 +1,8 @@
 //! The checks of one slot.
 
 ghost use Rattle.std.specs.Prelude.{◌≡◌, length, IfOk};
-ghost use Rattle.qvt_conform.specs.Items.{items_in, is_at_most, is_within, repeats};
+ghost use Rattle.qvt_model.specs.Items.{items_in};
+ghost use Rattle.qvt_conform.specs.Items.{is_at_most, is_within, repeats};
 
 use crate::seen::Seen;
 use qvt_base::list_fault::ListFault;

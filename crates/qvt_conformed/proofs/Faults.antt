@@ -37,7 +37,8 @@ use Rattle.qvt_conform.specs.Items.{is_at_most, is_within, same_literal, same_it
 use Rattle.qvt_conform.specs.Items as item
 use Rattle.qvt_conform.specs.Containment.{refs_of, refs, contents_of_slot, contents_of_slots, contents_of, contents}
 use Rattle.qvt_conform.specs.Conformance.{fault_if, feature_fault, features_fault, containment_fault, object_fault, faults_from, conform_fault}
-use Rattle.qvt_load.specs.Loaded.{value_at, items_in}
+use Rattle.qvt_model.specs.Items.{items_in}
+use Rattle.qvt_load.specs.Loaded.{value_at}
 use Rattle.qvt_load.specs.Conforming.{slots_at, Conforms}
 use Rattle.qvt_load.proofs.Final.{not_own, all_at}
 use Rattle.qvt_load.proofs.Placing.{ref_below}
@@ -48,11 +49,6 @@ use Rattle.qvt_conformed.specs.Law.{FaultlessConforms}
 no_fault : (b : Bool) (f : ConformFault) → fault_if b f ≡ None → b ≡ false
 no_fault true f e = cc
 no_fault false f e = refl
-
--- what an object holds for a feature is told alike
-same_items : (f : ℕ) (ts : List SlotData) → item.items_in f ts ≡ items_in f ts
-same_items f [] = refl
-same_items f (t ∷ ts) = ap (λ xs. cond (t.feature.0 == f) t.items xs) (same_items f ts)
 
 -- ---- each object, each feature
 
@@ -79,10 +75,10 @@ not_out : (b : Bool) → not b ≡ false → b ≡ true
 not_out true e = refl
 not_out false e = cc
 
-own_fine : (m : Metamodels) (os : List ObjectData) (i f : ℕ) (o : ObjectData) → feature_fault m os i o (record { 0 = f }) ≡ None → SlotFine m os i f (item.items_in f o.slots)
+slot_fine : (m : Metamodels) (os : List ObjectData) (i f : ℕ) (o : ObjectData) → feature_fault m os i o (record { 0 = f }) ≡ None → SlotFine m os i f (items_in f o.slots)
 unfolding feature_fault
-own_fine m os i f o e =
-    let xs : List Datum = item.items_in f o.slots in
+slot_fine m os i f o e =
+    let xs : List Datum = items_in f o.slots in
     let a = neither (fault_if (not (is_within (shape_of m f) (length xs))) (Bounds o.id (feature_at m f).name)) (or_next (fault_if ((shape_of m f).unique && item.repeats xs) (NotUnique o.id (feature_at m f).name)) (fault_if (lack_opposite (opposite m f) os i xs) (Opposite o.id (feature_at m f).name))) e in
     let b = neither (fault_if ((shape_of m f).unique && item.repeats xs) (NotUnique o.id (feature_at m f).name)) (fault_if (lack_opposite (opposite m f) os i xs) (Opposite o.id (feature_at m f).name)) a.1 in
     record {
@@ -90,9 +86,6 @@ own_fine m os i f o e =
       unique = no_fault ((shape_of m f).unique && item.repeats xs) (NotUnique o.id (feature_at m f).name) b.0;
       linked = no_fault (lack_opposite (opposite m f) os i xs) (Opposite o.id (feature_at m f).name) b.1;
     }
-
-slot_fine : (m : Metamodels) (os : List ObjectData) (i f : ℕ) (o : ObjectData) → feature_fault m os i o (record { 0 = f }) ≡ None → SlotFine m os i f (items_in f o.slots)
-slot_fine m os i f o e = subst (SlotFine m os i f) (same_items f o.slots) (own_fine m os i f o e)
 
 record ObjectFine (m : Metamodels) (os : List ObjectData) (i : ℕ) (o : ObjectData) : Type 0 where
   concrete : (class_at m o.class.0).is_abstract ≡ false
@@ -217,8 +210,8 @@ none_lacks os g i j (x ∷ xs) n h = elim (or_cases (is_object j (value_at 0 x))
     at (Int a) h n = clash false h refl
     at (Str a) h n = clash false h refl
     at (Literal a) h n = clash false h refl
-    at (Ref k) h n = has_ref (items_in g (object_at os j).slots) i ∙ ap (list_any (is_ref i)) (sym (same_items g (object_at os j).slots))
-        ∙ not_out _ (subst (λ z. not (list_any (is_ref i) (item.items_in g (object_at os z).slots)) ≡ false) (let q : 0 + k ≡ j = (Decides-eqb (0 + k) j).0 h in let r : k ≡ j = omega arith in r) n)
+    at (Ref k) h n = has_ref (items_in g (object_at os j).slots) i
+        ∙ not_out _ (subst (λ z. not (list_any (is_ref i) (items_in g (object_at os z).slots)) ≡ false) (let q : 0 + k ≡ j = (Decides-eqb (0 + k) j).0 h in let r : k ≡ j = omega arith in r) n)
 
 linked_back : (m : Metamodels) (os : List ObjectData) (q : Option FeatureNo) (g i j : ℕ) (xs : List Datum) → is_feature_number q g ≡ true → lack_opposite q os i xs ≡ false → has (map (value_at 0) xs) j ≡ true → has (slots_at os j g) i ≡ true
 linked_back m os None g i j xs o n h = clash false o refl

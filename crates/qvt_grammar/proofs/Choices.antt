@@ -1,7 +1,7 @@
 -- The one or the other, and what may be missing.
 use Rattle.std.proofs.Common.{◌≡◌, List, [], ◌∷◌, ◌++◌, length, Bool, true, false, IsTrue, inl, inr, refl, sym, ap, ◌∙◌, subst, arith, Ok, Err, cond, Some, None}
 use Rattle.qvt_grammar.specs.Language.{Language, either, made, empty, maybe}
-use Rattle.qvt_grammar.specs.Reader.{At, NoRoom, Answer, Begins, Exact, made_at, starts, choose_at, empty_at, maybe_at}
+use Rattle.qvt_grammar.specs.Reader.{At, Answer, Begins, Exact, made_at, starts, choose_at, empty_at, maybe_at}
 use Rattle.qvt_grammar.proofs.Lists.{rest_shorter}
 use Rattle.qvt_grammar.proofs.Firsts.{Within, Apart, Firsts, Solid, firsts_made, made_exact, firsts_empty, empty_exact}
 
@@ -39,7 +39,6 @@ first_taken c l m ts (Err (At r)) idle k = record {
     | inr q ↦ (let le = rest_shorter ts k.found.0 r k.found.1 in let z = ap length (idle.none u s e q) in omega arith)
   ];
 }
-first_taken c l m ts (Err NoRoom) idle k = tt
 
 -- the sides may be exchanged
 pub exact_swap : {T A : Type 0} (c : T → Bool) (l m : Language T A) (ts : List T) (x : Answer T A) → Exact c (either l m) ts x → Exact c (either m l) ts x
@@ -53,7 +52,6 @@ exact_swap c l m ts (Err (At r)) k = record {
   only = λ u s b e rd. k.only u s b e (elim rd [ inl q ↦ inr q | inr q ↦ inl q ]);
   farthest = λ u s e fr. k.farthest u s e (elim fr [ inl q ↦ inr q | inr q ↦ inl q ]);
 }
-exact_swap c l m ts (Err NoRoom) k = tt
 
 -- the next token passes the test p, and so begins the first side alone, or fails it, and so begins the second alone
 module _ {T A : Type 0} (p c first1 first2 : T → Bool) (l m : Language T A) (w1 : Firsts first1 l) (w2 : Firsts first2 m)

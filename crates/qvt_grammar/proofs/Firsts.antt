@@ -1,7 +1,7 @@
 -- The tokens with which a language begins, single tokens, and what only makes other values.
 use Rattle.std.proofs.Common.{◌≡◌, ◌≤◌, List, [], ◌∷◌, ◌++◌, length, Bool, true, false, IsTrue, inl, inr, refl, sym, ap, ◌∙◌, subst, arith, Ok, Err, cond}
 use Rattle.qvt_grammar.specs.Language.{Language, token, made, never, empty, marked, head_of}
-use Rattle.qvt_grammar.specs.Reader.{At, NoRoom, Answer, ◌>>=◌, Begins, Exact, token_at, made_at, empty_at, marked_at}
+use Rattle.qvt_grammar.specs.Reader.{At, Answer, ◌>>=◌, Begins, Exact, token_at, made_at, empty_at, marked_at}
 use Rattle.qvt_grammar.proofs.Lists.{all_left}
 
 abbrev pub Within : {T : Type 0} → (T → Bool) → (T → Bool) → Type 0
@@ -39,7 +39,6 @@ exact_within c d l ts (Err (At r)) w h = record {
   only = λ u s b e rd. begins_within c d w s (h.only u s b e rd);
   farthest = h.farthest;
 }
-exact_within c d l ts (Err NoRoom) w h = tt
 
 -- the first token of a list that a solid language reads the beginning of
 pub read_begins : {T A : Type 0} (first : T → Bool) (l : Language T A) → Firsts first l → Solid l → (t : T) (ts u v : List T) (a : A) → t ∷ ts ≡ u ++ v → l.reads u a → IsTrue (first t)
@@ -107,7 +106,6 @@ module _ {T A B : Type 0} (h : A → B) (l : Language T A) where
     farthest = k.farthest;
   }
   made_cases c ts (Err (At r)) k = record { found = k.found; only = λ u s b e rd. k.only u s rd.0 e rd.1; farthest = k.farthest }
-  made_cases c ts (Err NoRoom) k = tt
 
   pub made_exact : (c : T → Bool) (f : List T → Answer T A) (ts : List T) → Exact c l ts (f ts) → Exact c (made h l) ts (made_at h f ts)
   made_exact c f ts k = made_cases c ts (f ts) k
@@ -132,7 +130,6 @@ module _ {T P A : Type 0} (h : T → P) (d : P) (l : Language T A) where
       farthest = k.farthest;
     }
     marked_cases c ts (Err (At r)) k = record { found = k.found; only = λ u s pa e rd. k.only u s pa.1 e rd.0; farthest = k.farthest }
-    marked_cases c ts (Err NoRoom) k = tt
 
     pub marked_exact : (c : T → Bool) (f : List T → Answer T A) (ts : List T) → Exact c l ts (f ts) → Exact c (marked h d l) ts (marked_at h d f ts)
     marked_exact c f ts k = marked_cases c ts (f ts) k

@@ -6,5 +6,4 @@ pub mod Repeats
 pub mod Endings
 pub mod Wider
 pub mod Fronts
-pub mod Rooms
 pub mod Loops

@@ -1,7 +1,7 @@
 -- Any number of turns.
 use Rattle.std.proofs.Common.{◌≡◌, ℕ, zero, suc, ◌≤◌, ◌<◌, List, [], ◌∷◌, ◌++◌, length, Bool, true, false, IsTrue, ◌⊎◌, inl, inr, refl, sym, ap, ◌∙◌, subst, arith, append_assoc, append-nil, length-append, Ok, Err, cond}
 use Rattle.qvt_grammar.specs.Language.{Language, then, many, turns}
-use Rattle.qvt_grammar.specs.Reader.{At, NoRoom, Answer, ◌>>=◌, Begins, IsFarthest, IsReading, IsStuck, Exact, then_at, made_at, starts, turns_at, many_at}
+use Rattle.qvt_grammar.specs.Reader.{At, Answer, ◌>>=◌, Begins, IsFarthest, IsReading, IsStuck, Exact, then_at, made_at, starts, turns_at, many_at}
 use Rattle.qvt_grammar.proofs.Lists.{regroup, rest_shorter, all_left}
 use Rattle.qvt_grammar.proofs.Firsts.{Within, Apart, Firsts, Solid, begins_within, read_begins}
 use Rattle.qvt_grammar.proofs.Sequences.{then_exact_after}
@@ -85,7 +85,6 @@ module _ {T A : Type 0} (p c1 c first : T → Bool) (l : Language T A) (w : Firs
     only = only_stuck ts r h k;
     farthest = many_farthest ts r (rest_shorter ts k.found.0 r k.found.1) k.farthest;
   }
-  one_more ts h (Err NoRoom) k = tt
 
   module _ (f : List T → Answer T A) (hf : (r : List T) → Exact c1 l r (f r)) where
     turn_cases : (n : ℕ) (ts : List T) (b : Bool) → starts p ts ≡ b → ((u r : List T) (a : A) → ts ≡ u ++ r → l.reads u a → Exact c (many l) r (turns_at n p f r))

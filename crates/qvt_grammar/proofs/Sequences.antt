@@ -1,7 +1,7 @@
 -- One part after the other.
 use Rattle.std.proofs.Common.{◌≡◌, ◌≤◌, List, [], ◌∷◌, ◌++◌, length, Bool, IsTrue, inl, inr, refl, sym, ap, ◌∙◌, subst, arith, Ok, Err}
 use Rattle.qvt_grammar.specs.Language.{Language, follow, then}
-use Rattle.qvt_grammar.specs.Reader.{At, NoRoom, Answer, ◌>>=◌, Begins, IsFarthest, IsReading, IsStuck, Exact, follow_at, then_at}
+use Rattle.qvt_grammar.specs.Reader.{At, Answer, ◌>>=◌, Begins, IsFarthest, IsReading, IsStuck, Exact, follow_at, then_at}
 use Rattle.qvt_grammar.proofs.Lists.{regroup, grouped, rest_shorter, nil_left, nil_right}
 use Rattle.qvt_grammar.proofs.Firsts.{Within, Apart, Firsts, Solid, begins_within, read_begins}
 
@@ -60,12 +60,10 @@ module _ {T A B : Type 0} (c1 c2 c : T → Bool) (first2 : A → T → Bool) (l 
     ];
     farthest = follow_farthest ts a r r2 h (rest_shorter r k.found.0 r2 k.found.1) k.farthest;
   }
-  follow_second ts a r h (Err NoRoom) k = tt
 
   follow_first : (g : A → List T → Answer T B) (ts : List T) → ((u r : List T) (a : A) → ts ≡ u ++ r → l.reads u a → Exact c2 (m a) r (g a r)) → (x : Answer T A) → Exact c1 l ts x → Exact c (follow l m) ts (x >>= λ (a, r). g a r >>= λ (b, s). Ok ((a, b), s))
   follow_first g ts hg (Ok (a, r)) h = follow_second ts a r h (g a r) (hg h.found.0 r a h.found.1 h.found.2)
   follow_first g ts hg (Err (At r)) h = follow_stuck ts r h
-  follow_first g ts hg (Err NoRoom) h = tt
 
   -- the second reader is exact after what the first language reads
   pub follow_exact : (f : List T → Answer T A) (g : A → List T → Answer T B) (ts : List T) → Exact c1 l ts (f ts) → ((u r : List T) (a : A) → ts ≡ u ++ r → l.reads u a → Exact c2 (m a) r (g a r)) → Exact c (follow l m) ts (follow_at f g ts)

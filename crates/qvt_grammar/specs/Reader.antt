@@ -4,10 +4,9 @@ use Rattle.std.specs.Prelude.{◌≡◌, ℕ, zero, suc, List, [], ◌∷◌, �
 use Rattle.std.proofs.Common.{inl, inr}
 use Rattle.qvt_grammar.specs.Language.{Language, head_of}
 
--- At: what is left, from the faulty token on. NoRoom: more was nested than the reader has room for
+-- what is left, from the faulty token on
 pub data Fault (T : Type 0) : Type 0 where
   At : List T → Fault T
-  NoRoom : Fault T
 
 abbrev pub Answer : Type 0 → Type 0 → Type 0
 Answer T A = Result (A × List T) (Fault T)
@@ -42,7 +41,6 @@ pub record IsStuck {T A : Type 0} (c : T → Bool) (l : Language T A) (ts : List
 abbrev pub Exact : {T A : Type 0} → (T → Bool) → Language T A → List T → Answer T A → Type 0
 Exact c l ts (Ok (a, r)) = IsReading c l ts a r
 Exact c l ts (Err (At r)) = IsStuck c l ts r
-Exact c l ts (Err NoRoom) = Unit {0}
 
 abbrev pub follow_at : {T A B : Type 0} → (List T → Answer T A) → (A → List T → Answer T B) → List T → Answer T (A × B)
 follow_at f g ts = f ts >>= λ (a, r). g a r >>= λ (b, s). Ok ((a, b), s)

@@ -22,7 +22,8 @@ use Rattle.qvt_store.proofs.Done.{lists_told}
 use Rattle.qvt_model.specs.declared.data.SlotData.{SlotData}
 use Rattle.qvt_model.specs.declared.data.ObjectData.{ObjectData}
 use Rattle.qvt_model.specs.WellFormed.{IsSlot, ComeAfter, AreInOrder, IsObject}
-use Rattle.qvt_load.specs.Loaded.{items_in, value_at, list_in, instance_at}
+use Rattle.qvt_model.specs.Items.{items_in}
+use Rattle.qvt_load.specs.Loaded.{value_at, list_in, instance_at}
 use Rattle.qvt_load.specs.Steps.{added, put_slot, slot_values, put_slots, put_objects}
 
 -- ---- slots without repeats

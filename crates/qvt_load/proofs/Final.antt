@@ -18,7 +18,8 @@ use Rattle.qvt_store.proofs.After.{item_object}
 use Rattle.qvt_model.specs.declared.data.SlotData.{SlotData}
 use Rattle.qvt_model.specs.declared.data.ObjectData.{ObjectData}
 use Rattle.qvt_model.specs.WellFormed.{object_at, no_object, IsSlot, IsObject, IsModel}
-use Rattle.qvt_load.specs.Loaded.{items_in, value_at, list_in, instance_at}
+use Rattle.qvt_model.specs.Items.{items_in}
+use Rattle.qvt_load.specs.Loaded.{value_at, list_in, instance_at}
 use Rattle.qvt_load.specs.Conforming.{slots_at, Conforms}
 use Rattle.qvt_load.proofs.Shift.{HeldItem, held_item}
 

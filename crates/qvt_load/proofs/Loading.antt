@@ -13,7 +13,8 @@ use Rattle.qvt_store.proofs.SoundGrown.{load_begins, load_ends, add_keeps_loadin
 use Rattle.qvt_model.specs.declared.data.ObjectData.{ObjectData}
 use Rattle.qvt_model.specs.WellFormed.{IsObject, IsModel}
 use Rattle.qvt_model.specs.WellFormed as parts
-use Rattle.qvt_load.specs.Loaded.{items_in, loaded, IsLoadable}
+use Rattle.qvt_model.specs.Items.{items_in}
+use Rattle.qvt_load.specs.Loaded.{loaded, IsLoadable}
 use Rattle.qvt_load.specs.Conforming.{slots_at, Conforms}
 use Rattle.qvt_load.specs.Steps.{added, CanAdd, put_objects, with_objects, CanPutObjects}
 use Rattle.qvt_load.proofs.Shift.{HeldItem, has-shift}

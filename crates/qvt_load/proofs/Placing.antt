@@ -31,7 +31,8 @@ use Rattle.qvt_model.specs.declared.data.SlotData.{SlotData}
 use Rattle.qvt_model.specs.declared.data.ObjectData.{ObjectData}
 use Rattle.qvt_model.specs.WellFormed.{no_object, IsItem, IsSlot, IsObject, IsModel}
 use Rattle.qvt_model.specs.WellFormed as parts
-use Rattle.qvt_load.specs.Loaded.{items_in, value_at, list_in, instance_at}
+use Rattle.qvt_model.specs.Items.{items_in}
+use Rattle.qvt_load.specs.Loaded.{value_at, list_in, instance_at}
 use Rattle.qvt_load.specs.Conforming.{slots_at, Conforms}
 use Rattle.qvt_load.specs.Steps.{put_slot, slot_values, put_slots, put_objects, with_objects, CanPutSlots, CanPutObjects}
 use Rattle.qvt_load.proofs.Shift.{HeldItem, held_item, length-shift, repeats-shift, all_plain}

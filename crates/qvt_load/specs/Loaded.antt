@@ -10,6 +10,7 @@ use Rattle.qvt_model.specs.declared.data.Datum.{Datum}
 use Rattle.qvt_model.specs.declared.data.Datum.TheVariants.{Bool as BoolDatum, Int, Str, Literal, Ref}
 use Rattle.qvt_model.specs.declared.data.ObjectData.{ObjectData}
 use Rattle.qvt_model.specs.declared.data.SlotData.{SlotData}
+use Rattle.qvt_model.specs.Items.{items_in}
 use Rattle.qvt_model.specs.WellFormed.{IsModel}
 
 -- the value of an item, where the first object of the model gets number n
@@ -19,11 +20,6 @@ value_at n (Int z) = IntValue z
 value_at n (Str t) = StrValue t
 value_at n (Literal l) = EnumValue l
 value_at n (Ref i) = Obj (record { 0 = n + i })
-
--- the items of feature f among the slots of an object: none where it has no slot of it
-abbrev pub items_in : ℕ → List SlotData → List Datum
-items_in f [] = []
-items_in f (t ∷ ts) = if t.feature.0 == f then t.items else items_in f ts
 
 -- what an object holds for a feature
 abbrev pub list_in : ℕ → ObjectData → ℕ → List Value

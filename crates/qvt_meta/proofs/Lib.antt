@@ -1,8 +1,6 @@
 pub mod Whole
 pub mod Made
 pub mod Cyclic
-pub mod Owners
-pub mod Positions
 pub mod Counts
 pub mod Firsts
 pub mod NameThere

@@ -1,13 +1,11 @@
 -- A metamodel that passed the checks with the tables that the code makes.
-use Rattle.std.proofs.Common.{◌≡◌, ◌∙◌, ℕ, zero, suc, List, [], ◌++◌, length, map, get_or, refl, ap, sym, subst, None, ◌==◌, ◌||◌}
+use Rattle.std.proofs.Common.{◌≡◌, ◌∙◌, ℕ, List, [], length, map, get_or, ap, sym, subst, None}
 use Rattle.qvt_base.specs.declared.numbers.FeatureNo.{FeatureNo}
-use Rattle.qvt_base.specs.declared.numbers.ClassNo.{ClassNo}
 use Rattle.qvt_metamodel.specs.declared.info.FeatureInfo.{FeatureInfo}
 use Rattle.qvt_metamodel.specs.declared.row.Row.{Row}
 use Rattle.qvt_meta.specs.declared.adding.Numbers.{Numbers}
-use Rattle.qvt_metamodel.specs.Metamodels.{Metamodels, class_at, features_in, features_of, each_once, nowhere_feature}
-use Rattle.qvt_metamodel.specs.Descends.{is_above, reaches}
-use Rattle.qvt_metamodel.specs.Kept.{AreRanks, IsKept}
+use Rattle.qvt_metamodel.specs.Metamodels.{Metamodels, features_of, nowhere_feature}
+use Rattle.qvt_metamodel.specs.Kept.{IsKept}
 use Rattle.qvt_metamodel.specs.declared.declared.MetaData.{MetaData}
 use Rattle.qvt_metamodel.specs.Checked.{IsChecked}
 use Rattle.qvt_meta.specs.Numbers.{AreNumbers}
@@ -16,42 +14,8 @@ use Rattle.qvt_meta_tables.specs.Tables.{of_classes, AreTables}
 use Rattle.qvt_json.specs.Repeated.{repeated}
 use Rattle.qvt_metamodel.specs.Checks.{repeated_feature}
 use Rattle.qvt_metamodel.proofs.Infos.{length-class_infos}
-use Rattle.qvt_metamodel.proofs.Lists.{all-every, list_any-cong, flat_map-cong}
 use Rattle.qvt_meta.proofs.Whole.{M, is_numbered, well_formed}
-
--- what the tables hold depends on the classes alone
-pub features_same : (m : Metamodels) (k c : ℕ) → features_in k (of_classes m.classes) c ≡ features_in k m c
-features_same m zero c = refl
-features_same m (suc k) c =
-    ap (λ l. each_once [] l ++ (class_at m c).own)
-    (flat_map-cong _ _ (class_at m c).supers (all-every (λ (s : ClassNo). features_in k (of_classes m.classes) s.0 ≡ features_in k m s.0) (class_at m c).supers (λ s. features_same m k s.0)))
-
-pub above_same : (m : Metamodels) (k d c : ℕ) → is_above k (of_classes m.classes) d c ≡ is_above k m d c
-above_same m zero d c = refl
-above_same m (suc k) d c =
-    list_any-cong _ _ (class_at m c).supers
-    (all-every (λ (s : ClassNo). ((s.0 == d) || is_above k (of_classes m.classes) d s.0) ≡ ((s.0 == d) || is_above k m d s.0)) (class_at m c).supers (λ s. ap (λ t. (s.0 == d) || t) (above_same m k d s.0)))
-
-pub features_of_same : (m : Metamodels) (c : ℕ) → features_of (of_classes m.classes) c ≡ features_of m c
-unfolding features_of
-features_of_same m c = features_same m (length m.classes) c
-
-pub reaches_same : (m : Metamodels) (c d : ℕ) → reaches (of_classes m.classes) c d ≡ reaches m c d
-unfolding reaches
-reaches_same m c d = above_same m (length m.classes) d c
-
-pub ranks_same : (m : Metamodels) (ranks : List ℕ) → AreRanks (of_classes m.classes) ranks → AreRanks m ranks
-ranks_same m ranks ok = record { each = ok.each; bounded = ok.bounded; rise = ok.rise }
-
-pub tables_same : (m : Metamodels) (lists : List (List FeatureNo)) (rows : List Row) (ranks : List ℕ) → AreTables (of_classes m.classes) lists rows ranks → AreTables m lists rows ranks
-tables_same m lists rows ranks ok = record {
-  ranked = ranks_same m ranks ok.ranked;
-  each = ok.each;
-  each_row = ok.each_row;
-  first_rows = ok.first_rows;
-  features = λ c. ok.features c ∙ features_of_same m c;
-  ancestors = λ c d. ok.ancestors c d ∙ reaches_same m c d;
-}
+use Rattle.qvt_meta_tables.proofs.Same.{tables_same}
 
 pub same_parts : (d : MetaData) (n : Numbers) → AreNumbers d n
     → record { metamodels = n.metamodels.items; classes = n.classes.items; features = n.features.items; element = None } ≡ M d
@@ -66,7 +30,7 @@ one_kept d n lists rows ranks ok numbers tables =
       ranked = t.ranked;
       each = t.each;
       each_row = t.each_row;
-      first_rows = t.first_rows;
+      starts = t.starts;
       features = t.features;
       ancestors = t.ancestors;
     })

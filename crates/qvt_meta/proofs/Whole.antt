@@ -34,10 +34,11 @@ use Rattle.qvt_metamodel.proofs.Bools.{and_both, and_left, and_right, and_no, ap
 use Rattle.qvt_meta.proofs.Counts.{count_within}
 use Rattle.qvt_metamodel.proofs.Empty.{no_metamodels}
 use Rattle.qvt_metamodel.proofs.Infos.{featured_at, nothing_featured, all-at, map-at, map-at_all, length-class_infos, class_infos-at, length-feature_infos, feature_infos-at, FeatureAt, feature_at_place, length-numbers_from, numbers_from-at, among_numbers}
-use Rattle.qvt_metamodel.proofs.Lookups.{position-first, find-first, bytes_eq-refl, differ-before, some-within, untaken}
-use Rattle.qvt_meta.proofs.Owners.{Declared, declared, includes}
+use Rattle.qvt_metamodel.proofs.Lookups.{position-first, bytes_eq-refl, differ-before, some-within, untaken}
+use Rattle.qvt_metamodel.proofs.FeatureNames.{distinct as distinct_features, found_feature as named_feature}
+use Rattle.qvt_metamodel.proofs.Owners.{Declared, declared, includes}
 use Rattle.qvt_meta_checks.proofs.Passing.{map_none, first_from-none, no_fault, repeated-append, repeated-alone, enums_alone, literals_alone, classes_differ}
-use Rattle.qvt_meta.proofs.Positions.{any-within, any-passes, none-at, no-position, place-below, place-found, place-is}
+use Rattle.qvt_metamodel.proofs.Positions.{any-within, any-passes, none-at, no-position, place-below, place-found, place-is}
 use Rattle.qvt_metamodel.proofs.Stable.{no-features-past, none-above-past}
 
 no_text : is_utf8 [] ≡ true
@@ -68,19 +69,6 @@ numbers-among s (suc n) f l h = elim (leb_tells (suc s) f) [
   | inl t ↦ or_right (s == f) (among_features f (numbers_from (s + 1) n)) (numbers-among (s + 1) n f (omega (arith, t.1)) (omega (arith, h)))
   | inr p ↦ or_left (s == f) (among_features f (numbers_from (s + 1) n)) (eq-eqb s f (omega (arith, l, p.1)))
 ]
-
--- a feature that stands among others, by its place
-record Placed (f : ℕ) (gs : List FeatureNo) : Type 0 where
-  place : ℕ
-  within : place < length gs
-  is : (get_or gs place (record { 0 = 0 })).0 ≡ f
-
-placed : (f : ℕ) (gs : List FeatureNo) → among_features f gs ≡ true → Placed f gs
-placed f gs h = record {
-  place = position_or_len (λ g. g.0 == f) gs;
-  within = any-within (λ (g : FeatureNo). g.0 == f) gs h;
-  is = eqb-true _ f (any-passes (λ (g : FeatureNo). g.0 == f) gs (record { 0 = 0 }) h);
-}
 
 abbrev pub M : MetaData → Metamodels
 M d = record {
@@ -283,22 +271,11 @@ module _ (d : MetaData) (ok : IsChecked d) (ranks : List ℕ) (ranked : AreRanks
     | inr p ↦ subst (λ (gs : List FeatureNo). repeated [] (map named gs) ≡ None) (sym (no_features d c (omega (arith, p.1)))) refl
   ]
 
-  differ_at : (c i j : ℕ) → i < length (features_of w c) → j < i → bytes_eq (named (get_or (features_of w c) i r)) (named (get_or (features_of w c) j r)) ≡ false
-  differ_at c i j l h =
-      ap2 bytes_eq (sym (map-at named (features_of w c) i r [] l)) (sym (map-at named (features_of w c) j r [] (omega (arith, l, h))))
-      ∙ differ-before [] (map named (features_of w c)) i j (fresh_names c) (omega (arith, l, length-map (features_of w c) named)) h
-
   distinct : (c i j : ℕ) → i < j → j < length (features_of w c) → (get_or (features_of w c) i r).0 ≢ (get_or (features_of w c) j r).0
-  distinct c i j h l e =
-      clash (subst (λ n. bytes_eq (feature_at w (get_or (features_of w c) j r).0).name (feature_at w n).name ≡ true) (sym e) (bytes_eq-refl (feature_at w (get_or (features_of w c) j r).0).name)) (differ_at c j i l h)
+  distinct c i j h l = distinct_features w c (fresh_names c) i j h l
 
   found_feature : (c f : ℕ) → has_feature w c f ≡ true → feature_named w c (feature_at w f).name ≡ Some (record { 0 = f })
-  found_feature c f h =
-      let p : Placed f (features_of w c) = placed f (features_of w c) h in
-      find-first (λ (g : FeatureNo). bytes_eq (feature_at w f).name (feature_at w g.0).name) (features_of w c) p.place r p.within
-      (subst (λ n. bytes_eq (feature_at w n).name (feature_at w (get_or (features_of w c) p.place r).0).name ≡ true) p.is (bytes_eq-refl (feature_at w (get_or (features_of w c) p.place r).0).name))
-      (λ j before. subst (λ n. bytes_eq (feature_at w n).name (feature_at w (get_or (features_of w c) j r).0).name ≡ false) p.is (differ_at c p.place j p.within before))
-      ∙ ap (λ (x : ℕ). Some (record { 0 = x })) p.is
+  found_feature c f h = named_feature w c (fresh_names c) f h
 
   -- the features that a class declares stand last among its features
   record Split (c : ℕ) : Type 0 where
@@ -690,7 +667,7 @@ module _ (d : MetaData) (ok : IsChecked d) (ranks : List ℕ) (ranked : AreRanks
       text_feature = text_feature_at;
       text_enumeration = text_enum_at;
       text_literal = text_literal_at;
-      class_found = found_class;
+      class_found = λ c l named. found_class c l;
       feature_found = found_feature;
       enumeration_found = found_enum;
       literal_found = found_literal;

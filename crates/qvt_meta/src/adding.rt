@@ -24,6 +24,7 @@ use qvt_metamodel::declared::{DeclaredClass, DeclaredFeature, MetaData};
 use qvt_metamodel::info::{
     ClassInfo, EnumInfo, FeatureInfo, FeatureShape, MetamodelInfo, TypeKind,
 };
+use qvt_metamodel::numbering::numbers_from;
 use qvt_metamodel::room::has_room;
 use std::alloc::Global;
 
@@ -78,19 +79,6 @@ fn supers_of(
     let mut numbers = Seq::new(alloc);
     for name in supers {
         numbers.push(ClassNo(begin.class + place_in(classes, name) as u32))?;
-    }
-    Ok(numbers)
-}
-
-/// As many numbers from this one on.
-fn numbers_from(alloc: Global, first: u32, count: usize) -> Result<FeatureNoList, ListFault>
-    requires { first + count < 2 ^ 32 }
-    ensures { IfOk result (λ s. s ≡ numbers_from first count) }
-{
-    let last = first + count as u32;
-    let mut numbers = Seq::new(alloc);
-    for number in first..last {
-        numbers.push(FeatureNo(number))?;
     }
     Ok(numbers)
 }

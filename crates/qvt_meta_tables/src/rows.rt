@@ -4,7 +4,7 @@ ghost use Rattle.std.specs.Prelude.{replicate, nat_lt, IsTrue, ◌≡◌, ◌<�
 ghost use Rattle.std.specs.List.{list_any, list_all};
 ghost use Rattle.qvt_metamodel.specs.Descends.{reaches};
 ghost use Rattle.qvt_metamodel.specs.Kept.{no_row, is_marked};
-ghost use Rattle.qvt_meta_tables.specs.Tables.{of_classes, IsOrder, IsWithin};
+ghost use Rattle.qvt_meta_tables.specs.Tables.{of_classes, IsOrder, IsWithin, mark_of};
 
 use crate::order::Order;
 use crate::tables::{put, supers_at};
@@ -12,27 +12,38 @@ use qvt_base::list_fault::ListFault;
 use qvt_base::numbers::ClassNo;
 use qvt_base::seq::Seq;
 use qvt_metamodel::info::ClassInfo;
-use qvt_metamodel::row::{Row, is_marked};
+use qvt_metamodel::row::{Row, word_of};
 use std::alloc::Global;
 
-/// Where the marks of a row end. Every class has a number below the bound.
+/// Where the words of a row end. Every class has a number below the bound.
 fn end_of(row: &Row, bound: u32) -> u32
     requires { IsWithin bound row.now }
-    ensures { result ≡ row.now.first + length row.now.above }
+    ensures { result ≡ row.now.skipped + length row.now.words }
 {
     let _ = bound;
-    row.first + row.above.len() as u32
+    row.skipped + row.words.len() as u32
 }
 
-/// The first class of a row, or the other class if that comes first or nothing is marked.
-fn first_of(class: u32, row: &Row) -> u32
-    ensures class { result ≤ class }
-    ensures first { 0 < length row.now.above → result ≤ row.now.first }
+/// The number of the first word of a row, or this number if it is less or the row has no words.
+fn first_of(number: u32, row: &Row) -> u32
+    ensures number { result ≤ number }
+    ensures first { 0 < length row.now.words → result ≤ row.now.skipped }
 {
-    if row.above.is_empty() {
-        class
+    if row.words.is_empty() {
+        number
     } else {
-        class.min(row.first)
+        number.min(row.skipped)
+    }
+}
+
+/// The word with this number of a row where this class alone is marked.
+fn mark_of(class: u32, number: u32) -> u64
+    ensures { result ≡ mark_of class number }
+{
+    if class / 64 == number {
+        1 << (class % 64)
+    } else {
+        0
     }
 }
 
@@ -44,15 +55,19 @@ fn with_row(alloc: Global, bound: u32, row: &Row, class: u32, other: &Row) -> Re
     ensures marks { IfOk result (λ r. (d : ℕ) → is_marked r d ≡ (is_marked row.now d || (class == d) || is_marked other.now d)) }
     ensures within { IfOk result (λ r. IsWithin bound r) }
 {
-    let first = first_of(first_of(class, row), other);
-    let end = (class + 1)
+    let first = first_of(first_of(class / 64, row), other);
+    let end = (class / 64 + 1)
         .max(end_of(row, bound))
         .max(end_of(other, bound));
-    let mut above = Seq::new(alloc);
-    for at in first..end {
-        above.push(is_marked(row, at) || class == at || is_marked(other, at))?;
+    let mut words = Seq::new(alloc);
+    for number in first..end {
+        words.push(word_of(row, number) | mark_of(class, number) | word_of(other, number))?;
     }
-    Ok(Row { first, above })
+    Ok(Row {
+        start: 0,
+        skipped: first,
+        words,
+    })
 }
 
 /// The row of a class, by those of its superclasses.
@@ -64,8 +79,9 @@ fn row_at(alloc: Global, bound: u32, rows: &Vec<Row>, supers: &[ClassNo]) -> Res
     ensures within { IfOk result (λ r. IsWithin bound r) }
 {
     let mut row = Row {
-        first: 0,
-        above: Seq::new(alloc),
+        start: 0,
+        skipped: 0,
+        words: Seq::new(alloc),
     };
     for superclass in supers {
         row = with_row(
@@ -86,8 +102,9 @@ fn empty_rows(alloc: Global, count: u32) -> Result<Vec<Row>, ListFault>
     let mut rows = Seq::new(alloc);
     for at in 0..count {
         rows.push(Row {
-            first: 0,
-            above: Seq::new(alloc),
+            start: 0,
+            skipped: 0,
+            words: Seq::new(alloc),
         })?;
     }
     Ok(rows.into_vec())
@@ -103,7 +120,7 @@ pub fn rows_of(
     requires count { length classes.now ≡ count }
     requires order { IsOrder (of_classes classes.now) order.now.classes order.now.ranks }
     ensures each { IfOk result (λ v. length v.items ≡ count) }
-    ensures first { IfOk result (λ v. (c : ℕ) → (slice_index_or v.items c no_row).first ≤ count) }
+    ensures starts { IfOk result (λ v. (c : ℕ) → (slice_index_or v.items c no_row).start ≡ 0) }
     ensures ancestors { IfOk result (λ v. (c d : ℕ) → is_marked (slice_index_or v.items c no_row) d ≡ reaches (of_classes classes.now) c d) }
 {
     let mut rows = empty_rows(alloc, count)?;

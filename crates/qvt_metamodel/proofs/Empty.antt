@@ -1,12 +1,12 @@
 -- Without metamodels everything is kept.
-use Rattle.std.proofs.Common.{◌≡◌, ℕ, [], None, true, false, refl, arith, lit<, sym, leb, ◌∙◌}
+use Rattle.std.proofs.Common.{◌≡◌, ℕ, [], None, true, false, refl, arith, lit<, sym, ◌∙◌}
 use Rattle.std.specs.Str.{is_utf8}
 use Rattle.std.proofs.lemmas.Str.{is_utf8-from_IsUtf8, IsUtf8-nil}
 use Rattle.qvt_metamodel.specs.Metamodels.{Metamodels, features_of}
 use Rattle.qvt_metamodel.specs.Descends.{reaches}
 use Rattle.qvt_metamodel.specs.WellFormed.{IsWellFormed}
 use Rattle.qvt_metamodel.specs.Kept.{IsKept}
-use Rattle.qvt_metamodel.proofs.Bools.{and_no}
+use Rattle.qvt_metamodel.proofs.Rows.{no_mark}
 
 abbrev pub no_metamodels : Metamodels
 no_metamodels = record { metamodels = []; classes = []; features = []; element = None }
@@ -51,7 +51,7 @@ well_formed = record {
   text_feature = λ f. no_text;
   text_enumeration = λ k e. no_text;
   text_literal = λ k e l. no_text;
-  class_found = λ c h. absurd (omega arith);
+  class_found = λ c h named. absurd (omega arith);
   feature_found = λ c f h. absurd (cc);
   enumeration_found = λ k e h. absurd (omega arith);
   literal_found = λ k e l h. absurd (omega arith);
@@ -63,7 +63,7 @@ kept = record {
   ranked = record { each = refl; bounded = λ c h. absurd (omega arith); rise = λ c. tt };
   each = refl;
   each_row = refl;
-  first_rows = λ c. omega arith;
+  starts = λ c. omega arith;
   features = λ c. sym (no_features c);
-  ancestors = λ c d. and_no (leb 0 d) false refl ∙ sym (no_ancestor c d);
+  ancestors = λ c d. no_mark d ∙ sym (no_ancestor c d);
 }

@@ -5,4 +5,8 @@ pub mod Stable
 pub mod Infos
 pub mod Lookups
 pub mod Ancestors
+pub mod Rows
 pub mod Empty
+pub mod Owners
+pub mod FeatureNames
+pub mod Positions

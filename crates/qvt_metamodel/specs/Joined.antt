@@ -50,7 +50,7 @@ joined m n = let b = begin_after m in record {
 }
 
 abbrev pub row_on : Begin → Row → Row
-row_on b r = record { first = b.class + r.first; above = r.above }
+row_on b r = record { start = b.class + r.start; skipped = r.skipped; words = r.words }
 
 -- the numbers that go on still fit 32 bits
 abbrev pub ClassesFit : Begin → List ClassNo → Type 0

@@ -11,3 +11,4 @@ pub mod Added
 pub mod Checks
 pub mod Checked
 pub mod Numbered
+pub mod Extended

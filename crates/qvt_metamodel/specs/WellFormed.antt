@@ -47,7 +47,8 @@ pub record IsWellFormed (m : Metamodels) : Type 0 where
   pub text_feature : (f : ℕ) → IsTrue (is_utf8 (feature_at m f).name)
   pub text_enumeration : (k e : ℕ) → IsTrue (is_utf8 (enumeration_at m k e).name)
   pub text_literal : (k e l : ℕ) → IsTrue (is_utf8 (literal_at m k e l))
-  pub class_found : (c : ℕ) → c < length m.classes → class_named m (class_at m c).metamodel (class_at m c).name ≡ Some c
+  -- (a class of a metamodel without a name may have the name of another)
+  pub class_found : (c : ℕ) → c < length m.classes → (metamodel_at m (class_at m c).metamodel).name ≢ [] → class_named m (class_at m c).metamodel (class_at m c).name ≡ Some c
   pub feature_found : (c f : ℕ) → IsTrue (has_feature m c f) → feature_named m c (feature_at m f).name ≡ Some (record { 0 = f })
   pub enumeration_found : (k e : ℕ) → e < length (metamodel_at m k).enums → enumeration_named m k (enumeration_at m k e).name ≡ Some e
   pub literal_found : (k e l : ℕ) → l < length (enumeration_at m k e).literals → literal_named m k e (literal_at m k e l) ≡ Some l

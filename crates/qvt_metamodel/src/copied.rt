@@ -89,8 +89,9 @@ impl Copied for FeatureInfo {
 impl Copied for Row {
     fn copy(&self, alloc: Global) -> Result<Row, ListFault> {
         Ok(Row {
-            first: self.first,
-            above: Seq::from_slice(alloc, self.above.as_slice())?,
+            start: self.start,
+            skipped: self.skipped,
+            words: Seq::from_slice(alloc, self.words.as_slice())?,
         })
     }
 }

@@ -62,8 +62,8 @@ module _ (n : Metamodels) (b : Begin) (wn : IsWellFormed n)
         (all-imply (λ (f : FeatureNo). f.0 < length n.features) (λ (f : FeatureNo). b.feature + f.0 < 2 ^ 32) (features_of n c) (λ f l. omega (arith, l, few_fs))
         (all-among (λ f. f < length n.features) (features_of n c) (wn.live_feature c))))
 
-    pub rows_fit : AllByRecursion (λ (r : Row). b.class + r.first < 2 ^ 32) rows
-    rows_fit = all-at_index (λ (r : Row). b.class + r.first < 2 ^ 32) rows no_row (λ c h. omega (arith, kept.first_rows c, few_cs))
+    pub rows_fit : AllByRecursion (λ (r : Row). b.class + r.start < 2 ^ 32) rows
+    rows_fit = all-at_index (λ (r : Row). b.class + r.start < 2 ^ 32) rows no_row (λ c h. omega (arith, kept.starts c, few_cs))
 
     pub ranks_fit : AllByRecursion (λ r. b.class + r < 2 ^ 32) ranks
     ranks_fit = all-at_index (λ r. b.class + r < 2 ^ 32) ranks 0 (λ c h. omega (arith, kept.ranked.bounded c (omega (arith, h, kept.ranked.each)), few_cs))

@@ -38,13 +38,13 @@ pub record GoesOn (m w : Metamodels) : Type 0 where
   pub element : (d : ℕ) → d < length m.classes → is_element w d ≡ is_element m d
 
 module _ (m w : Metamodels) (ranks : List ℕ) (wm : IsWellFormed m) (am : AreRanks m ranks) (on : GoesOn m w) where
-  metamodel_old : (k : ℕ) → k < length m.metamodels → metamodel_at w k ≡ metamodel_at m k
+  pub metamodel_old : (k : ℕ) → k < length m.metamodels → metamodel_at w k ≡ metamodel_at m k
   metamodel_old k h = ap (λ is. get_or is k nowhere_metamodel) on.metamodels ∙ old-at m.metamodels on.metamodels_after k nowhere_metamodel h
 
-  class_old : (c : ℕ) → c < length m.classes → class_at w c ≡ class_at m c
+  pub class_old : (c : ℕ) → c < length m.classes → class_at w c ≡ class_at m c
   class_old c h = ap (λ ks. get_or ks c nowhere_class) on.classes ∙ old-at m.classes on.classes_after c nowhere_class h
 
-  feature_old : (f : ℕ) → f < length m.features → feature_at w f ≡ feature_at m f
+  pub feature_old : (f : ℕ) → f < length m.features → feature_at w f ≡ feature_at m f
   feature_old f h = ap (λ fs. get_or fs f nowhere_feature) on.features ∙ old-at m.features on.features_after f nowhere_feature h
 
   more : length m.classes ≤ length w.classes
@@ -83,12 +83,12 @@ module _ (m w : Metamodels) (ranks : List ℕ) (wm : IsWellFormed m) (am : AreRa
   none_named k name h ks far = all-imply (λ (x : ClassInfo). length m.metamodels ≤ x.metamodel) (λ (x : ClassInfo). ((x.metamodel == k) && bytes_eq name x.name) ≡ false) ks
       (λ x l. no-and (eqb x.metamodel k) (bytes_eq name x.name) (not_true (eqb x.metamodel k) (λ e. (let same : x.metamodel ≡ k = eqb-true x.metamodel k e in omega (arith, same, l, h))))) far
 
-  class_named_old : (k : ℕ) (name : List ℕ) → k < length m.metamodels → class_named w k name ≡ class_named m k name
+  pub class_named_old : (k : ℕ) (name : List ℕ) → k < length m.metamodels → class_named w k name ≡ class_named m k name
   class_named_old k name h =
       ap (position (λ (x : ClassInfo). (x.metamodel == k) && bytes_eq name x.name)) on.classes
       ∙ position-none_past (λ (x : ClassInfo). (x.metamodel == k) && bytes_eq name x.name) m.classes on.classes_after (none_named k name h on.classes_after on.apart)
 
-  feature_named_old : (c : ℕ) (name : List ℕ) → c < length m.classes → feature_named w c name ≡ feature_named m c name
+  pub feature_named_old : (c : ℕ) (name : List ℕ) → c < length m.classes → feature_named w c name ≡ feature_named m c name
   feature_named_old c name h =
       ap (find (λ (g : FeatureNo). bytes_eq name (feature_at w g.0).name)) (features_old c h)
       ∙ find-cong _ (λ (g : FeatureNo). bytes_eq name (feature_at m g.0).name) (features_of m c)

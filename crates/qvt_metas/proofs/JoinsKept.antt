@@ -437,15 +437,16 @@ module _ (m n : Metamodels) (rm rn : List ℕ) (wm : IsWellFormed m) (wn : IsWel
       by _ (old f l) = ap is_utf8 (feature_name_old f l) ∙ wm.text_feature f
       by _ (new f) = ap is_utf8 (feature_name_new f) ∙ wn.text_feature f
 
-  class_found : (c : ℕ) → c < length W.classes → class_named W (class_at W c).metamodel (class_at W c).name ≡ Some c
+  class_found : (c : ℕ) → c < length W.classes → (metamodel_at W (class_at W c).metamodel).name ≢ [] → class_named W (class_at W c).metamodel (class_at W c).name ≡ Some c
   unfolding class_info_on
-  class_found c h = by c (half B c) h
+  class_found c h named = by c (half B c) h named
     where
-      by : (c : ℕ) → Half B c → c < length W.classes → class_named W (class_at W c).metamodel (class_at W c).name ≡ Some c
-      by _ (old c l) h =
+      by : (c : ℕ) → Half B c → c < length W.classes → (metamodel_at W (class_at W c).metamodel).name ≢ [] → class_named W (class_at W c).metamodel (class_at W c).name ≡ Some c
+      by _ (old c l) h named =
           ap (λ (k : ClassInfo). position (λ x. (x.metamodel == k.metamodel) && bytes_eq k.name x.name) W.classes) (class_old m n rm rn wm wn am an c l)
-          ∙ position-left (λ (x : ClassInfo). (x.metamodel == (class_at m c).metamodel) && bytes_eq (class_at m c).name x.name) m.classes (map (class_info_on (begin_after m)) n.classes) c (wm.class_found c l)
-      by _ (new c) h =
+          ∙ position-left (λ (x : ClassInfo). (x.metamodel == (class_at m c).metamodel) && bytes_eq (class_at m c).name x.name) m.classes (map (class_info_on (begin_after m)) n.classes) c (wm.class_found c l
+          (λ e. named (ap (λ i. i.name) (ap (λ (k : ClassInfo). metamodel_at W k.metamodel) (class_old m n rm rn wm wn am an c l) ∙ metamodel_old (class_at m c).metamodel (wm.live_metamodel c l)) ∙ e)))
+      by _ (new c) h named =
           let l : c < length n.classes = omega (arith, h, class_count m n rm rn wm wn am an) in
           ap2 (λ (k : ℕ) (name : List ℕ). position (λ (x : ClassInfo). (x.metamodel == k) && bytes_eq name x.name) W.classes) (class_metamodel_new c l) (class_name_new c)
           ∙ position-right (λ (x : ClassInfo). (x.metamodel == (K + (class_at n c).metamodel)) && bytes_eq (class_at n c).name x.name) m.classes (map (class_info_on (begin_after m)) n.classes) c
@@ -456,7 +457,7 @@ module _ (m n : Metamodels) (rm rn : List ℕ) (wm : IsWellFormed m) (wn : IsWel
           (sym (position-map (λ (x : ClassInfo). (x.metamodel == (K + (class_at n c).metamodel)) && bytes_eq (class_at n c).name x.name) (class_info_on (begin_after m)) n.classes)
           ∙ position-cong _ (λ (x : ClassInfo). (x.metamodel == (class_at n c).metamodel) && bytes_eq (class_at n c).name x.name) n.classes
           (λ x. ap (λ t. t && bytes_eq (class_at n c).name x.name) (eqb-add K x.metamodel (class_at n c).metamodel))
-          ∙ wn.class_found c l)
+          ∙ wn.class_found c l (λ e. named (ap (λ i. i.name) (ap (metamodel_at W) (class_metamodel_new c l) ∙ metamodel_new (class_at n c).metamodel) ∙ e)))
 
   feature_found : (c f : ℕ) → has_feature W c f ≡ true → feature_named W c (feature_at W f).name ≡ Some (record { 0 = f })
   feature_found c f there = by c f (has c f there)

@@ -1,5 +1,5 @@
 -- The tables of two lists of metamodels are those of both as one.
-use Rattle.std.proofs.Common.{◌≡◌, ◌∙◌, ℕ, ◌+◌, ◌-◌, ◌<◌, ◌≤◌, ◌^◌, List, [], ◌∷◌, ◌++◌, length, map, get_or, Bool, true, false, None, refl, ap, sym, subst, arith, ◌&&◌, leb}
+use Rattle.std.proofs.Common.{◌≡◌, ◌∙◌, ℕ, ◌+◌, ◌-◌, ◌<◌, ◌≤◌, ◌^◌, List, [], ◌∷◌, ◌++◌, length, map, get_or, Bool, true, false, None, refl, ap, sym, subst, arith, ◌&&◌, ◌/◌, ◌%◌, leb}
 use Rattle.std.specs.Prelude.{slice_index, slice_index_or}
 use Rattle.std.specs.List.{AllByRecursion}
 use Rattle.std.proofs.lemmas.List.{length-map, length-append, get_or_past}
@@ -10,9 +10,10 @@ use Rattle.qvt_metamodel.specs.declared.row.Row.{Row}
 use Rattle.qvt_metamodel.specs.declared.info.ClassInfo.{ClassInfo}
 use Rattle.qvt_metamodel.specs.Metamodels.{Metamodels, class_at, features_of, nowhere_class}
 use Rattle.qvt_metamodel.specs.Descends.{reaches}
-use Rattle.qvt_metamodel.specs.Kept.{AreRanks, IsKept, no_row, is_marked}
+use Rattle.qvt_metamodel.specs.Kept.{AreRanks, IsKept, no_row, is_marked, is_bit, word_of}
 use Rattle.qvt_metamodel.specs.Joined.{class_on, feature_on, class_info_on, row_on, begin_after, joined}
-use Rattle.qvt_metamodel.proofs.Bools.{not_true, and_no, no-and}
+use Rattle.qvt_metamodel.proofs.Bools.{ap2, not_true, no-and}
+use Rattle.qvt_metamodel.proofs.Rows.{no_mark}
 use Rattle.qvt_metamodel.proofs.Halves.{Half, old, new, half, old-at, new-at}
 use Rattle.qvt_metamodel.proofs.Infos.{map-at, map-at_all}
 use Rattle.qvt_metamodel.proofs.Lists.{all-both, all-found}
@@ -107,17 +108,17 @@ module _ (m n : Metamodels) (lm ln : List (List FeatureNo)) (ws vs : List Row) (
       ∙ get_or_past (map (row_on (begin_after m)) vs) c no_row (omega (arith, l, kn.each_row, length-map vs (row_on (begin_after m))))
 
   marked_on : (r : Row) (d : ℕ) → is_marked (row_on (begin_after m) r) (B + d) ≡ is_marked r d
-  marked_on r d = λ i. leb-add B r.first d i && slice_index_or r.above ((let same : (B + d) - (B + r.first) ≡ d - r.first = omega arith in same) i) false
+  marked_on r d = ap2 (λ b k. b && is_bit (word_of r (k / 64)) (k % 64)) (leb-add B r.start d) (let same : (B + d) - (B + r.start) ≡ d - r.start = omega arith in same)
 
   marked_below : (r : Row) (d : ℕ) → d < B → is_marked (row_on (begin_after m) r) d ≡ false
-  marked_below r d h = no-and (leb (B + r.first) d) (slice_index_or r.above (d - (B + r.first)) false)
-      (not_true (leb (B + r.first) d) (λ e. (let le : B + r.first ≤ d = leb-true (B + r.first) d e in omega (arith, le, h))))
+  marked_below r d h = no-and (leb (B + r.start) d) (is_bit (word_of r ((d - (B + r.start)) / 64)) ((d - (B + r.start)) % 64))
+      (not_true (leb (B + r.start) d) (λ e. (let le : B + r.start ≤ d = leb-true (B + r.start) d e in omega (arith, le, h))))
 
   each_row : (c d : ℕ) → is_marked (slice_index_or rows c no_row) d ≡ reaches W c d
   each_row c d = by c d (half B c) (half B d)
     where
       past : (c d : ℕ) → length n.classes ≤ c → is_marked (slice_index_or rows (B + c) no_row) d ≡ false
-      past c d l = ap (λ r. is_marked r d) (row_past c l) ∙ and_no (leb 0 d) false refl
+      past c d l = ap (λ r. is_marked r d) (row_past c l) ∙ no_mark d
 
       by : (c d : ℕ) → Half B c → Half B d → is_marked (slice_index_or rows c no_row) d ≡ reaches W c d
       by _ d (old c l) any = ap (λ r. is_marked r d) (row_old c l) ∙ km.ancestors c d ∙ sym (reaches_old m n rm rn km.well_formed kn.well_formed km.ranked kn.ranked c d l)
@@ -131,19 +132,19 @@ module _ (m n : Metamodels) (lm ln : List (List FeatureNo)) (ws vs : List Row) (
           on : (c d : ℕ) → Half (length n.classes) c → is_marked (slice_index_or rows (B + c) no_row) (B + d) ≡ reaches W (B + c) (B + d)
           on _ d (old c k) = ap (λ r. is_marked r (B + d)) (row_new c k) ∙ marked_on (slice_index_or vs c no_row) d ∙ kn.ancestors c d ∙ sym (reaches_new m n rm rn km.well_formed kn.well_formed km.ranked kn.ranked c d)
           on _ d (new k) = past (length n.classes + k) (B + d) (omega arith)
-              ∙ sym (and_no (leb 0 d) false refl) ∙ ap (λ r. is_marked r d) (sym (get_or_past vs (length n.classes + k) no_row (omega (arith, kn.each_row))))
+              ∙ sym (no_mark d) ∙ ap (λ r. is_marked r d) (sym (get_or_past vs (length n.classes + k) no_row (omega (arith, kn.each_row))))
               ∙ kn.ancestors (length n.classes + k) d ∙ sym (reaches_new m n rm rn km.well_formed kn.well_formed km.ranked kn.ranked (length n.classes + k) d)
 
-  first_rows : (c : ℕ) → (slice_index_or rows c no_row).first ≤ length W.classes
-  first_rows c = by c (half B c)
+  starts : (c : ℕ) → (slice_index_or rows c no_row).start ≤ length W.classes
+  starts c = by c (half B c)
     where
-      by : (c : ℕ) → Half B c → (slice_index_or rows c no_row).first ≤ length W.classes
-      by _ (old c l) = omega (arith, ap (λ (r : Row). r.first) (row_old c l), km.first_rows c, count)
+      by : (c : ℕ) → Half B c → (slice_index_or rows c no_row).start ≤ length W.classes
+      by _ (old c l) = omega (arith, ap (λ (r : Row). r.start) (row_old c l), km.starts c, count)
       by _ (new c) = at c (half (length n.classes) c)
         where
-          at : (c : ℕ) → Half (length n.classes) c → (slice_index_or rows (B + c) no_row).first ≤ length W.classes
-          at _ (old c l) = omega (arith, ap (λ (r : Row). r.first) (row_new c l), kn.first_rows c, count)
-          at _ (new k) = (let none : (slice_index_or rows (B + (length n.classes + k)) no_row).first ≡ 0 = ap (λ (r : Row). r.first) (row_past (length n.classes + k) (omega arith)) in omega (arith, none))
+          at : (c : ℕ) → Half (length n.classes) c → (slice_index_or rows (B + c) no_row).start ≤ length W.classes
+          at _ (old c l) = omega (arith, ap (λ (r : Row). r.start) (row_new c l), kn.starts c, count)
+          at _ (new k) = (let none : (slice_index_or rows (B + (length n.classes + k)) no_row).start ≡ 0 = ap (λ (r : Row). r.start) (row_past (length n.classes + k) (omega arith)) in omega (arith, none))
 
   pub kept : IsKept (joined m n) lists rows ranks
   kept = subst (λ x. IsKept x lists rows ranks) (sym (is_joined m n rm rn km.well_formed kn.well_formed km.ranked kn.ranked)) (record {
@@ -151,7 +152,7 @@ module _ (m n : Metamodels) (lm ln : List (List FeatureNo)) (ws vs : List Row) (
     ranked = ranked;
     each = length-append lm (map (map (feature_on (begin_after m))) ln) ∙ omega (arith, km.each, kn.each, length-map ln (map (feature_on (begin_after m))), count);
     each_row = length-append ws (map (row_on (begin_after m)) vs) ∙ omega (arith, km.each_row, kn.each_row, length-map vs (row_on (begin_after m)), count);
-    first_rows = first_rows;
+    starts = starts;
     features = each_list;
     ancestors = each_row;
   })

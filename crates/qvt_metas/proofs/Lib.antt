@@ -5,3 +5,5 @@ pub mod JoinsTables
 pub mod Fits
 pub mod Withs
 pub mod Rooms
+pub mod Extends
+pub mod ClassNames

@@ -50,7 +50,7 @@ module _ (m n : Metamodels) (ln : List (List FeatureNo)) (vs : List Row) (rn : L
   pub lists_go_on : AllByRecursion (FeaturesFit b) ln
   lists_go_on = lists_fit n b both.kept.well_formed few_ms few_cs few_fs ln vs rn both.kept
 
-  pub rows_go_on : AllByRecursion (λ (r : Row). b.class + r.first < 2 ^ 32) vs
+  pub rows_go_on : AllByRecursion (λ (r : Row). b.class + r.start < 2 ^ 32) vs
   rows_go_on = rows_fit n b both.kept.well_formed few_ms few_cs few_fs ln vs rn both.kept
 
   pub ranks_go_on : AllByRecursion (λ r. b.class + r < 2 ^ 32) rn

@@ -153,18 +153,19 @@ pub fn lists_on(
 }
 
 fn row_on(alloc: Global, begin: Begin, row: &Row) -> Result<Row, ListFault>
-    requires { begin.class + row.now.first < 2 ^ 32 }
+    requires { begin.class + row.now.start < 2 ^ 32 }
     ensures { IfOk result (λ r. r ≡ row_on begin row.now) }
 {
     Ok(Row {
-        first: begin.class + row.first,
-        above: Seq::from_slice(alloc, row.above.as_slice())?,
+        start: begin.class + row.start,
+        skipped: row.skipped,
+        words: Seq::from_slice(alloc, row.words.as_slice())?,
     })
 }
 
 /// The rows, with numbers that go on from these.
 pub fn rows_on(alloc: Global, begin: Begin, rows: &[Row]) -> Result<Vec<Row>, ListFault>
-    requires { AllByRecursion (λ r. begin.class + r.first < 2 ^ 32) rows.now }
+    requires { AllByRecursion (λ r. begin.class + r.start < 2 ^ 32) rows.now }
     ensures { IfOk result (λ v. v.items ≡ map (row_on begin) rows.now) }
 {
     let mut all = Seq::new(alloc);

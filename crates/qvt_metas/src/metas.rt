@@ -1,4 +1,4 @@
-ghost use Rattle.std.specs.Prelude.{◌≡◌, ◌≢◌, ◌↔◌, ℕ, ◌^◌, [], true, false, length, None, IfOk, IfErr, IsTrue, OnOk, OnErr, IfSome, option_map, position, ◌==◌, ◌&&◌, ◌||◌, ◌<◌};
+ghost use Rattle.std.specs.Prelude.{◌≡◌, ◌≢◌, ◌↔◌, ℕ, ◌^◌, List, [], true, false, length, None, IfOk, IfErr, IsTrue, OnOk, OnErr, IfSome, option_map, position, ◌==◌, ◌&&◌, ◌||◌, ◌<◌};
 ghost use Rattle.std.specs.Str.{bytes_eq};
 ghost use Rattle.std.specs.List.{list_any};
 ghost use Rattle.qvt_metamodel.specs.Metamodels.{class_at, feature_at, shape_of, opposite, features_of};
@@ -6,6 +6,7 @@ ghost use Rattle.qvt_metamodel.specs.Descends.{descends, Descends};
 ghost use Rattle.qvt_metamodel.specs.WellFormed.{IsWellFormed};
 ghost use Rattle.qvt_metamodel.specs.Named.{is_text};
 
+use crate::extending::{given_classes, given_features, have_texts, one_unnamed};
 use crate::joining::{class_infos_on, feature_infos_on, lists_on, ranks_on, rows_on};
 use crate::meta::Meta;
 use qvt_base::copied::Copied;
@@ -13,9 +14,13 @@ use qvt_base::list_fault::ListFault;
 use qvt_base::lists::FeatureNoList;
 use qvt_base::numbers::{ClassNo, FeatureNo};
 use qvt_base::text::Text;
+use qvt_meta_names::class_tables::class_tables;
+use qvt_meta_names::name_table::NameTable;
+use qvt_meta_tables::tables::tables_of;
 use qvt_metamodel::begin::Begin;
 use qvt_metamodel::copied::{copies, joined};
 use qvt_metamodel::fault::MetasFault;
+use qvt_metamodel::given::{ClassData, ClassDataList};
 use qvt_metamodel::info::{
     ClassInfo, EnumInfo, FeatureInfo, FeatureShape, MetamodelInfo, TypeKind,
 };
@@ -36,17 +41,18 @@ pub struct Metas {
     lists: Vec<FeatureNoList>,
     rows: Vec<Row>,
     ranks: Vec<u32>,
+    names: Vec<NameTable>,
 }
 
 impl Model for Metas {
     ghost use Rattle.qvt_metamodel.specs.Metamodels.{Metamodels};
-    ghost use Rattle.qvt_metamodel.specs.Kept.{IsKept};
+    ghost use Rattle.qvt_metas.specs.Held.{IsHeld};
 
     ghost Value = { Metamodels };
 
     ghost view = { λ m. record { metamodels = m.metamodels.items; classes = m.classes.items; features = m.features.items; element = m.element } };
 
-    ghost invariant = { λ m. IsKept (record { metamodels = m.metamodels.items; classes = m.classes.items; features = m.features.items; element = m.element }) m.lists.items m.rows.items m.ranks.items };
+    ghost invariant = { λ m. IsHeld (record { metamodels = m.metamodels.items; classes = m.classes.items; features = m.features.items; element = m.element }) m.lists.items m.rows.items m.ranks.items m.names.items };
 }
 
 impl Metas {
@@ -64,29 +70,54 @@ impl Metas {
             lists: Vec::new(alloc),
             rows: Vec::new(alloc),
             ranks: Vec::new(alloc),
+            names: Vec::new(alloc),
         }
     }
 
-    /// The metamodels of these parts. It takes no memory.
+    /// The metamodels of these parts.
     pub fn from_parts(
+        alloc: Global,
         metamodels: Vec<MetamodelInfo>,
         classes: Vec<ClassInfo>,
         features: Vec<FeatureInfo>,
         tables: Tables,
-    ) -> Metas
+    ) -> Result<Metas, ListFault>
         requires { IsKept (record { metamodels = metamodels.items; classes = classes.items; features = features.items; element = None }) tables.lists.items tables.rows.items tables.ranks.items }
-        ensures { result ≡ record { metamodels = metamodels.items; classes = classes.items; features = features.items; element = None } }
+        ensures { IfOk result (λ m. m ≡ record { metamodels = metamodels.items; classes = classes.items; features = features.items; element = None }) }
     {
         let Tables { lists, rows, ranks } = tables;
-        Metas {
+        let metas = Metas::whole(
+            alloc, metamodels, classes, features, None, lists, rows, ranks,
+        )?;
+        Ok(metas)
+    }
+
+    /// The metamodels of these parts, with their classes by name.
+    fn whole(
+        alloc: Global,
+        metamodels: Vec<MetamodelInfo>,
+        classes: Vec<ClassInfo>,
+        features: Vec<FeatureInfo>,
+        element: Option<ClassNo>,
+        lists: Vec<FeatureNoList>,
+        rows: Vec<Row>,
+        ranks: Vec<u32>,
+    ) -> Result<Metas, ListFault>
+        requires { IsKept (record { metamodels = metamodels.items; classes = classes.items; features = features.items; element = element }) lists.items rows.items ranks.items }
+        ensures { IfOk result (λ m. m ≡ record { metamodels = metamodels.items; classes = classes.items; features = features.items; element = element }) }
+    {
+        let count = classes.len() as u32;
+        let names = class_tables(alloc, metamodels.len() as u32, classes.as_slice(), count)?;
+        Ok(Metas {
             metamodels,
             classes,
             features,
-            element: None,
+            element,
             lists,
             rows,
             ranks,
-        }
+            names,
+        })
     }
 
     ghost use Rattle.qvt_metamodel.specs.Kept.{IsKept};
@@ -170,18 +201,64 @@ impl Metas {
         let lists = lists_on(alloc, begin, others.lists.as_slice())?;
         let rows = rows_on(alloc, begin, others.rows.as_slice())?;
         let ranks = ranks_on(alloc, begin, others.ranks.as_slice())?;
-        Ok(Metas {
-            metamodels: joined(alloc, self.metamodels.as_slice(), metamodels)?,
-            classes: joined(alloc, self.classes.as_slice(), classes)?,
-            features: joined(alloc, self.features.as_slice(), features)?,
-            element: None,
-            lists: joined(alloc, self.lists.as_slice(), lists)?,
-            rows: joined(alloc, self.rows.as_slice(), rows)?,
-            ranks: joined(alloc, self.ranks.as_slice(), ranks)?,
-        })
+        let next = Metas::whole(
+            alloc,
+            joined(alloc, self.metamodels.as_slice(), metamodels)?,
+            joined(alloc, self.classes.as_slice(), classes)?,
+            joined(alloc, self.features.as_slice(), features)?,
+            None,
+            joined(alloc, self.lists.as_slice(), lists)?,
+            joined(alloc, self.rows.as_slice(), rows)?,
+            joined(alloc, self.ranks.as_slice(), ranks)?,
+        )?;
+        Ok(next)
     }
 
     ghost use Rattle.qvt_metamodel.specs.Joined.{joined, FitTogether};
+
+    /// These metamodels and one more, the last, which has no name: its first class is Element, which
+    /// is abstract, has no features and is above every class, and after it come the given classes,
+    /// whose superclasses are the given ones alone.
+    pub fn extended(&self, classes: &ClassDataList) -> Result<Metas, MetasFault>
+        requires element { self.now.element ≡ None }
+        requires given { AreGiven self.now classes.now }
+        requires room { HasRoomFor self.now classes.now }
+        ensures ok { IfOk result (λ next. next ≡ extended self.now classes.now) }
+        ensures err { IfErr result (λ fault. fault ≡ MetasFault.NoMemory) }
+    {
+        Ok(self.with_given(classes.as_slice())?)
+    }
+
+    ghost use Rattle.qvt_metamodel.specs.Extended.{extended, AreGiven, HasRoomFor};
+
+    /// The same of a slice.
+    fn with_given(&self, classes: &[ClassData]) -> Result<Metas, ListFault>
+        requires element { self.now.element ≡ None }
+        requires given { AreGiven self.now classes.now }
+        requires room { HasRoomFor self.now classes.now }
+        ensures { IfOk result (λ next. next ≡ extended self.now classes.now) }
+    {
+        let alloc = *self.classes.allocator();
+        have_texts(classes);
+        let metamodel = self.metamodels.len() as u32;
+        let element = self.classes.len() as u32;
+        let first = self.features.len() as u32;
+        let given = given_classes(alloc, metamodel, first, classes)?;
+        let features = given_features(alloc, element + 1, classes)?;
+        let infos = joined(alloc, self.classes.as_slice(), given)?;
+        let tables = tables_of(alloc, infos.as_slice(), infos.len() as u32)?;
+        let next = Metas::whole(
+            alloc,
+            joined(alloc, self.metamodels.as_slice(), one_unnamed(alloc)?)?,
+            infos,
+            joined(alloc, self.features.as_slice(), features)?,
+            Some(ClassNo(element)),
+            tables.lists,
+            tables.rows,
+            tables.ranks,
+        )?;
+        Ok(next)
+    }
 
     pub fn metamodel_count(&self) -> u32
         ensures { result ≡ length self.now.metamodels }
@@ -298,8 +375,12 @@ impl Metas {
     pub fn class(&self, metamodel: u32, name: &str) -> Option<ClassNo>
         ensures { option_map (λ c. c.0) result ≡ class_named self.now metamodel name.now }
     {
-        match find_class(self.classes.as_slice(), metamodel, name) {
-            Some(place) => Some(ClassNo(place as u32)),
+        let at = metamodel as usize;
+        if at >= self.names.len() {
+            return None;
+        }
+        match self.names[at].find(name) {
+            Some(number) => Some(ClassNo(number)),
             None => None,
         }
     }
@@ -372,16 +453,18 @@ impl Metas {
         let _ = &self.classes;
     }
 
-    /// A law: when a metamodel is added, the numbers that were there stay, and each look-up says of
-    /// them what it said.
+    /// A law: when a metamodel is added, and when Element and given classes are, the numbers that
+    /// were there stay, and each look-up says of them what it said.
     pub fn numbers_stay(&self)
-        ensures { (d : MetaData) → StaysIn self.now (added self.now d) }
+        ensures added { (d : MetaData) → StaysIn self.now (added self.now d) }
+        ensures extended { self.now.element ≡ None → (classes : List ClassData) → StaysIn self.now (extended self.now classes) }
     {
         let _ = &self.classes;
     }
 
     ghost use Rattle.qvt_metamodel.specs.Stay.{StaysIn};
     ghost use Rattle.qvt_metamodel.specs.declared.declared.MetaData.{MetaData};
+    ghost use Rattle.qvt_metamodel.specs.declared.given.ClassData.{ClassData};
     ghost use Rattle.qvt_metamodel.specs.Metamodels.{is_element};
 
     fn is_element(&self, class: ClassNo) -> bool
@@ -452,15 +535,17 @@ fn are_named(metamodels: &[MetamodelInfo], name: &Text) -> bool
 
 impl Copied for Metas {
     fn copy(&self, alloc: Global) -> Result<Metas, ListFault> {
-        Ok(Metas {
-            metamodels: copies(alloc, self.metamodels.as_slice())?,
-            classes: copies(alloc, self.classes.as_slice())?,
-            features: copies(alloc, self.features.as_slice())?,
-            element: self.element,
-            lists: copies(alloc, self.lists.as_slice())?,
-            rows: copies(alloc, self.rows.as_slice())?,
-            ranks: copies(alloc, self.ranks.as_slice())?,
-        })
+        let copy = Metas::whole(
+            alloc,
+            copies(alloc, self.metamodels.as_slice())?,
+            copies(alloc, self.classes.as_slice())?,
+            copies(alloc, self.features.as_slice())?,
+            self.element,
+            copies(alloc, self.lists.as_slice())?,
+            copies(alloc, self.rows.as_slice())?,
+            copies(alloc, self.ranks.as_slice())?,
+        )?;
+        Ok(copy)
     }
 }
 
@@ -480,15 +565,6 @@ fn find_metamodel(metamodels: &[MetamodelInfo], name: &str) -> Option<usize>
     metamodels
         .iter()
         .position(|m| name == m.name.as_str() || is_text(&m.uri, name))
-}
-
-fn find_class(classes: &[ClassInfo], metamodel: u32, name: &str) -> Option<usize>
-    ensures value { result ≡ position (λ c. (c.metamodel == metamodel) && bytes_eq name.now c.name) classes.now }
-    ensures bound { IfSome result (λ i. i < length classes.now) }
-{
-    classes
-        .iter()
-        .position(|c| c.metamodel == metamodel && name == c.name.as_str())
 }
 
 fn find_enumeration(enums: &[EnumInfo], name: &str) -> Option<usize>

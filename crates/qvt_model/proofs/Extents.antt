@@ -1,5 +1,5 @@
 -- The data of an extent are a model that a file can hold.
-use Rattle.std.proofs.Common.{◌≡◌, ◌∙◌, ℕ, zero, suc, ◌+◌, ◌<◌, ◌≤◌, ◌^◌, ◌==◌, ◌&&◌, ◌||◌, List, [], ◌∷◌, length, map, Bool, true, false, cond, not, nat_lt, IsTrue, IsUtf8, Option, Some, None, option_map, Ordering, Less, Equal, Greater, Ok, position, slice_index_or, refl, sym, ap, subst, arith, ltb-true, lt-ltb}
+use Rattle.std.proofs.Common.{◌≡◌, ◌≢◌, ◌∙◌, ℕ, zero, suc, ◌+◌, ◌<◌, ◌≤◌, ◌^◌, ◌==◌, ◌&&◌, ◌||◌, List, [], ◌∷◌, length, map, Bool, true, false, cond, not, nat_lt, IsTrue, IsUtf8, Option, Some, None, option_map, Ordering, Less, Equal, Greater, Ok, position, slice_index_or, refl, sym, ap, subst, arith, ltb-true, lt-ltb}
 use Rattle.std.specs.Prelude.{⊤, All, IsFalse, FitsSigned}
 use Rattle.std.specs.Int.{w64}
 use Rattle.std.specs.List.{list_any, list_all, filter_map, cons_option, AllByRecursion}
@@ -18,10 +18,10 @@ use Rattle.qvt_metamodel.specs.declared.info.TypeKind.{TypeKind}
 use Rattle.qvt_metamodel.specs.declared.info.TypeKind.TheVariants.{Bool as BoolKind, Int as IntKind, Str as StrKind, Enum as EnumKind, Class as ClassKind}
 use Rattle.qvt_metamodel.specs.Metamodels.{Metamodels, class_at, feature_at, shape_of, is_one, is_single, features_of, has_feature, among_features}
 use Rattle.qvt_metamodel.specs.Descends.{descends}
-use Rattle.qvt_metamodel.specs.Named.{enumeration_at}
+use Rattle.qvt_metamodel.specs.Named.{metamodel_at, enumeration_at}
 use Rattle.qvt_json.specs.Leaves.{is_id}
 use Rattle.qvt_store.specs.Slots.{is_object_with}
-use Rattle.qvt_store.specs.Contents.{Instance, Contents, no_instance, class_of, extent_of, extent_at, is_extent, is_live, is_model, slot_of, members_from, members_of}
+use Rattle.qvt_store.specs.Contents.{Instance, Contents, no_instance, class_of, extent_of, extent_at, is_extent, is_live, is_model, is_named, slot_of, members_from, members_of}
 use Rattle.qvt_store.specs.Types.{is_of_kind, is_of_type, IsPlain}
 use Rattle.qvt_store.specs.Assign.{is_beyond}
 use Rattle.qvt_store.specs.Sound.{Sound}
@@ -257,7 +257,7 @@ module _ (s : Contents) (e : ℕ) (store : IsStore s) (sound : Sound s) where
       let live : is_live s x ≡ true = lt-ltb x (length s.objects) h.0 in
       let features = features_of s.metas (class_of s x) in
       record {
-        class = store.classes x live;
+        class = (sound.classes x live).live;
         metamodel = (sound.classes x live).metamodel ∙ ap (λ k. (extent_at s k).metamodel) h.1;
         slots = onto-all s xs x (IsSlot s.metas os (class_of s x)) [] features
             (All-weaken (λ f. among_features f.0 features ≡ true) (λ f. has_items (slot_in s xs x f) ≡ true → IsSlot s.metas os (class_of s x) (slot_in s xs x f)) (λ f own some. is-slot x f own some) features (each-among features)) tt;
@@ -303,4 +303,10 @@ module _ (s : Contents) (e : ℕ) (store : IsStore s) (sound : Sound s) where
 pub model_of-data_of : (s : Contents) (e : ℕ) → IsStore s → Sound s → IsTrue (is_extent s e) → IsTrue (is_model s e)
     → model_of s.metas (extent_at s e).metamodel (model_text s.metas (data_of s e)) ≡ Ok (data_of s e)
 model_of-data_of s e store sound live model =
-    model_of-model_text s.metas (extent_at s e).metamodel (data_of s e) store.well_formed (IsModel-data_of s e store sound) (IsStorable-data_of s e store sound)
+    model_of-model_text s.metas (extent_at s e).metamodel (data_of s e) store.well_formed has_name (IsModel-data_of s e store sound) (IsStorable-data_of s e store sound)
+  where
+    has_name : (metamodel_at s.metas (extent_at s e).metamodel).name ≢ []
+    has_name none =
+        let here : is_named (metamodel_at s.metas (extent_at s e).metamodel).name ≡ true = sym (store.named.named e live) ∙ model in
+        let never : is_named (metamodel_at s.metas (extent_at s e).metamodel).name ≡ false = ap is_named none in
+        absurd (cc)

@@ -1,5 +1,5 @@
 -- Each check of what is written for a model finds no fault, and the reading gives the model back.
-use Rattle.std.proofs.Common.{◌≡◌, ℕ, ℤ, pos, negsuc, zero, suc, ◌+◌, ◌<◌, ◌≤◌, ◌^◌, List, [], ◌∷◌, length, map, Bool, true, false, not, ◌&&◌, nat_lt, IsTrue, Option, Some, None, option_map, Result, Ok, Err, slice_index_or, refl, sym, ap, ◌∙◌, arith, lt-ltb, IsUtf8}
+use Rattle.std.proofs.Common.{◌≡◌, ◌≢◌, subst, ℕ, ℤ, pos, negsuc, zero, suc, ◌+◌, ◌<◌, ◌≤◌, ◌^◌, List, [], ◌∷◌, length, map, Bool, true, false, not, ◌&&◌, nat_lt, IsTrue, Option, Some, None, option_map, Result, Ok, Err, slice_index_or, refl, sym, ap, ◌∙◌, arith, lt-ltb, IsUtf8}
 use Rattle.std.proofs.lemmas.List.{length-map}
 use Rattle.std.specs.Prelude.{⊤, FitsSigned, option_and_then, position}
 use Rattle.std.specs.Int.{w64}
@@ -14,7 +14,7 @@ use Rattle.qvt_metamodel.specs.declared.info.TypeKind.{TypeKind}
 use Rattle.qvt_metamodel.specs.declared.info.TypeKind.TheVariants.{Bool as BoolKind, Int as IntKind, Str as StrKind, Enum as EnumKind, Class as ClassKind}
 use Rattle.qvt_metamodel.specs.Metamodels.{Metamodels, class_at, feature_at, shape_of, is_single}
 use Rattle.qvt_metamodel.specs.Descends.{descends}
-use Rattle.qvt_metamodel.specs.Named.{class_named, literal_named, literal_at}
+use Rattle.qvt_metamodel.specs.Named.{metamodel_at, class_named, literal_named, literal_at}
 use Rattle.qvt_metamodel.specs.WellFormed.{IsWellFormed}
 use Rattle.qvt_json.specs.Json.{map_items}
 use Rattle.qvt_json.specs.Leaves.{is_id}
@@ -36,11 +36,13 @@ integer-back : (z : ℤ) → FitsSigned w64 z → as_i64 (of_integer z) ≡ Some
 integer-back (pos n) h = let lt : n < 2 ^ 63 = h.sfits in rw (lt-ltb n (2 ^ 63) lt)
 integer-back (negsuc n) h = refl
 
-module _ (m : Metamodels) (k : ℕ) (os : List ObjectData) (named : IsWellFormed m) (model : IsModel m k os) (storable : IsStorable m os) where
+module _ (m : Metamodels) (k : ℕ) (os : List ObjectData) (named : IsWellFormed m) (name : (metamodel_at m k).name ≢ []) (model : IsModel m k os) (storable : IsStorable m os) where
   class-back : (o : ObjectData) → IsObject m k os o → class_of m k (object_value m os o) ≡ Ok o.class
   unfolding class_of
   class-back o h =
-      let found : class_named m k (class_at m o.class.0).name ≡ Some o.class.0 = rw (← h.metamodel) (named.class_found o.class.0 h.class) in
+      let there : (metamodel_at m (class_at m o.class.0).metamodel).name ≢ [] = λ e. name (ap (λ n. (metamodel_at m n).name) (sym h.metamodel) ∙ e) in
+      let found : class_named m k (class_at m o.class.0).name ≡ Some o.class.0 =
+      subst (λ n. class_named m n (class_at m o.class.0).name ≡ Some o.class.0) h.metamodel (named.class_found o.class.0 h.class there) in
       rw found
 
   features-known : (c : ClassNo) (id : List ℕ) (ss : List SlotData) → AllByRecursion (IsSlot m os c.0) ss → features_known m c id (slot_members m os ss) ≡ Ok tt

@@ -1,5 +1,5 @@
 -- The value that is written for a model has the form of a model, is plain, and nests little; so its text is read as the model.
-use Rattle.std.proofs.Common.{◌≡◌, ℕ, ℤ, pos, negsuc, zero, suc, ◌+◌, ◌<◌, ◌≤◌, ◌^◌, List, [], ◌∷◌, length, map, Bool, true, false, IsTrue, Some, None, Ok, slice_index_or, refl, sym, ap, ◌∙◌, arith, IsUtf8}
+use Rattle.std.proofs.Common.{◌≡◌, ◌≢◌, ℕ, ℤ, pos, negsuc, zero, suc, ◌+◌, ◌<◌, ◌≤◌, ◌^◌, List, [], ◌∷◌, length, map, Bool, true, false, IsTrue, Some, None, Ok, slice_index_or, refl, sym, ap, ◌∙◌, arith, IsUtf8}
 use Rattle.std.specs.Prelude.{codes, FitsSigned}
 use Rattle.std.specs.Int.{w64}
 use Rattle.std.specs.List.{AllByRecursion}
@@ -12,6 +12,7 @@ use Rattle.serde_json.specs.View.{items_of}
 use Rattle.qvt_metamodel.specs.declared.info.TypeKind.{TypeKind}
 use Rattle.qvt_metamodel.specs.declared.info.TypeKind.TheVariants.{Bool as BoolKind, Int as IntKind, Str as StrKind, Enum as EnumKind, Class as ClassKind}
 use Rattle.qvt_metamodel.specs.Metamodels.{Metamodels, class_at, feature_at, shape_of, is_single}
+use Rattle.qvt_metamodel.specs.Named.{metamodel_at}
 use Rattle.qvt_metamodel.specs.WellFormed.{IsWellFormed}
 use Rattle.qvt_json.specs.Json.{json}
 use Rattle.qvt_json.specs.Plain.{IsWhole, KeysAfter, IsPlain, ItemsPlain, MembersPlain}
@@ -185,9 +186,9 @@ module _ (m : Metamodels) (os : List ObjectData) where
 
 -- ---- the whole
 
-pub model_of-model_text : (m : Metamodels) (k : ℕ) (os : List ObjectData) → IsWellFormed m → IsModel m k os → IsStorable m os → model_of m k (model_text m os) ≡ Ok os
+pub model_of-model_text : (m : Metamodels) (k : ℕ) (os : List ObjectData) → IsWellFormed m → (metamodel_at m k).name ≢ [] → IsModel m k os → IsStorable m os → model_of m k (model_text m os) ≡ Ok os
 unfolding model_of model_text
-model_of-model_text m k os named model storable =
+model_of-model_text m k os named name model storable =
     let shallow : depth (model_value m os) ≤ max_depth = omega (arith, objects_depth m os os) in
     let value : json (model_text m os) ≡ Some (model_value m os) = json-file_text (model_value m os) (IsPlain-model_value m os named storable.texts (plain-model m k os os model.objects)) shallow in
-    rw (value, model-shape m os storable.forms) (model_from-object_values m k os named model storable)
+    rw (value, model-shape m os storable.forms) (model_from-object_values m k os named name model storable)

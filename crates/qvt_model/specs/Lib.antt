@@ -1,6 +1,7 @@
 pub mod Forms
 pub mod Reading
 pub mod WellFormed
+pub mod Items
 pub mod Written
 pub mod Extents
 pub mod IdTables

@@ -13,10 +13,10 @@ use Rattle.qvt_parser_tokens.proofs.Lexings.{one_lexing}
 use Rattle.qvt_parser_tokens.specs.Owned.{Lexes}
 use Rattle.qvt_parser_tokens.specs.declared.text.TextFault.{TextFault}
 use Rattle.qvt_parser_tokens.specs.declared.text.TextFault.TheVariants as tokens
-use Rattle.qvt_parser.specs.Parsing.{IsTransformation, IsFaultOf, IsReadAs}
-use Rattle.qvt_parser.specs.Parsing as parsing
-use Rattle.qvt_parser.specs.declared.fault.ParseFault.{ParseFault}
-use Rattle.qvt_parser.specs.declared.fault.ParseFault.TheVariants.{NoMemory, Lex, TooDeep, Syntax}
+use Rattle.qvt_parsed.specs.Parsing.{IsTransformation, IsFaultOf, IsReadAs}
+use Rattle.qvt_parsed.specs.Parsing as parsing
+use Rattle.qvt_parsed.specs.declared.fault.ParseFault.{ParseFault}
+use Rattle.qvt_parsed.specs.declared.fault.ParseFault.TheVariants.{NoMemory, Lex, TooDeep, Syntax}
 
 -- where the text has a fault of its tokens it is no transformation
 pub lex_none : (text : List ℕ) (f : LexFault) → HasLexFault text f → (m : ModuleTerm) → IsTransformation text m → ⊥

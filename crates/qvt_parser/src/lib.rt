@@ -2,5 +2,6 @@
 //! place of its first fault.
 #![tactic(auto)]
 
-pub mod fault;
 pub mod parse;
+
+pub use qvt_parsed::fault;

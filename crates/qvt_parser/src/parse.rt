@@ -1,12 +1,14 @@
-ghost use Rattle.std.specs.Prelude.{◌≡◌, ◌≢◌, ◌+◌, ◌<◌, ◌^◌, length, IfOk, IfErr};
+ghost use Rattle.std.specs.Prelude.{◌≡◌, ◌≢◌, ◌+◌, ◌<◌, ◌^◌, length, Ok, Err, IfOk, IfErr};
 ghost use Rattle.qvt_tree_types.specs.Module.{ModuleTerm, module_view};
 ghost use Rattle.qvt_parser_grammar.specs.Tokens.{toks_of};
 ghost use Rattle.qvt_parser_grammar.specs.Module.{Reads};
-ghost use Rattle.qvt_parser.specs.Parsing.{IsTransformation, IsFaultOf, IsReadAs};
-ghost use Rattle.qvt_parser.specs.declared.fault.ParseFault.TheVariants as faults;
+ghost use Rattle.qvt_parsed.specs.Parsing.{IsTransformation, IsFaultOf, IsReadAs};
+ghost use Rattle.qvt_parsed.specs.Parsed.{parsed};
+ghost use Rattle.qvt_parsed.specs.declared.fault.ParseFault.TheVariants as faults;
 
-use crate::fault::ParseFault;
 use qvt_base::numbers::Place;
+use qvt_parsed::fault::ParseFault;
+use qvt_parsed::law::parsing;
 use qvt_parser_grammar::cursor::{ParseError, Parser};
 use qvt_parser_grammar::laws::answers;
 use qvt_parser_grammar::token::Token;
@@ -37,9 +39,8 @@ fn read_tokens<'a>(alloc: Global, tokens: &'a [Token<'a>], end: Place) -> Result
     }
 }
 
-/// The transformation that the text is (QVT 1.3, 8.4), with each place in the text. The text has
-/// fewer than 2^32 - 1 bytes.
-pub fn parse(alloc: Global, text: &str) -> Result<Module, ParseFault>
+/// The transformation that the text is, or its first fault.
+fn parse_text(alloc: Global, text: &str) -> Result<Module, ParseFault>
     requires { length text.now + 1 < 2 ^ 32 }
     ensures tree { IfOk result (λ m. IsTransformation text.now (module_view m)) }
     ensures one { IfOk result (λ m. (other : ModuleTerm) → IsTransformation text.now other → other ≡ module_view m) }
@@ -53,6 +54,21 @@ pub fn parse(alloc: Global, text: &str) -> Result<Module, ParseFault>
         Ok(Some(place)) => Err(ParseFault::TooDeep(place)),
         Err(_) => Err(ParseFault::NoMemory),
     }
+}
+
+/// The transformation that the text is (QVT 1.3, 8.4), with each place in the text. The text has
+/// fewer than 2^32 - 1 bytes.
+pub fn parse(alloc: Global, text: &str) -> Result<Module, ParseFault>
+    requires { length text.now + 1 < 2 ^ 32 }
+    ensures parsed { IfOk result (λ m. parsed text.now ≡ Ok (module_view m)) }
+    ensures refused { IfErr result (λ fault. fault ≢ faults.NoMemory → parsed text.now ≡ Err fault) }
+    ensures tree { IfOk result (λ m. IsTransformation text.now (module_view m)) }
+    ensures one { IfOk result (λ m. (other : ModuleTerm) → IsTransformation text.now other → other ≡ module_view m) }
+    ensures fault { IfErr result (IsFaultOf text.now) }
+    ensures no_tree { IfErr result (λ fault. fault ≢ faults.NoMemory → (other : ModuleTerm) → IsTransformation text.now other → ⊥) }
+{
+    parsing();
+    parse_text(alloc, text)
 }
 
 #[cfg(test)]

@@ -1,7 +1,7 @@
 -- Turns of one kind and perhaps a last one of another, where what may go on depends on whether the last one is there.
 use Rattle.std.proofs.Common.{◌≡◌, ℕ, zero, suc, ◌≤◌, ◌<◌, List, [], ◌∷◌, ◌++◌, length, Bool, true, false, IsTrue, ◌⊎◌, inl, inr, refl, sym, ap, ◌∙◌, subst, arith, append_assoc, Ok, Err, cond, Option, Some, None}
 use Rattle.qvt_grammar.specs.Language.{Language, turns, lastly, ended}
-use Rattle.qvt_grammar.specs.Reader.{At, NoRoom, Answer, ◌>>=◌, Begins, IsFarthest, starts, after_turn, ended_turns, ended_at}
+use Rattle.qvt_grammar.specs.Reader.{At, Answer, ◌>>=◌, Begins, IsFarthest, starts, after_turn, ended_turns, ended_at}
 use Rattle.qvt_grammar.proofs.Lists.{regroup, grouped, rest_shorter, all_left, nil_right}
 use Rattle.qvt_grammar.proofs.Firsts.{Within, Apart, Firsts, Solid, begins_within, read_begins}
 use Rattle.qvt_grammar.proofs.Repeats.{begins_of, read_less}
@@ -177,7 +177,6 @@ module _ {T A B : Type 0} (p c1 c2 c : T → Bool) (l : Language T A) (m : Langu
     only = λ u s z e rd. more_stuck ts r r2 a h k g z.0 z.1 u s rd.0 rd.1 e rd.2 rd.3 rd.4;
     farthest = more_farthest ts r r2 a k (rest_shorter r g.found.0 r2 g.found.1) g.farthest;
   }
-  one_more ts r a h k (Err NoRoom) g = tt
 
   module _ (f : List T → Answer T (A ⊎ B)) (hf : (r : List T) → ExactTurn c1 c2 l m r (f r)) where
     turn_cases : (n : ℕ) (ts : List T) → starts p ts ≡ true → (x : Answer T (A ⊎ B)) → ExactTurn c1 c2 l m ts x → ((r : List T) → length r < length ts → ExactV (λ all. chosen c c2 all.1) (ended l m) r (ended_turns n p f r))
@@ -185,7 +184,6 @@ module _ {T A B : Type 0} (p c1 c2 c : T → Bool) (l : Language T A) (m : Langu
     turn_cases n ts h (Ok (inl a, r)) k ih = one_more ts r a h k (ended_turns n p f r) (ih r (read_less l solid1 ts k.found.0 r a k.found.1 k.found.2))
     turn_cases n ts h (Ok (inr b, r)) k ih = last_turn ts r b h k
     turn_cases n ts h (Err (At r)) k ih = stuck_turn ts r h k
-    turn_cases n ts h (Err NoRoom) k ih = tt
 
     start_cases : (n : ℕ) (ts : List T) (b : Bool) → starts p ts ≡ b → ((r : List T) → length r < length ts → ExactV (λ all. chosen c c2 all.1) (ended l m) r (ended_turns n p f r))
         → ExactV (λ all. chosen c c2 all.1) (ended l m) ts (cond b (f ts >>= λ (x, r). after_turn (ended_turns n p f) x r) (Ok (([], None), ts)))

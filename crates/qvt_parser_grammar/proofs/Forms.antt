@@ -1,7 +1,7 @@
 -- What each production keeps, form by form. A production is given at a nesting (l) and at one more (m), with its reader (f).
 use Rattle.std.proofs.Common.{◌≡◌, ℕ, suc, ◌≤◌, ◌<◌, List, [], ◌∷◌, ◌++◌, length, Bool, true, false, ◌&&◌, IsTrue, ◌⊎◌, inl, inr, refl, sym, ap, ◌∙◌, subst, arith, length-append, Ok, Err, cond, Option, Some, None}
 use Rattle.qvt_grammar.specs.Language.{Language, follow, then, either, many, turns, made, never, empty, maybe, marked, lastly}
-use Rattle.qvt_grammar.specs.Reader.{At, NoRoom, Answer, Exact, starts, follow_at, then_at, made_at, choose_at, many_at, empty_at, maybe_at, ended_at}
+use Rattle.qvt_grammar.specs.Reader.{At, Answer, Exact, starts, follow_at, then_at, made_at, choose_at, many_at, empty_at, maybe_at, ended_at}
 use Rattle.qvt_grammar.proofs.Firsts.{Within, Firsts, Solid, firsts_within, exact_within, firsts_token, solid_token, token_exact, firsts_made, solid_made, made_exact, firsts_marked, solid_marked, marked_exact, firsts_empty, empty_exact, firsts_never}
 use Rattle.qvt_grammar.proofs.Sequences.{follow_exact, then_exact, firsts_follow, firsts_then, solid_first, solid_second, firsts_then_over}
 use Rattle.qvt_grammar.proofs.Choices.{firsts_either, solid_either, either_exact, firsts_maybe, maybe_exact}
@@ -295,7 +295,6 @@ turn_of : {A B : Type 0} (c : Tok → Bool) (l : Language Tok (A ⊎ B)) (ts : L
 turn_of c l ts (Ok (inl a, r)) k = record { found = k.found; only1 = λ u s b e rd. turned (k.only u s (inl b) e rd); only2 = λ u s b e rd. turned (k.only u s (inr b) e rd); farthest = λ u s e fr. k.farthest u s e (elim fr [ inl q ↦ q | inr q ↦ q ]) }
 turn_of c l ts (Ok (inr a, r)) k = record { found = k.found; only1 = λ u s b e rd. turned (k.only u s (inl b) e rd); only2 = λ u s b e rd. turned (k.only u s (inr b) e rd); farthest = λ u s e fr. k.farthest u s e (elim fr [ inl q ↦ q | inr q ↦ q ]) }
 turn_of c l ts (Err (At r)) k = record { found = (k.found.0, k.found.1, inl k.found.2); only1 = λ u s b. k.only u s (inl b); only2 = λ u s b. k.only u s (inr b); farthest = λ u s e fr. k.farthest u s e (elim fr [ inl q ↦ q | inr q ↦ q ]) }
-turn_of c l ts (Err NoRoom) k = tt
 
 module _ {n : ℕ} {A B : Type 0} {b1 : Bool} {f1 x1 : List ℕ} {l l2 : Language Tok (A ⊎ B)} {f : Reader (A ⊎ B)} where
   pub loose_series : (p : List ℕ) → all_in f1 p ≡ true → none_in x1 p ≡ true → Good n b1 f1 x1 l l2 f → Loose n b1 p (p ++ x1) (series l) (series l2) (ended_at (of p) f)
@@ -403,7 +402,6 @@ module _ {A : Type 0} (p : Tok → Bool) (c : Tok → Bool) (l : Language Tok A)
     only = λ u s b e rd. k.only u s b e rd.0;
     farthest = λ u s e fr. k.farthest u s e fr.0;
   }
-  barring_answer ts (Err NoRoom) h k = tt
 
   barring_cases : (f : Reader A) (ts : List Tok) (b : Bool) → starts p ts ≡ b → Exact c l ts (f ts) → Exact c (barring p l) ts (cond b (Err (At ts)) (f ts))
   barring_cases f ts true h k = record {

@@ -1,5 +1,5 @@
 -- What is read in the loops of expressions and statements takes a token.
-use Rattle.std.proofs.Common.{ℕ, zero, List, refl, ◌∷◌, [], Bool, subst}
+use Rattle.std.proofs.Common.{ℕ, zero, List, refl, Bool, subst}
 use Rattle.qvt_grammar.specs.Language.{Language}
 use Rattle.qvt_grammar.proofs.Repeats.{read_less}
 use Rattle.qvt_parser_grammar.specs.Tokens.{Tok, of}

@@ -1,7 +1,7 @@
 -- Exact readers where what may go on after a reading depends on the value that is read.
 use Rattle.std.proofs.Common.{◌≡◌, ◌≤◌, List, [], ◌∷◌, ◌++◌, length, Bool, true, false, IsTrue, ◌⊎◌, inl, inr, refl, sym, ap, ◌∙◌, subst, arith, Ok, Err, cond}
 use Rattle.qvt_grammar.specs.Language.{Language, follow, either, made, marked, head_of}
-use Rattle.qvt_grammar.specs.Reader.{At, NoRoom, Answer, ◌>>=◌, Begins, IsFarthest, Exact, follow_at, made_at, choose_at, starts, marked_at}
+use Rattle.qvt_grammar.specs.Reader.{At, Answer, ◌>>=◌, Begins, IsFarthest, Exact, follow_at, made_at, choose_at, starts, marked_at}
 use Rattle.qvt_grammar.proofs.Lists.{regroup, grouped, rest_shorter}
 use Rattle.qvt_grammar.proofs.Firsts.{Within, Apart, Firsts, Solid, begins_within}
 
@@ -18,12 +18,10 @@ pub record IsStuckV {T A : Type 0} (c : A → T → Bool) (l : Language T A) (ts
 abbrev pub ExactV : {T A : Type 0} → (A → T → Bool) → Language T A → List T → Answer T A → Type 0
 ExactV c l ts (Ok (a, r)) = IsReadingV c l ts a r
 ExactV c l ts (Err (At r)) = IsStuckV c l ts r
-ExactV c l ts (Err NoRoom) = Unit {0}
 
 pub valued : {T A : Type 0} (c : T → Bool) (l : Language T A) (ts : List T) (x : Answer T A) → Exact c l ts x → ExactV (λ _. c) l ts x
 valued c l ts (Ok (a, r)) k = record { found = k.found; only = k.only; farthest = k.farthest }
 valued c l ts (Err (At r)) k = record { found = k.found; only = k.only; farthest = k.farthest }
-valued c l ts (Err NoRoom) k = tt
 
 -- all values alike
 pub unvalued : {T A : Type 0} (c : A → T → Bool) (d : T → Bool) (l : Language T A) (ts : List T) (x : Answer T A) → ((a : A) → Within (c a) d) → ExactV c l ts x → Exact d l ts x
@@ -33,7 +31,6 @@ unvalued c d l ts (Ok (a, r)) w k = record {
   farthest = k.farthest;
 }
 unvalued c d l ts (Err (At r)) w k = record { found = k.found; only = λ u s b e rd. begins_within (c b) d (w b) s (k.only u s b e rd); farthest = k.farthest }
-unvalued c d l ts (Err NoRoom) w k = tt
 
 module _ {T A B : Type 0} (h : A → B) (l : Language T A) (c : A → T → Bool) (d : B → T → Bool) (w : (a : A) → Within (c a) (d (h a))) where
   into : (b : B) (a : A) (s : List T) → b ≡ h a → Begins (c a) s → Begins (d b) s
@@ -46,7 +43,6 @@ module _ {T A B : Type 0} (h : A → B) (l : Language T A) (c : A → T → Bool
     farthest = k.farthest;
   }
   made_cases ts (Err (At r)) k = record { found = k.found; only = λ u s b e rd. into b rd.0 s rd.2 (k.only u s rd.0 e rd.1); farthest = k.farthest }
-  made_cases ts (Err NoRoom) k = tt
 
   pub valued_made : (f : List T → Answer T A) (ts : List T) → ExactV c l ts (f ts) → ExactV d (made h l) ts (made_at h f ts)
   valued_made f ts k = made_cases ts (f ts) k
@@ -63,7 +59,6 @@ module _ {T P A : Type 0} (h : T → P) (d : P) (l : Language T A) (solid : Soli
     farthest = k.farthest;
   }
   marked_cases ts (Err (At r)) k = record { found = k.found; only = λ u s pa e rd. k.only u s pa.1 e rd.0; farthest = k.farthest }
-  marked_cases ts (Err NoRoom) k = tt
 
   pub valued_marked : (f : List T → Answer T A) (ts : List T) → ExactV c l ts (f ts) → ExactV (λ pa. c pa.1) (marked h d l) ts (marked_at h d f ts)
   valued_marked f ts k = marked_cases ts (f ts) k
@@ -126,12 +121,10 @@ module _ {T A B : Type 0} (c1 : A → T → Bool) (c2 : A → B → T → Bool) 
     ];
     farthest = follow_farthest ts a r r2 h (rest_shorter r k.found.0 r2 k.found.1) k.farthest;
   }
-  follow_second ts a r h (Err NoRoom) k = tt
 
   follow_first : (g : A → List T → Answer T B) (ts : List T) → ((a : A) (r : List T) → ExactV (c2 a) (m a) r (g a r)) → (x : Answer T A) → ExactV c1 l ts x → ExactV c (follow l m) ts (x >>= λ (a, r). g a r >>= λ (b, s). Ok ((a, b), s))
   follow_first g ts hg (Ok (a, r)) h = follow_second ts a r h (g a r) (hg a r)
   follow_first g ts hg (Err (At r)) h = follow_stuck ts r h
-  follow_first g ts hg (Err NoRoom) h = tt
 
   pub valued_follow : (f : List T → Answer T A) (g : A → List T → Answer T B) (ts : List T) → ExactV c1 l ts (f ts) → ((a : A) (r : List T) → ExactV (c2 a) (m a) r (g a r)) → ExactV c (follow l m) ts (follow_at f g ts)
   valued_follow f g ts h hg = follow_first g ts hg (f ts) h
@@ -166,7 +159,6 @@ module _ {T A : Type 0} (p first1 first2 : T → Bool) (c : A → T → Bool) (l
     only = λ u s b e rd. elim rd [ inl q ↦ k.only u s b e q | inr q ↦ absurd (no_second t ts u s b h e q) ];
     farthest = λ u s e fr. elim fr [ inl q ↦ k.farthest u s e q | inr q ↦ (let le = rest_shorter (t ∷ ts) k.found.0 r k.found.1 in let z = ap length (none_second t ts u s h e q) in omega arith) ];
   }
-  take_first t ts (Err NoRoom) h k = tt
 
   take_second : (ts : List T) (x : Answer T A) → starts p ts ≡ false → ExactV c m ts x → ExactV c (either l m) ts x
   take_second ts (Ok (a, r)) h k = record {
@@ -179,7 +171,6 @@ module _ {T A : Type 0} (p first1 first2 : T → Bool) (c : A → T → Bool) (l
     only = λ u s b e rd. elim rd [ inl q ↦ absurd (no_first ts u s b h e q) | inr q ↦ k.only u s b e q ];
     farthest = λ u s e fr. elim fr [ inl q ↦ (let le = rest_shorter ts k.found.0 r k.found.1 in let z = ap length (none_first ts u s h e q) in omega arith) | inr q ↦ k.farthest u s e q ];
   }
-  take_second ts (Err NoRoom) h k = tt
 
   choose_cases : (f g : List T → Answer T A) (ts : List T) (b : Bool) → starts p ts ≡ b → ExactV c l ts (f ts) → ExactV c m ts (g ts) → ExactV c (either l m) ts (cond b (f ts) (g ts))
   choose_cases f g [] true e h k = absurd cc
@@ -196,4 +187,3 @@ valued_within c d l ts (Ok (a, r)) w k = record {
   farthest = k.farthest;
 }
 valued_within c d l ts (Err (At r)) w k = record { found = k.found; only = λ u s b e rd. begins_within (c b) (d b) (w b) s (k.only u s b e rd); farthest = k.farthest }
-valued_within c d l ts (Err NoRoom) w k = tt

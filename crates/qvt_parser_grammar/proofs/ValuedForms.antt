@@ -1,7 +1,7 @@
 -- What productions keep whose next tokens depend on their value, form by form.
 use Rattle.std.proofs.Common.{◌≡◌, ℕ, List, [], ◌∷◌, ◌++◌, length, Bool, true, false, ◌&&◌, IsTrue, ◌⊎◌, inl, inr, refl, sym, ap, ◌∙◌, subst, arith, Ok, Err, cond, Option, Some, None}
 use Rattle.qvt_grammar.specs.Language.{Language, follow, then, either, made, maybe}
-use Rattle.qvt_grammar.specs.Reader.{At, NoRoom, Answer, ◌>>=◌, Begins, Exact, follow_at, then_at, made_at, choose_at, starts, maybe_at, ended_at}
+use Rattle.qvt_grammar.specs.Reader.{At, Answer, ◌>>=◌, Begins, Exact, follow_at, then_at, made_at, choose_at, starts, maybe_at, ended_at}
 use Rattle.qvt_grammar.proofs.Lists.{rest_shorter, all_left}
 use Rattle.qvt_grammar.proofs.Firsts.{Within, Firsts, Solid, firsts_within, firsts_made, solid_made, firsts_marked, solid_marked}
 use Rattle.qvt_grammar.proofs.Sequences.{firsts_follow, firsts_then_over, solid_first}
@@ -135,7 +135,6 @@ module _ {A : Type 0} (p x : List ℕ) (l : Language Tok A) (w : Firsts (of p) l
     ];
     farthest = λ u s e fr. elim fr [ inl q ↦ k.farthest u s e q | inr q ↦ (let le = rest_shorter (t ∷ ts) k.found.0 r k.found.1 in let z = ap length (all_left (t ∷ ts) u s e q) in omega arith) ];
   }
-  some_cases t ts (Err NoRoom) h k = tt
 
   no_front : (ts u s : List Tok) → starts (of p) ts ≡ false → ts ≡ u ++ s → l.front u → u ≡ []
   no_front ts [] s h e fr = refl
@@ -183,7 +182,6 @@ module _ {A B : Type 0} (c1 c2 : List ℕ) (l : Language Tok (A ⊎ B)) where
   turn_of ts (Ok (inl a, r)) k = record { found = k.found; only1 = λ u s b e rd. turned (k.only u s (inl b) e rd); only2 = λ u s b e rd. turned (k.only u s (inr b) e rd); farthest = λ u s e fr. k.farthest u s e (elim fr [ inl q ↦ q | inr q ↦ q ]) }
   turn_of ts (Ok (inr a, r)) k = record { found = k.found; only1 = λ u s b e rd. turned (k.only u s (inl b) e rd); only2 = λ u s b e rd. turned (k.only u s (inr b) e rd); farthest = λ u s e fr. k.farthest u s e (elim fr [ inl q ↦ q | inr q ↦ q ]) }
   turn_of ts (Err (At r)) k = record { found = (k.found.0, k.found.1, inl k.found.2); only1 = λ u s b. k.only u s (inl b); only2 = λ u s b. k.only u s (inr b); farthest = λ u s e fr. k.farthest u s e (elim fr [ inl q ↦ q | inr q ↦ q ]) }
-  turn_of ts (Err NoRoom) k = tt
 
 chosen_next : {A B : Type 0} (x y : List ℕ) (all : List A × Option B) → Within (chosen (of x) (of y) all.1) (of (ended_next x y all))
 chosen_next x y (got, None) t h = h

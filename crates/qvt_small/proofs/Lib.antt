@@ -1,4 +1,2 @@
-pub mod Numbers
-pub mod SmallLoops
-pub mod SmallTurns
-pub mod SmallWritten
+mod Alls
+pub mod Making

@@ -1,3 +1,3 @@
-pub mod SmallRun
 pub mod SmallText
-pub mod SmallTokens
+pub mod SmallRun
+pub mod SmallStore

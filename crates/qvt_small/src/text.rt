@@ -1,13 +1,16 @@
-ghost use Rattle.std.specs.Prelude.{◌≡◌, length, option_map, IfOk};
-ghost use Rattle.qvt_small.specs.SmallText.{named, keyword, signed, numbered, quoted, is_reserved, assignment_in, begins_with_word, assignments_in, object_in, objects_in, model_type, header, main_opened, small_in};
-ghost use Rattle.std.specs.List.{list_any};
-ghost use Rattle.std.specs.Str.{bytes_eq};
+ghost use Rattle.std.specs.Prelude.{◌≡◌, map, option_map, IfOk};
+ghost use Rattle.qvt_tree_types.specs.View.{expr_view, stmt_view, target_view, block_view};
+ghost use Rattle.qvt_tree_types.specs.Module.{unit_view, module_view};
+ghost use Rattle.qvt_small.specs.SmallText.{all_of, bare_name, literal, assignment_of, one_name, object_in, object_of, objects_of, one_unit, one_type, one_param, small_of};
 
-use crate::token::{Sign, Token};
 use qvt_base::copied::Copied;
 use qvt_base::list_fault::ListFault;
 use qvt_base::seq::Seq;
 use qvt_base::text::Text;
+use qvt_tree_types::module::{ModelParam, ModelType, Module, Unit};
+use qvt_tree_types::tree::{Expr, Stmt, Target};
+use qvt_tree_types::types::PathTree;
+use qvt_tree_types::words::Direction;
 use std::alloc::Global;
 
 /// An assignment of a literal to an attribute.
@@ -36,345 +39,186 @@ pub struct SmallText {
     pub objects: Seq<SmallObject>,
 }
 
-/// Whether the word is one of these.
-fn is_one_of(word: &str, words: &[&str]) -> bool
-    ensures { result ≡ list_any (λ w. bytes_eq w.now word.now) words.now }
+/// The name of a bare target.
+fn bare_name(target: &Target) -> Option<&Text>
+    ensures { option_map (λ x. x.now) result ≡ bare_name (target_view target.now) }
 {
-    for other in words {
-        if *other == word {
-            return true;
+    match target {
+        Target::Bare { name, .. } => Some(name),
+        _ => None,
+    }
+}
+
+/// The number of an integer literal.
+fn literal(value: &Expr) -> Option<i64>
+    ensures { result ≡ literal (expr_view value.now) }
+{
+    match value {
+        Expr::Int { value, .. } => Some(*value),
+        _ => None,
+    }
+}
+
+/// The assignment of a literal to a name that a statement is.
+fn assignment_of(alloc: Global, stmt: &Stmt) -> Result<Option<Assignment>, ListFault>
+    ensures { IfOk result (λ o. o ≡ assignment_of (stmt_view stmt.now)) }
+{
+    match stmt {
+        Stmt::Assign {
+            target,
+            adds: false,
+            value,
+            ..
+        } => {
+            let Some(name) = bare_name(target) else {
+                return Ok(None);
+            };
+            let Some(value) = literal(value) else {
+                return Ok(None);
+            };
+            let attribute = name.copy(alloc)?;
+            Ok(Some(Assignment { attribute, value }))
         }
-    }
-    false
-}
-
-/// Whether the word is reserved.
-fn is_reserved(word: &str) -> bool
-    ensures { result ≡ is_reserved word.now }
-{
-    is_one_of(
-        word,
-        &[
-            "and",
-            "Bag",
-            "class",
-            "constructor",
-            "disjuncts",
-            "elif",
-            "else",
-            "end",
-            "endif",
-            "extends",
-            "false",
-            "forEach",
-        ],
-    ) || is_one_of(
-        word,
-        &[
-            "helper",
-            "if",
-            "implies",
-            "import",
-            "in",
-            "inherits",
-            "init",
-            "inout",
-            "intermediate",
-            "invresolve",
-            "invresolveIn",
-            "invresolveone",
-            "invresolveoneIn",
-        ],
-    ) || is_one_of(
-        word,
-        &[
-            "late",
-            "library",
-            "main",
-            "map",
-            "mapping",
-            "merges",
-            "modeltype",
-            "new",
-            "not",
-            "null",
-            "object",
-            "or",
-            "OrderedSet",
-        ],
-    ) || is_one_of(
-        word,
-        &[
-            "out",
-            "population",
-            "query",
-            "resolve",
-            "resolveIn",
-            "resolveone",
-            "resolveoneIn",
-            "result",
-            "return",
-            "self",
-            "Sequence",
-            "Set",
-        ],
-    ) || is_one_of(
-        word,
-        &[
-            "then",
-            "transformation",
-            "true",
-            "uses",
-            "var",
-            "when",
-            "while",
-            "xmap",
-            "xor",
-        ],
-    )
-}
-
-/// A name.
-fn named(tokens: &[Token]) -> Option<(&Text, &[Token])>
-    ensures { option_map (λ x. (x.0.now, x.1.now)) result ≡ named tokens.now }
-{
-    let (first, rest) = tokens.split_first()?;
-    match first {
-        Token::Word(word) => {
-            if is_reserved(word.as_str()) {
-                None
-            } else {
-                Some((word, rest))
-            }
-        }
-        _ => None,
+        _ => Ok(None),
     }
 }
 
-/// This reserved word.
-fn keyword<'a>(word: &str, tokens: &'a [Token]) -> Option<&'a [Token]>
-    ensures { option_map (λ x. x.now) result ≡ keyword word.now tokens.now }
-{
-    let (first, rest) = tokens.split_first()?;
-    match first {
-        Token::Word(other) => {
-            if other.as_str() == word {
-                Some(rest)
-            } else {
-                None
-            }
-        }
-        _ => None,
-    }
-}
-
-/// This sign.
-fn signed(sign: Sign, tokens: &[Token]) -> Option<&[Token]>
-    ensures { option_map (λ x. x.now) result ≡ signed sign tokens.now }
-{
-    let (first, rest) = tokens.split_first()?;
-    match first {
-        Token::Sign(other) => { if *other == sign { Some(rest) } else { None } }
-        _ => None,
-    }
-}
-
-/// A whole number.
-fn numbered(tokens: &[Token]) -> Option<(i64, &[Token])>
-    ensures { option_map (λ x. (x.0, x.1.now)) result ≡ numbered tokens.now }
-{
-    let (first, rest) = tokens.split_first()?;
-    match first {
-        Token::Integer(number) => Some((*number, rest)),
-        _ => None,
-    }
-}
-
-/// A quoted text.
-fn quoted(tokens: &[Token]) -> Option<(&Text, &[Token])>
-    ensures { option_map (λ x. (x.0.now, x.1.now)) result ≡ quoted tokens.now }
-{
-    let (first, rest) = tokens.split_first()?;
-    match first {
-        Token::Quoted(text) => Some((text, rest)),
-        _ => None,
-    }
-}
-
-/// `Name ":=" Integer ";"`.
-#[tactic(auto, unfolding(crate::specs::SmallText::assignment_in))]
-fn assignment_in(
-    alloc: Global,
-    tokens: &[Token],
-) -> Result<Option<(Assignment, &[Token])>, ListFault>
-    ensures { IfOk result (λ o. option_map (λ x. (x.0, x.1.now)) o ≡ assignment_in tokens.now) }
-{
-    let Some((name, rest)) = named(tokens) else {
-        return Ok(None);
-    };
-    let Some(rest) = signed(Sign::Assign, rest) else {
-        return Ok(None);
-    };
-    let Some((value, rest)) = numbered(rest) else {
-        return Ok(None);
-    };
-    let Some(rest) = signed(Sign::Semicolon, rest) else {
-        return Ok(None);
-    };
-    let attribute = name.copy(alloc)?;
-    Ok(Some((Assignment { attribute, value }, rest)))
-}
-
-/// Whether a word stands at the front.
-fn begins_with_word(tokens: &[Token]) -> bool
-    ensures { result ≡ begins_with_word tokens.now }
-{
-    match tokens.first() {
-        Some(Token::Word(_)) => true,
-        _ => false,
-    }
-}
-
-/// The assignments at the front, as many as there are.
-fn assignments_in(
-    alloc: Global,
-    tokens: &[Token],
-) -> Result<Option<(Seq<Assignment>, &[Token])>, ListFault>
-    ensures { IfOk result (λ o. option_map (λ x. (x.0, x.1.now)) o ≡ assignments_in (length tokens.now) tokens.now) }
+/// The assignments of literals that the statements are, None where another stands among them.
+fn assignments_of(alloc: Global, body: &[Stmt]) -> Result<Option<Seq<Assignment>>, ListFault>
+    ensures { IfOk result (λ o. o ≡ all_of assignment_of (block_view body.now)) }
 {
     let mut assignments = Seq::new(alloc);
-    let mut rest = tokens;
-    for _ in 0..tokens.len() {
-        if !begins_with_word(rest) {
-            return Ok(Some((assignments, rest)));
-        }
-        let Some((item, more)) = assignment_in(alloc, rest)? else {
+    for stmt in body {
+        let Some(assignment) = assignment_of(alloc, stmt)? else {
             return Ok(None);
         };
-        assignments.push(item)?;
-        rest = more;
+        assignments.push(assignment)?;
     }
-    Ok(Some((assignments, rest)))
+    Ok(Some(assignments))
 }
 
-/// `"object" Name "{" {Name ":=" Integer ";"} "}" ";"`.
-#[tactic(auto, unfolding(crate::specs::SmallText::object_in))]
-fn object_in(alloc: Global, tokens: &[Token]) -> Result<Option<(SmallObject, &[Token])>, ListFault>
-    ensures { IfOk result (λ o. option_map (λ x. (x.0, x.1.now)) o ≡ object_in tokens.now) }
+/// The name of a path of one name.
+fn one_name(path: &PathTree) -> Option<&Text>
+    ensures { option_map (λ x. x.now) result ≡ one_name path.now.names }
 {
-    let Some(rest) = keyword("object", tokens) else {
-        return Ok(None);
-    };
-    let Some((name, rest)) = named(rest) else {
-        return Ok(None);
-    };
-    let Some(rest) = signed(Sign::OpenBrace, rest) else {
-        return Ok(None);
-    };
-    let Some((assignments, rest)) = assignments_in(alloc, rest)? else {
-        return Ok(None);
-    };
-    let Some(rest) = signed(Sign::CloseBrace, rest) else {
-        return Ok(None);
-    };
-    let Some(rest) = signed(Sign::Semicolon, rest) else {
-        return Ok(None);
-    };
-    let class = name.copy(alloc)?;
-    Ok(Some((SmallObject { class, assignments }, rest)))
+    match path.names.as_slice() {
+        [name] => Some(name),
+        _ => None,
+    }
 }
 
-/// The objects at the front, as many as there are.
-fn objects_in(
-    alloc: Global,
-    tokens: &[Token],
-) -> Result<Option<(Seq<SmallObject>, &[Token])>, ListFault>
-    ensures { IfOk result (λ o. option_map (λ x. (x.0, x.1.now)) o ≡ objects_in (length tokens.now) tokens.now) }
+/// The object of one class that an expression makes, without a variable and without an extent.
+fn object_in(alloc: Global, value: &Expr) -> Result<Option<SmallObject>, ListFault>
+    ensures { IfOk result (λ o. o ≡ object_in (expr_view value.now)) }
+{
+    match value {
+        Expr::Object {
+            variable: None,
+            path,
+            extent: None,
+            body,
+            ..
+        } => {
+            let Some(name) = one_name(path) else {
+                return Ok(None);
+            };
+            let Some(assignments) = assignments_of(alloc, body.as_slice())? else {
+                return Ok(None);
+            };
+            let class = name.copy(alloc)?;
+            Ok(Some(SmallObject { class, assignments }))
+        }
+        _ => Ok(None),
+    }
+}
+
+/// The object that a statement makes.
+fn object_of(alloc: Global, stmt: &Stmt) -> Result<Option<SmallObject>, ListFault>
+    ensures { IfOk result (λ o. o ≡ object_of (stmt_view stmt.now)) }
+{
+    match stmt {
+        Stmt::Value { value, .. } => object_in(alloc, value),
+        _ => Ok(None),
+    }
+}
+
+/// The objects that the statements make, None where one makes none.
+fn all_objects(alloc: Global, body: &[Stmt]) -> Result<Option<Seq<SmallObject>>, ListFault>
+    ensures { IfOk result (λ o. o ≡ all_of object_of (block_view body.now)) }
 {
     let mut objects = Seq::new(alloc);
-    let mut rest = tokens;
-    for _ in 0..tokens.len() {
-        if !begins_with_word(rest) {
-            return Ok(Some((objects, rest)));
-        }
-        let Some((item, more)) = object_in(alloc, rest)? else {
+    for stmt in body {
+        let Some(object) = object_of(alloc, stmt)? else {
             return Ok(None);
         };
-        objects.push(item)?;
-        rest = more;
+        objects.push(object)?;
     }
-    Ok(Some((objects, rest)))
+    Ok(Some(objects))
 }
 
-/// `"modeltype" Name "uses" String ";"`: the name and what stands in quotes.
-#[tactic(auto, unfolding(crate::specs::SmallText::model_type))]
-fn model_type(tokens: &[Token]) -> Option<(&Text, &Text, &[Token])>
-    ensures { option_map (λ x. ((x.0.now, x.1.now), x.2.now)) result ≡ model_type tokens.now }
+/// The objects of `main`.
+fn objects_of(alloc: Global, unit: &Unit) -> Result<Option<Seq<SmallObject>>, ListFault>
+    ensures { IfOk result (λ o. o ≡ objects_of (unit_view unit.now)) }
 {
-    let rest = keyword("modeltype", tokens)?;
-    let (name, rest) = named(rest)?;
-    let rest = keyword("uses", rest)?;
-    let (text, rest) = quoted(rest)?;
-    let rest = signed(Sign::Semicolon, rest)?;
-    Some((name, text, rest))
-}
-
-/// `"transformation" Name "(" "out" Name ":" Name ")" ";"`: the parameter's name and type.
-#[tactic(auto, unfolding(crate::specs::SmallText::header))]
-fn header(tokens: &[Token]) -> Option<(&Text, &Text, &[Token])>
-    ensures { option_map (λ x. ((x.0.now, x.1.now), x.2.now)) result ≡ header tokens.now }
-{
-    let rest = keyword("transformation", tokens)?;
-    let (_, rest) = named(rest)?;
-    let rest = signed(Sign::Open, rest)?;
-    let rest = keyword("out", rest)?;
-    let (parameter, rest) = named(rest)?;
-    let rest = signed(Sign::Colon, rest)?;
-    let (kind, rest) = named(rest)?;
-    let rest = signed(Sign::Close, rest)?;
-    let rest = signed(Sign::Semicolon, rest)?;
-    Some((parameter, kind, rest))
-}
-
-/// `"main" "(" ")" "{"`.
-#[tactic(auto, unfolding(crate::specs::SmallText::main_opened))]
-fn main_opened(tokens: &[Token]) -> Option<&[Token]>
-    ensures { option_map (λ x. x.now) result ≡ main_opened tokens.now }
-{
-    let rest = keyword("main", tokens)?;
-    let rest = signed(Sign::Open, rest)?;
-    let rest = signed(Sign::Close, rest)?;
-    signed(Sign::OpenBrace, rest)
-}
-
-/// The small text of these tokens, None where they are none.
-#[tactic(auto, unfolding(crate::specs::SmallText::small_in))]
-pub fn small_in(alloc: Global, tokens: &[Token]) -> Result<Option<SmallText>, ListFault>
-    ensures { IfOk result (λ o. o ≡ small_in tokens.now) }
-{
-    let Some((type_name, uses, rest)) = model_type(tokens) else {
-        return Ok(None);
-    };
-    let Some((parameter, parameter_type, rest)) = header(rest) else {
-        return Ok(None);
-    };
-    let Some(rest) = main_opened(rest) else {
-        return Ok(None);
-    };
-    let Some((objects, rest)) = objects_in(alloc, rest)? else {
-        return Ok(None);
-    };
-    let Some(rest) = signed(Sign::CloseBrace, rest) else {
-        return Ok(None);
-    };
-    if !rest.is_empty() {
-        return Ok(None);
+    match unit {
+        Unit::Main(body, _) => all_objects(alloc, body.as_slice()),
+        _ => Ok(None),
     }
+}
+
+/// The objects of the one unit.
+fn one_unit(alloc: Global, units: &[Unit]) -> Result<Option<Seq<SmallObject>>, ListFault>
+    ensures { IfOk result (λ o. o ≡ one_unit (map unit_view units.now)) }
+{
+    match units {
+        [unit] => objects_of(alloc, unit),
+        _ => Ok(None),
+    }
+}
+
+/// The one model type.
+fn one_type(types: &[ModelType]) -> Option<&ModelType>
+    ensures { option_map (λ x. x.now) result ≡ one_type types.now }
+{
+    match types {
+        [only] => Some(only),
+        _ => None,
+    }
+}
+
+/// The one model parameter, of direction `out`.
+fn one_param(params: &[ModelParam]) -> Option<&ModelParam>
+    ensures { option_map (λ x. x.now) result ≡ one_param params.now }
+{
+    match params {
+        [only] => match only.direction {
+            Direction::Output => Some(only),
+            _ => None,
+        },
+        _ => None,
+    }
+}
+
+/// The small text of a transformation, None where it is none: where it has more than one model type,
+/// model parameter or unit, or `main` does anything but make objects with literals.
+#[tactic(auto, unfolding(crate::specs::SmallText::small_of))]
+pub fn small_of(alloc: Global, transformation: &Module) -> Result<Option<SmallText>, ListFault>
+    ensures { IfOk result (λ o. o ≡ small_of (module_view transformation.now)) }
+{
+    let Some(kind) = one_type(transformation.model_types.as_slice()) else {
+        return Ok(None);
+    };
+    let Some(parameter) = one_param(transformation.params.as_slice()) else {
+        return Ok(None);
+    };
+    let Some(objects) = one_unit(alloc, transformation.units.as_slice())? else {
+        return Ok(None);
+    };
     Ok(Some(SmallText {
-        type_name: type_name.copy(alloc)?,
-        uses: uses.copy(alloc)?,
-        parameter: parameter.copy(alloc)?,
-        parameter_type: parameter_type.copy(alloc)?,
+        type_name: kind.name.copy(alloc)?,
+        uses: kind.uri.copy(alloc)?,
+        parameter: parameter.name.copy(alloc)?,
+        parameter_type: parameter.model_type.copy(alloc)?,
         objects,
     }))
 }

@@ -2,7 +2,8 @@
 
 ghost use Rattle.std.specs.Prelude.{◌≡◌, ◌≢◌, ◌++◌, ◌∷◌, [], Ok, Err, IsTrue, IsFalse, IfOk, IfErr, OnOk, OnErr};
 ghost use Rattle.qvt_slots.specs.Contents.{slot_of};
-ghost use Rattle.qvt_slots.specs.Repeats.{new_list, AreUnique};
+ghost use Rattle.std.specs.List.{list_any};
+ghost use Rattle.qvt_slots.specs.Repeats.{new_list, same_value, AreUnique};
 ghost use Rattle.qvt_slots.specs.Assign.{append, crosses, change_to, store_after};
 ghost use Rattle.qvt_slots.specs.Types.{IsAssignable};
 ghost use Rattle.qvt_slots.specs.Change.{is_linked, objects_beyond};
@@ -55,7 +56,7 @@ impl Store {
                 Err(fault) => return Err(fault),
             }
         }
-        if holds_value(self.list(object, feature), value) {
+        if self.has_value(object, feature, value) {
             match self.append_none(alloc, object, feature, value) {
                 Ok(()) => return Ok(()),
                 Err(fault) => return Err(fault),
@@ -190,6 +191,16 @@ impl Store {
             };
         }
         holds(self.list(object, feature), item)
+    }
+
+    /// Whether the slot holds a value equal to this one.
+    fn has_value(&self, object: Oid, feature: FeatureNo, value: &Value) -> bool
+        ensures { result ≡ list_any (λ other. same_value other value.now) (slot_of self.now object.0 feature.0) }
+    {
+        match value {
+            Value::Obj(item) => self.holds_item(object, feature, *item),
+            _ => holds_value(self.list(object, feature), value),
+        }
     }
 
     /// Puts the value last, if it is an object that the slot does not hold.

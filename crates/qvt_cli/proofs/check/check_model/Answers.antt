@@ -1,4 +1,4 @@
-use Rattle.std.proofs.Common.{◌≡◌, ◌∷◌, [], List, ℕ}
+use Rattle.std.proofs.Common.{[]}
 use Rattle.qvt_cli.proofs.Chained.{first_stop}
 use Rattle.qvt_cli.proofs.check.check_model.Goals as goal
 

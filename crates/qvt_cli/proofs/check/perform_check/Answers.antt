@@ -1,4 +1,4 @@
-use Rattle.std.proofs.Common.{◌≡◌, ◌∙◌, [], ◌∷◌, ℕ, List}
+use Rattle.std.proofs.Common.{◌∙◌, [], ◌∷◌}
 use Rattle.qvt_cli.proofs.Chained.{first_stop, later_turn}
 use Rattle.qvt_cli.specs.Check.{check_turns}
 use Rattle.qvt_cli.specs.Metas.{metas_read}

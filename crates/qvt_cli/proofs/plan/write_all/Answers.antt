@@ -1,6 +1,5 @@
-use Rattle.std.proofs.Common.{◌≡◌, ◌≤◌, ◌<◌, ◌∙◌, length, arith, rules, get_or}
+use Rattle.std.proofs.Common.{◌∙◌, arith}
 use Rattle.qvt_cli.proofs.Written.{wrote_next, stopped_next}
-use Rattle.qvt_cli.specs.declared.plan.Output.{Output}
 use Rattle.qvt_cli.proofs.plan.write_all.Goals as goal
 
 pub returns-in-Failed-clause-stopped : goal.returns-in-Failed-clause-stopped

@@ -1,4 +1,4 @@
-use Rattle.std.proofs.Common.{◌≡◌, ◌∙◌, arith, drop, length, take, ◌-◌}
+use Rattle.std.proofs.Common.{◌∙◌, arith, drop, length, take, ◌-◌}
 use Rattle.std.proofs.lemmas.List.{take_rest}
 use Rattle.qvt_cli.proofs.Sent.{next_piece}
 use Rattle.qvt_cli.proofs.report.send.Goals as goal

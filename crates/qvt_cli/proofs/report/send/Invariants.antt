@@ -1,4 +1,4 @@
-use Rattle.std.proofs.Common.{◌≡◌, ◌≤◌, ◌-◌, ℕ, length, take}
+use Rattle.std.proofs.Common.{◌≡◌, ◌≤◌, ◌-◌, length, take}
 use Rattle.qvt_cli.specs.Reported.{appended}
 use Rattle.qvt_cli.proofs.report.send.Given as goal
 

@@ -1,4 +1,3 @@
-use Rattle.std.proofs.Common.{◌≡◌}
 use Rattle.qvt_cli.specs.Job.{job_of}
 use Rattle.qvt_cli.specs.Run.{job_in, small_job}
 use Rattle.qvt_cli.specs.Steps.{built}

@@ -1,10 +1,6 @@
-use Rattle.std.proofs.Common.{◌≡◌, ◌∙◌, sym, ap, subst, ℕ, List, Some, Ok, Err}
-use Rattle.qvt_base.specs.Outside.{Held, Rose}
-use Rattle.qvt_cli.specs.Steps.{joined}
+use Rattle.std.proofs.Common.{◌∙◌}
 use Rattle.qvt_cli.proofs.Chained.{first_stop, later_turn}
 use Rattle.qvt_cli.specs.Run.{small_metas_read, on_ok, turns_after_job}
-use Rattle.qvt_cli.specs.declared.stop.Stop.{Stop}
-use Rattle.qvt_metamodel.specs.Metamodels.{Metamodels}
 use Rattle.std.proofs.Common.{[], ◌∷◌}
 use Rattle.qvt_cli.proofs.run.perform_job.Goals as goal
 

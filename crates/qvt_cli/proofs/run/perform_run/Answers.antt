@@ -1,6 +1,4 @@
-use Rattle.std.proofs.Common.{◌≡◌, ◌∙◌, sym, ap, subst, ℕ, List, Some, Ok, Err}
-use Rattle.qvt_base.specs.Outside.{Held, Rose}
-use Rattle.qvt_cli.specs.Steps.{joined}
+use Rattle.std.proofs.Common.{◌∙◌}
 use Rattle.qvt_cli.proofs.Chained.{first_stop, later_turn}
 use Rattle.qvt_cli.specs.Run.{job_read, run_turns, on_ok, turns_after_job}
 use Rattle.qvt_cli.proofs.run.perform_run.Goals as goal

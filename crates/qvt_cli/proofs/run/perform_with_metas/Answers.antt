@@ -1,4 +1,4 @@
-use Rattle.std.proofs.Common.{◌≡◌, ◌∷◌, [], List, ℕ}
+use Rattle.std.proofs.Common.{◌≡◌, ◌∷◌, []}
 use Rattle.qvt_cli.specs.Reported.{IsAmong}
 use Rattle.qvt_cli.proofs.Chained.{first_stop, no_turn}
 use Rattle.qvt_base.specs.Outside.{Rose}

@@ -1,7 +1,7 @@
-use Rattle.std.proofs.Common.{◌≡◌, ◌∙◌, sym, ap, subst, ℕ, List, Some, Ok, Err}
-use Rattle.qvt_base.specs.Outside.{Held, Rose}
+use Rattle.std.proofs.Common.{◌≡◌}
+use Rattle.qvt_base.specs.Outside.{Rose}
 use Rattle.qvt_cli.specs.Steps.{joined}
-use Rattle.qvt_cli.proofs.Chained.{no_turn, first_turn, later_turn}
+use Rattle.qvt_cli.proofs.Chained.{no_turn}
 use Rattle.qvt_cli.proofs.run.read_small_job.Goals as goal
 
 pub returns-in-Ok-clause-rose : goal.returns-in-Ok-clause-rose

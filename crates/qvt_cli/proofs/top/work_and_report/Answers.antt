@@ -1,5 +1,5 @@
 -- The plan was carried out, or the run ended early and that was told.
-use Rattle.std.proofs.Common.{◌≡◌, ◌∙◌, inl, inr}
+use Rattle.std.proofs.Common.{◌≡◌, ◌∙◌, inr}
 use Rattle.qvt_base.specs.Outside.{Rose}
 use Rattle.qvt_cli.specs.Steps.{joined}
 use Rattle.qvt_cli.proofs.Ended.{complete_end, no_usage_end, write_fault_end, read_fault_end}

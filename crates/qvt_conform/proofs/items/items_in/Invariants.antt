@@ -1,5 +1,5 @@
 use Rattle.std.proofs.Common.{◌≡◌, drop}
-use Rattle.qvt_conform.specs.Items.{items_in}
+use Rattle.qvt_model.specs.Items.{items_in}
 use Rattle.qvt_conform.proofs.items.items_in.Given as goal
 
 abbrev pub invariant-loop-slot : goal.invariant-loop-slot

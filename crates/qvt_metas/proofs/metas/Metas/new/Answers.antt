@@ -1,4 +1,4 @@
-use Rattle.std.proofs.Common.{◌≡◌, [], List, subst, sym, None, ℕ}
+use Rattle.std.proofs.Common.{◌≡◌, ◌∙◌, [], List, length, ap, arith, subst, sym, None, ℕ}
 use Rattle.qvt_base.specs.declared.numbers.FeatureNo.{FeatureNo}
 use Rattle.qvt_metamodel.specs.declared.info.MetamodelInfo.{MetamodelInfo}
 use Rattle.qvt_metamodel.specs.declared.info.ClassInfo.{ClassInfo}
@@ -18,4 +18,8 @@ at_nothing ms cs fs lists rows ranks e1 e2 e3 e4 e5 e6 =
     (subst (λ (x : List ℕ). IsKept no_metamodels [] [] x) (sym e6) kept)))
 
 pub invariant_of-result : goal.invariant_of-result
-invariant_of-result c = at_nothing _ _ _ _ _ _ c.new.ensures.items c.new-2.ensures.items c.new-3.ensures.items c.new-4.ensures.items c.new-5.ensures.items c.new-6.ensures.items
+invariant_of-result c = record {
+  kept = at_nothing _ _ _ _ _ _ c.new.ensures.items c.new-2.ensures.items c.new-3.ensures.items c.new-4.ensures.items c.new-5.ensures.items c.new-6.ensures.items;
+  each = ap length c.new-7.ensures.items ∙ sym (ap length c.new.ensures.items);
+  named = λ k h. absurd (omega (arith, h, ap length c.new.ensures.items));
+}

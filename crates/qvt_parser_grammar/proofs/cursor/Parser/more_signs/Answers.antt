@@ -1,9 +1,7 @@
-use Rattle.std.proofs.Common.{sym, ap, ◌∙◌, arith, refl}
-use Rattle.qvt_grammar.specs.Reader.{many_at, made_at, then_at, with_front}
-use Rattle.qvt_grammar.proofs.Loops.{loop_push, loop_more}
-use Rattle.qvt_parser_grammar.specs.Tokens.{is, of}
-use Rattle.qvt_parser_grammar.specs.Readers.{the_at}
-use Rattle.qvt_parser_grammar.specs.Trees.{second}
+use Rattle.std.proofs.Common.{sym, ap, ◌∙◌, arith}
+use Rattle.qvt_grammar.specs.Reader.{many_at, with_front}
+use Rattle.qvt_grammar.proofs.Loops.{loop_more}
+use Rattle.qvt_parser_grammar.specs.Tokens.{of}
 use Rattle.qvt_parser_grammar.specs.Gives.{toks}
 use Rattle.qvt_parser_grammar.specs.Firsts.{sign_first}
 use Rattle.qvt_parser_grammar.specs.Reading.{sign_at}

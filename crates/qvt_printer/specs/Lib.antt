@@ -1,0 +1,4 @@
+pub mod Expressions
+pub mod Levels
+pub mod PrintText
+pub mod Units

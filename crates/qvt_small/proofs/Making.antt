@@ -1,0 +1,95 @@
+-- What holds while the objects are made, and what each step of it needs.
+use Rattle.std.proofs.Common.{◌≡◌, ◌∙◌, ap, sym, refl, subst, arith, ℕ, zero, suc, ◌+◌, ◌<◌, List, [], ◌∷◌, drop, length, length-append, get_or, fold, add-one, Bool, true, false, ◌||◌, ◌&&◌, ◌==◌, cond, Some, ℤ}
+use Rattle.std.specs.Prelude.{nat_lt, find, slice_index_or}
+use Rattle.std.specs.Str.{bytes_eq}
+use Rattle.std.proofs.Math.Seq.{drop-cons}
+use Rattle.std.proofs.lemmas.Bool.{eq-eqb, eqb-true, lt-ltb, ltb-true}
+use Rattle.std.proofs.lemmas.List.Quantifiers.{position-Some}
+use Rattle.qvt_relation.proofs.Bools.{and_left, and_right}
+use Rattle.std.proofs.lemmas.List.{length-set}
+use Rattle.qvt_base.specs.declared.numbers.FeatureNo.{FeatureNo}
+use Rattle.qvt_value.specs.declared.value.Value.{Value}
+use Rattle.qvt_value.specs.declared.value.Value.TheVariants.{Int as IntValue}
+use Rattle.qvt_metamodel.specs.declared.info.TypeKind.TheVariants.{Int}
+use Rattle.qvt_metamodel.specs.Metamodels.{Metamodels, nowhere_class, among_features, class_at, shape_of, is_single, has_feature}
+use Rattle.qvt_metamodel.specs.Named.{metamodel_at, class_named}
+use Rattle.qvt_slots.specs.declared.extent.Extent.{Extent}
+use Rattle.qvt_slots.specs.Contents.{Contents, AreNamed, is_named, no_extent, class_of, is_live, is_extent, extent_at, with_new, with_slot}
+use Rattle.qvt_slots.specs.Types.{IsAssignable, IsAttributeChange}
+use Rattle.qvt_store.specs.Sound.{IsClassFor, Sound}
+use Rattle.qvt_small.specs.SmallRun.{have_names}
+use Rattle.qvt_small.specs.SmallStore.{outputs, IsMaking}
+
+-- one turn of a loop
+pub turn : {A B : Type 0} (f : B → A → B) (s next all : B) (xs : List A) (i : ℕ) (x : A) → i < length xs → x ≡ get_or xs i x → next ≡ f s x
+    → fold f s (drop i xs) ≡ all → fold f next (drop (i + 1) xs) ≡ all
+turn f s next all xs i x within is step so_far =
+    (λ j. fold f (step j) (drop (add-one i j) xs))
+    ∙ ap (λ y. fold f (f s y) (drop (suc i) xs)) is
+    ∙ ap (fold f s) (sym (drop-cons xs i x within))
+    ∙ so_far
+
+or_true : (b : Bool) → (b || true) ≡ true
+or_true true = refl
+or_true false = refl
+
+found_case : (p : FeatureNo → Bool) (g : FeatureNo) (gs : List FeatureNo) (f : FeatureNo) (b : Bool) → (find p gs ≡ Some f → among_features f.0 gs ≡ true)
+    → cond b (Some g) (find p gs) ≡ Some f → among_features f.0 (g ∷ gs) ≡ true
+found_case p g gs f true more e = let same : g ≡ f = cc in ap (λ b. b || among_features f.0 gs) (eq-eqb g.0 f.0 (ap (λ (x : FeatureNo). x.0) same))
+found_case p g gs f false more e = ap (λ b. (g.0 == f.0) || b) (more e) ∙ or_true (g.0 == f.0)
+
+-- what is found is among the features
+pub found_among : (p : FeatureNo → Bool) (fs : List FeatureNo) (f : FeatureNo) → find p fs ≡ Some f → among_features f.0 fs ≡ true
+found_among p [] f h = absurd cc
+found_among p (g ∷ gs) f h = found_case p g gs f (p g) (found_among p gs f) h
+
+-- the class that has the name is of the metamodel
+pub class_of_metamodel : (m : Metamodels) (k : ℕ) (name : List ℕ) (c : ℕ) → class_named m k name ≡ Some c → (class_at m c).metamodel ≡ k
+class_of_metamodel m k name c h = eqb-true (class_at m c).metamodel k (and_left ((class_at m c).metamodel == k) _ (position-Some (λ c. (c.metamodel == k) && bytes_eq name c.name) m.classes c nowhere_class h).1)
+
+first_extent : (model : List ℕ) (e : ℕ) → nat_lt e 1 ≡ true → (slice_index_or (outputs model) e no_extent).writable ≡ true
+first_extent model zero h = refl
+first_extent model (suc e) h = absurd (let q = ltb-true (suc e) 1 h in omega (arith, q))
+
+module _ (model : List ℕ) (s : Contents) (making : IsMaking model s) where
+  pub writable : (e : ℕ) → is_extent s e ≡ true → (extent_at s e).writable ≡ true
+  writable e = subst (λ xs. nat_lt e (length xs) ≡ true → (slice_index_or xs e no_extent).writable ≡ true) (sym making.extents) (first_extent model e)
+
+  module _ (x f : ℕ) (z : ℤ) (live : is_live s x ≡ true) (there : has_feature s.metas (class_of s x) f ≡ true) (kind : (shape_of s.metas f).kind ≡ Int) (single : is_single s.metas f ≡ true) where
+    pub assignable : IsAssignable s x f (IntValue z ∷ [])
+    assignable = record { live = live; feature = there; types = cc }
+
+    pub attribute_change : IsAttributeChange s x f (IntValue z ∷ [])
+    attribute_change = record { attribute = cc; single = single; few = omega arith; writable = writable _ (making.sound.classes x live).extent }
+
+  pub set_making : (x f : ℕ) (vs : List Value) (s' : Contents) → s' ≡ with_slot s x f vs → Sound s' → IsMaking model s'
+  set_making x f vs s' is sound = record { extents = ap (λ (t : Contents). t.extents) is ∙ making.extents; sound = sound }
+
+  pub set_live : (x f : ℕ) (vs : List Value) (s' : Contents) → s' ≡ with_slot s x f vs → is_live s x ≡ true → is_live s' x ≡ true
+  set_live x f vs s' is live = ap (λ (t : Contents). is_live t x) is ∙ ap (nat_lt x) (length-set s.objects x _) ∙ live
+
+  pub class_for : (c : ℕ) → c < length s.metas.classes → (class_at s.metas c).metamodel ≡ 0 → (class_at s.metas c).is_abstract ≡ false → IsClassFor s c 0
+  class_for c live first concrete = record {
+    extent = ap (λ (xs : List Extent). nat_lt 0 (length xs)) making.extents;
+    live = live;
+    metamodel = first ∙ ap (λ (xs : List Extent). (slice_index_or xs 0 no_extent).metamodel) (sym making.extents);
+    concrete = concrete;
+  }
+
+  pub new_making : (c : ℕ) (s' : Contents) → s' ≡ with_new s c 0 → Sound (with_new s c 0) → IsMaking model s'
+  new_making c s' is sound = record { extents = ap (λ (t : Contents). t.extents) is ∙ making.extents; sound = subst Sound (sym is) sound }
+
+  pub is_output : is_extent s 0 ≡ true
+  is_output = ap (λ (xs : List Extent). nat_lt 0 (length xs)) making.extents
+
+below : (n : ℕ) → nat_lt n (n + 1) ≡ true
+below n = lt-ltb n (n + 1) (omega arith)
+
+pub new_live : (c : ℕ) (s s' : Contents) (n : ℕ) → n ≡ length s.objects → s' ≡ with_new s c 0 → is_live s' n ≡ true
+new_live c s s' n at is = ap (λ (t : Contents). is_live t n) is ∙ ap (nat_lt n) (length-append s.objects _) ∙ ap (λ k. nat_lt n (k + 1)) (sym at) ∙ below n
+
+pub named : (m : Metamodels) (model : List ℕ) → have_names m model ≡ true → AreNamed m (outputs model)
+named m model h = record { named = names } where
+  names : (e : ℕ) → nat_lt e 1 ≡ true → is_named (slice_index_or (outputs model) e no_extent).name ≡ is_named (metamodel_at m (slice_index_or (outputs model) e no_extent).metamodel).name
+  names zero k = and_right (is_named (metamodel_at m 0).name) (is_named model) h ∙ sym (and_left (is_named (metamodel_at m 0).name) (is_named model) h)
+  names (suc e) k = absurd (let q = ltb-true (suc e) 1 k in omega (arith, q))
