@@ -136,6 +136,7 @@ pub fn each_lead(
         None => Ok(post_lead(place, first, steps)),
         Some(part) => {
             let source = posted(alloc, place, first.expr, steps)?;
+            let part = Box::new(alloc, part)?;
             Ok(Leading::Each { source, part })
         }
     }

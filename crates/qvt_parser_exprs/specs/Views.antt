@@ -52,7 +52,7 @@ lead_view (Name n) = Plain (PathExpr (path_of (n, []))) (Some (BareTarget n.text
 lead_view (Result place) = Plain (ResultExpr place) (Some (ResultTarget place))
 lead_view (Post first steps place) = Plain (post_of place (expr_view first) (steps_view steps)) (member_target place (expr_view first) (steps_view steps))
 lead_view (Done e) = Plain (expr_view e) None
-lead_view (EachLead source part) = Each (expr_view source) (each_view part)
+lead_view (EachLead source part) = Each (expr_view source) (each_view part.value)
 
 abbrev pub filter_head_view : Option (List ℕ) × TypeTree → Option (List ℕ) × TypeTerm
 filter_head_view (name, kind) = (name, type_view kind)

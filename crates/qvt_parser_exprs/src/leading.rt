@@ -34,7 +34,7 @@ pub enum Leading {
     Done(Expr),
     Each {
         source: Expr,
-        part: EachTail,
+        part: Box<EachTail>,
     },
 }
 

@@ -5,7 +5,7 @@ ghost use Rattle.qvt_parser_grammar.specs.Tokens.{of, is};
 ghost use Rattle.qvt_parser_grammar.specs.Readers.{the_at};
 ghost use Rattle.qvt_parser_grammar.specs.Firsts.{expr_first, assign_first};
 ghost use Rattle.qvt_parser_grammar.specs.Trees.{second, is_there};
-ghost use Rattle.qvt_parser_grammar.specs.StmtTrees.{simple_turn, written_turn, target_in, IsPlain};
+ghost use Rattle.qvt_parser_grammar.specs.StmtTrees.{closed_turn, simple_turn, written_turn, target_in, IsPlain};
 ghost use Rattle.qvt_parser_grammar.specs.Reading.{expr_at};
 ghost use Rattle.qvt_parser_grammar.specs.ReadingStatements.{condition_at, var_stmt_at, return_stmt_at, arm_at, else_part_at, if_stmt_at, while_stmt_at, assignment_at, semicolon_at, lead_tail_at, lead_stmt_at, statement_at, statements_at, block_at};
 ghost use Rattle.qvt_parser_grammar.specs.Nesting.{nested_at};
@@ -232,7 +232,10 @@ impl<
         let place = parser.place();
         let lead = self.chains.lead(parser)?;
         match lead {
-            Leading::Each { source, part } => Ok(Turn::Closed(for_each(source, part, place))),
+            Leading::Each { source, part } => {
+                let part = Box::into_inner(part);
+                Ok(Turn::Closed(for_each(source, part, place)))
+            }
             lead => self.written(parser, lead, place),
         }
     }
@@ -277,6 +280,46 @@ impl<
         Ok(ended(parser, stmt))
     }
 
+    fn if_turn(&self, parser: &mut Parser<'_>) -> Result<Turn, ParseError>
+        requires { IsInside F.Fn G.Fn self.now.chains.inside }
+        ensures gives { Gives turn_view result (toks parser.new) (made_at closed_turn (if_stmt_at (nested_at self.now.chains.inside.room)) (toks parser.old)) }
+        ensures fewer { length (toks parser.new) ≤ length (toks parser.old) }
+        ensures less { OnOk result (length (toks parser.new) < length (toks parser.old)) }
+    {
+        let stmt = self.if_stmt(parser)?;
+        Ok(Turn::Closed(stmt))
+    }
+
+    fn while_turn(&self, parser: &mut Parser<'_>) -> Result<Turn, ParseError>
+        requires { IsInside F.Fn G.Fn self.now.chains.inside }
+        ensures gives { Gives turn_view result (toks parser.new) (made_at closed_turn (while_stmt_at (nested_at self.now.chains.inside.room)) (toks parser.old)) }
+        ensures fewer { length (toks parser.new) ≤ length (toks parser.old) }
+        ensures less { OnOk result (length (toks parser.new) < length (toks parser.old)) }
+    {
+        let stmt = self.while_stmt(parser)?;
+        Ok(Turn::Closed(stmt))
+    }
+
+    fn var_turn(&self, parser: &mut Parser<'_>) -> Result<Turn, ParseError>
+        requires { IsInside F.Fn G.Fn self.now.chains.inside }
+        ensures gives { Gives turn_view result (toks parser.new) (made_at simple_turn (then_at (var_stmt_at (nested_at self.now.chains.inside.room)) semicolon_at) (toks parser.old)) }
+        ensures fewer { length (toks parser.new) ≤ length (toks parser.old) }
+        ensures less { OnOk result (length (toks parser.new) < length (toks parser.old)) }
+    {
+        let stmt = self.var_stmt(parser)?;
+        Ok(ended(parser, stmt))
+    }
+
+    fn return_turn(&self, parser: &mut Parser<'_>) -> Result<Turn, ParseError>
+        requires { IsInside F.Fn G.Fn self.now.chains.inside }
+        ensures gives { Gives turn_view result (toks parser.new) (made_at simple_turn (then_at (return_stmt_at (nested_at self.now.chains.inside.room)) semicolon_at) (toks parser.old)) }
+        ensures fewer { length (toks parser.new) ≤ length (toks parser.old) }
+        ensures less { OnOk result (length (toks parser.new) < length (toks parser.old)) }
+    {
+        let stmt = self.return_stmt(parser)?;
+        Ok(ended(parser, stmt))
+    }
+
     #[tactic(auto, unfolding(qvt_parser_grammar::specs::ReadingStatements::statement_at))]
     fn statement(&self, parser: &mut Parser<'_>) -> Result<Turn, ParseError>
         requires { IsInside F.Fn G.Fn self.now.chains.inside }
@@ -289,20 +332,16 @@ impl<
             return Ok(Turn::Empty);
         }
         if parser.at(Class::IfWord) {
-            let stmt = self.if_stmt(parser)?;
-            return Ok(Turn::Closed(stmt));
+            return self.if_turn(parser);
         }
         if parser.at(Class::WhileWord) {
-            let stmt = self.while_stmt(parser)?;
-            return Ok(Turn::Closed(stmt));
+            return self.while_turn(parser);
         }
         if parser.at(Class::VarWord) {
-            let stmt = self.var_stmt(parser)?;
-            return Ok(ended(parser, stmt));
+            return self.var_turn(parser);
         }
         if parser.at(Class::ReturnWord) {
-            let stmt = self.return_stmt(parser)?;
-            return Ok(ended(parser, stmt));
+            return self.return_turn(parser);
         }
         self.lead_stmt(parser)
     }
