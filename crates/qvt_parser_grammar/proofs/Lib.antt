@@ -8,6 +8,7 @@ pub mod GoodSteps
 pub mod GoodTower
 pub mod GoodStmts
 pub mod ValuedForms
+pub mod GoodIfs
 pub mod GoodBlocks
 pub mod Tokens
 pub mod GoodNesting
