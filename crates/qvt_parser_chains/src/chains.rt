@@ -205,7 +205,8 @@ impl<
         Ok(LeadStep::Step(step))
     }
 
-    fn lead_steps(
+    /// Any number of steps, and then perhaps the rest of a `forEach`.
+    pub fn lead_steps(
         &self,
         parser: &mut Parser<'_>,
     ) -> Result<(Seq<Step>, Option<EachTail>), ParseError>

@@ -118,7 +118,7 @@ pub fn post_lead(place: Place, first: First, steps: Seq<Step>) -> Leading
     if first.bare {
         bare_lead(first.expr)
     } else {
-        Leading::Done(first.expr)
+        Leading::Bracketed(first.expr)
     }
 }
 

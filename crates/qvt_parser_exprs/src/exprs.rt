@@ -222,7 +222,8 @@ impl<
         self.expr(parser)
     }
 
-    fn else_expr(&self, parser: &mut Parser<'_>) -> Result<Expr, ParseError>
+    /// The value after `else`, up to the `endif`.
+    pub fn else_expr(&self, parser: &mut Parser<'_>) -> Result<Expr, ParseError>
         requires { IsInside F.Fn G.Fn self.now }
         ensures gives { Gives expr_view result (toks parser.new) (made_at inner (then_at (the_at Class.ElseWord) (then_at (expr_at (nested_at self.now.room)) (the_at Class.EndifWord))) (toks parser.old)) }
         ensures fewer { length (toks parser.new) ≤ length (toks parser.old) }

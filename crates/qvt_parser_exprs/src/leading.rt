@@ -30,6 +30,8 @@ pub enum Leading {
         steps: StepList,
         place: Place,
     },
+    /// An expression that stands in brackets alone.
+    Bracketed(Expr),
     /// An expression that is no target.
     Done(Expr),
     Each {

@@ -6,7 +6,7 @@ use Rattle.qvt_parser_grammar.specs.Tokens.{Tok, of, code_of}
 use Rattle.qvt_parser_grammar.specs.declared.token.Class.TheVariants.{Dot, Arrow, OpenRound, OpenBrace, ForEachWord, IfWord, ThenWord, ElifWord, ElseWord, EndifWord}
 use Rattle.qvt_parser_grammar.specs.Firsts.{expr_first, resolve_first, step_first}
 use Rattle.qvt_parser_grammar.specs.Leads.{Lead, Bracketed, EachPart}
-use Rattle.qvt_parser_grammar.specs.Trees.{second}
+use Rattle.qvt_parser_grammar.specs.Trees.{second, inner}
 use Rattle.qvt_parser_grammar.specs.StmtTrees.{if_stmt_of}
 use Rattle.qvt_parser_grammar.specs.Grammar.{Nested, lead_step}
 use Rattle.qvt_parser_grammar.specs.Reading.{NestedAt, lead_step_at}
@@ -62,8 +62,8 @@ module _ {n : ℕ} {i j : Nested} {r : NestedAt} (h : GoodNested n i j r) where
 
   good_choice : Good n false expr_first [] (choice i) (choice j) (choice_at r)
   unfolding choice choice_at
-  good_choice = good_then (good_expr h) (good_then (good_made second (good_then (good_the ElseWord) (good_expr h) refl))
-      (good_made second (good_then (good_the EndifWord) (good_finished step_first opens [] refl refl (goodv_lead_step h)) refl)) refl) refl
+  good_choice = good_then (good_then (good_expr h) (good_made inner (good_then (good_the ElseWord) (good_then (good_expr h) (good_the EndifWord) refl) refl)) refl)
+      (good_finished step_first opens [] refl refl (goodv_lead_step h)) refl
 
   good_if_rest : (x : Lead) → Good n false body_first item_next (if_rest i x) (if_rest j x) (if_rest_at r x)
   good_if_rest (Bracketed c) = good_sets body_first item_next refl refl (good_either (code_of OpenBrace ∷ []) (good_made inl good_branches)

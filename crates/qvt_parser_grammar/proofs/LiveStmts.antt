@@ -47,8 +47,8 @@ module _ {i j : Nested} (h : LiveNested i j) where
 
   live_choice : Live (choice i) (choice j)
   unfolding choice
-  live_choice = live_then (live_expr h) (live_then (live_made second (live_then (live_the ElseWord) (live_expr h)))
-      (live_made second (live_then (live_the EndifWord) (live_finished (live_lead_step h) each_step.0 each_step.1 each_step.2))))
+  live_choice = live_then (live_then (live_expr h) (live_made inner (live_then (live_the ElseWord) (live_then (live_expr h) (live_the EndifWord)))))
+      (live_finished (live_lead_step h) each_step.0 each_step.1 each_step.2)
 
   live_if_rest : (x : Lead) → Live (if_rest i x) (if_rest j x)
   live_if_rest (Bracketed c) = live_either (live_made inl live_branches) (live_made second (live_then (live_the ThenWord) (live_either (live_made inl live_branches) (live_made inr live_choice))))

@@ -32,7 +32,7 @@ unfoldable pub branches_at : NestedAt → Reader Branches
 branches_at r = then_at r.block (then_at (many_at (is ElifWord) (arm_at r)) (then_at (maybe_at (is ElseWord) (else_part_at r)) (maybe_at (is EndifWord) (the_at EndifWord))))
 
 unfoldable pub choice_at : NestedAt → Reader Choice
-choice_at r = then_at (expr_at r) (then_at (made_at second (then_at (the_at ElseWord) (expr_at r))) (made_at second (then_at (the_at EndifWord) (finished_at (of step_first) (lead_step_at r)))))
+choice_at r = then_at (then_at (expr_at r) (made_at inner (then_at (the_at ElseWord) (then_at (expr_at r) (the_at EndifWord))))) (finished_at (of step_first) (lead_step_at r))
 
 abbrev pub if_rest_at : NestedAt → Lead → Reader (Branches ⊎ Choice)
 if_rest_at r (Bracketed c) = choose_at (is OpenBrace) (made_at inl (branches_at r)) (made_at second (then_at (the_at ThenWord) (choose_at (is OpenBrace) (made_at inl (branches_at r)) (made_at inr (choice_at r)))))

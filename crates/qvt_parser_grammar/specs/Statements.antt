@@ -38,7 +38,7 @@ branches i = then i.block (then (many (arm i)) (then (maybe (else_part i)) (mayb
 
 -- Expr "else" Expr "endif" {Step} "->" forEach
 unfoldable pub choice : Nested → Language Tok Choice
-choice i = then (expr i) (then (made second (then (the ElseWord) (expr i))) (made second (then (the EndifWord) (finished (lead_step i)))))
+choice i = then (then (expr i) (made inner (then (the ElseWord) (then (expr i) (the EndifWord))))) (finished (lead_step i))
 
 -- after the expression that follows `if`: blocks stand only after one in brackets alone
 abbrev pub if_rest : Nested → Lead → Language Tok (Branches ⊎ Choice)

@@ -29,11 +29,27 @@ Branches = List StmtTerm × (List ArmTerm × (Option (List StmtTerm) × Option T
 
 -- the values of a conditional expression, and what stands after it where it begins the source of a `forEach`
 abbrev pub Choice : Type 0
-Choice = ExprTerm × (ExprTerm × (List StepTerm × EachPart))
+Choice = (ExprTerm × ExprTerm) × (List StepTerm × EachPart)
+
+abbrev pub branched : Place → ExprTerm → Branches → StmtTerm
+branched place c (body, (arms, (other, e))) = IfStmt c (stmts_of body) (arms_of arms) (optional_else other) place
+
+-- a `forEach` over the expression with the steps
+abbrev pub each_over : Place → ExprTerm → List StepTerm × EachPart → StmtTerm
+each_over place e (steps, part) = for_each_of (post_of place e steps) part place
+
+abbrev pub choice_expr : Place → ExprTerm → ExprTerm × ExprTerm → ExprTerm
+choice_expr place c (one, other) = IfExpr c one other place
+
+abbrev pub chosen : Place → ExprTerm → Choice → StmtTerm
+chosen place c (values, rest) = each_over place (choice_expr place c values) rest
+
+abbrev pub if_made : Place → ExprTerm → Branches ⊎ Choice → StmtTerm
+if_made place c (inl branches) = branched place c branches
+if_made place c (inr choice) = chosen place c choice
 
 abbrev pub if_stmt_of : Place × (Tok × (Lead × (Branches ⊎ Choice))) → StmtTerm
-if_stmt_of (place, (w, (c, (inl (body, (arms, (other, e))))))) = IfStmt (expr_of c) (stmts_of body) (arms_of arms) (optional_else other) place
-if_stmt_of (place, (w, (c, (inr (one, (other, (steps, part))))))) = for_each_of (post_of place (IfExpr (expr_of c) one other place) steps) part place
+if_stmt_of (place, (w, (c, rest))) = if_made place (expr_of c) rest
 
 abbrev pub while_of : Place × (Tok × (ExprTerm × List StmtTerm)) → StmtTerm
 while_of (place, (w, (c, body))) = WhileStmt c (stmts_of body) place
