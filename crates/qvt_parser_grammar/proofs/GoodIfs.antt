@@ -55,12 +55,12 @@ abbrev body_first : List ℕ
 body_first = code_of OpenBrace ∷ code_of ThenWord ∷ []
 
 module _ {n : ℕ} {i j : Nested} {r : NestedAt} (h : GoodNested n i j r) where
-  good_branches : Good n false (code_of OpenBrace ∷ []) item_next (branches i) (branches j) (branches_at r)
+  pub good_branches : Good n false (code_of OpenBrace ∷ []) item_next (branches i) (branches j) (branches_at r)
   unfolding branches branches_at
   good_branches = good_sets (code_of OpenBrace ∷ []) item_next refl refl (good_rest h.block
       (loose_then (loose_many (code_of ElifWord ∷ []) refl refl (good_arm h)) (loose_then (loose_maybe (code_of ElseWord ∷ []) refl (good_else_part h)) (loose_maybe (code_of EndifWord ∷ []) refl (good_the EndifWord)) refl) refl) refl)
 
-  good_choice : Good n false expr_first [] (choice i) (choice j) (choice_at r)
+  pub good_choice : Good n false expr_first [] (choice i) (choice j) (choice_at r)
   unfolding choice choice_at
   good_choice = good_then (good_then (good_expr h) (good_made inner (good_then (good_the ElseWord) (good_then (good_expr h) (good_the EndifWord) refl) refl)) refl)
       (good_finished step_first opens [] refl refl (goodv_lead_step h)) refl

@@ -22,3 +22,4 @@ pub mod LiveNesting
 pub mod Whole
 pub mod LessExprs
 pub mod EndedLoops
+pub mod Conditionals
