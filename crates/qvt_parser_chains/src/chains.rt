@@ -167,7 +167,7 @@ impl<
     {
         let sign = parser.operator(level)?;
         let operand = self.held_chain(parser, level)?;
-        linked(parser.alloc, sign, operand)
+        linked(parser.alloc, sign.class, sign.place, operand)
     }
 
     /// Operands with operators of the `level` tightest levels between them: at 8 an expression.

@@ -1,5 +1,5 @@
 ghost use Rattle.std.specs.Prelude.{◌≡◌, ◌<◌, ◌∷◌, ◌++◌, []};
-ghost use Rattle.qvt_tree_types.specs.Tree.{PathExpr};
+ghost use Rattle.qvt_tree_types.specs.Tree.{LinkOf, PathExpr};
 ghost use Rattle.qvt_tree_types.specs.View.{expr_view, link_view};
 ghost use Rattle.qvt_parser_grammar.specs.Leads.{Plain};
 ghost use Rattle.qvt_parser_grammar.specs.Trees as trees;
@@ -7,7 +7,6 @@ ghost use Rattle.qvt_parser_grammar.specs.Grammar as grammar;
 ghost use Rattle.qvt_parser_grammar.specs.Options.{option_view};
 ghost use Rattle.qvt_parser_exprs.specs.Views.{first_view, lead_view, each_view, exprs_view, links_view, steps_view};
 ghost use Rattle.qvt_parser_grammar.specs.Gives.{Makes, same};
-ghost use Rattle.qvt_parser_grammar.specs.Tokens.{tok_of};
 ghost use Rattle.qvt_parser_chains.specs.Raised.{held_view};
 
 use qvt_base::numbers::Place;
@@ -16,7 +15,7 @@ use qvt_parser_exprs::leading::{EachTail, First, Leading};
 use qvt_parser_exprs::made::{finish, posted};
 use qvt_parser_grammar::cursor::ParseError;
 use qvt_parser_grammar::named::Named;
-use qvt_parser_grammar::token::{Class, Token};
+use qvt_parser_grammar::token::Class;
 use qvt_tree_types::tree::{Expr, Link, Step};
 use qvt_tree_types::types::PathTree;
 use qvt_tree_types::words::{BinaryOp, Level, Sign};
@@ -204,14 +203,19 @@ pub fn held(alloc: Global, lead: Leading) -> Result<Box<Leading>, ParseError>
 }
 
 /// The operand after an operator.
-pub fn linked(alloc: Global, sign: Token<'_>, operand: Box<Leading>) -> Result<Link, ParseError>
-    ensures { Makes link_view result (trees.link_of (tok_of sign, held_view operand)) }
+pub fn linked(
+    alloc: Global,
+    class: Class,
+    place: Place,
+    operand: Box<Leading>,
+) -> Result<Link, ParseError>
+    ensures { Makes link_view result (LinkOf (trees.binary_op class) (trees.expr_of (held_view operand)) place) }
 {
     let operand = finish(alloc, Box::into_inner(operand))?;
     Ok(Link {
-        op: binary_op(sign.class),
+        op: binary_op(class),
         operand,
-        place: sign.place,
+        place,
     })
 }
 
