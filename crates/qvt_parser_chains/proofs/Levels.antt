@@ -1,12 +1,13 @@
 -- A chain level by level.
 use Rattle.std.proofs.Common.{◌≡◌, ◌≤◌, ◌<◌, ◌+◌, ◌-◌, ℕ, zero, suc, List, refl, sym, ap, ◌∙◌, subst, arith, Result, Ok, Err, IsErrAnd}
+use Rattle.std.specs.Prelude.{Box}
+use Rattle.std.specs.declared.alloc.Global.{Global}
 use Rattle.qvt_base.specs.declared.numbers.Place.{Place}
 use Rattle.qvt_grammar.specs.Language.{head_of}
 use Rattle.qvt_grammar.specs.Reader.{At, Fault, Answer, ◌>>=◌}
 use Rattle.qvt_tree_types.specs.Tree.{LinkTerm}
 use Rattle.qvt_parser_grammar.specs.Grammar.{level_of}
 use Rattle.qvt_parser_exprs.specs.declared.leading.Leading.{Leading}
-use Rattle.qvt_parser_exprs.specs.Views.{lead_view}
 use Rattle.qvt_parser_grammar.specs.Gives.{Gives}
 use Rattle.qvt_parser_grammar.specs.Leads.{Lead}
 use Rattle.qvt_parser_grammar.specs.Readers.{Reader, nowhere}
@@ -15,7 +16,7 @@ use Rattle.qvt_parser_grammar.specs.Tokens.{Tok}
 use Rattle.qvt_parser_grammar.specs.Trees.{chain_of}
 use Rattle.qvt_parser_grammar.specs.declared.cursor.ParseError.{ParseError}
 use Rattle.qvt_parser_grammar.specs.declared.cursor.ParseError.TheVariants.{NoMemory, Syntax}
-use Rattle.qvt_parser_chains.specs.Raised.{linked, raised_at}
+use Rattle.qvt_parser_chains.specs.Raised.{linked, raised_at, held_view}
 
 abbrev paired : Lead → Answer Tok (List LinkTerm) → Answer Tok (Lead × List LinkTerm)
 paired lead x = x >>= λ (rest, r). Ok ((lead, rest), r)
@@ -65,16 +66,16 @@ module _ (k : ℕ) (f g : Reader Lead) (ts r : List Tok) (lead : Lead) (place : 
   pub next_level : (n : ℕ) (more : Lead) (s : List Tok) → n ≡ k + 1 → raised_at k g place lead r ≡ Ok (more, s) → chain_at n f g ts ≡ Ok (more, s)
   next_level n more s h e = subst (λ z. chain_at z f g ts ≡ Ok (more, s)) (let q : suc k ≡ n = omega (arith, h) in q) (goes_on ∙ e)
 
-  pub faulty_level : (n : ℕ) (rest : List Tok) (fault : ParseError) → k < n → Gives {X = Leading} lead_view (Err fault) rest (raised_at k g place lead r) → Gives {X = Leading} lead_view (Err fault) rest (chain_at n f g ts)
+  pub faulty_level : (n : ℕ) (rest : List Tok) (fault : ParseError) → k < n → Gives {X = Box Leading Global} held_view (Err fault) rest (raised_at k g place lead r) → Gives {X = Box Leading Global} held_view (Err fault) rest (chain_at n f g ts)
   faulty_level n rest NoMemory h e = tt
   faulty_level n rest Syntax h e = chain_faults (n - suc k) (suc k) n f g ts (At rest) (omega (arith, h)) (goes_on ∙ e)
 
-no_levels_fault : (n : ℕ) (f g : Reader Lead) (ts rest : List Tok) (fault : ParseError) → Gives {X = Leading} lead_view (Err fault) rest (f ts) → Gives {X = Leading} lead_view (Err fault) rest (chain_at n f g ts)
+no_levels_fault : (n : ℕ) (f g : Reader Lead) (ts rest : List Tok) (fault : ParseError) → Gives {X = Box Leading Global} held_view (Err fault) rest (f ts) → Gives {X = Box Leading Global} held_view (Err fault) rest (chain_at n f g ts)
 unfolding chain_at
 no_levels_fault n f g ts rest NoMemory h = tt
 no_levels_fault n f g ts rest Syntax h = chain_faults n 0 n f g ts (At rest) (omega arith) h
 
 -- a fault of the first operand is one of all
-pub first_fault : (n : ℕ) (f g : Reader Lead) (ts rest : List Tok) (fault : ParseError) (r : Result Leading ParseError) → IsErrAnd r (λ e. e ≡ fault) → Gives {X = Leading} lead_view (Err fault) rest (f ts) → Gives lead_view r rest (chain_at n f g ts)
+pub first_fault : (n : ℕ) (f g : Reader Lead) (ts rest : List Tok) (fault : ParseError) (r : Result (Box Leading Global) ParseError) → IsErrAnd r (λ e. e ≡ fault) → Gives {X = Box Leading Global} held_view (Err fault) rest (f ts) → Gives held_view r rest (chain_at n f g ts)
 first_fault n f g ts rest fault (Ok x) h k = absurd h
-first_fault n f g ts rest fault (Err e) h k = subst (λ z. Gives {X = Leading} lead_view (Err z) rest (chain_at n f g ts)) (sym h) (no_levels_fault n f g ts rest fault k)
+first_fault n f g ts rest fault (Err e) h k = subst (λ z. Gives {X = Box Leading Global} held_view (Err z) rest (chain_at n f g ts)) (sym h) (no_levels_fault n f g ts rest fault k)
