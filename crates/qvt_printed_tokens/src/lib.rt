@@ -1,0 +1,2 @@
+//! The tokens of a printed text.
+#![tactic(auto)]
