@@ -1,0 +1,10 @@
+pub mod Decoded
+pub mod Scans
+pub mod Spelt
+pub mod Meets
+pub mod Sound
+pub mod Tails
+pub mod Pieces
+pub mod Quotes
+pub mod Reread
+pub mod Relexed
