@@ -115,7 +115,7 @@ fit_minus : (d : ℕ) → is_held_fit d ≡ true → sign_ends (45 ∷ []) d ≡
 fit_minus d h = grind (arith, nat_tests)
 
 not_dot : (d : ℕ) → (d == 46) ≡ false → sign_ends (46 ∷ []) d ≡ true
-not_dot d h = ap (λ b. not (b || false)) h
+not_dot d h = grind (arith, nat_tests)
 
 -- the signs that stand without a blank before them begin so
 tight_first : (c : Class) (d : ℕ) → (is_tight_before c || is_open_round c) ≡ true → First c d → is_fit d ≡ true

@@ -12,7 +12,7 @@ use Rattle.qvt_parser_tokens.proofs.Contents.{content_item, content_none}
 use Rattle.qvt_printer_layout.specs.Layout.{digit, numbered, escaped, quoted}
 use Rattle.qvt_printed_tokens.proofs.Decoded.{chars_of}
 
-pub is_low : ℕ → Bool
+unfoldable pub is_low : ℕ → Bool
 is_low c = nat_lt c 128
 
 low_is : (c : ℕ) → is_low c ≡ true → c < 128
