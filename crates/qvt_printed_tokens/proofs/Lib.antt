@@ -8,3 +8,4 @@ pub mod Pieces
 pub mod Quotes
 pub mod Reread
 pub mod Relexed
+pub mod Told
