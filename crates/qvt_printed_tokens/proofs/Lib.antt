@@ -9,3 +9,4 @@ pub mod Quotes
 pub mod Reread
 pub mod Relexed
 pub mod Told
+pub mod Forms
