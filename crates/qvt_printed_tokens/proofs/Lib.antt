@@ -10,3 +10,5 @@ pub mod Reread
 pub mod Relexed
 pub mod Told
 pub mod Forms
+pub mod Parts
+pub mod ReadExprs
