@@ -12,3 +12,4 @@ pub mod Told
 pub mod Forms
 pub mod Parts
 pub mod ReadExprs
+pub mod ReadSteps

@@ -124,7 +124,7 @@ of_object_head =
     each_either (each_made HeadP result_head (λ a h. (tt, h.1)) (each_then (each_the ResultWord) of_colon_path))
     (each_made HeadP named_head named_head_is (each_then of_name (each_either (each_made (OneOf PathP (AllOf NamedP)) inl (λ a h. h) of_colon_path) (each_made (OneOf PathP (AllOf NamedP)) inr (λ a h. h) of_more_names))))
 
-expr_is : (x : Lead) → LeadP x → ExprP (expr_of x)
+pub expr_is : (x : Lead) → LeadP x → ExprP (expr_of x)
 expr_is (Plain e target) h = h.0
 expr_is (Each e part) h = h.0
 
