@@ -13,3 +13,4 @@ pub mod Forms
 pub mod Parts
 pub mod ReadExprs
 pub mod ReadSteps
+pub mod ReadStmts
