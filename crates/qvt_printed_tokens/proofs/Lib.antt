@@ -14,3 +14,4 @@ pub mod Parts
 pub mod ReadExprs
 pub mod ReadSteps
 pub mod ReadStmts
+pub mod ReadUnits
