@@ -15,3 +15,4 @@ pub mod ReadExprs
 pub mod ReadSteps
 pub mod ReadStmts
 pub mod ReadUnits
+pub mod Printing

@@ -29,7 +29,7 @@ use Rattle.qvt_printed_tokens.proofs.Pieces.{EndsBy, EndsAt, Again}
 use Rattle.qvt_printed_tokens.proofs.Reread.{plain_again, name_again, integer_again, quoted_again}
 use Rattle.qvt_printed_tokens.proofs.Tails.{tail}
 
-abbrev bare_said : TokenData → Tok
+abbrev pub bare_said : TokenData → Tok
 bare_said d = unplaced (said d)
 
 -- the whole text is divided into pieces that say these tokens, wherever it begins
