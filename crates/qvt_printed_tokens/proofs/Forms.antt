@@ -1,14 +1,13 @@
 -- What holds of all that a language reads from told tokens, by the forms of the grammar.
-use Rattle.std.proofs.Common.{◌≡◌, List, [], ◌∷◌, ◌++◌, Bool, true, false, ◌⊎◌, inl, inr, refl, sym, ap, subst, Option, Some, None, IsTrue}
-use Rattle.qvt_base.specs.declared.numbers.Place.{Place}
-use Rattle.qvt_grammar.specs.Language.{Language, token, follow, then, either, turns, many, made, never, empty, maybe, lastly, ended}
+use Rattle.std.proofs.Common.{List, [], ◌∷◌, Bool, ◌⊎◌, inl, inr, sym, subst, Option, Some, None, IsTrue}
+use Rattle.qvt_grammar.specs.Language.{Language, follow, then, either, turns, many, made, never, maybe, lastly}
 use Rattle.qvt_parser_grammar.specs.Tokens.{Tok, is}
 use Rattle.qvt_parser_grammar.specs.Readers.{the, placed}
 use Rattle.qvt_parser_grammar.specs.Series.{left, right, series, barring}
 use Rattle.qvt_parser_grammar.specs.declared.token.Class.{Class}
 use Rattle.qvt_parser_grammar.specs.declared.token.Class.TheVariants.{Name, Integer, Str}
 use Rattle.qvt_printed_tokens.proofs.Sound.{IsName, IsText, IsSmall}
-use Rattle.qvt_printed_tokens.proofs.Told.{IsTold, AllTold, told_front, told_back}
+use Rattle.qvt_printed_tokens.proofs.Told.{AllTold, told_front, told_back}
 
 -- all that the language reads has p
 pub record Gives {A : Type 0} (p : A → Type 0) (l : Language Tok A) : Type 0 where

@@ -1,14 +1,14 @@
 -- Which tokens may meet without a blank between them: the first ends before the first character of the second.
-use Rattle.std.proofs.Common.{◌≡◌, ℕ, ◌<◌, ◌≤◌, List, [], ◌∷◌, Bool, true, false, ◌||◌, ◌&&◌, ◌==◌, not, nat_le, refl, sym, ap, ◌∙◌, arith}
+use Rattle.std.proofs.Common.{◌≡◌, ℕ, ◌<◌, List, [], ◌∷◌, Bool, true, false, ◌||◌, ◌&&◌, ◌==◌, not, refl, ap, ◌∙◌, arith}
 use Rattle.std.proofs.lemmas.Bool.Decides.{nat_tests}
 use Rattle.std.specs.Char.{is_ascii_alphanumeric}
 use Rattle.unicode_ident.proofs.IdentLemmas.{is_xid_continue-ascii}
-use Rattle.qvt_lexer.specs.Characters.{is_start, is_continue, is_digit, is_quote, is_single, is_double, is_line_comment}
+use Rattle.qvt_lexer.specs.Characters.{is_start, is_continue, is_digit, is_single}
 use Rattle.qvt_lexer.proofs.Sorts.{AtStart, AtMark, same_sort}
 use Rattle.qvt_parser_grammar.specs.declared.token.Class.{Class}
 use Rattle.qvt_parser_grammar.specs.declared.token.Class.TheVariants as class
 use Rattle.qvt_printer_layout.specs.Spellings.{spelling}
-use Rattle.qvt_printer_layout.specs.Layout.{is_joined, is_tight_before, is_open_round, takes_brackets}
+use Rattle.qvt_printer_layout.specs.Layout.{is_joined, is_tight_before, is_open_round}
 use Rattle.qvt_printed_tokens.proofs.Scans.{sign_ends, never_true}
 use Rattle.qvt_printed_tokens.proofs.Spelt.{Kind, Named, Number, Text, Reserved, One, Two, kind_of, is_letter}
 

@@ -1,7 +1,7 @@
 -- The pieces of a tree's parts are sound where those of their parts are.
-use Rattle.std.proofs.Common.{◌≡◌, ℕ, List, [], ◌∷◌, ◌++◌, Bool, true, false, refl, sym, ap, ◌∙◌, subst, append_assoc, append-nil, Option, Some, None}
+use Rattle.std.proofs.Common.{ℕ, List, [], ◌∷◌, ◌++◌, Bool, true, false, refl, Option, Some, None}
 use Rattle.qvt_base.specs.declared.numbers.Place.{Place}
-use Rattle.qvt_tree_types.specs.Tree.{TypeTerm, CollType, PathType, ExprTerm, OptionalExpr, NoExpr, SomeExpr, LinkTerm, LinkOf, ItemTerm, ItemOf, RangeTerm, NoRange, RangeTo, MapTerm, MapOf, ResolveTerm, ResolveOf, FilterTerm, NoFilter, FilterOf, HeadTerm, NoHead, HeadOf, AccumulatorTerm, NoAccumulator, AccumulatorOf, StepTerm, StepTerms, NoSteps, MoreSteps, TargetTerm, StmtTerm, ArmTerm, ArmOf, ElseTerm, NoElse, ElseOf, OptionalArgs, NoArgs, SomeArgs}
+use Rattle.qvt_tree_types.specs.Tree.{TypeTerm, CollType, ExprTerm, OptionalExpr, NoExpr, SomeExpr, LinkTerm, LinkOf, ItemTerm, ItemOf, RangeTerm, MapTerm, ResolveTerm, ResolveOf, FilterTerm, NoFilter, FilterOf, AccumulatorTerm, AccumulatorOf, StepTerm, TargetTerm, StmtTerm, ArmTerm}
 use Rattle.qvt_tree_types.specs.View.{exprs_of, links_of, items_of, steps_of, stmts_of, arms_of}
 use Rattle.qvt_tree_types.specs.declared.types.PathTree.{PathTree}
 use Rattle.qvt_tree_types.specs.declared.types.ObjectVar.{ObjectVar}
@@ -18,17 +18,14 @@ use Rattle.qvt_tree_types.specs.declared.words.ResolveWord.{ResolveWord}
 use Rattle.qvt_tree_types.specs.declared.words.ResolveWord.TheVariants as resolve
 use Rattle.qvt_tree_types.specs.declared.words.Level.{Level}
 use Rattle.qvt_tree_types.specs.declared.words.Sign.{Sign}
-use Rattle.qvt_parser_grammar.specs.declared.token.Class.{Class}
 use Rattle.qvt_parser_grammar.specs.declared.token.Class.TheVariants as class
-use Rattle.qvt_parser_grammar.specs.declared.named.Named.{Named}
-use Rattle.qvt_parser_grammar.specs.declared.named.UnitPath.{UnitPath}
 use Rattle.qvt_printer_layout.specs.declared.piece.Piece.{Piece}
-use Rattle.qvt_printer_layout.specs.declared.piece.Piece.TheVariants.{Plain, Name, Integer, Quoted, Tight, Line, Indent, Dedent}
+use Rattle.qvt_printer_layout.specs.declared.piece.Piece.TheVariants.{Plain, Tight, Line, Dedent}
 use Rattle.qvt_printer_layout.specs.Words as words
 use Rattle.qvt_printer.specs.Levels.{is_as_loose}
 use Rattle.qvt_printer.specs.Expressions as print
-use Rattle.qvt_printed_tokens.proofs.Meets.{Free, Held, Tied, Opened}
-use Rattle.qvt_printed_tokens.proofs.Sound.{IsName, IsText, IsSmall, Sound, held_free, free_opened, sound_append}
+use Rattle.qvt_printed_tokens.proofs.Meets.{Free, Held, Opened}
+use Rattle.qvt_printed_tokens.proofs.Sound.{IsName, Sound, held_free, free_opened, sound_append}
 use Rattle.qvt_printed_tokens.proofs.Forms.{AllOf, IfThere}
 
 -- what can stand anywhere, and what can stand after a token that holds nothing

@@ -1,38 +1,27 @@
 -- How each piece is read again: its characters, what the scan gives for them, and what the token says.
-use Rattle.std.proofs.Common.{◌≡◌, ℕ, zero, suc, ℤ, pos, ◌+◌, ◌-◌, ◌*◌, ◌/◌, ◌%◌, ◌^◌, ◌<◌, ◌≤◌, List, [], ◌∷◌, ◌++◌, length, take, drop, Bool, true, false, cond, ◌||◌, ◌&&◌, ◌==◌, not, nat_le, nat_lt, refl, sym, ap, ◌∙◌, subst, arith, rules, append_assoc, length-append, le-leb, get_or-append-add, flat_map, Ok, Some, None, codes, slice_index, slice_range}
+use Rattle.std.proofs.Common.{◌≡◌, ℕ, ◌+◌, ◌-◌, ◌<◌, List, [], ◌∷◌, ◌++◌, length, Bool, true, false, cond, ◌||◌, ◌&&◌, ◌==◌, not, nat_le, refl, sym, ap, ◌∙◌, arith, length-append, le-leb, get_or-append-add, Ok, slice_index, slice_range}
 use Rattle.std.proofs.lemmas.Bool.Decides.{nat_tests}
 use Rattle.std.proofs.lemmas.List.{take_at}
-use Rattle.std.specs.Str.{chars, encode_utf8_all}
+use Rattle.std.specs.Str.{encode_utf8_all}
 use Rattle.std.specs.Char.{encode_utf8}
-use Rattle.std.specs.Fmt.{decimal}
-use Rattle.std.proofs.lemmas.Fmt.{digits_decimal, digits_value-decimal, decimal_nonempty}
-use Rattle.std.proofs.lemmas.Str.{encodes-append, encode_ascii, char_from_byte}
-use Rattle.std.proofs.lemmas.Str.Parse.{IsNumeralModel, numerals_by_fold}
+use Rattle.std.proofs.lemmas.Str.{encode_ascii, char_from_byte}
 use Rattle.qvt_base.specs.declared.numbers.Place.{Place}
-use Rattle.qvt_lexer.specs.Characters.{is_start, is_continue, is_digit, is_single}
-use Rattle.qvt_lexer.specs.Words.{is_reserved}
-use Rattle.qvt_lexer.specs.Literals.{every, begins, number_after, number_of, greatest_number, item_at, Content}
+use Rattle.qvt_lexer.specs.Characters.{is_start, is_continue, is_digit}
+use Rattle.qvt_lexer.specs.Literals.{every, begins}
 use Rattle.qvt_lexer.specs.Pieces.{IsPlainName}
 use Rattle.qvt_lexer.specs.Scan.{scan_at, word_kind, is_apostrophe}
 use Rattle.qvt_lexer.specs.declared.token.TokenKind.{TokenKind}
-use Rattle.qvt_lexer.specs.declared.token.TokenKind.TheVariants as kinds
 use Rattle.qvt_lexer.specs.declared.scan.Piece.TheVariants.{Token}
-use Rattle.qvt_lexer.proofs.Runs.{and_left, and_right, and_both}
+use Rattle.qvt_lexer.proofs.Runs.{and_left}
 use Rattle.qvt_lexer.proofs.Sorts.{quote_continues}
 use Rattle.qvt_parser_grammar.specs.Tokens.{Tok}
-use Rattle.qvt_parser_grammar.specs.Readers.{nowhere}
 use Rattle.qvt_parser_grammar.specs.declared.token.Class.{Class}
-use Rattle.qvt_parser_grammar.specs.declared.token.Class.TheVariants as class
-use Rattle.qvt_parser_tokens.specs.Said.{said, is_quoted, name_of, content, string_of, class_of, text_of, number_in}
-use Rattle.qvt_parser_tokens.proofs.Contents.{content_item, content_none}
+use Rattle.qvt_parser_tokens.specs.Said.{said, is_quoted, name_of}
 use Rattle.qvt_printer_layout.specs.Spellings.{spelling}
-use Rattle.qvt_printer_layout.specs.Layout.{name_text, escaped, quoted, integer_text}
 use Rattle.qvt_printed_tokens.specs.Spelled.{unplaced}
-use Rattle.qvt_printed_tokens.proofs.Decoded.{chars_of}
-use Rattle.qvt_printed_tokens.proofs.Scans.{scan_name, scan_escaped, scan_number, scan_string, scan_single_last, scan_single, scan_double, sign_ends, never_true}
-use Rattle.qvt_printed_tokens.proofs.Spelt.{Kind, Named, Number, Text, Reserved, One, Two, kind_of, is_letter, IsWord, IsOne, IsTwo, Spelt, spelt}
-use Rattle.qvt_printed_tokens.proofs.Meets.{First, FirstBy, ends, ends_by, word_ends}
-use Rattle.qvt_printed_tokens.proofs.Sound.{IsName, IsText, IsSmall, is_spelled}
+use Rattle.qvt_printed_tokens.proofs.Scans.{scan_name, never_true}
+use Rattle.qvt_printed_tokens.proofs.Spelt.{Kind, Named, Number, kind_of}
+use Rattle.qvt_printed_tokens.proofs.Meets.{FirstBy, ends_by, word_ends}
 
 -- the text is at its end, or goes on with a character that the token does not take
 abbrev pub EndsBy : Kind → List ℕ → List ℕ → Type 0

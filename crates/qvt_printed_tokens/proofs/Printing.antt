@@ -1,8 +1,7 @@
 -- The tokens of a printed text are those of its pieces.
-use Rattle.std.proofs.Common.{◌≡◌, ℕ, ◌<◌, List, [], ◌∷◌, ◌++◌, Bool, false, cond, ◌==◌, map, None, refl, sym, ap, ◌∙◌, subst, arith}
+use Rattle.std.proofs.Common.{◌≡◌, ℕ, ◌<◌, List, [], ◌∷◌, ◌++◌, false, cond, ◌==◌, map, None, refl, sym, ap, ◌∙◌, subst, arith}
 use Rattle.std.proofs.lemmas.Bool.Decides.{nat_tests}
 use Rattle.std.specs.Str.{chars}
-use Rattle.qvt_base.specs.declared.numbers.Place.{Place}
 use Rattle.qvt_lexer.specs.Division.{Position, TokenData, tokens_of, past, Reads, start_at, moved, first_place}
 use Rattle.qvt_tree_types.specs.Module.{ModuleTerm}
 use Rattle.qvt_tree_types.specs.declared.module.ModelType.{ModelType}

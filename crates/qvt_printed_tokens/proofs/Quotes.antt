@@ -1,16 +1,15 @@
 -- A text in quotes is read back.
-use Rattle.std.proofs.Common.{◌≡◌, ℕ, zero, suc, ◌+◌, ◌-◌, ◌*◌, ◌/◌, ◌%◌, ◌<◌, ◌≤◌, List, [], ◌∷◌, ◌++◌, Bool, true, false, cond, ◌||◌, ◌&&◌, ◌==◌, not, nat_le, nat_lt, refl, sym, ap, ◌∙◌, subst, arith, append_assoc, append-nil, flat_map, Some, None, codes}
+use Rattle.std.proofs.Common.{◌≡◌, ℕ, ◌+◌, ◌*◌, ◌/◌, ◌%◌, ◌<◌, List, [], ◌∷◌, ◌++◌, Bool, true, false, cond, ◌||◌, ◌&&◌, ◌==◌, nat_lt, refl, sym, ap, ◌∙◌, arith, append_assoc, append-nil, flat_map, Some, None, codes}
 use Rattle.std.proofs.lemmas.Bool.Decides.{nat_tests}
-use Rattle.std.specs.Str.{chars, encode_utf8_all}
+use Rattle.std.specs.Str.{encode_utf8_all}
 use Rattle.std.specs.Char.{encode_utf8}
 use Rattle.std.proofs.lemmas.Str.{encodes-append, encode_ascii}
 use Rattle.qvt_lexer.specs.Characters.{is_hex, hex_value}
-use Rattle.qvt_lexer.specs.Literals.{every, Taken, hex_at, escape_at, item_at, Content}
+use Rattle.qvt_lexer.specs.Literals.{every, hex_at, escape_at, item_at, Content}
 use Rattle.qvt_lexer.proofs.Runs.{and_left, and_right}
 use Rattle.qvt_parser_tokens.specs.Said.{content}
 use Rattle.qvt_parser_tokens.proofs.Contents.{content_item, content_none}
-use Rattle.qvt_printer_layout.specs.Layout.{digit, numbered, escaped, quoted}
-use Rattle.qvt_printed_tokens.proofs.Decoded.{chars_of}
+use Rattle.qvt_printer_layout.specs.Layout.{digit, numbered, escaped}
 
 unfoldable pub is_low : ℕ → Bool
 is_low c = nat_lt c 128

@@ -1,7 +1,6 @@
 -- What the productions of names, types and expressions read from told tokens has sound pieces.
-use Rattle.std.proofs.Common.{◌≡◌, ℕ, List, [], ◌∷◌, ◌++◌, map, Bool, true, false, ◌⊎◌, inl, inr, refl, Option, Some, None}
-use Rattle.qvt_base.specs.declared.numbers.Place.{Place}
-use Rattle.qvt_tree_types.specs.Tree.{TypeTerm, PathType, ExprTerm, IntExpr, StrExpr, CallExpr, PathExpr, MapExpr, ResolveExpr, OptionalExpr, NoExpr, SomeExpr, ItemTerm, RangeTerm, MapTerm, ResolveTerm, FilterTerm, StmtTerm}
+use Rattle.std.proofs.Common.{ℕ, List, [], ◌∷◌, ◌++◌, map, Bool, false, ◌⊎◌, inl, inr, refl, Option, Some, None}
+use Rattle.qvt_tree_types.specs.Tree.{TypeTerm, PathType, ExprTerm, MapExpr, ResolveExpr, RangeTerm, FilterTerm, StmtTerm}
 use Rattle.qvt_tree_types.specs.View.{exprs_of, items_of, stmts_of, optional_expr, optional_range, optional_filter}
 use Rattle.qvt_tree_types.specs.declared.types.PathTree.{PathTree}
 use Rattle.qvt_tree_types.specs.declared.types.ObjectVar.{ObjectVar}
@@ -17,8 +16,8 @@ use Rattle.qvt_parser_grammar.specs.Trees.{second, first, cons_of, nothing, inne
 use Rattle.qvt_printer.specs.Expressions as print
 use Rattle.qvt_printer_layout.specs.declared.piece.Piece.TheVariants as piece
 use Rattle.qvt_parser_grammar.specs.declared.token.Class.TheVariants as class
-use Rattle.qvt_printed_tokens.proofs.Sound.{IsName, IsText, IsSmall, Sound, held_free}
-use Rattle.qvt_printed_tokens.proofs.Forms.{Gives, Any, Both, AllOf, IfThere, OneOf, Marked, each_any, each_name, each_integer, each_text, each_the, each_follow, each_then, each_made, each_either, each_many, each_maybe, each_placed, each_weaker}
+use Rattle.qvt_printed_tokens.proofs.Sound.{IsName, held_free}
+use Rattle.qvt_printed_tokens.proofs.Forms.{Gives, Any, Both, AllOf, IfThere, OneOf, each_any, each_name, each_integer, each_text, each_the, each_then, each_made, each_either, each_many, each_maybe, each_placed, each_weaker}
 use Rattle.qvt_printed_tokens.proofs.Parts as sound
 use Rattle.qvt_printed_tokens.proofs.Parts.{Closed, Follows, PathP, TypeP, VariableP, ExprP, ItemP, RangeP, MapP, ResolveP, FilterP, TargetP, StmtP}
 

@@ -1,28 +1,28 @@
 -- What the productions of steps, operands and chains read from told tokens has sound pieces.
-use Rattle.std.proofs.Common.{◌≡◌, ℕ, zero, suc, List, [], ◌∷◌, ◌++◌, map, Bool, true, false, ◌⊎◌, inl, inr, refl, sym, ap, ◌∙◌, subst, append_assoc, append-nil, Option, Some, None}
+use Rattle.std.proofs.Common.{◌≡◌, ℕ, zero, suc, List, [], ◌∷◌, ◌++◌, Bool, true, false, ◌⊎◌, inl, inr, refl, sym, ap, ◌∙◌, subst, append_assoc, Option, Some, None}
 use Rattle.qvt_base.specs.declared.numbers.Place.{Place}
-use Rattle.qvt_tree_types.specs.Tree.{TypeTerm, ExprTerm, IntExpr, StrExpr, BoolExpr, NullExpr, SelfExpr, ResultExpr, PathExpr, CallExpr, CollExpr, IfExpr, ObjectExpr, NewExpr, MapExpr, ResolveExpr, ChainExpr, PrefixExpr, PostExpr, LinkTerm, LinkOf, HeadTerm, NoHead, HeadOf, AccumulatorTerm, NoAccumulator, StepTerm, DotStep, ArrowStep, DotMapStep, ArrowMapStep, DotResolveStep, ArrowResolveStep, StepTerms, NoSteps, MoreSteps, NoArgs, SomeArgs, OptionalArgs, TargetTerm, BareTarget, ResultTarget, MemberTarget, StmtTerm}
+use Rattle.qvt_tree_types.specs.Tree.{TypeTerm, ExprTerm, IntExpr, StrExpr, BoolExpr, NullExpr, SelfExpr, ResultExpr, PathExpr, CallExpr, CollExpr, IfExpr, ObjectExpr, NewExpr, MapExpr, ResolveExpr, ChainExpr, PrefixExpr, PostExpr, LinkTerm, HeadTerm, HeadOf, AccumulatorTerm, StepTerm, DotStep, ArrowStep, DotMapStep, ArrowMapStep, DotResolveStep, ArrowResolveStep, StepTerms, NoSteps, MoreSteps, NoArgs, SomeArgs, BareTarget, ResultTarget, MemberTarget, StmtTerm}
 use Rattle.qvt_tree_types.specs.View.{exprs_of, links_of, steps_of, optional_expr, optional_args, optional_accumulator}
 use Rattle.qvt_tree_types.specs.declared.types.PathTree.{PathTree}
 use Rattle.qvt_tree_types.specs.declared.words.Level.{Level}
 use Rattle.qvt_tree_types.specs.declared.words.Sign.{Sign}
-use Rattle.qvt_grammar.specs.Language.{Language, then, many, made, empty}
+use Rattle.qvt_grammar.specs.Language.{Language, made, empty}
 use Rattle.qvt_parser_grammar.specs.Tokens.{Tok}
 use Rattle.qvt_parser_grammar.specs.declared.named.Named.{Named}
 use Rattle.qvt_parser_grammar.specs.declared.token.Class.TheVariants.{Name, OpenRound, CloseRound, Semicolon, Dot, Arrow, Bar, EqualSign, MinusSign, ForEachWord, NotWord}
 use Rattle.qvt_parser_grammar.specs.Leads.{Lead, Plain, Each, EachPart}
-use Rattle.qvt_parser_grammar.specs.Grammar.{Nested, dot_rest, dot_step, accumulator, head_rest, more_exprs, after_first, arrow_body, arrow_args, arrow_rest, step, post, sign, more_signs, signs, signed_post, pre, each_tail, lead_step, level_of, operator, link, links, chain, flagged, lead_post, lead_pre, lead}
-use Rattle.qvt_parser_grammar.specs.Trees.{second, dot_of, no_args, arrow_of, accumulator_of, expr_of, headed, with_first, more_steps as join_steps, stepped, post_of, split_last, member_of, target_of, bare_target, post_lead, each_lead, not_of, minus_of, signed, prefix_lead, binary_op, link_of, chain_of, each_of, nothing}
+use Rattle.qvt_parser_grammar.specs.Grammar.{Nested, dot_rest, dot_step, accumulator, head_rest, more_exprs, after_first, arrow_body, arrow_args, arrow_rest, step, post, signs, signed_post, pre, each_tail, lead_step, level_of, operator, link, links, chain, flagged, lead_post, lead_pre, lead}
+use Rattle.qvt_parser_grammar.specs.Trees.{second, dot_of, no_args, arrow_of, accumulator_of, expr_of, headed, with_first, more_steps as join_steps, stepped, post_of, split_last, member_of, target_of, bare_target, post_lead, each_lead, signed, prefix_lead, binary_op, link_of, chain_of, each_of, nothing}
 use Rattle.qvt_printer.specs.Expressions as print
 use Rattle.qvt_printer.specs.Levels.{is_as_loose, is_chain, is_chain_or_prefix}
 use Rattle.qvt_printer_layout.specs.declared.piece.Piece.{Piece}
 use Rattle.qvt_printer_layout.specs.declared.piece.Piece.TheVariants as piece
 use Rattle.qvt_parser_grammar.specs.declared.token.Class.TheVariants as class
-use Rattle.qvt_printed_tokens.proofs.Sound.{IsName, Sound, held_free}
-use Rattle.qvt_printed_tokens.proofs.Forms.{Gives, Any, Both, AllOf, IfThere, OneOf, Marked, each_any, each_the, each_follow, each_then, each_made, each_either, each_many, each_maybe, each_placed, each_weaker, each_never, each_series}
+use Rattle.qvt_printed_tokens.proofs.Sound.{IsName, held_free}
+use Rattle.qvt_printed_tokens.proofs.Forms.{Gives, Both, AllOf, IfThere, OneOf, each_any, each_the, each_follow, each_then, each_made, each_either, each_many, each_maybe, each_placed, each_weaker, each_series}
 use Rattle.qvt_printed_tokens.proofs.Parts as sound
 use Rattle.qvt_printed_tokens.proofs.Parts.{Closed, Follows, PathP, TypeP, ExprP, LinkP, MapP, ResolveP, TargetP, StepP, AccumulatorP, StmtP}
-use Rattle.qvt_printed_tokens.proofs.ReadExprs.{NamedP, PartP, LeadP, GivesNested, PrimaryP, of_second, of_first, of_inner, of_name, of_colon_type, of_expr, of_more_exprs, of_args, of_bar_expr, of_map_call, of_resolve, of_primary, of_other_primary, expr_is}
+use Rattle.qvt_printed_tokens.proofs.ReadExprs.{NamedP, PartP, LeadP, GivesNested, of_second, of_first, of_name, of_colon_type, of_expr, of_more_exprs, of_args, of_bar_expr, of_map_call, of_resolve, of_primary, of_other_primary, expr_is}
 
 -- steps
 args_if : (es : Option (List ExprTerm)) → IfThere (AllOf ExprP) es → Follows (print.args_if (optional_args es))
@@ -227,6 +227,7 @@ module _ {i : Nested} (h : GivesNested i) where
       (each_either (each_made StepP ArrowMapStep (λ a k. (refl, held_free (print.map_call a) k)) (of_map_call h)) (each_made StepP ArrowResolveStep (λ a k. (refl, held_free (print.resolve a) k)) (of_resolve h))) where
         inner : Named × (HeadTerm × List ExprTerm) → List Piece
         inner a = print.head a.1.0 ++ print.exprs false (exprs_of a.1.1)
+
         inside : Named × (HeadTerm × List ExprTerm) → List Piece
         inside a = print.in_round (inner a)
 

@@ -1,11 +1,10 @@
 -- What the productions of statements and blocks read from told tokens has sound pieces, at each nesting.
-use Rattle.std.proofs.Common.{◌≡◌, ℕ, zero, suc, List, [], ◌∷◌, ◌++◌, Bool, true, false, ◌⊎◌, inl, inr, refl, sym, ap, ◌∙◌, Option, Some, None}
+use Rattle.std.proofs.Common.{ℕ, zero, suc, List, [], ◌∷◌, ◌++◌, Bool, refl, Option, Some, None}
 use Rattle.qvt_base.specs.declared.numbers.Place.{Place}
-use Rattle.qvt_tree_types.specs.Tree.{TypeTerm, ExprTerm, OptionalExpr, NoExpr, SomeExpr, StmtTerm, VarStmt, AssignStmt, ReturnStmt, ValueStmt, IfStmt, WhileStmt, ForEachStmt, ElseTerm, NoElse, ElseOf, ArmTerm, ArmOf, TargetTerm}
+use Rattle.qvt_tree_types.specs.Tree.{TypeTerm, ExprTerm, StmtTerm, VarStmt, AssignStmt, ReturnStmt, ValueStmt, IfStmt, WhileStmt, ForEachStmt, ArmTerm, ArmOf, TargetTerm}
 use Rattle.qvt_tree_types.specs.View.{stmts_of, arms_of, optional_expr, optional_else}
-use Rattle.qvt_grammar.specs.Language.{Language, then, made, empty}
+use Rattle.qvt_grammar.specs.Language.{empty}
 use Rattle.qvt_parser_grammar.specs.Tokens.{Tok}
-use Rattle.qvt_parser_grammar.specs.declared.named.Named.{Named}
 use Rattle.qvt_parser_grammar.specs.declared.token.Class.TheVariants.{OpenRound, CloseRound, OpenBrace, CloseBrace, Semicolon, Becomes, PlusEqual, ElifWord, ElseWord, EndifWord, IfWord, ReturnWord, ThenWord, VarWord, WhileWord}
 use Rattle.qvt_parser_grammar.specs.Leads.{Lead, Plain, Each, EachPart, Ended}
 use Rattle.qvt_parser_grammar.specs.Grammar.{Nested}
@@ -18,11 +17,11 @@ use Rattle.qvt_printer_layout.specs.Words as words
 use Rattle.qvt_printer_layout.specs.declared.piece.Piece.{Piece}
 use Rattle.qvt_printer_layout.specs.declared.piece.Piece.TheVariants as piece
 use Rattle.qvt_parser_grammar.specs.declared.token.Class.TheVariants as class
-use Rattle.qvt_printed_tokens.proofs.Sound.{IsName, Sound, held_free}
-use Rattle.qvt_printed_tokens.proofs.Forms.{Gives, Any, Both, AllOf, IfThere, OneOf, Marked, each_any, each_the, each_follow, each_then, each_made, each_either, each_many, each_maybe, each_placed, each_weaker, each_never, each_series}
+use Rattle.qvt_printed_tokens.proofs.Sound.{IsName, held_free}
+use Rattle.qvt_printed_tokens.proofs.Forms.{Gives, Any, Both, AllOf, IfThere, OneOf, each_any, each_the, each_follow, each_then, each_made, each_either, each_many, each_maybe, each_placed, each_weaker, each_never, each_series}
 use Rattle.qvt_printed_tokens.proofs.Parts as sound
 use Rattle.qvt_printed_tokens.proofs.Parts.{Closed, Follows, TypeP, ExprP, TargetP, StmtP, ArmP}
-use Rattle.qvt_printed_tokens.proofs.ReadExprs.{NamedP, PartP, LeadP, GivesNested, of_second, of_first, of_inner, of_name, of_typed, of_colon_type, of_expr}
+use Rattle.qvt_printed_tokens.proofs.ReadExprs.{PartP, LeadP, GivesNested, of_second, of_inner, of_name, of_typed, of_colon_type, of_expr}
 use Rattle.qvt_printed_tokens.proofs.ReadSteps.{of_flagged, of_lead}
 
 -- statements by their parts

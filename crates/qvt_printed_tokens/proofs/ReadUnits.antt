@@ -1,37 +1,34 @@
 -- What the productions of units and of the module read from told tokens has sound pieces.
-use Rattle.std.proofs.Common.{◌≡◌, ℕ, zero, suc, List, [], ◌∷◌, ◌++◌, Bool, true, false, cond, ◌||◌, ◌⊎◌, inl, inr, refl, sym, ap, ◌∙◌, subst, Option, Some, None}
+use Rattle.std.proofs.Common.{◌≡◌, ℕ, zero, suc, List, [], ◌∷◌, ◌++◌, Bool, true, false, cond, ◌||◌, refl, sym, subst, Option, Some, None}
 use Rattle.qvt_base.specs.declared.numbers.Place.{Place}
-use Rattle.qvt_tree_types.specs.Tree.{TypeTerm, ExprTerm, OptionalExpr, NoExpr, SomeExpr, StmtTerm, StmtTerms, ReturnStmt}
+use Rattle.qvt_tree_types.specs.Tree.{ExprTerm, StmtTerm}
 use Rattle.qvt_tree_types.specs.View.{stmts_of, optional_expr}
-use Rattle.qvt_tree_types.specs.Module.{TypedName, ClassTerm, HelperTerm, MappingTerm, UnitTerm, ClassOf, MainOf, HelperOf, ConstructorOf, MappingOf, ModuleTerm}
+use Rattle.qvt_tree_types.specs.Module.{TypedName, ClassTerm, HelperTerm, MappingTerm, UnitTerm, MainOf, ConstructorOf, ModuleTerm}
 use Rattle.qvt_tree_types.specs.declared.types.PathTree.{PathTree}
 use Rattle.qvt_tree_types.specs.declared.module.ResultDecl.{ResultDecl}
 use Rattle.qvt_tree_types.specs.declared.module.ModelType.{ModelType}
 use Rattle.qvt_tree_types.specs.declared.module.ModelParam.{ModelParam}
-use Rattle.qvt_grammar.specs.Language.{Language, then, made, empty}
-use Rattle.qvt_parser_grammar.specs.Tokens.{Tok, of}
-use Rattle.qvt_parser_grammar.specs.declared.named.Named.{Named}
+use Rattle.qvt_grammar.specs.Language.{empty}
+use Rattle.qvt_parser_grammar.specs.Tokens.{of}
 use Rattle.qvt_parser_grammar.specs.declared.named.UnitPath.{UnitPath}
 use Rattle.qvt_parser_grammar.specs.declared.token.Class.{Class}
 use Rattle.qvt_parser_grammar.specs.declared.token.Class.TheVariants.{Name, Str, OpenRound, CloseRound, OpenBrace, CloseBrace, Comma, Semicolon, Colon, EqualSign, ClassWord, ConstructorWord, DisjunctsWord, EndWord, ExtendsWord, HelperWord, InWord, InheritsWord, InitWord, InoutWord, IntermediateWord, MainWord, MappingWord, MergesWord, ModelTypeWord, OutWord, PopulationWord, QueryWord, TransformationWord, UsesWord, WhenWord}
-use Rattle.qvt_parser_grammar.specs.Leads.{Ended}
 use Rattle.qvt_parser_grammar.specs.Grammar.{Nested}
-use Rattle.qvt_parser_grammar.specs.Trees.{first, second, inner, nothing, cons_of, text_of}
-use Rattle.qvt_parser_grammar.specs.UnitTrees.{typed_name_of, param_of, paths_or_none, class_of, main_of, is_query, return_body, helper_of, constructor_of, result_decl_of, Clauses, no_clauses, Clause, InheritsClause, MergesClause, DisjunctsClause, WhenClause, with_clause, read_words, or_same, Body, stmts_or_none, empty_body, body_of, sections_of, open_sections_of, mapping_of, some_unit, model_type_of, direction_of, model_param_of, units_of, module_of, kept, no_end}
-use Rattle.qvt_parser_grammar.specs.Units.{param, params, feature, features, class_unit, main_unit, helper_body, helper_unit, constructor_unit, result_decl, when_clause, clause, init_part, end_part, end_unless, end_after, sections, body, fresh, clauses, mapping_unit, unit, strictness, uri, model_type, model_param, header, transformation}
+use Rattle.qvt_parser_grammar.specs.Trees.{second, text_of}
+use Rattle.qvt_parser_grammar.specs.UnitTrees.{typed_name_of, param_of, paths_or_none, class_of, main_of, is_query, return_body, helper_of, constructor_of, result_decl_of, Clauses, no_clauses, Clause, InheritsClause, MergesClause, DisjunctsClause, WhenClause, with_clause, read_words, or_same, Body, stmts_or_none, empty_body, body_of, sections_of, open_sections_of, mapping_of, some_unit, model_type_of, model_param_of, units_of, module_of, kept, no_end}
+use Rattle.qvt_parser_grammar.specs.Units.{param, params, feature, features, class_unit, main_unit, helper_body, helper_unit, constructor_unit, result_decl, when_clause, clause, init_part, end_part, end_unless, sections, body, fresh, clauses, mapping_unit, unit, strictness, uri, model_type, model_param, header, transformation}
 use Rattle.qvt_printer.specs.Expressions as print
 use Rattle.qvt_printer.specs.Units as printed
 use Rattle.qvt_printer.specs.Units.{module_pieces}
-use Rattle.qvt_printer_layout.specs.Words as words
 use Rattle.qvt_printer_layout.specs.declared.piece.Piece.{Piece}
 use Rattle.qvt_printer_layout.specs.declared.piece.Piece.TheVariants as piece
 use Rattle.qvt_parser_grammar.specs.declared.token.Class.TheVariants as class
 use Rattle.qvt_printed_tokens.proofs.Meets.{Opened}
-use Rattle.qvt_printed_tokens.proofs.Sound.{IsName, IsText, Sound, held_free, free_opened, sound_append}
-use Rattle.qvt_printed_tokens.proofs.Forms.{Gives, Any, Both, AllOf, IfThere, OneOf, Marked, each_any, each_name, each_text, each_the, each_follow, each_then, each_made, each_either, each_many, each_maybe, each_placed, each_barring, each_weaker}
+use Rattle.qvt_printed_tokens.proofs.Sound.{IsName, IsText, held_free, free_opened, sound_append}
+use Rattle.qvt_printed_tokens.proofs.Forms.{Gives, Any, Both, AllOf, IfThere, each_any, each_name, each_text, each_the, each_follow, each_then, each_made, each_either, each_many, each_maybe, each_placed, each_barring, each_weaker}
 use Rattle.qvt_printed_tokens.proofs.Parts as sound
 use Rattle.qvt_printed_tokens.proofs.Parts.{Closed, Follows, PathP, TypeP, ExprP, StmtP}
-use Rattle.qvt_printed_tokens.proofs.ReadExprs.{NamedP, UnitPathP, GivesNested, of_second, of_first, of_inner, of_cons, of_nothing, of_name, of_path, of_paths, of_unit_path, of_extent, of_colon_type, of_expr}
+use Rattle.qvt_printed_tokens.proofs.ReadExprs.{UnitPathP, GivesNested, of_second, of_first, of_inner, of_cons, of_nothing, of_name, of_path, of_paths, of_unit_path, of_extent, of_colon_type, of_expr}
 use Rattle.qvt_printed_tokens.proofs.ReadStmts.{EndedP, of_statements}
 
 -- names with types
@@ -117,12 +114,16 @@ body_is : (m : MappingTerm) (b : Body) → m.init ≡ stmts_of b.init → m.popu
 body_is m b d e f k = either_way (printed.has_statements m.init || printed.has_statements m.finish) where
   init : Follows (printed.section class.InitWord m.init)
   init = subst (λ z. Follows (printed.section class.InitWord z)) (sym d) (section_is class.InitWord (λ qs g. (refl, g)) b.init k.init)
+
   population : Follows (printed.section class.PopulationWord m.population)
   population = subst (λ z. Follows (printed.section class.PopulationWord z)) (sym e) (section_is class.PopulationWord (λ qs g. (refl, g)) b.population k.population)
+
   finish : Follows (printed.section class.EndWord m.finish)
   finish = subst (λ z. Follows (printed.section class.EndWord z)) (sym f) (section_is class.EndWord (λ qs g. (refl, g)) b.finish k.finish)
+
   inside : List Piece
   inside = printed.section class.InitWord m.init ++ (printed.section class.PopulationWord m.population ++ printed.section class.EndWord m.finish)
+
   either_way : (x : Bool) → Follows (cond x (printed.sections m) (print.block m.population))
   either_way true =
       held_free (print.in_block inside) (sound.in_block inside (sound.and_more (printed.section class.InitWord m.init) (printed.section class.PopulationWord m.population ++ printed.section class.EndWord m.finish) init

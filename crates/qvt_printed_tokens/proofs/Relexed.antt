@@ -1,15 +1,11 @@
 -- The text of sound pieces is divided into blanks and their tokens.
-use Rattle.std.proofs.Common.{◌≡◌, ℕ, zero, suc, ℤ, pos, ◌+◌, ◌-◌, ◌<◌, List, [], ◌∷◌, ◌++◌, Bool, true, false, cond, ◌||◌, ◌&&◌, ◌==◌, ◌⊎◌, inl, inr, refl, sym, ap, ◌∙◌, subst, arith, append_assoc, map, replicate, Option, Some, None, codes, Ok}
-use Rattle.std.proofs.lemmas.List.{map-append}
+use Rattle.std.proofs.Common.{◌≡◌, ℕ, zero, suc, ◌+◌, ◌-◌, List, [], ◌∷◌, ◌++◌, Bool, true, false, cond, ◌&&◌, ◌⊎◌, inl, inr, refl, sym, ap, ◌∙◌, subst, arith, map, replicate, Option, Some, None, codes}
 use Rattle.std.specs.Str.{chars, encode_utf8_all}
-use Rattle.std.specs.Char.{encode_utf8}
 use Rattle.std.proofs.lemmas.Str.{chars-nil}
 use Rattle.qvt_base.specs.declared.numbers.Place.{Place}
 use Rattle.qvt_lexer.specs.Pieces.{IsNext}
-use Rattle.qvt_lexer.specs.Division.{Position, Written, Divides, TokenData, token_of, tokens_of, place_after, past, Reads, start_at, first_place}
-use Rattle.qvt_lexer.specs.Scan.{scan_at}
+use Rattle.qvt_lexer.specs.Division.{Written, Divides, TokenData, tokens_of, place_after}
 use Rattle.qvt_lexer.specs.declared.token.TokenKind.{TokenKind}
-use Rattle.qvt_lexer.specs.declared.scan.Piece as lexer
 use Rattle.qvt_lexer.specs.declared.scan.Piece.TheVariants.{Blank, Token}
 use Rattle.qvt_parser_grammar.specs.Tokens.{Tok}
 use Rattle.qvt_parser_grammar.specs.declared.token.Class.{Class}
@@ -23,7 +19,7 @@ use Rattle.qvt_printed_tokens.specs.Spelled.{unplaced, all_spelled}
 use Rattle.qvt_printed_tokens.proofs.Decoded.{one_byte, chars_before}
 use Rattle.qvt_printed_tokens.proofs.Scans.{next_of, scan_space, scan_line}
 use Rattle.qvt_printed_tokens.proofs.Spelt.{Kind, Named, Number, Text, kind_of}
-use Rattle.qvt_printed_tokens.proofs.Meets.{Gap, Free, Held, Tied, Opened, after, fits, tightly, First, FirstBy, ends, is_brace, is_apart, joined_ends, apart_ends, brace_first}
+use Rattle.qvt_printed_tokens.proofs.Meets.{Gap, Free, Tied, after, fits, tightly, First, FirstBy, ends, joined_ends, apart_ends, brace_first}
 use Rattle.qvt_printed_tokens.proofs.Sound.{Sound, is_spelled, stands}
 use Rattle.qvt_printed_tokens.proofs.Pieces.{EndsBy, EndsAt, Again}
 use Rattle.qvt_printed_tokens.proofs.Reread.{plain_again, name_again, integer_again, quoted_again}
@@ -83,8 +79,8 @@ module _ (k : Kind) (u text : List ℕ) (t : Tok) (a : Again k u text t) where
   token_more rest ts e l =
       subst (λ z. Lexed z (t ∷ ts)) (sym (text_chars rest))
       (lexed_token (a.first ∷ (a.more ++ chars rest)) (a.first ∷ a.more) (chars rest) a.kind t ts
-          (next_of a.first (a.more ++ chars rest) (a.first ∷ a.more) (chars rest) (Token a.kind) (a.scan (chars rest) e) refl)
-          (λ at. ap (λ z. bare_said (record { kind = a.kind; place = at; text = z })) (sym a.bytes) ∙ a.says at) l)
+      (next_of a.first (a.more ++ chars rest) (a.first ∷ a.more) (chars rest) (Token a.kind) (a.scan (chars rest) e) refl)
+      (λ at. ap (λ z. bare_said (record { kind = a.kind; place = at; text = z })) (sym a.bytes) ∙ a.says at) l)
 
   -- what ends before its first character ends before it
   ends_before : (b : Class) → ((d : ℕ) → FirstBy k u d → ends b d ≡ true) → (rest : List ℕ) → EndsAt b (chars (text ++ rest))

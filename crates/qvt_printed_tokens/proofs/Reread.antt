@@ -1,21 +1,18 @@
 -- How each piece is read again: its characters, what the scan gives for them, and what the token says.
-use Rattle.std.proofs.Common.{◌≡◌, ℕ, ℤ, pos, ◌^◌, ◌<◌, ◌≤◌, List, [], ◌∷◌, ◌++◌, length, Bool, true, false, cond, ◌||◌, ◌&&◌, ◌==◌, not, nat_le, refl, sym, ap, ◌∙◌, subst, arith, rules, append_assoc, length-append, flat_map, Ok, codes}
+use Rattle.std.proofs.Common.{◌≡◌, ℕ, ℤ, pos, ◌^◌, ◌<◌, ◌≤◌, List, [], ◌∷◌, ◌++◌, length, Bool, true, false, cond, ◌||◌, ◌==◌, refl, sym, ap, ◌∙◌, subst, arith, rules, append_assoc, flat_map, Ok, codes}
 use Rattle.std.proofs.lemmas.Bool.Decides.{nat_tests}
 use Rattle.std.specs.Str.{chars, encode_utf8_all}
-use Rattle.std.specs.Char.{encode_utf8, is_ascii_alphabetic, is_ascii_alphanumeric}
+use Rattle.std.specs.Char.{is_ascii_alphabetic, is_ascii_alphanumeric}
 use Rattle.std.specs.Fmt.{decimal}
 use Rattle.std.proofs.lemmas.Fmt.{digits_decimal, digits_value-decimal, decimal_nonempty}
 use Rattle.std.proofs.lemmas.Str.{encodes-append, encode_ascii, length-le-encodes}
 use Rattle.std.proofs.lemmas.Str.Parse.{IsNumeralModel, numerals_by_fold}
 use Rattle.unicode_ident.specs.Ident.{is_xid_start}
 use Rattle.unicode_ident.proofs.IdentLemmas.{is_xid_start-ascii, is_xid_continue-ascii}
-use Rattle.qvt_base.specs.declared.numbers.Place.{Place}
 use Rattle.qvt_lexer.specs.Characters.{is_start, is_continue, is_digit, is_single, is_double}
 use Rattle.qvt_lexer.specs.Words.{is_reserved}
 use Rattle.qvt_lexer.specs.Literals.{every, begins, number_after, number_of, greatest_number, Content}
-use Rattle.qvt_lexer.specs.Pieces.{IsPlainName}
-use Rattle.qvt_lexer.specs.Scan.{scan_at, word_kind}
-use Rattle.qvt_lexer.specs.declared.token.TokenKind.{TokenKind}
+use Rattle.qvt_lexer.specs.Scan.{scan_at}
 use Rattle.qvt_lexer.specs.declared.token.TokenKind.TheVariants as kinds
 use Rattle.qvt_lexer.specs.declared.scan.Piece.TheVariants.{Token}
 use Rattle.qvt_lexer.proofs.Runs.{and_left, and_right, and_both}
@@ -23,16 +20,15 @@ use Rattle.qvt_parser_grammar.specs.Tokens.{Tok}
 use Rattle.qvt_parser_grammar.specs.Readers.{nowhere}
 use Rattle.qvt_parser_grammar.specs.declared.token.Class.{Class}
 use Rattle.qvt_parser_grammar.specs.declared.token.Class.TheVariants as class
-use Rattle.qvt_parser_tokens.specs.Said.{said, name_of, string_of}
+use Rattle.qvt_parser_tokens.specs.Said.{string_of}
 use Rattle.qvt_parser_tokens.specs.WordClasses.{word_class}
 use Rattle.qvt_parser_tokens.specs.SymbolClasses.{symbol_class}
 use Rattle.qvt_parser_tokens.proofs.Numerals.{digits_are}
 use Rattle.qvt_printer_layout.specs.Spellings.{spelling}
 use Rattle.qvt_printer_layout.specs.Layout.{name_text, escaped, quoted, integer_text}
-use Rattle.qvt_printed_tokens.specs.Spelled.{unplaced}
 use Rattle.qvt_printed_tokens.proofs.Decoded.{chars_of}
-use Rattle.qvt_printed_tokens.proofs.Scans.{scan_escaped, scan_number, scan_string, scan_single_last, scan_single, scan_double, sign_ends}
-use Rattle.qvt_printed_tokens.proofs.Spelt.{Kind, Named, Number, Text, Reserved, One, Two, kind_of, is_letter, IsWord, IsOne, IsTwo, Spelt, spelt}
+use Rattle.qvt_printed_tokens.proofs.Scans.{scan_escaped, scan_number, scan_string, scan_single_last, scan_single, scan_double}
+use Rattle.qvt_printed_tokens.proofs.Spelt.{Kind, Named, Number, Text, Reserved, One, Two, kind_of, is_letter, Spelt, spelt}
 use Rattle.qvt_printed_tokens.proofs.Quotes.{is_low, low_bytes, shown, all_shown_bytes, shown_content, content_is}
 use Rattle.qvt_printed_tokens.proofs.Sound.{IsName, IsText, IsSmall, is_spelled}
 use Rattle.qvt_printed_tokens.proofs.Pieces.{EndsBy, Again, digits_not, plain_scan, plain_name, held_name}

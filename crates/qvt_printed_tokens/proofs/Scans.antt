@@ -1,18 +1,16 @@
 -- What the scan of a text gives at the front of which a piece stands that ends there.
-use Rattle.std.proofs.Common.{◌≡◌, ℕ, ◌≤◌, List, [], ◌∷◌, ◌++◌, Bool, true, false, cond, ◌||◌, ◌&&◌, ◌==◌, not, nat_le, refl, sym, ap, ◌∙◌, subst, arith, append_assoc, drop, Ok, Err, IsTrue}
+use Rattle.std.proofs.Common.{◌≡◌, ℕ, ◌≤◌, List, [], ◌∷◌, ◌++◌, Bool, true, false, cond, ◌||◌, ◌&&◌, ◌==◌, not, nat_le, refl, sym, ap, ◌∙◌, subst, arith, drop, Ok, Err}
 use Rattle.std.proofs.lemmas.Bool.Decides.{nat_tests}
 use Rattle.std.proofs.lemmas.List.{append_cancel_right}
-use Rattle.std.specs.Str.{encode_utf8_all}
 use Rattle.qvt_lexer.specs.Characters.{is_blank, is_start, is_continue, is_digit, is_quote, is_in_line, is_single, is_double, is_line_comment, is_block_comment}
-use Rattle.qvt_lexer.specs.Words.{is_reserved}
-use Rattle.qvt_lexer.specs.Literals.{run, skip, every, begins, number_of, greatest_number, after_close, item_at, Content}
+use Rattle.qvt_lexer.specs.Literals.{skip, every, begins, number_of, greatest_number, after_close, item_at, Content}
 use Rattle.qvt_lexer.specs.Pieces.{IsNext}
 use Rattle.qvt_lexer.specs.Scan.{Scan, IsScanOf, scan_at, is_apostrophe, word_kind, word_at, closed_at, escaped_at, number_at, content_end, quoted_at, string_at, block_at, single_at, mark_at}
 use Rattle.qvt_lexer.specs.declared.token.TokenKind.TheVariants.{Name, Integer, Str, Symbol}
 use Rattle.qvt_lexer.specs.declared.token.LexKind.TheVariants.{BadChar, BadEscape, NumberTooLarge}
 use Rattle.qvt_lexer.specs.declared.scan.Piece.{Piece}
 use Rattle.qvt_lexer.specs.declared.scan.Piece.TheVariants.{Blank, Comment, Token}
-use Rattle.qvt_lexer.proofs.Runs.{and_left, and_both, no_both, run_only}
+use Rattle.qvt_lexer.proofs.Runs.{and_left, and_both, run_only}
 use Rattle.qvt_lexer.proofs.Sorts.{Sort, AtBlank, AtStart, AtDigit, AtQuote, AtMark, IsOf, same_sort, is_mark, quote_continues}
 use Rattle.qvt_lexer.proofs.Scanned.{scan_is}
 use Rattle.qvt_lexer.proofs.Items.{end_past, end_here}
@@ -88,13 +86,14 @@ pub scan_number : (c : ℕ) (w rest : List ℕ) → is_digit c ≡ true → ever
 scan_number c w rest first goes stops small =
     let only = run_only is_digit (c ∷ (w ++ rest)) (c ∷ w) rest refl (and_both (is_digit c) (every is_digit w) first goes) stops in
     by_choices c (w ++ rest) false false false true (is_quote c) (apart_sorts AtDigit AtBlank c (is_blank c) (λ h. h) first (λ e. cc)) (no_line c first)
-        (apart_sorts AtDigit AtStart c (is_start c) (λ h. h) first (λ e. cc)) first refl
+    (apart_sorts AtDigit AtStart c (is_start c) (λ h. h) first (λ e. cc)) first refl
     ∙ (λ i. cond (nat_le (number_of (sym only.0 i)) greatest_number) (Ok (Token Integer, sym only.1 i)) (Err (NumberTooLarge, c ∷ (w ++ rest))))
     ∙ ap (λ b. cond b (Ok (Token Integer, rest)) (Err (NumberTooLarge, c ∷ (w ++ rest)))) (within (number_of (c ∷ w)) small) where
       no_line : (c : ℕ) → is_digit c ≡ true → (c == 95 && begins is_apostrophe (w ++ rest)) ≡ false
       no_line c h = ap (λ b. b && begins is_apostrophe (w ++ rest)) (no_underscore c h) where
         no_underscore : (c : ℕ) → is_digit c ≡ true → (c == 95) ≡ false
         no_underscore c h = grind (arith, nat_tests)
+
       within : (n : ℕ) → n ≤ greatest_number → nat_le n greatest_number ≡ true
       within n h = grind (arith, nat_tests)
 
@@ -112,9 +111,10 @@ scan_string vs cs rest h =
 pub scan_mark : (c : ℕ) (cs : List ℕ) → is_mark c ≡ true → scan_at c cs ≡ mark_at c cs
 scan_mark c cs mark =
     by_choices c cs false false false false false (apart_sorts AtMark AtBlank c (is_blank c) (λ h. h) mark (λ e. cc)) (no_line c mark) (apart_sorts AtMark AtStart c (is_start c) (λ h. h) mark (λ e. cc))
-        (apart_sorts AtMark AtDigit c (is_digit c) (λ h. h) mark (λ e. cc)) (apart_sorts AtMark AtQuote c (is_quote c) (λ h. h) mark (λ e. cc)) where
+    (apart_sorts AtMark AtDigit c (is_digit c) (λ h. h) mark (λ e. cc)) (apart_sorts AtMark AtQuote c (is_quote c) (λ h. h) mark (λ e. cc)) where
       no_underscore : (c : ℕ) → is_mark c ≡ true → (c == 95) ≡ false
       no_underscore c h = grind (arith, nat_tests)
+
       no_line : (c : ℕ) → is_mark c ≡ true → (c == 95 && begins is_apostrophe cs) ≡ false
       no_line c h = ap (λ b. b && begins is_apostrophe cs) (no_underscore c h)
 
@@ -122,6 +122,7 @@ pub scan_double : (c d : ℕ) (rest : List ℕ) → is_double c d ≡ true → s
 scan_double c d rest h = scan_mark c (d ∷ rest) (marked c d h) ∙ ap (λ b. cond b (Ok (Token Symbol, rest)) (others c d)) h where
   marked : (c d : ℕ) → is_double c d ≡ true → is_mark c ≡ true
   marked c d h = grind (arith, nat_tests)
+
   others : ℕ → ℕ → Scan
   others c d = cond (is_line_comment c d) (Ok (Comment, skip is_in_line rest)) (cond (is_block_comment c d) (block_at (c ∷ d ∷ rest) (after_close rest)) (single_at c (d ∷ rest)))
 
@@ -150,9 +151,12 @@ module _ (c : ℕ) (single : is_single c ≡ true) where
         no_or true b h = absurd cc
         no_or false true h = absurd cc
         no_or false false h = (refl, refl)
+
         neither : (is_double c d ≡ false) × (is_line_comment c d ≡ false)
         neither = no_or (is_double c d) (is_line_comment c d) ends
+
         no_slash : (c : ℕ) → is_single c ≡ true → (c == 47) ≡ false
         no_slash c h = grind (arith, nat_tests)
+
         no_block : (c : ℕ) → is_single c ≡ true → is_block_comment c d ≡ false
         no_block c h = ap (λ b. b && (d == 42)) (no_slash c h)

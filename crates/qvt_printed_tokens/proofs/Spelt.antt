@@ -1,6 +1,6 @@
 -- How each token is spelled: of letters, or by one or two signs; and which characters end it.
-use Rattle.std.proofs.Common.{◌≡◌, ℕ, List, [], ◌∷◌, Bool, true, false, ◌||◌, ◌&&◌, ◌==◌, not, nat_le, refl}
-use Rattle.qvt_lexer.specs.Characters.{is_start, is_continue, is_digit, is_single, is_double}
+use Rattle.std.proofs.Common.{◌≡◌, ℕ, [], ◌∷◌, Bool, true, ◌||◌, ◌&&◌, nat_le, refl}
+use Rattle.qvt_lexer.specs.Characters.{is_single, is_double}
 use Rattle.qvt_lexer.specs.Words.{is_reserved}
 use Rattle.qvt_lexer.specs.Literals.{every, begins}
 use Rattle.qvt_parser_grammar.specs.declared.token.Class.{Class}
@@ -8,7 +8,6 @@ use Rattle.qvt_parser_grammar.specs.declared.token.Class.TheVariants as class
 use Rattle.qvt_parser_tokens.specs.WordClasses.{word_class}
 use Rattle.qvt_parser_tokens.specs.SymbolClasses.{symbol_class}
 use Rattle.qvt_printer_layout.specs.Spellings.{spelling}
-use Rattle.qvt_printed_tokens.proofs.Scans.{sign_ends}
 
 pub data Kind : Type 0 where
   Named : Kind

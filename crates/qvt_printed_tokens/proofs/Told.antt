@@ -1,16 +1,15 @@
 -- What the tokens of a text tell: names are names, texts are characters, numbers are not too large.
-use Rattle.std.proofs.Common.{◌≡◌, ℕ, zero, suc, ℤ, pos, ◌<◌, ◌≤◌, List, [], ◌∷◌, ◌++◌, length, Bool, true, false, cond, ◌||◌, ◌&&◌, ◌==◌, nat_le, inl, inr, refl, sym, ap, ◌∙◌, subst, arith, map, append_assoc, append-nil, IsTrue}
+use Rattle.std.proofs.Common.{◌≡◌, ℕ, pos, ◌<◌, List, [], ◌∷◌, ◌++◌, length, Bool, true, false, ◌||◌, ◌&&◌, ◌==◌, nat_le, inl, inr, refl, sym, ap, ◌∙◌, subst, arith, map, IsTrue}
 use Rattle.std.proofs.lemmas.Bool.Decides.{nat_tests}
 use Rattle.std.proofs.lemmas.Slice.Eq.{bytes_eq-Decides}
 use Rattle.std.specs.Str.{chars, encode_utf8_all, bytes_eq}
-use Rattle.std.specs.List.{list_any}
 use Rattle.std.proofs.lemmas.Str.{encodes-append, encode_ascii, length-le-encodes}
 use Rattle.qvt_base.specs.declared.numbers.Place.{Place}
-use Rattle.qvt_lexer.specs.Characters.{is_start, is_continue, is_single, is_double}
+use Rattle.qvt_lexer.specs.Characters.{is_single, is_double}
 use Rattle.qvt_lexer.specs.Words.{is_reserved, is_among, words_a_c, words_d_f, words_h_im, words_in, words_l_n, words_o_q, words_r_s, words_t_x}
-use Rattle.qvt_lexer.specs.Literals.{every, number_of, greatest_number}
+use Rattle.qvt_lexer.specs.Literals.{number_of}
 use Rattle.qvt_lexer.specs.Pieces.{IsPlainName, IsSymbol, Spells}
-use Rattle.qvt_lexer.specs.Division.{Position, Written, Divides, TokenData, token_of, tokens_of, place_after, start_at}
+use Rattle.qvt_lexer.specs.Division.{Written, Divides, TokenData, token_of, tokens_of, place_after, start_at}
 use Rattle.qvt_lexer.specs.declared.token.TokenKind.{TokenKind}
 use Rattle.qvt_lexer.specs.declared.token.TokenKind.TheVariants as kinds
 use Rattle.qvt_lexer.specs.declared.scan.Piece as lexer
@@ -60,6 +59,7 @@ untold t h = other (code_of t.class) refl h where
   } where
     differs : (m : ℕ) → m < 3 → is_other n ≡ true → (n == m) ≡ true → ⊥
     differs m lt a b = absurd (grind (arith, nat_tests))
+
     no : (m : ℕ) → m < 3 → (false || (code_of t.class == m)) ≡ true → ⊥
     no m lt k = differs m lt h (ap (λ z. z == m) (sym e) ∙ k)
 
