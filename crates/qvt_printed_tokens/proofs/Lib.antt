@@ -4,7 +4,9 @@ pub mod Spelt
 pub mod Meets
 pub mod Sound
 pub mod Tails
-pub mod Pieces
+pub mod Tests
+pub mod Again
+pub mod Names
 pub mod Quotes
 pub mod Reread
 pub mod Relexed

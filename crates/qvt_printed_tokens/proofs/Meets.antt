@@ -9,7 +9,8 @@ use Rattle.qvt_parser_grammar.specs.declared.token.Class.{Class}
 use Rattle.qvt_parser_grammar.specs.declared.token.Class.TheVariants as class
 use Rattle.qvt_printer_layout.specs.Spellings.{spelling}
 use Rattle.qvt_printer_layout.specs.Layout.{is_joined, is_tight_before, is_open_round}
-use Rattle.qvt_printed_tokens.proofs.Scans.{sign_ends, never_true}
+use Rattle.qvt_printed_tokens.proofs.Tests.{never_true, is_number}
+use Rattle.qvt_printed_tokens.proofs.Scans.{sign_ends}
 use Rattle.qvt_printed_tokens.proofs.Spelt.{Kind, Named, Number, Text, Reserved, One, Two, kind_of, is_letter}
 
 -- what a token leaves: after `.`, `:` and `-` some signs may not follow, after a brace a tight token may
@@ -150,9 +151,7 @@ digit_dot : (d : ℕ) → is_digit d ≡ true → (d == 46) ≡ false
 digit_dot d h = grind (arith, nat_tests)
 
 start_dot : (d : ℕ) → is_start d ≡ true → (d == 46) ≡ false
-start_dot d h = never_true (d == 46) (λ e. let k : d ≡ 46 = is_number d 46 e in let z = same_sort AtStart AtMark d h (ap (λ x. is_single x || (x == 33) || (x == 47)) k) in cc) where
-  is_number : (a b : ℕ) → (a == b) ≡ true → a ≡ b
-  is_number a b e = grind (arith, nat_tests)
+start_dot d h = never_true (d == 46) (λ e. let k : d ≡ 46 = is_number d 46 e in let z = same_sort AtStart AtMark d h (ap (λ x. is_single x || (x == 33) || (x == 47)) k) in cc)
 
 dot_first : (c : Class) (d : ℕ) → not (is_follower c) ≡ true → First c d → (d == 46) ≡ false
 dot_first class.Name d f k = start_dot d k

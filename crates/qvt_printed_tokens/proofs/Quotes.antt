@@ -10,6 +10,7 @@ use Rattle.qvt_lexer.proofs.Runs.{and_left, and_right}
 use Rattle.qvt_parser_tokens.specs.Said.{content}
 use Rattle.qvt_parser_tokens.proofs.Contents.{content_item, content_none}
 use Rattle.qvt_printer_layout.specs.Layout.{digit, numbered, escaped}
+use Rattle.qvt_printed_tokens.proofs.Tests.{is_number}
 
 unfoldable pub is_low : ℕ → Bool
 is_low c = nat_lt c 128
@@ -34,9 +35,6 @@ form_of c last = form (c == 92) (c == 39) (c == 8) (c == 9) (c == 10) (c == 12) 
 -- the characters that stand for one
 abbrev pub shown : ℕ → List ℕ
 shown c = form_of c (c ∷ [])
-
-is_number : (a b : ℕ) → (a == b) ≡ true → a ≡ b
-is_number a b h = grind (arith, nat_tests)
 
 other_small : (c : ℕ) → (nat_lt c 32 || c == 127) ≡ true → c < 128
 other_small c h = grind (arith, nat_tests)

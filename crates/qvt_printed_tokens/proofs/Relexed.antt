@@ -1,5 +1,5 @@
 -- The text of sound pieces is divided into blanks and their tokens.
-use Rattle.std.proofs.Common.{◌≡◌, ℕ, zero, suc, ◌+◌, ◌-◌, List, [], ◌∷◌, ◌++◌, Bool, true, false, cond, ◌&&◌, ◌⊎◌, inl, inr, refl, sym, ap, ◌∙◌, subst, arith, map, replicate, Option, Some, None, codes}
+use Rattle.std.proofs.Common.{◌≡◌, ℕ, zero, suc, ◌+◌, ◌-◌, List, [], ◌∷◌, ◌++◌, Bool, true, false, cond, ◌⊎◌, inl, inr, refl, sym, ap, ◌∙◌, subst, arith, map, replicate, Option, Some, None, codes}
 use Rattle.std.specs.Str.{chars, encode_utf8_all}
 use Rattle.std.proofs.lemmas.Str.{chars-nil}
 use Rattle.qvt_base.specs.declared.numbers.Place.{Place}
@@ -16,12 +16,13 @@ use Rattle.qvt_printer_layout.specs.declared.piece.Piece.TheVariants.{Plain, Nam
 use Rattle.qvt_printer_layout.specs.Spellings.{spelling}
 use Rattle.qvt_printer_layout.specs.Layout.{blank_before, is_joined, name_text, integer_text, quoted}
 use Rattle.qvt_printed_tokens.specs.Spelled.{unplaced, all_spelled}
+use Rattle.qvt_printed_tokens.proofs.Tests.{both}
 use Rattle.qvt_printed_tokens.proofs.Decoded.{one_byte, chars_before}
 use Rattle.qvt_printed_tokens.proofs.Scans.{next_of, scan_space, scan_line}
 use Rattle.qvt_printed_tokens.proofs.Spelt.{Kind, Named, Number, Text, kind_of}
 use Rattle.qvt_printed_tokens.proofs.Meets.{Gap, Free, Tied, after, fits, tightly, First, FirstBy, ends, joined_ends, apart_ends, brace_first}
 use Rattle.qvt_printed_tokens.proofs.Sound.{Sound, is_spelled, stands}
-use Rattle.qvt_printed_tokens.proofs.Pieces.{EndsBy, EndsAt, Again}
+use Rattle.qvt_printed_tokens.proofs.Again.{EndsBy, EndsAt, Again}
 use Rattle.qvt_printed_tokens.proofs.Reread.{plain_again, name_again, integer_again, quoted_again}
 use Rattle.qvt_printed_tokens.proofs.Tails.{tail}
 
@@ -97,16 +98,10 @@ ends_nothing : (a : Class) → EndsAt a (chars [])
 ends_nothing a = subst (EndsAt a) (sym chars-nil) tt
 
 stands_spelled : (s : Gap) (c : Class) → stands s c ≡ true → is_spelled (kind_of c) ≡ true
-stands_spelled s c h = both (is_spelled (kind_of c)) (fits s c) h where
-  both : (x y : Bool) → (x && y) ≡ true → x ≡ true
-  both true y h = refl
-  both false y h = absurd cc
+stands_spelled s c h = (both (is_spelled (kind_of c)) (fits s c) h).0
 
 stands_fits : (s : Gap) (c : Class) → stands s c ≡ true → fits s c ≡ true
-stands_fits s c h = both (is_spelled (kind_of c)) (fits s c) h where
-  both : (x y : Bool) → (x && y) ≡ true → y ≡ true
-  both true y h = h
-  both false y h = absurd cc
+stands_fits s c h = (both (is_spelled (kind_of c)) (fits s c) h).1
 
 -- after a token that nothing separates from the rest
 abbrev Bare : Gap → Class → Type 0

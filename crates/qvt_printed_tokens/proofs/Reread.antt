@@ -5,7 +5,7 @@ use Rattle.std.specs.Str.{chars, encode_utf8_all}
 use Rattle.std.specs.Char.{is_ascii_alphabetic, is_ascii_alphanumeric}
 use Rattle.std.specs.Fmt.{decimal}
 use Rattle.std.proofs.lemmas.Fmt.{digits_decimal, digits_value-decimal, decimal_nonempty}
-use Rattle.std.proofs.lemmas.Str.{encodes-append, encode_ascii, length-le-encodes}
+use Rattle.std.proofs.lemmas.Str.{encodes-append, encode_ascii}
 use Rattle.std.proofs.lemmas.Str.Parse.{IsNumeralModel, numerals_by_fold}
 use Rattle.unicode_ident.specs.Ident.{is_xid_start}
 use Rattle.unicode_ident.proofs.IdentLemmas.{is_xid_start-ascii, is_xid_continue-ascii}
@@ -26,12 +26,14 @@ use Rattle.qvt_parser_tokens.specs.SymbolClasses.{symbol_class}
 use Rattle.qvt_parser_tokens.proofs.Numerals.{digits_are}
 use Rattle.qvt_printer_layout.specs.Spellings.{spelling}
 use Rattle.qvt_printer_layout.specs.Layout.{name_text, escaped, quoted, integer_text}
+use Rattle.qvt_printed_tokens.proofs.Tests.{single_small, double_small}
 use Rattle.qvt_printed_tokens.proofs.Decoded.{chars_of}
 use Rattle.qvt_printed_tokens.proofs.Scans.{scan_escaped, scan_number, scan_string, scan_single_last, scan_single, scan_double}
 use Rattle.qvt_printed_tokens.proofs.Spelt.{Kind, Named, Number, Text, Reserved, One, Two, kind_of, is_letter, Spelt, spelt}
 use Rattle.qvt_printed_tokens.proofs.Quotes.{is_low, low_bytes, shown, all_shown_bytes, shown_content, content_is}
 use Rattle.qvt_printed_tokens.proofs.Sound.{IsName, IsText, IsSmall, is_spelled}
-use Rattle.qvt_printed_tokens.proofs.Pieces.{EndsBy, Again, digits_not, plain_scan, plain_name, held_name}
+use Rattle.qvt_printed_tokens.proofs.Again.{EndsBy, Again, digits_not, plain_scan}
+use Rattle.qvt_printed_tokens.proofs.Names.{plain_name, held_name, held_bytes, some_name}
 
 abbrev token : Class → List ℕ → ℤ → Tok
 token c text number = record { class = c; text = text; number = number; place = nowhere }
@@ -84,12 +86,6 @@ word_again c (x ∷ u) some all reserved same =
     }
 
 -- signs
-single_small : (x : ℕ) → is_single x ≡ true → x < 128
-single_small x h = grind (arith, nat_tests)
-
-double_small : (x y : ℕ) → is_double x y ≡ true → (x < 128) × (y < 128)
-double_small x y h = (grind (arith, nat_tests), grind (arith, nat_tests))
-
 single_scan : (x : ℕ) → is_single x ≡ true → (rest : List ℕ) → EndsBy One (x ∷ []) rest → scan_at x rest ≡ Ok (Token kinds.Symbol, rest)
 single_scan x h [] e = scan_single_last x h
 single_scan x h (d ∷ rest) e = scan_single x h d rest e
@@ -134,25 +130,15 @@ module _ (c : ℕ) (w : List ℕ) (starts : is_start c ≡ true) (goes : every i
   abbrev named : List ℕ
   named = encode_utf8_all (c ∷ w)
 
-  some_name : 0 < length named
-  some_name = let k = length-le-encodes (c ∷ w) in omega (arith, k)
-
-  held_bytes : codes "_'" ++ (named ++ codes "'") ≡ encode_utf8_all (95 ∷ 39 ∷ ((c ∷ w) ++ 39 ∷ []))
-  held_bytes =
-      ap (λ z. 95 ∷ 39 ∷ z) ((λ i. named ++ sym (last_bytes) i) ∙ sym (encodes-append (c ∷ w) (39 ∷ [])))
-      ∙ sym (λ i. encode_ascii 95 (omega arith) i ++ (encode_ascii 39 (omega arith) i ++ encode_utf8_all ((c ∷ w) ++ 39 ∷ []))) where
-        last_bytes : encode_utf8_all (39 ∷ []) ≡ 39 ∷ []
-        last_bytes = ap (λ z. z ++ []) (encode_ascii 39 (omega arith))
-
   name_by : (b : Bool) → is_reserved named ≡ b → Again Named [] (cond b (codes "_'" ++ (named ++ codes "'")) named) (token class.Name named (pos 0))
   name_by true h = record {
     first = 95;
     more = 39 ∷ ((c ∷ w) ++ 39 ∷ []);
-    bytes = held_bytes;
+    bytes = sym (held_bytes (c ∷ w));
     begins = refl;
     kind = kinds.Name;
     scan = λ rest e. ap (λ z. scan_at 95 (39 ∷ c ∷ z)) (append_assoc w (39 ∷ []) rest) ∙ scan_escaped c w rest starts goes;
-    says = λ at i. token class.Name (held_name named some_name i) (pos 0);
+    says = λ at i. token class.Name (held_name named (some_name (c ∷ w) (c, w, refl, starts, goes)) i) (pos 0);
   }
   name_by false h = record {
     first = c;

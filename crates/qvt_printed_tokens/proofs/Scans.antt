@@ -14,11 +14,7 @@ use Rattle.qvt_lexer.proofs.Runs.{and_left, and_both, run_only}
 use Rattle.qvt_lexer.proofs.Sorts.{Sort, AtBlank, AtStart, AtDigit, AtQuote, AtMark, IsOf, same_sort, is_mark, quote_continues}
 use Rattle.qvt_lexer.proofs.Scanned.{scan_is}
 use Rattle.qvt_lexer.proofs.Items.{end_past, end_here}
-
--- a test that leads to nothing is not passed
-pub never_true : (b : Bool) → (b ≡ true → ⊥) → b ≡ false
-never_true true h = absurd (h refl)
-never_true false h = refl
+use Rattle.qvt_printed_tokens.proofs.Tests.{never_true, neither}
 
 -- what the scan finds is the next piece, and these are its characters
 pub next_of : (c : ℕ) (cs u r : List ℕ) (p : Piece) → scan_at c cs ≡ Ok (p, r) → c ∷ cs ≡ u ++ r → IsNext (c ∷ cs) p u r
@@ -145,15 +141,10 @@ module _ (c : ℕ) (single : is_single c ≡ true) where
   pub scan_single : (d : ℕ) (rest : List ℕ) → sign_ends (c ∷ []) d ≡ true → scan_at c (d ∷ rest) ≡ Ok (Token Symbol, d ∷ rest)
   scan_single d rest ends =
       scan_mark c (d ∷ rest) marked
-      ∙ (λ i. cond (neither.0 i) (Ok (Token Symbol, rest)) (cond (neither.1 i) (Ok (Comment, skip is_in_line rest)) (cond (no_block c single i) (block_at (c ∷ d ∷ rest) (after_close rest)) (single_at c (d ∷ rest)))))
+      ∙ (λ i. cond (no_double.0 i) (Ok (Token Symbol, rest)) (cond (no_double.1 i) (Ok (Comment, skip is_in_line rest)) (cond (no_block c single i) (block_at (c ∷ d ∷ rest) (after_close rest)) (single_at c (d ∷ rest)))))
       ∙ singly (d ∷ rest) where
-        no_or : (a b : Bool) → not (a || b) ≡ true → (a ≡ false) × (b ≡ false)
-        no_or true b h = absurd cc
-        no_or false true h = absurd cc
-        no_or false false h = (refl, refl)
-
-        neither : (is_double c d ≡ false) × (is_line_comment c d ≡ false)
-        neither = no_or (is_double c d) (is_line_comment c d) ends
+        no_double : (is_double c d ≡ false) × (is_line_comment c d ≡ false)
+        no_double = neither (is_double c d) (is_line_comment c d) ends
 
         no_slash : (c : ℕ) → is_single c ≡ true → (c == 47) ≡ false
         no_slash c h = grind (arith, nat_tests)

@@ -1,14 +1,14 @@
 -- What the tokens of a text tell: names are names, texts are characters, numbers are not too large.
-use Rattle.std.proofs.Common.{◌≡◌, ℕ, pos, ◌<◌, List, [], ◌∷◌, ◌++◌, length, Bool, true, false, ◌||◌, ◌&&◌, ◌==◌, nat_le, inl, inr, refl, sym, ap, ◌∙◌, subst, arith, map, IsTrue}
+use Rattle.std.proofs.Common.{◌≡◌, ℕ, pos, ◌<◌, List, [], ◌∷◌, ◌++◌, Bool, true, false, ◌||◌, ◌&&◌, ◌==◌, nat_le, inl, inr, refl, sym, ap, ◌∙◌, subst, arith, map, IsTrue}
 use Rattle.std.proofs.lemmas.Bool.Decides.{nat_tests}
 use Rattle.std.proofs.lemmas.Slice.Eq.{bytes_eq-Decides}
 use Rattle.std.specs.Str.{chars, encode_utf8_all, bytes_eq}
-use Rattle.std.proofs.lemmas.Str.{encodes-append, encode_ascii, length-le-encodes}
+use Rattle.std.proofs.lemmas.Str.{encode_ascii}
 use Rattle.qvt_base.specs.declared.numbers.Place.{Place}
 use Rattle.qvt_lexer.specs.Characters.{is_single, is_double}
 use Rattle.qvt_lexer.specs.Words.{is_reserved, is_among, words_a_c, words_d_f, words_h_im, words_in, words_l_n, words_o_q, words_r_s, words_t_x}
 use Rattle.qvt_lexer.specs.Literals.{number_of}
-use Rattle.qvt_lexer.specs.Pieces.{IsPlainName, IsSymbol, Spells}
+use Rattle.qvt_lexer.specs.Pieces.{IsSymbol, Spells}
 use Rattle.qvt_lexer.specs.Division.{Written, Divides, TokenData, token_of, tokens_of, place_after, start_at}
 use Rattle.qvt_lexer.specs.declared.token.TokenKind.{TokenKind}
 use Rattle.qvt_lexer.specs.declared.token.TokenKind.TheVariants as kinds
@@ -20,8 +20,9 @@ use Rattle.qvt_parser_tokens.specs.Said.{said, name_of, string_of}
 use Rattle.qvt_parser_tokens.specs.Text.{HasTokens}
 use Rattle.qvt_parser_tokens.specs.WordClasses.{word_class}
 use Rattle.qvt_parser_tokens.specs.SymbolClasses.{symbol_class}
+use Rattle.qvt_printed_tokens.proofs.Tests.{both, is_number, single_small, double_small}
 use Rattle.qvt_printed_tokens.proofs.Decoded.{chars_of}
-use Rattle.qvt_printed_tokens.proofs.Pieces.{plain_name, held_name}
+use Rattle.qvt_printed_tokens.proofs.Names.{plain_name, held_name, held_bytes, some_name}
 use Rattle.qvt_printed_tokens.proofs.Sound.{IsName, IsText, IsSmall}
 
 pub record IsTold (t : Tok) : Type 0 where
@@ -40,10 +41,6 @@ told_front (t ∷ u) v h = (h.0, told_front u v h.1)
 pub told_back : (u v : List Tok) → AllTold (u ++ v) → AllTold v
 told_back [] v h = h
 told_back (t ∷ u) v h = told_back u v h.1
-
-told_append : (u v : List Tok) → AllTold u → AllTold v → AllTold (u ++ v)
-told_append [] v h k = k
-told_append (t ∷ u) v h k = (h.0, told_append u v h.1 k)
 
 -- words and symbols are none of the three
 abbrev is_other : ℕ → Bool
@@ -75,10 +72,6 @@ abbrev all_words : List (List ℕ) → Bool
 all_words [] = true
 all_words (w ∷ ws) = is_word w && all_words ws
 
-both : (a b : Bool) → (a && b) ≡ true → (a ≡ true) × (b ≡ true)
-both true b h = (refl, h)
-both false b h = absurd cc
-
 among_words : (ws : List (List ℕ)) (u : List ℕ) → all_words ws ≡ true → is_among u ws ≡ true → is_word u ≡ true
 among_words [] u h k = absurd cc
 among_words (w ∷ ws) u h k =
@@ -109,9 +102,6 @@ among c (m ∷ ms) = (c == m) || among c ms
 abbrev all_signs : List ℕ → Bool
 all_signs [] = true
 all_signs (m ∷ ms) = is_sign (m ∷ []) && all_signs ms
-
-is_number : (a b : ℕ) → (a == b) ≡ true → a ≡ b
-is_number a b h = grind (arith, nat_tests)
 
 among_signs : (ms : List ℕ) (c : ℕ) → all_signs ms ≡ true → among c ms ≡ true → is_sign (c ∷ []) ≡ true
 among_signs [] c h k = absurd cc
@@ -150,12 +140,6 @@ double_sign c d h =
     (or_out goal (pair_of c d 58 58) (pair_of c d 46 46) (pair_sign c d 58 58 refl) (pair_sign c d 46 46 refl))
     (pair_sign c d 45 62 refl)) (pair_sign c d 61 61 refl)) (pair_sign c d 60 62 refl)) (pair_sign c d 33 61 refl)) (pair_sign c d 60 61 refl)) (pair_sign c d 62 61 refl)) (pair_sign c d 58 61 refl)) (pair_sign c d 43 61 refl) h
 
-single_small : (c : ℕ) → is_single c ≡ true → c < 128
-single_small c h = grind (arith, nat_tests)
-
-double_small : (c d : ℕ) → is_double c d ≡ true → (c < 128) × (d < 128)
-double_small c d h = (grind (arith, nat_tests), grind (arith, nat_tests))
-
 symbol_sign : (u : List ℕ) → IsSymbol u → is_sign (encode_utf8_all u) ≡ true
 symbol_sign u (inl (c, e, h)) =
     ap (λ z. is_sign (encode_utf8_all z)) e ∙ ap (λ z. is_sign (z ++ [])) (encode_ascii c (single_small c h)) ∙ single_sign c h
@@ -163,19 +147,10 @@ symbol_sign u (inr (c, d, e, h)) =
     let small = double_small c d h in
     ap (λ z. is_sign (encode_utf8_all z)) e ∙ (λ i. is_sign (encode_ascii c small.0 i ++ (encode_ascii d small.1 i ++ []))) ∙ double_sign c d h
 
--- a name in quotes
-held_bytes : (v : List ℕ) → encode_utf8_all (95 ∷ 39 ∷ (v ++ 39 ∷ [])) ≡ 95 ∷ 39 ∷ (encode_utf8_all v ++ 39 ∷ [])
-held_bytes v =
-    (λ i. encode_ascii 95 (omega arith) i ++ (encode_ascii 39 (omega arith) i ++ encodes-append v (39 ∷ []) i))
-    ∙ (λ i. 95 ∷ 39 ∷ (encode_utf8_all v ++ (encode_ascii 39 (omega arith) i ++ [])))
-
-some_name : (v : List ℕ) → IsPlainName v → 0 < length (encode_utf8_all v)
-some_name v (c, w, e, starts, goes) = let k = length-le-encodes v in omega (arith, k, ap length e)
-
 told_token : (kind : TokenKind) (u : List ℕ) (at : Place) → Spells (Token kind) u → IsTold (said (record { kind = kind; place = at; text = encode_utf8_all u }))
 told_token kinds.Name u at (inl (n, r)) = record { name = λ _. (u, plain_name u n, n); integer = λ k. absurd cc; text = λ k. absurd cc }
 told_token kinds.Name u at (inr (v, e, n)) = record {
-  name = λ _. (v, ap (λ z. name_of z) (ap encode_utf8_all e ∙ held_bytes v) ∙ held_name (encode_utf8_all v) (some_name v n), n);
+  name = λ _. (v, ap name_of (ap encode_utf8_all e ∙ held_bytes v) ∙ held_name (encode_utf8_all v) (some_name v n), n);
   integer = λ k. absurd cc;
   text = λ k. absurd cc;
 }
