@@ -1,0 +1,28 @@
+-- What tests on characters tell.
+use Rattle.std.proofs.Common.{◌≡◌, ℕ, ◌<◌, Bool, true, false, ◌||◌, ◌&&◌, ◌==◌, not, refl, arith}
+use Rattle.std.proofs.lemmas.Bool.Decides.{nat_tests}
+use Rattle.qvt_lexer.specs.Characters.{is_single, is_double}
+
+-- a test that leads to nothing is not passed
+pub never_true : (b : Bool) → (b ≡ true → ⊥) → b ≡ false
+never_true true h = absurd (h refl)
+never_true false h = refl
+
+pub both : (a b : Bool) → (a && b) ≡ true → (a ≡ true) × (b ≡ true)
+both true b h = (refl, h)
+both false b h = absurd cc
+
+pub neither : (a b : Bool) → not (a || b) ≡ true → (a ≡ false) × (b ≡ false)
+neither true b h = absurd cc
+neither false true h = absurd cc
+neither false false h = (refl, refl)
+
+pub is_number : (a b : ℕ) → (a == b) ≡ true → a ≡ b
+is_number a b h = grind (arith, nat_tests)
+
+-- signs are ASCII
+pub single_small : (c : ℕ) → is_single c ≡ true → c < 128
+single_small c h = grind (arith, nat_tests)
+
+pub double_small : (c d : ℕ) → is_double c d ≡ true → (c < 128) × (d < 128)
+double_small c d h = (grind (arith, nat_tests), grind (arith, nat_tests))

@@ -1,0 +1,4 @@
+//! The tokens of a printed text.
+#![tactic(auto)]
+
+pub mod law;

@@ -1,0 +1,2 @@
+//! The tree that the tokens of a printed text are read as.
+#![tactic(auto)]
