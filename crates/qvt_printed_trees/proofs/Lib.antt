@@ -1,0 +1,13 @@
+pub mod Classes
+pub mod Spelling
+pub mod Again
+pub mod AgainNames
+pub mod Forms
+pub mod FormReads
+pub mod ChainReads
+pub mod LeadReads
+pub mod AgainExprs
+pub mod AgainSteps
+pub mod Good
+pub mod Read
+pub mod AgainStmts
