@@ -11,3 +11,5 @@ pub mod AgainSteps
 pub mod Good
 pub mod Read
 pub mod AgainStmts
+pub mod Statements
+pub mod AgainNesting
