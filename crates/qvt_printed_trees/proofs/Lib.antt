@@ -13,3 +13,7 @@ pub mod Read
 pub mod AgainStmts
 pub mod Statements
 pub mod AgainNesting
+pub mod UnitBase
+pub mod AgainUnits
+pub mod AgainClauses
+pub mod AgainMappings

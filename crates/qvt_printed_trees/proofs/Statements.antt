@@ -229,7 +229,7 @@ module _ {i : Nested} (h : AgainNested i) where
   unfolding statement semicolon
   var_good ts s rd = ended_good i s (var_printed ts s rd) (λ o us e. inr (inr (inr (inl ((erase_stmt s, Some (plain class.Semicolon)), (all_spelled (unended s), semi, e, (again_var_stmt h).again ts s rd o, inl (plain class.Semicolon, (refl, refl), refl)), refl)))))
 
-  return_good : (ts : List Tok) (s : StmtTerm) → (return_stmt i).reads ts s → GoodStmt i s
+  pub return_good : (ts : List Tok) (s : StmtTerm) → (return_stmt i).reads ts s → GoodStmt i s
   unfolding statement semicolon
   return_good ts s rd = ended_good i s (return_printed ts s rd) (λ o us e. inr (inr (inr (inr (inl ((erase_stmt s, Some (plain class.Semicolon)), (all_spelled (unended s), semi, e, (again_return_stmt h).again ts s rd o, inl (plain class.Semicolon, (refl, refl), refl)), refl))))))
 
