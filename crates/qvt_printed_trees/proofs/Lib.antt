@@ -17,3 +17,4 @@ pub mod UnitBase
 pub mod AgainUnits
 pub mod AgainClauses
 pub mod AgainMappings
+pub mod AgainModule
