@@ -75,7 +75,7 @@ abbrev call_ok : List ExprTerm ⊎ List Named → Type 0
 call_ok (inl es) = ArePrintableExprs (exprs_of es)
 call_ok (inr ns) = ⊤
 
-abbrev bare_call : List ExprTerm ⊎ List Named → List ExprTerm ⊎ List Named
+abbrev pub bare_call : List ExprTerm ⊎ List Named → List ExprTerm ⊎ List Named
 bare_call (inl es) = inl (map erase_expr es)
 bare_call (inr ns) = inr (map bare_named ns)
 
@@ -87,7 +87,7 @@ call_same : (n : Named) (x : List ExprTerm ⊎ List Named) → all_spelled (prin
 call_same n (inl es) = refl
 call_same n (inr ns) = refl
 
-call_bare : (n : Named) (x : List ExprTerm ⊎ List Named) → erase_expr (named_expr_of (n, x)) ≡ named_expr_of (bare_named n, bare_call x)
+pub call_bare : (n : Named) (x : List ExprTerm ⊎ List Named) → erase_expr (named_expr_of (n, x)) ≡ named_expr_of (bare_named n, bare_call x)
 call_bare n (inl es) = ap (λ z. CallExpr n.text z nowhere) (bare_exprs es)
 call_bare n (inr ns) = ap PathExpr (bare_path_of n ns)
 
@@ -99,7 +99,7 @@ range_same : (x : Option RangeTerm) → all_spelled (print.range (optional_range
 range_same None = refl
 range_same (Some r) = refl
 
-range_bare : (x : Option RangeTerm) → erase_range (optional_range x) ≡ optional_range (option_map erase_range x)
+pub range_bare : (x : Option RangeTerm) → erase_range (optional_range x) ≡ optional_range (option_map erase_range x)
 range_bare None = refl
 range_bare (Some r) = refl
 
@@ -109,20 +109,20 @@ condition_same (Some e) = refl
 
 -- filters
 
-abbrev FilterHead : Type 0
+abbrev pub FilterHead : Type 0
 FilterHead = Option (List ℕ) × TypeTerm
 
 abbrev filter_pieces : FilterHead → List Piece
 filter_pieces x = print.named_if x.0 ++ print.type_of x.1
 
-abbrev bare_filter : FilterHead → FilterHead
+abbrev pub bare_filter : FilterHead → FilterHead
 bare_filter x = (x.0, erase_type x.1)
 
 abbrev named_pieces : TypeTerm ⊎ List Named → List Piece
 named_pieces (inl t) = print.typed t
 named_pieces (inr ns) = print.more_names (texts ns)
 
-abbrev bare_either : TypeTerm ⊎ List Named → TypeTerm ⊎ List Named
+abbrev pub bare_either : TypeTerm ⊎ List Named → TypeTerm ⊎ List Named
 bare_either (inl t) = inl (erase_type t)
 bare_either (inr ns) = inr (map bare_named ns)
 
@@ -130,7 +130,7 @@ filter_same : (n : Named) (x : TypeTerm ⊎ List Named) → all_spelled (filter_
 filter_same n (inl t) = refl
 filter_same n (inr ns) = refl
 
-filter_bare : (n : Named) (x : TypeTerm ⊎ List Named) → bare_filter (named_type (n, x)) ≡ named_type (bare_named n, bare_either x)
+pub filter_bare : (n : Named) (x : TypeTerm ⊎ List Named) → bare_filter (named_type (n, x)) ≡ named_type (bare_named n, bare_either x)
 filter_bare n (inl t) = refl
 filter_bare n (inr ns) = λ j. (None, PathType (bare_path_of n ns j))
 
@@ -151,7 +151,7 @@ word_kept _ = refl
 word_again : (c : Class) → resolve_word c ≡ resolve_word (resolve_class c)
 word_again c = sym (word_kept (resolve_word c))
 
-abbrev Resolved : Type 0
+abbrev pub Resolved : Type 0
 Resolved = ResolveWord × (Option PathTree × Option FilterTerm)
 
 abbrev resolved_ok : Resolved → Type 0
@@ -160,7 +160,7 @@ resolved_ok x = IsPrintableFilter (optional_filter x.1.1)
 abbrev resolved_pieces : Resolved → List Piece
 resolved_pieces x = piece.Plain (words.resolve_word x.0) ∷ print.in_round (print.resolved x.1.0 (optional_filter x.1.1))
 
-abbrev bare_resolved : Resolved → Resolved
+abbrev pub bare_resolved : Resolved → Resolved
 bare_resolved x = (x.0, (erase_optional_path x.1.0, option_map erase_filter x.1.1))
 
 all_same : (f : FilterTerm) → print.resolved None f ≡ print.filter f
@@ -188,11 +188,11 @@ late_same : {X : Type 0} (late : Option X) (r : List Piece) → print.late_if (i
 late_same None r = refl
 late_same (Some t) r = refl
 
-there_same : {A B : Type 0} (f : A → B) (x : Option A) → is_there x ≡ is_there (option_map f x)
+pub there_same : {A B : Type 0} (f : A → B) (x : Option A) → is_there x ≡ is_there (option_map f x)
 there_same f None = refl
 there_same f (Some a) = refl
 
-filter_erased : (x : Option FilterTerm) → erase_filter (optional_filter x) ≡ optional_filter (option_map erase_filter x)
+pub filter_erased : (x : Option FilterTerm) → erase_filter (optional_filter x) ≡ optional_filter (option_map erase_filter x)
 filter_erased None = refl
 filter_erased (Some f) = refl
 

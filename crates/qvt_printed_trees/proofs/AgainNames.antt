@@ -133,7 +133,7 @@ abbrev either_pieces : PathTree ⊎ List Named → List Piece
 either_pieces (inl p) = Plain class.Colon ∷ print.path p
 either_pieces (inr ns) = print.more_names (texts ns)
 
-abbrev either_bare : PathTree ⊎ List Named → PathTree ⊎ List Named
+abbrev pub either_bare : PathTree ⊎ List Named → PathTree ⊎ List Named
 either_bare (inl p) = inl (erase_path p)
 either_bare (inr ns) = inr (map bare_named ns)
 
@@ -141,7 +141,7 @@ named_pieces : (n : Named) (x : PathTree ⊎ List Named) → all_spelled (head_p
 named_pieces n (inl p) = refl
 named_pieces n (inr ns) = refl
 
-named_bare : (n : Named) (x : PathTree ⊎ List Named) → bare_head (named_head (n, x)) ≡ named_head (bare_named n, either_bare x)
+pub named_bare : (n : Named) (x : PathTree ⊎ List Named) → bare_head (named_head (n, x)) ≡ named_head (bare_named n, either_bare x)
 named_bare n (inl p) = refl
 named_bare n (inr ns) = λ i. (None, record { names = n.text ∷ sym (bare_texts ns) i; place = nowhere })
 

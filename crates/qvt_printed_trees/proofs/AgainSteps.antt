@@ -30,7 +30,7 @@ args_same : (x : Option (List ExprTerm)) → all_spelled (print.args_if (optiona
 args_same None = refl
 args_same (Some es) = refl
 
-args_bare : (x : Option (List ExprTerm)) → erase_args (optional_args x) ≡ optional_args (option_map (map erase_expr) x)
+pub args_bare : (x : Option (List ExprTerm)) → erase_args (optional_args x) ≡ optional_args (option_map (map erase_expr) x)
 args_bare None = refl
 args_bare (Some es) = ap SomeArgs (bare_exprs es)
 
@@ -50,12 +50,12 @@ accumulator_same : (x : Option AccumulatorTerm) → all_spelled (print.accumulat
 accumulator_same None = refl
 accumulator_same (Some a) = refl
 
-accumulator_bare : (x : Option AccumulatorTerm) → erase_accumulator (optional_accumulator x) ≡ optional_accumulator (option_map erase_accumulator x)
+pub accumulator_bare : (x : Option AccumulatorTerm) → erase_accumulator (optional_accumulator x) ≡ optional_accumulator (option_map erase_accumulator x)
 accumulator_bare None = refl
 accumulator_bare (Some a) = refl
 
 -- the body of an arrow: a head with its body, or arguments
-abbrev Body : Type 0
+abbrev pub Body : Type 0
 Body = HeadTerm × List ExprTerm
 
 abbrev body_ok : Body → Type 0
@@ -64,10 +64,10 @@ body_ok x = IsPrintableHead x.0 × ArePrintableExprs (exprs_of x.1)
 abbrev body_pieces : Body → List Piece
 body_pieces x = print.head x.0 ++ print.exprs false (exprs_of x.1)
 
-abbrev bare_body : Body → Body
+abbrev pub bare_body : Body → Body
 bare_body x = (erase_head x.0, map erase_expr x.1)
 
-abbrev HeadRest : Type 0
+abbrev pub HeadRest : Type 0
 HeadRest = Option TypeTerm × (Option AccumulatorTerm × ExprTerm)
 
 abbrev rest_ok : HeadRest → Type 0
@@ -76,7 +76,7 @@ rest_ok x = IsPrintableAccumulator (optional_accumulator x.1.0) × IsPrintableEx
 abbrev rest_pieces : HeadRest → List Piece
 rest_pieces x = print.typed_if x.0 ++ (print.accumulator (optional_accumulator x.1.0) ++ (piece.Plain class.Bar ∷ print.expr x.1.1))
 
-abbrev bare_rest : HeadRest → HeadRest
+abbrev pub bare_rest : HeadRest → HeadRest
 bare_rest x = (option_map erase_type x.0, (option_map erase_accumulator x.1.0, erase_expr x.1.1))
 
 headed_spelled : (n : List ℕ) (place : Place) (x : HeadRest) → all_spelled (body_pieces (headed n place x)) ≡ plain_name n ∷ all_spelled (rest_pieces x)
@@ -85,7 +85,7 @@ headed_spelled n place x =
     let e = print.expr x.1.1 in
     ap (λ z. plain_name n ∷ all_spelled z) (append_assoc (print.typed_if x.0) (a ++ print.one class.Bar) (e ++ []) ∙ ap (λ z. print.typed_if x.0 ++ z) (append_assoc a (print.one class.Bar) (e ++ []) ∙ ap (λ z. a ++ (piece.Plain class.Bar ∷ z)) (append-nil e)))
 
-headed_bare : (n : List ℕ) (place : Place) (x : HeadRest) → bare_body (headed n place x) ≡ headed n nowhere (bare_rest x)
+pub headed_bare : (n : List ℕ) (place : Place) (x : HeadRest) → bare_body (headed n place x) ≡ headed n nowhere (bare_rest x)
 headed_bare n place x = λ j. (HeadOf n (type_bare x.0 j) (accumulator_bare x.1.0 j) nowhere, erase_expr x.1.1 ∷ [])
 
 pub same_front : (ps qs rs : List Piece) → all_spelled ps ≡ all_spelled qs → all_spelled (ps ++ rs) ≡ all_spelled (qs ++ rs)

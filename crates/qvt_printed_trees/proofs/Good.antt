@@ -27,7 +27,7 @@ abbrev pub GoodSteps : Nested → List StepTerm → Type 0
 GoodSteps i [] = ⊤
 GoodSteps i (s ∷ ss) = GoodStep i s × GoodSteps i ss
 
-bare_steps : (ss : List StepTerm) → steps_of (map erase_step ss) ≡ erase_steps (steps_of ss)
+pub bare_steps : (ss : List StepTerm) → steps_of (map erase_step ss) ≡ erase_steps (steps_of ss)
 bare_steps [] = refl
 bare_steps (s ∷ ss) = ap (MoreSteps (erase_step s)) (bare_steps ss)
 
@@ -45,7 +45,7 @@ joined_list : (xs ys : List StepTerm) → steps_of (xs ++ ys) ≡ more_steps (st
 joined_list [] ys = refl
 joined_list (x ∷ xs) ys = ap (MoreSteps x) (joined_list xs ys)
 
-joined_bare : (old : StepTerms) (ss : List StepTerm) → more_steps (erase_steps old) (map erase_step ss) ≡ erase_steps (more_steps old ss)
+pub joined_bare : (old : StepTerms) (ss : List StepTerm) → more_steps (erase_steps old) (map erase_step ss) ≡ erase_steps (more_steps old ss)
 joined_bare NoSteps ss = bare_steps ss
 joined_bare (MoreSteps s old) ss = ap (MoreSteps (erase_step s)) (joined_bare old ss)
 

@@ -18,3 +18,5 @@ pub mod AgainUnits
 pub mod AgainClauses
 pub mod AgainMappings
 pub mod AgainModule
+pub mod Lifts
+pub mod LiftsExprs

@@ -69,7 +69,7 @@ again_operator (suc (suc (suc (suc (suc (suc zero)))))) lt = again_word class.Xo
 again_operator (suc (suc (suc (suc (suc (suc (suc zero))))))) lt = again_word class.ImpliesWord class.ImpliesWord sign_class refl _ (refl, is_itself class.ImpliesWord)
 again_operator (suc (suc (suc (suc (suc (suc (suc (suc k)))))))) lt = absurd (omega arith)
 
-bare_links : (ls : List LinkTerm) → links_of (map erase_link ls) ≡ erase_links (links_of ls)
+pub bare_links : (ls : List LinkTerm) → links_of (map erase_link ls) ≡ erase_links (links_of ls)
 bare_links [] = refl
 bare_links (l ∷ ls) = ap (MoreLinks (erase_link l)) (bare_links ls)
 
