@@ -1,0 +1,2 @@
+//! How deep printed texts are nested.
+#![tactic(auto)]
