@@ -1,4 +1,4 @@
-use Rattle.std.proofs.Common.{◌≡◌, ◌×◌, false, take}
+use Rattle.std.proofs.Common.{◌≡◌, false, take}
 use Rattle.qvt_slots.specs.Repeats.{repeats}
 use Rattle.qvt_slots.proofs.Noting.{Noted}
 use Rattle.qvt_slots.proofs.values.many_repeat.Given as goal
