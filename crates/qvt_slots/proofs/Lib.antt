@@ -9,6 +9,9 @@ pub mod Objects
 pub mod Holds
 pub mod Pushed
 pub mod Repeating
+pub mod Noting
+pub mod Numbered
+pub mod Keyed
 pub mod Cyclic
 pub mod Walks
 mod Vectors

@@ -8,3 +8,6 @@ pub mod Members
 pub mod Assign
 pub mod Walk
 pub mod Writes
+pub mod Noted
+pub mod Numbers
+pub mod Listed

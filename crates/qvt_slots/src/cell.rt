@@ -1,3 +1,5 @@
+ghost use Rattle.std.specs.Prelude.{◌≡◌, ◌&&◌, not};
+
 use qvt_base::numbers::{ClassNo, FeatureNo, Oid};
 use qvt_value::value::Values;
 
@@ -24,4 +26,16 @@ pub struct Cell {
     pub extent: u32,
     pub slots: Vec<Values>,
     pub holder: Option<Holder>,
+}
+
+/// What is known where one more slot gets a list, which crosses to another extent or does not, and
+/// holds a value twice in a unique slot or does not.
+pub fn marks_placed(marks: Marks, crosses: bool, twice: bool) -> Marks
+    ensures distinct { result.distinct ≡ (marks.distinct && not twice) }
+    ensures own { result.own ≡ (marks.own && not crosses) }
+{
+    Marks {
+        distinct: marks.distinct && !twice,
+        own: marks.own && !crosses,
+    }
 }

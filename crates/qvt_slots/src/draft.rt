@@ -1,4 +1,4 @@
-use qvt_base::lists::OidList;
+use crate::object_list::Objects;
 use qvt_base::numbers::{FeatureNo, Oid};
 
 /// A change of a slot: the objects that its new list adds, and those that it removes.
@@ -6,6 +6,6 @@ use qvt_base::numbers::{FeatureNo, Oid};
 pub struct Draft {
     pub object: Oid,
     pub feature: FeatureNo,
-    pub added: OidList,
-    pub removed: OidList,
+    pub added: Objects,
+    pub removed: Objects,
 }

@@ -1,14 +1,14 @@
 //! Lists of values, and the objects in them.
 
-ghost use Rattle.std.specs.Prelude.{◌≡◌, ◌++◌, ◌∷◌, [], length, IfOk, OnOk, OnErr};
+ghost use Rattle.std.specs.Prelude.{◌≡◌, IfOk, if◌then◌else◌};
 ghost use Rattle.std.specs.List.{list_any};
 ghost use Rattle.qvt_slots.specs.Slots.{has, is_object};
-ghost use Rattle.qvt_slots.specs.Change.{among, objects_beyond};
+ghost use Rattle.qvt_slots.specs.Change.{among};
 ghost use Rattle.qvt_slots.specs.Repeats.{same_literal, is_bool_of, is_int_of, is_text_of, is_literal_of, same_value, repeats, without_repeats};
 
+use crate::seen::Seen;
 use qvt_base::copied::Copied;
 use qvt_base::list_fault::ListFault;
-use qvt_base::lists::OidList;
 use qvt_base::numbers::Oid;
 use qvt_base::seq::Seq;
 use qvt_value::value::{LiteralRef, Value, Values};
@@ -26,35 +26,6 @@ pub fn is_among(objects: &[Oid], object: Oid) -> bool
     ensures { result ≡ among objects.now object.0 }
 {
     objects.iter().any(|other| other.0 == object.0)
-}
-
-/// Puts the objects of the list last that the other list does not hold.
-pub fn push_beyond(list: &mut OidList, others: &[Value], values: &[Value]) -> Result<(), ListFault>
-    ensures ok { OnOk result (list.new ≡ list.old ++ objects_beyond others.now values.now) }
-{
-    for value in values {
-        push_value_beyond(list, others, value)?;
-    }
-    Ok(())
-}
-
-/// Puts the value last, if it is an object that the list does not hold.
-pub fn push_value_beyond(
-    list: &mut OidList,
-    others: &[Value],
-    value: &Value,
-) -> Result<(), ListFault>
-    ensures ok { OnOk result (list.new ≡ list.old ++ objects_beyond others.now (value.now ∷ [])) }
-{
-    match value {
-        Value::Obj(object) => {
-            if !holds(others, *object) {
-                list.push(*object)?;
-            }
-            Ok(())
-        }
-        _ => Ok(()),
-    }
 }
 
 fn same_literal(a: LiteralRef, b: LiteralRef) -> bool
@@ -135,8 +106,10 @@ fn stands_in(value: &Value, values: &[Value]) -> bool
     values.iter().any(|other| same_value(value, other))
 }
 
-/// Whether a value stands twice in the list.
-pub fn repeats(values: &[Value]) -> bool
+/// How many values are looked at pair by pair. More are noted by hash.
+const FEW: usize = 8;
+
+fn few_repeat(values: &[Value]) -> bool
     ensures { result ≡ repeats values.now }
 {
     for (i, value) in values.iter().enumerate() {
@@ -146,6 +119,28 @@ pub fn repeats(values: &[Value]) -> bool
         }
     }
     false
+}
+
+fn many_repeat(alloc: Global, values: &[Value]) -> Result<bool, ListFault>
+    ensures { IfOk result (λ twice. twice ≡ repeats values.now) }
+{
+    let mut seen = Seen::new(alloc);
+    for value in values {
+        if seen.note(value)? {
+            return Ok(true);
+        }
+    }
+    Ok(false)
+}
+
+/// Whether a value stands twice in the list.
+pub fn repeats(alloc: Global, values: &[Value]) -> Result<bool, ListFault>
+    ensures { IfOk result (λ twice. twice ≡ repeats values.now) }
+{
+    if values.len() <= FEW {
+        return Ok(few_repeat(values));
+    }
+    many_repeat(alloc, values)
 }
 
 /// Copies of the values, in order.
@@ -159,8 +154,7 @@ pub fn copied(alloc: Global, values: &[Value]) -> Result<Values, ListFault>
     Ok(copies)
 }
 
-/// Copies of the values, with the first of equal values kept.
-pub fn without_repeats(alloc: Global, values: &[Value]) -> Result<Values, ListFault>
+fn few_without_repeats(alloc: Global, values: &[Value]) -> Result<Values, ListFault>
     ensures { IfOk result (λ list. list ≡ without_repeats values.now) }
 {
     let mut list = Seq::new(alloc);
@@ -170,4 +164,38 @@ pub fn without_repeats(alloc: Global, values: &[Value]) -> Result<Values, ListFa
         }
     }
     Ok(list)
+}
+
+fn many_without_repeats(alloc: Global, values: &[Value]) -> Result<Values, ListFault>
+    ensures { IfOk result (λ list. list ≡ without_repeats values.now) }
+{
+    let mut seen = Seen::new(alloc);
+    let mut list = Seq::new(alloc);
+    for value in values {
+        if !seen.note(value)? {
+            list.push(value.copy(alloc)?)?;
+        }
+    }
+    Ok(list)
+}
+
+/// Copies of the values, with the first of equal values kept.
+pub fn without_repeats(alloc: Global, values: &[Value]) -> Result<Values, ListFault>
+    ensures { IfOk result (λ list. list ≡ without_repeats values.now) }
+{
+    if values.len() <= FEW {
+        return few_without_repeats(alloc, values);
+    }
+    many_without_repeats(alloc, values)
+}
+
+/// The new list of a slot: in a unique one the first of equal values is kept.
+pub fn new_list(alloc: Global, unique: bool, values: &[Value]) -> Result<Values, ListFault>
+    ensures { IfOk result (λ list. list ≡ (if unique then without_repeats values.now else values.now)) }
+{
+    if unique {
+        without_repeats(alloc, values)
+    } else {
+        copied(alloc, values)
+    }
 }

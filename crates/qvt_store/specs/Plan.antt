@@ -6,14 +6,9 @@ use Rattle.qvt_value.specs.declared.value.Value.{Value}
 use Rattle.qvt_metamodel.specs.Metamodels.{is_containment, is_opposite}
 use Rattle.qvt_slots.specs.declared.commit.Write.{Write}
 use Rattle.qvt_slots.specs.Slots.{has}
+pub use Rattle.qvt_slots.specs.Listed.{is_write_of, listed}
 use Rattle.qvt_slots.specs.Change.{Change, among, is_here, is_container, slot_elsewhere}
 use Rattle.qvt_slots.specs.Contents.{Contents, is_slot, slot_of}
-
-abbrev pub is_write_of : ℕ → ℕ → Write → Bool
-is_write_of x f w = (x == w.object.0) && (f == w.feature.0)
-
-abbrev pub listed : List Write → ℕ → ℕ → Bool
-listed ws x f = list_any (is_write_of x f) ws
 
 -- a write of what the change gives
 pub record IsRight (s : Contents) (c : Change) (w : Write) : Type 0 where

@@ -21,6 +21,7 @@ use qvt_slots::commit::{Write, settle};
 use qvt_slots::draft::Draft;
 use qvt_slots::fault::StoreFault;
 use qvt_slots::features::{is_beyond, is_containment, is_linked, upper};
+use qvt_slots::object_list::Objects;
 use qvt_slots::put::push_value;
 use qvt_slots::values::{copied, holds, holds_value};
 use qvt_value::value::{Value, Values};
@@ -126,8 +127,8 @@ impl Store {
         ensures refused { IfErr result (λ fault. fault ≢ StoreFault.NoMemory → append self.old object.0 feature.0 _value.now ≡ Err fault) }
         ensures err { OnErr result (self.new ≡ self.old) }
     {
-        let added = Seq::new(alloc);
-        let removed = Seq::new(alloc);
+        let added = Objects::new(alloc);
+        let removed = Objects::new(alloc);
         let draft = Draft {
             object,
             feature,
@@ -181,7 +182,7 @@ impl Store {
 
     /// Whether the slot holds the object. A containment is not looked through: the object knows its
     /// holder.
-    fn holds_item(&self, object: Oid, feature: FeatureNo, item: Oid) -> bool
+    pub(super) fn holds_item(&self, object: Oid, feature: FeatureNo, item: Oid) -> bool
         ensures { result ≡ has (slot_of self.now object.0 feature.0) item.0 }
     {
         if is_containment(&self.metas, feature) {
@@ -222,6 +223,22 @@ impl Store {
             }
             _ => Ok(()),
         }
+    }
+
+    /// The value, if it is an object that the slot does not hold.
+    fn added(
+        &self,
+        alloc: Global,
+        object: Oid,
+        feature: FeatureNo,
+        value: &Value,
+    ) -> Result<Objects, ListFault>
+        ensures { IfOk result (λ added. added ≡ objects_beyond (slot_of self.now object.0 feature.0) (value.now ∷ [])) }
+    {
+        let mut list = Seq::new(alloc);
+        self.push_added(&mut list, object, feature, value)?;
+        let added = Objects::of(alloc, list)?;
+        Ok(added)
     }
 
     /// Where the value is put last in a slot whose changes touch no other.
@@ -289,13 +306,12 @@ impl Store {
         ensures refused { IfErr result (λ fault. fault ≢ StoreFault.NoMemory → append self.old object.0 feature.0 value.now ≡ Err fault) }
         ensures err { OnErr result (self.new ≡ self.old) }
     {
-        let mut added = Seq::new(alloc);
-        self.push_added(&mut added, object, feature, value)?;
+        let added = self.added(alloc, object, feature, value)?;
         let draft = Draft {
             object,
             feature,
             added,
-            removed: Seq::new(alloc),
+            removed: Objects::new(alloc),
         };
         let Some(count) = self.list(object, feature).len().checked_add(1) else {
             return Err(StoreFault::NoMemory);

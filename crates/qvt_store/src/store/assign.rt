@@ -1,10 +1,9 @@
 //! Changes of slots, with all that follows for the other slots.
 
-ghost use Rattle.std.specs.Prelude.{◌≡◌, ◌≢◌, ◌++◌, ◌&&◌, ◌||◌, not, Ok, Err, if◌then◌else◌, IfOk, IfErr, OnOk, OnErr};
+ghost use Rattle.std.specs.Prelude.{◌≡◌, ◌≢◌, ◌++◌, ◌&&◌, ◌||◌, not, Ok, Err, IfOk, IfErr, OnOk, OnErr};
 ghost use Rattle.qvt_slots.specs.Change.{is_linked, objects_beyond};
 ghost use Rattle.qvt_slots.specs.Contents.{slot_of, with_slot};
 ghost use Rattle.qvt_metamodel.specs.Metamodels.{shape_of};
-ghost use Rattle.qvt_slots.specs.Repeats.{without_repeats};
 ghost use Rattle.qvt_slots.specs.Assign.{assign, change_to, store_after};
 ghost use Rattle.qvt_slots.specs.Types.{IsAssignable, IsAttributeChange};
 ghost use Rattle.qvt_slots.specs.Writes.{released_by, released_of};
@@ -21,18 +20,24 @@ use qvt_slots::commit::{Write, settle};
 use qvt_slots::draft::Draft;
 use qvt_slots::fault::StoreFault;
 use qvt_slots::features::{is_containment, is_linked, is_unique};
+use qvt_slots::object_list::{beyond, push_beyond};
 use qvt_slots::put::put;
-use qvt_slots::values::{copied, push_beyond, without_repeats};
+use qvt_slots::values::new_list;
 use qvt_value::value::{Value, Values};
 use std::alloc::Global;
 
 impl Store {
     /// Puts the objects last that the write takes out of a containment slot, or leaves there.
-    fn release(&self, list: &mut OidList, write: &Write) -> Result<(), ListFault>
+    fn release(
+        &self,
+        alloc: Global,
+        list: &mut OidList,
+        write: &Write,
+    ) -> Result<(), ListFault>
         ensures { OnOk result (list.new ≡ list.old ++ released_by self.now.metas (slot_of self.now) write.now) }
     {
         if is_containment(&self.metas, write.feature) {
-            push_beyond(list, &[], self.list(write.object, write.feature))?;
+            push_beyond(alloc, list, &[], self.list(write.object, write.feature))?;
         }
         Ok(())
     }
@@ -51,7 +56,7 @@ impl Store {
             list.extend(draft.removed.as_slice())?;
         }
         for write in writes {
-            self.release(&mut list, write)?;
+            self.release(alloc, &mut list, write)?;
         }
         Ok(list)
     }
@@ -138,25 +143,5 @@ pub(super) fn marks_changed(
     Marks {
         distinct: marks.distinct,
         own: marks.own && (in_model || !is_linked(metas, feature)),
-    }
-}
-
-/// The objects of the list that the other list does not hold.
-fn beyond(alloc: Global, others: &[Value], values: &[Value]) -> Result<OidList, ListFault>
-    ensures { IfOk result (λ list. list ≡ objects_beyond others.now values.now) }
-{
-    let mut list = Seq::new(alloc);
-    push_beyond(&mut list, others, values)?;
-    Ok(list)
-}
-
-/// The new list of a slot: in a unique one the first of equal values is kept.
-fn new_list(alloc: Global, unique: bool, values: &[Value]) -> Result<Values, ListFault>
-    ensures { IfOk result (λ list. list ≡ (if unique then without_repeats values.now else values.now)) }
-{
-    if unique {
-        without_repeats(alloc, values)
-    } else {
-        copied(alloc, values)
     }
 }

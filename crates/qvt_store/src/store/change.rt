@@ -12,7 +12,7 @@ use qvt_base::numbers::{FeatureNo, Oid};
 use qvt_base::seq::Seq;
 use qvt_slots::draft::Draft;
 use qvt_slots::features::{is_container, is_containment, is_opposite, is_single};
-use qvt_slots::values::{holds, is_among};
+use qvt_slots::values::holds;
 use qvt_value::value::{Value, Values};
 use std::alloc::Global;
 
@@ -26,13 +26,13 @@ impl Store {
     fn is_added(&self, draft: &Draft, item: Oid) -> bool
         ensures { result ≡ is_added (drafted self.now draft.now) item.0 }
     {
-        is_among(draft.added.as_slice(), item)
+        draft.added.holds(item)
     }
 
     fn is_removed(&self, draft: &Draft, item: Oid) -> bool
         ensures { result ≡ is_removed (drafted self.now draft.now) item.0 }
     {
-        is_among(draft.removed.as_slice(), item)
+        draft.removed.holds(item)
     }
 
     fn adds_some(&self, draft: &Draft) -> bool
@@ -101,7 +101,7 @@ impl Store {
             None => false,
             Some(back) => {
                 if self.leaves(draft, item, back, object) {
-                    holds(self.list(item, back), object)
+                    self.holds_item(item, back, object)
                 } else {
                     false
                 }

@@ -1,15 +1,13 @@
 //! Slots loaded.
 
-ghost use Rattle.std.specs.Prelude.{◌≡◌, ◌&&◌, not, IfErr, OnOk, OnErr};
-ghost use Rattle.qvt_metamodel.specs.Metamodels.{shape_of};
-ghost use Rattle.qvt_slots.specs.Repeats.{repeats};
+ghost use Rattle.std.specs.Prelude.{◌≡◌, IfOk, IfErr, OnOk, OnErr};
 ghost use Rattle.qvt_slots.specs.Contents.{with_slot};
-ghost use Rattle.qvt_store.specs.Place.{IsPlaceable};
+ghost use Rattle.qvt_store.specs.Place.{IsPlaceable, places_twice};
 
 use crate::store::Store;
+use qvt_base::list_fault::ListFault;
 use qvt_base::numbers::{FeatureNo, Oid};
-use qvt_metas::metas::Metas;
-use qvt_slots::cell::Marks;
+use qvt_slots::cell::marks_placed;
 use qvt_slots::commit::{Write, hold_write};
 use qvt_slots::fault::StoreFault;
 use qvt_slots::features::is_unique;
@@ -33,28 +31,40 @@ impl Store {
         ensures refused { IfErr result (λ fault. fault ≡ StoreFault.NoMemory) }
         ensures err { OnErr result (self.new ≡ self.old) }
     {
+        let twice = self.places_twice(alloc, feature, values)?;
         let items = copied(alloc, values)?;
         let write = Write {
             object,
             feature,
             items,
         };
-        self.load(write);
+        self.load(write, twice);
         Ok(())
     }
 
-    fn load(&mut self, write: Write)
-        requires { IsPlaceable self.old write.object.0 write.feature.0 write.items }
+    /// Whether the slot is unique, and a value stands twice among these.
+    fn places_twice(
+        &self,
+        alloc: Global,
+        feature: FeatureNo,
+        values: &[Value],
+    ) -> Result<bool, ListFault>
+        ensures { IfOk result (λ twice. twice ≡ places_twice self.now.metas feature.0 values.now) }
+    {
+        if !is_unique(&self.metas, feature) {
+            return Ok(false);
+        }
+        let twice = repeats(alloc, values)?;
+        Ok(twice)
+    }
+
+    fn load(&mut self, write: Write, twice: bool)
+        requires placeable { IsPlaceable self.old write.object.0 write.feature.0 write.items }
+        requires twice { twice ≡ places_twice self.old.metas write.feature.0 write.items }
         ensures { self.new ≡ with_slot self.old write.object.0 write.feature.0 write.items }
     {
         let crosses = self.crosses(write.object, write.items.as_slice());
-        self.marks = marks_placed(
-            &self.metas,
-            self.marks,
-            crosses,
-            write.feature,
-            write.items.as_slice(),
-        );
+        self.marks = marks_placed(self.marks, crosses, twice);
         hold_write(&self.metas, &mut self.cells, &write);
         put(
             &self.metas,
@@ -63,22 +73,5 @@ impl Store {
             write.feature,
             write.items,
         );
-    }
-}
-
-/// What is known where one more slot gets this list, which crosses to another extent or does not.
-fn marks_placed(
-    metas: &Metas,
-    marks: Marks,
-    crosses: bool,
-    feature: FeatureNo,
-    values: &[Value],
-) -> Marks
-    ensures distinct { result.distinct ≡ (marks.distinct && not ((shape_of metas.now feature.0).unique && repeats values.now)) }
-    ensures own { result.own ≡ (marks.own && not crosses) }
-{
-    Marks {
-        distinct: marks.distinct && !(is_unique(metas, feature) && repeats(values)),
-        own: marks.own && !crosses,
     }
 }

@@ -5,7 +5,7 @@ ghost use Rattle.qvt_metamodel.specs.Metamodels.{is_containment, is_opposite};
 ghost use Rattle.qvt_slots.specs.Change.{among, is_container};
 ghost use Rattle.qvt_slots.specs.Contents.{slot_of, is_slot};
 ghost use Rattle.qvt_store.specs.Draft.{drafted};
-ghost use Rattle.qvt_store.specs.Plan.{listed, Plans, IsSlotOf, IsSlotOfSome, IsOwnerSlot, IsAround, IsAroundSome, IsHeldSlot, IsOppositeSlot, IsOpposed, IsRehoused, IsPlan};
+ghost use Rattle.qvt_store.specs.Plan.{Plans, IsSlotOf, IsSlotOfSome, IsOwnerSlot, IsAround, IsAroundSome, IsHeldSlot, IsOppositeSlot, IsOpposed, IsRehoused, IsPlan};
 ghost use Rattle.qvt_slots.specs.Slots.{has};
 ghost use Rattle.std.specs.Prelude.{ℕ};
 
@@ -15,6 +15,7 @@ use qvt_base::numbers::{FeatureNo, Oid};
 use qvt_slots::commit::Write;
 use qvt_slots::draft::Draft;
 use qvt_slots::features::{is_container, is_containment};
+use qvt_slots::planned::Planned;
 use qvt_slots::put::find_place;
 use qvt_value::value::Value;
 use std::alloc::Global;
@@ -31,17 +32,17 @@ impl Store {
     fn plan_slot(
         &self,
         alloc: Global,
-        writes: &mut Vec<Write>,
+        writes: &mut Planned,
         draft: &Draft,
         object: Oid,
         feature: FeatureNo,
     ) -> Result<(), ListFault>
-        ensures { OnOk result (Plans self.now (drafted self.now draft.now) writes.old.items writes.new.items (IsSlotOf object.0 feature.0)) }
+        ensures { OnOk result (Plans self.now (drafted self.now draft.now) writes.old writes.new (IsSlotOf object.0 feature.0)) }
     {
         if !self.is_slot(object, feature) || self.is_here(draft, object, feature) {
             return Ok(());
         }
-        if is_listed(writes.as_slice(), object, feature) {
+        if writes.holds(object, feature) {
             return Ok(());
         }
         let items = self.list_elsewhere(alloc, draft, object, feature)?;
@@ -50,9 +51,7 @@ impl Store {
             feature,
             items,
         };
-        let Ok(()) = writes.push(write) else {
-            return Err(ListFault::NoMemory);
-        };
+        writes.push(write)?;
         Ok(())
     }
 
@@ -60,12 +59,12 @@ impl Store {
     fn plan_each(
         &self,
         alloc: Global,
-        writes: &mut Vec<Write>,
+        writes: &mut Planned,
         draft: &Draft,
         objects: &[Oid],
         feature: FeatureNo,
     ) -> Result<(), ListFault>
-        ensures { OnOk result (Plans self.now (drafted self.now draft.now) writes.old.items writes.new.items (IsSlotOfSome objects.now feature.0)) }
+        ensures { OnOk result (Plans self.now (drafted self.now draft.now) writes.old writes.new (IsSlotOfSome objects.now feature.0)) }
     {
         for object in objects {
             self.plan_slot(alloc, writes, draft, *object, feature)?;
@@ -77,11 +76,11 @@ impl Store {
     fn plan_owner(
         &self,
         alloc: Global,
-        writes: &mut Vec<Write>,
+        writes: &mut Planned,
         draft: &Draft,
         value: &Value,
     ) -> Result<(), ListFault>
-        ensures { OnOk result (Plans self.now (drafted self.now draft.now) writes.old.items writes.new.items (IsHeldSlot (value.now ∷ []) draft.now.feature.0)) }
+        ensures { OnOk result (Plans self.now (drafted self.now draft.now) writes.old writes.new (IsHeldSlot (value.now ∷ []) draft.now.feature.0)) }
     {
         match value {
             Value::Obj(object) => {
@@ -96,11 +95,11 @@ impl Store {
     fn plan_values(
         &self,
         alloc: Global,
-        writes: &mut Vec<Write>,
+        writes: &mut Planned,
         draft: &Draft,
         values: &[Value],
     ) -> Result<(), ListFault>
-        ensures { OnOk result (Plans self.now (drafted self.now draft.now) writes.old.items writes.new.items (IsHeldSlot values.now draft.now.feature.0)) }
+        ensures { OnOk result (Plans self.now (drafted self.now draft.now) writes.old writes.new (IsHeldSlot values.now draft.now.feature.0)) }
     {
         for value in values {
             self.plan_owner(alloc, writes, draft, value)?;
@@ -112,12 +111,12 @@ impl Store {
     fn plan_owners(
         &self,
         alloc: Global,
-        writes: &mut Vec<Write>,
+        writes: &mut Planned,
         draft: &Draft,
         objects: &[Oid],
         opposite: FeatureNo,
     ) -> Result<(), ListFault>
-        ensures { OnOk result (Plans self.now (drafted self.now draft.now) writes.old.items writes.new.items (IsOwnerSlot self.now objects.now opposite.0 draft.now.feature.0)) }
+        ensures { OnOk result (Plans self.now (drafted self.now draft.now) writes.old writes.new (IsOwnerSlot self.now objects.now opposite.0 draft.now.feature.0)) }
     {
         for object in objects {
             let owners = self.list(*object, opposite);
@@ -130,12 +129,12 @@ impl Store {
     fn plan_opposite(
         &self,
         alloc: Global,
-        writes: &mut Vec<Write>,
+        writes: &mut Planned,
         draft: &Draft,
         object: Oid,
         feature: FeatureNo,
     ) -> Result<(), ListFault>
-        ensures { OnOk result (Plans self.now (drafted self.now draft.now) writes.old.items writes.new.items (IsOppositeSlot self.now object.0 feature.0)) }
+        ensures { OnOk result (Plans self.now (drafted self.now draft.now) writes.old writes.new (IsOppositeSlot self.now object.0 feature.0)) }
     {
         match self.metas.opposite(feature) {
             None => Ok(()),
@@ -150,11 +149,11 @@ impl Store {
     fn plan_around(
         &self,
         alloc: Global,
-        writes: &mut Vec<Write>,
+        writes: &mut Planned,
         draft: &Draft,
         object: Oid,
     ) -> Result<(), ListFault>
-        ensures { OnOk result (Plans self.now (drafted self.now draft.now) writes.old.items writes.new.items (IsAround self.now object.0)) }
+        ensures { OnOk result (Plans self.now (drafted self.now draft.now) writes.old writes.new (IsAround self.now object.0)) }
     {
         match self.holder(object) {
             None => Ok(()),
@@ -169,11 +168,11 @@ impl Store {
     fn plan_around_each(
         &self,
         alloc: Global,
-        writes: &mut Vec<Write>,
+        writes: &mut Planned,
         draft: &Draft,
         objects: &[Oid],
     ) -> Result<(), ListFault>
-        ensures { OnOk result (Plans self.now (drafted self.now draft.now) writes.old.items writes.new.items (IsAroundSome self.now objects.now)) }
+        ensures { OnOk result (Plans self.now (drafted self.now draft.now) writes.old writes.new (IsAroundSome self.now objects.now)) }
     {
         for object in objects {
             self.plan_around(alloc, writes, draft, *object)?;
@@ -184,10 +183,10 @@ impl Store {
     fn plan_containers(
         &self,
         alloc: Global,
-        writes: &mut Vec<Write>,
+        writes: &mut Planned,
         draft: &Draft,
     ) -> Result<(), ListFault>
-        ensures { OnOk result (Plans self.now (drafted self.now draft.now) writes.old.items writes.new.items (IsRehoused self.now (drafted self.now draft.now))) }
+        ensures { OnOk result (Plans self.now (drafted self.now draft.now) writes.old writes.new (IsRehoused self.now (drafted self.now draft.now))) }
     {
         if is_containment(&self.metas, draft.feature) {
             self.plan_around_each(alloc, writes, draft, draft.added.as_slice())?;
@@ -203,10 +202,10 @@ impl Store {
     fn plan_opposites(
         &self,
         alloc: Global,
-        writes: &mut Vec<Write>,
+        writes: &mut Planned,
         draft: &Draft,
     ) -> Result<(), ListFault>
-        ensures { OnOk result (Plans self.now (drafted self.now draft.now) writes.old.items writes.new.items (IsOpposed self.now (drafted self.now draft.now))) }
+        ensures { OnOk result (Plans self.now (drafted self.now draft.now) writes.old writes.new (IsOpposed self.now (drafted self.now draft.now))) }
     {
         match self.metas.opposite(draft.feature) {
             None => Ok(()),
@@ -223,16 +222,10 @@ impl Store {
     pub(super) fn plan(&self, alloc: Global, draft: &Draft) -> Result<Vec<Write>, ListFault>
         ensures { IfOk result (λ writes. IsPlan self.now (drafted self.now draft.now) writes.items) }
     {
-        let mut writes = Vec::new(alloc);
+        let mut writes = Planned::new(alloc);
         self.plan_opposites(alloc, &mut writes, draft)?;
         self.plan_containers(alloc, &mut writes, draft)?;
         let _metas = &self.metas;
-        Ok(writes)
+        Ok(writes.into_vec())
     }
-}
-
-fn is_listed(writes: &[Write], object: Oid, feature: FeatureNo) -> bool
-    ensures { result ≡ listed writes.now object.0 feature.0 }
-{
-    writes.iter().any(|write| object.0 == write.object.0 && feature.0 == write.feature.0)
 }

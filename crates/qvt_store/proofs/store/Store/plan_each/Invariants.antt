@@ -4,4 +4,4 @@ use Rattle.qvt_store.specs.Plan.{Plans, IsSlotOfSome}
 use Rattle.qvt_store.proofs.store.Store.plan_each.Given as goal
 
 abbrev pub invariant-loop-object : goal.invariant-loop-object
-invariant-loop-object l = Plans l.self (drafted l.self l.draft) l.fn.writes.items l.writes.items (IsSlotOfSome (take l.object-index l.objects) l.feature.0)
+invariant-loop-object l = Plans l.self (drafted l.self l.draft) l.fn.writes l.writes (IsSlotOfSome (take l.object-index l.objects) l.feature.0)

@@ -8,10 +8,10 @@ use Rattle.qvt_store.proofs.Plans.{owners_more}
 use Rattle.qvt_store.proofs.store.Store.plan_owners.Goals as goal
 
 pub loop-object-preserved : goal.loop-object-preserved
-loop-object-preserved c = owners_more c.args.self.now (drafted c.args.self.now c.args.draft.now) c.args.writes.now.items c.loop-object.writes.items c.plan_values.new.writes.items
+loop-object-preserved c = owners_more c.args.self.now (drafted c.args.self.now c.args.draft.now) c.args.writes.now c.loop-object.writes c.plan_values.new.writes
     c.args.objects.now c.loop-object.object-index c.args.opposite.0 c.args.draft.now.feature.0 (record { 0 = 0 }) c.loop-object-test.true c.loop-object.invariant
-    (subst (λ (l : List Value). Plans c.args.self.now (drafted c.args.self.now c.args.draft.now) c.loop-object.writes.items c.plan_values.new.writes.items (IsHeldSlot l c.args.draft.now.feature.0)) c.list-owners.ensures c.in_ok-plan_values.ensures)
+    (subst (λ (l : List Value). Plans c.args.self.now (drafted c.args.self.now c.args.draft.now) c.loop-object.writes c.plan_values.new.writes (IsHeldSlot l c.args.draft.now.feature.0)) c.list-owners.ensures c.in_ok-plan_values.ensures)
 
 pub returns : goal.returns
-returns c = subst (λ (l : List Oid). Plans c.args.self.now (drafted c.args.self.now c.args.draft.now) c.args.writes.now.items c.loop-object.writes.items (IsOwnerSlot c.args.self.now l c.args.opposite.0 c.args.draft.now.feature.0))
+returns c = subst (λ (l : List Oid). Plans c.args.self.now (drafted c.args.self.now c.args.draft.now) c.args.writes.now c.loop-object.writes (IsOwnerSlot c.args.self.now l c.args.opposite.0 c.args.draft.now.feature.0))
     (take_all c.loop-object.object-index c.args.objects.now c.loop-object-test.false) c.loop-object.invariant

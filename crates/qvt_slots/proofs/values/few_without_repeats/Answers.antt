@@ -3,8 +3,8 @@ use Rattle.std.specs.List.{list_any}
 use Rattle.qvt_value.specs.declared.value.Value.{Value}
 use Rattle.qvt_slots.specs.Repeats.{same_value}
 use Rattle.qvt_slots.proofs.Repeating.{without_step}
-use Rattle.qvt_slots.proofs.values.without_repeats.Goals as goal
-use Rattle.qvt_slots.proofs.values.without_repeats.Goals.{then-not-holds_value+in_ok-copy+in_ok-push, else-not-holds_value}
+use Rattle.qvt_slots.proofs.values.few_without_repeats.Goals as goal
+use Rattle.qvt_slots.proofs.values.few_without_repeats.Goals.{then-not-holds_value+in_ok-copy+in_ok-push, else-not-holds_value}
 
 pub loop-value-preserved : goal.loop-value-preserved
 loop-value-preserved c = without_step c.args.values.now c.loop-value.value-index c.value-item.result c.loop-value.list c.if-not-holds_value.list c.holds_value.result c.loop-value-test.true c.loop-value.invariant

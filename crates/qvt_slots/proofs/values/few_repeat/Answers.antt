@@ -3,7 +3,7 @@ use Rattle.std.specs.List.{list_any}
 use Rattle.std.proofs.lemmas.List.{drop_all}
 use Rattle.qvt_slots.specs.Repeats.{same_value, repeats}
 use Rattle.qvt_slots.proofs.Repeating.{repeats-drop}
-use Rattle.qvt_slots.proofs.values.repeats.Goals as goal
+use Rattle.qvt_slots.proofs.values.few_repeat.Goals as goal
 
 pub returns-then-stands_in : goal.returns-then-stands_in
 returns-then-stands_in c = sym (c.loop-i.invariant ∙ repeats-drop c.args.values.now c.loop-i.i c.index-values-i.result c.loop-i-test.true

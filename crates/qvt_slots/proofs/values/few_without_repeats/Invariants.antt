@@ -1,6 +1,6 @@
 use Rattle.std.proofs.Common.{◌≡◌, take}
 use Rattle.qvt_slots.specs.Repeats.{without_repeats}
-use Rattle.qvt_slots.proofs.values.without_repeats.Given as goal
+use Rattle.qvt_slots.proofs.values.few_without_repeats.Given as goal
 
 abbrev pub invariant-loop-value : goal.invariant-loop-value
 invariant-loop-value l = l.list ≡ without_repeats (take l.value-index l.values)

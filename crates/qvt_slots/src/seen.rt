@@ -1,0 +1,71 @@
+//! Values of slots that were noted.
+
+ghost use Rattle.std.specs.Prelude.{◌≡◌, [], IfOk, OnOk};
+ghost use Rattle.std.specs.List.{list_any};
+ghost use Rattle.qvt_slots.specs.Repeats.{same_value};
+ghost use Rattle.qvt_slots.specs.Noted.{is_of_slots, Notes};
+
+use indexmap::IndexSet;
+use qvt_base::list_fault::ListFault;
+use qvt_value::value::Value;
+use std::alloc::Global;
+use std::marker::Model;
+
+/// Values of slots that were noted, looked up by hash.
+#[derive(Drop)]
+pub struct Seen<'a> {
+    keys: IndexSet<&'a Value>,
+}
+
+impl<'a> Model for Seen<'a> {
+    ghost use Rattle.std.specs.Prelude.{List, map};
+    ghost use Rattle.std.specs.Coded.{codes};
+    ghost use Rattle.qvt_value.specs.contracts.value.Value as value;
+    ghost use Rattle.qvt_value.specs.declared.value.Value.{Value as Item};
+
+    ghost Value = { List Item };
+
+    ghost coded = { Prim.hlevel (codes, value.the_row.coded) };
+
+    ghost view = { λ s. map (λ value. value.now) s.keys.keys };
+}
+
+impl<'a> Seen<'a> {
+    /// None yet. It takes no memory.
+    pub fn new(alloc: Global) -> Seen<'a>
+        ensures { result ≡ [] }
+    {
+        Seen {
+            keys: IndexSet::new(alloc),
+        }
+    }
+
+    /// Notes a value, and tells whether an equal one was noted before. Values that stand in no slot
+    /// equal none.
+    pub fn note(&mut self, value: &'a Value) -> Result<bool, ListFault>
+        ensures before { IfOk result (λ before. before ≡ list_any (same_value value.now) self.old) }
+        ensures noted { OnOk result (Notes self.old self.new value.now) }
+    {
+        if !is_of_slots(value) {
+            return Ok(false);
+        }
+        match self.keys.insert(value) {
+            Ok(new) => Ok(!new),
+            Err(_) => Err(ListFault::NoMemory),
+        }
+    }
+}
+
+/// Whether the value may stand in a slot.
+fn is_of_slots(value: &Value) -> bool
+    ensures { result ≡ is_of_slots value.now }
+{
+    match value {
+        Value::Bool(_) => true,
+        Value::Int(_) => true,
+        Value::Str(_) => true,
+        Value::Enum(_) => true,
+        Value::Obj(_) => true,
+        _ => false,
+    }
+}
