@@ -32,7 +32,6 @@ impl Model for Planned {
     ghost use Rattle.std.specs.Prelude.{List, drop};
     ghost use Rattle.qvt_slots.specs.declared.commit.Write.{Write};
     ghost use Rattle.qvt_slots.specs.Listed.{AreKeysOf};
-
     ghost use Rattle.std.specs.Coded.{codes};
     ghost use Rattle.qvt_value.specs.contracts.value.Value as value;
 
@@ -101,11 +100,7 @@ fn is_listed(writes: &[Write], object: Oid, feature: FeatureNo) -> bool
 }
 
 /// Notes the slot of a write that is put after so many.
-fn note_later(
-    later: &mut IndexSet<SlotKey>,
-    count: usize,
-    write: &Write,
-) -> Result<(), ListFault>
+fn note_later(later: &mut IndexSet<SlotKey>, count: usize, write: &Write) -> Result<(), ListFault>
     ensures ok { (ws : List Write) → length ws ≡ count → AreKeysOf later.old.keys (drop 8 ws) → OnOk result (AreKeysOf later.new.keys (drop 8 (ws ++ write.now ∷ []))) }
     ensures err { OnErr result (later.new.keys ≡ later.old.keys) }
 {
