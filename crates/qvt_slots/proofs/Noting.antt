@@ -1,5 +1,5 @@
 -- Values of slots noted in a set, and what a list of them repeats.
-use Rattle.std.proofs.Common.{◌≡◌, ◌∙◌, ℕ, ◌+◌, ◌<◌, Bool, true, false, ◌||◌, ◌&&◌, not, cond, refl, sym, ap, subst, List, [], ◌∷◌, ◌++◌, length, map, take, drop, get_or, Bor, arith}
+use Rattle.std.proofs.Common.{◌≡◌, ◌∙◌, ℕ, ◌+◌, ◌<◌, Bool, true, false, ◌||◌, not, cond, refl, sym, ap, subst, List, [], ◌∷◌, ◌++◌, length, map, take, drop, get_or, Bor}
 use Rattle.std.specs.List.{list_any}
 use Rattle.std.specs.Cmp.{booleans_Decides}
 use Rattle.std.specs.Ordering.{is_eq}
@@ -14,7 +14,7 @@ use Rattle.qvt_value.specs.declared.value.Value.TheVariants.{Bool as BoolValue, 
 use Rattle.qvt_value.specs.contracts.value.ValuePartialEq.TheImpl.{ghosts}
 use Rattle.qvt_value.specs.Order.{order_of}
 use Rattle.qvt_value.proofs.OrderOfValues.{exact, itself, alike}
-use Rattle.qvt_relation.proofs.Bools.{and_both, or_left, or_right, or_none, or_false, same_test, refuted, clash}
+use Rattle.qvt_relation.proofs.Bools.{and_both, or_left, or_right, or_none, or_false, same_test}
 use Rattle.qvt_slots.specs.Repeats.{same_value, repeats, without_repeats}
 use Rattle.qvt_slots.specs.Noted.{is_of_slots, Notes}
 use Rattle.qvt_slots.proofs.Repeating.{same_true, any-without}

@@ -1,7 +1,8 @@
 //! Writes of slots that are looked up by their slots.
 
-ghost use Rattle.std.specs.Prelude.{◌≡◌, ◌++◌, ◌∷◌, [], OnOk};
-ghost use Rattle.qvt_slots.specs.Listed.{listed};
+ghost use Rattle.std.specs.Prelude.{◌≡◌, ◌++◌, ◌∷◌, [], List, length, drop, OnOk, OnErr};
+ghost use Rattle.qvt_slots.specs.declared.commit.Write.{Write};
+ghost use Rattle.qvt_slots.specs.Listed.{listed, AreKeysOf};
 
 use crate::commit::Write;
 use indexmap::IndexSet;
@@ -31,7 +32,6 @@ impl Model for Planned {
     ghost use Rattle.std.specs.Prelude.{List, drop};
     ghost use Rattle.qvt_slots.specs.declared.commit.Write.{Write};
     ghost use Rattle.qvt_slots.specs.Listed.{AreKeysOf};
-
     ghost use Rattle.std.specs.Coded.{codes};
     ghost use Rattle.qvt_value.specs.contracts.value.Value as value;
 
@@ -74,15 +74,8 @@ impl Planned {
     pub fn push(&mut self, write: Write) -> Result<(), ListFault>
         ensures { OnOk result (self.new ≡ self.old ++ write ∷ []) }
     {
-        if self.writes.len() >= FEW {
-            let key = SlotKey {
-                object: write.object.0,
-                feature: write.feature.0,
-            };
-            let Ok(_) = self.later.insert(key) else {
-                return Err(ListFault::NoMemory);
-            };
-        }
+        let count = self.writes.len();
+        note_later(&mut self.later, count, &write)?;
         let Ok(()) = self.writes.push(write) else {
             self.writes.clear();
             self.later.clear();
@@ -104,4 +97,22 @@ fn is_listed(writes: &[Write], object: Oid, feature: FeatureNo) -> bool
     ensures { result ≡ listed writes.now object.0 feature.0 }
 {
     writes.iter().any(|write| object.0 == write.object.0 && feature.0 == write.feature.0)
+}
+
+/// Notes the slot of a write that is put after so many.
+fn note_later(later: &mut IndexSet<SlotKey>, count: usize, write: &Write) -> Result<(), ListFault>
+    ensures ok { (ws : List Write) → length ws ≡ count → AreKeysOf later.old.keys (drop 8 ws) → OnOk result (AreKeysOf later.new.keys (drop 8 (ws ++ write.now ∷ []))) }
+    ensures err { OnErr result (later.new.keys ≡ later.old.keys) }
+{
+    if count < FEW {
+        return Ok(());
+    }
+    let key = SlotKey {
+        object: write.object.0,
+        feature: write.feature.0,
+    };
+    match later.insert(key) {
+        Ok(_) => Ok(()),
+        Err(_) => Err(ListFault::NoMemory),
+    }
 }

@@ -8,7 +8,7 @@ use Rattle.qvt_base.specs.declared.numbers.FeatureNo.{FeatureNo}
 use Rattle.qvt_base.specs.declared.numbers.Oid.{Oid}
 use Rattle.qvt_value.specs.declared.value.Value.{Value}
 use Rattle.qvt_metamodel.specs.Metamodels.{shape_of, opposite, is_one}
-use Rattle.qvt_relation.proofs.Bools.{and_right, or_none, none_left, none_right, not_true, clash}
+use Rattle.qvt_relation.proofs.Bools.{and_left, and_right, or_none, none_left, none_right, not_true, clash}
 use Rattle.qvt_slots.specs.declared.commit.Write.{Write}
 use Rattle.qvt_slots.specs.declared.draft.Draft.{Draft}
 use Rattle.qvt_slots.specs.declared.fault.StoreFault.{StoreFault}
@@ -19,14 +19,14 @@ use Rattle.qvt_slots.specs.Contents.{Contents, slot_of, extent_of, is_model}
 use Rattle.qvt_slots.specs.Types.{IsAssignable, IsAttributeChange}
 use Rattle.qvt_slots.specs.Repeats.{without_repeats, repeats, new_list}
 use Rattle.qvt_slots.specs.Assign.{change_to, is_beyond, is_elsewhere, crosses, store_after, assign}
-use Rattle.qvt_store.specs.Draft.{drafted, IsDraft, overfills_elsewhere, is_overfilling, AddsLive, IsAllowed, IsEarlyFault}
+use Rattle.qvt_store.specs.Draft.{drafted, IsDraft, overfills_elsewhere, is_overfilling, AddsLive, RemovesHeld, IsAllowed, IsEarlyFault}
 use Rattle.qvt_slots.specs.Walk.{ClosesCycle, by_items, by_end}
 use Rattle.qvt_store.specs.Ready.{IsFit, Ready, IsKnown, StaysElsewhere}
 use Rattle.qvt_slots.specs.Writes.{released_of}
 use Rattle.qvt_store.specs.Plan.{IsPlan}
 use Rattle.qvt_store.proofs.After.{fit_of}
 use Rattle.qvt_slots.proofs.Repeating.{new_no_repeats}
-use Rattle.qvt_slots.proofs.Objects.{none_beyond_all}
+use Rattle.qvt_slots.proofs.Objects.{none_beyond_all, beyond-is}
 use Rattle.qvt_slots.proofs.Typed.{no_objects}
 use Rattle.qvt_store.proofs.Untouched.{all_stay}
 use Rattle.qvt_store.proofs.Refusals.{adds_live, fits, stays_acyclic, none_refused, cross_refused, early_refused, assigned, not_assigned}
@@ -44,6 +44,9 @@ module _ (s : Contents) (o : Oid) (p : FeatureNo) (vs items : List Value) (added
 
   pub live_added : AddsLive s (drafted s d)
   live_added = adds_live s d items known.well_formed known.acyclic is fit
+
+  pub removes_held : RemovesHeld s d
+  removes_held = record { held = λ y h. and_left _ _ (sym (beyond-is items (slot_of s o.0 p.0) y) ∙ ap (λ (os : List Oid). among os y) (sym removes) ∙ h) }
 
   pub early : (fault : StoreFault) (n : ℕ) → n ≡ length items → IsEarlyFault s (drafted s d) n fault → fault ≢ NoMemory → assign s o.0 p.0 vs ≡ Err fault
   early fault n e f other = not_assigned s d items known.well_formed known.acyclic is fit vs fault new

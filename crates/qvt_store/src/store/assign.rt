@@ -28,12 +28,7 @@ use std::alloc::Global;
 
 impl Store {
     /// Puts the objects last that the write takes out of a containment slot, or leaves there.
-    fn release(
-        &self,
-        alloc: Global,
-        list: &mut OidList,
-        write: &Write,
-    ) -> Result<(), ListFault>
+    fn release(&self, alloc: Global, list: &mut OidList, write: &Write) -> Result<(), ListFault>
         ensures { OnOk result (list.new ≡ list.old ++ released_by self.now.metas (slot_of self.now) write.now) }
     {
         if is_containment(&self.metas, write.feature) {

@@ -3,7 +3,8 @@
 ghost use Rattle.std.specs.Prelude.{◌≡◌, ◌==◌, ◌&&◌, filter, IfOk};
 ghost use Rattle.qvt_slots.specs.Change.{is_some_object, is_here, is_added, is_removed, gains, is_taken, is_replaced, is_moved_in, is_moved, leaves, is_left, loses, keeps, with_end, slot_elsewhere};
 ghost use Rattle.qvt_slots.specs.Contents.{slot_of};
-ghost use Rattle.qvt_store.specs.Draft.{drafted};
+ghost use Rattle.qvt_slots.specs.Slots.{has};
+ghost use Rattle.qvt_store.specs.Draft.{drafted, RemovesHeld};
 
 use crate::store::Store;
 use qvt_base::copied::Copied;
@@ -92,16 +93,25 @@ impl Store {
             || self.is_moved(draft, object, feature, item)
     }
 
+    /// Whether the slot holds the item. What is removed from the changed slot stands there.
+    fn had(&self, draft: &Draft, object: Oid, feature: FeatureNo, item: Oid) -> bool
+        requires { RemovesHeld self.now draft.now }
+        ensures { result ≡ has (slot_of self.now object.0 feature.0) item.0 }
+    {
+        self.is_taken(draft, object, feature, item) || self.holds_item(object, feature, item)
+    }
+
     /// Whether the object is taken out of the opposite slot of the item. That slot is read only
     /// where something leaves it.
     fn is_left(&self, draft: &Draft, opposite: Option<FeatureNo>, object: Oid, item: Oid) -> bool
+        requires { RemovesHeld self.now draft.now }
         ensures { result ≡ is_left (drafted self.now draft.now) opposite object.0 item.0 }
     {
         match opposite {
             None => false,
             Some(back) => {
                 if self.leaves(draft, item, back, object) {
-                    self.holds_item(item, back, object)
+                    self.had(draft, item, back, object)
                 } else {
                     false
                 }
@@ -110,6 +120,7 @@ impl Store {
     }
 
     fn loses(&self, draft: &Draft, object: Oid, feature: FeatureNo, item: Oid) -> bool
+        requires { RemovesHeld self.now draft.now }
         ensures { result ≡ loses (drafted self.now draft.now) object.0 feature.0 item.0 }
     {
         self.leaves(draft, object, feature, item)
@@ -117,6 +128,7 @@ impl Store {
     }
 
     fn keeps(&self, draft: &Draft, object: Oid, feature: FeatureNo, value: &Value) -> bool
+        requires { RemovesHeld self.now draft.now }
         ensures { result ≡ keeps (drafted self.now draft.now) object.0 feature.0 value.now }
     {
         match value {
@@ -133,6 +145,7 @@ impl Store {
         object: Oid,
         feature: FeatureNo,
     ) -> Result<Values, ListFault>
+        requires { RemovesHeld self.now draft.now }
         ensures { IfOk result (λ list. list ≡ filter (keeps (drafted self.now draft.now) object.0 feature.0) (slot_of self.now object.0 feature.0)) }
     {
         let old = self.list(object, feature);
@@ -174,6 +187,7 @@ impl Store {
         object: Oid,
         feature: FeatureNo,
     ) -> Result<Values, ListFault>
+        requires { RemovesHeld self.now draft.now }
         ensures { IfOk result (λ list. list ≡ slot_elsewhere (drafted self.now draft.now) object.0 feature.0) }
     {
         let list = self.kept(alloc, draft, object, feature)?;

@@ -6,7 +6,7 @@ ghost use Rattle.qvt_metamodel.specs.Metamodels.{opposite};
 ghost use Rattle.qvt_slots.specs.Change.{among};
 ghost use Rattle.qvt_slots.specs.Contents.{HoldOwn, slot_of, is_live, extent_of, is_model, is_writable};
 ghost use Rattle.qvt_slots.specs.Assign.{is_elsewhere, crosses};
-ghost use Rattle.qvt_store.specs.Draft.{drafted, overfills_elsewhere, is_overfilling, AddsLive, IsAllowed, IsEarlyFault};
+ghost use Rattle.qvt_store.specs.Draft.{RemovesHeld, drafted, overfills_elsewhere, is_overfilling, AddsLive, IsAllowed, IsEarlyFault};
 ghost use Rattle.qvt_slots.specs.Walk.{ClosesCycle, IsOver, SomeOver, IsOverSome};
 ghost use Rattle.std.specs.Prelude.{ℕ};
 
@@ -28,6 +28,7 @@ impl Store {
         opposite: Option<FeatureNo>,
         added: Oid,
     ) -> Result<bool, ListFault>
+        requires { RemovesHeld self.now draft.now }
         ensures { IfOk result (λ b. b ≡ overfills_elsewhere (drafted self.now draft.now) opposite added) }
     {
         match opposite {
@@ -40,6 +41,7 @@ impl Store {
     }
 
     fn overfills_any(&self, alloc: Global, draft: &Draft) -> Result<bool, ListFault>
+        requires { RemovesHeld self.now draft.now }
         ensures { IfOk result (λ b. b ≡ list_any (overfills_elsewhere (drafted self.now draft.now) (opposite self.now.metas draft.now.feature.0)) draft.now.added) }
     {
         let back = self.metas.opposite(draft.feature);
@@ -54,6 +56,7 @@ impl Store {
 
     /// Whether the new list, of so many items, or an opposite slot would pass its upper bound.
     fn overfills(&self, alloc: Global, draft: &Draft, count: usize) -> Result<bool, ListFault>
+        requires { RemovesHeld self.now draft.now }
         ensures { IfOk result (λ b. b ≡ is_overfilling (drafted self.now draft.now) count) }
     {
         if is_beyond(count, upper(&self.metas, draft.feature)) {
@@ -193,6 +196,7 @@ impl Store {
     pub(super) fn check(&self, alloc: Global, draft: &Draft, count: usize) -> Result<(), StoreFault>
         requires live { IsTrue (is_live self.now draft.now.object.0) }
         requires added { AddsLive self.now (drafted self.now draft.now) }
+        requires removed { RemovesHeld self.now draft.now }
         ensures ok { OnOk result (IsAllowed self.now (drafted self.now draft.now) count) }
         ensures refused { IfErr result (λ fault. IsEarlyFault self.now (drafted self.now draft.now) count fault) }
     {

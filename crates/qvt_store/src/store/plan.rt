@@ -4,7 +4,7 @@ ghost use Rattle.std.specs.Prelude.{◌≡◌, ◌∷◌, [], IsTrue, IfOk, OnOk
 ghost use Rattle.qvt_metamodel.specs.Metamodels.{is_containment, is_opposite};
 ghost use Rattle.qvt_slots.specs.Change.{among, is_container};
 ghost use Rattle.qvt_slots.specs.Contents.{slot_of, is_slot};
-ghost use Rattle.qvt_store.specs.Draft.{drafted};
+ghost use Rattle.qvt_store.specs.Draft.{drafted, RemovesHeld};
 ghost use Rattle.qvt_store.specs.Plan.{Plans, IsSlotOf, IsSlotOfSome, IsOwnerSlot, IsAround, IsAroundSome, IsHeldSlot, IsOppositeSlot, IsOpposed, IsRehoused, IsPlan};
 ghost use Rattle.qvt_slots.specs.Slots.{has};
 ghost use Rattle.std.specs.Prelude.{ℕ};
@@ -37,6 +37,7 @@ impl Store {
         object: Oid,
         feature: FeatureNo,
     ) -> Result<(), ListFault>
+        requires { RemovesHeld self.now draft.now }
         ensures { OnOk result (Plans self.now (drafted self.now draft.now) writes.old writes.new (IsSlotOf object.0 feature.0)) }
     {
         if !self.is_slot(object, feature) || self.is_here(draft, object, feature) {
@@ -64,6 +65,7 @@ impl Store {
         objects: &[Oid],
         feature: FeatureNo,
     ) -> Result<(), ListFault>
+        requires { RemovesHeld self.now draft.now }
         ensures { OnOk result (Plans self.now (drafted self.now draft.now) writes.old writes.new (IsSlotOfSome objects.now feature.0)) }
     {
         for object in objects {
@@ -80,6 +82,7 @@ impl Store {
         draft: &Draft,
         value: &Value,
     ) -> Result<(), ListFault>
+        requires { RemovesHeld self.now draft.now }
         ensures { OnOk result (Plans self.now (drafted self.now draft.now) writes.old writes.new (IsHeldSlot (value.now ∷ []) draft.now.feature.0)) }
     {
         match value {
@@ -99,6 +102,7 @@ impl Store {
         draft: &Draft,
         values: &[Value],
     ) -> Result<(), ListFault>
+        requires { RemovesHeld self.now draft.now }
         ensures { OnOk result (Plans self.now (drafted self.now draft.now) writes.old writes.new (IsHeldSlot values.now draft.now.feature.0)) }
     {
         for value in values {
@@ -116,6 +120,7 @@ impl Store {
         objects: &[Oid],
         opposite: FeatureNo,
     ) -> Result<(), ListFault>
+        requires { RemovesHeld self.now draft.now }
         ensures { OnOk result (Plans self.now (drafted self.now draft.now) writes.old writes.new (IsOwnerSlot self.now objects.now opposite.0 draft.now.feature.0)) }
     {
         for object in objects {
@@ -134,6 +139,7 @@ impl Store {
         object: Oid,
         feature: FeatureNo,
     ) -> Result<(), ListFault>
+        requires { RemovesHeld self.now draft.now }
         ensures { OnOk result (Plans self.now (drafted self.now draft.now) writes.old writes.new (IsOppositeSlot self.now object.0 feature.0)) }
     {
         match self.metas.opposite(feature) {
@@ -153,6 +159,7 @@ impl Store {
         draft: &Draft,
         object: Oid,
     ) -> Result<(), ListFault>
+        requires { RemovesHeld self.now draft.now }
         ensures { OnOk result (Plans self.now (drafted self.now draft.now) writes.old writes.new (IsAround self.now object.0)) }
     {
         match self.holder(object) {
@@ -172,6 +179,7 @@ impl Store {
         draft: &Draft,
         objects: &[Oid],
     ) -> Result<(), ListFault>
+        requires { RemovesHeld self.now draft.now }
         ensures { OnOk result (Plans self.now (drafted self.now draft.now) writes.old writes.new (IsAroundSome self.now objects.now)) }
     {
         for object in objects {
@@ -186,6 +194,7 @@ impl Store {
         writes: &mut Planned,
         draft: &Draft,
     ) -> Result<(), ListFault>
+        requires { RemovesHeld self.now draft.now }
         ensures { OnOk result (Plans self.now (drafted self.now draft.now) writes.old writes.new (IsRehoused self.now (drafted self.now draft.now))) }
     {
         if is_containment(&self.metas, draft.feature) {
@@ -205,6 +214,7 @@ impl Store {
         writes: &mut Planned,
         draft: &Draft,
     ) -> Result<(), ListFault>
+        requires { RemovesHeld self.now draft.now }
         ensures { OnOk result (Plans self.now (drafted self.now draft.now) writes.old writes.new (IsOpposed self.now (drafted self.now draft.now))) }
     {
         match self.metas.opposite(draft.feature) {
@@ -220,6 +230,7 @@ impl Store {
 
     /// Every slot other than the changed one that may change, with its new list.
     pub(super) fn plan(&self, alloc: Global, draft: &Draft) -> Result<Vec<Write>, ListFault>
+        requires { RemovesHeld self.now draft.now }
         ensures { IfOk result (λ writes. IsPlan self.now (drafted self.now draft.now) writes.items) }
     {
         let mut writes = Planned::new(alloc);

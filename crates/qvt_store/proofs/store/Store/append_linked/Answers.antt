@@ -1,19 +1,27 @@
 use Rattle.std.proofs.Common.{◌∙◌, ◌++◌, ◌∷◌, [], sym, ap, subst, List, length}
 use Rattle.std.specs.Prelude.{Ok}
-use Rattle.qvt_base.specs.declared.numbers.Oid.{Oid}
 use Rattle.qvt_value.specs.declared.value.Value.{Value}
 use Rattle.qvt_slots.specs.declared.commit.Write.{Write}
-use Rattle.qvt_slots.specs.Change.{objects_beyond}
 use Rattle.qvt_slots.specs.Contents.{Contents, slot_of}
 use Rattle.qvt_slots.specs.Assign.{change_to, store_after}
 use Rattle.qvt_store.specs.Ready.{Ready}
 use Rattle.qvt_slots.specs.Writes.{released_of}
-use Rattle.qvt_store.proofs.Assigning.{live_added, early, cross, done, ready}
+use Rattle.qvt_store.proofs.Assigning.{live_added, removes_held, early, cross, done, ready}
 use Rattle.qvt_store.proofs.Appending.{adds_last, removes_none, list_assignable, length-last, count_is}
 use Rattle.qvt_store.proofs.store.Store.append_linked.Goals as goal
 
 pub check-requires-clause-added : goal.check-requires-clause-added
 check-requires-clause-added c = live_added c.args.self.now c.args.object c.args.feature (slot_of c.args.self.now c.args.object.0 c.args.feature.0 ++ c.args.value.now ∷ []) (slot_of c.args.self.now c.args.object.0 c.args.feature.0 ++ c.args.value.now ∷ []) c.in_ok-added.added c.new.result c.requires.known (list_assignable c.args.self.now c.args.object.0 c.args.feature.0 c.args.value.now c.requires.known c.requires.can) (sym c.requires.last)
+    (adds_last (slot_of c.args.self.now c.args.object.0 c.args.feature.0) c.args.value.now c.in_ok-added.added c.in_ok-added.ensures)
+    (c.new.ensures ∙ removes_none (slot_of c.args.self.now c.args.object.0 c.args.feature.0) c.args.value.now)
+
+pub check-requires-clause-removed : goal.check-requires-clause-removed
+check-requires-clause-removed c = removes_held c.args.self.now c.args.object c.args.feature (slot_of c.args.self.now c.args.object.0 c.args.feature.0 ++ c.args.value.now ∷ []) (slot_of c.args.self.now c.args.object.0 c.args.feature.0 ++ c.args.value.now ∷ []) c.in_ok-added.added c.new.result c.requires.known (list_assignable c.args.self.now c.args.object.0 c.args.feature.0 c.args.value.now c.requires.known c.requires.can) (sym c.requires.last)
+    (adds_last (slot_of c.args.self.now c.args.object.0 c.args.feature.0) c.args.value.now c.in_ok-added.added c.in_ok-added.ensures)
+    (c.new.ensures ∙ removes_none (slot_of c.args.self.now c.args.object.0 c.args.feature.0) c.args.value.now)
+
+pub plan-requires : goal.plan-requires
+plan-requires c = removes_held c.args.self.now c.args.object c.args.feature (slot_of c.args.self.now c.args.object.0 c.args.feature.0 ++ c.args.value.now ∷ []) (slot_of c.args.self.now c.args.object.0 c.args.feature.0 ++ c.args.value.now ∷ []) c.in_ok-added.added c.new.result c.requires.known (list_assignable c.args.self.now c.args.object.0 c.args.feature.0 c.args.value.now c.requires.known c.requires.can) (sym c.requires.last)
     (adds_last (slot_of c.args.self.now c.args.object.0 c.args.feature.0) c.args.value.now c.in_ok-added.added c.in_ok-added.ensures)
     (c.new.ensures ∙ removes_none (slot_of c.args.self.now c.args.object.0 c.args.feature.0) c.args.value.now)
 

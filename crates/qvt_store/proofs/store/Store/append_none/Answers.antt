@@ -3,12 +3,17 @@ use Rattle.std.specs.Prelude.{Ok}
 use Rattle.qvt_value.specs.declared.value.Value.{Value}
 use Rattle.qvt_slots.specs.Contents.{Contents, slot_of}
 use Rattle.qvt_slots.specs.Assign.{crosses}
-use Rattle.qvt_store.proofs.Assigning.{live_added, early, cross, done}
+use Rattle.qvt_store.proofs.Assigning.{live_added, removes_held, early, cross, done}
 use Rattle.qvt_store.proofs.Appending.{same_none, list_assignable, none_told}
 use Rattle.qvt_store.proofs.store.Store.append_none.Goals as goal
 
 pub check-requires-clause-added : goal.check-requires-clause-added
 check-requires-clause-added c = live_added c.args.self.now c.args.object c.args.feature (slot_of c.args.self.now c.args.object.0 c.args.feature.0 ++ c.args._value.now ∷ []) (slot_of c.args.self.now c.args.object.0 c.args.feature.0) c.new-added.result c.new-removed.result c.requires.known (list_assignable c.args.self.now c.args.object.0 c.args.feature.0 c.args._value.now c.requires.known c.requires.can) (sym c.requires.same)
+    (c.new-added.ensures ∙ same_none (slot_of c.args.self.now c.args.object.0 c.args.feature.0))
+    (c.new-removed.ensures ∙ same_none (slot_of c.args.self.now c.args.object.0 c.args.feature.0))
+
+pub check-requires-clause-removed : goal.check-requires-clause-removed
+check-requires-clause-removed c = removes_held c.args.self.now c.args.object c.args.feature (slot_of c.args.self.now c.args.object.0 c.args.feature.0 ++ c.args._value.now ∷ []) (slot_of c.args.self.now c.args.object.0 c.args.feature.0) c.new-added.result c.new-removed.result c.requires.known (list_assignable c.args.self.now c.args.object.0 c.args.feature.0 c.args._value.now c.requires.known c.requires.can) (sym c.requires.same)
     (c.new-added.ensures ∙ same_none (slot_of c.args.self.now c.args.object.0 c.args.feature.0))
     (c.new-removed.ensures ∙ same_none (slot_of c.args.self.now c.args.object.0 c.args.feature.0))
 

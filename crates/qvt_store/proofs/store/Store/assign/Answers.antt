@@ -7,11 +7,21 @@ use Rattle.qvt_slots.specs.Contents.{Contents, slot_of, with_slot}
 use Rattle.qvt_slots.specs.Repeats.{without_repeats}
 use Rattle.qvt_slots.specs.Assign.{crosses}
 use Rattle.qvt_slots.specs.Writes.{released_of}
-use Rattle.qvt_store.proofs.Assigning.{live_added, early, cross, done, ready, stays_elsewhere, items_same, no_early, no_cross}
+use Rattle.qvt_store.proofs.Assigning.{live_added, removes_held, early, cross, done, ready, stays_elsewhere, items_same, no_early, no_cross}
 use Rattle.qvt_store.proofs.store.Store.assign.Goals as goal
 
 pub check-requires-clause-added : goal.check-requires-clause-added
 check-requires-clause-added c = live_added c.args.self.now c.args.object c.args.feature c.args.values.now c.in_ok-items.items c.in_ok-added.added c.in_ok-removed.removed c.is_unique_feature-unique.ensures.known c.requires (c.in_ok-items.ensures ∙ ap (λ b. cond b (without_repeats c.args.values.now) c.args.values.now) c.is_unique_feature-unique.ensures.value)
+    (c.in_ok-added.ensures ∙ ap (λ (l : List Value). objects_beyond l c.as_slice.result.now) c.list.ensures ∙ ap (λ (l : List Value). objects_beyond (slot_of c.args.self.now c.args.object.0 c.args.feature.0) l) c.as_slice.ensures)
+    (c.in_ok-removed.ensures ∙ ap (λ (l : List Value). objects_beyond l c.list-2.result.now) c.as_slice-2.ensures ∙ ap (λ (l : List Value). objects_beyond c.in_ok-items.items l) c.list-2.ensures)
+
+pub check-requires-clause-removed : goal.check-requires-clause-removed
+check-requires-clause-removed c = removes_held c.args.self.now c.args.object c.args.feature c.args.values.now c.in_ok-items.items c.in_ok-added.added c.in_ok-removed.removed c.is_unique_feature-unique.ensures.known c.requires (c.in_ok-items.ensures ∙ ap (λ b. cond b (without_repeats c.args.values.now) c.args.values.now) c.is_unique_feature-unique.ensures.value)
+    (c.in_ok-added.ensures ∙ ap (λ (l : List Value). objects_beyond l c.as_slice.result.now) c.list.ensures ∙ ap (λ (l : List Value). objects_beyond (slot_of c.args.self.now c.args.object.0 c.args.feature.0) l) c.as_slice.ensures)
+    (c.in_ok-removed.ensures ∙ ap (λ (l : List Value). objects_beyond l c.list-2.result.now) c.as_slice-2.ensures ∙ ap (λ (l : List Value). objects_beyond c.in_ok-items.items l) c.list-2.ensures)
+
+pub plan-requires : goal.plan-requires
+plan-requires c = removes_held c.args.self.now c.args.object c.args.feature c.args.values.now c.in_ok-items.items c.in_ok-added.added c.in_ok-removed.removed c.is_unique_feature-unique.ensures.known c.requires (c.in_ok-items.ensures ∙ ap (λ b. cond b (without_repeats c.args.values.now) c.args.values.now) c.is_unique_feature-unique.ensures.value)
     (c.in_ok-added.ensures ∙ ap (λ (l : List Value). objects_beyond l c.as_slice.result.now) c.list.ensures ∙ ap (λ (l : List Value). objects_beyond (slot_of c.args.self.now c.args.object.0 c.args.feature.0) l) c.as_slice.ensures)
     (c.in_ok-removed.ensures ∙ ap (λ (l : List Value). objects_beyond l c.list-2.result.now) c.as_slice-2.ensures ∙ ap (λ (l : List Value). objects_beyond c.in_ok-items.items l) c.list-2.ensures)
 
