@@ -24,7 +24,7 @@ struct Nest {
     most: u32,
 }
 
-const NESTS: [Nest; 25] = [
+const NESTS: [Nest; 30] = [
     Nest {
         name: "brackets",
         front: "query q() : A = ",
@@ -247,6 +247,51 @@ const NESTS: [Nest; 25] = [
         open: "return object B { ",
         middle: "1",
         close: " }",
+        end: " }",
+        most: 63,
+    },
+    Nest {
+        name: "loops over conditionals",
+        front: "main() { ",
+        open: "if a then b else c endif->forEach(x) { ",
+        middle: "1",
+        close: " }",
+        end: " }",
+        most: 63,
+    },
+    Nest {
+        name: "objects in conditions",
+        front: "main() { ",
+        open: "if (object A { ",
+        middle: "1",
+        close: " }) { }",
+        end: " }",
+        most: 31,
+    },
+    Nest {
+        name: "objects in conditions after operators",
+        front: "main() { ",
+        open: "if a implies b xor c or d and e = f < g + h * - object A { ",
+        middle: "1",
+        close: " } then b else c endif->forEach(x) { }",
+        end: " }",
+        most: 63,
+    },
+    Nest {
+        name: "objects in a first value after operators",
+        front: "main() { ",
+        open: "if a then a implies b xor c or d and e = f < g + h * - object A { ",
+        middle: "1",
+        close: " } else c endif->forEach(x) { }",
+        end: " }",
+        most: 63,
+    },
+    Nest {
+        name: "objects in a second value after operators",
+        front: "main() { ",
+        open: "if a then b else a implies b xor c or d and e = f < g + h * - object A { ",
+        middle: "1",
+        close: " } endif->forEach(x) { }",
         end: " }",
         most: 63,
     },
