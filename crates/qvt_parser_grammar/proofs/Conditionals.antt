@@ -133,15 +133,25 @@ module _ (n : ℕ) (ts : List Tok) (s : StmtTerm) (place : Place) (w : Tok) (c :
   as_each b = let k = b.3.4 in let p = b.3.0 in let a = k.3.0 in let z = k.3.1 in
       let first : y ≡ ((p ++ a) ++ z) ++ k.1 = grouped y b.3.1 k.1 p k.0 b.3.2 k.2 ∙ ap (λ l. l ++ k.1) (grouped (p ++ k.0) k.0 z p a refl k.3.2) in
       let most : v ≡ (x ++ ((p ++ a) ++ z)) ++ k.1 = grouped v y k.1 x ((p ++ a) ++ z) d first in
-      let whole : ts ≡ (u ++ (x ++ ((p ++ a) ++ z))) ++ k.1 = grouped ts v k.1 u (x ++ ((p ++ a) ++ z)) e most in
-      (
+      let whole : ts ≡ (u ++ (x ++ ((p ++ a) ++ z))) ++ k.1 = grouped ts v k.1 u (x ++ ((p ++ a) ++ z)) e most in (
         (place, (choice_expr place (expr_of c) b.1.0, b.1.1)),
-        ((u ++ (x ++ ((p ++ a) ++ z)), k.1, whole,
-          ((place, (w, (expr_of c, b.1.0))),
-            ((u, x ++ ((p ++ a) ++ z), refl, tk, (x, (p ++ a) ++ z, refl, (c, rd, refl), (p ++ a, z, refl, ((b.0, b.1.0.0), (p, a, refl, b.3.3, k.3.3), refl), k.3.4))),
-              at ∙ ap (head_of (λ t. t.place) nowhere) e ∙ same_place u v (x ++ ((p ++ a) ++ z)) w tk.0),
-            refl),
-          k.4), at),
+        (
+          (
+            u ++ (x ++ ((p ++ a) ++ z)),
+            k.1,
+            whole,
+            (
+              (place, (w, (expr_of c, b.1.0))),
+              (
+                (u, x ++ ((p ++ a) ++ z), refl, tk, (x, (p ++ a) ++ z, refl, (c, rd, refl), (p ++ a, z, refl, ((b.0, b.1.0.0), (p, a, refl, b.3.3, k.3.3), refl), k.3.4))),
+                at ∙ ap (head_of (λ t. t.place) nowhere) e ∙ same_place u v (x ++ ((p ++ a) ++ z)) w tk.0,
+              ),
+              refl,
+            ),
+            k.4,
+          ),
+          at,
+        ),
         is ∙ ap (λ q. if_made place (expr_of c) q) b.2,
       )
 
@@ -195,8 +205,8 @@ unfolding if_expr expr
 each_stmt n ts s rd =
     let k = rd.1.0 in let y = k.3.0 in let g = k.3.1.0 in let m = g.4 in let q = m.4 in let o = q.3 in
     each_parts n ts s rd.0.0 y.0 y.1.0 o.0.1 y.1.1.1.1 y.1.1.0 rd.0.1.0 m.3.0 o.0.0 rd.0.1.1
-        k.0 g.0 g.1 m.0 m.1 o.1.0 o.1.1 q.1 k.1 k.2 g.2 m.2 (regroup m.1 q.0 q.1 o.1.0 o.1.1 q.2 o.1.2) g.3 m.3.1 m.3.2 o.1.3 o.1.4 q.4 k.4 rd.1.1 k.3.1.1 rd.2
-        (k.3.2 ∙ ap (λ x. choice_expr y.0 y.1.1.0 (x, y.1.1.1.1)) o.2)
+    k.0 g.0 g.1 m.0 m.1 o.1.0 o.1.1 q.1 k.1 k.2 g.2 m.2 (regroup m.1 q.0 q.1 o.1.0 o.1.1 q.2 o.1.2) g.3 m.3.1 m.3.2 o.1.3 o.1.4 q.4 k.4 rd.1.1 k.3.1.1 rd.2
+    (k.3.2 ∙ ap (λ x. choice_expr y.0 y.1.1.0 (x, y.1.1.1.1)) o.2)
 
 pub stmt_of : (n : ℕ) (ts : List Tok) (s : StmtTerm) → (if_forms (nested n)).reads ts s → (if_stmt (nested (suc n))).reads ts s
 stmt_of n ts s (inl rd) = block_stmt n ts s rd
