@@ -20,3 +20,4 @@ pub mod AgainMappings
 pub mod AgainModule
 pub mod Lifts
 pub mod LiftsExprs
+pub mod LiftsChains
