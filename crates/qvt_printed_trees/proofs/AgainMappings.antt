@@ -41,7 +41,7 @@ record GoodBody (j : Nested) (x : Body) : Type 0 where
   population : AgainBlock j x.population
   finish : AgainBlock j x.finish
 
-abbrev bare_body : Body → Body
+abbrev pub bare_body : Body → Body
 bare_body x = record { init = map erase_stmt x.init; population = map erase_stmt x.population; finish = map erase_stmt x.finish }
 
 abbrev body_ok : Body → Type 0

@@ -37,7 +37,7 @@ optional_same : (x : Option ExprTerm) → all_spelled (print.optional (optional_
 optional_same None = refl
 optional_same (Some e) = refl
 
-bare_arms : (arms : List ArmTerm) → erase_arms (arms_of arms) ≡ arms_of (map erase_arm arms)
+pub bare_arms : (arms : List ArmTerm) → erase_arms (arms_of arms) ≡ arms_of (map erase_arm arms)
 bare_arms [] = refl
 bare_arms (a ∷ arms) = ap (MoreArms (erase_arm a)) (bare_arms arms)
 
@@ -55,7 +55,7 @@ else_same : (x : Option (List StmtTerm)) → print.else_if (optional_else x) ≡
 else_same None = refl
 else_same (Some ss) = refl
 
-else_bare : (x : Option (List StmtTerm)) → erase_else (optional_else x) ≡ optional_else (option_map (map erase_stmt) x)
+pub else_bare : (x : Option (List StmtTerm)) → erase_else (optional_else x) ≡ optional_else (option_map (map erase_stmt) x)
 else_bare None = refl
 else_bare (Some ss) = ap ElseOf (bare_stmts ss)
 

@@ -21,3 +21,4 @@ pub mod AgainModule
 pub mod Lifts
 pub mod LiftsExprs
 pub mod LiftsChains
+pub mod LiftsStmts
