@@ -42,10 +42,10 @@ again_uri : Again any (λ (u : List ℕ). piece.Quoted u ∷ []) (λ u. u) uri u
 unfolding uri
 again_uri = record { again = λ ts u rd o. inl (record { class = class.Str; text = u; number = pos 0; place = nowhere }, (refl, refl), refl) }
 
-abbrev TypeParts : Type 0
+abbrev pub TypeParts : Type 0
 TypeParts = Named × List ℕ
 
-abbrev bare_parts : TypeParts → TypeParts
+abbrev pub bare_parts : TypeParts → TypeParts
 bare_parts x = (bare_named x.0, x.1)
 
 again_model_type : Again any printed.model_type erase_model_type model_type model_type
@@ -75,13 +75,13 @@ unfolding model_param
 again_model_param = again_made model_param_of (again_then again_direction (again_then again_name (again_made {ok2 = any} {p2 = λ (n : Named). piece.Plain class.Colon ∷ piece.Name n.text ∷ []} {b2 = bare_named} second (again_then (again_the class.Colon) again_name) (λ a o. (tt, tt)) (λ a. refl) (λ a. refl))))
     (λ a o. (tt, (tt, tt))) (λ a. refl) (λ a k. record { direction = sym (direction_kept (direction_of a.0.class)) k; name = a.1.0.text; model_type = a.1.1.text; place = nowhere })
 
-abbrev Header : Type 0
+abbrev pub Header : Type 0
 Header = List ℕ × List ModelParam
 
 abbrev header_pieces : Header → List Piece
 header_pieces x = print.ended (piece.Plain class.TransformationWord ∷ piece.Name x.0 ∷ print.in_round (printed.model_params x.1))
 
-abbrev bare_header : Header → Header
+abbrev pub bare_header : Header → Header
 bare_header x = (x.0, map erase_model_param x.1)
 
 again_header : Again any header_pieces bare_header header header

@@ -22,3 +22,5 @@ pub mod Lifts
 pub mod LiftsExprs
 pub mod LiftsChains
 pub mod LiftsStmts
+pub mod LiftsUnits
+pub mod Law
