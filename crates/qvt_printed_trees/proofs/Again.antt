@@ -1,15 +1,15 @@
 -- Languages that read again what is printed of what they read.
-use Rattle.std.proofs.Common.{◌≡◌, List, [], ◌∷◌, ◌++◌, map, ◌⊎◌, inl, inr, refl, sym, ap, ◌∙◌, subst, Option, Some, None, option_map, IsTrue, pos}
+use Rattle.std.proofs.Common.{◌≡◌, List, [], ◌∷◌, ◌++◌, map, inl, inr, refl, sym, ap, ◌∙◌, subst, Option, Some, None, option_map, pos}
 use Rattle.std.specs.Prelude.{⊤}
 use Rattle.qvt_base.specs.declared.numbers.Place.{Place}
-use Rattle.qvt_grammar.specs.Language.{Language, token, follow, then, either, many, turns, made, never, empty, maybe, marked, head_of}
+use Rattle.qvt_grammar.specs.Language.{Language, then, either, many, turns, made, maybe}
 use Rattle.qvt_grammar.proofs.Wider.{Sub}
-use Rattle.qvt_parser_grammar.specs.Tokens.{Tok, is, code_of}
+use Rattle.qvt_parser_grammar.specs.Tokens.{Tok}
 use Rattle.qvt_parser_grammar.specs.Readers.{the, placed, nowhere}
 use Rattle.qvt_parser_grammar.specs.declared.token.Class.{Class}
 use Rattle.qvt_parser_grammar.specs.declared.token.Class.TheVariants as class
 use Rattle.qvt_printer_layout.specs.declared.piece.Piece.{Piece}
-use Rattle.qvt_printer_layout.specs.declared.piece.Piece.TheVariants.{Plain, Name, Integer, Quoted}
+use Rattle.qvt_printer_layout.specs.declared.piece.Piece.TheVariants.{Name, Integer, Quoted}
 use Rattle.qvt_printer.specs.Expressions.{one}
 use Rattle.qvt_printed_tokens.specs.Spelled.{all_spelled}
 use Rattle.qvt_printed_trees.proofs.Classes.{same_class, is_itself}

@@ -1,22 +1,21 @@
 -- Expressions that are no chain, prefix or post are read again.
 use Rattle.std.proofs.Common.{◌≡◌, ℕ, List, [], ◌∷◌, ◌++◌, map, Bool, true, false, ◌⊎◌, inl, inr, refl, sym, ap, ◌∙◌, subst, append_assoc, Option, Some, None, option_map}
 use Rattle.std.specs.Prelude.{⊤}
-use Rattle.qvt_tree_types.specs.Tree.{TypeTerm, PathType, NoFilter, MoreExprs, MoreItems, MoreStmts, BareTarget, ItemTerms, ExprTerm, ExprTerms, OptionalExpr, RangeTerm, ItemTerm, MapTerm, ResolveTerm, FilterTerm, AccumulatorTerm, StmtTerm, TargetTerm, IntExpr, MapExpr, ResolveExpr, CallExpr, PathExpr, CollExpr, RangeTo, MapOf, ItemOf, ResolveOf, FilterOf, NoExpr, SomeExpr, ObjectExpr, NewExpr, AccumulatorOf}
+use Rattle.qvt_tree_types.specs.Tree.{TypeTerm, PathType, NoFilter, MoreExprs, MoreItems, MoreStmts, BareTarget, ExprTerm, RangeTerm, ItemTerm, FilterTerm, StmtTerm, MapExpr, ResolveExpr, CallExpr, PathExpr, CollExpr, MapOf, ItemOf, ResolveOf, FilterOf, ObjectExpr, NewExpr}
 use Rattle.qvt_tree_types.specs.View.{exprs_of, items_of, stmts_of, optional_expr, optional_range, optional_filter}
 use Rattle.qvt_tree_types.specs.declared.types.PathTree.{PathTree}
-use Rattle.qvt_tree_types.specs.declared.types.ObjectVar.{ObjectVar}
 use Rattle.qvt_tree_types.specs.declared.words.ResolveWord.{ResolveWord}
 use Rattle.qvt_tree_types.specs.declared.words.ResolveWord.TheVariants as resolves
 use Rattle.qvt_tree.specs.Shape.{nowhere, erase_path, erase_optional_path, erase_optional_variable, erase_type, erase_expr, erase_exprs, erase_optional_expr, erase_item, erase_items, erase_range, erase_map_call, erase_resolve, erase_filter, erase_accumulator, erase_stmt, erase_stmts}
-use Rattle.qvt_grammar.specs.Language.{Language, made, then}
+use Rattle.qvt_grammar.specs.Language.{made, then}
 use Rattle.qvt_parser_grammar.specs.Readers.{the}
 use Rattle.qvt_parser_grammar.specs.declared.named.Named.{Named}
 use Rattle.qvt_parser_grammar.specs.declared.token.Class.{Class}
 use Rattle.qvt_parser_grammar.specs.declared.token.Class.TheVariants as class
 use Rattle.qvt_parser_grammar.specs.Tokens.{Tok}
-use Rattle.qvt_parser_grammar.specs.Leads.{Lead, Plain, Each}
+use Rattle.qvt_parser_grammar.specs.Leads.{Lead, Plain}
 use Rattle.qvt_parser_grammar.specs.Grammar.{Nested, expr, exprs, args, literal, word, named_expr, item, coll, if_expr, object, new_expr, map_call, filter_head, bar_expr, filter, all_word, in_word, all_form, in_form, resolve, longer, bare_expr, accumulator, more_exprs}
-use Rattle.qvt_parser_grammar.specs.Trees.{second, first, cons_of, nothing, inner, int_of, str_of, true_of, false_of, null_of, self_of, result_of, named_expr_of, coll_of, range_of, item_of, if_of, object_of, new_of, map_of, is_strict, all_of, in_of, is_there, resolve_of, resolve_word, no_name, named_type, filter_of, accumulator_of, path_of, expr_of}
+use Rattle.qvt_parser_grammar.specs.Trees.{second, first, cons_of, nothing, inner, int_of, str_of, true_of, false_of, null_of, self_of, result_of, named_expr_of, coll_of, range_of, item_of, if_of, object_of, new_of, map_of, is_strict, all_of, in_of, is_there, resolve_of, resolve_word, no_name, named_type, filter_of, accumulator_of, expr_of}
 use Rattle.qvt_printer_layout.specs.declared.piece.Piece.{Piece}
 use Rattle.qvt_printer_layout.specs.declared.piece.Piece.TheVariants as piece
 use Rattle.qvt_printer_layout.specs.Words as words
@@ -24,9 +23,9 @@ use Rattle.qvt_printer.specs.Expressions as print
 use Rattle.qvt_printed_tokens.specs.Spelled.{all_spelled}
 use Rattle.qvt_printed_trees.specs.Printable.{IsPrintableExpr, ArePrintableExprs, IsPrintableOptional, IsPrintableItem, ArePrintableItems, IsPrintableRange, IsPrintableMap, IsPrintableResolve, IsPrintableFilter, IsPrintableAccumulator, ArePrintableStmts}
 use Rattle.qvt_printed_trees.proofs.Classes.{is_itself}
-use Rattle.qvt_printed_trees.proofs.Spelling.{plain, plain_name, block_spelled, items_spelled, rest_spelled, spelled_append}
-use Rattle.qvt_printed_trees.proofs.Again.{Again, any, again_the, again_word, again_integer_token, again_string_token, again_then, again_made, again_either, again_one, again_as, again_many, again_maybe, again_placed, optional_ok, if_there}
-use Rattle.qvt_printed_trees.proofs.AgainNames.{bare_named, texts, bare_texts, again_name, again_more_names, again_path, again_extent, kind_class, again_kind_word, kind_again, again_coll_type, again_typed, again_colon_type, again_colon_path, head_pieces, bare_head, again_object_head, bare_path_of}
+use Rattle.qvt_printed_trees.proofs.Spelling.{plain, plain_name, items_spelled, rest_spelled}
+use Rattle.qvt_printed_trees.proofs.Again.{Again, any, again_the, again_word, again_integer_token, again_string_token, again_then, again_made, again_either, again_one, again_many, again_maybe, again_placed, optional_ok, if_there}
+use Rattle.qvt_printed_trees.proofs.AgainNames.{bare_named, texts, again_name, again_more_names, again_path, again_extent, kind_class, again_kind_word, kind_again, again_coll_type, again_colon_type, again_object_head, bare_path_of}
 use Rattle.qvt_printed_trees.proofs.Forms.{Bracket, Form, is_basic}
 
 -- lists of trees without places

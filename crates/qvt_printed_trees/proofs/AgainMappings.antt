@@ -1,23 +1,19 @@
 -- Bodies of mappings, and mappings, are read again.
 use Rattle.std.proofs.Common.{◌≡◌, List, [], ◌∷◌, ◌++◌, map, Bool, true, false, if◌then◌else◌, ◌||◌, inl, inr, refl, sym, ap, ◌∙◌, subst, append_assoc, append-nil, Option, Some, None, option_map, IsTrue}
-use Rattle.std.specs.Prelude.{⊤}
-use Rattle.qvt_tree_types.specs.Tree.{ExprTerm, StmtTerm}
+use Rattle.qvt_tree_types.specs.Tree.{StmtTerm}
 use Rattle.qvt_tree_types.specs.View.{stmts_of, optional_expr}
-use Rattle.qvt_tree_types.specs.Module.{TypedName, UnitTerm, MappingOf}
-use Rattle.qvt_tree_types.specs.declared.module.ResultDecl.{ResultDecl}
-use Rattle.qvt_tree.specs.Shape.{nowhere, erase_path, erase_stmt, erase_optional_expr}
-use Rattle.qvt_tree.specs.ModuleShape.{erase_typed, erase_unit, erase_result, erase_optional_result}
+use Rattle.qvt_tree_types.specs.Module.{MappingOf}
+use Rattle.qvt_tree.specs.Shape.{nowhere, erase_stmt}
+use Rattle.qvt_tree.specs.ModuleShape.{erase_typed, erase_unit, erase_result}
 use Rattle.qvt_grammar.specs.Language.{Language, made, then, maybe}
 use Rattle.qvt_parser_grammar.specs.declared.token.Class.{Class}
 use Rattle.qvt_parser_grammar.specs.declared.token.Class.TheVariants as class
 use Rattle.qvt_parser_grammar.specs.Readers.{the}
 use Rattle.qvt_parser_grammar.specs.Tokens.{Tok, is}
-use Rattle.qvt_parser_grammar.specs.Leads.{Ended}
 use Rattle.qvt_parser_grammar.specs.Trees.{second}
 use Rattle.qvt_parser_grammar.specs.Grammar.{Nested}
-use Rattle.qvt_parser_grammar.specs.Statements.{statements}
-use Rattle.qvt_parser_grammar.specs.Units.{init_part, end_part, end_unless, end_after, sections, body, mapping_unit}
-use Rattle.qvt_parser_grammar.specs.UnitTrees.{Body, Clauses, empty_body, body_of, sections_of, open_sections_of, mapping_of, stmts_or_none, paths_or_none}
+use Rattle.qvt_parser_grammar.specs.Units.{init_part, end_part, end_unless, sections, body, mapping_unit}
+use Rattle.qvt_parser_grammar.specs.UnitTrees.{Body, sections_of, mapping_of, stmts_or_none}
 use Rattle.qvt_printer_layout.specs.declared.piece.Piece.{Piece}
 use Rattle.qvt_printer_layout.specs.declared.piece.Piece.TheVariants as piece
 use Rattle.qvt_printer.specs.Expressions as print
@@ -26,11 +22,10 @@ use Rattle.qvt_printed_tokens.specs.Spelled.{all_spelled}
 use Rattle.qvt_printed_trees.specs.Printable.{IsPrintableUnit, IsPrintableOptional}
 use Rattle.qvt_printed_trees.proofs.Classes.{is_itself}
 use Rattle.qvt_printed_trees.proofs.Statements.{bare_ended}
-use Rattle.qvt_printed_trees.proofs.Spelling.{plain, spelled_append, rest_spelled, block_spelled}
-use Rattle.qvt_printed_trees.proofs.Again.{Again, any, again_the, again_then, again_made, again_maybe, if_there, optional_ok}
+use Rattle.qvt_printed_trees.proofs.Spelling.{plain, spelled_append, block_spelled}
+use Rattle.qvt_printed_trees.proofs.Again.{Again, again_the, again_then, again_made, again_maybe}
 use Rattle.qvt_printed_trees.proofs.AgainNames.{again_unit_path, bare_unit_path}
 use Rattle.qvt_printed_trees.proofs.AgainExprs.{bare_stmts, bare_optional, optional_any}
-use Rattle.qvt_printed_trees.proofs.AgainSteps.{same_front}
 use Rattle.qvt_printed_trees.proofs.AgainUnits.{again_params, again_result_decl, result_same, result_bare, paths_bare}
 use Rattle.qvt_printed_trees.proofs.AgainClauses.{bare_clauses, clause_pieces, again_clauses}
 use Rattle.qvt_printed_trees.proofs.UnitBase.{Stmts, AgainBlock, AgainUnits}

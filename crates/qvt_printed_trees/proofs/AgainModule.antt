@@ -1,14 +1,13 @@
 -- A transformation is printed and read again as its shape.
-use Rattle.std.proofs.Common.{◌≡◌, ℕ, suc, List, [], ◌∷◌, ◌++◌, map, inl, inr, refl, sym, ap, ◌∙◌, subst, append_assoc, append-nil, Option, Some, None, pos}
+use Rattle.std.proofs.Common.{◌≡◌, ℕ, suc, List, [], ◌∷◌, ◌++◌, map, inl, inr, refl, sym, ap, ◌∙◌, subst, append_assoc, pos}
 use Rattle.std.specs.Prelude.{⊤}
 use Rattle.qvt_tree_types.specs.Module.{UnitTerm, ModuleTerm}
-use Rattle.qvt_tree_types.specs.declared.module.ModelType.{ModelType}
 use Rattle.qvt_tree_types.specs.declared.module.ModelParam.{ModelParam}
 use Rattle.qvt_tree_types.specs.declared.words.Direction.{Direction}
 use Rattle.qvt_tree_types.specs.declared.words.Direction.TheVariants as directions
 use Rattle.qvt_tree.specs.Shape.{nowhere}
 use Rattle.qvt_tree.specs.ModuleShape.{erase_unit, erase_model_type, erase_model_param, shape}
-use Rattle.qvt_grammar.specs.Language.{Language, turns, made, then, either}
+use Rattle.qvt_grammar.specs.Language.{Language, turns, made, either}
 use Rattle.qvt_parser_grammar.specs.declared.named.Named.{Named}
 use Rattle.qvt_parser_grammar.specs.declared.token.Class.{Class}
 use Rattle.qvt_parser_grammar.specs.declared.token.Class.TheVariants as class
@@ -18,7 +17,6 @@ use Rattle.qvt_parser_grammar.specs.Trees.{second, first, inner, cons_of, nothin
 use Rattle.qvt_parser_grammar.specs.Grammar.{Nested}
 use Rattle.qvt_parser_grammar.specs.Units.{unit, uri, model_type, model_param, header, transformation, strictness}
 use Rattle.qvt_parser_grammar.specs.UnitTrees.{some_unit, units_of, model_type_of, model_param_of, direction_of, module_of}
-use Rattle.qvt_parser_grammar.specs.Nesting.{nested}
 use Rattle.qvt_parser_grammar.specs.Module.{Reads}
 use Rattle.qvt_printer_layout.specs.declared.piece.Piece.{Piece}
 use Rattle.qvt_printer_layout.specs.declared.piece.Piece.TheVariants as piece

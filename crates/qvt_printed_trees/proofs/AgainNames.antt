@@ -1,10 +1,8 @@
 -- Names and types are read again.
-use Rattle.std.proofs.Common.{◌≡◌, ℕ, List, [], ◌∷◌, ◌++◌, map, ◌⊎◌, inl, inr, refl, sym, ap, ◌∙◌, Option, Some, None, option_map}
-use Rattle.std.specs.Prelude.{⊤}
-use Rattle.qvt_tree_types.specs.Tree.{TypeTerm, CollType, PathType}
+use Rattle.std.proofs.Common.{◌≡◌, ℕ, List, [], ◌∷◌, ◌++◌, map, ◌⊎◌, inl, inr, refl, sym, ap, Option, Some, None, option_map}
+use Rattle.qvt_tree_types.specs.Tree.{CollType, PathType}
 use Rattle.qvt_tree_types.specs.declared.types.PathTree.{PathTree}
 use Rattle.qvt_tree_types.specs.declared.types.ObjectVar.{ObjectVar}
-use Rattle.qvt_tree_types.specs.declared.types.ObjectVar.TheVariants as variables
 use Rattle.qvt_tree_types.specs.declared.words.CollKind.{CollKind}
 use Rattle.qvt_tree_types.specs.declared.words.CollKind.TheVariants as kinds
 use Rattle.qvt_tree.specs.Shape.{nowhere, erase_path, erase_type, erase_optional_variable}

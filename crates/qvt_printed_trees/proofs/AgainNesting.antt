@@ -1,32 +1,23 @@
 -- Expressions, blocks and types are read again at each nesting.
-use Rattle.std.proofs.Common.{◌≡◌, ℕ, zero, suc, List, [], ◌∷◌, ◌++◌, map, Bool, true, false, inl, inr, refl, sym, ap, ◌∙◌, subst, Option, Some, None, append-nil, arith}
-use Rattle.std.specs.Prelude.{⊤}
-use Rattle.qvt_tree_types.specs.Tree.{ExprTerm, LinkTerm, LinkTerms, StepTerm, StepTerms, StmtTerm, TargetTerm, BareTarget, PathExpr, IfExpr, ChainExpr, PrefixExpr, PostExpr}
-use Rattle.qvt_tree_types.specs.View.{stmts_of}
+use Rattle.std.proofs.Common.{ℕ, zero, suc, List, [], ◌∷◌, Bool, true, inl, inr, refl, Some, arith}
+use Rattle.qvt_tree_types.specs.Tree.{ExprTerm, LinkTerms, StepTerms, BareTarget, PathExpr, IfExpr, ChainExpr, PrefixExpr, PostExpr}
 use Rattle.qvt_tree_types.specs.declared.words.Level.{Level}
-use Rattle.qvt_tree.specs.Shape.{nowhere, erase_type, erase_stmt}
-use Rattle.qvt_grammar.specs.Language.{Language, turns}
-use Rattle.qvt_grammar.proofs.Wider.{Sub, sub_turns}
-use Rattle.qvt_parser_grammar.specs.Tokens.{Tok}
+use Rattle.qvt_tree.specs.Shape.{nowhere}
+use Rattle.qvt_grammar.proofs.Wider.{sub_turns}
 use Rattle.qvt_parser_grammar.specs.Firsts.{expr_first, post_next}
-use Rattle.qvt_parser_grammar.specs.Leads.{Lead, Plain, Each}
+use Rattle.qvt_parser_grammar.specs.Leads.{Plain}
 use Rattle.qvt_parser_grammar.specs.Trees.{expr_of}
-use Rattle.qvt_parser_grammar.specs.Grammar.{Nested, name, more_names, named_expr, bare_expr, if_expr, other_primary, primary, step, post, pre, link, chain, flagged, typed}
-use Rattle.qvt_parser_grammar.specs.Statements.{block}
+use Rattle.qvt_parser_grammar.specs.Grammar.{Nested, name, more_names, named_expr, bare_expr, other_primary, primary, post, pre, chain, flagged}
 use Rattle.qvt_parser_grammar.specs.Nesting.{nested}
 use Rattle.qvt_parser_grammar.proofs.Forms.{good_sets}
 use Rattle.qvt_parser_grammar.proofs.GoodExprs.{good_bare_expr, good_if_expr}
 use Rattle.qvt_parser_grammar.proofs.GoodSteps.{good_step, good_pre}
 use Rattle.qvt_parser_grammar.proofs.GoodTower.{good_link, good_chain}
 use Rattle.qvt_parser_grammar.proofs.GoodNesting.{good_nested}
-use Rattle.qvt_printer.specs.Expressions as print
-use Rattle.qvt_printed_tokens.specs.Spelled.{all_spelled}
-use Rattle.qvt_printed_trees.specs.Printable.{IsPrintableExpr, ArePrintableStmts}
 use Rattle.qvt_printed_trees.proofs.Spelling.{plain_name}
-use Rattle.qvt_printed_trees.proofs.Again.{Again, any}
 use Rattle.qvt_printed_trees.proofs.AgainNames.{again_typed}
-use Rattle.qvt_printed_trees.proofs.AgainExprs.{AgainNested, Inside}
-use Rattle.qvt_printed_trees.proofs.Forms.{index_of, Bracket, NeedsBracket, LinksForm, StepsForm, Form}
+use Rattle.qvt_printed_trees.proofs.AgainExprs.{AgainNested}
+use Rattle.qvt_printed_trees.proofs.Forms.{index_of, NeedsBracket, LinksForm, StepsForm, Form}
 use Rattle.qvt_printed_trees.proofs.ChainReads.{raise, flagged_reads}
 use Rattle.qvt_printed_trees.proofs.Read.{flagged_good}
 use Rattle.qvt_printed_trees.proofs.Statements.{block_good, block_again}

@@ -1,24 +1,21 @@
 -- Statements that begin with a word are read again.
-use Rattle.std.proofs.Common.{◌≡◌, List, [], ◌∷◌, ◌++◌, map, Bool, true, false, ◌⊎◌, inl, inr, refl, sym, ap, ◌∙◌, subst, append_assoc, append-nil, Option, Some, None, option_map, IsTrue}
-use Rattle.std.specs.Prelude.{⊤}
-use Rattle.qvt_tree_types.specs.Tree.{TypeTerm, ExprTerm, StmtTerm, StmtTerms, VarStmt, ReturnStmt, IfStmt, WhileStmt, ElseTerm, NoElse, ElseOf, ArmTerm, ArmTerms, ArmOf, MoreArms, OptionalExpr}
+use Rattle.std.proofs.Common.{◌≡◌, List, [], ◌∷◌, ◌++◌, map, refl, sym, ap, ◌∙◌, append-nil, Option, Some, None, option_map}
+use Rattle.qvt_tree_types.specs.Tree.{ExprTerm, StmtTerm, VarStmt, ReturnStmt, IfStmt, WhileStmt, ElseOf, ArmTerm, ArmOf, MoreArms}
 use Rattle.qvt_tree_types.specs.View.{stmts_of, arms_of, optional_expr, optional_else}
-use Rattle.qvt_tree.specs.Shape.{nowhere, erase_expr, erase_stmt, erase_stmts, erase_arm, erase_arms, erase_else, erase_optional_type, erase_type}
-use Rattle.qvt_grammar.specs.Language.{Language, made, then}
+use Rattle.qvt_tree.specs.Shape.{nowhere, erase_expr, erase_stmt, erase_arm, erase_arms, erase_else}
 use Rattle.qvt_parser_grammar.specs.declared.token.Class.TheVariants as class
 use Rattle.qvt_parser_grammar.specs.Readers.{the}
-use Rattle.qvt_parser_grammar.specs.Tokens.{Tok}
 use Rattle.qvt_parser_grammar.specs.Trees.{second, inner}
-use Rattle.qvt_parser_grammar.specs.Grammar.{Nested, colon_type}
+use Rattle.qvt_parser_grammar.specs.Grammar.{Nested}
 use Rattle.qvt_parser_grammar.specs.Statements.{condition, var_stmt, return_stmt, arm, else_part, if_stmt, while_stmt}
 use Rattle.qvt_parser_grammar.specs.StmtTrees.{var_of, return_of, arm_of, if_stmt_of, while_of}
 use Rattle.qvt_printer_layout.specs.declared.piece.Piece.{Piece}
 use Rattle.qvt_printer_layout.specs.declared.piece.Piece.TheVariants as piece
 use Rattle.qvt_printer.specs.Expressions as print
 use Rattle.qvt_printed_tokens.specs.Spelled.{all_spelled}
-use Rattle.qvt_printed_trees.specs.Printable.{IsPrintableExpr, IsPrintableOptional, IsPrintableStmt, ArePrintableStmts, IsPrintableArm, ArePrintableArms, IsPrintableElse}
-use Rattle.qvt_printed_trees.proofs.Spelling.{plain, plain_name, spelled_append, rest_spelled}
-use Rattle.qvt_printed_trees.proofs.Again.{Again, any, again_the, again_then, again_made, again_either, again_many, again_maybe, again_placed, again_left_out, optional_ok, if_there}
+use Rattle.qvt_printed_trees.specs.Printable.{IsPrintableExpr, IsPrintableStmt, ArePrintableStmts, IsPrintableArm, ArePrintableArms, IsPrintableElse}
+use Rattle.qvt_printed_trees.proofs.Spelling.{plain, plain_name, rest_spelled}
+use Rattle.qvt_printed_trees.proofs.Again.{Again, again_the, again_then, again_made, again_many, again_maybe, again_placed, again_left_out, optional_ok, if_there}
 use Rattle.qvt_printed_trees.proofs.AgainNames.{again_name, again_colon_type}
 use Rattle.qvt_printed_trees.proofs.AgainExprs.{AgainNested, bare_stmts, bare_optional, ok_optional, optional_any, again_expr}
 use Rattle.qvt_printed_trees.proofs.AgainSteps.{type_same, type_bare, same_front}

@@ -1,15 +1,13 @@
 -- Parameters, classes, helpers and constructors are read again.
 use Rattle.std.proofs.Common.{◌≡◌, List, [], ◌∷◌, ◌++◌, map, Bool, true, false, inl, inr, refl, sym, ap, ◌∙◌, subst, append_assoc, Option, Some, None, option_map}
-use Rattle.std.specs.Prelude.{⊤}
-use Rattle.qvt_tree_types.specs.Tree.{TypeTerm, ExprTerm, StmtTerm, ReturnStmt, SomeExpr}
+use Rattle.qvt_tree_types.specs.Tree.{TypeTerm}
 use Rattle.qvt_tree_types.specs.View.{stmts_of}
-use Rattle.qvt_tree_types.specs.Module.{TypedName, UnitTerm, ClassOf, MainOf, HelperOf, ConstructorOf}
+use Rattle.qvt_tree_types.specs.Module.{TypedName, ClassOf, MainOf, HelperOf, ConstructorOf}
 use Rattle.qvt_tree_types.specs.declared.types.PathTree.{PathTree}
 use Rattle.qvt_tree_types.specs.declared.module.ResultDecl.{ResultDecl}
-use Rattle.qvt_tree.specs.Shape.{nowhere, erase_path, erase_type, erase_optional_type, erase_stmt}
+use Rattle.qvt_tree.specs.Shape.{nowhere, erase_path, erase_stmt}
 use Rattle.qvt_tree.specs.ModuleShape.{erase_typed, erase_unit, erase_result, erase_optional_result}
-use Rattle.qvt_grammar.specs.Language.{Language, made, then, either}
-use Rattle.qvt_parser_grammar.specs.declared.named.UnitPath.{UnitPath}
+use Rattle.qvt_grammar.specs.Language.{made, then, either}
 use Rattle.qvt_parser_grammar.specs.declared.token.Class.{Class}
 use Rattle.qvt_parser_grammar.specs.declared.token.Class.TheVariants as class
 use Rattle.qvt_parser_grammar.specs.Readers.{the}
@@ -26,12 +24,12 @@ use Rattle.qvt_printer.specs.Units as printed
 use Rattle.qvt_printed_tokens.specs.Spelled.{all_spelled}
 use Rattle.qvt_printed_trees.specs.Printable.{IsPrintableUnit}
 use Rattle.qvt_printed_trees.proofs.Classes.{is_itself}
-use Rattle.qvt_printed_trees.proofs.Spelling.{plain, plain_name, spelled_append, rest_spelled, block_spelled}
-use Rattle.qvt_printed_trees.proofs.Again.{Again, any, again_the, again_word, again_then, again_made, again_either, again_one, again_many, again_maybe, again_placed, again_left_out, optional_ok, if_there}
+use Rattle.qvt_printed_trees.proofs.Spelling.{plain, plain_name, rest_spelled, block_spelled}
+use Rattle.qvt_printed_trees.proofs.Again.{Again, any, again_the, again_word, again_then, again_made, again_either, again_one, again_many, again_maybe, again_placed, again_left_out, if_there}
 use Rattle.qvt_printed_trees.proofs.AgainNames.{again_name, again_path, again_paths, again_unit_path, again_extent, bare_unit_path}
 use Rattle.qvt_printed_trees.proofs.AgainExprs.{bare_stmts, optional_any}
 use Rattle.qvt_printed_trees.proofs.AgainSteps.{type_same, type_bare, same_front}
-use Rattle.qvt_printed_trees.proofs.UnitBase.{Stmts, AgainBlock, AgainUnits}
+use Rattle.qvt_printed_trees.proofs.UnitBase.{Stmts, AgainUnits}
 
 -- a word and paths, of which there are some
 

@@ -1,25 +1,19 @@
 -- Chains of each level are read again.
-use Rattle.std.proofs.Common.{◌≡◌, ℕ, zero, suc, ◌+◌, ◌-◌, ◌≤◌, ◌<◌, List, [], ◌∷◌, ◌++◌, map, Bool, true, false, if◌then◌else◌, inl, inr, refl, sym, ap, ◌∙◌, subst, Option, Some, None, arith, append-nil}
-use Rattle.std.specs.Prelude.{⊤}
+use Rattle.std.proofs.Common.{◌≡◌, ℕ, zero, suc, ◌+◌, ◌-◌, ◌≤◌, List, [], ◌∷◌, ◌++◌, Bool, true, false, inl, inr, refl, sym, subst, Option, None, arith, append-nil}
 use Rattle.qvt_base.specs.declared.numbers.Place.{Place}
-use Rattle.qvt_tree_types.specs.Tree.{ExprTerm, LinkTerm, StepTerm, TargetTerm, IfExpr, ChainExpr, PrefixExpr, PostExpr}
-use Rattle.qvt_tree_types.specs.View.{links_of}
+use Rattle.qvt_tree_types.specs.Tree.{ExprTerm, TargetTerm, ChainExpr, PrefixExpr}
 use Rattle.qvt_tree_types.specs.declared.words.Level.{Level}
-use Rattle.qvt_tree.specs.Shape.{nowhere, erase_expr, erase_links}
-use Rattle.qvt_grammar.specs.Language.{Language, turns, head_of, many}
+use Rattle.qvt_tree.specs.Shape.{nowhere, erase_expr}
+use Rattle.qvt_grammar.specs.Language.{Language, head_of}
 use Rattle.qvt_parser_grammar.specs.Tokens.{Tok}
 use Rattle.qvt_parser_grammar.specs.Leads.{Lead, Plain, Each}
-use Rattle.qvt_parser_grammar.specs.Trees.{target_of, chain_of, post_lead, each_lead}
-use Rattle.qvt_parser_grammar.specs.Grammar.{Nested, other_primary, post, signed_post, pre, link, links, chain, level_of, flagged, lead_post, lead_pre, lead, lead_step, step, dot_step, arrow_rest}
-use Rattle.qvt_parser_grammar.specs.Series.{left}
-use Rattle.qvt_printer_layout.specs.declared.piece.Piece.{Piece}
+use Rattle.qvt_parser_grammar.specs.Grammar.{Nested, pre, links, chain, flagged}
 use Rattle.qvt_printer.specs.Expressions as print
-use Rattle.qvt_printer.specs.Levels.{is_as_loose, is_chain, is_chain_or_prefix}
+use Rattle.qvt_printer.specs.Levels.{is_as_loose, is_chain}
 use Rattle.qvt_printed_tokens.specs.Spelled.{all_spelled}
-use Rattle.qvt_printed_trees.specs.Printable.{begins_with_if}
-use Rattle.qvt_printed_trees.proofs.Spelling.{plain, spelled_append, spelled_head}
-use Rattle.qvt_printed_trees.proofs.Forms.{index_of, level_back, index_low, rank, tight_operand, operand_tight, is_post, is_prefix, is_primary, Bracket, NeedsBracket, Form}
-use Rattle.qvt_printed_trees.proofs.FormReads.{PostParts, post_parts, post_reads, bracket_post, bracket_primary, signed_reads, opens_with_if}
+use Rattle.qvt_printed_trees.proofs.Spelling.{spelled_append, spelled_head}
+use Rattle.qvt_printed_trees.proofs.Forms.{index_of, level_back, index_low, rank, operand_tight, Bracket, NeedsBracket, Form}
+use Rattle.qvt_printed_trees.proofs.FormReads.{post_parts, post_reads, bracket_post, signed_reads}
 
 abbrev first_place : List Tok → Place
 first_place ts = head_of (λ t. t.place) nowhere ts

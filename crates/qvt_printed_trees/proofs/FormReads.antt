@@ -1,29 +1,26 @@
 -- Each form of an expression is read again at its place.
-use Rattle.std.proofs.Common.{◌≡◌, ℕ, zero, suc, ◌+◌, ◌≤◌, ◌<◌, List, [], ◌∷◌, ◌++◌, map, Bool, true, false, if◌then◌else◌, inl, inr, refl, sym, ap, ◌∙◌, subst, Option, Some, None, arith, append-nil}
-use Rattle.std.specs.Prelude.{⊤}
+use Rattle.std.proofs.Common.{◌≡◌, List, [], ◌∷◌, ◌++◌, Bool, true, false, if◌then◌else◌, inl, inr, refl, sym, ap, ◌∙◌, subst, Option, None, append-nil}
 use Rattle.qvt_base.specs.declared.numbers.Place.{Place}
-use Rattle.qvt_tree_types.specs.Tree.{ExprTerm, LinkTerm, StepTerm, TargetTerm, IfExpr, ChainExpr, PrefixExpr, PostExpr}
-use Rattle.qvt_tree_types.specs.View.{links_of, steps_of}
-use Rattle.qvt_tree_types.specs.declared.words.Level.{Level}
+use Rattle.qvt_tree_types.specs.Tree.{ExprTerm, StepTerm, TargetTerm, IfExpr, ChainExpr, PrefixExpr, PostExpr}
+use Rattle.qvt_tree_types.specs.View.{steps_of}
 use Rattle.qvt_tree_types.specs.declared.words.Sign.{Sign}
 use Rattle.qvt_tree_types.specs.declared.words.PrefixOp.{PrefixOp}
 use Rattle.qvt_tree_types.specs.declared.words.PrefixOp.TheVariants as prefixes
 use Rattle.qvt_tree.specs.Shape.{nowhere, erase_expr, erase_signs, erase_sign}
-use Rattle.qvt_grammar.specs.Language.{Language, turns, head_of}
+use Rattle.qvt_grammar.specs.Language.{turns}
 use Rattle.qvt_parser_grammar.specs.Tokens.{Tok}
 use Rattle.qvt_parser_grammar.specs.declared.token.Class.TheVariants as class
-use Rattle.qvt_parser_grammar.specs.Leads.{Lead, Plain, Each}
+use Rattle.qvt_parser_grammar.specs.Leads.{Plain}
 use Rattle.qvt_parser_grammar.specs.Trees.{stepped, post_of, target_of, signed}
-use Rattle.qvt_parser_grammar.specs.Grammar.{Nested, expr, brackets, bare_expr, if_expr, other_primary, primary, step, post, sign, more_signs, signs, signed_post, pre, link, links, chain, level_of}
+use Rattle.qvt_parser_grammar.specs.Grammar.{Nested, expr, brackets, bare_expr, other_primary, primary, step, post, sign, more_signs, signs, signed_post}
 use Rattle.qvt_printer_layout.specs.declared.piece.Piece.{Piece}
 use Rattle.qvt_printer_layout.specs.Words as words
 use Rattle.qvt_printer.specs.Expressions as print
-use Rattle.qvt_printer.specs.Levels.{is_as_loose, is_chain, is_chain_or_prefix}
+use Rattle.qvt_printer.specs.Levels.{is_chain, is_chain_or_prefix}
 use Rattle.qvt_printed_tokens.specs.Spelled.{all_spelled}
 use Rattle.qvt_printed_trees.specs.Printable.{begins_with_if}
-use Rattle.qvt_printed_trees.proofs.Classes.{is_itself}
 use Rattle.qvt_printed_trees.proofs.Spelling.{plain, spelled_append, spelled_head}
-use Rattle.qvt_printed_trees.proofs.Forms.{index_of, level_back, index_low, rank, tight_operand, operand_tight, is_post, is_prefix, is_primary, Bracket, NeedsBracket, Form}
+use Rattle.qvt_printed_trees.proofs.Forms.{is_post, is_prefix, Bracket, NeedsBracket, Form}
 
 -- between round brackets
 

@@ -1,21 +1,20 @@
 -- What is read of operands, primaries and steps has a form.
-use Rattle.std.proofs.Common.{◌≡◌, ℕ, zero, suc, ◌+◌, ◌≤◌, ◌<◌, List, [], ◌∷◌, ◌++◌, map, Bool, true, false, ◌⊎◌, inl, inr, refl, sym, ap, ◌∙◌, subst, Option, Some, None, arith, append_assoc}
+use Rattle.std.proofs.Common.{◌≡◌, ℕ, ◌≤◌, List, [], ◌∷◌, ◌++◌, map, Bool, true, false, ◌⊎◌, inl, inr, refl, sym, ap, ◌∙◌, subst, Option, Some, None, arith, append_assoc}
 use Rattle.std.specs.Prelude.{⊤}
 use Rattle.qvt_base.specs.declared.numbers.Place.{Place}
-use Rattle.qvt_tree_types.specs.Tree.{ExprTerm, StepTerm, StepTerms, TargetTerm, BareTarget, ResultTarget, MemberTarget, PathExpr, ResultExpr, IfExpr, ChainExpr, PrefixExpr, PostExpr, DotStep, NoArgs, SomeArgs, NoSteps, MoreSteps}
+use Rattle.qvt_tree_types.specs.Tree.{ExprTerm, StepTerm, StepTerms, TargetTerm, BareTarget, ResultTarget, MemberTarget, PathExpr, ResultExpr, ChainExpr, PrefixExpr, PostExpr, DotStep, NoArgs, SomeArgs, NoSteps, MoreSteps}
 use Rattle.qvt_tree_types.specs.View.{steps_of}
 use Rattle.qvt_tree_types.specs.declared.words.Sign.{Sign}
-use Rattle.qvt_tree.specs.Shape.{nowhere, erase_expr, erase_step, erase_steps}
+use Rattle.qvt_tree.specs.Shape.{erase_step, erase_steps}
 use Rattle.qvt_grammar.specs.Language.{turns}
-use Rattle.qvt_parser_grammar.specs.Tokens.{Tok}
 use Rattle.qvt_parser_grammar.specs.Trees.{more_steps, stepped, post_of, split_last, member_of, target_of, bare_target, signed}
 use Rattle.qvt_parser_grammar.specs.Grammar.{Nested, step}
 use Rattle.qvt_printer.specs.Expressions as print
-use Rattle.qvt_printer.specs.Levels.{is_chain, is_chain_or_prefix}
+use Rattle.qvt_printer.specs.Levels.{is_chain_or_prefix}
 use Rattle.qvt_printed_tokens.specs.Spelled.{all_spelled}
 use Rattle.qvt_printed_trees.specs.Printable.{IsPrintableExpr, IsPrintableStep, ArePrintableSteps}
 use Rattle.qvt_printed_trees.proofs.Spelling.{spelled_append}
-use Rattle.qvt_printed_trees.proofs.Forms.{rank, is_post, is_prefix, is_primary, Bracket, NeedsBracket, StepsForm, Form}
+use Rattle.qvt_printed_trees.proofs.Forms.{rank, is_primary, Bracket, NeedsBracket, StepsForm, Form}
 use Rattle.qvt_printed_trees.proofs.LeadReads.{turns_append}
 
 -- steps

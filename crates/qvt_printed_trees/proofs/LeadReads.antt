@@ -1,24 +1,19 @@
 -- Expressions at the front of a statement are read again: values, targets and sources of a `forEach`.
-use Rattle.std.proofs.Common.{◌≡◌, ℕ, zero, suc, List, [], ◌∷◌, ◌++◌, map, Bool, true, false, if◌then◌else◌, ◌⊎◌, inl, inr, refl, sym, ap, ◌∙◌, subst, Option, Some, None, append-nil, append_assoc, pos, arith}
-use Rattle.std.specs.Prelude.{⊤}
+use Rattle.std.proofs.Common.{◌≡◌, ℕ, List, [], ◌∷◌, ◌++◌, Bool, true, false, if◌then◌else◌, inl, inr, refl, sym, ap, ◌∙◌, subst, Option, Some, None, append-nil, append_assoc, arith}
 use Rattle.qvt_base.specs.declared.numbers.Place.{Place}
-use Rattle.qvt_tree_types.specs.Tree.{ExprTerm, LinkTerm, StepTerm, TargetTerm, BareTarget, ResultTarget, MemberTarget, PathExpr, ResultExpr, IfExpr, ChainExpr, PrefixExpr, PostExpr, DotStep, NoArgs}
-use Rattle.qvt_tree_types.specs.declared.words.Level.{Level}
-use Rattle.qvt_tree.specs.Shape.{nowhere, erase_expr, erase_target}
+use Rattle.qvt_tree_types.specs.Tree.{ExprTerm, StepTerm, TargetTerm, BareTarget, ResultTarget, MemberTarget, PathExpr, ResultExpr, ChainExpr, PrefixExpr, DotStep, NoArgs}
+use Rattle.qvt_tree.specs.Shape.{nowhere, erase_expr}
 use Rattle.qvt_grammar.specs.Language.{Language, turns, lastly, head_of}
 use Rattle.qvt_parser_grammar.specs.Tokens.{Tok}
-use Rattle.qvt_parser_grammar.specs.declared.named.Named.{Named}
 use Rattle.qvt_parser_grammar.specs.declared.token.Class.TheVariants as class
 use Rattle.qvt_parser_grammar.specs.Leads.{Lead, Plain, Each, EachPart}
 use Rattle.qvt_parser_grammar.specs.Series.{left, right}
-use Rattle.qvt_parser_grammar.specs.Trees.{post_of, target_of, each_lead, split_last, member_of, second}
-use Rattle.qvt_parser_grammar.specs.Grammar.{Nested, name, more_names, args, named_expr, word, literal, longer, bare_expr, other_primary, post, signed_post, pre, chain, lead_post, lead_pre, lead, lead_step, step, dot_step, dot_rest, arrow_rest, each_tail}
-use Rattle.qvt_printer_layout.specs.declared.piece.Piece.{Piece}
-use Rattle.qvt_printer_layout.specs.declared.piece.Piece.TheVariants as piece
+use Rattle.qvt_parser_grammar.specs.Trees.{post_of, target_of, each_lead, split_last, member_of}
+use Rattle.qvt_parser_grammar.specs.Grammar.{Nested, name, more_names, named_expr, word, bare_expr, other_primary, pre, chain, lead_post, lead_pre, lead, lead_step, step, dot_step, dot_rest}
 use Rattle.qvt_printer.specs.Expressions as print
 use Rattle.qvt_printer.specs.Levels.{is_as_loose, is_chain, is_chain_or_prefix}
 use Rattle.qvt_printed_tokens.specs.Spelled.{all_spelled}
-use Rattle.qvt_printed_trees.specs.Printable.{begins_with_if, target_begins_with_if}
+use Rattle.qvt_printed_trees.specs.Printable.{begins_with_if}
 use Rattle.qvt_printed_trees.proofs.Spelling.{plain, plain_name, spelled_append, spelled_head}
 use Rattle.qvt_printed_trees.proofs.Forms.{Bracket, NeedsBracket, Form}
 use Rattle.qvt_printed_trees.proofs.FormReads.{PostParts, post_parts, bracket_primary, signed_reads, opens_with_if}

@@ -23,4 +23,4 @@ pub mod LiftsExprs
 pub mod LiftsChains
 pub mod LiftsStmts
 pub mod LiftsUnits
-pub mod Law
+pub mod Printed

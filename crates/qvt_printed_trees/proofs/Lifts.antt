@@ -1,7 +1,7 @@
 -- Tokens that are alike but for places are read as values that are alike but for places.
-use Rattle.std.proofs.Common.{◌≡◌, List, [], ◌∷◌, ◌++◌, map, Bool, true, false, ◌⊎◌, inl, inr, refl, sym, ap, ◌∙◌, subst, Option, Some, None, option_map, IsTrue, nat_eq, ◌||◌, ℕ}
+use Rattle.std.proofs.Common.{◌≡◌, List, [], ◌∷◌, ◌++◌, map, Bool, false, ◌⊎◌, inl, inr, refl, sym, ap, ◌∙◌, subst, Option, Some, None, option_map, IsTrue, nat_eq, ◌||◌, ℕ}
 use Rattle.qvt_base.specs.declared.numbers.Place.{Place}
-use Rattle.qvt_grammar.specs.Language.{Language, token, follow, then, either, many, turns, made, never, empty, maybe, marked, head_of, lastly, ended}
+use Rattle.qvt_grammar.specs.Language.{Language, token, follow, then, either, many, turns, made, empty, maybe, head_of, lastly}
 use Rattle.qvt_grammar.specs.Reader.{starts}
 use Rattle.qvt_parser_grammar.specs.Tokens.{Tok, is, of, code_of}
 use Rattle.qvt_parser_grammar.specs.Readers.{the, placed, nowhere}

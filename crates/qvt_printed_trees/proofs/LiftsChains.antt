@@ -1,16 +1,15 @@
 -- Steps, operands, chains and what begins a statement are read alike but for places.
-use Rattle.std.proofs.Common.{◌≡◌, ℕ, zero, suc, List, [], ◌∷◌, ◌++◌, map, Bool, true, false, ◌⊎◌, inl, inr, refl, sym, ap, ◌∙◌, Option, Some, None, option_map}
+use Rattle.std.proofs.Common.{◌≡◌, ℕ, zero, suc, List, [], ◌∷◌, ◌++◌, map, Bool, true, false, inl, inr, refl, sym, ap, ◌∙◌, Option, Some, None, option_map}
 use Rattle.qvt_base.specs.declared.numbers.Place.{Place}
-use Rattle.qvt_tree_types.specs.Tree.{TypeTerm, ExprTerm, LinkTerm, LinkOf, StepTerm, StepTerms, TargetTerm, BareTarget, ResultTarget, MemberTarget, PathExpr, ResultExpr, ChainExpr, PrefixExpr, PostExpr, DotStep, ArrowStep, NoHead, NoArgs, SomeArgs, DotMapStep, DotResolveStep, ArrowMapStep, ArrowResolveStep}
-use Rattle.qvt_tree_types.specs.View.{steps_of, links_of}
+use Rattle.qvt_tree_types.specs.Tree.{ExprTerm, LinkTerm, LinkOf, StepTerm, BareTarget, ResultTarget, MemberTarget, PathExpr, ResultExpr, ChainExpr, PrefixExpr, PostExpr, DotStep, ArrowStep, NoHead, NoArgs, SomeArgs, DotMapStep, DotResolveStep, ArrowMapStep, ArrowResolveStep}
 use Rattle.qvt_tree_types.specs.declared.words.Level.{Level}
 use Rattle.qvt_tree_types.specs.declared.words.Sign.{Sign}
-use Rattle.qvt_tree.specs.Shape.{nowhere, erase_expr, erase_exprs, erase_head, erase_step, erase_steps, erase_sign, erase_signs, erase_link, erase_links, erase_stmt, erase_target, erase_optional_type, erase_type}
-use Rattle.qvt_grammar.specs.Language.{Language, never, made, empty, many}
+use Rattle.qvt_tree.specs.Shape.{nowhere, erase_expr, erase_head, erase_step, erase_sign, erase_signs, erase_link, erase_stmt, erase_target}
+use Rattle.qvt_grammar.specs.Language.{Language, made}
 use Rattle.qvt_parser_grammar.specs.Tokens.{Tok}
 use Rattle.qvt_parser_grammar.specs.declared.token.Class.TheVariants.{OpenRound, CloseRound, Dot, Arrow, ForEachWord, NotWord, MinusSign, Star, PlusSign, LessSign, AtMost, GreaterSign, AtLeast, EqualSign, DoubleEqual, Diamond, BangEqual, AndWord, OrWord, XorWord, ImpliesWord}
 use Rattle.qvt_parser_grammar.specs.Leads.{Lead, Plain, Each, EachPart}
-use Rattle.qvt_parser_grammar.specs.Trees.{second, first, no_args, dot_of, arrow_of, expr_of, headed, with_first, each_of, more_steps, stepped, post_of, split_last, member_of, target_of, bare_target, post_lead, each_lead, not_of, minus_of, signed, prefix_lead, binary_op, link_of, chain_of, nothing}
+use Rattle.qvt_parser_grammar.specs.Trees.{second, first, no_args, dot_of, arrow_of, expr_of, headed, with_first, each_of, stepped, post_of, split_last, member_of, target_of, bare_target, post_lead, each_lead, not_of, minus_of, signed, prefix_lead, binary_op, link_of, chain_of, nothing}
 use Rattle.qvt_parser_grammar.specs.Grammar.{Nested, more_exprs, dot_rest, dot_step, after_first, arrow_body, arrow_args, arrow_rest, step, post, sign, more_signs, signs, signed_post, pre, each_tail, lead_step, level_of, operator, link, links, chain, flagged, lead_post, lead_pre, lead}
 use Rattle.qvt_printed_tokens.specs.Spelled.{unplaced}
 use Rattle.qvt_printed_trees.proofs.Lifts.{Lifts, both, bare_sum, lifts_the, lifts_then, lifts_follow, lifts_made, lifts_made_as, lifts_either, lifts_placed, lifts_many, lifts_maybe, lifts_series, lifts_empty}

@@ -1,13 +1,12 @@
 -- Statements, blocks and nestings are read alike but for places.
-use Rattle.std.proofs.Common.{◌≡◌, ℕ, zero, suc, List, [], ◌∷◌, ◌++◌, map, Bool, true, false, ◌⊎◌, inl, inr, refl, sym, ap, ◌∙◌, Option, Some, None, option_map}
+use Rattle.std.proofs.Common.{◌≡◌, ℕ, zero, suc, List, [], ◌∷◌, ◌++◌, map, inl, refl, ap, ◌∙◌, Option, Some, None, option_map}
 use Rattle.qvt_base.specs.declared.numbers.Place.{Place}
 use Rattle.qvt_tree_types.specs.Tree.{ExprTerm, TargetTerm, StmtTerm, VarStmt, ReturnStmt, IfStmt, WhileStmt, ForEachStmt, ArmOf}
 use Rattle.qvt_tree.specs.Shape.{nowhere, erase_expr, erase_arm, erase_stmt, erase_target}
-use Rattle.qvt_grammar.specs.Language.{Language}
 use Rattle.qvt_parser_grammar.specs.Tokens.{Tok}
 use Rattle.qvt_parser_grammar.specs.declared.token.Class.TheVariants.{OpenRound, CloseRound, OpenBrace, CloseBrace, Semicolon, Becomes, PlusEqual, ElifWord, ElseWord, EndifWord, IfWord, ReturnWord, ThenWord, VarWord, WhileWord}
 use Rattle.qvt_parser_grammar.specs.Leads.{Lead, Plain, Each, Ended}
-use Rattle.qvt_parser_grammar.specs.Trees.{second, inner, is_there}
+use Rattle.qvt_parser_grammar.specs.Trees.{second, inner}
 use Rattle.qvt_parser_grammar.specs.Grammar.{Nested}
 use Rattle.qvt_parser_grammar.specs.Statements.{condition, var_stmt, return_stmt, arm, else_part, if_stmt, while_stmt, assignment, semicolon, lead_tail, lead_stmt, statement, statements, block}
 use Rattle.qvt_parser_grammar.specs.StmtTrees.{var_of, return_of, arm_of, if_stmt_of, while_of, Turn, Tail, empty_turn, closed_turn, simple_turn, no_tail, plain_tail, written, lead_turn, concat, last_of, ended_of, block_of}

@@ -1,21 +1,18 @@
 -- Units and transformations are read alike but for places.
-use Rattle.std.proofs.Common.{◌≡◌, ℕ, zero, suc, List, [], ◌∷◌, ◌++◌, map, Bool, true, false, inl, inr, refl, sym, ap, ◌∙◌, Option, Some, None, option_map}
-use Rattle.qvt_tree_types.specs.Tree.{ExprTerm, StmtTerm}
-use Rattle.qvt_tree_types.specs.Module.{TypedName, UnitTerm, ClassOf, MainOf, HelperOf, ConstructorOf, MappingOf, ModuleTerm}
-use Rattle.qvt_tree_types.specs.declared.types.PathTree.{PathTree}
-use Rattle.qvt_tree_types.specs.declared.module.ModelParam.{ModelParam}
+use Rattle.std.proofs.Common.{◌≡◌, ℕ, zero, suc, List, [], ◌∷◌, ◌++◌, map, Bool, true, false, refl, ap, ◌∙◌, Option, Some, None, option_map}
+use Rattle.qvt_tree_types.specs.Tree.{StmtTerm}
+use Rattle.qvt_tree_types.specs.Module.{UnitTerm, ClassOf, MainOf, HelperOf, ConstructorOf, MappingOf}
 use Rattle.qvt_tree.specs.Shape.{nowhere, erase_path, erase_expr, erase_stmt}
 use Rattle.qvt_tree.specs.ModuleShape.{erase_typed, erase_unit, erase_result, erase_model_type, erase_model_param, shape}
-use Rattle.qvt_grammar.specs.Language.{Language, made, then, empty}
-use Rattle.qvt_parser_grammar.specs.Tokens.{Tok, of, code_of}
+use Rattle.qvt_grammar.specs.Language.{made, then}
+use Rattle.qvt_parser_grammar.specs.Tokens.{code_of}
 use Rattle.qvt_parser_grammar.specs.Readers.{the}
 use Rattle.qvt_parser_grammar.specs.declared.token.Class.{Class}
 use Rattle.qvt_parser_grammar.specs.declared.token.Class.TheVariants.{Name, Str, OpenRound, CloseRound, OpenBrace, CloseBrace, Comma, Semicolon, Colon, EqualSign, ClassWord, ConstructorWord, DisjunctsWord, EndWord, ExtendsWord, HelperWord, InWord, InheritsWord, InitWord, InoutWord, IntermediateWord, MainWord, MappingWord, MergesWord, ModelTypeWord, OutWord, PopulationWord, QueryWord, TransformationWord, UsesWord, WhenWord}
-use Rattle.qvt_parser_grammar.specs.Leads.{Ended}
 use Rattle.qvt_parser_grammar.specs.Trees.{first, second, inner, nothing, cons_of, text_of}
 use Rattle.qvt_parser_grammar.specs.Grammar.{Nested, paths}
 use Rattle.qvt_parser_grammar.specs.Units.{param, params, feature, features, class_unit, main_unit, helper_body, helper_unit, constructor_unit, result_decl, when_clause, clause, init_part, end_part, end_unless, end_after, sections, body, fresh, clauses, mapping_unit, unit, is_strictness, strictness, uri, model_type, model_param, header, transformation}
-use Rattle.qvt_parser_grammar.specs.UnitTrees.{typed_name_of, param_of, paths_or_none, class_of, main_of, is_query, return_body, helper_of, constructor_of, result_decl_of, Clauses, no_clauses, Clause, InheritsClause, MergesClause, DisjunctsClause, WhenClause, with_clause, where_there, read_words, or_same, Body, empty_body, body_of, stmts_or_none, sections_of, open_sections_of, mapping_of, some_unit, model_type_of, model_param_of, direction_of, units_of, module_of, kept, no_end}
+use Rattle.qvt_parser_grammar.specs.UnitTrees.{typed_name_of, param_of, class_of, main_of, is_query, return_body, helper_of, constructor_of, result_decl_of, Clauses, no_clauses, Clause, InheritsClause, MergesClause, DisjunctsClause, WhenClause, with_clause, where_there, read_words, or_same, empty_body, body_of, stmts_or_none, sections_of, open_sections_of, mapping_of, some_unit, model_type_of, model_param_of, units_of, module_of, kept, no_end}
 use Rattle.qvt_printed_tokens.specs.Spelled.{unplaced}
 use Rattle.qvt_printed_trees.proofs.Lifts.{Lifts, both, lifts_token, lifts_the, lifts_then, lifts_follow, lifts_made, lifts_made_as, lifts_either, lifts_placed, lifts_many, lifts_maybe, lifts_empty, lifts_barring}
 use Rattle.qvt_printed_trees.proofs.AgainNames.{bare_named, bare_unit_path}
@@ -24,9 +21,9 @@ use Rattle.qvt_printed_trees.proofs.AgainSteps.{type_bare}
 use Rattle.qvt_printed_trees.proofs.AgainUnits.{result_bare, paths_bare}
 use Rattle.qvt_printed_trees.proofs.AgainClauses.{bare_clauses}
 use Rattle.qvt_printed_trees.proofs.AgainMappings.{bare_body}
-use Rattle.qvt_printed_trees.proofs.AgainModule.{TypeParts, bare_parts, Header, bare_header}
+use Rattle.qvt_printed_trees.proofs.AgainModule.{bare_parts, bare_header}
 use Rattle.qvt_printed_trees.proofs.LiftsExprs.{LiftsNested, lifts_name, lifts_path, lifts_paths, lifts_unit_path, lifts_extent, extent_same, lifts_colon_type, lifts_expr}
-use Rattle.qvt_printed_trees.proofs.LiftsStmts.{bare_ended, lifts_statements}
+use Rattle.qvt_printed_trees.proofs.LiftsStmts.{lifts_statements}
 
 -- the builders, without places
 

@@ -1,10 +1,8 @@
 -- What expressions are read as has a form, and is read again.
-use Rattle.std.proofs.Common.{◌≡◌, ℕ, zero, suc, ◌+◌, ◌≤◌, ◌<◌, List, [], ◌∷◌, ◌++◌, map, Bool, true, false, ◌⊎◌, inl, inr, refl, sym, ap, ◌∙◌, subst, Option, Some, None, arith}
-use Rattle.std.specs.Prelude.{⊤}
+use Rattle.std.proofs.Common.{◌≡◌, ℕ, zero, suc, ◌≤◌, ◌<◌, List, [], ◌∷◌, map, Bool, true, false, ◌⊎◌, inl, inr, refl, sym, ap, ◌∙◌, subst, None, arith}
 use Rattle.qvt_base.specs.declared.numbers.Place.{Place}
-use Rattle.qvt_tree_types.specs.Tree.{ExprTerm, LinkTerm, LinkTerms, LinkOf, MoreLinks, StepTerm, TargetTerm, IfExpr, ChainExpr, PrefixExpr, PostExpr}
+use Rattle.qvt_tree_types.specs.Tree.{ExprTerm, LinkTerm, LinkOf, MoreLinks, StepTerm, IfExpr, ChainExpr, PrefixExpr, PostExpr}
 use Rattle.qvt_tree_types.specs.View.{links_of}
-use Rattle.qvt_tree_types.specs.declared.words.Level.{Level}
 use Rattle.qvt_tree_types.specs.declared.words.BinaryOp.{BinaryOp}
 use Rattle.qvt_tree_types.specs.declared.words.BinaryOp.TheVariants as ops
 use Rattle.qvt_tree.specs.Shape.{nowhere, erase_expr, erase_link, erase_links}
@@ -12,22 +10,22 @@ use Rattle.qvt_grammar.specs.Language.{Language, turns}
 use Rattle.qvt_parser_grammar.specs.Tokens.{Tok}
 use Rattle.qvt_parser_grammar.specs.declared.token.Class.{Class}
 use Rattle.qvt_parser_grammar.specs.declared.token.Class.TheVariants as class
-use Rattle.qvt_parser_grammar.specs.Leads.{Lead, Plain, Each, EachPart}
-use Rattle.qvt_parser_grammar.specs.Trees.{post_of, target_of, post_lead, expr_of, prefix_lead, link_of, chain_of, binary_op}
+use Rattle.qvt_parser_grammar.specs.Leads.{Lead, Plain, Each}
+use Rattle.qvt_parser_grammar.specs.Trees.{expr_of, link_of, chain_of, binary_op}
 use Rattle.qvt_parser_grammar.specs.Grammar.{Nested, expr, brackets, bare_expr, if_expr, other_primary, primary, step, post, signed_post, pre, operator, link, links, chain, level_of, flagged}
 use Rattle.qvt_printer_layout.specs.Words as words
 use Rattle.qvt_printer.specs.Expressions as print
-use Rattle.qvt_printer.specs.Levels.{is_as_loose, is_chain, is_chain_or_prefix}
+use Rattle.qvt_printer.specs.Levels.{is_as_loose, is_chain_or_prefix}
 use Rattle.qvt_printed_tokens.specs.Spelled.{all_spelled}
 use Rattle.qvt_printed_trees.specs.Printable.{IsPrintableExpr, IsPrintableLink, ArePrintableLinks}
 use Rattle.qvt_printed_trees.proofs.Classes.{is_itself}
-use Rattle.qvt_printed_trees.proofs.Spelling.{plain, spelled_append}
-use Rattle.qvt_printed_trees.proofs.Again.{Again, any, again_word, again_one, again_the, again_turns}
+use Rattle.qvt_printed_trees.proofs.Spelling.{plain}
+use Rattle.qvt_printed_trees.proofs.Again.{Again, any, again_word, again_one, again_turns}
 use Rattle.qvt_printed_trees.proofs.AgainExprs.{AgainNested, Inside, again_bare_expr, again_if_expr, bare_basic}
 use Rattle.qvt_printed_trees.proofs.AgainSteps.{again_step}
-use Rattle.qvt_printed_trees.proofs.Forms.{index_of, index_back, rank, tight_operand, is_primary, is_basic, Bracket, NeedsBracket, Form, basic_form}
-use Rattle.qvt_printed_trees.proofs.ChainReads.{anyhow, pre_opens, operand_reads, flagged_reads}
-use Rattle.qvt_printed_trees.proofs.Good.{GoodSteps, GoodFirst, GoodPrimary, GoodOperand, GoodTarget, post_operand, good_target, signed_operand}
+use Rattle.qvt_printed_trees.proofs.Forms.{index_back, tight_operand, is_primary, is_basic, NeedsBracket, Form, basic_form}
+use Rattle.qvt_printed_trees.proofs.ChainReads.{anyhow, pre_opens, operand_reads}
+use Rattle.qvt_printed_trees.proofs.Good.{GoodSteps, GoodPrimary, GoodOperand, post_operand, signed_operand}
 
 basic_primary : (e : ExprTerm) → is_basic e ≡ true → is_primary e ≡ true
 basic_primary (IfExpr condition one_value other place) q = refl

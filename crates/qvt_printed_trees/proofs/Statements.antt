@@ -1,26 +1,24 @@
 -- What statements and blocks are read as is read again.
-use Rattle.std.proofs.Common.{◌≡◌, ℕ, zero, suc, ◌≤◌, List, [], ◌∷◌, ◌++◌, map, Bool, true, false, ◌⊎◌, inl, inr, refl, sym, ap, ◌∙◌, subst, append_assoc, append-nil, Option, Some, None, arith}
+use Rattle.std.proofs.Common.{◌≡◌, List, [], ◌∷◌, ◌++◌, map, Bool, true, false, inl, inr, refl, sym, ap, ◌∙◌, subst, append_assoc, append-nil, Option, Some, None, arith}
 use Rattle.std.specs.Prelude.{⊤}
 use Rattle.qvt_base.specs.declared.numbers.Place.{Place}
-use Rattle.qvt_tree_types.specs.Tree.{ExprTerm, StepTerm, TargetTerm, BareTarget, ResultTarget, MemberTarget, TypeTerm, StmtTerm, AssignStmt, ValueStmt, ForEachStmt}
+use Rattle.qvt_tree_types.specs.Tree.{ExprTerm, StepTerm, TargetTerm, BareTarget, ResultTarget, MemberTarget, StmtTerm, AssignStmt, ValueStmt, ForEachStmt}
 use Rattle.qvt_tree_types.specs.View.{stmts_of}
-use Rattle.qvt_tree.specs.Shape.{nowhere, erase_expr, erase_target, erase_stmt, erase_stmts}
-use Rattle.qvt_grammar.specs.Language.{Language, either, maybe, turns, lastly, head_of}
+use Rattle.qvt_tree.specs.Shape.{nowhere, erase_expr, erase_target, erase_stmt}
+use Rattle.qvt_grammar.specs.Language.{either, maybe, turns, lastly, head_of}
 use Rattle.qvt_parser_grammar.specs.Tokens.{Tok}
-use Rattle.qvt_parser_grammar.specs.declared.token.Class.{Class}
 use Rattle.qvt_parser_grammar.specs.declared.token.Class.TheVariants as class
 use Rattle.qvt_parser_grammar.specs.Leads.{Lead, Plain, Each, EachPart, Ended}
 use Rattle.qvt_parser_grammar.specs.Readers.{the}
 use Rattle.qvt_parser_grammar.specs.Series.{left, right}
-use Rattle.qvt_parser_grammar.specs.Trees.{expr_of, post_of, post_lead, each_lead}
-use Rattle.qvt_parser_grammar.specs.Grammar.{Nested, expr, other_primary, step, pre, chain, lead_post, lead_pre, lead, lead_step, each_tail, arrow_rest}
+use Rattle.qvt_parser_grammar.specs.Trees.{expr_of, each_lead}
+use Rattle.qvt_parser_grammar.specs.Grammar.{Nested, expr, other_primary, step, lead_post, lead_pre, lead, lead_step, each_tail}
 use Rattle.qvt_parser_grammar.specs.Statements.{assignment, semicolon, lead_tail, lead_stmt, statement, statements, block, var_stmt, return_stmt, if_stmt, while_stmt}
-use Rattle.qvt_parser_grammar.specs.StmtTrees.{Turn, Tail, simple_turn, is_adding, written, lead_turn, concat, last_of, ended_of}
+use Rattle.qvt_parser_grammar.specs.StmtTrees.{Turn, Tail, simple_turn, is_adding, written, lead_turn, concat, last_of}
 use Rattle.qvt_printer_layout.specs.declared.piece.Piece.{Piece}
 use Rattle.qvt_printer_layout.specs.declared.piece.Piece.TheVariants as piece
 use Rattle.qvt_printer_layout.specs.Words as words
 use Rattle.qvt_printer.specs.Expressions as print
-use Rattle.qvt_printer.specs.Levels.{is_chain_or_prefix}
 use Rattle.qvt_printed_tokens.specs.Spelled.{all_spelled}
 use Rattle.qvt_printed_trees.specs.Printable.{IsPrintableExpr, IsPrintableStmt, ArePrintableStmts, IsPrintableTarget, target_begins_with_if}
 use Rattle.qvt_printed_trees.proofs.Spelling.{plain, spelled_append, spelled_head, block_spelled}

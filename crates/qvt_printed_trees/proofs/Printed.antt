@@ -1,13 +1,10 @@
 -- The law that the tokens of a printed text are read as a tree of the same shape.
-use Rattle.std.proofs.Common.{◌≡◌, List, map, sym, subst}
+use Rattle.std.proofs.Common.{List, map, sym, subst}
 use Rattle.qvt_tree_types.specs.Module.{ModuleTerm}
 use Rattle.qvt_tree.specs.ModuleShape.{shape}
 use Rattle.qvt_parser_grammar.specs.Tokens.{Tok}
-use Rattle.qvt_parser_grammar.specs.Nesting.{nested}
 use Rattle.qvt_parser_grammar.specs.Module.{Reads}
-use Rattle.qvt_printer.specs.Units.{module_pieces}
-use Rattle.qvt_printed_tokens.specs.Spelled.{unplaced, all_spelled}
-use Rattle.qvt_printed_trees.specs.Printable.{IsPrintable}
+use Rattle.qvt_printed_tokens.specs.Spelled.{unplaced}
 use Rattle.qvt_printed_trees.specs.Law.{ReadsShape, PrintedIsRead}
 use Rattle.qvt_printed_trees.proofs.AgainModule.{again_module}
 use Rattle.qvt_printed_trees.proofs.LiftsStmts.{lifts_nested}
