@@ -54,7 +54,7 @@ module _ {i j : Nested} (h : AgainUnits i j) where
   again_when = again_made second (again_then (again_the class.WhenWord) (again_made {ok2 = IsPrintableExpr} {p2 = λ e. piece.Plain class.OpenBrace ∷ (print.expr e ++ print.one class.CloseBrace)} {b2 = erase_expr} inner (again_then (again_the class.OpenBrace) (again_then h.value
       (again_made {ok2 = any} {p2 = λ _. print.one class.CloseBrace} {b2 = λ _. plain class.CloseBrace} second (again_then (again_left_out {l = the class.Semicolon} {m = the class.Semicolon}) (again_the class.CloseBrace)) (λ a o. (tt, tt)) (λ a. refl) (λ a. refl))))
       (λ a o. (tt, (o, tt))) (λ a. refl) (λ a. refl)))
-    (λ a o. (tt, o)) (λ a. refl) (λ a. refl)
+      (λ a o. (tt, o)) (λ a. refl) (λ a. refl)
 
   paths_good : (word : Class) (ts : List Tok) (ps : List PathTree) → (Listed word).reads ts ps → PathsGood word (Some ps)
   paths_good word ts ps rd = (again_listed word).again ts ps rd tt

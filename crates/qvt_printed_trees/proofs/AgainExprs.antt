@@ -136,7 +136,7 @@ filter_bare n (inr ns) = λ j. (None, PathType (bare_path_of n ns j))
 whole_filter : (head : FilterHead) (x : Option ExprTerm) → all_spelled (print.filter (FilterOf head.0 head.1 (optional_expr x) nowhere)) ≡ all_spelled (filter_pieces head ++ if_there (λ (e : ExprTerm). piece.Plain class.Bar ∷ print.expr e) x)
 whole_filter head x =
     rest_spelled (print.named_if head.0) (print.type_of head.1 ++ print.condition_if (optional_expr x)) (print.type_of head.1 ++ if_there (λ (e : ExprTerm). piece.Plain class.Bar ∷ print.expr e) x) (rest_spelled (print.type_of head.1) _ _ (condition_same x))
-      ∙ ap all_spelled (sym (append_assoc (print.named_if head.0) (print.type_of head.1) _))
+    ∙ ap all_spelled (sym (append_assoc (print.named_if head.0) (print.type_of head.1) _))
 
 -- resolves
 
@@ -212,10 +212,12 @@ comma_spelled i ts f rd = subst (λ z. all_spelled (comma_filter z) ≡ plain cl
 module _ {i : Nested} (h : AgainNested i) where
   pub again_expr : Again IsPrintableExpr print.expr erase_expr (expr i) (expr i)
   unfolding expr
-  again_expr = record { again = λ ts e rd o. (
-      let q = rd.2 in
-      let w = h.flagged ts rd.0 rd.1 (subst IsPrintableExpr q o) in
-      subst (λ z. (expr i).reads (all_spelled (print.expr z)) (erase_expr z)) (sym q) (Plain (erase_expr (expr_of rd.0)) w.bracket.0, w.bracket.1, refl)) }
+  again_expr = record {
+    again = λ ts e rd o. (
+        let q = rd.2 in
+        let w = h.flagged ts rd.0 rd.1 (subst IsPrintableExpr q o) in
+        subst (λ z. (expr i).reads (all_spelled (print.expr z)) (erase_expr z)) (sym q) (Plain (erase_expr (expr_of rd.0)) w.bracket.0, w.bracket.1, refl));
+  }
 
   pub again_more_exprs : Again (λ (es : List ExprTerm). ArePrintableExprs (exprs_of es)) (λ es. print.exprs true (exprs_of es)) (map erase_expr) (more_exprs i) (more_exprs i)
   unfolding more_exprs
@@ -230,8 +232,8 @@ module _ {i : Nested} (h : AgainNested i) where
   unfolding args
   again_args = again_made second (again_then (again_the class.OpenRound)
       (again_either {ok = λ (es : List ExprTerm). ArePrintableExprs (exprs_of es)} {p = λ es. print.exprs false (exprs_of es) ++ print.one class.CloseRound} {b = map erase_expr}
-        (again_made nothing (again_the class.CloseRound) (λ a o. tt) (λ a. refl) (λ a. refl))
-        (again_made first (again_then again_exprs (again_the class.CloseRound)) (λ a o. (o, tt)) (λ a. refl) (λ a. refl))))
+      (again_made nothing (again_the class.CloseRound) (λ a o. tt) (λ a. refl) (λ a. refl))
+      (again_made first (again_then again_exprs (again_the class.CloseRound)) (λ a o. (o, tt)) (λ a. refl) (λ a. refl))))
       (λ a o. (tt, o)) (λ a. refl) (λ a. refl)
 
   pub again_literal : Again IsPrintableExpr print.expr erase_expr literal literal
@@ -247,8 +249,8 @@ module _ {i : Nested} (h : AgainNested i) where
   pub again_named_expr : Again IsPrintableExpr print.expr erase_expr (named_expr i) (named_expr i)
   unfolding named_expr
   again_named_expr = again_made named_expr_of (again_then again_name (again_either {ok = call_ok} {p = call_pieces} {b = bare_call}
-        (again_made inl again_args (λ a o. o) (λ a. refl) (λ a. refl))
-        (again_made inr again_more_names (λ a o. tt) (λ a. refl) (λ a. refl))))
+      (again_made inl again_args (λ a o. o) (λ a. refl) (λ a. refl))
+      (again_made inr again_more_names (λ a o. tt) (λ a. refl) (λ a. refl))))
       (λ a o. (tt, call_okay a.0 a.1 o)) (λ a. call_same a.0 a.1) (λ a. call_bare a.0 a.1)
 
   pub again_item : Again IsPrintableItem print.item erase_item (item i) (item i)
@@ -260,13 +262,13 @@ module _ {i : Nested} (h : AgainNested i) where
   unfolding coll
   again_coll = again_made coll_of (again_then again_kind_word (again_made {ok2 = Items} {p2 = λ is. piece.Plain class.OpenBrace ∷ (item_pieces is ++ print.one class.CloseBrace)} {b2 = map erase_item} second (again_then (again_the class.OpenBrace)
       (again_either {ok = Items} {p = λ is. item_pieces is ++ print.one class.CloseBrace} {b = map erase_item}
-        (again_made nothing (again_the class.CloseBrace) (λ a o. tt) (λ a. refl) (λ a. refl))
-        (again_made first (again_then (again_made {ok2 = Items} {p2 = item_pieces} {b2 = map erase_item} cons_of (again_then again_item
-            (again_many (again_made {ok2 = IsPrintableItem} {p2 = λ x. piece.Plain class.Comma ∷ print.item x} {b2 = erase_item} second (again_then (again_the class.Comma) again_item) (λ a o. (tt, o)) (λ a. refl) (λ a. refl))
-              Items (λ a more o. o) (λ is. print.all_items true (items_of is)) refl (λ a more. refl)))
-            (λ a o. o) (λ a. refl) (λ a. refl)) (again_the class.CloseBrace)) (λ a o. (o, tt)) (λ a. refl) (λ a. refl))))
+      (again_made nothing (again_the class.CloseBrace) (λ a o. tt) (λ a. refl) (λ a. refl))
+      (again_made first (again_then (again_made {ok2 = Items} {p2 = item_pieces} {b2 = map erase_item} cons_of (again_then again_item
+      (again_many (again_made {ok2 = IsPrintableItem} {p2 = λ x. piece.Plain class.Comma ∷ print.item x} {b2 = erase_item} second (again_then (again_the class.Comma) again_item) (λ a o. (tt, o)) (λ a. refl) (λ a. refl))
+      Items (λ a more o. o) (λ is. print.all_items true (items_of is)) refl (λ a more. refl)))
+      (λ a o. o) (λ a. refl) (λ a. refl)) (again_the class.CloseBrace)) (λ a o. (o, tt)) (λ a. refl) (λ a. refl))))
       (λ a o. (tt, o)) (λ a. refl) (λ a. refl)))
-    (λ a o. (tt, o)) (λ a. ap (λ z. plain (kind_class a.0.class) ∷ z) (items_spelled (item_pieces a.1))) (λ a j. CollExpr (kind_again a.0.class j) (bare_items a.1 j) nowhere)
+      (λ a o. (tt, o)) (λ a. ap (λ z. plain (kind_class a.0.class) ∷ z) (items_spelled (item_pieces a.1))) (λ a j. CollExpr (kind_again a.0.class j) (bare_items a.1 j) nowhere)
 
   pub again_if_expr : Again IsPrintableExpr print.expr erase_expr (if_expr i) (if_expr i)
   unfolding if_expr
@@ -297,9 +299,9 @@ module _ {i : Nested} (h : AgainNested i) where
   unfolding filter_head
   again_filter_head = again_either (again_made no_name (again_coll_type i h.kind) (λ a o. tt) (λ a. refl) (λ a. refl))
       (again_made named_type (again_then again_name (again_either {ok = any} {p = named_pieces} {b = bare_either}
-          (again_made inl (again_colon_type i h.kind) (λ a o. tt) (λ a. refl) (λ a. refl))
-          (again_made inr again_more_names (λ a o. tt) (λ a. refl) (λ a. refl))))
-        (λ a o. (tt, tt)) (λ a. filter_same a.0 a.1) (λ a. filter_bare a.0 a.1))
+      (again_made inl (again_colon_type i h.kind) (λ a o. tt) (λ a. refl) (λ a. refl))
+      (again_made inr again_more_names (λ a o. tt) (λ a. refl) (λ a. refl))))
+      (λ a o. (tt, tt)) (λ a. filter_same a.0 a.1) (λ a. filter_bare a.0 a.1))
 
   pub again_filter : Again IsPrintableFilter print.filter erase_filter (filter i) (filter i)
   unfolding filter
@@ -307,9 +309,11 @@ module _ {i : Nested} (h : AgainNested i) where
       (λ a o. (tt, ok_optional a.1.1 o)) (λ a. whole_filter a.1.0 a.1.1) (λ a. ap (λ z. FilterOf a.1.0.0 (erase_type a.1.0.1) z nowhere) (bare_optional a.1.1))
 
   again_comma_filter : Again IsPrintableFilter comma_filter erase_filter (made second (then (the class.Comma) (filter i))) (made second (then (the class.Comma) (filter i)))
-  again_comma_filter = record { again = λ ts f rd o. (
-      let g : FilterReads i rd.1.1 f = subst (FilterReads i rd.1.1) (sym rd.2) rd.1.4 in
-      ((plain class.Comma, erase_filter f), (plain class.Comma ∷ [], all_spelled (print.filter f), comma_spelled i rd.1.1 f g, (refl, refl), again_filter.again rd.1.1 f g o), refl)) }
+  again_comma_filter = record {
+    again = λ ts f rd o. (
+        let g : FilterReads i rd.1.1 f = subst (FilterReads i rd.1.1) (sym rd.2) rd.1.4 in
+        ((plain class.Comma, erase_filter f), (plain class.Comma ∷ [], all_spelled (print.filter f), comma_spelled i rd.1.1 f g, (refl, refl), again_filter.again rd.1.1 f g o), refl));
+  }
 
   again_all_word : Again any (λ (t : Tok). print.one (resolve_class t.class)) (λ t. plain (resolve_class t.class)) all_word all_word
   unfolding all_word
@@ -344,14 +348,14 @@ module _ {i : Nested} (h : AgainNested i) where
   unfolding bare_expr longer
   again_bare_expr = again_either again_literal (again_either again_word_expr (again_either again_named_expr
       (again_either again_coll (again_either again_object (again_either again_new_expr (again_either
-        (again_made MapExpr again_map_call (λ a o. o) (λ a. refl) (λ a. refl))
-        (again_made ResolveExpr again_resolve (λ a o. o) (λ a. refl) (λ a. refl))))))))
+      (again_made MapExpr again_map_call (λ a o. o) (λ a. refl) (λ a. refl))
+      (again_made ResolveExpr again_resolve (λ a o. o) (λ a. refl) (λ a. refl))))))))
 
   pub again_accumulator : Again IsPrintableAccumulator print.accumulator erase_accumulator (accumulator i) (accumulator i)
   unfolding accumulator
   again_accumulator = again_made accumulator_of (again_made {ok2 = λ a. IsPrintableExpr a.1.1} {p2 = λ a. piece.Plain class.Semicolon ∷ piece.Name a.0.text ∷ (print.typed a.1.0 ++ (piece.Plain class.EqualSign ∷ print.expr a.1.1))} {b2 = λ a. (bare_named a.0, (erase_type a.1.0, erase_expr a.1.1))} second
-        (again_then (again_the class.Semicolon) (again_then again_name (again_then (again_colon_type i h.kind) (again_made {ok2 = IsPrintableExpr} {p2 = λ e. piece.Plain class.EqualSign ∷ print.expr e} {b2 = erase_expr} second (again_then (again_the class.EqualSign) again_expr) (λ a o. (tt, o)) (λ a. refl) (λ a. refl)))))
-        (λ a o. (tt, (tt, (tt, o)))) (λ a. refl) (λ a. refl))
+      (again_then (again_the class.Semicolon) (again_then again_name (again_then (again_colon_type i h.kind) (again_made {ok2 = IsPrintableExpr} {p2 = λ e. piece.Plain class.EqualSign ∷ print.expr e} {b2 = erase_expr} second (again_then (again_the class.EqualSign) again_expr) (λ a o. (tt, o)) (λ a. refl) (λ a. refl)))))
+      (λ a o. (tt, (tt, (tt, o)))) (λ a. refl) (λ a. refl))
       (λ a o. o) (λ a. refl) (λ a. refl)
 
 -- none of these is a chain, a prefix, a post or a conditional

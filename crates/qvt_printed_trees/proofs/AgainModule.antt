@@ -50,10 +50,10 @@ again_model_type : Again any printed.model_type erase_model_type model_type mode
 unfolding model_type
 again_model_type = again_made model_type_of (again_placed (again_made {ok2 = any} {p2 = λ (x : TypeParts). piece.Plain class.ModelTypeWord ∷ piece.Name x.0.text ∷ piece.Plain class.UsesWord ∷ piece.Quoted x.1 ∷ piece.Plain class.Semicolon ∷ []} {b2 = bare_parts} second
     (again_then (again_the class.ModelTypeWord) (again_then again_name (again_made {ok2 = any} {p2 = λ (u : List ℕ). piece.Plain class.UsesWord ∷ piece.Quoted u ∷ piece.Plain class.Semicolon ∷ []} {b2 = λ u. u} second (again_then (again_left_out {l = strictness} {m = strictness})
-      (again_made {ok2 = any} {p2 = λ (u : List ℕ). piece.Plain class.UsesWord ∷ piece.Quoted u ∷ piece.Plain class.Semicolon ∷ []} {b2 = λ u. u} inner (again_then (again_the class.UsesWord) (again_then again_uri (again_the class.Semicolon))) (λ a o. (tt, (tt, tt))) (λ a. refl) (λ a. refl)))
-      (λ a o. (tt, tt)) (λ a. refl) (λ a. refl))))
+    (again_made {ok2 = any} {p2 = λ (u : List ℕ). piece.Plain class.UsesWord ∷ piece.Quoted u ∷ piece.Plain class.Semicolon ∷ []} {b2 = λ u. u} inner (again_then (again_the class.UsesWord) (again_then again_uri (again_the class.Semicolon))) (λ a o. (tt, (tt, tt))) (λ a. refl) (λ a. refl)))
+    (λ a o. (tt, tt)) (λ a. refl) (λ a. refl))))
     (λ a o. (tt, (tt, tt))) (λ a. refl) (λ a. refl)))
-  (λ a o. tt) (λ a. refl) (λ a. refl)
+    (λ a o. tt) (λ a. refl) (λ a. refl)
 
 abbrev direction_class : Class → Class
 direction_class c = words.direction_word (direction_of c)
@@ -86,14 +86,14 @@ again_header : Again any header_pieces bare_header header header
 unfolding header
 again_header = again_made second (again_then (again_the class.TransformationWord) (again_then (again_made {ok2 = any} {p2 = λ (n : List ℕ). piece.Name n ∷ []} {b2 = λ n. n} text_of again_name_token (λ a o. tt) (λ a. refl) (λ a. refl))
     (again_made {ok2 = any} {p2 = λ (ps : List ModelParam). piece.Plain class.OpenRound ∷ (printed.model_params ps ++ (piece.Plain class.CloseRound ∷ piece.Plain class.Semicolon ∷ []))} {b2 = map erase_model_param} inner (again_then (again_the class.OpenRound) (again_then
-      (again_made {ok2 = any} {p2 = printed.model_params} {b2 = map erase_model_param} cons_of (again_then again_model_param (again_many (again_made {ok2 = any} {p2 = λ (p : ModelParam). piece.Plain class.Comma ∷ printed.model_param p} {b2 = erase_model_param} second (again_then (again_the class.Comma) again_model_param) (λ a o. (tt, tt)) (λ a. refl) (λ a. refl))
-          any (λ a more o. (tt, tt)) printed.more_model_params refl (λ a more. refl)))
-        (λ a o. (tt, tt)) (λ a. refl) (λ a. refl))
-      (again_made {ok2 = any} {p2 = λ _. piece.Plain class.CloseRound ∷ piece.Plain class.Semicolon ∷ []} {b2 = λ _. plain class.CloseRound} first (again_then (again_the class.CloseRound) (again_the class.Semicolon)) (λ a o. (tt, tt)) (λ a. refl) (λ a. refl))))
-      (λ a o. (tt, (tt, tt))) (λ a. refl) (λ a. refl))))
-  (λ a o. (tt, (tt, tt)))
-  (λ a. ap (λ z. plain class.TransformationWord ∷ all_spelled (piece.Name a.1.0 ∷ piece.Plain class.OpenRound ∷ z)) (append_assoc (printed.model_params a.1.1) (print.one class.CloseRound) (print.one class.Semicolon)))
-  (λ a. refl)
+    (again_made {ok2 = any} {p2 = printed.model_params} {b2 = map erase_model_param} cons_of (again_then again_model_param (again_many (again_made {ok2 = any} {p2 = λ (p : ModelParam). piece.Plain class.Comma ∷ printed.model_param p} {b2 = erase_model_param} second (again_then (again_the class.Comma) again_model_param) (λ a o. (tt, tt)) (λ a. refl) (λ a. refl))
+    any (λ a more o. (tt, tt)) printed.more_model_params refl (λ a more. refl)))
+    (λ a o. (tt, tt)) (λ a. refl) (λ a. refl))
+    (again_made {ok2 = any} {p2 = λ _. piece.Plain class.CloseRound ∷ piece.Plain class.Semicolon ∷ []} {b2 = λ _. plain class.CloseRound} first (again_then (again_the class.CloseRound) (again_the class.Semicolon)) (λ a o. (tt, tt)) (λ a. refl) (λ a. refl))))
+    (λ a o. (tt, (tt, tt))) (λ a. refl) (λ a. refl))))
+    (λ a o. (tt, (tt, tt)))
+    (λ a. ap (λ z. plain class.TransformationWord ∷ all_spelled (piece.Name a.1.0 ∷ piece.Plain class.OpenRound ∷ z)) (append_assoc (printed.model_params a.1.1) (print.one class.CloseRound) (print.one class.Semicolon)))
+    (λ a. refl)
 
 -- units
 
@@ -156,7 +156,7 @@ module _ {i j : Nested} (h : AgainUnits i j) where
       let cut : all_spelled (tp ++ (hp ++ (piece.Line ∷ up))) ≡ all_spelled tp ++ (all_spelled hp ++ all_spelled up) = spelled_append tp (hp ++ (piece.Line ∷ up)) ∙ ap (λ z. all_spelled tp ++ z) (spelled_append hp (piece.Line ∷ up)) in
       let value : shape (module_of a) ≡ module_of (map erase_model_type types, (bare_header head, one_each us)) = ap (λ z. record { model_types = map erase_model_type types; name = head.0; params = map erase_model_param head.1; units = z }) (sym (one_each_units us)) in
       let all : (transformation j).reads (all_spelled (tp ++ (hp ++ (piece.Line ∷ up)))) (shape (module_of a)) =
-        ((map erase_model_type types, (bare_header head, one_each us)), (all_spelled tp, all_spelled hp ++ all_spelled up, cut, read_types, (all_spelled hp, all_spelled up, refl, read_header, read_units)), value) in
+      ((map erase_model_type types, (bare_header head, one_each us)), (all_spelled tp, all_spelled hp ++ all_spelled up, cut, read_types, (all_spelled hp, all_spelled up, refl, read_header, read_units)), value) in
       subst (λ z. (transformation j).reads (all_spelled (printed.module_pieces z)) (shape z)) (sym rd.2) all
 
 -- what is printed of what was read is read as the tree without places

@@ -154,7 +154,7 @@ module _ {i : Nested} (h : AgainNested i) where
   again_arrow_args = again_made second (again_then (again_the class.OpenRound) (again_either {ok = body_ok} {p = λ x. body_pieces x ++ print.one class.CloseRound} {b = bare_body}
       (again_made no_args (again_the class.CloseRound) (λ a o. tt) (λ a. refl) (λ a. refl))
       (again_made first (again_then again_arrow_body (again_the class.CloseRound)) (λ a o. (o, tt)) (λ a. refl) (λ a. refl))))
-    (λ a o. (tt, o)) (λ a. refl) (λ a. refl)
+      (λ a o. (tt, o)) (λ a. refl) (λ a. refl)
 
   again_arrow_rest : Again IsPrintableStep step_rest erase_step (arrow_rest i) (arrow_rest i)
   unfolding arrow_rest
@@ -229,7 +229,7 @@ bare_part part = record { name = part.name; kind = erase_optional_type part.kind
 
 each_same : (n : List ℕ) (kind : Option TypeTerm) (x : Option ExprTerm) (r : List Piece) →
     all_spelled (piece.Plain class.ForEachWord ∷ (print.iterator n kind (print.condition_if (optional_expr x)) ++ r))
-      ≡ all_spelled (piece.Plain class.ForEachWord ∷ piece.Plain class.OpenRound ∷ piece.Name n ∷ (if_there print.typed kind ++ (if_there (λ (e : ExprTerm). piece.Plain class.Bar ∷ print.expr e) x ++ (piece.Plain class.CloseRound ∷ r))))
+    ≡ all_spelled (piece.Plain class.ForEachWord ∷ piece.Plain class.OpenRound ∷ piece.Name n ∷ (if_there print.typed kind ++ (if_there (λ (e : ExprTerm). piece.Plain class.Bar ∷ print.expr e) x ++ (piece.Plain class.CloseRound ∷ r))))
 each_same n kind x r =
     let k = print.typed_if kind in
     let c = print.condition_if (optional_expr x) in

@@ -68,9 +68,9 @@ module _ {i : Nested} (h : AgainNested i) where
   unfolding var_stmt
   again_var_stmt = again_made var_of (again_placed (again_then (again_the class.VarWord) (again_then again_name (again_then (again_maybe (again_colon_type i h.kind))
       (again_maybe (again_made {ok2 = IsPrintableExpr} {p2 = λ e. piece.Plain class.Becomes ∷ print.expr e} {b2 = erase_expr} second (again_then (again_the class.Becomes) (again_expr h)) (λ a o. (tt, o)) (λ a. refl) (λ a. refl)))))))
-    (λ a o. (tt, (tt, (optional_any a.1.1.1.0, ok_optional a.1.1.1.1 o))))
-    (λ a. ap (λ z. plain class.VarWord ∷ plain_name a.1.1.0.text ∷ z) (rest_spelled (print.typed_if a.1.1.1.0) (print.first_value (optional_expr a.1.1.1.1)) _ (value_same a.1.1.1.1) ∙ same_front (print.typed_if a.1.1.1.0) (if_there print.typed a.1.1.1.0) _ (type_same a.1.1.1.0)))
-    (λ a j. VarStmt a.1.1.0.text (type_bare a.1.1.1.0 j) (bare_optional a.1.1.1.1 j) nowhere)
+      (λ a o. (tt, (tt, (optional_any a.1.1.1.0, ok_optional a.1.1.1.1 o))))
+      (λ a. ap (λ z. plain class.VarWord ∷ plain_name a.1.1.0.text ∷ z) (rest_spelled (print.typed_if a.1.1.1.0) (print.first_value (optional_expr a.1.1.1.1)) _ (value_same a.1.1.1.1) ∙ same_front (print.typed_if a.1.1.1.0) (if_there print.typed a.1.1.1.0) _ (type_same a.1.1.1.0)))
+      (λ a j. VarStmt a.1.1.0.text (type_bare a.1.1.1.0 j) (bare_optional a.1.1.1.1 j) nowhere)
 
   pub again_return_stmt : Again IsPrintableStmt unended erase_stmt (return_stmt i) (return_stmt i)
   unfolding return_stmt
@@ -91,9 +91,9 @@ module _ {i : Nested} (h : AgainNested i) where
   again_if_stmt = again_made if_stmt_of (again_placed (again_then (again_the class.IfWord) (again_then again_condition (again_then (again_left_out {l = the class.ThenWord} {m = the class.ThenWord}) (again_then h.block
       (again_then (again_many again_arm (λ arms. ArePrintableArms (arms_of arms)) (λ a more o. o) (λ arms. print.arms (arms_of arms)) refl (λ a more. refl))
       (again_then (again_maybe again_else_part) (again_left_out {l = the class.EndifWord} {m = the class.EndifWord}))))))))
-    (λ a o. (tt, (o.0, (tt, (o.1, (o.2, (else_ok a.1.1.1.1.1.1.0 o.3, tt)))))))
-    (λ a. let z = a.1.1.1.1 in if_same (print.in_round (print.expr a.1.1.0)) (print.block (stmts_of z.0)) (print.arms (arms_of z.1.0)) _ _ (else_same z.1.1.0))
-    (λ a j. let z = a.1.1.1.1 in IfStmt (erase_expr a.1.1.0) (bare_stmts z.0 j) (bare_arms z.1.0 j) (else_bare z.1.1.0 j) nowhere)
+      (λ a o. (tt, (o.0, (tt, (o.1, (o.2, (else_ok a.1.1.1.1.1.1.0 o.3, tt)))))))
+      (λ a. let z = a.1.1.1.1 in if_same (print.in_round (print.expr a.1.1.0)) (print.block (stmts_of z.0)) (print.arms (arms_of z.1.0)) _ _ (else_same z.1.1.0))
+      (λ a j. let z = a.1.1.1.1 in IfStmt (erase_expr a.1.1.0) (bare_stmts z.0 j) (bare_arms z.1.0 j) (else_bare z.1.1.0 j) nowhere)
 
   pub again_while_stmt : Again IsPrintableStmt print.stmt erase_stmt (while_stmt i) (while_stmt i)
   unfolding while_stmt

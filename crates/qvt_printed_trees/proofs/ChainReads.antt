@@ -69,10 +69,14 @@ module _ (i : Nested) (p : Language Tok Lead) (opens : ExprTerm → Bool) (o : O
       let b = is_as_loose level first in
       let w = operand_at level first b refl f.1 (λ q. chained first f.0 (o.first level first rest place c q)) in
       let l = f.2 in
-      let all = print.operand level first ++ print.links level rest in
-      (None, ((nowhere, (Plain (erase_expr first) w.0, l.0 ∷ l.1)),
-        ((all_spelled (print.operand level first), all_spelled (print.links level rest), spelled_append (print.operand level first) (print.links level rest), w.1, l.3), sym (spelled_head all)),
-        λ j. Plain (ChainExpr (sym (level_back level) j) (erase_expr first) (sym l.2 j) nowhere) None))
+      let all = print.operand level first ++ print.links level rest in (
+        None,
+        (
+          (nowhere, (Plain (erase_expr first) w.0, l.0 ∷ l.1)),
+          ((all_spelled (print.operand level first), all_spelled (print.links level rest), spelled_append (print.operand level first) (print.links level rest), w.1, l.3), sym (spelled_head all)),
+          λ j. Plain (ChainExpr (sym (level_back level) j) (erase_expr first) (sym l.2 j) nowhere) None,
+        ),
+      )
   chained e f c = not_chain e f refl c refl
 
   -- an operand of a chain of this level

@@ -159,7 +159,8 @@ module _ (i : Nested) where
   signed_reads before e place f =
       let w = prefixed_reads e f.0 f.1 f.2 in
       let s = f.3 in
-      let all = print.signs before ++ print.prefixed e in
-      ((nowhere, ((erase_sign s.0, erase_signs s.1), Plain (erase_expr e) w.0)),
+      let all = print.signs before ++ print.prefixed e in (
+        (nowhere, ((erase_sign s.0, erase_signs s.1), Plain (erase_expr e) w.0)),
         ((all_spelled (print.signs before), all_spelled (print.prefixed e), spelled_append (print.signs before) (print.prefixed e), subst (λ z. signs.reads (all_spelled (print.signs z)) (erase_sign s.0, erase_signs s.1)) (sym s.2) (all_signs_read s.0 s.1), w.1), sym (spelled_head all)),
-        ap (λ z. Plain z None) (ap (λ z. PrefixExpr (erase_signs z) (erase_expr e) nowhere) s.2 ∙ sym (signed_new nowhere e (erase_sign s.0 ∷ erase_signs s.1) f.2)))
+        ap (λ z. Plain z None) (ap (λ z. PrefixExpr (erase_signs z) (erase_expr e) nowhere) s.2 ∙ sym (signed_new nowhere e (erase_sign s.0 ∷ erase_signs s.1) f.2)),
+      )

@@ -94,7 +94,7 @@ NeedsBracket i b e = b ≡ true → Bracket i e
 abbrev pub LinksForm : Nested → Level → LinkTerms → Type 0
 LinksForm i level rest =
     (l : LinkTerm) × (more : List LinkTerm) × (MoreLinks l (links_of more) ≡ erase_links rest)
-      × turns (link (index_of level) (chain (index_of level) (pre i) (pre i))) (all_spelled (print.links level rest)) (l ∷ more)
+    × turns (link (index_of level) (chain (index_of level) (pre i) (pre i))) (all_spelled (print.links level rest)) (l ∷ more)
 
 abbrev pub StepsForm : Nested → StepTerms → Type 0
 StepsForm i ss =

@@ -58,9 +58,12 @@ module _ (i : Nested) where
 
   joined_steps : (old : StepTerms) (ss : List StepTerm) → StepsForm i old → GoodSteps i ss → ArePrintableSteps (steps_of ss) → StepsForm i (more_steps old ss)
   joined_steps old ss f g o =
-      let xs = map erase_step ss in
-      (f.0, f.1 ++ xs, joined_list (f.0 ∷ f.1) xs ∙ ap (λ z. more_steps z xs) f.2 ∙ joined_bare old ss,
-        subst (λ z. turns (step i) z (f.0 ∷ (f.1 ++ xs))) (sym (joined_spelled old ss)) (turns_append (step i) _ _ (f.0 ∷ f.1) xs f.3 (steps_turns ss g o)))
+      let xs = map erase_step ss in (
+        f.0,
+        f.1 ++ xs,
+        joined_list (f.0 ∷ f.1) xs ∙ ap (λ z. more_steps z xs) f.2 ∙ joined_bare old ss,
+        subst (λ z. turns (step i) z (f.0 ∷ (f.1 ++ xs))) (sym (joined_spelled old ss)) (turns_append (step i) _ _ (f.0 ∷ f.1) xs f.3 (steps_turns ss g o)),
+      )
 
 -- what is read as the first of steps or after signs, with brackets where it has to have them
 

@@ -111,8 +111,17 @@ target_end (e, false) (s ∷ ss) n = ap (member_of nowhere e) (split_end s ss (D
 module _ (i : Nested) where
   member_step : (n : List ℕ) → (step i).reads (plain class.Dot ∷ plain_name n ∷ []) (DotStep n NoArgs nowhere)
   unfolding step dot_step dot_rest name
-  member_step n = inl ((plain class.Dot, DotStep n NoArgs nowhere), (plain class.Dot ∷ [], plain_name n ∷ [], refl, (refl, refl),
-      inl ((record { text = n; place = nowhere }, None), (plain_name n ∷ [], [], refl, (plain_name n, (refl, refl), refl), inr (tt, refl, refl)), refl)), refl)
+  member_step n = inl (
+    (plain class.Dot, DotStep n NoArgs nowhere),
+    (
+      plain class.Dot ∷ [],
+      plain_name n ∷ [],
+      refl,
+      (refl, refl),
+      inl ((record { text = n; place = nowhere }, None), (plain_name n ∷ [], [], refl, (plain_name n, (refl, refl), refl), inr (tt, refl, refl)), refl),
+    ),
+    refl,
+  )
 
   path_other : (n : List ℕ) → (other_primary i).reads (plain_name n ∷ []) (PathExpr (record { names = n ∷ []; place = nowhere }), true)
   unfolding other_primary bare_expr named_expr name more_names

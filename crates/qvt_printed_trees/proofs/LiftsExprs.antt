@@ -129,7 +129,7 @@ module _ {i : Nested} (h : LiftsNested i) where
   unfolding coll
   lifts_coll = lifts_made coll_of (lifts_then lifts_kind_word (lifts_made {b2 = map erase_item} second (lifts_then (lifts_the OpenBrace) (lifts_either {b = map erase_item} (lifts_made nothing (lifts_the CloseBrace) (λ a. refl))
       (lifts_made first (lifts_then (lifts_made {b2 = map erase_item} cons_of (lifts_then lifts_item (lifts_many (lifts_made {b2 = erase_item} second (lifts_then (lifts_the Comma) lifts_item) (λ a. refl)))) (λ a. refl)) (lifts_the CloseBrace)) (λ a. refl)))) (λ a. refl)))
-    (λ a. ap (λ z. CollExpr (coll_kind a.0.class) z nowhere) (bare_items a.1))
+      (λ a. ap (λ z. CollExpr (coll_kind a.0.class) z nowhere) (bare_items a.1))
 
   lifts_if_expr : Lifts erase_expr (if_expr i) (if_expr i)
   unfolding if_expr

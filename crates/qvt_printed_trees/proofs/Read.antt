@@ -147,9 +147,11 @@ module _ {i : Nested} (k : ℕ) (lt : k < 8) (hk : (ts : List Tok) (x : Lead) �
       let g = hk v x rx in
       let level = level_of k in
       let w = operand_reads i (pre i) anyhow (pre_opens i) level e (g.form o) (need_bracket e g o) (λ q. refl) in
-      let rd = subst (λ z. (chain z (pre i) (pre i)).reads (all_spelled (print.operand level e)) (Plain (erase_expr e) w.0)) (index_back k lt) w.1 in
-      ((plain (sign_class t.class), Plain (erase_expr e) w.0), (plain (sign_class t.class) ∷ [], all_spelled (print.operand level e), refl, (again_operator k lt).again u t ro tt, rd),
-        ap (λ z. LinkOf z (erase_expr e) nowhere) (sym (operator_kept (binary_op t.class))))
+      let rd = subst (λ z. (chain z (pre i) (pre i)).reads (all_spelled (print.operand level e)) (Plain (erase_expr e) w.0)) (index_back k lt) w.1 in (
+        (plain (sign_class t.class), Plain (erase_expr e) w.0),
+        (plain (sign_class t.class) ∷ [], all_spelled (print.operand level e), refl, (again_operator k lt).again u t ro tt, rd),
+        ap (λ z. LinkOf z (erase_expr e) nowhere) (sym (operator_kept (binary_op t.class))),
+      )
 
   again_link : Again IsPrintableLink (print.link (level_of k)) erase_link (link k (chain k (pre i) (pre i))) (link k (chain k (pre i) (pre i)))
   unfolding link
@@ -160,8 +162,16 @@ module _ {i : Nested} (k : ℕ) (lt : k < 8) (hk : (ts : List Tok) (x : Lead) �
       let level = level_of k in
       let again = again_turns again_link (λ ls. ArePrintableLinks (links_of ls)) (λ a as' o. o) (λ ls. print.links level (links_of ls)) refl (λ a as'. refl) (l ∷ more) ts rd in
       record {
-        form = λ o. (g.form o.0, need_bracket e g o.0, (erase_link l, map erase_link more, ap (MoreLinks (erase_link l)) (bare_links more),
-          subst (λ z. turns (link z (chain z (pre i) (pre i))) (all_spelled (print.links level (links_of (l ∷ more)))) (map erase_link (l ∷ more))) (sym (index_back k lt)) (again o.1)));
+        form = λ o. (
+          g.form o.0,
+          need_bracket e g o.0,
+          (
+            erase_link l,
+            map erase_link more,
+            ap (MoreLinks (erase_link l)) (bare_links more),
+            subst (λ z. turns (link z (chain z (pre i) (pre i))) (all_spelled (print.links level (links_of (l ∷ more)))) (map erase_link (l ∷ more))) (sym (index_back k lt)) (again o.1),
+          ),
+        );
         tight = inl (let z = index_back k lt in omega arith);
       }
 

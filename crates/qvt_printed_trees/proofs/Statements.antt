@@ -154,7 +154,7 @@ module _ (i : Nested) where
       let us = all_spelled (print.target t) in
       let vs = all_spelled (print.expr v) in
       let cut : all_spelled ps ≡ us ++ (plain (words.assign_sign b) ∷ (vs ++ semi)) =
-        spelled_append (print.target t ++ rest) (print.one class.Semicolon) ∙ ap (λ z. z ++ semi) (spelled_append (print.target t) rest) ∙ append_assoc us (plain (words.assign_sign b) ∷ vs) semi in
+      spelled_append (print.target t ++ rest) (print.one class.Semicolon) ∙ ap (λ z. z ++ semi) (spelled_append (print.target t) rest) ∙ append_assoc us (plain (words.assign_sign b) ∷ vs) semi in
       let rd = lead_statement ps us _ (Plain w.0 (Some (erase_target t))) (Some (plain (words.assign_sign b), erase_expr v), Some (plain class.Semicolon)) cut w.1 (assign_tail w.0 (erase_expr v) (erase_target t) b vs (rv o.2)) in
       subst (λ z. (statement i).reads (all_spelled ps) (inl (AssignStmt (erase_target t) z (erase_expr v) nowhere ∷ []))) (adding_kept b) rd
 
