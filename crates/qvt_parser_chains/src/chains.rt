@@ -1,8 +1,5 @@
 ghost use Rattle.std.specs.Prelude.{◌<◌, ◌≤◌, length, OnOk};
-ghost use Rattle.qvt_grammar.specs.Reader.{made_at, follow_at, many_at, ended_at};
-ghost use Rattle.qvt_parser_grammar.specs.Readers.{placed_at};
-ghost use Rattle.qvt_parser_grammar.specs.Grammar.{level_of};
-ghost use Rattle.qvt_parser_grammar.specs.Trees.{chain_of};
+ghost use Rattle.qvt_grammar.specs.Reader.{many_at, ended_at};
 ghost use Rattle.qvt_tree_types.specs.View.{link_view};
 ghost use Rattle.qvt_parser_grammar.specs.Tokens.{of};
 ghost use Rattle.qvt_parser_grammar.specs.Firsts.{step_first};
@@ -11,8 +8,10 @@ ghost use Rattle.qvt_parser_grammar.specs.Nesting.{nested_at};
 ghost use Rattle.qvt_parser_exprs.specs.Views.{lead_view, each_view, links_view, lead_step_view, lead_steps_view};
 ghost use Rattle.qvt_parser_grammar.specs.Gives.{Gives, toks};
 ghost use Rattle.qvt_parser_exprs.specs.Inside.{IsInside};
+ghost use Rattle.qvt_parser_chains.specs.Raised.{held_view, raised_at};
 
-use crate::made::{binary_op, chained, each_lead, post_lead, prefixed};
+use crate::made::{chained, each_lead, held, linked, post_lead, prefixed};
+use qvt_base::numbers::Place;
 use qvt_base::seq::Seq;
 use qvt_parser_exprs::inside::Inside;
 use qvt_parser_exprs::leading::{EachTail, LeadStep, Leading};
@@ -72,33 +71,53 @@ impl<
         self.post(parser)
     }
 
-    /// Operands with operators of the `level` tightest levels between them: at 8 an expression.
-    #[cycle(chain)]
-    #[tactic(auto, unfolding(qvt_parser_grammar::specs::Reading::chain_at))]
-    pub fn chain(&self, parser: &mut Parser<'_>, level: usize) -> Result<Leading, ParseError>
-        requires nested { IsInside F.Fn G.Fn self.now.inside }
-        requires tight { level ≤ 8 }
-        ensures gives { Gives lead_view result (toks parser.new) (chain_at level (pre_at (nested_at self.now.inside.room)) (pre_at (nested_at self.now.inside.room)) (toks parser.old)) }
+    /// The same, on the heap.
+    fn held_pre(&self, parser: &mut Parser<'_>) -> Result<Box<Leading>, ParseError>
+        requires { IsInside F.Fn G.Fn self.now.inside }
+        ensures gives { Gives held_view result (toks parser.new) (pre_at (nested_at self.now.inside.room) (toks parser.old)) }
         ensures fewer { length (toks parser.new) ≤ length (toks parser.old) }
         ensures less { OnOk result (length (toks parser.new) < length (toks parser.old)) }
     {
-        if level == 0 {
-            return self.pre(parser);
-        }
-        self.above(parser, level - 1)
+        let lead = self.pre(parser)?;
+        held(parser.alloc, lead)
     }
 
-    /// A chain of the level above the `below` tightest ones.
+    /// Operands with operators of the `level` tightest levels between them. The operands of each level
+    /// in turn stand after what is read of the tighter ones. Each level that is open keeps little on
+    /// the stack.
     #[cycle(chain)]
-    fn above(&self, parser: &mut Parser<'_>, below: usize) -> Result<Leading, ParseError>
+    fn held_chain(&self, parser: &mut Parser<'_>, level: usize) -> Result<Box<Leading>, ParseError>
         requires nested { IsInside F.Fn G.Fn self.now.inside }
-        requires tight { below < 8 }
-        ensures gives { Gives lead_view result (toks parser.new) (made_at (chain_of (level_of below)) (placed_at (follow_at (chain_at below (pre_at (nested_at self.now.inside.room)) (pre_at (nested_at self.now.inside.room))) (links_at below (chain_at below (pre_at (nested_at self.now.inside.room)) (pre_at (nested_at self.now.inside.room)))))) (toks parser.old)) }
+        requires tight { level ≤ 8 }
+        ensures gives { Gives held_view result (toks parser.new) (chain_at level (pre_at (nested_at self.now.inside.room)) (pre_at (nested_at self.now.inside.room)) (toks parser.old)) }
         ensures fewer { length (toks parser.new) ≤ length (toks parser.old) }
         ensures less { OnOk result (length (toks parser.new) < length (toks parser.old)) }
     {
         let place = parser.place();
-        let first = self.chain(parser, below)?;
+        let mut lead = self.held_pre(parser)?;
+        for below in 0..level {
+            match self.raised(parser, place, lead, below) {
+                Ok(more) => lead = more,
+                Err(fault) => return Err(fault),
+            }
+        }
+        Ok(lead)
+    }
+
+    /// With what stands of the level above the `below` tightest ones after it.
+    #[cycle(chain)]
+    fn raised(
+        &self,
+        parser: &mut Parser<'_>,
+        place: Place,
+        first: Box<Leading>,
+        below: usize,
+    ) -> Result<Box<Leading>, ParseError>
+        requires nested { IsInside F.Fn G.Fn self.now.inside }
+        requires tight { below < 8 }
+        ensures gives { Gives held_view result (toks parser.new) (raised_at below (pre_at (nested_at self.now.inside.room)) place (held_view first) (toks parser.old)) }
+        ensures fewer { length (toks parser.new) ≤ length (toks parser.old) }
+    {
         let rest = self.links(parser, &first, below)?;
         chained(parser.alloc, below, place, first, rest)
     }
@@ -147,13 +166,20 @@ impl<
         ensures less { OnOk result (length (toks parser.new) < length (toks parser.old)) }
     {
         let sign = parser.operator(level)?;
-        let operand = self.chain(parser, level)?;
-        let operand = finish(parser.alloc, operand)?;
-        Ok(Link {
-            op: binary_op(sign.class),
-            operand,
-            place: sign.place,
-        })
+        let operand = self.held_chain(parser, level)?;
+        linked(parser.alloc, sign.class, sign.place, operand)
+    }
+
+    /// Operands with operators of the `level` tightest levels between them: at 8 an expression.
+    pub fn chain(&self, parser: &mut Parser<'_>, level: usize) -> Result<Leading, ParseError>
+        requires nested { IsInside F.Fn G.Fn self.now.inside }
+        requires tight { level ≤ 8 }
+        ensures gives { Gives lead_view result (toks parser.new) (chain_at level (pre_at (nested_at self.now.inside.room)) (pre_at (nested_at self.now.inside.room)) (toks parser.old)) }
+        ensures fewer { length (toks parser.new) ≤ length (toks parser.old) }
+        ensures less { OnOk result (length (toks parser.new) < length (toks parser.old)) }
+    {
+        let lead = self.held_chain(parser, level)?;
+        Ok(Box::into_inner(lead))
     }
 
     #[tactic(auto, unfolding(qvt_parser_grammar::specs::Reading::each_tail_at))]
@@ -198,7 +224,8 @@ impl<
         Ok(LeadStep::Step(step))
     }
 
-    fn lead_steps(
+    /// Any number of steps, and then perhaps the rest of a `forEach`.
+    pub fn lead_steps(
         &self,
         parser: &mut Parser<'_>,
     ) -> Result<(Seq<Step>, Option<EachTail>), ParseError>
@@ -243,44 +270,43 @@ impl<
         self.lead_post(parser)
     }
 
-    #[cycle(lead)]
-    #[tactic(auto, unfolding(qvt_parser_grammar::specs::Reading::chain_at))]
-    fn lead_chain(&self, parser: &mut Parser<'_>, level: usize) -> Result<Leading, ParseError>
-        requires nested { IsInside F.Fn G.Fn self.now.inside }
-        requires tight { level ≤ 8 }
-        ensures gives { Gives lead_view result (toks parser.new) (chain_at level (lead_pre_at (nested_at self.now.inside.room)) (pre_at (nested_at self.now.inside.room)) (toks parser.old)) }
+    /// The same, on the heap.
+    fn held_lead_pre(&self, parser: &mut Parser<'_>) -> Result<Box<Leading>, ParseError>
+        requires { IsInside F.Fn G.Fn self.now.inside }
+        ensures gives { Gives held_view result (toks parser.new) (lead_pre_at (nested_at self.now.inside.room) (toks parser.old)) }
         ensures fewer { length (toks parser.new) ≤ length (toks parser.old) }
         ensures less { OnOk result (length (toks parser.new) < length (toks parser.old)) }
     {
-        if level == 0 {
-            return self.lead_pre(parser);
-        }
-        self.lead_above(parser, level - 1)
+        let lead = self.lead_pre(parser)?;
+        held(parser.alloc, lead)
     }
 
-    /// The same, for an expression at the front of a statement.
-    #[cycle(lead)]
-    fn lead_above(&self, parser: &mut Parser<'_>, below: usize) -> Result<Leading, ParseError>
-        requires nested { IsInside F.Fn G.Fn self.now.inside }
-        requires tight { below < 8 }
-        ensures gives { Gives lead_view result (toks parser.new) (made_at (chain_of (level_of below)) (placed_at (follow_at (chain_at below (lead_pre_at (nested_at self.now.inside.room)) (pre_at (nested_at self.now.inside.room))) (links_at below (chain_at below (pre_at (nested_at self.now.inside.room)) (pre_at (nested_at self.now.inside.room)))))) (toks parser.old)) }
+    #[tactic(auto, unfolding(qvt_parser_grammar::specs::Reading::lead_at))]
+    fn held_lead(&self, parser: &mut Parser<'_>) -> Result<Box<Leading>, ParseError>
+        requires { IsInside F.Fn G.Fn self.now.inside }
+        ensures gives { Gives held_view result (toks parser.new) (lead_at (nested_at self.now.inside.room) (toks parser.old)) }
         ensures fewer { length (toks parser.new) ≤ length (toks parser.old) }
         ensures less { OnOk result (length (toks parser.new) < length (toks parser.old)) }
     {
         let place = parser.place();
-        let first = self.lead_chain(parser, below)?;
-        let rest = self.links(parser, &first, below)?;
-        chained(parser.alloc, below, place, first, rest)
+        let mut lead = self.held_lead_pre(parser)?;
+        for below in 0..8 {
+            match self.raised(parser, place, lead, below) {
+                Ok(more) => lead = more,
+                Err(fault) => return Err(fault),
+            }
+        }
+        Ok(lead)
     }
 
     /// An expression at the front of a statement, which may go on as a `forEach`.
-    #[tactic(auto, unfolding(qvt_parser_grammar::specs::Reading::lead_at))]
     pub fn lead(&self, parser: &mut Parser<'_>) -> Result<Leading, ParseError>
         requires { IsInside F.Fn G.Fn self.now.inside }
         ensures gives { Gives lead_view result (toks parser.new) (lead_at (nested_at self.now.inside.room) (toks parser.old)) }
         ensures fewer { length (toks parser.new) ≤ length (toks parser.old) }
         ensures less { OnOk result (length (toks parser.new) < length (toks parser.old)) }
     {
-        self.lead_chain(parser, 8)
+        let lead = self.held_lead(parser)?;
+        Ok(Box::into_inner(lead))
     }
 }

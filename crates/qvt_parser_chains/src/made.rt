@@ -1,12 +1,13 @@
 ghost use Rattle.std.specs.Prelude.{◌≡◌, ◌<◌, ◌∷◌, ◌++◌, []};
-ghost use Rattle.qvt_tree_types.specs.Tree.{PathExpr};
-ghost use Rattle.qvt_tree_types.specs.View.{expr_view};
+ghost use Rattle.qvt_tree_types.specs.Tree.{LinkOf, PathExpr};
+ghost use Rattle.qvt_tree_types.specs.View.{expr_view, link_view};
 ghost use Rattle.qvt_parser_grammar.specs.Leads.{Plain};
 ghost use Rattle.qvt_parser_grammar.specs.Trees as trees;
 ghost use Rattle.qvt_parser_grammar.specs.Grammar as grammar;
 ghost use Rattle.qvt_parser_grammar.specs.Options.{option_view};
 ghost use Rattle.qvt_parser_exprs.specs.Views.{first_view, lead_view, each_view, exprs_view, links_view, steps_view};
 ghost use Rattle.qvt_parser_grammar.specs.Gives.{Makes, same};
+ghost use Rattle.qvt_parser_chains.specs.Raised.{held_view};
 
 use qvt_base::numbers::Place;
 use qvt_base::seq::Seq;
@@ -118,7 +119,7 @@ pub fn post_lead(place: Place, first: First, steps: Seq<Step>) -> Leading
     if first.bare {
         bare_lead(first.expr)
     } else {
-        Leading::Done(first.expr)
+        Leading::Bracketed(first.expr)
     }
 }
 
@@ -136,6 +137,7 @@ pub fn each_lead(
         None => Ok(post_lead(place, first, steps)),
         Some(part) => {
             let source = posted(alloc, place, first.expr, steps)?;
+            let part = Box::new(alloc, part)?;
             Ok(Leading::Each { source, part })
         }
     }
@@ -192,26 +194,54 @@ pub fn prefixed(
     }
 }
 
+/// What is read, on the heap.
+pub fn held(alloc: Global, lead: Leading) -> Result<Box<Leading>, ParseError>
+    ensures { Makes held_view result (lead_view lead) }
+{
+    let lead = Box::new(alloc, lead)?;
+    Ok(lead)
+}
+
+/// The operand after an operator.
+pub fn linked(
+    alloc: Global,
+    class: Class,
+    place: Place,
+    operand: Box<Leading>,
+) -> Result<Link, ParseError>
+    ensures { Makes link_view result (LinkOf (trees.binary_op class) (trees.expr_of (held_view operand)) place) }
+{
+    let operand = finish(alloc, Box::into_inner(operand))?;
+    Ok(Link {
+        op: binary_op(class),
+        operand,
+        place,
+    })
+}
+
 /// Operands with operators between them. One operand alone is itself.
 pub fn chained(
     alloc: Global,
     level: usize,
     place: Place,
-    first: Leading,
+    first: Box<Leading>,
     rest: Seq<Link>,
-) -> Result<Leading, ParseError>
+) -> Result<Box<Leading>, ParseError>
     requires { level < 8 }
-    ensures { Makes lead_view result (trees.chain_of (grammar.level_of level) (place, (lead_view first, links_view rest))) }
+    ensures { Makes held_view result (trees.chain_of (grammar.level_of level) (place, (held_view first, links_view rest))) }
 {
     if rest.is_empty() {
         return Ok(first);
     }
-    let first = finish(alloc, first)?;
+    let first = finish(alloc, Box::into_inner(first))?;
     let first = Box::new(alloc, first)?;
-    Ok(Leading::Done(Expr::Chain {
-        level: level_of(level),
-        first,
-        rest,
-        place,
-    }))
+    held(
+        alloc,
+        Leading::Done(Expr::Chain {
+            level: level_of(level),
+            first,
+            rest,
+            place,
+        }),
+    )
 }

@@ -20,10 +20,10 @@ use Rattle.qvt_parser_exprs.specs.declared.leading.LeadStep.{LeadStep}
 use Rattle.qvt_parser_exprs.specs.declared.leading.LeadStep.TheVariants.{Step as OneStep, Each as EachStep}
 use Rattle.qvt_parser_exprs.specs.declared.leading.First.{First}
 use Rattle.qvt_parser_exprs.specs.declared.leading.Leading.{Leading}
-use Rattle.qvt_parser_exprs.specs.declared.leading.Leading.TheVariants.{Name, Result, Post, Done, Each as EachLead}
+use Rattle.qvt_parser_exprs.specs.declared.leading.Leading.TheVariants.{Name, Result, Post, Bracketed as InBrackets, Done, Each as EachLead}
 use Rattle.qvt_parser_exprs.specs.declared.leading.EachTail.{EachTail}
 use Rattle.qvt_parser_grammar.specs.Options.{option_view}
-use Rattle.qvt_parser_grammar.specs.Leads.{Lead, Plain, Each, EachPart, Ended}
+use Rattle.qvt_parser_grammar.specs.Leads.{Lead, Plain, Bracketed, Each, EachPart, Ended}
 use Rattle.qvt_parser_grammar.specs.Trees.{path_of, post_of, member_target}
 
 abbrev pub exprs_view : List Expr → List ExprTerm
@@ -51,8 +51,9 @@ abbrev pub lead_view : Leading → Lead
 lead_view (Name n) = Plain (PathExpr (path_of (n, []))) (Some (BareTarget n.text n.place))
 lead_view (Result place) = Plain (ResultExpr place) (Some (ResultTarget place))
 lead_view (Post first steps place) = Plain (post_of place (expr_view first) (steps_view steps)) (member_target place (expr_view first) (steps_view steps))
+lead_view (InBrackets e) = Bracketed (expr_view e)
 lead_view (Done e) = Plain (expr_view e) None
-lead_view (EachLead source part) = Each (expr_view source) (each_view part)
+lead_view (EachLead source part) = Each (expr_view source) (each_view part.value)
 
 abbrev pub filter_head_view : Option (List ℕ) × TypeTree → Option (List ℕ) × TypeTerm
 filter_head_view (name, kind) = (name, type_view kind)

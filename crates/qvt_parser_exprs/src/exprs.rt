@@ -1,5 +1,6 @@
 ghost use Rattle.std.specs.Prelude.{◌<◌, ◌≤◌, length, OnOk};
 ghost use Rattle.qvt_grammar.specs.Reader.{made_at, then_at, choose_at, many_at, maybe_at};
+ghost use Rattle.qvt_tree_types.specs.Tree.{MapExpr, ResolveExpr};
 ghost use Rattle.qvt_tree_types.specs.View.{expr_view, item_view, filter_view, range_view, map_view, resolve_view};
 ghost use Rattle.qvt_parser_grammar.specs.Tokens.{of, is};
 ghost use Rattle.qvt_parser_grammar.specs.Readers.{the_at};
@@ -221,7 +222,8 @@ impl<
         self.expr(parser)
     }
 
-    fn else_expr(&self, parser: &mut Parser<'_>) -> Result<Expr, ParseError>
+    /// The value after `else`, up to the `endif`.
+    pub fn else_expr(&self, parser: &mut Parser<'_>) -> Result<Expr, ParseError>
         requires { IsInside F.Fn G.Fn self.now }
         ensures gives { Gives expr_view result (toks parser.new) (made_at inner (then_at (the_at Class.ElseWord) (then_at (expr_at (nested_at self.now.room)) (the_at Class.EndifWord))) (toks parser.old)) }
         ensures fewer { length (toks parser.new) ≤ length (toks parser.old) }
@@ -513,9 +515,27 @@ impl<
             return self.new_expr(parser);
         }
         if parser.at_map() {
-            let call = self.map_call(parser)?;
-            return Ok(Expr::Map(call));
+            return self.map_expr(parser);
         }
+        self.resolve_expr(parser)
+    }
+
+    fn map_expr(&self, parser: &mut Parser<'_>) -> Result<Expr, ParseError>
+        requires { IsInside F.Fn G.Fn self.now }
+        ensures gives { Gives expr_view result (toks parser.new) (made_at MapExpr (map_call_at (nested_at self.now.room)) (toks parser.old)) }
+        ensures fewer { length (toks parser.new) ≤ length (toks parser.old) }
+        ensures less { OnOk result (length (toks parser.new) < length (toks parser.old)) }
+    {
+        let call = self.map_call(parser)?;
+        Ok(Expr::Map(call))
+    }
+
+    fn resolve_expr(&self, parser: &mut Parser<'_>) -> Result<Expr, ParseError>
+        requires { IsInside F.Fn G.Fn self.now }
+        ensures gives { Gives expr_view result (toks parser.new) (made_at ResolveExpr (resolve_at (nested_at self.now.room)) (toks parser.old)) }
+        ensures fewer { length (toks parser.new) ≤ length (toks parser.old) }
+        ensures less { OnOk result (length (toks parser.new) < length (toks parser.old)) }
+    {
         let call = self.resolve(parser)?;
         Ok(Expr::Resolve(call))
     }

@@ -30,11 +30,13 @@ pub enum Leading {
         steps: StepList,
         place: Place,
     },
+    /// An expression that stands in brackets alone.
+    Bracketed(Expr),
     /// An expression that is no target.
     Done(Expr),
     Each {
         source: Expr,
-        part: EachTail,
+        part: Box<EachTail>,
     },
 }
 

@@ -142,6 +142,7 @@ pub fn finish(alloc: Global, lead: Leading) -> Result<Expr, ParseError>
             steps,
             place,
         } => posted(alloc, place, first, steps),
+        Leading::Bracketed(expr) => Ok(expr),
         Leading::Done(expr) => Ok(expr),
         Leading::Each { source, .. } => Ok(source),
     }

@@ -225,6 +225,19 @@ module _ {n : ℕ} {A : Type 0} {b1 : Bool} {f1 x1 : List ℕ} {l l2 : Language 
     low = low_many k.loose.low;
   }
 
+-- a token of its own may go uncounted
+pub good_late : {n : ℕ} {A : Type 0} {first next : List ℕ} {l m : Language Tok A} {f : Reader A} → Good n true first next l m f → Good n false first next l m f
+good_late k = record {
+  loose = record {
+    firsts = k.loose.firsts;
+    exact = k.loose.exact;
+    sub = k.loose.sub;
+    low = record { reads = λ ts a lt rd. k.loose.low.reads ts a (omega (arith, lt)) rd; front = λ ts lt fr. k.loose.low.front ts (omega (arith, lt)) fr };
+  };
+  solid = k.solid;
+  solid_more = k.solid_more;
+}
+
 module _ {n : ℕ} {A B : Type 0} {b1 b2 : Bool} {f1 x1 f2 x2 : List ℕ} {l l2 : Language Tok A} {m m2 : Language Tok B} {f : Reader A} {g : Reader B} where
   pub good_then : Good n b1 f1 x1 l l2 f → Good n b2 f2 x2 m m2 g → none_in x1 f2 ≡ true → Good n b1 f1 x2 (then l m) (then l2 m2) (then_at f g)
   good_then k j a = record {
@@ -341,6 +354,19 @@ module _ {n : ℕ} {A B : Type 0} {b1 b2 : Bool} {f1 x1 f2 x2 : List ℕ} {l l2 
       exact = λ ts. follow_exact (of x1) (of x2) (of (x1 ++ x2)) (λ _. of f2) l m k.loose.firsts.whole (λ z. (j z).firsts) (λ _. apart x1 f2 a) (λ z b rd. within_left x1 x2) (within_right x1 x2) f g ts (k.loose.exact ts) (λ u r z e rd. (j z).exact r);
       sub = sub_follow l l2 m m2 k.loose.sub (λ z. (j z).sub);
       low = low_follow n b1 b2 k.loose.low k.solid_more (λ z. (j z).low);
+    };
+    solid = solid_first l m k.solid;
+    solid_more = solid_first l2 m2 k.solid_more;
+  }
+
+  -- the same where the second part is never empty
+  pub good_pick : Good n b1 f1 x1 l l2 f → ((a : A) → Good n b2 f2 x2 (m a) (m2 a) (g a)) → none_in x1 f2 ≡ true → Good n b1 f1 x2 (follow l m) (follow l2 m2) (follow_at f g)
+  good_pick k j a = record {
+    loose = record {
+      firsts = firsts_follow (of f1) (λ _. of f2) l m k.loose.firsts (λ z. (j z).loose.firsts) k.solid;
+      exact = λ ts. follow_exact (of x1) (of x2) (of x2) (λ _. of f2) l m k.loose.firsts.whole (λ z. (j z).loose.firsts) (λ _. apart x1 f2 a) (λ z b rd. absurd ((j z).solid b rd)) (λ t h. h) f g ts (k.loose.exact ts) (λ u r z e rd. (j z).loose.exact r);
+      sub = sub_follow l l2 m m2 k.loose.sub (λ z. (j z).loose.sub);
+      low = low_follow n b1 b2 k.loose.low k.solid_more (λ z. (j z).loose.low);
     };
     solid = solid_first l m k.solid;
     solid_more = solid_first l2 m2 k.solid_more;

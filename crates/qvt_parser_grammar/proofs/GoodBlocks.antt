@@ -1,5 +1,5 @@
 -- What statements that begin with an expression keep, and blocks.
-use Rattle.std.proofs.Common.{◌≡◌, sym, ℕ, zero, suc, List, [], ◌∷◌, ◌++◌, Bool, true, ◌⊎◌, inl, inr, refl, Option, Some, None, subst}
+use Rattle.std.proofs.Common.{◌≡◌, sym, ℕ, zero, suc, List, [], ◌∷◌, ◌++◌, Bool, true, false, ◌⊎◌, inl, inr, refl, Option, Some, None, subst}
 use Rattle.qvt_base.specs.declared.numbers.Place.{Place}
 use Rattle.qvt_grammar.specs.Language.{Language, then, made}
 use Rattle.qvt_grammar.proofs.Firsts.{Within}
@@ -12,7 +12,7 @@ use Rattle.qvt_parser_grammar.specs.Readers.{Reader}
 use Rattle.qvt_parser_grammar.specs.Series.{series}
 use Rattle.qvt_parser_grammar.specs.Firsts.{expr_first, expr_next, post_next, primary_first, resolve_first, step_first, sign_first, stmt_first, assign_first}
 use Rattle.qvt_parser_grammar.specs.Levels.{next_at}
-use Rattle.qvt_parser_grammar.specs.Leads.{Lead, Plain, Each, EachPart}
+use Rattle.qvt_parser_grammar.specs.Leads.{Lead, Plain, Bracketed, Each, EachPart}
 use Rattle.qvt_parser_grammar.specs.Trees.{second, nothing, each_lead, prefix_lead, chain_of}
 use Rattle.qvt_parser_grammar.specs.StmtTrees.{Turn, Tail, empty_turn, closed_turn, simple_turn, no_tail, plain_tail, lead_turn, ended_of, block_of}
 use Rattle.qvt_parser_grammar.specs.Grammar.{Nested, signed_post, lead_step, lead_post, lead_pre, lead, level_of, links, chain}
@@ -26,50 +26,26 @@ use Rattle.qvt_parser_grammar.proofs.ValuedForms.{LooseV, GoodV, loosev_of, good
 use Rattle.qvt_parser_grammar.proofs.GoodExprs.{GoodNested, good_other_primary, good_dot_step}
 use Rattle.qvt_parser_grammar.proofs.GoodSteps.{good_arrow_rest, good_each_tail, good_signs, good_post, good_pre}
 use Rattle.qvt_parser_grammar.proofs.GoodTower.{apart_operators, good_links, good_chain}
-use Rattle.qvt_parser_grammar.proofs.GoodStmts.{good_if_stmt, good_while_stmt, good_var_stmt, good_return_stmt, good_assignment}
+use Rattle.qvt_parser_grammar.proofs.GoodIfs.{opens, step_next, goodv_lead_step, item_next, good_if_stmt}
+use Rattle.qvt_parser_grammar.proofs.GoodStmts.{good_while_stmt, good_var_stmt, good_return_stmt, good_assignment}
 
 -- with what a statement begins that begins with an expression
 abbrev lead_first : List ℕ
 lead_first = code_of NotWord ∷ code_of MinusSign ∷ primary_first
 
-abbrev opens : List ℕ
-opens = code_of OpenRound ∷ []
-
--- after a step arguments may go on, after a `forEach` nothing
-abbrev step_next : StepTerm ⊎ EachPart → List ℕ
-step_next = turn_next opens []
-
-abbrev arrow_next : Tok × (StepTerm ⊎ EachPart) → List ℕ
-arrow_next x = step_next x.1
-
-step_sides : (s : StepTerm) → Within (of opens) (of (step_next (inl s)))
-step_sides s t h = h
-
-each_sides : (e : EachPart) → Within (of []) (of (step_next (inr e)))
-each_sides e t h = h
-
-pub goodv_lead_step : {n : ℕ} {i j : Nested} {r : NestedAt} → GoodNested n i j r → GoodV n true step_first step_next (lead_step i) (lead_step j) (lead_step_at r)
-unfolding lead_step lead_step_at
-goodv_lead_step h = goodv_sets step_first refl (goodv_either (code_of Dot ∷ [])
-    (goodv_made inl step_next (λ _ t q. q) (goodv_of (good_sets (code_of Dot ∷ []) opens refl refl (good_dot_step h))))
-    (goodv_made second step_next (λ _ t q. q) (goodv_follow arrow_next (goodv_of (good_the Arrow))
-    (λ _. (goodv_either (code_of ForEachWord ∷ [])
-    (goodv_made inr step_next (λ _ t q. q) (goodv_of (good_each_tail h)))
-    (goodv_made inl step_next (λ _ t q. q) (goodv_of (good_sets (0 ∷ 57 ∷ 86 ∷ resolve_first) opens refl refl (good_arrow_rest h))))
-    refl refl).loose)
-    (λ _. refl) (λ _ _ _ t q. absurd cc) (λ _ _ t q. q)))
-    refl refl)
-
 -- after an expression at the front of a statement what goes on after k levels may go on, after a `forEach` nothing
 abbrev pub lead_next : ℕ → Lead → List ℕ
 lead_next k (Plain e target) = next_at k
+lead_next k (Bracketed e) = next_at k
 lead_next k (Each e part) = []
 
 abbrev steps_next : (ExprTerm × Bool) × (List StepTerm × Option EachPart) → List ℕ
 steps_next x = ended_next post_next [] x.1
 
 post_sides : (x : Place × ((ExprTerm × Bool) × (List StepTerm × Option EachPart))) → Within (of (steps_next x.1)) (of (lead_next zero (each_lead x)))
-post_sides (place, (x, (steps, None))) t h = h
+post_sides (place, ((e, true), ([], None))) t h = h
+post_sides (place, ((e, false), ([], None))) t h = h
+post_sides (place, (x, ((s ∷ ss), None))) t h = h
 post_sides (place, (x, (steps, (Some part)))) t h = absurd cc
 
 over_steps : (p : ExprTerm × Bool) (b : List StepTerm × Option EachPart) → Within (of (ended_next (step_first ++ opens) [] b)) (of (steps_next (p, b)))
@@ -108,18 +84,22 @@ links_next k x ls = lead_next (suc k) x
 chain_sides : (k : ℕ) (x : Place × (Lead × List LinkTerm)) → Within (of (pair_next k x.1)) (of (lead_next (suc k) (chain_of (level_of k) x)))
 chain_sides k (place, (x, [])) t h = h
 chain_sides k (place, ((Plain e target), (l ∷ ls))) t h = h
+chain_sides k (place, ((Bracketed e), (l ∷ ls))) t h = h
 chain_sides k (place, ((Each e part), (l ∷ ls))) t h = absurd cc
 
 apart_links : (k : ℕ) (x : Lead) → none_in (lead_next k x) (operators k) ≡ true
 apart_links k (Plain e target) = apart_operators k
+apart_links k (Bracketed e) = apart_operators k
 apart_links k (Each e part) = refl
 
 over_links : (k : ℕ) (x : Lead) → Within (of (lead_next k x)) (of (lead_next (suc k) x))
 over_links k (Plain e target) = within_right (operators k) (next_at k)
+over_links k (Bracketed e) = within_right (operators k) (next_at k)
 over_links k (Each e part) = λ t h. h
 
 loosev_links : {n : ℕ} (k : ℕ) {l l2 : Language Tok Lead} {f : Reader Lead} → Good n true expr_first (next_at k) l l2 f → (x : Lead) → LooseV n true (operators k) (links_next k x) (links k l x) (links k l2 x) (links_at k f x)
 loosev_links k h (Plain e target) = loosev_of (good_links k h (Plain e target))
+loosev_links k h (Bracketed e) = loosev_of (good_links k h (Bracketed e))
 loosev_links k h (Each e part) = loosev_of (loose_sets (operators k) [] refl refl (loose_made nothing loose_empty))
 
 pub goodv_chain : {n : ℕ} (k : ℕ) (first : List ℕ) {p p2 q q2 : Language Tok Lead} {f g : Reader Lead} → GoodV n true first (lead_next zero) p p2 f → Good n true expr_first post_next q q2 g
@@ -161,11 +141,12 @@ tail_next (a, (Some t)) = []
 
 abbrev lead_tail_next : Lead → Tail → List ℕ
 lead_tail_next (Plain e target) tail = tail_next tail
+lead_tail_next (Bracketed e) tail = tail_next tail
 lead_tail_next (Each e part) tail = []
 
-plain_sides : (e : ExprTerm) (o : Option TargetTerm) (t : Option Tok) → Within (of (semi_next t)) (of (lead_tail_next (Plain e o) (plain_tail t)))
-plain_sides e o None = within semi tail_more refl
-plain_sides e o (Some t) = λ x h. h
+plain_sides : (t : Option Tok) → Within (of (semi_next t)) (of (tail_next (plain_tail t)))
+plain_sides None = within semi tail_more refl
+plain_sides (Some t) = λ x h. h
 
 no_sides : (e : ExprTerm) (p : EachPart) (x : Unit {0}) → Within (of []) (of (lead_tail_next (Each e p) (no_tail x)))
 no_sides e p x t h = h
@@ -182,15 +163,13 @@ abbrev tail_first : List ℕ
 tail_first = code_of Becomes ∷ code_of PlusEqual ∷ code_of Semicolon ∷ []
 
 loosev_tail : {n : ℕ} {i j : Nested} {r : NestedAt} → GoodNested n i j r → (x : Lead) → LooseV n true tail_first (lead_tail_next x) (lead_tail i x) (lead_tail j x) (lead_tail_at r x)
-loosev_tail h (Plain e None) = loosev_sets tail_first refl (loosev_made plain_tail (lead_tail_next (Plain e None)) (plain_sides e None) loosev_semicolon)
+loosev_tail h (Plain e None) = loosev_sets tail_first refl (loosev_made plain_tail tail_next plain_sides loosev_semicolon)
+loosev_tail h (Bracketed e) = loosev_sets tail_first refl (loosev_made plain_tail tail_next plain_sides loosev_semicolon)
 loosev_tail h (Plain e (Some target)) = loosev_sets tail_first refl (loosev_then tail_next
     (loosev_of (loose_sets (code_of Becomes ∷ code_of PlusEqual ∷ []) (code_of Becomes ∷ code_of PlusEqual ∷ expr_next) refl refl (loose_maybe assign_first refl (good_assignment h)))) loosev_semicolon (λ _. refl) assigned_over assigned_sides)
 loosev_tail h (Each e part) = loosev_sets tail_first refl (loosev_made no_tail (lead_tail_next (Each e part)) (no_sides e part) (loosev_of loose_empty))
 
--- items of a block go on with the words of a conditional alone, statements without `;` with much more
-abbrev item_next : List ℕ
-item_next = code_of ElifWord ∷ code_of ElseWord ∷ code_of EndifWord ∷ []
-
+-- statements without `;` go on with much more than items of a block
 abbrev last_next : List ℕ
 last_next = code_of Becomes ∷ code_of PlusEqual ∷ code_of Semicolon ∷ code_of Colon ∷ (expr_next ++ expr_first)
 
@@ -207,17 +186,22 @@ lead_next_of xt = lead_tail_next xt.0 xt.1
 turn_sides : (x : Place × (Lead × Tail)) → Within (of (lead_next_of x.1)) (of (stmt_next (lead_turn x)))
 turn_sides (place, ((Plain e target), (a, None))) = within tail_more last_next refl
 turn_sides (place, ((Plain e target), (a, (Some t)))) = λ x h. absurd cc
+turn_sides (place, ((Bracketed e), (a, None))) = within tail_more last_next refl
+turn_sides (place, ((Bracketed e), (a, (Some t)))) = λ x h. absurd cc
 turn_sides (place, ((Each e part), tail)) = λ x h. absurd cc
 
 lead_over : (i : Nested) (x : Lead) (tail : Tail) → (lead_tail i x).reads [] tail → Within (of (lead_next 8 x)) (of (lead_tail_next x tail))
 lead_over i (Plain e None) (a, None) rd = within (next_at 8) tail_more refl
 lead_over i (Plain e (Some target)) (a, None) rd = within (next_at 8) tail_more refl
+lead_over i (Bracketed e) (a, None) rd = within (next_at 8) tail_more refl
+lead_over i (Bracketed e) (a, (Some t)) rd = absurd (let k = rd.2 in no_semicolon t (subst (λ z. semicolon.reads [] z) (sym (λ w. (k w).1)) rd.1))
 lead_over i (Plain e None) (a, (Some t)) rd = absurd (let k = rd.2 in no_semicolon t (subst (λ z. semicolon.reads [] z) (sym (λ w. (k w).1)) rd.1))
 lead_over i (Plain e (Some target)) (a, (Some t)) rd = absurd (no_semicolon t (subst (λ z. semicolon.reads z (Some t)) (nil_right rd.0 rd.1 rd.2) rd.4))
 lead_over i (Each e part) tail rd = λ t h. h
 
 lead_apart : (x : Lead) → none_in (lead_next 8 x) tail_first ≡ true
 lead_apart (Plain e target) = refl
+lead_apart (Bracketed e) = refl
 lead_apart (Each e part) = refl
 
 pub goodv_lead_stmt : {n : ℕ} {i j : Nested} {r : NestedAt} → GoodNested n i j r → GoodV n true lead_first stmt_next (lead_stmt i) (lead_stmt j) (lead_stmt_at r)
@@ -253,7 +237,7 @@ empty_sides x t h = absurd cc
 pub goodv_statement : {n : ℕ} {i j : Nested} {r : NestedAt} → GoodNested n i j r → GoodV n true stmt_first stmt_next (statement i) (statement j) (statement_at r)
 unfolding statement statement_at
 goodv_statement h = goodv_sets stmt_first refl (goodv_either semi (goodv_made empty_turn stmt_next empty_sides (goodv_of (good_the Semicolon)))
-    (goodv_either (code_of IfWord ∷ []) (goodv_made closed_turn stmt_next closed_sides (goodv_of (good_sets (code_of IfWord ∷ []) item_next refl refl (good_if_stmt h))))
+    (goodv_either (code_of IfWord ∷ []) (goodv_made closed_turn stmt_next closed_sides (goodv_of (good_if_stmt h)))
     (goodv_either (code_of WhileWord ∷ []) (goodv_made closed_turn stmt_next closed_sides (goodv_of (good_sets (code_of WhileWord ∷ []) item_next refl refl (good_while_stmt h))))
     (goodv_either (code_of VarWord ∷ []) (goodv_simple (code_of VarWord ∷ []) (code_of Becomes ∷ code_of Colon ∷ expr_next) (good_sets (code_of VarWord ∷ []) (code_of Becomes ∷ code_of Colon ∷ expr_next) refl refl (good_var_stmt h)) refl refl)
     (goodv_either (code_of ReturnWord ∷ []) (goodv_simple (code_of ReturnWord ∷ []) (expr_next ++ expr_first) (good_sets (code_of ReturnWord ∷ []) (expr_next ++ expr_first) refl refl (good_return_stmt h)) refl refl)

@@ -1,4 +1,4 @@
--- What the productions of statements keep, but for those that begin with an expression.
+-- What the productions of statements keep, but for those that begin with an expression or with `if`.
 use Rattle.std.specs.Prelude.{ℕ}
 use Rattle.std.specs.Prelude.{[], ◌∷◌}
 use Rattle.std.proofs.Common.{true, refl}
@@ -7,11 +7,11 @@ use Rattle.qvt_parser_grammar.specs.Firsts.{expr_first, expr_next}
 use Rattle.qvt_parser_grammar.specs.Trees.{second, inner}
 use Rattle.qvt_parser_grammar.specs.Grammar.{Nested}
 use Rattle.qvt_parser_grammar.specs.Reading.{NestedAt}
-use Rattle.qvt_parser_grammar.specs.Statements.{condition, var_stmt, return_stmt, arm, else_part, if_stmt, while_stmt, assignment, semicolon}
-use Rattle.qvt_parser_grammar.specs.ReadingStatements.{condition_at, var_stmt_at, return_stmt_at, arm_at, else_part_at, if_stmt_at, while_stmt_at, assignment_at, semicolon_at}
-use Rattle.qvt_parser_grammar.specs.StmtTrees.{var_of, return_of, arm_of, if_stmt_of, while_of}
-use Rattle.qvt_parser_grammar.proofs.Forms.{Loose, Good, good_the, good_made, good_placed, loose_sets, good_sets, loose_maybe, loose_many, good_then, good_rest, good_after, loose_then, good_either}
-use Rattle.qvt_parser_grammar.specs.declared.token.Class.TheVariants.{OpenRound, CloseRound, Semicolon, Colon, Becomes, PlusEqual, ElifWord, ElseWord, EndifWord, IfWord, ReturnWord, ThenWord, VarWord, WhileWord}
+use Rattle.qvt_parser_grammar.specs.Statements.{condition, var_stmt, return_stmt, arm, else_part, while_stmt, assignment, semicolon}
+use Rattle.qvt_parser_grammar.specs.ReadingStatements.{condition_at, var_stmt_at, return_stmt_at, arm_at, else_part_at, while_stmt_at, assignment_at, semicolon_at}
+use Rattle.qvt_parser_grammar.specs.StmtTrees.{var_of, return_of, arm_of, while_of}
+use Rattle.qvt_parser_grammar.proofs.Forms.{Loose, Good, good_the, good_made, good_placed, loose_sets, good_sets, loose_maybe, good_then, good_rest, good_after, loose_then, good_either}
+use Rattle.qvt_parser_grammar.specs.declared.token.Class.TheVariants.{OpenRound, CloseRound, Semicolon, Colon, Becomes, PlusEqual, ElifWord, ElseWord, ReturnWord, ThenWord, VarWord, WhileWord}
 use Rattle.qvt_parser_grammar.proofs.GoodExprs.{GoodNested, good_name, good_expr, good_colon_type}
 
 pub good_semicolon : {n : ℕ} → Loose n true (8 ∷ []) (8 ∷ []) semicolon semicolon semicolon_at
@@ -38,10 +38,6 @@ module _ {n : ℕ} {i j : Nested} {r : NestedAt} (h : GoodNested n i j r) where
   pub good_else_part : Good n true (35 ∷ []) [] (else_part i) (else_part j) (else_part_at r)
   unfolding else_part else_part_at
   good_else_part = good_sets (35 ∷ []) [] refl refl (good_made second (good_then (good_the ElseWord) h.block refl))
-
-  pub good_if_stmt : Good n true (42 ∷ []) (34 ∷ 35 ∷ 37 ∷ []) (if_stmt i) (if_stmt j) (if_stmt_at r)
-  unfolding if_stmt if_stmt_at
-  good_if_stmt = good_sets (42 ∷ []) (34 ∷ 35 ∷ 37 ∷ []) refl refl (good_made if_stmt_of (good_placed (good_then (good_the IfWord) (good_then good_condition (good_after (loose_maybe (code_of ThenWord ∷ []) refl (good_the ThenWord)) (good_rest h.block (loose_then (loose_many (code_of ElifWord ∷ []) refl refl good_arm) (loose_then (loose_maybe (code_of ElseWord ∷ []) refl good_else_part) (loose_maybe (code_of EndifWord ∷ []) refl (good_the EndifWord)) refl) refl) refl) refl) refl) refl)))
 
   pub good_while_stmt : Good n true (85 ∷ []) [] (while_stmt i) (while_stmt j) (while_stmt_at r)
   unfolding while_stmt while_stmt_at

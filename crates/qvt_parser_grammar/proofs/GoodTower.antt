@@ -7,7 +7,7 @@ use Rattle.qvt_parser_grammar.specs.declared.token.Class.TheVariants.{Star, Plus
 use Rattle.qvt_parser_grammar.specs.Readers.{Reader}
 use Rattle.qvt_parser_grammar.specs.Firsts.{expr_first, expr_next, post_next}
 use Rattle.qvt_parser_grammar.specs.Levels.{next_at}
-use Rattle.qvt_parser_grammar.specs.Leads.{Lead, Plain, Each}
+use Rattle.qvt_parser_grammar.specs.Leads.{Lead, Plain, Bracketed, Each}
 use Rattle.qvt_parser_grammar.specs.Trees.{link_of, chain_of, nothing}
 use Rattle.qvt_parser_grammar.specs.Grammar.{Nested, level_of, operator, link, links, chain, flagged}
 use Rattle.qvt_parser_grammar.specs.Reading.{NestedAt, operator_at, operators, link_at, links_at, chain_at, flagged_at}
@@ -56,6 +56,7 @@ good_link k h = good_made link_of (good_then (good_operator k) h refl)
 
 pub good_links : {n : ℕ} (k : ℕ) {l l2 : Language Tok Lead} {f : Reader Lead} → Good n true expr_first (next_at k) l l2 f → (x : Lead) → Loose n true (operators k) (operators k ++ next_at k) (links k l x) (links k l2 x) (links_at k f x)
 good_links k h (Plain e target) = loose_many (operators k) (same_operators k) (apart_operators k) (good_link k h)
+good_links k h (Bracketed e) = loose_many (operators k) (same_operators k) (apart_operators k) (good_link k h)
 good_links k h (Each e part) = loose_sets (operators k) (operators k ++ next_at k) refl refl (loose_made nothing loose_empty)
 
 pub good_chain : {n : ℕ} (k : ℕ) (first : List ℕ) {p p2 q q2 : Language Tok Lead} {f g : Reader Lead} → Good n true first post_next p p2 f → Good n true expr_first post_next q q2 g

@@ -8,6 +8,7 @@ pub mod GoodSteps
 pub mod GoodTower
 pub mod GoodStmts
 pub mod ValuedForms
+pub mod GoodIfs
 pub mod GoodBlocks
 pub mod Tokens
 pub mod GoodNesting
@@ -21,3 +22,4 @@ pub mod LiveNesting
 pub mod Whole
 pub mod LessExprs
 pub mod EndedLoops
+pub mod Conditionals

@@ -6,7 +6,7 @@ use Rattle.qvt_grammar.proofs.Wider.{Sub, sub_ended, sub_turns, sub_follow, sub_
 use Rattle.qvt_grammar.proofs.Fronts.{Closed, Completes, closed_token, completes_token, closed_follow, completes_follow, closed_then, completes_then, closed_either, completes_either, closed_made, completes_made, closed_marked, completes_marked, closed_empty, completes_empty, closed_many, completes_many, closed_maybe, completes_maybe, closed_ended}
 use Rattle.qvt_parser_grammar.specs.Tokens.{Tok, is, code_of}
 use Rattle.qvt_parser_grammar.specs.Readers.{nowhere, the, placed}
-use Rattle.qvt_parser_grammar.specs.Series.{left, right, series, barring}
+use Rattle.qvt_parser_grammar.specs.Series.{left, right, series, finished, barring}
 use Rattle.qvt_parser_grammar.specs.declared.token.Class.{Class}
 
 pub record Live {A : Type 0} (l m : Language Tok A) : Type 0 where
@@ -76,6 +76,26 @@ live_series {l = l} {l2 = l2} k = record {
       | inl e ↦ ([], (fr.0, None), (fr.1, [], append-nil ts ∙ fr.3 ∙ ap (λ z. fr.1 ++ z) e, sub_turns (left l) (left l2) (left_sub l l2 k.completes.within) fr.0 fr.1 fr.4, refl))
       | inr q ↦ (let w = k.completes.whole fr.2 (elim q [ inl z ↦ z | inr z ↦ z ]) in let y = last_turn l l2 k.completes.within ts fr.0 fr.1 fr.2 w.0 w.1 fr.3 fr.4 w.2 in (w.0, y.0, y.1))
     ];
+  };
+}
+
+-- one turn of the other kind finishes the turns
+with_last : {A B : Type 0} (l : Language Tok (A ⊎ B)) (v : List Tok) (b : B) → l.reads v (inr b) → (ts w : List Tok) (got : List A) (o : Option B) → (series l).reads (ts ++ w) (got, o)
+    → (more : List Tok) × (all : List A × B) × (finished l).reads (ts ++ more) all
+with_last l v b last ts w got (Some c) rd = (w, (got, c), rd)
+with_last l v b last ts w got None rd = (
+  w ++ v,
+  (got, b),
+  (rd.0, v, sym (append_assoc ts w v) ∙ ap (λ z. z ++ v) (rd.2 ∙ ap (λ z. rd.0 ++ z) rd.4 ∙ append-nil rd.0), rd.3, last),
+)
+
+pub live_finished : {A B : Type 0} {l l2 : Language Tok (A ⊎ B)} → Live l l2 → (v : List Tok) (b : B) → l2.reads v (inr b) → Live (finished l) (finished l2)
+live_finished {l2 = l2} k v b last = let s = live_series k in record {
+  closed = record { front = λ ts w got rd. s.closed.front ts w (got.0, Some got.1) rd };
+  completes = record {
+    within = record { reads = λ ts got rd. s.completes.within.reads ts (got.0, Some got.1) rd; front = s.completes.within.front };
+    some = (v, ([], b), ([], v, refl, refl, last));
+    whole = λ ts fr. (let w = s.completes.whole ts fr in with_last l2 v b last ts w.0 w.1.0 w.1.1 w.2);
   };
 }
 

@@ -3,7 +3,7 @@ use Rattle.std.proofs.Common.{ℕ, zero, suc, ◌<◌, ◌≤◌, Some, None, ar
 use Rattle.qvt_grammar.specs.Language.{Language}
 use Rattle.qvt_parser_grammar.specs.Tokens.{Tok}
 use Rattle.qvt_parser_grammar.specs.declared.token.Class.TheVariants.{Star, PlusSign, MinusSign, LessSign, AtMost, GreaterSign, AtLeast, EqualSign, DoubleEqual, Diamond, BangEqual, AndWord, OrWord, XorWord, ImpliesWord, Semicolon, OpenBrace, CloseBrace}
-use Rattle.qvt_parser_grammar.specs.Leads.{Lead, Plain, Each}
+use Rattle.qvt_parser_grammar.specs.Leads.{Lead, Plain, Bracketed, Each}
 use Rattle.qvt_parser_grammar.specs.Trees.{nothing, each_lead, link_of, chain_of}
 use Rattle.qvt_parser_grammar.specs.StmtTrees.{empty_turn, closed_turn, simple_turn, no_tail, plain_tail, lead_turn, ended_of, block_of}
 use Rattle.qvt_parser_grammar.specs.Grammar.{Nested, level_of, operator, link, links, chain, flagged, lead_post, lead_pre, lead}
@@ -29,6 +29,7 @@ live_link k lt h = live_made link_of (live_then (live_operator k lt) h)
 
 live_links : (k : ℕ) → k < 8 → {l l2 : Language Tok Lead} → Live l l2 → (x : Lead) → Live (links k l x) (links k l2 x)
 live_links k lt h (Plain e target) = live_many (live_link k lt h)
+live_links k lt h (Bracketed e) = live_many (live_link k lt h)
 live_links k lt h (Each e part) = live_made nothing live_empty
 
 live_chain : (k : ℕ) → k ≤ 8 → {p p2 q q2 : Language Tok Lead} → Live p p2 → Live q q2 → Live (chain k p q) (chain k p2 q2)
@@ -56,6 +57,7 @@ module _ {i j : Nested} (h : LiveNested i j) where
   live_lead_tail : (x : Lead) → Live (lead_tail i x) (lead_tail j x)
   live_lead_tail (Plain e None) = live_made plain_tail live_semicolon
   live_lead_tail (Plain e (Some target)) = live_then (live_maybe (live_assignment h)) live_semicolon
+  live_lead_tail (Bracketed e) = live_made plain_tail live_semicolon
   live_lead_tail (Each e part) = live_made no_tail live_empty
 
   live_lead_stmt : Live (lead_stmt i) (lead_stmt j)

@@ -1,11 +1,14 @@
 -- Fronts of statements are what begins read lists.
+use Rattle.std.proofs.Common.{List, ◌++◌, inl, inr, refl}
+use Rattle.qvt_parser_grammar.specs.Tokens.{Tok}
+use Rattle.qvt_parser_grammar.specs.Leads.{Lead, Bracketed, EachPart}
 use Rattle.qvt_parser_grammar.specs.Trees.{second, inner}
-use Rattle.qvt_parser_grammar.specs.Grammar.{Nested}
-use Rattle.qvt_parser_grammar.specs.Statements.{condition, var_stmt, return_stmt, arm, else_part, if_stmt, while_stmt, assignment, semicolon}
+use Rattle.qvt_parser_grammar.specs.Grammar.{Nested, lead_step}
+use Rattle.qvt_parser_grammar.specs.Statements.{condition, var_stmt, return_stmt, arm, else_part, branches, choice, if_rest, if_stmt, while_stmt, assignment, semicolon}
 use Rattle.qvt_parser_grammar.specs.StmtTrees.{var_of, return_of, arm_of, if_stmt_of, while_of}
-use Rattle.qvt_parser_grammar.proofs.Live.{Live, live_the, live_made, live_placed, live_maybe, live_many, live_either, live_then}
-use Rattle.qvt_parser_grammar.specs.declared.token.Class.TheVariants.{OpenRound, CloseRound, Semicolon, Becomes, PlusEqual, ElifWord, ElseWord, EndifWord, IfWord, ReturnWord, ThenWord, VarWord, WhileWord}
-use Rattle.qvt_parser_grammar.proofs.LiveExprs.{LiveNested, live_name, live_expr, live_colon_type}
+use Rattle.qvt_parser_grammar.proofs.Live.{Live, live_the, live_made, live_placed, live_maybe, live_many, live_either, live_then, live_follow, live_finished}
+use Rattle.qvt_parser_grammar.specs.declared.token.Class.TheVariants.{Arrow, OpenRound, CloseRound, Semicolon, Becomes, PlusEqual, ElifWord, ElseWord, EndifWord, IfWord, ReturnWord, ThenWord, VarWord, WhileWord}
+use Rattle.qvt_parser_grammar.proofs.LiveExprs.{LiveNested, live_name, live_expr, live_colon_type, live_each_tail, live_lead_step}
 
 pub live_semicolon : Live semicolon semicolon
 unfolding semicolon
@@ -32,9 +35,28 @@ module _ {i j : Nested} (h : LiveNested i j) where
   unfolding else_part
   live_else_part = (live_made second (live_then (live_the ElseWord) h.block))
 
+  live_branches : Live (branches i) (branches j)
+  unfolding branches
+  live_branches = live_then h.block (live_then (live_many live_arm) (live_then (live_maybe live_else_part) (live_maybe (live_the EndifWord))))
+
+  -- some `forEach` finishes the steps
+  each_step : (v : List Tok) × (part : EachPart) × (lead_step j).reads v (inr part)
+  unfolding lead_step
+  each_step = let t = (live_the Arrow).completes.some in let w = (live_each_tail h).completes.some in
+      (t.0 ++ w.0, w.1, inr ((t.1, inr w.1), (t.0, w.0, refl, t.2, inl (w.1, w.2, refl)), refl))
+
+  live_choice : Live (choice i) (choice j)
+  unfolding choice
+  live_choice = live_then (live_then (live_expr h) (live_made inner (live_then (live_the ElseWord) (live_then (live_expr h) (live_the EndifWord)))))
+      (live_finished (live_lead_step h) each_step.0 each_step.1 each_step.2)
+
+  live_if_rest : (x : Lead) → Live (if_rest i x) (if_rest j x)
+  live_if_rest (Bracketed c) = live_either (live_made inl live_branches) (live_made second (live_then (live_the ThenWord) (live_either (live_made inl live_branches) (live_made inr live_choice))))
+  live_if_rest x = live_made second (live_then (live_the ThenWord) (live_made inr live_choice))
+
   pub live_if_stmt : Live (if_stmt i) (if_stmt j)
   unfolding if_stmt
-  live_if_stmt = (live_made if_stmt_of (live_placed (live_then (live_the IfWord) (live_then live_condition (live_then (live_maybe (live_the ThenWord)) (live_then h.block (live_then (live_many live_arm) (live_then (live_maybe live_else_part) (live_maybe (live_the EndifWord))))))))))
+  live_if_stmt = live_made if_stmt_of (live_placed (live_then (live_the IfWord) (live_follow h.flagged live_if_rest)))
 
   pub live_while_stmt : Live (while_stmt i) (while_stmt j)
   unfolding while_stmt

@@ -2,7 +2,7 @@
 use Rattle.std.proofs.Common.{◌≡◌, ℕ, List, [], ◌∷◌, ◌++◌, length, Bool, true, false, ◌&&◌, IsTrue, ◌⊎◌, inl, inr, refl, sym, ap, ◌∙◌, subst, arith, Ok, Err, cond, Option, Some, None}
 use Rattle.qvt_grammar.specs.Language.{Language, follow, then, either, made, maybe}
 use Rattle.qvt_grammar.specs.Reader.{At, Answer, ◌>>=◌, Begins, Exact, follow_at, then_at, made_at, choose_at, starts, maybe_at, ended_at}
-use Rattle.qvt_grammar.proofs.Lists.{rest_shorter, all_left}
+use Rattle.qvt_grammar.proofs.Lists.{rest_shorter, all_left, nil_right}
 use Rattle.qvt_grammar.proofs.Firsts.{Within, Firsts, Solid, firsts_within, firsts_made, solid_made, firsts_marked, solid_marked}
 use Rattle.qvt_grammar.proofs.Sequences.{firsts_follow, firsts_then_over, solid_first}
 use Rattle.qvt_grammar.proofs.Choices.{firsts_either, solid_either}
@@ -10,7 +10,7 @@ use Rattle.qvt_grammar.proofs.Endings.{ExactTurn, firsts_ended}
 use Rattle.qvt_grammar.proofs.Wider.{Sub, sub_follow, sub_then, sub_either, sub_made, sub_marked, sub_ended}
 use Rattle.qvt_parser_grammar.specs.Tokens.{Tok, of}
 use Rattle.qvt_parser_grammar.specs.Readers.{Reader, nowhere, placed, placed_at}
-use Rattle.qvt_parser_grammar.specs.Series.{left, right, series}
+use Rattle.qvt_parser_grammar.specs.Series.{left, right, series, finished, finish, finished_at}
 use Rattle.qvt_parser_grammar.proofs.Sets.{all_in, none_in, within, apart, within_left, within_right}
 use Rattle.qvt_parser_grammar.proofs.Forms.{IsLow, bound, Loose, Good, loose_maybe, low_follow, low_over, low_either, low_made, low_marked, low_series, sub_left, sub_right, firsts_left, firsts_right}
 use Rattle.qvt_parser_grammar.proofs.Valued.{IsReadingV, ExactV, valued, unvalued, valued_made, valued_marked, valued_follow, valued_either, valued_within}
@@ -196,6 +196,38 @@ loosev_series {A = A} {B = B} {f1 = f1} {l = l} {l2 = l2} {f = f} p c1 c2 w a k 
       (valued_ended (of p) (of c1) (of c2) (of (p ++ c1)) (left l) (right l) (firsts_left p f1 w k.loose.firsts) (firsts_right p f1 w k.loose.firsts) (λ b. k.solid (inl b)) (λ b. k.solid (inr b)) (apart c1 p a) (within_right p c1) (within_left p c1) f (λ r. turn_of c1 c2 l r (f r) (k.loose.exact r)) ts);
   sub = sub_ended (left l) (left l2) (right l) (right l2) (sub_left k.loose.sub) (sub_right k.loose.sub);
   low = low_series k.loose.low;
+}
+
+-- the last turn is of the other kind
+module _ {A B : Type 0} (c1 c2 : List ℕ) (l : Language Tok (A ⊎ B)) (whole : (ts : List Tok) (all : List A × Option B) → (series l).reads ts all → (series l).front ts) where
+  abbrev with_last : B → List A × Option B → List A × B
+  with_last b (got, None) = (got, b)
+  with_last b (got, (Some c)) = (got, c)
+
+  finished_cases : (ts : List Tok) (x : Answer Tok (List A × Option B)) → ExactV (λ all. of (ended_next c1 c2 all)) (series l) ts x → Exact (of c2) (finished l) ts (x >>= λ (got, r). finish got r)
+  finished_cases ts (Ok ((got, None), r)) k = record {
+    found = (k.found.0, k.found.1, whole k.found.0 (got, None) k.found.2);
+    only = λ u s all e rd. elim (k.only u s (all.0, Some all.1) e rd) [ inl q ↦ absurd (let z : Some all.1 ≡ None = λ i. (q.0 i).1 in cc) | inr q ↦ q ];
+    farthest = k.farthest;
+  }
+  finished_cases ts (Ok ((got, (Some b)), r)) k = record {
+    found = k.found;
+    only = λ u s all e rd. elim (k.only u s (all.0, Some all.1) e rd) [ inl q ↦ inl (ap (with_last b) q.0, q.1) | inr q ↦ inr q ];
+    farthest = k.farthest;
+  }
+  finished_cases ts (Err (At r)) k = record { found = k.found; only = λ u s all e rd. k.only u s (all.0, Some all.1) e rd; farthest = k.farthest }
+
+pub good_finished : {n : ℕ} {A B : Type 0} {b1 : Bool} {f1 : List ℕ} {l l2 : Language Tok (A ⊎ B)} {f : Reader (A ⊎ B)} (p c1 c2 : List ℕ) → all_in f1 p ≡ true → none_in c1 p ≡ true
+    → GoodV n b1 f1 (turn_next c1 c2) l l2 f → Good n b1 p c2 (finished l) (finished l2) (finished_at (of p) f)
+good_finished {l = l} {l2 = l2} {f = f} p c1 c2 w a k = let s = loosev_series p c1 c2 w a k in record {
+  loose = record {
+    firsts = record { empty = s.firsts.empty; whole = λ ts all rd. s.firsts.whole ts (all.0, Some all.1) rd; begins = s.firsts.begins };
+    exact = λ ts. finished_cases (p ++ c1) c2 l s.firsts.whole ts (ended_at (of p) f ts) (s.exact ts);
+    sub = record { reads = λ ts all rd. s.sub.reads ts (all.0, Some all.1) rd; front = s.sub.front };
+    low = record { reads = λ ts all lt rd. s.low.reads ts (all.0, Some all.1) lt rd; front = s.low.front };
+  };
+  solid = λ all rd. k.solid (inr all.1) (subst (λ z. l.reads z (inr all.1)) (nil_right rd.0 rd.1 rd.2) rd.4);
+  solid_more = λ all rd. k.solid_more (inr all.1) (subst (λ z. l2.reads z (inr all.1)) (nil_right rd.0 rd.1 rd.2) rd.4);
 }
 
 pub ended_all : {A B : Type 0} (x y : List ℕ) (all : List A × Option B) → Within (of (ended_next x y all)) (of (x ++ y))

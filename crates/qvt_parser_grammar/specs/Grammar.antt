@@ -15,7 +15,7 @@ use Rattle.qvt_parser_grammar.specs.declared.token.Class.TheVariants.{Name, Inte
 use Rattle.qvt_parser_grammar.specs.Tokens.{Tok}
 use Rattle.qvt_parser_grammar.specs.Readers.{the, placed}
 use Rattle.qvt_parser_grammar.specs.Series.{series}
-use Rattle.qvt_parser_grammar.specs.Leads.{Lead, Plain, Each, EachPart}
+use Rattle.qvt_parser_grammar.specs.Leads.{Lead, Plain, Bracketed, Each, EachPart}
 use Rattle.qvt_parser_grammar.specs.Trees.{second, first, cons_of, nothing, inner, text_of, named_of, path_of, unit_path_of, coll_type_of, int_of, str_of, true_of, false_of, null_of, self_of, result_of, named_expr_of, coll_of, range_of, item_of, if_of, result_head, named_head, object_of, new_of, map_of, all_of, in_of, resolve_of, no_name, named_type, filter_of, bare, bracketed, dot_of, no_args, arrow_of, accumulator_of, expr_of, headed, with_first, post_lead, each_lead, not_of, minus_of, prefix_lead, link_of, chain_of, each_of}
 
 -- what stands nested inside: expressions, blocks and types
@@ -255,6 +255,7 @@ link k l = made link_of (then (operator k) l)
 -- nothing goes on with a `forEach`
 abbrev pub links : ℕ → Language Tok Lead → Lead → Language Tok (List LinkTerm)
 links k l (Plain e target) = many (link k l)
+links k l (Bracketed e) = many (link k l)
 links k l (Each e part) = made nothing empty
 
 -- operands with operators of the k tightest levels between them: p is the first operand, q any other

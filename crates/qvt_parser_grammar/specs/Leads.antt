@@ -9,9 +9,11 @@ pub record EachPart : Type 0 where
   pub condition : OptionalExpr
   pub body : List StmtTerm
 
--- an expression with the target that it also is, or the source and the rest of a `forEach`
+-- an expression with the target that it also is, one that stands in brackets alone, or the source and the rest of a
+-- `forEach`
 pub data Lead : Type 0 where
   Plain : ExprTerm → Option TargetTerm → Lead
+  Bracketed : ExprTerm → Lead
   Each : ExprTerm → EachPart → Lead
 
 -- the statements of a block, and whether the last one has no `;`

@@ -17,3 +17,4 @@ pub mod Units
 pub mod ReadingUnits
 pub mod Module
 pub mod ReadingStatements
+pub mod Conditionals

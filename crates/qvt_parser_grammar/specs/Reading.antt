@@ -14,7 +14,7 @@ use Rattle.qvt_parser_grammar.specs.declared.token.Class.TheVariants.{Name, Inte
 use Rattle.qvt_parser_grammar.specs.Tokens.{Tok, of, is, code_of}
 use Rattle.qvt_parser_grammar.specs.Readers.{Reader, the_at, placed_at}
 use Rattle.qvt_parser_grammar.specs.Firsts.{kind_first, map_first, all_first, literal_first, word_first, head_first, step_first, sign_first}
-use Rattle.qvt_parser_grammar.specs.Leads.{Lead, Plain, Each, EachPart}
+use Rattle.qvt_parser_grammar.specs.Leads.{Lead, Plain, Bracketed, Each, EachPart}
 use Rattle.qvt_parser_grammar.specs.Grammar.{level_of}
 use Rattle.qvt_parser_grammar.specs.Trees.{second, first, cons_of, nothing, inner, text_of, named_of, path_of, unit_path_of, coll_type_of, int_of, str_of, true_of, false_of, null_of, self_of, result_of, named_expr_of, coll_of, range_of, item_of, if_of, result_head, named_head, object_of, new_of, map_of, all_of, in_of, resolve_of, no_name, named_type, filter_of, bare, bracketed, dot_of, no_args, arrow_of, accumulator_of, expr_of, headed, with_first, post_lead, each_lead, not_of, minus_of, prefix_lead, link_of, chain_of, each_of}
 
@@ -217,6 +217,7 @@ link_at k f = made_at link_of (then_at (operator_at k) f)
 
 abbrev pub links_at : ℕ → Reader Lead → Lead → Reader (List LinkTerm)
 links_at k f (Plain e target) = many_at (of (operators k)) (link_at k f)
+links_at k f (Bracketed e) = many_at (of (operators k)) (link_at k f)
 links_at k f (Each e part) = made_at nothing empty_at
 
 unfoldable pub chain_at : ℕ → Reader Lead → Reader Lead → Reader Lead

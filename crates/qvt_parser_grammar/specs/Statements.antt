@@ -1,15 +1,16 @@
 -- The productions of statements and blocks (QVT 1.3, 8.2.2 and 8.4).
-use Rattle.std.specs.Prelude.{List, Option, Some, None}
+use Rattle.std.specs.Prelude.{List, Option, Some, None, ◌⊎◌}
+use Rattle.std.proofs.Common.{inl, inr}
 use Rattle.qvt_tree_types.specs.Tree.{ExprTerm, StmtTerm, ArmTerm}
 use Rattle.qvt_grammar.specs.Language.{Language, then, either, follow, many, made, empty, maybe}
 use Rattle.qvt_parser_grammar.specs.declared.token.Class.TheVariants.{OpenRound, CloseRound, OpenBrace, CloseBrace, Semicolon, Becomes, PlusEqual, ElifWord, ElseWord, EndifWord, IfWord, ReturnWord, ThenWord, VarWord, WhileWord}
 use Rattle.qvt_parser_grammar.specs.Tokens.{Tok}
 use Rattle.qvt_parser_grammar.specs.Readers.{the, placed}
-use Rattle.qvt_parser_grammar.specs.Series.{series}
-use Rattle.qvt_parser_grammar.specs.Leads.{Lead, Plain, Each, Ended}
+use Rattle.qvt_parser_grammar.specs.Series.{series, finished}
+use Rattle.qvt_parser_grammar.specs.Leads.{Lead, Plain, Bracketed, Each, Ended}
 use Rattle.qvt_parser_grammar.specs.Trees.{second, inner}
-use Rattle.qvt_parser_grammar.specs.Grammar.{Nested, name, expr, colon_type, lead}
-use Rattle.qvt_parser_grammar.specs.StmtTrees.{var_of, return_of, arm_of, if_stmt_of, while_of, Turn, empty_turn, closed_turn, simple_turn, Tail, no_tail, plain_tail, lead_turn, ended_of, block_of}
+use Rattle.qvt_parser_grammar.specs.Grammar.{Nested, name, expr, colon_type, lead_step, lead}
+use Rattle.qvt_parser_grammar.specs.StmtTrees.{var_of, return_of, arm_of, Branches, Choice, if_stmt_of, while_of, Turn, empty_turn, closed_turn, simple_turn, Tail, no_tail, plain_tail, lead_turn, ended_of, block_of}
 
 -- "(" Expr ")"
 unfoldable pub condition : Nested → Language Tok ExprTerm
@@ -31,9 +32,22 @@ arm i = made arm_of (then (the ElifWord) (then (condition i) (then (maybe (the T
 unfoldable pub else_part : Nested → Language Tok ((List StmtTerm))
 else_part i = made second (then (the ElseWord) i.block)
 
--- "if" "(" Expr ")" ["then"] Block {Elif} [Else] ["endif"]
+-- Block {Elif} [Else] ["endif"]
+unfoldable pub branches : Nested → Language Tok Branches
+branches i = then i.block (then (many (arm i)) (then (maybe (else_part i)) (maybe (the EndifWord))))
+
+-- Expr "else" Expr "endif" {Step} "->" forEach
+unfoldable pub choice : Nested → Language Tok Choice
+choice i = then (then (expr i) (made inner (then (the ElseWord) (then (expr i) (the EndifWord))))) (finished (lead_step i))
+
+-- after the expression that follows `if`: blocks stand only after one in brackets alone
+abbrev pub if_rest : Nested → Lead → Language Tok (Branches ⊎ Choice)
+if_rest i (Bracketed c) = either (made inl (branches i)) (made second (then (the ThenWord) (either (made inl (branches i)) (made inr (choice i)))))
+if_rest i x = made second (then (the ThenWord) (made inr (choice i)))
+
+-- "if" "(" Expr ")" ["then"] Block {Elif} [Else] ["endif"] | "if" Expr "then" Expr "else" Expr "endif" {Step} "->" forEach
 unfoldable pub if_stmt : Nested → Language Tok StmtTerm
-if_stmt i = made if_stmt_of (placed (then (the IfWord) (then (condition i) (then (maybe (the ThenWord)) (then i.block (then (many (arm i)) (then (maybe (else_part i)) (maybe (the EndifWord)))))))))
+if_stmt i = made if_stmt_of (placed (then (the IfWord) (follow i.flagged (if_rest i))))
 
 -- "while" "(" Expr ")" Block
 unfoldable pub while_stmt : Nested → Language Tok StmtTerm
@@ -51,6 +65,7 @@ semicolon = maybe (the Semicolon)
 abbrev pub lead_tail : Nested → Lead → Language Tok Tail
 lead_tail i (Plain e None) = made plain_tail semicolon
 lead_tail i (Plain e (Some target)) = then (maybe (assignment i)) semicolon
+lead_tail i (Bracketed e) = made plain_tail semicolon
 lead_tail i (Each e part) = made no_tail empty
 
 -- (Target (":=" | "+=") Expr | Expr) [";"] | Post "->" forEach

@@ -2,14 +2,14 @@
 use Rattle.std.specs.Prelude.{Bool, true, false, List, [], ◌∷◌, ◌++◌, Option, Some, None, ◌⊎◌}
 use Rattle.std.proofs.Common.{inl, inr}
 use Rattle.qvt_base.specs.declared.numbers.Place.{Place}
-use Rattle.qvt_tree_types.specs.Tree.{TypeTerm, ExprTerm, StmtTerm, VarStmt, AssignStmt, ReturnStmt, ValueStmt, IfStmt, WhileStmt, ForEachStmt, ArmTerm, ArmOf, TargetTerm}
+use Rattle.qvt_tree_types.specs.Tree.{TypeTerm, ExprTerm, IfExpr, StepTerm, StmtTerm, VarStmt, AssignStmt, ReturnStmt, ValueStmt, IfStmt, WhileStmt, ForEachStmt, ArmTerm, ArmOf, TargetTerm}
 use Rattle.qvt_tree_types.specs.View.{stmts_of, arms_of, optional_expr, optional_else}
 use Rattle.qvt_parser_grammar.specs.declared.named.Named.{Named}
 use Rattle.qvt_parser_grammar.specs.declared.token.Class.{Class}
 use Rattle.qvt_parser_grammar.specs.declared.token.Class.TheVariants.{PlusEqual}
 use Rattle.qvt_parser_grammar.specs.Tokens.{Tok}
-use Rattle.qvt_parser_grammar.specs.Leads.{Lead, Plain, Each, Ended}
-use Rattle.qvt_parser_grammar.specs.Trees.{is_there}
+use Rattle.qvt_parser_grammar.specs.Leads.{Lead, Plain, Bracketed, Each, EachPart, Ended}
+use Rattle.qvt_parser_grammar.specs.Trees.{is_there, expr_of, post_of}
 
 abbrev pub var_of : Place × (Tok × (Named × (Option TypeTerm × Option ExprTerm))) → StmtTerm
 var_of (place, (w, (n, (kind, value)))) = VarStmt n.text kind (optional_expr value) place
@@ -20,8 +20,36 @@ return_of (place, (w, value)) = ReturnStmt (optional_expr value) place
 abbrev pub arm_of : Tok × (ExprTerm × (Option Tok × List StmtTerm)) → ArmTerm
 arm_of (w, (c, (t, body))) = ArmOf c (stmts_of body)
 
-abbrev pub if_stmt_of : Place × (Tok × (ExprTerm × (Option Tok × (List StmtTerm × (List ArmTerm × (Option (List StmtTerm) × Option Tok)))))) → StmtTerm
-if_stmt_of (place, (w, (c, (t, (body, (arms, (other, e))))))) = IfStmt c (stmts_of body) (arms_of arms) (optional_else other) place
+abbrev pub for_each_of : ExprTerm → EachPart → Place → StmtTerm
+for_each_of source part place = ForEachStmt source part.name part.kind part.condition (stmts_of part.body) place
+
+-- the blocks of a conditional statement
+abbrev pub Branches : Type 0
+Branches = List StmtTerm × (List ArmTerm × (Option (List StmtTerm) × Option Tok))
+
+-- the values of a conditional expression, and what stands after it where it begins the source of a `forEach`
+abbrev pub Choice : Type 0
+Choice = (ExprTerm × ExprTerm) × (List StepTerm × EachPart)
+
+abbrev pub branched : Place → ExprTerm → Branches → StmtTerm
+branched place c (body, (arms, (other, e))) = IfStmt c (stmts_of body) (arms_of arms) (optional_else other) place
+
+-- a `forEach` over the expression with the steps
+abbrev pub each_over : Place → ExprTerm → List StepTerm × EachPart → StmtTerm
+each_over place e (steps, part) = for_each_of (post_of place e steps) part place
+
+abbrev pub choice_expr : Place → ExprTerm → ExprTerm × ExprTerm → ExprTerm
+choice_expr place c (one, other) = IfExpr c one other place
+
+abbrev pub chosen : Place → ExprTerm → Choice → StmtTerm
+chosen place c (values, rest) = each_over place (choice_expr place c values) rest
+
+abbrev pub if_made : Place → ExprTerm → Branches ⊎ Choice → StmtTerm
+if_made place c (inl branches) = branched place c branches
+if_made place c (inr choice) = chosen place c choice
+
+abbrev pub if_stmt_of : Place × (Tok × (Lead × (Branches ⊎ Choice))) → StmtTerm
+if_stmt_of (place, (w, (c, rest))) = if_made place (expr_of c) rest
 
 abbrev pub while_of : Place × (Tok × (ExprTerm × List StmtTerm)) → StmtTerm
 while_of (place, (w, (c, body))) = WhileStmt c (stmts_of body) place
@@ -62,7 +90,8 @@ plain_tail t = (None, t)
 
 abbrev pub lead_turn : Place × (Lead × Tail) → Turn
 lead_turn (place, ((Plain e target), (assignment, t))) = simple_turn (written place e target assignment, t)
-lead_turn (place, ((Each e part), tail)) = inl (ForEachStmt e part.name part.kind part.condition (stmts_of part.body) place ∷ [])
+lead_turn (place, ((Bracketed e), (assignment, t))) = simple_turn (ValueStmt e place, t)
+lead_turn (place, ((Each e part), tail)) = inl (for_each_of e part place ∷ [])
 
 abbrev pub concat : {A : Type 0} → List (List A) → List A
 concat [] = []
@@ -84,8 +113,10 @@ written_turn place x tail = lead_turn (place, (x, tail))
 -- it is no `forEach`
 abbrev pub IsPlain : Lead → Type 0
 IsPlain (Plain e target) = Unit {0}
+IsPlain (Bracketed e) = Unit {0}
 IsPlain (Each e part) = ⊥
 
 abbrev pub target_in : Lead → Option TargetTerm
 target_in (Plain e target) = target
+target_in (Bracketed e) = None
 target_in (Each e part) = None

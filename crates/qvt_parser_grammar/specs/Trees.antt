@@ -22,7 +22,7 @@ use Rattle.qvt_parser_grammar.specs.declared.named.UnitPath.{UnitPath}
 use Rattle.qvt_parser_grammar.specs.declared.token.Class.{Class}
 use Rattle.qvt_parser_grammar.specs.declared.token.Class.TheVariants.{SetWord, BagWord, SequenceWord, ImpliesWord, XorWord, OrWord, AndWord, EqualSign, DoubleEqual, Diamond, BangEqual, LessSign, AtMost, GreaterSign, AtLeast, PlusSign, MinusSign, XmapWord, ResolveAllWord, ResolveOneWord, InvResolveWord, InvResolveOneWord, ResolveInWord, ResolveOneInWord, InvResolveInWord}
 use Rattle.qvt_parser_grammar.specs.Tokens.{Tok}
-use Rattle.qvt_parser_grammar.specs.Leads.{Lead, Plain, Each, EachPart}
+use Rattle.qvt_parser_grammar.specs.Leads.{Lead, Plain, Bracketed, Each, EachPart}
 
 -- parts of a sequence
 
@@ -186,6 +186,7 @@ accumulator_of (n, (t, e)) = AccumulatorOf n.text t e n.place
 
 abbrev pub expr_of : Lead → ExprTerm
 expr_of (Plain e target) = e
+expr_of (Bracketed e) = e
 expr_of (Each e part) = e
 
 -- the name that the expression is, with the rest of its head; or further arguments
@@ -231,13 +232,13 @@ abbrev pub member_target : Place → ExprTerm → List StepTerm → Option Targe
 member_target place e [] = None
 member_target place e (s ∷ ss) = member_of place e (split_last s ss)
 
-abbrev pub target_of : Place → ExprTerm × Bool → List StepTerm → Option TargetTerm
-target_of place (e, true) [] = bare_target e
-target_of place (e, false) [] = None
-target_of place (e, b) (s ∷ ss) = member_of place e (split_last s ss)
+abbrev pub first_lead : ExprTerm × Bool → Lead
+first_lead (e, true) = Plain e (bare_target e)
+first_lead (e, false) = Bracketed e
 
 abbrev pub post_lead : Place × ((ExprTerm × Bool) × List StepTerm) → Lead
-post_lead (place, (x, steps)) = Plain (post_of place x.0 steps) (target_of place x steps)
+post_lead (place, (x, [])) = first_lead x
+post_lead (place, (x, (s ∷ ss))) = Plain (post_of place x.0 (s ∷ ss)) (member_of place x.0 (split_last s ss))
 
 -- a `forEach` after the steps, where there is one
 abbrev pub each_lead : Place × ((ExprTerm × Bool) × (List StepTerm × Option EachPart)) → Lead

@@ -1,9 +1,12 @@
-ghost use Rattle.std.specs.Prelude.{◌≡◌, ◌≤◌, ◌++◌, List, length, ℕ, Bool, true, false, Ok, Err};
+ghost use Rattle.std.specs.Prelude.{◌≡◌, ◌≤◌, ◌++◌, List, length, ℕ, suc, Bool, true, false, Ok, Err};
 ghost use Rattle.qvt_grammar.specs.Reader.{At};
 ghost use Rattle.qvt_tree_types.specs.Module.{ModuleTerm};
 ghost use Rattle.qvt_parser_grammar.specs.Tokens.{Tok};
 ghost use Rattle.qvt_parser_grammar.specs.Gives.{is_nil};
-ghost use Rattle.qvt_parser_grammar.specs.Nesting.{nested_at};
+ghost use Rattle.qvt_tree_types.specs.Tree.{StmtTerm};
+ghost use Rattle.qvt_parser_grammar.specs.Statements.{if_stmt};
+ghost use Rattle.qvt_parser_grammar.specs.Conditionals.{if_forms};
+ghost use Rattle.qvt_parser_grammar.specs.Nesting.{nested, nested_at};
 ghost use Rattle.qvt_parser_grammar.specs.ReadingUnits.{transformation_at};
 ghost use Rattle.qvt_parser_grammar.specs.Module.{Reads, IsFront, IsFault};
 
@@ -22,4 +25,11 @@ pub fn answers()
     ensures one { (n : ℕ) (ts : List Tok) → length ts ≤ n → (m : ModuleTerm) (r : List Tok) → transformation_at (nested_at n) ts ≡ Ok (m, r) → is_nil r ≡ true → (other : ModuleTerm) → Reads ts other → other ≡ m }
     ensures rest { (n : ℕ) (ts : List Tok) → length ts ≤ n → (m : ModuleTerm) (r : List Tok) → transformation_at (nested_at n) ts ≡ Ok (m, r) → is_nil r ≡ false → IsFault ts r }
     ensures fault { (n : ℕ) (ts : List Tok) → length ts ≤ n → (r : List Tok) → transformation_at (nested_at n) ts ≡ Err (At r) → IsFault ts r }
+{}
+
+/// Its clauses say which statements begin with `if`: blocks after a condition in brackets, and a
+/// `forEach` over what begins with a conditional expression. It does nothing.
+pub fn conditionals()
+    ensures forms { (n : ℕ) (ts : List Tok) (s : StmtTerm) → (if_stmt (nested n)).reads ts s → (if_forms (nested n)).reads ts s }
+    ensures read { (n : ℕ) (ts : List Tok) (s : StmtTerm) → (if_forms (nested n)).reads ts s → (if_stmt (nested (suc n))).reads ts s }
 {}

@@ -7,7 +7,7 @@ use Rattle.qvt_tree_types.specs.Tree.{ExprTerm, StmtTerm, AssignStmt, ValueStmt,
 use Rattle.qvt_parser_grammar.specs.Tokens.{Tok, of}
 use Rattle.qvt_parser_grammar.specs.Readers.{Reader, placed_at, nowhere}
 use Rattle.qvt_parser_grammar.specs.Firsts.{assign_first}
-use Rattle.qvt_parser_grammar.specs.Leads.{Lead, Plain, Each}
+use Rattle.qvt_parser_grammar.specs.Leads.{Lead, Plain, Bracketed, Each}
 use Rattle.qvt_parser_grammar.specs.Trees.{is_there, expr_of}
 use Rattle.qvt_parser_grammar.specs.StmtTrees.{Turn, Tail, plain_tail, simple_turn, is_adding, lead_turn, written_turn, target_in, IsPlain}
 use Rattle.qvt_parser_grammar.specs.Reading.{NestedAt, lead_at}
@@ -42,6 +42,10 @@ module _ (place : Place) (r : NestedAt) where
   plain_semicolon e (Ok (t, s)) = refl
   plain_semicolon e (Err f) = refl
 
+  bracketed_semicolon : (e : ExprTerm) (z : Answer Tok (Option Tok)) → turned place (Bracketed e) (z >>= λ (t, s). Ok (plain_tail t, s)) ≡ (z >>= λ (t, s). Ok (simple_turn (ValueStmt e place, t), s))
+  bracketed_semicolon e (Ok (t, s)) = refl
+  bracketed_semicolon e (Err f) = refl
+
   at_sign : (ts : List Tok) (e : ExprTerm) (target : TargetTerm) (b : Bool) → starts (of assign_first) ts ≡ b → made_at (written_turn place (Plain e (Some target))) (lead_tail_at r (Plain e (Some target))) ts ≡ turned place (Plain e (Some target)) (then_semicolon (cond b (some_sign (assignment_at r ts)) (Ok (None, ts))))
   at_sign ts e target b h = ap (λ z. turned place (Plain e (Some target)) (then_semicolon (cond z (some_sign (assignment_at r ts)) (Ok (None, ts))))) h
 
@@ -54,17 +58,20 @@ module _ (place : Place) (r : NestedAt) where
       ∙ assigned_semicolon e t sign value (semicolon_at rest)
       ∙ ap (λ z. closing (AssignStmt z (is_adding sign.class) value sign.place) rest) same
   tail_assigned (Plain e None) target ts sign value rest k h q = absurd cc
+  tail_assigned (Bracketed e) target ts sign value rest k h q = absurd cc
   tail_assigned (Each e part) target ts sign value rest k h q = absurd cc
 
   pub tail_stuck : (x : Lead) (ts : List Tok) (f : Fault Tok) → IsTrue (is_there (target_in x)) → starts (of assign_first) ts ≡ true → assignment_at r ts ≡ Err f → made_at (written_turn place x) (lead_tail_at r x) ts ≡ Err f
   tail_stuck (Plain e (Some t)) ts f k h q = at_sign ts e t true h ∙ ap (λ y. turned place (Plain e (Some t)) (then_semicolon (some_sign y))) q
   tail_stuck (Plain e None) ts f k h q = absurd cc
+  tail_stuck (Bracketed e) ts f k h q = absurd cc
   tail_stuck (Each e part) ts f k h q = absurd cc
 
   -- else the expression is the statement
   pub tail_plain : (x : Lead) (value : ExprTerm) (ts : List Tok) → value ≡ expr_of x → IsPlain x → (is_there (target_in x) && starts (of assign_first) ts) ≡ false → made_at (written_turn place x) (lead_tail_at r x) ts ≡ closing (ValueStmt value place) ts
   tail_plain (Plain e (Some t)) value ts q k h = at_sign ts e t false h ∙ value_semicolon e t (semicolon_at ts) ∙ ap (λ z. closing (ValueStmt z place) ts) (sym q)
   tail_plain (Plain e None) value ts q k h = plain_semicolon e (semicolon_at ts) ∙ ap (λ z. closing (ValueStmt z place) ts) (sym q)
+  tail_plain (Bracketed e) value ts q k h = bracketed_semicolon e (semicolon_at ts) ∙ ap (λ z. closing (ValueStmt z place) ts) (sym q)
   tail_plain (Each e part) value ts q k h = absurd k
 
 -- a statement that begins with an expression is read by what stands after it

@@ -6,7 +6,6 @@ ghost use Rattle.qvt_parser_grammar.specs.Gives.{Makes};
 ghost use Rattle.qvt_parser_grammar.specs.StmtTrees as statements;
 ghost use Rattle.qvt_parser_grammar.specs.Trees as trees;
 ghost use Rattle.qvt_parser_exprs.specs.Views.{lead_view, each_view, steps_view, stmts_view};
-ghost use Rattle.qvt_parser_stmts.specs.Made.{for_each_of};
 ghost use Rattle.qvt_parser_stmts.specs.Turns.{AddsIf};
 ghost use Rattle.qvt_parser_stmts.specs.Views.{turn_view};
 
@@ -98,6 +97,7 @@ pub fn has_target(lead: &Leading) -> bool
         Leading::Name(_) => true,
         Leading::Result(_) => true,
         Leading::Post { steps, .. } => ends_in_member(steps.as_slice()),
+        Leading::Bracketed(_) => false,
         Leading::Done(_) => false,
         Leading::Each { .. } => false,
     }
@@ -144,7 +144,7 @@ pub fn evaluate(value: Expr, place: Place) -> Stmt
 
 /// The statement of a `forEach`.
 pub fn for_each(source: Expr, part: EachTail, place: Place) -> Stmt
-    ensures { stmt_view result ≡ for_each_of (expr_view source) (each_view part) place }
+    ensures { stmt_view result ≡ statements.for_each_of (expr_view source) (each_view part) place }
 {
     Stmt::ForEach {
         source,

@@ -3,11 +3,13 @@ ghost use Rattle.qvt_grammar.specs.Reader.{starts, made_at, then_at, many_at, ma
 ghost use Rattle.qvt_tree_types.specs.View.{expr_view, stmt_view, arm_view};
 ghost use Rattle.qvt_parser_grammar.specs.Tokens.{of, is};
 ghost use Rattle.qvt_parser_grammar.specs.Readers.{the_at};
-ghost use Rattle.qvt_parser_grammar.specs.Firsts.{expr_first, assign_first};
-ghost use Rattle.qvt_parser_grammar.specs.Trees.{second, is_there};
-ghost use Rattle.qvt_parser_grammar.specs.StmtTrees.{simple_turn, written_turn, target_in, IsPlain};
-ghost use Rattle.qvt_parser_grammar.specs.Reading.{expr_at};
-ghost use Rattle.qvt_parser_grammar.specs.ReadingStatements.{condition_at, var_stmt_at, return_stmt_at, arm_at, else_part_at, if_stmt_at, while_stmt_at, assignment_at, semicolon_at, lead_tail_at, lead_stmt_at, statement_at, statements_at, block_at};
+ghost use Rattle.qvt_parser_grammar.specs.Firsts.{expr_first, step_first, assign_first};
+ghost use Rattle.qvt_parser_grammar.specs.Trees.{second, inner, expr_of, is_there};
+ghost use Rattle.qvt_parser_grammar.specs.StmtTrees.{choice_expr, each_over, branched, chosen, if_made, closed_turn, simple_turn, written_turn, target_in, IsPlain};
+ghost use Rattle.qvt_parser_grammar.specs.Reading.{expr_at, lead_step_at};
+ghost use Rattle.qvt_parser_grammar.specs.ReadingStatements.{condition_at, var_stmt_at, return_stmt_at, arm_at, else_part_at, branches_at, choice_at, if_rest_at, if_stmt_at, while_stmt_at, assignment_at, semicolon_at, lead_tail_at, lead_stmt_at, statement_at, statements_at, block_at};
+ghost use Rattle.qvt_parser_grammar.specs.Leads.{Bracketed};
+ghost use Rattle.qvt_parser_grammar.specs.Series.{finished_at};
 ghost use Rattle.qvt_parser_grammar.specs.Nesting.{nested_at};
 ghost use Rattle.qvt_parser_grammar.specs.Options.{option_view};
 ghost use Rattle.qvt_parser_grammar.specs.Gives.{Gives, toks};
@@ -21,7 +23,7 @@ use qvt_base::numbers::Place;
 use qvt_base::seq::Seq;
 use qvt_parser_chains::chains::Chains;
 use qvt_parser_exprs::leading::Leading;
-use qvt_parser_exprs::made::finish;
+use qvt_parser_exprs::made::{conditional, finish, posted};
 use qvt_parser_grammar::cursor::{ParseError, Parser};
 use qvt_parser_grammar::token::{Class, Token};
 use qvt_tree_types::tree::{Arm, Expr, Stmt, Stmts};
@@ -177,8 +179,64 @@ impl<
     {
         let place = parser.place();
         parser.take(Class::IfWord)?;
-        let condition = self.condition(parser)?;
-        parser.skip(Class::ThenWord);
+        let condition = self.chains.inside.flagged(parser)?;
+        self.if_rest(parser, condition, place)
+    }
+
+    /// What stands after the expression that follows `if`.
+    fn if_rest(
+        &self,
+        parser: &mut Parser<'_>,
+        condition: Leading,
+        place: Place,
+    ) -> Result<Stmt, ParseError>
+        requires { IsInside F.Fn G.Fn self.now.chains.inside }
+        ensures gives { Gives stmt_view result (toks parser.new) (made_at (if_made place (expr_of (lead_view condition))) (if_rest_at (nested_at self.now.chains.inside.room) (lead_view condition)) (toks parser.old)) }
+        ensures fewer { length (toks parser.new) ≤ length (toks parser.old) }
+    {
+        match condition {
+            Leading::Bracketed(condition) => self.branches_or_choice(parser, condition, place),
+            condition => {
+                parser.take(Class::ThenWord)?;
+                let condition = finish(parser.alloc, condition)?;
+                self.chosen(parser, condition, place)
+            }
+        }
+    }
+
+    /// The same after one in brackets alone.
+    fn branches_or_choice(
+        &self,
+        parser: &mut Parser<'_>,
+        condition: Expr,
+        place: Place,
+    ) -> Result<Stmt, ParseError>
+        requires { IsInside F.Fn G.Fn self.now.chains.inside }
+        ensures gives { Gives stmt_view result (toks parser.new) (made_at (if_made place (expr_view condition)) (if_rest_at (nested_at self.now.chains.inside.room) (Bracketed (expr_view condition))) (toks parser.old)) }
+        ensures fewer { length (toks parser.new) ≤ length (toks parser.old) }
+    {
+        if parser.at(Class::OpenBrace) {
+            return self.branched(parser, condition, place);
+        }
+        parser.take(Class::ThenWord)?;
+        if parser.at(Class::OpenBrace) {
+            return self.branched(parser, condition, place);
+        }
+        self.chosen(parser, condition, place)
+    }
+
+    /// The blocks of a conditional statement.
+    #[tactic(auto, unfolding(qvt_parser_grammar::specs::ReadingStatements::branches_at))]
+    fn branched(
+        &self,
+        parser: &mut Parser<'_>,
+        condition: Expr,
+        place: Place,
+    ) -> Result<Stmt, ParseError>
+        requires { IsInside F.Fn G.Fn self.now.chains.inside }
+        ensures gives { Gives stmt_view result (toks parser.new) (made_at (branched place (expr_view condition)) (branches_at (nested_at self.now.chains.inside.room)) (toks parser.old)) }
+        ensures fewer { length (toks parser.new) ≤ length (toks parser.old) }
+    {
         let body = self.chains.inside.block(parser)?;
         let arms = self.arms(parser)?;
         let otherwise = self.else_part(parser)?;
@@ -190,6 +248,59 @@ impl<
             otherwise,
             place,
         })
+    }
+
+    /// A `forEach` whose source begins with a conditional, after its `then`.
+    #[tactic(auto, unfolding(qvt_parser_grammar::specs::ReadingStatements::choice_at))]
+    fn chosen(
+        &self,
+        parser: &mut Parser<'_>,
+        condition: Expr,
+        place: Place,
+    ) -> Result<Stmt, ParseError>
+        requires { IsInside F.Fn G.Fn self.now.chains.inside }
+        ensures gives { Gives stmt_view result (toks parser.new) (made_at (chosen place (expr_view condition)) (choice_at (nested_at self.now.chains.inside.room)) (toks parser.old)) }
+        ensures fewer { length (toks parser.new) ≤ length (toks parser.old) }
+    {
+        let source = self.choice(parser, condition, place)?;
+        self.each_over(parser, source, place)
+    }
+
+    /// A conditional expression, after its `then`.
+    fn choice(
+        &self,
+        parser: &mut Parser<'_>,
+        condition: Expr,
+        place: Place,
+    ) -> Result<Expr, ParseError>
+        requires { IsInside F.Fn G.Fn self.now.chains.inside }
+        ensures gives { Gives expr_view result (toks parser.new) (made_at (choice_expr place (expr_view condition)) (then_at (expr_at (nested_at self.now.chains.inside.room)) (made_at inner (then_at (the_at Class.ElseWord) (then_at (expr_at (nested_at self.now.chains.inside.room)) (the_at Class.EndifWord))))) (toks parser.old)) }
+        ensures fewer { length (toks parser.new) ≤ length (toks parser.old) }
+    {
+        let yes = self.chains.inside.expr(parser)?;
+        let no = self.chains.inside.else_expr(parser)?;
+        conditional(parser.alloc, condition, yes, no, place)
+    }
+
+    /// The steps after an expression, and the rest of the `forEach` over it.
+    fn each_over(
+        &self,
+        parser: &mut Parser<'_>,
+        first: Expr,
+        place: Place,
+    ) -> Result<Stmt, ParseError>
+        requires { IsInside F.Fn G.Fn self.now.chains.inside }
+        ensures gives { Gives stmt_view result (toks parser.new) (made_at (each_over place (expr_view first)) (finished_at (of step_first) (lead_step_at (nested_at self.now.chains.inside.room))) (toks parser.old)) }
+        ensures fewer { length (toks parser.new) ≤ length (toks parser.old) }
+    {
+        let (steps, part) = self.chains.lead_steps(parser)?;
+        match part {
+            Some(part) => {
+                let source = posted(parser.alloc, place, first, steps)?;
+                Ok(for_each(source, part, place))
+            }
+            None => Err(ParseError::Syntax),
+        }
     }
 
     #[tactic(auto, unfolding(qvt_parser_grammar::specs::ReadingStatements::while_stmt_at))]
@@ -232,7 +343,10 @@ impl<
         let place = parser.place();
         let lead = self.chains.lead(parser)?;
         match lead {
-            Leading::Each { source, part } => Ok(Turn::Closed(for_each(source, part, place))),
+            Leading::Each { source, part } => {
+                let part = Box::into_inner(part);
+                Ok(Turn::Closed(for_each(source, part, place)))
+            }
             lead => self.written(parser, lead, place),
         }
     }
@@ -277,6 +391,46 @@ impl<
         Ok(ended(parser, stmt))
     }
 
+    fn if_turn(&self, parser: &mut Parser<'_>) -> Result<Turn, ParseError>
+        requires { IsInside F.Fn G.Fn self.now.chains.inside }
+        ensures gives { Gives turn_view result (toks parser.new) (made_at closed_turn (if_stmt_at (nested_at self.now.chains.inside.room)) (toks parser.old)) }
+        ensures fewer { length (toks parser.new) ≤ length (toks parser.old) }
+        ensures less { OnOk result (length (toks parser.new) < length (toks parser.old)) }
+    {
+        let stmt = self.if_stmt(parser)?;
+        Ok(Turn::Closed(stmt))
+    }
+
+    fn while_turn(&self, parser: &mut Parser<'_>) -> Result<Turn, ParseError>
+        requires { IsInside F.Fn G.Fn self.now.chains.inside }
+        ensures gives { Gives turn_view result (toks parser.new) (made_at closed_turn (while_stmt_at (nested_at self.now.chains.inside.room)) (toks parser.old)) }
+        ensures fewer { length (toks parser.new) ≤ length (toks parser.old) }
+        ensures less { OnOk result (length (toks parser.new) < length (toks parser.old)) }
+    {
+        let stmt = self.while_stmt(parser)?;
+        Ok(Turn::Closed(stmt))
+    }
+
+    fn var_turn(&self, parser: &mut Parser<'_>) -> Result<Turn, ParseError>
+        requires { IsInside F.Fn G.Fn self.now.chains.inside }
+        ensures gives { Gives turn_view result (toks parser.new) (made_at simple_turn (then_at (var_stmt_at (nested_at self.now.chains.inside.room)) semicolon_at) (toks parser.old)) }
+        ensures fewer { length (toks parser.new) ≤ length (toks parser.old) }
+        ensures less { OnOk result (length (toks parser.new) < length (toks parser.old)) }
+    {
+        let stmt = self.var_stmt(parser)?;
+        Ok(ended(parser, stmt))
+    }
+
+    fn return_turn(&self, parser: &mut Parser<'_>) -> Result<Turn, ParseError>
+        requires { IsInside F.Fn G.Fn self.now.chains.inside }
+        ensures gives { Gives turn_view result (toks parser.new) (made_at simple_turn (then_at (return_stmt_at (nested_at self.now.chains.inside.room)) semicolon_at) (toks parser.old)) }
+        ensures fewer { length (toks parser.new) ≤ length (toks parser.old) }
+        ensures less { OnOk result (length (toks parser.new) < length (toks parser.old)) }
+    {
+        let stmt = self.return_stmt(parser)?;
+        Ok(ended(parser, stmt))
+    }
+
     #[tactic(auto, unfolding(qvt_parser_grammar::specs::ReadingStatements::statement_at))]
     fn statement(&self, parser: &mut Parser<'_>) -> Result<Turn, ParseError>
         requires { IsInside F.Fn G.Fn self.now.chains.inside }
@@ -289,20 +443,16 @@ impl<
             return Ok(Turn::Empty);
         }
         if parser.at(Class::IfWord) {
-            let stmt = self.if_stmt(parser)?;
-            return Ok(Turn::Closed(stmt));
+            return self.if_turn(parser);
         }
         if parser.at(Class::WhileWord) {
-            let stmt = self.while_stmt(parser)?;
-            return Ok(Turn::Closed(stmt));
+            return self.while_turn(parser);
         }
         if parser.at(Class::VarWord) {
-            let stmt = self.var_stmt(parser)?;
-            return Ok(ended(parser, stmt));
+            return self.var_turn(parser);
         }
         if parser.at(Class::ReturnWord) {
-            let stmt = self.return_stmt(parser)?;
-            return Ok(ended(parser, stmt));
+            return self.return_turn(parser);
         }
         self.lead_stmt(parser)
     }

@@ -176,6 +176,10 @@ fn statements_and_blocks(rt: HostRuntime) -> Result<(), Fault> {
             "  (a + b)->forEach(x) {\n  }\n  (- a).b := 1;\n  a.b := 1;\n",
         ),
         (
+            "(if a then b else c endif)->forEach(x) { } (if (a) then b else c endif.d).e->forEach(x) { f }",
+            "  if a then b else c endif->forEach(x) {\n  }\n  if a then b else c endif.d.e->forEach(x) {\n    f;\n  }\n",
+        ),
+        (
             "x := object A { y := object B { z := 1 }; w := 2 }.v; f(object A { }, 1)",
             "  x := object A {\n    y := object B {\n      z := 1;\n    };\n    w := 2;\n  }.v;\n  f(object A {\n  }, 1);\n",
         ),

@@ -124,7 +124,23 @@ fn texts_have_these_faults(rt: HostRuntime) {
         ),
         (
             "transformation T(in m : M); main() { if a then b else c endif; }",
-            syntax(place(1, 41, 40)),
+            syntax(place(1, 62, 61)),
+        ),
+        (
+            "transformation T(in m : M); main() { if a { } }",
+            syntax(place(1, 43, 42)),
+        ),
+        (
+            "transformation T(in m : M); main() { if (a) + 1 = 2 then { } }",
+            syntax(place(1, 58, 57)),
+        ),
+        (
+            "transformation T(in m : M); main() { if (a) then b else c endif.d }",
+            syntax(place(1, 67, 66)),
+        ),
+        (
+            "transformation T(in m : M); main() { if a then b else c endif.d := 1; }",
+            syntax(place(1, 65, 64)),
         ),
         (
             "transformation T(in m : M); mapping m() inherits a inherits b;",
@@ -194,6 +210,10 @@ fn each_statement_and_expression_is_read(rt: HostRuntime) -> Result<(), ParseFau
         "result := 1; result += 2; x := 3; x.y.z += 4; return 5;",
         "if (a) { } if (a) then { b } elif (c) { } elif (d) then { e; } else { } endif",
         "while (a) { b }; a->b()->forEach(x) { } a->forEach(x : A | x.b) { c };",
+        "if a then b else c endif->forEach(x) { }",
+        "if (a) then b else c endif.d->forEach(x) { } if (a) { }",
+        "if (a) + 1 = 2 then b else c endif.d()->e()->forEach(x : A | x.f) { g };",
+        "if if a then b else c endif then (d) else e endif->forEach(x) { } f",
         "a implies b xor c or d and e = f == g <> h != i < j <= k > l >= m + n - o * p",
         "- not - x.y; true; false; null; self; result; 1; 'a' + \"b\"; A::B; f(); f(1, 2)",
         "Set{}; Bag{1}; Sequence{1..2, 3}; OrderedSet{'a', b}; (a)",

@@ -1,17 +1,15 @@
-use Rattle.std.proofs.Common.{◌≡◌, ◌+◌, ◌*◌, ◌≤◌, length, map}
+use Rattle.std.proofs.Common.{◌≡◌, ◌+◌, ◌*◌, ◌≤◌, ◌<◌, length, map, Ok}
 use Rattle.qvt_grammar.specs.Reader.{many_at, with_front}
 use Rattle.qvt_parser_grammar.specs.Tokens.{of}
 use Rattle.qvt_parser_grammar.specs.Gives.{toks}
 use Rattle.qvt_parser_grammar.specs.Reading.{pre_at, link_at, chain_at, operators}
 use Rattle.qvt_parser_grammar.specs.Nesting.{nested_at}
 use Rattle.qvt_tree_types.specs.View.{link_view}
+use Rattle.qvt_parser_chains.specs.Raised.{held_view}
 use Rattle.qvt_parser_chains.proofs.chains.Chains.+chain.Given as goal
 
-abbrev pub decreases-chain : goal.decreases-chain
-decreases-chain g l = 5 * l.level + 0
-
-abbrev pub decreases-above : goal.decreases-above
-decreases-above g l = 5 * l.below + 4
+abbrev pub decreases-held_chain : goal.decreases-held_chain
+decreases-held_chain g l = 5 * l.level + 0
 
 abbrev pub decreases-link : goal.decreases-link
 decreases-link g l = 5 * l.level + 1
@@ -21,6 +19,15 @@ decreases-operands g l = 5 * l.level + 2
 
 abbrev pub decreases-links : goal.decreases-links
 decreases-links g l = 5 * l.level + 3
+
+abbrev pub decreases-raised : goal.decreases-raised
+decreases-raised g l = 5 * l.below + 4
+
+abbrev pub invariant-held_chain-loop-below : goal.invariant-held_chain-loop-below
+invariant-held_chain-loop-below g l = record {
+  so_far : chain_at l.below (pre_at (nested_at l.self.inside.room)) (pre_at (nested_at l.self.inside.room)) (toks l.fn.parser) ≡ Ok (held_view l.lead, toks l.parser);
+  less : length (toks l.parser) < length (toks l.fn.parser);
+}
 
 abbrev pub invariant-operands-loop-parser : goal.invariant-operands-loop-parser
 invariant-operands-loop-parser g l = record {

@@ -1,0 +1,80 @@
+//! Reads `t.qvto` of the working folder: with the word `bytes` its bytes alone, with the word `tokens`
+//! the tokens too, with any other words the transformation that it is.
+#![tactic(auto)]
+
+ghost use Rattle.std.specs.Prelude.{◌+◌, ◌<◌, ◌^◌, length};
+
+use qvt_base::outside::{Files, ReadAnswer};
+use qvt_base::real::DirFiles;
+use qvt_lexer::lexer::Lexer;
+use qvt_lexer::token::TokenKind;
+use qvt_parser::parse::parse;
+use std::alloc::Global;
+use std::env;
+use std::process::ExitCode;
+use std::rt::Env;
+
+const LIMIT: u32 = 262_144;
+
+/// What is done with the text.
+#[derive(Clone, Copy)]
+enum Work {
+    Bytes,
+    Tokens,
+    Tree,
+}
+
+/// What the first word after the program's name says.
+fn work(rt: &(impl Env + AllocGlobal)) -> Work {
+    let Ok(words) = env::args(rt) else {
+        return Work::Tree;
+    };
+    for word in words.skip(1) {
+        return match word.as_str() {
+            "bytes" => Work::Bytes,
+            "tokens" => Work::Tokens,
+            _ => Work::Tree,
+        };
+    }
+    Work::Tree
+}
+
+/// Whether the text is tokens to its end.
+fn is_lexed(text: &str) -> bool
+    requires { length text.now + 1 < 2 ^ 32 }
+{
+    let mut lexer = Lexer::new(text);
+    for _token in 0..=text.len() {
+        match lexer.next() {
+            Ok(token) => {
+                if token.kind == TokenKind::End {
+                    return true;
+                }
+            }
+            Err(_) => return false,
+        }
+    }
+    false
+}
+
+/// Whether the bytes are read.
+fn is_read(alloc: Global, bytes: &[u8], work: Work) -> bool {
+    match str::from_utf8(bytes) {
+        Ok(text) if text.len() < 1_000_000 => match work {
+            Work::Bytes => true,
+            Work::Tokens => is_lexed(text),
+            Work::Tree => parse(alloc, text).is_ok(),
+        },
+        _ => false,
+    }
+}
+
+fn main(rt: HostRuntime) -> ExitCode {
+    let alloc = rt.alloc();
+    let work = work(&rt);
+    let mut files = DirFiles::new(rt);
+    match files.read(alloc, "t.qvto", LIMIT) {
+        ReadAnswer::Found(bytes) if is_read(alloc, bytes.as_slice(), work) => ExitCode::from(0),
+        _ => ExitCode::from(1),
+    }
+}
