@@ -13,7 +13,7 @@ use Rattle.qvt_parser_grammar.specs.declared.named.Named.{Named}
 use Rattle.qvt_parser_grammar.specs.declared.token.Class.{Class}
 use Rattle.qvt_parser_grammar.specs.declared.token.Class.TheVariants as class
 use Rattle.qvt_parser_grammar.specs.Tokens.{Tok}
-use Rattle.qvt_parser_grammar.specs.Leads.{Lead, Plain}
+use Rattle.qvt_parser_grammar.specs.Leads.{Lead, Plain, Bracketed}
 use Rattle.qvt_parser_grammar.specs.Grammar.{Nested, expr, exprs, args, literal, word, named_expr, item, coll, if_expr, object, new_expr, map_call, filter_head, bar_expr, filter, all_word, in_word, all_form, in_form, resolve, longer, bare_expr, accumulator, more_exprs}
 use Rattle.qvt_parser_grammar.specs.Trees.{second, first, cons_of, nothing, inner, int_of, str_of, true_of, false_of, null_of, self_of, result_of, named_expr_of, coll_of, range_of, item_of, if_of, object_of, new_of, map_of, is_strict, all_of, in_of, is_there, resolve_of, resolve_word, no_name, named_type, filter_of, accumulator_of, expr_of}
 use Rattle.qvt_printer_layout.specs.declared.piece.Piece.{Piece}
@@ -56,6 +56,8 @@ pub record Inside (i : Nested) (e : ExprTerm) : Type 0 where
 
 pub record AgainNested (i : Nested) : Type 0 where
   pub flagged : (ts : List Tok) (x : Lead) → i.flagged.reads ts x → IsPrintableExpr (expr_of x) → Inside i (expr_of x)
+  -- an expression in brackets alone
+  pub bracketed : (ts : List Tok) (e : ExprTerm) → i.flagged.reads ts (Bracketed e) → IsPrintableExpr e → i.flagged.reads (all_spelled (print.in_round (print.expr e))) (Bracketed (erase_expr e))
   pub names : (ts : List Tok) (x : Lead) → i.flagged.reads ts x → (n : List ℕ) → i.flagged.reads (plain_name n ∷ []) (Plain (PathExpr (record { names = n ∷ []; place = nowhere })) (Some (BareTarget n nowhere)))
   pub block : Again (λ (ss : List StmtTerm). ArePrintableStmts (stmts_of ss)) (λ ss. print.block (stmts_of ss)) (map erase_stmt) i.block i.block
   pub kind : Again any print.type_of erase_type i.kind i.kind

@@ -18,8 +18,8 @@ use Rattle.qvt_printed_trees.proofs.Spelling.{plain_name}
 use Rattle.qvt_printed_trees.proofs.AgainNames.{again_typed}
 use Rattle.qvt_printed_trees.proofs.AgainExprs.{AgainNested}
 use Rattle.qvt_printed_trees.proofs.Forms.{index_of, NeedsBracket, LinksForm, StepsForm, Form}
-use Rattle.qvt_printed_trees.proofs.ChainReads.{raise, flagged_reads}
-use Rattle.qvt_printed_trees.proofs.Read.{flagged_good}
+use Rattle.qvt_printed_trees.proofs.ChainReads.{raise, flagged_reads, flagged_bracket}
+use Rattle.qvt_printed_trees.proofs.Read.{flagged_good, bracket_good}
 use Rattle.qvt_printed_trees.proofs.Statements.{block_good, block_again}
 
 -- with one more nesting each form is as it was
@@ -57,6 +57,7 @@ pub again_nested : (n : ℕ) → AgainNested (nested n)
 unfolding nested
 again_nested zero = record {
   flagged = λ ts x rd o. absurd rd;
+  bracketed = λ ts e rd o. absurd rd;
   names = λ ts x rd n. absurd rd;
   block = record { again = λ ts a rd o. absurd rd };
   kind = record { again = λ ts a rd o. absurd rd };
@@ -65,6 +66,7 @@ again_nested (suc n) =
     let h = again_nested n in
     record {
       flagged = λ ts x rd o. (let f = flagged_good h ts x rd o in record { bracket = flagged_reads (nested n) (expr_of x) f; form = more_form n (expr_of x) f });
+      bracketed = λ ts e rd o. flagged_bracket (nested n) e (bracket_good h ts e rd o);
       names = λ ts x rd m. name_flagged (nested n) m;
       block = record { again = λ ts ss rd o. block_again (nested n) ss (block_good h ts ss rd) o };
       kind = again_typed (nested n) h.kind;

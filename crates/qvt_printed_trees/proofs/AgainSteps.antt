@@ -6,7 +6,7 @@ use Rattle.qvt_tree_types.specs.View.{exprs_of, stmts_of, optional_args, optiona
 use Rattle.qvt_tree.specs.Shape.{nowhere, erase_type, erase_optional_type, erase_expr, erase_args, erase_head, erase_accumulator, erase_step, erase_stmt, erase_optional_expr}
 use Rattle.qvt_parser_grammar.specs.declared.token.Class.TheVariants as class
 use Rattle.qvt_parser_grammar.specs.Tokens.{Tok}
-use Rattle.qvt_parser_grammar.specs.Leads.{Lead, Plain, Each, EachPart}
+use Rattle.qvt_parser_grammar.specs.Leads.{Lead, Plain, Bracketed, Each, EachPart}
 use Rattle.qvt_parser_grammar.specs.Grammar.{Nested, dot_rest, dot_step, head_rest, more_exprs, after_first, arrow_body, arrow_args, arrow_rest, step, each_tail}
 use Rattle.qvt_parser_grammar.specs.Trees.{second, first, no_args, dot_of, arrow_of, expr_of, headed, each_of}
 use Rattle.qvt_printer_layout.specs.declared.piece.Piece.{Piece}
@@ -143,6 +143,7 @@ module _ {i : Nested} (h : AgainNested i) where
   body_of_first u v (Plain e None) y rx ry o = subst BodyReads (sym ry.2) (exprs_body u v (Plain e None) ry.0 rx ry.1 (subst body_ok ry.2 o))
   body_of_first u v (Plain e (Some (ResultTarget p))) y rx ry o = subst BodyReads (sym ry.2) (exprs_body u v (Plain e (Some (ResultTarget p))) ry.0 rx ry.1 (subst body_ok ry.2 o))
   body_of_first u v (Plain e (Some (MemberTarget a n p))) y rx ry o = subst BodyReads (sym ry.2) (exprs_body u v (Plain e (Some (MemberTarget a n p))) ry.0 rx ry.1 (subst body_ok ry.2 o))
+  body_of_first u v (Bracketed e) y rx ry o = subst BodyReads (sym ry.2) (exprs_body u v (Bracketed e) ry.0 rx ry.1 (subst body_ok ry.2 o))
   body_of_first u v (Each e part) y rx ry o = subst BodyReads (sym ry.2) (exprs_body u v (Each e part) ry.0 rx ry.1 (subst body_ok ry.2 o))
 
   again_arrow_body : Again body_ok body_pieces bare_body (arrow_body i) (arrow_body i)

@@ -5,7 +5,7 @@ use Rattle.qvt_grammar.specs.Language.{Language, token, follow, then, either, ma
 use Rattle.qvt_grammar.specs.Reader.{starts}
 use Rattle.qvt_parser_grammar.specs.Tokens.{Tok, is, of, code_of}
 use Rattle.qvt_parser_grammar.specs.Readers.{the, placed, nowhere}
-use Rattle.qvt_parser_grammar.specs.Series.{left, right, series, barring}
+use Rattle.qvt_parser_grammar.specs.Series.{left, right, series, finished, barring}
 use Rattle.qvt_parser_grammar.specs.declared.token.Class.{Class}
 use Rattle.qvt_printed_tokens.specs.Spelled.{unplaced}
 
@@ -137,6 +137,18 @@ module _ {A B : Type 0} {f : A → A} {g : B → B} {l l2 : Language Tok (A ⊎ 
         let y = lift_last (lifts_right k) got.1 w.1 (subst (λ z. lastly (right l) z got.1) (sym w.4) rd.4) in
         ((x.0, y.0), (w.0, w.1, w.2, x.1, y.1), λ i. (x.2 i, y.2 i)));
   }
+
+module _ {A B : Type 0} (f : A → A) (g : B → B) (l : Language Tok (A ⊎ B)) where
+  some_last : (us : List Tok) (xs : List A) (y : Option B) (got : List A × B) → (series l).reads us (xs, y) → both (map f) (option_map g) (xs, y) ≡ (got.0, Some got.1) → (b : List A × B) × (finished l).reads us b × (both (map f) g b ≡ got)
+  some_last us xs None got rd e = absurd (let z : None ≡ Some got.1 = (λ i. (e i).1) in cc)
+  some_last us xs (Some y) got rd e =
+      let z : Some (g y) ≡ Some got.1 = (λ i. (e i).1) in
+      let q : g y ≡ got.1 = cc in
+      ((xs, y), rd, λ i. ((e i).0, q i))
+
+module _ {A B : Type 0} {f : A → A} {g : B → B} {l l2 : Language Tok (A ⊎ B)} where
+  pub lifts_finished : Lifts (bare_sum f g) l l2 → Lifts (both (map f) g) (finished l) (finished l2)
+  lifts_finished k = record { lift = λ us got rd. (let x = (lifts_series k).lift us (got.0, Some got.1) rd in some_last f g l2 us x.0.0 x.0.1 got x.1 x.2) }
 
 -- lists that do not begin with certain tokens
 

@@ -8,8 +8,8 @@ use Rattle.qvt_tree.specs.Shape.{nowhere, erase_expr, erase_head, erase_step, er
 use Rattle.qvt_grammar.specs.Language.{Language, made}
 use Rattle.qvt_parser_grammar.specs.Tokens.{Tok}
 use Rattle.qvt_parser_grammar.specs.declared.token.Class.TheVariants.{OpenRound, CloseRound, Dot, Arrow, ForEachWord, NotWord, MinusSign, Star, PlusSign, LessSign, AtMost, GreaterSign, AtLeast, EqualSign, DoubleEqual, Diamond, BangEqual, AndWord, OrWord, XorWord, ImpliesWord}
-use Rattle.qvt_parser_grammar.specs.Leads.{Lead, Plain, Each, EachPart}
-use Rattle.qvt_parser_grammar.specs.Trees.{second, first, no_args, dot_of, arrow_of, expr_of, headed, with_first, each_of, stepped, post_of, split_last, member_of, target_of, bare_target, post_lead, each_lead, not_of, minus_of, signed, prefix_lead, binary_op, link_of, chain_of, nothing}
+use Rattle.qvt_parser_grammar.specs.Leads.{Lead, Plain, Bracketed, Each, EachPart}
+use Rattle.qvt_parser_grammar.specs.Trees.{second, first, no_args, dot_of, arrow_of, expr_of, headed, with_first, each_of, stepped, post_of, split_last, member_of, bare_target, post_lead, each_lead, not_of, minus_of, signed, prefix_lead, binary_op, link_of, chain_of, nothing}
 use Rattle.qvt_parser_grammar.specs.Grammar.{Nested, more_exprs, dot_rest, dot_step, after_first, arrow_body, arrow_args, arrow_rest, step, post, sign, more_signs, signs, signed_post, pre, each_tail, lead_step, level_of, operator, link, links, chain, flagged, lead_post, lead_pre, lead}
 use Rattle.qvt_printed_tokens.specs.Spelled.{unplaced}
 use Rattle.qvt_printed_trees.proofs.Lifts.{Lifts, both, bare_sum, lifts_the, lifts_then, lifts_follow, lifts_made, lifts_made_as, lifts_either, lifts_placed, lifts_many, lifts_maybe, lifts_series, lifts_empty}
@@ -25,7 +25,7 @@ stepped_bare : (place : Place) (e : ExprTerm) (ss : List StepTerm) → erase_exp
 stepped_bare place (PostExpr e old p) ss = ap (λ z. PostExpr (erase_expr e) z nowhere) (sym (joined_bare old ss))
 stepped_bare place e ss = ap (λ z. PostExpr (erase_expr e) z nowhere) (sym (bare_steps ss))
 
-post_bare : (place : Place) (e : ExprTerm) (ss : List StepTerm) → erase_expr (post_of place e ss) ≡ post_of nowhere (erase_expr e) (map erase_step ss)
+pub post_bare : (place : Place) (e : ExprTerm) (ss : List StepTerm) → erase_expr (post_of place e ss) ≡ post_of nowhere (erase_expr e) (map erase_step ss)
 post_bare place e [] = refl
 post_bare place e (s ∷ ss) = stepped_bare place e (s ∷ ss)
 
@@ -51,14 +51,10 @@ bare_target_bare _ = refl
 last_bare : (place : Place) (e : ExprTerm) (s : StepTerm) (ss : List StepTerm) → option_map erase_target (member_of place e (split_last s ss)) ≡ member_of nowhere (erase_expr e) (split_last (erase_step s) (map erase_step ss))
 last_bare place e s ss = member_bare place e (split_last s ss).0 (split_last s ss).1 ∙ ap (member_of nowhere (erase_expr e)) (split_bare s ss)
 
-target_bare : (place : Place) (e : ExprTerm) (b : Bool) (ss : List StepTerm) → option_map erase_target (target_of place (e, b) ss) ≡ target_of nowhere (erase_expr e, b) (map erase_step ss)
-target_bare place e true [] = bare_target_bare e
-target_bare place e false [] = refl
-target_bare place e true (s ∷ ss) = last_bare place e s ss
-target_bare place e false (s ∷ ss) = last_bare place e s ss
-
 lead_bare : (place : Place) (x : ExprTerm × Bool) (ss : List StepTerm) → bare_lead (post_lead (place, (x, ss))) ≡ post_lead (nowhere, (bare_primary x, map erase_step ss))
-lead_bare place x ss = λ i. Plain (post_bare place x.0 ss i) (target_bare place x.0 x.1 ss i)
+lead_bare place (e, true) [] = ap (Plain (erase_expr e)) (bare_target_bare e)
+lead_bare place (e, false) [] = refl
+lead_bare place x (s ∷ ss) = λ i. Plain (post_bare place x.0 (s ∷ ss) i) (last_bare place x.0 s ss i)
 
 each_bare : (place : Place) (x : ExprTerm × Bool) (ss : List StepTerm) (part : Option EachPart) → bare_lead (each_lead (place, (x, (ss, part)))) ≡ each_lead (nowhere, (bare_primary x, (map erase_step ss, option_map bare_part part)))
 each_bare place x ss None = lead_bare place x ss
@@ -100,6 +96,7 @@ module _ {i : Nested} (h : LiftsNested i) where
   lifts_after_first (Plain e None) = lifts_first e (erase_expr e) refl
   lifts_after_first (Plain e (Some (ResultTarget place))) = lifts_first e (erase_expr e) refl
   lifts_after_first (Plain e (Some (MemberTarget object name place))) = lifts_first e (erase_expr e) refl
+  lifts_after_first (Bracketed e) = lifts_first e (erase_expr e) refl
   lifts_after_first (Each e part) = lifts_first e (erase_expr e) refl
 
   lifts_arrow_body : Lifts bare_body (arrow_body i) (arrow_body i)
@@ -144,7 +141,7 @@ module _ {i : Nested} (h : LiftsNested i) where
   lifts_each_tail = lifts_made each_of (lifts_then (lifts_the ForEachWord) (lifts_then (lifts_the OpenRound) (lifts_then lifts_name (lifts_then (lifts_maybe (lifts_colon_type i h.kind)) (lifts_then (lifts_maybe (lifts_bar_expr h)) (lifts_then (lifts_the CloseRound) h.block))))))
       (λ a j. record { name = a.1.1.0.text; kind = type_bare a.1.1.1.0 j; condition = bare_optional a.1.1.1.1.0 j; body = map erase_stmt a.1.1.1.1.1.1 })
 
-  lifts_lead_step : Lifts (bare_sum erase_step bare_part) (lead_step i) (lead_step i)
+  pub lifts_lead_step : Lifts (bare_sum erase_step bare_part) (lead_step i) (lead_step i)
   unfolding lead_step
   lifts_lead_step = lifts_either (lifts_made inl (lifts_dot_step h) (λ a. refl)) (lifts_made {b2 = bare_sum erase_step bare_part} second (lifts_then (lifts_the Arrow) (lifts_either {b = bare_sum erase_step bare_part} (lifts_made inr lifts_each_tail (λ a. refl)) (lifts_made inl (lifts_arrow_rest h) (λ a. refl)))) (λ a. refl))
 
@@ -167,6 +164,7 @@ lifts_link k g = lifts_made link_of (lifts_then (lifts_operator k) g) (λ a. ap 
 
 lifts_links : (k : ℕ) {l : Language Tok Lead} → Lifts bare_lead l l → (x : Lead) → Lifts (map erase_link) (links k l (bare_lead x)) (links k l x)
 lifts_links k g (Plain e target) = lifts_many (lifts_link k g)
+lifts_links k g (Bracketed e) = lifts_many (lifts_link k g)
 lifts_links k g (Each e part) = lifts_made nothing lifts_empty (λ a. refl)
 
 lifts_chain : (k : ℕ) {p q : Language Tok Lead} → Lifts bare_lead p p → Lifts bare_lead q q → Lifts bare_lead (chain k p q) (chain k p q)

@@ -3,7 +3,7 @@ use Rattle.std.proofs.Common.{◌≡◌, ℕ, List, ◌∷◌, map, Bool, inl, i
 use Rattle.qvt_tree_types.specs.Tree.{PathType, ExprTerm, MapExpr, ResolveExpr, CollExpr, ObjectExpr, NewExpr, MapOf, ItemOf, ResolveOf, FilterOf}
 use Rattle.qvt_tree.specs.Shape.{nowhere, erase_path, erase_optional_path, erase_optional_variable, erase_type, erase_expr, erase_item, erase_range, erase_map_call, erase_resolve, erase_filter, erase_accumulator, erase_stmt, erase_target}
 use Rattle.qvt_parser_grammar.specs.declared.token.Class.TheVariants.{Name, Integer, Str, OpenRound, CloseRound, OpenBrace, CloseBrace, Comma, Semicolon, Colon, DoubleColon, DotDot, Bar, AtSign, EqualSign, BagWord, ElseWord, EndifWord, FalseWord, IfWord, InvResolveWord, InvResolveInWord, InvResolveOneWord, InvResolveOneInWord, LateWord, MapWord, NewWord, NullWord, ObjectWord, OrderedSetWord, ResolveAllWord, ResolveInWord, ResolveOneWord, ResolveOneInWord, ResultWord, SelfWord, SequenceWord, SetWord, ThenWord, TrueWord, XmapWord}
-use Rattle.qvt_parser_grammar.specs.Leads.{Lead, Plain, Each}
+use Rattle.qvt_parser_grammar.specs.Leads.{Lead, Plain, Bracketed, Each}
 use Rattle.qvt_parser_grammar.specs.Grammar.{Nested, name, more_names, path, paths, unit_path, extent, kind_word, coll_type, typed, colon_type, expr, exprs, args, literal, word, named_expr, item, coll, if_expr, colon_path, object_head, object, new_expr, map_call, filter_head, bar_expr, filter, all_word, in_word, all_form, in_form, resolve, brackets, longer, bare_expr, other_primary, primary, accumulator, head_rest, more_exprs}
 use Rattle.qvt_parser_grammar.specs.Trees.{second, first, cons_of, nothing, inner, text_of, named_of, path_of, unit_path_of, coll_type_of, int_of, str_of, true_of, false_of, null_of, self_of, result_of, named_expr_of, coll_of, coll_kind, range_of, item_of, if_of, result_head, named_head, object_of, new_of, map_of, is_strict, all_of, in_of, resolve_of, no_name, named_type, filter_of, bare, bracketed, accumulator_of, expr_of}
 use Rattle.qvt_printed_tokens.specs.Spelled.{unplaced}
@@ -78,10 +78,12 @@ lifts_in_word = lifts_either (lifts_the ResolveInWord) (lifts_either (lifts_the 
 
 abbrev pub bare_lead : Lead → Lead
 bare_lead (Plain e t) = Plain (erase_expr e) (option_map erase_target t)
+bare_lead (Bracketed e) = Bracketed (erase_expr e)
 bare_lead (Each e part) = Each (erase_expr e) (bare_part part)
 
 pub expr_bare : (x : Lead) → erase_expr (expr_of x) ≡ expr_of (bare_lead x)
 expr_bare (Plain e t) = refl
+expr_bare (Bracketed e) = refl
 expr_bare (Each e part) = refl
 
 abbrev pub bare_primary : ExprTerm × Bool → ExprTerm × Bool

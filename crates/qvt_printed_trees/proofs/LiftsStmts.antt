@@ -1,23 +1,23 @@
 -- Statements, blocks and nestings are read alike but for places.
-use Rattle.std.proofs.Common.{◌≡◌, ℕ, zero, suc, List, [], ◌∷◌, ◌++◌, map, inl, refl, ap, ◌∙◌, Option, Some, None, option_map}
+use Rattle.std.proofs.Common.{◌≡◌, ℕ, zero, suc, List, [], ◌∷◌, ◌++◌, map, inl, refl, ap, ◌∙◌, Option, Some, None, option_map, ◌⊎◌, inr}
 use Rattle.qvt_base.specs.declared.numbers.Place.{Place}
-use Rattle.qvt_tree_types.specs.Tree.{ExprTerm, TargetTerm, StmtTerm, VarStmt, ReturnStmt, IfStmt, WhileStmt, ForEachStmt, ArmOf}
-use Rattle.qvt_tree.specs.Shape.{nowhere, erase_expr, erase_arm, erase_stmt, erase_target}
+use Rattle.qvt_tree_types.specs.Tree.{ExprTerm, ValueStmt, TargetTerm, StmtTerm, VarStmt, ReturnStmt, IfStmt, WhileStmt, ForEachStmt, ArmOf}
+use Rattle.qvt_tree.specs.Shape.{nowhere, erase_expr, erase_arm, erase_stmt, erase_target, erase_step}
 use Rattle.qvt_parser_grammar.specs.Tokens.{Tok}
 use Rattle.qvt_parser_grammar.specs.declared.token.Class.TheVariants.{OpenRound, CloseRound, OpenBrace, CloseBrace, Semicolon, Becomes, PlusEqual, ElifWord, ElseWord, EndifWord, IfWord, ReturnWord, ThenWord, VarWord, WhileWord}
-use Rattle.qvt_parser_grammar.specs.Leads.{Lead, Plain, Each, Ended}
-use Rattle.qvt_parser_grammar.specs.Trees.{second, inner}
+use Rattle.qvt_parser_grammar.specs.Leads.{Lead, Plain, Bracketed, EachPart, Each, Ended}
+use Rattle.qvt_parser_grammar.specs.Trees.{second, inner, post_of, expr_of}
 use Rattle.qvt_parser_grammar.specs.Grammar.{Nested}
-use Rattle.qvt_parser_grammar.specs.Statements.{condition, var_stmt, return_stmt, arm, else_part, if_stmt, while_stmt, assignment, semicolon, lead_tail, lead_stmt, statement, statements, block}
-use Rattle.qvt_parser_grammar.specs.StmtTrees.{var_of, return_of, arm_of, if_stmt_of, while_of, Turn, Tail, empty_turn, closed_turn, simple_turn, no_tail, plain_tail, written, lead_turn, concat, last_of, ended_of, block_of}
+use Rattle.qvt_parser_grammar.specs.Statements.{condition, var_stmt, return_stmt, arm, else_part, if_stmt, while_stmt, assignment, semicolon, lead_tail, lead_stmt, statement, statements, block, branches, choice, if_rest}
+use Rattle.qvt_parser_grammar.specs.StmtTrees.{var_of, return_of, arm_of, if_stmt_of, while_of, Turn, Tail, empty_turn, closed_turn, simple_turn, no_tail, plain_tail, written, lead_turn, concat, last_of, ended_of, block_of, Branches, Choice, for_each_of, choice_expr, if_made}
 use Rattle.qvt_parser_grammar.specs.Nesting.{nested}
 use Rattle.qvt_printed_tokens.specs.Spelled.{unplaced}
-use Rattle.qvt_printed_trees.proofs.Lifts.{Lifts, both, bare_sum, lifts_the, lifts_then, lifts_follow, lifts_made, lifts_either, lifts_placed, lifts_many, lifts_maybe, lifts_series, lifts_empty}
+use Rattle.qvt_printed_trees.proofs.Lifts.{Lifts, lifts_finished, both, bare_sum, lifts_the, lifts_then, lifts_follow, lifts_made, lifts_either, lifts_placed, lifts_many, lifts_maybe, lifts_series, lifts_empty}
 use Rattle.qvt_printed_trees.proofs.AgainExprs.{bare_stmts, bare_optional, there_same}
 use Rattle.qvt_printed_trees.proofs.AgainSteps.{type_bare, bare_part}
 use Rattle.qvt_printed_trees.proofs.AgainStmts.{bare_arms, else_bare}
-use Rattle.qvt_printed_trees.proofs.LiftsExprs.{LiftsNested, bare_lead, lifts_name, lifts_expr, lifts_typed, lifts_colon_type}
-use Rattle.qvt_printed_trees.proofs.LiftsChains.{lifts_flagged, lifts_lead}
+use Rattle.qvt_printed_trees.proofs.LiftsExprs.{LiftsNested, bare_lead, expr_bare, lifts_name, lifts_expr, lifts_typed, lifts_colon_type}
+use Rattle.qvt_printed_trees.proofs.LiftsChains.{post_bare, lifts_lead_step, lifts_flagged, lifts_lead}
 
 abbrev bare_turn : Turn → Turn
 bare_turn = bare_sum (map erase_stmt) erase_stmt
@@ -39,6 +39,7 @@ written_bare place e (Some target) (Some a) = refl
 
 turn_bare : (place : Place) (x : Lead) (tail : Tail) → bare_turn (lead_turn (place, (x, tail))) ≡ lead_turn (nowhere, (bare_lead x, bare_tail tail))
 turn_bare place (Plain e target) tail = simple_bare (written place e target tail.0) tail.1 ∙ ap (λ z. simple_turn (z, option_map unplaced tail.1)) (written_bare place e target tail.0)
+turn_bare place (Bracketed e) tail = simple_bare (ValueStmt e place) tail.1
 turn_bare place (Each e part) tail = ap (λ z. inl (ForEachStmt (erase_expr e) part.name (bare_part part).kind (bare_part part).condition z nowhere ∷ [])) (bare_stmts part.body)
 
 map_joined : (xs ys : List StmtTerm) → map erase_stmt (xs ++ ys) ≡ map erase_stmt xs ++ map erase_stmt ys
@@ -57,6 +58,27 @@ ended_bare : (all : List (List StmtTerm)) (last : Option StmtTerm) → bare_ende
 ended_bare all last =
     let stmts = map_joined (concat all) (last_of last) ∙ ap (λ z. z ++ map erase_stmt (last_of last)) (concat_bare all) ∙ ap (λ z. concat (map (map erase_stmt) all) ++ z) (last_bare last) in
     λ i. record { stmts = stmts i; open_end = there_same erase_stmt last i }
+
+abbrev bare_branches : Branches → Branches
+bare_branches = both (map erase_stmt) (both (map erase_arm) (both (option_map (map erase_stmt)) (option_map unplaced)))
+
+abbrev bare_choice : Choice → Choice
+bare_choice = both (both erase_expr erase_expr) (both (map erase_step) bare_part)
+
+abbrev bare_rest : Branches ⊎ Choice → Branches ⊎ Choice
+bare_rest = bare_sum bare_branches bare_choice
+
+each_stmt_bare : (place : Place) (e : ExprTerm) (part : EachPart) → erase_stmt (for_each_of e part place) ≡ for_each_of (erase_expr e) (bare_part part) nowhere
+each_stmt_bare place e part = ap (λ z. ForEachStmt (erase_expr e) part.name (bare_part part).kind (bare_part part).condition z nowhere) (bare_stmts part.body)
+
+made_bare : (place : Place) (c : ExprTerm) (x : Branches ⊎ Choice) → erase_stmt (if_made place c x) ≡ if_made nowhere (erase_expr c) (bare_rest x)
+made_bare place c (inl x) = λ j. IfStmt (erase_expr c) (bare_stmts x.0 j) (bare_arms x.1.0 j) (else_bare x.1.1.0 j) nowhere
+made_bare place c (inr x) =
+    let e = choice_expr place c x.0 in
+    each_stmt_bare place (post_of place e x.1.0) x.1.1 ∙ ap (λ z. for_each_of z (bare_part x.1.1) nowhere) (post_bare place e x.1.0)
+
+if_bare : (place : Place) (c : Lead) (x : Branches ⊎ Choice) → erase_stmt (if_made place (expr_of c) x) ≡ if_made nowhere (expr_of (bare_lead c)) (bare_rest x)
+if_bare place c x = made_bare place (expr_of c) x ∙ ap (λ z. if_made nowhere z (bare_rest x)) (expr_bare c)
 
 lifts_semicolon : Lifts (option_map unplaced) semicolon semicolon
 unfolding semicolon
@@ -84,10 +106,22 @@ module _ {i : Nested} (h : LiftsNested i) where
   unfolding else_part
   lifts_else_part = lifts_made second (lifts_then (lifts_the ElseWord) h.block) (λ a. refl)
 
+  lifts_branches : Lifts bare_branches (branches i) (branches i)
+  unfolding branches
+  lifts_branches = lifts_then h.block (lifts_then (lifts_many lifts_arm) (lifts_then (lifts_maybe lifts_else_part) (lifts_maybe (lifts_the EndifWord))))
+
+  lifts_choice : Lifts bare_choice (choice i) (choice i)
+  unfolding choice
+  lifts_choice = lifts_then (lifts_then (lifts_expr h) (lifts_made {b2 = erase_expr} inner (lifts_then (lifts_the ElseWord) (lifts_then (lifts_expr h) (lifts_the EndifWord))) (λ a. refl))) (lifts_finished (lifts_lead_step h))
+
+  lifts_if_rest : (x : Lead) → Lifts bare_rest (if_rest i (bare_lead x)) (if_rest i x)
+  lifts_if_rest (Plain e target) = lifts_made second (lifts_then (lifts_the ThenWord) (lifts_made {b2 = bare_rest} inr lifts_choice (λ a. refl))) (λ a. refl)
+  lifts_if_rest (Bracketed e) = lifts_either (lifts_made inl lifts_branches (λ a. refl)) (lifts_made {b2 = bare_rest} second (lifts_then (lifts_the ThenWord) (lifts_either {b = bare_rest} (lifts_made inl lifts_branches (λ a. refl)) (lifts_made inr lifts_choice (λ a. refl)))) (λ a. refl))
+  lifts_if_rest (Each e part) = lifts_made second (lifts_then (lifts_the ThenWord) (lifts_made {b2 = bare_rest} inr lifts_choice (λ a. refl))) (λ a. refl)
+
   lifts_if_stmt : Lifts erase_stmt (if_stmt i) (if_stmt i)
   unfolding if_stmt
-  lifts_if_stmt = lifts_made if_stmt_of (lifts_placed (lifts_then (lifts_the IfWord) (lifts_then lifts_condition (lifts_then (lifts_maybe (lifts_the ThenWord)) (lifts_then h.block (lifts_then (lifts_many lifts_arm) (lifts_then (lifts_maybe lifts_else_part) (lifts_maybe (lifts_the EndifWord)))))))))
-      (λ a j. let z = a.1.1.1.1 in IfStmt (erase_expr a.1.1.0) (bare_stmts z.0 j) (bare_arms z.1.0 j) (else_bare z.1.1.0 j) nowhere)
+  lifts_if_stmt = lifts_made if_stmt_of (lifts_placed (lifts_then (lifts_the IfWord) (lifts_follow (if_rest i) (if_rest i) h.flagged lifts_if_rest))) (λ a. if_bare a.0 a.1.1.0 a.1.1.1)
 
   lifts_while_stmt : Lifts erase_stmt (while_stmt i) (while_stmt i)
   unfolding while_stmt
@@ -100,6 +134,7 @@ module _ {i : Nested} (h : LiftsNested i) where
   lifts_lead_tail : (x : Lead) → Lifts bare_tail (lead_tail i (bare_lead x)) (lead_tail i x)
   lifts_lead_tail (Plain e None) = lifts_made plain_tail lifts_semicolon (λ a. refl)
   lifts_lead_tail (Plain e (Some target)) = lifts_then (lifts_maybe lifts_assignment) lifts_semicolon
+  lifts_lead_tail (Bracketed e) = lifts_made plain_tail lifts_semicolon (λ a. refl)
   lifts_lead_tail (Each e part) = lifts_made no_tail lifts_empty (λ a. refl)
 
   lifts_lead_stmt : Lifts bare_turn (lead_stmt i) (lead_stmt i)

@@ -17,10 +17,6 @@ abbrev pub target_begins_with_if : TargetTerm → Bool
 target_begins_with_if (MemberTarget object name place) = if is_chain_or_prefix object then false else begins_with_if object
 target_begins_with_if t = false
 
--- for the time being: the grammar does not read a source of a `forEach` that begins with `if`
-abbrev pub source_begins_with_if : ExprTerm → Bool
-source_begins_with_if e = if is_chain_or_prefix e then false else begins_with_if e
-
 -- the same of all statements inside, also of those in the bodies of object expressions
 abbrev mutual
   pub IsPrintableExpr : ExprTerm → Type 0
@@ -107,7 +103,7 @@ abbrev mutual
   IsPrintableStmt (ValueStmt value place) = (begins_with_if value ≡ false) × IsPrintableExpr value
   IsPrintableStmt (IfStmt condition body arms otherwise place) = IsPrintableExpr condition × ArePrintableStmts body × ArePrintableArms arms × IsPrintableElse otherwise
   IsPrintableStmt (WhileStmt condition body place) = IsPrintableExpr condition × ArePrintableStmts body
-  IsPrintableStmt (ForEachStmt source name kind condition body place) = (source_begins_with_if source ≡ false) × IsPrintableExpr source × IsPrintableOptional condition × ArePrintableStmts body
+  IsPrintableStmt (ForEachStmt source name kind condition body place) = IsPrintableExpr source × IsPrintableOptional condition × ArePrintableStmts body
 
   pub ArePrintableStmts : StmtTerms → Type 0
   ArePrintableStmts NoStmts = ⊤
