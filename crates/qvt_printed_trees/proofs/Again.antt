@@ -1,15 +1,15 @@
 -- Languages that read again what is printed of what they read.
-use Rattle.std.proofs.Common.{◌≡◌, List, [], ◌∷◌, ◌++◌, map, ◌⊎◌, inl, inr, refl, sym, ap, ◌∙◌, subst, Option, Some, None, option_map, IsTrue, pos}
+use Rattle.std.proofs.Common.{◌≡◌, List, [], ◌∷◌, ◌++◌, map, inl, inr, refl, sym, ap, ◌∙◌, subst, Option, Some, None, option_map, pos}
 use Rattle.std.specs.Prelude.{⊤}
 use Rattle.qvt_base.specs.declared.numbers.Place.{Place}
-use Rattle.qvt_grammar.specs.Language.{Language, token, follow, then, either, many, turns, made, never, empty, maybe, marked, head_of}
+use Rattle.qvt_grammar.specs.Language.{Language, then, either, many, turns, made, maybe}
 use Rattle.qvt_grammar.proofs.Wider.{Sub}
-use Rattle.qvt_parser_grammar.specs.Tokens.{Tok, is, code_of}
+use Rattle.qvt_parser_grammar.specs.Tokens.{Tok}
 use Rattle.qvt_parser_grammar.specs.Readers.{the, placed, nowhere}
 use Rattle.qvt_parser_grammar.specs.declared.token.Class.{Class}
 use Rattle.qvt_parser_grammar.specs.declared.token.Class.TheVariants as class
 use Rattle.qvt_printer_layout.specs.declared.piece.Piece.{Piece}
-use Rattle.qvt_printer_layout.specs.declared.piece.Piece.TheVariants.{Plain, Name, Integer, Quoted}
+use Rattle.qvt_printer_layout.specs.declared.piece.Piece.TheVariants.{Name, Integer, Quoted}
 use Rattle.qvt_printer.specs.Expressions.{one}
 use Rattle.qvt_printed_tokens.specs.Spelled.{all_spelled}
 use Rattle.qvt_printed_trees.proofs.Classes.{same_class, is_itself}
@@ -53,10 +53,12 @@ module _ {A B : Type 0} {ok1 : A → Type 0} {p1 : A → List Piece} {b1 : A →
 
 module _ {A B : Type 0} {ok : A → Type 0} {p : A → List Piece} {b : A → A} {ok2 : B → Type 0} {p2 : B → List Piece} {b2 : B → B} {l m : Language Tok A} where
   pub again_made : (f : A → B) → Again ok p b l m → ((a : A) → ok2 (f a) → ok a) → ((a : A) → all_spelled (p2 (f a)) ≡ all_spelled (p a)) → ((a : A) → b2 (f a) ≡ f (b a)) → Again ok2 p2 b2 (made f l) (made f m)
-  again_made f h okay same bared = record { again = λ ts x rd k. (
-      let a = rd.0 in
-      let r = h.again ts a rd.1 (okay a (subst ok2 rd.2 k)) in
-      (b a, subst (λ us. m.reads us (b a)) (sym (same a) ∙ ap (λ y. all_spelled (p2 y)) (sym rd.2)) r, ap b2 rd.2 ∙ bared a)) }
+  again_made f h okay same bared = record {
+    again = λ ts x rd k. (
+        let a = rd.0 in
+        let r = h.again ts a rd.1 (okay a (subst ok2 rd.2 k)) in
+        (b a, subst (λ us. m.reads us (b a)) (sym (same a) ∙ ap (λ y. all_spelled (p2 y)) (sym rd.2)) r, ap b2 rd.2 ∙ bared a));
+  }
 
 module _ {A : Type 0} {ok : A → Type 0} {p : A → List Piece} {b : A → A} {l l2 m m2 : Language Tok A} where
   pub again_either : Again ok p b l m → Again ok p b l2 m2 → Again ok p b (either l l2) (either m m2)
@@ -74,10 +76,12 @@ module _ {A : Type 0} {ok : A → Type 0} {p : A → List Piece} {b : A → A} {
 module _ {A : Type 0} {ok : A → Type 0} {p : A → List Piece} {b : A → A} {ok2 : A → Type 0} {p2 : A → List Piece} {b2 : A → A} {l m : Language Tok A} where
   -- the same by other words
   pub again_as : Again ok p b l m → ((a : A) → ok2 a → ok a) → ((a : A) → all_spelled (p2 a) ≡ all_spelled (p a)) → ((a : A) → b2 a ≡ b a) → Again ok2 p2 b2 l m
-  again_as h okay same bared = record { again = λ ts a rd o. (
-      let r = h.again ts a rd (okay a o) in
-      let r2 = subst (λ us. m.reads us (b a)) (sym (same a)) r in
-      subst (λ x. m.reads (all_spelled (p2 a)) x) (sym (bared a)) r2) }
+  again_as h okay same bared = record {
+    again = λ ts a rd o. (
+        let r = h.again ts a rd (okay a o) in
+        let r2 = subst (λ us. m.reads us (b a)) (sym (same a)) r in
+        subst (λ x. m.reads (all_spelled (p2 a)) x) (sym (bared a)) r2);
+  }
 
 abbrev pub optional_ok : {A : Type 0} → (A → Type 0) → Option A → Type 0
 optional_ok ok None = ⊤

@@ -1,11 +1,11 @@
 -- The clauses of a mapping are printed in one order, and read again.
-use Rattle.std.proofs.Common.{◌≡◌, ℕ, zero, suc, List, [], ◌∷◌, ◌++◌, map, Bool, true, false, inl, inr, refl, sym, ap, ◌∙◌, subst, append_assoc, append-nil, Option, Some, None, option_map}
+use Rattle.std.proofs.Common.{◌≡◌, ℕ, zero, suc, List, [], ◌∷◌, ◌++◌, map, Bool, false, inl, inr, refl, sym, ap, ◌∙◌, subst, append-nil, Option, Some, None, option_map}
 use Rattle.std.specs.Prelude.{⊤}
 use Rattle.qvt_tree_types.specs.Tree.{ExprTerm}
 use Rattle.qvt_tree_types.specs.View.{optional_expr}
 use Rattle.qvt_tree_types.specs.declared.types.PathTree.{PathTree}
 use Rattle.qvt_tree.specs.Shape.{erase_path, erase_expr}
-use Rattle.qvt_grammar.specs.Language.{Language, made, then, maybe, follow}
+use Rattle.qvt_grammar.specs.Language.{Language, made, then}
 use Rattle.qvt_grammar.specs.Reader.{starts}
 use Rattle.qvt_parser_grammar.specs.declared.token.Class.{Class}
 use Rattle.qvt_parser_grammar.specs.declared.token.Class.TheVariants as class
@@ -13,8 +13,8 @@ use Rattle.qvt_parser_grammar.specs.Readers.{the}
 use Rattle.qvt_parser_grammar.specs.Tokens.{Tok, of}
 use Rattle.qvt_parser_grammar.specs.Trees.{second, inner}
 use Rattle.qvt_parser_grammar.specs.Grammar.{Nested, paths}
-use Rattle.qvt_parser_grammar.specs.Units.{when_clause, clause, fresh, clauses}
-use Rattle.qvt_parser_grammar.specs.UnitTrees.{Clauses, no_clauses, Clause, InheritsClause, MergesClause, DisjunctsClause, WhenClause, with_clause, read_words, or_same, paths_or_none, kept}
+use Rattle.qvt_parser_grammar.specs.Units.{when_clause, clause, clauses}
+use Rattle.qvt_parser_grammar.specs.UnitTrees.{Clauses, no_clauses, Clause, InheritsClause, MergesClause, DisjunctsClause, WhenClause, with_clause, read_words, or_same, paths_or_none}
 use Rattle.qvt_printer_layout.specs.declared.piece.Piece.{Piece}
 use Rattle.qvt_printer_layout.specs.declared.piece.Piece.TheVariants as piece
 use Rattle.qvt_printer.specs.Expressions as print
@@ -54,7 +54,7 @@ module _ {i j : Nested} (h : AgainUnits i j) where
   again_when = again_made second (again_then (again_the class.WhenWord) (again_made {ok2 = IsPrintableExpr} {p2 = λ e. piece.Plain class.OpenBrace ∷ (print.expr e ++ print.one class.CloseBrace)} {b2 = erase_expr} inner (again_then (again_the class.OpenBrace) (again_then h.value
       (again_made {ok2 = any} {p2 = λ _. print.one class.CloseBrace} {b2 = λ _. plain class.CloseBrace} second (again_then (again_left_out {l = the class.Semicolon} {m = the class.Semicolon}) (again_the class.CloseBrace)) (λ a o. (tt, tt)) (λ a. refl) (λ a. refl))))
       (λ a o. (tt, (o, tt))) (λ a. refl) (λ a. refl)))
-    (λ a o. (tt, o)) (λ a. refl) (λ a. refl)
+      (λ a o. (tt, o)) (λ a. refl) (λ a. refl)
 
   paths_good : (word : Class) (ts : List Tok) (ps : List PathTree) → (Listed word).reads ts ps → PathsGood word (Some ps)
   paths_good word ts ps rd = (again_listed word).again ts ps rd tt

@@ -1,22 +1,21 @@
 -- Expressions that are no chain, prefix or post are read again.
 use Rattle.std.proofs.Common.{◌≡◌, ℕ, List, [], ◌∷◌, ◌++◌, map, Bool, true, false, ◌⊎◌, inl, inr, refl, sym, ap, ◌∙◌, subst, append_assoc, Option, Some, None, option_map}
 use Rattle.std.specs.Prelude.{⊤}
-use Rattle.qvt_tree_types.specs.Tree.{TypeTerm, PathType, NoFilter, MoreExprs, MoreItems, MoreStmts, BareTarget, ItemTerms, ExprTerm, ExprTerms, OptionalExpr, RangeTerm, ItemTerm, MapTerm, ResolveTerm, FilterTerm, AccumulatorTerm, StmtTerm, TargetTerm, IntExpr, MapExpr, ResolveExpr, CallExpr, PathExpr, CollExpr, RangeTo, MapOf, ItemOf, ResolveOf, FilterOf, NoExpr, SomeExpr, ObjectExpr, NewExpr, AccumulatorOf}
+use Rattle.qvt_tree_types.specs.Tree.{TypeTerm, PathType, NoFilter, MoreExprs, MoreItems, MoreStmts, BareTarget, ExprTerm, RangeTerm, ItemTerm, FilterTerm, StmtTerm, MapExpr, ResolveExpr, CallExpr, PathExpr, CollExpr, MapOf, ItemOf, ResolveOf, FilterOf, ObjectExpr, NewExpr}
 use Rattle.qvt_tree_types.specs.View.{exprs_of, items_of, stmts_of, optional_expr, optional_range, optional_filter}
 use Rattle.qvt_tree_types.specs.declared.types.PathTree.{PathTree}
-use Rattle.qvt_tree_types.specs.declared.types.ObjectVar.{ObjectVar}
 use Rattle.qvt_tree_types.specs.declared.words.ResolveWord.{ResolveWord}
 use Rattle.qvt_tree_types.specs.declared.words.ResolveWord.TheVariants as resolves
 use Rattle.qvt_tree.specs.Shape.{nowhere, erase_path, erase_optional_path, erase_optional_variable, erase_type, erase_expr, erase_exprs, erase_optional_expr, erase_item, erase_items, erase_range, erase_map_call, erase_resolve, erase_filter, erase_accumulator, erase_stmt, erase_stmts}
-use Rattle.qvt_grammar.specs.Language.{Language, made, then}
+use Rattle.qvt_grammar.specs.Language.{made, then}
 use Rattle.qvt_parser_grammar.specs.Readers.{the}
 use Rattle.qvt_parser_grammar.specs.declared.named.Named.{Named}
 use Rattle.qvt_parser_grammar.specs.declared.token.Class.{Class}
 use Rattle.qvt_parser_grammar.specs.declared.token.Class.TheVariants as class
 use Rattle.qvt_parser_grammar.specs.Tokens.{Tok}
-use Rattle.qvt_parser_grammar.specs.Leads.{Lead, Plain, Each}
+use Rattle.qvt_parser_grammar.specs.Leads.{Lead, Plain, Bracketed}
 use Rattle.qvt_parser_grammar.specs.Grammar.{Nested, expr, exprs, args, literal, word, named_expr, item, coll, if_expr, object, new_expr, map_call, filter_head, bar_expr, filter, all_word, in_word, all_form, in_form, resolve, longer, bare_expr, accumulator, more_exprs}
-use Rattle.qvt_parser_grammar.specs.Trees.{second, first, cons_of, nothing, inner, int_of, str_of, true_of, false_of, null_of, self_of, result_of, named_expr_of, coll_of, range_of, item_of, if_of, object_of, new_of, map_of, is_strict, all_of, in_of, is_there, resolve_of, resolve_word, no_name, named_type, filter_of, accumulator_of, path_of, expr_of}
+use Rattle.qvt_parser_grammar.specs.Trees.{second, first, cons_of, nothing, inner, int_of, str_of, true_of, false_of, null_of, self_of, result_of, named_expr_of, coll_of, range_of, item_of, if_of, object_of, new_of, map_of, is_strict, all_of, in_of, is_there, resolve_of, resolve_word, no_name, named_type, filter_of, accumulator_of, expr_of}
 use Rattle.qvt_printer_layout.specs.declared.piece.Piece.{Piece}
 use Rattle.qvt_printer_layout.specs.declared.piece.Piece.TheVariants as piece
 use Rattle.qvt_printer_layout.specs.Words as words
@@ -24,9 +23,9 @@ use Rattle.qvt_printer.specs.Expressions as print
 use Rattle.qvt_printed_tokens.specs.Spelled.{all_spelled}
 use Rattle.qvt_printed_trees.specs.Printable.{IsPrintableExpr, ArePrintableExprs, IsPrintableOptional, IsPrintableItem, ArePrintableItems, IsPrintableRange, IsPrintableMap, IsPrintableResolve, IsPrintableFilter, IsPrintableAccumulator, ArePrintableStmts}
 use Rattle.qvt_printed_trees.proofs.Classes.{is_itself}
-use Rattle.qvt_printed_trees.proofs.Spelling.{plain, plain_name, block_spelled, items_spelled, rest_spelled, spelled_append}
-use Rattle.qvt_printed_trees.proofs.Again.{Again, any, again_the, again_word, again_integer_token, again_string_token, again_then, again_made, again_either, again_one, again_as, again_many, again_maybe, again_placed, optional_ok, if_there}
-use Rattle.qvt_printed_trees.proofs.AgainNames.{bare_named, texts, bare_texts, again_name, again_more_names, again_path, again_extent, kind_class, again_kind_word, kind_again, again_coll_type, again_typed, again_colon_type, again_colon_path, head_pieces, bare_head, again_object_head, bare_path_of}
+use Rattle.qvt_printed_trees.proofs.Spelling.{plain, plain_name, items_spelled, rest_spelled}
+use Rattle.qvt_printed_trees.proofs.Again.{Again, any, again_the, again_word, again_integer_token, again_string_token, again_then, again_made, again_either, again_one, again_many, again_maybe, again_placed, optional_ok, if_there}
+use Rattle.qvt_printed_trees.proofs.AgainNames.{bare_named, texts, again_name, again_more_names, again_path, again_extent, kind_class, again_kind_word, kind_again, again_coll_type, again_colon_type, again_object_head, bare_path_of}
 use Rattle.qvt_printed_trees.proofs.Forms.{Bracket, Form, is_basic}
 
 -- lists of trees without places
@@ -57,6 +56,8 @@ pub record Inside (i : Nested) (e : ExprTerm) : Type 0 where
 
 pub record AgainNested (i : Nested) : Type 0 where
   pub flagged : (ts : List Tok) (x : Lead) → i.flagged.reads ts x → IsPrintableExpr (expr_of x) → Inside i (expr_of x)
+  -- an expression in brackets alone
+  pub bracketed : (ts : List Tok) (e : ExprTerm) → i.flagged.reads ts (Bracketed e) → IsPrintableExpr e → i.flagged.reads (all_spelled (print.in_round (print.expr e))) (Bracketed (erase_expr e))
   pub names : (ts : List Tok) (x : Lead) → i.flagged.reads ts x → (n : List ℕ) → i.flagged.reads (plain_name n ∷ []) (Plain (PathExpr (record { names = n ∷ []; place = nowhere })) (Some (BareTarget n nowhere)))
   pub block : Again (λ (ss : List StmtTerm). ArePrintableStmts (stmts_of ss)) (λ ss. print.block (stmts_of ss)) (map erase_stmt) i.block i.block
   pub kind : Again any print.type_of erase_type i.kind i.kind
@@ -137,7 +138,7 @@ filter_bare n (inr ns) = λ j. (None, PathType (bare_path_of n ns j))
 whole_filter : (head : FilterHead) (x : Option ExprTerm) → all_spelled (print.filter (FilterOf head.0 head.1 (optional_expr x) nowhere)) ≡ all_spelled (filter_pieces head ++ if_there (λ (e : ExprTerm). piece.Plain class.Bar ∷ print.expr e) x)
 whole_filter head x =
     rest_spelled (print.named_if head.0) (print.type_of head.1 ++ print.condition_if (optional_expr x)) (print.type_of head.1 ++ if_there (λ (e : ExprTerm). piece.Plain class.Bar ∷ print.expr e) x) (rest_spelled (print.type_of head.1) _ _ (condition_same x))
-      ∙ ap all_spelled (sym (append_assoc (print.named_if head.0) (print.type_of head.1) _))
+    ∙ ap all_spelled (sym (append_assoc (print.named_if head.0) (print.type_of head.1) _))
 
 -- resolves
 
@@ -213,10 +214,12 @@ comma_spelled i ts f rd = subst (λ z. all_spelled (comma_filter z) ≡ plain cl
 module _ {i : Nested} (h : AgainNested i) where
   pub again_expr : Again IsPrintableExpr print.expr erase_expr (expr i) (expr i)
   unfolding expr
-  again_expr = record { again = λ ts e rd o. (
-      let q = rd.2 in
-      let w = h.flagged ts rd.0 rd.1 (subst IsPrintableExpr q o) in
-      subst (λ z. (expr i).reads (all_spelled (print.expr z)) (erase_expr z)) (sym q) (Plain (erase_expr (expr_of rd.0)) w.bracket.0, w.bracket.1, refl)) }
+  again_expr = record {
+    again = λ ts e rd o. (
+        let q = rd.2 in
+        let w = h.flagged ts rd.0 rd.1 (subst IsPrintableExpr q o) in
+        subst (λ z. (expr i).reads (all_spelled (print.expr z)) (erase_expr z)) (sym q) (Plain (erase_expr (expr_of rd.0)) w.bracket.0, w.bracket.1, refl));
+  }
 
   pub again_more_exprs : Again (λ (es : List ExprTerm). ArePrintableExprs (exprs_of es)) (λ es. print.exprs true (exprs_of es)) (map erase_expr) (more_exprs i) (more_exprs i)
   unfolding more_exprs
@@ -231,8 +234,8 @@ module _ {i : Nested} (h : AgainNested i) where
   unfolding args
   again_args = again_made second (again_then (again_the class.OpenRound)
       (again_either {ok = λ (es : List ExprTerm). ArePrintableExprs (exprs_of es)} {p = λ es. print.exprs false (exprs_of es) ++ print.one class.CloseRound} {b = map erase_expr}
-        (again_made nothing (again_the class.CloseRound) (λ a o. tt) (λ a. refl) (λ a. refl))
-        (again_made first (again_then again_exprs (again_the class.CloseRound)) (λ a o. (o, tt)) (λ a. refl) (λ a. refl))))
+      (again_made nothing (again_the class.CloseRound) (λ a o. tt) (λ a. refl) (λ a. refl))
+      (again_made first (again_then again_exprs (again_the class.CloseRound)) (λ a o. (o, tt)) (λ a. refl) (λ a. refl))))
       (λ a o. (tt, o)) (λ a. refl) (λ a. refl)
 
   pub again_literal : Again IsPrintableExpr print.expr erase_expr literal literal
@@ -248,8 +251,8 @@ module _ {i : Nested} (h : AgainNested i) where
   pub again_named_expr : Again IsPrintableExpr print.expr erase_expr (named_expr i) (named_expr i)
   unfolding named_expr
   again_named_expr = again_made named_expr_of (again_then again_name (again_either {ok = call_ok} {p = call_pieces} {b = bare_call}
-        (again_made inl again_args (λ a o. o) (λ a. refl) (λ a. refl))
-        (again_made inr again_more_names (λ a o. tt) (λ a. refl) (λ a. refl))))
+      (again_made inl again_args (λ a o. o) (λ a. refl) (λ a. refl))
+      (again_made inr again_more_names (λ a o. tt) (λ a. refl) (λ a. refl))))
       (λ a o. (tt, call_okay a.0 a.1 o)) (λ a. call_same a.0 a.1) (λ a. call_bare a.0 a.1)
 
   pub again_item : Again IsPrintableItem print.item erase_item (item i) (item i)
@@ -261,13 +264,13 @@ module _ {i : Nested} (h : AgainNested i) where
   unfolding coll
   again_coll = again_made coll_of (again_then again_kind_word (again_made {ok2 = Items} {p2 = λ is. piece.Plain class.OpenBrace ∷ (item_pieces is ++ print.one class.CloseBrace)} {b2 = map erase_item} second (again_then (again_the class.OpenBrace)
       (again_either {ok = Items} {p = λ is. item_pieces is ++ print.one class.CloseBrace} {b = map erase_item}
-        (again_made nothing (again_the class.CloseBrace) (λ a o. tt) (λ a. refl) (λ a. refl))
-        (again_made first (again_then (again_made {ok2 = Items} {p2 = item_pieces} {b2 = map erase_item} cons_of (again_then again_item
-            (again_many (again_made {ok2 = IsPrintableItem} {p2 = λ x. piece.Plain class.Comma ∷ print.item x} {b2 = erase_item} second (again_then (again_the class.Comma) again_item) (λ a o. (tt, o)) (λ a. refl) (λ a. refl))
-              Items (λ a more o. o) (λ is. print.all_items true (items_of is)) refl (λ a more. refl)))
-            (λ a o. o) (λ a. refl) (λ a. refl)) (again_the class.CloseBrace)) (λ a o. (o, tt)) (λ a. refl) (λ a. refl))))
+      (again_made nothing (again_the class.CloseBrace) (λ a o. tt) (λ a. refl) (λ a. refl))
+      (again_made first (again_then (again_made {ok2 = Items} {p2 = item_pieces} {b2 = map erase_item} cons_of (again_then again_item
+      (again_many (again_made {ok2 = IsPrintableItem} {p2 = λ x. piece.Plain class.Comma ∷ print.item x} {b2 = erase_item} second (again_then (again_the class.Comma) again_item) (λ a o. (tt, o)) (λ a. refl) (λ a. refl))
+      Items (λ a more o. o) (λ is. print.all_items true (items_of is)) refl (λ a more. refl)))
+      (λ a o. o) (λ a. refl) (λ a. refl)) (again_the class.CloseBrace)) (λ a o. (o, tt)) (λ a. refl) (λ a. refl))))
       (λ a o. (tt, o)) (λ a. refl) (λ a. refl)))
-    (λ a o. (tt, o)) (λ a. ap (λ z. plain (kind_class a.0.class) ∷ z) (items_spelled (item_pieces a.1))) (λ a j. CollExpr (kind_again a.0.class j) (bare_items a.1 j) nowhere)
+      (λ a o. (tt, o)) (λ a. ap (λ z. plain (kind_class a.0.class) ∷ z) (items_spelled (item_pieces a.1))) (λ a j. CollExpr (kind_again a.0.class j) (bare_items a.1 j) nowhere)
 
   pub again_if_expr : Again IsPrintableExpr print.expr erase_expr (if_expr i) (if_expr i)
   unfolding if_expr
@@ -298,9 +301,9 @@ module _ {i : Nested} (h : AgainNested i) where
   unfolding filter_head
   again_filter_head = again_either (again_made no_name (again_coll_type i h.kind) (λ a o. tt) (λ a. refl) (λ a. refl))
       (again_made named_type (again_then again_name (again_either {ok = any} {p = named_pieces} {b = bare_either}
-          (again_made inl (again_colon_type i h.kind) (λ a o. tt) (λ a. refl) (λ a. refl))
-          (again_made inr again_more_names (λ a o. tt) (λ a. refl) (λ a. refl))))
-        (λ a o. (tt, tt)) (λ a. filter_same a.0 a.1) (λ a. filter_bare a.0 a.1))
+      (again_made inl (again_colon_type i h.kind) (λ a o. tt) (λ a. refl) (λ a. refl))
+      (again_made inr again_more_names (λ a o. tt) (λ a. refl) (λ a. refl))))
+      (λ a o. (tt, tt)) (λ a. filter_same a.0 a.1) (λ a. filter_bare a.0 a.1))
 
   pub again_filter : Again IsPrintableFilter print.filter erase_filter (filter i) (filter i)
   unfolding filter
@@ -308,9 +311,11 @@ module _ {i : Nested} (h : AgainNested i) where
       (λ a o. (tt, ok_optional a.1.1 o)) (λ a. whole_filter a.1.0 a.1.1) (λ a. ap (λ z. FilterOf a.1.0.0 (erase_type a.1.0.1) z nowhere) (bare_optional a.1.1))
 
   again_comma_filter : Again IsPrintableFilter comma_filter erase_filter (made second (then (the class.Comma) (filter i))) (made second (then (the class.Comma) (filter i)))
-  again_comma_filter = record { again = λ ts f rd o. (
-      let g : FilterReads i rd.1.1 f = subst (FilterReads i rd.1.1) (sym rd.2) rd.1.4 in
-      ((plain class.Comma, erase_filter f), (plain class.Comma ∷ [], all_spelled (print.filter f), comma_spelled i rd.1.1 f g, (refl, refl), again_filter.again rd.1.1 f g o), refl)) }
+  again_comma_filter = record {
+    again = λ ts f rd o. (
+        let g : FilterReads i rd.1.1 f = subst (FilterReads i rd.1.1) (sym rd.2) rd.1.4 in
+        ((plain class.Comma, erase_filter f), (plain class.Comma ∷ [], all_spelled (print.filter f), comma_spelled i rd.1.1 f g, (refl, refl), again_filter.again rd.1.1 f g o), refl));
+  }
 
   again_all_word : Again any (λ (t : Tok). print.one (resolve_class t.class)) (λ t. plain (resolve_class t.class)) all_word all_word
   unfolding all_word
@@ -345,14 +350,14 @@ module _ {i : Nested} (h : AgainNested i) where
   unfolding bare_expr longer
   again_bare_expr = again_either again_literal (again_either again_word_expr (again_either again_named_expr
       (again_either again_coll (again_either again_object (again_either again_new_expr (again_either
-        (again_made MapExpr again_map_call (λ a o. o) (λ a. refl) (λ a. refl))
-        (again_made ResolveExpr again_resolve (λ a o. o) (λ a. refl) (λ a. refl))))))))
+      (again_made MapExpr again_map_call (λ a o. o) (λ a. refl) (λ a. refl))
+      (again_made ResolveExpr again_resolve (λ a o. o) (λ a. refl) (λ a. refl))))))))
 
   pub again_accumulator : Again IsPrintableAccumulator print.accumulator erase_accumulator (accumulator i) (accumulator i)
   unfolding accumulator
   again_accumulator = again_made accumulator_of (again_made {ok2 = λ a. IsPrintableExpr a.1.1} {p2 = λ a. piece.Plain class.Semicolon ∷ piece.Name a.0.text ∷ (print.typed a.1.0 ++ (piece.Plain class.EqualSign ∷ print.expr a.1.1))} {b2 = λ a. (bare_named a.0, (erase_type a.1.0, erase_expr a.1.1))} second
-        (again_then (again_the class.Semicolon) (again_then again_name (again_then (again_colon_type i h.kind) (again_made {ok2 = IsPrintableExpr} {p2 = λ e. piece.Plain class.EqualSign ∷ print.expr e} {b2 = erase_expr} second (again_then (again_the class.EqualSign) again_expr) (λ a o. (tt, o)) (λ a. refl) (λ a. refl)))))
-        (λ a o. (tt, (tt, (tt, o)))) (λ a. refl) (λ a. refl))
+      (again_then (again_the class.Semicolon) (again_then again_name (again_then (again_colon_type i h.kind) (again_made {ok2 = IsPrintableExpr} {p2 = λ e. piece.Plain class.EqualSign ∷ print.expr e} {b2 = erase_expr} second (again_then (again_the class.EqualSign) again_expr) (λ a o. (tt, o)) (λ a. refl) (λ a. refl)))))
+      (λ a o. (tt, (tt, (tt, o)))) (λ a. refl) (λ a. refl))
       (λ a o. o) (λ a. refl) (λ a. refl)
 
 -- none of these is a chain, a prefix, a post or a conditional

@@ -1,23 +1,19 @@
 -- Bodies of mappings, and mappings, are read again.
 use Rattle.std.proofs.Common.{◌≡◌, List, [], ◌∷◌, ◌++◌, map, Bool, true, false, if◌then◌else◌, ◌||◌, inl, inr, refl, sym, ap, ◌∙◌, subst, append_assoc, append-nil, Option, Some, None, option_map, IsTrue}
-use Rattle.std.specs.Prelude.{⊤}
-use Rattle.qvt_tree_types.specs.Tree.{ExprTerm, StmtTerm}
+use Rattle.qvt_tree_types.specs.Tree.{StmtTerm}
 use Rattle.qvt_tree_types.specs.View.{stmts_of, optional_expr}
-use Rattle.qvt_tree_types.specs.Module.{TypedName, UnitTerm, MappingOf}
-use Rattle.qvt_tree_types.specs.declared.module.ResultDecl.{ResultDecl}
-use Rattle.qvt_tree.specs.Shape.{nowhere, erase_path, erase_stmt, erase_optional_expr}
-use Rattle.qvt_tree.specs.ModuleShape.{erase_typed, erase_unit, erase_result, erase_optional_result}
+use Rattle.qvt_tree_types.specs.Module.{MappingOf}
+use Rattle.qvt_tree.specs.Shape.{nowhere, erase_stmt}
+use Rattle.qvt_tree.specs.ModuleShape.{erase_typed, erase_unit, erase_result}
 use Rattle.qvt_grammar.specs.Language.{Language, made, then, maybe}
 use Rattle.qvt_parser_grammar.specs.declared.token.Class.{Class}
 use Rattle.qvt_parser_grammar.specs.declared.token.Class.TheVariants as class
 use Rattle.qvt_parser_grammar.specs.Readers.{the}
 use Rattle.qvt_parser_grammar.specs.Tokens.{Tok, is}
-use Rattle.qvt_parser_grammar.specs.Leads.{Ended}
 use Rattle.qvt_parser_grammar.specs.Trees.{second}
 use Rattle.qvt_parser_grammar.specs.Grammar.{Nested}
-use Rattle.qvt_parser_grammar.specs.Statements.{statements}
-use Rattle.qvt_parser_grammar.specs.Units.{init_part, end_part, end_unless, end_after, sections, body, mapping_unit}
-use Rattle.qvt_parser_grammar.specs.UnitTrees.{Body, Clauses, empty_body, body_of, sections_of, open_sections_of, mapping_of, stmts_or_none, paths_or_none}
+use Rattle.qvt_parser_grammar.specs.Units.{init_part, end_part, end_unless, sections, body, mapping_unit}
+use Rattle.qvt_parser_grammar.specs.UnitTrees.{Body, sections_of, mapping_of, stmts_or_none}
 use Rattle.qvt_printer_layout.specs.declared.piece.Piece.{Piece}
 use Rattle.qvt_printer_layout.specs.declared.piece.Piece.TheVariants as piece
 use Rattle.qvt_printer.specs.Expressions as print
@@ -26,11 +22,10 @@ use Rattle.qvt_printed_tokens.specs.Spelled.{all_spelled}
 use Rattle.qvt_printed_trees.specs.Printable.{IsPrintableUnit, IsPrintableOptional}
 use Rattle.qvt_printed_trees.proofs.Classes.{is_itself}
 use Rattle.qvt_printed_trees.proofs.Statements.{bare_ended}
-use Rattle.qvt_printed_trees.proofs.Spelling.{plain, spelled_append, rest_spelled, block_spelled}
-use Rattle.qvt_printed_trees.proofs.Again.{Again, any, again_the, again_then, again_made, again_maybe, if_there, optional_ok}
+use Rattle.qvt_printed_trees.proofs.Spelling.{plain, spelled_append, block_spelled}
+use Rattle.qvt_printed_trees.proofs.Again.{Again, again_the, again_then, again_made, again_maybe}
 use Rattle.qvt_printed_trees.proofs.AgainNames.{again_unit_path, bare_unit_path}
 use Rattle.qvt_printed_trees.proofs.AgainExprs.{bare_stmts, bare_optional, optional_any}
-use Rattle.qvt_printed_trees.proofs.AgainSteps.{same_front}
 use Rattle.qvt_printed_trees.proofs.AgainUnits.{again_params, again_result_decl, result_same, result_bare, paths_bare}
 use Rattle.qvt_printed_trees.proofs.AgainClauses.{bare_clauses, clause_pieces, again_clauses}
 use Rattle.qvt_printed_trees.proofs.UnitBase.{Stmts, AgainBlock, AgainUnits}
@@ -41,7 +36,7 @@ record GoodBody (j : Nested) (x : Body) : Type 0 where
   population : AgainBlock j x.population
   finish : AgainBlock j x.finish
 
-abbrev bare_body : Body → Body
+abbrev pub bare_body : Body → Body
 bare_body x = record { init = map erase_stmt x.init; population = map erase_stmt x.population; finish = map erase_stmt x.finish }
 
 abbrev body_ok : Body → Type 0
@@ -148,10 +143,12 @@ module _ (j : Nested) where
       let all = init ++ two in
       let close = plain class.CloseBrace ∷ [] in
       let cut : all_spelled (print.in_block all) ≡ plain class.OpenBrace ∷ (us ++ (vs ++ close)) =
-        block_spelled all ∙ ap (λ z. plain class.OpenBrace ∷ z) (spelled_append all (print.one class.CloseBrace) ∙ ap (λ z. z ++ close) (spelled_append init two) ∙ append_assoc us vs close) in
-      inr ((plain class.OpenBrace, (if_any x.init, ((map erase_stmt x.population, map erase_stmt x.finish), plain class.CloseBrace))),
+      block_spelled all ∙ ap (λ z. plain class.OpenBrace ∷ z) (spelled_append all (print.one class.CloseBrace) ∙ ap (λ z. z ++ close) (spelled_append init two) ∙ append_assoc us vs close) in
+      inr (
+        (plain class.OpenBrace, (if_any x.init, ((map erase_stmt x.population, map erase_stmt x.finish), plain class.CloseBrace))),
         (plain class.OpenBrace ∷ [], us ++ (vs ++ close), cut, (refl, refl), (us, vs ++ close, refl, section_reads class.InitWord (is_itself class.InitWord) x.init g.init o.0, (vs, close, refl, two_reads x.population x.finish g.population g.finish o.1 o.2, (refl, refl)))),
-        ap (λ z. record { init = z; population = map erase_stmt x.population; finish = map erase_stmt x.finish }) (sym (any_same x.init)))
+        ap (λ z. record { init = z; population = map erase_stmt x.population; finish = map erase_stmt x.finish }) (sym (any_same x.init)),
+      )
 
   -- neither `init` nor `end`
   plain_read : (population : List StmtTerm) → AgainBlock j population → Stmts population → (body j).reads (all_spelled (print.block (stmts_of population))) (record { init = []; population = map erase_stmt population; finish = [] })
@@ -161,9 +158,11 @@ module _ (j : Nested) where
       let us = all_spelled ps in
       let close = plain class.CloseBrace ∷ [] in
       let cut : all_spelled (print.in_block ps) ≡ plain class.OpenBrace ∷ (us ++ close) = block_spelled ps ∙ ap (λ z. plain class.OpenBrace ∷ z) (spelled_append ps (print.one class.CloseBrace)) in
-      inr ((plain class.OpenBrace, (None, ((map erase_stmt population, []), plain class.CloseBrace))),
+      inr (
+        (plain class.OpenBrace, (None, ((map erase_stmt population, []), plain class.CloseBrace))),
         (plain class.OpenBrace ∷ [], us ++ close, cut, (refl, refl), ([], us ++ close, refl, inr (tt, refl, refl), (us, close, refl, inr ((bare_ended population, None), (us, [], sym (append-nil us), g.list o, inr (tt, refl, refl)), refl), (refl, refl)))),
-        refl)
+        refl,
+      )
 
   body_reads : (init population finish : List StmtTerm) → GoodBody j (record { init = init; population = population; finish = finish }) → body_ok (record { init = init; population = population; finish = finish }) →
       (body j).reads (all_spelled (body_pieces (record { init = init; population = population; finish = finish }))) (bare_body (record { init = init; population = population; finish = finish }))
@@ -178,10 +177,10 @@ module _ {i j : Nested} (h : AgainUnits i j) where
   pub again_mapping_unit : Again IsPrintableUnit printed.unit erase_unit (mapping_unit i) (mapping_unit j)
   unfolding mapping_unit
   again_mapping_unit = again_made mapping_of (again_made {ok2 = λ a. (IsPrintableOptional (optional_expr a.1.1.1.0.condition)) × body_ok a.1.1.1.1} {p2 = λ a. piece.Plain class.MappingWord ∷ (print.names a.0.names ++ (print.in_round (printed.params a.1.0) ++ (printed.result_if a.1.1.0 ++ (clause_pieces a.1.1.1.0 ++ body_pieces a.1.1.1.1))))} {b2 = λ a. (bare_unit_path a.0, (map erase_typed a.1.0, (option_map erase_result a.1.1.0, (bare_clauses a.1.1.1.0, bare_body a.1.1.1.1))))} second
-        (again_then (again_the class.MappingWord) (again_then again_unit_path (again_then (again_params h) (again_then (again_maybe again_result_decl) (again_then (again_clauses h) again_body)))))
-        (λ a o. (tt, (tt, (tt, (optional_any a.1.1.1.0, (o.0, o.1))))))
-        (λ a. ap (λ z. plain class.MappingWord ∷ all_spelled (print.names a.1.0.names ++ (print.in_round (printed.params a.1.1.0) ++ (z ++ (clause_pieces a.1.1.1.1.0 ++ body_pieces a.1.1.1.1.1))))) (result_same a.1.1.1.0))
-        (λ a. refl))
+      (again_then (again_the class.MappingWord) (again_then again_unit_path (again_then (again_params h) (again_then (again_maybe again_result_decl) (again_then (again_clauses h) again_body)))))
+      (λ a o. (tt, (tt, (tt, (optional_any a.1.1.1.0, (o.0, o.1))))))
+      (λ a. ap (λ z. plain class.MappingWord ∷ all_spelled (print.names a.1.0.names ++ (print.in_round (printed.params a.1.1.0) ++ (z ++ (clause_pieces a.1.1.1.1.0 ++ body_pieces a.1.1.1.1.1))))) (result_same a.1.1.1.0))
+      (λ a. refl))
       (λ a o. (o.0, (o.1, o.2, o.3)))
       (λ a. ap (λ z. plain class.MappingWord ∷ all_spelled z) (append_assoc (print.names a.0.names) (print.in_round (printed.params a.1.0)) _))
       (λ a k. MappingOf (record {

@@ -1,14 +1,13 @@
 -- A transformation is printed and read again as its shape.
-use Rattle.std.proofs.Common.{◌≡◌, ℕ, suc, List, [], ◌∷◌, ◌++◌, map, inl, inr, refl, sym, ap, ◌∙◌, subst, append_assoc, append-nil, Option, Some, None, pos}
+use Rattle.std.proofs.Common.{◌≡◌, ℕ, suc, List, [], ◌∷◌, ◌++◌, map, inl, inr, refl, sym, ap, ◌∙◌, subst, append_assoc, pos}
 use Rattle.std.specs.Prelude.{⊤}
 use Rattle.qvt_tree_types.specs.Module.{UnitTerm, ModuleTerm}
-use Rattle.qvt_tree_types.specs.declared.module.ModelType.{ModelType}
 use Rattle.qvt_tree_types.specs.declared.module.ModelParam.{ModelParam}
 use Rattle.qvt_tree_types.specs.declared.words.Direction.{Direction}
 use Rattle.qvt_tree_types.specs.declared.words.Direction.TheVariants as directions
 use Rattle.qvt_tree.specs.Shape.{nowhere}
 use Rattle.qvt_tree.specs.ModuleShape.{erase_unit, erase_model_type, erase_model_param, shape}
-use Rattle.qvt_grammar.specs.Language.{Language, turns, made, then, either}
+use Rattle.qvt_grammar.specs.Language.{Language, turns, made, either}
 use Rattle.qvt_parser_grammar.specs.declared.named.Named.{Named}
 use Rattle.qvt_parser_grammar.specs.declared.token.Class.{Class}
 use Rattle.qvt_parser_grammar.specs.declared.token.Class.TheVariants as class
@@ -18,7 +17,6 @@ use Rattle.qvt_parser_grammar.specs.Trees.{second, first, inner, cons_of, nothin
 use Rattle.qvt_parser_grammar.specs.Grammar.{Nested}
 use Rattle.qvt_parser_grammar.specs.Units.{unit, uri, model_type, model_param, header, transformation, strictness}
 use Rattle.qvt_parser_grammar.specs.UnitTrees.{some_unit, units_of, model_type_of, model_param_of, direction_of, module_of}
-use Rattle.qvt_parser_grammar.specs.Nesting.{nested}
 use Rattle.qvt_parser_grammar.specs.Module.{Reads}
 use Rattle.qvt_printer_layout.specs.declared.piece.Piece.{Piece}
 use Rattle.qvt_printer_layout.specs.declared.piece.Piece.TheVariants as piece
@@ -42,20 +40,20 @@ again_uri : Again any (λ (u : List ℕ). piece.Quoted u ∷ []) (λ u. u) uri u
 unfolding uri
 again_uri = record { again = λ ts u rd o. inl (record { class = class.Str; text = u; number = pos 0; place = nowhere }, (refl, refl), refl) }
 
-abbrev TypeParts : Type 0
+abbrev pub TypeParts : Type 0
 TypeParts = Named × List ℕ
 
-abbrev bare_parts : TypeParts → TypeParts
+abbrev pub bare_parts : TypeParts → TypeParts
 bare_parts x = (bare_named x.0, x.1)
 
 again_model_type : Again any printed.model_type erase_model_type model_type model_type
 unfolding model_type
 again_model_type = again_made model_type_of (again_placed (again_made {ok2 = any} {p2 = λ (x : TypeParts). piece.Plain class.ModelTypeWord ∷ piece.Name x.0.text ∷ piece.Plain class.UsesWord ∷ piece.Quoted x.1 ∷ piece.Plain class.Semicolon ∷ []} {b2 = bare_parts} second
     (again_then (again_the class.ModelTypeWord) (again_then again_name (again_made {ok2 = any} {p2 = λ (u : List ℕ). piece.Plain class.UsesWord ∷ piece.Quoted u ∷ piece.Plain class.Semicolon ∷ []} {b2 = λ u. u} second (again_then (again_left_out {l = strictness} {m = strictness})
-      (again_made {ok2 = any} {p2 = λ (u : List ℕ). piece.Plain class.UsesWord ∷ piece.Quoted u ∷ piece.Plain class.Semicolon ∷ []} {b2 = λ u. u} inner (again_then (again_the class.UsesWord) (again_then again_uri (again_the class.Semicolon))) (λ a o. (tt, (tt, tt))) (λ a. refl) (λ a. refl)))
-      (λ a o. (tt, tt)) (λ a. refl) (λ a. refl))))
+    (again_made {ok2 = any} {p2 = λ (u : List ℕ). piece.Plain class.UsesWord ∷ piece.Quoted u ∷ piece.Plain class.Semicolon ∷ []} {b2 = λ u. u} inner (again_then (again_the class.UsesWord) (again_then again_uri (again_the class.Semicolon))) (λ a o. (tt, (tt, tt))) (λ a. refl) (λ a. refl)))
+    (λ a o. (tt, tt)) (λ a. refl) (λ a. refl))))
     (λ a o. (tt, (tt, tt))) (λ a. refl) (λ a. refl)))
-  (λ a o. tt) (λ a. refl) (λ a. refl)
+    (λ a o. tt) (λ a. refl) (λ a. refl)
 
 abbrev direction_class : Class → Class
 direction_class c = words.direction_word (direction_of c)
@@ -75,27 +73,27 @@ unfolding model_param
 again_model_param = again_made model_param_of (again_then again_direction (again_then again_name (again_made {ok2 = any} {p2 = λ (n : Named). piece.Plain class.Colon ∷ piece.Name n.text ∷ []} {b2 = bare_named} second (again_then (again_the class.Colon) again_name) (λ a o. (tt, tt)) (λ a. refl) (λ a. refl))))
     (λ a o. (tt, (tt, tt))) (λ a. refl) (λ a k. record { direction = sym (direction_kept (direction_of a.0.class)) k; name = a.1.0.text; model_type = a.1.1.text; place = nowhere })
 
-abbrev Header : Type 0
+abbrev pub Header : Type 0
 Header = List ℕ × List ModelParam
 
 abbrev header_pieces : Header → List Piece
 header_pieces x = print.ended (piece.Plain class.TransformationWord ∷ piece.Name x.0 ∷ print.in_round (printed.model_params x.1))
 
-abbrev bare_header : Header → Header
+abbrev pub bare_header : Header → Header
 bare_header x = (x.0, map erase_model_param x.1)
 
 again_header : Again any header_pieces bare_header header header
 unfolding header
 again_header = again_made second (again_then (again_the class.TransformationWord) (again_then (again_made {ok2 = any} {p2 = λ (n : List ℕ). piece.Name n ∷ []} {b2 = λ n. n} text_of again_name_token (λ a o. tt) (λ a. refl) (λ a. refl))
     (again_made {ok2 = any} {p2 = λ (ps : List ModelParam). piece.Plain class.OpenRound ∷ (printed.model_params ps ++ (piece.Plain class.CloseRound ∷ piece.Plain class.Semicolon ∷ []))} {b2 = map erase_model_param} inner (again_then (again_the class.OpenRound) (again_then
-      (again_made {ok2 = any} {p2 = printed.model_params} {b2 = map erase_model_param} cons_of (again_then again_model_param (again_many (again_made {ok2 = any} {p2 = λ (p : ModelParam). piece.Plain class.Comma ∷ printed.model_param p} {b2 = erase_model_param} second (again_then (again_the class.Comma) again_model_param) (λ a o. (tt, tt)) (λ a. refl) (λ a. refl))
-          any (λ a more o. (tt, tt)) printed.more_model_params refl (λ a more. refl)))
-        (λ a o. (tt, tt)) (λ a. refl) (λ a. refl))
-      (again_made {ok2 = any} {p2 = λ _. piece.Plain class.CloseRound ∷ piece.Plain class.Semicolon ∷ []} {b2 = λ _. plain class.CloseRound} first (again_then (again_the class.CloseRound) (again_the class.Semicolon)) (λ a o. (tt, tt)) (λ a. refl) (λ a. refl))))
-      (λ a o. (tt, (tt, tt))) (λ a. refl) (λ a. refl))))
-  (λ a o. (tt, (tt, tt)))
-  (λ a. ap (λ z. plain class.TransformationWord ∷ all_spelled (piece.Name a.1.0 ∷ piece.Plain class.OpenRound ∷ z)) (append_assoc (printed.model_params a.1.1) (print.one class.CloseRound) (print.one class.Semicolon)))
-  (λ a. refl)
+    (again_made {ok2 = any} {p2 = printed.model_params} {b2 = map erase_model_param} cons_of (again_then again_model_param (again_many (again_made {ok2 = any} {p2 = λ (p : ModelParam). piece.Plain class.Comma ∷ printed.model_param p} {b2 = erase_model_param} second (again_then (again_the class.Comma) again_model_param) (λ a o. (tt, tt)) (λ a. refl) (λ a. refl))
+    any (λ a more o. (tt, tt)) printed.more_model_params refl (λ a more. refl)))
+    (λ a o. (tt, tt)) (λ a. refl) (λ a. refl))
+    (again_made {ok2 = any} {p2 = λ _. piece.Plain class.CloseRound ∷ piece.Plain class.Semicolon ∷ []} {b2 = λ _. plain class.CloseRound} first (again_then (again_the class.CloseRound) (again_the class.Semicolon)) (λ a o. (tt, tt)) (λ a. refl) (λ a. refl))))
+    (λ a o. (tt, (tt, tt))) (λ a. refl) (λ a. refl))))
+    (λ a o. (tt, (tt, tt)))
+    (λ a. ap (λ z. plain class.TransformationWord ∷ all_spelled (piece.Name a.1.0 ∷ piece.Plain class.OpenRound ∷ z)) (append_assoc (printed.model_params a.1.1) (print.one class.CloseRound) (print.one class.Semicolon)))
+    (λ a. refl)
 
 -- units
 
@@ -158,7 +156,7 @@ module _ {i j : Nested} (h : AgainUnits i j) where
       let cut : all_spelled (tp ++ (hp ++ (piece.Line ∷ up))) ≡ all_spelled tp ++ (all_spelled hp ++ all_spelled up) = spelled_append tp (hp ++ (piece.Line ∷ up)) ∙ ap (λ z. all_spelled tp ++ z) (spelled_append hp (piece.Line ∷ up)) in
       let value : shape (module_of a) ≡ module_of (map erase_model_type types, (bare_header head, one_each us)) = ap (λ z. record { model_types = map erase_model_type types; name = head.0; params = map erase_model_param head.1; units = z }) (sym (one_each_units us)) in
       let all : (transformation j).reads (all_spelled (tp ++ (hp ++ (piece.Line ∷ up)))) (shape (module_of a)) =
-        ((map erase_model_type types, (bare_header head, one_each us)), (all_spelled tp, all_spelled hp ++ all_spelled up, cut, read_types, (all_spelled hp, all_spelled up, refl, read_header, read_units)), value) in
+      ((map erase_model_type types, (bare_header head, one_each us)), (all_spelled tp, all_spelled hp ++ all_spelled up, cut, read_types, (all_spelled hp, all_spelled up, refl, read_header, read_units)), value) in
       subst (λ z. (transformation j).reads (all_spelled (printed.module_pieces z)) (shape z)) (sym rd.2) all
 
 -- what is printed of what was read is read as the tree without places

@@ -1,10 +1,8 @@
 -- Names and types are read again.
-use Rattle.std.proofs.Common.{◌≡◌, ℕ, List, [], ◌∷◌, ◌++◌, map, ◌⊎◌, inl, inr, refl, sym, ap, ◌∙◌, Option, Some, None, option_map}
-use Rattle.std.specs.Prelude.{⊤}
-use Rattle.qvt_tree_types.specs.Tree.{TypeTerm, CollType, PathType}
+use Rattle.std.proofs.Common.{◌≡◌, ℕ, List, [], ◌∷◌, ◌++◌, map, ◌⊎◌, inl, inr, refl, sym, ap, Option, Some, None, option_map}
+use Rattle.qvt_tree_types.specs.Tree.{CollType, PathType}
 use Rattle.qvt_tree_types.specs.declared.types.PathTree.{PathTree}
 use Rattle.qvt_tree_types.specs.declared.types.ObjectVar.{ObjectVar}
-use Rattle.qvt_tree_types.specs.declared.types.ObjectVar.TheVariants as variables
 use Rattle.qvt_tree_types.specs.declared.words.CollKind.{CollKind}
 use Rattle.qvt_tree_types.specs.declared.words.CollKind.TheVariants as kinds
 use Rattle.qvt_tree.specs.Shape.{nowhere, erase_path, erase_type, erase_optional_variable}
@@ -150,9 +148,9 @@ unfolding object_head
 again_object_head = again_either
     (again_made result_head (again_then (again_the class.ResultWord) again_colon_path) (λ a o. (tt, tt)) (λ a. refl) (λ a. refl))
     (again_made named_head (again_then again_name (again_either {ok = any} {p = either_pieces} {b = either_bare}
-        (again_made inl again_colon_path (λ a o. tt) (λ a. refl) (λ a. refl))
-        (again_made inr again_more_names (λ a o. tt) (λ a. refl) (λ a. refl))))
-      (λ a o. (tt, tt)) (λ a. named_pieces a.0 a.1) (λ a. named_bare a.0 a.1))
+    (again_made inl again_colon_path (λ a o. tt) (λ a. refl) (λ a. refl))
+    (again_made inr again_more_names (λ a o. tt) (λ a. refl) (λ a. refl))))
+    (λ a o. (tt, tt)) (λ a. named_pieces a.0 a.1) (λ a. named_bare a.0 a.1))
 
 -- a name, or else what follows a name of a path
 pub bare_path_of : (n : Named) (ns : List Named) → erase_path (path_of (n, ns)) ≡ path_of (bare_named n, map bare_named ns)

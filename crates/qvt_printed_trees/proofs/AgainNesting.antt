@@ -1,34 +1,25 @@
 -- Expressions, blocks and types are read again at each nesting.
-use Rattle.std.proofs.Common.{◌≡◌, ℕ, zero, suc, List, [], ◌∷◌, ◌++◌, map, Bool, true, false, inl, inr, refl, sym, ap, ◌∙◌, subst, Option, Some, None, append-nil, arith}
-use Rattle.std.specs.Prelude.{⊤}
-use Rattle.qvt_tree_types.specs.Tree.{ExprTerm, LinkTerm, LinkTerms, StepTerm, StepTerms, StmtTerm, TargetTerm, BareTarget, PathExpr, IfExpr, ChainExpr, PrefixExpr, PostExpr}
-use Rattle.qvt_tree_types.specs.View.{stmts_of}
+use Rattle.std.proofs.Common.{ℕ, zero, suc, List, [], ◌∷◌, Bool, true, inl, inr, refl, Some, arith}
+use Rattle.qvt_tree_types.specs.Tree.{ExprTerm, LinkTerms, StepTerms, BareTarget, PathExpr, IfExpr, ChainExpr, PrefixExpr, PostExpr}
 use Rattle.qvt_tree_types.specs.declared.words.Level.{Level}
-use Rattle.qvt_tree.specs.Shape.{nowhere, erase_type, erase_stmt}
-use Rattle.qvt_grammar.specs.Language.{Language, turns}
-use Rattle.qvt_grammar.proofs.Wider.{Sub, sub_turns}
-use Rattle.qvt_parser_grammar.specs.Tokens.{Tok}
+use Rattle.qvt_tree.specs.Shape.{nowhere}
+use Rattle.qvt_grammar.proofs.Wider.{sub_turns}
 use Rattle.qvt_parser_grammar.specs.Firsts.{expr_first, post_next}
-use Rattle.qvt_parser_grammar.specs.Leads.{Lead, Plain, Each}
+use Rattle.qvt_parser_grammar.specs.Leads.{Plain}
 use Rattle.qvt_parser_grammar.specs.Trees.{expr_of}
-use Rattle.qvt_parser_grammar.specs.Grammar.{Nested, name, more_names, named_expr, bare_expr, if_expr, other_primary, primary, step, post, pre, link, chain, flagged, typed}
-use Rattle.qvt_parser_grammar.specs.Statements.{block}
+use Rattle.qvt_parser_grammar.specs.Grammar.{Nested, name, more_names, named_expr, bare_expr, other_primary, primary, post, pre, chain, flagged}
 use Rattle.qvt_parser_grammar.specs.Nesting.{nested}
 use Rattle.qvt_parser_grammar.proofs.Forms.{good_sets}
 use Rattle.qvt_parser_grammar.proofs.GoodExprs.{good_bare_expr, good_if_expr}
 use Rattle.qvt_parser_grammar.proofs.GoodSteps.{good_step, good_pre}
 use Rattle.qvt_parser_grammar.proofs.GoodTower.{good_link, good_chain}
 use Rattle.qvt_parser_grammar.proofs.GoodNesting.{good_nested}
-use Rattle.qvt_printer.specs.Expressions as print
-use Rattle.qvt_printed_tokens.specs.Spelled.{all_spelled}
-use Rattle.qvt_printed_trees.specs.Printable.{IsPrintableExpr, ArePrintableStmts}
 use Rattle.qvt_printed_trees.proofs.Spelling.{plain_name}
-use Rattle.qvt_printed_trees.proofs.Again.{Again, any}
 use Rattle.qvt_printed_trees.proofs.AgainNames.{again_typed}
-use Rattle.qvt_printed_trees.proofs.AgainExprs.{AgainNested, Inside}
-use Rattle.qvt_printed_trees.proofs.Forms.{index_of, Bracket, NeedsBracket, LinksForm, StepsForm, Form}
-use Rattle.qvt_printed_trees.proofs.ChainReads.{raise, flagged_reads}
-use Rattle.qvt_printed_trees.proofs.Read.{flagged_good}
+use Rattle.qvt_printed_trees.proofs.AgainExprs.{AgainNested}
+use Rattle.qvt_printed_trees.proofs.Forms.{index_of, NeedsBracket, LinksForm, StepsForm, Form}
+use Rattle.qvt_printed_trees.proofs.ChainReads.{raise, flagged_reads, flagged_bracket}
+use Rattle.qvt_printed_trees.proofs.Read.{flagged_good, bracket_good}
 use Rattle.qvt_printed_trees.proofs.Statements.{block_good, block_again}
 
 -- with one more nesting each form is as it was
@@ -66,6 +57,7 @@ pub again_nested : (n : ℕ) → AgainNested (nested n)
 unfolding nested
 again_nested zero = record {
   flagged = λ ts x rd o. absurd rd;
+  bracketed = λ ts e rd o. absurd rd;
   names = λ ts x rd n. absurd rd;
   block = record { again = λ ts a rd o. absurd rd };
   kind = record { again = λ ts a rd o. absurd rd };
@@ -74,6 +66,7 @@ again_nested (suc n) =
     let h = again_nested n in
     record {
       flagged = λ ts x rd o. (let f = flagged_good h ts x rd o in record { bracket = flagged_reads (nested n) (expr_of x) f; form = more_form n (expr_of x) f });
+      bracketed = λ ts e rd o. flagged_bracket (nested n) e (bracket_good h ts e rd o);
       names = λ ts x rd m. name_flagged (nested n) m;
       block = record { again = λ ts ss rd o. block_again (nested n) ss (block_good h ts ss rd) o };
       kind = again_typed (nested n) h.kind;

@@ -1,26 +1,23 @@
 -- Steps are read again.
-use Rattle.std.proofs.Common.{◌≡◌, ℕ, List, [], ◌∷◌, ◌++◌, map, Bool, true, false, ◌⊎◌, inl, inr, refl, sym, ap, ◌∙◌, subst, append_assoc, append-nil, Option, Some, None, option_map}
-use Rattle.std.specs.Prelude.{⊤}
+use Rattle.std.proofs.Common.{◌≡◌, ℕ, List, [], ◌∷◌, ◌++◌, map, Bool, true, false, inl, inr, refl, sym, ap, ◌∙◌, subst, append_assoc, append-nil, Option, Some, None, option_map}
 use Rattle.qvt_base.specs.declared.numbers.Place.{Place}
-use Rattle.qvt_tree_types.specs.Tree.{TypeTerm, PathExpr, ExprTerm, OptionalArgs, NoArgs, SomeArgs, HeadTerm, NoHead, HeadOf, AccumulatorTerm, StepTerm, StepTerms, StmtTerm, TargetTerm, DotStep, ArrowStep, DotMapStep, DotResolveStep, ArrowMapStep, ArrowResolveStep, BareTarget, ResultTarget, MemberTarget}
+use Rattle.qvt_tree_types.specs.Tree.{TypeTerm, PathExpr, ExprTerm, SomeArgs, HeadTerm, NoHead, HeadOf, AccumulatorTerm, StepTerm, TargetTerm, DotStep, ArrowStep, DotMapStep, DotResolveStep, ArrowMapStep, ArrowResolveStep, BareTarget, ResultTarget, MemberTarget}
 use Rattle.qvt_tree_types.specs.View.{exprs_of, stmts_of, optional_args, optional_accumulator, optional_expr}
-use Rattle.qvt_tree.specs.Shape.{nowhere, erase_type, erase_optional_type, erase_expr, erase_exprs, erase_args, erase_head, erase_accumulator, erase_step, erase_stmt, erase_optional_expr}
-use Rattle.qvt_grammar.specs.Language.{Language, turns}
-use Rattle.qvt_parser_grammar.specs.declared.named.Named.{Named}
+use Rattle.qvt_tree.specs.Shape.{nowhere, erase_type, erase_optional_type, erase_expr, erase_args, erase_head, erase_accumulator, erase_step, erase_stmt, erase_optional_expr}
 use Rattle.qvt_parser_grammar.specs.declared.token.Class.TheVariants as class
 use Rattle.qvt_parser_grammar.specs.Tokens.{Tok}
-use Rattle.qvt_parser_grammar.specs.Leads.{Lead, Plain, Each, EachPart}
-use Rattle.qvt_parser_grammar.specs.Grammar.{Nested, args, dot_rest, dot_step, head_rest, more_exprs, after_first, arrow_body, arrow_args, arrow_rest, step, each_tail, lead_step, colon_type}
-use Rattle.qvt_parser_grammar.specs.Trees.{second, first, no_args, dot_of, arrow_of, expr_of, headed, with_first, each_of}
+use Rattle.qvt_parser_grammar.specs.Leads.{Lead, Plain, Bracketed, Each, EachPart}
+use Rattle.qvt_parser_grammar.specs.Grammar.{Nested, dot_rest, dot_step, head_rest, more_exprs, after_first, arrow_body, arrow_args, arrow_rest, step, each_tail}
+use Rattle.qvt_parser_grammar.specs.Trees.{second, first, no_args, dot_of, arrow_of, expr_of, headed, each_of}
 use Rattle.qvt_printer_layout.specs.declared.piece.Piece.{Piece}
 use Rattle.qvt_printer_layout.specs.declared.piece.Piece.TheVariants as piece
 use Rattle.qvt_printer.specs.Expressions as print
 use Rattle.qvt_printed_tokens.specs.Spelled.{all_spelled}
 use Rattle.qvt_printed_trees.specs.Printable.{IsPrintableExpr, ArePrintableExprs, ArePrintableArgs, IsPrintableHead, IsPrintableAccumulator, IsPrintableStep, IsPrintableOptional, ArePrintableStmts}
 use Rattle.qvt_printed_trees.proofs.Spelling.{plain, plain_name, rest_spelled, spelled_append}
-use Rattle.qvt_printed_trees.proofs.Again.{Again, any, again_the, again_then, again_made, again_either, again_as, again_maybe, optional_ok, if_there}
-use Rattle.qvt_printed_trees.proofs.AgainNames.{bare_named, again_name, again_colon_type}
-use Rattle.qvt_printed_trees.proofs.AgainExprs.{AgainNested, bare_exprs, bare_stmts, bare_optional, ok_optional, optional_any, condition_same, again_expr, again_args, again_more_exprs, again_map_call, again_resolve, again_bar_expr, again_accumulator}
+use Rattle.qvt_printed_trees.proofs.Again.{Again, again_the, again_then, again_made, again_either, again_as, again_maybe, optional_ok, if_there}
+use Rattle.qvt_printed_trees.proofs.AgainNames.{again_name, again_colon_type}
+use Rattle.qvt_printed_trees.proofs.AgainExprs.{AgainNested, bare_exprs, bare_optional, ok_optional, optional_any, condition_same, again_args, again_more_exprs, again_map_call, again_resolve, again_bar_expr, again_accumulator}
 
 args_ok : (x : Option (List ExprTerm)) → ArePrintableArgs (optional_args x) → optional_ok (λ (es : List ExprTerm). ArePrintableExprs (exprs_of es)) x
 args_ok None o = tt
@@ -146,6 +143,7 @@ module _ {i : Nested} (h : AgainNested i) where
   body_of_first u v (Plain e None) y rx ry o = subst BodyReads (sym ry.2) (exprs_body u v (Plain e None) ry.0 rx ry.1 (subst body_ok ry.2 o))
   body_of_first u v (Plain e (Some (ResultTarget p))) y rx ry o = subst BodyReads (sym ry.2) (exprs_body u v (Plain e (Some (ResultTarget p))) ry.0 rx ry.1 (subst body_ok ry.2 o))
   body_of_first u v (Plain e (Some (MemberTarget a n p))) y rx ry o = subst BodyReads (sym ry.2) (exprs_body u v (Plain e (Some (MemberTarget a n p))) ry.0 rx ry.1 (subst body_ok ry.2 o))
+  body_of_first u v (Bracketed e) y rx ry o = subst BodyReads (sym ry.2) (exprs_body u v (Bracketed e) ry.0 rx ry.1 (subst body_ok ry.2 o))
   body_of_first u v (Each e part) y rx ry o = subst BodyReads (sym ry.2) (exprs_body u v (Each e part) ry.0 rx ry.1 (subst body_ok ry.2 o))
 
   again_arrow_body : Again body_ok body_pieces bare_body (arrow_body i) (arrow_body i)
@@ -157,7 +155,7 @@ module _ {i : Nested} (h : AgainNested i) where
   again_arrow_args = again_made second (again_then (again_the class.OpenRound) (again_either {ok = body_ok} {p = λ x. body_pieces x ++ print.one class.CloseRound} {b = bare_body}
       (again_made no_args (again_the class.CloseRound) (λ a o. tt) (λ a. refl) (λ a. refl))
       (again_made first (again_then again_arrow_body (again_the class.CloseRound)) (λ a o. (o, tt)) (λ a. refl) (λ a. refl))))
-    (λ a o. (tt, o)) (λ a. refl) (λ a. refl)
+      (λ a o. (tt, o)) (λ a. refl) (λ a. refl)
 
   again_arrow_rest : Again IsPrintableStep step_rest erase_step (arrow_rest i) (arrow_rest i)
   unfolding arrow_rest
@@ -232,7 +230,7 @@ bare_part part = record { name = part.name; kind = erase_optional_type part.kind
 
 each_same : (n : List ℕ) (kind : Option TypeTerm) (x : Option ExprTerm) (r : List Piece) →
     all_spelled (piece.Plain class.ForEachWord ∷ (print.iterator n kind (print.condition_if (optional_expr x)) ++ r))
-      ≡ all_spelled (piece.Plain class.ForEachWord ∷ piece.Plain class.OpenRound ∷ piece.Name n ∷ (if_there print.typed kind ++ (if_there (λ (e : ExprTerm). piece.Plain class.Bar ∷ print.expr e) x ++ (piece.Plain class.CloseRound ∷ r))))
+    ≡ all_spelled (piece.Plain class.ForEachWord ∷ piece.Plain class.OpenRound ∷ piece.Name n ∷ (if_there print.typed kind ++ (if_there (λ (e : ExprTerm). piece.Plain class.Bar ∷ print.expr e) x ++ (piece.Plain class.CloseRound ∷ r))))
 each_same n kind x r =
     let k = print.typed_if kind in
     let c = print.condition_if (optional_expr x) in

@@ -1,24 +1,21 @@
 -- Statements that begin with a word are read again.
-use Rattle.std.proofs.Common.{◌≡◌, List, [], ◌∷◌, ◌++◌, map, Bool, true, false, ◌⊎◌, inl, inr, refl, sym, ap, ◌∙◌, subst, append_assoc, append-nil, Option, Some, None, option_map, IsTrue}
-use Rattle.std.specs.Prelude.{⊤}
-use Rattle.qvt_tree_types.specs.Tree.{TypeTerm, ExprTerm, StmtTerm, StmtTerms, VarStmt, ReturnStmt, IfStmt, WhileStmt, ElseTerm, NoElse, ElseOf, ArmTerm, ArmTerms, ArmOf, MoreArms, OptionalExpr}
+use Rattle.std.proofs.Common.{◌≡◌, List, [], ◌∷◌, ◌++◌, map, refl, sym, ap, ◌∙◌, append-nil, Option, Some, None, option_map}
+use Rattle.qvt_tree_types.specs.Tree.{ExprTerm, StmtTerm, VarStmt, ReturnStmt, WhileStmt, ElseOf, ArmTerm, ArmOf, MoreArms}
 use Rattle.qvt_tree_types.specs.View.{stmts_of, arms_of, optional_expr, optional_else}
-use Rattle.qvt_tree.specs.Shape.{nowhere, erase_expr, erase_stmt, erase_stmts, erase_arm, erase_arms, erase_else, erase_optional_type, erase_type}
-use Rattle.qvt_grammar.specs.Language.{Language, made, then}
+use Rattle.qvt_tree.specs.Shape.{nowhere, erase_expr, erase_stmt, erase_arm, erase_arms, erase_else}
 use Rattle.qvt_parser_grammar.specs.declared.token.Class.TheVariants as class
 use Rattle.qvt_parser_grammar.specs.Readers.{the}
-use Rattle.qvt_parser_grammar.specs.Tokens.{Tok}
 use Rattle.qvt_parser_grammar.specs.Trees.{second, inner}
-use Rattle.qvt_parser_grammar.specs.Grammar.{Nested, colon_type}
-use Rattle.qvt_parser_grammar.specs.Statements.{condition, var_stmt, return_stmt, arm, else_part, if_stmt, while_stmt}
-use Rattle.qvt_parser_grammar.specs.StmtTrees.{var_of, return_of, arm_of, if_stmt_of, while_of}
+use Rattle.qvt_parser_grammar.specs.Grammar.{Nested}
+use Rattle.qvt_parser_grammar.specs.Statements.{branches, condition, var_stmt, return_stmt, arm, else_part, while_stmt}
+use Rattle.qvt_parser_grammar.specs.StmtTrees.{Branches, var_of, return_of, arm_of, while_of}
 use Rattle.qvt_printer_layout.specs.declared.piece.Piece.{Piece}
 use Rattle.qvt_printer_layout.specs.declared.piece.Piece.TheVariants as piece
 use Rattle.qvt_printer.specs.Expressions as print
 use Rattle.qvt_printed_tokens.specs.Spelled.{all_spelled}
-use Rattle.qvt_printed_trees.specs.Printable.{IsPrintableExpr, IsPrintableOptional, IsPrintableStmt, ArePrintableStmts, IsPrintableArm, ArePrintableArms, IsPrintableElse}
-use Rattle.qvt_printed_trees.proofs.Spelling.{plain, plain_name, spelled_append, rest_spelled}
-use Rattle.qvt_printed_trees.proofs.Again.{Again, any, again_the, again_then, again_made, again_either, again_many, again_maybe, again_placed, again_left_out, optional_ok, if_there}
+use Rattle.qvt_printed_trees.specs.Printable.{IsPrintableExpr, IsPrintableStmt, ArePrintableStmts, IsPrintableArm, ArePrintableArms, IsPrintableElse}
+use Rattle.qvt_printed_trees.proofs.Spelling.{plain, plain_name, rest_spelled}
+use Rattle.qvt_printed_trees.proofs.Again.{again_as, Again, again_the, again_then, again_made, again_many, again_maybe, again_placed, again_left_out, optional_ok, if_there}
 use Rattle.qvt_printed_trees.proofs.AgainNames.{again_name, again_colon_type}
 use Rattle.qvt_printed_trees.proofs.AgainExprs.{AgainNested, bare_stmts, bare_optional, ok_optional, optional_any, again_expr}
 use Rattle.qvt_printed_trees.proofs.AgainSteps.{type_same, type_bare, same_front}
@@ -37,7 +34,7 @@ optional_same : (x : Option ExprTerm) → all_spelled (print.optional (optional_
 optional_same None = refl
 optional_same (Some e) = refl
 
-bare_arms : (arms : List ArmTerm) → erase_arms (arms_of arms) ≡ arms_of (map erase_arm arms)
+pub bare_arms : (arms : List ArmTerm) → erase_arms (arms_of arms) ≡ arms_of (map erase_arm arms)
 bare_arms [] = refl
 bare_arms (a ∷ arms) = ap (MoreArms (erase_arm a)) (bare_arms arms)
 
@@ -55,12 +52,23 @@ else_same : (x : Option (List StmtTerm)) → print.else_if (optional_else x) ≡
 else_same None = refl
 else_same (Some ss) = refl
 
-else_bare : (x : Option (List StmtTerm)) → erase_else (optional_else x) ≡ optional_else (option_map (map erase_stmt) x)
+pub else_bare : (x : Option (List StmtTerm)) → erase_else (optional_else x) ≡ optional_else (option_map (map erase_stmt) x)
 else_bare None = refl
 else_bare (Some ss) = ap ElseOf (bare_stmts ss)
 
-if_same : (c b arms e e2 : List Piece) → e ≡ e2 → all_spelled (piece.Plain class.IfWord ∷ (c ++ (b ++ (arms ++ e)))) ≡ all_spelled (piece.Plain class.IfWord ∷ (c ++ ([] ++ (b ++ (arms ++ (e2 ++ []))))))
-if_same c b arms e e2 q = ap (λ z. all_spelled (piece.Plain class.IfWord ∷ (c ++ (b ++ (arms ++ z))))) (q ∙ sym (append-nil e2))
+-- the blocks of a conditional statement
+
+abbrev pub branch_ok : Branches → Type 0
+branch_ok x = ArePrintableStmts (stmts_of x.0) × ArePrintableArms (arms_of x.1.0) × IsPrintableElse (optional_else x.1.1.0)
+
+abbrev pub branch_pieces : Branches → List Piece
+branch_pieces x = print.block (stmts_of x.0) ++ (print.arms (arms_of x.1.0) ++ print.else_if (optional_else x.1.1.0))
+
+abbrev pub bare_branches : Branches → Branches
+bare_branches x = (map erase_stmt x.0, (map erase_arm x.1.0, (option_map (map erase_stmt) x.1.1.0, None)))
+
+branch_same : (b arms e e2 : List Piece) → e ≡ e2 → all_spelled (b ++ (arms ++ e)) ≡ all_spelled (b ++ (arms ++ (e2 ++ [])))
+branch_same b arms e e2 q = ap (λ z. all_spelled (b ++ (arms ++ z))) (q ∙ sym (append-nil e2))
 
 module _ {i : Nested} (h : AgainNested i) where
   pub again_condition : Again IsPrintableExpr (λ e. print.in_round (print.expr e)) erase_expr (condition i) (condition i)
@@ -71,9 +79,9 @@ module _ {i : Nested} (h : AgainNested i) where
   unfolding var_stmt
   again_var_stmt = again_made var_of (again_placed (again_then (again_the class.VarWord) (again_then again_name (again_then (again_maybe (again_colon_type i h.kind))
       (again_maybe (again_made {ok2 = IsPrintableExpr} {p2 = λ e. piece.Plain class.Becomes ∷ print.expr e} {b2 = erase_expr} second (again_then (again_the class.Becomes) (again_expr h)) (λ a o. (tt, o)) (λ a. refl) (λ a. refl)))))))
-    (λ a o. (tt, (tt, (optional_any a.1.1.1.0, ok_optional a.1.1.1.1 o))))
-    (λ a. ap (λ z. plain class.VarWord ∷ plain_name a.1.1.0.text ∷ z) (rest_spelled (print.typed_if a.1.1.1.0) (print.first_value (optional_expr a.1.1.1.1)) _ (value_same a.1.1.1.1) ∙ same_front (print.typed_if a.1.1.1.0) (if_there print.typed a.1.1.1.0) _ (type_same a.1.1.1.0)))
-    (λ a j. VarStmt a.1.1.0.text (type_bare a.1.1.1.0 j) (bare_optional a.1.1.1.1 j) nowhere)
+      (λ a o. (tt, (tt, (optional_any a.1.1.1.0, ok_optional a.1.1.1.1 o))))
+      (λ a. ap (λ z. plain class.VarWord ∷ plain_name a.1.1.0.text ∷ z) (rest_spelled (print.typed_if a.1.1.1.0) (print.first_value (optional_expr a.1.1.1.1)) _ (value_same a.1.1.1.1) ∙ same_front (print.typed_if a.1.1.1.0) (if_there print.typed a.1.1.1.0) _ (type_same a.1.1.1.0)))
+      (λ a j. VarStmt a.1.1.0.text (type_bare a.1.1.1.0 j) (bare_optional a.1.1.1.1 j) nowhere)
 
   pub again_return_stmt : Again IsPrintableStmt unended erase_stmt (return_stmt i) (return_stmt i)
   unfolding return_stmt
@@ -89,14 +97,13 @@ module _ {i : Nested} (h : AgainNested i) where
   unfolding else_part
   again_else_part = again_made second (again_then (again_the class.ElseWord) h.block) (λ a o. (tt, o)) (λ a. refl) (λ a. refl)
 
-  pub again_if_stmt : Again IsPrintableStmt print.stmt erase_stmt (if_stmt i) (if_stmt i)
-  unfolding if_stmt
-  again_if_stmt = again_made if_stmt_of (again_placed (again_then (again_the class.IfWord) (again_then again_condition (again_then (again_left_out {l = the class.ThenWord} {m = the class.ThenWord}) (again_then h.block
-      (again_then (again_many again_arm (λ arms. ArePrintableArms (arms_of arms)) (λ a more o. o) (λ arms. print.arms (arms_of arms)) refl (λ a more. refl))
-      (again_then (again_maybe again_else_part) (again_left_out {l = the class.EndifWord} {m = the class.EndifWord}))))))))
-    (λ a o. (tt, (o.0, (tt, (o.1, (o.2, (else_ok a.1.1.1.1.1.1.0 o.3, tt)))))))
-    (λ a. let z = a.1.1.1.1 in if_same (print.in_round (print.expr a.1.1.0)) (print.block (stmts_of z.0)) (print.arms (arms_of z.1.0)) _ _ (else_same z.1.1.0))
-    (λ a j. let z = a.1.1.1.1 in IfStmt (erase_expr a.1.1.0) (bare_stmts z.0 j) (bare_arms z.1.0 j) (else_bare z.1.1.0 j) nowhere)
+  pub again_branches : Again branch_ok branch_pieces bare_branches (branches i) (branches i)
+  unfolding branches
+  again_branches = again_as (again_then h.block (again_then (again_many again_arm (λ arms. ArePrintableArms (arms_of arms)) (λ a more o. o) (λ arms. print.arms (arms_of arms)) refl (λ a more. refl))
+      (again_then (again_maybe again_else_part) (again_left_out {l = the class.EndifWord} {m = the class.EndifWord}))))
+      (λ x o. (o.0, (o.1, (else_ok x.1.1.0 o.2, tt))))
+      (λ x. branch_same (print.block (stmts_of x.0)) (print.arms (arms_of x.1.0)) (print.else_if (optional_else x.1.1.0)) (if_there else_pieces x.1.1.0) (else_same x.1.1.0))
+      (λ x. refl)
 
   pub again_while_stmt : Again IsPrintableStmt print.stmt erase_stmt (while_stmt i) (while_stmt i)
   unfolding while_stmt

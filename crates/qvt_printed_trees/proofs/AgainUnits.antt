@@ -1,15 +1,13 @@
 -- Parameters, classes, helpers and constructors are read again.
 use Rattle.std.proofs.Common.{◌≡◌, List, [], ◌∷◌, ◌++◌, map, Bool, true, false, inl, inr, refl, sym, ap, ◌∙◌, subst, append_assoc, Option, Some, None, option_map}
-use Rattle.std.specs.Prelude.{⊤}
-use Rattle.qvt_tree_types.specs.Tree.{TypeTerm, ExprTerm, StmtTerm, ReturnStmt, SomeExpr}
+use Rattle.qvt_tree_types.specs.Tree.{TypeTerm}
 use Rattle.qvt_tree_types.specs.View.{stmts_of}
-use Rattle.qvt_tree_types.specs.Module.{TypedName, UnitTerm, ClassOf, MainOf, HelperOf, ConstructorOf}
+use Rattle.qvt_tree_types.specs.Module.{TypedName, ClassOf, MainOf, HelperOf, ConstructorOf}
 use Rattle.qvt_tree_types.specs.declared.types.PathTree.{PathTree}
 use Rattle.qvt_tree_types.specs.declared.module.ResultDecl.{ResultDecl}
-use Rattle.qvt_tree.specs.Shape.{nowhere, erase_path, erase_type, erase_optional_type, erase_stmt}
+use Rattle.qvt_tree.specs.Shape.{nowhere, erase_path, erase_stmt}
 use Rattle.qvt_tree.specs.ModuleShape.{erase_typed, erase_unit, erase_result, erase_optional_result}
-use Rattle.qvt_grammar.specs.Language.{Language, made, then, either}
-use Rattle.qvt_parser_grammar.specs.declared.named.UnitPath.{UnitPath}
+use Rattle.qvt_grammar.specs.Language.{made, then, either}
 use Rattle.qvt_parser_grammar.specs.declared.token.Class.{Class}
 use Rattle.qvt_parser_grammar.specs.declared.token.Class.TheVariants as class
 use Rattle.qvt_parser_grammar.specs.Readers.{the}
@@ -26,12 +24,12 @@ use Rattle.qvt_printer.specs.Units as printed
 use Rattle.qvt_printed_tokens.specs.Spelled.{all_spelled}
 use Rattle.qvt_printed_trees.specs.Printable.{IsPrintableUnit}
 use Rattle.qvt_printed_trees.proofs.Classes.{is_itself}
-use Rattle.qvt_printed_trees.proofs.Spelling.{plain, plain_name, spelled_append, rest_spelled, block_spelled}
-use Rattle.qvt_printed_trees.proofs.Again.{Again, any, again_the, again_word, again_then, again_made, again_either, again_one, again_many, again_maybe, again_placed, again_left_out, optional_ok, if_there}
+use Rattle.qvt_printed_trees.proofs.Spelling.{plain, plain_name, rest_spelled, block_spelled}
+use Rattle.qvt_printed_trees.proofs.Again.{Again, any, again_the, again_word, again_then, again_made, again_either, again_one, again_many, again_maybe, again_placed, again_left_out, if_there}
 use Rattle.qvt_printed_trees.proofs.AgainNames.{again_name, again_path, again_paths, again_unit_path, again_extent, bare_unit_path}
 use Rattle.qvt_printed_trees.proofs.AgainExprs.{bare_stmts, optional_any}
 use Rattle.qvt_printed_trees.proofs.AgainSteps.{type_same, type_bare, same_front}
-use Rattle.qvt_printed_trees.proofs.UnitBase.{Stmts, AgainBlock, AgainUnits}
+use Rattle.qvt_printed_trees.proofs.UnitBase.{Stmts, AgainUnits}
 
 -- a word and paths, of which there are some
 
@@ -43,9 +41,11 @@ unfolding paths
 listed_spelled word ts ps rd = subst (λ z. all_spelled (printed.listed word z) ≡ plain word ∷ all_spelled (print.paths z)) (sym rd.2) refl
 
 pub again_listed : (word : Class) → Again any (printed.listed word) (map erase_path) (made second (then (the word) paths)) (made second (then (the word) paths))
-again_listed word = record { again = λ ts ps rd o. (
-    let g : Paths rd.1.1 ps = subst (Paths rd.1.1) (sym rd.2) rd.1.4 in
-    ((plain word, map erase_path ps), (plain word ∷ [], all_spelled (print.paths ps), listed_spelled word rd.1.1 ps g, (refl, is_itself word), again_paths.again rd.1.1 ps g tt), refl)) }
+again_listed word = record {
+  again = λ ts ps rd o. (
+      let g : Paths rd.1.1 ps = subst (Paths rd.1.1) (sym rd.2) rd.1.4 in
+      ((plain word, map erase_path ps), (plain word ∷ [], all_spelled (print.paths ps), listed_spelled word rd.1.1 ps g, (refl, is_itself word), again_paths.again rd.1.1 ps g tt), refl));
+}
 
 pub listed_same : (word : Class) (x : Option (List PathTree)) → printed.listed word (paths_or_none x) ≡ if_there (printed.listed word) x
 listed_same word None = refl
@@ -89,11 +89,11 @@ module _ {i j : Nested} (h : AgainUnits i j) where
   unfolding params
   again_params = again_made second (again_then (again_the class.OpenRound)
       (again_either {ok = any} {p = λ (ps : List TypedName). printed.params ps ++ print.one class.CloseRound} {b = map erase_typed}
-        (again_made nothing (again_the class.CloseRound) (λ a o. tt) (λ a. refl) (λ a. refl))
-        (again_made first (again_then (again_made {ok2 = any} {p2 = printed.params} {b2 = map erase_typed} cons_of (again_then again_param
-            (again_many (again_made {ok2 = any} {p2 = λ (p : TypedName). piece.Plain class.Comma ∷ printed.typed_name p} {b2 = erase_typed} second (again_then (again_the class.Comma) again_param) (λ a o. (tt, tt)) (λ a. refl) (λ a. refl))
-              any (λ a more o. (tt, tt)) printed.more_params refl (λ a more. refl)))
-            (λ a o. (tt, tt)) (λ a. refl) (λ a. refl)) (again_the class.CloseRound)) (λ a o. (tt, tt)) (λ a. refl) (λ a. refl))))
+      (again_made nothing (again_the class.CloseRound) (λ a o. tt) (λ a. refl) (λ a. refl))
+      (again_made first (again_then (again_made {ok2 = any} {p2 = printed.params} {b2 = map erase_typed} cons_of (again_then again_param
+      (again_many (again_made {ok2 = any} {p2 = λ (p : TypedName). piece.Plain class.Comma ∷ printed.typed_name p} {b2 = erase_typed} second (again_then (again_the class.Comma) again_param) (λ a o. (tt, tt)) (λ a. refl) (λ a. refl))
+      any (λ a more o. (tt, tt)) printed.more_params refl (λ a more. refl)))
+      (λ a o. (tt, tt)) (λ a. refl) (λ a. refl)) (again_the class.CloseRound)) (λ a o. (tt, tt)) (λ a. refl) (λ a. refl))))
       (λ a o. (tt, tt)) (λ a. refl) (λ a. refl)
 
   again_feature : Again any (λ (f : TypedName). print.ended (printed.typed_name f)) erase_typed (feature i) (feature j)
@@ -110,11 +110,11 @@ module _ {i j : Nested} (h : AgainUnits i j) where
   unfolding class_unit
   again_class_unit = again_made class_of (again_placed (again_made {ok2 = any} {p2 = λ x. piece.Plain class.IntermediateWord ∷ piece.Plain class.ClassWord ∷ piece.Name x.0.text ∷ (if_there (printed.listed class.ExtendsWord) x.1.0 ++ print.in_block (printed.fields x.1.1))} {b2 = λ x. (record { text = x.0.text; place = nowhere }, (option_map (map erase_path) x.1.0, map erase_typed x.1.1))} second (again_then (again_the class.IntermediateWord)
       (again_made {ok2 = any} {p2 = λ x. piece.Plain class.ClassWord ∷ piece.Name x.0.text ∷ (if_there (printed.listed class.ExtendsWord) x.1.0 ++ print.in_block (printed.fields x.1.1))} {b2 = λ x. (record { text = x.0.text; place = nowhere }, (option_map (map erase_path) x.1.0, map erase_typed x.1.1))} second (again_then (again_the class.ClassWord) (again_then again_name (again_then (again_maybe (again_listed class.ExtendsWord)) again_features)))
-        (λ a o. (tt, (tt, (optional_any a.1.1.0, tt)))) (λ a. refl) (λ a. refl)))
+      (λ a o. (tt, (tt, (optional_any a.1.1.0, tt)))) (λ a. refl) (λ a. refl)))
       (λ a o. (tt, tt)) (λ a. refl) (λ a. refl)))
-    (λ a o. tt)
-    (λ a. ap (λ z. plain class.IntermediateWord ∷ plain class.ClassWord ∷ plain_name a.1.0.text ∷ all_spelled (z ++ print.in_block (printed.fields a.1.1.1))) (listed_same class.ExtendsWord a.1.1.0))
-    (λ a. ap (λ z. ClassOf (record { name = a.1.0.text; supers = z; features = map erase_typed a.1.1.1; place = nowhere })) (paths_bare a.1.1.0))
+      (λ a o. tt)
+      (λ a. ap (λ z. plain class.IntermediateWord ∷ plain class.ClassWord ∷ plain_name a.1.0.text ∷ all_spelled (z ++ print.in_block (printed.fields a.1.1.1))) (listed_same class.ExtendsWord a.1.1.0))
+      (λ a. ap (λ z. ClassOf (record { name = a.1.0.text; supers = z; features = map erase_typed a.1.1.1; place = nowhere })) (paths_bare a.1.1.0))
 
   -- blocks
 
@@ -125,21 +125,23 @@ module _ {i j : Nested} (h : AgainUnits i j) where
   unfolding main_unit
   again_main_unit = again_made main_of (again_placed (again_made {ok2 = Stmts} {p2 = λ ss. piece.Plain class.MainWord ∷ piece.Plain class.OpenRound ∷ piece.Plain class.CloseRound ∷ print.block (stmts_of ss)} {b2 = map erase_stmt} second (again_then (again_the class.MainWord)
       (again_made {ok2 = Stmts} {p2 = λ ss. piece.Plain class.OpenRound ∷ piece.Plain class.CloseRound ∷ print.block (stmts_of ss)} {b2 = map erase_stmt} second (again_then (again_the class.OpenRound)
-        (again_made {ok2 = Stmts} {p2 = λ ss. piece.Plain class.CloseRound ∷ print.block (stmts_of ss)} {b2 = map erase_stmt} second (again_then (again_the class.CloseRound) again_unit_block) (λ a o. (tt, o)) (λ a. refl) (λ a. refl)))
-        (λ a o. (tt, o)) (λ a. refl) (λ a. refl)))
+      (again_made {ok2 = Stmts} {p2 = λ ss. piece.Plain class.CloseRound ∷ print.block (stmts_of ss)} {b2 = map erase_stmt} second (again_then (again_the class.CloseRound) again_unit_block) (λ a o. (tt, o)) (λ a. refl) (λ a. refl)))
       (λ a o. (tt, o)) (λ a. refl) (λ a. refl)))
-    (λ a o. o) (λ a. refl) (λ a. ap (λ z. MainOf z nowhere) (bare_stmts a.1))
+      (λ a o. (tt, o)) (λ a. refl) (λ a. refl)))
+      (λ a o. o) (λ a. refl) (λ a. ap (λ z. MainOf z nowhere) (bare_stmts a.1))
 
   -- an expression for a body is printed as a block of one return
   again_helper_body : Again Stmts (λ ss. print.block (stmts_of ss)) (map erase_stmt) (helper_body i) (helper_body j)
   unfolding helper_body
-  again_helper_body = record { again = λ ts ss rd o. inr (elim rd [
-    | inl q ↦ (
-        let w = q.1 in
-        let f : ss ≡ return_body w.0.0 = q.2 ∙ ap return_body w.2 in
-        subst (λ z. Stmts z → j.block.reads (all_spelled (print.block (stmts_of z))) (map erase_stmt z)) (sym f) (h.returned w.1.3.1 w.0.0.1 w.0.0.0.place w.1.3.4).block o)
-    | inr q ↦ (h.block ts ss q).block o
-  ]) }
+  again_helper_body = record {
+    again = λ ts ss rd o. inr (elim rd [
+      | inl q ↦ (
+          let w = q.1 in
+          let f : ss ≡ return_body w.0.0 = q.2 ∙ ap return_body w.2 in
+          subst (λ z. Stmts z → j.block.reads (all_spelled (print.block (stmts_of z))) (map erase_stmt z)) (sym f) (h.returned w.1.3.1 w.0.0.1 w.0.0.0.place w.1.3.4).block o)
+      | inr q ↦ (h.block ts ss q).block o
+    ]);
+  }
 
   again_helper_word : Again any (λ (t : Tok). print.one (helper_class t.class)) (λ t. plain (helper_class t.class)) (either (the class.HelperWord) (the class.QueryWord)) (either (the class.HelperWord) (the class.QueryWord))
   again_helper_word = again_one (again_word class.HelperWord class.HelperWord helper_class refl _ (inl (refl, is_itself class.HelperWord))) (again_word class.QueryWord class.QueryWord helper_class refl _ (inr (refl, is_itself class.QueryWord)))
@@ -154,8 +156,8 @@ module _ {i j : Nested} (h : AgainUnits i j) where
   pub again_constructor_unit : Again IsPrintableUnit printed.unit erase_unit (constructor_unit i) (constructor_unit j)
   unfolding constructor_unit
   again_constructor_unit = again_made constructor_of (again_made {ok2 = λ a. Stmts a.1.1} {p2 = λ a. piece.Plain class.ConstructorWord ∷ (print.names a.0.names ++ (print.in_round (printed.params a.1.0) ++ print.block (stmts_of a.1.1)))} {b2 = λ a. (bare_unit_path a.0, (map erase_typed a.1.0, map erase_stmt a.1.1))} second
-        (again_then (again_the class.ConstructorWord) (again_then again_unit_path (again_then again_params again_unit_block)))
-        (λ a o. (tt, (tt, (tt, o)))) (λ a. refl) (λ a. refl))
+      (again_then (again_the class.ConstructorWord) (again_then again_unit_path (again_then again_params again_unit_block)))
+      (λ a o. (tt, (tt, (tt, o)))) (λ a. refl) (λ a. refl))
       (λ a o. o)
       (λ a. ap (λ z. plain class.ConstructorWord ∷ all_spelled z) (append_assoc (print.names a.0.names) (print.in_round (printed.params a.1.0)) (print.block (stmts_of a.1.1))))
       (λ a. ap (λ z. ConstructorOf (record { pure = false; path = a.0.names; params = map erase_typed a.1.0; answer = None; body = z; place = nowhere })) (bare_stmts a.1.1))

@@ -1,21 +1,18 @@
 -- The forms of expressions that are read: what the printing of each part needs.
-use Rattle.std.proofs.Common.{◌≡◌, ℕ, zero, suc, ◌+◌, ◌≤◌, ◌<◌, List, [], ◌∷◌, ◌++◌, map, Bool, true, false, if◌then◌else◌, refl, sym, ap, ◌∙◌, subst, Option, Some, None, arith, lit≤, leb-false}
-use Rattle.std.specs.Prelude.{⊤}
+use Rattle.std.proofs.Common.{◌≡◌, ℕ, zero, suc, ◌+◌, ◌≤◌, ◌<◌, List, ◌∷◌, Bool, true, false, refl, Option, arith, leb-false}
 use borrow.Author.Tests.{lt-leb}
-use Rattle.qvt_tree_types.specs.Tree.{ExprTerm, LinkTerm, LinkTerms, StepTerm, StepTerms, TargetTerm, MemberTarget, IfExpr, ChainExpr, PrefixExpr, PostExpr, MoreLinks, MoreSteps, NoSteps}
+use Rattle.qvt_tree_types.specs.Tree.{ExprTerm, LinkTerm, LinkTerms, StepTerm, StepTerms, TargetTerm, IfExpr, ChainExpr, PrefixExpr, PostExpr, MoreLinks, MoreSteps}
 use Rattle.qvt_tree_types.specs.View.{links_of, steps_of}
 use Rattle.qvt_tree_types.specs.declared.words.Level.{Level}
 use Rattle.qvt_tree_types.specs.declared.words.Level.TheVariants as levels
 use Rattle.qvt_tree_types.specs.declared.words.Sign.{Sign}
 use Rattle.qvt_tree.specs.Shape.{erase_expr, erase_links, erase_steps}
 use Rattle.qvt_grammar.specs.Language.{turns}
-use Rattle.qvt_parser_grammar.specs.Tokens.{Tok}
-use Rattle.qvt_parser_grammar.specs.Leads.{Lead, Plain, Each}
+use Rattle.qvt_parser_grammar.specs.Leads.{Plain}
 use Rattle.qvt_parser_grammar.specs.Grammar.{Nested, bare_expr, if_expr, step, pre, link, chain, level_of}
 use Rattle.qvt_printer.specs.Expressions as print
 use Rattle.qvt_printer.specs.Levels.{tightness, is_as_loose, is_chain, is_chain_or_prefix}
 use Rattle.qvt_printed_tokens.specs.Spelled.{all_spelled}
-use Rattle.qvt_printed_trees.specs.Printable.{IsPrintableExpr}
 
 -- the number of a level
 abbrev pub index_of : Level → ℕ
@@ -97,7 +94,7 @@ NeedsBracket i b e = b ≡ true → Bracket i e
 abbrev pub LinksForm : Nested → Level → LinkTerms → Type 0
 LinksForm i level rest =
     (l : LinkTerm) × (more : List LinkTerm) × (MoreLinks l (links_of more) ≡ erase_links rest)
-      × turns (link (index_of level) (chain (index_of level) (pre i) (pre i))) (all_spelled (print.links level rest)) (l ∷ more)
+    × turns (link (index_of level) (chain (index_of level) (pre i) (pre i))) (all_spelled (print.links level rest)) (l ∷ more)
 
 abbrev pub StepsForm : Nested → StepTerms → Type 0
 StepsForm i ss =

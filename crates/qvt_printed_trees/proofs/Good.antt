@@ -1,21 +1,22 @@
 -- What is read of operands, primaries and steps has a form.
-use Rattle.std.proofs.Common.{◌≡◌, ℕ, zero, suc, ◌+◌, ◌≤◌, ◌<◌, List, [], ◌∷◌, ◌++◌, map, Bool, true, false, ◌⊎◌, inl, inr, refl, sym, ap, ◌∙◌, subst, Option, Some, None, arith, append_assoc}
+use Rattle.std.proofs.Common.{◌≡◌, ℕ, ◌≤◌, List, [], ◌∷◌, ◌++◌, map, Bool, true, false, ◌⊎◌, inl, inr, refl, sym, ap, ◌∙◌, subst, Option, Some, None, arith, append_assoc}
 use Rattle.std.specs.Prelude.{⊤}
 use Rattle.qvt_base.specs.declared.numbers.Place.{Place}
-use Rattle.qvt_tree_types.specs.Tree.{ExprTerm, StepTerm, StepTerms, TargetTerm, BareTarget, ResultTarget, MemberTarget, PathExpr, ResultExpr, IfExpr, ChainExpr, PrefixExpr, PostExpr, DotStep, NoArgs, SomeArgs, NoSteps, MoreSteps}
+use Rattle.qvt_tree_types.specs.Tree.{ExprTerm, StepTerm, StepTerms, TargetTerm, BareTarget, ResultTarget, MemberTarget, PathExpr, ResultExpr, ChainExpr, PrefixExpr, PostExpr, DotStep, NoArgs, SomeArgs, NoSteps, MoreSteps}
 use Rattle.qvt_tree_types.specs.View.{steps_of}
 use Rattle.qvt_tree_types.specs.declared.words.Sign.{Sign}
-use Rattle.qvt_tree.specs.Shape.{nowhere, erase_expr, erase_step, erase_steps}
+use Rattle.qvt_tree.specs.Shape.{erase_step, erase_steps}
 use Rattle.qvt_grammar.specs.Language.{turns}
-use Rattle.qvt_parser_grammar.specs.Tokens.{Tok}
-use Rattle.qvt_parser_grammar.specs.Trees.{more_steps, stepped, post_of, split_last, member_of, target_of, bare_target, signed}
+use Rattle.qvt_parser_grammar.specs.Leads.{Lead, Plain, Bracketed, Each}
+use Rattle.qvt_parser_grammar.specs.StmtTrees.{target_in}
+use Rattle.qvt_parser_grammar.specs.Trees.{more_steps, stepped, post_of, split_last, member_of, bare_target, signed, post_lead, expr_of}
 use Rattle.qvt_parser_grammar.specs.Grammar.{Nested, step}
 use Rattle.qvt_printer.specs.Expressions as print
-use Rattle.qvt_printer.specs.Levels.{is_chain, is_chain_or_prefix}
+use Rattle.qvt_printer.specs.Levels.{is_chain_or_prefix}
 use Rattle.qvt_printed_tokens.specs.Spelled.{all_spelled}
 use Rattle.qvt_printed_trees.specs.Printable.{IsPrintableExpr, IsPrintableStep, ArePrintableSteps}
 use Rattle.qvt_printed_trees.proofs.Spelling.{spelled_append}
-use Rattle.qvt_printed_trees.proofs.Forms.{rank, is_post, is_prefix, is_primary, Bracket, NeedsBracket, StepsForm, Form}
+use Rattle.qvt_printed_trees.proofs.Forms.{rank, is_primary, Bracket, NeedsBracket, StepsForm, Form}
 use Rattle.qvt_printed_trees.proofs.LeadReads.{turns_append}
 
 -- steps
@@ -59,9 +60,12 @@ module _ (i : Nested) where
 
   joined_steps : (old : StepTerms) (ss : List StepTerm) → StepsForm i old → GoodSteps i ss → ArePrintableSteps (steps_of ss) → StepsForm i (more_steps old ss)
   joined_steps old ss f g o =
-      let xs = map erase_step ss in
-      (f.0, f.1 ++ xs, joined_list (f.0 ∷ f.1) xs ∙ ap (λ z. more_steps z xs) f.2 ∙ joined_bare old ss,
-        subst (λ z. turns (step i) z (f.0 ∷ (f.1 ++ xs))) (sym (joined_spelled old ss)) (turns_append (step i) _ _ (f.0 ∷ f.1) xs f.3 (steps_turns ss g o)))
+      let xs = map erase_step ss in (
+        f.0,
+        f.1 ++ xs,
+        joined_list (f.0 ∷ f.1) xs ∙ ap (λ z. more_steps z xs) f.2 ∙ joined_bare old ss,
+        subst (λ z. turns (step i) z (f.0 ∷ (f.1 ++ xs))) (sym (joined_spelled old ss)) (turns_append (step i) _ _ (f.0 ∷ f.1) xs f.3 (steps_turns ss g o)),
+      )
 
 -- what is read as the first of steps or after signs, with brackets where it has to have them
 
@@ -116,6 +120,13 @@ module _ (i : Nested) where
   post_operand place x [] h g = bare_operand x.0 x.1 h
   post_operand place x (s ∷ ss) h g = record { form = stepped_form i place x.0 s ss h.first g; tight = inl (let z = stepped_rank i place x.0 (s ∷ ss) in omega arith) }
 
+-- what stands in brackets alone is read there
+
+abbrev pub BracketGood : Nested → Lead → Type 0
+BracketGood i (Plain e t) = ⊤
+BracketGood i (Bracketed e) = IsPrintableExpr e → Bracket i e
+BracketGood i (Each e part) = ⊤
+
 -- targets
 
 abbrev pub GoodTarget : Nested → Option TargetTerm → Type 0
@@ -144,11 +155,22 @@ module _ (i : Nested) where
   bare_good (ResultExpr place) = tt
   bare_good _ = tt
 
-  pub good_target : (place : Place) (x : ExprTerm × Bool) (ss : List StepTerm) → GoodPrimary i x → GoodSteps i ss → GoodTarget i (target_of place x ss)
-  good_target place (e, true) [] h g = bare_good e
-  good_target place (e, false) [] h g = tt
-  good_target place (e, true) (s ∷ ss) h g = member_good place e (split_last s ss).0 (split_last s ss).1 h.first (split_good s ss g)
-  good_target place (e, false) (s ∷ ss) h g = member_good place e (split_last s ss).0 (split_last s ss).1 h.first (split_good s ss g)
+  -- a primary with its steps: whether it is a target, and whether it stands in brackets alone
+
+  pub lead_expr : (place : Place) (x : ExprTerm × Bool) (ss : List StepTerm) → expr_of (post_lead (place, (x, ss))) ≡ post_of place x.0 ss
+  lead_expr place (e, true) [] = refl
+  lead_expr place (e, false) [] = refl
+  lead_expr place x (s ∷ ss) = refl
+
+  pub lead_target : (place : Place) (x : ExprTerm × Bool) (ss : List StepTerm) → GoodPrimary i x → GoodSteps i ss → GoodTarget i (target_in (post_lead (place, (x, ss))))
+  lead_target place (e, true) [] h g = bare_good e
+  lead_target place (e, false) [] h g = tt
+  lead_target place x (s ∷ ss) h g = member_good place x.0 (split_last s ss).0 (split_last s ss).1 h.first (split_good s ss g)
+
+  pub lead_bracket : (place : Place) (x : ExprTerm × Bool) (ss : List StepTerm) → GoodPrimary i x → BracketGood i (post_lead (place, (x, ss)))
+  lead_bracket place (e, true) [] h = tt
+  lead_bracket place (e, false) [] h = h.bracket refl
+  lead_bracket place x (s ∷ ss) h = tt
 
   -- signs join those of what has signs already
   pub signed_form : (place : Place) (s : Sign) (more : List Sign) (e : ExprTerm) → GoodOperand i 0 e → IsPrintableExpr (signed place (s ∷ more) e) → Form i (signed place (s ∷ more) e)

@@ -1,27 +1,22 @@
 -- Expressions at the front of a statement are read again: values, targets and sources of a `forEach`.
-use Rattle.std.proofs.Common.{◌≡◌, ℕ, zero, suc, List, [], ◌∷◌, ◌++◌, map, Bool, true, false, if◌then◌else◌, ◌⊎◌, inl, inr, refl, sym, ap, ◌∙◌, subst, Option, Some, None, append-nil, append_assoc, pos, arith}
-use Rattle.std.specs.Prelude.{⊤}
+use Rattle.std.proofs.Common.{◌≡◌, ℕ, List, [], ◌∷◌, ◌++◌, Bool, true, false, if◌then◌else◌, inl, inr, refl, sym, ap, ◌∙◌, subst, Option, Some, None, append-nil, append_assoc, arith}
 use Rattle.qvt_base.specs.declared.numbers.Place.{Place}
-use Rattle.qvt_tree_types.specs.Tree.{ExprTerm, LinkTerm, StepTerm, TargetTerm, BareTarget, ResultTarget, MemberTarget, PathExpr, ResultExpr, IfExpr, ChainExpr, PrefixExpr, PostExpr, DotStep, NoArgs}
-use Rattle.qvt_tree_types.specs.declared.words.Level.{Level}
-use Rattle.qvt_tree.specs.Shape.{nowhere, erase_expr, erase_target}
+use Rattle.qvt_tree_types.specs.Tree.{ExprTerm, StepTerm, TargetTerm, BareTarget, ResultTarget, MemberTarget, PathExpr, ResultExpr, ChainExpr, PrefixExpr, DotStep, NoArgs}
+use Rattle.qvt_tree.specs.Shape.{nowhere, erase_expr}
 use Rattle.qvt_grammar.specs.Language.{Language, turns, lastly, head_of}
 use Rattle.qvt_parser_grammar.specs.Tokens.{Tok}
-use Rattle.qvt_parser_grammar.specs.declared.named.Named.{Named}
 use Rattle.qvt_parser_grammar.specs.declared.token.Class.TheVariants as class
-use Rattle.qvt_parser_grammar.specs.Leads.{Lead, Plain, Each, EachPart}
+use Rattle.qvt_parser_grammar.specs.Leads.{Lead, Plain, Bracketed, Each, EachPart}
 use Rattle.qvt_parser_grammar.specs.Series.{left, right}
-use Rattle.qvt_parser_grammar.specs.Trees.{post_of, target_of, each_lead, split_last, member_of, second}
-use Rattle.qvt_parser_grammar.specs.Grammar.{Nested, name, more_names, args, named_expr, word, literal, longer, bare_expr, other_primary, post, signed_post, pre, chain, lead_post, lead_pre, lead, lead_step, step, dot_step, dot_rest, arrow_rest, each_tail}
-use Rattle.qvt_printer_layout.specs.declared.piece.Piece.{Piece}
-use Rattle.qvt_printer_layout.specs.declared.piece.Piece.TheVariants as piece
+use Rattle.qvt_parser_grammar.specs.Trees.{post_of, each_lead, split_last, member_of}
+use Rattle.qvt_parser_grammar.specs.Grammar.{Nested, name, more_names, named_expr, word, bare_expr, other_primary, pre, chain, lead_post, lead_pre, lead, lead_step, step, dot_step, dot_rest}
 use Rattle.qvt_printer.specs.Expressions as print
 use Rattle.qvt_printer.specs.Levels.{is_as_loose, is_chain, is_chain_or_prefix}
 use Rattle.qvt_printed_tokens.specs.Spelled.{all_spelled}
-use Rattle.qvt_printed_trees.specs.Printable.{begins_with_if, target_begins_with_if}
+use Rattle.qvt_printed_trees.specs.Printable.{begins_with_if}
 use Rattle.qvt_printed_trees.proofs.Spelling.{plain, plain_name, spelled_append, spelled_head}
 use Rattle.qvt_printed_trees.proofs.Forms.{Bracket, NeedsBracket, Form}
-use Rattle.qvt_printed_trees.proofs.FormReads.{PostParts, post_parts, bracket_primary, signed_reads, opens_with_if}
+use Rattle.qvt_printed_trees.proofs.FormReads.{PostParts, post_parts, plain_lead, bracket_primary, signed_reads, opens_with_if}
 use Rattle.qvt_printed_trees.proofs.ChainReads.{Opens, raise, whole_reads}
 
 abbrev FirstNowhere : List Tok → Type 0
@@ -36,7 +31,7 @@ turns_to l m w [] u h = h
 turns_to l m w (x ∷ xs) u h = (h.0, h.1, h.2, w h.0 x h.3, turns_to l m w xs h.1 h.4)
 
 module _ (i : Nested) where
-  step_lead : (ts : List Tok) (s : StepTerm) → (step i).reads ts s → (lead_step i).reads ts (inl s)
+  pub step_lead : (ts : List Tok) (s : StepTerm) → (step i).reads ts s → (lead_step i).reads ts (inl s)
   unfolding step lead_step
   step_lead ts s rd = elim rd [
     | inl d ↦ inl (s, d, refl)
@@ -58,20 +53,20 @@ module _ (i : Nested) where
   unfolding lead_post
   series_reads ts u v r x steps part e pl hx hs hl = ((nowhere, (x, (steps, part))), ((u, v ++ r, e, hx, (v, r, refl, turns_to (step i) (left (lead_step i)) step_lead steps v hs, hl)), sym pl), refl)
 
-  lead_post_form : (e : ExprTerm) → PostParts i e → opens_with_if e ≡ false → (t : Option TargetTerm) × (lead_post i).reads (all_spelled (print.post_first e)) (Plain (erase_expr e) t)
-  lead_post_form e w c =
+  lead_post_form : (e : ExprTerm) → PostParts i e → is_chain_or_prefix e ≡ false → opens_with_if e ≡ false → (t : Option TargetTerm) × (lead_post i).reads (all_spelled (print.post_first e)) (Plain (erase_expr e) t)
+  lead_post_form e w q c =
       let ts = all_spelled (print.post_first e) in
-      let t = target_of nowhere w.first w.steps in
-      (t, subst (λ z. (lead_post i).reads ts (Plain z t)) w.whole (series_reads ts w.front w.rest [] w.first w.steps None (w.cut ∙ ap (λ z. w.front ++ z) (sym (append-nil w.rest))) (spelled_head (print.post_first e)) (w.other c) w.turn refl))
+      let x = plain_lead i w.first w.steps (w.shown q) in
+      (x.0, subst (λ z. (lead_post i).reads ts z) (x.1 ∙ ap (λ z. Plain z x.0) w.whole) (series_reads ts w.front w.rest [] w.first w.steps None (w.cut ∙ ap (λ z. w.front ++ z) (sym (append-nil w.rest))) (spelled_head (print.post_first e)) (w.other c) w.turn refl))
 
-  bracket_lead_post : (e : ExprTerm) → Bracket i e → (lead_post i).reads (all_spelled (print.in_round (print.expr e))) (Plain (erase_expr e) None)
+  bracket_lead_post : (e : ExprTerm) → Bracket i e → (lead_post i).reads (all_spelled (print.in_round (print.expr e))) (Bracketed (erase_expr e))
   bracket_lead_post e w = let ts = all_spelled (print.in_round (print.expr e)) in series_reads ts ts [] [] (erase_expr e, false) [] None (sym (append-nil ts)) (spelled_head (print.in_round (print.expr e))) (bracket_primary i e w) refl refl
 
   lead_form : (e : ExprTerm) → Form i e → is_chain e ≡ false → begins_with_if e ≡ false → (t : Option TargetTerm) × (lead_pre i).reads (all_spelled (print.expr e)) (Plain (erase_expr e) t)
   unfolding lead_pre
   lead_form (ChainExpr level first rest place) f q c = absurd cc
   lead_form (PrefixExpr before e place) f q c = (None, inl (signed_reads i before e place f))
-  lead_form e f q c = let w = lead_post_form e (post_parts i e f (λ z. absurd cc)) c in (w.0, inr w.1)
+  lead_form e f q c = let w = lead_post_form e (post_parts i e f (λ z. absurd cc)) refl c in (w.0, inr w.1)
 
   first_opens : (b c : Bool) → (if b then false else c) ≡ false → b ≡ false → c ≡ false
   first_opens true c h q = absurd cc
@@ -107,17 +102,27 @@ split_end : (s : StepTerm) (ss : List StepTerm) (d : StepTerm) → split_last s 
 split_end s [] d = refl
 split_end s (t ∷ ss) d = ap (λ x. (s ∷ x.0, x.1)) (split_end t ss d)
 
-target_end : (x : ExprTerm × Bool) (ss : List StepTerm) (n : List ℕ) → target_of nowhere x (ss ++ DotStep n NoArgs nowhere ∷ []) ≡ Some (MemberTarget (post_of nowhere x.0 ss) n nowhere)
-target_end (e, true) [] n = refl
-target_end (e, false) [] n = refl
-target_end (e, true) (s ∷ ss) n = ap (member_of nowhere e) (split_end s ss (DotStep n NoArgs nowhere))
-target_end (e, false) (s ∷ ss) n = ap (member_of nowhere e) (split_end s ss (DotStep n NoArgs nowhere))
+abbrev member_lead : ExprTerm × Bool → List StepTerm → List ℕ → Lead
+member_lead x ss n = Plain (post_of nowhere x.0 (ss ++ DotStep n NoArgs nowhere ∷ [])) (Some (MemberTarget (post_of nowhere x.0 ss) n nowhere))
+
+target_end : (x : ExprTerm × Bool) (ss : List StepTerm) (n : List ℕ) → each_lead (nowhere, (x, (ss ++ DotStep n NoArgs nowhere ∷ [], None))) ≡ member_lead x ss n
+target_end x [] n = refl
+target_end x (s ∷ ss) n = ap (λ z. Plain (post_of nowhere x.0 (s ∷ (ss ++ DotStep n NoArgs nowhere ∷ []))) (member_of nowhere x.0 z)) (split_end s ss (DotStep n NoArgs nowhere))
 
 module _ (i : Nested) where
   member_step : (n : List ℕ) → (step i).reads (plain class.Dot ∷ plain_name n ∷ []) (DotStep n NoArgs nowhere)
   unfolding step dot_step dot_rest name
-  member_step n = inl ((plain class.Dot, DotStep n NoArgs nowhere), (plain class.Dot ∷ [], plain_name n ∷ [], refl, (refl, refl),
-      inl ((record { text = n; place = nowhere }, None), (plain_name n ∷ [], [], refl, (plain_name n, (refl, refl), refl), inr (tt, refl, refl)), refl)), refl)
+  member_step n = inl (
+    (plain class.Dot, DotStep n NoArgs nowhere),
+    (
+      plain class.Dot ∷ [],
+      plain_name n ∷ [],
+      refl,
+      (refl, refl),
+      inl ((record { text = n; place = nowhere }, None), (plain_name n ∷ [], [], refl, (plain_name n, (refl, refl), refl), inr (tt, refl, refl)), refl),
+    ),
+    refl,
+  )
 
   path_other : (n : List ℕ) → (other_primary i).reads (plain_name n ∷ []) (PathExpr (record { names = n ∷ []; place = nowhere }), true)
   unfolding other_primary bare_expr named_expr name more_names
@@ -140,8 +145,9 @@ module _ (i : Nested) where
       let cut : all_spelled all ≡ w.front ++ (v ++ []) = spelled_append (print.post_first e) _ ∙ ap (λ z. z ++ last) w.cut ∙ append_assoc w.front w.rest last ∙ ap (λ z. w.front ++ z) (sym (append-nil v)) in
       let one : turns (step i) last (d ∷ []) = (last, [], refl, member_step n, refl) in
       let rd = of_lead_post i (all_spelled all) _ (series_reads i (all_spelled all) w.front v [] w.first (w.steps ++ d ∷ []) None cut (spelled_head all) (w.other c) (turns_append (step i) w.rest last w.steps (d ∷ []) w.turn one) refl) in
-      let target = target_end w.first w.steps n ∙ ap (λ z. Some (MemberTarget z n nowhere)) w.whole in
-      (post_of nowhere w.first.0 (w.steps ++ d ∷ []), subst (λ z. (lead i).reads (all_spelled all) (Plain (post_of nowhere w.first.0 (w.steps ++ d ∷ [])) z)) target rd)
+      let e2 = post_of nowhere w.first.0 (w.steps ++ d ∷ []) in
+      let target = target_end w.first w.steps n ∙ ap (λ z. Plain e2 (Some (MemberTarget z n nowhere))) w.whole in
+      (e2, subst (λ z. (lead i).reads (all_spelled all) z) target rd)
 
   pub bare_target_reads : (n : List ℕ) → LeadTarget (plain_name n ∷ []) (BareTarget n nowhere)
   bare_target_reads n = (_, of_lead_post i (plain_name n ∷ []) _ (series_reads i (plain_name n ∷ []) (plain_name n ∷ []) [] [] (PathExpr (record { names = n ∷ []; place = nowhere }), true) [] None refl refl (path_other n) refl refl))

@@ -20,3 +20,7 @@ pub mod AgainMappings
 pub mod AgainModule
 pub mod Lifts
 pub mod LiftsExprs
+pub mod LiftsChains
+pub mod LiftsStmts
+pub mod LiftsUnits
+pub mod Printed

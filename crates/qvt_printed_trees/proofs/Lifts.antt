@@ -1,11 +1,11 @@
 -- Tokens that are alike but for places are read as values that are alike but for places.
-use Rattle.std.proofs.Common.{◌≡◌, List, [], ◌∷◌, ◌++◌, map, Bool, true, false, ◌⊎◌, inl, inr, refl, sym, ap, ◌∙◌, subst, Option, Some, None, option_map, IsTrue, nat_eq, ◌||◌, ℕ}
+use Rattle.std.proofs.Common.{◌≡◌, List, [], ◌∷◌, ◌++◌, map, Bool, false, ◌⊎◌, inl, inr, refl, sym, ap, ◌∙◌, subst, Option, Some, None, option_map, IsTrue, nat_eq, ◌||◌, ℕ}
 use Rattle.qvt_base.specs.declared.numbers.Place.{Place}
-use Rattle.qvt_grammar.specs.Language.{Language, token, follow, then, either, many, turns, made, never, empty, maybe, marked, head_of, lastly, ended}
+use Rattle.qvt_grammar.specs.Language.{Language, token, follow, then, either, many, turns, made, empty, maybe, head_of, lastly}
 use Rattle.qvt_grammar.specs.Reader.{starts}
 use Rattle.qvt_parser_grammar.specs.Tokens.{Tok, is, of, code_of}
 use Rattle.qvt_parser_grammar.specs.Readers.{the, placed, nowhere}
-use Rattle.qvt_parser_grammar.specs.Series.{left, right, series, barring}
+use Rattle.qvt_parser_grammar.specs.Series.{left, right, series, finished, barring}
 use Rattle.qvt_parser_grammar.specs.declared.token.Class.{Class}
 use Rattle.qvt_printed_tokens.specs.Spelled.{unplaced}
 
@@ -48,12 +48,14 @@ both f g ab = (f ab.0, g ab.1)
 
 module _ {A B : Type 0} {b1 : A → A} {b2 : B → B} {l l2 : Language Tok A} where
   pub lifts_follow : (m m2 : A → Language Tok B) → Lifts b1 l l2 → ((a : A) → Lifts b2 (m (b1 a)) (m2 a)) → Lifts (both b1 b2) (follow l m) (follow l2 m2)
-  lifts_follow m m2 k j = record { lift = λ us ab rd. (
-      let w = cut us rd.0 rd.1 rd.2 in
-      let x = k.lift w.0 ab.0 (subst (λ z. l.reads z ab.0) (sym w.3) rd.3) in
-      let r = subst (λ z. (m ab.0).reads z ab.1) (sym w.4) rd.4 in
-      let y = (j x.0).lift w.1 ab.1 (subst (λ z. (m z).reads (map unplaced w.1) ab.1) (sym x.2) r) in
-      ((x.0, y.0), (w.0, w.1, w.2, x.1, y.1), λ i. (x.2 i, y.2 i))) }
+  lifts_follow m m2 k j = record {
+    lift = λ us ab rd. (
+        let w = cut us rd.0 rd.1 rd.2 in
+        let x = k.lift w.0 ab.0 (subst (λ z. l.reads z ab.0) (sym w.3) rd.3) in
+        let r = subst (λ z. (m ab.0).reads z ab.1) (sym w.4) rd.4 in
+        let y = (j x.0).lift w.1 ab.1 (subst (λ z. (m z).reads (map unplaced w.1) ab.1) (sym x.2) r) in
+        ((x.0, y.0), (w.0, w.1, w.2, x.1, y.1), λ i. (x.2 i, y.2 i)));
+  }
 
   pub lifts_then : {m m2 : Language Tok B} → Lifts b1 l l2 → Lifts b2 m m2 → Lifts (both b1 b2) (then l m) (then l2 m2)
   lifts_then {m = m} {m2 = m2} k j = lifts_follow (λ _. m) (λ _. m2) k (λ a. j)
@@ -66,16 +68,20 @@ module _ {A B : Type 0} {b1 : A → A} {b2 : B → B} {l l2 : Language Tok A} wh
 
 module _ {A : Type 0} {b : A → A} {l l2 : Language Tok A} where
   pub lifts_either : {m m2 : Language Tok A} → Lifts b l l2 → Lifts b m m2 → Lifts b (either l m) (either l2 m2)
-  lifts_either k j = record { lift = λ us a rd. elim rd [
+  lifts_either k j = record {
+    lift = λ us a rd. elim rd [
       | inl q ↦ (let x = k.lift us a q in (x.0, inl x.1, x.2))
       | inr q ↦ (let x = j.lift us a q in (x.0, inr x.1, x.2))
-    ] }
+    ];
+  }
 
   pub lifts_placed : Lifts b l l2 → Lifts (λ (x : Place × A). (nowhere, b x.1)) (placed l) (placed l2)
-  lifts_placed k = record { lift = λ us pa rd. (
-      let x = k.lift us pa.1 rd.0 in
-      let e : nowhere ≡ pa.0 = sym (rd.1 ∙ head_unplaced us) in
-      ((head_of (λ t. t.place) nowhere us, x.0), (x.1, refl), λ i. (e i, x.2 i))) }
+  lifts_placed k = record {
+    lift = λ us pa rd. (
+        let x = k.lift us pa.1 rd.0 in
+        let e : nowhere ≡ pa.0 = sym (rd.1 ∙ head_unplaced us) in
+        ((head_of (λ t. t.place) nowhere us, x.0), (x.1, refl), λ i. (e i, x.2 i)));
+  }
 
   lift_turns : Lifts b l l2 → (got : List A) (us : List Tok) → turns l (map unplaced us) got → (more : List A) × turns l2 us more × (map b more ≡ got)
   lift_turns k [] us rd = ([], no_tokens us rd, refl)
@@ -124,11 +130,25 @@ module _ {A : Type 0} {b : A → A} {l l2 : Language Tok A} where
 
 module _ {A B : Type 0} {f : A → A} {g : B → B} {l l2 : Language Tok (A ⊎ B)} where
   pub lifts_series : Lifts (bare_sum f g) l l2 → Lifts (both (map f) (option_map g)) (series l) (series l2)
-  lifts_series k = record { lift = λ us got rd. (
-      let w = cut us rd.0 rd.1 rd.2 in
-      let x = lift_turns (lifts_left k) got.0 w.0 (subst (λ z. turns (left l) z got.0) (sym w.3) rd.3) in
-      let y = lift_last (lifts_right k) got.1 w.1 (subst (λ z. lastly (right l) z got.1) (sym w.4) rd.4) in
-      ((x.0, y.0), (w.0, w.1, w.2, x.1, y.1), λ i. (x.2 i, y.2 i))) }
+  lifts_series k = record {
+    lift = λ us got rd. (
+        let w = cut us rd.0 rd.1 rd.2 in
+        let x = lift_turns (lifts_left k) got.0 w.0 (subst (λ z. turns (left l) z got.0) (sym w.3) rd.3) in
+        let y = lift_last (lifts_right k) got.1 w.1 (subst (λ z. lastly (right l) z got.1) (sym w.4) rd.4) in
+        ((x.0, y.0), (w.0, w.1, w.2, x.1, y.1), λ i. (x.2 i, y.2 i)));
+  }
+
+module _ {A B : Type 0} (f : A → A) (g : B → B) (l : Language Tok (A ⊎ B)) where
+  some_last : (us : List Tok) (xs : List A) (y : Option B) (got : List A × B) → (series l).reads us (xs, y) → both (map f) (option_map g) (xs, y) ≡ (got.0, Some got.1) → (b : List A × B) × (finished l).reads us b × (both (map f) g b ≡ got)
+  some_last us xs None got rd e = absurd (let z : None ≡ Some got.1 = (λ i. (e i).1) in cc)
+  some_last us xs (Some y) got rd e =
+      let z : Some (g y) ≡ Some got.1 = (λ i. (e i).1) in
+      let q : g y ≡ got.1 = cc in
+      ((xs, y), rd, λ i. ((e i).0, q i))
+
+module _ {A B : Type 0} {f : A → A} {g : B → B} {l l2 : Language Tok (A ⊎ B)} where
+  pub lifts_finished : Lifts (bare_sum f g) l l2 → Lifts (both (map f) g) (finished l) (finished l2)
+  lifts_finished k = record { lift = λ us got rd. (let x = (lifts_series k).lift us (got.0, Some got.1) rd in some_last f g l2 us x.0.0 x.0.1 got x.1 x.2) }
 
 -- lists that do not begin with certain tokens
 
@@ -142,6 +162,8 @@ starts_unplaced ks (t ∷ us) = of_unplaced ks t
 
 module _ {A : Type 0} {b : A → A} {l l2 : Language Tok A} where
   pub lifts_barring : (ks js : List ℕ) → ks ≡ js → Lifts b l l2 → Lifts b (barring (of ks) l) (barring (of js) l2)
-  lifts_barring ks js e k = record { lift = λ us a rd. (
-      let x = k.lift us a rd.0 in
-      (x.0, (x.1, subst (λ z. starts (of z) us ≡ false) e (sym (starts_unplaced ks us) ∙ rd.1)), x.2)) }
+  lifts_barring ks js e k = record {
+    lift = λ us a rd. (
+        let x = k.lift us a rd.0 in
+        (x.0, (x.1, subst (λ z. starts (of z) us ≡ false) e (sym (starts_unplaced ks us) ∙ rd.1)), x.2));
+  }

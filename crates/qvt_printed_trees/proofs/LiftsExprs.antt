@@ -1,21 +1,16 @@
 -- Names, types and expressions are read alike but for places.
-use Rattle.std.proofs.Common.{◌≡◌, ℕ, List, [], ◌∷◌, ◌++◌, map, Bool, true, false, ◌⊎◌, inl, inr, refl, sym, ap, ◌∙◌, Option, Some, None, option_map}
-use Rattle.qvt_base.specs.declared.numbers.Place.{Place}
-use Rattle.qvt_tree_types.specs.Tree.{TypeTerm, PathType, ExprTerm, ItemTerm, MapExpr, ResolveExpr, CallExpr, CollExpr, ObjectExpr, NewExpr, MapOf, ItemOf, ResolveOf, FilterOf, RangeTo}
-use Rattle.qvt_tree_types.specs.View.{exprs_of, items_of, stmts_of}
-use Rattle.qvt_tree_types.specs.declared.types.PathTree.{PathTree}
+use Rattle.std.proofs.Common.{◌≡◌, ℕ, List, ◌∷◌, map, Bool, inl, inr, refl, sym, ap, Option, Some, None, option_map}
+use Rattle.qvt_tree_types.specs.Tree.{PathType, ExprTerm, MapExpr, ResolveExpr, CollExpr, ObjectExpr, NewExpr, MapOf, ItemOf, ResolveOf, FilterOf}
 use Rattle.qvt_tree.specs.Shape.{nowhere, erase_path, erase_optional_path, erase_optional_variable, erase_type, erase_expr, erase_item, erase_range, erase_map_call, erase_resolve, erase_filter, erase_accumulator, erase_stmt, erase_target}
-use Rattle.qvt_parser_grammar.specs.Tokens.{Tok}
-use Rattle.qvt_parser_grammar.specs.declared.named.Named.{Named}
 use Rattle.qvt_parser_grammar.specs.declared.token.Class.TheVariants.{Name, Integer, Str, OpenRound, CloseRound, OpenBrace, CloseBrace, Comma, Semicolon, Colon, DoubleColon, DotDot, Bar, AtSign, EqualSign, BagWord, ElseWord, EndifWord, FalseWord, IfWord, InvResolveWord, InvResolveInWord, InvResolveOneWord, InvResolveOneInWord, LateWord, MapWord, NewWord, NullWord, ObjectWord, OrderedSetWord, ResolveAllWord, ResolveInWord, ResolveOneWord, ResolveOneInWord, ResultWord, SelfWord, SequenceWord, SetWord, ThenWord, TrueWord, XmapWord}
-use Rattle.qvt_parser_grammar.specs.Leads.{Lead, Plain, Each, EachPart}
+use Rattle.qvt_parser_grammar.specs.Leads.{Lead, Plain, Bracketed, Each}
 use Rattle.qvt_parser_grammar.specs.Grammar.{Nested, name, more_names, path, paths, unit_path, extent, kind_word, coll_type, typed, colon_type, expr, exprs, args, literal, word, named_expr, item, coll, if_expr, colon_path, object_head, object, new_expr, map_call, filter_head, bar_expr, filter, all_word, in_word, all_form, in_form, resolve, brackets, longer, bare_expr, other_primary, primary, accumulator, head_rest, more_exprs}
 use Rattle.qvt_parser_grammar.specs.Trees.{second, first, cons_of, nothing, inner, text_of, named_of, path_of, unit_path_of, coll_type_of, int_of, str_of, true_of, false_of, null_of, self_of, result_of, named_expr_of, coll_of, coll_kind, range_of, item_of, if_of, result_head, named_head, object_of, new_of, map_of, is_strict, all_of, in_of, resolve_of, no_name, named_type, filter_of, bare, bracketed, accumulator_of, expr_of}
 use Rattle.qvt_printed_tokens.specs.Spelled.{unplaced}
 use Rattle.qvt_printed_trees.proofs.Lifts.{Lifts, both, lifts_the, lifts_then, lifts_made, lifts_either, lifts_placed, lifts_many, lifts_maybe}
-use Rattle.qvt_printed_trees.proofs.AgainNames.{bare_named, texts, bare_texts, bare_last, bare_unit_path, bare_head, either_bare, named_bare}
-use Rattle.qvt_printed_trees.proofs.AgainExprs.{bare_exprs, bare_items, bare_stmts, bare_optional, bare_call, call_bare, range_bare, FilterHead, bare_filter, bare_either, filter_bare, Resolved, bare_resolved, there_same, filter_erased}
-use Rattle.qvt_printed_trees.proofs.AgainSteps.{HeadRest, bare_rest, bare_part}
+use Rattle.qvt_printed_trees.proofs.AgainNames.{bare_named, bare_texts, bare_last, bare_unit_path, bare_head, either_bare, named_bare}
+use Rattle.qvt_printed_trees.proofs.AgainExprs.{bare_exprs, bare_items, bare_stmts, bare_optional, bare_call, call_bare, range_bare, bare_filter, bare_either, filter_bare, bare_resolved, there_same, filter_erased}
+use Rattle.qvt_printed_trees.proofs.AgainSteps.{bare_rest, bare_part}
 
 pub lifts_name : Lifts bare_named name name
 unfolding name
@@ -83,10 +78,12 @@ lifts_in_word = lifts_either (lifts_the ResolveInWord) (lifts_either (lifts_the 
 
 abbrev pub bare_lead : Lead → Lead
 bare_lead (Plain e t) = Plain (erase_expr e) (option_map erase_target t)
+bare_lead (Bracketed e) = Bracketed (erase_expr e)
 bare_lead (Each e part) = Each (erase_expr e) (bare_part part)
 
 pub expr_bare : (x : Lead) → erase_expr (expr_of x) ≡ expr_of (bare_lead x)
 expr_bare (Plain e t) = refl
+expr_bare (Bracketed e) = refl
 expr_bare (Each e part) = refl
 
 abbrev pub bare_primary : ExprTerm × Bool → ExprTerm × Bool
@@ -134,7 +131,7 @@ module _ {i : Nested} (h : LiftsNested i) where
   unfolding coll
   lifts_coll = lifts_made coll_of (lifts_then lifts_kind_word (lifts_made {b2 = map erase_item} second (lifts_then (lifts_the OpenBrace) (lifts_either {b = map erase_item} (lifts_made nothing (lifts_the CloseBrace) (λ a. refl))
       (lifts_made first (lifts_then (lifts_made {b2 = map erase_item} cons_of (lifts_then lifts_item (lifts_many (lifts_made {b2 = erase_item} second (lifts_then (lifts_the Comma) lifts_item) (λ a. refl)))) (λ a. refl)) (lifts_the CloseBrace)) (λ a. refl)))) (λ a. refl)))
-    (λ a. ap (λ z. CollExpr (coll_kind a.0.class) z nowhere) (bare_items a.1))
+      (λ a. ap (λ z. CollExpr (coll_kind a.0.class) z nowhere) (bare_items a.1))
 
   lifts_if_expr : Lifts erase_expr (if_expr i) (if_expr i)
   unfolding if_expr

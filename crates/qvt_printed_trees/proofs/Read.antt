@@ -1,10 +1,8 @@
 -- What expressions are read as has a form, and is read again.
-use Rattle.std.proofs.Common.{◌≡◌, ℕ, zero, suc, ◌+◌, ◌≤◌, ◌<◌, List, [], ◌∷◌, ◌++◌, map, Bool, true, false, ◌⊎◌, inl, inr, refl, sym, ap, ◌∙◌, subst, Option, Some, None, arith}
-use Rattle.std.specs.Prelude.{⊤}
+use Rattle.std.proofs.Common.{◌≡◌, ℕ, zero, suc, ◌≤◌, ◌<◌, List, [], ◌∷◌, map, Bool, true, false, ◌⊎◌, inl, inr, refl, sym, ap, ◌∙◌, subst, None, arith}
 use Rattle.qvt_base.specs.declared.numbers.Place.{Place}
-use Rattle.qvt_tree_types.specs.Tree.{ExprTerm, LinkTerm, LinkTerms, LinkOf, MoreLinks, StepTerm, TargetTerm, IfExpr, ChainExpr, PrefixExpr, PostExpr}
+use Rattle.qvt_tree_types.specs.Tree.{ExprTerm, LinkTerm, LinkOf, MoreLinks, StepTerm, IfExpr, ChainExpr, PrefixExpr, PostExpr}
 use Rattle.qvt_tree_types.specs.View.{links_of}
-use Rattle.qvt_tree_types.specs.declared.words.Level.{Level}
 use Rattle.qvt_tree_types.specs.declared.words.BinaryOp.{BinaryOp}
 use Rattle.qvt_tree_types.specs.declared.words.BinaryOp.TheVariants as ops
 use Rattle.qvt_tree.specs.Shape.{nowhere, erase_expr, erase_link, erase_links}
@@ -12,22 +10,22 @@ use Rattle.qvt_grammar.specs.Language.{Language, turns}
 use Rattle.qvt_parser_grammar.specs.Tokens.{Tok}
 use Rattle.qvt_parser_grammar.specs.declared.token.Class.{Class}
 use Rattle.qvt_parser_grammar.specs.declared.token.Class.TheVariants as class
-use Rattle.qvt_parser_grammar.specs.Leads.{Lead, Plain, Each, EachPart}
-use Rattle.qvt_parser_grammar.specs.Trees.{post_of, target_of, post_lead, expr_of, prefix_lead, link_of, chain_of, binary_op}
+use Rattle.qvt_parser_grammar.specs.Leads.{Lead, Plain, Bracketed, Each}
+use Rattle.qvt_parser_grammar.specs.Trees.{expr_of, link_of, chain_of, binary_op}
 use Rattle.qvt_parser_grammar.specs.Grammar.{Nested, expr, brackets, bare_expr, if_expr, other_primary, primary, step, post, signed_post, pre, operator, link, links, chain, level_of, flagged}
 use Rattle.qvt_printer_layout.specs.Words as words
 use Rattle.qvt_printer.specs.Expressions as print
-use Rattle.qvt_printer.specs.Levels.{is_as_loose, is_chain, is_chain_or_prefix}
+use Rattle.qvt_printer.specs.Levels.{is_as_loose, is_chain_or_prefix}
 use Rattle.qvt_printed_tokens.specs.Spelled.{all_spelled}
 use Rattle.qvt_printed_trees.specs.Printable.{IsPrintableExpr, IsPrintableLink, ArePrintableLinks}
 use Rattle.qvt_printed_trees.proofs.Classes.{is_itself}
-use Rattle.qvt_printed_trees.proofs.Spelling.{plain, spelled_append}
-use Rattle.qvt_printed_trees.proofs.Again.{Again, any, again_word, again_one, again_the, again_turns}
+use Rattle.qvt_printed_trees.proofs.Spelling.{plain}
+use Rattle.qvt_printed_trees.proofs.Again.{Again, any, again_word, again_one, again_turns}
 use Rattle.qvt_printed_trees.proofs.AgainExprs.{AgainNested, Inside, again_bare_expr, again_if_expr, bare_basic}
 use Rattle.qvt_printed_trees.proofs.AgainSteps.{again_step}
-use Rattle.qvt_printed_trees.proofs.Forms.{index_of, index_back, rank, tight_operand, is_primary, is_basic, Bracket, NeedsBracket, Form, basic_form}
-use Rattle.qvt_printed_trees.proofs.ChainReads.{anyhow, pre_opens, operand_reads, flagged_reads}
-use Rattle.qvt_printed_trees.proofs.Good.{GoodSteps, GoodFirst, GoodPrimary, GoodOperand, GoodTarget, post_operand, good_target, signed_operand}
+use Rattle.qvt_printed_trees.proofs.Forms.{index_back, tight_operand, is_primary, is_basic, NeedsBracket, Form, basic_form, Bracket}
+use Rattle.qvt_printed_trees.proofs.ChainReads.{anyhow, pre_opens, operand_reads, shown_expr}
+use Rattle.qvt_printed_trees.proofs.Good.{GoodSteps, GoodPrimary, GoodOperand, BracketGood, post_operand, lead_expr, lead_bracket, signed_operand}
 
 basic_primary : (e : ExprTerm) → is_basic e ≡ true → is_primary e ≡ true
 basic_primary (IfExpr condition one_value other place) q = refl
@@ -73,6 +71,11 @@ pub bare_links : (ls : List LinkTerm) → links_of (map erase_link ls) ≡ erase
 bare_links [] = refl
 bare_links (l ∷ ls) = ap (MoreLinks (erase_link l)) (bare_links ls)
 
+-- what is read of an operand that is no chain
+record GoodLead (i : Nested) (x : Lead) : Type 0 where
+  operand : GoodOperand i 0 (expr_of x)
+  bracket : BracketGood i x
+
 module _ {i : Nested} (h : AgainNested i) where
   -- primaries
 
@@ -90,7 +93,7 @@ module _ {i : Nested} (h : AgainNested i) where
   basic_good : (ts : List Tok) (e : ExprTerm) → (bare_expr i).reads ts e → GoodPrimary i (e, true)
   basic_good ts e rd = let b = bare_basic i ts e rd in bare_good e (basic_primary e b) (λ o. basic_form i e b ((again_bare_expr h).again ts e rd o))
 
-  if_good : (ts : List Tok) (e : ExprTerm) → (if_expr i).reads ts e → GoodPrimary i (e, true)
+  pub if_good : (ts : List Tok) (e : ExprTerm) → (if_expr i).reads ts e → GoodPrimary i (e, true)
   unfolding if_expr
   if_good ts e rd =
       let whole = (again_if_expr h).again ts e rd in
@@ -113,23 +116,27 @@ module _ {i : Nested} (h : AgainNested i) where
 
   -- what stands before the operators
 
-  post_good : (ts : List Tok) (x : Lead) → (post i).reads ts x → GoodOperand i 0 (expr_of x)
+  post_good : (ts : List Tok) (x : Lead) → (post i).reads ts x → GoodLead i x
   unfolding post
   post_good ts x rd =
       let a = rd.0 in
       let w = rd.1.0 in
-      subst (λ z. GoodOperand i 0 (expr_of z)) (sym rd.2) (post_operand i a.0 a.1.0 a.1.1 (primary_good w.0 a.1.0 w.3) (steps_good a.1.1 w.1 w.4))
+      let g = primary_good w.0 a.1.0 w.3 in
+      subst (GoodLead i) (sym rd.2) (record {
+        operand = subst (GoodOperand i 0) (sym (lead_expr i a.0 a.1.0 a.1.1)) (post_operand i a.0 a.1.0 a.1.1 g (steps_good a.1.1 w.1 w.4));
+        bracket = lead_bracket i a.0 a.1.0 a.1.1 g;
+      })
 
   pub signed_good : (ts : List Tok) (x : Lead) → (signed_post i).reads ts x → (e : ExprTerm) × (x ≡ Plain e None) × GoodOperand i 0 e
   unfolding signed_post
   signed_good ts x rd =
       let a = rd.0 in
       let w = rd.1.0 in
-      (_, rd.2, signed_operand i a.0 a.1.0.0 a.1.0.1 (expr_of a.1.1) (post_good w.1 a.1.1 w.4))
+      (_, rd.2, signed_operand i a.0 a.1.0.0 a.1.0.1 (expr_of a.1.1) (post_good w.1 a.1.1 w.4).operand)
 
-  pre_good : (ts : List Tok) (x : Lead) → (pre i).reads ts x → GoodOperand i 0 (expr_of x)
+  pre_good : (ts : List Tok) (x : Lead) → (pre i).reads ts x → GoodLead i x
   unfolding pre
-  pre_good ts x rd = elim rd [ inl q ↦ (let w = signed_good ts x q in subst (λ z. GoodOperand i 0 (expr_of z)) (sym w.1) w.2) | inr q ↦ post_good ts x q ]
+  pre_good ts x rd = elim rd [ inl q ↦ (let w = signed_good ts x q in subst (GoodLead i) (sym w.1) (record { operand = w.2; bracket = tt })) | inr q ↦ post_good ts x q ]
 
 -- links and chains
 module _ {i : Nested} (k : ℕ) (lt : k < 8) (hk : (ts : List Tok) (x : Lead) → (chain k (pre i) (pre i)).reads ts x → GoodOperand i k (expr_of x)) where
@@ -149,9 +156,11 @@ module _ {i : Nested} (k : ℕ) (lt : k < 8) (hk : (ts : List Tok) (x : Lead) �
       let g = hk v x rx in
       let level = level_of k in
       let w = operand_reads i (pre i) anyhow (pre_opens i) level e (g.form o) (need_bracket e g o) (λ q. refl) in
-      let rd = subst (λ z. (chain z (pre i) (pre i)).reads (all_spelled (print.operand level e)) (Plain (erase_expr e) w.0)) (index_back k lt) w.1 in
-      ((plain (sign_class t.class), Plain (erase_expr e) w.0), (plain (sign_class t.class) ∷ [], all_spelled (print.operand level e), refl, (again_operator k lt).again u t ro tt, rd),
-        ap (λ z. LinkOf z (erase_expr e) nowhere) (sym (operator_kept (binary_op t.class))))
+      let rd = subst (λ z. (chain z (pre i) (pre i)).reads (all_spelled (print.operand level e)) w.0) (index_back k lt) w.1 in (
+        (plain (sign_class t.class), w.0),
+        (plain (sign_class t.class) ∷ [], all_spelled (print.operand level e), refl, (again_operator k lt).again u t ro tt, rd),
+        λ j. LinkOf (sym (operator_kept (binary_op t.class)) j) (sym (shown_expr (erase_expr e) w.0 w.2) j) nowhere,
+      )
 
   again_link : Again IsPrintableLink (print.link (level_of k)) erase_link (link k (chain k (pre i) (pre i))) (link k (chain k (pre i) (pre i)))
   unfolding link
@@ -162,8 +171,16 @@ module _ {i : Nested} (k : ℕ) (lt : k < 8) (hk : (ts : List Tok) (x : Lead) �
       let level = level_of k in
       let again = again_turns again_link (λ ls. ArePrintableLinks (links_of ls)) (λ a as' o. o) (λ ls. print.links level (links_of ls)) refl (λ a as'. refl) (l ∷ more) ts rd in
       record {
-        form = λ o. (g.form o.0, need_bracket e g o.0, (erase_link l, map erase_link more, ap (MoreLinks (erase_link l)) (bare_links more),
-          subst (λ z. turns (link z (chain z (pre i) (pre i))) (all_spelled (print.links level (links_of (l ∷ more)))) (map erase_link (l ∷ more))) (sym (index_back k lt)) (again o.1)));
+        form = λ o. (
+          g.form o.0,
+          need_bracket e g o.0,
+          (
+            erase_link l,
+            map erase_link more,
+            ap (MoreLinks (erase_link l)) (bare_links more),
+            subst (λ z. turns (link z (chain z (pre i) (pre i))) (all_spelled (print.links level (links_of (l ∷ more)))) (map erase_link (l ∷ more))) (sym (index_back k lt)) (again o.1),
+          ),
+        );
         tight = inl (let z = index_back k lt in omega arith);
       }
 
@@ -187,6 +204,7 @@ module _ {i : Nested} (p : Language Tok Lead) (first : Lead → Type 0) (operand
   chained_links : (k : ℕ) → k < 8 → ((ts : List Tok) (x : Lead) → (chain k (pre i) (pre i)).reads ts x → GoodOperand i k (expr_of x)) → (place : Place) (x : Lead) (ls : List LinkTerm) (ts : List Tok) → Chained i first k x → (links k (chain k (pre i) (pre i)) x).reads ts ls → Chained i first (suc k) (chain_of (level_of k) (place, (x, ls)))
   chained_links k lt hk place x [] ts c rd = chained_more k x c
   chained_links k lt hk place (Plain e t) (l ∷ more) ts c rd = inr (_, refl, chain_new k lt hk place e l more ts (chained_operand k (Plain e t) c) rd)
+  chained_links k lt hk place (Bracketed e) (l ∷ more) ts c rd = inr (_, refl, chain_new k lt hk place e l more ts (chained_operand k (Bracketed e) c) rd)
   chained_links k lt hk place (Each e part) (l ∷ more) ts c rd = absurd (let z : l ∷ more ≡ [] = rd.2 in cc)
 
   pub chain_good : ((k : ℕ) → k ≤ 8 → (ts : List Tok) (x : Lead) → (chain k (pre i) (pre i)).reads ts x → GoodOperand i k (expr_of x)) → ((ts : List Tok) (x : Lead) → p.reads ts x → first x) → (k : ℕ) → k ≤ 8 → (ts : List Tok) (x : Lead) → (chain k p (pre i)).reads ts x → Chained i first k x
@@ -198,21 +216,28 @@ module _ {i : Nested} (p : Language Tok Lead) (first : Lead → Type 0) (operand
       subst (Chained i first (suc k)) (sym rd.2) (chained_links k (omega arith) (hq k (omega arith)) a.0 a.1.0 a.1.1 w.1 (chain_good hq hp k (omega arith) w.0 a.1.0 w.3) w.4)
 
 module _ {i : Nested} (h : AgainNested i) where
-  abbrev Operands : Lead → Type 0
-  Operands x = GoodOperand i 0 (expr_of x)
+  lead_operand : (x : Lead) → GoodLead i x → GoodOperand i 0 (expr_of x)
+  lead_operand x g = g.operand
 
-  pre_chained : (k : ℕ) → k ≤ 8 → (ts : List Tok) (x : Lead) → (chain k (pre i) (pre i)).reads ts x → Chained i Operands k x
+  pre_chained : (k : ℕ) → k ≤ 8 → (ts : List Tok) (x : Lead) → (chain k (pre i) (pre i)).reads ts x → Chained i (GoodLead i) k x
   unfolding chain
   pre_chained zero le ts x rd = inl (pre_good h ts x rd)
   pre_chained (suc k) le ts x rd =
       let a = rd.0 in
       let w = rd.1.0 in
-      let own : (us : List Tok) (y : Lead) → (chain k (pre i) (pre i)).reads us y → GoodOperand i k (expr_of y) = λ us y ry. chained_operand (pre i) Operands (λ z q. q) k y (pre_chained k (omega arith) us y ry) in
-      subst (Chained i Operands (suc k)) (sym rd.2) (chained_links (pre i) Operands (λ y q. q) k (omega arith) own a.0 a.1.0 a.1.1 w.1 (pre_chained k (omega arith) w.0 a.1.0 w.3) w.4)
+      let own : (us : List Tok) (y : Lead) → (chain k (pre i) (pre i)).reads us y → GoodOperand i k (expr_of y) = λ us y ry. chained_operand (pre i) (GoodLead i) lead_operand k y (pre_chained k (omega arith) us y ry) in
+      subst (Chained i (GoodLead i) (suc k)) (sym rd.2) (chained_links (pre i) (GoodLead i) lead_operand k (omega arith) own a.0 a.1.0 a.1.1 w.1 (pre_chained k (omega arith) w.0 a.1.0 w.3) w.4)
 
   pub pre_chain_good : (k : ℕ) → k ≤ 8 → (ts : List Tok) (x : Lead) → (chain k (pre i) (pre i)).reads ts x → GoodOperand i k (expr_of x)
-  pre_chain_good k le ts x rd = chained_operand (pre i) Operands (λ y q. q) k x (pre_chained k le ts x rd)
+  pre_chain_good k le ts x rd = chained_operand (pre i) (GoodLead i) lead_operand k x (pre_chained k le ts x rd)
 
   pub flagged_good : (ts : List Tok) (x : Lead) → (flagged i).reads ts x → IsPrintableExpr (expr_of x) → Form i (expr_of x)
   unfolding flagged
   flagged_good ts x rd o = (pre_chain_good 8 (omega arith) ts x rd).form o
+
+  chained_bracket : (x : Lead) → Chained i (GoodLead i) 8 x → BracketGood i x
+  chained_bracket x c = elim c [ inl q ↦ q.bracket | inr q ↦ subst (BracketGood i) (sym q.1) tt ]
+
+  pub bracket_good : (ts : List Tok) (e : ExprTerm) → (flagged i).reads ts (Bracketed e) → IsPrintableExpr e → Bracket i e
+  unfolding flagged
+  bracket_good ts e rd o = chained_bracket (Bracketed e) (pre_chained 8 (omega arith) ts (Bracketed e) rd) o

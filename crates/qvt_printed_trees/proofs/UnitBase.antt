@@ -1,16 +1,14 @@
 -- What the units stand on: parts that are read with some nestings are read again with one more.
-use Rattle.std.proofs.Common.{◌≡◌, ℕ, zero, suc, List, [], ◌∷◌, ◌++◌, map, inl, inr, refl, sym, ap, ◌∙◌, subst, Option, Some, None}
-use Rattle.std.specs.Prelude.{⊤}
+use Rattle.std.proofs.Common.{ℕ, zero, suc, List, [], ◌∷◌, map, inl, refl, Some}
 use Rattle.qvt_base.specs.declared.numbers.Place.{Place}
 use Rattle.qvt_tree_types.specs.Tree.{ExprTerm, StmtTerm, ReturnStmt, SomeExpr}
 use Rattle.qvt_tree_types.specs.View.{stmts_of}
 use Rattle.qvt_tree.specs.Shape.{nowhere, erase_expr, erase_type, erase_stmt}
-use Rattle.qvt_grammar.specs.Language.{Language}
 use Rattle.qvt_parser_grammar.specs.Tokens.{Tok}
 use Rattle.qvt_parser_grammar.specs.declared.token.Class.TheVariants as class
 use Rattle.qvt_parser_grammar.specs.Leads.{Ended}
 use Rattle.qvt_parser_grammar.specs.Grammar.{Nested, expr, colon_type}
-use Rattle.qvt_parser_grammar.specs.Statements.{statements, block, return_stmt}
+use Rattle.qvt_parser_grammar.specs.Statements.{statements, return_stmt}
 use Rattle.qvt_parser_grammar.specs.Nesting.{nested}
 use Rattle.qvt_parser_grammar.proofs.GoodExprs.{good_expr, good_colon_type}
 use Rattle.qvt_parser_grammar.proofs.GoodBlocks.{loose_statements}
@@ -21,7 +19,7 @@ use Rattle.qvt_printed_trees.specs.Printable.{IsPrintableExpr, ArePrintableStmts
 use Rattle.qvt_printed_trees.proofs.Spelling.{plain}
 use Rattle.qvt_printed_trees.proofs.Again.{Again, any, again_sub}
 use Rattle.qvt_printed_trees.proofs.AgainNames.{again_colon_type}
-use Rattle.qvt_printed_trees.proofs.AgainExprs.{AgainNested, again_expr}
+use Rattle.qvt_printed_trees.proofs.AgainExprs.{again_expr}
 use Rattle.qvt_printed_trees.proofs.AgainNesting.{again_nested}
 use Rattle.qvt_printed_trees.proofs.Statements.{GoodStmts, statements_good, block_good, statements_again, block_again, return_good, bare_ended}
 

@@ -2,7 +2,7 @@
 -- its leftmost part, unless brackets are printed round it.
 use Rattle.std.specs.Prelude.{Bool, true, false, ◌≡◌, ⊤, List, [], ◌∷◌, if◌then◌else◌}
 use Rattle.qvt_tree_types.specs.Tree.{ExprTerm, ExprTerms, OptionalExpr, OptionalArgs, LinkTerm, LinkTerms, ItemTerm, RangeTerm, ItemTerms, MapTerm, ResolveTerm, FilterTerm, HeadTerm, AccumulatorTerm, StepTerm, StepTerms, TargetTerm, StmtTerm, StmtTerms, ElseTerm, ArmTerm, ArmTerms}
-use Rattle.qvt_tree_types.specs.Tree.{CallExpr, CollExpr, IfExpr, ObjectExpr, NewExpr, MapExpr, ResolveExpr, ChainExpr, PrefixExpr, PostExpr, NoExprs, MoreExprs, NoExpr, SomeExpr, NoArgs, SomeArgs, LinkOf, NoLinks, MoreLinks, ItemOf, NoRange, RangeTo, NoItems, MoreItems, MapOf, ResolveOf, NoFilter, FilterOf, NoHead, HeadOf, NoAccumulator, AccumulatorOf, DotStep, ArrowStep, DotMapStep, ArrowMapStep, DotResolveStep, ArrowResolveStep, NoSteps, MoreSteps, BareTarget, ResultTarget, MemberTarget, VarStmt, AssignStmt, ReturnStmt, ValueStmt, IfStmt, WhileStmt, ForEachStmt, NoStmts, MoreStmts, NoElse, ElseOf, ArmOf, NoArms, MoreArms}
+use Rattle.qvt_tree_types.specs.Tree.{CallExpr, CollExpr, IfExpr, ObjectExpr, NewExpr, MapExpr, ResolveExpr, ChainExpr, PrefixExpr, PostExpr, NoExprs, MoreExprs, NoExpr, SomeExpr, NoArgs, SomeArgs, LinkOf, NoLinks, MoreLinks, ItemOf, NoRange, RangeTo, NoItems, MoreItems, MapOf, ResolveOf, NoFilter, FilterOf, NoHead, HeadOf, NoAccumulator, AccumulatorOf, DotStep, ArrowStep, DotMapStep, ArrowMapStep, DotResolveStep, ArrowResolveStep, NoSteps, MoreSteps, MemberTarget, VarStmt, AssignStmt, ReturnStmt, ValueStmt, IfStmt, WhileStmt, ForEachStmt, NoStmts, MoreStmts, NoElse, ElseOf, ArmOf, NoArms, MoreArms}
 use Rattle.qvt_tree_types.specs.Module.{UnitTerm, ClassOf, MainOf, HelperOf, ConstructorOf, MappingOf, ModuleTerm}
 use Rattle.qvt_printer.specs.Levels.{is_as_loose, is_chain_or_prefix}
 
@@ -16,10 +16,6 @@ begins_with_if e = false
 abbrev pub target_begins_with_if : TargetTerm → Bool
 target_begins_with_if (MemberTarget object name place) = if is_chain_or_prefix object then false else begins_with_if object
 target_begins_with_if t = false
-
--- for the time being: the grammar does not read a source of a `forEach` that begins with `if`
-abbrev pub source_begins_with_if : ExprTerm → Bool
-source_begins_with_if e = if is_chain_or_prefix e then false else begins_with_if e
 
 -- the same of all statements inside, also of those in the bodies of object expressions
 abbrev mutual
@@ -107,7 +103,7 @@ abbrev mutual
   IsPrintableStmt (ValueStmt value place) = (begins_with_if value ≡ false) × IsPrintableExpr value
   IsPrintableStmt (IfStmt condition body arms otherwise place) = IsPrintableExpr condition × ArePrintableStmts body × ArePrintableArms arms × IsPrintableElse otherwise
   IsPrintableStmt (WhileStmt condition body place) = IsPrintableExpr condition × ArePrintableStmts body
-  IsPrintableStmt (ForEachStmt source name kind condition body place) = (source_begins_with_if source ≡ false) × IsPrintableExpr source × IsPrintableOptional condition × ArePrintableStmts body
+  IsPrintableStmt (ForEachStmt source name kind condition body place) = IsPrintableExpr source × IsPrintableOptional condition × ArePrintableStmts body
 
   pub ArePrintableStmts : StmtTerms → Type 0
   ArePrintableStmts NoStmts = ⊤
