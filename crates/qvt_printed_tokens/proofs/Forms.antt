@@ -3,7 +3,7 @@ use Rattle.std.proofs.Common.{List, [], ◌∷◌, Bool, ◌⊎◌, inl, inr, sy
 use Rattle.qvt_grammar.specs.Language.{Language, follow, then, either, turns, many, made, never, maybe, lastly}
 use Rattle.qvt_parser_grammar.specs.Tokens.{Tok, is}
 use Rattle.qvt_parser_grammar.specs.Readers.{the, placed}
-use Rattle.qvt_parser_grammar.specs.Series.{left, right, series, barring}
+use Rattle.qvt_parser_grammar.specs.Series.{left, right, series, finished, barring}
 use Rattle.qvt_parser_grammar.specs.declared.token.Class.{Class}
 use Rattle.qvt_parser_grammar.specs.declared.token.Class.TheVariants.{Name, Integer, Str}
 use Rattle.qvt_printed_tokens.proofs.Sound.{IsName, IsText, IsSmall}
@@ -114,3 +114,6 @@ pub each_series : {A B : Type 0} {p : A → Type 0} {q : B → Type 0} {l : Lang
 each_series h = record {
   all = λ ts got told rd. (let all = subst AllTold rd.2 told in (each_turns (each_left h) got.0 rd.0 (told_front rd.0 rd.1 all) rd.3, each_lastly (each_right h) got.1 rd.1 (told_back rd.0 rd.1 all) rd.4));
 }
+
+pub each_finished : {A B : Type 0} {p : A → Type 0} {q : B → Type 0} {l : Language Tok (A ⊎ B)} → Gives (OneOf p q) l → Gives (Both (AllOf p) q) (finished l)
+each_finished h = record { all = λ ts got told rd. (each_series h).all ts (got.0, Some got.1) told rd }

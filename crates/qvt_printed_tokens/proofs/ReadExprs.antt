@@ -10,7 +10,7 @@ use Rattle.qvt_parser_grammar.specs.Tokens.{Tok}
 use Rattle.qvt_parser_grammar.specs.declared.named.Named.{Named}
 use Rattle.qvt_parser_grammar.specs.declared.named.UnitPath.{UnitPath}
 use Rattle.qvt_parser_grammar.specs.declared.token.Class.TheVariants.{Name, Integer, Str, OpenRound, CloseRound, OpenBrace, CloseBrace, Comma, Colon, DoubleColon, DotDot, Bar, AtSign, BagWord, ElseWord, EndifWord, FalseWord, IfWord, InvResolveWord, InvResolveInWord, InvResolveOneWord, InvResolveOneInWord, LateWord, MapWord, NewWord, NullWord, ObjectWord, OrderedSetWord, ResolveAllWord, ResolveInWord, ResolveOneWord, ResolveOneInWord, ResultWord, SelfWord, SequenceWord, SetWord, ThenWord, TrueWord, XmapWord}
-use Rattle.qvt_parser_grammar.specs.Leads.{Lead, Plain, Each, EachPart}
+use Rattle.qvt_parser_grammar.specs.Leads.{Lead, Plain, Bracketed, Each, EachPart}
 use Rattle.qvt_parser_grammar.specs.Grammar.{Nested, name, more_names, path, paths, unit_path, extent, kind_word, coll_type, typed, colon_type, expr, exprs, args, literal, word, named_expr, item, coll, if_expr, colon_path, object_head, object, new_expr, map_call, filter_head, bar_expr, filter, all_word, in_word, all_form, in_form, resolve, brackets, longer, bare_expr, other_primary, primary, more_exprs}
 use Rattle.qvt_parser_grammar.specs.Trees.{second, first, cons_of, nothing, inner, text_of, named_of, path_of, unit_path_of, coll_kind, coll_type_of, int_of, str_of, true_of, false_of, null_of, self_of, result_of, named_expr_of, coll_of, range_of, item_of, if_of, result_head, named_head, object_of, new_of, is_strict, map_of, all_of, in_of, is_there, resolve_of, no_name, named_type, filter_of, bare, bracketed, expr_of}
 use Rattle.qvt_printer.specs.Expressions as print
@@ -43,6 +43,7 @@ pub record PartP (p : EachPart) : Type 0 where
 
 abbrev pub LeadP : Lead → Type 0
 LeadP (Plain e target) = ExprP e × IfThere TargetP target
+LeadP (Bracketed e) = ExprP e
 LeadP (Each e part) = ExprP e × PartP part
 
 -- what stands nested inside
@@ -125,6 +126,7 @@ of_object_head =
 
 pub expr_is : (x : Lead) → LeadP x → ExprP (expr_of x)
 expr_is (Plain e target) h = h.0
+expr_is (Bracketed e) h = h
 expr_is (Each e part) h = h.0
 
 module _ {i : Nested} (h : GivesNested i) where
@@ -185,7 +187,7 @@ module _ {i : Nested} (h : GivesNested i) where
       (λ a k. sound.kind_word (coll_kind a.0.class) (print.in_items (print.all_items false (items_of a.1))) (sound.in_items (print.all_items false (items_of a.1)) (sound.items a.1 k.1)))
       (each_then (each_any {l = kind_word}) (of_second (each_the OpenBrace) (each_either (of_nothing ItemP (each_the CloseBrace)) (of_first (of_cons ItemP (each_then of_item (each_many (of_second (each_the Comma) of_item)))) (each_the CloseBrace)))))
 
-  conditional_is : (c one other : ExprTerm) → ExprP c → ExprP one → ExprP other → Closed (print.conditional (print.expr c) (print.expr one) (print.expr other))
+  pub conditional_is : (c one other : ExprTerm) → ExprP c → ExprP one → ExprP other → Closed (print.conditional (print.expr c) (print.expr one) (print.expr other))
   conditional_is c one other k j g =
       let last = sound.and_more (print.expr other) (print.one class.EndifWord) (held_free (print.expr other) g) (refl, refl) in
       let middle = sound.and_more (print.expr one) (piece.Plain class.ElseWord ∷ (print.expr other ++ print.one class.EndifWord)) (held_free (print.expr one) j) (refl, last) in

@@ -10,9 +10,9 @@ use Rattle.qvt_grammar.specs.Language.{Language, made, empty}
 use Rattle.qvt_parser_grammar.specs.Tokens.{Tok}
 use Rattle.qvt_parser_grammar.specs.declared.named.Named.{Named}
 use Rattle.qvt_parser_grammar.specs.declared.token.Class.TheVariants.{Name, OpenRound, CloseRound, Semicolon, Dot, Arrow, Bar, EqualSign, MinusSign, ForEachWord, NotWord}
-use Rattle.qvt_parser_grammar.specs.Leads.{Lead, Plain, Each, EachPart}
+use Rattle.qvt_parser_grammar.specs.Leads.{Lead, Plain, Bracketed, Each, EachPart}
 use Rattle.qvt_parser_grammar.specs.Grammar.{Nested, dot_rest, dot_step, accumulator, head_rest, more_exprs, after_first, arrow_body, arrow_args, arrow_rest, step, post, signs, signed_post, pre, each_tail, lead_step, level_of, operator, link, links, chain, flagged, lead_post, lead_pre, lead}
-use Rattle.qvt_parser_grammar.specs.Trees.{second, dot_of, no_args, arrow_of, accumulator_of, expr_of, headed, with_first, more_steps as join_steps, stepped, post_of, split_last, member_of, target_of, bare_target, post_lead, each_lead, signed, prefix_lead, binary_op, link_of, chain_of, each_of, nothing}
+use Rattle.qvt_parser_grammar.specs.Trees.{second, dot_of, no_args, arrow_of, accumulator_of, expr_of, headed, with_first, more_steps as join_steps, stepped, post_of, split_last, member_of, bare_target, post_lead, each_lead, signed, prefix_lead, binary_op, link_of, chain_of, each_of, nothing}
 use Rattle.qvt_printer.specs.Expressions as print
 use Rattle.qvt_printer.specs.Levels.{is_as_loose, is_chain, is_chain_or_prefix}
 use Rattle.qvt_printer_layout.specs.declared.piece.Piece.{Piece}
@@ -78,7 +78,7 @@ stepped_is place (ResolveExpr r) ss h k = steps_after (ResolveExpr r) ss h k
 stepped_is place (ChainExpr l e ls p) ss h k = steps_after (ChainExpr l e ls p) ss h k
 stepped_is place (PrefixExpr b e p) ss h k = steps_after (PrefixExpr b e p) ss h k
 
-post_is : (place : Place) (e : ExprTerm) (ss : List StepTerm) → ExprP e → AllOf StepP ss → ExprP (post_of place e ss)
+pub post_is : (place : Place) (e : ExprTerm) (ss : List StepTerm) → ExprP e → AllOf StepP ss → ExprP (post_of place e ss)
 post_is place e [] h k = h
 post_is place e (s ∷ ss) h k = stepped_is place e (s ∷ ss) h k
 
@@ -123,14 +123,10 @@ bare_is (ChainExpr l e ls p) h = tt
 bare_is (PrefixExpr b e p) h = tt
 bare_is (PostExpr e ss p) h = tt
 
-target_is : (place : Place) (x : ExprTerm × Bool) (ss : List StepTerm) → ExprP x.0 → AllOf StepP ss → IfThere TargetP (target_of place x ss)
-target_is place (e, true) [] h k = bare_is e h
-target_is place (e, false) [] h k = tt
-target_is place (e, true) (s ∷ ss) h k = member_is place e (split_last s ss) h (split_is s ss k.0 k.1)
-target_is place (e, false) (s ∷ ss) h k = member_is place e (split_last s ss) h (split_is s ss k.0 k.1)
-
 post_lead_is : (a : Place × ((ExprTerm × Bool) × List StepTerm)) → ExprP a.1.0.0 → AllOf StepP a.1.1 → LeadP (post_lead a)
-post_lead_is (place, (x, ss)) h k = (post_is place x.0 ss h k, target_is place x ss h k)
+post_lead_is (place, ((e, true), [])) h k = (h, bare_is e h)
+post_lead_is (place, ((e, false), [])) h k = h
+post_lead_is (place, (x, (s ∷ ss))) h k = (post_is place x.0 (s ∷ ss) h k, member_is place x.0 (split_last s ss) h (split_is s ss k.0 k.1))
 
 each_lead_is : (a : Place × ((ExprTerm × Bool) × (List StepTerm × Option EachPart))) → ExprP a.1.0.0 → AllOf StepP a.1.1.0 → IfThere PartP a.1.1.1 → LeadP (each_lead a)
 each_lead_is (place, (x, (ss, None))) h k j = post_lead_is (place, (x, ss)) h k
@@ -172,6 +168,7 @@ of_link k h = each_made LinkP link_of (λ a j. sound.link (binary_op a.0.class) 
 
 of_links : (k : ℕ) {l : Language Tok Lead} → Gives LeadP l → (x : Lead) → Gives (AllOf LinkP) (links k l x)
 of_links k h (Plain e target) = each_many (of_link k h)
+of_links k h (Bracketed e) = each_many (of_link k h)
 of_links k h (Each e part) = each_made (AllOf LinkP) nothing (λ a j. tt) (each_any {l = empty})
 
 of_chain : (k : ℕ) {p q : Language Tok Lead} → Gives LeadP p → Gives LeadP q → Gives LeadP (chain k p q)
@@ -210,6 +207,7 @@ module _ {i : Nested} (h : GivesNested i) where
   of_after_first (Plain e (Some (ResultTarget place))) k = plainly e k.0
   of_after_first (Plain e (Some (MemberTarget object n place))) k = plainly e k.0
   of_after_first (Plain e None) k = plainly e k.0
+  of_after_first (Bracketed e) k = plainly e k
   of_after_first (Each e part) k = plainly e k.0
 
   of_arrow_body : Gives ArrowP (arrow_body i)
@@ -264,10 +262,10 @@ module _ {i : Nested} (h : GivesNested i) where
       each_made PartP each_of (λ a k. part_is (a.1.1.0, (a.1.1.1.0, (a.1.1.1.1.0, a.1.1.1.1.1.1))) k.1.1.0 k.1.1.1.0 k.1.1.1.1.0 k.1.1.1.1.1.1)
       (each_then (each_the ForEachWord) (each_then (each_the OpenRound) (each_then of_name (each_then (each_maybe (of_colon_type h)) (each_then (each_maybe (of_bar_expr h)) (each_then (each_the CloseRound) h.block))))))
 
-  abbrev TurnP : StepTerm ⊎ EachPart → Type 0
+  abbrev pub TurnP : StepTerm ⊎ EachPart → Type 0
   TurnP = OneOf StepP PartP
 
-  of_lead_step : Gives TurnP (lead_step i)
+  pub of_lead_step : Gives TurnP (lead_step i)
   unfolding lead_step
   of_lead_step =
       each_either (each_made TurnP inl (λ a k. k) of_dot_step) (of_second (each_the Arrow) (each_either (each_made TurnP inr (λ a k. k) of_each_tail) (each_made TurnP inl (λ a k. k) of_arrow_rest)))

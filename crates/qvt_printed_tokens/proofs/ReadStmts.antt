@@ -1,16 +1,18 @@
 -- What the productions of statements and blocks read from told tokens has sound pieces, at each nesting.
-use Rattle.std.proofs.Common.{ℕ, zero, suc, List, [], ◌∷◌, ◌++◌, Bool, refl, Option, Some, None}
+use Rattle.std.proofs.Common.{ℕ, zero, suc, List, [], ◌∷◌, ◌++◌, Bool, refl, Option, Some, None, ◌⊎◌, inl, inr}
 use Rattle.qvt_base.specs.declared.numbers.Place.{Place}
-use Rattle.qvt_tree_types.specs.Tree.{TypeTerm, ExprTerm, StmtTerm, VarStmt, AssignStmt, ReturnStmt, ValueStmt, IfStmt, WhileStmt, ForEachStmt, ArmTerm, ArmOf, TargetTerm}
+use Rattle.qvt_tree_types.specs.Tree.{TypeTerm, ExprTerm, IfExpr, StmtTerm, VarStmt, AssignStmt, ReturnStmt, ValueStmt, IfStmt, WhileStmt, ForEachStmt, ArmTerm, ArmOf, TargetTerm}
 use Rattle.qvt_tree_types.specs.View.{stmts_of, arms_of, optional_expr, optional_else}
-use Rattle.qvt_grammar.specs.Language.{empty}
+use Rattle.qvt_grammar.specs.Language.{empty, then, made, maybe}
+use Rattle.qvt_parser_grammar.specs.Readers.{the}
+use Rattle.qvt_parser_grammar.specs.Trees.{second, expr_of, post_of}
 use Rattle.qvt_parser_grammar.specs.Tokens.{Tok}
 use Rattle.qvt_parser_grammar.specs.declared.token.Class.TheVariants.{OpenRound, CloseRound, OpenBrace, CloseBrace, Semicolon, Becomes, PlusEqual, ElifWord, ElseWord, EndifWord, IfWord, ReturnWord, ThenWord, VarWord, WhileWord}
-use Rattle.qvt_parser_grammar.specs.Leads.{Lead, Plain, Each, EachPart, Ended}
+use Rattle.qvt_parser_grammar.specs.Leads.{Lead, Plain, Bracketed, Each, EachPart, Ended}
 use Rattle.qvt_parser_grammar.specs.Grammar.{Nested}
 use Rattle.qvt_parser_grammar.specs.Nesting.{nested}
-use Rattle.qvt_parser_grammar.specs.Statements.{condition, var_stmt, return_stmt, arm, else_part, if_stmt, while_stmt, assignment, semicolon, lead_tail, lead_stmt, statement, statements, block}
-use Rattle.qvt_parser_grammar.specs.StmtTrees.{var_of, return_of, arm_of, if_stmt_of, while_of, Turn, empty_turn, closed_turn, simple_turn, Tail, no_tail, plain_tail, lead_turn, is_adding, written, concat, last_of, ended_of, block_of}
+use Rattle.qvt_parser_grammar.specs.Statements.{condition, var_stmt, return_stmt, arm, else_part, branches, choice, if_rest, if_stmt, while_stmt, assignment, semicolon, lead_tail, lead_stmt, statement, statements, block}
+use Rattle.qvt_parser_grammar.specs.StmtTrees.{var_of, return_of, arm_of, Branches, Choice, if_made, if_stmt_of, while_of, Turn, empty_turn, closed_turn, simple_turn, Tail, no_tail, plain_tail, lead_turn, is_adding, written, concat, last_of, ended_of, block_of}
 use Rattle.qvt_printer.specs.Expressions as print
 use Rattle.qvt_printer.specs.Levels.{is_chain_or_prefix}
 use Rattle.qvt_printer_layout.specs.Words as words
@@ -18,11 +20,11 @@ use Rattle.qvt_printer_layout.specs.declared.piece.Piece.{Piece}
 use Rattle.qvt_printer_layout.specs.declared.piece.Piece.TheVariants as piece
 use Rattle.qvt_parser_grammar.specs.declared.token.Class.TheVariants as class
 use Rattle.qvt_printed_tokens.proofs.Sound.{IsName, held_free}
-use Rattle.qvt_printed_tokens.proofs.Forms.{Gives, Any, Both, AllOf, IfThere, OneOf, each_any, each_the, each_follow, each_then, each_made, each_either, each_many, each_maybe, each_placed, each_weaker, each_never, each_series}
+use Rattle.qvt_printed_tokens.proofs.Forms.{Gives, Any, Both, AllOf, IfThere, OneOf, each_any, each_the, each_follow, each_then, each_made, each_either, each_many, each_maybe, each_placed, each_weaker, each_never, each_series, each_finished}
 use Rattle.qvt_printed_tokens.proofs.Parts as sound
-use Rattle.qvt_printed_tokens.proofs.Parts.{Closed, Follows, TypeP, ExprP, TargetP, StmtP, ArmP}
-use Rattle.qvt_printed_tokens.proofs.ReadExprs.{PartP, LeadP, GivesNested, of_second, of_inner, of_name, of_typed, of_colon_type, of_expr}
-use Rattle.qvt_printed_tokens.proofs.ReadSteps.{of_flagged, of_lead}
+use Rattle.qvt_printed_tokens.proofs.Parts.{Closed, Follows, TypeP, ExprP, StepP, TargetP, StmtP, ArmP}
+use Rattle.qvt_printed_tokens.proofs.ReadExprs.{PartP, LeadP, GivesNested, of_second, of_inner, of_name, of_typed, of_colon_type, of_expr, expr_is, conditional_is}
+use Rattle.qvt_printed_tokens.proofs.ReadSteps.{post_is, of_flagged, of_lead_step, of_lead}
 
 -- statements by their parts
 optional_is : (e : Option ExprTerm) → IfThere ExprP e → Follows (print.optional (optional_expr e))
@@ -99,6 +101,7 @@ written_is place e None a h k j = value_stmt e place h
 
 lead_is : (a : Place × (Lead × Tail)) → LeadP a.1.0 → AssignedP a.1.1.0 → TurnP (lead_turn a)
 lead_is (place, ((Plain e target), (a, t))) h k = simple_is (written place e target a, t) (written_is place e target a h.0 h.1 k)
+lead_is (place, ((Bracketed e), (a, t))) h k = simple_is (ValueStmt e place, t) (value_stmt e place h)
 lead_is (place, ((Each e part), tail)) h k = (each_is e part place h.0 h.1, tt)
 
 all_and : (ss ts : List StmtTerm) → AllOf StmtP ss → AllOf StmtP ts → AllOf StmtP (ss ++ ts)
@@ -115,6 +118,16 @@ the_last (Some s) h = (h, tt)
 
 abbrev pub EndedP : Ended → Type 0
 EndedP x = AllOf StmtP x.stmts
+
+-- what stands after the expression that follows `if`
+abbrev BranchesP : Branches → Type 0
+BranchesP = Both (AllOf StmtP) (Both (AllOf ArmP) (Both (IfThere (AllOf StmtP)) Any))
+
+abbrev ChoiceP : Choice → Type 0
+ChoiceP = Both (Both ExprP ExprP) (Both (AllOf StepP) PartP)
+
+abbrev RestP : Branches ⊎ Choice → Type 0
+RestP = OneOf BranchesP ChoiceP
 
 module _ {i : Nested} (h : GivesNested i) where
   of_condition : Gives ExprP (condition i)
@@ -139,11 +152,34 @@ module _ {i : Nested} (h : GivesNested i) where
   unfolding else_part
   of_else_part = of_second (each_the ElseWord) h.block
 
+  of_branches : Gives BranchesP (branches i)
+  unfolding branches
+  of_branches = each_then h.block (each_then (each_many of_arm) (each_then (each_maybe of_else_part) (each_any {l = maybe (the EndifWord)})))
+
+  of_choice : Gives ChoiceP (choice i)
+  unfolding choice
+  of_choice = each_then (each_then (of_expr h) (of_inner (each_the ElseWord) (of_expr h) (each_the EndifWord))) (each_finished (of_lead_step h))
+
+  plainly : Gives RestP (made second (then (the ThenWord) (made inr (choice i))))
+  plainly = of_second (each_the ThenWord) (each_made RestP inr (λ a k. k) of_choice)
+
+  of_if_rest : (x : Lead) → Gives RestP (if_rest i x)
+  of_if_rest (Plain e target) = plainly
+  of_if_rest (Bracketed e) =
+      each_either (each_made RestP inl (λ a k. k) of_branches)
+      (of_second (each_the ThenWord) (each_either (each_made RestP inl (λ a k. k) of_branches) (each_made RestP inr (λ a k. k) of_choice)))
+  of_if_rest (Each e part) = plainly
+
+  if_made_is : (place : Place) (c : ExprTerm) (rest : Branches ⊎ Choice) → ExprP c → RestP rest → StmtP (if_made place c rest)
+  if_made_is place c (inl (body, (as_, (other, e)))) k j = if_is c body as_ other place k j.0 j.1.0 j.1.1.0
+  if_made_is place c (inr ((one, other), (steps, part))) k j =
+      each_is (post_of place (IfExpr c one other place) steps) part place (post_is place (IfExpr c one other place) steps (conditional_is h c one other k j.0.0 j.0.1) j.1.0) j.1.1
+
   of_if_stmt : Gives StmtP (if_stmt i)
   unfolding if_stmt
   of_if_stmt =
-      each_made StmtP if_stmt_of (λ a k. if_is a.1.1.0 a.1.1.1.1.0 a.1.1.1.1.1.0 a.1.1.1.1.1.1.0 a.0 k.1.0 k.1.1.1.0 k.1.1.1.1.0 k.1.1.1.1.1.0)
-      (each_placed (each_then (each_the IfWord) (each_then of_condition (each_then (each_maybe (each_the ThenWord)) (each_then h.block (each_then (each_many of_arm) (each_then (each_maybe of_else_part) (each_maybe (each_the EndifWord)))))))))
+      each_made StmtP if_stmt_of (λ a k. if_made_is a.0 (expr_of a.1.1.0) a.1.1.1 (expr_is a.1.1.0 k.1.0) k.1.1)
+      (each_placed (each_then (each_the IfWord) (each_follow (Both LeadP RestP) h.flagged (λ x f. each_weaker (of_if_rest x) (λ r. LeadP x × RestP r) (λ r g. (f, g))))))
 
   of_while_stmt : Gives StmtP (while_stmt i)
   unfolding while_stmt
@@ -159,6 +195,7 @@ module _ {i : Nested} (h : GivesNested i) where
   of_lead_tail : (x : Lead) → Gives TailP (lead_tail i x)
   of_lead_tail (Plain e None) = each_made TailP plain_tail (λ a k. (tt, tt)) (each_any {l = semicolon})
   of_lead_tail (Plain e (Some target)) = each_then (each_maybe of_assignment) (each_any {l = semicolon})
+  of_lead_tail (Bracketed e) = each_made TailP plain_tail (λ a k. (tt, tt)) (each_any {l = semicolon})
   of_lead_tail (Each e part) = each_made TailP no_tail (λ a k. (tt, tt)) (each_any {l = empty})
 
   of_lead_stmt : Gives TurnP (lead_stmt i)
