@@ -1,7 +1,7 @@
 #!/usr/bin/env bash
 # Parsing transformations of up to 262,144 bytes against reading their bytes alone, in one run: prints the times of reading
-# the tokens and of the whole, less that of reading the bytes, and what a byte takes. Each text comes also at a quarter of the
-# size. Wants the program of crates/qvt_parser_speed, and makes it where it is missing.
+# the tokens and of the whole, less that of reading the bytes, what a byte takes, and the time of printing what was read. Each
+# text comes also at a quarter of the size. Wants the program of crates/qvt_parser_speed, and makes it where it is missing.
 set -u
 here=$(cd "$(dirname "${BASH_SOURCE[0]}")/.." && pwd)
 work=$(mktemp -d)
@@ -18,12 +18,13 @@ measure() { # microseconds a run of $times runs
   echo $(((end - begin) / times / 1000))
 }
 tell() { # what the file is
-  local bytes least tokens tree
+  local bytes least tokens tree print
   bytes=$(wc -c <t.qvto)
   least=$(measure bytes)
   tokens=$(($(measure tokens) - least))
   tree=$(($(measure tree) - least))
-  echo "$1, $bytes bytes: bytes $least us, tokens $tokens us, tree $tree us, $(awk "BEGIN{printf \"%.1f\", 1000 * $tree / $bytes}") ns a byte"
+  print=$(($(measure print) - least - tree))
+  echo "$1, $bytes bytes: bytes $least us, tokens $tokens us, tree $tree us, $(awk "BEGIN{printf \"%.1f\", 1000 * $tree / $bytes}") ns a byte, print $print us"
 }
 # a text of so many bytes at most: what stands before, a piece again and again, what stands after
 texts() { # name, front, piece, end

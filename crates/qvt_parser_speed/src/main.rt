@@ -1,5 +1,6 @@
 //! Reads `t.qvto` of the working folder: with the word `bytes` its bytes alone, with the word `tokens`
-//! the tokens too, with any other words the transformation that it is.
+//! the tokens too, with the word `print` the transformation that it is, which is then printed, with any
+//! other words the transformation.
 #![tactic(auto)]
 
 ghost use Rattle.std.specs.Prelude.{◌+◌, ◌<◌, ◌^◌, length};
@@ -9,6 +10,7 @@ use qvt_base::real::DirFiles;
 use qvt_lexer::lexer::Lexer;
 use qvt_lexer::token::TokenKind;
 use qvt_parser::parse::parse;
+use qvt_printer::print::print;
 use std::alloc::Global;
 use std::env;
 use std::process::ExitCode;
@@ -22,6 +24,7 @@ enum Work {
     Bytes,
     Tokens,
     Tree,
+    Print,
 }
 
 /// What the first word after the program's name says.
@@ -33,6 +36,7 @@ fn work(rt: &(impl Env + AllocGlobal)) -> Work {
         return match word.as_str() {
             "bytes" => Work::Bytes,
             "tokens" => Work::Tokens,
+            "print" => Work::Print,
             _ => Work::Tree,
         };
     }
@@ -57,6 +61,16 @@ fn is_lexed(text: &str) -> bool
     false
 }
 
+/// Whether the text is a transformation, and its printed text is made.
+fn is_printed(alloc: Global, text: &str) -> bool
+    requires { length text.now + 1 < 2 ^ 32 }
+{
+    match parse(alloc, text) {
+        Ok(transformation) => print(alloc, &transformation).is_ok(),
+        Err(_) => false,
+    }
+}
+
 /// Whether the bytes are read.
 fn is_read(alloc: Global, bytes: &[u8], work: Work) -> bool {
     match str::from_utf8(bytes) {
@@ -64,6 +78,7 @@ fn is_read(alloc: Global, bytes: &[u8], work: Work) -> bool {
             Work::Bytes => true,
             Work::Tokens => is_lexed(text),
             Work::Tree => parse(alloc, text).is_ok(),
+            Work::Print => is_printed(alloc, text),
         },
         _ => false,
     }
