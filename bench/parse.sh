@@ -1,7 +1,8 @@
 #!/usr/bin/env bash
-# Parsing transformations of up to 262,144 bytes against reading their bytes alone, in one run: prints the times of reading
-# the tokens and of the whole, less that of reading the bytes, what a byte takes, and the time of printing what was read. Each
-# text comes also at a quarter of the size. Wants the program of crates/qvt_parser_speed, and makes it where it is missing.
+# Parsing transformations of up to 262,144 bytes against reading their bytes alone, in one run: prints the least times of
+# reading the tokens and the whole, less that of reading the bytes, what a byte takes, how many times the bytes' own time the
+# whole takes, and the time of printing what was read. Each text comes also at a tenth of the size. Wants the program of
+# crates/qvt_parser_speed, and makes it where it is missing.
 set -u
 here=$(cd "$(dirname "${BASH_SOURCE[0]}")/.." && pwd)
 work=$(mktemp -d)
@@ -9,13 +10,16 @@ trap 'rm -rf "$work"' EXIT
 program="$here/crates/qvt_parser_speed/out/qvt_parser_speed"
 [ -x "$program" ] || (cd "$here/crates/qvt_parser_speed" && rt run >/dev/null 2>&1)
 cd "$work" || exit 1
-times=${1:-10}
-measure() { # microseconds a run of $times runs
-  local begin end
-  begin=$(date +%s%N)
-  for _ in $(seq "$times"); do "$program" "$1" || exit 1; done
-  end=$(date +%s%N)
-  echo $(((end - begin) / times / 1000))
+times=${1:-15}
+measure() { # the least microseconds of $times runs
+  local begin took least=999999999
+  for _ in $(seq "$times"); do
+    begin=$(date +%s%N)
+    "$program" "$1" || exit 1
+    took=$((($(date +%s%N) - begin) / 1000))
+    [ "$took" -lt "$least" ] && least=$took
+  done
+  echo "$least"
 }
 tell() { # what the file is
   local bytes least tokens tree print
@@ -24,12 +28,12 @@ tell() { # what the file is
   tokens=$(($(measure tokens) - least))
   tree=$(($(measure tree) - least))
   print=$(($(measure print) - least - tree))
-  echo "$1, $bytes bytes: bytes $least us, tokens $tokens us, tree $tree us, $(awk "BEGIN{printf \"%.1f\", 1000 * $tree / $bytes}") ns a byte, print $print us"
+  echo "$1, $bytes bytes: bytes $least us, tokens $tokens us, tree $tree us, $(awk "BEGIN{printf \"%.1f ns a byte, %.1f times the bytes\", 1000 * $tree / $bytes, ($tree + $least) / $least}"), print $print us"
 }
 # a text of so many bytes at most: what stands before, a piece again and again, what stands after
 texts() { # name, front, piece, end
   local most
-  for most in 65536 262144; do
+  for most in 26214 262144; do
     awk -v most="$most" -v front="$2" -v piece="$3" -v end="$4" 'BEGIN{
       count = int((most - length(front) - length(end)) / length(piece))
       printf "%s", front
