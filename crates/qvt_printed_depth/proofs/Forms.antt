@@ -152,3 +152,9 @@ Prints f l = Gives (λ ts a. PStrong (f a) ts) l
 
 pub s_many : {A : Type 0} (f : A → List Piece) (fs : List A → List Piece) {l : Language Tok A} → fs [] ≡ [] → ((a : A) (as_ : List A) → fs (a ∷ as_) ≡ f a ++ fs as_) → Prints f l → Prints fs (many l)
 s_many f fs e g h = g_many (λ ts as_. PStrong (fs as_) ts) h (subst (λ z. PStrong z []) (sym e) strong_nil) (λ u v a as_ x y. subst (λ z. PStrong z (u ++ v)) (sym (g a as_)) (strong_more (f a) (fs as_) u v x y))
+
+pub s_maybe : {A : Type 0} (f : A → List Piece) (fs : Option A → List Piece) {l : Language Tok A} → fs None ≡ [] → ((a : A) → fs (Some a) ≡ f a) → Prints f l → Prints fs (maybe l)
+s_maybe {A} f fs e g h = g_weaker (g_maybe h) (λ ts a. PStrong (fs a) ts) cases where
+  cases : (ts : List Tok) (a : Option A) → Perhaps (λ us b. PStrong (f b) us) ts a → PStrong (fs a) ts
+  cases ts None k = subst (λ z. PStrong z ts) (sym e) (subst (PStrong []) (sym k) strong_nil)
+  cases ts (Some a) k = subst (λ z. PStrong z ts) (sym (g a)) k

@@ -1,12 +1,12 @@
 -- The classes of pieces and of tokens, and how both open and close items.
-use Rattle.std.proofs.Common.{◌≡◌, ℕ, List, [], ◌∷◌, ◌++◌, Bool, true, false, refl, sym, ap, ◌∙◌, subst, append_assoc}
+use Rattle.std.proofs.Common.{IsTrue, ◌≡◌, ℕ, List, [], ◌∷◌, ◌++◌, Bool, true, false, refl, sym, ap, ◌∙◌, subst, append_assoc}
 use Rattle.qvt_parser_grammar.specs.Tokens.{Tok}
 use Rattle.qvt_parser_grammar.specs.declared.token.Class.{Class}
 use Rattle.qvt_parser_grammar.specs.declared.token.Class.TheVariants as class
 use Rattle.qvt_printer_layout.specs.declared.piece.Piece.{Piece}
 use Rattle.qvt_printer_layout.specs.declared.piece.Piece.TheVariants.{Plain, Name, Integer, Quoted, Tight, Line, Indent, Dedent}
-use Rattle.qvt_printer.specs.Expressions.{in_round, in_block}
-use Rattle.qvt_printed_depth.proofs.Runs.{Still, AllStill, Word, Closing, Strong, Over, Inside, Ender, strong_nil, strong_then, strong_still, over_then, word_over, inside_over, round_inside, brace_inside, over_bare, ender_then, if_over, all_still_append}
+use Rattle.qvt_printer.specs.Expressions.{in_round, in_block, in_items, round_if}
+use Rattle.qvt_printed_depth.proofs.Runs.{Still, AllStill, Word, Closing, Strong, Over, Inside, Ender, strong_nil, strong_then, strong_still, over_then, word_over, inside_over, round_inside, brace_inside, over_bare, over_strong, ender_then, ender_endif, if_over, all_still_append}
 use Rattle.qvt_printed_depth.proofs.Turns.{Turns, Ends, turns_then, turns_inside, ends_append}
 
 abbrev pub piece_class : Piece → List Class
@@ -90,28 +90,58 @@ ends_more a b h = subst Ends (sym (pc_append a b)) (ends_append (pc a) (pc b) h)
 pub word_before : (o : Bool) (c k : Class) (ps : List Piece) (u v : List Tok) → Word c → Word k → tc u ≡ k ∷ [] → POver o ps v → PStrong (Plain c ∷ ps) (u ++ v)
 word_before o c k ps u v w g e h = subst (Strong (c ∷ pc ps)) (sym (tc_one u v e)) (word_over c k w g h)
 
--- before a closing bracket
-pub closed_after : (o g : Bool) (c : Class) (ps : List Piece) (v w : List Tok) → Closing c → tc w ≡ c ∷ [] → POver o ps v → PInside g (ps ++ (Plain c ∷ [])) (v ++ w)
-closed_after o g c ps v w k e h = subst (λ z. Inside g z (tc (v ++ w))) (sym (pc_append ps (Plain c ∷ []))) (subst (Inside g (pc ps ++ (c ∷ []))) (sym (tc_last v w e)) (inside_over g c k h))
+-- pieces with the closing bracket of an opened one
+abbrev pub Closes : Bool → Class → List Piece → List Tok → Type 0
+Closes g c ps ts = Inside g (pc ps ++ (c ∷ [])) (tc ts)
 
-pub closed_at_once : (g : Bool) (c : Class) (w : List Tok) → Closing c → tc w ≡ c ∷ [] → PInside g (Plain c ∷ []) w
-closed_at_once g c w k e = subst (Inside g (c ∷ [])) (sym e) (inside_over {o = false} g c {us = []} {ts = []} k (record { back_u = λ f s p. refl; back_t = λ f s p. refl; low = λ d fu ft su st p q j. strong_nil.low d fu ft su st j }))
+pub closes_after : (o g : Bool) (c : Class) (ps : List Piece) (v w : List Tok) → Closing c → tc w ≡ c ∷ [] → POver o ps v → Closes g c ps (v ++ w)
+closes_after o g c ps v w k e h = subst (Inside g (pc ps ++ (c ∷ []))) (sym (tc_last v w e)) (inside_over g c k h)
 
-pub rounded : (ps : List Piece) (u v : List Tok) → tc u ≡ class.OpenRound ∷ [] → PInside false ps v → PStrong (Plain class.OpenRound ∷ ps) (u ++ v)
-rounded ps u v e h = subst (Strong (class.OpenRound ∷ pc ps)) (sym (tc_one u v e)) (round_inside h)
+pub closes_at_once : (g : Bool) (c : Class) (w : List Tok) → Closing c → tc w ≡ c ∷ [] → Closes g c [] w
+closes_at_once g c w k e = subst (Inside g (c ∷ [])) (sym e) (inside_over g c k (over_strong true strong_nil))
 
-pub braced : (ps : List Piece) (u v : List Tok) → tc u ≡ class.OpenBrace ∷ [] → PInside true ps v → PStrong (Plain class.OpenBrace ∷ ps) (u ++ v)
-braced ps u v e h = subst (Strong (class.OpenBrace ∷ pc ps)) (sym (tc_one u v e)) (brace_inside h)
+pub closes_turns : (ps : List Piece) (v w : List Tok) → tc w ≡ class.CloseBrace ∷ [] → PTurns ps v → Closes true class.CloseBrace ps (v ++ w)
+closes_turns ps v w e h = subst (Inside true (pc ps ++ (class.CloseBrace ∷ []))) (sym (tc_last v w e)) (turns_inside h)
 
-pub in_brackets : (o : Bool) (ps : List Piece) (u v w : List Tok) → tc u ≡ class.OpenRound ∷ [] → POver o ps v → tc w ≡ class.CloseRound ∷ [] → PStrong (in_round ps) (u ++ (v ++ w))
-in_brackets o ps u v w e h k = rounded (ps ++ (Plain class.CloseRound ∷ [])) u (v ++ w) e (closed_after o false class.CloseRound ps v w (λ f s. refl) k h)
+pub in_brackets : (ps : List Piece) (u v : List Tok) → tc u ≡ class.OpenRound ∷ [] → Closes false class.CloseRound ps v → PStrong (in_round ps) (u ++ v)
+in_brackets ps u v e h = subst (λ z. Strong (class.OpenRound ∷ z) (tc (u ++ v))) (sym (pc_append ps (Plain class.CloseRound ∷ []))) (subst (Strong (class.OpenRound ∷ (pc ps ++ (class.CloseRound ∷ [])))) (sym (tc_one u v e)) (round_inside h))
+
+braces : (ps qs : List Piece) (u v : List Tok) → pc qs ≡ class.CloseBrace ∷ [] → tc u ≡ class.OpenBrace ∷ [] → Closes true class.CloseBrace ps v → PStrong (Plain class.OpenBrace ∷ (ps ++ qs)) (u ++ v)
+braces ps qs u v k e h = subst (λ z. Strong (class.OpenBrace ∷ z) (tc (u ++ v))) (sym (pc_append ps qs ∙ ap (λ z. pc ps ++ z) k)) (subst (Strong (class.OpenBrace ∷ (pc ps ++ (class.CloseBrace ∷ [])))) (sym (tc_one u v e)) (brace_inside h))
+
+pub in_braces : (ps : List Piece) (u v : List Tok) → tc u ≡ class.OpenBrace ∷ [] → Closes true class.CloseBrace ps v → PStrong (Plain class.OpenBrace ∷ (ps ++ (Plain class.CloseBrace ∷ []))) (u ++ v)
+in_braces ps u v e h = braces ps (Plain class.CloseBrace ∷ []) u v refl e h
+
+pub in_item_braces : (ps : List Piece) (u v : List Tok) → tc u ≡ class.OpenBrace ∷ [] → Closes true class.CloseBrace ps v → PStrong (in_items ps) (u ++ v)
+in_item_braces ps u v e h = braces ps (Tight ∷ Plain class.CloseBrace ∷ []) u v refl e h
+
+pub in_blocks : (ps : List Piece) (u v : List Tok) → tc u ≡ class.OpenBrace ∷ [] → Closes true class.CloseBrace ps v → PStrong (in_block ps) (u ++ v)
+in_blocks ps u v e h = braces ps (Dedent ∷ Line ∷ Plain class.CloseBrace ∷ []) u v refl e h
 
 pub without_brackets : (o p : Bool) (ps : List Piece) (u v w : List Tok) → tc u ≡ class.OpenRound ∷ [] → POver o ps v → tc w ≡ class.CloseRound ∷ [] → POver p ps (u ++ (v ++ w))
 without_brackets o p ps u v w e h k = subst (Over p (pc ps)) (sym (tc_one u (v ++ w) e ∙ ap (λ z. class.OpenRound ∷ z) (tc_last v w k))) (over_bare p h)
 
-pub blocked : (ps : List Piece) (u v w : List Tok) → tc u ≡ class.OpenBrace ∷ [] → PTurns ps v → tc w ≡ class.CloseBrace ∷ [] → PStrong (in_block ps) (u ++ (v ++ w))
-blocked ps u v w e h k = braced (Indent ∷ (ps ++ (Dedent ∷ Line ∷ Plain class.CloseBrace ∷ []))) u (v ++ w) e
-    (subst (λ z. Inside true z (tc (v ++ w))) (sym (pc_append ps (Dedent ∷ Line ∷ Plain class.CloseBrace ∷ []))) (subst (Inside true (pc ps ++ (class.CloseBrace ∷ []))) (sym (tc_last v w k)) (turns_inside h)))
-
 pub ends_block : (ps : List Piece) → Ends (pc (in_block ps))
 ends_block ps f = ends_more ps (Dedent ∷ Line ∷ Plain class.CloseBrace ∷ []) (λ g. refl) true
+
+-- a conditional
+pub if_whole : (o : Bool) (a b : List Piece) (u x y : List Tok) → tc u ≡ class.IfWord ∷ [] → POver o a x → Ender (pc b) (tc y) → POver true (Plain class.IfWord ∷ (a ++ b)) (u ++ (x ++ y))
+if_whole o a b u x y e h k = subst (Over true (class.IfWord ∷ pc (a ++ b))) (sym (tc_one u (x ++ y) e)) (moved (λ us ts. Over true (class.IfWord ∷ us) (class.IfWord ∷ ts)) a b x y (if_over h k))
+
+pub ender_last : (u : List Tok) → tc u ≡ class.EndifWord ∷ [] → Ender (class.EndifWord ∷ []) (tc u)
+ender_last u e = subst (Ender (class.EndifWord ∷ [])) (sym e) ender_endif
+
+-- brackets where they have to be
+pub round_is : (o b : Bool) (ps : List Piece) (ts : List Tok) → (IsTrue b → POver o (in_round ps) ts) → POver o ps ts → POver o (round_if b ps) ts
+round_is o true ps ts h k = h refl
+round_is o false ps ts h k = k
+
+-- what opens and closes nothing, before the rest
+pub quiet_both : (a b : List Piece) (x y : List Tok) → QuietPieces a → QuietToks x → PStrong b y → PStrong (a ++ b) (x ++ y)
+quiet_both a b x y h k j = strong_more a b x y (quiet_strong a x h k) j
+
+pub quiet_left : (a b : List Piece) (y : List Tok) → QuietPieces a → PStrong b y → PStrong (a ++ b) y
+quiet_left a b y h j = strong_more a b [] y (quiet_strong a [] h tt) j
+
+pub quiet_right : (b : List Piece) (x y : List Tok) → QuietToks x → PStrong b y → PStrong b (x ++ y)
+quiet_right b x y k j = strong_more [] b x y (quiet_strong [] x tt k) j
