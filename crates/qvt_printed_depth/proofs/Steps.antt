@@ -36,7 +36,7 @@ print_more : (old : StepTerms) (ss : List StepTerm) → print.steps (join_steps 
 print_more NoSteps ss = refl
 print_more (MoreSteps s old) ss = ap (λ z. print.step s ++ z) (print_more old ss) ∙ sym (append_assoc (print.step s) (print.steps old) (print.steps (steps_of ss)))
 
-stepped_expr : (place : Place) (e : ExprTerm) (ss : List StepTerm) → print.expr (stepped place e ss) ≡ print.post_first e ++ print.steps (steps_of ss)
+pub stepped_expr : (place : Place) (e : ExprTerm) (ss : List StepTerm) → print.expr (stepped place e ss) ≡ print.post_first e ++ print.steps (steps_of ss)
 stepped_expr place (PostExpr e old p) ss = ap (λ z. print.round_if (is_chain_or_prefix e) (print.expr e) ++ z) (print_more old ss) ∙ sym (append_assoc (print.round_if (is_chain_or_prefix e) (print.expr e)) (print.steps old) (print.steps (steps_of ss)))
 stepped_expr place _ ss = refl
 
@@ -75,14 +75,14 @@ bare_is o ts (PathExpr p) h = path_target o ts p.place p.names h
 bare_is o ts (ResultExpr p) h = h
 bare_is o ts _ h = tt
 
-clash : {X : Type 0} → false ≡ true → X
+pub clash : {X : Type 0} → false ≡ true → X
 clash h = absurd (let k : false ≡ true = h in cc)
 
-not_both : (b : Bool) → b ≡ false → IsTrue b → {X : Type 0} → X
+pub not_both : (b : Bool) → b ≡ false → IsTrue b → {X : Type 0} → X
 not_both true e h = clash (sym e)
 not_both false e h = clash h
 
-first_lead_is : (o : Bool) (ts : List Tok) (x : ExprTerm × Bool) → PrimaryIs o ts x → LeadIs is_chain_or_prefix o ts (first_lead x)
+pub first_lead_is : (o : Bool) (ts : List Tok) (x : ExprTerm × Bool) → PrimaryIs o ts x → LeadIs is_chain_or_prefix o ts (first_lead x)
 first_lead_is o ts (e, true) h = (h.0, (λ k. not_both (is_chain_or_prefix e) h.1 k), bare_is o ts e h.0)
 first_lead_is o ts (e, false) h = h
 
@@ -96,14 +96,14 @@ abbrev pub StepsAre : List Tok → List StepTerm → Type 0
 StepsAre ts [] = ts ≡ []
 StepsAre ts (s ∷ ss) = PStrong (print.steps (steps_of (s ∷ ss))) ts
 
-steps_strong : (ts : List Tok) (ss : List StepTerm) → StepsAre ts ss → PStrong (print.steps (steps_of ss)) ts
+pub steps_strong : (ts : List Tok) (ss : List StepTerm) → StepsAre ts ss → PStrong (print.steps (steps_of ss)) ts
 steps_strong ts [] h = subst (PStrong []) (sym h) (quiet_strong [] [] tt tt)
 steps_strong ts (s ∷ ss) h = h
 
-more_steps_are : (u v : List Tok) (s : StepTerm) (ss : List StepTerm) → PStrong (print.step s) u → StepsAre v ss → StepsAre (u ++ v) (s ∷ ss)
+pub more_steps_are : (u v : List Tok) (s : StepTerm) (ss : List StepTerm) → PStrong (print.step s) u → StepsAre v ss → StepsAre (u ++ v) (s ∷ ss)
 more_steps_are u v s ss h k = strong_more (print.step s) (print.steps (steps_of ss)) u v h (steps_strong v ss k)
 
-post_lead_is : (o : Bool) (u v : List Tok) (place : Place) (x : ExprTerm × Bool) (ss : List StepTerm) → PrimaryIs o u x → StepsAre v ss → LeadIs is_chain_or_prefix o (u ++ v) (post_lead (place, (x, ss)))
+pub post_lead_is : (o : Bool) (u v : List Tok) (place : Place) (x : ExprTerm × Bool) (ss : List StepTerm) → PrimaryIs o u x → StepsAre v ss → LeadIs is_chain_or_prefix o (u ++ v) (post_lead (place, (x, ss)))
 post_lead_is o u v place x [] h k = subst (λ z. LeadIs is_chain_or_prefix o z (first_lead x)) (sym (append-nil u) ∙ ap (λ z. u ++ z) (sym k)) (first_lead_is o u x h)
 post_lead_is o u v place x (s ∷ ss) h k =
     let whole = over_more o (print.post_first x.0) (print.steps (steps_of (s ∷ ss))) u v (primary_first o u x h) k in
@@ -120,7 +120,7 @@ signs_append : (ss old : List Sign) → print.signs (ss ++ old) ≡ print.signs 
 signs_append [] old = refl
 signs_append (s ∷ ss) old = ap (λ z. piece.Plain (words.prefix_sign s.op) ∷ z) (signs_append ss old)
 
-signed_expr : (place : Place) (ss : List Sign) (e : ExprTerm) → print.expr (signed place ss e) ≡ print.signs ss ++ print.prefixed e
+pub signed_expr : (place : Place) (ss : List Sign) (e : ExprTerm) → print.expr (signed place ss e) ≡ print.signs ss ++ print.prefixed e
 signed_expr place ss (PrefixExpr old e p) = ap (λ z. z ++ print.prefixed e) (signs_append ss old) ∙ append_assoc (print.signs ss) (print.signs old) (print.prefixed e)
 signed_expr place ss _ = refl
 
@@ -134,7 +134,7 @@ g_word c w = g_weaker (g_the c) (λ ts t. WordTok ts) (λ ts t h. (c, w, h.0))
 pub word_tok_before : (o : Bool) (c : Class) (ps : List Piece) (u v : List Tok) → Word c → WordTok u → POver o ps v → PStrong (piece.Plain c ∷ ps) (u ++ v)
 word_tok_before o c ps u v w k h = word_before o c k.0 ps u v w k.1 k.2 h
 
-abbrev SignsAre : List Tok → List Sign → Type 0
+abbrev pub SignsAre : List Tok → List Sign → Type 0
 SignsAre ts ss = (ps : List Piece) (v : List Tok) → POver true ps v → POver true (print.signs ss ++ ps) (ts ++ v)
 
 g_sign : Gives (λ ts s. WordTok ts) sign
@@ -148,10 +148,10 @@ g_more_signs : Gives SignsAre more_signs
 unfolding more_signs
 g_more_signs = g_many SignsAre g_sign (λ ps v h. h) (λ u w s ss h k ps v j. over_strong true (one_sign u w s ss h k ps v j))
 
-abbrev SomeSigns : List Tok → Sign × List Sign → Type 0
+abbrev pub SomeSigns : List Tok → Sign × List Sign → Type 0
 SomeSigns ts a = (ps : List Piece) (v : List Tok) → POver true ps v → PStrong (print.signs (a.0 ∷ a.1) ++ ps) (ts ++ v)
 
-g_signs : Gives SomeSigns signs
+pub g_signs : Gives SomeSigns signs
 unfolding signs
 g_signs = g_then SomeSigns g_sign g_more_signs one_sign
 
@@ -167,16 +167,16 @@ tests (suc (suc (suc (suc (suc (suc zero)))))) e = is_as_loose levels.Xor e
 tests (suc (suc (suc (suc (suc (suc (suc zero))))))) e = is_as_loose levels.Implies e
 tests (suc (suc (suc (suc (suc (suc (suc (suc k)))))))) e = false
 
-signed_test : (place : Place) (ss : List Sign) (e : ExprTerm) → tests 0 (signed place ss e) ≡ false
+pub signed_test : (place : Place) (ss : List Sign) (e : ExprTerm) → tests 0 (signed place ss e) ≡ false
 signed_test place ss (PrefixExpr old e p) = refl
 signed_test place ss _ = refl
 
-chain_loose : (e : ExprTerm) → IsTrue (tests 0 e) → IsTrue (is_chain_or_prefix e)
+pub chain_loose : (e : ExprTerm) → IsTrue (tests 0 e) → IsTrue (is_chain_or_prefix e)
 chain_loose (ChainExpr l e ls p) h = refl
 chain_loose (PrefixExpr ss e p) h = refl
 chain_loose _ h = clash h
 
-is_chain_or : (e : ExprTerm) → IsTrue (is_chain e) → IsTrue (is_chain_or_prefix e)
+pub is_chain_or : (e : ExprTerm) → IsTrue (is_chain e) → IsTrue (is_chain_or_prefix e)
 is_chain_or (ChainExpr l e ls p) h = refl
 is_chain_or _ h = clash h
 
@@ -205,11 +205,11 @@ not_chain (suc (suc (suc (suc (suc (suc zero)))))) _ h j = clash j
 not_chain (suc (suc (suc (suc (suc (suc (suc zero))))))) _ h j = clash j
 not_chain (suc (suc (suc (suc (suc (suc (suc (suc k)))))))) _ h j = clash j
 
-loose_step : (k : ℕ) (e : ExprTerm) → IsTrue (tests (suc k) e) → IsTrue (tests k e)
+pub loose_step : (k : ℕ) (e : ExprTerm) → IsTrue (tests (suc k) e) → IsTrue (tests k e)
 loose_step k (ChainExpr l e ls p) h = loose_up k l e ls p h
 loose_step k _ h = not_chain (suc k) _ refl h
 
-new_chain : (k : ℕ) (e : ExprTerm) (ls : LinkTerms) (p : Place) → IsTrue (tests (suc k) (ChainExpr (level_of k) e ls p)) → {X : Type 0} → X
+pub new_chain : (k : ℕ) (e : ExprTerm) (ls : LinkTerms) (p : Place) → IsTrue (tests (suc k) (ChainExpr (level_of k) e ls p)) → {X : Type 0} → X
 new_chain zero e ls p h = clash h
 new_chain (suc zero) e ls p h = clash h
 new_chain (suc (suc zero)) e ls p h = clash h
@@ -219,7 +219,7 @@ new_chain (suc (suc (suc (suc (suc zero))))) e ls p h = clash h
 new_chain (suc (suc (suc (suc (suc (suc zero)))))) e ls p h = clash h
 new_chain (suc (suc (suc (suc (suc (suc (suc k))))))) e ls p h = clash h
 
-same_test : (k : ℕ) (e : ExprTerm) → k < 8 → tests k e ≡ is_as_loose (level_of k) e
+pub same_test : (k : ℕ) (e : ExprTerm) → k < 8 → tests k e ≡ is_as_loose (level_of k) e
 same_test zero e h = refl
 same_test (suc zero) e h = refl
 same_test (suc (suc zero)) e h = refl
