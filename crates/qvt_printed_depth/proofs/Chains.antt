@@ -152,10 +152,19 @@ ArrowBody ts a = POver true (print.head a.0 ++ print.exprs false (exprs_of a.1))
 closing_round : Closing CloseRound
 closing_round f s = refl
 
-module _ {i : Nested} (h : GivesNested i) where
-  abbrev StepIs : List Tok → StepTerm → Type 0
-  StepIs ts s = PStrong (print.step s) ts
+abbrev pub each_rest : EachPart → List Piece
+each_rest p = piece.Plain class.Arrow ∷ piece.Plain class.ForEachWord ∷ (print.iterator p.name p.kind (print.condition_if p.condition) ++ print.block (stmts_of p.body))
 
+abbrev pub EachIs : List Tok → EachPart → Type 0
+EachIs ts p = PStrong (each_rest p) ts
+
+abbrev pub StepIs : List Tok → StepTerm → Type 0
+StepIs ts s = PStrong (print.step s) ts
+
+abbrev pub TurnOrEach : List Tok → StepTerm ⊎ EachPart → Type 0
+TurnOrEach = Either StepIs EachIs
+
+module _ {i : Nested} (h : GivesNested i) where
   s_args_if : Prints (λ es. print.args_if (optional_args es)) (maybe (args i))
   s_args_if = s_maybe (λ es. print.in_round (print.exprs false (exprs_of es))) (λ es. print.args_if (optional_args es)) refl (λ es. refl) (s_args h)
 
@@ -270,12 +279,6 @@ module _ {i : Nested} (h : GivesNested i) where
   g_flagged = g_weaker (g_chain 8 true g_pre g_pre) (LeadIs no_test true) (λ ts x k. weaker_test (tests 8) no_test true ts x (λ e t. t) k)
 
   -- at the front of a statement
-  abbrev pub each_rest : EachPart → List Piece
-  each_rest p = piece.Plain class.Arrow ∷ piece.Plain class.ForEachWord ∷ (print.iterator p.name p.kind (print.condition_if p.condition) ++ print.block (stmts_of p.body))
-
-  abbrev pub EachIs : List Tok → EachPart → Type 0
-  EachIs ts p = PStrong (each_rest p) ts
-
   regroup : (b n k c d e : List Tok) → (b ++ ((n ++ (k ++ c)) ++ d)) ++ e ≡ b ++ (n ++ (k ++ (c ++ (d ++ e))))
   regroup b n k c d e = append_assoc b ((n ++ (k ++ c)) ++ d) e ∙ ap (λ z. b ++ z) (append_assoc (n ++ (k ++ c)) d e ∙ append_assoc n (k ++ c) (d ++ e) ∙ ap (λ z. n ++ z) (append_assoc k c (d ++ e)))
 
@@ -299,9 +302,6 @@ module _ {i : Nested} (h : GivesNested i) where
             (iterated a.0.text a.1.0 a.1.1.0 a.1.1.1.1 u y.0 y1.0 y2.0 y3.0 y3.1 x.0 y.3 y1.3 y2.3 y3.3.0 y3.4)))
         (λ u v w a x y. quiet_both (piece.Plain class.Arrow ∷ piece.Plain class.ForEachWord ∷ []) (print.iterator a.1.0.text a.1.1.0 (print.condition_if (optional_expr a.1.1.1.0)) ++ print.block (stmts_of a.1.1.1.1.1)) u v ((λ f s. refl), ((λ f s. refl), tt)) x y))
       (λ ts a x. x)
-
-  abbrev pub TurnOrEach : List Tok → StepTerm ⊎ EachPart → Type 0
-  TurnOrEach = Either StepIs EachIs
 
   pub g_lead_step : Gives TurnOrEach (lead_step i)
   unfolding lead_step

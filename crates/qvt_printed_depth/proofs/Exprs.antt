@@ -185,6 +185,17 @@ PrimaryIs o ts (e, false) = POver o (print.expr e) ts × POver o (print.in_round
 closing_round : Closing CloseRound
 closing_round f s = refl
 
+-- conditionals
+abbrev pub else_pieces : ExprTerm → List Piece
+else_pieces other = piece.Plain class.ElseWord ∷ (print.expr other ++ print.one class.EndifWord)
+
+pub else_is : (u v w : List Tok) (other : ExprTerm) → tc u ≡ class.ElseWord ∷ [] → POver true (print.expr other) v → tc w ≡ class.EndifWord ∷ [] → Ender (pc (else_pieces other)) (tc (u ++ (v ++ w)))
+else_is u v w other x y z = subst (λ ts. Ender (pc (else_pieces other)) (tc ts)) (append_assoc u v w)
+    (ender_before (piece.Plain class.ElseWord ∷ print.expr other) (print.one class.EndifWord) (u ++ v) w (word_before true class.ElseWord class.ElseWord (print.expr other) u v ((λ f s. refl), refl) ((λ f s. refl), refl) x y) (ender_last w z))
+
+abbrev pub then_pieces : ExprTerm → List Piece
+then_pieces e = piece.Plain class.ThenWord ∷ print.expr e
+
 module _ {i : Nested} (h : GivesNested i) where
   s_coll_type : Prints print.type_of (coll_type i)
   unfolding coll_type
@@ -272,17 +283,6 @@ module _ {i : Nested} (h : GivesNested i) where
             (g_the CloseBrace) (λ u v is b x y. closes_after true true CloseBrace (print.all_items false (items_of is)) u v (λ f s. refl) y.0 x)))
         (λ u v b is x y. in_item_braces (print.all_items false (items_of is)) u v x.0 y))
       (λ u v k is x y. (quiet_both (piece.Plain (words.kind_word (coll_kind k.class)) ∷ []) (print.in_items (print.all_items false (items_of is))) u v (still_kind (coll_kind k.class), tt) x y, refl))) (λ ts a x. x)
-
-  -- conditionals
-  abbrev pub else_pieces : ExprTerm → List Piece
-  else_pieces other = piece.Plain class.ElseWord ∷ (print.expr other ++ print.one class.EndifWord)
-
-  pub else_is : (u v w : List Tok) (other : ExprTerm) → tc u ≡ class.ElseWord ∷ [] → POver true (print.expr other) v → tc w ≡ class.EndifWord ∷ [] → Ender (pc (else_pieces other)) (tc (u ++ (v ++ w)))
-  else_is u v w other x y z = subst (λ ts. Ender (pc (else_pieces other)) (tc ts)) (append_assoc u v w)
-      (ender_before (piece.Plain class.ElseWord ∷ print.expr other) (print.one class.EndifWord) (u ++ v) w (word_before true class.ElseWord class.ElseWord (print.expr other) u v ((λ f s. refl), refl) ((λ f s. refl), refl) x y) (ender_last w z))
-
-  abbrev then_pieces : ExprTerm → List Piece
-  then_pieces e = piece.Plain class.ThenWord ∷ print.expr e
 
   pub s_then_expr : Prints then_pieces (made second (then (the ThenWord) (expr i)))
   s_then_expr = g_second (λ ts e. PStrong (then_pieces e) ts) (g_the ThenWord) o_expr (λ u v a e x y. word_before true class.ThenWord class.ThenWord (print.expr e) u v ((λ f s. refl), refl) ((λ f s. refl), refl) x.0 y)

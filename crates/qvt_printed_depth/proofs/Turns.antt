@@ -96,14 +96,14 @@ pub leaves_endif : Leaves (EndifWord ∷ [])
 leaves_endif f base s r = rests_ended base s r
 
 -- a conditional statement
-pub turns_if : {us ts : List Class} (e : List Class) → Strong us ts → Ends us → Leaves e → Turns (IfWord ∷ us) (IfWord ∷ (ts ++ e))
-turns_if {us} {ts} e h g k = record {
-  back_u = λ s. h.back_u false (Bracket ∷ s);
+pub turns_if : {o : Bool} {us ts : List Class} (e : List Class) → Over o us ts → Ends us → Leaves e → Turns (IfWord ∷ us) (IfWord ∷ (ts ++ e))
+turns_if {o} {us} {ts} e h g k = record {
+  back_u = λ s. h.back_u false (Bracket ∷ s) tt;
   fresh_u = g false;
   back_t = λ f base s r. subst (Rests base) (sym (items_append false (after f s IfWord) ts e))
-      (k (fresh_after false ts) base (items_after false (after f s IfWord) ts) (subst (Rests base) (sym (h.back_t false (after f s IfWord))) (rests_if f base s r)));
+      (k (fresh_after false ts) base (items_after false (after f s IfWord) ts) (subst (Rests base) (sym (h.back_t false (after f s IfWord) (free_false o (after f s IfWord)))) (rests_if f base s r)));
   low = λ d ft su base st j r n l. (at_most d (Bracket ∷ su) st (under d su base st j r) l.0,
-      h.low d false false (Bracket ∷ su) (after ft st IfWord) (under d su base (after ft st IfWord) j (rests_if ft base st r)) n (below_front n false (after ft st IfWord) ts e l.1));
+      h.low d false false (Bracket ∷ su) (after ft st IfWord) tt (fits_false o (after ft st IfWord)) (under d su base (after ft st IfWord) j (rests_if ft base st r)) n (below_front n false (after ft st IfWord) ts e l.1));
 }
 
 pub ender_more : {a x b y : List Class} → Ender a x → Strong b y → Ender (a ++ b) (x ++ y)
