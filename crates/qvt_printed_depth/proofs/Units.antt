@@ -96,7 +96,7 @@ abbrev pub slack : Bool → ℕ
 slack true = 1
 slack false = 0
 
-slack_one : (b : Bool) → slack b ≤ 1
+pub slack_one : (b : Bool) → slack b ≤ 1
 slack_one true = omega arith
 slack_one false = omega arith
 
@@ -525,11 +525,11 @@ one_unit ts u h e k = subst (PWide e (printed.units (u ∷ []))) (append-nil ts)
 more_units : (u v : List Tok) (us : List UnitTerm) (uss : List (List UnitTerm)) → UnitsAre u us → UnitsAre v (units_of uss) → UnitsAre (u ++ v) (us ++ units_of uss)
 more_units u v us uss h k e j = subst (λ z. PWide e z (u ++ v)) (sym (units_append us (units_of uss))) (wide_more e (printed.units us) (printed.units (units_of uss)) u v (h e (enough_front e us (units_of uss) j)) (k e (enough_back e us (units_of uss) j)))
 
-pub ModuleIs : List Tok → ModuleTerm → Type 0
+abbrev pub ModuleIs : List Tok → ModuleTerm → Type 0
 ModuleIs ts m = (e : ℕ) → Enough e m.units → PWide e (module_pieces m) ts
 
 module_is : (x y z : List Tok) (types : List ModelType) (head : List ℕ × List ModelParam) (uss : List (List UnitTerm)) → PStrong (printed.model_types types) x → PStrong (header_pieces head) y → UnitsAre z (units_of uss) → ModuleIs (x ++ (y ++ z)) (module_of (types, (head, uss)))
-unfolding module_pieces ModuleIs
+unfolding module_pieces
 module_is x y z types head uss h k j e n = wide_after e (printed.model_types types) (header_pieces head ++ (piece.Line ∷ printed.units (units_of uss))) x (y ++ z) h (wide_after e (header_pieces head) (piece.Line ∷ printed.units (units_of uss)) y z k (j e n))
 
 pub g_transformation : {i : Nested} → GivesNested i → Gives ModuleIs (transformation i)
