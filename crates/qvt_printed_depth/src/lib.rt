@@ -1,2 +1,4 @@
 //! How deep printed texts are nested.
 #![tactic(auto)]
+
+pub mod law;
