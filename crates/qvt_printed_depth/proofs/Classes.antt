@@ -20,4 +20,3 @@ class_found _ = refl
 
 pub same_class : (c : Class) (t : Tok) → IsTrue (is c t) → t.class ≡ c
 same_class c t h = sym (class_found t.class) ∙ ap (class_at all_classes) (eqb-true (code_of t.class) (code_of c) h) ∙ class_found c
-

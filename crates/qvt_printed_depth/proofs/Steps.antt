@@ -107,9 +107,11 @@ pub post_lead_is : (o : Bool) (u v : List Tok) (place : Place) (x : ExprTerm × 
 post_lead_is o u v place x [] h k = subst (λ z. LeadIs is_chain_or_prefix o z (first_lead x)) (sym (append-nil u) ∙ ap (λ z. u ++ z) (sym k)) (first_lead_is o u x h)
 post_lead_is o u v place x (s ∷ ss) h k =
     let whole = over_more o (print.post_first x.0) (print.steps (steps_of (s ∷ ss))) u v (primary_first o u x h) k in
-    let cut = split_last s ss in
-    (subst (λ z. POver o z (u ++ v)) (sym (stepped_expr place x.0 (s ∷ ss))) whole, (λ t. not_both (is_chain_or_prefix (stepped place x.0 (s ∷ ss))) (stepped_test place x.0 (s ∷ ss)) t),
-    member_printed o (u ++ v) place x.0 cut (subst (λ z. POver o z (u ++ v)) (ap (λ z. print.post_first x.0 ++ z) (split_printed s ss) ∙ sym (append_assoc (print.post_first x.0) (print.steps (steps_of cut.0)) (print.step cut.1))) whole))
+    let cut = split_last s ss in (
+      subst (λ z. POver o z (u ++ v)) (sym (stepped_expr place x.0 (s ∷ ss))) whole,
+      (λ t. not_both (is_chain_or_prefix (stepped place x.0 (s ∷ ss))) (stepped_test place x.0 (s ∷ ss)) t),
+      member_printed o (u ++ v) place x.0 cut (subst (λ z. POver o z (u ++ v)) (ap (λ z. print.post_first x.0 ++ z) (split_printed s ss) ∙ sym (append_assoc (print.post_first x.0) (print.steps (steps_of cut.0)) (print.step cut.1))) whole),
+    )
 
 -- signs
 word_sign : (p : PrefixOp) → Word (words.prefix_sign p)

@@ -205,9 +205,9 @@ module _ {i : Nested} (h : GivesNested i) where
   unfolding var_stmt
   g_var_stmt = g_made Simple var_of (g_placed (g_then (λ ts a. PStrong (piece.Plain class.VarWord ∷ piece.Name a.1.0.text ∷ (print.typed_if a.1.1.0 ++ print.first_value (optional_expr a.1.1.1))) ts) (q_the VarWord (λ f s. refl))
       (g_then (λ ts a. PStrong (piece.Name a.0.text ∷ (print.typed_if a.1.0 ++ print.first_value (optional_expr a.1.1))) ts) q_name
-        (g_then (λ ts a. PStrong (print.typed_if a.0 ++ print.first_value (optional_expr a.1)) ts) (s_maybe print.typed (λ t. print.typed_if t) refl (λ t. refl) (s_colon_type h)) (s_maybe value_pieces (λ e. print.first_value (optional_expr e)) refl (λ e. refl) s_first_value)
-          (λ u v t e x y. strong_more (print.typed_if t) (print.first_value (optional_expr e)) u v x y))
-        (λ u v n a x y. quiet_both (piece.Name n.text ∷ []) (print.typed_if a.0 ++ print.first_value (optional_expr a.1)) u v ((λ f s. refl), tt) x y))
+      (g_then (λ ts a. PStrong (print.typed_if a.0 ++ print.first_value (optional_expr a.1)) ts) (s_maybe print.typed (λ t. print.typed_if t) refl (λ t. refl) (s_colon_type h)) (s_maybe value_pieces (λ e. print.first_value (optional_expr e)) refl (λ e. refl) s_first_value)
+      (λ u v t e x y. strong_more (print.typed_if t) (print.first_value (optional_expr e)) u v x y))
+      (λ u v n a x y. quiet_both (piece.Name n.text ∷ []) (print.typed_if a.0 ++ print.first_value (optional_expr a.1)) u v ((λ f s. refl), tt) x y))
       (λ u v w a x y. quiet_both (piece.Plain class.VarWord ∷ []) (piece.Name a.0.text ∷ (print.typed_if a.1.0 ++ print.first_value (optional_expr a.1.1))) u v ((λ f s. refl), tt) x y)))
       (λ ts a x. record { pieces = piece.Plain class.VarWord ∷ piece.Name a.1.1.0.text ∷ (print.typed_if a.1.1.1.0 ++ print.first_value (optional_expr a.1.1.1.1)); same = refl; over = over_strong false x })
 
@@ -220,8 +220,8 @@ module _ {i : Nested} (h : GivesNested i) where
   unfolding arm
   s_arm = g_made (λ ts a. PStrong (print.arm a) ts) arm_of (g_then (λ ts a. PStrong (print.arm (arm_of a)) ts) (q_the ElifWord (λ f s. refl))
       (g_then (λ ts a. PStrong (print.in_round (print.expr a.0) ++ print.block (stmts_of a.1.1)) ts) s_condition
-        (g_then (λ ts a. PStrong (print.block (stmts_of a.1)) ts) (q_maybe (q_the ThenWord (λ f s. refl))) h.block (λ u v t ss x y. quiet_right (print.block (stmts_of ss)) u v x y))
-        (λ u v e a x y. strong_more (print.in_round (print.expr e)) (print.block (stmts_of a.1)) u v x y))
+      (g_then (λ ts a. PStrong (print.block (stmts_of a.1)) ts) (q_maybe (q_the ThenWord (λ f s. refl))) h.block (λ u v t ss x y. quiet_right (print.block (stmts_of ss)) u v x y))
+      (λ u v e a x y. strong_more (print.in_round (print.expr e)) (print.block (stmts_of a.1)) u v x y))
       (λ u v w a x y. quiet_both (piece.Plain class.ElifWord ∷ []) (print.in_round (print.expr a.0) ++ print.block (stmts_of a.1.1)) u v ((λ f s. refl), tt) x y)) (λ ts a x. x)
 
   abbrev else_block : List StmtTerm → List Piece
@@ -326,7 +326,7 @@ module _ {i : Nested} (h : GivesNested i) where
   unfolding block
   s_block = g_made (λ ts ss. PStrong (print.block (stmts_of ss)) ts) block_of
       (g_weaker (g_split (g_the OpenBrace) (g_split g_statements (g_the CloseBrace))) (λ ts a. PStrong (print.block (stmts_of a.1.0.stmts)) ts)
-        (λ ts a x. let y = x.4 in subst (PStrong (print.block (stmts_of a.1.0.stmts))) (sym (x.2 ∙ ap (λ w. x.0 ++ w) y.2)) (in_blocks (print.stmts (stmts_of a.1.0.stmts)) x.0 (y.0 ++ y.1) x.3.0 (closes_turns (print.stmts (stmts_of a.1.0.stmts)) y.0 y.1 y.4.0 y.3))))
+      (λ ts a x. let y = x.4 in subst (PStrong (print.block (stmts_of a.1.0.stmts))) (sym (x.2 ∙ ap (λ w. x.0 ++ w) y.2)) (in_blocks (print.stmts (stmts_of a.1.0.stmts)) x.0 (y.0 ++ y.1) x.3.0 (closes_turns (print.stmts (stmts_of a.1.0.stmts)) y.0 y.1 y.4.0 y.3))))
       (λ ts a x. x)
 
 -- at each nesting
