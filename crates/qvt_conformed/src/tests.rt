@@ -1,11 +1,15 @@
 //! A library with its readers, loaded.
 
+ghost use Rattle.std.specs.Prelude.{[], None};
+ghost use Rattle.qvt_metamodel.specs.Added.{HasRoom};
+
 use crate::loading::{empty_store, load_text};
 use qvt_base::numbers::Oid;
 use qvt_base::seq::Seq;
 use qvt_base::text::Text;
 use qvt_checks::conditions::{are_named, can_assign};
 use qvt_meta::meta::read_meta;
+use qvt_metas::meta::Meta;
 use qvt_metas::metas::Metas;
 use qvt_model::id_table::IdTable;
 use qvt_store::extent::{Extent, ExtentList};
@@ -20,14 +24,20 @@ const LIBRARY: &str =
 const TWO_BOOKS: &str =
     "{\"objects\":[{\"class\":\"Book\",\"id\":\"b1\",\"slots\":{\"library\":\"l\",\"pages\":7}},{\"class\":\"Library\",\"id\":\"l\",\"slots\":{\"books\":[\"b2\",\"b1\"],\"title\":\"all\"}},{\"class\":\"Book\",\"id\":\"b2\",\"slots\":{\"library\":\"l\"}}]}";
 
+fn only(alloc: Global, meta: Meta) -> Option<Metas>
+    requires { HasRoom (record { metamodels = []; classes = []; features = []; element = None }) meta }
+{
+    let mut metas = Metas::new(alloc);
+    metas.add(meta).ok()?;
+    Some(metas)
+}
+
 fn library(alloc: Global) -> Option<Metas> {
     let meta = read_meta(alloc, LIBRARY.as_bytes()).ok()?;
-    let mut metas = Metas::new(alloc);
     if !meta.has_few() {
         return None;
     }
-    metas.add(meta).ok()?;
-    Some(metas)
+    only(alloc, meta)
 }
 
 fn two_models(alloc: Global) -> Option<ExtentList> {
