@@ -4,6 +4,9 @@
 //! only where it is the same. `bench/model.sh` times it.
 #![tactic(auto)]
 
+ghost use Rattle.std.specs.Prelude.{[], None};
+ghost use Rattle.qvt_metamodel.specs.Added.{HasRoom};
+
 use qvt_base::lists::Bytes;
 use qvt_base::outside::{Files, ReadAnswer};
 use qvt_base::real::DirFiles;
@@ -13,6 +16,7 @@ use qvt_checks::conditions::are_named;
 use qvt_conformed::loading::{empty_store, load_text, read_faultless, written_text};
 use qvt_json::value::read_value;
 use qvt_meta::meta::read_meta;
+use qvt_metas::meta::Meta;
 use qvt_metas::metas::Metas;
 use qvt_model::id_table::IdTable;
 use qvt_model::read::read_model;
@@ -31,14 +35,20 @@ fn first_word(rt: &(impl Env + AllocGlobal)) -> Option<String> {
     words.next()
 }
 
+fn only(alloc: Global, meta: Meta) -> Option<Metas>
+    requires { HasRoom (record { metamodels = []; classes = []; features = []; element = None }) meta }
+{
+    let mut metas = Metas::new(alloc);
+    metas.add(meta).ok()?;
+    Some(metas)
+}
+
 fn metas_of(alloc: Global, bytes: &[u8]) -> Option<Metas> {
     let meta = read_meta(alloc, bytes).ok()?;
-    let mut metas = Metas::new(alloc);
     if !meta.has_few() {
         return None;
     }
-    metas.add(meta).ok()?;
-    Some(metas)
+    only(alloc, meta)
 }
 
 fn one_model(alloc: Global) -> Option<ExtentList> {

@@ -4,11 +4,15 @@
 //! with an opposite, and a reference that is not unique. `bench/store.sh` times it.
 #![tactic(auto)]
 
+ghost use Rattle.std.specs.Prelude.{[], None};
+ghost use Rattle.qvt_metamodel.specs.Added.{HasRoom};
+
 use qvt_base::numbers::{ClassNo, FeatureNo, Oid};
 use qvt_base::seq::Seq;
 use qvt_base::text::Text;
 use qvt_checks::conditions::{are_named, can_assign, is_class_for};
 use qvt_meta::meta::read_meta;
+use qvt_metas::meta::Meta;
 use qvt_metas::metas::Metas;
 use qvt_store::extent::{Extent, ExtentList};
 use qvt_store::store::Store;
@@ -20,14 +24,20 @@ use std::{env, io};
 const NODES: &str =
     "{\"classes\":[{\"features\":[{\"name\":\"left\",\"opposite\":\"right\",\"type\":\"N\"},{\"name\":\"right\",\"opposite\":\"left\",\"type\":\"N\"},{\"containment\":true,\"name\":\"parts\",\"opposite\":\"whole\",\"type\":\"N\",\"upper\":\"*\"},{\"name\":\"whole\",\"opposite\":\"parts\",\"type\":\"N\"},{\"name\":\"likes\",\"type\":\"N\",\"unique\":false,\"upper\":\"*\"}],\"name\":\"N\"}],\"name\":\"P\"}";
 
+fn only(alloc: Global, meta: Meta) -> Option<Metas>
+    requires { HasRoom (record { metamodels = []; classes = []; features = []; element = None }) meta }
+{
+    let mut metas = Metas::new(alloc);
+    metas.add(meta).ok()?;
+    Some(metas)
+}
+
 fn metas_of(alloc: Global, text: &str) -> Option<Metas> {
     let meta = read_meta(alloc, text.as_bytes()).ok()?;
-    let mut metas = Metas::new(alloc);
     if !meta.has_few() {
         return None;
     }
-    metas.add(meta).ok()?;
-    Some(metas)
+    only(alloc, meta)
 }
 
 fn one_model(alloc: Global) -> Option<ExtentList> {
