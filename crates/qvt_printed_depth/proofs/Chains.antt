@@ -1,37 +1,29 @@
 -- The productions of steps, operands and chains read what prints no deeper.
-use Rattle.std.proofs.Common.{◌≡◌, ℕ, zero, suc, ◌≤◌, ◌<◌, List, [], ◌∷◌, ◌++◌, Bool, true, false, ◌⊎◌, inl, inr, refl, sym, ap, ◌∙◌, subst, append_assoc, append-nil, Option, Some, None, IsTrue, arith, nat_le, leb-true, le-leb, lit≤}
+use Rattle.std.proofs.Common.{◌≡◌, ℕ, zero, suc, ◌<◌, List, [], ◌∷◌, ◌++◌, Bool, true, false, ◌⊎◌, inl, inr, refl, sym, ap, ◌∙◌, subst, append_assoc, append-nil, Option, Some, None, IsTrue, arith}
 use Rattle.qvt_base.specs.declared.numbers.Place.{Place}
-use Rattle.qvt_tree_types.specs.Tree.{TypeTerm, ExprTerm, PathExpr, ResultExpr, ChainExpr, PrefixExpr, PostExpr, LinkTerm, LinkTerms, LinkOf, HeadTerm, HeadOf, AccumulatorTerm, StepTerm, DotStep, DotMapStep, ArrowMapStep, DotResolveStep, ArrowResolveStep, ArrowStep, StepTerms, NoSteps, MoreSteps, NoArgs, SomeArgs, BareTarget, ResultTarget, MemberTarget, TargetTerm, StmtTerm}
+use Rattle.qvt_tree_types.specs.Tree.{TypeTerm, ExprTerm, LinkTerm, HeadTerm, AccumulatorTerm, StepTerm, DotMapStep, ArrowMapStep, DotResolveStep, ArrowResolveStep, BareTarget, ResultTarget, MemberTarget, StmtTerm}
 use Rattle.qvt_tree_types.specs.View.{exprs_of, links_of, steps_of, stmts_of, optional_expr, optional_args, optional_accumulator}
-use Rattle.qvt_tree_types.specs.declared.types.PathTree.{PathTree}
-use Rattle.qvt_tree_types.specs.declared.words.Level.{Level}
-use Rattle.qvt_tree_types.specs.declared.words.Level.TheVariants as levels
 use Rattle.qvt_tree_types.specs.declared.words.BinaryOp.{BinaryOp}
 use Rattle.qvt_tree_types.specs.declared.words.BinaryOp.TheVariants as operators
-use Rattle.qvt_tree_types.specs.declared.words.PrefixOp.{PrefixOp}
-use Rattle.qvt_tree_types.specs.declared.words.PrefixOp.TheVariants as prefixes
-use Rattle.qvt_tree_types.specs.declared.words.Sign.{Sign}
-use Rattle.qvt_grammar.specs.Language.{Language, made, many, maybe, empty}
+use Rattle.qvt_grammar.specs.Language.{Language, made, many, maybe}
 use Rattle.qvt_parser_grammar.specs.Tokens.{Tok}
 use Rattle.qvt_parser_grammar.specs.Readers.{the}
-use Rattle.qvt_parser_grammar.specs.declared.named.Named.{Named}
 use Rattle.qvt_parser_grammar.specs.declared.token.Class.{Class}
 use Rattle.qvt_parser_grammar.specs.declared.token.Class.TheVariants as class
 use Rattle.qvt_parser_grammar.specs.declared.token.Class.TheVariants.{Name, OpenRound, CloseRound, Semicolon, Dot, Arrow, Bar, EqualSign, MinusSign, ForEachWord, NotWord, Star, PlusSign, LessSign, AtMost, GreaterSign, AtLeast, DoubleEqual, Diamond, BangEqual, AndWord, OrWord, XorWord, ImpliesWord}
 use Rattle.qvt_parser_grammar.specs.Leads.{Lead, Plain, Bracketed, Each, EachPart}
-use Rattle.qvt_parser_grammar.specs.Grammar.{Nested, args, dot_rest, dot_step, accumulator, head_rest, more_exprs, after_first, arrow_body, arrow_args, arrow_rest, step, post, sign, more_signs, signs, signed_post, pre, each_tail, lead_step, level_of, operator, link, links, chain, flagged, lead_post, lead_pre, lead}
-use Rattle.qvt_parser_grammar.specs.Trees.{second, dot_of, no_args, arrow_of, accumulator_of, expr_of, headed, with_first, more_steps as join_steps, stepped, post_of, split_last, member_of, bare_target, first_lead, post_lead, each_lead, signed, prefix_lead, not_of, minus_of, binary_op, link_of, chain_of, each_of, nothing}
+use Rattle.qvt_parser_grammar.specs.Grammar.{Nested, args, dot_rest, dot_step, accumulator, head_rest, more_exprs, after_first, arrow_body, arrow_args, arrow_rest, step, post, signed_post, pre, each_tail, lead_step, level_of, operator, link, links, chain, flagged, lead_post, lead_pre, lead}
+use Rattle.qvt_parser_grammar.specs.Trees.{second, dot_of, no_args, arrow_of, accumulator_of, expr_of, headed, with_first, post_lead, each_lead, signed, prefix_lead, binary_op, link_of, chain_of, each_of, nothing}
 use Rattle.qvt_printer.specs.Expressions as print
-use Rattle.qvt_printer.specs.Levels.{is_as_loose, is_chain, is_chain_or_prefix, tightness}
+use Rattle.qvt_printer.specs.Levels.{is_as_loose, is_chain, is_chain_or_prefix}
 use Rattle.qvt_printer_layout.specs.Words as words
 use Rattle.qvt_printer_layout.specs.declared.piece.Piece.{Piece}
 use Rattle.qvt_printer_layout.specs.declared.piece.Piece.TheVariants as piece
-use Rattle.qvt_printed_depth.proofs.Runs.{Still, Word, Closing, over_strong}
-use Rattle.qvt_printed_depth.proofs.Pieces.{pc, tc, PStrong, POver, QuietPieces, QuietToks, quiet_strong, strong_more, over_more, word_before, Closes, closes_after, closes_at_once, in_brackets, round_is, quiet_both, quiet_left, quiet_right}
-use Rattle.qvt_printed_depth.proofs.Forms.{Gives, One, Perhaps, Either, Split, g_the, g_empty, g_never, g_follow, g_then, g_split, g_made, g_second, g_first, g_either, g_maybe, g_many, g_placed, g_weaker, g_series, Quiet, q_the, Prints, s_many, s_maybe}
-use Rattle.qvt_printed_depth.proofs.Exprs.{q_name, each_pieces, IfTarget, LeadIs, no_test, GivesNested, lead_expr, PrimaryIs, s_colon_type, o_expr, s_more_exprs, first_is, ExprsIs, s_args, s_bar_expr, s_maybe_bar, s_map_call, s_resolve, o_other_primary, o_primary}
-
-use Rattle.qvt_printed_depth.proofs.Steps.{post_first_is, primary_first, StepsAre, steps_strong, more_steps_are, post_lead_is, signed_expr, SomeSigns, g_signs, WordTok, g_word, word_tok_before, tests, signed_test, chain_loose, is_chain_or, loose_step, new_chain, same_test, not_both}
+use Rattle.qvt_printed_depth.proofs.Runs.{Word, Closing, over_strong}
+use Rattle.qvt_printed_depth.proofs.Pieces.{tc, PStrong, POver, QuietToks, quiet_strong, strong_more, over_more, word_before, Closes, closes_after, closes_at_once, in_brackets, round_is, quiet_both, quiet_left, quiet_right}
+use Rattle.qvt_printed_depth.proofs.Forms.{Gives, Perhaps, Either, Split, g_the, g_empty, g_never, g_follow, g_then, g_split, g_made, g_second, g_first, g_either, g_many, g_placed, g_weaker, g_series, q_the, Prints, s_maybe}
+use Rattle.qvt_printed_depth.proofs.Exprs.{q_name, LeadIs, no_test, GivesNested, lead_expr, PrimaryIs, s_colon_type, o_expr, s_more_exprs, first_is, s_args, s_bar_expr, s_maybe_bar, s_map_call, s_resolve, o_other_primary, o_primary}
+use Rattle.qvt_printed_depth.proofs.Steps.{post_first_is, primary_first, StepsAre, steps_strong, more_steps_are, post_lead_is, signed_expr, g_signs, WordTok, g_word, word_tok_before, tests, signed_test, chain_loose, is_chain_or, loose_step, new_chain, same_test, not_both}
 
 -- a weaker test
 weaker_test : (p q : ExprTerm → Bool) (o : Bool) (ts : List Tok) (x : Lead) → ((e : ExprTerm) → IsTrue (q e) → IsTrue (p e)) → LeadIs p o ts x → LeadIs q o ts x
@@ -185,12 +177,12 @@ module _ {i : Nested} (h : GivesNested i) where
   unfolding accumulator
   s_accumulator = g_made (λ ts a. PStrong (print.accumulator a) ts) accumulator_of
       (g_second (λ ts a. PStrong (print.accumulator (accumulator_of a)) ts) (q_the Semicolon (λ f s. refl))
-        (g_then (λ ts a. PStrong (piece.Name a.0.text ∷ (print.typed a.1.0 ++ init_pieces a.1.1)) ts) q_name
-          (g_then (λ ts a. PStrong (print.typed a.0 ++ init_pieces a.1) ts) (s_colon_type h)
-            (g_second (λ ts e. PStrong (init_pieces e) ts) (g_the EqualSign) (o_expr h) (λ u v t e x y. word_before true class.EqualSign class.EqualSign (print.expr e) u v ((λ f s. refl), refl) ((λ f s. refl), refl) x.0 y))
-            (λ u v t e x y. strong_more (print.typed t) (init_pieces e) u v x y))
-          (λ u v n a x y. quiet_both (piece.Name n.text ∷ []) (print.typed a.0 ++ init_pieces a.1) u v ((λ f s. refl), tt) x y))
-        (λ u v t a x y. quiet_both (piece.Plain class.Semicolon ∷ []) (piece.Name a.0.text ∷ (print.typed a.1.0 ++ init_pieces a.1.1)) u v ((λ f s. refl), tt) x y))
+      (g_then (λ ts a. PStrong (piece.Name a.0.text ∷ (print.typed a.1.0 ++ init_pieces a.1.1)) ts) q_name
+      (g_then (λ ts a. PStrong (print.typed a.0 ++ init_pieces a.1) ts) (s_colon_type h)
+      (g_second (λ ts e. PStrong (init_pieces e) ts) (g_the EqualSign) (o_expr h) (λ u v t e x y. word_before true class.EqualSign class.EqualSign (print.expr e) u v ((λ f s. refl), refl) ((λ f s. refl), refl) x.0 y))
+      (λ u v t e x y. strong_more (print.typed t) (init_pieces e) u v x y))
+      (λ u v n a x y. quiet_both (piece.Name n.text ∷ []) (print.typed a.0 ++ init_pieces a.1) u v ((λ f s. refl), tt) x y))
+      (λ u v t a x y. quiet_both (piece.Plain class.Semicolon ∷ []) (piece.Name a.0.text ∷ (print.typed a.1.0 ++ init_pieces a.1.1)) u v ((λ f s. refl), tt) x y))
       (λ ts a x. x)
 
   -- what stands after the name of a head
@@ -208,7 +200,7 @@ module _ {i : Nested} (h : GivesNested i) where
   unfolding head_rest
   s_head_rest = g_then (λ ts a. PStrong (after_name a) ts) (s_maybe print.typed (λ t. print.typed_if t) refl (λ t. refl) (s_colon_type h))
       (g_then (λ ts a. PStrong (print.accumulator (optional_accumulator a.0) ++ (piece.Plain class.Bar ∷ print.expr a.1)) ts) (s_maybe print.accumulator (λ a. print.accumulator (optional_accumulator a)) refl (λ a. refl) s_accumulator) (s_bar_expr h)
-        (λ u v a e x y. strong_more (print.accumulator (optional_accumulator a)) (piece.Plain class.Bar ∷ print.expr e) u v x y))
+      (λ u v a e x y. strong_more (print.accumulator (optional_accumulator a)) (piece.Plain class.Bar ∷ print.expr e) u v x y))
       (λ u v t a x y. subst (λ z. PStrong z (u ++ v)) (after_name_is t a.0 a.1) (strong_more (print.typed_if t) (print.accumulator (optional_accumulator a.0) ++ (piece.Plain class.Bar ∷ print.expr a.1)) u v x y))
 
   -- after a lead, whatever its tokens are
@@ -241,7 +233,7 @@ module _ {i : Nested} (h : GivesNested i) where
   unfolding arrow_args
   s_arrow_args = g_second (λ ts a. PStrong (print.in_round (arrow_pieces a)) ts) (g_the OpenRound)
       (g_either (g_made ArrowEnd no_args (g_the CloseRound) (λ ts a x. closes_at_once false CloseRound ts closing_round x.0))
-        (g_first ArrowEnd o_arrow_body (g_the CloseRound) (λ u v a b x y. closes_after true false CloseRound (arrow_pieces a) u v closing_round y.0 x)))
+      (g_first ArrowEnd o_arrow_body (g_the CloseRound) (λ u v a b x y. closes_after true false CloseRound (arrow_pieces a) u v closing_round y.0 x)))
       (λ u v b a x y. in_brackets (arrow_pieces a) u v x.0 y)
 
   s_arrow_rest : Gives StepIs (arrow_rest i)
@@ -267,8 +259,11 @@ module _ {i : Nested} (h : GivesNested i) where
   unfolding signed_post
   g_signed_post o = g_made (LeadIs (tests 0) o) prefix_lead
       (g_placed (g_then (λ ts a. (place : Place) → LeadIs (tests 0) o ts (prefix_lead (place, a))) g_signs g_post
-        (λ u v ss x j k place. (subst (λ z. POver o z (u ++ v)) (sym (signed_expr place (ss.0 ∷ ss.1) (expr_of x))) (over_strong o (j (print.prefixed (expr_of x)) v (prefixed_is v x k))),
-          (λ t. not_both (tests 0 (signed place (ss.0 ∷ ss.1) (expr_of x))) (signed_test place (ss.0 ∷ ss.1) (expr_of x)) t), tt)))) (λ ts a f. f a.0)
+      (λ u v ss x j k place. (
+        subst (λ z. POver o z (u ++ v)) (sym (signed_expr place (ss.0 ∷ ss.1) (expr_of x))) (over_strong o (j (print.prefixed (expr_of x)) v (prefixed_is v x k))),
+        (λ t. not_both (tests 0 (signed place (ss.0 ∷ ss.1) (expr_of x))) (signed_test place (ss.0 ∷ ss.1) (expr_of x)) t),
+        tt,
+      )))) (λ ts a f. f a.0)
 
   g_pre : Gives (LeadIs (tests 0) true) (pre i)
   unfolding pre
@@ -289,18 +284,18 @@ module _ {i : Nested} (h : GivesNested i) where
       let whole = quiet_both (piece.Name n ∷ []) inside ns (k ++ c) ((λ f s. refl), tt) xn (strong_more (print.typed_if kind) (print.condition_if (optional_expr condition)) k c xk xc) in
       subst (PStrong (print.iterator n kind (print.condition_if (optional_expr condition)) ++ print.block (stmts_of body))) (regroup b ns k c d e)
       (strong_more (print.iterator n kind (print.condition_if (optional_expr condition))) (print.block (stmts_of body)) (b ++ ((ns ++ (k ++ c)) ++ d)) e
-        (in_brackets (piece.Name n ∷ inside) b ((ns ++ (k ++ c)) ++ d) xb (closes_after true false CloseRound (piece.Name n ∷ inside) (ns ++ (k ++ c)) d closing_round xd (over_strong true whole))) xe)
+      (in_brackets (piece.Name n ∷ inside) b ((ns ++ (k ++ c)) ++ d) xb (closes_after true false CloseRound (piece.Name n ∷ inside) (ns ++ (k ++ c)) d closing_round xd (over_strong true whole))) xe)
 
   g_each_tail : Gives EachIs (each_tail i)
   unfolding each_tail
   g_each_tail = g_made EachIs each_of
       (g_then (λ ts a. EachIs ts (each_of a)) (q_the ForEachWord (λ f s. refl))
-        (g_then (λ ts a. PStrong (print.iterator a.1.0.text a.1.1.0 (print.condition_if (optional_expr a.1.1.1.0)) ++ print.block (stmts_of a.1.1.1.1.1)) ts) (g_the OpenRound)
-          (g_split q_name (g_split (s_maybe print.typed (λ t. print.typed_if t) refl (λ t. refl) (s_colon_type h)) (g_split (s_maybe_bar h) (g_split (g_the CloseRound) h.block))))
-          (λ u v t a x y. let y1 = y.4 in let y2 = y1.4 in let y3 = y2.4 in
-            subst (λ z. PStrong (print.iterator a.0.text a.1.0 (print.condition_if (optional_expr a.1.1.0)) ++ print.block (stmts_of a.1.1.1.1)) (u ++ z)) (sym (y.2 ∙ ap (λ z. y.0 ++ z) (y1.2 ∙ ap (λ z. y1.0 ++ z) (y2.2 ∙ ap (λ z. y2.0 ++ z) y3.2))))
-            (iterated a.0.text a.1.0 a.1.1.0 a.1.1.1.1 u y.0 y1.0 y2.0 y3.0 y3.1 x.0 y.3 y1.3 y2.3 y3.3.0 y3.4)))
-        (λ u v w a x y. quiet_both (piece.Plain class.Arrow ∷ piece.Plain class.ForEachWord ∷ []) (print.iterator a.1.0.text a.1.1.0 (print.condition_if (optional_expr a.1.1.1.0)) ++ print.block (stmts_of a.1.1.1.1.1)) u v ((λ f s. refl), ((λ f s. refl), tt)) x y))
+      (g_then (λ ts a. PStrong (print.iterator a.1.0.text a.1.1.0 (print.condition_if (optional_expr a.1.1.1.0)) ++ print.block (stmts_of a.1.1.1.1.1)) ts) (g_the OpenRound)
+      (g_split q_name (g_split (s_maybe print.typed (λ t. print.typed_if t) refl (λ t. refl) (s_colon_type h)) (g_split (s_maybe_bar h) (g_split (g_the CloseRound) h.block))))
+      (λ u v t a x y. let y1 = y.4 in let y2 = y1.4 in let y3 = y2.4 in
+      subst (λ z. PStrong (print.iterator a.0.text a.1.0 (print.condition_if (optional_expr a.1.1.0)) ++ print.block (stmts_of a.1.1.1.1)) (u ++ z)) (sym (y.2 ∙ ap (λ z. y.0 ++ z) (y1.2 ∙ ap (λ z. y1.0 ++ z) (y2.2 ∙ ap (λ z. y2.0 ++ z) y3.2))))
+      (iterated a.0.text a.1.0 a.1.1.0 a.1.1.1.1 u y.0 y1.0 y2.0 y3.0 y3.1 x.0 y.3 y1.3 y2.3 y3.3.0 y3.4)))
+      (λ u v w a x y. quiet_both (piece.Plain class.Arrow ∷ piece.Plain class.ForEachWord ∷ []) (print.iterator a.1.0.text a.1.1.0 (print.condition_if (optional_expr a.1.1.1.0)) ++ print.block (stmts_of a.1.1.1.1.1)) u v ((λ f s. refl), ((λ f s. refl), tt)) x y))
       (λ ts a x. x)
 
   pub g_lead_step : Gives TurnOrEach (lead_step i)

@@ -1,7 +1,6 @@
 -- The productions of names, types and expressions read what prints no deeper.
-use Rattle.std.proofs.Common.{◌≡◌, ℕ, List, [], ◌∷◌, ◌++◌, map, Bool, true, false, ◌⊎◌, inl, inr, refl, sym, ap, ◌∙◌, subst, append_assoc, append-nil, Option, Some, None, IsTrue}
-use Rattle.qvt_base.specs.declared.numbers.Place.{Place}
-use Rattle.qvt_tree_types.specs.Tree.{TypeTerm, CollType, PathType, ExprTerm, MapExpr, ResolveExpr, CallExpr, CollExpr, PathExpr, RangeTerm, ItemTerm, MapTerm, ResolveTerm, ResolveOf, FilterTerm, NoFilter, FilterOf, TargetTerm, ForEachStmt, StmtTerm}
+use Rattle.std.proofs.Common.{◌≡◌, ℕ, List, [], ◌∷◌, ◌++◌, Bool, true, false, ◌⊎◌, inl, inr, refl, sym, subst, append_assoc, append-nil, Option, Some, None, IsTrue}
+use Rattle.qvt_tree_types.specs.Tree.{TypeTerm, PathType, ExprTerm, MapExpr, ResolveExpr, ItemTerm, FilterTerm, NoFilter, FilterOf, TargetTerm, ForEachStmt}
 use Rattle.qvt_tree_types.specs.View.{exprs_of, items_of, stmts_of, optional_expr, optional_range, optional_filter}
 use Rattle.qvt_tree_types.specs.declared.types.PathTree.{PathTree}
 use Rattle.qvt_tree_types.specs.declared.types.ObjectVar.{ObjectVar}
@@ -14,21 +13,20 @@ use Rattle.qvt_grammar.specs.Language.{Language, then, made, maybe}
 use Rattle.qvt_parser_grammar.specs.Tokens.{Tok}
 use Rattle.qvt_parser_grammar.specs.Readers.{the, nowhere}
 use Rattle.qvt_parser_grammar.specs.declared.named.Named.{Named}
-use Rattle.qvt_parser_grammar.specs.declared.named.UnitPath.{UnitPath}
 use Rattle.qvt_parser_grammar.specs.declared.token.Class.{Class}
 use Rattle.qvt_parser_grammar.specs.declared.token.Class.TheVariants as class
 use Rattle.qvt_parser_grammar.specs.declared.token.Class.TheVariants.{Name, Integer, Str, OpenRound, CloseRound, OpenBrace, CloseBrace, Comma, Colon, DoubleColon, DotDot, Bar, AtSign, BagWord, ElseWord, EndifWord, FalseWord, IfWord, InvResolveWord, InvResolveInWord, InvResolveOneWord, InvResolveOneInWord, LateWord, MapWord, NewWord, NullWord, ObjectWord, OrderedSetWord, ResolveAllWord, ResolveInWord, ResolveOneWord, ResolveOneInWord, ResultWord, SelfWord, SequenceWord, SetWord, ThenWord, TrueWord, XmapWord}
 use Rattle.qvt_parser_grammar.specs.Leads.{Lead, Plain, Bracketed, Each, EachPart}
 use Rattle.qvt_parser_grammar.specs.Grammar.{Nested, name, more_names, path, paths, unit_path, extent, kind_word, coll_type, typed, colon_type, expr, exprs, args, literal, word, named_expr, item, coll, if_expr, colon_path, object_head, object, new_expr, map_call, filter_head, bar_expr, filter, all_word, in_word, all_form, in_form, resolve, brackets, longer, bare_expr, other_primary, primary, more_exprs}
-use Rattle.qvt_parser_grammar.specs.Trees.{second, first, cons_of, nothing, text_of, named_of, path_of, unit_path_of, coll_kind, coll_type_of, int_of, str_of, true_of, false_of, null_of, self_of, result_of, named_expr_of, coll_of, range_of, item_of, if_of, result_head, named_head, object_of, new_of, is_strict, map_of, all_of, in_of, is_there, resolve_of, no_name, named_type, filter_of, bare, bracketed, expr_of}
+use Rattle.qvt_parser_grammar.specs.Trees.{second, cons_of, nothing, text_of, named_of, path_of, unit_path_of, coll_kind, coll_type_of, int_of, str_of, true_of, false_of, null_of, self_of, result_of, named_expr_of, coll_of, range_of, item_of, if_of, result_head, named_head, object_of, new_of, is_strict, map_of, all_of, in_of, is_there, resolve_of, no_name, named_type, filter_of, bare, bracketed, expr_of}
 use Rattle.qvt_printer.specs.Expressions as print
 use Rattle.qvt_printer.specs.Levels.{is_chain_or_prefix}
 use Rattle.qvt_printer_layout.specs.Words as words
 use Rattle.qvt_printer_layout.specs.declared.piece.Piece.{Piece}
 use Rattle.qvt_printer_layout.specs.declared.piece.Piece.TheVariants as piece
-use Rattle.qvt_printed_depth.proofs.Runs.{Still, AllStill, Closing, Strong, Ender, over_strong}
+use Rattle.qvt_printed_depth.proofs.Runs.{Still, AllStill, Closing, Ender, over_strong}
 use Rattle.qvt_printed_depth.proofs.Pieces.{pc, tc, PStrong, POver, QuietPieces, QuietToks, quiet_toks, quiet_pieces, quiet_strong, strong_more, over_more, ender_before, word_before, Closes, closes_after, closes_at_once, in_brackets, in_item_braces, without_brackets, if_whole, ender_last, quiet_both, quiet_left, quiet_right}
-use Rattle.qvt_printed_depth.proofs.Forms.{Gives, One, Perhaps, Either, g_the, g_then, g_made, g_second, g_first, g_inner, g_either, g_maybe, g_placed, g_weaker, Quiet, q_the, q_then, q_made, q_many, q_maybe, q_either, Prints, s_many, s_maybe}
+use Rattle.qvt_printed_depth.proofs.Forms.{Gives, Perhaps, Either, g_the, g_then, g_made, g_second, g_first, g_inner, g_either, g_maybe, g_placed, Quiet, q_the, q_then, q_made, q_many, q_maybe, q_either, Prints, s_many, s_maybe}
 
 -- what prints names opens and closes nothing
 pub still_names : (ns : List (List ℕ)) → QuietPieces (print.names ns)
@@ -202,8 +200,8 @@ module _ {i : Nested} (h : GivesNested i) where
   s_coll_type =
       g_made (λ ts t. PStrong (print.type_of t) ts) coll_type_of
       (g_then (λ ts a. PStrong (print.type_of (coll_type_of a)) ts) q_kind_word
-        (g_inner (λ ts t. PStrong (print.in_round (print.type_of t)) ts) (g_the OpenRound) h.kind (g_the CloseRound) (λ u v w b t c x y z. in_brackets (print.type_of t) u (v ++ w) x.0 (closes_after true false CloseRound (print.type_of t) v w closing_round z.0 (over_strong true y))))
-        (λ u v k t x y. quiet_both (piece.Plain (words.kind_word (coll_kind k.class)) ∷ []) (print.in_round (print.type_of t)) u v (still_kind (coll_kind k.class), tt) x y))
+      (g_inner (λ ts t. PStrong (print.in_round (print.type_of t)) ts) (g_the OpenRound) h.kind (g_the CloseRound) (λ u v w b t c x y z. in_brackets (print.type_of t) u (v ++ w) x.0 (closes_after true false CloseRound (print.type_of t) v w closing_round z.0 (over_strong true y))))
+      (λ u v k t x y. quiet_both (piece.Plain (words.kind_word (coll_kind k.class)) ∷ []) (print.in_round (print.type_of t)) u v (still_kind (coll_kind k.class), tt) x y))
       (λ ts a x. x)
 
   pub s_typed : Prints print.type_of (typed i)
@@ -243,7 +241,7 @@ module _ {i : Nested} (h : GivesNested i) where
   unfolding args
   s_args = g_second (λ ts es. PStrong (print.in_round (print.exprs false (exprs_of es))) ts) (g_the OpenRound)
       (g_either (g_made ArgsEnd nothing (g_the CloseRound) (λ ts a x. closes_at_once false CloseRound ts closing_round x.0))
-        (g_first ArgsEnd o_exprs (g_the CloseRound) (λ u v es b x y. closes_after true false CloseRound (print.exprs false (exprs_of es)) u v closing_round y.0 x)))
+      (g_first ArgsEnd o_exprs (g_the CloseRound) (λ u v es b x y. closes_after true false CloseRound (print.exprs false (exprs_of es)) u v closing_round y.0 x)))
       (λ u v b es x y. in_brackets (print.exprs false (exprs_of es)) u v x.0 y)
 
   named_is : (u v : List Tok) (n : Named) (r : List ExprTerm ⊎ List Named) → QuietToks u → Either (λ ts es. PStrong (print.in_round (print.exprs false (exprs_of es))) ts) (λ ts ns. QuietToks ts) v r → Bare (u ++ v) (named_expr_of (n, r))
@@ -278,10 +276,10 @@ module _ {i : Nested} (h : GivesNested i) where
   unfolding coll
   b_coll = g_made Bare coll_of (g_then (λ ts a. Bare ts (coll_of a)) q_kind_word
       (g_second (λ ts is. PStrong (print.in_items (print.all_items false (items_of is))) ts) (g_the OpenBrace)
-        (g_either (g_made ItemsEnd nothing (g_the CloseBrace) (λ ts a x. closes_at_once true CloseBrace ts (λ f s. refl) x.0))
-          (g_first ItemsEnd (g_made ItemsAre cons_of (g_then (λ ts a. ItemsAre ts (cons_of a)) o_item (s_many (λ x. piece.Plain class.Comma ∷ print.item x) (λ is. print.all_items true (items_of is)) refl (λ e es. refl) comma_item) (λ u v t is x y. over_more true (print.item t) (print.all_items true (items_of is)) u v x y)) (λ ts a x. x))
-            (g_the CloseBrace) (λ u v is b x y. closes_after true true CloseBrace (print.all_items false (items_of is)) u v (λ f s. refl) y.0 x)))
-        (λ u v b is x y. in_item_braces (print.all_items false (items_of is)) u v x.0 y))
+      (g_either (g_made ItemsEnd nothing (g_the CloseBrace) (λ ts a x. closes_at_once true CloseBrace ts (λ f s. refl) x.0))
+      (g_first ItemsEnd (g_made ItemsAre cons_of (g_then (λ ts a. ItemsAre ts (cons_of a)) o_item (s_many (λ x. piece.Plain class.Comma ∷ print.item x) (λ is. print.all_items true (items_of is)) refl (λ e es. refl) comma_item) (λ u v t is x y. over_more true (print.item t) (print.all_items true (items_of is)) u v x y)) (λ ts a x. x))
+      (g_the CloseBrace) (λ u v is b x y. closes_after true true CloseBrace (print.all_items false (items_of is)) u v (λ f s. refl) y.0 x)))
+      (λ u v b is x y. in_item_braces (print.all_items false (items_of is)) u v x.0 y))
       (λ u v k is x y. (quiet_both (piece.Plain (words.kind_word (coll_kind k.class)) ∷ []) (print.in_items (print.all_items false (items_of is))) u v (still_kind (coll_kind k.class), tt) x y, refl))) (λ ts a x. x)
 
   pub s_then_expr : Prints then_pieces (made second (then (the ThenWord) (expr i)))
@@ -291,29 +289,29 @@ module _ {i : Nested} (h : GivesNested i) where
   unfolding if_expr
   o_if_expr = g_made (λ ts e. POver true (print.expr e) ts × (is_chain_or_prefix e ≡ false)) if_of
       (g_placed (g_then (λ ts a. POver true (print.conditional (print.expr a.1.0) (print.expr a.1.1.0) (print.expr a.1.1.1)) ts) (g_the IfWord)
-        (g_then (λ ts a. (u : List Tok) → tc u ≡ IfWord ∷ [] → POver true (print.conditional (print.expr a.0) (print.expr a.1.0) (print.expr a.1.1)) (u ++ ts)) o_expr
-          (g_then (λ ts a. Ender (pc (then_pieces a.0 ++ else_pieces a.1)) (tc ts)) s_then_expr
-            (g_inner (λ ts e. Ender (pc (else_pieces e)) (tc ts)) (g_the ElseWord) o_expr (g_the EndifWord) (λ u v w b e c x y z. else_is u v w e x.0 y z.0))
-            (λ u v e g x y. ender_before (then_pieces e) (else_pieces g) u v x y))
-          (λ v w c eg x y u e. if_whole true (print.expr c) (then_pieces eg.0 ++ else_pieces eg.1) u v w e x y))
-        (λ u v t a x y. y u x.0)))
+      (g_then (λ ts a. (u : List Tok) → tc u ≡ IfWord ∷ [] → POver true (print.conditional (print.expr a.0) (print.expr a.1.0) (print.expr a.1.1)) (u ++ ts)) o_expr
+      (g_then (λ ts a. Ender (pc (then_pieces a.0 ++ else_pieces a.1)) (tc ts)) s_then_expr
+      (g_inner (λ ts e. Ender (pc (else_pieces e)) (tc ts)) (g_the ElseWord) o_expr (g_the EndifWord) (λ u v w b e c x y z. else_is u v w e x.0 y z.0))
+      (λ u v e g x y. ender_before (then_pieces e) (else_pieces g) u v x y))
+      (λ v w c eg x y u e. if_whole true (print.expr c) (then_pieces eg.0 ++ else_pieces eg.1) u v w e x y))
+      (λ u v t a x y. y u x.0)))
       (λ ts a x. (x, refl))
 
   b_object : Gives Bare (object i)
   unfolding object
   b_object = g_made Bare object_of (g_then (λ ts a. Bare ts (object_of a)) (q_the ObjectWord (λ f s. refl))
       (g_then (λ ts a. PStrong (print.variable a.0.0 ++ (print.path a.0.1 ++ (print.extent a.1.0 ++ print.block (stmts_of a.1.1)))) ts) q_object_head
-        (g_then (λ ts a. PStrong (print.extent a.0 ++ print.block (stmts_of a.1)) ts) q_extent h.block (λ u v n ss x y. quiet_both (print.extent n) (print.block (stmts_of ss)) u v (still_extent n) x y))
-        (λ u v vp ns x y. quiet_both (print.variable vp.0) (print.path vp.1 ++ (print.extent ns.0 ++ print.block (stmts_of ns.1))) u v (still_variable vp.0) x
-          (quiet_left (print.path vp.1) (print.extent ns.0 ++ print.block (stmts_of ns.1)) v (still_names vp.1.names) y)))
+      (g_then (λ ts a. PStrong (print.extent a.0 ++ print.block (stmts_of a.1)) ts) q_extent h.block (λ u v n ss x y. quiet_both (print.extent n) (print.block (stmts_of ss)) u v (still_extent n) x y))
+      (λ u v vp ns x y. quiet_both (print.variable vp.0) (print.path vp.1 ++ (print.extent ns.0 ++ print.block (stmts_of ns.1))) u v (still_variable vp.0) x
+      (quiet_left (print.path vp.1) (print.extent ns.0 ++ print.block (stmts_of ns.1)) v (still_names vp.1.names) y)))
       (λ u v w a x y. (quiet_both (piece.Plain class.ObjectWord ∷ []) (print.variable a.0.0 ++ (print.path a.0.1 ++ (print.extent a.1.0 ++ print.block (stmts_of a.1.1)))) u v ((λ f s. refl), tt) x y, refl))) (λ ts a x. x)
 
   b_new_expr : Gives Bare (new_expr i)
   unfolding new_expr
   b_new_expr = g_made Bare new_of (g_then (λ ts a. Bare ts (new_of a)) (q_the NewWord (λ f s. refl))
       (g_then (λ ts a. PStrong (print.path a.0 ++ (print.extent a.1.0 ++ print.in_round (print.exprs false (exprs_of a.1.1)))) ts) q_path
-        (g_then (λ ts a. PStrong (print.extent a.0 ++ print.in_round (print.exprs false (exprs_of a.1))) ts) q_extent s_args (λ u v n es x y. quiet_both (print.extent n) (print.in_round (print.exprs false (exprs_of es))) u v (still_extent n) x y))
-        (λ u v p ns x y. quiet_both (print.path p) (print.extent ns.0 ++ print.in_round (print.exprs false (exprs_of ns.1))) u v (still_names p.names) x y))
+      (g_then (λ ts a. PStrong (print.extent a.0 ++ print.in_round (print.exprs false (exprs_of a.1))) ts) q_extent s_args (λ u v n es x y. quiet_both (print.extent n) (print.in_round (print.exprs false (exprs_of es))) u v (still_extent n) x y))
+      (λ u v p ns x y. quiet_both (print.path p) (print.extent ns.0 ++ print.in_round (print.exprs false (exprs_of ns.1))) u v (still_names p.names) x y))
       (λ u v w a x y. (quiet_both (piece.Plain class.NewWord ∷ []) (print.path a.0 ++ (print.extent a.1.0 ++ print.in_round (print.exprs false (exprs_of a.1.1)))) u v ((λ f s. refl), tt) x y, refl))) (λ ts a x. x)
 
   pub s_map_call : Prints print.map_call (map_call i)
@@ -361,7 +359,7 @@ module _ {i : Nested} (h : GivesNested i) where
   unfolding all_form
   s_all_form = g_made FormIs all_of (g_then (λ ts a. FormIs ts (all_of a)) q_all_word
       (g_inner (λ ts f. PStrong (print.in_round (print.resolved None f)) ts) (g_the OpenRound) s_filter (g_the CloseRound)
-        (λ u v w b f c x y z. in_brackets (print.resolved None f) u (v ++ w) x.0 (closes_after true false CloseRound (print.resolved None f) v w closing_round z.0 (over_strong true (all_is v f y)))))
+      (λ u v w b f c x y z. in_brackets (print.resolved None f) u (v ++ w) x.0 (closes_after true false CloseRound (print.resolved None f) v w closing_round z.0 (over_strong true (all_is v f y)))))
       (λ u v w f x y. quiet_right (print.in_round (print.resolved None f)) u v x y)) (λ ts a x. x)
 
   in_is : (u v : List Tok) (p : PathTree) (f : Option FilterTerm) → QuietToks u → Perhaps (λ ts g. (x : List Tok) × (y : List Tok) × (ts ≡ x ++ y) × QuietToks x × PStrong (print.filter g) y) v f → PStrong (print.resolved (Some p) (optional_filter f)) (u ++ v)
@@ -375,19 +373,19 @@ module _ {i : Nested} (h : GivesNested i) where
   unfolding in_form
   s_in_form = g_made FormIs in_of (g_then (λ ts a. FormIs ts (in_of a)) q_in_word
       (g_then (λ ts a. PStrong (print.in_round (print.resolved (Some a.1.0) (optional_filter a.1.1.0))) ts) (g_the OpenRound)
-        (g_then (λ ts a. Closes false CloseRound (print.resolved (Some a.0) (optional_filter a.1.0)) ts) q_path
-          (g_then (λ ts a. (p : PathTree) (u : List Tok) → QuietToks u → Closes false CloseRound (print.resolved (Some p) (optional_filter a.0)) (u ++ ts))
-            (g_maybe (g_second (λ ts g. (x : List Tok) × (y : List Tok) × (ts ≡ x ++ y) × QuietToks x × PStrong (print.filter g) y) (q_the Comma (λ f s. refl)) s_filter (λ u v a f x y. (u, v, refl, x, y)))) (g_the CloseRound)
-            (λ v w f b x y p u k. subst (Closes false CloseRound (print.resolved (Some p) (optional_filter f))) (append_assoc u v w) (closes_after true false CloseRound (print.resolved (Some p) (optional_filter f)) (u ++ v) w closing_round y.0 (over_strong true (in_is u v p f k x)))))
-          (λ u v p a x y. y p u x))
-        (λ u v b a x y. in_brackets (print.resolved (Some a.0) (optional_filter a.1.0)) u v x.0 y))
+      (g_then (λ ts a. Closes false CloseRound (print.resolved (Some a.0) (optional_filter a.1.0)) ts) q_path
+      (g_then (λ ts a. (p : PathTree) (u : List Tok) → QuietToks u → Closes false CloseRound (print.resolved (Some p) (optional_filter a.0)) (u ++ ts))
+      (g_maybe (g_second (λ ts g. (x : List Tok) × (y : List Tok) × (ts ≡ x ++ y) × QuietToks x × PStrong (print.filter g) y) (q_the Comma (λ f s. refl)) s_filter (λ u v a f x y. (u, v, refl, x, y)))) (g_the CloseRound)
+      (λ v w f b x y p u k. subst (Closes false CloseRound (print.resolved (Some p) (optional_filter f))) (append_assoc u v w) (closes_after true false CloseRound (print.resolved (Some p) (optional_filter f)) (u ++ v) w closing_round y.0 (over_strong true (in_is u v p f k x)))))
+      (λ u v p a x y. y p u x))
+      (λ u v b a x y. in_brackets (print.resolved (Some a.0) (optional_filter a.1.0)) u v x.0 y))
       (λ u v w a x y. quiet_right (print.in_round (print.resolved (Some a.1.0) (optional_filter a.1.1.0))) u v x y)) (λ ts a x. x)
 
   pub s_resolve : Prints print.resolve (resolve i)
   unfolding resolve
   s_resolve = g_made (λ ts r. PStrong (print.resolve r) ts) resolve_of (g_placed (g_then (λ ts a. PStrong (print.late_if (is_there a.0) ++ (piece.Plain (words.resolve_word a.1.0) ∷ print.in_round (print.resolved a.1.1.0 (optional_filter a.1.1.1)))) ts) (q_maybe (q_the LateWord (λ f s. refl))) (g_either s_all_form s_in_form)
       (λ u v late a x y. quiet_both (print.late_if (is_there late)) (piece.Plain (words.resolve_word a.0) ∷ print.in_round (print.resolved a.1.0 (optional_filter a.1.1))) u v (still_late (is_there late)) x
-        (quiet_left (piece.Plain (words.resolve_word a.0) ∷ []) (print.in_round (print.resolved a.1.0 (optional_filter a.1.1))) v (still_resolve a.0, tt) y)))) (λ ts a x. x)
+      (quiet_left (piece.Plain (words.resolve_word a.0) ∷ []) (print.in_round (print.resolved a.1.0 (optional_filter a.1.1))) v (still_resolve a.0, tt) y)))) (λ ts a x. x)
 
   -- primaries
   o_brackets : (o : Bool) → Gives (λ ts e. POver o (print.expr e) ts × POver o (print.in_round (print.expr e)) ts) (brackets i)

@@ -1,7 +1,7 @@
 -- How lists of classes of a text and of its printed text open and close items.
-use Rattle.std.proofs.Common.{◌≡◌, ℕ, suc, ◌+◌, ◌≤◌, List, [], ◌∷◌, ◌++◌, length, Bool, true, false, refl, sym, ap, ◌∙◌, subst, arith}
+use Rattle.std.proofs.Common.{◌≡◌, ℕ, ◌+◌, ◌≤◌, List, [], ◌∷◌, ◌++◌, length, Bool, true, false, refl, sym, ap, ◌∙◌, subst, arith}
 use Rattle.qvt_parser_grammar.specs.declared.token.Class.{Class}
-use Rattle.qvt_parser_grammar.specs.declared.token.Class.TheVariants.{OpenRound, OpenBrace, CloseRound, CloseBrace, IfWord, EndifWord}
+use Rattle.qvt_parser_grammar.specs.declared.token.Class.TheVariants.{OpenRound, OpenBrace, CloseRound, IfWord, EndifWord}
 use Rattle.qvt_parser_tokens.specs.declared.depth.Open.{Open}
 use Rattle.qvt_parser_tokens.specs.declared.depth.Open.TheVariants.{Bracket, Conditional}
 use Rattle.qvt_parser_tokens.specs.Depth.{closed, ended, after, begins_statement}
@@ -217,9 +217,11 @@ inside_over {o} g c {us} {ts} e h = record {
   back_u = λ s. items_append g (Bracket ∷ s) us (c ∷ []) ∙ e (fresh_after g us) (items_after g (Bracket ∷ s) us) ∙ ap closed (h.back_u g (Bracket ∷ s) (calm_bracket g s));
   back_t = λ s. items_append g (Bracket ∷ s) ts (c ∷ []) ∙ e (fresh_after g ts) (items_after g (Bracket ∷ s) ts) ∙ ap closed (h.back_t g (Bracket ∷ s) (free_bracket o g s));
   low = λ d su st j. lower_then d g g (Bracket ∷ su) (Bracket ∷ st) us ts (c ∷ []) (c ∷ []) (h.low d g g (Bracket ∷ su) (Bracket ∷ st) (calm_bracket g su) (fits_bracket o g st) (one_more d su st Bracket j))
-      (λ n l. (at_most d (items_after g (Bracket ∷ su) us) (items_after g (Bracket ∷ st) ts) (lengths d (h.back_u g (Bracket ∷ su) (calm_bracket g su)) (h.back_t g (Bracket ∷ st) (free_bracket o g st)) (one_more d su st Bracket j)) l.0,
+      (λ n l. (
+        at_most d (items_after g (Bracket ∷ su) us) (items_after g (Bracket ∷ st) ts) (lengths d (h.back_u g (Bracket ∷ su) (calm_bracket g su)) (h.back_t g (Bracket ∷ st) (free_bracket o g st)) (one_more d su st Bracket j)) l.0,
         at_most d (after (fresh_after g us) (items_after g (Bracket ∷ su) us) c) (after (fresh_after g ts) (items_after g (Bracket ∷ st) ts) c)
-        (lengths d (e (fresh_after g us) (items_after g (Bracket ∷ su) us) ∙ ap closed (h.back_u g (Bracket ∷ su) (calm_bracket g su))) (e (fresh_after g ts) (items_after g (Bracket ∷ st) ts) ∙ ap closed (h.back_t g (Bracket ∷ st) (free_bracket o g st))) j) l.1));
+            (lengths d (e (fresh_after g us) (items_after g (Bracket ∷ su) us) ∙ ap closed (h.back_u g (Bracket ∷ su) (calm_bracket g su))) (e (fresh_after g ts) (items_after g (Bracket ∷ st) ts) ∙ ap closed (h.back_t g (Bracket ∷ st) (free_bracket o g st))) j) l.1,
+      ));
 }
 
 pub round_inside : {us ts : List Class} → Inside false us ts → Strong (OpenRound ∷ us) (OpenRound ∷ ts)
@@ -274,10 +276,11 @@ if_over {o} {a} {x} {b} {y} h k = record {
   back_t = λ f s c. items_append false (after f s IfWord) x y ∙ k.back_t (fresh_after false x) (items_after false (after f s IfWord) x) ∙ ap ended (h.back_t false (after f s IfWord) (free_false o (after f s IfWord))) ∙ if_back f s c;
   low = λ d fu ft su st c e j n l. let i = if_length d fu ft su st e.0 j in
       let bu = h.back_u false (after fu su IfWord) tt in
-      let bt = h.back_t false (after ft st IfWord) (free_false o (after ft st IfWord)) in
-      (at_most d su st j l.0,
-      lower_then d false false (after fu su IfWord) (after ft st IfWord) a x b y (h.low d false false (after fu su IfWord) (after ft st IfWord) tt (fits_false o (after ft st IfWord)) i)
-      (k.low d (fresh_after false a) (fresh_after false x) (items_after false (after fu su IfWord) a) (items_after false (after ft st IfWord) x)
-      (lengths d bu bt i)
-      (lengths d (ap ended bu ∙ if_back fu su c) (ap ended bt ∙ if_back ft st e.1) j)) n l.1);
+      let bt = h.back_t false (after ft st IfWord) (free_false o (after ft st IfWord)) in (
+        at_most d su st j l.0,
+        lower_then d false false (after fu su IfWord) (after ft st IfWord) a x b y (h.low d false false (after fu su IfWord) (after ft st IfWord) tt (fits_false o (after ft st IfWord)) i)
+            (k.low d (fresh_after false a) (fresh_after false x) (items_after false (after fu su IfWord) a) (items_after false (after ft st IfWord) x)
+            (lengths d bu bt i)
+            (lengths d (ap ended bu ∙ if_back fu su c) (ap ended bt ∙ if_back ft st e.1) j)) n l.1,
+      );
 }

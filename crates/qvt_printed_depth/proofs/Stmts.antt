@@ -1,31 +1,29 @@
 -- The productions of statements and blocks read what prints no deeper, at each nesting.
 use Rattle.std.proofs.Common.{◌≡◌, ℕ, zero, suc, List, [], ◌∷◌, ◌++◌, Bool, true, false, ◌⊎◌, inl, inr, refl, sym, ap, ◌∙◌, subst, append_assoc, append-nil, Option, Some, None}
 use Rattle.qvt_base.specs.declared.numbers.Place.{Place}
-use Rattle.qvt_tree_types.specs.Tree.{TypeTerm, ExprTerm, IfExpr, StepTerm, StmtTerm, VarStmt, AssignStmt, ReturnStmt, ValueStmt, IfStmt, WhileStmt, ArmTerm, ArmOf, TargetTerm}
+use Rattle.qvt_tree_types.specs.Tree.{ExprTerm, IfExpr, StmtTerm, AssignStmt, ValueStmt, ArmTerm, ArmOf, TargetTerm}
 use Rattle.qvt_tree_types.specs.View.{stmts_of, arms_of, steps_of, optional_expr, optional_else}
-use Rattle.qvt_grammar.specs.Language.{Language, made, then, maybe}
+use Rattle.qvt_grammar.specs.Language.{made, then}
 use Rattle.qvt_parser_grammar.specs.Tokens.{Tok}
-use Rattle.qvt_parser_grammar.specs.Readers.{the, nowhere}
-use Rattle.qvt_parser_grammar.specs.declared.named.Named.{Named}
-use Rattle.qvt_parser_grammar.specs.declared.token.Class.{Class}
+use Rattle.qvt_parser_grammar.specs.Readers.{the}
 use Rattle.qvt_parser_grammar.specs.declared.token.Class.TheVariants as class
 use Rattle.qvt_parser_grammar.specs.declared.token.Class.TheVariants.{OpenRound, CloseRound, OpenBrace, CloseBrace, Semicolon, Becomes, PlusEqual, ElifWord, ElseWord, EndifWord, IfWord, ReturnWord, ThenWord, VarWord, WhileWord}
 use Rattle.qvt_parser_grammar.specs.Leads.{Lead, Plain, Bracketed, Each, EachPart, Ended}
 use Rattle.qvt_parser_grammar.specs.Grammar.{Nested, expr}
-use Rattle.qvt_parser_grammar.specs.Trees.{second, expr_of, post_of}
+use Rattle.qvt_parser_grammar.specs.Trees.{second, expr_of}
 use Rattle.qvt_parser_grammar.specs.Nesting.{nested}
 use Rattle.qvt_parser_grammar.specs.Statements.{condition, var_stmt, return_stmt, arm, else_part, branches, choice, if_rest, if_stmt, while_stmt, assignment, semicolon, lead_tail, lead_stmt, statement, statements, block}
-use Rattle.qvt_parser_grammar.specs.StmtTrees.{var_of, return_of, arm_of, Branches, branched, Choice, chosen, choice_expr, if_made, if_stmt_of, while_of, Turn, empty_turn, closed_turn, simple_turn, Tail, no_tail, plain_tail, lead_turn, is_adding, written, for_each_of, concat, last_of, ended_of, block_of}
+use Rattle.qvt_parser_grammar.specs.StmtTrees.{var_of, return_of, arm_of, Branches, Choice, chosen, if_made, if_stmt_of, while_of, Turn, empty_turn, closed_turn, simple_turn, Tail, no_tail, plain_tail, lead_turn, is_adding, for_each_of, concat, last_of, ended_of, block_of}
 use Rattle.qvt_printer.specs.Expressions as print
 use Rattle.qvt_printer_layout.specs.Words as words
 use Rattle.qvt_printer_layout.specs.declared.piece.Piece.{Piece}
 use Rattle.qvt_printer_layout.specs.declared.piece.Piece.TheVariants as piece
-use Rattle.qvt_printed_depth.proofs.Runs.{AllStill, fresh_after, fresh_append, Word, Closing, Over, Ender, over_strong}
+use Rattle.qvt_printed_depth.proofs.Runs.{AllStill, fresh_after, fresh_append, Word, Ender, over_strong}
 use Rattle.qvt_printed_depth.proofs.Turns.{Turns, Ends, Leaves, leaves_none, leaves_endif, turns_nil, turns_empty, turns_over, turns_if, turns_choice, ender_more}
-use Rattle.qvt_printed_depth.proofs.Pieces.{pc, tc, pc_append, tc_append, tc_one, moved, PStrong, POver, PTurns, QuietPieces, QuietToks, quiet_strong, strong_more, over_more, ender_before, turns_more, ends_more, word_before, closes_after, closes_turns, in_brackets, in_blocks, ends_block, quiet_both, quiet_left, quiet_right}
-use Rattle.qvt_printed_depth.proofs.Forms.{Gives, One, Perhaps, Either, Split, g_the, g_never, g_empty, g_follow, g_then, g_split, g_made, g_second, g_inner, g_either, g_maybe, g_many, g_placed, g_weaker, g_series, g_finished, Quiet, q_the, q_maybe, Prints, s_many, s_maybe}
+use Rattle.qvt_printed_depth.proofs.Pieces.{pc, tc, pc_append, tc_append, tc_one, moved, PStrong, POver, PTurns, QuietToks, quiet_strong, strong_more, over_more, ender_before, turns_more, ends_more, word_before, closes_after, closes_turns, in_brackets, in_blocks, ends_block, quiet_both, quiet_right}
+use Rattle.qvt_printed_depth.proofs.Forms.{Gives, One, Perhaps, Either, Split, g_the, g_never, g_empty, g_follow, g_then, g_split, g_made, g_second, g_inner, g_either, g_maybe, g_placed, g_weaker, g_series, g_finished, Quiet, q_the, q_maybe, Prints, s_many, s_maybe}
 use Rattle.qvt_printed_depth.proofs.Exprs.{q_name, each_pieces, LeadIs, no_test, GivesNested, lead_expr, s_colon_type, s_typed, o_expr, then_pieces, else_pieces, else_is}
-use Rattle.qvt_printed_depth.proofs.Steps.{StepsAre, steps_strong, more_steps_are, post_first_is, WordTok, g_word, word_tok_before}
+use Rattle.qvt_printed_depth.proofs.Steps.{StepsAre, steps_strong, more_steps_are, post_first_is, g_word, word_tok_before}
 use Rattle.qvt_printed_depth.proofs.Chains.{each_rest, EachIs, g_lead_step, g_flagged, g_lead}
 
 -- statements without the `;`
@@ -205,9 +203,9 @@ module _ {i : Nested} (h : GivesNested i) where
   unfolding var_stmt
   g_var_stmt = g_made Simple var_of (g_placed (g_then (λ ts a. PStrong (piece.Plain class.VarWord ∷ piece.Name a.1.0.text ∷ (print.typed_if a.1.1.0 ++ print.first_value (optional_expr a.1.1.1))) ts) (q_the VarWord (λ f s. refl))
       (g_then (λ ts a. PStrong (piece.Name a.0.text ∷ (print.typed_if a.1.0 ++ print.first_value (optional_expr a.1.1))) ts) q_name
-        (g_then (λ ts a. PStrong (print.typed_if a.0 ++ print.first_value (optional_expr a.1)) ts) (s_maybe print.typed (λ t. print.typed_if t) refl (λ t. refl) (s_colon_type h)) (s_maybe value_pieces (λ e. print.first_value (optional_expr e)) refl (λ e. refl) s_first_value)
-          (λ u v t e x y. strong_more (print.typed_if t) (print.first_value (optional_expr e)) u v x y))
-        (λ u v n a x y. quiet_both (piece.Name n.text ∷ []) (print.typed_if a.0 ++ print.first_value (optional_expr a.1)) u v ((λ f s. refl), tt) x y))
+      (g_then (λ ts a. PStrong (print.typed_if a.0 ++ print.first_value (optional_expr a.1)) ts) (s_maybe print.typed (λ t. print.typed_if t) refl (λ t. refl) (s_colon_type h)) (s_maybe value_pieces (λ e. print.first_value (optional_expr e)) refl (λ e. refl) s_first_value)
+      (λ u v t e x y. strong_more (print.typed_if t) (print.first_value (optional_expr e)) u v x y))
+      (λ u v n a x y. quiet_both (piece.Name n.text ∷ []) (print.typed_if a.0 ++ print.first_value (optional_expr a.1)) u v ((λ f s. refl), tt) x y))
       (λ u v w a x y. quiet_both (piece.Plain class.VarWord ∷ []) (piece.Name a.0.text ∷ (print.typed_if a.1.0 ++ print.first_value (optional_expr a.1.1))) u v ((λ f s. refl), tt) x y)))
       (λ ts a x. record { pieces = piece.Plain class.VarWord ∷ piece.Name a.1.1.0.text ∷ (print.typed_if a.1.1.1.0 ++ print.first_value (optional_expr a.1.1.1.1)); same = refl; over = over_strong false x })
 
@@ -220,8 +218,8 @@ module _ {i : Nested} (h : GivesNested i) where
   unfolding arm
   s_arm = g_made (λ ts a. PStrong (print.arm a) ts) arm_of (g_then (λ ts a. PStrong (print.arm (arm_of a)) ts) (q_the ElifWord (λ f s. refl))
       (g_then (λ ts a. PStrong (print.in_round (print.expr a.0) ++ print.block (stmts_of a.1.1)) ts) s_condition
-        (g_then (λ ts a. PStrong (print.block (stmts_of a.1)) ts) (q_maybe (q_the ThenWord (λ f s. refl))) h.block (λ u v t ss x y. quiet_right (print.block (stmts_of ss)) u v x y))
-        (λ u v e a x y. strong_more (print.in_round (print.expr e)) (print.block (stmts_of a.1)) u v x y))
+      (g_then (λ ts a. PStrong (print.block (stmts_of a.1)) ts) (q_maybe (q_the ThenWord (λ f s. refl))) h.block (λ u v t ss x y. quiet_right (print.block (stmts_of ss)) u v x y))
+      (λ u v e a x y. strong_more (print.in_round (print.expr e)) (print.block (stmts_of a.1)) u v x y))
       (λ u v w a x y. quiet_both (piece.Plain class.ElifWord ∷ []) (print.in_round (print.expr a.0) ++ print.block (stmts_of a.1.1)) u v ((λ f s. refl), tt) x y)) (λ ts a x. x)
 
   abbrev else_block : List StmtTerm → List Piece
@@ -326,7 +324,7 @@ module _ {i : Nested} (h : GivesNested i) where
   unfolding block
   s_block = g_made (λ ts ss. PStrong (print.block (stmts_of ss)) ts) block_of
       (g_weaker (g_split (g_the OpenBrace) (g_split g_statements (g_the CloseBrace))) (λ ts a. PStrong (print.block (stmts_of a.1.0.stmts)) ts)
-        (λ ts a x. let y = x.4 in subst (PStrong (print.block (stmts_of a.1.0.stmts))) (sym (x.2 ∙ ap (λ w. x.0 ++ w) y.2)) (in_blocks (print.stmts (stmts_of a.1.0.stmts)) x.0 (y.0 ++ y.1) x.3.0 (closes_turns (print.stmts (stmts_of a.1.0.stmts)) y.0 y.1 y.4.0 y.3))))
+      (λ ts a x. let y = x.4 in subst (PStrong (print.block (stmts_of a.1.0.stmts))) (sym (x.2 ∙ ap (λ w. x.0 ++ w) y.2)) (in_blocks (print.stmts (stmts_of a.1.0.stmts)) x.0 (y.0 ++ y.1) x.3.0 (closes_turns (print.stmts (stmts_of a.1.0.stmts)) y.0 y.1 y.4.0 y.3))))
       (λ ts a x. x)
 
 -- at each nesting

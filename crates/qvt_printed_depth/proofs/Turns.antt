@@ -6,7 +6,7 @@ use Rattle.qvt_parser_grammar.specs.declared.token.Class.TheVariants.{CloseBrace
 use Rattle.qvt_parser_tokens.specs.declared.depth.Open.{Open}
 use Rattle.qvt_parser_tokens.specs.declared.depth.Open.TheVariants.{Bracket, Conditional}
 use Rattle.qvt_parser_tokens.specs.Depth.{closed, ended, after}
-use Rattle.qvt_printed_depth.proofs.Runs.{items_after, fresh_after, Below, Lower, items_append, fresh_append, now_below, below_front, lower_then, lengths, at_most, free_false, fits_false, Strong, Over, Inside, Ender}
+use Rattle.qvt_printed_depth.proofs.Runs.{items_after, fresh_after, Lower, items_append, fresh_append, below_front, lower_then, lengths, at_most, free_false, fits_false, Strong, Over, Inside, Ender}
 
 -- conditionals over a bracket over the base
 abbrev pub Rests : List Open → List Open → Type 0
@@ -81,8 +81,10 @@ turns_inside {us} {ts} h = record {
   back_t = λ s. items_append true (Bracket ∷ s) ts (CloseBrace ∷ []) ∙ rests_closed s (items_after true (Bracket ∷ s) ts) (h.back_t true s (Bracket ∷ s) refl);
   low = λ d su st j. let r = h.back_t true st (Bracket ∷ st) refl in
       lower_then d true true (Bracket ∷ su) (Bracket ∷ st) us ts (CloseBrace ∷ []) (CloseBrace ∷ []) (h.low d true su st (Bracket ∷ st) j refl)
-      (λ n l. (at_most d (items_after true (Bracket ∷ su) us) (items_after true (Bracket ∷ st) ts) (lengths d (h.back_u su) refl (under d su st (items_after true (Bracket ∷ st) ts) j r)) l.0,
-        at_most d (closed (items_after true (Bracket ∷ su) us)) (closed (items_after true (Bracket ∷ st) ts)) (lengths d (ap closed (h.back_u su)) (rests_closed st (items_after true (Bracket ∷ st) ts) r) j) l.1));
+      (λ n l. (
+        at_most d (items_after true (Bracket ∷ su) us) (items_after true (Bracket ∷ st) ts) (lengths d (h.back_u su) refl (under d su st (items_after true (Bracket ∷ st) ts) j r)) l.0,
+        at_most d (closed (items_after true (Bracket ∷ su) us)) (closed (items_after true (Bracket ∷ st) ts)) (lengths d (ap closed (h.back_u su)) (rests_closed st (items_after true (Bracket ∷ st) ts) r) j) l.1,
+      ));
 }
 
 -- what may stand at the end of a statement of the text
@@ -102,8 +104,10 @@ turns_if {o} {us} {ts} e h g k = record {
   fresh_u = g false;
   back_t = λ f base s r. subst (Rests base) (sym (items_append false (after f s IfWord) ts e))
       (k (fresh_after false ts) base (items_after false (after f s IfWord) ts) (subst (Rests base) (sym (h.back_t false (after f s IfWord) (free_false o (after f s IfWord)))) (rests_if f base s r)));
-  low = λ d ft su base st j r n l. (at_most d (Bracket ∷ su) st (under d su base st j r) l.0,
-      h.low d false false (Bracket ∷ su) (after ft st IfWord) tt (fits_false o (after ft st IfWord)) (under d su base (after ft st IfWord) j (rests_if ft base st r)) n (below_front n false (after ft st IfWord) ts e l.1));
+  low = λ d ft su base st j r n l. (
+    at_most d (Bracket ∷ su) st (under d su base st j r) l.0,
+    h.low d false false (Bracket ∷ su) (after ft st IfWord) tt (fits_false o (after ft st IfWord)) (under d su base (after ft st IfWord) j (rests_if ft base st r)) n (below_front n false (after ft st IfWord) ts e l.1),
+  );
 }
 
 pub ender_more : {a x b y : List Class} → Ender a x → Strong b y → Ender (a ++ b) (x ++ y)
@@ -125,9 +129,10 @@ turns_choice {o} {a} {x} {b} {y} h k e = record {
       let q = rests_if ft base st r in
       let i = under d su base vt j q in
       let bu = h.back_u false (Bracket ∷ su) tt in
-      let bt = h.back_t false vt (free_false o vt) in
-      (at_most d (Bracket ∷ su) st (under d su base st j r) l.0,
-      lower_then d false false (Bracket ∷ su) vt a x b y (h.low d false false (Bracket ∷ su) vt tt (fits_false o vt) i)
-      (k.low d (fresh_after false a) (fresh_after false x) (items_after false (Bracket ∷ su) a) (items_after false vt x) (lengths d bu bt i)
-      (lengths d (ap ended bu) (ap ended bt) (under d su base (ended vt) j (rests_ended base vt q)))) n l.1);
+      let bt = h.back_t false vt (free_false o vt) in (
+        at_most d (Bracket ∷ su) st (under d su base st j r) l.0,
+        lower_then d false false (Bracket ∷ su) vt a x b y (h.low d false false (Bracket ∷ su) vt tt (fits_false o vt) i)
+            (k.low d (fresh_after false a) (fresh_after false x) (items_after false (Bracket ∷ su) a) (items_after false vt x) (lengths d bu bt i)
+            (lengths d (ap ended bu) (ap ended bt) (under d su base (ended vt) j (rests_ended base vt q)))) n l.1,
+      );
 }

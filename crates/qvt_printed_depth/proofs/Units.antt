@@ -1,29 +1,25 @@
 -- The productions of units and of the module read what prints no deeper, but for one block more in two forms of units.
-use Rattle.std.proofs.Common.{◌≡◌, ℕ, zero, suc, ◌≤◌, List, [], ◌∷◌, ◌++◌, Bool, true, false, cond, ◌&&◌, ◌||◌, ◌⊎◌, inl, inr, refl, sym, ap, ◌∙◌, subst, append_assoc, append-nil, Option, Some, None, IsTrue, arith}
-use Rattle.std.specs.List.{list_any}
-use Rattle.qvt_base.specs.declared.numbers.Place.{Place}
-use Rattle.qvt_tree_types.specs.Tree.{ExprTerm, OptionalExpr, StmtTerm, StmtTerms, ReturnStmt, SomeExpr}
+use Rattle.std.proofs.Common.{◌≡◌, ℕ, zero, suc, ◌≤◌, List, [], ◌∷◌, ◌++◌, Bool, true, false, cond, ◌&&◌, ◌||◌, ◌⊎◌, inl, inr, refl, sym, ap, ◌∙◌, subst, append_assoc, append-nil, Option, Some, None, arith}
+use Rattle.qvt_tree_types.specs.Tree.{ExprTerm, StmtTerm, SomeExpr}
 use Rattle.qvt_tree_types.specs.View.{stmts_of, optional_expr}
-use Rattle.qvt_tree_types.specs.Module.{TypedName, UnitTerm, ClassOf, MainOf, HelperOf, ConstructorOf, MappingOf, ModuleTerm}
+use Rattle.qvt_tree_types.specs.Module.{TypedName, UnitTerm, ModuleTerm}
 use Rattle.qvt_tree_types.specs.declared.types.PathTree.{PathTree}
 use Rattle.qvt_tree_types.specs.declared.module.ResultDecl.{ResultDecl}
 use Rattle.qvt_tree_types.specs.declared.module.ModelType.{ModelType}
 use Rattle.qvt_tree_types.specs.declared.module.ModelParam.{ModelParam}
 use Rattle.qvt_tree_types.specs.declared.words.Direction.{Direction}
 use Rattle.qvt_tree_types.specs.declared.words.Direction.TheVariants as directions
-use Rattle.qvt_grammar.specs.Language.{Language, made, then, maybe, many, either}
+use Rattle.qvt_grammar.specs.Language.{Language, made, then, maybe}
 use Rattle.qvt_parser_grammar.specs.Tokens.{Tok, is, of}
 use Rattle.qvt_parser_grammar.specs.Readers.{the}
-use Rattle.qvt_parser_grammar.specs.Leads.{Ended}
 use Rattle.qvt_parser_grammar.specs.declared.named.Named.{Named}
-use Rattle.qvt_parser_grammar.specs.declared.named.UnitPath.{UnitPath}
 use Rattle.qvt_parser_grammar.specs.declared.token.Class.{Class}
 use Rattle.qvt_parser_grammar.specs.declared.token.Class.TheVariants as class
 use Rattle.qvt_parser_grammar.specs.declared.token.Class.TheVariants.{Name, Str, OpenRound, CloseRound, OpenBrace, CloseBrace, Comma, Semicolon, Colon, EqualSign, ClassWord, ConstructorWord, DisjunctsWord, EndWord, ExtendsWord, HelperWord, InWord, InheritsWord, InitWord, InoutWord, IntermediateWord, MainWord, MappingWord, MergesWord, ModelTypeWord, OutWord, PopulationWord, QueryWord, TransformationWord, UsesWord, WhenWord}
-use Rattle.qvt_parser_grammar.specs.Grammar.{Nested, expr, paths, colon_type}
-use Rattle.qvt_parser_grammar.specs.Trees.{second, first, inner, nothing, cons_of, text_of}
+use Rattle.qvt_parser_grammar.specs.Grammar.{Nested, paths, colon_type}
+use Rattle.qvt_parser_grammar.specs.Trees.{second, inner, nothing, cons_of, text_of}
 use Rattle.qvt_parser_grammar.specs.UnitTrees.{typed_name_of, param_of, paths_or_none, class_of, main_of, is_query, return_body, helper_of, constructor_of, result_decl_of, Clauses, no_clauses, Clause, InheritsClause, MergesClause, DisjunctsClause, WhenClause, with_clause, read_words, or_same, Body, stmts_or_none, empty_body, body_of, sections_of, open_sections_of, mapping_of, some_unit, model_type_of, model_param_of, units_of, module_of, kept, no_end}
-use Rattle.qvt_parser_grammar.specs.Units.{param, params, feature, features, class_unit, main_unit, helper_body, helper_unit, constructor_unit, result_decl, when_clause, clause, init_part, end_part, end_unless, end_after, sections, body, fresh, clauses, mapping_unit, unit, is_strictness, strictness, uri, model_type, model_param, header, transformation}
+use Rattle.qvt_parser_grammar.specs.Units.{param, params, feature, features, class_unit, main_unit, helper_body, helper_unit, constructor_unit, result_decl, when_clause, clause, init_part, end_part, end_unless, sections, body, fresh, clauses, mapping_unit, unit, strictness, uri, model_type, model_param, header, transformation}
 use Rattle.qvt_printer.specs.Expressions as print
 use Rattle.qvt_printer.specs.Units as printed
 use Rattle.qvt_printer.specs.Units.{has_statements, module_pieces}
@@ -33,12 +29,11 @@ use Rattle.qvt_printer_layout.specs.declared.piece.Piece.TheVariants as piece
 use Rattle.qvt_printed_depth.specs.Law.{is_return, gets_block}
 use Rattle.qvt_printed_depth.proofs.Classes.{same_class}
 use Rattle.qvt_printed_depth.proofs.Runs.{Still, AllStill, Closing, Strong, over_strong}
-use Rattle.qvt_printed_depth.proofs.Turns.{Turns, turns_nil, turns_then, turns_over}
 use Rattle.qvt_printed_depth.proofs.Wide.{Wide, Spare, wide_strong, wide_up, wide_then, spare_wide, spare_then, Room, room_round, wide_room, spare_empty, strong_drop, wide_braces, strong_wrapped, Parts, parts_strong, parts_then, parts_turns, parts_none, turns_none, parts_braces}
-use Rattle.qvt_printed_depth.proofs.Pieces.{pc, tc, pc_append, tc_append, tc_one, tc_last, moved, PStrong, POver, PTurns, QuietPieces, QuietToks, quiet_toks, quiet_pieces, quiet_strong, strong_more, over_more, turns_more, word_before, Closes, closes_after, closes_at_once, closes_turns, in_brackets, in_braces, in_blocks, quiet_both, quiet_left, quiet_right}
-use Rattle.qvt_printed_depth.proofs.Forms.{Gives, One, Perhaps, Either, Split, g_the, g_empty, g_follow, g_then, g_split, g_made, g_second, g_first, g_inner, g_either, g_maybe, g_many, g_placed, g_barring, g_weaker, Quiet, q_the, q_then, q_made, q_many, q_maybe, q_either, Prints, s_many, s_maybe}
+use Rattle.qvt_printed_depth.proofs.Pieces.{pc, tc, pc_append, tc_one, tc_last, moved, PStrong, POver, PTurns, QuietPieces, QuietToks, quiet_pieces, quiet_strong, strong_more, over_more, turns_more, word_before, Closes, closes_after, closes_at_once, closes_turns, in_brackets, in_braces, in_blocks, quiet_both, quiet_left, quiet_right}
+use Rattle.qvt_printed_depth.proofs.Forms.{Gives, One, Perhaps, Split, g_the, g_empty, g_follow, g_then, g_split, g_made, g_second, g_first, g_inner, g_either, g_maybe, g_many, g_placed, g_barring, g_weaker, Quiet, q_the, q_then, q_made, q_many, q_maybe, q_either, Prints, s_many, s_maybe}
 use Rattle.qvt_printed_depth.proofs.Exprs.{still_names, still_paths, still_extent, q_name, q_path, q_paths, q_unit_path, q_extent, GivesNested, s_colon_type, o_expr}
-use Rattle.qvt_printed_depth.proofs.Stmts.{EndedIs, g_statements}
+use Rattle.qvt_printed_depth.proofs.Stmts.{g_statements}
 
 abbrev pub PWide : ℕ → List Piece → List Tok → Type 0
 PWide e ps ts = Wide e (pc ps) (tc ts)
@@ -131,7 +126,7 @@ among_all : (e : ℕ) (i p f : List Piece) (u v w x y : List Tok) → tc u ≡ O
 among_all e i p f u v w x y a h k j b =
     subst (λ z. Wide e z (tc (u ++ (v ++ ((w ++ x) ++ y))))) (sym (block_pieces (i ++ (p ++ f))))
     (subst (λ z. Wide e (class.OpenBrace ∷ (pc (i ++ (p ++ f)) ++ (class.CloseBrace ∷ []))) z) (sym (ap (λ z. tc (u ++ z)) (sym (append_assoc v (w ++ x) y)) ∙ braced_toks u (v ++ (w ++ x)) y a b))
-      (parts_braces e (parts_more e i (p ++ f) v (w ++ x) (parts_strong e h) (parts_more e p f w x k (parts_strong e j)))))
+    (parts_braces e (parts_more e i (p ++ f) v (w ++ x) (parts_strong e h) (parts_more e p f w x k (parts_strong e j)))))
 
 -- the population alone
 alone : (ss : List StmtTerm) (u v w x y : List Tok) → tc u ≡ OpenBrace ∷ [] → PStrong [] v → Population w ss → PStrong [] x → tc y ≡ CloseBrace ∷ [] → PStrong (print.block (stmts_of ss)) (u ++ (v ++ ((w ++ x) ++ y)))
@@ -229,9 +224,9 @@ module _ {i : Nested} (h : GivesNested i) where
   unfolding params
   s_params = g_second ParamsAre (g_the OpenRound)
       (g_either (g_made ParamsEnd nothing (g_the CloseRound) (λ ts a x. closes_at_once false CloseRound ts closing_round x.0))
-        (g_first ParamsEnd
-          (g_made (λ ts ps. PStrong (printed.params ps) ts) cons_of (g_then (λ ts a. PStrong (printed.params (cons_of a)) ts) s_param (s_many more_typed printed.more_params refl (λ p ps. refl) comma_param) (λ u v p ps x y. strong_more (printed.typed_name p) (printed.more_params ps) u v x y)) (λ ts a x. x))
-          (g_the CloseRound) (λ u v ps b x y. closes_after true false CloseRound (printed.params ps) u v closing_round y.0 (over_strong true x))))
+      (g_first ParamsEnd
+      (g_made (λ ts ps. PStrong (printed.params ps) ts) cons_of (g_then (λ ts a. PStrong (printed.params (cons_of a)) ts) s_param (s_many more_typed printed.more_params refl (λ p ps. refl) comma_param) (λ u v p ps x y. strong_more (printed.typed_name p) (printed.more_params ps) u v x y)) (λ ts a x. x))
+      (g_the CloseRound) (λ u v ps b x y. closes_after true false CloseRound (printed.params ps) u v closing_round y.0 (over_strong true x))))
       (λ u v b ps x y. (in_brackets (printed.params ps) u v x.0 y, subst Room (sym (tc_one u v x.0)) (room_round (tc v))))
 
   s_feature : Prints (λ t. print.ended (printed.typed_name t)) (feature i)
@@ -249,10 +244,10 @@ module _ {i : Nested} (h : GivesNested i) where
   unfolding class_unit
   g_class_unit = g_made UnitIs class_of (g_placed (g_second ClassIs (q_the IntermediateWord (λ f s. refl)) (g_second ClassIs (q_the ClassWord (λ f s. refl))
       (g_then ClassIs q_name
-        (g_then (λ ts a. PStrong (printed.listed class.ExtendsWord (paths_or_none a.0) ++ print.in_block (printed.fields a.1)) ts)
-          (q_maybe (q_made second (q_then (q_the ExtendsWord (λ f s. refl)) q_paths))) s_features
-          (λ u v ps fs x y. quiet_both (printed.listed class.ExtendsWord (paths_or_none ps)) (print.in_block (printed.fields fs)) u v (still_listed class.ExtendsWord (λ f s. refl) (paths_or_none ps)) x y))
-        (λ u v n a x y. quiet_both (piece.Plain class.IntermediateWord ∷ piece.Plain class.ClassWord ∷ piece.Name n.text ∷ []) (printed.listed class.ExtendsWord (paths_or_none a.0) ++ print.in_block (printed.fields a.1)) u v ((λ f s. refl), ((λ f s. refl), ((λ f s. refl), tt))) x y))
+      (g_then (λ ts a. PStrong (printed.listed class.ExtendsWord (paths_or_none a.0) ++ print.in_block (printed.fields a.1)) ts)
+      (q_maybe (q_made second (q_then (q_the ExtendsWord (λ f s. refl)) q_paths))) s_features
+      (λ u v ps fs x y. quiet_both (printed.listed class.ExtendsWord (paths_or_none ps)) (print.in_block (printed.fields fs)) u v (still_listed class.ExtendsWord (λ f s. refl) (paths_or_none ps)) x y))
+      (λ u v n a x y. quiet_both (piece.Plain class.IntermediateWord ∷ piece.Plain class.ClassWord ∷ piece.Name n.text ∷ []) (printed.listed class.ExtendsWord (paths_or_none a.0) ++ print.in_block (printed.fields a.1)) u v ((λ f s. refl), ((λ f s. refl), ((λ f s. refl), tt))) x y))
       (λ u v w a x y. quiet_right (class_pieces a) u v x y)) (λ u v w a x y. quiet_right (class_pieces a) u v x y))) (λ ts a x. wide_strong 0 x) where
         class_pieces : Named × (Option (List PathTree) × List TypedName) → List Piece
         class_pieces a = piece.Plain class.IntermediateWord ∷ piece.Plain class.ClassWord ∷ piece.Name a.0.text ∷ (printed.listed class.ExtendsWord (paths_or_none a.1.0) ++ print.in_block (printed.fields a.1.1))
@@ -267,9 +262,9 @@ module _ {i : Nested} (h : GivesNested i) where
   unfolding main_unit
   g_main_unit = g_made UnitIs main_of (g_placed (g_second (λ ts ss. PStrong (piece.Plain class.MainWord ∷ main_pieces ss) ts) (q_the MainWord (λ f s. refl))
       (g_second (λ ts ss. PStrong (main_pieces ss) ts) (g_the OpenRound)
-        (g_second (λ ts ss. (u : List Tok) → tc u ≡ OpenRound ∷ [] → PStrong (main_pieces ss) (u ++ ts)) (g_the CloseRound) h.block
-          (λ v w t ss x y u e. subst (PStrong (main_pieces ss)) (append_assoc u v w) (strong_more (print.in_round []) (print.block (stmts_of ss)) (u ++ v) w (in_brackets [] u v e (closes_at_once false CloseRound v closing_round x.0)) y)))
-        (λ u v t ss x y. y u x.0))
+      (g_second (λ ts ss. (u : List Tok) → tc u ≡ OpenRound ∷ [] → PStrong (main_pieces ss) (u ++ ts)) (g_the CloseRound) h.block
+      (λ v w t ss x y u e. subst (PStrong (main_pieces ss)) (append_assoc u v w) (strong_more (print.in_round []) (print.block (stmts_of ss)) (u ++ v) w (in_brackets [] u v e (closes_at_once false CloseRound v closing_round x.0)) y)))
+      (λ u v t ss x y. y u x.0))
       (λ u v w ss x y. quiet_both (piece.Plain class.MainWord ∷ []) (main_pieces ss) u v ((λ f s. refl), tt) x y))) (λ ts a x. wide_strong 0 x)
 
   abbrev HelperBody : List Tok → List StmtTerm → Type 0
@@ -286,8 +281,8 @@ module _ {i : Nested} (h : GivesNested i) where
   unfolding helper_body
   g_helper_body = g_either
       (g_made HelperBody return_body (g_first (λ ts a. HelperBody ts (return_body a))
-        (g_then (λ ts a. (u : List Tok) × (v : List Tok) × (ts ≡ u ++ v) × (tc u ≡ EqualSign ∷ []) × POver true (print.expr a.1) v) (g_the EqualSign) (o_expr h) (λ u v t e x y. (u, v, refl, x.0, y)))
-        (q_the Semicolon (λ f s. refl)) (λ u v a b x y. subst (λ z. HelperBody (z ++ v) (return_body a)) (sym x.2) (returned x.0 x.1 v a.0 a.1 x.3 x.4 y))) (λ ts a x. x))
+      (g_then (λ ts a. (u : List Tok) × (v : List Tok) × (ts ≡ u ++ v) × (tc u ≡ EqualSign ∷ []) × POver true (print.expr a.1) v) (g_the EqualSign) (o_expr h) (λ u v t e x y. (u, v, refl, x.0, y)))
+      (q_the Semicolon (λ f s. refl)) (λ u v a b x y. subst (λ z. HelperBody (z ++ v) (return_body a)) (sym x.2) (returned x.0 x.1 v a.0 a.1 x.3 x.4 y))) (λ ts a x. x))
       (g_weaker h.block HelperBody (λ ts ss x. wide_strong (slack (is_return (stmts_of ss))) x))
 
   s_maybe_type : Prints print.typed_if (maybe (colon_type i))
@@ -297,22 +292,22 @@ module _ {i : Nested} (h : GivesNested i) where
   unfolding helper_unit
   g_helper_unit = g_made UnitIs helper_of (g_then (λ ts a. UnitIs ts (helper_of a)) (q_either (q_the HelperWord (λ f s. refl)) (q_the QueryWord (λ f s. refl)))
       (g_then (λ ts a. PWide (slack (is_return (stmts_of a.1.1.1))) (printed.signature a.0.names a.1.0 ++ (print.typed_if a.1.1.0 ++ print.block (stmts_of a.1.1.1))) ts) q_unit_path
-        (g_then (λ ts a. PWide (slack (is_return (stmts_of a.1.1))) (print.in_round (printed.params a.0) ++ (print.typed_if a.1.0 ++ print.block (stmts_of a.1.1))) ts) s_params
-          (g_then (λ ts a. PWide (slack (is_return (stmts_of a.1))) (print.typed_if a.0 ++ print.block (stmts_of a.1)) ts) s_maybe_type g_helper_body
-            (λ u v t ss x y. wide_after (slack (is_return (stmts_of ss))) (print.typed_if t) (print.block (stmts_of ss)) u v x y))
-          (λ u v ps a x y. wide_after (slack (is_return (stmts_of a.1))) (print.in_round (printed.params ps)) (print.typed_if a.0 ++ print.block (stmts_of a.1)) u v x.0 y))
-        (λ u v p a x y. let rest = print.typed_if a.1.0 ++ print.block (stmts_of a.1.1) in
-          subst (λ z. PWide (slack (is_return (stmts_of a.1.1))) z (u ++ v)) (sym (append_assoc (print.names p.names) (print.in_round (printed.params a.0)) rest))
-          (wide_after (slack (is_return (stmts_of a.1.1))) (print.names p.names) (print.in_round (printed.params a.0) ++ rest) u v (quiet_strong (print.names p.names) u (still_names p.names) x) y)))
+      (g_then (λ ts a. PWide (slack (is_return (stmts_of a.1.1))) (print.in_round (printed.params a.0) ++ (print.typed_if a.1.0 ++ print.block (stmts_of a.1.1))) ts) s_params
+      (g_then (λ ts a. PWide (slack (is_return (stmts_of a.1))) (print.typed_if a.0 ++ print.block (stmts_of a.1)) ts) s_maybe_type g_helper_body
+      (λ u v t ss x y. wide_after (slack (is_return (stmts_of ss))) (print.typed_if t) (print.block (stmts_of ss)) u v x y))
+      (λ u v ps a x y. wide_after (slack (is_return (stmts_of a.1))) (print.in_round (printed.params ps)) (print.typed_if a.0 ++ print.block (stmts_of a.1)) u v x.0 y))
+      (λ u v p a x y. let rest = print.typed_if a.1.0 ++ print.block (stmts_of a.1.1) in
+      subst (λ z. PWide (slack (is_return (stmts_of a.1.1))) z (u ++ v)) (sym (append_assoc (print.names p.names) (print.in_round (printed.params a.0)) rest))
+      (wide_after (slack (is_return (stmts_of a.1.1))) (print.names p.names) (print.in_round (printed.params a.0) ++ rest) u v (quiet_strong (print.names p.names) u (still_names p.names) x) y)))
       (λ u v w a x y. wide_after (slack (is_return (stmts_of a.1.1.1))) (piece.Plain (words.helper_word (is_query w.class)) ∷ []) (printed.signature a.0.names a.1.0 ++ (print.typed_if a.1.1.0 ++ print.block (stmts_of a.1.1.1))) u v
-        (quiet_strong (piece.Plain (words.helper_word (is_query w.class)) ∷ []) u (still_helper (is_query w.class), tt) x) y)) (λ ts a x. x)
+      (quiet_strong (piece.Plain (words.helper_word (is_query w.class)) ∷ []) u (still_helper (is_query w.class), tt) x) y)) (λ ts a x. x)
 
   g_constructor_unit : Gives UnitIs (constructor_unit i)
   unfolding constructor_unit
   g_constructor_unit = g_made UnitIs constructor_of (g_second (λ ts a. PStrong (piece.Plain class.ConstructorWord ∷ (printed.signature a.0.names a.1.0 ++ print.block (stmts_of a.1.1))) ts) (q_the ConstructorWord (λ f s. refl))
       (g_then (λ ts a. PStrong (printed.signature a.0.names a.1.0 ++ print.block (stmts_of a.1.1)) ts) q_unit_path
-        (g_then (λ ts a. PStrong (print.in_round (printed.params a.0) ++ print.block (stmts_of a.1)) ts) s_params h.block (λ u v ps ss x y. strong_more (print.in_round (printed.params ps)) (print.block (stmts_of ss)) u v x.0 y))
-        (λ u v p a x y. subst (λ z. PStrong z (u ++ v)) (sym (append_assoc (print.names p.names) (print.in_round (printed.params a.0)) (print.block (stmts_of a.1)))) (quiet_both (print.names p.names) (print.in_round (printed.params a.0) ++ print.block (stmts_of a.1)) u v (still_names p.names) x y)))
+      (g_then (λ ts a. PStrong (print.in_round (printed.params a.0) ++ print.block (stmts_of a.1)) ts) s_params h.block (λ u v ps ss x y. strong_more (print.in_round (printed.params ps)) (print.block (stmts_of ss)) u v x.0 y))
+      (λ u v p a x y. subst (λ z. PStrong z (u ++ v)) (sym (append_assoc (print.names p.names) (print.in_round (printed.params a.0)) (print.block (stmts_of a.1)))) (quiet_both (print.names p.names) (print.in_round (printed.params a.0) ++ print.block (stmts_of a.1)) u v (still_names p.names) x y)))
       (λ u v w a x y. quiet_both (piece.Plain class.ConstructorWord ∷ []) (printed.signature a.0.names a.1.0 ++ print.block (stmts_of a.1.1)) u v ((λ f s. refl), tt) x y)) (λ ts a x. wide_strong 0 x)
 
   q_result_decl : Quiet result_decl
@@ -323,10 +318,10 @@ module _ {i : Nested} (h : GivesNested i) where
   unfolding when_clause
   s_when_clause = g_second (λ ts e. PStrong (printed.when_if (SomeExpr e)) ts) (q_the WhenWord (λ f s. refl))
       (g_inner (λ ts e. PStrong (piece.Plain class.OpenBrace ∷ (print.expr e ++ print.one class.CloseBrace)) ts) (g_the OpenBrace) (o_expr h) (g_second (λ ts t. Split (λ us b. QuietToks us) (One CloseBrace) ts (t, t)) (q_maybe (q_the Semicolon (λ f s. refl))) (g_the CloseBrace) (λ u v a t x y. (u, v, refl, x, y)))
-        (λ u v w b e c x y z. subst (λ q. PStrong (piece.Plain class.OpenBrace ∷ (print.expr e ++ print.one class.CloseBrace)) (u ++ (v ++ q))) (sym z.2)
-          (subst (λ q. PStrong (piece.Plain class.OpenBrace ∷ (print.expr e ++ print.one class.CloseBrace)) (u ++ q)) (append_assoc v z.0 z.1)
-            (in_braces (print.expr e) u ((v ++ z.0) ++ z.1) x.0 (closes_after true true CloseBrace (print.expr e) (v ++ z.0) z.1 (λ f s. refl) z.4.0
-              (subst (λ q. POver true q (v ++ z.0)) (append-nil (print.expr e)) (over_more true (print.expr e) [] v z.0 y (quiet_idle z.0 z.3))))))))
+      (λ u v w b e c x y z. subst (λ q. PStrong (piece.Plain class.OpenBrace ∷ (print.expr e ++ print.one class.CloseBrace)) (u ++ (v ++ q))) (sym z.2)
+      (subst (λ q. PStrong (piece.Plain class.OpenBrace ∷ (print.expr e ++ print.one class.CloseBrace)) (u ++ q)) (append_assoc v z.0 z.1)
+      (in_braces (print.expr e) u ((v ++ z.0) ++ z.1) x.0 (closes_after true true CloseBrace (print.expr e) (v ++ z.0) z.1 (λ f s. refl) z.4.0
+      (subst (λ q. POver true q (v ++ z.0)) (append-nil (print.expr e)) (over_more true (print.expr e) [] v z.0 y (quiet_idle z.0 z.3))))))))
       (λ u v w e x y. quiet_both (piece.Plain class.WhenWord ∷ []) (piece.Plain class.OpenBrace ∷ (print.expr e ++ print.one class.CloseBrace)) u v ((λ f s. refl), tt) x y)
 
   q_listed : (c : Class) → Still c → Quiet (made second (then (the c) paths))
@@ -346,7 +341,7 @@ module _ {i : Nested} (h : GivesNested i) where
   g_clauses zero x = g_made (ClausesAfter x) (kept x) g_empty (λ ts a e u k. same_when x.condition u ts (subst QuietToks (sym e) tt) k)
   g_clauses (suc n) x = g_made (ClausesAfter x) (or_same x)
       (g_maybe (g_made (ClausesAfter x) second (g_follow (λ ts a. ClausesAfter x ts a.1) (g_fresh x) (g_clauses n)
-        (λ v w y z k j u q. subst (λ t. WhenIs t z.condition) (append_assoc u v w) (j (u ++ v) (k u q)))) (λ ts a k. k))) (λ ts y k. or_is x ts y k)
+      (λ v w y z k j u q. subst (λ t. WhenIs t z.condition) (append_assoc u v w) (j (u ++ v) (k u q)))) (λ ts a k. k))) (λ ts y k. or_is x ts y k)
 
   -- the body
   s_init_part : Prints (λ ss. printed.section class.InitWord (stmts_of ss)) (init_part i)
@@ -371,19 +366,19 @@ module _ {i : Nested} (h : GivesNested i) where
   unfolding sections
   g_sections = g_either
       (g_made SectionsAre sections_of (g_second (λ ts a. SectionsAre ts (sections_of a)) (q_the PopulationWord (λ f s. refl)) (g_split h.block g_maybe_end)
-        (λ u v w a x y. record { front = u ++ y.0; back = y.1; same = ap (λ z. u ++ z) y.2 ∙ sym (append_assoc u y.0 y.1); population = inl (quiet_right (print.block (stmts_of a.0)) u y.0 x y.3); finish = y.4 })) (λ ts a x. x))
+      (λ u v w a x y. record { front = u ++ y.0; back = y.1; same = ap (λ z. u ++ z) y.2 ∙ sym (append_assoc u y.0 y.1); population = inl (quiet_right (print.block (stmts_of a.0)) u y.0 x y.3); finish = y.4 })) (λ ts a x. x))
       (g_made SectionsAre open_sections_of (g_follow (λ ts a. SectionsAre ts (open_sections_of a)) (g_statements h) (λ x. g_end_unless x.open_end)
-        (λ u v x e y z. record { front = u; back = v; same = refl; population = inr y; finish = z })) (λ ts a x. x))
+      (λ u v x e y z. record { front = u; back = v; same = refl; population = inr y; finish = z })) (λ ts a x. x))
 
   g_body : Gives BodyIs (body i)
   unfolding body
   g_body = g_either
       (g_made BodyIs empty_body (g_the Semicolon) (λ ts t x. subst (Spare 0 (class.OpenBrace ∷ class.CloseBrace ∷ [])) (sym x.0) spare_empty))
       (g_made BodyIs body_of (g_weaker (g_split (g_the OpenBrace) (g_split (g_weaker (g_maybe s_init_part) (λ ts ss. PStrong (printed.section class.InitWord (stmts_of (stmts_or_none ss))) ts) (λ ts ss x. init_or_none class.InitWord ts ss x)) (g_split g_sections (g_the CloseBrace))))
-        (λ ts a. BodyIs ts (body_of a))
-        (λ ts a x. let y = x.4 in let z = y.4 in let s = z.3 in
-          subst (PSpare (body_slack (body_of a)) (body_pieces (body_of a))) (sym (x.2 ∙ ap (λ w. x.0 ++ w) (y.2 ∙ ap (λ w. y.0 ++ w) (z.2 ∙ ap (λ w. w ++ z.1) s.same))))
-          (spare_wide (body_slack (body_of a)) (body_is (stmts_or_none a.1.0) a.1.1.0.0 a.1.1.0.1 x.0 y.0 s.front s.back z.1 x.3.0 y.3 s.population s.finish z.4.0)))) (λ ts a x. x))
+      (λ ts a. BodyIs ts (body_of a))
+      (λ ts a x. let y = x.4 in let z = y.4 in let s = z.3 in
+      subst (PSpare (body_slack (body_of a)) (body_pieces (body_of a))) (sym (x.2 ∙ ap (λ w. x.0 ++ w) (y.2 ∙ ap (λ w. y.0 ++ w) (z.2 ∙ ap (λ w. w ++ z.1) s.same))))
+      (spare_wide (body_slack (body_of a)) (body_is (stmts_or_none a.1.0) a.1.1.0.0 a.1.1.0.1 x.0 y.0 s.front s.back z.1 x.3.0 y.3 s.population s.finish z.4.0)))) (λ ts a x. x))
 
   -- what stands between the parameters and the body
   abbrev extra_pieces : Clauses → List Piece
@@ -405,14 +400,14 @@ module _ {i : Nested} (h : GivesNested i) where
   unfolding mapping_unit
   g_mapping_unit = g_made UnitIs mapping_of (g_second (λ ts a. UnitIs ts (mapping_of a)) (q_the MappingWord (λ f s. refl))
       (g_then (λ ts a. PWide (body_slack a.1.1.1.1) (printed.signature a.0.names a.1.0 ++ tail_pieces a.1.1) ts) q_unit_path
-        (g_then (λ ts a. PWide (body_slack a.1.1.1) (print.in_round (printed.params a.0) ++ tail_pieces a.1) ts) s_params
-          (g_then (λ ts a. PSpare (body_slack a.1.1) (tail_pieces a) ts) (q_maybe q_result_decl)
-            (g_then (λ ts a. PSpare (body_slack a.1) (extra_pieces a.0 ++ body_pieces a.1) ts) (g_clauses 4 no_clauses) g_body
-              (λ u v c b x y. spare_after (body_slack b) (extra_pieces c) (body_pieces b) u v (extras_are c u (x [] (quiet_strong [] [] tt tt))) y))
-            (λ u v r a x y. spare_after (body_slack a.1) (printed.result_if r) (extra_pieces a.0 ++ body_pieces a.1) u v (quiet_strong (printed.result_if r) u (still_result r) x) y))
-          (λ u v ps a x y. room_after (body_slack a.1.1) (print.in_round (printed.params ps)) (tail_pieces a) u v x.0 x.1 y))
-        (λ u v p a x y. subst (λ z. PWide (body_slack a.1.1.1) z (u ++ v)) (sym (append_assoc (print.names p.names) (print.in_round (printed.params a.0)) (tail_pieces a.1)))
-          (wide_after (body_slack a.1.1.1) (print.names p.names) (print.in_round (printed.params a.0) ++ tail_pieces a.1) u v (quiet_strong (print.names p.names) u (still_names p.names) x) y)))
+      (g_then (λ ts a. PWide (body_slack a.1.1.1) (print.in_round (printed.params a.0) ++ tail_pieces a.1) ts) s_params
+      (g_then (λ ts a. PSpare (body_slack a.1.1) (tail_pieces a) ts) (q_maybe q_result_decl)
+      (g_then (λ ts a. PSpare (body_slack a.1) (extra_pieces a.0 ++ body_pieces a.1) ts) (g_clauses 4 no_clauses) g_body
+      (λ u v c b x y. spare_after (body_slack b) (extra_pieces c) (body_pieces b) u v (extras_are c u (x [] (quiet_strong [] [] tt tt))) y))
+      (λ u v r a x y. spare_after (body_slack a.1) (printed.result_if r) (extra_pieces a.0 ++ body_pieces a.1) u v (quiet_strong (printed.result_if r) u (still_result r) x) y))
+      (λ u v ps a x y. room_after (body_slack a.1.1) (print.in_round (printed.params ps)) (tail_pieces a) u v x.0 x.1 y))
+      (λ u v p a x y. subst (λ z. PWide (body_slack a.1.1.1) z (u ++ v)) (sym (append_assoc (print.names p.names) (print.in_round (printed.params a.0)) (tail_pieces a.1)))
+      (wide_after (body_slack a.1.1.1) (print.names p.names) (print.in_round (printed.params a.0) ++ tail_pieces a.1) u v (quiet_strong (print.names p.names) u (still_names p.names) x) y)))
       (λ u v w a x y. wide_after (body_slack a.1.1.1.1) (piece.Plain class.MappingWord ∷ []) (printed.signature a.0.names a.1.0 ++ tail_pieces a.1.1) u v (quiet_strong (piece.Plain class.MappingWord ∷ []) u ((λ f s. refl), tt) x) y)) (λ ts a x. x)
 
   g_unit : Gives UnitIs (unit i)
@@ -443,9 +438,9 @@ i_uri : Idle uri
 unfolding uri
 i_uri = g_either (i_quiet (q_made text_of (q_the Str (λ f s. refl))))
     (g_second (λ ts a. PStrong [] ts) (i_quiet (q_the Name (λ f s. refl)))
-      (g_inner (λ ts a. PStrong [] ts) (g_the OpenRound) (i_quiet (q_made text_of (q_the Str (λ f s. refl)))) (g_the CloseRound)
-        (λ u v w b t c x y z. strong_drop (in_brackets [] u (v ++ w) x.0 (closes_after true false CloseRound [] v w closing_round z.0 (over_strong true y)))))
-      (λ u v a b x y. strong_more [] [] u v x y))
+    (g_inner (λ ts a. PStrong [] ts) (g_the OpenRound) (i_quiet (q_made text_of (q_the Str (λ f s. refl)))) (g_the CloseRound)
+    (λ u v w b t c x y z. strong_drop (in_brackets [] u (v ++ w) x.0 (closes_after true false CloseRound [] v w closing_round z.0 (over_strong true y)))))
+    (λ u v a b x y. strong_more [] [] u v x y))
 
 s_model_type : Prints printed.model_type model_type
 unfolding model_type
@@ -486,14 +481,14 @@ s_header : Prints header_pieces header
 unfolding header
 s_header = g_second (λ ts a. PStrong (header_pieces a) ts) (q_the TransformationWord (λ f s. refl))
     (g_then (λ ts a. PStrong (piece.Name a.0 ∷ header_end a.1) ts) (q_made text_of (q_the Name (λ f s. refl)))
-      (g_inner (λ ts ps. PStrong (header_end ps) ts) (g_the OpenRound) (q_made cons_of (q_then q_model_param (q_many (q_made second (q_then (q_the Comma (λ f s. refl)) q_model_param)))))
-        (g_first (λ ts t. Split (One CloseRound) (λ us b. QuietToks us) ts (t, t)) (g_the CloseRound) (q_the Semicolon (λ f s. refl)) (λ u v a t x y. (u, v, refl, (x.0, x.1), y)))
-        (λ u v w b ps c x y z. subst (λ q. PStrong (header_end ps) (u ++ (v ++ q))) (sym z.2)
-          (subst (PStrong (header_end ps)) (append_assoc u (v ++ z.0) z.1 ∙ ap (λ q. u ++ q) (append_assoc v z.0 z.1))
-            (strong_more (print.in_round (printed.model_params ps)) (print.one class.Semicolon) (u ++ (v ++ z.0)) z.1
-              (in_brackets (printed.model_params ps) u (v ++ z.0) x.0 (closes_after true false CloseRound (printed.model_params ps) v z.0 closing_round z.3.0 (over_strong true (quiet_strong (printed.model_params ps) v (still_model_params ps) y))))
-              (quiet_strong (print.one class.Semicolon) z.1 ((λ f s. refl), tt) z.4)))))
-      (λ u v n ps x y. quiet_both (piece.Name n ∷ []) (header_end ps) u v ((λ f s. refl), tt) x y))
+    (g_inner (λ ts ps. PStrong (header_end ps) ts) (g_the OpenRound) (q_made cons_of (q_then q_model_param (q_many (q_made second (q_then (q_the Comma (λ f s. refl)) q_model_param)))))
+    (g_first (λ ts t. Split (One CloseRound) (λ us b. QuietToks us) ts (t, t)) (g_the CloseRound) (q_the Semicolon (λ f s. refl)) (λ u v a t x y. (u, v, refl, (x.0, x.1), y)))
+    (λ u v w b ps c x y z. subst (λ q. PStrong (header_end ps) (u ++ (v ++ q))) (sym z.2)
+    (subst (PStrong (header_end ps)) (append_assoc u (v ++ z.0) z.1 ∙ ap (λ q. u ++ q) (append_assoc v z.0 z.1))
+    (strong_more (print.in_round (printed.model_params ps)) (print.one class.Semicolon) (u ++ (v ++ z.0)) z.1
+    (in_brackets (printed.model_params ps) u (v ++ z.0) x.0 (closes_after true false CloseRound (printed.model_params ps) v z.0 closing_round z.3.0 (over_strong true (quiet_strong (printed.model_params ps) v (still_model_params ps) y))))
+    (quiet_strong (print.one class.Semicolon) z.1 ((λ f s. refl), tt) z.4)))))
+    (λ u v n ps x y. quiet_both (piece.Name n ∷ []) (header_end ps) u v ((λ f s. refl), tt) x y))
     (λ u v w a x y. quiet_both (piece.Plain class.TransformationWord ∷ []) (piece.Name a.0 ∷ header_end a.1) u v ((λ f s. refl), tt) x y)
 
 -- the units
@@ -536,8 +531,8 @@ pub g_transformation : {i : Nested} → GivesNested i → Gives ModuleIs (transf
 unfolding transformation
 g_transformation h = g_made ModuleIs module_of
     (g_weaker (g_split (s_many (λ t. printed.model_type t ++ (piece.Line ∷ [])) printed.model_types refl (λ t ts. sym (append_assoc (printed.model_type t) (piece.Line ∷ []) (printed.model_types ts))) typed) (g_split s_header
-      (g_many (λ ts uss. UnitsAre ts (units_of uss)) (g_either (g_made UnitsAre nothing (q_the Semicolon (λ f s. refl)) (λ ts t x e n. wide_strong e (quiet_idle ts x))) (g_made UnitsAre some_unit (g_unit h) (λ ts u x. one_unit ts u x))) (λ e n. no_units e) more_units)))
-      (λ ts a. ModuleIs ts (module_of a))
-      (λ ts a x. let y = x.4 in subst (λ z. ModuleIs z (module_of a)) (sym (x.2 ∙ ap (λ z. x.0 ++ z) y.2)) (module_is x.0 y.0 y.1 a.0 a.1.0 a.1.1 x.3 y.3 y.4))) (λ ts a x. x) where
-        typed : Prints (λ t. printed.model_type t ++ (piece.Line ∷ [])) model_type
-        typed = g_weaker s_model_type (λ ts t. PStrong (printed.model_type t ++ (piece.Line ∷ [])) ts) (λ ts t x. subst (PStrong (printed.model_type t ++ (piece.Line ∷ []))) (append-nil ts) (strong_more (printed.model_type t) (piece.Line ∷ []) ts [] x (quiet_strong (piece.Line ∷ []) [] tt tt)))
+    (g_many (λ ts uss. UnitsAre ts (units_of uss)) (g_either (g_made UnitsAre nothing (q_the Semicolon (λ f s. refl)) (λ ts t x e n. wide_strong e (quiet_idle ts x))) (g_made UnitsAre some_unit (g_unit h) (λ ts u x. one_unit ts u x))) (λ e n. no_units e) more_units)))
+    (λ ts a. ModuleIs ts (module_of a))
+    (λ ts a x. let y = x.4 in subst (λ z. ModuleIs z (module_of a)) (sym (x.2 ∙ ap (λ z. x.0 ++ z) y.2)) (module_is x.0 y.0 y.1 a.0 a.1.0 a.1.1 x.3 y.3 y.4))) (λ ts a x. x) where
+      typed : Prints (λ t. printed.model_type t ++ (piece.Line ∷ [])) model_type
+      typed = g_weaker s_model_type (λ ts t. PStrong (printed.model_type t ++ (piece.Line ∷ [])) ts) (λ ts t x. subst (PStrong (printed.model_type t ++ (piece.Line ∷ []))) (append-nil ts) (strong_more (printed.model_type t) (piece.Line ∷ []) ts [] x (quiet_strong (piece.Line ∷ []) [] tt tt)))

@@ -3,9 +3,9 @@ use Rattle.std.proofs.Common.{◌≡◌, ℕ, suc, ◌+◌, ◌≤◌, List, [],
 use Rattle.qvt_parser_grammar.specs.declared.token.Class.{Class}
 use Rattle.qvt_parser_grammar.specs.declared.token.Class.TheVariants.{OpenRound, OpenBrace, CloseBrace, Semicolon, PopulationWord}
 use Rattle.qvt_parser_tokens.specs.declared.depth.Open.{Open}
-use Rattle.qvt_parser_tokens.specs.declared.depth.Open.TheVariants.{Bracket, Conditional}
+use Rattle.qvt_parser_tokens.specs.declared.depth.Open.TheVariants.{Bracket}
 use Rattle.qvt_parser_tokens.specs.Depth.{closed, after, begins_statement}
-use Rattle.qvt_printed_depth.proofs.Runs.{items_after, fresh_after, Below, Lower, items_append, now_below, below_front, below_back, below_join, lower_then, lengths, at_most, Strong, Inside, brace_inside}
+use Rattle.qvt_printed_depth.proofs.Runs.{items_after, fresh_after, Below, Lower, items_append, now_below, below_front, below_back, below_join, lower_then, lengths, at_most, Strong}
 use Rattle.qvt_printed_depth.proofs.Turns.{Rests, rests_length, rests_closed, Turns}
 
 pub record Wide (e : ℕ) (us ts : List Class) : Type 0 where
@@ -85,9 +85,11 @@ pub wide_braces : {us ts : List Class} → Strong us ts → Wide 1 (OpenBrace �
 wide_braces {us} {ts} h = record {
   back_u = λ f s. items_append true (Bracket ∷ s) us (CloseBrace ∷ []) ∙ ap closed (h.back_u true (Bracket ∷ s));
   back_t = h.back_t;
-  low = λ d fu ft su st j n l. let k = now_below ft st ts l in
-      (omega (arith, j, k), below_join (n + (1 + d)) true (Bracket ∷ su) us (CloseBrace ∷ []) (h.low (1 + d) true ft (Bracket ∷ su) st (omega (arith, j)) n l)
-      (subst (λ z. length z ≤ n + (1 + d)) (sym (h.back_u true (Bracket ∷ su))) (omega (arith, j, k)), subst (λ z. length z ≤ n + (1 + d)) (sym (ap closed (h.back_u true (Bracket ∷ su)))) (omega (arith, j, k))));
+  low = λ d fu ft su st j n l. let k = now_below ft st ts l in (
+    omega (arith, j, k),
+    below_join (n + (1 + d)) true (Bracket ∷ su) us (CloseBrace ∷ []) (h.low (1 + d) true ft (Bracket ∷ su) st (omega (arith, j)) n l)
+        (subst (λ z. length z ≤ n + (1 + d)) (sym (h.back_u true (Bracket ∷ su))) (omega (arith, j, k)), subst (λ z. length z ≤ n + (1 + d)) (sym (ap closed (h.back_u true (Bracket ∷ su)))) (omega (arith, j, k))),
+  );
 }
 
 -- and the text may have braces that the printed text leaves out
@@ -125,9 +127,14 @@ parts_turns {us} {ts} h = record {
   back_u = λ f s. items_append true (Bracket ∷ Bracket ∷ s) us (CloseBrace ∷ []) ∙ ap closed (h.back_u (Bracket ∷ s));
   back_t = h.back_t;
   low = λ d fu ft su base st j r n l. let k = now_below ft st ts l in
-      let q = rests_length base st r in
-      (omega (arith, j, k, q), (omega (arith, j, k, q), below_join (n + (1 + d)) true (Bracket ∷ Bracket ∷ su) us (CloseBrace ∷ []) (h.low (1 + d) ft (Bracket ∷ su) base st (omega (arith, j)) r n l)
-      (subst (λ z. length z ≤ n + (1 + d)) (sym (h.back_u (Bracket ∷ su))) (omega (arith, j, k, q)), subst (λ z. length z ≤ n + (1 + d)) (sym (ap closed (h.back_u (Bracket ∷ su)))) (omega (arith, j, k, q)))));
+      let q = rests_length base st r in (
+        omega (arith, j, k, q),
+        (
+          omega (arith, j, k, q),
+          below_join (n + (1 + d)) true (Bracket ∷ Bracket ∷ su) us (CloseBrace ∷ []) (h.low (1 + d) ft (Bracket ∷ su) base st (omega (arith, j)) r n l)
+              (subst (λ z. length z ≤ n + (1 + d)) (sym (h.back_u (Bracket ∷ su))) (omega (arith, j, k, q)), subst (λ z. length z ≤ n + (1 + d)) (sym (ap closed (h.back_u (Bracket ∷ su)))) (omega (arith, j, k, q))),
+        ),
+      );
 }
 
 pub parts_none : (e : ℕ) {ts : List Class} → Turns [] ts → Parts e [] ts
@@ -153,7 +160,9 @@ parts_braces e {us} {ts} h = record {
   low = λ d fu ft su st j n l. let v = items_after true (Bracket ∷ st) ts in
       let r = h.back_t true st (Bracket ∷ st) refl in
       let q = rests_length st v r in
-      let k = now_below true (Bracket ∷ st) (ts ++ (CloseBrace ∷ [])) l.1 in
-      (omega (arith, j, l.0), below_join (n + (e + d)) true (Bracket ∷ su) us (CloseBrace ∷ []) (h.low d true true su st (Bracket ∷ st) j refl n (below_front n true (Bracket ∷ st) ts (CloseBrace ∷ []) l.1))
-      (subst (λ z. length z ≤ n + (e + d)) (sym (h.back_u true su)) (omega (arith, j, k)), subst (λ z. length z ≤ n + (e + d)) (sym (ap closed (h.back_u true su))) (omega (arith, j, l.0))));
+      let k = now_below true (Bracket ∷ st) (ts ++ (CloseBrace ∷ [])) l.1 in (
+        omega (arith, j, l.0),
+        below_join (n + (e + d)) true (Bracket ∷ su) us (CloseBrace ∷ []) (h.low d true true su st (Bracket ∷ st) j refl n (below_front n true (Bracket ∷ st) ts (CloseBrace ∷ []) l.1))
+            (subst (λ z. length z ≤ n + (e + d)) (sym (h.back_u true su)) (omega (arith, j, k)), subst (λ z. length z ≤ n + (e + d)) (sym (ap closed (h.back_u true su))) (omega (arith, j, l.0))),
+      );
 }
