@@ -1,5 +1,5 @@
 -- The law on the depth of printed texts.
-use Rattle.std.proofs.Common.{◌≡◌, ◌↔◌, ℕ, suc, ◌+◌, ◌≤◌, ◌<◌, List, [], ◌∷◌, ◌++◌, map, length, Bool, true, false, ◌||◌, if◌then◌else◌, refl, sym, ap, ◌∙◌, subst, Option, Some, None, arith, nat_le, leb-true, leb-false, le-leb}
+use Rattle.std.proofs.Common.{◌≡◌, ℕ, ◌+◌, ◌≤◌, List, [], ◌∷◌, ◌++◌, map, length, Bool, true, false, ◌||◌, if◌then◌else◌, refl, sym, ap, ◌∙◌, subst, Option, Some, None, arith, nat_le, leb-true, leb-false, le-leb}
 use Rattle.std.specs.List.{list_any}
 use Rattle.qvt_base.specs.declared.numbers.Place.{Place}
 use Rattle.qvt_tree_types.specs.Module.{UnitTerm, ModuleTerm}
@@ -7,7 +7,7 @@ use Rattle.qvt_parser_grammar.specs.Tokens.{Tok}
 use Rattle.qvt_parser_grammar.specs.Module.{Reads}
 use Rattle.qvt_parser_grammar.specs.Trees.{is_there}
 use Rattle.qvt_parser_tokens.specs.declared.depth.Open.{Open}
-use Rattle.qvt_parser_tokens.specs.Depth.{after, begins_statement, deep_from, deep}
+use Rattle.qvt_parser_tokens.specs.Depth.{after, begins_statement, deep_from}
 use Rattle.qvt_printer.specs.Units.{module_pieces}
 use Rattle.qvt_printer_layout.specs.declared.piece.Piece.{Piece}
 use Rattle.qvt_printer_layout.specs.declared.piece.Piece.TheVariants.{Plain, Name, Integer, Quoted, Tight, Line, Indent, Dedent}
@@ -17,7 +17,7 @@ use Rattle.qvt_printed_depth.specs.Law.{gets_block, PrintedIsAsDeep}
 use Rattle.qvt_printed_depth.proofs.Runs.{Below}
 use Rattle.qvt_printed_depth.proofs.Pieces.{piece_class, pc, tc, tc_append}
 use Rattle.qvt_printed_depth.proofs.Stmts.{of_nested}
-use Rattle.qvt_printed_depth.proofs.Units.{slack, slack_one, Enough, ModuleIs, g_transformation}
+use Rattle.qvt_printed_depth.proofs.Units.{slack, slack_one, Enough, g_transformation}
 
 -- the greater of two
 if_le : (x : Bool) (a b n : ℕ) → a ≤ n → b ≤ n → (if x then b else a) ≤ n

@@ -1,7 +1,6 @@
 -- The productions of names, types and expressions read what prints no deeper.
-use Rattle.std.proofs.Common.{◌≡◌, ℕ, List, [], ◌∷◌, ◌++◌, map, Bool, true, false, ◌⊎◌, inl, inr, refl, sym, ap, ◌∙◌, subst, append_assoc, append-nil, Option, Some, None, IsTrue}
-use Rattle.qvt_base.specs.declared.numbers.Place.{Place}
-use Rattle.qvt_tree_types.specs.Tree.{TypeTerm, CollType, PathType, ExprTerm, MapExpr, ResolveExpr, CallExpr, CollExpr, PathExpr, RangeTerm, ItemTerm, MapTerm, ResolveTerm, ResolveOf, FilterTerm, NoFilter, FilterOf, TargetTerm, ForEachStmt, StmtTerm}
+use Rattle.std.proofs.Common.{◌≡◌, ℕ, List, [], ◌∷◌, ◌++◌, Bool, true, false, ◌⊎◌, inl, inr, refl, sym, subst, append_assoc, append-nil, Option, Some, None, IsTrue}
+use Rattle.qvt_tree_types.specs.Tree.{TypeTerm, PathType, ExprTerm, MapExpr, ResolveExpr, ItemTerm, FilterTerm, NoFilter, FilterOf, TargetTerm, ForEachStmt}
 use Rattle.qvt_tree_types.specs.View.{exprs_of, items_of, stmts_of, optional_expr, optional_range, optional_filter}
 use Rattle.qvt_tree_types.specs.declared.types.PathTree.{PathTree}
 use Rattle.qvt_tree_types.specs.declared.types.ObjectVar.{ObjectVar}
@@ -14,21 +13,20 @@ use Rattle.qvt_grammar.specs.Language.{Language, then, made, maybe}
 use Rattle.qvt_parser_grammar.specs.Tokens.{Tok}
 use Rattle.qvt_parser_grammar.specs.Readers.{the, nowhere}
 use Rattle.qvt_parser_grammar.specs.declared.named.Named.{Named}
-use Rattle.qvt_parser_grammar.specs.declared.named.UnitPath.{UnitPath}
 use Rattle.qvt_parser_grammar.specs.declared.token.Class.{Class}
 use Rattle.qvt_parser_grammar.specs.declared.token.Class.TheVariants as class
 use Rattle.qvt_parser_grammar.specs.declared.token.Class.TheVariants.{Name, Integer, Str, OpenRound, CloseRound, OpenBrace, CloseBrace, Comma, Colon, DoubleColon, DotDot, Bar, AtSign, BagWord, ElseWord, EndifWord, FalseWord, IfWord, InvResolveWord, InvResolveInWord, InvResolveOneWord, InvResolveOneInWord, LateWord, MapWord, NewWord, NullWord, ObjectWord, OrderedSetWord, ResolveAllWord, ResolveInWord, ResolveOneWord, ResolveOneInWord, ResultWord, SelfWord, SequenceWord, SetWord, ThenWord, TrueWord, XmapWord}
 use Rattle.qvt_parser_grammar.specs.Leads.{Lead, Plain, Bracketed, Each, EachPart}
 use Rattle.qvt_parser_grammar.specs.Grammar.{Nested, name, more_names, path, paths, unit_path, extent, kind_word, coll_type, typed, colon_type, expr, exprs, args, literal, word, named_expr, item, coll, if_expr, colon_path, object_head, object, new_expr, map_call, filter_head, bar_expr, filter, all_word, in_word, all_form, in_form, resolve, brackets, longer, bare_expr, other_primary, primary, more_exprs}
-use Rattle.qvt_parser_grammar.specs.Trees.{second, first, cons_of, nothing, text_of, named_of, path_of, unit_path_of, coll_kind, coll_type_of, int_of, str_of, true_of, false_of, null_of, self_of, result_of, named_expr_of, coll_of, range_of, item_of, if_of, result_head, named_head, object_of, new_of, is_strict, map_of, all_of, in_of, is_there, resolve_of, no_name, named_type, filter_of, bare, bracketed, expr_of}
+use Rattle.qvt_parser_grammar.specs.Trees.{second, cons_of, nothing, text_of, named_of, path_of, unit_path_of, coll_kind, coll_type_of, int_of, str_of, true_of, false_of, null_of, self_of, result_of, named_expr_of, coll_of, range_of, item_of, if_of, result_head, named_head, object_of, new_of, is_strict, map_of, all_of, in_of, is_there, resolve_of, no_name, named_type, filter_of, bare, bracketed, expr_of}
 use Rattle.qvt_printer.specs.Expressions as print
 use Rattle.qvt_printer.specs.Levels.{is_chain_or_prefix}
 use Rattle.qvt_printer_layout.specs.Words as words
 use Rattle.qvt_printer_layout.specs.declared.piece.Piece.{Piece}
 use Rattle.qvt_printer_layout.specs.declared.piece.Piece.TheVariants as piece
-use Rattle.qvt_printed_depth.proofs.Runs.{Still, AllStill, Closing, Strong, Ender, over_strong}
+use Rattle.qvt_printed_depth.proofs.Runs.{Still, AllStill, Closing, Ender, over_strong}
 use Rattle.qvt_printed_depth.proofs.Pieces.{pc, tc, PStrong, POver, QuietPieces, QuietToks, quiet_toks, quiet_pieces, quiet_strong, strong_more, over_more, ender_before, word_before, Closes, closes_after, closes_at_once, in_brackets, in_item_braces, without_brackets, if_whole, ender_last, quiet_both, quiet_left, quiet_right}
-use Rattle.qvt_printed_depth.proofs.Forms.{Gives, One, Perhaps, Either, g_the, g_then, g_made, g_second, g_first, g_inner, g_either, g_maybe, g_placed, g_weaker, Quiet, q_the, q_then, q_made, q_many, q_maybe, q_either, Prints, s_many, s_maybe}
+use Rattle.qvt_printed_depth.proofs.Forms.{Gives, Perhaps, Either, g_the, g_then, g_made, g_second, g_first, g_inner, g_either, g_maybe, g_placed, Quiet, q_the, q_then, q_made, q_many, q_maybe, q_either, Prints, s_many, s_maybe}
 
 -- what prints names opens and closes nothing
 pub still_names : (ns : List (List ℕ)) → QuietPieces (print.names ns)

@@ -1,8 +1,7 @@
 -- What holds of the tokens that a language reads and of their value, by the forms of the grammar.
-use Rattle.std.proofs.Common.{◌≡◌, List, [], ◌∷◌, ◌++◌, Bool, ◌⊎◌, inl, inr, refl, sym, ap, ◌∙◌, subst, Option, Some, None, IsTrue}
+use Rattle.std.proofs.Common.{◌≡◌, List, [], ◌∷◌, ◌++◌, Bool, ◌⊎◌, inl, inr, sym, ap, ◌∙◌, subst, Option, Some, None}
 use Rattle.qvt_grammar.specs.Language.{Language, follow, then, either, turns, many, made, never, empty, maybe, lastly}
-use Rattle.qvt_parser_grammar.specs.Tokens.{Tok, is}
-use Rattle.qvt_base.specs.declared.numbers.Place.{Place}
+use Rattle.qvt_parser_grammar.specs.Tokens.{Tok}
 use Rattle.qvt_parser_grammar.specs.Readers.{the, placed}
 use Rattle.qvt_parser_grammar.specs.Series.{left, right, series, finished, barring}
 use Rattle.qvt_parser_grammar.specs.Trees.{second, first, inner}

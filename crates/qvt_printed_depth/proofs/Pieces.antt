@@ -1,12 +1,12 @@
 -- The classes of pieces and of tokens, and how both open and close items.
-use Rattle.std.proofs.Common.{IsTrue, ◌≡◌, ℕ, List, [], ◌∷◌, ◌++◌, Bool, true, false, refl, sym, ap, ◌∙◌, subst, append_assoc}
+use Rattle.std.proofs.Common.{IsTrue, ◌≡◌, List, [], ◌∷◌, ◌++◌, Bool, true, false, refl, sym, ap, ◌∙◌, subst, append_assoc}
 use Rattle.qvt_parser_grammar.specs.Tokens.{Tok}
 use Rattle.qvt_parser_grammar.specs.declared.token.Class.{Class}
 use Rattle.qvt_parser_grammar.specs.declared.token.Class.TheVariants as class
 use Rattle.qvt_printer_layout.specs.declared.piece.Piece.{Piece}
 use Rattle.qvt_printer_layout.specs.declared.piece.Piece.TheVariants.{Plain, Name, Integer, Quoted, Tight, Line, Indent, Dedent}
 use Rattle.qvt_printer.specs.Expressions.{in_round, in_block, in_items, round_if}
-use Rattle.qvt_printed_depth.proofs.Runs.{Still, AllStill, Word, Closing, Strong, Over, Inside, Ender, strong_nil, strong_then, strong_still, over_then, word_over, inside_over, round_inside, brace_inside, over_bare, over_strong, ender_then, ender_endif, if_over, all_still_append}
+use Rattle.qvt_printed_depth.proofs.Runs.{AllStill, Word, Closing, Strong, Over, Inside, Ender, strong_nil, strong_then, strong_still, over_then, word_over, inside_over, round_inside, brace_inside, over_bare, over_strong, ender_then, ender_endif, if_over, all_still_append}
 use Rattle.qvt_printed_depth.proofs.Turns.{Turns, Ends, turns_then, turns_inside, ends_append}
 
 abbrev pub piece_class : Piece → List Class
@@ -49,9 +49,6 @@ PStrong ps ts = Strong (pc ps) (tc ts)
 
 abbrev pub POver : Bool → List Piece → List Tok → Type 0
 POver o ps ts = Over o (pc ps) (tc ts)
-
-abbrev pub PInside : Bool → List Piece → List Tok → Type 0
-PInside g ps ts = Inside g (pc ps) (tc ts)
 
 abbrev pub PTurns : List Piece → List Tok → Type 0
 PTurns ps ts = Turns (pc ps) (tc ts)

@@ -1,35 +1,29 @@
 -- The productions of steps, operands and chains read what prints no deeper.
-use Rattle.std.proofs.Common.{◌≡◌, ℕ, zero, suc, ◌≤◌, ◌<◌, List, [], ◌∷◌, ◌++◌, Bool, true, false, ◌⊎◌, inl, inr, refl, sym, ap, ◌∙◌, subst, append_assoc, append-nil, Option, Some, None, IsTrue, arith, nat_le, leb-true, le-leb, lit≤}
+use Rattle.std.proofs.Common.{◌≡◌, ℕ, zero, suc, ◌≤◌, ◌<◌, List, [], ◌∷◌, ◌++◌, Bool, true, false, refl, sym, ap, ◌∙◌, subst, append_assoc, append-nil, Some, None, IsTrue, arith, nat_le, leb-true, le-leb}
 use Rattle.qvt_base.specs.declared.numbers.Place.{Place}
-use Rattle.qvt_tree_types.specs.Tree.{TypeTerm, ExprTerm, PathExpr, ResultExpr, ChainExpr, PrefixExpr, PostExpr, LinkTerm, LinkTerms, LinkOf, HeadTerm, HeadOf, AccumulatorTerm, StepTerm, DotStep, DotMapStep, ArrowMapStep, DotResolveStep, ArrowResolveStep, ArrowStep, StepTerms, NoSteps, MoreSteps, NoArgs, SomeArgs, BareTarget, ResultTarget, MemberTarget, TargetTerm, StmtTerm}
-use Rattle.qvt_tree_types.specs.View.{exprs_of, links_of, steps_of, stmts_of, optional_expr, optional_args, optional_accumulator}
-use Rattle.qvt_tree_types.specs.declared.types.PathTree.{PathTree}
+use Rattle.qvt_tree_types.specs.Tree.{ExprTerm, PathExpr, ResultExpr, ChainExpr, PrefixExpr, PostExpr, LinkTerms, StepTerm, DotStep, DotMapStep, ArrowMapStep, DotResolveStep, ArrowResolveStep, ArrowStep, StepTerms, NoSteps, MoreSteps, NoArgs, SomeArgs, BareTarget}
+use Rattle.qvt_tree_types.specs.View.{steps_of}
 use Rattle.qvt_tree_types.specs.declared.words.Level.{Level}
 use Rattle.qvt_tree_types.specs.declared.words.Level.TheVariants as levels
-use Rattle.qvt_tree_types.specs.declared.words.BinaryOp.{BinaryOp}
-use Rattle.qvt_tree_types.specs.declared.words.BinaryOp.TheVariants as operators
 use Rattle.qvt_tree_types.specs.declared.words.PrefixOp.{PrefixOp}
 use Rattle.qvt_tree_types.specs.declared.words.PrefixOp.TheVariants as prefixes
 use Rattle.qvt_tree_types.specs.declared.words.Sign.{Sign}
-use Rattle.qvt_grammar.specs.Language.{Language, made, maybe, empty}
 use Rattle.qvt_parser_grammar.specs.Tokens.{Tok}
 use Rattle.qvt_parser_grammar.specs.Readers.{the}
-use Rattle.qvt_parser_grammar.specs.declared.named.Named.{Named}
 use Rattle.qvt_parser_grammar.specs.declared.token.Class.{Class}
 use Rattle.qvt_parser_grammar.specs.declared.token.Class.TheVariants as class
 use Rattle.qvt_parser_grammar.specs.declared.token.Class.TheVariants.{Name, OpenRound, CloseRound, Semicolon, Dot, Arrow, Bar, EqualSign, MinusSign, ForEachWord, NotWord, Star, PlusSign, LessSign, AtMost, GreaterSign, AtLeast, DoubleEqual, Diamond, BangEqual, AndWord, OrWord, XorWord, ImpliesWord}
-use Rattle.qvt_parser_grammar.specs.Leads.{Lead, Plain, Bracketed, Each, EachPart}
-use Rattle.qvt_parser_grammar.specs.Grammar.{Nested, dot_rest, dot_step, accumulator, head_rest, more_exprs, after_first, arrow_body, arrow_args, arrow_rest, step, post, sign, more_signs, signs, signed_post, pre, each_tail, lead_step, level_of, operator, link, links, chain, flagged, lead_post, lead_pre, lead}
-use Rattle.qvt_parser_grammar.specs.Trees.{second, dot_of, no_args, arrow_of, accumulator_of, expr_of, headed, with_first, more_steps as join_steps, stepped, post_of, split_last, member_of, bare_target, first_lead, post_lead, each_lead, signed, prefix_lead, not_of, minus_of, binary_op, link_of, chain_of, each_of, nothing}
+use Rattle.qvt_parser_grammar.specs.Grammar.{sign, more_signs, signs, level_of}
+use Rattle.qvt_parser_grammar.specs.Trees.{more_steps as join_steps, stepped, post_of, split_last, member_of, bare_target, first_lead, post_lead, signed, not_of, minus_of}
 use Rattle.qvt_printer.specs.Expressions as print
 use Rattle.qvt_printer.specs.Levels.{is_as_loose, is_chain, is_chain_or_prefix, tightness}
 use Rattle.qvt_printer_layout.specs.Words as words
 use Rattle.qvt_printer_layout.specs.declared.piece.Piece.{Piece}
 use Rattle.qvt_printer_layout.specs.declared.piece.Piece.TheVariants as piece
-use Rattle.qvt_printed_depth.proofs.Runs.{Still, Word, Closing, over_strong}
-use Rattle.qvt_printed_depth.proofs.Pieces.{pc, tc, PStrong, POver, QuietPieces, QuietToks, quiet_strong, strong_more, over_more, word_before, Closes, closes_after, closes_at_once, in_brackets, round_is, quiet_both, quiet_left, quiet_right}
-use Rattle.qvt_printed_depth.proofs.Forms.{Gives, One, Perhaps, Either, Split, g_the, g_empty, g_never, g_follow, g_then, g_split, g_made, g_second, g_first, g_either, g_maybe, g_many, g_placed, g_weaker, g_series, Quiet, q_the, Prints, s_many, s_maybe}
-use Rattle.qvt_printed_depth.proofs.Exprs.{q_name, each_pieces, IfTarget, LeadIs, no_test, GivesNested, lead_expr, PrimaryIs, s_colon_type, o_expr, s_more_exprs, first_is, ExprsIs, s_args, s_bar_expr, s_maybe_bar, s_map_call, s_resolve, o_other_primary, o_primary}
+use Rattle.qvt_printed_depth.proofs.Runs.{Word, over_strong}
+use Rattle.qvt_printed_depth.proofs.Pieces.{tc, PStrong, POver, quiet_strong, strong_more, over_more, word_before, round_is}
+use Rattle.qvt_printed_depth.proofs.Forms.{Gives, g_the, g_then, g_made, g_either, g_many, g_weaker}
+use Rattle.qvt_printed_depth.proofs.Exprs.{IfTarget, LeadIs, PrimaryIs}
 
 -- what steps make of an expression
 print_more : (old : StepTerms) (ss : List StepTerm) → print.steps (join_steps old ss) ≡ print.steps old ++ print.steps (steps_of ss)

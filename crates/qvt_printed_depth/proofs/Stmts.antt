@@ -1,31 +1,29 @@
 -- The productions of statements and blocks read what prints no deeper, at each nesting.
 use Rattle.std.proofs.Common.{◌≡◌, ℕ, zero, suc, List, [], ◌∷◌, ◌++◌, Bool, true, false, ◌⊎◌, inl, inr, refl, sym, ap, ◌∙◌, subst, append_assoc, append-nil, Option, Some, None}
 use Rattle.qvt_base.specs.declared.numbers.Place.{Place}
-use Rattle.qvt_tree_types.specs.Tree.{TypeTerm, ExprTerm, IfExpr, StepTerm, StmtTerm, VarStmt, AssignStmt, ReturnStmt, ValueStmt, IfStmt, WhileStmt, ArmTerm, ArmOf, TargetTerm}
+use Rattle.qvt_tree_types.specs.Tree.{ExprTerm, IfExpr, StmtTerm, AssignStmt, ValueStmt, ArmTerm, ArmOf, TargetTerm}
 use Rattle.qvt_tree_types.specs.View.{stmts_of, arms_of, steps_of, optional_expr, optional_else}
-use Rattle.qvt_grammar.specs.Language.{Language, made, then, maybe}
+use Rattle.qvt_grammar.specs.Language.{made, then}
 use Rattle.qvt_parser_grammar.specs.Tokens.{Tok}
-use Rattle.qvt_parser_grammar.specs.Readers.{the, nowhere}
-use Rattle.qvt_parser_grammar.specs.declared.named.Named.{Named}
-use Rattle.qvt_parser_grammar.specs.declared.token.Class.{Class}
+use Rattle.qvt_parser_grammar.specs.Readers.{the}
 use Rattle.qvt_parser_grammar.specs.declared.token.Class.TheVariants as class
 use Rattle.qvt_parser_grammar.specs.declared.token.Class.TheVariants.{OpenRound, CloseRound, OpenBrace, CloseBrace, Semicolon, Becomes, PlusEqual, ElifWord, ElseWord, EndifWord, IfWord, ReturnWord, ThenWord, VarWord, WhileWord}
 use Rattle.qvt_parser_grammar.specs.Leads.{Lead, Plain, Bracketed, Each, EachPart, Ended}
 use Rattle.qvt_parser_grammar.specs.Grammar.{Nested, expr}
-use Rattle.qvt_parser_grammar.specs.Trees.{second, expr_of, post_of}
+use Rattle.qvt_parser_grammar.specs.Trees.{second, expr_of}
 use Rattle.qvt_parser_grammar.specs.Nesting.{nested}
 use Rattle.qvt_parser_grammar.specs.Statements.{condition, var_stmt, return_stmt, arm, else_part, branches, choice, if_rest, if_stmt, while_stmt, assignment, semicolon, lead_tail, lead_stmt, statement, statements, block}
-use Rattle.qvt_parser_grammar.specs.StmtTrees.{var_of, return_of, arm_of, Branches, branched, Choice, chosen, choice_expr, if_made, if_stmt_of, while_of, Turn, empty_turn, closed_turn, simple_turn, Tail, no_tail, plain_tail, lead_turn, is_adding, written, for_each_of, concat, last_of, ended_of, block_of}
+use Rattle.qvt_parser_grammar.specs.StmtTrees.{var_of, return_of, arm_of, Branches, Choice, chosen, if_made, if_stmt_of, while_of, Turn, empty_turn, closed_turn, simple_turn, Tail, no_tail, plain_tail, lead_turn, is_adding, for_each_of, concat, last_of, ended_of, block_of}
 use Rattle.qvt_printer.specs.Expressions as print
 use Rattle.qvt_printer_layout.specs.Words as words
 use Rattle.qvt_printer_layout.specs.declared.piece.Piece.{Piece}
 use Rattle.qvt_printer_layout.specs.declared.piece.Piece.TheVariants as piece
-use Rattle.qvt_printed_depth.proofs.Runs.{AllStill, fresh_after, fresh_append, Word, Closing, Over, Ender, over_strong}
+use Rattle.qvt_printed_depth.proofs.Runs.{AllStill, fresh_after, fresh_append, Word, Ender, over_strong}
 use Rattle.qvt_printed_depth.proofs.Turns.{Turns, Ends, Leaves, leaves_none, leaves_endif, turns_nil, turns_empty, turns_over, turns_if, turns_choice, ender_more}
-use Rattle.qvt_printed_depth.proofs.Pieces.{pc, tc, pc_append, tc_append, tc_one, moved, PStrong, POver, PTurns, QuietPieces, QuietToks, quiet_strong, strong_more, over_more, ender_before, turns_more, ends_more, word_before, closes_after, closes_turns, in_brackets, in_blocks, ends_block, quiet_both, quiet_left, quiet_right}
-use Rattle.qvt_printed_depth.proofs.Forms.{Gives, One, Perhaps, Either, Split, g_the, g_never, g_empty, g_follow, g_then, g_split, g_made, g_second, g_inner, g_either, g_maybe, g_many, g_placed, g_weaker, g_series, g_finished, Quiet, q_the, q_maybe, Prints, s_many, s_maybe}
+use Rattle.qvt_printed_depth.proofs.Pieces.{pc, tc, pc_append, tc_append, tc_one, moved, PStrong, POver, PTurns, QuietToks, quiet_strong, strong_more, over_more, ender_before, turns_more, ends_more, word_before, closes_after, closes_turns, in_brackets, in_blocks, ends_block, quiet_both, quiet_right}
+use Rattle.qvt_printed_depth.proofs.Forms.{Gives, One, Perhaps, Either, Split, g_the, g_never, g_empty, g_follow, g_then, g_split, g_made, g_second, g_inner, g_either, g_maybe, g_placed, g_weaker, g_series, g_finished, Quiet, q_the, q_maybe, Prints, s_many, s_maybe}
 use Rattle.qvt_printed_depth.proofs.Exprs.{q_name, each_pieces, LeadIs, no_test, GivesNested, lead_expr, s_colon_type, s_typed, o_expr, then_pieces, else_pieces, else_is}
-use Rattle.qvt_printed_depth.proofs.Steps.{StepsAre, steps_strong, more_steps_are, post_first_is, WordTok, g_word, word_tok_before}
+use Rattle.qvt_printed_depth.proofs.Steps.{StepsAre, steps_strong, more_steps_are, post_first_is, g_word, word_tok_before}
 use Rattle.qvt_printed_depth.proofs.Chains.{each_rest, EachIs, g_lead_step, g_flagged, g_lead}
 
 -- statements without the `;`

@@ -6,7 +6,7 @@ use Rattle.qvt_parser_grammar.specs.declared.token.Class.TheVariants.{CloseBrace
 use Rattle.qvt_parser_tokens.specs.declared.depth.Open.{Open}
 use Rattle.qvt_parser_tokens.specs.declared.depth.Open.TheVariants.{Bracket, Conditional}
 use Rattle.qvt_parser_tokens.specs.Depth.{closed, ended, after}
-use Rattle.qvt_printed_depth.proofs.Runs.{items_after, fresh_after, Below, Lower, items_append, fresh_append, now_below, below_front, lower_then, lengths, at_most, free_false, fits_false, Strong, Over, Inside, Ender}
+use Rattle.qvt_printed_depth.proofs.Runs.{items_after, fresh_after, Lower, items_append, fresh_append, below_front, lower_then, lengths, at_most, free_false, fits_false, Strong, Over, Inside, Ender}
 
 -- conditionals over a bracket over the base
 abbrev pub Rests : List Open → List Open → Type 0

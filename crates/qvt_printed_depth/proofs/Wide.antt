@@ -3,9 +3,9 @@ use Rattle.std.proofs.Common.{◌≡◌, ℕ, suc, ◌+◌, ◌≤◌, List, [],
 use Rattle.qvt_parser_grammar.specs.declared.token.Class.{Class}
 use Rattle.qvt_parser_grammar.specs.declared.token.Class.TheVariants.{OpenRound, OpenBrace, CloseBrace, Semicolon, PopulationWord}
 use Rattle.qvt_parser_tokens.specs.declared.depth.Open.{Open}
-use Rattle.qvt_parser_tokens.specs.declared.depth.Open.TheVariants.{Bracket, Conditional}
+use Rattle.qvt_parser_tokens.specs.declared.depth.Open.TheVariants.{Bracket}
 use Rattle.qvt_parser_tokens.specs.Depth.{closed, after, begins_statement}
-use Rattle.qvt_printed_depth.proofs.Runs.{items_after, fresh_after, Below, Lower, items_append, now_below, below_front, below_back, below_join, lower_then, lengths, at_most, Strong, Inside, brace_inside}
+use Rattle.qvt_printed_depth.proofs.Runs.{items_after, fresh_after, Below, Lower, items_append, now_below, below_front, below_back, below_join, lower_then, lengths, at_most, Strong}
 use Rattle.qvt_printed_depth.proofs.Turns.{Rests, rests_length, rests_closed, Turns}
 
 pub record Wide (e : ℕ) (us ts : List Class) : Type 0 where

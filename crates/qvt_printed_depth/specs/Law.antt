@@ -1,5 +1,5 @@
 -- The law that printing opens no more items than the text had, but for one block more in two forms of units.
-use Rattle.std.specs.Prelude.{◌≡◌, ◌≤◌, ◌↔◌, ℕ, suc, Bool, true, false, ◌&&◌, ◌||◌, List, map, None}
+use Rattle.std.specs.Prelude.{◌≡◌, ◌≤◌, ◌↔◌, suc, Bool, true, false, ◌&&◌, ◌||◌, List, map, None}
 use Rattle.std.specs.List.{list_any}
 use Rattle.qvt_tree_types.specs.Tree.{StmtTerms, NoStmts, MoreStmts, ReturnStmt, SomeExpr}
 use Rattle.qvt_tree_types.specs.Module.{UnitTerm, HelperOf, MappingOf, ModuleTerm}
