@@ -1,7 +1,7 @@
 //! Numbered metamodels, and the look-ups in them.
 #![tactic(auto)]
 
-mod extending;
+pub mod extending;
 mod joining;
 pub mod meta;
 pub mod metas;

@@ -287,6 +287,20 @@ impl Metas {
         self.classes.len() as u32
     }
 
+    /// The classes, in the order of their numbers.
+    pub fn class_infos(&self) -> &[ClassInfo]
+        ensures { result.now ≡ self.now.classes }
+    {
+        self.classes.as_slice()
+    }
+
+    /// The features, in the order of their numbers.
+    pub fn feature_infos(&self) -> &[FeatureInfo]
+        ensures { result.now ≡ self.now.features }
+    {
+        self.features.as_slice()
+    }
+
     ghost use Rattle.qvt_metamodel.specs.Named.{metamodel_named, class_named, feature_named};
 
     /// The first metamodel whose name or uri this is.
