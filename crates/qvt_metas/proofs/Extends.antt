@@ -63,7 +63,7 @@ each_given P k f [] all i l = absurd (omega arith)
 each_given P k f (c ∷ cs) all zero l = all f c
 each_given P k f (c ∷ cs) all (suc i) l = each_given P k (f + length c.features) cs all i (omega (arith, l))
 
-given_supers : (P : ClassNo → Type 0) (k f : ℕ) (cs : List ClassData) → AllByRecursion (λ c. AllByRecursion P c.supers) cs → (i : ℕ) → AllByRecursion P (get_or (given_classes k f cs) i nowhere_class).supers
+pub given_supers : (P : ClassNo → Type 0) (k f : ℕ) (cs : List ClassData) → AllByRecursion (λ c. AllByRecursion P c.supers) cs → (i : ℕ) → AllByRecursion P (get_or (given_classes k f cs) i nowhere_class).supers
 given_supers P k f [] all i = tt
 given_supers P k f (c ∷ cs) all zero = all.0
 given_supers P k f (c ∷ cs) all (suc i) = given_supers P k (f + length c.features) cs all.1 i
@@ -111,7 +111,7 @@ feature_text o (c ∷ cs) q j = split c.features (and_right (is_utf8 c.name) (li
     split (f ∷ fs) q zero rest = and_left (has_text f) (list_all has_text fs) q
     split (f ∷ fs) q (suc j) rest = split fs (and_right (has_text f) (list_all has_text fs) q) j rest
 
-super_in : (P : ℕ → Type 0) (ss : List ClassNo) (d : ℕ) → AllByRecursion (λ s. P s.0) ss → list_any (λ s. s.0 == d) ss ≡ true → P d
+pub super_in : (P : ℕ → Type 0) (ss : List ClassNo) (d : ℕ) → AllByRecursion (λ s. P s.0) ss → list_any (λ s. s.0 == d) ss ≡ true → P d
 super_in P [] d all h = absurd (cc)
 super_in P (s ∷ ss) d all h = elim (or_cases (s.0 == d) (list_any (λ s. s.0 == d) ss) h) [ inl same ↦ subst P (eqb-true s.0 d same) all.0 | inr more ↦ super_in P ss d all.1 more ]
 
@@ -152,7 +152,7 @@ module _ (m : Metamodels) (cs : List ClassData) where
   metamodel_total : length W.metamodels ≡ K + 1
   metamodel_total = length-append m.metamodels (unnamed ∷ [])
 
-  class_new : (i : ℕ) → class_at W (B + i) ≡ get_or added_classes i nowhere_class
+  pub class_new : (i : ℕ) → class_at W (B + i) ≡ get_or added_classes i nowhere_class
   class_new i = new-at m.classes added_classes i nowhere_class
 
   feature_new : (j : ℕ) → feature_at W (F + j) ≡ get_or added_features j nowhere_feature
