@@ -22,6 +22,7 @@ use qvt_metas::metas::Metas;
 use std::alloc::Global;
 
 /// The classes of the metamodels, Element, and the given classes.
+#[tactic(auto, unfolding(qvt_metamodel::specs::Extended::extended))]
 fn all_classes(
     alloc: Global,
     metas: &Metas,
@@ -37,6 +38,7 @@ fn all_classes(
 }
 
 /// The features of the metamodels and of the given classes.
+#[tactic(auto, unfolding(qvt_metamodel::specs::Extended::extended))]
 fn all_features(
     alloc: Global,
     metas: &Metas,
@@ -56,6 +58,7 @@ fn are_sound(alloc: Global, metas: &Metas, classes: &[ClassData]) -> Result<bool
     ensures sound { IfOk result (λ b. IsTrue b → AreSound metas.now classes.now) }
     ensures refused { IfOk result (λ b. IsFalse b → AreSound metas.now classes.now → ⊥) }
 {
+    let before = metas.class_count() as usize;
     let infos = all_classes(alloc, metas, classes)?;
     let count = infos.len() as u32;
     if first_cycle(alloc, infos.as_slice(), count)?.is_some() {
@@ -63,11 +66,9 @@ fn are_sound(alloc: Global, metas: &Metas, classes: &[ClassData]) -> Result<bool
     }
     let features = all_features(alloc, metas, classes)?;
     let tables = tables_of(alloc, infos.as_slice(), count)?;
-    let (_, given) = tables
-        .lists
-        .as_slice()
-        .split_at(metas.class_count() as usize + 1);
-    all_differ(alloc, features.as_slice(), given)
+    let (_, given) = tables.lists.as_slice().split_at(before + 1);
+    let differ = all_differ(alloc, features.as_slice(), given)?;
+    Ok(differ)
 }
 
 ghost use Rattle.qvt_meta_given.specs.Given.{AreSound};
@@ -91,5 +92,6 @@ pub fn are_given(
     if !are_live(metas, given) {
         return Ok(false);
     }
-    are_sound(alloc, metas, given)
+    let sound = are_sound(alloc, metas, given)?;
+    Ok(sound)
 }
