@@ -66,9 +66,10 @@ module _ (m : Metamodels) (cs : List ClassData) where
 
   -- superclasses
   number_of : (s : ClassNo) → is_given_number m cs s ≡ true → IsGivenNumber m cs s
-  number_of s h =
-      (ltb-true (length m.classes) s.0 (and_left (nat_lt (length m.classes) s.0) (nat_lt s.0 (length m.classes + (1 + length cs))) h),
-      ltb-true s.0 (length m.classes + (1 + length cs)) (and_right (nat_lt (length m.classes) s.0) (nat_lt s.0 (length m.classes + (1 + length cs))) h))
+  number_of s h = (
+    ltb-true (length m.classes) s.0 (and_left (nat_lt (length m.classes) s.0) (nat_lt s.0 (length m.classes + (1 + length cs))) h),
+    ltb-true s.0 (length m.classes + (1 + length cs)) (and_right (nat_lt (length m.classes) s.0) (nat_lt s.0 (length m.classes + (1 + length cs))) h),
+  )
 
   of_number : (s : ClassNo) → IsGivenNumber m cs s → is_given_number m cs s ≡ true
   of_number s h = and_both (nat_lt (length m.classes) s.0) (nat_lt s.0 (length m.classes + (1 + length cs))) (lt-ltb (length m.classes) s.0 h.0) (lt-ltb s.0 (length m.classes + (1 + length cs)) h.1)

@@ -76,11 +76,7 @@ ghost use Rattle.qvt_meta_given.specs.Given.{AreSound};
 /// Whether classes can come after metamodels that have no class Element: their superclasses are
 /// given classes, none is above itself, types are there, no class has two features of one name, and
 /// the numbers fit.
-pub fn are_given(
-    alloc: Global,
-    metas: &Metas,
-    classes: &ClassDataList,
-) -> Result<bool, ListFault>
+pub fn are_given(alloc: Global, metas: &Metas, classes: &ClassDataList) -> Result<bool, ListFault>
     ensures given { IfOk result (λ b. IsTrue b → metas.now.element ≡ None → AreGiven metas.now classes.now) }
     ensures room { IfOk result (λ b. IsTrue b → metas.now.element ≡ None → HasRoomFor metas.now classes.now) }
     ensures refused { IfOk result (λ b. IsFalse b → metas.now.element ≡ None → AreGiven metas.now classes.now → HasRoomFor metas.now classes.now → ⊥) }

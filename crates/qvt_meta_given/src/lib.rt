@@ -5,3 +5,5 @@ pub mod given;
 mod live;
 mod named;
 mod room;
+#[cfg(test)]
+mod tests;
