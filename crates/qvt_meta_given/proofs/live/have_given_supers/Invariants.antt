@@ -1,0 +1,7 @@
+use Rattle.std.proofs.Common.{◌≡◌, true, take}
+use Rattle.std.specs.List.{list_all}
+use Rattle.qvt_meta_given.specs.Given.{has_given_supers}
+use Rattle.qvt_meta_given.proofs.live.have_given_supers.Given as goal
+
+abbrev pub invariant-loop-class : goal.invariant-loop-class
+invariant-loop-class l = list_all (has_given_supers l.metas l.classes) (take l.class-index l.classes) ≡ true

@@ -1,0 +1,9 @@
+//! Whether classes that are declared beside metamodels can come after them.
+#![tactic(auto)]
+
+pub mod given;
+mod live;
+mod named;
+mod room;
+#[cfg(test)]
+mod tests;

@@ -1,0 +1,192 @@
+//! Classes that come after no metamodels, each told in a line as `NAME/SUPERCLASSES/FEATURES`: the
+//! superclasses are numbers, and a feature is `NAME:TYPE`, with a star where it has no upper bound.
+
+use crate::given::are_given;
+use qvt_base::lists::ClassNoList;
+use qvt_base::numbers::{ClassNo, FeatureNo};
+use qvt_base::seq::Seq;
+use qvt_base::text::Text;
+use qvt_metamodel::given::{ClassData, ClassDataList, FeatureData, FeatureDataList};
+use qvt_metamodel::info::{FeatureShape, TypeKind};
+use qvt_metas::metas::Metas;
+use std::alloc::Global;
+use std::test::Fail;
+
+/// A type is Boolean, Integer, String, the first enumeration, or the class of a number.
+fn kind_of(name: &str) -> Result<TypeKind, Fail> {
+    match name {
+        "Boolean" => Ok(TypeKind::Bool),
+        "Integer" => Ok(TypeKind::Int),
+        "String" => Ok(TypeKind::Str),
+        "Enumeration" => Ok(TypeKind::Enum(0, 0)),
+        _ => Ok(TypeKind::Class(ClassNo(name.parse::<u32>()?))),
+    }
+}
+
+fn shape(kind: TypeKind, upper: Option<u32>) -> FeatureShape {
+    FeatureShape {
+        kind,
+        lower: 0,
+        upper,
+        ordered: false,
+        unique: true,
+        containment: false,
+    }
+}
+
+fn feature_of(alloc: Global, word: &str) -> Result<FeatureData, Fail> {
+    let (name, kind) = word.split_once(':').ok_or("a feature")?;
+    let shape = match kind.strip_suffix('*') {
+        Some(kind) => shape(kind_of(kind)?, None),
+        None => shape(kind_of(kind)?, Some(1)),
+    };
+    Ok(FeatureData {
+        name: Text::from_str(alloc, name)?,
+        shape,
+    })
+}
+
+fn features_of(alloc: Global, words: &str) -> Result<FeatureDataList, Fail> {
+    let mut features = Seq::new(alloc);
+    for word in words.split_whitespace() {
+        features.push(feature_of(alloc, word)?)?;
+    }
+    Ok(features)
+}
+
+fn supers_of(alloc: Global, words: &str) -> Result<ClassNoList, Fail> {
+    let mut supers = Seq::new(alloc);
+    for word in words.split_whitespace() {
+        supers.push(ClassNo(word.parse::<u32>()?))?;
+    }
+    Ok(supers)
+}
+
+fn class_of(alloc: Global, line: &str) -> Result<ClassData, Fail> {
+    let (name, rest) = line.split_once('/').ok_or("a class")?;
+    let (supers, features) = rest.split_once('/').ok_or("superclasses")?;
+    Ok(ClassData {
+        name: Text::from_str(alloc, name)?,
+        supers: supers_of(alloc, supers)?,
+        features: features_of(alloc, features)?,
+    })
+}
+
+fn classes_of(alloc: Global, lines: &[&str]) -> Result<ClassDataList, Fail> {
+    let mut classes = Seq::new(alloc);
+    for line in lines {
+        classes.push(class_of(alloc, line)?)?;
+    }
+    Ok(classes)
+}
+
+/// Classes, and whether they can come. Element has the number 0, and the first of them 1.
+const CASES: [(&[&str], bool); 16] = [
+    (&[], true),
+    (&["A//"], true),
+    (&["A//name:String", "B/1/size:Integer*"], true),
+    (&["A/2/name:String", "B//size:Integer*"], true),
+    (&["A//b:Boolean e:0 a:1 c:2*", "B//"], true),
+    (&["A//x:Integer", "B//x:Integer"], true),
+    (&["A//x:Integer", "B/1/", "C/1/", "D/2 3/y:4"], true),
+    (&["A//x:Integer x:String"], false),
+    (&["A//x:Integer", "B/1/x:String"], false),
+    (&["A//x:Integer", "B//x:Integer", "C/1 2/"], false),
+    (&["A/1/"], false),
+    (&["A/2/", "B/1/"], false),
+    (&["A/0/"], false),
+    (&["A//", "B/3/"], false),
+    (&["A//c:2"], false),
+    (&["A//e:Enumeration"], false),
+];
+
+#[test]
+fn conditions_of_given_classes(rt: HostRuntime) -> Result<(), Fail> {
+    let alloc = rt.alloc();
+    let metas = Metas::new(alloc);
+    for (lines, expected) in CASES {
+        let classes = classes_of(alloc, lines)?;
+        assert_eq!(rt; are_given(alloc, &metas, &classes)?, expected);
+    }
+    Ok(())
+}
+
+/// Whether the first class descends from the second.
+const DESCENT: [(u32, u32, bool); 9] = [
+    (0, 0, true),
+    (1, 1, true),
+    (2, 2, true),
+    (1, 0, true),
+    (2, 0, true),
+    (2, 1, true),
+    (1, 2, false),
+    (0, 1, false),
+    (0, 2, false),
+];
+
+#[test]
+fn element_comes_alone(rt: HostRuntime) -> Result<(), Fail> {
+    let alloc = rt.alloc();
+    let metas = Metas::new(alloc);
+    let classes = classes_of(alloc, &[])?;
+    let given = are_given(alloc, &metas, &classes)?;
+    assert!(rt; given);
+    let all = metas.extended(&classes)?;
+    assert_eq!(rt; all.metamodel_count(), 1);
+    assert_eq!(rt; all.metamodel_name(0), "");
+    assert_eq!(rt; all.class_count(), 1);
+    assert_eq!(rt; all.class(0, "Element"), Some(ClassNo(0)));
+    assert_eq!(rt; all.class_name(ClassNo(0)), "Element");
+    assert!(rt; all.is_abstract(ClassNo(0)));
+    assert!(rt; all.features(ClassNo(0)).is_empty());
+    assert!(rt; all.descends(ClassNo(7), ClassNo(0)));
+    Ok(())
+}
+
+#[test]
+fn given_classes_are_looked_up(rt: HostRuntime) -> Result<(), Fail> {
+    let alloc = rt.alloc();
+    let metas = Metas::new(alloc);
+    let classes = classes_of(alloc, &["Named//name:String", "Sized/1/size:Integer*"])?;
+    let given = are_given(alloc, &metas, &classes)?;
+    assert!(rt; given);
+    let all = metas.extended(&classes)?;
+    assert_eq!(rt; all.metamodel_count(), 1);
+    assert_eq!(rt; all.metamodel_name(0), "");
+    assert_eq!(rt; all.class_count(), 3);
+    assert_eq!(rt; all.class(0, "Element"), Some(ClassNo(0)));
+    assert_eq!(rt; all.class(0, "Named"), Some(ClassNo(1)));
+    assert_eq!(rt; all.class(0, "Sized"), Some(ClassNo(2)));
+    assert_eq!(rt; all.class(0, "name"), None);
+    assert_eq!(rt; all.class_name(ClassNo(2)), "Sized");
+    assert!(rt; !all.is_abstract(ClassNo(2)));
+    for (sub, sup, expected) in DESCENT {
+        assert_eq!(rt; all.descends(ClassNo(sub), ClassNo(sup)), expected);
+    }
+    Ok(())
+}
+
+#[test]
+fn features_of_given_classes_are_looked_up(rt: HostRuntime) -> Result<(), Fail> {
+    let alloc = rt.alloc();
+    let metas = Metas::new(alloc);
+    let classes = classes_of(alloc, &["Named//name:String", "Sized/1/size:Integer*"])?;
+    let given = are_given(alloc, &metas, &classes)?;
+    assert!(rt; given);
+    let all = metas.extended(&classes)?;
+    let (named, sized) = (ClassNo(1), ClassNo(2));
+    let (name, size) = (FeatureNo(0), FeatureNo(1));
+    assert_eq!(rt; all.features(ClassNo(0)), [].as_slice());
+    assert_eq!(rt; all.features(named), [name].as_slice());
+    assert_eq!(rt; all.features(sized), [name, size].as_slice());
+    assert_eq!(rt; all.feature(sized, "name"), Some(name));
+    assert_eq!(rt; all.feature(sized, "size"), Some(size));
+    assert_eq!(rt; all.feature(named, "size"), None);
+    assert_eq!(rt; all.place(sized, size), Some(1));
+    assert_eq!(rt; all.place(named, size), None);
+    assert_eq!(rt; all.feature_name(size), "size");
+    assert_eq!(rt; all.shape(name), shape(TypeKind::Str, Some(1)));
+    assert_eq!(rt; all.shape(size), shape(TypeKind::Int, None));
+    assert_eq!(rt; all.opposite(size), None);
+    Ok(())
+}
