@@ -1,5 +1,6 @@
 ghost use Rattle.std.specs.Prelude.{◌<◌, ◌≤◌, length, OnOk, ◌≡◌, ◌&&◌, IsTrue, Ok};
-ghost use Rattle.qvt_grammar.specs.Reader.{starts, made_at, then_at, many_at, maybe_at};
+ghost use Rattle.std.proofs.Common.{inl, inr};
+ghost use Rattle.qvt_grammar.specs.Reader.{starts, made_at, then_at, choose_at, many_at, maybe_at};
 ghost use Rattle.qvt_tree_types.specs.View.{expr_view, stmt_view, arm_view};
 ghost use Rattle.qvt_parser_grammar.specs.Tokens.{of, is};
 ghost use Rattle.qvt_parser_grammar.specs.Readers.{the_at};
@@ -219,6 +220,20 @@ impl<
             return self.branched(parser, condition, place);
         }
         parser.take(Class::ThenWord)?;
+        self.after_then(parser, condition, place)
+    }
+
+    /// What stands after its `then`.
+    fn after_then(
+        &self,
+        parser: &mut Parser<'_>,
+        condition: Expr,
+        place: Place,
+    ) -> Result<Stmt, ParseError>
+        requires { IsInside F.Fn G.Fn self.now.chains.inside }
+        ensures gives { Gives stmt_view result (toks parser.new) (made_at (if_made place (expr_view condition)) (choose_at (is Class.OpenBrace) (made_at inl (branches_at (nested_at self.now.chains.inside.room))) (made_at inr (choice_at (nested_at self.now.chains.inside.room)))) (toks parser.old)) }
+        ensures fewer { length (toks parser.new) ≤ length (toks parser.old) }
+    {
         if parser.at(Class::OpenBrace) {
             return self.branched(parser, condition, place);
         }
