@@ -1,4 +1,4 @@
 pub mod StmtLoops
 pub mod Members
 pub mod Tails
-pub mod Words
+pub mod AfterIf

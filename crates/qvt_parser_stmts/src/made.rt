@@ -6,6 +6,7 @@ ghost use Rattle.qvt_parser_grammar.specs.Gives.{Makes};
 ghost use Rattle.qvt_parser_grammar.specs.StmtTrees as statements;
 ghost use Rattle.qvt_parser_grammar.specs.Trees as trees;
 ghost use Rattle.qvt_parser_exprs.specs.Views.{lead_view, each_view, steps_view, stmts_view};
+ghost use Rattle.qvt_parser_stmts.specs.Brackets.{in_brackets};
 ghost use Rattle.qvt_parser_stmts.specs.Turns.{AddsIf};
 ghost use Rattle.qvt_parser_stmts.specs.Views.{turn_view};
 
@@ -100,6 +101,16 @@ pub fn has_target(lead: &Leading) -> bool
         Leading::Bracketed(_) => false,
         Leading::Done(_) => false,
         Leading::Each { .. } => false,
+    }
+}
+
+/// Whether the expression stands in brackets alone.
+pub fn is_bracketed(lead: &Leading) -> bool
+    ensures { result ≡ in_brackets (lead_view lead.now) }
+{
+    match lead {
+        Leading::Bracketed(_) => true,
+        _ => false,
     }
 }
 

@@ -18,7 +18,7 @@ ghost use Rattle.qvt_parser_exprs.specs.Views.{lead_view, stmts_view};
 ghost use Rattle.qvt_parser_exprs.specs.Inside.{IsInside};
 ghost use Rattle.qvt_parser_stmts.specs.Views.{arms_view, turn_view, ended_view, assigned_view};
 
-use crate::made::{add_turn, assign, evaluate, for_each, has_target, into_target};
+use crate::made::{add_turn, assign, evaluate, for_each, has_target, into_target, is_bracketed};
 use crate::turns::{EndedStmts, Turn};
 use qvt_base::numbers::Place;
 use qvt_base::seq::Seq;
@@ -195,14 +195,26 @@ impl<
         ensures gives { Gives stmt_view result (toks parser.new) (made_at (if_made place (expr_of (lead_view condition))) (if_rest_at (nested_at self.now.chains.inside.room) (lead_view condition)) (toks parser.old)) }
         ensures fewer { length (toks parser.new) ≤ length (toks parser.old) }
     {
-        match condition {
-            Leading::Bracketed(condition) => self.branches_or_choice(parser, condition, place),
-            condition => {
-                parser.take(Class::ThenWord)?;
-                let condition = finish(parser.alloc, condition)?;
-                self.chosen(parser, condition, place)
-            }
+        let alone = is_bracketed(&condition);
+        let condition = finish(parser.alloc, condition)?;
+        if alone {
+            return self.branches_or_choice(parser, condition, place);
         }
+        self.then_chosen(parser, condition, place)
+    }
+
+    fn then_chosen(
+        &self,
+        parser: &mut Parser<'_>,
+        condition: Expr,
+        place: Place,
+    ) -> Result<Stmt, ParseError>
+        requires { IsInside F.Fn G.Fn self.now.chains.inside }
+        ensures gives { Gives stmt_view result (toks parser.new) (made_at (if_made place (expr_view condition)) (made_at second (then_at (the_at Class.ThenWord) (made_at inr (choice_at (nested_at self.now.chains.inside.room))))) (toks parser.old)) }
+        ensures fewer { length (toks parser.new) ≤ length (toks parser.old) }
+    {
+        parser.take(Class::ThenWord)?;
+        self.chosen(parser, condition, place)
     }
 
     /// The same after one in brackets alone.

@@ -7,7 +7,7 @@ use Rattle.qvt_parser_grammar.specs.Gives.{Gives, toks}
 use Rattle.qvt_parser_grammar.specs.Nesting.{nested_at}
 use Rattle.qvt_parser_grammar.specs.StmtTrees.{if_made}
 use Rattle.qvt_parser_grammar.specs.ReadingStatements.{branches_at, choice_at}
-use Rattle.qvt_parser_stmts.proofs.Words.{after_word}
+use Rattle.qvt_parser_stmts.proofs.AfterIf.{after_word}
 use Rattle.qvt_parser_stmts.proofs.statements.Statements.branches_or_choice.Goals as goal
 
 pub returns-clause-gives : goal.returns-clause-gives
