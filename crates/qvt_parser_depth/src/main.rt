@@ -329,7 +329,7 @@ fn main(rt: HostRuntime) -> io::Result<()> {
     let alloc = rt.alloc();
     for nest in NESTS {
         let deepest = answer(alloc, &nest, nest.most);
-        let deeper = answer(alloc, &nest, nest.most + 1);
+        let deeper = answer(alloc, &nest, nest.most.saturating_add(1));
         println!(rt; "{}: {deepest}, {deeper}", nest.name)?;
     }
     Ok(())

@@ -28,7 +28,7 @@ enum Work {
 }
 
 /// What the first word after the program's name says.
-fn work(rt: &(impl Env + AllocGlobal)) -> Work {
+fn asked(rt: &(impl Env + AllocGlobal)) -> Work {
     let Ok(words) = env::args(rt) else {
         return Work::Tree;
     };
@@ -86,7 +86,7 @@ fn is_read(alloc: Global, bytes: &[u8], work: Work) -> bool {
 
 fn main(rt: HostRuntime) -> ExitCode {
     let alloc = rt.alloc();
-    let work = work(&rt);
+    let work = asked(&rt);
     let mut files = DirFiles::new(rt);
     match files.read(alloc, "t.qvto", LIMIT) {
         ReadAnswer::Found(bytes) if is_read(alloc, bytes.as_slice(), work) => ExitCode::from(0),
