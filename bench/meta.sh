@@ -47,3 +47,20 @@ awk 'BEGIN{
   printf "],\"name\":\"M\"}"
 }' >m.json
 tell "3,000 classes of 6 features"
+awk 'BEGIN{
+  printf "{\"classes\":[{\"features\":[{\"name\":\"f0\",\"type\":\"Integer\"}],\"name\":\"C0\"}"
+  for (i = 1; i < 10000; i++) {
+    printf ",{\"features\":[{\"name\":\"f%d\",\"type\":\"Integer\"}],\"name\":\"C%d\",\"supers\":[\"C%d\"]}", i, i, i - 1
+  }
+  printf "],\"name\":\"M\"}"
+}' >m.json
+tell "a chain of 10,000 classes with a feature each"
+awk 'BEGIN{
+  printf "{\"classes\":[{\"name\":\"C0\"}"
+  for (i = 1; i < 6500; i++) {
+    printf ",{\"features\":[{\"name\":\"g%d\",\"type\":\"Integer\"}],\"name\":\"A%d\"}", i, i
+    printf ",{\"features\":[{\"name\":\"f%d\",\"type\":\"Integer\"}],\"name\":\"C%d\",\"supers\":[\"A%d\",\"C%d\"]}", i, i, i, i - 1
+  }
+  printf "],\"name\":\"M\"}"
+}' >m.json
+tell "a chain of 6,500 classes with another superclass each"

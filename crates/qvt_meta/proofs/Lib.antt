@@ -4,3 +4,4 @@ pub mod Cyclic
 pub mod Counts
 pub mod Firsts
 pub mod NameThere
+pub mod NameNumbers

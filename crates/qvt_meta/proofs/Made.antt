@@ -1,20 +1,21 @@
 -- A metamodel that passed the checks with the tables that the code makes.
-use Rattle.std.proofs.Common.{◌≡◌, ◌∙◌, ℕ, List, [], length, map, get_or, ap, sym, subst, None}
+use Rattle.std.proofs.Common.{◌≡◌, ◌∙◌, ◌<◌, ◌^◌, ℕ, List, [], length, map, get_or, ap, arith, sym, subst, None, true}
 use Rattle.qvt_base.specs.declared.numbers.FeatureNo.{FeatureNo}
 use Rattle.qvt_metamodel.specs.declared.info.FeatureInfo.{FeatureInfo}
 use Rattle.qvt_metamodel.specs.declared.row.Row.{Row}
 use Rattle.qvt_meta.specs.declared.adding.Numbers.{Numbers}
-use Rattle.qvt_metamodel.specs.Metamodels.{Metamodels, features_of, nowhere_feature}
+use Rattle.qvt_metamodel.specs.Metamodels.{Metamodels, among_features, features_of, nowhere_feature}
 use Rattle.qvt_metamodel.specs.Kept.{IsKept}
 use Rattle.qvt_metamodel.specs.declared.declared.MetaData.{MetaData}
 use Rattle.qvt_metamodel.specs.Checked.{IsChecked}
+use Rattle.qvt_metamodel.specs.MetaData.{enum_names}
 use Rattle.qvt_meta.specs.Numbers.{AreNumbers}
 use Rattle.qvt_metamodel.specs.Added.{numbered, first_begin, names_of}
 use Rattle.qvt_meta_tables.specs.Tables.{of_classes, AreTables}
 use Rattle.qvt_json.specs.Repeated.{repeated}
 use Rattle.qvt_metamodel.specs.Checks.{repeated_feature}
-use Rattle.qvt_metamodel.proofs.Infos.{length-class_infos}
-use Rattle.qvt_meta.proofs.Whole.{M, is_numbered, well_formed}
+use Rattle.qvt_metamodel.proofs.Infos.{length-class_infos, length-feature_infos}
+use Rattle.qvt_meta.proofs.Whole.{M, is_numbered, live_feature_of, well_formed}
 use Rattle.qvt_meta_tables.proofs.Same.{tables_same}
 
 pub same_parts : (d : MetaData) (n : Numbers) → AreNumbers d n
@@ -52,3 +53,13 @@ lists_numbered d n lists rows ranks ok tables c =
 
 pub lists_total : (d : MetaData) (n : Numbers) (lists : List (List FeatureNo)) (rows : List Row) (ranks : List ℕ) → AreNumbers d n → AreTables (of_classes n.classes.items) lists rows ranks → length lists ≡ length d.classes
 lists_total d n lists rows ranks ok tables = tables.each ∙ ap length ok.classes ∙ length-class_infos first_begin (names_of d.classes) 0 d.classes
+
+pub live_same : (d : MetaData) (n : Numbers) (c : ℕ) (fs : List FeatureInfo) (gs : List FeatureNo) → AreNumbers d n → fs ≡ n.features.items → gs ≡ features_of (numbered d) c
+    → (f : ℕ) → among_features f gs ≡ true → f < length fs
+live_same d n c fs gs ok e is f h =
+    subst (λ (xs : List FeatureInfo). f < length xs) (sym (e ∙ ok.features))
+    (live_feature_of d c f (ap (among_features f) (sym (is ∙ ap (λ m. features_of m c) (is_numbered d))) ∙ h))
+
+pub few_features : (d : MetaData) (n : Numbers) → AreNumbers d n → length n.features.items < 2 ^ 32
+few_features d n ok =
+    omega (arith, ap length ok.features, length-feature_infos first_begin (enum_names d) d.classes 0 d.classes, ok.room.features)

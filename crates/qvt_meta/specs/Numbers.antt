@@ -1,10 +1,14 @@
 -- The numbered parts of a metamodel that is read.
-use Rattle.std.specs.Prelude.{◌≡◌, nat_le, Bool, [], ◌∷◌, length, IsTrue, None}
+use Rattle.std.specs.Prelude.{◌≡◌, ◌↔◌, ◌<◌, ◌+◌, ◌&&◌, nat_le, Bool, true, List, ℕ, [], ◌∷◌, length, slice_index_or, IsTrue, None}
 use Rattle.std.specs.List.{list_all}
+use Rattle.qvt_base.specs.declared.numbers.FeatureNo.{FeatureNo}
+use Rattle.qvt_metamodel.specs.declared.info.FeatureInfo.{FeatureInfo}
 use Rattle.qvt_metamodel.specs.declared.info.EnumInfo.{EnumInfo}
 use Rattle.qvt_meta.specs.declared.adding.Numbers.{Numbers}
 use Rattle.qvt_metamodel.specs.declared.declared.MetaData.{MetaData}
 use Rattle.qvt_metamodel.specs.MetaData.{enum_names}
+use Rattle.qvt_metamodel.specs.Metamodels.{nowhere_feature}
+use Rattle.qvt_meta_names.specs.Named.{number_at}
 use Rattle.qvt_metamodel.specs.Added.{first_begin, names_of, class_infos, feature_infos, HasRoom}
 
 -- the numbers of its literals fit 32 bits
@@ -18,3 +22,14 @@ pub record AreNumbers (d : MetaData) (n : Numbers) : Type 0 where
   pub features : n.features.items ≡ feature_infos first_begin (enum_names d) d.classes 0 d.classes
   pub room : HasRoom (record { metamodels = []; classes = []; features = []; element = None }) d
   pub literals : IsTrue (list_all has_few_literals d.enums)
+
+-- a number for each feature: two features have the same exactly where they have the same name
+pub record StandForNames (features : List FeatureInfo) (numbers : List ℕ) : Type 0 where
+  pub each : length numbers ≡ length features
+  pub same : (f g : FeatureNo) → f.0 < length features → g.0 < length features
+      → (number_at numbers f ≡ number_at numbers g) ↔ ((slice_index_or features f.0 nowhere_feature).name ≡ (slice_index_or features g.0 nowhere_feature).name)
+
+-- the number of each feature's name is at least this one, and greater than those before it
+abbrev pub names_rise_from : ℕ → List ℕ → List FeatureNo → Bool
+names_rise_from least numbers [] = true
+names_rise_from least numbers (f ∷ fs) = nat_le least (number_at numbers f) && names_rise_from (number_at numbers f + 1) numbers fs

@@ -1,14 +1,11 @@
-ghost use Rattle.std.specs.Prelude.{◌≡◌, ◌<◌, ◌==◌, ℕ, List, Some, None, map, length, position, if◌then◌else◌, slice_index_or, [], IfOk, OnOk};
+ghost use Rattle.std.specs.Prelude.{◌≡◌, ℕ, List, Some, None, length, position, if◌then◌else◌, IfOk, OnOk};
 ghost use Rattle.std.specs.Option.{option_or};
 ghost use Rattle.std.specs.Str.{bytes_eq};
 ghost use Rattle.std.specs.Map.{lookup};
-ghost use Rattle.qvt_meta_names.specs.Named.{number_in, numbers_of, number_at};
+ghost use Rattle.qvt_meta_names.specs.Named.{number_in, numbers_of};
 
 use crate::name_table::NameTable;
-use crate::number_table::NumberTable;
 use qvt_base::list_fault::ListFault;
-use qvt_base::lists::FeatureNoList;
-use qvt_base::numbers::FeatureNo;
 use qvt_base::seq::Seq;
 use qvt_metamodel::info::FeatureInfo;
 use std::alloc::Global;
@@ -68,53 +65,4 @@ pub fn name_numbers(
         numbers.push(number_in(table, feature))?;
     }
     Ok(numbers.into_vec())
-}
-
-fn number_at(numbers: &[u32], feature: FeatureNo) -> u32
-    ensures { result ≡ number_at numbers.now feature }
-{
-    let at = feature.0 as usize;
-    if at < numbers.len() { numbers[at] } else { 0 }
-}
-
-/// Puts a place last, unless one with its number is there.
-fn add_place(table: &mut NumberTable, number: u32, place: usize) -> Result<(), ListFault>
-    ensures { OnOk result ((n : ℕ) → lookup (λ k. n == k) table.new ≡ option_or (lookup (λ k. n == k) table.old) (if n == number then Some place else None)) }
-{
-    if table.find(number).is_some() {
-        return Ok(());
-    }
-    table.add(number, place)?;
-    Ok(())
-}
-
-/// The places of a class's features by the numbers of their names.
-fn place_table(
-    alloc: Global,
-    numbers: &[u32],
-    features: &[FeatureNo],
-) -> Result<NumberTable, ListFault>
-    ensures { IfOk result (λ t. (n : ℕ) → lookup (λ k. n == k) t ≡ position (λ f. n == number_at numbers.now f) features.now) }
-{
-    let mut table = NumberTable::new(alloc);
-    for place in 0..features.len() {
-        add_place(&mut table, number_at(numbers, features[place]), place)?;
-    }
-    Ok(table)
-}
-
-/// For each class the places of its features by the numbers of their names.
-pub fn place_tables(
-    alloc: Global,
-    numbers: &[u32],
-    lists: &[FeatureNoList],
-) -> Result<Vec<NumberTable>, ListFault>
-    ensures each { IfOk result (λ v. length v.items ≡ length lists.now) }
-    ensures places { IfOk result (λ v. (c : ℕ) → c < length lists.now → (n : ℕ) → lookup (λ k. n == k) (slice_index_or v.items c []) ≡ position (λ f. n == number_at numbers.now f) (slice_index_or lists.now c [])) }
-{
-    let mut tables = Seq::new(alloc);
-    for class in 0..lists.len() {
-        tables.push(place_table(alloc, numbers, lists[class].as_slice())?)?;
-    }
-    Ok(tables.into_vec())
 }

@@ -4,4 +4,4 @@
 pub mod class_tables;
 pub mod feature_tables;
 pub mod name_table;
-pub mod number_table;
+pub mod place_orders;

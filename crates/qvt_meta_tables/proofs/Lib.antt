@@ -4,3 +4,4 @@ pub mod Cyclic
 pub mod Searching
 pub mod Same
 pub mod Words
+pub mod Once

@@ -1,3 +1,4 @@
+pub mod NumberSets
 pub mod Tables
 pub mod Cycles
 pub mod Search

@@ -1,16 +1,15 @@
 //! The tables of classes: for each its features in order, and which classes are above it.
 
-ghost use Rattle.std.specs.Prelude.{◌≡◌, ◌<◌, ◌≤◌, ◌+◌, ◌++◌, ◌∷◌, ◌^◌, ℕ, [], ◌||◌, ◌==◌, length, map, IfOk, IfSome, OnOk, slice_index_or, slice_set, replicate};
-ghost use Rattle.std.specs.List.{list_any, flat_map};
-ghost use Rattle.qvt_metamodel.specs.Metamodels.{each_once, features_of, nowhere_class};
-ghost use Rattle.qvt_metamodel.specs.Descends.{reaches};
-ghost use Rattle.qvt_metamodel.specs.Kept.{no_row, is_marked};
-ghost use Rattle.qvt_meta_tables.specs.Tables.{of_classes, IsOrder, AreTables};
+ghost use Rattle.std.specs.Prelude.{◌≡◌, ◌++◌, ◌∷◌, ℕ, [], length, IfOk, OnOk, slice_index_or, slice_set, replicate};
+ghost use Rattle.std.specs.List.{flat_map};
+ghost use Rattle.qvt_metamodel.specs.Metamodels.{among_features, each_once, features_of, nowhere_class};
+ghost use Rattle.qvt_meta_tables.specs.NumberSets.{has_number};
+ghost use Rattle.qvt_meta_tables.specs.Tables.{of_classes, is_rising, IsOrder, AreTables};
 ghost use Rattle.qvt_meta_tables.specs.Search.{AreLive, IsAcyclic};
 
+use crate::number_set::NumberSet;
 use crate::order::{Order, order_of};
 use crate::rows::rows_of;
-use indexmap::IndexSet;
 use qvt_base::list_fault::ListFault;
 use qvt_base::lists::FeatureNoList;
 use qvt_base::numbers::{ClassNo, FeatureNo};
@@ -22,32 +21,30 @@ use std::alloc::Global;
 
 /// Puts a feature last that is not there.
 fn add_one(
-    seen: &mut IndexSet<u32>,
+    seen: &mut NumberSet,
     list: &mut FeatureNoList,
     feature: FeatureNo,
 ) -> Result<(), ListFault>
-    requires { seen.old.keys ≡ map (λ g. g.0) list.old }
+    requires { (n : ℕ) → has_number seen.old n ≡ among_features n list.old }
     ensures list { OnOk result (list.new ≡ list.old ++ each_once list.old (feature ∷ [])) }
-    ensures seen { OnOk result (seen.new.keys ≡ map (λ g. g.0) list.new) }
+    ensures seen { OnOk result ((n : ℕ) → has_number seen.new n ≡ among_features n list.new) }
 {
-    if seen.contains(&feature.0) {
+    if seen.has(feature.0) {
         return Ok(());
     }
-    if seen.insert(feature.0).is_err() {
-        return Err(ListFault::NoMemory);
-    }
+    seen.put(feature.0)?;
     list.push(feature)
 }
 
 /// Puts those of the features last that are not there.
 fn add_new(
-    seen: &mut IndexSet<u32>,
+    seen: &mut NumberSet,
     list: &mut FeatureNoList,
     features: &[FeatureNo],
 ) -> Result<(), ListFault>
-    requires { seen.old.keys ≡ map (λ g. g.0) list.old }
+    requires { (n : ℕ) → has_number seen.old n ≡ among_features n list.old }
     ensures list { OnOk result (list.new ≡ list.old ++ each_once list.old features.now) }
-    ensures seen { OnOk result (seen.new.keys ≡ map (λ g. g.0) list.new) }
+    ensures seen { OnOk result ((n : ℕ) → has_number seen.new n ≡ among_features n list.new) }
 {
     for feature in features {
         add_one(seen, list, *feature)?;
@@ -67,32 +64,67 @@ fn list_at(lists: &Vec<FeatureNoList>, class: ClassNo) -> &[FeatureNo]
     }
 }
 
-/// The features of these classes, each once.
-fn inherited(
+/// Whether each number is greater than the one before, so that no feature is there twice.
+fn is_rising(list: &[FeatureNo]) -> bool
+    ensures { result ≡ is_rising list.now }
+{
+    let mut least: u64 = 0;
+    for feature in list {
+        let number = u64::from(feature.0);
+        if number < least {
+            return false;
+        }
+        least = number + 1;
+    }
+    true
+}
+
+/// The features of these classes, each once, whatever the set held before.
+fn joined(
     alloc: Global,
+    seen: &mut NumberSet,
     lists: &Vec<FeatureNoList>,
     supers: &[ClassNo],
 ) -> Result<FeatureNoList, ListFault>
     ensures { IfOk result (λ s. s ≡ each_once [] (flat_map (λ s. slice_index_or lists.now.items s.0 []) supers.now)) }
 {
-    let mut seen = IndexSet::new(alloc);
+    seen.clear();
     let mut list = Seq::new(alloc);
     for superclass in supers {
-        add_new(&mut seen, &mut list, list_at(lists, *superclass))?;
+        add_new(seen, &mut list, list_at(lists, *superclass))?;
     }
     Ok(list)
+}
+
+/// The features of these classes, each once: a copy where there is one class and nothing to take out.
+fn inherited(
+    alloc: Global,
+    seen: &mut NumberSet,
+    lists: &Vec<FeatureNoList>,
+    supers: &[ClassNo],
+) -> Result<FeatureNoList, ListFault>
+    ensures { IfOk result (λ s. s ≡ each_once [] (flat_map (λ s. slice_index_or lists.now.items s.0 []) supers.now)) }
+{
+    if supers.len() == 1 {
+        let list = list_at(lists, supers[0]);
+        if is_rising(list) {
+            return Seq::from_slice(alloc, list);
+        }
+    }
+    joined(alloc, seen, lists, supers)
 }
 
 /// The features of a class, by those of its superclasses and its own.
 fn features_at(
     alloc: Global,
+    seen: &mut NumberSet,
     lists: &Vec<FeatureNoList>,
     supers: &[ClassNo],
     own: &[FeatureNo],
 ) -> Result<FeatureNoList, ListFault>
     ensures { IfOk result (λ s. s ≡ each_once [] (flat_map (λ s. slice_index_or lists.now.items s.0 []) supers.now) ++ own.now) }
 {
-    let mut list = inherited(alloc, lists, supers)?;
+    let mut list = inherited(alloc, seen, lists, supers)?;
     list.extend(own)?;
     Ok(list)
 }
@@ -151,10 +183,12 @@ fn lists_of(
     ensures each { IfOk result (λ v. length v.items ≡ length classes.now) }
     ensures features { IfOk result (λ v. (c : ℕ) → slice_index_or v.items c [] ≡ features_of (of_classes classes.now) c) }
 {
+    let mut seen = NumberSet::new(alloc);
     let mut lists = empty_lists(alloc, classes.len())?;
     for class in order.classes.as_slice() {
         let supers = supers_at(classes, *class);
-        let list = features_at(alloc, &lists, supers, own_at(classes, *class))?;
+        let own = own_at(classes, *class);
+        let list = features_at(alloc, &mut seen, &lists, supers, own)?;
         put(&mut lists, *class as usize, list);
     }
     Ok(lists)

@@ -1,29 +1,25 @@
 -- The features of a class by name, and their places.
-use Rattle.std.proofs.Common.{◌≡◌, ◌∙◌, ℕ, zero, suc, ◌<◌, ◌≤◌, ◌==◌, List, [], ◌∷◌, length, map, get_or, Bool, true, false, Option, Some, None, refl, ap, sym, subst, arith, position, find, cond}
-use Rattle.std.specs.Prelude.{IsTrue, unwrap_or}
+use Rattle.std.proofs.Common.{◌≡◌, ◌∙◌, ℕ, zero, suc, ◌<◌, ◌≤◌, ◌==◌, List, [], ◌∷◌, length, get_or, Bool, true, false, Option, Some, None, refl, ap, sym, arith, position, find, cond}
+use Rattle.std.specs.Prelude.{unwrap_or}
 use Rattle.std.specs.List.{list_any, position_or_len}
 use Rattle.std.specs.Map.{lookup}
 use Rattle.std.specs.Str.{bytes_eq}
 use Rattle.std.proofs.lemmas.Bool.{eq-eqb, eqb-true, lt-ltb}
-use Rattle.std.proofs.lemmas.List.{get_or-map, get_or_past, length-map}
+use Rattle.std.proofs.lemmas.List.{get_or-map, length-map}
 use Rattle.std.proofs.lemmas.Option.{get_or_from_slice_get, slice_get_read}
 use Rattle.std.proofs.lemmas.List.Quantifiers.{position-Some}
 use Rattle.std.proofs.lemmas.Slice.Eq.{bytes_eq-Decides}
 use Rattle.qvt_base.specs.declared.numbers.FeatureNo.{FeatureNo}
 use Rattle.qvt_metamodel.specs.declared.info.FeatureInfo.{FeatureInfo}
-use Rattle.qvt_metamodel.specs.declared.row.Row.{Row}
 use Rattle.qvt_metamodel.specs.Metamodels.{Metamodels, feature_at, features_of, has_feature, nowhere_feature, among_features}
 use Rattle.qvt_metamodel.specs.Named.{feature_named}
 use Rattle.qvt_metamodel.specs.WellFormed.{IsWellFormed}
-use Rattle.qvt_metamodel.specs.Kept.{IsKept}
 use Rattle.qvt_metamodel.proofs.Bools.{clash, not_true, or_left, or_right}
 use Rattle.qvt_metamodel.proofs.Lookups.{position-first, bytes_eq-refl}
 use Rattle.qvt_metamodel.proofs.Positions.{any-within, any-passes, no-position}
 use Rattle.qvt_meta_names.specs.Named.{number_in, numbers_of, number_at}
+use Rattle.qvt_meta_names.specs.Ordered.{no_number}
 use Rattle.qvt_metas.specs.Held.{AreNumbered, ArePlaced}
-
-abbrev pub no_number : FeatureNo
-no_number = record { 0 = 0 }
 
 -- a feature stands at a place of the list
 among-at : (gs : List FeatureNo) (p : ℕ) → p < length gs → among_features (get_or gs p no_number).0 gs ≡ true
@@ -106,9 +102,6 @@ feature_at_place m c table numbers name k p wm n e there =
     named_number m table numbers n name k e ∙ ap (λ i. (feature_at m i).name) number ∙ sym (named_number m table numbers n (name_at m f) (number_at numbers f) (number_named m table numbers n f live)) in
     ap (feature_named m c) same ∙ wm.feature_found c f.0 (among-at (features_of m c) p at.0)
 
-pub place_within : (m : Metamodels) (c : ℕ) (numbers : List ℕ) (k p : ℕ) → position (λ f. k == number_at numbers f) (features_of m c) ≡ Some p → p < length (features_of m c)
-place_within m c numbers k p there = (position-Some (λ (g : FeatureNo). k == number_at numbers g) (features_of m c) p no_number there).0
-
 -- the place of a feature by its number
 
 absent : (m : Metamodels) (c f : ℕ) → (has_feature m c f ≡ true → ⊥) → position (λ (g : FeatureNo). g.0 == f) (features_of m c) ≡ None
@@ -145,27 +138,15 @@ place_of_another m c f table numbers p wm n there other = absent m c f.0 (λ h.
     let same : Some f ≡ Some g = sym (wm.feature_found c f.0 h) ∙ ap (feature_named m c) name ∙ wm.feature_found c g.0 (among-at (features_of m c) p at.0) in
     clash (eq-eqb g.0 f.0 (cc)) other))
 
--- what a table that is held says
+-- what is held says
 
 read : {X : Type 0} (xs : List X) (i : ℕ) (x d : X) → i < length xs → x ≡ get_or xs i x → get_or xs i d ≡ x
 read xs i x d l e = get_or_from_slice_get xs i x d (slice_get_read xs (length xs) i x refl l e)
 
-pub placed : (m : Metamodels) (lists : List (List FeatureNo)) (rows : List Row) (ranks numbers : List ℕ) (places : List (List (ℕ × ℕ))) (c n : ℕ) (x : List (ℕ × ℕ)) (o : Option ℕ)
-    → IsKept m lists rows ranks → ArePlaced numbers lists places → c < length places → x ≡ get_or places c x → lookup (λ k. n == k) x ≡ o → position (λ (f : FeatureNo). n == number_at numbers f) (features_of m c) ≡ o
-placed m lists rows ranks numbers places c n x o k p l e there =
-    ap (position (λ (f : FeatureNo). n == number_at numbers f)) (sym (k.features c))
-    ∙ sym (p.at c (omega (arith, l, p.each)) n)
-    ∙ ap (lookup (λ (i : ℕ). n == i)) (read places c x [] l e)
-    ∙ there
-
-none_past : (m : Metamodels) (lists : List (List FeatureNo)) (rows : List Row) (ranks numbers : List ℕ) (places : List (List (ℕ × ℕ))) (c : ℕ) → IsKept m lists rows ranks → ArePlaced numbers lists places → length places ≤ c → features_of m c ≡ []
-none_past m lists rows ranks numbers places c k p past = sym (k.features c) ∙ get_or_past lists c [] (omega (arith, past, p.each))
-
-pub no_feature_past : (m : Metamodels) (lists : List (List FeatureNo)) (rows : List Row) (ranks numbers : List ℕ) (places : List (List (ℕ × ℕ))) (c : ℕ) (name : List ℕ) → IsKept m lists rows ranks → ArePlaced numbers lists places → length places ≤ c → feature_named m c name ≡ None
-no_feature_past m lists rows ranks numbers places c name k p past = ap (find (λ (f : FeatureNo). bytes_eq name (name_at m f))) (none_past m lists rows ranks numbers places c k p past)
-
-pub no_class_past : (m : Metamodels) (lists : List (List FeatureNo)) (rows : List Row) (ranks numbers : List ℕ) (places : List (List (ℕ × ℕ))) (c f : ℕ) → IsKept m lists rows ranks → ArePlaced numbers lists places → length places ≤ c → position (λ (g : FeatureNo). g.0 == f) (features_of m c) ≡ None
-no_class_past m lists rows ranks numbers places c f k p past = ap (position (λ (g : FeatureNo). g.0 == f)) (none_past m lists rows ranks numbers places c k p past)
+-- what a search among the features of a class finds by a number
+pub placed : (m : Metamodels) (numbers seen : List ℕ) (c n k : ℕ) (fs : List FeatureNo) (r o : Option ℕ) → seen ≡ numbers → fs ≡ features_of m c → n ≡ k
+    → r ≡ position (λ (f : FeatureNo). n == number_at seen f) fs → r ≡ o → position (λ (f : FeatureNo). k == number_at numbers f) (features_of m c) ≡ o
+placed m numbers seen c n k fs r o same list number e there = (λ i. position (λ (f : FeatureNo). sym number i == number_at (sym same i) f) (sym list i)) ∙ sym e ∙ there
 
 pub as_many : (features : List FeatureInfo) (table : List (List ℕ × ℕ)) (numbers : List ℕ) → AreNumbered features table numbers → length numbers ≡ length features
 as_many features table numbers n = ap length n.each ∙ length-map features (λ (f : FeatureInfo). number_in table f.name)
@@ -178,8 +159,8 @@ none_numbered features table numbers f t n = record {
   each = n ∙ sym (ap (numbers_of table) f);
 }
 
-pub none_placed : (numbers : List ℕ) (lists : List (List FeatureNo)) (places : List (List (ℕ × ℕ))) → lists ≡ [] → places ≡ [] → ArePlaced numbers lists places
-none_placed numbers lists places l p = record {
+pub none_placed : (numbers : List ℕ) (lists : List (List FeatureNo)) (orders : List (Option (List ℕ))) → lists ≡ [] → orders ≡ [] → ArePlaced numbers lists orders
+none_placed numbers lists orders l p = record {
   each = ap length p ∙ sym (ap length l);
   at = λ c h. absurd (omega (arith, h, ap length l));
 }

@@ -15,9 +15,9 @@ use qvt_base::lists::FeatureNoList;
 use qvt_base::numbers::{ClassNo, FeatureNo};
 use qvt_base::text::Text;
 use qvt_meta_names::class_tables::class_tables;
-use qvt_meta_names::feature_tables::{feature_table, name_numbers, place_tables};
+use qvt_meta_names::feature_tables::{feature_table, name_numbers};
 use qvt_meta_names::name_table::NameTable;
-use qvt_meta_names::number_table::NumberTable;
+use qvt_meta_names::place_orders::{PlaceOrder, place_named, place_orders};
 use qvt_meta_tables::tables::tables_of;
 use qvt_metamodel::begin::Begin;
 use qvt_metamodel::copied::{copies, joined};
@@ -46,7 +46,7 @@ pub struct Metas {
     names: Vec<NameTable>,
     feature_names: NameTable,
     numbers: Vec<u32>,
-    places: Vec<NumberTable>,
+    orders: Vec<PlaceOrder>,
 }
 
 impl Model for Metas {
@@ -57,7 +57,7 @@ impl Model for Metas {
 
     ghost view = { λ m. record { metamodels = m.metamodels.items; classes = m.classes.items; features = m.features.items; element = m.element } };
 
-    ghost invariant = { λ m. IsHeld (record { metamodels = m.metamodels.items; classes = m.classes.items; features = m.features.items; element = m.element }) m.lists.items m.rows.items m.ranks.items m.names.items m.feature_names m.numbers.items m.places.items };
+    ghost invariant = { λ m. IsHeld (record { metamodels = m.metamodels.items; classes = m.classes.items; features = m.features.items; element = m.element }) m.lists.items m.rows.items m.ranks.items m.names.items m.feature_names m.numbers.items m.orders.items };
 }
 
 impl Metas {
@@ -78,7 +78,7 @@ impl Metas {
             names: Vec::new(alloc),
             feature_names: NameTable::new(alloc),
             numbers: Vec::new(alloc),
-            places: Vec::new(alloc),
+            orders: Vec::new(alloc),
         }
     }
 
@@ -118,7 +118,7 @@ impl Metas {
         let names = class_tables(alloc, metamodels.len() as u32, classes.as_slice(), count)?;
         let feature_names = feature_table(alloc, features.as_slice(), features.len() as u32)?;
         let numbers = name_numbers(alloc, &feature_names, features.as_slice())?;
-        let places = place_tables(alloc, numbers.as_slice(), lists.as_slice())?;
+        let orders = place_orders(alloc, numbers.as_slice(), lists.as_slice())?;
         Ok(Metas {
             metamodels,
             classes,
@@ -130,7 +130,7 @@ impl Metas {
             names,
             feature_names,
             numbers,
-            places,
+            orders,
         })
     }
 
@@ -421,11 +421,12 @@ impl Metas {
             return None;
         };
         let at = class.0 as usize;
-        if at >= self.places.len() {
+        if at >= self.orders.len() {
             return None;
         }
-        match self.places[at].find(number) {
-            Some(place) => Some(self.features(class)[place]),
+        let features = self.features(class);
+        match place_named(self.numbers.as_slice(), features, &self.orders[at], number) {
+            Some(place) => Some(features[place]),
             None => None,
         }
     }
@@ -436,16 +437,19 @@ impl Metas {
     {
         let at = class.0 as usize;
         let named = feature.0 as usize;
-        if at >= self.places.len() {
+        if at >= self.orders.len() {
             return None;
         }
         if named >= self.numbers.len() {
             return None;
         }
-        let Some(place) = self.places[at].find(self.numbers[named]) else {
+        let features = self.features(class);
+        let number = self.numbers[named];
+        let Some(place) = place_named(self.numbers.as_slice(), features, &self.orders[at], number)
+        else {
             return None;
         };
-        if self.features(class)[place].0 == feature.0 {
+        if features[place].0 == feature.0 {
             Some(place)
         } else {
             None

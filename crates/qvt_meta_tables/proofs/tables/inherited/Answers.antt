@@ -1,12 +1,12 @@
-use Rattle.std.proofs.Common.{◌∙◌, ◌++◌, [], ap, slice_index_or}
-use Rattle.qvt_metamodel.specs.Metamodels.{each_once}
-use Rattle.qvt_metamodel.proofs.Lists.{once_next}
+use Rattle.std.proofs.Common.{◌≡◌, ◌∙◌, [], ap, sym, subst, slice_index_or}
+use Rattle.std.specs.Prelude.{IfOk}
+use Rattle.qvt_meta_tables.specs.Tables.{is_rising}
+use Rattle.qvt_meta_tables.proofs.Once.{once-only}
 use Rattle.qvt_meta_tables.proofs.tables.inherited.Goals as goal
 
-pub loop-superclass-preserved : goal.loop-superclass-preserved
-loop-superclass-preserved c = record {
-  list = once_next (λ s. slice_index_or c.args.lists.now.items s.0 []) _ c.loop-superclass.list c.add_new.new.list c.args.supers.now c.loop-superclass.superclass-index _
-      c.loop-superclass-test.true c.loop-superclass.invariant.list
-      (c.in_ok-add_new.ensures.list ∙ ap (λ fs. c.loop-superclass.list ++ each_once c.loop-superclass.list fs) c.list_at.ensures);
-  seen = c.in_ok-add_new.ensures.seen;
-}
+pub returns-then-is_rising : goal.returns-then-is_rising
+returns-then-is_rising c =
+    subst (λ l. IfOk c.from_slice.result (λ s. s ≡ l))
+    (c.list_at-list.ensures ∙ once-only (λ s. slice_index_or c.args.lists.now.items s.0 []) c.args.supers.now _ c.if-supers-eq1.true
+    (ap is_rising (sym c.list_at-list.ensures) ∙ sym c.is_rising.ensures ∙ c.if-is_rising.true))
+    c.from_slice.ensures

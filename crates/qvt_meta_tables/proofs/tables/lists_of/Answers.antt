@@ -13,7 +13,7 @@ loop-class-preserved c = record {
       ap (λ ls. get_or ls x []) c.put.ensures
       ∙ lists_next c.args.classes.now c.args.order.now.classes c.args.order.now.ranks c.requires c.loop-class.lists.items c.loop-class.class-index _ c.in_ok-list.list
       c.loop-class.invariant.each (sym (ap (λ xs. slice_index xs c.loop-class.class-index) c.as_slice-class-items.ensures)) c.loop-class.invariant.done
-      (c.in_ok-list.ensures ∙ (λ i. each_once [] (flat_map (λ s. get_or c.loop-class.lists.items s.0 []) (c.supers_at-supers.ensures i)) ++ c.own_at.ensures i))
+      (c.in_ok-list.ensures ∙ (λ i. each_once [] (flat_map (λ s. get_or c.loop-class.lists.items s.0 []) (c.supers_at-supers.ensures i)) ++ c.own_at-own.ensures i))
       x live low;
 }
 

@@ -1,17 +1,11 @@
-use Rattle.std.proofs.Common.{◌≡◌, ◌∙◌, ℕ, ◌==◌, ◌<◌, true, false, List, length, None, Some, Option, Fits, w64, ap, sym, subst, arith, position, slice_index_or, refl}
-use Rattle.std.specs.Map.{lookup}
+use Rattle.std.proofs.Common.{◌≡◌, ◌∙◌, ◌==◌, List, ap, sym, arith, position, slice_index_or}
 use Rattle.std.proofs.lemmas.Bool.{eq-eqb, eqb-true}
-use Rattle.qvt_metamodel.proofs.Bools.{not_true}
 use Rattle.qvt_base.specs.declared.numbers.FeatureNo.{FeatureNo}
 use Rattle.qvt_metamodel.specs.Metamodels.{Metamodels, features_of}
+use Rattle.qvt_metamodel.proofs.Bools.{not_true}
 use Rattle.qvt_meta_names.specs.Named.{number_at}
-use Rattle.qvt_metas.proofs.FeaturePlaces.{as_many, no_class_past, no_place_past, no_place_named, place_is, place_of_another, place_within, placed, number_read}
+use Rattle.qvt_metas.proofs.FeaturePlaces.{as_many, no_place_past, no_place_named, place_is, place_of_another, placed, number_read}
 use Rattle.qvt_metas.proofs.metas.Metas.place.Goals as goal
-
-pub returns-then-at-len : goal.returns-then-at-len
-returns-then-at-len c =
-    sym (no_class_past _ _ _ _ _ _ c.args.class.0 c.args.feature.0 c.self.invariant.kept c.self.invariant.placed (omega (arith, c.if-at-len.true, c.len.ensures)))
-    ∙ ap (λ (m : Metamodels). position (λ (f : FeatureNo). f.0 == c.args.feature.0) (features_of m c.args.class.0)) c.self.view_is
 
 pub returns-then-named-len : goal.returns-then-named-len
 returns-then-named-len c =
@@ -20,42 +14,24 @@ returns-then-named-len c =
 
 pub returns-in_default : goal.returns-in_default
 returns-in_default c =
-    let number : c.index-2.result.now ≡ number_at c.self.inside.numbers.items c.args.feature = number_read _ c.args.feature _ (omega (arith, c.if-named-len.false, c.len-2.ensures)) c.index-2.ensures in
-    let there = placed _ _ _ _ _ _ c.args.class.0 (number_at c.self.inside.numbers.items c.args.feature) _ _ c.self.invariant.kept c.self.invariant.placed (omega (arith, c.if-at-len.false, c.len.ensures)) c.index.ensures
-    (ap (λ (n : ℕ). lookup (λ k. n == k) c.index.result.now) (sym number) ∙ sym c.find.ensures ∙ c.in_default.is) in
+    let number : c.index-number.result.now ≡ number_at c.self.inside.numbers.items c.args.feature = number_read _ c.args.feature _ (omega (arith, c.if-named-len.false, c.len-2.ensures)) c.index-number.ensures in
+    let list = c.features-features.ensures ∙ ap (λ (m : Metamodels). features_of m c.args.class.0) (sym c.self.view_is) in
+    let there = placed _ _ _ c.args.class.0 _ _ _ _ _ c.as_slice.ensures.value list number c.place_named.ensures c.in_default.is in
     sym (no_place_named _ c.args.class.0 c.args.feature _ there)
     ∙ ap (λ (m : Metamodels). position (λ (f : FeatureNo). f.0 == c.args.feature.0) (features_of m c.args.class.0)) c.self.view_is
 
-pub bounds-features-place : goal.bounds-features-place
-bounds-features-place c =
-    let number : c.index-2.result.now ≡ number_at c.self.inside.numbers.items c.args.feature = number_read _ c.args.feature _ (omega (arith, c.if-named-len.false, c.len-2.ensures)) c.index-2.ensures in
-    let there = placed _ _ _ _ _ _ c.args.class.0 (number_at c.self.inside.numbers.items c.args.feature) _ _ c.self.invariant.kept c.self.invariant.placed (omega (arith, c.if-at-len.false, c.len.ensures)) c.index.ensures
-    (ap (λ (n : ℕ). lookup (λ k. n == k) c.index.result.now) (sym number) ∙ sym c.find.ensures ∙ c.in-Some.is) in
-    subst (λ (fs : List FeatureNo). c.in-Some.place < length fs) (ap (λ (m : Metamodels). features_of m c.args.class.0) c.self.view_is ∙ sym c.features.ensures) (place_within _ c.args.class.0 _ _ c.in-Some.place there)
-
-pub offset_bounds-features-place : goal.offset_bounds-features-place
-offset_bounds-features-place c =
-    let number : c.index-2.result.now ≡ number_at c.self.inside.numbers.items c.args.feature = number_read _ c.args.feature _ (omega (arith, c.if-named-len.false, c.len-2.ensures)) c.index-2.ensures in
-    let there = placed _ _ _ _ _ _ c.args.class.0 (number_at c.self.inside.numbers.items c.args.feature) _ _ c.self.invariant.kept c.self.invariant.placed (omega (arith, c.if-at-len.false, c.len.ensures)) c.index.ensures
-    (ap (λ (n : ℕ). lookup (λ k. n == k) c.index.result.now) (sym number) ∙ sym c.find.ensures ∙ c.in-Some.is) in
-    let within : c.in-Some.place < length c.features.result.now =
-    subst (λ (fs : List FeatureNo). c.in-Some.place < length fs) (ap (λ (m : Metamodels). features_of m c.args.class.0) c.self.view_is ∙ sym c.features.ensures) (place_within _ c.args.class.0 _ _ c.in-Some.place there) in
-    omega (arith, within, c.features.type_inv.1)
-
 pub returns-then-features-place : goal.returns-then-features-place
 returns-then-features-place c =
-    let number : c.index-2.result.now ≡ number_at c.self.inside.numbers.items c.args.feature = number_read _ c.args.feature _ (omega (arith, c.if-named-len.false, c.len-2.ensures)) c.index-2.ensures in
-    let there = placed _ _ _ _ _ _ c.args.class.0 (number_at c.self.inside.numbers.items c.args.feature) _ _ c.self.invariant.kept c.self.invariant.placed (omega (arith, c.if-at-len.false, c.len.ensures)) c.index.ensures
-    (ap (λ (n : ℕ). lookup (λ k. n == k) c.index.result.now) (sym number) ∙ sym c.find.ensures ∙ c.in-Some.is) in
-    let same = c.features.ensures ∙ ap (λ (m : Metamodels). features_of m c.args.class.0) (sym c.self.view_is) in
-    sym (place_is _ c.args.class.0 c.args.feature _ c.in-Some.place there (ap (λ (fs : List FeatureNo). (slice_index_or fs c.in-Some.place (record { 0 = 0 })).0 == c.args.feature.0) (sym same) ∙ eq-eqb _ _ c.if-features-place.true))
+    let number : c.index-number.result.now ≡ number_at c.self.inside.numbers.items c.args.feature = number_read _ c.args.feature _ (omega (arith, c.if-named-len.false, c.len-2.ensures)) c.index-number.ensures in
+    let list = c.features-features.ensures ∙ ap (λ (m : Metamodels). features_of m c.args.class.0) (sym c.self.view_is) in
+    let there = placed _ _ _ c.args.class.0 _ _ _ _ _ c.as_slice.ensures.value list number c.place_named.ensures c.in-Some.is in
+    sym (place_is _ c.args.class.0 c.args.feature _ c.in-Some.place there (ap (λ (fs : List FeatureNo). (slice_index_or fs c.in-Some.place (record { 0 = 0 })).0 == c.args.feature.0) (sym list) ∙ eq-eqb _ _ c.if-features-place.true))
     ∙ ap (λ (m : Metamodels). position (λ (f : FeatureNo). f.0 == c.args.feature.0) (features_of m c.args.class.0)) c.self.view_is
 
 pub returns-else-features-place : goal.returns-else-features-place
 returns-else-features-place c =
-    let number : c.index-2.result.now ≡ number_at c.self.inside.numbers.items c.args.feature = number_read _ c.args.feature _ (omega (arith, c.if-named-len.false, c.len-2.ensures)) c.index-2.ensures in
-    let there = placed _ _ _ _ _ _ c.args.class.0 (number_at c.self.inside.numbers.items c.args.feature) _ _ c.self.invariant.kept c.self.invariant.placed (omega (arith, c.if-at-len.false, c.len.ensures)) c.index.ensures
-    (ap (λ (n : ℕ). lookup (λ k. n == k) c.index.result.now) (sym number) ∙ sym c.find.ensures ∙ c.in-Some.is) in
-    let same = c.features.ensures ∙ ap (λ (m : Metamodels). features_of m c.args.class.0) (sym c.self.view_is) in
-    sym (place_of_another _ c.args.class.0 c.args.feature _ _ c.in-Some.place c.self.invariant.kept.well_formed c.self.invariant.numbered there (ap (λ (fs : List FeatureNo). (slice_index_or fs c.in-Some.place (record { 0 = 0 })).0 == c.args.feature.0) (sym same) ∙ not_true _ (λ h. c.if-features-place.false (eqb-true _ _ h))))
+    let number : c.index-number.result.now ≡ number_at c.self.inside.numbers.items c.args.feature = number_read _ c.args.feature _ (omega (arith, c.if-named-len.false, c.len-2.ensures)) c.index-number.ensures in
+    let list = c.features-features.ensures ∙ ap (λ (m : Metamodels). features_of m c.args.class.0) (sym c.self.view_is) in
+    let there = placed _ _ _ c.args.class.0 _ _ _ _ _ c.as_slice.ensures.value list number c.place_named.ensures c.in-Some.is in
+    sym (place_of_another _ c.args.class.0 c.args.feature _ _ c.in-Some.place c.self.invariant.kept.well_formed c.self.invariant.numbered there (ap (λ (fs : List FeatureNo). (slice_index_or fs c.in-Some.place (record { 0 = 0 })).0 == c.args.feature.0) (sym list) ∙ not_true _ (λ h. c.if-features-place.false (eqb-true _ _ h))))
     ∙ ap (λ (m : Metamodels). position (λ (f : FeatureNo). f.0 == c.args.feature.0) (features_of m c.args.class.0)) c.self.view_is

@@ -1,10 +1,10 @@
-use Rattle.std.proofs.Common.{◌≡◌, ◌∙◌, ℕ, ◌==◌, ◌&&◌, List, [], length, ap, sym, arith, position, slice_index_or}
+use Rattle.std.proofs.Common.{◌≡◌, ◌∙◌, ℕ, ◌==◌, ◌&&◌, List, [], None, length, ap, subst, arith, position, slice_index_or}
 use Rattle.std.specs.Str.{bytes_eq}
 use Rattle.qvt_base.specs.declared.numbers.FeatureNo.{FeatureNo}
 use Rattle.qvt_metamodel.specs.declared.info.ClassInfo.{ClassInfo}
 use Rattle.qvt_metamodel.specs.declared.info.FeatureInfo.{FeatureInfo}
-use Rattle.qvt_metamodel.proofs.Bools.{ap2}
-use Rattle.qvt_meta_names.specs.Named.{numbers_of, number_at}
+use Rattle.qvt_meta_names.specs.Named.{numbers_of}
+use Rattle.qvt_meta_names.specs.Ordered.{IsOrdered}
 use Rattle.qvt_metas.proofs.metas.Metas.whole.Goals as goal
 
 pub invariant_of-result : goal.invariant_of-result
@@ -17,8 +17,9 @@ invariant_of-result c = let many : c.len.result ≡ length c.args.metamodels.ite
     each = c.in_ok-numbers.ensures ∙ ap (λ (fs : List FeatureInfo). numbers_of c.in_ok-feature_names.feature_names fs) c.as_slice-3.ensures.value;
   };
   placed = record {
-    each = c.in_ok-places.ensures.each ∙ ap length c.as_slice-5.ensures.value;
-    at = λ k h n. c.in_ok-places.ensures.places k (omega (arith, h, ap length c.as_slice-5.ensures.value)) n
-        ∙ ap2 (λ (ns : List ℕ) (ls : List (List FeatureNo)). position (λ (f : FeatureNo). n == number_at ns f) (slice_index_or ls k [])) c.as_slice-4.ensures.value c.as_slice-5.ensures.value;
+    each = c.in_ok-orders.ensures.each ∙ ap length c.as_slice-5.ensures.value;
+    at = λ k h. subst (λ (ns : List ℕ). IsOrdered ns (slice_index_or c.args.lists.items k []) (slice_index_or c.in_ok-orders.orders.items k None)) c.as_slice-4.ensures.value
+        (subst (λ (ls : List (List FeatureNo)). IsOrdered c.as_slice-4.result.now (slice_index_or ls k []) (slice_index_or c.in_ok-orders.orders.items k None)) c.as_slice-5.ensures.value
+        (c.in_ok-orders.ensures.ordered k (omega (arith, h, ap length c.as_slice-5.ensures.value))));
   };
 }

@@ -1,0 +1,152 @@
+ghost use Rattle.std.specs.Prelude.{◌≡◌, ◌<◌, ◌↔◌, ◌==◌, ℕ, None, length, position, slice_index_or, [], IfOk, IsTrue};
+ghost use Rattle.std.specs.List.{range_with_len};
+ghost use Rattle.qvt_meta_names.specs.Named.{number_at};
+ghost use Rattle.qvt_meta_names.specs.Ordered.{key_at, IsRising, AreInOrder, IsOrdered};
+
+use qvt_base::list_fault::ListFault;
+use qvt_base::lists::FeatureNoList;
+use qvt_base::numbers::FeatureNo;
+use qvt_base::seq::Seq;
+use std::alloc::Global;
+
+/// The order in which a list of features is searched by the numbers of their names: None is the
+/// list's own order, which takes no memory, and else these are the places in order.
+pub type PlaceOrder = Option<Seq<u32>>;
+
+fn number_at(numbers: &[u32], feature: FeatureNo) -> u32
+    ensures { result ≡ number_at numbers.now feature }
+{
+    let at = feature.0 as usize;
+    if at < numbers.len() { numbers[at] } else { 0 }
+}
+
+fn key_at(numbers: &[u32], features: &[FeatureNo], place: u32) -> u32
+    ensures { result ≡ key_at numbers.now features.now place }
+{
+    let at = place as usize;
+    let feature = if at < features.len() {
+        features[at]
+    } else {
+        FeatureNo(0)
+    };
+    number_at(numbers, feature)
+}
+
+fn is_in_order(numbers: &[u32], features: &[FeatureNo]) -> bool
+    ensures { IsTrue result ↔ IsRising numbers.now features.now }
+{
+    let mut last = 0;
+    for feature in features {
+        let number = number_at(numbers, *feature);
+        if number < last {
+            return false;
+        }
+        last = number;
+    }
+    true
+}
+
+fn places_below(alloc: Global, count: u32) -> Result<Vec<u32>, ListFault>
+    ensures { IfOk result (λ v. v.items ≡ range_with_len 0 count) }
+{
+    let mut places = Seq::new(alloc);
+    for place in 0..count {
+        places.push(place)?;
+    }
+    Ok(places.into_vec())
+}
+
+fn places_in_order(
+    alloc: Global,
+    numbers: &[u32],
+    features: &[FeatureNo],
+    count: u32,
+) -> Result<Seq<u32>, ListFault>
+    requires { length features.now ≡ count }
+    ensures { IfOk result (λ places. AreInOrder numbers.now features.now places) }
+{
+    let mut places = places_below(alloc, count)?;
+    match places.sort_by_key(|place| key_at(numbers, features, *place)) {
+        Ok(()) => Ok(Seq::from_vec(places)),
+        Err(_) => Err(ListFault::NoMemory),
+    }
+}
+
+fn place_order(
+    alloc: Global,
+    numbers: &[u32],
+    features: &[FeatureNo],
+) -> Result<PlaceOrder, ListFault>
+    ensures { IfOk result (λ order. IsOrdered numbers.now features.now order) }
+{
+    if is_in_order(numbers, features) {
+        return Ok(None);
+    }
+    let Ok(count) = u32::try_from(features.len()) else {
+        return Err(ListFault::NoMemory);
+    };
+    let places = places_in_order(alloc, numbers, features, count)?;
+    Ok(Some(places))
+}
+
+/// For each list the order in which it is searched. It is refused as out of memory where the length
+/// of a list that is not in order itself does not fit 32 bits.
+pub fn place_orders(
+    alloc: Global,
+    numbers: &[u32],
+    lists: &[FeatureNoList],
+) -> Result<Vec<PlaceOrder>, ListFault>
+    ensures each { IfOk result (λ v. length v.items ≡ length lists.now) }
+    ensures ordered { IfOk result (λ v. (c : ℕ) → c < length lists.now → IsOrdered numbers.now (slice_index_or lists.now c []) (slice_index_or v.items c None)) }
+{
+    let mut orders = Seq::new(alloc);
+    for class in 0..lists.len() {
+        orders.push(place_order(alloc, numbers, lists[class].as_slice())?)?;
+    }
+    Ok(orders.into_vec())
+}
+
+fn place_in_list(numbers: &[u32], features: &[FeatureNo], number: u32) -> Option<usize>
+    requires { IsRising numbers.now features.now }
+    ensures { result ≡ position (λ f. number == number_at numbers.now f) features.now }
+{
+    let at = features.partition_point(|feature| number_at(numbers, *feature) < number);
+    if at < features.len() && number_at(numbers, features[at]) == number {
+        Some(at)
+    } else {
+        None
+    }
+}
+
+fn place_among(
+    numbers: &[u32],
+    features: &[FeatureNo],
+    places: &[u32],
+    number: u32,
+) -> Option<usize>
+    requires { AreInOrder numbers.now features.now places.now }
+    ensures { result ≡ position (λ f. number == number_at numbers.now f) features.now }
+{
+    let at = places.partition_point(|place| key_at(numbers, features, *place) < number);
+    if at < places.len() && key_at(numbers, features, places[at]) == number {
+        Some(places[at] as usize)
+    } else {
+        None
+    }
+}
+
+/// The place of the first feature whose name has this number.
+pub fn place_named(
+    numbers: &[u32],
+    features: &[FeatureNo],
+    order: &PlaceOrder,
+    number: u32,
+) -> Option<usize>
+    requires { IsOrdered numbers.now features.now order.now }
+    ensures { result ≡ position (λ f. number == number_at numbers.now f) features.now }
+{
+    match order {
+        None => place_in_list(numbers, features, number),
+        Some(places) => place_among(numbers, features, places.as_slice(), number),
+    }
+}
