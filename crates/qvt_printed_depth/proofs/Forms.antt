@@ -7,7 +7,7 @@ use Rattle.qvt_parser_grammar.specs.Series.{left, right, series, finished, barri
 use Rattle.qvt_parser_grammar.specs.Trees.{second, first, inner}
 use Rattle.qvt_parser_grammar.specs.declared.token.Class.{Class}
 use Rattle.qvt_printer_layout.specs.declared.piece.Piece.{Piece}
-use Rattle.qvt_printed_depth.proofs.Classes.{same_class}
+use Rattle.qvt_printed_tokens.proofs.Classes.{same_class}
 use Rattle.qvt_printed_depth.proofs.Runs.{Still, AllStill, strong_nil}
 use Rattle.qvt_printed_depth.proofs.Pieces.{tc, PStrong, QuietToks, quiet_toks, strong_more}
 

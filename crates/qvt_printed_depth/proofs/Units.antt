@@ -27,7 +27,7 @@ use Rattle.qvt_printer_layout.specs.Words as words
 use Rattle.qvt_printer_layout.specs.declared.piece.Piece.{Piece}
 use Rattle.qvt_printer_layout.specs.declared.piece.Piece.TheVariants as piece
 use Rattle.qvt_printed_depth.specs.Law.{is_return, gets_block}
-use Rattle.qvt_printed_depth.proofs.Classes.{same_class}
+use Rattle.qvt_printed_tokens.proofs.Classes.{same_class}
 use Rattle.qvt_printed_depth.proofs.Runs.{Still, AllStill, Closing, Strong, over_strong}
 use Rattle.qvt_printed_depth.proofs.Wide.{Wide, Spare, wide_strong, wide_up, wide_then, spare_wide, spare_then, Room, room_round, wide_room, spare_empty, strong_drop, wide_braces, strong_wrapped, Parts, parts_strong, parts_then, parts_turns, parts_none, turns_none, parts_braces}
 use Rattle.qvt_printed_depth.proofs.Pieces.{pc, tc, pc_append, tc_one, tc_last, moved, PStrong, POver, PTurns, QuietPieces, QuietToks, quiet_pieces, quiet_strong, strong_more, over_more, turns_more, word_before, Closes, closes_after, closes_at_once, closes_turns, in_brackets, in_braces, in_blocks, quiet_both, quiet_left, quiet_right}

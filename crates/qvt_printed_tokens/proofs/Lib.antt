@@ -3,6 +3,7 @@ pub mod Scans
 pub mod Spelt
 pub mod Meets
 pub mod Sound
+pub mod Classes
 pub mod Tails
 pub mod Tests
 pub mod Again

@@ -12,7 +12,7 @@ use Rattle.qvt_printer_layout.specs.declared.piece.Piece.{Piece}
 use Rattle.qvt_printer_layout.specs.declared.piece.Piece.TheVariants.{Name, Integer, Quoted}
 use Rattle.qvt_printer.specs.Expressions.{one}
 use Rattle.qvt_printed_tokens.specs.Spelled.{all_spelled}
-use Rattle.qvt_printed_trees.proofs.Classes.{same_class, is_itself}
+use Rattle.qvt_printed_tokens.proofs.Classes.{same_class, is_itself}
 use Rattle.qvt_printed_trees.proofs.Spelling.{plain, spelled_append, spelled_head}
 
 -- where l reads a value that is ok, m reads its pieces, as the value without places

@@ -22,7 +22,7 @@ use Rattle.qvt_printer_layout.specs.Words as words
 use Rattle.qvt_printer.specs.Expressions as print
 use Rattle.qvt_printed_tokens.specs.Spelled.{all_spelled}
 use Rattle.qvt_printed_trees.specs.Printable.{IsPrintableExpr, ArePrintableExprs, IsPrintableOptional, IsPrintableItem, ArePrintableItems, IsPrintableRange, IsPrintableMap, IsPrintableResolve, IsPrintableFilter, IsPrintableAccumulator, ArePrintableStmts}
-use Rattle.qvt_printed_trees.proofs.Classes.{is_itself}
+use Rattle.qvt_printed_tokens.proofs.Classes.{is_itself}
 use Rattle.qvt_printed_trees.proofs.Spelling.{plain, plain_name, items_spelled, rest_spelled}
 use Rattle.qvt_printed_trees.proofs.Again.{Again, any, again_the, again_word, again_integer_token, again_string_token, again_then, again_made, again_either, again_one, again_many, again_maybe, again_placed, optional_ok, if_there}
 use Rattle.qvt_printed_trees.proofs.AgainNames.{bare_named, texts, again_name, again_more_names, again_path, again_extent, kind_class, again_kind_word, kind_again, again_coll_type, again_colon_type, again_object_head, bare_path_of}

@@ -20,7 +20,7 @@ use Rattle.qvt_printer.specs.Expressions as print
 use Rattle.qvt_printer.specs.Units as printed
 use Rattle.qvt_printed_tokens.specs.Spelled.{all_spelled}
 use Rattle.qvt_printed_trees.specs.Printable.{IsPrintableUnit, IsPrintableOptional}
-use Rattle.qvt_printed_trees.proofs.Classes.{is_itself}
+use Rattle.qvt_printed_tokens.proofs.Classes.{is_itself}
 use Rattle.qvt_printed_trees.proofs.Statements.{bare_ended}
 use Rattle.qvt_printed_trees.proofs.Spelling.{plain, spelled_append, block_spelled}
 use Rattle.qvt_printed_trees.proofs.Again.{Again, again_the, again_then, again_made, again_maybe}

@@ -26,7 +26,7 @@ use Rattle.qvt_printer.specs.Units as printed
 use Rattle.qvt_printer.specs.Units.{module_pieces}
 use Rattle.qvt_printed_tokens.specs.Spelled.{all_spelled}
 use Rattle.qvt_printed_trees.specs.Printable.{IsPrintableUnit, ArePrintableUnits, IsPrintable}
-use Rattle.qvt_printed_trees.proofs.Classes.{is_itself}
+use Rattle.qvt_printed_tokens.proofs.Classes.{is_itself}
 use Rattle.qvt_printed_trees.proofs.Spelling.{plain, spelled_append}
 use Rattle.qvt_printed_trees.proofs.Again.{Again, any, again_the, again_word, again_name_token, again_then, again_made, again_either, again_one, again_many, again_placed, again_left_out}
 use Rattle.qvt_printed_trees.proofs.AgainNames.{again_name, bare_named}

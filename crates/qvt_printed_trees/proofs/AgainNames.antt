@@ -21,7 +21,7 @@ use Rattle.qvt_printer_layout.specs.Words as words
 use Rattle.qvt_printer.specs.Expressions as print
 use Rattle.qvt_printed_tokens.specs.Spelled.{all_spelled}
 use Rattle.qvt_printed_trees.proofs.Spelling.{plain}
-use Rattle.qvt_printed_trees.proofs.Classes.{is_itself}
+use Rattle.qvt_printed_tokens.proofs.Classes.{is_itself}
 use Rattle.qvt_printed_trees.proofs.Again.{Again, any, again_the, again_word, again_name_token, again_then, again_made, again_either, again_one, again_as, again_many, again_maybe, optional_ok, if_there}
 
 abbrev pub bare_named : Named → Named

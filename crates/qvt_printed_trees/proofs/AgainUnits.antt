@@ -23,7 +23,7 @@ use Rattle.qvt_printer.specs.Expressions as print
 use Rattle.qvt_printer.specs.Units as printed
 use Rattle.qvt_printed_tokens.specs.Spelled.{all_spelled}
 use Rattle.qvt_printed_trees.specs.Printable.{IsPrintableUnit}
-use Rattle.qvt_printed_trees.proofs.Classes.{is_itself}
+use Rattle.qvt_printed_tokens.proofs.Classes.{is_itself}
 use Rattle.qvt_printed_trees.proofs.Spelling.{plain, plain_name, rest_spelled, block_spelled}
 use Rattle.qvt_printed_trees.proofs.Again.{Again, any, again_the, again_word, again_then, again_made, again_either, again_one, again_many, again_maybe, again_placed, again_left_out, if_there}
 use Rattle.qvt_printed_trees.proofs.AgainNames.{again_name, again_path, again_paths, again_unit_path, again_extent, bare_unit_path}

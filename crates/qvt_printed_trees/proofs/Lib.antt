@@ -1,4 +1,3 @@
-pub mod Classes
 pub mod Spelling
 pub mod Again
 pub mod AgainNames

@@ -18,7 +18,7 @@ use Rattle.qvt_printer.specs.Expressions as print
 use Rattle.qvt_printer.specs.Levels.{is_as_loose, is_chain_or_prefix}
 use Rattle.qvt_printed_tokens.specs.Spelled.{all_spelled}
 use Rattle.qvt_printed_trees.specs.Printable.{IsPrintableExpr, IsPrintableLink, ArePrintableLinks}
-use Rattle.qvt_printed_trees.proofs.Classes.{is_itself}
+use Rattle.qvt_printed_tokens.proofs.Classes.{is_itself}
 use Rattle.qvt_printed_trees.proofs.Spelling.{plain}
 use Rattle.qvt_printed_trees.proofs.Again.{Again, any, again_word, again_one, again_turns}
 use Rattle.qvt_printed_trees.proofs.AgainExprs.{AgainNested, Inside, again_bare_expr, again_if_expr, bare_basic}
