@@ -15,7 +15,7 @@ use qvt_base::numbers::Place;
 use qvt_base::seq::Seq;
 use qvt_parser_exprs::inside::Inside;
 use qvt_parser_exprs::leading::{EachTail, LeadStep, Leading};
-use qvt_parser_exprs::made::finish;
+use qvt_parser_exprs::made::{finish, short_list};
 use qvt_parser_grammar::cursor::{ParseError, Parser};
 use qvt_parser_grammar::token::Class;
 use qvt_tree_types::tree::{Link, Step, Stmts};
@@ -43,6 +43,7 @@ impl<
         Ok(post_lead(place, first, steps))
     }
 
+    #[inline(never)]
     #[tactic(auto, unfolding(qvt_parser_grammar::specs::Reading::signed_post_at, qvt_parser_grammar::specs::Reading::signs_at))]
     fn signed_post(&self, parser: &mut Parser<'_>) -> Result<Leading, ParseError>
         requires { IsInside F.Fn G.Fn self.now.inside }
@@ -148,7 +149,8 @@ impl<
         ensures gives { Gives links_view result (toks parser.new) (many_at (of (operators level)) (link_at level (chain_at level (pre_at (nested_at self.now.inside.room)) (pre_at (nested_at self.now.inside.room)))) (toks parser.old)) }
         ensures fewer { length (toks parser.new) ≤ length (toks parser.old) }
     {
-        let mut links = Seq::new(parser.alloc);
+        let some = parser.at_operator(level);
+        let mut links = short_list(parser.alloc, some)?;
         while parser.at_operator(level) {
             let link = self.link(parser, level)?;
             links.push(link)?;
@@ -182,6 +184,7 @@ impl<
         Ok(Box::into_inner(lead))
     }
 
+    #[inline(never)]
     #[tactic(auto, unfolding(qvt_parser_grammar::specs::Reading::each_tail_at))]
     fn each_tail(&self, parser: &mut Parser<'_>) -> Result<EachTail, ParseError>
         requires { IsInside F.Fn G.Fn self.now.inside }
@@ -204,6 +207,7 @@ impl<
         })
     }
 
+    #[inline(never)]
     #[tactic(auto, unfolding(qvt_parser_grammar::specs::Reading::lead_step_at))]
     fn lead_step(&self, parser: &mut Parser<'_>) -> Result<LeadStep, ParseError>
         requires { IsInside F.Fn G.Fn self.now.inside }
@@ -233,7 +237,8 @@ impl<
         ensures gives { Gives lead_steps_view result (toks parser.new) (ended_at (of step_first) (lead_step_at (nested_at self.now.inside.room)) (toks parser.old)) }
         ensures fewer { length (toks parser.new) ≤ length (toks parser.old) }
     {
-        let mut steps = Seq::new(parser.alloc);
+        let some = parser.at_step();
+        let mut steps = short_list(parser.alloc, some)?;
         while parser.at_step() {
             let step = self.lead_step(parser)?;
             match step {

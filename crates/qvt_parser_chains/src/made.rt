@@ -1,4 +1,4 @@
-ghost use Rattle.std.specs.Prelude.{◌≡◌, ◌<◌, ◌∷◌, ◌++◌, []};
+ghost use Rattle.std.specs.Prelude.{◌≡◌, ◌==◌, ◌<◌, ◌∷◌, ◌++◌, [], length, false};
 ghost use Rattle.qvt_tree_types.specs.Tree.{LinkOf, PathExpr};
 ghost use Rattle.qvt_tree_types.specs.View.{expr_view, link_view};
 ghost use Rattle.qvt_parser_grammar.specs.Leads.{Plain};
@@ -12,7 +12,7 @@ ghost use Rattle.qvt_parser_chains.specs.Raised.{held_view};
 use qvt_base::numbers::Place;
 use qvt_base::seq::Seq;
 use qvt_parser_exprs::leading::{EachTail, First, Leading};
-use qvt_parser_exprs::made::{finish, posted};
+use qvt_parser_exprs::made::{finish, posted, short_list};
 use qvt_parser_grammar::cursor::ParseError;
 use qvt_parser_grammar::named::Named;
 use qvt_parser_grammar::token::Class;
@@ -65,7 +65,7 @@ fn level_of(level: usize) -> Level
 pub fn one_expr(alloc: Global, expr: Expr) -> Result<Seq<Expr>, ParseError>
     ensures { Makes exprs_view result (expr_view expr ∷ []) }
 {
-    let mut exprs = Seq::new(alloc);
+    let mut exprs = short_list(alloc, true)?;
     exprs.push(expr)?;
     Ok(exprs)
 }
@@ -233,6 +233,22 @@ pub fn chained(
     if rest.is_empty() {
         return Ok(first);
     }
+    longer(alloc, level, place, first, rest)
+}
+
+/// The same of two operands or more.
+#[inline(never)]
+fn longer(
+    alloc: Global,
+    level: usize,
+    place: Place,
+    first: Box<Leading>,
+    rest: Seq<Link>,
+) -> Result<Box<Leading>, ParseError>
+    requires level { level < 8 }
+    requires longer { (length rest == 0) ≡ false }
+    ensures { Makes held_view result (trees.chain_of (grammar.level_of level) (place, (held_view first, links_view rest))) }
+{
     let first = finish(alloc, Box::into_inner(first))?;
     let first = Box::new(alloc, first)?;
     held(

@@ -15,7 +15,7 @@ use crate::chains::Chains;
 use crate::made::one_expr;
 use qvt_base::seq::Seq;
 use qvt_parser_exprs::leading::Leading;
-use qvt_parser_exprs::made::finish;
+use qvt_parser_exprs::made::{finish, short_list};
 use qvt_parser_grammar::cursor::{ParseError, Parser};
 use qvt_parser_grammar::token::Class;
 use qvt_tree_types::tree::{Accumulator, Expr, Head, Step, Stmts};
@@ -82,6 +82,7 @@ impl<
         self.dot_rest(parser)
     }
 
+    #[inline(never)]
     #[tactic(auto, unfolding(qvt_parser_grammar::specs::Reading::accumulator_at))]
     fn accumulator(&self, parser: &mut Parser<'_>) -> Result<Accumulator, ParseError>
         requires { IsInside F.Fn G.Fn self.now.inside }
@@ -223,6 +224,7 @@ impl<
     }
 
     /// What stands after an arrow, but for `forEach`.
+    #[inline(never)]
     #[tactic(auto, unfolding(qvt_parser_grammar::specs::Reading::arrow_rest_at))]
     pub fn arrow_rest(&self, parser: &mut Parser<'_>) -> Result<Step, ParseError>
         requires { IsInside F.Fn G.Fn self.now.inside }
@@ -241,6 +243,7 @@ impl<
         Ok(Step::ArrowResolve(call))
     }
 
+    #[inline(never)]
     #[tactic(auto, unfolding(qvt_parser_grammar::specs::Reading::step_at))]
     fn step(&self, parser: &mut Parser<'_>) -> Result<Step, ParseError>
         requires { IsInside F.Fn G.Fn self.now.inside }
@@ -261,7 +264,8 @@ impl<
         ensures gives { Gives steps_view result (toks parser.new) (many_at (of step_first) (step_at (nested_at self.now.inside.room)) (toks parser.old)) }
         ensures fewer { length (toks parser.new) ≤ length (toks parser.old) }
     {
-        let mut steps = Seq::new(parser.alloc);
+        let some = parser.at_step();
+        let mut steps = short_list(parser.alloc, some)?;
         while parser.at_step() {
             let step = self.step(parser)?;
             steps.push(step)?;

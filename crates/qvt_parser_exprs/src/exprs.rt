@@ -15,7 +15,7 @@ ghost use Rattle.qvt_parser_exprs.specs.Inside.{IsInside};
 
 use crate::inside::Inside;
 use crate::leading::{First, Leading};
-use crate::made::{conditional, finish, is_strict, resolve_word};
+use crate::made::{conditional, finish, is_strict, resolve_word, short_list};
 use qvt_base::seq::Seq;
 use qvt_base::text::Text;
 use qvt_parser_grammar::cursor::{ParseError, Parser};
@@ -85,7 +85,7 @@ impl<
         ensures gives { Gives exprs_view result (toks parser.new) (made_at (with_head (expr_view first)) (more_exprs_at (nested_at self.now.room)) (toks parser.old)) }
         ensures fewer { length (toks parser.new) ≤ length (toks parser.old) }
     {
-        let mut exprs = Seq::new(parser.alloc);
+        let mut exprs = short_list(parser.alloc, true)?;
         exprs.push(first)?;
         while parser.at(Class::Comma) {
             let next = self.next_expr(parser)?;
@@ -133,6 +133,7 @@ impl<
         Ok(Expr::Path(path))
     }
 
+    #[inline(never)]
     fn range(&self, parser: &mut Parser<'_>) -> Result<Option<RangeEnd>, ParseError>
         requires { IsInside F.Fn G.Fn self.now }
         ensures gives { Gives (option_view range_view) result (toks parser.new) (maybe_at (is Class.DotDot) (made_at range_of (then_at (the_at Class.DotDot) (expr_at (nested_at self.now.room)))) (toks parser.old)) }
@@ -176,7 +177,7 @@ impl<
         ensures gives { Gives items_view result (toks parser.new) (made_at cons_of (then_at (item_at (nested_at self.now.room)) (many_at (is Class.Comma) (made_at second (then_at (the_at Class.Comma) (item_at (nested_at self.now.room)))))) (toks parser.old)) }
         ensures fewer { length (toks parser.new) ≤ length (toks parser.old) }
     {
-        let mut items = Seq::new(parser.alloc);
+        let mut items = short_list(parser.alloc, true)?;
         let first = self.item(parser)?;
         items.push(first)?;
         while parser.at(Class::Comma) {
@@ -186,6 +187,7 @@ impl<
         Ok(items)
     }
 
+    #[inline(never)]
     #[tactic(auto, unfolding(qvt_parser_grammar::specs::Reading::coll_at))]
     fn coll(&self, parser: &mut Parser<'_>) -> Result<Expr, ParseError>
         requires { IsInside F.Fn G.Fn self.now }
@@ -235,6 +237,7 @@ impl<
         Ok(expr)
     }
 
+    #[inline(never)]
     #[tactic(auto, unfolding(qvt_parser_grammar::specs::Reading::if_expr_at))]
     fn if_expr(&self, parser: &mut Parser<'_>) -> Result<Expr, ParseError>
         requires { IsInside F.Fn G.Fn self.now }
@@ -250,6 +253,7 @@ impl<
         conditional(parser.alloc, condition, yes, no, place)
     }
 
+    #[inline(never)]
     #[tactic(auto, unfolding(qvt_parser_grammar::specs::Reading::object_at))]
     fn object(&self, parser: &mut Parser<'_>) -> Result<Expr, ParseError>
         requires { IsInside F.Fn G.Fn self.now }
@@ -270,6 +274,7 @@ impl<
         })
     }
 
+    #[inline(never)]
     #[tactic(auto, unfolding(qvt_parser_grammar::specs::Reading::new_expr_at))]
     fn new_expr(&self, parser: &mut Parser<'_>) -> Result<Expr, ParseError>
         requires { IsInside F.Fn G.Fn self.now }
@@ -290,6 +295,7 @@ impl<
     }
 
     /// A mapping call.
+    #[inline(never)]
     #[tactic(auto, unfolding(qvt_parser_grammar::specs::Reading::map_call_at))]
     pub fn map_call(&self, parser: &mut Parser<'_>) -> Result<MapCall, ParseError>
         requires { IsInside F.Fn G.Fn self.now }
@@ -444,6 +450,7 @@ impl<
     }
 
     /// A resolve, with `late` or without.
+    #[inline(never)]
     #[tactic(auto, unfolding(qvt_parser_grammar::specs::Reading::resolve_at))]
     pub fn resolve(&self, parser: &mut Parser<'_>) -> Result<ResolveCall, ParseError>
         requires { IsInside F.Fn G.Fn self.now }
@@ -498,6 +505,7 @@ impl<
         self.longer(parser)
     }
 
+    #[inline(never)]
     #[tactic(auto, unfolding(qvt_parser_grammar::specs::Reading::longer_at))]
     fn longer(&self, parser: &mut Parser<'_>) -> Result<Expr, ParseError>
         requires { IsInside F.Fn G.Fn self.now }

@@ -1,4 +1,4 @@
-ghost use Rattle.std.specs.Prelude.{◌≡◌, ◌++◌};
+ghost use Rattle.std.specs.Prelude.{◌≡◌, ◌++◌, []};
 ghost use Rattle.qvt_tree_types.specs.Tree.{IfExpr};
 ghost use Rattle.qvt_tree_types.specs.View.{expr_view, steps_of};
 ghost use Rattle.qvt_parser_grammar.specs.Trees as trees;
@@ -62,7 +62,19 @@ pub fn conditional(
     })
 }
 
+/// An empty list, with room for one item where some follow: most lists have no second one.
+pub fn short_list<T: Drop>(alloc: Global, some: bool) -> Result<Seq<T>, ParseError>
+    ensures { Makes same result [] }
+{
+    if some {
+        let items = Vec::with_capacity(alloc, 1)?;
+        return Ok(Seq::from_vec(items));
+    }
+    Ok(Seq::new(alloc))
+}
+
 /// The steps of both.
+#[inline(never)]
 fn joined(old: Seq<Step>, more: Seq<Step>) -> Result<Seq<Step>, ParseError>
     ensures { Makes same result (old ++ more) }
 {

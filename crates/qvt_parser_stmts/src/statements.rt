@@ -130,6 +130,7 @@ impl<
         Ok(None)
     }
 
+    #[inline(never)]
     #[tactic(auto, unfolding(qvt_parser_grammar::specs::ReadingStatements::arm_at))]
     fn arm(&self, parser: &mut Parser<'_>) -> Result<Arm, ParseError>
         requires { IsInside F.Fn G.Fn self.now.chains.inside }
@@ -278,6 +279,7 @@ impl<
     }
 
     /// A `forEach` whose source begins with a conditional, after its `then`.
+    #[inline(never)]
     #[tactic(auto, unfolding(qvt_parser_grammar::specs::ReadingStatements::choice_at))]
     fn chosen(
         &self,
@@ -360,6 +362,7 @@ impl<
         Ok((sign, value))
     }
 
+    #[inline(never)]
     #[tactic(auto, unfolding(qvt_parser_grammar::specs::ReadingStatements::lead_stmt_at))]
     fn lead_stmt(&self, parser: &mut Parser<'_>) -> Result<Turn, ParseError>
         requires { IsInside F.Fn G.Fn self.now.chains.inside }
@@ -399,6 +402,7 @@ impl<
     }
 
     /// The same, where a target and the sign of an assignment stand.
+    #[inline(never)]
     fn assigned(
         &self,
         parser: &mut Parser<'_>,
@@ -418,6 +422,7 @@ impl<
         Ok(ended(parser, stmt))
     }
 
+    #[inline(never)]
     fn if_turn(&self, parser: &mut Parser<'_>) -> Result<Turn, ParseError>
         requires { IsInside F.Fn G.Fn self.now.chains.inside }
         ensures gives { Gives turn_view result (toks parser.new) (made_at closed_turn (if_stmt_at (nested_at self.now.chains.inside.room)) (toks parser.old)) }
@@ -428,6 +433,7 @@ impl<
         Ok(Turn::Closed(stmt))
     }
 
+    #[inline(never)]
     fn while_turn(&self, parser: &mut Parser<'_>) -> Result<Turn, ParseError>
         requires { IsInside F.Fn G.Fn self.now.chains.inside }
         ensures gives { Gives turn_view result (toks parser.new) (made_at closed_turn (while_stmt_at (nested_at self.now.chains.inside.room)) (toks parser.old)) }
@@ -438,6 +444,7 @@ impl<
         Ok(Turn::Closed(stmt))
     }
 
+    #[inline(never)]
     fn var_turn(&self, parser: &mut Parser<'_>) -> Result<Turn, ParseError>
         requires { IsInside F.Fn G.Fn self.now.chains.inside }
         ensures gives { Gives turn_view result (toks parser.new) (made_at simple_turn (then_at (var_stmt_at (nested_at self.now.chains.inside.room)) semicolon_at) (toks parser.old)) }
@@ -448,6 +455,7 @@ impl<
         Ok(ended(parser, stmt))
     }
 
+    #[inline(never)]
     fn return_turn(&self, parser: &mut Parser<'_>) -> Result<Turn, ParseError>
         requires { IsInside F.Fn G.Fn self.now.chains.inside }
         ensures gives { Gives turn_view result (toks parser.new) (made_at simple_turn (then_at (return_stmt_at (nested_at self.now.chains.inside.room)) semicolon_at) (toks parser.old)) }
