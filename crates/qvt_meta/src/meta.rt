@@ -30,16 +30,16 @@ use qvt_metamodel::fault::MetaFault;
 use qvt_metamodel::info::ClassInfo;
 use qvt_metamodel::tables::Tables;
 pub use qvt_metas::meta::Meta;
-use qvt_metas::metas::Metas;
+use qvt_metas::numbered::Numbered;
 use std::alloc::Global;
 
 /// A metamodel whose data passed every check, from its numbered parts.
-fn made(alloc: Global, meta: MetaData, numbers: Numbers, tables: Tables) -> Result<Meta, ListFault>
+fn made(meta: MetaData, numbers: Numbers, tables: Tables) -> Meta
     requires passes { Passes meta }
     requires named { meta.name ≢ [] }
     requires numbers { AreNumbers meta numbers }
     requires tables { AreTables (of_classes numbers.classes.items) tables.lists.items tables.rows.items tables.ranks.items }
-    ensures { IfOk result (λ read. read ≡ meta) }
+    ensures { result ≡ meta }
 {
     have_texts(&meta);
     let Numbers {
@@ -47,8 +47,8 @@ fn made(alloc: Global, meta: MetaData, numbers: Numbers, tables: Tables) -> Resu
         classes,
         features,
     } = numbers;
-    let alone = Metas::from_parts(alloc, metamodels, classes, features, tables)?;
-    Ok(Meta::from_parts(meta, alone))
+    let alone = Numbered::from_parts(metamodels, classes, features, tables);
+    Meta::from_parts(meta, alone)
 }
 
 fn class_name(classes: &[DeclaredClass], class: usize) -> &Text
@@ -107,7 +107,7 @@ fn features_checked(
     if let Some((class, name)) = same_feature(alloc, &meta, &numbers, &tables.lists)? {
         return Err(MetaFault::SameFeature(class, name));
     }
-    Ok(made(alloc, meta, numbers, tables)?)
+    Ok(made(meta, numbers, tables))
 }
 
 /// The same after the checks of names and types.

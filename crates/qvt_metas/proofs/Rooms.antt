@@ -24,10 +24,6 @@ together m d room = record {
   features = omega (arith, room.features, length-feature_infos first_begin (enum_names d) d.classes 0 d.classes);
 }
 
-pub numbered_element : (d : MetaData) → (numbered d).element ≡ None
-unfolding numbered
-numbered_element d = refl
-
 pub added_element : (m : Metamodels) (d : MetaData) → m.element ≡ None → (added m d).element ≡ None
 unfolding joined numbered
 added_element m d alone = ap (λ e. first_some e None) alone

@@ -5,3 +5,4 @@ pub mod extending;
 mod joining;
 pub mod meta;
 pub mod metas;
+pub mod numbered;

@@ -1,6 +1,6 @@
 ghost use Rattle.std.specs.Prelude.{◌≡◌, [], None, IsTrue};
 
-use crate::metas::Metas;
+use crate::numbered::Numbered;
 use qvt_base::text::Text;
 use qvt_metamodel::declared::MetaData;
 use qvt_metamodel::room::has_room;
@@ -10,7 +10,7 @@ use std::marker::Model;
 #[derive(Debug, Drop)]
 pub struct Meta {
     meta: MetaData,
-    alone: Metas,
+    alone: Numbered,
 }
 
 impl Model for Meta {
@@ -29,7 +29,7 @@ impl Meta {
     ghost use Rattle.qvt_metamodel.specs.Numbered.{IsMeta};
 
     /// The metamodel of this data, which passed the checks, and of the same with numbers.
-    pub fn from_parts(meta: MetaData, alone: Metas) -> Meta
+    pub fn from_parts(meta: MetaData, alone: Numbered) -> Meta
         requires { IsMeta meta alone }
         ensures { result ≡ meta }
     {
@@ -43,7 +43,7 @@ impl Meta {
     }
 
     /// The metamodel with numbers from 0 on.
-    pub fn alone(&self) -> &Metas
+    pub fn alone(&self) -> &Numbered
         ensures { result.now ≡ numbered self.now }
     {
         &self.alone

@@ -9,6 +9,7 @@ ghost use Rattle.qvt_metamodel.specs.Named.{is_text};
 use crate::extending::{given_classes, given_features, have_texts, one_unnamed};
 use crate::joining::{class_infos_on, feature_infos_on, lists_on, ranks_on, rows_on};
 use crate::meta::Meta;
+use crate::numbered::Numbered;
 use qvt_base::copied::Copied;
 use qvt_base::list_fault::ListFault;
 use qvt_base::lists::FeatureNoList;
@@ -27,7 +28,6 @@ use qvt_metamodel::info::{
     ClassInfo, EnumInfo, FeatureInfo, FeatureShape, MetamodelInfo, TypeKind,
 };
 use qvt_metamodel::row::{Row, is_marked};
-use qvt_metamodel::tables::Tables;
 use std::alloc::Global;
 use std::marker::Model;
 
@@ -80,24 +80,6 @@ impl Metas {
             numbers: Vec::new(alloc),
             orders: Vec::new(alloc),
         }
-    }
-
-    /// The metamodels of these parts.
-    pub fn from_parts(
-        alloc: Global,
-        metamodels: Vec<MetamodelInfo>,
-        classes: Vec<ClassInfo>,
-        features: Vec<FeatureInfo>,
-        tables: Tables,
-    ) -> Result<Metas, ListFault>
-        requires { IsKept (record { metamodels = metamodels.items; classes = classes.items; features = features.items; element = None }) tables.lists.items tables.rows.items tables.ranks.items }
-        ensures { IfOk result (λ m. m ≡ record { metamodels = metamodels.items; classes = classes.items; features = features.items; element = None }) }
-    {
-        let Tables { lists, rows, ranks } = tables;
-        let metas = Metas::whole(
-            alloc, metamodels, classes, features, None, lists, rows, ranks,
-        )?;
-        Ok(metas)
     }
 
     /// The metamodels of these parts, with their classes and features by name.
@@ -157,7 +139,6 @@ impl Metas {
         ensures { IsTrue result → HasRoom self.now meta.now }
     {
         let others = meta.alone();
-        let _enums = others.enumerations(0);
         let metamodels = self.metamodels.len() + others.metamodels.len();
         let classes = self.classes.len() + others.classes.len();
         let features = self.features.len() + others.features.len();
@@ -197,9 +178,8 @@ impl Metas {
     }
 
     /// These metamodels, and then the others, whose numbers go on.
-    fn with(&self, others: &Metas) -> Result<Metas, ListFault>
+    fn with(&self, others: &Numbered) -> Result<Metas, ListFault>
         requires element { self.now.element ≡ None }
-        requires others_element { others.now.element ≡ None }
         requires room { FitTogether self.now others.now }
         ensures { IfOk result (λ next. next ≡ joined self.now others.now) }
     {

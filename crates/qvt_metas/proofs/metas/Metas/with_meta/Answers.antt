@@ -1,14 +1,11 @@
 use Rattle.std.proofs.Common.{◌∙◌, ap, sym, subst}
 use Rattle.qvt_metamodel.specs.Metamodels.{Metamodels}
 use Rattle.qvt_metamodel.specs.Joined.{FitTogether, joined}
-use Rattle.qvt_metas.proofs.Rooms.{together, numbered_element, added_element}
+use Rattle.qvt_metas.proofs.Rooms.{together, added_element}
 use Rattle.qvt_metas.proofs.metas.Metas.with_meta.Goals as goal
 
 pub with-requires-clause-room : goal.with-requires-clause-room
 with-requires-clause-room c = subst (FitTogether c.args.self.now) (sym c.alone.ensures) (together c.args.self.now c.args.meta.now c.requires.room)
-
-pub with-requires-clause-others_element : goal.with-requires-clause-others_element
-with-requires-clause-others_element c = ap (λ (x : Metamodels). x.element) c.alone.ensures ∙ numbered_element c.args.meta.now
 
 pub returns-clause-element : goal.returns-clause-element
 returns-clause-element c = ap (λ (x : Metamodels). x.element) (c.in_ok-with.ensures ∙ ap (joined c.args.self.now) c.alone.ensures) ∙ added_element c.args.self.now c.args.meta.now c.requires.element
