@@ -1,8 +1,9 @@
 #!/usr/bin/env bash
-# Parsing transformations of up to 262,144 bytes against reading their bytes alone, in one run: prints the least times of
-# reading the tokens and the whole, less that of reading the bytes, what a byte takes, how many times the bytes' own time the
-# whole takes, and the time of printing what was read. Each text comes also at a tenth of the size. Wants the program of
-# crates/qvt_parser_speed, and makes it where it is missing.
+# Parsing transformations of up to 262,144 bytes against reading their bytes alone, in one run. Prints the least time of parsing
+# by the clock, from the text at hand to the tree, and what a byte takes. Then, of whole runs of the program, less one that
+# reads the bytes alone: the least times of reading the tokens, and of the tree, which is dropped again; how many times the
+# bytes' own run the whole one takes; and the time of printing what was read. Each text comes also at a tenth of the size.
+# Wants the program of crates/qvt_parser_speed, and makes it where it is missing.
 set -u
 here=$(cd "$(dirname "${BASH_SOURCE[0]}")/.." && pwd)
 work=$(mktemp -d)
@@ -21,14 +22,23 @@ measure() { # the least microseconds of $times runs
   done
   echo "$least"
 }
+clocked() { # the least microseconds that parsing took in $times runs
+  local took least=999999999
+  for _ in $(seq "$times"); do
+    took=$("$program" time) || exit 1
+    [ "$took" -lt "$least" ] && least=$took
+  done
+  echo "$least"
+}
 tell() { # what the file is
-  local bytes least tokens tree print
+  local bytes parse least tokens tree print
   bytes=$(wc -c <t.qvto)
+  parse=$(clocked)
   least=$(measure bytes)
   tokens=$(($(measure tokens) - least))
   tree=$(($(measure tree) - least))
   print=$(($(measure print) - least - tree))
-  echo "$1, $bytes bytes: bytes $least us, tokens $tokens us, tree $tree us, $(awk "BEGIN{printf \"%.1f ns a byte, %.1f times the bytes\", 1000 * $tree / $bytes, ($tree + $least) / $least}"), print $print us"
+  echo "$1, $bytes bytes: parsed in $parse us, $(awk "BEGIN{printf \"%.1f\", 1000 * $parse / $bytes}") ns a byte; runs: bytes $least us, tokens $tokens us, tree $tree us, $(awk "BEGIN{printf \"%.1f times the bytes\", ($tree + $least) / $least}"), print $print us"
 }
 # a text of so many bytes at most: what stands before, a piece again and again, what stands after
 texts() { # name, front, piece, end

@@ -1,22 +1,22 @@
 -- A chain level by level.
-use Rattle.std.proofs.Common.{◌≡◌, ◌≤◌, ◌<◌, ◌+◌, ◌-◌, ℕ, zero, suc, List, refl, sym, ap, ◌∙◌, subst, arith, Result, Ok, Err, IsErrAnd}
-use Rattle.std.specs.Prelude.{Box}
-use Rattle.std.specs.declared.alloc.Global.{Global}
+use Rattle.std.proofs.Common.{◌≡◌, ◌≤◌, ◌<◌, ◌+◌, ◌-◌, ℕ, zero, false, suc, List, refl, sym, ap, ◌∙◌, subst, arith, Result, Ok, Err, IsErrAnd}
 use Rattle.qvt_base.specs.declared.numbers.Place.{Place}
 use Rattle.qvt_grammar.specs.Language.{head_of}
-use Rattle.qvt_grammar.specs.Reader.{At, Fault, Answer, ◌>>=◌}
+use Rattle.qvt_grammar.proofs.Loops.{many_stop}
+use Rattle.qvt_grammar.specs.Reader.{At, Fault, Answer, ◌>>=◌, starts, Consumes}
 use Rattle.qvt_tree_types.specs.Tree.{LinkTerm}
 use Rattle.qvt_parser_grammar.specs.Grammar.{level_of}
 use Rattle.qvt_parser_exprs.specs.declared.leading.Leading.{Leading}
 use Rattle.qvt_parser_grammar.specs.Gives.{Gives}
-use Rattle.qvt_parser_grammar.specs.Leads.{Lead}
+use Rattle.qvt_parser_grammar.specs.Leads.{Lead, Plain, Bracketed, Each}
 use Rattle.qvt_parser_grammar.specs.Readers.{Reader, nowhere}
-use Rattle.qvt_parser_grammar.specs.Reading.{chain_at, links_at}
-use Rattle.qvt_parser_grammar.specs.Tokens.{Tok}
+use Rattle.qvt_parser_grammar.specs.Reading.{chain_at, links_at, link_at, operators}
+use Rattle.qvt_parser_grammar.specs.Tokens.{Tok, of}
 use Rattle.qvt_parser_grammar.specs.Trees.{chain_of}
 use Rattle.qvt_parser_grammar.specs.declared.cursor.ParseError.{ParseError}
 use Rattle.qvt_parser_grammar.specs.declared.cursor.ParseError.TheVariants.{NoMemory, Syntax}
-use Rattle.qvt_parser_chains.specs.Raised.{linked, raised_at, held_view}
+use Rattle.qvt_parser_exprs.specs.Views.{lead_view}
+use Rattle.qvt_parser_chains.specs.Raised.{linked, raised_at}
 
 abbrev paired : Lead → Answer Tok (List LinkTerm) → Answer Tok (Lead × List LinkTerm)
 paired lead x = x >>= λ (rest, r). Ok ((lead, rest), r)
@@ -59,6 +59,12 @@ no_level f g ts r lead e = e
 pub all_levels : (k n : ℕ) (f g : Reader Lead) (ts r : List Tok) (lead : Lead) → n ≤ k → k ≤ n → chain_at k f g ts ≡ Ok (lead, r) → chain_at n f g ts ≡ Ok (lead, r)
 all_levels k n f g ts r lead h j e = subst (λ z. chain_at z f g ts ≡ Ok (lead, r)) (let q : k ≡ n = omega (arith, h, j) in q) e
 
+-- where no operator of a level is next, nothing of it is read
+pub unread : (k : ℕ) (g : Reader Lead) → Consumes (link_at k (chain_at k g g)) → (place : Place) (lead : Lead) (r : List Tok) → starts (of (operators k)) r ≡ false → raised_at k g place lead r ≡ Ok (lead, r)
+unread k g less place (Plain e target) r h = ap (joined k place (Plain e target)) (many_stop (of (operators k)) (link_at k (chain_at k g g)) less r h)
+unread k g less place (Bracketed e) r h = ap (joined k place (Bracketed e)) (many_stop (of (operators k)) (link_at k (chain_at k g g)) less r h)
+unread k g less place (Each e part) r h = refl
+
 module _ (k : ℕ) (f g : Reader Lead) (ts r : List Tok) (lead : Lead) (place : Place) (begins : place ≡ head_of (λ t. t.place) nowhere ts) (so_far : chain_at k f g ts ≡ Ok (lead, r)) where
   goes_on : chain_at (suc k) f g ts ≡ raised_at k g place lead r
   goes_on = chain_goes_on k f g ts r lead so_far ∙ ap (λ z. raised_at k g z lead r) (sym begins)
@@ -66,16 +72,16 @@ module _ (k : ℕ) (f g : Reader Lead) (ts r : List Tok) (lead : Lead) (place : 
   pub next_level : (n : ℕ) (more : Lead) (s : List Tok) → n ≡ k + 1 → raised_at k g place lead r ≡ Ok (more, s) → chain_at n f g ts ≡ Ok (more, s)
   next_level n more s h e = subst (λ z. chain_at z f g ts ≡ Ok (more, s)) (let q : suc k ≡ n = omega (arith, h) in q) (goes_on ∙ e)
 
-  pub faulty_level : (n : ℕ) (rest : List Tok) (fault : ParseError) → k < n → Gives {X = Box Leading Global} held_view (Err fault) rest (raised_at k g place lead r) → Gives {X = Box Leading Global} held_view (Err fault) rest (chain_at n f g ts)
+  pub faulty_level : (n : ℕ) (rest : List Tok) (fault : ParseError) → k < n → Gives {X = Leading} lead_view (Err fault) rest (raised_at k g place lead r) → Gives {X = Leading} lead_view (Err fault) rest (chain_at n f g ts)
   faulty_level n rest NoMemory h e = tt
   faulty_level n rest Syntax h e = chain_faults (n - suc k) (suc k) n f g ts (At rest) (omega (arith, h)) (goes_on ∙ e)
 
-no_levels_fault : (n : ℕ) (f g : Reader Lead) (ts rest : List Tok) (fault : ParseError) → Gives {X = Box Leading Global} held_view (Err fault) rest (f ts) → Gives {X = Box Leading Global} held_view (Err fault) rest (chain_at n f g ts)
+no_levels_fault : (n : ℕ) (f g : Reader Lead) (ts rest : List Tok) (fault : ParseError) → Gives {X = Leading} lead_view (Err fault) rest (f ts) → Gives {X = Leading} lead_view (Err fault) rest (chain_at n f g ts)
 unfolding chain_at
 no_levels_fault n f g ts rest NoMemory h = tt
 no_levels_fault n f g ts rest Syntax h = chain_faults n 0 n f g ts (At rest) (omega arith) h
 
 -- a fault of the first operand is one of all
-pub first_fault : (n : ℕ) (f g : Reader Lead) (ts rest : List Tok) (fault : ParseError) (r : Result (Box Leading Global) ParseError) → IsErrAnd r (λ e. e ≡ fault) → Gives {X = Box Leading Global} held_view (Err fault) rest (f ts) → Gives held_view r rest (chain_at n f g ts)
+pub first_fault : (n : ℕ) (f g : Reader Lead) (ts rest : List Tok) (fault : ParseError) (r : Result (Leading) ParseError) → IsErrAnd r (λ e. e ≡ fault) → Gives {X = Leading} lead_view (Err fault) rest (f ts) → Gives lead_view r rest (chain_at n f g ts)
 first_fault n f g ts rest fault (Ok x) h k = absurd h
-first_fault n f g ts rest fault (Err e) h k = subst (λ z. Gives {X = Box Leading Global} held_view (Err z) rest (chain_at n f g ts)) (sym h) (no_levels_fault n f g ts rest fault k)
+first_fault n f g ts rest fault (Err e) h k = subst (λ z. Gives {X = Leading} lead_view (Err z) rest (chain_at n f g ts)) (sym h) (no_levels_fault n f g ts rest fault k)

@@ -1,11 +1,8 @@
 -- What is read with the operands of one level more.
-use Rattle.std.specs.Prelude.{ℕ, List, Box}
-use Rattle.std.specs.declared.alloc.Global.{Global}
+use Rattle.std.specs.Prelude.{ℕ, List}
 use Rattle.qvt_base.specs.declared.numbers.Place.{Place}
 use Rattle.qvt_grammar.specs.Reader.{made_at}
 use Rattle.qvt_tree_types.specs.Tree.{LinkTerm}
-use Rattle.qvt_parser_exprs.specs.declared.leading.Leading.{Leading}
-use Rattle.qvt_parser_exprs.specs.Views.{lead_view}
 use Rattle.qvt_parser_grammar.specs.Grammar.{level_of}
 use Rattle.qvt_parser_grammar.specs.Leads.{Lead}
 use Rattle.qvt_parser_grammar.specs.Readers.{Reader}
@@ -19,7 +16,3 @@ linked below place first rest = chain_of (level_of below) (place, (first, rest))
 -- what is read after an operand of the level, where g reads those of the tightest
 abbrev pub raised_at : ℕ → Reader Lead → Place → Lead → Reader Lead
 raised_at below g place first = made_at (linked below place first) (links_at below (chain_at below g g) first)
-
--- what is read, seen through its place on the heap
-abbrev pub held_view : Box Leading Global → Lead
-held_view b = lead_view b.value

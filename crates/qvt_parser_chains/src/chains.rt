@@ -8,9 +8,9 @@ ghost use Rattle.qvt_parser_grammar.specs.Nesting.{nested_at};
 ghost use Rattle.qvt_parser_exprs.specs.Views.{lead_view, each_view, links_view, lead_step_view, lead_steps_view};
 ghost use Rattle.qvt_parser_grammar.specs.Gives.{Gives, toks};
 ghost use Rattle.qvt_parser_exprs.specs.Inside.{IsInside};
-ghost use Rattle.qvt_parser_chains.specs.Raised.{held_view, raised_at};
+ghost use Rattle.qvt_parser_chains.specs.Raised.{raised_at};
 
-use crate::made::{chained, each_lead, held, linked, post_lead, prefixed};
+use crate::made::{chained, each_lead, linked, post_lead, prefixed};
 use qvt_base::numbers::Place;
 use qvt_base::seq::Seq;
 use qvt_parser_exprs::inside::Inside;
@@ -56,7 +56,7 @@ impl<
         let more = parser.more_signs()?;
         let operand = self.post(parser)?;
         let operand = finish(parser.alloc, operand)?;
-        prefixed(parser.alloc, place, sign, more, operand)
+        prefixed(parser.alloc, place, sign, more, Box::into_inner(operand))
     }
 
     #[tactic(auto, unfolding(qvt_parser_grammar::specs::Reading::pre_at))]
@@ -72,30 +72,19 @@ impl<
         self.post(parser)
     }
 
-    /// The same, on the heap.
-    fn held_pre(&self, parser: &mut Parser<'_>) -> Result<Box<Leading>, ParseError>
-        requires { IsInside F.Fn G.Fn self.now.inside }
-        ensures gives { Gives held_view result (toks parser.new) (pre_at (nested_at self.now.inside.room) (toks parser.old)) }
-        ensures fewer { length (toks parser.new) ≤ length (toks parser.old) }
-        ensures less { OnOk result (length (toks parser.new) < length (toks parser.old)) }
-    {
-        let lead = self.pre(parser)?;
-        held(parser.alloc, lead)
-    }
-
-    /// Operands with operators of the `level` tightest levels between them. The operands of each level
-    /// in turn stand after what is read of the tighter ones. Each level that is open keeps little on
-    /// the stack.
+    /// Operands with operators of the `level` tightest levels between them: at 8 an expression. The
+    /// operands of each level in turn stand after what is read of the tighter ones. Each level that
+    /// is open keeps little on the stack.
     #[cycle(chain)]
-    fn held_chain(&self, parser: &mut Parser<'_>, level: usize) -> Result<Box<Leading>, ParseError>
+    pub fn chain(&self, parser: &mut Parser<'_>, level: usize) -> Result<Leading, ParseError>
         requires nested { IsInside F.Fn G.Fn self.now.inside }
         requires tight { level ≤ 8 }
-        ensures gives { Gives held_view result (toks parser.new) (chain_at level (pre_at (nested_at self.now.inside.room)) (pre_at (nested_at self.now.inside.room)) (toks parser.old)) }
+        ensures gives { Gives lead_view result (toks parser.new) (chain_at level (pre_at (nested_at self.now.inside.room)) (pre_at (nested_at self.now.inside.room)) (toks parser.old)) }
         ensures fewer { length (toks parser.new) ≤ length (toks parser.old) }
         ensures less { OnOk result (length (toks parser.new) < length (toks parser.old)) }
     {
         let place = parser.place();
-        let mut lead = self.held_pre(parser)?;
+        let mut lead = self.pre(parser)?;
         for below in 0..level {
             match self.raised(parser, place, lead, below) {
                 Ok(more) => lead = more,
@@ -111,14 +100,17 @@ impl<
         &self,
         parser: &mut Parser<'_>,
         place: Place,
-        first: Box<Leading>,
+        first: Leading,
         below: usize,
-    ) -> Result<Box<Leading>, ParseError>
+    ) -> Result<Leading, ParseError>
         requires nested { IsInside F.Fn G.Fn self.now.inside }
         requires tight { below < 8 }
-        ensures gives { Gives held_view result (toks parser.new) (raised_at below (pre_at (nested_at self.now.inside.room)) place (held_view first) (toks parser.old)) }
+        ensures gives { Gives lead_view result (toks parser.new) (raised_at below (pre_at (nested_at self.now.inside.room)) place (lead_view first) (toks parser.old)) }
         ensures fewer { length (toks parser.new) ≤ length (toks parser.old) }
     {
+        if !parser.at_operator(below) {
+            return Ok(first);
+        }
         let rest = self.links(parser, &first, below)?;
         chained(parser.alloc, below, place, first, rest)
     }
@@ -168,20 +160,8 @@ impl<
         ensures less { OnOk result (length (toks parser.new) < length (toks parser.old)) }
     {
         let sign = parser.operator(level)?;
-        let operand = self.held_chain(parser, level)?;
+        let operand = self.chain(parser, level)?;
         linked(parser.alloc, sign.class, sign.place, operand)
-    }
-
-    /// Operands with operators of the `level` tightest levels between them: at 8 an expression.
-    pub fn chain(&self, parser: &mut Parser<'_>, level: usize) -> Result<Leading, ParseError>
-        requires nested { IsInside F.Fn G.Fn self.now.inside }
-        requires tight { level ≤ 8 }
-        ensures gives { Gives lead_view result (toks parser.new) (chain_at level (pre_at (nested_at self.now.inside.room)) (pre_at (nested_at self.now.inside.room)) (toks parser.old)) }
-        ensures fewer { length (toks parser.new) ≤ length (toks parser.old) }
-        ensures less { OnOk result (length (toks parser.new) < length (toks parser.old)) }
-    {
-        let lead = self.held_chain(parser, level)?;
-        Ok(Box::into_inner(lead))
     }
 
     #[inline(never)]
@@ -275,26 +255,16 @@ impl<
         self.lead_post(parser)
     }
 
-    /// The same, on the heap.
-    fn held_lead_pre(&self, parser: &mut Parser<'_>) -> Result<Box<Leading>, ParseError>
-        requires { IsInside F.Fn G.Fn self.now.inside }
-        ensures gives { Gives held_view result (toks parser.new) (lead_pre_at (nested_at self.now.inside.room) (toks parser.old)) }
-        ensures fewer { length (toks parser.new) ≤ length (toks parser.old) }
-        ensures less { OnOk result (length (toks parser.new) < length (toks parser.old)) }
-    {
-        let lead = self.lead_pre(parser)?;
-        held(parser.alloc, lead)
-    }
-
+    /// An expression at the front of a statement, which may go on as a `forEach`.
     #[tactic(auto, unfolding(qvt_parser_grammar::specs::Reading::lead_at))]
-    fn held_lead(&self, parser: &mut Parser<'_>) -> Result<Box<Leading>, ParseError>
+    pub fn lead(&self, parser: &mut Parser<'_>) -> Result<Leading, ParseError>
         requires { IsInside F.Fn G.Fn self.now.inside }
-        ensures gives { Gives held_view result (toks parser.new) (lead_at (nested_at self.now.inside.room) (toks parser.old)) }
+        ensures gives { Gives lead_view result (toks parser.new) (lead_at (nested_at self.now.inside.room) (toks parser.old)) }
         ensures fewer { length (toks parser.new) ≤ length (toks parser.old) }
         ensures less { OnOk result (length (toks parser.new) < length (toks parser.old)) }
     {
         let place = parser.place();
-        let mut lead = self.held_lead_pre(parser)?;
+        let mut lead = self.lead_pre(parser)?;
         for below in 0..8 {
             match self.raised(parser, place, lead, below) {
                 Ok(more) => lead = more,
@@ -302,16 +272,5 @@ impl<
             }
         }
         Ok(lead)
-    }
-
-    /// An expression at the front of a statement, which may go on as a `forEach`.
-    pub fn lead(&self, parser: &mut Parser<'_>) -> Result<Leading, ParseError>
-        requires { IsInside F.Fn G.Fn self.now.inside }
-        ensures gives { Gives lead_view result (toks parser.new) (lead_at (nested_at self.now.inside.room) (toks parser.old)) }
-        ensures fewer { length (toks parser.new) ≤ length (toks parser.old) }
-        ensures less { OnOk result (length (toks parser.new) < length (toks parser.old)) }
-    {
-        let lead = self.held_lead(parser)?;
-        Ok(Box::into_inner(lead))
     }
 }

@@ -1,23 +1,23 @@
-ghost use Rattle.std.specs.Prelude.{◌≡◌, ◌==◌, ◌<◌, ◌∷◌, ◌++◌, [], length, false};
-ghost use Rattle.qvt_tree_types.specs.Tree.{LinkOf, PathExpr};
-ghost use Rattle.qvt_tree_types.specs.View.{expr_view, link_view};
+ghost use Rattle.std.specs.Prelude.{◌≡◌, ◌==◌, ◌<◌, ◌∷◌, ◌++◌, [], length, false, None};
+ghost use Rattle.qvt_tree_types.specs.Tree.{HeadOf, LinkOf, PrefixExpr};
+ghost use Rattle.qvt_tree_types.specs.View.{accumulator_view, expr_view, head_view, link_view, optional_accumulator, optional_type};
 ghost use Rattle.qvt_parser_grammar.specs.Leads.{Plain};
 ghost use Rattle.qvt_parser_grammar.specs.Trees as trees;
 ghost use Rattle.qvt_parser_grammar.specs.Grammar as grammar;
 ghost use Rattle.qvt_parser_grammar.specs.Options.{option_view};
-ghost use Rattle.qvt_parser_exprs.specs.Views.{first_view, lead_view, each_view, exprs_view, links_view, steps_view};
+ghost use Rattle.qvt_parser_exprs.specs.Views.{boxed_view, first_view, lead_view, each_view, exprs_view, links_view, steps_view};
 ghost use Rattle.qvt_parser_grammar.specs.Gives.{Makes, same};
-ghost use Rattle.qvt_parser_chains.specs.Raised.{held_view};
+ghost use Rattle.qvt_parser_chains.specs.Heads.{name_in};
 
 use qvt_base::numbers::Place;
 use qvt_base::seq::Seq;
 use qvt_parser_exprs::leading::{EachTail, First, Leading};
-use qvt_parser_exprs::made::{finish, posted, short_list};
+use qvt_parser_exprs::made::{finish, is_name, only_name, posted, short_list};
 use qvt_parser_grammar::cursor::ParseError;
 use qvt_parser_grammar::named::Named;
 use qvt_parser_grammar::token::Class;
-use qvt_tree_types::tree::{Expr, Link, Step};
-use qvt_tree_types::types::PathTree;
+use qvt_tree_types::tree::{Accumulator, Expr, Head, Link, Step};
+use qvt_tree_types::types::TypeTree;
 use qvt_tree_types::words::{BinaryOp, Level, Sign};
 use std::alloc::Global;
 
@@ -61,6 +61,18 @@ fn level_of(level: usize) -> Level
     }
 }
 
+/// The head of an iterator.
+pub fn head_of(name: Named, kind: Option<TypeTree>, accumulator: Option<Accumulator>) -> Head
+    ensures { head_view result ≡ HeadOf name.text (optional_type kind) (optional_accumulator (option_view accumulator_view accumulator)) name.place }
+{
+    Head {
+        name: name.text,
+        kind,
+        accumulator,
+        place: name.place,
+    }
+}
+
 /// The list of one expression.
 pub fn one_expr(alloc: Global, expr: Expr) -> Result<Seq<Expr>, ParseError>
     ensures { Makes exprs_view result (expr_view expr ∷ []) }
@@ -70,37 +82,43 @@ pub fn one_expr(alloc: Global, expr: Expr) -> Result<Seq<Expr>, ParseError>
     Ok(exprs)
 }
 
-/// A path of one name may be a target.
-fn path_lead(path: PathTree) -> Leading
-    ensures { lead_view result ≡ Plain (PathExpr path) (trees.bare_target (PathExpr path)) }
+/// Whether the expression is one name.
+fn is_path_name(expr: &Expr) -> bool
+    ensures { result ≡ trees.is_there (name_in (Plain (expr_view expr.now) (trees.bare_target (expr_view expr.now)))) }
 {
-    let mut names = path.names;
-    if names.len() == 1 {
-        match names.pop() {
-            Some(text) => Leading::Name(Named {
-                text,
-                place: path.place,
-            }),
-            None => Leading::Done(Expr::Path(PathTree {
-                names,
-                place: path.place,
-            })),
-        }
-    } else {
-        Leading::Done(Expr::Path(PathTree {
-            names,
-            place: path.place,
-        }))
+    match expr {
+        Expr::Path(path) => is_name(path),
+        _ => false,
     }
 }
 
-fn bare_lead(expr: Expr) -> Leading
-    ensures { lead_view result ≡ Plain (expr_view expr) (trees.bare_target (expr_view expr)) }
+/// The one name that the expression is.
+fn path_name(expr: Expr) -> Option<Named>
+    ensures { result ≡ name_in (Plain (expr_view expr) (trees.bare_target (expr_view expr))) }
 {
     match expr {
-        Expr::Path(path) => path_lead(path),
-        Expr::ResultRef { place } => Leading::Result(place),
-        expr => Leading::Done(expr),
+        Expr::Path(path) => only_name(path),
+        _ => None,
+    }
+}
+
+/// Whether what is read is one name.
+pub fn is_head(lead: &Leading) -> bool
+    ensures { result ≡ trees.is_there (name_in (lead_view lead.now)) }
+{
+    match lead {
+        Leading::Bare(expr) => is_path_name(expr),
+        _ => false,
+    }
+}
+
+/// The one name that is read.
+pub fn head_name(lead: Leading) -> Option<Named>
+    ensures { result ≡ name_in (lead_view lead) }
+{
+    match lead {
+        Leading::Bare(expr) => path_name(Box::into_inner(expr)),
+        _ => None,
     }
 }
 
@@ -117,7 +135,7 @@ pub fn post_lead(place: Place, first: First, steps: Seq<Step>) -> Leading
         };
     }
     if first.bare {
-        bare_lead(first.expr)
+        Leading::Bare(first.expr)
     } else {
         Leading::Bracketed(first.expr)
     }
@@ -159,6 +177,26 @@ fn all_signs(
     Ok(signs)
 }
 
+/// An operand with signs before it.
+fn with_signs(
+    alloc: Global,
+    place: Place,
+    signs: Seq<Sign>,
+    operand: Box<Expr>,
+) -> Result<Leading, ParseError>
+    ensures { Makes lead_view result (Plain (PrefixExpr signs (boxed_view operand) place) None) }
+{
+    let expr = Box::new(
+        alloc,
+        Expr::Prefix {
+            signs,
+            operand,
+            place,
+        },
+    )?;
+    Ok(Leading::Done(expr))
+}
+
 /// Signs before an operand. Where it has signs of its own, they join them.
 pub fn prefixed(
     alloc: Global,
@@ -176,30 +214,14 @@ pub fn prefixed(
             ..
         } => {
             let signs = all_signs(alloc, first, more, old.as_slice())?;
-            Ok(Leading::Done(Expr::Prefix {
-                signs,
-                operand,
-                place,
-            }))
+            with_signs(alloc, place, signs, operand)
         }
         operand => {
             let signs = all_signs(alloc, first, more, &[])?;
             let operand = Box::new(alloc, operand)?;
-            Ok(Leading::Done(Expr::Prefix {
-                signs,
-                operand,
-                place,
-            }))
+            with_signs(alloc, place, signs, operand)
         }
     }
-}
-
-/// What is read, on the heap.
-pub fn held(alloc: Global, lead: Leading) -> Result<Box<Leading>, ParseError>
-    ensures { Makes held_view result (lead_view lead) }
-{
-    let lead = Box::new(alloc, lead)?;
-    Ok(lead)
 }
 
 /// The operand after an operator.
@@ -207,14 +229,14 @@ pub fn linked(
     alloc: Global,
     class: Class,
     place: Place,
-    operand: Box<Leading>,
+    operand: Leading,
 ) -> Result<Link, ParseError>
-    ensures { Makes link_view result (LinkOf (trees.binary_op class) (trees.expr_of (held_view operand)) place) }
+    ensures { Makes link_view result (LinkOf (trees.binary_op class) (trees.expr_of (lead_view operand)) place) }
 {
-    let operand = finish(alloc, Box::into_inner(operand))?;
+    let operand = finish(alloc, operand)?;
     Ok(Link {
         op: binary_op(class),
-        operand,
+        operand: Box::into_inner(operand),
         place,
     })
 }
@@ -224,11 +246,11 @@ pub fn chained(
     alloc: Global,
     level: usize,
     place: Place,
-    first: Box<Leading>,
+    first: Leading,
     rest: Seq<Link>,
-) -> Result<Box<Leading>, ParseError>
+) -> Result<Leading, ParseError>
     requires { level < 8 }
-    ensures { Makes held_view result (trees.chain_of (grammar.level_of level) (place, (held_view first, links_view rest))) }
+    ensures { Makes lead_view result (trees.chain_of (grammar.level_of level) (place, (lead_view first, links_view rest))) }
 {
     if rest.is_empty() {
         return Ok(first);
@@ -242,22 +264,22 @@ fn longer(
     alloc: Global,
     level: usize,
     place: Place,
-    first: Box<Leading>,
+    first: Leading,
     rest: Seq<Link>,
-) -> Result<Box<Leading>, ParseError>
+) -> Result<Leading, ParseError>
     requires level { level < 8 }
     requires longer { (length rest == 0) ≡ false }
-    ensures { Makes held_view result (trees.chain_of (grammar.level_of level) (place, (held_view first, links_view rest))) }
+    ensures { Makes lead_view result (trees.chain_of (grammar.level_of level) (place, (lead_view first, links_view rest))) }
 {
-    let first = finish(alloc, Box::into_inner(first))?;
-    let first = Box::new(alloc, first)?;
-    held(
+    let first = finish(alloc, first)?;
+    let chain = Box::new(
         alloc,
-        Leading::Done(Expr::Chain {
+        Expr::Chain {
             level: level_of(level),
             first,
             rest,
             place,
-        }),
-    )
+        },
+    )?;
+    Ok(Leading::Done(chain))
 }

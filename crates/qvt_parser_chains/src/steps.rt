@@ -3,16 +3,17 @@ ghost use Rattle.qvt_grammar.specs.Reader.{starts, made_at, then_at, many_at, ma
 ghost use Rattle.qvt_tree_types.specs.View.{expr_view, step_view, accumulator_view};
 ghost use Rattle.qvt_parser_grammar.specs.Tokens.{of, is};
 ghost use Rattle.qvt_parser_grammar.specs.Firsts.{head_first, step_first};
-ghost use Rattle.qvt_parser_grammar.specs.Trees.{dot_of, arrow_of, with_first};
+ghost use Rattle.qvt_parser_grammar.specs.Trees.{dot_of, arrow_of, with_first, is_there};
 ghost use Rattle.qvt_parser_grammar.specs.Reading.{name_at, args_at, dot_rest_at, dot_step_at, accumulator_at, head_rest_at, more_exprs_at, after_first_at, arrow_body_at, arrow_args_at, arrow_rest_at, step_at};
 ghost use Rattle.qvt_parser_grammar.specs.Nesting.{nested_at};
 ghost use Rattle.qvt_parser_grammar.specs.Options.{option_view};
 ghost use Rattle.qvt_parser_exprs.specs.Views.{lead_view, exprs_view, steps_view, head_rest_view, arrow_args_view};
 ghost use Rattle.qvt_parser_grammar.specs.Gives.{Gives, toks};
 ghost use Rattle.qvt_parser_exprs.specs.Inside.{IsInside};
+ghost use Rattle.qvt_parser_chains.specs.Heads.{name_in};
 
 use crate::chains::Chains;
-use crate::made::one_expr;
+use crate::made::{head_name, head_of, is_head, one_expr};
 use qvt_base::seq::Seq;
 use qvt_parser_exprs::leading::Leading;
 use qvt_parser_exprs::made::{finish, short_list};
@@ -131,7 +132,7 @@ impl<
         let kind = parser.optional_type(self.inside.room)?;
         let accumulator = self.optional_accumulator(parser)?;
         let body = self.inside.bar_expr(parser)?;
-        Ok((kind, (accumulator, body)))
+        Ok((kind, (accumulator, Box::into_inner(body))))
     }
 
     #[tactic(auto, unfolding(qvt_parser_grammar::specs::Reading::arrow_body_at))]
@@ -145,7 +146,7 @@ impl<
             return self.head_after(parser, lead);
         }
         let first = finish(parser.alloc, lead)?;
-        self.exprs_after(parser, first)
+        self.exprs_after(parser, Box::into_inner(first))
     }
 
     fn head_after(
@@ -158,23 +159,32 @@ impl<
         ensures gives { Gives arrow_args_view result (toks parser.new) (after_first_at (nested_at self.now.inside.room) (lead_view lead) (toks parser.old)) }
         ensures fewer { length (toks parser.new) ≤ length (toks parser.old) }
     {
-        match lead {
-            Leading::Name(name) => {
-                let (kind, (accumulator, body)) = self.head_rest(parser)?;
-                let head = Head {
-                    name: name.text,
-                    kind,
-                    accumulator,
-                    place: name.place,
-                };
-                let args = one_expr(parser.alloc, body)?;
-                Ok((Some(head), args))
-            }
-            lead => {
-                let first = finish(parser.alloc, lead)?;
-                self.exprs_after(parser, first)
-            }
+        if is_head(&lead) {
+            return self.headed(parser, lead);
         }
+        let first = finish(parser.alloc, lead)?;
+        self.exprs_after(parser, Box::into_inner(first))
+    }
+
+    /// The rest of the head that the name begins.
+    fn headed(
+        &self,
+        parser: &mut Parser<'_>,
+        lead: Leading,
+    ) -> Result<(Option<Head>, Seq<Expr>), ParseError>
+        requires nested { IsInside F.Fn G.Fn self.now.inside }
+        requires head { IsTrue (starts (of head_first) (toks parser.old)) }
+        requires name { IsTrue (is_there (name_in (lead_view lead))) }
+        ensures gives { Gives arrow_args_view result (toks parser.new) (after_first_at (nested_at self.now.inside.room) (lead_view lead) (toks parser.old)) }
+        ensures fewer { length (toks parser.new) ≤ length (toks parser.old) }
+    {
+        let Some(name) = head_name(lead) else {
+            return Err(ParseError::Syntax);
+        };
+        let (kind, (accumulator, body)) = self.head_rest(parser)?;
+        let head = head_of(name, kind, accumulator);
+        let args = one_expr(parser.alloc, body)?;
+        Ok((Some(head), args))
     }
 
     fn exprs_after(

@@ -1,9 +1,9 @@
 -- What clauses see of the values on the way to the tree.
-use Rattle.std.specs.Prelude.{ℕ, Bool, true, false, List, [], ◌∷◌, map, Option, Some, None, ◌⊎◌}
+use Rattle.std.specs.Prelude.{ℕ, Bool, Box, List, map, Option, None, ◌⊎◌}
+use Rattle.std.specs.declared.alloc.Global.{Global}
 use Rattle.std.proofs.Common.{inl, inr}
-use Rattle.qvt_base.specs.declared.numbers.Place.{Place}
-use Rattle.qvt_tree_types.specs.Tree.{TypeTerm, ExprTerm, OptionalExpr, HeadTerm, ItemTerm, LinkTerm, StepTerm, FilterTerm, RangeTerm, AccumulatorTerm, StmtTerm, ArmTerm, PathExpr, ResultExpr, TargetTerm, BareTarget, ResultTarget}
-use Rattle.qvt_tree_types.specs.View.{type_view, optional_type, optional_expr, expr_view, item_view, link_view, step_view, filter_view, range_view, accumulator_view, head_view, optional_head, stmt_view, arm_view}
+use Rattle.qvt_tree_types.specs.Tree.{TypeTerm, ExprTerm, HeadTerm, ItemTerm, LinkTerm, StepTerm, FilterTerm, AccumulatorTerm, StmtTerm}
+use Rattle.qvt_tree_types.specs.View.{type_view, optional_type, optional_expr, expr_view, item_view, link_view, step_view, filter_view, accumulator_view, head_view, optional_head, stmt_view}
 use Rattle.qvt_tree_types.specs.declared.types.TypeTree.{TypeTree}
 use Rattle.qvt_tree_types.specs.declared.tree.Expr.{Expr}
 use Rattle.qvt_tree_types.specs.declared.tree.Item.{Item}
@@ -15,16 +15,15 @@ use Rattle.qvt_tree_types.specs.declared.tree.Head.{Head}
 use Rattle.qvt_tree_types.specs.declared.tree.Accumulator.{Accumulator}
 use Rattle.qvt_tree_types.specs.declared.types.PathTree.{PathTree}
 use Rattle.qvt_tree_types.specs.declared.words.ResolveWord.{ResolveWord}
-use Rattle.qvt_parser_grammar.specs.Tokens.{Tok, tok_of}
 use Rattle.qvt_parser_exprs.specs.declared.leading.LeadStep.{LeadStep}
 use Rattle.qvt_parser_exprs.specs.declared.leading.LeadStep.TheVariants.{Step as OneStep, Each as EachStep}
 use Rattle.qvt_parser_exprs.specs.declared.leading.First.{First}
 use Rattle.qvt_parser_exprs.specs.declared.leading.Leading.{Leading}
-use Rattle.qvt_parser_exprs.specs.declared.leading.Leading.TheVariants.{Name, Result, Post, Bracketed as InBrackets, Done, Each as EachLead}
+use Rattle.qvt_parser_exprs.specs.declared.leading.Leading.TheVariants.{Bare, Post, Bracketed as InBrackets, Done, Each as EachLead}
 use Rattle.qvt_parser_exprs.specs.declared.leading.EachTail.{EachTail}
 use Rattle.qvt_parser_grammar.specs.Options.{option_view}
-use Rattle.qvt_parser_grammar.specs.Leads.{Lead, Plain, Bracketed, Each, EachPart, Ended}
-use Rattle.qvt_parser_grammar.specs.Trees.{path_of, post_of, member_target}
+use Rattle.qvt_parser_grammar.specs.Leads.{Lead, Plain, Bracketed, Each, EachPart}
+use Rattle.qvt_parser_grammar.specs.Trees.{bare_target, post_of, member_target}
 
 abbrev pub exprs_view : List Expr → List ExprTerm
 exprs_view = map expr_view
@@ -41,19 +40,21 @@ steps_view = map step_view
 abbrev pub stmts_view : List Stmt → List StmtTerm
 stmts_view = map stmt_view
 
+abbrev pub boxed_view : Box Expr Global → ExprTerm
+boxed_view b = expr_view b.value
+
 abbrev pub first_view : First → ExprTerm × Bool
-first_view f = (expr_view f.expr, f.bare)
+first_view f = (boxed_view f.expr, f.bare)
 
 abbrev pub each_view : EachTail → EachPart
 each_view e = record { name = e.name; kind = optional_type e.kind; condition = optional_expr (option_view expr_view e.condition); body = stmts_view e.body }
 
 abbrev pub lead_view : Leading → Lead
-lead_view (Name n) = Plain (PathExpr (path_of (n, []))) (Some (BareTarget n.text n.place))
-lead_view (Result place) = Plain (ResultExpr place) (Some (ResultTarget place))
-lead_view (Post first steps place) = Plain (post_of place (expr_view first) (steps_view steps)) (member_target place (expr_view first) (steps_view steps))
-lead_view (InBrackets e) = Bracketed (expr_view e)
-lead_view (Done e) = Plain (expr_view e) None
-lead_view (EachLead source part) = Each (expr_view source) (each_view part.value)
+lead_view (Bare e) = Plain (boxed_view e) (bare_target (boxed_view e))
+lead_view (Post first steps place) = Plain (post_of place (boxed_view first) (steps_view steps)) (member_target place (boxed_view first) (steps_view steps))
+lead_view (InBrackets e) = Bracketed (boxed_view e)
+lead_view (Done e) = Plain (boxed_view e) None
+lead_view (EachLead source part) = Each (boxed_view source) (each_view part.value)
 
 abbrev pub filter_head_view : Option (List ℕ) × TypeTree → Option (List ℕ) × TypeTerm
 filter_head_view (name, kind) = (name, type_view kind)

@@ -9,13 +9,13 @@ ghost use Rattle.qvt_parser_grammar.specs.Trees.{second, inner, cons_of, range_o
 ghost use Rattle.qvt_parser_grammar.specs.Reading.{expr_at, exprs_at, args_at, named_expr_at, item_at, coll_at, if_expr_at, object_at, new_expr_at, map_call_at, filter_head_at, bar_expr_at, filter_at, all_form_at, in_form_at, resolve_at, brackets_at, longer_at, bare_expr_at, other_primary_at, primary_at, more_exprs_at};
 ghost use Rattle.qvt_parser_grammar.specs.Nesting.{nested_at};
 ghost use Rattle.qvt_parser_grammar.specs.Options.{option_view};
-ghost use Rattle.qvt_parser_exprs.specs.Views.{first_view, lead_view, exprs_view, items_view, stmts_view, filter_head_view, form_view};
+ghost use Rattle.qvt_parser_exprs.specs.Views.{boxed_view, first_view, lead_view, exprs_view, items_view, stmts_view, filter_head_view, form_view};
 ghost use Rattle.qvt_parser_grammar.specs.Gives.{Gives, toks};
 ghost use Rattle.qvt_parser_exprs.specs.Inside.{IsInside};
 
 use crate::inside::Inside;
 use crate::leading::{First, Leading};
-use crate::made::{conditional, finish, is_strict, resolve_word, short_list};
+use crate::made::{bare, conditional, finish, is_strict, resolve_word, short_list};
 use qvt_base::seq::Seq;
 use qvt_base::text::Text;
 use qvt_parser_grammar::cursor::{ParseError, Parser};
@@ -47,15 +47,25 @@ impl<
         (self.block)(parser)
     }
 
-    /// An expression.
+    /// An expression, on the heap.
     #[tactic(auto, unfolding(qvt_parser_grammar::specs::Reading::expr_at))]
+    pub fn boxed(&self, parser: &mut Parser<'_>) -> Result<Box<Expr>, ParseError>
+        requires { IsInside F.Fn G.Fn self.now }
+        ensures gives { Gives boxed_view result (toks parser.new) (expr_at (nested_at self.now.room) (toks parser.old)) }
+        ensures fewer { length (toks parser.new) ≤ length (toks parser.old) }
+    {
+        let lead = self.flagged(parser)?;
+        finish(parser.alloc, lead)
+    }
+
+    /// An expression.
     pub fn expr(&self, parser: &mut Parser<'_>) -> Result<Expr, ParseError>
         requires { IsInside F.Fn G.Fn self.now }
         ensures gives { Gives expr_view result (toks parser.new) (expr_at (nested_at self.now.room) (toks parser.old)) }
         ensures fewer { length (toks parser.new) ≤ length (toks parser.old) }
     {
-        let lead = self.flagged(parser)?;
-        finish(parser.alloc, lead)
+        let expr = self.boxed(parser)?;
+        Ok(Box::into_inner(expr))
     }
 
     fn next_expr(&self, parser: &mut Parser<'_>) -> Result<Expr, ParseError>
@@ -214,25 +224,25 @@ impl<
         })
     }
 
-    fn then_expr(&self, parser: &mut Parser<'_>) -> Result<Expr, ParseError>
+    fn then_expr(&self, parser: &mut Parser<'_>) -> Result<Box<Expr>, ParseError>
         requires { IsInside F.Fn G.Fn self.now }
-        ensures gives { Gives expr_view result (toks parser.new) (made_at second (then_at (the_at Class.ThenWord) (expr_at (nested_at self.now.room))) (toks parser.old)) }
+        ensures gives { Gives boxed_view result (toks parser.new) (made_at second (then_at (the_at Class.ThenWord) (expr_at (nested_at self.now.room))) (toks parser.old)) }
         ensures fewer { length (toks parser.new) ≤ length (toks parser.old) }
         ensures less { OnOk result (length (toks parser.new) < length (toks parser.old)) }
     {
         parser.take(Class::ThenWord)?;
-        self.expr(parser)
+        self.boxed(parser)
     }
 
     /// The value after `else`, up to the `endif`.
-    pub fn else_expr(&self, parser: &mut Parser<'_>) -> Result<Expr, ParseError>
+    pub fn else_expr(&self, parser: &mut Parser<'_>) -> Result<Box<Expr>, ParseError>
         requires { IsInside F.Fn G.Fn self.now }
-        ensures gives { Gives expr_view result (toks parser.new) (made_at inner (then_at (the_at Class.ElseWord) (then_at (expr_at (nested_at self.now.room)) (the_at Class.EndifWord))) (toks parser.old)) }
+        ensures gives { Gives boxed_view result (toks parser.new) (made_at inner (then_at (the_at Class.ElseWord) (then_at (expr_at (nested_at self.now.room)) (the_at Class.EndifWord))) (toks parser.old)) }
         ensures fewer { length (toks parser.new) ≤ length (toks parser.old) }
         ensures less { OnOk result (length (toks parser.new) < length (toks parser.old)) }
     {
         parser.take(Class::ElseWord)?;
-        let expr = self.expr(parser)?;
+        let expr = self.boxed(parser)?;
         parser.take(Class::EndifWord)?;
         Ok(expr)
     }
@@ -247,10 +257,10 @@ impl<
     {
         let place = parser.place();
         parser.take(Class::IfWord)?;
-        let condition = self.expr(parser)?;
+        let condition = self.boxed(parser)?;
         let yes = self.then_expr(parser)?;
         let no = self.else_expr(parser)?;
-        conditional(parser.alloc, condition, yes, no, place)
+        Ok(conditional(condition, yes, no, place))
     }
 
     #[inline(never)]
@@ -336,14 +346,14 @@ impl<
 
     /// A bar and an expression.
     #[tactic(auto, unfolding(qvt_parser_grammar::specs::Reading::bar_expr_at))]
-    pub fn bar_expr(&self, parser: &mut Parser<'_>) -> Result<Expr, ParseError>
+    pub fn bar_expr(&self, parser: &mut Parser<'_>) -> Result<Box<Expr>, ParseError>
         requires { IsInside F.Fn G.Fn self.now }
-        ensures gives { Gives expr_view result (toks parser.new) (bar_expr_at (nested_at self.now.room) (toks parser.old)) }
+        ensures gives { Gives boxed_view result (toks parser.new) (bar_expr_at (nested_at self.now.room) (toks parser.old)) }
         ensures fewer { length (toks parser.new) ≤ length (toks parser.old) }
         ensures less { OnOk result (length (toks parser.new) < length (toks parser.old)) }
     {
         parser.take(Class::Bar)?;
-        self.expr(parser)
+        self.boxed(parser)
     }
 
     /// The same, or nothing.
@@ -354,7 +364,7 @@ impl<
     {
         if parser.at(Class::Bar) {
             let expr = self.bar_expr(parser)?;
-            return Ok(Some(expr));
+            return Ok(Some(Box::into_inner(expr)));
         }
         Ok(None)
     }
@@ -370,7 +380,6 @@ impl<
         let (name, kind) = self.filter_head(parser)?;
         if parser.at(Class::Bar) {
             let condition = self.bar_expr(parser)?;
-            let condition = Box::new(parser.alloc, condition)?;
             return Ok(Filter {
                 name,
                 kind,
@@ -474,14 +483,14 @@ impl<
     }
 
     #[tactic(auto, unfolding(qvt_parser_grammar::specs::Reading::brackets_at))]
-    fn brackets(&self, parser: &mut Parser<'_>) -> Result<Expr, ParseError>
+    fn brackets(&self, parser: &mut Parser<'_>) -> Result<Box<Expr>, ParseError>
         requires { IsInside F.Fn G.Fn self.now }
-        ensures gives { Gives expr_view result (toks parser.new) (brackets_at (nested_at self.now.room) (toks parser.old)) }
+        ensures gives { Gives boxed_view result (toks parser.new) (brackets_at (nested_at self.now.room) (toks parser.old)) }
         ensures fewer { length (toks parser.new) ≤ length (toks parser.old) }
         ensures less { OnOk result (length (toks parser.new) < length (toks parser.old)) }
     {
         parser.take(Class::OpenRound)?;
-        let expr = self.expr(parser)?;
+        let expr = self.boxed(parser)?;
         parser.take(Class::CloseRound)?;
         Ok(expr)
     }
@@ -561,7 +570,7 @@ impl<
             return Ok(First { expr, bare: false });
         }
         let expr = self.bare_expr(parser)?;
-        Ok(First { expr, bare: true })
+        bare(parser.alloc, expr)
     }
 
     /// What stands before steps and between operators.
@@ -574,7 +583,7 @@ impl<
     {
         if parser.at(Class::IfWord) {
             let expr = self.if_expr(parser)?;
-            return Ok(First { expr, bare: true });
+            return bare(parser.alloc, expr);
         }
         self.other_primary(parser)
     }

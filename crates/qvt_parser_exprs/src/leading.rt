@@ -1,13 +1,12 @@
 use qvt_base::numbers::Place;
 use qvt_base::text::Text;
-use qvt_parser_grammar::named::Named;
 use qvt_tree_types::tree::{Expr, Step, StepList, Stmts};
 use qvt_tree_types::types::TypeTree;
 
 /// A primary, and whether it stands without brackets.
 #[derive(Drop)]
 pub struct First {
-    pub expr: Expr,
+    pub expr: Box<Expr>,
     pub bare: bool,
 }
 
@@ -21,21 +20,20 @@ pub enum LeadStep {
 /// An expression that may still become a target, or the source and the rest of a `forEach`.
 #[derive(Drop)]
 pub enum Leading {
-    Name(Named),
-    /// The word `result`.
-    Result(Place),
+    /// A primary that stands without brackets and steps: a target where it is one name or `result`.
+    Bare(Box<Expr>),
     /// Steps, at least one, after an expression.
     Post {
-        first: Expr,
+        first: Box<Expr>,
         steps: StepList,
         place: Place,
     },
     /// An expression that stands in brackets alone.
-    Bracketed(Expr),
+    Bracketed(Box<Expr>),
     /// An expression that is no target.
-    Done(Expr),
+    Done(Box<Expr>),
     Each {
-        source: Expr,
+        source: Box<Expr>,
         part: Box<EachTail>,
     },
 }

@@ -1,14 +1,16 @@
-ghost use Rattle.std.specs.Prelude.{◌≡◌, ◌++◌, []};
-ghost use Rattle.qvt_tree_types.specs.Tree.{IfExpr};
+ghost use Rattle.std.specs.Prelude.{◌≡◌, ◌++◌, [], true, option_map};
+ghost use Rattle.qvt_tree_types.specs.Tree.{IfExpr, PathExpr, BareTarget};
 ghost use Rattle.qvt_tree_types.specs.View.{expr_view, steps_of};
 ghost use Rattle.qvt_parser_grammar.specs.Trees as trees;
-ghost use Rattle.qvt_parser_exprs.specs.Views.{lead_view, steps_view};
+ghost use Rattle.qvt_parser_exprs.specs.Views.{boxed_view, first_view, lead_view, steps_view};
+ghost use Rattle.qvt_parser_exprs.specs.Steps.{has_steps};
 ghost use Rattle.qvt_parser_grammar.specs.Gives.{Makes, same};
 
-use crate::leading::Leading;
+use crate::leading::{First, Leading};
 use qvt_base::numbers::Place;
 use qvt_base::seq::Seq;
 use qvt_parser_grammar::cursor::ParseError;
+use qvt_parser_grammar::named::Named;
 use qvt_parser_grammar::token::Class;
 use qvt_tree_types::tree::{Expr, Step};
 use qvt_tree_types::types::PathTree;
@@ -42,24 +44,47 @@ pub fn resolve_word(class: Class) -> ResolveWord
 }
 
 /// The expression of an `if`.
-pub fn conditional(
-    alloc: Global,
-    condition: Expr,
-    yes: Expr,
-    no: Expr,
-    place: Place,
-) -> Result<Expr, ParseError>
-    ensures { Makes expr_view result (IfExpr (expr_view condition) (expr_view yes) (expr_view no) place) }
+pub fn conditional(condition: Box<Expr>, yes: Box<Expr>, no: Box<Expr>, place: Place) -> Expr
+    ensures { expr_view result ≡ IfExpr (boxed_view condition) (boxed_view yes) (boxed_view no) place }
 {
-    let condition = Box::new(alloc, condition)?;
-    let yes = Box::new(alloc, yes)?;
-    let no = Box::new(alloc, no)?;
-    Ok(Expr::If {
+    Expr::If {
         condition,
         yes,
         no,
         place,
-    })
+    }
+}
+
+/// The expression, which stands without brackets.
+pub fn bare(alloc: Global, expr: Expr) -> Result<First, ParseError>
+    ensures { Makes first_view result (expr_view expr, true) }
+{
+    let expr = Box::new(alloc, expr)?;
+    Ok(First { expr, bare: true })
+}
+
+/// Whether the path is one name, and so may be a target.
+pub fn is_name(path: &PathTree) -> bool
+    ensures { result ≡ trees.is_there (trees.bare_target (PathExpr path.now)) }
+{
+    path.names.len() == 1
+}
+
+/// The one name that the path is.
+pub fn only_name(path: PathTree) -> Option<Named>
+    ensures { option_map (λ n. BareTarget n.text n.place) result ≡ trees.bare_target (PathExpr path) }
+{
+    let mut names = path.names;
+    if names.len() != 1 {
+        return None;
+    }
+    match names.pop() {
+        Some(text) => Some(Named {
+            text,
+            place: path.place,
+        }),
+        None => None,
+    }
 }
 
 /// An empty list, with room for one item where some follow: most lists have no second one.
@@ -92,9 +117,25 @@ fn all_steps(old: Seq<Step>, more: Seq<Step>) -> Result<Seq<Step>, ParseError>
     joined(old, more)
 }
 
-/// Steps after an expression: where it has steps already, they join them.
-fn stepped(alloc: Global, place: Place, first: Expr, steps: Seq<Step>) -> Result<Expr, ParseError>
-    ensures { Makes expr_view result (trees.stepped place (expr_view first) (steps_view steps)) }
+/// Whether the expression ends in steps.
+fn has_steps(expr: &Expr) -> bool
+    ensures { result ≡ has_steps (expr_view expr.now) }
+{
+    match expr {
+        Expr::Post { .. } => true,
+        _ => false,
+    }
+}
+
+/// Steps after an expression that ends in steps: they join them.
+#[inline(never)]
+fn longer_steps(
+    alloc: Global,
+    place: Place,
+    first: Expr,
+    steps: Seq<Step>,
+) -> Result<Box<Expr>, ParseError>
+    ensures { Makes boxed_view result (trees.stepped place (expr_view first) (steps_view steps)) }
 {
     match first {
         Expr::Post {
@@ -103,31 +144,63 @@ fn stepped(alloc: Global, place: Place, first: Expr, steps: Seq<Step>) -> Result
             ..
         } => {
             let steps = all_steps(old, steps)?;
-            Ok(Expr::Post {
-                first,
-                steps,
-                place,
-            })
+            let post = Box::new(
+                alloc,
+                Expr::Post {
+                    first,
+                    steps,
+                    place,
+                },
+            )?;
+            Ok(post)
         }
         first => {
             let first = Box::new(alloc, first)?;
-            Ok(Expr::Post {
-                first,
-                steps,
-                place,
-            })
+            let post = Box::new(
+                alloc,
+                Expr::Post {
+                    first,
+                    steps,
+                    place,
+                },
+            )?;
+            Ok(post)
         }
     }
+}
+
+/// Steps after an expression: where it has steps already, they join them.
+#[tactic(auto, using(crate::proofs::Stepped::stepped_apart))]
+fn stepped(
+    alloc: Global,
+    place: Place,
+    first: Box<Expr>,
+    steps: Seq<Step>,
+) -> Result<Box<Expr>, ParseError>
+    ensures { Makes boxed_view result (trees.stepped place (boxed_view first) (steps_view steps)) }
+{
+    if has_steps(&first) {
+        return longer_steps(alloc, place, Box::into_inner(first), steps);
+    }
+    let post = Box::new(
+        alloc,
+        Expr::Post {
+            first,
+            steps,
+            place,
+        },
+    )?;
+    Ok(post)
 }
 
 /// Any number of steps after an expression.
 pub fn posted(
     alloc: Global,
     place: Place,
-    first: Expr,
+    first: Box<Expr>,
     steps: Seq<Step>,
-) -> Result<Expr, ParseError>
-    ensures { Makes expr_view result (trees.post_of place (expr_view first) (steps_view steps)) }
+) -> Result<Box<Expr>, ParseError>
+    ensures { Makes boxed_view result (trees.post_of place (boxed_view first) (steps_view steps)) }
 {
     if steps.is_empty() {
         return Ok(first);
@@ -136,19 +209,11 @@ pub fn posted(
 }
 
 /// The expression. The source stands for a `forEach`.
-pub fn finish(alloc: Global, lead: Leading) -> Result<Expr, ParseError>
-    ensures { Makes expr_view result (trees.expr_of (lead_view lead)) }
+pub fn finish(alloc: Global, lead: Leading) -> Result<Box<Expr>, ParseError>
+    ensures { Makes boxed_view result (trees.expr_of (lead_view lead)) }
 {
     match lead {
-        Leading::Name(name) => {
-            let mut names = Seq::new(alloc);
-            names.push(name.text)?;
-            Ok(Expr::Path(PathTree {
-                names,
-                place: name.place,
-            }))
-        }
-        Leading::Result(place) => Ok(Expr::ResultRef { place }),
+        Leading::Bare(expr) => Ok(expr),
         Leading::Post {
             first,
             steps,

@@ -1,8 +1,8 @@
 -- What stands after `if`, read part by part.
-use Rattle.std.proofs.Common.{◌≡◌, List, Bool, true, false, ◌⊎◌, inl, inr, refl, sym, ap, ◌∙◌, Ok, Err, cond}
+use Rattle.std.proofs.Common.{◌≡◌, List, Bool, true, false, ◌⊎◌, inr, refl, sym, ap, ◌∙◌, Ok, Err, cond}
 use Rattle.qvt_base.specs.declared.numbers.Place.{Place}
 use Rattle.qvt_grammar.specs.Language.{head_of}
-use Rattle.qvt_grammar.specs.Reader.{Answer, ◌>>=◌, starts, made_at, then_at, follow_at, choose_at}
+use Rattle.qvt_grammar.specs.Reader.{Answer, ◌>>=◌, starts, made_at, then_at, choose_at}
 use Rattle.qvt_tree_types.specs.Tree.{ExprTerm, StmtTerm}
 use Rattle.qvt_parser_grammar.specs.Tokens.{Tok}
 use Rattle.qvt_parser_grammar.specs.Readers.{Reader, the_at, nowhere}

@@ -1,5 +1,5 @@
 -- The loop over the statements of a block: what it has read, and what is read of the rest.
-use Rattle.std.proofs.Common.{◌≡◌, ◌<◌, List, [], ◌∷◌, ◌++◌, length, Bool, true, false, ◌⊎◌, inl, inr, refl, sym, ap, ◌∙◌, append_assoc, append-nil, Option, Some, None, Ok, Err}
+use Rattle.std.proofs.Common.{◌≡◌, List, [], ◌∷◌, ◌++◌, Bool, true, false, inl, inr, refl, sym, ap, ◌∙◌, append_assoc, append-nil, Option, Ok, Err}
 use Rattle.qvt_grammar.specs.Reader.{Fault, Answer, ◌>>=◌, Consumes, starts, made_at, ended_at}
 use Rattle.qvt_tree_types.specs.Tree.{StmtTerm}
 use Rattle.qvt_parser_grammar.specs.Tokens.{Tok}

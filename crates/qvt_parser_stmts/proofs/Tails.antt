@@ -1,11 +1,11 @@
 -- What stands after an expression at the front of a statement, read part by part.
-use Rattle.std.proofs.Common.{◌≡◌, List, Bool, true, false, ◌&&◌, IsTrue, refl, sym, ap, ◌∙◌, subst, Option, Some, None, Ok, Err, cond}
+use Rattle.std.proofs.Common.{◌≡◌, List, Bool, true, false, ◌&&◌, IsTrue, refl, sym, ap, ◌∙◌, Option, Some, None, Ok, Err, cond}
 use Rattle.qvt_base.specs.declared.numbers.Place.{Place}
 use Rattle.qvt_grammar.specs.Language.{head_of}
-use Rattle.qvt_grammar.specs.Reader.{Fault, Answer, ◌>>=◌, starts, made_at, follow_at}
+use Rattle.qvt_grammar.specs.Reader.{Fault, Answer, ◌>>=◌, starts, made_at}
 use Rattle.qvt_tree_types.specs.Tree.{ExprTerm, StmtTerm, AssignStmt, ValueStmt, TargetTerm}
 use Rattle.qvt_parser_grammar.specs.Tokens.{Tok, of}
-use Rattle.qvt_parser_grammar.specs.Readers.{Reader, placed_at, nowhere}
+use Rattle.qvt_parser_grammar.specs.Readers.{Reader, nowhere}
 use Rattle.qvt_parser_grammar.specs.Firsts.{assign_first}
 use Rattle.qvt_parser_grammar.specs.Leads.{Lead, Plain, Bracketed, Each}
 use Rattle.qvt_parser_grammar.specs.Trees.{is_there, expr_of}

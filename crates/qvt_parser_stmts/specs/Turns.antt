@@ -1,5 +1,5 @@
 -- What a block has after one more turn.
-use Rattle.std.specs.Prelude.{◌≡◌, Bool, true, false, List, [], ◌∷◌, ◌++◌, ◌⊎◌, Result, Ok, Err}
+use Rattle.std.specs.Prelude.{◌≡◌, Bool, true, false, List, [], ◌∷◌, ◌++◌, Result, Ok, Err}
 use Rattle.std.proofs.Common.{inl, inr}
 use Rattle.qvt_tree_types.specs.Tree.{StmtTerm}
 use Rattle.qvt_parser_grammar.specs.declared.cursor.ParseError.{ParseError}

@@ -1,11 +1,11 @@
-ghost use Rattle.std.specs.Prelude.{◌≡◌, IsTrue, Some, List};
+ghost use Rattle.std.specs.Prelude.{◌≡◌, IsTrue, Some, List, option_map};
 ghost use Rattle.qvt_base.specs.declared.numbers.Place as places;
 ghost use Rattle.qvt_tree_types.specs.Tree.{ExprTerm, StepTerm, AssignStmt, ValueStmt};
 ghost use Rattle.qvt_tree_types.specs.View.{expr_view, step_view, target_view, stmt_view};
 ghost use Rattle.qvt_parser_grammar.specs.Gives.{Makes};
 ghost use Rattle.qvt_parser_grammar.specs.StmtTrees as statements;
 ghost use Rattle.qvt_parser_grammar.specs.Trees as trees;
-ghost use Rattle.qvt_parser_exprs.specs.Views.{lead_view, each_view, steps_view, stmts_view};
+ghost use Rattle.qvt_parser_exprs.specs.Views.{boxed_view, lead_view, each_view, steps_view, stmts_view};
 ghost use Rattle.qvt_parser_stmts.specs.Brackets.{in_brackets};
 ghost use Rattle.qvt_parser_stmts.specs.Turns.{AddsIf};
 ghost use Rattle.qvt_parser_stmts.specs.Views.{turn_view};
@@ -14,7 +14,7 @@ use crate::turns::Turn;
 use qvt_base::numbers::Place;
 use qvt_base::seq::Seq;
 use qvt_parser_exprs::leading::{EachTail, Leading};
-use qvt_parser_exprs::made::posted;
+use qvt_parser_exprs::made::{is_name, only_name, posted};
 use qvt_parser_grammar::cursor::ParseError;
 use qvt_parser_grammar::token::Class;
 use qvt_tree_types::tree::{Expr, Step, Stmt, Target};
@@ -54,12 +54,12 @@ fn ends_in_member(steps: &[Step]) -> bool
 fn member_at(
     alloc: Global,
     place: Place,
-    first: Expr,
+    first: Box<Expr>,
     before: Seq<Step>,
     step: Step,
 ) -> Result<Target, ParseError>
-    requires { IsTrue (trees.is_there (trees.member_of place (expr_view first) (steps_view before, step_view step))) }
-    ensures { Makes (λ t. Some (target_view t)) result (trees.member_of place (expr_view first) (steps_view before, step_view step)) }
+    requires { IsTrue (trees.is_there (trees.member_of place (boxed_view first) (steps_view before, step_view step))) }
+    ensures { Makes (λ t. Some (target_view t)) result (trees.member_of place (boxed_view first) (steps_view before, step_view step)) }
 {
     match step {
         Step::Dot {
@@ -69,7 +69,7 @@ fn member_at(
         } => {
             let object = posted(alloc, place, first, before)?;
             Ok(Target::Member {
-                object,
+                object: Box::into_inner(object),
                 name,
                 place: at,
             })
@@ -79,9 +79,14 @@ fn member_at(
 }
 
 /// The target that the steps end in.
-fn member(alloc: Global, place: Place, first: Expr, steps: Seq<Step>) -> Result<Target, ParseError>
-    requires { IsTrue (trees.is_there (trees.member_target place (expr_view first) (steps_view steps))) }
-    ensures { Makes (λ t. Some (target_view t)) result (trees.member_target place (expr_view first) (steps_view steps)) }
+fn member(
+    alloc: Global,
+    place: Place,
+    first: Box<Expr>,
+    steps: Seq<Step>,
+) -> Result<Target, ParseError>
+    requires { IsTrue (trees.is_there (trees.member_target place (boxed_view first) (steps_view steps))) }
+    ensures { Makes (λ t. Some (target_view t)) result (trees.member_target place (boxed_view first) (steps_view steps)) }
 {
     let mut before = steps;
     match before.pop() {
@@ -90,13 +95,40 @@ fn member(alloc: Global, place: Place, first: Expr, steps: Seq<Step>) -> Result<
     }
 }
 
+/// Whether the expression is one name or `result`.
+fn is_bare_target(expr: &Expr) -> bool
+    ensures { result ≡ trees.is_there (trees.bare_target (expr_view expr.now)) }
+{
+    match expr {
+        Expr::Path(path) => is_name(path),
+        Expr::ResultRef { .. } => true,
+        _ => false,
+    }
+}
+
+/// The expression as what is assigned to, where it is one name or `result`.
+fn bare_target(expr: Expr) -> Option<Target>
+    ensures { option_map target_view result ≡ trees.bare_target (expr_view expr) }
+{
+    match expr {
+        Expr::Path(path) => {
+            let name = only_name(path)?;
+            Some(Target::Bare {
+                name: name.text,
+                place: name.place,
+            })
+        }
+        Expr::ResultRef { place } => Some(Target::ResultVar { place }),
+        _ => None,
+    }
+}
+
 /// Whether the expression may stand at the left of an assignment.
 pub fn has_target(lead: &Leading) -> bool
     ensures { result ≡ trees.is_there (statements.target_in (lead_view lead.now)) }
 {
     match lead {
-        Leading::Name(_) => true,
-        Leading::Result(_) => true,
+        Leading::Bare(expr) => is_bare_target(expr),
         Leading::Post { steps, .. } => ends_in_member(steps.as_slice()),
         Leading::Bracketed(_) => false,
         Leading::Done(_) => false,
@@ -120,11 +152,10 @@ pub fn into_target(alloc: Global, lead: Leading) -> Result<Target, ParseError>
     ensures { Makes (λ t. Some (target_view t)) result (statements.target_in (lead_view lead)) }
 {
     match lead {
-        Leading::Name(name) => Ok(Target::Bare {
-            name: name.text,
-            place: name.place,
-        }),
-        Leading::Result(place) => Ok(Target::ResultVar { place }),
+        Leading::Bare(expr) => match bare_target(Box::into_inner(expr)) {
+            Some(target) => Ok(target),
+            None => Err(ParseError::Syntax),
+        },
         Leading::Post {
             first,
             steps,
@@ -154,11 +185,11 @@ pub fn evaluate(value: Expr, place: Place) -> Stmt
 }
 
 /// The statement of a `forEach`.
-pub fn for_each(source: Expr, part: EachTail, place: Place) -> Stmt
-    ensures { stmt_view result ≡ statements.for_each_of (expr_view source) (each_view part) place }
+pub fn for_each(source: Box<Expr>, part: EachTail, place: Place) -> Stmt
+    ensures { stmt_view result ≡ statements.for_each_of (boxed_view source) (each_view part) place }
 {
     Stmt::ForEach {
-        source,
+        source: Box::into_inner(source),
         name: part.name,
         kind: part.kind,
         condition: part.condition,

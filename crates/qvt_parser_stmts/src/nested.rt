@@ -82,7 +82,8 @@ pub fn expr(parser: &mut Parser<'_>, room: usize) -> Result<Expr, ParseError>
     ensures fewer { length (toks parser.new) ≤ length (toks parser.old) }
 {
     let lead = flagged(parser, room)?;
-    finish(parser.alloc, lead)
+    let expr = finish(parser.alloc, lead)?;
+    Ok(Box::into_inner(expr))
 }
 
 /// The statements of a block without its braces.

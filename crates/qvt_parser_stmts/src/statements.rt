@@ -14,7 +14,7 @@ ghost use Rattle.qvt_parser_grammar.specs.Series.{finished_at};
 ghost use Rattle.qvt_parser_grammar.specs.Nesting.{nested_at};
 ghost use Rattle.qvt_parser_grammar.specs.Options.{option_view};
 ghost use Rattle.qvt_parser_grammar.specs.Gives.{Gives, toks};
-ghost use Rattle.qvt_parser_exprs.specs.Views.{lead_view, stmts_view};
+ghost use Rattle.qvt_parser_exprs.specs.Views.{boxed_view, lead_view, stmts_view};
 ghost use Rattle.qvt_parser_exprs.specs.Inside.{IsInside};
 ghost use Rattle.qvt_parser_stmts.specs.Views.{arms_view, turn_view, ended_view, assigned_view};
 
@@ -207,11 +207,11 @@ impl<
     fn then_chosen(
         &self,
         parser: &mut Parser<'_>,
-        condition: Expr,
+        condition: Box<Expr>,
         place: Place,
     ) -> Result<Stmt, ParseError>
         requires { IsInside F.Fn G.Fn self.now.chains.inside }
-        ensures gives { Gives stmt_view result (toks parser.new) (made_at (if_made place (expr_view condition)) (made_at second (then_at (the_at Class.ThenWord) (made_at inr (choice_at (nested_at self.now.chains.inside.room))))) (toks parser.old)) }
+        ensures gives { Gives stmt_view result (toks parser.new) (made_at (if_made place (boxed_view condition)) (made_at second (then_at (the_at Class.ThenWord) (made_at inr (choice_at (nested_at self.now.chains.inside.room))))) (toks parser.old)) }
         ensures fewer { length (toks parser.new) ≤ length (toks parser.old) }
     {
         parser.take(Class::ThenWord)?;
@@ -222,11 +222,11 @@ impl<
     fn branches_or_choice(
         &self,
         parser: &mut Parser<'_>,
-        condition: Expr,
+        condition: Box<Expr>,
         place: Place,
     ) -> Result<Stmt, ParseError>
         requires { IsInside F.Fn G.Fn self.now.chains.inside }
-        ensures gives { Gives stmt_view result (toks parser.new) (made_at (if_made place (expr_view condition)) (if_rest_at (nested_at self.now.chains.inside.room) (Bracketed (expr_view condition))) (toks parser.old)) }
+        ensures gives { Gives stmt_view result (toks parser.new) (made_at (if_made place (boxed_view condition)) (if_rest_at (nested_at self.now.chains.inside.room) (Bracketed (boxed_view condition))) (toks parser.old)) }
         ensures fewer { length (toks parser.new) ≤ length (toks parser.old) }
     {
         if parser.at(Class::OpenBrace) {
@@ -240,11 +240,11 @@ impl<
     fn after_then(
         &self,
         parser: &mut Parser<'_>,
-        condition: Expr,
+        condition: Box<Expr>,
         place: Place,
     ) -> Result<Stmt, ParseError>
         requires { IsInside F.Fn G.Fn self.now.chains.inside }
-        ensures gives { Gives stmt_view result (toks parser.new) (made_at (if_made place (expr_view condition)) (choose_at (is Class.OpenBrace) (made_at inl (branches_at (nested_at self.now.chains.inside.room))) (made_at inr (choice_at (nested_at self.now.chains.inside.room)))) (toks parser.old)) }
+        ensures gives { Gives stmt_view result (toks parser.new) (made_at (if_made place (boxed_view condition)) (choose_at (is Class.OpenBrace) (made_at inl (branches_at (nested_at self.now.chains.inside.room))) (made_at inr (choice_at (nested_at self.now.chains.inside.room)))) (toks parser.old)) }
         ensures fewer { length (toks parser.new) ≤ length (toks parser.old) }
     {
         if parser.at(Class::OpenBrace) {
@@ -258,11 +258,11 @@ impl<
     fn branched(
         &self,
         parser: &mut Parser<'_>,
-        condition: Expr,
+        condition: Box<Expr>,
         place: Place,
     ) -> Result<Stmt, ParseError>
         requires { IsInside F.Fn G.Fn self.now.chains.inside }
-        ensures gives { Gives stmt_view result (toks parser.new) (made_at (branched place (expr_view condition)) (branches_at (nested_at self.now.chains.inside.room)) (toks parser.old)) }
+        ensures gives { Gives stmt_view result (toks parser.new) (made_at (branched place (boxed_view condition)) (branches_at (nested_at self.now.chains.inside.room)) (toks parser.old)) }
         ensures fewer { length (toks parser.new) ≤ length (toks parser.old) }
     {
         let body = self.chains.inside.block(parser)?;
@@ -270,7 +270,7 @@ impl<
         let otherwise = self.else_part(parser)?;
         parser.skip(Class::EndifWord);
         Ok(Stmt::If {
-            condition,
+            condition: Box::into_inner(condition),
             body,
             arms,
             otherwise,
@@ -284,11 +284,11 @@ impl<
     fn chosen(
         &self,
         parser: &mut Parser<'_>,
-        condition: Expr,
+        condition: Box<Expr>,
         place: Place,
     ) -> Result<Stmt, ParseError>
         requires { IsInside F.Fn G.Fn self.now.chains.inside }
-        ensures gives { Gives stmt_view result (toks parser.new) (made_at (chosen place (expr_view condition)) (choice_at (nested_at self.now.chains.inside.room)) (toks parser.old)) }
+        ensures gives { Gives stmt_view result (toks parser.new) (made_at (chosen place (boxed_view condition)) (choice_at (nested_at self.now.chains.inside.room)) (toks parser.old)) }
         ensures fewer { length (toks parser.new) ≤ length (toks parser.old) }
     {
         let source = self.choice(parser, condition, place)?;
@@ -299,27 +299,28 @@ impl<
     fn choice(
         &self,
         parser: &mut Parser<'_>,
-        condition: Expr,
+        condition: Box<Expr>,
         place: Place,
-    ) -> Result<Expr, ParseError>
+    ) -> Result<Box<Expr>, ParseError>
         requires { IsInside F.Fn G.Fn self.now.chains.inside }
-        ensures gives { Gives expr_view result (toks parser.new) (made_at (choice_expr place (expr_view condition)) (then_at (expr_at (nested_at self.now.chains.inside.room)) (made_at inner (then_at (the_at Class.ElseWord) (then_at (expr_at (nested_at self.now.chains.inside.room)) (the_at Class.EndifWord))))) (toks parser.old)) }
+        ensures gives { Gives boxed_view result (toks parser.new) (made_at (choice_expr place (boxed_view condition)) (then_at (expr_at (nested_at self.now.chains.inside.room)) (made_at inner (then_at (the_at Class.ElseWord) (then_at (expr_at (nested_at self.now.chains.inside.room)) (the_at Class.EndifWord))))) (toks parser.old)) }
         ensures fewer { length (toks parser.new) ≤ length (toks parser.old) }
     {
-        let yes = self.chains.inside.expr(parser)?;
+        let yes = self.chains.inside.boxed(parser)?;
         let no = self.chains.inside.else_expr(parser)?;
-        conditional(parser.alloc, condition, yes, no, place)
+        let expr = Box::new(parser.alloc, conditional(condition, yes, no, place))?;
+        Ok(expr)
     }
 
     /// The steps after an expression, and the rest of the `forEach` over it.
     fn each_over(
         &self,
         parser: &mut Parser<'_>,
-        first: Expr,
+        first: Box<Expr>,
         place: Place,
     ) -> Result<Stmt, ParseError>
         requires { IsInside F.Fn G.Fn self.now.chains.inside }
-        ensures gives { Gives stmt_view result (toks parser.new) (made_at (each_over place (expr_view first)) (finished_at (of step_first) (lead_step_at (nested_at self.now.chains.inside.room))) (toks parser.old)) }
+        ensures gives { Gives stmt_view result (toks parser.new) (made_at (each_over place (boxed_view first)) (finished_at (of step_first) (lead_step_at (nested_at self.now.chains.inside.room))) (toks parser.old)) }
         ensures fewer { length (toks parser.new) ≤ length (toks parser.old) }
     {
         let (steps, part) = self.chains.lead_steps(parser)?;
@@ -397,7 +398,7 @@ impl<
             return self.assigned(parser, lead, place);
         }
         let value = finish(parser.alloc, lead)?;
-        let stmt = evaluate(value, place);
+        let stmt = evaluate(Box::into_inner(value), place);
         Ok(ended(parser, stmt))
     }
 

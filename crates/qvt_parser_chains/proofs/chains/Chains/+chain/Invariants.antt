@@ -5,11 +5,11 @@ use Rattle.qvt_parser_grammar.specs.Gives.{toks}
 use Rattle.qvt_parser_grammar.specs.Reading.{pre_at, link_at, chain_at, operators}
 use Rattle.qvt_parser_grammar.specs.Nesting.{nested_at}
 use Rattle.qvt_tree_types.specs.View.{link_view}
-use Rattle.qvt_parser_chains.specs.Raised.{held_view}
+use Rattle.qvt_parser_exprs.specs.Views.{lead_view}
 use Rattle.qvt_parser_chains.proofs.chains.Chains.+chain.Given as goal
 
-abbrev pub decreases-held_chain : goal.decreases-held_chain
-decreases-held_chain g l = 5 * l.level + 0
+abbrev pub decreases-chain : goal.decreases-chain
+decreases-chain g l = 5 * l.level + 0
 
 abbrev pub decreases-link : goal.decreases-link
 decreases-link g l = 5 * l.level + 1
@@ -23,9 +23,9 @@ decreases-links g l = 5 * l.level + 3
 abbrev pub decreases-raised : goal.decreases-raised
 decreases-raised g l = 5 * l.below + 4
 
-abbrev pub invariant-held_chain-loop-below : goal.invariant-held_chain-loop-below
-invariant-held_chain-loop-below g l = record {
-  so_far : chain_at l.below (pre_at (nested_at l.self.inside.room)) (pre_at (nested_at l.self.inside.room)) (toks l.fn.parser) ≡ Ok (held_view l.lead, toks l.parser);
+abbrev pub invariant-chain-loop-below : goal.invariant-chain-loop-below
+invariant-chain-loop-below g l = record {
+  so_far : chain_at l.below (pre_at (nested_at l.self.inside.room)) (pre_at (nested_at l.self.inside.room)) (toks l.fn.parser) ≡ Ok (lead_view l.lead, toks l.parser);
   less : length (toks l.parser) < length (toks l.fn.parser);
 }
 

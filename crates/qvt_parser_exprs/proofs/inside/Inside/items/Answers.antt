@@ -1,16 +1,15 @@
-use Rattle.std.proofs.Common.{sym, ap, ◌∙◌, arith}
-use Rattle.qvt_grammar.specs.Reader.{many_at, made_at, then_at, with_front}
+use Rattle.std.proofs.Common.{sym, ◌∙◌, arith}
+use Rattle.qvt_grammar.specs.Reader.{made_at, then_at}
 use Rattle.qvt_grammar.proofs.Loops.{loop_push}
-use Rattle.qvt_parser_grammar.specs.Tokens.{is, of}
+use Rattle.qvt_parser_grammar.specs.Tokens.{is}
 use Rattle.qvt_parser_grammar.specs.Readers.{the_at}
 use Rattle.qvt_parser_grammar.specs.Trees.{second}
 use Rattle.qvt_parser_grammar.specs.Gives.{toks}
 use Rattle.qvt_parser_grammar.specs.declared.token.Class.TheVariants.{Comma}
-use Rattle.qvt_parser_grammar.specs.Firsts.{step_first}
-use Rattle.qvt_parser_grammar.specs.Reading.{expr_at, item_at, step_at, pre_at, link_at, chain_at, operators}
+use Rattle.qvt_parser_grammar.specs.Reading.{item_at}
 use Rattle.qvt_parser_grammar.specs.Nesting.{nested_at}
-use Rattle.qvt_parser_grammar.proofs.LessExprs.{less_expr, less_item, less_step, less_link}
-use Rattle.qvt_tree_types.specs.View.{expr_view, item_view, step_view, link_view}
+use Rattle.qvt_parser_grammar.proofs.LessExprs.{less_item}
+use Rattle.qvt_tree_types.specs.View.{item_view}
 use Rattle.qvt_parser_exprs.proofs.inside.Inside.items.Goals as goal
 
 pub loop-parser-preserved : goal.loop-parser-preserved

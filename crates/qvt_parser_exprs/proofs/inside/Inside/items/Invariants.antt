@@ -1,15 +1,13 @@
-use Rattle.std.proofs.Common.{◌≡◌, ◌≤◌, ◌<◌, length, map}
+use Rattle.std.proofs.Common.{◌≡◌, ◌≤◌, length, map}
 use Rattle.qvt_grammar.specs.Reader.{many_at, made_at, then_at, with_front}
-use Rattle.qvt_parser_grammar.specs.Tokens.{is, of}
+use Rattle.qvt_parser_grammar.specs.Tokens.{is}
 use Rattle.qvt_parser_grammar.specs.Readers.{the_at}
-use Rattle.qvt_parser_grammar.specs.Trees.{second, cons_of, with_head}
+use Rattle.qvt_parser_grammar.specs.Trees.{second, cons_of}
 use Rattle.qvt_parser_grammar.specs.Gives.{toks}
 use Rattle.qvt_parser_grammar.specs.declared.token.Class.TheVariants.{Comma}
-use Rattle.qvt_parser_grammar.specs.Firsts.{step_first}
-use Rattle.qvt_parser_grammar.specs.Reading.{expr_at, item_at, step_at, lead_step_at, pre_at, link_at, chain_at, operators}
+use Rattle.qvt_parser_grammar.specs.Reading.{item_at}
 use Rattle.qvt_parser_grammar.specs.Nesting.{nested_at}
-use Rattle.qvt_parser_grammar.proofs.EndedLoops.{turns_before}
-use Rattle.qvt_tree_types.specs.View.{expr_view, item_view, step_view, link_view}
+use Rattle.qvt_tree_types.specs.View.{item_view}
 use Rattle.qvt_parser_exprs.proofs.inside.Inside.items.Given as goal
 
 abbrev pub invariant-loop-parser : goal.invariant-loop-parser

@@ -7,7 +7,7 @@ use Rattle.qvt_parser_grammar.specs.Nesting.{nested_at}
 use Rattle.qvt_parser_grammar.proofs.LessExprs.{less_statement}
 use Rattle.qvt_parser_exprs.specs.Views.{stmts_view}
 use Rattle.qvt_parser_stmts.specs.Views.{turn_view}
-use Rattle.qvt_parser_stmts.proofs.StmtLoops.{loop_turn, loop_last}
+use Rattle.qvt_parser_stmts.proofs.StmtLoops.{loop_turn}
 use Rattle.qvt_parser_stmts.proofs.statements.Statements.statements.Goals as goal
 
 pub loop-parser-preserved : goal.loop-parser-preserved

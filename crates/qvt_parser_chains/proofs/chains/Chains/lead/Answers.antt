@@ -2,9 +2,9 @@ use Rattle.std.proofs.Common.{refl, arith}
 use Rattle.qvt_parser_grammar.specs.Gives.{toks}
 use Rattle.qvt_parser_grammar.specs.Nesting.{nested_at}
 use Rattle.qvt_parser_grammar.specs.Reading.{pre_at, lead_pre_at, lead_at}
-use Rattle.qvt_parser_chains.specs.Raised.{held_view}
+use Rattle.qvt_parser_exprs.specs.Views.{lead_view}
 use Rattle.qvt_parser_chains.proofs.Levels.{no_level, all_levels, next_level, faulty_level, first_fault}
-use Rattle.qvt_parser_chains.proofs.chains.Chains.held_lead.Goals as goal
+use Rattle.qvt_parser_chains.proofs.chains.Chains.lead.Goals as goal
 
 pub loop-below-init : goal.loop-below-init
 loop-below-init g c = record {
@@ -14,13 +14,13 @@ loop-below-init g c = record {
 
 pub loop-below-preserved : goal.loop-below-preserved
 loop-below-preserved g c = record {
-  so_far = next_level c.loop-below.below (lead_pre_at (nested_at c.args.self.now.inside.room)) (pre_at (nested_at c.args.self.now.inside.room)) (toks c.args.parser.now) (toks c.loop-below.parser) (held_view c.loop-below.lead) c.place-place.result c.place-place.ensures c.loop-below.invariant.so_far _ _ _ refl c.in-Ok.ensures.gives;
+  so_far = next_level c.loop-below.below (lead_pre_at (nested_at c.args.self.now.inside.room)) (pre_at (nested_at c.args.self.now.inside.room)) (toks c.args.parser.now) (toks c.loop-below.parser) (lead_view c.loop-below.lead) c.place-place.result c.place-place.ensures c.loop-below.invariant.so_far _ _ _ refl c.in-Ok.ensures.gives;
   less = omega (arith, c.loop-below.invariant.less, c.in-Ok.ensures.fewer);
 }
 
 pub returns-in-Err-clause-gives : goal.returns-in-Err-clause-gives
 unfolding lead_at
-returns-in-Err-clause-gives g c = faulty_level c.loop-below.below (lead_pre_at (nested_at c.args.self.now.inside.room)) (pre_at (nested_at c.args.self.now.inside.room)) (toks c.args.parser.now) (toks c.loop-below.parser) (held_view c.loop-below.lead) c.place-place.result c.place-place.ensures c.loop-below.invariant.so_far 8 (toks c.raised.new.parser) c.in-Err.fault (omega (arith, c.loop-below-test.true)) c.in-Err.ensures.gives
+returns-in-Err-clause-gives g c = faulty_level c.loop-below.below (lead_pre_at (nested_at c.args.self.now.inside.room)) (pre_at (nested_at c.args.self.now.inside.room)) (toks c.args.parser.now) (toks c.loop-below.parser) (lead_view c.loop-below.lead) c.place-place.result c.place-place.ensures c.loop-below.invariant.so_far 8 (toks c.raised.new.parser) c.in-Err.fault (omega (arith, c.loop-below-test.true)) c.in-Err.ensures.gives
 
 pub returns-clause-gives : goal.returns-clause-gives
 unfolding lead_at
@@ -28,4 +28,4 @@ returns-clause-gives g c = all_levels c.loop-below.below 8 (lead_pre_at (nested_
 
 pub returns-in_err-lead-clause-gives : goal.returns-in_err-lead-clause-gives
 unfolding lead_at
-returns-in_err-lead-clause-gives g c = first_fault 8 (lead_pre_at (nested_at c.args.self.now.inside.room)) (pre_at (nested_at c.args.self.now.inside.room)) (toks c.args.parser.now) (toks c.held_lead_pre.new.parser) c.in_err-lead.field-0.0 c.from_residual.result c.from_residual.ensures.1 c.in_err-lead.ensures.gives
+returns-in_err-lead-clause-gives g c = first_fault 8 (lead_pre_at (nested_at c.args.self.now.inside.room)) (pre_at (nested_at c.args.self.now.inside.room)) (toks c.args.parser.now) (toks c.lead_pre.new.parser) c.in_err-lead.field-0.0 c.from_residual.result c.from_residual.ensures.1 c.in_err-lead.ensures.gives
