@@ -15,7 +15,7 @@ use qvt_printer::print::print;
 use std::alloc::Global;
 use std::env;
 use std::process::ExitCode;
-use std::rt::{Clock, Env, Print};
+use std::rt::{Clock, Env};
 use std::time::Instant;
 
 const LIMIT: u32 = 262_144;
