@@ -10,7 +10,7 @@ use Rattle.qvt_parser_grammar.specs.Module.{Reads, IsFault}
 use Rattle.qvt_parser_tokens.specs.Depth.{deep}
 use Rattle.qvt_parser_tokens.specs.Text.{HasTokens, HasLexFault}
 use Rattle.qvt_parser_tokens.proofs.Lexings.{one_lexing}
-use Rattle.qvt_parser_tokens.specs.Owned.{Lexes}
+use Rattle.qvt_parser_tokens.specs.Whole.{ReadsStrings, Lexes}
 use Rattle.qvt_parser_tokens.specs.declared.text.TextFault.{TextFault}
 use Rattle.qvt_parser_tokens.specs.declared.text.TextFault.TheVariants as tokens
 use Rattle.qvt_parsed.specs.Parsing.{IsTransformation, IsFaultOf, IsReadAs}
@@ -21,6 +21,11 @@ use Rattle.qvt_parsed.specs.declared.fault.ParseFault.TheVariants.{NoMemory, Lex
 -- where the text has a fault of its tokens it is no transformation
 pub lex_none : (text : List ℕ) (f : LexFault) → HasLexFault text f → (m : ModuleTerm) → IsTransformation text m → ⊥
 lex_none text f h m k = one_lexing.either text k.tokens k.end f k.has h
+
+-- a fault that the strings show is one of the tokens
+pub strings_fault : (text : List ℕ) (f : TextFault) → ReadsStrings text (Err f) → Lexes text (Err f)
+strings_fault text tokens.NoMemory h = tt
+strings_fault text (tokens.Lex f) h = h
 
 pub lexed_none : (text : List ℕ) (f : TextFault) (r : Result Module ParseFault) → Lexes text (Err f) → IsErrAnd r (λ e. e ≡ parsing.fault_of f) → IfErr r (λ e. e ≢ NoMemory → (other : ModuleTerm) → IsTransformation text other → ⊥)
 lexed_none text f (Ok m) h e = tt

@@ -13,7 +13,7 @@ use qvt_parser_grammar::cursor::{ParseError, Parser};
 use qvt_parser_grammar::laws::answers;
 use qvt_parser_grammar::token::Token;
 use qvt_parser_tokens::depth::deep;
-use qvt_parser_tokens::text::{borrowed, read};
+use qvt_parser_tokens::text::{read, strings};
 use qvt_parser_units::units::transformation;
 use qvt_tree_types::module::Module;
 use std::alloc::Global;
@@ -47,10 +47,10 @@ fn parse_text(alloc: Global, text: &str) -> Result<Module, ParseFault>
     ensures fault { IfErr result (IsFaultOf text.now) }
     ensures no_tree { IfErr result (λ fault. fault ≢ faults.NoMemory → (other : ModuleTerm) → IsTransformation text.now other → ⊥) }
 {
-    let lexed = read(alloc, text)?;
-    let tokens = borrowed(alloc, lexed.tokens.as_slice())?;
-    match deep(alloc, tokens.as_slice()) {
-        Ok(None) => read_tokens(alloc, tokens.as_slice(), lexed.end),
+    let strings = strings(alloc, text)?;
+    let lexed = read(alloc, text, strings.as_slice())?;
+    match deep(alloc, lexed.tokens.as_slice()) {
+        Ok(None) => read_tokens(alloc, lexed.tokens.as_slice(), lexed.end),
         Ok(Some(place)) => Err(ParseFault::TooDeep(place)),
         Err(_) => Err(ParseFault::NoMemory),
     }

@@ -56,7 +56,7 @@ impl<
         let more = parser.more_signs()?;
         let operand = self.post(parser)?;
         let operand = finish(parser.alloc, operand)?;
-        prefixed(parser.alloc, place, sign, more, Box::into_inner(operand))
+        prefixed(parser.alloc, place, sign, more, operand)
     }
 
     #[tactic(auto, unfolding(qvt_parser_grammar::specs::Reading::pre_at))]

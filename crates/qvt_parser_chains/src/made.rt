@@ -12,7 +12,7 @@ ghost use Rattle.qvt_parser_chains.specs.Heads.{name_in};
 use qvt_base::numbers::Place;
 use qvt_base::seq::Seq;
 use qvt_parser_exprs::leading::{EachTail, First, Leading};
-use qvt_parser_exprs::made::{finish, is_name, only_name, posted, short_list};
+use qvt_parser_exprs::made::{boxed, finish, is_name, only_name, posted, short_list};
 use qvt_parser_grammar::cursor::ParseError;
 use qvt_parser_grammar::named::Named;
 use qvt_parser_grammar::token::Class;
@@ -155,6 +155,7 @@ pub fn each_lead(
         None => Ok(post_lead(place, first, steps)),
         Some(part) => {
             let source = posted(alloc, place, first.expr, steps)?;
+            let source = Box::new(alloc, source)?;
             let part = Box::new(alloc, part)?;
             Ok(Leading::Each { source, part })
         }
@@ -236,7 +237,7 @@ pub fn linked(
     let operand = finish(alloc, operand)?;
     Ok(Link {
         op: binary_op(class),
-        operand: Box::into_inner(operand),
+        operand,
         place,
     })
 }
@@ -271,7 +272,7 @@ fn longer(
     requires longer { (length rest == 0) ≡ false }
     ensures { Makes lead_view result (trees.chain_of (grammar.level_of level) (place, (lead_view first, links_view rest))) }
 {
-    let first = finish(alloc, first)?;
+    let first = boxed(alloc, first)?;
     let chain = Box::new(
         alloc,
         Expr::Chain {

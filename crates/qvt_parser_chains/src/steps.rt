@@ -146,7 +146,7 @@ impl<
             return self.head_after(parser, lead);
         }
         let first = finish(parser.alloc, lead)?;
-        self.exprs_after(parser, Box::into_inner(first))
+        self.exprs_after(parser, first)
     }
 
     fn head_after(
@@ -163,7 +163,7 @@ impl<
             return self.headed(parser, lead);
         }
         let first = finish(parser.alloc, lead)?;
-        self.exprs_after(parser, Box::into_inner(first))
+        self.exprs_after(parser, first)
     }
 
     /// The rest of the head that the name begins.

@@ -15,7 +15,7 @@ ghost use Rattle.qvt_parser_exprs.specs.Inside.{IsInside};
 
 use crate::inside::Inside;
 use crate::leading::{First, Leading};
-use crate::made::{bare, conditional, finish, is_strict, resolve_word, short_list};
+use crate::made::{bare, boxed, conditional, finish, is_strict, resolve_word, short_list};
 use qvt_base::seq::Seq;
 use qvt_base::text::Text;
 use qvt_parser_grammar::cursor::{ParseError, Parser};
@@ -47,7 +47,18 @@ impl<
         (self.block)(parser)
     }
 
-    /// An expression, on the heap.
+    /// An expression.
+    #[tactic(auto, unfolding(qvt_parser_grammar::specs::Reading::expr_at))]
+    pub fn expr(&self, parser: &mut Parser<'_>) -> Result<Expr, ParseError>
+        requires { IsInside F.Fn G.Fn self.now }
+        ensures gives { Gives expr_view result (toks parser.new) (expr_at (nested_at self.now.room) (toks parser.old)) }
+        ensures fewer { length (toks parser.new) ≤ length (toks parser.old) }
+    {
+        let lead = self.flagged(parser)?;
+        finish(parser.alloc, lead)
+    }
+
+    /// The same, on the heap.
     #[tactic(auto, unfolding(qvt_parser_grammar::specs::Reading::expr_at))]
     pub fn boxed(&self, parser: &mut Parser<'_>) -> Result<Box<Expr>, ParseError>
         requires { IsInside F.Fn G.Fn self.now }
@@ -55,17 +66,7 @@ impl<
         ensures fewer { length (toks parser.new) ≤ length (toks parser.old) }
     {
         let lead = self.flagged(parser)?;
-        finish(parser.alloc, lead)
-    }
-
-    /// An expression.
-    pub fn expr(&self, parser: &mut Parser<'_>) -> Result<Expr, ParseError>
-        requires { IsInside F.Fn G.Fn self.now }
-        ensures gives { Gives expr_view result (toks parser.new) (expr_at (nested_at self.now.room) (toks parser.old)) }
-        ensures fewer { length (toks parser.new) ≤ length (toks parser.old) }
-    {
-        let expr = self.boxed(parser)?;
-        Ok(Box::into_inner(expr))
+        boxed(parser.alloc, lead)
     }
 
     fn next_expr(&self, parser: &mut Parser<'_>) -> Result<Expr, ParseError>

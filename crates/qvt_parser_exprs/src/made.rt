@@ -134,8 +134,8 @@ fn longer_steps(
     place: Place,
     first: Expr,
     steps: Seq<Step>,
-) -> Result<Box<Expr>, ParseError>
-    ensures { Makes boxed_view result (trees.stepped place (expr_view first) (steps_view steps)) }
+) -> Result<Expr, ParseError>
+    ensures { Makes expr_view result (trees.stepped place (expr_view first) (steps_view steps)) }
 {
     match first {
         Expr::Post {
@@ -144,27 +144,19 @@ fn longer_steps(
             ..
         } => {
             let steps = all_steps(old, steps)?;
-            let post = Box::new(
-                alloc,
-                Expr::Post {
-                    first,
-                    steps,
-                    place,
-                },
-            )?;
-            Ok(post)
+            Ok(Expr::Post {
+                first,
+                steps,
+                place,
+            })
         }
         first => {
             let first = Box::new(alloc, first)?;
-            let post = Box::new(
-                alloc,
-                Expr::Post {
-                    first,
-                    steps,
-                    place,
-                },
-            )?;
-            Ok(post)
+            Ok(Expr::Post {
+                first,
+                steps,
+                place,
+            })
         }
     }
 }
@@ -176,21 +168,17 @@ fn stepped(
     place: Place,
     first: Box<Expr>,
     steps: Seq<Step>,
-) -> Result<Box<Expr>, ParseError>
-    ensures { Makes boxed_view result (trees.stepped place (boxed_view first) (steps_view steps)) }
+) -> Result<Expr, ParseError>
+    ensures { Makes expr_view result (trees.stepped place (boxed_view first) (steps_view steps)) }
 {
     if has_steps(&first) {
         return longer_steps(alloc, place, Box::into_inner(first), steps);
     }
-    let post = Box::new(
-        alloc,
-        Expr::Post {
-            first,
-            steps,
-            place,
-        },
-    )?;
-    Ok(post)
+    Ok(Expr::Post {
+        first,
+        steps,
+        place,
+    })
 }
 
 /// Any number of steps after an expression.
@@ -199,17 +187,34 @@ pub fn posted(
     place: Place,
     first: Box<Expr>,
     steps: Seq<Step>,
-) -> Result<Box<Expr>, ParseError>
-    ensures { Makes boxed_view result (trees.post_of place (boxed_view first) (steps_view steps)) }
+) -> Result<Expr, ParseError>
+    ensures { Makes expr_view result (trees.post_of place (boxed_view first) (steps_view steps)) }
 {
     if steps.is_empty() {
-        return Ok(first);
+        return Ok(Box::into_inner(first));
     }
     stepped(alloc, place, first, steps)
 }
 
 /// The expression. The source stands for a `forEach`.
-pub fn finish(alloc: Global, lead: Leading) -> Result<Box<Expr>, ParseError>
+pub fn finish(alloc: Global, lead: Leading) -> Result<Expr, ParseError>
+    ensures { Makes expr_view result (trees.expr_of (lead_view lead)) }
+{
+    match lead {
+        Leading::Bare(expr) => Ok(Box::into_inner(expr)),
+        Leading::Post {
+            first,
+            steps,
+            place,
+        } => posted(alloc, place, first, steps),
+        Leading::Bracketed(expr) => Ok(Box::into_inner(expr)),
+        Leading::Done(expr) => Ok(Box::into_inner(expr)),
+        Leading::Each { source, .. } => Ok(Box::into_inner(source)),
+    }
+}
+
+/// The same, on the heap.
+pub fn boxed(alloc: Global, lead: Leading) -> Result<Box<Expr>, ParseError>
     ensures { Makes boxed_view result (trees.expr_of (lead_view lead)) }
 {
     match lead {
@@ -218,7 +223,11 @@ pub fn finish(alloc: Global, lead: Leading) -> Result<Box<Expr>, ParseError>
             first,
             steps,
             place,
-        } => posted(alloc, place, first, steps),
+        } => {
+            let expr = posted(alloc, place, first, steps)?;
+            let expr = Box::new(alloc, expr)?;
+            Ok(expr)
+        }
         Leading::Bracketed(expr) => Ok(expr),
         Leading::Done(expr) => Ok(expr),
         Leading::Each { source, .. } => Ok(source),

@@ -1,10 +1,12 @@
 -- What clauses see of the parts of statements.
-use Rattle.std.specs.Prelude.{List, [], ◌∷◌, map}
+use Rattle.std.specs.Prelude.{Box, List, [], ◌∷◌, map}
 use Rattle.std.proofs.Common.{inl, inr}
-use Rattle.qvt_tree_types.specs.Tree.{ExprTerm, ArmTerm}
+use Rattle.std.specs.declared.alloc.Global.{Global}
+use Rattle.qvt_tree_types.specs.Tree.{ExprTerm, ArmTerm, StmtTerm}
 use Rattle.qvt_tree_types.specs.View.{expr_view, stmt_view, arm_view}
 use Rattle.qvt_tree_types.specs.declared.tree.Arm.{Arm}
 use Rattle.qvt_tree_types.specs.declared.tree.Expr.{Expr}
+use Rattle.qvt_tree_types.specs.declared.tree.Stmt.{Stmt}
 use Rattle.qvt_parser_grammar.specs.declared.token.Token.{Token}
 use Rattle.qvt_parser_grammar.specs.Tokens.{Tok, tok_of}
 use Rattle.qvt_parser_grammar.specs.Leads.{Ended}
@@ -17,10 +19,13 @@ use Rattle.qvt_parser_stmts.specs.declared.turns.EndedStmts.{EndedStmts}
 abbrev pub arms_view : List Arm → List ArmTerm
 arms_view = map arm_view
 
+abbrev pub held_view : Box Stmt Global → StmtTerm
+held_view s = stmt_view s.value
+
 abbrev pub turn_view : CodeTurn → Turn
 turn_view Empty = inl []
-turn_view (Closed s) = inl (stmt_view s ∷ [])
-turn_view (Last s) = inr (stmt_view s)
+turn_view (Closed s) = inl (held_view s ∷ [])
+turn_view (Last s) = inr (held_view s)
 
 abbrev pub ended_view : EndedStmts → Ended
 ended_view e = record { stmts = stmts_view e.stmts; open_end = e.open_end }

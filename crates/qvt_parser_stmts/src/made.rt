@@ -8,7 +8,7 @@ ghost use Rattle.qvt_parser_grammar.specs.Trees as trees;
 ghost use Rattle.qvt_parser_exprs.specs.Views.{boxed_view, lead_view, each_view, steps_view, stmts_view};
 ghost use Rattle.qvt_parser_stmts.specs.Brackets.{in_brackets};
 ghost use Rattle.qvt_parser_stmts.specs.Turns.{AddsIf};
-ghost use Rattle.qvt_parser_stmts.specs.Views.{turn_view};
+ghost use Rattle.qvt_parser_stmts.specs.Views.{held_view, turn_view};
 
 use crate::turns::Turn;
 use qvt_base::numbers::Place;
@@ -69,7 +69,7 @@ fn member_at(
         } => {
             let object = posted(alloc, place, first, before)?;
             Ok(Target::Member {
-                object: Box::into_inner(object),
+                object,
                 name,
                 place: at,
             })
@@ -165,6 +165,14 @@ pub fn into_target(alloc: Global, lead: Leading) -> Result<Target, ParseError>
     }
 }
 
+/// The statement, on the heap.
+pub fn held(alloc: Global, stmt: Stmt) -> Result<Box<Stmt>, ParseError>
+    ensures { Makes held_view result (stmt_view stmt) }
+{
+    let stmt = Box::new(alloc, stmt)?;
+    Ok(stmt)
+}
+
 /// The statement of an assignment by a sign of the class.
 pub fn assign(target: Target, class: Class, value: Expr, place: Place) -> Stmt
     ensures { stmt_view result ≡ AssignStmt (target_view target) (statements.is_adding class) (expr_view value) place }
@@ -185,11 +193,11 @@ pub fn evaluate(value: Expr, place: Place) -> Stmt
 }
 
 /// The statement of a `forEach`.
-pub fn for_each(source: Box<Expr>, part: EachTail, place: Place) -> Stmt
-    ensures { stmt_view result ≡ statements.for_each_of (boxed_view source) (each_view part) place }
+pub fn for_each(source: Expr, part: EachTail, place: Place) -> Stmt
+    ensures { stmt_view result ≡ statements.for_each_of (expr_view source) (each_view part) place }
 {
     Stmt::ForEach {
-        source: Box::into_inner(source),
+        source,
         name: part.name,
         kind: part.kind,
         condition: part.condition,
@@ -205,11 +213,11 @@ pub fn add_turn(stmts: &mut Seq<Stmt>, turn: Turn) -> Result<bool, ParseError>
     match turn {
         Turn::Empty => Ok(false),
         Turn::Closed(stmt) => {
-            stmts.push(stmt)?;
+            stmts.push(Box::into_inner(stmt))?;
             Ok(false)
         }
         Turn::Last(stmt) => {
-            stmts.push(stmt)?;
+            stmts.push(Box::into_inner(stmt))?;
             Ok(true)
         }
     }

@@ -82,8 +82,7 @@ pub fn expr(parser: &mut Parser<'_>, room: usize) -> Result<Expr, ParseError>
     ensures fewer { length (toks parser.new) ≤ length (toks parser.old) }
 {
     let lead = flagged(parser, room)?;
-    let expr = finish(parser.alloc, lead)?;
-    Ok(Box::into_inner(expr))
+    finish(parser.alloc, lead)
 }
 
 /// The statements of a block without its braces.

@@ -16,15 +16,17 @@ ghost use Rattle.qvt_parser_grammar.specs.Options.{option_view};
 ghost use Rattle.qvt_parser_grammar.specs.Gives.{Gives, toks};
 ghost use Rattle.qvt_parser_exprs.specs.Views.{boxed_view, lead_view, stmts_view};
 ghost use Rattle.qvt_parser_exprs.specs.Inside.{IsInside};
-ghost use Rattle.qvt_parser_stmts.specs.Views.{arms_view, turn_view, ended_view, assigned_view};
+ghost use Rattle.qvt_parser_stmts.specs.Views.{arms_view, held_view, turn_view, ended_view, assigned_view};
 
-use crate::made::{add_turn, assign, evaluate, for_each, has_target, into_target, is_bracketed};
+use crate::made::{
+    add_turn, assign, evaluate, for_each, has_target, held, into_target, is_bracketed,
+};
 use crate::turns::{EndedStmts, Turn};
 use qvt_base::numbers::Place;
 use qvt_base::seq::Seq;
 use qvt_parser_chains::chains::Chains;
 use qvt_parser_exprs::leading::Leading;
-use qvt_parser_exprs::made::{conditional, finish, posted};
+use qvt_parser_exprs::made::{boxed, conditional, finish, posted};
 use qvt_parser_grammar::cursor::{ParseError, Parser};
 use qvt_parser_grammar::token::{Class, Token};
 use qvt_tree_types::tree::{Arm, Expr, Stmt, Stmts};
@@ -37,8 +39,8 @@ pub struct Statements<F, G> {
 
 /// A statement with the `;` that may stand after it.
 #[tactic(auto, unfolding(qvt_parser_grammar::specs::ReadingStatements::semicolon_at))]
-fn ended(parser: &mut Parser<'_>, stmt: Stmt) -> Turn
-    ensures gives { made_at (λ t. simple_turn (stmt_view stmt, t)) semicolon_at (toks parser.old) ≡ Ok (turn_view result, toks parser.new) }
+fn ended(parser: &mut Parser<'_>, stmt: Box<Stmt>) -> Turn
+    ensures gives { made_at (λ t. simple_turn (held_view stmt, t)) semicolon_at (toks parser.old) ≡ Ok (turn_view result, toks parser.new) }
     ensures fewer { length (toks parser.new) ≤ length (toks parser.old) }
 {
     match parser.skip(Class::Semicolon) {
@@ -197,7 +199,7 @@ impl<
         ensures fewer { length (toks parser.new) ≤ length (toks parser.old) }
     {
         let alone = is_bracketed(&condition);
-        let condition = finish(parser.alloc, condition)?;
+        let condition = boxed(parser.alloc, condition)?;
         if alone {
             return self.branches_or_choice(parser, condition, place);
         }
@@ -376,7 +378,9 @@ impl<
         match lead {
             Leading::Each { source, part } => {
                 let part = Box::into_inner(part);
-                Ok(Turn::Closed(for_each(source, part, place)))
+                let source = Box::into_inner(source);
+                let stmt = held(parser.alloc, for_each(source, part, place))?;
+                Ok(Turn::Closed(stmt))
             }
             lead => self.written(parser, lead, place),
         }
@@ -398,7 +402,7 @@ impl<
             return self.assigned(parser, lead, place);
         }
         let value = finish(parser.alloc, lead)?;
-        let stmt = evaluate(Box::into_inner(value), place);
+        let stmt = held(parser.alloc, evaluate(value, place))?;
         Ok(ended(parser, stmt))
     }
 
@@ -419,7 +423,7 @@ impl<
         let target = into_target(parser.alloc, lead)?;
         let pair = self.assignment(parser)?;
         let (sign, value) = pair;
-        let stmt = assign(target, sign.class, value, sign.place);
+        let stmt = held(parser.alloc, assign(target, sign.class, value, sign.place))?;
         Ok(ended(parser, stmt))
     }
 
@@ -431,6 +435,7 @@ impl<
         ensures less { OnOk result (length (toks parser.new) < length (toks parser.old)) }
     {
         let stmt = self.if_stmt(parser)?;
+        let stmt = held(parser.alloc, stmt)?;
         Ok(Turn::Closed(stmt))
     }
 
@@ -442,6 +447,7 @@ impl<
         ensures less { OnOk result (length (toks parser.new) < length (toks parser.old)) }
     {
         let stmt = self.while_stmt(parser)?;
+        let stmt = held(parser.alloc, stmt)?;
         Ok(Turn::Closed(stmt))
     }
 
@@ -453,6 +459,7 @@ impl<
         ensures less { OnOk result (length (toks parser.new) < length (toks parser.old)) }
     {
         let stmt = self.var_stmt(parser)?;
+        let stmt = held(parser.alloc, stmt)?;
         Ok(ended(parser, stmt))
     }
 
@@ -464,6 +471,7 @@ impl<
         ensures less { OnOk result (length (toks parser.new) < length (toks parser.old)) }
     {
         let stmt = self.return_stmt(parser)?;
+        let stmt = held(parser.alloc, stmt)?;
         Ok(ended(parser, stmt))
     }
 

@@ -17,7 +17,7 @@ use Rattle.qvt_lexer.proofs.Unique.{one_division, one_fault}
 use Rattle.qvt_parser_grammar.specs.Tokens.{Tok}
 use Rattle.qvt_parser_tokens.specs.Said.{said}
 use Rattle.qvt_parser_tokens.specs.Text.{HasTokens, HasLexFault, OneLexing}
-use Rattle.qvt_parser_tokens.specs.Owned.{IsNumber}
+use Rattle.qvt_parser_tokens.specs.Whole.{IsNumber}
 use Rattle.qvt_parser_tokens.proofs.Numerals.{digits_are}
 
 -- some pieces, and then more
@@ -103,6 +103,9 @@ same_reads from a b ts us k h j g =
       place = sym k.place ∙ ap (past from.place) one.0 ∙ j.place;
       rest = one.1;
     }
+
+pub all_tokens : (text : List ℕ) (a b : Position) (ts us : List TokenData) → Reads (start_at (chars text)) a ts → a.rest ≡ [] → Reads (start_at (chars text)) b us → b.rest ≡ [] → ts ≡ us
+all_tokens text a b ts us k h j g = (same_reads (start_at (chars text)) a b ts us k (none_at_end a.rest h) j (none_at_end b.rest g)).tokens
 
 one_tokens : (text : List ℕ) (ts us : List Tok) (p q : Place) → HasTokens text ts p → HasTokens text us q → (ts ≡ us) × (p ≡ q)
 one_tokens text ts us p q k j =

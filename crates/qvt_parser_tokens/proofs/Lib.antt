@@ -2,3 +2,4 @@ pub mod Depths
 pub mod Contents
 pub mod Numerals
 pub mod Lexings
+pub mod Strings

@@ -9,7 +9,7 @@ use Rattle.std.proofs.lemmas.Bool.Decides.{nat_tests}
 use Rattle.qvt_lexer.specs.Characters.{is_digit}
 use Rattle.qvt_lexer.specs.Literals.{every, number_after, number_of, greatest_number}
 use Rattle.qvt_lexer.proofs.Runs.{and_left, and_right}
-use Rattle.qvt_parser_tokens.specs.Owned.{IsNumber}
+use Rattle.qvt_parser_tokens.specs.Whole.{IsNumber}
 
 abbrev Digits : List ℕ → Type 0
 Digits cs = every is_digit cs ≡ true

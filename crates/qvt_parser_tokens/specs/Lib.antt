@@ -4,4 +4,4 @@ pub mod WordClasses
 pub mod SymbolClasses
 pub mod Said
 pub mod Text
-pub mod Owned
+pub mod Whole

@@ -2,7 +2,7 @@ ghost use Rattle.std.specs.Prelude.{◌≡◌, pos, IfOk, OnOk};
 ghost use Rattle.std.specs.Str.{chars, encode_utf8_all};
 ghost use Rattle.qvt_lexer.specs.Literals.{number_of};
 ghost use Rattle.qvt_parser_tokens.specs.Said as said;
-ghost use Rattle.qvt_parser_tokens.specs.Owned.{IsNumber};
+ghost use Rattle.qvt_parser_tokens.specs.Whole.{IsNumber};
 
 use qvt_base::list_fault::ListFault;
 use qvt_base::text::Text;

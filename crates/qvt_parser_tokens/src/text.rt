@@ -1,10 +1,10 @@
-ghost use Rattle.std.specs.Prelude.{◌≡◌, ◌+◌, ◌<◌, ◌^◌, length, IfOk, OnOk};
+ghost use Rattle.std.specs.Prelude.{◌≡◌, ◌≢◌, ◌+◌, ◌<◌, ◌^◌, ◌∷◌, ℕ, List, length};
 ghost use Rattle.qvt_lexer.specs.Division.{data_of};
 ghost use Rattle.qvt_lexer.specs.declared.token.TokenKind.TheVariants as kinds;
-ghost use Rattle.qvt_parser_grammar.specs.Tokens.{tok_of, toks_of};
+ghost use Rattle.qvt_parser_grammar.specs.Tokens.{tok_of};
 ghost use Rattle.qvt_parser_tokens.specs.Said as said;
 ghost use Rattle.qvt_parser_tokens.specs.Text.{OneLexing};
-ghost use Rattle.qvt_parser_tokens.specs.Owned.{owned_view, tokens_view, Lexes, IsNumber};
+ghost use Rattle.qvt_parser_tokens.specs.Whole.{HasStrings, ReadsStrings, Lexes, IsNumber};
 
 use crate::reserved::word_class;
 use crate::said::{name_of, number_of, string_of};
@@ -19,19 +19,10 @@ use qvt_lexer::token::{LexFault, TokenKind};
 use qvt_parser_grammar::token::{Class, Token};
 use std::alloc::Global;
 
-/// A token with a text of its own.
-#[derive(Debug, Drop)]
-pub struct OwnedToken {
-    pub class: Class,
-    pub place: Place,
-    pub text: Text,
-    pub number: i64,
-}
-
 /// The tokens of a whole text, with the place after its last character.
 #[derive(Debug, Drop)]
-pub struct TextTokens {
-    pub tokens: Seq<OwnedToken>,
+pub struct TextTokens<'a> {
+    pub tokens: Seq<Token<'a>>,
     pub end: Place,
 }
 
@@ -67,13 +58,14 @@ fn class_of(token: lexed::Token<'_>) -> Class
     }
 }
 
-fn text_of(alloc: Global, token: lexed::Token<'_>) -> Result<Text, ListFault>
-    ensures { IfOk result (λ t. t ≡ said.text_of token.entry.kind token.entry.text.now) }
+/// The text of a token that is no string, which is a slice of the source.
+fn text_of(token: lexed::Token<'_>) -> &str
+    requires { token.kind ≢ kinds.Str }
+    ensures { result.now ≡ said.text_of token.entry.kind token.entry.text.now }
 {
     match token.kind {
-        TokenKind::Name => Text::from_str(alloc, name_of(token.text)),
-        TokenKind::Str => string_of(alloc, token.text),
-        _ => Ok(Text::new(alloc)),
+        TokenKind::Name => name_of(token.text),
+        _ => "",
     }
 }
 
@@ -87,29 +79,66 @@ fn number_in(token: lexed::Token<'_>) -> i64
     }
 }
 
-/// What the token says to the grammar.
-fn owned(alloc: Global, token: lexed::Token<'_>) -> Result<OwnedToken, ListFault>
-    requires { token.kind ≡ kinds.Integer → IsNumber token.text.now }
-    ensures { IfOk result (λ t. owned_view t ≡ said.said (data_of token.entry)) }
+/// What a token that is no string says to the grammar.
+fn plain(token: lexed::Token<'_>) -> Token<'_>
+    requires integer { token.kind ≡ kinds.Integer → IsNumber token.text.now }
+    requires other { token.kind ≢ kinds.Str }
+    ensures { tok_of result ≡ said.said (data_of token.entry) }
 {
-    match text_of(alloc, token) {
-        Ok(text) => Ok(OwnedToken {
-            class: class_of(token),
-            place: token.place,
-            text,
-            number: number_in(token),
-        }),
-        Err(fault) => Err(fault),
+    Token {
+        class: class_of(token),
+        place: token.place,
+        text: text_of(token),
+        number: number_in(token),
     }
 }
 
-/// All tokens of the text, or the fault of the first place where none begins. The text has fewer than
-/// 2^32 - 1 bytes.
-pub fn read(alloc: Global, text: &str) -> Result<TextTokens, TextFault>
+/// The texts of the strings of the whole text, in order, or the fault of the first place where no
+/// token begins. The text has fewer than 2^32 - 1 bytes.
+pub fn strings(alloc: Global, text: &str) -> Result<Seq<Text>, TextFault>
     requires { length text.now + 1 < 2 ^ 32 }
+    ensures { ReadsStrings text.now result }
+{
+    let mut lexer = Lexer::new(text);
+    let mut strings = Seq::new(alloc);
+    loop {
+        match lexer.next() {
+            Ok(token) => match token.kind {
+                TokenKind::End => return Ok(strings),
+                TokenKind::Str => {
+                    let string = string_of(alloc, token.text)?;
+                    strings.push(string)?;
+                }
+                _ => {}
+            },
+            Err(fault) => return Err(TextFault::Lex(fault)),
+        }
+    }
+}
+
+/// The first of the texts, and the others.
+fn first_of(texts: &[Text]) -> (&str, &[Text])
+    ensures { (first : List ℕ) (more : List (List ℕ)) → texts.entry.now ≡ first ∷ more → (result.0.now ≡ first) × (result.1.now ≡ more) }
+{
+    match texts.split_first() {
+        Some((first, more)) => (first.as_str(), more),
+        None => ("", texts),
+    }
+}
+
+/// All tokens of the text, or the fault of the first place where none begins. `strings` are the texts
+/// of its strings.
+pub fn read<'a>(
+    alloc: Global,
+    text: &'a str,
+    strings: &'a [Text],
+) -> Result<TextTokens<'a>, TextFault>
+    requires few { length text.now + 1 < 2 ^ 32 }
+    requires strings { HasStrings text.now strings.now }
     ensures { Lexes text.now result }
 {
     let mut lexer = Lexer::new(text);
+    let mut left = strings;
     let mut tokens = Seq::new(alloc);
     loop {
         match lexer.next() {
@@ -120,39 +149,21 @@ pub fn read(alloc: Global, text: &str) -> Result<TextTokens, TextFault>
                         end: token.place,
                     });
                 }
-                _ => {
-                    let next = owned(alloc, token)?;
-                    tokens.push(next)?;
+                TokenKind::Str => {
+                    let (string, more) = first_of(left);
+                    left = more;
+                    tokens.push(Token {
+                        class: Class::Str,
+                        place: token.place,
+                        text: string,
+                        number: 0,
+                    })?;
                 }
+                _ => tokens.push(plain(token))?,
             },
             Err(fault) => return Err(TextFault::Lex(fault)),
         }
     }
-}
-
-fn borrow(token: &OwnedToken) -> Token<'_>
-    ensures { tok_of result ≡ owned_view token.entry.now }
-{
-    Token {
-        class: token.class,
-        place: token.place,
-        text: token.text.as_str(),
-        number: token.number,
-    }
-}
-
-/// The tokens as the grammar's calls take them.
-pub fn borrowed(alloc: Global, tokens: &[OwnedToken]) -> Result<Vec<Token<'_>>, ListFault>
-    ensures { IfOk result (λ ts. toks_of ts.items ≡ tokens_view tokens.entry.now) }
-{
-    let mut out = Vec::new(alloc);
-    for token in tokens {
-        match out.push(borrow(token)) {
-            Ok(()) => {}
-            Err(_) => return Err(ListFault::NoMemory),
-        }
-    }
-    Ok(out)
 }
 
 /// Its clause is the law that a text has one list of tokens or one fault. It does nothing.
