@@ -1,4 +1,4 @@
-use Rattle.std.proofs.Common.{◌≡◌, List, ℕ, sym, ap, ◌∙◌, subst}
+use Rattle.std.proofs.Common.{◌≡◌, List, ℕ, sym, ◌∙◌, subst}
 use Rattle.qvt_base.specs.declared.numbers.Place.{Place}
 use Rattle.qvt_parser_grammar.specs.Tokens.{toks_of}
 use Rattle.qvt_parser_grammar.specs.declared.token.Token.{Token}
@@ -14,7 +14,7 @@ pub returns-in_err-strings-clause-no_tree : goal.returns-in_err-strings-clause-n
 returns-in_err-strings-clause-no_tree c = lexed_none c.args.text.now c.in_err-strings.field-0.0 c.from_residual.result (strings_fault c.args.text.now c.in_err-strings.field-0.0 c.in_err-strings.ensures) c.from_residual.ensures.1
 
 pub returns-in_err-lexed-clause-no_tree : goal.returns-in_err-lexed-clause-no_tree
-returns-in_err-lexed-clause-no_tree c = lexed_none c.args.text.now c.in_err-lexed.field-0.0 c.from_residual-2.result c.in_err-lexed.ensures c.from_residual-2.ensures.1
+returns-in_err-lexed-clause-no_tree c = lexed_none c.args.text.now c.in_err-lexed.field-0.0 c.from_residual-in_err-lexed.result c.in_err-lexed.ensures c.from_residual-in_err-lexed.ensures.1
 
 pub returns-in-Ok-None-clause-one : goal.returns-in-Ok-None-clause-one
 returns-in-Ok-None-clause-one c =

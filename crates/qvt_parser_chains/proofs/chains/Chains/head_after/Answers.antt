@@ -1,5 +1,4 @@
-use Rattle.std.proofs.Common.{sym, ap, ◌∙◌, subst}
-use Rattle.qvt_tree_types.specs.View.{expr_view}
+use Rattle.std.proofs.Common.{sym, ◌∙◌, subst}
 use Rattle.qvt_parser_grammar.specs.Gives.{Gives, toks}
 use Rattle.qvt_parser_grammar.specs.Nesting.{nested_at}
 use Rattle.qvt_parser_exprs.specs.Views.{lead_view, arrow_args_view}
