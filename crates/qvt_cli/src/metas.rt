@@ -34,11 +34,8 @@ fn alone(alloc: Global, meta: Meta) -> Result<Metas, Stop>
     ensures alone { IfOk result (λ metas. metas ≡ added no_metamodels meta) }
     ensures memory { IfErr result (λ stop. stop ≡ Stop.NoMemory) }
 {
-    // No file within its limit has so many classes or features.
     let mut metas = Metas::new(alloc);
-    if !metas.has_room(&meta) {
-        return Err(Stop::NoMemory);
-    }
+    meta.fits();
     match metas.add(meta) {
         Err(_) => Err(Stop::NoMemory),
         Ok(()) => Ok(metas),

@@ -34,9 +34,7 @@ fn only(alloc: Global, meta: Meta) -> Option<Metas>
 
 fn library(alloc: Global) -> Option<Metas> {
     let meta = read_meta(alloc, LIBRARY.as_bytes()).ok()?;
-    if !meta.has_few() {
-        return None;
-    }
+    meta.fits();
     only(alloc, meta)
 }
 

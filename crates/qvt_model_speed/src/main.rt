@@ -45,9 +45,7 @@ fn only(alloc: Global, meta: Meta) -> Option<Metas>
 
 fn metas_of(alloc: Global, bytes: &[u8]) -> Option<Metas> {
     let meta = read_meta(alloc, bytes).ok()?;
-    if !meta.has_few() {
-        return None;
-    }
+    meta.fits();
     only(alloc, meta)
 }
 

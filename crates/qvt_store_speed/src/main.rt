@@ -34,9 +34,7 @@ fn only(alloc: Global, meta: Meta) -> Option<Metas>
 
 fn metas_of(alloc: Global, text: &str) -> Option<Metas> {
     let meta = read_meta(alloc, text.as_bytes()).ok()?;
-    if !meta.has_few() {
-        return None;
-    }
+    meta.fits();
     only(alloc, meta)
 }
 

@@ -18,7 +18,7 @@ use std::test::Fail;
 pub fn metas_of(rt: &impl Abort, alloc: Global, meta: &str) -> Result<Metas, Fail> {
     let meta = read_meta(alloc, meta.as_bytes())?;
     let mut metas = Metas::new(alloc);
-    assert!(rt; meta.has_few());
+    assert!(rt; metas.has_room(&meta));
     metas.add(meta)?;
     Ok(metas)
 }
