@@ -39,7 +39,7 @@ fn read_open<F: Read>(alloc: Global, file: &mut F, limit: usize) -> ReadAnswer
         if count == 0 {
             return ReadAnswer::Found(found);
         }
-        if found.len() + count > limit {
+        if count > limit - found.len() {
             return ReadAnswer::TooLarge;
         }
         let Ok(()) = found.extend(&piece[..count]) else {

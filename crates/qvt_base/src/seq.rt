@@ -8,9 +8,15 @@ use std::hash::{Hash, Hasher};
 use std::marker::Model;
 
 /// A list that contracts see as the list of its items. Types may hold lists of themselves by it.
-#[derive(Debug, Drop)]
+#[derive(Debug)]
 pub struct Seq<T> {
     items: Vec<T>,
+}
+
+impl<T: Drop> Drop for Seq<T> {
+    fn drop(self) {
+        let Seq { items } = self;
+    }
 }
 
 impl<T> Model for Seq<T> {

@@ -8,9 +8,15 @@ use std::hash::{Hash, Hasher};
 use std::marker::Model;
 
 /// A text that contracts see as the list of its bytes, which are UTF-8.
-#[derive(Debug, Drop)]
+#[derive(Debug)]
 pub struct Text {
     text: String,
+}
+
+impl Drop for Text {
+    fn drop(self) {
+        let Text { text } = self;
+    }
 }
 
 impl Model for Text {

@@ -17,7 +17,6 @@ pub type FieldList = Seq<Field>;
 pub type ParamList = Seq<Param>;
 
 /// A transformation with its model types, its header and its units (QVT 1.3, 8.2.1).
-#[derive(Drop)]
 pub struct Module {
     pub model_types: ModelTypeList,
     pub name: Text,
@@ -25,15 +24,26 @@ pub struct Module {
     pub units: UnitList,
 }
 
+impl Drop for Module {
+    fn drop(self) {
+        let Module {
+            model_types,
+            name,
+            params,
+            units,
+        } = self;
+    }
+}
+
 /// A `modeltype`: a name for the metamodel that has this uri or name.
-#[derive(Debug, Drop)]
+#[derive(Drop)]
 pub struct ModelType {
     pub name: Text,
     pub uri: Text,
     pub place: Place,
 }
 
-#[derive(Debug, Drop)]
+#[derive(Drop)]
 pub struct ModelParam {
     pub direction: Direction,
     pub name: Text,
@@ -41,7 +51,6 @@ pub struct ModelParam {
     pub place: Place,
 }
 
-#[derive(Drop)]
 pub enum Unit {
     Class(ClassDecl),
     Main(Stmts, Place),
@@ -49,6 +58,18 @@ pub enum Unit {
     /// A constructor: `pure` is false, and there is no answer.
     Constructor(Helper),
     Mapping(Mapping),
+}
+
+impl Drop for Unit {
+    fn drop(self) {
+        match self {
+            Unit::Class(part) => {}
+            Unit::Main(part, place) => {}
+            Unit::Helper(part) => {}
+            Unit::Constructor(part) => {}
+            Unit::Mapping(part) => {}
+        }
+    }
 }
 
 /// An intermediate class.
@@ -96,7 +117,7 @@ pub struct Mapping {
 }
 
 /// The result class of a mapping, and the name after `@`.
-#[derive(Debug, Drop)]
+#[derive(Drop)]
 pub struct ResultDecl {
     pub path: PathTree,
     pub extent: Option<Text>,

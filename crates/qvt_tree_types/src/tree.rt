@@ -1,3 +1,7 @@
+ghost use Rattle.std.specs.Prelude.{◌≡◌, None, Some, MatchResult, map};
+ghost use Rattle.qvt_tree_types.specs.Parts.{member_in, path_in, post_in, prefix_in};
+ghost use Rattle.qvt_tree_types.specs.View.{expr_view, step_view, steps_of};
+
 use crate::types::{ObjectVar, PathTree, TypeTree};
 use crate::words::{BinaryOp, CollKind, Level, ResolveWord, Sign};
 use qvt_base::numbers::Place;
@@ -20,7 +24,6 @@ pub type Stmts = Seq<Stmt>;
 
 /// A statement (QVT 1.3, 8.2.2). An assignment's place is its sign, that of any other its first
 /// token.
-#[derive(Drop)]
 #[cycle(tree)]
 pub enum Stmt {
     Var {
@@ -67,6 +70,48 @@ pub enum Stmt {
     },
 }
 
+impl Drop for Stmt {
+    #[cycle(drops)]
+    fn drop(self) {
+        match self {
+            Stmt::Var {
+                name,
+                kind,
+                value,
+                place,
+            } => {}
+            Stmt::Assign {
+                target,
+                adds,
+                value,
+                place,
+            } => {}
+            Stmt::Return { value, place } => {}
+            Stmt::Value { value, place } => {}
+            Stmt::If {
+                condition,
+                body,
+                arms,
+                otherwise,
+                place,
+            } => {}
+            Stmt::While {
+                condition,
+                body,
+                place,
+            } => {}
+            Stmt::ForEach {
+                source,
+                name,
+                kind,
+                condition,
+                body,
+                place,
+            } => {}
+        }
+    }
+}
+
 /// An `elif`.
 #[derive(Drop)]
 #[cycle(tree)]
@@ -95,7 +140,6 @@ pub enum Target {
 
 /// An expression (OCL 2.4, 7; QVT 1.3, 8.2.2). Brackets leave no node. A place is that of the
 /// first token, for what begins with a bracket the bracket.
-#[derive(Drop)]
 #[cycle(tree)]
 pub enum Expr {
     Int {
@@ -171,6 +215,100 @@ pub enum Expr {
         steps: StepList,
         place: Place,
     },
+}
+
+impl Drop for Expr {
+    #[cycle(drops)]
+    fn drop(self) {
+        match self {
+            Expr::Int { value, place } => {}
+            Expr::Str { value, place } => {}
+            Expr::Bool { value, place } => {}
+            Expr::Null { place } => {}
+            Expr::SelfRef { place } => {}
+            Expr::ResultRef { place } => {}
+            Expr::Path(part) => {}
+            Expr::Call { name, args, place } => {}
+            Expr::Coll { kind, items, place } => {}
+            Expr::If {
+                condition,
+                yes,
+                no,
+                place,
+            } => {}
+            Expr::Object {
+                variable,
+                path,
+                extent,
+                body,
+                place,
+            } => {}
+            Expr::New {
+                path,
+                extent,
+                args,
+                place,
+            } => {}
+            Expr::Map(part) => {}
+            Expr::Resolve(part) => {}
+            Expr::Chain {
+                level,
+                first,
+                rest,
+                place,
+            } => {}
+            Expr::Prefix {
+                signs,
+                operand,
+                place,
+            } => {}
+            Expr::Post {
+                first,
+                steps,
+                place,
+            } => {}
+        }
+    }
+}
+
+impl Expr {
+    /// The path that the expression is, or none.
+    pub fn into_path(self) -> Option<PathTree>
+        ensures { result ≡ path_in (expr_view self) }
+    {
+        match self {
+            Expr::Path(path) => Some(path),
+            _ => None,
+        }
+    }
+
+    /// What stands before the steps, and the steps. An expression without steps is given back.
+    pub fn into_post(self) -> Result<(Box<Expr>, Seq<Step>), Expr>
+        ensures { MatchResult result (λ post. post_in (expr_view self) ≡ Some (expr_view post.0.value, steps_of (map step_view post.1))) (λ other. (post_in (expr_view self) ≡ None) × (other ≡ self)) }
+    {
+        match self {
+            Expr::Post {
+                first,
+                steps,
+                place: _,
+            } => Ok((first, steps)),
+            other => Err(other),
+        }
+    }
+
+    /// The signs, and the operand after them. An expression without signs is given back.
+    pub fn into_prefix(self) -> Result<(Seq<Sign>, Box<Expr>), Expr>
+        ensures { MatchResult result (λ prefix. prefix_in (expr_view self) ≡ Some (prefix.0, expr_view prefix.1.value)) (λ other. (prefix_in (expr_view self) ≡ None) × (other ≡ self)) }
+    {
+        match self {
+            Expr::Prefix {
+                signs,
+                operand,
+                place: _,
+            } => Ok((signs, operand)),
+            other => Err(other),
+        }
+    }
 }
 
 /// A further operand of a chain, with the operator before it and the operator's place.
@@ -252,7 +390,6 @@ pub struct Accumulator {
 
 /// A step after an expression, with the place of its name. The `args` of an arrow with a head are
 /// its one body.
-#[derive(Drop)]
 #[cycle(tree)]
 pub enum Step {
     Dot {
@@ -270,4 +407,39 @@ pub enum Step {
     ArrowMap(MapCall),
     DotResolve(ResolveCall),
     ArrowResolve(ResolveCall),
+}
+
+impl Drop for Step {
+    #[cycle(drops)]
+    fn drop(self) {
+        match self {
+            Step::Dot { name, args, place } => {}
+            Step::Arrow {
+                name,
+                head,
+                args,
+                place,
+            } => {}
+            Step::DotMap(part) => {}
+            Step::ArrowMap(part) => {}
+            Step::DotResolve(part) => {}
+            Step::ArrowResolve(part) => {}
+        }
+    }
+}
+
+impl Step {
+    /// The name that the step is, where it has no arguments, with its place.
+    pub fn into_member(self) -> Option<(Text, Place)>
+        ensures { result ≡ member_in (step_view self) }
+    {
+        match self {
+            Step::Dot {
+                name,
+                args: None,
+                place,
+            } => Some((name, place)),
+            _ => None,
+        }
+    }
 }

@@ -5,7 +5,7 @@ use qvt_base::seq::Seq;
 use qvt_base::text::Text;
 
 /// Names with `::` between them, at least one.
-#[derive(Debug, Drop)]
+#[derive(Drop)]
 pub struct PathTree {
     pub names: NameList,
     /// The place of the first name.
@@ -15,7 +15,6 @@ pub struct PathTree {
 pub type PathList = Seq<PathTree>;
 
 /// A type as it is written. A collection's place is that of the word of its kind.
-#[derive(Drop)]
 pub enum TypeTree {
     Coll {
         kind: CollKind,
@@ -25,8 +24,17 @@ pub enum TypeTree {
     Path(PathTree),
 }
 
+impl Drop for TypeTree {
+    fn drop(self) {
+        match self {
+            TypeTree::Coll { kind, item, place } => {}
+            TypeTree::Path(path) => {}
+        }
+    }
+}
+
 /// The variable of an object expression: a name, or `result`.
-#[derive(Debug, Drop)]
+#[derive(Drop)]
 pub enum ObjectVar {
     Named { name: Text, place: Place },
     ResultVar { place: Place },
