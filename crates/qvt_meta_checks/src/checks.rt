@@ -11,8 +11,8 @@ ghost use Rattle.qvt_metamodel.specs.Checks.{same_enum, same_name, unknown, unkn
 ghost use Rattle.qvt_metamodel.specs.declared.declared.DeclaredClass.{DeclaredClass};
 ghost use Rattle.qvt_metamodel.specs.declared.declared.DeclaredFeature.{DeclaredFeature};
 
-use crate::names::{add_name, names_with, primitive_names, repeated};
-use indexmap::IndexSet;
+use crate::name_set::NameSet;
+use crate::names::{names_with, primitive_names, repeated};
 use qvt_base::copied::Copied;
 use qvt_base::list_fault::ListFault;
 use qvt_base::text::Text;
@@ -23,20 +23,20 @@ use std::alloc::Global;
 /// The first enumeration whose name is taken, or literal that stands twice in its enumeration.
 fn same_enum(
     alloc: Global,
-    mut taken: IndexSet<Text>,
+    mut taken: NameSet,
     enums: &[EnumInfo],
 ) -> Result<Option<Text>, ListFault>
-    ensures { IfOk result (λ o. o ≡ same_enum taken.keys enums.now) }
+    ensures { IfOk result (λ o. o ≡ same_enum taken enums.now) }
 {
     for item in enums {
         if taken.contains(&item.name) {
             return Ok(Some(item.name.copy(alloc)?));
         }
         let literals = item.literals.as_slice();
-        if let Some(literal) = repeated(alloc, IndexSet::new(alloc), literals)? {
+        if let Some(literal) = repeated(alloc, NameSet::new(alloc), literals)? {
             return Ok(Some(literal));
         }
-        add_name(&mut taken, item.name.copy(alloc)?)?;
+        taken.add(alloc, item.name.as_str())?;
     }
     Ok(None)
 }
@@ -55,8 +55,8 @@ pub fn same_name(alloc: Global, meta: &MetaData) -> Result<Option<Text>, ListFau
 }
 
 /// The first of these names that is no class.
-fn unknown_super<'a>(classes: &IndexSet<Text>, supers: &'a [Text]) -> Option<&'a Text>
-    ensures { option_copied result ≡ unknown classes.now.keys supers.now }
+fn unknown_super<'a>(classes: &NameSet, supers: &'a [Text]) -> Option<&'a Text>
+    ensures { option_copied result ≡ unknown classes.now supers.now }
 {
     for name in supers {
         if !classes.contains(name) {
@@ -67,8 +67,8 @@ fn unknown_super<'a>(classes: &IndexSet<Text>, supers: &'a [Text]) -> Option<&'a
 }
 
 /// The first type of these features that is none of these.
-fn unknown_kind<'a>(types: &IndexSet<Text>, features: &'a [DeclaredFeature]) -> Option<&'a Text>
-    ensures { option_copied result ≡ unknown types.now.keys (map (λ f. f.kind) features.now) }
+fn unknown_kind<'a>(types: &NameSet, features: &'a [DeclaredFeature]) -> Option<&'a Text>
+    ensures { option_copied result ≡ unknown types.now (map (λ f. f.kind) features.now) }
 {
     for feature in features {
         if !types.contains(&feature.kind) {
@@ -79,12 +79,8 @@ fn unknown_kind<'a>(types: &IndexSet<Text>, features: &'a [DeclaredFeature]) -> 
 }
 
 /// The first name in the class that is no class as a superclass must be, or no type.
-fn unknown_in<'a>(
-    classes: &IndexSet<Text>,
-    types: &IndexSet<Text>,
-    class: &'a DeclaredClass,
-) -> Option<&'a Text>
-    ensures { option_copied result ≡ or_next (unknown classes.now.keys class.now.supers) (unknown types.now.keys (map (λ f. f.kind) class.now.features)) }
+fn unknown_in<'a>(classes: &NameSet, types: &NameSet, class: &'a DeclaredClass) -> Option<&'a Text>
+    ensures { option_copied result ≡ or_next (unknown classes.now class.now.supers) (unknown types.now (map (λ f. f.kind) class.now.features)) }
 {
     if let Some(name) = unknown_super(classes, class.supers.as_slice()) {
         return Some(name);
@@ -96,12 +92,12 @@ fn unknown_in<'a>(
 #[tactic(auto, unfolding(qvt_metamodel::specs::Checks::unknown_type))]
 pub fn unknown_type(
     alloc: Global,
-    classes: &IndexSet<Text>,
-    types: &IndexSet<Text>,
+    classes: &NameSet,
+    types: &NameSet,
     meta: &MetaData,
 ) -> Result<Option<(Text, Text)>, ListFault>
-    requires classes { classes.now.keys ≡ class_names meta.now }
-    requires types { types.now.keys ≡ type_names meta.now }
+    requires classes { classes.now ≡ class_names meta.now }
+    requires types { types.now ≡ type_names meta.now }
     ensures { IfOk result (λ o. o ≡ unknown_type meta.now) }
 {
     for class in meta.classes.as_slice() {

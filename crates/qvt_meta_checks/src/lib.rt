@@ -2,6 +2,7 @@
 #![tactic(auto)]
 
 pub mod checks;
+pub mod name_set;
 pub mod names;
 pub mod opposites;
 pub mod texts;

@@ -4,7 +4,7 @@ ghost use Rattle.qvt_metamodel.specs.Checks.{same_name, type_names};
 ghost use Rattle.qvt_json.specs.Repeated.{repeated};
 ghost use Rattle.qvt_metamodel.specs.Names.{primitive_names, is_among};
 
-use indexmap::IndexSet;
+use crate::name_set::NameSet;
 use qvt_base::copied::Copied;
 use qvt_base::list_fault::ListFault;
 use qvt_base::text::Text;
@@ -44,42 +44,31 @@ impl Named for DeclaredFeature {
     }
 }
 
-/// Puts a name last that is not among these.
-pub fn add_name(names: &mut IndexSet<Text>, name: Text) -> Result<(), ListFault>
-    requires { is_among name names.old.keys ≡ false }
-    ensures { OnOk result (names.new.keys ≡ names.old.keys ++ name ∷ []) }
-{
-    match names.insert(name) {
-        Ok(_) => Ok(()),
-        Err(_) => Err(ListFault::NoMemory),
-    }
-}
-
 /// The names of the types that every metamodel has.
-pub fn primitive_names(alloc: Global) -> Result<IndexSet<Text>, ListFault>
-    ensures { IfOk result (λ names. names.keys ≡ primitive_names) }
+pub fn primitive_names(alloc: Global) -> Result<NameSet, ListFault>
+    ensures { IfOk result (λ names. names ≡ primitive_names) }
 {
-    let mut names = IndexSet::new(alloc);
-    add_name(&mut names, Text::from_str(alloc, "Boolean")?)?;
-    add_name(&mut names, Text::from_str(alloc, "Integer")?)?;
-    add_name(&mut names, Text::from_str(alloc, "String")?)?;
+    let mut names = NameSet::new(alloc);
+    names.add(alloc, "Boolean")?;
+    names.add(alloc, "Integer")?;
+    names.add(alloc, "String")?;
     Ok(names)
 }
 
 /// The first of the names that is taken, or stands before.
 pub fn repeated<T: Named>(
     alloc: Global,
-    mut taken: IndexSet<Text>,
+    mut taken: NameSet,
     items: &[T],
 ) -> Result<Option<Text>, ListFault>
-    ensures { IfOk result (λ o. o ≡ repeated taken.keys (map T.name_of items.now)) }
+    ensures { IfOk result (λ o. o ≡ repeated taken (map T.name_of items.now)) }
 {
     for item in items {
         let name = item.name();
         if taken.contains(name) {
             return Ok(Some(name.copy(alloc)?));
         }
-        add_name(&mut taken, name.copy(alloc)?)?;
+        taken.add(alloc, name.as_str())?;
     }
     Ok(None)
 }
@@ -95,42 +84,42 @@ impl Named for EnumInfo {
 /// These names, and then those of the items, none of which is taken or stands twice.
 pub fn names_with<T: Named>(
     alloc: Global,
-    mut names: IndexSet<Text>,
+    mut names: NameSet,
     items: &[T],
-) -> Result<IndexSet<Text>, ListFault>
-    requires { repeated names.keys (map T.name_of items.now) ≡ None }
-    ensures { IfOk result (λ all. all.keys ≡ names.keys ++ map T.name_of items.now) }
+) -> Result<NameSet, ListFault>
+    requires { repeated names (map T.name_of items.now) ≡ None }
+    ensures { IfOk result (λ all. all ≡ names ++ map T.name_of items.now) }
 {
     for item in items {
-        add_name(&mut names, item.name().copy(alloc)?)?;
+        names.add(alloc, item.name().as_str())?;
     }
     Ok(names)
 }
 
 /// The names of all types: the primitive ones, the enumerations and the classes.
 #[tactic(auto, using(crate::proofs::Passing::enums_differ, crate::proofs::Passing::classes_differ))]
-pub fn type_names(alloc: Global, meta: &MetaData) -> Result<IndexSet<Text>, ListFault>
+pub fn type_names(alloc: Global, meta: &MetaData) -> Result<NameSet, ListFault>
     requires { same_name meta.now ≡ None }
-    ensures { IfOk result (λ names. names.keys ≡ type_names meta.now) }
+    ensures { IfOk result (λ names. names ≡ type_names meta.now) }
 {
     let types = names_with(alloc, primitive_names(alloc)?, meta.enums.as_slice())?;
     names_with(alloc, types, meta.classes.as_slice())
 }
 
 /// The names of these, no two of which are the same.
-pub fn names_of<T: Named>(alloc: Global, items: &[T]) -> Result<IndexSet<Text>, ListFault>
+pub fn names_of<T: Named>(alloc: Global, items: &[T]) -> Result<NameSet, ListFault>
     requires { repeated [] (map T.name_of items.now) ≡ None }
-    ensures { IfOk result (λ names. names.keys ≡ map T.name_of items.now) }
+    ensures { IfOk result (λ names. names ≡ map T.name_of items.now) }
 {
-    names_with(alloc, IndexSet::new(alloc), items)
+    names_with(alloc, NameSet::new(alloc), items)
 }
 
 /// The place of a name that is there.
-pub fn place_in(names: &IndexSet<Text>, name: &Text) -> usize
-    ensures place { result ≡ place_in names.now.keys name.now }
-    ensures bound { result ≤ length names.now.keys }
+pub fn place_in(names: &NameSet, name: &Text) -> usize
+    ensures place { result ≡ place_in names.now name.now }
+    ensures bound { result ≤ length names.now }
 {
-    match names.get_index_of(name) {
+    match names.position(name) {
         Some(place) => place,
         None => 0,
     }

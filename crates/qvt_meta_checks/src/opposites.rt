@@ -6,8 +6,8 @@ ghost use Rattle.qvt_metamodel.specs.MetaData.{class_names};
 ghost use Rattle.qvt_metamodel.specs.Checks.{is_name, is_one_at_most, is_mutual, is_contained_wrong, type_features, is_bad_opposite, bad_opposite};
 
 use crate::checks::{FeatureTest, first_fault};
+use crate::name_set::NameSet;
 use crate::names::place_in;
-use indexmap::IndexSet;
 use qvt_base::list_fault::ListFault;
 use qvt_base::text::Text;
 use qvt_metamodel::declared::{DeclaredClass, DeclaredFeature, MetaData};
@@ -71,8 +71,8 @@ ghost use Rattle.std.specs.Prelude.{◌&&◌};
 #[derive(Drop)]
 struct OppositeTest<'a> {
     meta: &'a MetaData,
-    classes: &'a IndexSet<Text>,
-    ghost names: { classes.now.keys ≡ class_names meta.now },
+    classes: &'a NameSet,
+    ghost names: { classes.now ≡ class_names meta.now },
 }
 
 impl<'a> OppositeTest<'a> {
@@ -113,10 +113,10 @@ impl<'a> FeatureTest for OppositeTest<'a> {
 #[tactic(auto, unfolding(qvt_metamodel::specs::Checks::bad_opposite))]
 pub fn bad_opposite(
     alloc: Global,
-    classes: &IndexSet<Text>,
+    classes: &NameSet,
     meta: &MetaData,
 ) -> Result<Option<(Text, Text)>, ListFault>
-    requires { classes.now.keys ≡ class_names meta.now }
+    requires { classes.now ≡ class_names meta.now }
     ensures { IfOk result (λ o. o ≡ bad_opposite meta.now) }
 {
     let test = OppositeTest { meta, classes };

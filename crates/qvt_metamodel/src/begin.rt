@@ -1,5 +1,5 @@
 /// Where the numbers of a metamodel that is added begin.
-#[derive(Clone, Copy, Debug)]
+#[derive(Clone, Copy)]
 pub struct Begin {
     pub metamodel: u32,
     pub class: u32,

@@ -5,7 +5,6 @@ use qvt_base::text::Text;
 
 /// A feature as a metamodel's file declares it, its type and opposite by name. `upper` is None
 /// where there is no upper bound.
-#[derive(Debug, Drop)]
 pub struct DeclaredFeature {
     pub name: Text,
     pub kind: Text,
@@ -17,8 +16,22 @@ pub struct DeclaredFeature {
     pub opposite: Option<Text>,
 }
 
+impl Drop for DeclaredFeature {
+    fn drop(self) {
+        let DeclaredFeature {
+            name,
+            kind,
+            lower,
+            upper,
+            ordered,
+            unique,
+            containment,
+            opposite,
+        } = self;
+    }
+}
+
 /// A class as a metamodel's file declares it, its superclasses by name.
-#[derive(Debug, Drop)]
 pub struct DeclaredClass {
     pub name: Text,
     pub is_abstract: bool,
@@ -26,11 +39,32 @@ pub struct DeclaredClass {
     pub features: Seq<DeclaredFeature>,
 }
 
+impl Drop for DeclaredClass {
+    fn drop(self) {
+        let DeclaredClass {
+            name,
+            is_abstract,
+            supers,
+            features,
+        } = self;
+    }
+}
+
 /// What a metamodel's file declares, everything by name.
-#[derive(Debug, Drop)]
 pub struct MetaData {
     pub name: Text,
     pub uri: Option<Text>,
     pub enums: Seq<EnumInfo>,
     pub classes: Seq<DeclaredClass>,
+}
+
+impl Drop for MetaData {
+    fn drop(self) {
+        let MetaData {
+            name,
+            uri,
+            enums,
+            classes,
+        } = self;
+    }
 }

@@ -3,7 +3,6 @@ use qvt_base::text::Text;
 use std::alloc::AllocFailed;
 
 /// Why a metamodel's file is refused.
-#[derive(Debug, Drop)]
 pub enum MetaFault {
     /// There was no memory.
     NoMemory,
@@ -26,6 +25,22 @@ pub enum MetaFault {
     SameFeature(Text, Text),
 }
 
+impl Drop for MetaFault {
+    fn drop(self) {
+        match self {
+            MetaFault::NoMemory => {}
+            MetaFault::Json => {}
+            MetaFault::Shape(a) => {}
+            MetaFault::SameName(a) => {}
+            MetaFault::UnknownType(a, b) => {}
+            MetaFault::InheritanceCycle(a) => {}
+            MetaFault::BadBounds(a, b) => {}
+            MetaFault::BadOpposite(a, b) => {}
+            MetaFault::SameFeature(a, b) => {}
+        }
+    }
+}
+
 impl From<ListFault> for MetaFault {
     ghost use Rattle.std.specs.Prelude.{◌≡◌};
     ghost use Rattle.qvt_metamodel.specs.declared.fault.MetaFault.TheVariants.{NoMemory};
@@ -38,12 +53,20 @@ impl From<ListFault> for MetaFault {
 }
 
 /// Why a metamodel is not added.
-#[derive(Debug, Drop)]
 pub enum MetasFault {
     /// A metamodel of this name is there already.
     SameMetamodel(Text),
     /// There was no memory.
     NoMemory,
+}
+
+impl Drop for MetasFault {
+    fn drop(self) {
+        match self {
+            MetasFault::SameMetamodel(a) => {}
+            MetasFault::NoMemory => {}
+        }
+    }
 }
 
 impl From<ListFault> for MetasFault {

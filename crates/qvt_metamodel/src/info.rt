@@ -5,7 +5,7 @@ use qvt_base::text::Text;
 
 /// The type of a feature. The two numbers of an enumeration are those of its metamodel and its
 /// place there.
-#[derive(Clone, Copy, Debug, PartialEq, Eq, Hash)]
+#[derive(Clone, Copy, Debug, PartialEq, Eq)]
 pub enum TypeKind {
     Bool,
     Int,
@@ -15,7 +15,7 @@ pub enum TypeKind {
 }
 
 /// What a feature holds (EMOF's Property): `upper` is None where there is no upper bound.
-#[derive(Clone, Copy, Debug, PartialEq, Eq, Hash)]
+#[derive(Clone, Copy, Debug, PartialEq, Eq)]
 pub struct FeatureShape {
     pub kind: TypeKind,
     pub lower: u32,
@@ -26,22 +26,31 @@ pub struct FeatureShape {
 }
 
 /// An enumeration with its literals in order.
-#[derive(Debug, Drop)]
 pub struct EnumInfo {
     pub name: Text,
     pub literals: NameList,
 }
 
+impl Drop for EnumInfo {
+    fn drop(self) {
+        let EnumInfo { name, literals } = self;
+    }
+}
+
 /// A metamodel apart from its classes.
-#[derive(Debug, Drop)]
 pub struct MetamodelInfo {
     pub name: Text,
     pub uri: Option<Text>,
     pub enums: Seq<EnumInfo>,
 }
 
+impl Drop for MetamodelInfo {
+    fn drop(self) {
+        let MetamodelInfo { name, uri, enums } = self;
+    }
+}
+
 /// A class: its metamodel, its superclasses in order, and the features that it declares itself.
-#[derive(Debug, Drop)]
 pub struct ClassInfo {
     pub metamodel: u32,
     pub name: Text,
@@ -50,11 +59,33 @@ pub struct ClassInfo {
     pub own: FeatureNoList,
 }
 
+impl Drop for ClassInfo {
+    fn drop(self) {
+        let ClassInfo {
+            metamodel,
+            name,
+            is_abstract,
+            supers,
+            own,
+        } = self;
+    }
+}
+
 /// A feature: the class that declares it, what it holds, and its opposite.
-#[derive(Debug, Drop)]
 pub struct FeatureInfo {
     pub owner: ClassNo,
     pub name: Text,
     pub shape: FeatureShape,
     pub opposite: Option<FeatureNo>,
+}
+
+impl Drop for FeatureInfo {
+    fn drop(self) {
+        let FeatureInfo {
+            owner,
+            name,
+            shape,
+            opposite,
+        } = self;
+    }
 }

@@ -6,11 +6,20 @@ use qvt_base::seq::Seq;
 /// Which classes are above a class: a bit for each class from the one with the number `start` on,
 /// 64 in a word, the lowest first. The first words that have no mark are left out, as many as
 /// `skipped` tells.
-#[derive(Debug, Drop)]
 pub struct Row {
     pub start: u32,
     pub skipped: u32,
     pub words: Seq<u64>,
+}
+
+impl Drop for Row {
+    fn drop(self) {
+        let Row {
+            start,
+            skipped,
+            words,
+        } = self;
+    }
 }
 
 /// The word of a row with this number.

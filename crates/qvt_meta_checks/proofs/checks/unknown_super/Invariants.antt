@@ -3,4 +3,4 @@ use Rattle.qvt_metamodel.specs.Checks.{unknown}
 use Rattle.qvt_meta_checks.proofs.checks.unknown_super.Given as goal
 
 abbrev pub invariant-loop-name : goal.invariant-loop-name
-invariant-loop-name l = unknown l.classes.keys (drop l.name-index l.supers) ≡ unknown l.classes.keys l.supers
+invariant-loop-name l = unknown l.classes (drop l.name-index l.supers) ≡ unknown l.classes l.supers
