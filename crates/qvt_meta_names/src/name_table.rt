@@ -8,9 +8,14 @@ use std::alloc::Global;
 use std::marker::Model;
 
 /// Numbers by name, in the order in which they were put there, looked up by hash.
-#[derive(Debug, Drop)]
 pub struct NameTable {
     numbers: IndexMap<String, u32>,
+}
+
+impl Drop for NameTable {
+    fn drop(self) {
+        let NameTable { numbers } = self;
+    }
 }
 
 impl Model for NameTable {

@@ -6,10 +6,15 @@ use qvt_metamodel::declared::MetaData;
 use std::marker::Model;
 
 /// A metamodel that was read and checked.
-#[derive(Debug, Drop)]
 pub struct Meta {
     meta: MetaData,
     alone: Numbered,
+}
+
+impl Drop for Meta {
+    fn drop(self) {
+        let Meta { meta, alone } = self;
+    }
 }
 
 impl Model for Meta {

@@ -34,7 +34,6 @@ use std::marker::Model;
 /// Metamodels with numbers: metamodels, classes and features are numbered from 0 in the order of
 /// adding and then of the document. Every look-up by a number is total: past the end it answers
 /// what a class or feature without anything would have.
-#[derive(Debug, Drop)]
 pub struct Metas {
     metamodels: Vec<MetamodelInfo>,
     classes: Vec<ClassInfo>,
@@ -47,6 +46,24 @@ pub struct Metas {
     feature_names: NameTable,
     numbers: Vec<u32>,
     orders: Vec<PlaceOrder>,
+}
+
+impl Drop for Metas {
+    fn drop(self) {
+        let Metas {
+            metamodels,
+            classes,
+            features,
+            element,
+            lists,
+            rows,
+            ranks,
+            names,
+            feature_names,
+            numbers,
+            orders,
+        } = self;
+    }
 }
 
 impl Model for Metas {

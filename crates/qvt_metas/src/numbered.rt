@@ -7,7 +7,6 @@ use qvt_metamodel::tables::Tables;
 use std::marker::Model;
 
 /// Metamodels with numbers, without Element and without the look-ups by name.
-#[derive(Debug, Drop)]
 pub struct Numbered {
     pub(crate) metamodels: Vec<MetamodelInfo>,
     pub(crate) classes: Vec<ClassInfo>,
@@ -15,6 +14,19 @@ pub struct Numbered {
     pub(crate) lists: Vec<FeatureNoList>,
     pub(crate) rows: Vec<Row>,
     pub(crate) ranks: Vec<u32>,
+}
+
+impl Drop for Numbered {
+    fn drop(self) {
+        let Numbered {
+            metamodels,
+            classes,
+            features,
+            lists,
+            rows,
+            ranks,
+        } = self;
+    }
 }
 
 impl Model for Numbered {
