@@ -11,8 +11,8 @@ firsts_of n [] = n ∷ []
 firsts_of n (k ∷ ks) = n ∷ firsts_of (n + length k.features) ks
 
 pub record ArePlaces (b : Begin) (p : Places) (ks : List DeclaredClass) : Type 0 where
-  pub names : p.classes.keys ≡ names_of ks
+  pub names : p.classes ≡ names_of ks
   pub firsts : p.firsts.items ≡ firsts_of 0 ks
-  pub few_enums : length p.enums.keys < 2 ^ 32
+  pub few_enums : length p.enums < 2 ^ 32
   pub few_classes : b.class + length ks < 2 ^ 32
   pub few_features : b.feature + feature_count ks < 2 ^ 32

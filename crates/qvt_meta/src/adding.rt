@@ -10,13 +10,13 @@ ghost use Rattle.qvt_metamodel.specs.Checks.{same_name};
 ghost use Rattle.qvt_meta.specs.Numbers.{has_few_literals, AreNumbers};
 ghost use Rattle.qvt_metamodel.specs.Added.{declared_at, place_in, kind_of, feature_count, feature_number, feature_info, feature_infos, numbers_from, class_info, class_infos, names_of};
 
-use indexmap::IndexSet;
 use qvt_base::copied::Copied;
 use qvt_base::list_fault::ListFault;
 use qvt_base::lists::{ClassNoList, FeatureNoList};
 use qvt_base::numbers::{ClassNo, FeatureNo};
 use qvt_base::seq::Seq;
 use qvt_base::text::Text;
+use qvt_meta_checks::name_set::NameSet;
 use qvt_meta_checks::names::{names_of as distinct_names, place_in};
 use qvt_metamodel::begin::Begin;
 use qvt_metamodel::copied::copy_of_text;
@@ -32,8 +32,8 @@ use std::alloc::Global;
 /// features stand before those of each class, and before the end.
 #[derive(Drop)]
 pub struct Places {
-    pub enums: IndexSet<Text>,
-    pub classes: IndexSet<Text>,
+    pub enums: NameSet,
+    pub classes: NameSet,
     pub firsts: Vec<u32>,
 }
 
@@ -46,10 +46,10 @@ pub struct Numbers {
 }
 
 /// The type of this name, among these enumerations and classes.
-fn kind_of(begin: Begin, enums: &IndexSet<Text>, classes: &IndexSet<Text>, name: &Text) -> TypeKind
-    requires few_enums { length enums.now.keys < 2 ^ 32 }
-    requires few_classes { begin.class + length classes.now.keys < 2 ^ 32 }
-    ensures { result ≡ kind_of begin enums.now.keys classes.now.keys name.now }
+fn kind_of(begin: Begin, enums: &NameSet, classes: &NameSet, name: &Text) -> TypeKind
+    requires few_enums { length enums.now < 2 ^ 32 }
+    requires few_classes { begin.class + length classes.now < 2 ^ 32 }
+    ensures { result ≡ kind_of begin enums.now classes.now name.now }
 {
     if name.as_str() == "Boolean" {
         return TypeKind::Bool;
@@ -60,7 +60,7 @@ fn kind_of(begin: Begin, enums: &IndexSet<Text>, classes: &IndexSet<Text>, name:
     if name.as_str() == "String" {
         return TypeKind::Str;
     }
-    match enums.get_index_of(name) {
+    match enums.position(name) {
         Some(place) => TypeKind::Enum(begin.metamodel, place as u32),
         None => TypeKind::Class(ClassNo(begin.class + place_in(classes, name) as u32)),
     }
@@ -70,11 +70,11 @@ fn kind_of(begin: Begin, enums: &IndexSet<Text>, classes: &IndexSet<Text>, name:
 fn supers_of(
     alloc: Global,
     begin: Begin,
-    classes: &IndexSet<Text>,
+    classes: &NameSet,
     supers: &[Text],
 ) -> Result<ClassNoList, ListFault>
-    requires { begin.class + length classes.now.keys < 2 ^ 32 }
-    ensures { IfOk result (λ s. s ≡ map (λ name. record { 0 = begin.class + place_in classes.now.keys name }) supers.now) }
+    requires { begin.class + length classes.now < 2 ^ 32 }
+    ensures { IfOk result (λ s. s ≡ map (λ name. record { 0 = begin.class + place_in classes.now name }) supers.now) }
 {
     let mut numbers = Seq::new(alloc);
     for name in supers {
@@ -87,13 +87,13 @@ fn supers_of(
 fn class_info(
     alloc: Global,
     begin: Begin,
-    classes: &IndexSet<Text>,
+    classes: &NameSet,
     first: u32,
     class: &DeclaredClass,
 ) -> Result<ClassInfo, ListFault>
-    requires few_classes { begin.class + length classes.now.keys < 2 ^ 32 }
+    requires few_classes { begin.class + length classes.now < 2 ^ 32 }
     requires few_features { first + length class.now.features < 2 ^ 32 }
-    ensures { IfOk result (λ k. k ≡ class_info begin classes.now.keys first class.now) }
+    ensures { IfOk result (λ k. k ≡ class_info begin classes.now first class.now) }
 {
     Ok(ClassInfo {
         metamodel: begin.metamodel,
@@ -108,12 +108,12 @@ fn class_info(
 pub fn class_infos(
     alloc: Global,
     begin: Begin,
-    names: &IndexSet<Text>,
+    names: &NameSet,
     classes: &[DeclaredClass],
 ) -> Result<Vec<ClassInfo>, ListFault>
-    requires few_classes { begin.class + length names.now.keys < 2 ^ 32 }
+    requires few_classes { begin.class + length names.now < 2 ^ 32 }
     requires few_features { begin.feature + feature_count classes.now < 2 ^ 32 }
-    ensures { IfOk result (λ v. v.items ≡ class_infos begin names.now.keys begin.feature classes.now) }
+    ensures { IfOk result (λ v. v.items ≡ class_infos begin names.now begin.feature classes.now) }
 {
     let mut infos = Seq::new(alloc);
     let mut first = begin.feature;
@@ -202,7 +202,7 @@ fn feature_info(
     feature: &DeclaredFeature,
 ) -> Result<FeatureInfo, ListFault>
     requires { ArePlaces begin places.now classes.now }
-    ensures { IfOk result (λ f. f ≡ feature_info begin places.now.enums.keys classes.now owner feature.now) }
+    ensures { IfOk result (λ f. f ≡ feature_info begin places.now.enums classes.now owner feature.now) }
 {
     Ok(FeatureInfo {
         owner: ClassNo(owner),
@@ -230,7 +230,7 @@ fn add_features(
     features: &[DeclaredFeature],
 ) -> Result<(), ListFault>
     requires { ArePlaces begin places.now classes.now }
-    ensures { OnOk result (infos.new ≡ infos.old ++ map (feature_info begin places.now.enums.keys classes.now owner) features.now) }
+    ensures { OnOk result (infos.new ≡ infos.old ++ map (feature_info begin places.now.enums classes.now owner) features.now) }
 {
     for feature in features {
         infos.push(feature_info(alloc, begin, places, classes, owner, feature)?)?;
@@ -246,7 +246,7 @@ pub fn feature_infos(
     classes: &[DeclaredClass],
 ) -> Result<Vec<FeatureInfo>, ListFault>
     requires { ArePlaces begin places.now classes.now }
-    ensures { IfOk result (λ v. v.items ≡ feature_infos begin places.now.enums.keys classes.now begin.class classes.now) }
+    ensures { IfOk result (λ v. v.items ≡ feature_infos begin places.now.enums classes.now begin.class classes.now) }
 {
     let mut infos = Seq::new(alloc);
     let mut owner = begin.class;
@@ -289,8 +289,8 @@ pub fn places_of(
     requires enums { repeated [] (map (λ e. e.name) enums.now) ≡ None }
     requires classes { repeated [] (names_of classes.now) ≡ None }
     requires few { feature_count classes.now < 2 ^ 32 }
-    ensures enums { IfOk result (λ p. p.enums.keys ≡ map (λ e. e.name) enums.now) }
-    ensures classes { IfOk result (λ p. p.classes.keys ≡ names_of classes.now) }
+    ensures enums { IfOk result (λ p. p.enums ≡ map (λ e. e.name) enums.now) }
+    ensures classes { IfOk result (λ p. p.classes ≡ names_of classes.now) }
     ensures firsts { IfOk result (λ p. p.firsts.items ≡ firsts_of 0 classes.now) }
 {
     Ok(Places {

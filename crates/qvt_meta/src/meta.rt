@@ -11,13 +11,13 @@ ghost use Rattle.qvt_meta_tables.specs.Search.{IsAcyclic};
 
 use crate::adding::{Numbers, numbers_of};
 use crate::same_feature::same_feature;
-use indexmap::IndexSet;
 use qvt_base::copied::Copied;
 use qvt_base::list_fault::ListFault;
 use qvt_base::text::Text;
 use qvt_json::shape::shape_fault;
 use qvt_json::value::read_value;
 use qvt_meta_checks::checks::{bad_bounds, same_name, unknown_type};
+use qvt_meta_checks::name_set::NameSet;
 use qvt_meta_checks::names::{names_of, type_names};
 use qvt_meta_checks::opposites::bad_opposite;
 use qvt_meta_checks::texts::have_texts;
@@ -85,12 +85,12 @@ fn inheritance_cycle(
 fn features_checked(
     alloc: Global,
     meta: MetaData,
-    names: &IndexSet<Text>,
+    names: &NameSet,
     numbers: Numbers,
     tables: Tables,
 ) -> Result<Meta, MetaFault>
     requires named { meta.name ≢ [] }
-    requires names { names.now.keys ≡ class_names meta }
+    requires names { names.now ≡ class_names meta }
     requires same_name { same_name meta ≡ None }
     requires unknown_type { unknown_type meta ≡ None }
     requires cycle { inheritance_cycle meta ≡ None }
@@ -112,9 +112,9 @@ fn features_checked(
 
 /// The same after the checks of names and types.
 #[tactic(auto, unfolding(crate::specs::MetaOf::classes_checked))]
-fn classes_checked(alloc: Global, meta: MetaData, names: &IndexSet<Text>) -> Result<Meta, MetaFault>
+fn classes_checked(alloc: Global, meta: MetaData, names: &NameSet) -> Result<Meta, MetaFault>
     requires named { meta.name ≢ [] }
-    requires names { names.now.keys ≡ class_names meta }
+    requires names { names.now ≡ class_names meta }
     requires same_name { same_name meta ≡ None }
     requires unknown_type { unknown_type meta ≡ None }
     ensures { Gives MetaFault.NoMemory (λ read. read) result (classes_checked meta) }

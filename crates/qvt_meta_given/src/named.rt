@@ -4,13 +4,13 @@ ghost use Rattle.std.specs.Prelude.{◌≡◌, map, IfOk};
 ghost use Rattle.std.specs.List.{list_all};
 ghost use Rattle.qvt_meta_given.specs.Given.{name_in, differ};
 
-use indexmap::IndexSet;
 use qvt_base::copied::Copied;
 use qvt_base::list_fault::ListFault;
 use qvt_base::lists::{FeatureNoList, NameList};
 use qvt_base::numbers::FeatureNo;
 use qvt_base::seq::Seq;
 use qvt_base::text::Text;
+use qvt_meta_checks::name_set::NameSet;
 use qvt_meta_checks::names::repeated;
 use qvt_metamodel::info::FeatureInfo;
 use std::alloc::Global;
@@ -46,7 +46,7 @@ fn differ(alloc: Global, features: &[FeatureInfo], list: &[FeatureNo]) -> Result
     ensures { IfOk result (λ b. b ≡ differ features.now list.now) }
 {
     let names = names_in(alloc, features, list)?;
-    let twice = repeated(alloc, IndexSet::new(alloc), names.as_slice())?;
+    let twice = repeated(alloc, NameSet::new(alloc), names.as_slice())?;
     Ok(twice.is_none())
 }
 

@@ -3,4 +3,4 @@ use Rattle.qvt_metamodel.specs.Added.{feature_info}
 use Rattle.qvt_meta.proofs.adding.add_features.Given as goal
 
 abbrev pub invariant-loop-feature : goal.invariant-loop-feature
-invariant-loop-feature l = l.infos ≡ l.initial.infos ++ map (feature_info l.begin l.places.enums.keys l.classes l.owner) (take l.feature-index l.features)
+invariant-loop-feature l = l.infos ≡ l.initial.infos ++ map (feature_info l.begin l.places.enums l.classes l.owner) (take l.feature-index l.features)

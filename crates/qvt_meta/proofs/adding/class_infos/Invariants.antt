@@ -4,6 +4,6 @@ use Rattle.qvt_meta.proofs.adding.class_infos.Given as goal
 
 abbrev pub invariant-loop-class : goal.invariant-loop-class
 invariant-loop-class l = record {
-  built : l.infos ++ class_infos l.begin l.names.keys l.first (drop l.class-index l.classes) ≡ class_infos l.begin l.names.keys l.begin.feature l.classes;
+  built : l.infos ++ class_infos l.begin l.names l.first (drop l.class-index l.classes) ≡ class_infos l.begin l.names l.begin.feature l.classes;
   few : l.first + feature_count (drop l.class-index l.classes) ≡ l.begin.feature + feature_count l.classes;
 }
