@@ -26,7 +26,7 @@ signed_apart place signs (ResultExpr p) h = refl
 signed_apart place signs (PathExpr path) h = refl
 
 pub signed_more : (place : Place) (signs : List Sign) (e : ExprTerm) (old : List Sign) (operand : ExprTerm) → prefix_in e ≡ Some (old, operand) → signed place signs e ≡ PrefixExpr (signs ++ old) operand place
-signed_more place signs (PrefixExpr s e p) old operand h = ap (λ o. PrefixExpr (signs ++ (unwrap_or o (s, e)).0) (unwrap_or o (s, e)).1 place) h
+signed_more place signs (PrefixExpr s e p) old operand h = ap (λ o. PrefixExpr (signs ++ (unwrap_or {T = List Sign × ExprTerm} o (s, e)).0) (unwrap_or {T = List Sign × ExprTerm} o (s, e)).1 place) h
 signed_more place signs (IntExpr n p) old operand h = absurd cc
 signed_more place signs (StrExpr t p) old operand h = absurd cc
 signed_more place signs (BoolExpr b p) old operand h = absurd cc
@@ -40,6 +40,6 @@ signed_more place signs (NewExpr path x es p) old operand h = absurd cc
 signed_more place signs (MapExpr m) old operand h = absurd cc
 signed_more place signs (ResolveExpr r) old operand h = absurd cc
 signed_more place signs (ChainExpr l e ls p) old operand h = absurd cc
-signed_more place signs (PostExpr e old p) old operand h = absurd cc
+signed_more place signs (PostExpr e more p) old operand h = absurd cc
 signed_more place signs (ResultExpr p) old operand h = absurd cc
 signed_more place signs (PathExpr path) old operand h = absurd cc

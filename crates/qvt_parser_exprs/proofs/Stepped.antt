@@ -61,4 +61,4 @@ stepped_more place (MapExpr m) first old ss h = absurd cc
 stepped_more place (ResolveExpr r) first old ss h = absurd cc
 stepped_more place (ChainExpr l e ls p) first old ss h = absurd cc
 stepped_more place (PrefixExpr signs e p) first old ss h = absurd cc
-stepped_more place (PostExpr e more p) first old ss h = ap (λ o. PostExpr (unwrap_or o (e, more)).0 (more_steps (unwrap_or o (e, more)).1 ss) place) h
+stepped_more place (PostExpr e more p) first old ss h = ap (λ o. PostExpr (unwrap_or {T = ExprTerm × StepTerms} o (e, more)).0 (more_steps (unwrap_or {T = ExprTerm × StepTerms} o (e, more)).1 ss) place) h

@@ -23,7 +23,7 @@ member_last place e steps before last q = ap (λ z. member_target place e z) (ap
 
 -- a step is a member where it is a name without arguments
 pub member_there : (place : Place) (e : ExprTerm) (before : List StepTerm) (s : StepTerm) (name : List ℕ) (at : Place) → member_in s ≡ Some (name, at) → member_of place e (before, s) ≡ Some (MemberTarget (post_of place e before) name at)
-member_there place e before (DotStep n NoArgs p) name at h = ap (λ o. Some (MemberTarget (post_of place e before) (unwrap_or o (n, p)).0 (unwrap_or o (n, p)).1)) h
+member_there place e before (DotStep n NoArgs p) name at h = ap (λ o. Some (MemberTarget (post_of place e before) (unwrap_or {T = List ℕ × Place} o (n, p)).0 (unwrap_or {T = List ℕ × Place} o (n, p)).1)) h
 member_there place e before (DotStep n (SomeArgs es) p) name at h = absurd cc
 member_there place e before (ArrowStep n h es p) name at h = absurd cc
 member_there place e before (DotMapStep m) name at h = absurd cc
@@ -71,8 +71,8 @@ bare_path (SelfExpr p) path h = absurd cc
 bare_path (CallExpr name es p) path h = absurd cc
 bare_path (CollExpr k es p) path h = absurd cc
 bare_path (IfExpr c a b p) path h = absurd cc
-bare_path (ObjectExpr v path x body p) path h = absurd cc
-bare_path (NewExpr path x es p) path h = absurd cc
+bare_path (ObjectExpr v q x body p) path h = absurd cc
+bare_path (NewExpr q x es p) path h = absurd cc
 bare_path (MapExpr m) path h = absurd cc
 bare_path (ResolveExpr r) path h = absurd cc
 bare_path (ChainExpr l e ls p) path h = absurd cc
