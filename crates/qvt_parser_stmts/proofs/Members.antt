@@ -25,7 +25,7 @@ member_last place e steps before last q = ap (λ z. member_target place e z) (ap
 pub member_there : (place : Place) (e : ExprTerm) (before : List StepTerm) (s : StepTerm) (name : List ℕ) (at : Place) → member_in s ≡ Some (name, at) → member_of place e (before, s) ≡ Some (MemberTarget (post_of place e before) name at)
 member_there place e before (DotStep n NoArgs p) name at h = ap (λ o. Some (MemberTarget (post_of place e before) (unwrap_or {T = List ℕ × Place} o (n, p)).0 (unwrap_or {T = List ℕ × Place} o (n, p)).1)) h
 member_there place e before (DotStep n (SomeArgs es) p) name at h = absurd cc
-member_there place e before (ArrowStep n h es p) name at h = absurd cc
+member_there place e before (ArrowStep n head es p) name at h = absurd cc
 member_there place e before (DotMapStep m) name at h = absurd cc
 member_there place e before (ArrowMapStep m) name at h = absurd cc
 member_there place e before (DotResolveStep r) name at h = absurd cc
@@ -34,7 +34,7 @@ member_there place e before (ArrowResolveStep r) name at h = absurd cc
 pub no_member : (place : Place) (e : ExprTerm) (before : List StepTerm) (s : StepTerm) → member_in s ≡ None → member_of place e (before, s) ≡ None
 no_member place e before (DotStep n NoArgs p) h = absurd cc
 no_member place e before (DotStep n (SomeArgs es) p) h = refl
-no_member place e before (ArrowStep n h es p) h = refl
+no_member place e before (ArrowStep n head es p) h = refl
 no_member place e before (DotMapStep m) h = refl
 no_member place e before (ArrowMapStep m) h = refl
 no_member place e before (DotResolveStep r) h = refl
