@@ -1,7 +1,7 @@
 use qvt_base::numbers::Place;
 
 /// What a token is to the grammar: each symbol and each reserved word is a class of its own.
-#[derive(Clone, Copy, Debug, PartialEq, Eq)]
+#[derive(Clone, Copy, PartialEq, Eq)]
 pub enum Class {
     Name,
     Integer,
@@ -121,7 +121,7 @@ pub enum Class {
 
 /// A token with what it says: of a name the name without quotes, of a string its characters, of an
 /// integer its number. The text of any other token is empty, and its number is 0.
-#[derive(Clone, Copy, Debug)]
+#[derive(Clone, Copy)]
 pub struct Token<'a> {
     pub class: Class,
     pub place: Place,

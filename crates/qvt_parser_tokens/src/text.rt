@@ -20,7 +20,7 @@ use qvt_parser_grammar::token::{Class, Token};
 use std::alloc::Global;
 
 /// The tokens of a whole text, with the place after its last character.
-#[derive(Debug, Drop)]
+#[derive(Drop)]
 pub struct TextTokens<'a> {
     pub tokens: Seq<Token<'a>>,
     pub end: Place,

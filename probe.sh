@@ -1,1 +1,0 @@
-cd /work/a/crates/zz_probe; rm -rf out; (time rt check) > /tmp/probe.log 2>&1; grep -E '^fn|error|user' /tmp/probe.log | cut -c1-150; find out -name '*.Lts.oantt' -printf '%s %f\n' | sort -rn; (time rt check --only '') 2>&1 | grep user
