@@ -12,6 +12,4 @@ pub mod numbers;
 pub mod outside;
 pub mod real;
 pub mod seq;
-#[cfg(test)]
-mod tests;
 pub mod text;

@@ -105,6 +105,3 @@ pub fn one_division()
     ensures division { OneDivision }
     ensures fault { OneFault }
 {}
-
-#[cfg(test)]
-mod tests;

@@ -7,7 +7,7 @@ use qvt_base::outside::{Files, ReadAnswer, Sink, SinkAnswer, WriteAnswer};
 use qvt_base::real::{DirFiles, StdSink};
 use qvt_base::seq::Seq;
 use std::alloc::Global;
-use std::{fs, io};
+use std::fs;
 
 /// The bytes that are found, or the name of the answer.
 fn told(answer: &ReadAnswer) -> &[u8] {
@@ -41,54 +41,48 @@ fn failing_files(alloc: Global) -> Option<MemFiles> {
 
 /// Whether a write of `two` to `a` answers this, and `a` then holds these bytes.
 fn is_written(files: &mut MemFiles, expected: WriteAnswer, held: &[u8]) -> bool {
-    files.write("a", b"two") == expected && matches!(files.held("a"), Some(bytes) if bytes == held)
+    files.write("a", b"two") == expected && files.held("a") == Some(held)
 }
 
-#[test]
-fn files_in_memory_fail_where_they_are_told_to(rt: HostRuntime) -> Result<(), ListFault> {
-    let alloc = rt.alloc();
-    let mut files = failing_files(alloc).ok_or(ListFault::NoMemory)?;
+fn are_as_told(alloc: Global) -> Option<bool> {
+    let mut files = failing_files(alloc)?;
     let reads = [
         ("a", 2, "TooLarge"),
         ("b", 2, "Missing"),
         ("a", 3, "Failed"),
         ("a", 3, "one"),
     ];
-    assert!(rt; are_read(alloc, &mut files, &reads));
-    assert!(rt; is_written(&mut files, WriteAnswer::Failed, b"one"));
-    assert!(rt; is_written(&mut files, WriteAnswer::Written, b"two"));
-    assert!(rt; files.held("b").is_none());
-    Ok(())
-}
-
-/// Whether the writes of these pieces answer this.
-fn are_taken(sink: &mut MemSink, writes: &[(&[u8], SinkAnswer)]) -> bool {
-    for (piece, expected) in writes {
-        if sink.write(piece) != *expected {
-            return false;
-        }
-    }
-    true
+    let holds = are_read(alloc, &mut files, &reads)
+        && is_written(&mut files, WriteAnswer::Failed, b"one")
+        && is_written(&mut files, WriteAnswer::Written, b"two")
+        && files.held("b").is_none();
+    Some(holds)
 }
 
 #[test]
-fn a_sink_in_memory_takes_so_many_bytes(rt: HostRuntime) -> Result<(), ListFault> {
-    let alloc = rt.alloc();
+fn files_in_memory_fail_where_they_are_told_to(rt: HostRuntime) {
+    assert!(rt; are_as_told(rt.alloc()) == Some(true));
+}
+
+fn takes_two_bytes(alloc: Global) -> Result<bool, ListFault> {
     let mut sink = MemSink::new(alloc, Seq::from_slice(alloc, &[2])?, 2);
-    let writes = [
-        (b"abc".as_slice(), SinkAnswer::Taken(2)),
-        (b"c".as_slice(), SinkAnswer::Failed),
-        (b"c".as_slice(), SinkAnswer::Taken(1)),
-    ];
-    assert!(rt; are_taken(&mut sink, &writes));
-    assert!(rt; sink.bytes() == b"abc".as_slice());
-    Ok(())
+    Ok(
+        sink.write(b"abc") == SinkAnswer::Taken(2)
+            && sink.write(b"c") == SinkAnswer::Failed
+            && sink.write(b"c") == SinkAnswer::Taken(1)
+            && sink.bytes() == b"abc".as_slice(),
+    )
 }
 
 #[test]
-fn the_working_folder_is_read_within_the_limit(rt: HostRuntime) -> io::Result<()> {
+fn a_sink_in_memory_takes_so_many_bytes(rt: HostRuntime) {
+    assert!(rt; takes_two_bytes(rt.alloc()) == Ok(true));
+}
+
+#[test]
+fn the_working_folder_is_read_within_the_limit(rt: HostRuntime) {
     let alloc = rt.alloc();
-    fs::create_dir(&rt, "folder")?;
+    assert!(rt; fs::create_dir(&rt, "folder").is_ok());
     let mut files = DirFiles::new(rt);
     assert!(rt; files.write("a", b"four") == WriteAnswer::Written);
     let reads = [
@@ -98,7 +92,6 @@ fn the_working_folder_is_read_within_the_limit(rt: HostRuntime) -> io::Result<()
         ("folder", 4, "Failed"),
     ];
     assert!(rt; are_read(alloc, &mut files, &reads));
-    Ok(())
 }
 
 #[test]
