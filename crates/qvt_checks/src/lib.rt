@@ -1,7 +1,5 @@
-//! The conditions of the store's calls as tests at run time, and tables of what metamodels, values
-//! and the store do together, over small models.
+//! The conditions of the store's calls as tests at run time, for those who read what they give the
+//! store from outside.
 #![tactic(auto)]
 
 pub mod conditions;
-#[cfg(test)]
-mod tests;

@@ -3,5 +3,3 @@
 
 pub mod laws;
 pub mod loading;
-#[cfg(test)]
-mod tests;

@@ -5,5 +5,3 @@ pub mod given;
 mod live;
 mod named;
 mod room;
-#[cfg(test)]
-mod tests;

@@ -7,7 +7,7 @@ use qvt_base::outside::{Files, ReadAnswer, Sink, SinkAnswer, WriteAnswer};
 use qvt_base::real::{DirFiles, StdSink};
 use qvt_base::seq::Seq;
 use std::alloc::Global;
-use std::{fs, io};
+use std::fs;
 
 /// The bytes that are found, or the name of the answer.
 fn told(answer: &ReadAnswer) -> &[u8] {

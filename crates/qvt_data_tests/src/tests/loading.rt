@@ -1,21 +1,17 @@
-//! A library with its readers, loaded.
+//! A library with its books, loaded.
 
-ghost use Rattle.std.specs.Prelude.{[], None};
-ghost use Rattle.qvt_metamodel.specs.Added.{HasRoom};
-
-use crate::loading::{empty_store, load_text};
+use super::script::metas_of;
 use qvt_base::numbers::Oid;
 use qvt_base::seq::Seq;
 use qvt_base::text::Text;
 use qvt_checks::conditions::{are_named, can_assign};
-use qvt_meta::meta::read_meta;
-use qvt_metas::meta::Meta;
-use qvt_metas::metas::Metas;
+use qvt_conformed::loading::{empty_store, load_text};
 use qvt_model::id_table::IdTable;
 use qvt_store::extent::{Extent, ExtentList};
 use qvt_store::store::Store;
 use qvt_value::value::Value;
 use std::alloc::Global;
+use std::process::Abort;
 use std::test::Fail;
 
 const LIBRARY: &str =
@@ -24,42 +20,25 @@ const LIBRARY: &str =
 const TWO_BOOKS: &str =
     "{\"objects\":[{\"class\":\"Book\",\"id\":\"b1\",\"slots\":{\"library\":\"l\",\"pages\":7}},{\"class\":\"Library\",\"id\":\"l\",\"slots\":{\"books\":[\"b2\",\"b1\"],\"title\":\"all\"}},{\"class\":\"Book\",\"id\":\"b2\",\"slots\":{\"library\":\"l\"}}]}";
 
-fn only(alloc: Global, meta: Meta) -> Option<Metas>
-    requires { HasRoom (record { metamodels = []; classes = []; features = []; element = None }) meta }
-{
-    let mut metas = Metas::new(alloc);
-    metas.add(meta).ok()?;
-    Some(metas)
-}
-
-fn library(alloc: Global) -> Option<Metas> {
-    let meta = read_meta(alloc, LIBRARY.as_bytes()).ok()?;
-    meta.fits();
-    only(alloc, meta)
-}
-
-fn two_models(alloc: Global) -> Option<ExtentList> {
+fn two_models(alloc: Global) -> Result<ExtentList, Fail> {
     let mut extents = Seq::new(alloc);
     for name in ["m", "n"] {
-        let name = Text::from_str(alloc, name).ok()?;
-        let model = Extent {
-            name,
+        extents.push(Extent {
+            name: Text::from_str(alloc, name)?,
             metamodel: 0,
             writable: false,
-        };
-        extents.push(model).ok()?;
+        })?;
     }
-    Some(extents)
+    Ok(extents)
 }
 
 /// A store of two models of the library, without objects.
-fn store_of_two(alloc: Global) -> Option<Store> {
-    let metas = library(alloc)?;
+fn store_of_two(rt: &impl Abort, alloc: Global) -> Result<Store, Fail> {
+    let metas = metas_of(rt, alloc, LIBRARY)?;
     let extents = two_models(alloc)?;
-    if !are_named(&metas, &extents) {
-        return None;
-    }
-    empty_store(alloc, &metas, &extents)
+    assert!(rt; are_named(&metas, &extents));
+    let store = empty_store(alloc, &metas, &extents).ok_or("no store")?;
+    Ok(store)
 }
 
 fn slot_is(store: &Store, object: u32, name: &str, values: &[Value]) -> bool {
@@ -105,7 +84,7 @@ fn are_told(ids: &IdTable, first: u32) -> bool {
 #[test]
 fn two_models_are_loaded(rt: HostRuntime) -> Result<(), Fail> {
     let alloc = rt.alloc();
-    let mut store = store_of_two(alloc).ok_or("a store")?;
+    let mut store = store_of_two(&rt, alloc)?;
     let mut ids = IdTable::new(alloc);
     assert!(rt; load_text(alloc, &mut store, &mut ids, TWO_BOOKS.as_bytes(), 1, 0));
     assert!(rt; load_text(alloc, &mut store, &mut ids, TWO_BOOKS.as_bytes(), 0, 0));

@@ -1,3 +1,5 @@
 mod attributes;
+mod given;
+mod loading;
 mod opposites;
 mod script;

@@ -1,11 +1,11 @@
 //! Classes that come after no metamodels, each told in a line as `NAME/SUPERCLASSES/FEATURES`: the
 //! superclasses are numbers, and a feature is `NAME:TYPE`, with a star where it has no upper bound.
 
-use crate::given::are_given;
 use qvt_base::lists::ClassNoList;
 use qvt_base::numbers::{ClassNo, FeatureNo};
 use qvt_base::seq::Seq;
 use qvt_base::text::Text;
+use qvt_meta_given::given::are_given;
 use qvt_metamodel::given::{ClassData, ClassDataList, FeatureData, FeatureDataList};
 use qvt_metamodel::info::{FeatureShape, TypeKind};
 use qvt_metas::metas::Metas;
@@ -104,14 +104,76 @@ const CASES: [(&[&str], bool); 16] = [
 fn conditions_of_given_classes(rt: HostRuntime) -> Result<(), Fail> {
     let alloc = rt.alloc();
     let metas = Metas::new(alloc);
-    for (lines, expected) in CASES {
+    for (lines, expected) in &CASES {
         let classes = classes_of(alloc, lines)?;
-        assert_eq!(rt; are_given(alloc, &metas, &classes)?, expected);
+        let given = are_given(alloc, &metas, &classes)?;
+        assert!(rt; given == *expected, "{lines:?}");
     }
     Ok(())
 }
 
-/// Whether the first class descends from the second.
+/// The metamodels of these classes alone, with Element before them.
+fn extended(alloc: Global, lines: &[&str]) -> Result<Metas, Fail> {
+    let metas = Metas::new(alloc);
+    let classes = classes_of(alloc, lines)?;
+    if !are_given(alloc, &metas, &classes)? {
+        return Err(Fail::new("classes that can not come"));
+    }
+    let all = metas.extended(&classes)?;
+    Ok(all)
+}
+
+/// Whether there is one metamodel, without a name, and its classes have these names.
+fn has_classes(all: &Metas, names: &[&str]) -> bool {
+    if all.metamodel_count() != 1 || all.metamodel_name(0) != "" {
+        return false;
+    }
+    for (class, name) in (0u32..).zip(names) {
+        let class = ClassNo(class);
+        if all.class(0, name) != Some(class) || all.class_name(class) != *name {
+            return false;
+        }
+    }
+    all.class_count() as usize == names.len()
+}
+
+/// Whether each first class descends from the second exactly where it is told.
+fn descend(all: &Metas, descent: &[(u32, u32, bool)]) -> bool {
+    for (sub, sup, expected) in descent {
+        if all.descends(ClassNo(*sub), ClassNo(*sup)) != *expected {
+            return false;
+        }
+    }
+    true
+}
+
+/// Whether the class has these features, in this order.
+fn has_features(all: &Metas, class: ClassNo, features: &[(&str, u32)]) -> bool {
+    for (place, (name, number)) in features.iter().enumerate() {
+        let feature = FeatureNo(*number);
+        if all.features(class).get(place) != Some(&feature)
+            || all.feature(class, name) != Some(feature)
+            || all.place(class, feature) != Some(place)
+            || all.feature_name(feature) != *name
+        {
+            return false;
+        }
+    }
+    all.features(class).len() == features.len()
+}
+
+#[test]
+fn element_comes_alone(rt: HostRuntime) -> Result<(), Fail> {
+    let all = extended(rt.alloc(), &[])?;
+    assert!(rt; has_classes(&all, &["Element"]));
+    assert!(rt; all.is_abstract(ClassNo(0)));
+    assert!(rt; has_features(&all, ClassNo(0), &[]));
+    assert!(rt; descend(&all, &[(7, 0, true)]));
+    Ok(())
+}
+
+const TWO_CLASSES: [&str; 2] = ["Named//name:String", "Sized/1/size:Integer*"];
+
 const DESCENT: [(u32, u32, bool); 9] = [
     (0, 0, true),
     (1, 1, true),
@@ -125,68 +187,32 @@ const DESCENT: [(u32, u32, bool); 9] = [
 ];
 
 #[test]
-fn element_comes_alone(rt: HostRuntime) -> Result<(), Fail> {
-    let alloc = rt.alloc();
-    let metas = Metas::new(alloc);
-    let classes = classes_of(alloc, &[])?;
-    let given = are_given(alloc, &metas, &classes)?;
-    assert!(rt; given);
-    let all = metas.extended(&classes)?;
-    assert_eq!(rt; all.metamodel_count(), 1);
-    assert_eq!(rt; all.metamodel_name(0), "");
-    assert_eq!(rt; all.class_count(), 1);
-    assert_eq!(rt; all.class(0, "Element"), Some(ClassNo(0)));
-    assert_eq!(rt; all.class_name(ClassNo(0)), "Element");
-    assert!(rt; all.is_abstract(ClassNo(0)));
-    assert!(rt; all.features(ClassNo(0)).is_empty());
-    assert!(rt; all.descends(ClassNo(7), ClassNo(0)));
+fn given_classes_are_looked_up(rt: HostRuntime) -> Result<(), Fail> {
+    let all = extended(rt.alloc(), &TWO_CLASSES)?;
+    assert!(rt; has_classes(&all, &["Element", "Named", "Sized"]));
+    assert!(rt; all.class(0, "name").is_none());
+    assert!(rt; !all.is_abstract(ClassNo(2)));
+    assert!(rt; descend(&all, &DESCENT));
     Ok(())
 }
 
-#[test]
-fn given_classes_are_looked_up(rt: HostRuntime) -> Result<(), Fail> {
-    let alloc = rt.alloc();
-    let metas = Metas::new(alloc);
-    let classes = classes_of(alloc, &["Named//name:String", "Sized/1/size:Integer*"])?;
-    let given = are_given(alloc, &metas, &classes)?;
-    assert!(rt; given);
-    let all = metas.extended(&classes)?;
-    assert_eq!(rt; all.metamodel_count(), 1);
-    assert_eq!(rt; all.metamodel_name(0), "");
-    assert_eq!(rt; all.class_count(), 3);
-    assert_eq!(rt; all.class(0, "Element"), Some(ClassNo(0)));
-    assert_eq!(rt; all.class(0, "Named"), Some(ClassNo(1)));
-    assert_eq!(rt; all.class(0, "Sized"), Some(ClassNo(2)));
-    assert_eq!(rt; all.class(0, "name"), None);
-    assert_eq!(rt; all.class_name(ClassNo(2)), "Sized");
-    assert!(rt; !all.is_abstract(ClassNo(2)));
-    for (sub, sup, expected) in DESCENT {
-        assert_eq!(rt; all.descends(ClassNo(sub), ClassNo(sup)), expected);
-    }
-    Ok(())
+/// Whether the first class has the first feature alone, and the second both.
+fn has_their_features(all: &Metas) -> bool {
+    let (named, sized) = (ClassNo(1), ClassNo(2));
+    has_features(all, ClassNo(0), &[])
+        && has_features(all, named, &[("name", 0)])
+        && has_features(all, sized, &[("name", 0), ("size", 1)])
+        && all.feature(named, "size").is_none()
+        && all.place(named, FeatureNo(1)).is_none()
 }
 
 #[test]
 fn features_of_given_classes_are_looked_up(rt: HostRuntime) -> Result<(), Fail> {
-    let alloc = rt.alloc();
-    let metas = Metas::new(alloc);
-    let classes = classes_of(alloc, &["Named//name:String", "Sized/1/size:Integer*"])?;
-    let given = are_given(alloc, &metas, &classes)?;
-    assert!(rt; given);
-    let all = metas.extended(&classes)?;
-    let (named, sized) = (ClassNo(1), ClassNo(2));
+    let all = extended(rt.alloc(), &TWO_CLASSES)?;
     let (name, size) = (FeatureNo(0), FeatureNo(1));
-    assert_eq!(rt; all.features(ClassNo(0)), [].as_slice());
-    assert_eq!(rt; all.features(named), [name].as_slice());
-    assert_eq!(rt; all.features(sized), [name, size].as_slice());
-    assert_eq!(rt; all.feature(sized, "name"), Some(name));
-    assert_eq!(rt; all.feature(sized, "size"), Some(size));
-    assert_eq!(rt; all.feature(named, "size"), None);
-    assert_eq!(rt; all.place(sized, size), Some(1));
-    assert_eq!(rt; all.place(named, size), None);
-    assert_eq!(rt; all.feature_name(size), "size");
-    assert_eq!(rt; all.shape(name), shape(TypeKind::Str, Some(1)));
-    assert_eq!(rt; all.shape(size), shape(TypeKind::Int, None));
-    assert_eq!(rt; all.opposite(size), None);
+    assert!(rt; has_their_features(&all));
+    assert!(rt; all.shape(name) == shape(TypeKind::Str, Some(1)));
+    assert!(rt; all.shape(size) == shape(TypeKind::Int, None));
+    assert!(rt; all.opposite(size).is_none());
     Ok(())
 }

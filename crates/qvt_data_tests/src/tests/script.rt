@@ -1,9 +1,9 @@
 //! Stores made from a metamodel's text and a list of classes, and changed as lines say.
 
-use crate::conditions::{are_named, can_assign, can_place, is_class_for};
 use qvt_base::numbers::{FeatureNo, Oid};
 use qvt_base::seq::Seq;
 use qvt_base::text::Text;
+use qvt_checks::conditions::{are_named, can_assign, can_place, is_class_for};
 use qvt_meta::meta::read_meta;
 use qvt_metas::metas::Metas;
 use qvt_store::extent::{Extent, ExtentList};
