@@ -6,7 +6,7 @@ use qvt_base::seq::Seq;
 use qvt_base::text::Text;
 
 /// A model of a job: its file, and the name of the model parameter that it is for.
-#[derive(Debug, Drop)]
+#[derive(Drop)]
 pub struct JobModel {
     pub file: Text,
     pub model: Text,
@@ -15,7 +15,7 @@ pub struct JobModel {
 pub type JobModelList = Seq<JobModel>;
 
 /// A job: the files of a run, and its fuel.
-#[derive(Debug, Drop)]
+#[derive(Drop)]
 pub struct Job {
     pub fuel: u64,
     pub inputs: JobModelList,
@@ -26,7 +26,7 @@ pub struct Job {
 }
 
 /// Why a file is no job.
-#[derive(Debug, Drop)]
+#[derive(Drop)]
 pub enum JobFault {
     /// There was no memory.
     NoMemory,

@@ -20,9 +20,9 @@ fn meta_stop(alloc: Global, name: &Text, why: MetaFault) -> Stop
     ensures stop { StopsBy MetaFault.NoMemory Refusal.Metamodel name.now why result }
     ensures no_reads { IsFaultWith result (λ file. ⊥) }
 {
-    match why {
+    match &why {
         MetaFault::NoMemory => Stop::NoMemory,
-        why => refused(alloc, name, Refusal::Metamodel(why)),
+        _ => refused(alloc, name, Refusal::Metamodel(why)),
     }
 }
 

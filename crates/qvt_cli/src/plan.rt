@@ -11,7 +11,7 @@ use qvt_base::seq::Seq;
 use qvt_base::text::Text;
 
 /// A file that is to be written, with its bytes and the line that tells of its failure.
-#[derive(Debug, Drop)]
+#[derive(Drop)]
 pub struct Output {
     pub file: Text,
     pub bytes: Bytes,
@@ -20,7 +20,6 @@ pub struct Output {
 
 /// All that a command writes: its files in order, then a line. Every byte is made before the first
 /// write.
-#[derive(Debug)]
 pub struct Plan {
     pub outputs: Seq<Output>,
     pub line: Bytes,

@@ -5,7 +5,6 @@ use qvt_model::data::ModelFault;
 use qvt_parsed::fault::ParseFault;
 
 /// Why a file was refused.
-#[derive(Debug)]
 pub enum Refusal {
     /// The files hold no such name.
     Missing,

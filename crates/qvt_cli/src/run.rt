@@ -31,7 +31,7 @@ use qvt_tree_types::module::Module;
 use std::alloc::{AllocError, Global};
 
 /// A job with one metamodel, one output, no input and no trace.
-#[derive(Debug, Drop)]
+#[derive(Drop)]
 pub struct SmallJob {
     pub fuel: u64,
     pub metamodel: Text,

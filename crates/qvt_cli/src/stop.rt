@@ -3,7 +3,6 @@ use qvt_base::list_fault::ListFault;
 use qvt_base::text::Text;
 
 /// Why the work of a command ended before its end.
-#[derive(Debug)]
 pub enum Stop {
     /// A file was refused.
     Refused(Text, Refusal),

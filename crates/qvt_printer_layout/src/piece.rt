@@ -2,7 +2,7 @@ use qvt_base::text::Text;
 use qvt_parser_grammar::token::Class;
 
 /// A part of the printed text, or how the parts after it stand.
-#[derive(Debug, Drop)]
+#[derive(Drop)]
 pub enum Piece {
     /// A sign or a reserved word.
     Plain(Class),

@@ -32,7 +32,7 @@ use std::marker::Model;
 
 /// Objects of numbered extents with their slots. Objects are numbered from 0 in the order in which
 /// they are added.
-#[derive(Debug, Drop)]
+#[derive(Drop)]
 pub struct Store {
     metas: Metas,
     extents: ExtentList,
