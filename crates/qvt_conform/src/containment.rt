@@ -18,11 +18,20 @@ use qvt_metas::metas::Metas;
 use qvt_model::data::ObjectData;
 use std::alloc::Global;
 
-#[derive(Drop)]
 pub struct Containment {
     contents: Seq<Positions>,
     counts: Vec<u32>,
     cycles: Cycles,
+}
+
+impl Drop for Containment {
+    fn drop(self) {
+        let Containment {
+            contents,
+            counts,
+            cycles,
+        } = self;
+    }
 }
 
 impl Containment {

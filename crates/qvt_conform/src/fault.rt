@@ -7,7 +7,6 @@ use std::alloc::AllocError;
 
 /// Why a model does not conform to its metamodel: the id of an object, and the name of a feature of
 /// its class.
-#[derive(Debug, Drop, PartialEq, Eq)]
 pub enum ConformFault {
     /// There was no memory.
     NoMemory,
@@ -23,6 +22,20 @@ pub enum ConformFault {
     TwoContainers(Text),
     /// The object is inside itself.
     ContainmentCycle(Text),
+}
+
+impl Drop for ConformFault {
+    fn drop(self) {
+        match self {
+            ConformFault::NoMemory => {}
+            ConformFault::Abstract(id) => {}
+            ConformFault::Bounds(id, feature) => {}
+            ConformFault::NotUnique(id, feature) => {}
+            ConformFault::Opposite(id, feature) => {}
+            ConformFault::TwoContainers(id) => {}
+            ConformFault::ContainmentCycle(id) => {}
+        }
+    }
 }
 
 impl From<ListFault> for ConformFault {
@@ -46,7 +59,7 @@ impl From<AllocError> for ConformFault {
 }
 
 /// An object that holds fewer items for a feature of its class than the lower bound.
-#[derive(Clone, Copy, Debug, PartialEq, Eq)]
+#[derive(Clone, Copy)]
 pub struct LowFault {
     pub object: Oid,
     pub feature: FeatureNo,

@@ -20,9 +20,14 @@ pub struct Link {
 }
 
 /// References, looked up by hash.
-#[derive(Drop)]
 pub struct Links {
     keys: IndexSet<Link>,
+}
+
+impl Drop for Links {
+    fn drop(self) {
+        let Links { keys } = self;
+    }
 }
 
 impl Model for Links {

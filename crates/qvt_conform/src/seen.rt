@@ -11,9 +11,14 @@ use std::alloc::Global;
 use std::marker::Model;
 
 /// Items that were seen, looked up by hash.
-#[derive(Drop)]
 pub struct Seen<'a> {
     keys: IndexSet<&'a Datum>,
+}
+
+impl Drop for Seen<'_> {
+    fn drop(self) {
+        let Seen { keys } = self;
+    }
 }
 
 impl<'a> Model for Seen<'a> {

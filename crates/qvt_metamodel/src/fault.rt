@@ -30,13 +30,13 @@ impl Drop for MetaFault {
         match self {
             MetaFault::NoMemory => {}
             MetaFault::Json => {}
-            MetaFault::Shape(a) => {}
-            MetaFault::SameName(a) => {}
-            MetaFault::UnknownType(a, b) => {}
-            MetaFault::InheritanceCycle(a) => {}
-            MetaFault::BadBounds(a, b) => {}
-            MetaFault::BadOpposite(a, b) => {}
-            MetaFault::SameFeature(a, b) => {}
+            MetaFault::Shape(path) => {}
+            MetaFault::SameName(name) => {}
+            MetaFault::UnknownType(class, name) => {}
+            MetaFault::InheritanceCycle(class) => {}
+            MetaFault::BadBounds(class, feature) => {}
+            MetaFault::BadOpposite(class, feature) => {}
+            MetaFault::SameFeature(class, name) => {}
         }
     }
 }
@@ -63,7 +63,7 @@ pub enum MetasFault {
 impl Drop for MetasFault {
     fn drop(self) {
         match self {
-            MetasFault::SameMetamodel(a) => {}
+            MetasFault::SameMetamodel(name) => {}
             MetasFault::NoMemory => {}
         }
     }

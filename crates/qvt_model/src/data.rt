@@ -7,7 +7,7 @@ use qvt_base::text::Text;
 use qvt_value::value::LiteralRef;
 
 /// An item of a slot.
-#[derive(Debug, Drop, PartialEq, Eq, Hash)]
+#[derive(PartialEq, Eq, Hash)]
 pub enum Datum {
     Bool(bool),
     Int(i64),
@@ -17,35 +17,61 @@ pub enum Datum {
     Ref(u32),
 }
 
+impl Drop for Datum {
+    fn drop(self) {
+        match self {
+            Datum::Bool(flag) => {}
+            Datum::Int(number) => {}
+            Datum::Str(text) => {}
+            Datum::Literal(literal) => {}
+            Datum::Ref(place) => {}
+        }
+    }
+}
+
 pub type DatumList = Seq<Datum>;
 
 /// What an object holds for a feature.
-#[derive(Debug, Drop)]
 pub struct SlotData {
     pub feature: FeatureNo,
     pub items: DatumList,
 }
 
+impl Drop for SlotData {
+    fn drop(self) {
+        let SlotData { feature, items } = self;
+    }
+}
+
 pub type SlotList = Seq<SlotData>;
 
 /// An object of a model: its slots that are not empty, in byte order of the features' names.
-#[derive(Debug, Drop)]
 pub struct ObjectData {
     pub class: ClassNo,
     pub id: Text,
     pub slots: SlotList,
 }
 
+impl Drop for ObjectData {
+    fn drop(self) {
+        let ObjectData { class, id, slots } = self;
+    }
+}
+
 pub type ObjectList = Seq<ObjectData>;
 
 /// The data of a model: its objects in the order of its file.
-#[derive(Debug, Drop)]
 pub struct ModelData {
     pub objects: ObjectList,
 }
 
+impl Drop for ModelData {
+    fn drop(self) {
+        let ModelData { objects } = self;
+    }
+}
+
 /// Why a file is no model of a metamodel. The checks stand in the order in which they are made.
-#[derive(Debug, Drop)]
 pub enum ModelFault {
     /// There was no memory.
     NoMemory,
@@ -63,6 +89,21 @@ pub enum ModelFault {
     WrongValue(Text, Text),
     /// The object of this id refers by this feature to an object that is not there.
     DanglingId(Text, Text),
+}
+
+impl Drop for ModelFault {
+    fn drop(self) {
+        match self {
+            ModelFault::NoMemory => {}
+            ModelFault::Json => {}
+            ModelFault::Shape(path) => {}
+            ModelFault::SameId(id) => {}
+            ModelFault::UnknownClass(id) => {}
+            ModelFault::UnknownFeature(id) => {}
+            ModelFault::WrongValue(id, feature) => {}
+            ModelFault::DanglingId(id, feature) => {}
+        }
+    }
 }
 
 impl From<ListFault> for ModelFault {

@@ -8,9 +8,14 @@ use std::alloc::Global;
 use std::marker::Model;
 
 /// The ids that the objects of a store have in their files.
-#[derive(Debug, Drop)]
 pub struct IdTable {
     ids: Vec<Option<Text>>,
+}
+
+impl Drop for IdTable {
+    fn drop(self) {
+        let IdTable { ids } = self;
+    }
 }
 
 impl Model for IdTable {

@@ -8,9 +8,14 @@ use std::alloc::Global;
 use std::marker::Model;
 
 /// The ids of the objects of a model, in their order, looked up by hash.
-#[derive(Drop)]
 pub struct IdSet {
     keys: IndexSet<String>,
+}
+
+impl Drop for IdSet {
+    fn drop(self) {
+        let IdSet { keys } = self;
+    }
 }
 
 impl Model for IdSet {

@@ -7,9 +7,14 @@ use std::alloc::Global;
 use std::marker::Model;
 
 /// Numbers in an order of their own, each once, looked up by hash.
-#[derive(Drop)]
 pub struct NumberSet {
     keys: IndexSet<u32>,
+}
+
+impl Drop for NumberSet {
+    fn drop(self) {
+        let NumberSet { keys } = self;
+    }
 }
 
 impl Model for NumberSet {

@@ -4,14 +4,14 @@ use qvt_base::numbers::{ClassNo, FeatureNo, Oid};
 use qvt_value::value::Values;
 
 /// The containment slot that an object stands in.
-#[derive(Debug, Clone, Copy, PartialEq, Eq)]
+#[derive(Clone, Copy)]
 pub struct Holder {
     pub object: Oid,
     pub feature: FeatureNo,
 }
 
 /// What is known of all slots. Where a mark is not set, nothing is known.
-#[derive(Debug, Clone, Copy, PartialEq, Eq)]
+#[derive(Clone, Copy)]
 pub struct Marks {
     /// No unique slot holds a value twice.
     pub distinct: bool,
@@ -20,12 +20,22 @@ pub struct Marks {
 }
 
 /// An object with its slots, in the order of the features of its class.
-#[derive(Debug, Drop)]
 pub struct Cell {
     pub class: ClassNo,
     pub extent: u32,
     pub slots: Vec<Values>,
     pub holder: Option<Holder>,
+}
+
+impl Drop for Cell {
+    fn drop(self) {
+        let Cell {
+            class,
+            extent,
+            slots,
+            holder,
+        } = self;
+    }
 }
 
 /// What is known where one more slot gets a list, which crosses to another extent or does not, and

@@ -16,7 +16,7 @@ use qvt_metas::metas::Metas;
 use qvt_value::value::{Value, Values};
 
 /// A slot with its new list.
-#[derive(Debug, Drop)]
+#[derive(Drop)]
 pub struct Write {
     pub object: Oid,
     pub feature: FeatureNo,

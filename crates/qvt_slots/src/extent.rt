@@ -6,11 +6,20 @@ use std::alloc::Global;
 
 /// A set of objects of one metamodel: a model, named, or the intermediate instances, whose extent
 /// has an empty name. Only objects of a writable extent can be changed.
-#[derive(Debug, Drop)]
 pub struct Extent {
     pub name: Text,
     pub metamodel: u32,
     pub writable: bool,
+}
+
+impl Drop for Extent {
+    fn drop(self) {
+        let Extent {
+            name,
+            metamodel,
+            writable,
+        } = self;
+    }
 }
 
 pub type ExtentList = Seq<Extent>;

@@ -18,10 +18,15 @@ use std::marker::Model;
 const FEW: usize = 8;
 
 /// A list of objects.
-#[derive(Debug, Drop)]
 pub struct Objects {
     list: OidList,
     numbers: IndexSet<u32>,
+}
+
+impl Drop for Objects {
+    fn drop(self) {
+        let Objects { list, numbers } = self;
+    }
 }
 
 impl Model for Objects {

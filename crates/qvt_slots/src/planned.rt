@@ -15,17 +15,22 @@ use std::marker::Model;
 const FEW: usize = 8;
 
 /// A slot, by the numbers of its object and of its feature.
-#[derive(Clone, Copy, Debug, PartialEq, Eq, Hash)]
+#[derive(Clone, Copy, PartialEq, Eq, Hash)]
 pub struct SlotKey {
     pub object: u32,
     pub feature: u32,
 }
 
 /// A list of writes.
-#[derive(Debug, Drop)]
 pub struct Planned {
     writes: Vec<Write>,
     later: IndexSet<SlotKey>,
+}
+
+impl Drop for Planned {
+    fn drop(self) {
+        let Planned { writes, later } = self;
+    }
 }
 
 impl Model for Planned {

@@ -12,9 +12,14 @@ use std::alloc::Global;
 use std::marker::Model;
 
 /// Values of slots that were noted, looked up by hash.
-#[derive(Drop)]
 pub struct Seen<'a> {
     keys: IndexSet<&'a Value>,
+}
+
+impl Drop for Seen<'_> {
+    fn drop(self) {
+        let Seen { keys } = self;
+    }
 }
 
 impl<'a> Model for Seen<'a> {

@@ -14,21 +14,30 @@ use qvt_tree_types::words::Direction;
 use std::alloc::Global;
 
 /// An assignment of a literal to an attribute.
-#[derive(Debug, Drop)]
 pub struct Assignment {
     pub attribute: Text,
     pub value: i64,
 }
 
+impl Drop for Assignment {
+    fn drop(self) {
+        let Assignment { attribute, value } = self;
+    }
+}
+
 /// An object that is made, with its assignments in order.
-#[derive(Debug, Drop)]
 pub struct SmallObject {
     pub class: Text,
     pub assignments: Seq<Assignment>,
 }
 
+impl Drop for SmallObject {
+    fn drop(self) {
+        let SmallObject { class, assignments } = self;
+    }
+}
+
 /// A transformation whose `main` makes objects with literals.
-#[derive(Debug, Drop)]
 pub struct SmallText {
     /// The name that the text gives to its metamodel.
     pub type_name: Text,
@@ -37,6 +46,18 @@ pub struct SmallText {
     pub parameter: Text,
     pub parameter_type: Text,
     pub objects: Seq<SmallObject>,
+}
+
+impl Drop for SmallText {
+    fn drop(self) {
+        let SmallText {
+            type_name,
+            uses,
+            parameter,
+            parameter_type,
+            objects,
+        } = self;
+    }
 }
 
 /// The name of a bare target.

@@ -32,13 +32,24 @@ use std::marker::Model;
 
 /// Objects of numbered extents with their slots. Objects are numbered from 0 in the order in which
 /// they are added.
-#[derive(Drop)]
 pub struct Store {
     metas: Metas,
     extents: ExtentList,
     cells: Vec<Cell>,
     members: Vec<OidList>,
     marks: Marks,
+}
+
+impl Drop for Store {
+    fn drop(self) {
+        let Store {
+            metas,
+            extents,
+            cells,
+            members,
+            marks,
+        } = self;
+    }
 }
 
 impl Model for Store {
