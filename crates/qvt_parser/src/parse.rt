@@ -70,6 +70,3 @@ pub fn parse(alloc: Global, text: &str) -> Result<Module, ParseFault>
     parsing();
     parse_text(alloc, text)
 }
-
-#[cfg(test)]
-mod tests;

@@ -1,4 +1,5 @@
-//! Texts that are read and printed, and what is printed for them (QVT 1.3, 8.4).
+//! Tests of texts that are read, have a fault, or are printed (QVT 1.3, 8.4). Nothing stands on this
+//! crate.
 #![tactic(auto)]
 
 #[cfg(test)]
