@@ -33,9 +33,9 @@ fn model_stop(alloc: Global, name: &Text, why: ModelFault) -> Stop
     ensures stop { StopsBy ModelFault.NoMemory Refusal.Model name.now why result }
     ensures no_reads { IsFaultWith result (λ file. ⊥) }
 {
-    match why {
+    match &why {
         ModelFault::NoMemory => Stop::NoMemory,
-        why => refused(alloc, name, Refusal::Model(why)),
+        _ => refused(alloc, name, Refusal::Model(why)),
     }
 }
 
@@ -44,9 +44,9 @@ fn conform_stop(alloc: Global, name: &Text, why: ConformFault) -> Stop
     ensures stop { StopsBy ConformFault.NoMemory Refusal.Conform name.now why result }
     ensures no_reads { IsFaultWith result (λ file. ⊥) }
 {
-    match why {
+    match &why {
         ConformFault::NoMemory => Stop::NoMemory,
-        why => refused(alloc, name, Refusal::Conform(why)),
+        _ => refused(alloc, name, Refusal::Conform(why)),
     }
 }
 
