@@ -16,8 +16,6 @@ pub mod run;
 pub mod source;
 pub mod status;
 pub mod stop;
-#[cfg(test)]
-mod tests;
 pub mod top;
 pub mod words;
 pub mod work;

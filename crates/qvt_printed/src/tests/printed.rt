@@ -101,7 +101,10 @@ const UNITS: [(&str, &str); 14] = [
 #[test]
 fn heads_and_units(rt: HostRuntime) {
     for (units, expected) in &UNITS {
-        assert!(rt; are_units(rt.alloc(), units, expected) == Ok(true), "{units}");
+        assert!(rt;
+            are_units(rt.alloc(), units, expected) == Ok(true),
+            "{units}"
+        );
     }
 }
 
@@ -151,7 +154,10 @@ const STATEMENTS: [(&str, &str); 7] = [
 #[test]
 fn statements_and_blocks(rt: HostRuntime) {
     for (body, expected) in &STATEMENTS {
-        assert!(rt; are_statements(rt.alloc(), body, expected) == Ok(true), "{body}");
+        assert!(rt;
+            are_statements(rt.alloc(), body, expected) == Ok(true),
+            "{body}"
+        );
     }
 }
 
@@ -205,7 +211,10 @@ const EXPRESSIONS: [(&str, &str); 34] = [
 #[test]
 fn expressions(rt: HostRuntime) {
     for (text, expected) in &EXPRESSIONS {
-        assert!(rt; is_expression(rt.alloc(), text, expected) == Ok(true), "{text}");
+        assert!(rt;
+            is_expression(rt.alloc(), text, expected) == Ok(true),
+            "{text}"
+        );
     }
 }
 
@@ -238,7 +247,10 @@ const SIGNS: [(&str, &str); 17] = [
 #[test]
 fn brackets_and_signs(rt: HostRuntime) {
     for (text, expected) in &SIGNS {
-        assert!(rt; is_expression(rt.alloc(), text, expected) == Ok(true), "{text}");
+        assert!(rt;
+            is_expression(rt.alloc(), text, expected) == Ok(true),
+            "{text}"
+        );
     }
 }
 
@@ -257,6 +269,9 @@ const NAMES: [(&str, &str); 9] = [
 #[test]
 fn names_numbers_and_strings(rt: HostRuntime) {
     for (text, expected) in &NAMES {
-        assert!(rt; is_expression(rt.alloc(), text, expected) == Ok(true), "{text}");
+        assert!(rt;
+            is_expression(rt.alloc(), text, expected) == Ok(true),
+            "{text}"
+        );
     }
 }

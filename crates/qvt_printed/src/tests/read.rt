@@ -44,7 +44,8 @@ fn answer(alloc: Global, text: &str) -> Told {
     }
 }
 
-const OBJECT: &str = "modeltype MT uses 'M';\ntransformation T(out t : MT);\nmain() { object C { a := ";
+const OBJECT: &str =
+    "modeltype MT uses 'M';\ntransformation T(out t : MT);\nmain() { object C { a := ";
 
 /// What stands in place of the value of an attribute, and what is told of it. In the one that is
 /// too deep one more pair of brackets is open than may be here.
