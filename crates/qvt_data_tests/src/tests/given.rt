@@ -72,32 +72,32 @@ fn class_of(alloc: Global, line: &str) -> Result<ClassData, Fail> {
     })
 }
 
-fn classes_of(alloc: Global, lines: &[&str]) -> Result<ClassDataList, Fail> {
+fn classes_of(alloc: Global, lines: &str) -> Result<ClassDataList, Fail> {
     let mut classes = Seq::new(alloc);
-    for line in lines {
+    for line in lines.lines() {
         classes.push(class_of(alloc, line)?)?;
     }
     Ok(classes)
 }
 
 /// Classes, and whether they can come. Element has the number 0, and the first of them 1.
-const CASES: [(&[&str], bool); 16] = [
-    (&[], true),
-    (&["A//"], true),
-    (&["A//name:String", "B/1/size:Integer*"], true),
-    (&["A/2/name:String", "B//size:Integer*"], true),
-    (&["A//b:Boolean e:0 a:1 c:2*", "B//"], true),
-    (&["A//x:Integer", "B//x:Integer"], true),
-    (&["A//x:Integer", "B/1/", "C/1/", "D/2 3/y:4"], true),
-    (&["A//x:Integer x:String"], false),
-    (&["A//x:Integer", "B/1/x:String"], false),
-    (&["A//x:Integer", "B//x:Integer", "C/1 2/"], false),
-    (&["A/1/"], false),
-    (&["A/2/", "B/1/"], false),
-    (&["A/0/"], false),
-    (&["A//", "B/3/"], false),
-    (&["A//c:2"], false),
-    (&["A//e:Enumeration"], false),
+const CASES: [(&str, bool); 16] = [
+    ("", true),
+    ("A//", true),
+    ("A//name:String\nB/1/size:Integer*", true),
+    ("A/2/name:String\nB//size:Integer*", true),
+    ("A//b:Boolean e:0 a:1 c:2*\nB//", true),
+    ("A//x:Integer\nB//x:Integer", true),
+    ("A//x:Integer\nB/1/\nC/1/\nD/2 3/y:4", true),
+    ("A//x:Integer x:String", false),
+    ("A//x:Integer\nB/1/x:String", false),
+    ("A//x:Integer\nB//x:Integer\nC/1 2/", false),
+    ("A/1/", false),
+    ("A/2/\nB/1/", false),
+    ("A/0/", false),
+    ("A//\nB/3/", false),
+    ("A//c:2", false),
+    ("A//e:Enumeration", false),
 ];
 
 #[test]
@@ -113,14 +113,16 @@ fn conditions_of_given_classes(rt: HostRuntime) -> Result<(), Fail> {
 }
 
 /// The metamodels of these classes alone, with Element before them.
-fn extended(alloc: Global, lines: &[&str]) -> Result<Metas, Fail> {
+fn extended(alloc: Global, lines: &str) -> Result<Metas, Fail> {
     let metas = Metas::new(alloc);
     let classes = classes_of(alloc, lines)?;
     if !are_given(alloc, &metas, &classes)? {
         return Err(Fail::new("classes that can not come"));
     }
-    let all = metas.extended(&classes)?;
-    Ok(all)
+    match metas.extended(&classes) {
+        Ok(all) => Ok(all),
+        Err(_) => Err(Fail::new("no memory for the classes")),
+    }
 }
 
 /// Whether there is one metamodel, without a name, and its classes have these names.
@@ -164,7 +166,7 @@ fn has_features(all: &Metas, class: ClassNo, features: &[(&str, u32)]) -> bool {
 
 #[test]
 fn element_comes_alone(rt: HostRuntime) -> Result<(), Fail> {
-    let all = extended(rt.alloc(), &[])?;
+    let all = extended(rt.alloc(), "")?;
     assert!(rt; has_classes(&all, &["Element"]));
     assert!(rt; all.is_abstract(ClassNo(0)));
     assert!(rt; has_features(&all, ClassNo(0), &[]));
@@ -172,7 +174,7 @@ fn element_comes_alone(rt: HostRuntime) -> Result<(), Fail> {
     Ok(())
 }
 
-const TWO_CLASSES: [&str; 2] = ["Named//name:String", "Sized/1/size:Integer*"];
+const TWO_CLASSES: &str = "Named//name:String\nSized/1/size:Integer*";
 
 const DESCENT: [(u32, u32, bool); 9] = [
     (0, 0, true),
@@ -188,7 +190,7 @@ const DESCENT: [(u32, u32, bool); 9] = [
 
 #[test]
 fn given_classes_are_looked_up(rt: HostRuntime) -> Result<(), Fail> {
-    let all = extended(rt.alloc(), &TWO_CLASSES)?;
+    let all = extended(rt.alloc(), TWO_CLASSES)?;
     assert!(rt; has_classes(&all, &["Element", "Named", "Sized"]));
     assert!(rt; all.class(0, "name").is_none());
     assert!(rt; !all.is_abstract(ClassNo(2)));
@@ -208,7 +210,7 @@ fn has_their_features(all: &Metas) -> bool {
 
 #[test]
 fn features_of_given_classes_are_looked_up(rt: HostRuntime) -> Result<(), Fail> {
-    let all = extended(rt.alloc(), &TWO_CLASSES)?;
+    let all = extended(rt.alloc(), TWO_CLASSES)?;
     let (name, size) = (FeatureNo(0), FeatureNo(1));
     assert!(rt; has_their_features(&all));
     assert!(rt; all.shape(name) == shape(TypeKind::Str, Some(1)));

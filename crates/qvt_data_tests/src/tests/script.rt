@@ -16,11 +16,15 @@ use std::test::Fail;
 
 /// The one metamodel of this text.
 pub fn metas_of(rt: &impl Abort, alloc: Global, meta: &str) -> Result<Metas, Fail> {
-    let meta = read_meta(alloc, meta.as_bytes())?;
+    let Ok(meta) = read_meta(alloc, meta.as_bytes()) else {
+        return Err(Fail::new("a metamodel that is refused"));
+    };
     let mut metas = Metas::new(alloc);
     assert!(rt; metas.has_room(&meta));
-    metas.add(meta)?;
-    Ok(metas)
+    match metas.add(meta) {
+        Ok(()) => Ok(metas),
+        Err(_) => Err(Fail::new("no memory for the metamodel")),
+    }
 }
 
 fn extent(alloc: Global, name: &str, writable: bool) -> Result<Extent, Fail> {
