@@ -1,27 +1,24 @@
 //! Collections made of lists (OCL 2.4, 11.6).
 
-ghost use Rattle.std.specs.Prelude.{◌≡◌, ◌≢◌, ◌≤◌, false, length, IfOk, IsOk, List, []};
-ghost use Rattle.std.specs.List.{list_any};
+ghost use Rattle.std.specs.Prelude.{◌≡◌, ◌≢◌, IfOk, IsOk, List, []};
 ghost use Rattle.indexmap.specs.IndexSet.{insert_all};
 ghost use Rattle.qvt_value.specs.contracts.value.ValuePartialEq.TheImpl.{ghosts};
 ghost use Rattle.qvt_value.specs.declared.value.Value.{Value};
 ghost use Rattle.qvt_value.specs.Kept.{sorted, firsts};
-ghost use Rattle.qvt_value.specs.Make.{IsMade, made, is_invalid};
+ghost use Rattle.qvt_value.specs.Limits.{built};
+ghost use Rattle.qvt_value.specs.Make.{IsMade, made};
 ghost use Rattle.qvt_value.specs.Order.{order_of};
 
 use crate::fault::ValueFault;
+use crate::limits::limited;
 use crate::value::{Kind, Value, Values};
 use indexmap::IndexSet;
+use qvt_base::numbers::Place;
 use qvt_base::seq::Seq;
 use std::alloc::Global;
 
-/// How many items a collection holds at most.
-pub const MOST_ITEMS: usize = 1_000_000;
-
-/// Makes the items a collection of the kind. Only an OrderedSet takes memory.
+/// Makes the items a collection of the kind, however many they are. Only an OrderedSet takes memory.
 pub fn make(alloc: Global, kind: Kind, items: Values) -> Result<Value, ValueFault>
-    requires few { length items ≤ MOST_ITEMS }
-    requires none_invalid { list_any is_invalid items ≡ false }
     ensures keeps { IfOk result (λ v. (ys : List Value) × (v ≡ Value.Coll kind ys) × IsMade kind items ys) }
     ensures is { IfOk result (λ v. v ≡ Value.Coll kind (made kind items)) }
     ensures memory { kind ≢ Kind.OrderedSet → IsOk result }
@@ -33,6 +30,15 @@ pub fn make(alloc: Global, kind: Kind, items: Values) -> Result<Value, ValueFaul
         Kind::OrderedSet => each_first(alloc, items)?,
     };
     Ok(Value::Coll(kind, items))
+}
+
+/// Makes the items a collection of the kind. Where that has too many items, it is invalid.
+#[tactic(auto, unfolding(crate::specs::Limits::built))]
+pub fn make_within(alloc: Global, place: Place, kind: Kind, items: Values) -> Result<Value, ValueFault>
+    ensures { IfOk result (λ v. v ≡ built place kind items) }
+{
+    let made = make(alloc, kind, items)?;
+    Ok(limited(place, made))
 }
 
 fn in_order(mut items: Values) -> Values
@@ -78,10 +84,7 @@ mod tests {
     use qvt_base::list_fault::ListFault;
     use std::test::Fail;
 
-    fn three_one_three_two(alloc: Global) -> Result<Values, ListFault>
-        ensures few { IfOk result (λ items. length items ≤ MOST_ITEMS) }
-        ensures none_invalid { IfOk result (λ items. list_any is_invalid items ≡ false) }
-    {
+    fn three_one_three_two(alloc: Global) -> Result<Values, ListFault> {
         let mut items = Seq::new(alloc);
         items.push(Value::Int(3))?;
         items.push(Value::Int(1))?;
