@@ -2,4 +2,5 @@
 #![tactic(auto)]
 
 pub mod boxed;
+pub mod kinds;
 pub mod ty;
