@@ -20,10 +20,16 @@ pub struct Output {
 
 /// All that a command writes: its files in order, then a line. Every byte is made before the first
 /// write.
-#[derive(Debug, Drop)]
+#[derive(Debug)]
 pub struct Plan {
     pub outputs: Seq<Output>,
     pub line: Bytes,
+}
+
+impl Drop for Plan {
+    fn drop(self) {
+        let Plan { outputs, line } = self;
+    }
 }
 
 /// Writes the files in order, up to the first that fails, whose place is told.

@@ -5,7 +5,7 @@ use qvt_model::data::ModelFault;
 use qvt_parsed::fault::ParseFault;
 
 /// Why a file was refused.
-#[derive(Debug, Drop)]
+#[derive(Debug)]
 pub enum Refusal {
     /// The files hold no such name.
     Missing,
@@ -33,4 +33,24 @@ pub enum Refusal {
     Parse(ParseFault),
     /// What the file asks for is not built yet.
     NotBuilt,
+}
+
+impl Drop for Refusal {
+    fn drop(self) {
+        match self {
+            Refusal::Missing => {}
+            Refusal::TooLarge => {}
+            Refusal::Json => {}
+            Refusal::Shape(path) => {}
+            Refusal::TooManyFiles => {}
+            Refusal::SameFile(file) => {}
+            Refusal::Metamodel(why) => {}
+            Refusal::Model(why) => {}
+            Refusal::TooManyObjects => {}
+            Refusal::Conform(why) => {}
+            Refusal::Utf8 => {}
+            Refusal::Parse(why) => {}
+            Refusal::NotBuilt => {}
+        }
+    }
 }

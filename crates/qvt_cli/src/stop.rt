@@ -3,7 +3,7 @@ use qvt_base::list_fault::ListFault;
 use qvt_base::text::Text;
 
 /// Why the work of a command ended before its end.
-#[derive(Debug, Drop)]
+#[derive(Debug)]
 pub enum Stop {
     /// A file was refused.
     Refused(Text, Refusal),
@@ -14,6 +14,18 @@ pub enum Stop {
     /// This file could not be read.
     ReadFault(Text),
     NoMemory,
+}
+
+impl Drop for Stop {
+    fn drop(self) {
+        match self {
+            Stop::Refused(file, why) => {}
+            Stop::OutOfFuel(fuel) => {}
+            Stop::Low(model, id, feature) => {}
+            Stop::ReadFault(file) => {}
+            Stop::NoMemory => {}
+        }
+    }
 }
 
 impl From<ListFault> for Stop {

@@ -93,12 +93,13 @@ fn is_path_name(expr: &Expr) -> bool
 }
 
 /// The one name that the expression is.
+#[tactic(auto, using(crate::proofs::Heads::named_path, crate::proofs::Heads::no_name))]
 fn path_name(expr: Expr) -> Option<Named>
     ensures { result ≡ name_in (Plain (expr_view expr) (trees.bare_target (expr_view expr))) }
 {
-    match expr {
-        Expr::Path(path) => only_name(path),
-        _ => None,
+    match expr.into_path() {
+        Some(path) => only_name(path),
+        None => None,
     }
 }
 
@@ -199,6 +200,7 @@ fn with_signs(
 }
 
 /// Signs before an operand. Where it has signs of its own, they join them.
+#[tactic(auto, using(crate::proofs::Signs::signed_apart, crate::proofs::Signs::signed_more))]
 pub fn prefixed(
     alloc: Global,
     place: Place,
@@ -208,16 +210,12 @@ pub fn prefixed(
 ) -> Result<Leading, ParseError>
     ensures { Makes lead_view result (Plain (trees.signed place (first ∷ more) (expr_view operand)) None) }
 {
-    match operand {
-        Expr::Prefix {
-            signs: old,
-            operand,
-            ..
-        } => {
+    match operand.into_prefix() {
+        Ok((old, operand)) => {
             let signs = all_signs(alloc, first, more, old.as_slice())?;
             with_signs(alloc, place, signs, operand)
         }
-        operand => {
+        Err(operand) => {
             let signs = all_signs(alloc, first, more, &[])?;
             let operand = Box::new(alloc, operand)?;
             with_signs(alloc, place, signs, operand)

@@ -1,15 +1,15 @@
 -- Steps that join the steps before them, and steps after an expression that ends in none.
-use Rattle.std.proofs.Common.{◌≡◌, false, List, [], ◌∷◌, ◌++◌, map, refl, sym, ap, ◌∙◌, Result, Ok, Err}
+use Rattle.std.proofs.Common.{◌≡◌, Some, None, unwrap_or, List, [], ◌∷◌, ◌++◌, map, refl, sym, ap, ◌∙◌, Result, Ok, Err}
 use Rattle.std.proofs.lemmas.List.{map-append}
 use Rattle.qvt_base.specs.declared.numbers.Place.{Place}
-use Rattle.qvt_tree_types.specs.Tree.{ExprTerm, IntExpr, StrExpr, BoolExpr, NullExpr, SelfExpr, ResultExpr, PathExpr, CallExpr, CollExpr, IfExpr, ObjectExpr, NewExpr, MapExpr, ResolveExpr, ChainExpr, PrefixExpr, PostExpr, StepTerm, MoreSteps}
+use Rattle.qvt_tree_types.specs.Tree.{ExprTerm, IntExpr, StrExpr, BoolExpr, NullExpr, SelfExpr, ResultExpr, PathExpr, CallExpr, CollExpr, IfExpr, ObjectExpr, NewExpr, MapExpr, ResolveExpr, ChainExpr, PrefixExpr, PostExpr, StepTerm, StepTerms, MoreSteps}
 use Rattle.qvt_tree_types.specs.View.{step_view, steps_of}
 use Rattle.qvt_tree_types.specs.declared.tree.Step.{Step}
 use Rattle.qvt_parser_grammar.specs.declared.cursor.ParseError.{ParseError}
 use Rattle.qvt_parser_grammar.specs.declared.cursor.ParseError.TheVariants.{NoMemory, Syntax}
 use Rattle.qvt_parser_grammar.specs.Gives.{Makes, same}
 use Rattle.qvt_parser_grammar.specs.Trees.{more_steps, stepped}
-use Rattle.qvt_parser_exprs.specs.Steps.{has_steps}
+use Rattle.qvt_tree_types.specs.Parts.{post_in}
 
 more_of : (xs ys : List StepTerm) → more_steps (steps_of xs) ys ≡ steps_of (xs ++ ys)
 more_of [] ys = refl
@@ -23,7 +23,8 @@ makes_steps old more (Ok new) e = joined_steps old more new e
 makes_steps old more (Err NoMemory) e = tt
 makes_steps old more (Err Syntax) e = e
 
-pub stepped_apart : (place : Place) (e : ExprTerm) (ss : List StepTerm) → has_steps e ≡ false → stepped place e ss ≡ PostExpr e (steps_of ss) place
+-- an expression without steps gets these as its own
+pub stepped_apart : (place : Place) (e : ExprTerm) (ss : List StepTerm) → post_in e ≡ None → stepped place e ss ≡ PostExpr e (steps_of ss) place
 stepped_apart place (IntExpr n p) ss h = refl
 stepped_apart place (StrExpr t p) ss h = refl
 stepped_apart place (BoolExpr b p) ss h = refl
@@ -41,3 +42,23 @@ stepped_apart place (ResolveExpr r) ss h = refl
 stepped_apart place (ChainExpr l e ls p) ss h = refl
 stepped_apart place (PrefixExpr signs e p) ss h = refl
 stepped_apart place (PostExpr e old p) ss h = absurd cc
+
+-- one with steps gets them after its own
+pub stepped_more : (place : Place) (e : ExprTerm) (first : ExprTerm) (old : StepTerms) (ss : List StepTerm) → post_in e ≡ Some (first, old) → stepped place e ss ≡ PostExpr first (more_steps old ss) place
+stepped_more place (IntExpr n p) first old ss h = absurd cc
+stepped_more place (StrExpr t p) first old ss h = absurd cc
+stepped_more place (BoolExpr b p) first old ss h = absurd cc
+stepped_more place (NullExpr p) first old ss h = absurd cc
+stepped_more place (SelfExpr p) first old ss h = absurd cc
+stepped_more place (ResultExpr p) first old ss h = absurd cc
+stepped_more place (PathExpr path) first old ss h = absurd cc
+stepped_more place (CallExpr name es p) first old ss h = absurd cc
+stepped_more place (CollExpr k es p) first old ss h = absurd cc
+stepped_more place (IfExpr c a b p) first old ss h = absurd cc
+stepped_more place (ObjectExpr v path x body p) first old ss h = absurd cc
+stepped_more place (NewExpr path x es p) first old ss h = absurd cc
+stepped_more place (MapExpr m) first old ss h = absurd cc
+stepped_more place (ResolveExpr r) first old ss h = absurd cc
+stepped_more place (ChainExpr l e ls p) first old ss h = absurd cc
+stepped_more place (PrefixExpr signs e p) first old ss h = absurd cc
+stepped_more place (PostExpr e more p) first old ss h = ap (λ o. PostExpr (unwrap_or {T = ExprTerm × StepTerms} o (e, more)).0 (more_steps (unwrap_or {T = ExprTerm × StepTerms} o (e, more)).1 ss) place) h

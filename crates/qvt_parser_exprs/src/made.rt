@@ -129,6 +129,7 @@ fn has_steps(expr: &Expr) -> bool
 
 /// Steps after an expression that ends in steps: they join them.
 #[inline(never)]
+#[tactic(auto, using(crate::proofs::Stepped::stepped_apart, crate::proofs::Stepped::stepped_more))]
 fn longer_steps(
     alloc: Global,
     place: Place,
@@ -137,12 +138,8 @@ fn longer_steps(
 ) -> Result<Expr, ParseError>
     ensures { Makes expr_view result (trees.stepped place (expr_view first) (steps_view steps)) }
 {
-    match first {
-        Expr::Post {
-            first,
-            steps: old,
-            ..
-        } => {
+    match first.into_post() {
+        Ok((first, old)) => {
             let steps = all_steps(old, steps)?;
             Ok(Expr::Post {
                 first,
@@ -150,7 +147,7 @@ fn longer_steps(
                 place,
             })
         }
-        first => {
+        Err(first) => {
             let first = Box::new(alloc, first)?;
             Ok(Expr::Post {
                 first,

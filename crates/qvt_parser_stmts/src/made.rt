@@ -1,6 +1,7 @@
 ghost use Rattle.std.specs.Prelude.{◌≡◌, IsTrue, Some, List, option_map};
 ghost use Rattle.qvt_base.specs.declared.numbers.Place as places;
 ghost use Rattle.qvt_tree_types.specs.Tree.{ExprTerm, StepTerm, AssignStmt, ValueStmt};
+ghost use Rattle.qvt_tree_types.specs.Parts.{result_in};
 ghost use Rattle.qvt_tree_types.specs.View.{expr_view, step_view, target_view, stmt_view};
 ghost use Rattle.qvt_parser_grammar.specs.Gives.{Makes};
 ghost use Rattle.qvt_parser_grammar.specs.StmtTrees as statements;
@@ -51,6 +52,7 @@ fn ends_in_member(steps: &[Step]) -> bool
 }
 
 /// The target that ends in the step.
+#[tactic(auto, using(crate::proofs::Members::member_there, crate::proofs::Members::no_member))]
 fn member_at(
     alloc: Global,
     place: Place,
@@ -61,12 +63,8 @@ fn member_at(
     requires { IsTrue (trees.is_there (trees.member_of place (boxed_view first) (steps_view before, step_view step))) }
     ensures { Makes (λ t. Some (target_view t)) result (trees.member_of place (boxed_view first) (steps_view before, step_view step)) }
 {
-    match step {
-        Step::Dot {
-            name,
-            args: None,
-            place: at,
-        } => {
+    match step.into_member() {
+        Some((name, at)) => {
             let object = posted(alloc, place, first, before)?;
             Ok(Target::Member {
                 object,
@@ -74,7 +72,7 @@ fn member_at(
                 place: at,
             })
         }
-        _ => Err(ParseError::Syntax),
+        None => Err(ParseError::Syntax),
     }
 }
 
@@ -106,21 +104,29 @@ fn is_bare_target(expr: &Expr) -> bool
     }
 }
 
+/// The place of `result`, where the expression is that.
+fn result_place(expr: &Expr) -> Option<Place>
+    ensures { result ≡ result_in (expr_view expr.now) }
+{
+    match expr {
+        Expr::ResultRef { place } => Some(*place),
+        _ => None,
+    }
+}
+
 /// The expression as what is assigned to, where it is one name or `result`.
+#[tactic(auto, using(crate::proofs::Members::bare_result, crate::proofs::Members::bare_path, crate::proofs::Members::bare_none))]
 fn bare_target(expr: Expr) -> Option<Target>
     ensures { option_map target_view result ≡ trees.bare_target (expr_view expr) }
 {
-    match expr {
-        Expr::Path(path) => {
-            let name = only_name(path)?;
-            Some(Target::Bare {
-                name: name.text,
-                place: name.place,
-            })
-        }
-        Expr::ResultRef { place } => Some(Target::ResultVar { place }),
-        _ => None,
+    if let Some(place) = result_place(&expr) {
+        return Some(Target::ResultVar { place });
     }
+    let name = only_name(expr.into_path()?)?;
+    Some(Target::Bare {
+        name: name.text,
+        place: name.place,
+    })
 }
 
 /// Whether the expression may stand at the left of an assignment.

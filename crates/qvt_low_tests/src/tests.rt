@@ -1,0 +1,5 @@
+mod lists;
+mod names;
+mod outside;
+mod tokens;
+mod values;

@@ -1,0 +1,108 @@
+//! Files and sinks, in memory and real.
+
+use qvt_base::list_fault::ListFault;
+use qvt_base::mem_files::MemFiles;
+use qvt_base::mem_sink::MemSink;
+use qvt_base::outside::{Files, ReadAnswer, Sink, SinkAnswer, WriteAnswer};
+use qvt_base::real::{DirFiles, StdSink};
+use qvt_base::seq::Seq;
+use std::alloc::Global;
+use std::{fs, io};
+
+/// The bytes that are found, or the name of the answer.
+fn told(answer: &ReadAnswer) -> &[u8] {
+    match answer {
+        ReadAnswer::Found(bytes) => bytes.as_slice(),
+        ReadAnswer::Missing => b"Missing",
+        ReadAnswer::TooLarge => b"TooLarge",
+        ReadAnswer::Failed => b"Failed",
+        ReadAnswer::NoMemory => b"NoMemory",
+    }
+}
+
+/// Whether the reads of these names within these limits give this.
+fn are_read<F: Files>(alloc: Global, files: &mut F, reads: &[(&str, u32, &str)]) -> bool {
+    for (name, limit, expected) in reads {
+        let answer = files.read(alloc, name, *limit);
+        if told(&answer) != expected.as_bytes() {
+            return false;
+        }
+    }
+    true
+}
+
+/// The file `a` holds `one`, and the third and the fifth call are to fail.
+fn failing_files(alloc: Global) -> Option<MemFiles> {
+    let failing = Seq::from_slice(alloc, &[3, 5]).ok()?;
+    let mut files = MemFiles::new(alloc, failing);
+    files.hold(alloc, "a", b"one").ok()?;
+    Some(files)
+}
+
+/// Whether a write of `two` to `a` answers this, and `a` then holds these bytes.
+fn is_written(files: &mut MemFiles, expected: WriteAnswer, held: &[u8]) -> bool {
+    files.write("a", b"two") == expected && matches!(files.held("a"), Some(bytes) if bytes == held)
+}
+
+#[test]
+fn files_in_memory_fail_where_they_are_told_to(rt: HostRuntime) -> Result<(), ListFault> {
+    let alloc = rt.alloc();
+    let mut files = failing_files(alloc).ok_or(ListFault::NoMemory)?;
+    let reads = [
+        ("a", 2, "TooLarge"),
+        ("b", 2, "Missing"),
+        ("a", 3, "Failed"),
+        ("a", 3, "one"),
+    ];
+    assert!(rt; are_read(alloc, &mut files, &reads));
+    assert!(rt; is_written(&mut files, WriteAnswer::Failed, b"one"));
+    assert!(rt; is_written(&mut files, WriteAnswer::Written, b"two"));
+    assert!(rt; files.held("b").is_none());
+    Ok(())
+}
+
+/// Whether the writes of these pieces answer this.
+fn are_taken(sink: &mut MemSink, writes: &[(&[u8], SinkAnswer)]) -> bool {
+    for (piece, expected) in writes {
+        if sink.write(piece) != *expected {
+            return false;
+        }
+    }
+    true
+}
+
+#[test]
+fn a_sink_in_memory_takes_so_many_bytes(rt: HostRuntime) -> Result<(), ListFault> {
+    let alloc = rt.alloc();
+    let mut sink = MemSink::new(alloc, Seq::from_slice(alloc, &[2])?, 2);
+    let writes = [
+        (b"abc".as_slice(), SinkAnswer::Taken(2)),
+        (b"c".as_slice(), SinkAnswer::Failed),
+        (b"c".as_slice(), SinkAnswer::Taken(1)),
+    ];
+    assert!(rt; are_taken(&mut sink, &writes));
+    assert!(rt; sink.bytes() == b"abc".as_slice());
+    Ok(())
+}
+
+#[test]
+fn the_working_folder_is_read_within_the_limit(rt: HostRuntime) -> io::Result<()> {
+    let alloc = rt.alloc();
+    fs::create_dir(&rt, "folder")?;
+    let mut files = DirFiles::new(rt);
+    assert!(rt; files.write("a", b"four") == WriteAnswer::Written);
+    let reads = [
+        ("a", 4, "four"),
+        ("a", 3, "TooLarge"),
+        ("b", 4, "Missing"),
+        ("folder", 4, "Failed"),
+    ];
+    assert!(rt; are_read(alloc, &mut files, &reads));
+    Ok(())
+}
+
+#[test]
+fn standard_output_takes_a_piece(rt: HostRuntime) {
+    let mut sink = StdSink::new(rt);
+    assert!(rt; sink.write(b"seen\n") == SinkAnswer::Taken(5));
+}
