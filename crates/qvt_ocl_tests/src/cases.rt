@@ -102,8 +102,8 @@ fn is_answered(alloc: Global, case: &Json) -> Option<bool> {
     }
 }
 
-/// What comes of the case that a line holds.
-pub fn outcome(alloc: Global, line: &str) -> Outcome {
+/// What comes of the call that a line holds.
+pub fn judged(alloc: Global, line: &str) -> Outcome {
     let Ok(case) = Json::from_str(alloc, line) else {
         return Outcome::Unread;
     };

@@ -9,7 +9,7 @@
 mod cases;
 mod values;
 
-use cases::{Outcome, outcome};
+use cases::{Outcome, judged};
 use std::io::{self, BufRead, BufReader};
 
 fn main(rt: HostRuntime) -> io::Result<()> {
@@ -17,7 +17,7 @@ fn main(rt: HostRuntime) -> io::Result<()> {
     let mut right: u64 = 0;
     for line in BufReader::new(alloc, rt.reader())?.lines(alloc) {
         let line = line?;
-        match outcome(alloc, &line) {
+        match judged(alloc, &line) {
             Outcome::Right => right = right.wrapping_add(1),
             Outcome::Other => println!(rt; "answered otherwise: {line}")?,
             Outcome::Unread => println!(rt; "no case: {line}")?,

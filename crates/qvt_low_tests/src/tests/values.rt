@@ -1,16 +1,12 @@
 //! Values: their copies, their order, and the collections that are made of lists.
 
-ghost use Rattle.std.specs.Prelude.{◌≡◌, ◌≤◌, false, length, IfOk};
-ghost use Rattle.std.specs.List.{list_any};
-ghost use Rattle.qvt_value.specs.Make.{is_invalid};
-
 use qvt_base::copied::Copied;
 use qvt_base::list_fault::ListFault;
 use qvt_base::numbers::{Oid, Place};
 use qvt_base::seq::Seq;
 use qvt_base::text::Text;
 use qvt_value::fault::ValueFault;
-use qvt_value::make::{MOST_ITEMS, make};
+use qvt_value::make::make;
 use qvt_value::order::compare;
 use qvt_value::value::{Kind, LiteralRef, Reason, Value, Values, Var};
 use std::alloc::Global;
@@ -86,10 +82,7 @@ fn copies_equal_what_they_copy(rt: HostRuntime) -> Result<(), ListFault> {
     Ok(())
 }
 
-fn three_one_three_two(alloc: Global) -> Result<Values, ListFault>
-    ensures few { IfOk result (λ items. length items ≤ MOST_ITEMS) }
-    ensures none_invalid { IfOk result (λ items. list_any is_invalid items ≡ false) }
-{
+fn three_one_three_two(alloc: Global) -> Result<Values, ListFault> {
     let mut items = Seq::new(alloc);
     items.push(Value::Int(3))?;
     items.push(Value::Int(1))?;
