@@ -17,7 +17,13 @@ use qvt_value::value::{Reason, Value};
 use std::alloc::Global;
 
 #[tactic(auto, unfolding(qvt_ocl_words::specs::Operation::unless_null))]
-fn unless_null(alloc: Global, op: Op, place: Place, source: &Value, args: &[Value]) -> Result<Option<Value>, ListFault>
+fn unless_null(
+    alloc: Global,
+    op: Op,
+    place: Place,
+    source: &Value,
+    args: &[Value],
+) -> Result<Option<Value>, ListFault>
     ensures { IfOk result (λ answer. answer ≡ unless_null op place source.now args.now) }
 {
     if lacks_operand(op, source, args) {
@@ -77,7 +83,13 @@ fn compared(op: Op, source: &Value, args: &[Value]) -> Option<Value>
 }
 
 #[tactic(auto, unfolding(qvt_ocl_words::specs::Operation::on_valid))]
-fn on_valid(alloc: Global, op: Op, place: Place, source: &Value, args: &[Value]) -> Result<Option<Value>, ListFault>
+fn on_valid(
+    alloc: Global,
+    op: Op,
+    place: Place,
+    source: &Value,
+    args: &[Value],
+) -> Result<Option<Value>, ListFault>
     ensures { IfOk result (λ answer. answer ≡ on_valid op place source.now args.now) }
 {
     if is_equality(op) {
@@ -87,7 +99,13 @@ fn on_valid(alloc: Global, op: Op, place: Place, source: &Value, args: &[Value])
 }
 
 #[tactic(auto, unfolding(qvt_ocl_words::specs::Operation::answered))]
-fn answered(alloc: Global, op: Op, place: Place, source: &Value, args: &[Value]) -> Result<Option<Value>, ListFault>
+fn answered(
+    alloc: Global,
+    op: Op,
+    place: Place,
+    source: &Value,
+    args: &[Value],
+) -> Result<Option<Value>, ListFault>
     ensures { IfOk result (λ answer. answer ≡ answered op place source.now args.now) }
 {
     if is_test(op) {
@@ -101,7 +119,13 @@ fn answered(alloc: Global, op: Op, place: Place, source: &Value, args: &[Value])
 
 /// What the operation gives of these operands. TypeFault comes exactly where it says nothing of them.
 #[tactic(auto, unfolding(qvt_ocl_words::specs::Operation::operation))]
-pub fn apply(alloc: Global, op: Op, place: Place, source: &Value, args: &[Value]) -> Result<Value, OclFault>
+pub fn apply(
+    alloc: Global,
+    op: Op,
+    place: Place,
+    source: &Value,
+    args: &[Value],
+) -> Result<Value, OclFault>
     ensures { IsApplied (operation op place source.now args.now) result }
 {
     match answered(alloc, op, place, source, args) {

@@ -3,8 +3,7 @@
 ghost use Rattle.std.specs.Prelude.{◌≡◌, IfOk};
 ghost use Rattle.qvt_ocl_words.specs.Collections.{of_collection, of_collection_item, of_collection_at, of_collections, of_collection_span, of_collection_place};
 
-use crate::made;
-use crate::ordered;
+use crate::{made, ordered};
 use qvt_base::list_fault::ListFault;
 use qvt_base::numbers::Place;
 use qvt_ocl_lists::best::{greatest_of, least_of};
@@ -18,7 +17,13 @@ use std::alloc::Global;
 
 /// A collection without arguments.
 #[tactic(auto, unfolding(qvt_ocl_words::specs::Collections::of_collection))]
-pub fn of_collection(alloc: Global, op: Op, place: Place, kind: Kind, items: &[Value]) -> Result<Option<Value>, ListFault>
+pub fn of_collection(
+    alloc: Global,
+    op: Op,
+    place: Place,
+    kind: Kind,
+    items: &[Value],
+) -> Result<Option<Value>, ListFault>
     ensures { IfOk result (λ answer. answer ≡ of_collection op place kind items.now) }
 {
     match op {
@@ -42,7 +47,14 @@ pub fn of_collection(alloc: Global, op: Op, place: Place, kind: Kind, items: &[V
 
 /// A collection with any value.
 #[tactic(auto, unfolding(qvt_ocl_words::specs::Collections::of_collection_item))]
-pub fn of_collection_item(alloc: Global, op: Op, place: Place, kind: Kind, items: &[Value], item: &Value) -> Result<Option<Value>, ListFault>
+pub fn of_collection_item(
+    alloc: Global,
+    op: Op,
+    place: Place,
+    kind: Kind,
+    items: &[Value],
+    item: &Value,
+) -> Result<Option<Value>, ListFault>
     ensures { IfOk result (λ answer. answer ≡ of_collection_item op place kind items.now item.now) }
 {
     match op {
@@ -60,7 +72,14 @@ pub fn of_collection_item(alloc: Global, op: Op, place: Place, kind: Kind, items
 
 /// A collection with an Integer.
 #[tactic(auto, unfolding(qvt_ocl_words::specs::Collections::of_collection_at))]
-pub fn of_collection_at(alloc: Global, op: Op, place: Place, kind: Kind, items: &[Value], i: i64) -> Result<Option<Value>, ListFault>
+pub fn of_collection_at(
+    alloc: Global,
+    op: Op,
+    place: Place,
+    kind: Kind,
+    items: &[Value],
+    i: i64,
+) -> Result<Option<Value>, ListFault>
     ensures { IfOk result (λ answer. answer ≡ of_collection_at op place kind items.now i) }
 {
     match op {
@@ -71,7 +90,14 @@ pub fn of_collection_at(alloc: Global, op: Op, place: Place, kind: Kind, items: 
 
 /// A collection with a collection.
 #[tactic(auto, unfolding(qvt_ocl_words::specs::Collections::of_collections))]
-pub fn of_collections(alloc: Global, op: Op, kind: Kind, items: &[Value], other: Kind, others: &[Value]) -> Result<Option<Value>, ListFault>
+pub fn of_collections(
+    alloc: Global,
+    op: Op,
+    kind: Kind,
+    items: &[Value],
+    other: Kind,
+    others: &[Value],
+) -> Result<Option<Value>, ListFault>
     ensures { IfOk result (λ answer. answer ≡ of_collections op kind items.now other others.now) }
 {
     match op {
@@ -86,7 +112,15 @@ pub fn of_collections(alloc: Global, op: Op, kind: Kind, items: &[Value], other:
 
 /// A collection with two Integers.
 #[tactic(auto, unfolding(qvt_ocl_words::specs::Collections::of_collection_span))]
-pub fn of_collection_span(alloc: Global, op: Op, place: Place, kind: Kind, items: &[Value], l: i64, u: i64) -> Result<Option<Value>, ListFault>
+pub fn of_collection_span(
+    alloc: Global,
+    op: Op,
+    place: Place,
+    kind: Kind,
+    items: &[Value],
+    l: i64,
+    u: i64,
+) -> Result<Option<Value>, ListFault>
     ensures { IfOk result (λ answer. answer ≡ of_collection_span op place kind items.now l u) }
 {
     match op {
@@ -95,7 +129,14 @@ pub fn of_collection_span(alloc: Global, op: Op, place: Place, kind: Kind, items
             _ => Ok(None),
         },
         Op::SubOrderedSet => match kind {
-            Kind::OrderedSet => Ok(Some(ordered::part(alloc, place, Kind::OrderedSet, items, l, u)?)),
+            Kind::OrderedSet => Ok(Some(ordered::part(
+                alloc,
+                place,
+                Kind::OrderedSet,
+                items,
+                l,
+                u,
+            )?)),
             _ => Ok(None),
         },
         _ => Ok(None),
@@ -104,7 +145,15 @@ pub fn of_collection_span(alloc: Global, op: Op, place: Place, kind: Kind, items
 
 /// A collection with an Integer and any value.
 #[tactic(auto, unfolding(qvt_ocl_words::specs::Collections::of_collection_place))]
-pub fn of_collection_place(alloc: Global, op: Op, place: Place, kind: Kind, items: &[Value], i: i64, item: &Value) -> Result<Option<Value>, ListFault>
+pub fn of_collection_place(
+    alloc: Global,
+    op: Op,
+    place: Place,
+    kind: Kind,
+    items: &[Value],
+    i: i64,
+    item: &Value,
+) -> Result<Option<Value>, ListFault>
     ensures { IfOk result (λ answer. answer ≡ of_collection_place op place kind items.now i item.now) }
 {
     match op {

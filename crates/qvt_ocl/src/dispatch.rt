@@ -7,14 +7,18 @@ use crate::collections;
 use crate::operands::takes_item;
 use qvt_base::list_fault::ListFault;
 use qvt_base::numbers::Place;
-use qvt_ocl_texts::integers;
-use qvt_ocl_texts::strings;
+use qvt_ocl_texts::{integers, strings};
 use qvt_ocl_words::op::Op;
 use qvt_value::value::{Kind, Value};
 use std::alloc::Global;
 
 #[tactic(auto, unfolding(qvt_ocl_words::specs::Operation::on_boolean))]
-fn on_boolean(alloc: Global, op: Op, truth: bool, args: &[Value]) -> Result<Option<Value>, ListFault>
+fn on_boolean(
+    alloc: Global,
+    op: Op,
+    truth: bool,
+    args: &[Value],
+) -> Result<Option<Value>, ListFault>
     ensures { IfOk result (λ answer. answer ≡ on_boolean op truth args.now) }
 {
     match args {
@@ -24,7 +28,13 @@ fn on_boolean(alloc: Global, op: Op, truth: bool, args: &[Value]) -> Result<Opti
 }
 
 #[tactic(auto, unfolding(qvt_ocl_words::specs::Operation::on_integer))]
-fn on_integer(alloc: Global, op: Op, place: Place, a: i64, args: &[Value]) -> Result<Option<Value>, ListFault>
+fn on_integer(
+    alloc: Global,
+    op: Op,
+    place: Place,
+    a: i64,
+    args: &[Value],
+) -> Result<Option<Value>, ListFault>
     ensures { IfOk result (λ answer. answer ≡ on_integer op place a args.now) }
 {
     match args {
@@ -38,7 +48,13 @@ fn on_integer(alloc: Global, op: Op, place: Place, a: i64, args: &[Value]) -> Re
 }
 
 #[tactic(auto, unfolding(qvt_ocl_words::specs::Operation::on_string))]
-fn on_string(alloc: Global, op: Op, place: Place, s: &str, args: &[Value]) -> Result<Option<Value>, ListFault>
+fn on_string(
+    alloc: Global,
+    op: Op,
+    place: Place,
+    s: &str,
+    args: &[Value],
+) -> Result<Option<Value>, ListFault>
     ensures { IfOk result (λ answer. answer ≡ on_string op place s.now args.now) }
 {
     match args {
@@ -60,22 +76,52 @@ fn on_string(alloc: Global, op: Op, place: Place, s: &str, args: &[Value]) -> Re
 }
 
 #[tactic(auto, unfolding(qvt_ocl_words::specs::Operation::with_other))]
-fn with_other(alloc: Global, op: Op, place: Place, kind: Kind, items: &[Value], arg: &Value) -> Result<Option<Value>, ListFault>
+fn with_other(
+    alloc: Global,
+    op: Op,
+    place: Place,
+    kind: Kind,
+    items: &[Value],
+    arg: &Value,
+) -> Result<Option<Value>, ListFault>
     ensures { IfOk result (λ answer. answer ≡ with_other op place kind items.now arg.now) }
 {
     match arg {
         Value::Int(i) => collections::of_collection_at(alloc, op, place, kind, items, *i),
-        Value::Coll(other, others) => collections::of_collections(alloc, op, kind, items, *other, others.as_slice()),
+        Value::Coll(other, others) => collections::of_collections(
+            alloc,
+            op,
+            kind,
+            items,
+            *other,
+            others.as_slice(),
+        ),
         _ => Ok(None),
     }
 }
 
 #[tactic(auto, unfolding(qvt_ocl_words::specs::Operation::with_place))]
-fn with_place(alloc: Global, op: Op, place: Place, kind: Kind, items: &[Value], i: i64, arg: &Value) -> Result<Option<Value>, ListFault>
+fn with_place(
+    alloc: Global,
+    op: Op,
+    place: Place,
+    kind: Kind,
+    items: &[Value],
+    i: i64,
+    arg: &Value,
+) -> Result<Option<Value>, ListFault>
     ensures { IfOk result (λ answer. answer ≡ with_place op place kind items.now i arg.now) }
 {
     match op {
-        Op::InsertAt => collections::of_collection_place(alloc, Op::InsertAt, place, kind, items, i, arg),
+        Op::InsertAt => collections::of_collection_place(
+            alloc,
+            Op::InsertAt,
+            place,
+            kind,
+            items,
+            i,
+            arg,
+        ),
         _ => match arg {
             Value::Int(u) => collections::of_collection_span(alloc, op, place, kind, items, i, *u),
             _ => Ok(None),
@@ -84,7 +130,14 @@ fn with_place(alloc: Global, op: Op, place: Place, kind: Kind, items: &[Value], 
 }
 
 #[tactic(auto, unfolding(qvt_ocl_words::specs::Operation::on_collection))]
-fn on_collection(alloc: Global, op: Op, place: Place, kind: Kind, items: &[Value], args: &[Value]) -> Result<Option<Value>, ListFault>
+fn on_collection(
+    alloc: Global,
+    op: Op,
+    place: Place,
+    kind: Kind,
+    items: &[Value],
+    args: &[Value],
+) -> Result<Option<Value>, ListFault>
     ensures { IfOk result (λ answer. answer ≡ on_collection op place kind items.now args.now) }
 {
     match args {
@@ -106,7 +159,13 @@ fn on_collection(alloc: Global, op: Op, place: Place, kind: Kind, items: &[Value
 
 /// What a source that is there gives, by its sort.
 #[tactic(auto, unfolding(qvt_ocl_words::specs::Operation::on_present))]
-pub fn on_present(alloc: Global, op: Op, place: Place, source: &Value, args: &[Value]) -> Result<Option<Value>, ListFault>
+pub fn on_present(
+    alloc: Global,
+    op: Op,
+    place: Place,
+    source: &Value,
+    args: &[Value],
+) -> Result<Option<Value>, ListFault>
     ensures { IfOk result (λ answer. answer ≡ on_present op place source.now args.now) }
 {
     match source {

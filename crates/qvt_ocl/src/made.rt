@@ -50,21 +50,37 @@ fn with_last(alloc: Global, items: &[Value], item: &Value) -> Result<Values, Lis
 }
 
 /// The collection with one more item, put last.
-pub fn including(alloc: Global, kind: Kind, items: &[Value], item: &Value) -> Result<Value, ListFault>
+pub fn including(
+    alloc: Global,
+    kind: Kind,
+    items: &[Value],
+    item: &Value,
+) -> Result<Value, ListFault>
     ensures { IfOk result (λ answer. answer ≡ kept kind (items.now ++ item.now ∷ [])) }
 {
     kept(alloc, kind, with_last(alloc, items, item)?)
 }
 
 /// The collection without all that equal the item.
-pub fn excluding(alloc: Global, kind: Kind, items: &[Value], item: &Value) -> Result<Value, ListFault>
+pub fn excluding(
+    alloc: Global,
+    kind: Kind,
+    items: &[Value],
+    item: &Value,
+) -> Result<Value, ListFault>
     ensures { IfOk result (λ answer. answer ≡ kept kind (excluding item.now items.now)) }
 {
     kept(alloc, kind, items::excluding(alloc, item, items)?)
 }
 
 /// The items of both, of one kind.
-pub fn union(alloc: Global, kind: Kind, items: &[Value], other: Kind, others: &[Value]) -> Result<Option<Value>, ListFault>
+pub fn union(
+    alloc: Global,
+    kind: Kind,
+    items: &[Value],
+    other: Kind,
+    others: &[Value],
+) -> Result<Option<Value>, ListFault>
     ensures { IfOk result (λ answer. answer ≡ where' (same_kind kind other) (kept kind (items.now ++ others.now))) }
 {
     if !same_kind(kind, other) {
@@ -75,7 +91,13 @@ pub fn union(alloc: Global, kind: Kind, items: &[Value], other: Kind, others: &[
 }
 
 /// Each item as often as it stands in both, of Sets and Bags.
-pub fn intersection(alloc: Global, kind: Kind, items: &[Value], other: Kind, others: &[Value]) -> Result<Option<Value>, ListFault>
+pub fn intersection(
+    alloc: Global,
+    kind: Kind,
+    items: &[Value],
+    other: Kind,
+    others: &[Value],
+) -> Result<Option<Value>, ListFault>
     ensures { IfOk result (λ answer. answer ≡ intersected (common_kind kind other) items.now others.now) }
 {
     match common_kind(kind, other) {
@@ -85,7 +107,12 @@ pub fn intersection(alloc: Global, kind: Kind, items: &[Value], other: Kind, oth
 }
 
 /// The items that are not among the others, of a Set or an OrderedSet.
-pub fn minus(alloc: Global, kind: Kind, items: &[Value], others: &[Value]) -> Result<Option<Value>, ListFault>
+pub fn minus(
+    alloc: Global,
+    kind: Kind,
+    items: &[Value],
+    others: &[Value],
+) -> Result<Option<Value>, ListFault>
     ensures { IfOk result (λ answer. answer ≡ where' (is_once kind) (kept kind (lacking others.now items.now))) }
 {
     if !is_once(kind) {

@@ -18,7 +18,12 @@ use qvt_value::value::{Kind, Reason, Value, Values};
 use std::alloc::Global;
 
 /// The first item, or EmptySource.
-pub fn first(alloc: Global, place: Place, kind: Kind, items: &[Value]) -> Result<Option<Value>, ListFault>
+pub fn first(
+    alloc: Global,
+    place: Place,
+    kind: Kind,
+    items: &[Value],
+) -> Result<Option<Value>, ListFault>
     ensures { IfOk result (λ answer. answer ≡ where' (is_in_order kind) (first_of place items.now)) }
 {
     if !is_in_order(kind) {
@@ -28,7 +33,12 @@ pub fn first(alloc: Global, place: Place, kind: Kind, items: &[Value]) -> Result
 }
 
 /// The last item, or EmptySource.
-pub fn last(alloc: Global, place: Place, kind: Kind, items: &[Value]) -> Result<Option<Value>, ListFault>
+pub fn last(
+    alloc: Global,
+    place: Place,
+    kind: Kind,
+    items: &[Value],
+) -> Result<Option<Value>, ListFault>
     ensures { IfOk result (λ answer. answer ≡ where' (is_in_order kind) (last_of place items.now)) }
 {
     if !is_in_order(kind) {
@@ -47,7 +57,13 @@ fn item_at(alloc: Global, place: Place, items: &[Value], i: i64) -> Result<Value
 }
 
 /// The i-th item, or BadIndex.
-pub fn at(alloc: Global, place: Place, kind: Kind, items: &[Value], i: i64) -> Result<Option<Value>, ListFault>
+pub fn at(
+    alloc: Global,
+    place: Place,
+    kind: Kind,
+    items: &[Value],
+    i: i64,
+) -> Result<Option<Value>, ListFault>
     ensures { IfOk result (λ answer. answer ≡ where' (is_in_order kind) (item_at place items.now i)) }
 {
     if !is_in_order(kind) {
@@ -67,7 +83,12 @@ pub fn index_of(place: Place, kind: Kind, items: &[Value], item: &Value) -> Opti
 }
 
 /// The collection with one more item, put last.
-pub fn append(alloc: Global, kind: Kind, items: &[Value], item: &Value) -> Result<Option<Value>, ListFault>
+pub fn append(
+    alloc: Global,
+    kind: Kind,
+    items: &[Value],
+    item: &Value,
+) -> Result<Option<Value>, ListFault>
     ensures { IfOk result (λ answer. answer ≡ where' (is_in_order kind) (kept kind (items.now ++ item.now ∷ []))) }
 {
     if !is_in_order(kind) {
@@ -85,7 +106,12 @@ fn with_first(alloc: Global, item: &Value, items: &[Value]) -> Result<Values, Li
 }
 
 /// The collection with one more item, put first.
-pub fn prepend(alloc: Global, kind: Kind, items: &[Value], item: &Value) -> Result<Option<Value>, ListFault>
+pub fn prepend(
+    alloc: Global,
+    kind: Kind,
+    items: &[Value],
+    item: &Value,
+) -> Result<Option<Value>, ListFault>
     ensures { IfOk result (λ answer. answer ≡ where' (is_in_order kind) (kept kind (item.now ∷ items.now))) }
 {
     if !is_in_order(kind) {
@@ -94,7 +120,14 @@ pub fn prepend(alloc: Global, kind: Kind, items: &[Value], item: &Value) -> Resu
     Ok(Some(kept(alloc, kind, with_first(alloc, item, items)?)?))
 }
 
-fn inserted(alloc: Global, place: Place, kind: Kind, items: &[Value], i: i64, item: &Value) -> Result<Value, ListFault>
+fn inserted(
+    alloc: Global,
+    place: Place,
+    kind: Kind,
+    items: &[Value],
+    i: i64,
+    item: &Value,
+) -> Result<Value, ListFault>
     ensures { IfOk result (λ answer. answer ≡ inserted place kind items.now i item.now) }
 {
     if i < 1 || items.len() < natural(i) - 1 {
@@ -108,7 +141,14 @@ fn inserted(alloc: Global, place: Place, kind: Kind, items: &[Value], i: i64, it
 }
 
 /// The collection with the item as its i-th, or BadIndex.
-pub fn insert_at(alloc: Global, place: Place, kind: Kind, items: &[Value], i: i64, item: &Value) -> Result<Option<Value>, ListFault>
+pub fn insert_at(
+    alloc: Global,
+    place: Place,
+    kind: Kind,
+    items: &[Value],
+    i: i64,
+    item: &Value,
+) -> Result<Option<Value>, ListFault>
     ensures { IfOk result (λ answer. answer ≡ where' (is_in_order kind) (inserted place kind items.now i item.now)) }
 {
     if !is_in_order(kind) {
@@ -137,7 +177,14 @@ pub fn reverse(alloc: Global, kind: Kind, items: &[Value]) -> Result<Option<Valu
 }
 
 /// The items from the l-th to the u-th, or BadIndex.
-pub fn part(alloc: Global, place: Place, kind: Kind, items: &[Value], l: i64, u: i64) -> Result<Value, ListFault>
+pub fn part(
+    alloc: Global,
+    place: Place,
+    kind: Kind,
+    items: &[Value],
+    l: i64,
+    u: i64,
+) -> Result<Value, ListFault>
     ensures { IfOk result (λ answer. answer ≡ part place kind items.now l u) }
 {
     if !is_span(l, u, items.len()) {

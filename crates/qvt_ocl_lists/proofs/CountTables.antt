@@ -45,7 +45,7 @@ put k n [] x = first (same x k.now) n
 put k n (e ∷ es) x = go (equality.ghosts.eq k.now e.0.now) refl (put k n es x)
   where
     go : (b : Bool) → equality.ghosts.eq k.now e.0.now ≡ b → left (shown (insert_entry (λ (a b : Bor Value). equality.ghosts.eq a.now b.now) es k n)) x ≡ cond (same x k.now) n (left (shown es) x)
-      → left (shown (cond b ((e.0, n) ∷ es) (e ∷ insert_entry (λ (a b : Bor Value). equality.ghosts.eq a.now b.now) es k n))) x ≡ cond (same x k.now) n (left (shown (e ∷ es)) x)
+        → left (shown (cond b ((e.0, n) ∷ es) (e ∷ insert_entry (λ (a b : Bor Value). equality.ghosts.eq a.now b.now) es k n))) x ≡ cond (same x k.now) n (left (shown (e ∷ es)) x)
     go true h ih =
         let q : e.0.now ≡ k.now = sym (same_is k.now e.0.now (sym (alike k.now e.0.now) ∙ h)) in
         ap (λ v. unwrap_or (cond (same x v) (Some n) (lookup (same x) (shown es))) 0) q

@@ -55,7 +55,11 @@ pub fn least_of(alloc: Global, place: Place, values: &[Value]) -> Result<Option<
 }
 
 /// The greatest item, of Integers or of Strings.
-pub fn greatest_of(alloc: Global, place: Place, values: &[Value]) -> Result<Option<Value>, ListFault>
+pub fn greatest_of(
+    alloc: Global,
+    place: Place,
+    values: &[Value],
+) -> Result<Option<Value>, ListFault>
     ensures { IfOk result (λ answer. answer ≡ best_by greater place values.now) }
 {
     match values.split_first() {

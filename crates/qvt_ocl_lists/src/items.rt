@@ -8,8 +8,8 @@ ghost use Rattle.qvt_ocl_words.specs.Lists.{same, has, count, index_of, excludin
 use qvt_base::copied::Copied;
 use qvt_base::list_fault::ListFault;
 use qvt_base::numbers::Place;
-use qvt_ocl_words::numbers::following;
 use qvt_base::seq::Seq;
+use qvt_ocl_words::numbers::following;
 use qvt_value::order::compare;
 use qvt_value::value::{Reason, Value, Values};
 use std::alloc::Global;
@@ -53,7 +53,12 @@ pub fn index_of(place: Place, item: &Value, items: &[Value]) -> Value
 }
 
 /// The list with a copy of the value last, or the list alone.
-pub fn with_last_if(alloc: Global, list: Values, more: bool, value: &Value) -> Result<Values, ListFault>
+pub fn with_last_if(
+    alloc: Global,
+    list: Values,
+    more: bool,
+    value: &Value,
+) -> Result<Values, ListFault>
     ensures { IfOk result (λ all. all ≡ (if more then list ++ value.now ∷ [] else list)) }
 {
     if !more {

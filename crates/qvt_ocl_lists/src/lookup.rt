@@ -5,8 +5,8 @@ ghost use Rattle.std.specs.List.{list_all};
 ghost use Rattle.qvt_value.specs.declared.value.Value.{Value};
 ghost use Rattle.qvt_ocl_words.specs.Lists.{same, has, lacking};
 
-use indexmap::IndexSet;
 use crate::items::with_last_if;
+use indexmap::IndexSet;
 use qvt_base::list_fault::ListFault;
 use qvt_base::seq::Seq;
 use qvt_value::value::{Value, Values};

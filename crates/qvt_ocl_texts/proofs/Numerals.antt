@@ -56,9 +56,9 @@ minus {E = E} at bs (Ok n) p e =
 minus {E = E} at bs (Err x) p e =
     let k = parse_signed_minus own {E = E} w64 bs (Err x) p e in
     is_not at (is_number (drop 1 bs)) (neg_ℤ (pos (number_after 0 (drop 1 bs)))) (not_so _ (λ h.
-        let parts = split (is_number (drop 1 bs)) _ h in
-        let number = split (nat_lt 0 (length (drop 1 bs))) _ parts.0 in
-        k (number.1, ltb-true 0 (length (drop 1 bs)) number.0, down_from _ parts.1)))
+    let parts = split (is_number (drop 1 bs)) _ h in
+    let number = split (nat_lt 0 (length (drop 1 bs))) _ parts.0 in
+    k (number.1, ltb-true 0 (length (drop 1 bs)) number.0, down_from _ parts.1)))
 
 plain : {E : Type 0} (at : Place) (bs : List ℕ) (r : Result ℤ E) → ParsesSigned w64 10 bs r → get_or bs 0 0 ≢ 43 → get_or bs 0 0 ≢ 45 → read_as at r ≡ if_whole at (is_number bs) (pos (number_after 0 bs))
 plain {E = E} at bs (Ok n) p f e =
@@ -67,9 +67,9 @@ plain {E = E} at bs (Ok n) p f e =
 plain {E = E} at bs (Err x) p f e =
     let k = parse_signed_plain own {E = E} w64 bs (Err x) p f e in
     is_not at (is_number bs) (pos (number_after 0 bs)) (not_so _ (λ h.
-        let parts = split (is_number bs) _ h in
-        let number = split (nat_lt 0 (length bs)) _ parts.0 in
-        k (number.1, ltb-true 0 (length bs) number.0, ltb-true _ (2 ^ 63) parts.1)))
+    let parts = split (is_number bs) _ h in
+    let number = split (nat_lt 0 (length bs)) _ parts.0 in
+    k (number.1, ltb-true 0 (length bs) number.0, ltb-true _ (2 ^ 63) parts.1)))
 
 -- of a text that begins with no plus
 pub parsed : {E : Type 0} (at : Place) (bs : List ℕ) (r : Result ℤ E) → ParsesSigned w64 10 bs r → (get_or bs 0 0 == 43) ≡ false → read_as at r ≡ integer_in at bs

@@ -4,10 +4,10 @@ ghost use Rattle.std.specs.Prelude.{◌≡◌, IfOk, pos, unsigned_abs};
 ghost use Rattle.std.specs.Fmt.{signed_decimal};
 ghost use Rattle.qvt_ocl_words.specs.Integers.{whole, of_boolean, of_integer, of_integers, quotient, remainder, spelled};
 
-use qvt_ocl_words::numbers::whole;
 use qvt_base::list_fault::ListFault;
 use qvt_base::numbers::Place;
 use qvt_base::text::Text;
+use qvt_ocl_words::numbers::whole;
 use qvt_ocl_words::op::Op;
 use qvt_value::value::{Reason, Value};
 use std::alloc::Global;

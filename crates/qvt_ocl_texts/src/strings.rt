@@ -6,13 +6,13 @@ ghost use Rattle.qvt_value.specs.Order.{text_order};
 ghost use Rattle.qvt_value.specs.declared.value.Value.{Str};
 ghost use Rattle.qvt_ocl_words.specs.Strings.{of_string, of_string_at, of_string_span, of_strings};
 
-use qvt_ocl_words::numbers::number;
 use crate::texts;
 use qvt_base::list_fault::ListFault;
 use qvt_base::names::{count_chars, split_first_char};
 use qvt_base::numbers::Place;
 use qvt_base::seq::Seq;
 use qvt_base::text::Text;
+use qvt_ocl_words::numbers::number;
 use qvt_ocl_words::op::Op;
 use qvt_value::value::{Kind, Value, Values};
 use std::alloc::Global;
@@ -58,7 +58,13 @@ pub fn of_string(alloc: Global, op: Op, place: Place, s: &str) -> Result<Option<
 
 /// A String with an Integer.
 #[tactic(auto, unfolding(qvt_ocl_words::specs::Strings::of_string_at))]
-pub fn of_string_at(alloc: Global, op: Op, place: Place, s: &str, i: i64) -> Result<Option<Value>, ListFault>
+pub fn of_string_at(
+    alloc: Global,
+    op: Op,
+    place: Place,
+    s: &str,
+    i: i64,
+) -> Result<Option<Value>, ListFault>
     ensures { IfOk result (λ answer. answer ≡ of_string_at op place s.now i) }
 {
     match op {
@@ -69,7 +75,14 @@ pub fn of_string_at(alloc: Global, op: Op, place: Place, s: &str, i: i64) -> Res
 
 /// A String with two Integers.
 #[tactic(auto, unfolding(qvt_ocl_words::specs::Strings::of_string_span))]
-pub fn of_string_span(alloc: Global, op: Op, place: Place, s: &str, l: i64, u: i64) -> Result<Option<Value>, ListFault>
+pub fn of_string_span(
+    alloc: Global,
+    op: Op,
+    place: Place,
+    s: &str,
+    l: i64,
+    u: i64,
+) -> Result<Option<Value>, ListFault>
     ensures { IfOk result (λ answer. answer ≡ of_string_span op place s.now l u) }
 {
     match op {
@@ -94,7 +107,13 @@ fn order(s: &str, t: &str) -> Ordering
 
 /// A String with a String.
 #[tactic(auto, unfolding(qvt_ocl_words::specs::Strings::of_strings))]
-pub fn of_strings(alloc: Global, op: Op, place: Place, s: &str, t: &str) -> Result<Option<Value>, ListFault>
+pub fn of_strings(
+    alloc: Global,
+    op: Op,
+    place: Place,
+    s: &str,
+    t: &str,
+) -> Result<Option<Value>, ListFault>
     ensures { IfOk result (λ answer. answer ≡ of_strings op place s.now t.now) }
 {
     match op {

@@ -7,11 +7,11 @@ ghost use Rattle.std.specs.Char.{to_ascii_uppercase, to_ascii_lowercase};
 ghost use Rattle.qvt_ocl_words.specs.Integers.{whole};
 ghost use Rattle.qvt_ocl_words.specs.Strings.{is_span, natural, substring, first_by, index_in, integer_in};
 
-use qvt_ocl_words::numbers::following;
 use qvt_base::list_fault::ListFault;
 use qvt_base::names::{count_chars, split_first_char};
 use qvt_base::numbers::Place;
 use qvt_base::text::Text;
+use qvt_ocl_words::numbers::following;
 use qvt_value::value::{Reason, Value};
 use std::alloc::Global;
 
@@ -68,7 +68,13 @@ pub fn natural(i: i64) -> usize
 }
 
 /// The characters from the l-th to the u-th.
-pub fn substring(alloc: Global, place: Place, text: &str, l: i64, u: i64) -> Result<Value, ListFault>
+pub fn substring(
+    alloc: Global,
+    place: Place,
+    text: &str,
+    l: i64,
+    u: i64,
+) -> Result<Value, ListFault>
     ensures { IfOk result (λ answer. answer ≡ substring place text.now l u) }
 {
     if !is_span(l, u, count_chars(text)) {

@@ -197,4 +197,3 @@ module _ (below : ℕ → ℕ → Bool) (literals : ℕ → ℕ → LiteralRef �
   place_present [] h = tt
   place_present (v ∷ []) h = (none_left (is_null v) _ h, tt)
   place_present (v ∷ w ∷ vs) h = (none_left (is_null v) _ h, tt)
-

@@ -98,7 +98,10 @@ fn on_ordered(op: Op, kind: Kind) -> Option<Signature>
         Op::IndexOf => row(Params::One(Param::Item), Answer::Integer),
         Op::Append => row(Params::One(Param::Item), Answer::Joined(kind)),
         Op::Prepend => row(Params::One(Param::Item), Answer::Joined(kind)),
-        Op::InsertAt => row(Params::Two(Param::Integer, Param::Item), Answer::Joined(kind)),
+        Op::InsertAt => row(
+            Params::Two(Param::Integer, Param::Item),
+            Answer::Joined(kind),
+        ),
         Op::Reverse => row(Params::None, Answer::Items(kind)),
         _ => None,
     }
@@ -110,21 +113,39 @@ fn on_kind(op: Op, kind: Kind) -> Option<Signature>
 {
     match op {
         Op::SubSequence => match kind {
-            Kind::Sequence => row(Params::Two(Param::Integer, Param::Integer), Answer::Items(Kind::Sequence)),
+            Kind::Sequence => row(
+                Params::Two(Param::Integer, Param::Integer),
+                Answer::Items(Kind::Sequence),
+            ),
             _ => None,
         },
         Op::SubOrderedSet => match kind {
-            Kind::OrderedSet => row(Params::Two(Param::Integer, Param::Integer), Answer::Items(Kind::OrderedSet)),
+            Kind::OrderedSet => row(
+                Params::Two(Param::Integer, Param::Integer),
+                Answer::Items(Kind::OrderedSet),
+            ),
             _ => None,
         },
         Op::Minus => match kind {
-            Kind::Set => row(Params::One(Param::Items(Kinds::Every)), Answer::Items(Kind::Set)),
-            Kind::OrderedSet => row(Params::One(Param::Items(Kinds::Every)), Answer::Items(Kind::OrderedSet)),
+            Kind::Set => row(
+                Params::One(Param::Items(Kinds::Every)),
+                Answer::Items(Kind::Set),
+            ),
+            Kind::OrderedSet => row(
+                Params::One(Param::Items(Kinds::Every)),
+                Answer::Items(Kind::OrderedSet),
+            ),
             _ => None,
         },
         Op::Intersection => match kind {
-            Kind::Set => row(Params::One(Param::Items(Kinds::SetOrBag)), Answer::Common(Kind::Set)),
-            Kind::Bag => row(Params::One(Param::Items(Kinds::SetOrBag)), Answer::Common(Kind::Bag)),
+            Kind::Set => row(
+                Params::One(Param::Items(Kinds::SetOrBag)),
+                Answer::Common(Kind::Set),
+            ),
+            Kind::Bag => row(
+                Params::One(Param::Items(Kinds::SetOrBag)),
+                Answer::Common(Kind::Bag),
+            ),
             _ => None,
         },
         _ => match kind {
@@ -150,7 +171,10 @@ fn on_collection(op: Op, kind: Kind) -> Option<Signature>
         Op::ExcludesAll => row(Params::One(Param::Items(Kinds::Every)), Answer::Boolean),
         Op::Including => row(Params::One(Param::Item), Answer::Joined(kind)),
         Op::Excluding => row(Params::One(Param::Item), Answer::Items(kind)),
-        Op::Union => row(Params::One(Param::Items(Kinds::Only(kind))), Answer::Joined(kind)),
+        Op::Union => row(
+            Params::One(Param::Items(Kinds::Only(kind))),
+            Answer::Joined(kind),
+        ),
         Op::Flatten => row(Params::None, Answer::Innermost(kind)),
         Op::AsSet => row(Params::None, Answer::Items(Kind::Set)),
         Op::AsBag => row(Params::None, Answer::Items(Kind::Bag)),

@@ -55,6 +55,9 @@ fn copy_of(alloc: Global, of: &Ty) -> Result<Ty, ListFault>
         Ty::Str => Ok(Ty::Str),
         Ty::Enum(metamodel, enumeration) => Ok(Ty::Enum(*metamodel, *enumeration)),
         Ty::Class(class) => Ok(Ty::Class(*class)),
-        Ty::Coll(kind, item) => Ok(Ty::Coll(*kind, Boxed::new(alloc, copy_of(alloc, item.get())?)?)),
+        Ty::Coll(kind, item) => Ok(Ty::Coll(
+            *kind,
+            Boxed::new(alloc, copy_of(alloc, item.get())?)?,
+        )),
     }
 }

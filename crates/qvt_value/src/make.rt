@@ -34,7 +34,12 @@ pub fn make(alloc: Global, kind: Kind, items: Values) -> Result<Value, ValueFaul
 
 /// Makes the items a collection of the kind. Where that has too many items, it is invalid.
 #[tactic(auto, unfolding(crate::specs::Limits::built))]
-pub fn make_within(alloc: Global, place: Place, kind: Kind, items: Values) -> Result<Value, ValueFault>
+pub fn make_within(
+    alloc: Global,
+    place: Place,
+    kind: Kind,
+    items: Values,
+) -> Result<Value, ValueFault>
     ensures { IfOk result (λ v. v ≡ built place kind items) }
 {
     let made = make(alloc, kind, items)?;

@@ -1,5 +1,4 @@
 use Rattle.std.proofs.Common.{◌≡◌, ◌++◌, take}
-
 use Rattle.qvt_ocl_lists.proofs.items.extend.Given as goal
 
 abbrev pub invariant-loop-value : goal.invariant-loop-value

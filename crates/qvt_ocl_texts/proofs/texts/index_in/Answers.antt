@@ -7,7 +7,7 @@ pub returns-in-Some : goal.returns-in-Some
 returns-in-Some c =
     c.following.ensures
     ∙ ap (λ n. whole c.args.place (pos n)) (index_at c.args.part.now c.args.text.now c.range.result.now c.in-Some.i c.count_chars.result
-      (sym c.is_empty.ensures ∙ c.if-is_empty.false) c.in-Some.ensures.cases c.count_chars.ensures c.range.ensures.value)
+    (sym c.is_empty.ensures ∙ c.if-is_empty.false) c.in-Some.ensures.cases c.count_chars.ensures c.range.ensures.value)
 
 pub returns-in-None : goal.returns-in-None
 returns-in-None c = ap (λ n. whole c.args.place (pos n)) (index_none c.args.part.now c.args.text.now c.in-None.ensures.cases)
