@@ -2,9 +2,6 @@
 //! a walk down such a value needs less than the 8 MiB that a machine's stack has.
 #![tactic(auto)]
 
-ghost use Rattle.std.specs.Prelude.{◌≡◌, false, IfOk};
-ghost use Rattle.qvt_value.specs.Make.{is_invalid};
-
 use qvt_base::copied::Copied;
 use qvt_base::list_fault::ListFault;
 use qvt_base::seq::Seq;
@@ -19,9 +16,7 @@ use std::io;
 const DEPTH: u32 = 10_000;
 
 /// A Sequence with one item, it with one item, and so on, and the number in the last.
-fn nested(alloc: Global, number: i64) -> Result<Value, ListFault>
-    ensures { IfOk result (λ value. is_invalid value ≡ false) }
-{
+fn nested(alloc: Global, number: i64) -> Result<Value, ListFault> {
     let mut value = Value::Int(number);
     for _level in 0..DEPTH {
         let mut items = Seq::new(alloc);

@@ -1,0 +1,2 @@
+pub mod CountTables
+pub mod ItemLists

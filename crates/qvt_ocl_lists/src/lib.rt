@@ -1,0 +1,10 @@
+//! Words on lists of values: equal items, look-ups and counts by hash, what is kept of a list, its
+//! innermost items, its sum, its least and greatest item.
+#![tactic(auto)]
+
+pub mod best;
+pub mod counts;
+pub mod flat;
+pub mod items;
+pub mod lookup;
+pub mod total;

@@ -1,0 +1,4 @@
+pub mod EachRow
+pub mod Fitting
+pub mod Present
+pub mod Sound

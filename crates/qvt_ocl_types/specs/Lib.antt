@@ -1,0 +1,6 @@
+pub mod Fits
+pub mod Law
+pub mod Rows
+pub mod Table
+pub mod Types
+pub mod Typing

@@ -1,0 +1,5 @@
+pub mod Collections
+pub mod Integers
+pub mod Lists
+pub mod Operation
+pub mod Strings

@@ -1,0 +1,6 @@
+//! The types of values (OCL 2.4, 7.4 and 11.2).
+#![tactic(auto)]
+
+pub mod boxed;
+pub mod kinds;
+pub mod ty;

@@ -1,0 +1,63 @@
+//! Types.
+
+ghost use Rattle.std.specs.Prelude.{◌≡◌, IfOk};
+
+use crate::boxed::Boxed;
+use qvt_base::copied::Copied;
+use qvt_base::list_fault::ListFault;
+use qvt_base::numbers::ClassNo;
+use qvt_tree_types::words::CollKind;
+use std::alloc::Global;
+
+/// A type of values. `Void` is the type of null.
+#[derive(Debug)]
+pub enum Ty {
+    Void,
+    Boolean,
+    Integer,
+    Str,
+    /// An enumeration, by the numbers of its metamodel and itself.
+    Enum(u32, u32),
+    Class(ClassNo),
+    /// Collections of the kind, with items of the type.
+    Coll(CollKind, Boxed<Ty>),
+}
+
+impl Drop for Ty {
+    #[cycle(ty)]
+    fn drop(self) {
+        match self {
+            Ty::Void => {}
+            Ty::Boolean => {}
+            Ty::Integer => {}
+            Ty::Str => {}
+            Ty::Enum(metamodel, enumeration) => {}
+            Ty::Class(class) => {}
+            Ty::Coll(kind, item) => {}
+        }
+    }
+}
+
+impl Copied for Ty {
+    fn copy(&self, alloc: Global) -> Result<Ty, ListFault> {
+        copy_of(alloc, self)
+    }
+}
+
+/// The same type again.
+fn copy_of(alloc: Global, of: &Ty) -> Result<Ty, ListFault>
+    ensures { IfOk result (λ copy. copy ≡ of.now) }
+{
+    match of {
+        Ty::Void => Ok(Ty::Void),
+        Ty::Boolean => Ok(Ty::Boolean),
+        Ty::Integer => Ok(Ty::Integer),
+        Ty::Str => Ok(Ty::Str),
+        Ty::Enum(metamodel, enumeration) => Ok(Ty::Enum(*metamodel, *enumeration)),
+        Ty::Class(class) => Ok(Ty::Class(*class)),
+        Ty::Coll(kind, item) => Ok(Ty::Coll(
+            *kind,
+            Boxed::new(alloc, copy_of(alloc, item.get())?)?,
+        )),
+    }
+}
