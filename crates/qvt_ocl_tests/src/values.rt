@@ -127,6 +127,7 @@ fn plain(alloc: Global, json: &Json) -> Option<Value> {
 }
 
 /// The value that the JSON stands for.
+#[cycle(values)]
 pub fn value_of(alloc: Global, json: &Json, deepest: u32) -> Option<Value> {
     if let Some(value) = plain(alloc, json) {
         return Some(value);
@@ -140,6 +141,7 @@ pub fn value_of(alloc: Global, json: &Json, deepest: u32) -> Option<Value> {
 }
 
 /// The values of a list.
+#[cycle(values)]
 pub fn values_of(alloc: Global, json: &Json, deepest: u32) -> Option<Values> {
     let mut values = Seq::new(alloc);
     for item in json.as_array()? {
