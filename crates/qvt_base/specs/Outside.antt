@@ -52,6 +52,14 @@ IsWithin limit read.TooLarge = ⊤
 IsWithin limit read.Failed = ⊤
 IsWithin limit read.NoMemory = ⊤
 
+-- a reader that tells its bytes is read to its end: they are all that was found, or more than the limit
+abbrev pub ReadsRest : Option (List ℕ) → ℕ → ReadAnswer → Type 0
+ReadsRest rest limit (read.Found bytes) = IfSome rest (λ all. all ≡ bytes)
+ReadsRest rest limit read.Missing = ⊥
+ReadsRest rest limit read.TooLarge = IfSome rest (λ all. limit < length all)
+ReadsRest rest limit read.Failed = ⊤
+ReadsRest rest limit read.NoMemory = ⊤
+
 -- the failed reads, the last at the end
 abbrev pub failed_after : Option (List (List ℕ)) → List ℕ → ReadAnswer → Option (List (List ℕ))
 failed_after told name (read.Found bytes) = told
@@ -67,10 +75,20 @@ IfReadFailed read.TooLarge P = ⊤
 IfReadFailed read.Failed P = P
 IfReadFailed read.NoMemory P = ⊤
 
--- a failed read only where the count rose
+-- every answer but a failed read
+abbrev pub UnlessReadFailed : ReadAnswer → Type 0 → Type 0
+UnlessReadFailed (read.Found bytes) P = P
+UnlessReadFailed read.Missing P = P
+UnlessReadFailed read.TooLarge P = P
+UnlessReadFailed read.Failed P = ⊤
+UnlessReadFailed read.NoMemory P = P
+
+-- a failed read exactly where the count rose, by one
 pub record ReadCause (before now : ℕ) (answer : ReadAnswer) : Type 0 where
   pub count : NeverFalls before now
   pub failed : IfReadFailed answer (Rose before now)
+  pub one : now ≤ before + 1
+  pub kept : UnlessReadFailed answer (now ≡ before)
 
 -- every name but this one is as before
 abbrev pub SameBut : List ℕ → Held → Held → Type 0
@@ -92,9 +110,16 @@ abbrev pub IfWriteFailed : WriteAnswer → Type 0 → Type 0
 IfWriteFailed write.Written P = ⊤
 IfWriteFailed write.Failed P = P
 
+abbrev pub IfWritten : WriteAnswer → Type 0 → Type 0
+IfWritten write.Written P = P
+IfWritten write.Failed P = ⊤
+
+-- a failed write exactly where the count rose, by one
 pub record WriteCause (before now : ℕ) (answer : WriteAnswer) : Type 0 where
   pub count : NeverFalls before now
   pub failed : IfWriteFailed answer (Rose before now)
+  pub one : now ≤ before + 1
+  pub kept : IfWritten answer (now ≡ before)
 
 -- at most the piece, and some of a piece that is not empty
 abbrev pub IsPart : List ℕ → SinkAnswer → Type 0
@@ -112,6 +137,13 @@ abbrev pub IfSinkFailed : SinkAnswer → Type 0 → Type 0
 IfSinkFailed (sink.Taken n) P = ⊤
 IfSinkFailed sink.Failed P = P
 
+abbrev pub IfTaken : SinkAnswer → Type 0 → Type 0
+IfTaken (sink.Taken n) P = P
+IfTaken sink.Failed P = ⊤
+
+-- a failed write to a sink exactly where the count rose, by one
 pub record SinkCause (before now : ℕ) (answer : SinkAnswer) : Type 0 where
   pub count : NeverFalls before now
   pub failed : IfSinkFailed answer (Rose before now)
+  pub one : now ≤ before + 1
+  pub kept : IfTaken answer (now ≡ before)
