@@ -1,8 +1,8 @@
 -- What files in memory hold: under each name the newest bytes written there.
-use Rattle.std.specs.Prelude.{ℕ, ◌+◌, ◌-◌, ◌^◌, ◌==◌, ◌≢◌, ◌≡◌, List, map, min, ⊤, Bool, true, false}
+use Rattle.std.specs.Prelude.{ℕ, ◌+◌, ◌-◌, ◌^◌, ◌==◌, ◌≢◌, ◌≡◌, List, map, min, ⊤, Bool, true, false, Some}
 use Rattle.std.specs.List.{list_any}
 use Rattle.std.specs.FinMap as finite
-use Rattle.qvt_base.specs.Outside.{Held}
+use Rattle.qvt_base.specs.Outside.{Held, FilesSeen}
 use Rattle.qvt_base.specs.declared.mem_files.Entry.{Entry}
 use Rattle.qvt_base.specs.declared.outside.ReadAnswer.{ReadAnswer}
 use Rattle.qvt_base.specs.declared.outside.ReadAnswer.TheVariants as read
@@ -32,6 +32,10 @@ pub record FilesInMemory : Type 0 where
 
 abbrev pub held_in : FilesInMemory → Held
 held_in f = held_of f.log
+
+-- they tell all
+abbrev pub files_seen : FilesInMemory → FilesSeen
+files_seen f = record { held = Some (held_in f); failed = Some f.failed; reads = f.read_faults; writes = f.write_faults }
 
 -- neither bytes nor a look-up
 abbrev pub IsUnread : ReadAnswer → Type 0

@@ -1,5 +1,6 @@
 -- What a sink in memory holds, which of its calls fail, and how much it takes at once.
-use Rattle.std.specs.Prelude.{ℕ, ◌≡◌, List, length, min, ⊤, Bool, true, false}
+use Rattle.std.specs.Prelude.{ℕ, ◌≡◌, List, length, min, ⊤, Bool, true, false, Some}
+use Rattle.qvt_base.specs.Outside.{SinkSeen}
 use Rattle.qvt_base.specs.MemFiles.{next_call, is_listed}
 use Rattle.qvt_base.specs.declared.outside.SinkAnswer.{SinkAnswer}
 use Rattle.qvt_base.specs.declared.outside.SinkAnswer.TheVariants as sink
@@ -12,6 +13,10 @@ pub record SinkInMemory : Type 0 where
   pub calls : ℕ
   pub most : ℕ
   pub faults : ℕ
+
+-- it tells all
+abbrev pub sink_seen : SinkInMemory → SinkSeen
+sink_seen s = record { written = Some s.bytes; faults = s.faults }
 
 -- the coming call stands in the list of those that are to fail
 abbrev pub is_to_fail : SinkInMemory → Bool

@@ -1,8 +1,8 @@
 ghost use Rattle.std.specs.Prelude.{◌≡◌, ◌≢◌, OnOk, OnErr, Some, [], ◌∷◌};
 ghost use Rattle.std.specs.Option.{option_copied};
 ghost use Rattle.std.specs.FinMap as map;
-ghost use Rattle.qvt_base.specs.Outside.{Reads, IsWithin, failed_after, ReadCause, Writes, WriteCause, IfWriteFailed};
-ghost use Rattle.qvt_base.specs.MemFiles.{pairs, held_of, held_in, IsUnread, after_call, is_to_fail, FailsAsListed, FailsWhereListed};
+ghost use Rattle.qvt_base.specs.Outside.{Reads, IsWithin, failed_after, ReadCause, IsRead, IsWritten, WriteCause, IfWriteFailed};
+ghost use Rattle.qvt_base.specs.MemFiles.{pairs, held_of, held_in, files_seen, IsUnread, after_call, is_to_fail, FailsAsListed, FailsWhereListed};
 
 use crate::copied::Copied;
 use crate::lists::{Bytes, CallList, NameList};
@@ -170,23 +170,12 @@ fn read_from(alloc: Global, log: &VecDeque<Entry>, name: &str, limit: u32) -> Re
 }
 
 impl Files for MemFiles {
-    ghost held = { λ f. Some (held_in f) };
-
-    ghost failed_reads = { λ f. Some f.failed };
-
-    ghost read_faults = { λ f. f.read_faults };
-
-    ghost write_faults = { λ f. f.write_faults };
+    ghost seen = { files_seen };
 
     /// It fails exactly where the number of the call is listed; where there is no memory for the
     /// name of a failed read, the answer is NoMemory.
     fn read(&mut self, alloc: Global, name: &str, limit: u32) -> ReadAnswer
-        ensures answer { Reads (Some (held_in self.old)) name.now limit result }
-        ensures within { IsWithin limit result }
-        ensures held { Some (held_in self.new) ≡ Some (held_in self.old) }
-        ensures failed { Some self.new.failed ≡ failed_after (Some self.old.failed) name.now result }
-        ensures cause { ReadCause self.old.read_faults self.new.read_faults result }
-        ensures writes { self.new.write_faults ≡ self.old.write_faults }
+        ensures read { IsRead (files_seen self.old) name.now limit result (files_seen self.new) }
         ensures listed { FailsAsListed (is_to_fail self.old) result }
         ensures calls { self.new.calls ≡ (after_call self.old).calls }
         ensures failing { self.new.failing ≡ self.old.failing }
@@ -199,10 +188,7 @@ impl Files for MemFiles {
 
     /// It fails where the number of the call is listed, and where there is no memory for the bytes.
     fn write(&mut self, name: &str, bytes: &[u8]) -> WriteAnswer
-        ensures answer { Writes (Some (held_in self.old)) name.now bytes.now (Some (held_in self.new)) result }
-        ensures failed { Some self.new.failed ≡ Some self.old.failed }
-        ensures cause { WriteCause self.old.write_faults self.new.write_faults result }
-        ensures reads { self.new.read_faults ≡ self.old.read_faults }
+        ensures written { IsWritten (files_seen self.old) name.now bytes.now result (files_seen self.new) }
         ensures kept { IfWriteFailed result (self.new.log ≡ self.old.log) }
         ensures listed { FailsWhereListed (is_to_fail self.old) result }
         ensures calls { self.new.calls ≡ (after_call self.old).calls }

@@ -1,5 +1,5 @@
 ghost use Rattle.std.specs.Prelude.{◌≡◌, ◌<◌, [], Some};
-ghost use Rattle.qvt_base.specs.Outside.{SinkCause, IsPart, written_after};
+ghost use Rattle.qvt_base.specs.Outside.{SinkCause, IsSent};
 
 use crate::lists::{Bytes, CallList};
 use crate::outside::{Sink, SinkAnswer};
@@ -73,18 +73,14 @@ impl MemSink {
 }
 
 impl Sink for MemSink {
-    ghost use Rattle.qvt_base.specs.MemSink.{is_to_fail, after_call, FailsWhereListed, TakesMost};
+    ghost use Rattle.qvt_base.specs.MemSink.{sink_seen, is_to_fail, after_call, FailsWhereListed, TakesMost};
 
-    ghost written = { λ s. Some s.bytes };
-
-    ghost faults = { λ s. s.faults };
+    ghost seen = { sink_seen };
 
     /// It fails where the number of the call is listed, and where there is no memory for the bytes;
     /// otherwise it takes as many as it may in one call.
     fn write(&mut self, piece: &[u8]) -> SinkAnswer
-        ensures part { IsPart piece.now result }
-        ensures taken { Some self.new.bytes ≡ written_after (Some self.old.bytes) piece.now result }
-        ensures cause { SinkCause self.old.faults self.new.faults result }
+        ensures sent { IsSent (sink_seen self.old) piece.now result (sink_seen self.new) }
         ensures listed { FailsWhereListed (is_to_fail self.old) result }
         ensures most { TakesMost self.old.most piece.now result }
         ensures calls { self.new.calls ≡ (after_call self.old).calls }

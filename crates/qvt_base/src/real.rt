@@ -1,7 +1,7 @@
 //! The real outside: the working folder and standard output. They tell nothing of what they hold;
 //! the calls of the system in them are the trusted edge.
 ghost use Rattle.std.specs.Prelude.{◌≡◌, None, ◌≤◌, length};
-ghost use Rattle.qvt_base.specs.Outside.{IsWithin, ReadsRest, ReadCause, WriteCause, IsPart, part_of, SinkCause};
+ghost use Rattle.qvt_base.specs.Outside.{IsWithin, ReadsRest, IsPart, part_of};
 ghost use Rattle.std.specs.Io.KnownBytes.{Appends};
 
 use crate::lists::Bytes;
@@ -88,13 +88,9 @@ impl<R: rt::Files + Drop> DirFiles<R> {
 }
 
 impl<R: rt::Files + Drop> Files for DirFiles<R> {
-    ghost held = { λ f. None };
+    ghost use Rattle.qvt_base.specs.Real.{folder_seen};
 
-    ghost failed_reads = { λ f. None };
-
-    ghost read_faults = { λ f. f.reads };
-
-    ghost write_faults = { λ f. f.writes };
+    ghost seen = { folder_seen };
 
     fn read(&mut self, alloc: Global, name: &str, limit: u32) -> ReadAnswer {
         let answer = read_named(&self.rt, alloc, name, limit);
@@ -145,9 +141,9 @@ impl<R: Print + Drop> StdSink<R> {
 }
 
 impl<R: Print + Drop> Sink for StdSink<R> {
-    ghost written = { λ s. None };
+    ghost use Rattle.qvt_base.specs.Real.{output_seen};
 
-    ghost faults = { λ s. s };
+    ghost seen = { output_seen };
 
     fn write(&mut self, piece: &[u8]) -> SinkAnswer {
         let mut standard = std::io::writer(&self.rt);
