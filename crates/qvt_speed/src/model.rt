@@ -70,12 +70,7 @@ fn answer(alloc: Global, form: &str, metas: &Metas, bytes: &[u8]) -> Option<Byte
     }
 }
 
-pub fn run<F: Files>(
-    alloc: Global,
-    words: &[&str],
-    files: &mut F,
-    out: &mut Bytes,
-) -> Option<()> {
+pub fn run<F: Files>(alloc: Global, words: &[&str], files: &mut F, out: &mut Bytes) -> Option<()> {
     let metamodel = file_bytes(alloc, files, "m.json", MOST_BYTES)?;
     let metas = metas_of(alloc, metamodel.as_slice())?;
     let model = file_bytes(alloc, files, "d.json", MOST_BYTES)?;
