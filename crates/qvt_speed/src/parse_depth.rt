@@ -296,19 +296,27 @@ const NESTS: [Nest; 30] = [
     },
 ];
 
+fn push_times(text: &mut Text, piece: &str, times: u32) -> Result<(), ListFault> {
+    for _time in 0..times {
+        text.push_str(piece)?;
+    }
+    Ok(())
+}
+
 /// A transformation with so many openings inside each other.
 fn nested(alloc: Global, nest: &Nest, count: u32) -> Result<Text, ListFault> {
+    let pieces = [
+        ("transformation T(in m : M); ", 1),
+        (nest.front, 1),
+        (nest.open, count),
+        (nest.middle, 1),
+        (nest.close, count),
+        (nest.end, 1),
+    ];
     let mut text = Text::new(alloc);
-    text.push_str("transformation T(in m : M); ")?;
-    text.push_str(nest.front)?;
-    for _opening in 0..count {
-        text.push_str(nest.open)?;
+    for (piece, times) in &pieces {
+        push_times(&mut text, piece, *times)?;
     }
-    text.push_str(nest.middle)?;
-    for _opening in 0..count {
-        text.push_str(nest.close)?;
-    }
-    text.push_str(nest.end)?;
     Ok(text)
 }
 
