@@ -389,12 +389,12 @@ module _ (m n : Metamodels) (rm rn : List ℕ) (wm : IsWellFormed m) (wn : IsWel
       by _ q _ any (news c f t) unnamed h =
           let l : c < length n.classes = wn.live_class c f t in
           let at : metamodel_at W (class_at W (B + c)).metamodel ≡ metamodel_at n (class_at n c).metamodel = metamodel_of_new c l in
-          other f q c t at unnamed h (half F q)
+          of_new f q c t at unnamed h (half F q)
         where
-          other : (f q c : ℕ) → has_feature n c f ≡ true → metamodel_at W (class_at W (B + c)).metamodel ≡ metamodel_at n (class_at n c).metamodel
+          of_new : (f q c : ℕ) → has_feature n c f ≡ true → metamodel_at W (class_at W (B + c)).metamodel ≡ metamodel_at n (class_at n c).metamodel
               → (metamodel_at W (class_at W (B + c)).metamodel).name ≡ [] → is_opposite W (F + f) q ≡ true → Half F q → ⊥
-          other f _ c t at unnamed h (old q l) = clash h (ap (λ o. is_feature_number o q) (opposite_new f) ∙ number-on_old (opposite n f) q l)
-          other f _ c t at unnamed h (new q) = clash (sym (is_opposite_new f q) ∙ h) (wn.unnamed_alone f q c t (ap (λ i. i.name) (sym at) ∙ unnamed))
+          of_new f _ c t at unnamed h (old q l) = clash h (ap (λ o. is_feature_number o q) (opposite_new f) ∙ number-on_old (opposite n f) q l)
+          of_new f _ c t at unnamed h (new q) = clash (sym (is_opposite_new f q) ∙ h) (wn.unnamed_alone f q c t (ap (λ i. i.name) (sym at) ∙ unnamed))
 
   unnamed_empty : (c f : ℕ) → has_feature W c f ≡ true → (metamodel_at W (class_at W c).metamodel).name ≡ [] → is_containment W f ≡ false
   unnamed_empty c f there none = by c f (has c f there) none
