@@ -99,5 +99,5 @@ module _ (m : Metamodels) (cs : List ClassData) where
         new_class (suc i) p = given i (B + suc i) (new_path p i refl) refl
 
         by : (c : ℕ) → Half B c → Closure Over c c → ⊥
-        by _ (old c l) p = wm.acyclic c (old_path p l)
+        by _ (old c l) p = wm.descent.acyclic c (old_path p l)
         by _ (new i) p = new_class i p
