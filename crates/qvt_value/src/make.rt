@@ -1,16 +1,17 @@
 //! Collections made of lists (OCL 2.4, 11.6).
 
-ghost use Rattle.std.specs.Prelude.{◌≡◌, ◌≢◌, IfOk, IsOk, List, []};
+ghost use Rattle.std.specs.Prelude.{◌≡◌, ◌≢◌, IfOk, IsOk, IsTrue, List, []};
 ghost use Rattle.indexmap.specs.IndexSet.{insert_all};
 ghost use Rattle.qvt_value.specs.contracts.value.ValuePartialEq.TheImpl.{ghosts};
 ghost use Rattle.qvt_value.specs.declared.value.Value.{Value};
-ghost use Rattle.qvt_value.specs.Kept.{sorted, firsts};
+ghost use Rattle.qvt_value.specs.Kept.{sorted, firsts, is_below_next, rises};
 ghost use Rattle.qvt_value.specs.Limits.{built};
 ghost use Rattle.qvt_value.specs.Make.{IsMade, made};
 ghost use Rattle.qvt_value.specs.Order.{order_of};
 
 use crate::fault::ValueFault;
 use crate::limits::limited;
+use crate::order::compare;
 use crate::value::{Kind, Value, Values};
 use indexmap::IndexSet;
 use qvt_base::numbers::Place;
@@ -61,8 +62,57 @@ fn in_order_once(mut items: Values) -> Values
     items
 }
 
-/// Each item where it first stands.
+fn is_below_next(item: &Value, rest: &[Value]) -> bool
+    ensures { result ≡ is_below_next order_of item.now rest.now }
+{
+    match rest.first() {
+        Some(next) => compare(item, next).is_lt(),
+        None => true,
+    }
+}
+
+/// Whether each item is below the next.
+fn is_rising(items: &[Value]) -> bool
+    ensures { result ≡ rises order_of items.now }
+{
+    let mut rest = items;
+    while let Some((first, after)) = rest.split_first() {
+        if !is_below_next(first, after) {
+            return false;
+        }
+        rest = after;
+    }
+    true
+}
+
+/// Whether no item equals an earlier one, looked up by hash.
+fn all_differ(alloc: Global, items: &[Value]) -> Result<bool, ValueFault>
+    ensures { IfOk result (λ differ. IsTrue differ → items.now ≡ firsts order_of items.now) }
+{
+    let mut earlier = IndexSet::with_capacity(alloc, items.len())?;
+    for item in items {
+        if !earlier.insert(item)? {
+            return Ok(false);
+        }
+    }
+    Ok(true)
+}
+
+/// Each item where it first stands. A list without repeats is left as it is.
+#[tactic(auto, using(crate::proofs::Differing::rising_kept))]
 fn each_first(alloc: Global, items: Values) -> Result<Values, ValueFault>
+    ensures { IfOk result (λ kept. kept ≡ firsts order_of items) }
+{
+    if is_rising(items.as_slice()) {
+        return Ok(items);
+    }
+    if all_differ(alloc, items.as_slice())? {
+        return Ok(items);
+    }
+    firsts_of(alloc, items)
+}
+
+fn firsts_of(alloc: Global, items: Values) -> Result<Values, ValueFault>
     ensures { IfOk result (λ kept. kept ≡ firsts order_of items) }
 {
     let set = set_of(alloc, items)?;
