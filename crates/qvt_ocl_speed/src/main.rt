@@ -1,7 +1,7 @@
 //! Applies an operation so many times to a collection of so many items, or to a text of so many characters. Its words are the
-//! form, the items (`numbers` or `texts`), the kind (`set`, `bag`, `sequence` or `ordered`) and the two numbers. The forms
-//! `copy` and `sort` are plain loops over a vector of the same values, `chars` is one over the text. `bench/operations.sh`
-//! times it.
+//! form, the items (`numbers`, `texts` or `rising` numbers), the kind (`set`, `bag`, `sequence` or `ordered`) and the two
+//! numbers. The forms `copy` and `sort` are plain loops over a vector of the same values, `chars` is one over the text, and the
+//! forms that end in `Onto` hand each answer over to the next call. `bench/operations.sh` times it.
 #![tactic(auto)]
 
 mod data;
@@ -9,7 +9,7 @@ mod data;
 use data::{items, kind_of, longest, values};
 use qvt_base::numbers::Place;
 use qvt_base::seq::Seq;
-use qvt_ocl::apply::apply;
+use qvt_ocl::apply::{apply, apply_owned};
 use qvt_ocl_words::op::Op;
 use qvt_value::copy::copies;
 use qvt_value::make::make;
@@ -32,6 +32,8 @@ enum Form {
     Chars,
     /// An operation on a collection, and how it is called.
     On(Op, Taking),
+    /// An operation on a collection that is handed over, each answer to the next call.
+    Onto(Op, Taking),
     /// An operation on a text.
     Text(Op, Taking),
 }
@@ -62,6 +64,8 @@ fn on_collections(name: &str) -> Option<Form> {
         "includesAll" => Some(Form::On(Op::IncludesAll, Taking::Half)),
         "including" => Some(Form::On(Op::Including, Taking::Last)),
         "append" => Some(Form::On(Op::Append, Taking::Last)),
+        "includingOnto" => Some(Form::Onto(Op::Including, Taking::Last)),
+        "appendOnto" => Some(Form::Onto(Op::Append, Taking::Last)),
         "reverse" => Some(Form::On(Op::Reverse, Taking::Nothing)),
         "flatten" => Some(Form::On(Op::Flatten, Taking::Nothing)),
         "sum" => Some(Form::On(Op::Sum, Taking::Nothing)),
@@ -110,6 +114,14 @@ fn calls(alloc: Global, op: Op, source: &Value, args: &[Value], times: u32) -> O
     Some(())
 }
 
+fn calls_onto(alloc: Global, op: Op, source: Value, args: &[Value], times: u32) -> Option<()> {
+    let mut answer = source;
+    for _time in 0..times {
+        answer = apply_owned(alloc, op, HERE, answer, args).ok()?;
+    }
+    Some(())
+}
+
 fn sorts(alloc: Global, items: &Values, times: u32) -> Option<()> {
     for _time in 0..times {
         let mut sorted = copies(alloc, items.as_slice()).ok()?;
@@ -147,6 +159,11 @@ fn done(alloc: Global, form: Form, data: &str, kind: Kind, n: u32, times: u32) -
             let source = make(alloc, kind, items(alloc, data, 0, n)?).ok()?;
             let args = arguments(alloc, taking, data, kind, n)?;
             calls(alloc, op, &source, args.as_slice(), times)
+        }
+        Form::Onto(op, taking) => {
+            let source = make(alloc, kind, items(alloc, data, 0, n)?).ok()?;
+            let args = arguments(alloc, taking, data, kind, n)?;
+            calls_onto(alloc, op, source, args.as_slice(), times)
         }
         Form::Text(op, taking) => {
             let source = Value::Str(data::long_text(alloc, n)?);
