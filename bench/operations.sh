@@ -2,7 +2,8 @@
 # What operations on collections and texts cost, as ratios of processor time to a plain loop over a vector of the same values:
 # * of a million numbers, or so many texts, `asSet`, `asOrderedSet`, `union`, `intersection`, `-` and `includesAll` against a sort
 #   of a copy (each argument has half of the source's items and as many others);
-# * `including` and `append` at the end, `reverse`, `flatten`, `sum` and `max` against a copy;
+# * `including` and `append` at the end, `reverse`, `flatten`, `sum` and `max` against a copy; into an OrderedSet also of rising
+#   numbers, which cannot repeat; and `including` and `append` where the source is handed over, with nothing copied;
 # * `indexOf`, `substring`, `at` and `characters` of a text of a million characters against a loop over its characters;
 # * each of these at a million against a hundred thousand: 10 is linear, and n log n is 12.
 # An argument is the number of items in place of a million.
@@ -39,7 +40,9 @@ for items in numbers texts; do
   for form in union intersection minus includesAll; do line $form $items set sort; done
   for kind in sequence bag set ordered; do line including $items $kind copy; done
   for kind in sequence ordered; do line append $items $kind copy; done
+  for kind in sequence bag set ordered; do line includingOnto $items $kind copy; done
   for form in reverse flatten max; do line $form $items sequence copy; done
 done
+for form in including append includingOnto appendOnto; do line $form rising ordered copy; done
 line sum numbers sequence copy
 for form in textIndexOf textSubstring textAt textCharacters; do line $form texts sequence chars; done
