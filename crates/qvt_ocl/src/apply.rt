@@ -123,7 +123,7 @@ fn told(place: Place, answer: Result<Option<Value>, ListFault>) -> Result<Value,
 }
 
 /// What the operation gives of these operands. TypeFault comes exactly where it says nothing of them. The operands are lent:
-/// nothing is copied but what the answer holds.
+/// copied are the items alone that the answer is made of.
 #[tactic(auto, unfolding(qvt_ocl_words::specs::Operation::operation))]
 pub fn apply(
     alloc: Global,

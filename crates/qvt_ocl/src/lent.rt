@@ -1,4 +1,4 @@
-//! Operations on a collection whose items are lent. Nothing is copied but what the answer holds.
+//! Operations on a collection whose items are lent. Copied are the items alone that the answer is made of.
 
 ghost use Rattle.std.specs.Prelude.{◌≡◌, [], IfOk, List};
 ghost use Rattle.qvt_value.specs.declared.value.Value.{Value};

@@ -42,12 +42,7 @@ pub fn flat(alloc: Global, kind: Kind, items: &[Value]) -> Result<Value, ListFau
 }
 
 /// The items and one more, put last, made a collection of the kind.
-pub fn with_last(
-    alloc: Global,
-    kind: Kind,
-    items: Values,
-    item: &Value,
-) -> Result<Value, ListFault>
+pub fn with_last(alloc: Global, kind: Kind, items: Values, item: &Value) -> Result<Value, ListFault>
     ensures { IfOk result (λ answer. answer ≡ kept kind (items ++ item.now ∷ [])) }
 {
     let mut all = items;
@@ -79,12 +74,7 @@ pub fn excluding(
     kept(alloc, kind, items::excluding(alloc, item, items)?)
 }
 
-fn with_all(
-    alloc: Global,
-    kind: Kind,
-    items: Values,
-    others: &[Value],
-) -> Result<Value, ListFault>
+fn with_all(alloc: Global, kind: Kind, items: Values, others: &[Value]) -> Result<Value, ListFault>
     ensures { IfOk result (λ answer. answer ≡ kept kind (items ++ others.now)) }
 {
     kept(alloc, kind, items::extend(alloc, items, others)?)

@@ -47,16 +47,37 @@ fn with_one(
     ensures { IfOk result (λ answer. answer ≡ answered op place (Coll kind items) (arg.now ∷ [])) }
 {
     if is_invalid(arg) {
-        return on_items(alloc, op, place, kind, items.as_slice(), slice::from_ref(arg));
+        return on_items(
+            alloc,
+            op,
+            place,
+            kind,
+            items.as_slice(),
+            slice::from_ref(arg),
+        );
     }
     match op {
         Op::Including => Ok(Some(with_last(alloc, kind, items, arg)?)),
         Op::Append => append_onto(alloc, kind, items, arg),
         Op::Union => match arg {
             Value::Coll(other, others) => union_onto(alloc, kind, items, *other, others.as_slice()),
-            _ => on_items(alloc, op, place, kind, items.as_slice(), slice::from_ref(arg)),
+            _ => on_items(
+                alloc,
+                op,
+                place,
+                kind,
+                items.as_slice(),
+                slice::from_ref(arg),
+            ),
         },
-        _ => on_items(alloc, op, place, kind, items.as_slice(), slice::from_ref(arg)),
+        _ => on_items(
+            alloc,
+            op,
+            place,
+            kind,
+            items.as_slice(),
+            slice::from_ref(arg),
+        ),
     }
 }
 

@@ -121,15 +121,24 @@ fn is_answered(alloc: Global, case: &Json) -> Option<bool> {
     let source = value_of(alloc, case.get(1)?, DEEPEST)?;
     let args = values_of(alloc, case.get(2)?, DEEPEST)?;
     let wanted = wanted_of(alloc, case.get(3)?)?;
-    if !is_wanted(apply(alloc, op, place(1), &source, args.as_slice()), &wanted) {
+    if !is_wanted(
+        apply(alloc, op, place(1), &source, args.as_slice()),
+        &wanted,
+    ) {
         return Some(false);
     }
     let items = lent(alloc, &source)?;
-    if !is_wanted(apply_lent(alloc, op, place(1), &items, args.as_slice()), &wanted) {
+    if !is_wanted(
+        apply_lent(alloc, op, place(1), &items, args.as_slice()),
+        &wanted,
+    ) {
         return Some(false);
     }
     let handed = source.copy(alloc).ok()?;
-    Some(is_wanted(apply_owned(alloc, op, place(1), handed, args.as_slice()), &wanted))
+    Some(is_wanted(
+        apply_owned(alloc, op, place(1), handed, args.as_slice()),
+        &wanted,
+    ))
 }
 
 /// What comes of the call that a line holds.
