@@ -46,38 +46,18 @@ fn with_one(
 ) -> Result<Option<Value>, ListFault>
     ensures { IfOk result (λ answer. answer ≡ answered op place (Coll kind items) (arg.now ∷ [])) }
 {
+    let args = slice::from_ref(arg);
     if is_invalid(arg) {
-        return on_items(
-            alloc,
-            op,
-            place,
-            kind,
-            items.as_slice(),
-            slice::from_ref(arg),
-        );
+        return on_items(alloc, op, place, kind, items.as_slice(), args);
     }
     match op {
         Op::Including => Ok(Some(with_last(alloc, kind, items, arg)?)),
         Op::Append => append_onto(alloc, kind, items, arg),
         Op::Union => match arg {
             Value::Coll(other, others) => union_onto(alloc, kind, items, *other, others.as_slice()),
-            _ => on_items(
-                alloc,
-                op,
-                place,
-                kind,
-                items.as_slice(),
-                slice::from_ref(arg),
-            ),
+            _ => on_items(alloc, op, place, kind, items.as_slice(), args),
         },
-        _ => on_items(
-            alloc,
-            op,
-            place,
-            kind,
-            items.as_slice(),
-            slice::from_ref(arg),
-        ),
+        _ => on_items(alloc, op, place, kind, items.as_slice(), args),
     }
 }
 
