@@ -1,5 +1,6 @@
 #!/usr/bin/env bash
-# What operations on collections and texts cost, as ratios of processor time to a plain loop over a vector of the same values:
+# What operations on collections and texts cost, as ratios of processor time to a plain loop over a vector of the same values,
+# a copy in the order that they have in the collection:
 # * of a million numbers, or so many texts, `asSet`, `asOrderedSet`, `union`, `intersection`, `-` and `includesAll` against a sort
 #   of a copy (each argument has half of the source's items and as many others);
 # * `including` and `append` at the end, `reverse`, `flatten`, `sum` and `max` against a copy; into an OrderedSet also of rising
@@ -32,7 +33,7 @@ line() { # FORM ITEMS KIND BASE
   local one ten base
   one=$(cost "$1" "$2" "$3" $few)
   ten=$(cost "$1" "$2" "$3" $many)
-  base=$(cost "$4" "$2" sequence $many)
+  base=$(cost "$4" "$2" "$3" $many)
   awk "BEGIN{printf \"%s of %s in a %s: %.0f ms, %.2f of a plain $4, %.1f of that of a tenth\\n\", \"$1\", \"$2\", \"$3\", $ten / 1000, $ten / ($base > 0 ? $base : 1), $ten / ($one > 0 ? $one : 1)}"
 }
 for items in numbers texts; do

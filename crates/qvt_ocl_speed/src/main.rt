@@ -1,7 +1,8 @@
 //! Applies an operation so many times to a collection of so many items, or to a text of so many characters. Its words are the
 //! form, the items (`numbers`, `texts` or `rising` numbers), the kind (`set`, `bag`, `sequence` or `ordered`) and the two
-//! numbers. The forms `copy` and `sort` are plain loops over a vector of the same values, `chars` is one over the text, and the
-//! forms that end in `Onto` hand each answer over to the next call. `bench/operations.sh` times it.
+//! numbers. The forms `copy` and `sort` are plain loops over a vector of the same values, `copy` in the order that they have in
+//! the collection, `chars` is one over the text, and the forms that end in `Onto` hand each answer over to the next call.
+//! `bench/operations.sh` times it.
 #![tactic(auto)]
 
 mod data;
@@ -147,9 +148,18 @@ fn copied(alloc: Global, items: &Values, times: u32) -> Option<()> {
     Some(())
 }
 
+/// The items of a collection of the kind.
+fn made_items(alloc: Global, data: &str, kind: Kind, n: u32) -> Option<Values> {
+    let made = make(alloc, kind, items(alloc, data, 0, n)?).ok()?;
+    match made.into_items() {
+        Ok((_, items)) => Some(items),
+        Err(_) => None,
+    }
+}
+
 fn done(alloc: Global, form: Form, data: &str, kind: Kind, n: u32, times: u32) -> Option<()> {
     match form {
-        Form::Copy => copied(alloc, &items(alloc, data, 0, n)?, times),
+        Form::Copy => copied(alloc, &made_items(alloc, data, kind, n)?, times),
         Form::Sort => sorts(alloc, &items(alloc, data, 0, n)?, times),
         Form::Chars => {
             counts(data::long_text(alloc, n)?.as_str(), times);
