@@ -2,6 +2,8 @@
 
 ghost use Rattle.std.specs.Prelude.{◌≡◌, ◌≢◌, IfOk, IsOk, IsTrue, List, []};
 ghost use Rattle.indexmap.specs.IndexSet.{insert_all};
+ghost use Rattle.std.specs.List.Sorted.{IsPermutation, IsSorted};
+ghost use Rattle.qvt_value.specs.contracts.value.ValueOrd.TheImpl.{ghosts as order};
 ghost use Rattle.qvt_value.specs.contracts.value.ValuePartialEq.TheImpl.{ghosts};
 ghost use Rattle.qvt_value.specs.declared.value.Value.{Value};
 ghost use Rattle.qvt_value.specs.Kept.{sorted, firsts, is_below_next, rises};
@@ -18,7 +20,7 @@ use qvt_base::numbers::Place;
 use qvt_base::seq::Seq;
 use std::alloc::Global;
 
-/// Makes the items a collection of the kind, however many they are. Only an OrderedSet takes memory.
+/// Makes the items a collection of the kind, however many they are. Only an OrderedSet needs memory.
 pub fn make(alloc: Global, kind: Kind, items: Values) -> Result<Value, ValueFault>
     ensures keeps { IfOk result (λ v. (ys : List Value) × (v ≡ Value.Coll kind ys) × IsMade kind items ys) }
     ensures is { IfOk result (λ v. v ≡ Value.Coll kind (made kind items)) }
@@ -47,19 +49,34 @@ pub fn make_within(
     Ok(limited(place, made))
 }
 
-fn in_order(mut items: Values) -> Values
-    ensures { result ≡ sorted order_of items }
+/// The items in order. Lists that are in order already are merged, where there is memory for that.
+fn merged(items: Values) -> Values
+    ensures permutation { IsPermutation items result }
+    ensures sorted { IsSorted order.cmp result }
 {
-    items.sort();
-    items
+    let mut all = items.into_vec();
+    match all.sort() {
+        Ok(()) => Seq::from_vec(all),
+        Err(_) => {
+            all.sort_unstable();
+            Seq::from_vec(all)
+        }
+    }
 }
 
-fn in_order_once(mut items: Values) -> Values
+fn in_order(items: Values) -> Values
+    ensures { result ≡ sorted order_of items }
+{
+    let all = merged(items);
+    all
+}
+
+fn in_order_once(items: Values) -> Values
     ensures { result ≡ sorted order_of (firsts order_of items) }
 {
-    items.sort();
-    items.dedup();
-    items
+    let mut all = merged(items);
+    all.dedup();
+    all
 }
 
 fn is_below_next(item: &Value, rest: &[Value]) -> bool
