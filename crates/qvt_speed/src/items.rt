@@ -24,22 +24,29 @@ fn item(alloc: Global, data: &str, number: u32) -> Option<Value> {
     Some(Value::Str(Text::from_string(text)))
 }
 
-/// The items of these numbers, scattered.
+fn scattered(number: u32, from: u32) -> u32 {
+    number.wrapping_mul(2_654_435_761).wrapping_add(from) ^ 0x5bd1_e995
+}
+
+/// So many items: numbers or texts, scattered, or rising numbers.
 pub fn items(alloc: Global, data: &str, from: u32, n: u32) -> Option<Values> {
     let mut items = Seq::new(alloc);
     for number in 0..n {
-        let scattered = number.wrapping_mul(2_654_435_761).wrapping_add(from) ^ 0x5bd1_e995;
-        items.push(item(alloc, data, scattered)?).ok()?;
+        let value = match data {
+            "rising" => Value::Int(i64::from(from) + i64::from(number)),
+            _ => item(alloc, data, scattered(number, from))?,
+        };
+        items.push(value).ok()?;
     }
     Some(items)
 }
 
 /// An item that comes after all others.
 pub fn longest(alloc: Global, data: &str) -> Option<Value> {
-    if data == "numbers" {
-        return Some(Value::Int(i64::MAX));
+    if data == "texts" {
+        return Some(Value::Str(Text::from_str(alloc, "z").ok()?));
     }
-    Some(Value::Str(Text::from_str(alloc, "z").ok()?))
+    Some(Value::Int(i64::MAX))
 }
 
 /// One value alone.

@@ -1,13 +1,14 @@
 //! Applies an operation so many times to a collection of so many items, or to a text of so many characters. Its words are the
-//! form, the items (`numbers` or `texts`), the kind (`set`, `bag`, `sequence` or `ordered`) and the two numbers. The forms
-//! `copy` and `sort` are plain loops over a vector of the same values, `chars` is one over the text. `bench/operations.sh`
-//! times it.
+//! form, the items (`numbers`, `texts` or `rising` numbers), the kind (`set`, `bag`, `sequence` or `ordered`) and the two
+//! numbers. The forms `copy` and `sort` are plain loops over a vector of the same values, `copy` in the order that they have in
+//! the collection, `chars` is one over the text, and the forms that end in `Onto` hand each answer over to the next call.
+//! `bench/operations.sh` times it.
 
 use crate::items::{items, kind_of, long_text, longest, one};
 use crate::words::{number, word};
 use qvt_base::lists::Bytes;
 use qvt_base::numbers::Place;
-use qvt_ocl::apply::apply;
+use qvt_ocl::apply::{apply, apply_owned};
 use qvt_ocl_words::op::Op;
 use qvt_value::copy::copies;
 use qvt_value::make::make;
@@ -50,6 +51,12 @@ const ON_COLLECTIONS: [(&str, Op, Taking); 12] = [
     ("flatten", Op::Flatten, Taking::Nothing),
     ("sum", Op::Sum, Taking::Nothing),
     ("max", Op::Max, Taking::Nothing),
+];
+
+/// The operations on a collection that is handed over.
+const ONTO_COLLECTIONS: [(&str, Op, Taking); 2] = [
+    ("includingOnto", Op::Including, Taking::Last),
+    ("appendOnto", Op::Append, Taking::Last),
 ];
 
 /// The operations on a text.
@@ -112,9 +119,24 @@ fn called(alloc: Global, op: Op, taking: Taking, source: &Value, work: &Work) ->
     Some(())
 }
 
+/// The collection.
+fn collection(alloc: Global, work: &Work) -> Option<Value> {
+    make(alloc, work.kind, items(alloc, work.data, 0, work.n)?).ok()
+}
+
 fn on_collection(alloc: Global, op: Op, taking: Taking, work: &Work) -> Option<()> {
-    let source = make(alloc, work.kind, items(alloc, work.data, 0, work.n)?).ok()?;
+    let source = collection(alloc, work)?;
     called(alloc, op, taking, &source, work)
+}
+
+/// Makes the calls of an operation, each on the answer of the call before it.
+fn onto_collection(alloc: Global, op: Op, taking: Taking, work: &Work) -> Option<()> {
+    let args = arguments(alloc, taking, work)?;
+    let mut answer = collection(alloc, work)?;
+    for _time in 0..work.times {
+        answer = apply_owned(alloc, op, HERE, answer, args.as_slice()).ok()?;
+    }
+    Some(())
 }
 
 fn on_text(alloc: Global, op: Op, taking: Taking, work: &Work) -> Option<()> {
@@ -123,7 +145,9 @@ fn on_text(alloc: Global, op: Op, taking: Taking, work: &Work) -> Option<()> {
 }
 
 fn copied(alloc: Global, work: &Work) -> Option<()> {
-    let items = items(alloc, work.data, 0, work.n)?;
+    let Ok((_, items)) = collection(alloc, work)?.into_items() else {
+        return None;
+    };
     for _time in 0..work.times {
         copies(alloc, items.as_slice()).ok()?;
     }
@@ -160,6 +184,9 @@ fn summed(alloc: Global, work: &Work) -> Option<u64> {
 fn applied(alloc: Global, form: &str, work: &Work) -> Option<()> {
     if let Some((op, taking)) = named(&ON_TEXTS, form) {
         return on_text(alloc, op, taking, work);
+    }
+    if let Some((op, taking)) = named(&ONTO_COLLECTIONS, form) {
+        return onto_collection(alloc, op, taking, work);
     }
     let (op, taking) = named(&ON_COLLECTIONS, form)?;
     on_collection(alloc, op, taking, work)
