@@ -523,10 +523,9 @@ module _ (d : MetaData) (ok : IsChecked d) (ranks : List ℕ) (ranked : AreRanks
       here : FeatureAt ls f → (is_class_type (shape_of w f).kind ≡ true) × ((shape_of w f).unique ≡ true)
       here at =
           let contains : (F at.class at.place).containment ≡ true = sym (shape_name at.class at.place at.live at.within) ∙ ap (λ n. is_containment w n) (sym at.is) ∙ t in
-          let o : Linked at.class at.place = linked at.class at.place at.live at.within (or_left (F at.class at.place).containment (is_some (F at.class at.place).opposite) contains) in
-          (
+          let o : Linked at.class at.place = linked at.class at.place at.live at.within (or_left (F at.class at.place).containment (is_some (F at.class at.place).opposite) contains) in (
             ap (λ n. is_class_type (shape_of w n).kind) at.is
-            ∙ ap is_class_type (kind_at at.class at.place at.live at.within ∙ ap (kind_of first_begin (enum_names d) (names_of ls)) o.kind ∙ class_kind (E at.class at.place) o.live),
+                ∙ ap is_class_type (kind_at at.class at.place at.live at.within ∙ ap (kind_of first_begin (enum_names d) (names_of ls)) o.kind ∙ class_kind (E at.class at.place) o.live),
             ap (λ n. (shape_of w n).unique) at.is ∙ shape_unique at.class at.place at.live at.within ∙ o.unique,
           )
 

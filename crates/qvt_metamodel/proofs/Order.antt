@@ -62,7 +62,7 @@ module _ (m : Metamodels) (ranks : List ℕ) (ok : AreRanks m ranks) where
         back up = elim (or_cases ((d == c) || is_element m c) (reaches m d c) k) [
           | inl e ↦ elim (or_cases (d == c) (is_element m c) e) [ inl same ↦ sym (eqb-true d c same) | inr over ↦ clash up (not_up c d over) ]
           | inr down ↦ (let one : slice_index ranks d < slice_index ranks c = falls (length m.classes) d c up in
-            let other : slice_index ranks c < slice_index ranks d = falls (length m.classes) c d down in absurd (omega (arith, one, other)))
+              let other : slice_index ranks c < slice_index ranks d = falls (length m.classes) c d down in absurd (omega (arith, one, other)))
         ]
 
     join : (d e c : ℕ) → IsAncestor m d c → IsAncestor m e d → IsAncestor m e c
@@ -108,5 +108,5 @@ module _ (m : Metamodels) (ranks : List ℕ) (ok : AreRanks m ranks) where
           | inr over ↦ clash there (bare d f over)
         ]
         | inr up ↦ (let s : (s : ℕ) × (is_superclass m c s ≡ true) = first_step (length m.classes) d c up in
-          up_to c d f (above_sound m (length m.classes) d c up) (live m ranks ok c s.0 s.1) there)
+            up_to c d f (above_sound m (length m.classes) d c up) (live m ranks ok c s.0 s.1) there)
       ]
