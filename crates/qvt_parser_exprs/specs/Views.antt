@@ -62,8 +62,8 @@ filter_head_view (name, kind) = (name, type_view kind)
 abbrev pub form_view : ResolveWord × (Option PathTree × Option Filter) → ResolveWord × (Option PathTree × Option FilterTerm)
 form_view (word, (path, filter)) = (word, (path, option_view filter_view filter))
 
-abbrev pub head_rest_view : Option TypeTree × (Option Accumulator × Expr) → Option TypeTerm × (Option AccumulatorTerm × ExprTerm)
-head_rest_view (kind, (accumulator, body)) = (optional_type kind, (option_view accumulator_view accumulator, expr_view body))
+abbrev pub head_rest_view : Option TypeTree × (Option Accumulator × Box Expr Global) → Option TypeTerm × (Option AccumulatorTerm × ExprTerm)
+head_rest_view (kind, (accumulator, body)) = (optional_type kind, (option_view accumulator_view accumulator, boxed_view body))
 
 abbrev pub arrow_args_view : Option Head × List Expr → HeadTerm × List ExprTerm
 arrow_args_view (head, args) = (optional_head (option_view head_view head), exprs_view args)
