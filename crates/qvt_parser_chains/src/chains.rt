@@ -5,7 +5,7 @@ ghost use Rattle.qvt_parser_grammar.specs.Tokens.{of};
 ghost use Rattle.qvt_parser_grammar.specs.Firsts.{step_first};
 ghost use Rattle.qvt_parser_grammar.specs.Reading.{operators, post_at, signed_post_at, pre_at, each_tail_at, lead_step_at, link_at, links_at, chain_at, lead_post_at, lead_pre_at, lead_at};
 ghost use Rattle.qvt_parser_grammar.specs.Nesting.{nested_at};
-ghost use Rattle.qvt_parser_exprs.specs.Views.{lead_view, each_view, links_view, lead_step_view, lead_steps_view};
+ghost use Rattle.qvt_parser_exprs.specs.Views.{lead_view, held_each_view, links_view, lead_step_view, lead_steps_view};
 ghost use Rattle.qvt_parser_grammar.specs.Gives.{Gives, toks};
 ghost use Rattle.qvt_parser_chains.specs.Raised.{raised_at};
 
@@ -154,8 +154,8 @@ impl<N: Nest> Chains<N> {
 
     #[inline(never)]
     #[tactic(auto, unfolding(qvt_parser_grammar::specs::Reading::each_tail_at))]
-    fn each_tail(&self, parser: &mut Parser<'_>) -> Result<EachTail, ParseError>
-        ensures gives { Gives each_view result (toks parser.new) (each_tail_at (nested_at (N.room self.now.inside.nest)) (toks parser.old)) }
+    fn each_tail(&self, parser: &mut Parser<'_>) -> Result<Box<EachTail>, ParseError>
+        ensures gives { Gives held_each_view result (toks parser.new) (each_tail_at (nested_at (N.room self.now.inside.nest)) (toks parser.old)) }
         ensures fewer { length (toks parser.new) ≤ length (toks parser.old) }
         ensures less { OnOk result (length (toks parser.new) < length (toks parser.old)) }
     {
@@ -166,12 +166,14 @@ impl<N: Nest> Chains<N> {
         let condition = self.inside.optional_bar(parser)?;
         parser.take(Class::CloseRound)?;
         let body = self.inside.block(parser)?;
-        Ok(EachTail {
+        let tail = EachTail {
             name: name.text,
             kind,
             condition,
             body,
-        })
+        };
+        let tail = Box::new(parser.alloc, tail)?;
+        Ok(tail)
     }
 
     #[inline(never)]
@@ -198,7 +200,7 @@ impl<N: Nest> Chains<N> {
     pub fn lead_steps(
         &self,
         parser: &mut Parser<'_>,
-    ) -> Result<(Seq<Step>, Option<EachTail>), ParseError>
+    ) -> Result<(Seq<Step>, Option<Box<EachTail>>), ParseError>
         ensures gives { Gives lead_steps_view result (toks parser.new) (ended_at (of step_first) (lead_step_at (nested_at (N.room self.now.inside.nest))) (toks parser.old)) }
         ensures fewer { length (toks parser.new) ≤ length (toks parser.old) }
     {

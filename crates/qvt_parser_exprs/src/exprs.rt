@@ -62,11 +62,7 @@ impl<N: Nest> Inside<N> {
     }
 
     /// An expression after a token of the class.
-    pub fn expr_past(
-        &self,
-        parser: &mut Parser<'_>,
-        class: Class,
-    ) -> Result<Box<Expr>, ParseError>
+    pub fn expr_past(&self, parser: &mut Parser<'_>, class: Class) -> Result<Box<Expr>, ParseError>
         ensures gives { Gives boxed_view result (toks parser.new) (made_at second (then_at (the_at class) (expr_at (nested_at (N.room self.now.nest)))) (toks parser.old)) }
         ensures fewer { length (toks parser.new) ≤ length (toks parser.old) }
         ensures less { OnOk result (length (toks parser.new) < length (toks parser.old)) }

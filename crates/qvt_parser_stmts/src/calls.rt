@@ -67,11 +67,11 @@ impl<
 
 /// Calls that are ready.
 #[derive(Drop)]
-pub struct Sure<C: Calls> {
+pub struct ReadyCalls<C: Calls> {
     pub calls: C,
 }
 
-impl<C: Calls> Model for Sure<C> {
+impl<C: Calls> Model for ReadyCalls<C> {
     ghost Value = { C };
 
     ghost view = { λ s. s.calls };
@@ -79,7 +79,7 @@ impl<C: Calls> Model for Sure<C> {
     ghost invariant = { λ s. C.ready s.calls };
 }
 
-impl<C: Calls> Nest for Sure<C> {
+impl<C: Calls> Nest for ReadyCalls<C> {
     ghost room = { λ s. C.room s };
 
     fn lead(&self, parser: &mut Parser<'_>) -> Result<Leading, ParseError> {

@@ -7,7 +7,7 @@ ghost use Rattle.qvt_parser_grammar.specs.Gives.{Gives, toks};
 ghost use Rattle.qvt_parser_exprs.specs.Views.{lead_view, stmts_view};
 ghost use Rattle.qvt_parser_stmts.specs.Views.{ended_view};
 
-use crate::calls::{CallPair, Calls, Sure};
+use crate::calls::{CallPair, Calls, ReadyCalls};
 use crate::statements::Statements;
 use crate::turns::EndedStmts;
 use qvt_parser_chains::chains::Chains;
@@ -19,15 +19,12 @@ use qvt_tree_types::tree::{Expr, Stmts};
 
 /// An expression that may still become a target, by the calls for what stands inside it.
 #[tactic(auto, unfolding(qvt_parser_grammar::specs::Reading::flagged_at))]
-fn flagged_over<C: Calls + Drop>(
-    calls: C,
-    parser: &mut Parser<'_>,
-) -> Result<Leading, ParseError>
+fn flagged_over<C: Calls + Drop>(calls: C, parser: &mut Parser<'_>) -> Result<Leading, ParseError>
     requires { C.ready calls }
     ensures gives { Gives lead_view result (toks parser.new) (flagged_at (nested_at (C.room calls)) (toks parser.old)) }
     ensures fewer { length (toks parser.new) ≤ length (toks parser.old) }
 {
-    let nest = Sure { calls };
+    let nest = ReadyCalls { calls };
     let chains = Chains {
         inside: Inside { nest },
     };
@@ -40,7 +37,7 @@ fn block_over<C: Calls + Drop>(calls: C, parser: &mut Parser<'_>) -> Result<Stmt
     ensures gives { Gives stmts_view result (toks parser.new) (block_at (nested_at (C.room calls)) (toks parser.old)) }
     ensures fewer { length (toks parser.new) ≤ length (toks parser.old) }
 {
-    let nest = Sure { calls };
+    let nest = ReadyCalls { calls };
     let statements = Statements {
         chains: Chains {
             inside: Inside { nest },
@@ -58,7 +55,7 @@ fn statements_over<C: Calls + Drop>(
     ensures gives { Gives ended_view result (toks parser.new) (statements_at (nested_at (C.room calls)) (toks parser.old)) }
     ensures fewer { length (toks parser.new) ≤ length (toks parser.old) }
 {
-    let nest = Sure { calls };
+    let nest = ReadyCalls { calls };
     let statements = Statements {
         chains: Chains {
             inside: Inside { nest },

@@ -120,7 +120,10 @@ impl<N: Nest> Statements<N> {
         ensures less { OnOk result (length (toks parser.new) < length (toks parser.old)) }
     {
         parser.take(Class::ElifWord)?;
-        let condition = self.chains.inside.enclosed(parser, Class::OpenRound, Class::CloseRound)?;
+        let condition = self
+            .chains
+            .inside
+            .enclosed(parser, Class::OpenRound, Class::CloseRound)?;
         parser.skip(Class::ThenWord);
         let body = self.chains.inside.block(parser)?;
         Ok(Arm {
@@ -282,7 +285,10 @@ impl<N: Nest> Statements<N> {
         ensures fewer { length (toks parser.new) ≤ length (toks parser.old) }
     {
         let yes = self.chains.inside.boxed(parser)?;
-        let no = self.chains.inside.enclosed(parser, Class::ElseWord, Class::EndifWord)?;
+        let no = self
+            .chains
+            .inside
+            .enclosed(parser, Class::ElseWord, Class::EndifWord)?;
         let expr = Box::new(parser.alloc, conditional(condition, yes, no, place))?;
         Ok(expr)
     }
@@ -301,7 +307,7 @@ impl<N: Nest> Statements<N> {
         match part {
             Some(part) => {
                 let source = posted(parser.alloc, place, first, steps)?;
-                held(parser.alloc, for_each(source, part, place))
+                held(parser.alloc, for_each(source, Box::into_inner(part), place))
             }
             None => Err(ParseError::Syntax),
         }
@@ -315,7 +321,10 @@ impl<N: Nest> Statements<N> {
     {
         let place = parser.place();
         parser.take(Class::WhileWord)?;
-        let condition = self.chains.inside.enclosed(parser, Class::OpenRound, Class::CloseRound)?;
+        let condition = self
+            .chains
+            .inside
+            .enclosed(parser, Class::OpenRound, Class::CloseRound)?;
         let body = self.chains.inside.block(parser)?;
         let stmt = Stmt::While {
             condition: Box::into_inner(condition),
@@ -347,9 +356,8 @@ impl<N: Nest> Statements<N> {
         let lead = self.chains.lead(parser)?;
         match lead {
             Leading::Each { source, part } => {
-                let part = Box::into_inner(part);
                 let source = Box::into_inner(source);
-                let stmt = held(parser.alloc, for_each(source, part, place))?;
+                let stmt = held(parser.alloc, for_each(source, Box::into_inner(part), place))?;
                 Ok(Turn::Closed(stmt))
             }
             lead => self.written(parser, lead, place),

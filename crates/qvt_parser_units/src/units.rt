@@ -373,7 +373,11 @@ fn fresh(parser: &mut Parser<'_>, clauses: Clauses, room: usize) -> Result<Claus
 }
 
 /// The block after the word of a section, if the word stands there.
-fn section(parser: &mut Parser<'_>, word: Class, room: usize) -> Result<Option<Seq<Stmt>>, ParseError>
+fn section(
+    parser: &mut Parser<'_>,
+    word: Class,
+    room: usize,
+) -> Result<Option<Seq<Stmt>>, ParseError>
     ensures gives { Gives (option_view stmts_view) result (toks parser.new) (maybe_at (is word) (made_at second (then_at (the_at word) (nested_at room).block)) (toks parser.old)) }
     ensures fewer { length (toks parser.new) ≤ length (toks parser.old) }
 {
