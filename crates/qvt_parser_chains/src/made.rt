@@ -74,11 +74,11 @@ pub fn head_of(name: Named, kind: Option<TypeTree>, accumulator: Option<Accumula
 }
 
 /// The list of one expression.
-pub fn one_expr(alloc: Global, expr: Expr) -> Result<Seq<Expr>, ParseError>
-    ensures { Makes exprs_view result (expr_view expr ∷ []) }
+pub fn one_expr(alloc: Global, expr: Box<Expr>) -> Result<Seq<Expr>, ParseError>
+    ensures { Makes exprs_view result (boxed_view expr ∷ []) }
 {
     let mut exprs = short_list(alloc, true)?;
-    exprs.push(expr)?;
+    exprs.push(Box::into_inner(expr))?;
     Ok(exprs)
 }
 

@@ -170,7 +170,7 @@ impl<N: Nest> Chains<N> {
         };
         let (kind, (accumulator, body)) = self.head_rest(parser)?;
         let head = head_of(name, kind, accumulator);
-        let args = one_expr(parser.alloc, Box::into_inner(body))?;
+        let args = one_expr(parser.alloc, body)?;
         Ok((Some(head), args))
     }
 

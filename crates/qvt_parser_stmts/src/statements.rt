@@ -399,7 +399,6 @@ impl<N: Nest> Statements<N> {
         let pair = self.assignment(parser)?;
         let target = into_target(parser.alloc, lead)?;
         let (sign, value) = pair;
-        let value = Box::into_inner(value);
         let stmt = held(parser.alloc, assign(target, sign.class, value, sign.place))?;
         Ok(ended(parser, stmt))
     }
