@@ -396,8 +396,8 @@ impl<N: Nest> Statements<N> {
         ensures gives { Gives turn_view result (toks parser.new) (made_at (written_turn place (lead_view lead)) (lead_tail_at (nested_at (N.room self.now.chains.inside.nest)) (lead_view lead)) (toks parser.old)) }
         ensures fewer { length (toks parser.new) ≤ length (toks parser.old) }
     {
-        let pair = self.assignment(parser)?;
         let target = into_target(parser.alloc, lead)?;
+        let pair = self.assignment(parser)?;
         let (sign, value) = pair;
         let stmt = held(parser.alloc, assign(target, sign.class, value, sign.place))?;
         Ok(ended(parser, stmt))
