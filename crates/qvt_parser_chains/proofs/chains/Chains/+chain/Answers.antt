@@ -38,4 +38,4 @@ pub chain-returns-in_err-lead-clause-gives : goal.chain-returns-in_err-lead-clau
 chain-returns-in_err-lead-clause-gives t g c = first_fault c.args.level (pre_at (nested_at (t.N.Nest.room c.args.self.now.inside.nest))) (pre_at (nested_at (t.N.Nest.room c.args.self.now.inside.nest))) (toks c.args.parser.now) (toks c.pre.new.parser) c.in_err-lead.field-0.0 c.from_residual.result c.from_residual.ensures.1 c.in_err-lead.ensures.gives
 
 pub raised-returns-then-not-at_operator-clause-gives : goal.raised-returns-then-not-at_operator-clause-gives
-raised-returns-then-not-at_operator-clause-gives t g c = unread c.args.below (pre_at (nested_at (t.N.Nest.room c.args.self.now.inside.nest))) (less_link c.args.below c.args.self.now.inside.room) c.args.place (lead_view c.args.first) (toks c.args.parser.now) (sym c.at_operator.ensures ∙ c.if-not-at_operator.true)
+raised-returns-then-not-at_operator-clause-gives t g c = unread c.args.below (pre_at (nested_at (t.N.Nest.room c.args.self.now.inside.nest))) (less_link c.args.below (t.N.Nest.room c.args.self.now.inside.nest)) c.args.place (lead_view c.args.first) (toks c.args.parser.now) (sym c.at_operator.ensures ∙ c.if-not-at_operator.true)
