@@ -8,7 +8,7 @@ ghost use Rattle.qvt_parser_grammar.specs.Firsts.{clause_first, unit_first};
 ghost use Rattle.qvt_parser_grammar.specs.Trees.{second, cons_of, nothing, text_of};
 ghost use Rattle.qvt_parser_grammar.specs.UnitTrees.{sections_of, read_words, some_unit, units_of, mapping_of, no_clauses};
 ghost use Rattle.qvt_parser_grammar.specs.Reading.{paths_at, unit_path_at};
-ghost use Rattle.qvt_parser_grammar.specs.ReadingUnits.{param_at, params_at, feature_at, features_at, class_unit_at, main_unit_at, helper_body_at, helper_unit_at, constructor_unit_at, result_decl_at, when_clause_at, clause_at, end_part_at, sections_at, body_at, fresh_at, clauses_at, mapping_unit_at, unit_at, strictness_at, uri_at, model_type_at, model_param_at, header_at, transformation_at};
+ghost use Rattle.qvt_parser_grammar.specs.ReadingUnits.{param_at, params_at, feature_at, features_at, class_unit_at, main_unit_at, helper_body_at, helper_unit_at, constructor_unit_at, result_decl_at, when_clause_at, clause_at, init_part_at, end_part_at, sections_at, body_at, fresh_at, clauses_at, mapping_unit_at, unit_at, strictness_at, uri_at, model_type_at, model_param_at, header_at, transformation_at};
 ghost use Rattle.qvt_parser_grammar.specs.Nesting.{nested_at};
 ghost use Rattle.qvt_parser_grammar.specs.Options.{option_view};
 ghost use Rattle.qvt_parser_grammar.specs.Gives.{Gives, toks, same};
@@ -372,17 +372,13 @@ fn fresh(parser: &mut Parser<'_>, clauses: Clauses, room: usize) -> Result<Claus
     Ok(with_clause(clauses, clause))
 }
 
-/// The block after the word of a section, if the word stands there.
-fn section(
-    parser: &mut Parser<'_>,
-    word: Class,
-    room: usize,
-) -> Result<Option<Seq<Stmt>>, ParseError>
-    ensures gives { Gives (option_view stmts_view) result (toks parser.new) (maybe_at (is word) (made_at second (then_at (the_at word) (nested_at room).block)) (toks parser.old)) }
+#[tactic(auto, unfolding(qvt_parser_grammar::specs::ReadingUnits::init_part_at))]
+fn init_part(parser: &mut Parser<'_>, room: usize) -> Result<Option<Seq<Stmt>>, ParseError>
+    ensures gives { Gives (option_view stmts_view) result (toks parser.new) (maybe_at (is Class.InitWord) (init_part_at (nested_at room)) (toks parser.old)) }
     ensures fewer { length (toks parser.new) ≤ length (toks parser.old) }
 {
-    if parser.at(word) {
-        parser.take(word)?;
+    if parser.at(Class::InitWord) {
+        parser.take(Class::InitWord)?;
         let stmts = block(parser, room)?;
         return Ok(Some(stmts));
     }
@@ -390,6 +386,18 @@ fn section(
 }
 
 #[tactic(auto, unfolding(qvt_parser_grammar::specs::ReadingUnits::end_part_at))]
+fn end_part(parser: &mut Parser<'_>, room: usize) -> Result<Option<Seq<Stmt>>, ParseError>
+    ensures gives { Gives (option_view stmts_view) result (toks parser.new) (maybe_at (is Class.EndWord) (end_part_at (nested_at room)) (toks parser.old)) }
+    ensures fewer { length (toks parser.new) ≤ length (toks parser.old) }
+{
+    if parser.at(Class::EndWord) {
+        parser.take(Class::EndWord)?;
+        let stmts = block(parser, room)?;
+        return Ok(Some(stmts));
+    }
+    Ok(None)
+}
+
 fn population(parser: &mut Parser<'_>, room: usize) -> Result<(Seq<Stmt>, Seq<Stmt>), ParseError>
     ensures gives { Gives sections_view result (toks parser.new) (made_at sections_of (made_at second (then_at (the_at Class.PopulationWord) (then_at (nested_at room).block (maybe_at (is Class.EndWord) (end_part_at (nested_at room)))))) (toks parser.old)) }
     ensures fewer { length (toks parser.new) ≤ length (toks parser.old) }
@@ -397,12 +405,12 @@ fn population(parser: &mut Parser<'_>, room: usize) -> Result<(Seq<Stmt>, Seq<St
 {
     parser.take(Class::PopulationWord)?;
     let population = block(parser, room)?;
-    let finish = section(parser, Class::EndWord, room)?;
+    let finish = end_part(parser, room)?;
     let finish = stmts_or_none(parser.alloc, finish);
     Ok((population, finish))
 }
 
-#[tactic(auto, unfolding(qvt_parser_grammar::specs::ReadingUnits::sections_at, qvt_parser_grammar::specs::ReadingUnits::end_part_at))]
+#[tactic(auto, unfolding(qvt_parser_grammar::specs::ReadingUnits::sections_at))]
 fn sections(parser: &mut Parser<'_>, room: usize) -> Result<(Seq<Stmt>, Seq<Stmt>), ParseError>
     ensures gives { Gives sections_view result (toks parser.new) (sections_at (nested_at room) (toks parser.old)) }
     ensures fewer { length (toks parser.new) ≤ length (toks parser.old) }
@@ -414,12 +422,12 @@ fn sections(parser: &mut Parser<'_>, room: usize) -> Result<(Seq<Stmt>, Seq<Stmt
     if ended.open_end {
         return Ok((ended.stmts, Seq::new(parser.alloc)));
     }
-    let finish = section(parser, Class::EndWord, room)?;
+    let finish = end_part(parser, room)?;
     let finish = stmts_or_none(parser.alloc, finish);
     Ok((ended.stmts, finish))
 }
 
-#[tactic(auto, unfolding(qvt_parser_grammar::specs::ReadingUnits::body_at, qvt_parser_grammar::specs::ReadingUnits::init_part_at))]
+#[tactic(auto, unfolding(qvt_parser_grammar::specs::ReadingUnits::body_at))]
 fn body(parser: &mut Parser<'_>, room: usize) -> Result<Body, ParseError>
     ensures gives { Gives body_view result (toks parser.new) (body_at (nested_at room) (toks parser.old)) }
     ensures fewer { length (toks parser.new) ≤ length (toks parser.old) }
@@ -434,7 +442,7 @@ fn body(parser: &mut Parser<'_>, room: usize) -> Result<Body, ParseError>
         });
     }
     parser.take(Class::OpenBrace)?;
-    let init = section(parser, Class::InitWord, room)?;
+    let init = init_part(parser, room)?;
     let (population, finish) = sections(parser, room)?;
     parser.take(Class::CloseBrace)?;
     let init = stmts_or_none(parser.alloc, init);
