@@ -5,35 +5,30 @@ ghost use Rattle.qvt_parser_grammar.specs.Tokens.{of};
 ghost use Rattle.qvt_parser_grammar.specs.Firsts.{step_first};
 ghost use Rattle.qvt_parser_grammar.specs.Reading.{operators, post_at, signed_post_at, pre_at, each_tail_at, lead_step_at, link_at, links_at, chain_at, lead_post_at, lead_pre_at, lead_at};
 ghost use Rattle.qvt_parser_grammar.specs.Nesting.{nested_at};
-ghost use Rattle.qvt_parser_exprs.specs.Views.{lead_view, each_view, links_view, lead_step_view, lead_steps_view};
+ghost use Rattle.qvt_parser_exprs.specs.Views.{lead_view, held_each_view, links_view, lead_step_view, lead_steps_view};
 ghost use Rattle.qvt_parser_grammar.specs.Gives.{Gives, toks};
-ghost use Rattle.qvt_parser_exprs.specs.Inside.{IsInside};
 ghost use Rattle.qvt_parser_chains.specs.Raised.{raised_at};
 
 use crate::made::{chained, each_lead, linked, post_lead, prefixed};
 use qvt_base::numbers::Place;
 use qvt_base::seq::Seq;
-use qvt_parser_exprs::inside::Inside;
+use qvt_parser_exprs::inside::{Inside, Nest};
 use qvt_parser_exprs::leading::{EachTail, LeadStep, Leading};
 use qvt_parser_exprs::made::{finish, short_list};
 use qvt_parser_grammar::cursor::{ParseError, Parser};
 use qvt_parser_grammar::token::Class;
-use qvt_tree_types::tree::{Link, Step, Stmts};
+use qvt_tree_types::tree::{Link, Step};
 
 /// The calls that read steps and chains of operands, over those that read the expressions in them.
 #[derive(Drop)]
-pub struct Chains<F, G> {
-    pub inside: Inside<F, G>,
+pub struct Chains<N> {
+    pub inside: Inside<N>,
 }
 
-impl<
-    F: Fn(&mut Parser<'_>) -> Result<Leading, ParseError>,
-    G: Fn(&mut Parser<'_>) -> Result<Stmts, ParseError>,
-> Chains<F, G> {
+impl<N: Nest> Chains<N> {
     #[tactic(auto, unfolding(qvt_parser_grammar::specs::Reading::post_at))]
     fn post(&self, parser: &mut Parser<'_>) -> Result<Leading, ParseError>
-        requires { IsInside F.Fn G.Fn self.now.inside }
-        ensures gives { Gives lead_view result (toks parser.new) (post_at (nested_at self.now.inside.room) (toks parser.old)) }
+        ensures gives { Gives lead_view result (toks parser.new) (post_at (nested_at (N.room self.now.inside.nest)) (toks parser.old)) }
         ensures fewer { length (toks parser.new) ≤ length (toks parser.old) }
         ensures less { OnOk result (length (toks parser.new) < length (toks parser.old)) }
     {
@@ -46,8 +41,7 @@ impl<
     #[inline(never)]
     #[tactic(auto, unfolding(qvt_parser_grammar::specs::Reading::signed_post_at, qvt_parser_grammar::specs::Reading::signs_at))]
     fn signed_post(&self, parser: &mut Parser<'_>) -> Result<Leading, ParseError>
-        requires { IsInside F.Fn G.Fn self.now.inside }
-        ensures gives { Gives lead_view result (toks parser.new) (signed_post_at (nested_at self.now.inside.room) (toks parser.old)) }
+        ensures gives { Gives lead_view result (toks parser.new) (signed_post_at (nested_at (N.room self.now.inside.nest)) (toks parser.old)) }
         ensures fewer { length (toks parser.new) ≤ length (toks parser.old) }
         ensures less { OnOk result (length (toks parser.new) < length (toks parser.old)) }
     {
@@ -61,8 +55,7 @@ impl<
 
     #[tactic(auto, unfolding(qvt_parser_grammar::specs::Reading::pre_at))]
     fn pre(&self, parser: &mut Parser<'_>) -> Result<Leading, ParseError>
-        requires { IsInside F.Fn G.Fn self.now.inside }
-        ensures gives { Gives lead_view result (toks parser.new) (pre_at (nested_at self.now.inside.room) (toks parser.old)) }
+        ensures gives { Gives lead_view result (toks parser.new) (pre_at (nested_at (N.room self.now.inside.nest)) (toks parser.old)) }
         ensures fewer { length (toks parser.new) ≤ length (toks parser.old) }
         ensures less { OnOk result (length (toks parser.new) < length (toks parser.old)) }
     {
@@ -77,9 +70,8 @@ impl<
     /// is open keeps little on the stack.
     #[cycle(chain)]
     pub fn chain(&self, parser: &mut Parser<'_>, level: usize) -> Result<Leading, ParseError>
-        requires nested { IsInside F.Fn G.Fn self.now.inside }
         requires tight { level ≤ 8 }
-        ensures gives { Gives lead_view result (toks parser.new) (chain_at level (pre_at (nested_at self.now.inside.room)) (pre_at (nested_at self.now.inside.room)) (toks parser.old)) }
+        ensures gives { Gives lead_view result (toks parser.new) (chain_at level (pre_at (nested_at (N.room self.now.inside.nest))) (pre_at (nested_at (N.room self.now.inside.nest))) (toks parser.old)) }
         ensures fewer { length (toks parser.new) ≤ length (toks parser.old) }
         ensures less { OnOk result (length (toks parser.new) < length (toks parser.old)) }
     {
@@ -103,9 +95,8 @@ impl<
         first: Leading,
         below: usize,
     ) -> Result<Leading, ParseError>
-        requires nested { IsInside F.Fn G.Fn self.now.inside }
         requires tight { below < 8 }
-        ensures gives { Gives lead_view result (toks parser.new) (raised_at below (pre_at (nested_at self.now.inside.room)) place (lead_view first) (toks parser.old)) }
+        ensures gives { Gives lead_view result (toks parser.new) (raised_at below (pre_at (nested_at (N.room self.now.inside.nest))) place (lead_view first) (toks parser.old)) }
         ensures fewer { length (toks parser.new) ≤ length (toks parser.old) }
     {
         if !parser.at_operator(below) {
@@ -123,9 +114,8 @@ impl<
         first: &Leading,
         level: usize,
     ) -> Result<Seq<Link>, ParseError>
-        requires nested { IsInside F.Fn G.Fn self.now.inside }
         requires tight { level < 8 }
-        ensures gives { Gives links_view result (toks parser.new) (links_at level (chain_at level (pre_at (nested_at self.now.inside.room)) (pre_at (nested_at self.now.inside.room))) (lead_view first.now) (toks parser.old)) }
+        ensures gives { Gives links_view result (toks parser.new) (links_at level (chain_at level (pre_at (nested_at (N.room self.now.inside.nest))) (pre_at (nested_at (N.room self.now.inside.nest)))) (lead_view first.now) (toks parser.old)) }
         ensures fewer { length (toks parser.new) ≤ length (toks parser.old) }
     {
         match first {
@@ -136,9 +126,8 @@ impl<
 
     #[cycle(chain)]
     fn operands(&self, parser: &mut Parser<'_>, level: usize) -> Result<Seq<Link>, ParseError>
-        requires nested { IsInside F.Fn G.Fn self.now.inside }
         requires tight { level < 8 }
-        ensures gives { Gives links_view result (toks parser.new) (many_at (of (operators level)) (link_at level (chain_at level (pre_at (nested_at self.now.inside.room)) (pre_at (nested_at self.now.inside.room)))) (toks parser.old)) }
+        ensures gives { Gives links_view result (toks parser.new) (many_at (of (operators level)) (link_at level (chain_at level (pre_at (nested_at (N.room self.now.inside.nest))) (pre_at (nested_at (N.room self.now.inside.nest))))) (toks parser.old)) }
         ensures fewer { length (toks parser.new) ≤ length (toks parser.old) }
     {
         let some = parser.at_operator(level);
@@ -153,9 +142,8 @@ impl<
     #[cycle(chain)]
     #[tactic(auto, unfolding(qvt_parser_grammar::specs::Reading::link_at))]
     fn link(&self, parser: &mut Parser<'_>, level: usize) -> Result<Link, ParseError>
-        requires nested { IsInside F.Fn G.Fn self.now.inside }
         requires tight { level < 8 }
-        ensures gives { Gives link_view result (toks parser.new) (link_at level (chain_at level (pre_at (nested_at self.now.inside.room)) (pre_at (nested_at self.now.inside.room))) (toks parser.old)) }
+        ensures gives { Gives link_view result (toks parser.new) (link_at level (chain_at level (pre_at (nested_at (N.room self.now.inside.nest))) (pre_at (nested_at (N.room self.now.inside.nest)))) (toks parser.old)) }
         ensures fewer { length (toks parser.new) ≤ length (toks parser.old) }
         ensures less { OnOk result (length (toks parser.new) < length (toks parser.old)) }
     {
@@ -166,32 +154,32 @@ impl<
 
     #[inline(never)]
     #[tactic(auto, unfolding(qvt_parser_grammar::specs::Reading::each_tail_at))]
-    fn each_tail(&self, parser: &mut Parser<'_>) -> Result<EachTail, ParseError>
-        requires { IsInside F.Fn G.Fn self.now.inside }
-        ensures gives { Gives each_view result (toks parser.new) (each_tail_at (nested_at self.now.inside.room) (toks parser.old)) }
+    fn each_tail(&self, parser: &mut Parser<'_>) -> Result<Box<EachTail>, ParseError>
+        ensures gives { Gives held_each_view result (toks parser.new) (each_tail_at (nested_at (N.room self.now.inside.nest)) (toks parser.old)) }
         ensures fewer { length (toks parser.new) ≤ length (toks parser.old) }
         ensures less { OnOk result (length (toks parser.new) < length (toks parser.old)) }
     {
         parser.take(Class::ForEachWord)?;
         parser.take(Class::OpenRound)?;
         let name = parser.name()?;
-        let kind = parser.optional_type(self.inside.room)?;
+        let kind = parser.optional_type(self.inside.nest.room())?;
         let condition = self.inside.optional_bar(parser)?;
         parser.take(Class::CloseRound)?;
         let body = self.inside.block(parser)?;
-        Ok(EachTail {
+        let tail = EachTail {
             name: name.text,
             kind,
             condition,
             body,
-        })
+        };
+        let tail = Box::new(parser.alloc, tail)?;
+        Ok(tail)
     }
 
     #[inline(never)]
     #[tactic(auto, unfolding(qvt_parser_grammar::specs::Reading::lead_step_at))]
     fn lead_step(&self, parser: &mut Parser<'_>) -> Result<LeadStep, ParseError>
-        requires { IsInside F.Fn G.Fn self.now.inside }
-        ensures gives { Gives lead_step_view result (toks parser.new) (lead_step_at (nested_at self.now.inside.room) (toks parser.old)) }
+        ensures gives { Gives lead_step_view result (toks parser.new) (lead_step_at (nested_at (N.room self.now.inside.nest)) (toks parser.old)) }
         ensures fewer { length (toks parser.new) ≤ length (toks parser.old) }
         ensures less { OnOk result (length (toks parser.new) < length (toks parser.old)) }
     {
@@ -212,9 +200,8 @@ impl<
     pub fn lead_steps(
         &self,
         parser: &mut Parser<'_>,
-    ) -> Result<(Seq<Step>, Option<EachTail>), ParseError>
-        requires { IsInside F.Fn G.Fn self.now.inside }
-        ensures gives { Gives lead_steps_view result (toks parser.new) (ended_at (of step_first) (lead_step_at (nested_at self.now.inside.room)) (toks parser.old)) }
+    ) -> Result<(Seq<Step>, Option<Box<EachTail>>), ParseError>
+        ensures gives { Gives lead_steps_view result (toks parser.new) (ended_at (of step_first) (lead_step_at (nested_at (N.room self.now.inside.nest))) (toks parser.old)) }
         ensures fewer { length (toks parser.new) ≤ length (toks parser.old) }
     {
         let some = parser.at_step();
@@ -231,8 +218,7 @@ impl<
 
     #[tactic(auto, unfolding(qvt_parser_grammar::specs::Reading::lead_post_at))]
     fn lead_post(&self, parser: &mut Parser<'_>) -> Result<Leading, ParseError>
-        requires { IsInside F.Fn G.Fn self.now.inside }
-        ensures gives { Gives lead_view result (toks parser.new) (lead_post_at (nested_at self.now.inside.room) (toks parser.old)) }
+        ensures gives { Gives lead_view result (toks parser.new) (lead_post_at (nested_at (N.room self.now.inside.nest)) (toks parser.old)) }
         ensures fewer { length (toks parser.new) ≤ length (toks parser.old) }
         ensures less { OnOk result (length (toks parser.new) < length (toks parser.old)) }
     {
@@ -244,8 +230,7 @@ impl<
 
     #[tactic(auto, unfolding(qvt_parser_grammar::specs::Reading::lead_pre_at))]
     fn lead_pre(&self, parser: &mut Parser<'_>) -> Result<Leading, ParseError>
-        requires { IsInside F.Fn G.Fn self.now.inside }
-        ensures gives { Gives lead_view result (toks parser.new) (lead_pre_at (nested_at self.now.inside.room) (toks parser.old)) }
+        ensures gives { Gives lead_view result (toks parser.new) (lead_pre_at (nested_at (N.room self.now.inside.nest)) (toks parser.old)) }
         ensures fewer { length (toks parser.new) ≤ length (toks parser.old) }
         ensures less { OnOk result (length (toks parser.new) < length (toks parser.old)) }
     {
@@ -258,8 +243,7 @@ impl<
     /// An expression at the front of a statement, which may go on as a `forEach`.
     #[tactic(auto, unfolding(qvt_parser_grammar::specs::Reading::lead_at))]
     pub fn lead(&self, parser: &mut Parser<'_>) -> Result<Leading, ParseError>
-        requires { IsInside F.Fn G.Fn self.now.inside }
-        ensures gives { Gives lead_view result (toks parser.new) (lead_at (nested_at self.now.inside.room) (toks parser.old)) }
+        ensures gives { Gives lead_view result (toks parser.new) (lead_at (nested_at (N.room self.now.inside.nest)) (toks parser.old)) }
         ensures fewer { length (toks parser.new) ≤ length (toks parser.old) }
         ensures less { OnOk result (length (toks parser.new) < length (toks parser.old)) }
     {

@@ -5,7 +5,7 @@ ghost use Rattle.qvt_parser_grammar.specs.Leads.{Plain};
 ghost use Rattle.qvt_parser_grammar.specs.Trees as trees;
 ghost use Rattle.qvt_parser_grammar.specs.Grammar as grammar;
 ghost use Rattle.qvt_parser_grammar.specs.Options.{option_view};
-ghost use Rattle.qvt_parser_exprs.specs.Views.{boxed_view, first_view, lead_view, each_view, exprs_view, links_view, steps_view};
+ghost use Rattle.qvt_parser_exprs.specs.Views.{boxed_view, first_view, lead_view, held_each_view, exprs_view, links_view, steps_view};
 ghost use Rattle.qvt_parser_grammar.specs.Gives.{Makes, same};
 ghost use Rattle.qvt_parser_chains.specs.Heads.{name_in};
 
@@ -74,11 +74,11 @@ pub fn head_of(name: Named, kind: Option<TypeTree>, accumulator: Option<Accumula
 }
 
 /// The list of one expression.
-pub fn one_expr(alloc: Global, expr: Expr) -> Result<Seq<Expr>, ParseError>
-    ensures { Makes exprs_view result (expr_view expr ∷ []) }
+pub fn one_expr(alloc: Global, expr: Box<Expr>) -> Result<Seq<Expr>, ParseError>
+    ensures { Makes exprs_view result (boxed_view expr ∷ []) }
 {
     let mut exprs = short_list(alloc, true)?;
-    exprs.push(expr)?;
+    exprs.push(Box::into_inner(expr))?;
     Ok(exprs)
 }
 
@@ -148,16 +148,15 @@ pub fn each_lead(
     place: Place,
     first: First,
     steps: Seq<Step>,
-    part: Option<EachTail>,
+    part: Option<Box<EachTail>>,
 ) -> Result<Leading, ParseError>
-    ensures { Makes lead_view result (trees.each_lead (place, (first_view first, (steps_view steps, option_view each_view part)))) }
+    ensures { Makes lead_view result (trees.each_lead (place, (first_view first, (steps_view steps, option_view held_each_view part)))) }
 {
     match part {
         None => Ok(post_lead(place, first, steps)),
         Some(part) => {
             let source = posted(alloc, place, first.expr, steps)?;
             let source = Box::new(alloc, source)?;
-            let part = Box::new(alloc, part)?;
             Ok(Leading::Each { source, part })
         }
     }

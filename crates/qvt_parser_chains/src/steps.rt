@@ -1,35 +1,31 @@
 ghost use Rattle.std.specs.Prelude.{◌<◌, ◌≤◌, IsTrue, length, OnOk};
 ghost use Rattle.qvt_grammar.specs.Reader.{starts, made_at, then_at, many_at, maybe_at};
-ghost use Rattle.qvt_tree_types.specs.View.{expr_view, step_view, accumulator_view};
+ghost use Rattle.qvt_tree_types.specs.View.{step_view, accumulator_view};
 ghost use Rattle.qvt_parser_grammar.specs.Tokens.{of, is};
 ghost use Rattle.qvt_parser_grammar.specs.Firsts.{head_first, step_first};
 ghost use Rattle.qvt_parser_grammar.specs.Trees.{dot_of, arrow_of, with_first, is_there};
 ghost use Rattle.qvt_parser_grammar.specs.Reading.{name_at, args_at, dot_rest_at, dot_step_at, accumulator_at, head_rest_at, more_exprs_at, after_first_at, arrow_body_at, arrow_args_at, arrow_rest_at, step_at};
 ghost use Rattle.qvt_parser_grammar.specs.Nesting.{nested_at};
 ghost use Rattle.qvt_parser_grammar.specs.Options.{option_view};
-ghost use Rattle.qvt_parser_exprs.specs.Views.{lead_view, exprs_view, steps_view, head_rest_view, arrow_args_view};
+ghost use Rattle.qvt_parser_exprs.specs.Views.{boxed_view, lead_view, exprs_view, steps_view, head_rest_view, arrow_args_view};
 ghost use Rattle.qvt_parser_grammar.specs.Gives.{Gives, toks};
-ghost use Rattle.qvt_parser_exprs.specs.Inside.{IsInside};
 ghost use Rattle.qvt_parser_chains.specs.Heads.{name_in};
 
 use crate::chains::Chains;
 use crate::made::{head_name, head_of, is_head, one_expr};
 use qvt_base::seq::Seq;
+use qvt_parser_exprs::inside::Nest;
 use qvt_parser_exprs::leading::Leading;
-use qvt_parser_exprs::made::{finish, short_list};
+use qvt_parser_exprs::made::{boxed, short_list};
 use qvt_parser_grammar::cursor::{ParseError, Parser};
 use qvt_parser_grammar::token::Class;
-use qvt_tree_types::tree::{Accumulator, Expr, Head, Step, Stmts};
+use qvt_tree_types::tree::{Accumulator, Expr, Head, Step};
 use qvt_tree_types::types::TypeTree;
 
-impl<
-    F: Fn(&mut Parser<'_>) -> Result<Leading, ParseError>,
-    G: Fn(&mut Parser<'_>) -> Result<Stmts, ParseError>,
-> Chains<F, G> {
+impl<N: Nest> Chains<N> {
     #[tactic(auto, unfolding(qvt_parser_grammar::specs::Reading::dot_rest_at))]
     fn dot_rest(&self, parser: &mut Parser<'_>) -> Result<Step, ParseError>
-        requires { IsInside F.Fn G.Fn self.now.inside }
-        ensures gives { Gives step_view result (toks parser.new) (dot_rest_at (nested_at self.now.inside.room) (toks parser.old)) }
+        ensures gives { Gives step_view result (toks parser.new) (dot_rest_at (nested_at (N.room self.now.inside.nest)) (toks parser.old)) }
         ensures fewer { length (toks parser.new) ≤ length (toks parser.old) }
         ensures less { OnOk result (length (toks parser.new) < length (toks parser.old)) }
     {
@@ -45,8 +41,7 @@ impl<
     }
 
     fn optional_args(&self, parser: &mut Parser<'_>) -> Result<Option<Seq<Expr>>, ParseError>
-        requires { IsInside F.Fn G.Fn self.now.inside }
-        ensures gives { Gives (option_view exprs_view) result (toks parser.new) (maybe_at (is Class.OpenRound) (args_at (nested_at self.now.inside.room)) (toks parser.old)) }
+        ensures gives { Gives (option_view exprs_view) result (toks parser.new) (maybe_at (is Class.OpenRound) (args_at (nested_at (N.room self.now.inside.nest))) (toks parser.old)) }
         ensures fewer { length (toks parser.new) ≤ length (toks parser.old) }
     {
         if parser.at(Class::OpenRound) {
@@ -57,8 +52,7 @@ impl<
     }
 
     fn dot_name(&self, parser: &mut Parser<'_>) -> Result<Step, ParseError>
-        requires { IsInside F.Fn G.Fn self.now.inside }
-        ensures gives { Gives step_view result (toks parser.new) (made_at dot_of (then_at name_at (maybe_at (is Class.OpenRound) (args_at (nested_at self.now.inside.room)))) (toks parser.old)) }
+        ensures gives { Gives step_view result (toks parser.new) (made_at dot_of (then_at name_at (maybe_at (is Class.OpenRound) (args_at (nested_at (N.room self.now.inside.nest))))) (toks parser.old)) }
         ensures fewer { length (toks parser.new) ≤ length (toks parser.old) }
         ensures less { OnOk result (length (toks parser.new) < length (toks parser.old)) }
     {
@@ -74,8 +68,7 @@ impl<
     /// A step that begins with a dot.
     #[tactic(auto, unfolding(qvt_parser_grammar::specs::Reading::dot_step_at))]
     pub fn dot_step(&self, parser: &mut Parser<'_>) -> Result<Step, ParseError>
-        requires { IsInside F.Fn G.Fn self.now.inside }
-        ensures gives { Gives step_view result (toks parser.new) (dot_step_at (nested_at self.now.inside.room) (toks parser.old)) }
+        ensures gives { Gives step_view result (toks parser.new) (dot_step_at (nested_at (N.room self.now.inside.nest)) (toks parser.old)) }
         ensures fewer { length (toks parser.new) ≤ length (toks parser.old) }
         ensures less { OnOk result (length (toks parser.new) < length (toks parser.old)) }
     {
@@ -86,14 +79,13 @@ impl<
     #[inline(never)]
     #[tactic(auto, unfolding(qvt_parser_grammar::specs::Reading::accumulator_at))]
     fn accumulator(&self, parser: &mut Parser<'_>) -> Result<Accumulator, ParseError>
-        requires { IsInside F.Fn G.Fn self.now.inside }
-        ensures gives { Gives accumulator_view result (toks parser.new) (accumulator_at (nested_at self.now.inside.room) (toks parser.old)) }
+        ensures gives { Gives accumulator_view result (toks parser.new) (accumulator_at (nested_at (N.room self.now.inside.nest)) (toks parser.old)) }
         ensures fewer { length (toks parser.new) ≤ length (toks parser.old) }
         ensures less { OnOk result (length (toks parser.new) < length (toks parser.old)) }
     {
         parser.take(Class::Semicolon)?;
         let name = parser.name()?;
-        let kind = parser.colon_type(self.inside.room)?;
+        let kind = parser.colon_type(self.inside.nest.room())?;
         parser.take(Class::EqualSign)?;
         let first = self.inside.expr(parser)?;
         Ok(Accumulator {
@@ -108,8 +100,7 @@ impl<
         &self,
         parser: &mut Parser<'_>,
     ) -> Result<Option<Accumulator>, ParseError>
-        requires { IsInside F.Fn G.Fn self.now.inside }
-        ensures gives { Gives (option_view accumulator_view) result (toks parser.new) (maybe_at (is Class.Semicolon) (accumulator_at (nested_at self.now.inside.room)) (toks parser.old)) }
+        ensures gives { Gives (option_view accumulator_view) result (toks parser.new) (maybe_at (is Class.Semicolon) (accumulator_at (nested_at (N.room self.now.inside.nest))) (toks parser.old)) }
         ensures fewer { length (toks parser.new) ≤ length (toks parser.old) }
     {
         if parser.at(Class::Semicolon) {
@@ -119,33 +110,31 @@ impl<
         Ok(None)
     }
 
-    #[tactic(auto, unfolding(qvt_parser_grammar::specs::Reading::head_rest_at))]
+    #[tactic(auto, unfolding(qvt_parser_grammar::specs::Reading::head_rest_at, qvt_parser_grammar::specs::Reading::bar_expr_at))]
     fn head_rest(
         &self,
         parser: &mut Parser<'_>,
-    ) -> Result<(Option<TypeTree>, (Option<Accumulator>, Expr)), ParseError>
-        requires { IsInside F.Fn G.Fn self.now.inside }
-        ensures gives { Gives head_rest_view result (toks parser.new) (head_rest_at (nested_at self.now.inside.room) (toks parser.old)) }
+    ) -> Result<(Option<TypeTree>, (Option<Accumulator>, Box<Expr>)), ParseError>
+        ensures gives { Gives head_rest_view result (toks parser.new) (head_rest_at (nested_at (N.room self.now.inside.nest)) (toks parser.old)) }
         ensures fewer { length (toks parser.new) ≤ length (toks parser.old) }
         ensures less { OnOk result (length (toks parser.new) < length (toks parser.old)) }
     {
-        let kind = parser.optional_type(self.inside.room)?;
+        let kind = parser.optional_type(self.inside.nest.room())?;
         let accumulator = self.optional_accumulator(parser)?;
-        let body = self.inside.bar_expr(parser)?;
-        Ok((kind, (accumulator, Box::into_inner(body))))
+        let body = self.inside.expr_past(parser, Class::Bar)?;
+        Ok((kind, (accumulator, body)))
     }
 
     #[tactic(auto, unfolding(qvt_parser_grammar::specs::Reading::arrow_body_at))]
     fn arrow_body(&self, parser: &mut Parser<'_>) -> Result<(Option<Head>, Seq<Expr>), ParseError>
-        requires { IsInside F.Fn G.Fn self.now.inside }
-        ensures gives { Gives arrow_args_view result (toks parser.new) (arrow_body_at (nested_at self.now.inside.room) (toks parser.old)) }
+        ensures gives { Gives arrow_args_view result (toks parser.new) (arrow_body_at (nested_at (N.room self.now.inside.nest)) (toks parser.old)) }
         ensures fewer { length (toks parser.new) ≤ length (toks parser.old) }
     {
         let lead = self.inside.flagged(parser)?;
         if parser.at_head() {
             return self.head_after(parser, lead);
         }
-        let first = finish(parser.alloc, lead)?;
+        let first = boxed(parser.alloc, lead)?;
         self.exprs_after(parser, first)
     }
 
@@ -154,15 +143,14 @@ impl<
         parser: &mut Parser<'_>,
         lead: Leading,
     ) -> Result<(Option<Head>, Seq<Expr>), ParseError>
-        requires nested { IsInside F.Fn G.Fn self.now.inside }
         requires head { IsTrue (starts (of head_first) (toks parser.old)) }
-        ensures gives { Gives arrow_args_view result (toks parser.new) (after_first_at (nested_at self.now.inside.room) (lead_view lead) (toks parser.old)) }
+        ensures gives { Gives arrow_args_view result (toks parser.new) (after_first_at (nested_at (N.room self.now.inside.nest)) (lead_view lead) (toks parser.old)) }
         ensures fewer { length (toks parser.new) ≤ length (toks parser.old) }
     {
         if is_head(&lead) {
             return self.headed(parser, lead);
         }
-        let first = finish(parser.alloc, lead)?;
+        let first = boxed(parser.alloc, lead)?;
         self.exprs_after(parser, first)
     }
 
@@ -172,10 +160,9 @@ impl<
         parser: &mut Parser<'_>,
         lead: Leading,
     ) -> Result<(Option<Head>, Seq<Expr>), ParseError>
-        requires nested { IsInside F.Fn G.Fn self.now.inside }
         requires head { IsTrue (starts (of head_first) (toks parser.old)) }
         requires name { IsTrue (is_there (name_in (lead_view lead))) }
-        ensures gives { Gives arrow_args_view result (toks parser.new) (after_first_at (nested_at self.now.inside.room) (lead_view lead) (toks parser.old)) }
+        ensures gives { Gives arrow_args_view result (toks parser.new) (after_first_at (nested_at (N.room self.now.inside.nest)) (lead_view lead) (toks parser.old)) }
         ensures fewer { length (toks parser.new) ≤ length (toks parser.old) }
     {
         let Some(name) = head_name(lead) else {
@@ -190,10 +177,9 @@ impl<
     fn exprs_after(
         &self,
         parser: &mut Parser<'_>,
-        first: Expr,
+        first: Box<Expr>,
     ) -> Result<(Option<Head>, Seq<Expr>), ParseError>
-        requires { IsInside F.Fn G.Fn self.now.inside }
-        ensures gives { Gives arrow_args_view result (toks parser.new) (made_at (with_first (expr_view first)) (more_exprs_at (nested_at self.now.inside.room)) (toks parser.old)) }
+        ensures gives { Gives arrow_args_view result (toks parser.new) (made_at (with_first (boxed_view first)) (more_exprs_at (nested_at (N.room self.now.inside.nest))) (toks parser.old)) }
         ensures fewer { length (toks parser.new) ≤ length (toks parser.old) }
     {
         let exprs = self.inside.exprs_from(parser, first)?;
@@ -202,8 +188,7 @@ impl<
 
     #[tactic(auto, unfolding(qvt_parser_grammar::specs::Reading::arrow_args_at))]
     fn arrow_args(&self, parser: &mut Parser<'_>) -> Result<(Option<Head>, Seq<Expr>), ParseError>
-        requires { IsInside F.Fn G.Fn self.now.inside }
-        ensures gives { Gives arrow_args_view result (toks parser.new) (arrow_args_at (nested_at self.now.inside.room) (toks parser.old)) }
+        ensures gives { Gives arrow_args_view result (toks parser.new) (arrow_args_at (nested_at (N.room self.now.inside.nest)) (toks parser.old)) }
         ensures fewer { length (toks parser.new) ≤ length (toks parser.old) }
         ensures less { OnOk result (length (toks parser.new) < length (toks parser.old)) }
     {
@@ -218,8 +203,7 @@ impl<
     }
 
     fn arrow_name(&self, parser: &mut Parser<'_>) -> Result<Step, ParseError>
-        requires { IsInside F.Fn G.Fn self.now.inside }
-        ensures gives { Gives step_view result (toks parser.new) (made_at arrow_of (then_at name_at (arrow_args_at (nested_at self.now.inside.room))) (toks parser.old)) }
+        ensures gives { Gives step_view result (toks parser.new) (made_at arrow_of (then_at name_at (arrow_args_at (nested_at (N.room self.now.inside.nest)))) (toks parser.old)) }
         ensures fewer { length (toks parser.new) ≤ length (toks parser.old) }
         ensures less { OnOk result (length (toks parser.new) < length (toks parser.old)) }
     {
@@ -237,8 +221,7 @@ impl<
     #[inline(never)]
     #[tactic(auto, unfolding(qvt_parser_grammar::specs::Reading::arrow_rest_at))]
     pub fn arrow_rest(&self, parser: &mut Parser<'_>) -> Result<Step, ParseError>
-        requires { IsInside F.Fn G.Fn self.now.inside }
-        ensures gives { Gives step_view result (toks parser.new) (arrow_rest_at (nested_at self.now.inside.room) (toks parser.old)) }
+        ensures gives { Gives step_view result (toks parser.new) (arrow_rest_at (nested_at (N.room self.now.inside.nest)) (toks parser.old)) }
         ensures fewer { length (toks parser.new) ≤ length (toks parser.old) }
         ensures less { OnOk result (length (toks parser.new) < length (toks parser.old)) }
     {
@@ -256,8 +239,7 @@ impl<
     #[inline(never)]
     #[tactic(auto, unfolding(qvt_parser_grammar::specs::Reading::step_at))]
     fn step(&self, parser: &mut Parser<'_>) -> Result<Step, ParseError>
-        requires { IsInside F.Fn G.Fn self.now.inside }
-        ensures gives { Gives step_view result (toks parser.new) (step_at (nested_at self.now.inside.room) (toks parser.old)) }
+        ensures gives { Gives step_view result (toks parser.new) (step_at (nested_at (N.room self.now.inside.nest)) (toks parser.old)) }
         ensures fewer { length (toks parser.new) ≤ length (toks parser.old) }
         ensures less { OnOk result (length (toks parser.new) < length (toks parser.old)) }
     {
@@ -270,8 +252,7 @@ impl<
 
     /// Any number of steps.
     pub fn steps(&self, parser: &mut Parser<'_>) -> Result<Seq<Step>, ParseError>
-        requires { IsInside F.Fn G.Fn self.now.inside }
-        ensures gives { Gives steps_view result (toks parser.new) (many_at (of step_first) (step_at (nested_at self.now.inside.room)) (toks parser.old)) }
+        ensures gives { Gives steps_view result (toks parser.new) (many_at (of step_first) (step_at (nested_at (N.room self.now.inside.nest))) (toks parser.old)) }
         ensures fewer { length (toks parser.new) ≤ length (toks parser.old) }
     {
         let some = parser.at_step();

@@ -49,12 +49,15 @@ first_view f = (boxed_view f.expr, f.bare)
 abbrev pub each_view : EachTail → EachPart
 each_view e = record { name = e.name; kind = optional_type e.kind; condition = optional_expr (option_view expr_view e.condition); body = stmts_view e.body }
 
+abbrev pub held_each_view : Box EachTail Global → EachPart
+held_each_view e = each_view e.value
+
 abbrev pub lead_view : Leading → Lead
 lead_view (Bare e) = Plain (boxed_view e) (bare_target (boxed_view e))
 lead_view (Post first steps place) = Plain (post_of place (boxed_view first) (steps_view steps)) (member_target place (boxed_view first) (steps_view steps))
 lead_view (InBrackets e) = Bracketed (boxed_view e)
 lead_view (Done e) = Plain (boxed_view e) None
-lead_view (EachLead source part) = Each (boxed_view source) (each_view part.value)
+lead_view (EachLead source part) = Each (boxed_view source) (held_each_view part)
 
 abbrev pub filter_head_view : Option (List ℕ) × TypeTree → Option (List ℕ) × TypeTerm
 filter_head_view (name, kind) = (name, type_view kind)
@@ -62,15 +65,15 @@ filter_head_view (name, kind) = (name, type_view kind)
 abbrev pub form_view : ResolveWord × (Option PathTree × Option Filter) → ResolveWord × (Option PathTree × Option FilterTerm)
 form_view (word, (path, filter)) = (word, (path, option_view filter_view filter))
 
-abbrev pub head_rest_view : Option TypeTree × (Option Accumulator × Expr) → Option TypeTerm × (Option AccumulatorTerm × ExprTerm)
-head_rest_view (kind, (accumulator, body)) = (optional_type kind, (option_view accumulator_view accumulator, expr_view body))
+abbrev pub head_rest_view : Option TypeTree × (Option Accumulator × Box Expr Global) → Option TypeTerm × (Option AccumulatorTerm × ExprTerm)
+head_rest_view (kind, (accumulator, body)) = (optional_type kind, (option_view accumulator_view accumulator, boxed_view body))
 
 abbrev pub arrow_args_view : Option Head × List Expr → HeadTerm × List ExprTerm
 arrow_args_view (head, args) = (optional_head (option_view head_view head), exprs_view args)
 
 abbrev pub lead_step_view : LeadStep → StepTerm ⊎ EachPart
 lead_step_view (OneStep s) = inl (step_view s)
-lead_step_view (EachStep part) = inr (each_view part)
+lead_step_view (EachStep part) = inr (held_each_view part)
 
-abbrev pub lead_steps_view : List Step × Option EachTail → List StepTerm × Option EachPart
-lead_steps_view (steps, part) = (steps_view steps, option_view each_view part)
+abbrev pub lead_steps_view : List Step × Option (Box EachTail Global) → List StepTerm × Option EachPart
+lead_steps_view (steps, part) = (steps_view steps, option_view held_each_view part)

@@ -6,14 +6,13 @@ ghost use Rattle.qvt_parser_grammar.specs.Tokens.{of, is};
 ghost use Rattle.qvt_parser_grammar.specs.Readers.{the_at};
 ghost use Rattle.qvt_parser_grammar.specs.Firsts.{all_first};
 ghost use Rattle.qvt_parser_grammar.specs.Trees.{second, inner, cons_of, range_of, with_head};
-ghost use Rattle.qvt_parser_grammar.specs.Reading.{expr_at, exprs_at, args_at, named_expr_at, item_at, coll_at, if_expr_at, object_at, new_expr_at, map_call_at, filter_head_at, bar_expr_at, filter_at, all_form_at, in_form_at, resolve_at, brackets_at, longer_at, bare_expr_at, other_primary_at, primary_at, more_exprs_at};
+ghost use Rattle.qvt_parser_grammar.specs.Reading.{expr_at, exprs_at, args_at, named_expr_at, item_at, coll_at, if_expr_at, object_at, new_expr_at, map_call_at, filter_head_at, bar_expr_at, filter_at, all_form_at, in_form_at, resolve_at, longer_at, bare_expr_at, other_primary_at, primary_at, more_exprs_at};
 ghost use Rattle.qvt_parser_grammar.specs.Nesting.{nested_at};
 ghost use Rattle.qvt_parser_grammar.specs.Options.{option_view};
 ghost use Rattle.qvt_parser_exprs.specs.Views.{boxed_view, first_view, lead_view, exprs_view, items_view, stmts_view, filter_head_view, form_view};
 ghost use Rattle.qvt_parser_grammar.specs.Gives.{Gives, toks};
-ghost use Rattle.qvt_parser_exprs.specs.Inside.{IsInside};
 
-use crate::inside::Inside;
+use crate::inside::{Inside, Nest};
 use crate::leading::{First, Leading};
 use crate::made::{bare, boxed, conditional, finish, is_strict, resolve_word, short_list};
 use qvt_base::seq::Seq;
@@ -25,33 +24,27 @@ use qvt_tree_types::tree::{Expr, Filter, Item, MapCall, RangeEnd, ResolveCall, S
 use qvt_tree_types::types::{PathTree, TypeTree};
 use qvt_tree_types::words::ResolveWord;
 
-impl<
-    F: Fn(&mut Parser<'_>) -> Result<Leading, ParseError>,
-    G: Fn(&mut Parser<'_>) -> Result<Stmts, ParseError>,
-> Inside<F, G> {
+impl<N: Nest> Inside<N> {
     /// An expression that may still become a target.
     pub fn flagged(&self, parser: &mut Parser<'_>) -> Result<Leading, ParseError>
-        requires { IsInside F.Fn G.Fn self.now }
-        ensures gives { Gives lead_view result (toks parser.new) ((nested_at self.now.room).flagged (toks parser.old)) }
+        ensures gives { Gives lead_view result (toks parser.new) ((nested_at (N.room self.now.nest)).flagged (toks parser.old)) }
         ensures fewer { length (toks parser.new) ≤ length (toks parser.old) }
     {
-        (self.lead)(parser)
+        self.nest.lead(parser)
     }
 
     /// A block.
     pub fn block(&self, parser: &mut Parser<'_>) -> Result<Stmts, ParseError>
-        requires { IsInside F.Fn G.Fn self.now }
-        ensures gives { Gives stmts_view result (toks parser.new) ((nested_at self.now.room).block (toks parser.old)) }
+        ensures gives { Gives stmts_view result (toks parser.new) ((nested_at (N.room self.now.nest)).block (toks parser.old)) }
         ensures fewer { length (toks parser.new) ≤ length (toks parser.old) }
     {
-        (self.block)(parser)
+        self.nest.block(parser)
     }
 
     /// An expression.
     #[tactic(auto, unfolding(qvt_parser_grammar::specs::Reading::expr_at))]
     pub fn expr(&self, parser: &mut Parser<'_>) -> Result<Expr, ParseError>
-        requires { IsInside F.Fn G.Fn self.now }
-        ensures gives { Gives expr_view result (toks parser.new) (expr_at (nested_at self.now.room) (toks parser.old)) }
+        ensures gives { Gives expr_view result (toks parser.new) (expr_at (nested_at (N.room self.now.nest)) (toks parser.old)) }
         ensures fewer { length (toks parser.new) ≤ length (toks parser.old) }
     {
         let lead = self.flagged(parser)?;
@@ -61,46 +54,65 @@ impl<
     /// The same, on the heap.
     #[tactic(auto, unfolding(qvt_parser_grammar::specs::Reading::expr_at))]
     pub fn boxed(&self, parser: &mut Parser<'_>) -> Result<Box<Expr>, ParseError>
-        requires { IsInside F.Fn G.Fn self.now }
-        ensures gives { Gives boxed_view result (toks parser.new) (expr_at (nested_at self.now.room) (toks parser.old)) }
+        ensures gives { Gives boxed_view result (toks parser.new) (expr_at (nested_at (N.room self.now.nest)) (toks parser.old)) }
         ensures fewer { length (toks parser.new) ≤ length (toks parser.old) }
     {
         let lead = self.flagged(parser)?;
         boxed(parser.alloc, lead)
     }
 
-    fn next_expr(&self, parser: &mut Parser<'_>) -> Result<Expr, ParseError>
-        requires { IsInside F.Fn G.Fn self.now }
-        ensures gives { Gives expr_view result (toks parser.new) (made_at second (then_at (the_at Class.Comma) (expr_at (nested_at self.now.room))) (toks parser.old)) }
+    /// An expression after a token of the class.
+    pub fn expr_past(&self, parser: &mut Parser<'_>, class: Class) -> Result<Box<Expr>, ParseError>
+        ensures gives { Gives boxed_view result (toks parser.new) (made_at second (then_at (the_at class) (expr_at (nested_at (N.room self.now.nest)))) (toks parser.old)) }
         ensures fewer { length (toks parser.new) ≤ length (toks parser.old) }
         ensures less { OnOk result (length (toks parser.new) < length (toks parser.old)) }
     {
-        parser.take(Class::Comma)?;
-        self.expr(parser)
+        parser.take(class)?;
+        self.boxed(parser)
+    }
+
+    /// An expression between a token of each class.
+    pub fn enclosed(
+        &self,
+        parser: &mut Parser<'_>,
+        opening: Class,
+        closing: Class,
+    ) -> Result<Box<Expr>, ParseError>
+        ensures gives { Gives boxed_view result (toks parser.new) (made_at inner (then_at (the_at opening) (then_at (expr_at (nested_at (N.room self.now.nest))) (the_at closing))) (toks parser.old)) }
+        ensures fewer { length (toks parser.new) ≤ length (toks parser.old) }
+        ensures less { OnOk result (length (toks parser.new) < length (toks parser.old)) }
+    {
+        parser.take(opening)?;
+        let expr = self.boxed(parser)?;
+        parser.take(closing)?;
+        Ok(expr)
     }
 
     #[tactic(auto, unfolding(qvt_parser_grammar::specs::Reading::exprs_at, qvt_parser_grammar::specs::Reading::more_exprs_at))]
     fn exprs(&self, parser: &mut Parser<'_>) -> Result<Seq<Expr>, ParseError>
-        requires { IsInside F.Fn G.Fn self.now }
-        ensures gives { Gives exprs_view result (toks parser.new) (exprs_at (nested_at self.now.room) (toks parser.old)) }
+        ensures gives { Gives exprs_view result (toks parser.new) (exprs_at (nested_at (N.room self.now.nest)) (toks parser.old)) }
         ensures fewer { length (toks parser.new) ≤ length (toks parser.old) }
     {
-        let first = self.expr(parser)?;
+        let first = self.boxed(parser)?;
         self.exprs_from(parser, first)
     }
 
     /// The expressions after the first one, with it.
     #[tactic(auto, unfolding(qvt_parser_grammar::specs::Reading::more_exprs_at))]
-    pub fn exprs_from(&self, parser: &mut Parser<'_>, first: Expr) -> Result<Seq<Expr>, ParseError>
-        requires { IsInside F.Fn G.Fn self.now }
-        ensures gives { Gives exprs_view result (toks parser.new) (made_at (with_head (expr_view first)) (more_exprs_at (nested_at self.now.room)) (toks parser.old)) }
+    pub fn exprs_from(
+        &self,
+        parser: &mut Parser<'_>,
+        first: Box<Expr>,
+    ) -> Result<Seq<Expr>, ParseError>
+        ensures gives { Gives exprs_view result (toks parser.new) (made_at (with_head (boxed_view first)) (more_exprs_at (nested_at (N.room self.now.nest))) (toks parser.old)) }
         ensures fewer { length (toks parser.new) ≤ length (toks parser.old) }
     {
         let mut exprs = short_list(parser.alloc, true)?;
-        exprs.push(first)?;
+        exprs.push(Box::into_inner(first))?;
         while parser.at(Class::Comma) {
-            let next = self.next_expr(parser)?;
-            exprs.push(next)?;
+            let next = self.expr_past(parser, Class::Comma)?;
+            let expr = Box::into_inner(next);
+            exprs.push(expr)?;
         }
         Ok(exprs)
     }
@@ -108,8 +120,7 @@ impl<
     /// Arguments in brackets.
     #[tactic(auto, unfolding(qvt_parser_grammar::specs::Reading::args_at))]
     pub fn args(&self, parser: &mut Parser<'_>) -> Result<Seq<Expr>, ParseError>
-        requires { IsInside F.Fn G.Fn self.now }
-        ensures gives { Gives exprs_view result (toks parser.new) (args_at (nested_at self.now.room) (toks parser.old)) }
+        ensures gives { Gives exprs_view result (toks parser.new) (args_at (nested_at (N.room self.now.nest)) (toks parser.old)) }
         ensures fewer { length (toks parser.new) ≤ length (toks parser.old) }
         ensures less { OnOk result (length (toks parser.new) < length (toks parser.old)) }
     {
@@ -125,8 +136,7 @@ impl<
 
     #[tactic(auto, unfolding(qvt_parser_grammar::specs::Reading::named_expr_at))]
     fn named_expr(&self, parser: &mut Parser<'_>) -> Result<Expr, ParseError>
-        requires { IsInside F.Fn G.Fn self.now }
-        ensures gives { Gives expr_view result (toks parser.new) (named_expr_at (nested_at self.now.room) (toks parser.old)) }
+        ensures gives { Gives expr_view result (toks parser.new) (named_expr_at (nested_at (N.room self.now.nest)) (toks parser.old)) }
         ensures fewer { length (toks parser.new) ≤ length (toks parser.old) }
         ensures less { OnOk result (length (toks parser.new) < length (toks parser.old)) }
     {
@@ -146,8 +156,7 @@ impl<
 
     #[inline(never)]
     fn range(&self, parser: &mut Parser<'_>) -> Result<Option<RangeEnd>, ParseError>
-        requires { IsInside F.Fn G.Fn self.now }
-        ensures gives { Gives (option_view range_view) result (toks parser.new) (maybe_at (is Class.DotDot) (made_at range_of (then_at (the_at Class.DotDot) (expr_at (nested_at self.now.room)))) (toks parser.old)) }
+        ensures gives { Gives (option_view range_view) result (toks parser.new) (maybe_at (is Class.DotDot) (made_at range_of (then_at (the_at Class.DotDot) (expr_at (nested_at (N.room self.now.nest))))) (toks parser.old)) }
         ensures fewer { length (toks parser.new) ≤ length (toks parser.old) }
     {
         if parser.at(Class::DotDot) {
@@ -163,19 +172,21 @@ impl<
 
     #[tactic(auto, unfolding(qvt_parser_grammar::specs::Reading::item_at))]
     fn item(&self, parser: &mut Parser<'_>) -> Result<Item, ParseError>
-        requires { IsInside F.Fn G.Fn self.now }
-        ensures gives { Gives item_view result (toks parser.new) (item_at (nested_at self.now.room) (toks parser.old)) }
+        ensures gives { Gives item_view result (toks parser.new) (item_at (nested_at (N.room self.now.nest)) (toks parser.old)) }
         ensures fewer { length (toks parser.new) ≤ length (toks parser.old) }
     {
         let place = parser.place();
-        let first = self.expr(parser)?;
+        let first = self.boxed(parser)?;
         let last = self.range(parser)?;
-        Ok(Item { first, last, place })
+        Ok(Item {
+            first: Box::into_inner(first),
+            last,
+            place,
+        })
     }
 
     fn next_item(&self, parser: &mut Parser<'_>) -> Result<Item, ParseError>
-        requires { IsInside F.Fn G.Fn self.now }
-        ensures gives { Gives item_view result (toks parser.new) (made_at second (then_at (the_at Class.Comma) (item_at (nested_at self.now.room))) (toks parser.old)) }
+        ensures gives { Gives item_view result (toks parser.new) (made_at second (then_at (the_at Class.Comma) (item_at (nested_at (N.room self.now.nest)))) (toks parser.old)) }
         ensures fewer { length (toks parser.new) ≤ length (toks parser.old) }
         ensures less { OnOk result (length (toks parser.new) < length (toks parser.old)) }
     {
@@ -184,8 +195,7 @@ impl<
     }
 
     fn items(&self, parser: &mut Parser<'_>) -> Result<Seq<Item>, ParseError>
-        requires { IsInside F.Fn G.Fn self.now }
-        ensures gives { Gives items_view result (toks parser.new) (made_at cons_of (then_at (item_at (nested_at self.now.room)) (many_at (is Class.Comma) (made_at second (then_at (the_at Class.Comma) (item_at (nested_at self.now.room)))))) (toks parser.old)) }
+        ensures gives { Gives items_view result (toks parser.new) (made_at cons_of (then_at (item_at (nested_at (N.room self.now.nest))) (many_at (is Class.Comma) (made_at second (then_at (the_at Class.Comma) (item_at (nested_at (N.room self.now.nest))))))) (toks parser.old)) }
         ensures fewer { length (toks parser.new) ≤ length (toks parser.old) }
     {
         let mut items = short_list(parser.alloc, true)?;
@@ -201,8 +211,7 @@ impl<
     #[inline(never)]
     #[tactic(auto, unfolding(qvt_parser_grammar::specs::Reading::coll_at))]
     fn coll(&self, parser: &mut Parser<'_>) -> Result<Expr, ParseError>
-        requires { IsInside F.Fn G.Fn self.now }
-        ensures gives { Gives expr_view result (toks parser.new) (coll_at (nested_at self.now.room) (toks parser.old)) }
+        ensures gives { Gives expr_view result (toks parser.new) (coll_at (nested_at (N.room self.now.nest)) (toks parser.old)) }
         ensures fewer { length (toks parser.new) ≤ length (toks parser.old) }
         ensures less { OnOk result (length (toks parser.new) < length (toks parser.old)) }
     {
@@ -225,50 +234,25 @@ impl<
         })
     }
 
-    fn then_expr(&self, parser: &mut Parser<'_>) -> Result<Box<Expr>, ParseError>
-        requires { IsInside F.Fn G.Fn self.now }
-        ensures gives { Gives boxed_view result (toks parser.new) (made_at second (then_at (the_at Class.ThenWord) (expr_at (nested_at self.now.room))) (toks parser.old)) }
-        ensures fewer { length (toks parser.new) ≤ length (toks parser.old) }
-        ensures less { OnOk result (length (toks parser.new) < length (toks parser.old)) }
-    {
-        parser.take(Class::ThenWord)?;
-        self.boxed(parser)
-    }
-
-    /// The value after `else`, up to the `endif`.
-    pub fn else_expr(&self, parser: &mut Parser<'_>) -> Result<Box<Expr>, ParseError>
-        requires { IsInside F.Fn G.Fn self.now }
-        ensures gives { Gives boxed_view result (toks parser.new) (made_at inner (then_at (the_at Class.ElseWord) (then_at (expr_at (nested_at self.now.room)) (the_at Class.EndifWord))) (toks parser.old)) }
-        ensures fewer { length (toks parser.new) ≤ length (toks parser.old) }
-        ensures less { OnOk result (length (toks parser.new) < length (toks parser.old)) }
-    {
-        parser.take(Class::ElseWord)?;
-        let expr = self.boxed(parser)?;
-        parser.take(Class::EndifWord)?;
-        Ok(expr)
-    }
-
     #[inline(never)]
     #[tactic(auto, unfolding(qvt_parser_grammar::specs::Reading::if_expr_at))]
     fn if_expr(&self, parser: &mut Parser<'_>) -> Result<Expr, ParseError>
-        requires { IsInside F.Fn G.Fn self.now }
-        ensures gives { Gives expr_view result (toks parser.new) (if_expr_at (nested_at self.now.room) (toks parser.old)) }
+        ensures gives { Gives expr_view result (toks parser.new) (if_expr_at (nested_at (N.room self.now.nest)) (toks parser.old)) }
         ensures fewer { length (toks parser.new) ≤ length (toks parser.old) }
         ensures less { OnOk result (length (toks parser.new) < length (toks parser.old)) }
     {
         let place = parser.place();
         parser.take(Class::IfWord)?;
         let condition = self.boxed(parser)?;
-        let yes = self.then_expr(parser)?;
-        let no = self.else_expr(parser)?;
+        let yes = self.expr_past(parser, Class::ThenWord)?;
+        let no = self.enclosed(parser, Class::ElseWord, Class::EndifWord)?;
         Ok(conditional(condition, yes, no, place))
     }
 
     #[inline(never)]
     #[tactic(auto, unfolding(qvt_parser_grammar::specs::Reading::object_at))]
     fn object(&self, parser: &mut Parser<'_>) -> Result<Expr, ParseError>
-        requires { IsInside F.Fn G.Fn self.now }
-        ensures gives { Gives expr_view result (toks parser.new) (object_at (nested_at self.now.room) (toks parser.old)) }
+        ensures gives { Gives expr_view result (toks parser.new) (object_at (nested_at (N.room self.now.nest)) (toks parser.old)) }
         ensures fewer { length (toks parser.new) ≤ length (toks parser.old) }
         ensures less { OnOk result (length (toks parser.new) < length (toks parser.old)) }
     {
@@ -288,8 +272,7 @@ impl<
     #[inline(never)]
     #[tactic(auto, unfolding(qvt_parser_grammar::specs::Reading::new_expr_at))]
     fn new_expr(&self, parser: &mut Parser<'_>) -> Result<Expr, ParseError>
-        requires { IsInside F.Fn G.Fn self.now }
-        ensures gives { Gives expr_view result (toks parser.new) (new_expr_at (nested_at self.now.room) (toks parser.old)) }
+        ensures gives { Gives expr_view result (toks parser.new) (new_expr_at (nested_at (N.room self.now.nest)) (toks parser.old)) }
         ensures fewer { length (toks parser.new) ≤ length (toks parser.old) }
         ensures less { OnOk result (length (toks parser.new) < length (toks parser.old)) }
     {
@@ -309,8 +292,7 @@ impl<
     #[inline(never)]
     #[tactic(auto, unfolding(qvt_parser_grammar::specs::Reading::map_call_at))]
     pub fn map_call(&self, parser: &mut Parser<'_>) -> Result<MapCall, ParseError>
-        requires { IsInside F.Fn G.Fn self.now }
-        ensures gives { Gives map_view result (toks parser.new) (map_call_at (nested_at self.now.room) (toks parser.old)) }
+        ensures gives { Gives map_view result (toks parser.new) (map_call_at (nested_at (N.room self.now.nest)) (toks parser.old)) }
         ensures fewer { length (toks parser.new) ≤ length (toks parser.old) }
         ensures less { OnOk result (length (toks parser.new) < length (toks parser.old)) }
     {
@@ -327,17 +309,17 @@ impl<
 
     #[tactic(auto, unfolding(qvt_parser_grammar::specs::Reading::filter_head_at))]
     fn filter_head(&self, parser: &mut Parser<'_>) -> Result<(Option<Text>, TypeTree), ParseError>
-        ensures gives { Gives filter_head_view result (toks parser.new) (filter_head_at (nested_at self.now.room) (toks parser.old)) }
+        ensures gives { Gives filter_head_view result (toks parser.new) (filter_head_at (nested_at (N.room self.now.nest)) (toks parser.old)) }
         ensures fewer { length (toks parser.new) ≤ length (toks parser.old) }
         ensures less { OnOk result (length (toks parser.new) < length (toks parser.old)) }
     {
         if parser.at_kind() {
-            let kind = parser.coll_type(self.room)?;
+            let kind = parser.coll_type(self.nest.room())?;
             return Ok((None, kind));
         }
         let name = parser.name()?;
         if parser.at(Class::Colon) {
-            let kind = parser.colon_type(self.room)?;
+            let kind = parser.colon_type(self.nest.room())?;
             return Ok((Some(name.text), kind));
         }
         let more = parser.more_names()?;
@@ -345,42 +327,29 @@ impl<
         Ok((None, TypeTree::Path(path)))
     }
 
-    /// A bar and an expression.
+    /// A bar and an expression, or nothing.
     #[tactic(auto, unfolding(qvt_parser_grammar::specs::Reading::bar_expr_at))]
-    pub fn bar_expr(&self, parser: &mut Parser<'_>) -> Result<Box<Expr>, ParseError>
-        requires { IsInside F.Fn G.Fn self.now }
-        ensures gives { Gives boxed_view result (toks parser.new) (bar_expr_at (nested_at self.now.room) (toks parser.old)) }
-        ensures fewer { length (toks parser.new) ≤ length (toks parser.old) }
-        ensures less { OnOk result (length (toks parser.new) < length (toks parser.old)) }
-    {
-        parser.take(Class::Bar)?;
-        self.boxed(parser)
-    }
-
-    /// The same, or nothing.
     pub fn optional_bar(&self, parser: &mut Parser<'_>) -> Result<Option<Expr>, ParseError>
-        requires { IsInside F.Fn G.Fn self.now }
-        ensures gives { Gives (option_view expr_view) result (toks parser.new) (maybe_at (is Class.Bar) (bar_expr_at (nested_at self.now.room)) (toks parser.old)) }
+        ensures gives { Gives (option_view expr_view) result (toks parser.new) (maybe_at (is Class.Bar) (bar_expr_at (nested_at (N.room self.now.nest))) (toks parser.old)) }
         ensures fewer { length (toks parser.new) ≤ length (toks parser.old) }
     {
         if parser.at(Class::Bar) {
-            let expr = self.bar_expr(parser)?;
+            let expr = self.expr_past(parser, Class::Bar)?;
             return Ok(Some(Box::into_inner(expr)));
         }
         Ok(None)
     }
 
-    #[tactic(auto, unfolding(qvt_parser_grammar::specs::Reading::filter_at))]
+    #[tactic(auto, unfolding(qvt_parser_grammar::specs::Reading::filter_at, qvt_parser_grammar::specs::Reading::bar_expr_at))]
     fn filter(&self, parser: &mut Parser<'_>) -> Result<Filter, ParseError>
-        requires { IsInside F.Fn G.Fn self.now }
-        ensures gives { Gives filter_view result (toks parser.new) (filter_at (nested_at self.now.room) (toks parser.old)) }
+        ensures gives { Gives filter_view result (toks parser.new) (filter_at (nested_at (N.room self.now.nest)) (toks parser.old)) }
         ensures fewer { length (toks parser.new) ≤ length (toks parser.old) }
         ensures less { OnOk result (length (toks parser.new) < length (toks parser.old)) }
     {
         let place = parser.place();
         let (name, kind) = self.filter_head(parser)?;
         if parser.at(Class::Bar) {
-            let condition = self.bar_expr(parser)?;
+            let condition = self.expr_past(parser, Class::Bar)?;
             return Ok(Filter {
                 name,
                 kind,
@@ -397,8 +366,7 @@ impl<
     }
 
     fn next_filter(&self, parser: &mut Parser<'_>) -> Result<Option<Filter>, ParseError>
-        requires { IsInside F.Fn G.Fn self.now }
-        ensures gives { Gives (option_view filter_view) result (toks parser.new) (maybe_at (is Class.Comma) (made_at second (then_at (the_at Class.Comma) (filter_at (nested_at self.now.room)))) (toks parser.old)) }
+        ensures gives { Gives (option_view filter_view) result (toks parser.new) (maybe_at (is Class.Comma) (made_at second (then_at (the_at Class.Comma) (filter_at (nested_at (N.room self.now.nest))))) (toks parser.old)) }
         ensures fewer { length (toks parser.new) ≤ length (toks parser.old) }
     {
         if parser.at(Class::Comma) {
@@ -414,8 +382,7 @@ impl<
         &self,
         parser: &mut Parser<'_>,
     ) -> Result<(ResolveWord, (Option<PathTree>, Option<Filter>)), ParseError>
-        requires { IsInside F.Fn G.Fn self.now }
-        ensures gives { Gives form_view result (toks parser.new) (all_form_at (nested_at self.now.room) (toks parser.old)) }
+        ensures gives { Gives form_view result (toks parser.new) (all_form_at (nested_at (N.room self.now.nest)) (toks parser.old)) }
         ensures fewer { length (toks parser.new) ≤ length (toks parser.old) }
         ensures less { OnOk result (length (toks parser.new) < length (toks parser.old)) }
     {
@@ -431,8 +398,7 @@ impl<
         &self,
         parser: &mut Parser<'_>,
     ) -> Result<(ResolveWord, (Option<PathTree>, Option<Filter>)), ParseError>
-        requires { IsInside F.Fn G.Fn self.now }
-        ensures gives { Gives form_view result (toks parser.new) (in_form_at (nested_at self.now.room) (toks parser.old)) }
+        ensures gives { Gives form_view result (toks parser.new) (in_form_at (nested_at (N.room self.now.nest)) (toks parser.old)) }
         ensures fewer { length (toks parser.new) ≤ length (toks parser.old) }
         ensures less { OnOk result (length (toks parser.new) < length (toks parser.old)) }
     {
@@ -448,8 +414,7 @@ impl<
         &self,
         parser: &mut Parser<'_>,
     ) -> Result<(ResolveWord, (Option<PathTree>, Option<Filter>)), ParseError>
-        requires { IsInside F.Fn G.Fn self.now }
-        ensures gives { Gives form_view result (toks parser.new) (choose_at (of all_first) (all_form_at (nested_at self.now.room)) (in_form_at (nested_at self.now.room)) (toks parser.old)) }
+        ensures gives { Gives form_view result (toks parser.new) (choose_at (of all_first) (all_form_at (nested_at (N.room self.now.nest))) (in_form_at (nested_at (N.room self.now.nest))) (toks parser.old)) }
         ensures fewer { length (toks parser.new) ≤ length (toks parser.old) }
         ensures less { OnOk result (length (toks parser.new) < length (toks parser.old)) }
     {
@@ -463,8 +428,7 @@ impl<
     #[inline(never)]
     #[tactic(auto, unfolding(qvt_parser_grammar::specs::Reading::resolve_at))]
     pub fn resolve(&self, parser: &mut Parser<'_>) -> Result<ResolveCall, ParseError>
-        requires { IsInside F.Fn G.Fn self.now }
-        ensures gives { Gives resolve_view result (toks parser.new) (resolve_at (nested_at self.now.room) (toks parser.old)) }
+        ensures gives { Gives resolve_view result (toks parser.new) (resolve_at (nested_at (N.room self.now.nest)) (toks parser.old)) }
         ensures fewer { length (toks parser.new) ≤ length (toks parser.old) }
         ensures less { OnOk result (length (toks parser.new) < length (toks parser.old)) }
     {
@@ -483,23 +447,9 @@ impl<
         })
     }
 
-    #[tactic(auto, unfolding(qvt_parser_grammar::specs::Reading::brackets_at))]
-    fn brackets(&self, parser: &mut Parser<'_>) -> Result<Box<Expr>, ParseError>
-        requires { IsInside F.Fn G.Fn self.now }
-        ensures gives { Gives boxed_view result (toks parser.new) (brackets_at (nested_at self.now.room) (toks parser.old)) }
-        ensures fewer { length (toks parser.new) ≤ length (toks parser.old) }
-        ensures less { OnOk result (length (toks parser.new) < length (toks parser.old)) }
-    {
-        parser.take(Class::OpenRound)?;
-        let expr = self.boxed(parser)?;
-        parser.take(Class::CloseRound)?;
-        Ok(expr)
-    }
-
     #[tactic(auto, unfolding(qvt_parser_grammar::specs::Reading::bare_expr_at))]
     fn bare_expr(&self, parser: &mut Parser<'_>) -> Result<Expr, ParseError>
-        requires { IsInside F.Fn G.Fn self.now }
-        ensures gives { Gives expr_view result (toks parser.new) (bare_expr_at (nested_at self.now.room) (toks parser.old)) }
+        ensures gives { Gives expr_view result (toks parser.new) (bare_expr_at (nested_at (N.room self.now.nest)) (toks parser.old)) }
         ensures fewer { length (toks parser.new) ≤ length (toks parser.old) }
         ensures less { OnOk result (length (toks parser.new) < length (toks parser.old)) }
     {
@@ -518,8 +468,7 @@ impl<
     #[inline(never)]
     #[tactic(auto, unfolding(qvt_parser_grammar::specs::Reading::longer_at))]
     fn longer(&self, parser: &mut Parser<'_>) -> Result<Expr, ParseError>
-        requires { IsInside F.Fn G.Fn self.now }
-        ensures gives { Gives expr_view result (toks parser.new) (longer_at (nested_at self.now.room) (toks parser.old)) }
+        ensures gives { Gives expr_view result (toks parser.new) (longer_at (nested_at (N.room self.now.nest)) (toks parser.old)) }
         ensures fewer { length (toks parser.new) ≤ length (toks parser.old) }
         ensures less { OnOk result (length (toks parser.new) < length (toks parser.old)) }
     {
@@ -539,8 +488,7 @@ impl<
     }
 
     fn map_expr(&self, parser: &mut Parser<'_>) -> Result<Expr, ParseError>
-        requires { IsInside F.Fn G.Fn self.now }
-        ensures gives { Gives expr_view result (toks parser.new) (made_at MapExpr (map_call_at (nested_at self.now.room)) (toks parser.old)) }
+        ensures gives { Gives expr_view result (toks parser.new) (made_at MapExpr (map_call_at (nested_at (N.room self.now.nest))) (toks parser.old)) }
         ensures fewer { length (toks parser.new) ≤ length (toks parser.old) }
         ensures less { OnOk result (length (toks parser.new) < length (toks parser.old)) }
     {
@@ -549,8 +497,7 @@ impl<
     }
 
     fn resolve_expr(&self, parser: &mut Parser<'_>) -> Result<Expr, ParseError>
-        requires { IsInside F.Fn G.Fn self.now }
-        ensures gives { Gives expr_view result (toks parser.new) (made_at ResolveExpr (resolve_at (nested_at self.now.room)) (toks parser.old)) }
+        ensures gives { Gives expr_view result (toks parser.new) (made_at ResolveExpr (resolve_at (nested_at (N.room self.now.nest))) (toks parser.old)) }
         ensures fewer { length (toks parser.new) ≤ length (toks parser.old) }
         ensures less { OnOk result (length (toks parser.new) < length (toks parser.old)) }
     {
@@ -559,15 +506,14 @@ impl<
     }
 
     /// A primary that is no `if`: such a one may begin a statement.
-    #[tactic(auto, unfolding(qvt_parser_grammar::specs::Reading::other_primary_at))]
+    #[tactic(auto, unfolding(qvt_parser_grammar::specs::Reading::other_primary_at, qvt_parser_grammar::specs::Reading::brackets_at))]
     pub fn other_primary(&self, parser: &mut Parser<'_>) -> Result<First, ParseError>
-        requires { IsInside F.Fn G.Fn self.now }
-        ensures gives { Gives first_view result (toks parser.new) (other_primary_at (nested_at self.now.room) (toks parser.old)) }
+        ensures gives { Gives first_view result (toks parser.new) (other_primary_at (nested_at (N.room self.now.nest)) (toks parser.old)) }
         ensures fewer { length (toks parser.new) ≤ length (toks parser.old) }
         ensures less { OnOk result (length (toks parser.new) < length (toks parser.old)) }
     {
         if parser.at(Class::OpenRound) {
-            let expr = self.brackets(parser)?;
+            let expr = self.enclosed(parser, Class::OpenRound, Class::CloseRound)?;
             return Ok(First { expr, bare: false });
         }
         let expr = self.bare_expr(parser)?;
@@ -577,8 +523,7 @@ impl<
     /// What stands before steps and between operators.
     #[tactic(auto, unfolding(qvt_parser_grammar::specs::Reading::primary_at))]
     pub fn primary(&self, parser: &mut Parser<'_>) -> Result<First, ParseError>
-        requires { IsInside F.Fn G.Fn self.now }
-        ensures gives { Gives first_view result (toks parser.new) (primary_at (nested_at self.now.room) (toks parser.old)) }
+        ensures gives { Gives first_view result (toks parser.new) (primary_at (nested_at (N.room self.now.nest)) (toks parser.old)) }
         ensures fewer { length (toks parser.new) ≤ length (toks parser.old) }
         ensures less { OnOk result (length (toks parser.new) < length (toks parser.old)) }
     {

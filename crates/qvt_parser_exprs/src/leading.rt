@@ -14,7 +14,7 @@ pub struct First {
 #[derive(Drop)]
 pub enum LeadStep {
     Step(Step),
-    Each(EachTail),
+    Each(Box<EachTail>),
 }
 
 /// An expression that may still become a target, or the source and the rest of a `forEach`.

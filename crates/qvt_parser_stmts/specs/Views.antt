@@ -30,5 +30,5 @@ turn_view (Last s) = inr (held_view s)
 abbrev pub ended_view : EndedStmts → Ended
 ended_view e = record { stmts = stmts_view e.stmts; open_end = e.open_end }
 
-abbrev pub assigned_view : Token × Expr → Tok × ExprTerm
-assigned_view (sign, value) = (tok_of sign, expr_view value)
+abbrev pub assigned_view : Token × Box Expr Global → Tok × ExprTerm
+assigned_view (sign, value) = (tok_of sign, expr_view value.value)

@@ -2,6 +2,7 @@
 //! nested: expressions, and blocks inside each other.
 #![tactic(auto)]
 
+pub mod calls;
 pub mod made;
 pub mod nested;
 pub mod statements;

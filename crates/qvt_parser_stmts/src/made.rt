@@ -180,13 +180,13 @@ pub fn held(alloc: Global, stmt: Stmt) -> Result<Box<Stmt>, ParseError>
 }
 
 /// The statement of an assignment by a sign of the class.
-pub fn assign(target: Target, class: Class, value: Expr, place: Place) -> Stmt
-    ensures { stmt_view result ≡ AssignStmt (target_view target) (statements.is_adding class) (expr_view value) place }
+pub fn assign(target: Target, class: Class, value: Box<Expr>, place: Place) -> Stmt
+    ensures { stmt_view result ≡ AssignStmt (target_view target) (statements.is_adding class) (boxed_view value) place }
 {
     Stmt::Assign {
         target,
         adds: is_adding(class),
-        value,
+        value: Box::into_inner(value),
         place,
     }
 }

@@ -1,12 +1,13 @@
 ghost use Rattle.std.specs.Prelude.{◌≤◌, length};
 ghost use Rattle.qvt_tree_types.specs.View.{expr_view};
-ghost use Rattle.qvt_parser_grammar.specs.Reading.{expr_at};
-ghost use Rattle.qvt_parser_grammar.specs.ReadingStatements.{statements_at};
+ghost use Rattle.qvt_parser_grammar.specs.Reading.{expr_at, flagged_at};
+ghost use Rattle.qvt_parser_grammar.specs.ReadingStatements.{statements_at, block_at};
 ghost use Rattle.qvt_parser_grammar.specs.Nesting.{nested_at};
 ghost use Rattle.qvt_parser_grammar.specs.Gives.{Gives, toks};
 ghost use Rattle.qvt_parser_exprs.specs.Views.{lead_view, stmts_view};
 ghost use Rattle.qvt_parser_stmts.specs.Views.{ended_view};
 
+use crate::calls::{CallPair, Calls, ReadyCalls};
 use crate::statements::Statements;
 use crate::turns::EndedStmts;
 use qvt_parser_chains::chains::Chains;
@@ -16,10 +17,57 @@ use qvt_parser_exprs::made::finish;
 use qvt_parser_grammar::cursor::{ParseError, Parser};
 use qvt_tree_types::tree::{Expr, Stmts};
 
+/// An expression that may still become a target, by the calls for what stands inside it.
+#[tactic(auto, unfolding(qvt_parser_grammar::specs::Reading::flagged_at))]
+fn flagged_over<C: Calls + Drop>(calls: C, parser: &mut Parser<'_>) -> Result<Leading, ParseError>
+    requires { C.ready calls }
+    ensures gives { Gives lead_view result (toks parser.new) (flagged_at (nested_at (C.room calls)) (toks parser.old)) }
+    ensures fewer { length (toks parser.new) ≤ length (toks parser.old) }
+{
+    let nest = ReadyCalls { calls };
+    let chains = Chains {
+        inside: Inside { nest },
+    };
+    chains.chain(parser, 8)
+}
+
+/// A block, by the calls for what stands inside it.
+fn block_over<C: Calls + Drop>(calls: C, parser: &mut Parser<'_>) -> Result<Stmts, ParseError>
+    requires { C.ready calls }
+    ensures gives { Gives stmts_view result (toks parser.new) (block_at (nested_at (C.room calls)) (toks parser.old)) }
+    ensures fewer { length (toks parser.new) ≤ length (toks parser.old) }
+{
+    let nest = ReadyCalls { calls };
+    let statements = Statements {
+        chains: Chains {
+            inside: Inside { nest },
+        },
+    };
+    statements.block_inside(parser)
+}
+
+/// The statements of a block without its braces, by the calls for what stands inside them.
+fn statements_over<C: Calls + Drop>(
+    calls: C,
+    parser: &mut Parser<'_>,
+) -> Result<EndedStmts, ParseError>
+    requires { C.ready calls }
+    ensures gives { Gives ended_view result (toks parser.new) (statements_at (nested_at (C.room calls)) (toks parser.old)) }
+    ensures fewer { length (toks parser.new) ≤ length (toks parser.old) }
+{
+    let nest = ReadyCalls { calls };
+    let statements = Statements {
+        chains: Chains {
+            inside: Inside { nest },
+        },
+    };
+    statements.statements(parser)
+}
+
 /// An expression that may still become a target, with fewer than `room` expressions and blocks
 /// inside each other.
 #[cycle(nested)]
-#[tactic(auto, unfolding(qvt_parser_grammar::specs::Nesting::nested_at, qvt_parser_grammar::specs::Reading::flagged_at))]
+#[tactic(auto, unfolding(qvt_parser_grammar::specs::Nesting::nested_at))]
 pub fn flagged(parser: &mut Parser<'_>, room: usize) -> Result<Leading, ParseError>
     ensures gives { Gives lead_view result (toks parser.new) ((nested_at room).flagged (toks parser.old)) }
     ensures fewer { length (toks parser.new) ≤ length (toks parser.old) }
@@ -36,13 +84,12 @@ pub fn flagged(parser: &mut Parser<'_>, room: usize) -> Result<Leading, ParseErr
         ensures gives { Gives stmts_view result (toks parser.new) ((nested_at less).block (toks parser.old)) }
         ensures fewer { length (toks parser.new) ≤ length (toks parser.old) }
     { block(parser, less) };
-    let inside = Inside {
+    let calls = CallPair {
         lead: expr_inside,
         block: block_inside,
         room: less,
     };
-    let chains = Chains { inside };
-    chains.chain(parser, 8)
+    flagged_over(calls, parser)
 }
 
 /// A block, with fewer than `room` expressions and blocks inside each other.
@@ -64,15 +111,12 @@ pub fn block(parser: &mut Parser<'_>, room: usize) -> Result<Stmts, ParseError>
         ensures gives { Gives stmts_view result (toks parser.new) ((nested_at less).block (toks parser.old)) }
         ensures fewer { length (toks parser.new) ≤ length (toks parser.old) }
     { block(parser, less) };
-    let inside = Inside {
+    let calls = CallPair {
         lead: expr_within,
         block: block_within,
         room: less,
     };
-    let statements = Statements {
-        chains: Chains { inside },
-    };
-    statements.block_inside(parser)
+    block_over(calls, parser)
 }
 
 /// An expression, with fewer than `room` expressions and blocks inside each other.
@@ -98,13 +142,10 @@ pub fn statements(parser: &mut Parser<'_>, room: usize) -> Result<EndedStmts, Pa
         ensures gives { Gives stmts_view result (toks parser.new) ((nested_at room).block (toks parser.old)) }
         ensures fewer { length (toks parser.new) ≤ length (toks parser.old) }
     { block(parser, room) };
-    let inside = Inside {
+    let calls = CallPair {
         lead: expr_below,
         block: block_below,
         room,
     };
-    let statements = Statements {
-        chains: Chains { inside },
-    };
-    statements.statements(parser)
+    statements_over(calls, parser)
 }

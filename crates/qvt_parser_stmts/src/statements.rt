@@ -1,21 +1,20 @@
 ghost use Rattle.std.specs.Prelude.{◌<◌, ◌≤◌, length, OnOk, ◌≡◌, ◌&&◌, IsTrue, Ok};
 ghost use Rattle.std.proofs.Common.{inl, inr};
 ghost use Rattle.qvt_grammar.specs.Reader.{starts, made_at, then_at, choose_at, many_at, maybe_at};
-ghost use Rattle.qvt_tree_types.specs.View.{expr_view, stmt_view, arm_view};
+ghost use Rattle.qvt_tree_types.specs.View.{expr_view, arm_view};
 ghost use Rattle.qvt_parser_grammar.specs.Tokens.{of, is};
 ghost use Rattle.qvt_parser_grammar.specs.Readers.{the_at};
 ghost use Rattle.qvt_parser_grammar.specs.Firsts.{expr_first, step_first, assign_first};
 ghost use Rattle.qvt_parser_grammar.specs.Trees.{second, inner, expr_of, is_there};
 ghost use Rattle.qvt_parser_grammar.specs.StmtTrees.{choice_expr, each_over, branched, chosen, if_made, closed_turn, simple_turn, written_turn, target_in, IsPlain};
 ghost use Rattle.qvt_parser_grammar.specs.Reading.{expr_at, lead_step_at};
-ghost use Rattle.qvt_parser_grammar.specs.ReadingStatements.{condition_at, var_stmt_at, return_stmt_at, arm_at, else_part_at, branches_at, choice_at, if_rest_at, if_stmt_at, while_stmt_at, assignment_at, semicolon_at, lead_tail_at, lead_stmt_at, statement_at, statements_at, block_at};
+ghost use Rattle.qvt_parser_grammar.specs.ReadingStatements.{var_stmt_at, return_stmt_at, arm_at, else_part_at, branches_at, choice_at, if_rest_at, if_stmt_at, while_stmt_at, assignment_at, semicolon_at, lead_tail_at, lead_stmt_at, statement_at, statements_at, block_at};
 ghost use Rattle.qvt_parser_grammar.specs.Leads.{Bracketed};
 ghost use Rattle.qvt_parser_grammar.specs.Series.{finished_at};
 ghost use Rattle.qvt_parser_grammar.specs.Nesting.{nested_at};
 ghost use Rattle.qvt_parser_grammar.specs.Options.{option_view};
 ghost use Rattle.qvt_parser_grammar.specs.Gives.{Gives, toks};
 ghost use Rattle.qvt_parser_exprs.specs.Views.{boxed_view, lead_view, stmts_view};
-ghost use Rattle.qvt_parser_exprs.specs.Inside.{IsInside};
 ghost use Rattle.qvt_parser_stmts.specs.Views.{arms_view, held_view, turn_view, ended_view, assigned_view};
 
 use crate::made::{
@@ -25,16 +24,17 @@ use crate::turns::{EndedStmts, Turn};
 use qvt_base::numbers::Place;
 use qvt_base::seq::Seq;
 use qvt_parser_chains::chains::Chains;
+use qvt_parser_exprs::inside::Nest;
 use qvt_parser_exprs::leading::Leading;
 use qvt_parser_exprs::made::{boxed, conditional, finish, posted};
 use qvt_parser_grammar::cursor::{ParseError, Parser};
 use qvt_parser_grammar::token::{Class, Token};
-use qvt_tree_types::tree::{Arm, Expr, Stmt, Stmts};
+use qvt_tree_types::tree::{Arm, Expr, Stmt};
 
 /// The calls that read statements, over those that read the expressions in them.
 #[derive(Drop)]
-pub struct Statements<F, G> {
-    pub chains: Chains<F, G>,
+pub struct Statements<N> {
+    pub chains: Chains<N>,
 }
 
 /// A statement with the `;` that may stand after it.
@@ -56,73 +56,53 @@ fn assigns(parser: &Parser<'_>, lead: &Leading) -> bool
     has_target(lead) && parser.at_assign()
 }
 
-impl<
-    F: Fn(&mut Parser<'_>) -> Result<Leading, ParseError>,
-    G: Fn(&mut Parser<'_>) -> Result<Stmts, ParseError>,
-> Statements<F, G> {
-    #[tactic(auto, unfolding(qvt_parser_grammar::specs::ReadingStatements::condition_at))]
-    fn condition(&self, parser: &mut Parser<'_>) -> Result<Expr, ParseError>
-        requires { IsInside F.Fn G.Fn self.now.chains.inside }
-        ensures gives { Gives expr_view result (toks parser.new) (condition_at (nested_at self.now.chains.inside.room) (toks parser.old)) }
-        ensures fewer { length (toks parser.new) ≤ length (toks parser.old) }
-        ensures less { OnOk result (length (toks parser.new) < length (toks parser.old)) }
-    {
-        parser.take(Class::OpenRound)?;
-        let condition = self.chains.inside.expr(parser)?;
-        parser.take(Class::CloseRound)?;
-        Ok(condition)
-    }
-
+impl<N: Nest> Statements<N> {
     #[tactic(auto, unfolding(qvt_parser_grammar::specs::ReadingStatements::var_stmt_at))]
-    fn var_stmt(&self, parser: &mut Parser<'_>) -> Result<Stmt, ParseError>
-        requires { IsInside F.Fn G.Fn self.now.chains.inside }
-        ensures gives { Gives stmt_view result (toks parser.new) (var_stmt_at (nested_at self.now.chains.inside.room) (toks parser.old)) }
+    fn var_stmt(&self, parser: &mut Parser<'_>) -> Result<Box<Stmt>, ParseError>
+        ensures gives { Gives held_view result (toks parser.new) (var_stmt_at (nested_at (N.room self.now.chains.inside.nest)) (toks parser.old)) }
         ensures fewer { length (toks parser.new) ≤ length (toks parser.old) }
         ensures less { OnOk result (length (toks parser.new) < length (toks parser.old)) }
     {
         let place = parser.place();
         parser.take(Class::VarWord)?;
         let name = parser.name()?;
-        let kind = parser.optional_type(self.chains.inside.room)?;
+        let kind = parser.optional_type(self.chains.inside.nest.room())?;
         let value = self.initial(parser)?;
-        Ok(Stmt::Var {
+        let stmt = Stmt::Var {
             name: name.text,
             kind,
             value,
             place,
-        })
+        };
+        held(parser.alloc, stmt)
     }
 
     fn initial(&self, parser: &mut Parser<'_>) -> Result<Option<Expr>, ParseError>
-        requires { IsInside F.Fn G.Fn self.now.chains.inside }
-        ensures gives { Gives (option_view expr_view) result (toks parser.new) (maybe_at (is Class.Becomes) (made_at second (then_at (the_at Class.Becomes) (expr_at (nested_at self.now.chains.inside.room)))) (toks parser.old)) }
+        ensures gives { Gives (option_view expr_view) result (toks parser.new) (maybe_at (is Class.Becomes) (made_at second (then_at (the_at Class.Becomes) (expr_at (nested_at (N.room self.now.chains.inside.nest))))) (toks parser.old)) }
         ensures fewer { length (toks parser.new) ≤ length (toks parser.old) }
     {
         if parser.at(Class::Becomes) {
-            parser.take(Class::Becomes)?;
-            let value = self.chains.inside.expr(parser)?;
-            return Ok(Some(value));
+            let value = self.chains.inside.expr_past(parser, Class::Becomes)?;
+            return Ok(Some(Box::into_inner(value)));
         }
         Ok(None)
     }
 
     #[tactic(auto, unfolding(qvt_parser_grammar::specs::ReadingStatements::return_stmt_at))]
-    fn return_stmt(&self, parser: &mut Parser<'_>) -> Result<Stmt, ParseError>
-        requires { IsInside F.Fn G.Fn self.now.chains.inside }
-        ensures gives { Gives stmt_view result (toks parser.new) (return_stmt_at (nested_at self.now.chains.inside.room) (toks parser.old)) }
+    fn return_stmt(&self, parser: &mut Parser<'_>) -> Result<Box<Stmt>, ParseError>
+        ensures gives { Gives held_view result (toks parser.new) (return_stmt_at (nested_at (N.room self.now.chains.inside.nest)) (toks parser.old)) }
         ensures fewer { length (toks parser.new) ≤ length (toks parser.old) }
         ensures less { OnOk result (length (toks parser.new) < length (toks parser.old)) }
     {
         let place = parser.place();
         parser.take(Class::ReturnWord)?;
         let value = self.returned(parser)?;
-        Ok(Stmt::Return { value, place })
+        held(parser.alloc, Stmt::Return { value, place })
     }
 
     /// The value after `return`, if there is one.
     fn returned(&self, parser: &mut Parser<'_>) -> Result<Option<Expr>, ParseError>
-        requires { IsInside F.Fn G.Fn self.now.chains.inside }
-        ensures gives { Gives (option_view expr_view) result (toks parser.new) (maybe_at (of expr_first) (expr_at (nested_at self.now.chains.inside.room)) (toks parser.old)) }
+        ensures gives { Gives (option_view expr_view) result (toks parser.new) (maybe_at (of expr_first) (expr_at (nested_at (N.room self.now.chains.inside.nest))) (toks parser.old)) }
         ensures fewer { length (toks parser.new) ≤ length (toks parser.old) }
     {
         if parser.at_expr() {
@@ -133,23 +113,27 @@ impl<
     }
 
     #[inline(never)]
-    #[tactic(auto, unfolding(qvt_parser_grammar::specs::ReadingStatements::arm_at))]
+    #[tactic(auto, unfolding(qvt_parser_grammar::specs::ReadingStatements::arm_at, qvt_parser_grammar::specs::ReadingStatements::condition_at))]
     fn arm(&self, parser: &mut Parser<'_>) -> Result<Arm, ParseError>
-        requires { IsInside F.Fn G.Fn self.now.chains.inside }
-        ensures gives { Gives arm_view result (toks parser.new) (arm_at (nested_at self.now.chains.inside.room) (toks parser.old)) }
+        ensures gives { Gives arm_view result (toks parser.new) (arm_at (nested_at (N.room self.now.chains.inside.nest)) (toks parser.old)) }
         ensures fewer { length (toks parser.new) ≤ length (toks parser.old) }
         ensures less { OnOk result (length (toks parser.new) < length (toks parser.old)) }
     {
         parser.take(Class::ElifWord)?;
-        let condition = self.condition(parser)?;
+        let condition = self
+            .chains
+            .inside
+            .enclosed(parser, Class::OpenRound, Class::CloseRound)?;
         parser.skip(Class::ThenWord);
         let body = self.chains.inside.block(parser)?;
-        Ok(Arm { condition, body })
+        Ok(Arm {
+            condition: Box::into_inner(condition),
+            body,
+        })
     }
 
     fn arms(&self, parser: &mut Parser<'_>) -> Result<Seq<Arm>, ParseError>
-        requires { IsInside F.Fn G.Fn self.now.chains.inside }
-        ensures gives { Gives arms_view result (toks parser.new) (many_at (is Class.ElifWord) (arm_at (nested_at self.now.chains.inside.room)) (toks parser.old)) }
+        ensures gives { Gives arms_view result (toks parser.new) (many_at (is Class.ElifWord) (arm_at (nested_at (N.room self.now.chains.inside.nest))) (toks parser.old)) }
         ensures fewer { length (toks parser.new) ≤ length (toks parser.old) }
     {
         let mut arms = Seq::new(parser.alloc);
@@ -162,8 +146,7 @@ impl<
 
     #[tactic(auto, unfolding(qvt_parser_grammar::specs::ReadingStatements::else_part_at))]
     fn else_part(&self, parser: &mut Parser<'_>) -> Result<Option<Seq<Stmt>>, ParseError>
-        requires { IsInside F.Fn G.Fn self.now.chains.inside }
-        ensures gives { Gives (option_view stmts_view) result (toks parser.new) (maybe_at (is Class.ElseWord) (else_part_at (nested_at self.now.chains.inside.room)) (toks parser.old)) }
+        ensures gives { Gives (option_view stmts_view) result (toks parser.new) (maybe_at (is Class.ElseWord) (else_part_at (nested_at (N.room self.now.chains.inside.nest))) (toks parser.old)) }
         ensures fewer { length (toks parser.new) ≤ length (toks parser.old) }
     {
         if parser.at(Class::ElseWord) {
@@ -175,9 +158,8 @@ impl<
     }
 
     #[tactic(auto, unfolding(qvt_parser_grammar::specs::ReadingStatements::if_stmt_at))]
-    fn if_stmt(&self, parser: &mut Parser<'_>) -> Result<Stmt, ParseError>
-        requires { IsInside F.Fn G.Fn self.now.chains.inside }
-        ensures gives { Gives stmt_view result (toks parser.new) (if_stmt_at (nested_at self.now.chains.inside.room) (toks parser.old)) }
+    fn if_stmt(&self, parser: &mut Parser<'_>) -> Result<Box<Stmt>, ParseError>
+        ensures gives { Gives held_view result (toks parser.new) (if_stmt_at (nested_at (N.room self.now.chains.inside.nest)) (toks parser.old)) }
         ensures fewer { length (toks parser.new) ≤ length (toks parser.old) }
         ensures less { OnOk result (length (toks parser.new) < length (toks parser.old)) }
     {
@@ -193,9 +175,8 @@ impl<
         parser: &mut Parser<'_>,
         condition: Leading,
         place: Place,
-    ) -> Result<Stmt, ParseError>
-        requires { IsInside F.Fn G.Fn self.now.chains.inside }
-        ensures gives { Gives stmt_view result (toks parser.new) (made_at (if_made place (expr_of (lead_view condition))) (if_rest_at (nested_at self.now.chains.inside.room) (lead_view condition)) (toks parser.old)) }
+    ) -> Result<Box<Stmt>, ParseError>
+        ensures gives { Gives held_view result (toks parser.new) (made_at (if_made place (expr_of (lead_view condition))) (if_rest_at (nested_at (N.room self.now.chains.inside.nest)) (lead_view condition)) (toks parser.old)) }
         ensures fewer { length (toks parser.new) ≤ length (toks parser.old) }
     {
         let alone = is_bracketed(&condition);
@@ -211,9 +192,8 @@ impl<
         parser: &mut Parser<'_>,
         condition: Box<Expr>,
         place: Place,
-    ) -> Result<Stmt, ParseError>
-        requires { IsInside F.Fn G.Fn self.now.chains.inside }
-        ensures gives { Gives stmt_view result (toks parser.new) (made_at (if_made place (boxed_view condition)) (made_at second (then_at (the_at Class.ThenWord) (made_at inr (choice_at (nested_at self.now.chains.inside.room))))) (toks parser.old)) }
+    ) -> Result<Box<Stmt>, ParseError>
+        ensures gives { Gives held_view result (toks parser.new) (made_at (if_made place (boxed_view condition)) (made_at second (then_at (the_at Class.ThenWord) (made_at inr (choice_at (nested_at (N.room self.now.chains.inside.nest)))))) (toks parser.old)) }
         ensures fewer { length (toks parser.new) ≤ length (toks parser.old) }
     {
         parser.take(Class::ThenWord)?;
@@ -226,9 +206,8 @@ impl<
         parser: &mut Parser<'_>,
         condition: Box<Expr>,
         place: Place,
-    ) -> Result<Stmt, ParseError>
-        requires { IsInside F.Fn G.Fn self.now.chains.inside }
-        ensures gives { Gives stmt_view result (toks parser.new) (made_at (if_made place (boxed_view condition)) (if_rest_at (nested_at self.now.chains.inside.room) (Bracketed (boxed_view condition))) (toks parser.old)) }
+    ) -> Result<Box<Stmt>, ParseError>
+        ensures gives { Gives held_view result (toks parser.new) (made_at (if_made place (boxed_view condition)) (if_rest_at (nested_at (N.room self.now.chains.inside.nest)) (Bracketed (boxed_view condition))) (toks parser.old)) }
         ensures fewer { length (toks parser.new) ≤ length (toks parser.old) }
     {
         if parser.at(Class::OpenBrace) {
@@ -244,9 +223,8 @@ impl<
         parser: &mut Parser<'_>,
         condition: Box<Expr>,
         place: Place,
-    ) -> Result<Stmt, ParseError>
-        requires { IsInside F.Fn G.Fn self.now.chains.inside }
-        ensures gives { Gives stmt_view result (toks parser.new) (made_at (if_made place (boxed_view condition)) (choose_at (is Class.OpenBrace) (made_at inl (branches_at (nested_at self.now.chains.inside.room))) (made_at inr (choice_at (nested_at self.now.chains.inside.room)))) (toks parser.old)) }
+    ) -> Result<Box<Stmt>, ParseError>
+        ensures gives { Gives held_view result (toks parser.new) (made_at (if_made place (boxed_view condition)) (choose_at (is Class.OpenBrace) (made_at inl (branches_at (nested_at (N.room self.now.chains.inside.nest)))) (made_at inr (choice_at (nested_at (N.room self.now.chains.inside.nest))))) (toks parser.old)) }
         ensures fewer { length (toks parser.new) ≤ length (toks parser.old) }
     {
         if parser.at(Class::OpenBrace) {
@@ -262,22 +240,22 @@ impl<
         parser: &mut Parser<'_>,
         condition: Box<Expr>,
         place: Place,
-    ) -> Result<Stmt, ParseError>
-        requires { IsInside F.Fn G.Fn self.now.chains.inside }
-        ensures gives { Gives stmt_view result (toks parser.new) (made_at (branched place (boxed_view condition)) (branches_at (nested_at self.now.chains.inside.room)) (toks parser.old)) }
+    ) -> Result<Box<Stmt>, ParseError>
+        ensures gives { Gives held_view result (toks parser.new) (made_at (branched place (boxed_view condition)) (branches_at (nested_at (N.room self.now.chains.inside.nest))) (toks parser.old)) }
         ensures fewer { length (toks parser.new) ≤ length (toks parser.old) }
     {
         let body = self.chains.inside.block(parser)?;
         let arms = self.arms(parser)?;
         let otherwise = self.else_part(parser)?;
         parser.skip(Class::EndifWord);
-        Ok(Stmt::If {
+        let stmt = Stmt::If {
             condition: Box::into_inner(condition),
             body,
             arms,
             otherwise,
             place,
-        })
+        };
+        held(parser.alloc, stmt)
     }
 
     /// A `forEach` whose source begins with a conditional, after its `then`.
@@ -288,9 +266,8 @@ impl<
         parser: &mut Parser<'_>,
         condition: Box<Expr>,
         place: Place,
-    ) -> Result<Stmt, ParseError>
-        requires { IsInside F.Fn G.Fn self.now.chains.inside }
-        ensures gives { Gives stmt_view result (toks parser.new) (made_at (chosen place (boxed_view condition)) (choice_at (nested_at self.now.chains.inside.room)) (toks parser.old)) }
+    ) -> Result<Box<Stmt>, ParseError>
+        ensures gives { Gives held_view result (toks parser.new) (made_at (chosen place (boxed_view condition)) (choice_at (nested_at (N.room self.now.chains.inside.nest))) (toks parser.old)) }
         ensures fewer { length (toks parser.new) ≤ length (toks parser.old) }
     {
         let source = self.choice(parser, condition, place)?;
@@ -304,12 +281,14 @@ impl<
         condition: Box<Expr>,
         place: Place,
     ) -> Result<Box<Expr>, ParseError>
-        requires { IsInside F.Fn G.Fn self.now.chains.inside }
-        ensures gives { Gives boxed_view result (toks parser.new) (made_at (choice_expr place (boxed_view condition)) (then_at (expr_at (nested_at self.now.chains.inside.room)) (made_at inner (then_at (the_at Class.ElseWord) (then_at (expr_at (nested_at self.now.chains.inside.room)) (the_at Class.EndifWord))))) (toks parser.old)) }
+        ensures gives { Gives boxed_view result (toks parser.new) (made_at (choice_expr place (boxed_view condition)) (then_at (expr_at (nested_at (N.room self.now.chains.inside.nest))) (made_at inner (then_at (the_at Class.ElseWord) (then_at (expr_at (nested_at (N.room self.now.chains.inside.nest))) (the_at Class.EndifWord))))) (toks parser.old)) }
         ensures fewer { length (toks parser.new) ≤ length (toks parser.old) }
     {
         let yes = self.chains.inside.boxed(parser)?;
-        let no = self.chains.inside.else_expr(parser)?;
+        let no = self
+            .chains
+            .inside
+            .enclosed(parser, Class::ElseWord, Class::EndifWord)?;
         let expr = Box::new(parser.alloc, conditional(condition, yes, no, place))?;
         Ok(expr)
     }
@@ -320,56 +299,56 @@ impl<
         parser: &mut Parser<'_>,
         first: Box<Expr>,
         place: Place,
-    ) -> Result<Stmt, ParseError>
-        requires { IsInside F.Fn G.Fn self.now.chains.inside }
-        ensures gives { Gives stmt_view result (toks parser.new) (made_at (each_over place (boxed_view first)) (finished_at (of step_first) (lead_step_at (nested_at self.now.chains.inside.room))) (toks parser.old)) }
+    ) -> Result<Box<Stmt>, ParseError>
+        ensures gives { Gives held_view result (toks parser.new) (made_at (each_over place (boxed_view first)) (finished_at (of step_first) (lead_step_at (nested_at (N.room self.now.chains.inside.nest)))) (toks parser.old)) }
         ensures fewer { length (toks parser.new) ≤ length (toks parser.old) }
     {
         let (steps, part) = self.chains.lead_steps(parser)?;
         match part {
             Some(part) => {
                 let source = posted(parser.alloc, place, first, steps)?;
-                Ok(for_each(source, part, place))
+                held(parser.alloc, for_each(source, Box::into_inner(part), place))
             }
             None => Err(ParseError::Syntax),
         }
     }
 
-    #[tactic(auto, unfolding(qvt_parser_grammar::specs::ReadingStatements::while_stmt_at))]
-    fn while_stmt(&self, parser: &mut Parser<'_>) -> Result<Stmt, ParseError>
-        requires { IsInside F.Fn G.Fn self.now.chains.inside }
-        ensures gives { Gives stmt_view result (toks parser.new) (while_stmt_at (nested_at self.now.chains.inside.room) (toks parser.old)) }
+    #[tactic(auto, unfolding(qvt_parser_grammar::specs::ReadingStatements::while_stmt_at, qvt_parser_grammar::specs::ReadingStatements::condition_at))]
+    fn while_stmt(&self, parser: &mut Parser<'_>) -> Result<Box<Stmt>, ParseError>
+        ensures gives { Gives held_view result (toks parser.new) (while_stmt_at (nested_at (N.room self.now.chains.inside.nest)) (toks parser.old)) }
         ensures fewer { length (toks parser.new) ≤ length (toks parser.old) }
         ensures less { OnOk result (length (toks parser.new) < length (toks parser.old)) }
     {
         let place = parser.place();
         parser.take(Class::WhileWord)?;
-        let condition = self.condition(parser)?;
+        let condition = self
+            .chains
+            .inside
+            .enclosed(parser, Class::OpenRound, Class::CloseRound)?;
         let body = self.chains.inside.block(parser)?;
-        Ok(Stmt::While {
-            condition,
+        let stmt = Stmt::While {
+            condition: Box::into_inner(condition),
             body,
             place,
-        })
+        };
+        held(parser.alloc, stmt)
     }
 
     #[tactic(auto, unfolding(qvt_parser_grammar::specs::ReadingStatements::assignment_at))]
-    fn assignment<'a>(&self, parser: &mut Parser<'a>) -> Result<(Token<'a>, Expr), ParseError>
-        requires { IsInside F.Fn G.Fn self.now.chains.inside }
-        ensures gives { Gives assigned_view result (toks parser.new) (assignment_at (nested_at self.now.chains.inside.room) (toks parser.old)) }
+    fn assignment<'a>(&self, parser: &mut Parser<'a>) -> Result<(Token<'a>, Box<Expr>), ParseError>
+        ensures gives { Gives assigned_view result (toks parser.new) (assignment_at (nested_at (N.room self.now.chains.inside.nest)) (toks parser.old)) }
         ensures fewer { length (toks parser.new) ≤ length (toks parser.old) }
         ensures less { OnOk result (length (toks parser.new) < length (toks parser.old)) }
     {
         let sign = parser.assign_sign()?;
-        let value = self.chains.inside.expr(parser)?;
+        let value = self.chains.inside.boxed(parser)?;
         Ok((sign, value))
     }
 
     #[inline(never)]
     #[tactic(auto, unfolding(qvt_parser_grammar::specs::ReadingStatements::lead_stmt_at))]
     fn lead_stmt(&self, parser: &mut Parser<'_>) -> Result<Turn, ParseError>
-        requires { IsInside F.Fn G.Fn self.now.chains.inside }
-        ensures gives { Gives turn_view result (toks parser.new) (lead_stmt_at (nested_at self.now.chains.inside.room) (toks parser.old)) }
+        ensures gives { Gives turn_view result (toks parser.new) (lead_stmt_at (nested_at (N.room self.now.chains.inside.nest)) (toks parser.old)) }
         ensures fewer { length (toks parser.new) ≤ length (toks parser.old) }
         ensures less { OnOk result (length (toks parser.new) < length (toks parser.old)) }
     {
@@ -377,9 +356,8 @@ impl<
         let lead = self.chains.lead(parser)?;
         match lead {
             Leading::Each { source, part } => {
-                let part = Box::into_inner(part);
                 let source = Box::into_inner(source);
-                let stmt = held(parser.alloc, for_each(source, part, place))?;
+                let stmt = held(parser.alloc, for_each(source, Box::into_inner(part), place))?;
                 Ok(Turn::Closed(stmt))
             }
             lead => self.written(parser, lead, place),
@@ -393,9 +371,8 @@ impl<
         lead: Leading,
         place: Place,
     ) -> Result<Turn, ParseError>
-        requires nested { IsInside F.Fn G.Fn self.now.chains.inside }
         requires plain { IsPlain (lead_view lead) }
-        ensures gives { Gives turn_view result (toks parser.new) (made_at (written_turn place (lead_view lead)) (lead_tail_at (nested_at self.now.chains.inside.room) (lead_view lead)) (toks parser.old)) }
+        ensures gives { Gives turn_view result (toks parser.new) (made_at (written_turn place (lead_view lead)) (lead_tail_at (nested_at (N.room self.now.chains.inside.nest)) (lead_view lead)) (toks parser.old)) }
         ensures fewer { length (toks parser.new) ≤ length (toks parser.old) }
     {
         if assigns(parser, &lead) {
@@ -414,10 +391,9 @@ impl<
         lead: Leading,
         place: Place,
     ) -> Result<Turn, ParseError>
-        requires nested { IsInside F.Fn G.Fn self.now.chains.inside }
         requires target { IsTrue (is_there (target_in (lead_view lead))) }
         requires sign { IsTrue (starts (of assign_first) (toks parser.old)) }
-        ensures gives { Gives turn_view result (toks parser.new) (made_at (written_turn place (lead_view lead)) (lead_tail_at (nested_at self.now.chains.inside.room) (lead_view lead)) (toks parser.old)) }
+        ensures gives { Gives turn_view result (toks parser.new) (made_at (written_turn place (lead_view lead)) (lead_tail_at (nested_at (N.room self.now.chains.inside.nest)) (lead_view lead)) (toks parser.old)) }
         ensures fewer { length (toks parser.new) ≤ length (toks parser.old) }
     {
         let target = into_target(parser.alloc, lead)?;
@@ -429,56 +405,47 @@ impl<
 
     #[inline(never)]
     fn if_turn(&self, parser: &mut Parser<'_>) -> Result<Turn, ParseError>
-        requires { IsInside F.Fn G.Fn self.now.chains.inside }
-        ensures gives { Gives turn_view result (toks parser.new) (made_at closed_turn (if_stmt_at (nested_at self.now.chains.inside.room)) (toks parser.old)) }
+        ensures gives { Gives turn_view result (toks parser.new) (made_at closed_turn (if_stmt_at (nested_at (N.room self.now.chains.inside.nest))) (toks parser.old)) }
         ensures fewer { length (toks parser.new) ≤ length (toks parser.old) }
         ensures less { OnOk result (length (toks parser.new) < length (toks parser.old)) }
     {
         let stmt = self.if_stmt(parser)?;
-        let stmt = held(parser.alloc, stmt)?;
         Ok(Turn::Closed(stmt))
     }
 
     #[inline(never)]
     fn while_turn(&self, parser: &mut Parser<'_>) -> Result<Turn, ParseError>
-        requires { IsInside F.Fn G.Fn self.now.chains.inside }
-        ensures gives { Gives turn_view result (toks parser.new) (made_at closed_turn (while_stmt_at (nested_at self.now.chains.inside.room)) (toks parser.old)) }
+        ensures gives { Gives turn_view result (toks parser.new) (made_at closed_turn (while_stmt_at (nested_at (N.room self.now.chains.inside.nest))) (toks parser.old)) }
         ensures fewer { length (toks parser.new) ≤ length (toks parser.old) }
         ensures less { OnOk result (length (toks parser.new) < length (toks parser.old)) }
     {
         let stmt = self.while_stmt(parser)?;
-        let stmt = held(parser.alloc, stmt)?;
         Ok(Turn::Closed(stmt))
     }
 
     #[inline(never)]
     fn var_turn(&self, parser: &mut Parser<'_>) -> Result<Turn, ParseError>
-        requires { IsInside F.Fn G.Fn self.now.chains.inside }
-        ensures gives { Gives turn_view result (toks parser.new) (made_at simple_turn (then_at (var_stmt_at (nested_at self.now.chains.inside.room)) semicolon_at) (toks parser.old)) }
+        ensures gives { Gives turn_view result (toks parser.new) (made_at simple_turn (then_at (var_stmt_at (nested_at (N.room self.now.chains.inside.nest))) semicolon_at) (toks parser.old)) }
         ensures fewer { length (toks parser.new) ≤ length (toks parser.old) }
         ensures less { OnOk result (length (toks parser.new) < length (toks parser.old)) }
     {
         let stmt = self.var_stmt(parser)?;
-        let stmt = held(parser.alloc, stmt)?;
         Ok(ended(parser, stmt))
     }
 
     #[inline(never)]
     fn return_turn(&self, parser: &mut Parser<'_>) -> Result<Turn, ParseError>
-        requires { IsInside F.Fn G.Fn self.now.chains.inside }
-        ensures gives { Gives turn_view result (toks parser.new) (made_at simple_turn (then_at (return_stmt_at (nested_at self.now.chains.inside.room)) semicolon_at) (toks parser.old)) }
+        ensures gives { Gives turn_view result (toks parser.new) (made_at simple_turn (then_at (return_stmt_at (nested_at (N.room self.now.chains.inside.nest))) semicolon_at) (toks parser.old)) }
         ensures fewer { length (toks parser.new) ≤ length (toks parser.old) }
         ensures less { OnOk result (length (toks parser.new) < length (toks parser.old)) }
     {
         let stmt = self.return_stmt(parser)?;
-        let stmt = held(parser.alloc, stmt)?;
         Ok(ended(parser, stmt))
     }
 
     #[tactic(auto, unfolding(qvt_parser_grammar::specs::ReadingStatements::statement_at))]
     fn statement(&self, parser: &mut Parser<'_>) -> Result<Turn, ParseError>
-        requires { IsInside F.Fn G.Fn self.now.chains.inside }
-        ensures gives { Gives turn_view result (toks parser.new) (statement_at (nested_at self.now.chains.inside.room) (toks parser.old)) }
+        ensures gives { Gives turn_view result (toks parser.new) (statement_at (nested_at (N.room self.now.chains.inside.nest)) (toks parser.old)) }
         ensures fewer { length (toks parser.new) ≤ length (toks parser.old) }
         ensures less { OnOk result (length (toks parser.new) < length (toks parser.old)) }
     {
@@ -504,8 +471,7 @@ impl<
     /// The statements of a block without its braces.
     #[tactic(auto, unfolding(qvt_parser_grammar::specs::ReadingStatements::statements_at))]
     pub fn statements(&self, parser: &mut Parser<'_>) -> Result<EndedStmts, ParseError>
-        requires { IsInside F.Fn G.Fn self.now.chains.inside }
-        ensures gives { Gives ended_view result (toks parser.new) (statements_at (nested_at self.now.chains.inside.room) (toks parser.old)) }
+        ensures gives { Gives ended_view result (toks parser.new) (statements_at (nested_at (N.room self.now.chains.inside.nest)) (toks parser.old)) }
         ensures fewer { length (toks parser.new) ≤ length (toks parser.old) }
     {
         let mut stmts = Seq::new(parser.alloc);
@@ -528,8 +494,7 @@ impl<
     /// A block.
     #[tactic(auto, unfolding(qvt_parser_grammar::specs::ReadingStatements::block_at))]
     pub fn block_inside(&self, parser: &mut Parser<'_>) -> Result<Seq<Stmt>, ParseError>
-        requires { IsInside F.Fn G.Fn self.now.chains.inside }
-        ensures gives { Gives stmts_view result (toks parser.new) (block_at (nested_at self.now.chains.inside.room) (toks parser.old)) }
+        ensures gives { Gives stmts_view result (toks parser.new) (block_at (nested_at (N.room self.now.chains.inside.nest)) (toks parser.old)) }
         ensures fewer { length (toks parser.new) ≤ length (toks parser.old) }
         ensures less { OnOk result (length (toks parser.new) < length (toks parser.old)) }
     {

@@ -25,13 +25,13 @@ decreases-raised g l = 5 * l.below + 4
 
 abbrev pub invariant-chain-loop-below : goal.invariant-chain-loop-below
 invariant-chain-loop-below g l = record {
-  so_far : chain_at l.below (pre_at (nested_at l.self.inside.room)) (pre_at (nested_at l.self.inside.room)) (toks l.fn.parser) ≡ Ok (lead_view l.lead, toks l.parser);
+  so_far : chain_at l.below (pre_at (nested_at (g.N.Nest.room l.self.inside.nest))) (pre_at (nested_at (g.N.Nest.room l.self.inside.nest))) (toks l.fn.parser) ≡ Ok (lead_view l.lead, toks l.parser);
   less : length (toks l.parser) < length (toks l.fn.parser);
 }
 
 abbrev pub invariant-operands-loop-parser : goal.invariant-operands-loop-parser
 invariant-operands-loop-parser g l = record {
-  so_far : many_at (of (operators l.level)) (link_at l.level (chain_at l.level (pre_at (nested_at l.self.inside.room)) (pre_at (nested_at l.self.inside.room)))) (toks l.fn.parser) ≡ with_front (map link_view l.links) (many_at (of (operators l.level)) (link_at l.level (chain_at l.level (pre_at (nested_at l.self.inside.room)) (pre_at (nested_at l.self.inside.room)))) (toks l.parser));
+  so_far : many_at (of (operators l.level)) (link_at l.level (chain_at l.level (pre_at (nested_at (g.N.Nest.room l.self.inside.nest))) (pre_at (nested_at (g.N.Nest.room l.self.inside.nest))))) (toks l.fn.parser) ≡ with_front (map link_view l.links) (many_at (of (operators l.level)) (link_at l.level (chain_at l.level (pre_at (nested_at (g.N.Nest.room l.self.inside.nest))) (pre_at (nested_at (g.N.Nest.room l.self.inside.nest))))) (toks l.parser));
   fewer : length (toks l.parser) ≤ length (toks l.fn.parser);
 }
 

@@ -8,4 +8,4 @@ use Rattle.qvt_parser_chains.proofs.chains.Chains.head_after.Goals as goal
 pub returns-clause-gives : goal.returns-clause-gives
 returns-clause-gives g c =
     subst (λ a. Gives arrow_args_view c.exprs_after.result (toks c.exprs_after.new.parser) a)
-    (sym (after_headless (nested_at c.args.self.now.inside.room) (toks c.args.parser.now) (lead_view c.args.lead) _ c.in_ok-first.ensures (sym c.is_head.ensures ∙ c.if-is_head.false))) c.exprs_after.ensures.gives
+    (sym (after_headless (nested_at (g.N.Nest.room c.args.self.now.inside.nest)) (toks c.args.parser.now) (lead_view c.args.lead) _ c.in_ok-first.ensures (sym c.is_head.ensures ∙ c.if-is_head.false))) c.exprs_after.ensures.gives

@@ -7,6 +7,6 @@ use Rattle.qvt_parser_chains.proofs.chains.Chains.lead.Given as goal
 
 abbrev pub invariant-loop-below : goal.invariant-loop-below
 invariant-loop-below g l = record {
-  so_far : chain_at l.below (lead_pre_at (nested_at l.self.inside.room)) (pre_at (nested_at l.self.inside.room)) (toks l.fn.parser) ≡ Ok (lead_view l.lead, toks l.parser);
+  so_far : chain_at l.below (lead_pre_at (nested_at (g.N.Nest.room l.self.inside.nest))) (pre_at (nested_at (g.N.Nest.room l.self.inside.nest))) (toks l.fn.parser) ≡ Ok (lead_view l.lead, toks l.parser);
   less : length (toks l.parser) < length (toks l.fn.parser);
 }

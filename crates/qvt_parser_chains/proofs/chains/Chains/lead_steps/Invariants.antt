@@ -11,7 +11,7 @@ use Rattle.qvt_parser_chains.proofs.chains.Chains.lead_steps.Given as goal
 
 abbrev pub invariant-loop-parser : goal.invariant-loop-parser
 invariant-loop-parser g l = record {
-  so_far : ended_at (of step_first) (lead_step_at (nested_at l.self.inside.room)) (toks l.fn.parser) ≡ turns_before (map step_view l.steps) (ended_at (of step_first) (lead_step_at (nested_at l.self.inside.room)) (toks l.parser));
+  so_far : ended_at (of step_first) (lead_step_at (nested_at (g.N.Nest.room l.self.inside.nest))) (toks l.fn.parser) ≡ turns_before (map step_view l.steps) (ended_at (of step_first) (lead_step_at (nested_at (g.N.Nest.room l.self.inside.nest))) (toks l.parser));
   fewer : length (toks l.parser) ≤ length (toks l.fn.parser);
 }
 

@@ -10,7 +10,7 @@ use Rattle.qvt_parser_chains.proofs.chains.Chains.steps.Given as goal
 
 abbrev pub invariant-loop-parser : goal.invariant-loop-parser
 invariant-loop-parser g l = record {
-  so_far : many_at (of step_first) (step_at (nested_at l.self.inside.room)) (toks l.fn.parser) ≡ with_front (map step_view l.steps) (many_at (of step_first) (step_at (nested_at l.self.inside.room)) (toks l.parser));
+  so_far : many_at (of step_first) (step_at (nested_at (g.N.Nest.room l.self.inside.nest))) (toks l.fn.parser) ≡ with_front (map step_view l.steps) (many_at (of step_first) (step_at (nested_at (g.N.Nest.room l.self.inside.nest))) (toks l.parser));
   fewer : length (toks l.parser) ≤ length (toks l.fn.parser);
 }
 

@@ -1,4 +1,4 @@
-use Rattle.std.proofs.Common.{sym, ◌∙◌, arith}
+use Rattle.std.proofs.Common.{[], ◌∷◌, ◌++◌, sym, ap, ◌∙◌, arith}
 use Rattle.qvt_grammar.specs.Reader.{made_at, then_at}
 use Rattle.qvt_grammar.proofs.Loops.{loop_push}
 use Rattle.qvt_parser_grammar.specs.Tokens.{is}
@@ -14,6 +14,6 @@ use Rattle.qvt_parser_exprs.proofs.inside.Inside.exprs_from.Goals as goal
 
 pub loop-parser-preserved : goal.loop-parser-preserved
 loop-parser-preserved g c = record {
-  so_far = loop_push (is Comma) (made_at second (then_at (the_at Comma) (expr_at (nested_at c.args.self.now.room)))) (less_expr c.args.self.now.room) expr_view _ c.loop-parser.exprs _ c.in_ok-next.next (toks c.loop-parser.parser) (toks c.next_expr.new.parser) c.loop-parser.invariant.so_far (sym c.at.ensures ∙ c.loop-parser-test.true) c.in_ok-next.ensures.gives c.in_ok-push-2.ensures.ok;
+  so_far = loop_push (is Comma) (made_at second (then_at (the_at Comma) (expr_at (nested_at (g.N.Nest.room c.args.self.now.nest))))) (less_expr (g.N.Nest.room c.args.self.now.nest)) expr_view _ c.loop-parser.exprs _ c.in_ok-next.next.value (toks c.loop-parser.parser) (toks c.expr_past.new.parser) c.loop-parser.invariant.so_far (sym c.at.ensures ∙ c.loop-parser-test.true) c.in_ok-next.ensures.gives (c.in_ok-push-2.ensures.ok ∙ ap (λ e. c.loop-parser.exprs ++ e ∷ []) c.into_inner-expr.ensures);
   fewer = omega (arith, c.in_ok-next.ensures.fewer);
 }

@@ -12,7 +12,7 @@ use Rattle.qvt_parser_exprs.proofs.inside.Inside.exprs_from.Given as goal
 
 abbrev pub invariant-loop-parser : goal.invariant-loop-parser
 invariant-loop-parser g l = record {
-  so_far : made_at (with_head (expr_view l.fn.first)) (many_at (is Comma) (made_at second (then_at (the_at Comma) (expr_at (nested_at l.self.room))))) (toks l.fn.parser) ≡ with_front (map expr_view l.exprs) (many_at (is Comma) (made_at second (then_at (the_at Comma) (expr_at (nested_at l.self.room)))) (toks l.parser));
+  so_far : made_at (with_head (expr_view l.fn.first.value)) (many_at (is Comma) (made_at second (then_at (the_at Comma) (expr_at (nested_at (g.N.Nest.room l.self.nest)))))) (toks l.fn.parser) ≡ with_front (map expr_view l.exprs) (many_at (is Comma) (made_at second (then_at (the_at Comma) (expr_at (nested_at (g.N.Nest.room l.self.nest))))) (toks l.parser));
   fewer : length (toks l.parser) ≤ length (toks l.fn.parser);
 }
 

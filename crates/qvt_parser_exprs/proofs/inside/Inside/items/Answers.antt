@@ -14,6 +14,6 @@ use Rattle.qvt_parser_exprs.proofs.inside.Inside.items.Goals as goal
 
 pub loop-parser-preserved : goal.loop-parser-preserved
 loop-parser-preserved g c = record {
-  so_far = loop_push (is Comma) (made_at second (then_at (the_at Comma) (item_at (nested_at c.args.self.now.room)))) (less_item c.args.self.now.room) item_view _ c.loop-parser.items _ c.in_ok-next.next (toks c.loop-parser.parser) (toks c.next_item.new.parser) c.loop-parser.invariant.so_far (sym c.at.ensures ∙ c.loop-parser-test.true) c.in_ok-next.ensures.gives c.in_ok-push-2.ensures.ok;
+  so_far = loop_push (is Comma) (made_at second (then_at (the_at Comma) (item_at (nested_at (g.N.Nest.room c.args.self.now.nest))))) (less_item (g.N.Nest.room c.args.self.now.nest)) item_view _ c.loop-parser.items _ c.in_ok-next.next (toks c.loop-parser.parser) (toks c.next_item.new.parser) c.loop-parser.invariant.so_far (sym c.at.ensures ∙ c.loop-parser-test.true) c.in_ok-next.ensures.gives c.in_ok-push-2.ensures.ok;
   fewer = omega (arith, c.in_ok-next.ensures.fewer);
 }

@@ -12,7 +12,7 @@ use Rattle.qvt_parser_exprs.proofs.inside.Inside.items.Given as goal
 
 abbrev pub invariant-loop-parser : goal.invariant-loop-parser
 invariant-loop-parser g l = record {
-  so_far : made_at cons_of (then_at (item_at (nested_at l.self.room)) (many_at (is Comma) (made_at second (then_at (the_at Comma) (item_at (nested_at l.self.room)))))) (toks l.fn.parser) ≡ with_front (map item_view l.items) (many_at (is Comma) (made_at second (then_at (the_at Comma) (item_at (nested_at l.self.room)))) (toks l.parser));
+  so_far : made_at cons_of (then_at (item_at (nested_at (g.N.Nest.room l.self.nest))) (many_at (is Comma) (made_at second (then_at (the_at Comma) (item_at (nested_at (g.N.Nest.room l.self.nest))))))) (toks l.fn.parser) ≡ with_front (map item_view l.items) (many_at (is Comma) (made_at second (then_at (the_at Comma) (item_at (nested_at (g.N.Nest.room l.self.nest))))) (toks l.parser));
   fewer : length (toks l.parser) ≤ length (toks l.fn.parser);
 }
 

@@ -11,6 +11,6 @@ use Rattle.qvt_parser_stmts.proofs.statements.Statements.arms.Goals as goal
 
 pub loop-parser-preserved : goal.loop-parser-preserved
 loop-parser-preserved g c = record {
-  so_far = loop_push (is ElifWord) (arm_at (nested_at c.args.self.now.chains.inside.room)) (less_arm c.args.self.now.chains.inside.room) arm_view _ c.loop-parser.arms _ c.in_ok-arm.arm (toks c.loop-parser.parser) (toks c.arm.new.parser) c.loop-parser.invariant.so_far (sym c.at.ensures ∙ c.loop-parser-test.true) c.in_ok-arm.ensures.gives c.in_ok-push.ensures.ok;
+  so_far = loop_push (is ElifWord) (arm_at (nested_at (g.N.Nest.room c.args.self.now.chains.inside.nest))) (less_arm (g.N.Nest.room c.args.self.now.chains.inside.nest)) arm_view _ c.loop-parser.arms _ c.in_ok-arm.arm (toks c.loop-parser.parser) (toks c.arm.new.parser) c.loop-parser.invariant.so_far (sym c.at.ensures ∙ c.loop-parser-test.true) c.in_ok-arm.ensures.gives c.in_ok-push.ensures.ok;
   fewer = omega (arith, c.in_ok-arm.ensures.fewer);
 }

@@ -10,7 +10,7 @@ use Rattle.qvt_parser_stmts.proofs.statements.Statements.arms.Given as goal
 
 abbrev pub invariant-loop-parser : goal.invariant-loop-parser
 invariant-loop-parser g l = record {
-  so_far : many_at (is ElifWord) (arm_at (nested_at l.self.chains.inside.room)) (toks l.fn.parser) ≡ with_front (map arm_view l.arms) (many_at (is ElifWord) (arm_at (nested_at l.self.chains.inside.room)) (toks l.parser));
+  so_far : many_at (is ElifWord) (arm_at (nested_at (g.N.Nest.room l.self.chains.inside.nest))) (toks l.fn.parser) ≡ with_front (map arm_view l.arms) (many_at (is ElifWord) (arm_at (nested_at (g.N.Nest.room l.self.chains.inside.nest))) (toks l.parser));
   fewer : length (toks l.parser) ≤ length (toks l.fn.parser);
 }
 

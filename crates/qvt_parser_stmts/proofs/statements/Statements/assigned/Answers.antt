@@ -8,4 +8,4 @@ use Rattle.qvt_parser_stmts.proofs.Tails.{closing, tail_assigned}
 use Rattle.qvt_parser_stmts.proofs.statements.Statements.assigned.Goals as goal
 
 pub returns-clause-gives : goal.returns-clause-gives
-returns-clause-gives g c = tail_assigned c.args.place (nested_at c.args.self.now.chains.inside.room) (lead_view c.args.lead) (target_view c.in_ok-target.target) (toks c.args.parser.now) (tok_of c.in_ok-pair.pair.0) (expr_view c.in_ok-pair.pair.1) (toks c.assignment.new.parser) c.in_ok-target.ensures c.requires.sign c.in_ok-pair.ensures.gives ∙ ap (λ s. closing s (toks c.assignment.new.parser)) (sym (c.in_ok-stmt.ensures ∙ c.assign.ensures)) ∙ c.ended.ensures.gives
+returns-clause-gives g c = tail_assigned c.args.place (nested_at (g.N.Nest.room c.args.self.now.chains.inside.nest)) (lead_view c.args.lead) (target_view c.in_ok-target.target) (toks c.args.parser.now) (tok_of c.in_ok-pair.pair.0) (expr_view c.in_ok-pair.pair.1.value) (toks c.assignment.new.parser) c.in_ok-target.ensures c.requires.sign c.in_ok-pair.ensures.gives ∙ ap (λ s. closing s (toks c.assignment.new.parser)) (sym (c.in_ok-stmt.ensures ∙ c.assign.ensures)) ∙ c.ended.ensures.gives

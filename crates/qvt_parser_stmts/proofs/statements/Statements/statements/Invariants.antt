@@ -11,7 +11,7 @@ use Rattle.qvt_parser_stmts.proofs.statements.Statements.statements.Given as goa
 
 abbrev pub invariant-loop-parser : goal.invariant-loop-parser
 invariant-loop-parser g l = record {
-  so_far : rest_at (of stmt_first) (statement_at (nested_at l.self.chains.inside.room)) (less_statement l.self.chains.inside.room) (toks l.fn.parser) ≡ stmts_before (stmts_view l.stmts) (rest_at (of stmt_first) (statement_at (nested_at l.self.chains.inside.room)) (less_statement l.self.chains.inside.room) (toks l.parser));
+  so_far : rest_at (of stmt_first) (statement_at (nested_at (g.N.Nest.room l.self.chains.inside.nest))) (less_statement (g.N.Nest.room l.self.chains.inside.nest)) (toks l.fn.parser) ≡ stmts_before (stmts_view l.stmts) (rest_at (of stmt_first) (statement_at (nested_at (g.N.Nest.room l.self.chains.inside.nest))) (less_statement (g.N.Nest.room l.self.chains.inside.nest)) (toks l.parser));
   fewer : length (toks l.parser) ≤ length (toks l.fn.parser);
 }
 

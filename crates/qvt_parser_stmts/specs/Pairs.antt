@@ -10,7 +10,7 @@ use Rattle.qvt_parser_grammar.specs.Readers.{Reader}
 use Rattle.qvt_parser_grammar.specs.Gives.{Gives, toks}
 use Rattle.qvt_parser_grammar.specs.Nesting.{nested_at}
 use Rattle.qvt_parser_exprs.specs.declared.leading.Leading.{Leading}
-use Rattle.qvt_parser_exprs.specs.declared.inside.Inside.{Inside}
+use Rattle.qvt_parser_stmts.specs.declared.calls.CallPair.{CallPair}
 use Rattle.qvt_parser_exprs.specs.Views.{lead_view, stmts_view}
 
 -- a call that leaves these tokens of the old ones gives what the reader reads
@@ -19,7 +19,7 @@ pub record Follows {X Y : Type 0} (view : X → Y) (reader : Reader Y) (old : Li
   pub fewer : length new ≤ length old
 
 -- both may be called, and each call gives what is read at the nesting
-pub record IsInside {F G : Type 0} (f : Shared F (MutBor Parser × Unit {0}) (Result Leading ParseError × (MutBor Parser × Unit {0}))) (g : Shared G (MutBor Parser × Unit {0}) (Result (List Stmt) ParseError × (MutBor Parser × Unit {0}))) (inside : Inside F G) : Type 0 where
+pub record IsInside {F G : Type 0} (f : Shared F (MutBor Parser × Unit {0}) (Result Leading ParseError × (MutBor Parser × Unit {0}))) (g : Shared G (MutBor Parser × Unit {0}) (Result (List Stmt) ParseError × (MutBor Parser × Unit {0}))) (inside : CallPair F G) : Type 0 where
   pub lead_callable : always_fn f inside.lead
   pub block_callable : always_fn g inside.block
   pub lead : (p q : MutBor Parser) (r : Result Leading ParseError) → f.post inside.lead (p, tt) (r, (q, tt)) → Follows lead_view (nested_at inside.room).flagged (toks p.now) r (toks q.now)
