@@ -254,8 +254,18 @@ impl Drop for TypedExpr {
             TypedExpr::SelfRef { place, note } => {}
             TypedExpr::ResultRef { place, note } => {}
             TypedExpr::Path(part) => {}
-            TypedExpr::Call { name, args, place, note } => {}
-            TypedExpr::Coll { kind, items, place, note } => {}
+            TypedExpr::Call {
+                name,
+                args,
+                place,
+                note,
+            } => {}
+            TypedExpr::Coll {
+                kind,
+                items,
+                place,
+                note,
+            } => {}
             TypedExpr::If {
                 condition,
                 yes,
@@ -415,7 +425,12 @@ impl Drop for TypedStep {
     #[cycle(drops)]
     fn drop(self) {
         match self {
-            TypedStep::Dot { name, args, place, note } => {}
+            TypedStep::Dot {
+                name,
+                args,
+                place,
+                note,
+            } => {}
             TypedStep::Arrow {
                 name,
                 head,
@@ -430,4 +445,3 @@ impl Drop for TypedStep {
         }
     }
 }
-

@@ -35,7 +35,12 @@ pub enum TypedTypeTree {
 impl Drop for TypedTypeTree {
     fn drop(self) {
         match self {
-            TypedTypeTree::Coll { kind, item, place, note } => {}
+            TypedTypeTree::Coll {
+                kind,
+                item,
+                place,
+                note,
+            } => {}
             TypedTypeTree::Path(path) => {}
         }
     }
