@@ -1,12 +1,10 @@
 -- The units of a transformation, and the transformation itself, joined with the notes of their nodes.
 use Rattle.std.specs.Prelude.{List, [], ◌∷◌, Option, Some, None}
-use Rattle.qvt_tree_types.specs.declared.types.PathTree.{PathTree}
 use Rattle.qvt_tree_types.specs.declared.module.ResultDecl.{ResultDecl}
 use Rattle.qvt_tree_types.specs.declared.module.ModelType.{ModelType}
 use Rattle.qvt_tree_types.specs.declared.module.ModelParam.{ModelParam}
 use Rattle.qvt_tree_types.specs.Module.{TypedName, ClassTerm, HelperTerm, MappingTerm, UnitTerm, ClassOf, MainOf, HelperOf, ConstructorOf, MappingOf, ModuleTerm}
 use Rattle.qvt_types_data.specs.declared.note.Note.{Note}
-use Rattle.qvt_types_nodes.specs.declared.types.TypedPathTree.{TypedPathTree}
 use Rattle.qvt_types_nodes.specs.declared.module.TypedResultDecl.{TypedResultDecl}
 use Rattle.qvt_types_nodes.specs.declared.module.TypedModelType.{TypedModelType}
 use Rattle.qvt_types_nodes.specs.declared.module.TypedModelParam.{TypedModelParam}
