@@ -3,4 +3,8 @@
 
 pub mod boxed;
 pub mod kinds;
+pub mod note;
+pub mod refusal;
+pub mod ruling;
 pub mod ty;
+pub mod variable;

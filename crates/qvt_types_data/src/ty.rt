@@ -1,8 +1,10 @@
 //! Types.
 
 ghost use Rattle.std.specs.Prelude.{◌≡◌, IfOk};
+ghost use Rattle.qvt_types_data.specs.Term.{same_type, ty_view};
 
 use crate::boxed::Boxed;
+use crate::kinds::same_kind;
 use qvt_base::copied::Copied;
 use qvt_base::list_fault::ListFault;
 use qvt_base::numbers::ClassNo;
@@ -59,5 +61,35 @@ fn copy_of(alloc: Global, of: &Ty) -> Result<Ty, ListFault>
             *kind,
             Boxed::new(alloc, copy_of(alloc, item.get())?)?,
         )),
+    }
+}
+
+/// The same type again, if there is one.
+pub fn copied(alloc: Global, of: &Option<Ty>) -> Result<Option<Ty>, ListFault>
+    ensures { IfOk result (λ copy. copy ≡ of.now) }
+{
+    match of {
+        None => Ok(None),
+        Some(of) => Ok(Some(copy_of(alloc, of)?)),
+    }
+}
+
+/// Whether the two are one type.
+pub fn same(one: &Ty, other: &Ty) -> bool
+    ensures { result ≡ same_type (ty_view one.now) (ty_view other.now) }
+{
+    match (one, other) {
+        (Ty::Void, Ty::Void) => true,
+        (Ty::Boolean, Ty::Boolean) => true,
+        (Ty::Integer, Ty::Integer) => true,
+        (Ty::Str, Ty::Str) => true,
+        (Ty::Enum(metamodel, enumeration), Ty::Enum(other, another)) => {
+            metamodel == other && enumeration == another
+        }
+        (Ty::Class(class), Ty::Class(other)) => class.0 == other.0,
+        (Ty::Coll(kind, item), Ty::Coll(other, another)) => {
+            same_kind(*kind, *other) && same(item.get(), another.get())
+        }
+        _ => false,
     }
 }

@@ -1,0 +1,3 @@
+mod SameTypes
+mod Stripped
+mod StrippedModule

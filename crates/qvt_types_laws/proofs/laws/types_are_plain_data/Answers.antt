@@ -1,0 +1,5 @@
+use Rattle.qvt_types_laws.proofs.SameTypes.{plain, again}
+use Rattle.qvt_types_laws.proofs.laws.types_are_plain_data.Goals as goal
+
+pub returns : goal.returns
+returns c = record { plain = plain; again = again }

@@ -1,0 +1,5 @@
+pub mod Tree
+pub mod View
+pub mod Strip
+pub mod Module
+pub mod StripModule
