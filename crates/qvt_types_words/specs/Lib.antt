@@ -1,0 +1,3 @@
+pub mod OperationNames
+pub mod Rulings
+pub mod Types
