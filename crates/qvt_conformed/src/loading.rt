@@ -19,7 +19,6 @@ use qvt_model::id_table::IdTable;
 use qvt_model::read::read_model;
 use qvt_model::write::write_model;
 use qvt_store::extent::ExtentList;
-use qvt_store::law::new_is_sound;
 use qvt_store::store::Store;
 use std::alloc::Global;
 
@@ -32,7 +31,6 @@ pub fn empty_store(alloc: Global, metas: &Metas, extents: &ExtentList) -> Option
     ensures store { IfSome result (λ store. store ≡ record { metas = metas.now; extents = extents.now; objects = [] }) }
     ensures sound { IfSome result Sound }
 {
-    new_is_sound();
     match Store::new(alloc, metas, extents) {
         Ok(store) => Some(store),
         Err(_) => None,

@@ -170,9 +170,11 @@ module _ (s : Contents) (e k : ℕ) (os : List ObjectData) (model : IsModel s.me
           let l : r.place < length os = ref_below m os (shape_of m p).kind r.place t.items for.is.items r.held in
           ap (λ z. (slice_index_or obs z no_instance).extent) r.number ∙ extent_new r.place l ∙ sym (extent_new i below)
 
+      pub plain_list : All IsPlain vs
+      plain_list = all_plain m os n (shape_of m p).kind t.items for.is.items
+
       pub sound_list : IsSoundList (with_objects s obs) (n + i) p vs
       sound_list = record {
-        plain = all_plain m os n (shape_of m p).kind t.items for.is.items;
         bound = ap (λ z. is_beyond z (shape_of m p).upper) (length-shift n t.items ∙ ap (λ (xs : _). length (map (value_at 0) xs)) (sym for.list)) ∙ conforms.bounds i p;
         unique = λ u. no_repeat (conforms.unique i p u);
         own_objects = and_false (is_model (with_objects s obs) (extent_of (with_objects s obs) (n + i))) _ (λ _. nowhere (with_objects s obs) (n + i) vs own_extent);
@@ -228,7 +230,7 @@ module _ (s : Contents) (e k : ℕ) (os : List ObjectData) (model : IsModel s.me
         can = (can, r.can);
         part = r.part;
         later = r.later;
-        sound = λ h. r.sound (place_keeps_loading (with_objects s obs) (n + i) t.feature.0 (slot_values n t) can (sound_list obs part i below t for.0 free.0) h);
+        sound = λ h. r.sound (place_keeps_loading (with_objects s obs) (n + i) t.feature.0 (slot_values n t) can (plain_list obs part i below t for.0 free.0) (sound_list obs part i below t for.0 free.0) h);
       }
     where
       next : List Instance

@@ -2,6 +2,7 @@
 
 ghost use Rattle.qvt_store.specs.Law.{KeepsOpposites, KeepsOneContainer};
 ghost use Rattle.qvt_store.specs.Sound.{NewIsSound, AddKeepsSound, AssignKeepsSound, AppendKeepsSound, LoadBegins, AddKeepsLoading, PlaceKeepsLoading, LoadEnds};
+ghost use Rattle.qvt_store.specs.Stay.{StaysIsReflexive, StaysIsTransitive, AddStays, AssignStays, AppendStays};
 
 /// A change keeps that opposite slots agree.
 pub fn change_keeps_opposites()
@@ -52,4 +53,29 @@ pub fn place_keeps_loading()
 /// A store that is loaded is sound where opposite slots agree again.
 pub fn load_ends()
     ensures { LoadEnds }
+{}
+
+/// A store says of its objects what it says.
+pub fn stays_is_reflexive()
+    ensures { StaysIsReflexive }
+{}
+
+/// What stays through a first step and through a second one stays through both.
+pub fn stays_is_transitive()
+    ensures { StaysIsTransitive }
+{}
+
+/// What an object that is added leaves.
+pub fn add_stays()
+    ensures { AddStays }
+{}
+
+/// What an assignment leaves that is not refused.
+pub fn assign_stays()
+    ensures { AssignStays }
+{}
+
+/// What an append leaves that is not refused.
+pub fn append_stays()
+    ensures { AppendStays }
 {}
