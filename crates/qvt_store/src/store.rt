@@ -12,6 +12,7 @@ mod append;
 mod assign;
 mod change;
 mod check;
+mod extend;
 mod place;
 mod plan;
 

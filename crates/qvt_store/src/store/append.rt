@@ -95,7 +95,7 @@ impl Store {
     }
 
     /// Whether it is known that no unique slot holds a value twice.
-    fn is_distinct(&self) -> bool
+    pub(super) fn is_distinct(&self) -> bool
         ensures { IsTrue result → AreUnique self.now }
     {
         self.marks.distinct
@@ -199,7 +199,7 @@ impl Store {
     }
 
     /// Whether a change of a slot of the feature may touch other slots.
-    fn is_linked_feature(&self, feature: FeatureNo) -> bool
+    pub(super) fn is_linked_feature(&self, feature: FeatureNo) -> bool
         ensures { result ≡ is_linked self.now.metas feature.0 }
     {
         is_linked(&self.metas, feature)
@@ -220,7 +220,7 @@ impl Store {
     }
 
     /// Whether the slot holds a value equal to this one.
-    fn has_value(&self, object: Oid, feature: FeatureNo, value: &Value) -> bool
+    pub(super) fn has_value(&self, object: Oid, feature: FeatureNo, value: &Value) -> bool
         ensures { result ≡ list_any (λ other. same_value other value.now) (slot_of self.now object.0 feature.0) }
     {
         match value {
@@ -230,7 +230,7 @@ impl Store {
     }
 
     /// Puts the value last, if it is an object that the slot does not hold.
-    fn push_added(
+    pub(super) fn push_added(
         &self,
         list: &mut OidList,
         object: Oid,
