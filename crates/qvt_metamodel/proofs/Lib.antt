@@ -10,3 +10,4 @@ pub mod Empty
 pub mod Owners
 pub mod FeatureNames
 pub mod Positions
+pub mod Order

@@ -136,13 +136,13 @@ impl Metas {
     ghost use Rattle.qvt_metamodel.specs.Kept.{IsKept};
 
     /// Adds a metamodel: its numbers go on from those that are there, which stay. It is refused
-    /// where a metamodel of its name is there. A refused call changes nothing.
+    /// where a metamodel of its name is there. A refused call changes nothing. Where the class
+    /// Element is there, it is above the classes that come too.
     pub fn add(&mut self, meta: Meta) -> Result<(), MetasFault>
-        requires element { self.old.element ≡ None }
-        requires room { HasRoom self.old meta }
+        requires { HasRoom self.old meta }
         ensures ok { OnOk result (self.new ≡ added self.old meta) }
         ensures fresh { OnOk result (has_metamodel self.old meta.name ≡ false) }
-        ensures element { OnOk result (self.new.element ≡ None) }
+        ensures element { OnOk result (self.new.element ≡ self.old.element) }
         ensures same { IfErr result (λ fault. fault ≢ MetasFault.NoMemory → (has_metamodel self.old meta.name ≡ true) × (fault ≡ MetasFault.SameMetamodel meta.name)) }
         ensures err { OnErr result (self.new ≡ self.old) }
     {
@@ -171,11 +171,10 @@ impl Metas {
 
     /// These metamodels with one more.
     fn with_meta(&self, meta: &Meta) -> Result<Metas, MetasFault>
-        requires element { self.now.element ≡ None }
-        requires room { HasRoom self.now meta.now }
+        requires { HasRoom self.now meta.now }
         ensures ok { IfOk result (λ next. next ≡ added self.now meta.now) }
         ensures fresh { OnOk result (has_metamodel self.now meta.now.name ≡ false) }
-        ensures element { IfOk result (λ next. next.element ≡ None) }
+        ensures element { IfOk result (λ next. next.element ≡ self.now.element) }
         ensures same { IfErr result (λ fault. fault ≢ MetasFault.NoMemory → (has_metamodel self.now meta.now.name ≡ true) × (fault ≡ MetasFault.SameMetamodel meta.now.name)) }
     {
         let alloc = *self.classes.allocator();
@@ -197,8 +196,7 @@ impl Metas {
 
     /// These metamodels, and then the others, whose numbers go on.
     fn with(&self, others: &Numbered) -> Result<Metas, ListFault>
-        requires element { self.now.element ≡ None }
-        requires room { FitTogether self.now others.now }
+        requires { FitTogether self.now others.now }
         ensures { IfOk result (λ next. next ≡ joined self.now others.now) }
     {
         let alloc = *self.classes.allocator();
@@ -218,7 +216,7 @@ impl Metas {
             joined(alloc, self.metamodels.as_slice(), metamodels)?,
             joined(alloc, self.classes.as_slice(), classes)?,
             joined(alloc, self.features.as_slice(), features)?,
-            None,
+            self.element,
             joined(alloc, self.lists.as_slice(), lists)?,
             joined(alloc, self.rows.as_slice(), rows)?,
             joined(alloc, self.ranks.as_slice(), ranks)?,
