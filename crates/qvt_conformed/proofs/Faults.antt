@@ -38,10 +38,10 @@ use Rattle.qvt_conform.specs.Items as item
 use Rattle.qvt_conform.specs.Containment.{refs_of, refs, contents_of_slot, contents_of_slots, contents_of, contents}
 use Rattle.qvt_conform.specs.Conformance.{fault_if, feature_fault, features_fault, containment_fault, object_fault, faults_from, conform_fault}
 use Rattle.qvt_model.specs.Items.{items_in}
-use Rattle.qvt_load.specs.Loaded.{value_at}
-use Rattle.qvt_load.specs.Conforming.{slots_at, Conforms}
-use Rattle.qvt_load.proofs.Final.{not_own, all_at}
-use Rattle.qvt_load.proofs.Placing.{ref_below}
+use Rattle.qvt_model.specs.Loaded.{value_at}
+use Rattle.qvt_model.specs.Conforming.{slots_at, Conforms}
+use Rattle.qvt_model.proofs.Final.{not_own, all_at}
+use Rattle.qvt_model.proofs.Placing.{ref_below}
 use Rattle.qvt_model.proofs.Lists.{index-map}
 use Rattle.qvt_conformed.proofs.Counts.{Twice, held_among, in_slots, two_slots, slot_count, once_in_lists, at_most_here, repeated_twice}
 use Rattle.qvt_conformed.specs.Law.{FaultlessConforms}

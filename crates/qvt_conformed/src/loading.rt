@@ -6,13 +6,13 @@ ghost use Rattle.qvt_store.specs.Sound.{Sound};
 ghost use Rattle.qvt_model.specs.Extents.{data_of};
 ghost use Rattle.qvt_model.specs.WellFormed.{IsModel};
 ghost use Rattle.qvt_model.specs.Written.{model_text};
-ghost use Rattle.qvt_load.specs.Conforming.{Conforms};
-ghost use Rattle.qvt_load.specs.Loaded.{IsLoadable};
+ghost use Rattle.qvt_model.specs.Conforming.{Conforms};
+ghost use Rattle.qvt_model.specs.Loaded.{IsLoadable};
 
 use crate::laws::faultless_conforms;
 use qvt_base::lists::Bytes;
 use qvt_conform::conform::conform;
-use qvt_load::load::load;
+use qvt_model::load::load;
 use qvt_metas::metas::Metas;
 use qvt_model::data::ModelData;
 use qvt_model::id_table::IdTable;
