@@ -157,7 +157,6 @@ module _ (s : Contents) (e k : ℕ) (os : List ObjectData) (model : IsModel s.me
       placeable = record {
         assignable = record { live = live_new i below; feature = ap (λ z. has_feature m z p) (class_new i below) ∙ for.is.own; types = all_types p t.items for.is.items };
         empty = free;
-        once = λ c k'. no_repeat (conforms.once i p c k');
         free = λ c x f y c' h. refuted _ (λ h'.
             let r : (n + i ≡ x) × (p ≡ f) = one_new s e k os model typed conforms (n + i) p x f y c c' (omega arith) (ap (λ l. has l y) fin_list ∙ h) (sub_held x f y h') in
             clash false (ap (λ l. has l y) (sym free) ∙ subst (λ z. has (slot_in m obs (n + i) z) y ≡ true) (sym r.1) (subst (λ z. has (slot_in m obs z f) y ≡ true) (sym r.0) h')) refl);

@@ -2,7 +2,6 @@
 use Rattle.std.specs.Prelude.{◌≡◌, ℕ, ◌<◌, List, map, length, IsTrue, IsFalse}
 use Rattle.qvt_metamodel.specs.Metamodels.{Metamodels, class_at, shape_of, is_containment}
 use Rattle.qvt_slots.specs.Slots.{Slots, OppositesAgree, OneContainer, Inside}
-use Rattle.qvt_slots.specs.Types.{is_class_type}
 use Rattle.qvt_slots.specs.Repeats.{repeats}
 use Rattle.qvt_slots.specs.Assign.{is_beyond}
 use Rattle.qvt_model.specs.declared.data.ObjectData.{ObjectData}
@@ -18,6 +17,5 @@ pub record Conforms (m : Metamodels) (os : List ObjectData) : Type 0 where
   pub bounds : (i f : ℕ) → IsFalse (is_beyond (length (slots_at os i f)) (shape_of m f).upper)
   pub unique : (i f : ℕ) → IsTrue (shape_of m f).unique → IsFalse (repeats (slots_at os i f))
   pub opposites : OppositesAgree m (slots_at os)
-  pub once : (i f : ℕ) → IsTrue (is_containment m f) → IsTrue (is_class_type (shape_of m f).kind) → IsFalse (repeats (slots_at os i f))
   pub containers : OneContainer m (slots_at os)
   pub outside_itself : (i : ℕ) → Inside m (slots_at os) i i → ⊥
