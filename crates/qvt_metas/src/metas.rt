@@ -228,7 +228,8 @@ impl Metas {
 
     /// These metamodels and one more, the last, which has no name: its first class is Element, which
     /// is abstract, has no features and is above every class, and after it come the given classes,
-    /// whose superclasses are the given ones alone.
+    /// whose superclasses are the given ones alone. Element is not there before: two of it would each
+    /// be above the other.
     pub fn extended(&self, classes: &ClassDataList) -> Result<Metas, MetasFault>
         requires element { self.now.element ≡ None }
         requires given { AreGiven self.now classes.now }
@@ -498,6 +499,13 @@ impl Metas {
         ensures { result ≡ descends self.now sub.0 sup.0 }
     {
         sub.0 == sup.0 || self.is_element(sup) || self.reaches(sub, sup)
+    }
+
+    /// A law: what every list of metamodels keeps.
+    pub fn are_well_formed(&self)
+        ensures { IsWellFormed self.now }
+    {
+        let _ = &self.classes;
     }
 
     /// A law: the classes above a class are the least set that has its superclasses and what is
