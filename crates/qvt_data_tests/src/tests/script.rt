@@ -117,6 +117,19 @@ fn appended(
     Ok(store.append(object, feature, &values[0]))
 }
 
+fn extended(
+    rt: &impl Abort,
+    alloc: Global,
+    store: &mut Store,
+    slot: &str,
+    words: &str,
+) -> Result<Result<(), StoreFault>, Fail> {
+    let (object, feature) = slot_of(rt, store, slot)?;
+    let values = values_of(alloc, words)?;
+    assert!(rt; can_assign(store, object, feature, values.as_slice()));
+    Ok(store.extend(object, feature, values.as_slice()))
+}
+
 fn placed(
     rt: &impl Abort,
     alloc: Global,
@@ -130,8 +143,8 @@ fn placed(
     Ok(store.place(object, feature, values.as_slice()))
 }
 
-/// A change is told as `SLOT := VALUES`, as `SLOT += VALUE` or, where it is placed, as
-/// `SLOT <- VALUES`.
+/// A change is told as `SLOT := VALUES`, as `SLOT += VALUE`, as `SLOT ++ VALUES` where all are put
+/// last at once or, where it is placed, as `SLOT <- VALUES`.
 fn changed(
     rt: &impl Abort,
     alloc: Global,
@@ -143,6 +156,9 @@ fn changed(
     }
     if let Some((slot, words)) = change.split_once(" <-") {
         return placed(rt, alloc, store, slot, words);
+    }
+    if let Some((slot, words)) = change.split_once(" ++") {
+        return extended(rt, alloc, store, slot, words);
     }
     let (slot, word) = change.split_once(" += ").ok_or("a change")?;
     appended(rt, alloc, store, slot, word)
