@@ -2,6 +2,7 @@
 use Rattle.std.proofs.Common.{◌≡◌, ◌≢◌, ℕ, suc, ◌+◌, ◌<◌, ◌≤◌, Bool, true, false, ◌==◌, cond, inl, inr, refl, sym, ap, ◌∙◌, subst, List, [], ◌∷◌, ◌++◌, map, length, length-append, append-nil, arith}
 use Rattle.std.specs.Prelude.{Option, Some, None, is_some}
 use Rattle.std.proofs.lemmas.Bool.{cases_lt, eq-eqb, ne_eqb, ltb-true, lt-ltb}
+use Rattle.qvt_base.specs.declared.numbers.Oid.{Oid}
 use Rattle.qvt_metamodel.specs.Metamodels.{Metamodels}
 use Rattle.qvt_slots.specs.Contents.{Contents, is_live, members_from, members_of}
 use Rattle.qvt_slots.proofs.Lists.{length-map}
@@ -11,10 +12,13 @@ use Rattle.qvt_model.specs.IdTables.{id_in}
 use Rattle.qvt_model.specs.Loaded.{instance_at, loaded, id_told, IsLoadable, MembersStay, TellsAll, LoadLeaves, EachLoadLeaves}
 use Rattle.qvt_model.proofs.Told.{told_past}
 
+abbrev oid : ℕ → Oid
+oid x = record { 0 = x }
+
 no_members : (m : Metamodels) (e n f : ℕ) → f ≢ e → (x : ℕ) (os : List ObjectData) → members_from x (map (instance_at m e n) os) f ≡ []
 no_members m e n f d x [] = refl
 no_members m e n f d x (o ∷ os) =
-    ap (λ b. cond b (record { 0 = x } ∷ members_from (suc x) (map (instance_at m e n) os) f) (members_from (suc x) (map (instance_at m e n) os) f)) (ne_eqb e f (λ q. d (sym q)))
+    ap (λ b. cond b (oid x ∷ members_from (suc x) (map (instance_at m e n) os) f) (members_from (suc x) (map (instance_at m e n) os) f)) (ne_eqb e f (λ q. d (sym q)))
     ∙ no_members m e n f d (suc x) os
 
 told_within : (n : ℕ) (os : List ObjectData) (x : ℕ) (old : Option (List ℕ)) → n ≤ x → x < n + length os → is_some (id_told n os x old) ≡ true

@@ -12,15 +12,18 @@ use Rattle.qvt_model.specs.RunIds.{place_id, file_id, DataHaveRunIds}
 use Rattle.qvt_model.proofs.Extents.{IsMember, members-are}
 use Rattle.qvt_model.proofs.Writing.{id-there}
 
+abbrev oid : ℕ → Oid
+oid x = record { 0 = x }
+
 abbrev none : Oid
-none = record { 0 = 0 }
+none = oid 0
 
 low : (e n : ℕ) (rest : List Instance) (i : ℕ) → i < length (members_from n rest e) → n ≤ (get_or (members_from n rest e) i none).0
 low e n [] i h = absurd (omega arith)
 low e n (o ∷ rest) i h = by (o.extent == e) i h
   where
-    by : (b : Bool) (i : ℕ) → i < length (cond b (record { 0 = n } ∷ members_from (suc n) rest e) (members_from (suc n) rest e)) →
-        n ≤ (get_or (cond b (record { 0 = n } ∷ members_from (suc n) rest e) (members_from (suc n) rest e)) i none).0
+    by : (b : Bool) (i : ℕ) → i < length (cond b (oid n ∷ members_from (suc n) rest e) (members_from (suc n) rest e)) →
+        n ≤ (get_or (cond b (oid n ∷ members_from (suc n) rest e) (members_from (suc n) rest e)) i none).0
     by true zero h = omega arith
     by true (suc i) h = let r : suc n ≤ (get_or (members_from (suc n) rest e) i none).0 = low e (suc n) rest i (omega arith) in omega arith
     by false i h = let r : suc n ≤ (get_or (members_from (suc n) rest e) i none).0 = low e (suc n) rest i h in omega arith
@@ -33,7 +36,7 @@ found e n (o ∷ rest) i h = by (o.extent == e) i h
     later : List Oid
     later = members_from (suc n) rest e
 
-    by : (b : Bool) (i : ℕ) → i < length (cond b (record { 0 = n } ∷ later) later) → place_of (numbers (cond b (record { 0 = n } ∷ later) later)) (get_or (cond b (record { 0 = n } ∷ later) later) i none).0 ≡ Some i
+    by : (b : Bool) (i : ℕ) → i < length (cond b (oid n ∷ later) later) → place_of (numbers (cond b (oid n ∷ later) later)) (get_or (cond b (oid n ∷ later) later) i none).0 ≡ Some i
     by true zero h = ap (λ b. cond b (Some 0) (option_map suc (place_of (numbers later) n))) (eq-eqb n n refl)
     by true (suc i) h =
         let r : suc n ≤ (get_or later i none).0 = low e (suc n) rest i (omega arith) in

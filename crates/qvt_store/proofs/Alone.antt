@@ -44,8 +44,8 @@ module _ (s : Contents) (o : Oid) (p : FeatureNo) (given fresh : List Value) (kn
   abbrev items : List Value
   items = slot_of s o.0 p.0 ++ fresh
 
-  abbrev vs : List Value
-  vs = slot_of s o.0 p.0 ++ given
+  abbrev whole : List Value
+  whole = slot_of s o.0 p.0 ++ given
 
   abbrev pub lone : Draft
   lone = record { object = o; feature = p; added = objects_beyond (slot_of s o.0 p.0) items; removed = objects_beyond items (slot_of s o.0 p.0) }
@@ -67,21 +67,21 @@ module _ (s : Contents) (o : Oid) (p : FeatureNo) (given fresh : List Value) (kn
   allowed : (n : ℕ) → is_beyond n (shape_of s.metas p.0).upper ≡ false → is_writable s o.0 ≡ true → IsAllowed s (drafted s lone) n
   allowed n few writable = record { few = few_of n few; acyclic = acyclic; writable = ap not writable }
 
-  all : IsAssignable s o.0 p.0 vs
+  all : IsAssignable s o.0 p.0 whole
   all = list_assignable s o.0 p.0 given known can
 
-  pub too_many : (n : ℕ) → n ≡ length items → is_beyond n (shape_of s.metas p.0).upper ≡ true → assign s o.0 p.0 vs ≡ Err TooMany
-  too_many n e h = early s o p vs items lone.added lone.removed known all (sym last) refl refl TooMany n e (or_left _ _ h) (λ q. cc)
+  pub too_many : (n : ℕ) → n ≡ length items → is_beyond n (shape_of s.metas p.0).upper ≡ true → assign s o.0 p.0 whole ≡ Err TooMany
+  too_many n e h = early s o p whole items lone.added lone.removed known all (sym last) refl refl TooMany n e (or_left _ _ h) (λ q. cc)
 
-  pub read_only : (n : ℕ) → n ≡ length items → is_beyond n (shape_of s.metas p.0).upper ≡ false → is_writable s o.0 ≡ false → assign s o.0 p.0 vs ≡ Err ReadOnly
-  read_only n e few h = early s o p vs items lone.added lone.removed known all (sym last) refl refl ReadOnly n e (record { few = few_of n few; acyclic = acyclic; read_only = not_of_false _ h }) (λ q. cc)
+  pub read_only : (n : ℕ) → n ≡ length items → is_beyond n (shape_of s.metas p.0).upper ≡ false → is_writable s o.0 ≡ false → assign s o.0 p.0 whole ≡ Err ReadOnly
+  read_only n e few h = early s o p whole items lone.added lone.removed known all (sym last) refl refl ReadOnly n e (record { few = few_of n few; acyclic = acyclic; read_only = not_of_false _ h }) (λ q. cc)
 
-  pub crossing : (n : ℕ) → n ≡ length items → is_beyond n (shape_of s.metas p.0).upper ≡ false → is_writable s o.0 ≡ true → crosses s o.0 items ≡ true → assign s o.0 p.0 vs ≡ Err CrossModel
-  crossing n e few writable h = cross s o p vs items lone.added lone.removed known all (sym last) refl refl n e (allowed n few writable) h
+  pub crossing : (n : ℕ) → n ≡ length items → is_beyond n (shape_of s.metas p.0).upper ≡ false → is_writable s o.0 ≡ true → crosses s o.0 items ≡ true → assign s o.0 p.0 whole ≡ Err CrossModel
+  crossing n e few writable h = cross s o p whole items lone.added lone.removed known all (sym last) refl refl n e (allowed n few writable) h
 
   pub appended : (n : ℕ) → n ≡ length items → is_beyond n (shape_of s.metas p.0).upper ≡ false → is_writable s o.0 ≡ true → crosses s o.0 items ≡ false →
-      assign s o.0 p.0 vs ≡ Ok (store_after s (change_to s o.0 p.0 items))
-  appended n e few writable own = done s o p vs items lone.added lone.removed known all (sym last) refl refl n e (allowed n few writable) own
+      assign s o.0 p.0 whole ≡ Ok (store_after s (change_to s o.0 p.0 items))
+  appended n e few writable own = done s o p whole items lone.added lone.removed known all (sym last) refl refl n e (allowed n few writable) own
 
   plan : IsPlan s (drafted s lone) []
   plan = record {
@@ -93,7 +93,7 @@ module _ (s : Contents) (o : Oid) (p : FeatureNo) (given fresh : List Value) (kn
   none_released b e = ap (λ c. cond c lone.removed [] ++ []) (sym e)
 
   pub ready_alone : is_beyond (length items) (shape_of s.metas p.0).upper ≡ false → is_writable s o.0 ≡ true → crosses s o.0 items ≡ false → Ready s lone items [] []
-  ready_alone few writable own = ready s o p vs items lone.added lone.removed known all (sym last) refl refl (length items) refl (allowed (length items) few writable) own [] [] plan
+  ready_alone few writable own = ready s o p whole items lone.added lone.removed known all (sym last) refl refl (length items) refl (allowed (length items) few writable) own [] [] plan
       (none_released (is_containment s.metas p.0) (no_containment s.metas p.0 alone))
 
 -- a slot that is put alone settles

@@ -18,7 +18,7 @@ use Rattle.qvt_slots.specs.declared.op.SetOp.TheVariants.{Put, Add}
 use Rattle.qvt_slots.specs.Slots.{Slots, has, OppositesAgree, OneContainer, Inside}
 use Rattle.qvt_slots.specs.Change.{Change, object_value, is_here, among, gains, keeps, with_object, with_end, slot_after}
 use Rattle.qvt_slots.specs.Contents.{Contents, AreNamed, class_of, extent_of, extent_at, is_extent, is_live, is_model, is_named, slot_of}
-use Rattle.qvt_slots.specs.Types.{is_of_type, AreTyped, IsPlain}
+use Rattle.qvt_slots.specs.Types.{is_of_type, AreTyped, IsPlain, IsAssignable}
 use Rattle.qvt_slots.specs.Repeats.{repeats, same_value, without_repeats, new_list, AreUnique}
 use Rattle.qvt_slots.specs.Assign.{change_to, change_of, is_beyond, is_overfull, overfills_end, is_too_many, is_cyclic, is_read_only, crosses, refusal_of, store_after, ok_unless, assign}
 use Rattle.qvt_store.specs.Law.{IsMade, FitsSingle}

@@ -17,6 +17,9 @@ use Rattle.qvt_slots.proofs.Members.{members_same}
 use Rattle.qvt_store.proofs.After.{length-after, instance-after}
 use Rattle.qvt_store.proofs.SoundKept.{accepted}
 
+abbrev oid : ℕ → Oid
+oid x = record { 0 = x }
+
 pub get-left : {X : Type 0} (xs ys : List X) (i : ℕ) (d : X) → i < length xs → get_or (xs ++ ys) i d ≡ get_or xs i d
 get-left [] ys i d h = absurd (omega arith)
 get-left (x ∷ xs) ys zero d h = refl
@@ -24,14 +27,12 @@ get-left (x ∷ xs) ys (suc i) d h = get-left xs ys i d (omega arith)
 
 pub members-append : (x : ℕ) (xs ys : List Instance) (e : ℕ) → members_from x (xs ++ ys) e ≡ members_from x xs e ++ members_from (x + length xs) ys e
 members-append x [] ys e = ap (λ n. members_from n ys e) (let q : x ≡ x + 0 = omega arith in q)
-members-append x (o ∷ xs) ys e = go (o.extent == e)
+members-append x (o ∷ xs) ys e = go (o.extent == e) (members-append (suc x) xs ys e ∙ ap (λ n. members_from (suc x) xs e ++ members_from n ys e) (let q : suc x + length xs ≡ x + suc (length xs) = omega arith in q))
   where
-    rest : members_from (suc x) (xs ++ ys) e ≡ members_from (suc x) xs e ++ members_from (x + suc (length xs)) ys e
-    rest = members-append (suc x) xs ys e ∙ ap (λ n. members_from (suc x) xs e ++ members_from n ys e) (let q : suc x + length xs ≡ x + suc (length xs) = omega arith in q)
-
-    go : (b : Bool) → cond b (record { 0 = x } ∷ members_from (suc x) (xs ++ ys) e) (members_from (suc x) (xs ++ ys) e) ≡ cond b (record { 0 = x } ∷ members_from (suc x) xs e) (members_from (suc x) xs e) ++ members_from (x + suc (length xs)) ys e
-    go true = ap (λ l. record { 0 = x } ∷ l) rest
-    go false = rest
+    go : (b : Bool) → members_from (suc x) (xs ++ ys) e ≡ members_from (suc x) xs e ++ members_from (x + suc (length xs)) ys e →
+        cond b (oid x ∷ members_from (suc x) (xs ++ ys) e) (members_from (suc x) (xs ++ ys) e) ≡ cond b (oid x ∷ members_from (suc x) xs e) (members_from (suc x) xs e) ++ members_from (x + suc (length xs)) ys e
+    go true rest = ap (λ l. oid x ∷ l) rest
+    go false rest = rest
 
 pub same_front : (xs ys : List Oid) → ys ≡ xs → IsFront xs ys
 same_front xs ys e = record { rest = []; more = e ∙ sym (append-nil xs) }

@@ -1,6 +1,6 @@
 -- What is known before a change is carried out.
-use Rattle.std.specs.Prelude.{◌≡◌, ℕ, List, ◌++◌, length, IsTrue, IsFalse}
-use Rattle.std.specs.List.{list_all}
+use Rattle.std.specs.Prelude.{◌≡◌, ℕ, Bool, not, List, ◌++◌, length, IsTrue, IsFalse}
+use Rattle.std.specs.List.{list_all, list_any}
 use Rattle.qvt_base.specs.declared.numbers.Oid.{Oid}
 use Rattle.qvt_value.specs.declared.value.Value.{Value}
 use Rattle.qvt_metamodel.specs.Metamodels.{shape_of}
@@ -11,7 +11,7 @@ use Rattle.qvt_slots.specs.Contents.{Contents, is_slot, is_writable, slot_of}
 use Rattle.qvt_slots.specs.Types.{is_of_type, AreTyped, IsAssignable}
 use Rattle.qvt_slots.specs.Slots.{Inside}
 use Rattle.qvt_metamodel.specs.WellFormed.{IsWellFormed}
-use Rattle.qvt_slots.specs.Repeats.{repeats, new_list}
+use Rattle.qvt_slots.specs.Repeats.{repeats, same_value, new_list}
 use Rattle.qvt_slots.specs.Assign.{is_beyond, crosses, change_to, store_after}
 use Rattle.qvt_store.specs.Law.{FitsSingle}
 use Rattle.qvt_store.specs.Draft.{drafted, IsDraft}
@@ -33,6 +33,10 @@ pub record Ready (s : Contents) (d : Draft) (items : List Value) (ws : List Writ
   pub own : IsFalse (crosses s d.object.0 items)
   pub plan : IsPlan s (drafted s d) ws
   pub is_released : released ≡ released_of s.metas (slot_of s) d ws
+
+-- no value of the list equals this one
+abbrev pub is_absent : List Value → Value → Bool
+is_absent vs v = not (list_any (λ w. same_value w v) vs)
 
 -- what every store keeps, and a change relies on
 pub record IsKnown (s : Contents) : Type 0 where

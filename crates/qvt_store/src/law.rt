@@ -1,8 +1,8 @@
 //! Laws of the definitions, each on a function that does nothing.
 
 ghost use Rattle.qvt_store.specs.Law.{KeepsOpposites, KeepsOneContainer};
-ghost use Rattle.qvt_store.specs.Sound.{NewIsSound, AddKeepsSound, AssignKeepsSound, AppendKeepsSound, LoadBegins, AddKeepsLoading, PlaceKeepsLoading, LoadEnds};
-ghost use Rattle.qvt_store.specs.Stay.{StaysIsReflexive, StaysIsTransitive, AddStays, AssignStays, AppendStays};
+ghost use Rattle.qvt_store.specs.Sound.{NewIsSound, AddKeepsSound, AssignKeepsSound, AppendKeepsSound, WriteKeepsSound, LoadBegins, AddKeepsLoading, PlaceKeepsLoading, LoadEnds};
+ghost use Rattle.qvt_store.specs.Stay.{StaysIsReflexive, StaysIsTransitive, AddStays, AssignStays, AppendStays, WriteStays};
 
 /// A change keeps that opposite slots agree.
 pub fn change_keeps_opposites()
@@ -32,6 +32,11 @@ pub fn assign_keeps_sound()
 /// An append that is not refused keeps a store sound.
 pub fn append_keeps_sound()
     ensures { AppendKeepsSound }
+{}
+
+/// A write that is not refused keeps a store sound.
+pub fn write_keeps_sound()
+    ensures { WriteKeepsSound }
 {}
 
 /// A sound store can be loaded into: while it is loaded, opposite slots may disagree.
@@ -78,4 +83,9 @@ pub fn assign_stays()
 /// What an append leaves that is not refused.
 pub fn append_stays()
     ensures { AppendStays }
+{}
+
+/// What a write leaves that is not refused.
+pub fn write_stays()
+    ensures { WriteStays }
 {}

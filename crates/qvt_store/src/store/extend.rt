@@ -1,15 +1,14 @@
 //! Lists put last in slots: one change, with one refusal.
 
-ghost use Rattle.std.specs.Prelude.{◌≡◌, ◌≢◌, ◌++◌, not, filter, All, Ok, Err, IsTrue, IsFalse, IfOk, IfErr, OnOk, OnErr};
-ghost use Rattle.std.specs.List.{list_any};
+ghost use Rattle.std.specs.Prelude.{◌≡◌, ◌≢◌, ◌++◌, filter, All, Ok, Err, IsTrue, IsFalse, IfOk, IfErr, OnOk, OnErr};
 ghost use Rattle.qvt_metamodel.specs.Metamodels.{shape_of};
 ghost use Rattle.qvt_slots.specs.declared.op.SetOp.{SetOp};
 ghost use Rattle.qvt_slots.specs.Contents.{slot_of};
-ghost use Rattle.qvt_slots.specs.Repeats.{new_list, same_value, AreUnique};
+ghost use Rattle.qvt_slots.specs.Repeats.{new_list, AreUnique};
 ghost use Rattle.qvt_slots.specs.Assign.{change_to, store_after, write};
 ghost use Rattle.qvt_slots.specs.Types.{IsAssignable, IsPlain};
 ghost use Rattle.qvt_slots.specs.Change.{is_linked, objects_beyond};
-ghost use Rattle.qvt_store.specs.Ready.{IsKnown, IsLone, Ready};
+ghost use Rattle.qvt_store.specs.Ready.{is_absent, IsKnown, IsLone, Ready};
 ghost use Rattle.qvt_store.specs.Sound.{Sound};
 ghost use Rattle.qvt_store.specs.Stay.{StaysIn};
 
@@ -147,6 +146,13 @@ impl Store {
         Ok(list)
     }
 
+    /// Whether the slot holds no value equal to this one.
+    fn is_absent(&self, object: Oid, feature: FeatureNo, value: &Value) -> bool
+        ensures { result ≡ is_absent (slot_of self.now object.0 feature.0) value.now }
+    {
+        !self.has_value(object, feature, value)
+    }
+
     /// The values that the slot does not hold.
     fn absent(
         &self,
@@ -155,11 +161,11 @@ impl Store {
         feature: FeatureNo,
         values: &[Value],
     ) -> Result<Values, ListFault>
-        ensures { IfOk result (λ list. list ≡ filter (λ v. not (list_any (λ w. same_value w v) (slot_of self.now object.0 feature.0))) values.now) }
+        ensures { IfOk result (λ list. list ≡ filter (is_absent (slot_of self.now object.0 feature.0)) values.now) }
     {
         let mut list = Seq::new(alloc);
         for value in values {
-            if !self.has_value(object, feature, value) {
+            if self.is_absent(object, feature, value) {
                 list.push(value.copy(alloc)?)?;
             }
         }

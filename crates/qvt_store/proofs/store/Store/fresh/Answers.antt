@@ -1,11 +1,11 @@
-use Rattle.std.proofs.Common.{◌≡◌, ◌∙◌, ◌++◌, not, cond, sym, ap, subst, List}
+use Rattle.std.proofs.Common.{◌≡◌, ◌∙◌, ◌++◌, cond, sym, ap, subst, List}
 use Rattle.std.specs.Prelude.{All, filter}
-use Rattle.std.specs.List.{list_any}
 use Rattle.std.proofs.lemmas.List.Elements.{All-filter}
 use Rattle.qvt_value.specs.declared.value.Value.{Value}
 use Rattle.qvt_slots.specs.Contents.{slot_of}
 use Rattle.qvt_slots.specs.Types.{IsPlain}
-use Rattle.qvt_slots.specs.Repeats.{same_value, without_repeats}
+use Rattle.qvt_slots.specs.Repeats.{without_repeats}
+use Rattle.qvt_store.specs.Ready.{is_absent}
 use Rattle.qvt_store.proofs.Appending.{plain_last, new_more}
 use Rattle.qvt_store.proofs.store.Store.fresh.Goals as goal
 
@@ -21,8 +21,8 @@ returns-clause-list c =
     new_more c.args.self.now.metas c.args.feature.0 (slot_of c.args.self.now c.args.object.0 c.args.feature.0) c.args.values.now c.in_ok-news.news c.in_ok-fresh.fresh u
     ((c.requires u).unique c.args.object.0 c.args.feature.0 u)
     (c.in_ok-news.ensures.list ∙ ap (λ b. cond b (without_repeats c.args.values.now) c.args.values.now) c.if-not-unique.false)
-    (c.in_ok-fresh.ensures ∙ ap (λ (l : List Value). filter (λ v. not (list_any (λ w. same_value w v) (slot_of c.args.self.now c.args.object.0 c.args.feature.0))) l) c.as_slice.ensures)
+    (c.in_ok-fresh.ensures ∙ ap (λ (l : List Value). filter (is_absent (slot_of c.args.self.now c.args.object.0 c.args.feature.0)) l) c.as_slice.ensures)
 
 pub returns-clause-plain : goal.returns-clause-plain
-returns-clause-plain c = subst (All IsPlain) (sym (c.in_ok-fresh.ensures ∙ ap (λ (l : List Value). filter (λ v. not (list_any (λ w. same_value w v) (slot_of c.args.self.now c.args.object.0 c.args.feature.0))) l) c.as_slice.ensures))
-    (All-filter (λ v. not (list_any (λ w. same_value w v) (slot_of c.args.self.now c.args.object.0 c.args.feature.0))) IsPlain c.in_ok-news.news c.in_ok-news.ensures.plain)
+returns-clause-plain c = subst (All IsPlain) (sym (c.in_ok-fresh.ensures ∙ ap (λ (l : List Value). filter (is_absent (slot_of c.args.self.now c.args.object.0 c.args.feature.0)) l) c.as_slice.ensures))
+    (All-filter (is_absent (slot_of c.args.self.now c.args.object.0 c.args.feature.0)) IsPlain c.in_ok-news.news c.in_ok-news.ensures.plain)
