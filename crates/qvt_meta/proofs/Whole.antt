@@ -37,7 +37,7 @@ use Rattle.qvt_metamodel.proofs.Infos.{featured_at, nothing_featured, all-at, ma
 use Rattle.qvt_metamodel.proofs.Lookups.{position-first, bytes_eq-refl, differ-before, some-within, untaken}
 use Rattle.qvt_metamodel.proofs.FeatureNames.{distinct as distinct_features, found_feature as named_feature}
 use Rattle.qvt_metamodel.proofs.Owners.{Declared, declared, includes}
-use Rattle.qvt_metamodel.proofs.Order.{acyclic, antisymmetric, transitive, inherited}
+use Rattle.qvt_metamodel.proofs.Order.{descent}
 use Rattle.qvt_meta_checks.proofs.Passing.{map_none, first_from-none, no_fault, repeated-append, repeated-alone, enums_alone, literals_alone, classes_differ}
 use Rattle.qvt_metamodel.proofs.Positions.{any-within, any-passes, none-at, no-position, place-below, place-found, place-is}
 use Rattle.qvt_metamodel.proofs.Stable.{no-features-past, none-above-past}
@@ -688,14 +688,8 @@ module _ (d : MetaData) (ok : IsChecked d) (ranks : List ℕ) (ranked : AreRanks
       live_class = live_class_of d;
       live_opposite = live_opposite_at;
       live_type = live_type_of d;
-      acyclic = acyclic w ranks ranked;
-      antisymmetric = antisymmetric w ranks ranked no_top;
-      transitive = transitive w ranks ranked no_top;
-      inherited = inherited w ranks ranked no_top (λ c h. absurd (cc)) (λ c f h. absurd (cc));
-      live_element = λ c h. absurd (cc);
-      abstract_element = λ c h. absurd (cc);
-      featureless_element = λ c f h. absurd (cc);
-      topmost_element = no_top;
+      descent = descent w ranks ranked no_top (λ c h. absurd (cc)) (λ c f h. absurd (cc));
+      element = record { live = λ c h. absurd (cc); abstract_class = λ c h. absurd (cc); featureless = λ c f h. absurd (cc); topmost = no_top };
       object_containments = λ f h. (contained_at f h).0;
       unique_containments = λ f h. (contained_at f h).1;
       mutual_opposites = mutual_at;

@@ -50,14 +50,13 @@ well_formed = record {
   live_class = λ c f h. absurd (cc);
   live_opposite = λ p q h. absurd (cc);
   live_type = λ f h. absurd (omega arith);
-  acyclic = λ c p. no_path p;
-  antisymmetric = λ c d h k. same c d h;
-  transitive = λ c d e h k. subst (λ x. descends no_metamodels x e ≡ true) (sym (same c d h)) k;
-  inherited = λ c d f h k. absurd (cc);
-  live_element = λ c h. absurd (cc);
-  abstract_element = λ c h. absurd (cc);
-  featureless_element = λ c f h. absurd (cc);
-  topmost_element = λ c d h. absurd (cc);
+  descent = record {
+    acyclic = λ c p. no_path p;
+    antisymmetric = λ c d h k. same c d h;
+    transitive = λ c d e h k. subst (λ x. descends no_metamodels x e ≡ true) (sym (same c d h)) k;
+    inherited = λ c d f h k. absurd (cc);
+  };
+  element = record { live = λ c h. absurd (cc); abstract_class = λ c h. absurd (cc); featureless = λ c f h. absurd (cc); topmost = λ c d h. absurd (cc) };
   object_containments = λ f h. absurd (cc);
   unique_containments = λ f h. absurd (cc);
   mutual_opposites = λ p q h. absurd (cc);

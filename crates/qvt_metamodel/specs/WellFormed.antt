@@ -16,6 +16,20 @@ IsLiveKind m Str = Unit {0}
 IsLiveKind m (Enum k e) = (k < length m.metamodels) × (e < length (metamodel_at m k).enums)
 IsLiveKind m (Class c) = c.0 < length m.classes
 
+-- no class is above itself: descent is an order; and who descends from a class has its features
+pub record IsDescent (m : Metamodels) : Type 0 where
+  pub acyclic : (c : ℕ) → Closure (λ x y. IsTrue (is_superclass m x y)) c c → ⊥
+  pub antisymmetric : (c d : ℕ) → IsTrue (descends m c d) → IsTrue (descends m d c) → c ≡ d
+  pub transitive : (c d e : ℕ) → IsTrue (descends m c d) → IsTrue (descends m d e) → IsTrue (descends m c e)
+  pub inherited : (c d f : ℕ) → IsTrue (descends m c d) → IsTrue (has_feature m d f) → IsTrue (has_feature m c f)
+
+-- the class above all, where there is one, is abstract, has no features and no superclass
+pub record IsElementApart (m : Metamodels) : Type 0 where
+  pub live : (c : ℕ) → IsTrue (is_element m c) → c < length m.classes
+  pub abstract_class : (c : ℕ) → IsTrue (is_element m c) → IsTrue (class_at m c).is_abstract
+  pub featureless : (c f : ℕ) → IsTrue (is_element m c) → IsFalse (has_feature m c f)
+  pub topmost : (c d : ℕ) → IsTrue (is_element m c) → IsFalse (is_superclass m c d)
+
 pub record IsWellFormed (m : Metamodels) : Type 0 where
   -- there are few of each, so that their numbers fit 32 bits
   pub few_metamodels : length m.metamodels < 2 ^ 32
@@ -31,16 +45,8 @@ pub record IsWellFormed (m : Metamodels) : Type 0 where
   pub live_class : (c f : ℕ) → IsTrue (has_feature m c f) → c < length m.classes
   pub live_opposite : (p q : ℕ) → IsTrue (is_opposite m p q) → q < length m.features
   pub live_type : (f : ℕ) → f < length m.features → IsLiveKind m (shape_of m f).kind
-  -- no class is above itself; what descends is an order, and who descends from a class has its features
-  pub acyclic : (c : ℕ) → Closure (λ x y. IsTrue (is_superclass m x y)) c c → ⊥
-  pub antisymmetric : (c d : ℕ) → IsTrue (descends m c d) → IsTrue (descends m d c) → c ≡ d
-  pub transitive : (c d e : ℕ) → IsTrue (descends m c d) → IsTrue (descends m d e) → IsTrue (descends m c e)
-  pub inherited : (c d f : ℕ) → IsTrue (descends m c d) → IsTrue (has_feature m d f) → IsTrue (has_feature m c f)
-  -- the class above all is abstract, has no features and no superclass
-  pub live_element : (c : ℕ) → IsTrue (is_element m c) → c < length m.classes
-  pub abstract_element : (c : ℕ) → IsTrue (is_element m c) → IsTrue (class_at m c).is_abstract
-  pub featureless_element : (c f : ℕ) → IsTrue (is_element m c) → IsFalse (has_feature m c f)
-  pub topmost_element : (c d : ℕ) → IsTrue (is_element m c) → IsFalse (is_superclass m c d)
+  pub descent : IsDescent m
+  pub element : IsElementApart m
   -- a containment holds objects, each once
   pub object_containments : (f : ℕ) → IsTrue (is_containment m f) → IsTrue (is_class_type (shape_of m f).kind)
   pub unique_containments : (f : ℕ) → IsTrue (is_containment m f) → IsTrue (shape_of m f).unique

@@ -30,7 +30,7 @@ use Rattle.qvt_metamodel.proofs.Halves.{Half, old, new, half, new-at}
 use Rattle.qvt_metamodel.proofs.Ancestors.{Found, found}
 use Rattle.qvt_metamodel.proofs.Infos.{among_numbers}
 use Rattle.qvt_metamodel.proofs.Owners.{Declared, declared}
-use Rattle.qvt_metamodel.proofs.Order.{acyclic, antisymmetric, transitive, inherited}
+use Rattle.qvt_metamodel.proofs.Order.{descent}
 use Rattle.qvt_metamodel.proofs.Stable.{no-features-past}
 use Rattle.qvt_metamodel.proofs.FeatureNames.{distinct, found_feature}
 use Rattle.qvt_metamodel.specs.Stay.{StaysIn}
@@ -542,14 +542,8 @@ module _ (m : Metamodels) (cs : List ClassData) where
       live_class = live_class;
       live_opposite = λ p q h. (let o : (p < F) × (is_opposite m p q ≡ true) = opposite_old p q h in let low : q < F = wm.live_opposite p q o.1 in omega (arith, low, feature_total));
       live_type = live_type;
-      acyclic = acyclic W ranks ranked;
-      antisymmetric = antisymmetric W ranks ranked topmost_element;
-      transitive = transitive W ranks ranked topmost_element;
-      inherited = inherited W ranks ranked topmost_element live_element featureless_element;
-      live_element = live_element;
-      abstract_element = abstract_element;
-      featureless_element = featureless_element;
-      topmost_element = topmost_element;
+      descent = descent W ranks ranked topmost_element live_element featureless_element;
+      element = record { live = live_element; abstract_class = abstract_element; featureless = featureless_element; topmost = topmost_element };
       object_containments = λ f h. (let o : (f < F) × (is_containment m f ≡ true) = containment_old f h in ap (λ s. is_class_type s.kind) (shape_old f o.0) ∙ wm.object_containments f o.1);
       unique_containments = λ f h. (let o : (f < F) × (is_containment m f ≡ true) = containment_old f h in ap (λ s. s.unique) (shape_old f o.0) ∙ wm.unique_containments f o.1);
       mutual_opposites = mutual_opposites;

@@ -3,6 +3,7 @@ use Rattle.std.proofs.Common.{◌≡◌, ◌∙◌, ℕ, zero, suc, ◌+◌, ◌
 use Rattle.std.specs.List.{list_any, AllByRecursion}
 use Rattle.qvt_base.specs.declared.numbers.ClassNo.{ClassNo}
 use Rattle.qvt_relation.specs.Closure.{Closure, directly, through}
+use Rattle.qvt_relation.proofs.Closures.{first_step}
 use Rattle.qvt_metamodel.specs.declared.given.ClassData.{ClassData}
 use Rattle.qvt_metamodel.specs.declared.info.ClassInfo.{ClassInfo}
 use Rattle.qvt_metamodel.specs.Metamodels.{Metamodels, class_at, nowhere_class}
@@ -84,12 +85,8 @@ module _ (m : Metamodels) (cs : List ClassData) where
         (let s : Step i y = step i y (subst (λ n. Over n y) e h) in
         let r : Reached s.place z = new_path p s.place s.is in record { place = r.place; is = r.is; path = through s.there r.path })
 
-    from_element : {c d : ℕ} → Closure Over c d → c ≡ B + 0 → ⊥
-    from_element (directly {x} {y} h) e = none y (subst (λ n. Over n y) e h)
-      where
-        none : (y : ℕ) → Over (B + 0) y → ⊥
-        none y h = (let never : list_any (λ s. s.0 == y) (element_class (length m.metamodels)).supers ≡ true = subst (λ (k : ClassInfo). list_any (λ s. s.0 == y) k.supers ≡ true) (class_new m cs 0) h in cc)
-    from_element (through {x} {y} {z} h p) e = from_element (directly h) e
+    from_element : (y : ℕ) → Over (B + 0) y → ⊥
+    from_element y h = (let never : list_any (λ s. s.0 == y) (element_class (length m.metamodels)).supers ≡ true = subst (λ (k : ClassInfo). list_any (λ s. s.0 == y) k.supers ≡ true) (class_new m cs 0) h in cc)
 
     pub whole_acyclic : ((i : ℕ) → Closure Given i i → ⊥) → (c : ℕ) → Closure Over c c → ⊥
     whole_acyclic alone c p = by c (half B c) p
@@ -98,9 +95,9 @@ module _ (m : Metamodels) (cs : List ClassData) where
         given i c r e = alone i (subst (λ j. Closure Given i j) (let same : r.place ≡ i = omega (arith, r.is, e) in same) r.path)
 
         new_class : (i : ℕ) → Closure Over (B + i) (B + i) → ⊥
-        new_class zero p = from_element p refl
+        new_class zero p = (let s : (y : ℕ) × Over (B + 0) y = first_step Over p in from_element s.0 s.1)
         new_class (suc i) p = given i (B + suc i) (new_path p i refl) refl
 
         by : (c : ℕ) → Half B c → Closure Over c c → ⊥
-        by _ (old c l) p = wm.acyclic c (old_path p l)
+        by _ (old c l) p = wm.descent.acyclic c (old_path p l)
         by _ (new i) p = new_class i p

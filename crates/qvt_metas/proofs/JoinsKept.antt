@@ -22,7 +22,7 @@ use Rattle.qvt_metamodel.proofs.Halves.{Half, old, new, half, old-at, new-at}
 use Rattle.qvt_metamodel.proofs.Infos.{map-at}
 use Rattle.qvt_metamodel.proofs.Lists.{all-imply, all-every, all-found, list_any-cong, list_any-map, list_any-none, eqb-add, among-on}
 use Rattle.qvt_metamodel.proofs.Lookups.{position-left, position-right, position-cong, position-map, find-cong, find-map}
-use Rattle.qvt_metamodel.proofs.Order.{acyclic, antisymmetric, transitive, inherited}
+use Rattle.qvt_metamodel.proofs.Order.{descent}
 use Rattle.qvt_metas.proofs.Joins.{J, class_count, feature_count, metamodel_count, class_old, class_new, either_class, feature_old, feature_new, either_feature, features_old, features_new, reaches_old, reaches_new, reaches_new_old}
 
 -- a fact at each index is one of each item
@@ -144,7 +144,7 @@ module _ (m n : Metamodels) (rm rn : List ℕ) (wm : IsWellFormed m) (wn : IsWel
   element_is d = ap (λ e. is_class_number (first_some m.element (option_map (class_on (begin_after m)) e)) d) other ∙ ap (λ e. is_class_number e d) (first_none m.element)
 
   element_new : (d : ℕ) → is_element W (B + d) ≡ false
-  element_new d = not_true (is_element W (B + d)) (λ h. (let far : B + d < B = wm.live_element (B + d) (sym (element_is (B + d)) ∙ h) in omega (arith, far)))
+  element_new d = not_true (is_element W (B + d)) (λ h. (let far : B + d < B = wm.element.live (B + d) (sym (element_is (B + d)) ∙ h) in omega (arith, far)))
 
   element_none : (d : ℕ) → is_element n d ≡ false
   element_none d = ap (λ e. is_class_number e d) other
@@ -389,12 +389,12 @@ module _ (m n : Metamodels) (rm rn : List ℕ) (wm : IsWellFormed m) (wn : IsWel
       by _ q _ any (news c f t) unnamed h =
           let l : c < length n.classes = wn.live_class c f t in
           let at : metamodel_at W (class_at W (B + c)).metamodel ≡ metamodel_at n (class_at n c).metamodel = metamodel_of_new c l in
-          other f q c t at unnamed h (half F q)
+          of_new f q c t at unnamed h (half F q)
         where
-          other : (f q c : ℕ) → has_feature n c f ≡ true → metamodel_at W (class_at W (B + c)).metamodel ≡ metamodel_at n (class_at n c).metamodel
+          of_new : (f q c : ℕ) → has_feature n c f ≡ true → metamodel_at W (class_at W (B + c)).metamodel ≡ metamodel_at n (class_at n c).metamodel
               → (metamodel_at W (class_at W (B + c)).metamodel).name ≡ [] → is_opposite W (F + f) q ≡ true → Half F q → ⊥
-          other f _ c t at unnamed h (old q l) = clash h (ap (λ o. is_feature_number o q) (opposite_new f) ∙ number-on_old (opposite n f) q l)
-          other f _ c t at unnamed h (new q) = clash (sym (is_opposite_new f q) ∙ h) (wn.unnamed_alone f q c t (ap (λ i. i.name) (sym at) ∙ unnamed))
+          of_new f _ c t at unnamed h (old q l) = clash h (ap (λ o. is_feature_number o q) (opposite_new f) ∙ number-on_old (opposite n f) q l)
+          of_new f _ c t at unnamed h (new q) = clash (sym (is_opposite_new f q) ∙ h) (wn.unnamed_alone f q c t (ap (λ i. i.name) (sym at) ∙ unnamed))
 
   unnamed_empty : (c f : ℕ) → has_feature W c f ≡ true → (metamodel_at W (class_at W c).metamodel).name ≡ [] → is_containment W f ≡ false
   unnamed_empty c f there none = by c f (has c f there) none
@@ -434,16 +434,16 @@ module _ (m n : Metamodels) (rm rn : List ℕ) (wm : IsWellFormed m) (wn : IsWel
 
   -- the class above all
   live_element : (c : ℕ) → is_element W c ≡ true → c < B
-  live_element c h = wm.live_element c (sym (element_is c) ∙ h)
+  live_element c h = wm.element.live c (sym (element_is c) ∙ h)
 
   abstract_element : (c : ℕ) → is_element W c ≡ true → (class_at W c).is_abstract ≡ true
-  abstract_element c h = ap (λ k. k.is_abstract) (class_old m n rm rn wm wn am an c (live_element c h)) ∙ wm.abstract_element c (sym (element_is c) ∙ h)
+  abstract_element c h = ap (λ k. k.is_abstract) (class_old m n rm rn wm wn am an c (live_element c h)) ∙ wm.element.abstract_class c (sym (element_is c) ∙ h)
 
   featureless_element : (c f : ℕ) → is_element W c ≡ true → has_feature W c f ≡ false
-  featureless_element c f h = has_old c f (live_element c h) ∙ wm.featureless_element c f (sym (element_is c) ∙ h)
+  featureless_element c f h = has_old c f (live_element c h) ∙ wm.element.featureless c f (sym (element_is c) ∙ h)
 
   topmost_element : (c d : ℕ) → is_element W c ≡ true → is_superclass W c d ≡ false
-  topmost_element c d h = ap (λ k. list_any (λ s. s.0 == d) k.supers) (class_old m n rm rn wm wn am an c (live_element c h)) ∙ wm.topmost_element c d (sym (element_is c) ∙ h)
+  topmost_element c d h = ap (λ k. list_any (λ s. s.0 == d) k.supers) (class_old m n rm rn wm wn am an c (live_element c h)) ∙ wm.element.topmost c d (sym (element_is c) ∙ h)
 
   element_within : (c : ℕ) → is_element W c ≡ true → c < length W.classes
   element_within c h = omega (arith, live_element c h, class_count m n rm rn wm wn am an)
@@ -550,14 +550,8 @@ module _ (m n : Metamodels) (rm rn : List ℕ) (wm : IsWellFormed m) (wn : IsWel
     live_class = live_class;
     live_opposite = live_opposite;
     live_type = live_type;
-    acyclic = acyclic W ranks ranked;
-    antisymmetric = antisymmetric W ranks ranked topmost_element;
-    transitive = transitive W ranks ranked topmost_element;
-    inherited = inherited W ranks ranked topmost_element element_within featureless_element;
-    live_element = element_within;
-    abstract_element = abstract_element;
-    featureless_element = featureless_element;
-    topmost_element = topmost_element;
+    descent = descent W ranks ranked topmost_element element_within featureless_element;
+    element = record { live = element_within; abstract_class = abstract_element; featureless = featureless_element; topmost = topmost_element };
     object_containments = object_containments;
     unique_containments = unique_containments;
     mutual_opposites = mutual_opposites;

@@ -9,3 +9,4 @@ pub mod Extends
 pub mod ClassNames
 pub mod FeaturePlaces
 pub mod GivenOrder
+pub mod Reads

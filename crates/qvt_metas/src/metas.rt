@@ -341,6 +341,12 @@ impl Metas {
         ensures literals { result.now ≡ (enumeration_at self.now metamodel enumeration).literals }
         ensures few { length result.now < 2 ^ 32 }
     {
+        self.literals_of(metamodel, enumeration)
+    }
+
+    fn literals_of(&self, metamodel: u32, enumeration: u32) -> &[Text]
+        ensures { result.now ≡ (enumeration_at self.now metamodel enumeration).literals }
+    {
         let at = metamodel as usize;
         let place = enumeration as usize;
         if at < self.metamodels.len() && place < self.metamodels[at].enums.len() {
