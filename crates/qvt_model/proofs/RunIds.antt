@@ -20,29 +20,32 @@ none = oid 0
 
 low : (e n : ℕ) (rest : List Instance) (i : ℕ) → i < length (members_from n rest e) → n ≤ (get_or (members_from n rest e) i none).0
 low e n [] i h = absurd (omega arith)
-low e n (o ∷ rest) i h = by (o.extent == e) i h
-  where
-    by : (b : Bool) (i : ℕ) → i < length (cond b (oid n ∷ members_from (suc n) rest e) (members_from (suc n) rest e)) →
-        n ≤ (get_or (cond b (oid n ∷ members_from (suc n) rest e) (members_from (suc n) rest e)) i none).0
-    by true zero h = omega arith
-    by true (suc i) h = let r : suc n ≤ (get_or (members_from (suc n) rest e) i none).0 = low e (suc n) rest i (omega arith) in omega arith
-    by false i h = let r : suc n ≤ (get_or (members_from (suc n) rest e) i none).0 = low e (suc n) rest i h in omega arith
-
--- members come in order, so each is found at its place
-found : (e n : ℕ) (rest : List Instance) (i : ℕ) → i < length (members_from n rest e) → place_of (numbers (members_from n rest e)) (get_or (members_from n rest e) i none).0 ≡ Some i
-found e n [] i h = absurd (omega arith)
-found e n (o ∷ rest) i h = by (o.extent == e) i h
+low e n (o ∷ rest) i h = by (o.extent == e) i h (low e (suc n) rest)
   where
     later : List Oid
     later = members_from (suc n) rest e
 
-    by : (b : Bool) (i : ℕ) → i < length (cond b (oid n ∷ later) later) → place_of (numbers (cond b (oid n ∷ later) later)) (get_or (cond b (oid n ∷ later) later) i none).0 ≡ Some i
-    by true zero h = ap (λ b. cond b (Some 0) (option_map suc (place_of (numbers later) n))) (eq-eqb n n refl)
-    by true (suc i) h =
+    by : (b : Bool) (i : ℕ) → i < length (cond b (oid n ∷ later) later) → ((j : ℕ) → j < length later → suc n ≤ (get_or later j none).0) → n ≤ (get_or (cond b (oid n ∷ later) later) i none).0
+    by true zero h more = omega arith
+    by true (suc i) h more = let r : suc n ≤ (get_or later i none).0 = more i (omega arith) in omega arith
+    by false i h more = let r : suc n ≤ (get_or later i none).0 = more i h in omega arith
+
+-- members come in order, so each is found at its place
+found : (e n : ℕ) (rest : List Instance) (i : ℕ) → i < length (members_from n rest e) → place_of (numbers (members_from n rest e)) (get_or (members_from n rest e) i none).0 ≡ Some i
+found e n [] i h = absurd (omega arith)
+found e n (o ∷ rest) i h = by (o.extent == e) i h (found e (suc n) rest)
+  where
+    later : List Oid
+    later = members_from (suc n) rest e
+
+    by : (b : Bool) (i : ℕ) → i < length (cond b (oid n ∷ later) later) → ((j : ℕ) → j < length later → place_of (numbers later) (get_or later j none).0 ≡ Some j) →
+        place_of (numbers (cond b (oid n ∷ later) later)) (get_or (cond b (oid n ∷ later) later) i none).0 ≡ Some i
+    by true zero h more = ap (λ b. cond b (Some 0) (option_map suc (place_of (numbers later) n))) (eq-eqb n n refl)
+    by true (suc i) h more =
         let r : suc n ≤ (get_or later i none).0 = low e (suc n) rest i (omega arith) in
         ap (λ b. cond b (Some 0) (option_map suc (place_of (numbers later) (get_or later i none).0))) (ne_eqb (get_or later i none).0 n (λ q. let same : (get_or later i none).0 ≡ n = q in omega arith))
-        ∙ ap (option_map suc) (found e (suc n) rest i (omega arith))
-    by false i h = found e (suc n) rest i h
+        ∙ ap (option_map suc) (more i (omega arith))
+    by false i h more = more i h
 
 at_place : (P : ℕ → Type 0) (os : List Oid) (i : ℕ) → AllByRecursion P (numbers os) → i < length os → P (get_or os i none).0
 at_place P [] i all h = absurd (omega arith)

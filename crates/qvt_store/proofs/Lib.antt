@@ -19,3 +19,4 @@ pub mod Assigning
 pub mod Placed
 pub mod Appending
 pub mod SameCells
+pub mod ReadOnly

@@ -1,7 +1,9 @@
 -- What every store keeps, and what a store that grew or was changed says of the objects that were there before: the same.
-use Rattle.std.specs.Prelude.{◌≡◌, ℕ, ◌≤◌, ◌++◌, List, length, IsTrue, IsFalse, Ok}
+use Rattle.std.specs.Prelude.{◌≡◌, ℕ, ◌≤◌, ◌++◌, List, [], length, IsTrue, IsFalse, Ok}
 use Rattle.qvt_base.specs.declared.numbers.Oid.{Oid}
 use Rattle.qvt_value.specs.declared.value.Value.{Value}
+use Rattle.qvt_metamodel.specs.Metamodels.{Metamodels, class_at, has_feature, is_containment}
+use Rattle.qvt_metamodel.specs.Named.{metamodel_at}
 use Rattle.qvt_metamodel.specs.WellFormed.{IsWellFormed}
 use Rattle.qvt_slots.specs.declared.op.SetOp.{SetOp}
 use Rattle.qvt_slots.specs.Slots.{Inside}
@@ -53,7 +55,11 @@ AppendStays = (s s' : Contents) (o p : ℕ) (v : Value) → append s o p v ≡ O
 abbrev pub WriteStays : Type 0
 WriteStays = (s s' : Contents) (o p : ℕ) (op : SetOp) (vs : List Value) → write s o p op vs ≡ Ok s' → StaysIn s s'
 
+-- a class of a metamodel without a name has no containment
+abbrev pub UnnamedAreEmpty : Metamodels → Type 0
+UnnamedAreEmpty m = (c f : ℕ) → IsTrue (has_feature m c f) → (metamodel_at m (class_at m c).metamodel).name ≡ [] → IsFalse (is_containment m f)
+
 -- an object of an extent that is not writable is as before after every write to a sound store
 abbrev pub ReadOnlyStays : Type 0
-ReadOnlyStays = (s s' : Contents) (o p : ℕ) (op : SetOp) (vs : List Value) → IsStore s → Sound s → IsAssignable s o p vs → write s o p op vs ≡ Ok s' →
+ReadOnlyStays = (s s' : Contents) (o p : ℕ) (op : SetOp) (vs : List Value) → IsStore s → UnnamedAreEmpty s.metas → Sound s → IsAssignable s o p vs → write s o p op vs ≡ Ok s' →
     (x : ℕ) → IsFalse (is_writable s x) → object_at s' x ≡ object_at s x

@@ -2,7 +2,7 @@
 
 ghost use Rattle.qvt_store.specs.Law.{KeepsOpposites, KeepsOneContainer};
 ghost use Rattle.qvt_store.specs.Sound.{NewIsSound, AddKeepsSound, AssignKeepsSound, AppendKeepsSound, WriteKeepsSound, LoadBegins, AddKeepsLoading, PlaceKeepsLoading, LoadEnds};
-ghost use Rattle.qvt_store.specs.Stay.{StaysIsReflexive, StaysIsTransitive, AddStays, AssignStays, AppendStays, WriteStays};
+ghost use Rattle.qvt_store.specs.Stay.{StaysIsReflexive, StaysIsTransitive, AddStays, AssignStays, AppendStays, WriteStays, ReadOnlyStays};
 
 /// A change keeps that opposite slots agree.
 pub fn change_keeps_opposites()
@@ -88,4 +88,9 @@ pub fn append_stays()
 /// What a write leaves that is not refused.
 pub fn write_stays()
     ensures { WriteStays }
+{}
+
+/// A write to a sound store leaves the objects of the extents that are not writable as they are.
+pub fn read_only_stays()
+    ensures { ReadOnlyStays }
 {}
