@@ -1,6 +1,6 @@
 -- Each slot of a model can be set when its turn comes, and a sound store stays sound but for opposites.
 use Rattle.std.proofs.Common.{◌≡◌, ◌≢◌, ℕ, zero, suc, ◌+◌, ◌<◌, ◌≤◌, Bool, true, false, ◌==◌, ◌||◌, ◌&&◌, cond, inl, inr, ◌⊎◌, refl, sym, ap, ◌∙◌, subst, List, [], ◌∷◌, ◌++◌, map, length, arith}
-use Rattle.std.specs.Prelude.{slice_index_or, nat_lt}
+use Rattle.std.specs.Prelude.{slice_index_or, nat_lt, All}
 use Rattle.std.specs.List.{list_all, AllByRecursion}
 use Rattle.std.proofs.lemmas.Bool.{cases_lt, cases_eq, eq-eqb, ne_eqb, lt-ltb, ltb-true}
 use Rattle.std.proofs.lemmas.Bool.Decides.{Decides-eqb}
@@ -14,7 +14,7 @@ use Rattle.qvt_metamodel.specs.Named.{enumeration_at}
 use Rattle.qvt_relation.proofs.Bools.{and_left, and_right, and_both, and_false, or_left, or_right, or_cases, none_left, none_right, either, clash, refuted}
 use Rattle.qvt_slots.specs.Slots.{Slots, has, is_object, Contains, Inside, directly, through}
 use Rattle.qvt_slots.specs.Contents.{Contents, Instance, no_instance, object_at, is_live, is_model, class_of, extent_of, extent_at, list_of, slot_in, slot_of, with_slot}
-use Rattle.qvt_slots.specs.Types.{is_of_kind, is_of_type, AreTyped}
+use Rattle.qvt_slots.specs.Types.{is_of_kind, is_of_type, AreTyped, IsPlain}
 use Rattle.qvt_slots.specs.Repeats.{repeats}
 use Rattle.qvt_slots.specs.Assign.{is_beyond, crosses}
 use Rattle.qvt_slots.specs.Cells.{with_list}

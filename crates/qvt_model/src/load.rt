@@ -31,11 +31,7 @@ fn add_object(store: &mut Store, class: ClassNo, extent: u32) -> Result<(), List
 }
 
 /// Adds the objects, in order.
-fn add_objects(
-    store: &mut Store,
-    objects: &[ObjectData],
-    extent: u32,
-) -> Result<(), ListFault>
+fn add_objects(store: &mut Store, objects: &[ObjectData], extent: u32) -> Result<(), ListFault>
     requires { CanAdd store.old extent objects.now }
     ensures { OnOk result (store.new ≡ added store.old extent objects.now) }
 {

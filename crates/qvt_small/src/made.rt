@@ -83,11 +83,7 @@ fn set_attributes(
 }
 
 /// Makes an object of its class, and carries out its assignments.
-fn make_object(
-    store: &mut Store,
-    model: &str,
-    object: &SmallObject,
-) -> Result<(), ListFault>
+fn make_object(store: &mut Store, model: &str, object: &SmallObject) -> Result<(), ListFault>
     requires making { IsMaking model.now store.old }
     ensures made { OnOk result (store.new ≡ with_object store.old object.now) }
     ensures making { OnOk result (IsMaking model.now store.new) }
@@ -102,11 +98,7 @@ fn make_object(
 }
 
 /// Makes the objects, in order.
-fn make_objects(
-    store: &mut Store,
-    model: &str,
-    objects: &[SmallObject],
-) -> Result<(), ListFault>
+fn make_objects(store: &mut Store, model: &str, objects: &[SmallObject]) -> Result<(), ListFault>
     requires making { IsMaking model.now store.old }
     ensures made { OnOk result (store.new ≡ fold with_object store.old objects.now) }
     ensures making { OnOk result (IsMaking model.now store.new) }
