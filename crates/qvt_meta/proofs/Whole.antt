@@ -20,7 +20,7 @@ use Rattle.qvt_metamodel.specs.declared.declared.DeclaredClass.{DeclaredClass}
 use Rattle.qvt_metamodel.specs.Metamodels.{Metamodels, class_at, feature_at, shape_of, is_opposite, is_feature_number, features_of, features_in, each_once, has_feature, among_features, nowhere_class, nowhere_feature, is_single, is_one, is_containment, is_element}
 use Rattle.qvt_metamodel.specs.Descends.{is_superclass, reaches, is_above, descends, is_class_kind, is_class_type}
 use Rattle.qvt_metamodel.specs.Named.{metamodel_at, enumeration_at, literal_at, nowhere_enumeration, class_named, feature_named, enumeration_named, literal_named}
-use Rattle.qvt_metamodel.specs.WellFormed.{IsWellFormed, IsLiveKind}
+use Rattle.qvt_metamodel.specs.WellFormed.{IsWellFormed, IsRegular, IsLiveKind}
 use Rattle.qvt_metamodel.specs.Kept.{AreRanks}
 use Rattle.qvt_metamodel.specs.declared.declared.MetaData.{MetaData}
 use Rattle.qvt_metamodel.specs.MetaData.{enum_names, class_names, feature_names}
@@ -37,7 +37,8 @@ use Rattle.qvt_metamodel.proofs.Infos.{featured_at, nothing_featured, all-at, ma
 use Rattle.qvt_metamodel.proofs.Lookups.{position-first, bytes_eq-refl, differ-before, some-within, untaken}
 use Rattle.qvt_metamodel.proofs.FeatureNames.{distinct as distinct_features, found_feature as named_feature}
 use Rattle.qvt_metamodel.proofs.Owners.{Declared, declared, includes}
-use Rattle.qvt_metamodel.proofs.Order.{descent}
+use Rattle.qvt_metamodel.proofs.Order.{acyclic, antisymmetric, transitive, inherited}
+use Rattle.qvt_metamodel.proofs.Regular.{regular}
 use Rattle.qvt_meta_checks.proofs.Passing.{map_none, first_from-none, no_fault, repeated-append, repeated-alone, enums_alone, literals_alone, classes_differ}
 use Rattle.qvt_metamodel.proofs.Positions.{any-within, any-passes, none-at, no-position, place-below, place-found, place-is}
 use Rattle.qvt_metamodel.proofs.Stable.{no-features-past, none-above-past}
@@ -608,6 +609,22 @@ module _ (d : MetaData) (ok : IsChecked d) (ranks : List ℕ) (ranked : AreRanks
   no_top : (c e : ℕ) → is_element w c ≡ true → is_superclass w c e ≡ false
   no_top c e h = absurd (cc)
 
+  all_regular : IsRegular w
+  all_regular = record {
+    acyclic = acyclic w ranks ranked;
+    antisymmetric = antisymmetric w ranks ranked no_top;
+    transitive = transitive w ranks ranked no_top;
+    inherited = inherited w ranks ranked no_top (λ c h. absurd (cc)) (λ c f h. absurd (cc));
+    live_element = λ c h. absurd (cc);
+    abstract_element = λ c h. absurd (cc);
+    featureless_element = λ c f h. absurd (cc);
+    topmost_element = no_top;
+    object_containments = λ f h. (contained_at f h).0;
+    unique_containments = λ f h. (contained_at f h).1;
+    unnamed_empty = λ c f h none. absurd (all_named c none);
+    unnamed_optional = λ c f h none. absurd (all_named c none);
+  }
+
   -- names are texts
   texts_of_class : (c : ℕ) → has_texts (declared_at ls c) ≡ true
   texts_of_class c = all-at has_texts ls c nothing_declared (and_both _ _ no_text refl) ok.texts
@@ -688,10 +705,7 @@ module _ (d : MetaData) (ok : IsChecked d) (ranks : List ℕ) (ranked : AreRanks
       live_class = live_class_of d;
       live_opposite = live_opposite_at;
       live_type = live_type_of d;
-      descent = descent w ranks ranked no_top (λ c h. absurd (cc)) (λ c f h. absurd (cc));
-      element = record { live = λ c h. absurd (cc); abstract_class = λ c h. absurd (cc); featureless = λ c f h. absurd (cc); topmost = no_top };
-      object_containments = λ f h. (contained_at f h).0;
-      unique_containments = λ f h. (contained_at f h).1;
+      regular = regular w all_regular;
       mutual_opposites = mutual_at;
       other_feature = other_at;
       one_containment = one_containment_at;
@@ -700,8 +714,6 @@ module _ (d : MetaData) (ok : IsChecked d) (ranks : List ℕ) (ranked : AreRanks
       opposite_has_type = opposite_has_type_at;
       type_has_opposite = type_has_opposite_at;
       unnamed_alone = λ p q c h none. absurd (all_named c none);
-      unnamed_empty = λ c f h none. absurd (all_named c none);
-      unnamed_optional = λ c f h none. absurd (all_named c none);
       distinct_features = distinct;
       text_metamodel = text_metamodel_at;
       text_class = text_class_at;

@@ -56,7 +56,7 @@ differ fs list = is_none (repeated [] (map (name_in fs) list))
 
 -- no feature is a containment or has a lower bound above 0
 abbrev pub is_loose : FeatureData → Bool
-is_loose f = not f.shape.containment && f.shape.lower == 0
+is_loose f = not f.shape.containment && (f.shape.lower == 0)
 
 abbrev pub has_loose_features : ClassData → Bool
 has_loose_features c = list_all is_loose c.features

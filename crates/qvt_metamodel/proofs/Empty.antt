@@ -6,9 +6,10 @@ use Rattle.qvt_metamodel.specs.Metamodels.{Metamodels, features_of}
 use Rattle.std.proofs.lemmas.Bool.{eqb-true}
 use Rattle.qvt_relation.specs.Closure.{Closure, directly, through}
 use Rattle.qvt_metamodel.specs.Descends.{is_superclass, reaches, descends}
-use Rattle.qvt_metamodel.specs.WellFormed.{IsWellFormed}
+use Rattle.qvt_metamodel.specs.WellFormed.{IsWellFormed, IsRegular}
 use Rattle.qvt_metamodel.specs.Kept.{IsKept}
 use Rattle.qvt_metamodel.proofs.Bools.{or_cases, clash}
+use Rattle.qvt_metamodel.proofs.Regular.{regular}
 use Rattle.qvt_metamodel.proofs.Rows.{no_mark}
 
 abbrev pub no_metamodels : Metamodels
@@ -35,6 +36,23 @@ same c d h = elim (or_cases ((c == d) || false) (reaches no_metamodels c d) h) [
 no_text : is_utf8 [] ≡ true
 no_text = is_utf8-from_IsUtf8 [] IsUtf8-nil
 
+none_irregular : IsRegular no_metamodels
+unfolding features_of
+none_irregular = record {
+  acyclic = λ c p. no_path p;
+  antisymmetric = λ c d h k. same c d h;
+  transitive = λ c d e h k. subst (λ x. descends no_metamodels x e ≡ true) (sym (same c d h)) k;
+  inherited = λ c d f h k. absurd (cc);
+  live_element = λ c h. absurd (cc);
+  abstract_element = λ c h. absurd (cc);
+  featureless_element = λ c f h. absurd (cc);
+  topmost_element = λ c d h. absurd (cc);
+  object_containments = λ f h. absurd (cc);
+  unique_containments = λ f h. absurd (cc);
+  unnamed_empty = λ c f h i. absurd (cc);
+  unnamed_optional = λ c f h i. absurd (cc);
+}
+
 pub well_formed : IsWellFormed no_metamodels
 unfolding features_of
 well_formed = record {
@@ -50,15 +68,7 @@ well_formed = record {
   live_class = λ c f h. absurd (cc);
   live_opposite = λ p q h. absurd (cc);
   live_type = λ f h. absurd (omega arith);
-  descent = record {
-    acyclic = λ c p. no_path p;
-    antisymmetric = λ c d h k. same c d h;
-    transitive = λ c d e h k. subst (λ x. descends no_metamodels x e ≡ true) (sym (same c d h)) k;
-    inherited = λ c d f h k. absurd (cc);
-  };
-  element = record { live = λ c h. absurd (cc); abstract_class = λ c h. absurd (cc); featureless = λ c f h. absurd (cc); topmost = λ c d h. absurd (cc) };
-  object_containments = λ f h. absurd (cc);
-  unique_containments = λ f h. absurd (cc);
+  regular = regular no_metamodels none_irregular;
   mutual_opposites = λ p q h. absurd (cc);
   other_feature = λ p. refl;
   one_containment = λ p q h i. absurd (cc);
@@ -67,8 +77,6 @@ well_formed = record {
   opposite_has_type = λ p q c h i. absurd (cc);
   type_has_opposite = λ p q c h i. absurd (cc);
   unnamed_alone = λ p q c h i. absurd (cc);
-  unnamed_empty = λ c f h i. absurd (cc);
-  unnamed_optional = λ c f h i. absurd (cc);
   distinct_features = λ c i j h k. absurd (omega arith);
   text_metamodel = λ k. no_text;
   text_class = λ c. no_text;

@@ -6,6 +6,7 @@ pub mod Infos
 pub mod Lookups
 pub mod Ancestors
 pub mod Rows
+pub mod Regular
 pub mod Empty
 pub mod Owners
 pub mod FeatureNames

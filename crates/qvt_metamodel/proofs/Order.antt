@@ -6,7 +6,6 @@ use Rattle.qvt_base.specs.declared.numbers.ClassNo.{ClassNo}
 use Rattle.qvt_relation.specs.Closure.{Closure, directly, through}
 use Rattle.qvt_metamodel.specs.Metamodels.{Metamodels, class_at, features_of, has_feature, among_features, is_element, is_class_number}
 use Rattle.qvt_metamodel.specs.Descends.{is_superclass, IsAncestor, superclass, above, element, is_above, reaches, descends}
-use Rattle.qvt_metamodel.specs.WellFormed.{IsDescent}
 use Rattle.qvt_metamodel.specs.Kept.{AreRanks}
 use Rattle.qvt_metamodel.proofs.Bools.{or_cases, clash, not_true}
 use Rattle.qvt_metamodel.proofs.Ancestors.{Found, found, above_sound, sound, complete, live, ancestor}
@@ -33,7 +32,7 @@ module _ (m : Metamodels) (ranks : List ℕ) (ok : AreRanks m ranks) where
       (let less : slice_index ranks y < slice_index ranks x = all-there (λ s. slice_index ranks s < slice_index ranks x) (class_at m x).supers y (ok.rise x) h in
       let more : slice_index ranks z < slice_index ranks y = path_falls p in omega (arith, less, more))
 
-  acyclic : (c : ℕ) → Closure (λ x y. is_superclass m x y ≡ true) c c → ⊥
+  pub acyclic : (c : ℕ) → Closure (λ x y. is_superclass m x y ≡ true) c c → ⊥
   acyclic c p = (let less : slice_index ranks c < slice_index ranks c = path_falls p in omega (arith, less))
 
   first_step : (k d c : ℕ) → is_above k m d c ≡ true → (s : ℕ) × (is_superclass m c s ≡ true)
@@ -46,7 +45,7 @@ module _ (m : Metamodels) (ranks : List ℕ) (ok : AreRanks m ranks) where
     unfolding reaches
     not_up c d e = not_true (reaches m c d) (λ h. (let s : (s : ℕ) × (is_superclass m c s ≡ true) = first_step (length m.classes) d c h in clash s.1 (top c s.0 e)))
 
-    antisymmetric : (c d : ℕ) → descends m c d ≡ true → descends m d c ≡ true → c ≡ d
+    pub antisymmetric : (c d : ℕ) → descends m c d ≡ true → descends m d c ≡ true → c ≡ d
     unfolding reaches
     antisymmetric c d h k = elim (or_cases ((c == d) || is_element m d) (reaches m c d) h) [
       | inl e ↦ elim (or_cases (c == d) (is_element m d) e) [ inl same ↦ eqb-true c d same | inr over ↦ under over ]
@@ -73,7 +72,7 @@ module _ (m : Metamodels) (ranks : List ℕ) (ok : AreRanks m ranks) where
     join d e c (element _ over) (above _ s there rest) = clash there (top d s over)
     join d e c (element _ over) (element _ also) = element c also
 
-    transitive : (c d e : ℕ) → descends m c d ≡ true → descends m d e ≡ true → descends m c e ≡ true
+    pub transitive : (c d e : ℕ) → descends m c d ≡ true → descends m d e ≡ true → descends m c e ≡ true
     transitive c d e h k = elim (sound m c d h) [
       | inl same ↦ subst (λ x. descends m x e ≡ true) (sym same) k
       | inr up ↦ elim (sound m d e k) [
@@ -101,7 +100,7 @@ module _ (m : Metamodels) (ranks : List ℕ) (ok : AreRanks m ranks) where
             | inr more ↦ over_own c t.class f l (join d t.class c up (above_sound m (length m.classes) t.class d more)) t.own
           ])
 
-      inherited : (c d f : ℕ) → descends m c d ≡ true → has_feature m d f ≡ true → has_feature m c f ≡ true
+      pub inherited : (c d f : ℕ) → descends m c d ≡ true → has_feature m d f ≡ true → has_feature m c f ≡ true
       unfolding reaches
       inherited c d f h there = elim (or_cases ((c == d) || is_element m d) (reaches m c d) h) [
         | inl e ↦ elim (or_cases (c == d) (is_element m d) e) [
@@ -111,6 +110,3 @@ module _ (m : Metamodels) (ranks : List ℕ) (ok : AreRanks m ranks) where
         | inr up ↦ (let s : (s : ℕ) × (is_superclass m c s ≡ true) = first_step (length m.classes) d c up in
           up_to c d f (above_sound m (length m.classes) d c up) (live m ranks ok c s.0 s.1) there)
       ]
-
-      pub descent : IsDescent m
-      descent = record { acyclic = acyclic; antisymmetric = antisymmetric; transitive = transitive; inherited = inherited }

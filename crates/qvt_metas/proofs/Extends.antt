@@ -18,7 +18,7 @@ use Rattle.qvt_metamodel.specs.declared.info.FeatureInfo.{FeatureInfo}
 use Rattle.qvt_metamodel.specs.Metamodels.{Metamodels, class_at, feature_at, shape_of, is_opposite, is_feature_number, is_class_number, features_of, features_in, has_feature, among_features, each_once, nowhere_class, nowhere_feature, is_single, is_containment, is_one, is_element}
 use Rattle.qvt_metamodel.specs.Descends.{is_superclass, reaches, is_above, is_class_kind, is_class_type}
 use Rattle.qvt_metamodel.specs.Named.{metamodel_at, nowhere_metamodel, nowhere_enumeration, class_named, feature_named}
-use Rattle.qvt_metamodel.specs.WellFormed.{IsWellFormed, IsLiveKind}
+use Rattle.qvt_metamodel.specs.WellFormed.{IsWellFormed, IsRegular, IsLiveKind}
 use Rattle.qvt_metamodel.specs.Kept.{AreRanks, IsKept}
 use Rattle.qvt_metamodel.specs.declared.row.Row.{Row}
 use Rattle.qvt_meta_tables.specs.Tables.{of_classes, AreTables}
@@ -30,7 +30,8 @@ use Rattle.qvt_metamodel.proofs.Halves.{Half, old, new, half, new-at}
 use Rattle.qvt_metamodel.proofs.Ancestors.{Found, found}
 use Rattle.qvt_metamodel.proofs.Infos.{among_numbers}
 use Rattle.qvt_metamodel.proofs.Owners.{Declared, declared}
-use Rattle.qvt_metamodel.proofs.Order.{descent}
+use Rattle.qvt_metamodel.proofs.Order.{acyclic, antisymmetric, transitive, inherited}
+use Rattle.qvt_metamodel.proofs.Regular.{regular, regular_of}
 use Rattle.qvt_metamodel.proofs.Stable.{no-features-past}
 use Rattle.qvt_metamodel.proofs.FeatureNames.{distinct, found_feature}
 use Rattle.qvt_metamodel.specs.Stay.{StaysIn}
@@ -192,6 +193,9 @@ module _ (m : Metamodels) (cs : List ClassData) where
   module _ (rm : List ℕ) (wm : IsWellFormed m) (am : AreRanks m rm) (alone : m.element ≡ None) (given : AreGiven m cs) (texts : list_all has_texts cs ≡ true) where
     on : GoesOn m W
     on = goes_on alone
+
+    old_regular : IsRegular m
+    old_regular = regular_of m wm
 
     -- the superclasses of a class that comes come too
     super_new : (i d : ℕ) → is_superclass W (B + i) d ≡ true → (B < d) × (d < B + (1 + length cs))
@@ -400,7 +404,7 @@ module _ (m : Metamodels) (cs : List ClassData) where
         by : (c : ℕ) → Half B c → has_feature W c f ≡ true → (metamodel_at W (class_at W c).metamodel).name ≡ [] → is_containment W f ≡ false
         by _ (old c l) there none =
             (let was : has_feature m c f ≡ true = sym (has_old c f l) ∙ there in
-            ap (λ s. s.containment) (shape_old f (wm.live_feature c f was)) ∙ wm.unnamed_empty c f was (ap (λ i. i.name) (sym (metamodel_of_old c l)) ∙ none))
+            ap (λ s. s.containment) (shape_old f (wm.live_feature c f was)) ∙ old_regular.unnamed_empty c f was (ap (λ i. i.name) (sym (metamodel_of_old c l)) ∙ none))
         by _ (new i) there none = (loose_new f (has_new i f there).0).0
 
     unnamed_optional : (c f : ℕ) → has_feature W c f ≡ true → (metamodel_at W (class_at W c).metamodel).name ≡ [] → (shape_of W f).lower ≡ 0
@@ -409,7 +413,7 @@ module _ (m : Metamodels) (cs : List ClassData) where
         by : (c : ℕ) → Half B c → has_feature W c f ≡ true → (metamodel_at W (class_at W c).metamodel).name ≡ [] → (shape_of W f).lower ≡ 0
         by _ (old c l) there none =
             (let was : has_feature m c f ≡ true = sym (has_old c f l) ∙ there in
-            ap (λ s. s.lower) (shape_old f (wm.live_feature c f was)) ∙ wm.unnamed_optional c f was (ap (λ i. i.name) (sym (metamodel_of_old c l)) ∙ none))
+            ap (λ s. s.lower) (shape_old f (wm.live_feature c f was)) ∙ old_regular.unnamed_optional c f was (ap (λ i. i.name) (sym (metamodel_of_old c l)) ∙ none))
         by _ (new i) there none = (loose_new f (has_new i f there).0).1
 
     -- a containment was there
@@ -528,6 +532,22 @@ module _ (m : Metamodels) (cs : List ClassData) where
         by _ (old f l) = ap (λ (x : FeatureInfo). is_utf8 x.name) (feature_old m W rm wm am on f l) ∙ wm.text_feature f
         by _ (new j) = ap (λ (x : FeatureInfo). is_utf8 x.name) (feature_new j) ∙ feature_text (B + 1) cs texts j
 
+    all_regular : (ranks : List ℕ) → AreRanks W ranks → IsRegular W
+    all_regular ranks ranked = record {
+      acyclic = acyclic W ranks ranked;
+      antisymmetric = antisymmetric W ranks ranked topmost_element;
+      transitive = transitive W ranks ranked topmost_element;
+      inherited = inherited W ranks ranked topmost_element live_element featureless_element;
+      live_element = live_element;
+      abstract_element = abstract_element;
+      featureless_element = featureless_element;
+      topmost_element = topmost_element;
+      object_containments = λ f h. (let o : (f < F) × (is_containment m f ≡ true) = containment_old f h in ap (λ s. is_class_type s.kind) (shape_old f o.0) ∙ old_regular.object_containments f o.1);
+      unique_containments = λ f h. (let o : (f < F) × (is_containment m f ≡ true) = containment_old f h in ap (λ s. s.unique) (shape_old f o.0) ∙ old_regular.unique_containments f o.1);
+      unnamed_empty = unnamed_empty;
+      unnamed_optional = unnamed_optional;
+    }
+
     pub well_formed : HasRoomFor m cs → (ranks : List ℕ) → AreRanks W ranks → IsWellFormed W
     well_formed room ranks ranked = record {
       few_metamodels = omega (arith, room.metamodels, metamodel_total);
@@ -542,10 +562,7 @@ module _ (m : Metamodels) (cs : List ClassData) where
       live_class = live_class;
       live_opposite = λ p q h. (let o : (p < F) × (is_opposite m p q ≡ true) = opposite_old p q h in let low : q < F = wm.live_opposite p q o.1 in omega (arith, low, feature_total));
       live_type = live_type;
-      descent = descent W ranks ranked topmost_element live_element featureless_element;
-      element = record { live = live_element; abstract_class = abstract_element; featureless = featureless_element; topmost = topmost_element };
-      object_containments = λ f h. (let o : (f < F) × (is_containment m f ≡ true) = containment_old f h in ap (λ s. is_class_type s.kind) (shape_old f o.0) ∙ wm.object_containments f o.1);
-      unique_containments = λ f h. (let o : (f < F) × (is_containment m f ≡ true) = containment_old f h in ap (λ s. s.unique) (shape_old f o.0) ∙ wm.unique_containments f o.1);
+      regular = regular W (all_regular ranks ranked);
       mutual_opposites = mutual_opposites;
       other_feature = λ p. not_true (is_opposite W p p) (λ h. (let o : (p < F) × (is_opposite m p p ≡ true) = opposite_old p p h in clash o.1 (wm.other_feature p)));
       one_containment = one_containment;
@@ -554,8 +571,6 @@ module _ (m : Metamodels) (cs : List ClassData) where
       opposite_has_type = opposite_has_type;
       type_has_opposite = type_has_opposite;
       unnamed_alone = unnamed_alone;
-      unnamed_empty = unnamed_empty;
-      unnamed_optional = unnamed_optional;
       distinct_features = distinct_features;
       text_metamodel = each_metamodel (λ i. is_utf8 i.name ≡ true) wm.text_metamodel no_text no_text;
       text_class = text_class;

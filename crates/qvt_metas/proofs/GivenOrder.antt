@@ -10,6 +10,7 @@ use Rattle.qvt_metamodel.specs.Metamodels.{Metamodels, class_at, nowhere_class}
 use Rattle.qvt_metamodel.specs.Descends.{is_superclass}
 use Rattle.qvt_metamodel.specs.WellFormed.{IsWellFormed}
 use Rattle.qvt_metamodel.specs.Extended.{element_class, given_classes, nothing_given, is_given_superclass, IsGivenNumber}
+use Rattle.qvt_metamodel.proofs.Regular.{regular_of}
 use Rattle.qvt_metamodel.proofs.Halves.{Half, old, new, half, old-at}
 use Rattle.qvt_metas.proofs.Extends.{W, class_new, given_supers, super_in}
 
@@ -99,5 +100,5 @@ module _ (m : Metamodels) (cs : List ClassData) where
         new_class (suc i) p = given i (B + suc i) (new_path p i refl) refl
 
         by : (c : ℕ) → Half B c → Closure Over c c → ⊥
-        by _ (old c l) p = wm.descent.acyclic c (old_path p l)
+        by _ (old c l) p = (regular_of m wm).acyclic c (old_path p l)
         by _ (new i) p = new_class i p

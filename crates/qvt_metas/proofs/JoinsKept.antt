@@ -14,7 +14,7 @@ use Rattle.qvt_metamodel.specs.declared.info.ClassInfo.{ClassInfo}
 use Rattle.qvt_metamodel.specs.Metamodels.{Metamodels, class_at, feature_at, shape_of, opposite, is_opposite, is_feature_number, is_element, is_class_number, features_of, has_feature, among_features, nowhere_class, is_single, is_containment, is_one}
 use Rattle.qvt_metamodel.specs.Descends.{is_superclass, reaches, is_above, descends, is_class_kind, is_class_type}
 use Rattle.qvt_metamodel.specs.Named.{metamodel_at, nowhere_metamodel, nowhere_enumeration, enumeration_at, literal_at, class_named, feature_named, enumeration_named, literal_named}
-use Rattle.qvt_metamodel.specs.WellFormed.{IsWellFormed, IsLiveKind}
+use Rattle.qvt_metamodel.specs.WellFormed.{IsWellFormed, IsRegular, IsLiveKind}
 use Rattle.qvt_metamodel.specs.Kept.{AreRanks}
 use Rattle.qvt_metamodel.specs.Joined.{class_on, feature_on, kind_on, class_info_on, feature_info_on, begin_after, first_some}
 use Rattle.qvt_metamodel.proofs.Bools.{ap2, clash, not_true, or_left, or_right, no-and}
@@ -22,7 +22,8 @@ use Rattle.qvt_metamodel.proofs.Halves.{Half, old, new, half, old-at, new-at}
 use Rattle.qvt_metamodel.proofs.Infos.{map-at}
 use Rattle.qvt_metamodel.proofs.Lists.{all-imply, all-every, all-found, list_any-cong, list_any-map, list_any-none, eqb-add, among-on}
 use Rattle.qvt_metamodel.proofs.Lookups.{position-left, position-right, position-cong, position-map, find-cong, find-map}
-use Rattle.qvt_metamodel.proofs.Order.{descent}
+use Rattle.qvt_metamodel.proofs.Order.{acyclic, antisymmetric, transitive, inherited}
+use Rattle.qvt_metamodel.proofs.Regular.{regular, regular_of}
 use Rattle.qvt_metas.proofs.Joins.{J, class_count, feature_count, metamodel_count, class_old, class_new, either_class, feature_old, feature_new, either_feature, features_old, features_new, reaches_old, reaches_new, reaches_new_old}
 
 -- a fact at each index is one of each item
@@ -54,6 +55,12 @@ module _ (m n : Metamodels) (rm rn : List ℕ) (wm : IsWellFormed m) (wn : IsWel
 
   abbrev W : Metamodels
   W = J m n rm rn wm wn am an
+
+  old_regular : IsRegular m
+  old_regular = regular_of m wm
+
+  new_regular : IsRegular n
+  new_regular = regular_of n wn
 
   apart : (x y z : ℕ) → y < x → eqb (x + z) y ≡ false
   apart x y z h = not_true (eqb (x + z) y) (λ e. (let same : x + z ≡ y = eqb-true (x + z) y e in omega (arith, same, h)))
@@ -144,7 +151,7 @@ module _ (m n : Metamodels) (rm rn : List ℕ) (wm : IsWellFormed m) (wn : IsWel
   element_is d = ap (λ e. is_class_number (first_some m.element (option_map (class_on (begin_after m)) e)) d) other ∙ ap (λ e. is_class_number e d) (first_none m.element)
 
   element_new : (d : ℕ) → is_element W (B + d) ≡ false
-  element_new d = not_true (is_element W (B + d)) (λ h. (let far : B + d < B = wm.element.live (B + d) (sym (element_is (B + d)) ∙ h) in omega (arith, far)))
+  element_new d = not_true (is_element W (B + d)) (λ h. (let far : B + d < B = old_regular.live_element (B + d) (sym (element_is (B + d)) ∙ h) in omega (arith, far)))
 
   element_none : (d : ℕ) → is_element n d ≡ false
   element_none d = ap (λ e. is_class_number e d) other
@@ -400,15 +407,15 @@ module _ (m n : Metamodels) (rm rn : List ℕ) (wm : IsWellFormed m) (wn : IsWel
   unnamed_empty c f there none = by c f (has c f there) none
     where
       by : (c f : ℕ) → Has c f → (metamodel_at W (class_at W c).metamodel).name ≡ [] → is_containment W f ≡ false
-      by _ _ (olds c f l k t) none = ap (λ s. s.containment) (shape_old f k) ∙ wm.unnamed_empty c f t (ap (λ i. i.name) (sym (metamodel_of_old c l)) ∙ none)
-      by _ _ (news c f t) none = containment_new f ∙ wn.unnamed_empty c f t (ap (λ i. i.name) (sym (metamodel_of_new c (wn.live_class c f t))) ∙ none)
+      by _ _ (olds c f l k t) none = ap (λ s. s.containment) (shape_old f k) ∙ old_regular.unnamed_empty c f t (ap (λ i. i.name) (sym (metamodel_of_old c l)) ∙ none)
+      by _ _ (news c f t) none = containment_new f ∙ new_regular.unnamed_empty c f t (ap (λ i. i.name) (sym (metamodel_of_new c (wn.live_class c f t))) ∙ none)
 
   unnamed_optional : (c f : ℕ) → has_feature W c f ≡ true → (metamodel_at W (class_at W c).metamodel).name ≡ [] → (shape_of W f).lower ≡ 0
   unnamed_optional c f there none = by c f (has c f there) none
     where
       by : (c f : ℕ) → Has c f → (metamodel_at W (class_at W c).metamodel).name ≡ [] → (shape_of W f).lower ≡ 0
-      by _ _ (olds c f l k t) none = ap (λ s. s.lower) (shape_old f k) ∙ wm.unnamed_optional c f t (ap (λ i. i.name) (sym (metamodel_of_old c l)) ∙ none)
-      by _ _ (news c f t) none = lower_new f ∙ wn.unnamed_optional c f t (ap (λ i. i.name) (sym (metamodel_of_new c (wn.live_class c f t))) ∙ none)
+      by _ _ (olds c f l k t) none = ap (λ s. s.lower) (shape_old f k) ∙ old_regular.unnamed_optional c f t (ap (λ i. i.name) (sym (metamodel_of_old c l)) ∙ none)
+      by _ _ (news c f t) none = lower_new f ∙ new_regular.unnamed_optional c f t (ap (λ i. i.name) (sym (metamodel_of_new c (wn.live_class c f t))) ∙ none)
 
   -- containments
   class_type_on : (k : TypeKind) → is_class_type (kind_on (begin_after m) k) ≡ is_class_type k
@@ -422,28 +429,28 @@ module _ (m n : Metamodels) (rm rn : List ℕ) (wm : IsWellFormed m) (wn : IsWel
   object_containments f h = by f (half F f) h
     where
       by : (f : ℕ) → Half F f → is_containment W f ≡ true → is_class_type (shape_of W f).kind ≡ true
-      by _ (old f l) h = ap (λ s. is_class_type s.kind) (shape_old f l) ∙ wm.object_containments f (ap (λ s. s.containment) (sym (shape_old f l)) ∙ h)
-      by _ (new f) h = ap is_class_type (kind_new f) ∙ class_type_on (shape_of n f).kind ∙ wn.object_containments f (sym (containment_new f) ∙ h)
+      by _ (old f l) h = ap (λ s. is_class_type s.kind) (shape_old f l) ∙ old_regular.object_containments f (ap (λ s. s.containment) (sym (shape_old f l)) ∙ h)
+      by _ (new f) h = ap is_class_type (kind_new f) ∙ class_type_on (shape_of n f).kind ∙ new_regular.object_containments f (sym (containment_new f) ∙ h)
 
   unique_containments : (f : ℕ) → is_containment W f ≡ true → (shape_of W f).unique ≡ true
   unique_containments f h = by f (half F f) h
     where
       by : (f : ℕ) → Half F f → is_containment W f ≡ true → (shape_of W f).unique ≡ true
-      by _ (old f l) h = ap (λ s. s.unique) (shape_old f l) ∙ wm.unique_containments f (ap (λ s. s.containment) (sym (shape_old f l)) ∙ h)
-      by _ (new f) h = unique_new f ∙ wn.unique_containments f (sym (containment_new f) ∙ h)
+      by _ (old f l) h = ap (λ s. s.unique) (shape_old f l) ∙ old_regular.unique_containments f (ap (λ s. s.containment) (sym (shape_old f l)) ∙ h)
+      by _ (new f) h = unique_new f ∙ new_regular.unique_containments f (sym (containment_new f) ∙ h)
 
   -- the class above all
   live_element : (c : ℕ) → is_element W c ≡ true → c < B
-  live_element c h = wm.element.live c (sym (element_is c) ∙ h)
+  live_element c h = old_regular.live_element c (sym (element_is c) ∙ h)
 
   abstract_element : (c : ℕ) → is_element W c ≡ true → (class_at W c).is_abstract ≡ true
-  abstract_element c h = ap (λ k. k.is_abstract) (class_old m n rm rn wm wn am an c (live_element c h)) ∙ wm.element.abstract_class c (sym (element_is c) ∙ h)
+  abstract_element c h = ap (λ k. k.is_abstract) (class_old m n rm rn wm wn am an c (live_element c h)) ∙ old_regular.abstract_element c (sym (element_is c) ∙ h)
 
   featureless_element : (c f : ℕ) → is_element W c ≡ true → has_feature W c f ≡ false
-  featureless_element c f h = has_old c f (live_element c h) ∙ wm.element.featureless c f (sym (element_is c) ∙ h)
+  featureless_element c f h = has_old c f (live_element c h) ∙ old_regular.featureless_element c f (sym (element_is c) ∙ h)
 
   topmost_element : (c d : ℕ) → is_element W c ≡ true → is_superclass W c d ≡ false
-  topmost_element c d h = ap (λ k. list_any (λ s. s.0 == d) k.supers) (class_old m n rm rn wm wn am an c (live_element c h)) ∙ wm.element.topmost c d (sym (element_is c) ∙ h)
+  topmost_element c d h = ap (λ k. list_any (λ s. s.0 == d) k.supers) (class_old m n rm rn wm wn am an c (live_element c h)) ∙ old_regular.topmost_element c d (sym (element_is c) ∙ h)
 
   element_within : (c : ℕ) → is_element W c ≡ true → c < length W.classes
   element_within c h = omega (arith, live_element c h, class_count m n rm rn wm wn am an)
@@ -536,6 +543,22 @@ module _ (m n : Metamodels) (rm rn : List ℕ) (wm : IsWellFormed m) (wn : IsWel
           (λ g. ap (bytes_eq (feature_at n f).name) (feature_name_new g.0)))
           ∙ wn.feature_found c f t)
 
+  all_regular : (ranks : List ℕ) → AreRanks W ranks → IsRegular W
+  all_regular ranks ranked = record {
+    acyclic = acyclic W ranks ranked;
+    antisymmetric = antisymmetric W ranks ranked topmost_element;
+    transitive = transitive W ranks ranked topmost_element;
+    inherited = inherited W ranks ranked topmost_element element_within featureless_element;
+    live_element = element_within;
+    abstract_element = abstract_element;
+    featureless_element = featureless_element;
+    topmost_element = topmost_element;
+    object_containments = object_containments;
+    unique_containments = unique_containments;
+    unnamed_empty = unnamed_empty;
+    unnamed_optional = unnamed_optional;
+  }
+
   pub well_formed : K + length n.metamodels < 2 ^ 32 → B + length n.classes < 2 ^ 32 → F + length n.features < 2 ^ 32 → (ranks : List ℕ) → AreRanks W ranks → IsWellFormed W
   well_formed few_ms few_cs few_fs ranks ranked = record {
     few_metamodels = omega (arith, few_ms, metamodel_count m n rm rn wm wn am an);
@@ -550,10 +573,7 @@ module _ (m n : Metamodels) (rm rn : List ℕ) (wm : IsWellFormed m) (wn : IsWel
     live_class = live_class;
     live_opposite = live_opposite;
     live_type = live_type;
-    descent = descent W ranks ranked topmost_element element_within featureless_element;
-    element = record { live = element_within; abstract_class = abstract_element; featureless = featureless_element; topmost = topmost_element };
-    object_containments = object_containments;
-    unique_containments = unique_containments;
+    regular = regular W (all_regular ranks ranked);
     mutual_opposites = mutual_opposites;
     other_feature = other_feature;
     one_containment = one_containment;
@@ -562,8 +582,6 @@ module _ (m n : Metamodels) (rm rn : List ℕ) (wm : IsWellFormed m) (wn : IsWel
     opposite_has_type = opposite_has_type;
     type_has_opposite = type_has_opposite;
     unnamed_alone = unnamed_alone;
-    unnamed_empty = unnamed_empty;
-    unnamed_optional = unnamed_optional;
     distinct_features = distinct_features;
     text_metamodel = text_metamodel;
     text_class = text_class;

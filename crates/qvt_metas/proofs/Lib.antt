@@ -9,4 +9,3 @@ pub mod Extends
 pub mod ClassNames
 pub mod FeaturePlaces
 pub mod GivenOrder
-pub mod Reads

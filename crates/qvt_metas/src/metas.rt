@@ -3,7 +3,7 @@ ghost use Rattle.std.specs.Str.{bytes_eq};
 ghost use Rattle.std.specs.List.{list_any};
 ghost use Rattle.qvt_metamodel.specs.Metamodels.{class_at, feature_at, shape_of, opposite, features_of};
 ghost use Rattle.qvt_metamodel.specs.Descends.{descends, Descends};
-ghost use Rattle.qvt_metamodel.specs.WellFormed.{IsWellFormed};
+ghost use Rattle.qvt_metamodel.specs.WellFormed.{IsWellFormed, IsRegular};
 ghost use Rattle.qvt_metamodel.specs.Named.{is_text};
 
 use crate::extending::{given_classes, given_features, have_texts, one_unnamed};
@@ -341,12 +341,6 @@ impl Metas {
         ensures literals { result.now ≡ (enumeration_at self.now metamodel enumeration).literals }
         ensures few { length result.now < 2 ^ 32 }
     {
-        self.literals_of(metamodel, enumeration)
-    }
-
-    fn literals_of(&self, metamodel: u32, enumeration: u32) -> &[Text]
-        ensures { result.now ≡ (enumeration_at self.now metamodel enumeration).literals }
-    {
         let at = metamodel as usize;
         let place = enumeration as usize;
         if at < self.metamodels.len() && place < self.metamodels[at].enums.len() {
@@ -509,7 +503,8 @@ impl Metas {
 
     /// A law: what every list of metamodels keeps.
     pub fn are_well_formed(&self)
-        ensures { IsWellFormed self.now }
+        ensures well_formed { IsWellFormed self.now }
+        ensures regular { IsRegular self.now }
     {
         let _ = &self.classes;
     }

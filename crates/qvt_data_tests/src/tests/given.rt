@@ -24,9 +24,20 @@ fn kind_of(name: &str) -> Result<TypeKind, Fail> {
     }
 }
 
+fn shape(kind: TypeKind, lower: u32, upper: Option<u32>, containment: bool) -> FeatureShape {
+    FeatureShape {
+        kind,
+        lower,
+        upper,
+        ordered: false,
+        unique: true,
+        containment,
+    }
+}
+
 /// The name, the sign and the type of a feature.
 fn parts_of(word: &str) -> Option<(&str, char, &str)> {
-    for sign in [':', '1', '+'] {
+    for sign in [':', '+', '1'] {
         if let Some((name, kind)) = word.split_once(sign) {
             return Some((name, sign, kind));
         }
@@ -40,16 +51,10 @@ fn feature_of(alloc: Global, word: &str) -> Result<FeatureData, Fail> {
         Some(kind) => (kind, None),
         None => (kind, Some(1)),
     };
+    let lower = if sign == '1' { 1 } else { 0 };
     Ok(FeatureData {
         name: Text::from_str(alloc, name)?,
-        shape: FeatureShape {
-            kind: kind_of(kind)?,
-            lower: if sign == '1' { 1 } else { 0 },
-            upper,
-            ordered: false,
-            unique: true,
-            containment: sign == '+',
-        },
+        shape: shape(kind_of(kind)?, lower, upper, sign == '+'),
     })
 }
 
@@ -224,8 +229,8 @@ fn features_of_given_classes_are_looked_up(rt: HostRuntime) -> Result<(), Fail> 
     let all = extended(rt.alloc(), TWO_CLASSES)?;
     let (name, size) = (FeatureNo(0), FeatureNo(1));
     assert!(rt; has_their_features(&all));
-    assert!(rt; all.shape(name) == shape(TypeKind::Str, Some(1)));
-    assert!(rt; all.shape(size) == shape(TypeKind::Int, None));
+    assert!(rt; all.shape(name) == shape(TypeKind::Str, 0, Some(1), false));
+    assert!(rt; all.shape(size) == shape(TypeKind::Int, 0, None, false));
     assert!(rt; all.opposite(size).is_none());
     Ok(())
 }

@@ -1,23 +1,9 @@
-use Rattle.std.proofs.Common.{◌∙◌, List, [], Some, refl, ap, sym, arith, find, slice_index_or}
-use Rattle.std.specs.Str.{bytes_eq}
-use Rattle.std.proofs.lemmas.List.{get_or_past}
+use Rattle.std.proofs.Common.{◌∙◌, List, Some, refl, ap, sym, slice_index_or}
 use Rattle.qvt_base.specs.declared.numbers.FeatureNo.{FeatureNo}
-use Rattle.qvt_metamodel.specs.Metamodels.{Metamodels, feature_at, features_of}
+use Rattle.qvt_metamodel.specs.Metamodels.{Metamodels, features_of}
 use Rattle.qvt_metamodel.specs.Named.{feature_named}
 use Rattle.qvt_metas.proofs.FeaturePlaces.{no_name, no_feature, feature_at_place, placed}
-use Rattle.qvt_metas.proofs.Reads.{order_read}
 use Rattle.qvt_metas.proofs.metas.Metas.feature.Goals as goal
-
-pub returns-then-at-len : goal.returns-then-at-len
-returns-then-at-len c =
-    ap (λ (gs : List FeatureNo). find (λ (f : FeatureNo). bytes_eq c.args.name.now (feature_at c.args.self.now f.0).name) gs)
-    (sym (get_or_past c.self.inside.lists.items c.args.class.0 [] (omega (arith, c.if-at-len.true, c.len.ensures, c.self.invariant.placed.each)))
-    ∙ c.self.invariant.kept.features c.args.class.0 ∙ ap (λ (m : Metamodels). features_of m c.args.class.0) c.self.view_is)
-
-pub place_named-requires : goal.place_named-requires
-place_named-requires c =
-    order_read _ _ _ _ c.args.class.0 _ _ c.self.invariant.placed (omega (arith, c.if-at-len.false, c.len.ensures)) c.as_slice.ensures.value
-    (c.features-features.ensures ∙ ap (λ (m : Metamodels). features_of m c.args.class.0) (sym c.self.view_is) ∙ sym (c.self.invariant.kept.features c.args.class.0)) c.index.ensures
 
 pub returns-in_default : goal.returns-in_default
 returns-in_default c =

@@ -1,18 +1,11 @@
-use Rattle.std.proofs.Common.{◌≡◌, ◌∙◌, ◌==◌, List, [], ap, sym, arith, position, slice_index_or}
+use Rattle.std.proofs.Common.{◌≡◌, ◌∙◌, ◌==◌, List, ap, sym, arith, position, slice_index_or}
 use Rattle.std.proofs.lemmas.Bool.{eq-eqb, eqb-true}
-use Rattle.std.proofs.lemmas.List.{get_or_past}
 use Rattle.qvt_base.specs.declared.numbers.FeatureNo.{FeatureNo}
 use Rattle.qvt_metamodel.specs.Metamodels.{Metamodels, features_of}
 use Rattle.qvt_metamodel.proofs.Bools.{not_true}
 use Rattle.qvt_meta_names.specs.Named.{number_at}
 use Rattle.qvt_metas.proofs.FeaturePlaces.{as_many, no_place_past, no_place_named, place_is, place_of_another, placed, number_read}
 use Rattle.qvt_metas.proofs.metas.Metas.place.Goals as goal
-
-pub returns-then-at-len : goal.returns-then-at-len
-returns-then-at-len c =
-    ap (λ (gs : List FeatureNo). position (λ (f : FeatureNo). f.0 == c.args.feature.0) gs)
-    (sym (get_or_past c.self.inside.lists.items c.args.class.0 [] (omega (arith, c.if-at-len.true, c.len.ensures, c.self.invariant.placed.each)))
-    ∙ c.self.invariant.kept.features c.args.class.0 ∙ ap (λ (m : Metamodels). features_of m c.args.class.0) c.self.view_is)
 
 pub returns-then-named-len : goal.returns-then-named-len
 returns-then-named-len c =
