@@ -14,7 +14,7 @@ use Rattle.qvt_model.specs.declared.data.SlotData.{SlotData}
 use Rattle.qvt_cycle.specs.Successors.{among, how_often, how_often_in}
 use Rattle.qvt_conform.specs.Containment.{refs_of, refs, contents_of_slot, contents_of_slots}
 use Rattle.qvt_model.specs.Items.{items_in}
-use Rattle.qvt_load.specs.Loaded.{value_at}
+use Rattle.qvt_model.specs.Loaded.{value_at}
 
 count-app : (y : ℕ) (xs ys : List ℕ) → how_often y (xs ++ ys) ≡ how_often y xs + how_often y ys
 count-app y [] ys = let q : how_often y ys ≡ 0 + how_often y ys = omega arith in q

@@ -19,7 +19,6 @@ use Rattle.qvt_relation.proofs.Closures.{closure-reaches}
 use Rattle.qvt_json.specs.Steps.{or_next}
 use Rattle.qvt_model.proofs.Steps.{neither}
 use Rattle.qvt_slots.specs.Slots.{is_object, has, Contains, Inside, directly, through}
-use Rattle.qvt_slots.specs.Types.{is_class_type}
 use Rattle.qvt_slots.specs.Repeats.{same_value, repeats}
 use Rattle.qvt_metamodel.specs.declared.info.TypeKind.{TypeKind}
 use Rattle.qvt_metamodel.specs.declared.info.TypeKind.TheVariants.{Bool as BoolKind, Int as IntKind, Str as StrKind, Enum as EnumKind, Class as ClassKind}
@@ -38,10 +37,10 @@ use Rattle.qvt_conform.specs.Items as item
 use Rattle.qvt_conform.specs.Containment.{refs_of, refs, contents_of_slot, contents_of_slots, contents_of, contents}
 use Rattle.qvt_conform.specs.Conformance.{fault_if, feature_fault, features_fault, containment_fault, object_fault, faults_from, conform_fault}
 use Rattle.qvt_model.specs.Items.{items_in}
-use Rattle.qvt_load.specs.Loaded.{value_at}
-use Rattle.qvt_load.specs.Conforming.{slots_at, Conforms}
-use Rattle.qvt_load.proofs.Final.{not_own, all_at}
-use Rattle.qvt_load.proofs.Placing.{ref_below}
+use Rattle.qvt_model.specs.Loaded.{value_at}
+use Rattle.qvt_model.specs.Conforming.{slots_at, Conforms}
+use Rattle.qvt_model.proofs.Final.{not_own, all_at}
+use Rattle.qvt_model.proofs.Placing.{ref_below}
 use Rattle.qvt_model.proofs.Lists.{index-map}
 use Rattle.qvt_conformed.proofs.Counts.{Twice, held_among, in_slots, two_slots, slot_count, once_in_lists, at_most_here, repeated_twice}
 use Rattle.qvt_conformed.specs.Law.{FaultlessConforms}
@@ -231,22 +230,6 @@ item_types m os c f (t ∷ ts) h = go (t.feature.0 == f) refl (item_types m os c
     go true e rest = let is : IsSlot m os c t = h.0 in subst (λ g. AllByRecursion (IsItem m os (shape_of m g).kind) t.items) ((Decides-eqb t.feature.0 f).0 e) is.items
     go false e rest = rest
 
--- items of a class are references
-refs_alone : (m : Metamodels) (os : List ObjectData) (k : TypeKind) (xs : List Datum) → is_class_type k ≡ true → AllByRecursion (IsItem m os k) xs → AllByRecursion (λ x. (i : ℕ) × (x ≡ Ref i)) xs
-refs_alone m os k [] c h = tt
-refs_alone m os k (x ∷ xs) c h = (at k x c h.0, refs_alone m os k xs c h.1)
-  where
-    at : (k : TypeKind) (x : Datum) → is_class_type k ≡ true → IsItem m os k x → (i : ℕ) × (x ≡ Ref i)
-    at (ClassKind d) (Ref i) c h = (i, refl)
-    at (ClassKind d) (BoolDatum x) c h = absurd h
-    at (ClassKind d) (Int x) c h = absurd h
-    at (ClassKind d) (Str x) c h = absurd h
-    at (ClassKind d) (Literal x) c h = absurd h
-    at BoolKind x c h = clash false c refl
-    at IntKind x c h = clash false c refl
-    at StrKind x c h = clash false c refl
-    at (EnumKind a b) x c h = clash false c refl
-
 module _ (m : Metamodels) (k : ℕ) (os : List ObjectData) (model : IsModel m k os) (none : faults_from m os 0 os ≡ None) where
   is : (i : ℕ) → i < length os → IsObject m k os (object_at os i)
   is i l = all_at m k os os i model.objects l
@@ -309,21 +292,6 @@ module _ (m : Metamodels) (k : ℕ) (os : List ObjectData) (model : IsModel m k 
         ],
       )
 
-  once : (i f : ℕ) → is_containment m f ≡ true → is_class_type (shape_of m f).kind ≡ true → repeats (slots_at os i f) ≡ false
-  once i f c k' = refuted _ (λ t.
-      let twice : Twice (items_in f (object_at os i).slots) = repeated_twice (items_in f (object_at os i).slots) (all_refs i f k') t in
-      let less : how_often_in (contents m os) twice.place ≤ 1 = few twice.place (below twice.place i f twice.held) in
-      let most : how_often twice.place (slice_index_or (contents m os) i []) ≤ 1 = at_most_here (contents m os) i twice.place less in
-      let here : how_often twice.place (slice_index_or (contents m os) i []) ≡ how_often twice.place (contents_of_slots m (object_at os i).slots) = ap (how_often twice.place) (lists_at i) in
-      let part : how_often twice.place (refs (items_in f (object_at os i).slots)) ≤ how_often twice.place (contents_of_slots m (object_at os i).slots) = slot_count m (object_at os i).slots f twice.place c in
-      let two : 2 ≤ how_often twice.place (refs (items_in f (object_at os i).slots)) = twice.twice in
-      omega (arith, most, here, part, two))
-    where
-      all_refs : (i f : ℕ) → is_class_type (shape_of m f).kind ≡ true → AllByRecursion (λ x. (j : ℕ) × (x ≡ Ref j)) (items_in f (object_at os i).slots)
-      all_refs = each_slot (λ i f xs. is_class_type (shape_of m f).kind ≡ true → AllByRecursion (λ x. (j : ℕ) × (x ≡ Ref j)) xs) (λ i f t. tt)
-          (λ i f l h t. let o : IsObject m k os (object_at os i) = is i l in
-          refs_alone m os (shape_of m f).kind (items_in f (object_at os i).slots) t (item_types m os (object_at os i).class.0 f (object_at os i).slots o.slots))
-
   leading : {x y : ℕ} → Inside m (slots_at os) x y → Closure (λ a b. leads (contents m os) a b ≡ true) x y
   leading (directly {x} {y} c) = one_step (member x c.feature y c.containment c.held)
   leading (through {x} {y} {z} c p) = more_steps (member x c.feature y c.containment c.held) (leading p)
@@ -352,7 +320,6 @@ module _ (m : Metamodels) (k : ℕ) (os : List ObjectData) (model : IsModel m k 
     bounds = bounds;
     unique = unique;
     opposites = record { agree = λ x f y g o h. linked g y x f o h };
-    once = once;
     containers = record { one = one };
     outside_itself = outside;
   }

@@ -6,20 +6,19 @@ ghost use Rattle.qvt_store.specs.Sound.{Sound};
 ghost use Rattle.qvt_model.specs.Extents.{data_of};
 ghost use Rattle.qvt_model.specs.WellFormed.{IsModel};
 ghost use Rattle.qvt_model.specs.Written.{model_text};
-ghost use Rattle.qvt_load.specs.Conforming.{Conforms};
-ghost use Rattle.qvt_load.specs.Loaded.{IsLoadable};
+ghost use Rattle.qvt_model.specs.Conforming.{Conforms};
+ghost use Rattle.qvt_model.specs.Loaded.{IsLoadable};
 
 use crate::laws::faultless_conforms;
 use qvt_base::lists::Bytes;
 use qvt_conform::conform::conform;
-use qvt_load::load::load;
 use qvt_metas::metas::Metas;
 use qvt_model::data::ModelData;
 use qvt_model::id_table::IdTable;
+use qvt_model::load::load;
 use qvt_model::read::read_model;
 use qvt_model::write::write_model;
 use qvt_store::extent::ExtentList;
-use qvt_store::law::new_is_sound;
 use qvt_store::store::Store;
 use std::alloc::Global;
 
@@ -32,7 +31,6 @@ pub fn empty_store(alloc: Global, metas: &Metas, extents: &ExtentList) -> Option
     ensures store { IfSome result (λ store. store ≡ record { metas = metas.now; extents = extents.now; objects = [] }) }
     ensures sound { IfSome result Sound }
 {
-    new_is_sound();
     match Store::new(alloc, metas, extents) {
         Ok(store) => Some(store),
         Err(_) => None,

@@ -26,7 +26,7 @@ use Rattle.qvt_store.specs.Types.{is_of_kind, is_of_type, IsPlain}
 use Rattle.qvt_store.specs.Assign.{is_beyond}
 use Rattle.qvt_store.specs.Sound.{Sound}
 use Rattle.qvt_model.specs.Extents.{own_id, numbers, place_of, datum_in, slot_in, name_of, insert_slot, slots_onto, object_in, objects_from, data_of}
-use Rattle.qvt_model.specs.Laws.{IsStore}
+use Rattle.qvt_store.specs.Stay.{IsStore}
 use Rattle.qvt_model.specs.Reading.{model_of, has_items}
 use Rattle.qvt_model.specs.WellFormed.{object_at, no_object, ids, differ, IsItem, IsSlot, ComeAfter, AreInOrder, IsObject, IsModel, HoldsOne, IsStorable}
 use Rattle.qvt_model.specs.Written.{model_text}

@@ -8,3 +8,11 @@ pub mod Sound
 pub mod Steps
 pub mod Whole
 pub mod Writing
+pub mod Shift
+pub mod Final
+pub mod Filled
+pub mod Placing
+pub mod Loading
+pub mod Told
+pub mod Loads
+pub mod RunIds

@@ -77,7 +77,7 @@ cons-map : {X Y : Type 0} (g : X → Y) (o : Option X) (xs : List X) → cons_op
 cons-map g None xs = refl
 cons-map g (Some x) xs = refl
 
-id-there : (s : Contents) (xs : List ℕ) (n : ℕ) (ys : List ℕ) (i : ℕ) → i < length ys → (object_at (objects_from s xs n ys) i).id ≡ own_id (n + i)
+pub id-there : (s : Contents) (xs : List ℕ) (n : ℕ) (ys : List ℕ) (i : ℕ) → i < length ys → (object_at (objects_from s xs n ys) i).id ≡ own_id (n + i)
 unfolding object_in
 id-there s xs n [] i lt = absurd (omega arith)
 id-there s xs n (y ∷ ys) zero lt = ap own_id (omega arith)

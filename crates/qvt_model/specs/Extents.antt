@@ -1,4 +1,4 @@
--- The data of an extent of a store: its objects in order, each under an id of its own, with its slots that are not empty.
+-- The data of a writable extent of a store: its objects in order, each under an id of its own, with its slots that are not empty.
 use Rattle.std.specs.Prelude.{◌≡◌, ℕ, suc, ◌++◌, Bool, List, [], ◌∷◌, map, filter, length, position, Option, Some, None, option_map, if◌then◌else◌, codes, decimal, ◌==◌}
 use Rattle.std.specs.List.{filter_map}
 use Rattle.std.specs.Ordering.{nat_cmp, match_ordering}
@@ -59,5 +59,6 @@ abbrev pub objects_from : Contents → List ℕ → ℕ → List ℕ → List Ob
 objects_from s xs n [] = []
 objects_from s xs n (y ∷ ys) = object_in s xs n y ∷ objects_from s xs (suc n) ys
 
+-- the data of a writable extent
 unfoldable pub data_of : Contents → ℕ → List ObjectData
 data_of s e = objects_from s (numbers (members_of s e)) 1 (numbers (members_of s e))

@@ -1,10 +1,11 @@
 -- What is written is read as the same model.
-use Rattle.std.specs.Prelude.{◌≡◌, ◌≢◌, [], ℕ, ◌≤◌, List, length, IsTrue, Ok}
+use Rattle.std.specs.Prelude.{◌≡◌, ◌≢◌, [], ℕ, List, IsTrue, Ok}
 use Rattle.qvt_metamodel.specs.Metamodels.{Metamodels}
 use Rattle.qvt_metamodel.specs.Named.{metamodel_at}
 use Rattle.qvt_metamodel.specs.WellFormed.{IsWellFormed}
-use Rattle.qvt_store.specs.Contents.{Contents, extent_at, is_extent, is_model, AreNamed}
+use Rattle.qvt_store.specs.Contents.{Contents, extent_at, is_extent, is_model}
 use Rattle.qvt_store.specs.Sound.{Sound}
+use Rattle.qvt_store.specs.Stay.{IsStore}
 use Rattle.qvt_model.specs.Extents.{data_of}
 use Rattle.qvt_model.specs.WellFormed.{IsModel, IsStorable}
 use Rattle.qvt_model.specs.Reading.{model_of}
@@ -13,12 +14,6 @@ use Rattle.qvt_model.specs.declared.data.ObjectData.{ObjectData}
 
 abbrev pub WrittenIsRead : Type 0
 WrittenIsRead = (m : Metamodels) (k : ℕ) (os : List ObjectData) → IsWellFormed m → (metamodel_at m k).name ≢ [] → IsModel m k os → IsStorable m os → model_of m k (model_text m os) ≡ Ok os
-
--- a store has at most 1,000,000 objects, and an extent has a name exactly where its metamodel has one
-pub record IsStore (s : Contents) : Type 0 where
-  pub well_formed : IsWellFormed s.metas
-  pub few : length s.objects ≤ 1000000
-  pub named : AreNamed s.metas s.extents
 
 -- the text of a model of a sound store is read as the data of its extent
 abbrev pub ExtentIsRead : Type 0

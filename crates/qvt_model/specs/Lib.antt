@@ -7,3 +7,7 @@ pub mod Extents
 pub mod IdTables
 pub mod Writing
 pub mod Laws
+pub mod Loaded
+pub mod Steps
+pub mod Conforming
+pub mod RunIds

@@ -1,4 +1,6 @@
 ghost use Rattle.qvt_model.specs.Laws.{WrittenIsRead, ExtentIsRead};
+ghost use Rattle.qvt_model.specs.Loaded.{EachLoadLeaves};
+ghost use Rattle.qvt_model.specs.RunIds.{DataHaveRunIds};
 
 /// The text that is written for a model is read as the same model.
 pub fn written_is_read()
@@ -8,4 +10,15 @@ pub fn written_is_read()
 /// The text that is written for a model of a sound store is read as the data of its extent.
 pub fn extent_is_read()
     ensures { ExtentIsRead }
+{}
+
+/// What a loading leaves of the other extents and of the ids that were told, so that the next model
+/// can be loaded.
+pub fn load_leaves()
+    ensures { EachLoadLeaves }
+{}
+
+/// The objects of a writable extent are written with the ids that they have in the run.
+pub fn data_have_run_ids()
+    ensures { DataHaveRunIds }
 {}

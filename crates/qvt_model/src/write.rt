@@ -322,8 +322,7 @@ pub fn write_model(alloc: Global, store: &Store, extent: u32) -> Result<Bytes, M
     ensures text { IfOk result (λ bytes. bytes ≡ model_text store.now.metas (data_of store.now extent)) }
     ensures fault { IfErr result (λ fault. fault ≡ ModelFault.NoMemory) }
 {
-    let _classes = store.metas().class_count();
-    let _objects = store.len();
+    store.is_whole();
     let value = model_written(alloc, store, store.extent(extent))?;
     Ok(write_value(alloc, &value)?)
 }

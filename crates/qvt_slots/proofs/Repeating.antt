@@ -171,6 +171,32 @@ without_same [] h = refl
 without_same (v ∷ vs) h = ap (λ l. v ∷ filter (λ w. not (same_value v w)) l) (without_same vs (none_right (list_any (same_value v) vs) _ h))
     ∙ ap (λ t. v ∷ t) (filter_none (same_value v) vs (none_left _ _ h))
 
+-- after a list that repeats none stand those that it does not hold, the first of equals kept
+pub without-append : (old vs : List Value) → repeats old ≡ false → without_repeats (old ++ vs) ≡ old ++ filter (λ v. not (list_any (λ w. same_value w v) old)) (without_repeats vs)
+without-append [] vs h = sym (all (without_repeats vs))
+  where
+    all : (l : List Value) → filter (λ v. true) l ≡ l
+    all [] = refl
+    all (x ∷ l) = ap (λ t. x ∷ t) (all l)
+without-append (o ∷ os) vs h =
+    ap (λ l. o ∷ filter (λ w. not (same_value o w)) l) (without-append os vs (none_right (list_any (same_value o) os) _ h))
+    ∙ ap (λ l. o ∷ l) (filter-append (λ w. not (same_value o w)) os (filter (λ v. not (list_any (λ w. same_value w v) os)) (without_repeats vs))
+    ∙ (λ i. filter_none (same_value o) os (none_left _ _ h) i ++ both (without_repeats vs) i))
+  where
+    both : (l : List Value) → filter (λ w. not (same_value o w)) (filter (λ v. not (list_any (λ w. same_value w v) os)) l) ≡ filter (λ v. not (same_value o v || list_any (λ w. same_value w v) os)) l
+    both [] = refl
+    both (x ∷ l) = go (list_any (λ w. same_value w x) os) (same_value o x) refl (both l)
+      where
+        rest : List Value
+        rest = filter (λ v. not (list_any (λ w. same_value w v) os)) l
+
+        go : (a b : Bool) → same_value o x ≡ b → filter (λ w. not (same_value o w)) rest ≡ filter (λ v. not (same_value o v || list_any (λ w. same_value w v) os)) l →
+            filter (λ w. not (same_value o w)) (cond (not a) (x ∷ rest) rest) ≡ cond (not (b || a)) (x ∷ filter (λ v. not (same_value o v || list_any (λ w. same_value w v) os)) l) (filter (λ v. not (same_value o v || list_any (λ w. same_value w v) os)) l)
+        go true true e ih = ih
+        go true false e ih = ih
+        go false true e ih = ap (λ t. cond (not t) (x ∷ filter (λ w. not (same_value o w)) rest) (filter (λ w. not (same_value o w)) rest)) e ∙ ih
+        go false false e ih = ap (λ t. cond (not t) (x ∷ filter (λ w. not (same_value o w)) rest) (filter (λ w. not (same_value o w)) rest)) e ∙ ap (λ t. x ∷ t) ih
+
 pub repeats-drop : (vs : List Value) (i : ℕ) (d : Value) → i < length vs → repeats (drop i vs) ≡ (list_any (same_value (get_or vs i d)) (drop (i + 1) vs) || repeats (drop (i + 1) vs))
 repeats-drop vs i d h = ap repeats (drop-at vs i d h)
   where

@@ -8,6 +8,8 @@ use Rattle.qvt_metamodel.specs.Metamodels.{Metamodels, features_of, shape_of, op
 use Rattle.qvt_relation.specs.Closure.{any_below, reaches}
 use Rattle.qvt_slots.specs.declared.fault.StoreFault.{StoreFault}
 use Rattle.qvt_slots.specs.declared.fault.StoreFault.TheVariants.{TooMany, ContainmentCycle, ReadOnly, CrossModel}
+use Rattle.qvt_slots.specs.declared.op.SetOp.{SetOp}
+use Rattle.qvt_slots.specs.declared.op.SetOp.TheVariants.{Put, Add}
 use Rattle.qvt_slots.specs.Slots.{Slots, has, is_object_with}
 use Rattle.qvt_slots.specs.Change.{Change, objects_beyond, slot_after}
 use Rattle.qvt_slots.specs.Contents.{Contents, Instance, slot_of, extent_of, is_model, is_writable}
@@ -94,3 +96,8 @@ assign s o p vs = let c : Change = change_of s o p vs in ok_unless (refusal_of s
 -- Append: slot (o, p) gets its list and v last
 abbrev pub append : Contents → ℕ → ℕ → Value → Result Contents StoreFault
 append s o p v = assign s o p (slot_of s o p ++ v ∷ [])
+
+-- Write: Put is Assign, Add puts the list after the old one; either is one change with one refusal
+abbrev pub write : Contents → ℕ → ℕ → SetOp → List Value → Result Contents StoreFault
+write s o p Put vs = assign s o p vs
+write s o p Add vs = assign s o p (slot_of s o p ++ vs)

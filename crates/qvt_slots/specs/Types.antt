@@ -9,7 +9,7 @@ use Rattle.qvt_metamodel.specs.declared.info.TypeKind.{TypeKind}
 use Rattle.qvt_metamodel.specs.declared.info.TypeKind.TheVariants.{Bool as BoolKind, Int as IntKind, Str as StrKind, Enum as EnumKind, Class as ClassKind}
 use Rattle.qvt_metamodel.specs.Metamodels.{Metamodels, shape_of, is_single, has_feature}
 use Rattle.qvt_metamodel.specs.Named.{enumeration_at}
-use Rattle.qvt_metamodel.specs.Descends.{descends}
+use Rattle.qvt_metamodel.specs.Descends.{descends, is_class_type}
 use Rattle.qvt_slots.specs.Slots.{is_object_with}
 use Rattle.qvt_slots.specs.Contents.{Contents, is_live, is_writable, class_of, slot_of}
 
@@ -53,10 +53,6 @@ abbrev pub IsPlain : Value → Type 0
 IsPlain (IntValue n) = FitsSigned w64 n
 IsPlain (StrValue t) = IsUtf8 t
 IsPlain _ = Unit {0}
-
-abbrev pub is_class_type : TypeKind → Bool
-is_class_type (ClassKind c) = true
-is_class_type _ = false
 
 -- slot (o, p) is there, and the values are of its type
 pub record IsAssignable (s : Contents) (o p : ℕ) (vs : List Value) : Type 0 where

@@ -9,6 +9,7 @@ pub mod extent;
 pub mod fault;
 pub mod features;
 pub mod object_list;
+pub mod op;
 pub mod planned;
 pub mod put;
 pub mod seen;

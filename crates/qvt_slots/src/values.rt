@@ -1,9 +1,10 @@
 //! Lists of values, and the objects in them.
 
-ghost use Rattle.std.specs.Prelude.{◌≡◌, IfOk, if◌then◌else◌};
+ghost use Rattle.std.specs.Prelude.{◌≡◌, All, IfOk, if◌then◌else◌};
 ghost use Rattle.std.specs.List.{list_any};
 ghost use Rattle.qvt_slots.specs.Slots.{has, is_object};
 ghost use Rattle.qvt_slots.specs.Change.{among};
+ghost use Rattle.qvt_slots.specs.Types.{IsPlain};
 ghost use Rattle.qvt_slots.specs.Repeats.{same_literal, is_bool_of, is_int_of, is_text_of, is_literal_of, same_value, repeats, without_repeats};
 
 use crate::seen::Seen;
@@ -143,37 +144,65 @@ pub fn repeats(alloc: Global, values: &[Value]) -> Result<bool, ListFault>
     many_repeat(alloc, values)
 }
 
+/// A law: an Integer fits 64 bits, and a String is UTF-8.
+pub fn is_plain(value: &Value)
+    ensures { IsPlain value.now }
+{
+    match value {
+        Value::Int(number) => {
+            let _number = *number;
+        }
+        Value::Str(text) => {
+            let _text = text.as_str();
+        }
+        _ => {}
+    }
+}
+
+/// A copy of the value.
+fn plain_copy(alloc: Global, value: &Value) -> Result<Value, ListFault>
+    ensures same { IfOk result (λ copy. copy ≡ value.now) }
+    ensures plain { IfOk result IsPlain }
+{
+    is_plain(value);
+    let copy = value.copy(alloc)?;
+    Ok(copy)
+}
+
 /// Copies of the values, in order.
 pub fn copied(alloc: Global, values: &[Value]) -> Result<Values, ListFault>
-    ensures { IfOk result (λ copies. copies ≡ values.now) }
+    ensures same { IfOk result (λ copies. copies ≡ values.now) }
+    ensures plain { IfOk result (All IsPlain) }
 {
     let mut copies = Seq::new(alloc);
     for value in values {
-        copies.push(value.copy(alloc)?)?;
+        copies.push(plain_copy(alloc, value)?)?;
     }
     Ok(copies)
 }
 
 fn few_without_repeats(alloc: Global, values: &[Value]) -> Result<Values, ListFault>
-    ensures { IfOk result (λ list. list ≡ without_repeats values.now) }
+    ensures list { IfOk result (λ list. list ≡ without_repeats values.now) }
+    ensures plain { IfOk result (All IsPlain) }
 {
     let mut list = Seq::new(alloc);
     for value in values {
         if !holds_value(list.as_slice(), value) {
-            list.push(value.copy(alloc)?)?;
+            list.push(plain_copy(alloc, value)?)?;
         }
     }
     Ok(list)
 }
 
 fn many_without_repeats(alloc: Global, values: &[Value]) -> Result<Values, ListFault>
-    ensures { IfOk result (λ list. list ≡ without_repeats values.now) }
+    ensures list { IfOk result (λ list. list ≡ without_repeats values.now) }
+    ensures plain { IfOk result (All IsPlain) }
 {
     let mut seen = Seen::new(alloc);
     let mut list = Seq::new(alloc);
     for value in values {
         if !seen.note(value)? {
-            list.push(value.copy(alloc)?)?;
+            list.push(plain_copy(alloc, value)?)?;
         }
     }
     Ok(list)
@@ -181,7 +210,8 @@ fn many_without_repeats(alloc: Global, values: &[Value]) -> Result<Values, ListF
 
 /// Copies of the values, with the first of equal values kept.
 pub fn without_repeats(alloc: Global, values: &[Value]) -> Result<Values, ListFault>
-    ensures { IfOk result (λ list. list ≡ without_repeats values.now) }
+    ensures list { IfOk result (λ list. list ≡ without_repeats values.now) }
+    ensures plain { IfOk result (All IsPlain) }
 {
     if values.len() <= FEW {
         return few_without_repeats(alloc, values);
@@ -191,7 +221,8 @@ pub fn without_repeats(alloc: Global, values: &[Value]) -> Result<Values, ListFa
 
 /// The new list of a slot: in a unique one the first of equal values is kept.
 pub fn new_list(alloc: Global, unique: bool, values: &[Value]) -> Result<Values, ListFault>
-    ensures { IfOk result (λ list. list ≡ (if unique then without_repeats values.now else values.now)) }
+    ensures list { IfOk result (λ list. list ≡ (if unique then without_repeats values.now else values.now)) }
+    ensures plain { IfOk result (All IsPlain) }
 {
     if unique {
         without_repeats(alloc, values)

@@ -1,8 +1,8 @@
 //! The objects of a small text, made in a store and written.
 
-ghost use Rattle.std.specs.Prelude.{◌≡◌, fold, All, IsTrue, IfOk, OnOk};
+ghost use Rattle.std.specs.Prelude.{◌≡◌, fold, IsTrue, IfOk, OnOk};
 ghost use Rattle.qvt_slots.specs.Contents.{is_live, with_slot};
-ghost use Rattle.qvt_slots.specs.Types.{IsAssignable, IsAttributeChange, IsPlain};
+ghost use Rattle.qvt_slots.specs.Types.{IsAssignable, IsAttributeChange};
 ghost use Rattle.qvt_small.specs.SmallRun.{have_names};
 ghost use Rattle.qvt_small.specs.SmallStore.{with_assignment, with_object, outputs, store_after, model_text, IsMaking};
 
@@ -17,14 +17,12 @@ use qvt_base::text::Text;
 use qvt_metas::metas::Metas;
 use qvt_model::write::write_model;
 use qvt_slots::extent::{Extent, ExtentList};
-use qvt_store::law::{add_keeps_sound, assign_keeps_sound, new_is_sound};
 use qvt_store::store::Store;
 use qvt_value::value::Value;
 use std::alloc::Global;
 
 /// Sets the slot of an attribute.
 fn set_slot(
-    alloc: Global,
     store: &mut Store,
     model: &str,
     object: Oid,
@@ -34,14 +32,10 @@ fn set_slot(
     requires making { IsMaking model.now store.old }
     requires can { IsAssignable store.old object.0 feature.0 values.now }
     requires change { IsAttributeChange store.old object.0 feature.0 values.now }
-    requires plain { All IsPlain values.now }
     ensures set { OnOk result (store.new ≡ with_slot store.old object.0 feature.0 values.now) }
     ensures making { OnOk result (IsMaking model.now store.new) }
 {
-    assign_keeps_sound();
-    let _extents = store.extents();
-    let _classes = store.metas().class_count();
-    match store.assign(alloc, object, feature, values) {
+    match store.assign(object, feature, values) {
         Ok(()) => Ok(()),
         Err(_) => Err(ListFault::NoMemory),
     }
@@ -49,7 +43,6 @@ fn set_slot(
 
 /// Sets an attribute of an object.
 fn set_attribute(
-    alloc: Global,
     store: &mut Store,
     model: &str,
     object: Oid,
@@ -66,14 +59,13 @@ fn set_attribute(
         None => Ok(()),
         Some(feature) => {
             let values = [Value::Int(assignment.value)];
-            set_slot(alloc, store, model, object, feature, &values)
+            set_slot(store, model, object, feature, &values)
         }
     }
 }
 
 /// Carries out the assignments, in order.
 fn set_attributes(
-    alloc: Global,
     store: &mut Store,
     model: &str,
     object: Oid,
@@ -85,45 +77,34 @@ fn set_attributes(
     ensures making { OnOk result (IsMaking model.now store.new) }
 {
     for assignment in assignments {
-        set_attribute(alloc, store, model, object, assignment)?;
+        set_attribute(store, model, object, assignment)?;
     }
     Ok(())
 }
 
 /// Makes an object of its class, and carries out its assignments.
-fn make_object(
-    alloc: Global,
-    store: &mut Store,
-    model: &str,
-    object: &SmallObject,
-) -> Result<(), ListFault>
+fn make_object(store: &mut Store, model: &str, object: &SmallObject) -> Result<(), ListFault>
     requires making { IsMaking model.now store.old }
     ensures made { OnOk result (store.new ≡ with_object store.old object.now) }
     ensures making { OnOk result (IsMaking model.now store.new) }
 {
-    add_keeps_sound();
     match concrete_class(store.metas(), object.class.as_str()) {
         None => Ok(()),
-        Some(class) => match store.add_object(alloc, class, 0) {
-            Ok(made) => { set_attributes(alloc, store, model, made, object.assignments.as_slice()) }
+        Some(class) => match store.add_object(class, 0) {
+            Ok(made) => { set_attributes(store, model, made, object.assignments.as_slice()) }
             Err(_) => Err(ListFault::NoMemory),
         },
     }
 }
 
 /// Makes the objects, in order.
-fn make_objects(
-    alloc: Global,
-    store: &mut Store,
-    model: &str,
-    objects: &[SmallObject],
-) -> Result<(), ListFault>
+fn make_objects(store: &mut Store, model: &str, objects: &[SmallObject]) -> Result<(), ListFault>
     requires making { IsMaking model.now store.old }
     ensures made { OnOk result (store.new ≡ fold with_object store.old objects.now) }
     ensures making { OnOk result (IsMaking model.now store.new) }
 {
     for object in objects {
-        make_object(alloc, store, model, object)?;
+        make_object(store, model, object)?;
     }
     Ok(())
 }
@@ -153,12 +134,11 @@ pub fn model_text(
     requires { IsTrue (have_names metas.now model.now) }
     ensures { IfOk result (λ bytes. bytes ≡ model_text metas.now model.now objects.now) }
 {
-    new_is_sound();
     let extents = extents_of(alloc, model)?;
     let Ok(mut store) = Store::new(alloc, metas, &extents) else {
         return Err(ListFault::NoMemory);
     };
-    make_objects(alloc, &mut store, model.as_str(), objects)?;
+    make_objects(&mut store, model.as_str(), objects)?;
     match write_model(alloc, &store, 0) {
         Ok(bytes) => Ok(bytes),
         Err(_) => Err(ListFault::NoMemory),

@@ -26,18 +26,18 @@ fn empty_store(alloc: Global, text: &str) -> Option<Store> {
 }
 
 /// Adds so many objects of the first class.
-fn fill(alloc: Global, store: &mut Store, objects: u32) -> Option<()> {
+fn fill(store: &mut Store, objects: u32) -> Option<()> {
     for _object in 0..objects {
         if !is_class_for(store, ClassNo(0), 0) {
             return None;
         }
-        store.add_object(alloc, ClassNo(0), 0).ok()?;
+        store.add_object(ClassNo(0), 0).ok()?;
     }
     Some(())
 }
 
 /// Sets the slots of so many objects, in a scattered order, to objects beside them.
-fn link(alloc: Global, store: &mut Store, changes: u32) -> Option<()> {
+fn link(store: &mut Store, changes: u32) -> Option<()> {
     let objects = store.len();
     for change in 0..changes {
         let object = Oid(change.wrapping_mul(7_919).checked_rem(objects)?);
@@ -46,30 +46,30 @@ fn link(alloc: Global, store: &mut Store, changes: u32) -> Option<()> {
         if !can_assign(store, object, FeatureNo(0), &values) {
             return None;
         }
-        store.assign(alloc, object, FeatureNo(0), &values).ok()?;
+        store.assign(object, FeatureNo(0), &values).ok()?;
     }
     Some(())
 }
 
 /// Puts so many objects last in a slot of the first one, one after the other.
-fn append(alloc: Global, store: &mut Store, name: &str, changes: u32) -> Option<()> {
+fn append(store: &mut Store, name: &str, changes: u32) -> Option<()> {
     let feature = store.metas().feature(ClassNo(0), name)?;
     for change in 0..changes {
         let values = [Value::Obj(Oid(change.checked_add(1)?))];
         if !can_assign(store, Oid(0), feature, &values) {
             return None;
         }
-        store.append(alloc, Oid(0), feature, &values[0]).ok()?;
+        store.append(Oid(0), feature, &values[0]).ok()?;
     }
     Some(())
 }
 
 fn change(alloc: Global, form: &str, objects: u32, changes: u32) -> Option<()> {
     let mut store = empty_store(alloc, NODES)?;
-    fill(alloc, &mut store, objects)?;
+    fill(&mut store, objects)?;
     match form {
-        "link" => link(alloc, &mut store, changes),
-        name => append(alloc, &mut store, name, changes),
+        "link" => link(&mut store, changes),
+        name => append(&mut store, name, changes),
     }
 }
 

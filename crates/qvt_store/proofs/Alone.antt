@@ -1,4 +1,4 @@
--- A value put last in a slot whose changes touch no other.
+-- Values put last in a slot whose changes touch no other.
 use Rattle.std.proofs.Common.{◌≡◌, ℕ, Bool, true, false, ◌&&◌, not, cond, refl, sym, ap, ◌∙◌, List, [], ◌∷◌, ◌++◌, length}
 use Rattle.std.specs.Prelude.{Ok, Err, Option, Some, None}
 use Rattle.std.specs.List.{list_any}
@@ -16,7 +16,7 @@ use Rattle.qvt_slots.specs.Change.{objects_beyond, among, is_some_feature, is_li
 use Rattle.qvt_slots.specs.Contents.{Contents, extent_of, is_model, is_writable, slot_in, slot_of}
 use Rattle.qvt_slots.specs.Types.{IsAssignable}
 use Rattle.qvt_slots.specs.Repeats.{new_list}
-use Rattle.qvt_slots.specs.Assign.{is_beyond, crosses, change_to, store_after, append}
+use Rattle.qvt_slots.specs.Assign.{is_beyond, crosses, change_to, store_after, assign}
 use Rattle.qvt_slots.specs.Cells.{instances, contents_of, holder_at, holder_in, AreWhole, IsKept, IsPut}
 use Rattle.qvt_slots.specs.Walk.{ClosesCycle, by_items, by_end}
 use Rattle.qvt_slots.specs.Writes.{or_else, IsSettled}
@@ -39,10 +39,13 @@ no_opposite m p alone = go (opposite m p) refl
 pub no_containment : (m : Metamodels) (p : ℕ) → is_linked m p ≡ false → is_containment m p ≡ false
 no_containment m p alone = none_left (is_containment m p) (is_some_feature (opposite m p)) alone
 
-module _ (s : Contents) (o : Oid) (p : FeatureNo) (v : Value) (known : IsKnown s) (can : IsAssignable s o.0 p.0 (v ∷ [])) (alone : is_linked s.metas p.0 ≡ false)
-    (last : new_list s.metas p.0 (slot_of s o.0 p.0 ++ v ∷ []) ≡ slot_of s o.0 p.0 ++ v ∷ []) where
+module _ (s : Contents) (o : Oid) (p : FeatureNo) (given fresh : List Value) (known : IsKnown s) (can : IsAssignable s o.0 p.0 given) (alone : is_linked s.metas p.0 ≡ false)
+    (last : new_list s.metas p.0 (slot_of s o.0 p.0 ++ given) ≡ slot_of s o.0 p.0 ++ fresh) where
   abbrev items : List Value
-  items = slot_of s o.0 p.0 ++ v ∷ []
+  items = slot_of s o.0 p.0 ++ fresh
+
+  abbrev whole : List Value
+  whole = slot_of s o.0 p.0 ++ given
 
   abbrev pub lone : Draft
   lone = record { object = o; feature = p; added = objects_beyond (slot_of s o.0 p.0) items; removed = objects_beyond items (slot_of s o.0 p.0) }
@@ -64,33 +67,33 @@ module _ (s : Contents) (o : Oid) (p : FeatureNo) (v : Value) (known : IsKnown s
   allowed : (n : ℕ) → is_beyond n (shape_of s.metas p.0).upper ≡ false → is_writable s o.0 ≡ true → IsAllowed s (drafted s lone) n
   allowed n few writable = record { few = few_of n few; acyclic = acyclic; writable = ap not writable }
 
-  all : IsAssignable s o.0 p.0 items
-  all = list_assignable s o.0 p.0 v known can
+  all : IsAssignable s o.0 p.0 whole
+  all = list_assignable s o.0 p.0 given known can
 
-  pub too_many : (n : ℕ) → n ≡ length items → is_beyond n (shape_of s.metas p.0).upper ≡ true → append s o.0 p.0 v ≡ Err TooMany
-  too_many n e h = early s o p items items lone.added lone.removed known all (sym last) refl refl TooMany n e (or_left _ _ h) (λ q. cc)
+  pub too_many : (n : ℕ) → n ≡ length items → is_beyond n (shape_of s.metas p.0).upper ≡ true → assign s o.0 p.0 whole ≡ Err TooMany
+  too_many n e h = early s o p whole items lone.added lone.removed known all (sym last) refl refl TooMany n e (or_left _ _ h) (λ q. cc)
 
-  pub read_only : (n : ℕ) → n ≡ length items → is_beyond n (shape_of s.metas p.0).upper ≡ false → is_writable s o.0 ≡ false → append s o.0 p.0 v ≡ Err ReadOnly
-  read_only n e few h = early s o p items items lone.added lone.removed known all (sym last) refl refl ReadOnly n e (record { few = few_of n few; acyclic = acyclic; read_only = not_of_false _ h }) (λ q. cc)
+  pub read_only : (n : ℕ) → n ≡ length items → is_beyond n (shape_of s.metas p.0).upper ≡ false → is_writable s o.0 ≡ false → assign s o.0 p.0 whole ≡ Err ReadOnly
+  read_only n e few h = early s o p whole items lone.added lone.removed known all (sym last) refl refl ReadOnly n e (record { few = few_of n few; acyclic = acyclic; read_only = not_of_false _ h }) (λ q. cc)
 
-  pub crossing : (n : ℕ) → n ≡ length items → is_beyond n (shape_of s.metas p.0).upper ≡ false → is_writable s o.0 ≡ true → crosses s o.0 items ≡ true → append s o.0 p.0 v ≡ Err CrossModel
-  crossing n e few writable h = cross s o p items items lone.added lone.removed known all (sym last) refl refl n e (allowed n few writable) h
+  pub crossing : (n : ℕ) → n ≡ length items → is_beyond n (shape_of s.metas p.0).upper ≡ false → is_writable s o.0 ≡ true → crosses s o.0 items ≡ true → assign s o.0 p.0 whole ≡ Err CrossModel
+  crossing n e few writable h = cross s o p whole items lone.added lone.removed known all (sym last) refl refl n e (allowed n few writable) h
 
   pub appended : (n : ℕ) → n ≡ length items → is_beyond n (shape_of s.metas p.0).upper ≡ false → is_writable s o.0 ≡ true → crosses s o.0 items ≡ false →
-      append s o.0 p.0 v ≡ Ok (store_after s (change_to s o.0 p.0 items))
-  appended n e few writable own = done s o p items items lone.added lone.removed known all (sym last) refl refl n e (allowed n few writable) own
+      assign s o.0 p.0 whole ≡ Ok (store_after s (change_to s o.0 p.0 items))
+  appended n e few writable own = done s o p whole items lone.added lone.removed known all (sym last) refl refl n e (allowed n few writable) own
 
   plan : IsPlan s (drafted s lone) []
   plan = record {
     right = All-nil (IsRight s (drafted s lone));
-    others = λ x f slot away listed. alone_stay (drafted s lone) known.well_formed (no_opposite s.metas p.0 alone) (no_containment s.metas p.0 alone) (sym (removes_none (slot_of s o.0 p.0) v)) x f;
+    others = λ x f slot away listed. alone_stay (drafted s lone) known.well_formed (no_opposite s.metas p.0 alone) (no_containment s.metas p.0 alone) (sym (removes_none (slot_of s o.0 p.0) fresh)) x f;
   }
 
   none_released : (b : Bool) → b ≡ false → ◌≡◌ {A = List Oid} [] (cond b lone.removed [] ++ [])
   none_released b e = ap (λ c. cond c lone.removed [] ++ []) (sym e)
 
   pub ready_alone : is_beyond (length items) (shape_of s.metas p.0).upper ≡ false → is_writable s o.0 ≡ true → crosses s o.0 items ≡ false → Ready s lone items [] []
-  ready_alone few writable own = ready s o p items items lone.added lone.removed known all (sym last) refl refl (length items) refl (allowed (length items) few writable) own [] [] plan
+  ready_alone few writable own = ready s o p whole items lone.added lone.removed known all (sym last) refl refl (length items) refl (allowed (length items) few writable) own [] [] plan
       (none_released (is_containment s.metas p.0) (no_containment s.metas p.0 alone))
 
 -- a slot that is put alone settles
@@ -101,20 +104,20 @@ settled m d old mid o p vs plain put = record {
   holders = λ z. sym (ap (λ b. or_else (cond (b && among d.added z) (Some (holder_in d.object.0 d.feature.0)) None) (holder_at mid z)) plain);
 }
 
--- the cells with the value put last are a store, which is the one after the change
-module _ (m : Metamodels) (extents : List Extent) (old mid : List Cell) (o : Oid) (p : FeatureNo) (v : Value) (store : AreWhole m old)
-    (is : IsLone (contents_of m extents old) o.0 p.0 v) (put : IsPut m old mid o.0 p.0 (slot_in m (instances old) o.0 p.0 ++ v ∷ [])) where
+-- the cells with the values put last are a store, which is the one after the change
+module _ (m : Metamodels) (extents : List Extent) (old mid : List Cell) (o : Oid) (p : FeatureNo) (fresh : List Value) (store : AreWhole m old)
+    (is : IsLone (contents_of m extents old) o.0 p.0 fresh) (put : IsPut m old mid o.0 p.0 (slot_in m (instances old) o.0 p.0 ++ fresh)) where
   abbrev s : Contents
   s = contents_of m extents old
 
   abbrev list : List Value
-  list = slot_of s o.0 p.0 ++ v ∷ []
+  list = slot_of s o.0 p.0 ++ fresh
 
   abbrev d : Draft
-  d = lone s o p v is.known is.can is.alone is.last
+  d = lone s o p is.given fresh is.known is.can is.alone is.last
 
   is_ready : Ready s d list [] []
-  is_ready = ready_alone s o p v is.known is.can is.alone is.last is.few is.writable is.own
+  is_ready = ready_alone s o p is.given fresh is.known is.can is.alone is.last is.few is.writable is.own
 
   is_done : IsSettled m d mid mid [] []
   is_done = settled m d old mid o.0 p.0 list (no_containment m p.0 is.alone) put

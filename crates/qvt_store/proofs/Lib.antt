@@ -7,6 +7,7 @@ pub mod Own
 pub mod Alone
 pub mod SoundKept
 pub mod SoundGrown
+pub mod Stays
 pub mod Plans
 pub mod Cycles
 pub mod Untouched
@@ -18,3 +19,4 @@ pub mod Assigning
 pub mod Placed
 pub mod Appending
 pub mod SameCells
+pub mod ReadOnly

@@ -42,6 +42,18 @@ pub any-push : (t : Value → Bool) (vs : List Value) (v : Value) → list_any t
 any-push t [] v = or_false (t v)
 any-push t (w ∷ vs) v = elim (t w) as (λ b. (b || list_any t (vs ++ v ∷ [])) ≡ ((b || list_any t vs) || t v)) [ true ↦ refl | false ↦ any-push t vs v ]
 
+pub any-append : (t : Value → Bool) (vs us : List Value) → list_any t (vs ++ us) ≡ (list_any t vs || list_any t us)
+any-append t [] us = refl
+any-append t (w ∷ vs) us = elim (t w) as (λ b. (b || list_any t (vs ++ us)) ≡ ((b || list_any t vs) || list_any t us)) [ true ↦ refl | false ↦ any-append t vs us ]
+
+-- of a list with values last only these are looked at
+pub crosses-more : (s : Contents) (o p : ℕ) (us : List Value) → HoldOwn s → crosses s o (slot_of s o p ++ us) ≡ crosses s o us
+crosses-more s o p us own = go (is_model s (extent_of s o)) refl
+  where
+    go : (b : Bool) → is_model s (extent_of s o) ≡ b → (b && list_any (is_elsewhere s o) (slot_of s o p ++ us)) ≡ (b && list_any (is_elsewhere s o) us)
+    go false e = refl
+    go true e = any-append (is_elsewhere s o) (slot_of s o p) us ∙ ap (λ b. b || list_any (is_elsewhere s o) us) (nowhere s o (slot_of s o p) (λ y h. own.own o p y e h))
+
 -- of a list with a value last only the value is looked at
 pub crosses-last : (s : Contents) (o p : ℕ) (v : Value) → HoldOwn s → crosses s o (slot_of s o p ++ v ∷ []) ≡ (is_model s (extent_of s o) && is_elsewhere s o v)
 crosses-last s o p v own = go (is_model s (extent_of s o)) refl

@@ -147,7 +147,7 @@ add_keeps_loading s c e own kept' = grown_kept s c e own kept'
 pub add_keeps_sound : AddKeepsSound
 add_keeps_sound s c e own sound = load_ends (with_new s c e) (grown_kept s c e own (load_begins s sound)) (subst (OppositesAgree s.metas) (sym (objects.slots-new s c e)) sound.opposites)
 
-module _ (s : Contents) (o p : ℕ) (vs : List Value) (can : IsPlaceable s o p vs) (fits : IsSoundList s o p vs) (kept' : SoundButOpposites s) where
+module _ (s : Contents) (o p : ℕ) (vs : List Value) (can : IsPlaceable s o p vs) (plain : All IsPlain vs) (fits : IsSoundList s o p vs) (kept' : SoundButOpposites s) where
   abbrev placed : Contents
   placed = with_slot s o p vs
 
@@ -221,7 +221,7 @@ module _ (s : Contents) (o p : ℕ) (vs : List Value) (can : IsPlaceable s o p v
           (all_kept s placed refl (λ y live. (live-same y ∙ live, sym (class-same y))) f (with_list (slot_of s) o p vs x f)
           (each_put (λ _ g l. list_all (is_of_type s g) l ≡ true) (slot_of s) o p vs can.assignable.types kept'.typed.types x f));
     };
-    plain = λ x f. subst (λ (l : List Value). All IsPlain l) (sym (slots x f)) (each_put (λ _ _ l. All IsPlain l) (slot_of s) o p vs fits.plain kept'.plain x f);
+    plain = λ x f. subst (λ (l : List Value). All IsPlain l) (sym (slots x f)) (each_put (λ _ _ l. All IsPlain l) (slot_of s) o p vs plain kept'.plain x f);
     bounds = λ x f. ap (λ (l : List Value). is_beyond (length l) (shape_of s.metas f).upper) (slots x f)
         ∙ each_put (λ _ g l. is_beyond (length l) (shape_of s.metas g).upper ≡ false) (slot_of s) o p vs fits.bound kept'.bounds x f;
     unique = record {
@@ -234,4 +234,4 @@ module _ (s : Contents) (o p : ℕ) (vs : List Value) (can : IsPlaceable s o p v
   }
 
 pub place_keeps_loading : PlaceKeepsLoading
-place_keeps_loading s o p vs can fits kept' = placed_kept s o p vs can fits kept'
+place_keeps_loading s o p vs can plain fits kept' = placed_kept s o p vs can plain fits kept'

@@ -4,7 +4,7 @@ use Rattle.std.specs.Prelude.{Option, Some, None, Ok, filter, All}
 use Rattle.std.specs.List.{list_any, list_all}
 use Rattle.std.proofs.lemmas.Bool.{ltb-true}
 use Rattle.std.proofs.lemmas.Bool.Decides.{Decides-eqb}
-use Rattle.std.proofs.lemmas.List.Elements.{All-filter, All-head, All-tail, All-nil, All-cons, All-push}
+use Rattle.std.proofs.lemmas.List.Elements.{All-filter, All-head, All-tail, All-nil, All-cons, All-push, All-append}
 use Rattle.qvt_base.specs.declared.numbers.FeatureNo.{FeatureNo}
 use Rattle.qvt_base.specs.declared.numbers.Oid.{Oid}
 use Rattle.qvt_value.specs.declared.value.Value.{Value}
@@ -14,14 +14,15 @@ use Rattle.qvt_metamodel.specs.WellFormed.{IsWellFormed}
 use Rattle.qvt_relation.proofs.Bools.{and_left, and_right, and_both, or_cases, none_left, none_right, either, clash}
 use Rattle.qvt_slots.specs.declared.fault.StoreFault.{StoreFault}
 use Rattle.qvt_slots.specs.declared.fault.StoreFault.TheVariants.{TooMany, ContainmentCycle, ReadOnly, CrossModel}
+use Rattle.qvt_slots.specs.declared.op.SetOp.TheVariants.{Put, Add}
 use Rattle.qvt_slots.specs.Slots.{Slots, has, OppositesAgree, OneContainer, Inside}
 use Rattle.qvt_slots.specs.Change.{Change, object_value, is_here, among, gains, keeps, with_object, with_end, slot_after}
 use Rattle.qvt_slots.specs.Contents.{Contents, AreNamed, class_of, extent_of, extent_at, is_extent, is_live, is_model, is_named, slot_of}
-use Rattle.qvt_slots.specs.Types.{is_of_type, AreTyped, IsPlain}
+use Rattle.qvt_slots.specs.Types.{is_of_type, AreTyped, IsPlain, IsAssignable}
 use Rattle.qvt_slots.specs.Repeats.{repeats, same_value, without_repeats, new_list, AreUnique}
-use Rattle.qvt_slots.specs.Assign.{change_to, change_of, is_beyond, is_overfull, overfills_end, is_too_many, is_cyclic, is_read_only, crosses, refusal_of, store_after, ok_unless}
+use Rattle.qvt_slots.specs.Assign.{change_to, change_of, is_beyond, is_overfull, overfills_end, is_too_many, is_cyclic, is_read_only, crosses, refusal_of, store_after, ok_unless, assign}
 use Rattle.qvt_store.specs.Law.{IsMade, FitsSingle}
-use Rattle.qvt_store.specs.Sound.{IsClassFor, Sound, AssignKeepsSound, AppendKeepsSound}
+use Rattle.qvt_store.specs.Sound.{IsClassFor, Sound, AssignKeepsSound, AppendKeepsSound, WriteKeepsSound}
 use Rattle.qvt_store.proofs.Opposites.{here, keeps_opposites}
 use Rattle.qvt_store.proofs.Containers.{keeps_one_container}
 use Rattle.qvt_store.proofs.Own.{own_after}
@@ -46,6 +47,10 @@ accepted (Some fault) s s' e = cc
 pub all-push : (test : Value → Bool) (vs : List Value) (v : Value) → list_all test vs ≡ true → test v ≡ true → list_all test (vs ++ v ∷ []) ≡ true
 all-push test [] v all t = and_both _ _ t refl
 all-push test (w ∷ vs) v all t = and_both _ _ (and_left _ _ all) (all-push test vs v (and_right (test w) _ all) t)
+
+pub all-append : (test : Value → Bool) (vs us : List Value) → list_all test vs ≡ true → list_all test us ≡ true → list_all test (vs ++ us) ≡ true
+all-append test [] us all more = more
+all-append test (w ∷ vs) us all more = and_both _ _ (and_left _ _ all) (all-append test vs us (and_right (test w) _ all) more)
 
 -- a fact of the list of an opposite slot that gets the changed object
 end_list : (c : Change) (f : ℕ) (P : List Value → Type 0) (vs : List Value) → P (object_value c.object ∷ []) → P (with_object c.object vs) → P (with_end c f vs)
@@ -223,13 +228,21 @@ module _ (s : Contents) (o p : ℕ) (ws : List Value) (well : IsWellFormed s.met
         ∙ sym (extent-after s o p ws well fit x);
   }
 
-pub assign_keeps_sound : AssignKeepsSound
-assign_keeps_sound s s' o p vs well named can plain sound e =
+-- what is put in the slot is plain
+pub list_keeps_sound : (s s' : Contents) (o p : ℕ) (vs : List Value) → IsWellFormed s.metas → AreNamed s.metas s.extents → IsAssignable s o p vs → All IsPlain (new_list s.metas p vs) → Sound s → assign s o p vs ≡ Ok s' → Sound s'
+list_keeps_sound s s' o p vs well named can plain sound e =
     let r : (refusal_of s (change_of s o p vs) ≡ None) × (store_after s (change_of s o p vs) ≡ s') = accepted (refusal_of s (change_of s o p vs)) (store_after s (change_of s o p vs)) s' e in
-    subst Sound r.1 (keeps_sound s o p (new_list s.metas p vs) well named (fit_of s o p vs can) (plain-new_list s.metas p vs plain) (new_no_repeats s.metas p vs) sound r.0)
+    subst Sound r.1 (keeps_sound s o p (new_list s.metas p vs) well named (fit_of s o p vs can) plain (new_no_repeats s.metas p vs) sound r.0)
+
+pub assign_keeps_sound : AssignKeepsSound
+assign_keeps_sound s s' o p vs well named can plain sound e = list_keeps_sound s s' o p vs well named can (plain-new_list s.metas p vs plain) sound e
+
+pub write_keeps_sound : WriteKeepsSound
+write_keeps_sound s s' o p Put vs well named can plain sound e = assign_keeps_sound s s' o p vs well named can plain sound e
+write_keeps_sound s s' o p Add vs well named can plain sound e =
+    assign_keeps_sound s s' o p (slot_of s o p ++ vs) well named
+    (record { live = can.live; feature = can.feature; types = all-append (is_of_type s p) (slot_of s o p) vs (sound.typed.types o p) can.types })
+    (All-append IsPlain (slot_of s o p) vs (sound.plain o p) plain) sound e
 
 pub append_keeps_sound : AppendKeepsSound
-append_keeps_sound s s' o p v well named can plain sound e =
-    assign_keeps_sound s s' o p (slot_of s o p ++ v ∷ []) well named
-    (record { live = can.live; feature = can.feature; types = all-push (is_of_type s p) (slot_of s o p) v (sound.typed.types o p) (and_left _ _ can.types) })
-    (All-push IsPlain (slot_of s o p) v (sound.plain o p) (All-head IsPlain v [] plain)) sound e
+append_keeps_sound s s' o p v well named can plain sound e = write_keeps_sound s s' o p Add (v ∷ []) well named can plain sound e

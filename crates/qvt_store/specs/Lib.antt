@@ -11,3 +11,4 @@ pub mod Law
 pub mod Draft
 pub mod Plan
 pub mod Ready
+pub mod Stay

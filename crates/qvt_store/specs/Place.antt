@@ -4,16 +4,15 @@ use Rattle.qvt_value.specs.declared.value.Value.{Value}
 use Rattle.qvt_metamodel.specs.Metamodels.{Metamodels, shape_of, is_containment}
 use Rattle.qvt_slots.specs.Slots.{has, Inside}
 use Rattle.qvt_slots.specs.Contents.{Contents, slot_of}
-use Rattle.qvt_slots.specs.Types.{is_class_type, IsAssignable}
+use Rattle.qvt_slots.specs.Types.{IsAssignable}
 use Rattle.qvt_slots.specs.Repeats.{repeats}
 use Rattle.qvt_slots.specs.Cells.{with_list}
 
--- slot (o, p) is there and empty, and the values are of its type; where p is a containment no object stands twice, none stands
--- in a containment slot already, and no object would be inside itself
+-- slot (o, p) is there and empty, and the values are of its type; where p is a containment no object stands in a containment slot
+-- already, and none would be inside itself
 pub record IsPlaceable (s : Contents) (o p : ℕ) (vs : List Value) : Type 0 where
   pub assignable : IsAssignable s o p vs
   pub empty : slot_of s o p ≡ []
-  pub once : IsTrue (is_containment s.metas p) → IsTrue (is_class_type (shape_of s.metas p).kind) → IsFalse (repeats vs)
   pub free : IsTrue (is_containment s.metas p) → (x f y : ℕ) → IsTrue (is_containment s.metas f) → IsTrue (has vs y) → IsFalse (has (slot_of s x f) y)
   pub acyclic : IsTrue (is_containment s.metas p) → (x : ℕ) → Inside s.metas (with_list (slot_of s) o p vs) x x → ⊥
 

@@ -1,6 +1,6 @@
 -- What is known before a change is carried out.
-use Rattle.std.specs.Prelude.{◌≡◌, ℕ, List, [], ◌∷◌, ◌++◌, length, IsTrue, IsFalse}
-use Rattle.std.specs.List.{list_all}
+use Rattle.std.specs.Prelude.{◌≡◌, ℕ, Bool, not, List, ◌++◌, length, IsTrue, IsFalse}
+use Rattle.std.specs.List.{list_all, list_any}
 use Rattle.qvt_base.specs.declared.numbers.Oid.{Oid}
 use Rattle.qvt_value.specs.declared.value.Value.{Value}
 use Rattle.qvt_metamodel.specs.Metamodels.{shape_of}
@@ -11,7 +11,7 @@ use Rattle.qvt_slots.specs.Contents.{Contents, is_slot, is_writable, slot_of}
 use Rattle.qvt_slots.specs.Types.{is_of_type, AreTyped, IsAssignable}
 use Rattle.qvt_slots.specs.Slots.{Inside}
 use Rattle.qvt_metamodel.specs.WellFormed.{IsWellFormed}
-use Rattle.qvt_slots.specs.Repeats.{repeats, new_list}
+use Rattle.qvt_slots.specs.Repeats.{repeats, same_value, new_list}
 use Rattle.qvt_slots.specs.Assign.{is_beyond, crosses, change_to, store_after}
 use Rattle.qvt_store.specs.Law.{FitsSingle}
 use Rattle.qvt_store.specs.Draft.{drafted, IsDraft}
@@ -34,6 +34,10 @@ pub record Ready (s : Contents) (d : Draft) (items : List Value) (ws : List Writ
   pub plan : IsPlan s (drafted s d) ws
   pub is_released : released ≡ released_of s.metas (slot_of s) d ws
 
+-- no value of the list equals this one
+abbrev pub is_absent : List Value → Value → Bool
+is_absent vs v = not (list_any (λ w. same_value w v) vs)
+
 -- what every store keeps, and a change relies on
 pub record IsKnown (s : Contents) : Type 0 where
   pub well_formed : IsWellFormed s.metas
@@ -42,15 +46,16 @@ pub record IsKnown (s : Contents) : Type 0 where
   -- a change that leaves each slot as it is leaves the store
   pub told : (c : Change) → c.metas ≡ s.metas → ((x f : ℕ) → slot_of s x f ≡ slot_after c x f) → store_after s c ≡ s
 
--- value v can be put last in slot (o, p), whose changes touch no other slot
-pub record IsLone (s : Contents) (o p : ℕ) (v : Value) : Type 0 where
+-- what is new of the given values can be put last in slot (o, p), whose changes touch no other slot
+pub record IsLone (s : Contents) (o p : ℕ) (fresh : List Value) : Type 0 where
   pub known : IsKnown s
-  pub can : IsAssignable s o p (v ∷ [])
+  pub given : List Value
+  pub can : IsAssignable s o p given
   pub alone : IsFalse (is_linked s.metas p)
-  pub last : new_list s.metas p (slot_of s o p ++ v ∷ []) ≡ slot_of s o p ++ v ∷ []
-  pub few : IsFalse (is_beyond (length (slot_of s o p ++ v ∷ [])) (shape_of s.metas p).upper)
+  pub last : new_list s.metas p (slot_of s o p ++ given) ≡ slot_of s o p ++ fresh
+  pub few : IsFalse (is_beyond (length (slot_of s o p ++ fresh)) (shape_of s.metas p).upper)
   pub writable : IsTrue (is_writable s o)
-  pub own : IsFalse (crosses s o (slot_of s o p ++ v ∷ []))
+  pub own : IsFalse (crosses s o (slot_of s o p ++ fresh))
 
 -- the slots other than the changed one stay
 pub record StaysElsewhere (c : Change) : Type 0 where

@@ -4,12 +4,13 @@ use Rattle.qvt_value.specs.declared.value.Value.{Value}
 use Rattle.qvt_metamodel.specs.Metamodels.{Metamodels, class_at, features_of, shape_of}
 use Rattle.qvt_metamodel.specs.WellFormed.{IsWellFormed}
 use Rattle.qvt_slots.specs.declared.extent.Extent.{Extent}
+use Rattle.qvt_slots.specs.declared.op.SetOp.{SetOp}
 use Rattle.qvt_slots.specs.Slots.{has, OppositesAgree, OneContainer, Inside}
 use Rattle.qvt_slots.specs.Contents.{Contents, AreNamed, object_at, class_of, extent_of, extent_at, is_extent, is_live, is_model, is_slot, slot_of, with_new, with_slot}
 use Rattle.qvt_slots.specs.Types.{AreTyped, IsPlain, IsAssignable}
 use Rattle.qvt_slots.specs.Repeats.{AreUnique, repeats}
 use Rattle.qvt_store.specs.Place.{IsPlaceable}
-use Rattle.qvt_slots.specs.Assign.{is_beyond, crosses, assign, append}
+use Rattle.qvt_slots.specs.Assign.{is_beyond, crosses, assign, append, write}
 
 -- class c is concrete and of the metamodel of extent e, and both are there
 pub record IsClassFor (s : Contents) (c e : ℕ) : Type 0 where
@@ -49,9 +50,8 @@ pub record SoundButOpposites (s : Contents) : Type 0 where
   pub outside_itself : (x : ℕ) → Inside s.metas (slot_of s) x x → ⊥
   pub own_objects : (x f y : ℕ) → IsTrue (is_model s (extent_of s x)) → IsTrue (has (slot_of s x f) y) → extent_of s y ≡ extent_of s x
 
--- a list that a sound store may hold in slot (o, p)
+-- a list that a sound store may hold in slot (o, p), if its values are plain
 pub record IsSoundList (s : Contents) (o p : ℕ) (vs : List Value) : Type 0 where
-  pub plain : All IsPlain vs
   pub bound : IsFalse (is_beyond (length vs) (shape_of s.metas p).upper)
   pub unique : IsTrue (shape_of s.metas p).unique → IsFalse (repeats vs)
   pub own_objects : IsFalse (crosses s o vs)
@@ -74,6 +74,11 @@ abbrev pub AppendKeepsSound : Type 0
 AppendKeepsSound = (s s' : Contents) (o p : ℕ) (v : Value) → IsWellFormed s.metas → AreNamed s.metas s.extents → IsAssignable s o p (v ∷ []) → All IsPlain (v ∷ []) →
     Sound s → append s o p v ≡ Ok s' → Sound s'
 
+-- and every write
+abbrev pub WriteKeepsSound : Type 0
+WriteKeepsSound = (s s' : Contents) (o p : ℕ) (op : SetOp) (vs : List Value) → IsWellFormed s.metas → AreNamed s.metas s.extents → IsAssignable s o p vs → All IsPlain vs →
+    Sound s → write s o p op vs ≡ Ok s' → Sound s'
+
 -- Loading begins with a sound store, and ends with one where the opposite slots agree again. Each step between keeps all else.
 abbrev pub LoadBegins : Type 0
 LoadBegins = (s : Contents) → Sound s → SoundButOpposites s
@@ -82,7 +87,7 @@ abbrev pub AddKeepsLoading : Type 0
 AddKeepsLoading = (s : Contents) (c e : ℕ) → IsClassFor s c e → SoundButOpposites s → SoundButOpposites (with_new s c e)
 
 abbrev pub PlaceKeepsLoading : Type 0
-PlaceKeepsLoading = (s : Contents) (o p : ℕ) (vs : List Value) → IsPlaceable s o p vs → IsSoundList s o p vs → SoundButOpposites s → SoundButOpposites (with_slot s o p vs)
+PlaceKeepsLoading = (s : Contents) (o p : ℕ) (vs : List Value) → IsPlaceable s o p vs → All IsPlain vs → IsSoundList s o p vs → SoundButOpposites s → SoundButOpposites (with_slot s o p vs)
 
 abbrev pub LoadEnds : Type 0
 LoadEnds = (s : Contents) → SoundButOpposites s → OppositesAgree s.metas (slot_of s) → Sound s

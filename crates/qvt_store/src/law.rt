@@ -1,7 +1,8 @@
 //! Laws of the definitions, each on a function that does nothing.
 
 ghost use Rattle.qvt_store.specs.Law.{KeepsOpposites, KeepsOneContainer};
-ghost use Rattle.qvt_store.specs.Sound.{NewIsSound, AddKeepsSound, AssignKeepsSound, AppendKeepsSound, LoadBegins, AddKeepsLoading, PlaceKeepsLoading, LoadEnds};
+ghost use Rattle.qvt_store.specs.Sound.{NewIsSound, AddKeepsSound, AssignKeepsSound, AppendKeepsSound, WriteKeepsSound, LoadBegins, AddKeepsLoading, PlaceKeepsLoading, LoadEnds};
+ghost use Rattle.qvt_store.specs.Stay.{StaysIsReflexive, StaysIsTransitive, AddStays, AssignStays, AppendStays, WriteStays, ReadOnlyStays};
 
 /// A change keeps that opposite slots agree.
 pub fn change_keeps_opposites()
@@ -33,6 +34,11 @@ pub fn append_keeps_sound()
     ensures { AppendKeepsSound }
 {}
 
+/// A write that is not refused keeps a store sound.
+pub fn write_keeps_sound()
+    ensures { WriteKeepsSound }
+{}
+
 /// A sound store can be loaded into: while it is loaded, opposite slots may disagree.
 pub fn load_begins()
     ensures { LoadBegins }
@@ -52,4 +58,39 @@ pub fn place_keeps_loading()
 /// A store that is loaded is sound where opposite slots agree again.
 pub fn load_ends()
     ensures { LoadEnds }
+{}
+
+/// A store says of its objects what it says.
+pub fn stays_is_reflexive()
+    ensures { StaysIsReflexive }
+{}
+
+/// What stays through a first step and through a second one stays through both.
+pub fn stays_is_transitive()
+    ensures { StaysIsTransitive }
+{}
+
+/// What an object that is added leaves.
+pub fn add_stays()
+    ensures { AddStays }
+{}
+
+/// What an assignment leaves that is not refused.
+pub fn assign_stays()
+    ensures { AssignStays }
+{}
+
+/// What an append leaves that is not refused.
+pub fn append_stays()
+    ensures { AppendStays }
+{}
+
+/// What a write leaves that is not refused.
+pub fn write_stays()
+    ensures { WriteStays }
+{}
+
+/// A write to a sound store leaves the objects of the extents that are not writable as they are.
+pub fn read_only_stays()
+    ensures { ReadOnlyStays }
 {}

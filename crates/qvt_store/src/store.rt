@@ -1,20 +1,22 @@
 ghost use Rattle.std.specs.Prelude.{◌≡◌, ◌<◌, ◌≤◌, [], length, IsTrue, IfOk, IfErr, OnOk, OnErr, IfSome, ℕ};
-ghost use Rattle.qvt_slots.specs.Slots.{Contains, Inside, has};
-ghost use Rattle.qvt_slots.specs.Types.{AreTyped};
+ghost use Rattle.qvt_slots.specs.Slots.{Contains, has};
 ghost use Rattle.qvt_slots.specs.Cells.{holder_in};
 ghost use Rattle.qvt_metamodel.specs.Metamodels.{has_feature, is_containment};
 ghost use Rattle.qvt_slots.specs.Contents.{AreNamed, is_live, is_extent, class_of, extent_of, slot_of, members_of, with_new};
 ghost use Rattle.qvt_slots.specs.Members.{AreEmpty};
 ghost use Rattle.qvt_store.specs.Fault.{IsAddFault};
-ghost use Rattle.qvt_store.specs.Sound.{IsClassFor};
+ghost use Rattle.qvt_store.specs.Sound.{IsClassFor, Sound};
+ghost use Rattle.qvt_store.specs.Stay.{IsStore, StaysIn};
 
 mod append;
 mod assign;
 mod change;
 mod check;
+mod extend;
 mod place;
 mod plan;
 
+use crate::law::{add_keeps_sound, add_stays, new_is_sound, stays_is_reflexive};
 use qvt_base::copied::Copied;
 use qvt_base::list_fault::ListFault;
 use qvt_base::lists::OidList;
@@ -33,6 +35,7 @@ use std::marker::Model;
 /// Objects of numbered extents with their slots. Objects are numbered from 0 in the order in which
 /// they are added.
 pub struct Store {
+    alloc: Global,
     metas: Metas,
     extents: ExtentList,
     cells: Vec<Cell>,
@@ -43,6 +46,7 @@ pub struct Store {
 impl Drop for Store {
     fn drop(self) {
         let Store {
+            alloc,
             metas,
             extents,
             cells,
@@ -73,13 +77,16 @@ impl Store {
     pub fn new(alloc: Global, metas: &Metas, extents: &ExtentList) -> Result<Store, StoreFault>
         requires { AreNamed metas.now extents.now }
         ensures ok { IfOk result (λ store. store ≡ record { metas = metas.now; extents = extents.now; objects = [] }) }
+        ensures sound { IfOk result Sound }
         ensures err { IfErr result (λ fault. fault ≡ StoreFault.NoMemory) }
     {
+        new_is_sound();
         let metas = metas.copy(alloc)?;
         let _count = metas.class_count();
         let extents = extents.copy(alloc)?;
         let members = empty_lists(alloc, extents.as_slice())?;
         Ok(Store {
+            alloc,
             metas,
             extents,
             cells: Vec::new(alloc),
@@ -104,15 +111,18 @@ impl Store {
         &self.metas
     }
 
-    /// What the store was made with. An extent has a name exactly where its metamodel has one. What
-    /// a slot holds is there and of the slot's type, and no object is inside itself.
+    /// What the store was made with.
     pub fn extents(&self) -> &ExtentList
-        ensures lent { result.now ≡ self.now.extents }
-        ensures named { AreNamed self.now.metas self.now.extents }
-        ensures typed { AreTyped self.now }
-        ensures outside_itself { (x : ℕ) → Inside self.now.metas (slot_of self.now) x x → ⊥ }
+        ensures { result.now ≡ self.now.extents }
     {
         &self.extents
+    }
+
+    /// A law: what every store keeps. It tells the fact and does nothing.
+    pub fn is_whole(&self)
+        ensures { IsStore self.now }
+    {
+        let _ = &self.metas;
     }
 
     pub fn class_of(&self, object: Oid) -> ClassNo
@@ -189,25 +199,25 @@ impl Store {
 
     /// Adds an object with empty slots, of a concrete class of the extent's metamodel. A refused
     /// call changes nothing.
-    pub fn add_object(
-        &mut self,
-        alloc: Global,
-        class: ClassNo,
-        extent: u32,
-    ) -> Result<Oid, StoreFault>
+    pub fn add_object(&mut self, class: ClassNo, extent: u32) -> Result<Oid, StoreFault>
         requires { IsClassFor self.old class.0 extent }
         ensures number { IfOk result (λ object. object.0 ≡ length self.old.objects) }
         ensures ok { OnOk result (self.new ≡ with_new self.old class.0 extent) }
         ensures room { OnOk result (length self.old.objects < 1000000) }
         ensures refused { IfErr result (λ fault. IsAddFault (length self.old.objects) fault) }
         ensures err { OnErr result (self.new ≡ self.old) }
+        ensures stays { StaysIn self.old self.new }
+        ensures sound { Sound self.old → Sound self.new }
     {
+        stays_is_reflexive();
+        add_stays();
+        add_keeps_sound();
         let count = self.cells.len();
         if count >= 1_000_000 {
             return Err(StoreFault::TooManyObjects);
         }
         let object = Oid(count as u32);
-        let slots = empty_slots(alloc, self.metas.features(class))?;
+        let slots = empty_slots(self.alloc, self.metas.features(class))?;
         let cell = Cell {
             class,
             extent,

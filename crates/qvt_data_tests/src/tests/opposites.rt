@@ -40,6 +40,41 @@ fn a_child_leaves_its_former_container(rt: HostRuntime) -> Result<(), Fail> {
     )
 }
 
+/// Values put last at once are one change with one refusal, and in a unique slot stand once.
+#[test]
+fn lists_are_put_last_at_once(rt: HostRuntime) -> Result<(), Fail> {
+    let alloc = rt.alloc();
+    run(
+        &rt,
+        alloc,
+        BOXES,
+        "Box Box Item Item Item@1",
+        &[
+            "0.parts ++ 2 3 2 = done; 0.parts 2 3; 2.owner 0; 2 in 0; 3.owner 0; 3 in 0",
+            "0.parts ++ = done; 0.parts 2 3; 2.owner 0; 2 in 0; 3.owner 0; 3 in 0",
+            "1.extras ++ 3 2 3 = done; 1.extras 3 2; 2.holder 1; 2 in 1; 3.holder 1; 3 in 1",
+            "0.parts ++ 2 4 = CrossModel; 1.extras 3 2; 2.holder 1; 2 in 1; 3.holder 1; 3 in 1",
+            "0.parts ++ 2 2 2 3 3 3 2 2 3 3 2 = done; 0.parts 2 3; 2.owner 0; 2 in 0; 3.owner 0; 3 in 0",
+            "2.owner ++ 0 1 = TooMany; 0.parts 2 3; 2.owner 0; 2 in 0; 3.owner 0; 3 in 0",
+        ],
+    )?;
+    run(
+        &rt,
+        alloc,
+        TREES,
+        "N N N@2",
+        &[
+            "0.bag ++ 1 1 = done; 0.bag 1 1",
+            "0.bag ++ 1 = TooMany; 0.bag 1 1",
+            "0.refs ++ 1 1 1 1 1 1 1 1 1 0 = done; 0.refs 1 0; 0.bag 1 1",
+            "0.refs ++ 0 1 = done; 0.refs 1 0; 0.bag 1 1",
+            "2.bag ++ 2 = ReadOnly; 0.refs 1 0; 0.bag 1 1",
+            "1.kids ++ 0 = done; 0.up 1; 0.refs 1 0; 0.bag 1 1; 0 in 1; 1.kids 0",
+            "0.kids ++ 1 = ContainmentCycle; 0.up 1; 0.refs 1 0; 0.bag 1 1; 0 in 1; 1.kids 0",
+        ],
+    )
+}
+
 #[test]
 fn opposites_follow_each_other(rt: HostRuntime) -> Result<(), Fail> {
     let alloc = rt.alloc();

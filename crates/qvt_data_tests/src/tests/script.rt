@@ -55,7 +55,7 @@ pub fn store_of(rt: &impl Abort, alloc: Global, meta: &str, objects: &str) -> Re
         let class = store.metas().class(0, name).ok_or("no such class")?;
         let extent = extent.parse::<u32>()?;
         assert!(rt; is_class_for(&store, class, extent));
-        store.add_object(alloc, class, extent)?;
+        store.add_object(class, extent)?;
     }
     Ok(store)
 }
@@ -101,7 +101,7 @@ fn assigned(
     let (object, feature) = slot_of(rt, store, slot)?;
     let values = values_of(alloc, words)?;
     assert!(rt; can_assign(store, object, feature, values.as_slice()));
-    Ok(store.assign(alloc, object, feature, values.as_slice()))
+    Ok(store.assign(object, feature, values.as_slice()))
 }
 
 fn appended(
@@ -114,7 +114,20 @@ fn appended(
     let (object, feature) = slot_of(rt, store, slot)?;
     let values = [value_of(alloc, word)?];
     assert!(rt; can_assign(store, object, feature, &values));
-    Ok(store.append(alloc, object, feature, &values[0]))
+    Ok(store.append(object, feature, &values[0]))
+}
+
+fn extended(
+    rt: &impl Abort,
+    alloc: Global,
+    store: &mut Store,
+    slot: &str,
+    words: &str,
+) -> Result<Result<(), StoreFault>, Fail> {
+    let (object, feature) = slot_of(rt, store, slot)?;
+    let values = values_of(alloc, words)?;
+    assert!(rt; can_assign(store, object, feature, values.as_slice()));
+    Ok(store.extend(object, feature, values.as_slice()))
 }
 
 fn placed(
@@ -127,11 +140,11 @@ fn placed(
     let (object, feature) = slot_of(rt, store, slot)?;
     let values = values_of(alloc, words)?;
     assert!(rt; can_place(store, object, feature, values.as_slice()));
-    Ok(store.place(alloc, object, feature, values.as_slice()))
+    Ok(store.place(object, feature, values.as_slice()))
 }
 
-/// A change is told as `SLOT := VALUES`, as `SLOT += VALUE` or, where it is placed, as
-/// `SLOT <- VALUES`.
+/// A change is told as `SLOT := VALUES`, as `SLOT += VALUE`, as `SLOT ++ VALUES` where all are put
+/// last at once or, where it is placed, as `SLOT <- VALUES`.
 fn changed(
     rt: &impl Abort,
     alloc: Global,
@@ -143,6 +156,9 @@ fn changed(
     }
     if let Some((slot, words)) = change.split_once(" <-") {
         return placed(rt, alloc, store, slot, words);
+    }
+    if let Some((slot, words)) = change.split_once(" ++") {
+        return extended(rt, alloc, store, slot, words);
     }
     let (slot, word) = change.split_once(" += ").ok_or("a change")?;
     appended(rt, alloc, store, slot, word)

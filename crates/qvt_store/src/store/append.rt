@@ -9,6 +9,8 @@ ghost use Rattle.qvt_slots.specs.Types.{IsAssignable};
 ghost use Rattle.qvt_slots.specs.Change.{is_linked, objects_beyond};
 ghost use Rattle.qvt_slots.specs.Slots.{has};
 ghost use Rattle.qvt_store.specs.Ready.{IsKnown, IsLone, Ready};
+ghost use Rattle.qvt_store.specs.Sound.{Sound};
+ghost use Rattle.qvt_store.specs.Stay.{StaysIn};
 
 use crate::store::Store;
 use crate::store::assign::marks_changed;
@@ -23,7 +25,7 @@ use qvt_slots::fault::StoreFault;
 use qvt_slots::features::{is_beyond, is_containment, is_linked, upper};
 use qvt_slots::object_list::Objects;
 use qvt_slots::put::push_value;
-use qvt_slots::values::{copied, holds, holds_value};
+use qvt_slots::values::{copied, holds, holds_value, is_plain};
 use qvt_value::value::{Value, Values};
 use std::alloc::Global;
 
@@ -33,6 +35,29 @@ impl Store {
     /// assignment of the whole list; after each of them, and for want of memory, the store is
     /// unchanged. The list itself is not copied.
     pub fn append(
+        &mut self,
+        object: Oid,
+        feature: FeatureNo,
+        value: &Value,
+    ) -> Result<(), StoreFault>
+        requires { IsAssignable self.old object.0 feature.0 (value.now ∷ []) }
+        ensures ok { OnOk result (append self.old object.0 feature.0 value.now ≡ Ok self.new) }
+        ensures refused { IfErr result (λ fault. fault ≢ StoreFault.NoMemory → append self.old object.0 feature.0 value.now ≡ Err fault) }
+        ensures err { OnErr result (self.new ≡ self.old) }
+        ensures stays { StaysIn self.old self.new }
+        ensures sound { Sound self.old → Sound self.new }
+    {
+        self.is_whole();
+        is_plain(value);
+        let alloc = self.alloc;
+        match self.append_value(alloc, object, feature, value) {
+            Ok(()) => Ok(()),
+            Err(fault) => Err(fault),
+        }
+    }
+
+    /// As `append`.
+    fn append_value(
         &mut self,
         alloc: Global,
         object: Oid,
@@ -70,7 +95,7 @@ impl Store {
     }
 
     /// Whether it is known that no unique slot holds a value twice.
-    fn is_distinct(&self) -> bool
+    pub(super) fn is_distinct(&self) -> bool
         ensures { IsTrue result → AreUnique self.now }
     {
         self.marks.distinct
@@ -106,7 +131,7 @@ impl Store {
         ensures err { OnErr result (self.new ≡ self.old) }
     {
         let list = self.appended(alloc, object, feature, value)?;
-        match self.assign(alloc, object, feature, list.as_slice()) {
+        match self.assign_list(alloc, object, feature, list.as_slice()) {
             Ok(()) => Ok(()),
             Err(fault) => Err(fault),
         }
@@ -174,7 +199,7 @@ impl Store {
     }
 
     /// Whether a change of a slot of the feature may touch other slots.
-    fn is_linked_feature(&self, feature: FeatureNo) -> bool
+    pub(super) fn is_linked_feature(&self, feature: FeatureNo) -> bool
         ensures { result ≡ is_linked self.now.metas feature.0 }
     {
         is_linked(&self.metas, feature)
@@ -195,7 +220,7 @@ impl Store {
     }
 
     /// Whether the slot holds a value equal to this one.
-    fn has_value(&self, object: Oid, feature: FeatureNo, value: &Value) -> bool
+    pub(super) fn has_value(&self, object: Oid, feature: FeatureNo, value: &Value) -> bool
         ensures { result ≡ list_any (λ other. same_value other value.now) (slot_of self.now object.0 feature.0) }
     {
         match value {
@@ -205,7 +230,7 @@ impl Store {
     }
 
     /// Puts the value last, if it is an object that the slot does not hold.
-    fn push_added(
+    pub(super) fn push_added(
         &self,
         list: &mut OidList,
         object: Oid,
@@ -283,7 +308,7 @@ impl Store {
         feature: FeatureNo,
         value: Value,
     ) -> Result<(), ListFault>
-        requires { IsLone self.old object.0 feature.0 value }
+        requires { IsLone self.old object.0 feature.0 (value ∷ []) }
         ensures ok { OnOk result (self.new ≡ store_after self.old (change_to self.old object.0 feature.0 (slot_of self.old object.0 feature.0 ++ value ∷ []))) }
         ensures err { OnErr result (self.new ≡ self.old) }
     {

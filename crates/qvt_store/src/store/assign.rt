@@ -1,13 +1,16 @@
 //! Changes of slots, with all that follows for the other slots.
 
-ghost use Rattle.std.specs.Prelude.{◌≡◌, ◌≢◌, ◌++◌, ◌&&◌, ◌||◌, not, Ok, Err, IfOk, IfErr, OnOk, OnErr};
+ghost use Rattle.std.specs.Prelude.{◌≡◌, ◌≢◌, ◌++◌, ◌&&◌, ◌||◌, not, All, Ok, Err, IfOk, IfErr, OnOk, OnErr};
 ghost use Rattle.qvt_slots.specs.Change.{is_linked, objects_beyond};
 ghost use Rattle.qvt_slots.specs.Contents.{slot_of, with_slot};
 ghost use Rattle.qvt_metamodel.specs.Metamodels.{shape_of};
 ghost use Rattle.qvt_slots.specs.Assign.{assign, change_to, store_after};
-ghost use Rattle.qvt_slots.specs.Types.{IsAssignable, IsAttributeChange};
+ghost use Rattle.qvt_slots.specs.Types.{IsAssignable, IsAttributeChange, IsPlain};
+ghost use Rattle.qvt_slots.specs.Repeats.{new_list};
 ghost use Rattle.qvt_slots.specs.Writes.{released_by, released_of};
 ghost use Rattle.qvt_store.specs.Ready.{IsKnown, Ready, StaysElsewhere};
+ghost use Rattle.qvt_store.specs.Sound.{Sound};
+ghost use Rattle.qvt_store.specs.Stay.{StaysIn};
 
 use crate::store::Store;
 use qvt_base::list_fault::ListFault;
@@ -81,11 +84,8 @@ impl Store {
         settle(&self.metas, &mut self.cells, draft, writes, released);
     }
 
-    /// Sets a slot, with all that follows for the other slots: opposites and containers. The
-    /// refusals are judged on the store as it would be. After each of them, and for want of memory,
-    /// the store is unchanged. A single attribute in a writable extent is set alone, and refused only
-    /// for want of memory.
-    pub fn assign(
+    /// As `assign`. What is put in the slot is plain.
+    pub(super) fn assign_list(
         &mut self,
         alloc: Global,
         object: Oid,
@@ -94,6 +94,7 @@ impl Store {
     ) -> Result<(), StoreFault>
         requires { IsAssignable self.old object.0 feature.0 values.now }
         ensures ok { OnOk result (assign self.old object.0 feature.0 values.now ≡ Ok self.new) }
+        ensures plain { OnOk result (All IsPlain (new_list self.old.metas feature.0 values.now)) }
         ensures refused { IfErr result (λ fault. fault ≢ StoreFault.NoMemory → assign self.old object.0 feature.0 values.now ≡ Err fault) }
         ensures err { OnErr result (self.new ≡ self.old) }
         ensures set { IsAttributeChange self.old object.0 feature.0 values.now → OnOk result (self.new ≡ with_slot self.old object.0 feature.0 values.now) }
@@ -122,6 +123,33 @@ impl Store {
         let released = self.released(alloc, &draft, &writes)?;
         self.carry_out(&draft, items, writes, released.as_slice());
         Ok(())
+    }
+
+    /// Sets a slot, with all that follows for the other slots: opposites and containers. The
+    /// refusals are judged on the store as it would be. After each of them, and for want of memory,
+    /// the store is unchanged. A single attribute in a writable extent is set alone, and refused only
+    /// for want of memory.
+    pub fn assign(
+        &mut self,
+        object: Oid,
+        feature: FeatureNo,
+        values: &[Value],
+    ) -> Result<(), StoreFault>
+        requires { IsAssignable self.old object.0 feature.0 values.now }
+        ensures ok { OnOk result (assign self.old object.0 feature.0 values.now ≡ Ok self.new) }
+        ensures refused { IfErr result (λ fault. fault ≢ StoreFault.NoMemory → assign self.old object.0 feature.0 values.now ≡ Err fault) }
+        ensures err { OnErr result (self.new ≡ self.old) }
+        ensures set { IsAttributeChange self.old object.0 feature.0 values.now → OnOk result (self.new ≡ with_slot self.old object.0 feature.0 values.now) }
+        ensures memory { IsAttributeChange self.old object.0 feature.0 values.now → IfErr result (λ fault. fault ≡ StoreFault.NoMemory) }
+        ensures stays { StaysIn self.old self.new }
+        ensures sound { Sound self.old → Sound self.new }
+    {
+        self.is_whole();
+        let alloc = self.alloc;
+        match self.assign_list(alloc, object, feature, values) {
+            Ok(()) => Ok(()),
+            Err(fault) => Err(fault),
+        }
     }
 }
 

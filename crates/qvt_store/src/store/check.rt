@@ -185,6 +185,18 @@ impl Store {
         self.crosses_with(object, self.list(object, feature), value)
     }
 
+    /// The same of the object's list with the values last.
+    pub(super) fn crosses_more(&self, object: Oid, feature: FeatureNo, values: &[Value]) -> bool
+        ensures { result ≡ crosses self.now object.0 (slot_of self.now object.0 feature.0 ++ values.now) }
+    {
+        if self.holds_own() {
+            return self.crosses(object, values);
+        }
+        self.is_in_model(object)
+            && (self.holds_elsewhere(object, self.list(object, feature))
+                || self.holds_elsewhere(object, values))
+    }
+
     /// Whether the list holds an object of another extent than the object's.
     fn holds_elsewhere(&self, object: Oid, values: &[Value]) -> bool
         ensures { result ≡ list_any (is_elsewhere self.now object.0) values.now }

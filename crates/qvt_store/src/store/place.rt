@@ -1,8 +1,11 @@
 //! Slots loaded.
 
-ghost use Rattle.std.specs.Prelude.{◌≡◌, IfOk, IfErr, OnOk, OnErr};
+ghost use Rattle.std.specs.Prelude.{◌≡◌, All, IfOk, IfErr, OnOk, OnErr};
 ghost use Rattle.qvt_slots.specs.Contents.{with_slot};
+ghost use Rattle.qvt_slots.specs.Types.{IsPlain};
 ghost use Rattle.qvt_store.specs.Place.{IsPlaceable, places_twice};
+ghost use Rattle.qvt_store.specs.Sound.{SoundButOpposites, IsSoundList};
+ghost use Rattle.qvt_store.specs.Stay.{StaysIn};
 
 use crate::store::Store;
 use qvt_base::list_fault::ListFault;
@@ -21,6 +24,27 @@ impl Store {
     /// changes nothing.
     pub fn place(
         &mut self,
+        object: Oid,
+        feature: FeatureNo,
+        values: &[Value],
+    ) -> Result<(), StoreFault>
+        requires { IsPlaceable self.old object.0 feature.0 values.now }
+        ensures ok { OnOk result (self.new ≡ with_slot self.old object.0 feature.0 values.now) }
+        ensures refused { IfErr result (λ fault. fault ≡ StoreFault.NoMemory) }
+        ensures err { OnErr result (self.new ≡ self.old) }
+        ensures stays { StaysIn self.old self.new }
+        ensures loading { IsSoundList self.old object.0 feature.0 values.now → SoundButOpposites self.old → SoundButOpposites self.new }
+    {
+        let alloc = self.alloc;
+        match self.place_list(alloc, object, feature, values) {
+            Ok(()) => Ok(()),
+            Err(fault) => Err(fault),
+        }
+    }
+
+    /// As `place`. What is put in the slot is plain.
+    fn place_list(
+        &mut self,
         alloc: Global,
         object: Oid,
         feature: FeatureNo,
@@ -28,6 +52,7 @@ impl Store {
     ) -> Result<(), StoreFault>
         requires { IsPlaceable self.old object.0 feature.0 values.now }
         ensures ok { OnOk result (self.new ≡ with_slot self.old object.0 feature.0 values.now) }
+        ensures plain { OnOk result (All IsPlain values.now) }
         ensures refused { IfErr result (λ fault. fault ≡ StoreFault.NoMemory) }
         ensures err { OnErr result (self.new ≡ self.old) }
     {

@@ -1,4 +1,4 @@
-use Rattle.std.proofs.Common.{◌≡◌, ◌∙◌, ◌<◌, ◌^◌, [], length, sym, ap, subst, rules, arith}
+use Rattle.std.proofs.Common.{◌≡◌, ◌∙◌, ◌<◌, ◌^◌, [], length, sym, ap, subst, ◌≤◌, arith}
 use Rattle.serde_json.specs.View.{view}
 use Rattle.qvt_metamodel.specs.WellFormed.{IsWellFormed}
 use Rattle.qvt_json.specs.Plain.{IsPlain, file_text}
@@ -20,8 +20,8 @@ model_written-requires-clause-live c = subst (AllByRecursion (λ o. IsTrue (is_l
 pub write_value-requires : goal.write_value-requires
 write_value-requires c =
     let s = c.args.store.now in
-    let named : IsWellFormed s.metas = subst IsWellFormed c.metas.ensures c.class_count-classes.ensures.well_formed in
-    let few : length s.objects < 2 ^ 32 = search rules in
+    let named : IsWellFormed s.metas = c.is_whole.ensures.well_formed in
+    let few : length s.objects < 2 ^ 32 = let h : length s.objects ≤ 1000000 = c.is_whole.ensures.few in omega arith in
     let same : view c.in_ok-value.value ≡ model_written s (numbers (members_of s c.args.extent)) = c.in_ok-value.ensures ∙ ap (λ ms. model_written s (numbers ms)) c.extent.ensures in
     subst IsPlain (sym same) (IsPlain-model_written s c.args.extent named c.requires.sound few)
 

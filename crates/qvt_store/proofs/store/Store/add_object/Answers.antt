@@ -3,9 +3,10 @@ use Rattle.std.specs.Prelude.{None, slice_set, slice_index_or}
 use Rattle.std.proofs.lemmas.Bool.{ltb-true}
 use Rattle.qvt_base.specs.declared.numbers.FeatureNo.{FeatureNo}
 use Rattle.qvt_slots.specs.declared.cell.Cell.{Cell}
-use Rattle.qvt_slots.specs.Contents.{Contents, HoldOwn}
+use Rattle.qvt_slots.specs.Contents.{Contents, HoldOwn, with_new}
 use Rattle.qvt_slots.specs.Cells.{contents_of, IsKept}
 use Rattle.qvt_slots.proofs.Added.{cells_new, added_kept}
+use Rattle.qvt_store.specs.Stay.{StaysIn}
 use Rattle.qvt_store.proofs.Own.{own_grown}
 use Rattle.qvt_store.proofs.store.Store.add_object.Goals as goal
 
@@ -23,3 +24,10 @@ invariant_of-self-2 c =
     (c.in_ok-add_cell.ensures.members ∙ ap (λ n. slice_set c.self.inside.members.items c.args.extent (slice_index_or c.self.inside.members.items c.args.extent [] ++ record { 0 = n } ∷ [])) count)
     (λ own. subst HoldOwn (sym (cells_new c.self.inside.metas c.self.inside.extents c.self.inside.cells.items k (c.in_ok-slots.ensures ∙ ap (λ (gs : List FeatureNo). map (λ _. []) gs) c.features.ensures)))
     (own_grown (contents_of c.self.inside.metas c.self.inside.extents c.self.inside.cells.items) c.args.class.0 c.args.extent c.self.invariant.typed own)))
+
+pub returns-clause-stays : goal.returns-clause-stays
+returns-clause-stays c =
+    let k : Cell = record { class = c.args.class; extent = c.args.extent; slots = c.in_ok-slots.slots; holder = None } in
+    subst (StaysIn c.args.self.now) (sym (ap (λ (l : List Cell). contents_of c.self.inside.metas c.self.inside.extents l) c.in_ok-add_cell.ensures.cells
+    ∙ cells_new c.self.inside.metas c.self.inside.extents c.self.inside.cells.items k (c.in_ok-slots.ensures ∙ ap (λ (gs : List FeatureNo). map (λ _. []) gs) c.features.ensures)
+    ∙ ap (λ (s : Contents). with_new s c.args.class.0 c.args.extent) c.self.view_is)) (c.add_stays.ensures c.args.self.now c.args.class.0 c.args.extent)

@@ -1,18 +1,21 @@
-use Rattle.std.proofs.Common.{◌∙◌, sym}
-use Rattle.qvt_slots.specs.Contents.{slot_of}
-use Rattle.qvt_store.proofs.Appending.{new_last, new_none}
+use Rattle.std.proofs.Common.{[], sym, subst}
+use Rattle.std.proofs.lemmas.List.Elements.{All-nil, All-cons}
+use Rattle.qvt_slots.specs.Types.{IsPlain}
+use Rattle.qvt_store.specs.Sound.{Sound}
+use Rattle.qvt_store.specs.Stay.{StaysIn}
+use Rattle.qvt_store.proofs.SoundKept.{append_keeps_sound}
+use Rattle.qvt_store.proofs.Stays.{stays_is_reflexive, append_stays}
 use Rattle.qvt_store.proofs.store.Store.append.Goals as goal
 
-pub append_none-requires-clause-same : goal.append_none-requires-clause-same
-append_none-requires-clause-same c =
-    let u = sym c.is_unique_feature-unique.ensures.value ∙ c.if-not-unique.false in
-    new_none c.args.self.now.metas c.args.feature.0 (slot_of c.args.self.now c.args.object.0 c.args.feature.0) c.args.value.now u
-    ((c.is_distinct.ensures c.if-not-is_distinct.false).unique c.args.object.0 c.args.feature.0 u)
-    (sym c.has_value.ensures ∙ c.if-has_value.true)
+pub returns-in-Ok-clause-stays : goal.returns-in-Ok-clause-stays
+returns-in-Ok-clause-stays c = append_stays c.args.self.now c.append_value.new.self c.args.object.0 c.args.feature.0 c.args.value.now c.in-Ok.ensures.ok
 
-pub append_last-requires-2-clause-last : goal.append_last-requires-2-clause-last
-append_last-requires-2-clause-last c =
-    let u = sym c.is_unique_feature-unique.ensures.value ∙ c.if-not-unique.false in
-    new_last c.args.self.now.metas c.args.feature.0 (slot_of c.args.self.now c.args.object.0 c.args.feature.0) c.args.value.now u
-    ((c.is_distinct.ensures c.if-not-is_distinct.false).unique c.args.object.0 c.args.feature.0 u)
-    (sym c.has_value.ensures ∙ c.if-has_value.false)
+pub returns-in-Ok-clause-sound : goal.returns-in-Ok-clause-sound
+returns-in-Ok-clause-sound c sound = append_keeps_sound c.args.self.now c.append_value.new.self c.args.object.0 c.args.feature.0 c.args.value.now
+    c.is_whole.ensures.well_formed c.is_whole.ensures.named c.requires (All-cons IsPlain c.args.value.now [] c.is_plain.ensures (All-nil IsPlain)) sound c.in-Ok.ensures.ok
+
+pub returns-in-Err-clause-stays : goal.returns-in-Err-clause-stays
+returns-in-Err-clause-stays c = subst (StaysIn c.args.self.now) (sym c.in-Err.ensures.err) (stays_is_reflexive c.args.self.now)
+
+pub returns-in-Err-clause-sound : goal.returns-in-Err-clause-sound
+returns-in-Err-clause-sound c sound = subst Sound (sym c.in-Err.ensures.err) sound

@@ -11,12 +11,12 @@ invariant_of-self c = same_kept c.self.inside.metas c.self.inside.extents c.self
 
 pub invariant_of-self-2 : goal.invariant_of-self-2
 invariant_of-self-2 c =
-    let lone = subst (λ (s : Contents). IsLone s c.args.object.0 c.args.feature.0 c.args.value) (sym c.self.view_is) c.requires in
-    lone_kept c.self.inside.metas c.self.inside.extents c.self.inside.cells.items c.push_value.new.cells.items c.args.object c.args.feature c.args.value c.self.invariant.whole lone c.in_ok-push_value.ensures.ok
+    let lone = subst (λ (s : Contents). IsLone s c.args.object.0 c.args.feature.0 (c.args.value ∷ [])) (sym c.self.view_is) c.requires in
+    lone_kept c.self.inside.metas c.self.inside.extents c.self.inside.cells.items c.push_value.new.cells.items c.args.object c.args.feature (c.args.value ∷ []) c.self.invariant.whole lone c.in_ok-push_value.ensures.ok
     c.self.inside.members.items c.self.inside.marks c.self.invariant
 
 pub returns-clause-ok : goal.returns-clause-ok
 returns-clause-ok c =
-    let lone = subst (λ (s : Contents). IsLone s c.args.object.0 c.args.feature.0 c.args.value) (sym c.self.view_is) c.requires in
-    lone_store c.self.inside.metas c.self.inside.extents c.self.inside.cells.items c.push_value.new.cells.items c.args.object c.args.feature c.args.value c.self.invariant.whole lone c.in_ok-push_value.ensures.ok
+    let lone = subst (λ (s : Contents). IsLone s c.args.object.0 c.args.feature.0 (c.args.value ∷ [])) (sym c.self.view_is) c.requires in
+    lone_store c.self.inside.metas c.self.inside.extents c.self.inside.cells.items c.push_value.new.cells.items c.args.object c.args.feature (c.args.value ∷ []) c.self.invariant.whole lone c.in_ok-push_value.ensures.ok
     ∙ ap (λ (s : Contents). store_after s (change_to s c.args.object.0 c.args.feature.0 (slot_of s c.args.object.0 c.args.feature.0 ++ c.args.value ∷ []))) c.self.view_is

@@ -1,6 +1,0 @@
-use Rattle.std.proofs.Common.{drop, ◌+◌}
-use Rattle.qvt_load.specs.Steps.{IsPutting}
-use Rattle.qvt_load.proofs.load.place_objects.Given as goal
-
-abbrev pub invariant-loop-i : goal.invariant-loop-i
-invariant-loop-i l = IsPutting l.fn.store l.store l.first (l.first + l.i) l.objects (drop l.i l.objects)

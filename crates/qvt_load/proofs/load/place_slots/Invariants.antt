@@ -1,6 +1,0 @@
-use Rattle.std.proofs.Common.{drop, ◌+◌}
-use Rattle.qvt_load.specs.Steps.{ArePutting}
-use Rattle.qvt_load.proofs.load.place_slots.Given as goal
-
-abbrev pub invariant-loop-slot : goal.invariant-loop-slot
-invariant-loop-slot l = ArePutting l.fn.store l.store l.first l.object.0 l.slots (drop l.slot-index l.slots)

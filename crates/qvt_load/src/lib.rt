@@ -1,5 +1,0 @@
-//! Models loaded into the extents of stores.
-#![tactic(auto)]
-
-pub mod load;
-mod values;

@@ -1,0 +1,70 @@
+-- The ids in the data of a writable extent are those of the run.
+use Rattle.std.proofs.Common.{◌≡◌, ℕ, zero, suc, ◌+◌, ◌<◌, ◌≤◌, Bool, true, false, ◌==◌, not, cond, refl, sym, ap, ◌∙◌, subst, List, [], ◌∷◌, length, get_or, arith}
+use Rattle.std.specs.Prelude.{Option, Some, None, nat_lt, slice_index_or}
+use Rattle.std.specs.List.{AllByRecursion, position_or_len}
+use Rattle.std.proofs.lemmas.Bool.{eq-eqb, ne_eqb, lt-ltb}
+use Rattle.qvt_base.specs.declared.numbers.Oid.{Oid}
+use Rattle.qvt_slots.proofs.Lists.{length-map}
+use Rattle.qvt_store.specs.Contents.{Contents, Instance, no_instance, extent_at, extent_of, members_from, members_of}
+use Rattle.qvt_model.specs.Extents.{own_id, numbers, place_of, data_of}
+use Rattle.qvt_model.specs.IdTables.{id_in}
+use Rattle.qvt_model.specs.RunIds.{place_id, file_id, DataHaveRunIds}
+use Rattle.qvt_model.proofs.Extents.{IsMember, members-are}
+use Rattle.qvt_model.proofs.Writing.{id-there}
+
+abbrev oid : ℕ → Oid
+oid x = record { 0 = x }
+
+abbrev none : Oid
+none = oid 0
+
+low : (e n : ℕ) (rest : List Instance) (i : ℕ) → i < length (members_from n rest e) → n ≤ (get_or (members_from n rest e) i none).0
+low e n [] i h = absurd (omega arith)
+low e n (o ∷ rest) i h = by (o.extent == e) i h (low e (suc n) rest)
+  where
+    later : List Oid
+    later = members_from (suc n) rest e
+
+    by : (b : Bool) (i : ℕ) → i < length (cond b (oid n ∷ later) later) → ((j : ℕ) → j < length later → suc n ≤ (get_or later j none).0) → n ≤ (get_or (cond b (oid n ∷ later) later) i none).0
+    by true zero h more = omega arith
+    by true (suc i) h more = let r : suc n ≤ (get_or later i none).0 = more i (omega arith) in omega arith
+    by false i h more = let r : suc n ≤ (get_or later i none).0 = more i h in omega arith
+
+-- members come in order, so each is found at its place
+place_is : (e n : ℕ) (rest : List Instance) (i : ℕ) → i < length (members_from n rest e) → position_or_len (λ x. (get_or (members_from n rest e) i none).0 == x) (numbers (members_from n rest e)) ≡ i
+place_is e n [] i h = absurd (omega arith)
+place_is e n (o ∷ rest) i h = by (o.extent == e) i h (place_is e (suc n) rest)
+  where
+    later : List Oid
+    later = members_from (suc n) rest e
+
+    by : (b : Bool) (i : ℕ) → i < length (cond b (oid n ∷ later) later) → ((j : ℕ) → j < length later → position_or_len (λ x. (get_or later j none).0 == x) (numbers later) ≡ j) →
+        position_or_len (λ x. (get_or (cond b (oid n ∷ later) later) i none).0 == x) (numbers (cond b (oid n ∷ later) later)) ≡ i
+    by true zero h more = ap (λ b. cond (not b) (1 + position_or_len (λ x. n == x) (numbers later)) 0) (eq-eqb n n refl)
+    by true (suc i) h more =
+        let r : suc n ≤ (get_or later i none).0 = low e (suc n) rest i (omega arith) in
+        let at : position_or_len (λ x. (get_or later i none).0 == x) (numbers later) ≡ i = more i (omega arith) in
+        ap (λ b. cond (not b) (1 + position_or_len (λ x. (get_or later i none).0 == x) (numbers later)) 0) (ne_eqb (get_or later i none).0 n (λ q. let same : (get_or later i none).0 ≡ n = q in omega arith))
+        ∙ ap (λ k. 1 + k) at ∙ (let one : 1 + i ≡ suc i = omega arith in one)
+    by false i h more = more i h
+
+found : (e : ℕ) (obs : List Instance) (i : ℕ) → i < length (members_from 0 obs e) → place_of (numbers (members_from 0 obs e)) (get_or (members_from 0 obs e) i none).0 ≡ Some i
+found e obs i h =
+    ap (λ k. cond (nat_lt k (length (numbers (members_from 0 obs e)))) (Some k) None) (place_is e 0 obs i h)
+    ∙ ap (λ b. cond b (Some i) None) (lt-ltb i (length (numbers (members_from 0 obs e))) (subst (λ k. i < k) (sym (length-map (λ (o : Oid). o.0) (members_from 0 obs e))) h))
+
+at_place : (P : ℕ → Type 0) (os : List Oid) (i : ℕ) → AllByRecursion P (numbers os) → i < length os → P (get_or os i none).0
+at_place P [] i all h = absurd (omega arith)
+at_place P (o ∷ os) zero all h = all.0
+at_place P (o ∷ os) (suc i) all h = at_place P os i all.1 (omega arith)
+
+pub data_have_run_ids : DataHaveRunIds
+unfolding data_of
+data_have_run_ids s ids e i h writable =
+    let xs : List ℕ = numbers (members_of s e) in
+    let x : ℕ = (slice_index_or (members_of s e) i none).0 in
+    let member : IsMember s e x = at_place (IsMember s e) (members_of s e) i (members-are s e 0 s.objects (λ i. ap (λ j. slice_index_or s.objects j no_instance) (omega arith)) (omega arith)) h in
+    id-there s xs 1 xs i (subst (λ k. i < k) (sym (length-map (λ (o : Oid). o.0) (members_of s e))) h)
+    ∙ ap own_id (let q : 1 + i ≡ suc i = omega arith in q)
+    ∙ sym (ap (λ b. cond b (place_id (place_of (numbers (members_of s (extent_of s x))) x)) (file_id (id_in ids x))) (ap (λ k. (extent_at s k).writable) member.1 ∙ writable)
+    ∙ ap (λ k. place_id (place_of (numbers (members_of s k)) x)) member.1 ∙ ap place_id (found e s.objects i h))

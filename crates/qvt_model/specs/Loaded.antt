@@ -1,0 +1,68 @@
+-- A store with a model loaded into an extent: after the objects that are there its objects stand in order, each with the class,
+-- and for each feature of the class with the items, of its data.
+use Rattle.std.specs.Prelude.{◌≡◌, ◌≢◌, ℕ, suc, ◌+◌, ◌≤◌, ◌==◌, List, [], ◌∷◌, ◌++◌, map, length, slice_index_or, if◌then◌else◌, IsTrue, Option, Some, None, is_some}
+use Rattle.qvt_base.specs.declared.numbers.FeatureNo.{FeatureNo}
+use Rattle.qvt_value.specs.declared.value.Value.{Value}
+use Rattle.qvt_value.specs.declared.value.Value.TheVariants.{Bool as BoolValue, Int as IntValue, Str as StrValue, Enum as EnumValue, Obj}
+use Rattle.qvt_metamodel.specs.Metamodels.{Metamodels, features_of}
+use Rattle.qvt_slots.specs.Contents.{Contents, Instance, is_extent, is_live, extent_at, members_of}
+use Rattle.qvt_store.specs.Stay.{StaysIn}
+use Rattle.qvt_model.specs.declared.data.Datum.{Datum}
+use Rattle.qvt_model.specs.declared.data.Datum.TheVariants.{Bool as BoolDatum, Int, Str, Literal, Ref}
+use Rattle.qvt_model.specs.declared.data.ObjectData.{ObjectData}
+use Rattle.qvt_model.specs.declared.data.SlotData.{SlotData}
+use Rattle.qvt_model.specs.Items.{items_in}
+use Rattle.qvt_model.specs.IdTables.{id_in}
+use Rattle.qvt_model.specs.WellFormed.{IsModel}
+
+-- the value of an item, where the first object of the model gets number n
+abbrev pub value_at : ℕ → Datum → Value
+value_at n (BoolDatum b) = BoolValue b
+value_at n (Int z) = IntValue z
+value_at n (Str t) = StrValue t
+value_at n (Literal l) = EnumValue l
+value_at n (Ref i) = Obj (record { 0 = n + i })
+
+-- what an object holds for a feature
+abbrev pub list_in : ℕ → ObjectData → ℕ → List Value
+list_in n o f = map (value_at n) (items_in f o.slots)
+
+abbrev pub instance_at : Metamodels → ℕ → ℕ → ObjectData → Instance
+instance_at m e n o = record { class = o.class.0; extent = e; slots = map (λ f. list_in n o f.0) (features_of m o.class.0) }
+
+unfoldable pub loaded : Contents → ℕ → List ObjectData → Contents
+loaded s e os = record s { objects = s.objects ++ map (instance_at s.metas e (length s.objects)) os }
+
+-- the id that object x has in its file, where the first of these objects got number n and `old` was told before
+abbrev pub id_told : ℕ → List ObjectData → ℕ → Option (List ℕ) → Option (List ℕ)
+id_told n [] x old = old
+id_told n (o ∷ os) x old = if x == n then Some o.id else id_told (suc n) os x old
+
+-- the data are those of a model of the extent's metamodel, the extent has no objects, and the store has room for them
+pub record IsLoadable (s : Contents) (e : ℕ) (os : List ObjectData) : Type 0 where
+  pub extent : IsTrue (is_extent s e)
+  pub empty : members_of s e ≡ []
+  pub model : IsModel s.metas (extent_at s e).metamodel os
+  pub room : length s.objects + length os ≤ 1000000
+
+-- the members of every extent but e are as before
+pub record MembersStay (s s' : Contents) (e : ℕ) : Type 0 where
+  pub others : (f : ℕ) → f ≢ e → members_of s' f ≡ members_of s f
+
+-- the table tells an id for each object of the store
+abbrev pub TellsAll : Contents → List (Option (List ℕ)) → Type 0
+TellsAll s ids = (x : ℕ) → IsTrue (is_live s x) → IsTrue (is_some (id_in ids x))
+
+-- what a loading leaves
+pub record LoadLeaves (s : Contents) (e : ℕ) (os : List ObjectData) : Type 0 where
+  pub stays : StaysIn s (loaded s e os)
+  pub others : MembersStay s (loaded s e os) e
+  pub count : length (loaded s e os).objects ≡ length s.objects + length os
+  -- each earlier object keeps its id, and the table tells one for each loaded object
+  pub ids : (old new : List (Option (List ℕ))) → ((x : ℕ) → id_in new x ≡ id_told (length s.objects) os x (id_in old x)) → (x : ℕ) → IsTrue (is_live s x) → id_in new x ≡ id_in old x
+  pub tells : (old new : List (Option (List ℕ))) → ((x : ℕ) → id_in new x ≡ id_told (length s.objects) os x (id_in old x)) → TellsAll s old → TellsAll (loaded s e os) new
+  -- what can be loaded into another extent still can, if there is room
+  pub next : (f : ℕ) (more : List ObjectData) → f ≢ e → IsLoadable s f more → length s.objects + length os + length more ≤ 1000000 → IsLoadable (loaded s e os) f more
+
+abbrev pub EachLoadLeaves : Type 0
+EachLoadLeaves = (s : Contents) (e : ℕ) (os : List ObjectData) → LoadLeaves s e os

@@ -1,0 +1,24 @@
+use Rattle.std.proofs.Common.{◌++◌, sym, subst}
+use Rattle.qvt_slots.specs.declared.op.SetOp.TheVariants.{Add}
+use Rattle.qvt_slots.specs.Contents.{slot_of}
+use Rattle.qvt_slots.specs.Types.{is_of_type}
+use Rattle.qvt_store.specs.Sound.{Sound}
+use Rattle.qvt_store.specs.Stay.{StaysIn}
+use Rattle.qvt_store.proofs.SoundKept.{all-append, list_keeps_sound}
+use Rattle.qvt_store.proofs.Stays.{stays_is_reflexive, write_stays}
+use Rattle.qvt_store.proofs.store.Store.extend.Goals as goal
+
+pub returns-in-Ok-clause-stays : goal.returns-in-Ok-clause-stays
+returns-in-Ok-clause-stays c = write_stays c.args.self.now c.extend_list.new.self c.args.object.0 c.args.feature.0 Add c.args.values.now c.in-Ok.ensures.ok
+
+pub returns-in-Ok-clause-sound : goal.returns-in-Ok-clause-sound
+returns-in-Ok-clause-sound c sound = list_keeps_sound c.args.self.now c.extend_list.new.self c.args.object.0 c.args.feature.0 (slot_of c.args.self.now c.args.object.0 c.args.feature.0 ++ c.args.values.now)
+    c.is_whole.ensures.well_formed c.is_whole.ensures.named
+    (record { live = c.requires.live; feature = c.requires.feature; types = all-append (is_of_type c.args.self.now c.args.feature.0) (slot_of c.args.self.now c.args.object.0 c.args.feature.0) c.args.values.now (c.is_whole.ensures.typed.types c.args.object.0 c.args.feature.0) c.requires.types })
+    (c.in-Ok.ensures.plain sound) sound c.in-Ok.ensures.ok
+
+pub returns-in-Err-clause-stays : goal.returns-in-Err-clause-stays
+returns-in-Err-clause-stays c = subst (StaysIn c.args.self.now) (sym c.in-Err.ensures.err) (stays_is_reflexive c.args.self.now)
+
+pub returns-in-Err-clause-sound : goal.returns-in-Err-clause-sound
+returns-in-Err-clause-sound c sound = subst Sound (sym c.in-Err.ensures.err) sound
