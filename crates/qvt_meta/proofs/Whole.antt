@@ -17,10 +17,10 @@ use Rattle.qvt_metamodel.specs.declared.info.FeatureInfo.{FeatureInfo}
 use Rattle.qvt_metamodel.specs.declared.info.EnumInfo.{EnumInfo}
 use Rattle.qvt_metamodel.specs.declared.declared.DeclaredFeature.{DeclaredFeature}
 use Rattle.qvt_metamodel.specs.declared.declared.DeclaredClass.{DeclaredClass}
-use Rattle.qvt_metamodel.specs.Metamodels.{Metamodels, class_at, feature_at, shape_of, is_opposite, is_feature_number, features_of, features_in, each_once, has_feature, among_features, nowhere_class, nowhere_feature, is_single, is_one, is_containment}
-use Rattle.qvt_metamodel.specs.Descends.{is_superclass, reaches, is_above, descends, is_class_kind}
+use Rattle.qvt_metamodel.specs.Metamodels.{Metamodels, class_at, feature_at, shape_of, is_opposite, is_feature_number, features_of, features_in, each_once, has_feature, among_features, nowhere_class, nowhere_feature, is_single, is_one, is_containment, is_element}
+use Rattle.qvt_metamodel.specs.Descends.{is_superclass, reaches, is_above, descends, is_class_kind, is_class_type}
 use Rattle.qvt_metamodel.specs.Named.{metamodel_at, enumeration_at, literal_at, nowhere_enumeration, class_named, feature_named, enumeration_named, literal_named}
-use Rattle.qvt_metamodel.specs.WellFormed.{IsWellFormed, IsLiveKind}
+use Rattle.qvt_metamodel.specs.WellFormed.{IsWellFormed, IsRegular, IsLiveKind}
 use Rattle.qvt_metamodel.specs.Kept.{AreRanks}
 use Rattle.qvt_metamodel.specs.declared.declared.MetaData.{MetaData}
 use Rattle.qvt_metamodel.specs.MetaData.{enum_names, class_names, feature_names}
@@ -37,6 +37,8 @@ use Rattle.qvt_metamodel.proofs.Infos.{featured_at, nothing_featured, all-at, ma
 use Rattle.qvt_metamodel.proofs.Lookups.{position-first, bytes_eq-refl, differ-before, some-within, untaken}
 use Rattle.qvt_metamodel.proofs.FeatureNames.{distinct as distinct_features, found_feature as named_feature}
 use Rattle.qvt_metamodel.proofs.Owners.{Declared, declared, includes}
+use Rattle.qvt_metamodel.proofs.Order.{acyclic, antisymmetric, transitive, inherited}
+use Rattle.qvt_metamodel.proofs.Regular.{regular}
 use Rattle.qvt_meta_checks.proofs.Passing.{map_none, first_from-none, no_fault, repeated-append, repeated-alone, enums_alone, literals_alone, classes_differ}
 use Rattle.qvt_metamodel.proofs.Positions.{any-within, any-passes, none-at, no-position, place-below, place-found, place-is}
 use Rattle.qvt_metamodel.proofs.Stable.{no-features-past, none-above-past}
@@ -358,6 +360,24 @@ module _ (d : MetaData) (ok : IsChecked d) (ranks : List ℕ) (ranked : AreRanks
   abbrev E : ℕ → ℕ → ℕ
   E c j = place_in (names_of ls) (F c j).kind
 
+  -- a containment, and a feature with an opposite, has a class as its type
+  record Linked (c j : ℕ) : Type 0 where
+    live : E c j < length ls
+    kind : (F c j).kind ≡ (declared_at ls (E c j)).name
+    unique : (F c j).unique ≡ true
+
+  linked : (c j : ℕ) → c < length ls → j < many d c → ((F c j).containment || is_some (F c j).opposite) ≡ true → Linked c j
+  linked c j l h some =
+      let a : (((F c j).containment || is_some (F c j).opposite) && (not (is_among (F c j).kind (class_names d)) || not (F c j).unique)) ≡ false = none_left _ _ (allowed c j l h) in
+      let a2 : (not (is_among (F c j).kind (class_names d)) || not (F c j).unique) ≡ false = and_false_right _ _ some a in
+      let there : is_among (F c j).kind (class_names d) ≡ true = not_false _ (none_left _ _ a2) in
+      let place : ((E c j) < length (names_of ls)) × (bytes_eq (F c j).kind (get_or (names_of ls) (E c j) []) ≡ true) = place-found (names_of ls) (F c j).kind there in
+      record {
+        live = omega (arith, place.0, name_total d);
+        kind = same_bytes (F c j).kind (get_or (names_of ls) (E c j) []) place.1 ∙ class_name_is d (E c j);
+        unique = not_false _ (none_right (not (is_among (F c j).kind (class_names d))) _ a2);
+      }
+
   some_same : (x y : List ℕ) → Some x ≡ Some y → x ≡ y
   some_same x y e = cc
 
@@ -366,10 +386,7 @@ module _ (d : MetaData) (ok : IsChecked d) (ranks : List ℕ) (ranked : AreRanks
   pair_by c j q l h (Some name) at eq =
       let some : is_some (F c j).opposite ≡ true = ap is_some at in
       let fine : is_bad_opposite d (K c) (F c j) ≡ false = allowed c j l h in
-      let a : (((F c j).containment || is_some (F c j).opposite) && (not (is_among (F c j).kind (class_names d)) || not (F c j).unique)) ≡ false = none_left _ _ fine in
-      let a2 : (not (is_among (F c j).kind (class_names d)) || not (F c j).unique) ≡ false = and_false_right _ _ (or_right (F c j).containment (is_some (F c j).opposite) some) a in
-      let there : is_among (F c j).kind (class_names d) ≡ true = not_false _ (none_left _ _ a2) in
-      let unique : (F c j).unique ≡ true = not_false _ (none_right (not (is_among (F c j).kind (class_names d))) _ a2) in
+      let o : Linked c j = linked c j l h (or_right (F c j).containment (is_some (F c j).opposite) some) in
       let v : (not (list_any (is_mutual (K c) (F c j)) (type_features d (F c j))) || list_any (λ g. is_mutual (K c) (F c j) g && is_contained_wrong (F c j) g) (type_features d (F c j)) || (bytes_eq (F c j).kind (K c).name && is_named (F c j).opposite (F c j).name)) ≡ false =
       and_false_right _ _ some (none_right (((F c j).containment || is_some (F c j).opposite) && (not (is_among (F c j).kind (class_names d)) || not (F c j).unique)) _ fine) in
       let v2 : (not (list_any (is_mutual (K c) (F c j)) (type_features d (F c j))) || list_any (λ g. is_mutual (K c) (F c j) g && is_contained_wrong (F c j) g) (type_features d (F c j))) ≡ false = none_left _ _ v in
@@ -382,13 +399,11 @@ module _ (d : MetaData) (ok : IsChecked d) (ranks : List ℕ) (ranked : AreRanks
       let wrong : (is_mutual (K c) (F c j) (featured_at (declared_at ls (E c j)) i) && is_contained_wrong (F c j) (featured_at (declared_at ls (E c j)) i)) ≡ false =
       none-at (λ g. is_mutual (K c) (F c j) g && is_contained_wrong (F c j) g) (type_features d (F c j)) i nothing_featured none_wrong within in
       let g : DeclaredFeature = featured_at (declared_at ls (E c j)) i in
-      let place : ((E c j) < length (names_of ls)) × (bytes_eq (F c j).kind (get_or (names_of ls) (E c j) []) ≡ true) = place-found (names_of ls) (F c j).kind there in
-      let live : (E c j) < length ls = omega (arith, place.0, name_total d) in
       let two : (is_named (F c j).opposite g.name && bytes_eq g.kind (K c).name) ≡ true = and_left _ _ paired in
       let name_eq : (F c j).opposite ≡ Some g.name = name_is (F c j).opposite g.name (and_left _ _ two) in
       let name_g : name ≡ g.name = some_same name g.name (sym at ∙ name_eq) in
       let number : 0 + (before d (E c j) + place_in (feature_names (declared_at ls (E c j))) name) ≡ q = eqb-true (0 + (before d (E c j) + place_in (feature_names (declared_at ls (E c j))) name)) q eq in
-      let spot : place_in (feature_names (declared_at ls (E c j))) name ≡ i = ap (place_in (feature_names (declared_at ls (E c j)))) name_g ∙ feature_place (E c j) i live within in
+      let spot : place_in (feature_names (declared_at ls (E c j))) name ≡ i = ap (place_in (feature_names (declared_at ls (E c j)))) name_g ∙ feature_place (E c j) i o.live within in
       record {
         c = c;
         j = j;
@@ -397,15 +412,15 @@ module _ (d : MetaData) (ok : IsChecked d) (ranks : List ℕ) (ranked : AreRanks
         is_p = refl;
         e = E c j;
         i = i;
-        live_q = live;
+        live_q = o.live;
         within_q = within;
         is_q = omega (arith, number, spot);
-        type_p = same_bytes (F c j).kind (get_or (names_of ls) (E c j) []) place.1 ∙ class_name_is d (E c j);
+        type_p = o.kind;
         type_q = same_bytes g.kind (K c).name (and_right (is_named (F c j).opposite g.name) _ two);
         opposite_p = name_eq;
         opposite_q = name_is g.opposite (F c j).name (and_right (is_named (F c j).opposite g.name && bytes_eq g.kind (K c).name) _ paired);
         contained = and_false_right _ _ paired wrong;
-        unique = unique;
+        unique = o.unique;
         other = z;
       }
 
@@ -498,6 +513,22 @@ module _ (d : MetaData) (ok : IsChecked d) (ranks : List ℕ) (ranked : AreRanks
       by : Pair p q → (shape_of w p).unique ≡ true
       by o = ap (λ n. (shape_of w n).unique) o.is_p ∙ shape_unique o.c o.j o.live_p o.within_p ∙ o.unique
 
+  -- a containment holds objects, each once
+  contained_at : (f : ℕ) → is_containment w f ≡ true → (is_class_type (shape_of w f).kind ≡ true) × ((shape_of w f).unique ≡ true)
+  contained_at f t = elim (leb_tells (suc f) (feature_count ls)) [
+    | inl b ↦ here (feature_at_place ls f (omega (arith, b.1)))
+    | inr p ↦ clash t (ap (λ (k : FeatureInfo). k.shape.containment) (get_or_past (features d) f nowhere_feature (omega (arith, feature_total d, p.1))))
+  ]
+    where
+      here : FeatureAt ls f → (is_class_type (shape_of w f).kind ≡ true) × ((shape_of w f).unique ≡ true)
+      here at =
+          let contains : (F at.class at.place).containment ≡ true = sym (shape_name at.class at.place at.live at.within) ∙ ap (λ n. is_containment w n) (sym at.is) ∙ t in
+          let o : Linked at.class at.place = linked at.class at.place at.live at.within (or_left (F at.class at.place).containment (is_some (F at.class at.place).opposite) contains) in (
+            ap (λ n. is_class_type (shape_of w n).kind) at.is
+                ∙ ap is_class_type (kind_at at.class at.place at.live at.within ∙ ap (kind_of first_begin (enum_names d) (names_of ls)) o.kind ∙ class_kind (E at.class at.place) o.live),
+            ap (λ n. (shape_of w n).unique) at.is ∙ shape_unique at.class at.place at.live at.within ∙ o.unique,
+          )
+
   live_opposite_at : (p q : ℕ) → is_opposite w p q ≡ true → q < length (features d)
   live_opposite_at p q h = by (pair p q h)
     where
@@ -570,8 +601,28 @@ module _ (d : MetaData) (ok : IsChecked d) (ranks : List ℕ) (ranked : AreRanks
           ap (λ n. (shape_of w n).kind) o.is_p ∙ kind_at o.c o.j o.live_p o.within_p ∙ ap (kind_of first_begin (enum_names d) (names_of ls)) o.type_p ∙ class_kind o.e o.live_q in
           inherits c o.e q (descends_from c o.e (ap (is_class_kind w c) (sym kind) ∙ is)) (subst (λ n. among_features n (class_at w o.e).own ≡ true) (sym o.is_q) (own_has d o.e o.i o.live_q o.within_q))
 
-  unnamed : (p q c : ℕ) → has_feature w c p ≡ true → (metamodel_at w (class_at w c).metamodel).name ≡ [] → is_opposite w p q ≡ false
-  unnamed p q c h none = absurd (ok.named (ap (λ k. (metamodel_at w k).name) (sym (metamodel_is d c)) ∙ none))
+  all_named : (c : ℕ) → (metamodel_at w (class_at w c).metamodel).name ≡ [] → ⊥
+  all_named c none = ok.named (ap (λ k. (metamodel_at w k).name) (sym (metamodel_is d c)) ∙ none)
+
+  -- there is no class above all
+  no_top : (c e : ℕ) → is_element w c ≡ true → is_superclass w c e ≡ false
+  no_top c e h = absurd (cc)
+
+  all_regular : IsRegular w
+  all_regular = record {
+    acyclic = acyclic w ranks ranked;
+    antisymmetric = antisymmetric w ranks ranked no_top;
+    transitive = transitive w ranks ranked no_top;
+    inherited = inherited w ranks ranked no_top (λ c h. absurd (cc)) (λ c f h. absurd (cc));
+    live_element = λ c h. absurd (cc);
+    abstract_element = λ c h. absurd (cc);
+    featureless_element = λ c f h. absurd (cc);
+    topmost_element = no_top;
+    object_containments = λ f h. (contained_at f h).0;
+    unique_containments = λ f h. (contained_at f h).1;
+    unnamed_empty = λ c f h none. absurd (all_named c none);
+    unnamed_optional = λ c f h none. absurd (all_named c none);
+  }
 
   -- names are texts
   texts_of_class : (c : ℕ) → has_texts (declared_at ls c) ≡ true
@@ -653,6 +704,7 @@ module _ (d : MetaData) (ok : IsChecked d) (ranks : List ℕ) (ranked : AreRanks
       live_class = live_class_of d;
       live_opposite = live_opposite_at;
       live_type = live_type_of d;
+      regular = regular w all_regular;
       mutual_opposites = mutual_at;
       other_feature = other_at;
       one_containment = one_containment_at;
@@ -660,7 +712,7 @@ module _ (d : MetaData) (ok : IsChecked d) (ranks : List ℕ) (ranked : AreRanks
       unique_opposites = unique_at;
       opposite_has_type = opposite_has_type_at;
       type_has_opposite = type_has_opposite_at;
-      unnamed_alone = unnamed;
+      unnamed_alone = λ p q c h none. absurd (all_named c none);
       distinct_features = distinct;
       text_metamodel = text_metamodel_at;
       text_class = text_class_at;

@@ -1,12 +1,11 @@
 -- What the tests of given classes tell.
-use Rattle.std.proofs.Common.{◌≡◌, ◌∙◌, ℕ, zero, suc, ◌+◌, ◌-◌, ◌<◌, ◌^◌, List, [], ◌∷◌, drop, length, get_or, Bool, true, false, Option, Some, None, refl, ap, sym, subst, arith, ◌==◌, ◌&&◌}
+use Rattle.std.proofs.Common.{◌≡◌, ◌∙◌, ℕ, zero, suc, ◌+◌, ◌-◌, ◌<◌, ◌^◌, List, [], ◌∷◌, drop, length, get_or, Bool, true, false, not, Option, Some, None, refl, ap, sym, subst, arith, ◌==◌, ◌&&◌}
 use Rattle.std.specs.Prelude.{nat_lt, is_none, is_some, if◌then◌else◌}
 use Rattle.std.specs.List.{list_any, list_all, AllByRecursion}
 use Rattle.std.proofs.lemmas.List.{length-append, get_or_past, get_or-drop, length-drop}
-use Rattle.std.proofs.lemmas.Bool.{ltb-true, lt-ltb}
+use Rattle.std.proofs.lemmas.Bool.{ltb-true, lt-ltb, eqb-true, eq-eqb}
 use Rattle.qvt_base.specs.declared.numbers.ClassNo.{ClassNo}
 use Rattle.qvt_base.specs.declared.numbers.FeatureNo.{FeatureNo}
-use Rattle.qvt_relation.specs.Closure.{Closure}
 use Rattle.qvt_relation.proofs.Closures.{reaches-closure}
 use Rattle.qvt_metamodel.specs.declared.given.ClassData.{ClassData}
 use Rattle.qvt_metamodel.specs.declared.given.FeatureData.{FeatureData}
@@ -20,7 +19,7 @@ use Rattle.qvt_metamodel.specs.Descends.{is_superclass}
 use Rattle.qvt_metamodel.specs.Named.{metamodel_at, nowhere_metamodel}
 use Rattle.qvt_metamodel.specs.WellFormed.{IsWellFormed, IsLiveKind}
 use Rattle.qvt_metamodel.specs.Checks.{repeated_feature}
-use Rattle.qvt_metamodel.specs.Extended.{extended, unnamed, element_class, given_classes, given_count, IsGivenNumber, AreGiven}
+use Rattle.qvt_metamodel.specs.Extended.{extended, unnamed, element_class, given_classes, given_count, IsGivenNumber, IsLoose, AreGiven}
 use Rattle.qvt_metamodel.proofs.Bools.{clash, and_both, and_left, and_right}
 use Rattle.qvt_metamodel.proofs.Halves.{Half, old, new, half, old-at, new-at}
 use Rattle.qvt_metamodel.proofs.Lookups.{none_from}
@@ -29,8 +28,9 @@ use Rattle.qvt_meta_tables.specs.Search.{IsSuper, AreLive, IsAcyclic}
 use Rattle.qvt_meta_tables.specs.Cycles.{is_own_ancestor, cycle_from, first_cycle}
 use Rattle.qvt_meta_tables.proofs.Cyclic.{acyclic_of}
 use Rattle.qvt_meta_tables.proofs.Same.{features_of_same}
+use Rattle.qvt_metas.proofs.GivenOrder.{given_acyclic, whole_acyclic}
 use Rattle.qvt_metas.proofs.Extends.{W, is_extended, class_total, class_new, given_supers, super_in}
-use Rattle.qvt_meta_given.specs.Given.{fits, has_room_for, is_given_number, has_given_supers, is_live_kind, has_live_kind, has_live_kinds, are_live, differ, AreSound}
+use Rattle.qvt_meta_given.specs.Given.{fits, has_room_for, is_given_number, has_given_supers, is_live_kind, has_live_kind, has_live_kinds, are_live, is_loose, has_loose_features, are_loose, differ, AreSound}
 
 -- tests of all items
 all_of : {X : Type 0} (p : X → Bool) (P : X → Type 0) (xs : List X) → ((x : X) → p x ≡ true → P x) → list_all p xs ≡ true → AllByRecursion P xs
@@ -52,6 +52,20 @@ all_at p (x ∷ xs) d f = and_both (p x) (list_all p xs) (f zero (omega arith)) 
 
 none_is : {X : Type 0} (o : Option X) → o ≡ None → is_none o ≡ true
 none_is o e = ap is_none e
+
+-- a feature that is no containment and has no lower bound
+feature_of : (f : FeatureData) → is_loose f ≡ true → IsLoose f
+feature_of f h = record {
+  containment = is_false f.shape.containment (and_left (not f.shape.containment) (f.shape.lower == 0) h);
+  lower = eqb-true f.shape.lower 0 (and_right (not f.shape.containment) (f.shape.lower == 0) h);
+}
+  where
+    is_false : (b : Bool) → not b ≡ true → b ≡ false
+    is_false true h = absurd (cc)
+    is_false false h = refl
+
+of_feature : (f : FeatureData) → IsLoose f → is_loose f ≡ true
+of_feature f l = and_both (not f.shape.containment) (f.shape.lower == 0) (ap not l.containment) (eq-eqb f.shape.lower 0 l.lower)
 
 module _ (m : Metamodels) (cs : List ClassData) where
   abbrev E : Metamodels
@@ -157,12 +171,12 @@ module _ (m : Metamodels) (cs : List ClassData) where
       by None e = refl
       by (Some x) e = absurd (alone x (reaches-closure (is_superclass (of_classes ks)) (IsSuper ks) (record { sound = λ x y h. h; complete = λ x y h. h }) (length ks) x x (found_at ks 0 (length ks) x e)))
 
-  acyclic_in : (ks : List ClassInfo) → ks ≡ (extended m cs).classes → AreSound m cs → IsAcyclic ks
-  acyclic_in ks e sound = subst IsAcyclic (sym (e ∙ ap (λ (w : Metamodels). w.classes) (is_extended m cs)))
-      (subst (λ (w : Metamodels). (c : ℕ) → Closure (λ x y. is_superclass w x y ≡ true) c c → ⊥) (is_extended m cs) sound.acyclic)
+  acyclic_in : (ks : List ClassInfo) → ks ≡ (extended m cs).classes → IsWellFormed m → are_live m cs ≡ true → AreSound m cs → IsAcyclic ks
+  acyclic_in ks e wm h sound = subst IsAcyclic (sym (e ∙ ap (λ (w : Metamodels). w.classes) (is_extended m cs)))
+      (whole_acyclic m cs wm (supers_of (and_left (list_all (has_given_supers m cs) cs) (list_all (has_live_kinds m cs) cs) h)) sound.acyclic)
 
-  pub not_found : (ks : List ClassInfo) (o : Option ℕ) → ks ≡ (extended m cs).classes → o ≡ first_cycle ks → is_some o ≡ true → AreSound m cs → ⊥
-  not_found ks o e is there sound = clash there (ap is_some is ∙ no_cycle ks (acyclic_in ks e sound))
+  pub not_found : (ks : List ClassInfo) (o : Option ℕ) → ks ≡ (extended m cs).classes → o ≡ first_cycle ks → is_some o ≡ true → IsWellFormed m → are_live m cs ≡ true → AreSound m cs → ⊥
+  not_found ks o e is there wm h sound = clash there (ap is_some is ∙ no_cycle ks (acyclic_in ks e wm h sound))
 
   pub none_found : (ks : List ClassInfo) (o : Option ℕ) → o ≡ first_cycle ks → is_some o ≡ false → IsAcyclic ks
   none_found ks o is none = acyclic_of ks (sym is ∙ by o none)
@@ -196,7 +210,7 @@ module _ (m : Metamodels) (cs : List ClassData) where
 
     pub sound_of : IsAcyclic ks → list_all (differ (extended m cs).features) (drop (length m.classes + 1) lists) ≡ true → AreSound m cs
     sound_of alone h = record {
-      acyclic = subst (λ (w : Metamodels). (c : ℕ) → Closure (λ x y. is_superclass w x y ≡ true) c c → ⊥) (sym (is_extended m cs)) (subst IsAcyclic all_same alone);
+      acyclic = given_acyclic m cs (subst IsAcyclic all_same alone);
       names = names_of h;
     }
 
@@ -204,16 +218,20 @@ module _ (m : Metamodels) (cs : List ClassData) where
     of_sound h sound = clash (of_names sound.names) h
 
   -- all together
-  pub given_of : are_live m cs ≡ true → AreSound m cs → AreGiven m cs
-  given_of h sound = record {
+  pub given_of : are_live m cs ≡ true → are_loose cs ≡ true → AreSound m cs → AreGiven m cs
+  given_of h loose sound = record {
     supers = supers_of (and_left (list_all (has_given_supers m cs) cs) (list_all (has_live_kinds m cs) cs) h);
     acyclic = sound.acyclic;
+    loose = all_of has_loose_features (λ c. AllByRecursion IsLoose c.features) cs (λ c g. all_of is_loose IsLoose c.features feature_of g) loose;
     types = types_of (and_right (list_all (has_given_supers m cs) cs) (list_all (has_live_kinds m cs) cs) h);
     names = sound.names;
   }
 
   pub live_given : AreGiven m cs → are_live m cs ≡ true
   live_given given = and_both (list_all (has_given_supers m cs) cs) (list_all (has_live_kinds m cs) cs) (of_supers given.supers) (of_types given.types)
+
+  pub loose_given : AreGiven m cs → are_loose cs ≡ true
+  loose_given given = of_all has_loose_features (λ c. AllByRecursion IsLoose c.features) cs (λ c g. of_all is_loose IsLoose c.features of_feature g) given.loose
 
   pub sound_given : AreGiven m cs → AreSound m cs
   sound_given given = record { acyclic = given.acyclic; names = given.names }

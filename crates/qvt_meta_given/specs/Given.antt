@@ -1,5 +1,5 @@
 -- The conditions on classes that are declared beside metamodels (QVT 8.2.1.1, intermediate classes) as tests.
-use Rattle.std.specs.Prelude.{◌≡◌, ℕ, Bool, true, ◌&&◌, ◌+◌, ◌<◌, ◌^◌, nat_lt, List, [], length, map, None, is_none, slice_index_or, IsTrue}
+use Rattle.std.specs.Prelude.{◌≡◌, ℕ, Bool, true, not, ◌&&◌, ◌==◌, ◌+◌, ◌<◌, ◌^◌, nat_lt, List, [], length, map, None, is_none, slice_index_or, IsTrue}
 use Rattle.std.specs.List.{list_all}
 use Rattle.qvt_base.specs.declared.numbers.ClassNo.{ClassNo}
 use Rattle.qvt_base.specs.declared.numbers.FeatureNo.{FeatureNo}
@@ -11,10 +11,9 @@ use Rattle.qvt_metamodel.specs.declared.info.TypeKind.{TypeKind}
 use Rattle.qvt_metamodel.specs.declared.info.TypeKind.TheVariants.{Bool as BoolKind, Int, Str, Enum, Class}
 use Rattle.qvt_relation.specs.Closure.{Closure}
 use Rattle.qvt_metamodel.specs.Metamodels.{Metamodels, nowhere_feature}
-use Rattle.qvt_metamodel.specs.Descends.{is_superclass}
 use Rattle.qvt_metamodel.specs.Checks.{repeated_feature}
 use Rattle.qvt_metamodel.specs.Named.{metamodel_at}
-use Rattle.qvt_metamodel.specs.Extended.{given_count, extended}
+use Rattle.qvt_metamodel.specs.Extended.{given_count, extended, is_given_superclass}
 
 -- the numbers fit 32 bits
 abbrev pub fits : ℕ → Bool
@@ -55,7 +54,17 @@ name_in fs f = (slice_index_or fs f.0 nowhere_feature).name
 abbrev pub differ : List FeatureInfo → List FeatureNo → Bool
 differ fs list = is_none (repeated [] (map (name_in fs) list))
 
+-- no feature is a containment or has a lower bound above 0
+abbrev pub is_loose : FeatureData → Bool
+is_loose f = not f.shape.containment && (f.shape.lower == 0)
+
+abbrev pub has_loose_features : ClassData → Bool
+has_loose_features c = list_all is_loose c.features
+
+abbrev pub are_loose : List ClassData → Bool
+are_loose cs = list_all has_loose_features cs
+
 -- none is above itself, and no class has two features of one name
 pub record AreSound (m : Metamodels) (cs : List ClassData) : Type 0 where
-  pub acyclic : (c : ℕ) → Closure (λ x y. IsTrue (is_superclass (extended m cs) x y)) c c → ⊥
+  pub acyclic : (i : ℕ) → Closure (λ x y. IsTrue (is_given_superclass m cs x y)) i i → ⊥
   pub names : (i : ℕ) → i < length cs → repeated_feature (extended m cs) (length m.classes + (1 + i)) ≡ None

@@ -2,13 +2,12 @@
 
 ghost use Rattle.std.specs.Prelude.{◌≡◌, ◌<◌, ◌+◌, ◌++◌, ◌∷◌, ℕ, None, length, IfOk, IsTrue, IsFalse};
 ghost use Rattle.std.specs.List.{AllByRecursion};
-ghost use Rattle.qvt_relation.specs.Closure.{Closure};
-ghost use Rattle.qvt_metamodel.specs.Descends.{is_superclass};
 ghost use Rattle.qvt_metamodel.specs.Checks.{repeated_feature};
 ghost use Rattle.qvt_metamodel.specs.Extended.{extended, element_class, given_classes, given_features, AreGiven, HasRoomFor};
 ghost use Rattle.qvt_meta_given.specs.Given.{has_room_for, are_live};
 
 use crate::live::are_live;
+use crate::loose::are_loose;
 use crate::named::all_differ;
 use crate::room::has_room_for;
 use qvt_base::list_fault::ListFault;
@@ -51,7 +50,7 @@ fn all_features(
     joined(alloc, metas.feature_infos(), given)
 }
 
-/// Whether no class is above itself and no given class has two features of one name.
+/// Whether no given class is above itself and no given class has two features of one name.
 fn are_sound(alloc: Global, metas: &Metas, classes: &[ClassData]) -> Result<bool, ListFault>
     requires room { IsTrue (has_room_for metas.now classes.now) }
     requires live { IsTrue (are_live metas.now classes.now) }
@@ -74,8 +73,8 @@ fn are_sound(alloc: Global, metas: &Metas, classes: &[ClassData]) -> Result<bool
 ghost use Rattle.qvt_meta_given.specs.Given.{AreSound};
 
 /// Whether classes can come after metamodels that have no class Element: their superclasses are
-/// given classes, none is above itself, types are there, no class has two features of one name, and
-/// the numbers fit.
+/// given classes, none is above itself, types are there, no feature is a containment or has a lower
+/// bound above 0, no class has two features of one name, and the numbers fit.
 pub fn are_given(alloc: Global, metas: &Metas, classes: &ClassDataList) -> Result<bool, ListFault>
     ensures given { IfOk result (λ b. IsTrue b → metas.now.element ≡ None → AreGiven metas.now classes.now) }
     ensures room { IfOk result (λ b. IsTrue b → metas.now.element ≡ None → HasRoomFor metas.now classes.now) }
@@ -86,6 +85,9 @@ pub fn are_given(alloc: Global, metas: &Metas, classes: &ClassDataList) -> Resul
         return Ok(false);
     }
     if !are_live(metas, given) {
+        return Ok(false);
+    }
+    if !are_loose(given) {
         return Ok(false);
     }
     let sound = are_sound(alloc, metas, given)?;

@@ -3,5 +3,6 @@
 
 pub mod given;
 mod live;
+mod loose;
 mod named;
 mod room;

@@ -34,7 +34,7 @@ passing p (x ∷ xs) d h t = elim (or_cases (x.0 == d) (list_any (λ s. s.0 == d
 ]
 
 module _ (m : Metamodels) where
-  above_sound : (k d c : ℕ) → is_above k m d c ≡ true → IsAncestor m d c
+  pub above_sound : (k d c : ℕ) → is_above k m d c ≡ true → IsAncestor m d c
   above_sound zero d c h = absurd (cc)
   above_sound (suc k) d c h =
       let f : Found (λ s. (s == d) || is_above k m d s) (class_at m c).supers = found (λ s. (s == d) || is_above k m d s) (class_at m c).supers h in
@@ -51,7 +51,7 @@ module _ (m : Metamodels) where
   ]
 
   module _ (ranks : List ℕ) (ok : AreRanks m ranks) where
-    live : (c d : ℕ) → is_superclass m c d ≡ true → c < length m.classes
+    pub live : (c d : ℕ) → is_superclass m c d ≡ true → c < length m.classes
     live c d h = by c (half (length m.classes) c) h
       where
         by : (c : ℕ) → Half (length m.classes) c → is_superclass m c d ≡ true → c < length m.classes
@@ -72,7 +72,7 @@ module _ (m : Metamodels) where
     up : (c s d : ℕ) → is_superclass m c s ≡ true → ((s == d) || reaches m s d) ≡ true → reaches m c d ≡ true
     up c s d there t = one_more (length m.classes) c d refl (live c s there) ∙ passing (λ s. (s == d) || reaches m s d) (class_at m c).supers s there t
 
-    ancestor : (d c : ℕ) → IsAncestor m d c → (is_element m d ≡ true) ⊎ (reaches m c d ≡ true)
+    pub ancestor : (d c : ℕ) → IsAncestor m d c → (is_element m d ≡ true) ⊎ (reaches m c d ≡ true)
     ancestor d c (superclass _ there) = inr (up c d d there (or_left (d == d) (reaches m d d) (eq-eqb d d refl)))
     ancestor d c (above _ s there rest) = elim (ancestor d s rest) [ inl top ↦ inl top | inr r ↦ inr (up c s d there (or_right (s == d) (reaches m s d) r)) ]
     ancestor d c (element _ top) = inl top

@@ -1,11 +1,15 @@
 -- Without metamodels everything is kept.
-use Rattle.std.proofs.Common.{◌≡◌, ℕ, [], None, true, false, refl, arith, lit<, sym, ◌∙◌}
+use Rattle.std.proofs.Common.{◌≡◌, ℕ, [], None, true, false, refl, arith, lit<, sym, subst, ◌∙◌, ◌==◌, ◌||◌, inl, inr}
 use Rattle.std.specs.Str.{is_utf8}
 use Rattle.std.proofs.lemmas.Str.{is_utf8-from_IsUtf8, IsUtf8-nil}
 use Rattle.qvt_metamodel.specs.Metamodels.{Metamodels, features_of}
-use Rattle.qvt_metamodel.specs.Descends.{reaches}
-use Rattle.qvt_metamodel.specs.WellFormed.{IsWellFormed}
+use Rattle.std.proofs.lemmas.Bool.{eqb-true}
+use Rattle.qvt_relation.specs.Closure.{Closure, directly, through}
+use Rattle.qvt_metamodel.specs.Descends.{is_superclass, reaches, descends}
+use Rattle.qvt_metamodel.specs.WellFormed.{IsWellFormed, IsRegular}
 use Rattle.qvt_metamodel.specs.Kept.{IsKept}
+use Rattle.qvt_metamodel.proofs.Bools.{or_cases, clash}
+use Rattle.qvt_metamodel.proofs.Regular.{regular}
 use Rattle.qvt_metamodel.proofs.Rows.{no_mark}
 
 abbrev pub no_metamodels : Metamodels
@@ -19,8 +23,35 @@ no_ancestor : (c d : ℕ) → reaches no_metamodels c d ≡ false
 unfolding reaches
 no_ancestor c d = refl
 
+no_path : {c d : ℕ} → Closure (λ x y. is_superclass no_metamodels x y ≡ true) c d → ⊥
+no_path (directly {x} {y} h) = cc
+no_path (through {x} {y} {z} h p) = cc
+
+same : (c d : ℕ) → descends no_metamodels c d ≡ true → c ≡ d
+same c d h = elim (or_cases ((c == d) || false) (reaches no_metamodels c d) h) [
+  | inl e ↦ elim (or_cases (c == d) false e) [ inl i ↦ eqb-true c d i | inr never ↦ absurd (cc) ]
+  | inr up ↦ clash up (no_ancestor c d)
+]
+
 no_text : is_utf8 [] ≡ true
 no_text = is_utf8-from_IsUtf8 [] IsUtf8-nil
+
+none_irregular : IsRegular no_metamodels
+unfolding features_of
+none_irregular = record {
+  acyclic = λ c p. no_path p;
+  antisymmetric = λ c d h k. same c d h;
+  transitive = λ c d e h k. subst (λ x. descends no_metamodels x e ≡ true) (sym (same c d h)) k;
+  inherited = λ c d f h k. absurd (cc);
+  live_element = λ c h. absurd (cc);
+  abstract_element = λ c h. absurd (cc);
+  featureless_element = λ c f h. absurd (cc);
+  topmost_element = λ c d h. absurd (cc);
+  object_containments = λ f h. absurd (cc);
+  unique_containments = λ f h. absurd (cc);
+  unnamed_empty = λ c f h i. absurd (cc);
+  unnamed_optional = λ c f h i. absurd (cc);
+}
 
 pub well_formed : IsWellFormed no_metamodels
 unfolding features_of
@@ -37,6 +68,7 @@ well_formed = record {
   live_class = λ c f h. absurd (cc);
   live_opposite = λ p q h. absurd (cc);
   live_type = λ f h. absurd (omega arith);
+  regular = regular no_metamodels none_irregular;
   mutual_opposites = λ p q h. absurd (cc);
   other_feature = λ p. refl;
   one_containment = λ p q h i. absurd (cc);

@@ -6,7 +6,9 @@ pub mod Infos
 pub mod Lookups
 pub mod Ancestors
 pub mod Rows
+pub mod Regular
 pub mod Empty
 pub mod Owners
 pub mod FeatureNames
 pub mod Positions
+pub mod Order

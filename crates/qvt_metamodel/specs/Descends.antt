@@ -1,6 +1,6 @@
 -- Which classes are above a class (EMOF 12.4.1, Class::superClass): the least set that has its superclasses and what is
 -- above these. The class Element, where there is one, is above every class.
-use Rattle.std.specs.Prelude.{◌≡◌, ℕ, Bool, false, ◌==◌, ◌||◌, ◌⊎◌, length, IsTrue, zero, suc}
+use Rattle.std.specs.Prelude.{◌≡◌, ℕ, Bool, true, false, ◌==◌, ◌||◌, ◌⊎◌, length, IsTrue, zero, suc}
 use Rattle.std.specs.List.{list_any}
 use Rattle.qvt_metamodel.specs.declared.info.TypeKind.{TypeKind}
 use Rattle.qvt_metamodel.specs.declared.info.TypeKind.TheVariants.{Bool as BoolKind, Int, Str, Enum, Class}
@@ -35,6 +35,14 @@ is_class_kind m c Int = false
 is_class_kind m c Str = false
 is_class_kind m c (Enum k e) = false
 is_class_kind m c (Class d) = descends m c d.0
+
+-- values of the type are objects
+abbrev pub is_class_type : TypeKind → Bool
+is_class_type BoolKind = false
+is_class_type Int = false
+is_class_type Str = false
+is_class_type (Enum k e) = false
+is_class_type (Class d) = true
 
 -- sub is sup, or sup is among the classes above it
 abbrev pub Descends : Metamodels → ℕ → ℕ → Type 0

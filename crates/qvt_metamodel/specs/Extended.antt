@@ -1,7 +1,7 @@
 -- Metamodels and one more, the last, which has no name: the class Element, which is above all classes, and after it classes
 -- that are declared beside metamodels (QVT 8.2.1.1, intermediate classes).
-use Rattle.std.specs.Prelude.{◌≡◌, ℕ, Bool, ◌&&◌, ◌+◌, ◌<◌, ◌^◌, List, [], ◌∷◌, ◌++◌, length, map, IsTrue, true, false, Some, None, codes}
-use Rattle.std.specs.List.{list_all, AllByRecursion}
+use Rattle.std.specs.Prelude.{◌≡◌, ℕ, Bool, ◌&&◌, ◌+◌, ◌==◌, ◌<◌, ◌^◌, List, [], ◌∷◌, ◌++◌, length, map, slice_index_or, IsTrue, IsFalse, true, false, Some, None, codes}
+use Rattle.std.specs.List.{list_all, list_any, AllByRecursion}
 use Rattle.std.specs.Str.{is_utf8}
 use Rattle.qvt_base.specs.declared.numbers.ClassNo.{ClassNo}
 use Rattle.qvt_relation.specs.Closure.{Closure}
@@ -11,7 +11,6 @@ use Rattle.qvt_metamodel.specs.declared.info.ClassInfo.{ClassInfo}
 use Rattle.qvt_metamodel.specs.declared.info.FeatureInfo.{FeatureInfo}
 use Rattle.qvt_metamodel.specs.declared.info.MetamodelInfo.{MetamodelInfo}
 use Rattle.qvt_metamodel.specs.Metamodels.{Metamodels}
-use Rattle.qvt_metamodel.specs.Descends.{is_superclass}
 use Rattle.qvt_metamodel.specs.WellFormed.{IsLiveKind}
 use Rattle.qvt_metamodel.specs.Added.{numbers_from}
 use Rattle.qvt_metamodel.specs.Checks.{repeated_feature}
@@ -56,10 +55,24 @@ given_count (c ∷ cs) = length c.features + given_count cs
 abbrev pub IsGivenNumber : Metamodels → List ClassData → ClassNo → Type 0
 IsGivenNumber m cs s = (length m.classes < s.0) × (s.0 < length m.classes + (1 + length cs))
 
--- the superclasses of the classes are such classes, none is above itself, types are there, and no class has two features of one name
+abbrev pub nothing_given : ClassData
+nothing_given = record { name = []; supers = []; features = [] }
+
+-- the given class at j is a superclass of the one at i
+abbrev pub is_given_superclass : Metamodels → List ClassData → ℕ → ℕ → Bool
+is_given_superclass m cs i j = list_any (λ s. s.0 == length m.classes + (1 + j)) (slice_index_or cs i nothing_given).supers
+
+-- the feature holds what stands elsewhere, and needs no value
+pub record IsLoose (f : FeatureData) : Type 0 where
+  pub containment : IsFalse f.shape.containment
+  pub lower : f.shape.lower ≡ 0
+
+-- the superclasses of the classes are such classes, none of them is above itself, the types of their features are there, no
+-- feature is a containment or has a lower bound above 0, and no class has two features of one name
 pub record AreGiven (m : Metamodels) (cs : List ClassData) : Type 0 where
   pub supers : AllByRecursion (λ c. AllByRecursion (IsGivenNumber m cs) c.supers) cs
-  pub acyclic : (c : ℕ) → Closure (λ x y. IsTrue (is_superclass (extended m cs) x y)) c c → ⊥
+  pub acyclic : (i : ℕ) → Closure (λ x y. IsTrue (is_given_superclass m cs x y)) i i → ⊥
+  pub loose : AllByRecursion (λ c. AllByRecursion IsLoose c.features) cs
   pub types : AllByRecursion (λ c. AllByRecursion (λ f. IsLiveKind (extended m cs) f.shape.kind) c.features) cs
   pub names : (i : ℕ) → i < length cs → repeated_feature (extended m cs) (length m.classes + (1 + i)) ≡ None
 

@@ -1,10 +1,11 @@
 -- What every list of metamodels keeps, since each of its metamodels passed the checks (EMOF 12.5).
 use Rattle.std.specs.Prelude.{◌≡◌, ◌≢◌, ℕ, ◌<◌, ◌^◌, length, slice_index_or, IsTrue, IsFalse, Some, []}
 use Rattle.std.specs.Str.{is_utf8}
+use Rattle.qvt_relation.specs.Closure.{Closure}
 use Rattle.qvt_metamodel.specs.declared.info.TypeKind.{TypeKind}
 use Rattle.qvt_metamodel.specs.declared.info.TypeKind.TheVariants.{Bool as BoolKind, Int, Str, Enum, Class}
-use Rattle.qvt_metamodel.specs.Metamodels.{Metamodels, class_at, feature_at, shape_of, is_opposite, is_containment, is_single, features_of, has_feature}
-use Rattle.qvt_metamodel.specs.Descends.{is_class_kind, is_superclass}
+use Rattle.qvt_metamodel.specs.Metamodels.{Metamodels, class_at, feature_at, shape_of, is_opposite, is_containment, is_single, features_of, has_feature, is_element}
+use Rattle.qvt_metamodel.specs.Descends.{is_class_kind, is_class_type, is_superclass, descends}
 use Rattle.qvt_metamodel.specs.Named.{metamodel_at, enumeration_at, literal_at, class_named, feature_named, enumeration_named, literal_named}
 
 -- the numbers inside a type are those of a metamodel, an enumeration and a class that are there
@@ -14,6 +15,30 @@ IsLiveKind m Int = Unit {0}
 IsLiveKind m Str = Unit {0}
 IsLiveKind m (Enum k e) = (k < length m.metamodels) × (e < length (metamodel_at m k).enums)
 IsLiveKind m (Class c) = c.0 < length m.classes
+
+-- descent is an order that hands features down; the class above all is apart; a containment holds objects, each once
+pub record IsRegular (m : Metamodels) : Type 0 where
+  -- no class is above itself
+  pub acyclic : (c : ℕ) → Closure (λ x y. IsTrue (is_superclass m x y)) c c → ⊥
+  pub antisymmetric : (c d : ℕ) → IsTrue (descends m c d) → IsTrue (descends m d c) → c ≡ d
+  pub transitive : (c d e : ℕ) → IsTrue (descends m c d) → IsTrue (descends m d e) → IsTrue (descends m c e)
+  -- who descends from a class has its features
+  pub inherited : (c d f : ℕ) → IsTrue (descends m c d) → IsTrue (has_feature m d f) → IsTrue (has_feature m c f)
+  -- the class above all, where there is one, is abstract, has no features and no superclass
+  pub live_element : (c : ℕ) → IsTrue (is_element m c) → c < length m.classes
+  pub abstract_element : (c : ℕ) → IsTrue (is_element m c) → IsTrue (class_at m c).is_abstract
+  pub featureless_element : (c f : ℕ) → IsTrue (is_element m c) → IsFalse (has_feature m c f)
+  pub topmost_element : (c d : ℕ) → IsTrue (is_element m c) → IsFalse (is_superclass m c d)
+  -- containments
+  pub object_containments : (f : ℕ) → IsTrue (is_containment m f) → IsTrue (is_class_type (shape_of m f).kind)
+  pub unique_containments : (f : ℕ) → IsTrue (is_containment m f) → IsTrue (shape_of m f).unique
+  -- a class of a metamodel without a name has no feature that is a containment or has a lower bound
+  pub unnamed_empty : (c f : ℕ) → IsTrue (has_feature m c f) → (metamodel_at m (class_at m c).metamodel).name ≡ [] → IsFalse (is_containment m f)
+  pub unnamed_optional : (c f : ℕ) → IsTrue (has_feature m c f) → (metamodel_at m (class_at m c).metamodel).name ≡ [] → (shape_of m f).lower ≡ 0
+
+-- the same, which no search for a proof looks into: so many facts would end it
+unfoldable pub Regular : Metamodels → Type 0
+Regular m = IsRegular m
 
 pub record IsWellFormed (m : Metamodels) : Type 0 where
   -- there are few of each, so that their numbers fit 32 bits
@@ -30,6 +55,7 @@ pub record IsWellFormed (m : Metamodels) : Type 0 where
   pub live_class : (c f : ℕ) → IsTrue (has_feature m c f) → c < length m.classes
   pub live_opposite : (p q : ℕ) → IsTrue (is_opposite m p q) → q < length m.features
   pub live_type : (f : ℕ) → f < length m.features → IsLiveKind m (shape_of m f).kind
+  pub regular : Regular m
   -- opposites
   pub mutual_opposites : (p q : ℕ) → IsTrue (is_opposite m p q) → IsTrue (is_opposite m q p)
   pub other_feature : (p : ℕ) → IsFalse (is_opposite m p p)
@@ -38,6 +64,7 @@ pub record IsWellFormed (m : Metamodels) : Type 0 where
   pub unique_opposites : (p q : ℕ) → IsTrue (is_opposite m p q) → IsTrue (shape_of m p).unique
   pub opposite_has_type : (p q c : ℕ) → IsTrue (is_opposite m p q) → IsTrue (has_feature m c p) → IsTrue (is_class_kind m c (shape_of m q).kind)
   pub type_has_opposite : (p q c : ℕ) → IsTrue (is_opposite m p q) → IsTrue (is_class_kind m c (shape_of m p).kind) → IsTrue (has_feature m c q)
+  -- a class of a metamodel without a name has no feature with an opposite
   pub unnamed_alone : (p q c : ℕ) → IsTrue (has_feature m c p) → (metamodel_at m (class_at m c).metamodel).name ≡ [] → IsFalse (is_opposite m p q)
   -- no class has a feature twice
   pub distinct_features : (c i j : ℕ) → i < j → j < length (features_of m c) → (slice_index_or (features_of m c) i (record { 0 = 0 })).0 ≢ (slice_index_or (features_of m c) j (record { 0 = 0 })).0

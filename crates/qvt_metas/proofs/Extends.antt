@@ -15,21 +15,23 @@ use Rattle.qvt_metamodel.specs.declared.info.TypeKind.TheVariants.{Bool as BoolK
 use Rattle.qvt_metamodel.specs.declared.info.MetamodelInfo.{MetamodelInfo}
 use Rattle.qvt_metamodel.specs.declared.info.ClassInfo.{ClassInfo}
 use Rattle.qvt_metamodel.specs.declared.info.FeatureInfo.{FeatureInfo}
-use Rattle.qvt_metamodel.specs.Metamodels.{Metamodels, class_at, feature_at, shape_of, is_opposite, is_feature_number, is_class_number, features_of, features_in, has_feature, among_features, each_once, nowhere_class, nowhere_feature, is_single, is_containment, is_one}
-use Rattle.qvt_metamodel.specs.Descends.{is_superclass, reaches, is_above, is_class_kind}
+use Rattle.qvt_metamodel.specs.Metamodels.{Metamodels, class_at, feature_at, shape_of, is_opposite, is_feature_number, is_class_number, features_of, features_in, has_feature, among_features, each_once, nowhere_class, nowhere_feature, is_single, is_containment, is_one, is_element}
+use Rattle.qvt_metamodel.specs.Descends.{is_superclass, reaches, is_above, is_class_kind, is_class_type}
 use Rattle.qvt_metamodel.specs.Named.{metamodel_at, nowhere_metamodel, nowhere_enumeration, class_named, feature_named}
-use Rattle.qvt_metamodel.specs.WellFormed.{IsWellFormed, IsLiveKind}
+use Rattle.qvt_metamodel.specs.WellFormed.{IsWellFormed, IsRegular, IsLiveKind}
 use Rattle.qvt_metamodel.specs.Kept.{AreRanks, IsKept}
 use Rattle.qvt_metamodel.specs.declared.row.Row.{Row}
 use Rattle.qvt_meta_tables.specs.Tables.{of_classes, AreTables}
 use Rattle.qvt_meta_tables.proofs.Same.{tables_same}
-use Rattle.qvt_metamodel.specs.Extended.{unnamed, element_class, given_class, given_classes, given_feature, given_features, given_count, extended, IsGivenNumber, AreGiven, HasRoomFor, has_text, has_texts}
+use Rattle.qvt_metamodel.specs.Extended.{unnamed, element_class, given_class, given_classes, given_feature, given_features, given_count, extended, IsGivenNumber, IsLoose, AreGiven, HasRoomFor, has_text, has_texts}
 use Rattle.std.proofs.lemmas.Str.{is_utf8-from_IsUtf8, IsUtf8-nil, IsUtf8-from_ascii}
 use Rattle.qvt_metamodel.proofs.Bools.{ap2, clash, not_true, or_cases, and_left, and_right}
 use Rattle.qvt_metamodel.proofs.Halves.{Half, old, new, half, new-at}
 use Rattle.qvt_metamodel.proofs.Ancestors.{Found, found}
 use Rattle.qvt_metamodel.proofs.Infos.{among_numbers}
 use Rattle.qvt_metamodel.proofs.Owners.{Declared, declared}
+use Rattle.qvt_metamodel.proofs.Order.{acyclic, antisymmetric, transitive, inherited}
+use Rattle.qvt_metamodel.proofs.Regular.{regular, regular_of}
 use Rattle.qvt_metamodel.proofs.Stable.{no-features-past}
 use Rattle.qvt_metamodel.proofs.FeatureNames.{distinct, found_feature}
 use Rattle.qvt_metamodel.specs.Stay.{StaysIn}
@@ -100,6 +102,20 @@ no_opposite o (c ∷ cs) j = split c.features j (no_opposite (o + 1) cs)
     split [] j rest = rest j
     split (f ∷ fs) zero rest = refl
     split (f ∷ fs) (suc j) rest = split fs j rest
+
+-- no given feature is a containment or has a lower bound
+loose_feature : (o : ℕ) (cs : List ClassData) → AllByRecursion (λ c. AllByRecursion IsLoose c.features) cs → (j : ℕ)
+    → ((get_or (given_features o cs) j nowhere_feature).shape.containment ≡ false) × ((get_or (given_features o cs) j nowhere_feature).shape.lower ≡ 0)
+loose_feature o [] q j = (refl, refl)
+loose_feature o (c ∷ cs) q j = split c.features q.0 j (loose_feature (o + 1) cs q.1)
+  where
+    split : (fs : List FeatureData) → AllByRecursion IsLoose fs → (j : ℕ)
+        → ((i : ℕ) → ((get_or (given_features (o + 1) cs) i nowhere_feature).shape.containment ≡ false) × ((get_or (given_features (o + 1) cs) i nowhere_feature).shape.lower ≡ 0))
+        → ((get_or (map (given_feature o) fs ++ given_features (o + 1) cs) j nowhere_feature).shape.containment ≡ false)
+        × ((get_or (map (given_feature o) fs ++ given_features (o + 1) cs) j nowhere_feature).shape.lower ≡ 0)
+    split [] q j rest = rest j
+    split (f ∷ fs) q zero rest = (q.0.containment, q.0.lower)
+    split (f ∷ fs) q (suc j) rest = split fs q.1 j rest
 
 feature_text : (o : ℕ) (cs : List ClassData) → list_all has_texts cs ≡ true → (j : ℕ) → is_utf8 (get_or (given_features o cs) j nowhere_feature).name ≡ true
 feature_text o [] q j = no_text
@@ -177,6 +193,9 @@ module _ (m : Metamodels) (cs : List ClassData) where
   module _ (rm : List ℕ) (wm : IsWellFormed m) (am : AreRanks m rm) (alone : m.element ≡ None) (given : AreGiven m cs) (texts : list_all has_texts cs ≡ true) where
     on : GoesOn m W
     on = goes_on alone
+
+    old_regular : IsRegular m
+    old_regular = regular_of m wm
 
     -- the superclasses of a class that comes come too
     super_new : (i d : ℕ) → is_superclass W (B + i) d ≡ true → (B < d) × (d < B + (1 + length cs))
@@ -370,6 +389,41 @@ module _ (m : Metamodels) (cs : List ClassData) where
         by _ (old c l) low is there none = clash is (wm.unnamed_alone p q c (sym (has_old c p l) ∙ there) (ap (λ i. i.name) (sym (metamodel_of_old c l)) ∙ none))
         by _ (new i) low is there none = (let far : F ≤ p = (has_new i p there).0 in omega (arith, far, low))
 
+    -- a feature that comes is no containment and has no lower bound
+    loose_new : (f : ℕ) → F ≤ f → (is_containment W f ≡ false) × ((shape_of W f).lower ≡ 0)
+    loose_new f low = by f (half F f) low
+      where
+        by : (f : ℕ) → Half F f → F ≤ f → (is_containment W f ≡ false) × ((shape_of W f).lower ≡ 0)
+        by _ (old f l) low = absurd (omega (arith, l, low))
+        by _ (new j) low = (let at : ((get_or added_features j nowhere_feature).shape.containment ≡ false) × ((get_or added_features j nowhere_feature).shape.lower ≡ 0) = loose_feature (B + 1) cs given.loose j in
+            (ap (λ (x : FeatureInfo). x.shape.containment) (feature_new j) ∙ at.0, ap (λ (x : FeatureInfo). x.shape.lower) (feature_new j) ∙ at.1))
+
+    unnamed_empty : (c f : ℕ) → has_feature W c f ≡ true → (metamodel_at W (class_at W c).metamodel).name ≡ [] → is_containment W f ≡ false
+    unnamed_empty c f there none = by c (half B c) there none
+      where
+        by : (c : ℕ) → Half B c → has_feature W c f ≡ true → (metamodel_at W (class_at W c).metamodel).name ≡ [] → is_containment W f ≡ false
+        by _ (old c l) there none =
+            (let was : has_feature m c f ≡ true = sym (has_old c f l) ∙ there in
+            ap (λ s. s.containment) (shape_old f (wm.live_feature c f was)) ∙ old_regular.unnamed_empty c f was (ap (λ i. i.name) (sym (metamodel_of_old c l)) ∙ none))
+        by _ (new i) there none = (loose_new f (has_new i f there).0).0
+
+    unnamed_optional : (c f : ℕ) → has_feature W c f ≡ true → (metamodel_at W (class_at W c).metamodel).name ≡ [] → (shape_of W f).lower ≡ 0
+    unnamed_optional c f there none = by c (half B c) there none
+      where
+        by : (c : ℕ) → Half B c → has_feature W c f ≡ true → (metamodel_at W (class_at W c).metamodel).name ≡ [] → (shape_of W f).lower ≡ 0
+        by _ (old c l) there none =
+            (let was : has_feature m c f ≡ true = sym (has_old c f l) ∙ there in
+            ap (λ s. s.lower) (shape_old f (wm.live_feature c f was)) ∙ old_regular.unnamed_optional c f was (ap (λ i. i.name) (sym (metamodel_of_old c l)) ∙ none))
+        by _ (new i) there none = (loose_new f (has_new i f there).0).1
+
+    -- a containment was there
+    containment_old : (f : ℕ) → is_containment W f ≡ true → (f < F) × (is_containment m f ≡ true)
+    containment_old f h = by f (half F f) h
+      where
+        by : (f : ℕ) → Half F f → is_containment W f ≡ true → (f < F) × (is_containment m f ≡ true)
+        by _ (old f l) h = (l, ap (λ s. s.containment) (sym (shape_old f l)) ∙ h)
+        by _ (new j) h = clash h (loose_new (F + j) (omega arith)).0
+
     element_none : (k : ℕ) → features_in k W (B + 0) ≡ []
     element_none zero = refl
     element_none (suc k) = ap (λ (x : ClassInfo). each_once [] (flat_map (λ s. features_in k W s.0) x.supers) ++ x.own) (class_new 0)
@@ -377,6 +431,22 @@ module _ (m : Metamodels) (cs : List ClassData) where
     element_features : features_of W (B + 0) ≡ []
     unfolding features_of
     element_features = element_none (length W.classes)
+
+    -- the class above all
+    element_is : (c : ℕ) → is_element W c ≡ true → c ≡ B + 0
+    element_is c h = (let same : B ≡ c = eqb-true B c h in omega (arith, same))
+
+    live_element : (c : ℕ) → is_element W c ≡ true → c < length W.classes
+    live_element c h = omega (arith, element_is c h, class_total)
+
+    abstract_element : (c : ℕ) → is_element W c ≡ true → (class_at W c).is_abstract ≡ true
+    abstract_element c h = ap (λ n. (class_at W n).is_abstract) (element_is c h) ∙ ap (λ (k : ClassInfo). k.is_abstract) (class_new 0)
+
+    featureless_element : (c f : ℕ) → is_element W c ≡ true → has_feature W c f ≡ false
+    featureless_element c f h = ap (λ n. has_feature W n f) (element_is c h) ∙ ap (among_features f) element_features
+
+    topmost_element : (c d : ℕ) → is_element W c ≡ true → is_superclass W c d ≡ false
+    topmost_element c d h = ap (λ n. is_superclass W n d) (element_is c h) ∙ ap (λ (k : ClassInfo). list_any (λ s. s.0 == d) k.supers) (class_new 0)
 
     -- no name stands twice among the features of a class that comes
     fresh_new : (i : ℕ) → repeated [] (map (λ g. (feature_at W g.0).name) (features_of W (B + i))) ≡ None
@@ -462,8 +532,24 @@ module _ (m : Metamodels) (cs : List ClassData) where
         by _ (old f l) = ap (λ (x : FeatureInfo). is_utf8 x.name) (feature_old m W rm wm am on f l) ∙ wm.text_feature f
         by _ (new j) = ap (λ (x : FeatureInfo). is_utf8 x.name) (feature_new j) ∙ feature_text (B + 1) cs texts j
 
-    pub well_formed : HasRoomFor m cs → IsWellFormed W
-    well_formed room = record {
+    all_regular : (ranks : List ℕ) → AreRanks W ranks → IsRegular W
+    all_regular ranks ranked = record {
+      acyclic = acyclic W ranks ranked;
+      antisymmetric = antisymmetric W ranks ranked topmost_element;
+      transitive = transitive W ranks ranked topmost_element;
+      inherited = inherited W ranks ranked topmost_element live_element featureless_element;
+      live_element = live_element;
+      abstract_element = abstract_element;
+      featureless_element = featureless_element;
+      topmost_element = topmost_element;
+      object_containments = λ f h. (let o : (f < F) × (is_containment m f ≡ true) = containment_old f h in ap (λ s. is_class_type s.kind) (shape_old f o.0) ∙ old_regular.object_containments f o.1);
+      unique_containments = λ f h. (let o : (f < F) × (is_containment m f ≡ true) = containment_old f h in ap (λ s. s.unique) (shape_old f o.0) ∙ old_regular.unique_containments f o.1);
+      unnamed_empty = unnamed_empty;
+      unnamed_optional = unnamed_optional;
+    }
+
+    pub well_formed : HasRoomFor m cs → (ranks : List ℕ) → AreRanks W ranks → IsWellFormed W
+    well_formed room ranks ranked = record {
       few_metamodels = omega (arith, room.metamodels, metamodel_total);
       few_classes = omega (arith, room.classes, class_total);
       few_features = omega (arith, room.features, feature_total);
@@ -476,6 +562,7 @@ module _ (m : Metamodels) (cs : List ClassData) where
       live_class = live_class;
       live_opposite = λ p q h. (let o : (p < F) × (is_opposite m p q ≡ true) = opposite_old p q h in let low : q < F = wm.live_opposite p q o.1 in omega (arith, low, feature_total));
       live_type = live_type;
+      regular = regular W (all_regular ranks ranked);
       mutual_opposites = mutual_opposites;
       other_feature = λ p. not_true (is_opposite W p p) (λ h. (let o : (p < F) × (is_opposite m p p ≡ true) = opposite_old p p h in clash o.1 (wm.other_feature p)));
       one_containment = one_containment;
@@ -500,7 +587,7 @@ module _ (m : Metamodels) (cs : List ClassData) where
     -- what the code keeps of these metamodels
     pub kept : HasRoomFor m cs → (lists : List (List FeatureNo)) (rows : List Row) (ranks : List ℕ) → AreTables (of_classes W.classes) lists rows ranks → IsKept W lists rows ranks
     kept room lists rows ranks tables = (let t : AreTables W lists rows ranks = tables_same W lists rows ranks tables in record {
-      well_formed = well_formed room;
+      well_formed = well_formed room ranks t.ranked;
       ranked = t.ranked;
       each = t.each;
       each_row = t.each_row;

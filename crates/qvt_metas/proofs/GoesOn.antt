@@ -24,7 +24,7 @@ use Rattle.qvt_metamodel.proofs.Halves.{old-at}
 use Rattle.qvt_metamodel.proofs.Lists.{all-imply, all-found, list_any-cong, flat_map-cong}
 use Rattle.qvt_metamodel.proofs.Lookups.{position-left, position-none_past, find-cong}
 use Rattle.qvt_metamodel.proofs.Stable.{above-stable, features-stable}
-use Rattle.qvt_metas.proofs.JoinsKept.{all-among}
+use Rattle.qvt_metas.proofs.JoinsKept.{all-among, first_none}
 
 pub record GoesOn (m w : Metamodels) : Type 0 where
   pub metamodels_after : List MetamodelInfo
@@ -114,10 +114,6 @@ later : (b : Begin) (ks : List ClassInfo) → AllByRecursion (λ (k : ClassInfo)
 unfolding class_info_on
 later b [] = tt
 later b (k ∷ ks) = (omega arith, later b ks)
-
-first_none : (o : Option ClassNo) → first_some o None ≡ o
-first_none None = refl
-first_none (Some x) = refl
 
 added_goes_on : (m : Metamodels) (d : MetaData) → GoesOn m (added m d)
 unfolding joined numbered

@@ -12,9 +12,9 @@ use Rattle.qvt_metamodel.specs.declared.info.TypeKind.TheVariants.{Bool as BoolK
 use Rattle.qvt_metamodel.specs.declared.info.MetamodelInfo.{MetamodelInfo}
 use Rattle.qvt_metamodel.specs.declared.info.ClassInfo.{ClassInfo}
 use Rattle.qvt_metamodel.specs.Metamodels.{Metamodels, class_at, feature_at, shape_of, opposite, is_opposite, is_feature_number, is_element, is_class_number, features_of, has_feature, among_features, nowhere_class, is_single, is_containment, is_one}
-use Rattle.qvt_metamodel.specs.Descends.{is_superclass, reaches, is_above, descends, is_class_kind}
+use Rattle.qvt_metamodel.specs.Descends.{is_superclass, reaches, is_above, descends, is_class_kind, is_class_type}
 use Rattle.qvt_metamodel.specs.Named.{metamodel_at, nowhere_metamodel, nowhere_enumeration, enumeration_at, literal_at, class_named, feature_named, enumeration_named, literal_named}
-use Rattle.qvt_metamodel.specs.WellFormed.{IsWellFormed, IsLiveKind}
+use Rattle.qvt_metamodel.specs.WellFormed.{IsWellFormed, IsRegular, IsLiveKind}
 use Rattle.qvt_metamodel.specs.Kept.{AreRanks}
 use Rattle.qvt_metamodel.specs.Joined.{class_on, feature_on, kind_on, class_info_on, feature_info_on, begin_after, first_some}
 use Rattle.qvt_metamodel.proofs.Bools.{ap2, clash, not_true, or_left, or_right, no-and}
@@ -22,6 +22,8 @@ use Rattle.qvt_metamodel.proofs.Halves.{Half, old, new, half, old-at, new-at}
 use Rattle.qvt_metamodel.proofs.Infos.{map-at}
 use Rattle.qvt_metamodel.proofs.Lists.{all-imply, all-every, all-found, list_any-cong, list_any-map, list_any-none, eqb-add, among-on}
 use Rattle.qvt_metamodel.proofs.Lookups.{position-left, position-right, position-cong, position-map, find-cong, find-map}
+use Rattle.qvt_metamodel.proofs.Order.{acyclic, antisymmetric, transitive, inherited}
+use Rattle.qvt_metamodel.proofs.Regular.{regular, regular_of}
 use Rattle.qvt_metas.proofs.Joins.{J, class_count, feature_count, metamodel_count, class_old, class_new, either_class, feature_old, feature_new, either_feature, features_old, features_new, reaches_old, reaches_new, reaches_new_old}
 
 -- a fact at each index is one of each item
@@ -33,7 +35,15 @@ pub all-among : (P : ℕ → Type 0) (gs : List FeatureNo) → ((f : ℕ) → am
 all-among P [] f = tt
 all-among P (g ∷ gs) f = (f g.0 (or_left (g.0 == g.0) (among_features g.0 gs) (eq-eqb g.0 g.0 refl)), all-among P gs (λ x h. f x (or_right (g.0 == x) (among_features x gs) h)))
 
-module _ (m n : Metamodels) (rm rn : List ℕ) (wm : IsWellFormed m) (wn : IsWellFormed n) (am : AreRanks m rm) (an : AreRanks n rn) (alone : m.element ≡ None) where
+or-false : (t : Bool) → (t || false) ≡ t
+or-false true = refl
+or-false false = refl
+
+pub first_none : (o : Option ClassNo) → first_some o None ≡ o
+first_none None = refl
+first_none (Some x) = refl
+
+module _ (m n : Metamodels) (rm rn : List ℕ) (wm : IsWellFormed m) (wn : IsWellFormed n) (am : AreRanks m rm) (an : AreRanks n rn) (other : n.element ≡ None) where
   abbrev K : ℕ
   K = length m.metamodels
 
@@ -45,6 +55,12 @@ module _ (m n : Metamodels) (rm rn : List ℕ) (wm : IsWellFormed m) (wn : IsWel
 
   abbrev W : Metamodels
   W = J m n rm rn wm wn am an
+
+  old_regular : IsRegular m
+  old_regular = regular_of m wm
+
+  new_regular : IsRegular n
+  new_regular = regular_of n wn
 
   apart : (x y z : ℕ) → y < x → eqb (x + z) y ≡ false
   apart x y z h = not_true (eqb (x + z) y) (λ e. (let same : x + z ≡ y = eqb-true (x + z) y e in omega (arith, same, h)))
@@ -126,32 +142,29 @@ module _ (m n : Metamodels) (rm rn : List ℕ) (wm : IsWellFormed m) (wn : IsWel
   unfolding feature_info_on
   unique_new f = either_feature m n rm rn wm wn am an (λ x y. x.shape.unique ≡ y.shape.unique) f (λ k. refl) refl
 
+  lower_new : (f : ℕ) → (shape_of W (F + f)).lower ≡ (shape_of n f).lower
+  unfolding feature_info_on
+  lower_new f = either_feature m n rm rn wm wn am an (λ x y. x.shape.lower ≡ y.shape.lower) f (λ k. refl) refl
+
   -- descent
-  element_old : (d : ℕ) → d < B → is_element W d ≡ false
-  element_old d h = ap (λ e. is_class_number (first_some e (option_map (class_on (begin_after m)) n.element)) d) alone ∙ by n.element
-    where
-      by : (e : Option ClassNo) → is_class_number (option_map (class_on (begin_after m)) e) d ≡ false
-      by None = refl
-      by (Some e) = apart B d e.0 h
+  element_is : (d : ℕ) → is_element W d ≡ is_element m d
+  element_is d = ap (λ e. is_class_number (first_some m.element (option_map (class_on (begin_after m)) e)) d) other ∙ ap (λ e. is_class_number e d) (first_none m.element)
 
-  element_new : (d : ℕ) → is_element W (B + d) ≡ is_element n d
-  element_new d = ap (λ e. is_class_number (first_some e (option_map (class_on (begin_after m)) n.element)) (B + d)) alone ∙ by n.element
-    where
-      by : (e : Option ClassNo) → is_class_number (option_map (class_on (begin_after m)) e) (B + d) ≡ is_class_number e d
-      by None = refl
-      by (Some e) = eqb-add B e.0 d
+  element_new : (d : ℕ) → is_element W (B + d) ≡ false
+  element_new d = not_true (is_element W (B + d)) (λ h. (let far : B + d < B = old_regular.live_element (B + d) (sym (element_is (B + d)) ∙ h) in omega (arith, far)))
 
-  element_none : (d : ℕ) → is_element m d ≡ false
-  element_none d = ap (λ e. is_class_number e d) alone
+  element_none : (d : ℕ) → is_element n d ≡ false
+  element_none d = ap (λ e. is_class_number e d) other
 
   descends_old : (c d : ℕ) → c < B → d < B → descends W c d ≡ descends m c d
-  descends_old c d h l = λ i. ((c == d) || (element_old d l ∙ sym (element_none d)) i) || reaches_old m n rm rn wm wn am an c d h i
+  descends_old c d h l = λ i. ((c == d) || element_is d i) || reaches_old m n rm rn wm wn am an c d h i
 
   descends_new : (c d : ℕ) → descends W (B + c) (B + d) ≡ descends n c d
-  descends_new c d = λ i. (eqb-add B c d i || element_new d i) || reaches_new m n rm rn wm wn am an c d i
+  descends_new c d = λ i. (eqb-add B c d i || (element_new d ∙ sym (element_none d)) i) || reaches_new m n rm rn wm wn am an c d i
 
-  descends_new_old : (c d : ℕ) → d < B → descends W (B + c) d ≡ false
-  descends_new_old c d h = λ i. (apart B d c h i || element_old d h i) || reaches_new_old m n rm rn wm wn am an c d h i
+  -- a class of the second descends from one of the first only where that is the class above all
+  descends_new_old : (c d : ℕ) → d < B → descends W (B + c) d ≡ is_element m d
+  descends_new_old c d h = (λ i. (apart B d c h i || element_is d i) || reaches_new_old m n rm rn wm wn am an c d h i) ∙ or-false (is_element m d)
 
   above_past : (k d c : ℕ) → B ≤ d → is_above k m d c ≡ false
   above_past zero d c h = refl
@@ -160,15 +173,10 @@ module _ (m n : Metamodels) (rm rn : List ℕ) (wm : IsWellFormed m) (wn : IsWel
       (λ s live. ap2 (λ x y. x || y) (not_true (eqb s.0 d) (λ e. (let same : s.0 ≡ d = eqb-true s.0 d e in omega (arith, same, live, h)))) (above_past k d s.0 h))
       (all-found (λ d. d < B) (class_at m c).supers (wm.live_superclass c)))
 
-  descends_old_new : (c d : ℕ) → c < B → descends W c (B + d) ≡ is_element n d
+  descends_old_new : (c d : ℕ) → c < B → descends W c (B + d) ≡ false
   unfolding reaches
   descends_old_new c d h =
-      (λ i. (not_true (eqb c (B + d)) (λ e. (let same : c ≡ B + d = eqb-true c (B + d) e in omega (arith, same, h))) i || element_new d i) || (reaches_old m n rm rn wm wn am an c (B + d) h ∙ above_past B (B + d) c (omega arith)) i)
-      ∙ or-false (is_element n d)
-    where
-      or-false : (t : Bool) → (t || false) ≡ t
-      or-false true = refl
-      or-false false = refl
+      λ i. (not_true (eqb c (B + d)) (λ e. (let same : c ≡ B + d = eqb-true c (B + d) e in omega (arith, same, h))) i || element_new d i) || (reaches_old m n rm rn wm wn am an c (B + d) h ∙ above_past B (B + d) c (omega arith)) i
 
   kind_old : (c : ℕ) (k : TypeKind) → c < B → IsLiveKind m k → is_class_kind W c k ≡ is_class_kind m c k
   kind_old c BoolKind h live = refl
@@ -184,21 +192,21 @@ module _ (m n : Metamodels) (rm rn : List ℕ) (wm : IsWellFormed m) (wn : IsWel
   kind_on_new c (Enum x e) = refl
   kind_on_new c (Class d) = descends_new c d.0
 
-  kind_new_old : (c : ℕ) (k : TypeKind) → IsLiveKind m k → is_class_kind W (B + c) k ≡ false
-  kind_new_old c BoolKind live = refl
-  kind_new_old c Int live = refl
-  kind_new_old c Str live = refl
-  kind_new_old c (Enum x e) live = refl
-  kind_new_old c (Class d) live = descends_new_old c d.0 live
+  -- a class of the second conforms to a type of the first only where that is the class above all
+  kind_new_old : (c : ℕ) (k : TypeKind) → IsLiveKind m k → is_class_kind W (B + c) k ≡ true → is_class_kind m B k ≡ true
+  kind_new_old c BoolKind live is = is
+  kind_new_old c Int live is = is
+  kind_new_old c Str live is = is
+  kind_new_old c (Enum x e) live is = is
+  kind_new_old c (Class d) live is =
+      or_left ((B == d.0) || is_element m d.0) (reaches m B d.0) (or_right (B == d.0) (is_element m d.0) (sym (descends_new_old c d.0 live) ∙ is))
 
-  -- a class of the first conforms to a type of the second only where that is the class above all
-  kind_old_new : (c : ℕ) (k : TypeKind) → c < B → is_class_kind W c (kind_on (begin_after m) k) ≡ true → is_class_kind n (length n.classes) k ≡ true
-  kind_old_new c BoolKind h is = is
-  kind_old_new c Int h is = is
-  kind_old_new c Str h is = is
-  kind_old_new c (Enum x e) h is = is
-  kind_old_new c (Class d) h is =
-      or_left ((length n.classes == d.0) || is_element n d.0) (reaches n (length n.classes) d.0) (or_right (length n.classes == d.0) (is_element n d.0) (sym (descends_old_new c d.0 h) ∙ is))
+  kind_old_new : (c : ℕ) (k : TypeKind) → c < B → is_class_kind W c (kind_on (begin_after m) k) ≡ false
+  kind_old_new c BoolKind h = refl
+  kind_old_new c Int h = refl
+  kind_old_new c Str h = refl
+  kind_old_new c (Enum x e) h = refl
+  kind_old_new c (Class d) h = descends_old_new c d.0 h
 
   live_kind_old : (k : TypeKind) → IsLiveKind m k → IsLiveKind W k
   live_kind_old BoolKind live = tt
@@ -365,30 +373,87 @@ module _ (m n : Metamodels) (rm rn : List ℕ) (wm : IsWellFormed m) (wn : IsWel
       by _ _ _ (pairs p q l k t) (old c o) is =
           has_old c q o ∙ wm.type_has_opposite p q c t (sym (kind_old c (shape_of m p).kind o (wm.live_type p l)) ∙ ap (λ s. is_class_kind W c s.kind) (sym (shape_old p l)) ∙ is)
       by _ _ _ (pairs p q l k t) (new c) is =
-          clash (ap (λ s. is_class_kind W (B + c) s.kind) (sym (shape_old p l)) ∙ is) (kind_new_old c (shape_of m p).kind (wm.live_type p l))
-      by _ _ _ (new_pairs p q t) (old c o) is =
-          absurd (let far : length n.classes < length n.classes = wn.live_class (length n.classes) q (wn.type_has_opposite p q (length n.classes) t
-          (kind_old_new c (shape_of n p).kind o (ap (is_class_kind W c) (sym (kind_new p)) ∙ is))) in omega (arith, far))
+          absurd (let far : B < B = wm.live_class B q (wm.type_has_opposite p q B t
+          (kind_new_old c (shape_of m p).kind (wm.live_type p l) (ap (λ s. is_class_kind W (B + c) s.kind) (sym (shape_old p l)) ∙ is))) in omega (arith, far))
+      by _ _ _ (new_pairs p q t) (old c o) is = clash is (ap (is_class_kind W c) (kind_new p) ∙ kind_old_new c (shape_of n p).kind o)
       by _ _ _ (new_pairs p q t) (new c) is =
           has_new c q ∙ wn.type_has_opposite p q c t (sym (kind_on_new c (shape_of n p).kind) ∙ ap (is_class_kind W (B + c)) (sym (kind_new p)) ∙ is)
+
+  -- the metamodel of a class with a feature
+  metamodel_of_old : (c : ℕ) → c < B → metamodel_at W (class_at W c).metamodel ≡ metamodel_at m (class_at m c).metamodel
+  metamodel_of_old c l = ap (λ k. metamodel_at W k.metamodel) (class_old m n rm rn wm wn am an c l) ∙ metamodel_old (class_at m c).metamodel (wm.live_metamodel c l)
+
+  metamodel_of_new : (c : ℕ) → c < length n.classes → metamodel_at W (class_at W (B + c)).metamodel ≡ metamodel_at n (class_at n c).metamodel
+  metamodel_of_new c l = ap (metamodel_at W) (class_metamodel_new c l) ∙ metamodel_new (class_at n c).metamodel
 
   unnamed_alone : (p q c : ℕ) → has_feature W c p ≡ true → (metamodel_at W (class_at W c).metamodel).name ≡ [] → is_opposite W p q ≡ false
   unnamed_alone p q c there unnamed = not_true (is_opposite W p q) (λ h. by p q c (pair p q h) (has c p there) unnamed h)
     where
       by : (p q c : ℕ) → Pair p q → Has c p → (metamodel_at W (class_at W c).metamodel).name ≡ [] → is_opposite W p q ≡ true → ⊥
       by p q _ any (olds c _ l k t) unnamed h =
-          let at : metamodel_at W (class_at W c).metamodel ≡ metamodel_at m (class_at m c).metamodel =
-          ap (λ k. metamodel_at W k.metamodel) (class_old m n rm rn wm wn am an c l) ∙ metamodel_old (class_at m c).metamodel (wm.live_metamodel c l) in
+          let at : metamodel_at W (class_at W c).metamodel ≡ metamodel_at m (class_at m c).metamodel = metamodel_of_old c l in
           clash (sym (is_opposite_old p q k) ∙ h) (wm.unnamed_alone p q c t (ap (λ i. i.name) (sym at) ∙ unnamed))
       by _ q _ any (news c f t) unnamed h =
           let l : c < length n.classes = wn.live_class c f t in
-          let at : metamodel_at W (class_at W (B + c)).metamodel ≡ metamodel_at n (class_at n c).metamodel = ap (metamodel_at W) (class_metamodel_new c l) ∙ metamodel_new (class_at n c).metamodel in
-          other f q c t at unnamed h (half F q)
+          let at : metamodel_at W (class_at W (B + c)).metamodel ≡ metamodel_at n (class_at n c).metamodel = metamodel_of_new c l in
+          of_new f q c t at unnamed h (half F q)
         where
-          other : (f q c : ℕ) → has_feature n c f ≡ true → metamodel_at W (class_at W (B + c)).metamodel ≡ metamodel_at n (class_at n c).metamodel
+          of_new : (f q c : ℕ) → has_feature n c f ≡ true → metamodel_at W (class_at W (B + c)).metamodel ≡ metamodel_at n (class_at n c).metamodel
               → (metamodel_at W (class_at W (B + c)).metamodel).name ≡ [] → is_opposite W (F + f) q ≡ true → Half F q → ⊥
-          other f _ c t at unnamed h (old q l) = clash h (ap (λ o. is_feature_number o q) (opposite_new f) ∙ number-on_old (opposite n f) q l)
-          other f _ c t at unnamed h (new q) = clash (sym (is_opposite_new f q) ∙ h) (wn.unnamed_alone f q c t (ap (λ i. i.name) (sym at) ∙ unnamed))
+          of_new f _ c t at unnamed h (old q l) = clash h (ap (λ o. is_feature_number o q) (opposite_new f) ∙ number-on_old (opposite n f) q l)
+          of_new f _ c t at unnamed h (new q) = clash (sym (is_opposite_new f q) ∙ h) (wn.unnamed_alone f q c t (ap (λ i. i.name) (sym at) ∙ unnamed))
+
+  unnamed_empty : (c f : ℕ) → has_feature W c f ≡ true → (metamodel_at W (class_at W c).metamodel).name ≡ [] → is_containment W f ≡ false
+  unnamed_empty c f there none = by c f (has c f there) none
+    where
+      by : (c f : ℕ) → Has c f → (metamodel_at W (class_at W c).metamodel).name ≡ [] → is_containment W f ≡ false
+      by _ _ (olds c f l k t) none = ap (λ s. s.containment) (shape_old f k) ∙ old_regular.unnamed_empty c f t (ap (λ i. i.name) (sym (metamodel_of_old c l)) ∙ none)
+      by _ _ (news c f t) none = containment_new f ∙ new_regular.unnamed_empty c f t (ap (λ i. i.name) (sym (metamodel_of_new c (wn.live_class c f t))) ∙ none)
+
+  unnamed_optional : (c f : ℕ) → has_feature W c f ≡ true → (metamodel_at W (class_at W c).metamodel).name ≡ [] → (shape_of W f).lower ≡ 0
+  unnamed_optional c f there none = by c f (has c f there) none
+    where
+      by : (c f : ℕ) → Has c f → (metamodel_at W (class_at W c).metamodel).name ≡ [] → (shape_of W f).lower ≡ 0
+      by _ _ (olds c f l k t) none = ap (λ s. s.lower) (shape_old f k) ∙ old_regular.unnamed_optional c f t (ap (λ i. i.name) (sym (metamodel_of_old c l)) ∙ none)
+      by _ _ (news c f t) none = lower_new f ∙ new_regular.unnamed_optional c f t (ap (λ i. i.name) (sym (metamodel_of_new c (wn.live_class c f t))) ∙ none)
+
+  -- containments
+  class_type_on : (k : TypeKind) → is_class_type (kind_on (begin_after m) k) ≡ is_class_type k
+  class_type_on BoolKind = refl
+  class_type_on Int = refl
+  class_type_on Str = refl
+  class_type_on (Enum x e) = refl
+  class_type_on (Class d) = refl
+
+  object_containments : (f : ℕ) → is_containment W f ≡ true → is_class_type (shape_of W f).kind ≡ true
+  object_containments f h = by f (half F f) h
+    where
+      by : (f : ℕ) → Half F f → is_containment W f ≡ true → is_class_type (shape_of W f).kind ≡ true
+      by _ (old f l) h = ap (λ s. is_class_type s.kind) (shape_old f l) ∙ old_regular.object_containments f (ap (λ s. s.containment) (sym (shape_old f l)) ∙ h)
+      by _ (new f) h = ap is_class_type (kind_new f) ∙ class_type_on (shape_of n f).kind ∙ new_regular.object_containments f (sym (containment_new f) ∙ h)
+
+  unique_containments : (f : ℕ) → is_containment W f ≡ true → (shape_of W f).unique ≡ true
+  unique_containments f h = by f (half F f) h
+    where
+      by : (f : ℕ) → Half F f → is_containment W f ≡ true → (shape_of W f).unique ≡ true
+      by _ (old f l) h = ap (λ s. s.unique) (shape_old f l) ∙ old_regular.unique_containments f (ap (λ s. s.containment) (sym (shape_old f l)) ∙ h)
+      by _ (new f) h = unique_new f ∙ new_regular.unique_containments f (sym (containment_new f) ∙ h)
+
+  -- the class above all
+  live_element : (c : ℕ) → is_element W c ≡ true → c < B
+  live_element c h = old_regular.live_element c (sym (element_is c) ∙ h)
+
+  abstract_element : (c : ℕ) → is_element W c ≡ true → (class_at W c).is_abstract ≡ true
+  abstract_element c h = ap (λ k. k.is_abstract) (class_old m n rm rn wm wn am an c (live_element c h)) ∙ old_regular.abstract_element c (sym (element_is c) ∙ h)
+
+  featureless_element : (c f : ℕ) → is_element W c ≡ true → has_feature W c f ≡ false
+  featureless_element c f h = has_old c f (live_element c h) ∙ old_regular.featureless_element c f (sym (element_is c) ∙ h)
+
+  topmost_element : (c d : ℕ) → is_element W c ≡ true → is_superclass W c d ≡ false
+  topmost_element c d h = ap (λ k. list_any (λ s. s.0 == d) k.supers) (class_old m n rm rn wm wn am an c (live_element c h)) ∙ old_regular.topmost_element c d (sym (element_is c) ∙ h)
+
+  element_within : (c : ℕ) → is_element W c ≡ true → c < length W.classes
+  element_within c h = omega (arith, live_element c h, class_count m n rm rn wm wn am an)
 
   distinct_features : (c i j : ℕ) → i < j → j < length (features_of W c) → (get_or (features_of W c) i (record { 0 = 0 })).0 ≢ (get_or (features_of W c) j (record { 0 = 0 })).0
   distinct_features c i j before = by c (half B c)
@@ -478,8 +543,24 @@ module _ (m n : Metamodels) (rm rn : List ℕ) (wm : IsWellFormed m) (wn : IsWel
           (λ g. ap (bytes_eq (feature_at n f).name) (feature_name_new g.0)))
           ∙ wn.feature_found c f t)
 
-  pub well_formed : K + length n.metamodels < 2 ^ 32 → B + length n.classes < 2 ^ 32 → F + length n.features < 2 ^ 32 → IsWellFormed W
-  well_formed few_ms few_cs few_fs = record {
+  all_regular : (ranks : List ℕ) → AreRanks W ranks → IsRegular W
+  all_regular ranks ranked = record {
+    acyclic = acyclic W ranks ranked;
+    antisymmetric = antisymmetric W ranks ranked topmost_element;
+    transitive = transitive W ranks ranked topmost_element;
+    inherited = inherited W ranks ranked topmost_element element_within featureless_element;
+    live_element = element_within;
+    abstract_element = abstract_element;
+    featureless_element = featureless_element;
+    topmost_element = topmost_element;
+    object_containments = object_containments;
+    unique_containments = unique_containments;
+    unnamed_empty = unnamed_empty;
+    unnamed_optional = unnamed_optional;
+  }
+
+  pub well_formed : K + length n.metamodels < 2 ^ 32 → B + length n.classes < 2 ^ 32 → F + length n.features < 2 ^ 32 → (ranks : List ℕ) → AreRanks W ranks → IsWellFormed W
+  well_formed few_ms few_cs few_fs ranks ranked = record {
     few_metamodels = omega (arith, few_ms, metamodel_count m n rm rn wm wn am an);
     few_classes = omega (arith, few_cs, class_count m n rm rn wm wn am an);
     few_features = omega (arith, few_fs, feature_count m n rm rn wm wn am an);
@@ -492,6 +573,7 @@ module _ (m n : Metamodels) (rm rn : List ℕ) (wm : IsWellFormed m) (wn : IsWel
     live_class = live_class;
     live_opposite = live_opposite;
     live_type = live_type;
+    regular = regular W (all_regular ranks ranked);
     mutual_opposites = mutual_opposites;
     other_feature = other_feature;
     one_containment = one_containment;

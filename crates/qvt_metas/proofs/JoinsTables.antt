@@ -35,7 +35,7 @@ leb-add b x y = by (leb x y) refl
     by true e = le-leb (b + x) (b + y) (omega (arith, leb-true x y e))
     by false e = not_true (leb (b + x) (b + y)) (λ h. (let less : x ≤ y = omega (arith, leb-true (b + x) (b + y) h) in absurd (let clash : true ≡ false = sym (le-leb x y less) ∙ e in cc)))
 
-module _ (m n : Metamodels) (lm ln : List (List FeatureNo)) (ws vs : List Row) (rm rn : List ℕ) (km : IsKept m lm ws rm) (kn : IsKept n ln vs rn) (alone : m.element ≡ None)
+module _ (m n : Metamodels) (lm ln : List (List FeatureNo)) (ws vs : List Row) (rm rn : List ℕ) (km : IsKept m lm ws rm) (kn : IsKept n ln vs rn) (other : n.element ≡ None)
     (few_ms : length m.metamodels + length n.metamodels < 2 ^ 32) (few_cs : length m.classes + length n.classes < 2 ^ 32) (few_fs : length m.features + length n.features < 2 ^ 32) where
   abbrev B : ℕ
   B = length m.classes
@@ -148,7 +148,7 @@ module _ (m n : Metamodels) (lm ln : List (List FeatureNo)) (ws vs : List Row) (
 
   pub kept : IsKept (joined m n) lists rows ranks
   kept = subst (λ x. IsKept x lists rows ranks) (sym (is_joined m n rm rn km.well_formed kn.well_formed km.ranked kn.ranked)) (record {
-    well_formed = well_formed m n rm rn km.well_formed kn.well_formed km.ranked kn.ranked alone few_ms few_cs few_fs;
+    well_formed = well_formed m n rm rn km.well_formed kn.well_formed km.ranked kn.ranked other few_ms few_cs few_fs ranks ranked;
     ranked = ranked;
     each = length-append lm (map (map (feature_on (begin_after m))) ln) ∙ omega (arith, km.each, kn.each, length-map ln (map (feature_on (begin_after m))), count);
     each_row = length-append ws (map (row_on (begin_after m)) vs) ∙ omega (arith, km.each_row, kn.each_row, length-map vs (row_on (begin_after m)), count);

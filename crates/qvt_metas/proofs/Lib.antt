@@ -8,3 +8,4 @@ pub mod Rooms
 pub mod Extends
 pub mod ClassNames
 pub mod FeaturePlaces
+pub mod GivenOrder

@@ -11,9 +11,10 @@ use Rattle.qvt_metamodel.specs.Metamodels.{Metamodels}
 use Rattle.qvt_metamodel.specs.declared.declared.MetaData.{MetaData}
 use Rattle.qvt_metamodel.specs.MetaData.{enum_names}
 use Rattle.qvt_metamodel.specs.Named.{metamodel_at}
-use Rattle.qvt_metamodel.specs.Joined.{FitTogether, joined, first_some, class_on, feature_on, kind_on, class_info_on, feature_info_on}
+use Rattle.qvt_metamodel.specs.Joined.{FitTogether, joined, class_on, feature_on, kind_on, class_info_on, feature_info_on}
 use Rattle.qvt_metamodel.specs.Added.{numbered, added, HasRoom, first_begin, names_of, class_infos, feature_infos}
 use Rattle.qvt_metamodel.proofs.Empty.{no_metamodels}
+use Rattle.qvt_metas.proofs.JoinsKept.{first_none}
 use Rattle.qvt_metamodel.proofs.Infos.{length-class_infos, length-feature_infos}
 
 pub together : (m : Metamodels) (d : MetaData) → HasRoom m d → FitTogether m (numbered d)
@@ -24,9 +25,9 @@ together m d room = record {
   features = omega (arith, room.features, length-feature_infos first_begin (enum_names d) d.classes 0 d.classes);
 }
 
-pub added_element : (m : Metamodels) (d : MetaData) → m.element ≡ None → (added m d).element ≡ None
+pub added_element : (m : Metamodels) (d : MetaData) → (added m d).element ≡ m.element
 unfolding joined numbered
-added_element m d alone = ap (λ e. first_some e None) alone
+added_element m d = first_none m.element
 
 pub room_apart : (m : Metamodels) (d : MetaData) → FitTogether m (numbered d) → length d.enums < 2 ^ 32 → HasRoom m d
 unfolding numbered

@@ -10,8 +10,8 @@ use Rattle.qvt_metamodel.specs.declared.row.Row.{Row}
 use Rattle.qvt_metamodel.specs.Metamodels.{Metamodels}
 use Rattle.qvt_metamodel.specs.Kept.{IsKept}
 use Rattle.qvt_metamodel.specs.Joined.{ClassFits, FeatureFits, FeaturesFit, class_on, feature_on, class_info_on, feature_info_on, row_on, begin_after, joined, first_some, FitTogether}
-use Rattle.qvt_metamodel.proofs.Bools.{ap2}
 use Rattle.qvt_metas.proofs.Fits.{classes_fit, features_fit, lists_fit, rows_fit, ranks_fit}
+use Rattle.qvt_metas.proofs.JoinsKept.{first_none}
 use Rattle.qvt_metas.proofs.JoinsTables.{kept}
 
 pub record Both (m n : Metamodels) (ln : List (List FeatureNo)) (vs : List Row) (rn : List ℕ) (b : Begin) : Type 0 where
@@ -60,22 +60,22 @@ module _ (m n : Metamodels) (ln : List (List FeatureNo)) (vs : List Row) (rn : L
   begins = λ i. record { metamodel = both.metamodels i; class = both.classes i; feature = both.features i }
 
   -- the parts as the code makes them
-  module _ (ms : List MetamodelInfo) (cs : List ClassInfo) (fs : List FeatureInfo) (alone : m.element ≡ None) (other : n.element ≡ None)
+  module _ (ms : List MetamodelInfo) (cs : List ClassInfo) (fs : List FeatureInfo) (other : n.element ≡ None)
       (ems : ms ≡ m.metamodels ++ n.metamodels) (ecs : cs ≡ m.classes ++ map (class_info_on b) n.classes) (efs : fs ≡ m.features ++ map (feature_info_on b) n.features) where
-    pub same : record { metamodels = ms; classes = cs; features = fs; element = None } ≡ joined m n
+    pub same : record { metamodels = ms; classes = cs; features = fs; element = m.element } ≡ joined m n
     unfolding joined
     same =
         let c1 : cs ≡ m.classes ++ map (class_info_on (begin_after m)) n.classes = ecs ∙ ap (λ x. m.classes ++ map (class_info_on x) n.classes) begins in
         let f1 : fs ≡ m.features ++ map (feature_info_on (begin_after m)) n.features = efs ∙ ap (λ x. m.features ++ map (feature_info_on x) n.features) begins in
-        let e1 : None ≡ first_some m.element (option_map (class_on (begin_after m)) n.element) = sym (ap2 (λ x y. first_some x (option_map (class_on (begin_after m)) y)) alone other) in
+        let e1 : m.element ≡ first_some m.element (option_map (class_on (begin_after m)) n.element) = sym (ap (λ e. first_some m.element (option_map (class_on (begin_after m)) e)) other ∙ first_none m.element) in
         λ i. record { metamodels = ems i; classes = c1 i; features = f1 i; element = e1 i }
 
     pub tables : (lm ls : List (List FeatureNo)) (ws rs : List Row) (rm ks : List ℕ) → IsKept m lm ws rm
         → ls ≡ lm ++ map (map (feature_on b)) ln → rs ≡ ws ++ map (row_on b) vs → ks ≡ rm ++ map (λ r. b.class + r) rn
-        → IsKept (record { metamodels = ms; classes = cs; features = fs; element = None }) ls rs ks
+        → IsKept (record { metamodels = ms; classes = cs; features = fs; element = m.element }) ls rs ks
     tables lm ls ws rs rm ks km els ers eks =
         subst (λ x. IsKept x ls rs ks) (sym same)
         (subst (λ (x : List (List FeatureNo)). IsKept (joined m n) x rs ks) (sym (els ∙ ap (λ x. lm ++ map (map (feature_on x)) ln) begins))
         (subst (λ (x : List Row). IsKept (joined m n) (lm ++ map (map (feature_on (begin_after m))) ln) x ks) (sym (ers ∙ ap (λ x. ws ++ map (row_on x) vs) begins))
         (subst (λ (x : List ℕ). IsKept (joined m n) (lm ++ map (map (feature_on (begin_after m))) ln) (ws ++ map (row_on (begin_after m)) vs) x) (sym (eks ∙ ap (λ (x : Begin). rm ++ map (λ r. x.class + r) rn) begins))
-        (kept m n lm ln ws vs rm rn km both.kept alone both.room.metamodels both.room.classes both.room.features))))
+        (kept m n lm ln ws vs rm rn km both.kept other both.room.metamodels both.room.classes both.room.features))))

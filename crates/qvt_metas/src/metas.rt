@@ -3,7 +3,7 @@ ghost use Rattle.std.specs.Str.{bytes_eq};
 ghost use Rattle.std.specs.List.{list_any};
 ghost use Rattle.qvt_metamodel.specs.Metamodels.{class_at, feature_at, shape_of, opposite, features_of};
 ghost use Rattle.qvt_metamodel.specs.Descends.{descends, Descends};
-ghost use Rattle.qvt_metamodel.specs.WellFormed.{IsWellFormed};
+ghost use Rattle.qvt_metamodel.specs.WellFormed.{IsWellFormed, IsRegular};
 ghost use Rattle.qvt_metamodel.specs.Named.{is_text};
 
 use crate::extending::{given_classes, given_features, have_texts, one_unnamed};
@@ -136,13 +136,13 @@ impl Metas {
     ghost use Rattle.qvt_metamodel.specs.Kept.{IsKept};
 
     /// Adds a metamodel: its numbers go on from those that are there, which stay. It is refused
-    /// where a metamodel of its name is there. A refused call changes nothing.
+    /// where a metamodel of its name is there. A refused call changes nothing. Where the class
+    /// Element is there, it is above the classes that come too.
     pub fn add(&mut self, meta: Meta) -> Result<(), MetasFault>
-        requires element { self.old.element ≡ None }
-        requires room { HasRoom self.old meta }
+        requires { HasRoom self.old meta }
         ensures ok { OnOk result (self.new ≡ added self.old meta) }
         ensures fresh { OnOk result (has_metamodel self.old meta.name ≡ false) }
-        ensures element { OnOk result (self.new.element ≡ None) }
+        ensures element { OnOk result (self.new.element ≡ self.old.element) }
         ensures same { IfErr result (λ fault. fault ≢ MetasFault.NoMemory → (has_metamodel self.old meta.name ≡ true) × (fault ≡ MetasFault.SameMetamodel meta.name)) }
         ensures err { OnErr result (self.new ≡ self.old) }
     {
@@ -171,11 +171,10 @@ impl Metas {
 
     /// These metamodels with one more.
     fn with_meta(&self, meta: &Meta) -> Result<Metas, MetasFault>
-        requires element { self.now.element ≡ None }
-        requires room { HasRoom self.now meta.now }
+        requires { HasRoom self.now meta.now }
         ensures ok { IfOk result (λ next. next ≡ added self.now meta.now) }
         ensures fresh { OnOk result (has_metamodel self.now meta.now.name ≡ false) }
-        ensures element { IfOk result (λ next. next.element ≡ None) }
+        ensures element { IfOk result (λ next. next.element ≡ self.now.element) }
         ensures same { IfErr result (λ fault. fault ≢ MetasFault.NoMemory → (has_metamodel self.now meta.now.name ≡ true) × (fault ≡ MetasFault.SameMetamodel meta.now.name)) }
     {
         let alloc = *self.classes.allocator();
@@ -197,8 +196,7 @@ impl Metas {
 
     /// These metamodels, and then the others, whose numbers go on.
     fn with(&self, others: &Numbered) -> Result<Metas, ListFault>
-        requires element { self.now.element ≡ None }
-        requires room { FitTogether self.now others.now }
+        requires { FitTogether self.now others.now }
         ensures { IfOk result (λ next. next ≡ joined self.now others.now) }
     {
         let alloc = *self.classes.allocator();
@@ -218,7 +216,7 @@ impl Metas {
             joined(alloc, self.metamodels.as_slice(), metamodels)?,
             joined(alloc, self.classes.as_slice(), classes)?,
             joined(alloc, self.features.as_slice(), features)?,
-            None,
+            self.element,
             joined(alloc, self.lists.as_slice(), lists)?,
             joined(alloc, self.rows.as_slice(), rows)?,
             joined(alloc, self.ranks.as_slice(), ranks)?,
@@ -230,7 +228,8 @@ impl Metas {
 
     /// These metamodels and one more, the last, which has no name: its first class is Element, which
     /// is abstract, has no features and is above every class, and after it come the given classes,
-    /// whose superclasses are the given ones alone.
+    /// whose superclasses are the given ones alone. Element is not there before: two of it would each
+    /// be above the other.
     pub fn extended(&self, classes: &ClassDataList) -> Result<Metas, MetasFault>
         requires element { self.now.element ≡ None }
         requires given { AreGiven self.now classes.now }
@@ -500,6 +499,14 @@ impl Metas {
         ensures { result ≡ descends self.now sub.0 sup.0 }
     {
         sub.0 == sup.0 || self.is_element(sup) || self.reaches(sub, sup)
+    }
+
+    /// A law: what every list of metamodels keeps.
+    pub fn are_well_formed(&self)
+        ensures well_formed { IsWellFormed self.now }
+        ensures regular { IsRegular self.now }
+    {
+        let _ = &self.classes;
     }
 
     /// A law: the classes above a class are the least set that has its superclasses and what is

@@ -1,17 +1,24 @@
 //! `apply`: what an operation gives of its source and its arguments.
 
-ghost use Rattle.std.specs.Prelude.{◌≡◌, IfOk};
-ghost use Rattle.qvt_ocl_words.specs.Operation.{is_test, tested, is_equality, compared, unless_null, on_valid, answered, operation};
+ghost use Rattle.std.specs.Prelude.{◌≡◌, Err, IfOk, MatchResult};
+ghost use Rattle.std.specs.Option.{option_map};
+ghost use Rattle.qvt_value.specs.Items.{stands_for};
+ghost use Rattle.qvt_value.specs.Limits.{limited};
+ghost use Rattle.qvt_ocl_words.specs.Operation.{tested, compared, unless_null, on_valid, answered, operation};
 ghost use Rattle.qvt_ocl.specs.Applied.{IsApplied};
+ghost use Rattle.qvt_ocl.specs.declared.fault.OclFault.TheVariants.{NoMemory};
 
 use crate::dispatch::on_present;
 use crate::fault::OclFault;
-use crate::operands::{first_invalid, is_invalid, lacks_operand};
+use crate::lent::on_items;
+use crate::operands::{first_invalid, is_equality, is_invalid, is_test, lacks_operand};
+use crate::owned::on_owned;
 use qvt_base::copied::Copied;
 use qvt_base::list_fault::ListFault;
 use qvt_base::numbers::Place;
 use qvt_ocl_lists::items::{is_null, same};
 use qvt_ocl_words::op::Op;
+use qvt_value::items::Items;
 use qvt_value::limits::limited;
 use qvt_value::value::{Reason, Value};
 use std::alloc::Global;
@@ -32,13 +39,6 @@ fn unless_null(
     on_present(alloc, op, place, source, args)
 }
 
-/// Whether the operation is one of the tests that read any value, invalid ones too.
-fn is_test(op: Op) -> bool
-    ensures { result ≡ is_test op }
-{
-    matches!(op, Op::IsUndefined | Op::IsInvalid)
-}
-
 /// What the tests say.
 #[tactic(auto, unfolding(qvt_ocl_words::specs::Operation::tested))]
 fn tested(op: Op, source: &Value, args: &[Value]) -> Option<Value>
@@ -55,13 +55,6 @@ fn tested(op: Op, source: &Value, args: &[Value]) -> Option<Value>
         },
         _ => None,
     }
-}
-
-/// Whether the operation compares its operands, null ones too.
-fn is_equality(op: Op) -> bool
-    ensures { result ≡ is_equality op }
-{
-    matches!(op, Op::Equal | Op::NotEqual)
 }
 
 /// What the comparison says.
@@ -117,7 +110,20 @@ fn answered(
     }
 }
 
-/// What the operation gives of these operands. TypeFault comes exactly where it says nothing of them.
+/// The answer as it is told: within the limits, or TypeFault where there is none.
+#[tactic(auto, unfolding(qvt_ocl_words::specs::Operation::operation))]
+fn told(place: Place, answer: Result<Option<Value>, ListFault>) -> Result<Value, OclFault>
+    ensures { MatchResult answer (λ o. IsApplied (option_map (limited place) o) result) (λ _. result ≡ Err NoMemory) }
+{
+    match answer {
+        Ok(Some(answer)) => Ok(limited(place, answer)),
+        Ok(None) => Err(OclFault::TypeFault),
+        Err(_) => Err(OclFault::NoMemory),
+    }
+}
+
+/// What the operation gives of these operands. TypeFault comes exactly where it says nothing of them. The operands are lent:
+/// copied are the items alone that the answer is made of.
 #[tactic(auto, unfolding(qvt_ocl_words::specs::Operation::operation))]
 pub fn apply(
     alloc: Global,
@@ -128,9 +134,40 @@ pub fn apply(
 ) -> Result<Value, OclFault>
     ensures { IsApplied (operation op place source.now args.now) result }
 {
-    match answered(alloc, op, place, source, args) {
-        Ok(Some(answer)) => Ok(limited(place, answer)),
-        Ok(None) => Err(OclFault::TypeFault),
-        Err(_) => Err(OclFault::NoMemory),
+    told(place, answered(alloc, op, place, source, args))
+}
+
+/// `apply` where the items of the source are lent from where they stand.
+#[tactic(auto, unfolding(qvt_ocl_words::specs::Operation::operation))]
+pub fn apply_lent(
+    alloc: Global,
+    op: Op,
+    place: Place,
+    source: &Items<'_>,
+    args: &[Value],
+) -> Result<Value, OclFault>
+    ensures { IsApplied (operation op place (stands_for source.now) args.now) result }
+{
+    match source {
+        Items::Lent(kind, items) => told(place, on_items(alloc, op, place, *kind, items, args)),
+        Items::Made(value) => apply(alloc, op, place, value, args),
+    }
+}
+
+/// `apply` where the source is handed over. A collection that is built on the source's list takes that list: `including` and
+/// `append` put one item at its end.
+#[tactic(auto, unfolding(qvt_ocl_words::specs::Operation::operation))]
+pub fn apply_owned(
+    alloc: Global,
+    op: Op,
+    place: Place,
+    source: Value,
+    args: &[Value],
+) -> Result<Value, OclFault>
+    ensures { IsApplied (operation op place source args.now) result }
+{
+    match source.into_items() {
+        Ok((kind, items)) => told(place, on_owned(alloc, op, place, kind, items, args)),
+        Err(other) => apply(alloc, op, place, &other, args),
     }
 }

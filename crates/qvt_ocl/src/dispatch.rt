@@ -129,8 +129,9 @@ fn with_place(
     }
 }
 
+/// A collection with its arguments.
 #[tactic(auto, unfolding(qvt_ocl_words::specs::Operation::on_collection))]
-fn on_collection(
+pub fn on_collection(
     alloc: Global,
     op: Op,
     place: Place,

@@ -6,6 +6,8 @@ pub mod collections;
 pub mod dispatch;
 pub mod fault;
 pub mod kinds;
+pub mod lent;
 pub mod made;
 pub mod operands;
 pub mod ordered;
+pub mod owned;

@@ -41,12 +41,13 @@ pub fn flat(alloc: Global, kind: Kind, items: &[Value]) -> Result<Value, ListFau
     kept(alloc, kind, flattened(alloc, items)?)
 }
 
-fn with_last(alloc: Global, items: &[Value], item: &Value) -> Result<Values, ListFault>
-    ensures { IfOk result (λ all. all ≡ items.now ++ item.now ∷ []) }
+/// The items and one more, put last, made a collection of the kind.
+pub fn with_last(alloc: Global, kind: Kind, items: Values, item: &Value) -> Result<Value, ListFault>
+    ensures { IfOk result (λ answer. answer ≡ kept kind (items ++ item.now ∷ [])) }
 {
-    let mut all = copies(alloc, items)?;
+    let mut all = items;
     all.push(item.copy(alloc)?)?;
-    Ok(all)
+    kept(alloc, kind, all)
 }
 
 /// The collection with one more item, put last.
@@ -58,7 +59,7 @@ pub fn including(
 ) -> Result<Value, ListFault>
     ensures { IfOk result (λ answer. answer ≡ kept kind (items.now ++ item.now ∷ [])) }
 {
-    kept(alloc, kind, with_last(alloc, items, item)?)
+    with_last(alloc, kind, copies(alloc, items)?, item)
 }
 
 /// The collection without all that equal the item.
@@ -71,6 +72,12 @@ pub fn excluding(
     ensures { IfOk result (λ answer. answer ≡ kept kind (excluding item.now items.now)) }
 {
     kept(alloc, kind, items::excluding(alloc, item, items)?)
+}
+
+fn with_all(alloc: Global, kind: Kind, items: Values, others: &[Value]) -> Result<Value, ListFault>
+    ensures { IfOk result (λ answer. answer ≡ kept kind (items ++ others.now)) }
+{
+    kept(alloc, kind, items::extend(alloc, items, others)?)
 }
 
 /// The items of both, of one kind.
@@ -86,8 +93,23 @@ pub fn union(
     if !same_kind(kind, other) {
         return Ok(None);
     }
-    let all = items::extend(alloc, copies(alloc, items)?, others)?;
-    Ok(Some(kept(alloc, kind, all)?))
+    Ok(Some(with_all(alloc, kind, copies(alloc, items)?, others)?))
+}
+
+/// The items of both, of one kind, the first of which are handed over.
+pub fn union_onto(
+    alloc: Global,
+    kind: Kind,
+    items: Values,
+    other: Kind,
+    others: &[Value],
+) -> Result<Option<Value>, ListFault>
+    ensures { IfOk result (λ answer. answer ≡ where' (same_kind kind other) (kept kind (items ++ others.now))) }
+{
+    if !same_kind(kind, other) {
+        return Ok(None);
+    }
+    Ok(Some(with_all(alloc, kind, items, others)?))
 }
 
 /// Each item as often as it stands in both, of Sets and Bags.

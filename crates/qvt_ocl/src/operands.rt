@@ -5,7 +5,7 @@ ghost use Rattle.std.specs.List.{find, list_any};
 ghost use Rattle.std.specs.Option.{option_copied};
 ghost use Rattle.qvt_value.specs.Make.{is_invalid};
 ghost use Rattle.qvt_ocl_words.specs.Lists.{is_null};
-ghost use Rattle.qvt_ocl_words.specs.Operation.{takes_item, besides_items, lacks_operand};
+ghost use Rattle.qvt_ocl_words.specs.Operation.{takes_item, besides_items, lacks_operand, is_test, is_equality};
 
 use qvt_ocl_lists::items::{has_null, is_null};
 use qvt_ocl_words::op::Op;
@@ -28,7 +28,8 @@ pub fn takes_item(op: Op) -> bool
     }
 }
 
-fn lacks_argument(op: Op, args: &[Value]) -> bool
+/// Whether an argument is null that may not be, where the source is a collection.
+pub fn lacks_argument(op: Op, args: &[Value]) -> bool
     ensures { result ≡ list_any is_null (besides_items op args.now) }
 {
     match op {
@@ -69,7 +70,7 @@ pub fn is_invalid(value: &Value) -> bool
 }
 
 /// The first invalid argument.
-fn invalid_in(args: &[Value]) -> Option<&Value>
+pub fn invalid_in(args: &[Value]) -> Option<&Value>
     ensures { option_copied result ≡ find is_invalid args.now }
 {
     for arg in args {
@@ -88,4 +89,18 @@ pub fn first_invalid<'a>(source: &'a Value, args: &'a [Value]) -> Option<&'a Val
         return Some(source);
     }
     invalid_in(args)
+}
+
+/// Whether the operation is one of the tests that read any value, invalid ones too.
+pub fn is_test(op: Op) -> bool
+    ensures { result ≡ is_test op }
+{
+    matches!(op, Op::IsUndefined | Op::IsInvalid)
+}
+
+/// Whether the operation compares its operands, null ones too.
+pub fn is_equality(op: Op) -> bool
+    ensures { result ≡ is_equality op }
+{
+    matches!(op, Op::Equal | Op::NotEqual)
 }

@@ -6,7 +6,7 @@ ghost use Rattle.qvt_ocl_words.specs.Lists.{index_of, first_of, last_of};
 ghost use Rattle.qvt_ocl_words.specs.Collections.{kept, where', is_in_order, item_at, part, inserted};
 
 use crate::kinds::is_in_order;
-use crate::made::{including, kept};
+use crate::made::{including, kept, with_last};
 use qvt_base::copied::Copied;
 use qvt_base::list_fault::ListFault;
 use qvt_base::numbers::Place;
@@ -97,6 +97,21 @@ pub fn append(
     Ok(Some(including(alloc, kind, items, item)?))
 }
 
+/// The collection that is handed over, with one more item, put last.
+pub fn append_onto(
+    alloc: Global,
+    kind: Kind,
+    items: Values,
+    item: &Value,
+) -> Result<Option<Value>, ListFault>
+    ensures { IfOk result (λ answer. answer ≡ where' (is_in_order kind) (kept kind (items ++ item.now ∷ []))) }
+{
+    if !is_in_order(kind) {
+        return Ok(None);
+    }
+    Ok(Some(with_last(alloc, kind, items, item)?))
+}
+
 fn with_first(alloc: Global, item: &Value, items: &[Value]) -> Result<Values, ListFault>
     ensures { IfOk result (λ all. all ≡ item.now ∷ items.now) }
 {
@@ -157,15 +172,6 @@ pub fn insert_at(
     Ok(Some(inserted(alloc, place, kind, items, i, item)?))
 }
 
-/// The items the other way round.
-fn reversed(items: Values) -> Values
-    ensures { result ≡ reverse items }
-{
-    let mut all = items.into_vec();
-    all.reverse();
-    Seq::from_vec(all)
-}
-
 /// The collection the other way round.
 pub fn reverse(alloc: Global, kind: Kind, items: &[Value]) -> Result<Option<Value>, ListFault>
     ensures { IfOk result (λ answer. answer ≡ where' (is_in_order kind) (kept kind (reverse items.now))) }
@@ -173,7 +179,17 @@ pub fn reverse(alloc: Global, kind: Kind, items: &[Value]) -> Result<Option<Valu
     if !is_in_order(kind) {
         return Ok(None);
     }
-    Ok(Some(kept(alloc, kind, reversed(copies(alloc, items)?))?))
+    Ok(Some(kept(alloc, kind, items::reversed(copies(alloc, items)?))?))
+}
+
+/// The collection that is handed over, the other way round.
+pub fn reverse_all(alloc: Global, kind: Kind, items: Values) -> Result<Option<Value>, ListFault>
+    ensures { IfOk result (λ answer. answer ≡ where' (is_in_order kind) (kept kind (reverse items))) }
+{
+    if !is_in_order(kind) {
+        return Ok(None);
+    }
+    Ok(Some(kept(alloc, kind, items::reversed(items))?))
 }
 
 /// The items from the l-th to the u-th, or BadIndex.

@@ -1,9 +1,11 @@
-//! Calls of `apply`, and whether they are answered as they should be.
+//! Calls of `apply`, `apply_lent` and `apply_owned`, and whether they are answered as they should be.
 
 use crate::values::{DEEPEST, place, value_of, values_of};
-use qvt_ocl::apply::apply;
+use qvt_base::copied::Copied;
+use qvt_ocl::apply::{apply, apply_lent, apply_owned};
 use qvt_ocl::fault::OclFault;
 use qvt_ocl_words::op::Op;
+use qvt_value::items::Items;
 use qvt_value::value::Value;
 use serde_json::Value as Json;
 use std::alloc::Global;
@@ -86,20 +88,69 @@ fn op_of(alloc: Global, name: &str) -> Option<Op> {
     None
 }
 
-fn is_fault(json: &Json) -> bool {
-    json.get("fault").is_some()
+/// What a call is to answer: a value, or none where it is TypeFault.
+fn wanted_of(alloc: Global, json: &Json) -> Option<Option<Value>> {
+    match json.get("fault") {
+        Some(_) => Some(None),
+        None => Some(Some(value_of(alloc, json, DEEPEST)?)),
+    }
 }
 
+fn is_wanted(answer: Result<Value, OclFault>, wanted: &Option<Value>) -> bool {
+    match answer {
+        Ok(answer) => match wanted {
+            Some(value) => answer == *value,
+            None => false,
+        },
+        Err(OclFault::TypeFault) => wanted.is_none(),
+        Err(OclFault::NoMemory) => false,
+    }
+}
+
+/// The source with its items lent.
+fn lent(alloc: Global, source: &Value) -> Option<Items<'_>> {
+    match source {
+        Value::Coll(kind, items) => Some(Items::Lent(*kind, items.as_slice())),
+        other => Some(Items::Made(other.copy(alloc).ok()?)),
+    }
+}
+
+/// Whether the value has at most so many items or bytes that it is copied in no time.
+fn is_small(value: &Value) -> bool {
+    match value {
+        Value::Str(text) => text.len() <= 1000,
+        Value::Coll(_, items) => items.len() <= 1000,
+        _ => true,
+    }
+}
+
+/// Whether the call is answered as it should be; where the source is small, also with its items lent, and handed over.
 fn is_answered(alloc: Global, case: &Json) -> Option<bool> {
     let op = op_of(alloc, case.get(0)?.as_str()?)?;
     let source = value_of(alloc, case.get(1)?, DEEPEST)?;
     let args = values_of(alloc, case.get(2)?, DEEPEST)?;
-    let wanted = case.get(3)?;
-    match apply(alloc, op, place(1), &source, args.as_slice()) {
-        Ok(answer) => Some(answer == value_of(alloc, wanted, DEEPEST)?),
-        Err(OclFault::TypeFault) => Some(is_fault(wanted)),
-        Err(OclFault::NoMemory) => Some(false),
+    let wanted = wanted_of(alloc, case.get(3)?)?;
+    if !is_wanted(
+        apply(alloc, op, place(1), &source, args.as_slice()),
+        &wanted,
+    ) {
+        return Some(false);
     }
+    if !is_small(&source) {
+        return Some(true);
+    }
+    let items = lent(alloc, &source)?;
+    if !is_wanted(
+        apply_lent(alloc, op, place(1), &items, args.as_slice()),
+        &wanted,
+    ) {
+        return Some(false);
+    }
+    let handed = source.copy(alloc).ok()?;
+    Some(is_wanted(
+        apply_owned(alloc, op, place(1), handed, args.as_slice()),
+        &wanted,
+    ))
 }
 
 /// What comes of the call that a line holds.

@@ -1,5 +1,5 @@
-//! Applies operations to operands, a call a line of standard input: `[OPERATION, SOURCE, ARGUMENTS, ANSWER]`. It prints each
-//! line whose answer is another, and then how many are answered as they say.
+//! Applies operations to operands, a call a line of standard input: `[OPERATION, SOURCE, ARGUMENTS, ANSWER]`. The source is lent;
+//! a small one is also lent as items, and handed over. It prints each line with another answer, and then how many are answered as they say.
 //!
 //! Values are written in JSON: null, true, 3, "text", `{"set":[1,2]}`, and so `bag`, `sequence` and `ordered`; `{"object":3}`,
 //! `{"literal":3}`, `{"invalid":"Overflow"}` at the call's place or, with `"at":3`, at another; `{"numbers":3}` is the Sequence

@@ -1,5 +1,6 @@
 //! Classes that come after no metamodels, each told in a line as `NAME/SUPERCLASSES/FEATURES`: the
-//! superclasses are numbers, and a feature is `NAME:TYPE`, with a star where it has no upper bound.
+//! superclasses are numbers, and a feature is `NAME:TYPE`, with a star where it has no upper bound,
+//! `1` in the place of the colon where it has a lower bound, and `+` where it is a containment.
 
 use qvt_base::lists::ClassNoList;
 use qvt_base::numbers::{ClassNo, FeatureNo};
@@ -23,26 +24,37 @@ fn kind_of(name: &str) -> Result<TypeKind, Fail> {
     }
 }
 
-fn shape(kind: TypeKind, upper: Option<u32>) -> FeatureShape {
+fn shape(kind: TypeKind, lower: u32, upper: Option<u32>, containment: bool) -> FeatureShape {
     FeatureShape {
         kind,
-        lower: 0,
+        lower,
         upper,
         ordered: false,
         unique: true,
-        containment: false,
+        containment,
     }
 }
 
+/// The name, the sign and the type of a feature.
+fn parts_of(word: &str) -> Option<(&str, char, &str)> {
+    for sign in [':', '+', '1'] {
+        if let Some((name, kind)) = word.split_once(sign) {
+            return Some((name, sign, kind));
+        }
+    }
+    None
+}
+
 fn feature_of(alloc: Global, word: &str) -> Result<FeatureData, Fail> {
-    let (name, kind) = word.split_once(':').ok_or("a feature")?;
-    let shape = match kind.strip_suffix('*') {
-        Some(kind) => shape(kind_of(kind)?, None),
-        None => shape(kind_of(kind)?, Some(1)),
+    let (name, sign, kind) = parts_of(word).ok_or("a feature")?;
+    let (kind, upper) = match kind.strip_suffix('*') {
+        Some(kind) => (kind, None),
+        None => (kind, Some(1)),
     };
+    let lower = if sign == '1' { 1 } else { 0 };
     Ok(FeatureData {
         name: Text::from_str(alloc, name)?,
-        shape,
+        shape: shape(kind_of(kind)?, lower, upper, sign == '+'),
     })
 }
 
@@ -81,7 +93,7 @@ fn classes_of(alloc: Global, lines: &str) -> Result<ClassDataList, Fail> {
 }
 
 /// Classes, and whether they can come. Element has the number 0, and the first of them 1.
-const CASES: [(&str, bool); 16] = [
+const CASES: [(&str, bool); 20] = [
     ("", true),
     ("A//", true),
     ("A//name:String\nB/1/size:Integer*", true),
@@ -94,10 +106,14 @@ const CASES: [(&str, bool); 16] = [
     ("A//x:Integer\nB//x:Integer\nC/1 2/", false),
     ("A/1/", false),
     ("A/2/\nB/1/", false),
+    ("A//\nB/3/\nC/2/", false),
     ("A/0/", false),
     ("A//\nB/3/", false),
     ("A//c:2", false),
     ("A//e:Enumeration", false),
+    ("A//a+1", false),
+    ("A//a:1\nB//b+1*", false),
+    ("A//n1Integer", false),
 ];
 
 #[test]
@@ -213,8 +229,8 @@ fn features_of_given_classes_are_looked_up(rt: HostRuntime) -> Result<(), Fail> 
     let all = extended(rt.alloc(), TWO_CLASSES)?;
     let (name, size) = (FeatureNo(0), FeatureNo(1));
     assert!(rt; has_their_features(&all));
-    assert!(rt; all.shape(name) == shape(TypeKind::Str, Some(1)));
-    assert!(rt; all.shape(size) == shape(TypeKind::Int, None));
+    assert!(rt; all.shape(name) == shape(TypeKind::Str, 0, Some(1), false));
+    assert!(rt; all.shape(size) == shape(TypeKind::Int, 0, None, false));
     assert!(rt; all.opposite(size).is_none());
     Ok(())
 }

@@ -12,7 +12,7 @@ overflow_cast-count c = omega (arith, c.len-count.ensures, ap length c.in_ok-inf
 
 pub returns-then-is_some-clause-refused : goal.returns-then-is_some-clause-refused
 returns-then-is_some-clause-refused c = λ no.
-    not_found c.args.metas.now c.args.classes.now _ _ (c.as_slice.ensures.value ∙ c.in_ok-infos.ensures) c.in_ok-first_cycle.ensures.cycle (sym c.is_some.ensures ∙ c.if-is_some.true)
+    not_found c.args.metas.now c.args.classes.now _ _ (c.as_slice.ensures.value ∙ c.in_ok-infos.ensures) c.in_ok-first_cycle.ensures.cycle (sym c.is_some.ensures ∙ c.if-is_some.true) c.class_count-before.ensures.well_formed c.requires.live
 
 pub tables_of-requires-clause-live : goal.tables_of-requires-clause-live
 tables_of-requires-clause-live c =

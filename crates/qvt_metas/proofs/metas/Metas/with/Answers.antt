@@ -15,7 +15,7 @@ class_infos_on-requires c =
     let m : Metamodels = record { metamodels = c.self.inside.metamodels.items; classes = c.self.inside.classes.items; features = c.self.inside.features.items; element = c.self.inside.element } in
     let n : Metamodels = record { metamodels = c.others.inside.metamodels.items; classes = c.others.inside.classes.items; features = c.others.inside.features.items; element = None } in
     let both : Both m n c.others.inside.lists.items c.others.inside.rows.items c.others.inside.ranks.items (record { metamodel = c.len.result; class = c.len-2.result; feature = c.len-3.result }) =
-    both_of m n _ _ c.self.view_is c.others.view_is c.requires.room _ _ _ c.others.invariant _ _ _ n0 n1 n2 in
+    both_of m n _ _ c.self.view_is c.others.view_is c.requires _ _ _ c.others.invariant _ _ _ n0 n1 n2 in
     subst (AllByRecursion (ClassFits (record { metamodel = c.len.result; class = c.len-2.result; feature = c.len-3.result }))) (sym c.as_slice-2.ensures.value) (classes_go_on _ _ _ _ _ _ both)
 
 pub feature_infos_on-requires : goal.feature_infos_on-requires
@@ -26,7 +26,7 @@ feature_infos_on-requires c =
     let m : Metamodels = record { metamodels = c.self.inside.metamodels.items; classes = c.self.inside.classes.items; features = c.self.inside.features.items; element = c.self.inside.element } in
     let n : Metamodels = record { metamodels = c.others.inside.metamodels.items; classes = c.others.inside.classes.items; features = c.others.inside.features.items; element = None } in
     let both : Both m n c.others.inside.lists.items c.others.inside.rows.items c.others.inside.ranks.items (record { metamodel = c.len.result; class = c.len-2.result; feature = c.len-3.result }) =
-    both_of m n _ _ c.self.view_is c.others.view_is c.requires.room _ _ _ c.others.invariant _ _ _ n0 n1 n2 in
+    both_of m n _ _ c.self.view_is c.others.view_is c.requires _ _ _ c.others.invariant _ _ _ n0 n1 n2 in
     subst (AllByRecursion (FeatureFits (record { metamodel = c.len.result; class = c.len-2.result; feature = c.len-3.result }))) (sym c.as_slice-3.ensures.value) (features_go_on _ _ _ _ _ _ both)
 
 pub lists_on-requires : goal.lists_on-requires
@@ -37,7 +37,7 @@ lists_on-requires c =
     let m : Metamodels = record { metamodels = c.self.inside.metamodels.items; classes = c.self.inside.classes.items; features = c.self.inside.features.items; element = c.self.inside.element } in
     let n : Metamodels = record { metamodels = c.others.inside.metamodels.items; classes = c.others.inside.classes.items; features = c.others.inside.features.items; element = None } in
     let both : Both m n c.others.inside.lists.items c.others.inside.rows.items c.others.inside.ranks.items (record { metamodel = c.len.result; class = c.len-2.result; feature = c.len-3.result }) =
-    both_of m n _ _ c.self.view_is c.others.view_is c.requires.room _ _ _ c.others.invariant _ _ _ n0 n1 n2 in
+    both_of m n _ _ c.self.view_is c.others.view_is c.requires _ _ _ c.others.invariant _ _ _ n0 n1 n2 in
     subst (AllByRecursion (FeaturesFit (record { metamodel = c.len.result; class = c.len-2.result; feature = c.len-3.result }))) (sym c.as_slice-4.ensures.value) (lists_go_on _ _ _ _ _ _ both)
 
 pub rows_on-requires : goal.rows_on-requires
@@ -48,7 +48,7 @@ rows_on-requires c =
     let m : Metamodels = record { metamodels = c.self.inside.metamodels.items; classes = c.self.inside.classes.items; features = c.self.inside.features.items; element = c.self.inside.element } in
     let n : Metamodels = record { metamodels = c.others.inside.metamodels.items; classes = c.others.inside.classes.items; features = c.others.inside.features.items; element = None } in
     let both : Both m n c.others.inside.lists.items c.others.inside.rows.items c.others.inside.ranks.items (record { metamodel = c.len.result; class = c.len-2.result; feature = c.len-3.result }) =
-    both_of m n _ _ c.self.view_is c.others.view_is c.requires.room _ _ _ c.others.invariant _ _ _ n0 n1 n2 in
+    both_of m n _ _ c.self.view_is c.others.view_is c.requires _ _ _ c.others.invariant _ _ _ n0 n1 n2 in
     subst (AllByRecursion (λ (r : Row). c.len-2.result + r.start < 2 ^ 32)) (sym c.as_slice-5.ensures.value) (rows_go_on _ _ _ _ _ _ both)
 
 pub ranks_on-requires : goal.ranks_on-requires
@@ -59,7 +59,7 @@ ranks_on-requires c =
     let m : Metamodels = record { metamodels = c.self.inside.metamodels.items; classes = c.self.inside.classes.items; features = c.self.inside.features.items; element = c.self.inside.element } in
     let n : Metamodels = record { metamodels = c.others.inside.metamodels.items; classes = c.others.inside.classes.items; features = c.others.inside.features.items; element = None } in
     let both : Both m n c.others.inside.lists.items c.others.inside.rows.items c.others.inside.ranks.items (record { metamodel = c.len.result; class = c.len-2.result; feature = c.len-3.result }) =
-    both_of m n _ _ c.self.view_is c.others.view_is c.requires.room _ _ _ c.others.invariant _ _ _ n0 n1 n2 in
+    both_of m n _ _ c.self.view_is c.others.view_is c.requires _ _ _ c.others.invariant _ _ _ n0 n1 n2 in
     subst (AllByRecursion (λ (r : ℕ). c.len-2.result + r < 2 ^ 32)) (sym c.as_slice-6.ensures.value) (ranks_go_on _ _ _ _ _ _ both)
 
 pub whole-requires : goal.whole-requires
@@ -70,16 +70,14 @@ whole-requires c =
     let m : Metamodels = record { metamodels = c.self.inside.metamodels.items; classes = c.self.inside.classes.items; features = c.self.inside.features.items; element = c.self.inside.element } in
     let n : Metamodels = record { metamodels = c.others.inside.metamodels.items; classes = c.others.inside.classes.items; features = c.others.inside.features.items; element = None } in
     let both : Both m n c.others.inside.lists.items c.others.inside.rows.items c.others.inside.ranks.items (record { metamodel = c.len.result; class = c.len-2.result; feature = c.len-3.result }) =
-    both_of m n _ _ c.self.view_is c.others.view_is c.requires.room _ _ _ c.others.invariant _ _ _ n0 n1 n2 in
+    both_of m n _ _ c.self.view_is c.others.view_is c.requires _ _ _ c.others.invariant _ _ _ n0 n1 n2 in
     let ems = c.in_ok-joined.ensures ∙ ap2 (λ x y. x ++ y) c.as_slice-7.ensures.value (c.in_ok-metamodels.ensures ∙ c.as_slice.ensures.value) in
     let ecs = c.in_ok-joined-2.ensures ∙ ap2 (λ x y. x ++ y) c.as_slice-8.ensures.value (c.in_ok-classes.ensures ∙ ap (map (class_info_on (record { metamodel = c.len.result; class = c.len-2.result; feature = c.len-3.result }))) c.as_slice-2.ensures.value) in
     let efs = c.in_ok-joined-3.ensures ∙ ap2 (λ x y. x ++ y) c.as_slice-9.ensures.value (c.in_ok-features.ensures ∙ ap (map (feature_info_on (record { metamodel = c.len.result; class = c.len-2.result; feature = c.len-3.result }))) c.as_slice-3.ensures.value) in
-    let alone = ap (λ (x : Metamodels). x.element) c.self.view_is ∙ c.requires.element in
-    let other = refl in
     let els = c.in_ok-joined-4.ensures ∙ ap2 (λ x y. x ++ y) c.as_slice-10.ensures.value (c.in_ok-lists.ensures ∙ ap (map (map (feature_on (record { metamodel = c.len.result; class = c.len-2.result; feature = c.len-3.result })))) c.as_slice-4.ensures.value) in
     let ers = c.in_ok-joined-5.ensures ∙ ap2 (λ x y. x ++ y) c.as_slice-11.ensures.value (c.in_ok-rows.ensures ∙ ap (map (row_on (record { metamodel = c.len.result; class = c.len-2.result; feature = c.len-3.result }))) c.as_slice-5.ensures.value) in
     let eks = c.in_ok-joined-6.ensures ∙ ap2 (λ x y. x ++ y) c.as_slice-12.ensures.value (c.in_ok-ranks.ensures ∙ ap (map (λ (r : ℕ). c.len-2.result + r)) c.as_slice-6.ensures.value) in
-    tables m n _ _ _ _ both _ _ _ alone other ems ecs efs _ _ _ _ _ _ c.self.invariant.kept els ers eks
+    tables m n _ _ _ _ both _ _ _ refl ems ecs efs _ _ _ _ _ _ c.self.invariant.kept els ers eks
 
 pub returns : goal.returns
 returns c =
@@ -89,10 +87,8 @@ returns c =
     let m : Metamodels = record { metamodels = c.self.inside.metamodels.items; classes = c.self.inside.classes.items; features = c.self.inside.features.items; element = c.self.inside.element } in
     let n : Metamodels = record { metamodels = c.others.inside.metamodels.items; classes = c.others.inside.classes.items; features = c.others.inside.features.items; element = None } in
     let both : Both m n c.others.inside.lists.items c.others.inside.rows.items c.others.inside.ranks.items (record { metamodel = c.len.result; class = c.len-2.result; feature = c.len-3.result }) =
-    both_of m n _ _ c.self.view_is c.others.view_is c.requires.room _ _ _ c.others.invariant _ _ _ n0 n1 n2 in
+    both_of m n _ _ c.self.view_is c.others.view_is c.requires _ _ _ c.others.invariant _ _ _ n0 n1 n2 in
     let ems = c.in_ok-joined.ensures ∙ ap2 (λ x y. x ++ y) c.as_slice-7.ensures.value (c.in_ok-metamodels.ensures ∙ c.as_slice.ensures.value) in
     let ecs = c.in_ok-joined-2.ensures ∙ ap2 (λ x y. x ++ y) c.as_slice-8.ensures.value (c.in_ok-classes.ensures ∙ ap (map (class_info_on (record { metamodel = c.len.result; class = c.len-2.result; feature = c.len-3.result }))) c.as_slice-2.ensures.value) in
     let efs = c.in_ok-joined-3.ensures ∙ ap2 (λ x y. x ++ y) c.as_slice-9.ensures.value (c.in_ok-features.ensures ∙ ap (map (feature_info_on (record { metamodel = c.len.result; class = c.len-2.result; feature = c.len-3.result }))) c.as_slice-3.ensures.value) in
-    let alone = ap (λ (x : Metamodels). x.element) c.self.view_is ∙ c.requires.element in
-    let other = refl in
-    c.in_ok-next.ensures ∙ same m n _ _ _ _ both _ _ _ alone other ems ecs efs ∙ ap2 joined c.self.view_is c.others.view_is
+    c.in_ok-next.ensures ∙ same m n _ _ _ _ both _ _ _ refl ems ecs efs ∙ ap2 joined c.self.view_is c.others.view_is

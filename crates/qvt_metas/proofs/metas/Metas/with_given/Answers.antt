@@ -1,15 +1,13 @@
 use Rattle.std.proofs.Common.{◌≡◌, ◌∙◌, ◌+◌, ◌++◌, ◌∷◌, ℕ, List, length, None, Some, ap, sym, subst, arith}
-use Rattle.std.specs.Prelude.{IsTrue}
-use Rattle.qvt_relation.specs.Closure.{Closure}
 use Rattle.qvt_metamodel.specs.declared.info.ClassInfo.{ClassInfo}
 use Rattle.qvt_metamodel.specs.Metamodels.{Metamodels}
-use Rattle.qvt_metamodel.specs.Descends.{is_superclass}
 use Rattle.qvt_metamodel.specs.Kept.{IsKept}
 use Rattle.qvt_metamodel.specs.Extended.{extended, AreGiven, HasRoomFor, element_class, given_classes, given_features}
 use Rattle.qvt_metamodel.proofs.Bools.{ap2}
 use Rattle.qvt_meta_tables.specs.Search.{AreLive, IsAcyclic}
 use Rattle.qvt_meta_tables.specs.Tables.{of_classes, AreTables}
 use Rattle.qvt_metas.proofs.Extends.{W, kept, live_superclass, is_extended, class_total}
+use Rattle.qvt_metas.proofs.GivenOrder.{whole_acyclic}
 use Rattle.qvt_metas.proofs.metas.Metas.with_given.Goals as goal
 
 pub overflow_cast-len : goal.overflow_cast-len
@@ -47,7 +45,7 @@ tables_of-requires-clause-acyclic c =
     let classes : c.in_ok-infos.infos.items ≡ (W m c.args.classes.now).classes =
     c.in_ok-infos.ensures ∙ ap2 (λ a b. a ++ b) c.as_slice.ensures.value (c.in_ok-given.ensures ∙ ap2 (λ k f. element_class k ∷ given_classes k f c.args.classes.now) metamodel first) in
     subst IsAcyclic (sym (c.as_slice-2.ensures.value ∙ classes))
-    (subst (λ (w : Metamodels). (x : ℕ) → Closure (λ a b. IsTrue (is_superclass w a b)) x x → ⊥) (is_extended m c.args.classes.now) given.acyclic)
+    (whole_acyclic m c.args.classes.now c.self.invariant.kept.well_formed given.supers given.acyclic)
 
 pub whole-requires : goal.whole-requires
 whole-requires c =
