@@ -1,5 +1,5 @@
 -- What a text is read as is what the text is, and it is one thing.
-use Rattle.std.proofs.Common.{◌≡◌, ◌≢◌, ℕ, List, [], ◌∷◌, ◌++◌, map, length, length-append, refl, sym, ap, ◌∙◌, subst, arith, Option, Some, None, Result, Ok, Err}
+use Rattle.std.proofs.Common.{◌≡◌, ◌≢◌, ℕ, List, [], ◌∷◌, ◌++◌, map, length, refl, sym, ap, ◌∙◌, subst, arith, Option, Some, None, Result, Ok, Err}
 use Rattle.std.specs.Str.{chars}
 use Rattle.qvt_base.specs.declared.numbers.Place.{Place}
 use Rattle.qvt_grammar.specs.Reader.{At, Answer}
@@ -11,8 +11,10 @@ use Rattle.qvt_parser_grammar.specs.Tokens.{Tok}
 use Rattle.qvt_parser_grammar.specs.Gives.{place_of}
 use Rattle.qvt_parser_grammar.specs.Nesting.{nested_at}
 use Rattle.qvt_parser_grammar.specs.ReadingUnits.{transformation_at}
-use Rattle.qvt_parser_grammar.specs.Module.{Reads, IsFault}
-use Rattle.qvt_parser_grammar.proofs.Whole.{answer_reads, answer_only, answer_rest, answer_fault}
+use Rattle.qvt_parser_grammar.specs.Module.{Reads, IsFault, with_end}
+use Rattle.qvt_parser_grammar.specs.Readers.{nowhere}
+use Rattle.qvt_parsed.proofs.Ends.{read_nowhere, same_tree}
+use Rattle.qvt_parser_grammar.proofs.Whole.{answer_reads, answer_rest, answer_fault, one_tree, one_fault}
 use Rattle.qvt_parser_tokens.specs.Depth.{deep}
 use Rattle.qvt_parser_tokens.specs.Said.{said}
 use Rattle.qvt_parser_tokens.specs.Text.{HasTokens, HasLexFault}
@@ -35,7 +37,9 @@ module _ (text : List ℕ) (ts : List Tok) (end : Place) (has : HasTokens text t
   stuck shallow rest fault = record { tokens = ts; end = end; has = has; shallow = shallow; rest = rest; fault = fault; at = refl }
 
   says_tree : deep ts ≡ None → (x : Answer Tok ModuleTerm) → transformation_at (nested_at (length ts)) ts ≡ x → Says text (tree_of end x)
-  says_tree shallow (Ok (m, [])) e = record { tokens = ts; end = end; has = has; shallow = shallow; reads = answer_reads (length ts) ts (omega arith) m [] e refl }
+  says_tree shallow (Ok (m, [])) e =
+      let reads = answer_reads (length ts) ts (omega arith) m [] e refl in
+      record { tokens = ts; end = end; has = has; shallow = shallow; reads = subst (Reads ts) (read_nowhere ts m reads) reads; ends = refl }
   says_tree shallow (Ok (m, t ∷ rest)) e = stuck shallow (t ∷ rest) (answer_rest (length ts) ts (omega arith) m (t ∷ rest) e refl)
   says_tree shallow (Err (At rest)) e = stuck shallow rest (answer_fault (length ts) ts (omega arith) rest e)
 
@@ -54,31 +58,16 @@ says : (text : List ℕ) → Says text (parsed text)
 unfolding parsed
 says text = says_lexed text (lexed text) (every_text text)
 
--- of two ends of one list the longer one begins earlier
-same_ends : (a b r s : List Tok) → a ++ r ≡ b ++ s → length r ≡ length s → r ≡ s
-same_ends [] [] r s e n = e
-same_ends [] (y ∷ b) r s e n = absurd (omega (arith, n, ap length e, length-append b s))
-same_ends (x ∷ a) [] r s e n = absurd (omega (arith, n, ap length e, length-append a r))
-same_ends (x ∷ a) (y ∷ b) r s e n = same_ends a b r s (let q : a ++ r ≡ b ++ s = cc in q) n
-
-one_fault : (ts r s : List Tok) → IsFault ts r → IsFault ts s → r ≡ s
-one_fault ts r s f g =
-    let there = f.longest g.before.0 s g.before.1 g.before.2 in
-    let back = g.longest f.before.0 r f.before.1 f.before.2 in
-    same_ends f.before.0 g.before.0 r s (sym f.before.1 ∙ g.before.1) (omega (arith, there, back))
-
-one_read : (ts : List Tok) (m n : ModuleTerm) → Reads ts m → Reads ts n → (x : Answer Tok ModuleTerm) → transformation_at (nested_at (length ts)) ts ≡ x → m ≡ n
-one_read ts m n h k (Ok (t, [])) e = let only = answer_only (length ts) ts (omega arith) t [] e refl in only m h ∙ sym (only n k)
-one_read ts m n h k (Ok (t, u ∷ rest)) e = absurd ((answer_rest (length ts) ts (omega arith) t (u ∷ rest) e refl).unread m h)
-one_read ts m n h k (Err (At rest)) e = absurd ((answer_fault (length ts) ts (omega arith) rest e).unread m h)
-
 -- each text has one outcome
 module _ (text : List ℕ) where
   same : (ts us : List Tok) (p q : Place) → HasTokens text ts p → HasTokens text us q → ts ≡ us
   same ts us p q h k = (one_lexing.tokens text ts us p q h k).0
 
   tree_tree : (m n : ModuleTerm) → IsTransformation text m → IsTransformation text n → m ≡ n
-  tree_tree m n h k = one_read h.tokens m n h.reads (subst (λ z. Reads z n) (same k.tokens h.tokens k.end h.end k.has h.has) k.reads) (transformation_at (nested_at (length h.tokens)) h.tokens) refl
+  tree_tree m n h k =
+      let lists = one_lexing.tokens text k.tokens h.tokens k.end h.end k.has h.has in
+      let reads = subst (λ z. Reads z (with_end nowhere n)) lists.0 k.reads in
+      same_tree m n (one_tree h.tokens (with_end nowhere m) (with_end nowhere n) h.reads reads) (h.ends ∙ sym lists.1 ∙ sym k.ends)
 
   shallow_deep : (ts us : List Tok) (p q place : Place) → HasTokens text ts p → HasTokens text us q → deep ts ≡ None → deep us ≡ Some place → ⊥
   shallow_deep ts us p q place h k e f = let z : None ≡ Some place = sym e ∙ ap deep (same ts us p q h k) ∙ f in cc
@@ -93,7 +82,7 @@ module _ (text : List ℕ) where
       h.at ∙ (λ i. place_of (sym lists.1 i) (rests i)) ∙ sym k.at
 
   tree_syntax : (m : ModuleTerm) (p : Place) → IsTransformation text m → HasSyntaxFault text p → ⊥
-  tree_syntax m p h k = k.fault.unread m (subst (λ z. Reads z m) (same h.tokens k.tokens h.end k.end h.has k.has) h.reads)
+  tree_syntax m p h k = k.fault.unread (with_end nowhere m) (subst (λ z. Reads z (with_end nowhere m)) (same h.tokens k.tokens h.end k.end h.has k.has) h.reads)
 
   one_outcome : (a b : Result ModuleTerm ParseFault) → Says text a → Says text b → a ≡ b
   one_outcome (Ok m) (Ok n) h k = ap Ok (tree_tree m n h k)

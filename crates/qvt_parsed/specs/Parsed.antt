@@ -6,6 +6,7 @@ use Rattle.qvt_lexed.specs.Lexed.{Lexed, lexed}
 use Rattle.qvt_tree_types.specs.Module.{ModuleTerm}
 use Rattle.qvt_parser_grammar.specs.Tokens.{Tok}
 use Rattle.qvt_parser_grammar.specs.Gives.{place_of}
+use Rattle.qvt_parser_grammar.specs.Module.{with_end}
 use Rattle.qvt_parser_grammar.specs.Nesting.{nested_at}
 use Rattle.qvt_parser_grammar.specs.ReadingUnits.{transformation_at}
 use Rattle.qvt_parser_tokens.specs.Depth.{deep}
@@ -14,9 +15,9 @@ use Rattle.qvt_parsed.specs.Parsing.{IsTransformation, IsFaultOf}
 use Rattle.qvt_parsed.specs.declared.fault.ParseFault.{ParseFault}
 use Rattle.qvt_parsed.specs.declared.fault.ParseFault.TheVariants.{NoMemory, Lex, TooDeep, Syntax}
 
--- the tree, where nothing is left; else the place of what is left, or the end
+-- the tree with the end, where nothing is left; else the place of what is left, or the end
 abbrev pub tree_of : Place → Answer Tok ModuleTerm → Result ModuleTerm ParseFault
-tree_of end (Ok (m, [])) = Ok m
+tree_of end (Ok (m, [])) = Ok (with_end end m)
 tree_of end (Ok (m, t ∷ ts)) = Err (Syntax t.place)
 tree_of end (Err (At rest)) = Err (Syntax (place_of end rest))
 

@@ -4,8 +4,9 @@ use Rattle.qvt_base.specs.declared.numbers.Place.{Place}
 use Rattle.qvt_tree_types.specs.Module.{ModuleTerm, module_view}
 use Rattle.qvt_tree_types.specs.declared.module.Module.{Module}
 use Rattle.qvt_parser_grammar.specs.Tokens.{Tok}
+use Rattle.qvt_parser_grammar.specs.Readers.{nowhere}
 use Rattle.qvt_parser_grammar.specs.Gives.{place_of}
-use Rattle.qvt_parser_grammar.specs.Module.{Reads, IsFault}
+use Rattle.qvt_parser_grammar.specs.Module.{Reads, IsFault, with_end}
 use Rattle.qvt_parser_tokens.specs.Depth.{deep}
 use Rattle.qvt_parser_tokens.specs.Text.{HasTokens, HasLexFault}
 use Rattle.qvt_parser_tokens.specs.declared.text.TextFault.{TextFault}
@@ -18,13 +19,15 @@ abbrev pub fault_of : TextFault → ParseFault
 fault_of tokens.NoMemory = NoMemory
 fault_of (tokens.Lex fault) = Lex fault
 
--- the text has tokens, never more than 64 items are open in them, and they are read as this tree
+-- the text has tokens, never more than 64 items are open in them, and they are read as this tree, which ends where the text
+-- does
 pub record IsTransformation (text : List ℕ) (m : ModuleTerm) : Type 0 where
   pub tokens : List Tok
   pub end : Place
   pub has : HasTokens text tokens end
   pub shallow : deep tokens ≡ None
-  pub reads : Reads tokens m
+  pub reads : Reads tokens (with_end nowhere m)
+  pub ends : m.end ≡ end
 
 -- the text has tokens, and this is the place of the first that leaves more than 64 items open
 pub record IsTooDeep (text : List ℕ) (place : Place) : Type 0 where
@@ -53,7 +56,7 @@ IsFaultOf text (Syntax place) = HasSyntaxFault text place
 
 -- what reading tokens gives that end at this place
 abbrev pub IsReadAs : List Tok → Place → Result Module ParseFault → Type 0
-IsReadAs ts end (Ok m) = Reads ts (module_view m)
+IsReadAs ts end (Ok m) = Reads ts (with_end nowhere (module_view m)) × (m.end ≡ end)
 IsReadAs ts end (Err NoMemory) = Unit {0}
 IsReadAs ts end (Err (Lex fault)) = ⊥
 IsReadAs ts end (Err (TooDeep place)) = ⊥

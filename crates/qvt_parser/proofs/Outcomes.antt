@@ -6,7 +6,9 @@ use Rattle.qvt_lexer.specs.declared.token.LexFault.{LexFault}
 use Rattle.qvt_tree_types.specs.Module.{ModuleTerm, module_view}
 use Rattle.qvt_tree_types.specs.declared.module.Module.{Module}
 use Rattle.qvt_parser_grammar.specs.Tokens.{Tok}
-use Rattle.qvt_parser_grammar.specs.Module.{Reads, IsFault}
+use Rattle.qvt_parser_grammar.specs.Module.{Reads, IsFault, with_end}
+use Rattle.qvt_parser_grammar.specs.Readers.{nowhere}
+use Rattle.qvt_parsed.proofs.Ends.{same_tree}
 use Rattle.qvt_parser_tokens.specs.Depth.{deep}
 use Rattle.qvt_parser_tokens.specs.Text.{HasTokens, HasLexFault}
 use Rattle.qvt_parser_tokens.proofs.Lexings.{one_lexing}
@@ -36,16 +38,21 @@ module _ (text : List ℕ) (ts : List Tok) (end : Place) (has : HasTokens text t
   same : (m : ModuleTerm) (k : IsTransformation text m) → k.tokens ≡ ts
   same m k = (one_lexing.tokens text k.tokens ts k.end end k.has has).0
 
+  same_end : (m : ModuleTerm) (k : IsTransformation text m) → k.end ≡ end
+  same_end m k = (one_lexing.tokens text k.tokens ts k.end end k.has has).1
+
   pub deep_none : (p : Place) → deep ts ≡ Some p → (m : ModuleTerm) → IsTransformation text m → ⊥
   deep_none p h m k = let e : Some p ≡ None = sym h ∙ ap deep (sym (same m k)) ∙ k.shallow in absurd cc
 
   pub tree_of : deep ts ≡ None → (r : Result Module ParseFault) → IsReadAs ts end r → IfOk r (λ m. IsTransformation text (module_view m))
-  tree_of shallow (Ok m) h = record { tokens = ts; end = end; has = has; shallow = shallow; reads = h }
+  tree_of shallow (Ok m) h = record { tokens = ts; end = end; has = has; shallow = shallow; reads = h.0; ends = h.1 }
   tree_of shallow (Err f) h = tt
 
-  pub one_of : (r : Result Module ParseFault) → IfOk r (λ m. (other : ModuleTerm) → Reads ts other → other ≡ module_view m) → IfOk r (λ m. (other : ModuleTerm) → IsTransformation text other → other ≡ module_view m)
-  one_of (Ok m) h = λ other k. h other (subst (λ z. Reads z other) (same other k) k.reads)
-  one_of (Err f) h = tt
+  pub one_of : (r : Result Module ParseFault) → IsReadAs ts end r → IfOk r (λ m. (other : ModuleTerm) → Reads ts other → other ≡ with_end nowhere (module_view m)) → IfOk r (λ m. (other : ModuleTerm) → IsTransformation text other → other ≡ module_view m)
+  one_of (Ok m) read h = λ other k.
+      let tree = h (with_end nowhere other) (subst (λ z. Reads z (with_end nowhere other)) (same other k) k.reads) in
+      same_tree other (module_view m) tree (k.ends ∙ same_end other k ∙ sym read.1)
+  one_of (Err f) read h = tt
 
   pub fault_of : deep ts ≡ None → (r : Result Module ParseFault) → IsReadAs ts end r → IfErr r (IsFaultOf text)
   fault_of shallow (Ok m) h = tt
@@ -59,4 +66,4 @@ module _ (text : List ℕ) (ts : List Tok) (end : Place) (has : HasTokens text t
   none_of (Err NoMemory) h = λ n. absurd (n refl)
   none_of (Err (Lex f)) h = absurd h
   none_of (Err (TooDeep p)) h = absurd h
-  none_of (Err (Syntax p)) (rest, fault, at) = λ n other k. fault.unread other (subst (λ z. Reads z other) (same other k) k.reads)
+  none_of (Err (Syntax p)) (rest, fault, at) = λ n other k. fault.unread (with_end nowhere other) (subst (λ z. Reads z (with_end nowhere other)) (same other k) k.reads)

@@ -1,7 +1,8 @@
 ghost use Rattle.std.specs.Prelude.{◌≡◌, ◌≢◌, ◌+◌, ◌<◌, ◌^◌, length, Ok, Err, IfOk, IfErr};
 ghost use Rattle.qvt_tree_types.specs.Module.{ModuleTerm, module_view};
 ghost use Rattle.qvt_parser_grammar.specs.Tokens.{toks_of};
-ghost use Rattle.qvt_parser_grammar.specs.Module.{Reads};
+ghost use Rattle.qvt_parser_grammar.specs.Module.{Reads, with_end};
+ghost use Rattle.qvt_parser_grammar.specs.Readers.{nowhere};
 ghost use Rattle.qvt_parsed.specs.Parsing.{IsTransformation, IsFaultOf, IsReadAs};
 ghost use Rattle.qvt_parsed.specs.Parsed.{parsed};
 ghost use Rattle.qvt_parsed.specs.declared.fault.ParseFault.TheVariants as faults;
@@ -21,14 +22,15 @@ use std::alloc::Global;
 /// The transformation of these tokens, after which `end` stands. They are not too deep.
 fn read_tokens<'a>(alloc: Global, tokens: &'a [Token<'a>], end: Place) -> Result<Module, ParseFault>
     ensures read { IsReadAs (toks_of tokens.entry.now) end result }
-    ensures one { IfOk result (λ m. (other : ModuleTerm) → Reads (toks_of tokens.entry.now) other → other ≡ module_view m) }
+    ensures one { IfOk result (λ m. (other : ModuleTerm) → Reads (toks_of tokens.entry.now) other → other ≡ with_end nowhere (module_view m)) }
 {
     answers();
     let room = tokens.len();
     let mut parser = Parser::new(alloc, tokens);
     match transformation(&mut parser, room) {
-        Ok(module) => {
+        Ok(mut module) => {
             if parser.is_empty() {
+                module.end = end;
                 Ok(module)
             } else {
                 Err(ParseFault::Syntax(parser.place_or(end)))

@@ -77,3 +77,24 @@ module _ (n : ℕ) (ts : List Tok) (le : length ts ≤ n) where
     longest = λ u s q fr. k.farthest u s q (front_at n u (front_le u s q) fr);
     unread = λ other rd. k.only ts [] other (sym (append-nil ts)) (reads_at n ts other le rd);
   }
+
+-- of two ends of one list the longer one begins earlier
+same_ends : (a b r s : List Tok) → a ++ r ≡ b ++ s → length r ≡ length s → r ≡ s
+same_ends [] [] r s e n = e
+same_ends [] (y ∷ b) r s e n = absurd (omega (arith, n, ap length e, length-append b s))
+same_ends (x ∷ a) [] r s e n = absurd (omega (arith, n, ap length e, length-append a r))
+same_ends (x ∷ a) (y ∷ b) r s e n = same_ends a b r s (let q : a ++ r ≡ b ++ s = cc in q) n
+
+pub one_fault : (ts r s : List Tok) → IsFault ts r → IsFault ts s → r ≡ s
+one_fault ts r s f g =
+    let there = f.longest g.before.0 s g.before.1 g.before.2 in
+    let back = g.longest f.before.0 r f.before.1 f.before.2 in
+    same_ends f.before.0 g.before.0 r s (sym f.before.1 ∙ g.before.1) (omega (arith, there, back))
+
+one_read : (ts : List Tok) (m n : ModuleTerm) → Reads ts m → Reads ts n → (x : Answer Tok ModuleTerm) → transformation_at (nested_at (length ts)) ts ≡ x → m ≡ n
+one_read ts m n h k (Ok (t, [])) e = let only = answer_only (length ts) ts (omega arith) t [] e refl in only m h ∙ sym (only n k)
+one_read ts m n h k (Ok (t, u ∷ rest)) e = absurd ((answer_rest (length ts) ts (omega arith) t (u ∷ rest) e refl).unread m h)
+one_read ts m n h k (Err (At rest)) e = absurd ((answer_fault (length ts) ts (omega arith) rest e).unread m h)
+
+pub one_tree : (ts : List Tok) (m n : ModuleTerm) → Reads ts m → Reads ts n → m ≡ n
+one_tree ts m n h k = one_read ts m n h k (transformation_at (nested_at (length ts)) ts) refl

@@ -15,6 +15,7 @@ use Rattle.qvt_parser_grammar.specs.declared.named.UnitPath.{UnitPath}
 use Rattle.qvt_parser_grammar.specs.declared.token.Class.{Class}
 use Rattle.qvt_parser_grammar.specs.declared.token.Class.TheVariants.{InWord, OutWord, QueryWord, InheritsWord, MergesWord, DisjunctsWord, WhenWord}
 use Rattle.qvt_parser_grammar.specs.Tokens.{Tok, code_of}
+use Rattle.qvt_parser_grammar.specs.Readers.{nowhere}
 use Rattle.qvt_parser_grammar.specs.Leads.{Ended}
 
 abbrev pub typed_name_of : Named × TypeTerm → TypedName
@@ -140,8 +141,9 @@ abbrev pub units_of : List (List UnitTerm) → List UnitTerm
 units_of [] = []
 units_of (us ∷ more) = us ++ units_of more
 
+-- tokens do not tell where their text ends
 abbrev pub module_of : List ModelType × ((List ℕ × List ModelParam) × List (List UnitTerm)) → ModuleTerm
-module_of (model_types, (header, units)) = record { model_types = model_types; name = header.0; params = header.1; units = units_of units }
+module_of (model_types, (header, units)) = record { model_types = model_types; name = header.0; params = header.1; units = units_of units; end = nowhere }
 
 abbrev pub kept : Clauses → Unit {0} → Clauses
 kept x u = x

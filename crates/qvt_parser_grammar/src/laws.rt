@@ -17,6 +17,13 @@ pub fn beginnings()
     ensures completed { (ts : List Tok) → IsFront ts → (v : List Tok) × (m : ModuleTerm) × Reads (ts ++ v) m }
 {}
 
+/// Its clauses say that a list of tokens is read as at most one tree, and has at most one fault. It
+/// does nothing.
+pub fn at_most_one()
+    ensures one_tree { (ts : List Tok) (m n : ModuleTerm) → Reads ts m → Reads ts n → m ≡ n }
+    ensures one_fault { (ts r s : List Tok) → IsFault ts r → IsFault ts s → r ≡ s }
+{}
+
 /// Its clauses say what the reader's answer for a list of tokens means, at any nesting of at least
 /// the list's length: a tree with nothing left is the one tree that the list is read as, and what
 /// else is left is the list from its first fault on. It does nothing.

@@ -20,6 +20,7 @@ use crate::clauses::{
     Body, Clause, Clauses, direction_of, is_query, mapping, no_clauses, one_return, paths_or_none,
     stmts_or_none, with_clause,
 };
+use qvt_base::numbers::Place;
 use qvt_base::seq::Seq;
 use qvt_base::text::Text;
 use qvt_parser_grammar::cursor::{ParseError, Parser};
@@ -685,7 +686,7 @@ fn units(parser: &mut Parser<'_>, room: usize) -> Result<Seq<Unit>, ParseError>
     Ok(units)
 }
 
-/// A whole transformation.
+/// A whole transformation. The tokens do not tell where their text ends.
 #[tactic(auto, unfolding(qvt_parser_grammar::specs::ReadingUnits::transformation_at))]
 pub fn transformation(parser: &mut Parser<'_>, room: usize) -> Result<Module, ParseError>
     ensures gives { Gives module_view result (toks parser.new) (transformation_at (nested_at room) (toks parser.old)) }
@@ -700,5 +701,10 @@ pub fn transformation(parser: &mut Parser<'_>, room: usize) -> Result<Module, Pa
         name,
         params,
         units,
+        end: Place {
+            line: 0,
+            column: 0,
+            offset: 0,
+        },
     })
 }

@@ -154,7 +154,7 @@ module _ {i j : Nested} (h : AgainUnits i j) where
       let read_header = again_header.again w.4.0 head w.4.3 tt in
       let read_units = units_read us (units_good a.1.1 w.4.1 w.4.4) ok in
       let cut : all_spelled (tp ++ (hp ++ (piece.Line ∷ up))) ≡ all_spelled tp ++ (all_spelled hp ++ all_spelled up) = spelled_append tp (hp ++ (piece.Line ∷ up)) ∙ ap (λ z. all_spelled tp ++ z) (spelled_append hp (piece.Line ∷ up)) in
-      let value : shape (module_of a) ≡ module_of (map erase_model_type types, (bare_header head, one_each us)) = ap (λ z. record { model_types = map erase_model_type types; name = head.0; params = map erase_model_param head.1; units = z }) (sym (one_each_units us)) in
+      let value : shape (module_of a) ≡ module_of (map erase_model_type types, (bare_header head, one_each us)) = ap (λ z. record { model_types = map erase_model_type types; name = head.0; params = map erase_model_param head.1; units = z; end = nowhere }) (sym (one_each_units us)) in
       let all : (transformation j).reads (all_spelled (tp ++ (hp ++ (piece.Line ∷ up)))) (shape (module_of a)) =
       ((map erase_model_type types, (bare_header head, one_each us)), (all_spelled tp, all_spelled hp ++ all_spelled up, cut, read_types, (all_spelled hp, all_spelled up, refl, read_header, read_units)), value) in
       subst (λ z. (transformation j).reads (all_spelled (printed.module_pieces z)) (shape z)) (sym rd.2) all

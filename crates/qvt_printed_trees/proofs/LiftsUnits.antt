@@ -204,4 +204,4 @@ module _ {i : Nested} (h : LiftsNested i) where
   pub lifts_transformation : Lifts shape (transformation i) (transformation i)
   unfolding transformation shape
   lifts_transformation = lifts_made module_of (lifts_then (lifts_many lifts_model_type) (lifts_then lifts_header (lifts_many (lifts_either {b = map erase_unit} (lifts_made nothing (lifts_the Semicolon) (λ a. refl)) (lifts_made some_unit lifts_unit (λ a. refl))))))
-      (λ a. ap (λ z. record { model_types = map erase_model_type a.0; name = a.1.0.0; params = map erase_model_param a.1.0.1; units = z }) (units_bare a.1.1))
+      (λ a. ap (λ z. record { model_types = map erase_model_type a.0; name = a.1.0.0; params = map erase_model_param a.1.0.1; units = z; end = nowhere }) (units_bare a.1.1))

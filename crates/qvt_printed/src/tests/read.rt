@@ -148,6 +148,33 @@ fn texts_have_these_faults(rt: HostRuntime) {
     }
 }
 
+/// Texts that are read, and the place where they end.
+const ENDS: [(&str, Told); 5] = [
+    ("transformation T(in m : M);", ("", 1, 28, 27)),
+    ("transformation T(in m : M);  ", ("", 1, 30, 29)),
+    ("transformation T(in m : M);\n", ("", 2, 1, 28)),
+    ("transformation T(in m : M); // é", ("", 1, 33, 33)),
+    (
+        "transformation T(in m : M); // é\n  /* € */",
+        ("", 2, 10, 45),
+    ),
+];
+
+/// Where the text ends by its tree, or its fault.
+fn end_of(alloc: Global, text: &str) -> Told {
+    match tree_of(alloc, text) {
+        Ok(tree) => placed("", tree.end),
+        Err(fault) => told(fault),
+    }
+}
+
+#[test]
+fn texts_end_here(rt: HostRuntime) {
+    for (text, expected) in &ENDS {
+        assert!(rt; end_of(rt.alloc(), text) == *expected, "{text}");
+    }
+}
+
 const HEAD: &str =
     "modeltype M 'strict' uses ecore('m'); transformation T(in a : M, out b : M, inout c : M); ";
 

@@ -20,7 +20,7 @@ pub returns-in-Ok-None-clause-one : goal.returns-in-Ok-None-clause-one
 returns-in-Ok-None-clause-one c =
     let tokens = c.as_slice-in-Ok-None.result.now in
     let same = has c.args.text.now c.in_ok-lexed.lexed.end tokens c.in_ok-lexed.lexed.tokens c.in_ok-lexed.ensures c.as_slice-in-Ok-None.ensures in
-    one_of c.args.text.now (toks_of tokens) c.in_ok-lexed.lexed.end same c.read_tokens.result c.read_tokens.ensures.one
+    one_of c.args.text.now (toks_of tokens) c.in_ok-lexed.lexed.end same c.read_tokens.result c.read_tokens.ensures.read c.read_tokens.ensures.one
 
 pub returns-in-Ok-None-clause-no_tree : goal.returns-in-Ok-None-clause-no_tree
 returns-in-Ok-None-clause-no_tree c =

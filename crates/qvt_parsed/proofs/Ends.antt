@@ -1,0 +1,15 @@
+-- The place where the text of a tree ends.
+use Rattle.std.proofs.Common.{◌≡◌, List, ap, ◌∙◌, sym}
+use Rattle.qvt_tree_types.specs.Module.{ModuleTerm}
+use Rattle.qvt_parser_grammar.specs.Tokens.{Tok}
+use Rattle.qvt_parser_grammar.specs.Readers.{nowhere}
+use Rattle.qvt_parser_grammar.specs.Units.{transformation}
+use Rattle.qvt_parser_grammar.specs.Module.{Reads, with_end}
+
+-- what tokens are read as ends nowhere
+pub read_nowhere : (ts : List Tok) (m : ModuleTerm) → Reads ts m → m ≡ with_end nowhere m
+unfolding transformation
+read_nowhere ts m rd = let made = rd.reads.2 in made ∙ ap (with_end nowhere) (sym made)
+
+pub same_tree : (m n : ModuleTerm) → with_end nowhere m ≡ with_end nowhere n → m.end ≡ n.end → m ≡ n
+same_tree m n tree end = λ i. with_end (end i) (tree i)

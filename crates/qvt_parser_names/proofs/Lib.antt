@@ -1,0 +1,6 @@
+mod Forms
+mod Exprs
+mod Steps
+mod Stmts
+mod Units
+pub mod Whole
