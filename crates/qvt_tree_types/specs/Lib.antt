@@ -2,3 +2,4 @@ pub mod Tree
 pub mod View
 pub mod Module
 pub mod Parts
+pub mod Resolves

@@ -62,6 +62,8 @@ pub record ModuleTerm : Type 0 where
   pub name : List ℕ
   pub params : List ModelParam
   pub units : List UnitTerm
+  -- the place after the last character of its text
+  pub end : Place
 
 abbrev pub field_view : Field → TypedName
 field_view f = record { name = f.name; kind = type_view f.kind; place = f.place }
@@ -102,4 +104,4 @@ unit_view (Constructor h) = ConstructorOf (helper_view h)
 unit_view (MappingUnit m) = MappingOf (mapping_view m)
 
 abbrev pub module_view : Module → ModuleTerm
-module_view m = record { model_types = m.model_types; name = m.name; params = m.params; units = map unit_view m.units }
+module_view m = record { model_types = m.model_types; name = m.name; params = m.params; units = map unit_view m.units; end = m.end }

@@ -22,6 +22,8 @@ pub struct Module {
     pub name: Text,
     pub params: ModelParamList,
     pub units: UnitList,
+    /// The place after the last character of its text.
+    pub end: Place,
 }
 
 impl Drop for Module {
@@ -31,6 +33,7 @@ impl Drop for Module {
             name,
             params,
             units,
+            end,
         } = self;
     }
 }

@@ -1,3 +1,6 @@
+ghost use Rattle.std.specs.Prelude.{◌≡◌};
+ghost use Rattle.qvt_tree_types.specs.Resolves.{is_one, is_inverse, is_within};
+
 use qvt_base::numbers::Place;
 
 /// The direction of a model parameter: `in`, `out` or `inout`.
@@ -73,4 +76,45 @@ pub enum ResolveWord {
     ResolveOneIn,
     InvResolveIn,
     InvResolveOneIn,
+}
+
+impl ResolveWord {
+    /// Whether it gives the first of what it finds alone.
+    pub fn is_one(self) -> bool
+        ensures { result ≡ is_one self }
+    {
+        match self {
+            ResolveWord::ResolveOne => true,
+            ResolveWord::InvResolveOne => true,
+            ResolveWord::ResolveOneIn => true,
+            ResolveWord::InvResolveOneIn => true,
+            _ => false,
+        }
+    }
+
+    /// Whether it goes from results to sources.
+    pub fn is_inverse(self) -> bool
+        ensures { result ≡ is_inverse self }
+    {
+        match self {
+            ResolveWord::InvResolve => true,
+            ResolveWord::InvResolveOne => true,
+            ResolveWord::InvResolveIn => true,
+            ResolveWord::InvResolveOneIn => true,
+            _ => false,
+        }
+    }
+
+    /// Whether it names a mapping, and looks at what that one made alone.
+    pub fn is_within(self) -> bool
+        ensures { result ≡ is_within self }
+    {
+        match self {
+            ResolveWord::ResolveIn => true,
+            ResolveWord::ResolveOneIn => true,
+            ResolveWord::InvResolveIn => true,
+            ResolveWord::InvResolveOneIn => true,
+            _ => false,
+        }
+    }
 }
