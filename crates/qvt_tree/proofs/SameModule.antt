@@ -137,7 +137,7 @@ self_model_param x = and_both _ _ (and_both _ _ (direction_self x.direction) (te
 
 sound_module : (x y : ModuleTerm) → same_module x y ≡ true → shape x ≡ shape y
 unfolding same_module shape
-sound_module x y h = λ i. record { model_types = sound_list same_model_type erase_model_type sound_model_type x.model_types y.model_types (and_left _ _ (and_left _ _ (and_left _ _ h))) i; name = text_sound x.name y.name (and_right _ _ (and_left _ _ (and_left _ _ h))) i; params = sound_list same_model_param erase_model_param sound_model_param x.params y.params (and_right _ _ (and_left _ _ h)) i; units = sound_list same_unit erase_unit sound_unit x.units y.units (and_right _ _ h) i }
+sound_module x y h = λ i. record { model_types = sound_list same_model_type erase_model_type sound_model_type x.model_types y.model_types (and_left _ _ (and_left _ _ (and_left _ _ h))) i; name = text_sound x.name y.name (and_right _ _ (and_left _ _ (and_left _ _ h))) i; params = sound_list same_model_param erase_model_param sound_model_param x.params y.params (and_right _ _ (and_left _ _ h)) i; units = sound_list same_unit erase_unit sound_unit x.units y.units (and_right _ _ h) i; end = nowhere }
 
 erased_module : (x y : ModuleTerm) → same_module (shape x) (shape y) ≡ same_module x y
 unfolding same_module shape
