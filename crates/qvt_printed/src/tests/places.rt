@@ -144,7 +144,7 @@ fn statements_have_places(alloc: Global, body: &str, expected: &str) -> Result<b
 }
 
 /// An assignment stands at its sign, any other statement at its first token.
-const STATEMENTS: [(&str, &str); 14] = [
+const STATEMENTS: [(&str, &str); 15] = [
     ("var x", "var 0"),
     ("var x : A := 1", "var 0, Path 8, Int 13"),
     ("x := 1", "assign 2, Bare 0, Int 5"),
@@ -155,6 +155,10 @@ const STATEMENTS: [(&str, &str); 14] = [
         "assign 6, Member 4, Post 0, Int 9, Path 0, Dot 2",
     ),
     ("(a).b := 1", "assign 6, Member 4, Path 1, Int 9"),
+    (
+        "(a.b).c := 1",
+        "assign 8, Member 6, Post 1, Int 11, Path 1, Dot 3",
+    ),
     ("return", "return 0"),
     ("return a", "return 0, Path 7"),
     ("; a;; b", "value 2, value 6, Path 2, Path 6"),
@@ -185,7 +189,7 @@ fn places_in_statements(rt: HostRuntime) {
 
 /// Operators stand at their signs, any other expression at its first token. A bracket begins a
 /// chain or an expression with steps, but not what stands alone in it.
-const EXPRESSIONS: [(&str, &str); 28] = [
+const EXPRESSIONS: [(&str, &str); 33] = [
     ("12", "value 0, Int 0"),
     ("'a'", "value 0, Str 0"),
     ("true", "value 0, Bool 0"),
@@ -247,6 +251,17 @@ const EXPRESSIONS: [(&str, &str); 28] = [
         "value 0, Post 0, Chain 1, Dot 8, Path 1, Link 3, Path 5",
     ),
     ("(a.b).c", "value 0, Post 0, Path 1, Dot 3, Dot 6"),
+    ("(a).b", "value 0, Post 0, Path 1, Dot 4"),
+    ("(a) + b", "value 0, Chain 0, Path 1, Link 4, Path 6"),
+    (
+        "((a) + b) * c",
+        "value 0, Chain 0, Chain 1, Link 10, Path 12, Path 2, Link 5, Path 7",
+    ),
+    (
+        "(- a).b",
+        "value 0, Post 0, Prefix 1, Dot 6, Sign 1, Path 3",
+    ),
+    ("-(a).b", "value 0, Prefix 0, Sign 0, Post 1, Path 2, Dot 5"),
 ];
 
 /// A step stands at its name, a mapping call at the called name, a resolve at `late` or its word.
