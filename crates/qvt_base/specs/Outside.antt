@@ -14,6 +14,19 @@ use Rattle.qvt_base.specs.declared.outside.SinkAnswer.TheVariants as sink
 abbrev pub Held : Type 0
 Held = map.FinMap (slice_cmp nat_cmp) (List ℕ)
 
+-- what files tell of themselves: what they hold and the names of the reads that failed, where they tell these, and how many reads and
+-- writes failed
+pub record FilesSeen : Type 0 where
+  pub held : Option Held
+  pub failed : Option (List (List ℕ))
+  pub reads : ℕ
+  pub writes : ℕ
+
+-- what a sink tells of itself: the bytes written, where it tells them, and how many writes failed
+pub record SinkSeen : Type 0 where
+  pub written : Option (List ℕ)
+  pub faults : ℕ
+
 -- a count rose: it is greater than before, or stands at the greatest number of 64 bits
 abbrev pub Rose : ℕ → ℕ → Type 0
 Rose before now = min (before + 1) (2 ^ 64 - 1) ≤ now
@@ -52,6 +65,14 @@ IsWithin limit read.TooLarge = ⊤
 IsWithin limit read.Failed = ⊤
 IsWithin limit read.NoMemory = ⊤
 
+-- a reader that tells its bytes is read to its end: they are all that was found, or more than the limit
+abbrev pub ReadsRest : Option (List ℕ) → ℕ → ReadAnswer → Type 0
+ReadsRest rest limit (read.Found bytes) = IfSome rest (λ all. all ≡ bytes)
+ReadsRest rest limit read.Missing = ⊥
+ReadsRest rest limit read.TooLarge = IfSome rest (λ all. limit < length all)
+ReadsRest rest limit read.Failed = ⊤
+ReadsRest rest limit read.NoMemory = ⊤
+
 -- the failed reads, the last at the end
 abbrev pub failed_after : Option (List (List ℕ)) → List ℕ → ReadAnswer → Option (List (List ℕ))
 failed_after told name (read.Found bytes) = told
@@ -67,10 +88,29 @@ IfReadFailed read.TooLarge P = ⊤
 IfReadFailed read.Failed P = P
 IfReadFailed read.NoMemory P = ⊤
 
--- a failed read only where the count rose
+-- every answer but a failed read
+abbrev pub UnlessReadFailed : ReadAnswer → Type 0 → Type 0
+UnlessReadFailed (read.Found bytes) P = P
+UnlessReadFailed read.Missing P = P
+UnlessReadFailed read.TooLarge P = P
+UnlessReadFailed read.Failed P = ⊤
+UnlessReadFailed read.NoMemory P = P
+
+-- a failed read exactly where the count rose, by one
 pub record ReadCause (before now : ℕ) (answer : ReadAnswer) : Type 0 where
   pub count : NeverFalls before now
   pub failed : IfReadFailed answer (Rose before now)
+  pub one : now ≤ before + 1
+  pub kept : UnlessReadFailed answer (now ≡ before)
+
+-- a read of a name within a limit: no bytes change
+pub record IsRead (old : FilesSeen) (name : List ℕ) (limit : ℕ) (answer : ReadAnswer) (new : FilesSeen) : Type 0 where
+  pub found : Reads old.held name limit answer
+  pub within : IsWithin limit answer
+  pub held : new.held ≡ old.held
+  pub failed : new.failed ≡ failed_after old.failed name answer
+  pub cause : ReadCause old.reads new.reads answer
+  pub writes : new.writes ≡ old.writes
 
 -- every name but this one is as before
 abbrev pub SameBut : List ℕ → Held → Held → Type 0
@@ -92,9 +132,23 @@ abbrev pub IfWriteFailed : WriteAnswer → Type 0 → Type 0
 IfWriteFailed write.Written P = ⊤
 IfWriteFailed write.Failed P = P
 
+abbrev pub IfWritten : WriteAnswer → Type 0 → Type 0
+IfWritten write.Written P = P
+IfWritten write.Failed P = ⊤
+
+-- a failed write exactly where the count rose, by one
 pub record WriteCause (before now : ℕ) (answer : WriteAnswer) : Type 0 where
   pub count : NeverFalls before now
   pub failed : IfWriteFailed answer (Rose before now)
+  pub one : now ≤ before + 1
+  pub kept : IfWritten answer (now ≡ before)
+
+-- a write of bytes to a name
+pub record IsWritten (old : FilesSeen) (name bytes : List ℕ) (answer : WriteAnswer) (new : FilesSeen) : Type 0 where
+  pub held : Writes old.held name bytes new.held answer
+  pub failed : new.failed ≡ old.failed
+  pub cause : WriteCause old.writes new.writes answer
+  pub reads : new.reads ≡ old.reads
 
 -- at most the piece, and some of a piece that is not empty
 abbrev pub IsPart : List ℕ → SinkAnswer → Type 0
@@ -112,6 +166,19 @@ abbrev pub IfSinkFailed : SinkAnswer → Type 0 → Type 0
 IfSinkFailed (sink.Taken n) P = ⊤
 IfSinkFailed sink.Failed P = P
 
+abbrev pub IfTaken : SinkAnswer → Type 0 → Type 0
+IfTaken (sink.Taken n) P = P
+IfTaken sink.Failed P = ⊤
+
+-- a failed write to a sink exactly where the count rose, by one
 pub record SinkCause (before now : ℕ) (answer : SinkAnswer) : Type 0 where
   pub count : NeverFalls before now
   pub failed : IfSinkFailed answer (Rose before now)
+  pub one : now ≤ before + 1
+  pub kept : IfTaken answer (now ≡ before)
+
+-- a write of a piece to a sink
+pub record IsSent (old : SinkSeen) (piece : List ℕ) (answer : SinkAnswer) (new : SinkSeen) : Type 0 where
+  pub part : IsPart piece answer
+  pub taken : new.written ≡ written_after old.written piece answer
+  pub cause : SinkCause old.faults new.faults answer

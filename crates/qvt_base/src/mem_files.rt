@@ -1,8 +1,8 @@
-ghost use Rattle.std.specs.Prelude.{◌≡◌, ◌≢◌, OnOk, OnErr, Some, []};
+ghost use Rattle.std.specs.Prelude.{◌≡◌, ◌≢◌, OnOk, OnErr, Some, [], ◌∷◌};
 ghost use Rattle.std.specs.Option.{option_copied};
 ghost use Rattle.std.specs.FinMap as map;
-ghost use Rattle.qvt_base.specs.Outside.{Reads, IsWithin, failed_after, ReadCause, Writes, WriteCause, IfWriteFailed};
-ghost use Rattle.qvt_base.specs.MemFiles.{held_of, held_in, failed_in, IsUnread, after_call, is_to_fail, FailsAsListed, FailsWhereListed};
+ghost use Rattle.qvt_base.specs.Outside.{Reads, IsWithin, failed_after, ReadCause, IsRead, IsWritten, WriteCause, IfWriteFailed};
+ghost use Rattle.qvt_base.specs.MemFiles.{pairs, held_of, held_in, files_seen, IsUnread, after_call, is_to_fail, FailsAsListed, FailsWhereListed};
 
 use crate::copied::Copied;
 use crate::lists::{Bytes, CallList, NameList};
@@ -11,6 +11,7 @@ use crate::seq::Seq;
 use crate::text::Text;
 use std::alloc::Global;
 use std::collections::VecDeque;
+use std::marker::Model;
 
 /// Why a file in memory could not be made.
 #[derive(Clone, Copy, Debug, PartialEq, Eq)]
@@ -26,7 +27,7 @@ pub struct Entry {
 }
 
 /// Files in memory: they tell their bytes and the names of their failed reads, and calls whose
-/// numbers (from 0, reads and writes counted together) stand in a list fail.
+/// numbers (from 1, reads and writes counted together) stand in a list fail.
 #[derive(Debug, Drop)]
 pub struct MemFiles {
     /// The newest write first.
@@ -38,9 +39,17 @@ pub struct MemFiles {
     write_faults: u64,
 }
 
+impl Model for MemFiles {
+    ghost use Rattle.qvt_base.specs.MemFiles.{FilesInMemory, pairs};
+
+    ghost Value = { FilesInMemory };
+
+    ghost view = { λ f. record { log = pairs f.log.items; failing = f.failing; calls = f.calls; failed = f.failed; read_faults = f.read_faults; write_faults = f.write_faults } };
+}
+
 /// The newest bytes under the name.
 fn find<'a>(log: &'a VecDeque<Entry>, name: &str) -> Option<&'a Bytes>
-    ensures { option_copied result ≡ map.get (held_of log.now.items) name.now }
+    ensures { option_copied result ≡ map.get (held_of (pairs log.now.items)) name.now }
 {
     for entry in log {
         if entry.name.as_str() == name {
@@ -52,7 +61,7 @@ fn find<'a>(log: &'a VecDeque<Entry>, name: &str) -> Option<&'a Bytes>
 
 /// Puts a write in front.
 fn put(alloc: Global, log: &mut VecDeque<Entry>, name: &str, bytes: &[u8]) -> Result<(), FilesFault>
-    ensures ok { OnOk result (held_of log.new.items ≡ map.insert (held_of log.old.items) name.now bytes.now) }
+    ensures ok { OnOk result (pairs log.new.items ≡ (name.now, bytes.now) ∷ pairs log.old.items) }
     ensures err { OnErr result (log.new.items ≡ log.old.items) }
 {
     let Ok(name) = Text::from_str(alloc, name) else {
@@ -70,12 +79,7 @@ fn put(alloc: Global, log: &mut VecDeque<Entry>, name: &str, bytes: &[u8]) -> Re
 impl MemFiles {
     /// No files, no faults. The calls of these numbers are to fail, the first call being 1.
     pub fn new(alloc: Global, failing: CallList) -> MemFiles
-        ensures held { held_in result ≡ map.empty }
-        ensures failed { failed_in result ≡ [] }
-        ensures reads { result.read_faults ≡ 0 }
-        ensures writes { result.write_faults ≡ 0 }
-        ensures failing { result.failing ≡ failing }
-        ensures calls { result.calls ≡ 0 }
+        ensures { result ≡ record { log = []; failing = failing; calls = 0; failed = []; read_faults = 0; write_faults = 0 } }
     {
         MemFiles {
             log: VecDeque::new(alloc),
@@ -88,11 +92,11 @@ impl MemFiles {
     }
 
     /// Makes the name hold these bytes. This is no counted call.
-    pub fn hold(&mut self, alloc: Global, name: &str, bytes: &[u8]) -> Result<(), FilesFault>
-        ensures ok { OnOk result (held_in self.new ≡ map.insert (held_in self.old) name.now bytes.now) }
-        ensures err { OnErr result (held_in self.new ≡ held_in self.old) }
-        ensures rest { self.new ≡ record self.old { log = self.new.log } }
+    pub fn hold(&mut self, name: &str, bytes: &[u8]) -> Result<(), FilesFault>
+        ensures ok { OnOk result (self.new ≡ record self.old { log = (name.now, bytes.now) ∷ self.old.log }) }
+        ensures err { OnErr result (self.new ≡ self.old) }
     {
+        let alloc = *self.log.allocator();
         put(alloc, &mut self.log, name, bytes)
     }
 
@@ -128,8 +132,8 @@ impl MemFiles {
 
     /// A read that failed, whose name is kept.
     fn fail_read(&mut self, alloc: Global, name: &str) -> ReadAnswer
-        ensures held { held_in self.new ≡ held_in self.old }
-        ensures failed { Some (failed_in self.new) ≡ failed_after (Some (failed_in self.old)) name.now result }
+        ensures held { self.new.log ≡ self.old.log }
+        ensures failed { Some self.new.failed ≡ failed_after (Some self.old.failed) name.now result }
         ensures cause { ReadCause self.old.read_faults self.new.read_faults result }
         ensures writes { self.new.write_faults ≡ self.old.write_faults }
         ensures calls { self.new.calls ≡ self.old.calls }
@@ -149,7 +153,7 @@ impl MemFiles {
 
 /// What stands under the name, copied.
 fn read_from(alloc: Global, log: &VecDeque<Entry>, name: &str, limit: u32) -> ReadAnswer
-    ensures answer { Reads (Some (held_of log.now.items)) name.now limit result }
+    ensures answer { Reads (Some (held_of (pairs log.now.items))) name.now limit result }
     ensures within { IsWithin limit result }
     ensures never_failed { result ≢ ReadAnswer.Failed }
 {
@@ -166,23 +170,12 @@ fn read_from(alloc: Global, log: &VecDeque<Entry>, name: &str, limit: u32) -> Re
 }
 
 impl Files for MemFiles {
-    ghost held = { λ f. Some (held_in f) };
-
-    ghost failed_reads = { λ f. Some (failed_in f) };
-
-    ghost read_faults = { λ f. f.read_faults };
-
-    ghost write_faults = { λ f. f.write_faults };
+    ghost seen = { files_seen };
 
     /// It fails exactly where the number of the call is listed; where there is no memory for the
     /// name of a failed read, the answer is NoMemory.
     fn read(&mut self, alloc: Global, name: &str, limit: u32) -> ReadAnswer
-        ensures answer { Reads (Some (held_in self.old)) name.now limit result }
-        ensures within { IsWithin limit result }
-        ensures held { Some (held_in self.new) ≡ Some (held_in self.old) }
-        ensures failed { Some (failed_in self.new) ≡ failed_after (Some (failed_in self.old)) name.now result }
-        ensures cause { ReadCause self.old.read_faults self.new.read_faults result }
-        ensures writes { self.new.write_faults ≡ self.old.write_faults }
+        ensures read { IsRead (files_seen self.old) name.now limit result (files_seen self.new) }
         ensures listed { FailsAsListed (is_to_fail self.old) result }
         ensures calls { self.new.calls ≡ (after_call self.old).calls }
         ensures failing { self.new.failing ≡ self.old.failing }
@@ -195,11 +188,8 @@ impl Files for MemFiles {
 
     /// It fails where the number of the call is listed, and where there is no memory for the bytes.
     fn write(&mut self, name: &str, bytes: &[u8]) -> WriteAnswer
-        ensures answer { Writes (Some (held_in self.old)) name.now bytes.now (Some (held_in self.new)) result }
-        ensures failed { Some (failed_in self.new) ≡ Some (failed_in self.old) }
-        ensures cause { WriteCause self.old.write_faults self.new.write_faults result }
-        ensures reads { self.new.read_faults ≡ self.old.read_faults }
-        ensures kept { IfWriteFailed result (held_in self.new ≡ held_in self.old) }
+        ensures written { IsWritten (files_seen self.old) name.now bytes.now result (files_seen self.new) }
+        ensures kept { IfWriteFailed result (self.new.log ≡ self.old.log) }
         ensures listed { FailsWhereListed (is_to_fail self.old) result }
         ensures calls { self.new.calls ≡ (after_call self.old).calls }
         ensures failing { self.new.failing ≡ self.old.failing }

@@ -1,10 +1,11 @@
 ghost use Rattle.std.specs.Prelude.{◌≡◌, ◌<◌, [], Some};
-ghost use Rattle.qvt_base.specs.Outside.{SinkCause, IsPart, written_after};
+ghost use Rattle.qvt_base.specs.Outside.{SinkCause, IsSent};
 
 use crate::lists::{Bytes, CallList};
 use crate::outside::{Sink, SinkAnswer};
 use crate::seq::Seq;
 use std::alloc::Global;
+use std::marker::Model;
 
 /// A sink in memory: it tells its bytes, takes at most so many in a call, and calls whose numbers
 /// (the first being 1) stand in a list fail.
@@ -18,17 +19,21 @@ pub struct MemSink {
     ghost takes_some: { 0 < most },
 }
 
+impl Model for MemSink {
+    ghost use Rattle.qvt_base.specs.MemSink.{SinkInMemory};
+
+    ghost Value = { SinkInMemory };
+
+    ghost view = { λ s. record { bytes = s.bytes; failing = s.failing; calls = s.calls; most = s.most; faults = s.faults } };
+}
+
 impl MemSink {
-    ghost use Rattle.qvt_base.specs.MemSink.{bytes_in, is_to_fail, after_call};
+    ghost use Rattle.qvt_base.specs.MemSink.{is_to_fail, after_call};
 
     /// No bytes, no faults. The calls of these numbers are to fail.
     pub fn new(alloc: Global, failing: CallList, most: usize) -> MemSink
         requires { 0 < most }
-        ensures bytes { bytes_in result ≡ [] }
-        ensures faults { result.faults ≡ 0 }
-        ensures failing { result.failing ≡ failing }
-        ensures calls { result.calls ≡ 0 }
-        ensures most { result.most ≡ most }
+        ensures { result ≡ record { bytes = []; failing = failing; calls = 0; most = most; faults = 0 } }
     {
         MemSink {
             bytes: Seq::new(alloc),
@@ -41,7 +46,7 @@ impl MemSink {
 
     /// The bytes written. It takes no memory.
     pub fn bytes(&self) -> &[u8]
-        ensures { result.now ≡ bytes_in self.now }
+        ensures { result.now ≡ self.now.bytes }
     {
         self.bytes.as_slice()
     }
@@ -68,18 +73,14 @@ impl MemSink {
 }
 
 impl Sink for MemSink {
-    ghost use Rattle.qvt_base.specs.MemSink.{bytes_in, is_to_fail, after_call, FailsWhereListed, TakesMost};
+    ghost use Rattle.qvt_base.specs.MemSink.{sink_seen, is_to_fail, after_call, FailsWhereListed, TakesMost};
 
-    ghost written = { λ s. Some (bytes_in s) };
-
-    ghost faults = { λ s. s.faults };
+    ghost seen = { sink_seen };
 
     /// It fails where the number of the call is listed, and where there is no memory for the bytes;
     /// otherwise it takes as many as it may in one call.
     fn write(&mut self, piece: &[u8]) -> SinkAnswer
-        ensures part { IsPart piece.now result }
-        ensures taken { Some (bytes_in self.new) ≡ written_after (Some (bytes_in self.old)) piece.now result }
-        ensures cause { SinkCause self.old.faults self.new.faults result }
+        ensures sent { IsSent (sink_seen self.old) piece.now result (sink_seen self.new) }
         ensures listed { FailsWhereListed (is_to_fail self.old) result }
         ensures most { TakesMost self.old.most piece.now result }
         ensures calls { self.new.calls ≡ (after_call self.old).calls }

@@ -1,7 +1,8 @@
 //! The real outside: the working folder and standard output. They tell nothing of what they hold;
-//! these lines are the trusted edge.
+//! the calls of the system in them are the trusted edge.
 ghost use Rattle.std.specs.Prelude.{◌≡◌, None, ◌≤◌, length};
-ghost use Rattle.qvt_base.specs.Outside.{IsWithin, ReadCause, WriteCause, SinkCause};
+ghost use Rattle.qvt_base.specs.Outside.{IsWithin, ReadsRest, IsPart, part_of};
+ghost use Rattle.std.specs.Io.KnownBytes.{Appends};
 
 use crate::lists::Bytes;
 use crate::outside::{Files, ReadAnswer, Sink, SinkAnswer, WriteAnswer};
@@ -9,6 +10,7 @@ use crate::seq::Seq;
 use std::alloc::Global;
 use std::fs::File;
 use std::io::{ErrorKind, Read, Write};
+use std::marker::Model;
 use std::rt;
 
 /// The files of the working folder.
@@ -28,7 +30,8 @@ pub struct StdSink<R: Print + Drop> {
 
 /// Reads to the end, or to one byte past the limit.
 fn read_open<F: Read>(alloc: Global, file: &mut F, limit: usize) -> ReadAnswer
-    ensures { IsWithin limit result }
+    ensures within { IsWithin limit result }
+    ensures rest { ReadsRest (F.remaining file.old) limit result }
 {
     let mut found: Bytes = Seq::new(alloc);
     let mut piece = [0u8; 4096];
@@ -63,11 +66,18 @@ fn read_named<R: rt::Files>(rt: &R, alloc: Global, name: &str, limit: u32) -> Re
     }
 }
 
+impl<R: rt::Files + Drop> Model for DirFiles<R> {
+    ghost use Rattle.qvt_base.specs.Real.{FaultCounts};
+
+    ghost Value = { FaultCounts };
+
+    ghost view = { λ f. record { reads = f.read_faults; writes = f.write_faults } };
+}
+
 impl<R: rt::Files + Drop> DirFiles<R> {
     /// The working folder, with no faults.
     pub fn new(rt: R) -> DirFiles<R>
-        ensures reads { result.read_faults ≡ 0 }
-        ensures writes { result.write_faults ≡ 0 }
+        ensures { result ≡ record { reads = 0; writes = 0 } }
     {
         DirFiles {
             rt,
@@ -78,13 +88,9 @@ impl<R: rt::Files + Drop> DirFiles<R> {
 }
 
 impl<R: rt::Files + Drop> Files for DirFiles<R> {
-    ghost held = { λ f. None };
+    ghost use Rattle.qvt_base.specs.Real.{folder_seen};
 
-    ghost failed_reads = { λ f. None };
-
-    ghost read_faults = { λ f. f.read_faults };
-
-    ghost write_faults = { λ f. f.write_faults };
+    ghost seen = { folder_seen };
 
     fn read(&mut self, alloc: Global, name: &str, limit: u32) -> ReadAnswer {
         let answer = read_named(&self.rt, alloc, name, limit);
@@ -106,27 +112,45 @@ impl<R: rt::Files + Drop> Files for DirFiles<R> {
     }
 }
 
+/// Writes a front of the piece; a writer that takes nothing of a piece that is not empty has failed.
+fn put<W: Write>(to: &mut W, piece: &[u8]) -> SinkAnswer
+    ensures part { IsPart piece.now result }
+    ensures taken { Appends (W.contents to.old) (W.contents to.new) (part_of piece.now result) }
+{
+    match to.write(piece) {
+        Ok(count) if 0 < count || piece.is_empty() => SinkAnswer::Taken(count),
+        _ => SinkAnswer::Failed,
+    }
+}
+
+impl<R: Print + Drop> Model for StdSink<R> {
+    ghost use Rattle.std.specs.Prelude.{ℕ};
+
+    ghost Value = { ℕ };
+
+    ghost view = { λ s. s.faults };
+}
+
 impl<R: Print + Drop> StdSink<R> {
     /// Standard output, with no faults.
     pub fn new(rt: R) -> StdSink<R>
-        ensures { result.faults ≡ 0 }
+        ensures { result ≡ 0 }
     {
         StdSink { rt, faults: 0 }
     }
 }
 
 impl<R: Print + Drop> Sink for StdSink<R> {
-    ghost written = { λ s. None };
+    ghost use Rattle.qvt_base.specs.Real.{output_seen};
 
-    ghost faults = { λ s. s.faults };
+    ghost seen = { output_seen };
 
     fn write(&mut self, piece: &[u8]) -> SinkAnswer {
-        match std::io::writer(&self.rt).write(piece) {
-            Ok(count) if 0 < count || piece.is_empty() => SinkAnswer::Taken(count),
-            _ => {
-                self.faults = self.faults.saturating_add(1);
-                SinkAnswer::Failed
-            }
+        let mut standard = std::io::writer(&self.rt);
+        let answer = put(&mut standard, piece);
+        if let SinkAnswer::Failed = answer {
+            self.faults = self.faults.saturating_add(1);
         }
+        answer
     }
 }

@@ -31,7 +31,7 @@ const MODEL: &str = "{\"objects\":[{\"class\":\"C\",\"id\":\"o1\",\"slots\":{\"a
 fn files_of(alloc: Global, failing: u64) -> Option<MemFiles> {
     let mut files = MemFiles::new(alloc, Seq::from_slice(alloc, &[failing]).ok()?);
     for (name, text) in &FILES {
-        files.hold(alloc, name, text.as_bytes()).ok()?;
+        files.hold(name, text.as_bytes()).ok()?;
     }
     Some(files)
 }

@@ -35,7 +35,7 @@ fn are_read<F: Files>(alloc: Global, files: &mut F, reads: &[(&str, u32, &str)])
 fn failing_files(alloc: Global) -> Option<MemFiles> {
     let failing = Seq::from_slice(alloc, &[3, 5]).ok()?;
     let mut files = MemFiles::new(alloc, failing);
-    files.hold(alloc, "a", b"one").ok()?;
+    files.hold("a", b"one").ok()?;
     Some(files)
 }
 

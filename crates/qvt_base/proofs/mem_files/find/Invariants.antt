@@ -8,4 +8,4 @@ use Rattle.qvt_base.specs.MemFiles.{held_of, pairs}
 use Rattle.qvt_base.proofs.mem_files.find.Given as goal
 
 abbrev pub invariant-loop-entry : goal.invariant-loop-entry
-invariant-loop-entry l = finite.get (held_of l.log.items) l.name ≡ find (slice_cmp nat_cmp) l.name (pairs (deque_iter_rest l.entry-iterator))
+invariant-loop-entry l = finite.get (held_of (pairs l.log.items)) l.name ≡ find (slice_cmp nat_cmp) l.name (pairs (deque_iter_rest l.entry-iterator))
