@@ -1,18 +1,18 @@
 #!/usr/bin/env bash
 # Reading metamodels of up to 1 MiB against reading their JSON values alone, in one run: prints both times, less that of a
-# metamodel without classes, and their ratio. Wants the program of crates/qvt_meta_speed, and makes it where it is missing.
+# metamodel without classes, and their ratio. Wants the program of crates/qvt_speed, and makes it where it is missing.
 set -u
 here=$(cd "$(dirname "${BASH_SOURCE[0]}")/.." && pwd)
 work=$(mktemp -d)
 trap 'rm -rf "$work"' EXIT
-program="$here/crates/qvt_meta_speed/out/qvt_meta_speed"
-[ -x "$program" ] || (cd "$here/crates/qvt_meta_speed" && rt run >/dev/null 2>&1)
+program="$here/crates/qvt_speed/out/qvt_speed"
+[ -x "$program" ] || (cd "$here/crates/qvt_speed" && rt run </dev/null >/dev/null 2>&1)
 cd "$work" || exit 1
 times=${1:-10}
 measure() { # microseconds a run of $times runs
   local begin end
   begin=$(date +%s%N)
-  for _ in $(seq "$times"); do "$program" "$1" || exit 1; done
+  for _ in $(seq "$times"); do "$program" meta "$1" || exit 1; done
   end=$(date +%s%N)
   echo $(((end - begin) / times / 1000))
 }

@@ -7,8 +7,8 @@ set -u
 here=$(cd "$(dirname "${BASH_SOURCE[0]}")/.." && pwd)
 work=$(mktemp -d)
 trap 'rm -rf "$work"' EXIT
-program="$here/crates/qvt_model_speed/out/qvt_model_speed"
-[ -x "$program" ] || (cd "$here/crates/qvt_model_speed" && rt run >/dev/null 2>&1)
+program="$here/crates/qvt_speed/out/qvt_speed"
+[ -x "$program" ] || (cd "$here/crates/qvt_speed" && rt run </dev/null >/dev/null 2>&1)
 cd "$work" || exit 1
 times=${1:-5}
 cat >m.json <<'JSON'
@@ -31,7 +31,7 @@ spent() { # the least microseconds of some runs of a form
   local begin end spent best=0
   for _ in $(seq "$times"); do
     begin=$(date +%s%N)
-    "$program" "$1" >/dev/null || echo "$1 refused" >&2
+    "$program" model "$1" >/dev/null || echo "$1 refused" >&2
     end=$(date +%s%N)
     spent=$(((end - begin) / 1000))
     if [ $best -eq 0 ] || [ $spent -lt $best ]; then best=$spent; fi

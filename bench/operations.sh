@@ -8,13 +8,13 @@
 # An argument is the number of items in place of a million.
 set -u
 here=$(cd "$(dirname "${BASH_SOURCE[0]}")/.." && pwd)
-program="$here/crates/qvt_ocl_speed/out/qvt_ocl_speed"
-[ -x "$program" ] || (cd "$here/crates/qvt_ocl_speed" && rt run -- copy numbers sequence 10 1 >/dev/null 2>&1)
+program="$here/crates/qvt_speed/out/qvt_speed"
+[ -x "$program" ] || (cd "$here/crates/qvt_speed" && rt run </dev/null >/dev/null 2>&1)
 many=${1:-1000000}
 few=$((many / 10))
 once() { # milliseconds of processor time of one run
   local TIMEFORMAT=%U
-  { time "$program" "$@" >/dev/null; } 2>&1 | awk '{printf "%d", $1 * 1000}'
+  { time "$program" operations "$@" >/dev/null; } 2>&1 | awk '{printf "%d", $1 * 1000}'
 }
 least() { # the least of five runs
   local best=-1 run spent

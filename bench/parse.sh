@@ -3,20 +3,20 @@
 # by the clock, from the text at hand to the tree, and what a byte takes. Then, of whole runs of the program, less one that
 # reads the bytes alone: the least times of reading the tokens, and of the tree, which is dropped again; how many times the
 # bytes' own run the whole one takes; and the time of printing what was read. Each text comes also at a tenth of the size.
-# Wants the program of crates/qvt_parser_speed, and makes it where it is missing.
+# Wants the program of crates/qvt_speed, and makes it where it is missing.
 set -u
 here=$(cd "$(dirname "${BASH_SOURCE[0]}")/.." && pwd)
 work=$(mktemp -d)
 trap 'rm -rf "$work"' EXIT
-program="$here/crates/qvt_parser_speed/out/qvt_parser_speed"
-[ -x "$program" ] || (cd "$here/crates/qvt_parser_speed" && rt run >/dev/null 2>&1)
+program="$here/crates/qvt_speed/out/qvt_speed"
+[ -x "$program" ] || (cd "$here/crates/qvt_speed" && rt run </dev/null >/dev/null 2>&1)
 cd "$work" || exit 1
 times=${1:-15}
 measure() { # the least microseconds of $times runs
   local begin took least=999999999
   for _ in $(seq "$times"); do
     begin=$(date +%s%N)
-    "$program" "$1" || exit 1
+    "$program" parse "$1" || exit 1
     took=$((($(date +%s%N) - begin) / 1000))
     [ "$took" -lt "$least" ] && least=$took
   done
@@ -25,7 +25,7 @@ measure() { # the least microseconds of $times runs
 clocked() { # the least microseconds that parsing took in $times runs
   local took least=999999999
   for _ in $(seq "$times"); do
-    took=$("$program" time) || exit 1
+    took=$("$program" parse time) || exit 1
     [ "$took" -lt "$least" ] && least=$took
   done
   echo "$least"

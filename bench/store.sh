@@ -8,14 +8,14 @@
 # * the ratio for 20,000 objects without links against 2,000.
 set -u
 here=$(cd "$(dirname "${BASH_SOURCE[0]}")/.." && pwd)
-program="$here/crates/qvt_store_speed/out/qvt_store_speed"
-[ -x "$program" ] || (cd "$here/crates/qvt_store_speed" && rt run -- link 10 20 >/dev/null 2>&1)
+program="$here/crates/qvt_speed/out/qvt_speed"
+[ -x "$program" ] || (cd "$here/crates/qvt_speed" && rt run </dev/null >/dev/null 2>&1)
 changes=1000000
 spent() { # the least microseconds of nine runs, or so many, of a form with so many objects and changes
   local begin end best=0 spent run
   for run in $(seq "${4:-9}"); do
     begin=$(date +%s%N)
-    "$program" "$1" "$2" "$3" >/dev/null
+    "$program" store "$1" "$2" "$3" >/dev/null
     end=$(date +%s%N)
     spent=$(((end - begin) / 1000))
     if [ $best -eq 0 ] || [ $spent -lt $best ]; then best=$spent; fi

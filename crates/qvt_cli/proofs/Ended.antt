@@ -1,90 +1,106 @@
--- What the answer is after an early end was told.
-use Rattle.std.proofs.Common.{◌≡◌, ◌≢◌, ◌∙◌, ap, sym, ℕ, List, Option, ◌⊎◌, inl, inr, Result}
-use Rattle.qvt_base.specs.Outside.{Rose}
-use Rattle.qvt_cli.specs.Outcome.{Outcome, status_of, read_fault_line, no_memory_line}
-use Rattle.qvt_cli.specs.Reported.{Reports, appended}
-use Rattle.qvt_cli.specs.Steps.{Stops, IsFaultWith, settled, stop_line, stop_status}
+-- What each answer tells of what failed, and that where nothing failed the answer is the outcome's.
+use Rattle.std.proofs.Common.{◌≡◌, ◌≢◌, ◌∙◌, ap, sym, subst, ◌⊎◌, inl, inr, Result, Ok, Err, Some}
+use Rattle.qvt_base.specs.Outside.{Held, FilesSeen, SinkSeen, Rose}
+use Rattle.qvt_cli.specs.Chain.{Chain}
+use Rattle.qvt_cli.specs.Follows.{FailedAt, Follows}
+use Rattle.qvt_cli.specs.Outcome.{Outcome, status_of, no_memory_line}
+use Rattle.qvt_cli.specs.Reported.{outside, IsWhole, Reports, Fails, NoneRose}
+use Rattle.qvt_cli.specs.Plans.{outcome_of, CarriedOut}
+use Rattle.qvt_cli.specs.Steps.{Stops, settled, stop_line, stop_status}
 use Rattle.qvt_cli.specs.declared.status.Status.{Status}
 use Rattle.qvt_cli.specs.declared.status.Status.TheVariants as status
 use Rattle.qvt_cli.specs.declared.stop.Stop.{Stop}
 use Rattle.qvt_cli.specs.declared.stop.Stop.TheVariants as stop
+use Rattle.qvt_cli.specs.declared.plan.Plan.{Plan}
+use Rattle.qvt_cli.proofs.Settle.{carried_from}
 
--- the early end was told, or that memory was wanting
-abbrev pub Finished : Stop → Option (List ℕ) → Option (List ℕ) → ℕ → ℕ → Status → Type 0
-Finished e before now faults_before faults answer =
-    Reports (stop_line e) (stop_status e) before now faults_before faults answer ⊎ Reports no_memory_line status.NoMemory before now faults_before faults answer
+-- an early end was told, or that memory was wanting
+abbrev pub Finished : Stop → SinkSeen → SinkSeen → Status → Type 0
+Finished e sink after answer = Reports (stop_line e) (stop_status e) sink after answer ⊎ Reports no_memory_line status.NoMemory sink after answer
 
--- the answer, and the line with it
-pub data Told (e : Stop) (before now : Option (List ℕ)) (faults_before faults : ℕ) (answer : Status) : Type 0 where
-  own : answer ≡ stop_status e → now ≡ appended (stop_line e) before → Told e before now faults_before faults answer
-  memory : answer ≡ status.NoMemory → Told e before now faults_before faults answer
-  cut : answer ≡ status.WriteFault → Rose faults_before faults → Told e before now faults_before faults answer
+carried_fails_from : (p : Plan) (old new : FilesSeen) (sink after : SinkSeen) (answer : Status) → CarriedOut p (outside old sink) (outside new after) answer
+    → Fails (outside old sink) (outside new after) answer
+carried_fails_from p old new sink after answer (inl (h, inl r)) = subst (Fails (outside old sink) (outside new after)) (sym r.0) (record { reads = h.reads; writes = h.writes; faults = r.1.faults })
+carried_fails_from p old new sink after answer (inl (h, inr r)) = subst (Fails (outside old sink) (outside new after)) (sym r.0) (inr r.1.rose)
+carried_fails_from p old new sink after answer (inr (k, h, inl r)) = subst (Fails (outside old sink) (outside new after)) (sym r.0) (inl h.rose)
+carried_fails_from p old new sink after answer (inr (k, h, inr r)) = subst (Fails (outside old sink) (outside new after)) (sym r.0) (inl h.rose)
 
-told : (e : Stop) (before now : Option (List ℕ)) (faults_before faults : ℕ) (answer : Status) → Finished e before now faults_before faults answer → Told e before now faults_before faults answer
-told e before now fb f answer (inl (inl h)) = own h.0 h.1
-told e before now fb f answer (inl (inr h)) = cut h.0 h.1
-told e before now fb f answer (inr (inl h)) = memory h.0
-told e before now fb f answer (inr (inr h)) = cut h.0 h.1
+pub carried_fails : (p : Plan) (c : Chain Outcome) (old mid new : FilesSeen) (sink after : SinkSeen) (answer : Status) → Follows outcome_of c old (Ok p) mid
+    → CarriedOut p (outside mid sink) (outside new after) answer → Fails (outside old sink) (outside new after) answer
+carried_fails p c old mid new sink after answer f h = carried_fails_from p old new sink after answer (carried_from p c old mid new sink after answer f h)
 
-stated_status : (e : Stop) (run : Result Outcome Outcome) (reads_before reads : ℕ) (answer : Status) → Stops e run → IsFaultWith e (λ file. Rose reads_before reads)
-    → (Rose reads_before reads → ⊥) → answer ≡ stop_status e → (answer ≡ status_of (settled run)) ⊎ (answer ≡ status.NoMemory)
-stated_status (stop.Refused file why) run rb r answer stops rose none a = inl (a ∙ sym (ap (λ s. status_of (settled s)) stops))
-stated_status (stop.OutOfFuel fuel) run rb r answer stops rose none a = inl (a ∙ sym (ap (λ s. status_of (settled s)) stops))
-stated_status (stop.Low model id feature) run rb r answer stops rose none a = inl (a ∙ sym (ap (λ s. status_of (settled s)) stops))
-stated_status (stop.ReadFault file) run rb r answer stops rose none a = absurd (none rose)
-stated_status stop.NoMemory run rb r answer stops rose none a = inr a
+own_line : (e : Stop) (old new : FilesSeen) (sink after : SinkSeen) → FailedAt e old new → new.writes ≡ old.writes → IsWhole (stop_line e) sink after
+    → Fails (outside old sink) (outside new after) (stop_status e)
+own_line (stop.Refused file why) old new sink after failed writes h = record { reads = failed; writes = writes; faults = h.faults }
+own_line (stop.OutOfFuel fuel) old new sink after failed writes h = record { reads = failed; writes = writes; faults = h.faults }
+own_line (stop.Low model id feature) old new sink after failed writes h = record { reads = failed; writes = writes; faults = h.faults }
+own_line (stop.ReadFault file) old new sink after failed writes h = record { file = file; failed = failed; line = h; writes = writes }
+own_line stop.NoMemory old new sink after failed writes h = record { line = h; writes = writes }
 
-pub complete_end : (e : Stop) (run : Result Outcome Outcome) (before now : Option (List ℕ)) (faults_before faults reads_before reads : ℕ) (answer : Status) → Stops e run
-    → IsFaultWith e (λ file. Rose reads_before reads) → Finished e before now faults_before faults answer
-    → (Rose reads_before reads → ⊥) → (Rose faults_before faults → ⊥) → (answer ≡ status_of (settled run)) ⊎ (answer ≡ status.NoMemory)
-complete_end e run before now fb f rb r answer stops rose h no_reads no_faults = by (told e before now fb f answer h)
-  where
-    by : Told e before now fb f answer → (answer ≡ status_of (settled run)) ⊎ (answer ≡ status.NoMemory)
-    by (own a line) = stated_status e run rb r answer stops rose no_reads a
-    by (memory a) = inr a
-    by (cut a risen) = absurd (no_faults risen)
+pub finished_fails : (e : Stop) (c : Chain Outcome) (old new : FilesSeen) (sink after : SinkSeen) (answer : Status) → Follows outcome_of c old (Err e) new
+    → Finished e sink after answer → Fails (outside old sink) (outside new after) answer
+finished_fails e c old new sink after answer f (inl (inl r)) = subst (Fails (outside old sink) (outside new after)) (sym r.0) (own_line e old new sink after f.reads f.writes r.1)
+finished_fails e c old new sink after answer f (inl (inr r)) = subst (Fails (outside old sink) (outside new after)) (sym r.0) (inr r.1.rose)
+finished_fails e c old new sink after answer f (inr (inl r)) = subst (Fails (outside old sink) (outside new after)) (sym r.0) (record { line = r.1; writes = f.writes })
+finished_fails e c old new sink after answer f (inr (inr r)) = subst (Fails (outside old sink) (outside new after)) (sym r.0) (inr r.1.rose)
 
-never_usage : (e : Stop) (answer : Status) → answer ≡ stop_status e → answer ≡ status.Usage → ⊥
-never_usage (stop.Refused file why) answer a u = let q : status.Refused ≡ status.Usage = sym a ∙ u in absurd cc
-never_usage (stop.OutOfFuel fuel) answer a u = let q : status.OutOfFuel ≡ status.Usage = sym a ∙ u in absurd cc
-never_usage (stop.Low model id feature) answer a u = let q : status.Low ≡ status.Usage = sym a ∙ u in absurd cc
-never_usage (stop.ReadFault file) answer a u = let q : status.ReadFault ≡ status.Usage = sym a ∙ u in absurd cc
-never_usage stop.NoMemory answer a u = let q : status.NoMemory ≡ status.Usage = sym a ∙ u in absurd cc
+-- the status of what is stated, or want of memory
+abbrev pub IsStated : Result Outcome Outcome → Status → Type 0
+IsStated stated answer = (answer ≡ status_of (settled stated)) ⊎ (answer ≡ status.NoMemory)
 
-never_write : (e : Stop) (answer : Status) → answer ≡ stop_status e → answer ≡ status.WriteFault → ⊥
-never_write (stop.Refused file why) answer a u = let q : status.Refused ≡ status.WriteFault = sym a ∙ u in absurd cc
-never_write (stop.OutOfFuel fuel) answer a u = let q : status.OutOfFuel ≡ status.WriteFault = sym a ∙ u in absurd cc
-never_write (stop.Low model id feature) answer a u = let q : status.Low ≡ status.WriteFault = sym a ∙ u in absurd cc
-never_write (stop.ReadFault file) answer a u = let q : status.ReadFault ≡ status.WriteFault = sym a ∙ u in absurd cc
-never_write stop.NoMemory answer a u = let q : status.NoMemory ≡ status.WriteFault = sym a ∙ u in absurd cc
+carried_stated : (p : Plan) (stated : Result Outcome Outcome) (old new : FilesSeen) (sink after : SinkSeen) (answer : Status) → stated ≡ Ok (outcome_of p)
+    → CarriedOut p (outside old sink) (outside new after) answer → NoneRose (outside old sink) (outside new after) → IsStated stated answer
+carried_stated p stated old new sink after answer is (inl (h, inl r)) none = inl (r.0 ∙ sym (ap (λ s. status_of (settled s)) is))
+carried_stated p stated old new sink after answer is (inl (h, inr r)) none = absurd (none.sinks r.1.rose)
+carried_stated p stated old new sink after answer is (inr (k, h, r)) none = absurd (none.writes h.rose)
 
-pub no_usage_end : (e : Stop) (before now : Option (List ℕ)) (faults_before faults : ℕ) (answer : Status) → Finished e before now faults_before faults answer → answer ≢ status.Usage
-no_usage_end e before now fb f answer h = λ u. by u (told e before now fb f answer h)
-  where
-    by : answer ≡ status.Usage → Told e before now fb f answer → ⊥
-    by u (own a line) = never_usage e answer a u
-    by u (memory a) = let q : status.NoMemory ≡ status.Usage = sym a ∙ u in absurd cc
-    by u (cut a risen) = let q : status.WriteFault ≡ status.Usage = sym a ∙ u in absurd cc
+pub carried_complete : (p : Plan) (c : Chain Outcome) (old mid new : FilesSeen) (sink after : SinkSeen) (answer : Status) → Follows outcome_of c old (Ok p) mid
+    → CarriedOut p (outside mid sink) (outside new after) answer → (held : Held) → old.held ≡ Some held → NoneRose (outside old sink) (outside new after)
+    → IsStated (c held).answer answer
+carried_complete p c old mid new sink after answer f h held is none =
+    carried_stated p (c held).answer old new sink after answer (f.gives held is) (carried_from p c old mid new sink after answer f h) none
 
-pub write_fault_end : (e : Stop) (before now : Option (List ℕ)) (faults_before faults : ℕ) (answer : Status) → Finished e before now faults_before faults answer
-    → answer ≡ status.WriteFault → Rose faults_before faults
-write_fault_end e before now fb f answer h u = by (told e before now fb f answer h)
-  where
-    by : Told e before now fb f answer → Rose fb f
-    by (own a line) = absurd (never_write e answer a u)
-    by (memory a) = let q : status.NoMemory ≡ status.WriteFault = sym a ∙ u in absurd cc
-    by (cut a risen) = risen
+stated_end : (e : Stop) (stated : Result Outcome Outcome) (old new : FilesSeen) (answer : Status) → Stops e stated → FailedAt e old new → ¬ Rose old.reads new.reads
+    → answer ≡ stop_status e → IsStated stated answer
+stated_end (stop.Refused file why) stated old new answer stops failed none a = inl (a ∙ sym (ap (λ s. status_of (settled s)) stops))
+stated_end (stop.OutOfFuel fuel) stated old new answer stops failed none a = inl (a ∙ sym (ap (λ s. status_of (settled s)) stops))
+stated_end (stop.Low model id feature) stated old new answer stops failed none a = inl (a ∙ sym (ap (λ s. status_of (settled s)) stops))
+stated_end (stop.ReadFault file) stated old new answer stops failed none a = absurd (none failed.rose)
+stated_end stop.NoMemory stated old new answer stops failed none a = inr a
 
--- a failed read was told: its file is in the line
-pub read_fault_end : (e : Stop) (P : List ℕ → Type 0) (before now : Option (List ℕ)) (faults_before faults : ℕ) (answer : Status) → IsFaultWith e P
-    → Finished e before now faults_before faults answer → answer ≡ status.ReadFault → (file : List ℕ) × (now ≡ appended (read_fault_line file) before) × P file
-read_fault_end e P before now fb f answer fault h u = by e fault (told e before now fb f answer h)
-  where
-    by : (e : Stop) → IsFaultWith e P → Told e before now fb f answer → (file : List ℕ) × (now ≡ appended (read_fault_line file) before) × P file
-    by (stop.Refused file why) p (own a line) = let q : status.Refused ≡ status.ReadFault = sym a ∙ u in absurd cc
-    by (stop.OutOfFuel fuel) p (own a line) = let q : status.OutOfFuel ≡ status.ReadFault = sym a ∙ u in absurd cc
-    by (stop.Low model id feature) p (own a line) = let q : status.Low ≡ status.ReadFault = sym a ∙ u in absurd cc
-    by (stop.ReadFault file) p (own a line) = (file, line, p)
-    by stop.NoMemory p (own a line) = let q : status.NoMemory ≡ status.ReadFault = sym a ∙ u in absurd cc
-    by e p (memory a) = let q : status.NoMemory ≡ status.ReadFault = sym a ∙ u in absurd cc
-    by e p (cut a risen) = let q : status.WriteFault ≡ status.ReadFault = sym a ∙ u in absurd cc
+pub finished_complete : (e : Stop) (c : Chain Outcome) (old new : FilesSeen) (sink after : SinkSeen) (answer : Status) → Follows outcome_of c old (Err e) new
+    → Finished e sink after answer → (held : Held) → old.held ≡ Some held → NoneRose (outside old sink) (outside new after) → IsStated (c held).answer answer
+finished_complete e c old new sink after answer f (inl (inl r)) held is none = stated_end e (c held).answer old new answer (f.gives held is) f.reads none.reads r.0
+finished_complete e c old new sink after answer f (inl (inr r)) held is none = absurd (none.sinks r.1.rose)
+finished_complete e c old new sink after answer f (inr (inl r)) held is none = inr r.0
+finished_complete e c old new sink after answer f (inr (inr r)) held is none = absurd (none.sinks r.1.rose)
+
+-- No work ends as usage
+
+not_usage : (e : Stop) → stop_status e ≢ status.Usage
+not_usage (stop.Refused file why) u = absurd cc
+not_usage (stop.OutOfFuel fuel) u = absurd cc
+not_usage (stop.Low model id feature) u = absurd cc
+not_usage (stop.ReadFault file) u = absurd cc
+not_usage stop.NoMemory u = absurd cc
+
+no_memory : status.NoMemory ≢ status.Usage
+no_memory u = absurd cc
+
+write_fault : status.WriteFault ≢ status.Usage
+write_fault u = absurd cc
+
+done_status : status.Done ≢ status.Usage
+done_status u = absurd cc
+
+pub finished_no_usage : (e : Stop) (sink after : SinkSeen) (answer : Status) → Finished e sink after answer → answer ≢ status.Usage
+finished_no_usage e sink after answer (inl (inl r)) u = not_usage e (sym r.0 ∙ u)
+finished_no_usage e sink after answer (inl (inr r)) u = write_fault (sym r.0 ∙ u)
+finished_no_usage e sink after answer (inr (inl r)) u = no_memory (sym r.0 ∙ u)
+finished_no_usage e sink after answer (inr (inr r)) u = write_fault (sym r.0 ∙ u)
+
+pub carried_no_usage : (p : Plan) (old new : FilesSeen) (sink after : SinkSeen) (answer : Status) → CarriedOut p (outside old sink) (outside new after) answer → answer ≢ status.Usage
+carried_no_usage p old new sink after answer (inl (h, inl r)) u = done_status (sym r.0 ∙ u)
+carried_no_usage p old new sink after answer (inl (h, inr r)) u = write_fault (sym r.0 ∙ u)
+carried_no_usage p old new sink after answer (inr (k, h, inl r)) u = write_fault (sym r.0 ∙ u)
+carried_no_usage p old new sink after answer (inr (k, h, inr r)) u = write_fault (sym r.0 ∙ u)

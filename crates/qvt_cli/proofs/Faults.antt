@@ -1,5 +1,5 @@
 -- An early end by the fault of a file is one of what is stated.
-use Rattle.std.proofs.Common.{◌≡◌, ◌≢◌, ◌∙◌, ◌<◌, ap, sym, subst, arith, ℕ, List, false, Some, None, Result, Ok, Err, IfOk}
+use Rattle.std.proofs.Common.{◌≡◌, ◌≢◌, ◌∙◌, ◌<◌, ap, sym, subst, arith, ℕ, List, false, Some, None, Result, Ok, Err, IfOk, IfErr}
 use Rattle.std.specs.Prelude.{nat_lt, length, if◌then◌else◌}
 use Rattle.qvt_model.specs.declared.data.ObjectData.{ObjectData}
 use Rattle.qvt_metamodel.specs.Metamodels.{Metamodels}
@@ -15,7 +15,10 @@ use Rattle.qvt_cli.specs.Check.{few_objects, unless_fault, conforming, most_obje
 use Rattle.qvt_cli.specs.Outcome.{Outcome, refused}
 use Rattle.qvt_cli.specs.declared.refusal.Refusal.{Refusal}
 use Rattle.qvt_cli.specs.declared.refusal.Refusal.TheVariants as refusal
-use Rattle.qvt_cli.specs.Steps.{◌>>=◌, Stops, StopsBy, or_refused}
+use Rattle.qvt_json.specs.Steps.{◌>>=◌}
+use Rattle.qvt_cli.specs.Plans.{outcome_of}
+use Rattle.qvt_cli.specs.Steps.{Stops, Gives, IsFaultWith, IfFaultOf, StopsBy, or_refused}
+use Rattle.qvt_cli.specs.declared.plan.Plan.{Plan}
 use Rattle.qvt_cli.specs.declared.stop.Stop.{Stop}
 use Rattle.qvt_cli.specs.declared.stop.Stop.TheVariants as stop
 
@@ -65,3 +68,12 @@ one_added d = omega arith
 pub some_metamodel : {F : Type 0} (r : Result Metamodels F) (d : MetaData) → IfOk r (λ m. m ≡ added no_metamodels d) → IfOk r (λ m. 0 < length m.metamodels)
 some_metamodel (Ok m) d h = subst (λ m. 0 < length m.metamodels) (sym h) (one_added d)
 some_metamodel (Err e) d h = h
+
+-- a plan that was made, or want of memory
+pub planned : (r : Result Plan Stop) (o : Outcome) → IfOk r (λ p. outcome_of p ≡ o) → IfErr r (λ e. e ≡ stop.NoMemory) → Gives outcome_of r (Ok o)
+planned (Ok p) o is none = ap Ok (sym is)
+planned (Err e) o is none = subst (λ s. Stops s (Ok o)) (sym none) tt
+
+pub planned_quiet : (r : Result Plan Stop) → IfErr r (λ e. e ≡ stop.NoMemory) → IfFaultOf r (λ file. ⊥)
+planned_quiet (Ok p) none = tt
+planned_quiet (Err e) none = subst (λ s. IsFaultWith s (λ file. ⊥)) (sym none) tt

@@ -1,9 +1,12 @@
--- What stands after a report, by the answer that it gives.
-use Rattle.std.proofs.Common.{◌≡◌, sym, refl, subst, ℕ, ◌<◌, List, take, length, Option, Some, None, ◌⊎◌, inl, inr, Result, Ok}
-use Rattle.qvt_base.specs.Outside.{Held, Rose, SameBut, BothTold}
+-- What stands after a plan was carried out, or an early end was told, by the answer that is given.
+use Rattle.std.proofs.Common.{◌≡◌, ◌∙◌, ap, sym, refl, subst, ℕ, ◌≤◌, ◌+◌, List, take, Option, Some, None, ◌⊎◌, inl, inr, Result, Ok, Err}
+use Rattle.std.specs.Option.{option_map}
+use Rattle.qvt_base.specs.Outside.{Held, FilesSeen, SinkSeen, Rose, SameBut, BothTold}
+use Rattle.qvt_cli.specs.Chain.{Chain}
+use Rattle.qvt_cli.specs.Follows.{IsAmong, FailedAt, OneFailed, Follows}
 use Rattle.qvt_cli.specs.Outcome.{Outcome, usage, refused, out_of_fuel, low, done, status_of, report, files_after, put_all, read_fault_line, write_fault_line, no_memory_line}
-use Rattle.qvt_cli.specs.Reported.{Change, Reports, Answers, IsAmong, appended, name_at}
-use Rattle.qvt_cli.specs.Plans.{files_in, outcome_of, CarriedOut}
+use Rattle.qvt_cli.specs.Reported.{OutsideSeen, outside, IsWhole, Reports, Answers, name_at}
+use Rattle.qvt_cli.specs.Plans.{files_in, outcome_of, StoppedAt, CarriedOut}
 use Rattle.qvt_cli.specs.Steps.{Stops, IsFaultWith, settled, stop_line, stop_status}
 use Rattle.qvt_cli.specs.declared.status.Status.{Status}
 use Rattle.qvt_cli.specs.declared.status.Status.TheVariants as status
@@ -11,82 +14,101 @@ use Rattle.qvt_cli.specs.declared.stop.Stop.{Stop}
 use Rattle.qvt_cli.specs.declared.stop.Stop.TheVariants as stop
 use Rattle.qvt_cli.specs.declared.plan.Plan.{Plan}
 
--- a text went out whole or was cut
-abbrev pub ReportsOf : List ℕ → Status → Change → Status → Type 0
-ReportsOf text told c answer = Reports text told c.written_before c.written c.sinks_before c.sinks answer
-
-told_whole : (o : Outcome) (names : List (List ℕ)) (before : Held) (c : Change) → c.held ≡ Some (files_after o before)
-    → c.written ≡ appended (report o) c.written_before → Answers o names before c (status_of o)
-told_whole usage names before c files sink = record { status = refl; files = files; sink = sink }
-told_whole (refused file why) names before c files sink = record { status = refl; files = files; sink = sink }
-told_whole (out_of_fuel fuel) names before c files sink = record { status = refl; files = files; sink = sink }
-told_whole (low model id feature) names before c files sink = record { status = refl; files = files; sink = sink }
-told_whole (done fs text) names before c files sink = record { status = refl; files = files; sink = sink }
+told_whole : (o : Outcome) (names : List (List ℕ)) (before : Held) (old new : OutsideSeen) → new.files.held ≡ Some (files_after o before)
+    → IsWhole (report o) old.sink new.sink → Answers o names before old new (status_of o)
+told_whole usage names before old new held sink = record { status = refl; held = held; sink = sink }
+told_whole (refused file why) names before old new held sink = record { status = refl; held = held; sink = sink }
+told_whole (out_of_fuel fuel) names before old new held sink = record { status = refl; held = held; sink = sink }
+told_whole (low model id feature) names before old new held sink = record { status = refl; held = held; sink = sink }
+told_whole (done fs text) names before old new held sink = record { status = refl; held = held; sink = sink }
 
 -- the outcome's own text went to the sink
-pub told_of : (o : Outcome) (names : List (List ℕ)) (before : Held) (c : Change) (answer : Status) → c.held ≡ Some (files_after o before)
-    → ReportsOf (report o) (status_of o) c answer → Answers o names before c answer
-told_of o names before c answer files (inl h) = subst (Answers o names before c) (sym h.0) (told_whole o names before c files h.1)
-told_of o names before c answer files (inr h) = subst (Answers o names before c) (sym h.0) (inr (inl (record { rose = h.1; files = files; sink = h.2 })))
+pub told_of : (o : Outcome) (names : List (List ℕ)) (before : Held) (old new : OutsideSeen) (answer : Status) → new.files.held ≡ Some (files_after o before)
+    → Reports (report o) (status_of o) old.sink new.sink answer → Answers o names before old new answer
+told_of o names before old new answer held (inl h) = subst (Answers o names before old new) (sym h.0) (told_whole o names before old new held h.1)
+told_of o names before old new answer held (inr h) = subst (Answers o names before old new) (sym h.0) (inr (inl (record { held = held; sink = h.1 })))
 
 -- the line that memory was wanting went to the sink
-pub memory_of : (o : Outcome) (names : List (List ℕ)) (before : Held) (c : Change) (answer : Status) → c.held ≡ Some before
-    → ReportsOf no_memory_line status.NoMemory c answer → Answers o names before c answer
-memory_of o names before c answer files (inl h) = subst (Answers o names before c) (sym h.0) (record { files = files; sink = h.1 })
-memory_of o names before c answer files (inr h) = subst (Answers o names before c) (sym h.0) (inr (inr (inr (record { rose = h.1; files = files; sink = h.2 }))))
+memory_of : (o : Outcome) (names : List (List ℕ)) (before : Held) (old new : OutsideSeen) (answer : Status) → new.files.held ≡ Some before
+    → Reports no_memory_line status.NoMemory old.sink new.sink answer → Answers o names before old new answer
+memory_of o names before old new answer held (inl h) = subst (Answers o names before old new) (sym h.0) (record { held = held; sink = h.1 })
+memory_of o names before old new answer held (inr h) = subst (Answers o names before old new) (sym h.0) (inr (inr (inr (record { held = held; sink = h.1 }))))
 
 -- the line of a read that failed went to the sink
-pub read_fault_of : (o : Outcome) (names : List (List ℕ)) (before : Held) (c : Change) (answer : Status) (file : List ℕ) → c.held ≡ Some before
-    → Rose c.reads_before c.reads → IsAmong file names → ReportsOf (read_fault_line file) status.ReadFault c answer → Answers o names before c answer
-read_fault_of o names before c answer file files rose among (inl h) =
-    subst (Answers o names before c) (sym h.0) (record { rose = rose; files = files; sink = (file, among, h.1) })
-read_fault_of o names before c answer file files rose among (inr h) =
-    subst (Answers o names before c) (sym h.0) (inr (inr (inl (record { reads = rose; sinks = h.1; files = files; sink = (file, among, h.2) }))))
+read_fault_of : (o : Outcome) (names : List (List ℕ)) (before : Held) (old new : OutsideSeen) (answer : Status) (file : List ℕ) → new.files.held ≡ Some before
+    → OneFailed file old.files new.files → IsAmong file names → Reports (read_fault_line file) status.ReadFault old.sink new.sink answer → Answers o names before old new answer
+read_fault_of o names before old new answer file held failed among (inl h) =
+    subst (Answers o names before old new) (sym h.0) (record { held = held; file = file; among = among; failed = failed; sink = h.1 })
+read_fault_of o names before old new answer file held failed among (inr h) =
+    subst (Answers o names before old new) (sym h.0) (inr (inr (inl (record { held = held; file = file; among = among; failed = failed; sink = h.1 }))))
 
 -- an early end
-pub stopped : (e : Stop) (run : Result Outcome Outcome) (names : List (List ℕ)) (before : Held) (c : Change) (answer : Status) → Stops e run
-    → c.held ≡ Some before → IsFaultWith e (λ file. Rose c.reads_before c.reads) → IsFaultWith e (λ file. IsAmong file names)
-    → ReportsOf (stop_line e) (stop_status e) c answer → Answers (settled run) names before c answer
-stopped (stop.Refused file why) run names before c answer stops files rose among h =
-    subst (λ r. Answers (settled r) names before c answer) (sym stops) (told_of (refused file why) names before c answer files h)
-stopped (stop.OutOfFuel fuel) run names before c answer stops files rose among h =
-    subst (λ r. Answers (settled r) names before c answer) (sym stops) (told_of (out_of_fuel fuel) names before c answer files h)
-stopped (stop.Low model id feature) run names before c answer stops files rose among h =
-    subst (λ r. Answers (settled r) names before c answer) (sym stops) (told_of (low model id feature) names before c answer files h)
-stopped (stop.ReadFault file) run names before c answer stops files rose among h = read_fault_of (settled run) names before c answer file files rose among h
-stopped stop.NoMemory run names before c answer stops files rose among h = memory_of (settled run) names before c answer files h
+stopped : (e : Stop) (run : Result Outcome Outcome) (names : List (List ℕ)) (before : Held) (old new : OutsideSeen) (answer : Status) → Stops e run
+    → new.files.held ≡ Some before → FailedAt e old.files new.files → IsFaultWith e (λ file. IsAmong file names)
+    → Reports (stop_line e) (stop_status e) old.sink new.sink answer → Answers (settled run) names before old new answer
+stopped (stop.Refused file why) run names before old new answer stops held failed among h =
+    subst (λ r. Answers (settled r) names before old new answer) (sym stops) (told_of (refused file why) names before old new answer held h)
+stopped (stop.OutOfFuel fuel) run names before old new answer stops held failed among h =
+    subst (λ r. Answers (settled r) names before old new answer) (sym stops) (told_of (out_of_fuel fuel) names before old new answer held h)
+stopped (stop.Low model id feature) run names before old new answer stops held failed among h =
+    subst (λ r. Answers (settled r) names before old new answer) (sym stops) (told_of (low model id feature) names before old new answer held h)
+stopped (stop.ReadFault file) run names before old new answer stops held failed among h = read_fault_of (settled run) names before old new answer file held failed among h
+stopped stop.NoMemory run names before old new answer stops held failed among h = memory_of (settled run) names before old new answer held h
 
 -- a file failed while it was written
-file_failed : (p : Plan) (names : List (List ℕ)) (before : Held) (c : Change) (answer : Status) (k : ℕ) (now : Option Held) → c.held ≡ now
-    → BothTold (λ old new. SameBut (name_at (files_in p.outputs) k) (put_all (take k (files_in p.outputs)) old) new) (Some before) now
-    → k < length (files_in p.outputs) → Rose c.writes_before c.writes
-    → ReportsOf (write_fault_line (name_at (files_in p.outputs) k)) status.WriteFault c answer → Answers (outcome_of p) names before c answer
-file_failed p names before c answer k None held stopped within rose h = absurd stopped
-file_failed p names before c answer k (Some now) held stopped within rose (inl h) = subst (Answers (outcome_of p) names before c) (sym h.0)
-    (inl (record { rose = rose; done = refl; at = (k, within, now, held, stopped, inl h.1) }))
-file_failed p names before c answer k (Some now) held stopped within rose (inr h) = subst (Answers (outcome_of p) names before c) (sym h.0)
-    (inl (record { rose = rose; done = refl; at = (k, within, now, held, stopped, inr (h.1, h.2)) }))
+file_failed : (p : Plan) (names : List (List ℕ)) (before : Held) (old new : OutsideSeen) (answer : Status) (k : ℕ) (now : Option Held) → new.files.held ≡ now
+    → StoppedAt (files_in p.outputs) k old.files new.files
+    → BothTold (λ was is. SameBut (name_at (files_in p.outputs) k) (put_all (take k (files_in p.outputs)) was) is) (Some before) now
+    → Reports (write_fault_line (name_at (files_in p.outputs) k)) status.WriteFault old.sink new.sink answer → Answers (outcome_of p) names before old new answer
+file_failed p names before old new answer k None held h others r = absurd others
+file_failed p names before old new answer k (Some now) held h others (inl r) = subst (Answers (outcome_of p) names before old new) (sym r.0)
+    (inl (record { done = refl; number = k; within = h.within; now = now; held = held; others = others; rose = h.rose; sink = inl r.1 }))
+file_failed p names before old new answer k (Some now) held h others (inr r) = subst (Answers (outcome_of p) names before old new) (sym r.0)
+    (inl (record { done = refl; number = k; within = h.within; now = now; held = held; others = others; rose = h.rose; sink = inr r.1 }))
 
 -- a plan that was carried out, or at a file that failed was given up
-pub carried : (p : Plan) (names : List (List ℕ)) (before : Held) (c : Change) (answer : Status)
-    → CarriedOut p (Some before) c.held c.writes_before c.writes c.written_before c.written c.sinks_before c.sinks answer
-    → Answers (outcome_of p) names before c answer
-carried p names before c answer (inl h) = told_of (outcome_of p) names before c answer h.0 h.1
-carried p names before c answer (inr h) = file_failed p names before c answer h.0 c.held refl h.1 h.2 h.3 h.4
+carried : (p : Plan) (names : List (List ℕ)) (before : Held) (old new : OutsideSeen) (answer : Status) → old.files.held ≡ Some before
+    → CarriedOut p old new answer → Answers (outcome_of p) names before old new answer
+carried p names before old new answer is (inl h) = told_of (outcome_of p) names before old new answer (h.0.held ∙ ap (option_map (put_all (files_in p.outputs))) is) h.1
+carried p names before old new answer is (inr h) = file_failed p names before old new answer h.0 new.files.held refl h.1
+    (subst (λ t. BothTold (λ was now. SameBut (name_at (files_in p.outputs) h.0) (put_all (take h.0 (files_in p.outputs)) was) now) t new.files.held) is h.1.held) h.2
 
--- a plan of a run was carried out
-pub carried_after : (p : Plan) (run : Result Outcome Outcome) (names : List (List ℕ)) (before : Held) (c : Change) (answer : Status) (held : Option Held) (writes : ℕ)
-    → run ≡ Ok (outcome_of p) → held ≡ Some before → writes ≡ c.writes_before
-    → CarriedOut p held c.held writes c.writes c.written_before c.written c.sinks_before c.sinks answer → Answers (settled run) names before c answer
-carried_after p run names before c answer held writes is told same h =
-    subst (λ r. Answers (settled r) names before c answer) (sym is)
-    (carried p names before c answer
-    (subst (λ w. CarriedOut p (Some before) c.held w c.writes c.written_before c.written c.sinks_before c.sinks answer) same
-    (subst (λ t. CarriedOut p t c.held writes c.writes c.written_before c.written c.sinks_before c.sinks answer) told h)))
+-- the reads before the writing changed nothing
+pub carried_from : (p : Plan) (c : Chain Outcome) (old mid new : FilesSeen) (sink after : SinkSeen) (answer : Status) → Follows outcome_of c old (Ok p) mid
+    → CarriedOut p (outside mid sink) (outside new after) answer → CarriedOut p (outside old sink) (outside new after) answer
+carried_from p c old mid new sink after answer f (inl h) = inl (
+  record {
+    held = h.0.held ∙ ap (option_map (put_all (files_in p.outputs))) f.held;
+    reads = record { reads = h.0.reads.reads ∙ f.reads.reads; failed = h.0.reads.failed ∙ f.reads.failed };
+    writes = h.0.writes ∙ f.writes;
+  },
+  h.1,
+)
+carried_from p c old mid new sink after answer f (inr h) = inr (
+  h.0,
+  record {
+    within = h.1.within;
+    held = subst (λ t. BothTold (λ was now. SameBut (name_at (files_in p.outputs) h.0) (put_all (take h.0 (files_in p.outputs)) was) now) t new.held) f.held h.1.held;
+    reads = record { reads = h.1.reads.reads ∙ f.reads.reads; failed = h.1.reads.failed ∙ f.reads.failed };
+    rose = subst (λ n. Rose n new.writes) f.writes h.1.rose;
+    one = subst (λ n. new.writes ≤ n + 1) f.writes h.1.one;
+  },
+  h.2,
+)
 
--- a run that ended early was told, or that memory was wanting
-pub finished_after : (e : Stop) (run : Result Outcome Outcome) (names : List (List ℕ)) (before : Held) (c : Change) (answer : Status) → Stops e run
-    → c.held ≡ Some before → IsFaultWith e (λ file. Rose c.reads_before c.reads) → IsFaultWith e (λ file. IsAmong file names)
-    → ReportsOf (stop_line e) (stop_status e) c answer ⊎ ReportsOf no_memory_line status.NoMemory c answer → Answers (settled run) names before c answer
-finished_after e run names before c answer stops files rose among (inl h) = stopped e run names before c answer stops files rose among h
-finished_after e run names before c answer stops files rose among (inr h) = memory_of (settled run) names before c answer files h
+-- a plan of a command was carried out
+pub carried_after : (p : Plan) (c : Chain Outcome) (old mid new : FilesSeen) (sink after : SinkSeen) (answer : Status) → Follows outcome_of c old (Ok p) mid
+    → CarriedOut p (outside mid sink) (outside new after) answer → (held : Held) → old.held ≡ Some held
+    → Answers (settled (c held).answer) (c held).names held (outside old sink) (outside new after) answer
+carried_after p c old mid new sink after answer f h held is =
+    subst (λ r. Answers (settled r) (c held).names held (outside old sink) (outside new after) answer) (sym (f.gives held is))
+    (carried p (c held).names held (outside old sink) (outside new after) answer is (carried_from p c old mid new sink after answer f h))
+
+-- a command that ended early was told, or that memory was wanting
+pub finished_after : (e : Stop) (c : Chain Outcome) (old new : FilesSeen) (sink after : SinkSeen) (answer : Status) → Follows outcome_of c old (Err e) new
+    → Reports (stop_line e) (stop_status e) sink after answer ⊎ Reports no_memory_line status.NoMemory sink after answer
+    → (held : Held) → old.held ≡ Some held → Answers (settled (c held).answer) (c held).names held (outside old sink) (outside new after) answer
+finished_after e c old new sink after answer f (inl h) held is =
+    stopped e (c held).answer (c held).names held (outside old sink) (outside new after) answer (f.gives held is) (f.held ∙ is) f.reads (f.named held is) h
+finished_after e c old new sink after answer f (inr h) held is =
+    memory_of (settled (c held).answer) (c held).names held (outside old sink) (outside new after) answer (f.held ∙ is) h

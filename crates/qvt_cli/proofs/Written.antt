@@ -1,12 +1,13 @@
 -- Files written one after the other.
-use Rattle.std.proofs.Common.{arith, zero, suc, ◌≡◌, ◌∙◌, ap, sym, refl, subst, ℕ, ◌+◌, ◌<◌, List, [], ◌∷◌, ◌++◌, take, length, get_or, Option, Some, None}
+use Rattle.std.proofs.Common.{arith, zero, suc, ◌≡◌, ◌∙◌, ap, sym, refl, subst, ℕ, ◌+◌, ◌<◌, ◌≤◌, List, [], ◌∷◌, ◌++◌, take, length, get_or, Option, Some, None}
 use Rattle.std.specs.Option.{option_map}
 use Rattle.std.specs.FinMap as finite
 use Rattle.std.proofs.lemmas.List.{map_more, get_or-map, take-map, length-map}
-use Rattle.qvt_base.specs.Outside.{Held, BothTold, SameBut}
+use Rattle.qvt_base.specs.Outside.{Held, FilesSeen, BothTold, SameBut, IsWritten, Rose}
+use Rattle.qvt_base.specs.declared.outside.WriteAnswer.TheVariants as write
 use Rattle.qvt_cli.specs.Outcome.{File, put_all, write_fault_line}
 use Rattle.qvt_cli.specs.Reported.{name_at}
-use Rattle.qvt_cli.specs.Plans.{file_of, files_in, IsReady, StoppedWriting}
+use Rattle.qvt_cli.specs.Plans.{file_of, files_in, IsReady, AllWritten, StoppedAt}
 use Rattle.qvt_cli.specs.declared.plan.Output.{Output}
 
 put_all-append : (fs : List File) (f : File) (held : Held) → put_all (fs ++ f ∷ []) held ≡ finite.insert (put_all fs held) f.0 f.1
@@ -19,7 +20,7 @@ told None now fs f is = ap (option_map (λ held. finite.insert held f.0 f.1)) is
 told (Some held) now fs f is = ap (option_map (λ held. finite.insert held f.0 f.1)) is ∙ ap Some (sym (put_all-append fs f held))
 
 -- the next file
-pub wrote_next : (before now : Option Held) (outputs : List Output) (i : ℕ) (o : Output) (name bytes : List ℕ) → i < length outputs → o ≡ get_or outputs i o
+wrote_next : (before now : Option Held) (outputs : List Output) (i : ℕ) (o : Output) (name bytes : List ℕ) → i < length outputs → o ≡ get_or outputs i o
     → name ≡ o.file → bytes ≡ o.bytes → now ≡ option_map (put_all (files_in (take i outputs))) before
     → option_map (λ held. finite.insert held name bytes) now ≡ option_map (put_all (files_in (take (i + 1) outputs))) before
 wrote_next before now outputs i o name bytes within is name_is bytes_are so_far =
@@ -39,16 +40,32 @@ moved (Some held) now after name fs is stopped = some after (subst (λ t. BothTo
   some None h = h
   some (Some new) h = h
 
--- the next file fails
-pub stopped_next : (before now after : Option Held) (outputs : List Output) (i : ℕ) (o : Output) (file : List ℕ) → i < length outputs → o ≡ get_or outputs i o
-    → file ≡ o.file → now ≡ option_map (put_all (files_in (take i outputs))) before
-    → BothTold (SameBut file) now after → StoppedWriting (files_in outputs) i before after
-stopped_next before now after outputs i o file within is file_is so_far failed =
+-- the next file was written
+pub one_more : (old now new : FilesSeen) (outputs : List Output) (i : ℕ) (o : Output) (name bytes : List ℕ) → i < length outputs → o ≡ get_or outputs i o
+    → name ≡ o.file → bytes ≡ o.bytes → AllWritten (files_in (take i outputs)) old now → IsWritten now name bytes write.Written new
+    → AllWritten (files_in (take (i + 1) outputs)) old new
+one_more old now new outputs i o name bytes within is name_is bytes_are h k = record {
+  held = k.held ∙ wrote_next old.held now.held outputs i o name bytes within is name_is bytes_are h.held;
+  reads = record { reads = k.reads ∙ h.reads.reads; failed = k.failed ∙ h.reads.failed };
+  writes = k.cause.kept ∙ h.writes;
+}
+
+-- the next file failed
+pub stopped_next : (old now new : FilesSeen) (outputs : List Output) (i : ℕ) (o : Output) (file bytes : List ℕ) → i < length outputs → o ≡ get_or outputs i o
+    → file ≡ o.file → AllWritten (files_in (take i outputs)) old now → IsWritten now file bytes write.Failed new
+    → StoppedAt (files_in outputs) i old new
+stopped_next old now new outputs i o file bytes within is file_is h k =
     let name : file ≡ name_at (files_in outputs) i = file_is ∙ ap (λ x. x.file) is ∙ sym (ap (λ f. f.0) (get_or-map file_of outputs i o ([], []) within)) in
     let front : files_in (take i outputs) ≡ take i (files_in outputs) = sym (take-map file_of i outputs) in
-    subst (λ n. BothTold (λ old new. SameBut n (put_all (take i (files_in outputs)) old) new) before after) name
-    (subst (λ fs. BothTold (λ old new. SameBut file (put_all fs old) new) before after) front
-    (moved before now after file (files_in (take i outputs)) so_far failed))
+    record {
+      within = subst (λ n. i < n) (sym (length-map outputs file_of)) within;
+      held = subst (λ n. BothTold (λ before after. SameBut n (put_all (take i (files_in outputs)) before) after) old.held new.held) name
+          (subst (λ fs. BothTold (λ before after. SameBut file (put_all fs before) after) old.held new.held) front
+          (moved old.held now.held new.held file (files_in (take i outputs)) h.held k.held));
+      reads = record { reads = k.reads ∙ h.reads.reads; failed = k.failed ∙ h.reads.failed };
+      rose = subst (λ n. Rose n new.writes) h.writes k.cause.failed;
+      one = subst (λ n. new.writes ≤ n + 1) h.writes k.cause.one;
+    }
 
 ready_at : (outputs : List Output) (k : ℕ) (d : Output) → k < length outputs → IsReady outputs → (get_or outputs k d).fault_line ≡ write_fault_line (get_or outputs k d).file
 ready_at [] k d within ready = absurd (omega arith)
@@ -62,7 +79,12 @@ line_at outputs k o within is ready = ap (λ x. x.fault_line) is ∙ ready_at ou
     ∙ ap write_fault_line (sym (ap (λ f. f.0) (get_or-map file_of outputs k o ([], []) within)))
 
 -- the files that were handed in as a slice
-pub stopped_among : (outputs slice : List Output) (k : ℕ) (before now : Option Held) → slice ≡ outputs → k < length slice → StoppedWriting (files_in slice) k before now
-    → (k < length (files_in outputs)) × StoppedWriting (files_in outputs) k before now
-stopped_among outputs slice k before now is within stopped =
-    (subst (λ n. k < n) (ap length is ∙ sym (length-map outputs file_of)) within, subst (λ os. StoppedWriting (files_in os) k before now) is stopped)
+pub all_among : (outputs slice : List Output) (old new : FilesSeen) → slice ≡ outputs → AllWritten (files_in slice) old new → AllWritten (files_in outputs) old new
+all_among outputs slice old new is h = subst (λ os. AllWritten (files_in os) old new) is h
+
+pub stopped_among : (outputs slice : List Output) (k : ℕ) (old new : FilesSeen) → slice ≡ outputs → StoppedAt (files_in slice) k old new
+    → StoppedAt (files_in outputs) k old new
+stopped_among outputs slice k old new is h = subst (λ os. StoppedAt (files_in os) k old new) is h
+
+pub within_outputs : (outputs : List Output) (k : ℕ) → k < length (files_in outputs) → k < length outputs
+within_outputs outputs k within = subst (λ n. k < n) (length-map outputs file_of) within

@@ -1,5 +1,7 @@
+pub mod Chain
 pub mod Check
 pub mod Commands
+pub mod Follows
 pub mod Job
 pub mod Metas
 pub mod Outcome

@@ -13,6 +13,8 @@ use Rattle.qvt_model.specs.declared.data.ModelFault.{ModelFault}
 use Rattle.qvt_model.specs.declared.data.ModelFault.TheVariants as model
 use Rattle.qvt_conform.specs.declared.fault.ConformFault.{ConformFault}
 use Rattle.qvt_conform.specs.declared.fault.ConformFault.TheVariants as conform
+use Rattle.qvt_cli.specs.declared.job.JobFault.{JobFault}
+use Rattle.qvt_cli.specs.declared.job.JobFault.TheVariants as fault
 use Rattle.qvt_cli.specs.declared.status.Status.{Status}
 use Rattle.qvt_cli.specs.declared.status.Status.TheVariants as status
 use Rattle.qvt_cli.specs.declared.refusal.Refusal.{Refusal}
@@ -64,6 +66,13 @@ parse_text (parse.Lex fault) = with_place (lex_name fault.kind) fault.place
 parse_text (parse.TooDeep place) = with_place (codes "TooDeep") place
 parse_text (parse.Syntax place) = with_place (codes "Syntax") place
 
+abbrev pub job_text : JobFault → List ℕ
+job_text fault.NoMemory = codes "no memory"
+job_text fault.Json = codes "Json"
+job_text (fault.Shape path) = with_one (codes "Shape") path
+job_text fault.TooManyFiles = codes "TooManyFiles"
+job_text (fault.SameFile file) = with_one (codes "SameFile") file
+
 abbrev pub metamodel_text : MetaFault → List ℕ
 metamodel_text meta.NoMemory = codes "no memory"
 metamodel_text meta.Json = codes "Json"
@@ -98,10 +107,7 @@ conform_text (conform.ContainmentCycle id) = with_one (codes "ContainmentCycle")
 abbrev pub refusal_text : Refusal → List ℕ
 refusal_text refusal.Missing = codes "Missing"
 refusal_text refusal.TooLarge = codes "TooLarge"
-refusal_text refusal.Json = codes "Json"
-refusal_text (refusal.Shape path) = with_one (codes "Shape") path
-refusal_text refusal.TooManyFiles = codes "TooManyFiles"
-refusal_text (refusal.SameFile file) = with_one (codes "SameFile") file
+refusal_text (refusal.Job why) = job_text why
 refusal_text (refusal.Metamodel why) = metamodel_text why
 refusal_text (refusal.Model why) = model_text why
 refusal_text refusal.TooManyObjects = codes "TooManyObjects"

@@ -1,6 +1,5 @@
--- The work of a command as steps, of which the first that ends it gives the outcome.
-use Rattle.std.specs.Prelude.{ℕ, ◌≡◌, ◌≢◌, ⊤, List, [], ◌∷◌, ◌++◌, Result, Ok, Err, Option, Some, None, option_map}
-use Rattle.qvt_base.specs.Outside.{Held, Look, found, missing, too_large, look}
+-- The code's early ends, and what they say of what is stated.
+use Rattle.std.specs.Prelude.{ℕ, ◌≡◌, ◌≢◌, ⊤, List, Result, Ok, Err, Option, Some, None}
 use Rattle.qvt_cli.specs.Outcome.{Outcome, refused, out_of_fuel, low, refused_line, out_of_fuel_line, low_line, read_fault_line, no_memory_line}
 use Rattle.qvt_cli.specs.declared.stop.Stop.{Stop}
 use Rattle.qvt_cli.specs.declared.stop.Stop.TheVariants as stop
@@ -8,21 +7,6 @@ use Rattle.qvt_cli.specs.declared.refusal.Refusal.{Refusal}
 use Rattle.qvt_cli.specs.declared.refusal.Refusal.TheVariants as refusal
 use Rattle.qvt_cli.specs.declared.status.Status.{Status}
 use Rattle.qvt_cli.specs.declared.status.Status.TheVariants as status
-
-infixl 10 ◌>>=◌
-abbrev pub ◌>>=◌ : {A B : Type 0} → Result A Outcome → (A → Result B Outcome) → Result B Outcome
-(Ok x) >>= f = f x
-(Err o) >>= f = Err o
-
--- a file's bytes, or its refusal
-abbrev pub read_of : List ℕ → Look → Result (List ℕ) Outcome
-read_of name (found bytes) = Ok bytes
-read_of name missing = Err (refused name refusal.Missing)
-read_of name too_large = Err (refused name refusal.TooLarge)
-
--- reads a file within its limit
-unfoldable pub read_step : Held → List ℕ → ℕ → Result (List ℕ) Outcome
-read_step held name limit = read_of name (look held name limit)
 
 -- what is read of a form, or its refusal as not built
 abbrev pub built : {A : Type 0} → List ℕ → Option A → Result A Outcome
@@ -58,9 +42,6 @@ IsFaultWith stop.NoMemory P = ⊤
 abbrev pub IfFaultOf : {X : Type 0} → Result X Stop → (List ℕ → Type 0) → Type 0
 IfFaultOf (Ok x) P = ⊤
 IfFaultOf (Err e) P = IsFaultWith e P
-
-abbrev pub joined : List ℕ → Option (List (List ℕ)) → Option (List (List ℕ))
-joined file told = option_map (λ names. names ++ file ∷ []) told
 
 -- the line and the status of an early end
 abbrev pub stop_line : Stop → List ℕ

@@ -1,13 +1,12 @@
 //! The command `check`: whether the model of a file conforms to the metamodel of another.
 
-ghost use Rattle.std.specs.Prelude.{◌≡◌, ◌≤◌, ◌<◌, Some, OnOk, IfOk, IfErr, length};
-ghost use Rattle.qvt_base.specs.Outside.{Held, Rose};
+ghost use Rattle.std.specs.Prelude.{◌≡◌, ◌<◌, [], IfOk, IfErr, length};
 ghost use Rattle.qvt_conform.specs.Conformance.{IsWellFormed, conform_fault};
-ghost use Rattle.qvt_cli.specs.Check.{unless_fault, conforming, model_in, model_read, after_metamodel, check_of, check_turns};
+ghost use Rattle.qvt_cli.specs.Check.{unless_fault, conforming, model_in, model_read, after_metamodel, check_of};
 ghost use Rattle.qvt_cli.specs.Outcome.{done, conforms_line};
 ghost use Rattle.qvt_cli.specs.Plans.{outcome_of, IsReady};
-ghost use Rattle.qvt_cli.specs.Reported.{IsAmong};
-ghost use Rattle.qvt_cli.specs.Steps.{Gives, IfFaultOf, IsFaultWith, joined, StopsBy};
+ghost use Rattle.qvt_cli.specs.Follows.{Follows};
+ghost use Rattle.qvt_cli.specs.Steps.{Gives, IfFaultOf, IsFaultWith, StopsBy};
 
 use crate::fetch::{fetch, refused};
 use crate::metas::read_metas;
@@ -81,7 +80,6 @@ fn model_in(alloc: Global, metas: &Metas, name: &Text, bytes: &[u8]) -> Result<u
 }
 
 /// Reads the model.
-#[tactic(auto, unfolding(crate::specs::Check::model_read))]
 fn read_conforming<F: Files>(
     alloc: Global,
     files: &mut F,
@@ -89,14 +87,7 @@ fn read_conforming<F: Files>(
     metas: &Metas,
 ) -> Result<usize, Stop>
     requires one { 0 < length metas.now.metamodels }
-    ensures gives { (held : Held) → F.held files.old ≡ Some held → Gives (λ n. n) result (model_read held name.now metas.now) }
-    ensures held { F.held files.new ≡ F.held files.old }
-    ensures later { F.read_faults files.old ≤ F.read_faults files.new }
-    ensures rose { IfFaultOf result (λ file. Rose (F.read_faults files.old) (F.read_faults files.new)) }
-    ensures writes { F.write_faults files.new ≡ F.write_faults files.old }
-    ensures named { IfFaultOf result (λ file. file ≡ name.now) }
-    ensures failed { IfFaultOf result (λ file. F.failed_reads files.new ≡ joined file (F.failed_reads files.old)) }
-    ensures quiet { OnOk result (F.failed_reads files.new ≡ F.failed_reads files.old) }
+    ensures { Follows (λ n. n) (model_read name.now metas.now) (F.seen files.old) result (F.seen files.new) }
 {
     match fetch(alloc, files, name, 16_777_216) {
         Err(stop) => Err(stop),
@@ -119,10 +110,7 @@ fn plan_of(alloc: Global, objects: usize) -> Result<Plan, Stop>
     }
 }
 
-ghost use Rattle.std.specs.Prelude.{[], ◌∷◌};
-
 /// Reads the model, and checks it.
-#[tactic(auto, unfolding(crate::specs::Check::after_metamodel))]
 fn check_model<F: Files>(
     alloc: Global,
     files: &mut F,
@@ -130,14 +118,8 @@ fn check_model<F: Files>(
     metas: &Metas,
 ) -> Result<Plan, Stop>
     requires one { 0 < length metas.now.metamodels }
-    ensures gives { (held : Held) → F.held files.old ≡ Some held → Gives outcome_of result (after_metamodel held model.now metas.now) }
+    ensures follows { Follows outcome_of (after_metamodel model.now metas.now) (F.seen files.old) result (F.seen files.new) }
     ensures ready { IfOk result (λ p. IsReady p.outputs) }
-    ensures turn { (held : Held) → F.held files.old ≡ Some held → IfFaultOf result (λ file. IsAmong file (model.now ∷ [])) }
-    ensures held { F.held files.new ≡ F.held files.old }
-    ensures rose { IfFaultOf result (λ file. Rose (F.read_faults files.old) (F.read_faults files.new)) }
-    ensures later { F.read_faults files.old ≤ F.read_faults files.new }
-    ensures writes { F.write_faults files.new ≡ F.write_faults files.old }
-    ensures failed { IfFaultOf result (λ file. F.failed_reads files.new ≡ joined file (F.failed_reads files.old)) }
 {
     match read_conforming(alloc, files, model, metas) {
         Err(stop) => Err(stop),
@@ -146,21 +128,14 @@ fn check_model<F: Files>(
 }
 
 /// Reads a metamodel and a model, and tells whether the model conforms.
-#[tactic(auto, unfolding(crate::specs::Check::check_of))]
 pub fn perform_check<F: Files>(
     alloc: Global,
     files: &mut F,
     metamodel: &Text,
     model: &Text,
 ) -> Result<Plan, Stop>
-    ensures gives { (held : Held) → F.held files.old ≡ Some held → Gives outcome_of result (check_of held metamodel.now model.now) }
+    ensures follows { Follows outcome_of (check_of metamodel.now model.now) (F.seen files.old) result (F.seen files.new) }
     ensures ready { IfOk result (λ p. IsReady p.outputs) }
-    ensures turn { (held : Held) → F.held files.old ≡ Some held → IfFaultOf result (λ file. IsAmong file (check_turns held metamodel.now model.now)) }
-    ensures held { F.held files.new ≡ F.held files.old }
-    ensures rose { IfFaultOf result (λ file. Rose (F.read_faults files.old) (F.read_faults files.new)) }
-    ensures later { F.read_faults files.old ≤ F.read_faults files.new }
-    ensures writes { F.write_faults files.new ≡ F.write_faults files.old }
-    ensures failed { IfFaultOf result (λ file. F.failed_reads files.new ≡ joined file (F.failed_reads files.old)) }
 {
     match read_metas(alloc, files, metamodel) {
         Err(stop) => Err(stop),

@@ -1,6 +1,7 @@
-ghost use Rattle.std.specs.Prelude.{◌≡◌, ◌≤◌, length, Some, IfOk, OnOk};
-ghost use Rattle.qvt_base.specs.Outside.{Held, Rose};
-ghost use Rattle.qvt_cli.specs.Steps.{Gives, IfFaultOf, IsFaultWith, joined, read_step, RefusedOrNoMemory, ReadFaultOrNoMemory};
+ghost use Rattle.std.specs.Prelude.{◌≤◌, length, IfOk};
+ghost use Rattle.qvt_cli.specs.Chain.{read_step};
+ghost use Rattle.qvt_cli.specs.Follows.{Follows};
+ghost use Rattle.qvt_cli.specs.Steps.{IsFaultWith, RefusedOrNoMemory, ReadFaultOrNoMemory};
 
 use crate::refusal::Refusal;
 use crate::stop::Stop;
@@ -32,16 +33,8 @@ fn read_fault(alloc: Global, file: &Text) -> Stop
 }
 
 /// Reads a file within its limit.
-#[tactic(auto, unfolding(crate::specs::Steps::read_step))]
 pub fn fetch<F: Files>(alloc: Global, files: &mut F, name: &Text, limit: u32) -> Result<Bytes, Stop>
-    ensures gives { (held : Held) → F.held files.old ≡ Some held → Gives (λ bytes. bytes) result (read_step held name.now limit) }
-    ensures held { F.held files.new ≡ F.held files.old }
-    ensures later { F.read_faults files.old ≤ F.read_faults files.new }
-    ensures rose { IfFaultOf result (λ file. Rose (F.read_faults files.old) (F.read_faults files.new)) }
-    ensures writes { F.write_faults files.new ≡ F.write_faults files.old }
-    ensures named { IfFaultOf result (λ file. file ≡ name.now) }
-    ensures failed { IfFaultOf result (λ file. F.failed_reads files.new ≡ joined file (F.failed_reads files.old)) }
-    ensures quiet { OnOk result (F.failed_reads files.new ≡ F.failed_reads files.old) }
+    ensures follows { Follows (λ bytes. bytes) (read_step name.now limit) (F.seen files.old) result (F.seen files.new) }
     ensures within { IfOk result (λ bytes. length bytes ≤ limit) }
 {
     match files.read(alloc, name.as_str(), limit) {

@@ -26,7 +26,6 @@ pub struct Job {
 }
 
 /// Why a file is no job.
-#[derive(Drop)]
 pub enum JobFault {
     /// There was no memory.
     NoMemory,
@@ -38,6 +37,18 @@ pub enum JobFault {
     TooManyFiles,
     /// The file of an output or of the trace is that of an earlier output.
     SameFile(Text),
+}
+
+impl Drop for JobFault {
+    fn drop(self) {
+        match self {
+            JobFault::NoMemory => {}
+            JobFault::Json => {}
+            JobFault::Shape(path) => {}
+            JobFault::TooManyFiles => {}
+            JobFault::SameFile(file) => {}
+        }
+    }
 }
 
 impl From<ListFault> for JobFault {

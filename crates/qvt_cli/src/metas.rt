@@ -1,8 +1,8 @@
 //! The metamodel of a file, alone.
 
-ghost use Rattle.std.specs.Prelude.{◌≡◌, ◌≤◌, ◌<◌, Some, OnOk, IfOk, length};
-ghost use Rattle.qvt_base.specs.Outside.{Held, Rose};
-ghost use Rattle.qvt_cli.specs.Steps.{Gives, IfFaultOf, IsFaultWith, joined, StopsBy};
+ghost use Rattle.std.specs.Prelude.{◌≡◌, ◌<◌, IfOk, length};
+ghost use Rattle.qvt_cli.specs.Follows.{Follows};
+ghost use Rattle.qvt_cli.specs.Steps.{Gives, IfFaultOf, IsFaultWith, StopsBy};
 ghost use Rattle.qvt_cli.specs.Metas.{metas_in, metas_read};
 
 use crate::fetch::{fetch, refused};
@@ -58,16 +58,8 @@ pub fn metas_in(alloc: Global, name: &Text, bytes: &[u8]) -> Result<Metas, Stop>
 }
 
 /// Reads the metamodel.
-#[tactic(auto, unfolding(crate::specs::Metas::metas_read))]
 pub fn read_metas<F: Files>(alloc: Global, files: &mut F, name: &Text) -> Result<Metas, Stop>
-    ensures gives { (held : Held) → F.held files.old ≡ Some held → Gives (λ metas. metas) result (metas_read held name.now) }
-    ensures held { F.held files.new ≡ F.held files.old }
-    ensures later { F.read_faults files.old ≤ F.read_faults files.new }
-    ensures rose { IfFaultOf result (λ file. Rose (F.read_faults files.old) (F.read_faults files.new)) }
-    ensures writes { F.write_faults files.new ≡ F.write_faults files.old }
-    ensures named { IfFaultOf result (λ file. file ≡ name.now) }
-    ensures failed { IfFaultOf result (λ file. F.failed_reads files.new ≡ joined file (F.failed_reads files.old)) }
-    ensures quiet { OnOk result (F.failed_reads files.new ≡ F.failed_reads files.old) }
+    ensures follows { Follows (λ metas. metas) (metas_read name.now) (F.seen files.old) result (F.seen files.new) }
     ensures one { IfOk result (λ metas. 0 < length metas.metamodels) }
 {
     match fetch(alloc, files, name, 1_048_576) {

@@ -1,7 +1,6 @@
-ghost use Rattle.std.specs.Prelude.{◌≡◌, ◌<◌, length, IfSome, IfNone, option_map};
-ghost use Rattle.qvt_base.specs.Outside.{Rose};
-ghost use Rattle.qvt_cli.specs.Outcome.{put_all};
-ghost use Rattle.qvt_cli.specs.Plans.{files_in, IsReady, StoppedWriting, CarriedOut};
+ghost use Rattle.std.specs.Prelude.{IfSome, IfNone};
+ghost use Rattle.qvt_cli.specs.Plans.{files_in, IsReady, AllWritten, StoppedAt, CarriedOut};
+ghost use Rattle.qvt_cli.specs.Reported.{outside};
 
 use crate::report::report;
 use crate::status::Status;
@@ -33,12 +32,8 @@ impl Drop for Plan {
 
 /// Writes the files in order, up to the first that fails, whose place is told.
 fn write_all<F: Files>(files: &mut F, outputs: &[Output]) -> Option<usize>
-    ensures written { IfNone result (F.held files.new ≡ option_map (put_all (files_in outputs.now)) (F.held files.old)) }
-    ensures stopped { IfSome result (λ k. StoppedWriting (files_in outputs.now) k (F.held files.old) (F.held files.new)) }
-    ensures rose { IfSome result (λ k. Rose (F.write_faults files.old) (F.write_faults files.new)) }
-    ensures within { IfSome result (λ k. k < length outputs.now) }
-    ensures reads { F.read_faults files.new ≡ F.read_faults files.old }
-    ensures failed { F.failed_reads files.new ≡ F.failed_reads files.old }
+    ensures written { IfNone result (AllWritten (files_in outputs.now) (F.seen files.old) (F.seen files.new)) }
+    ensures stopped { IfSome result (λ k. StoppedAt (files_in outputs.now) k (F.seen files.old) (F.seen files.new)) }
 {
     for (i, output) in outputs.iter().enumerate() {
         match files.write(output.file.as_str(), output.bytes.as_slice()) {
@@ -52,11 +47,7 @@ fn write_all<F: Files>(files: &mut F, outputs: &[Output]) -> Option<usize>
 /// Writes the files, and then the line; where a file fails, its line alone.
 pub fn carry_out<F: Files, S: Sink>(files: &mut F, out: &mut S, plan: &Plan) -> Status
     requires { IsReady plan.now.outputs }
-    ensures carried { CarriedOut plan.now (F.held files.old) (F.held files.new)
-        (F.write_faults files.old) (F.write_faults files.new)
-        (S.written out.old) (S.written out.new) (S.faults out.old) (S.faults out.new) result }
-    ensures reads { F.read_faults files.new ≡ F.read_faults files.old }
-    ensures failed { F.failed_reads files.new ≡ F.failed_reads files.old }
+    ensures { CarriedOut plan.now (outside (F.seen files.old) (S.seen out.old)) (outside (F.seen files.new) (S.seen out.new)) result }
 {
     match write_all(files, plan.outputs.as_slice()) {
         None => report(out, plan.line.as_slice(), Status::Done),

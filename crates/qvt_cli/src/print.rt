@@ -1,14 +1,12 @@
 //! The command that prints a text in its one printed form.
 
-ghost use Rattle.std.specs.Prelude.{◌≡◌, ◌≤◌, [], ◌∷◌, Some, OnOk, IfOk, IfErr};
-ghost use Rattle.qvt_base.specs.Outside.{Held, Rose};
+ghost use Rattle.std.specs.Prelude.{◌≡◌, [], IfOk, IfErr};
 ghost use Rattle.qvt_tree_types.specs.Module.{module_view};
 ghost use Rattle.qvt_printer.specs.PrintText.{print_text};
 ghost use Rattle.qvt_cli.specs.Outcome.{done};
 ghost use Rattle.qvt_cli.specs.Plans.{outcome_of, IsReady};
-ghost use Rattle.qvt_cli.specs.Printing.{tree_read, print_of, print_turns};
-ghost use Rattle.qvt_cli.specs.Reported.{IsAmong};
-ghost use Rattle.qvt_cli.specs.Steps.{Gives, IfFaultOf, joined};
+ghost use Rattle.qvt_cli.specs.Printing.{tree_read, print_of};
+ghost use Rattle.qvt_cli.specs.Follows.{Follows};
 
 use crate::fetch::fetch;
 use crate::plan::Plan;
@@ -22,16 +20,8 @@ use qvt_tree_types::module::Module;
 use std::alloc::Global;
 
 /// Reads the text.
-#[tactic(auto, unfolding(crate::specs::Printing::tree_read))]
 fn read_tree<F: Files>(alloc: Global, files: &mut F, name: &Text) -> Result<Module, Stop>
-    ensures gives { (held : Held) → F.held files.old ≡ Some held → Gives module_view result (tree_read held name.now) }
-    ensures held { F.held files.new ≡ F.held files.old }
-    ensures later { F.read_faults files.old ≤ F.read_faults files.new }
-    ensures rose { IfFaultOf result (λ file. Rose (F.read_faults files.old) (F.read_faults files.new)) }
-    ensures writes { F.write_faults files.new ≡ F.write_faults files.old }
-    ensures named { IfFaultOf result (λ file. file ≡ name.now) }
-    ensures failed { IfFaultOf result (λ file. F.failed_reads files.new ≡ joined file (F.failed_reads files.old)) }
-    ensures quiet { OnOk result (F.failed_reads files.new ≡ F.failed_reads files.old) }
+    ensures { Follows module_view (tree_read name.now) (F.seen files.old) result (F.seen files.new) }
 {
     match fetch(alloc, files, name, 262_144) {
         Err(stop) => Err(stop),
@@ -58,16 +48,9 @@ fn plan_of(alloc: Global, tree: &Module) -> Result<Plan, Stop>
 }
 
 /// Reads a text, and prints it.
-#[tactic(auto, unfolding(crate::specs::Printing::print_of))]
 pub fn perform_print<F: Files>(alloc: Global, files: &mut F, name: &Text) -> Result<Plan, Stop>
-    ensures gives { (held : Held) → F.held files.old ≡ Some held → Gives outcome_of result (print_of held name.now) }
+    ensures follows { Follows outcome_of (print_of name.now) (F.seen files.old) result (F.seen files.new) }
     ensures ready { IfOk result (λ p. IsReady p.outputs) }
-    ensures turn { (held : Held) → F.held files.old ≡ Some held → IfFaultOf result (λ file. IsAmong file (print_turns name.now)) }
-    ensures held { F.held files.new ≡ F.held files.old }
-    ensures rose { IfFaultOf result (λ file. Rose (F.read_faults files.old) (F.read_faults files.new)) }
-    ensures later { F.read_faults files.old ≤ F.read_faults files.new }
-    ensures writes { F.write_faults files.new ≡ F.write_faults files.old }
-    ensures failed { IfFaultOf result (λ file. F.failed_reads files.new ≡ joined file (F.failed_reads files.old)) }
 {
     match read_tree(alloc, files, name) {
         Err(stop) => Err(stop),

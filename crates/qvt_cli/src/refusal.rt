@@ -1,4 +1,4 @@
-use qvt_base::text::Text;
+use crate::job::JobFault;
 use qvt_conform::fault::ConformFault;
 use qvt_metamodel::fault::MetaFault;
 use qvt_model::data::ModelFault;
@@ -10,14 +10,8 @@ pub enum Refusal {
     Missing,
     /// The file has more bytes than its limit.
     TooLarge,
-    /// The file has no JSON value.
-    Json,
-    /// The value is not of its form. The path names the first fault.
-    Shape(Text),
-    /// The job names more than 16 files, repeats counted.
-    TooManyFiles,
-    /// This file of an output or of the trace is that of an earlier output.
-    SameFile(Text),
+    /// The file is no job.
+    Job(JobFault),
     /// The file is no metamodel.
     Metamodel(MetaFault),
     /// The file is no model of its metamodel.
@@ -39,10 +33,7 @@ impl Drop for Refusal {
         match self {
             Refusal::Missing => {}
             Refusal::TooLarge => {}
-            Refusal::Json => {}
-            Refusal::Shape(path) => {}
-            Refusal::TooManyFiles => {}
-            Refusal::SameFile(file) => {}
+            Refusal::Job(why) => {}
             Refusal::Metamodel(why) => {}
             Refusal::Model(why) => {}
             Refusal::TooManyObjects => {}

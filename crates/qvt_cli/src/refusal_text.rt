@@ -1,8 +1,9 @@
 //! The names of refusals with what they carry.
 
 ghost use Rattle.std.specs.Prelude.{◌≡◌, IfOk, string_bytes};
-ghost use Rattle.qvt_cli.specs.Outcome.{with_one, with_two, with_place, lex_name, parse_text, metamodel_text, model_text, conform_text};
+ghost use Rattle.qvt_cli.specs.Outcome.{with_one, with_two, with_place, lex_name, job_text, parse_text, metamodel_text, model_text, conform_text};
 
+use crate::job::JobFault;
 use qvt_base::numbers::Place;
 use qvt_base::text::Text;
 use qvt_conform::fault::ConformFault;
@@ -12,7 +13,7 @@ use qvt_model::data::ModelFault;
 use qvt_parsed::fault::ParseFault;
 use std::alloc::{AllocError, Global};
 
-pub fn with_one(alloc: Global, name: &str, a: &Text) -> Result<String, AllocError>
+fn with_one(alloc: Global, name: &str, a: &Text) -> Result<String, AllocError>
     ensures { IfOk result (λ text. string_bytes text ≡ with_one name.now a.now) }
 {
     let a = a.as_str();
@@ -44,6 +45,19 @@ fn lex_name(kind: LexKind) -> &'static str
         LexKind::OpenComment => "OpenComment",
         LexKind::BadEscape => "BadEscape",
         LexKind::NumberTooLarge => "NumberTooLarge",
+    }
+}
+
+/// The refusal of a job.
+pub fn job_text(alloc: Global, why: &JobFault) -> Result<String, AllocError>
+    ensures { IfOk result (λ text. string_bytes text ≡ job_text why.now) }
+{
+    match why {
+        JobFault::NoMemory => String::from_str(alloc, "no memory"),
+        JobFault::Json => String::from_str(alloc, "Json"),
+        JobFault::Shape(path) => with_one(alloc, "Shape", path),
+        JobFault::TooManyFiles => String::from_str(alloc, "TooManyFiles"),
+        JobFault::SameFile(file) => with_one(alloc, "SameFile", file),
     }
 }
 

@@ -1,11 +1,10 @@
 ghost use Rattle.std.specs.Prelude.{◌≡◌, ◌⊎◌, MatchBool, IfOk, string_bytes};
-ghost use Rattle.qvt_base.specs.Outside.{Rose};
 ghost use Rattle.qvt_cli.specs.Outcome.{refusal_text, refused_line, out_of_fuel_line, read_fault_line, write_fault_line, no_memory_line, low_line, conforms_line};
 ghost use Rattle.qvt_cli.specs.Steps.{stop_line, stop_status};
-ghost use Rattle.qvt_cli.specs.Reported.{appended, IsCut, Reports};
+ghost use Rattle.qvt_cli.specs.Reported.{IsWhole, IsCut, Reports};
 
 use crate::refusal::Refusal;
-use crate::refusal_text::{conform_text, metamodel_text, model_text, parse_text, with_one};
+use crate::refusal_text::{conform_text, job_text, metamodel_text, model_text, parse_text};
 use crate::status::Status;
 use crate::stop::Stop;
 use qvt_base::lists::Bytes;
@@ -16,7 +15,7 @@ use std::alloc::{AllocError, Global};
 
 /// Sends the whole text, piece by piece. False where the sink failed.
 fn send<S: Sink>(out: &mut S, text: &[u8]) -> bool
-    ensures { MatchBool result (S.written out.new ≡ appended text.now (S.written out.old)) (Rose (S.faults out.old) (S.faults out.new) × IsCut text.now (S.written out.old) (S.written out.new)) }
+    ensures { MatchBool result (IsWhole text.now (S.seen out.old) (S.seen out.new)) (IsCut text.now (S.seen out.old) (S.seen out.new)) }
 {
     let mut at = 0usize;
     while at < text.len() {
@@ -30,7 +29,7 @@ fn send<S: Sink>(out: &mut S, text: &[u8]) -> bool
 
 /// Sends a text, and answers this status; WriteFault where the sink failed.
 pub fn report<S: Sink>(out: &mut S, text: &[u8], status: Status) -> Status
-    ensures { Reports text.now status (S.written out.old) (S.written out.new) (S.faults out.old) (S.faults out.new) result }
+    ensures { Reports text.now status (S.seen out.old) (S.seen out.new) result }
 {
     if send(out, text) {
         status
@@ -73,10 +72,7 @@ fn refusal_text(alloc: Global, why: &Refusal) -> Result<String, AllocError>
     match why {
         Refusal::Missing => String::from_str(alloc, "Missing"),
         Refusal::TooLarge => String::from_str(alloc, "TooLarge"),
-        Refusal::Json => String::from_str(alloc, "Json"),
-        Refusal::Shape(path) => with_one(alloc, "Shape", path),
-        Refusal::TooManyFiles => String::from_str(alloc, "TooManyFiles"),
-        Refusal::SameFile(file) => with_one(alloc, "SameFile", file),
+        Refusal::Job(why) => job_text(alloc, why),
         Refusal::Metamodel(why) => metamodel_text(alloc, why),
         Refusal::Model(why) => model_text(alloc, why),
         Refusal::TooManyObjects => String::from_str(alloc, "TooManyObjects"),
@@ -127,8 +123,8 @@ fn line_of(alloc: Global, stop: &Stop) -> Result<(Bytes, Status), AllocError>
 
 /// Tells of an early end, or that there was no memory for it.
 pub fn finish<S: Sink>(alloc: Global, out: &mut S, stop: &Stop) -> Status
-    ensures { Reports (stop_line stop.now) (stop_status stop.now) (S.written out.old) (S.written out.new) (S.faults out.old) (S.faults out.new) result
-        ⊎ Reports no_memory_line Status.NoMemory (S.written out.old) (S.written out.new) (S.faults out.old) (S.faults out.new) result }
+    ensures { Reports (stop_line stop.now) (stop_status stop.now) (S.seen out.old) (S.seen out.new) result
+        ⊎ Reports no_memory_line Status.NoMemory (S.seen out.old) (S.seen out.new) result }
 {
     match line_of(alloc, stop) {
         Ok((line, status)) => report(out, line.as_slice(), status),

@@ -1,9 +1,8 @@
-ghost use Rattle.std.specs.Prelude.{◌≡◌, ◌≤◌, ◌∷◌, [], length, OnOk, IfOk, IsTrue, Some};
-ghost use Rattle.qvt_base.specs.Outside.{Held, Rose};
-ghost use Rattle.qvt_cli.specs.Reported.{IsAmong};
-ghost use Rattle.qvt_cli.specs.Steps.{Gives, IfFaultOf, IsFaultWith, joined};
+ghost use Rattle.std.specs.Prelude.{◌≡◌, ◌≤◌, length, IfOk, IsTrue};
+ghost use Rattle.qvt_cli.specs.Follows.{Follows};
+ghost use Rattle.qvt_cli.specs.Steps.{Gives, IfFaultOf, IsFaultWith, StopsBy};
 ghost use Rattle.qvt_cli.specs.Plans.{outcome_of, IsReady};
-ghost use Rattle.qvt_cli.specs.Run.{small_job, job_in, job_read, small_metas_in, small_metas_read, small_in, text_in, text_read, performed, after_metas, after_job, run_of, turns_after_job, run_turns, IsJobStop, done_outcome};
+ghost use Rattle.qvt_cli.specs.Run.{small_job, job_in, job_read, small_metas_in, small_metas_read, small_in, text_in, text_read, performed, after_metas, after_job, run_of, done_outcome};
 ghost use Rattle.qvt_tree_types.specs.Module.{module_view};
 ghost use Rattle.qvt_small.specs.SmallRun.{have_names, done_line};
 
@@ -66,15 +65,12 @@ fn small_job(alloc: Global, job: &Job) -> Result<Option<SmallJob>, ListFault>
 
 /// The refusal of a job's file.
 fn job_stop(alloc: Global, name: &Text, why: JobFault) -> Stop
-    ensures stop { IsJobStop name.now why result }
+    ensures stop { StopsBy JobFault.NoMemory Refusal.Job name.now why result }
     ensures no_reads { IsFaultWith result (λ file. ⊥) }
 {
-    match why {
+    match &why {
         JobFault::NoMemory => Stop::NoMemory,
-        JobFault::Json => refused(alloc, name, Refusal::Json),
-        JobFault::Shape(path) => refused(alloc, name, Refusal::Shape(path)),
-        JobFault::TooManyFiles => refused(alloc, name, Refusal::TooManyFiles),
-        JobFault::SameFile(file) => refused(alloc, name, Refusal::SameFile(file)),
+        _ => refused(alloc, name, Refusal::Job(why)),
     }
 }
 
@@ -95,16 +91,8 @@ fn job_in(alloc: Global, name: &Text, bytes: &[u8]) -> Result<SmallJob, Stop>
 }
 
 /// Reads the job.
-#[tactic(auto, unfolding(crate::specs::Run::job_read))]
 fn read_small_job<F: Files>(alloc: Global, files: &mut F, name: &Text) -> Result<SmallJob, Stop>
-    ensures gives { (held : Held) → F.held files.old ≡ Some held → Gives (λ job. job) result (job_read held name.now) }
-    ensures held { F.held files.new ≡ F.held files.old }
-    ensures later { F.read_faults files.old ≤ F.read_faults files.new }
-    ensures rose { IfFaultOf result (λ file. Rose (F.read_faults files.old) (F.read_faults files.new)) }
-    ensures writes { F.write_faults files.new ≡ F.write_faults files.old }
-    ensures named { IfFaultOf result (λ file. file ≡ name.now) }
-    ensures failed { IfFaultOf result (λ file. F.failed_reads files.new ≡ joined file (F.failed_reads files.old)) }
-    ensures quiet { OnOk result (F.failed_reads files.new ≡ F.failed_reads files.old) }
+    ensures { Follows (λ job. job) (job_read name.now) (F.seen files.old) result (F.seen files.new) }
 {
     match fetch(alloc, files, name, 65_536) {
         Err(stop) => Err(stop),
@@ -129,20 +117,12 @@ fn small_metas_in(alloc: Global, name: &Text, bytes: &[u8]) -> Result<Metas, Sto
 }
 
 /// Reads the metamodel.
-#[tactic(auto, unfolding(crate::specs::Run::small_metas_read))]
-fn read_small_metas<F: Files>(alloc: Global, files: &mut F, job: &SmallJob) -> Result<Metas, Stop>
-    ensures gives { (held : Held) → F.held files.old ≡ Some held → Gives (λ metas. metas) result (small_metas_read held job.now) }
-    ensures held { F.held files.new ≡ F.held files.old }
-    ensures later { F.read_faults files.old ≤ F.read_faults files.new }
-    ensures rose { IfFaultOf result (λ file. Rose (F.read_faults files.old) (F.read_faults files.new)) }
-    ensures writes { F.write_faults files.new ≡ F.write_faults files.old }
-    ensures named { IfFaultOf result (λ file. file ≡ job.now.metamodel) }
-    ensures failed { IfFaultOf result (λ file. F.failed_reads files.new ≡ joined file (F.failed_reads files.old)) }
-    ensures quiet { OnOk result (F.failed_reads files.new ≡ F.failed_reads files.old) }
+fn read_small_metas<F: Files>(alloc: Global, files: &mut F, name: &Text) -> Result<Metas, Stop>
+    ensures { Follows (λ metas. metas) (small_metas_read name.now) (F.seen files.old) result (F.seen files.new) }
 {
-    match fetch(alloc, files, &job.metamodel, 1_048_576) {
+    match fetch(alloc, files, name, 1_048_576) {
         Err(stop) => Err(stop),
-        Ok(bytes) => small_metas_in(alloc, &job.metamodel, bytes.as_slice()),
+        Ok(bytes) => small_metas_in(alloc, name, bytes.as_slice()),
     }
 }
 
@@ -181,21 +161,13 @@ fn text_in(alloc: Global, metas: &Metas, job: &SmallJob, bytes: &[u8]) -> Result
 }
 
 /// Reads the text.
-#[tactic(auto, unfolding(crate::specs::Run::text_read))]
 fn read_text<F: Files>(
     alloc: Global,
     files: &mut F,
     job: &SmallJob,
     metas: &Metas,
 ) -> Result<SmallText, Stop>
-    ensures gives { (held : Held) → F.held files.old ≡ Some held → Gives (λ text. text) result (text_read held job.now metas.now) }
-    ensures held { F.held files.new ≡ F.held files.old }
-    ensures later { F.read_faults files.old ≤ F.read_faults files.new }
-    ensures rose { IfFaultOf result (λ file. Rose (F.read_faults files.old) (F.read_faults files.new)) }
-    ensures writes { F.write_faults files.new ≡ F.write_faults files.old }
-    ensures named { IfFaultOf result (λ file. file ≡ job.now.text) }
-    ensures failed { IfFaultOf result (λ file. F.failed_reads files.new ≡ joined file (F.failed_reads files.old)) }
-    ensures quiet { OnOk result (F.failed_reads files.new ≡ F.failed_reads files.old) }
+    ensures follows { Follows (λ text. text) (text_read job.now metas.now) (F.seen files.old) result (F.seen files.new) }
     ensures have_names { IfOk result (λ text. IsTrue (have_names metas.now job.now.model)) }
 {
     match fetch(alloc, files, &job.text, 262_144) {
@@ -265,21 +237,14 @@ fn perform_text(
 }
 
 /// Reads the text and runs it.
-#[tactic(auto, unfolding(crate::specs::Run::after_metas))]
 fn perform_with_metas<F: Files>(
     alloc: Global,
     files: &mut F,
     job: &SmallJob,
     metas: &Metas,
 ) -> Result<Plan, Stop>
-    ensures gives { (held : Held) → F.held files.old ≡ Some held → Gives outcome_of result (after_metas held job.now metas.now) }
+    ensures follows { Follows outcome_of (after_metas job.now metas.now) (F.seen files.old) result (F.seen files.new) }
     ensures ready { IfOk result (λ p. IsReady p.outputs) }
-    ensures turn { (held : Held) → F.held files.old ≡ Some held → IfFaultOf result (λ file. IsAmong file (job.now.text ∷ [])) }
-    ensures held { F.held files.new ≡ F.held files.old }
-    ensures rose { IfFaultOf result (λ file. Rose (F.read_faults files.old) (F.read_faults files.new)) }
-    ensures later { F.read_faults files.old ≤ F.read_faults files.new }
-    ensures writes { F.write_faults files.new ≡ F.write_faults files.old }
-    ensures failed { IfFaultOf result (λ file. F.failed_reads files.new ≡ joined file (F.failed_reads files.old)) }
 {
     match read_text(alloc, files, job, metas) {
         Err(stop) => Err(stop),
@@ -288,34 +253,20 @@ fn perform_with_metas<F: Files>(
 }
 
 /// Reads the metamodel, then the text, and runs it.
-#[tactic(auto, unfolding(crate::specs::Run::after_job))]
 fn perform_job<F: Files>(alloc: Global, files: &mut F, job: &SmallJob) -> Result<Plan, Stop>
-    ensures gives { (held : Held) → F.held files.old ≡ Some held → Gives outcome_of result (after_job held job.now) }
+    ensures follows { Follows outcome_of (after_job job.now) (F.seen files.old) result (F.seen files.new) }
     ensures ready { IfOk result (λ p. IsReady p.outputs) }
-    ensures turn { (held : Held) → F.held files.old ≡ Some held → IfFaultOf result (λ file. IsAmong file (turns_after_job held job.now)) }
-    ensures held { F.held files.new ≡ F.held files.old }
-    ensures rose { IfFaultOf result (λ file. Rose (F.read_faults files.old) (F.read_faults files.new)) }
-    ensures later { F.read_faults files.old ≤ F.read_faults files.new }
-    ensures writes { F.write_faults files.new ≡ F.write_faults files.old }
-    ensures failed { IfFaultOf result (λ file. F.failed_reads files.new ≡ joined file (F.failed_reads files.old)) }
 {
-    match read_small_metas(alloc, files, job) {
+    match read_small_metas(alloc, files, &job.metamodel) {
         Err(stop) => Err(stop),
         Ok(metas) => perform_with_metas(alloc, files, job, &metas),
     }
 }
 
 /// Reads a job and all that it names, and runs it.
-#[tactic(auto, unfolding(crate::specs::Run::run_of))]
 pub fn perform_run<F: Files>(alloc: Global, files: &mut F, name: &Text) -> Result<Plan, Stop>
-    ensures gives { (held : Held) → F.held files.old ≡ Some held → Gives outcome_of result (run_of held name.now) }
+    ensures follows { Follows outcome_of (run_of name.now) (F.seen files.old) result (F.seen files.new) }
     ensures ready { IfOk result (λ p. IsReady p.outputs) }
-    ensures turn { (held : Held) → F.held files.old ≡ Some held → IfFaultOf result (λ file. IsAmong file (run_turns held name.now)) }
-    ensures held { F.held files.new ≡ F.held files.old }
-    ensures rose { IfFaultOf result (λ file. Rose (F.read_faults files.old) (F.read_faults files.new)) }
-    ensures later { F.read_faults files.old ≤ F.read_faults files.new }
-    ensures writes { F.write_faults files.new ≡ F.write_faults files.old }
-    ensures failed { IfFaultOf result (λ file. F.failed_reads files.new ≡ joined file (F.failed_reads files.old)) }
 {
     match read_small_job(alloc, files, name) {
         Err(stop) => Err(stop),

@@ -1,5 +1,7 @@
 mod attributes;
+mod enumerations;
 mod given;
 mod loading;
+mod lower;
 mod opposites;
 mod script;

@@ -216,7 +216,8 @@ fn answer_of(answer: Result<(), StoreFault>) -> &'static str {
     }
 }
 
-fn step(rt: &impl Abort, alloc: Global, store: &mut Store, row: &str) -> Result<(), Fail> {
+/// Makes the change of a row, which is followed by `=` and its answer with the whole store after it.
+pub fn step(rt: &impl Abort, alloc: Global, store: &mut Store, row: &str) -> Result<(), Fail> {
     let (change, expected) = row.split_once(" = ").ok_or("a row")?;
     let answer = changed(rt, alloc, store, change)?;
     let mut line = Text::from_str(alloc, answer_of(answer))?;

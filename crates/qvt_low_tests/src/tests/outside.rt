@@ -1,6 +1,7 @@
 //! Files and sinks, in memory and real.
 
 use qvt_base::list_fault::ListFault;
+use qvt_base::lists::Bytes;
 use qvt_base::mem_files::MemFiles;
 use qvt_base::mem_sink::MemSink;
 use qvt_base::outside::{Files, ReadAnswer, Sink, SinkAnswer, WriteAnswer};
@@ -8,6 +9,7 @@ use qvt_base::real::{DirFiles, StdSink};
 use qvt_base::seq::Seq;
 use std::alloc::Global;
 use std::fs;
+use std::test::Fail;
 
 /// The bytes that are found, or the name of the answer.
 fn told(answer: &ReadAnswer) -> &[u8] {
@@ -92,6 +94,28 @@ fn the_working_folder_is_read_within_the_limit(rt: HostRuntime) {
         ("folder", 4, "Failed"),
     ];
     assert!(rt; are_read(alloc, &mut files, &reads));
+}
+
+/// So many bytes. Those of any two pieces of a few thousand differ.
+fn differing(alloc: Global, count: u32) -> Option<Bytes> {
+    let mut bytes = Seq::new(alloc);
+    for number in 0..count {
+        let scattered = number.wrapping_mul(2_654_435_761);
+        bytes.push(scattered.to_be_bytes()[0]).ok()?;
+    }
+    Some(bytes)
+}
+
+/// A file longer than what is read at once is read whole, and is too large by one byte.
+#[test]
+fn a_long_file_is_read_whole(rt: HostRuntime) -> Result<(), Fail> {
+    let alloc = rt.alloc();
+    let bytes = differing(alloc, 10_000).ok_or("no memory")?;
+    let mut files = DirFiles::new(rt);
+    assert!(rt; files.write("long", bytes.as_slice()) == WriteAnswer::Written);
+    assert!(rt; told(&files.read(alloc, "long", 10_000)) == bytes.as_slice());
+    assert!(rt; told(&files.read(alloc, "long", 9_999)) == b"TooLarge".as_slice());
+    Ok(())
 }
 
 #[test]

@@ -1,15 +1,14 @@
-use Rattle.std.proofs.Common.{◌∙◌, [], ◌∷◌}
-use Rattle.qvt_cli.proofs.Chained.{first_stop, later_turn}
-use Rattle.qvt_cli.specs.Check.{check_turns}
+use Rattle.qvt_metamodel.specs.Metamodels.{Metamodels}
 use Rattle.qvt_cli.specs.Metas.{metas_read}
-use Rattle.qvt_cli.specs.Run.{on_ok}
+use Rattle.qvt_cli.specs.Plans.{outcome_of}
+use Rattle.qvt_cli.specs.Check.{check_of, after_metamodel}
+use Rattle.qvt_cli.proofs.Chained.{stopped, chained}
 use Rattle.qvt_cli.proofs.check.perform_check.Goals as goal
 
-pub returns-in-Err-clause-turn : goal.returns-in-Err-clause-turn
-unfolding check_turns
-returns-in-Err-clause-turn g c = λ held e. first_stop c.in-Err.stop c.args.metamodel.now (on_ok (metas_read held c.args.metamodel.now) (λ metas. c.args.model.now ∷ [])) c.in-Err.ensures.named
+pub returns-in-Err-clause-follows : goal.returns-in-Err-clause-follows
+unfolding check_of
+returns-in-Err-clause-follows g c = stopped (λ (metas : Metamodels). metas) outcome_of (metas_read c.args.metamodel.now) (after_metamodel c.args.model.now) (g.F.Files.seen c.args.files.now) (g.F.Files.seen c.read_metas.new.files) c.in-Err.stop c.in-Err.ensures.follows
 
-pub returns-in-Ok-clause-turn : goal.returns-in-Ok-clause-turn
-unfolding check_turns
-returns-in-Ok-clause-turn g c = λ held e. later_turn c.check_model.result c.args.metamodel.now (metas_read held c.args.metamodel.now) c.in-Ok.metas (λ metas. c.args.model.now ∷ [])
-    (c.in-Ok.ensures.gives held e) (c.check_model.ensures.turn held (c.in-Ok.ensures.held ∙ e))
+pub returns-in-Ok-clause-follows : goal.returns-in-Ok-clause-follows
+unfolding check_of
+returns-in-Ok-clause-follows g c = chained (λ (metas : Metamodels). metas) outcome_of (metas_read c.args.metamodel.now) (after_metamodel c.args.model.now) (g.F.Files.seen c.args.files.now) (g.F.Files.seen c.read_metas.new.files) (g.F.Files.seen c.check_model.new.files) c.in-Ok.metas c.check_model.result c.in-Ok.ensures.follows c.check_model.ensures.follows

@@ -1,14 +1,14 @@
-use Rattle.std.proofs.Common.{◌≡◌}
-use Rattle.qvt_base.specs.Outside.{Rose}
-use Rattle.qvt_cli.specs.Steps.{joined}
-use Rattle.qvt_cli.proofs.Chained.{no_turn}
+use Rattle.std.proofs.Common.{ℕ, List, subst}
+use Rattle.qvt_cli.specs.Steps.{Gives}
+use Rattle.qvt_cli.specs.Chain.{step, read_step}
+use Rattle.qvt_cli.specs.Check.{model_read, model_in}
+use Rattle.qvt_cli.proofs.Chained.{stopped, stepped}
 use Rattle.qvt_cli.proofs.check.read_conforming.Goals as goal
 
-pub returns-in-Ok-clause-rose : goal.returns-in-Ok-clause-rose
-returns-in-Ok-clause-rose g c = no_turn c.model_in.result (λ file. Rose (g.F.Files.read_faults c.args.files.now) (g.F.Files.read_faults c.fetch.new.files)) c.model_in.ensures.no_reads
+pub returns-in-Err : goal.returns-in-Err
+unfolding model_read
+returns-in-Err g c = stopped (λ (b : List ℕ). b) (λ (n : ℕ). n) (read_step c.args.name.now 16777216) (λ (bytes : List ℕ). step (model_in c.args.metas.now c.args.name.now bytes)) (g.F.Files.seen c.args.files.now) (g.F.Files.seen c.fetch.new.files) c.in-Err.stop c.in-Err.ensures.follows
 
-pub returns-in-Ok-clause-named : goal.returns-in-Ok-clause-named
-returns-in-Ok-clause-named g c = no_turn c.model_in.result (λ file. file ≡ c.args.name.now) c.model_in.ensures.no_reads
-
-pub returns-in-Ok-clause-failed : goal.returns-in-Ok-clause-failed
-returns-in-Ok-clause-failed g c = no_turn c.model_in.result (λ file. g.F.Files.failed_reads c.fetch.new.files ≡ joined file (g.F.Files.failed_reads c.args.files.now)) c.model_in.ensures.no_reads
+pub returns-in-Ok : goal.returns-in-Ok
+unfolding model_read
+returns-in-Ok g c = stepped (λ (b : List ℕ). b) (λ (n : ℕ). n) (read_step c.args.name.now 16777216) (λ (bytes : List ℕ). model_in c.args.metas.now c.args.name.now bytes) (g.F.Files.seen c.args.files.now) (g.F.Files.seen c.fetch.new.files) c.in-Ok.bytes c.model_in.result c.in-Ok.ensures.follows (subst (λ (bytes : List ℕ). Gives (λ (n : ℕ). n) c.model_in.result (model_in c.args.metas.now c.args.name.now bytes)) c.as_slice.ensures c.model_in.ensures.gives) c.model_in.ensures.no_reads

@@ -1,14 +1,15 @@
-use Rattle.std.proofs.Common.{◌≡◌}
-use Rattle.qvt_base.specs.Outside.{Rose}
-use Rattle.qvt_cli.specs.Steps.{joined}
-use Rattle.qvt_cli.proofs.Chained.{no_turn}
+use Rattle.std.proofs.Common.{ℕ, List, subst}
+use Rattle.qvt_cli.specs.Steps.{Gives}
+use Rattle.qvt_cli.specs.Chain.{step, read_step}
+use Rattle.qvt_cli.specs.Metas.{metas_read, metas_in}
+use Rattle.qvt_metamodel.specs.Metamodels.{Metamodels}
+use Rattle.qvt_cli.proofs.Chained.{stopped, stepped}
 use Rattle.qvt_cli.proofs.metas.read_metas.Goals as goal
 
-pub returns-in-Ok-clause-rose : goal.returns-in-Ok-clause-rose
-returns-in-Ok-clause-rose g c = no_turn c.metas_in.result (λ file. Rose (g.F.Files.read_faults c.args.files.now) (g.F.Files.read_faults c.fetch.new.files)) c.metas_in.ensures.no_reads
+pub returns-in-Err-clause-follows : goal.returns-in-Err-clause-follows
+unfolding metas_read
+returns-in-Err-clause-follows g c = stopped (λ (b : List ℕ). b) (λ (metas : Metamodels). metas) (read_step c.args.name.now 1048576) (λ (bytes : List ℕ). step (metas_in c.args.name.now bytes)) (g.F.Files.seen c.args.files.now) (g.F.Files.seen c.fetch.new.files) c.in-Err.stop c.in-Err.ensures.follows
 
-pub returns-in-Ok-clause-named : goal.returns-in-Ok-clause-named
-returns-in-Ok-clause-named g c = no_turn c.metas_in.result (λ file. file ≡ c.args.name.now) c.metas_in.ensures.no_reads
-
-pub returns-in-Ok-clause-failed : goal.returns-in-Ok-clause-failed
-returns-in-Ok-clause-failed g c = no_turn c.metas_in.result (λ file. g.F.Files.failed_reads c.fetch.new.files ≡ joined file (g.F.Files.failed_reads c.args.files.now)) c.metas_in.ensures.no_reads
+pub returns-in-Ok-clause-follows : goal.returns-in-Ok-clause-follows
+unfolding metas_read
+returns-in-Ok-clause-follows g c = stepped (λ (b : List ℕ). b) (λ (metas : Metamodels). metas) (read_step c.args.name.now 1048576) (λ (bytes : List ℕ). metas_in c.args.name.now bytes) (g.F.Files.seen c.args.files.now) (g.F.Files.seen c.fetch.new.files) c.in-Ok.bytes c.metas_in.result c.in-Ok.ensures.follows (subst (λ (bytes : List ℕ). Gives (λ (metas : Metamodels). metas) c.metas_in.result (metas_in c.args.name.now bytes)) c.as_slice.ensures c.metas_in.ensures.gives) c.metas_in.ensures.no_reads

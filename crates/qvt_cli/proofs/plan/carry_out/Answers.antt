@@ -3,20 +3,18 @@ use Rattle.qvt_cli.specs.Outcome.{write_fault_line}
 use Rattle.qvt_cli.specs.Plans.{files_in}
 use Rattle.qvt_cli.specs.Reported.{Reports, name_at}
 use Rattle.qvt_cli.specs.declared.status.Status.TheVariants as status
-use Rattle.qvt_cli.specs.declared.plan.Output.{Output}
-use Rattle.qvt_cli.proofs.Written.{line_at, stopped_among}
+use Rattle.qvt_cli.proofs.Written.{line_at, stopped_among, within_outputs}
 use Rattle.qvt_cli.proofs.plan.carry_out.Goals as goal
 
-pub returns-in-Some-clause-carried : goal.returns-in-Some-clause-carried
-returns-in-Some-clause-carried g c =
+pub returns-in-Some : goal.returns-in-Some
+returns-in-Some g c =
     let outputs = c.args.plan.now.outputs in
-    let stopped = stopped_among outputs c.as_slice.result.now c.in-Some.k (g.F.Files.held c.args.files.now) (g.F.Files.held c.write_all.new.files)
-    c.as_slice.ensures c.in-Some.ensures.within c.in-Some.ensures.stopped in
-    let within : c.in-Some.k < length outputs = subst (λ (os : List Output). c.in-Some.k < length os) c.as_slice.ensures c.in-Some.ensures.within in
+    let stopped = stopped_among outputs c.as_slice.result.now c.in-Some.k (g.F.Files.seen c.args.files.now) (g.F.Files.seen c.write_all.new.files)
+    c.as_slice.ensures c.in-Some.ensures.stopped in
+    let within : c.in-Some.k < length outputs = within_outputs outputs c.in-Some.k stopped.within in
     let is : c.index-as_slice-k.result ≡ get_or outputs c.in-Some.k c.index-as_slice-k.result =
     c.index-as_slice-k.is ∙ ap (λ os. get_or os c.in-Some.k c.index-as_slice-k.result) c.as_slice-in-Some.ensures in
     let line : c.as_slice-in-Some-2.result.now ≡ write_fault_line (name_at (files_in outputs) c.in-Some.k) =
     c.as_slice-in-Some-2.ensures ∙ line_at outputs c.in-Some.k c.index-as_slice-k.result within is c.requires in
-    let reports : List ℕ → Type 0 = λ text. Reports text status.WriteFault (g.S.Sink.written c.args.out.now) (g.S.Sink.written c.report-in-Some.new.out)
-    (g.S.Sink.faults c.args.out.now) (g.S.Sink.faults c.report-in-Some.new.out) c.report-in-Some.result in
-    inr (c.in-Some.k, stopped.1, stopped.0, c.in-Some.ensures.rose, subst reports line c.report-in-Some.ensures)
+    let reports : List ℕ → Type 0 = λ text. Reports text status.WriteFault (g.S.Sink.seen c.args.out.now) (g.S.Sink.seen c.report-in-Some.new.out) c.report-in-Some.result in
+    inr (c.in-Some.k, stopped, subst reports line c.report-in-Some.ensures)

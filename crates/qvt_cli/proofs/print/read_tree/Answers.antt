@@ -1,14 +1,16 @@
-use Rattle.std.proofs.Common.{◌≡◌}
-use Rattle.qvt_base.specs.Outside.{Rose}
-use Rattle.qvt_cli.specs.Steps.{joined}
-use Rattle.qvt_cli.proofs.Chained.{no_turn}
+use Rattle.std.proofs.Common.{ℕ, List, subst}
+use Rattle.qvt_cli.specs.Steps.{Gives}
+use Rattle.qvt_tree_types.specs.Module.{module_view}
+use Rattle.qvt_cli.specs.Chain.{step, read_step}
+use Rattle.qvt_cli.specs.Printing.{tree_read}
+use Rattle.qvt_cli.specs.Source.{tree_in}
+use Rattle.qvt_cli.proofs.Chained.{stopped, stepped}
 use Rattle.qvt_cli.proofs.print.read_tree.Goals as goal
 
-pub returns-in-Ok-clause-rose : goal.returns-in-Ok-clause-rose
-returns-in-Ok-clause-rose g c = no_turn c.tree_in.result (λ file. Rose (g.F.Files.read_faults c.args.files.now) (g.F.Files.read_faults c.fetch.new.files)) c.tree_in.ensures.no_reads
+pub returns-in-Err : goal.returns-in-Err
+unfolding tree_read
+returns-in-Err g c = stopped (λ (b : List ℕ). b) module_view (read_step c.args.name.now 262144) (λ (bytes : List ℕ). step (tree_in c.args.name.now bytes)) (g.F.Files.seen c.args.files.now) (g.F.Files.seen c.fetch.new.files) c.in-Err.stop c.in-Err.ensures.follows
 
-pub returns-in-Ok-clause-named : goal.returns-in-Ok-clause-named
-returns-in-Ok-clause-named g c = no_turn c.tree_in.result (λ file. file ≡ c.args.name.now) c.tree_in.ensures.no_reads
-
-pub returns-in-Ok-clause-failed : goal.returns-in-Ok-clause-failed
-returns-in-Ok-clause-failed g c = no_turn c.tree_in.result (λ file. g.F.Files.failed_reads c.fetch.new.files ≡ joined file (g.F.Files.failed_reads c.args.files.now)) c.tree_in.ensures.no_reads
+pub returns-in-Ok : goal.returns-in-Ok
+unfolding tree_read
+returns-in-Ok g c = stepped (λ (b : List ℕ). b) module_view (read_step c.args.name.now 262144) (λ (bytes : List ℕ). tree_in c.args.name.now bytes) (g.F.Files.seen c.args.files.now) (g.F.Files.seen c.fetch.new.files) c.in-Ok.bytes c.tree_in.result c.in-Ok.ensures.follows (subst (λ (bytes : List ℕ). Gives module_view c.tree_in.result (tree_in c.args.name.now bytes)) c.as_slice.ensures c.tree_in.ensures.gives) c.tree_in.ensures.no_reads

@@ -1,13 +1,14 @@
-use Rattle.std.proofs.Common.{◌∙◌}
-use Rattle.qvt_cli.proofs.Chained.{first_stop, later_turn}
-use Rattle.qvt_cli.specs.Run.{job_read, run_turns, on_ok, turns_after_job}
+use Rattle.qvt_cli.specs.declared.run.SmallJob.{SmallJob}
+use Rattle.qvt_cli.specs.Run.{job_read}
+use Rattle.qvt_cli.specs.Plans.{outcome_of}
+use Rattle.qvt_cli.specs.Run.{run_of, after_job}
+use Rattle.qvt_cli.proofs.Chained.{stopped, chained}
 use Rattle.qvt_cli.proofs.run.perform_run.Goals as goal
 
-pub returns-in-Err-clause-turn : goal.returns-in-Err-clause-turn
-unfolding run_turns
-returns-in-Err-clause-turn g c = λ held e. first_stop c.in-Err.stop c.args.name.now (on_ok (job_read held c.args.name.now) (turns_after_job held)) c.in-Err.ensures.named
+pub returns-in-Err-clause-follows : goal.returns-in-Err-clause-follows
+unfolding run_of
+returns-in-Err-clause-follows g c = stopped (λ (job : SmallJob). job) outcome_of (job_read c.args.name.now) (after_job) (g.F.Files.seen c.args.files.now) (g.F.Files.seen c.read_small_job.new.files) c.in-Err.stop c.in-Err.ensures
 
-pub returns-in-Ok-clause-turn : goal.returns-in-Ok-clause-turn
-unfolding run_turns
-returns-in-Ok-clause-turn g c = λ held e. later_turn c.perform_job.result c.args.name.now (job_read held c.args.name.now) c.in-Ok.job (turns_after_job held)
-    (c.in-Ok.ensures.gives held e) (c.perform_job.ensures.turn held (c.in-Ok.ensures.held ∙ e))
+pub returns-in-Ok-clause-follows : goal.returns-in-Ok-clause-follows
+unfolding run_of
+returns-in-Ok-clause-follows g c = chained (λ (job : SmallJob). job) outcome_of (job_read c.args.name.now) (after_job) (g.F.Files.seen c.args.files.now) (g.F.Files.seen c.read_small_job.new.files) (g.F.Files.seen c.perform_job.new.files) c.in-Ok.job c.perform_job.result c.in-Ok.ensures c.perform_job.ensures.follows

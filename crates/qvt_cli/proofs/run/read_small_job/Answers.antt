@@ -1,14 +1,15 @@
-use Rattle.std.proofs.Common.{◌≡◌}
-use Rattle.qvt_base.specs.Outside.{Rose}
-use Rattle.qvt_cli.specs.Steps.{joined}
-use Rattle.qvt_cli.proofs.Chained.{no_turn}
+use Rattle.std.proofs.Common.{ℕ, List, subst}
+use Rattle.qvt_cli.specs.Steps.{Gives}
+use Rattle.qvt_cli.specs.Chain.{step, read_step}
+use Rattle.qvt_cli.specs.Run.{job_read, job_in}
+use Rattle.qvt_cli.specs.declared.run.SmallJob.{SmallJob}
+use Rattle.qvt_cli.proofs.Chained.{stopped, stepped}
 use Rattle.qvt_cli.proofs.run.read_small_job.Goals as goal
 
-pub returns-in-Ok-clause-rose : goal.returns-in-Ok-clause-rose
-returns-in-Ok-clause-rose g c = no_turn c.job_in.result (λ file. Rose (g.F.Files.read_faults c.args.files.now) (g.F.Files.read_faults c.fetch.new.files)) c.job_in.ensures.no_reads
+pub returns-in-Err : goal.returns-in-Err
+unfolding job_read
+returns-in-Err g c = stopped (λ (b : List ℕ). b) (λ (job : SmallJob). job) (read_step c.args.name.now 65536) (λ (bytes : List ℕ). step (job_in c.args.name.now bytes)) (g.F.Files.seen c.args.files.now) (g.F.Files.seen c.fetch.new.files) c.in-Err.stop c.in-Err.ensures.follows
 
-pub returns-in-Ok-clause-named : goal.returns-in-Ok-clause-named
-returns-in-Ok-clause-named g c = no_turn c.job_in.result (λ file. file ≡ c.args.name.now) c.job_in.ensures.no_reads
-
-pub returns-in-Ok-clause-failed : goal.returns-in-Ok-clause-failed
-returns-in-Ok-clause-failed g c = no_turn c.job_in.result (λ file. g.F.Files.failed_reads c.fetch.new.files ≡ joined file (g.F.Files.failed_reads c.args.files.now)) c.job_in.ensures.no_reads
+pub returns-in-Ok : goal.returns-in-Ok
+unfolding job_read
+returns-in-Ok g c = stepped (λ (b : List ℕ). b) (λ (job : SmallJob). job) (read_step c.args.name.now 65536) (λ (bytes : List ℕ). job_in c.args.name.now bytes) (g.F.Files.seen c.args.files.now) (g.F.Files.seen c.fetch.new.files) c.in-Ok.bytes c.job_in.result c.in-Ok.ensures.follows (subst (λ (bytes : List ℕ). Gives (λ (job : SmallJob). job) c.job_in.result (job_in c.args.name.now bytes)) c.as_slice.ensures c.job_in.ensures.gives) c.job_in.ensures.no_reads

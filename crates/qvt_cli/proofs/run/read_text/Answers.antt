@@ -1,14 +1,15 @@
-use Rattle.std.proofs.Common.{◌≡◌}
-use Rattle.qvt_base.specs.Outside.{Rose}
-use Rattle.qvt_cli.specs.Steps.{joined}
-use Rattle.qvt_cli.proofs.Chained.{no_turn}
+use Rattle.std.proofs.Common.{ℕ, List, subst}
+use Rattle.qvt_cli.specs.Steps.{Gives}
+use Rattle.qvt_cli.specs.Chain.{step, read_step}
+use Rattle.qvt_cli.specs.Run.{text_read, text_in}
+use Rattle.qvt_small.specs.declared.text.SmallText.{SmallText}
+use Rattle.qvt_cli.proofs.Chained.{stopped, stepped}
 use Rattle.qvt_cli.proofs.run.read_text.Goals as goal
 
-pub returns-in-Ok-clause-rose : goal.returns-in-Ok-clause-rose
-returns-in-Ok-clause-rose g c = no_turn c.text_in.result (λ file. Rose (g.F.Files.read_faults c.args.files.now) (g.F.Files.read_faults c.fetch.new.files)) c.text_in.ensures.no_reads
+pub returns-in-Err-clause-follows : goal.returns-in-Err-clause-follows
+unfolding text_read
+returns-in-Err-clause-follows g c = stopped (λ (b : List ℕ). b) (λ (text : SmallText). text) (read_step c.args.job.now.text 262144) (λ (bytes : List ℕ). step (text_in c.args.metas.now c.args.job.now bytes)) (g.F.Files.seen c.args.files.now) (g.F.Files.seen c.fetch.new.files) c.in-Err.stop c.in-Err.ensures.follows
 
-pub returns-in-Ok-clause-named : goal.returns-in-Ok-clause-named
-returns-in-Ok-clause-named g c = no_turn c.text_in.result (λ file. file ≡ c.args.job.now.text) c.text_in.ensures.no_reads
-
-pub returns-in-Ok-clause-failed : goal.returns-in-Ok-clause-failed
-returns-in-Ok-clause-failed g c = no_turn c.text_in.result (λ file. g.F.Files.failed_reads c.fetch.new.files ≡ joined file (g.F.Files.failed_reads c.args.files.now)) c.text_in.ensures.no_reads
+pub returns-in-Ok-clause-follows : goal.returns-in-Ok-clause-follows
+unfolding text_read
+returns-in-Ok-clause-follows g c = stepped (λ (b : List ℕ). b) (λ (text : SmallText). text) (read_step c.args.job.now.text 262144) (λ (bytes : List ℕ). text_in c.args.metas.now c.args.job.now bytes) (g.F.Files.seen c.args.files.now) (g.F.Files.seen c.fetch.new.files) c.in-Ok.bytes c.text_in.result c.in-Ok.ensures.follows (subst (λ (bytes : List ℕ). Gives (λ (text : SmallText). text) c.text_in.result (text_in c.args.metas.now c.args.job.now bytes)) c.as_slice.ensures c.text_in.ensures.gives) c.text_in.ensures.no_reads
