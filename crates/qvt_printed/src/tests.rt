@@ -1,3 +1,6 @@
+mod parts;
+mod places;
 mod printed;
 mod read;
+mod shapes;
 mod trees;

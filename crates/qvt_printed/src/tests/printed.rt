@@ -1,21 +1,14 @@
 //! Texts, and what is printed of their trees.
 
-use super::trees::{Fault, joined, tree_of};
+use super::trees::{Fault, have_same_shape, joined, tree_of};
 use qvt_base::text::Text;
 use qvt_printer::print::print;
-use qvt_tree::shape::same_shape;
 use std::alloc::Global;
 
 fn printed(alloc: Global, text: &str) -> Result<Text, Fault> {
     let tree = tree_of(alloc, text)?;
     let text = print(alloc, &tree)?;
     Ok(text)
-}
-
-fn have_same_shape(alloc: Global, text: &str, other: &str) -> Result<bool, Fault> {
-    let tree = tree_of(alloc, text)?;
-    let other = tree_of(alloc, other)?;
-    Ok(same_shape(&tree, &other))
 }
 
 /// Whether the text is printed as this, which has a tree of the same shape and is printed as itself.

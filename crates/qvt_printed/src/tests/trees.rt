@@ -6,6 +6,7 @@ use qvt_parser::fault::ParseFault;
 use qvt_parser::parse::parse;
 use qvt_printer::print::PrintFault;
 use qvt_tree::module::Module;
+use qvt_tree::shape::same_shape;
 use std::alloc::Global;
 
 /// Why a text was not read or not printed.
@@ -43,6 +44,13 @@ pub fn tree_of(alloc: Global, text: &str) -> Result<Module, Fault> {
     }
     let tree = parse(alloc, text)?;
     Ok(tree)
+}
+
+/// Whether the trees of the texts are equal but for places.
+pub fn have_same_shape(alloc: Global, text: &str, other: &str) -> Result<bool, Fault> {
+    let tree = tree_of(alloc, text)?;
+    let other = tree_of(alloc, other)?;
+    Ok(same_shape(&tree, &other))
 }
 
 /// These three one after the other.
