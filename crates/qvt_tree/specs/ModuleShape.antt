@@ -51,4 +51,4 @@ abbrev pub erase_model_param : ModelParam → ModelParam
 erase_model_param p = record { direction = p.direction; name = p.name; model_type = p.model_type; place = nowhere }
 
 unfoldable pub shape : ModuleTerm → ModuleTerm
-shape m = record { model_types = map erase_model_type m.model_types; name = m.name; params = map erase_model_param m.params; units = map erase_unit m.units }
+shape m = record { model_types = map erase_model_type m.model_types; name = m.name; params = map erase_model_param m.params; units = map erase_unit m.units; end = nowhere }
