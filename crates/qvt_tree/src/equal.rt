@@ -135,19 +135,6 @@ fn same_boxed(a: &Box<Expr>, b: &Box<Expr>) -> bool
 }
 
 #[cycle(same)]
-fn same_optional_boxed(a: &Option<Box<Expr>>, b: &Option<Box<Expr>>) -> bool
-    ensures { result ≡ same.same_optional_expr (view.optional_expr (option_map (λ e. view.expr_view e.value) a.now)) (view.optional_expr (option_map (λ e. view.expr_view e.value) b.now)) }
-{
-    let Some(a) = a else {
-        return b.is_none();
-    };
-    let Some(b) = b else {
-        return false;
-    };
-    same_boxed(a, b)
-}
-
-#[cycle(same)]
 fn same_optional_range(a: &Option<RangeEnd>, b: &Option<RangeEnd>) -> bool
     ensures { result ≡ same.same_range (view.optional_range (option_map view.range_view a.now)) (view.optional_range (option_map view.range_view b.now)) }
 {
@@ -170,9 +157,16 @@ fn same_optional_filter(a: &Option<Filter>, b: &Option<Filter>) -> bool
     let Some(b) = b else {
         return false;
     };
-    same_optional_text(&a.name, &b.name)
-        && same_type(&a.kind, &b.kind)
-        && same_optional_boxed(&a.condition, &b.condition)
+    if !(same_optional_text(&a.name, &b.name) && same_type(&a.kind, &b.kind)) {
+        return false;
+    }
+    let Some(x) = &a.condition else {
+        return b.condition.is_none();
+    };
+    let Some(y) = &b.condition else {
+        return false;
+    };
+    same_boxed(x, y)
 }
 
 #[cycle(same)]
@@ -242,32 +236,6 @@ fn same_resolve(a: &ResolveCall, b: &ResolveCall) -> bool
 }
 
 #[cycle(same)]
-fn same_args(a: &Option<ExprList>, b: &Option<ExprList>) -> bool
-    ensures { result ≡ same.same_args (view.optional_args (option_map (map view.expr_view) a.now)) (view.optional_args (option_map (map view.expr_view) b.now)) }
-{
-    let Some(a) = a else {
-        return b.is_none();
-    };
-    let Some(b) = b else {
-        return false;
-    };
-    same_exprs(a, b)
-}
-
-#[cycle(same)]
-fn same_else(a: &Option<Stmts>, b: &Option<Stmts>) -> bool
-    ensures { result ≡ same.same_else (view.optional_else (option_map (map view.stmt_view) a.now)) (view.optional_else (option_map (map view.stmt_view) b.now)) }
-{
-    let Some(a) = a else {
-        return b.is_none();
-    };
-    let Some(b) = b else {
-        return false;
-    };
-    same_stmts(a, b)
-}
-
-#[cycle(same)]
 fn same_step(a: &Step, b: &Step) -> bool
     ensures { result ≡ same.same_step (view.step_view a.now) (view.step_view b.now) }
 {
@@ -285,7 +253,16 @@ fn same_step(a: &Step, b: &Step) -> bool
             else {
                 return false;
             };
-            same_text(m, n) && same_args(x, y)
+            if !same_text(m, n) {
+                return false;
+            }
+            let Some(x) = x else {
+                return y.is_none();
+            };
+            let Some(y) = y else {
+                return false;
+            };
+            same_exprs(x, y)
         }
         Step::Arrow {
             name: m,
@@ -434,7 +411,16 @@ fn same_stmt(a: &Stmt, b: &Stmt) -> bool
             else {
                 return false;
             };
-            same_expr(x, y) && same_stmts(s, t) && same_arms(p, q) && same_else(e, f)
+            if !(same_expr(x, y) && same_stmts(s, t) && same_arms(p, q)) {
+                return false;
+            }
+            let Some(e) = e else {
+                return f.is_none();
+            };
+            let Some(f) = f else {
+                return false;
+            };
+            same_stmts(e, f)
         }
         Stmt::While {
             condition: x,
