@@ -1,5 +1,6 @@
 -- The words of the tree are told apart by the numbers that their equality compares.
 use Rattle.std.proofs.Common.{◌≡◌, ℕ, Bool, true, false, ◌&&◌, ◌==◌, refl, sym, ap, ◌∙◌, cond}
+use Rattle.std.proofs.lemmas.Bool.{false≢true}
 use Rattle.std.proofs.lemmas.Bool.Decides.{Decides-eqb}
 use denote.Enum.Declared.{tag_of}
 use Rattle.qvt_tree.specs.SameWords.{same_kind, same_level, same_op, same_prefix, same_word, same_direction}
@@ -24,15 +25,15 @@ use Rattle.qvt_tree_types.specs.contracts.words.Direction as direction_code
 
 pub and_left : (a b : Bool) → (a && b) ≡ true → a ≡ true
 and_left true b h = refl
-and_left false b h = absurd cc
+and_left false b h = absurd (false≢true h)
 
 pub and_right : (a b : Bool) → (a && b) ≡ true → b ≡ true
 and_right true b h = h
-and_right false b h = absurd cc
+and_right false b h = absurd (false≢true h)
 
 pub and_both : (a b : Bool) → a ≡ true → b ≡ true → (a && b) ≡ true
 and_both true b h k = k
-and_both false b h k = absurd cc
+and_both false b h k = absurd (false≢true h)
 
 abbrev kind_tag : CollKind → ℕ
 kind_tag x = tag_of collkind_code.the_type x

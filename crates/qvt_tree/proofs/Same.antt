@@ -1,5 +1,6 @@
 -- The test of one shape is true exactly where the shapes are equal.
 use Rattle.std.proofs.Common.{◌≡◌, ℕ, ℤ, Bool, true, false, ◌&&◌, List, [], ◌∷◌, Option, Some, None, refl, ap}
+use Rattle.std.proofs.lemmas.Bool.{false≢true}
 use Rattle.std.proofs.lemmas.Bool.Decides.{Decides-int_eq}
 use Rattle.std.proofs.lemmas.Slice.Eq.{bytes_eq-Decides, slice_eq-Decides}
 use Rattle.std.specs.Bool.{beq}
@@ -31,7 +32,7 @@ text_self x = (bytes_eq-Decides x x).1 refl
 pub bool_sound : (x y : Bool) → beq x y ≡ true → x ≡ y
 bool_sound true true h = refl
 bool_sound false false h = refl
-bool_sound _ _ h = absurd cc
+bool_sound _ _ h = absurd (false≢true h)
 
 pub bool_self : (x : Bool) → beq x x ≡ true
 bool_self true = refl
@@ -46,7 +47,7 @@ names_self x = (slice_eq-Decides bytes_eq-Decides x x (same_names x x) refl).1 r
 pub optional_text_sound : (x y : Option (List ℕ)) → same_optional_text x y ≡ true → x ≡ y
 optional_text_sound None None h = refl
 optional_text_sound (Some s) (Some t) h = ap Some (text_sound s t h)
-optional_text_sound _ _ h = absurd cc
+optional_text_sound _ _ h = absurd (false≢true h)
 
 pub optional_text_self : (x : Option (List ℕ)) → same_optional_text x x ≡ true
 optional_text_self None = refl
@@ -64,7 +65,7 @@ self_path x = names_self x.names
 sound_optional_path : (x y : Option PathTree) → same_optional_path x y ≡ true → erase_optional_path x ≡ erase_optional_path y
 sound_optional_path None None h = refl
 sound_optional_path (Some p) (Some q) h = ap Some (sound_path p q h)
-sound_optional_path _ _ h = absurd cc
+sound_optional_path _ _ h = absurd (false≢true h)
 
 erased_optional_path : (x y : Option PathTree) → same_optional_path (erase_optional_path x) (erase_optional_path y) ≡ same_optional_path x y
 erased_optional_path None None = refl
@@ -78,12 +79,12 @@ self_optional_path (Some p) = self_path p
 sound_variable : (x y : ObjectVar) → same_variable x y ≡ true → erase_variable x ≡ erase_variable y
 sound_variable (Named m p) (Named n q) h = ap (λ z. Named z nowhere) (text_sound m n h)
 sound_variable (ResultVar p) (ResultVar q) h = refl
-sound_variable _ _ h = absurd cc
+sound_variable _ _ h = absurd (false≢true h)
 
 sound_optional_variable : (x y : Option ObjectVar) → same_optional_variable x y ≡ true → erase_optional_variable x ≡ erase_optional_variable y
 sound_optional_variable None None h = refl
 sound_optional_variable (Some v) (Some w) h = ap Some (sound_variable v w h)
-sound_optional_variable _ _ h = absurd cc
+sound_optional_variable _ _ h = absurd (false≢true h)
 
 erased_variable : (x y : ObjectVar) → same_variable (erase_variable x) (erase_variable y) ≡ same_variable x y
 erased_variable (Named m p) (Named n q) = refl
@@ -104,7 +105,7 @@ sound_signs : (x y : List Sign) → same_signs x y ≡ true → erase_signs x �
 sound_signs [] [] h = refl
 sound_signs (s ∷ ss) (t ∷ ts) h =
     λ i. record { op = prefix_sound s.op t.op (and_left _ _ h) i; place = nowhere } ∷ sound_signs ss ts (and_right _ _ h) i
-sound_signs _ _ h = absurd cc
+sound_signs _ _ h = absurd (false≢true h)
 
 erased_signs : (x y : List Sign) → same_signs (erase_signs x) (erase_signs y) ≡ same_signs x y
 erased_signs [] [] = refl
@@ -118,7 +119,7 @@ self_signs (s ∷ ss) = and_both _ _ (prefix_self s.op) (self_signs ss)
 pub sound_type : (x y : TypeTerm) → same_type x y ≡ true → erase_type x ≡ erase_type y
 sound_type (CollType a1 b1 c1) (CollType a2 b2 c2) h = λ i. CollType ((kind_sound a1 a2 (and_left _ _ h)) i) ((sound_type b1 b2 (and_right _ _ h)) i) nowhere
 sound_type (PathType a1) (PathType a2) h = λ i. PathType ((sound_path a1 a2 h) i)
-sound_type _ _ h = absurd cc
+sound_type _ _ h = absurd (false≢true h)
 
 pub erased_type : (x y : TypeTerm) → same_type (erase_type x) (erase_type y) ≡ same_type x y
 erased_type (CollType a1 b1 c1) (CollType a2 b2 c2) = λ i. same_kind a1 a2 && erased_type b1 b2 i
@@ -132,7 +133,7 @@ self_type (PathType a1) = self_path a1
 pub sound_optional_type : (x y : Option TypeTerm) → same_optional_type x y ≡ true → erase_optional_type x ≡ erase_optional_type y
 sound_optional_type None None h = refl
 sound_optional_type (Some s) (Some t) h = ap Some (sound_type s t h)
-sound_optional_type _ _ h = absurd cc
+sound_optional_type _ _ h = absurd (false≢true h)
 
 pub erased_optional_type : (x y : Option TypeTerm) → same_optional_type (erase_optional_type x) (erase_optional_type y) ≡ same_optional_type x y
 erased_optional_type None None = refl
@@ -162,22 +163,22 @@ mutual
   sound_expr (ChainExpr a1 b1 c1 d1) (ChainExpr a2 b2 c2 d2) h = λ i. ChainExpr ((level_sound a1 a2 (and_left _ _ (and_left _ _ h))) i) ((sound_expr b1 b2 (and_right _ _ (and_left _ _ h))) i) ((sound_links c1 c2 (and_right _ _ h)) i) nowhere
   sound_expr (PrefixExpr a1 b1 c1) (PrefixExpr a2 b2 c2) h = λ i. PrefixExpr ((sound_signs a1 a2 (and_left _ _ h)) i) ((sound_expr b1 b2 (and_right _ _ h)) i) nowhere
   sound_expr (PostExpr a1 b1 c1) (PostExpr a2 b2 c2) h = λ i. PostExpr ((sound_expr a1 a2 (and_left _ _ h)) i) ((sound_steps b1 b2 (and_right _ _ h)) i) nowhere
-  sound_expr _ _ h = absurd cc
+  sound_expr _ _ h = absurd (false≢true h)
 
   sound_exprs : (x y : ExprTerms) → same_exprs x y ≡ true → erase_exprs x ≡ erase_exprs y
   sound_exprs NoExprs NoExprs h = refl
   sound_exprs (MoreExprs a1 b1) (MoreExprs a2 b2) h = λ i. MoreExprs ((sound_expr a1 a2 (and_left _ _ h)) i) ((sound_exprs b1 b2 (and_right _ _ h)) i)
-  sound_exprs _ _ h = absurd cc
+  sound_exprs _ _ h = absurd (false≢true h)
 
   pub sound_optional_expr : (x y : OptionalExpr) → same_optional_expr x y ≡ true → erase_optional_expr x ≡ erase_optional_expr y
   sound_optional_expr NoExpr NoExpr h = refl
   sound_optional_expr (SomeExpr a1) (SomeExpr a2) h = λ i. SomeExpr ((sound_expr a1 a2 h) i)
-  sound_optional_expr _ _ h = absurd cc
+  sound_optional_expr _ _ h = absurd (false≢true h)
 
   sound_args : (x y : OptionalArgs) → same_args x y ≡ true → erase_args x ≡ erase_args y
   sound_args NoArgs NoArgs h = refl
   sound_args (SomeArgs a1) (SomeArgs a2) h = λ i. SomeArgs ((sound_exprs a1 a2 h) i)
-  sound_args _ _ h = absurd cc
+  sound_args _ _ h = absurd (false≢true h)
 
   sound_link : (x y : LinkTerm) → same_link x y ≡ true → erase_link x ≡ erase_link y
   sound_link (LinkOf a1 b1 c1) (LinkOf a2 b2 c2) h = λ i. LinkOf ((op_sound a1 a2 (and_left _ _ h)) i) ((sound_expr b1 b2 (and_right _ _ h)) i) nowhere
@@ -185,7 +186,7 @@ mutual
   sound_links : (x y : LinkTerms) → same_links x y ≡ true → erase_links x ≡ erase_links y
   sound_links NoLinks NoLinks h = refl
   sound_links (MoreLinks a1 b1) (MoreLinks a2 b2) h = λ i. MoreLinks ((sound_link a1 a2 (and_left _ _ h)) i) ((sound_links b1 b2 (and_right _ _ h)) i)
-  sound_links _ _ h = absurd cc
+  sound_links _ _ h = absurd (false≢true h)
 
   sound_item : (x y : ItemTerm) → same_item x y ≡ true → erase_item x ≡ erase_item y
   sound_item (ItemOf a1 b1 c1) (ItemOf a2 b2 c2) h = λ i. ItemOf ((sound_expr a1 a2 (and_left _ _ h)) i) ((sound_range b1 b2 (and_right _ _ h)) i) nowhere
@@ -193,12 +194,12 @@ mutual
   sound_range : (x y : RangeTerm) → same_range x y ≡ true → erase_range x ≡ erase_range y
   sound_range NoRange NoRange h = refl
   sound_range (RangeTo a1 b1) (RangeTo a2 b2) h = λ i. RangeTo ((sound_expr a1 a2 h) i) nowhere
-  sound_range _ _ h = absurd cc
+  sound_range _ _ h = absurd (false≢true h)
 
   sound_items : (x y : ItemTerms) → same_items x y ≡ true → erase_items x ≡ erase_items y
   sound_items NoItems NoItems h = refl
   sound_items (MoreItems a1 b1) (MoreItems a2 b2) h = λ i. MoreItems ((sound_item a1 a2 (and_left _ _ h)) i) ((sound_items b1 b2 (and_right _ _ h)) i)
-  sound_items _ _ h = absurd cc
+  sound_items _ _ h = absurd (false≢true h)
 
   sound_map_call : (x y : MapTerm) → same_map_call x y ≡ true → erase_map_call x ≡ erase_map_call y
   sound_map_call (MapOf a1 b1 c1 d1) (MapOf a2 b2 c2 d2) h = λ i. MapOf ((bool_sound a1 a2 (and_left _ _ (and_left _ _ h))) i) ((text_sound b1 b2 (and_right _ _ (and_left _ _ h))) i) ((sound_exprs c1 c2 (and_right _ _ h)) i) nowhere
@@ -209,17 +210,17 @@ mutual
   sound_filter : (x y : FilterTerm) → same_filter x y ≡ true → erase_filter x ≡ erase_filter y
   sound_filter NoFilter NoFilter h = refl
   sound_filter (FilterOf a1 b1 c1 d1) (FilterOf a2 b2 c2 d2) h = λ i. FilterOf ((optional_text_sound a1 a2 (and_left _ _ (and_left _ _ h))) i) ((sound_type b1 b2 (and_right _ _ (and_left _ _ h))) i) ((sound_optional_expr c1 c2 (and_right _ _ h)) i) nowhere
-  sound_filter _ _ h = absurd cc
+  sound_filter _ _ h = absurd (false≢true h)
 
   sound_head : (x y : HeadTerm) → same_head x y ≡ true → erase_head x ≡ erase_head y
   sound_head NoHead NoHead h = refl
   sound_head (HeadOf a1 b1 c1 d1) (HeadOf a2 b2 c2 d2) h = λ i. HeadOf ((text_sound a1 a2 (and_left _ _ (and_left _ _ h))) i) ((sound_optional_type b1 b2 (and_right _ _ (and_left _ _ h))) i) ((sound_accumulator c1 c2 (and_right _ _ h)) i) nowhere
-  sound_head _ _ h = absurd cc
+  sound_head _ _ h = absurd (false≢true h)
 
   sound_accumulator : (x y : AccumulatorTerm) → same_accumulator x y ≡ true → erase_accumulator x ≡ erase_accumulator y
   sound_accumulator NoAccumulator NoAccumulator h = refl
   sound_accumulator (AccumulatorOf a1 b1 c1 d1) (AccumulatorOf a2 b2 c2 d2) h = λ i. AccumulatorOf ((text_sound a1 a2 (and_left _ _ (and_left _ _ h))) i) ((sound_type b1 b2 (and_right _ _ (and_left _ _ h))) i) ((sound_expr c1 c2 (and_right _ _ h)) i) nowhere
-  sound_accumulator _ _ h = absurd cc
+  sound_accumulator _ _ h = absurd (false≢true h)
 
   sound_step : (x y : StepTerm) → same_step x y ≡ true → erase_step x ≡ erase_step y
   sound_step (DotStep a1 b1 c1) (DotStep a2 b2 c2) h = λ i. DotStep ((text_sound a1 a2 (and_left _ _ h)) i) ((sound_args b1 b2 (and_right _ _ h)) i) nowhere
@@ -228,18 +229,18 @@ mutual
   sound_step (ArrowMapStep a1) (ArrowMapStep a2) h = λ i. ArrowMapStep ((sound_map_call a1 a2 h) i)
   sound_step (DotResolveStep a1) (DotResolveStep a2) h = λ i. DotResolveStep ((sound_resolve a1 a2 h) i)
   sound_step (ArrowResolveStep a1) (ArrowResolveStep a2) h = λ i. ArrowResolveStep ((sound_resolve a1 a2 h) i)
-  sound_step _ _ h = absurd cc
+  sound_step _ _ h = absurd (false≢true h)
 
   sound_steps : (x y : StepTerms) → same_steps x y ≡ true → erase_steps x ≡ erase_steps y
   sound_steps NoSteps NoSteps h = refl
   sound_steps (MoreSteps a1 b1) (MoreSteps a2 b2) h = λ i. MoreSteps ((sound_step a1 a2 (and_left _ _ h)) i) ((sound_steps b1 b2 (and_right _ _ h)) i)
-  sound_steps _ _ h = absurd cc
+  sound_steps _ _ h = absurd (false≢true h)
 
   sound_target : (x y : TargetTerm) → same_target x y ≡ true → erase_target x ≡ erase_target y
   sound_target (BareTarget a1 b1) (BareTarget a2 b2) h = λ i. BareTarget ((text_sound a1 a2 h) i) nowhere
   sound_target (ResultTarget a1) (ResultTarget a2) h = refl
   sound_target (MemberTarget a1 b1 c1) (MemberTarget a2 b2 c2) h = λ i. MemberTarget ((sound_expr a1 a2 (and_left _ _ h)) i) ((text_sound b1 b2 (and_right _ _ h)) i) nowhere
-  sound_target _ _ h = absurd cc
+  sound_target _ _ h = absurd (false≢true h)
 
   sound_stmt : (x y : StmtTerm) → same_stmt x y ≡ true → erase_stmt x ≡ erase_stmt y
   sound_stmt (VarStmt a1 b1 c1 d1) (VarStmt a2 b2 c2 d2) h = λ i. VarStmt ((text_sound a1 a2 (and_left _ _ (and_left _ _ h))) i) ((sound_optional_type b1 b2 (and_right _ _ (and_left _ _ h))) i) ((sound_optional_expr c1 c2 (and_right _ _ h)) i) nowhere
@@ -249,17 +250,17 @@ mutual
   sound_stmt (IfStmt a1 b1 c1 d1 e1) (IfStmt a2 b2 c2 d2 e2) h = λ i. IfStmt ((sound_expr a1 a2 (and_left _ _ (and_left _ _ (and_left _ _ h)))) i) ((sound_stmts b1 b2 (and_right _ _ (and_left _ _ (and_left _ _ h)))) i) ((sound_arms c1 c2 (and_right _ _ (and_left _ _ h))) i) ((sound_else d1 d2 (and_right _ _ h)) i) nowhere
   sound_stmt (WhileStmt a1 b1 c1) (WhileStmt a2 b2 c2) h = λ i. WhileStmt ((sound_expr a1 a2 (and_left _ _ h)) i) ((sound_stmts b1 b2 (and_right _ _ h)) i) nowhere
   sound_stmt (ForEachStmt a1 b1 c1 d1 e1 f1) (ForEachStmt a2 b2 c2 d2 e2 f2) h = λ i. ForEachStmt ((sound_expr a1 a2 (and_left _ _ (and_left _ _ (and_left _ _ (and_left _ _ h))))) i) ((text_sound b1 b2 (and_right _ _ (and_left _ _ (and_left _ _ (and_left _ _ h))))) i) ((sound_optional_type c1 c2 (and_right _ _ (and_left _ _ (and_left _ _ h)))) i) ((sound_optional_expr d1 d2 (and_right _ _ (and_left _ _ h))) i) ((sound_stmts e1 e2 (and_right _ _ h)) i) nowhere
-  sound_stmt _ _ h = absurd cc
+  sound_stmt _ _ h = absurd (false≢true h)
 
   pub sound_stmts : (x y : StmtTerms) → same_stmts x y ≡ true → erase_stmts x ≡ erase_stmts y
   sound_stmts NoStmts NoStmts h = refl
   sound_stmts (MoreStmts a1 b1) (MoreStmts a2 b2) h = λ i. MoreStmts ((sound_stmt a1 a2 (and_left _ _ h)) i) ((sound_stmts b1 b2 (and_right _ _ h)) i)
-  sound_stmts _ _ h = absurd cc
+  sound_stmts _ _ h = absurd (false≢true h)
 
   sound_else : (x y : ElseTerm) → same_else x y ≡ true → erase_else x ≡ erase_else y
   sound_else NoElse NoElse h = refl
   sound_else (ElseOf a1) (ElseOf a2) h = λ i. ElseOf ((sound_stmts a1 a2 h) i)
-  sound_else _ _ h = absurd cc
+  sound_else _ _ h = absurd (false≢true h)
 
   sound_arm : (x y : ArmTerm) → same_arm x y ≡ true → erase_arm x ≡ erase_arm y
   sound_arm (ArmOf a1 b1) (ArmOf a2 b2) h = λ i. ArmOf ((sound_expr a1 a2 (and_left _ _ h)) i) ((sound_stmts b1 b2 (and_right _ _ h)) i)
@@ -267,7 +268,7 @@ mutual
   sound_arms : (x y : ArmTerms) → same_arms x y ≡ true → erase_arms x ≡ erase_arms y
   sound_arms NoArms NoArms h = refl
   sound_arms (MoreArms a1 b1) (MoreArms a2 b2) h = λ i. MoreArms ((sound_arm a1 a2 (and_left _ _ h)) i) ((sound_arms b1 b2 (and_right _ _ h)) i)
-  sound_arms _ _ h = absurd cc
+  sound_arms _ _ h = absurd (false≢true h)
 
 mutual
   erased_expr : (x y : ExprTerm) → same_expr (erase_expr x) (erase_expr y) ≡ same_expr x y

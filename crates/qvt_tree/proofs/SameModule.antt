@@ -1,5 +1,6 @@
 -- The test of one shape of transformations is true exactly where their shapes are equal.
 use Rattle.std.proofs.Common.{◌≡◌, ◌↔◌, Bool, true, ◌&&◌, IsTrue, List, [], ◌∷◌, map, Option, Some, None, refl, sym, ap, ◌∙◌}
+use Rattle.std.proofs.lemmas.Bool.{false≢true}
 use Rattle.std.specs.Bool.{beq}
 use Rattle.std.specs.Str.{bytes_eq}
 use Rattle.std.specs.Cmp.Lexicographic.{pointwise}
@@ -17,8 +18,8 @@ use Rattle.qvt_tree.proofs.Same.{sound_path, sound_type, sound_optional_type, so
 
 sound_list : {A : Type 0} (test : A → A → Bool) (f : A → A) → ((x y : A) → test x y ≡ true → f x ≡ f y) → (xs ys : List A) → pointwise test xs ys ≡ true → map f xs ≡ map f ys
 sound_list test f one [] [] h = refl
-sound_list test f one [] (y ∷ ys) h = absurd cc
-sound_list test f one (x ∷ xs) [] h = absurd cc
+sound_list test f one [] (y ∷ ys) h = absurd (false≢true h)
+sound_list test f one (x ∷ xs) [] h = absurd (false≢true h)
 sound_list test f one (x ∷ xs) (y ∷ ys) h = λ i. one x y (and_left _ _ h) i ∷ sound_list test f one xs ys (and_right _ _ h) i
 
 erased_list : {A : Type 0} (test : A → A → Bool) (f : A → A) → ((x y : A) → test (f x) (f y) ≡ test x y) → (xs ys : List A) → pointwise test (map f xs) (map f ys) ≡ pointwise test xs ys
@@ -70,7 +71,7 @@ self_result x = and_both _ _ (self_path x.path) (optional_text_self x.extent)
 sound_optional_result : (x y : Option ResultDecl) → same_optional_result x y ≡ true → erase_optional_result x ≡ erase_optional_result y
 sound_optional_result None None h = refl
 sound_optional_result (Some x) (Some y) h = ap Some (sound_result x y h)
-sound_optional_result _ _ h = absurd cc
+sound_optional_result _ _ h = absurd (false≢true h)
 
 erased_optional_result : (x y : Option ResultDecl) → same_optional_result (erase_optional_result x) (erase_optional_result y) ≡ same_optional_result x y
 erased_optional_result None None = refl
@@ -100,7 +101,7 @@ sound_unit (MainOf x p) (MainOf y q) h = λ i. MainOf (sound_stmts x y h i) nowh
 sound_unit (HelperOf x) (HelperOf y) h = ap HelperOf (sound_helper x y h)
 sound_unit (ConstructorOf x) (ConstructorOf y) h = ap ConstructorOf (sound_helper x y h)
 sound_unit (MappingOf x) (MappingOf y) h = ap MappingOf (sound_mapping x y h)
-sound_unit _ _ h = absurd cc
+sound_unit _ _ h = absurd (false≢true h)
 
 erased_unit : (x y : UnitTerm) → same_unit (erase_unit x) (erase_unit y) ≡ same_unit x y
 erased_unit (ClassOf x) (ClassOf y) = erased_class x y

@@ -4,4 +4,5 @@
 pub use qvt_tree_types::{module, tree, types, words};
 
 mod equal;
+mod leaf;
 pub mod shape;

@@ -4,9 +4,8 @@ ghost use Rattle.qvt_tree_types.specs.Module as view;
 ghost use Rattle.qvt_tree.specs.ModuleShape.{shape};
 ghost use Rattle.qvt_tree.specs.SameModule as same;
 
-use crate::equal::{
-    same_optional_expr, same_optional_text, same_optional_type, same_path, same_stmts, same_type,
-};
+use crate::equal::{same_optional_expr, same_stmts};
+use crate::leaf::{same_optional_text, same_optional_type, same_path, same_type};
 use qvt_tree_types::module::{
     ClassDecl, Field, Helper, Mapping, ModelParam, ModelType, Module, Param, ResultDecl, Unit,
 };
@@ -81,7 +80,7 @@ fn same_helper(a: &Helper, b: &Helper) -> bool
         && a.path == b.path
         && same_params(a.params.as_slice(), b.params.as_slice())
         && same_optional_type(&a.answer, &b.answer)
-        && same_stmts(a.body.as_slice(), b.body.as_slice())
+        && same_stmts(&a.body, &b.body)
 }
 
 fn same_result(a: &ResultDecl, b: &ResultDecl) -> bool
@@ -120,9 +119,9 @@ fn same_extras(a: &Mapping, b: &Mapping) -> bool
 fn same_body(a: &Mapping, b: &Mapping) -> bool
     ensures { result ≡ same.same_body (view.mapping_view a.now) (view.mapping_view b.now) }
 {
-    same_stmts(a.init.as_slice(), b.init.as_slice())
-        && same_stmts(a.population.as_slice(), b.population.as_slice())
-        && same_stmts(a.finish.as_slice(), b.finish.as_slice())
+    same_stmts(&a.init, &b.init)
+        && same_stmts(&a.population, &b.population)
+        && same_stmts(&a.finish, &b.finish)
 }
 
 fn same_mapping(a: &Mapping, b: &Mapping) -> bool
@@ -136,7 +135,7 @@ fn same_unit(a: &Unit, b: &Unit) -> bool
 {
     match (a, b) {
         (Unit::Class(a), Unit::Class(b)) => same_class(a, b),
-        (Unit::Main(a, _), Unit::Main(b, _)) => same_stmts(a.as_slice(), b.as_slice()),
+        (Unit::Main(a, _), Unit::Main(b, _)) => same_stmts(a, b),
         (Unit::Helper(a), Unit::Helper(b)) => same_helper(a, b),
         (Unit::Constructor(a), Unit::Constructor(b)) => same_helper(a, b),
         (Unit::Mapping(a), Unit::Mapping(b)) => same_mapping(a, b),
