@@ -6,6 +6,7 @@ use Rattle.qvt_value.specs.declared.value.Value.{Value}
 use Rattle.qvt_metamodel.specs.Metamodels.{class_at, is_containment, is_opposite}
 use Rattle.qvt_metamodel.specs.Named.{metamodel_at}
 use Rattle.qvt_metamodel.specs.WellFormed.{IsWellFormed}
+use Rattle.qvt_metamodel.proofs.Regular.{regular_of}
 use Rattle.qvt_relation.proofs.Bools.{and_left, and_right, either, clash}
 use Rattle.qvt_slots.specs.declared.op.SetOp.TheVariants.{Put, Add}
 use Rattle.qvt_slots.specs.Slots.{has}
@@ -49,7 +50,7 @@ module _ (s : Contents) (o p : ℕ) (ws : List Value) (well : IsWellFormed s.met
   holds_model : (x f : ℕ) → is_slot s x f ≡ true → is_containment s.metas f ≡ true → is_model s (extent_of s x) ≡ true
   holds_model x f slot k = elim (either (is_model s (extent_of s x))) [
     | inl yes' ↦ yes'
-    | inr no' ↦ clash _ k (well.unnamed_empty (class_of s x) f (and_right (is_live s x) _ slot) (nameless x (and_left _ _ slot) no'))
+    | inr no' ↦ clash _ k ((regular_of s.metas well).unnamed_empty (class_of s x) f (and_right (is_live s x) _ slot) (nameless x (and_left _ _ slot) no'))
   ]
 
   opposite_model : (f : ℕ) → is_opposite s.metas p f ≡ true → is_model s (extent_of s o) ≡ true
