@@ -1,4 +1,4 @@
--- A tree and the notes of its nodes, joined: each node takes the notes of its parts, in the order of the text, and then
+-- A tree and the notes of its nodes, joined: each node takes the notes of its parts, in the order of its fields, and then
 -- its own. Where there are too few, the rest is left bare.
 use Rattle.std.specs.Prelude.{List, [], ◌∷◌, Option, Some, None}
 use Rattle.qvt_tree_types.specs.declared.types.PathTree.{PathTree}

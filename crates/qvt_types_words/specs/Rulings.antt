@@ -1,4 +1,5 @@
 -- What is ruled of a node by the types of its parts alone.
+use Rattle.std.specs.Option.{is_some}
 use Rattle.std.specs.Prelude.{◌&&◌, ◌||◌, Bool, true, false, if◌then◌else◌, List, [], ◌∷◌, ◌++◌, Option, Some, None}
 use Rattle.qvt_metamodel.specs.Metamodels.{Metamodels}
 use Rattle.qvt_tree_types.specs.declared.words.BinaryOp.{BinaryOp}
@@ -6,6 +7,7 @@ use Rattle.qvt_tree_types.specs.declared.words.BinaryOp.TheVariants as op
 use Rattle.qvt_tree_types.specs.declared.words.PrefixOp.{PrefixOp}
 use Rattle.qvt_tree_types.specs.declared.words.PrefixOp.TheVariants as sign
 use Rattle.qvt_tree_types.specs.declared.words.CollKind.{CollKind}
+use Rattle.qvt_tree_types.specs.declared.words.CollKind.TheVariants as coll
 use Rattle.qvt_types_data.specs.declared.ty.Ty.{Ty}
 use Rattle.qvt_types_data.specs.declared.ty.Ty.TheVariants as ty
 use Rattle.qvt_types_data.specs.Notes.{plain}
@@ -43,6 +45,20 @@ abbrev pub if_joined : Option Ty → Ty → Ruling
 if_joined None t = Fails refusal.WrongType
 if_joined (Some _) t = typed t
 
+abbrev pub has_minus : CollKind → Bool
+has_minus coll.Set = true
+has_minus coll.OrderedSet = true
+has_minus k = false
+
+-- the items of a Set or OrderedSet that are not in another collection, if the item types join
+abbrev pub without : Metamodels → Ty → Option Collection → Option Collection → Ruling
+without m t (Some c) (Some d) = if has_minus c.kind then if_joined (join m c.item d.item) t else Fails refusal.WrongType
+without m t _ _ = Fails refusal.WrongType
+
+-- `-`, of Integers or from a Set or OrderedSet
+abbrev pub minus : Metamodels → Ty → Ty → Ruling
+minus m a b = if is_some (collection_of a) then without m a (collection_of a) (collection_of b) else typed_if (both m ty.Integer a b) ty.Integer
+
 abbrev pub operated : Metamodels → BinaryOp → Ty → Ty → Ruling
 operated m op.Implies a b = typed_if (both m ty.Boolean a b) ty.Boolean
 operated m op.Xor a b = typed_if (both m ty.Boolean a b) ty.Boolean
@@ -55,7 +71,7 @@ operated m op.LessEqual a b = compared m a b
 operated m op.Greater a b = compared m a b
 operated m op.GreaterEqual a b = compared m a b
 operated m op.Plus a b = typed_if (both m (plus_type a b) a b) (plus_type a b)
-operated m op.Minus a b = typed_if (both m ty.Integer a b) ty.Integer
+operated m op.Minus a b = minus m a b
 operated m op.Times a b = typed_if (both m ty.Integer a b) ty.Integer
 
 -- an operator between two operands
@@ -83,15 +99,6 @@ conditional m None _ _ = Silent
 conditional m (Some c) None _ = Silent
 conditional m (Some c) (Some y) None = Silent
 
--- the types of a node's parts, if each has one
-abbrev pub types_from : List Ty → List (Option Ty) → Option (List Ty)
-types_from done [] = Some done
-types_from done (None ∷ os) = None
-types_from done (Some t ∷ os) = types_from (done ++ t ∷ []) os
-
-abbrev pub all_types : List (Option Ty) → Option (List Ty)
-all_types os = types_from [] os
-
 -- items join from the left, pair by pair
 abbrev pub joined_from : Metamodels → Option Ty → List Ty → Option Ty
 joined_from m None ts = None
@@ -113,12 +120,11 @@ range m (Some a) (Some b) = typed_if (both m ty.Integer a b) ty.Integer
 range m None _ = Silent
 range m (Some a) None = Silent
 
--- the type of an item
-abbrev pub item_type : Bool → Metamodels → Option Ty → Option Ty → Option Ty
-item_type false m a b = a
-item_type true m (Some a) (Some b) = if both m ty.Integer a b then Some ty.Integer else None
-item_type true m None _ = None
-item_type true m (Some a) None = None
+-- the type of a range
+abbrev pub range_type : Metamodels → Option Ty → Option Ty → Option Ty
+range_type m (Some a) (Some b) = if both m ty.Integer a b then Some ty.Integer else None
+range_type m None _ = None
+range_type m (Some a) None = None
 
 -- Refusals that leave types standing: the kind that is told, if one is.
 abbrev pub wrong_unless : Bool → Option RefusalKind

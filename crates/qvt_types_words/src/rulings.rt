@@ -1,6 +1,6 @@
 //! What is ruled of operators, conditionals, literals, variables and assignments by the types of their parts.
 
-ghost use Rattle.std.specs.Prelude.{◌≡◌, IfOk, Some, true};
+ghost use Rattle.std.specs.Prelude.{◌≡◌, IfOk, Some};
 ghost use Rattle.qvt_types_data.specs.declared.ty.Ty.TheVariants as ty;
 ghost use Rattle.qvt_types_words.specs.Types.{join as join_of, collection_of};
 ghost use Rattle.qvt_types_words.specs.Rulings as rulings;
@@ -91,6 +91,36 @@ fn equated(alloc: Global, metas: &Metas, a: &Ty, b: &Ty) -> Result<Ruling, ListF
     }
 }
 
+/// Whether the kind has `-`.
+fn has_minus(kind: CollKind) -> bool
+    ensures { result ≡ rulings.has_minus kind }
+{
+    match kind {
+        CollKind::Set => true,
+        CollKind::OrderedSet => true,
+        _ => false,
+    }
+}
+
+/// `-`, of Integers or from a Set or OrderedSet.
+fn minus(alloc: Global, metas: &Metas, a: &Ty, b: &Ty) -> Result<Ruling, ListFault>
+    ensures { IfOk result (λ r. r ≡ rulings.minus metas.now a.now b.now) }
+{
+    let Ty::Coll(kind, item) = a else {
+        return Ok(typed_if(both(metas, &Ty::Integer, a, b), Ty::Integer));
+    };
+    let Ty::Coll(_, other) = b else {
+        return Ok(Ruling::Fails(RefusalKind::WrongType));
+    };
+    if !has_minus(*kind) {
+        return Ok(Ruling::Fails(RefusalKind::WrongType));
+    }
+    match join(alloc, metas, item.get(), other.get())? {
+        None => Ok(Ruling::Fails(RefusalKind::WrongType)),
+        Some(_) => Ok(typed(a.copy(alloc)?)),
+    }
+}
+
 /// An operator between operands that have types.
 fn operated(alloc: Global, metas: &Metas, op: BinaryOp, a: &Ty, b: &Ty) -> Result<Ruling, ListFault>
     ensures { IfOk result (λ r. r ≡ rulings.operated metas.now op a.now b.now) }
@@ -107,7 +137,7 @@ fn operated(alloc: Global, metas: &Metas, op: BinaryOp, a: &Ty, b: &Ty) -> Resul
         BinaryOp::Greater => Ok(compared(metas, a, b)),
         BinaryOp::GreaterEqual => Ok(compared(metas, a, b)),
         BinaryOp::Plus => Ok(summed(metas, a, b)),
-        BinaryOp::Minus => Ok(typed_if(both(metas, &Ty::Integer, a, b), Ty::Integer)),
+        BinaryOp::Minus => minus(alloc, metas, a, b),
         BinaryOp::Times => Ok(typed_if(both(metas, &Ty::Integer, a, b), Ty::Integer)),
     }
 }
@@ -347,7 +377,7 @@ pub fn property_wrong(
 
 /// The type of a range.
 pub fn range_type(metas: &Metas, first: &Option<Ty>, last: &Option<Ty>) -> Option<Ty>
-    ensures { result ≡ rulings.item_type true metas.now first.now last.now }
+    ensures { result ≡ rulings.range_type metas.now first.now last.now }
 {
     let Some(first) = first else {
         return None;
