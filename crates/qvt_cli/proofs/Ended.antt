@@ -12,7 +12,7 @@ use Rattle.qvt_cli.specs.declared.status.Status.TheVariants as status
 use Rattle.qvt_cli.specs.declared.stop.Stop.{Stop}
 use Rattle.qvt_cli.specs.declared.stop.Stop.TheVariants as stop
 use Rattle.qvt_cli.specs.declared.plan.Plan.{Plan}
-use Rattle.qvt_cli.proofs.Settle.{carried_from}
+use Rattle.qvt_cli.proofs.Settle.{at_most, carried_from}
 
 -- an early end was told, or that memory was wanting
 abbrev pub Finished : Stop → SinkSeen → SinkSeen → Status → Type 0
@@ -21,9 +21,10 @@ Finished e sink after answer = Reports (stop_line e) (stop_status e) sink after 
 carried_fails_from : (p : Plan) (old new : FilesSeen) (sink after : SinkSeen) (answer : Status) → CarriedOut p (outside old sink) (outside new after) answer
     → Fails (outside old sink) (outside new after) answer
 carried_fails_from p old new sink after answer (inl (h, inl r)) = subst (Fails (outside old sink) (outside new after)) (sym r.0) (record { reads = h.reads; writes = h.writes; faults = r.1.faults })
-carried_fails_from p old new sink after answer (inl (h, inr r)) = subst (Fails (outside old sink) (outside new after)) (sym r.0) (inr r.1.rose)
-carried_fails_from p old new sink after answer (inr (k, h, inl r)) = subst (Fails (outside old sink) (outside new after)) (sym r.0) (inl h.rose)
-carried_fails_from p old new sink after answer (inr (k, h, inr r)) = subst (Fails (outside old sink) (outside new after)) (sym r.0) (inl h.rose)
+carried_fails_from p old new sink after answer (inl (h, inr r)) = subst (Fails (outside old sink) (outside new after)) (sym r.0)
+    (inr (record { reads = inl h.reads; writes = h.writes; rose = r.1.rose; one = r.1.one }))
+carried_fails_from p old new sink after answer (inr (k, h, inl r)) = subst (Fails (outside old sink) (outside new after)) (sym r.0) (inl (record { reads = h.reads; rose = h.rose; one = h.one }))
+carried_fails_from p old new sink after answer (inr (k, h, inr r)) = subst (Fails (outside old sink) (outside new after)) (sym r.0) (inl (record { reads = h.reads; rose = h.rose; one = h.one }))
 
 pub carried_fails : (p : Plan) (c : Chain Outcome) (old mid new : FilesSeen) (sink after : SinkSeen) (answer : Status) → Follows outcome_of c old (Ok p) mid
     → CarriedOut p (outside mid sink) (outside new after) answer → Fails (outside old sink) (outside new after) answer
@@ -35,14 +36,16 @@ own_line (stop.Refused file why) old new sink after failed writes h = record { r
 own_line (stop.OutOfFuel fuel) old new sink after failed writes h = record { reads = failed; writes = writes; faults = h.faults }
 own_line (stop.Low model id feature) old new sink after failed writes h = record { reads = failed; writes = writes; faults = h.faults }
 own_line (stop.ReadFault file) old new sink after failed writes h = record { file = file; failed = failed; line = h; writes = writes }
-own_line stop.NoMemory old new sink after failed writes h = record { line = h; writes = writes }
+own_line stop.NoMemory old new sink after failed writes h = record { line = h; reads = failed; writes = writes }
 
 pub finished_fails : (e : Stop) (c : Chain Outcome) (old new : FilesSeen) (sink after : SinkSeen) (answer : Status) → Follows outcome_of c old (Err e) new
     → Finished e sink after answer → Fails (outside old sink) (outside new after) answer
 finished_fails e c old new sink after answer f (inl (inl r)) = subst (Fails (outside old sink) (outside new after)) (sym r.0) (own_line e old new sink after f.reads f.writes r.1)
-finished_fails e c old new sink after answer f (inl (inr r)) = subst (Fails (outside old sink) (outside new after)) (sym r.0) (inr r.1.rose)
-finished_fails e c old new sink after answer f (inr (inl r)) = subst (Fails (outside old sink) (outside new after)) (sym r.0) (record { line = r.1; writes = f.writes })
-finished_fails e c old new sink after answer f (inr (inr r)) = subst (Fails (outside old sink) (outside new after)) (sym r.0) (inr r.1.rose)
+finished_fails e c old new sink after answer f (inl (inr r)) = subst (Fails (outside old sink) (outside new after)) (sym r.0)
+    (inr (record { reads = at_most e old new f.reads; writes = f.writes; rose = r.1.rose; one = r.1.one }))
+finished_fails e c old new sink after answer f (inr (inl r)) = subst (Fails (outside old sink) (outside new after)) (sym r.0) (record { line = r.1; reads = at_most e old new f.reads; writes = f.writes })
+finished_fails e c old new sink after answer f (inr (inr r)) = subst (Fails (outside old sink) (outside new after)) (sym r.0)
+    (inr (record { reads = at_most e old new f.reads; writes = f.writes; rose = r.1.rose; one = r.1.one }))
 
 -- the status of what is stated, or want of memory
 abbrev pub IsStated : Result Outcome Outcome → Status → Type 0

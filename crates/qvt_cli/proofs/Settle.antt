@@ -3,7 +3,7 @@ use Rattle.std.proofs.Common.{◌≡◌, ◌∙◌, ap, sym, refl, subst, ℕ, �
 use Rattle.std.specs.Option.{option_map}
 use Rattle.qvt_base.specs.Outside.{Held, FilesSeen, SinkSeen, Rose, SameBut, BothTold}
 use Rattle.qvt_cli.specs.Chain.{Chain}
-use Rattle.qvt_cli.specs.Follows.{IsAmong, FailedAt, OneFailed, Follows}
+use Rattle.qvt_cli.specs.Follows.{IsAmong, NoneFailed, FailedAt, OneFailed, AtMostOneFailed, Follows}
 use Rattle.qvt_cli.specs.Outcome.{Outcome, usage, refused, out_of_fuel, low, done, status_of, report, files_after, put_all, read_fault_line, write_fault_line, no_memory_line}
 use Rattle.qvt_cli.specs.Reported.{OutsideSeen, outside, IsWhole, Reports, Answers, name_at}
 use Rattle.qvt_cli.specs.Plans.{files_in, outcome_of, StoppedAt, CarriedOut}
@@ -14,6 +14,13 @@ use Rattle.qvt_cli.specs.declared.stop.Stop.{Stop}
 use Rattle.qvt_cli.specs.declared.stop.Stop.TheVariants as stop
 use Rattle.qvt_cli.specs.declared.plan.Plan.{Plan}
 
+pub at_most : (e : Stop) (old new : FilesSeen) → FailedAt e old new → AtMostOneFailed old new
+at_most (stop.Refused file why) old new h = inl h
+at_most (stop.OutOfFuel fuel) old new h = inl h
+at_most (stop.Low model id feature) old new h = inl h
+at_most (stop.ReadFault file) old new h = inr (file, h)
+at_most stop.NoMemory old new h = h
+
 told_whole : (o : Outcome) (names : List (List ℕ)) (before : Held) (old new : OutsideSeen) → new.files.held ≡ Some (files_after o before)
     → IsWhole (report o) old.sink new.sink → Answers o names before old new (status_of o)
 told_whole usage names before old new held sink = record { status = refl; held = held; sink = sink }
@@ -23,37 +30,37 @@ told_whole (low model id feature) names before old new held sink = record { stat
 told_whole (done fs text) names before old new held sink = record { status = refl; held = held; sink = sink }
 
 -- the outcome's own text went to the sink
-pub told_of : (o : Outcome) (names : List (List ℕ)) (before : Held) (old new : OutsideSeen) (answer : Status) → new.files.held ≡ Some (files_after o before)
-    → Reports (report o) (status_of o) old.sink new.sink answer → Answers o names before old new answer
-told_of o names before old new answer held (inl h) = subst (Answers o names before old new) (sym h.0) (told_whole o names before old new held h.1)
-told_of o names before old new answer held (inr h) = subst (Answers o names before old new) (sym h.0) (inr (inl (record { held = held; sink = h.1 })))
+told_of : (o : Outcome) (names : List (List ℕ)) (before : Held) (old new : OutsideSeen) (answer : Status) → new.files.held ≡ Some (files_after o before)
+    → NoneFailed old.files new.files → new.files.writes ≡ old.files.writes → Reports (report o) (status_of o) old.sink new.sink answer → Answers o names before old new answer
+told_of o names before old new answer held reads writes (inl h) = subst (Answers o names before old new) (sym h.0) (told_whole o names before old new held h.1)
+told_of o names before old new answer held reads writes (inr h) = subst (Answers o names before old new) (sym h.0) (inr (inl (record { held = held; reads = reads; writes = writes; sink = h.1 })))
 
 -- the line that memory was wanting went to the sink
 memory_of : (o : Outcome) (names : List (List ℕ)) (before : Held) (old new : OutsideSeen) (answer : Status) → new.files.held ≡ Some before
-    → Reports no_memory_line status.NoMemory old.sink new.sink answer → Answers o names before old new answer
-memory_of o names before old new answer held (inl h) = subst (Answers o names before old new) (sym h.0) (record { held = held; sink = h.1 })
-memory_of o names before old new answer held (inr h) = subst (Answers o names before old new) (sym h.0) (inr (inr (inr (record { held = held; sink = h.1 }))))
+    → AtMostOneFailed old.files new.files → new.files.writes ≡ old.files.writes → Reports no_memory_line status.NoMemory old.sink new.sink answer → Answers o names before old new answer
+memory_of o names before old new answer held reads writes (inl h) = subst (Answers o names before old new) (sym h.0) (record { held = held; sink = h.1 })
+memory_of o names before old new answer held reads writes (inr h) = subst (Answers o names before old new) (sym h.0) (inr (inr (inr (record { held = held; reads = reads; writes = writes; sink = h.1 }))))
 
 -- the line of a read that failed went to the sink
 read_fault_of : (o : Outcome) (names : List (List ℕ)) (before : Held) (old new : OutsideSeen) (answer : Status) (file : List ℕ) → new.files.held ≡ Some before
-    → OneFailed file old.files new.files → IsAmong file names → Reports (read_fault_line file) status.ReadFault old.sink new.sink answer → Answers o names before old new answer
-read_fault_of o names before old new answer file held failed among (inl h) =
+    → OneFailed file old.files new.files → new.files.writes ≡ old.files.writes → IsAmong file names → Reports (read_fault_line file) status.ReadFault old.sink new.sink answer → Answers o names before old new answer
+read_fault_of o names before old new answer file held failed writes among (inl h) =
     subst (Answers o names before old new) (sym h.0) (record { held = held; file = file; among = among; failed = failed; sink = h.1 })
-read_fault_of o names before old new answer file held failed among (inr h) =
-    subst (Answers o names before old new) (sym h.0) (inr (inr (inl (record { held = held; file = file; among = among; failed = failed; sink = h.1 }))))
+read_fault_of o names before old new answer file held failed writes among (inr h) =
+    subst (Answers o names before old new) (sym h.0) (inr (inr (inl (record { held = held; file = file; among = among; failed = failed; writes = writes; sink = h.1 }))))
 
 -- an early end
 stopped : (e : Stop) (run : Result Outcome Outcome) (names : List (List ℕ)) (before : Held) (old new : OutsideSeen) (answer : Status) → Stops e run
-    → new.files.held ≡ Some before → FailedAt e old.files new.files → IsFaultWith e (λ file. IsAmong file names)
+    → new.files.held ≡ Some before → FailedAt e old.files new.files → new.files.writes ≡ old.files.writes → IsFaultWith e (λ file. IsAmong file names)
     → Reports (stop_line e) (stop_status e) old.sink new.sink answer → Answers (settled run) names before old new answer
-stopped (stop.Refused file why) run names before old new answer stops held failed among h =
-    subst (λ r. Answers (settled r) names before old new answer) (sym stops) (told_of (refused file why) names before old new answer held h)
-stopped (stop.OutOfFuel fuel) run names before old new answer stops held failed among h =
-    subst (λ r. Answers (settled r) names before old new answer) (sym stops) (told_of (out_of_fuel fuel) names before old new answer held h)
-stopped (stop.Low model id feature) run names before old new answer stops held failed among h =
-    subst (λ r. Answers (settled r) names before old new answer) (sym stops) (told_of (low model id feature) names before old new answer held h)
-stopped (stop.ReadFault file) run names before old new answer stops held failed among h = read_fault_of (settled run) names before old new answer file held failed among h
-stopped stop.NoMemory run names before old new answer stops held failed among h = memory_of (settled run) names before old new answer held h
+stopped (stop.Refused file why) run names before old new answer stops held failed writes among h =
+    subst (λ r. Answers (settled r) names before old new answer) (sym stops) (told_of (refused file why) names before old new answer held failed writes h)
+stopped (stop.OutOfFuel fuel) run names before old new answer stops held failed writes among h =
+    subst (λ r. Answers (settled r) names before old new answer) (sym stops) (told_of (out_of_fuel fuel) names before old new answer held failed writes h)
+stopped (stop.Low model id feature) run names before old new answer stops held failed writes among h =
+    subst (λ r. Answers (settled r) names before old new answer) (sym stops) (told_of (low model id feature) names before old new answer held failed writes h)
+stopped (stop.ReadFault file) run names before old new answer stops held failed writes among h = read_fault_of (settled run) names before old new answer file held failed writes among h
+stopped stop.NoMemory run names before old new answer stops held failed writes among h = memory_of (settled run) names before old new answer held failed writes h
 
 -- a file failed while it was written
 file_failed : (p : Plan) (names : List (List ℕ)) (before : Held) (old new : OutsideSeen) (answer : Status) (k : ℕ) (now : Option Held) → new.files.held ≡ now
@@ -62,14 +69,14 @@ file_failed : (p : Plan) (names : List (List ℕ)) (before : Held) (old new : Ou
     → Reports (write_fault_line (name_at (files_in p.outputs) k)) status.WriteFault old.sink new.sink answer → Answers (outcome_of p) names before old new answer
 file_failed p names before old new answer k None held h others r = absurd others
 file_failed p names before old new answer k (Some now) held h others (inl r) = subst (Answers (outcome_of p) names before old new) (sym r.0)
-    (inl (record { done = refl; number = k; within = h.within; now = now; held = held; others = others; rose = h.rose; sink = inl r.1 }))
+    (inl (record { done = refl; number = k; within = h.within; now = now; held = held; others = others; reads = h.reads; rose = h.rose; one = h.one; sink = inl r.1 }))
 file_failed p names before old new answer k (Some now) held h others (inr r) = subst (Answers (outcome_of p) names before old new) (sym r.0)
-    (inl (record { done = refl; number = k; within = h.within; now = now; held = held; others = others; rose = h.rose; sink = inr r.1 }))
+    (inl (record { done = refl; number = k; within = h.within; now = now; held = held; others = others; reads = h.reads; rose = h.rose; one = h.one; sink = inr r.1 }))
 
 -- a plan that was carried out, or at a file that failed was given up
 carried : (p : Plan) (names : List (List ℕ)) (before : Held) (old new : OutsideSeen) (answer : Status) → old.files.held ≡ Some before
     → CarriedOut p old new answer → Answers (outcome_of p) names before old new answer
-carried p names before old new answer is (inl h) = told_of (outcome_of p) names before old new answer (h.0.held ∙ ap (option_map (put_all (files_in p.outputs))) is) h.1
+carried p names before old new answer is (inl h) = told_of (outcome_of p) names before old new answer (h.0.held ∙ ap (option_map (put_all (files_in p.outputs))) is) h.0.reads h.0.writes h.1
 carried p names before old new answer is (inr h) = file_failed p names before old new answer h.0 new.files.held refl h.1
     (subst (λ t. BothTold (λ was now. SameBut (name_at (files_in p.outputs) h.0) (put_all (take h.0 (files_in p.outputs)) was) now) t new.files.held) is h.1.held) h.2
 
@@ -109,6 +116,6 @@ pub finished_after : (e : Stop) (c : Chain Outcome) (old new : FilesSeen) (sink 
     → Reports (stop_line e) (stop_status e) sink after answer ⊎ Reports no_memory_line status.NoMemory sink after answer
     → (held : Held) → old.held ≡ Some held → Answers (settled (c held).answer) (c held).names held (outside old sink) (outside new after) answer
 finished_after e c old new sink after answer f (inl h) held is =
-    stopped e (c held).answer (c held).names held (outside old sink) (outside new after) answer (f.gives held is) (f.held ∙ is) f.reads (f.named held is) h
+    stopped e (c held).answer (c held).names held (outside old sink) (outside new after) answer (f.gives held is) (f.held ∙ is) f.reads f.writes (f.named held is) h
 finished_after e c old new sink after answer f (inr h) held is =
-    memory_of (settled (c held).answer) (c held).names held (outside old sink) (outside new after) answer (f.held ∙ is) h
+    memory_of (settled (c held).answer) (c held).names held (outside old sink) (outside new after) answer (f.held ∙ is) (at_most e old new f.reads) f.writes h

@@ -25,13 +25,17 @@ pub record OneFailed (file : List ℕ) (old new : FilesSeen) : Type 0 where
   pub one : new.reads ≤ old.reads + 1
   pub failed : new.failed ≡ joined file old.failed
 
+-- no read failed, or one did
+abbrev pub AtMostOneFailed : FilesSeen → FilesSeen → Type 0
+AtMostOneFailed old new = NoneFailed old new ⊎ ((file : List ℕ) × OneFailed file old new)
+
 -- a read failed where the answer tells so; where there was no memory, none or one
 abbrev pub FailedAt : Stop → FilesSeen → FilesSeen → Type 0
 FailedAt (stop.Refused file why) old new = NoneFailed old new
 FailedAt (stop.OutOfFuel fuel) old new = NoneFailed old new
 FailedAt (stop.Low model id feature) old new = NoneFailed old new
 FailedAt (stop.ReadFault file) old new = OneFailed file old new
-FailedAt stop.NoMemory old new = NoneFailed old new ⊎ ((file : List ℕ) × OneFailed file old new)
+FailedAt stop.NoMemory old new = AtMostOneFailed old new
 
 abbrev pub FailedBy : {X : Type 0} → Result X Stop → FilesSeen → FilesSeen → Type 0
 FailedBy (Ok x) old new = NoneFailed old new

@@ -1,7 +1,7 @@
 -- What stands after a call: what the files and the sink tell of themselves before and after it, and what each status promises of that.
 use Rattle.std.specs.Prelude.{ℕ, ◌≡◌, ◌⊎◌, ◌+◌, ◌<◌, ◌≤◌, List, [], ◌++◌, length, take, Option, Some, option_map, slice_index_or}
 use Rattle.qvt_base.specs.Outside.{Held, FilesSeen, SinkSeen, Rose, SameBut}
-use Rattle.qvt_cli.specs.Follows.{IsAmong, NoneFailed, OneFailed}
+use Rattle.qvt_cli.specs.Follows.{IsAmong, NoneFailed, OneFailed, AtMostOneFailed}
 use Rattle.qvt_cli.specs.Outcome.{Outcome, File, status_of, report, files_of, files_after, put_all, read_fault_line, write_fault_line, no_memory_line}
 use Rattle.qvt_cli.specs.declared.status.Status.{Status}
 use Rattle.qvt_cli.specs.declared.status.Status.TheVariants as status
@@ -40,10 +40,24 @@ pub record IsReadFault (old new : OutsideSeen) : Type 0 where
   pub line : IsWhole (read_fault_line file) old.sink new.sink
   pub writes : new.files.writes ≡ old.files.writes
 
--- there was no memory: the line tells so, and nothing was written
+-- there was no memory: the line tells so, no write failed, and at most one read
 pub record IsMemoryFault (old new : OutsideSeen) : Type 0 where
   pub line : IsWhole no_memory_line old.sink new.sink
+  pub reads : AtMostOneFailed old.files new.files
   pub writes : new.files.writes ≡ old.files.writes
+
+-- one write failed, and no read
+pub record IsWriteFault (old new : OutsideSeen) : Type 0 where
+  pub reads : NoneFailed old.files new.files
+  pub rose : Rose old.files.writes new.files.writes
+  pub one : new.files.writes ≤ old.files.writes + 1
+
+-- the sink failed once, no write did, and at most one read
+pub record IsSinkFault (old new : OutsideSeen) : Type 0 where
+  pub reads : AtMostOneFailed old.files new.files
+  pub writes : new.files.writes ≡ old.files.writes
+  pub rose : Rose old.sink.faults new.sink.faults
+  pub one : new.sink.faults ≤ old.sink.faults + 1
 
 -- nothing failed
 pub record IsQuiet (old new : OutsideSeen) : Type 0 where
@@ -87,12 +101,16 @@ pub record FileFailed (o : Outcome) (before : Held) (old new : OutsideSeen) : Ty
   pub now : Held
   pub held : new.files.held ≡ Some now
   pub others : SameBut (name_at (files_of o) number) (put_all (take number (files_of o)) before) now
+  pub reads : NoneFailed old.files new.files
   pub rose : Rose old.files.writes new.files.writes
+  pub one : new.files.writes ≤ old.files.writes + 1
   pub sink : IsWhole (write_fault_line (name_at (files_of o) number)) old.sink new.sink ⊎ IsCut (write_fault_line (name_at (files_of o) number)) old.sink new.sink
 
 -- the sink failed on the outcome's own text
 pub record ReportFailed (o : Outcome) (before : Held) (old new : OutsideSeen) : Type 0 where
   pub held : new.files.held ≡ Some (files_after o before)
+  pub reads : NoneFailed old.files new.files
+  pub writes : new.files.writes ≡ old.files.writes
   pub sink : IsCut (report o) old.sink new.sink
 
 -- the sink failed on the line of a read that failed
@@ -101,11 +119,14 @@ pub record ReadLineFailed (names : List (List ℕ)) (before : Held) (old new : O
   pub file : List ℕ
   pub among : IsAmong file names
   pub failed : OneFailed file old.files new.files
+  pub writes : new.files.writes ≡ old.files.writes
   pub sink : IsCut (read_fault_line file) old.sink new.sink
 
 -- the sink failed on the line that memory was wanting
 pub record MemoryLineFailed (before : Held) (old new : OutsideSeen) : Type 0 where
   pub held : new.files.held ≡ Some before
+  pub reads : AtMostOneFailed old.files new.files
+  pub writes : new.files.writes ≡ old.files.writes
   pub sink : IsCut no_memory_line old.sink new.sink
 
 -- what stands after each answer, where the files tell what they hold
@@ -124,7 +145,7 @@ Answers o names before old new status.Low = Told o before old new status.Low
 -- what fails shows in the answer: where it tells of no read, no write, no sink and no want of memory, none failed
 abbrev pub Fails : OutsideSeen → OutsideSeen → Status → Type 0
 Fails old new status.ReadFault = IsReadFault old new
-Fails old new status.WriteFault = Rose old.files.writes new.files.writes ⊎ Rose old.sink.faults new.sink.faults
+Fails old new status.WriteFault = IsWriteFault old new ⊎ IsSinkFault old new
 Fails old new status.NoMemory = IsMemoryFault old new
 Fails old new status.Done = IsQuiet old new
 Fails old new status.Refused = IsQuiet old new
