@@ -1,3 +1,5 @@
+mod Kept
+mod KeptModule
 mod SameTypes
 mod Stripped
 mod StrippedModule

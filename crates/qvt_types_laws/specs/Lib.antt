@@ -1,2 +1,4 @@
 pub mod Join
 pub mod JoinModule
+pub mod NotesOf
+pub mod NotesOfModule
