@@ -5,7 +5,10 @@ use Rattle.qvt_types_data.specs.declared.ty.Ty.{Ty}
 use Rattle.qvt_types_data.specs.declared.note.Reading.{Reading}
 use Rattle.qvt_types_data.specs.declared.note.Reading.TheVariants.{Nothing}
 use Rattle.qvt_types_data.specs.declared.note.Note.{Note}
+use Rattle.qvt_types_data.specs.declared.refusal.RefusalKind.{RefusalKind}
 use Rattle.qvt_types_data.specs.declared.ruling.Read.{Read}
+use Rattle.qvt_types_data.specs.declared.ruling.Ruling.{Ruling}
+use Rattle.qvt_types_data.specs.declared.ruling.Ruling.TheVariants.{Holds, Fails, Silent}
 
 -- a reading without an implicit source, a wrap or an implicit collect
 abbrev pub plain : Reading → Option Ty → Read
@@ -22,3 +25,13 @@ marked r = record { reading = r.reading; source = r.source; wrap = r.wrap; colle
 -- nothing is written
 abbrev pub bare : Note
 bare = record { reading = Nothing; source = None; wrap = false; collect = false; number = None; answer = None }
+
+-- nothing is read, and there is no type
+abbrev pub unread : Read
+unread = plain Nothing None
+
+-- what a ruling tells, if anything, and how the node is read then: one that fails has no type
+abbrev pub told : Ruling → Option RefusalKind × Read
+told (Holds r) = (None, r)
+told (Fails k) = (Some k, unread)
+told Silent = (None, unread)

@@ -119,3 +119,16 @@ impl Drop for Ruling {
         }
     }
 }
+
+impl Ruling {
+    /// The refusal that it tells, if any, and how the node is read then.
+    pub fn told(self) -> (Option<RefusalKind>, Read)
+        ensures { result ≡ notes.told self }
+    {
+        match self {
+            Ruling::Holds(read) => (None, read),
+            Ruling::Fails(kind) => (Some(kind), Read::plain(Reading::Nothing, None)),
+            Ruling::Silent => (None, Read::plain(Reading::Nothing, None)),
+        }
+    }
+}
