@@ -1,0 +1,2 @@
+pub mod AsMade
+pub mod Law
