@@ -1,6 +1,4 @@
-mod parts;
-mod places;
+mod deep;
 mod printed;
-mod read;
 mod shapes;
 mod trees;

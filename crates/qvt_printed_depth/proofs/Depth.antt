@@ -1,8 +1,7 @@
 -- The law on the depth of printed texts.
-use Rattle.std.proofs.Common.{◌≡◌, ℕ, ◌+◌, ◌≤◌, List, [], ◌∷◌, ◌++◌, map, length, Bool, true, false, ◌||◌, if◌then◌else◌, refl, sym, ap, ◌∙◌, subst, Option, Some, None, arith, nat_le, leb-true, leb-false, le-leb}
-use Rattle.std.specs.List.{list_any}
+use Rattle.std.proofs.Common.{◌≡◌, ℕ, suc, ◌+◌, ◌≤◌, List, [], ◌∷◌, ◌++◌, map, length, Bool, true, false, if◌then◌else◌, ◌⊎◌, inl, inr, refl, sym, ap, ◌∙◌, subst, Option, Some, None, arith, nat_le, leb-true, le-leb}
 use Rattle.qvt_base.specs.declared.numbers.Place.{Place}
-use Rattle.qvt_tree_types.specs.Module.{UnitTerm, ModuleTerm}
+use Rattle.qvt_tree_types.specs.Module.{ModuleTerm}
 use Rattle.qvt_parser_grammar.specs.Tokens.{Tok}
 use Rattle.qvt_parser_grammar.specs.Module.{Reads}
 use Rattle.qvt_parser_grammar.specs.Trees.{is_there}
@@ -13,47 +12,11 @@ use Rattle.qvt_printer_layout.specs.declared.piece.Piece.{Piece}
 use Rattle.qvt_printer_layout.specs.declared.piece.Piece.TheVariants.{Plain, Name, Integer, Quoted, Tight, Line, Indent, Dedent}
 use Rattle.qvt_printed_tokens.specs.Spelled.{unplaced, spelled, all_spelled}
 use Rattle.qvt_printed_depth.specs.Most.{greater, most_from, most}
-use Rattle.qvt_printed_depth.specs.Law.{gets_block, PrintedIsAsDeep}
+use Rattle.qvt_printed_depth.specs.Law.{HasFullUnit, PrintedIsAsDeep}
 use Rattle.qvt_printed_depth.proofs.Runs.{Below}
 use Rattle.qvt_printed_depth.proofs.Pieces.{piece_class, pc, tc, tc_append}
-use Rattle.qvt_printed_depth.proofs.Stmts.{of_nested}
-use Rattle.qvt_printed_depth.proofs.Units.{slack, slack_one, Enough, g_transformation}
-
--- the greater of two
-if_le : (x : Bool) (a b n : ℕ) → a ≤ n → b ≤ n → (if x then b else a) ≤ n
-if_le true a b n h k = k
-if_le false a b n h k = h
-
-first_le : (x : Bool) (a b : ℕ) → nat_le a b ≡ x → a ≤ (if x then b else a)
-first_le true a b e = leb-true a b e
-first_le false a b e = omega arith
-
-second_le : (x : Bool) (a b : ℕ) → nat_le a b ≡ x → b ≤ (if x then b else a)
-second_le true a b e = omega arith
-second_le false a b e = omega (arith, leb-false a b e)
-
-left_most : (a b n : ℕ) → greater a b ≤ n → a ≤ n
-left_most a b n h = omega (arith, h, first_le (nat_le a b) a b refl)
-
-right_most : (a b n : ℕ) → greater a b ≤ n → b ≤ n
-right_most a b n h = omega (arith, h, second_le (nat_le a b) a b refl)
-
--- how many are open at once
-most_below : (n : ℕ) (f : Bool) (s : List Open) (ts : List Tok) → Below n f s (tc ts) → most_from f s ts ≤ n
-most_below n f s [] l = omega arith
-most_below n f s (t ∷ ts) l =
-    if_le (nat_le (length (after f s t.class)) (most_from (begins_statement t.class) (after f s t.class) ts)) (length (after f s t.class)) (most_from (begins_statement t.class) (after f s t.class) ts) n (at_first ts l.1)
-    (most_below n (begins_statement t.class) (after f s t.class) ts l.1) where
-      at_first : (us : List Tok) → Below n (begins_statement t.class) (after f s t.class) (tc us) → length (after f s t.class) ≤ n
-      at_first [] k = k
-      at_first (u ∷ us) k = k.0
-
-below_most : (n : ℕ) (f : Bool) (s : List Open) (ts : List Tok) → length s ≤ n → most_from f s ts ≤ n → Below n f s (tc ts)
-below_most n f s [] h k = h
-below_most n f s (t ∷ ts) h k =
-    let a = length (after f s t.class) in
-    let b = most_from (begins_statement t.class) (after f s t.class) ts in
-    (h, below_most n (begins_statement t.class) (after f s t.class) ts (left_most a b n k) (right_most a b n k))
+use Rattle.qvt_printed_depth.proofs.Counts.{if_le, left_most, right_most, most_below, below_most}
+use Rattle.qvt_printed_depth.proofs.Modules.{g_transformation}
 
 -- the limit
 clash : {X : Type 0} (p : Place) (o : Option Place) → o ≡ Some p → o ≡ None → X
@@ -94,35 +57,29 @@ spelled_classes : (ps : List Piece) → tc (all_spelled ps) ≡ pc ps
 spelled_classes [] = refl
 spelled_classes (p ∷ ps) = tc_append (spelled p) (all_spelled ps) ∙ ap (λ z. z ++ tc (all_spelled ps)) (spelled_class p) ∙ ap (λ z. piece_class p ++ z) (spelled_classes ps)
 
--- no unit gets more than one block, and none any where the test says so
-enough_one : (us : List UnitTerm) → Enough 1 us
-enough_one [] = tt
-enough_one (u ∷ us) = (slack_one (gets_block u), enough_one us)
+-- what the two lists of tokens have of the tree
+abbrev Printed : List Tok → List Tok → ModuleTerm → Type 0
+Printed ts us m = Reads ts m × (map unplaced us ≡ all_spelled (module_pieces m))
 
-or_first : (x y : Bool) → (x || y) ≡ false → x ≡ false
-or_first true y e = e
-or_first false y e = refl
+classes : (us : List Tok) (m : ModuleTerm) → map unplaced us ≡ all_spelled (module_pieces m) → pc (module_pieces m) ≡ tc us
+classes us m same = sym (spelled_classes (module_pieces m)) ∙ sym (ap tc same) ∙ unplaced_classes us
 
-or_second : (x y : Bool) → (x || y) ≡ false → y ≡ false
-or_second true y e = absurd cc
-or_second false y e = e
-
-enough_none : (us : List UnitTerm) → list_any gets_block us ≡ false → Enough 0 us
-enough_none [] e = tt
-enough_none (u ∷ us) e =
-    (subst (λ z. slack z ≤ 0) (sym (or_first (gets_block u) (list_any gets_block us) e)) (omega arith), enough_none us (or_second (gets_block u) (list_any gets_block us) e))
-
-printed_most : (e : ℕ) (ts us : List Tok) (m : ModuleTerm) → Reads ts m → map unplaced us ≡ all_spelled (module_pieces m) → Enough e m.units → most us ≤ e + most ts
-printed_most e ts us m r same k =
-    let whole = (g_transformation (of_nested r.nesting)).all ts m r.reads e k in
+one_more : (ts us : List Tok) (m : ModuleTerm) → Printed ts us m → most us ≤ suc (most ts)
+one_more ts us m (r, same) =
+    let whole = (g_transformation r.nesting).all ts m r.reads in
     let n = most ts in
-    let low = whole.low 0 false false [] [] (omega arith) n (below_most n false [] ts (omega arith) (omega arith)) in
-    let classes = sym (spelled_classes (module_pieces m)) ∙ sym (ap tc same) ∙ unplaced_classes us in
-    omega (arith, most_below (n + (e + 0)) false [] us (subst (Below (n + (e + 0)) false []) classes low))
+    let low = whole.0.low 0 false false [] [] (omega arith) n (below_most n false [] ts (omega arith) (omega arith)) in
+    omega (arith, most_below (n + (1 + 0)) false [] us (subst (Below (n + (1 + 0)) false []) (classes us m same) low))
+
+no_more : (n : ℕ) (ts us : List Tok) (m : ModuleTerm) → Printed ts us m → most ts ≤ n → (most us ≤ n) ⊎ HasFullUnit n ts m.units
+no_more n ts us m (r, same) k = by (((g_transformation r.nesting).all ts m r.reads).1 n false (below_most n false [] ts (omega arith) k)) where
+  by : ((f : Bool) → Below n f [] (pc (module_pieces m))) ⊎ HasFullUnit n ts m.units → (most us ≤ n) ⊎ HasFullUnit n ts m.units
+  by (inl h) = inl (most_below n false [] us (subst (Below n false []) (classes us m same) (h false)))
+  by (inr h) = inr h
 
 pub printed_is_as_deep : PrintedIsAsDeep
 printed_is_as_deep = record {
   limit = λ ts. (none_most false [] ts, most_none false [] ts);
-  block = λ ts us m r e. omega (arith, printed_most 1 ts us m r e (enough_one m.units));
-  same = λ ts us m r e k. omega (arith, printed_most 0 ts us m r e (enough_none m.units k));
+  block = λ ts us m r e. one_more ts us m (r, e);
+  unit = λ n ts us m r e k. no_more n ts us m (r, e) k;
 }

@@ -1,5 +1,5 @@
 -- The productions of units and of the module read what prints no deeper, but for one block more in two forms of units.
-use Rattle.std.proofs.Common.{◌≡◌, ℕ, zero, suc, ◌≤◌, List, [], ◌∷◌, ◌++◌, Bool, true, false, cond, ◌&&◌, ◌||◌, ◌⊎◌, inl, inr, refl, sym, ap, ◌∙◌, subst, append_assoc, append-nil, Option, Some, None, arith}
+use Rattle.std.proofs.Common.{◌≡◌, ℕ, zero, suc, ◌≤◌, List, [], ◌∷◌, ◌++◌, Bool, true, false, cond, not, ◌&&◌, ◌||◌, ◌⊎◌, inl, inr, refl, sym, ap, ◌∙◌, subst, append_assoc, append-nil, Option, Some, None, arith}
 use Rattle.qvt_tree_types.specs.Tree.{ExprTerm, StmtTerm, SomeExpr}
 use Rattle.qvt_tree_types.specs.View.{stmts_of, optional_expr}
 use Rattle.qvt_tree_types.specs.Module.{TypedName, UnitTerm, ModuleTerm}
@@ -26,7 +26,7 @@ use Rattle.qvt_printer.specs.Units.{has_statements, module_pieces}
 use Rattle.qvt_printer_layout.specs.Words as words
 use Rattle.qvt_printer_layout.specs.declared.piece.Piece.{Piece}
 use Rattle.qvt_printer_layout.specs.declared.piece.Piece.TheVariants as piece
-use Rattle.qvt_printed_depth.specs.Law.{is_return, gets_block}
+use Rattle.qvt_printed_depth.specs.Law.{is_semicolon, ends_in_semicolon, has_population, gets_block}
 use Rattle.qvt_printed_tokens.proofs.Classes.{same_class}
 use Rattle.qvt_printed_depth.proofs.Runs.{Still, AllStill, Closing, Strong, over_strong}
 use Rattle.qvt_printed_depth.proofs.Wide.{Wide, Spare, wide_strong, wide_up, wide_then, spare_wide, spare_then, Room, room_round, wide_room, spare_empty, strong_drop, wide_braces, strong_wrapped, Parts, parts_strong, parts_then, parts_turns, parts_none, turns_none, parts_braces}
@@ -34,6 +34,7 @@ use Rattle.qvt_printed_depth.proofs.Pieces.{pc, tc, pc_append, tc_one, tc_last, 
 use Rattle.qvt_printed_depth.proofs.Forms.{Gives, One, Perhaps, Split, g_the, g_empty, g_follow, g_then, g_split, g_made, g_second, g_first, g_inner, g_either, g_maybe, g_many, g_placed, g_barring, g_weaker, Quiet, q_the, q_then, q_made, q_many, q_maybe, q_either, Prints, s_many, s_maybe}
 use Rattle.qvt_printed_depth.proofs.Exprs.{still_names, still_paths, still_extent, q_name, q_path, q_paths, q_unit_path, q_extent, GivesNested, s_colon_type, o_expr}
 use Rattle.qvt_printed_depth.proofs.Stmts.{g_statements}
+use Rattle.qvt_printed_depth.proofs.Lacking.{Lacks, LacksNested, lacks_both, lacks_front, l_the, l_maybe, l_unit_path, l_params, l_result_decl, l_clauses, l_init_part, l_statements, l_end_part, l_end_unless}
 
 abbrev pub PWide : ℕ → List Piece → List Tok → Type 0
 PWide e ps ts = Wide e (pc ps) (tc ts)
@@ -47,7 +48,7 @@ PParts e ps ts = Parts e (pc ps) (tc ts)
 pub wide_more : (e : ℕ) (a b : List Piece) (x y : List Tok) → PWide e a x → PWide e b y → PWide e (a ++ b) (x ++ y)
 wide_more e a b x y h k = moved (Wide e) a b x y (wide_then e h k)
 
-wide_after : (e : ℕ) (a b : List Piece) (x y : List Tok) → PStrong a x → PWide e b y → PWide e (a ++ b) (x ++ y)
+pub wide_after : (e : ℕ) (a b : List Piece) (x y : List Tok) → PStrong a x → PWide e b y → PWide e (a ++ b) (x ++ y)
 wide_after e a b x y h k = wide_more e a b x y (wide_strong e h) k
 
 spare_after : (e : ℕ) (a b : List Piece) (x y : List Tok) → PStrong a x → PSpare e b y → PSpare e (a ++ b) (x ++ y)
@@ -63,7 +64,7 @@ parts_more e a b x y h k = moved (Parts e) a b x y (parts_then e h k)
 idle_strong : (ps : List Piece) (ts : List Tok) → QuietPieces ps → PStrong [] ts → PStrong ps ts
 idle_strong ps ts h k = subst (λ z. PStrong z ts) (append-nil ps) (quiet_left ps [] ts h k)
 
-quiet_idle : (ts : List Tok) → QuietToks ts → PStrong [] ts
+pub quiet_idle : (ts : List Tok) → QuietToks ts → PStrong [] ts
 quiet_idle ts h = quiet_strong [] ts tt h
 
 -- names with types
@@ -95,12 +96,19 @@ pub slack_one : (b : Bool) → slack b ≤ 1
 slack_one true = omega arith
 slack_one false = omega arith
 
-abbrev body_slack : Body → ℕ
-body_slack b = slack (has_statements (stmts_of b.population) && any_section b.init b.finish)
+-- whether the statements of the body get a block, where the tokens have no word for it
+abbrev may : Body → Bool
+may b = has_statements (stmts_of b.population) && any_section b.init b.finish
+
+abbrev block_slack : Bool → List Tok → ℕ
+block_slack b ts = slack (b && not (has_population ts))
+
+abbrev body_slack : Body → List Tok → ℕ
+body_slack b ts = block_slack (may b) ts
 
 -- statements in a block of their own, or not
 abbrev Population : List Tok → List StmtTerm → Type 0
-Population ts ss = PStrong (print.block (stmts_of ss)) ts ⊎ PTurns (print.stmts (stmts_of ss)) ts
+Population ts ss = PStrong (print.block (stmts_of ss)) ts ⊎ (PTurns (print.stmts (stmts_of ss)) ts × (has_population ts ≡ false))
 
 record SectionsAre (ts : List Tok) (a : List StmtTerm × List StmtTerm) : Type 0 where
   front : List Tok
@@ -108,6 +116,7 @@ record SectionsAre (ts : List Tok) (a : List StmtTerm × List StmtTerm) : Type 0
   same : ts ≡ front ++ back
   population : Population front a.0
   finish : PStrong (printed.section class.EndWord (stmts_of a.1)) back
+  lacks : has_population back ≡ false
 
 block_pieces : (ps : List Piece) → pc (print.in_block ps) ≡ class.OpenBrace ∷ (pc ps ++ (class.CloseBrace ∷ []))
 block_pieces ps = ap (λ z. class.OpenBrace ∷ z) (pc_append ps (piece.Dedent ∷ piece.Line ∷ piece.Plain class.CloseBrace ∷ []))
@@ -116,11 +125,13 @@ braced_toks : (u v w : List Tok) → tc u ≡ OpenBrace ∷ [] → tc w ≡ Clos
 braced_toks u v w e g = tc_one u (v ++ w) e ∙ ap (λ z. class.OpenBrace ∷ z) (tc_last v w g)
 
 -- the population among other sections
-among : (ss : List StmtTerm) (v : List Tok) → Population v ss → PParts (slack (has_statements (stmts_of ss))) (printed.section class.PopulationWord (stmts_of ss)) v
-among [] v (inl h) = parts_strong 0 (strong_drop h)
-among [] v (inr h) = parts_none 0 h
-among (s ∷ ss) v (inl h) = parts_strong 1 (quiet_left (piece.Line ∷ piece.Plain class.PopulationWord ∷ []) (print.block (stmts_of (s ∷ ss))) v ((λ f s. refl), tt) h)
-among (s ∷ ss) v (inr h) = subst (λ z. Parts 1 (class.PopulationWord ∷ z) (tc v)) (sym (block_pieces (print.stmts (stmts_of (s ∷ ss))))) (parts_turns h)
+among : (e : ℕ) (ss : List StmtTerm) (v : List Tok) → Population v ss → (has_statements (stmts_of ss) ≡ true → has_population v ≡ false → e ≡ 1) → PParts e (printed.section class.PopulationWord (stmts_of ss)) v
+among e [] v (inl h) k = parts_strong e (strong_drop h)
+among e [] v (inr h) k = parts_none e h.0
+among e (s ∷ ss) v (inl h) k = parts_strong e (quiet_left (piece.Line ∷ piece.Plain class.PopulationWord ∷ []) (print.block (stmts_of (s ∷ ss))) v ((λ f s. refl), tt) h)
+among e (s ∷ ss) v (inr h) k =
+    subst (λ z. PParts z (printed.section class.PopulationWord (stmts_of (s ∷ ss))) v) (sym (k refl h.1))
+    (subst (λ z. Parts 1 (class.PopulationWord ∷ z) (tc v)) (sym (block_pieces (print.stmts (stmts_of (s ∷ ss))))) (parts_turns h.0))
 
 among_all : (e : ℕ) (i p f : List Piece) (u v w x y : List Tok) → tc u ≡ OpenBrace ∷ [] → PStrong i v → PParts e p w → PStrong f x → tc y ≡ CloseBrace ∷ [] → PWide e (print.in_block (i ++ (p ++ f))) (u ++ (v ++ ((w ++ x) ++ y)))
 among_all e i p f u v w x y a h k j b =
@@ -134,27 +145,27 @@ alone ss u v w x y a h (inl k) j b =
     let ps = print.block (stmts_of ss) in
     let inside = strong_more [] ps v (w ++ x) h (subst (λ z. PStrong z (w ++ x)) (append-nil ps) (strong_more ps [] w x k j)) in
     subst (Strong (pc ps)) (sym (ap (λ z. tc (u ++ z)) (sym (append_assoc v (w ++ x) y)) ∙ braced_toks u (v ++ (w ++ x)) y a b)) (strong_wrapped inside)
-alone ss u v w x y a h (inr k) j b =
+alone ss u v w x y a h (inr (k, l)) j b =
     let ps = print.stmts (stmts_of ss) in
     let inside = turns_more [] ps v (w ++ x) (turns_none h) (subst (λ z. PTurns z (w ++ x)) (append-nil ps) (turns_more ps [] w x k (turns_none j))) in
     subst (λ z. PStrong (print.block (stmts_of ss)) (u ++ z)) (append_assoc v (w ++ x) y) (in_blocks ps u ((v ++ (w ++ x)) ++ y) a (closes_turns ps (v ++ (w ++ x)) y b inside))
 
-and_true : (x : Bool) → (x && true) ≡ x
-and_true true = refl
-and_true false = refl
+-- the tokens of a body lack the word, where those of its population do
+abbrev Lacking : List Tok → List Tok → Type 0
+Lacking w ts = has_population w ≡ false → has_population ts ≡ false
 
-body_is : (i p f : List StmtTerm) (u v w x y : List Tok) → tc u ≡ OpenBrace ∷ [] → PStrong (printed.section class.InitWord (stmts_of i)) v → Population w p → PStrong (printed.section class.EndWord (stmts_of f)) x → tc y ≡ CloseBrace ∷ []
-    → PWide (body_slack (record { init = i; population = p; finish = f })) (body_pieces (record { init = i; population = p; finish = f })) (u ++ (v ++ ((w ++ x) ++ y)))
-body_is [] p [] u v w x y a h k j b = wide_strong (slack (has_statements (stmts_of p) && false)) (alone p u v w x y a h k j b)
-body_is (s ∷ i) p f u v w x y a h k j b =
-    subst (λ z. PWide (slack z) (body_pieces (record { init = s ∷ i; population = p; finish = f })) (u ++ (v ++ ((w ++ x) ++ y)))) (sym (and_true (has_statements (stmts_of p))))
-    (among_all (slack (has_statements (stmts_of p))) (printed.section class.InitWord (stmts_of (s ∷ i))) (printed.section class.PopulationWord (stmts_of p)) (printed.section class.EndWord (stmts_of f)) u v w x y a h (among p w k) j b)
-body_is [] p (s ∷ f) u v w x y a h k j b =
-    subst (λ z. PWide (slack z) (body_pieces (record { init = []; population = p; finish = s ∷ f })) (u ++ (v ++ ((w ++ x) ++ y)))) (sym (and_true (has_statements (stmts_of p))))
-    (among_all (slack (has_statements (stmts_of p))) (printed.section class.InitWord (stmts_of [])) (printed.section class.PopulationWord (stmts_of p)) (printed.section class.EndWord (stmts_of (s ∷ f))) u v w x y a h (among p w k) j b)
+body_is : (i p f : List StmtTerm) (u v w x y : List Tok) → tc u ≡ OpenBrace ∷ [] → PStrong (printed.section class.InitWord (stmts_of i)) v → Population w p → PStrong (printed.section class.EndWord (stmts_of f)) x → tc y ≡ CloseBrace ∷ [] → Lacking w (u ++ (v ++ ((w ++ x) ++ y)))
+    → PWide (body_slack (record { init = i; population = p; finish = f }) (u ++ (v ++ ((w ++ x) ++ y)))) (body_pieces (record { init = i; population = p; finish = f })) (u ++ (v ++ ((w ++ x) ++ y)))
+body_is [] p [] u v w x y a h k j b l = wide_strong (body_slack (record { init = []; population = p; finish = [] }) (u ++ (v ++ ((w ++ x) ++ y)))) (alone p u v w x y a h k j b)
+body_is (s ∷ i) p f u v w x y a h k j b l =
+    let e = body_slack (record { init = s ∷ i; population = p; finish = f }) (u ++ (v ++ ((w ++ x) ++ y))) in
+    among_all e (printed.section class.InitWord (stmts_of (s ∷ i))) (printed.section class.PopulationWord (stmts_of p)) (printed.section class.EndWord (stmts_of f)) u v w x y a h (among e p w k (λ some lack. λ n. slack ((some n && true) && not (l lack n)))) j b
+body_is [] p (s ∷ f) u v w x y a h k j b l =
+    let e = body_slack (record { init = []; population = p; finish = s ∷ f }) (u ++ (v ++ ((w ++ x) ++ y))) in
+    among_all e (printed.section class.InitWord (stmts_of [])) (printed.section class.PopulationWord (stmts_of p)) (printed.section class.EndWord (stmts_of (s ∷ f))) u v w x y a h (among e p w k (λ some lack. λ n. slack ((some n && true) && not (l lack n)))) j b
 
 abbrev BodyIs : List Tok → Body → Type 0
-BodyIs ts b = PSpare (body_slack b) (body_pieces b) ts
+BodyIs ts b = PSpare (body_slack b ts) (body_pieces b) ts
 
 -- the clauses of a mapping: all but the condition open and close nothing
 abbrev WhenIs : List Tok → Option ExprTerm → Type 0
@@ -196,7 +207,45 @@ init_or_none word ts (Some ss) h = h
 
 -- a unit, which may get a block
 abbrev pub UnitIs : List Tok → UnitTerm → Type 0
-UnitIs ts u = PWide (slack (gets_block u)) (printed.unit u) ts
+UnitIs ts u = PWide (slack (gets_block ts u)) (printed.unit u) ts
+
+-- the last token, after others
+ends_append : (b : Bool) (x y : List Tok) → ends_in_semicolon b (x ++ y) ≡ ends_in_semicolon (ends_in_semicolon b x) y
+ends_append b [] y = refl
+ends_append b (t ∷ x) y = ends_append (is_semicolon t.class) x y
+
+-- the body of a helper, after whatever tokens
+abbrev Ended : List Piece → List Tok → Type 0
+Ended ps ts = (b : Bool) → PWide (slack (ends_in_semicolon b ts)) ps ts
+
+ended_after : (ps qs : List Piece) (x y : List Tok) → PStrong ps x → Ended qs y → Ended (ps ++ qs) (x ++ y)
+ended_after ps qs x y h k b =
+    let e = ends_in_semicolon b x in
+    subst (λ z. PWide (slack z) (ps ++ qs) (x ++ y)) (sym (ends_append b x y)) (wide_after (slack (ends_in_semicolon e y)) ps qs x y h (k e))
+
+g_last : Gives (λ ts t. QuietToks ts × ((b : Bool) → ends_in_semicolon b ts ≡ true)) (the Semicolon)
+g_last = record {
+  all = λ ts t rd. ((q_the Semicolon (λ f s. refl)).all ts t rd, (λ b. subst (λ z. ends_in_semicolon b z ≡ true) (sym rd.0) (ap is_semicolon (same_class Semicolon t rd.1))));
+}
+
+-- the body of a mapping, after tokens that lack the word
+open_same : (b : Bool) (x y : List Tok) → has_population x ≡ false → block_slack b (x ++ y) ≡ block_slack b y
+open_same b x y l = ap (λ z. slack (b && not z)) (lacks_front x y l)
+
+spare_open : (b : Bool) (ps qs : List Piece) (x y : List Tok) → PStrong ps x → has_population x ≡ false → PSpare (block_slack b y) qs y → PSpare (block_slack b (x ++ y)) (ps ++ qs) (x ++ y)
+spare_open b ps qs x y h l k = subst (λ z. PSpare z (ps ++ qs) (x ++ y)) (sym (open_same b x y l)) (spare_after (block_slack b y) ps qs x y h k)
+
+wide_open : (b : Bool) (ps qs : List Piece) (x y : List Tok) → PStrong ps x → has_population x ≡ false → PWide (block_slack b y) qs y → PWide (block_slack b (x ++ y)) (ps ++ qs) (x ++ y)
+wide_open b ps qs x y h l k = subst (λ z. PWide z (ps ++ qs) (x ++ y)) (sym (open_same b x y l)) (wide_after (block_slack b y) ps qs x y h k)
+
+room_open : (b : Bool) (ps qs : List Piece) (x y : List Tok) → PStrong ps x → Room (tc x) → has_population x ≡ false → PSpare (block_slack b y) qs y → PWide (block_slack b (x ++ y)) (ps ++ qs) (x ++ y)
+room_open b ps qs x y h r l k = subst (λ z. PWide z (ps ++ qs) (x ++ y)) (sym (open_same b x y l)) (room_after (block_slack b y) ps qs x y h r k)
+
+abbrev AndLacks : {A : Type 0} → (List Tok → A → Type 0) → List Tok → A → Type 0
+AndLacks p ts a = p ts a × (has_population ts ≡ false)
+
+g_lacks : {A : Type 0} {p : List Tok → A → Type 0} {l : Language Tok A} → Gives p l → Lacks l → Gives (AndLacks p) l
+g_lacks h k = record { all = λ ts a rd. (h.all ts a rd, k.all ts a rd) }
 
 quiet_one : {c : Class} (ts : List Tok) → Still c → tc ts ≡ c ∷ [] → QuietToks ts
 quiet_one ts k e = subst AllStill (sym e) (k, tt)
@@ -204,7 +253,7 @@ quiet_one ts k e = subst AllStill (sym e) (k, tt)
 closing_round : Closing CloseRound
 closing_round f s = refl
 
-module _ {i : Nested} (h : GivesNested i) where
+module _ {i : Nested} (h : GivesNested i) (lacks : LacksNested i) where
   s_param : Prints printed.typed_name (param i)
   unfolding param
   s_param = g_made (λ ts p. PStrong (printed.typed_name p) ts) param_of (g_placed (g_then (λ ts a. PStrong (piece.Name a.1.0.text ∷ print.typed a.1.1) ts) (q_maybe (q_the InWord (λ f s. refl)))
@@ -268,39 +317,40 @@ module _ {i : Nested} (h : GivesNested i) where
       (λ u v w ss x y. quiet_both (piece.Plain class.MainWord ∷ []) (main_pieces ss) u v ((λ f s. refl), tt) x y))) (λ ts a x. wide_strong 0 x)
 
   abbrev HelperBody : List Tok → List StmtTerm → Type 0
-  HelperBody ts ss = PWide (slack (is_return (stmts_of ss))) (print.block (stmts_of ss)) ts
+  HelperBody ts ss = Ended (print.block (stmts_of ss)) ts
 
-  returned : (u v w : List Tok) (t : Tok) (e : ExprTerm) → tc u ≡ EqualSign ∷ [] → POver true (print.expr e) v → QuietToks w → HelperBody ((u ++ v) ++ w) (return_body (t, e))
-  returned u v w t e a x q =
+  returned : (u v w : List Tok) (t : Tok) (e : ExprTerm) → tc u ≡ EqualSign ∷ [] → POver true (print.expr e) v → QuietToks w → ((b : Bool) → ends_in_semicolon b w ≡ true) → HelperBody ((u ++ v) ++ w) (return_body (t, e))
+  returned u v w t e a x q last b =
       let inside = print.ended (piece.Plain class.ReturnWord ∷ print.expr e) in
       let front = word_before true class.ReturnWord class.EqualSign (print.expr e) u v ((λ f s. refl), refl) ((λ f s. refl), refl) a x in
       let whole = strong_more (piece.Plain class.ReturnWord ∷ print.expr e) (print.one class.Semicolon) (u ++ v) w front (quiet_strong (print.one class.Semicolon) w ((λ f s. refl), tt) q) in
-      subst (λ z. Wide 1 z (tc ((u ++ v) ++ w))) (sym (block_pieces (piece.Line ∷ (inside ++ [])))) (wide_braces (subst (λ z. PStrong z ((u ++ v) ++ w)) (sym (append-nil inside)) whole))
+      let one_more = subst (λ z. Wide 1 z (tc ((u ++ v) ++ w))) (sym (block_pieces (piece.Line ∷ (inside ++ [])))) (wide_braces (subst (λ z. PStrong z ((u ++ v) ++ w)) (sym (append-nil inside)) whole)) in
+      subst (λ z. PWide (slack z) (print.block (stmts_of (return_body (t, e)))) ((u ++ v) ++ w)) (sym (ends_append b (u ++ v) w ∙ last (ends_in_semicolon b (u ++ v)))) one_more
 
   g_helper_body : Gives HelperBody (helper_body i)
   unfolding helper_body
   g_helper_body = g_either
       (g_made HelperBody return_body (g_first (λ ts a. HelperBody ts (return_body a))
       (g_then (λ ts a. (u : List Tok) × (v : List Tok) × (ts ≡ u ++ v) × (tc u ≡ EqualSign ∷ []) × POver true (print.expr a.1) v) (g_the EqualSign) (o_expr h) (λ u v t e x y. (u, v, refl, x.0, y)))
-      (q_the Semicolon (λ f s. refl)) (λ u v a b x y. subst (λ z. HelperBody (z ++ v) (return_body a)) (sym x.2) (returned x.0 x.1 v a.0 a.1 x.3 x.4 y))) (λ ts a x. x))
-      (g_weaker h.block HelperBody (λ ts ss x. wide_strong (slack (is_return (stmts_of ss))) x))
+      g_last (λ u v a b x y. subst (λ z. HelperBody (z ++ v) (return_body a)) (sym x.2) (returned x.0 x.1 v a.0 a.1 x.3 x.4 y.0 y.1))) (λ ts a x. x))
+      (g_weaker h.block HelperBody (λ ts ss x b. wide_strong (slack (ends_in_semicolon b ts)) x))
 
   s_maybe_type : Prints print.typed_if (maybe (colon_type i))
   s_maybe_type = s_maybe print.typed (λ t. print.typed_if t) refl (λ t. refl) (s_colon_type h)
 
   g_helper_unit : Gives UnitIs (helper_unit i)
   unfolding helper_unit
-  g_helper_unit = g_made UnitIs helper_of (g_then (λ ts a. UnitIs ts (helper_of a)) (q_either (q_the HelperWord (λ f s. refl)) (q_the QueryWord (λ f s. refl)))
-      (g_then (λ ts a. PWide (slack (is_return (stmts_of a.1.1.1))) (printed.signature a.0.names a.1.0 ++ (print.typed_if a.1.1.0 ++ print.block (stmts_of a.1.1.1))) ts) q_unit_path
-      (g_then (λ ts a. PWide (slack (is_return (stmts_of a.1.1))) (print.in_round (printed.params a.0) ++ (print.typed_if a.1.0 ++ print.block (stmts_of a.1.1))) ts) s_params
-      (g_then (λ ts a. PWide (slack (is_return (stmts_of a.1))) (print.typed_if a.0 ++ print.block (stmts_of a.1)) ts) s_maybe_type g_helper_body
-      (λ u v t ss x y. wide_after (slack (is_return (stmts_of ss))) (print.typed_if t) (print.block (stmts_of ss)) u v x y))
-      (λ u v ps a x y. wide_after (slack (is_return (stmts_of a.1))) (print.in_round (printed.params ps)) (print.typed_if a.0 ++ print.block (stmts_of a.1)) u v x.0 y))
+  g_helper_unit = g_made UnitIs helper_of (g_then (λ ts a. Ended (printed.unit (helper_of a)) ts) (q_either (q_the HelperWord (λ f s. refl)) (q_the QueryWord (λ f s. refl)))
+      (g_then (λ ts a. Ended (printed.signature a.0.names a.1.0 ++ (print.typed_if a.1.1.0 ++ print.block (stmts_of a.1.1.1))) ts) q_unit_path
+      (g_then (λ ts a. Ended (print.in_round (printed.params a.0) ++ (print.typed_if a.1.0 ++ print.block (stmts_of a.1.1))) ts) s_params
+      (g_then (λ ts a. Ended (print.typed_if a.0 ++ print.block (stmts_of a.1)) ts) s_maybe_type g_helper_body
+      (λ u v t ss x y. ended_after (print.typed_if t) (print.block (stmts_of ss)) u v x y))
+      (λ u v ps a x y. ended_after (print.in_round (printed.params ps)) (print.typed_if a.0 ++ print.block (stmts_of a.1)) u v x.0 y))
       (λ u v p a x y. let rest = print.typed_if a.1.0 ++ print.block (stmts_of a.1.1) in
-      subst (λ z. PWide (slack (is_return (stmts_of a.1.1))) z (u ++ v)) (sym (append_assoc (print.names p.names) (print.in_round (printed.params a.0)) rest))
-      (wide_after (slack (is_return (stmts_of a.1.1))) (print.names p.names) (print.in_round (printed.params a.0) ++ rest) u v (quiet_strong (print.names p.names) u (still_names p.names) x) y)))
-      (λ u v w a x y. wide_after (slack (is_return (stmts_of a.1.1.1))) (piece.Plain (words.helper_word (is_query w.class)) ∷ []) (printed.signature a.0.names a.1.0 ++ (print.typed_if a.1.1.0 ++ print.block (stmts_of a.1.1.1))) u v
-      (quiet_strong (piece.Plain (words.helper_word (is_query w.class)) ∷ []) u (still_helper (is_query w.class), tt) x) y)) (λ ts a x. x)
+      subst (λ z. Ended z (u ++ v)) (sym (append_assoc (print.names p.names) (print.in_round (printed.params a.0)) rest))
+      (ended_after (print.names p.names) (print.in_round (printed.params a.0) ++ rest) u v (quiet_strong (print.names p.names) u (still_names p.names) x) y)))
+      (λ u v w a x y. ended_after (piece.Plain (words.helper_word (is_query w.class)) ∷ []) (printed.signature a.0.names a.1.0 ++ (print.typed_if a.1.1.0 ++ print.block (stmts_of a.1.1.1))) u v
+      (quiet_strong (piece.Plain (words.helper_word (is_query w.class)) ∷ []) u (still_helper (is_query w.class), tt) x) y)) (λ ts a x. x false)
 
   g_constructor_unit : Gives UnitIs (constructor_unit i)
   unfolding constructor_unit
@@ -352,33 +402,45 @@ module _ {i : Nested} (h : GivesNested i) where
   unfolding end_part
   s_end_part = g_second (λ ts ss. PStrong (printed.section class.EndWord (stmts_of ss)) ts) (q_the EndWord (λ f s. refl)) h.block (λ u v w ss x y. section_is class.EndWord ss u v (λ f s. refl) x y)
 
+  abbrev EndIs : List Tok → Option (List StmtTerm) → Type 0
+  EndIs ts ss = PStrong (printed.section class.EndWord (stmts_of (stmts_or_none ss))) ts
+
   abbrev EndOrNone : List Tok → Option (List StmtTerm) → Type 0
-  EndOrNone ts ss = PStrong (printed.section class.EndWord (stmts_of (stmts_or_none ss))) ts
+  EndOrNone = AndLacks EndIs
 
   g_maybe_end : Gives EndOrNone (maybe (end_part i))
-  g_maybe_end = g_weaker (g_maybe s_end_part) EndOrNone (λ ts ss x. init_or_none class.EndWord ts ss x)
+  g_maybe_end = g_lacks (g_weaker (g_maybe s_end_part) EndIs (λ ts ss x. init_or_none class.EndWord ts ss x)) (l_maybe (l_end_part lacks))
 
   g_end_unless : (b : Bool) → Gives EndOrNone (end_unless i b)
-  g_end_unless true = g_made EndOrNone no_end g_empty (λ ts a e. subst (PStrong []) (sym e) (quiet_strong [] [] tt tt))
+  g_end_unless true = g_lacks (g_made EndIs no_end g_empty (λ ts a e. subst (PStrong []) (sym e) (quiet_strong [] [] tt tt))) (l_end_unless lacks true)
   g_end_unless false = g_maybe_end
 
   g_sections : Gives SectionsAre (sections i)
   unfolding sections
   g_sections = g_either
       (g_made SectionsAre sections_of (g_second (λ ts a. SectionsAre ts (sections_of a)) (q_the PopulationWord (λ f s. refl)) (g_split h.block g_maybe_end)
-      (λ u v w a x y. record { front = u ++ y.0; back = y.1; same = ap (λ z. u ++ z) y.2 ∙ sym (append_assoc u y.0 y.1); population = inl (quiet_right (print.block (stmts_of a.0)) u y.0 x y.3); finish = y.4 })) (λ ts a x. x))
-      (g_made SectionsAre open_sections_of (g_follow (λ ts a. SectionsAre ts (open_sections_of a)) (g_statements h) (λ x. g_end_unless x.open_end)
-      (λ u v x e y z. record { front = u; back = v; same = refl; population = inr y; finish = z })) (λ ts a x. x))
+      (λ u v w a x y. record { front = u ++ y.0; back = y.1; same = ap (λ z. u ++ z) y.2 ∙ sym (append_assoc u y.0 y.1); population = inl (quiet_right (print.block (stmts_of a.0)) u y.0 x y.3); finish = y.4.0; lacks = y.4.1 })) (λ ts a x. x))
+      (g_made SectionsAre open_sections_of (g_follow (λ ts a. SectionsAre ts (open_sections_of a)) (g_lacks (g_statements h) (l_statements lacks)) (λ x. g_end_unless x.open_end)
+      (λ u v x e y z. record { front = u; back = v; same = refl; population = inr y; finish = z.0; lacks = z.1 })) (λ ts a x. x))
+
+  abbrev InitOrNone : List Tok → Option (List StmtTerm) → Type 0
+  InitOrNone = AndLacks (λ ts ss. PStrong (printed.section class.InitWord (stmts_of (stmts_or_none ss))) ts)
+
+  g_maybe_init : Gives InitOrNone (maybe (init_part i))
+  g_maybe_init = g_lacks (g_weaker (g_maybe s_init_part) (λ ts ss. PStrong (printed.section class.InitWord (stmts_of (stmts_or_none ss))) ts) (λ ts ss x. init_or_none class.InitWord ts ss x)) (l_maybe (l_init_part lacks))
+
+  body_lacks : (u v w x y : List Tok) → has_population u ≡ false → has_population v ≡ false → has_population x ≡ false → has_population y ≡ false → Lacking w (u ++ (v ++ ((w ++ x) ++ y)))
+  body_lacks u v w x y a b c d k = lacks_both u (v ++ ((w ++ x) ++ y)) a (lacks_both v ((w ++ x) ++ y) b (lacks_both (w ++ x) y (lacks_both w x k c) d))
 
   g_body : Gives BodyIs (body i)
   unfolding body
   g_body = g_either
       (g_made BodyIs empty_body (g_the Semicolon) (λ ts t x. subst (Spare 0 (class.OpenBrace ∷ class.CloseBrace ∷ [])) (sym x.0) spare_empty))
-      (g_made BodyIs body_of (g_weaker (g_split (g_the OpenBrace) (g_split (g_weaker (g_maybe s_init_part) (λ ts ss. PStrong (printed.section class.InitWord (stmts_of (stmts_or_none ss))) ts) (λ ts ss x. init_or_none class.InitWord ts ss x)) (g_split g_sections (g_the CloseBrace))))
+      (g_made BodyIs body_of (g_weaker (g_split (g_lacks (g_the OpenBrace) (l_the OpenBrace refl)) (g_split g_maybe_init (g_split g_sections (g_lacks (g_the CloseBrace) (l_the CloseBrace refl)))))
       (λ ts a. BodyIs ts (body_of a))
       (λ ts a x. let y = x.4 in let z = y.4 in let s = z.3 in
-      subst (PSpare (body_slack (body_of a)) (body_pieces (body_of a))) (sym (x.2 ∙ ap (λ w. x.0 ++ w) (y.2 ∙ ap (λ w. y.0 ++ w) (z.2 ∙ ap (λ w. w ++ z.1) s.same))))
-      (spare_wide (body_slack (body_of a)) (body_is (stmts_or_none a.1.0) a.1.1.0.0 a.1.1.0.1 x.0 y.0 s.front s.back z.1 x.3.0 y.3 s.population s.finish z.4.0)))) (λ ts a x. x))
+      subst (λ w. BodyIs w (body_of a)) (sym (x.2 ∙ ap (λ w. x.0 ++ w) (y.2 ∙ ap (λ w. y.0 ++ w) (z.2 ∙ ap (λ w. w ++ z.1) s.same))))
+      (spare_wide (body_slack (body_of a) (x.0 ++ (y.0 ++ ((s.front ++ s.back) ++ z.1)))) (body_is (stmts_or_none a.1.0) a.1.1.0.0 a.1.1.0.1 x.0 y.0 s.front s.back z.1 x.3.0.0 y.3.0 s.population s.finish z.4.0.0 (body_lacks x.0 y.0 s.front s.back z.1 x.3.1 y.3.1 s.lacks z.4.1))))) (λ ts a x. x))
 
   -- what stands between the parameters and the body
   abbrev extra_pieces : Clauses → List Piece
@@ -398,19 +460,19 @@ module _ {i : Nested} (h : GivesNested i) where
 
   g_mapping_unit : Gives UnitIs (mapping_unit i)
   unfolding mapping_unit
-  g_mapping_unit = g_made UnitIs mapping_of (g_second (λ ts a. UnitIs ts (mapping_of a)) (q_the MappingWord (λ f s. refl))
-      (g_then (λ ts a. PWide (body_slack a.1.1.1.1) (printed.signature a.0.names a.1.0 ++ tail_pieces a.1.1) ts) q_unit_path
-      (g_then (λ ts a. PWide (body_slack a.1.1.1) (print.in_round (printed.params a.0) ++ tail_pieces a.1) ts) s_params
-      (g_then (λ ts a. PSpare (body_slack a.1.1) (tail_pieces a) ts) (q_maybe q_result_decl)
-      (g_then (λ ts a. PSpare (body_slack a.1) (extra_pieces a.0 ++ body_pieces a.1) ts) (g_clauses 4 no_clauses) g_body
-      (λ u v c b x y. spare_after (body_slack b) (extra_pieces c) (body_pieces b) u v (extras_are c u (x [] (quiet_strong [] [] tt tt))) y))
-      (λ u v r a x y. spare_after (body_slack a.1) (printed.result_if r) (extra_pieces a.0 ++ body_pieces a.1) u v (quiet_strong (printed.result_if r) u (still_result r) x) y))
-      (λ u v ps a x y. room_after (body_slack a.1.1) (print.in_round (printed.params ps)) (tail_pieces a) u v x.0 x.1 y))
-      (λ u v p a x y. subst (λ z. PWide (body_slack a.1.1.1) z (u ++ v)) (sym (append_assoc (print.names p.names) (print.in_round (printed.params a.0)) (tail_pieces a.1)))
-      (wide_after (body_slack a.1.1.1) (print.names p.names) (print.in_round (printed.params a.0) ++ tail_pieces a.1) u v (quiet_strong (print.names p.names) u (still_names p.names) x) y)))
-      (λ u v w a x y. wide_after (body_slack a.1.1.1.1) (piece.Plain class.MappingWord ∷ []) (printed.signature a.0.names a.1.0 ++ tail_pieces a.1.1) u v (quiet_strong (piece.Plain class.MappingWord ∷ []) u ((λ f s. refl), tt) x) y)) (λ ts a x. x)
+  g_mapping_unit = g_made UnitIs mapping_of (g_second (λ ts a. UnitIs ts (mapping_of a)) (g_lacks (q_the MappingWord (λ f s. refl)) (l_the MappingWord refl))
+      (g_then (λ ts a. PWide (block_slack (may a.1.1.1.1) ts) (printed.signature a.0.names a.1.0 ++ tail_pieces a.1.1) ts) (g_lacks q_unit_path l_unit_path)
+      (g_then (λ ts a. PWide (block_slack (may a.1.1.1) ts) (print.in_round (printed.params a.0) ++ tail_pieces a.1) ts) (g_lacks s_params (l_params lacks))
+      (g_then (λ ts a. PSpare (block_slack (may a.1.1) ts) (tail_pieces a) ts) (g_lacks (q_maybe q_result_decl) (l_maybe l_result_decl))
+      (g_then (λ ts a. PSpare (block_slack (may a.1) ts) (extra_pieces a.0 ++ body_pieces a.1) ts) (g_lacks (g_clauses 4 no_clauses) (l_clauses lacks 4 no_clauses)) g_body
+      (λ u v c b x y. spare_open (may b) (extra_pieces c) (body_pieces b) u v (extras_are c u (x.0 [] (quiet_strong [] [] tt tt))) x.1 y))
+      (λ u v r a x y. spare_open (may a.1) (printed.result_if r) (extra_pieces a.0 ++ body_pieces a.1) u v (quiet_strong (printed.result_if r) u (still_result r) x.0) x.1 y))
+      (λ u v ps a x y. room_open (may a.1.1) (print.in_round (printed.params ps)) (tail_pieces a) u v x.0.0 x.0.1 x.1 y))
+      (λ u v p a x y. subst (λ z. PWide (block_slack (may a.1.1.1) (u ++ v)) z (u ++ v)) (sym (append_assoc (print.names p.names) (print.in_round (printed.params a.0)) (tail_pieces a.1)))
+      (wide_open (may a.1.1.1) (print.names p.names) (print.in_round (printed.params a.0) ++ tail_pieces a.1) u v (quiet_strong (print.names p.names) u (still_names p.names) x.0) x.1 y)))
+      (λ u v w a x y. wide_open (may a.1.1.1.1) (piece.Plain class.MappingWord ∷ []) (printed.signature a.0.names a.1.0 ++ tail_pieces a.1.1) u v (quiet_strong (piece.Plain class.MappingWord ∷ []) u ((λ f s. refl), tt) x.0) x.1 y)) (λ ts a x. x)
 
-  g_unit : Gives UnitIs (unit i)
+  pub g_unit : Gives UnitIs (unit i)
   unfolding unit
   g_unit = g_either g_class_unit (g_either g_main_unit (g_either g_constructor_unit (g_either g_mapping_unit g_helper_unit)))
 
@@ -442,7 +504,7 @@ i_uri = g_either (i_quiet (q_made text_of (q_the Str (λ f s. refl))))
     (λ u v w b t c x y z. strong_drop (in_brackets [] u (v ++ w) x.0 (closes_after true false CloseRound [] v w closing_round z.0 (over_strong true y)))))
     (λ u v a b x y. strong_more [] [] u v x y))
 
-s_model_type : Prints printed.model_type model_type
+pub s_model_type : Prints printed.model_type model_type
 unfolding model_type
 s_model_type = g_made (λ ts t. PStrong (printed.model_type t) ts) model_type_of
     (g_placed (i_made second (i_then (i_quiet (q_the ModelTypeWord (λ f s. refl))) (i_then (i_quiet q_name) (i_made second (i_then (i_quiet (q_maybe q_strictness)) uses))))))
@@ -471,13 +533,13 @@ unfolding model_param
 q_model_param = q_made model_param_of (q_then (q_either (q_the InWord (λ f s. refl)) (q_either (q_the OutWord (λ f s. refl)) (q_the InoutWord (λ f s. refl)))) (q_then q_name (q_made second (q_then (q_the Colon (λ f s. refl)) q_name))))
 
 -- the brackets of a header, and its end
-abbrev header_end : List ModelParam → List Piece
+abbrev pub header_end : List ModelParam → List Piece
 header_end ps = print.in_round (printed.model_params ps) ++ print.one class.Semicolon
 
-abbrev header_pieces : List ℕ × List ModelParam → List Piece
+abbrev pub header_pieces : List ℕ × List ModelParam → List Piece
 header_pieces a = piece.Plain class.TransformationWord ∷ piece.Name a.0 ∷ header_end a.1
 
-s_header : Prints header_pieces header
+pub s_header : Prints header_pieces header
 unfolding header
 s_header = g_second (λ ts a. PStrong (header_pieces a) ts) (q_the TransformationWord (λ f s. refl))
     (g_then (λ ts a. PStrong (piece.Name a.0 ∷ header_end a.1) ts) (q_made text_of (q_the Name (λ f s. refl)))
@@ -490,49 +552,3 @@ s_header = g_second (λ ts a. PStrong (header_pieces a) ts) (q_the Transformatio
     (quiet_strong (print.one class.Semicolon) z.1 ((λ f s. refl), tt) z.4)))))
     (λ u v n ps x y. quiet_both (piece.Name n ∷ []) (header_end ps) u v ((λ f s. refl), tt) x y))
     (λ u v w a x y. quiet_both (piece.Plain class.TransformationWord ∷ []) (piece.Name a.0 ∷ header_end a.1) u v ((λ f s. refl), tt) x y)
-
--- the units
-abbrev pub Enough : ℕ → List UnitTerm → Type 0
-Enough e [] = Unit {0}
-Enough e (u ∷ us) = (slack (gets_block u) ≤ e) × Enough e us
-
-abbrev UnitsAre : List Tok → List UnitTerm → Type 0
-UnitsAre ts us = (e : ℕ) → Enough e us → PWide e (printed.units us) ts
-
-enough_front : (e : ℕ) (us vs : List UnitTerm) → Enough e (us ++ vs) → Enough e us
-enough_front e [] vs h = tt
-enough_front e (u ∷ us) vs h = (h.0, enough_front e us vs h.1)
-
-enough_back : (e : ℕ) (us vs : List UnitTerm) → Enough e (us ++ vs) → Enough e vs
-enough_back e [] vs h = h
-enough_back e (u ∷ us) vs h = enough_back e us vs h.1
-
-units_append : (us vs : List UnitTerm) → printed.units (us ++ vs) ≡ printed.units us ++ printed.units vs
-units_append [] vs = refl
-units_append (u ∷ us) vs = ap (λ z. printed.unit u ++ (piece.Line ∷ z)) (units_append us vs) ∙ sym (append_assoc (printed.unit u) (piece.Line ∷ printed.units us) (printed.units vs))
-
-no_units : (e : ℕ) → PWide e [] []
-no_units e = wide_strong e (quiet_strong [] [] tt tt)
-
-one_unit : (ts : List Tok) (u : UnitTerm) → UnitIs ts u → UnitsAre ts (u ∷ [])
-one_unit ts u h e k = subst (PWide e (printed.units (u ∷ []))) (append-nil ts) (wide_more e (printed.unit u) (piece.Line ∷ []) ts [] (wide_up (slack (gets_block u)) e k.0 h) (no_units e))
-
-more_units : (u v : List Tok) (us : List UnitTerm) (uss : List (List UnitTerm)) → UnitsAre u us → UnitsAre v (units_of uss) → UnitsAre (u ++ v) (us ++ units_of uss)
-more_units u v us uss h k e j = subst (λ z. PWide e z (u ++ v)) (sym (units_append us (units_of uss))) (wide_more e (printed.units us) (printed.units (units_of uss)) u v (h e (enough_front e us (units_of uss) j)) (k e (enough_back e us (units_of uss) j)))
-
-abbrev pub ModuleIs : List Tok → ModuleTerm → Type 0
-ModuleIs ts m = (e : ℕ) → Enough e m.units → PWide e (module_pieces m) ts
-
-module_is : (x y z : List Tok) (types : List ModelType) (head : List ℕ × List ModelParam) (uss : List (List UnitTerm)) → PStrong (printed.model_types types) x → PStrong (header_pieces head) y → UnitsAre z (units_of uss) → ModuleIs (x ++ (y ++ z)) (module_of (types, (head, uss)))
-unfolding module_pieces
-module_is x y z types head uss h k j e n = wide_after e (printed.model_types types) (header_pieces head ++ (piece.Line ∷ printed.units (units_of uss))) x (y ++ z) h (wide_after e (header_pieces head) (piece.Line ∷ printed.units (units_of uss)) y z k (j e n))
-
-pub g_transformation : {i : Nested} → GivesNested i → Gives ModuleIs (transformation i)
-unfolding transformation
-g_transformation h = g_made ModuleIs module_of
-    (g_weaker (g_split (s_many (λ t. printed.model_type t ++ (piece.Line ∷ [])) printed.model_types refl (λ t ts. sym (append_assoc (printed.model_type t) (piece.Line ∷ []) (printed.model_types ts))) typed) (g_split s_header
-    (g_many (λ ts uss. UnitsAre ts (units_of uss)) (g_either (g_made UnitsAre nothing (q_the Semicolon (λ f s. refl)) (λ ts t x e n. wide_strong e (quiet_idle ts x))) (g_made UnitsAre some_unit (g_unit h) (λ ts u x. one_unit ts u x))) (λ e n. no_units e) more_units)))
-    (λ ts a. ModuleIs ts (module_of a))
-    (λ ts a x. let y = x.4 in subst (λ z. ModuleIs z (module_of a)) (sym (x.2 ∙ ap (λ z. x.0 ++ z) y.2)) (module_is x.0 y.0 y.1 a.0 a.1.0 a.1.1 x.3 y.3 y.4))) (λ ts a x. x) where
-      typed : Prints (λ t. printed.model_type t ++ (piece.Line ∷ [])) model_type
-      typed = g_weaker s_model_type (λ ts t. PStrong (printed.model_type t ++ (piece.Line ∷ [])) ts) (λ ts t x. subst (PStrong (printed.model_type t ++ (piece.Line ∷ []))) (append-nil ts) (strong_more (printed.model_type t) (piece.Line ∷ []) ts [] x (quiet_strong (piece.Line ∷ []) [] tt tt)))

@@ -25,7 +25,7 @@ more_slack e d su st h = omega (arith, h)
 pub wide_strong : (e : ℕ) {us ts : List Class} → Strong us ts → Wide e us ts
 wide_strong e h = record { back_u = h.back_u; back_t = h.back_t; low = λ d fu ft su st j. h.low (e + d) fu ft su st (more_slack e d su st j) }
 
-below_up : (n m : ℕ) (f : Bool) (s : List Open) (us : List Class) → n ≤ m → Below n f s us → Below m f s us
+pub below_up : (n m : ℕ) (f : Bool) (s : List Open) (us : List Class) → n ≤ m → Below n f s us → Below m f s us
 below_up n m f s [] h k = omega (arith, h, k)
 below_up n m f s (c ∷ us) h k = (omega (arith, h, k.0), below_up n m (begins_statement c) (after f s c) us h k.1)
 

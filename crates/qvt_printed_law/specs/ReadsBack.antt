@@ -1,31 +1,34 @@
 -- The law that what is printed reads back.
-use Rattle.std.specs.Prelude.{◌≡◌, ◌≤◌, Bool, false, List, Result, Ok, Err}
-use Rattle.std.specs.List.{list_any}
-use Rattle.std.specs.Prelude.{ℕ}
+use Rattle.std.specs.Prelude.{◌≡◌, ℕ, List, None, Result, Ok, Err}
+use Rattle.qvt_base.specs.declared.numbers.Place.{Place}
 use Rattle.qvt_tree_types.specs.Module.{ModuleTerm}
 use Rattle.qvt_tree.specs.ModuleShape.{shape}
+use Rattle.qvt_parser_grammar.specs.Readers.{nowhere}
+use Rattle.qvt_parser_grammar.specs.Tokens.{Tok}
+use Rattle.qvt_parser_grammar.specs.Module.{Reads, with_end}
+use Rattle.qvt_parser_tokens.specs.Depth.{deep}
+use Rattle.qvt_parser_tokens.specs.Text.{HasTokens}
 use Rattle.qvt_parsed.specs.Parsing.{IsTransformation}
 use Rattle.qvt_parsed.specs.Parsed.{parsed}
 use Rattle.qvt_parsed.specs.declared.fault.ParseFault.{ParseFault}
 use Rattle.qvt_parsed.specs.declared.fault.ParseFault.TheVariants.{TooDeep}
 use Rattle.qvt_printer.specs.PrintText.{print_text}
+use Rattle.qvt_printed_tokens.specs.Told.{AllTold}
 use Rattle.qvt_printed_trees.specs.Printable.{IsPrintable}
-use Rattle.qvt_printed_depth.specs.Most.{most}
-use Rattle.qvt_printed_depth.specs.Law.{gets_block}
+use Rattle.qvt_printed_depth.specs.Law.{HasFullUnit}
 
--- a transformation of this shape
-abbrev pub HasShape : ModuleTerm → Result ModuleTerm ParseFault → Type 0
-HasShape m (Ok n) = shape n ≡ shape m
-HasShape m (Err fault) = ⊥
+-- what the printed text of a tree that these tokens are read as is read as: a tree of its shape, which has the same printed
+-- text; or the printed text is too deep, and then a unit that is printed with a block more had itself 64 items open
+abbrev pub IsReadBack : List Tok → ModuleTerm → Result ModuleTerm ParseFault → Type 0
+IsReadBack ts m (Ok n) = (shape n ≡ shape m) × (print_text n ≡ print_text m)
+IsReadBack ts m (Err (TooDeep place)) = HasFullUnit 64 ts m.units
+IsReadBack ts m (Err fault) = ⊥
 
--- one, or a text that is too deep
-abbrev pub HasShapeUnlessDeep : ModuleTerm → Result ModuleTerm ParseFault → Type 0
-HasShapeUnlessDeep m (Err (TooDeep place)) = Unit {0}
-HasShapeUnlessDeep m r = HasShape m r
-
--- the printed text of a printable transformation is read as one of its shape. It can be too deep only where a unit is printed
--- with a block that the text may not have, and the text has 64 items open at once
 pub record PrintedReadsBack : Type 0 where
-  pub back : (text : List ℕ) (m : ModuleTerm) → IsTransformation text m → IsPrintable m → HasShapeUnlessDeep m (parsed (print_text m))
-  pub same : (text : List ℕ) (m : ModuleTerm) → IsTransformation text m → IsPrintable m → list_any gets_block m.units ≡ false → HasShape m (parsed (print_text m))
-  pub room : (text : List ℕ) (m : ModuleTerm) (t : IsTransformation text m) → IsPrintable m → most t.tokens ≤ 63 → HasShape m (parsed (print_text m))
+  -- the printed text depends on the shape alone
+  pub text : (m n : ModuleTerm) → shape m ≡ shape n → print_text m ≡ print_text n
+  -- the printed text of a printable tree reads back, where its tokens are such as texts can say and not too deep
+  pub back : (ts : List Tok) (m : ModuleTerm) → AllTold ts → deep ts ≡ None → Reads ts (with_end nowhere m) → IsPrintable m → IsReadBack ts m (parsed (print_text m))
+  -- as those of a transformation's text are
+  pub told : (text : List ℕ) (ts : List Tok) (end : Place) → HasTokens text ts end → AllTold ts
+  pub transformation : (text : List ℕ) (m : ModuleTerm) (t : IsTransformation text m) → IsPrintable m → IsReadBack t.tokens m (parsed (print_text m))

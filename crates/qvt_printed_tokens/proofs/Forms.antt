@@ -6,8 +6,8 @@ use Rattle.qvt_parser_grammar.specs.Readers.{the, placed}
 use Rattle.qvt_parser_grammar.specs.Series.{left, right, series, finished, barring}
 use Rattle.qvt_parser_grammar.specs.declared.token.Class.{Class}
 use Rattle.qvt_parser_grammar.specs.declared.token.Class.TheVariants.{Name, Integer, Str}
-use Rattle.qvt_printed_tokens.proofs.Sound.{IsName, IsText, IsSmall}
-use Rattle.qvt_printed_tokens.proofs.Told.{AllTold, told_front, told_back}
+use Rattle.qvt_printed_tokens.specs.Told.{IsName, IsText, IsSmall, AllTold}
+use Rattle.qvt_printed_tokens.proofs.Told.{told_front, told_back}
 
 -- all that the language reads has p
 pub record Gives {A : Type 0} (p : A → Type 0) (l : Language Tok A) : Type 0 where

@@ -25,7 +25,8 @@ use Rattle.qvt_printer_layout.specs.Words as words
 use Rattle.qvt_printer.specs.Levels.{is_as_loose}
 use Rattle.qvt_printer.specs.Expressions as print
 use Rattle.qvt_printed_tokens.proofs.Meets.{Free, Held, Opened}
-use Rattle.qvt_printed_tokens.proofs.Sound.{IsName, Sound, held_free, free_opened, sound_append}
+use Rattle.qvt_printed_tokens.proofs.Sound.{Sound, held_free, free_opened, sound_append}
+use Rattle.qvt_printed_tokens.specs.Told.{IsName}
 use Rattle.qvt_printed_tokens.proofs.Forms.{AllOf, IfThere}
 
 -- what can stand anywhere, and what can stand after a token that holds nothing

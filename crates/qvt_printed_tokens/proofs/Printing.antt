@@ -2,17 +2,20 @@
 use Rattle.std.proofs.Common.{◌≡◌, ℕ, ◌<◌, List, [], ◌∷◌, ◌++◌, false, cond, ◌==◌, map, None, refl, sym, ap, ◌∙◌, subst, arith}
 use Rattle.std.proofs.lemmas.Bool.Decides.{nat_tests}
 use Rattle.std.specs.Str.{chars}
-use Rattle.qvt_lexer.specs.Division.{Position, TokenData, tokens_of, past, Reads, start_at, moved, first_place}
+use Rattle.qvt_lexer.specs.Division as division
+use Rattle.qvt_lexer.specs.Division.{Position, TokenData, tokens_of, past, start_at, moved, first_place}
 use Rattle.qvt_tree_types.specs.Module.{ModuleTerm}
 use Rattle.qvt_tree_types.specs.declared.module.ModelType.{ModelType}
 use Rattle.qvt_parser_grammar.specs.Tokens.{Tok}
 use Rattle.qvt_parser_grammar.specs.declared.token.Class.TheVariants as class
+use Rattle.qvt_parser_grammar.specs.Module.{Reads}
 use Rattle.qvt_parser_tokens.specs.Said.{said}
 use Rattle.qvt_printer_layout.specs.declared.piece.Piece.{Piece}
 use Rattle.qvt_printer_layout.specs.declared.piece.Piece.TheVariants.{Plain}
 use Rattle.qvt_printer.specs.Units.{model_types, module_pieces}
 use Rattle.qvt_printer.specs.PrintText.{print_text}
 use Rattle.qvt_printed_tokens.specs.Spelled.{unplaced, all_spelled}
+use Rattle.qvt_printed_tokens.specs.Told.{AllTold}
 use Rattle.qvt_printed_tokens.specs.Law.{HasSpelled, PrintedIsLexed}
 use Rattle.qvt_printed_tokens.proofs.Decoded.{one_byte}
 use Rattle.qvt_printed_tokens.proofs.Meets.{Free}
@@ -37,7 +40,7 @@ has_spelled text ts begins k = record {
   has = record {
     tokens = tokens_of first_place k.pieces;
     last = last;
-    reads = subst (λ z. Reads z last (tokens_of first_place k.pieces)) (sym begins) (record { pieces = k.pieces; divides = k.divides; tokens = refl; place = refl });
+    reads = subst (λ z. division.Reads z last (tokens_of first_place k.pieces)) (sym begins) (record { pieces = k.pieces; divides = k.divides; tokens = refl; place = refl });
     nothing = refl;
     place = refl;
     are = refl;
@@ -63,10 +66,13 @@ pieces_begin : (m : ModuleTerm) → BeginsAt (tail 0 None (module_pieces m))
 unfolding module_pieces
 pieces_begin m = module_begins m.model_types _
 
-pub printed_is_lexed : PrintedIsLexed
+lexed_again : (ts : List Tok) (m : ModuleTerm) → AllTold ts → Reads ts m → HasSpelled (print_text m) (all_spelled (module_pieces m))
 unfolding print_text
-printed_is_lexed text ts end m has reads =
-    let whole = (of_transformation (of_nested reads.nesting)).all ts m (all_told text ts end has) reads.reads in
+lexed_again ts m told reads =
+    let whole = (of_transformation (of_nested reads.nesting)).all ts m told reads.reads in
     let ps = module_pieces m in
     subst (λ z. HasSpelled z (all_spelled ps)) (sym (laid_out_is ps))
     (has_spelled (tail 0 None ps) (all_spelled ps) (pieces_begin m) (relexed ps Free 0 None (module_is m whole)))
+
+pub printed_is_lexed : PrintedIsLexed
+printed_is_lexed = record { lexed = lexed_again; told = all_told }

@@ -16,7 +16,8 @@ use Rattle.qvt_parser_grammar.specs.Trees.{second, first, cons_of, nothing, inne
 use Rattle.qvt_printer.specs.Expressions as print
 use Rattle.qvt_printer_layout.specs.declared.piece.Piece.TheVariants as piece
 use Rattle.qvt_parser_grammar.specs.declared.token.Class.TheVariants as class
-use Rattle.qvt_printed_tokens.proofs.Sound.{IsName, held_free}
+use Rattle.qvt_printed_tokens.proofs.Sound.{held_free}
+use Rattle.qvt_printed_tokens.specs.Told.{IsName}
 use Rattle.qvt_printed_tokens.proofs.Forms.{Gives, Any, Both, AllOf, IfThere, OneOf, each_any, each_name, each_integer, each_text, each_the, each_then, each_made, each_either, each_many, each_maybe, each_placed, each_weaker}
 use Rattle.qvt_printed_tokens.proofs.Parts as sound
 use Rattle.qvt_printed_tokens.proofs.Parts.{Closed, Follows, PathP, TypeP, VariableP, ExprP, ItemP, RangeP, MapP, ResolveP, FilterP, TargetP, StmtP}

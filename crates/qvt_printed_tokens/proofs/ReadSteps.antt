@@ -18,7 +18,8 @@ use Rattle.qvt_printer.specs.Levels.{is_as_loose, is_chain, is_chain_or_prefix}
 use Rattle.qvt_printer_layout.specs.declared.piece.Piece.{Piece}
 use Rattle.qvt_printer_layout.specs.declared.piece.Piece.TheVariants as piece
 use Rattle.qvt_parser_grammar.specs.declared.token.Class.TheVariants as class
-use Rattle.qvt_printed_tokens.proofs.Sound.{IsName, held_free}
+use Rattle.qvt_printed_tokens.proofs.Sound.{held_free}
+use Rattle.qvt_printed_tokens.specs.Told.{IsName}
 use Rattle.qvt_printed_tokens.proofs.Forms.{Gives, Both, AllOf, IfThere, OneOf, each_any, each_the, each_follow, each_then, each_made, each_either, each_many, each_maybe, each_placed, each_weaker, each_series}
 use Rattle.qvt_printed_tokens.proofs.Parts as sound
 use Rattle.qvt_printed_tokens.proofs.Parts.{Closed, Follows, PathP, TypeP, ExprP, LinkP, MapP, ResolveP, TargetP, StepP, AccumulatorP, StmtP}

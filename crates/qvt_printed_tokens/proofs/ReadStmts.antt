@@ -19,7 +19,8 @@ use Rattle.qvt_printer_layout.specs.Words as words
 use Rattle.qvt_printer_layout.specs.declared.piece.Piece.{Piece}
 use Rattle.qvt_printer_layout.specs.declared.piece.Piece.TheVariants as piece
 use Rattle.qvt_parser_grammar.specs.declared.token.Class.TheVariants as class
-use Rattle.qvt_printed_tokens.proofs.Sound.{IsName, held_free}
+use Rattle.qvt_printed_tokens.proofs.Sound.{held_free}
+use Rattle.qvt_printed_tokens.specs.Told.{IsName}
 use Rattle.qvt_printed_tokens.proofs.Forms.{Gives, Any, Both, AllOf, IfThere, OneOf, each_any, each_the, each_follow, each_then, each_made, each_either, each_many, each_maybe, each_placed, each_weaker, each_never, each_series, each_finished}
 use Rattle.qvt_printed_tokens.proofs.Parts as sound
 use Rattle.qvt_printed_tokens.proofs.Parts.{Closed, Follows, TypeP, ExprP, StepP, TargetP, StmtP, ArmP}

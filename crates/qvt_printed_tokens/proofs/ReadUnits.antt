@@ -24,7 +24,8 @@ use Rattle.qvt_printer_layout.specs.declared.piece.Piece.{Piece}
 use Rattle.qvt_printer_layout.specs.declared.piece.Piece.TheVariants as piece
 use Rattle.qvt_parser_grammar.specs.declared.token.Class.TheVariants as class
 use Rattle.qvt_printed_tokens.proofs.Meets.{Opened}
-use Rattle.qvt_printed_tokens.proofs.Sound.{IsName, IsText, held_free, free_opened, sound_append}
+use Rattle.qvt_printed_tokens.proofs.Sound.{held_free, free_opened, sound_append}
+use Rattle.qvt_printed_tokens.specs.Told.{IsName, IsText}
 use Rattle.qvt_printed_tokens.proofs.Forms.{Gives, Any, Both, AllOf, IfThere, each_any, each_name, each_text, each_the, each_follow, each_then, each_made, each_either, each_many, each_maybe, each_placed, each_barring, each_weaker}
 use Rattle.qvt_printed_tokens.proofs.Parts as sound
 use Rattle.qvt_printed_tokens.proofs.Parts.{Closed, Follows, PathP, TypeP, ExprP, StmtP}

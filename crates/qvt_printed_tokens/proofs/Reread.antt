@@ -31,7 +31,8 @@ use Rattle.qvt_printed_tokens.proofs.Decoded.{chars_of}
 use Rattle.qvt_printed_tokens.proofs.Scans.{scan_escaped, scan_number, scan_string, scan_single_last, scan_single, scan_double}
 use Rattle.qvt_printed_tokens.proofs.Spelt.{Kind, Named, Number, Text, Reserved, One, Two, kind_of, is_letter, Spelt, spelt}
 use Rattle.qvt_printed_tokens.proofs.Quotes.{is_low, low_bytes, shown, all_shown_bytes, shown_content, content_is}
-use Rattle.qvt_printed_tokens.proofs.Sound.{IsName, IsText, IsSmall, is_spelled}
+use Rattle.qvt_printed_tokens.proofs.Sound.{is_spelled}
+use Rattle.qvt_printed_tokens.specs.Told.{IsName, IsText, IsSmall}
 use Rattle.qvt_printed_tokens.proofs.Again.{EndsBy, Again, digits_not, plain_scan}
 use Rattle.qvt_printed_tokens.proofs.Names.{plain_name, held_name, held_bytes, some_name}
 

@@ -1,25 +1,13 @@
 -- Pieces that can be read again one by one: names are names, texts are characters, numbers are not too large, and no two
 -- neighbours run together.
-use Rattle.std.proofs.Common.{◌≡◌, ℕ, ℤ, pos, ◌≤◌, List, [], ◌∷◌, ◌++◌, Bool, true, false, ◌&&◌, refl}
-use Rattle.std.specs.Str.{encode_utf8_all}
-use Rattle.qvt_lexer.specs.Literals.{greatest_number}
-use Rattle.qvt_lexer.specs.Pieces.{IsPlainName}
+use Rattle.std.proofs.Common.{◌≡◌, List, [], ◌∷◌, ◌++◌, Bool, true, false, ◌&&◌, refl}
 use Rattle.qvt_parser_grammar.specs.declared.token.Class.{Class}
 use Rattle.qvt_parser_grammar.specs.declared.token.Class.TheVariants as class
 use Rattle.qvt_printer_layout.specs.declared.piece.Piece.{Piece}
 use Rattle.qvt_printer_layout.specs.declared.piece.Piece.TheVariants.{Plain, Name, Integer, Quoted, Tight, Line, Indent, Dedent}
+use Rattle.qvt_printed_tokens.specs.Told.{IsName, IsText, IsSmall}
 use Rattle.qvt_printed_tokens.proofs.Spelt.{Kind, Named, Number, Text, kind_of}
 use Rattle.qvt_printed_tokens.proofs.Meets.{Gap, Free, Held, Tied, Opened, after, fits, tightly}
-
--- the bytes of a name as it is written, reserved or not
-abbrev pub IsName : List ℕ → Type 0
-IsName n = (u : List ℕ) × (n ≡ encode_utf8_all u) × IsPlainName u
-
-abbrev pub IsText : List ℕ → Type 0
-IsText t = (u : List ℕ) × (t ≡ encode_utf8_all u)
-
-abbrev pub IsSmall : ℤ → Type 0
-IsSmall v = (n : ℕ) × (v ≡ pos n) × (n ≤ greatest_number)
 
 abbrev pub is_spelled : Kind → Bool
 is_spelled Named = false

@@ -1,5 +1,5 @@
 -- What the tokens of a text tell: names are names, texts are characters, numbers are not too large.
-use Rattle.std.proofs.Common.{◌≡◌, ℕ, pos, ◌<◌, List, [], ◌∷◌, ◌++◌, Bool, true, false, ◌||◌, ◌&&◌, ◌==◌, nat_le, inl, inr, refl, sym, ap, ◌∙◌, subst, arith, map, IsTrue}
+use Rattle.std.proofs.Common.{◌≡◌, ℕ, pos, ◌<◌, List, [], ◌∷◌, ◌++◌, Bool, true, false, ◌||◌, ◌&&◌, ◌==◌, nat_le, inl, inr, refl, sym, ap, ◌∙◌, subst, arith, map}
 use Rattle.std.proofs.lemmas.Bool.Decides.{nat_tests}
 use Rattle.std.proofs.lemmas.Slice.Eq.{bytes_eq-Decides}
 use Rattle.std.specs.Str.{chars, encode_utf8_all, bytes_eq}
@@ -14,25 +14,15 @@ use Rattle.qvt_lexer.specs.declared.token.TokenKind.{TokenKind}
 use Rattle.qvt_lexer.specs.declared.token.TokenKind.TheVariants as kinds
 use Rattle.qvt_lexer.specs.declared.scan.Piece as lexer
 use Rattle.qvt_lexer.specs.declared.scan.Piece.TheVariants.{Blank, Comment, Token}
-use Rattle.qvt_parser_grammar.specs.Tokens.{Tok, code_of, is}
-use Rattle.qvt_parser_grammar.specs.declared.token.Class.TheVariants.{Name, Integer, Str}
+use Rattle.qvt_parser_grammar.specs.Tokens.{Tok, code_of}
 use Rattle.qvt_parser_tokens.specs.Said.{said, name_of, string_of}
 use Rattle.qvt_parser_tokens.specs.Text.{HasTokens}
 use Rattle.qvt_parser_tokens.specs.WordClasses.{word_class}
 use Rattle.qvt_parser_tokens.specs.SymbolClasses.{symbol_class}
+use Rattle.qvt_printed_tokens.specs.Told.{IsTold, AllTold}
 use Rattle.qvt_printed_tokens.proofs.Tests.{both, is_number, single_small, double_small}
 use Rattle.qvt_printed_tokens.proofs.Decoded.{chars_of}
 use Rattle.qvt_printed_tokens.proofs.Names.{plain_name, held_name, held_bytes, some_name}
-use Rattle.qvt_printed_tokens.proofs.Sound.{IsName, IsText, IsSmall}
-
-pub record IsTold (t : Tok) : Type 0 where
-  pub name : IsTrue (is Name t) → IsName t.text
-  pub integer : IsTrue (is Integer t) → IsSmall t.number
-  pub text : IsTrue (is Str t) → IsText t.text
-
-abbrev pub AllTold : List Tok → Type 0
-AllTold [] = Unit {0}
-AllTold (t ∷ ts) = IsTold t × AllTold ts
 
 pub told_front : (u v : List Tok) → AllTold (u ++ v) → AllTold u
 told_front [] v h = tt

@@ -8,6 +8,7 @@ use Rattle.qvt_parser_tokens.specs.Text.{HasTokens}
 use Rattle.qvt_printer.specs.Units.{module_pieces}
 use Rattle.qvt_printer.specs.PrintText.{print_text}
 use Rattle.qvt_printed_tokens.specs.Spelled.{unplaced, all_spelled}
+use Rattle.qvt_printed_tokens.specs.Told.{AllTold}
 
 -- the text has tokens, and they are these but for their places
 pub record HasSpelled (text : List ℕ) (spelled : List Tok) : Type 0 where
@@ -16,6 +17,8 @@ pub record HasSpelled (text : List ℕ) (spelled : List Tok) : Type 0 where
   pub has : HasTokens text tokens end
   pub same : map unplaced tokens ≡ spelled
 
--- of each tree that the tokens of a text are read as, the printed text has the tokens of its pieces
-abbrev pub PrintedIsLexed : Type 0
-PrintedIsLexed = (text : List ℕ) (ts : List Tok) (end : Place) (m : ModuleTerm) → HasTokens text ts end → Reads ts m → HasSpelled (print_text m) (all_spelled (module_pieces m))
+pub record PrintedIsLexed : Type 0 where
+  -- the printed text of a tree that is read from tokens that texts can say has the tokens of its pieces
+  pub lexed : (ts : List Tok) (m : ModuleTerm) → AllTold ts → Reads ts m → HasSpelled (print_text m) (all_spelled (module_pieces m))
+  -- a text can say all its tokens
+  pub told : (text : List ℕ) (ts : List Tok) (end : Place) → HasTokens text ts end → AllTold ts

@@ -23,3 +23,4 @@ pub mod LiftsChains
 pub mod LiftsStmts
 pub mod LiftsUnits
 pub mod Printed
+pub mod Shaped
