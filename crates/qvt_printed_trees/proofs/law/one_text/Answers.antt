@@ -1,5 +1,0 @@
-use Rattle.qvt_printed_trees.proofs.Shaped.{one_text}
-use Rattle.qvt_printed_trees.proofs.law.one_text.Goals as goal
-
-pub returns : goal.returns
-returns c = one_text
