@@ -4,7 +4,7 @@ use Rattle.qvt_tree_types.specs.Tree.{BareTarget, ResultTarget, MemberTarget, Ma
 use Rattle.qvt_grammar.specs.Language.{Language, follow, then, either, many, made, never, empty, maybe}
 use Rattle.qvt_parser_grammar.specs.Tokens.{Tok, of}
 use Rattle.qvt_parser_grammar.specs.Readers.{the, placed}
-use Rattle.qvt_parser_grammar.specs.Series.{series, finished, barring}
+use Rattle.qvt_parser_grammar.specs.Series.{series, finished}
 use Rattle.qvt_parser_grammar.specs.Nesting.{nested}
 use Rattle.qvt_parser_grammar.specs.Leads.{Lead, Plain, Bracketed, Each}
 use Rattle.qvt_parser_grammar.specs.Grammar as g
@@ -19,7 +19,7 @@ use Rattle.qvt_parser_grammar.specs.declared.token.Class.{Class}
 use Rattle.qvt_parser_grammar.specs.declared.token.Class.TheVariants as class
 use Rattle.qvt_readback_tokens.proofs.Classes.{same_class}
 use Rattle.qvt_readback_depth.specs.Law.{is_population, has_population}
-use Rattle.qvt_readback_depth.proofs.Forms.{Gives, Split, Perhaps, Either, g_follow, g_made, g_either, g_many, g_placed, g_barring, g_weaker, g_series, g_finished}
+use Rattle.qvt_readback_depth.proofs.Forms.{Gives, Perhaps, Either, g_follow, g_made, g_either, g_many, g_placed, g_barring, g_weaker, g_series, g_finished}
 
 or_first : (x y : Bool) → (x || y) ≡ false → x ≡ false
 or_first true y e = e

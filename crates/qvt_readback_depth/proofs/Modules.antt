@@ -1,6 +1,6 @@
 -- The units of a text and of its printed text, one after the other: none is printed deeper than a bound that the text keeps, but
 -- one that gets a block.
-use Rattle.std.proofs.Common.{◌≡◌, ℕ, suc, ◌+◌, ◌≤◌, List, [], ◌∷◌, ◌++◌, length, Bool, true, false, ◌⊎◌, inl, inr, refl, sym, ap, ◌∙◌, subst, append_assoc, append-nil, arith, nat_le, leb-true, leb-false}
+use Rattle.std.proofs.Common.{◌≡◌, ℕ, suc, ◌+◌, ◌≤◌, List, [], ◌∷◌, ◌++◌, Bool, true, false, ◌⊎◌, inl, inr, refl, sym, ap, ◌∙◌, subst, append_assoc, append-nil, arith, nat_le, leb-true, leb-false}
 use Rattle.qvt_tree_types.specs.Module.{UnitTerm, ModuleTerm}
 use Rattle.qvt_tree_types.specs.declared.module.ModelType.{ModelType}
 use Rattle.qvt_tree_types.specs.declared.module.ModelParam.{ModelParam}
@@ -15,7 +15,7 @@ use Rattle.qvt_parser_grammar.specs.Units.{class_unit, main_unit, helper_unit, c
 use Rattle.qvt_parser_grammar.specs.declared.token.Class.{Class}
 use Rattle.qvt_parser_grammar.specs.declared.token.Class.TheVariants.{Semicolon, ConstructorWord, HelperWord, IntermediateWord, MainWord, MappingWord, QueryWord}
 use Rattle.qvt_parser_tokens.specs.declared.depth.Open.{Open}
-use Rattle.qvt_parser_tokens.specs.Depth.{after, begins_statement}
+use Rattle.qvt_parser_tokens.specs.Depth.{begins_statement}
 use Rattle.qvt_printer.specs.Units as printed
 use Rattle.qvt_printer.specs.Units.{module_pieces}
 use Rattle.qvt_printer_layout.specs.declared.piece.Piece.{Piece}
@@ -25,7 +25,7 @@ use Rattle.qvt_readback_depth.specs.Law.{gets_block, HasFullUnit}
 use Rattle.qvt_readback_depth.proofs.Runs.{items_after, fresh_after, Below, Still, below_front, below_back, below_join}
 use Rattle.qvt_readback_depth.proofs.Wide.{wide_strong, wide_up, below_up}
 use Rattle.qvt_readback_depth.proofs.Pieces.{pc, tc, pc_append, tc_append, tc_one, PStrong, QuietToks, quiet_strong, strong_more}
-use Rattle.qvt_readback_depth.proofs.Forms.{Gives, Prints, g_the, g_then, g_split, g_made, g_second, g_either, g_many, g_placed, g_weaker, q_the, s_many}
+use Rattle.qvt_readback_depth.proofs.Forms.{Gives, Prints, g_the, g_then, g_split, g_made, g_either, g_many, g_placed, g_weaker, q_the, s_many}
 use Rattle.qvt_readback_depth.proofs.Stmts.{of_nested}
 use Rattle.qvt_readback_depth.proofs.Lacking.{lacks_nested}
 use Rattle.qvt_readback_depth.proofs.Counts.{most_below, below_most}

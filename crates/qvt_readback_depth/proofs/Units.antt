@@ -2,10 +2,9 @@
 use Rattle.std.proofs.Common.{◌≡◌, ℕ, zero, suc, ◌≤◌, List, [], ◌∷◌, ◌++◌, Bool, true, false, cond, not, ◌&&◌, ◌||◌, ◌⊎◌, inl, inr, refl, sym, ap, ◌∙◌, subst, append_assoc, append-nil, Option, Some, None, arith}
 use Rattle.qvt_tree_types.specs.Tree.{ExprTerm, StmtTerm, SomeExpr}
 use Rattle.qvt_tree_types.specs.View.{stmts_of, optional_expr}
-use Rattle.qvt_tree_types.specs.Module.{TypedName, UnitTerm, ModuleTerm}
+use Rattle.qvt_tree_types.specs.Module.{TypedName, UnitTerm}
 use Rattle.qvt_tree_types.specs.declared.types.PathTree.{PathTree}
 use Rattle.qvt_tree_types.specs.declared.module.ResultDecl.{ResultDecl}
-use Rattle.qvt_tree_types.specs.declared.module.ModelType.{ModelType}
 use Rattle.qvt_tree_types.specs.declared.module.ModelParam.{ModelParam}
 use Rattle.qvt_tree_types.specs.declared.words.Direction.{Direction}
 use Rattle.qvt_tree_types.specs.declared.words.Direction.TheVariants as directions
@@ -18,20 +17,20 @@ use Rattle.qvt_parser_grammar.specs.declared.token.Class.TheVariants as class
 use Rattle.qvt_parser_grammar.specs.declared.token.Class.TheVariants.{Name, Str, OpenRound, CloseRound, OpenBrace, CloseBrace, Comma, Semicolon, Colon, EqualSign, ClassWord, ConstructorWord, DisjunctsWord, EndWord, ExtendsWord, HelperWord, InWord, InheritsWord, InitWord, InoutWord, IntermediateWord, MainWord, MappingWord, MergesWord, ModelTypeWord, OutWord, PopulationWord, QueryWord, TransformationWord, UsesWord, WhenWord}
 use Rattle.qvt_parser_grammar.specs.Grammar.{Nested, paths, colon_type}
 use Rattle.qvt_parser_grammar.specs.Trees.{second, inner, nothing, cons_of, text_of}
-use Rattle.qvt_parser_grammar.specs.UnitTrees.{typed_name_of, param_of, paths_or_none, class_of, main_of, is_query, return_body, helper_of, constructor_of, result_decl_of, Clauses, no_clauses, Clause, InheritsClause, MergesClause, DisjunctsClause, WhenClause, with_clause, read_words, or_same, Body, stmts_or_none, empty_body, body_of, sections_of, open_sections_of, mapping_of, some_unit, model_type_of, model_param_of, units_of, module_of, kept, no_end}
-use Rattle.qvt_parser_grammar.specs.Units.{param, params, feature, features, class_unit, main_unit, helper_body, helper_unit, constructor_unit, result_decl, when_clause, clause, init_part, end_part, end_unless, sections, body, fresh, clauses, mapping_unit, unit, strictness, uri, model_type, model_param, header, transformation}
+use Rattle.qvt_parser_grammar.specs.UnitTrees.{typed_name_of, param_of, paths_or_none, class_of, main_of, is_query, return_body, helper_of, constructor_of, result_decl_of, Clauses, no_clauses, Clause, InheritsClause, MergesClause, DisjunctsClause, WhenClause, with_clause, read_words, or_same, Body, stmts_or_none, empty_body, body_of, sections_of, open_sections_of, mapping_of, model_type_of, model_param_of, kept, no_end}
+use Rattle.qvt_parser_grammar.specs.Units.{param, params, feature, features, class_unit, main_unit, helper_body, helper_unit, constructor_unit, result_decl, when_clause, clause, init_part, end_part, end_unless, sections, body, fresh, clauses, mapping_unit, unit, strictness, uri, model_type, model_param, header}
 use Rattle.qvt_printer.specs.Expressions as print
 use Rattle.qvt_printer.specs.Units as printed
-use Rattle.qvt_printer.specs.Units.{has_statements, module_pieces}
+use Rattle.qvt_printer.specs.Units.{has_statements}
 use Rattle.qvt_printer_layout.specs.Words as words
 use Rattle.qvt_printer_layout.specs.declared.piece.Piece.{Piece}
 use Rattle.qvt_printer_layout.specs.declared.piece.Piece.TheVariants as piece
 use Rattle.qvt_readback_depth.specs.Law.{is_semicolon, ends_in_semicolon, has_population, gets_block}
 use Rattle.qvt_readback_tokens.proofs.Classes.{same_class}
 use Rattle.qvt_readback_depth.proofs.Runs.{Still, AllStill, Closing, Strong, over_strong}
-use Rattle.qvt_readback_depth.proofs.Wide.{Wide, Spare, wide_strong, wide_up, wide_then, spare_wide, spare_then, Room, room_round, wide_room, spare_empty, strong_drop, wide_braces, strong_wrapped, Parts, parts_strong, parts_then, parts_turns, parts_none, turns_none, parts_braces}
+use Rattle.qvt_readback_depth.proofs.Wide.{Wide, Spare, wide_strong, wide_then, spare_wide, spare_then, Room, room_round, wide_room, spare_empty, strong_drop, wide_braces, strong_wrapped, Parts, parts_strong, parts_then, parts_turns, parts_none, turns_none, parts_braces}
 use Rattle.qvt_readback_depth.proofs.Pieces.{pc, tc, pc_append, tc_one, tc_last, moved, PStrong, POver, PTurns, QuietPieces, QuietToks, quiet_pieces, quiet_strong, strong_more, over_more, turns_more, word_before, Closes, closes_after, closes_at_once, closes_turns, in_brackets, in_braces, in_blocks, quiet_both, quiet_left, quiet_right}
-use Rattle.qvt_readback_depth.proofs.Forms.{Gives, One, Perhaps, Split, g_the, g_empty, g_follow, g_then, g_split, g_made, g_second, g_first, g_inner, g_either, g_maybe, g_many, g_placed, g_barring, g_weaker, Quiet, q_the, q_then, q_made, q_many, q_maybe, q_either, Prints, s_many, s_maybe}
+use Rattle.qvt_readback_depth.proofs.Forms.{Gives, One, Perhaps, Split, g_the, g_empty, g_follow, g_then, g_split, g_made, g_second, g_first, g_inner, g_either, g_maybe, g_placed, g_barring, g_weaker, Quiet, q_the, q_then, q_made, q_many, q_maybe, q_either, Prints, s_many, s_maybe}
 use Rattle.qvt_readback_depth.proofs.Exprs.{still_names, still_paths, still_extent, q_name, q_path, q_paths, q_unit_path, q_extent, GivesNested, s_colon_type, o_expr}
 use Rattle.qvt_readback_depth.proofs.Stmts.{g_statements}
 use Rattle.qvt_readback_depth.proofs.Lacking.{Lacks, LacksNested, lacks_both, lacks_front, l_the, l_maybe, l_unit_path, l_params, l_result_decl, l_clauses, l_init_part, l_statements, l_end_part, l_end_unless}

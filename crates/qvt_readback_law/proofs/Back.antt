@@ -1,5 +1,5 @@
 -- A printed text is read as a tree of the shape, or is too deep.
-use Rattle.std.proofs.Common.{◌≡◌, ◌∙◌, ◌≤◌, ◌≢◌, ◌⊎◌, inl, inr, ℕ, List, Option, Some, None, Result, Ok, Err, map, sym, ap, subst, refl, arith}
+use Rattle.std.proofs.Common.{◌≡◌, ◌∙◌, ◌≤◌, ◌≢◌, ◌⊎◌, inl, inr, List, Option, Some, None, map, sym, ap, subst, refl}
 use Rattle.qvt_base.specs.declared.numbers.Place.{Place}
 use Rattle.qvt_tree_types.specs.Module.{ModuleTerm}
 use Rattle.qvt_tree.specs.ModuleShape.{shape}
@@ -10,7 +10,6 @@ use Rattle.qvt_parser_tokens.specs.Depth.{deep}
 use Rattle.qvt_parsed.proofs.Ends.{read_nowhere}
 use Rattle.qvt_parsed.specs.Parsing.{IsTransformation, IsTooDeep}
 use Rattle.qvt_parsed.specs.Parsed.{parsed, IsParsing}
-use Rattle.qvt_parsed.specs.declared.fault.ParseFault.{ParseFault}
 use Rattle.qvt_parsed.specs.declared.fault.ParseFault.TheVariants.{NoMemory, TooDeep}
 use Rattle.qvt_printer_layout.specs.Layout.{laid_out}
 use Rattle.qvt_printer.specs.Units.{module_pieces}
