@@ -12,3 +12,4 @@ pub mod Simple
 pub mod Quoted
 pub mod Marks
 pub mod Scanned
+pub mod Lexing

@@ -11,3 +11,4 @@ pub mod Rooms
 pub mod Cursors
 pub mod State
 pub mod Unique
+pub mod Lexed

@@ -4,6 +4,7 @@
 
 mod chars;
 mod cursor;
+pub mod law;
 pub mod lexer;
 pub mod literals;
 mod scan;

@@ -4,8 +4,8 @@ use Rattle.std.specs.Str.{chars}
 use Rattle.qvt_base.specs.declared.numbers.Place.{Place}
 use Rattle.qvt_grammar.specs.Reader.{At, Answer}
 use Rattle.qvt_lexer.specs.Division.{start_at}
-use Rattle.qvt_lexed.specs.Lexed.{Lexed, lexed, LexesFrom}
-use Rattle.qvt_lexed.proofs.Lexing.{every_text}
+use Rattle.qvt_lexer.specs.Lexed.{Lexed, lexed, LexesFrom}
+use Rattle.qvt_lexer.proofs.Lexing.{every_text}
 use Rattle.qvt_tree_types.specs.Module.{ModuleTerm}
 use Rattle.qvt_parser_grammar.specs.Tokens.{Tok}
 use Rattle.qvt_parser_grammar.specs.Gives.{place_of}

@@ -2,7 +2,7 @@
 use Rattle.std.specs.Prelude.{◌≡◌, ◌≢◌, ℕ, List, [], ◌∷◌, map, length, Option, Some, None, Result, Ok, Err}
 use Rattle.qvt_base.specs.declared.numbers.Place.{Place}
 use Rattle.qvt_grammar.specs.Reader.{At, Answer}
-use Rattle.qvt_lexed.specs.Lexed.{Lexed, lexed}
+use Rattle.qvt_lexer.specs.Lexed.{Lexed, lexed}
 use Rattle.qvt_tree_types.specs.Module.{ModuleTerm}
 use Rattle.qvt_parser_grammar.specs.Tokens.{Tok}
 use Rattle.qvt_parser_grammar.specs.Gives.{place_of}

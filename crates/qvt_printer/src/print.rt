@@ -28,7 +28,7 @@ impl From<ListFault> for PrintFault {
 
 /// The one printed text of a transformation (QVT 1.3, 8.4). Of a transformation that was read it is
 /// read as one of the same shape, but where a value statement or an assignment begins with a
-/// conditional, or the text is too deep: the law `printed_reads_back` of `qvt_printed_law` has the
+/// conditional, or the text is too deep: the law `printed_reads_back` of `qvt_readback_law` has the
 /// exact words.
 #[tactic(auto, unfolding(crate::specs::PrintText::print_text))]
 pub fn print(alloc: Global, transformation: &Module) -> Result<Text, PrintFault>

@@ -1,5 +1,0 @@
-use Rattle.qvt_lexed.proofs.Lexing.{every_text}
-use Rattle.qvt_lexed.proofs.law.every_text_is_lexed.Goals as goal
-
-pub returns : goal.returns
-returns c = every_text

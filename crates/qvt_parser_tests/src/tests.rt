@@ -1,0 +1,4 @@
+mod parts;
+mod places;
+mod read;
+mod trees;

@@ -1,6 +1,0 @@
-mod parts;
-mod places;
-mod printed;
-mod read;
-mod shapes;
-mod trees;

@@ -1,7 +1,0 @@
-ghost use Rattle.qvt_printed_depth.specs.Law.{PrintedIsAsDeep};
-
-/// Its clause is the law that printing opens no more brackets and conditionals at once than the text had, but for one
-/// block in two forms of units. It does nothing.
-pub fn printed_is_as_deep()
-    ensures { PrintedIsAsDeep }
-{}

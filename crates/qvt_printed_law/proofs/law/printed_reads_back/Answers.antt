@@ -1,5 +1,0 @@
-use Rattle.qvt_printed_law.proofs.Back.{reads_back}
-use Rattle.qvt_printed_law.proofs.law.printed_reads_back.Goals as goal
-
-pub returns : goal.returns
-returns c = reads_back c.parsing.ensures c.printed_is_lexed.ensures c.printed_is_read.ensures c.printed_is_as_deep.ensures

@@ -1,5 +1,0 @@
-use Rattle.qvt_printed_tokens.proofs.Printing as law
-use Rattle.qvt_printed_tokens.proofs.law.printed_is_lexed.Goals as goal
-
-pub returns : goal.returns
-returns c = law.printed_is_lexed

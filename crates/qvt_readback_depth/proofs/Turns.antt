@@ -1,0 +1,138 @@
+-- How the statements of a text and of its printed text open and close items. The text may leave conditionals open until the
+-- end of a block, the printed text leaves none.
+use Rattle.std.proofs.Common.{◌≡◌, ℕ, suc, ◌+◌, ◌≤◌, List, [], ◌∷◌, ◌++◌, length, Bool, true, false, refl, sym, ap, ◌∙◌, subst, arith}
+use Rattle.qvt_parser_grammar.specs.declared.token.Class.{Class}
+use Rattle.qvt_parser_grammar.specs.declared.token.Class.TheVariants.{CloseBrace, Semicolon, IfWord, EndifWord}
+use Rattle.qvt_parser_tokens.specs.declared.depth.Open.{Open}
+use Rattle.qvt_parser_tokens.specs.declared.depth.Open.TheVariants.{Bracket, Conditional}
+use Rattle.qvt_parser_tokens.specs.Depth.{closed, ended, after}
+use Rattle.qvt_readback_depth.proofs.Runs.{items_after, fresh_after, Lower, items_append, fresh_append, below_front, lower_then, lengths, at_most, free_false, fits_false, Strong, Over, Inside, Ender}
+
+-- conditionals over a bracket over the base
+abbrev pub Rests : List Open → List Open → Type 0
+Rests base [] = ⊥
+Rests base (Bracket ∷ s) = s ≡ base
+Rests base (Conditional ∷ s) = Rests base s
+
+pub rests_length : (base s : List Open) → Rests base s → suc (length base) ≤ length s
+rests_length base [] r = absurd r
+rests_length base (Bracket ∷ s) r = subst (λ z. suc (length z) ≤ suc (length s)) r (omega arith)
+rests_length base (Conditional ∷ s) r = omega (arith, rests_length base s r)
+
+pub rests_closed : (base s : List Open) → Rests base s → closed s ≡ base
+rests_closed base [] r = absurd r
+rests_closed base (Bracket ∷ s) r = r
+rests_closed base (Conditional ∷ s) r = rests_closed base s r
+
+pub rests_ended : (base s : List Open) → Rests base s → Rests base (ended s)
+rests_ended base [] r = absurd r
+rests_ended base (Bracket ∷ s) r = r
+rests_ended base (Conditional ∷ s) r = r
+
+rests_if : (f : Bool) (base s : List Open) → Rests base s → Rests base (after f s IfWord)
+rests_if true base s r = r
+rests_if false base s r = r
+
+-- the printed statements begin and end where an `if` begins a statement
+pub record Turns (us ts : List Class) : Type 0 where
+  pub back_u : (s : List Open) → items_after true (Bracket ∷ s) us ≡ Bracket ∷ s
+  pub fresh_u : fresh_after true us ≡ true
+  pub back_t : (f : Bool) (base s : List Open) → Rests base s → Rests base (items_after f s ts)
+  pub low : (d : ℕ) (ft : Bool) (su base st : List Open) → length su ≤ length base + d → Rests base st → Lower d true ft (Bracket ∷ su) st us ts
+
+-- after it an `if` begins a statement
+abbrev pub Ends : List Class → Type 0
+Ends us = (f : Bool) → fresh_after f us ≡ true
+
+pub ends_append : (a b : List Class) → Ends b → Ends (a ++ b)
+ends_append a b e f = fresh_append f a b ∙ e (fresh_after f a)
+
+under : (d : ℕ) (su base st : List Open) → length su ≤ length base + d → Rests base st → length (Bracket ∷ su) ≤ length st + d
+under d su base st j r = omega (arith, j, rests_length base st r)
+
+pub turns_nil : Turns [] []
+turns_nil = record { back_u = λ s. refl; fresh_u = refl; back_t = λ f base s r. r; low = λ d ft su base st j r n l. at_most d (Bracket ∷ su) st (under d su base st j r) l }
+
+pub turns_empty : Turns [] (Semicolon ∷ [])
+turns_empty = record { back_u = λ s. refl; fresh_u = refl; back_t = λ f base s r. r; low = λ d ft su base st j r n l. at_most d (Bracket ∷ su) st (under d su base st j r) l.0 }
+
+pub turns_over : {us ts : List Class} → Over false us ts → Ends us → Turns us ts
+turns_over {us} {ts} h e = record {
+  back_u = λ s. h.back_u true (Bracket ∷ s) tt;
+  fresh_u = e true;
+  back_t = λ f base s r. subst (Rests base) (sym (h.back_t f s tt)) r;
+  low = λ d ft su base st j r. h.low d true ft (Bracket ∷ su) st tt tt (under d su base st j r);
+}
+
+pub turns_then : {a x b y : List Class} → Turns a x → Turns b y → Turns (a ++ b) (x ++ y)
+turns_then {a} {x} {b} {y} h k = record {
+  back_u = λ s. items_append true (Bracket ∷ s) a b ∙ ap (λ z. items_after z (items_after true (Bracket ∷ s) a) b) h.fresh_u ∙ ap (λ z. items_after true z b) (h.back_u s) ∙ k.back_u s;
+  fresh_u = fresh_append true a b ∙ ap (λ z. fresh_after z b) h.fresh_u ∙ k.fresh_u;
+  back_t = λ f base s r. subst (Rests base) (sym (items_append f s x y)) (k.back_t (fresh_after f x) base (items_after f s x) (h.back_t f base s r));
+  low = λ d ft su base st j r. lower_then d true ft (Bracket ∷ su) st a x b y (h.low d ft su base st j r)
+      (subst (λ z. Lower d z (fresh_after ft x) (items_after true (Bracket ∷ su) a) (items_after ft st x) b y) (sym h.fresh_u)
+      (subst (λ z. Lower d true (fresh_after ft x) z (items_after ft st x) b y) (sym (h.back_u su)) (k.low d (fresh_after ft x) su base (items_after ft st x) j (h.back_t ft base st r))));
+}
+
+-- behind the brace of a block, and through its end
+pub turns_inside : {us ts : List Class} → Turns us ts → Inside true (us ++ (CloseBrace ∷ [])) (ts ++ (CloseBrace ∷ []))
+turns_inside {us} {ts} h = record {
+  back_u = λ s. items_append true (Bracket ∷ s) us (CloseBrace ∷ []) ∙ ap closed (h.back_u s);
+  back_t = λ s. items_append true (Bracket ∷ s) ts (CloseBrace ∷ []) ∙ rests_closed s (items_after true (Bracket ∷ s) ts) (h.back_t true s (Bracket ∷ s) refl);
+  low = λ d su st j. let r = h.back_t true st (Bracket ∷ st) refl in
+      lower_then d true true (Bracket ∷ su) (Bracket ∷ st) us ts (CloseBrace ∷ []) (CloseBrace ∷ []) (h.low d true su st (Bracket ∷ st) j refl)
+      (λ n l. (
+        at_most d (items_after true (Bracket ∷ su) us) (items_after true (Bracket ∷ st) ts) (lengths d (h.back_u su) refl (under d su st (items_after true (Bracket ∷ st) ts) j r)) l.0,
+        at_most d (closed (items_after true (Bracket ∷ su) us)) (closed (items_after true (Bracket ∷ st) ts)) (lengths d (ap closed (h.back_u su)) (rests_closed st (items_after true (Bracket ∷ st) ts) r) j) l.1,
+      ));
+}
+
+-- what may stand at the end of a statement of the text
+abbrev pub Leaves : List Class → Type 0
+Leaves e = (f : Bool) (base s : List Open) → Rests base s → Rests base (items_after f s e)
+
+pub leaves_none : Leaves []
+leaves_none f base s r = r
+
+pub leaves_endif : Leaves (EndifWord ∷ [])
+leaves_endif f base s r = rests_ended base s r
+
+-- a conditional statement
+pub turns_if : {o : Bool} {us ts : List Class} (e : List Class) → Over o us ts → Ends us → Leaves e → Turns (IfWord ∷ us) (IfWord ∷ (ts ++ e))
+turns_if {o} {us} {ts} e h g k = record {
+  back_u = λ s. h.back_u false (Bracket ∷ s) tt;
+  fresh_u = g false;
+  back_t = λ f base s r. subst (Rests base) (sym (items_append false (after f s IfWord) ts e))
+      (k (fresh_after false ts) base (items_after false (after f s IfWord) ts) (subst (Rests base) (sym (h.back_t false (after f s IfWord) (free_false o (after f s IfWord)))) (rests_if f base s r)));
+  low = λ d ft su base st j r n l. (
+    at_most d (Bracket ∷ su) st (under d su base st j r) l.0,
+    h.low d false false (Bracket ∷ su) (after ft st IfWord) tt (fits_false o (after ft st IfWord)) (under d su base (after ft st IfWord) j (rests_if ft base st r)) n (below_front n false (after ft st IfWord) ts e l.1),
+  );
+}
+
+pub ender_more : {a x b y : List Class} → Ender a x → Strong b y → Ender (a ++ b) (x ++ y)
+ender_more {a} {x} {b} {y} h k = record {
+  back_u = λ f s. items_append f s a b ∙ k.back_u (fresh_after f a) (items_after f s a) ∙ h.back_u f s;
+  back_t = λ f s. items_append f s x y ∙ k.back_t (fresh_after f x) (items_after f s x) ∙ h.back_t f s;
+  low = λ d fu ft su st j i. lower_then d fu ft su st a x b y (h.low d fu ft su st j i)
+      (k.low d (fresh_after fu a) (fresh_after ft x) (items_after fu su a) (items_after ft st x) (lengths d (h.back_u fu su) (h.back_t ft st) i));
+}
+
+-- a statement that begins with a conditional expression
+pub turns_choice : {o : Bool} {a x b y : List Class} → Over o a x → Ender b y → Ends b → Turns (IfWord ∷ (a ++ b)) (IfWord ∷ (x ++ y))
+turns_choice {o} {a} {x} {b} {y} h k e = record {
+  back_u = λ s. items_append false (Bracket ∷ s) a b ∙ k.back_u (fresh_after false a) (items_after false (Bracket ∷ s) a) ∙ ap ended (h.back_u false (Bracket ∷ s) tt);
+  fresh_u = ends_append a b e false;
+  back_t = λ f base s r. subst (Rests base) (sym (items_append false (after f s IfWord) x y ∙ k.back_t (fresh_after false x) (items_after false (after f s IfWord) x) ∙ ap ended (h.back_t false (after f s IfWord) (free_false o (after f s IfWord)))))
+      (rests_ended base (after f s IfWord) (rests_if f base s r));
+  low = λ d ft su base st j r n l. let vt = after ft st IfWord in
+      let q = rests_if ft base st r in
+      let i = under d su base vt j q in
+      let bu = h.back_u false (Bracket ∷ su) tt in
+      let bt = h.back_t false vt (free_false o vt) in (
+        at_most d (Bracket ∷ su) st (under d su base st j r) l.0,
+        lower_then d false false (Bracket ∷ su) vt a x b y (h.low d false false (Bracket ∷ su) vt tt (fits_false o vt) i)
+            (k.low d (fresh_after false a) (fresh_after false x) (items_after false (Bracket ∷ su) a) (items_after false vt x) (lengths d bu bt i)
+            (lengths d (ap ended bu) (ap ended bt) (under d su base (ended vt) j (rests_ended base vt q)))) n l.1,
+      );
+}

@@ -1,0 +1,4 @@
+mod deep;
+mod printed;
+mod shapes;
+mod trees;

@@ -1,0 +1,20 @@
+-- The law that the tokens of a printed text are read as a tree of the same shape.
+use Rattle.std.proofs.Common.{List, map, sym, subst}
+use Rattle.qvt_tree_types.specs.Module.{ModuleTerm}
+use Rattle.qvt_tree.specs.ModuleShape.{shape}
+use Rattle.qvt_parser_grammar.specs.Tokens.{Tok}
+use Rattle.qvt_parser_grammar.specs.Module.{Reads}
+use Rattle.qvt_readback_tokens.specs.Spelled.{unplaced}
+use Rattle.qvt_readback_trees.specs.Law.{ReadsShape, PrintedIsRead}
+use Rattle.qvt_readback_trees.proofs.AgainModule.{again_module}
+use Rattle.qvt_readback_trees.proofs.LiftsStmts.{lifts_nested}
+use Rattle.qvt_readback_trees.proofs.LiftsUnits.{lifts_transformation}
+
+-- what is read without places is read with them
+reads_shape : (us : List Tok) (m : ModuleTerm) → Reads (map unplaced us) (shape m) → ReadsShape us m
+reads_shape us m rd =
+    let w = (lifts_transformation (lifts_nested rd.nesting)).lift us (shape m) rd.reads in
+    record { tree = w.0; reads = record { nesting = rd.nesting; reads = w.1 }; same = w.2 }
+
+pub printed_is_read : PrintedIsRead
+printed_is_read ts us m rd ok same = reads_shape us m (subst (λ z. Reads z (shape m)) (sym same) (again_module ts m rd ok))
