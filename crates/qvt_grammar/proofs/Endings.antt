@@ -1,10 +1,12 @@
--- Any number of turns of one kind, and then perhaps one of another, where both kinds may begin with the same tokens.
+-- Any number of turns of one kind, and then perhaps one of another, where both kinds may begin with the same tokens. What may
+-- go on depends on whether the last one is there.
 use Rattle.std.proofs.Common.{◌≡◌, ℕ, zero, suc, ◌≤◌, ◌<◌, List, [], ◌∷◌, ◌++◌, length, Bool, true, false, IsTrue, ◌⊎◌, inl, inr, refl, sym, ap, ◌∙◌, subst, arith, append_assoc, Ok, Err, cond, Option, Some, None}
 use Rattle.qvt_grammar.specs.Language.{Language, turns, lastly, ended}
-use Rattle.qvt_grammar.specs.Reader.{At, Answer, ◌>>=◌, Begins, IsFarthest, IsReading, IsStuck, Exact, starts, after_turn, ended_turns, ended_at}
-use Rattle.qvt_grammar.proofs.Lists.{regroup, grouped, rest_shorter, all_left}
+use Rattle.qvt_grammar.specs.Reader.{At, Answer, ◌>>=◌, Begins, IsFarthest, starts, after_turn, ended_turns, ended_at}
+use Rattle.qvt_grammar.proofs.Lists.{regroup, grouped, rest_shorter, all_left, nil_right}
 use Rattle.qvt_grammar.proofs.Firsts.{Within, Apart, Firsts, Solid, begins_within, read_begins}
 use Rattle.qvt_grammar.proofs.Repeats.{begins_of, read_less}
+use Rattle.qvt_grammar.proofs.Valued.{IsReadingV, IsStuckV, ExactV}
 
 abbrev pub reads_either : {T A B : Type 0} → Language T A → Language T B → List T → A ⊎ B → Type 0
 reads_either l m u (inl a) = l.reads u a
@@ -31,9 +33,14 @@ abbrev pub ExactTurn : {T A B : Type 0} → (T → Bool) → (T → Bool) → La
 ExactTurn c1 c2 l m ts (Ok (x, r)) = IsTurn c1 c2 l m ts x r
 ExactTurn c1 c2 l m ts (Err (At r)) = IsStuckTurn c1 c2 l m ts r
 
--- p has every token with which either kind begins, c what may go on after all
+abbrev pub chosen : {T B : Type 0} → (T → Bool) → (T → Bool) → Option B → T → Bool
+chosen c d None = c
+chosen c d (Some b) = d
+
+-- p has every token with which either kind begins, c what may go on where the last turn is of the first kind; where it is of
+-- the other, that is what may go on after it
 module _ {T A B : Type 0} (p c1 c2 c : T → Bool) (l : Language T A) (m : Language T B) (w1 : Firsts p l) (w2 : Firsts p m) (solid1 : Solid l) (solid2 : Solid m)
-    (apart : Apart c1 p) (sub1 : Within c1 c) (sub2 : Within c2 c) (more : Within p c) where
+    (apart : Apart c1 p) (sub1 : Within c1 c) (more : Within p c) where
   front_begins : (got : List A) (t : T) (ts u v : List T) → t ∷ ts ≡ u ++ v → turns l u got → ((v ≡ []) ⊎ (l.front v ⊎ m.front v)) → IsTrue (p t)
   front_begins [] t ts u v e rd (inl n) = absurd (let k : t ∷ ts ≡ [] = all_left (t ∷ ts) u v e rd ∙ n in cc)
   front_begins [] t ts u v e rd (inr (inl fr)) = w1.begins t ts (subst l.front (sym (all_left (t ∷ ts) u v e rd)) fr)
@@ -62,6 +69,11 @@ module _ {T A B : Type 0} (p c1 c2 c : T → Bool) (l : Language T A) (m : Langu
   tail_front : (got : List A) (o : Option B) (u v : List T) → turns l u got → lastly m v o → (ended l m).front (u ++ v)
   tail_front got o u v rd q = (got, u, v, refl, rd, last_front v o q)
 
+  ends_as : (got : List A) (o : Option B) (u v s : List T) → turns l u got → lastly m v o → Begins c1 ((u ++ v) ++ s) → Begins (chosen c c2 o) s
+  ends_as got None u v s rd q h = ends_by (u ++ v) s (tail_front got None u v rd q) h
+  ends_as got (Some b) u v s rd q h =
+      absurd (solid2 b (subst (λ z. m.reads z b) (nil_right u v (sym (nothing_after (u ++ v) s (tail_front got (Some b) u v rd q) h))) q))
+
   no_front : (ts u s : List T) → starts p ts ≡ false → ts ≡ u ++ s → (ended l m).front u → u ≡ []
   no_front ts [] s h e fr = refl
   no_front ts (x ∷ u) s h e fr = absurd (let k : true ≡ false = sym (firsts_ended.begins x u fr) ∙ sym (ap (starts p) e) ∙ h in cc)
@@ -72,7 +84,7 @@ module _ {T A B : Type 0} (p c1 c2 c : T → Bool) (l : Language T A) (m : Langu
   none_got ts (a ∷ got) o u v e n rd q =
       absurd (let k = read_less l solid1 ts rd.0 (rd.1 ++ v) a (regroup ts u v rd.0 rd.1 e rd.2) rd.3 in omega (arith, ap length n))
 
-  no_turn : (ts : List T) → starts p ts ≡ false → IsReading c (ended l m) ts ([], None) ts
+  no_turn : (ts : List T) → starts p ts ≡ false → IsReadingV (λ all. chosen c c2 all.1) (ended l m) ts ([], None) ts
   no_turn ts h = record {
     found = ([], refl, ([], [], refl, refl, refl));
     only = λ u s got e rd. (let n = no_front ts u s h e (firsts_ended.whole u got rd) in
@@ -103,13 +115,13 @@ module _ {T A B : Type 0} (p c1 c2 c : T → Bool) (l : Language T A) (m : Langu
   by_next ts r one u w s a e rd fr b =
       let n = nothing_after w s fr b in one u s (e ∙ ap (λ z. u ++ (z ++ s)) n) (inl (w1.whole u a rd))
 
-  stuck_only : (ts r : List T) → starts p ts ≡ true → IsStuckTurn c1 c2 l m ts r → (got : List A) (o : Option B) (u s v w : List T) → ts ≡ u ++ s → u ≡ v ++ w → turns l v got → lastly m w o → Begins c s
+  stuck_only : (ts r : List T) → starts p ts ≡ true → IsStuckTurn c1 c2 l m ts r → (got : List A) (o : Option B) (u s v w : List T) → ts ≡ u ++ s → u ≡ v ++ w → turns l v got → lastly m w o → Begins (chosen c c2 o) s
   stuck_only ts r h k [] None u s v w e d rd q = at_start ts u s h e (all_left u v w d rd ∙ q)
-  stuck_only ts r h k [] (Some b) u s v w e d rd q = begins_within c2 c sub2 s (k.only2 w s b (only_last ts u s v w e d rd) q)
+  stuck_only ts r h k [] (Some b) u s v w e d rd q = k.only2 w s b (only_last ts u s v w e d rd) q
   stuck_only ts r h k (a ∷ got) o u s v w e d rd q =
-      ends_by (rd.1 ++ w) s (tail_front got o rd.1 w rd.4 q) (k.only1 rd.0 ((rd.1 ++ w) ++ s) a (after_first ts u s v w rd.0 rd.1 e d rd.2) rd.3)
+      ends_as got o rd.1 w s rd.4 q (k.only1 rd.0 ((rd.1 ++ w) ++ s) a (after_first ts u s v w rd.0 rd.1 e d rd.2) rd.3)
 
-  stuck_turn : (ts r : List T) → starts p ts ≡ true → IsStuckTurn c1 c2 l m ts r → IsStuck c (ended l m) ts r
+  stuck_turn : (ts r : List T) → starts p ts ≡ true → IsStuckTurn c1 c2 l m ts r → IsStuckV (λ all. chosen c c2 all.1) (ended l m) ts r
   stuck_turn ts r h k = record {
     found = (k.found.0, k.found.1, ([], [], k.found.0, refl, refl, inr k.found.2));
     only = λ u s got e rd. stuck_only ts r h k got.0 got.1 u s rd.0 rd.1 e rd.2 rd.3 rd.4;
@@ -118,18 +130,18 @@ module _ {T A B : Type 0} (p c1 c2 c : T → Bool) (l : Language T A) (m : Langu
   }
 
   last_only : (ts r : List T) (b : B) → starts p ts ≡ true → IsTurn c1 c2 l m ts (inr b) r → (got : List A) (o : Option B) (u s v w : List T) → ts ≡ u ++ s → u ≡ v ++ w → turns l v got → lastly m w o
-      → ((◌≡◌ {A = List A × Option B} (got, o) ([], Some b)) × (s ≡ r)) ⊎ Begins c s
+      → ((◌≡◌ {A = List A × Option B} (got, o) ([], Some b)) × (s ≡ r)) ⊎ Begins (chosen c c2 o) s
   last_only ts r b h k [] None u s v w e d rd q = inr (at_start ts u s h e (all_left u v w d rd ∙ q))
   last_only ts r b h k [] (Some x) u s v w e d rd q = elim (k.only2 w s x (only_last ts u s v w e d rd) q) [
     | inl z ↦ inl ((let same : x ≡ b = (let y = z.0 in cc) in λ i. ([], Some (same i))), z.1)
-    | inr z ↦ inr (begins_within c2 c sub2 s z)
+    | inr z ↦ inr (z)
   ]
   last_only ts r b h k (a ∷ got) o u s v w e d rd q = elim (k.only1 rd.0 ((rd.1 ++ w) ++ s) a (after_first ts u s v w rd.0 rd.1 e d rd.2) rd.3) [
     | inl z ↦ absurd (let y = z.0 in cc)
-    | inr z ↦ inr (ends_by (rd.1 ++ w) s (tail_front got o rd.1 w rd.4 q) z)
+    | inr z ↦ inr (ends_as got o rd.1 w s rd.4 q z)
   ]
 
-  last_turn : (ts r : List T) (b : B) → starts p ts ≡ true → IsTurn c1 c2 l m ts (inr b) r → IsReading c (ended l m) ts ([], Some b) r
+  last_turn : (ts r : List T) (b : B) → starts p ts ≡ true → IsTurn c1 c2 l m ts (inr b) r → IsReadingV (λ all. chosen c c2 all.1) (ended l m) ts ([], Some b) r
   last_turn ts r b h k = record {
     found = (k.found.0, k.found.1, ([], k.found.0, refl, refl, k.found.2));
     only = λ u s got e rd. last_only ts r b h k got.0 got.1 u s rd.0 rd.1 e rd.2 rd.3 rd.4;
@@ -138,30 +150,30 @@ module _ {T A B : Type 0} (p c1 c2 c : T → Bool) (l : Language T A) (m : Langu
         fr.0 u s fr.1 fr.2 e fr.3 fr.4 fr.5;
   }
 
-  more_only : (ts r r2 : List T) (a : A) (all : List A × Option B) → starts p ts ≡ true → IsTurn c1 c2 l m ts (inl a) r → IsReading c (ended l m) r all r2 → (got : List A) (o : Option B) (u s v w : List T) → ts ≡ u ++ s → u ≡ v ++ w → turns l v got → lastly m w o
-      → ((◌≡◌ {A = List A × Option B} (got, o) (a ∷ all.0, all.1)) × (s ≡ r2)) ⊎ Begins c s
+  more_only : (ts r r2 : List T) (a : A) (all : List A × Option B) → starts p ts ≡ true → IsTurn c1 c2 l m ts (inl a) r → IsReadingV (λ all. chosen c c2 all.1) (ended l m) r all r2 → (got : List A) (o : Option B) (u s v w : List T) → ts ≡ u ++ s → u ≡ v ++ w → turns l v got → lastly m w o
+      → ((◌≡◌ {A = List A × Option B} (got, o) (a ∷ all.0, all.1)) × (s ≡ r2)) ⊎ Begins (chosen c c2 o) s
   more_only ts r r2 a all h k g [] None u s v w e d rd q = inr (at_start ts u s h e (all_left u v w d rd ∙ q))
   more_only ts r r2 a all h k g [] (Some x) u s v w e d rd q = elim (k.only2 w s x (only_last ts u s v w e d rd) q) [
     | inl z ↦ absurd (let y = z.0 in cc)
-    | inr z ↦ inr (begins_within c2 c sub2 s z)
+    | inr z ↦ inr (z)
   ]
   more_only ts r r2 a all h k g (x ∷ got) o u s v w e d rd q = elim (k.only1 rd.0 ((rd.1 ++ w) ++ s) x (after_first ts u s v w rd.0 rd.1 e d rd.2) rd.3) [
     | inl z ↦ elim (g.only (rd.1 ++ w) s (got, o) (sym z.1) (rd.1, w, refl, rd.4, q)) [
       | inl y ↦ inl ((let same : x ≡ a = (let j = z.0 in cc) in λ i. (same i ∷ (y.0 i).0, (y.0 i).1)), y.1)
       | inr y ↦ inr y
     ]
-    | inr z ↦ inr (ends_by (rd.1 ++ w) s (tail_front got o rd.1 w rd.4 q) z)
+    | inr z ↦ inr (ends_as got o rd.1 w s rd.4 q z)
   ]
 
-  more_stuck : (ts r r2 : List T) (a : A) → starts p ts ≡ true → IsTurn c1 c2 l m ts (inl a) r → IsStuck c (ended l m) r r2 → (got : List A) (o : Option B) (u s v w : List T) → ts ≡ u ++ s → u ≡ v ++ w → turns l v got → lastly m w o → Begins c s
+  more_stuck : (ts r r2 : List T) (a : A) → starts p ts ≡ true → IsTurn c1 c2 l m ts (inl a) r → IsStuckV (λ all. chosen c c2 all.1) (ended l m) r r2 → (got : List A) (o : Option B) (u s v w : List T) → ts ≡ u ++ s → u ≡ v ++ w → turns l v got → lastly m w o → Begins (chosen c c2 o) s
   more_stuck ts r r2 a h k g [] None u s v w e d rd q = at_start ts u s h e (all_left u v w d rd ∙ q)
   more_stuck ts r r2 a h k g [] (Some x) u s v w e d rd q = elim (k.only2 w s x (only_last ts u s v w e d rd) q) [
     | inl z ↦ absurd (let y = z.0 in cc)
-    | inr z ↦ begins_within c2 c sub2 s z
+    | inr z ↦ z
   ]
   more_stuck ts r r2 a h k g (x ∷ got) o u s v w e d rd q = elim (k.only1 rd.0 ((rd.1 ++ w) ++ s) x (after_first ts u s v w rd.0 rd.1 e d rd.2) rd.3) [
     | inl z ↦ g.only (rd.1 ++ w) s (got, o) (sym z.1) (rd.1, w, refl, rd.4, q)
-    | inr z ↦ ends_by (rd.1 ++ w) s (tail_front got o rd.1 w rd.4 q) z
+    | inr z ↦ ends_as got o rd.1 w s rd.4 q z
   ]
 
   more_farthest : (ts r r2 : List T) (a : A) → IsTurn c1 c2 l m ts (inl a) r → length r2 ≤ length r → IsFarthest (ended l m) r r2 → IsFarthest (ended l m) ts r2
@@ -175,7 +187,7 @@ module _ {T A B : Type 0} (p c1 c2 c : T → Bool) (l : Language T A) (m : Langu
   more_front : (u v : List T) (a : A) → l.reads u a → (ended l m).front v → (ended l m).front (u ++ v)
   more_front u v a rd fr = (a ∷ fr.0, u ++ fr.1, fr.2, ap (λ z. u ++ z) fr.3 ∙ sym (append_assoc u fr.1 fr.2), (u, fr.1, refl, rd, fr.4), fr.5)
 
-  one_more : (ts r : List T) (a : A) → starts p ts ≡ true → IsTurn c1 c2 l m ts (inl a) r → (y : Answer T (List A × Option B)) → Exact c (ended l m) r y → Exact c (ended l m) ts (y >>= λ (got, s). Ok ((a ∷ got.0, got.1), s))
+  one_more : (ts r : List T) (a : A) → starts p ts ≡ true → IsTurn c1 c2 l m ts (inl a) r → (y : Answer T (List A × Option B)) → ExactV (λ all. chosen c c2 all.1) (ended l m) r y → ExactV (λ all. chosen c c2 all.1) (ended l m) ts (y >>= λ (got, s). Ok ((a ∷ got.0, got.1), s))
   one_more ts r a h k (Ok (all, r2)) g = record {
     found = (
       k.found.0 ++ g.found.0,
@@ -192,21 +204,21 @@ module _ {T A B : Type 0} (p c1 c2 c : T → Bool) (l : Language T A) (m : Langu
   }
 
   module _ (f : List T → Answer T (A ⊎ B)) (hf : (r : List T) → ExactTurn c1 c2 l m r (f r)) where
-    turn_cases : (n : ℕ) (ts : List T) → starts p ts ≡ true → (x : Answer T (A ⊎ B)) → ExactTurn c1 c2 l m ts x → ((r : List T) → length r < length ts → Exact c (ended l m) r (ended_turns n p f r))
-        → Exact c (ended l m) ts (x >>= λ (x, r). after_turn (ended_turns n p f) x r)
+    turn_cases : (n : ℕ) (ts : List T) → starts p ts ≡ true → (x : Answer T (A ⊎ B)) → ExactTurn c1 c2 l m ts x → ((r : List T) → length r < length ts → ExactV (λ all. chosen c c2 all.1) (ended l m) r (ended_turns n p f r))
+        → ExactV (λ all. chosen c c2 all.1) (ended l m) ts (x >>= λ (x, r). after_turn (ended_turns n p f) x r)
     turn_cases n ts h (Ok (inl a, r)) k ih = one_more ts r a h k (ended_turns n p f r) (ih r (read_less l solid1 ts k.found.0 r a k.found.1 k.found.2))
     turn_cases n ts h (Ok (inr b, r)) k ih = last_turn ts r b h k
     turn_cases n ts h (Err (At r)) k ih = stuck_turn ts r h k
 
-    start_cases : (n : ℕ) (ts : List T) (b : Bool) → starts p ts ≡ b → ((r : List T) → length r < length ts → Exact c (ended l m) r (ended_turns n p f r))
-        → Exact c (ended l m) ts (cond b (f ts >>= λ (x, r). after_turn (ended_turns n p f) x r) (Ok (([], None), ts)))
+    start_cases : (n : ℕ) (ts : List T) (b : Bool) → starts p ts ≡ b → ((r : List T) → length r < length ts → ExactV (λ all. chosen c c2 all.1) (ended l m) r (ended_turns n p f r))
+        → ExactV (λ all. chosen c c2 all.1) (ended l m) ts (cond b (f ts >>= λ (x, r). after_turn (ended_turns n p f) x r) (Ok (([], None), ts)))
     start_cases n ts false e ih = no_turn ts e
     start_cases n ts true e ih = turn_cases n ts e (f ts) (hf ts) ih
 
-    turns_exact : (n : ℕ) (ts : List T) → length ts ≤ n → Exact c (ended l m) ts (ended_turns n p f ts)
+    turns_exact : (n : ℕ) (ts : List T) → length ts ≤ n → ExactV (λ all. chosen c c2 all.1) (ended l m) ts (ended_turns n p f ts)
     turns_exact zero [] le = no_turn [] refl
     turns_exact zero (t ∷ ts) le = absurd (omega arith)
     turns_exact (suc n) ts le = start_cases n ts (starts p ts) refl (λ r lt. turns_exact n r (omega arith))
 
-    pub ended_exact : (ts : List T) → Exact c (ended l m) ts (ended_at p f ts)
-    ended_exact ts = turns_exact (length ts) ts (omega arith)
+    pub valued_ended : (ts : List T) → ExactV (λ all. chosen c c2 all.1) (ended l m) ts (ended_at p f ts)
+    valued_ended ts = turns_exact (length ts) ts (omega arith)

@@ -2,17 +2,25 @@
 use Rattle.std.proofs.Common.{◌≡◌, List, [], ◌∷◌, ◌++◌, Bool, IsTrue, ◌⊎◌, inl, inr, refl, sym, ap, ◌∙◌, subst, append_assoc, append-nil, Option, Some, None}
 use Rattle.qvt_grammar.specs.Language.{Language, token, follow, then, either, many, turns, made, empty, maybe, marked, head_of, lastly, ended}
 use Rattle.qvt_grammar.proofs.Lists.{two_cuts}
-use Rattle.qvt_grammar.proofs.Wider.{Sub, sub_follow, sub_either, sub_made, sub_marked, sub_many, sub_maybe, sub_turns, sub_ended}
+use Rattle.qvt_grammar.proofs.Wider.{Sub, sub_follow, sub_either, sub_made, sub_marked, sub_many, sub_maybe, sub_turns}
 
 -- what begins a read list is a front
 pub record Closed {T A : Type 0} (l : Language T A) : Type 0 where
   pub front : (ts v : List T) (a : A) → l.reads (ts ++ v) a → l.front ts
 
--- m reads some list, and completes each front of l
-pub record Completes {T A : Type 0} (l m : Language T A) : Type 0 where
+abbrev pub Each : {T : Type 0} → (T → Type 0) → List T → Type 0
+Each P [] = Unit {0}
+Each P (t ∷ ts) = P t × Each P ts
+
+pub each_both : {T : Type 0} (P : T → Type 0) (u v : List T) → Each P u → Each P v → Each P (u ++ v)
+each_both P [] v h k = k
+each_both P (t ∷ u) v h k = (h.0, each_both P u v h.1 k)
+
+-- m reads some list, and completes each front of l, by tokens of which P holds
+pub record Completes {T A : Type 0} (P : T → Type 0) (l m : Language T A) : Type 0 where
   pub within : Sub l m
-  pub some : (ts : List T) × (a : A) × m.reads ts a
-  pub whole : (ts : List T) → l.front ts → (v : List T) × (a : A) × m.reads (ts ++ v) a
+  pub some : (ts : List T) × (a : A) × m.reads ts a × Each P ts
+  pub whole : (ts : List T) → l.front ts → (v : List T) × (a : A) × m.reads (ts ++ v) a × Each P v
 
 module _ {T : Type 0} (p : T → Bool) where
   front_token : (ts v : List T) (a : T) → (token p).reads (ts ++ v) a → (token p).front ts
@@ -23,13 +31,13 @@ module _ {T : Type 0} (p : T → Bool) where
   pub closed_token : Closed (token p)
   closed_token = record { front = front_token }
 
-  pub completes_token : (t : T) → IsTrue (p t) → Completes (token p) (token p)
-  completes_token t h = record {
+  pub completes_token : (P : T → Type 0) (t : T) → P t → IsTrue (p t) → Completes P (token p) (token p)
+  completes_token P t k h = record {
     within = record { reads = λ ts a q. q; front = λ ts q. q };
-    some = (t ∷ [], t, (refl, h));
+    some = (t ∷ [], t, (refl, h), (k, tt));
     whole = λ ts fr. elim fr [
-      | inl e ↦ (t ∷ [], t, (ap (λ z. z ++ (t ∷ [])) e, h))
-      | inr w ↦ ([], w.0, (append-nil ts ∙ w.1, w.2))
+      | inl e ↦ (t ∷ [], t, (ap (λ z. z ++ (t ∷ [])) e, h), (k, tt))
+      | inr w ↦ ([], w.0, (append-nil ts ∙ w.1, w.2), tt)
     ];
   }
 
@@ -41,50 +49,50 @@ closed_follow l m cl cm = record {
   ];
 }
 
-pub completes_follow : {T A B : Type 0} (l l2 : Language T A) (m m2 : A → Language T B) → Completes l l2 → ((a : A) → Completes (m a) (m2 a)) → Completes (follow l m) (follow l2 m2)
-completes_follow l l2 m m2 k j = record {
+pub completes_follow : {T A B : Type 0} {P : T → Type 0} (l l2 : Language T A) (m m2 : A → Language T B) → Completes P l l2 → ((a : A) → Completes P (m a) (m2 a)) → Completes P (follow l m) (follow l2 m2)
+completes_follow {P = P} l l2 m m2 k j = record {
   within = sub_follow l l2 m m2 k.within (λ a. (j a).within);
-  some = (let n = (j k.some.1).some in (k.some.0 ++ n.0, (k.some.1, n.1), (k.some.0, n.0, refl, k.some.2, n.2)));
+  some = (let n = (j k.some.1).some in (k.some.0 ++ n.0, (k.some.1, n.1), (k.some.0, n.0, refl, k.some.2, n.2), each_both P k.some.0 n.0 k.some.3 n.3));
   whole = λ ts fr. elim fr [
-    | inl q ↦ (let w = k.whole ts q in let n = (j w.1).some in (w.0 ++ n.0, (w.1, n.1), (ts ++ w.0, n.0, sym (append_assoc ts w.0 n.0), w.2, n.2)))
-    | inr q ↦ (let w = (j q.2).whole q.1 q.5 in (w.0, (q.2, w.1), (q.0, q.1 ++ w.0, ap (λ z. z ++ w.0) q.3 ∙ append_assoc q.0 q.1 w.0, k.within.reads q.0 q.2 q.4, w.2)))
+    | inl q ↦ (let w = k.whole ts q in let n = (j w.1).some in (w.0 ++ n.0, (w.1, n.1), (ts ++ w.0, n.0, sym (append_assoc ts w.0 n.0), w.2, n.2), each_both P w.0 n.0 w.3 n.3))
+    | inr q ↦ (let w = (j q.2).whole q.1 q.5 in (w.0, (q.2, w.1), (q.0, q.1 ++ w.0, ap (λ z. z ++ w.0) q.3 ∙ append_assoc q.0 q.1 w.0, k.within.reads q.0 q.2 q.4, w.2), w.3))
   ];
 }
 
 pub closed_then : {T A B : Type 0} (l : Language T A) (m : Language T B) → Closed l → Closed m → Closed (then l m)
 closed_then l m cl cm = closed_follow l (λ _. m) cl (λ _. cm)
 
-pub completes_then : {T A B : Type 0} (l l2 : Language T A) (m m2 : Language T B) → Completes l l2 → Completes m m2 → Completes (then l m) (then l2 m2)
+pub completes_then : {T A B : Type 0} {P : T → Type 0} (l l2 : Language T A) (m m2 : Language T B) → Completes P l l2 → Completes P m m2 → Completes P (then l m) (then l2 m2)
 completes_then l l2 m m2 k j = completes_follow l l2 (λ _. m) (λ _. m2) k (λ _. j)
 
 pub closed_either : {T A : Type 0} (l m : Language T A) → Closed l → Closed m → Closed (either l m)
 closed_either l m cl cm = record { front = λ ts v a rd. elim rd [ inl q ↦ inl (cl.front ts v a q) | inr q ↦ inr (cm.front ts v a q) ] }
 
-pub completes_either : {T A : Type 0} (l l2 m m2 : Language T A) → Completes l l2 → Completes m m2 → Completes (either l m) (either l2 m2)
+pub completes_either : {T A : Type 0} {P : T → Type 0} (l l2 m m2 : Language T A) → Completes P l l2 → Completes P m m2 → Completes P (either l m) (either l2 m2)
 completes_either l l2 m m2 k j = record {
   within = sub_either l l2 m m2 k.within j.within;
-  some = (k.some.0, k.some.1, inl k.some.2);
-  whole = λ ts fr. elim fr [ inl q ↦ (let w = k.whole ts q in (w.0, w.1, inl w.2)) | inr q ↦ (let w = j.whole ts q in (w.0, w.1, inr w.2)) ];
+  some = (k.some.0, k.some.1, inl k.some.2, k.some.3);
+  whole = λ ts fr. elim fr [ inl q ↦ (let w = k.whole ts q in (w.0, w.1, inl w.2, w.3)) | inr q ↦ (let w = j.whole ts q in (w.0, w.1, inr w.2, w.3)) ];
 }
 
 pub closed_made : {T A B : Type 0} (f : A → B) (l : Language T A) → Closed l → Closed (made f l)
 closed_made f l cl = record { front = λ ts v b rd. cl.front ts v rd.0 rd.1 }
 
-pub completes_made : {T A B : Type 0} (f : A → B) (l l2 : Language T A) → Completes l l2 → Completes (made f l) (made f l2)
+pub completes_made : {T A B : Type 0} {P : T → Type 0} (f : A → B) (l l2 : Language T A) → Completes P l l2 → Completes P (made f l) (made f l2)
 completes_made f l l2 k = record {
   within = sub_made f l l2 k.within;
-  some = (k.some.0, f k.some.1, (k.some.1, k.some.2, refl));
-  whole = λ ts fr. (let w = k.whole ts fr in (w.0, f w.1, (w.1, w.2, refl)));
+  some = (k.some.0, f k.some.1, (k.some.1, k.some.2, refl), k.some.3);
+  whole = λ ts fr. (let w = k.whole ts fr in (w.0, f w.1, (w.1, w.2, refl), w.3));
 }
 
 pub closed_marked : {T P A : Type 0} (h : T → P) (d : P) (l : Language T A) → Closed l → Closed (marked h d l)
 closed_marked h d l cl = record { front = λ ts v pa rd. cl.front ts v pa.1 rd.0 }
 
-pub completes_marked : {T P A : Type 0} (h : T → P) (d : P) (l l2 : Language T A) → Completes l l2 → Completes (marked h d l) (marked h d l2)
+pub completes_marked : {T P A : Type 0} {Q : T → Type 0} (h : T → P) (d : P) (l l2 : Language T A) → Completes Q l l2 → Completes Q (marked h d l) (marked h d l2)
 completes_marked h d l l2 k = record {
   within = sub_marked h d l l2 k.within;
-  some = (k.some.0, (head_of h d k.some.0, k.some.1), (k.some.2, refl));
-  whole = λ ts fr. (let w = k.whole ts fr in (w.0, (head_of h d (ts ++ w.0), w.1), (w.2, refl)));
+  some = (k.some.0, (head_of h d k.some.0, k.some.1), (k.some.2, refl), k.some.3);
+  whole = λ ts fr. (let w = k.whole ts fr in (w.0, (head_of h d (ts ++ w.0), w.1), (w.2, refl), w.3));
 }
 
 front_empty : {T : Type 0} (ts v : List T) → ts ++ v ≡ [] → ts ≡ []
@@ -94,11 +102,11 @@ front_empty (t ∷ ts) v rd = absurd cc
 pub closed_empty : {T : Type 0} → Closed (empty {T = T})
 closed_empty = record { front = λ ts v a rd. front_empty ts v rd }
 
-pub completes_empty : {T : Type 0} → Completes (empty {T = T}) empty
+pub completes_empty : {T : Type 0} {P : T → Type 0} → Completes P (empty {T = T}) empty
 completes_empty = record {
   within = record { reads = λ ts a q. q; front = λ ts q. q };
-  some = ([], tt, refl);
-  whole = λ ts fr. ([], tt, append-nil ts ∙ fr);
+  some = ([], tt, refl, tt);
+  whole = λ ts fr. ([], tt, append-nil ts ∙ fr, tt);
 }
 
 module _ {T A : Type 0} (l : Language T A) (cl : Closed l) where
@@ -114,31 +122,31 @@ module _ {T A : Type 0} (l : Language T A) (cl : Closed l) where
   pub closed_many : Closed (many l)
   closed_many = record { front = λ ts v got rd. closed_turns got ts v rd }
 
-turns_push : {T A : Type 0} (l l2 : Language T A) → Sub l l2 → (got : List A) (u v : List T) (a : A) → turns l u got → l2.reads v a → turns l2 (u ++ v) (got ++ a ∷ [])
+pub turns_push : {T A : Type 0} (l l2 : Language T A) → Sub l l2 → (got : List A) (u v : List T) (a : A) → turns l u got → l2.reads v a → turns l2 (u ++ v) (got ++ a ∷ [])
 turns_push l l2 s [] u v a rd q = (v, [], ap (λ z. z ++ v) rd ∙ sym (append-nil v), q, refl)
 turns_push l l2 s (b ∷ got) u v a rd q =
     (rd.0, rd.1 ++ v, ap (λ z. z ++ v) rd.2 ∙ append_assoc rd.0 rd.1 v, s.reads rd.0 b rd.3, turns_push l l2 s got rd.1 v a rd.4 q)
 
-pub completes_many : {T A : Type 0} (l l2 : Language T A) → Completes l l2 → Completes (many l) (many l2)
+pub completes_many : {T A : Type 0} {P : T → Type 0} (l l2 : Language T A) → Completes P l l2 → Completes P (many l) (many l2)
 completes_many l l2 k = record {
   within = sub_many l l2 k.within;
-  some = ([], [], refl);
+  some = ([], [], refl, tt);
   whole = λ ts fr. elim fr.5 [
-    | inl e ↦ ([], fr.0, subst (λ z. turns l2 z fr.0) (let q = fr.3 ∙ ap (λ z. fr.1 ++ z) e ∙ append-nil fr.1 in sym (append-nil ts ∙ q)) (sub_turns l l2 k.within fr.0 fr.1 fr.4))
-    | inr q ↦ (let w = k.whole fr.2 q in (w.0, fr.0 ++ w.1 ∷ [], subst (λ z. turns l2 z (fr.0 ++ w.1 ∷ [])) (sym (ap (λ z. z ++ w.0) fr.3 ∙ append_assoc fr.1 fr.2 w.0)) (turns_push l l2 k.within fr.0 fr.1 (fr.2 ++ w.0) w.1 fr.4 w.2)))
+    | inl e ↦ ([], fr.0, subst (λ z. turns l2 z fr.0) (let q = fr.3 ∙ ap (λ z. fr.1 ++ z) e ∙ append-nil fr.1 in sym (append-nil ts ∙ q)) (sub_turns l l2 k.within fr.0 fr.1 fr.4), tt)
+    | inr q ↦ (let w = k.whole fr.2 q in (w.0, fr.0 ++ w.1 ∷ [], subst (λ z. turns l2 z (fr.0 ++ w.1 ∷ [])) (sym (ap (λ z. z ++ w.0) fr.3 ∙ append_assoc fr.1 fr.2 w.0)) (turns_push l l2 k.within fr.0 fr.1 (fr.2 ++ w.0) w.1 fr.4 w.2), w.3))
   ];
 }
 
 pub closed_maybe : {T A : Type 0} (l : Language T A) → Closed l → Closed (maybe l)
 closed_maybe l cl = closed_either (made Some l) (made (λ _. None) empty) (closed_made Some l cl) (closed_made (λ _. None) empty closed_empty)
 
-pub completes_maybe : {T A : Type 0} (l l2 : Language T A) → Completes l l2 → Completes (maybe l) (maybe l2)
+pub completes_maybe : {T A : Type 0} {P : T → Type 0} (l l2 : Language T A) → Completes P l l2 → Completes P (maybe l) (maybe l2)
 completes_maybe l l2 k = record {
   within = sub_maybe l l2 k.within;
-  some = ([], None, inr (tt, refl, refl));
+  some = ([], None, inr (tt, refl, refl), tt);
   whole = λ ts fr. elim fr [
-    | inl q ↦ (let w = k.whole ts q in (w.0, Some w.1, inl (w.1, w.2, refl)))
-    | inr q ↦ ([], None, inr (tt, append-nil ts ∙ q, refl))
+    | inl q ↦ (let w = k.whole ts q in (w.0, Some w.1, inl (w.1, w.2, refl), w.3))
+    | inr q ↦ ([], None, inr (tt, append-nil ts ∙ q, refl), tt)
   ];
 }
 
@@ -158,24 +166,3 @@ module _ {T A B : Type 0} (l : Language T A) (m : Language T B) (cl : Closed l) 
 
   pub closed_ended : Closed (ended l m)
   closed_ended = record { front = λ ts v got rd. closed_ends got.0 got.1 ts v rd.0 rd.1 rd.2 rd.3 rd.4 }
-
-pub completes_ended : {T A B : Type 0} (l l2 : Language T A) (m m2 : Language T B) → Completes l l2 → Completes m m2 → Completes (ended l m) (ended l2 m2)
-completes_ended l l2 m m2 k j = record {
-  within = sub_ended l l2 m m2 k.within j.within;
-  some = ([], ([], None), ([], [], refl, refl, refl));
-  whole = λ ts fr. elim fr.5 [
-    | inl e ↦ ([], (fr.0, None), (fr.1, [], append-nil ts ∙ fr.3 ∙ ap (λ z. fr.1 ++ z) e, sub_turns l l2 k.within fr.0 fr.1 fr.4, refl))
-    | inr q ↦ elim q [
-      | inl y ↦ (let w = k.whole fr.2 y in (
-        w.0,
-        (fr.0 ++ w.1 ∷ [], None),
-        (fr.1 ++ (fr.2 ++ w.0), [], ap (λ z. z ++ w.0) fr.3 ∙ append_assoc fr.1 fr.2 w.0 ∙ sym (append-nil (fr.1 ++ (fr.2 ++ w.0))), turns_push l l2 k.within fr.0 fr.1 (fr.2 ++ w.0) w.1 fr.4 w.2, refl),
-      ))
-      | inr y ↦ (let w = j.whole fr.2 y in (
-        w.0,
-        (fr.0, Some w.1),
-        (fr.1, fr.2 ++ w.0, ap (λ z. z ++ w.0) fr.3 ∙ append_assoc fr.1 fr.2 w.0, sub_turns l l2 k.within fr.0 fr.1 fr.4, w.2),
-      ))
-    ]
-  ];
-}

@@ -3,6 +3,7 @@ pub mod Firsts
 pub mod Sequences
 pub mod Choices
 pub mod Repeats
+pub mod Valued
 pub mod Endings
 pub mod Wider
 pub mod Fronts

@@ -1,13 +1,12 @@
 -- What each production keeps, form by form. A production is given at a nesting (l) and at one more (m), with its reader (f).
 use Rattle.std.proofs.Common.{◌≡◌, ℕ, suc, ◌≤◌, ◌<◌, List, [], ◌∷◌, ◌++◌, length, Bool, true, false, ◌&&◌, IsTrue, ◌⊎◌, inl, inr, refl, sym, ap, ◌∙◌, subst, arith, length-append, Ok, Err, cond, Option, Some, None}
 use Rattle.qvt_grammar.specs.Language.{Language, follow, then, either, many, turns, made, never, empty, maybe, marked, lastly}
-use Rattle.qvt_grammar.specs.Reader.{At, Answer, Exact, starts, follow_at, then_at, made_at, choose_at, many_at, empty_at, maybe_at, ended_at}
+use Rattle.qvt_grammar.specs.Reader.{At, Answer, Exact, starts, follow_at, then_at, made_at, choose_at, many_at, empty_at, maybe_at}
 use Rattle.qvt_grammar.proofs.Firsts.{Within, Firsts, Solid, firsts_within, exact_within, firsts_token, solid_token, token_exact, firsts_made, solid_made, made_exact, firsts_marked, solid_marked, marked_exact, firsts_empty, empty_exact, firsts_never}
 use Rattle.qvt_grammar.proofs.Sequences.{follow_exact, then_exact, firsts_follow, firsts_then, solid_first, solid_second, firsts_then_over}
 use Rattle.qvt_grammar.proofs.Choices.{firsts_either, solid_either, either_exact, firsts_maybe, maybe_exact}
 use Rattle.qvt_grammar.proofs.Repeats.{firsts_many, many_exact, read_less}
-use Rattle.qvt_grammar.proofs.Endings.{ExactTurn, firsts_ended, ended_exact}
-use Rattle.qvt_grammar.proofs.Wider.{Sub, sub_same, sub_follow, sub_then, sub_either, sub_many, sub_made, sub_marked, sub_maybe, sub_ended}
+use Rattle.qvt_grammar.proofs.Wider.{Sub, sub_same, sub_follow, sub_then, sub_either, sub_many, sub_made, sub_marked, sub_maybe}
 use Rattle.qvt_parser_grammar.specs.Tokens.{Tok, of, is, code_of}
 use Rattle.qvt_parser_grammar.specs.Readers.{Reader, nowhere, the, the_at, placed, placed_at}
 use Rattle.qvt_parser_grammar.specs.Series.{left, right, series, barring, barring_at}
@@ -299,24 +298,6 @@ module _ {A B : Type 0} {l l2 : Language Tok (A ⊎ B)} where
 
   pub sub_right : Sub l l2 → Sub (right l) (right l2)
   sub_right s = record { reads = λ ts a h. s.reads ts (inr a) h; front = s.front }
-
-turned : {X : Type 0} {a b : X} {s r : List Tok} {E : Type 0} → ((b ≡ a) × (s ≡ r)) ⊎ E → ((a ≡ b) × (s ≡ r)) ⊎ E
-turned (inl q) = inl (sym q.0, q.1)
-turned (inr q) = inr q
-
-turn_of : {A B : Type 0} (c : Tok → Bool) (l : Language Tok (A ⊎ B)) (ts : List Tok) (x : Answer Tok (A ⊎ B)) → Exact c l ts x → ExactTurn c c (left l) (right l) ts x
-turn_of c l ts (Ok (inl a, r)) k = record { found = k.found; only1 = λ u s b e rd. turned (k.only u s (inl b) e rd); only2 = λ u s b e rd. turned (k.only u s (inr b) e rd); farthest = λ u s e fr. k.farthest u s e (elim fr [ inl q ↦ q | inr q ↦ q ]) }
-turn_of c l ts (Ok (inr a, r)) k = record { found = k.found; only1 = λ u s b e rd. turned (k.only u s (inl b) e rd); only2 = λ u s b e rd. turned (k.only u s (inr b) e rd); farthest = λ u s e fr. k.farthest u s e (elim fr [ inl q ↦ q | inr q ↦ q ]) }
-turn_of c l ts (Err (At r)) k = record { found = (k.found.0, k.found.1, inl k.found.2); only1 = λ u s b. k.only u s (inl b); only2 = λ u s b. k.only u s (inr b); farthest = λ u s e fr. k.farthest u s e (elim fr [ inl q ↦ q | inr q ↦ q ]) }
-
-module _ {n : ℕ} {A B : Type 0} {b1 : Bool} {f1 x1 : List ℕ} {l l2 : Language Tok (A ⊎ B)} {f : Reader (A ⊎ B)} where
-  pub loose_series : (p : List ℕ) → all_in f1 p ≡ true → none_in x1 p ≡ true → Good n b1 f1 x1 l l2 f → Loose n b1 p (p ++ x1) (series l) (series l2) (ended_at (of p) f)
-  loose_series p w a k = record {
-    firsts = firsts_ended (of p) (of x1) (of x1) (of (p ++ x1)) (left l) (right l) (firsts_left p f1 w k.loose.firsts) (firsts_right p f1 w k.loose.firsts) (λ b. k.solid (inl b)) (λ b. k.solid (inr b)) (apart x1 p a) (within_right p x1) (within_right p x1) (within_left p x1);
-    exact = λ ts. ended_exact (of p) (of x1) (of x1) (of (p ++ x1)) (left l) (right l) (firsts_left p f1 w k.loose.firsts) (firsts_right p f1 w k.loose.firsts) (λ b. k.solid (inl b)) (λ b. k.solid (inr b)) (apart x1 p a) (within_right p x1) (within_right p x1) (within_left p x1) f (λ r. turn_of (of x1) l r (f r) (k.loose.exact r)) ts;
-    sub = sub_ended (left l) (left l2) (right l) (right l2) (sub_left k.loose.sub) (sub_right k.loose.sub);
-    low = low_series k.loose.low;
-  }
 
 module _ {n : ℕ} {A : Type 0} {b1 b2 : Bool} {f1 x1 f2 x2 : List ℕ} {l l2 m m2 : Language Tok A} {f g : Reader A} where
   pub good_either : (p : List ℕ) → Good n b1 f1 x1 l l2 f → Good n b2 f2 x2 m m2 g → all_in f1 p ≡ true → none_in p f2 ≡ true → Good n (b1 && b2) (f1 ++ f2) (x1 ++ x2) (either l m) (either l2 m2) (choose_at (of p) f g)

@@ -3,7 +3,7 @@ use Rattle.std.proofs.Common.{ℕ, zero, List, refl, Bool, subst}
 use Rattle.qvt_grammar.specs.Language.{Language}
 use Rattle.qvt_grammar.proofs.Repeats.{read_less}
 use Rattle.qvt_parser_grammar.specs.Tokens.{Tok, of}
-use Rattle.qvt_parser_grammar.proofs.Valued.{ExactV}
+use Rattle.qvt_grammar.proofs.Valued.{ExactV}
 use Rattle.qvt_parser_grammar.proofs.ValuedForms.{GoodV}
 use Rattle.qvt_parser_grammar.proofs.GoodBlocks.{goodv_statement}
 use Rattle.qvt_grammar.specs.Reader.{Consumes, made_at, then_at}

@@ -1,8 +1,6 @@
 pub mod Sets
 pub mod Forms
 pub mod Live
-pub mod Valued
-pub mod Endings
 pub mod GoodExprs
 pub mod GoodSteps
 pub mod GoodTower
@@ -19,6 +17,7 @@ pub mod LiveStmts
 pub mod LiveBlocks
 pub mod LiveUnits
 pub mod LiveNesting
+pub mod Starts
 pub mod Whole
 pub mod LessExprs
 pub mod EndedLoops

@@ -1,6 +1,8 @@
 -- Fronts of statements are what begins read lists.
 use Rattle.std.proofs.Common.{List, ◌++◌, inl, inr, refl}
+use Rattle.qvt_grammar.proofs.Fronts.{Each, each_both}
 use Rattle.qvt_parser_grammar.specs.Tokens.{Tok}
+use Rattle.qvt_parser_grammar.specs.Same.{IsSimple}
 use Rattle.qvt_parser_grammar.specs.Leads.{Lead, Bracketed, EachPart}
 use Rattle.qvt_parser_grammar.specs.Trees.{second, inner}
 use Rattle.qvt_parser_grammar.specs.Grammar.{Nested, lead_step}
@@ -40,15 +42,15 @@ module _ {i j : Nested} (h : LiveNested i j) where
   live_branches = live_then h.block (live_then (live_many live_arm) (live_then (live_maybe live_else_part) (live_maybe (live_the EndifWord))))
 
   -- some `forEach` finishes the steps
-  each_step : (v : List Tok) × (part : EachPart) × (lead_step j).reads v (inr part)
+  each_step : (v : List Tok) × (part : EachPart) × (lead_step j).reads v (inr part) × Each IsSimple v
   unfolding lead_step
   each_step = let t = (live_the Arrow).completes.some in let w = (live_each_tail h).completes.some in
-      (t.0 ++ w.0, w.1, inr ((t.1, inr w.1), (t.0, w.0, refl, t.2, inl (w.1, w.2, refl)), refl))
+      (t.0 ++ w.0, w.1, inr ((t.1, inr w.1), (t.0, w.0, refl, t.2, inl (w.1, w.2, refl)), refl), each_both IsSimple t.0 w.0 t.3 w.3)
 
   live_choice : Live (choice i) (choice j)
   unfolding choice
   live_choice = live_then (live_then (live_expr h) (live_made inner (live_then (live_the ElseWord) (live_then (live_expr h) (live_the EndifWord)))))
-      (live_finished (live_lead_step h) each_step.0 each_step.1 each_step.2)
+      (live_finished (live_lead_step h) each_step.0 each_step.1 each_step.2 each_step.3)
 
   live_if_rest : (x : Lead) → Live (if_rest i x) (if_rest j x)
   live_if_rest (Bracketed c) = live_either (live_made inl live_branches) (live_made second (live_then (live_the ThenWord) (live_either (live_made inl live_branches) (live_made inr live_choice))))

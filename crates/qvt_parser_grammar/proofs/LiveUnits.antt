@@ -1,10 +1,11 @@
 -- Fronts of units and of the module are what begins read lists.
 use Rattle.std.specs.Prelude.{ℕ, zero, suc, Bool, true, false, codes}
 use Rattle.qvt_parser_grammar.specs.Leads.{Ended}
-use Rattle.std.proofs.Common.{◌≡◌, refl, pos}
+use Rattle.std.proofs.Common.{◌≡◌, refl, pos, inr}
 use Rattle.qvt_grammar.proofs.Fronts.{closed_token, completes_token}
 use Rattle.qvt_parser_grammar.specs.Tokens.{Tok, of}
 use Rattle.qvt_parser_grammar.specs.Readers.{nowhere}
+use Rattle.qvt_parser_grammar.specs.Same.{IsSimple}
 use Rattle.qvt_parser_grammar.specs.Trees.{first, second, inner, nothing, cons_of, text_of}
 use Rattle.qvt_parser_grammar.specs.Grammar.{Nested}
 use Rattle.qvt_parser_grammar.specs.Units.{param, params, feature, features, class_unit, main_unit, helper_body, helper_unit, constructor_unit, result_decl, when_clause, clause, init_part, end_part, sections, body, mapping_unit, unit, uri, model_type, model_param, header, transformation, end_unless, end_after, clauses, is_strictness, strictness}
@@ -22,7 +23,8 @@ unfolding strict_sample
 strict_passes = refl
 
 live_strictness : Live strictness strictness
-live_strictness = record { closed = closed_token is_strictness; completes = completes_token is_strictness strict_sample strict_passes }
+unfolding strict_sample
+live_strictness = record { closed = closed_token is_strictness; completes = completes_token is_strictness IsSimple strict_sample (record { number = refl; text = inr refl }) strict_passes }
 
 pub live_result_decl : Live result_decl result_decl
 unfolding result_decl

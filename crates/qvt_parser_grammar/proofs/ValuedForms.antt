@@ -6,15 +6,14 @@ use Rattle.qvt_grammar.proofs.Lists.{rest_shorter, all_left, nil_right}
 use Rattle.qvt_grammar.proofs.Firsts.{Within, Firsts, Solid, firsts_within, firsts_made, solid_made, firsts_marked, solid_marked}
 use Rattle.qvt_grammar.proofs.Sequences.{firsts_follow, firsts_then_over, solid_first}
 use Rattle.qvt_grammar.proofs.Choices.{firsts_either, solid_either}
-use Rattle.qvt_grammar.proofs.Endings.{ExactTurn, firsts_ended}
+use Rattle.qvt_grammar.proofs.Valued.{IsReadingV, ExactV, valued, unvalued, valued_made, valued_marked, valued_follow, valued_either, valued_within}
+use Rattle.qvt_grammar.proofs.Endings.{ExactTurn, chosen, firsts_ended, valued_ended}
 use Rattle.qvt_grammar.proofs.Wider.{Sub, sub_follow, sub_then, sub_either, sub_made, sub_marked, sub_ended}
 use Rattle.qvt_parser_grammar.specs.Tokens.{Tok, of}
 use Rattle.qvt_parser_grammar.specs.Readers.{Reader, nowhere, placed, placed_at}
 use Rattle.qvt_parser_grammar.specs.Series.{left, right, series, finished, finish, finished_at}
 use Rattle.qvt_parser_grammar.proofs.Sets.{all_in, none_in, within, apart, within_left, within_right}
 use Rattle.qvt_parser_grammar.proofs.Forms.{IsLow, bound, Loose, Good, loose_maybe, low_follow, low_over, low_either, low_made, low_marked, low_series, sub_left, sub_right, firsts_left, firsts_right}
-use Rattle.qvt_parser_grammar.proofs.Valued.{IsReadingV, ExactV, valued, unvalued, valued_made, valued_marked, valued_follow, valued_either, valued_within}
-use Rattle.qvt_parser_grammar.proofs.Endings.{chosen, valued_ended}
 
 pub record LooseV {A : Type 0} (n : ℕ) (early : Bool) (first : List ℕ) (next : A → List ℕ) (l m : Language Tok A) (f : Reader A) : Type 0 where
   pub firsts : Firsts (of first) l
@@ -190,8 +189,7 @@ chosen_next x y (got, (Some b)) t h = h
 pub loosev_series : {n : ℕ} {A B : Type 0} {b1 : Bool} {f1 : List ℕ} {l l2 : Language Tok (A ⊎ B)} {f : Reader (A ⊎ B)} (p c1 c2 : List ℕ) → all_in f1 p ≡ true → none_in c1 p ≡ true
     → GoodV n b1 f1 (turn_next c1 c2) l l2 f → LooseV n b1 p (ended_next (p ++ c1) c2) (series l) (series l2) (ended_at (of p) f)
 loosev_series {A = A} {B = B} {f1 = f1} {l = l} {l2 = l2} {f = f} p c1 c2 w a k = record {
-  firsts = firsts_ended (of p) (of c1) (of c2) (of (p ++ (c1 ++ c2))) (left l) (right l) (firsts_left p f1 w k.loose.firsts) (firsts_right p f1 w k.loose.firsts) (λ b. k.solid (inl b)) (λ b. k.solid (inr b)) (apart c1 p a)
-      (λ t h. within_right p (c1 ++ c2) t (within_left c1 c2 t h)) (λ t h. within_right p (c1 ++ c2) t (within_right c1 c2 t h)) (within_left p (c1 ++ c2));
+  firsts = firsts_ended (of p) (of c1) (of c2) (of (p ++ c1)) (left l) (right l) (firsts_left p f1 w k.loose.firsts) (firsts_right p f1 w k.loose.firsts) (λ b. k.solid (inl b)) (λ b. k.solid (inr b)) (apart c1 p a) (within_right p c1) (within_left p c1);
   exact = λ ts. valued_within (λ all. chosen (of (p ++ c1)) (of c2) all.1) (λ all. of (ended_next (p ++ c1) c2 all)) (series l) ts (ended_at (of p) f ts) (chosen_next (p ++ c1) c2)
       (valued_ended (of p) (of c1) (of c2) (of (p ++ c1)) (left l) (right l) (firsts_left p f1 w k.loose.firsts) (firsts_right p f1 w k.loose.firsts) (λ b. k.solid (inl b)) (λ b. k.solid (inr b)) (apart c1 p a) (within_right p c1) (within_left p c1) f (λ r. turn_of c1 c2 l r (f r) (k.loose.exact r)) ts);
   sub = sub_ended (left l) (left l2) (right l) (right l2) (sub_left k.loose.sub) (sub_right k.loose.sub);

@@ -15,6 +15,8 @@ pub mod Statements
 pub mod UnitTrees
 pub mod Units
 pub mod ReadingUnits
+pub mod Same
 pub mod Module
+pub mod Laws
 pub mod ReadingStatements
 pub mod Conditionals

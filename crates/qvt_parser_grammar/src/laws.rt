@@ -1,4 +1,4 @@
-ghost use Rattle.std.specs.Prelude.{◌≡◌, ◌≤◌, ◌++◌, List, length, ℕ, suc, Bool, true, false, Ok, Err};
+ghost use Rattle.std.specs.Prelude.{◌≡◌, ◌≤◌, List, length, ℕ, suc, Bool, true, false, Ok, Err};
 ghost use Rattle.qvt_grammar.specs.Reader.{At};
 ghost use Rattle.qvt_tree_types.specs.Module.{ModuleTerm};
 ghost use Rattle.qvt_parser_grammar.specs.Tokens.{Tok};
@@ -8,20 +8,31 @@ ghost use Rattle.qvt_parser_grammar.specs.Statements.{if_stmt};
 ghost use Rattle.qvt_parser_grammar.specs.Conditionals.{if_forms};
 ghost use Rattle.qvt_parser_grammar.specs.Nesting.{nested, nested_at};
 ghost use Rattle.qvt_parser_grammar.specs.ReadingUnits.{transformation_at};
-ghost use Rattle.qvt_parser_grammar.specs.Module.{Reads, IsFront, IsFault};
+ghost use Rattle.qvt_parser_grammar.specs.Units.{transformation, unit};
+ghost use Rattle.qvt_parser_grammar.specs.Module.{Reads, IsFault};
+ghost use Rattle.qvt_parser_grammar.specs.Laws.{Beginnings, AtMostOne, Faults};
 
-/// Its clauses are the law of the grammar's beginnings: a list of tokens is one exactly where some
-/// list that is read begins with it. It does nothing.
+/// Its clauses are the law of beginnings, for a transformation and for one of its units: a list of
+/// tokens is a front exactly where some list that is read begins with it, and what completes a front
+/// is tokens that a text can say. It does nothing.
 pub fn beginnings()
-    ensures begins { (ts v : List Tok) (m : ModuleTerm) → Reads (ts ++ v) m → IsFront ts }
-    ensures completed { (ts : List Tok) → IsFront ts → (v : List Tok) × (m : ModuleTerm) × Reads (ts ++ v) m }
+    ensures whole { Beginnings transformation }
+    ensures part { Beginnings unit }
 {}
 
-/// Its clauses say that a list of tokens is read as at most one tree, and has at most one fault. It
-/// does nothing.
+/// Its clauses say, for a transformation and for one of its units, that a list of tokens is read as at
+/// most one tree, and has at most one fault. It does nothing.
 pub fn at_most_one()
-    ensures one_tree { (ts : List Tok) (m n : ModuleTerm) → Reads ts m → Reads ts n → m ≡ n }
-    ensures one_fault { (ts r s : List Tok) → IsFault ts r → IsFault ts s → r ≡ s }
+    ensures whole { AtMostOne transformation }
+    ensures part { AtMostOne unit }
+{}
+
+/// Its clauses say, for a transformation and for one of its units, that a list of tokens is read or
+/// has a fault, and that this is the first token such that the tokens up to and including it are no
+/// front, or the end. It does nothing.
+pub fn faults()
+    ensures whole { Faults transformation }
+    ensures part { Faults unit }
 {}
 
 /// Its clauses say what the reader's answer for a list of tokens means, at any nesting of at least

@@ -11,49 +11,49 @@ use Rattle.qvt_parser_grammar.specs.declared.token.Class.TheVariants.{Name, Inte
 use Rattle.qvt_parser_grammar.specs.Leads.{Lead, Plain, Bracketed, Each, EachPart}
 use Rattle.qvt_parser_grammar.specs.Grammar.{Nested, name, more_names, path, paths, unit_path, extent, kind_word, coll_type, typed, colon_type, expr, exprs, args, literal, word, named_expr, item, coll, if_expr, colon_path, object_head, object, new_expr, map_call, filter_head, bar_expr, filter, all_word, in_word, all_form, in_form, resolve, brackets, longer, bare_expr, other_primary, primary, more_exprs}
 use Rattle.qvt_parser_grammar.specs.Trees.{text_of, named_of, path_of, unit_path_of, coll_type_of, int_of, str_of, true_of, false_of, null_of, self_of, result_of, named_expr_of, coll_of, range_of, item_of, if_of, result_head, named_head, object_of, new_of, map_of, all_of, in_of, resolve_of, no_name, named_type, filter_of, bare, bracketed, expr_of}
-use Rattle.qvt_parser_names.specs.Names.{AllOf, IfThere, NamesHold, PathHolds, VariableHolds, TypeHolds, ExprHolds, ExprsHold, OptionalHolds, ItemHolds, ItemsHold, RangeHolds, MapHolds, ResolveHolds, FilterHolds, TargetHolds, StmtHolds, StmtsHold}
-use Rattle.qvt_parser_names.proofs.Forms.{Gives, Any, Both, OneOf, each_any, each_the, each_then, each_made, each_either, each_many, each_maybe, each_placed, of_second, of_first, of_inner, of_cons, of_nothing}
+use Rattle.qvt_parser_names.specs.Names.{Told, AllOf, IfThere, NamesHold, PathHolds, VariableHolds, TypeHolds, ExprHolds, ExprsHold, OptionalHolds, ItemHolds, ItemsHold, RangeHolds, MapHolds, ResolveHolds, FilterHolds, TargetHolds, StmtHolds, StmtsHold}
+use Rattle.qvt_parser_names.proofs.Forms.{Gives, Any, Both, OneOf, each_any, each_the, each_name, each_text, each_then, each_made, each_either, each_many, each_maybe, each_placed, of_second, of_first, of_inner, of_cons, of_nothing}
 
 -- N of a name
-abbrev pub NamedP : (List ℕ → Type 0) → Named → Type 0
-NamedP N n = N n.text
+abbrev pub NamedP : Told → Named → Type 0
+NamedP N n = N.name n.text
 
-abbrev pub UnitPathP : (List ℕ → Type 0) → UnitPath → Type 0
+abbrev pub UnitPathP : Told → UnitPath → Type 0
 UnitPathP N p = NamesHold N p.names
 
 -- after a `forEach`
-pub record PartP (N : List ℕ → Type 0) (p : EachPart) : Type 0 where
-  pub name : N p.name
+pub record PartP (N : Told) (p : EachPart) : Type 0 where
+  pub name : N.name p.name
   pub kind : IfThere (TypeHolds N) p.kind
   pub condition : OptionalHolds N p.condition
   pub body : AllOf (StmtHolds N) p.body
 
-abbrev pub LeadP : (List ℕ → Type 0) → Lead → Type 0
+abbrev pub LeadP : Told → Lead → Type 0
 LeadP N (Plain e target) = ExprHolds N e × IfThere (TargetHolds N) target
 LeadP N (Bracketed e) = ExprHolds N e
 LeadP N (Each e part) = ExprHolds N e × PartP N part
 
 -- what stands nested inside
-pub record GivesNested (N : List ℕ → Type 0) (i : Nested) : Type 0 where
+pub record GivesNested (N : Told) (i : Nested) : Type 0 where
   pub flagged : Gives N (LeadP N) i.flagged
   pub block : Gives N (AllOf (StmtHolds N)) i.block
   pub kind : Gives N (TypeHolds N) i.kind
 
 -- the first part of an `object`
-abbrev HeadP : (List ℕ → Type 0) → Option ObjectVar × PathTree → Type 0
+abbrev HeadP : Told → Option ObjectVar × PathTree → Type 0
 HeadP N = Both (IfThere (VariableHolds N)) (PathHolds N)
 
-abbrev FilterHeadP : (List ℕ → Type 0) → Option (List ℕ) × TypeTerm → Type 0
-FilterHeadP N = Both (IfThere N) (TypeHolds N)
+abbrev FilterHeadP : Told → Option (List ℕ) × TypeTerm → Type 0
+FilterHeadP N = Both (IfThere N.name) (TypeHolds N)
 
-abbrev FormP : (List ℕ → Type 0) → ResolveWord × (Option PathTree × Option FilterTerm) → Type 0
+abbrev FormP : Told → ResolveWord × (Option PathTree × Option FilterTerm) → Type 0
 FormP N = Both Any (Both (IfThere (PathHolds N)) (IfThere (FilterHolds N)))
 
-abbrev pub PrimaryP : (List ℕ → Type 0) → ExprTerm × Bool → Type 0
+abbrev pub PrimaryP : Told → ExprTerm × Bool → Type 0
 PrimaryP N x = ExprHolds N x.0
 
-module _ (N : List ℕ → Type 0) where
-  texts : (ns : List Named) → AllOf (NamedP N) ns → AllOf N (map (λ m. m.text) ns)
+module _ (N : Told) where
+  texts : (ns : List Named) → AllOf (NamedP N) ns → AllOf N.name (map (λ m. m.text) ns)
   texts [] h = tt
   texts (n ∷ ns) h = (h.0, texts ns h.1)
 
@@ -91,11 +91,11 @@ module _ (N : List ℕ → Type 0) where
   named_head_is (n, (inl p)) h = (h.0, h.1)
   named_head_is (n, (inr ns)) h = (tt, (h.0, texts ns h.1))
 
-module _ {N : List ℕ → Type 0} where
+module _ {N : Told} where
   -- names
   pub of_name : Gives N (NamedP N) name
   unfolding name
-  of_name = each_made (NamedP N) named_of (λ t h. h) (each_the Name)
+  of_name = each_made (NamedP N) named_of (λ t h. h) each_name
 
   pub of_more_names : Gives N (AllOf (NamedP N)) more_names
   unfolding more_names
@@ -113,9 +113,9 @@ module _ {N : List ℕ → Type 0} where
   unfolding unit_path
   of_unit_path = each_made (UnitPathP N) unit_path_of (λ a h. (h.0, texts N a.1 h.1)) (each_then of_name of_more_names)
 
-  pub of_extent : Gives N (IfThere N) extent
+  pub of_extent : Gives N (IfThere N.name) extent
   unfolding extent
-  of_extent = each_maybe (of_second (each_the AtSign) (each_made N text_of (λ t h. h) (each_the Name)))
+  of_extent = each_maybe (of_second (each_the AtSign) (each_made N.name text_of (λ t h. h) each_name))
 
   of_colon_path : Gives N (PathHolds N) colon_path
   unfolding colon_path
@@ -126,7 +126,7 @@ module _ {N : List ℕ → Type 0} where
   unfolding literal
   of_literal =
       each_either (each_made (ExprHolds N) int_of (λ t h. tt) (each_the Integer))
-      (each_either (each_made (ExprHolds N) str_of (λ t h. h) (each_the Str))
+      (each_either (each_made (ExprHolds N) str_of (λ t h. h) each_text)
       (each_either (each_made (ExprHolds N) true_of (λ t h. tt) (each_the TrueWord)) (each_made (ExprHolds N) false_of (λ t h. tt) (each_the FalseWord))))
 
   of_word : Gives N (ExprHolds N) word
@@ -141,7 +141,7 @@ module _ {N : List ℕ → Type 0} where
       each_either (each_made (HeadP N) result_head (λ a h. (tt, h.1)) (each_then (each_the ResultWord) of_colon_path))
       (each_made (HeadP N) named_head (named_head_is N) (each_then of_name (each_either (each_made (OneOf (PathHolds N) (AllOf (NamedP N))) inl (λ a h. h) of_colon_path) (each_made (OneOf (PathHolds N) (AllOf (NamedP N))) inr (λ a h. h) of_more_names))))
 
-module _ {N : List ℕ → Type 0} {i : Nested} (h : GivesNested N i) where
+module _ {N : Told} {i : Nested} (h : GivesNested N i) where
   pub of_coll_type : Gives N (TypeHolds N) (coll_type i)
   unfolding coll_type
   of_coll_type = each_made (TypeHolds N) coll_type_of (λ a k. k.1) (each_then (each_any {l = kind_word}) (of_inner (each_the OpenRound) h.kind (each_the CloseRound)))

@@ -1,27 +1,32 @@
--- What holds of all that a language reads from tokens of whose texts N holds, by the forms of the grammar.
-use Rattle.std.proofs.Common.{◌≡◌, ℕ, List, [], ◌∷◌, ◌++◌, Bool, ◌⊎◌, inl, inr, sym, subst, Option, Some, None}
+-- What holds of all that a language reads from tokens of whose names and texts it is told, by the forms of the grammar.
+use Rattle.std.proofs.Common.{◌≡◌, ℕ, List, [], ◌∷◌, ◌++◌, Bool, IsTrue, ◌⊎◌, inl, inr, sym, subst, Option, Some, None}
 use Rattle.qvt_grammar.specs.Language.{Language, follow, then, either, turns, many, made, never, maybe, lastly}
-use Rattle.qvt_parser_grammar.specs.Tokens.{Tok}
+use Rattle.qvt_parser_grammar.specs.Tokens.{Tok, is}
 use Rattle.qvt_parser_grammar.specs.Readers.{the, placed}
 use Rattle.qvt_parser_grammar.specs.Series.{left, right, series, finished, barring}
 use Rattle.qvt_parser_grammar.specs.Trees.{second, first, inner, cons_of, nothing}
 use Rattle.qvt_parser_grammar.specs.declared.token.Class.{Class}
-use Rattle.qvt_parser_names.specs.Names.{AllOf, IfThere}
+use Rattle.qvt_parser_grammar.specs.declared.token.Class.TheVariants.{Name, Str}
+use Rattle.qvt_parser_names.specs.Names.{Told, AllOf, IfThere}
 
-abbrev pub Told : (List ℕ → Type 0) → List Tok → Type 0
-Told N ts = AllOf {A = Tok} (λ t. N t.text) ts
+-- what is told of names holds of a token that is a name, and what is told of texts of a token that is a text
+abbrev pub Tells : Told → Tok → Type 0
+Tells N t = (IsTrue (is Name t) → N.name t.text) × (IsTrue (is Str t) → N.text t.text)
 
-told_front : (N : List ℕ → Type 0) (u v : List Tok) → Told N (u ++ v) → Told N u
+abbrev pub AllTell : Told → List Tok → Type 0
+AllTell N ts = AllOf {A = Tok} (Tells N) ts
+
+told_front : (N : Told) (u v : List Tok) → AllTell N (u ++ v) → AllTell N u
 told_front N [] v h = tt
 told_front N (t ∷ u) v h = (h.0, told_front N u v h.1)
 
-told_back : (N : List ℕ → Type 0) (u v : List Tok) → Told N (u ++ v) → Told N v
+told_back : (N : Told) (u v : List Tok) → AllTell N (u ++ v) → AllTell N v
 told_back N [] v h = h
 told_back N (t ∷ u) v h = told_back N u v h.1
 
 -- all that the language reads has p
-pub record Gives {A : Type 0} (N : List ℕ → Type 0) (p : A → Type 0) (l : Language Tok A) : Type 0 where
-  pub all : (ts : List Tok) (a : A) → Told N ts → l.reads ts a → p a
+pub record Gives {A : Type 0} (N : Told) (p : A → Type 0) (l : Language Tok A) : Type 0 where
+  pub all : (ts : List Tok) (a : A) → AllTell N ts → l.reads ts a → p a
 
 abbrev pub Any : {A : Type 0} → A → Type 0
 Any a = Unit {0}
@@ -36,13 +41,19 @@ OneOf p q (inr b) = q b
 abbrev pub Marked : {P A : Type 0} → (A → Type 0) → P × A → Type 0
 Marked p pa = p pa.1
 
-module _ {N : List ℕ → Type 0} where
+module _ {N : Told} where
   pub each_any : {A : Type 0} {l : Language Tok A} → Gives N Any l
   each_any = record { all = λ ts a told rd. tt }
 
   -- a token of the class
-  pub each_the : (c : Class) → Gives N (λ t. N t.text) (the c)
-  each_the c = record { all = λ ts a told rd. (let all = subst (Told N) rd.0 told in all.0) }
+  pub each_the : (c : Class) → Gives N Any (the c)
+  each_the c = each_any
+
+  pub each_name : Gives N (λ t. N.name t.text) (the Name)
+  each_name = record { all = λ ts a told rd. (let all = subst (AllTell N) rd.0 told in all.0.0 rd.1) }
+
+  pub each_text : Gives N (λ t. N.text t.text) (the Str)
+  each_text = record { all = λ ts a told rd. (let all = subst (AllTell N) rd.0 told in all.0.1 rd.1) }
 
   pub each_never : {A : Type 0} {p : A → Type 0} → Gives N p never
   each_never = record { all = λ ts a told rd. absurd rd }
@@ -50,12 +61,12 @@ module _ {N : List ℕ → Type 0} where
   module _ {A B : Type 0} where
     pub each_follow : {p : A → Type 0} (q : A × B → Type 0) {l : Language Tok A} {m : A → Language Tok B} → Gives N p l → ((a : A) → p a → Gives N (λ b. q (a, b)) (m a)) → Gives N q (follow l m)
     each_follow q h k = record {
-      all = λ ts ab told rd. (let all = subst (Told N) rd.2 told in (k ab.0 (h.all rd.0 ab.0 (told_front N rd.0 rd.1 all) rd.3)).all rd.1 ab.1 (told_back N rd.0 rd.1 all) rd.4);
+      all = λ ts ab told rd. (let all = subst (AllTell N) rd.2 told in (k ab.0 (h.all rd.0 ab.0 (told_front N rd.0 rd.1 all) rd.3)).all rd.1 ab.1 (told_back N rd.0 rd.1 all) rd.4);
     }
 
     pub each_then : {p : A → Type 0} {q : B → Type 0} {l : Language Tok A} {m : Language Tok B} → Gives N p l → Gives N q m → Gives N (Both p q) (then l m)
     each_then h k = record {
-      all = λ ts ab told rd. (let all = subst (Told N) rd.2 told in (h.all rd.0 ab.0 (told_front N rd.0 rd.1 all) rd.3, k.all rd.1 ab.1 (told_back N rd.0 rd.1 all) rd.4));
+      all = λ ts ab told rd. (let all = subst (AllTell N) rd.2 told in (h.all rd.0 ab.0 (told_front N rd.0 rd.1 all) rd.3, k.all rd.1 ab.1 (told_back N rd.0 rd.1 all) rd.4));
     }
 
     pub each_made : {p : A → Type 0} (q : B → Type 0) {l : Language Tok A} (f : A → B) → ((a : A) → p a → q (f a)) → Gives N p l → Gives N q (made f l)
@@ -68,23 +79,23 @@ module _ {N : List ℕ → Type 0} where
     each_right h = record { all = λ ts b told x. h.all ts (inr b) told x }
 
   module _ {A : Type 0} {p : A → Type 0} {l : Language Tok A} (h : Gives N p l) where
-    either_cases : (m : Language Tok A) → Gives N p m → (ts : List Tok) (a : A) → Told N ts → l.reads ts a ⊎ m.reads ts a → p a
+    either_cases : (m : Language Tok A) → Gives N p m → (ts : List Tok) (a : A) → AllTell N ts → l.reads ts a ⊎ m.reads ts a → p a
     either_cases m k ts a told (inl x) = h.all ts a told x
     either_cases m k ts a told (inr x) = k.all ts a told x
 
     pub each_either : {m : Language Tok A} → Gives N p m → Gives N p (either l m)
     each_either {m = m} k = record { all = either_cases m k }
 
-    each_turns : (as_ : List A) (ts : List Tok) → Told N ts → turns l ts as_ → AllOf p as_
+    each_turns : (as_ : List A) (ts : List Tok) → AllTell N ts → turns l ts as_ → AllOf p as_
     each_turns [] ts told rd = tt
     each_turns (a ∷ more) ts told (u, v, e, x, y) =
-        let all = subst (Told N) e told in
+        let all = subst (AllTell N) e told in
         (h.all u a (told_front N u v all) x, each_turns more v (told_back N u v all) y)
 
     pub each_many : Gives N (AllOf p) (many l)
     each_many = record { all = λ ts as_ told rd. each_turns as_ ts told rd }
 
-    maybe_cases : (ts : List Tok) (a : Option A) → Told N ts → (maybe l).reads ts a → IfThere p a
+    maybe_cases : (ts : List Tok) (a : Option A) → AllTell N ts → (maybe l).reads ts a → IfThere p a
     maybe_cases ts a told (inl (x, rd, e)) = subst (IfThere p) (sym e) (h.all ts x told rd)
     maybe_cases ts a told (inr (x, rd, e)) = subst (IfThere p) (sym e) tt
 
@@ -100,13 +111,13 @@ module _ {N : List ℕ → Type 0} where
     pub each_weaker : (q : A → Type 0) → ((a : A) → p a → q a) → Gives N q l
     each_weaker q k = record { all = λ ts a told rd. k a (h.all ts a told rd) }
 
-  each_lastly : {B : Type 0} {q : B → Type 0} {m : Language Tok B} → Gives N q m → (b : Option B) (ts : List Tok) → Told N ts → lastly m ts b → IfThere q b
+  each_lastly : {B : Type 0} {q : B → Type 0} {m : Language Tok B} → Gives N q m → (b : Option B) (ts : List Tok) → AllTell N ts → lastly m ts b → IfThere q b
   each_lastly h None ts told rd = tt
   each_lastly h (Some b) ts told rd = h.all ts b told rd
 
   pub each_series : {A B : Type 0} {p : A → Type 0} {q : B → Type 0} {l : Language Tok (A ⊎ B)} → Gives N (OneOf p q) l → Gives N (Both (AllOf p) (IfThere q)) (series l)
   each_series h = record {
-    all = λ ts got told rd. (let all = subst (Told N) rd.2 told in (each_turns (each_left h) got.0 rd.0 (told_front N rd.0 rd.1 all) rd.3, each_lastly (each_right h) got.1 rd.1 (told_back N rd.0 rd.1 all) rd.4));
+    all = λ ts got told rd. (let all = subst (AllTell N) rd.2 told in (each_turns (each_left h) got.0 rd.0 (told_front N rd.0 rd.1 all) rd.3, each_lastly (each_right h) got.1 rd.1 (told_back N rd.0 rd.1 all) rd.4));
   }
 
   pub each_finished : {A B : Type 0} {p : A → Type 0} {q : B → Type 0} {l : Language Tok (A ⊎ B)} → Gives N (OneOf p q) l → Gives N (Both (AllOf p) q) (finished l)

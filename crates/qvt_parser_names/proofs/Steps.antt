@@ -12,21 +12,21 @@ use Rattle.qvt_parser_grammar.specs.declared.token.Class.TheVariants.{OpenRound,
 use Rattle.qvt_parser_grammar.specs.Leads.{Lead, Plain, Bracketed, Each, EachPart}
 use Rattle.qvt_parser_grammar.specs.Grammar.{Nested, name, more_exprs, dot_rest, dot_step, accumulator, head_rest, after_first, arrow_body, arrow_args, arrow_rest, step, post, signs, signed_post, pre, each_tail, lead_step, level_of, operator, link, links, chain, flagged, lead_post, lead_pre, lead}
 use Rattle.qvt_parser_grammar.specs.Trees.{second, nothing, dot_of, no_args, arrow_of, accumulator_of, expr_of, headed, with_first, bare_target, more_steps, stepped, post_of, split_last, member_of, post_lead, each_lead, signed, prefix_lead, link_of, chain_of, each_of}
-use Rattle.qvt_parser_names.specs.Names.{AllOf, IfThere, NamesHold, TypeHolds, ExprHolds, ArgsHold, LinkHolds, LinksHold, HeadHolds, AccumulatorHolds, StepHolds, StepsHold, TargetHolds}
+use Rattle.qvt_parser_names.specs.Names.{Told, AllOf, IfThere, NamesHold, TypeHolds, ExprHolds, ArgsHold, LinkHolds, LinksHold, HeadHolds, AccumulatorHolds, StepHolds, StepsHold, TargetHolds}
 use Rattle.qvt_parser_names.proofs.Forms.{Gives, Both, OneOf, each_any, each_the, each_follow, each_then, each_made, each_either, each_many, each_maybe, each_placed, each_weaker, each_series, of_second, of_first}
 use Rattle.qvt_parser_names.proofs.Exprs.{PartP, LeadP, GivesNested, expr_is, exprs_are, optional_is, of_name, of_colon_type, of_expr, of_more_exprs, of_args, of_map_call, of_bar_expr, of_resolve, of_other_primary, of_primary}
 
 -- the head and the arguments of an arrow
-abbrev ArrowP : (List ℕ → Type 0) → HeadTerm × List ExprTerm → Type 0
+abbrev ArrowP : Told → HeadTerm × List ExprTerm → Type 0
 ArrowP N x = HeadHolds N x.0 × AllOf (ExprHolds N) x.1
 
-abbrev HeadRestP : (List ℕ → Type 0) → Option TypeTerm × (Option AccumulatorTerm × ExprTerm) → Type 0
+abbrev HeadRestP : Told → Option TypeTerm × (Option AccumulatorTerm × ExprTerm) → Type 0
 HeadRestP N = Both (IfThere (TypeHolds N)) (Both (IfThere (AccumulatorHolds N)) (ExprHolds N))
 
-abbrev pub TurnP : (List ℕ → Type 0) → StepTerm ⊎ EachPart → Type 0
+abbrev pub TurnP : Told → StepTerm ⊎ EachPart → Type 0
 TurnP N = OneOf (StepHolds N) (PartP N)
 
-module _ (N : List ℕ → Type 0) where
+module _ (N : Told) where
   args_are : (es : Option (List ExprTerm)) → IfThere (AllOf (ExprHolds N)) es → ArgsHold N (optional_args es)
   args_are None h = tt
   args_are (Some es) h = exprs_are N es h
@@ -43,7 +43,7 @@ module _ (N : List ℕ → Type 0) where
   steps_are [] h = tt
   steps_are (s ∷ ss) h = (h.0, steps_are ss h.1)
 
-  headed_is : (n : List ℕ) (place : Place) (x : Option TypeTerm × (Option AccumulatorTerm × ExprTerm)) → N n → HeadRestP N x → ArrowP N (headed n place x)
+  headed_is : (n : List ℕ) (place : Place) (x : Option TypeTerm × (Option AccumulatorTerm × ExprTerm)) → N.name n → HeadRestP N x → ArrowP N (headed n place x)
   headed_is n place (kind, (a, e)) h k = ((h, k.0, accumulator_is a k.1.0), (k.1.1, tt))
 
   -- what steps make of an expression
@@ -162,7 +162,7 @@ module _ (N : List ℕ → Type 0) where
       each_made (LeadP N) (chain_of (level_of k)) (λ a f. chain_is (level_of k) a f.0 f.1)
       (each_placed (each_follow (Both (LeadP N) (AllOf (LinkHolds N))) (of_chain k h j) (λ x f. each_weaker (of_links k (of_chain k j j) x) (λ ls. LeadP N x × AllOf (LinkHolds N) ls) (λ ls g. (f, g)))))
 
-module _ {N : List ℕ → Type 0} {i : Nested} (h : GivesNested N i) where
+module _ {N : Told} {i : Nested} (h : GivesNested N i) where
   of_dot_rest : Gives N (StepHolds N) (dot_rest i)
   unfolding dot_rest
   of_dot_rest =

@@ -13,35 +13,35 @@ use Rattle.qvt_parser_grammar.specs.Nesting.{nested}
 use Rattle.qvt_parser_grammar.specs.Trees.{second, expr_of, post_of}
 use Rattle.qvt_parser_grammar.specs.Statements.{condition, var_stmt, return_stmt, arm, else_part, branches, choice, if_rest, if_stmt, while_stmt, assignment, semicolon, lead_tail, lead_stmt, statement, statements, block}
 use Rattle.qvt_parser_grammar.specs.StmtTrees.{var_of, return_of, arm_of, for_each_of, Branches, Choice, if_made, if_stmt_of, while_of, Turn, empty_turn, closed_turn, simple_turn, Tail, no_tail, plain_tail, lead_turn, written, concat, last_of, ended_of, block_of}
-use Rattle.qvt_parser_names.specs.Names.{AllOf, IfThere, ExprHolds, StepHolds, TargetHolds, StmtHolds, ArmHolds, ArmsHold, ElseHolds}
+use Rattle.qvt_parser_names.specs.Names.{Told, AllOf, IfThere, ExprHolds, StepHolds, TargetHolds, StmtHolds, ArmHolds, ArmsHold, ElseHolds}
 use Rattle.qvt_parser_names.proofs.Forms.{Gives, Any, Both, OneOf, each_any, each_the, each_follow, each_then, each_made, each_either, each_many, each_maybe, each_placed, each_weaker, each_never, each_series, each_finished, of_second, of_inner, all_and}
 use Rattle.qvt_parser_names.proofs.Exprs.{PartP, LeadP, GivesNested, expr_is, stmts_are, optional_is, of_name, of_typed, of_colon_type, of_expr}
 use Rattle.qvt_parser_names.proofs.Steps.{post_is, of_flagged, of_lead_step, of_lead}
 
 -- the turns of a block
-abbrev TurnP : (List ℕ → Type 0) → Turn → Type 0
+abbrev TurnP : Told → Turn → Type 0
 TurnP N = OneOf (AllOf (StmtHolds N)) (StmtHolds N)
 
-abbrev AssignedP : (List ℕ → Type 0) → Option (Tok × ExprTerm) → Type 0
+abbrev AssignedP : Told → Option (Tok × ExprTerm) → Type 0
 AssignedP N = IfThere (Both Any (ExprHolds N))
 
-abbrev TailP : (List ℕ → Type 0) → Tail → Type 0
+abbrev TailP : Told → Tail → Type 0
 TailP N = Both (AssignedP N) Any
 
-abbrev pub EndedP : (List ℕ → Type 0) → Ended → Type 0
+abbrev pub EndedP : Told → Ended → Type 0
 EndedP N x = AllOf (StmtHolds N) x.stmts
 
 -- what stands after the expression that follows `if`
-abbrev BranchesP : (List ℕ → Type 0) → Branches → Type 0
+abbrev BranchesP : Told → Branches → Type 0
 BranchesP N = Both (AllOf (StmtHolds N)) (Both (AllOf (ArmHolds N)) (Both (IfThere (AllOf (StmtHolds N))) Any))
 
-abbrev ChoiceP : (List ℕ → Type 0) → Choice → Type 0
+abbrev ChoiceP : Told → Choice → Type 0
 ChoiceP N = Both (Both (ExprHolds N) (ExprHolds N)) (Both (AllOf (StepHolds N)) (PartP N))
 
-abbrev RestP : (List ℕ → Type 0) → Branches ⊎ Choice → Type 0
+abbrev RestP : Told → Branches ⊎ Choice → Type 0
 RestP N = OneOf (BranchesP N) (ChoiceP N)
 
-module _ (N : List ℕ → Type 0) where
+module _ (N : Told) where
   arms_are : (as_ : List ArmTerm) → AllOf (ArmHolds N) as_ → ArmsHold N (arms_of as_)
   arms_are [] h = tt
   arms_are (a ∷ as_) h = (h.0, arms_are as_ h.1)
@@ -81,7 +81,7 @@ module _ (N : List ℕ → Type 0) where
   if_made_is place c (inr ((one, other), (steps, part))) k j =
       each_is (post_of place (IfExpr c one other place) steps) part place (post_is N place (IfExpr c one other place) steps (k, j.0.0, j.0.1) j.1.0) j.1.1
 
-module _ {N : List ℕ → Type 0} {i : Nested} (h : GivesNested N i) where
+module _ {N : Told} {i : Nested} (h : GivesNested N i) where
   of_condition : Gives N (ExprHolds N) (condition i)
   unfolding condition
   of_condition = of_inner (each_the OpenRound) (of_expr h) (each_the CloseRound)
@@ -166,7 +166,7 @@ module _ {N : List ℕ → Type 0} {i : Nested} (h : GivesNested N i) where
   of_block = each_made (AllOf (StmtHolds N)) block_of (λ a k. k.1.0) (each_then (each_the OpenBrace) (each_then of_statements (each_the CloseBrace)))
 
 -- at each nesting
-pub of_nested : {N : List ℕ → Type 0} (n : ℕ) → GivesNested N (nested n)
+pub of_nested : {N : Told} (n : ℕ) → GivesNested N (nested n)
 unfolding nested
 of_nested zero = record { flagged = each_never; block = each_never; kind = each_never }
 of_nested (suc n) = let h = of_nested n in record { flagged = of_flagged h; block = of_block h; kind = of_typed h }

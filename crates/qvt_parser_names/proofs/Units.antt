@@ -11,35 +11,35 @@ use Rattle.qvt_parser_grammar.specs.Grammar.{Nested}
 use Rattle.qvt_parser_grammar.specs.Trees.{second, text_of}
 use Rattle.qvt_parser_grammar.specs.UnitTrees.{typed_name_of, param_of, paths_or_none, class_of, main_of, return_body, helper_of, constructor_of, result_decl_of, Clauses, no_clauses, Clause, InheritsClause, MergesClause, DisjunctsClause, WhenClause, with_clause, read_words, or_same, Body, stmts_or_none, empty_body, body_of, sections_of, open_sections_of, mapping_of, some_unit, units_of, model_type_of, model_param_of, module_of, kept, no_end}
 use Rattle.qvt_parser_grammar.specs.Units.{param, params, feature, features, class_unit, main_unit, helper_body, helper_unit, constructor_unit, result_decl, when_clause, clause, init_part, end_part, end_unless, sections, body, fresh, clauses, mapping_unit, unit, strictness, uri, model_type, model_param, header, transformation}
-use Rattle.qvt_parser_names.specs.Names.{AllOf, IfThere, PathHolds, ExprHolds, StmtHolds, TypedHolds, ResultHolds, UnitHolds, ModelTypeHolds, ModelParamHolds, HasNames}
-use Rattle.qvt_parser_names.proofs.Forms.{Gives, Both, each_any, each_the, each_follow, each_then, each_made, each_either, each_many, each_maybe, each_placed, each_barring, each_weaker, of_second, of_first, of_inner, of_cons, of_nothing, all_and}
+use Rattle.qvt_parser_names.specs.Names.{Told, AllOf, IfThere, PathHolds, ExprHolds, StmtHolds, TypedHolds, ResultHolds, UnitHolds, ModelTypeHolds, ModelParamHolds, HasNames}
+use Rattle.qvt_parser_names.proofs.Forms.{Gives, Both, each_any, each_the, each_name, each_text, each_follow, each_then, each_made, each_either, each_many, each_maybe, each_placed, each_barring, each_weaker, of_second, of_first, of_inner, of_cons, of_nothing, all_and}
 use Rattle.qvt_parser_names.proofs.Exprs.{GivesNested, stmts_are, optional_is, of_name, of_path, of_paths, of_unit_path, of_extent, of_colon_type, of_expr}
 use Rattle.qvt_parser_names.proofs.Stmts.{EndedP, of_statements}
 
-abbrev ClauseP : (List ℕ → Type 0) → Clause → Type 0
+abbrev ClauseP : Told → Clause → Type 0
 ClauseP N (InheritsClause paths) = AllOf (PathHolds N) paths
 ClauseP N (MergesClause paths) = AllOf (PathHolds N) paths
 ClauseP N (DisjunctsClause paths) = AllOf (PathHolds N) paths
 ClauseP N (WhenClause e) = ExprHolds N e
 
-record ClausesP (N : List ℕ → Type 0) (x : Clauses) : Type 0 where
+record ClausesP (N : Told) (x : Clauses) : Type 0 where
   inherits : IfThere (AllOf (PathHolds N)) x.inherits
   merges : IfThere (AllOf (PathHolds N)) x.merges
   disjuncts : IfThere (AllOf (PathHolds N)) x.disjuncts
   condition : IfThere (ExprHolds N) x.condition
 
-record BodyP (N : List ℕ → Type 0) (x : Body) : Type 0 where
+record BodyP (N : Told) (x : Body) : Type 0 where
   init : AllOf (StmtHolds N) x.init
   population : AllOf (StmtHolds N) x.population
   finish : AllOf (StmtHolds N) x.finish
 
-abbrev SectionsP : (List ℕ → Type 0) → List StmtTerm × List StmtTerm → Type 0
+abbrev SectionsP : Told → List StmtTerm × List StmtTerm → Type 0
 SectionsP N = Both (AllOf (StmtHolds N)) (AllOf (StmtHolds N))
 
-abbrev HeaderP : (List ℕ → Type 0) → List ℕ × List ModelParam → Type 0
-HeaderP N = Both N (AllOf (ModelParamHolds N))
+abbrev HeaderP : Told → List ℕ × List ModelParam → Type 0
+HeaderP N = Both N.name (AllOf (ModelParamHolds N))
 
-module _ (N : List ℕ → Type 0) where
+module _ (N : Told) where
   none_or : (ps : Option (List PathTree)) → IfThere (AllOf (PathHolds N)) ps → AllOf (PathHolds N) (paths_or_none ps)
   none_or None h = tt
   none_or (Some ps) h = h
@@ -62,10 +62,10 @@ module _ (N : List ℕ → Type 0) where
   all_units [] h = tt
   all_units (us ∷ uss) h = all_and (UnitHolds N) us (units_of uss) h.0 (all_units uss h.1)
 
-module _ {N : List ℕ → Type 0} where
-  of_uri : Gives N N uri
+module _ {N : Told} where
+  of_uri : Gives N N.text uri
   unfolding uri
-  of_uri = each_either (each_made N text_of (λ t h. h) (each_the Str)) (of_second (each_the Name) (of_inner (each_the OpenRound) (each_made N text_of (λ t h. h) (each_the Str)) (each_the CloseRound)))
+  of_uri = each_either (each_made N.text text_of (λ t h. h) each_text) (of_second (each_the Name) (of_inner (each_the OpenRound) (each_made N.text text_of (λ t h. h) each_text) (each_the CloseRound)))
 
   of_model_type : Gives N (ModelTypeHolds N) model_type
   unfolding model_type
@@ -82,10 +82,10 @@ module _ {N : List ℕ → Type 0} where
   unfolding header
   of_header =
       of_second (each_the TransformationWord)
-      (each_then (each_made N text_of (λ t h. h) (each_the Name))
+      (each_then (each_made N.name text_of (λ t h. h) each_name)
       (of_inner (each_the OpenRound) (of_cons (ModelParamHolds N) (each_then of_model_param (each_many (of_second (each_the Comma) of_model_param)))) (of_first (each_the CloseRound) (each_the Semicolon))))
 
-module _ {N : List ℕ → Type 0} {i : Nested} (h : GivesNested N i) where
+module _ {N : Told} {i : Nested} (h : GivesNested N i) where
   of_param : Gives N (TypedHolds N) (param i)
   unfolding param
   of_param = each_made (TypedHolds N) param_of (λ a k. k.1) (each_placed (each_then (each_maybe (each_the InWord)) (each_then of_name (of_colon_type h))))
@@ -204,7 +204,7 @@ module _ {N : List ℕ → Type 0} {i : Nested} (h : GivesNested N i) where
   unfolding unit
   of_unit = each_either of_class_unit (each_either of_main_unit (each_either of_constructor_unit (each_either of_mapping_unit of_helper_unit)))
 
-pub of_transformation : {N : List ℕ → Type 0} {i : Nested} → GivesNested N i → Gives N (HasNames N) (transformation i)
+pub of_transformation : {N : Told} {i : Nested} → GivesNested N i → Gives N (HasNames N) (transformation i)
 unfolding transformation
 of_transformation {N} h =
     each_made (HasNames N) module_of (λ a k. record { model_types = k.0; name = k.1.0.0; params = k.1.0.1; units = all_units N a.1.1 k.1.1 })

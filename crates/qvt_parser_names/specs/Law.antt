@@ -1,22 +1,31 @@
 -- What names a tree has by its tokens.
-use Rattle.std.specs.Prelude.{◌≡◌, ℕ, ◌≤◌, List, [], ◌∷◌, length, ◌⊎◌}
+use Rattle.std.specs.Prelude.{◌≡◌, ℕ, ◌≤◌, List, [], ◌∷◌, length, ◌⊎◌, IsTrue}
 use Rattle.qvt_tree_types.specs.Module.{ModuleTerm}
-use Rattle.qvt_parser_grammar.specs.Tokens.{Tok}
+use Rattle.qvt_parser_grammar.specs.Tokens.{Tok, is}
 use Rattle.qvt_parser_grammar.specs.Module.{Reads}
-use Rattle.qvt_parser_names.specs.Names.{AllOf, HasNames}
+use Rattle.qvt_parser_grammar.specs.declared.token.Class.{Class}
+use Rattle.qvt_parser_grammar.specs.declared.token.Class.TheVariants.{Name, Str}
+use Rattle.qvt_parser_names.specs.Names.{Told, AllOf, HasNames}
 
--- the text of one of the tokens
-abbrev pub IsTextOf : List Tok → List ℕ → Type 0
-IsTextOf [] x = ⊥
-IsTextOf (t ∷ ts) x = (t.text ≡ x) ⊎ IsTextOf ts x
+-- the text of one of the tokens of the class
+abbrev pub IsTextOf : Class → List Tok → List ℕ → Type 0
+IsTextOf c [] x = ⊥
+IsTextOf c (t ∷ ts) x = (IsTrue (is c t) × (t.text ≡ x)) ⊎ IsTextOf c ts x
 
--- each path of a tree has a name, and each name and text is that of a token
+-- a name is one of the tokens, and a text in quotes is one of the tokens
+abbrev pub of_tokens : List Tok → Told
+of_tokens ts = record { name = IsTextOf Name ts; text = IsTextOf Str ts }
+
+-- each path of a tree has a name, each name is that of a token that is a name, and each text that of a token that is a text
 abbrev pub NamesAreTokens : Type 0
-NamesAreTokens = (ts : List Tok) (m : ModuleTerm) → Reads ts m → HasNames (IsTextOf ts) m
+NamesAreTokens = (ts : List Tok) (m : ModuleTerm) → Reads ts m → HasNames (of_tokens ts) m
 
 abbrev pub IsAtMost : ℕ → List ℕ → Type 0
 IsAtMost n x = length x ≤ n
 
+abbrev pub at_most : ℕ → Told
+at_most n = record { name = IsAtMost n; text = IsAtMost n }
+
 -- no name or text is longer than the longest of a token
 abbrev pub NoneIsLonger : Type 0
-NoneIsLonger = (n : ℕ) (ts : List Tok) (m : ModuleTerm) → AllOf {A = Tok} (λ t. IsAtMost n t.text) ts → Reads ts m → HasNames (IsAtMost n) m
+NoneIsLonger = (n : ℕ) (ts : List Tok) (m : ModuleTerm) → AllOf {A = Tok} (λ t. IsAtMost n t.text) ts → Reads ts m → HasNames (at_most n) m

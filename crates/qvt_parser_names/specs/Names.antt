@@ -1,4 +1,5 @@
--- What names and texts a tree has: each path has a name, and N holds of every name and text.
+-- What names and texts a tree has: each path has a name, and what is told of names holds of every name, and what is told of
+-- texts of every text in quotes.
 use Rattle.std.specs.Prelude.{ℕ, List, [], ◌∷◌, Option, Some, None}
 use Rattle.qvt_tree_types.specs.Tree.{TypeTerm, ExprTerm, ExprTerms, OptionalExpr, OptionalArgs, LinkTerm, LinkTerms, ItemTerm, RangeTerm, ItemTerms, MapTerm, ResolveTerm, FilterTerm, HeadTerm, AccumulatorTerm, StepTerm, StepTerms, TargetTerm, StmtTerm, StmtTerms, ElseTerm, ArmTerm, ArmTerms}
 use Rattle.qvt_tree_types.specs.Tree.{CollType, PathType, IntExpr, StrExpr, BoolExpr, NullExpr, SelfExpr, ResultExpr, PathExpr, CallExpr, CollExpr, IfExpr, ObjectExpr, NewExpr, MapExpr, ResolveExpr, ChainExpr, PrefixExpr, PostExpr, NoExprs, MoreExprs, NoExpr, SomeExpr, NoArgs, SomeArgs, LinkOf, NoLinks, MoreLinks, ItemOf, NoRange, RangeTo, NoItems, MoreItems, MapOf, ResolveOf, NoFilter, FilterOf, NoHead, HeadOf, NoAccumulator, AccumulatorOf, DotStep, ArrowStep, DotMapStep, ArrowMapStep, DotResolveStep, ArrowResolveStep, NoSteps, MoreSteps, BareTarget, ResultTarget, MemberTarget, VarStmt, AssignStmt, ReturnStmt, ValueStmt, IfStmt, WhileStmt, ForEachStmt, NoStmts, MoreStmts, NoElse, ElseOf, ArmOf, NoArms, MoreArms}
@@ -14,148 +15,153 @@ abbrev pub AllOf : {A : Type 0} → (A → Type 0) → List A → Type 0
 AllOf p [] = Unit {0}
 AllOf p (a ∷ more) = p a × AllOf p more
 
+-- what holds of each name, and what of each text in quotes
+pub record Told : Type 1 where
+  pub name : List ℕ → Type 0
+  pub text : List ℕ → Type 0
+
 abbrev pub IfThere : {A : Type 0} → (A → Type 0) → Option A → Type 0
 IfThere p None = Unit {0}
 IfThere p (Some a) = p a
 
--- at least one name, and N holds of all
-abbrev pub NamesHold : (List ℕ → Type 0) → List (List ℕ) → Type 0
+-- at least one name, and of all what is told of names
+abbrev pub NamesHold : Told → List (List ℕ) → Type 0
 NamesHold N [] = ⊥
-NamesHold N (n ∷ ns) = N n × AllOf N ns
+NamesHold N (n ∷ ns) = N.name n × AllOf N.name ns
 
-abbrev pub PathHolds : (List ℕ → Type 0) → PathTree → Type 0
+abbrev pub PathHolds : Told → PathTree → Type 0
 PathHolds N p = NamesHold N p.names
 
-abbrev pub VariableHolds : (List ℕ → Type 0) → ObjectVar → Type 0
-VariableHolds N (Named name place) = N name
+abbrev pub VariableHolds : Told → ObjectVar → Type 0
+VariableHolds N (Named name place) = N.name name
 VariableHolds N (ResultVar place) = Unit {0}
 
-abbrev pub TypeHolds : (List ℕ → Type 0) → TypeTerm → Type 0
+abbrev pub TypeHolds : Told → TypeTerm → Type 0
 TypeHolds N (CollType kind item place) = TypeHolds N item
 TypeHolds N (PathType path) = PathHolds N path
 
 abbrev mutual
-  pub ExprHolds : (List ℕ → Type 0) → ExprTerm → Type 0
+  pub ExprHolds : Told → ExprTerm → Type 0
   ExprHolds N (IntExpr value place) = Unit {0}
-  ExprHolds N (StrExpr value place) = N value
+  ExprHolds N (StrExpr value place) = N.text value
   ExprHolds N (BoolExpr value place) = Unit {0}
   ExprHolds N (NullExpr place) = Unit {0}
   ExprHolds N (SelfExpr place) = Unit {0}
   ExprHolds N (ResultExpr place) = Unit {0}
   ExprHolds N (PathExpr path) = PathHolds N path
-  ExprHolds N (CallExpr name args place) = N name × ExprsHold N args
+  ExprHolds N (CallExpr name args place) = N.name name × ExprsHold N args
   ExprHolds N (CollExpr kind items place) = ItemsHold N items
   ExprHolds N (IfExpr condition one other place) = ExprHolds N condition × ExprHolds N one × ExprHolds N other
-  ExprHolds N (ObjectExpr variable path extent body place) = IfThere (VariableHolds N) variable × PathHolds N path × IfThere N extent × StmtsHold N body
-  ExprHolds N (NewExpr path extent args place) = PathHolds N path × IfThere N extent × ExprsHold N args
+  ExprHolds N (ObjectExpr variable path extent body place) = IfThere (VariableHolds N) variable × PathHolds N path × IfThere N.name extent × StmtsHold N body
+  ExprHolds N (NewExpr path extent args place) = PathHolds N path × IfThere N.name extent × ExprsHold N args
   ExprHolds N (MapExpr call) = MapHolds N call
   ExprHolds N (ResolveExpr call) = ResolveHolds N call
   ExprHolds N (ChainExpr level first rest place) = ExprHolds N first × LinksHold N rest
   ExprHolds N (PrefixExpr signs operand place) = ExprHolds N operand
   ExprHolds N (PostExpr first steps place) = ExprHolds N first × StepsHold N steps
 
-  pub ExprsHold : (List ℕ → Type 0) → ExprTerms → Type 0
+  pub ExprsHold : Told → ExprTerms → Type 0
   ExprsHold N NoExprs = Unit {0}
   ExprsHold N (MoreExprs e es) = ExprHolds N e × ExprsHold N es
 
-  pub OptionalHolds : (List ℕ → Type 0) → OptionalExpr → Type 0
+  pub OptionalHolds : Told → OptionalExpr → Type 0
   OptionalHolds N NoExpr = Unit {0}
   OptionalHolds N (SomeExpr e) = ExprHolds N e
 
-  pub ArgsHold : (List ℕ → Type 0) → OptionalArgs → Type 0
+  pub ArgsHold : Told → OptionalArgs → Type 0
   ArgsHold N NoArgs = Unit {0}
   ArgsHold N (SomeArgs es) = ExprsHold N es
 
-  pub LinkHolds : (List ℕ → Type 0) → LinkTerm → Type 0
+  pub LinkHolds : Told → LinkTerm → Type 0
   LinkHolds N (LinkOf op operand place) = ExprHolds N operand
 
-  pub LinksHold : (List ℕ → Type 0) → LinkTerms → Type 0
+  pub LinksHold : Told → LinkTerms → Type 0
   LinksHold N NoLinks = Unit {0}
   LinksHold N (MoreLinks l ls) = LinkHolds N l × LinksHold N ls
 
-  pub ItemHolds : (List ℕ → Type 0) → ItemTerm → Type 0
+  pub ItemHolds : Told → ItemTerm → Type 0
   ItemHolds N (ItemOf first range place) = ExprHolds N first × RangeHolds N range
 
-  pub RangeHolds : (List ℕ → Type 0) → RangeTerm → Type 0
+  pub RangeHolds : Told → RangeTerm → Type 0
   RangeHolds N NoRange = Unit {0}
   RangeHolds N (RangeTo last place) = ExprHolds N last
 
-  pub ItemsHold : (List ℕ → Type 0) → ItemTerms → Type 0
+  pub ItemsHold : Told → ItemTerms → Type 0
   ItemsHold N NoItems = Unit {0}
   ItemsHold N (MoreItems item items) = ItemHolds N item × ItemsHold N items
 
-  pub MapHolds : (List ℕ → Type 0) → MapTerm → Type 0
-  MapHolds N (MapOf strict name args place) = N name × ExprsHold N args
+  pub MapHolds : Told → MapTerm → Type 0
+  MapHolds N (MapOf strict name args place) = N.name name × ExprsHold N args
 
-  pub ResolveHolds : (List ℕ → Type 0) → ResolveTerm → Type 0
+  pub ResolveHolds : Told → ResolveTerm → Type 0
   ResolveHolds N (ResolveOf late word within filter place) = IfThere (PathHolds N) within × FilterHolds N filter
 
-  pub FilterHolds : (List ℕ → Type 0) → FilterTerm → Type 0
+  pub FilterHolds : Told → FilterTerm → Type 0
   FilterHolds N NoFilter = Unit {0}
-  FilterHolds N (FilterOf name kind condition place) = IfThere N name × TypeHolds N kind × OptionalHolds N condition
+  FilterHolds N (FilterOf name kind condition place) = IfThere N.name name × TypeHolds N kind × OptionalHolds N condition
 
-  pub HeadHolds : (List ℕ → Type 0) → HeadTerm → Type 0
+  pub HeadHolds : Told → HeadTerm → Type 0
   HeadHolds N NoHead = Unit {0}
-  HeadHolds N (HeadOf name kind accumulator place) = N name × IfThere (TypeHolds N) kind × AccumulatorHolds N accumulator
+  HeadHolds N (HeadOf name kind accumulator place) = N.name name × IfThere (TypeHolds N) kind × AccumulatorHolds N accumulator
 
-  pub AccumulatorHolds : (List ℕ → Type 0) → AccumulatorTerm → Type 0
+  pub AccumulatorHolds : Told → AccumulatorTerm → Type 0
   AccumulatorHolds N NoAccumulator = Unit {0}
-  AccumulatorHolds N (AccumulatorOf name kind first place) = N name × TypeHolds N kind × ExprHolds N first
+  AccumulatorHolds N (AccumulatorOf name kind first place) = N.name name × TypeHolds N kind × ExprHolds N first
 
-  pub StepHolds : (List ℕ → Type 0) → StepTerm → Type 0
-  StepHolds N (DotStep name args place) = N name × ArgsHold N args
-  StepHolds N (ArrowStep name head args place) = N name × HeadHolds N head × ExprsHold N args
+  pub StepHolds : Told → StepTerm → Type 0
+  StepHolds N (DotStep name args place) = N.name name × ArgsHold N args
+  StepHolds N (ArrowStep name head args place) = N.name name × HeadHolds N head × ExprsHold N args
   StepHolds N (DotMapStep call) = MapHolds N call
   StepHolds N (ArrowMapStep call) = MapHolds N call
   StepHolds N (DotResolveStep call) = ResolveHolds N call
   StepHolds N (ArrowResolveStep call) = ResolveHolds N call
 
-  pub StepsHold : (List ℕ → Type 0) → StepTerms → Type 0
+  pub StepsHold : Told → StepTerms → Type 0
   StepsHold N NoSteps = Unit {0}
   StepsHold N (MoreSteps s ss) = StepHolds N s × StepsHold N ss
 
-  pub TargetHolds : (List ℕ → Type 0) → TargetTerm → Type 0
-  TargetHolds N (BareTarget name place) = N name
+  pub TargetHolds : Told → TargetTerm → Type 0
+  TargetHolds N (BareTarget name place) = N.name name
   TargetHolds N (ResultTarget place) = Unit {0}
-  TargetHolds N (MemberTarget object name place) = ExprHolds N object × N name
+  TargetHolds N (MemberTarget object name place) = ExprHolds N object × N.name name
 
-  pub StmtHolds : (List ℕ → Type 0) → StmtTerm → Type 0
-  StmtHolds N (VarStmt name kind value place) = N name × IfThere (TypeHolds N) kind × OptionalHolds N value
+  pub StmtHolds : Told → StmtTerm → Type 0
+  StmtHolds N (VarStmt name kind value place) = N.name name × IfThere (TypeHolds N) kind × OptionalHolds N value
   StmtHolds N (AssignStmt target adds value place) = TargetHolds N target × ExprHolds N value
   StmtHolds N (ReturnStmt value place) = OptionalHolds N value
   StmtHolds N (ValueStmt value place) = ExprHolds N value
   StmtHolds N (IfStmt condition body arms otherwise place) = ExprHolds N condition × StmtsHold N body × ArmsHold N arms × ElseHolds N otherwise
   StmtHolds N (WhileStmt condition body place) = ExprHolds N condition × StmtsHold N body
-  StmtHolds N (ForEachStmt source name kind condition body place) = ExprHolds N source × N name × IfThere (TypeHolds N) kind × OptionalHolds N condition × StmtsHold N body
+  StmtHolds N (ForEachStmt source name kind condition body place) = ExprHolds N source × N.name name × IfThere (TypeHolds N) kind × OptionalHolds N condition × StmtsHold N body
 
-  pub StmtsHold : (List ℕ → Type 0) → StmtTerms → Type 0
+  pub StmtsHold : Told → StmtTerms → Type 0
   StmtsHold N NoStmts = Unit {0}
   StmtsHold N (MoreStmts s ss) = StmtHolds N s × StmtsHold N ss
 
-  pub ElseHolds : (List ℕ → Type 0) → ElseTerm → Type 0
+  pub ElseHolds : Told → ElseTerm → Type 0
   ElseHolds N NoElse = Unit {0}
   ElseHolds N (ElseOf body) = StmtsHold N body
 
-  pub ArmHolds : (List ℕ → Type 0) → ArmTerm → Type 0
+  pub ArmHolds : Told → ArmTerm → Type 0
   ArmHolds N (ArmOf condition body) = ExprHolds N condition × StmtsHold N body
 
-  pub ArmsHold : (List ℕ → Type 0) → ArmTerms → Type 0
+  pub ArmsHold : Told → ArmTerms → Type 0
   ArmsHold N NoArms = Unit {0}
   ArmsHold N (MoreArms a arms) = ArmHolds N a × ArmsHold N arms
 
-abbrev pub TypedHolds : (List ℕ → Type 0) → TypedName → Type 0
-TypedHolds N t = N t.name × TypeHolds N t.kind
+abbrev pub TypedHolds : Told → TypedName → Type 0
+TypedHolds N t = N.name t.name × TypeHolds N t.kind
 
-abbrev pub ClassHolds : (List ℕ → Type 0) → ClassTerm → Type 0
-ClassHolds N c = N c.name × AllOf (PathHolds N) c.supers × AllOf (TypedHolds N) c.features
+abbrev pub ClassHolds : Told → ClassTerm → Type 0
+ClassHolds N c = N.name c.name × AllOf (PathHolds N) c.supers × AllOf (TypedHolds N) c.features
 
-abbrev pub HelperHolds : (List ℕ → Type 0) → HelperTerm → Type 0
+abbrev pub HelperHolds : Told → HelperTerm → Type 0
 HelperHolds N h = NamesHold N h.path × AllOf (TypedHolds N) h.params × IfThere (TypeHolds N) h.answer × StmtsHold N h.body
 
-abbrev pub ResultHolds : (List ℕ → Type 0) → ResultDecl → Type 0
-ResultHolds N r = PathHolds N r.path × IfThere N r.extent
+abbrev pub ResultHolds : Told → ResultDecl → Type 0
+ResultHolds N r = PathHolds N r.path × IfThere N.name r.extent
 
-pub record MappingHolds (N : List ℕ → Type 0) (m : MappingTerm) : Type 0 where
+pub record MappingHolds (N : Told) (m : MappingTerm) : Type 0 where
   pub path : NamesHold N m.path
   pub params : AllOf (TypedHolds N) m.params
   pub result_decl : IfThere (ResultHolds N) m.result_decl
@@ -167,21 +173,21 @@ pub record MappingHolds (N : List ℕ → Type 0) (m : MappingTerm) : Type 0 whe
   pub population : StmtsHold N m.population
   pub finish : StmtsHold N m.finish
 
-abbrev pub UnitHolds : (List ℕ → Type 0) → UnitTerm → Type 0
+abbrev pub UnitHolds : Told → UnitTerm → Type 0
 UnitHolds N (ClassOf c) = ClassHolds N c
 UnitHolds N (MainOf body place) = StmtsHold N body
 UnitHolds N (HelperOf h) = HelperHolds N h
 UnitHolds N (ConstructorOf h) = HelperHolds N h
 UnitHolds N (MappingOf m) = MappingHolds N m
 
-abbrev pub ModelTypeHolds : (List ℕ → Type 0) → ModelType → Type 0
-ModelTypeHolds N t = N t.name × N t.uri
+abbrev pub ModelTypeHolds : Told → ModelType → Type 0
+ModelTypeHolds N t = N.name t.name × N.text t.uri
 
-abbrev pub ModelParamHolds : (List ℕ → Type 0) → ModelParam → Type 0
-ModelParamHolds N p = N p.name × N p.model_type
+abbrev pub ModelParamHolds : Told → ModelParam → Type 0
+ModelParamHolds N p = N.name p.name × N.name p.model_type
 
-pub record HasNames (N : List ℕ → Type 0) (m : ModuleTerm) : Type 0 where
+pub record HasNames (N : Told) (m : ModuleTerm) : Type 0 where
   pub model_types : AllOf (ModelTypeHolds N) m.model_types
-  pub name : N m.name
+  pub name : N.name m.name
   pub params : AllOf (ModelParamHolds N) m.params
   pub units : AllOf (UnitHolds N) m.units

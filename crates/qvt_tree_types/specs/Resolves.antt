@@ -19,7 +19,7 @@ is_inverse InvResolveIn = true
 is_inverse InvResolveOneIn = true
 is_inverse _ = false
 
--- by the records of one mapping, which is named
+-- an `In` form: by the records of the mapping that is named, and where it is a dispatcher of those that it disjuncts to
 abbrev pub is_within : ResolveWord → Bool
 is_within ResolveIn = true
 is_within ResolveOneIn = true

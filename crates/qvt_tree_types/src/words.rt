@@ -105,7 +105,8 @@ impl ResolveWord {
         }
     }
 
-    /// Whether it names a mapping, and looks at what that one made alone.
+    /// Whether it is an `In` form: one that names a mapping, and looks at what that one made, and where
+    /// it is a dispatcher at what those made that it disjuncts to.
     pub fn is_within(self) -> bool
         ensures { result ≡ is_within self }
     {

@@ -1,8 +1,9 @@
-use Rattle.qvt_parser_grammar.proofs.Whole.{one_tree, one_fault}
+use Rattle.qvt_parser_grammar.proofs.Starts.{at_most_one}
+use Rattle.qvt_parser_grammar.proofs.Whole.{whole, part}
 use Rattle.qvt_parser_grammar.proofs.laws.at_most_one.Goals as goal
 
-pub returns-clause-one_tree : goal.returns-clause-one_tree
-returns-clause-one_tree c = one_tree
+pub returns-clause-whole : goal.returns-clause-whole
+returns-clause-whole c = at_most_one whole
 
-pub returns-clause-one_fault : goal.returns-clause-one_fault
-returns-clause-one_fault c = one_fault
+pub returns-clause-part : goal.returns-clause-part
+returns-clause-part c = at_most_one part

@@ -1,0 +1,5 @@
+pub mod Alike
+pub mod Exprs
+pub mod Stmts
+pub mod Units
+pub mod Whole
