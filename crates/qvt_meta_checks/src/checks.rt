@@ -112,20 +112,29 @@ pub fn unknown_type(
 pub trait FeatureTest {
     ghost fails: { Self → DeclaredClass → DeclaredFeature → Bool };
 
-    fn fails(&self, class: &DeclaredClass, feature: &DeclaredFeature) -> bool
-        ensures { result ≡ fails self.now class.now feature.now };
+    fn fails(
+        &self,
+        alloc: Global,
+        class: &DeclaredClass,
+        feature: &DeclaredFeature,
+    ) -> Result<bool, ListFault>
+        ensures { IfOk result (λ b. b ≡ fails self.now class.now feature.now) };
 }
 
 /// The first feature of the class that fails.
-fn feature_fault<'a, T: FeatureTest>(test: &T, class: &'a DeclaredClass) -> Option<&'a Text>
-    ensures { option_map (λ name. (class.now.name, name)) (option_copied result) ≡ feature_fault (T.fails test.now) class.now }
+fn feature_fault<'a, T: FeatureTest>(
+    alloc: Global,
+    test: &T,
+    class: &'a DeclaredClass,
+) -> Result<Option<&'a Text>, ListFault>
+    ensures { IfOk result (λ o. option_map (λ name. (class.now.name, name)) (option_copied o) ≡ feature_fault (T.fails test.now) class.now) }
 {
     for feature in class.features.as_slice() {
-        if test.fails(class, feature) {
-            return Some(&feature.name);
+        if test.fails(alloc, class, feature)? {
+            return Ok(Some(&feature.name));
         }
     }
-    None
+    Ok(None)
 }
 
 /// The first feature of these classes that fails, with its class.
@@ -137,7 +146,7 @@ pub fn first_fault<T: FeatureTest>(
     ensures { IfOk result (λ o. o ≡ first_in (feature_fault (T.fails test.now)) classes.now) }
 {
     for class in classes {
-        if let Some(name) = feature_fault(test, class) {
+        if let Some(name) = feature_fault(alloc, test, class)? {
             return Ok(Some((class.name.copy(alloc)?, name.copy(alloc)?)));
         }
     }
@@ -150,10 +159,15 @@ struct BoundsTest {}
 impl FeatureTest for BoundsTest {
     ghost fails = { λ t k f. is_below f.lower f.upper };
 
-    fn fails(&self, _: &DeclaredClass, feature: &DeclaredFeature) -> bool {
+    fn fails(
+        &self,
+        _: Global,
+        _: &DeclaredClass,
+        feature: &DeclaredFeature,
+    ) -> Result<bool, ListFault> {
         match feature.upper {
-            None => false,
-            Some(upper) => upper < feature.lower,
+            None => Ok(false),
+            Some(upper) => Ok(upper < feature.lower),
         }
     }
 }

@@ -2,6 +2,7 @@
 #![tactic(auto)]
 
 pub mod checks;
+mod ends;
 pub mod name_set;
 pub mod names;
 pub mod opposites;

@@ -1,26 +1,22 @@
 //! The check of containments and opposites.
 
-ghost use Rattle.std.specs.Prelude.{◌≡◌, List, IfOk};
+ghost use Rattle.std.specs.Prelude.{◌≡◌, ◌||◌, List, Some, not, is_some, slice_index_or, IfOk};
 ghost use Rattle.std.specs.List.{list_any};
+ghost use Rattle.std.specs.Str.{bytes_eq};
 ghost use Rattle.qvt_metamodel.specs.MetaData.{class_names};
+ghost use Rattle.qvt_metamodel.specs.Names.{is_among};
 ghost use Rattle.qvt_metamodel.specs.Checks.{is_name, is_one_at_most, is_mutual, is_contained_wrong, type_features, is_bad_opposite, bad_opposite};
+ghost use Rattle.qvt_meta_checks.specs.Ends.{is_end, same_end, no_ends, may_not_be_contained, AreAllEnds};
 
 use crate::checks::{FeatureTest, first_fault};
+use crate::ends::{End, Ends, all_ends};
 use crate::name_set::NameSet;
 use crate::names::place_in;
+use qvt_base::copied::Copied;
 use qvt_base::list_fault::ListFault;
 use qvt_base::text::Text;
 use qvt_metamodel::declared::{DeclaredClass, DeclaredFeature, MetaData};
 use std::alloc::Global;
-
-fn is_name(name: &Option<Text>, other: &Text) -> bool
-    ensures { result ≡ is_name name.now other.now }
-{
-    match name {
-        None => false,
-        Some(name) => other.as_str() == name.as_str(),
-    }
-}
 
 fn is_one_at_most(upper: Option<u32>) -> bool
     ensures { result ≡ is_one_at_most upper }
@@ -31,38 +27,12 @@ fn is_one_at_most(upper: Option<u32>) -> bool
     }
 }
 
-/// Whether the other one, of the feature's type, has the class as its type and the feature as its
-/// opposite.
-fn is_mutual(class: &DeclaredClass, feature: &DeclaredFeature, other: &DeclaredFeature) -> bool
-    ensures { result ≡ is_mutual class.now feature.now other.now }
+/// Whether the feature may not be contained by its opposite: it is a containment, or its upper bound
+/// is not 1.
+fn may_not_be_contained(feature: &DeclaredFeature) -> bool
+    ensures { result ≡ may_not_be_contained feature.now }
 {
-    is_name(&feature.opposite, &other.name)
-        && other.kind.as_str() == class.name.as_str()
-        && is_name(&other.opposite, &feature.name)
-}
-
-/// Whether both are containments, or the other is one and the feature's upper bound is not 1.
-fn is_contained_wrong(feature: &DeclaredFeature, other: &DeclaredFeature) -> bool
-    ensures { result ≡ is_contained_wrong feature.now other.now }
-{
-    other.containment && (feature.containment || !is_one_at_most(feature.upper))
-}
-
-fn has_mutual(class: &DeclaredClass, feature: &DeclaredFeature, others: &[DeclaredFeature]) -> bool
-    ensures { result ≡ list_any (is_mutual class.now feature.now) others.now }
-{
-    others.iter().any(|other| is_mutual(class, feature, other))
-}
-
-fn has_contained_wrong(
-    class: &DeclaredClass,
-    feature: &DeclaredFeature,
-    others: &[DeclaredFeature],
-) -> bool
-    ensures { result ≡ list_any (λ g. is_mutual class.now feature.now g && is_contained_wrong feature.now g) others.now }
-{
-    others.iter().any(|other| is_mutual(class, feature, other)
-        && is_contained_wrong(feature, other))
+    feature.containment || !is_one_at_most(feature.upper)
 }
 
 ghost use Rattle.std.specs.Prelude.{◌&&◌};
@@ -72,45 +42,117 @@ ghost use Rattle.std.specs.Prelude.{◌&&◌};
 struct OppositeTest<'a> {
     meta: &'a MetaData,
     classes: &'a NameSet,
+    ends: &'a [Ends],
     ghost names: { classes.now ≡ class_names meta.now },
+    ghost ends_are: { AreAllEnds meta.now.classes ends.now },
 }
 
 impl<'a> OppositeTest<'a> {
-    /// The features that the class declares which is the feature's type.
-    fn type_features(&self, feature: &DeclaredFeature) -> &[DeclaredFeature]
-        ensures { result.now ≡ type_features self.now.meta.now feature.now }
+    /// Whether the class that is the feature's type declares this end.
+    #[tactic(auto, using(crate::proofs::Paired::declared_there))]
+    fn is_declared(&self, feature: &DeclaredFeature, end: &End) -> bool
+        ensures { result ≡ list_any (is_end end.now) (type_features self.now.meta.now feature.now) }
     {
-        let classes = self.meta.classes.as_slice();
         let place = place_in(self.classes, &feature.kind);
-        if place < classes.len() {
-            classes[place].features.as_slice()
-        } else {
-            &[]
-        }
+        holds_at(self.ends, place, end)
     }
+
+    /// Whether it declares it as a containment, and the feature may not be contained by it.
+    #[tactic(auto, using(crate::proofs::Paired::contained_there))]
+    fn is_contained(&self, feature: &DeclaredFeature, end: &End) -> bool
+        ensures { result ≡ (may_not_be_contained feature.now && list_any (λ g. g.containment && is_end end.now g) (type_features self.now.meta.now feature.now)) }
+    {
+        let place = place_in(self.classes, &feature.kind);
+        may_not_be_contained(feature) && contains_at(self.ends, place, end)
+    }
+
+    /// Whether the feature has a type or a uniqueness that no containment and no end may have.
+    fn is_misplaced(&self, feature: &DeclaredFeature) -> bool
+        ensures { result ≡ ((feature.now.containment || is_some feature.now.opposite) && (not (is_among feature.now.kind (class_names self.now.meta.now)) || not feature.now.unique)) }
+    {
+        (feature.containment || feature.opposite.is_some())
+            && (!self.classes.contains(&feature.kind) || !feature.unique)
+    }
+
+    /// Whether the feature and the one of this name are no two ends of one pair.
+    fn is_unpaired(
+        &self,
+        alloc: Global,
+        class: &DeclaredClass,
+        feature: &DeclaredFeature,
+        opposite: &Text,
+    ) -> Result<bool, ListFault>
+        requires { feature.now.opposite ≡ Some opposite.now }
+        ensures { IfOk result (λ b. b ≡ (not (list_any (is_mutual class.now feature.now) (type_features self.now.meta.now feature.now)) || list_any (λ g. is_mutual class.now feature.now g && is_contained_wrong feature.now g) (type_features self.now.meta.now feature.now) || (bytes_eq feature.now.kind class.now.name && is_name feature.now.opposite feature.now.name))) }
+    {
+        let end = End {
+            name: opposite.copy(alloc)?,
+            kind: class.name.copy(alloc)?,
+            opposite: feature.name.copy(alloc)?,
+        };
+        let declared = self.is_declared(feature, &end);
+        let contained = self.is_contained(feature, &end);
+        let itself = is_itself(class, feature, opposite);
+        Ok(is_bad(declared, contained, itself))
+    }
+}
+
+/// Whether the class at a place declares the end.
+fn holds_at(ends: &[Ends], place: usize, end: &End) -> bool
+    ensures { result ≡ list_any (same_end end.now) (slice_index_or ends.now place no_ends).all }
+{
+    if place < ends.len() {
+        ends[place].all.holds(end)
+    } else {
+        false
+    }
+}
+
+/// Whether it declares it as a containment.
+fn contains_at(ends: &[Ends], place: usize, end: &End) -> bool
+    ensures { result ≡ list_any (same_end end.now) (slice_index_or ends.now place no_ends).containers }
+{
+    if place < ends.len() {
+        ends[place].containers.holds(end)
+    } else {
+        false
+    }
+}
+
+/// Whether the feature is its own opposite.
+fn is_itself(class: &DeclaredClass, feature: &DeclaredFeature, opposite: &Text) -> bool
+    ensures { result ≡ (bytes_eq feature.now.kind class.now.name && bytes_eq feature.now.name opposite.now) }
+{
+    feature.kind.as_str() == class.name.as_str() && feature.name.as_str() == opposite.as_str()
+}
+
+fn is_bad(declared: bool, contained: bool, itself: bool) -> bool
+    ensures { result ≡ (not declared || contained || itself) }
+{
+    !declared || contained || itself
 }
 
 impl<'a> FeatureTest for OppositeTest<'a> {
     ghost fails = { λ t k f. is_bad_opposite t.meta.now k f };
 
-    fn fails(&self, class: &DeclaredClass, feature: &DeclaredFeature) -> bool {
-        let is_end = feature.opposite.is_some();
-        if (feature.containment || is_end)
-            && (!self.classes.contains(&feature.kind) || !feature.unique)
-        {
-            return true;
+    fn fails(
+        &self,
+        alloc: Global,
+        class: &DeclaredClass,
+        feature: &DeclaredFeature,
+    ) -> Result<bool, ListFault> {
+        if self.is_misplaced(feature) {
+            return Ok(true);
         }
-        let others = self.type_features(feature);
-        is_end
-            && (!has_mutual(class, feature, others)
-                || has_contained_wrong(class, feature, others)
-                || feature.kind.as_str() == class.name.as_str()
-                    && is_name(&feature.opposite, &feature.name))
+        match &feature.opposite {
+            None => Ok(false),
+            Some(opposite) => self.is_unpaired(alloc, class, feature, opposite),
+        }
     }
 }
 
 /// The class and the feature that BadOpposite tells.
-#[tactic(auto, unfolding(qvt_metamodel::specs::Checks::bad_opposite))]
+#[tactic(auto, unfolding(qvt_metamodel::specs::Checks::bad_opposite), using(crate::proofs::Paired::same_ends))]
 pub fn bad_opposite(
     alloc: Global,
     classes: &NameSet,
@@ -119,6 +161,11 @@ pub fn bad_opposite(
     requires { classes.now ≡ class_names meta.now }
     ensures { IfOk result (λ o. o ≡ bad_opposite meta.now) }
 {
-    let test = OppositeTest { meta, classes };
+    let ends = all_ends(alloc, meta.classes.as_slice())?;
+    let test = OppositeTest {
+        meta,
+        classes,
+        ends: ends.as_slice(),
+    };
     first_fault(alloc, &test, meta.classes.as_slice())
 }

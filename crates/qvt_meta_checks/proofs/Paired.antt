@@ -1,0 +1,198 @@
+-- Ends of opposites that are put into sets, and looked up there.
+use Rattle.std.proofs.Common.{◌≡◌, ◌∙◌, ℕ, zero, suc, ◌+◌, ◌<◌, ◌≤◌, List, [], ◌∷◌, ◌++◌, length, drop, take, get_or, Bool, true, false, cond, ◌||◌, ◌&&◌, not, Option, Some, None, refl, sym, ap, subst, arith}
+use Rattle.std.proofs.lemmas.List.{at_drop_more, get_or_past}
+use Rattle.std.proofs.lemmas.Slice.Eq.{bytes_eq-Decides}
+use Rattle.std.specs.List.{list_any}
+use Rattle.std.specs.Str.{bytes_eq}
+use Rattle.qvt_metamodel.specs.declared.declared.DeclaredFeature.{DeclaredFeature}
+use Rattle.qvt_metamodel.specs.declared.declared.DeclaredClass.{DeclaredClass}
+use Rattle.qvt_metamodel.specs.Checks.{is_name, is_mutual, is_contained_wrong}
+use Rattle.qvt_metamodel.specs.Added.{declared_at, nothing_declared}
+use Rattle.qvt_metamodel.proofs.Bools.{not_true, clash, ap2}
+use Rattle.qvt_metamodel.proofs.Halves.{Half, old, new, half, old-at, new-at}
+use Rattle.qvt_metamodel.proofs.Lists.{list_any-cong, all-every}
+use Rattle.qvt_meta_checks.specs.declared.ends.End.{End}
+use Rattle.qvt_meta_checks.specs.declared.ends.Ends.{Ends}
+use Rattle.qvt_meta_checks.specs.Ends.{same_end, is_end, is_end_of, Joined, AreEnds, AreEndsOf, AreAllEnds, no_ends, may_not_be_contained}
+
+or_or : (a b c : Bool) → ((a || b) || c) ≡ (a || (b || c))
+or_or true b c = refl
+or_or false b c = refl
+
+and_and : (a b c : Bool) → (a && (b && c)) ≡ ((a && b) && c)
+and_and true b c = refl
+and_and false b c = refl
+
+or_false : (a : Bool) → (a || false) ≡ a
+or_false true = refl
+or_false false = refl
+
+flip : (x y : List ℕ) → bytes_eq x y ≡ bytes_eq y x
+flip x y = by (bytes_eq x y) refl
+  where
+    by : (t : Bool) → bytes_eq x y ≡ t → bytes_eq x y ≡ bytes_eq y x
+    by true e = e ∙ sym ((bytes_eq-Decides y x).1 (sym ((bytes_eq-Decides x y).0 e)))
+    by false e = e ∙ sym (not_true (bytes_eq y x) (λ h. clash ((bytes_eq-Decides x y).1 (sym ((bytes_eq-Decides y x).0 h))) e))
+
+-- one end more
+same_flip : (a b : End) → same_end a b ≡ same_end b a
+same_flip a b = λ i. flip a.name b.name i && (flip a.kind b.kind i && flip a.opposite b.opposite i)
+
+pub end_joined : (had has : List End) (k : End) → ((q : End) → list_any (same_end q) has ≡ cond (same_end k q) true (list_any (same_end q) had))
+    → (e : End) → list_any (same_end e) has ≡ (list_any (same_end e) had || same_end e k)
+end_joined had has k is e = is e ∙ ap (λ t. cond t true (list_any (same_end e) had)) (same_flip k e) ∙ by (same_end e k) (list_any (same_end e) had)
+  where
+    by : (t a : Bool) → cond t true a ≡ (a || t)
+    by true true = refl
+    by true false = refl
+    by false true = refl
+    by false false = refl
+
+pub one_joined : (had has : List End) (g : DeclaredFeature) (k : End) → k.name ≡ g.name → k.kind ≡ g.kind → g.opposite ≡ Some k.opposite
+    → ((e : End) → list_any (same_end e) has ≡ (list_any (same_end e) had || same_end e k)) → Joined false had g has
+one_joined had has g k en ek eo is = record {
+  holds = λ e. is e ∙ (λ i. list_any (same_end e) had || (bytes_eq e.name (en i) && (bytes_eq e.kind (ek i) && is_name (sym eo i) e.opposite)));
+}
+
+pub none_joined : (only : Bool) (had : List End) (g : DeclaredFeature) → g.opposite ≡ None → Joined only had g had
+none_joined only had g e = record {
+  holds = λ x. none only (list_any (same_end x) had) (bytes_eq x.name g.name) (bytes_eq x.kind g.kind) g.containment
+      ∙ ap (λ o. list_any (same_end x) had || ((not only || g.containment) && (bytes_eq x.name g.name && (bytes_eq x.kind g.kind && is_name o x.opposite)))) (sym e);
+}
+  where
+    none : (only a b c d : Bool) → a ≡ (a || ((not only || d) && (b && (c && false))))
+    none true true b c d = refl
+    none false true b c d = refl
+    none true false true true true = refl
+    none true false true true false = refl
+    none true false true false true = refl
+    none true false true false false = refl
+    none true false false c true = refl
+    none true false false c false = refl
+    none false false true true d = refl
+    none false false true false d = refl
+    none false false false c d = refl
+
+-- a feature that does not count, and one that does
+pub uncounted : (only : Bool) (had : List End) (g : DeclaredFeature) → (only && not g.containment) ≡ true → Joined only had g had
+uncounted only had g h = record { holds = λ e. by only g.containment (is_end e g) (list_any (same_end e) had) h }
+  where
+    by : (o c i a : Bool) → (o && not c) ≡ true → a ≡ (a || ((not o || c) && i))
+    by true true i a h = absurd (cc)
+    by false c i a h = absurd (cc)
+    by true false i true h = refl
+    by true false i false h = refl
+
+pub counted : (only : Bool) (had has : List End) (g : DeclaredFeature) → (only && not g.containment) ≡ false → Joined false had g has → Joined only had g has
+counted only had has g h is = record { holds = λ e. is.holds e ∙ ap (λ t. list_any (same_end e) had || t) (by only g.containment (is_end e g) h) }
+  where
+    by : (o c i : Bool) → (o && not c) ≡ false → ((not false || c) && i) ≡ ((not o || c) && i)
+    by true true i h = refl
+    by true false i h = absurd (cc)
+    by false c i h = refl
+
+-- the ends of the class at a place
+pub declared_there : (ks : List DeclaredClass) (ends : List Ends) (c : ℕ) (e : End) → AreAllEnds ks ends → list_any (same_end e) (get_or ends c no_ends).all ≡ list_any (is_end e) (declared_at ks c).features
+declared_there ks ends c e are = (are.at c).all e
+
+pub same_ends : (ks ls : List DeclaredClass) (es fs : List Ends) → ls ≡ ks → fs ≡ es → AreAllEnds ls es → AreAllEnds ks fs
+same_ends ks ls es fs ek ef are = subst (λ (xs : List DeclaredClass). AreAllEnds xs fs) ek (subst (AreAllEnds ls) (sym ef) are)
+
+pub contained_there : (ks : List DeclaredClass) (ends : List Ends) (c : ℕ) (e : End) → AreAllEnds ks ends
+    → list_any (same_end e) (get_or ends c no_ends).containers ≡ list_any (λ g. g.containment && is_end e g) (declared_at ks c).features
+contained_there ks ends c e are = (are.at c).containers e
+
+-- the walk over features goes on by one
+pub goes_on : (p : DeclaredFeature → Bool) (gs : List DeclaredFeature) (k : ℕ) (x : DeclaredFeature) (a b all : Bool) → k < length gs → x ≡ get_or gs k x
+    → b ≡ (a || p x) → (a || list_any p (drop k gs)) ≡ all → (b || list_any p (drop (k + 1) gs)) ≡ all
+goes_on p gs k x a b all l is joined h =
+    ap (λ t. t || list_any p (drop (k + 1) gs)) (joined ∙ ap (λ y. a || p y) is)
+    ∙ or_or a (p (get_or gs k x)) (list_any p (drop (k + 1) gs))
+    ∙ ap (λ t. a || t) (sym (at_drop_more (list_any p) gs k x l)) ∙ h
+
+pub ended : (p : DeclaredFeature → Bool) (gs : List DeclaredFeature) (k : ℕ) (a : Bool) → length gs ≤ k → (a || list_any p (drop k gs)) ≡ list_any p gs → a ≡ list_any p gs
+ended p gs k a l h = sym (or_false a) ∙ ap (λ fs. a || list_any p fs) (sym (none_left gs k l)) ∙ h
+  where
+    none_left : (gs : List DeclaredFeature) (k : ℕ) → length gs ≤ k → drop k gs ≡ []
+    none_left [] zero l = refl
+    none_left [] (suc k) l = refl
+    none_left (g ∷ gs) zero l = absurd (omega (arith, l))
+    none_left (g ∷ gs) (suc k) l = none_left gs k (omega (arith, l))
+
+pub both_ends : (gs fs : List DeclaredFeature) (all containers : List End) → fs ≡ gs → AreEnds false fs all → AreEnds true fs containers → AreEndsOf gs (record { all = all; containers = containers })
+both_ends gs fs all containers e x y = record {
+  all = λ n. x.holds n ∙ ap (list_any (is_end n)) e;
+  containers = λ n. y.holds n ∙ ap (list_any (λ (g : DeclaredFeature). g.containment && is_end n g)) e;
+}
+
+-- a fact of each item, when one more is put last
+pub each-more : {X : Type 0} (P : ℕ → X → Type 0) (d : X) (xs : List X) (n : ℕ) (x : X) → length xs ≡ n → ((k : ℕ) → k < n → P k (get_or xs k d)) → P n x
+    → (k : ℕ) → k < n + 1 → P k (get_or (xs ++ x ∷ []) k d)
+each-more P d xs n x each all here k h = by k (half n k) h
+  where
+    place : (i : ℕ) → get_or (xs ++ x ∷ []) (n + i) d ≡ get_or (x ∷ []) i d
+    place i = ap (λ y. get_or (xs ++ x ∷ []) (y + i) d) (sym each) ∙ new-at xs (x ∷ []) i d
+
+    last : (i : ℕ) → n + i < n + 1 → P (n + i) (get_or (xs ++ x ∷ []) (n + i) d)
+    last zero l = subst (P (n + 0)) (sym (place 0)) (subst (λ y. P y x) (let same : n ≡ n + 0 = omega arith in same) here)
+    last (suc i) l = absurd (omega (arith, l))
+
+    by : (k : ℕ) → Half n k → k < n + 1 → P k (get_or (xs ++ x ∷ []) k d)
+    by _ (old k l) h = subst (P k) (sym (old-at xs (x ∷ []) k d (omega (arith, l, each)))) (all k l)
+    by _ (new i) h = last i h
+
+-- the ends of all classes, where those of each are there
+pub all_of : (ks : List DeclaredClass) (k : ℕ) (es : List Ends) → length ks ≤ k → length es ≡ k
+    → ((c : ℕ) → c < k → AreEndsOf (declared_at ks c).features (get_or es c no_ends)) → AreAllEnds ks es
+all_of ks k es l total before = record { at = λ c. by c (half k c) }
+  where
+    by : (c : ℕ) → Half k c → AreEndsOf (declared_at ks c).features (get_or es c no_ends)
+    by _ (old c l) = before c l
+    by _ (new i) =
+        subst (λ (y : DeclaredClass). AreEndsOf y.features (get_or es (k + i) no_ends)) (sym (get_or_past ks (k + i) nothing_declared (omega (arith, l))))
+        (subst (AreEndsOf []) (sym (get_or_past es (k + i) no_ends (omega (arith, total)))) (record { all = λ e. refl; containers = λ e. refl }))
+
+-- what the test asks of the features of the type, as a question to the sets
+abbrev pub wanted : DeclaredClass → DeclaredFeature → List ℕ → End
+wanted k f name = record { name = name; kind = k.name; opposite = f.name }
+
+mutual_is : (k : DeclaredClass) (f : DeclaredFeature) (name : List ℕ) → f.opposite ≡ Some name → (g : DeclaredFeature) → is_end (wanted k f name) g ≡ is_mutual k f g
+mutual_is k f name e g =
+    and_and (bytes_eq name g.name) (bytes_eq k.name g.kind) (is_name g.opposite f.name)
+    ∙ (λ i. (flip name g.name i && flip k.name g.kind i) && is_name g.opposite f.name)
+    ∙ ap (λ o. (is_name o g.name && bytes_eq g.kind k.name) && is_name g.opposite f.name) (sym e)
+
+pub has_mutual : (k : DeclaredClass) (f : DeclaredFeature) (name : List ℕ) (gs : List DeclaredFeature) → f.opposite ≡ Some name → list_any (is_end (wanted k f name)) gs ≡ list_any (is_mutual k f) gs
+has_mutual k f name gs e = list_any-cong _ _ gs (all-every (λ g. is_end (wanted k f name) g ≡ is_mutual k f g) gs (mutual_is k f name e))
+
+pub has_wrong : (k : DeclaredClass) (f : DeclaredFeature) (name : List ℕ) (gs : List DeclaredFeature) → f.opposite ≡ Some name
+    → (may_not_be_contained f && list_any (λ g. g.containment && is_end (wanted k f name) g) gs) ≡ list_any (λ g. is_mutual k f g && is_contained_wrong f g) gs
+has_wrong k f name [] e = by (may_not_be_contained f)
+  where
+    by : (t : Bool) → (t && false) ≡ false
+    by true = refl
+    by false = refl
+has_wrong k f name (g ∷ gs) e =
+    by (may_not_be_contained f) g.containment (is_end (wanted k f name) g) (list_any (λ g. g.containment && is_end (wanted k f name) g) gs)
+    ∙ ap2 (λ x y. (x && (g.containment && may_not_be_contained f)) || y) (mutual_is k f name e g) (has_wrong k f name gs e)
+  where
+    by : (w c m r : Bool) → (w && ((c && m) || r)) ≡ ((m && (c && w)) || (w && r))
+    by true true true r = refl
+    by true true false r = refl
+    by true false true r = refl
+    by true false false r = refl
+    by false true true r = refl
+    by false true false r = refl
+    by false false true r = refl
+    by false false false r = refl
+
+pub unpaired : (k : DeclaredClass) (f : DeclaredFeature) (name : List ℕ) (gs : List DeclaredFeature) (d c i : Bool) → f.opposite ≡ Some name
+    → d ≡ list_any (is_end (wanted k f name)) gs
+    → c ≡ (may_not_be_contained f && list_any (λ g. g.containment && is_end (wanted k f name) g) gs)
+    → i ≡ (bytes_eq f.kind k.name && bytes_eq f.name name)
+    → (not d || c || i) ≡ (not (list_any (is_mutual k f) gs) || list_any (λ g. is_mutual k f g && is_contained_wrong f g) gs || (bytes_eq f.kind k.name && is_name f.opposite f.name))
+unpaired k f name gs d c i e ed ec ei =
+    let one : d ≡ list_any (is_mutual k f) gs = ed ∙ has_mutual k f name gs e in
+    let two : c ≡ list_any (λ g. is_mutual k f g && is_contained_wrong f g) gs = ec ∙ has_wrong k f name gs e in
+    let three : i ≡ (bytes_eq f.kind k.name && is_name f.opposite f.name) = ei ∙ ap (λ o. bytes_eq f.kind k.name && is_name o f.name) (sym e) in
+    λ t. not (one t) || two t || three t
