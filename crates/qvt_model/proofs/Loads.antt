@@ -8,7 +8,8 @@ use Rattle.qvt_base.specs.declared.numbers.Oid.{Oid}
 use Rattle.qvt_metamodel.specs.Metamodels.{Metamodels}
 use Rattle.qvt_slots.specs.Contents.{Contents, Instance, no_instance, extent_at, extent_of, is_live, is_writable, members_from, members_of}
 use Rattle.qvt_slots.proofs.Lists.{length-map}
-use Rattle.qvt_store.proofs.Stays.{members-append, stays_more}
+use Rattle.qvt_store_laws.proofs.Stays.{members-append, stays_more}
+use Rattle.qvt_store_laws.proofs.ReadOnly.{more_leaves_inputs}
 use Rattle.qvt_model.specs.declared.data.ObjectData.{ObjectData}
 use Rattle.qvt_model.specs.IdTables.{id_in}
 use Rattle.qvt_model.specs.WellFormed.{object_at, no_object}
@@ -117,6 +118,7 @@ pub load_leaves : EachLoadLeaves
 unfolding loaded
 load_leaves s e os = record {
   stays = stays_more s (map (instance_at s.metas e (length s.objects)) os);
+  inputs = more_leaves_inputs s (map (instance_at s.metas e (length s.objects)) os);
   others = record { others = others s e os };
   count = count s e os;
   ids = ids s e os;

@@ -7,7 +7,7 @@ use Rattle.qvt_base.specs.declared.numbers.Oid.{Oid}
 use Rattle.qvt_slots.proofs.Lists.{length-map}
 use Rattle.qvt_store.specs.Contents.{Contents, Instance, no_instance, no_extent, extent_at, extent_of, is_writable, members_from, members_of}
 use Rattle.qvt_store.specs.Stay.{IsFront}
-use Rattle.qvt_store.proofs.Stays.{get-left}
+use Rattle.qvt_store_laws.proofs.Stays.{get-left}
 use Rattle.qvt_model.specs.Extents.{own_id, numbers, place_of, data_of}
 use Rattle.qvt_model.specs.IdTables.{id_in}
 use Rattle.qvt_model.specs.RunIds.{place_id, file_id, DataHaveRunIds, RunIdsStay}

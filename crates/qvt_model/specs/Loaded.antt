@@ -7,7 +7,7 @@ use Rattle.qvt_value.specs.declared.value.Value.{Value}
 use Rattle.qvt_value.specs.declared.value.Value.TheVariants.{Bool as BoolValue, Int as IntValue, Str as StrValue, Enum as EnumValue, Obj}
 use Rattle.qvt_metamodel.specs.Metamodels.{Metamodels, features_of}
 use Rattle.qvt_slots.specs.Contents.{Contents, Instance, is_extent, is_live, extent_at, members_of}
-use Rattle.qvt_store.specs.Stay.{StaysIn}
+use Rattle.qvt_store.specs.Stay.{InputsStay, StaysIn}
 use Rattle.qvt_model.specs.declared.data.Datum.{Datum}
 use Rattle.qvt_model.specs.declared.data.Datum.TheVariants.{Bool as BoolDatum, Int, Str, Literal, Ref}
 use Rattle.qvt_model.specs.declared.data.ObjectData.{ObjectData}
@@ -75,6 +75,7 @@ pub record HaveRunIds (s : Contents) (e : ℕ) (os : List ObjectData) (old new :
 -- what a loading leaves
 pub record LoadLeaves (s : Contents) (e : ℕ) (os : List ObjectData) : Type 0 where
   pub stays : StaysIn s (loaded s e os)
+  pub inputs : InputsStay s (loaded s e os)
   pub others : MembersStay s (loaded s e os) e
   pub count : length (loaded s e os).objects ≡ length s.objects + length os
   -- each earlier object keeps its id, and the table tells one for each loaded object

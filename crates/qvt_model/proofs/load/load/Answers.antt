@@ -2,7 +2,7 @@ use Rattle.std.proofs.Common.{◌≡◌, ◌∙◌, ℕ, sym, ap, subst, List, l
 use Rattle.std.specs.Prelude.{Option}
 use Rattle.qvt_slots.specs.Contents.{Contents}
 use Rattle.qvt_store.specs.Sound.{Sound}
-use Rattle.qvt_store.specs.Stay.{StaysIn}
+use Rattle.qvt_store.specs.Stay.{InputsStay, StaysIn}
 use Rattle.qvt_model.specs.declared.data.ObjectData.{ObjectData}
 use Rattle.qvt_model.specs.IdTables.{id_in}
 use Rattle.qvt_model.specs.Loaded.{loaded, id_told, MembersStay, TellsAll, TellsNoOther}
@@ -67,3 +67,6 @@ returns-clause-told c all = subst (λ (t : Contents). TellsAll t c.tell_ids.new.
 pub returns-clause-no_other : goal.returns-clause-no_other
 returns-clause-no_other c none_else = subst (λ (t : Contents). TellsNoOther t c.tell_ids.new.ids) (sym (returns-clause-store c))
     ((load_leaves c.args.store.now c.args.extent c.args.model.now.objects).no_other c.args.ids.now c.tell_ids.new.ids (returns-clause-ids c) none_else)
+
+pub returns-clause-inputs : goal.returns-clause-inputs
+returns-clause-inputs c = subst (InputsStay c.args.store.now) (sym (returns-clause-store c)) (load_leaves c.args.store.now c.args.extent c.args.model.now.objects).inputs
