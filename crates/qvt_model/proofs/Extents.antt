@@ -248,7 +248,7 @@ module _ (s : Contents) (e : ℕ) (store : IsStore s) (sound : Sound s) where
     some = ltb-true 0 (length (slot_in s xs x f).items) some;
     items = given-all (datum_in xs) (λ v. is_of_type s f.0 v ≡ true) IsPlain (IsItem s.metas os (shape_of s.metas f.0).kind)
         (λ v y e t p. value-item s xs os (count-objects s xs 1 xs) (λ i lt. class-there s xs 1 xs i lt) (shape_of s.metas f.0).kind v y e t p)
-        (slot_of s x f.0) (all-passing (is_of_type s f.0) (slot_of s x f.0) (sound.typed.types x f.0)) (by_recursion IsPlain (slot_of s x f.0) (sound.plain x f.0));
+        (slot_of s x f.0) (all-passing (is_of_type s f.0) (slot_of s x f.0) (sound.parts.typed.types x f.0)) (by_recursion IsPlain (slot_of s x f.0) (sound.parts.plain x f.0));
   }
 
   is-object : (n x : ℕ) → IsMember s e x → IsObject s.metas (extent_at s e).metamodel os (object_in s xs n x)
@@ -257,8 +257,8 @@ module _ (s : Contents) (e : ℕ) (store : IsStore s) (sound : Sound s) where
       let live : is_live s x ≡ true = lt-ltb x (length s.objects) h.0 in
       let features = features_of s.metas (class_of s x) in
       record {
-        class = (sound.classes x live).live;
-        metamodel = (sound.classes x live).metamodel ∙ ap (λ k. (extent_at s k).metamodel) h.1;
+        class = (sound.parts.classes x live).live;
+        metamodel = (sound.parts.classes x live).metamodel ∙ ap (λ k. (extent_at s k).metamodel) h.1;
         slots = onto-all s xs x (IsSlot s.metas os (class_of s x)) [] features
             (All-weaken (λ f. among_features f.0 features ≡ true) (λ f. has_items (slot_in s xs x f) ≡ true → IsSlot s.metas os (class_of s x) (slot_in s xs x f)) (λ f own some. is-slot x f own some) features (each-among features)) tt;
         order = onto-order s xs x [] features tt;
@@ -267,7 +267,7 @@ module _ (s : Contents) (e : ℕ) (store : IsStore s) (sound : Sound s) where
   holds-one : (x : ℕ) (f : FeatureNo) → HoldsOne s.metas (slot_in s xs x f)
   holds-one x f = record {
     one = λ single.
-        let within = one-bound (length (slot_of s x f.0)) (shape_of s.metas f.0).upper single (sound.bounds x f.0) in
+        let within = one-bound (length (slot_of s x f.0)) (shape_of s.metas f.0).upper single (sound.parts.bounds x f.0) in
         omega (arith, within, given-fewer (datum_in xs) (slot_of s x f.0));
   }
 

@@ -18,7 +18,7 @@ use Rattle.qvt_slots.specs.Contents.{Contents, Instance, no_instance, list_of, s
 use Rattle.qvt_slots.proofs.Places.{no_lists}
 use Rattle.qvt_slots.proofs.Lists.{length-push, length-map}
 use Rattle.qvt_slots.proofs.Instances.{length-set_list, list-set}
-use Rattle.qvt_store.proofs.Done.{lists_told}
+use Rattle.qvt_store_laws.proofs.Told.{lists_told}
 use Rattle.qvt_model.specs.declared.data.SlotData.{SlotData}
 use Rattle.qvt_model.specs.declared.data.ObjectData.{ObjectData}
 use Rattle.qvt_model.specs.WellFormed.{IsSlot, ComeAfter, AreInOrder, IsObject}

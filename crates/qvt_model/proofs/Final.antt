@@ -14,7 +14,7 @@ use Rattle.qvt_slots.specs.Contents.{Contents, Instance, no_instance, is_live, l
 use Rattle.qvt_slots.specs.Types.{AreTyped}
 use Rattle.qvt_slots.proofs.Places.{list_of-nil}
 use Rattle.qvt_slots.proofs.Lists.{length-map, past_end}
-use Rattle.qvt_store.proofs.After.{item_object}
+use Rattle.qvt_store_laws.proofs.After.{item_object}
 use Rattle.qvt_model.specs.declared.data.SlotData.{SlotData}
 use Rattle.qvt_model.specs.declared.data.ObjectData.{ObjectData}
 use Rattle.qvt_model.specs.WellFormed.{object_at, no_object, IsSlot, IsObject, IsModel}

@@ -9,7 +9,7 @@ use Rattle.qvt_slots.specs.Slots.{has, OppositesAgree, Inside}
 use Rattle.qvt_slots.specs.Contents.{Contents, Instance, slot_in, slot_of, extent_at, with_new}
 use Rattle.qvt_slots.specs.Types.{AreTyped}
 use Rattle.qvt_store.specs.Sound.{IsClassFor, Sound, SoundButOpposites}
-use Rattle.qvt_store.proofs.SoundGrown.{load_begins, load_ends, add_keeps_loading}
+use Rattle.qvt_store_laws.proofs.SoundGrown.{add_keeps_loading}
 use Rattle.qvt_model.specs.declared.data.ObjectData.{ObjectData}
 use Rattle.qvt_model.specs.WellFormed.{IsObject, IsModel}
 use Rattle.qvt_model.specs.WellFormed as parts
@@ -92,8 +92,8 @@ module _ (s : Contents) (e : ℕ) (os : List ObjectData) (load : IsLoadable s e 
 
     loading : SoundButOpposites (with_objects s fin)
     loading = subst (λ (l : List Instance). SoundButOpposites (with_objects s l)) (put_is m well k e s.objects os load.model.objects)
-        (put.sound (subst SoundButOpposites (added_is s e os) (add_loading s e os adds (load_begins s sound))))
+        (put.sound (subst SoundButOpposites (added_is s e os) (add_loading s e os adds sound.parts)))
 
     pub stays_sound : Sound (loaded s e os)
     unfolding loaded
-    stays_sound = load_ends (with_objects s fin) loading agree
+    stays_sound = record { parts = loading; opposites = agree }

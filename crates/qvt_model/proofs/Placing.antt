@@ -23,8 +23,8 @@ use Rattle.qvt_slots.proofs.Lists.{length-map, past_end}
 use Rattle.qvt_slots.proofs.Instances as objects
 use Rattle.qvt_store.specs.Place.{IsPlaceable}
 use Rattle.qvt_store.specs.Sound.{SoundButOpposites, IsSoundList}
-use Rattle.qvt_store.proofs.SoundGrown.{place_keeps_loading}
-use Rattle.qvt_store.proofs.Own.{nowhere}
+use Rattle.qvt_store_laws.proofs.SoundGrown.{place_keeps_loading}
+use Rattle.qvt_store_laws.proofs.Own.{nowhere}
 use Rattle.qvt_model.specs.declared.data.Datum.{Datum}
 use Rattle.qvt_model.specs.declared.data.Datum.TheVariants.{Bool as BoolDatum, Int, Str, Literal, Ref}
 use Rattle.qvt_model.specs.declared.data.SlotData.{SlotData}

@@ -1,21 +1,23 @@
--- The ids in the data of a writable extent are those of the run.
-use Rattle.std.proofs.Common.{◌≡◌, ℕ, zero, suc, ◌+◌, ◌<◌, ◌≤◌, Bool, true, false, ◌==◌, not, cond, refl, sym, ap, ◌∙◌, subst, List, [], ◌∷◌, length, get_or, arith}
+-- The ids in the data of a writable extent are those of the run, and an object keeps its id.
+use Rattle.std.proofs.Common.{◌≡◌, ℕ, zero, suc, ◌+◌, ◌<◌, ◌≤◌, Bool, true, false, ◌==◌, not, cond, refl, sym, ap, ◌∙◌, subst, List, [], ◌∷◌, length, length-append, get_or, arith}
 use Rattle.std.specs.Prelude.{Option, Some, None, nat_lt, slice_index_or}
 use Rattle.std.specs.List.{AllByRecursion, position_or_len}
-use Rattle.std.proofs.lemmas.Bool.{eq-eqb, ne_eqb, lt-ltb}
+use Rattle.std.proofs.lemmas.Bool.{eq-eqb, ne_eqb, lt-ltb, ltb-true}
 use Rattle.qvt_base.specs.declared.numbers.Oid.{Oid}
 use Rattle.qvt_slots.proofs.Lists.{length-map}
-use Rattle.qvt_store.specs.Contents.{Contents, Instance, no_instance, extent_at, extent_of, members_from, members_of}
+use Rattle.qvt_store.specs.Contents.{Contents, Instance, no_instance, no_extent, extent_at, extent_of, is_writable, members_from, members_of}
+use Rattle.qvt_store.specs.Stay.{IsFront}
+use Rattle.qvt_store_laws.proofs.Stays.{get-left}
 use Rattle.qvt_model.specs.Extents.{own_id, numbers, place_of, data_of}
 use Rattle.qvt_model.specs.IdTables.{id_in}
-use Rattle.qvt_model.specs.RunIds.{place_id, file_id, DataHaveRunIds}
+use Rattle.qvt_model.specs.RunIds.{place_id, file_id, DataHaveRunIds, RunIdsStay}
 use Rattle.qvt_model.proofs.Extents.{IsMember, members-are}
 use Rattle.qvt_model.proofs.Writing.{id-there}
 
 abbrev oid : ℕ → Oid
 oid x = record { 0 = x }
 
-abbrev none : Oid
+abbrev pub none : Oid
 none = oid 0
 
 low : (e n : ℕ) (rest : List Instance) (i : ℕ) → i < length (members_from n rest e) → n ≤ (get_or (members_from n rest e) i none).0
@@ -48,7 +50,7 @@ place_is e n (o ∷ rest) i h = by (o.extent == e) i h (place_is e (suc n) rest)
         ∙ ap (λ k. 1 + k) at ∙ (let one : 1 + i ≡ suc i = omega arith in one)
     by false i h more = more i h
 
-found : (e : ℕ) (obs : List Instance) (i : ℕ) → i < length (members_from 0 obs e) → place_of (numbers (members_from 0 obs e)) (get_or (members_from 0 obs e) i none).0 ≡ Some i
+pub found : (e : ℕ) (obs : List Instance) (i : ℕ) → i < length (members_from 0 obs e) → place_of (numbers (members_from 0 obs e)) (get_or (members_from 0 obs e) i none).0 ≡ Some i
 found e obs i h =
     ap (λ k. cond (nat_lt k (length (numbers (members_from 0 obs e)))) (Some k) None) (place_is e 0 obs i h)
     ∙ ap (λ b. cond b (Some i) None) (lt-ltb i (length (numbers (members_from 0 obs e))) (subst (λ k. i < k) (sym (length-map (λ (o : Oid). o.0) (members_from 0 obs e))) h))
@@ -68,3 +70,58 @@ data_have_run_ids s ids e i h writable =
     ∙ ap own_id (let q : 1 + i ≡ suc i = omega arith in q)
     ∙ sym (ap (λ b. cond b (place_id (place_of (numbers (members_of s (extent_of s x))) x)) (file_id (id_in ids x))) (ap (λ k. (extent_at s k).writable) member.1 ∙ writable)
     ∙ ap (λ k. place_id (place_of (numbers (members_of s k)) x)) member.1 ∙ ap place_id (found e s.objects i h))
+
+-- where object x stands among these
+record MemberAt (ms : List Oid) (x : ℕ) : Type 0 where
+  place : ℕ
+  within : place < length ms
+  here : (get_or ms place none).0 ≡ x
+
+member_at : (e n : ℕ) (obs : List Instance) (x y : ℕ) → n + x ≡ y → x < length obs → (get_or obs x no_instance).extent ≡ e → MemberAt (members_from n obs e) y
+member_at e n [] x y q h is = absurd (omega arith)
+member_at e n (o ∷ rest) zero y q h is = subst (λ b. MemberAt (cond b (oid n ∷ members_from (suc n) rest e) (members_from (suc n) rest e)) y) (sym (eq-eqb o.extent e is))
+    (record { place = 0; within = omega arith; here = omega arith })
+member_at e n (o ∷ rest) (suc x) y q h is = by (o.extent == e) (member_at e (suc n) rest x y (omega arith) (omega arith) is)
+  where
+    later : List Oid
+    later = members_from (suc n) rest e
+
+    by : (b : Bool) → MemberAt later y → MemberAt (cond b (oid n ∷ later) later) y
+    by true m = record { place = suc m.place; within = (let w : m.place < length later = m.within in omega arith); here = m.here }
+    by false m = m
+
+pub run_ids_stay : RunIdsStay
+run_ids_stay s s' old new x stays live told =
+    ap (λ b. cond b (place_id (place_of (numbers (members_of s' (extent_of s' x))) x)) (file_id (id_in new x))) writable
+    ∙ (λ i. cond (is_writable s x) (place_id (places i)) (file_id (told i)))
+  where
+    e : ℕ
+    e = extent_of s x
+
+    same_extent : extent_of s' x ≡ e
+    same_extent = stays.extent x live
+
+    writable : is_writable s' x ≡ is_writable s x
+    writable = λ i. (slice_index_or (stays.extents i) (same_extent i) no_extent).writable
+
+    at : MemberAt (members_of s e) x
+    at = member_at e 0 s.objects x x (omega arith) (ltb-true x (length s.objects) live) refl
+
+    front : IsFront (members_of s e) (members_of s' e)
+    front = stays.members e
+
+    within : at.place < length (members_of s' e)
+    within = subst (λ (l : List Oid). at.place < length l) (sym front.more)
+        (subst (λ n. at.place < n) (sym (length-append (members_of s e) front.rest)) (let w : at.place < length (members_of s e) = at.within in omega arith))
+
+    here : (get_or (members_of s' e) at.place none).0 ≡ x
+    here = ap (λ (l : List Oid). (get_or l at.place none).0) front.more ∙ ap (λ (o : Oid). o.0) (get-left (members_of s e) front.rest at.place none at.within) ∙ at.here
+
+    before : place_of (numbers (members_of s e)) x ≡ Some at.place
+    before = subst (λ y. place_of (numbers (members_of s e)) y ≡ Some at.place) at.here (found e s.objects at.place at.within)
+
+    later : place_of (numbers (members_of s' e)) x ≡ Some at.place
+    later = subst (λ y. place_of (numbers (members_of s' e)) y ≡ Some at.place) here (found e s'.objects at.place within)
+
+    places : place_of (numbers (members_of s' (extent_of s' x))) x ≡ place_of (numbers (members_of s e)) x
+    places = ap (λ k. place_of (numbers (members_of s' k)) x) same_extent ∙ later ∙ sym before

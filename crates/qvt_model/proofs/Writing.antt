@@ -171,7 +171,7 @@ module _ (s : Contents) (xs : List ℕ) where
   slots-plain : Sound s → (x : ℕ) (fs : List FeatureNo) → AllByRecursion (λ f. has_items (slot_in s xs x f) ≡ true → IsPlainSlot (slot_in s xs x f)) fs
   slots-plain sound x [] = tt
   slots-plain sound x (f ∷ fs) = (
-    (λ some. let plain = by_recursion IsPlain (slot_of s x f.0) (sound.plain x f.0) in
+    (λ some. let plain = by_recursion IsPlain (slot_of s x f.0) (sound.parts.plain x f.0) in
         given-all (datum_in xs) IsPlain IsPlain IsPlainDatum (λ v y e p q. value-plain v y e p) (slot_of s x f.0) plain plain),
     slots-plain sound x fs,
   )

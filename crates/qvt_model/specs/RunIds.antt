@@ -1,7 +1,8 @@
 -- The id that an object has in a run, in written models, in the trace and where a lower bound is told.
 use Rattle.std.specs.Prelude.{◌≡◌, ℕ, ◌<◌, suc, List, [], Option, Some, None, length, slice_index_or, if◌then◌else◌, IsTrue}
 use Rattle.qvt_base.specs.declared.numbers.Oid.{Oid}
-use Rattle.qvt_store.specs.Contents.{Contents, extent_at, extent_of, is_writable, members_of}
+use Rattle.qvt_store.specs.Contents.{Contents, extent_at, extent_of, is_live, is_writable, members_of}
+use Rattle.qvt_store.specs.Stay.{StaysIn}
 use Rattle.qvt_model.specs.Extents.{own_id, numbers, place_of, data_of}
 use Rattle.qvt_model.specs.IdTables.{id_in}
 use Rattle.qvt_model.specs.WellFormed.{object_at}
@@ -22,3 +23,7 @@ run_id s ids x = if is_writable s x then place_id (place_of (numbers (members_of
 abbrev pub DataHaveRunIds : Type 0
 DataHaveRunIds = (s : Contents) (ids : List (Option (List ℕ))) (e i : ℕ) → i < length (members_of s e) → IsTrue (extent_at s e).writable →
     (object_at (data_of s e) i).id ≡ run_id s ids (slice_index_or (members_of s e) i (record { 0 = 0 })).0
+
+-- An object keeps its id while objects are added and slots are changed, where the table tells of it what it told.
+abbrev pub RunIdsStay : Type 0
+RunIdsStay = (s s' : Contents) (old new : List (Option (List ℕ))) (x : ℕ) → StaysIn s s' → IsTrue (is_live s x) → id_in new x ≡ id_in old x → run_id s' new x ≡ run_id s old x

@@ -52,7 +52,7 @@ impl IdTable {
     }
 
     /// Tells the id of an object in its file.
-    pub fn set(&mut self, object: Oid, id: Text) -> Result<(), ListFault>
+    pub(crate) fn set(&mut self, object: Oid, id: Text) -> Result<(), ListFault>
         ensures ok { OnOk result ((x : ℕ) → id_in self.new x ≡ (if x == object.0 then Some id else id_in self.old x)) }
     {
         let at = object.0 as usize;

@@ -5,8 +5,8 @@ ghost use Rattle.qvt_slots.specs.Contents.{with_new, with_slot};
 ghost use Rattle.qvt_store.specs.Place.{IsPlaceable};
 ghost use Rattle.qvt_store.specs.Sound.{IsClassFor, Sound};
 ghost use Rattle.qvt_model.specs.IdTables.{id_in};
-ghost use Rattle.qvt_store.specs.Stay.{StaysIn};
-ghost use Rattle.qvt_model.specs.Loaded.{loaded, id_told, IsLoadable, MembersStay, TellsAll};
+ghost use Rattle.qvt_store.specs.Stay.{InputsStay, StaysIn};
+ghost use Rattle.qvt_model.specs.Loaded.{loaded, id_told, AreTold, IsLoadable, MembersStay, TellsAll, TellsNoOther};
 ghost use Rattle.qvt_model.specs.Conforming.{Conforms};
 ghost use Rattle.qvt_model.specs.Steps.{added, CanAdd, slot_values, put_slots, put_objects, with_objects, CanPutSlots, CanPutObjects};
 
@@ -123,10 +123,12 @@ pub fn load(
     requires loadable { IsLoadable store.old extent model.now.objects }
     requires conforms { Conforms store.old.metas model.now.objects }
     ensures store { OnOk result (store.new ≡ loaded store.old extent model.now.objects) }
-    ensures ids { OnOk result ((x : ℕ) → id_in ids.new x ≡ id_told (length store.old.objects) model.now.objects x (id_in ids.old x)) }
+    ensures ids { OnOk result (AreTold store.old model.now.objects ids.old ids.new) }
     ensures stays { OnOk result (StaysIn store.old store.new) }
+    ensures inputs { OnOk result (InputsStay store.old store.new) }
     ensures others { OnOk result (MembersStay store.old store.new extent) }
     ensures told { TellsAll store.old ids.old → OnOk result (TellsAll store.new ids.new) }
+    ensures no_other { TellsNoOther store.old ids.old → OnOk result (TellsNoOther store.new ids.new) }
     ensures sound { Sound store.old → OnOk result (Sound store.new) }
     ensures refused { IfErr result (λ fault. fault ≡ ModelFault.NoMemory) }
 {

@@ -60,7 +60,7 @@ module _ (model : List ℕ) (s : Contents) (making : IsMaking model s) where
     assignable = record { live = live; feature = there; types = cc }
 
     pub attribute_change : IsAttributeChange s x f (IntValue z ∷ [])
-    attribute_change = record { attribute = cc; single = single; few = omega arith; writable = writable _ (making.sound.classes x live).extent }
+    attribute_change = record { attribute = cc; single = single; few = omega arith; writable = writable _ (making.sound.parts.classes x live).extent }
 
   pub set_making : (x f : ℕ) (vs : List Value) (s' : Contents) → s' ≡ with_slot s x f vs → Sound s' → IsMaking model s'
   set_making x f vs s' is sound = record { extents = ap (λ (t : Contents). t.extents) is ∙ making.extents; sound = sound }

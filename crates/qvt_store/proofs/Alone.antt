@@ -27,7 +27,7 @@ use Rattle.std.proofs.lemmas.List.Elements.{All-nil}
 use Rattle.qvt_store.proofs.Appending.{list_assignable, removes_none}
 use Rattle.qvt_store.proofs.Assigning.{early, cross, done, ready}
 use Rattle.qvt_store.proofs.Done.{kept_whole, gives_store}
-use Rattle.qvt_store.proofs.Untouched.{alone_stay}
+use Rattle.qvt_store_laws.proofs.Touched.{alone_stay}
 
 pub no_opposite : (m : Metamodels) (p : ℕ) → is_linked m p ≡ false → opposite m p ≡ None
 no_opposite m p alone = go (opposite m p) refl

@@ -14,10 +14,10 @@ use Rattle.qvt_slots.specs.Assign.{is_elsewhere, crosses, change_to, store_after
 use Rattle.qvt_store.specs.Ready.{IsKnown}
 use Rattle.qvt_slots.proofs.Objects.{none_beyond_all, has-append}
 use Rattle.qvt_slots.proofs.Repeating.{without-push, without_same, without-append}
-use Rattle.qvt_store.proofs.SoundKept.{all-append}
-use Rattle.qvt_store.proofs.Opposites.{here}
-use Rattle.qvt_store.proofs.Own.{any-push, any-append}
-use Rattle.qvt_store.proofs.Untouched.{all_stay}
+use Rattle.qvt_store_laws.proofs.SoundKept.{all-append}
+use Rattle.qvt_store_laws.proofs.Opposites.{here}
+use Rattle.qvt_store_laws.proofs.Own.{any-push, any-append}
+use Rattle.qvt_store_laws.proofs.Touched.{all_stay}
 
 pub beyond-append : (others xs ys : List Value) → objects_beyond others (xs ++ ys) ≡ objects_beyond others xs ++ objects_beyond others ys
 beyond-append others [] ys = refl

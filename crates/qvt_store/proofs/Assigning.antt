@@ -21,14 +21,15 @@ use Rattle.qvt_slots.specs.Repeats.{without_repeats, repeats, new_list}
 use Rattle.qvt_slots.specs.Assign.{change_to, is_beyond, is_elsewhere, crosses, store_after, assign}
 use Rattle.qvt_store.specs.Draft.{drafted, IsDraft, overfills_elsewhere, is_overfilling, AddsLive, RemovesHeld, IsAllowed, IsEarlyFault}
 use Rattle.qvt_slots.specs.Walk.{ClosesCycle, by_items, by_end}
-use Rattle.qvt_store.specs.Ready.{IsFit, Ready, IsKnown, StaysElsewhere}
+use Rattle.qvt_store_laws.specs.Law.{IsFit}
+use Rattle.qvt_store.specs.Ready.{Ready, IsKnown, StaysElsewhere}
 use Rattle.qvt_slots.specs.Writes.{released_of}
 use Rattle.qvt_store.specs.Plan.{IsPlan}
-use Rattle.qvt_store.proofs.After.{fit_of}
+use Rattle.qvt_store_laws.proofs.After.{fit_of}
 use Rattle.qvt_slots.proofs.Repeating.{new_no_repeats}
 use Rattle.qvt_slots.proofs.Objects.{none_beyond_all, beyond-is}
 use Rattle.qvt_slots.proofs.Typed.{no_objects}
-use Rattle.qvt_store.proofs.Untouched.{all_stay}
+use Rattle.qvt_store_laws.proofs.Touched.{all_stay}
 use Rattle.qvt_store.proofs.Refusals.{adds_live, fits, stays_acyclic, none_refused, cross_refused, early_refused, assigned, not_assigned}
 
 module _ (s : Contents) (o : Oid) (p : FeatureNo) (vs items : List Value) (added removed : List Oid) (known : IsKnown s) (can : IsAssignable s o.0 p.0 vs)

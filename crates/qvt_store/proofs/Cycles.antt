@@ -8,11 +8,11 @@ use Rattle.qvt_metamodel.specs.WellFormed.{IsWellFormed}
 use Rattle.qvt_relation.proofs.Bools.{and_left, and_right, and_both, and_false, and_false_left, or_none, either, refuted, clash, none_of}
 use Rattle.qvt_slots.specs.Slots.{Slots, has, Contains, Inside, directly, through}
 use Rattle.qvt_slots.specs.Change.{Change, is_some_object, is_here, is_added, names_containment, is_container, gains, is_taken, is_replaced, is_moved_in, is_moved, leaves, is_left, slot_after}
-use Rattle.qvt_store.specs.Law.{IsMade, FitsSingle}
+use Rattle.qvt_store_laws.specs.Law.{IsMade, FitsSingle}
 use Rattle.qvt_slots.specs.Walk.{IsOver, SomeOver, IsOverSome, ClosesCycle, by_items, by_end, IsCyclic}
 use Rattle.qvt_slots.proofs.Objects.{one_object}
-use Rattle.qvt_store.proofs.Held.{given, kept, gained, held_after, after_held, added_new, adds}
-use Rattle.qvt_store.proofs.Opposites.{container-of, here, here_again}
+use Rattle.qvt_store_laws.proofs.Held.{given, kept, gained, held_after, after_held, added_new, adds}
+use Rattle.qvt_store_laws.proofs.Opposites.{container-of, here, here_again}
 use Rattle.qvt_slots.proofs.Walks.{inside_directly}
 
 pub join_inside : (m : Metamodels) (s : Slots) {x y z : ℕ} → Inside m s x y → Inside m s y z → Inside m s x z

@@ -24,7 +24,7 @@ use Rattle.qvt_slots.specs.Contents.{Contents, Instance, HoldOwn, no_instance, i
 use Rattle.qvt_slots.specs.Types.{is_of_type}
 use Rattle.qvt_slots.specs.Repeats.{repeats}
 use Rattle.qvt_slots.specs.Assign.{change_to, instance_after, instances_after, store_after}
-use Rattle.qvt_store.specs.Law.{IsMade}
+use Rattle.qvt_store_laws.specs.Law.{IsMade}
 use Rattle.qvt_store.specs.Draft.{change_with, drafted, IsDraft}
 use Rattle.qvt_slots.specs.Cells.{instances, instance_in, contents_of, holder_at, holder_in, AreWhole, IsKept, IsPlaceOf, SameObjects, IsPut, with_list}
 use Rattle.qvt_slots.specs.Writes.{IsWrite, AllLive, written, or_else, held_by, held_of, held_here, holder_after, IsSettled, released_by, released_here}
@@ -32,15 +32,16 @@ use Rattle.qvt_store.specs.Plan.{is_write_of, listed, IsRight, IsPlan}
 use Rattle.qvt_slots.proofs.Places.{list_of-place}
 use Rattle.qvt_slots.proofs.Cells.{length-instances, no_holder}
 use Rattle.qvt_slots.proofs.Objects.{beyond-is}
-use Rattle.qvt_store.proofs.Held.{given, kept, gained, held_after, added_new, adds}
-use Rattle.qvt_store.proofs.Opposites.{here, here_again}
-use Rattle.qvt_store.proofs.Containers.{keeps_one_container}
+use Rattle.qvt_store_laws.proofs.Held.{given, kept, gained, held_after, added_new, adds}
+use Rattle.qvt_store_laws.proofs.Opposites.{here, here_again}
+use Rattle.qvt_store_laws.proofs.Containers.{keeps_one_container}
 use Rattle.qvt_slots.proofs.Typed.{all_kept}
-use Rattle.qvt_store.proofs.Attributes.{stays_live, listed_same}
+use Rattle.qvt_store_laws.proofs.Attributes.{stays_live, listed_same}
 use Rattle.qvt_store.specs.Ready.{Ready}
-use Rattle.qvt_store.proofs.After.{instance-after, length-after, no_slot_empty, empty_after, item_object}
-use Rattle.qvt_store.proofs.SoundKept.{types_after, unique_after}
-use Rattle.qvt_store.proofs.Own.{own_after, in_model}
+use Rattle.qvt_store_laws.proofs.After.{instance-after, length-after, no_slot_empty, empty_after, item_object}
+use Rattle.qvt_store_laws.proofs.Told.{lists_told}
+use Rattle.qvt_store_laws.proofs.SoundKept.{types_after, unique_after}
+use Rattle.qvt_store_laws.proofs.Own.{own_after, in_model}
 
 -- the writes leave the lists of the slots that they list, and the others as they are
 right_written : (s : Contents) (c : Change) (ws : List Write) (t : Slots) → All (IsRight s c) ws → (x f : ℕ) → written ws t x f ≡ cond (listed ws x f) (slot_elsewhere c x f) (t x f)
@@ -165,32 +166,6 @@ held_right s c m (w ∷ ws) y h right e = rest (held_of m ws y) refl e (held_rig
     rest : (o : Option Holder) → held_of m ws y ≡ o → or_else o (held_by m w y) ≡ Some h → (held_of m ws y ≡ Some h → HeldBack m (slot_after c) y h) → HeldBack m (slot_after c) y h
     rest (Some g) eq n ih = ih (eq ∙ n)
     rest None eq n ih = by (is_containment m w.feature.0 && has w.items y) refl n
-
--- a list of lists is told by the slots
-place_at : (m : Metamodels) (well : IsWellFormed m) (k i : ℕ) → i < length (features_of m k) → IsPlaceOf (features_of m k) (slice_index_or (features_of m k) i (record { 0 = 0 })).0 i
-place_at m well k i h = record { within = h; here = refl; earlier = λ j l. well.distinct_features k j i l h }
-
-pub lists_told : (m : Metamodels) (well : IsWellFormed m) (k : ℕ) (lists : List (List Value)) (h : ℕ → List Value) → length lists ≡ length (features_of m k) →
-    ((f : ℕ) → among_features f (features_of m k) ≡ true → list_of (features_of m k) lists f ≡ h f) → lists ≡ map (λ (g : FeatureNo). h g.0) (features_of m k)
-lists_told m well k lists h l told = same_lists lists (map (λ (g : FeatureNo). h g.0) (features_of m k)) (l ∙ sym (length-mapped (features_of m k)))
-    (λ i d b.
-    let w : i < length (features_of m k) = subst (λ n. i < n) l b in
-    get_or_default lists i d [] b
-    ∙ sym (list_of-place (features_of m k) lists (slice_index_or (features_of m k) i none_feature).0 i l (place_at m well k i w))
-    ∙ told (slice_index_or (features_of m k) i none_feature).0 (listed_at (features_of m k) i w)
-    ∙ sym (get_or-map (λ (g : FeatureNo). h g.0) (features_of m k) i none_feature d w))
-  where
-    none_feature : FeatureNo
-    none_feature = record { 0 = 0 }
-
-    length-mapped : (gs : List FeatureNo) → length (map (λ (g : FeatureNo). h g.0) gs) ≡ length gs
-    length-mapped [] = refl
-    length-mapped (g ∷ gs) = ap suc (length-mapped gs)
-
-    listed_at : (gs : List FeatureNo) (i : ℕ) → i < length gs → among_features (slice_index_or gs i none_feature).0 gs ≡ true
-    listed_at [] i b = absurd (omega arith)
-    listed_at (g ∷ gs) zero b = or_left (g.0 == g.0) _ ((Decides-eqb g.0 g.0).1 refl)
-    listed_at (g ∷ gs) (suc i) b = or_right (g.0 == (slice_index_or gs i none_feature).0) _ (listed_at gs i (omega arith))
 
 same_instance : (a b : Instance) → a.class ≡ b.class → a.extent ≡ b.extent → a.slots ≡ b.slots → a ≡ b
 same_instance a b p q r = λ i. record { class = p i; extent = q i; slots = r i }

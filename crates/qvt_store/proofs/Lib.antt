@@ -1,13 +1,4 @@
-pub mod Attributes
-pub mod Held
-pub mod Opposites
-pub mod Containers
-pub mod After
-pub mod Own
 pub mod Alone
-pub mod SoundKept
-pub mod SoundGrown
-pub mod Stays
 pub mod Plans
 pub mod Cycles
 pub mod Untouched
@@ -19,4 +10,3 @@ pub mod Assigning
 pub mod Placed
 pub mod Appending
 pub mod SameCells
-pub mod ReadOnly

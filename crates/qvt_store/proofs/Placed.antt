@@ -19,12 +19,12 @@ use Rattle.qvt_slots.specs.Types.{is_of_type}
 use Rattle.qvt_slots.specs.Repeats.{repeats, AreUnique}
 use Rattle.qvt_slots.specs.Cells.{instances, instance_in, contents_of, holder_at, holder_in, AreWhole, IsKept, SameObjects, IsPut, with_list}
 use Rattle.qvt_slots.specs.Writes.{AllLive, or_else, held_by, AreHeldBy}
-use Rattle.qvt_store.specs.Place.{IsPlaceable}
-use Rattle.qvt_store.proofs.Attributes.{stays_live, listed_same, each_put}
+use Rattle.qvt_store_laws.specs.Place.{IsPlaceable}
+use Rattle.qvt_store_laws.proofs.Attributes.{stays_live, listed_same, each_put}
 use Rattle.qvt_slots.proofs.Typed.{all_kept}
-use Rattle.qvt_store.proofs.After.{item_object}
+use Rattle.qvt_store_laws.proofs.After.{item_object}
 use Rattle.qvt_slots.specs.Assign.{crosses}
-use Rattle.qvt_store.proofs.Own.{same_extent}
+use Rattle.qvt_store_laws.proofs.Own.{same_extent}
 use Rattle.qvt_slots.proofs.Cells.{length-instances}
 use Rattle.qvt_slots.proofs.Holds.{same_count}
 

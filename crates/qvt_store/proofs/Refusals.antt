@@ -18,16 +18,15 @@ use Rattle.qvt_slots.specs.Change.{Change, is_here, is_added, gains, slot_elsewh
 use Rattle.qvt_slots.specs.Contents.{Contents, is_live, slot_of}
 use Rattle.qvt_slots.specs.Repeats.{new_list}
 use Rattle.qvt_slots.specs.Assign.{change_to, is_beyond, overfills_end, is_too_many, is_cyclic, is_read_only, crosses, refusal_of, store_after, ok_unless, assign}
-use Rattle.qvt_store.specs.Law.{IsMade, FitsSingle}
+use Rattle.qvt_store_laws.specs.Law.{IsMade, FitsSingle, IsFit}
 use Rattle.qvt_store.specs.Draft.{change_with, drafted, IsDraft, overfills_elsewhere, is_overfilling, AddsLive, IsAllowed, IsEarlyFault}
-use Rattle.qvt_store.specs.Ready.{IsFit}
 use Rattle.qvt_slots.specs.Walk.{ClosesCycle, by_items, by_end, IsCyclic}
-use Rattle.qvt_store.proofs.Held.{given, kept, gained, held_after, added_new}
-use Rattle.qvt_store.proofs.Opposites.{here}
+use Rattle.qvt_store_laws.proofs.Held.{given, kept, gained, held_after, added_new}
+use Rattle.qvt_store_laws.proofs.Opposites.{here}
 use Rattle.qvt_slots.proofs.Cyclic.{Bounded, cyclic-inside, inside-cyclic}
 use Rattle.qvt_store.proofs.Cycles.{cycle_closes, closes_cycle}
-use Rattle.qvt_store.proofs.After.{holder_slot, item_object}
-use Rattle.qvt_store.proofs.SoundKept.{fits_of}
+use Rattle.qvt_store_laws.proofs.After.{holder_slot, item_object}
+use Rattle.qvt_store_laws.proofs.SoundKept.{fits_of}
 use Rattle.qvt_store.proofs.Done.{same_change}
 
 any_end : (c : Change) → IsWellFormed c.metas → (q : Option FeatureNo) → opposite c.metas c.feature ≡ q → (os : List Oid) → list_any (overfills_elsewhere c q) os ≡ list_any (overfills_end c q) os

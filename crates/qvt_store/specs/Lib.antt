@@ -4,11 +4,11 @@ pub use Rattle.qvt_slots.specs.Contents
 pub use Rattle.qvt_slots.specs.Types
 pub use Rattle.qvt_slots.specs.Repeats
 pub use Rattle.qvt_slots.specs.Assign
+pub use Rattle.qvt_store_laws.specs.Law
+pub use Rattle.qvt_store_laws.specs.Place
+pub use Rattle.qvt_store_laws.specs.Sound
+pub use Rattle.qvt_store_laws.specs.Stay
 pub mod Fault
-pub mod Place
-pub mod Sound
-pub mod Law
 pub mod Draft
 pub mod Plan
 pub mod Ready
-pub mod Stay

@@ -13,16 +13,11 @@ use Rattle.qvt_slots.specs.Slots.{Inside}
 use Rattle.qvt_metamodel.specs.WellFormed.{IsWellFormed}
 use Rattle.qvt_slots.specs.Repeats.{repeats, same_value, new_list}
 use Rattle.qvt_slots.specs.Assign.{is_beyond, crosses, change_to, store_after}
-use Rattle.qvt_store.specs.Law.{FitsSingle}
+use Rattle.qvt_store_laws.specs.Law.{IsFit, FitsSingle}
 use Rattle.qvt_store.specs.Draft.{drafted, IsDraft}
 use Rattle.qvt_slots.specs.Walk.{IsCyclic}
 use Rattle.qvt_slots.specs.Writes.{released_of}
 use Rattle.qvt_store.specs.Plan.{IsPlan}
-
--- the slot is there, and the new items are of its type
-pub record IsFit (s : Contents) (o p : ℕ) (ws : List Value) : Type 0 where
-  pub slot : IsTrue (is_slot s o p)
-  pub types : IsTrue (list_all (is_of_type s p) ws)
 
 pub record Ready (s : Contents) (d : Draft) (items : List Value) (ws : List Write) (released : List Oid) : Type 0 where
   pub draft : IsDraft s d items

@@ -1,7 +1,7 @@
 //! Objects with slots, opposites and containers, in numbered extents.
 #![tactic(auto)]
 
-pub mod law;
 pub mod store;
 
-pub use qvt_slots::{extent as extent, fault as fault};
+pub use qvt_slots::{extent as extent, fault as fault, op as op};
+pub use qvt_store_laws::law as law;

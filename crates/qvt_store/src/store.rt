@@ -5,8 +5,8 @@ ghost use Rattle.qvt_metamodel.specs.Metamodels.{has_feature, is_containment};
 ghost use Rattle.qvt_slots.specs.Contents.{AreNamed, is_live, is_extent, class_of, extent_of, slot_of, members_of, with_new};
 ghost use Rattle.qvt_slots.specs.Members.{AreEmpty};
 ghost use Rattle.qvt_store.specs.Fault.{IsAddFault};
-ghost use Rattle.qvt_store.specs.Sound.{IsClassFor, Sound};
-ghost use Rattle.qvt_store.specs.Stay.{IsStore, StaysIn};
+ghost use Rattle.qvt_store_laws.specs.Sound.{IsClassFor, Sound};
+ghost use Rattle.qvt_store_laws.specs.Stay.{InputsStay, IsStore, StaysIn};
 
 mod append;
 mod assign;
@@ -15,8 +15,8 @@ mod check;
 mod extend;
 mod place;
 mod plan;
+mod write;
 
-use crate::law::{add_keeps_sound, add_stays, new_is_sound, stays_is_reflexive};
 use qvt_base::copied::Copied;
 use qvt_base::list_fault::ListFault;
 use qvt_base::lists::OidList;
@@ -28,6 +28,10 @@ use qvt_slots::cell::{Cell, Holder, Marks};
 use qvt_slots::extent::{Extent, ExtentList};
 use qvt_slots::fault::StoreFault;
 use qvt_slots::put::{find_place, place_of};
+use qvt_store_laws::law::{
+    add_keeps_sound, add_leaves_inputs, add_stays, inputs_stay_is_reflexive, new_is_sound,
+    stays_is_reflexive,
+};
 use qvt_value::value::Value;
 use std::alloc::Global;
 use std::marker::Model;
@@ -208,9 +212,12 @@ impl Store {
         ensures err { OnErr result (self.new ≡ self.old) }
         ensures stays { StaysIn self.old self.new }
         ensures sound { Sound self.old → Sound self.new }
+        ensures inputs { InputsStay self.old self.new }
     {
         stays_is_reflexive();
+        inputs_stay_is_reflexive();
         add_stays();
+        add_leaves_inputs();
         add_keeps_sound();
         let count = self.cells.len();
         if count >= 1_000_000 {

@@ -9,8 +9,8 @@ ghost use Rattle.qvt_slots.specs.Types.{IsAssignable, IsAttributeChange, IsPlain
 ghost use Rattle.qvt_slots.specs.Repeats.{new_list};
 ghost use Rattle.qvt_slots.specs.Writes.{released_by, released_of};
 ghost use Rattle.qvt_store.specs.Ready.{IsKnown, Ready, StaysElsewhere};
-ghost use Rattle.qvt_store.specs.Sound.{Sound};
-ghost use Rattle.qvt_store.specs.Stay.{StaysIn};
+ghost use Rattle.qvt_store_laws.specs.Sound.{Sound};
+ghost use Rattle.qvt_store_laws.specs.Stay.{InputsStay, StaysIn};
 
 use crate::store::Store;
 use qvt_base::list_fault::ListFault;
@@ -143,6 +143,7 @@ impl Store {
         ensures memory { IsAttributeChange self.old object.0 feature.0 values.now → IfErr result (λ fault. fault ≡ StoreFault.NoMemory) }
         ensures stays { StaysIn self.old self.new }
         ensures sound { Sound self.old → Sound self.new }
+        ensures inputs { Sound self.old → InputsStay self.old self.new }
     {
         self.is_whole();
         let alloc = self.alloc;

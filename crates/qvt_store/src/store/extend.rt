@@ -9,8 +9,8 @@ ghost use Rattle.qvt_slots.specs.Assign.{change_to, store_after, write};
 ghost use Rattle.qvt_slots.specs.Types.{IsAssignable, IsPlain};
 ghost use Rattle.qvt_slots.specs.Change.{is_linked, objects_beyond};
 ghost use Rattle.qvt_store.specs.Ready.{is_absent, IsKnown, IsLone, Ready};
-ghost use Rattle.qvt_store.specs.Sound.{Sound};
-ghost use Rattle.qvt_store.specs.Stay.{StaysIn};
+ghost use Rattle.qvt_store_laws.specs.Sound.{Sound};
+ghost use Rattle.qvt_store_laws.specs.Stay.{InputsStay, StaysIn};
 
 use crate::store::Store;
 use crate::store::assign::marks_changed;
@@ -50,6 +50,7 @@ impl Store {
         ensures err { OnErr result (self.new ≡ self.old) }
         ensures stays { StaysIn self.old self.new }
         ensures sound { Sound self.old → Sound self.new }
+        ensures inputs { Sound self.old → InputsStay self.old self.new }
     {
         self.is_whole();
         let alloc = self.alloc;

@@ -1,11 +1,14 @@
 //! Slots loaded.
 
-ghost use Rattle.std.specs.Prelude.{◌≡◌, All, IfOk, IfErr, OnOk, OnErr};
-ghost use Rattle.qvt_slots.specs.Contents.{with_slot};
+ghost use Rattle.std.specs.Prelude.{◌≡◌, All, IfOk, IfErr, OnOk, OnErr, IsFalse};
+ghost use Rattle.qvt_metamodel.specs.Metamodels.{opposite};
+ghost use Rattle.qvt_slots.specs.Slots.{OppositesAgree};
+ghost use Rattle.qvt_slots.specs.Change.{is_some_feature};
+ghost use Rattle.qvt_slots.specs.Contents.{slot_of, with_slot};
 ghost use Rattle.qvt_slots.specs.Types.{IsPlain};
-ghost use Rattle.qvt_store.specs.Place.{IsPlaceable, places_twice};
-ghost use Rattle.qvt_store.specs.Sound.{SoundButOpposites, IsSoundList};
-ghost use Rattle.qvt_store.specs.Stay.{StaysIn};
+ghost use Rattle.qvt_store_laws.specs.Place.{IsPlaceable, places_twice};
+ghost use Rattle.qvt_store_laws.specs.Sound.{Sound, SoundButOpposites, IsSoundList};
+ghost use Rattle.qvt_store_laws.specs.Stay.{StaysIn};
 
 use crate::store::Store;
 use qvt_base::list_fault::ListFault;
@@ -21,7 +24,8 @@ use std::alloc::Global;
 
 impl Store {
     /// Sets an empty slot, and nothing else, in an extent of every direction. A refused call
-    /// changes nothing.
+    /// changes nothing. A store that is loaded is sound again where opposite slots agree; a sound one
+    /// stays sound where the feature has no opposite.
     pub fn place(
         &mut self,
         object: Oid,
@@ -34,7 +38,10 @@ impl Store {
         ensures err { OnErr result (self.new ≡ self.old) }
         ensures stays { StaysIn self.old self.new }
         ensures loading { IsSoundList self.old object.0 feature.0 values.now → SoundButOpposites self.old → SoundButOpposites self.new }
+        ensures ends { IsSoundList self.old object.0 feature.0 values.now → SoundButOpposites self.old → OppositesAgree self.new.metas (slot_of self.new) → Sound self.new }
+        ensures sound { IsSoundList self.old object.0 feature.0 values.now → IsFalse (is_some_feature (opposite self.old.metas feature.0)) → Sound self.old → Sound self.new }
     {
+        self.is_whole();
         let alloc = self.alloc;
         match self.place_list(alloc, object, feature, values) {
             Ok(()) => Ok(()),

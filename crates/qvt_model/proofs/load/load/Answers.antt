@@ -2,10 +2,10 @@ use Rattle.std.proofs.Common.{◌≡◌, ◌∙◌, ℕ, sym, ap, subst, List, l
 use Rattle.std.specs.Prelude.{Option}
 use Rattle.qvt_slots.specs.Contents.{Contents}
 use Rattle.qvt_store.specs.Sound.{Sound}
-use Rattle.qvt_store.specs.Stay.{StaysIn}
+use Rattle.qvt_store.specs.Stay.{InputsStay, StaysIn}
 use Rattle.qvt_model.specs.declared.data.ObjectData.{ObjectData}
 use Rattle.qvt_model.specs.IdTables.{id_in}
-use Rattle.qvt_model.specs.Loaded.{loaded, id_told, MembersStay, TellsAll}
+use Rattle.qvt_model.specs.Loaded.{loaded, id_told, MembersStay, TellsAll, TellsNoOther}
 use Rattle.qvt_model.specs.Steps.{added, CanAdd, put_objects, with_objects, CanPutObjects}
 use Rattle.qvt_model.proofs.Loading.{adds, puts, gives, stays_sound}
 use Rattle.qvt_model.proofs.Loads.{load_leaves}
@@ -63,3 +63,10 @@ returns-clause-others c = subst (λ (t : Contents). MembersStay c.args.store.now
 pub returns-clause-told : goal.returns-clause-told
 returns-clause-told c all = subst (λ (t : Contents). TellsAll t c.tell_ids.new.ids) (sym (returns-clause-store c))
     ((load_leaves c.args.store.now c.args.extent c.args.model.now.objects).tells c.args.ids.now c.tell_ids.new.ids (returns-clause-ids c) all)
+
+pub returns-clause-no_other : goal.returns-clause-no_other
+returns-clause-no_other c none_else = subst (λ (t : Contents). TellsNoOther t c.tell_ids.new.ids) (sym (returns-clause-store c))
+    ((load_leaves c.args.store.now c.args.extent c.args.model.now.objects).no_other c.args.ids.now c.tell_ids.new.ids (returns-clause-ids c) none_else)
+
+pub returns-clause-inputs : goal.returns-clause-inputs
+returns-clause-inputs c = subst (InputsStay c.args.store.now) (sym (returns-clause-store c)) (load_leaves c.args.store.now c.args.extent c.args.model.now.objects).inputs

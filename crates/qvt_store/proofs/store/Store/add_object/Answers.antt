@@ -6,8 +6,8 @@ use Rattle.qvt_slots.specs.declared.cell.Cell.{Cell}
 use Rattle.qvt_slots.specs.Contents.{Contents, HoldOwn, with_new}
 use Rattle.qvt_slots.specs.Cells.{contents_of, IsKept}
 use Rattle.qvt_slots.proofs.Added.{cells_new, added_kept}
-use Rattle.qvt_store.specs.Stay.{StaysIn}
-use Rattle.qvt_store.proofs.Own.{own_grown}
+use Rattle.qvt_store_laws.specs.Stay.{InputsStay, StaysIn}
+use Rattle.qvt_store_laws.proofs.Own.{own_grown}
 use Rattle.qvt_store.proofs.store.Store.add_object.Goals as goal
 
 pub invariant_of-self-2 : goal.invariant_of-self-2
@@ -31,3 +31,10 @@ returns-clause-stays c =
     subst (StaysIn c.args.self.now) (sym (ap (λ (l : List Cell). contents_of c.self.inside.metas c.self.inside.extents l) c.in_ok-add_cell.ensures.cells
     ∙ cells_new c.self.inside.metas c.self.inside.extents c.self.inside.cells.items k (c.in_ok-slots.ensures ∙ ap (λ (gs : List FeatureNo). map (λ _. []) gs) c.features.ensures)
     ∙ ap (λ (s : Contents). with_new s c.args.class.0 c.args.extent) c.self.view_is)) (c.add_stays.ensures c.args.self.now c.args.class.0 c.args.extent)
+
+pub returns-clause-inputs : goal.returns-clause-inputs
+returns-clause-inputs c =
+    let k : Cell = record { class = c.args.class; extent = c.args.extent; slots = c.in_ok-slots.slots; holder = None } in
+    subst (InputsStay c.args.self.now) (sym (ap (λ (l : List Cell). contents_of c.self.inside.metas c.self.inside.extents l) c.in_ok-add_cell.ensures.cells
+    ∙ cells_new c.self.inside.metas c.self.inside.extents c.self.inside.cells.items k (c.in_ok-slots.ensures ∙ ap (λ (gs : List FeatureNo). map (λ _. []) gs) c.features.ensures)
+    ∙ ap (λ (s : Contents). with_new s c.args.class.0 c.args.extent) c.self.view_is)) (c.add_leaves_inputs.ensures c.args.self.now c.args.class.0 c.args.extent)

@@ -1,8 +1,10 @@
 use Rattle.std.proofs.Common.{sym, subst}
-use Rattle.qvt_store.specs.Sound.{Sound}
-use Rattle.qvt_store.specs.Stay.{StaysIn}
-use Rattle.qvt_store.proofs.SoundKept.{list_keeps_sound}
-use Rattle.qvt_store.proofs.Stays.{stays_is_reflexive, assign_stays}
+use Rattle.qvt_slots.specs.declared.op.SetOp.TheVariants.{Put}
+use Rattle.qvt_store_laws.specs.Sound.{Sound}
+use Rattle.qvt_store_laws.specs.Stay.{InputsStay, StaysIn}
+use Rattle.qvt_store_laws.proofs.SoundKept.{list_keeps_sound}
+use Rattle.qvt_store_laws.proofs.Stays.{stays_is_reflexive, assign_stays}
+use Rattle.qvt_store_laws.proofs.ReadOnly.{inputs_stay_is_reflexive, write_leaves_inputs}
 use Rattle.qvt_store.proofs.store.Store.assign.Goals as goal
 
 pub returns-in-Ok-clause-stays : goal.returns-in-Ok-clause-stays
@@ -17,3 +19,9 @@ returns-in-Err-clause-stays c = subst (StaysIn c.args.self.now) (sym c.in-Err.en
 
 pub returns-in-Err-clause-sound : goal.returns-in-Err-clause-sound
 returns-in-Err-clause-sound c sound = subst Sound (sym c.in-Err.ensures.err) sound
+
+pub returns-in-Ok-clause-inputs : goal.returns-in-Ok-clause-inputs
+returns-in-Ok-clause-inputs c sound = write_leaves_inputs c.args.self.now c.assign_list.new.self c.args.object.0 c.args.feature.0 Put c.args.values.now c.is_whole.ensures sound c.requires c.in-Ok.ensures.ok
+
+pub returns-in-Err-clause-inputs : goal.returns-in-Err-clause-inputs
+returns-in-Err-clause-inputs c sound = subst (InputsStay c.args.self.now) (sym c.in-Err.ensures.err) (inputs_stay_is_reflexive c.args.self.now)

@@ -1,6 +1,6 @@
 use Rattle.std.proofs.Common.{◌∙◌, ◌&&◌, sym, ap}
 use Rattle.qvt_slots.specs.Assign.{is_elsewhere}
-use Rattle.qvt_store.proofs.Own.{crosses-last}
+use Rattle.qvt_store_laws.proofs.Own.{crosses-last}
 use Rattle.qvt_store.proofs.store.Store.crosses_last.Goals as goal
 
 pub returns-then-is_in_model : goal.returns-then-is_in_model

@@ -1,6 +1,6 @@
 use Rattle.std.proofs.Common.{◌∙◌, sym}
 use Rattle.qvt_slots.specs.Contents.{slot_of}
-use Rattle.qvt_store.proofs.Own.{crosses-more}
+use Rattle.qvt_store_laws.proofs.Own.{crosses-more}
 use Rattle.qvt_store.proofs.Appending.{crosses-append}
 use Rattle.qvt_store.proofs.store.Store.crosses_more.Goals as goal
 

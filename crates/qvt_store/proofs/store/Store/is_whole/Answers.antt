@@ -1,7 +1,7 @@
 use Rattle.std.proofs.Common.{◌≤◌, sym, subst}
 use Rattle.qvt_slots.specs.Cells.{instance_of}
 use Rattle.qvt_slots.proofs.Lists.{length-map}
-use Rattle.qvt_store.specs.Stay.{IsStore}
+use Rattle.qvt_store_laws.specs.Stay.{IsStore}
 use Rattle.qvt_store.proofs.store.Store.is_whole.Goals as goal
 
 pub returns : goal.returns

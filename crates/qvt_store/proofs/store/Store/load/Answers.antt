@@ -3,7 +3,7 @@ use Rattle.qvt_value.specs.declared.value.Value.{Value}
 use Rattle.qvt_slots.specs.Contents.{Contents, with_slot}
 use Rattle.qvt_slots.specs.Assign.{crosses}
 use Rattle.qvt_slots.specs.Cells.{contents_of}
-use Rattle.qvt_store.specs.Place.{IsPlaceable, places_twice}
+use Rattle.qvt_store_laws.specs.Place.{IsPlaceable, places_twice}
 use Rattle.qvt_slots.proofs.Holds.{have_same}
 use Rattle.qvt_store.proofs.Placed.{placed_kept, gives_placed, items_there, still_distinct, still_own, mid_live, mid_there}
 use Rattle.qvt_store.proofs.store.Store.load.Goals as goal

@@ -6,7 +6,7 @@ use Rattle.qvt_slots.specs.Contents.{AreNamed}
 use Rattle.qvt_slots.specs.Cells.{contents_of, IsKept}
 use Rattle.qvt_slots.specs.Members.{AreEmpty}
 use Rattle.qvt_slots.proofs.Added.{empty_kept}
-use Rattle.qvt_store.specs.Sound.{Sound}
+use Rattle.qvt_store_laws.specs.Sound.{Sound}
 use Rattle.qvt_store.proofs.store.Store.new.Goals as goal
 
 pub invariant_of-result : goal.invariant_of-result

@@ -1,5 +1,0 @@
-use Rattle.qvt_store.proofs.SoundGrown.{add_keeps_loading}
-use Rattle.qvt_store.proofs.law.add_keeps_loading.Goals as goal
-
-pub returns : goal.returns
-returns c = add_keeps_loading

@@ -1,5 +1,0 @@
-use Rattle.qvt_store.proofs.Stays.{add_stays}
-use Rattle.qvt_store.proofs.law.add_stays.Goals as goal
-
-pub returns : goal.returns
-returns c = add_stays

@@ -1,5 +1,0 @@
-use Rattle.qvt_store.proofs.SoundKept.{append_keeps_sound}
-use Rattle.qvt_store.proofs.law.append_keeps_sound.Goals as goal
-
-pub returns : goal.returns
-returns c = append_keeps_sound

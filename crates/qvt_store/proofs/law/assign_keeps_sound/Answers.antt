@@ -1,5 +1,0 @@
-use Rattle.qvt_store.proofs.SoundKept.{assign_keeps_sound}
-use Rattle.qvt_store.proofs.law.assign_keeps_sound.Goals as goal
-
-pub returns : goal.returns
-returns c = assign_keeps_sound

@@ -1,5 +1,0 @@
-use Rattle.qvt_store.proofs.Stays.{assign_stays}
-use Rattle.qvt_store.proofs.law.assign_stays.Goals as goal
-
-pub returns : goal.returns
-returns c = assign_stays

@@ -1,5 +1,0 @@
-use Rattle.qvt_store.proofs.Containers.{keeps_one_container}
-use Rattle.qvt_store.proofs.law.change_keeps_one_container.Goals as goal
-
-pub returns : goal.returns
-returns c = λ change made well fits old. keeps_one_container change made well fits old

@@ -1,5 +1,0 @@
-use Rattle.qvt_store.proofs.SoundGrown.{new_is_sound}
-use Rattle.qvt_store.proofs.law.new_is_sound.Goals as goal
-
-pub returns : goal.returns
-returns c = new_is_sound

@@ -1,5 +1,0 @@
-use Rattle.qvt_store.proofs.SoundGrown.{place_keeps_loading}
-use Rattle.qvt_store.proofs.law.place_keeps_loading.Goals as goal
-
-pub returns : goal.returns
-returns c = place_keeps_loading

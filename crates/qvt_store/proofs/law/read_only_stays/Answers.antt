@@ -1,5 +1,0 @@
-use Rattle.qvt_store.proofs.ReadOnly.{read_only_stays}
-use Rattle.qvt_store.proofs.law.read_only_stays.Goals as goal
-
-pub returns : goal.returns
-returns c = read_only_stays

@@ -1,5 +1,0 @@
-use Rattle.qvt_store.proofs.Stays.{stays_is_reflexive}
-use Rattle.qvt_store.proofs.law.stays_is_reflexive.Goals as goal
-
-pub returns : goal.returns
-returns c = stays_is_reflexive

@@ -1,5 +1,0 @@
-use Rattle.qvt_store.proofs.SoundKept.{write_keeps_sound}
-use Rattle.qvt_store.proofs.law.write_keeps_sound.Goals as goal
-
-pub returns : goal.returns
-returns c = write_keeps_sound

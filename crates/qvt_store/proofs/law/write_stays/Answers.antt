@@ -1,5 +1,0 @@
-use Rattle.qvt_store.proofs.Stays.{write_stays}
-use Rattle.qvt_store.proofs.law.write_stays.Goals as goal
-
-pub returns : goal.returns
-returns c = write_stays

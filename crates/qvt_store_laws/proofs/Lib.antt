@@ -1,0 +1,12 @@
+pub mod Attributes
+pub mod Held
+pub mod Opposites
+pub mod Containers
+pub mod After
+pub mod Own
+pub mod SoundKept
+pub mod SoundGrown
+pub mod Stays
+pub mod Told
+pub mod Touched
+pub mod ReadOnly

@@ -1,0 +1,5 @@
+use Rattle.qvt_store_laws.proofs.SoundGrown.{place_keeps_sound}
+use Rattle.qvt_store_laws.proofs.law.place_keeps_sound.Goals as goal
+
+pub returns : goal.returns
+returns c = place_keeps_sound

@@ -1,0 +1,5 @@
+use Rattle.qvt_store_laws.proofs.Stays.{stays_is_reflexive}
+use Rattle.qvt_store_laws.proofs.law.stays_is_reflexive.Goals as goal
+
+pub returns : goal.returns
+returns c = stays_is_reflexive

@@ -1,0 +1,4 @@
+pub mod Law
+pub mod Place
+pub mod Sound
+pub mod Stay
