@@ -1,0 +1,6 @@
+use Rattle.std.proofs.Common.{◌≡◌, ◌++◌, drop}
+use Rattle.qvt_types_classes.specs.Inherited.{read_from}
+use Rattle.qvt_types_classes.proofs.reading.read_all.Given as goal
+
+abbrev pub invariant-loop-place : goal.invariant-loop-place
+invariant-loop-place l = l.read ++ read_from l.all l.lists l.place (drop l.place l.classes) ≡ read_from l.all l.lists 0 l.classes

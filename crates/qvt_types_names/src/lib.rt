@@ -1,0 +1,2 @@
+//! Single names in expressions.
+#![tactic(auto)]
