@@ -44,6 +44,46 @@ impl Read {
         }
     }
 
+    /// The same reading, with or without a wrap.
+    pub fn wrapped(self, wrap: bool) -> Read
+        ensures { result ≡ notes.wrapped wrap self }
+    {
+        let Read {
+            reading,
+            source,
+            wrap: _,
+            collect,
+            answer,
+        } = self;
+        Read {
+            reading,
+            source,
+            wrap,
+            collect,
+            answer,
+        }
+    }
+
+    /// The same reading for each item of a collection, with the type of all answers.
+    pub fn for_each_item(self, all: Option<Ty>) -> Read
+        ensures { result ≡ notes.for_each_item all self }
+    {
+        let Read {
+            reading,
+            source,
+            wrap,
+            collect: _,
+            answer: _,
+        } = self;
+        Read {
+            reading,
+            source,
+            wrap,
+            collect: true,
+            answer: all,
+        }
+    }
+
     /// The note of an expression.
     pub fn noted(self, number: ExprNo) -> Note
         ensures { result ≡ notes.noted number self }
