@@ -6,6 +6,8 @@ use Rattle.qvt_types_data.specs.declared.note.Reading.{Reading}
 use Rattle.qvt_types_data.specs.declared.note.Reading.TheVariants.{Nothing}
 use Rattle.qvt_types_data.specs.declared.note.Note.{Note}
 use Rattle.qvt_types_data.specs.declared.ruling.Read.{Read}
+use Rattle.qvt_types_data.specs.declared.ruling.Ruling.{Ruling}
+use Rattle.qvt_types_data.specs.declared.ruling.Ruling.TheVariants.{Holds, Fails, Silent}
 
 -- a reading without an implicit source, a wrap or an implicit collect
 abbrev pub plain : Reading → Option Ty → Read
@@ -18,6 +20,17 @@ wrapped w r = record { reading = r.reading; source = r.source; wrap = w; collect
 -- the same for each item of a collection, with the type of all answers
 abbrev pub for_each_item : Option Ty → Read → Read
 for_each_item all r = record { reading = r.reading; source = r.source; wrap = r.wrap; collect = true; answer = all }
+
+-- the same of a ruling, where it holds
+abbrev pub ruled_wrapped : Bool → Ruling → Ruling
+ruled_wrapped w (Holds r) = Holds (wrapped w r)
+ruled_wrapped w (Fails k) = Fails k
+ruled_wrapped w Silent = Silent
+
+abbrev pub ruled_for_each_item : Option Ty → Ruling → Ruling
+ruled_for_each_item all (Holds r) = Holds (for_each_item all r)
+ruled_for_each_item all (Fails k) = Fails k
+ruled_for_each_item all Silent = Silent
 
 -- of an expression
 abbrev pub noted : ExprNo → Read → Note

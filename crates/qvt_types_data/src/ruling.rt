@@ -159,3 +159,27 @@ impl Drop for Ruling {
         }
     }
 }
+
+impl Ruling {
+    /// The same ruling, with or without a wrap where it holds.
+    pub fn wrapped(self, wrap: bool) -> Ruling
+        ensures { result ≡ notes.ruled_wrapped wrap self }
+    {
+        match self {
+            Ruling::Holds(read) => Ruling::Holds(read.wrapped(wrap)),
+            Ruling::Fails(kind) => Ruling::Fails(kind),
+            Ruling::Silent => Ruling::Silent,
+        }
+    }
+
+    /// The same ruling for each item of a collection where it holds, with the type of all answers.
+    pub fn for_each_item(self, all: Option<Ty>) -> Ruling
+        ensures { result ≡ notes.ruled_for_each_item all self }
+    {
+        match self {
+            Ruling::Holds(read) => Ruling::Holds(read.for_each_item(all)),
+            Ruling::Fails(kind) => Ruling::Fails(kind),
+            Ruling::Silent => Ruling::Silent,
+        }
+    }
+}

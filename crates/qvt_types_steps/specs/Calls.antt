@@ -1,18 +1,16 @@
 -- What is ruled of a step that calls an operation: by a dot, which over a collection applies to each item (OCL 2.4, 7.6.2, the
 -- implicit collect), and by an arrow, before which a single value is wrapped in a Set (7.5.3).
 use Rattle.std.specs.Option.{is_some}
-use Rattle.std.specs.Prelude.{ℕ, ◌==◌, Bool, true, false, not, if◌then◌else◌, List, length, Option, Some, None}
+use Rattle.std.specs.Prelude.{ℕ, ◌==◌, Bool, not, if◌then◌else◌, List, length, Option, Some, None}
 use Rattle.qvt_metamodel.specs.Metamodels.{Metamodels}
 use Rattle.qvt_ocl_words.specs.declared.op.Op.{Op}
 use Rattle.qvt_tree_types.specs.declared.words.CollKind.{CollKind}
 use Rattle.qvt_tree_types.specs.declared.words.CollKind.TheVariants as coll
 use Rattle.qvt_types_data.specs.declared.ty.Ty.{Ty}
 use Rattle.qvt_types_data.specs.declared.ty.Ty.TheVariants as ty
-use Rattle.qvt_types_data.specs.Notes.{plain, for_each_item}
-use Rattle.qvt_types_data.specs.Notes as notes
+use Rattle.qvt_types_data.specs.Notes.{plain, ruled_for_each_item}
 use Rattle.qvt_types_data.specs.declared.note.Reading.TheVariants as reading
 use Rattle.qvt_types_data.specs.declared.refusal.RefusalKind.TheVariants as refusal
-use Rattle.qvt_types_data.specs.declared.ruling.Read.{Read}
 use Rattle.qvt_types_data.specs.declared.ruling.Ruling.{Ruling}
 use Rattle.qvt_types_data.specs.declared.ruling.Ruling.TheVariants.{Holds, Fails, Silent}
 use Rattle.qvt_types_words.specs.Answers.{answer, arity}
@@ -25,14 +23,14 @@ abbrev pub flattened : CollKind → Option Ty → Option Ty
 flattened k None = None
 flattened k (Some t) = Some (ty.Coll (collected_kind k) (innermost t))
 
-abbrev pub for_items : CollKind → Read → Read
-for_items k r = for_each_item (flattened k r.answer) r
+abbrev pub all_answers : CollKind → Ruling → Option Ty
+all_answers k (Holds r) = flattened k r.answer
+all_answers k (Fails kind) = None
+all_answers k Silent = None
 
 abbrev pub collected_over : Option Collection → Ruling → Ruling
 collected_over None r = r
-collected_over (Some c) (Holds r) = Holds (for_items c.kind r)
-collected_over (Some c) (Fails k) = Fails k
-collected_over (Some c) Silent = Silent
+collected_over (Some c) r = ruled_for_each_item (all_answers c.kind r) r
 
 -- what is ruled of a dot on this type, by what is ruled of it on the innermost items
 abbrev pub collected : Ty → Ruling → Ruling
@@ -50,11 +48,6 @@ source_of t = source_in t (collection_of t)
 
 abbrev pub is_single : Ty → Bool
 is_single t = not (is_some (collection_of t))
-
-abbrev pub wrapped : Bool → Ruling → Ruling
-wrapped w (Holds r) = Holds (notes.wrapped w r)
-wrapped w (Fails k) = Fails k
-wrapped w Silent = Silent
 
 -- Calls of operations.
 

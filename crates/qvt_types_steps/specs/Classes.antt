@@ -7,13 +7,13 @@ use Rattle.qvt_base.specs.declared.numbers.ClassNo.{ClassNo}
 use Rattle.qvt_tree_types.specs.declared.words.CollKind.TheVariants as coll
 use Rattle.qvt_types_data.specs.declared.ty.Ty.{Ty}
 use Rattle.qvt_types_data.specs.declared.ty.Ty.TheVariants as ty
-use Rattle.qvt_types_data.specs.Notes.{plain}
+use Rattle.qvt_types_data.specs.Notes.{plain, ruled_wrapped}
 use Rattle.qvt_types_data.specs.declared.note.Reading.TheVariants as reading
 use Rattle.qvt_types_data.specs.declared.refusal.RefusalKind.TheVariants as refusal
 use Rattle.qvt_types_data.specs.declared.ruling.Ruling.{Ruling}
 use Rattle.qvt_types_data.specs.declared.ruling.Ruling.TheVariants.{Holds, Fails, Silent}
 use Rattle.qvt_types_words.specs.Types.{innermost, Collection}
-use Rattle.qvt_types_steps.specs.Calls.{collected, source_of, is_single, wrapped}
+use Rattle.qvt_types_steps.specs.Calls.{collected, source_of, is_single}
 use Rattle.qvt_types_steps.specs.Iterators.{is_object}
 use Rattle.qvt_types_steps.specs.declared.classes.ClassPart.{ClassPart}
 use Rattle.qvt_types_steps.specs.declared.classes.ClassPart.TheVariants as part
@@ -72,7 +72,7 @@ abbrev pub selection_over : List ℕ → Bool → Collection → List ClassPart 
 selection_over name has_head s ps = if has_head then Fails refusal.WrongCount else selected name s ps
 
 abbrev pub selection_on : List ℕ → Bool → Ty → List ClassPart → Ruling
-selection_on name has_head t ps = if list_any is_untyped ps then Silent else wrapped (is_single t) (selection_over name has_head (source_of t) ps)
+selection_on name has_head t ps = if list_any is_untyped ps then Silent else ruled_wrapped (is_single t) (selection_over name has_head (source_of t) ps)
 
 abbrev pub selection : List ℕ → Bool → Option Ty → List ClassPart → Ruling
 selection name has_head None ps = Silent

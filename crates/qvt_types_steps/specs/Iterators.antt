@@ -6,7 +6,7 @@ use Rattle.qvt_tree_types.specs.declared.words.CollKind.{CollKind}
 use Rattle.qvt_tree_types.specs.declared.words.CollKind.TheVariants as coll
 use Rattle.qvt_types_data.specs.declared.ty.Ty.{Ty}
 use Rattle.qvt_types_data.specs.declared.ty.Ty.TheVariants as ty
-use Rattle.qvt_types_data.specs.Notes.{plain}
+use Rattle.qvt_types_data.specs.Notes.{plain, ruled_wrapped}
 use Rattle.qvt_types_data.specs.declared.note.Reading.TheVariants as reading
 use Rattle.qvt_types_data.specs.declared.refusal.RefusalKind.{RefusalKind}
 use Rattle.qvt_types_data.specs.declared.refusal.RefusalKind.TheVariants as refusal
@@ -14,7 +14,7 @@ use Rattle.qvt_types_data.specs.declared.ruling.Ruling.{Ruling}
 use Rattle.qvt_types_data.specs.declared.ruling.Ruling.TheVariants.{Holds, Fails, Silent}
 use Rattle.qvt_types_words.specs.Rulings.{wrong_unless, items_conform}
 use Rattle.qvt_types_words.specs.Types.{conforms, innermost, is_ordered, collected_kind, Collection, collection_of}
-use Rattle.qvt_types_steps.specs.Calls.{source_of, is_single, wrapped, call, named_arity}
+use Rattle.qvt_types_steps.specs.Calls.{source_of, is_single, call, named_arity}
 use Rattle.qvt_types_steps.specs.IteratorTable.{row_of, iterator_named}
 use Rattle.qvt_types_steps.specs.declared.iterators.IteratorKind.{IteratorKind}
 use Rattle.qvt_types_steps.specs.declared.iterators.IteratorRow.{IteratorRow}
@@ -151,7 +151,7 @@ is_untyped Untyped = true
 is_untyped h = false
 
 abbrev pub arrow_over : Metamodels → List ℕ → Heading → Ty → List Ty → Ruling
-arrow_over m name h t us = if is_untyped h then Silent else wrapped (is_single t) (arrowed m name (iterator_named name) h (source_of t) us)
+arrow_over m name h t us = if is_untyped h then Silent else ruled_wrapped (is_single t) (arrowed m name (iterator_named name) h (source_of t) us)
 
 -- an arrow with a name and arguments, of which an iterator has one, its body
 abbrev pub arrow : Metamodels → List ℕ → Heading → Option Ty → Option (List Ty) → Ruling

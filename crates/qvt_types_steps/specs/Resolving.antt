@@ -11,9 +11,10 @@ use Rattle.qvt_types_data.specs.declared.ty.Ty.TheVariants as ty
 use Rattle.qvt_types_data.specs.declared.refusal.RefusalKind.TheVariants as refusal
 use Rattle.qvt_types_data.specs.declared.ruling.Ruling.{Ruling}
 use Rattle.qvt_types_data.specs.declared.ruling.Ruling.TheVariants.{Holds, Fails, Silent}
+use Rattle.qvt_types_data.specs.Notes.{ruled_wrapped}
 use Rattle.qvt_types_words.specs.Rulings.{typed, typed_if}
 use Rattle.qvt_types_words.specs.Types.{conforms}
-use Rattle.qvt_types_steps.specs.Calls.{source_of, is_single, wrapped}
+use Rattle.qvt_types_steps.specs.Calls.{source_of, is_single}
 use Rattle.qvt_types_steps.specs.Iterators.{is_object}
 use Rattle.qvt_types_steps.specs.declared.classes.ClassPart.{ClassPart}
 use Rattle.qvt_types_steps.specs.declared.classes.ClassPart.TheVariants as part
@@ -44,7 +45,7 @@ resolve_over w t part.Untyped = Silent
 resolve_over w t p = if is_source t then looked_for w p else Fails refusal.WrongType
 
 abbrev pub resolve_behind : Joint → ResolveWord → Ty → ClassPart → Ruling
-resolve_behind Arrow w t p = wrapped (is_single t) (resolve_over w t p)
+resolve_behind Arrow w t p = ruled_wrapped (is_single t) (resolve_over w t p)
 resolve_behind joint w t p = resolve_over w t p
 
 -- a resolve behind a source, or without one

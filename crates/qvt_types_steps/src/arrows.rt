@@ -6,7 +6,9 @@ ghost use Rattle.qvt_types_steps.specs.Calls.{source_of};
 ghost use Rattle.qvt_types_steps.specs.IteratorTable.{iterator_named as iterator_of};
 ghost use Rattle.qvt_types_steps.specs.Iterators as iterators;
 
-use crate::calls::{call, flattened, is_single, named_arity, operation_read, source_item, source_kind, wrapped};
+use crate::calls::{
+    call, flattened, is_single, named_arity, operation_read, source_item, source_kind,
+};
 use crate::heads::{Heading, is_untyped};
 use crate::iterators::{Body, Gives, Items, IteratorRow, iterator_named, row_of};
 use qvt_base::copied::Copied;
@@ -129,7 +131,14 @@ fn iterated(
     if !row_fits(metas, row, item, accumulator, body) {
         return Ok(Ruling::Fails(RefusalKind::WrongType));
     }
-    let answer = given(alloc, row.gives, source_kind(source), item, accumulator, body)?;
+    let answer = given(
+        alloc,
+        row.gives,
+        source_kind(source),
+        item,
+        accumulator,
+        body,
+    )?;
     operation_read(alloc, name, answer)
 }
 
@@ -235,9 +244,7 @@ fn arrowed(
 {
     match iterator_named(name.as_str()) {
         None => operation(alloc, metas, name, heading, source, args),
-        Some(iterator) => {
-            iteration(alloc, metas, name, row_of(iterator), heading, source, args)
-        }
+        Some(iterator) => { iteration(alloc, metas, name, row_of(iterator), heading, source, args) }
     }
 }
 
@@ -262,5 +269,5 @@ pub fn arrow(
         return Ok(Ruling::Silent);
     }
     let ruling = arrowed(alloc, metas, name, heading, t, args.as_slice())?;
-    Ok(wrapped(is_single(t), ruling))
+    Ok(ruling.wrapped(is_single(t)))
 }

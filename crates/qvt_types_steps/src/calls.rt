@@ -31,15 +31,17 @@ pub fn flattened(alloc: Global, kind: CollKind, t: &Ty) -> Result<Ty, ListFault>
     Ok(Ty::Coll(collected_kind(kind), Boxed::new(alloc, item)?))
 }
 
-/// The reading of a step that is applied to each item of a collection of the kind.
-fn for_items(alloc: Global, kind: CollKind, read: Read) -> Result<Read, ListFault>
-    ensures { IfOk result (λ r. r ≡ calls.for_items kind read) }
+/// The type of all answers of a step that is applied to each item of a collection of the kind.
+fn all_answers(alloc: Global, kind: CollKind, ruling: &Ruling) -> Result<Option<Ty>, ListFault>
+    ensures { IfOk result (λ o. o ≡ calls.all_answers kind ruling.now) }
 {
-    let answer = match &read.answer {
-        None => None,
-        Some(t) => Some(flattened(alloc, kind, t)?),
+    let Ruling::Holds(read) = ruling else {
+        return Ok(None);
     };
-    Ok(read.for_each_item(answer))
+    match &read.answer {
+        None => Ok(None),
+        Some(t) => Ok(Some(flattened(alloc, kind, t)?)),
+    }
 }
 
 /// What is ruled of a dot on this type, by what is ruled of it on the innermost items.
@@ -49,11 +51,8 @@ pub fn collected(alloc: Global, t: &Ty, ruling: Ruling) -> Result<Ruling, ListFa
     let Ty::Coll(kind, _) = t else {
         return Ok(ruling);
     };
-    match ruling {
-        Ruling::Holds(read) => Ok(Ruling::Holds(for_items(alloc, *kind, read)?)),
-        Ruling::Fails(kind) => Ok(Ruling::Fails(kind)),
-        Ruling::Silent => Ok(Ruling::Silent),
-    }
+    let all = all_answers(alloc, *kind, &ruling)?;
+    Ok(ruling.for_each_item(all))
 }
 
 /// Whether the type is no collection.
@@ -83,17 +82,6 @@ pub fn source_item(t: &Ty) -> &Ty
     match t {
         Ty::Coll(_, item) => item.get(),
         other => other,
-    }
-}
-
-/// The ruling, with or without the wrap.
-pub fn wrapped(wrap: bool, ruling: Ruling) -> Ruling
-    ensures { result ≡ calls.wrapped wrap ruling }
-{
-    match ruling {
-        Ruling::Holds(read) => Ruling::Holds(read.wrapped(wrap)),
-        Ruling::Fails(kind) => Ruling::Fails(kind),
-        Ruling::Silent => Ruling::Silent,
     }
 }
 

@@ -7,7 +7,7 @@ ghost use Rattle.qvt_types_steps.specs.Calls.{source_of};
 ghost use Rattle.qvt_types_steps.specs.Classes as classes;
 
 use crate::arrows::is_object;
-use crate::calls::{collected, is_single, operation_read, source_item, source_kind, wrapped};
+use crate::calls::{collected, is_single, operation_read, source_item, source_kind};
 use qvt_base::list_fault::ListFault;
 use qvt_base::numbers::ClassNo;
 use qvt_base::seq::Seq;
@@ -228,7 +228,7 @@ pub fn selection(
         return Ok(Ruling::Fails(RefusalKind::WrongCount));
     }
     let ruling = selected(alloc, name, t, parts)?;
-    Ok(wrapped(is_single(t), ruling))
+    Ok(ruling.wrapped(is_single(t)))
 }
 
 /// The operation of models of this name, None where there is none.
@@ -261,7 +261,11 @@ pub fn model_objects(
         return Ok(Ruling::Silent);
     };
     match args.as_slice() {
-        [] => operation_read(alloc, name, objects_in(alloc, CollKind::OrderedSet, element)?),
+        [] => operation_read(
+            alloc,
+            name,
+            objects_in(alloc, CollKind::OrderedSet, element)?,
+        ),
         _ => Ok(Ruling::Fails(RefusalKind::WrongCount)),
     }
 }

@@ -114,12 +114,7 @@ pub fn accumulator_wrong(
 }
 
 /// A Head with an iterator alone.
-pub fn plain_head(
-    metas: &Metas,
-    has_kind: bool,
-    kind: &Option<Ty>,
-    items: &Option<Ty>,
-) -> Heading
+pub fn plain_head(metas: &Metas, has_kind: bool, kind: &Option<Ty>, items: &Option<Ty>) -> Heading
     ensures { result ≡ iterators.plain_head metas.now has_kind kind.now items.now }
 {
     if !has_kind {

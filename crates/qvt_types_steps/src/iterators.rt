@@ -99,10 +99,22 @@ pub fn row_of(iterator: IteratorKind) -> IteratorRow
         IteratorKind::IsUnique => row(Items::Every, false, Body::Every, Gives::Boolean, true),
         IteratorKind::SortedBy => row(Items::Every, false, Body::Key, Gives::Sorted, true),
         IteratorKind::Iterate => {
-            row(Items::Every, true, Body::Accumulated, Gives::Accumulator, true)
+            row(
+                Items::Every,
+                true,
+                Body::Accumulated,
+                Gives::Accumulator,
+                true,
+            )
         }
         IteratorKind::Closure => {
-            row(Items::Objects, false, Body::SameObjects, Gives::Reached, true)
+            row(
+                Items::Objects,
+                false,
+                Body::SameObjects,
+                Gives::Reached,
+                true,
+            )
         }
     }
 }

@@ -5,7 +5,7 @@ ghost use Rattle.qvt_types_words.specs.Rulings as rulings;
 ghost use Rattle.qvt_types_steps.specs.Resolving as resolves;
 
 use crate::arrows::is_object;
-use crate::calls::{is_single, source_item, wrapped};
+use crate::calls::{is_single, source_item};
 use crate::classes::ClassPart;
 use qvt_base::copied::Copied;
 use qvt_base::list_fault::ListFault;
@@ -34,11 +34,7 @@ pub enum Joint {
 pub fn class_within(word: ResolveWord, target: ClassPart, context: ClassPart) -> ClassPart
     ensures { result ≡ resolves.class_within word target context }
 {
-    if word.is_inverse() {
-        context
-    } else {
-        target
-    }
+    if word.is_inverse() { context } else { target }
 }
 
 /// The type of a resolve that looks for objects of the class.
@@ -48,10 +44,7 @@ fn resolve_type(alloc: Global, word: ResolveWord, class: ClassNo) -> Result<Ty, 
     if word.is_one() {
         Ok(Ty::Class(class))
     } else {
-        Ok(Ty::Coll(
-            CollKind::Sequence,
-            Boxed::new(alloc, Ty::Class(class))?,
-        ))
+        Ok(Ty::Coll(CollKind::Sequence, Boxed::new(alloc, Ty::Class(class))?))
     }
 }
 
@@ -120,7 +113,7 @@ pub fn resolve(
             None => Ok(Ruling::Silent),
             Some(t) => {
                 let ruling = resolve_over(alloc, word, t, part)?;
-                Ok(wrapped(is_single(t), ruling))
+                Ok(ruling.wrapped(is_single(t)))
             }
         },
     }

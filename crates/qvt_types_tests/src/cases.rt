@@ -37,6 +37,7 @@ pub enum Outcome {
 }
 
 /// A question, and what it is asked over.
+#[derive(Clone, Copy)]
 struct Case<'a> {
     metas: &'a Metas,
     form: &'a str,

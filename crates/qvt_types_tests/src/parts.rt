@@ -17,7 +17,8 @@ const DEEPEST: u32 = 5;
 /// The class that is above the others.
 pub const ELEMENT: ClassNo = ClassNo(3);
 
-const META: &str = r#"{"classes":[{"features":[{"name":"name","type":"String"},{"name":"kids","ordered":true,"type":"Node","upper":"*"},{"name":"marks","type":"Integer","unique":false,"upper":"*"},{"name":"top","type":"Node"},{"name":"kind","type":"Kind"},{"name":"flags","type":"Boolean","upper":3},{"name":"lines","ordered":true,"type":"String","unique":false,"upper":"*"}],"name":"Node","supers":["Thing"]},{"features":[{"name":"value","type":"Integer"}],"name":"Leaf","supers":["Node"]},{"name":"Other","supers":["Thing"]},{"abstract":true,"name":"Thing"}],"enums":[{"literals":["a","b"],"name":"Kind"}],"name":"M"}"#;
+const META: &str =
+    r#"{"classes":[{"features":[{"name":"name","type":"String"},{"name":"kids","ordered":true,"type":"Node","upper":"*"},{"name":"marks","type":"Integer","unique":false,"upper":"*"},{"name":"top","type":"Node"},{"name":"kind","type":"Kind"},{"name":"flags","type":"Boolean","upper":3},{"name":"lines","ordered":true,"type":"String","unique":false,"upper":"*"}],"name":"Node","supers":["Thing"]},{"features":[{"name":"value","type":"Integer"}],"name":"Leaf","supers":["Node"]},{"name":"Other","supers":["Thing"]},{"abstract":true,"name":"Thing"}],"enums":[{"literals":["a","b"],"name":"Kind"}],"name":"M"}"#;
 
 /// The one metamodel.
 pub fn metas(alloc: Global) -> Option<Metas> {

@@ -38,6 +38,16 @@ impl Drop for Accepted {
     }
 }
 
+impl Accepted {
+    /// The join alone.
+    fn into_joined(self) -> Ty
+        ensures { result ≡ self.joined }
+    {
+        let Accepted { kind: _, joined } = self;
+        joined
+    }
+}
+
 fn same_kind(kind: Kind, other: Kind) -> bool
     ensures { result ≡ allows (Kinds.Only kind) other }
 {
@@ -117,11 +127,7 @@ fn accept_item(
 fn kept_if(conforms: bool, before: Accepted) -> Option<Accepted>
     ensures { result ≡ (if conforms then Some before else None) }
 {
-    if conforms {
-        Some(before)
-    } else {
-        None
-    }
+    if conforms { Some(before) } else { None }
 }
 
 /// What one argument comes to.
@@ -162,7 +168,8 @@ fn accept_two(
 }
 
 /// What the arguments come to.
-fn accepted(
+#[tactic(auto, using(crate::proofs::Arguments::none_given, crate::proofs::Arguments::one_and_more, crate::proofs::Arguments::one_of_two, crate::proofs::Arguments::two_and_more))]
+fn accept_all(
     alloc: Global,
     metas: &Metas,
     params: Params,
@@ -239,20 +246,12 @@ fn type_of(alloc: Global, answer: Answer, item: &Ty, taken: Accepted) -> Result<
         Answer::Item => item.copy(alloc),
         Answer::Items(kind) => collection(alloc, kind, item.copy(alloc)?),
         Answer::Innermost(kind) => collection(alloc, kind, innermost(item).copy(alloc)?),
-        Answer::Joined(kind) => joined_collection(alloc, kind, taken),
+        Answer::Joined(kind) => collection(alloc, kind, taken.into_joined()),
         Answer::Common(kind) => {
             let common = common_kind(kind, taken.kind);
             collection(alloc, common, item.copy(alloc)?)
         }
     }
-}
-
-/// The kind of the join of the item types.
-fn joined_collection(alloc: Global, kind: Kind, taken: Accepted) -> Result<Ty, ListFault>
-    ensures { IfOk result (λ t. ty_view t ≡ Collection kind (ty_view taken.joined)) }
-{
-    let Accepted { kind: _, joined } = taken;
-    collection(alloc, kind, joined)
 }
 
 /// What a row of the table answers at a source with items of this type.
@@ -273,7 +272,7 @@ fn signed(
         kind,
         joined: item.copy(alloc)?,
     };
-    match accepted(alloc, metas, signature.params, before, args)? {
+    match accept_all(alloc, metas, signature.params, before, args)? {
         None => Ok(None),
         Some(taken) => Ok(Some(type_of(alloc, signature.answer, item, taken)?)),
     }
@@ -374,11 +373,7 @@ fn is_equality(op: Op) -> bool
 fn boolean_if(right: bool) -> Option<Ty>
     ensures { option_map ty_view result ≡ (if right then Some Boolean else None) }
 {
-    if right {
-        Some(Ty::Boolean)
-    } else {
-        None
-    }
+    if right { Some(Ty::Boolean) } else { None }
 }
 
 /// Whether the types join.
@@ -388,18 +383,33 @@ fn has_join(metas: &Metas, t: &Ty, u: &Ty) -> bool
     conforms(metas, t, u) || conforms(metas, u, t)
 }
 
-/// Whether what every value has may stand there: a test without arguments, `=` and `<>` with one that joins.
-fn is_typed_for_all(metas: &Metas, op: Op, source: &Ty, args: &[Ty]) -> bool
-    ensures { (if result then Some Boolean else None) ≡ typing.type_of_all (descends metas.now) op (ty_view source.now) (answers.plain_types args.now) }
+/// The type of what is asked of all values: a test without arguments, `=` and `<>` with one that joins.
+fn type_of_all(metas: &Metas, op: Op, source: &Ty, args: &[Ty]) -> Option<Ty>
+    ensures { option_map ty_view result ≡ typing.type_of_all (descends metas.now) op (ty_view source.now) (answers.plain_types args.now) }
 {
-    match args {
-        [] => is_test(op),
-        [other] => is_equality(op) && has_join(metas, source, other),
-        _ => false,
+    match op {
+        Op::IsUndefined => match args {
+            [] => Some(Ty::Boolean),
+            _ => None,
+        },
+        Op::IsInvalid => match args {
+            [] => Some(Ty::Boolean),
+            _ => None,
+        },
+        Op::Equal => match args {
+            [other] => boolean_if(has_join(metas, source, other)),
+            _ => None,
+        },
+        Op::NotEqual => match args {
+            [other] => boolean_if(has_join(metas, source, other)),
+            _ => None,
+        },
+        _ => None,
     }
 }
 
 /// What the table of operations answers at these types of the source and the arguments, by their plain data.
+#[tactic(auto, unfolding(qvt_ocl_types::specs::Typing::answer_type))]
 fn plain_answer(
     alloc: Global,
     metas: &Metas,
@@ -410,7 +420,7 @@ fn plain_answer(
     ensures { IfOk result (λ o. option_map ty_view o ≡ typing.answer_type (descends metas.now) op (ty_view source.now) (answers.plain_types args.now)) }
 {
     if is_test(op) || is_equality(op) {
-        return Ok(boolean_if(is_typed_for_all(metas, op, source, args)));
+        return Ok(type_of_all(metas, op, source, args));
     }
     let Some(sort) = sort_of(op, source, args) else {
         return Ok(None);
@@ -422,6 +432,7 @@ fn plain_answer(
 }
 
 /// The type that the table of operations gives at these types of the source and the arguments, None where it gives none.
+#[tactic(auto, using(qvt_types_data::proofs::PlainTypes::from_plain), unfolding(crate::specs::Answers::answer))]
 pub fn answer(
     alloc: Global,
     metas: &Metas,
@@ -446,6 +457,7 @@ fn count(params: Params) -> usize
 }
 
 /// How many arguments the operation takes at a source of the type, None where no such source has it.
+#[tactic(auto, unfolding(crate::specs::Answers::arity))]
 pub fn arity(op: Op, source: &Ty) -> Option<usize>
     ensures { result ≡ answers.arity op source.now }
 {
