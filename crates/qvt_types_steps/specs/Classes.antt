@@ -1,6 +1,6 @@
 -- What is ruled of steps whose argument is a class: the tests and casts of objects (OCL 2.4, 11.3.3), the selections of a
 -- collection's items by class (11.7.1), and the operations of models (QVT 1.3, 8.3.4).
-use Rattle.std.specs.Prelude.{ℕ, ◌==◌, Bool, true, false, if◌then◌else◌, List, [], ◌∷◌, length, Option, Some, None, codes}
+use Rattle.std.specs.Prelude.{ℕ, Bool, true, false, if◌then◌else◌, List, [], ◌∷◌, Option, Some, None, codes}
 use Rattle.std.specs.List.{list_any}
 use Rattle.std.specs.Str.{bytes_eq}
 use Rattle.qvt_base.specs.declared.numbers.ClassNo.{ClassNo}

@@ -1,6 +1,5 @@
 -- What is ruled of a resolve by its source and its class (QVT 1.3, 8.1.10 and 8.2.1.22).
-use Rattle.std.specs.Option.{is_some}
-use Rattle.std.specs.Prelude.{Bool, true, false, ◌||◌, if◌then◌else◌, Option, Some, None}
+use Rattle.std.specs.Prelude.{Bool, true, false, if◌then◌else◌, Option, Some, None}
 use Rattle.qvt_base.specs.declared.numbers.ClassNo.{ClassNo}
 use Rattle.qvt_metamodel.specs.Metamodels.{Metamodels}
 use Rattle.qvt_tree_types.specs.Resolves.{is_one, is_inverse}

@@ -58,12 +58,7 @@ fn is_untyped(part: ClassPart) -> bool
 fn any_untyped(parts: &[ClassPart]) -> bool
     ensures { result ≡ list_any classes.is_untyped parts.now }
 {
-    for part in parts {
-        if is_untyped(*part) {
-            return true;
-        }
-    }
-    false
+    parts.iter().any(|part| is_untyped(*part))
 }
 
 /// The test or cast of this name, None where there is none.

@@ -54,8 +54,11 @@ fn conforms_if_known(metas: &Metas, argument: &Ty, parameter: &Option<Ty>) -> bo
 fn arguments_conform(metas: &Metas, parameters: &[Option<Ty>], arguments: &[Ty]) -> bool
     ensures { result ≡ units.arguments_conform metas.now parameters.now arguments.now }
 {
-    for (parameter, argument) in parameters.iter().zip(arguments) {
-        if !conforms_if_known(metas, argument, parameter) {
+    for (i, argument) in arguments.iter().enumerate() {
+        if i >= parameters.len() {
+            return true;
+        }
+        if !conforms_if_known(metas, argument, &parameters[i]) {
             return false;
         }
     }

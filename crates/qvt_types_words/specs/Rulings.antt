@@ -6,7 +6,6 @@ use Rattle.qvt_tree_types.specs.declared.words.BinaryOp.TheVariants as op
 use Rattle.qvt_tree_types.specs.declared.words.PrefixOp.{PrefixOp}
 use Rattle.qvt_tree_types.specs.declared.words.PrefixOp.TheVariants as sign
 use Rattle.qvt_tree_types.specs.declared.words.CollKind.{CollKind}
-use Rattle.qvt_tree_types.specs.declared.words.CollKind.TheVariants as coll
 use Rattle.qvt_types_data.specs.declared.ty.Ty.{Ty}
 use Rattle.qvt_types_data.specs.declared.ty.Ty.TheVariants as ty
 use Rattle.qvt_types_data.specs.Notes.{plain}
@@ -55,7 +54,7 @@ operation_of op.Times = Some Times
 -- what the table of operations answers, or WrongType
 abbrev pub by_table : Metamodels → Option Op → Ty → Ty → Ruling
 by_table m None a b = typed_if (both m ty.Boolean a b) ty.Boolean
-by_table m (Some op) a b = or_wrong (answer m op a (b ∷ []))
+by_table m (Some o) a b = or_wrong (answer m o a (b ∷ []))
 
 abbrev pub operated : Metamodels → BinaryOp → Ty → Ty → Ruling
 operated m o a b = by_table m (operation_of o) a b
