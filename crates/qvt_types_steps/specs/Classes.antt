@@ -4,6 +4,7 @@ use Rattle.std.specs.Prelude.{ℕ, Bool, true, false, if◌then◌else◌, List,
 use Rattle.std.specs.List.{list_any}
 use Rattle.std.specs.Str.{bytes_eq}
 use Rattle.qvt_base.specs.declared.numbers.ClassNo.{ClassNo}
+use Rattle.qvt_tree_types.specs.declared.words.CollKind.{CollKind}
 use Rattle.qvt_tree_types.specs.declared.words.CollKind.TheVariants as coll
 use Rattle.qvt_types_data.specs.declared.ty.Ty.{Ty}
 use Rattle.qvt_types_data.specs.declared.ty.Ty.TheVariants as ty
@@ -26,12 +27,17 @@ abbrev pub is_untyped : ClassPart → Bool
 is_untyped part.Untyped = true
 is_untyped p = false
 
+-- a class, or WrongType where there is none
+abbrev pub class_answer : List ℕ → (ClassNo → Ty) → ClassPart → Ruling
+class_answer name f (part.Class c) = Holds (plain (reading.Operation name) (Some (f c)))
+class_answer name f part.Missing = Fails refusal.WrongType
+class_answer name f part.Untyped = Silent
+
 -- a step that takes one class and answers by it
 abbrev pub with_class : List ℕ → (ClassNo → Ty) → List ClassPart → Ruling
-with_class name f (part.Class c ∷ []) = Holds (plain (reading.Operation name) (Some (f c)))
-with_class name f (part.Missing ∷ []) = Fails refusal.WrongType
-with_class name f (part.Untyped ∷ []) = Silent
-with_class name f ps = Fails refusal.WrongCount
+with_class name f [] = Fails refusal.WrongCount
+with_class name f (p ∷ []) = class_answer name f p
+with_class name f (p ∷ q ∷ ps) = Fails refusal.WrongCount
 
 -- The tests and casts, behind a dot.
 
@@ -64,9 +70,13 @@ class_test name o (Some t) ps = test_on name o t ps
 abbrev pub is_selection : List ℕ → Bool
 is_selection name = if bytes_eq name (codes "selectByKind") then true else bytes_eq name (codes "selectByType")
 
+abbrev pub objects_in : CollKind → ClassNo → Ty
+objects_in k c = ty.Coll k (ty.Class c)
+
 abbrev pub selected : List ℕ → Collection → List ClassPart → Ruling
-selected name s (p ∷ []) = if is_object s.item then with_class name (λ c. ty.Coll s.kind (ty.Class c)) (p ∷ []) else Fails refusal.WrongType
-selected name s ps = Fails refusal.WrongCount
+selected name s [] = Fails refusal.WrongCount
+selected name s (p ∷ []) = if is_object s.item then class_answer name (objects_in s.kind) p else Fails refusal.WrongType
+selected name s (p ∷ q ∷ ps) = Fails refusal.WrongCount
 
 abbrev pub selection_over : List ℕ → Bool → Collection → List ClassPart → Ruling
 selection_over name has_head s ps = if has_head then Fails refusal.WrongCount else selected name s ps
@@ -87,15 +97,12 @@ model_call_named name =
     else if bytes_eq name (codes "objectsOfType") then Some ObjectsOfType
     else None
 
-abbrev pub objects_of : ClassNo → Ty
-objects_of c = ty.Coll coll.OrderedSet (ty.Class c)
-
 -- objects and rootObjects, with so many arguments
 abbrev pub model_objects : List ℕ → ClassNo → Option (List Ty) → Ruling
 model_objects name element None = Silent
-model_objects name element (Some []) = Holds (plain (reading.Operation name) (Some (objects_of element)))
+model_objects name element (Some []) = Holds (plain (reading.Operation name) (Some (objects_in coll.OrderedSet element)))
 model_objects name element (Some (t ∷ ts)) = Fails refusal.WrongCount
 
 -- objectsOfType
 abbrev pub model_objects_of : List ℕ → List ClassPart → Ruling
-model_objects_of name ps = if list_any is_untyped ps then Silent else with_class name objects_of ps
+model_objects_of name ps = if list_any is_untyped ps then Silent else with_class name (objects_in coll.OrderedSet) ps

@@ -130,8 +130,13 @@ accumulator_type (Folding a) = a
 accumulator_type h = ty.Void
 
 abbrev pub iteration : Metamodels → List ℕ → IteratorRow → Heading → Collection → List Ty → Ruling
+iteration m name r h s [] = Fails refusal.WrongCount
 iteration m name r h s (b ∷ []) = if head_fits r.folds h then iterated m name r s (accumulator_type h) b else Fails refusal.WrongCount
-iteration m name r h s bs = Fails refusal.WrongCount
+iteration m name r h s (b ∷ c ∷ bs) = Fails refusal.WrongCount
+
+abbrev pub is_missing : Heading → Bool
+is_missing Missing = true
+is_missing h = false
 
 -- an operation takes no Head
 abbrev pub needless_head : Option ℕ → Ruling
@@ -139,8 +144,7 @@ needless_head None = Fails refusal.UnknownName
 needless_head (Some n) = Fails refusal.WrongCount
 
 abbrev pub headless : Metamodels → List ℕ → Heading → Ty → List Ty → Ruling
-headless m name Missing t us = call m name t us
-headless m name h t us = needless_head (named_arity name t)
+headless m name h t us = if is_missing h then call m name t us else needless_head (named_arity name t)
 
 abbrev pub arrowed : Metamodels → List ℕ → Option IteratorKind → Heading → Collection → List Ty → Ruling
 arrowed m name (Some i) h s us = iteration m name (row_of i) h s us

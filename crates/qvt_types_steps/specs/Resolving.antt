@@ -14,6 +14,7 @@ use Rattle.qvt_types_data.specs.Notes.{ruled_wrapped}
 use Rattle.qvt_types_words.specs.Rulings.{typed, typed_if}
 use Rattle.qvt_types_words.specs.Types.{conforms}
 use Rattle.qvt_types_steps.specs.Calls.{source_of, is_single}
+use Rattle.qvt_types_steps.specs.Classes.{is_untyped}
 use Rattle.qvt_types_steps.specs.Iterators.{is_object}
 use Rattle.qvt_types_steps.specs.declared.classes.ClassPart.{ClassPart}
 use Rattle.qvt_types_steps.specs.declared.classes.ClassPart.TheVariants as part
@@ -40,18 +41,18 @@ abbrev pub is_source : Ty → Bool
 is_source t = is_object (source_of t).item
 
 abbrev pub resolve_over : ResolveWord → Ty → ClassPart → Ruling
-resolve_over w t part.Untyped = Silent
-resolve_over w t p = if is_source t then looked_for w p else Fails refusal.WrongType
-
-abbrev pub resolve_behind : Joint → ResolveWord → Ty → ClassPart → Ruling
-resolve_behind Arrow w t p = ruled_wrapped (is_single t) (resolve_over w t p)
-resolve_behind joint w t p = resolve_over w t p
+resolve_over w t p =
+    if is_untyped p then Silent
+    else if is_source t then looked_for w p
+    else Fails refusal.WrongType
 
 -- a resolve behind a source, or without one
 abbrev pub resolve : Joint → ResolveWord → Option Ty → ClassPart → Ruling
 resolve Sourceless w source p = looked_for w p
-resolve joint w None p = Silent
-resolve joint w (Some t) p = resolve_behind joint w t p
+resolve Dot w None p = Silent
+resolve Dot w (Some t) p = resolve_over w t p
+resolve Arrow w None p = Silent
+resolve Arrow w (Some t) p = ruled_wrapped (is_single t) (resolve_over w t p)
 
 -- a filter: its class, and its condition if it has one
 abbrev pub filter_if : Metamodels → Ty → Option Ty → Ruling

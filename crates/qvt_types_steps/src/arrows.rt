@@ -142,6 +142,18 @@ fn iterated(
     operation_read(alloc, name, answer)
 }
 
+/// Whether an accumulator stands exactly where the iterator takes one.
+fn head_fits(folds: bool, heading: &Heading) -> bool
+    ensures { result ≡ iterators.head_fits folds heading.now }
+{
+    match heading {
+        Heading::Folding(_) => folds,
+        Heading::Missing => !folds,
+        Heading::Plain => !folds,
+        Heading::Untyped => false,
+    }
+}
+
 /// What is ruled of an iterator with one body, by its Head.
 fn with_head(
     alloc: Global,
@@ -154,22 +166,14 @@ fn with_head(
 ) -> Result<Ruling, ListFault>
     ensures { IfOk result (λ r. r ≡ iterators.iteration metas.now name.now row heading.now (source_of source.now) (body.now ∷ [])) }
 {
+    if !head_fits(row.folds, heading) {
+        return Ok(Ruling::Fails(RefusalKind::WrongCount));
+    }
     match heading {
         Heading::Folding(accumulator) => {
-            if row.folds {
-                iterated(alloc, metas, name, row, source, accumulator, body)
-            } else {
-                Ok(Ruling::Fails(RefusalKind::WrongCount))
-            }
+            iterated(alloc, metas, name, row, source, accumulator, body)
         }
-        Heading::Untyped => Ok(Ruling::Fails(RefusalKind::WrongCount)),
-        _ => {
-            if row.folds {
-                Ok(Ruling::Fails(RefusalKind::WrongCount))
-            } else {
-                iterated(alloc, metas, name, row, source, &Ty::Void, body)
-            }
-        }
+        _ => iterated(alloc, metas, name, row, source, &Ty::Void, body),
     }
 }
 
@@ -191,6 +195,15 @@ fn iteration(
     }
 }
 
+fn is_missing(heading: &Heading) -> bool
+    ensures { result ≡ iterators.is_missing heading.now }
+{
+    match heading {
+        Heading::Missing => true,
+        _ => false,
+    }
+}
+
 /// What is ruled of an operation behind an arrow.
 fn headless(
     alloc: Global,
@@ -202,12 +215,12 @@ fn headless(
 ) -> Result<Ruling, ListFault>
     ensures { IfOk result (λ r. r ≡ iterators.headless metas.now name.now heading.now source.now args.now) }
 {
-    match heading {
-        Heading::Missing => call(alloc, metas, name, source, args),
-        _ => match named_arity(name.as_str(), source) {
-            None => Ok(Ruling::Fails(RefusalKind::UnknownName)),
-            Some(_) => Ok(Ruling::Fails(RefusalKind::WrongCount)),
-        },
+    if is_missing(heading) {
+        return call(alloc, metas, name, source, args);
+    }
+    match named_arity(name.as_str(), source) {
+        None => Ok(Ruling::Fails(RefusalKind::UnknownName)),
+        Some(_) => Ok(Ruling::Fails(RefusalKind::WrongCount)),
     }
 }
 

@@ -2,7 +2,6 @@
 
 ghost use Rattle.std.specs.Prelude.{◌≡◌, IfOk};
 ghost use Rattle.std.specs.List.{list_any};
-ghost use Rattle.qvt_types_data.specs.declared.ty.Ty.TheVariants as ty;
 ghost use Rattle.qvt_types_steps.specs.Calls.{source_of};
 ghost use Rattle.qvt_types_steps.specs.Classes as classes;
 
@@ -46,7 +45,8 @@ pub enum ModelCall {
     ObjectsOfType,
 }
 
-fn is_untyped(part: ClassPart) -> bool
+/// Whether it is a path that names no class.
+pub fn is_untyped(part: ClassPart) -> bool
     ensures { result ≡ classes.is_untyped part }
 {
     match part {
@@ -89,6 +89,22 @@ fn test_type(test: ClassTest, class: ClassNo) -> Ty
     }
 }
 
+/// What is ruled of a test or cast of an object by this class.
+fn test_by(
+    alloc: Global,
+    name: &Text,
+    test: ClassTest,
+    part: ClassPart,
+) -> Result<Ruling, ListFault>
+    ensures { IfOk result (λ r. r ≡ classes.class_answer name.now (classes.test_type test) part) }
+{
+    match part {
+        ClassPart::Class(class) => operation_read(alloc, name, test_type(test, class)),
+        ClassPart::Missing => Ok(Ruling::Fails(RefusalKind::WrongType)),
+        ClassPart::Untyped => Ok(Ruling::Silent),
+    }
+}
+
 /// What is ruled of a test or cast of an object.
 fn tested_object(
     alloc: Global,
@@ -99,11 +115,7 @@ fn tested_object(
     ensures { IfOk result (λ r. r ≡ classes.with_class name.now (classes.test_type test) parts.now) }
 {
     match parts {
-        [part] => match part {
-            ClassPart::Class(class) => operation_read(alloc, name, test_type(test, *class)),
-            ClassPart::Missing => Ok(Ruling::Fails(RefusalKind::WrongType)),
-            ClassPart::Untyped => Ok(Ruling::Silent),
-        },
+        [part] => test_by(alloc, name, test, *part),
         _ => Ok(Ruling::Fails(RefusalKind::WrongCount)),
     }
 }
@@ -156,29 +168,24 @@ pub fn is_selection(name: &str) -> bool
 
 /// The collection of the kind with objects of the class.
 fn objects_in(alloc: Global, kind: CollKind, class: ClassNo) -> Result<Ty, ListFault>
-    ensures { IfOk result (λ t. t ≡ ty.Coll kind (ty.Class class)) }
+    ensures { IfOk result (λ t. t ≡ classes.objects_in kind class) }
 {
     Ok(Ty::Coll(kind, Boxed::new(alloc, Ty::Class(class))?))
 }
 
-/// What is ruled of a step that answers a collection of the kind with objects of the one class.
-fn with_class(
+/// What is ruled of a step that answers a collection of the kind with objects of this class.
+fn objects_by(
     alloc: Global,
     name: &Text,
     kind: CollKind,
-    parts: &[ClassPart],
+    part: ClassPart,
 ) -> Result<Ruling, ListFault>
-    ensures { IfOk result (λ r. r ≡ classes.with_class name.now (λ c. ty.Coll kind (ty.Class c)) parts.now) }
+    ensures { IfOk result (λ r. r ≡ classes.class_answer name.now (classes.objects_in kind) part) }
 {
-    match parts {
-        [part] => match part {
-            ClassPart::Class(class) => {
-                operation_read(alloc, name, objects_in(alloc, kind, *class)?)
-            }
-            ClassPart::Missing => Ok(Ruling::Fails(RefusalKind::WrongType)),
-            ClassPart::Untyped => Ok(Ruling::Silent),
-        },
-        _ => Ok(Ruling::Fails(RefusalKind::WrongCount)),
+    match part {
+        ClassPart::Class(class) => operation_read(alloc, name, objects_in(alloc, kind, class)?),
+        ClassPart::Missing => Ok(Ruling::Fails(RefusalKind::WrongType)),
+        ClassPart::Untyped => Ok(Ruling::Silent),
     }
 }
 
@@ -192,9 +199,9 @@ fn selected(
     ensures { IfOk result (λ r. r ≡ classes.selected name.now (source_of source.now) parts.now) }
 {
     match parts {
-        [_] => {
+        [part] => {
             if is_object(source_item(source)) {
-                with_class(alloc, name, source_kind(source), parts)
+                objects_by(alloc, name, source_kind(source), *part)
             } else {
                 Ok(Ruling::Fails(RefusalKind::WrongType))
             }
@@ -276,5 +283,8 @@ pub fn model_objects_of(
     if any_untyped(parts) {
         return Ok(Ruling::Silent);
     }
-    with_class(alloc, name, CollKind::OrderedSet, parts)
+    match parts {
+        [part] => objects_by(alloc, name, CollKind::OrderedSet, *part),
+        _ => Ok(Ruling::Fails(RefusalKind::WrongCount)),
+    }
 }

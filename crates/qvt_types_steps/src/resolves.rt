@@ -6,7 +6,7 @@ ghost use Rattle.qvt_types_steps.specs.Resolving as resolves;
 
 use crate::arrows::is_object;
 use crate::calls::{is_single, source_item};
-use crate::classes::ClassPart;
+use crate::classes::{ClassPart, is_untyped};
 use qvt_base::copied::Copied;
 use qvt_base::list_fault::ListFault;
 use qvt_base::numbers::ClassNo;
@@ -81,15 +81,13 @@ fn resolve_over(
 ) -> Result<Ruling, ListFault>
     ensures { IfOk result (λ r. r ≡ resolves.resolve_over word t.now part) }
 {
-    match part {
-        ClassPart::Untyped => Ok(Ruling::Silent),
-        part => {
-            if is_source(t) {
-                looked_for(alloc, word, part)
-            } else {
-                Ok(Ruling::Fails(RefusalKind::WrongType))
-            }
-        }
+    if is_untyped(part) {
+        return Ok(Ruling::Silent);
+    }
+    if is_source(t) {
+        looked_for(alloc, word, part)
+    } else {
+        Ok(Ruling::Fails(RefusalKind::WrongType))
     }
 }
 

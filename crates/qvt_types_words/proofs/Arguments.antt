@@ -1,5 +1,5 @@
 -- The arguments of an operation are taken one by one.
-use Rattle.std.proofs.Common.{◌≡◌, refl, ◌∙◌, ℕ, Bool, true, false, List, [], ◌∷◌, Option, Some, None, cond}
+use Rattle.std.proofs.Common.{◌≡◌, refl, ℕ, Bool, true, false, List, [], ◌∷◌, Option, Some, None, cond}
 use Rattle.qvt_value.specs.declared.value.Kind.{Kind}
 use Rattle.qvt_types_data.specs.Term.{TyTerm, Integer, Text, Void, Boolean, Literals, Class, Collection}
 use Rattle.qvt_ocl_types.specs.Types.{conforms, join}
@@ -47,26 +47,3 @@ none_given below param.Integer ps k T = refl
 none_given below param.Text ps k T = refl
 none_given below param.Item ps k T = refl
 none_given below (param.Items ok) ps k T = refl
-
--- a parameter too few or too many
-module _ (below : ℕ → ℕ → Bool) where
-  none_after_none : (o : Option Taken) (q : Param) → after below (q ∷ []) [] o ≡ None
-  none_after_none None q = refl
-  none_after_none (Some t) q = none_given below q [] t.kind t.joined
-
-  none_after_all : (o : Option Taken) (V : TyTerm) (Us : List TyTerm) → after below [] (V ∷ Us) o ≡ None
-  none_after_all None V Us = refl
-  none_after_all (Some t) V Us = refl
-
-  pub one_and_more : (p : Param) (k : Kind) (T U V : TyTerm) (Us : List TyTerm) → accepts below (p ∷ []) k T (U ∷ V ∷ Us) ≡ None
-  one_and_more p k T U V Us = one_by_one below [] (V ∷ Us) p k T U ∙ none_after_all (accepts below (p ∷ []) k T (U ∷ [])) V Us
-
-  pub one_of_two : (p q : Param) (k : Kind) (T U : TyTerm) → accepts below (p ∷ q ∷ []) k T (U ∷ []) ≡ None
-  one_of_two p q k T U = one_by_one below (q ∷ []) [] p k T U ∙ none_after_none (accepts below (p ∷ []) k T (U ∷ [])) q
-
-  more_after : (o : Option Taken) (q : Param) (V W : TyTerm) (Us : List TyTerm) → after below (q ∷ []) (V ∷ W ∷ Us) o ≡ None
-  more_after None q V W Us = refl
-  more_after (Some t) q V W Us = one_and_more q t.kind t.joined V W Us
-
-  pub two_and_more : (p q : Param) (k : Kind) (T U V W : TyTerm) (Us : List TyTerm) → accepts below (p ∷ q ∷ []) k T (U ∷ V ∷ W ∷ Us) ≡ None
-  two_and_more p q k T U V W Us = one_by_one below (q ∷ []) (V ∷ W ∷ Us) p k T U ∙ more_after (accepts below (p ∷ []) k T (U ∷ [])) q V W Us

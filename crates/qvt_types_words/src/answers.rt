@@ -80,7 +80,8 @@ fn is_allowed(kinds: Kinds, kind: Kind) -> bool
 fn joined(alloc: Global, metas: &Metas, t: &Ty, u: &Ty) -> Result<Option<Ty>, ListFault>
     ensures { IfOk result (λ o. option_map ty_view o ≡ types.join (descends metas.now) (ty_view t.now) (ty_view u.now)) }
 {
-    join(alloc, metas, t, u)
+    let found = join(alloc, metas, t, u)?;
+    Ok(found)
 }
 
 /// What a collection as the one argument comes to.
@@ -148,27 +149,51 @@ fn accept_one(
     }
 }
 
-/// What two arguments come to.
-#[tactic(auto, using(crate::proofs::Arguments::one_by_one))]
+/// What the arguments come to where one is taken.
+#[tactic(auto, using(crate::proofs::Arguments::one_by_one, crate::proofs::Arguments::none_given))]
+fn accept_last(
+    alloc: Global,
+    metas: &Metas,
+    param: Param,
+    before: Accepted,
+    args: &[Ty],
+) -> Result<Option<Accepted>, ListFault>
+    ensures { IfOk result (λ o. option_map accepted_view o ≡ typing.accepts (descends metas.now) (param ∷ []) before.kind (ty_view before.joined) (answers.plain_types args.now)) }
+{
+    match args {
+        [] => Ok(None),
+        [given, rest @ ..] => match accept_one(alloc, metas, param, before, given)? {
+            None => Ok(None),
+            Some(next) => match rest {
+                [] => Ok(Some(next)),
+                [_, ..] => Ok(None),
+            },
+        },
+    }
+}
+
+/// What the arguments come to where two are taken.
+#[tactic(auto, using(crate::proofs::Arguments::one_by_one, crate::proofs::Arguments::none_given))]
 fn accept_two(
     alloc: Global,
     metas: &Metas,
     first: Param,
     second: Param,
     before: Accepted,
-    given: &Ty,
-    other: &Ty,
+    args: &[Ty],
 ) -> Result<Option<Accepted>, ListFault>
-    ensures { IfOk result (λ o. option_map accepted_view o ≡ typing.accepts (descends metas.now) (first ∷ second ∷ []) before.kind (ty_view before.joined) (ty_view given.now ∷ ty_view other.now ∷ [])) }
+    ensures { IfOk result (λ o. option_map accepted_view o ≡ typing.accepts (descends metas.now) (first ∷ second ∷ []) before.kind (ty_view before.joined) (answers.plain_types args.now)) }
 {
-    match accept_one(alloc, metas, first, before, given)? {
-        None => Ok(None),
-        Some(next) => accept_one(alloc, metas, second, next, other),
+    match args {
+        [] => Ok(None),
+        [given, rest @ ..] => match accept_one(alloc, metas, first, before, given)? {
+            None => Ok(None),
+            Some(next) => accept_last(alloc, metas, second, next, rest),
+        },
     }
 }
 
 /// What the arguments come to.
-#[tactic(auto, using(crate::proofs::Arguments::none_given, crate::proofs::Arguments::one_and_more, crate::proofs::Arguments::one_of_two, crate::proofs::Arguments::two_and_more))]
 fn accept_all(
     alloc: Global,
     metas: &Metas,
@@ -181,19 +206,10 @@ fn accept_all(
     match params {
         Params::None => match args {
             [] => Ok(Some(before)),
-            _ => Ok(None),
+            [_, ..] => Ok(None),
         },
-        Params::One(param) => match args {
-            [] => Ok(None),
-            [given] => accept_one(alloc, metas, param, before, given),
-            _ => Ok(None),
-        },
-        Params::Two(first, second) => match args {
-            [] => Ok(None),
-            [_] => Ok(None),
-            [given, other] => accept_two(alloc, metas, first, second, before, given, other),
-            _ => Ok(None),
-        },
+        Params::One(param) => accept_last(alloc, metas, param, before, args),
+        Params::Two(first, second) => accept_two(alloc, metas, first, second, before, args),
     }
 }
 
@@ -432,7 +448,7 @@ fn plain_answer(
 }
 
 /// The type that the table of operations gives at these types of the source and the arguments, None where it gives none.
-#[tactic(auto, using(qvt_types_data::proofs::PlainTypes::from_plain), unfolding(crate::specs::Answers::answer))]
+#[tactic(auto, using(qvt_types_data::proofs::PlainTypes::from_plain, qvt_types_data::proofs::PlainTypes::again_if_any), unfolding(crate::specs::Answers::answer))]
 pub fn answer(
     alloc: Global,
     metas: &Metas,
@@ -442,7 +458,8 @@ pub fn answer(
 ) -> Result<Option<Ty>, ListFault>
     ensures { IfOk result (λ o. o ≡ answers.answer metas.now op source.now args.now) }
 {
-    plain_answer(alloc, metas, op, source, args)
+    let found = plain_answer(alloc, metas, op, source, args)?;
+    Ok(found)
 }
 
 /// How many arguments a row of the table takes.
