@@ -5,14 +5,9 @@ use Rattle.qvt_types_data.specs.Term.{TyTerm, Integer, Text, Void, Boolean, Lite
 use Rattle.qvt_ocl_types.specs.Types.{conforms, join}
 use Rattle.qvt_ocl_types.specs.Table.{allows}
 use Rattle.qvt_ocl_types.specs.Typing.{Taken, accepts, on_join}
-use Rattle.qvt_ocl_types.specs.declared.signature.Kinds.{Kinds}
+use Rattle.qvt_types_words.specs.Answers.{after}
 use Rattle.qvt_ocl_types.specs.declared.signature.Param.{Param}
 use Rattle.qvt_ocl_types.specs.declared.signature.Param.TheVariants as param
-
--- what is taken of the rest
-abbrev pub after : (ℕ → ℕ → Bool) → List Param → List TyTerm → Option Taken → Option Taken
-after below ps Us None = None
-after below ps Us (Some t) = accepts below ps t.kind t.joined Us
 
 abbrev taken : Kind → TyTerm → Option Taken
 taken k T = Some (record { kind = k; joined = T })

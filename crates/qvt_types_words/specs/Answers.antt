@@ -1,12 +1,13 @@
 -- The table of operations over the types of the program: what an operation answers at types of its source and its arguments,
 -- and how many arguments it takes (OCL 2.4, 11).
-use Rattle.std.specs.Prelude.{ℕ, if◌then◌else◌, List, [], length, map, Option, Some, None, option_map}
+use Rattle.std.specs.Prelude.{ℕ, Bool, if◌then◌else◌, List, [], length, map, Option, Some, None, option_map}
 use Rattle.qvt_metamodel.specs.Metamodels.{Metamodels}
 use Rattle.qvt_metamodel.specs.Descends.{descends}
 use Rattle.qvt_ocl_words.specs.declared.op.Op.{Op}
 use Rattle.qvt_ocl_words.specs.Operation.{is_test, is_equality}
 use Rattle.qvt_ocl_types.specs.Table.{signature, listed}
-use Rattle.qvt_ocl_types.specs.Typing.{Taken, sort_of, answer_type}
+use Rattle.qvt_ocl_types.specs.Typing.{Taken, sort_of, accepts, answer_type}
+use Rattle.qvt_ocl_types.specs.declared.signature.Param.{Param}
 use Rattle.qvt_ocl_types.specs.declared.signature.Signature.{Signature}
 use Rattle.qvt_ocl_types.specs.declared.signature.Sort.{Sort}
 use Rattle.qvt_types_data.specs.Term.{TyTerm, ty_view, ty_of}
@@ -39,3 +40,8 @@ arity op t =
 -- what arguments come to, by plain data
 abbrev pub accepted_view : Accepted → Taken
 accepted_view a = record { kind = a.kind; joined = ty_view a.joined }
+
+-- what is taken of the other arguments, after what was taken of those before them
+abbrev pub after : (ℕ → ℕ → Bool) → List Param → List TyTerm → Option Taken → Option Taken
+after below ps Us None = None
+after below ps Us (Some t) = accepts below ps t.kind t.joined Us

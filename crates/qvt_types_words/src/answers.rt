@@ -172,6 +172,22 @@ fn accept_last(
     }
 }
 
+/// What the last argument comes to, after what those before it came to.
+fn accept_after(
+    alloc: Global,
+    metas: &Metas,
+    param: Param,
+    before: Option<Accepted>,
+    args: &[Ty],
+) -> Result<Option<Accepted>, ListFault>
+    ensures { IfOk result (λ o. option_map accepted_view o ≡ answers.after (descends metas.now) (param ∷ []) (answers.plain_types args.now) (option_map accepted_view before)) }
+{
+    match before {
+        None => Ok(None),
+        Some(before) => accept_last(alloc, metas, param, before, args),
+    }
+}
+
 /// What the arguments come to where two are taken.
 #[tactic(auto, using(crate::proofs::Arguments::one_by_one, crate::proofs::Arguments::none_given))]
 fn accept_two(
@@ -186,10 +202,11 @@ fn accept_two(
 {
     match args {
         [] => Ok(None),
-        [given, rest @ ..] => match accept_one(alloc, metas, first, before, given)? {
-            None => Ok(None),
-            Some(next) => accept_last(alloc, metas, second, next, rest),
-        },
+        [given, rest @ ..] => {
+            let next = accept_one(alloc, metas, first, before, given)?;
+            let last = accept_after(alloc, metas, second, next, rest)?;
+            Ok(last)
+        }
     }
 }
 
@@ -250,6 +267,15 @@ fn common_kind(kind: Kind, other: Kind) -> Kind
     }
 }
 
+/// The innermost item type, by its plain data.
+#[tactic(auto, using(qvt_types_data::proofs::PlainTypes::plain))]
+fn innermost_item(alloc: Global, t: &Ty) -> Result<Ty, ListFault>
+    ensures { IfOk result (λ item. ty_view item ≡ types.innermost (ty_view t.now)) }
+{
+    let item = innermost(t).copy(alloc)?;
+    Ok(item)
+}
+
 /// The type of the answer, by the item type of the source and what the arguments came to.
 fn type_of(alloc: Global, answer: Answer, item: &Ty, taken: Accepted) -> Result<Ty, ListFault>
     ensures { IfOk result (λ t. ty_view t ≡ type_of answer (ty_view item.now) taken.kind (ty_view taken.joined)) }
@@ -261,7 +287,7 @@ fn type_of(alloc: Global, answer: Answer, item: &Ty, taken: Accepted) -> Result<
         Answer::Texts => collection(alloc, Kind::Sequence, Ty::Str),
         Answer::Item => item.copy(alloc),
         Answer::Items(kind) => collection(alloc, kind, item.copy(alloc)?),
-        Answer::Innermost(kind) => collection(alloc, kind, innermost(item).copy(alloc)?),
+        Answer::Innermost(kind) => collection(alloc, kind, innermost_item(alloc, item)?),
         Answer::Joined(kind) => collection(alloc, kind, taken.into_joined()),
         Answer::Common(kind) => {
             let common = common_kind(kind, taken.kind);
