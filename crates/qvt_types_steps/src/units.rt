@@ -51,6 +51,7 @@ fn conforms_if_known(metas: &Metas, argument: &Ty, parameter: &Option<Ty>) -> bo
 }
 
 /// Whether the arguments conform to the types of the parameters, one by one.
+#[tactic(auto, using(crate::proofs::NoArguments::none_left))]
 fn arguments_conform(metas: &Metas, parameters: &[Option<Ty>], arguments: &[Ty]) -> bool
     ensures { result ≡ units.arguments_conform metas.now parameters.now arguments.now }
 {

@@ -1,5 +1,5 @@
 -- The arguments of an operation are taken one by one.
-use Rattle.std.proofs.Common.{◌≡◌, refl, ℕ, Bool, true, false, List, [], ◌∷◌, Option, Some, None, cond}
+use Rattle.std.proofs.Common.{◌≡◌, refl, sym, ap, ◌∙◌, ℕ, Bool, true, false, List, [], ◌∷◌, Option, Some, None, cond}
 use Rattle.qvt_value.specs.declared.value.Kind.{Kind}
 use Rattle.qvt_types_data.specs.Term.{TyTerm, Integer, Text, Void, Boolean, Literals, Class, Collection}
 use Rattle.qvt_ocl_types.specs.Types.{conforms, join}
@@ -42,3 +42,8 @@ none_given below param.Integer ps k T = refl
 none_given below param.Text ps k T = refl
 none_given below param.Item ps k T = refl
 none_given below (param.Items ok) ps k T = refl
+
+pub two_by_two :
+    (below : ℕ → ℕ → Bool) (p q : Param) (k : Kind) (T U : TyTerm) (Vs : List TyTerm) (next last : Option Taken) →
+    next ≡ accepts below (p ∷ []) k T (U ∷ []) → last ≡ after below (q ∷ []) Vs next → last ≡ accepts below (p ∷ q ∷ []) k T (U ∷ Vs)
+two_by_two below p q k T U Vs next last n l = l ∙ ap (after below (q ∷ []) Vs) n ∙ sym (one_by_one below (q ∷ []) Vs p k T U)

@@ -188,8 +188,26 @@ fn accept_after(
     }
 }
 
+/// What two arguments and more come to where two are taken.
+#[tactic(auto, using(crate::proofs::Arguments::one_by_one))]
+fn accept_pair(
+    alloc: Global,
+    metas: &Metas,
+    first: Param,
+    second: Param,
+    before: Accepted,
+    given: &Ty,
+    others: &[Ty],
+) -> Result<Option<Accepted>, ListFault>
+    ensures { IfOk result (λ o. option_map accepted_view o ≡ typing.accepts (descends metas.now) (first ∷ second ∷ []) before.kind (ty_view before.joined) (ty_view given.now ∷ answers.plain_types others.now)) }
+{
+    let next = accept_one(alloc, metas, first, before, given)?;
+    let last = accept_after(alloc, metas, second, next, others)?;
+    Ok(last)
+}
+
 /// What the arguments come to where two are taken.
-#[tactic(auto, using(crate::proofs::Arguments::one_by_one, crate::proofs::Arguments::none_given))]
+#[tactic(auto, using(crate::proofs::Arguments::none_given))]
 fn accept_two(
     alloc: Global,
     metas: &Metas,
@@ -202,10 +220,9 @@ fn accept_two(
 {
     match args {
         [] => Ok(None),
-        [given, rest @ ..] => {
-            let next = accept_one(alloc, metas, first, before, given)?;
-            let last = accept_after(alloc, metas, second, next, rest)?;
-            Ok(last)
+        [given, others @ ..] => {
+            let taken = accept_pair(alloc, metas, first, second, before, given, others)?;
+            Ok(taken)
         }
     }
 }
