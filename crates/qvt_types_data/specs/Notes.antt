@@ -1,5 +1,5 @@
 -- The notes of nodes, by how they are read.
-use Rattle.std.specs.Prelude.{false, Option, Some, None}
+use Rattle.std.specs.Prelude.{Bool, true, false, Option, Some, None}
 use Rattle.qvt_base.specs.declared.numbers.ExprNo.{ExprNo}
 use Rattle.qvt_types_data.specs.declared.ty.Ty.{Ty}
 use Rattle.qvt_types_data.specs.declared.note.Reading.{Reading}
@@ -13,6 +13,25 @@ use Rattle.qvt_types_data.specs.declared.ruling.Ruling.TheVariants.{Holds, Fails
 -- a reading without an implicit source, a wrap or an implicit collect
 abbrev pub plain : Reading → Option Ty → Read
 plain reading answer = record { reading = reading; source = None; wrap = false; collect = false; answer = answer }
+
+-- the same, with or without a wrap
+abbrev pub wrapped : Bool → Read → Read
+wrapped w r = record { reading = r.reading; source = r.source; wrap = w; collect = r.collect; answer = r.answer }
+
+-- the same for each item of a collection, with the type of all answers
+abbrev pub for_each_item : Option Ty → Read → Read
+for_each_item all r = record { reading = r.reading; source = r.source; wrap = r.wrap; collect = true; answer = all }
+
+-- the same of a ruling, where it holds
+abbrev pub ruled_wrapped : Bool → Ruling → Ruling
+ruled_wrapped w (Holds r) = Holds (wrapped w r)
+ruled_wrapped w (Fails k) = Fails k
+ruled_wrapped w Silent = Silent
+
+abbrev pub ruled_for_each_item : Option Ty → Ruling → Ruling
+ruled_for_each_item all (Holds r) = Holds (for_each_item all r)
+ruled_for_each_item all (Fails k) = Fails k
+ruled_for_each_item all Silent = Silent
 
 -- of an expression
 abbrev pub noted : ExprNo → Read → Note

@@ -44,6 +44,46 @@ impl Read {
         }
     }
 
+    /// The same reading, with or without a wrap.
+    pub fn wrapped(self, wrap: bool) -> Read
+        ensures { result ≡ notes.wrapped wrap self }
+    {
+        let Read {
+            reading,
+            source,
+            wrap: _,
+            collect,
+            answer,
+        } = self;
+        Read {
+            reading,
+            source,
+            wrap,
+            collect,
+            answer,
+        }
+    }
+
+    /// The same reading for each item of a collection, with the type of all answers.
+    pub fn for_each_item(self, all: Option<Ty>) -> Read
+        ensures { result ≡ notes.for_each_item all self }
+    {
+        let Read {
+            reading,
+            source,
+            wrap,
+            collect: _,
+            answer: _,
+        } = self;
+        Read {
+            reading,
+            source,
+            wrap,
+            collect: true,
+            answer: all,
+        }
+    }
+
     /// The note of an expression.
     pub fn noted(self, number: ExprNo) -> Note
         ensures { result ≡ notes.noted number self }
@@ -129,6 +169,28 @@ impl Ruling {
             Ruling::Holds(read) => (None, read),
             Ruling::Fails(kind) => (Some(kind), Read::plain(Reading::Nothing, None)),
             Ruling::Silent => (None, Read::plain(Reading::Nothing, None)),
+        }
+    }
+
+    /// The same ruling, with or without a wrap where it holds.
+    pub fn wrapped(self, wrap: bool) -> Ruling
+        ensures { result ≡ notes.ruled_wrapped wrap self }
+    {
+        match self {
+            Ruling::Holds(read) => Ruling::Holds(read.wrapped(wrap)),
+            Ruling::Fails(kind) => Ruling::Fails(kind),
+            Ruling::Silent => Ruling::Silent,
+        }
+    }
+
+    /// The same ruling for each item of a collection where it holds, with the type of all answers.
+    pub fn for_each_item(self, all: Option<Ty>) -> Ruling
+        ensures { result ≡ notes.ruled_for_each_item all self }
+    {
+        match self {
+            Ruling::Holds(read) => Ruling::Holds(read.for_each_item(all)),
+            Ruling::Fails(kind) => Ruling::Fails(kind),
+            Ruling::Silent => Ruling::Silent,
         }
     }
 }

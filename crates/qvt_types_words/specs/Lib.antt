@@ -1,3 +1,4 @@
+pub mod Answers
 pub mod OperationNames
 pub mod Rulings
 pub mod Types

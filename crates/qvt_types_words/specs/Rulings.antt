@@ -1,13 +1,11 @@
 -- What is ruled of a node by the types of its parts alone.
-use Rattle.std.specs.Option.{is_some}
-use Rattle.std.specs.Prelude.{◌&&◌, ◌||◌, Bool, true, false, if◌then◌else◌, List, [], ◌∷◌, ◌++◌, Option, Some, None}
+use Rattle.std.specs.Prelude.{◌&&◌, ◌||◌, Bool, true, false, if◌then◌else◌, List, [], ◌∷◌, Option, Some, None}
 use Rattle.qvt_metamodel.specs.Metamodels.{Metamodels}
 use Rattle.qvt_tree_types.specs.declared.words.BinaryOp.{BinaryOp}
 use Rattle.qvt_tree_types.specs.declared.words.BinaryOp.TheVariants as op
 use Rattle.qvt_tree_types.specs.declared.words.PrefixOp.{PrefixOp}
 use Rattle.qvt_tree_types.specs.declared.words.PrefixOp.TheVariants as sign
 use Rattle.qvt_tree_types.specs.declared.words.CollKind.{CollKind}
-use Rattle.qvt_tree_types.specs.declared.words.CollKind.TheVariants as coll
 use Rattle.qvt_types_data.specs.declared.ty.Ty.{Ty}
 use Rattle.qvt_types_data.specs.declared.ty.Ty.TheVariants as ty
 use Rattle.qvt_types_data.specs.Notes.{plain}
@@ -16,7 +14,10 @@ use Rattle.qvt_types_data.specs.declared.refusal.RefusalKind.{RefusalKind}
 use Rattle.qvt_types_data.specs.declared.refusal.RefusalKind.TheVariants as refusal
 use Rattle.qvt_types_data.specs.declared.ruling.Ruling.{Ruling}
 use Rattle.qvt_types_data.specs.declared.ruling.Ruling.TheVariants.{Holds, Fails, Silent}
-use Rattle.qvt_types_words.specs.Types.{conforms, join, is_string, is_void, Collection, collection_of}
+use Rattle.qvt_ocl_words.specs.declared.op.Op.{Op}
+use Rattle.qvt_ocl_words.specs.declared.op.Op.TheVariants.{Equal, NotEqual, Plus, Minus, Times, Negate, Less, LessEqual, Greater, GreaterEqual}
+use Rattle.qvt_types_words.specs.Answers.{answer}
+use Rattle.qvt_types_words.specs.Types.{conforms, join, is_void, Collection, collection_of}
 
 -- the node has this type, and nothing is read
 abbrev pub typed : Ty → Ruling
@@ -34,45 +35,29 @@ typed_if b t = if b then typed t else Fails refusal.WrongType
 abbrev pub both : Metamodels → Ty → Ty → Ty → Bool
 both m want a b = conforms m a want && conforms m b want
 
--- `+` and the comparisons are those of String where an operand has the type String, else those of Integer
-abbrev pub plus_type : Ty → Ty → Ty
-plus_type a b = if is_string a || is_string b then ty.Str else ty.Integer
+-- the operation that an operator between two operands is. The words of logic are none: they take Booleans
+abbrev pub operation_of : BinaryOp → Option Op
+operation_of op.Implies = None
+operation_of op.Xor = None
+operation_of op.Or = None
+operation_of op.And = None
+operation_of op.Equal = Some Equal
+operation_of op.NotEqual = Some NotEqual
+operation_of op.Less = Some Less
+operation_of op.LessEqual = Some LessEqual
+operation_of op.Greater = Some Greater
+operation_of op.GreaterEqual = Some GreaterEqual
+operation_of op.Plus = Some Plus
+operation_of op.Minus = Some Minus
+operation_of op.Times = Some Times
 
-abbrev pub compared : Metamodels → Ty → Ty → Ruling
-compared m a b = typed_if (both m (plus_type a b) a b) ty.Boolean
-
-abbrev pub if_joined : Option Ty → Ty → Ruling
-if_joined None t = Fails refusal.WrongType
-if_joined (Some _) t = typed t
-
-abbrev pub has_minus : CollKind → Bool
-has_minus coll.Set = true
-has_minus coll.OrderedSet = true
-has_minus k = false
-
--- the items of a Set or OrderedSet that are not in another collection, if the item types join
-abbrev pub without : Metamodels → Ty → Option Collection → Option Collection → Ruling
-without m t (Some c) (Some d) = if has_minus c.kind then if_joined (join m c.item d.item) t else Fails refusal.WrongType
-without m t _ _ = Fails refusal.WrongType
-
--- `-`, of Integers or from a Set or OrderedSet
-abbrev pub minus : Metamodels → Ty → Ty → Ruling
-minus m a b = if is_some (collection_of a) then without m a (collection_of a) (collection_of b) else typed_if (both m ty.Integer a b) ty.Integer
+-- what the table of operations answers, or WrongType
+abbrev pub by_table : Metamodels → Option Op → Ty → Ty → Ruling
+by_table m None a b = typed_if (both m ty.Boolean a b) ty.Boolean
+by_table m (Some o) a b = or_wrong (answer m o a (b ∷ []))
 
 abbrev pub operated : Metamodels → BinaryOp → Ty → Ty → Ruling
-operated m op.Implies a b = typed_if (both m ty.Boolean a b) ty.Boolean
-operated m op.Xor a b = typed_if (both m ty.Boolean a b) ty.Boolean
-operated m op.Or a b = typed_if (both m ty.Boolean a b) ty.Boolean
-operated m op.And a b = typed_if (both m ty.Boolean a b) ty.Boolean
-operated m op.Equal a b = if_joined (join m a b) ty.Boolean
-operated m op.NotEqual a b = if_joined (join m a b) ty.Boolean
-operated m op.Less a b = compared m a b
-operated m op.LessEqual a b = compared m a b
-operated m op.Greater a b = compared m a b
-operated m op.GreaterEqual a b = compared m a b
-operated m op.Plus a b = typed_if (both m (plus_type a b) a b) (plus_type a b)
-operated m op.Minus a b = minus m a b
-operated m op.Times a b = typed_if (both m ty.Integer a b) ty.Integer
+operated m o a b = by_table m (operation_of o) a b
 
 -- an operator between two operands
 abbrev pub operator : Metamodels → BinaryOp → Option Ty → Option Ty → Ruling
@@ -82,7 +67,7 @@ operator m o (Some a) None = Silent
 
 abbrev pub signed : Metamodels → PrefixOp → Ty → Ruling
 signed m sign.Not t = typed_if (conforms m t ty.Boolean) ty.Boolean
-signed m sign.Minus t = typed_if (conforms m t ty.Integer) ty.Integer
+signed m sign.Minus t = or_wrong (answer m Negate t [])
 
 -- an operator before its operand
 abbrev pub prefixed : Metamodels → PrefixOp → Option Ty → Ruling

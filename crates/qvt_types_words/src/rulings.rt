@@ -2,14 +2,16 @@
 
 ghost use Rattle.std.specs.Prelude.{◌≡◌, IfOk, Some};
 ghost use Rattle.qvt_types_data.specs.declared.ty.Ty.TheVariants as ty;
-ghost use Rattle.qvt_types_words.specs.Types.{join as join_of, collection_of};
+ghost use Rattle.qvt_types_words.specs.Types.{collection_of};
 ghost use Rattle.qvt_types_words.specs.Rulings as rulings;
 
-use crate::types::{conforms, is_string, is_void, join};
+use crate::answers::answer;
+use crate::types::{conforms, is_void, join};
 use qvt_base::copied::Copied;
 use qvt_base::list_fault::ListFault;
 use qvt_base::seq::Seq;
 use qvt_metas::metas::Metas;
+use qvt_ocl_words::op::Op;
 use qvt_tree_types::words::{BinaryOp, CollKind, PrefixOp};
 use qvt_types_data::boxed::Boxed;
 use qvt_types_data::note::Reading;
@@ -17,6 +19,7 @@ use qvt_types_data::refusal::RefusalKind;
 use qvt_types_data::ruling::{Read, Ruling};
 use qvt_types_data::ty::{Ty, copied};
 use std::alloc::Global;
+use std::slice;
 
 /// The node has this type, and nothing is read.
 fn typed(t: Ty) -> Ruling
@@ -53,71 +56,24 @@ fn both(metas: &Metas, want: &Ty, a: &Ty, b: &Ty) -> bool
     conforms(metas, a, want) && conforms(metas, b, want)
 }
 
-/// The type of `+` and of the comparisons: that of Strings where an operand is one, else that of Integers.
-fn plus_type(a: &Ty, b: &Ty) -> Ty
-    ensures { result ≡ rulings.plus_type a.now b.now }
+/// The operation that an operator between two operands is, None for the words of logic.
+fn operation_of(op: BinaryOp) -> Option<Op>
+    ensures { result ≡ rulings.operation_of op }
 {
-    if is_string(a) || is_string(b) {
-        Ty::Str
-    } else {
-        Ty::Integer
-    }
-}
-
-/// A comparison.
-fn compared(metas: &Metas, a: &Ty, b: &Ty) -> Ruling
-    ensures { result ≡ rulings.compared metas.now a.now b.now }
-{
-    let want = plus_type(a, b);
-    typed_if(both(metas, &want, a, b), Ty::Boolean)
-}
-
-/// `+`.
-fn summed(metas: &Metas, a: &Ty, b: &Ty) -> Ruling
-    ensures { result ≡ rulings.typed_if (rulings.both metas.now (rulings.plus_type a.now b.now) a.now b.now) (rulings.plus_type a.now b.now) }
-{
-    let want = plus_type(a, b);
-    let right = both(metas, &want, a, b);
-    typed_if(right, want)
-}
-
-/// `=` or `<>`.
-fn equated(alloc: Global, metas: &Metas, a: &Ty, b: &Ty) -> Result<Ruling, ListFault>
-    ensures { IfOk result (λ r. r ≡ rulings.if_joined (join_of metas.now a.now b.now) ty.Boolean) }
-{
-    match join(alloc, metas, a, b)? {
-        None => Ok(Ruling::Fails(RefusalKind::WrongType)),
-        Some(_) => Ok(typed(Ty::Boolean)),
-    }
-}
-
-/// Whether the kind has `-`.
-fn has_minus(kind: CollKind) -> bool
-    ensures { result ≡ rulings.has_minus kind }
-{
-    match kind {
-        CollKind::Set => true,
-        CollKind::OrderedSet => true,
-        _ => false,
-    }
-}
-
-/// `-`, of Integers or from a Set or OrderedSet.
-fn minus(alloc: Global, metas: &Metas, a: &Ty, b: &Ty) -> Result<Ruling, ListFault>
-    ensures { IfOk result (λ r. r ≡ rulings.minus metas.now a.now b.now) }
-{
-    let Ty::Coll(kind, item) = a else {
-        return Ok(typed_if(both(metas, &Ty::Integer, a, b), Ty::Integer));
-    };
-    let Ty::Coll(_, other) = b else {
-        return Ok(Ruling::Fails(RefusalKind::WrongType));
-    };
-    if !has_minus(*kind) {
-        return Ok(Ruling::Fails(RefusalKind::WrongType));
-    }
-    match join(alloc, metas, item.get(), other.get())? {
-        None => Ok(Ruling::Fails(RefusalKind::WrongType)),
-        Some(_) => Ok(typed(a.copy(alloc)?)),
+    match op {
+        BinaryOp::Implies => None,
+        BinaryOp::Xor => None,
+        BinaryOp::Or => None,
+        BinaryOp::And => None,
+        BinaryOp::Equal => Some(Op::Equal),
+        BinaryOp::NotEqual => Some(Op::NotEqual),
+        BinaryOp::Less => Some(Op::Less),
+        BinaryOp::LessEqual => Some(Op::LessEqual),
+        BinaryOp::Greater => Some(Op::Greater),
+        BinaryOp::GreaterEqual => Some(Op::GreaterEqual),
+        BinaryOp::Plus => Some(Op::Plus),
+        BinaryOp::Minus => Some(Op::Minus),
+        BinaryOp::Times => Some(Op::Times),
     }
 }
 
@@ -125,20 +81,9 @@ fn minus(alloc: Global, metas: &Metas, a: &Ty, b: &Ty) -> Result<Ruling, ListFau
 fn operated(alloc: Global, metas: &Metas, op: BinaryOp, a: &Ty, b: &Ty) -> Result<Ruling, ListFault>
     ensures { IfOk result (λ r. r ≡ rulings.operated metas.now op a.now b.now) }
 {
-    match op {
-        BinaryOp::Implies => Ok(typed_if(both(metas, &Ty::Boolean, a, b), Ty::Boolean)),
-        BinaryOp::Xor => Ok(typed_if(both(metas, &Ty::Boolean, a, b), Ty::Boolean)),
-        BinaryOp::Or => Ok(typed_if(both(metas, &Ty::Boolean, a, b), Ty::Boolean)),
-        BinaryOp::And => Ok(typed_if(both(metas, &Ty::Boolean, a, b), Ty::Boolean)),
-        BinaryOp::Equal => equated(alloc, metas, a, b),
-        BinaryOp::NotEqual => equated(alloc, metas, a, b),
-        BinaryOp::Less => Ok(compared(metas, a, b)),
-        BinaryOp::LessEqual => Ok(compared(metas, a, b)),
-        BinaryOp::Greater => Ok(compared(metas, a, b)),
-        BinaryOp::GreaterEqual => Ok(compared(metas, a, b)),
-        BinaryOp::Plus => Ok(summed(metas, a, b)),
-        BinaryOp::Minus => minus(alloc, metas, a, b),
-        BinaryOp::Times => Ok(typed_if(both(metas, &Ty::Integer, a, b), Ty::Integer)),
+    match operation_of(op) {
+        None => Ok(typed_if(both(metas, &Ty::Boolean, a, b), Ty::Boolean)),
+        Some(op) => Ok(or_wrong(answer(alloc, metas, op, a, slice::from_ref(b))?)),
     }
 }
 
@@ -161,16 +106,28 @@ pub fn operator(
     operated(alloc, metas, op, a, b)
 }
 
+/// An operator before an operand that has a type.
+fn signed(alloc: Global, metas: &Metas, op: PrefixOp, t: &Ty) -> Result<Ruling, ListFault>
+    ensures { IfOk result (λ r. r ≡ rulings.signed metas.now op t.now) }
+{
+    match op {
+        PrefixOp::Not => Ok(typed_if(conforms(metas, t, &Ty::Boolean), Ty::Boolean)),
+        PrefixOp::Minus => Ok(or_wrong(answer(alloc, metas, Op::Negate, t, &[])?)),
+    }
+}
+
 /// What is ruled of an operator before its operand.
-pub fn prefixed(metas: &Metas, op: PrefixOp, t: &Option<Ty>) -> Ruling
-    ensures { result ≡ rulings.prefixed metas.now op t.now }
+pub fn prefixed(
+    alloc: Global,
+    metas: &Metas,
+    op: PrefixOp,
+    t: &Option<Ty>,
+) -> Result<Ruling, ListFault>
+    ensures { IfOk result (λ r. r ≡ rulings.prefixed metas.now op t.now) }
 {
     match t {
-        None => Ruling::Silent,
-        Some(t) => match op {
-            PrefixOp::Not => typed_if(conforms(metas, t, &Ty::Boolean), Ty::Boolean),
-            PrefixOp::Minus => typed_if(conforms(metas, t, &Ty::Integer), Ty::Integer),
-        },
+        None => Ok(Ruling::Silent),
+        Some(t) => signed(alloc, metas, op, t),
     }
 }
 
@@ -331,7 +288,7 @@ pub fn var_type(
 }
 
 /// Whether the type is a collection whose items conform.
-fn items_conform(metas: &Metas, t: &Ty, item: &Ty) -> bool
+pub fn items_conform(metas: &Metas, t: &Ty, item: &Ty) -> bool
     ensures { result ≡ rulings.items_conform metas.now (collection_of t.now) item.now }
 {
     match t {

@@ -28,10 +28,7 @@ pub fn is_string(t: &Ty) -> bool
 pub fn is_void(t: &Ty) -> bool
     ensures { result ≡ types.is_void t.now }
 {
-    match t {
-        Ty::Void => true,
-        _ => false,
-    }
+    matches!(t, Ty::Void)
 }
 
 /// Whether the first type conforms to the second.

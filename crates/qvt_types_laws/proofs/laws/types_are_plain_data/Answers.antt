@@ -1,4 +1,4 @@
-use Rattle.qvt_types_laws.proofs.SameTypes.{plain, again}
+use Rattle.qvt_types_data.proofs.PlainTypes.{plain, again}
 use Rattle.qvt_types_laws.proofs.laws.types_are_plain_data.Goals as goal
 
 pub returns : goal.returns
