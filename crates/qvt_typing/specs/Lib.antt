@@ -1,0 +1,9 @@
+pub mod Context
+pub mod Names
+pub mod Calls
+pub mod Aims
+pub mod Rules
+pub mod Statements
+pub mod Phrases
+pub mod Units
+pub mod Accepts

@@ -1,0 +1,1 @@
+//! What typing gives: definitions alone.
