@@ -133,12 +133,13 @@ name_cases text true = omega (arith, take_short (length text - 1 - 2) (drop 2 te
 name_cases text false = omega arith
 
 -- characters of a text, of which each part has characters too
+parts_step : (c : ℕ) (u v : List ℕ) (b : Bool) → scalar c ≡ b → (scalars (u ++ v) ≡ true → (scalars u ≡ true) × (scalars v ≡ true)) → (b && scalars (u ++ v)) ≡ true → (scalars (c ∷ u) ≡ true) × (scalars v ≡ true)
+parts_step c u v false e more k = absurd cc
+parts_step c u v true e more k = let parts = more k in (ap (λ z. z && scalars u) e ∙ parts.0, parts.1)
+
 pub scalars_parts : (u v : List ℕ) → scalars (u ++ v) ≡ true → (scalars u ≡ true) × (scalars v ≡ true)
 scalars_parts [] v h = (refl, h)
-scalars_parts (c ∷ u) v h = by (scalar c) refl h where
-  by : (b : Bool) → scalar c ≡ b → (b && scalars (u ++ v)) ≡ true → (scalars (c ∷ u) ≡ true) × (scalars v ≡ true)
-  by false e k = absurd cc
-  by true e k = let parts = scalars_parts u v k in (ap (λ z. z && scalars u) e ∙ parts.0, parts.1)
+scalars_parts (c ∷ u) v h = parts_step c u v (scalar c) refl (scalars_parts u v) h
 
 -- what a token says that is written so
 pub text_short : (kind : TokenKind) (u : List ℕ) → scalars u ≡ true → length (text_of kind (encode_utf8_all u)) ≤ bytes u

@@ -132,7 +132,7 @@ module _ (text : List ℕ) (m : ModuleTerm) (t : IsTransformation text m) where
 
 pub lies_in_text : LiesInText
 lies_in_text = record {
-  nodes = λ text m utf t. few_nodes text m t utf;
+  size = λ text m utf t. few_nodes text m t utf;
   numbers = λ text m utf short t. (let k = few_nodes text m t utf in omega (arith, k, short));
   tokens = λ text m t. same_names (of_tokens t.tokens) nowhere m (names_are_tokens t.tokens (with_end nowhere m) t.reads);
   longest = λ text m utf t. same_names (at_most (length text)) nowhere m (none_is_longer (length text) t.tokens (with_end nowhere m) (tokens_short text t.tokens t.end t.has utf) t.reads);

@@ -179,4 +179,4 @@ split (t ∷ before) v (u ∷ us) e =
     let head : unplaced u ≡ unplaced t = cc in
     let back : map unplaced us ≡ map unplaced (before ++ v) = cc in
     let w = split before v us back in
-    (u ∷ w.0, w.1, ap (λ z. u ∷ z) w.2, λ i. head i ∷ w.3 i)
+    (u ∷ w.0, w.1, λ i. u ∷ w.2 i, λ i. head i ∷ w.3 i)

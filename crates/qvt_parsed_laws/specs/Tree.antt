@@ -15,7 +15,7 @@ longest_text = 262144
 
 pub record LiesInText : Type 0 where
   -- a transformation has at most two nodes for each byte of its text
-  pub nodes : (text : List ℕ) (m : ModuleTerm) → IsUtf8 text → IsTransformation text m → nodes m ≤ 2 * length text
+  pub size : (text : List ℕ) (m : ModuleTerm) → IsUtf8 text → IsTransformation text m → nodes m ≤ 2 * length text
   -- so the nodes of a text within the limit can be numbered with 32 bits
   pub numbers : (text : List ℕ) (m : ModuleTerm) → IsUtf8 text → length text ≤ longest_text → IsTransformation text m → nodes m < 2 ^ 32
   -- each path has a name, each name is that of a token that is a name, and each text in quotes that of a token that is a text
