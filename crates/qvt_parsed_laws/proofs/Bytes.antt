@@ -1,7 +1,7 @@
 -- What tokens say is no longer than what is written, in bytes.
-use Rattle.std.proofs.Common.{◌≡◌, ℕ, zero, suc, ◌+◌, ◌-◌, ◌*◌, ◌≤◌, ◌<◌, List, [], ◌∷◌, ◌++◌, length, take, drop, Bool, true, false, ◌||◌, ◌&&◌, ◌==◌, cond, refl, sym, ap, ◌∙◌, arith, length-append, Option, Some, None}
+use Rattle.std.proofs.Common.{◌≡◌, ℕ, zero, suc, ◌+◌, ◌-◌, ◌*◌, ◌≤◌, ◌<◌, List, [], ◌∷◌, ◌++◌, length, take, drop, Bool, true, false, ◌||◌, ◌&&◌, ◌==◌, cond, refl, ap, ◌∙◌, arith, length-append, Option, Some, None}
 use Rattle.std.specs.Char.{len_utf8}
-use Rattle.std.specs.Str.{chars, encode_utf8_all}
+use Rattle.std.specs.Str.{encode_utf8_all}
 use Rattle.std.proofs.lemmas.Bool.Decides.{nat_tests}
 use Rattle.std.proofs.lemmas.Str.{chars-encodes, length-encode, len_utf8_bounds, len_utf8_ascii}
 use Rattle.std.specs.Prelude.{encode_utf8}
@@ -10,7 +10,7 @@ use Rattle.qvt_lexer.specs.Characters.{is_hex, hex_value}
 use Rattle.qvt_lexer.specs.Literals.{Taken, hex_at, is_surrogate, no_surrogate, simple_escape, simple_at, escape_at, item_at}
 use Rattle.qvt_lexer.specs.declared.token.TokenKind.{TokenKind}
 use Rattle.qvt_lexer.specs.declared.token.TokenKind.TheVariants as kinds
-use Rattle.qvt_parser_tokens.specs.Said.{is_quoted, name_of, items, content, string_of, text_of}
+use Rattle.qvt_parser_tokens.specs.Said.{is_quoted, items, string_of, text_of}
 
 abbrev pub bytes : List ℕ → ℕ
 bytes cs = length (encode_utf8_all cs)

@@ -13,7 +13,6 @@ use Rattle.qvt_parser_grammar.specs.Same.{unplaced, SameTokens, SimpleText, IsSi
 use Rattle.qvt_parser_grammar.specs.declared.token.Class.{Class}
 use Rattle.qvt_parser_grammar.specs.declared.token.Class.TheVariants as classes
 use Rattle.qvt_parser_tokens.specs.Said.{said}
-use Rattle.qvt_parser_tokens.specs.Text.{HasTokens}
 use Rattle.qvt_printer_layout.specs.declared.piece.Piece.{Piece}
 use Rattle.qvt_printer_layout.specs.declared.piece.Piece.TheVariants.{Plain, Name, Integer, Quoted, Line}
 use Rattle.qvt_readback_tokens.specs.Spelled.{spelled, all_spelled}
@@ -24,7 +23,7 @@ use Rattle.qvt_readback_tokens.proofs.Meets.{Free}
 use Rattle.qvt_readback_tokens.proofs.Quotes.{is_low, low_bytes}
 use Rattle.qvt_readback_tokens.proofs.Sound.{is_spelled, Sound}
 use Rattle.qvt_readback_tokens.proofs.Tails.{tail}
-use Rattle.qvt_readback_tokens.proofs.Told.{all_told, told_front}
+use Rattle.qvt_readback_tokens.proofs.Told.{all_told}
 use Rattle.qvt_readback_tokens.proofs.Relexed.{relexed}
 use Rattle.qvt_readback_tokens.proofs.Printing.{has_spelled, letter_begins}
 use Rattle.qvt_parsed_laws.specs.Written.{IsWritten, SimpleGoOn}
