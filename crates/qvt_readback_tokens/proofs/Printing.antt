@@ -14,7 +14,8 @@ use Rattle.qvt_printer_layout.specs.declared.piece.Piece.{Piece}
 use Rattle.qvt_printer_layout.specs.declared.piece.Piece.TheVariants.{Plain}
 use Rattle.qvt_printer.specs.Units.{model_types, module_pieces}
 use Rattle.qvt_printer.specs.PrintText.{print_text}
-use Rattle.qvt_readback_tokens.specs.Spelled.{unplaced, all_spelled}
+use Rattle.qvt_parser_grammar.specs.Same.{unplaced}
+use Rattle.qvt_readback_tokens.specs.Spelled.{all_spelled}
 use Rattle.qvt_readback_tokens.specs.Told.{AllTold}
 use Rattle.qvt_readback_tokens.specs.Law.{HasSpelled, PrintedIsLexed}
 use Rattle.qvt_readback_tokens.proofs.Decoded.{one_byte}
