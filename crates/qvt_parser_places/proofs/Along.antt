@@ -1,5 +1,5 @@
 -- Lists of places that go along a list of tokens.
-use Rattle.std.proofs.Common.{◌≡◌, ◌≤◌, ℕ, List, [], ◌∷◌, ◌++◌, map, ◌⊎◌, inl, inr, refl, sym, ap, ◌∙◌, subst, append_assoc, append-nil, arith}
+use Rattle.std.proofs.Common.{◌≡◌, ◌≤◌, List, [], ◌∷◌, ◌++◌, map, ◌⊎◌, inl, inr, refl, sym, ap, ◌∙◌, subst, append_assoc, append-nil, arith}
 use Rattle.qvt_base.specs.declared.numbers.Place.{Place}
 use Rattle.qvt_grammar.specs.Language.{head_of}
 use Rattle.qvt_parser_grammar.specs.Tokens.{Tok}
@@ -50,9 +50,6 @@ thin_is ps qs e = subst (Thin ps) e (thin_same ps)
 pub thin_over : (q : Place) (ps qs : List Place) → Thin ps qs → Thin ps (q ∷ qs)
 thin_over q [] qs h = tt
 thin_over q (p ∷ ps) qs h = inr h
-
-pub thin_keep : (p : Place) (ps qs : List Place) → Thin ps qs → Thin (p ∷ ps) (p ∷ qs)
-thin_keep p ps qs h = inl (refl, h)
 
 thin_past : (xs ps qs : List Place) → Thin ps qs → Thin ps (xs ++ qs)
 thin_past [] ps qs h = h

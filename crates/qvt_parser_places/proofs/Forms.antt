@@ -1,11 +1,11 @@
 -- The places of what a language reads go along its tokens, by the forms of the grammar.
-use Rattle.std.proofs.Common.{◌≡◌, List, [], ◌∷◌, ◌++◌, Bool, ◌⊎◌, inl, inr, refl, sym, subst, Option, Some, None}
+use Rattle.std.proofs.Common.{◌≡◌, List, [], ◌∷◌, ◌++◌, ◌⊎◌, inl, inr, refl, sym, subst, Option, Some, None}
 use Rattle.qvt_base.specs.declared.numbers.Place.{Place}
 use Rattle.qvt_grammar.specs.Language.{Language, follow, then, either, turns, many, made, never, maybe, head_of, lastly}
 use Rattle.qvt_grammar.proofs.Firsts.{Solid}
 use Rattle.qvt_parser_grammar.specs.Tokens.{Tok}
 use Rattle.qvt_parser_grammar.specs.Readers.{nowhere, the, placed}
-use Rattle.qvt_parser_grammar.specs.Series.{left, right, series, finished, barring}
+use Rattle.qvt_parser_grammar.specs.Series.{left, right, series, finished}
 use Rattle.qvt_parser_grammar.specs.Trees.{second, first, inner, cons_of, nothing}
 use Rattle.qvt_parser_grammar.specs.declared.token.Class.{Class}
 use Rattle.qvt_parser_places.specs.Places.{all_places, places_if}
@@ -105,9 +105,6 @@ module _ {A : Type 0} {p : A → List Place} {l : Language Tok A} (h : Follows p
 
   pub follows_maybe : Follows (places_if p) (maybe l)
   follows_maybe = record { all = maybe_cases }
-
-  pub follows_barring : (t : Tok → Bool) → Follows p (barring t l)
-  follows_barring t = record { all = λ ts a rd. h.all ts a rd.0 }
 
   -- fewer places
   pub follows_thin : (q : A → List Place) → ((a : A) → Thin (q a) (p a)) → Follows q l

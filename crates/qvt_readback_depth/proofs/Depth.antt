@@ -10,7 +10,8 @@ use Rattle.qvt_parser_tokens.specs.Depth.{after, begins_statement, deep_from}
 use Rattle.qvt_printer.specs.Units.{module_pieces}
 use Rattle.qvt_printer_layout.specs.declared.piece.Piece.{Piece}
 use Rattle.qvt_printer_layout.specs.declared.piece.Piece.TheVariants.{Plain, Name, Integer, Quoted, Tight, Line, Indent, Dedent}
-use Rattle.qvt_readback_tokens.specs.Spelled.{unplaced, spelled, all_spelled}
+use Rattle.qvt_parser_grammar.specs.Same.{unplaced}
+use Rattle.qvt_readback_tokens.specs.Spelled.{spelled, all_spelled}
 use Rattle.qvt_readback_depth.specs.Most.{greater, most_from, most}
 use Rattle.qvt_readback_depth.specs.Law.{HasFullUnit, PrintedIsAsDeep}
 use Rattle.qvt_readback_depth.proofs.Runs.{Below}

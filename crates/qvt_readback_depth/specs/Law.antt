@@ -9,7 +9,8 @@ use Rattle.qvt_parser_grammar.specs.Units as grammar
 use Rattle.qvt_parser_grammar.specs.Module.{Reads}
 use Rattle.qvt_parser_tokens.specs.Depth.{deep}
 use Rattle.qvt_printer.specs.Units.{module_pieces, has_statements}
-use Rattle.qvt_readback_tokens.specs.Spelled.{unplaced, all_spelled}
+use Rattle.qvt_parser_grammar.specs.Same.{unplaced}
+use Rattle.qvt_readback_tokens.specs.Spelled.{all_spelled}
 use Rattle.qvt_readback_depth.specs.Most.{most}
 
 abbrev pub is_semicolon : Class → Bool

@@ -16,7 +16,8 @@ use Rattle.qvt_printer.specs.Units.{module_pieces}
 use Rattle.qvt_printer.specs.PrintText.{print_text}
 use Rattle.qvt_readback_tokens.specs.Told.{AllTold}
 use Rattle.qvt_readback_tokens.specs.Law.{HasSpelled, PrintedIsLexed}
-use Rattle.qvt_readback_tokens.specs.Spelled.{unplaced, all_spelled}
+use Rattle.qvt_parser_grammar.specs.Same.{unplaced}
+use Rattle.qvt_readback_tokens.specs.Spelled.{all_spelled}
 use Rattle.qvt_readback_trees.specs.Printable.{IsPrintable}
 use Rattle.qvt_readback_trees.specs.Law.{OneText, ReadsShape, PrintedIsRead}
 use Rattle.qvt_readback_depth.specs.Most.{most}

@@ -11,7 +11,7 @@ use Rattle.qvt_parser_grammar.specs.Tokens.{Tok}
 use Rattle.qvt_parser_grammar.specs.declared.token.Class.{Class}
 use Rattle.qvt_parser_tokens.specs.Said.{said}
 use Rattle.qvt_printer_layout.specs.Spellings.{spelling}
-use Rattle.qvt_readback_tokens.specs.Spelled.{unplaced}
+use Rattle.qvt_parser_grammar.specs.Same.{unplaced}
 use Rattle.qvt_readback_tokens.proofs.Tests.{neither}
 use Rattle.qvt_readback_tokens.proofs.Scans.{scan_name}
 use Rattle.qvt_readback_tokens.proofs.Spelt.{Kind, Named, Number, kind_of}

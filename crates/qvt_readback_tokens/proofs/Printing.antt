@@ -14,7 +14,8 @@ use Rattle.qvt_printer_layout.specs.declared.piece.Piece.{Piece}
 use Rattle.qvt_printer_layout.specs.declared.piece.Piece.TheVariants.{Plain}
 use Rattle.qvt_printer.specs.Units.{model_types, module_pieces}
 use Rattle.qvt_printer.specs.PrintText.{print_text}
-use Rattle.qvt_readback_tokens.specs.Spelled.{unplaced, all_spelled}
+use Rattle.qvt_parser_grammar.specs.Same.{unplaced}
+use Rattle.qvt_readback_tokens.specs.Spelled.{all_spelled}
 use Rattle.qvt_readback_tokens.specs.Told.{AllTold}
 use Rattle.qvt_readback_tokens.specs.Law.{HasSpelled, PrintedIsLexed}
 use Rattle.qvt_readback_tokens.proofs.Decoded.{one_byte}
@@ -33,7 +34,7 @@ map_twice (d ∷ ds) = ap (λ z. bare_said d ∷ z) (map_twice ds)
 abbrev BeginsAt : List ℕ → Type 0
 BeginsAt text = start_at (chars text) ≡ record { place = first_place; rest = chars text }
 
-has_spelled : (text : List ℕ) (ts : List Tok) → BeginsAt text → Lexed (chars text) ts → HasSpelled text ts
+pub has_spelled : (text : List ℕ) (ts : List Tok) → BeginsAt text → Lexed (chars text) ts → HasSpelled text ts
 has_spelled text ts begins k = record {
   tokens = map said (tokens_of first_place k.pieces);
   end = past first_place k.pieces;
@@ -53,7 +54,7 @@ has_spelled text ts begins k = record {
 no_mark : (c : ℕ) → c < 128 → (c == 65279) ≡ false
 no_mark c h = grind (arith, nat_tests)
 
-letter_begins : (c : ℕ) (rest : List ℕ) → c < 128 → BeginsAt (c ∷ rest)
+pub letter_begins : (c : ℕ) (rest : List ℕ) → c < 128 → BeginsAt (c ∷ rest)
 letter_begins c rest h =
     subst (λ z. start_at z ≡ record { place = first_place; rest = z }) (sym (one_byte c rest h))
     (ap (λ b. cond b (record { place = moved first_place c; rest = chars rest }) (record { place = first_place; rest = c ∷ chars rest })) (no_mark c h))

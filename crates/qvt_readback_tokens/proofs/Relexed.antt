@@ -15,7 +15,8 @@ use Rattle.qvt_printer_layout.specs.declared.piece.Piece.{Piece}
 use Rattle.qvt_printer_layout.specs.declared.piece.Piece.TheVariants.{Plain, Name, Integer, Quoted, Tight, Line, Indent, Dedent}
 use Rattle.qvt_printer_layout.specs.Spellings.{spelling}
 use Rattle.qvt_printer_layout.specs.Layout.{blank_before, is_joined, name_text, integer_text, quoted}
-use Rattle.qvt_readback_tokens.specs.Spelled.{unplaced, all_spelled}
+use Rattle.qvt_parser_grammar.specs.Same.{unplaced}
+use Rattle.qvt_readback_tokens.specs.Spelled.{all_spelled}
 use Rattle.qvt_readback_tokens.proofs.Tests.{both}
 use Rattle.qvt_readback_tokens.proofs.Decoded.{one_byte, chars_before}
 use Rattle.qvt_readback_tokens.proofs.Scans.{next_of, scan_space, scan_line}

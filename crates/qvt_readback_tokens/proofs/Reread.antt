@@ -166,10 +166,6 @@ digit_low : (c : ℕ) → is_digit c ≡ true → is_low c ≡ true
 unfolding is_low
 digit_low c h = grind (arith, nat_tests)
 
-number_end : (u rest : List ℕ) → EndsBy Number u rest → EndsBy Number [] rest
-number_end u [] e = tt
-number_end u (d ∷ rest) e = e
-
 digits_again : (text : List ℕ) (n : ℕ) → Digits text → number_of text ≡ n → n ≤ greatest_number → 0 < length text → Again Number [] text (token class.Integer [] (pos n))
 digits_again [] n all value small some = absurd (omega arith)
 digits_again (c ∷ w) n all value small some =

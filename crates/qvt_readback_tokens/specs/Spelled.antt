@@ -7,10 +7,6 @@ use Rattle.qvt_parser_grammar.specs.declared.token.Class.TheVariants as class
 use Rattle.qvt_printer_layout.specs.declared.piece.Piece.{Piece}
 use Rattle.qvt_printer_layout.specs.declared.piece.Piece.TheVariants.{Plain, Name, Integer, Quoted, Tight, Line, Indent, Dedent}
 
--- a token without its place
-abbrev pub unplaced : Tok → Tok
-unplaced t = record { class = t.class; text = t.text; number = t.number; place = nowhere }
-
 abbrev pub bare : Class → List ℕ → ℤ → List Tok
 bare c text number = record { class = c; text = text; number = number; place = nowhere } ∷ []
 

@@ -7,7 +7,7 @@ use Rattle.qvt_parser_grammar.specs.Tokens.{Tok, is, of, code_of}
 use Rattle.qvt_parser_grammar.specs.Readers.{the, placed, nowhere}
 use Rattle.qvt_parser_grammar.specs.Series.{left, right, series, finished, barring}
 use Rattle.qvt_parser_grammar.specs.declared.token.Class.{Class}
-use Rattle.qvt_readback_tokens.specs.Spelled.{unplaced}
+use Rattle.qvt_parser_grammar.specs.Same.{unplaced}
 
 -- what l reads of tokens without places, m reads of the tokens themselves, as a value that is the same without places
 pub record Lifts {A : Type 0} (bare : A → A) (l m : Language Tok A) : Type 0 where

@@ -6,7 +6,7 @@ use Rattle.qvt_parser_grammar.specs.declared.token.Class.TheVariants.{Name, Inte
 use Rattle.qvt_parser_grammar.specs.Leads.{Lead, Plain, Bracketed, Each}
 use Rattle.qvt_parser_grammar.specs.Grammar.{Nested, name, more_names, path, paths, unit_path, extent, kind_word, coll_type, typed, colon_type, expr, exprs, args, literal, word, named_expr, item, coll, if_expr, colon_path, object_head, object, new_expr, map_call, filter_head, bar_expr, filter, all_word, in_word, all_form, in_form, resolve, brackets, longer, bare_expr, other_primary, primary, accumulator, head_rest, more_exprs}
 use Rattle.qvt_parser_grammar.specs.Trees.{second, first, cons_of, nothing, inner, text_of, named_of, path_of, unit_path_of, coll_type_of, int_of, str_of, true_of, false_of, null_of, self_of, result_of, named_expr_of, coll_of, coll_kind, range_of, item_of, if_of, result_head, named_head, object_of, new_of, map_of, is_strict, all_of, in_of, resolve_of, no_name, named_type, filter_of, bare, bracketed, accumulator_of, expr_of}
-use Rattle.qvt_readback_tokens.specs.Spelled.{unplaced}
+use Rattle.qvt_parser_grammar.specs.Same.{unplaced}
 use Rattle.qvt_readback_trees.proofs.Lifts.{Lifts, both, lifts_the, lifts_then, lifts_made, lifts_either, lifts_placed, lifts_many, lifts_maybe}
 use Rattle.qvt_readback_trees.proofs.AgainNames.{bare_named, bare_texts, bare_last, bare_unit_path, bare_head, either_bare, named_bare}
 use Rattle.qvt_readback_trees.proofs.AgainExprs.{bare_exprs, bare_items, bare_stmts, bare_optional, bare_call, call_bare, range_bare, bare_filter, bare_either, filter_bare, bare_resolved, there_same, filter_erased}

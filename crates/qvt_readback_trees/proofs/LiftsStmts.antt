@@ -11,7 +11,7 @@ use Rattle.qvt_parser_grammar.specs.Grammar.{Nested}
 use Rattle.qvt_parser_grammar.specs.Statements.{condition, var_stmt, return_stmt, arm, else_part, if_stmt, while_stmt, assignment, semicolon, lead_tail, lead_stmt, statement, statements, block, branches, choice, if_rest}
 use Rattle.qvt_parser_grammar.specs.StmtTrees.{var_of, return_of, arm_of, if_stmt_of, while_of, Turn, Tail, empty_turn, closed_turn, simple_turn, no_tail, plain_tail, written, lead_turn, concat, last_of, ended_of, block_of, Branches, Choice, for_each_of, choice_expr, if_made}
 use Rattle.qvt_parser_grammar.specs.Nesting.{nested}
-use Rattle.qvt_readback_tokens.specs.Spelled.{unplaced}
+use Rattle.qvt_parser_grammar.specs.Same.{unplaced}
 use Rattle.qvt_readback_trees.proofs.Lifts.{Lifts, lifts_finished, both, bare_sum, lifts_the, lifts_then, lifts_follow, lifts_made, lifts_either, lifts_placed, lifts_many, lifts_maybe, lifts_series, lifts_empty}
 use Rattle.qvt_readback_trees.proofs.AgainExprs.{bare_stmts, bare_optional, there_same}
 use Rattle.qvt_readback_trees.proofs.AgainSteps.{type_bare, bare_part}

@@ -13,7 +13,7 @@ use Rattle.qvt_parser_grammar.specs.Trees.{first, second, inner, nothing, cons_o
 use Rattle.qvt_parser_grammar.specs.Grammar.{Nested, paths}
 use Rattle.qvt_parser_grammar.specs.Units.{param, params, feature, features, class_unit, main_unit, helper_body, helper_unit, constructor_unit, result_decl, when_clause, clause, init_part, end_part, end_unless, end_after, sections, body, fresh, clauses, mapping_unit, unit, is_strictness, strictness, uri, model_type, model_param, header, transformation}
 use Rattle.qvt_parser_grammar.specs.UnitTrees.{typed_name_of, param_of, class_of, main_of, is_query, return_body, helper_of, constructor_of, result_decl_of, Clauses, no_clauses, Clause, InheritsClause, MergesClause, DisjunctsClause, WhenClause, with_clause, where_there, read_words, or_same, empty_body, body_of, stmts_or_none, sections_of, open_sections_of, mapping_of, some_unit, model_type_of, model_param_of, units_of, module_of, kept, no_end}
-use Rattle.qvt_readback_tokens.specs.Spelled.{unplaced}
+use Rattle.qvt_parser_grammar.specs.Same.{unplaced}
 use Rattle.qvt_readback_trees.proofs.Lifts.{Lifts, both, lifts_token, lifts_the, lifts_then, lifts_follow, lifts_made, lifts_made_as, lifts_either, lifts_placed, lifts_many, lifts_maybe, lifts_empty, lifts_barring}
 use Rattle.qvt_readback_trees.proofs.AgainNames.{bare_named, bare_unit_path}
 use Rattle.qvt_readback_trees.proofs.AgainExprs.{bare_stmts, bare_optional}

@@ -1,0 +1,5 @@
+pub mod Bytes
+pub mod Order
+pub mod Within
+pub mod Written
+pub mod Faults
