@@ -1,6 +1,6 @@
 -- What is answered of a collection, by its kind and its items.
-use Rattle.std.proofs.Common.{◌≡◌, ◌∙◌, Bool, true, false, cond, refl, ap, List, [], ◌∷◌, ◌++◌}
-use Rattle.std.specs.Prelude.{Option, Some, None, reverse}
+use Rattle.std.proofs.Common.{◌≡◌, ◌∙◌, false, cond, ap, List, [], ◌∷◌, ◌++◌}
+use Rattle.std.specs.Prelude.{Some, None, reverse}
 use Rattle.std.specs.List.{list_any}
 use Rattle.qvt_base.specs.declared.numbers.Place.{Place}
 use Rattle.qvt_value.specs.declared.value.Value.{Value, Invalid, items_hidden-the_row-Value-0}
@@ -13,7 +13,7 @@ use Rattle.qvt_ocl_words.specs.declared.op.Op.{Op}
 use Rattle.qvt_ocl_words.specs.declared.op.Op.TheVariants.{AsSet, AsBag, AsSequence, AsOrderedSet, Including, Union, Append, Reverse}
 use Rattle.qvt_ocl_words.specs.Lists.{is_null}
 use Rattle.qvt_ocl_words.specs.Collections.{kept, where', is_in_order, same_kind, of_collection, of_collection_item, of_collections}
-use Rattle.qvt_ocl_words.specs.Operation.{besides_items, on_present, on_collection, with_other, unless_null, is_equality, compared, on_valid, value_or, answered}
+use Rattle.qvt_ocl_words.specs.Operation.{besides_items, on_present, on_collection, with_other, unless_null, on_valid, value_or, answered}
 
 -- the last step: neither invalid nor null operands
 pub unless_null_coll : (op : Op) (at : Place) (k : Kind) (xs vs : List Value) → unless_null op at (Coll k xs) vs ≡ cond (list_any is_null (besides_items op vs)) (Some (Invalid NullSource at)) (on_collection op at k xs vs)

@@ -1,1 +1,4 @@
+pub mod Answered
 pub mod Built
+pub mod Growing
+pub mod Placed

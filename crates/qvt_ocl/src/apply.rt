@@ -1,13 +1,15 @@
 //! `apply`: what an operation gives of its source and its arguments.
 
-ghost use Rattle.std.specs.Prelude.{◌≡◌, Err, IfOk, MatchResult};
+ghost use Rattle.std.specs.Prelude.{◌≡◌, All, Err, IfOk, MatchResult};
 ghost use Rattle.std.specs.Option.{option_map};
 ghost use Rattle.qvt_value.specs.Items.{stands_for};
 ghost use Rattle.qvt_value.specs.Limits.{limited};
 ghost use Rattle.qvt_ocl_words.specs.Operation.{tested, compared, unless_null, on_valid, answered, operation};
+ghost use Rattle.qvt_ocl_made.specs.AsMade.{IsAsMade};
 ghost use Rattle.qvt_ocl.specs.Applied.{IsApplied};
 ghost use Rattle.qvt_ocl.specs.declared.fault.OclFault.TheVariants.{NoMemory};
 
+use crate::as_made::{on_lent, on_list};
 use crate::dispatch::on_present;
 use crate::fault::OclFault;
 use crate::lent::on_items;
@@ -170,4 +172,94 @@ pub fn apply_owned(
         Ok((kind, items)) => told(place, on_owned(alloc, op, place, kind, items, args)),
         Err(other) => apply(alloc, op, place, &other, args),
     }
+}
+
+#[tactic(auto, using(crate::proofs::Answered::list_of, crate::proofs::Answered::list_in), unfolding(qvt_ocl_words::specs::Operation::operation))]
+fn told_of_value(
+    alloc: Global,
+    op: Op,
+    place: Place,
+    source: &Value,
+    args: &[Value],
+) -> Result<Value, OclFault>
+    requires { IsAsMade source.now }
+    ensures { IsApplied (operation op place source.now args.now) result }
+{
+    match source {
+        Value::Coll(kind, items) => told(
+            place,
+            on_lent(alloc, op, place, *kind, items.as_slice(), args),
+        ),
+        _ => apply(alloc, op, place, source, args),
+    }
+}
+
+#[tactic(auto, using(crate::proofs::Answered::list_of, crate::proofs::Answered::list_in), unfolding(qvt_ocl_words::specs::Operation::operation))]
+fn told_of_items(
+    alloc: Global,
+    op: Op,
+    place: Place,
+    source: &Items<'_>,
+    args: &[Value],
+) -> Result<Value, OclFault>
+    requires { IsAsMade (stands_for source.now) }
+    ensures { IsApplied (operation op place (stands_for source.now) args.now) result }
+{
+    match source {
+        Items::Lent(kind, items) => told(place, on_lent(alloc, op, place, *kind, items, args)),
+        Items::Made(value) => told_of_value(alloc, op, place, value, args),
+    }
+}
+
+#[tactic(auto, unfolding(qvt_ocl_words::specs::Operation::operation))]
+fn told_of_owned(
+    alloc: Global,
+    op: Op,
+    place: Place,
+    source: Value,
+    args: &[Value],
+) -> Result<Value, OclFault>
+    requires { IsAsMade source }
+    ensures { IsApplied (operation op place source args.now) result }
+{
+    match source.into_items() {
+        Ok((kind, items)) => told(place, on_list(alloc, op, place, kind, items, args)),
+        Err(other) => apply(alloc, op, place, &other, args),
+    }
+}
+
+/// `apply` where the source is as made, and its items are lent. `including` and `append` put one item where it belongs in a copy of
+/// its list, and sort nothing. Of arguments as made the answer is as made.
+#[tactic(auto, using(crate::proofs::Answered::answer_of))]
+pub fn apply_made_lent(
+    alloc: Global,
+    op: Op,
+    place: Place,
+    source: &Items<'_>,
+    args: &[Value],
+) -> Result<Value, OclFault>
+    requires { IsAsMade (stands_for source.now) }
+    ensures is { IsApplied (operation op place (stands_for source.now) args.now) result }
+    ensures made { All IsAsMade args.now → IfOk result (λ answer. IsAsMade answer) }
+{
+    let answer = told_of_items(alloc, op, place, source, args);
+    answer
+}
+
+/// `apply` where the source is as made, and is handed over. `including` and `append` put one item where it belongs in its list, and
+/// sort nothing. Of arguments as made the answer is as made.
+#[tactic(auto, using(crate::proofs::Answered::answer_of))]
+pub fn apply_made_owned(
+    alloc: Global,
+    op: Op,
+    place: Place,
+    source: Value,
+    args: &[Value],
+) -> Result<Value, OclFault>
+    requires { IsAsMade source }
+    ensures is { IsApplied (operation op place source args.now) result }
+    ensures made { All IsAsMade args.now → IfOk result (λ answer. IsAsMade answer) }
+{
+    let answer = told_of_owned(alloc, op, place, source, args);
+    answer
 }

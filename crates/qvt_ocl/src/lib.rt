@@ -2,9 +2,11 @@
 #![tactic(auto)]
 
 pub mod apply;
+pub mod as_made;
 pub mod collections;
 pub mod dispatch;
 pub mod fault;
+pub mod in_order;
 pub mod kinds;
 pub mod lent;
 pub mod made;

@@ -1,9 +1,13 @@
-//! Calls of `apply`, `apply_lent` and `apply_owned`, and whether they are answered as they should be.
+//! Calls of `apply`, also with the source lent, handed over, and as made, and whether they are answered as they should be.
+
+ghost use Rattle.std.specs.Prelude.{◌≡◌, IfSome};
+ghost use Rattle.qvt_value.specs.Items.{stands_for};
 
 use crate::values::{DEEPEST, place, value_of, values_of};
 use qvt_base::copied::Copied;
-use qvt_ocl::apply::{apply, apply_lent, apply_owned};
+use qvt_ocl::apply::{apply, apply_lent, apply_made_lent, apply_made_owned, apply_owned};
 use qvt_ocl::fault::OclFault;
+use qvt_ocl_made::as_made::is_as_made;
 use qvt_ocl_words::op::Op;
 use qvt_value::items::Items;
 use qvt_value::value::Value;
@@ -108,7 +112,9 @@ fn is_wanted(answer: Result<Value, OclFault>, wanted: &Option<Value>) -> bool {
 }
 
 /// The source with its items lent.
-fn lent(alloc: Global, source: &Value) -> Option<Items<'_>> {
+fn lent(alloc: Global, source: &Value) -> Option<Items<'_>>
+    ensures { IfSome result (λ items. stands_for items ≡ source.now) }
+{
     match source {
         Value::Coll(kind, items) => Some(Items::Lent(*kind, items.as_slice())),
         other => Some(Items::Made(other.copy(alloc).ok()?)),
@@ -124,33 +130,58 @@ fn is_small(value: &Value) -> bool {
     }
 }
 
-/// Whether the call is answered as it should be; where the source is small, also with its items lent, and handed over.
+/// Whether the call is answered so with the items of the source lent, and with the source handed over.
+fn is_answered_so(
+    alloc: Global,
+    op: Op,
+    source: &Value,
+    args: &[Value],
+    wanted: &Option<Value>,
+) -> Option<bool> {
+    let items = lent(alloc, source)?;
+    if !is_wanted(apply_lent(alloc, op, place(1), &items, args), wanted) {
+        return Some(false);
+    }
+    let handed = source.copy(alloc).ok()?;
+    Some(is_wanted(apply_owned(alloc, op, place(1), handed, args), wanted))
+}
+
+/// Whether the same holds of the calls on what is as made. A source that is not has none.
+fn is_answered_as_made(
+    alloc: Global,
+    op: Op,
+    source: &Value,
+    args: &[Value],
+    wanted: &Option<Value>,
+) -> Option<bool> {
+    if !is_as_made(alloc, source).ok()? {
+        return Some(true);
+    }
+    let items = lent(alloc, source)?;
+    if !is_wanted(apply_made_lent(alloc, op, place(1), &items, args), wanted) {
+        return Some(false);
+    }
+    let handed = source.copy(alloc).ok()?;
+    Some(is_wanted(apply_made_owned(alloc, op, place(1), handed, args), wanted))
+}
+
+/// Whether the call is answered as it should be; where the source is small, also lent, handed over, and as made.
 fn is_answered(alloc: Global, case: &Json) -> Option<bool> {
     let op = op_of(alloc, case.get(0)?.as_str()?)?;
     let source = value_of(alloc, case.get(1)?, DEEPEST)?;
     let args = values_of(alloc, case.get(2)?, DEEPEST)?;
+    let args = args.as_slice();
     let wanted = wanted_of(alloc, case.get(3)?)?;
-    if !is_wanted(
-        apply(alloc, op, place(1), &source, args.as_slice()),
-        &wanted,
-    ) {
+    if !is_wanted(apply(alloc, op, place(1), &source, args), &wanted) {
         return Some(false);
     }
     if !is_small(&source) {
         return Some(true);
     }
-    let items = lent(alloc, &source)?;
-    if !is_wanted(
-        apply_lent(alloc, op, place(1), &items, args.as_slice()),
-        &wanted,
-    ) {
+    if !is_answered_so(alloc, op, &source, args, &wanted)? {
         return Some(false);
     }
-    let handed = source.copy(alloc).ok()?;
-    Some(is_wanted(
-        apply_owned(alloc, op, place(1), handed, args.as_slice()),
-        &wanted,
-    ))
+    is_answered_as_made(alloc, op, &source, args, &wanted)
 }
 
 /// What comes of the call that a line holds.

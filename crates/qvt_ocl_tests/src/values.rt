@@ -90,6 +90,19 @@ fn numbers(alloc: Global, json: &Json) -> Option<Value> {
     Some(Value::Coll(kind, items))
 }
 
+fn repeated_item(alloc: Global, json: &Json) -> Option<Value> {
+    let item = text_at(json, "item")?;
+    let times = number_at(json, "times")?;
+    let kind = kind_of(text_at(json, "as").unwrap_or("sequence"))?;
+    let mut items = Seq::new(alloc);
+    for _time in 0..times {
+        items
+            .push(Value::Str(Text::from_str(alloc, item).ok()?))
+            .ok()?;
+    }
+    Some(Value::Coll(kind, items))
+}
+
 fn single(alloc: Global, json: &Json) -> Option<Value> {
     if json.is_null() {
         return Some(Value::Null);
@@ -124,6 +137,7 @@ fn plain(alloc: Global, json: &Json) -> Option<Value> {
         .or_else(|| literal(json))
         .or_else(|| repeated(alloc, json))
         .or_else(|| numbers(alloc, json))
+        .or_else(|| repeated_item(alloc, json))
 }
 
 /// The value that the JSON stands for.

@@ -1,12 +1,12 @@
 -- Where the bytes of one text first stand in another.
-use Rattle.std.proofs.Common.{◌≡◌, ◌≢◌, ℕ, zero, suc, ◌+◌, ◌<◌, ◌≤◌, Bool, true, false, ◌&&◌, cond, List, [], ◌∷◌, ◌++◌, length, take, drop, refl, sym, ap, ◌∙◌, subst, eqb, arith}
-use Rattle.std.specs.Prelude.{Option, Some, None}
+use Rattle.std.proofs.Common.{◌≡◌, ◌≢◌, ℕ, zero, suc, ◌+◌, ◌<◌, ◌≤◌, Bool, true, false, cond, List, [], ◌∷◌, ◌++◌, length, take, drop, refl, sym, ap, ◌∙◌, eqb, arith}
+use Rattle.std.specs.Prelude.{Some, None}
 use Rattle.std.specs.Option.{option_map}
 use Rattle.std.specs.List.{starts_with}
 use Rattle.std.specs.Prelude.{slice_range, ◌==◌, ◌-◌}
 use Rattle.std.specs.Str.{chars, IsCharBoundary}
-use Rattle.std.specs.Str.Pattern.{FindsText, HasTextAt, LacksTextAt}
-use lib.Pointwise.{pointwise, bytes_decides}
+use Rattle.std.specs.Str.Pattern.{FindsText, LacksTextAt}
+use lib.Pointwise.{bytes_decides}
 use Rattle.std.proofs.lemmas.List.{take-append-drop}
 use Rattle.qvt_ocl_words.specs.Strings.{first_at, after_characters, index_in}
 

@@ -1,6 +1,6 @@
 -- The Integer that a text writes.
-use Rattle.std.proofs.Common.{◌≡◌, ◌≢◌, ℕ, zero, suc, ◌+◌, ◌*◌, ◌-◌, ◌^◌, ◌<◌, ◌≤◌, Bool, true, false, ◌==◌, ◌&&◌, cond, ℤ, pos, negsuc, neg_ℤ, List, [], ◌∷◌, length, drop, get_or, refl, sym, ap, ◌∙◌, subst, rules, arith}
-use Rattle.std.specs.Prelude.{Result, Ok, Err, nat_lt, slice_index}
+use Rattle.std.proofs.Common.{◌≡◌, ◌≢◌, ℕ, zero, suc, ◌^◌, ◌<◌, ◌≤◌, Bool, true, false, ◌==◌, ◌&&◌, cond, ℤ, pos, neg_ℤ, List, [], ◌∷◌, length, drop, get_or, refl, sym, ap, ◌∙◌, subst, rules, arith}
+use Rattle.std.specs.Prelude.{Result, Ok, Err, nat_lt}
 use Rattle.std.specs.Int.{w64}
 use Rattle.std.specs.Str.{all_ascii_digits}
 use Rattle.std.specs.Str.Parse.{ParsesSigned}

@@ -1,6 +1,6 @@
 //! Words on texts.
 
-ghost use Rattle.std.specs.Prelude.{◌≡◌, ◌==◌, ◌++◌, pos, IfOk, take, drop, map, slice_index, encode_utf8, eqb};
+ghost use Rattle.std.specs.Prelude.{◌≡◌, ◌==◌, ◌++◌, pos, IfOk, Some, None, if◌then◌else◌, nat_lt, length, take, drop, map, slice_index, encode_utf8, eqb};
 ghost use Rattle.std.specs.List.{starts_with, ends_with};
 ghost use Rattle.std.specs.Str.{chars, encode_utf8_all};
 ghost use Rattle.std.specs.Char.{to_ascii_uppercase, to_ascii_lowercase};
@@ -32,10 +32,10 @@ pub fn after_chars(text: &str, n: usize) -> &str
     rest
 }
 
-/// The first `n` characters of the text, or all of fewer.
-#[tactic(auto, using(crate::proofs::Chars::front_more, crate::proofs::Chars::front_none, crate::proofs::Chars::front_all))]
-pub fn first_chars(alloc: Global, text: &str, n: usize) -> Result<Text, ListFault>
-    ensures { IfOk result (λ front. front ≡ encode_utf8_all (take n (chars text.now))) }
+/// The first `n` characters of the text, or none of fewer.
+#[tactic(auto, using(crate::proofs::Chars::front_more, crate::proofs::Chars::front_short, crate::proofs::Chars::front_full, crate::proofs::Chars::fewer_left))]
+fn first_chars(alloc: Global, text: &str, n: usize) -> Result<Option<Text>, ListFault>
+    ensures { IfOk result (λ front. front ≡ (if nat_lt (length (chars text.now)) n then None else Some (encode_utf8_all (take n (chars text.now))))) }
 {
     let mut front = Text::new(alloc);
     let mut rest = text;
@@ -46,11 +46,11 @@ pub fn first_chars(alloc: Global, text: &str, n: usize) -> Result<Text, ListFaul
                 front.push(c)?;
                 rest = more;
             }
-            None => return Ok(front),
+            None => return Ok(None),
         }
         left -= 1;
     }
-    Ok(front)
+    Ok(Some(front))
 }
 
 /// Whether 1 <= l <= u <= n.
@@ -67,7 +67,7 @@ pub fn natural(i: i64) -> usize
     if i < 0 { 0 } else { i as usize }
 }
 
-/// The characters from the l-th to the u-th.
+/// The characters from the l-th to the u-th. No character is looked at behind them.
 pub fn substring(
     alloc: Global,
     place: Place,
@@ -77,11 +77,14 @@ pub fn substring(
 ) -> Result<Value, ListFault>
     ensures { IfOk result (λ answer. answer ≡ substring place text.now l u) }
 {
-    if !is_span(l, u, count_chars(text)) {
+    if l < 1 || u < l {
         return Ok(Value::Invalid(Reason::BadIndex, place));
     }
     let before = natural(l) - 1;
-    Ok(Value::Str(first_chars(alloc, after_chars(text, before), natural(u) - before)?))
+    match first_chars(alloc, after_chars(text, before), natural(u) - before)? {
+        Some(part) => Ok(Value::Str(part)),
+        None => Ok(Value::Invalid(Reason::BadIndex, place)),
+    }
 }
 
 /// The text with its ASCII letters in upper case.

@@ -1,9 +1,9 @@
-use Rattle.std.proofs.Common.{◌≡◌, ◌∙◌, sym, ap, rules}
+use Rattle.std.proofs.Common.{◌∙◌, sym, ap, rules}
 use Rattle.std.specs.Prelude.{FitsSigned}
 use Rattle.std.specs.Int.{w64}
 use Rattle.std.proofs.lemmas.Int.{to_z-of_z}
 use Rattle.qvt_value.specs.declared.value.Value.{Int}
-use Rattle.qvt_ocl_texts.proofs.Numerals.{read_as, parsed, plus}
+use Rattle.qvt_ocl_texts.proofs.Numerals.{read_as, parsed}
 use Rattle.qvt_ocl_texts.proofs.texts.integer_in.Goals as goal
 
 pub returns-in-Ok : goal.returns-in-Ok
