@@ -8,3 +8,6 @@ pub mod Sources
 pub mod Expressions
 pub mod Iterators
 pub mod Statements
+pub mod Calls
+pub mod Trace
+pub mod Mappings

@@ -7,7 +7,7 @@ use Rattle.qvt_base.specs.declared.numbers.Place.{Place}
 use Rattle.qvt_metamodel.specs.Metamodels.{Metamodels, has_feature}
 use Rattle.qvt_types_data.specs.Term.{kind_of}
 use Rattle.qvt_value.specs.declared.value.Value.{Value, Null, Bool as Truth, Obj, Invalid}
-use Rattle.qvt_value.specs.declared.value.Reason.TheVariants.{NullSource, NullValue}
+use Rattle.qvt_value.specs.declared.value.Reason.TheVariants.{NullValue}
 use Rattle.qvt_value.specs.Limits.{built}
 use Rattle.qvt_slots.specs.Contents.{Contents, is_slot}
 use Rattle.qvt_types_data.specs.declared.ty.Ty.{Ty}
@@ -15,7 +15,7 @@ use Rattle.qvt_types_words.specs.Types.{Collection, collection_of}
 use Rattle.qvt_types_words.specs.Rulings.{items_conform}
 use Rattle.qvt_run_data.specs.declared.fault.RunFault.TheVariants as fault
 use Rattle.qvt_run_rules.specs.State.{Local, Inner, State, Does, Fault, OutOfFuel, Returned, ◌>>=◌, ◌>>◌, pure, exits, stop, misfit, found, look, ask}
-use Rattle.qvt_run_rules.specs.Typed.{has_type, valid, taken}
+use Rattle.qvt_run_rules.specs.Typed.{has_type, valid, object_of, taken}
 use Rattle.qvt_run_rules.specs.Locals.{local, result_name, local_named, value_in, read_local, push, set, scoped, with_locals, inside, unnamed}
 use Rattle.qvt_run_rules.specs.Sources.{items_of}
 use Rattle.qvt_run_rules.specs.Store.{put, new_object}
@@ -68,22 +68,15 @@ module _ {E : Type 0} where
   abbrev pub holds : Does E Value → Place → Does E Bool
   holds test at = test >>= truth at
 
-  -- the object that an assignment changes, with its sign at this place
-  abbrev pub target : Place → Value → Does E Oid
-  target at (Obj o) = pure o
-  target at Null = stop (Fault (fault.InvalidValue NullSource) at)
-  target at (Invalid r p) = stop (Fault (fault.InvalidValue r) p)
-  target at v = misfit at
-
-  -- and that has the property
+  -- the object that an assignment changes, with its sign at this place, has the property
   abbrev pub with_slot : ℕ → Place → Oid → Does E Oid
   with_slot f at o = look (λ s. if is_slot s.store o.0 f then Some o else None) at
 
   unfoldable pub member_target : Does E Value → ℕ → Place → Does E Oid
-  member_target object f at = object >>= target at >>= with_slot f at
+  member_target object f at = object >>= object_of at >>= with_slot f at
 
   unfoldable pub bare_target : ℕ → Place → Does E Oid
-  bare_target f at = ask (bare_object f) >>= target at >>= with_slot f at
+  bare_target f at = ask (bare_object f) >>= object_of at >>= with_slot f at
 
   -- Assignments.
 

@@ -1,10 +1,11 @@
 -- Values of the types of a program, over a store (OCL 2.4, 8.2): every object in them is there.
 use Rattle.std.specs.Prelude.{ℕ, Bool, true, false, ◌||◌, ◌&&◌, List, if◌then◌else◌, Option, Some, None, Ok}
 use Rattle.std.specs.List.{list_all}
+use Rattle.qvt_base.specs.declared.numbers.Oid.{Oid}
 use Rattle.qvt_base.specs.declared.numbers.Place.{Place}
-use Rattle.qvt_value.specs.declared.value.Value.{Value, Invalid, Coll', items-the_row-Value}
+use Rattle.qvt_value.specs.declared.value.Value.{Value, Null, Obj, Invalid, Coll', items-the_row-Value}
 use Rattle.qvt_value.specs.declared.value.Kind.{Kind}
-use Rattle.qvt_value.specs.declared.value.Reason.TheVariants.{NullValue, NullSource}
+use Rattle.qvt_value.specs.declared.value.Reason.TheVariants.{NullSource}
 use Rattle.qvt_ocl_words.specs.Collections.{same_kind}
 use Rattle.qvt_ocl_words.specs.Lists.{is_null}
 use Rattle.qvt_slots.specs.Contents.{Contents}
@@ -12,7 +13,7 @@ use Rattle.qvt_slots.specs.Types.{is_bool, is_int, is_text, is_literal, is_insta
 use Rattle.qvt_types_data.specs.Term.{TyTerm, Void, Boolean, Integer, Text, Literals, Class, Collection, ty_view}
 use Rattle.qvt_types_data.specs.declared.ty.Ty.{Ty}
 use Rattle.qvt_run_data.specs.declared.fault.RunFault.TheVariants as fault
-use Rattle.qvt_run_rules.specs.State.{Does, ◌>>=◌, pure, stop, misfit, look, Fault, Ends}
+use Rattle.qvt_run_rules.specs.State.{Does, ◌>>=◌, pure, stop, misfit, look, Fault}
 
 -- a collection of the kind, of items that pass
 abbrev pub is_collection_of : Kind → (Value → Bool) → Value → Bool
@@ -51,6 +52,13 @@ module _ {E : Type 0} where
 
   abbrev pub present : Place → Value → Does E Value
   present at v = present_at (is_null v) at v
+
+  -- an object that there has to be
+  abbrev pub object_of : Place → Value → Does E Oid
+  object_of at (Obj o) = pure o
+  object_of at Null = stop (Fault (fault.InvalidValue NullSource) at)
+  object_of at (Invalid r p) = stop (Fault (fault.InvalidValue r) p)
+  object_of at v = misfit at
 
   -- a value of the type that is asked, if one is
   abbrev pub asked : Option Ty → Place → Value → Does E Value
