@@ -11,3 +11,4 @@ pub mod Statements
 pub mod Calls
 pub mod Trace
 pub mod Mappings
+pub mod Resolve
