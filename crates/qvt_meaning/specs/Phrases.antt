@@ -17,7 +17,7 @@ use Rattle.qvt_meaning.specs.Nodes.{path_mark, map_mark, resolve_mark, place_of,
 use Rattle.qvt_meaning.specs.Program.{form_of}
 use Rattle.qvt_meaning.specs.StepTypes.{step_type, kind_before}
 use Rattle.qvt_meaning.specs.Readings as by
-use Rattle.qvt_meaning.specs.Readings.{Setting, HeadDoes}
+use Rattle.qvt_meaning.specs.Readings.{Setting, HeadDoes, TargetDoes, BareTarget, ResultTarget, MemberTarget}
 
 -- the type of a declared variable: the one that is written, else that of its value
 abbrev pub variable_type : Option TypedTypeTerm → TypedOptionalExpr → Option Ty
@@ -123,27 +123,17 @@ module _ {E : Type 0} (x : Setting E) (calls : Calls E) (answer : Option Ty) whe
 
     pub stmt : TypedStmtTerm → Does E (Unit {0})
     stmt (TypedVarStmt name t v at n) = statement.statement x.spend (statement.declare name (variable_type t v) (optional v) (optional_place at v))
-    stmt (TypedAssignStmt t adds v at n) = statement.statement x.spend (assign (late_of v) t adds v at)
+    stmt (TypedAssignStmt t adds v at n) = statement.statement x.spend (by.assigned x (late_of v) (target t) adds (type_of v) (expr v) (late_source v) at)
     stmt (TypedReturnStmt v at n) = statement.statement x.spend (return_ v)
     stmt (TypedValueStmt e at n) = statement.statement x.spend (statement.discard (expr e))
     stmt (TypedIfStmt c ss more other at n) = statement.statement x.spend (statement.branch (expr c) (place_of c) (statement.block (stmts ss)) (arms more (otherwise other)))
     stmt (TypedWhileStmt c ss at n) = statement.statement x.spend (statement.loop x.turns (expr c) (place_of c) (statement.block (stmts ss)))
     stmt (TypedForEachStmt e name t c ss at n) = statement.statement x.spend (statement.for_each (expr e) name (each_type t e) (guarded c (statement.block (stmts ss))))
 
-    -- a late resolve makes an entry, any other value is assigned
-    pub assign : Option TypedResolveTerm → TypedTargetTerm → Bool → TypedExprTerm → Place → Does E (Unit {0})
-    assign None t adds v at = assign_value t adds (type_of v) (expr v) at
-    assign (Some r) t adds v at = assign_late t adds (late_source v) r at
-
-    pub assign_value : TypedTargetTerm → Bool → Option Ty → Does E Value → Place → Does E (Unit {0})
-    assign_value (TypedBareTarget name place n) adds t p at = by.bare_assign x n.reading adds t p at
-    assign_value (TypedResultTarget place n) adds t p at = by.assign_variable x result_name adds t p at
-    assign_value (TypedMemberTarget e name place n) adds t p at = by.member_assign x n.reading (expr e) adds p at
-
-    pub assign_late : TypedTargetTerm → Bool → Does E (Option Value) → TypedResolveTerm → Place → Does E (Unit {0})
-    assign_late (TypedBareTarget name place n) adds p r at = by.bare_late x n.reading adds p (form_of x.program r) at (resolve_mark r).place
-    assign_late (TypedResultTarget place n) adds p r at = misfit at
-    assign_late (TypedMemberTarget e name place n) adds p r at = by.member_late x n.reading (expr e) adds p (form_of x.program r) at (resolve_mark r).place
+    pub target : TypedTargetTerm → TargetDoes E
+    target (TypedBareTarget name at n) = BareTarget n.reading
+    target (TypedResultTarget at n) = ResultTarget
+    target (TypedMemberTarget e name at n) = MemberTarget n.reading (expr e)
 
     -- what stands before the late resolve that ends the expression
     pub late_source : TypedExprTerm → Does E (Option Value)

@@ -10,6 +10,7 @@ use Rattle.qvt_typing.specs.Accepts.{ProgramTerm}
 use Rattle.qvt_value.specs.declared.value.Value.{Value, Null, Obj}
 use Rattle.qvt_value.specs.declared.value.Var.{Var}
 use Rattle.qvt_run_data.specs.declared.fault.RunFault.TheVariants as fault
+use Rattle.qvt_run_data.specs.declared.late.LateWrite.{LateWrite}
 use Rattle.qvt_run_data.specs.declared.record.Record.{Record}
 use Rattle.qvt_run_data.specs.declared.request.Request.{Request}
 use Rattle.qvt_run_rules.specs.State.{Local, State, End, Fault, Exit, Returned, Ends, Done, Does, misfit}
@@ -48,8 +49,14 @@ evaluated d = record { outcome = ended d.0; cost = d.1.cost }
 abbrev pub no_calls : Calls (Unit {0})
 no_calls c vs at = misfit at
 
+abbrev pub no_resolve : Place → Query → Does (Unit {0}) Value
+no_resolve at q = misfit at
+
+abbrev pub no_entry : LateWrite → Does (Unit {0}) (Unit {0})
+no_entry w = misfit w.place
+
 abbrev pub plain_setting : ProgramTerm → Setting (Unit {0})
-plain_setting p = record { program = p; spend = count; turns = 0; resolve = λ at q. misfit at; enter = λ w. misfit w.place }
+plain_setting p = record { program = p; spend = count; turns = 0; resolve = no_resolve; enter = no_entry }
 
 -- the value of a plain expression over a store and variables, and its cost
 unfoldable pub plain : ProgramTerm → Contents → List Local → TypedExprTerm → Evaluated

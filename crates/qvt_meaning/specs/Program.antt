@@ -21,7 +21,7 @@ use Rattle.qvt_types_units.specs.Choice as units
 use Rattle.qvt_types_units.specs.Numbers.{unit_at, has_context}
 use Rattle.qvt_typing.specs.Accepts.{ProgramTerm}
 use Rattle.qvt_slots.specs.Contents.{Contents, class_of, is_live}
-use Rattle.qvt_run_rules.specs.Calls.{Callee, Helper, Mapping as mapping_call, Called}
+use Rattle.qvt_run_rules.specs.Calls.{Callee, HelperCall, MappingCall, Called}
 use Rattle.qvt_run_rules.specs.Resolve.{Form}
 use Rattle.qvt_meaning.specs.Nodes.{mark_of, class_in, written_type, mappings_in, mappings_named}
 
@@ -74,8 +74,8 @@ units_in p r = []
 
 -- the call of a unit on its context; of a mapping by a `map`, or by an `xmap` where this is true
 abbrev pub callee_by : UnitSort → Bool → ℕ → Option Oid → Callee
-callee_by (sort.Mapping k) strict n o = mapping_call k.0 (Called strict) o
-callee_by s strict n o = Helper n o
+callee_by (sort.Mapping k) strict n o = MappingCall k.0 (Called strict) o
+callee_by s strict n o = HelperCall n o
 
 abbrev pub callee : ProgramTerm → Bool → Option Oid → ℕ → Callee
 callee p strict o n = callee_by (signature_of p n).sort strict n o

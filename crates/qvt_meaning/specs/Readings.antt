@@ -15,7 +15,7 @@ use Rattle.qvt_types_data.specs.declared.ty.Ty.TheVariants as ty
 use Rattle.qvt_types_nodes.specs.declared.types.TypedObjectVar.{TypedObjectVar}
 use Rattle.qvt_types_nodes.specs.declared.types.TypedObjectVar.TheVariants as variable
 use Rattle.qvt_types_nodes.specs.declared.types.TypedSign.{TypedSign}
-use Rattle.qvt_types_nodes.specs.Tree.{TypedExprTerms, TypedStepTerms, TypedNoSteps, TypedMoreSteps, TypedDotStep, TypedSomeArgs}
+use Rattle.qvt_types_nodes.specs.Tree.{TypedExprTerms, TypedResolveTerm, TypedStepTerms, TypedNoSteps, TypedMoreSteps, TypedDotStep, TypedSomeArgs}
 use Rattle.qvt_types_steps.specs.Classes.{class_test_named, is_selection, model_call_named}
 use Rattle.qvt_types_steps.specs.declared.classes.ClassTest.{ClassTest}
 use Rattle.qvt_types_steps.specs.declared.classes.ClassTest.TheVariants as class_test
@@ -42,8 +42,8 @@ use Rattle.qvt_run_rules.specs.Calls as call
 use Rattle.qvt_run_rules.specs.Calls.{Callee, Calls}
 use Rattle.qvt_run_rules.specs.Resolve as resolving
 use Rattle.qvt_run_rules.specs.Resolve.{Query, Form}
-use Rattle.qvt_meaning.specs.Nodes.{class_argument}
-use Rattle.qvt_meaning.specs.Program.{chosen_for, free_callee}
+use Rattle.qvt_meaning.specs.Nodes.{resolve_mark, class_argument}
+use Rattle.qvt_meaning.specs.Program.{chosen_for, free_callee, form_of}
 
 -- What the rules of a run stand on: the program; what a charge of so many units does; how many turns a loop may have at most; what a
 -- resolve answers that is not late, at its place; and what a late assignment does with what it keeps.
@@ -53,6 +53,12 @@ pub record Setting (E : Type 0) : Type 0 where
   pub turns : ℕ
   pub resolve : Place → Query → Does E Value
   pub enter : LateWrite → Does E (Unit {0})
+
+-- a target: a bare name by its reading, `result`, or a property of an object that an expression gives
+pub data TargetDoes (E : Type 0) : Type 0 where
+  BareTarget : Reading → TargetDoes E
+  ResultTarget : TargetDoes E
+  MemberTarget : Reading → Does E Value → TargetDoes E
 
 -- the name of an iterator, and the accumulator with what its first value does
 pub record HeadDoes (E : Type 0) : Type 0 where
@@ -252,6 +258,11 @@ module _ {E : Type 0} (x : Setting E) where
   member_assign (reading.Feature f) object adds p at = statement.assign_property (statement.member_target object f.0 at) f.0 adds p at
   member_assign r object adds p at = misfit at
 
+  abbrev pub assign_value : TargetDoes E → Bool → Option Ty → Does E Value → Place → Does E (Unit {0})
+  assign_value (BareTarget r) adds t p at = bare_assign r adds t p at
+  assign_value ResultTarget adds t p at = assign_variable result_name adds t p at
+  assign_value (MemberTarget r object) adds t p at = member_assign r object adds p at
+
   abbrev pub late_with : Option Form → Does E Oid → ℕ → Bool → Does E (Option Value) → Place → Place → Does E (Unit {0})
   late_with (Some form) object f adds source sign at = resolving.late x.spend x.enter object f adds source form sign at
   late_with None object f adds source sign at = misfit at
@@ -263,3 +274,13 @@ module _ {E : Type 0} (x : Setting E) where
   abbrev pub member_late : Reading → Does E Value → Bool → Does E (Option Value) → Option Form → Place → Place → Does E (Unit {0})
   member_late (reading.Feature f) object adds source form sign at = late_with form (statement.member_target object f.0 sign) f.0 adds source sign at
   member_late r object adds source form sign at = misfit sign
+
+  abbrev pub assign_late : TargetDoes E → Bool → Does E (Option Value) → Option Form → Place → Place → Does E (Unit {0})
+  assign_late (BareTarget r) adds source form sign at = bare_late r adds source form sign at
+  assign_late ResultTarget adds source form sign at = misfit sign
+  assign_late (MemberTarget r object) adds source form sign at = member_late r object adds source form sign at
+
+  -- a late resolve makes an entry, any other value is assigned
+  abbrev pub assigned : Option TypedResolveTerm → TargetDoes E → Bool → Option Ty → Does E Value → Does E (Option Value) → Place → Does E (Unit {0})
+  assigned None target adds t p source at = assign_value target adds t p at
+  assigned (Some r) target adds t p source at = assign_late target adds source (form_of x.program r) at (resolve_mark r).place

@@ -14,7 +14,7 @@ use Rattle.qvt_value.specs.declared.value.Value.{Value}
 use Rattle.qvt_run_data.specs.declared.fault.RunFault.TheVariants as fault
 use Rattle.qvt_run_rules.specs.State.{Does, Fault, ◌>>=◌, pure, stop, misfit, found}
 use Rattle.qvt_run_rules.specs.Statements as statement
-use Rattle.qvt_run_rules.specs.Calls.{Callee, Helper, Constructor, Mapping as mapping_call, Calls, Param, Routine, helper, constructor_}
+use Rattle.qvt_run_rules.specs.Calls.{Callee, HelperCall, ConstructorCall, MappingCall, Calls, Param, Routine, helper, constructor_}
 use Rattle.qvt_run_rules.specs.Mappings.{MappingRule, mapping}
 use Rattle.qvt_meaning.specs.Nodes.{place_of, mappings_named}
 use Rattle.qvt_meaning.specs.Program.{unit_term, signature_of, known_class, mapping_unit, numbers}
@@ -99,9 +99,9 @@ module _ {E : Type 0} (x : Setting E) (calls : Calls E) where
   -- Calls.
 
   abbrev pub called : Calls E
-  called (Helper n o) vs at = found (routine_at n) at >>= (λ h. helper h o vs at)
-  called (Constructor n c e) vs at = found (routine_at n) at >>= (λ h. constructor_ h c e vs at)
-  called (mapping_call k way o) vs at = found (mapping_at k) at >>= (λ m. mapping mapping_at calls m way o vs at)
+  called (HelperCall n o) vs at = found (routine_at n) at >>= (λ h. helper h o vs at)
+  called (ConstructorCall n c e) vs at = found (routine_at n) at >>= (λ h. constructor_ h c e vs at)
+  called (MappingCall k way o) vs at = found (mapping_at k) at >>= (λ m. mapping mapping_at calls m way o vs at)
 
 -- the calls, of which so many may be open inside one another
 unfoldable pub calls_to : {E : Type 0} → Setting E → ℕ → Calls E

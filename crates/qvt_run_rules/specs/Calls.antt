@@ -24,9 +24,9 @@ pub data Way : Type 0 where
 -- what is called: a helper or query, by the number of its unit, on its context; a constructor, with the class and the extent of the new
 -- object; a mapping, by its number, on its context
 pub data Callee : Type 0 where
-  Helper : ℕ → Option Oid → Callee
-  Constructor : ℕ → ℕ → ℕ → Callee
-  Mapping : ℕ → Way → Option Oid → Callee
+  HelperCall : ℕ → Option Oid → Callee
+  ConstructorCall : ℕ → ℕ → ℕ → Callee
+  MappingCall : ℕ → Way → Option Oid → Callee
 
 -- what a call does with its arguments, at its place
 abbrev pub Calls : Type 0 → Type 0
@@ -135,7 +135,7 @@ module _ {E : Type 0} (spend : ℕ → Does E (Unit {0})) (calls : Calls E) wher
 
   -- `new`: a constructor, or the object alone
   unfoldable pub new_by : ℕ → ℕ → ℕ → List (Does E Value) → Place → Does E Value
-  new_by n c e ps at = spend 1 >> (arguments ps >>= (λ vs. calls (Constructor n c e) vs at))
+  new_by n c e ps at = spend 1 >> (arguments ps >>= (λ vs. calls (ConstructorCall n c e) vs at))
 
   unfoldable pub new_alone : ℕ → ℕ → Place → Does E Value
   new_alone c e at = spend 1 >> (new_object c e at >>= (λ o. pure (Obj o)))

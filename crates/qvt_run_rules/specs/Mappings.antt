@@ -14,7 +14,7 @@ use Rattle.qvt_run_rules.specs.State.{Local, Key, State, Fault, Done, Does, ◌>
 use Rattle.qvt_run_rules.specs.Locals.{result_name, local, read, set, in_frame, in_own}
 use Rattle.qvt_run_rules.specs.Store.{new_object}
 use Rattle.qvt_run_rules.specs.Trace.{result_for, has_key, record_of}
-use Rattle.qvt_run_rules.specs.Calls.{Way, Called, Chosen, Reused, Mapping as mapping_call, Calls, Param, frame}
+use Rattle.qvt_run_rules.specs.Calls.{Way, Called, Chosen, Reused, MappingCall, Calls, Param, frame}
 
 -- a mapping: its context class, if it has one; its parameters; its result class, if it has one, and the extent in which the result is
 -- made; what its `when` and its sections do; the mappings that it inherits, merges and disjuncts to; the place of its name
@@ -164,12 +164,12 @@ module _ {E : Type 0} (mappings : ℕ → Option (MappingRule E)) (calls : Calls
   abbrev pub dispatch : List ℕ → Option Oid → List Value → Place → Does E Value
   dispatch [] o vs at = pure Null
   dispatch (n ∷ ns) o vs at = found (mappings n) at >>= (λ m. fits m o vs at
-      >>= (λ b. if b then calls (mapping_call n Chosen o) vs at else dispatch ns o vs at))
+      >>= (λ b. if b then calls (MappingCall n Chosen o) vs at else dispatch ns o vs at))
 
   -- Reuse: the shared result is that of the mapping that reuses.
   abbrev pub reuse : List ℕ → Option Oid → Option Oid → List Value → Place → Does E (Unit {0})
   reuse [] shared o vs at = pure tt
-  reuse (n ∷ ns) shared o vs at = calls (mapping_call n (Reused shared) o) vs at >> reuse ns shared o vs at
+  reuse (n ∷ ns) shared o vs at = calls (MappingCall n (Reused shared) o) vs at >> reuse ns shared o vs at
 
   -- inherited mappings, population and end, merged mappings
   unfoldable pub body : MappingRule E → Option Oid → List Local → Option Oid → List Value → Place → Does E (Unit {0})

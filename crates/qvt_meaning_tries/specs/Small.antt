@@ -1,0 +1,121 @@
+-- Small programs over a metamodel with one class C and its attribute a, as typing leaves them: what typing notes is written out by hand.
+use Rattle.std.specs.Prelude.{ℕ, ℤ, pos, Bool, true, false, List, [], ◌∷◌, Option, Some, None, codes}
+use Rattle.qvt_base.specs.declared.numbers.Place.{Place}
+use Rattle.qvt_metamodel.specs.Metamodels.{Metamodels}
+use Rattle.qvt_metamodel.specs.declared.info.TypeKind.TheVariants as kind
+use Rattle.qvt_metamodel.specs.declared.info.ClassInfo.{ClassInfo}
+use Rattle.qvt_metamodel.specs.declared.info.FeatureInfo.{FeatureInfo}
+use Rattle.qvt_slots.specs.Contents.{Contents, Instance}
+use Rattle.qvt_tree_types.specs.declared.words.BinaryOp.{BinaryOp}
+use Rattle.qvt_tree_types.specs.declared.words.BinaryOp.TheVariants as op
+use Rattle.qvt_tree_types.specs.declared.words.Level.TheVariants as level
+use Rattle.qvt_types_data.specs.declared.note.Note.{Note}
+use Rattle.qvt_types_data.specs.declared.note.Reading.{Reading}
+use Rattle.qvt_types_data.specs.declared.note.Reading.TheVariants as reading
+use Rattle.qvt_types_data.specs.declared.ty.Ty.{Ty}
+use Rattle.qvt_types_data.specs.declared.ty.Ty.TheVariants as ty
+use Rattle.qvt_types_nodes.specs.declared.types.TypedPathTree.{TypedPathTree}
+use Rattle.qvt_types_nodes.specs.Module.{TypedUnitTerm, TypedMainOf}
+use Rattle.qvt_types_nodes.specs.Tree.{TypedExprTerm, TypedIntExpr, TypedBoolExpr, TypedPathExpr, TypedIfExpr, TypedObjectExpr, TypedChainExpr, TypedPostExpr, TypedExprTerms, TypedNoExprs, TypedMoreExprs, TypedSomeExpr, TypedSomeArgs, TypedLinkOf, TypedNoLinks, TypedMoreLinks, TypedDotStep, TypedNoSteps, TypedMoreSteps, TypedBareTarget, TypedStmtTerm, TypedVarStmt, TypedAssignStmt, TypedValueStmt, TypedWhileStmt, TypedStmtTerms, TypedNoStmts, TypedMoreStmts}
+use Rattle.qvt_types_units.specs.Numbers.{no_unit}
+use Rattle.qvt_typing.specs.Accepts.{ProgramTerm}
+use Rattle.qvt_value.specs.declared.value.Value.{Value, Int}
+
+abbrev pub at : ℕ → Place
+at c = record { line = 3; column = c; offset = c }
+
+abbrev pub noted : Reading → Option Ty → Note
+noted r t = record { reading = r; source = None; wrap = false; collect = false; number = None; answer = t }
+
+abbrev pub bare : Note
+bare = noted reading.Nothing None
+
+abbrev pub path : Reading → Option Ty → ℕ → TypedPathTree
+path r t c = record { names = []; place = at c; note = noted r t }
+
+-- The metamodel, and the class above all classes.
+
+abbrev pub class_c : ClassInfo
+class_c = record { metamodel = 0; name = codes "C"; is_abstract = false; supers = []; own = record { 0 = 0 } ∷ [] }
+
+abbrev pub element : ClassInfo
+element = record { metamodel = 1; name = codes "Element"; is_abstract = true; supers = []; own = [] }
+
+abbrev pub feature_a : FeatureInfo
+feature_a = record { owner = record { 0 = 0 }; name = codes "a"; shape = record { kind = kind.Int; lower = 0; upper = Some 1; ordered = false; unique = true; containment = false }; opposite = None }
+
+abbrev pub metas : Metamodels
+metas = record {
+  metamodels = record { name = codes "M"; uri = None; enums = [] } ∷ record { name = []; uri = None; enums = [] } ∷ [];
+  classes = class_c ∷ element ∷ [];
+  features = feature_a ∷ [];
+  element = Some (record { 0 = 1 });
+}
+
+-- The store: a model t, and the intermediate instances.
+
+abbrev pub store : List Instance → Contents
+store os = record {
+  metas = metas;
+  extents = record { name = codes "t"; metamodel = 0; writable = true } ∷ record { name = []; metamodel = 1; writable = true } ∷ [];
+  objects = os;
+}
+
+abbrev pub object_with : ℤ → Instance
+object_with z = record { class = 0; extent = 0; slots = (Int z ∷ []) ∷ [] }
+
+-- A program with this `main`.
+
+abbrev pub program : TypedStmtTerms → ProgramTerm
+program ss = record {
+  module_ = record { model_types = []; name = []; params = []; units = TypedMainOf ss (at 1) bare ∷ []; end = at 0 };
+  heads = record {
+    given = metas;
+    metas = metas;
+    types = record { model_types = []; metamodels = []; used = []; classes = []; element = 1 };
+    models = record { names = codes "t" ∷ []; rows = record { written = true; metamodel = Some 0 } ∷ []; firsts = Some 0 ∷ [] };
+    units = no_unit ∷ [];
+    first = 1;
+    flags = [];
+  };
+}
+
+abbrev pub int : ℤ → ℕ → TypedExprTerm
+int z c = TypedIntExpr z (at c) (noted reading.Nothing (Some ty.Integer))
+
+abbrev pub truth : Bool → ℕ → TypedExprTerm
+truth b c = TypedBoolExpr b (at c) (noted reading.Nothing (Some ty.Boolean))
+
+abbrev pub name_i : ℕ → TypedExprTerm
+name_i c = TypedPathExpr (path (reading.Variable (codes "i")) (Some ty.Integer) c)
+
+abbrev pub chain : TypedExprTerm → BinaryOp → ℕ → TypedExprTerm → Ty → TypedExprTerm
+chain a o c b t = TypedChainExpr level.Sum a (TypedMoreLinks (TypedLinkOf o b (at c) bare) TypedNoLinks) (at c) (noted reading.Nothing (Some t))
+
+-- `a.div(b)`, its step at c
+abbrev pub divided : TypedExprTerm → ℕ → TypedExprTerm → TypedExprTerm
+divided a c b = TypedPostExpr a (TypedMoreSteps (TypedDotStep (codes "div") (TypedSomeArgs (TypedMoreExprs b TypedNoExprs)) (at c) (noted (reading.Operation (codes "div")) None)) TypedNoSteps) (at c) (noted reading.Nothing (Some ty.Integer))
+
+abbrev pub conditional : TypedExprTerm → TypedExprTerm → TypedExprTerm → TypedExprTerm
+conditional c y z = TypedIfExpr c y z (at 25) (noted reading.Nothing (Some ty.Integer))
+
+-- `object C { a := v; };`
+abbrev pub object_of : TypedExprTerm → TypedStmtTerm
+object_of v = TypedValueStmt (TypedObjectExpr None (path reading.Nothing None 17) None
+    (TypedMoreStmts (TypedAssignStmt (TypedBareTarget (codes "a") (at 21) (noted (reading.Feature (record { 0 = 0 })) None)) false v (at 23) bare) TypedNoStmts)
+    (at 10) (noted (reading.Make (record { 0 = 0 }) 0) (Some (ty.Class (record { 0 = 0 }))))) (at 10) bare
+
+abbrev pub only : TypedStmtTerm → TypedStmtTerms
+only s = TypedMoreStmts s TypedNoStmts
+
+-- `object C { a := v; };` alone
+abbrev pub one_object : TypedExprTerm → ProgramTerm
+one_object v = program (only (object_of v))
+
+-- `var i := 0; while (i < 3) { object C { a := i; }; i := i + 1; }`
+abbrev pub three_objects : ProgramTerm
+three_objects = program (TypedMoreStmts (TypedVarStmt (codes "i") None (TypedSomeExpr (int (pos 0) 19)) (at 10) bare)
+    (only (TypedWhileStmt (chain (name_i 30) op.Less 32 (int (pos 3) 34) ty.Boolean)
+      (TypedMoreStmts (object_of (name_i 51))
+      (only (TypedAssignStmt (TypedBareTarget (codes "i") (at 57) (noted (reading.Variable (codes "i")) None)) false (chain (name_i 62) op.Plus 64 (int (pos 1) 66) ty.Integer) (at 59) bare)))
+      (at 22) bare)))

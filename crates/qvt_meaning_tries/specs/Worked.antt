@@ -1,0 +1,44 @@
+-- What some small programs come to, by the definitions: objects, costs, faults with their places, the end of the fuel.
+use Rattle.std.specs.Prelude.{◌≡◌, ℕ, ℤ, pos, false, List, [], ◌∷◌, Result, Ok, Err}
+use Rattle.qvt_tree_types.specs.declared.words.BinaryOp.TheVariants as op
+use Rattle.qvt_slots.specs.Contents.{Instance}
+use Rattle.qvt_types_data.specs.declared.ty.Ty.TheVariants as ty
+use Rattle.qvt_value.specs.declared.value.Reason.TheVariants as reason
+use Rattle.qvt_run_data.specs.declared.fault.RunFault.TheVariants as fault
+use Rattle.qvt_run_rules.specs.State.{End, Fault, OutOfFuel}
+use Rattle.qvt_typing.specs.Accepts.{ProgramTerm}
+use Rattle.qvt_meaning.specs.Run.{Finished, finished}
+use Rattle.qvt_meaning_tries.specs.Small.{at, store, object_with, int, truth, chain, divided, conditional, one_object, three_objects}
+
+-- a run that leaves these objects, no record and no entry
+abbrev pub leaves : List Instance → ℕ → Result Finished End
+leaves os cost = Ok (record { finish = record { trace = []; store = store os }; after = store os; entries = []; cost = cost })
+
+abbrev pub Comes : ProgramTerm → ℕ → Result Finished End → Type 0
+Comes p fuel told = finished p (store []) fuel ≡ told
+
+-- one statement, one object, one assignment, one literal
+abbrev pub AnObject : Type 0
+AnObject = Comes (one_object (int (pos 7) 26)) 100 (leaves (object_with (pos 7) ∷ []) 4)
+
+abbrev pub EnoughFuel : Type 0
+EnoughFuel = Comes (one_object (int (pos 7) 26)) 4 (leaves (object_with (pos 7) ∷ []) 4)
+
+abbrev pub TooLittleFuel : Type 0
+TooLittleFuel = Comes (one_object (int (pos 7) 26)) 3 (Err OutOfFuel)
+
+-- an operator that overflows, at its sign
+abbrev pub Overflows : Type 0
+Overflows = Comes (one_object (chain (int (pos 9223372036854775807) 26) op.Plus 46 (int (pos 1) 48) ty.Integer)) 100 (Err (Fault (fault.InvalidValue reason.Overflow) (at 46)))
+
+abbrev pub DividesByZero : Type 0
+DividesByZero = Comes (one_object (divided (int (pos 1) 26) 28 (int (pos 0) 32))) 100 (Err (Fault (fault.InvalidValue reason.ZeroDivide) (at 28)))
+
+-- the right side of `and` is not evaluated after false
+abbrev pub StopsAtFalse : Type 0
+StopsAtFalse = Comes (one_object (conditional (chain (truth false 29) op.And 35 (chain (divided (int (pos 1) 39) 41 (int (pos 0) 45)) op.Equal 48 (int (pos 1) 50) ty.Boolean) ty.Boolean) (int (pos 1) 57) (int (pos 2) 64))) 100
+    (leaves (object_with (pos 2) ∷ []) 7)
+
+-- three turns of a loop
+abbrev pub ThreeTurns : Type 0
+ThreeTurns = Comes three_objects 1000 (leaves (object_with (pos 0) ∷ object_with (pos 1) ∷ object_with (pos 2) ∷ []) 39)

@@ -1,0 +1,26 @@
+//! Each function does nothing: its contract is what the definitions come to.
+
+ghost use Rattle.qvt_meaning_tries.specs.Worked.{AnObject, EnoughFuel, TooLittleFuel, Overflows, DividesByZero, StopsAtFalse, ThreeTurns};
+
+/// An object whose attribute is set costs four, and four units of fuel are enough.
+pub fn an_object_costs_four()
+    ensures made { AnObject }
+    ensures enough { EnoughFuel }
+    ensures less { TooLittleFuel }
+{}
+
+/// An invalid value is a fault where it is assigned, at the place of its cause.
+pub fn invalid_values_are_faults()
+    ensures sign { Overflows }
+    ensures step { DividesByZero }
+{}
+
+/// After false the right side of `and` is neither evaluated nor charged.
+pub fn and_stops_at_false()
+    ensures { StopsAtFalse }
+{}
+
+/// A loop whose condition holds three times costs thirty-nine.
+pub fn three_turns()
+    ensures { ThreeTurns }
+{}
