@@ -1,5 +1,5 @@
 -- The line that a run tells: of a fault, of the end of the fuel, of a lower bound, or of what was done.
-use Rattle.std.specs.Prelude.{ℕ, ◌+◌, List, [], ◌∷◌, ◌++◌, length, codes, decimal}
+use Rattle.std.specs.Prelude.{ℕ, List, [], ◌∷◌, ◌++◌, length, Option, codes, decimal}
 use Rattle.std.specs.List.{flat_map}
 use Rattle.qvt_base.specs.declared.numbers.Place.{Place}
 use Rattle.qvt_conform.specs.declared.fault.LowFault.{LowFault}
