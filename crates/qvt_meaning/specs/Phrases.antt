@@ -131,7 +131,7 @@ module _ {E : Type 0} (x : Setting E) (calls : Calls E) (answer : Option Ty) whe
     stmt (TypedForEachStmt e name t c ss at n) = statement.statement x.spend (statement.for_each (expr e) name (each_type t e) (guarded c (statement.block (stmts ss))))
 
     pub target : TypedTargetTerm → TargetDoes E
-    target (TypedBareTarget name at n) = BareTarget n.reading
+    target (TypedBareTarget name at n) = BareTarget n.reading n.source
     target (TypedResultTarget at n) = ResultTarget
     target (TypedMemberTarget e name at n) = MemberTarget n.reading (expr e)
 

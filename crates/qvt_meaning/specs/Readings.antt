@@ -54,9 +54,9 @@ pub record Setting (E : Type 0) : Type 0 where
   pub resolve : Place → Query → Does E Value
   pub enter : LateWrite → Does E (Unit {0})
 
--- a target: a bare name by its reading, `result`, or a property of an object that an expression gives
+-- a target: a bare name by its reading and its implicit source, `result`, or a property of an object that an expression gives
 pub data TargetDoes (E : Type 0) : Type 0 where
-  BareTarget : Reading → TargetDoes E
+  BareTarget : Reading → Option (List ℕ) → TargetDoes E
   ResultTarget : TargetDoes E
   MemberTarget : Reading → Does E Value → TargetDoes E
 
@@ -249,17 +249,22 @@ module _ {E : Type 0} (x : Setting E) where
   assign_variable name false t p at = statement.assign_variable name p at
   assign_variable name true t p at = statement.add_variable name t p at
 
-  abbrev pub bare_assign : Reading → Bool → Option Ty → Does E Value → Place → Does E (Unit {0})
-  bare_assign (reading.Variable name) adds t p at = assign_variable name adds t p at
-  bare_assign (reading.Feature f) adds t p at = statement.assign_property (statement.bare_target f.0 at) f.0 adds p at
-  bare_assign r adds t p at = misfit at
+  -- the object whose property a bare name means: that of the innermost object expression, or that of its implicit source
+  abbrev pub bare_target : Option (List ℕ) → ℕ → Place → Does E Oid
+  bare_target None f at = statement.inner_target f at
+  bare_target (Some source) f at = statement.source_target source f at
+
+  abbrev pub bare_assign : Reading → Option (List ℕ) → Bool → Option Ty → Does E Value → Place → Does E (Unit {0})
+  bare_assign (reading.Variable name) source adds t p at = assign_variable name adds t p at
+  bare_assign (reading.Feature f) source adds t p at = statement.assign_property (bare_target source f.0 at) f.0 adds p at
+  bare_assign r source adds t p at = misfit at
 
   abbrev pub member_assign : Reading → Does E Value → Bool → Does E Value → Place → Does E (Unit {0})
   member_assign (reading.Feature f) object adds p at = statement.assign_property (statement.member_target object f.0 at) f.0 adds p at
   member_assign r object adds p at = misfit at
 
   abbrev pub assign_value : TargetDoes E → Bool → Option Ty → Does E Value → Place → Does E (Unit {0})
-  assign_value (BareTarget r) adds t p at = bare_assign r adds t p at
+  assign_value (BareTarget r source) adds t p at = bare_assign r source adds t p at
   assign_value ResultTarget adds t p at = assign_variable result_name adds t p at
   assign_value (MemberTarget r object) adds t p at = member_assign r object adds p at
 
@@ -267,16 +272,16 @@ module _ {E : Type 0} (x : Setting E) where
   late_with (Some form) object f adds source sign at = resolving.late x.spend x.enter object f adds source form sign at
   late_with None object f adds source sign at = misfit at
 
-  abbrev pub bare_late : Reading → Bool → Does E (Option Value) → Option Form → Place → Place → Does E (Unit {0})
-  bare_late (reading.Feature f) adds source form sign at = late_with form (statement.bare_target f.0 sign) f.0 adds source sign at
-  bare_late r adds source form sign at = misfit sign
+  abbrev pub bare_late : Reading → Option (List ℕ) → Bool → Does E (Option Value) → Option Form → Place → Place → Does E (Unit {0})
+  bare_late (reading.Feature f) implicit adds source form sign at = late_with form (bare_target implicit f.0 sign) f.0 adds source sign at
+  bare_late r implicit adds source form sign at = misfit sign
 
   abbrev pub member_late : Reading → Does E Value → Bool → Does E (Option Value) → Option Form → Place → Place → Does E (Unit {0})
   member_late (reading.Feature f) object adds source form sign at = late_with form (statement.member_target object f.0 sign) f.0 adds source sign at
   member_late r object adds source form sign at = misfit sign
 
   abbrev pub assign_late : TargetDoes E → Bool → Does E (Option Value) → Option Form → Place → Place → Does E (Unit {0})
-  assign_late (BareTarget r) adds source form sign at = bare_late r adds source form sign at
+  assign_late (BareTarget r implicit) adds source form sign at = bare_late r implicit adds source form sign at
   assign_late ResultTarget adds source form sign at = misfit sign
   assign_late (MemberTarget r object) adds source form sign at = member_late r object adds source form sign at
 

@@ -1,12 +1,12 @@
 -- The units of a program as the rules ask for them, and the calls, of which so many may be open (QVT 1.3, 8.2.1.10 to 8.2.1.15).
 use Rattle.std.specs.Prelude.{ℕ, zero, suc, Bool, List, [], ◌∷◌, length, map, Option, Some, None}
 use Rattle.qvt_base.specs.declared.numbers.Place.{Place}
-use Rattle.qvt_metamodel.specs.Metamodels.{class_at}
+use Rattle.qvt_types_data.specs.declared.note.Reading.{Reading}
+use Rattle.qvt_types_data.specs.declared.note.Reading.TheVariants as reading
 use Rattle.qvt_types_data.specs.declared.ty.Ty.{Ty}
 use Rattle.qvt_types_nodes.specs.Tree.{TypedOptionalExpr, TypedNoExpr, TypedSomeExpr, TypedStmtTerms}
 use Rattle.qvt_types_nodes.specs.Module.{TypedMember, TypedHelperTerm, TypedMappingTerm, TypedUnitTerm, TypedClassOf, TypedMainOf, TypedHelperOf, TypedConstructorOf, TypedMappingOf}
 use Rattle.qvt_types_nodes.specs.declared.module.TypedResultDecl.{TypedResultDecl}
-use Rattle.qvt_types_paths.specs.Models.{extent}
 use Rattle.qvt_types_units.specs.declared.signature.Signature.{Signature}
 use Rattle.qvt_types_units.specs.Numbers.{has_context}
 use Rattle.qvt_typing.specs.Accepts.{ProgramTerm}
@@ -15,7 +15,7 @@ use Rattle.qvt_run_data.specs.declared.fault.RunFault.TheVariants as fault
 use Rattle.qvt_run_rules.specs.State.{Does, Fault, ◌>>=◌, pure, stop, misfit, found}
 use Rattle.qvt_run_rules.specs.Statements as statement
 use Rattle.qvt_run_rules.specs.Calls.{Callee, HelperCall, ConstructorCall, MappingCall, Calls, Param, Routine, helper, constructor_}
-use Rattle.qvt_run_rules.specs.Mappings.{MappingRule, mapping}
+use Rattle.qvt_run_rules.specs.Mappings.{Making, MappingRule, mapping}
 use Rattle.qvt_meaning.specs.Nodes.{place_of, mappings_named}
 use Rattle.qvt_meaning.specs.Program.{unit_term, signature_of, known_class, mapping_unit, numbers}
 use Rattle.qvt_meaning.specs.Phrases.{expr, stmts}
@@ -27,18 +27,14 @@ params_of [] ts = []
 params_of (m ∷ ms) [] = record { name = m.name; type = None } ∷ params_of ms []
 params_of (m ∷ ms) (t ∷ ts) = record { name = m.name; type = t } ∷ params_of ms ts
 
-abbrev pub or_first : Option ℕ → ℕ
-or_first None = 0
-or_first (Some e) = e
+-- the class of which a mapping makes its result, and the extent in which it makes it
+abbrev pub made_in : Reading → Option Making
+made_in (reading.Make c e) = Some (record { class = c.0; extent = e })
+made_in r = None
 
-abbrev pub extent_name : Option TypedResultDecl → Option (List ℕ)
-extent_name None = None
-extent_name (Some d) = d.extent
-
--- the extent in which the result of a mapping is made: the one that is named, else the first in which objects of the class can be made
-abbrev pub result_extent : ProgramTerm → TypedMappingTerm → Option ℕ → ℕ
-result_extent p m None = 0
-result_extent p m (Some c) = or_first (extent p.heads.models (length p.heads.given.metamodels) (extent_name m.result_decl) (class_at p.heads.metas c).metamodel)
+abbrev pub result_of : Option TypedResultDecl → Option Making
+result_of None = None
+result_of (Some d) = made_in d.note.reading
 
 module _ {E : Type 0} (x : Setting E) (calls : Calls E) where
   -- Helpers, queries and constructors.
@@ -73,8 +69,7 @@ module _ {E : Type 0} (x : Setting E) (calls : Calls E) where
     number = k;
     context = known_class u.context;
     params = params_of m.params u.params;
-    result = known_class u.result;
-    extent = result_extent x.program m (known_class u.result);
+    result = result_of m.result_decl;
     when = when_of m.condition;
     init = section m.init;
     population = section m.population;

@@ -18,6 +18,20 @@ pub struct LateWrite {
     pub place: Place,
 }
 
+impl Drop for LateWrite {
+    fn drop(self) {
+        let LateWrite {
+            object,
+            feature,
+            op,
+            request,
+            one,
+            condition,
+            vars,
+            place,
+        } = self;
+    }
+}
 
 /// What a late assignment writes into its slot in the end.
 pub struct LateValue {
@@ -26,4 +40,16 @@ pub struct LateValue {
     pub op: SetOp,
     pub values: OidList,
     pub place: Place,
+}
+
+impl Drop for LateValue {
+    fn drop(self) {
+        let LateValue {
+            object,
+            feature,
+            op,
+            values,
+            place,
+        } = self;
+    }
 }

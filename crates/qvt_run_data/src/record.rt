@@ -9,3 +9,14 @@ pub struct Record {
     pub args: Values,
     pub result: Option<Oid>,
 }
+
+impl Drop for Record {
+    fn drop(self) {
+        let Record {
+            mapping,
+            context,
+            args,
+            result,
+        } = self;
+    }
+}

@@ -11,3 +11,14 @@ pub struct Request {
     pub sources: Option<OidList>,
     pub class: ClassNo,
 }
+
+impl Drop for Request {
+    fn drop(self) {
+        let Request {
+            inverse,
+            within,
+            sources,
+            class,
+        } = self;
+    }
+}

@@ -1,11 +1,12 @@
 -- The variables of a run and their scopes (QVT 1.3, 8.2.2.10 VariableInitExp and 8.2.2.2 BlockExp). A scope ends in every outcome.
 use Rattle.std.specs.Prelude.{ℕ, ◌==◌, Bool, true, false, not, ◌&&◌, if◌then◌else◌, List, [], ◌∷◌, ◌++◌, length, take, map, filter, position, slice_set, slice_get, Option, Some, None, Result, Ok, Err, codes, decimal}
 use Rattle.std.specs.Str.{bytes_eq}
+use Rattle.qvt_base.specs.declared.numbers.Oid.{Oid}
 use Rattle.qvt_base.specs.declared.numbers.Place.{Place}
 use Rattle.qvt_value.specs.declared.value.Value.{Value}
 use Rattle.qvt_value.specs.declared.value.Var.{Var}
 use Rattle.qvt_types_data.specs.declared.ty.Ty.{Ty}
-use Rattle.qvt_run_rules.specs.State.{Local, Inner, State, Exit, Done, Does, ◌>>=◌, ◌>>◌, look, ask, turn_to}
+use Rattle.qvt_run_rules.specs.State.{Local, State, Exit, Done, Does, ◌>>=◌, ◌>>◌, look, ask, turn_to}
 use Rattle.qvt_run_rules.specs.Typed.{asked}
 
 -- The names of what has none in a text.
@@ -104,10 +105,10 @@ module _ {E : Type 0} where
   with_locals vs p = λ s. cut (length s.locals) (p (record s { locals = s.locals ++ vs }))
 
   -- the object of an object expression while its body runs
-  abbrev pub out_of : {A : Type 0} → Option Inner → Done E A → Done E A
+  abbrev pub out_of : {A : Type 0} → Option Oid → Done E A → Done E A
   out_of outer d = (d.0, record d.1 { inner = outer })
 
-  unfoldable pub inside : {A : Type 0} → Inner → Does E A → Does E A
+  unfoldable pub inside : {A : Type 0} → Oid → Does E A → Does E A
   inside o p = λ s. out_of s.inner (p (record s { inner = Some o }))
 
   -- variables of its own, outside all object expressions; those from before come back

@@ -16,14 +16,18 @@ use Rattle.qvt_run_rules.specs.Store.{new_object}
 use Rattle.qvt_run_rules.specs.Trace.{result_for, has_key, record_of}
 use Rattle.qvt_run_rules.specs.Calls.{Way, Called, Chosen, Reused, MappingCall, Calls, Param, frame}
 
--- a mapping: its context class, if it has one; its parameters; its result class, if it has one, and the extent in which the result is
+-- a class, and the extent in which its objects are made
+pub record Making : Type 0 where
+  pub class : ℕ
+  pub extent : ℕ
+
+-- a mapping: its context class, if it has one; its parameters; its result class, if it has one, with the extent in which the result is
 -- made; what its `when` and its sections do; the mappings that it inherits, merges and disjuncts to; the place of its name
 pub record MappingRule (E : Type 0) : Type 0 where
   pub number : ℕ
   pub context : Option ℕ
   pub params : List Param
-  pub result : Option ℕ
-  pub extent : ℕ
+  pub result : Option Making
   pub when : Option (Does E Bool)
   pub init : Does E (Unit {0})
   pub population : Does E (Unit {0})
@@ -53,9 +57,9 @@ value_of None = Null
 value_of (Some o) = Obj o
 
 -- the variable `result`, in a mapping that has one
-abbrev pub result_local : Option ℕ → Value → List Local
+abbrev pub result_local : Option Making → Value → List Local
 result_local None v = []
-result_local (Some c) v = local result_name (Some (ty.Class (record { 0 = c }))) v ∷ []
+result_local (Some c) v = local result_name (Some (ty.Class (record { 0 = c.class }))) v ∷ []
 
 abbrev pub key : ℕ → Option Oid → List Value → Key
 key n o vs = record { mapping = n; context = o; args = vs }
@@ -108,7 +112,7 @@ module _ {E : Type 0} where
   object_in at (Obj o) = pure (Some o)
   object_in at v = misfit at
 
-  abbrev pub result_read : Option ℕ → Place → Does E (Option Oid)
+  abbrev pub result_read : Option Making → Place → Does E (Option Oid)
   result_read None at = pure None
   result_read (Some c) at = read result_name at >>= object_in at
 
@@ -123,14 +127,14 @@ module _ {E : Type 0} where
   abbrev pub kept_as : Place → Oid → Does E Made
   kept_as at o = set result_name (Obj o) at >> pure (New (Some o))
 
-  abbrev pub completed_as : Option ℕ → ℕ → Place → Does E Made
-  completed_as None e at = pure (New None)
-  completed_as (Some c) e at = made_of c e at >>= kept_as at
+  abbrev pub completed_as : Option Making → Place → Does E Made
+  completed_as None at = pure (New None)
+  completed_as (Some c) at = made_of c.class c.extent at >>= kept_as at
 
   -- the result that init has set, else a new object
   abbrev pub completed : MappingRule E → Option Oid → Does E Made
   completed m (Some o) = pure (New (Some o))
-  completed m None = completed_as m.result m.extent m.place
+  completed m None = completed_as m.result m.place
 
   -- the init section, and the result
   unfoldable pub first_inside : MappingRule E → Does E Made

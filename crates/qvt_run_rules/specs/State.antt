@@ -16,11 +16,6 @@ pub record Local : Type 0 where
   pub type : Option Ty
   pub value : Value
 
--- the object of an object expression, and the class that stands in the expression
-pub record Inner : Type 0 where
-  pub object : Oid
-  pub class : ℕ
-
 -- what a mapping is called with: its number, the context if it has one, and the arguments
 pub record Key : Type 0 where
   pub mapping : ℕ
@@ -31,7 +26,7 @@ pub record Key : Type 0 where
 -- and the cost so far
 pub record State (E : Type 0) : Type 0 where
   pub locals : List Local
-  pub inner : Option Inner
+  pub inner : Option Oid
   pub store : Contents
   pub trace : List Record
   pub keys : List Key

@@ -4,7 +4,7 @@ use Rattle.std.specs.Prelude.{ℕ, zero, suc, Bool, true, false, ◌||◌, if◌
 use Rattle.std.specs.List.{list_all}
 use Rattle.qvt_base.specs.declared.numbers.Oid.{Oid}
 use Rattle.qvt_base.specs.declared.numbers.Place.{Place}
-use Rattle.qvt_metamodel.specs.Metamodels.{Metamodels, has_feature}
+use Rattle.qvt_metamodel.specs.Metamodels.{Metamodels}
 use Rattle.qvt_types_data.specs.Term.{kind_of}
 use Rattle.qvt_value.specs.declared.value.Value.{Value, Null, Bool as Truth, Obj, Invalid}
 use Rattle.qvt_value.specs.declared.value.Reason.TheVariants.{NullValue}
@@ -14,25 +14,13 @@ use Rattle.qvt_types_data.specs.declared.ty.Ty.{Ty}
 use Rattle.qvt_types_words.specs.Types.{Collection, collection_of}
 use Rattle.qvt_types_words.specs.Rulings.{items_conform}
 use Rattle.qvt_run_data.specs.declared.fault.RunFault.TheVariants as fault
-use Rattle.qvt_run_rules.specs.State.{Local, Inner, State, Does, Fault, OutOfFuel, Returned, ◌>>=◌, ◌>>◌, pure, exits, stop, misfit, found, look, ask}
+use Rattle.qvt_run_rules.specs.State.{Local, State, Does, Fault, OutOfFuel, Returned, ◌>>=◌, ◌>>◌, pure, exits, stop, misfit, look}
 use Rattle.qvt_run_rules.specs.Typed.{has_type, valid, object_of, taken}
-use Rattle.qvt_run_rules.specs.Locals.{local, result_name, local_named, value_in, read_local, push, set, scoped, with_locals, inside, unnamed}
+use Rattle.qvt_run_rules.specs.Locals.{local, read, read_local, push, set, scoped, with_locals, inside}
 use Rattle.qvt_run_rules.specs.Sources.{items_of}
 use Rattle.qvt_run_rules.specs.Store.{put, new_object}
 
--- Targets.
-
-abbrev pub or_result : Option Value → Value
-or_result None = Null
-or_result (Some v) = v
-
-abbrev pub bare_object_in : Metamodels → Option Inner → ℕ → Value → Value
-bare_object_in m None f result = result
-bare_object_in m (Some o) f result = if has_feature m o.class f then Obj o.object else result
-
--- the object whose property a bare name means: that of the innermost object expression, if its class has it, else that of `result`
-abbrev pub bare_object : {E : Type 0} → ℕ → State E → Value
-bare_object f s = bare_object_in s.store.metas s.inner f (or_result (value_in (local_named result_name s.locals)))
+-- Variables of a collection type.
 
 -- the items that `+=` adds to a variable of a collection type: those of a collection whose items are of its item type, else the one
 -- value; null is none
@@ -75,8 +63,13 @@ module _ {E : Type 0} where
   unfoldable pub member_target : Does E Value → ℕ → Place → Does E Oid
   member_target object f at = object >>= object_of at >>= with_slot f at
 
-  unfoldable pub bare_target : ℕ → Place → Does E Oid
-  bare_target f at = ask (bare_object f) >>= object_of at >>= with_slot f at
+  -- the object of the innermost object expression
+  unfoldable pub inner_target : ℕ → Place → Does E Oid
+  inner_target f at = look (λ s. s.inner) at >>= with_slot f at
+
+  -- the object of a variable, which a bare name means where it is no property of that
+  unfoldable pub source_target : List ℕ → ℕ → Place → Does E Oid
+  source_target name f at = read name at >>= object_of at >>= with_slot f at
 
   -- Assignments.
 
@@ -145,8 +138,8 @@ module _ {E : Type 0} where
   -- Object expressions.
 
   -- the body on an object, whose properties its bare names mean
-  unfoldable pub on_object : ℕ → Does E (Unit {0}) → Oid → Does E Value
-  on_object c body o = inside (record { object = o; class = c }) body >> pure (Obj o)
+  unfoldable pub on_object : Does E (Unit {0}) → Oid → Does E Value
+  on_object body o = inside o body >> pure (Obj o)
 
   unfoldable pub set_object : List ℕ → Place → Oid → Does E Oid
   set_object name at o = set name (Obj o) at >> pure o
@@ -163,8 +156,8 @@ module _ {E : Type 0} (spend : ℕ → Does E (Unit {0})) where
   statement p = spend 1 >> p
 
   unfoldable pub object : ℕ → ℕ → Does E (Unit {0}) → Place → Does E Value
-  object c e body at = spend 1 >> (new_object c e at >>= on_object c body)
+  object c e body at = spend 1 >> (new_object c e at >>= on_object body)
 
   -- on a variable
   unfoldable pub object_in : List ℕ → Ty → ℕ → ℕ → Does E (Unit {0}) → Place → Does E Value
-  object_in name t c e body at = spend 1 >> (read_local name at >>= (λ v. taken (Some t) at v.value) >>= object_or_new name c e at >>= on_object c body)
+  object_in name t c e body at = spend 1 >> (read_local name at >>= (λ v. taken (Some t) at v.value) >>= object_or_new name c e at >>= on_object body)

@@ -1,0 +1,8 @@
+use Rattle.qvt_meaning_tries.proofs.Comes.{made, less}
+use Rattle.qvt_meaning_tries.proofs.worked.an_object_costs_four.Goals as goal
+
+pub returns-clause-made : goal.returns-clause-made
+returns-clause-made c = made
+
+pub returns-clause-less : goal.returns-clause-less
+returns-clause-less c = less
