@@ -1,6 +1,6 @@
 -- What is to hold of every run: that no answer of a late resolve reaches a statement, that one run which keeps requests alone comes to the
 -- same, and what the entries leave in one slot.
-use Rattle.std.specs.Prelude.{◌≡◌, ℕ, ◌==◌, ◌&&◌, ◌++◌, Bool, false, List, [], ◌∷◌, filter, map, Option, None, Result, Ok, Err, IsTrue, IsFalse}
+use Rattle.std.specs.Prelude.{◌≡◌, ℕ, ◌==◌, ◌&&◌, ◌++◌, Bool, List, [], ◌∷◌, filter, map, None, Result, Ok, Err, IsTrue, IsFalse}
 use Rattle.std.specs.List.{fold}
 use Rattle.qvt_metamodel.specs.Metamodels.{opposite, is_containment}
 use Rattle.qvt_metamodel.specs.WellFormed.{IsWellFormed}

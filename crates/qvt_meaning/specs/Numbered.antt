@@ -1,8 +1,7 @@
 -- The expressions of a program, in the order of the text; of each condition of a filter also the variable that the filter has. So an
 -- expression is found by its number, and a condition with its variable.
-use Rattle.std.specs.Prelude.{ℕ, ◌==◌, ◌&&◌, Bool, true, false, List, [], ◌∷◌, ◌++◌, Option, Some, None}
+use Rattle.std.specs.Prelude.{ℕ, ◌==◌, Bool, false, List, [], ◌∷◌, ◌++◌, Option, Some, None}
 use Rattle.std.specs.List.{flat_map, find}
-use Rattle.std.specs.Option.{is_some}
 use Rattle.qvt_base.specs.declared.numbers.ExprNo.{ExprNo}
 use Rattle.qvt_types_nodes.specs.Module.{TypedUnitTerm, TypedClassOf, TypedMainOf, TypedHelperOf, TypedConstructorOf, TypedMappingOf}
 use Rattle.qvt_types_nodes.specs.Tree.{TypedExprTerm, TypedIntExpr, TypedStrExpr, TypedBoolExpr, TypedNullExpr, TypedSelfExpr, TypedResultExpr, TypedPathExpr, TypedCallExpr, TypedCollExpr, TypedIfExpr, TypedObjectExpr, TypedNewExpr, TypedMapExpr, TypedResolveExpr, TypedChainExpr, TypedPrefixExpr, TypedPostExpr, TypedExprTerms, TypedNoExprs, TypedMoreExprs, TypedOptionalExpr, TypedNoExpr, TypedSomeExpr, TypedOptionalArgs, TypedNoArgs, TypedSomeArgs, TypedLinkTerm, TypedLinkOf, TypedLinkTerms, TypedNoLinks, TypedMoreLinks, TypedItemTerm, TypedItemOf, TypedRangeTerm, TypedNoRange, TypedRangeTo, TypedItemTerms, TypedNoItems, TypedMoreItems, TypedMapTerm, TypedMapOf, TypedResolveTerm, TypedResolveOf, TypedFilterTerm, TypedNoFilter, TypedFilterOf, TypedHeadTerm, TypedNoHead, TypedHeadOf, TypedAccumulatorTerm, TypedNoAccumulator, TypedAccumulatorOf, TypedStepTerm, TypedDotStep, TypedArrowStep, TypedDotMapStep, TypedArrowMapStep, TypedDotResolveStep, TypedArrowResolveStep, TypedStepTerms, TypedNoSteps, TypedMoreSteps, TypedTargetTerm, TypedBareTarget, TypedResultTarget, TypedMemberTarget, TypedStmtTerm, TypedVarStmt, TypedAssignStmt, TypedReturnStmt, TypedValueStmt, TypedIfStmt, TypedWhileStmt, TypedForEachStmt, TypedStmtTerms, TypedNoStmts, TypedMoreStmts, TypedElseTerm, TypedNoElse, TypedElseOf, TypedArmTerm, TypedArmOf, TypedArmTerms, TypedNoArms, TypedMoreArms}

@@ -12,7 +12,6 @@ use Rattle.qvt_value.specs.declared.value.Var.{Var}
 use Rattle.qvt_run_data.specs.declared.fault.RunFault.TheVariants as fault
 use Rattle.qvt_run_data.specs.declared.late.LateWrite.{LateWrite}
 use Rattle.qvt_run_data.specs.declared.record.Record.{Record}
-use Rattle.qvt_run_data.specs.declared.request.Request.{Request}
 use Rattle.qvt_run_rules.specs.State.{Local, State, End, Fault, Exit, Returned, Ends, Done, Does, misfit}
 use Rattle.qvt_run_rules.specs.Cost.{count}
 use Rattle.qvt_run_rules.specs.Locals.{fixed, local_of, name_in}

@@ -1,6 +1,6 @@
 -- What a run asks of the program: units by number, mappings by number, the choice of a unit, what a resolve is as it is written (QVT 1.3,
 -- 8.1.10, 8.2.1.10, 8.2.1.15 and 8.2.1.22).
-use Rattle.std.specs.Prelude.{ℕ, zero, suc, ◌==◌, Bool, true, false, if◌then◌else◌, List, [], ◌∷◌, ◌++◌, length, map, position, slice_get, Option, Some, None}
+use Rattle.std.specs.Prelude.{ℕ, zero, suc, ◌==◌, Bool, false, if◌then◌else◌, List, [], ◌∷◌, ◌++◌, length, map, position, slice_get, Option, Some, None}
 use Rattle.std.specs.List.{list_any, flat_map, filter_map, fold}
 use Rattle.qvt_base.specs.declared.numbers.ExprNo.{ExprNo}
 use Rattle.qvt_base.specs.declared.numbers.MappingNo.{MappingNo}
@@ -11,7 +11,7 @@ use Rattle.qvt_types_data.specs.declared.note.Reading.{Reading}
 use Rattle.qvt_types_data.specs.declared.note.Reading.TheVariants as reading
 use Rattle.qvt_types_nodes.specs.declared.types.TypedPathTree.{TypedPathTree}
 use Rattle.qvt_types_nodes.specs.Tree.{TypedOptionalExpr, TypedNoExpr, TypedSomeExpr, TypedResolveTerm, TypedResolveOf, TypedFilterTerm, TypedNoFilter, TypedFilterOf}
-use Rattle.qvt_types_nodes.specs.Module.{TypedMappingTerm, TypedUnitTerm, TypedClassOf, TypedMainOf, TypedHelperOf, TypedConstructorOf, TypedMappingOf}
+use Rattle.qvt_types_nodes.specs.Module.{TypedMappingTerm, TypedUnitTerm, TypedMappingOf}
 use Rattle.qvt_types_units.specs.declared.signature.HeadClass.{HeadClass}
 use Rattle.qvt_types_units.specs.declared.signature.HeadClass.TheVariants as head
 use Rattle.qvt_types_units.specs.declared.signature.Signature.{Signature}

@@ -1,13 +1,12 @@
 -- The rule that a node has by its reading, over what its parts do. Where a reading does not belong to its node the run ends as with any
 -- value that fits nothing: no accepted transformation has one.
 use Rattle.std.specs.Option.{is_some}
-use Rattle.std.specs.Prelude.{ℕ, ◌==◌, Bool, true, false, if◌then◌else◌, List, [], ◌∷◌, drop, length, Option, Some, None, codes}
+use Rattle.std.specs.Prelude.{ℕ, Bool, true, false, if◌then◌else◌, List, [], ◌∷◌, drop, length, Option, Some, None, codes}
 use Rattle.std.specs.Str.{bytes_eq}
 use Rattle.qvt_base.specs.declared.numbers.Oid.{Oid}
 use Rattle.qvt_base.specs.declared.numbers.Place.{Place}
 use Rattle.qvt_ocl_words.specs.declared.op.Op.{Op}
 use Rattle.qvt_tree_types.specs.declared.words.BinaryOp.{BinaryOp}
-use Rattle.qvt_types_data.specs.declared.note.Note.{Note}
 use Rattle.qvt_types_data.specs.declared.note.Reading.{Reading}
 use Rattle.qvt_types_data.specs.declared.note.Reading.TheVariants as reading
 use Rattle.qvt_types_data.specs.declared.ty.Ty.{Ty}
@@ -15,7 +14,7 @@ use Rattle.qvt_types_data.specs.declared.ty.Ty.TheVariants as ty
 use Rattle.qvt_types_nodes.specs.declared.types.TypedObjectVar.{TypedObjectVar}
 use Rattle.qvt_types_nodes.specs.declared.types.TypedObjectVar.TheVariants as variable
 use Rattle.qvt_types_nodes.specs.declared.types.TypedSign.{TypedSign}
-use Rattle.qvt_types_nodes.specs.Tree.{TypedExprTerms, TypedResolveTerm, TypedStepTerms, TypedNoSteps, TypedMoreSteps, TypedDotStep, TypedSomeArgs}
+use Rattle.qvt_types_nodes.specs.Tree.{TypedResolveTerm, TypedStepTerms, TypedMoreSteps, TypedDotStep, TypedSomeArgs}
 use Rattle.qvt_types_steps.specs.Classes.{class_test_named, is_selection, model_call_named}
 use Rattle.qvt_types_steps.specs.declared.classes.ClassTest.{ClassTest}
 use Rattle.qvt_types_steps.specs.declared.classes.ClassTest.TheVariants as class_test
@@ -31,7 +30,7 @@ use Rattle.qvt_typing.specs.Accepts.{ProgramTerm}
 use Rattle.qvt_value.specs.declared.value.Value.{Value, Enum}
 use Rattle.qvt_value.specs.declared.value.Kind.{Kind}
 use Rattle.qvt_run_data.specs.declared.late.LateWrite.{LateWrite}
-use Rattle.qvt_run_rules.specs.State.{Does, pure, misfit, look}
+use Rattle.qvt_run_rules.specs.State.{Does, misfit, look}
 use Rattle.qvt_run_rules.specs.Locals.{result_name}
 use Rattle.qvt_run_rules.specs.Sources.{before_arrow}
 use Rattle.qvt_run_rules.specs.Expressions as rule

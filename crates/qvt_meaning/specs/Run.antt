@@ -1,11 +1,9 @@
 -- A whole run (QVT 1.3, 8.1.10 for late resolution): `main` runs with an empty finish, then again with the trace and the store that it left;
 -- the answers of the late entries of the second run are walked; the entries are carried out.
 use Rattle.std.specs.Prelude.{ℕ, ◌+◌, nat_lt, if◌then◌else◌, List, [], ◌∷◌, ◌++◌, map, Option, Some, None, Result, Ok, Err}
-use Rattle.std.specs.List.{find}
 use Rattle.qvt_base.specs.declared.numbers.ExprNo.{ExprNo}
 use Rattle.qvt_base.specs.declared.numbers.Oid.{Oid}
 use Rattle.qvt_base.specs.declared.numbers.Place.{Place}
-use Rattle.qvt_metamodel.specs.Metamodels.{Metamodels}
 use Rattle.qvt_slots.specs.Contents.{Contents}
 use Rattle.qvt_slots.specs.Assign.{write}
 use Rattle.qvt_slots.specs.declared.fault.StoreFault.{StoreFault}

@@ -1,13 +1,12 @@
 -- The type of what stands before a step. Typing rules on it and notes it of the first part alone; the rulings are typing's own.
 use Rattle.std.specs.Prelude.{ℕ, Bool, true, false, if◌then◌else◌, List, [], ◌∷◌, Option, Some, None}
-use Rattle.qvt_base.specs.declared.numbers.ClassNo.{ClassNo}
 use Rattle.qvt_types_data.specs.Term.{kind_of}
 use Rattle.qvt_types_data.specs.declared.note.Reading.{Reading}
 use Rattle.qvt_types_data.specs.declared.note.Reading.TheVariants as reading
 use Rattle.qvt_types_data.specs.declared.ruling.Ruling.{Ruling}
 use Rattle.qvt_types_data.specs.declared.ruling.Ruling.TheVariants.{Holds, Fails, Silent}
 use Rattle.qvt_types_data.specs.declared.ty.Ty.{Ty}
-use Rattle.qvt_types_nodes.specs.Tree.{TypedExprTerm, TypedExprTerms, TypedNoExprs, TypedMoreExprs, TypedOptionalArgs, TypedNoArgs, TypedSomeArgs, TypedMapTerm, TypedMapOf, TypedResolveTerm, TypedResolveOf, TypedHeadTerm, TypedNoHead, TypedHeadOf, TypedAccumulatorTerm, TypedNoAccumulator, TypedAccumulatorOf, TypedStepTerm, TypedDotStep, TypedArrowStep, TypedDotMapStep, TypedArrowMapStep, TypedDotResolveStep, TypedArrowResolveStep}
+use Rattle.qvt_types_nodes.specs.Tree.{TypedExprTerms, TypedNoExprs, TypedMoreExprs, TypedNoArgs, TypedSomeArgs, TypedMapTerm, TypedMapOf, TypedResolveTerm, TypedResolveOf, TypedHeadTerm, TypedNoHead, TypedHeadOf, TypedNoAccumulator, TypedAccumulatorOf, TypedStepTerm, TypedDotStep, TypedArrowStep, TypedDotMapStep, TypedArrowMapStep, TypedDotResolveStep, TypedArrowResolveStep}
 use Rattle.qvt_types_paths.specs.Paths.{element_no}
 use Rattle.qvt_types_steps.specs.Calls.{dot_call, source_of}
 use Rattle.qvt_types_steps.specs.Classes as by_class

@@ -1,20 +1,17 @@
 -- The units of a program as the rules ask for them, and the calls, of which so many may be open (QVT 1.3, 8.2.1.10 to 8.2.1.15).
-use Rattle.std.specs.Prelude.{ℕ, zero, suc, Bool, List, [], ◌∷◌, length, map, Option, Some, None}
-use Rattle.qvt_base.specs.declared.numbers.Place.{Place}
+use Rattle.std.specs.Prelude.{ℕ, zero, suc, Bool, List, [], ◌∷◌, Option, Some, None}
 use Rattle.qvt_types_data.specs.declared.note.Reading.{Reading}
 use Rattle.qvt_types_data.specs.declared.note.Reading.TheVariants as reading
 use Rattle.qvt_types_data.specs.declared.ty.Ty.{Ty}
 use Rattle.qvt_types_nodes.specs.Tree.{TypedOptionalExpr, TypedNoExpr, TypedSomeExpr, TypedStmtTerms}
-use Rattle.qvt_types_nodes.specs.Module.{TypedMember, TypedHelperTerm, TypedMappingTerm, TypedUnitTerm, TypedClassOf, TypedMainOf, TypedHelperOf, TypedConstructorOf, TypedMappingOf}
+use Rattle.qvt_types_nodes.specs.Module.{TypedMember, TypedHelperTerm, TypedMappingTerm, TypedUnitTerm, TypedHelperOf, TypedConstructorOf, TypedMappingOf}
 use Rattle.qvt_types_nodes.specs.declared.module.TypedResultDecl.{TypedResultDecl}
 use Rattle.qvt_types_units.specs.declared.signature.Signature.{Signature}
 use Rattle.qvt_types_units.specs.Numbers.{has_context}
-use Rattle.qvt_typing.specs.Accepts.{ProgramTerm}
-use Rattle.qvt_value.specs.declared.value.Value.{Value}
 use Rattle.qvt_run_data.specs.declared.fault.RunFault.TheVariants as fault
-use Rattle.qvt_run_rules.specs.State.{Does, Fault, ◌>>=◌, pure, stop, misfit, found}
+use Rattle.qvt_run_rules.specs.State.{Does, Fault, ◌>>=◌, stop, found}
 use Rattle.qvt_run_rules.specs.Statements as statement
-use Rattle.qvt_run_rules.specs.Calls.{Callee, HelperCall, ConstructorCall, MappingCall, Calls, Param, Routine, helper, constructor_}
+use Rattle.qvt_run_rules.specs.Calls.{HelperCall, ConstructorCall, MappingCall, Calls, Param, Routine, helper, constructor_}
 use Rattle.qvt_run_rules.specs.Mappings.{Making, MappingRule, mapping}
 use Rattle.qvt_meaning.specs.Nodes.{place_of, mappings_named}
 use Rattle.qvt_meaning.specs.Program.{unit_term, signature_of, known_class, mapping_unit, numbers}

@@ -11,7 +11,7 @@ use Rattle.qvt_value.specs.declared.value.Reason.TheVariants as reason
 use Rattle.qvt_run_data.specs.declared.fault.RunFault.{RunFault}
 use Rattle.qvt_run_data.specs.declared.fault.RunFault.TheVariants as fault
 use Rattle.qvt_meaning.specs.Run.{Finished}
-use Rattle.qvt_meaning_report.specs.Meaning.{Outcome, Fault, OutOfFuel, Low, Done, written_extents}
+use Rattle.qvt_meaning_report.specs.Meaning.{written_extents}
 
 abbrev pub reason_name : Reason → List ℕ
 reason_name reason.Overflow = codes "Overflow"

@@ -1,7 +1,7 @@
 -- The text of a trace (QVT 1.3, 8.1.12, in this engine's own form): the records, and the late entries with what they found.
 use Rattle.std.specs.Prelude.{ℕ, Bool, true, false, if◌then◌else◌, List, [], ◌∷◌, ◌++◌, map, Option, Some, None, codes}
 use Rattle.std.specs.Option.{is_some}
-use Rattle.serde_json.specs.Data.{Data, null, boolean, number, string, array, object, Members, no_members, member}
+use Rattle.serde_json.specs.Data.{Data, null, boolean, number, string, array, object, no_members, member}
 use Rattle.serde_json.specs.Find.{of_integer}
 use Rattle.serde_json.specs.View.{items_of}
 use Rattle.qvt_base.specs.declared.numbers.MappingNo.{MappingNo}
@@ -16,7 +16,7 @@ use Rattle.qvt_slots.specs.declared.op.SetOp.TheVariants as op
 use Rattle.qvt_types_units.specs.declared.signature.HeadClass.{HeadClass}
 use Rattle.qvt_types_units.specs.declared.signature.HeadClass.TheVariants as head
 use Rattle.qvt_types_units.specs.declared.signature.Signature.{Signature}
-use Rattle.qvt_types_units.specs.Numbers.{unit_at, no_unit}
+use Rattle.qvt_types_units.specs.Numbers.{no_unit}
 use Rattle.qvt_typing.specs.Accepts.{ProgramTerm}
 use Rattle.qvt_value.specs.declared.value.LiteralRef.{LiteralRef}
 use Rattle.qvt_value.specs.declared.value.Kind.{Kind}

@@ -15,11 +15,11 @@ use Rattle.qvt_types_data.specs.declared.note.Reading.TheVariants as reading
 use Rattle.qvt_types_data.specs.declared.ty.Ty.{Ty}
 use Rattle.qvt_types_data.specs.declared.ty.Ty.TheVariants as ty
 use Rattle.qvt_types_nodes.specs.declared.types.TypedPathTree.{TypedPathTree}
-use Rattle.qvt_types_nodes.specs.Module.{TypedUnitTerm, TypedMainOf}
-use Rattle.qvt_types_nodes.specs.Tree.{TypedExprTerm, TypedIntExpr, TypedBoolExpr, TypedPathExpr, TypedIfExpr, TypedObjectExpr, TypedChainExpr, TypedPostExpr, TypedExprTerms, TypedNoExprs, TypedMoreExprs, TypedSomeExpr, TypedSomeArgs, TypedLinkOf, TypedNoLinks, TypedMoreLinks, TypedDotStep, TypedNoSteps, TypedMoreSteps, TypedBareTarget, TypedStmtTerm, TypedVarStmt, TypedAssignStmt, TypedValueStmt, TypedWhileStmt, TypedStmtTerms, TypedNoStmts, TypedMoreStmts}
+use Rattle.qvt_types_nodes.specs.Module.{TypedMainOf}
+use Rattle.qvt_types_nodes.specs.Tree.{TypedExprTerm, TypedIntExpr, TypedBoolExpr, TypedPathExpr, TypedIfExpr, TypedObjectExpr, TypedChainExpr, TypedPostExpr, TypedNoExprs, TypedMoreExprs, TypedSomeExpr, TypedSomeArgs, TypedLinkOf, TypedNoLinks, TypedMoreLinks, TypedDotStep, TypedNoSteps, TypedMoreSteps, TypedBareTarget, TypedStmtTerm, TypedVarStmt, TypedAssignStmt, TypedValueStmt, TypedWhileStmt, TypedStmtTerms, TypedNoStmts, TypedMoreStmts}
 use Rattle.qvt_types_units.specs.Numbers.{no_unit}
 use Rattle.qvt_typing.specs.Accepts.{ProgramTerm}
-use Rattle.qvt_value.specs.declared.value.Value.{Value, Int}
+use Rattle.qvt_value.specs.declared.value.Value.{Int}
 
 abbrev pub at : ℕ → Place
 at c = record { line = 3; column = c; offset = c }
@@ -112,10 +112,10 @@ only s = TypedMoreStmts s TypedNoStmts
 abbrev pub one_object : TypedExprTerm → ProgramTerm
 one_object v = program (only (object_of v))
 
--- `var i := 0; while (i < 3) { object C { a := i; }; i := i + 1; }`
-abbrev pub three_objects : ProgramTerm
-three_objects = program (TypedMoreStmts (TypedVarStmt (codes "i") None (TypedSomeExpr (int (pos 0) 19)) (at 10) bare)
-    (only (TypedWhileStmt (chain (name_i 30) op.Less 32 (int (pos 3) 34) ty.Boolean)
+-- `var i := 0; while (i < n) { object C { a := i; }; i := i + 1; }`
+abbrev pub counted : ℤ → ProgramTerm
+counted n = program (TypedMoreStmts (TypedVarStmt (codes "i") None (TypedSomeExpr (int (pos 0) 19)) (at 10) bare)
+    (only (TypedWhileStmt (chain (name_i 30) op.Less 32 (int n 34) ty.Boolean)
     (TypedMoreStmts (object_of (name_i 51))
     (only (TypedAssignStmt (TypedBareTarget (codes "i") (at 57) (noted (reading.Variable (codes "i")) None)) false (chain (name_i 62) op.Plus 64 (int (pos 1) 66) ty.Integer) (at 59) bare)))
     (at 22) bare)))

@@ -1,5 +1,5 @@
 -- What some small programs come to, by the definitions: objects, costs, faults with their places, the end of the fuel.
-use Rattle.std.specs.Prelude.{◌≡◌, ℕ, ℤ, pos, false, List, [], ◌∷◌, Result, Ok, Err}
+use Rattle.std.specs.Prelude.{◌≡◌, ℕ, pos, false, List, [], ◌∷◌, Result, Ok, Err}
 use Rattle.qvt_tree_types.specs.declared.words.BinaryOp.TheVariants as op
 use Rattle.qvt_slots.specs.Contents.{Instance}
 use Rattle.qvt_types_data.specs.declared.ty.Ty.TheVariants as ty
@@ -8,7 +8,7 @@ use Rattle.qvt_run_data.specs.declared.fault.RunFault.TheVariants as fault
 use Rattle.qvt_run_rules.specs.State.{End, Fault, OutOfFuel}
 use Rattle.qvt_typing.specs.Accepts.{ProgramTerm}
 use Rattle.qvt_meaning.specs.Run.{Finished, finished}
-use Rattle.qvt_meaning_tries.specs.Small.{at, store, object_with, int, truth, chain, divided, conditional, one_object, three_objects}
+use Rattle.qvt_meaning_tries.specs.Small.{at, store, object_with, int, truth, chain, divided, conditional, one_object, counted}
 
 -- a run that leaves these objects, no record and no entry
 abbrev pub leaves : List Instance → ℕ → Result Finished End
@@ -39,6 +39,9 @@ abbrev pub StopsAtFalse : Type 0
 StopsAtFalse = Comes (one_object (conditional (chain (truth false 29) op.And 35 (chain (divided (int (pos 1) 39) 41 (int (pos 0) 45)) op.Equal 48 (int (pos 1) 50) ty.Boolean) ty.Boolean) (int (pos 1) 57) (int (pos 2) 64))) 100
     (leaves (object_with (pos 2) ∷ []) 7)
 
--- three turns of a loop
-abbrev pub ThreeTurns : Type 0
-ThreeTurns = Comes three_objects 1000 (leaves (object_with (pos 0) ∷ object_with (pos 1) ∷ object_with (pos 2) ∷ []) 39)
+-- a loop whose condition does not hold, and one with a turn
+abbrev pub NoTurn : Type 0
+NoTurn = Comes (counted (pos 0)) 1000 (leaves [] 6)
+
+abbrev pub OneTurn : Type 0
+OneTurn = Comes (counted (pos 1)) 1000 (leaves (object_with (pos 0) ∷ []) 17)

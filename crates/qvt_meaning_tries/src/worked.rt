@@ -1,6 +1,6 @@
 //! Each function does nothing: its contract is what the definitions come to.
 
-ghost use Rattle.qvt_meaning_tries.specs.Worked.{AnObject, EnoughFuel, TooLittleFuel, Overflows, DividesByZero, StopsAtFalse, ThreeTurns};
+ghost use Rattle.qvt_meaning_tries.specs.Worked.{AnObject, EnoughFuel, TooLittleFuel, Overflows, DividesByZero, StopsAtFalse, NoTurn, OneTurn};
 
 /// An object whose attribute is set costs four, and four units of fuel are enough.
 pub fn an_object_costs_four()
@@ -20,7 +20,8 @@ pub fn and_stops_at_false()
     ensures { StopsAtFalse }
 {}
 
-/// A loop whose condition holds three times costs thirty-nine.
-pub fn three_turns()
-    ensures { ThreeTurns }
+/// A loop costs its statement, each test of its condition, and each turn.
+pub fn turns_are_counted()
+    ensures none { NoTurn }
+    ensures one { OneTurn }
 {}

@@ -1,8 +1,7 @@
 -- One rule for each kind of expression that makes and changes nothing, over what its parts do (OCL 2.4, 7 and 11.3). A unit is charged
 -- when evaluation reaches its token, from left to right.
-use Rattle.std.specs.Prelude.{ℕ, suc, zero, ◌+◌, Bool, true, false, ◌==◌, ◌&&◌, nat_lt, not, if◌then◌else◌, ℤ, pos, ◌+ℤ◌, ◌-ℤ◌, int_le, unsigned_abs, List, [], ◌∷◌, ◌++◌, drop, filter, map, Option, Some, None}
+use Rattle.std.specs.Prelude.{ℕ, suc, zero, ◌+◌, Bool, true, false, ◌==◌, if◌then◌else◌, ℤ, pos, ◌+ℤ◌, ◌-ℤ◌, int_le, unsigned_abs, List, [], ◌∷◌, ◌++◌, filter, Option, Some, None}
 use Rattle.std.specs.List.{find, list_all}
-use Rattle.std.specs.Option.{option_map}
 use Rattle.qvt_base.specs.declared.numbers.Oid.{Oid}
 use Rattle.qvt_base.specs.declared.numbers.Place.{Place}
 use Rattle.qvt_metamodel.specs.Descends.{descends}
@@ -11,19 +10,17 @@ use Rattle.qvt_tree_types.specs.declared.words.PrefixOp.{PrefixOp}
 use Rattle.qvt_tree_types.specs.declared.words.PrefixOp.TheVariants as sign
 use Rattle.qvt_value.specs.declared.value.Value.{Value, Null, Bool as Truth, Int, Obj, Invalid}
 use Rattle.qvt_value.specs.declared.value.Kind.{Kind}
-use Rattle.qvt_value.specs.declared.value.Kind.TheVariants.{OrderedSet}
 use Rattle.qvt_value.specs.declared.value.Reason.TheVariants.{NullSource, NullValue, CastFailed}
 use Rattle.qvt_value.specs.Make.{is_invalid}
 use Rattle.qvt_value.specs.Limits.{built, limited}
 use Rattle.qvt_ocl_words.specs.declared.op.Op.{Op}
 use Rattle.qvt_ocl_words.specs.declared.op.Op.TheVariants as operator
-use Rattle.qvt_ocl_words.specs.Lists.{is_null}
 use Rattle.qvt_ocl_words.specs.Operation.{operation}
 use Rattle.qvt_slots.specs.Contents.{Contents, class_of, is_live, members_of}
-use Rattle.qvt_run_rules.specs.State.{State, Does, ◌>>=◌, ◌>>◌, pure, misfit, found, look, ask}
+use Rattle.qvt_run_rules.specs.State.{Does, ◌>>=◌, ◌>>◌, pure, misfit, found, look, ask}
 use Rattle.qvt_run_rules.specs.Locals.{read}
 use Rattle.qvt_run_rules.specs.Logic.{value_or, logic, by_left, not_of}
-use Rattle.qvt_run_rules.specs.Sources.{unless_invalid, over_items, dotted}
+use Rattle.qvt_run_rules.specs.Sources.{over_items, dotted}
 use Rattle.qvt_run_rules.specs.Store.{read_property, objects_of, roots_of, ordered_set}
 
 -- Collection literals.

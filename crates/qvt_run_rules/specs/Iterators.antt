@@ -4,13 +4,13 @@ use Rattle.std.specs.Prelude.{ℕ, zero, suc, ◌+◌, ◌==◌, Bool, true, fal
 use Rattle.std.specs.List.{list_all}
 use Rattle.std.specs.declared.cmp.Ordering.{Ordering}
 use Rattle.qvt_base.specs.declared.numbers.Place.{Place}
-use Rattle.qvt_value.specs.declared.value.Value.{Value, Null, Bool as Truth, Obj, Invalid, Coll'}
+use Rattle.qvt_value.specs.declared.value.Value.{Value, Null, Bool as Truth, Invalid}
 use Rattle.qvt_value.specs.declared.value.Kind.{Kind}
 use Rattle.qvt_value.specs.declared.value.Reason.TheVariants.{NullValue}
 use Rattle.qvt_value.specs.Kept.{sorted}
 use Rattle.qvt_value.specs.Limits.{built}
 use Rattle.qvt_value.specs.Order.{order_of}
-use Rattle.qvt_ocl_words.specs.Lists.{has, is_integer, is_string, flattened}
+use Rattle.qvt_ocl_words.specs.Lists.{has, is_integer, is_string}
 use Rattle.qvt_run_rules.specs.State.{Does, ◌>>=◌, ◌>>◌, pure, stop, misfit, found, OutOfFuel}
 use Rattle.qvt_run_rules.specs.Locals.{fixed, name_in, with_locals}
 use Rattle.qvt_run_rules.specs.Logic.{is_true, conjunction, disjunction, if_logical}

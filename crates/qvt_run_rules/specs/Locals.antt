@@ -1,12 +1,12 @@
 -- The variables of a run and their scopes (QVT 1.3, 8.2.2.10 VariableInitExp and 8.2.2.2 BlockExp). A scope ends in every outcome.
-use Rattle.std.specs.Prelude.{ℕ, ◌==◌, Bool, true, false, not, ◌&&◌, if◌then◌else◌, List, [], ◌∷◌, ◌++◌, length, take, map, filter, position, slice_set, slice_get, Option, Some, None, Result, Ok, Err, codes, decimal}
+use Rattle.std.specs.Prelude.{ℕ, ◌==◌, Bool, false, not, ◌&&◌, if◌then◌else◌, List, [], ◌∷◌, ◌++◌, length, take, filter, position, slice_set, Option, Some, None, Result, Ok, Err, codes, decimal}
 use Rattle.std.specs.Str.{bytes_eq}
 use Rattle.qvt_base.specs.declared.numbers.Oid.{Oid}
 use Rattle.qvt_base.specs.declared.numbers.Place.{Place}
 use Rattle.qvt_value.specs.declared.value.Value.{Value}
 use Rattle.qvt_value.specs.declared.value.Var.{Var}
 use Rattle.qvt_types_data.specs.declared.ty.Ty.{Ty}
-use Rattle.qvt_run_rules.specs.State.{Local, State, Exit, Done, Does, ◌>>=◌, ◌>>◌, look, ask, turn_to}
+use Rattle.qvt_run_rules.specs.State.{Local, State, Exit, Done, Does, ◌>>=◌, ◌>>◌, look, turn_to}
 use Rattle.qvt_run_rules.specs.Typed.{asked}
 
 -- The names of what has none in a text.

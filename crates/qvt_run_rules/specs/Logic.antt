@@ -1,7 +1,6 @@
 -- The words of logic on values, null and invalid among them (OCL 2.4, 11.5.4 and 7.5.1).
 use Rattle.std.specs.Prelude.{Bool, true, false, not, ◌&&◌, ◌||◌, if◌then◌else◌, List, [], ◌∷◌, Option, Some, None}
 use Rattle.std.specs.List.{list_any, find}
-use Rattle.std.specs.Option.{option_map}
 use Rattle.qvt_tree_types.specs.declared.words.BinaryOp.{BinaryOp}
 use Rattle.qvt_tree_types.specs.declared.words.BinaryOp.TheVariants as op
 use Rattle.qvt_value.specs.declared.value.Value.{Value, Null, Bool as Truth, Invalid}

@@ -1,7 +1,6 @@
 -- The steps of a mapping call (QVT 1.3, 8.1.1 to 8.1.4, 8.2.1.15 MappingOperation): `when`, disjunction, the record of an earlier call,
 -- the init section, the result, the record, the mappings that are inherited, population and end, the mappings that are merged.
-use Rattle.std.specs.Prelude.{ℕ, Bool, true, false, if◌then◌else◌, List, [], ◌∷◌, ◌++◌, length, take, Option, Some, None, Ok}
-use Rattle.qvt_base.specs.declared.numbers.ClassNo.{ClassNo}
+use Rattle.std.specs.Prelude.{ℕ, Bool, true, false, if◌then◌else◌, List, [], ◌∷◌, ◌++◌, length, take, Option, Some, None}
 use Rattle.qvt_base.specs.declared.numbers.Oid.{Oid}
 use Rattle.qvt_base.specs.declared.numbers.Place.{Place}
 use Rattle.qvt_metamodel.specs.Metamodels.{class_at}

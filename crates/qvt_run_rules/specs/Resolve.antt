@@ -2,7 +2,6 @@
 -- a late one keeps.
 use Rattle.std.specs.Prelude.{ℕ, ◌+◌, Bool, true, false, if◌then◌else◌, List, [], ◌∷◌, ◌++◌, map, Option, Some, None, Result, Ok, Err}
 use Rattle.qvt_base.specs.declared.numbers.ExprNo.{ExprNo}
-use Rattle.qvt_base.specs.declared.numbers.FeatureNo.{FeatureNo}
 use Rattle.qvt_base.specs.declared.numbers.MappingNo.{MappingNo}
 use Rattle.qvt_base.specs.declared.numbers.Oid.{Oid}
 use Rattle.qvt_base.specs.declared.numbers.Place.{Place}

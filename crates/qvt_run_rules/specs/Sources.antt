@@ -1,6 +1,6 @@
 -- What stands before a dot, an arrow, a mapping call or a resolve (OCL 2.4, 7.5.3 and 7.6.2): the wrap of a single value, null that is
 -- an empty collection, the implicit collect.
-use Rattle.std.specs.Prelude.{ℕ, Bool, true, false, not, if◌then◌else◌, List, [], ◌∷◌, ◌++◌, filter, Option, Some, None}
+use Rattle.std.specs.Prelude.{Bool, true, false, not, if◌then◌else◌, List, [], ◌∷◌, ◌++◌, filter, Option, Some, None}
 use Rattle.qvt_base.specs.declared.numbers.Oid.{Oid}
 use Rattle.qvt_base.specs.declared.numbers.Place.{Place}
 use Rattle.qvt_value.specs.declared.value.Value.{Value, Null, Obj, Invalid, Coll', items-the_row-Value}

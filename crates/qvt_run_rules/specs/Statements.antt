@@ -1,6 +1,6 @@
 -- One rule for each kind of statement, over what its parts do (QVT 1.3, 8.2.2). A value that a statement takes is not invalid; its fault
 -- comes before anything behind it.
-use Rattle.std.specs.Prelude.{ℕ, zero, suc, Bool, true, false, ◌||◌, if◌then◌else◌, List, [], ◌∷◌, ◌++◌, Option, Some, None}
+use Rattle.std.specs.Prelude.{ℕ, zero, suc, Bool, true, false, if◌then◌else◌, List, [], ◌∷◌, ◌++◌, Option, Some, None}
 use Rattle.std.specs.List.{list_all}
 use Rattle.qvt_base.specs.declared.numbers.Oid.{Oid}
 use Rattle.qvt_base.specs.declared.numbers.Place.{Place}
@@ -14,7 +14,7 @@ use Rattle.qvt_types_data.specs.declared.ty.Ty.{Ty}
 use Rattle.qvt_types_words.specs.Types.{Collection, collection_of}
 use Rattle.qvt_types_words.specs.Rulings.{items_conform}
 use Rattle.qvt_run_data.specs.declared.fault.RunFault.TheVariants as fault
-use Rattle.qvt_run_rules.specs.State.{Local, State, Does, Fault, OutOfFuel, Returned, ◌>>=◌, ◌>>◌, pure, exits, stop, misfit, look}
+use Rattle.qvt_run_rules.specs.State.{Local, Does, Fault, OutOfFuel, Returned, ◌>>=◌, ◌>>◌, pure, exits, stop, misfit, look}
 use Rattle.qvt_run_rules.specs.Typed.{has_type, valid, object_of, taken}
 use Rattle.qvt_run_rules.specs.Locals.{local, read, read_local, push, set, scoped, with_locals, inside}
 use Rattle.qvt_run_rules.specs.Sources.{items_of}

@@ -1,5 +1,5 @@
 -- What a run does with the store (EMOF 12; QVT 1.3, 8.2.2.11 AssignExp and 8.2.2.24 InstantiationExp).
-use Rattle.std.specs.Prelude.{ℕ, Bool, true, false, ◌==◌, ◌&&◌, nat_lt, not, List, [], ◌∷◌, ◌++◌, filter, map, length, if◌then◌else◌, Option, Some, None, Result, Ok, Err}
+use Rattle.std.specs.Prelude.{ℕ, Bool, true, false, ◌==◌, ◌&&◌, nat_lt, not, List, [], ◌∷◌, filter, map, length, if◌then◌else◌, Option, Some, None, Result, Ok, Err}
 use Rattle.std.specs.List.{list_all}
 use Rattle.qvt_base.specs.declared.numbers.Oid.{Oid}
 use Rattle.qvt_base.specs.declared.numbers.Place.{Place}
@@ -22,7 +22,7 @@ use Rattle.qvt_slots.specs.Types.{is_of_type}
 use Rattle.qvt_slots.specs.Assign.{is_in, write}
 use Rattle.qvt_run_data.specs.declared.fault.RunFault.{RunFault}
 use Rattle.qvt_run_data.specs.declared.fault.RunFault.TheVariants as fault
-use Rattle.qvt_run_rules.specs.State.{Does, ◌>>=◌, pure, stop, misfit, look, Fault, Ends}
+use Rattle.qvt_run_rules.specs.State.{Does, stop, misfit, look, Fault}
 
 -- Properties.
 

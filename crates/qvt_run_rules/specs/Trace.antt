@@ -1,5 +1,5 @@
 -- The trace as a list of records (QVT 1.3, 8.1.12): its keys, and what a request finds in it (8.1.10 and 8.2.1.22).
-use Rattle.std.specs.Prelude.{ℕ, ◌==◌, Bool, true, false, ◌&&◌, not, if◌then◌else◌, List, [], ◌∷◌, ◌++◌, filter, map, Option, Some, None}
+use Rattle.std.specs.Prelude.{ℕ, ◌==◌, Bool, true, false, ◌&&◌, if◌then◌else◌, List, [], ◌∷◌, ◌++◌, filter, Option, Some, None}
 use Rattle.std.specs.List.{list_any, flat_map, filter_map, fold}
 use Rattle.qvt_base.specs.declared.numbers.MappingNo.{MappingNo}
 use Rattle.qvt_base.specs.declared.numbers.Oid.{Oid}
