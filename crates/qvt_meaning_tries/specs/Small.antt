@@ -1,5 +1,5 @@
 -- Small programs over a metamodel with one class C and its attribute a, as typing leaves them: what typing notes is written out by hand.
-use Rattle.std.specs.Prelude.{ℕ, ℤ, pos, Bool, true, false, List, [], ◌∷◌, Option, Some, None, codes}
+use Rattle.std.specs.Prelude.{ℕ, ℤ, pos, Bool, true, false, List, [], ◌∷◌, ◌++◌, Option, Some, None, codes}
 use Rattle.qvt_base.specs.declared.numbers.Place.{Place}
 use Rattle.qvt_metamodel.specs.Metamodels.{Metamodels}
 use Rattle.qvt_metamodel.specs.declared.info.TypeKind.TheVariants as kind
@@ -7,7 +7,6 @@ use Rattle.qvt_metamodel.specs.declared.info.ClassInfo.{ClassInfo}
 use Rattle.qvt_metamodel.specs.declared.info.FeatureInfo.{FeatureInfo}
 use Rattle.qvt_slots.specs.Contents.{Contents, Instance}
 use Rattle.qvt_tree_types.specs.declared.words.BinaryOp.{BinaryOp}
-use Rattle.qvt_tree_types.specs.declared.words.BinaryOp.TheVariants as op
 use Rattle.qvt_tree_types.specs.declared.words.Level.TheVariants as level
 use Rattle.qvt_types_data.specs.declared.note.Note.{Note}
 use Rattle.qvt_types_data.specs.declared.note.Reading.{Reading}
@@ -15,9 +14,12 @@ use Rattle.qvt_types_data.specs.declared.note.Reading.TheVariants as reading
 use Rattle.qvt_types_data.specs.declared.ty.Ty.{Ty}
 use Rattle.qvt_types_data.specs.declared.ty.Ty.TheVariants as ty
 use Rattle.qvt_types_nodes.specs.declared.types.TypedPathTree.{TypedPathTree}
-use Rattle.qvt_types_nodes.specs.Module.{TypedMainOf}
-use Rattle.qvt_types_nodes.specs.Tree.{TypedExprTerm, TypedIntExpr, TypedBoolExpr, TypedPathExpr, TypedIfExpr, TypedObjectExpr, TypedChainExpr, TypedPostExpr, TypedNoExprs, TypedMoreExprs, TypedSomeExpr, TypedSomeArgs, TypedLinkOf, TypedNoLinks, TypedMoreLinks, TypedDotStep, TypedNoSteps, TypedMoreSteps, TypedBareTarget, TypedStmtTerm, TypedVarStmt, TypedAssignStmt, TypedValueStmt, TypedWhileStmt, TypedStmtTerms, TypedNoStmts, TypedMoreStmts}
+use Rattle.qvt_types_nodes.specs.Module.{TypedMappingTerm, TypedMainOf, TypedMappingOf}
+use Rattle.qvt_types_nodes.specs.Tree.{TypedExprTerm, TypedIntExpr, TypedBoolExpr, TypedSelfExpr, TypedIfExpr, TypedObjectExpr, TypedChainExpr, TypedPostExpr, TypedNoExprs, TypedMoreExprs, TypedNoExpr, TypedSomeArgs, TypedLinkOf, TypedNoLinks, TypedMoreLinks, TypedMapOf, TypedDotStep, TypedDotMapStep, TypedNoSteps, TypedMoreSteps, TypedBareTarget, TypedMemberTarget, TypedStmtTerm, TypedAssignStmt, TypedValueStmt, TypedWhileStmt, TypedStmtTerms, TypedNoStmts, TypedMoreStmts}
 use Rattle.qvt_types_units.specs.Numbers.{no_unit}
+use Rattle.qvt_types_units.specs.declared.signature.HeadClass.TheVariants as head
+use Rattle.qvt_types_units.specs.declared.signature.Signature.{Signature}
+use Rattle.qvt_types_units.specs.declared.signature.UnitSort.TheVariants as sort
 use Rattle.qvt_typing.specs.Accepts.{ProgramTerm}
 use Rattle.qvt_value.specs.declared.value.Value.{Int}
 
@@ -86,9 +88,6 @@ int z c = TypedIntExpr z (at c) (noted reading.Nothing (Some ty.Integer))
 abbrev pub truth : Bool → ℕ → TypedExprTerm
 truth b c = TypedBoolExpr b (at c) (noted reading.Nothing (Some ty.Boolean))
 
-abbrev pub name_i : ℕ → TypedExprTerm
-name_i c = TypedPathExpr (path (reading.Variable (codes "i")) (Some ty.Integer) c)
-
 abbrev pub chain : TypedExprTerm → BinaryOp → ℕ → TypedExprTerm → Ty → TypedExprTerm
 chain a o c b t = TypedChainExpr level.Sum a (TypedMoreLinks (TypedLinkOf o b (at c) bare) TypedNoLinks) (at c) (noted reading.Nothing (Some t))
 
@@ -112,10 +111,41 @@ only s = TypedMoreStmts s TypedNoStmts
 abbrev pub one_object : TypedExprTerm → ProgramTerm
 one_object v = program (only (object_of v))
 
--- `var i := 0; while (i < n) { object C { a := i; }; i := i + 1; }`
-abbrev pub counted : ℤ → ProgramTerm
-counted n = program (TypedMoreStmts (TypedVarStmt (codes "i") None (TypedSomeExpr (int (pos 0) 19)) (at 10) bare)
-    (only (TypedWhileStmt (chain (name_i 30) op.Less 32 (int n 34) ty.Boolean)
-    (TypedMoreStmts (object_of (name_i 51))
-    (only (TypedAssignStmt (TypedBareTarget (codes "i") (at 57) (noted (reading.Variable (codes "i")) None)) false (chain (name_i 62) op.Plus 64 (int (pos 1) 66) ty.Integer) (at 59) bare)))
-    (at 22) bare)))
+-- `while (b) { object C { a := 7; }; }`
+abbrev pub looping : Bool → ProgramTerm
+looping b = program (only (TypedWhileStmt (truth b 17) (only (object_of (int (pos 7) 26))) (at 10) bare))
+
+-- `main() { object C { }.map m(); } mapping C::m() { self.a := 5; }`
+abbrev pub empty_object : TypedExprTerm
+empty_object = TypedObjectExpr None (path reading.Nothing None 17) None TypedNoStmts (at 10) (noted (reading.Make (record { 0 = 0 }) 0) (Some (ty.Class (record { 0 = 0 }))))
+
+abbrev pub map_m : TypedExprTerm
+map_m = TypedPostExpr empty_object (TypedMoreSteps (TypedDotMapStep (TypedMapOf false (codes "m") TypedNoExprs (at 27) (noted (reading.Mappings (record { 0 = 0 } ∷ [])) None))) TypedNoSteps) (at 10) (noted reading.Nothing (Some ty.Void))
+
+abbrev pub mapping_m : TypedMappingTerm
+mapping_m = record {
+  path = codes "C" ∷ codes "m" ∷ [];
+  params = [];
+  result_decl = None;
+  inherits = [];
+  merges = [];
+  disjuncts = [];
+  condition = TypedNoExpr;
+  init = TypedNoStmts;
+  population = only (TypedAssignStmt (TypedMemberTarget (TypedSelfExpr (at 52) (noted (reading.Variable (codes "#self")) (Some (ty.Class (record { 0 = 0 }))))) (codes "a") (at 57) (noted (reading.Feature (record { 0 = 0 })) None)) false (int (pos 5) 62) (at 59) bare);
+  finish = TypedNoStmts;
+  place = at 44;
+  note = bare;
+}
+
+abbrev pub signature_m : Signature
+signature_m = record { sort = sort.Mapping (record { 0 = 0 }); name = codes "m"; context = head.Known (record { 0 = 0 }); params = []; answer = Some ty.Void; result = head.Missing; place = at 44 }
+
+abbrev pub with_mapping : ProgramTerm → ProgramTerm
+with_mapping p = record p {
+  module_ = record p.module_ { units = p.module_.units ++ TypedMappingOf mapping_m ∷ [] };
+  heads = record p.heads { units = p.heads.units ++ signature_m ∷ [] };
+}
+
+abbrev pub mapped : ProgramTerm
+mapped = with_mapping (program (only (TypedValueStmt map_m (at 10) bare)))

@@ -1,5 +1,5 @@
 -- What some small programs come to, by the definitions: objects, costs, faults with their places, the end of the fuel.
-use Rattle.std.specs.Prelude.{◌≡◌, ℕ, pos, false, List, [], ◌∷◌, Result, Ok, Err}
+use Rattle.std.specs.Prelude.{◌≡◌, ℕ, pos, true, false, List, [], ◌∷◌, Some, None, Result, Ok, Err}
 use Rattle.qvt_tree_types.specs.declared.words.BinaryOp.TheVariants as op
 use Rattle.qvt_slots.specs.Contents.{Instance}
 use Rattle.qvt_types_data.specs.declared.ty.Ty.TheVariants as ty
@@ -8,7 +8,7 @@ use Rattle.qvt_run_data.specs.declared.fault.RunFault.TheVariants as fault
 use Rattle.qvt_run_rules.specs.State.{End, Fault, OutOfFuel}
 use Rattle.qvt_typing.specs.Accepts.{ProgramTerm}
 use Rattle.qvt_meaning.specs.Run.{Finished, finished}
-use Rattle.qvt_meaning_tries.specs.Small.{at, store, object_with, int, truth, chain, divided, conditional, one_object, counted}
+use Rattle.qvt_meaning_tries.specs.Small.{at, store, object_with, int, truth, chain, divided, conditional, one_object, looping, mapped}
 
 -- a run that leaves these objects, no record and no entry
 abbrev pub leaves : List Instance → ℕ → Result Finished End
@@ -39,9 +39,18 @@ abbrev pub StopsAtFalse : Type 0
 StopsAtFalse = Comes (one_object (conditional (chain (truth false 29) op.And 35 (chain (divided (int (pos 1) 39) 41 (int (pos 0) 45)) op.Equal 48 (int (pos 1) 50) ty.Boolean) ty.Boolean) (int (pos 1) 57) (int (pos 2) 64))) 100
     (leaves (object_with (pos 2) ∷ []) 7)
 
--- a loop whose condition does not hold, and one with a turn
+-- a loop costs its statement and each test; one without an end ends with the fuel
 abbrev pub NoTurn : Type 0
-NoTurn = Comes (counted (pos 0)) 1000 (leaves [] 6)
+NoTurn = Comes (looping false) 100 (leaves [] 2)
 
-abbrev pub OneTurn : Type 0
-OneTurn = Comes (counted (pos 1)) 1000 (leaves (object_with (pos 0) ∷ []) 17)
+abbrev pub NoEnd : Type 0
+NoEnd = Comes (looping true) 3 (Err OutOfFuel)
+
+-- a mapping without a result: its record, and what its population assigns
+abbrev pub AMapping : Type 0
+AMapping = Comes mapped 100 (Ok (record {
+  finish = record { trace = record { mapping = record { 0 = 0 }; context = Some (record { 0 = 0 }); args = []; result = None } ∷ []; store = store (object_with (pos 5) ∷ []) };
+  after = store (object_with (pos 5) ∷ []);
+  entries = [];
+  cost = 6;
+}))

@@ -1,6 +1,6 @@
 //! Each function does nothing: its contract is what the definitions come to.
 
-ghost use Rattle.qvt_meaning_tries.specs.Worked.{AnObject, EnoughFuel, TooLittleFuel, Overflows, DividesByZero, StopsAtFalse, NoTurn, OneTurn};
+ghost use Rattle.qvt_meaning_tries.specs.Worked.{AnObject, EnoughFuel, TooLittleFuel, Overflows, DividesByZero, StopsAtFalse, NoTurn, NoEnd, AMapping};
 
 /// An object whose attribute is set costs four, and four units of fuel are enough.
 pub fn an_object_costs_four()
@@ -20,8 +20,13 @@ pub fn and_stops_at_false()
     ensures { StopsAtFalse }
 {}
 
-/// A loop costs its statement, each test of its condition, and each turn.
+/// A loop costs its statement and each test of its condition.
 pub fn turns_are_counted()
     ensures none { NoTurn }
-    ensures one { OneTurn }
+    ensures endless { NoEnd }
+{}
+
+/// A mapping writes its record, and its population runs on its context.
+pub fn a_mapping_is_recorded()
+    ensures { AMapping }
 {}
