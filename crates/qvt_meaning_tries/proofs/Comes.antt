@@ -1,15 +1,17 @@
 -- What the small programs come to, computed.
 use Rattle.std.specs.Prelude.{refl}
-use Rattle.qvt_meaning_tries.specs.Worked.{AnObject, EnoughFuel, TooLittleFuel, Overflows, DividesByZero, StopsAtFalse, NoTurn, NoEnd, AMapping}
+use Rattle.qvt_meaning_tries.specs.Worked.{AnObject, EnoughFuel, TooLittleFuel, Overflows, DividesByZero, StopsAtFalse, NoTurn, NoEnd, AMapping, ALateResolve, ALateCost}
 use Rattle.qvt_meaning.specs.Run.{finished, main_run, setting}
 use Rattle.qvt_meaning.specs.Phrases.{expr, exprs, link, links, map_step, steps, step, dot_step, stmt, stmts, target, late_source}
-use Rattle.qvt_meaning.specs.Program.{mapping_unit, chosen_for}
+use Rattle.qvt_meaning.specs.Program.{mapping_unit, chosen_for, form_of}
+use Rattle.qvt_meaning.specs.Plain.{answer}
+use Rattle.qvt_run_rules.specs.Resolve.{late}
 use Rattle.qvt_meaning.specs.Units.{mapping_at, calls_to}
 use Rattle.qvt_run_rules.specs.Cost.{charge}
 use Rattle.qvt_run_rules.specs.Locals.{read, scoped, inside, in_frame, in_own}
 use Rattle.qvt_run_rules.specs.State.{caught}
 use Rattle.qvt_run_rules.specs.Calls.{frame, call_step}
-use Rattle.qvt_run_rules.specs.Trace.{same_key}
+use Rattle.qvt_run_rules.specs.Trace.{same_key, candidates}
 use Rattle.qvt_run_rules.specs.Mappings.{with_key, note, once, first, first_inside, sections, body, made as made_by, chosen as chosen_on, called as called_by, mapping}
 use Rattle.qvt_run_rules.specs.Logic.{logic, by_left}
 use Rattle.qvt_run_rules.specs.Store.{new_object, put}
@@ -60,3 +62,11 @@ no_end = refl
 pub a_mapping : AMapping
 unfolding finished main_run setting expr stmt stmts target late_source charge scoped inside new_object put literal statement discard object on_object inner_target assign_property block features_of reaches on_first steps step map_step exprs variable read call_step chosen_for mapping_unit choice calls_to mapping_at mapping frame called_by once first first_inside caught with_key note in_own in_frame sections body made_by chosen_on member_target above same_key
 a_mapping = refl
+
+pub late_slot : ALateResolve
+unfolding finished main_run setting expr stmt stmts target late_source charge scoped inside new_object put literal statement discard object on_object inner_target assign_property block features_of reaches on_first steps step map_step exprs variable read call_step chosen_for mapping_unit choice calls_to mapping_at mapping frame called_by once first first_inside caught with_key note in_own in_frame sections body made_by chosen_on member_target above same_key late answer candidates form_of
+late_slot = refl
+
+pub late_cost : ALateCost
+unfolding finished main_run setting expr stmt stmts target late_source charge scoped inside new_object put literal statement discard object on_object inner_target assign_property block features_of reaches on_first steps step map_step exprs variable read call_step chosen_for mapping_unit choice calls_to mapping_at mapping frame called_by once first first_inside caught with_key note in_own in_frame sections body made_by chosen_on member_target above same_key late answer candidates form_of
+late_cost = refl

@@ -1,4 +1,4 @@
--- Small programs over a metamodel with one class C and its attribute a, as typing leaves them: what typing notes is written out by hand.
+-- Small programs over a metamodel with one class C, its attribute a and its reference b to a C, as typing leaves them: what typing notes is written out by hand.
 use Rattle.std.specs.Prelude.{ℕ, ℤ, pos, Bool, true, false, List, [], ◌∷◌, ◌++◌, Option, Some, None, codes}
 use Rattle.qvt_base.specs.declared.numbers.Place.{Place}
 use Rattle.qvt_metamodel.specs.Metamodels.{Metamodels}
@@ -8,6 +8,7 @@ use Rattle.qvt_metamodel.specs.declared.info.FeatureInfo.{FeatureInfo}
 use Rattle.qvt_slots.specs.Contents.{Contents, Instance}
 use Rattle.qvt_tree_types.specs.declared.words.BinaryOp.{BinaryOp}
 use Rattle.qvt_tree_types.specs.declared.words.Level.TheVariants as level
+use Rattle.qvt_tree_types.specs.declared.words.ResolveWord.TheVariants as word
 use Rattle.qvt_types_data.specs.declared.note.Note.{Note}
 use Rattle.qvt_types_data.specs.declared.note.Reading.{Reading}
 use Rattle.qvt_types_data.specs.declared.note.Reading.TheVariants as reading
@@ -15,13 +16,13 @@ use Rattle.qvt_types_data.specs.declared.ty.Ty.{Ty}
 use Rattle.qvt_types_data.specs.declared.ty.Ty.TheVariants as ty
 use Rattle.qvt_types_nodes.specs.declared.types.TypedPathTree.{TypedPathTree}
 use Rattle.qvt_types_nodes.specs.Module.{TypedMappingTerm, TypedMainOf, TypedMappingOf}
-use Rattle.qvt_types_nodes.specs.Tree.{TypedExprTerm, TypedIntExpr, TypedBoolExpr, TypedSelfExpr, TypedIfExpr, TypedObjectExpr, TypedChainExpr, TypedPostExpr, TypedNoExprs, TypedMoreExprs, TypedNoExpr, TypedSomeArgs, TypedLinkOf, TypedNoLinks, TypedMoreLinks, TypedMapOf, TypedDotStep, TypedDotMapStep, TypedNoSteps, TypedMoreSteps, TypedBareTarget, TypedMemberTarget, TypedStmtTerm, TypedAssignStmt, TypedValueStmt, TypedWhileStmt, TypedStmtTerms, TypedNoStmts, TypedMoreStmts}
+use Rattle.qvt_types_nodes.specs.Tree.{TypedPathType, TypedResolveExpr, TypedResolveOf, TypedFilterOf, TypedExprTerm, TypedIntExpr, TypedBoolExpr, TypedSelfExpr, TypedIfExpr, TypedObjectExpr, TypedChainExpr, TypedPostExpr, TypedNoExprs, TypedMoreExprs, TypedNoExpr, TypedSomeArgs, TypedLinkOf, TypedNoLinks, TypedMoreLinks, TypedMapOf, TypedDotStep, TypedDotMapStep, TypedNoSteps, TypedMoreSteps, TypedBareTarget, TypedMemberTarget, TypedStmtTerm, TypedAssignStmt, TypedValueStmt, TypedWhileStmt, TypedStmtTerms, TypedNoStmts, TypedMoreStmts}
 use Rattle.qvt_types_units.specs.Numbers.{no_unit}
 use Rattle.qvt_types_units.specs.declared.signature.HeadClass.TheVariants as head
 use Rattle.qvt_types_units.specs.declared.signature.Signature.{Signature}
 use Rattle.qvt_types_units.specs.declared.signature.UnitSort.TheVariants as sort
 use Rattle.qvt_typing.specs.Accepts.{ProgramTerm}
-use Rattle.qvt_value.specs.declared.value.Value.{Int}
+use Rattle.qvt_value.specs.declared.value.Value.{Int, Obj}
 
 abbrev pub at : ℕ → Place
 at c = record { line = 3; column = c; offset = c }
@@ -38,7 +39,7 @@ path r t c = record { names = []; place = at c; note = noted r t }
 -- The metamodel, and the class above all classes.
 
 abbrev pub class_c : ClassInfo
-class_c = record { metamodel = 0; name = codes "C"; is_abstract = false; supers = []; own = record { 0 = 0 } ∷ [] }
+class_c = record { metamodel = 0; name = codes "C"; is_abstract = false; supers = []; own = record { 0 = 0 } ∷ record { 0 = 1 } ∷ [] }
 
 abbrev pub element : ClassInfo
 element = record { metamodel = 1; name = codes "Element"; is_abstract = true; supers = []; own = [] }
@@ -46,11 +47,14 @@ element = record { metamodel = 1; name = codes "Element"; is_abstract = true; su
 abbrev pub feature_a : FeatureInfo
 feature_a = record { owner = record { 0 = 0 }; name = codes "a"; shape = record { kind = kind.Int; lower = 0; upper = Some 1; ordered = false; unique = true; containment = false }; opposite = None }
 
+abbrev pub feature_b : FeatureInfo
+feature_b = record { owner = record { 0 = 0 }; name = codes "b"; shape = record { kind = kind.Class (record { 0 = 0 }); lower = 0; upper = Some 1; ordered = false; unique = true; containment = false }; opposite = None }
+
 abbrev pub metas : Metamodels
 metas = record {
   metamodels = record { name = codes "M"; uri = None; enums = [] } ∷ record { name = []; uri = None; enums = [] } ∷ [];
   classes = class_c ∷ element ∷ [];
-  features = feature_a ∷ [];
+  features = feature_a ∷ feature_b ∷ [];
   element = Some (record { 0 = 1 });
 }
 
@@ -64,7 +68,10 @@ store os = record {
 }
 
 abbrev pub object_with : ℤ → Instance
-object_with z = record { class = 0; extent = 0; slots = (Int z ∷ []) ∷ [] }
+object_with z = record { class = 0; extent = 0; slots = (Int z ∷ []) ∷ [] ∷ [] }
+
+abbrev pub object_to : ℕ → Instance
+object_to o = record { class = 0; extent = 0; slots = [] ∷ (Obj (record { 0 = o }) ∷ []) ∷ [] }
 
 -- A program with this `main`.
 
@@ -77,7 +84,7 @@ program ss = record {
     types = record { model_types = []; metamodels = []; used = []; classes = []; element = 1 };
     models = record { names = codes "t" ∷ []; rows = record { written = true; metamodel = Some 0 } ∷ []; firsts = Some 0 ∷ [] };
     units = no_unit ∷ [];
-    first = 1;
+    first = 2;
     flags = [];
   };
 }
@@ -149,3 +156,17 @@ with_mapping p = record p {
 
 abbrev pub mapped : ProgramTerm
 mapped = with_mapping (program (only (TypedValueStmt map_m (at 10) bare)))
+
+-- `object C { b := late invresolveone(C); };`
+abbrev pub late_object : TypedStmtTerm
+late_object = TypedValueStmt (TypedObjectExpr None (path reading.Nothing None 107) None
+    (TypedMoreStmts (TypedAssignStmt (TypedBareTarget (codes "b") (at 111) (noted (reading.Feature (record { 0 = 1 })) None)) false
+    (TypedResolveExpr (TypedResolveOf true word.InvResolveOne None
+    (TypedFilterOf None (TypedPathType (path (reading.Typed (ty.Class (record { 0 = 0 }))) (Some (ty.Class (record { 0 = 0 }))) 134)) TypedNoExpr (at 134) bare)
+    (at 116) (noted reading.Nothing (Some (ty.Class (record { 0 = 0 }))))))
+    (at 113) bare) TypedNoStmts)
+    (at 100) (noted (reading.Make (record { 0 = 0 }) 0) (Some (ty.Class (record { 0 = 0 }))))) (at 100) bare
+
+-- the late object first, the mapping after it
+abbrev pub resolved_late : ProgramTerm
+resolved_late = with_mapping (program (TypedMoreStmts late_object (only (TypedValueStmt map_m (at 10) bare))))

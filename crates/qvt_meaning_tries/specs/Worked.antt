@@ -1,14 +1,14 @@
 -- What some small programs come to, by the definitions: objects, costs, faults with their places, the end of the fuel.
 use Rattle.std.specs.Prelude.{◌≡◌, ℕ, pos, true, false, List, [], ◌∷◌, Some, None, Result, Ok, Err}
 use Rattle.qvt_tree_types.specs.declared.words.BinaryOp.TheVariants as op
-use Rattle.qvt_slots.specs.Contents.{Instance}
+use Rattle.qvt_slots.specs.Contents.{Contents, Instance}
 use Rattle.qvt_types_data.specs.declared.ty.Ty.TheVariants as ty
 use Rattle.qvt_value.specs.declared.value.Reason.TheVariants as reason
 use Rattle.qvt_run_data.specs.declared.fault.RunFault.TheVariants as fault
 use Rattle.qvt_run_rules.specs.State.{End, Fault, OutOfFuel}
 use Rattle.qvt_typing.specs.Accepts.{ProgramTerm}
 use Rattle.qvt_meaning.specs.Run.{Finished, finished}
-use Rattle.qvt_meaning_tries.specs.Small.{at, store, object_with, int, truth, chain, divided, conditional, one_object, looping, mapped}
+use Rattle.qvt_meaning_tries.specs.Small.{at, store, object_with, object_to, int, truth, chain, divided, conditional, one_object, looping, mapped, resolved_late}
 
 -- a run that leaves these objects, no record and no entry
 abbrev pub leaves : List Instance → ℕ → Result Finished End
@@ -54,3 +54,18 @@ AMapping = Comes mapped 100 (Ok (record {
   entries = [];
   cost = 6;
 }))
+
+-- a late resolve reads the record that a later statement writes: the slot is filled when all has run, for one unit more
+abbrev pub at_the_end : Result Finished End → Result Contents End
+at_the_end (Ok f) = Ok f.after
+at_the_end (Err e) = Err e
+
+abbrev pub cost_of : Result Finished End → Result ℕ End
+cost_of (Ok f) = Ok f.cost
+cost_of (Err e) = Err e
+
+abbrev pub ALateResolve : Type 0
+ALateResolve = at_the_end (finished resolved_late (store []) 100) ≡ Ok (store (object_to 1 ∷ object_with (pos 5) ∷ []))
+
+abbrev pub ALateCost : Type 0
+ALateCost = cost_of (finished resolved_late (store []) 100) ≡ Ok 11

@@ -1,6 +1,6 @@
 //! Each function does nothing: its contract is what the definitions come to.
 
-ghost use Rattle.qvt_meaning_tries.specs.Worked.{AnObject, EnoughFuel, TooLittleFuel, Overflows, DividesByZero, StopsAtFalse, NoTurn, NoEnd, AMapping};
+ghost use Rattle.qvt_meaning_tries.specs.Worked.{AnObject, EnoughFuel, TooLittleFuel, Overflows, DividesByZero, StopsAtFalse, NoTurn, NoEnd, AMapping, ALateResolve, ALateCost};
 
 /// An object whose attribute is set costs four, and four units of fuel are enough.
 pub fn an_object_costs_four()
@@ -29,4 +29,10 @@ pub fn turns_are_counted()
 /// A mapping writes its record, and its population runs on its context.
 pub fn a_mapping_is_recorded()
     ensures { AMapping }
+{}
+
+/// A late resolve reads what a later statement has written, and its entry costs one.
+pub fn a_late_resolve_reads_the_end()
+    ensures slot { ALateResolve }
+    ensures cost { ALateCost }
 {}
