@@ -1,12 +1,14 @@
 -- Resolves (QVT 1.3, 8.1.10 and 8.2.1.22): the candidates of a request, of which those are the answer for which a condition is true; and what
 -- a late one keeps.
 use Rattle.std.specs.Prelude.{ℕ, ◌+◌, Bool, true, false, if◌then◌else◌, List, [], ◌∷◌, ◌++◌, map, Option, Some, None, Result, Ok, Err}
+use Rattle.std.specs.List.{list_all}
 use Rattle.qvt_base.specs.declared.numbers.ExprNo.{ExprNo}
 use Rattle.qvt_base.specs.declared.numbers.MappingNo.{MappingNo}
 use Rattle.qvt_base.specs.declared.numbers.Oid.{Oid}
 use Rattle.qvt_base.specs.declared.numbers.Place.{Place}
 use Rattle.qvt_metamodel.specs.Metamodels.{shape_of}
 use Rattle.qvt_metamodel.specs.Descends.{is_class_kind}
+use Rattle.qvt_slots.specs.Contents.{Contents, is_live}
 use Rattle.qvt_value.specs.declared.value.Value.{Value, Null, Bool as Truth, Obj, Invalid as NotValid}
 use Rattle.qvt_value.specs.declared.value.Value.TheViews.{Coll}
 use Rattle.qvt_value.specs.declared.value.Kind.TheVariants.{Sequence}
@@ -15,7 +17,7 @@ use Rattle.qvt_value.specs.declared.value.Reason.TheVariants.{NullValue}
 use Rattle.qvt_run_data.specs.declared.fault.RunFault.TheVariants as fault
 use Rattle.qvt_run_data.specs.declared.late.LateWrite.{LateWrite}
 use Rattle.qvt_run_data.specs.declared.request.Request.{Request}
-use Rattle.qvt_run_rules.specs.State.{State, End, Fault, Does, ◌>>=◌, ◌>>◌, pure, stop, found, look}
+use Rattle.qvt_run_rules.specs.State.{State, End, Fault, Does, ◌>>=◌, ◌>>◌, pure, stop, look}
 use Rattle.qvt_run_rules.specs.Typed.{valid}
 use Rattle.qvt_run_rules.specs.Locals.{var_of}
 use Rattle.qvt_run_rules.specs.Sources.{objects_in}
@@ -90,6 +92,14 @@ pub record Form : Type 0 where
 abbrev pub query_of : Form → Option (List Oid) → Query
 query_of f os = record { request = record { inverse = f.inverse; within = f.within; sources = os; class = record { 0 = f.class } }; one = f.one; condition = f.condition }
 
+-- objects all of which are there
+abbrev pub if_live : Contents → List Oid → Option (List Oid)
+if_live s os = if list_all (λ o. is_live s o.0) os then Some os else None
+
+abbrev pub all_live : Contents → Option (List Oid) → Option (List Oid)
+all_live s None = None
+all_live s (Some os) = if_live s os
+
 module _ {E : Type 0} where
   abbrev pub answer_value : Bool → Found → Does E Value
   answer_value one (Objects os) = pure (objects_value one os)
@@ -103,7 +113,7 @@ module _ {E : Type 0} where
   -- the sources: none behind which a resolve stands is none at all, and null is no source
   abbrev pub sources_of : Place → Option Value → Does E (Option (List Oid))
   sources_of at None = pure None
-  sources_of at (Some v) = found (objects_in v) at >>= (λ os. pure (Some os))
+  sources_of at (Some v) = look (λ s. all_live s.store (objects_in v)) at >>= (λ os. pure (Some os))
 
   abbrev pub valid_source : Option Value → Does E (Option Value)
   valid_source None = pure None
