@@ -1,0 +1,2 @@
+//! What a transformation means: definitions alone.
+#![tactic(auto)]

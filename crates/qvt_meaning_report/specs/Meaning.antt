@@ -1,0 +1,48 @@
+-- What a program means over a loaded store and with a fuel: a fault, the end of the fuel, the first slot that is under its lower bound, or
+-- the run that has ended well.
+use Rattle.std.specs.Prelude.{ℕ, Bool, ◌&&◌, List, [], ◌∷◌, length, filter, Option, Some, None, Result, Ok, Err}
+use Rattle.std.specs.List.{range_with_len}
+use Rattle.qvt_base.specs.declared.numbers.Place.{Place}
+use Rattle.qvt_conform.specs.LowerBounds.{low_of}
+use Rattle.qvt_conform.specs.declared.fault.LowFault.{LowFault}
+use Rattle.qvt_json.specs.Steps.{or_next}
+use Rattle.qvt_slots.specs.Contents.{Contents, extent_at, is_model}
+use Rattle.qvt_typing.specs.Accepts.{ProgramTerm}
+use Rattle.qvt_run_data.specs.declared.fault.RunFault.{RunFault}
+use Rattle.qvt_run_rules.specs.State.{End}
+use Rattle.qvt_run_rules.specs.State as run
+use Rattle.qvt_meaning.specs.Run.{Finished, finished}
+
+pub data Outcome : Type 0 where
+  Fault : RunFault → Place → Outcome
+  OutOfFuel : Outcome
+  Low : LowFault → Outcome
+  Done : Finished → Outcome
+
+-- The extents that are written: those of models that can be changed.
+abbrev pub is_written : Contents → ℕ → Bool
+is_written s e = is_model s e && (extent_at s e).writable
+
+abbrev pub written_extents : Contents → List ℕ
+written_extents s = filter (is_written s) (range_with_len 0 (length s.extents))
+
+-- the first object of the extents in order, and the first of its features, with fewer items than the lower bound
+abbrev pub low_among : Contents → List ℕ → Option LowFault
+low_among s [] = None
+low_among s (e ∷ es) = or_next (low_of s e) (low_among s es)
+
+unfoldable pub low_in : Contents → Option LowFault
+low_in s = low_among s (written_extents s)
+
+abbrev pub unless_low : Option LowFault → Finished → Outcome
+unless_low (Some fault) f = Low fault
+unless_low None f = Done f
+
+abbrev pub outcome_of : Result Finished End → Outcome
+outcome_of (Err (run.Fault k at)) = Fault k at
+outcome_of (Err run.OutOfFuel) = OutOfFuel
+outcome_of (Ok f) = unless_low (low_in f.after) f
+
+-- the meaning of a program
+unfoldable pub meaning : ProgramTerm → Contents → ℕ → Outcome
+meaning p store fuel = outcome_of (finished p store fuel)

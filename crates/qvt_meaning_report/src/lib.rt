@@ -1,0 +1,2 @@
+//! How a run ends and what is written of it: definitions alone.
+#![tactic(auto)]

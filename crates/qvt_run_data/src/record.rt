@@ -1,0 +1,22 @@
+use qvt_base::numbers::{MappingNo, Oid};
+use qvt_value::value::Values;
+
+/// One call of a mapping in the trace (QVT 1.3, 8.1.12). The context is None for a mapping without
+/// one, the result where the mapping has none.
+pub struct Record {
+    pub mapping: MappingNo,
+    pub context: Option<Oid>,
+    pub args: Values,
+    pub result: Option<Oid>,
+}
+
+impl Drop for Record {
+    fn drop(self) {
+        let Record {
+            mapping,
+            context,
+            args,
+            result,
+        } = self;
+    }
+}

@@ -1,0 +1,11 @@
+-- Fuel (the engine's own). Each rule charges where evaluation reaches the unit, so a rule takes what a charge of so many units does.
+use Rattle.std.specs.Prelude.{ℕ, ◌+◌, nat_lt, if◌then◌else◌, Ok, Err}
+use Rattle.qvt_run_rules.specs.State.{OutOfFuel, Ends, Does}
+
+-- n units more, unless the cost would pass the fuel
+unfoldable pub charge : {E : Type 0} → ℕ → ℕ → Does E (Unit {0})
+charge fuel n = λ s. if nat_lt fuel (s.cost + n) then (Err (Ends OutOfFuel), s) else (Ok tt, record s { cost = s.cost + n })
+
+-- n units more, without an end
+unfoldable pub count : {E : Type 0} → ℕ → Does E (Unit {0})
+count n = λ s. (Ok tt, record s { cost = s.cost + n })

@@ -1,0 +1,14 @@
+pub mod State
+pub mod Cost
+pub mod Typed
+pub mod Locals
+pub mod Store
+pub mod Logic
+pub mod Sources
+pub mod Expressions
+pub mod Iterators
+pub mod Statements
+pub mod Calls
+pub mod Trace
+pub mod Mappings
+pub mod Resolve
