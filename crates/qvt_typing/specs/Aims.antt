@@ -20,19 +20,10 @@ use Rattle.qvt_types_steps.specs.declared.classes.ClassPart.{ClassPart}
 use Rattle.qvt_types_steps.specs.declared.classes.ClassPart.TheVariants as part
 use Rattle.qvt_types_words.specs.Rulings.{variable_wrong, property_wrong}
 use Rattle.qvt_types_words.specs.Types.{value_type}
+use Rattle.qvt_typing.specs.declared.parts.Aim.{Aim}
+use Rattle.qvt_typing.specs.declared.parts.Aim.TheVariants.{Nowhere, Unsure, Fixed, VariableOf, Property}
 use Rattle.qvt_typing.specs.Context.{Heads, Context}
 use Rattle.qvt_typing.specs.Names.{result_name, model_named}
-
-pub data Aim : Type 0 where
-  -- nothing has the name
-  Nowhere : Aim
-  -- its type is not known
-  Unsure : Aim
-  -- what cannot be assigned
-  Fixed : Aim
-  -- a variable of the type
-  VariableOf : List ℕ → Ty → Aim
-  Property : FeatureNo → Aim
 
 abbrev pub variable_aim : List ℕ → VariableSort → Option Ty → Aim
 variable_aim name k None = Unsure

@@ -1,0 +1,110 @@
+//! The Heads of iterators, once their parts are judged.
+
+ghost use Rattle.std.specs.Prelude.{◌≡◌, IfOk};
+ghost use Rattle.qvt_tree_types.specs.View.{optional_type};
+ghost use Rattle.qvt_types_rules.specs.Seen.{seen};
+ghost use Rattle.qvt_types_states.specs.Does.{Does};
+ghost use Rattle.qvt_typing.specs.Phrases as phrase;
+ghost use Rattle.qvt_typing.specs.Rules as rule;
+
+use crate::context::Context;
+use crate::leaves::type_if;
+use crate::names::{source, unnamed};
+use qvt_base::copied::Copied;
+use qvt_base::list_fault::ListFault;
+use qvt_base::numbers::Place;
+use qvt_base::text::Text;
+use qvt_tree_types::types::TypeTree;
+use qvt_types_data::ty::{Ty, copied};
+use qvt_types_data::variable::VariableSort;
+use qvt_types_states::scope::Known;
+use qvt_types_states::state::State;
+use qvt_types_states::steps::{add_source, checked, declare, writes_nothing};
+use qvt_types_steps::heads::{
+    Heading, accumulator_wrong, folding_head, iterator_type, iterator_wrong, plain_head,
+};
+use qvt_types_steps::iterators::iterator_named;
+use qvt_typing::parts::Given;
+
+/// An arrow without a Head: an iterator without a name is an implicit source.
+#[tactic(auto, unfolding(qvt_typing::specs::Rules::no_head))]
+pub fn no_head(
+    x: &Context<'_>,
+    name: &Text,
+    items: Option<Ty>,
+    state: &mut State,
+) -> Result<Heading, ListFault>
+    ensures { Does (rule.no_head name.now items state.old) result state.new }
+{
+    if iterator_named(name.as_str()).is_some() {
+        let name = unnamed(x.alloc, &state.scope)?;
+        add_source(source(name, items), state)?;
+    }
+    Ok(Heading::Missing)
+}
+
+/// What an iterator is in scope, by the type that may be written and that of the items.
+fn iterator_known(
+    x: &Context<'_>,
+    kind: &Given,
+    items: &Option<Ty>,
+) -> Result<Known, ListFault>
+    ensures { IfOk result (λ k. k ≡ rule.iterator_known kind.now items.now) }
+{
+    Ok(Known {
+        sort: VariableSort::Iterator,
+        ty: iterator_type(x.alloc, kind.is_given, &kind.ty, items)?,
+    })
+}
+
+/// A Head without an accumulator.
+#[tactic(auto, unfolding(qvt_typing::specs::Rules::plain_heading))]
+pub fn plain_heading(
+    x: &Context<'_>,
+    name: &Text,
+    kind: &Option<TypeTree>,
+    place: Place,
+    items: &Option<Ty>,
+    state: &mut State,
+) -> Result<Heading, ListFault>
+    ensures { Does (rule.plain_heading (seen x.now) name.now (phrase.optional_type (seen x.now) (optional_type kind.now)) place items.now state.old) result state.new }
+{
+    let kind = type_if(x, kind, state)?;
+    let wrong = iterator_wrong(x.heads.metas, kind.is_given, &kind.ty, items);
+    checked(wrong, place, state)?;
+    let known = iterator_known(x, &kind, items)?;
+    declare(x.alloc, name.as_str(), known, place, state)?;
+    writes_nothing(state)?;
+    Ok(plain_head(x.heads.metas, kind.is_given, &kind.ty, items))
+}
+
+#[tactic(auto, unfolding(qvt_typing::specs::Rules::folded))]
+/// Declares the iterator and the accumulator of a Head whose types and first value are judged.
+pub fn folded(
+    x: &Context<'_>,
+    iterator: (&Text, Place),
+    kind: &Given,
+    accumulator: (&Text, Place),
+    ty: &Option<Ty>,
+    first: &Option<Ty>,
+    items: &Option<Ty>,
+    state: &mut State,
+) -> Result<Heading, ListFault>
+    ensures { Does (rule.folded (seen x.now) iterator.0.now kind.now accumulator.0.now ty.now first.now accumulator.1 iterator.1 items.now state.old) result state.new }
+{
+    let metas = x.heads.metas;
+    let wrong = iterator_wrong(metas, kind.is_given, &kind.ty, items);
+    checked(wrong, iterator.1, state)?;
+    checked(accumulator_wrong(metas, ty, first), accumulator.1, state)?;
+    writes_nothing(state)?;
+    let known = iterator_known(x, kind, items)?;
+    declare(x.alloc, iterator.0.as_str(), known, iterator.1, state)?;
+    let known = Known {
+        sort: VariableSort::Iterator,
+        ty: copied(x.alloc, ty)?,
+    };
+    declare(x.alloc, accumulator.0.as_str(), known, accumulator.1, state)?;
+    writes_nothing(state)?;
+    let plain = plain_head(metas, kind.is_given, &kind.ty, items);
+    folding_head(x.alloc, metas, &plain, ty, first)
+}
