@@ -119,7 +119,7 @@ pub fn iterator_effect(iterator: Option<IteratorKind>) -> Effect
 pub fn sign_notes(signs: &[Sign], state: &mut State) -> Result<(), ListFault>
     ensures { Does (rule.sign_notes signs.now state.old) result state.new }
 {
-    for _ in signs {
+    for sign in signs {
         writes_nothing(state)?;
     }
     Ok(())

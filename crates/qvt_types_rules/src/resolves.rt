@@ -129,7 +129,7 @@ pub fn filter_settled(
     Ok(Filtered::By(part))
 }
 
-fn head_part(class: HeadClass) -> ClassPart
+pub fn head_part(class: HeadClass) -> ClassPart
     ensures { result ≡ rule.head_part class }
 {
     match class {

@@ -100,11 +100,13 @@ sections h u s = rule_of.each (stmts (init_context h s) u.init)
     >>= (λ _. rule_of.each (stmts (section_context h s) u.population)
     >>= (λ _. rule_of.each (stmts (section_context h s) u.finish)))
 
+abbrev pub mapping_head : Context → MappingTerm → Signature → Judges (Unit {0})
+mapping_head x u s = with_self (rule.head_part s.context) >>= (λ _. params x u.params >>= (λ _. result_head x u.result_decl
+    >>= (λ _. all_paths (reused x) u.inherits >>= (λ _. all_paths (reused x) u.merges >>= (λ _. all_paths (reused x) u.disjuncts)))))
+
 abbrev pub mapping_unit : Heads → MappingTerm → Signature → Judges (Unit {0})
 mapping_unit h u s =
-    scoped (with_self (rule.head_part s.context) >>= (λ _. params (outside h) u.params >>= (λ _. result_head (outside h) u.result_decl
-    >>= (λ _. all_paths (reused (outside h)) u.inherits >>= (λ _. all_paths (reused (outside h)) u.merges >>= (λ _. all_paths (reused (outside h)) u.disjuncts
-    >>= (λ _. when (when_context h s) u.condition u.place >>= (λ _. sections h u s))))))))
+    scoped (mapping_head (outside h) u s >>= (λ _. when (when_context h s) u.condition u.place >>= (λ _. sections h u s)))
     >>= (λ _. writes_nothing)
 
 -- unit n

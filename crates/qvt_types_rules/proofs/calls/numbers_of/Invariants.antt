@@ -1,0 +1,11 @@
+use Rattle.std.proofs.Common.{◌≡◌, ◌×◌, ◌++◌, drop}
+use Rattle.qvt_types_rules.specs.Seen.{heads_seen}
+use Rattle.qvt_types_units.specs.Numbers.{no_unit}
+use Rattle.qvt_typing.specs.Calls.{numbers_of}
+use Rattle.qvt_types_rules.proofs.calls.numbers_of.Given as goal
+
+abbrev pub invariant-loop-unit : goal.invariant-loop-unit
+invariant-loop-unit l = record {
+  kept : l.numbers ++ numbers_of (heads_seen l.heads) (drop l.unit-index l.units) ≡ numbers_of (heads_seen l.heads) l.units;
+  none : l.none ≡ no_unit;
+}

@@ -1,0 +1,290 @@
+//! Statements.
+
+ghost use Rattle.std.specs.Prelude.{◌≡◌, ◌+◌, ◌<◌, length, map, drop, option_map};
+ghost use Rattle.qvt_tree_types.specs.View as view;
+ghost use Rattle.qvt_types_rules.specs.Seen.{seen};
+ghost use Rattle.qvt_types_states.specs.Does.{Does};
+ghost use Rattle.qvt_types_steps.specs.Classes.{class_test_named, model_call_named};
+ghost use Rattle.qvt_types_steps.specs.IteratorTable.{iterator_named};
+ghost use Rattle.qvt_typing.specs.Phrases as phrase;
+ghost use Rattle.qvt_typing.specs.Rules as rule;
+ghost use Rattle.qvt_typing.specs.Statements as rule_of;
+
+use crate::expressions::{expr, given_expr};
+use qvt_base::list_fault::ListFault;
+use qvt_base::numbers::Place;
+use qvt_base::text::Text;
+use qvt_tree_types::tree::{Arm, Expr, Stmt, Stmts, Target};
+use qvt_tree_types::types::TypeTree;
+use qvt_types_rules::aims::takes_late;
+use qvt_types_rules::assignments::{assigned, bare_target, member_aimed, result_target};
+use qvt_types_rules::context::Context;
+use qvt_types_rules::leaves::type_if;
+use qvt_types_rules::statements::{declare_iterator, declared, returned, tell_condition, tell_condition_if, tell_iterator, write_for_each};
+use qvt_types_states::state::State;
+use qvt_types_states::steps::writes_nothing;
+use qvt_typing::parts::Aim;
+
+/// What an assignment writes.
+#[cycle(walk)]
+#[tactic(auto, unfolding(qvt_typing::specs::Phrases::target, qvt_typing::specs::Statements::member_target))]
+pub fn target(x: &Context<'_>, target: &Target, state: &mut State) -> Result<Aim, ListFault>
+    ensures { Does (phrase.target (seen x.now) (view.target_view target.now) state.old) result state.new }
+{
+    match target {
+        Target::Bare { name, place } => bare_target(x, name, *place, state),
+        Target::ResultVar { place } => result_target(x, *place, state),
+        Target::Member {
+            object,
+            name,
+            place,
+        } => {
+            let object = expr(x, false, object, state)?;
+            member_aimed(x, &object, name, *place, state)
+        }
+    }
+}
+
+#[cycle(walk)]
+#[tactic(auto, unfolding(qvt_typing::specs::Phrases::stmt))]
+pub fn stmt(x: &Context<'_>, stmt: &Stmt, state: &mut State) -> Result<(), ListFault>
+    ensures { Does (phrase.stmt (seen x.now) (view.stmt_view stmt.now) state.old) result state.new }
+{
+    match stmt {
+        Stmt::Var {
+            name,
+            kind,
+            value,
+            place,
+        } => variable(x, name, kind, value, *place, state),
+        Stmt::Assign {
+            target,
+            adds,
+            value,
+            place,
+        } => assign(x, target, *adds, value, *place, state),
+        Stmt::Return { value, place } => return_value(x, value, *place, state),
+        Stmt::Value { value, .. } => value_statement(x, value, state),
+        Stmt::If {
+            condition,
+            body,
+            arms,
+            otherwise,
+            place,
+        } => if_statement(x, (condition, body.as_slice()), arms.as_slice(), otherwise, *place, state),
+        Stmt::While {
+            condition,
+            body,
+            place,
+        } => while_loop(x, condition, body.as_slice(), *place, state),
+        Stmt::ForEach {
+            source,
+            name,
+            kind,
+            condition,
+            body,
+            place,
+        } => for_each(x, source, (name, kind, condition), body.as_slice(), *place, state),
+    }
+}
+
+#[cycle(walk)]
+#[tactic(auto, unfolding(qvt_typing::specs::Statements::variable))]
+pub fn variable(
+    x: &Context<'_>,
+    name: &Text,
+    kind: &Option<TypeTree>,
+    value: &Option<Expr>,
+    place: Place,
+    state: &mut State,
+) -> Result<(), ListFault>
+    ensures { Does (rule_of.variable (seen x.now) name.now (phrase.optional_type (seen x.now) (view.optional_type kind.now)) (phrase.given_expr (seen x.now) (view.optional_expr (option_map view.expr_view value.now))) place state.old) result state.new }
+{
+    let kind = type_if(x, kind, state)?;
+    let value = given_expr(x, value, state)?;
+    declared(x, name, &kind, &value, place, state)
+}
+
+#[cycle(walk)]
+#[tactic(auto, unfolding(qvt_typing::specs::Statements::assign))]
+pub fn assign(
+    x: &Context<'_>,
+    to: &Target,
+    adds: bool,
+    value: &Expr,
+    place: Place,
+    state: &mut State,
+) -> Result<(), ListFault>
+    ensures { Does (rule_of.assign (seen x.now) (phrase.target (seen x.now) (view.target_view to.now)) adds (λ late. phrase.expr (seen x.now) late (view.expr_view value.now)) place state.old) result state.new }
+{
+    let aim = target(x, to, state)?;
+    let value = expr(x, takes_late(&aim), value, state)?;
+    assigned(x, &aim, adds, &value, place, state)
+}
+
+#[cycle(walk)]
+#[tactic(auto, unfolding(qvt_typing::specs::Statements::return_))]
+pub fn return_value(
+    x: &Context<'_>,
+    value: &Option<Expr>,
+    place: Place,
+    state: &mut State,
+) -> Result<(), ListFault>
+    ensures { Does (rule_of.return_ (seen x.now) (phrase.given_expr (seen x.now) (view.optional_expr (option_map view.expr_view value.now))) place state.old) result state.new }
+{
+    let value = given_expr(x, value, state)?;
+    returned(x, &value, place, state)
+}
+
+#[cycle(walk)]
+#[tactic(auto, unfolding(qvt_typing::specs::Statements::value))]
+pub fn value_statement(x: &Context<'_>, value: &Expr, state: &mut State) -> Result<(), ListFault>
+    ensures { Does (rule_of.value (seen x.now) (phrase.expr (seen x.now) false (view.expr_view value.now)) state.old) result state.new }
+{
+    expr(x, false, value, state)?;
+    writes_nothing(state)
+}
+
+#[cycle(walk)]
+#[tactic(auto, unfolding(qvt_typing::specs::Statements::condition))]
+pub fn condition(
+    x: &Context<'_>,
+    node: &Expr,
+    place: Place,
+    state: &mut State,
+) -> Result<(), ListFault>
+    ensures { Does (rule_of.condition (seen x.now) (phrase.expr (seen x.now) false (view.expr_view node.now)) place state.old) result state.new }
+{
+    let ty = expr(x, false, node, state)?;
+    tell_condition(x, &ty, place, state)
+}
+
+#[cycle(walk)]
+#[tactic(auto, unfolding(qvt_typing::specs::Statements::block))]
+pub fn block(x: &Context<'_>, body: &[Stmt], state: &mut State) -> Result<(), ListFault>
+    ensures { Does (rule_of.block (seen x.now) (phrase.stmts (seen x.now) (view.stmts_of (map view.stmt_view body.now))) state.old) result state.new }
+{
+    let (named, sources) = state.scope.mark();
+    stmts(x, body, state)?;
+    state.scope.cut(named, sources);
+    Ok(())
+}
+
+#[cycle(walk)]
+#[tactic(auto, unfolding(qvt_typing::specs::Phrases::stmts))]
+pub fn stmts(x: &Context<'_>, body: &[Stmt], state: &mut State) -> Result<(), ListFault>
+    ensures { Does (rule_of.each (phrase.stmts (seen x.now) (view.stmts_of (map view.stmt_view body.now))) state.old) result state.new }
+{
+    for next in body {
+        stmt(x, next, state)?;
+    }
+    Ok(())
+}
+
+/// A condition and the block that it guards.
+#[cycle(walk)]
+#[tactic(auto, unfolding(qvt_typing::specs::Statements::arm))]
+pub fn guarded(
+    x: &Context<'_>,
+    test: &Expr,
+    body: &[Stmt],
+    place: Place,
+    state: &mut State,
+) -> Result<(), ListFault>
+    ensures { Does (rule_of.arm (seen x.now) (phrase.expr (seen x.now) false (view.expr_view test.now)) (phrase.stmts (seen x.now) (view.stmts_of (map view.stmt_view body.now))) place state.old) result state.new }
+{
+    condition(x, test, place, state)?;
+    block(x, body, state)
+}
+
+#[cycle(walk)]
+#[tactic(auto, unfolding(qvt_typing::specs::Phrases::one_arm))]
+pub fn arm(x: &Context<'_>, arm: &Arm, place: Place, state: &mut State) -> Result<(), ListFault>
+    ensures { Does (phrase.one_arm (seen x.now) (view.arm_view arm.now) place state.old) result state.new }
+{
+    guarded(x, &arm.condition, arm.body.as_slice(), place, state)
+}
+
+#[cycle(walk)]
+#[tactic(auto, unfolding(qvt_typing::specs::Phrases::all_arms))]
+pub fn arms(x: &Context<'_>, list: &[Arm], place: Place, state: &mut State) -> Result<(), ListFault>
+    ensures { Does (rule_of.each_at (seen x.now) place (phrase.all_arms (seen x.now) (view.arms_of (map view.arm_view list.now))) state.old) result state.new }
+{
+    for next in list {
+        arm(x, next, place, state)?;
+    }
+    Ok(())
+}
+
+#[cycle(walk)]
+#[tactic(auto, unfolding(qvt_typing::specs::Phrases::otherwise, qvt_typing::specs::Statements::block))]
+pub fn else_block(
+    x: &Context<'_>,
+    body: &Option<Stmts>,
+    state: &mut State,
+) -> Result<(), ListFault>
+    ensures { Does (rule_of.block (seen x.now) (phrase.otherwise (seen x.now) (view.optional_else (option_map (map view.stmt_view) body.now))) state.old) result state.new }
+{
+    match body {
+        None => Ok(()),
+        Some(body) => block(x, body.as_slice(), state),
+    }
+}
+
+#[cycle(walk)]
+#[tactic(auto, unfolding(qvt_typing::specs::Statements::if_))]
+pub fn if_statement(
+    x: &Context<'_>,
+    first: (&Expr, &[Stmt]),
+    list: &[Arm],
+    otherwise: &Option<Stmts>,
+    place: Place,
+    state: &mut State,
+) -> Result<(), ListFault>
+    ensures { Does (rule_of.if_ (seen x.now) (phrase.expr (seen x.now) false (view.expr_view first.0.now)) (phrase.stmts (seen x.now) (view.stmts_of (map view.stmt_view first.1.now))) (phrase.all_arms (seen x.now) (view.arms_of (map view.arm_view list.now))) (phrase.otherwise (seen x.now) (view.optional_else (option_map (map view.stmt_view) otherwise.now))) place state.old) result state.new }
+{
+    guarded(x, first.0, first.1, place, state)?;
+    arms(x, list, place, state)?;
+    else_block(x, otherwise, state)?;
+    writes_nothing(state)
+}
+
+#[cycle(walk)]
+#[tactic(auto, unfolding(qvt_typing::specs::Statements::while_))]
+pub fn while_loop(
+    x: &Context<'_>,
+    test: &Expr,
+    body: &[Stmt],
+    place: Place,
+    state: &mut State,
+) -> Result<(), ListFault>
+    ensures { Does (rule_of.while_ (seen x.now) (phrase.expr (seen x.now) false (view.expr_view test.now)) (phrase.stmts (seen x.now) (view.stmts_of (map view.stmt_view body.now))) place state.old) result state.new }
+{
+    condition(x, test, place, state)?;
+    block(x, body, state)?;
+    writes_nothing(state)
+}
+
+#[cycle(walk)]
+#[tactic(auto, unfolding(qvt_typing::specs::Statements::for_each))]
+pub fn for_each(
+    x: &Context<'_>,
+    source: &Expr,
+    variable: (&Text, &Option<TypeTree>, &Option<Expr>),
+    body: &[Stmt],
+    place: Place,
+    state: &mut State,
+) -> Result<(), ListFault>
+    ensures { Does (rule_of.for_each (seen x.now) (phrase.expr (seen x.now) false (view.expr_view source.now)) variable.0.now (phrase.optional_type (seen x.now) (view.optional_type variable.1.now)) (phrase.given_expr (seen x.now) (view.optional_expr (option_map view.expr_view variable.2.now))) (phrase.stmts (seen x.now) (view.stmts_of (map view.stmt_view body.now))) place state.old) result state.new }
+{
+    let source = expr(x, false, source, state)?;
+    let kind = type_if(x, variable.1, state)?;
+    tell_iterator(x, &source, &kind, place, state)?;
+    let (named, sources) = state.scope.mark();
+    declare_iterator(x, &source, variable.0, &kind, place, state)?;
+    let condition = given_expr(x, variable.2, state)?;
+    tell_condition_if(x, &condition, place, state)?;
+    block(x, body, state)?;
+    state.scope.cut(named, sources);
+    write_for_each(&source, state)
+}
