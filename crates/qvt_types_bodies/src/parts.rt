@@ -10,14 +10,17 @@ use qvt_base::list_fault::ListFault;
 use qvt_base::text::Text;
 use qvt_tree_types::module::{Field, Param, ResultDecl};
 use qvt_tree_types::types::PathTree;
+use qvt_types_data::note::Reading;
+use qvt_types_data::ruling::Read;
 use qvt_types_data::variable::VariableSort;
 use qvt_types_rules::context::Context;
 use qvt_types_rules::leaves::{named_class, written_type};
-use qvt_types_rules::names::{class_type, source};
+use qvt_types_rules::names::{class_type, made_read, source};
+use qvt_types_rules::objects::extent_of;
 use qvt_types_rules::resolves::listed_path;
 use qvt_types_states::scope::Known;
 use qvt_types_states::state::State;
-use qvt_types_states::steps::{add_source, declare, writes_nothing};
+use qvt_types_states::steps::{add_source, declare, marks, writes_nothing};
 use qvt_types_steps::classes::ClassPart;
 
 /// Makes `self` an implicit source, where there is one.
@@ -90,6 +93,16 @@ pub fn fields(x: &Context<'_>, list: &[Field], state: &mut State) -> Result<(), 
     Ok(())
 }
 
+/// The class and the extent of the object that a mapping makes.
+fn result_read(x: &Context<'_>, name: &Option<Text>, class: ClassPart) -> Read
+    ensures { result ≡ units.result_read (seen x.now) name.now class }
+{
+    match class {
+        ClassPart::Class(class) => made_read(class, extent_of(x, name, class)),
+        _ => Read::plain(Reading::Nothing, None),
+    }
+}
+
 /// The result class of a mapping.
 pub fn result_head(
     x: &Context<'_>,
@@ -101,8 +114,9 @@ pub fn result_head(
     match declared {
         None => Ok(()),
         Some(declared) => {
-            named_class(x, &declared.path, state)?;
-            writes_nothing(state)
+            let class = named_class(x, &declared.path, state)?;
+            marks(result_read(x, &declared.extent, class), state)?;
+            Ok(())
         }
     }
 }

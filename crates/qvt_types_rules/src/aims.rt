@@ -29,7 +29,7 @@ fn variable_aim(
     ensures { IfOk result (λ a. a ≡ aims.variable_aim name.now sort ty.now) }
 {
     let Some(ty) = ty else {
-        return Ok(Aim::Unsure);
+        return Ok(Aim::UntypedVariable);
     };
     match sort {
         VariableSort::Settable => {
@@ -40,26 +40,32 @@ fn variable_aim(
     }
 }
 
-fn property_aim(heads: &Heads<'_>, feature: FeatureNo) -> Aim
-    ensures { result ≡ aims.property_aim (heads_seen heads.now) feature }
+fn property_aim(heads: &Heads<'_>, source: Option<Text>, feature: FeatureNo) -> Aim
+    ensures { result ≡ aims.property_aim (heads_seen heads.now) source feature }
 {
     if is_typed(heads.first, heads.typed, feature) {
-        Aim::Property(feature)
+        Aim::Property(source, feature)
     } else {
-        Aim::Unsure
+        Aim::UntypedProperty
     }
 }
 
 /// What a name means as a property of an object of a class, if it means one there, or if that is not known.
-fn class_aim(heads: &Heads<'_>, name: &str, class: ClassPart, otherwise: Aim) -> Aim
-    ensures { result ≡ aims.class_aim (heads_seen heads.now) name.now class otherwise }
+fn class_aim(
+    heads: &Heads<'_>,
+    source: Option<Text>,
+    name: &str,
+    class: ClassPart,
+    otherwise: Aim,
+) -> Aim
+    ensures { result ≡ aims.class_aim (heads_seen heads.now) source name.now class otherwise }
 {
     match class {
         ClassPart::Class(class) => match heads.metas.feature(class, name) {
             None => otherwise,
-            Some(feature) => property_aim(heads, feature),
+            Some(feature) => property_aim(heads, source, feature),
         },
-        ClassPart::Untyped => Aim::Unsure,
+        ClassPart::Untyped => Aim::UntypedProperty,
         ClassPart::Missing => otherwise,
     }
 }
@@ -81,8 +87,9 @@ pub fn bare_aim(x: &Context<'_>, scope: &Scope, name: &str) -> Result<Aim, ListF
     if let Some(known) = scope.find(name) {
         return variable_aim(x.alloc, name, known.sort, &known.ty);
     }
-    let otherwise = class_aim(&x.heads, name, x.owner, model_aim(&x.heads, name));
-    Ok(class_aim(&x.heads, name, x.object, otherwise))
+    let result = Some(Text::from_str(x.alloc, "#result")?);
+    let otherwise = class_aim(&x.heads, result, name, x.owner, model_aim(&x.heads, name));
+    Ok(class_aim(&x.heads, None, name, x.object, otherwise))
 }
 
 /// What `result` means on the left of an assignment.
@@ -98,7 +105,7 @@ pub fn result_aim(x: &Context<'_>) -> Result<Aim, ListFault>
                 Ok(Aim::Fixed)
             }
         }
-        ClassPart::Untyped => Ok(Aim::Unsure),
+        ClassPart::Untyped => Ok(Aim::UntypedVariable),
         ClassPart::Missing => Ok(Aim::Nowhere),
     }
 }
@@ -108,11 +115,11 @@ pub fn member_aim(heads: &Heads<'_>, name: &str, object: &Option<Ty>) -> Aim
     ensures { result ≡ aims.member_aim (heads_seen heads.now) name.now object.now }
 {
     let Some(ty) = object else {
-        return Aim::Unsure;
+        return Aim::UntypedProperty;
     };
     match feature_in(heads.metas, ty, name) {
         None => Aim::Nowhere,
-        Some(feature) => property_aim(heads, feature),
+        Some(feature) => property_aim(heads, None, feature),
     }
 }
 
@@ -124,7 +131,16 @@ pub fn aim_read(alloc: Global, aim: &Aim) -> Result<Read, ListFault>
         Aim::VariableOf(name, _) => {
             Ok(Read::plain(Reading::Variable(name.copy(alloc)?), None))
         }
-        Aim::Property(feature) => Ok(Read::plain(Reading::Feature(*feature), None)),
+        Aim::Property(source, feature) => Ok(Read {
+            reading: Reading::Feature(*feature),
+            source: match source {
+                None => None,
+                Some(name) => Some(name.copy(alloc)?),
+            },
+            wrap: false,
+            collect: false,
+            answer: None,
+        }),
         _ => Ok(Read::plain(Reading::Nothing, None)),
     }
 }
@@ -134,8 +150,8 @@ pub fn takes_late(aim: &Aim) -> bool
     ensures { result ≡ aims.takes_late aim.now }
 {
     match aim {
-        Aim::Property(_) | Aim::Unsure | Aim::Nowhere => true,
-        Aim::Fixed | Aim::VariableOf(_, _) => false,
+        Aim::Property(_, _) | Aim::UntypedProperty | Aim::Nowhere => true,
+        Aim::UntypedVariable | Aim::Fixed | Aim::VariableOf(_, _) => false,
     }
 }
 
@@ -144,7 +160,7 @@ pub fn changes_property(aim: &Aim) -> bool
     ensures { result ≡ aims.changes_property aim.now }
 {
     match aim {
-        Aim::Property(_) => true,
+        Aim::Property(_, _) => true,
         _ => false,
     }
 }

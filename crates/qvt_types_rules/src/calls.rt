@@ -2,6 +2,7 @@
 
 ghost use Rattle.std.specs.Prelude.{◌≡◌, [], IfOk};
 ghost use Rattle.qvt_types_rules.specs.Seen.{heads_seen};
+ghost use Rattle.qvt_types_units.specs.Choice as choice;
 ghost use Rattle.qvt_types_units.specs.Numbers as numbers;
 ghost use Rattle.qvt_typing.specs.Calls as calls;
 
@@ -71,6 +72,48 @@ fn on_class(
     }
 }
 
+fn is_unknown(context: HeadClass) -> bool
+    ensures { result ≡ choice.is_unknown context }
+{
+    match context {
+        HeadClass::Unknown => true,
+        HeadClass::Missing | HeadClass::Known(_) => false,
+    }
+}
+
+/// Whether the context of one of the units is unknown.
+fn is_unsure(alloc: Global, heads: &Heads<'_>, units: &[u32]) -> bool
+    ensures { result ≡ choice.is_unsure (heads_seen heads.now).units units.now }
+{
+    let none = no_unit(alloc);
+    for unit in units {
+        if is_unknown(unit_at(heads.units, *unit, &none).context) {
+            return true;
+        }
+    }
+    false
+}
+
+/// What is called, or nothing that is known where the context of one unit of the name is unknown.
+fn unless_unsure(
+    alloc: Global,
+    heads: &Heads<'_>,
+    units: UnitNoList,
+    called: Called,
+) -> Called
+    ensures { result ≡ calls.unless_unsure (heads_seen heads.now) units called }
+{
+    if is_unsure(alloc, heads, units.as_slice()) {
+        Called {
+            found: Found::Untyped,
+            units,
+            source: None,
+        }
+    } else {
+        called
+    }
+}
+
 /// What a call behind a step finds.
 pub fn called_behind(
     alloc: Global,
@@ -83,11 +126,13 @@ pub fn called_behind(
     ensures { IfOk result (λ c. c ≡ calls.called_behind (heads_seen heads.now) maps arrow name.now source.now) }
 {
     let found = on_class(alloc, heads, maps, name, static_class(arrow, source))?;
-    Ok(Called {
+    let units = heads.units.group(alloc, maps, name)?;
+    let called = Called {
         found,
-        units: heads.units.group(alloc, maps, name)?,
+        units: units.copy(alloc)?,
         source: None,
-    })
+    };
+    Ok(unless_unsure(alloc, heads, units, called))
 }
 
 fn class_of(ty: &Option<Ty>) -> ClassPart
@@ -153,14 +198,16 @@ pub fn called_alone(
 ) -> Result<Called, ListFault>
     ensures { IfOk result (λ c. c ≡ calls.called_alone (heads_seen heads.now) maps name.now sources.now) }
 {
-    match heads.units.free_unit(maps, name)? {
-        None => called_implicitly(alloc, heads, maps, name, sources),
-        Some(number) => Ok(Called {
+    let called = match heads.units.free_unit(maps, name)? {
+        None => called_implicitly(alloc, heads, maps, name, sources)?,
+        Some(number) => Called {
             found: Found::Chosen(number),
             units: Seq::from_slice(alloc, &[number])?,
             source: None,
-        }),
-    }
+        },
+    };
+    let units = heads.units.group(alloc, maps, name)?;
+    Ok(unless_unsure(alloc, heads, units, called))
 }
 
 /// The numbers of those of the units that are mappings.

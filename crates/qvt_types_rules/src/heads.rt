@@ -15,6 +15,7 @@ use qvt_base::list_fault::ListFault;
 use qvt_base::numbers::Place;
 use qvt_base::text::Text;
 use qvt_tree_types::types::TypeTree;
+use qvt_types_data::refusal::RefusalKind;
 use qvt_types_data::ty::{Ty, copied};
 use qvt_types_data::variable::VariableSort;
 use qvt_types_states::scope::Known;
@@ -57,6 +58,27 @@ fn iterator_known(
     })
 }
 
+/// Declares a variable of a Head, and tells whether its name is new.
+fn declare_head(
+    x: &Context<'_>,
+    name: &Text,
+    known: Known,
+    place: Place,
+    state: &mut State,
+) -> Result<bool, ListFault>
+    ensures { Does (rule.declare_head name.now known place state.old) result state.new }
+{
+    let is_new = state.scope.find(name.as_str()).is_none();
+    declare(x.alloc, name.as_str(), known, place, state)?;
+    Ok(is_new)
+}
+
+fn if_new(is_new: bool, heading: Heading) -> Heading
+    ensures { result ≡ rule.if_new is_new heading }
+{
+    if is_new { heading } else { Heading::Untyped }
+}
+
 /// A Head without an accumulator.
 #[tactic(auto, unfolding(qvt_typing::specs::Rules::plain_heading))]
 pub fn plain_heading(
@@ -73,13 +95,38 @@ pub fn plain_heading(
     let wrong = iterator_wrong(x.heads.metas, kind.is_given, &kind.ty, items);
     checked(wrong, place, state)?;
     let known = iterator_known(x, &kind, items)?;
-    declare(x.alloc, name.as_str(), known, place, state)?;
+    let is_new = declare_head(x, name, known, place, state)?;
     writes_nothing(state)?;
-    Ok(plain_head(x.heads.metas, kind.is_given, &kind.ty, items))
+    Ok(if_new(is_new, plain_head(x.heads.metas, kind.is_given, &kind.ty, items)))
 }
 
-#[tactic(auto, unfolding(qvt_typing::specs::Rules::folded))]
+fn unless_folding_fails(heading: &Heading, told: Option<RefusalKind>) -> Option<RefusalKind>
+    ensures { result ≡ rule.unless_folding_fails heading.now told }
+{
+    match heading {
+        Heading::Untyped => None,
+        _ => told,
+    }
+}
+
+/// What is told of the type of an iterator beside an accumulator.
+fn fold_wrong(
+    x: &Context<'_>,
+    kind: &Given,
+    items: &Option<Ty>,
+    ty: &Option<Ty>,
+    first: &Option<Ty>,
+) -> Result<Option<RefusalKind>, ListFault>
+    ensures { IfOk result (λ o. o ≡ rule.fold_wrong (seen x.now) kind.now items.now ty.now first.now) }
+{
+    let metas = x.heads.metas;
+    let folding = folding_head(x.alloc, metas, &Heading::Plain, ty, first)?;
+    let wrong = iterator_wrong(metas, kind.is_given, &kind.ty, items);
+    Ok(unless_folding_fails(&folding, wrong))
+}
+
 /// Declares the iterator and the accumulator of a Head whose types and first value are judged.
+#[tactic(auto, unfolding(qvt_typing::specs::Rules::folded))]
 pub fn folded(
     x: &Context<'_>,
     iterator: (&Text, Place),
@@ -93,18 +140,18 @@ pub fn folded(
     ensures { Does (rule.folded (seen x.now) iterator.0.now kind.now accumulator.0.now ty.now first.now accumulator.1 iterator.1 items.now state.old) result state.new }
 {
     let metas = x.heads.metas;
-    let wrong = iterator_wrong(metas, kind.is_given, &kind.ty, items);
-    checked(wrong, iterator.1, state)?;
+    checked(fold_wrong(x, kind, items, ty, first)?, iterator.1, state)?;
     checked(accumulator_wrong(metas, ty, first), accumulator.1, state)?;
     writes_nothing(state)?;
     let known = iterator_known(x, kind, items)?;
-    declare(x.alloc, iterator.0.as_str(), known, iterator.1, state)?;
+    let is_new = declare_head(x, iterator.0, known, iterator.1, state)?;
     let known = Known {
         sort: VariableSort::Iterator,
         ty: copied(x.alloc, ty)?,
     };
-    declare(x.alloc, accumulator.0.as_str(), known, accumulator.1, state)?;
+    let is_other_new = declare_head(x, accumulator.0, known, accumulator.1, state)?;
     writes_nothing(state)?;
     let plain = plain_head(metas, kind.is_given, &kind.ty, items);
-    folding_head(x.alloc, metas, &plain, ty, first)
+    let heading = folding_head(x.alloc, metas, &plain, ty, first)?;
+    Ok(if_new(is_new && is_other_new, heading))
 }

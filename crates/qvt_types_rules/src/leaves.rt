@@ -22,7 +22,7 @@ use qvt_types_data::ruling::Read;
 use qvt_types_data::ty::Ty;
 use qvt_types_paths::paths::{path_class, path_type};
 use qvt_types_states::state::State;
-use qvt_types_states::steps::{fresh, marks, settled, tell};
+use qvt_types_states::steps::{answers, fresh, marks, settled, tell};
 use qvt_types_steps::classes::ClassPart;
 use qvt_typing::parts::{Effect, Given};
 
@@ -137,6 +137,22 @@ pub fn named_class(
     Ok(class_found(class))
 }
 
+/// An argument that is a class.
+#[tactic(auto, unfolding(qvt_typing::specs::Rules::class_given))]
+pub fn class_given(
+    x: &Context<'_>,
+    path: &PathTree,
+    state: &mut State,
+) -> Result<ClassPart, ListFault>
+    ensures { Does (rule.class_given (seen x.now) path.now state.old) result state.new }
+{
+    let number = fresh(state)?;
+    let class = path_class(x.heads.given, x.heads.types, path.names.as_slice());
+    let read = settled(class_ruled(class), path.place, state)?;
+    answers(x.alloc, number, read, state)?;
+    Ok(class_found(class))
+}
+
 /// A class that is written as a type.
 #[tactic(auto, unfolding(qvt_typing::specs::Rules::no_class, qvt_typing::specs::Rules::collection_type))]
 pub fn written_class(
@@ -151,8 +167,10 @@ pub fn written_class(
         TypeTree::Coll { kind, item, place } => {
             let item = written_type(x, item, state)?;
             let read = collection_read(x, *kind, item)?;
-            marks(read, state)?;
-            tell(RefusalKind::UnknownType, *place, state)?;
+            let ty = marks(read, state)?;
+            if ty.is_some() {
+                tell(RefusalKind::UnknownType, *place, state)?;
+            }
             Ok(ClassPart::Untyped)
         }
     }

@@ -74,6 +74,17 @@ pub fn class_found(class: Result<ClassNo, RefusalKind>) -> ClassPart
     }
 }
 
+/// How a class is read of which an object is made, in an extent if there is one.
+pub fn made_read(class: ClassNo, extent: Option<u32>) -> Read
+    ensures { result ≡ names.made_read class extent }
+{
+    let reading = match extent {
+        None => Reading::Nothing,
+        Some(extent) => Reading::Make(class, extent),
+    };
+    Read::plain(reading, Some(Ty::Class(class)))
+}
+
 /// What is ruled of a path that is to name a literal.
 fn literal_ruled(literal: Result<LiteralRef, RefusalKind>) -> Ruling
     ensures { result ≡ names.literal_ruled literal }

@@ -10,16 +10,15 @@ ghost use Rattle.qvt_typing.specs.Rules as rule;
 
 use crate::calls::{no_unit, unit_at};
 use crate::context::Context;
-use crate::names::{result_ruled, variable_ruled};
+use crate::names::{made_read, result_ruled, variable_ruled};
 use crate::settling::tell_effect;
 use qvt_base::list_fault::ListFault;
 use qvt_base::numbers::{ClassNo, ExprNo, Place};
 use qvt_base::seq::Seq;
 use qvt_base::text::Text;
 use qvt_tree_types::types::ObjectVar;
-use qvt_types_data::note::Reading;
 use qvt_types_data::refusal::RefusalKind;
-use qvt_types_data::ruling::{Read, Ruling};
+use qvt_types_data::ruling::Ruling;
 use qvt_types_data::ty::{Ty, same};
 use qvt_types_data::variable::VariableSort;
 use qvt_types_paths::extents::extent;
@@ -93,7 +92,7 @@ pub fn tell_abstract(
 }
 
 /// The extent of new objects of the class, where a name may stand after `@`.
-fn extent_of(x: &Context<'_>, name: &Option<Text>, class: ClassNo) -> Option<u32>
+pub fn extent_of(x: &Context<'_>, name: &Option<Text>, class: ClassNo) -> Option<u32>
     ensures { result ≡ rule.extent_of (seen x.now) name.now class }
 {
     let last = x.heads.given.metamodel_count();
@@ -124,11 +123,17 @@ pub fn tell_extent(
 fn made(x: &Context<'_>, name: &Option<Text>, class: ClassNo) -> Ruling
     ensures { result ≡ rule.made_in class (rule.extent_of (seen x.now) name.now class) }
 {
-    let reading = match extent_of(x, name, class) {
-        None => Reading::Nothing,
-        Some(extent) => Reading::Make(class, extent),
-    };
-    Ruling::Holds(Read::plain(reading, Some(Ty::Class(class))))
+    Ruling::Holds(made_read(class, extent_of(x, name, class)))
+}
+
+/// The class of an object whose variable has a type.
+pub fn class_beside(variable: &ObjectVariable, class: ClassPart) -> ClassPart
+    ensures { result ≡ rule.class_beside variable.now class }
+{
+    match variable {
+        ObjectVariable::OfNone => ClassPart::Untyped,
+        _ => class,
+    }
 }
 
 /// What is ruled of an object expression: its variable has exactly the class as its type.
@@ -219,7 +224,8 @@ pub fn constructed(
 ) -> Result<Option<Ty>, ListFault>
     ensures { Does (rule.constructed (seen x.now) number class.0 class.1 name.now types.now place state.old) result state.new }
 {
-    tell_extent(x, name, class.0, place, state)?;
+    let beside = if types.is_some() { class.0 } else { ClassPart::Untyped };
+    tell_extent(x, name, beside, place, state)?;
     let ruling = new_ruled(x, name, class.0, types)?;
     let at = new_place(&ruling, class.1, place);
     let read = settled(ruling, at, state)?;

@@ -13,15 +13,17 @@ use crate::names::names_model;
 use qvt_base::copied::Copied;
 use qvt_base::list_fault::ListFault;
 use qvt_base::seq::Seq;
+use qvt_base::text::Text;
 use qvt_tree_types::tree::{Expr, Step};
 use qvt_tree_types::types::PathTree;
 use qvt_tree_types::words::Sign;
+use qvt_types_data::ruling::Ruling;
 use qvt_types_data::ty::Ty;
 use qvt_types_states::scope::Scope;
 use qvt_types_states::state::State;
 use qvt_types_states::steps::{settled, writes_nothing};
 use qvt_types_steps::calls::has_operation;
-use qvt_types_steps::classes::{ClassPart, model_call_named};
+use qvt_types_steps::classes::{ClassPart, model_call_named, selection};
 use qvt_types_steps::heads::Heading;
 use qvt_types_steps::iterators::IteratorKind;
 use qvt_types_words::rulings::prefixed;
@@ -96,12 +98,28 @@ pub fn reads_operation(name: &str, source: &Option<Ty>) -> bool
     }
 }
 
-pub fn has_head(heading: &Heading) -> bool
+fn has_head(heading: &Heading) -> bool
     ensures { result ≡ rule.has_head heading.now }
 {
     match heading {
         Heading::Missing => false,
         _ => true,
+    }
+}
+
+/// What is ruled of a selection by class, behind a Head that should not be there.
+pub fn selected_by(
+    alloc: Global,
+    name: &Text,
+    heading: &Heading,
+    source: &Option<Ty>,
+    parts: &[ClassPart],
+) -> Result<Ruling, ListFault>
+    ensures { IfOk result (λ r. r ≡ rule.selected_by name.now heading.now source.now parts.now) }
+{
+    match heading {
+        Heading::Untyped => Ok(Ruling::Silent),
+        _ => selection(alloc, name, has_head(heading), source, parts),
     }
 }
 

@@ -3,11 +3,14 @@
 ghost use Rattle.std.specs.Prelude.{◌≡◌, IfOk};
 ghost use Rattle.qvt_types_rules.specs.Seen.{seen};
 ghost use Rattle.qvt_types_states.specs.Does.{Does};
+ghost use Rattle.qvt_types_states.specs.Judge as checking;
+ghost use Rattle.qvt_types_words.specs.Rulings as ruling;
 ghost use Rattle.qvt_typing.specs.Statements as rule_of;
 
 use crate::context::{Context, Returns};
 use qvt_base::list_fault::ListFault;
 use qvt_base::numbers::Place;
+use qvt_base::seq::Seq;
 use qvt_base::text::Text;
 use qvt_types_data::note::Reading;
 use qvt_types_data::refusal::RefusalKind;
@@ -116,35 +119,65 @@ pub fn tell_condition(
     checked(conforms_told(x, &Some(Ty::Boolean), condition), place, state)
 }
 
-/// Tells that a condition that may be written is no Boolean.
-pub fn tell_condition_if(
-    x: &Context<'_>,
-    condition: &Given,
-    place: Place,
-    state: &mut State,
-) -> Result<(), ListFault>
-    ensures { Does (rule_of.given_condition_checked (seen x.now) condition.now place state.old) result state.new }
+/// Whether the condition is a Boolean, where it has a type.
+fn is_condition(x: &Context<'_>, condition: &Option<Ty>) -> bool
+    ensures { result ≡ rule_of.is_condition (seen x.now) condition.now }
 {
-    if condition.is_given {
-        tell_condition(x, &condition.ty, place, state)
-    } else {
-        Ok(())
+    match condition {
+        None => true,
+        Some(ty) => conforms(x.heads.metas, ty, &Ty::Boolean),
     }
 }
 
-/// Tells what is wrong with the type of a `forEach`'s variable.
-pub fn tell_iterator(
+/// Whether all conditions are Booleans, where all have types.
+fn are_conditions(x: &Context<'_>, types: &Option<Seq<Ty>>) -> bool
+    ensures { result ≡ rule_of.are_conditions (seen x.now) types.now }
+{
+    let Some(types) = types else {
+        return true;
+    };
+    let metas = x.heads.metas;
+    types.as_slice().iter().all(|ty| conforms(metas, ty, &Ty::Boolean))
+}
+
+fn wrong_unless(right: bool) -> Option<RefusalKind>
+    ensures { result ≡ ruling.wrong_unless right }
+{
+    if right { None } else { Some(RefusalKind::WrongType) }
+}
+
+/// Tells that a condition of an `if` is no Boolean.
+pub fn tell_conditions(
     x: &Context<'_>,
-    source: &Option<Ty>,
-    kind: &Given,
+    types: &Option<Seq<Ty>>,
     place: Place,
     state: &mut State,
 ) -> Result<(), ListFault>
-    ensures { Does (rule_of.iterator_checked (seen x.now) source.now kind.now place state.old) result state.new }
+    ensures { Does (checking.checked (ruling.wrong_unless (rule_of.are_conditions (seen x.now) types.now)) place state.old) result state.new }
 {
-    let items = item_type(x.alloc, source)?;
-    let wrong = iterator_wrong(x.heads.metas, kind.is_given, &kind.ty, &items);
-    checked(wrong, place, state)
+    checked(wrong_unless(are_conditions(x, types)), place, state)
+}
+
+fn has_type(given: &Given) -> bool
+    ensures { result ≡ rule_of.has_type given.now }
+{
+    !given.is_given || given.ty.is_some()
+}
+
+/// What is told of a `forEach` over items of a type.
+fn for_each_told(
+    x: &Context<'_>,
+    items: &Option<Ty>,
+    kind: &Given,
+    condition: &Given,
+) -> Option<RefusalKind>
+    ensures { result ≡ rule_of.for_each_told (seen x.now) items.now kind.now condition.now }
+{
+    if !(items.is_some() && (has_type(kind) && has_type(condition))) {
+        return None;
+    }
+    let wrong = iterator_wrong(x.heads.metas, kind.is_given, &kind.ty, items);
+    wrong_unless(wrong.is_none() && is_condition(x, &condition.ty))
 }
 
 /// Declares a `forEach`'s variable.
@@ -156,7 +189,7 @@ pub fn declare_iterator(
     place: Place,
     state: &mut State,
 ) -> Result<(), ListFault>
-    ensures { Does (rule_of.iterator_declared (seen x.now) source.now name.now kind.now place state.old) result state.new }
+    ensures { Does (rule_of.for_each_declared (seen x.now) source.now name.now kind.now place state.old) result state.new }
 {
     let items = item_type(x.alloc, source)?;
     let known = Known {
@@ -182,10 +215,19 @@ fn wraps(source: &Option<Ty>) -> Read
     }
 }
 
-/// Writes the note of a `forEach` over values of this type.
-pub fn write_for_each(source: &Option<Ty>, state: &mut State) -> Result<(), ListFault>
-    ensures { Does (rule_of.wraps_marked source.now state.old) result state.new }
+/// Settles a `forEach` whose parts are judged.
+pub fn for_each_settled(
+    x: &Context<'_>,
+    source: &Option<Ty>,
+    kind: &Given,
+    condition: &Given,
+    place: Place,
+    state: &mut State,
+) -> Result<(), ListFault>
+    ensures { Does (rule_of.for_each_settled (seen x.now) source.now kind.now condition.now place state.old) result state.new }
 {
+    let items = item_type(x.alloc, source)?;
+    checked(for_each_told(x, &items, kind, condition), place, state)?;
     marks(wraps(source), state)?;
     Ok(())
 }

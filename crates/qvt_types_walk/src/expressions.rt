@@ -21,7 +21,7 @@ use qvt_tree_types::words::{CollKind, Sign};
 use qvt_types_data::ty::Ty;
 use qvt_types_rules::calls::{call_ruled, called_alone, effect_of};
 use qvt_types_rules::context::Context;
-use qvt_types_rules::leaves::{named_class, path, result_ref, self_ref};
+use qvt_types_rules::leaves::{class_given, path, result_ref, self_ref};
 use qvt_types_rules::parts::{all_types, no_path, sign_notes, signed};
 use qvt_types_rules::settling::{constant, ruled, settled_bare, stands_as};
 use qvt_types_states::state::State;
@@ -100,7 +100,7 @@ pub fn class_argument(x: &Context<'_>, node: &Expr, state: &mut State) -> Result
     ensures { Does (rule.class_argument (seen x.now) (phrase.class_path (view.expr_view node.now)) (phrase.expr (seen x.now) false (view.expr_view node.now)) state.old) result state.new }
 {
     match node {
-        Expr::Path(names) => named_class(x, names, state),
+        Expr::Path(names) => class_given(x, names, state),
         _ => {
             let ty = expr(x, false, node, state)?;
             Ok(no_path(&ty))

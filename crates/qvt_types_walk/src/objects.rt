@@ -20,7 +20,7 @@ use qvt_tree_types::types::{ObjectVar, PathTree};
 use qvt_types_data::ty::Ty;
 use qvt_types_rules::context::Context;
 use qvt_types_rules::leaves::{named_class, path, written_class};
-use qvt_types_rules::objects::{constructed, object_ruled, object_variable, tell_abstract, tell_extent};
+use qvt_types_rules::objects::{class_beside, constructed, object_ruled, object_variable, tell_abstract, tell_extent};
 use qvt_types_rules::parts::all_types;
 use qvt_types_rules::resolves::{Resolving, declare_filter, filter_settled, resolve_settled, within};
 use qvt_types_rules::settling::ruled;
@@ -48,7 +48,7 @@ pub fn object(
     tell_abstract(x, class, path.place, state)?;
     let inner = Context { object: class, ..*x };
     block(&inner, body, state)?;
-    tell_extent(x, extent, class, place, state)?;
+    tell_extent(x, extent, class_beside(&variable, class), place, state)?;
     let ruling = object_ruled(x, &variable, extent, class);
     ruled(x, number, ruling, Effect::ImpureOne, place, state)
 }

@@ -1,6 +1,6 @@
 //! Statements.
 
-ghost use Rattle.std.specs.Prelude.{◌≡◌, ◌+◌, ◌<◌, length, map, drop, option_map};
+ghost use Rattle.std.specs.Prelude.{◌≡◌, ◌∷◌, [], map, option_map};
 ghost use Rattle.qvt_tree_types.specs.View as view;
 ghost use Rattle.qvt_types_rules.specs.Seen.{seen};
 ghost use Rattle.qvt_types_states.specs.Does.{Does};
@@ -13,14 +13,17 @@ ghost use Rattle.qvt_typing.specs.Statements as rule_of;
 use crate::expressions::{expr, given_expr};
 use qvt_base::list_fault::ListFault;
 use qvt_base::numbers::Place;
+use qvt_base::seq::Seq;
 use qvt_base::text::Text;
 use qvt_tree_types::tree::{Arm, Expr, Stmt, Stmts, Target};
 use qvt_tree_types::types::TypeTree;
+use qvt_types_data::ty::Ty;
 use qvt_types_rules::aims::takes_late;
 use qvt_types_rules::assignments::{assigned, bare_target, member_aimed, result_target};
 use qvt_types_rules::context::Context;
 use qvt_types_rules::leaves::type_if;
-use qvt_types_rules::statements::{declare_iterator, declared, returned, tell_condition, tell_condition_if, tell_iterator, write_for_each};
+use qvt_types_rules::parts::all_types;
+use qvt_types_rules::statements::{declare_iterator, declared, for_each_settled, returned, tell_condition, tell_conditions};
 use qvt_types_states::state::State;
 use qvt_types_states::steps::writes_nothing;
 use qvt_typing::parts::Aim;
@@ -181,39 +184,48 @@ pub fn stmts(x: &Context<'_>, body: &[Stmt], state: &mut State) -> Result<(), Li
     Ok(())
 }
 
-/// A condition and the block that it guards.
+/// A condition and the block that it guards: the type of the condition.
 #[cycle(walk)]
 #[tactic(auto, unfolding(qvt_typing::specs::Statements::arm))]
 pub fn guarded(
     x: &Context<'_>,
     test: &Expr,
     body: &[Stmt],
-    place: Place,
     state: &mut State,
-) -> Result<(), ListFault>
-    ensures { Does (rule_of.arm (seen x.now) (phrase.expr (seen x.now) false (view.expr_view test.now)) (phrase.stmts (seen x.now) (view.stmts_of (map view.stmt_view body.now))) place state.old) result state.new }
+) -> Result<Option<Ty>, ListFault>
+    ensures { Does (rule_of.arm (seen x.now) (phrase.expr (seen x.now) false (view.expr_view test.now)) (phrase.stmts (seen x.now) (view.stmts_of (map view.stmt_view body.now))) state.old) result state.new }
 {
-    condition(x, test, place, state)?;
-    block(x, body, state)
+    let ty = expr(x, false, test, state)?;
+    block(x, body, state)?;
+    Ok(ty)
 }
 
 #[cycle(walk)]
 #[tactic(auto, unfolding(qvt_typing::specs::Phrases::one_arm))]
-pub fn arm(x: &Context<'_>, arm: &Arm, place: Place, state: &mut State) -> Result<(), ListFault>
-    ensures { Does (phrase.one_arm (seen x.now) (view.arm_view arm.now) place state.old) result state.new }
+pub fn arm(x: &Context<'_>, arm: &Arm, state: &mut State) -> Result<Option<Ty>, ListFault>
+    ensures { Does (phrase.one_arm (seen x.now) (view.arm_view arm.now) state.old) result state.new }
 {
-    guarded(x, &arm.condition, arm.body.as_slice(), place, state)
+    guarded(x, &arm.condition, arm.body.as_slice(), state)
 }
 
+/// The conditions of all arms, after that of the `if`.
 #[cycle(walk)]
 #[tactic(auto, unfolding(qvt_typing::specs::Phrases::all_arms))]
-pub fn arms(x: &Context<'_>, list: &[Arm], place: Place, state: &mut State) -> Result<(), ListFault>
-    ensures { Does (rule_of.each_at (seen x.now) place (phrase.all_arms (seen x.now) (view.arms_of (map view.arm_view list.now))) state.old) result state.new }
+pub fn arms(
+    x: &Context<'_>,
+    first: Option<Ty>,
+    list: &[Arm],
+    state: &mut State,
+) -> Result<Seq<Option<Ty>>, ListFault>
+    ensures { Does (rule.all (first ∷ []) (phrase.all_arms (seen x.now) (view.arms_of (map view.arm_view list.now))) state.old) result state.new }
 {
+    let mut types = Seq::new(x.alloc);
+    types.push(first)?;
     for next in list {
-        arm(x, next, place, state)?;
+        let ty = arm(x, next, state)?;
+        types.push(ty)?;
     }
-    Ok(())
+    Ok(types)
 }
 
 #[cycle(walk)]
@@ -243,9 +255,10 @@ pub fn if_statement(
 ) -> Result<(), ListFault>
     ensures { Does (rule_of.if_ (seen x.now) (phrase.expr (seen x.now) false (view.expr_view first.0.now)) (phrase.stmts (seen x.now) (view.stmts_of (map view.stmt_view first.1.now))) (phrase.all_arms (seen x.now) (view.arms_of (map view.arm_view list.now))) (phrase.otherwise (seen x.now) (view.optional_else (option_map (map view.stmt_view) otherwise.now))) place state.old) result state.new }
 {
-    guarded(x, first.0, first.1, place, state)?;
-    arms(x, list, place, state)?;
+    let ty = guarded(x, first.0, first.1, state)?;
+    let types = all_types(x.alloc, arms(x, ty, list, state)?.as_slice())?;
     else_block(x, otherwise, state)?;
+    tell_conditions(x, &types, place, state)?;
     writes_nothing(state)
 }
 
@@ -279,12 +292,10 @@ pub fn for_each(
 {
     let source = expr(x, false, source, state)?;
     let kind = type_if(x, variable.1, state)?;
-    tell_iterator(x, &source, &kind, place, state)?;
     let (named, sources) = state.scope.mark();
     declare_iterator(x, &source, variable.0, &kind, place, state)?;
     let condition = given_expr(x, variable.2, state)?;
-    tell_condition_if(x, &condition, place, state)?;
     block(x, body, state)?;
     state.scope.cut(named, sources);
-    write_for_each(&source, state)
+    for_each_settled(x, &source, &kind, &condition, place, state)
 }

@@ -21,13 +21,13 @@ use qvt_types_rules::calls::{called_behind, effect_of, map_ruled, unit_ruled};
 use qvt_types_rules::context::{Context, body_context, unless_untyped};
 use qvt_types_rules::heads::{folded, no_head, plain_heading};
 use qvt_types_rules::leaves::{path, type_if, written_type};
-use qvt_types_rules::parts::{all_types, has_head, is_last, iterator_effect, model_path, reads_operation};
+use qvt_types_rules::parts::{all_types, is_last, iterator_effect, model_path, reads_operation, selected_by};
 use qvt_types_rules::settling::{stands_as, stepped};
 use qvt_types_states::state::State;
 use qvt_types_states::steps::fresh;
 use qvt_types_steps::arrows::arrow;
 use qvt_types_steps::calls::dot_call;
-use qvt_types_steps::classes::{ClassTest, ModelCall, class_test, class_test_named, is_selection, model_call_named, model_objects, model_objects_of, selection};
+use qvt_types_steps::classes::{ClassTest, ModelCall, class_test, class_test_named, is_selection, model_call_named, model_objects, model_objects_of};
 use qvt_types_steps::heads::{Heading, item_type};
 use qvt_types_steps::iterators::iterator_named;
 use qvt_types_steps::properties::property;
@@ -334,7 +334,7 @@ pub fn selection_step(
     let items = item_type(x.alloc, source)?;
     let heading = heading(x, name, head, items, state)?;
     let parts = classes(x, args, state)?;
-    let ruling = selection(x.alloc, name, has_head(&heading), source, parts.as_slice())?;
+    let ruling = selected_by(x.alloc, name, &heading, source, parts.as_slice())?;
     state.scope.cut(named, sources);
     stepped(x, ruling, Effect::PlainOne, place, state)
 }

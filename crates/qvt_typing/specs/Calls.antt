@@ -13,7 +13,7 @@ use Rattle.qvt_types_data.specs.declared.variable.Variable.{Variable}
 use Rattle.qvt_types_steps.specs.UnitCalls.{class_in, static_class, arguments_wrong, unit_step, mapping_step}
 use Rattle.qvt_types_steps.specs.declared.classes.ClassPart.{ClassPart}
 use Rattle.qvt_types_steps.specs.declared.classes.ClassPart.TheVariants as part
-use Rattle.qvt_types_units.specs.Choice.{called_on}
+use Rattle.qvt_types_units.specs.Choice.{called_on, is_unsure}
 use Rattle.qvt_types_units.specs.declared.choice.Found.{Found}
 use Rattle.qvt_types_units.specs.declared.choice.Found.TheVariants.{NoUnit, Untyped, Unclear, Chosen}
 use Rattle.qvt_types_units.specs.Numbers.{unit_at, group, free_unit}
@@ -28,6 +28,10 @@ use Rattle.qvt_typing.specs.Context.{Heads, Context}
 abbrev pub nothing_called : Called
 nothing_called = record { found = NoUnit; units = []; source = None }
 
+-- where the context of one unit of the name is unknown, no call by the name has a type
+abbrev pub unless_unsure : Heads → List ℕ → Called → Called
+unless_unsure h units called = if is_unsure h.units units then record { found = Untyped; units = units; source = None } else called
+
 abbrev pub on_class : Heads → Bool → List ℕ → ClassPart → Found
 on_class h maps name (part.Class c) = called_on h.metas h.units maps name c.0
 on_class h maps name part.Untyped = Untyped
@@ -35,7 +39,8 @@ on_class h maps name part.Missing = NoUnit
 
 -- behind a step
 abbrev pub called_behind : Heads → Bool → Bool → List ℕ → Option Ty → Called
-called_behind h maps arrow name o = record { found = on_class h maps name (static_class arrow o); units = group maps name h.units; source = None }
+called_behind h maps arrow name o =
+    unless_unsure h (group maps name h.units) (record { found = on_class h maps name (static_class arrow o); units = group maps name h.units; source = None })
 
 abbrev pub unless_none : Found → Called → Called → Called
 unless_none NoUnit called otherwise = otherwise
@@ -62,7 +67,8 @@ free_or (Some n) otherwise = record { found = Chosen n; units = n ∷ []; source
 
 -- without a step: a unit without a context, else one with a context on an implicit source
 unfoldable pub called_alone : Heads → Bool → List ℕ → List Variable → Called
-called_alone h maps name sources = free_or (free_unit maps name h.units) (called_implicitly h maps name nothing_called sources)
+called_alone h maps name sources =
+    unless_unsure h (group maps name h.units) (free_or (free_unit maps name h.units) (called_implicitly h maps name nothing_called sources))
 
 abbrev pub mapping_number : UnitSort → List MappingNo
 mapping_number (sort.Mapping n) = n ∷ []

@@ -8,6 +8,7 @@ use Rattle.qvt_types_data.specs.Notes.{plain}
 use Rattle.qvt_types_data.specs.declared.note.Reading.TheVariants as reading
 use Rattle.qvt_types_data.specs.declared.refusal.RefusalKind.{RefusalKind}
 use Rattle.qvt_types_data.specs.declared.refusal.RefusalKind.TheVariants as refusal
+use Rattle.qvt_types_data.specs.declared.ruling.Read.{Read}
 use Rattle.qvt_types_data.specs.declared.ruling.Ruling.{Ruling}
 use Rattle.qvt_types_data.specs.declared.ruling.Ruling.TheVariants.{Holds, Fails, Silent}
 use Rattle.qvt_types_data.specs.declared.ty.Ty.{Ty}
@@ -57,6 +58,11 @@ class_ruled (Err kind) = Fails kind
 abbrev pub class_found : Result ClassNo RefusalKind → ClassPart
 class_found (Ok c) = part.Class c
 class_found (Err kind) = part.Untyped
+
+-- a class of which an object is made, in an extent if there is one
+abbrev pub made_read : ClassNo → Option ℕ → Read
+made_read c None = plain reading.Nothing (Some (ty.Class c))
+made_read c (Some e) = plain (reading.Make c e) (Some (ty.Class c))
 
 abbrev pub literal_ruled : Result LiteralRef RefusalKind → Ruling
 literal_ruled (Ok l) = Holds (plain (reading.Literal l.metamodel l.enumeration l.literal) (Some (ty.Enum l.metamodel l.enumeration)))

@@ -91,7 +91,7 @@ unfoldable mutual
   expr x late (CallExpr name es at) = rule.call x name (exprs x es) at
   expr x late (CollExpr k items at) = rule.literal x k (all_items x items) at
   expr x late (IfExpr c y z at) = rule.conditional x (expr x false c) (expr x false y) (expr x false z) at
-  expr x late (ObjectExpr v path extent ss at) = rule.object x (object_variable x v) path extent (object_body x ss) at
+  expr x late (ObjectExpr v path extent ss at) = rule.object x (object_variable x v) path extent (λ c. rule_of.block (object_in x c) (stmts (object_in x c) ss)) at
   expr x late (NewExpr path extent es at) = rule.new x path extent (exprs x es) at
   expr x late (MapExpr m) = mapped x m
   expr x late (ResolveExpr r) = resolved x late r
@@ -111,9 +111,6 @@ unfoldable mutual
 
   pub resolved_behind : Context → Bool → Joint → ResolveTerm → Option Ty → Judges (Option Ty)
   resolved_behind x late j (ResolveOf l w i f at) = rule.resolve_step x late l j w (within x i) (filtered x f) at
-
-  pub object_body : Context → StmtTerms → ClassPart → Judges (Unit {0})
-  object_body x ss c = rule_of.block (object_in x c) (stmts (object_in x c) ss)
 
   pub exprs : Context → ExprTerms → List (Judges (Option Ty))
   exprs x NoExprs = []
@@ -189,10 +186,10 @@ unfoldable mutual
   otherwise x NoElse = []
   otherwise x (ElseOf ss) = stmts x ss
 
-  pub one_arm : Context → ArmTerm → Place → Judges (Unit {0})
+  pub one_arm : Context → ArmTerm → Judges (Option Ty)
   one_arm x (ArmOf c ss) = rule_of.arm x (expr x false c) (stmts x ss)
 
-  pub all_arms : Context → ArmTerms → List (Place → Judges (Unit {0}))
+  pub all_arms : Context → ArmTerms → List (Judges (Option Ty))
   all_arms x NoArms = []
   all_arms x (MoreArms a arms) = one_arm x a ∷ all_arms x arms
 
@@ -200,3 +197,7 @@ unfoldable mutual
 abbrev pub posted : Context → Bool → ExprTerm → StepTerms → Judges (Option Ty)
 posted x late e ss = scope
     >>= (λ s. rule.post x (rule.source_path x (model_path x s e ss) (expr x false e)) (steps x late (is_some (model_path x s e ss)) ss))
+
+-- the body of an object expression, by the class of the object
+abbrev pub object_body : Context → StmtTerms → ClassPart → Judges (Unit {0})
+object_body x ss c = rule_of.block (object_in x c) (stmts (object_in x c) ss)

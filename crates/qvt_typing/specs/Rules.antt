@@ -26,7 +26,7 @@ use Rattle.qvt_types_data.specs.declared.variable.VariableSort.TheVariants as so
 use Rattle.qvt_types_paths.specs.Models.{extent}
 use Rattle.qvt_types_paths.specs.Paths.{path_type, path_class, element_no}
 use Rattle.qvt_types_states.specs.Judge.{Judges, ◌>>=◌, gives, fresh, scope, add_source, scoped, tell, checked, declare, settled, answers, marks, writes_nothing}
-use Rattle.qvt_types_states.specs.Scopes.{found}
+use Rattle.qvt_types_states.specs.Scopes.{found, is_known}
 use Rattle.qvt_types_states.specs.declared.scope.Known.{Known}
 use Rattle.qvt_types_steps.specs.Calls.{dot_call, has_operation}
 use Rattle.qvt_types_steps.specs.Classes.{class_test, class_test_named, is_selection, selection, model_call_named, model_objects, model_objects_of}
@@ -52,7 +52,7 @@ use Rattle.qvt_types_units.specs.declared.signature.HeadClass.{HeadClass}
 use Rattle.qvt_types_units.specs.declared.signature.HeadClass.TheVariants as head
 use Rattle.qvt_types_words.specs.Rulings as ruling
 use Rattle.qvt_typing.specs.Context.{Context, unless_untyped}
-use Rattle.qvt_typing.specs.Names.{source, unnamed, class_type, type_ruled, class_ruled, class_found, self_ruled, result_ruled, path_ruled}
+use Rattle.qvt_typing.specs.Names.{source, unnamed, class_type, made_read, variable_ruled, type_ruled, class_ruled, class_found, self_ruled, result_ruled, path_ruled}
 use Rattle.qvt_typing.specs.Calls.{called_alone, called_behind, call_ruled, unit_ruled, map_ruled, numbers_of, unless_wrong, effect_of, not_pure, not_plain}
 use Rattle.qvt_typing.specs.declared.parts.Given.{Given}
 use Rattle.qvt_typing.specs.declared.parts.ObjectVariable.{ObjectVariable}
@@ -112,9 +112,13 @@ coll_of k (Some t) = plain (reading.Typed (ty.Coll k t)) (Some (ty.Coll k t))
 abbrev pub collection_type : CollKind → Judges (Option Ty) → Judges (Option Ty)
 collection_type k p = p >>= (λ o. marks (coll_of k o))
 
--- a type that is no path names no class
+-- a collection type names no class: this is told where it is a type
+abbrev pub no_class_told : Option Ty → Option RefusalKind
+no_class_told None = None
+no_class_told (Some t) = Some refusal.UnknownType
+
 abbrev pub no_class : Judges (Option Ty) → Place → Judges ClassPart
-no_class p at = p >>= (λ _. tell refusal.UnknownType at >>= (λ _. gives part.Untyped))
+no_class p at = p >>= (λ o. checked (no_class_told o) at >>= (λ _. gives part.Untyped))
 
 -- an argument that should be a class, and is none
 abbrev pub no_path : Option Ty → ClassPart
@@ -157,6 +161,19 @@ is_written p = p >>= (λ o. gives (record { is_given = true; ty = o }))
 abbrev pub iterator_known : Given → Option Ty → Known
 iterator_known k items = record { sort = sort.Iterator; ty = iterator_type k.is_given k.ty items }
 
+-- a variable of a Head, and whether its name is new
+abbrev pub declare_head : List ℕ → Known → Place → Judges Bool
+declare_head name k at = scope >>= (λ s. declare name k at >>= (λ _. gives (not (is_known name s))))
+
+-- where it is not, the body means another variable by it, and nothing is told of the step
+abbrev pub if_new : Bool → Heading → Heading
+if_new is_new h = if is_new then h else heading.Untyped
+
+-- an accumulator without a type leaves the Head without one
+abbrev pub unless_folding_fails : Heading → Option RefusalKind → Option RefusalKind
+unless_folding_fails heading.Untyped told = None
+unless_folding_fails h told = told
+
 abbrev pub iterator_effect : Option IteratorKind → Effect
 iterator_effect (Some iterator.Closure) = PureOne
 iterator_effect _ = PlainOne
@@ -165,14 +182,18 @@ abbrev pub has_head : Heading → Bool
 has_head heading.Missing = false
 has_head _ = true
 
--- no extent is told at the node, which keeps its type
+-- selectByKind and selectByType, which take no Head
+abbrev pub selected_by : List ℕ → Heading → Option Ty → List ClassPart → Ruling
+selected_by name heading.Untyped o ps = Silent
+selected_by name h o ps = selection name (has_head h) o ps
+
+-- no extent is told at the node, which keeps its type. The class is Untyped where a part of the node has no type.
 abbrev pub extent_told : Option ℕ → Place → Judges (Unit {0})
 extent_told None at = tell refusal.BadExtent at
 extent_told (Some e) at = gives tt
 
 abbrev pub made_in : ClassNo → Option ℕ → Ruling
-made_in c None = Holds (plain reading.Nothing (Some (ty.Class c)))
-made_in c (Some e) = Holds (plain (reading.Make c e) (Some (ty.Class c)))
+made_in c e = Holds (made_read c e)
 
 abbrev pub variable_of_type : Option Ty → ObjectVariable
 variable_of_type None = OfNone
@@ -184,10 +205,20 @@ if_settable _ r = Fails refusal.UnknownName
 
 abbrev pub settable_ruled : List ℕ → Option Known → Ruling
 settable_ruled name None = Fails refusal.UnknownName
-settable_ruled name (Some k) = if_settable k.sort (Holds (plain (reading.Variable name) k.ty))
+settable_ruled name (Some k) = if_settable k.sort (variable_ruled name k.ty)
 
 abbrev pub no_variable : Judges ObjectVariable
 no_variable = gives NoVariable
+
+-- the class of an object whose parts have types
+abbrev pub class_beside : ObjectVariable → ClassPart → ClassPart
+class_beside OfNone c = part.Untyped
+class_beside NoVariable c = c
+class_beside (OfType t) c = c
+
+abbrev pub class_with : Option (List Ty) → ClassPart → ClassPart
+class_with None c = part.Untyped
+class_with (Some us) c = c
 
 -- a number of arguments that no constructor has is told at the path
 abbrev pub new_place : Ruling → Place → Place → Place
@@ -238,10 +269,15 @@ module _ (x : Context) where
   named_class p = settled (class_ruled (path_class x.heads.given x.heads.types p.names)) p.place
       >>= (λ r. marks r >>= (λ _. gives (class_found (path_class x.heads.given x.heads.types p.names))))
 
-  -- an argument that is a class, if it is a path
+  -- an argument that is a class is an expression, and has a number
+  unfoldable pub class_given : PathTree → Judges ClassPart
+  class_given p = fresh >>= (λ n. settled (class_ruled (path_class x.heads.given x.heads.types p.names)) p.place
+      >>= (λ r. answers n r >>= (λ _. gives (class_found (path_class x.heads.given x.heads.types p.names)))))
+
+  -- an argument that should be a class: it is one if it is a path
   abbrev pub class_argument : Option PathTree → Judges (Option Ty) → Judges ClassPart
   class_argument None p = class_missing p
-  class_argument (Some path) p = named_class path
+  class_argument (Some path) p = class_given path
 
   -- Literals, names, `self` and `result`.
 
@@ -331,18 +367,21 @@ module _ (x : Context) where
 
   unfoldable pub plain_heading : List ℕ → Judges Given → Place → Option Ty → Judges Heading
   plain_heading v p at items = p >>= (λ k. checked (iterator_wrong x.heads.metas k.is_given k.ty items) at
-      >>= (λ _. declare v (iterator_known k items) at
-      >>= (λ _. writes_nothing >>= (λ _. gives (plain_head x.heads.metas k.is_given k.ty items)))))
+      >>= (λ _. declare_head v (iterator_known k items) at
+      >>= (λ is_new. writes_nothing >>= (λ _. gives (if_new is_new (plain_head x.heads.metas k.is_given k.ty items))))))
+
+  abbrev pub fold_wrong : Given → Option Ty → Option Ty → Option Ty → Option RefusalKind
+  fold_wrong k items t first = unless_folding_fails (folding_head x.heads.metas heading.Plain t first) (iterator_wrong x.heads.metas k.is_given k.ty items)
 
   -- the iterator and the accumulator are declared
   unfoldable pub folded : List ℕ → Given → List ℕ → Option Ty → Option Ty → Place → Place → Option Ty → Judges Heading
-  folded v k a t first accumulator_at at items = checked (iterator_wrong x.heads.metas k.is_given k.ty items) at
+  folded v k a t first accumulator_at at items = checked (fold_wrong k items t first) at
       >>= (λ _. checked (accumulator_wrong x.heads.metas t first) accumulator_at
       >>= (λ _. writes_nothing
-      >>= (λ _. declare v (iterator_known k items) at
-      >>= (λ _. declare a (record { sort = sort.Iterator; ty = t }) accumulator_at
-      >>= (λ _. writes_nothing
-      >>= (λ _. gives (folding_head x.heads.metas (plain_head x.heads.metas k.is_given k.ty items) t first)))))))
+      >>= (λ _. declare_head v (iterator_known k items) at
+      >>= (λ is_new. declare_head a (record { sort = sort.Iterator; ty = t }) accumulator_at
+      >>= (λ is_other_new. writes_nothing
+      >>= (λ _. gives (if_new (is_new && is_other_new) (folding_head x.heads.metas (plain_head x.heads.metas k.is_given k.ty items) t first))))))))
 
   -- the accumulator's type and first value are judged before the iterator is declared
   unfoldable pub folding_heading : List ℕ → Judges Given → List ℕ → Judges (Option Ty) → Judges (Option Ty) → Place → Place → Option Ty → Judges Heading
@@ -353,7 +392,7 @@ module _ (x : Context) where
       >>= (λ w. stepped w (iterator_effect (iterator_named name)) at)
 
   unfoldable pub selection_step : List ℕ → (Option Ty → Judges Heading) → List (Judges ClassPart) → Place → Option Ty → Judges (Option Ty)
-  selection_step name head args at o = scoped (head (item_type o) >>= (λ h. in_order args >>= (λ ps. gives (selection name (has_head h) o ps))))
+  selection_step name head args at o = scoped (head (item_type o) >>= (λ h. in_order args >>= (λ ps. gives (selected_by name h o ps))))
       >>= (λ w. stepped w PlainOne at)
 
   abbrev pub arrowed : List ℕ → (Option Ty → Judges Heading) → List (Judges (Option Ty)) → List (Judges ClassPart) → Place → Option Ty → Judges (Option Ty)
@@ -407,7 +446,7 @@ module _ (x : Context) where
   unfoldable pub object : Judges ObjectVariable → PathTree → Option (List ℕ) → (ClassPart → Judges (Unit {0})) → Place → Judges (Option Ty)
   object p path extent body at = fresh >>= (λ n. p >>= (λ v. named_class path >>= (λ c. abstract_told c path.place
       >>= (λ _. body c
-      >>= (λ _. class_extent_told extent c at
+      >>= (λ _. class_extent_told extent (class_beside v c) at
       >>= (λ _. ruled n (object_ruled v extent c) ImpureOne at))))))
 
   -- a `new` without arguments needs no constructor
@@ -424,7 +463,7 @@ module _ (x : Context) where
 
   -- a `new` whose class, found at this path, and arguments are judged
   unfoldable pub constructed : ExprNo → ClassPart → Place → Option (List ℕ) → Option (List Ty) → Place → Judges (Option Ty)
-  constructed n c path_at extent us at = class_extent_told extent c at
+  constructed n c path_at extent us at = class_extent_told extent (class_with us c) at
       >>= (λ _. settled (new_ruled extent c us) (new_place (new_ruled extent c us) path_at at)
       >>= (λ r. effect_told ImpureOne r at >>= (λ _. answers n r)))
 

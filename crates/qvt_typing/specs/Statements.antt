@@ -1,5 +1,7 @@
 -- One rule for each kind of statement, over what its parts do (QVT 1.3, 8.2.2). Refusals of statements leave types standing.
-use Rattle.std.specs.Prelude.{ℕ, Bool, true, false, if◌then◌else◌, List, [], ◌∷◌, Option, Some, None}
+use Rattle.std.specs.List.{list_all}
+use Rattle.std.specs.Option.{is_some}
+use Rattle.std.specs.Prelude.{ℕ, ◌&&◌, ◌||◌, not, Bool, true, false, if◌then◌else◌, List, [], ◌∷◌, Option, Some, None, is_none}
 use Rattle.qvt_base.specs.declared.numbers.Place.{Place}
 use Rattle.qvt_types_data.specs.Notes.{unread}
 use Rattle.qvt_types_data.specs.declared.note.Reading.TheVariants as reading
@@ -11,6 +13,7 @@ use Rattle.qvt_types_data.specs.declared.ty.Ty.TheVariants as ty
 use Rattle.qvt_types_data.specs.declared.variable.VariableSort.TheVariants as sort
 use Rattle.qvt_types_states.specs.Judge.{Judges, ◌>>=◌, gives, scope, scoped, checked, declare, marks, writes_nothing}
 use Rattle.qvt_types_steps.specs.Calls.{is_single}
+use Rattle.qvt_types_states.specs.declared.scope.Known.{Known}
 use Rattle.qvt_types_steps.specs.Iterators.{item_type, iterator_type, iterator_wrong}
 use Rattle.qvt_types_words.specs.Types.{conforms}
 use Rattle.qvt_types_words.specs.Rulings as ruling
@@ -19,6 +22,7 @@ use Rattle.qvt_typing.specs.Calls.{not_pure}
 use Rattle.qvt_typing.specs.declared.parts.Aim.{Aim}
 use Rattle.qvt_typing.specs.declared.parts.Effect.TheVariants.{ImpureOne}
 use Rattle.qvt_typing.specs.declared.parts.Given.{Given}
+use Rattle.qvt_typing.specs.Rules.{all, all_types}
 use Rattle.qvt_typing.specs.Context.{Context, Returns, NoValue, Value, Never}
 
 -- each part in order
@@ -35,8 +39,11 @@ abbrev pub wraps : Option Ty → Read
 wraps None = unread
 wraps (Some t) = record { reading = reading.Nothing; source = None; wrap = is_single t; collect = false; answer = None }
 
-abbrev pub wraps_marked : Option Ty → Judges (Unit {0})
-wraps_marked o = marks (wraps o) >>= (λ _. gives tt)
+abbrev pub has_type : Given → Bool
+has_type g = not g.is_given || is_some g.ty
+
+abbrev pub for_each_known : Option Ty → Given → Known
+for_each_known i k = record { sort = sort.Settable; ty = iterator_type k.is_given k.ty i }
 
 module _ (x : Context) where
   -- what is declared in a block is in scope there
@@ -105,34 +112,44 @@ module _ (x : Context) where
   unfoldable pub condition : Judges (Option Ty) → Place → Judges (Unit {0})
   condition p at = p >>= (λ c. condition_checked c at)
 
-  -- an `elif`'s condition is told at the `if`
-  unfoldable pub arm : Judges (Option Ty) → List (Judges (Unit {0})) → Place → Judges (Unit {0})
-  arm p body at = condition p at >>= (λ _. block body)
+  -- a condition and its block: the type of the condition
+  unfoldable pub arm : Judges (Option Ty) → List (Judges (Unit {0})) → Judges (Option Ty)
+  arm p body = p >>= (λ c. block body >>= (λ _. gives c))
 
-  abbrev pub each_at : Place → List (Place → Judges (Unit {0})) → Judges (Unit {0})
-  each_at at [] = gives tt
-  each_at at (a ∷ arms) = a at >>= (λ _. each_at at arms)
+  abbrev pub are_conditions : Option (List Ty) → Bool
+  are_conditions None = true
+  are_conditions (Some ts) = list_all (λ t. conforms x.heads.metas t ty.Boolean) ts
 
-  unfoldable pub if_ : Judges (Option Ty) → List (Judges (Unit {0})) → List (Place → Judges (Unit {0})) → List (Judges (Unit {0})) → Place → Judges (Unit {0})
-  if_ p body arms otherwise at = arm p body at >>= (λ _. each_at at arms >>= (λ _. block otherwise >>= (λ _. writes_nothing)))
+  -- all conditions are parts of the `if`: of one that is no Boolean it is told there, if all have types
+  unfoldable pub if_ : Judges (Option Ty) → List (Judges (Unit {0})) → List (Judges (Option Ty)) → List (Judges (Unit {0})) → Place → Judges (Unit {0})
+  if_ p body arms otherwise at = arm p body >>= (λ o. all (o ∷ []) arms >>= (λ os. block otherwise
+      >>= (λ _. checked (ruling.wrong_unless (are_conditions (all_types os))) at >>= (λ _. writes_nothing))))
 
   unfoldable pub while_ : Judges (Option Ty) → List (Judges (Unit {0})) → Place → Judges (Unit {0})
   while_ p body at = condition p at >>= (λ _. block body >>= (λ _. writes_nothing))
 
-  abbrev pub given_condition_checked : Given → Place → Judges (Unit {0})
-  given_condition_checked c at = if c.is_given then condition_checked c.ty at else gives tt
+  abbrev pub is_condition : Option Ty → Bool
+  is_condition None = true
+  is_condition (Some t) = conforms x.heads.metas t ty.Boolean
 
-  abbrev pub iterator_checked : Option Ty → Given → Place → Judges (Unit {0})
-  iterator_checked o k at = checked (iterator_wrong x.heads.metas k.is_given k.ty (item_type o)) at
+  -- of a source with items of type i, a declared type and a condition
+  abbrev pub for_each_fits : Option Ty → Given → Given → Bool
+  for_each_fits i k c = is_none (iterator_wrong x.heads.metas k.is_given k.ty i) && is_condition c.ty
 
-  abbrev pub iterator_declared : Option Ty → List ℕ → Given → Place → Judges (Unit {0})
-  iterator_declared o name k at = declare name (record { sort = sort.Settable; ty = iterator_type k.is_given k.ty (item_type o) }) at
+  -- told where all parts have types
+  abbrev pub for_each_told : Option Ty → Given → Given → Option RefusalKind
+  for_each_told i k c = ruling.wrong_unless (not (is_some i && (has_type k && has_type c)) || for_each_fits i k c)
+
+  abbrev pub for_each_declared : Option Ty → List ℕ → Given → Place → Judges (Unit {0})
+  for_each_declared o name k at = declare name (for_each_known (item_type o) k) at
+
+  abbrev pub for_each_settled : Option Ty → Given → Given → Place → Judges (Unit {0})
+  for_each_settled o k c at = checked (for_each_told (item_type o) k c) at >>= (λ _. marks (wraps o) >>= (λ _. gives tt))
 
   -- the variable is in scope in the condition and the body
   unfoldable pub for_each : Judges (Option Ty) → List ℕ → Judges Given → Judges Given → List (Judges (Unit {0})) → Place → Judges (Unit {0})
-  for_each p name q r body at = p >>= (λ o. q >>= (λ k. iterator_checked o k at
-      >>= (λ _. scoped (iterator_declared o name k at
+  for_each p name q r body at = p >>= (λ o. q >>= (λ k. scoped (for_each_declared o name k at
       >>= (λ _. r
-      >>= (λ c. given_condition_checked c at
-      >>= (λ _. block body))))
-      >>= (λ _. wraps_marked o))))
+      >>= (λ c. block body
+      >>= (λ _. gives c))))
+      >>= (λ c. for_each_settled o k c at)))

@@ -68,23 +68,27 @@ impl Drop for ObjectVariable {
 pub enum Aim {
     /// Nothing has the name.
     Nowhere,
-    /// Its type is not known.
-    Unsure,
+    /// A property whose type, or whose object's type, is not known.
+    UntypedProperty,
+    /// A variable whose type is not known.
+    UntypedVariable,
     /// What cannot be assigned.
     Fixed,
     /// A variable of the type.
     VariableOf(Text, Ty),
-    Property(FeatureNo),
+    /// A property, and the variable that holds the object where this is the implicit source.
+    Property(Option<Text>, FeatureNo),
 }
 
 impl Drop for Aim {
     fn drop(self) {
         match self {
             Aim::Nowhere => {}
-            Aim::Unsure => {}
+            Aim::UntypedProperty => {}
+            Aim::UntypedVariable => {}
             Aim::Fixed => {}
             Aim::VariableOf(name, ty) => {}
-            Aim::Property(feature) => {}
+            Aim::Property(source, feature) => {}
         }
     }
 }

@@ -1,4 +1,4 @@
-use Rattle.std.proofs.Common.{◌≡◌, ◌×◌, ◌++◌, drop}
+use Rattle.std.proofs.Common.{◌≡◌, take}
 use Rattle.qvt_types_rules.specs.Seen.{heads_seen}
 use Rattle.qvt_types_units.specs.Numbers.{no_unit}
 use Rattle.qvt_typing.specs.Calls.{numbers_of}
@@ -6,6 +6,6 @@ use Rattle.qvt_types_rules.proofs.calls.numbers_of.Given as goal
 
 abbrev pub invariant-loop-unit : goal.invariant-loop-unit
 invariant-loop-unit l = record {
-  kept : l.numbers ++ numbers_of (heads_seen l.heads) (drop l.unit-index l.units) ≡ numbers_of (heads_seen l.heads) l.units;
+  kept : l.numbers ≡ numbers_of (heads_seen l.heads) (take l.unit-index l.units);
   none : l.none ≡ no_unit;
 }

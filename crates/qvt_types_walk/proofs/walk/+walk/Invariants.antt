@@ -1,8 +1,8 @@
-use Rattle.std.proofs.Common.{◌≡◌, map, drop, []}
+use Rattle.std.proofs.Common.{◌≡◌, map, drop, [], ◌∷◌}
 use Rattle.qvt_tree_types.specs.View.{expr_view, link_view, item_view, step_view, stmt_view, arm_view, exprs_of, links_of, items_of, steps_of, stmts_of, arms_of}
 use Rattle.qvt_typing.specs.Phrases as phrase
 use Rattle.qvt_typing.specs.Rules.{all, in_order, beside}
-use Rattle.qvt_typing.specs.Statements.{each, each_at}
+use Rattle.qvt_typing.specs.Statements.{each}
 use Rattle.qvt_types_rules.specs.Seen.{seen}
 use Rattle.qvt_types_walk.proofs.walk.+walk.Given as goal
 
@@ -25,4 +25,4 @@ abbrev pub invariant-stmts-loop-next : goal.invariant-stmts-loop-next
 invariant-stmts-loop-next l = each (phrase.stmts (seen l.x) (stmts_of (map stmt_view (drop l.next-index l.body)))) l.state ≡ each (phrase.stmts (seen l.x) (stmts_of (map stmt_view l.body))) l.initial.state
 
 abbrev pub invariant-arms-loop-next : goal.invariant-arms-loop-next
-invariant-arms-loop-next l = each_at (seen l.x) l.place (phrase.all_arms (seen l.x) (arms_of (map arm_view (drop l.next-index l.list)))) l.state ≡ each_at (seen l.x) l.place (phrase.all_arms (seen l.x) (arms_of (map arm_view l.list))) l.initial.state
+invariant-arms-loop-next l = all l.types (phrase.all_arms (seen l.x) (arms_of (map arm_view (drop l.next-index l.list)))) l.state ≡ all (l.fn.first ∷ []) (phrase.all_arms (seen l.x) (arms_of (map arm_view l.list))) l.initial.state
