@@ -3,6 +3,7 @@
 ghost use Rattle.std.specs.Prelude.{◌≡◌, IfOk};
 ghost use Rattle.qvt_types_rules.specs.Seen.{heads_seen, seen};
 ghost use Rattle.qvt_typing.specs.Aims as aims;
+ghost use Rattle.qvt_typing.specs.Names.{model_named};
 
 use crate::context::{Context, Heads};
 use qvt_base::copied::Copied;

@@ -125,31 +125,39 @@ fn fold_wrong(
     Ok(unless_folding_fails(&folding, wrong))
 }
 
+/// The names of a Head with an accumulator, and their places.
+#[derive(Clone, Copy)]
+pub struct FoldNames<'a> {
+    pub iterator: &'a Text,
+    pub place: Place,
+    pub accumulator: &'a Text,
+    pub accumulator_place: Place,
+}
+
 /// Declares the iterator and the accumulator of a Head whose types and first value are judged.
 #[tactic(auto, unfolding(qvt_typing::specs::Rules::folded))]
 pub fn folded(
     x: &Context<'_>,
-    iterator: (&Text, Place),
+    names: &FoldNames<'_>,
     kind: &Given,
-    accumulator: (&Text, Place),
     ty: &Option<Ty>,
     first: &Option<Ty>,
     items: &Option<Ty>,
     state: &mut State,
 ) -> Result<Heading, ListFault>
-    ensures { Does (rule.folded (seen x.now) iterator.0.now kind.now accumulator.0.now ty.now first.now accumulator.1 iterator.1 items.now state.old) result state.new }
+    ensures { Does (rule.folded (seen x.now) names.now.iterator.now kind.now names.now.accumulator.now ty.now first.now names.now.accumulator_place names.now.place items.now state.old) result state.new }
 {
     let metas = x.heads.metas;
-    checked(fold_wrong(x, kind, items, ty, first)?, iterator.1, state)?;
-    checked(accumulator_wrong(metas, ty, first), accumulator.1, state)?;
+    checked(fold_wrong(x, kind, items, ty, first)?, names.place, state)?;
+    checked(accumulator_wrong(metas, ty, first), names.accumulator_place, state)?;
     writes_nothing(state)?;
     let known = iterator_known(x, kind, items)?;
-    let is_new = declare_head(x, iterator.0, known, iterator.1, state)?;
+    let is_new = declare_head(x, names.iterator, known, names.place, state)?;
     let known = Known {
         sort: VariableSort::Iterator,
         ty: copied(x.alloc, ty)?,
     };
-    let is_other_new = declare_head(x, accumulator.0, known, accumulator.1, state)?;
+    let is_other_new = declare_head(x, names.accumulator, known, names.accumulator_place, state)?;
     writes_nothing(state)?;
     let plain = plain_head(metas, kind.is_given, &kind.ty, items);
     let heading = folding_head(x.alloc, metas, &plain, ty, first)?;

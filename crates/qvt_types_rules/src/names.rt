@@ -274,9 +274,10 @@ pub fn names_model(heads: &Heads<'_>, scope: &Scope, path: &[Text]) -> bool
     ensures { result ≡ names.names_model (heads_seen heads.now) scope.now path.now }
 {
     match path {
-        [name] => {
-            scope.find(name.as_str()).is_none() && heads.models.names.has(name.as_str())
-        }
+        [name] => match scope.find(name.as_str()) {
+            Some(_) => false,
+            None => heads.models.names.place(name.as_str()).is_some(),
+        },
         _ => false,
     }
 }

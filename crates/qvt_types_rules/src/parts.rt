@@ -134,6 +134,7 @@ pub fn iterator_effect(iterator: Option<IteratorKind>) -> Effect
 }
 
 /// Writes the notes of signs before an operand.
+#[tactic(auto, using(crate::proofs::Signs::next_note))]
 pub fn sign_notes(signs: &[Sign], state: &mut State) -> Result<(), ListFault>
     ensures { Does (rule.sign_notes signs.now state.old) result state.new }
 {

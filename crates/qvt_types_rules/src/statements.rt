@@ -4,7 +4,10 @@ ghost use Rattle.std.specs.Prelude.{◌≡◌, IfOk};
 ghost use Rattle.qvt_types_rules.specs.Seen.{seen};
 ghost use Rattle.qvt_types_states.specs.Does.{Does};
 ghost use Rattle.qvt_types_states.specs.Judge as checking;
+ghost use Rattle.std.specs.List.{list_all};
+ghost use Rattle.qvt_types_data.specs.declared.ty.Ty.TheVariants as booleans;
 ghost use Rattle.qvt_types_words.specs.Rulings as ruling;
+ghost use Rattle.qvt_types_words.specs.Types.{conforms as conforms_to};
 ghost use Rattle.qvt_typing.specs.Statements as rule_of;
 
 use crate::context::{Context, Returns};
@@ -129,15 +132,25 @@ fn is_condition(x: &Context<'_>, condition: &Option<Ty>) -> bool
     }
 }
 
+fn all_boolean(x: &Context<'_>, types: &[Ty]) -> bool
+    ensures { result ≡ list_all (λ t. conforms_to x.now.heads.metas.now t booleans.Boolean) types.now }
+{
+    for ty in types {
+        if !conforms(x.heads.metas, ty, &Ty::Boolean) {
+            return false;
+        }
+    }
+    true
+}
+
 /// Whether all conditions are Booleans, where all have types.
 fn are_conditions(x: &Context<'_>, types: &Option<Seq<Ty>>) -> bool
     ensures { result ≡ rule_of.are_conditions (seen x.now) types.now }
 {
-    let Some(types) = types else {
-        return true;
-    };
-    let metas = x.heads.metas;
-    types.as_slice().iter().all(|ty| conforms(metas, ty, &Ty::Boolean))
+    match types {
+        None => true,
+        Some(types) => all_boolean(x, types.as_slice()),
+    }
 }
 
 fn wrong_unless(right: bool) -> Option<RefusalKind>

@@ -31,9 +31,13 @@ impl Drop for UnitTable {
 
 impl Model for UnitTable {
     ghost use Rattle.std.specs.Prelude.{List};
+    ghost use Rattle.std.specs.Coded.{codes};
+    ghost use Rattle.qvt_types_data.specs.contracts.ty.Ty as ty_row;
     ghost use Rattle.qvt_types_units.specs.declared.signature.Signature.{Signature};
 
     ghost Value = { List Signature };
+
+    ghost coded = { Prim.hlevel (codes, ty_row.the_row.coded) };
 
     ghost view = { λ t. t.units };
 }

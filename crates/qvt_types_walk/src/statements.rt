@@ -74,7 +74,7 @@ pub fn stmt(x: &Context<'_>, stmt: &Stmt, state: &mut State) -> Result<(), ListF
             arms,
             otherwise,
             place,
-        } => if_statement(x, (condition, body.as_slice()), arms.as_slice(), otherwise, *place, state),
+        } => if_statement(x, condition, body.as_slice(), arms.as_slice(), otherwise, *place, state),
         Stmt::While {
             condition,
             body,
@@ -87,7 +87,7 @@ pub fn stmt(x: &Context<'_>, stmt: &Stmt, state: &mut State) -> Result<(), ListF
             condition,
             body,
             place,
-        } => for_each(x, source, (name, kind, condition), body.as_slice(), *place, state),
+        } => for_each(x, source, name, kind, condition, body.as_slice(), *place, state),
     }
 }
 
@@ -247,15 +247,16 @@ pub fn else_block(
 #[tactic(auto, unfolding(qvt_typing::specs::Statements::if_))]
 pub fn if_statement(
     x: &Context<'_>,
-    first: (&Expr, &[Stmt]),
+    test: &Expr,
+    body: &[Stmt],
     list: &[Arm],
     otherwise: &Option<Stmts>,
     place: Place,
     state: &mut State,
 ) -> Result<(), ListFault>
-    ensures { Does (rule_of.if_ (seen x.now) (phrase.expr (seen x.now) false (view.expr_view first.0.now)) (phrase.stmts (seen x.now) (view.stmts_of (map view.stmt_view first.1.now))) (phrase.all_arms (seen x.now) (view.arms_of (map view.arm_view list.now))) (phrase.otherwise (seen x.now) (view.optional_else (option_map (map view.stmt_view) otherwise.now))) place state.old) result state.new }
+    ensures { Does (rule_of.if_ (seen x.now) (phrase.expr (seen x.now) false (view.expr_view test.now)) (phrase.stmts (seen x.now) (view.stmts_of (map view.stmt_view body.now))) (phrase.all_arms (seen x.now) (view.arms_of (map view.arm_view list.now))) (phrase.otherwise (seen x.now) (view.optional_else (option_map (map view.stmt_view) otherwise.now))) place state.old) result state.new }
 {
-    let ty = guarded(x, first.0, first.1, state)?;
+    let ty = guarded(x, test, body, state)?;
     let types = all_types(x.alloc, arms(x, ty, list, state)?.as_slice())?;
     else_block(x, otherwise, state)?;
     tell_conditions(x, &types, place, state)?;
@@ -283,18 +284,20 @@ pub fn while_loop(
 pub fn for_each(
     x: &Context<'_>,
     source: &Expr,
-    variable: (&Text, &Option<TypeTree>, &Option<Expr>),
+    name: &Text,
+    kind: &Option<TypeTree>,
+    condition: &Option<Expr>,
     body: &[Stmt],
     place: Place,
     state: &mut State,
 ) -> Result<(), ListFault>
-    ensures { Does (rule_of.for_each (seen x.now) (phrase.expr (seen x.now) false (view.expr_view source.now)) variable.0.now (phrase.optional_type (seen x.now) (view.optional_type variable.1.now)) (phrase.given_expr (seen x.now) (view.optional_expr (option_map view.expr_view variable.2.now))) (phrase.stmts (seen x.now) (view.stmts_of (map view.stmt_view body.now))) place state.old) result state.new }
+    ensures { Does (rule_of.for_each (seen x.now) (phrase.expr (seen x.now) false (view.expr_view source.now)) name.now (phrase.optional_type (seen x.now) (view.optional_type kind.now)) (phrase.given_expr (seen x.now) (view.optional_expr (option_map view.expr_view condition.now))) (phrase.stmts (seen x.now) (view.stmts_of (map view.stmt_view body.now))) place state.old) result state.new }
 {
     let source = expr(x, false, source, state)?;
-    let kind = type_if(x, variable.1, state)?;
+    let kind = type_if(x, kind, state)?;
     let (named, sources) = state.scope.mark();
-    declare_iterator(x, &source, variable.0, &kind, place, state)?;
-    let condition = given_expr(x, variable.2, state)?;
+    declare_iterator(x, &source, name, &kind, place, state)?;
+    let condition = given_expr(x, condition, state)?;
     block(x, body, state)?;
     state.scope.cut(named, sources);
     for_each_settled(x, &source, &kind, &condition, place, state)

@@ -15,11 +15,12 @@ use crate::objects::resolve_step;
 use qvt_base::list_fault::ListFault;
 use qvt_base::numbers::Place;
 use qvt_base::text::Text;
-use qvt_tree_types::tree::{Accumulator, Expr, Head, MapCall, Step};
+use qvt_tree_types::tree::{Expr, Head, MapCall, Step};
+use qvt_tree_types::types::TypeTree;
 use qvt_types_data::ty::Ty;
 use qvt_types_rules::calls::{called_behind, effect_of, map_ruled, unit_ruled};
 use qvt_types_rules::context::{Context, body_context, unless_untyped};
-use qvt_types_rules::heads::{folded, no_head, plain_heading};
+use qvt_types_rules::heads::{FoldNames, folded, no_head, plain_heading};
 use qvt_types_rules::leaves::{path, type_if, written_type};
 use qvt_types_rules::parts::{all_types, is_last, iterator_effect, model_path, reads_operation, selected_by};
 use qvt_types_rules::settling::{stands_as, stepped};
@@ -242,7 +243,15 @@ pub fn heading(
     };
     match &head.accumulator {
         None => plain_heading(x, &head.name, &head.kind, head.place, &items, state),
-        Some(accumulator) => folding(x, head, accumulator, &items, state),
+        Some(accumulator) => {
+            let names = FoldNames {
+                iterator: &head.name,
+                place: head.place,
+                accumulator: &accumulator.name,
+                accumulator_place: accumulator.place,
+            };
+            folding(x, &names, &head.kind, &accumulator.kind, &accumulator.first, &items, state)
+        }
     }
 }
 
@@ -251,26 +260,19 @@ pub fn heading(
 #[tactic(auto, unfolding(qvt_typing::specs::Rules::folding_heading))]
 pub fn folding(
     x: &Context<'_>,
-    head: &Head,
-    accumulator: &Accumulator,
+    names: &FoldNames<'_>,
+    kind: &Option<TypeTree>,
+    accumulator_kind: &TypeTree,
+    first: &Expr,
     items: &Option<Ty>,
     state: &mut State,
 ) -> Result<Heading, ListFault>
-    ensures { Does (rule.folding_heading (seen x.now) head.now.name (phrase.optional_type (seen x.now) (view.optional_type head.now.kind)) accumulator.now.name (phrase.type_term (seen x.now) (view.type_view accumulator.now.kind)) (phrase.expr (seen x.now) false (view.expr_view accumulator.now.first)) accumulator.now.place head.now.place items.now state.old) result state.new }
+    ensures { Does (rule.folding_heading (seen x.now) names.now.iterator.now (phrase.optional_type (seen x.now) (view.optional_type kind.now)) names.now.accumulator.now (phrase.type_term (seen x.now) (view.type_view accumulator_kind.now)) (phrase.expr (seen x.now) false (view.expr_view first.now)) names.now.accumulator_place names.now.place items.now state.old) result state.new }
 {
-    let kind = type_if(x, &head.kind, state)?;
-    let ty = written_type(x, &accumulator.kind, state)?;
-    let first = expr(x, false, &accumulator.first, state)?;
-    folded(
-        x,
-        (&head.name, head.place),
-        &kind,
-        (&accumulator.name, accumulator.place),
-        &ty,
-        &first,
-        items,
-        state,
-    )
+    let kind = type_if(x, kind, state)?;
+    let ty = written_type(x, accumulator_kind, state)?;
+    let first = expr(x, false, first, state)?;
+    folded(x, names, &kind, &ty, &first, items, state)
 }
 
 /// A step behind an arrow.
