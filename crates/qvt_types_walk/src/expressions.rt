@@ -1,6 +1,6 @@
 //! Expressions: literals, names, operators, calls.
 
-ghost use Rattle.std.specs.Prelude.{◌≡◌, ◌+◌, ◌<◌, length, map, drop, option_map};
+ghost use Rattle.std.specs.Prelude.{◌≡◌, ◌+◌, ◌<◌, length, map, drop, option_map, false};
 ghost use Rattle.qvt_tree_types.specs.View as view;
 ghost use Rattle.qvt_types_rules.specs.Seen.{seen};
 ghost use Rattle.qvt_types_states.specs.Does.{Does};
@@ -11,7 +11,7 @@ ghost use Rattle.qvt_typing.specs.Rules as rule;
 ghost use Rattle.qvt_typing.specs.Statements as rule_of;
 
 use crate::objects::{new, object, resolve_call};
-use crate::steps::post;
+use crate::steps::all_steps;
 use qvt_base::list_fault::ListFault;
 use qvt_base::numbers::Place;
 use qvt_base::seq::Seq;
@@ -22,16 +22,16 @@ use qvt_types_data::ty::Ty;
 use qvt_types_rules::calls::{call_ruled, called_alone, effect_of};
 use qvt_types_rules::context::Context;
 use qvt_types_rules::leaves::{class_given, path, result_ref, self_ref};
-use qvt_types_rules::parts::{all_types, no_path, sign_notes, signed};
-use qvt_types_rules::settling::{constant, ruled, settled_bare, stands_as};
+use qvt_types_rules::parts::{all_types, model_path, no_path, sign_notes, signed};
+use qvt_types_rules::settling::{constant, ruled, settled_bare, settled_conditional, stands_as};
 use qvt_types_states::state::State;
 use qvt_types_states::steps::{fresh, writes_nothing};
 use qvt_types_steps::classes::ClassPart;
-use qvt_types_words::rulings::{conditional as conditional_ruling, literal as literal_ruling, operator, range as range_ruling};
+use qvt_types_words::rulings::{literal as literal_ruling, operator, range as range_ruling};
 use qvt_typing::parts::{Effect, Given};
 
 #[cycle(walk)]
-#[tactic(auto, unfolding(qvt_typing::specs::Phrases::expr))]
+#[tactic(auto, unfolding(qvt_typing::specs::Phrases::expr, qvt_typing::specs::Rules::conditional, qvt_typing::specs::Rules::chain, qvt_typing::specs::Rules::post))]
 pub fn expr(
     x: &Context<'_>,
     late: bool,
@@ -55,7 +55,13 @@ pub fn expr(
             yes,
             no,
             place,
-        } => conditional(x, condition, yes, no, *place, state),
+        } => {
+            let number = fresh(state)?;
+            let condition = expr(x, false, condition, state)?;
+            let yes = expr(x, false, yes, state)?;
+            let no = expr(x, false, no, state)?;
+            settled_conditional(x, number, &condition, &yes, &no, *place, state)
+        }
         Expr::Object {
             variable,
             path,
@@ -71,9 +77,24 @@ pub fn expr(
         } => new(x, path, extent, args.as_slice(), *place, state),
         Expr::Map(map) => map_call(x, map, state),
         Expr::Resolve(resolve) => resolve_call(x, late, resolve, state),
-        Expr::Chain { first, rest, .. } => chain(x, first, rest.as_slice(), state),
+        Expr::Chain { first, rest, .. } => {
+            let number = fresh(state)?;
+            let first = expr(x, false, first, state)?;
+            let ty = links(x, first, rest.as_slice(), state)?;
+            stands_as(x, number, ty, state)
+        }
         Expr::Prefix { signs, operand, .. } => prefix(x, signs.as_slice(), operand, state),
-        Expr::Post { first, steps, .. } => post(x, late, first, steps.as_slice(), state),
+        Expr::Post { first, steps, .. } => {
+            let list = steps.as_slice();
+            let model = model_path(x, &state.scope, first, list);
+            let number = fresh(state)?;
+            let before = match model {
+                Some(names) => path(x, true, names, state)?,
+                None => expr(x, false, first, state)?,
+            };
+            let ty = all_steps(x, late, model.is_some(), before, list, state)?;
+            stands_as(x, number, ty, state)
+        }
     }
 }
 
@@ -159,26 +180,6 @@ pub fn map_call(x: &Context<'_>, call: &MapCall, state: &mut State) -> Result<Op
 }
 
 #[cycle(walk)]
-#[tactic(auto, unfolding(qvt_typing::specs::Rules::conditional))]
-pub fn conditional(
-    x: &Context<'_>,
-    condition: &Expr,
-    yes: &Expr,
-    no: &Expr,
-    place: Place,
-    state: &mut State,
-) -> Result<Option<Ty>, ListFault>
-    ensures { Does (rule.conditional (seen x.now) (phrase.expr (seen x.now) false (view.expr_view condition.now)) (phrase.expr (seen x.now) false (view.expr_view yes.now)) (phrase.expr (seen x.now) false (view.expr_view no.now)) place state.old) result state.new }
-{
-    let number = fresh(state)?;
-    let condition = expr(x, false, condition, state)?;
-    let yes = expr(x, false, yes, state)?;
-    let no = expr(x, false, no, state)?;
-    let ruling = conditional_ruling(x.alloc, x.heads.metas, &condition, &yes, &no)?;
-    ruled(x, number, ruling, Effect::PlainOne, place, state)
-}
-
-#[cycle(walk)]
 #[tactic(auto, unfolding(qvt_typing::specs::Phrases::linked, qvt_typing::specs::Rules::link))]
 pub fn link(
     x: &Context<'_>,
@@ -208,22 +209,6 @@ pub fn links(
         ty = link(x, next, &ty, state)?;
     }
     Ok(ty)
-}
-
-#[cycle(walk)]
-#[tactic(auto, unfolding(qvt_typing::specs::Rules::chain))]
-pub fn chain(
-    x: &Context<'_>,
-    first: &Expr,
-    rest: &[Link],
-    state: &mut State,
-) -> Result<Option<Ty>, ListFault>
-    ensures { Does (rule.chain (seen x.now) (phrase.expr (seen x.now) false (view.expr_view first.now)) (phrase.links (seen x.now) (view.links_of (map view.link_view rest.now))) state.old) result state.new }
-{
-    let number = fresh(state)?;
-    let first = expr(x, false, first, state)?;
-    let ty = links(x, first, rest, state)?;
-    stands_as(x, number, ty, state)
 }
 
 #[cycle(walk)]

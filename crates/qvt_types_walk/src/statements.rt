@@ -1,6 +1,6 @@
 //! Statements.
 
-ghost use Rattle.std.specs.Prelude.{◌≡◌, ◌∷◌, [], map, option_map};
+ghost use Rattle.std.specs.Prelude.{◌≡◌, ◌∷◌, [], map, option_map, false};
 ghost use Rattle.qvt_tree_types.specs.View as view;
 ghost use Rattle.qvt_types_rules.specs.Seen.{seen};
 ghost use Rattle.qvt_types_states.specs.Does.{Does};
@@ -11,11 +11,12 @@ ghost use Rattle.qvt_typing.specs.Rules as rule;
 ghost use Rattle.qvt_typing.specs.Statements as rule_of;
 
 use crate::expressions::{expr, given_expr};
+use crate::objects::new;
 use qvt_base::list_fault::ListFault;
 use qvt_base::numbers::Place;
 use qvt_base::seq::Seq;
 use qvt_base::text::Text;
-use qvt_tree_types::tree::{Arm, Expr, Stmt, Stmts, Target};
+use qvt_tree_types::tree::{Arm, Expr, Stmt, Target};
 use qvt_tree_types::types::TypeTree;
 use qvt_types_data::ty::Ty;
 use qvt_types_rules::aims::takes_late;
@@ -31,7 +32,7 @@ use qvt_typing::parts::Aim;
 /// What an assignment writes.
 #[cycle(walk)]
 #[tactic(auto, unfolding(qvt_typing::specs::Phrases::target, qvt_typing::specs::Statements::member_target))]
-pub fn target(x: &Context<'_>, target: &Target, state: &mut State) -> Result<Aim, ListFault>
+pub fn aimed_at(x: &Context<'_>, target: &Target, state: &mut State) -> Result<Aim, ListFault>
     ensures { Does (phrase.target (seen x.now) (view.target_view target.now) state.old) result state.new }
 {
     match target {
@@ -49,7 +50,7 @@ pub fn target(x: &Context<'_>, target: &Target, state: &mut State) -> Result<Aim
 }
 
 #[cycle(walk)]
-#[tactic(auto, unfolding(qvt_typing::specs::Phrases::stmt))]
+#[tactic(auto, unfolding(qvt_typing::specs::Phrases::stmt, qvt_typing::specs::Phrases::otherwise, qvt_typing::specs::Statements::assign, qvt_typing::specs::Statements::if_, qvt_typing::specs::Statements::arm, qvt_typing::specs::Statements::while_, qvt_typing::specs::Statements::condition, qvt_typing::specs::Statements::for_each))]
 pub fn stmt(x: &Context<'_>, stmt: &Stmt, state: &mut State) -> Result<(), ListFault>
     ensures { Does (phrase.stmt (seen x.now) (view.stmt_view stmt.now) state.old) result state.new }
 {
@@ -65,7 +66,11 @@ pub fn stmt(x: &Context<'_>, stmt: &Stmt, state: &mut State) -> Result<(), ListF
             adds,
             value,
             place,
-        } => assign(x, target, *adds, value, *place, state),
+        } => {
+            let aim = aimed_at(x, target, state)?;
+            let value = expr(x, takes_late(&aim), value, state)?;
+            assigned(x, &aim, *adds, &value, *place, state)
+        }
         Stmt::Return { value, place } => return_value(x, value, *place, state),
         Stmt::Value { value, .. } => value_statement(x, value, state),
         Stmt::If {
@@ -74,12 +79,27 @@ pub fn stmt(x: &Context<'_>, stmt: &Stmt, state: &mut State) -> Result<(), ListF
             arms,
             otherwise,
             place,
-        } => if_statement(x, condition, body.as_slice(), arms.as_slice(), otherwise, *place, state),
+        } => {
+            let ty = expr(x, false, condition, state)?;
+            block(x, body.as_slice(), state)?;
+            let types = all_arms(x, ty, arms.as_slice(), state)?;
+            let types = all_types(x.alloc, types.as_slice())?;
+            if let Some(otherwise) = otherwise {
+                block(x, otherwise.as_slice(), state)?;
+            }
+            tell_conditions(x, &types, *place, state)?;
+            writes_nothing(state)
+        }
         Stmt::While {
             condition,
             body,
             place,
-        } => while_loop(x, condition, body.as_slice(), *place, state),
+        } => {
+            let ty = expr(x, false, condition, state)?;
+            tell_condition(x, &ty, *place, state)?;
+            block(x, body.as_slice(), state)?;
+            writes_nothing(state)
+        }
         Stmt::ForEach {
             source,
             name,
@@ -87,7 +107,16 @@ pub fn stmt(x: &Context<'_>, stmt: &Stmt, state: &mut State) -> Result<(), ListF
             condition,
             body,
             place,
-        } => for_each(x, source, name, kind, condition, body.as_slice(), *place, state),
+        } => {
+            let source = expr(x, false, source, state)?;
+            let kind = type_if(x, kind, state)?;
+            let (named, sources) = state.scope.mark();
+            declare_iterator(x, &source, name, &kind, *place, state)?;
+            let condition = given_expr(x, condition, state)?;
+            block(x, body.as_slice(), state)?;
+            state.scope.cut(named, sources);
+            for_each_settled(x, &source, &kind, &condition, *place, state)
+        }
     }
 }
 
@@ -106,23 +135,6 @@ pub fn variable(
     let kind = type_if(x, kind, state)?;
     let value = given_expr(x, value, state)?;
     declared(x, name, &kind, &value, place, state)
-}
-
-#[cycle(walk)]
-#[tactic(auto, unfolding(qvt_typing::specs::Statements::assign))]
-pub fn assign(
-    x: &Context<'_>,
-    to: &Target,
-    adds: bool,
-    value: &Expr,
-    place: Place,
-    state: &mut State,
-) -> Result<(), ListFault>
-    ensures { Does (rule_of.assign (seen x.now) (phrase.target (seen x.now) (view.target_view to.now)) adds (λ late. phrase.expr (seen x.now) late (view.expr_view value.now)) place state.old) result state.new }
-{
-    let aim = target(x, to, state)?;
-    let value = expr(x, takes_late(&aim), value, state)?;
-    assigned(x, &aim, adds, &value, place, state)
 }
 
 #[cycle(walk)]
@@ -149,20 +161,6 @@ pub fn value_statement(x: &Context<'_>, value: &Expr, state: &mut State) -> Resu
 }
 
 #[cycle(walk)]
-#[tactic(auto, unfolding(qvt_typing::specs::Statements::condition))]
-pub fn condition(
-    x: &Context<'_>,
-    node: &Expr,
-    place: Place,
-    state: &mut State,
-) -> Result<(), ListFault>
-    ensures { Does (rule_of.condition (seen x.now) (phrase.expr (seen x.now) false (view.expr_view node.now)) place state.old) result state.new }
-{
-    let ty = expr(x, false, node, state)?;
-    tell_condition(x, &ty, place, state)
-}
-
-#[cycle(walk)]
 #[tactic(auto, unfolding(qvt_typing::specs::Statements::block))]
 pub fn block(x: &Context<'_>, body: &[Stmt], state: &mut State) -> Result<(), ListFault>
     ensures { Does (rule_of.block (seen x.now) (phrase.stmts (seen x.now) (view.stmts_of (map view.stmt_view body.now))) state.old) result state.new }
@@ -184,34 +182,20 @@ pub fn stmts(x: &Context<'_>, body: &[Stmt], state: &mut State) -> Result<(), Li
     Ok(())
 }
 
-/// A condition and the block that it guards: the type of the condition.
 #[cycle(walk)]
-#[tactic(auto, unfolding(qvt_typing::specs::Statements::arm))]
-pub fn guarded(
-    x: &Context<'_>,
-    test: &Expr,
-    body: &[Stmt],
-    state: &mut State,
-) -> Result<Option<Ty>, ListFault>
-    ensures { Does (rule_of.arm (seen x.now) (phrase.expr (seen x.now) false (view.expr_view test.now)) (phrase.stmts (seen x.now) (view.stmts_of (map view.stmt_view body.now))) state.old) result state.new }
-{
-    let ty = expr(x, false, test, state)?;
-    block(x, body, state)?;
-    Ok(ty)
-}
-
-#[cycle(walk)]
-#[tactic(auto, unfolding(qvt_typing::specs::Phrases::one_arm))]
+#[tactic(auto, unfolding(qvt_typing::specs::Phrases::one_arm, qvt_typing::specs::Statements::arm))]
 pub fn arm(x: &Context<'_>, arm: &Arm, state: &mut State) -> Result<Option<Ty>, ListFault>
     ensures { Does (phrase.one_arm (seen x.now) (view.arm_view arm.now) state.old) result state.new }
 {
-    guarded(x, &arm.condition, arm.body.as_slice(), state)
+    let ty = expr(x, false, &arm.condition, state)?;
+    block(x, arm.body.as_slice(), state)?;
+    Ok(ty)
 }
 
 /// The conditions of all arms, after that of the `if`.
 #[cycle(walk)]
 #[tactic(auto, unfolding(qvt_typing::specs::Phrases::all_arms))]
-pub fn arms(
+pub fn all_arms(
     x: &Context<'_>,
     first: Option<Ty>,
     list: &[Arm],
@@ -228,77 +212,3 @@ pub fn arms(
     Ok(types)
 }
 
-#[cycle(walk)]
-#[tactic(auto, unfolding(qvt_typing::specs::Phrases::otherwise, qvt_typing::specs::Statements::block))]
-pub fn else_block(
-    x: &Context<'_>,
-    body: &Option<Stmts>,
-    state: &mut State,
-) -> Result<(), ListFault>
-    ensures { Does (rule_of.block (seen x.now) (phrase.otherwise (seen x.now) (view.optional_else (option_map (map view.stmt_view) body.now))) state.old) result state.new }
-{
-    match body {
-        None => Ok(()),
-        Some(body) => block(x, body.as_slice(), state),
-    }
-}
-
-#[cycle(walk)]
-#[tactic(auto, unfolding(qvt_typing::specs::Statements::if_))]
-pub fn if_statement(
-    x: &Context<'_>,
-    test: &Expr,
-    body: &[Stmt],
-    list: &[Arm],
-    otherwise: &Option<Stmts>,
-    place: Place,
-    state: &mut State,
-) -> Result<(), ListFault>
-    ensures { Does (rule_of.if_ (seen x.now) (phrase.expr (seen x.now) false (view.expr_view test.now)) (phrase.stmts (seen x.now) (view.stmts_of (map view.stmt_view body.now))) (phrase.all_arms (seen x.now) (view.arms_of (map view.arm_view list.now))) (phrase.otherwise (seen x.now) (view.optional_else (option_map (map view.stmt_view) otherwise.now))) place state.old) result state.new }
-{
-    let ty = guarded(x, test, body, state)?;
-    let types = all_types(x.alloc, arms(x, ty, list, state)?.as_slice())?;
-    else_block(x, otherwise, state)?;
-    tell_conditions(x, &types, place, state)?;
-    writes_nothing(state)
-}
-
-#[cycle(walk)]
-#[tactic(auto, unfolding(qvt_typing::specs::Statements::while_))]
-pub fn while_loop(
-    x: &Context<'_>,
-    test: &Expr,
-    body: &[Stmt],
-    place: Place,
-    state: &mut State,
-) -> Result<(), ListFault>
-    ensures { Does (rule_of.while_ (seen x.now) (phrase.expr (seen x.now) false (view.expr_view test.now)) (phrase.stmts (seen x.now) (view.stmts_of (map view.stmt_view body.now))) place state.old) result state.new }
-{
-    condition(x, test, place, state)?;
-    block(x, body, state)?;
-    writes_nothing(state)
-}
-
-#[cycle(walk)]
-#[tactic(auto, unfolding(qvt_typing::specs::Statements::for_each))]
-pub fn for_each(
-    x: &Context<'_>,
-    source: &Expr,
-    name: &Text,
-    kind: &Option<TypeTree>,
-    condition: &Option<Expr>,
-    body: &[Stmt],
-    place: Place,
-    state: &mut State,
-) -> Result<(), ListFault>
-    ensures { Does (rule_of.for_each (seen x.now) (phrase.expr (seen x.now) false (view.expr_view source.now)) name.now (phrase.optional_type (seen x.now) (view.optional_type kind.now)) (phrase.given_expr (seen x.now) (view.optional_expr (option_map view.expr_view condition.now))) (phrase.stmts (seen x.now) (view.stmts_of (map view.stmt_view body.now))) place state.old) result state.new }
-{
-    let source = expr(x, false, source, state)?;
-    let kind = type_if(x, kind, state)?;
-    let (named, sources) = state.scope.mark();
-    declare_iterator(x, &source, name, &kind, place, state)?;
-    let condition = given_expr(x, condition, state)?;
-    block(x, body, state)?;
-    state.scope.cut(named, sources);
-    for_each_settled(x, &source, &kind, &condition, place, state)
-}

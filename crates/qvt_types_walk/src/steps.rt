@@ -1,6 +1,6 @@
 //! Steps behind an expression.
 
-ghost use Rattle.std.specs.Prelude.{◌≡◌, ◌+◌, ◌<◌, length, map, drop, option_map};
+ghost use Rattle.std.specs.Prelude.{◌≡◌, ◌+◌, ◌<◌, length, map, drop, option_map, false};
 ghost use Rattle.qvt_tree_types.specs.View as view;
 ghost use Rattle.qvt_types_rules.specs.Seen.{seen};
 ghost use Rattle.qvt_types_states.specs.Does.{Does};
@@ -17,15 +17,15 @@ use qvt_base::numbers::Place;
 use qvt_base::text::Text;
 use qvt_tree_types::tree::{Expr, Head, MapCall, Step};
 use qvt_tree_types::types::TypeTree;
+use qvt_types_data::ruling::Ruling;
 use qvt_types_data::ty::Ty;
 use qvt_types_rules::calls::{called_behind, effect_of, map_ruled, unit_ruled};
 use qvt_types_rules::context::{Context, body_context, unless_untyped};
 use qvt_types_rules::heads::{FoldNames, folded, no_head, plain_heading};
-use qvt_types_rules::leaves::{path, type_if, written_type};
-use qvt_types_rules::parts::{all_types, is_last, iterator_effect, model_path, reads_operation, selected_by};
-use qvt_types_rules::settling::{stands_as, stepped};
+use qvt_types_rules::leaves::{type_if, written_type};
+use qvt_types_rules::parts::{all_types, is_last, iterator_effect, reads_operation, selected_by};
+use qvt_types_rules::settling::stepped;
 use qvt_types_states::state::State;
-use qvt_types_states::steps::fresh;
 use qvt_types_steps::arrows::arrow;
 use qvt_types_steps::calls::dot_call;
 use qvt_types_steps::classes::{ClassTest, ModelCall, class_test, class_test_named, is_selection, model_call_named, model_objects, model_objects_of};
@@ -36,29 +36,8 @@ use qvt_types_steps::resolves::Joint;
 use qvt_typing::parts::Effect;
 
 #[cycle(walk)]
-#[tactic(auto, unfolding(qvt_typing::specs::Rules::post))]
-pub fn post(
-    x: &Context<'_>,
-    late: bool,
-    first: &Expr,
-    list: &[Step],
-    state: &mut State,
-) -> Result<Option<Ty>, ListFault>
-    ensures { Does (phrase.posted (seen x.now) late (view.expr_view first.now) (view.steps_of (map view.step_view list.now)) state.old) result state.new }
-{
-    let model = model_path(x, &state.scope, first, list);
-    let number = fresh(state)?;
-    let before = match model {
-        Some(names) => path(x, true, names, state)?,
-        None => expr(x, false, first, state)?,
-    };
-    let ty = steps(x, late, model.is_some(), before, list, state)?;
-    stands_as(x, number, ty, state)
-}
-
-#[cycle(walk)]
 #[tactic(auto, unfolding(qvt_typing::specs::Phrases::steps))]
-pub fn steps(
+pub fn all_steps(
     x: &Context<'_>,
     late: bool,
     is_model: bool,
@@ -78,7 +57,7 @@ pub fn steps(
 }
 
 #[cycle(walk)]
-#[tactic(auto, unfolding(qvt_typing::specs::Phrases::step))]
+#[tactic(auto, unfolding(qvt_typing::specs::Phrases::step, qvt_typing::specs::Rules::arrowed))]
 pub fn step(
     x: &Context<'_>,
     late: bool,
@@ -105,7 +84,15 @@ pub fn step(
             head,
             args,
             place,
-        } => arrowed(x, name, head, args.as_slice(), *place, source, state),
+        } => {
+            let (named, sources) = state.scope.mark();
+            let items = item_type(x.alloc, source)?;
+            let heading = heading(x, name, head, items, state)?;
+            let ruling = arrow_ruled(x, name, &heading, args.as_slice(), source, state)?;
+            state.scope.cut(named, sources);
+            let effect = iterator_effect(iterator_named(name.as_str()));
+            stepped(x, ruling, effect, *place, state)
+        }
         Step::DotMap(call) => map_step(x, false, call, source, state),
         Step::ArrowMap(call) => map_step(x, true, call, source, state),
         Step::DotResolve(call) => resolve_step(x, late, Joint::Dot, call, source, state),
@@ -275,68 +262,24 @@ pub fn folding(
     folded(x, names, &kind, &ty, &first, items, state)
 }
 
-/// A step behind an arrow.
+/// What is ruled of a step behind an arrow, by its Head and its arguments.
 #[cycle(walk)]
-pub fn arrowed(
+#[tactic(auto, unfolding(qvt_typing::specs::Rules::arrow_parts))]
+pub fn arrow_ruled(
     x: &Context<'_>,
     name: &Text,
-    head: &Option<Head>,
+    heading: &Heading,
     args: &[Expr],
-    place: Place,
     source: &Option<Ty>,
     state: &mut State,
-) -> Result<Option<Ty>, ListFault>
-    ensures { Does (rule.arrowed (seen x.now) name.now (phrase.heading (seen x.now) name.now (view.optional_head (option_map view.head_view head.now))) (phrase.exprs (phrase.body_context (iterator_named name.now) (seen x.now)) (view.exprs_of (map view.expr_view args.now))) (phrase.classes (seen x.now) (view.exprs_of (map view.expr_view args.now))) place source.now state.old) result state.new }
+) -> Result<Ruling, ListFault>
+    ensures { Does (rule.arrow_parts (seen x.now) name.now (phrase.exprs (phrase.body_context (iterator_named name.now) (seen x.now)) (view.exprs_of (map view.expr_view args.now))) (phrase.classes (seen x.now) (view.exprs_of (map view.expr_view args.now))) source.now heading.now state.old) result state.new }
 {
     if is_selection(name.as_str()) {
-        selection_step(x, name, head, args, place, source, state)
-    } else {
-        arrow_step(x, name, head, args, place, source, state)
+        let parts = classes(x, args, state)?;
+        return selected_by(x.alloc, name, heading, source, parts.as_slice());
     }
-}
-
-#[cycle(walk)]
-#[tactic(auto, unfolding(qvt_typing::specs::Rules::arrow_step))]
-pub fn arrow_step(
-    x: &Context<'_>,
-    name: &Text,
-    head: &Option<Head>,
-    args: &[Expr],
-    place: Place,
-    source: &Option<Ty>,
-    state: &mut State,
-) -> Result<Option<Ty>, ListFault>
-    ensures { Does (rule.arrow_step (seen x.now) name.now (phrase.heading (seen x.now) name.now (view.optional_head (option_map view.head_view head.now))) (phrase.exprs (phrase.body_context (iterator_named name.now) (seen x.now)) (view.exprs_of (map view.expr_view args.now))) place source.now state.old) result state.new }
-{
-    let (named, sources) = state.scope.mark();
-    let items = item_type(x.alloc, source)?;
-    let heading = heading(x, name, head, items, state)?;
-    let iterator = iterator_named(name.as_str());
-    let inner = body_context(x, iterator);
+    let inner = body_context(x, iterator_named(name.as_str()));
     let types = all_types(x.alloc, exprs(&inner, args, state)?.as_slice())?;
-    let ruling = arrow(x.alloc, x.heads.metas, name, &heading, source, &types)?;
-    state.scope.cut(named, sources);
-    stepped(x, ruling, iterator_effect(iterator), place, state)
-}
-
-#[cycle(walk)]
-#[tactic(auto, unfolding(qvt_typing::specs::Rules::selection_step))]
-pub fn selection_step(
-    x: &Context<'_>,
-    name: &Text,
-    head: &Option<Head>,
-    args: &[Expr],
-    place: Place,
-    source: &Option<Ty>,
-    state: &mut State,
-) -> Result<Option<Ty>, ListFault>
-    ensures { Does (rule.selection_step (seen x.now) name.now (phrase.heading (seen x.now) name.now (view.optional_head (option_map view.head_view head.now))) (phrase.classes (seen x.now) (view.exprs_of (map view.expr_view args.now))) place source.now state.old) result state.new }
-{
-    let (named, sources) = state.scope.mark();
-    let items = item_type(x.alloc, source)?;
-    let heading = heading(x, name, head, items, state)?;
-    let parts = classes(x, args, state)?;
-    let ruling = selected_by(x.alloc, name, &heading, source, parts.as_slice())?;
-    state.scope.cut(named, sources);
-    stepped(x, ruling, Effect::PlainOne, place, state)
+    arrow(x.alloc, x.heads.metas, name, heading, source, &types)
 }

@@ -387,16 +387,15 @@ module _ (x : Context) where
   unfoldable pub folding_heading : List ℕ → Judges Given → List ℕ → Judges (Option Ty) → Judges (Option Ty) → Place → Place → Option Ty → Judges Heading
   folding_heading v p a q r accumulator_at at items = p >>= (λ k. q >>= (λ t. r >>= (λ first. folded v k a t first accumulator_at at items)))
 
-  unfoldable pub arrow_step : List ℕ → (Option Ty → Judges Heading) → List (Judges (Option Ty)) → Place → Option Ty → Judges (Option Ty)
-  arrow_step name head args at o = scoped (head (item_type o) >>= (λ h. in_order args >>= (λ os. gives (arrow x.heads.metas name h o (all_types os)))))
+  -- a selection by class, or an iterator or an operation
+  unfoldable pub arrow_parts : List ℕ → List (Judges (Option Ty)) → List (Judges ClassPart) → Option Ty → Heading → Judges Ruling
+  arrow_parts name args classes o h =
+      if is_selection name then in_order classes >>= (λ ps. gives (selected_by name h o ps))
+      else in_order args >>= (λ os. gives (arrow x.heads.metas name h o (all_types os)))
+
+  unfoldable pub arrowed : List ℕ → (Option Ty → Judges Heading) → List (Judges (Option Ty)) → List (Judges ClassPart) → Place → Option Ty → Judges (Option Ty)
+  arrowed name head args classes at o = scoped (head (item_type o) >>= arrow_parts name args classes o)
       >>= (λ w. stepped w (iterator_effect (iterator_named name)) at)
-
-  unfoldable pub selection_step : List ℕ → (Option Ty → Judges Heading) → List (Judges ClassPart) → Place → Option Ty → Judges (Option Ty)
-  selection_step name head args at o = scoped (head (item_type o) >>= (λ h. in_order args >>= (λ ps. gives (selected_by name h o ps))))
-      >>= (λ w. stepped w PlainOne at)
-
-  abbrev pub arrowed : List ℕ → (Option Ty → Judges Heading) → List (Judges (Option Ty)) → List (Judges ClassPart) → Place → Option Ty → Judges (Option Ty)
-  arrowed name head args classes at o = if is_selection name then selection_step name head classes at o else arrow_step name head args at o
 
   -- Calls of units.
 
