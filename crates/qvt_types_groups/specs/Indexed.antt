@@ -13,9 +13,9 @@ pub record AreCalled (maps : Bool) (us : List Signature) (t : Called) : Type 0 w
   pub free : (name : List ℕ) → numbers_under t.free name ≡ numbers_where (is_listed maps false name) 0 us
   pub named : FindsFirst t.named (map (named_key maps t.groups.names) us)
 
-pub record AreIndexed (us : List Signature) (mappings helpers : Called) (constructors : List (ClassKey × ℕ)) (main : Option ℕ) : Type 0 where
-  pub mappings : AreCalled true us mappings
-  pub helpers : AreCalled false us helpers
-  pub constructors : FindsFirst constructors (map constructor_key us)
-  pub main : main ≡ position (λ u. is_main u.sort) us
+pub record AreIndexed (us : List Signature) (maps others : Called) (made : List (ClassKey × ℕ)) (entry : Option ℕ) : Type 0 where
+  pub mappings : AreCalled true us maps
+  pub helpers : AreCalled false us others
+  pub constructors : FindsFirst made (map constructor_key us)
+  pub main : entry ≡ position (λ u. is_main u.sort) us
   pub few : length us < 2 ^ 32

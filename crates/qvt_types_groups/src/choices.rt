@@ -1,16 +1,17 @@
 //! What calls by a name find for objects of each class.
 
-ghost use Rattle.std.specs.Prelude.{◌≡◌, ◌∷◌, [], map, IfOk};
+ghost use Rattle.std.specs.Prelude.{◌≡◌, ◌++◌, ◌∷◌, [], if◌then◌else◌, map, IfOk, OnOk};
 ghost use Rattle.std.specs.List.{list_any, range_with_len};
 ghost use Rattle.qvt_metamodel.specs.Descends.{descends};
 ghost use Rattle.qvt_types_units.specs.Choice as choice;
 ghost use Rattle.qvt_types_groups.specs.Choices as choices_of;
 
+use crate::candidates::{candidates, context_at, lowest};
 use qvt_base::list_fault::ListFault;
 use qvt_base::numbers::ClassNo;
 use qvt_base::seq::Seq;
 use qvt_metas::metas::Metas;
-use qvt_types_units::choice::{Found, candidates, context_at, lowest};
+use qvt_types_units::choice::Found;
 use qvt_types_units::signature::{HeadClass, Signature};
 use std::alloc::Global;
 
@@ -38,6 +39,16 @@ fn is_stuck(
     }
 }
 
+/// Puts the number last, if it is to be there.
+fn push_if(numbers: &mut Seq<u32>, is_one: bool, number: u32) -> Result<(), ListFault>
+    ensures { OnOk result (numbers.new ≡ numbers.old ++ (if is_one then number ∷ [] else [])) }
+{
+    if is_one {
+        return numbers.push(number);
+    }
+    Ok(())
+}
+
 /// The classes that are so.
 fn stuck_classes(
     alloc: Global,
@@ -49,9 +60,8 @@ fn stuck_classes(
 {
     let mut stuck = Seq::new(alloc);
     for class in 0..metas.class_count() {
-        if is_stuck(alloc, metas, units, group, ClassNo(class))? {
-            stuck.push(class)?;
-        }
+        let is_one = is_stuck(alloc, metas, units, group, ClassNo(class))?;
+        push_if(&mut stuck, is_one, class)?;
     }
     Ok(stuck)
 }
@@ -130,10 +140,11 @@ fn found(
         return Ok(Found::Untyped);
     }
     let candidates = candidates(alloc, metas, units, group, class)?;
-    match candidates.as_slice() {
-        [] => Ok(Found::NoUnit),
-        among => found_among(alloc, metas, units, among, stuck, class),
+    if candidates.is_empty() {
+        return Ok(Found::NoUnit);
     }
+    let found = found_among(alloc, metas, units, candidates.as_slice(), stuck, class)?;
+    Ok(found)
 }
 
 /// What is found where there is one unit alone.

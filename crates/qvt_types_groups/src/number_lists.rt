@@ -112,8 +112,14 @@ impl NumberLists {
         ensures { IfOk result (λ all. (other : List ℕ) → numbers_under all other ≡ numbers_under self other ++ (if bytes_eq other name.now then number ∷ [] else [])) }
     {
         match self.names.place(name) {
-            Some(place) => self.with_more(place, number),
-            None => self.with_name(alloc, name, number),
+            Some(place) => {
+                let all = self.with_more(place, number)?;
+                Ok(all)
+            }
+            None => {
+                let all = self.with_name(alloc, name, number)?;
+                Ok(all)
+            }
         }
     }
 }

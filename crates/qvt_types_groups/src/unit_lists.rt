@@ -2,7 +2,7 @@
 
 ghost use Rattle.std.specs.Prelude.{◌≡◌, ◌++◌, ◌∷◌, [], ◌<◌, ◌^◌, ℕ, List, length, if◌then◌else◌, IfOk};
 ghost use Rattle.qvt_types_units.specs.Numbers.{numbers_where};
-ghost use Rattle.qvt_types_groups.specs.Lists as lists;
+ghost use Rattle.qvt_types_groups.specs.Lists as under;
 
 use crate::class_keys::is_called;
 use crate::number_lists::NumberLists;
@@ -12,7 +12,7 @@ use qvt_types_units::signature::{HeadClass, Signature};
 use std::alloc::Global;
 
 fn is_wanted(with_context: bool, context: HeadClass) -> bool
-    ensures { result ≡ lists.is_wanted with_context context }
+    ensures { result ≡ under.is_wanted with_context context }
 {
     if with_context {
         has_context(context)
@@ -22,7 +22,7 @@ fn is_wanted(with_context: bool, context: HeadClass) -> bool
 }
 
 fn is_one(maps: bool, with_context: bool, unit: &Signature) -> bool
-    ensures { result ≡ lists.is_one maps with_context unit.now }
+    ensures { result ≡ under.is_one maps with_context unit.now }
 {
     is_called(maps, unit.sort) && is_wanted(with_context, unit.context)
 }
@@ -36,10 +36,11 @@ fn with_unit(
     number: u32,
     unit: &Signature,
 ) -> Result<NumberLists, ListFault>
-    ensures { IfOk result (λ all. (name : List ℕ) → lists.numbers_under all name ≡ lists.numbers_under lists name ++ (if lists.is_listed maps with_context name unit.now then number ∷ [] else [])) }
+    ensures { IfOk result (λ all. (name : List ℕ) → under.numbers_under all name ≡ under.numbers_under lists name ++ (if under.is_listed maps with_context name unit.now then number ∷ [] else [])) }
 {
     if is_one(maps, with_context, unit) {
-        lists.with(alloc, unit.name.as_str(), number)
+        let all = lists.with(alloc, unit.name.as_str(), number)?;
+        Ok(all)
     } else {
         Ok(lists)
     }
@@ -53,7 +54,7 @@ pub fn lists_of(
     with_context: bool,
     units: &[Signature],
 ) -> Result<NumberLists, ListFault>
-    ensures { IfOk result (λ all. (name : List ℕ) → lists.numbers_under all name ≡ numbers_where (lists.is_listed maps with_context name) 0 units.now) }
+    ensures { IfOk result (λ all. (name : List ℕ) → under.numbers_under all name ≡ numbers_where (under.is_listed maps with_context name) 0 units.now) }
 {
     let Ok(count) = u32::try_from(units.len()) else {
         return Err(ListFault::NoMemory);

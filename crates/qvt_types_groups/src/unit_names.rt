@@ -37,7 +37,7 @@ impl Drop for Called {
     }
 }
 
-fn called(alloc: Global, maps: bool, units: &[Signature]) -> Result<Called, ListFault>
+fn tables_of(alloc: Global, maps: bool, units: &[Signature]) -> Result<Called, ListFault>
     ensures { IfOk result (AreCalled maps units.now) }
 {
     let groups = lists_of(alloc, maps, true, units)?;
@@ -92,10 +92,14 @@ impl Drop for UnitNames {
 
 impl Model for UnitNames {
     ghost use Rattle.std.specs.Prelude.{List};
+    ghost use Rattle.std.specs.Coded.{codes};
+    ghost use Rattle.qvt_types_data.specs.contracts.ty.Ty as ty_row;
     ghost use Rattle.qvt_types_units.specs.declared.signature.Signature.{Signature};
     ghost use Rattle.qvt_types_groups.specs.Indexed.{AreIndexed};
 
     ghost Value = { List Signature };
+
+    ghost coded = { Prim.hlevel (codes, ty_row.the_row.coded) };
 
     ghost view = { λ t. t.units };
 
@@ -110,8 +114,8 @@ impl UnitNames {
         let Ok(_) = u32::try_from(units.len()) else {
             return Err(ListFault::NoMemory);
         };
-        let mappings = called(alloc, true, units.as_slice())?;
-        let helpers = called(alloc, false, units.as_slice())?;
+        let mappings = tables_of(alloc, true, units.as_slice())?;
+        let helpers = tables_of(alloc, false, units.as_slice())?;
         let keys = constructor_keys(alloc, units.as_slice())?;
         let constructors = ClassTable::of(alloc, keys.as_slice())?;
         let main = first_main(units.as_slice())?;

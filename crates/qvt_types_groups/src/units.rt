@@ -81,9 +81,13 @@ impl Drop for Units {
 
 impl Model for Units {
     ghost use Rattle.std.specs.Prelude.{◌≡◌, length};
+    ghost use Rattle.std.specs.Coded.{codes};
+    ghost use Rattle.qvt_types_data.specs.contracts.ty.Ty as ty_row;
     ghost use Rattle.qvt_types_groups.specs.Choices.{ChosenUnits, unit_rows};
 
     ghost Value = { ChosenUnits };
+
+    ghost coded = { Prim.hlevel (codes, ty_row.the_row.coded) };
 
     ghost view = { λ t. record { metas = t.metas; units = t.names } };
 

@@ -1,5 +1,5 @@
 pub mod Before
-pub mod Same
-pub mod Rows
-pub mod Distinct
-pub mod Lists
+pub mod SameUnits
+pub mod SameRows
+pub mod Kept
+pub mod Told

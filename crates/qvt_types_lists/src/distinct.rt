@@ -1,10 +1,10 @@
 //! The units of each name with a context, without those that no override tells from others.
 
-ghost use Rattle.std.specs.Prelude.{◌≡◌, ◌&&◌, ◌||◌, Bool, ℕ, List, IfOk};
+ghost use Rattle.std.specs.Prelude.{◌≡◌, ◌&&◌, ◌||◌, Bool, true, ℕ, List, length, nat_lt, IfOk};
 ghost use Rattle.std.specs.List.{list_any};
 ghost use Rattle.qvt_types_units.specs.declared.signature.Signature.{Signature};
 ghost use Rattle.qvt_types_units.specs.Numbers.{unit_at, is_in_group};
-ghost use Rattle.qvt_types_groups.specs.Lists.{numbers_under};
+ghost use Rattle.qvt_types_groups.specs.Lists.{is_one as is_wanted, numbers_under};
 ghost use Rattle.qvt_types_lists.specs.Rows as rows;
 
 use crate::rows::same_row;
@@ -16,13 +16,10 @@ use qvt_types_units::signature::Signature;
 use std::alloc::Global;
 
 fn is_one(maps: bool, unit: &Signature) -> bool
-    ensures { result ≡ lists.is_one maps true unit.now }
+    ensures { result ≡ is_wanted maps true unit.now }
 {
     is_called(maps, unit.sort) && has_context(unit.context)
 }
-
-ghost use Rattle.std.specs.Prelude.{true};
-ghost use Rattle.qvt_types_groups.specs.Lists as lists;
 
 fn is_same_at(units: &[Signature], unit: &Signature, number: u32) -> bool
     ensures { result ≡ (nat_lt number (length units.now) && rows.same_row (unit_at units.now number) unit.now) }
@@ -30,8 +27,6 @@ fn is_same_at(units: &[Signature], unit: &Signature, number: u32) -> bool
     let at = number as usize;
     at < units.len() && same_row(&units[at], unit)
 }
-
-ghost use Rattle.std.specs.Prelude.{length, nat_lt};
 
 /// Whether one of these units is not told from this one.
 fn has_same(units: &[Signature], numbers: &[u32], unit: &Signature) -> bool
@@ -59,7 +54,8 @@ fn with_unit(
     if has_same(units, kept.find(unit.name.as_str()), unit) {
         return Ok(kept);
     }
-    kept.with(alloc, unit.name.as_str(), number)
+    let all = kept.with(alloc, unit.name.as_str(), number)?;
+    Ok(all)
 }
 
 /// The mappings with a context, or the helpers and queries, by their names: of those that no override tells apart the first. It is

@@ -50,7 +50,6 @@ fn first_same(units: &UnitNames, unit: &Signature) -> Option<u32>
 }
 
 /// Whether such a one stands among the first of the units.
-#[tactic(auto, using(crate::proofs::Before::any_before))]
 fn stands_before(units: &UnitNames, number: u32, unit: &Signature) -> bool
     ensures { result ≡ list_any (units_told.are_same unit.now) (take number units.now) }
 {
@@ -74,7 +73,6 @@ pub fn tell_same(units: &UnitNames, log: &mut RefusalList) -> Result<(), ListFau
 }
 
 /// Tells that there is no `main`: NoMain, at the end.
-#[tactic(auto, using(qvt_types_paths::proofs::Places::some_position))]
 pub fn tell_main(units: &UnitNames, end: Place, log: &mut RefusalList) -> Result<(), ListFault>
     ensures { OnOk result (log.new ≡ log.old ++ units_told.main_told units.now end) }
 {

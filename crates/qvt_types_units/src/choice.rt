@@ -1,8 +1,8 @@
 //! The choice of a unit by the class of an object.
 
-ghost use Rattle.std.specs.Prelude.{◌≡◌, None, if◌then◌else◌, IfOk};
+ghost use Rattle.std.specs.Prelude.{◌≡◌, ◌&&◌, not, is_some, length, map, IfOk, OnOk};
+ghost use Rattle.std.specs.List.{list_any, list_all, range_with_len};
 ghost use Rattle.qvt_types_units.specs.Choice as choice;
-ghost use Rattle.qvt_types_units.specs.Least as lows;
 
 use crate::signature::{HeadClass, Signature};
 use qvt_base::list_fault::ListFault;
@@ -25,7 +25,7 @@ pub enum Found {
 }
 
 /// Whether the context class is this class or above it.
-pub fn is_above(metas: &Metas, context: HeadClass, class: ClassNo) -> bool
+fn is_above(metas: &Metas, context: HeadClass, class: ClassNo) -> bool
     ensures { result ≡ choice.is_above metas.now context class.0 }
 {
     match context {
@@ -46,8 +46,7 @@ fn is_below(metas: &Metas, one: HeadClass, other: HeadClass) -> bool
     }
 }
 
-/// The context of a unit by its number.
-pub fn context_at(units: &[Signature], number: u32) -> HeadClass
+fn context_at(units: &[Signature], number: u32) -> HeadClass
     ensures { result ≡ choice.context_at units.now number }
 {
     let at = number as usize;
@@ -59,7 +58,7 @@ pub fn context_at(units: &[Signature], number: u32) -> HeadClass
 }
 
 /// Those of the units that an object of the class may be handed to.
-pub fn candidates(
+fn candidates(
     alloc: Global,
     metas: &Metas,
     units: &[Signature],
@@ -84,82 +83,22 @@ fn is_lowest(metas: &Metas, units: &[Signature], group: &[u32], number: u32) -> 
     group.iter().all(|other| is_below(metas, context, context_at(units, *other)))
 }
 
-/// Of two units the one whose context is the other's or below it, else the first.
-fn lower(metas: &Metas, units: &[Signature], one: u32, other: u32) -> u32
-    ensures { result ≡ lows.lower metas.now units.now one other }
-{
-    if is_below(metas, context_at(units, other), context_at(units, one)) {
-        other
-    } else {
-        one
-    }
-}
-
-/// Where one of the units is below each of them, such a one.
-fn least(metas: &Metas, units: &[Signature], first: u32, others: &[u32]) -> u32
-    ensures { result ≡ lows.least_of metas.now units.now first others.now }
-{
-    let mut least = first;
-    for other in others {
-        least = lower(metas, units, least, *other);
-    }
-    least
-}
-
-/// Those of the units whose context is that of this one or below it.
-fn those_below(
+/// Those of the units whose context is that of each or below it.
+fn lowest(
     alloc: Global,
     metas: &Metas,
     units: &[Signature],
-    number: u32,
     group: &[u32],
 ) -> Result<Seq<u32>, ListFault>
-    ensures { IfOk result (λ ns. ns ≡ lows.those_below metas.now units.now number group.now) }
+    ensures { IfOk result (λ ns. ns ≡ choice.lowest metas.now units.now group.now) }
 {
-    let context = context_at(units, number);
     let mut numbers = Seq::new(alloc);
-    for other in group {
-        if is_below(metas, context_at(units, *other), context) {
-            numbers.push(*other)?;
+    for number in group {
+        if is_lowest(metas, units, group, *number) {
+            numbers.push(*number)?;
         }
     }
     Ok(numbers)
-}
-
-/// The unit, where it is below each of them and no other is.
-fn lowest_if(
-    alloc: Global,
-    metas: &Metas,
-    units: &[Signature],
-    number: u32,
-    group: &[u32],
-) -> Result<Option<u32>, ListFault>
-    ensures { IfOk result (λ n. n ≡ (if choice.is_lowest metas.now units.now group.now number then choice.single (lows.those_below metas.now units.now number group.now) else None)) }
-{
-    if !is_lowest(metas, units, group, number) {
-        return Ok(None);
-    }
-    let below = those_below(alloc, metas, units, number, group)?;
-    Ok(single(below.as_slice()))
-}
-
-/// The one of the units whose context is that of each or below it, in time linear in their number.
-pub fn lowest(
-    alloc: Global,
-    metas: &Metas,
-    units: &[Signature],
-    group: &[u32],
-) -> Result<Option<u32>, ListFault>
-    ensures { IfOk result (λ n. n ≡ choice.single (choice.lowest metas.now units.now group.now)) }
-{
-    metas.are_well_formed();
-    match group {
-        [] => Ok(None),
-        [first, others @ ..] => {
-            let number = least(metas, units, *first, others);
-            lowest_if(alloc, metas, units, number, group)
-        }
-    }
 }
 
 fn single(numbers: &[u32]) -> Option<u32>
@@ -183,5 +122,6 @@ pub fn chosen(
     ensures { IfOk result (λ n. n ≡ choice.chosen metas.now units.now group.now class.0) }
 {
     let candidates = candidates(alloc, metas, units, group, class)?;
-    lowest(alloc, metas, units, candidates.as_slice())
+    let lowest = lowest(alloc, metas, units, candidates.as_slice())?;
+    Ok(single(lowest.as_slice()))
 }

@@ -61,8 +61,8 @@ module _ (us : List Signature) (u : Signature) where
         (and_no (bytes_eq u.name v.name) (same_context u.context v.context) (ap (λ h. same_context h v.context) e ∙ unknown_context v.context)))
 
   no_constructor : ((v : Signature) → same_class u.context v.context ≡ false) → None ≡ position (is_same_constructor u) us
-  no_constructor no = nowhere (is_same_constructor u) us
-      (λ v. ap (λ b. b && (length u.params == length v.params)) (and_no (is_constructor v.sort) (same_class u.context v.context) (no v)))
+  no_constructor fails = nowhere (is_same_constructor u) us
+      (λ v. ap (λ b. b && (length u.params == length v.params)) (and_no (is_constructor v.sort) (same_class u.context v.context) (fails v)))
 
   pub missing_constructor : u.context ≡ Missing → None ≡ position (is_same_constructor u) us
   missing_constructor e = no_constructor (λ v. ap (λ h. same_class h v.context) e ∙ missing_class v.context)
@@ -96,13 +96,13 @@ module _ (us : List Signature) (u : Signature) where
   class_sort e = nowhere (same_as sort.Class) us (λ v. refl) ∙ sym (as_sort sort.Class e)
 
   pub main_sort : u.sort ≡ sort.Main → position (λ (v : Signature). is_main v.sort) us ≡ position (are_same u) us
-  main_sort e = (λ i. position (λ v. (or_false (is_main v.sort || false) ∙ or_false (is_main v.sort)) (~ i)) us) ∙ sym (as_sort sort.Main e)
+  main_sort e = (λ i. position (λ v. sym (or_false (is_main v.sort || false) ∙ or_false (is_main v.sort)) i) us) ∙ sym (as_sort sort.Main e)
 
   pub helper_sort : u.sort ≡ sort.Helper → position (is_same_called false u) us ≡ position (are_same u) us
-  helper_sort e = (λ i. position (λ v. or_false (is_same_called false u v) (~ i)) us) ∙ sym (as_sort sort.Helper e)
+  helper_sort e = (λ i. position (λ v. sym (or_false (is_same_called false u v)) i) us) ∙ sym (as_sort sort.Helper e)
 
   pub query_sort : u.sort ≡ sort.Query → position (is_same_called false u) us ≡ position (are_same u) us
-  query_sort e = (λ i. position (λ v. or_false (is_same_called false u v) (~ i)) us) ∙ sym (as_sort sort.Query e)
+  query_sort e = (λ i. position (λ v. sym (or_false (is_same_called false u v)) i) us) ∙ sym (as_sort sort.Query e)
 
   pub constructor_sort : u.sort ≡ sort.Constructor → position (is_same_constructor u) us ≡ position (are_same u) us
   constructor_sort e = sym (as_sort sort.Constructor e)

@@ -9,7 +9,7 @@ use Rattle.qvt_types_units.specs.declared.signature.HeadClass.{HeadClass}
 use Rattle.qvt_types_units.specs.declared.signature.HeadClass.TheVariants.{Missing, Unknown, Known}
 use Rattle.qvt_types_units.specs.declared.signature.Signature.{Signature}
 use Rattle.qvt_types_units.specs.Choice.{is_above, is_below, is_lowest, lowest, single, context_at}
-use Rattle.qvt_types_units.specs.Least.{stands_below, lower, least_of, those_below}
+use Rattle.qvt_types_groups.specs.Least.{stands_below, lower, least_of, those_below}
 
 abbrev pub Transitive : Metamodels → Type 0
 Transitive m = (c d e : ℕ) → IsTrue (descends m c d) → IsTrue (descends m d e) → IsTrue (descends m c e)
@@ -56,22 +56,25 @@ module _ (m : Metamodels) (us : List Signature) (t : Transitive m) where
 
   least_in : (b : ℕ) (ns : List ℕ) → In (least_of m us b ns) (b ∷ ns)
   least_in b [] = inl refl
-  least_in b (k ∷ ks) = by (R k b)
+  least_in b (k ∷ ks) = by (R k b) (least_in k ks) (least_in b ks)
     where
-      by : (x : Bool) → In (least_of m us (if x then k else b) ks) (b ∷ k ∷ ks)
-      by true = inr (least_in k ks)
-      by false = elim (least_in b ks) [
+      by : (x : Bool) → In (least_of m us k ks) (k ∷ ks) → In (least_of m us b ks) (b ∷ ks) → In (least_of m us (if x then k else b) ks) (b ∷ k ∷ ks)
+      by true there other = inr there
+      by false there other = elim other [
         | inl e ↦ inl e
         | inr r ↦ inr (inr r)
       ]
 
+  abbrev IsBelow : List ℕ → Type 0
+  IsBelow ks = (c x : ℕ) → In x (c ∷ ks) → list_all (R x) (c ∷ ks) ≡ true → R (least_of m us c ks) x ≡ true
+
   -- one that is below each: what is found is below it
   least_below : (b : ℕ) (ns : List ℕ) (n : ℕ) → In n (b ∷ ns) → list_all (R n) (b ∷ ns) ≡ true → R (least_of m us b ns) n ≡ true
   least_below b [] n i all = elim i [
-    | inl e ↦ (λ j. R (e (~ j)) (e j)) ∙ and_left (R n b) true all
+    | inl e ↦ (λ j. R (sym e j) (e j)) ∙ and_left (R n b) true all
     | inr r ↦ absurd r
   ]
-  least_below b (k ∷ ks) n i all = by (R k b) refl
+  least_below b (k ∷ ks) n i all = by (R k b) refl (λ c x. least_below c ks x)
     where
       rest : list_all (R n) (k ∷ ks) ≡ true
       rest = and_right (R n b) (list_all (R n) (k ∷ ks)) all
@@ -85,16 +88,16 @@ module _ (m : Metamodels) (us : List Signature) (t : Transitive m) where
       others : list_all (R n) ks ≡ true
       others = and_right (R n k) (list_all (R n) ks) rest
 
-      by : (x : Bool) → R k b ≡ x → R (least_of m us (if x then k else b) ks) n ≡ true
-      by true e = elim i [
-        | inl same ↦ (let here : R k n ≡ true = ap (R k) same ∙ e in trans (least_of m us k ks) k n (least_below k ks k (inl refl) (all_below k n (k ∷ ks) here rest)) here)
-        | inr r ↦ least_below k ks n r rest
+      by : (x : Bool) → R k b ≡ x → IsBelow ks → R (least_of m us (if x then k else b) ks) n ≡ true
+      by true e go = elim i [
+        | inl same ↦ (let here : R k n ≡ true = ap (R k) same ∙ e in trans (least_of m us k ks) k n (go k k (inl refl) (all_below k n (k ∷ ks) here rest)) here)
+        | inr r ↦ go k n r rest
       ]
-      by false e = elim i [
-        | inl same ↦ least_below b ks n (inl same) (and_both (R n b) (list_all (R n) ks) to_b others)
+      by false e go = elim i [
+        | inl same ↦ go b n (inl same) (and_both (R n b) (list_all (R n) ks) to_b others)
         | inr r ↦ elim r [
           | inl same ↦ absurd (clash (ap (λ x. R x b) (sym same) ∙ to_b) e)
-          | inr s ↦ least_below b ks n (inr s) (and_both (R n b) (list_all (R n) ks) to_b others)
+          | inr s ↦ go b n (inr s) (and_both (R n b) (list_all (R n) ks) to_b others)
         ]
       ]
 

@@ -79,7 +79,7 @@ unlike_is w (sort.Mapping n) sort.Query e = absurd (cc)
 unlike_is w (sort.Mapping n) sort.Constructor e = absurd (cc)
 
 pub row_is : (m : Metamodels) (w : Signature) → Respects (clashes m w)
-unfolding (same_row, is_misfit)
+unfolding same_row is_misfit
 row_is m w u v e =
     let head : same_head u.context v.context ≡ true = and_left (same_head u.context v.context) _ e in
     let after_head : (same_sort u.sort v.sort && (same_types u.params v.params && same_answer u.answer v.answer)) ≡ true = and_right (same_head u.context v.context) _ e in
@@ -102,7 +102,7 @@ mixed : (a n h s k : Bool) → (s ≡ true → h ≡ true) → ((a && (n && h)) 
 mixed false n h s k f = refl
 mixed true false h s k f = refl
 mixed true true true s k f = refl
-mixed true true false true k f = absurd (let no : false ≡ true = f refl in cc)
+mixed true true false true k f = absurd (let wrong : false ≡ true = f refl in cc)
 mixed true true false false k f = refl
 
 or_false : (a : Bool) → (a || false) ≡ a
@@ -124,8 +124,8 @@ bad_is m us maps t u stands alike =
         ∙ ap (λ a. (a && (bytes_eq u.name v.name && is_strictly_below m u.context v.context)) && is_misfit m u v) (alike v)
 
 none : (p : Signature → Bool) (us : List Signature) → ((v : Signature) → p v ≡ false) → false ≡ list_any p us
-none p [] no = refl
-none p (u ∷ us) no = none p us no ∙ ap (λ b. b || list_any p us) (sym (no u))
+none p [] fails = refl
+none p (u ∷ us) fails = none p us fails ∙ ap (λ b. b || list_any p us) (sym (fails u))
 
 -- a unit of a kind that overrides nothing
 pub good_is : (m : Metamodels) (us : List Signature) (u : Signature) → ((v : Signature) → are_alike u.sort v.sort ≡ false) → false ≡ is_bad_override m us u

@@ -51,19 +51,16 @@ pub stood_for : (maps : Bool) (us : List Signature) (u : Signature) (kept : Name
     → list_any (λ n. p (unit_at us n)) (numbers_under kept name) ≡ (list_any (λ n. p (unit_at us n)) (numbers_under kept name) || (is_in_group maps name u && p u))
 stood_for maps us u kept name p one same respects =
     by (bytes_eq name u.name) (p u) refl refl
-    ∙ ap (λ b. had || (b && p u)) (sym (listed (is_called maps u.sort) (bytes_eq name u.name) (has_context u.context) one))
+    ∙ ap (λ b. list_any (λ n. p (unit_at us n)) (numbers_under kept name) || (b && p u)) (sym (listed (is_called maps u.sort) (bytes_eq name u.name) (has_context u.context) one))
   where
-    had : Bool
-    had = list_any (λ n. p (unit_at us n)) (numbers_under kept name)
-
     by : (b c : Bool) → bytes_eq name u.name ≡ b → p u ≡ c → list_any (λ n. p (unit_at us n)) (numbers_under kept name) ≡ (list_any (λ n. p (unit_at us n)) (numbers_under kept name) || (b && c))
-    by false c e f = sym (or_false had)
-    by true false e f = sym (or_false had)
+    by false c e f = sym (or_false (list_any (λ n. p (unit_at us n)) (numbers_under kept name)))
+    by true false e f = sym (or_false (list_any (λ n. p (unit_at us n)) (numbers_under kept name)))
     by true true e f =
-        (let found : had ≡ true = any_so (λ n. nat_lt n (length us) && same_row (unit_at us n) u) (λ n. p (unit_at us n)) (numbers_under kept name)
+        (let found : list_any (λ n. p (unit_at us n)) (numbers_under kept name) ≡ true = any_so (λ n. nat_lt n (length us) && same_row (unit_at us n) u) (λ n. p (unit_at us n)) (numbers_under kept name)
             (λ n h. respects (unit_at us n) u (and_right (nat_lt n (length us)) (same_row (unit_at us n) u) h) ∙ f)
             (ap (λ x. list_any (λ n. nat_lt n (length us) && same_row (unit_at us n) u) (numbers_under kept x)) (same_bytes name u.name e) ∙ same) in
-        found ∙ sym (or_left had true found))
+        found ∙ sym (or_left (list_any (λ n. p (unit_at us n)) (numbers_under kept name)) true found))
 
 one_number : (q : ℕ → Bool) (n : ℕ) (b : Bool) → list_any q (if b then n ∷ [] else []) ≡ (b && q n)
 one_number q n true = or_false (q n)
@@ -78,7 +75,7 @@ put_there maps us u number kept all name p one is more =
     ∙ list_any-append (λ n. p (unit_at us n)) (numbers_under kept name) (if bytes_eq name u.name then number ∷ [] else [])
     ∙ ap (λ b. list_any (λ n. p (unit_at us n)) (numbers_under kept name) || b)
       (one_number (λ n. p (unit_at us n)) number (bytes_eq name u.name)
-      ∙ (λ i. listed (is_called maps u.sort) (bytes_eq name u.name) (has_context u.context) one (~ i) && p (is (~ i))))
+      ∙ (λ i. sym (listed (is_called maps u.sort) (bytes_eq name u.name) (has_context u.context) one) i && p (sym is i)))
 
 -- one unit more is looked at
 pub any_next : (q : Signature → Bool) (us : List Signature) (n : ℕ) (d : Signature) (has had r : Bool) → n < length us → (had || list_any q (drop n us)) ≡ r

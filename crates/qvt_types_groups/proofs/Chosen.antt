@@ -9,9 +9,9 @@ use Rattle.std.proofs.lemmas.List.FromFn.{get_or-map-range_with_len, length-map-
 use Rattle.std.proofs.lemmas.List.Quantifiers.{position-Some}
 use Rattle.std.proofs.lemmas.Option.{slice_get_within, get_or_from_slice_get}
 use Rattle.qvt_meta_names.proofs.Orders.{range-more}
-use Rattle.qvt_metamodel.specs.Metamodels.{Metamodels, class_at}
-use Rattle.qvt_metamodel.specs.Descends.{descends}
-use Rattle.qvt_metamodel.proofs.Bools.{and_both, and_left, and_right, or_left, not_true, clash}
+use Rattle.qvt_metamodel.specs.Metamodels.{Metamodels, class_at, is_element}
+use Rattle.qvt_metamodel.specs.Descends.{descends, reaches}
+use Rattle.qvt_metamodel.proofs.Bools.{and_both, and_left, and_right, not_true, clash}
 use Rattle.qvt_types_units.specs.declared.choice.Found.{Found}
 use Rattle.qvt_types_units.specs.declared.choice.Found.TheVariants.{NoUnit, Untyped, Unclear, Chosen}
 use Rattle.qvt_types_units.specs.declared.signature.HeadClass.{HeadClass}
@@ -38,22 +38,25 @@ stuck_next p n had has before is =
     one : (b : Bool) → p n ≡ b → filter p (range_with_len 0 n) ++ (if b then n ∷ [] else []) ≡ filter p (range_with_len 0 n) ++ (if b then n ∷ [] else [])
     one b e = refl
 
+abbrev kept_if : ℕ → Bool → List ℕ
+kept_if n b = if b then n ∷ [] else []
+
 any_filter : (p q : ℕ → Bool) (xs : List ℕ) → list_any q (filter p xs) ≡ list_any (λ x. p x && q x) xs
 any_filter p q [] = refl
-any_filter p q (x ∷ xs) = by (p x)
+any_filter p q (x ∷ xs) = by (p x) (any_filter p q xs)
   where
-    by : (b : Bool) → list_any q (if b then x ∷ filter p xs else filter p xs) ≡ ((b && q x) || list_any (λ y. p y && q y) xs)
-    by true = ap (λ t. q x || t) (any_filter p q xs)
-    by false = any_filter p q xs
+    by : (b : Bool) → list_any q (filter p xs) ≡ list_any (λ y. p y && q y) xs → list_any q (if b then x ∷ filter p xs else filter p xs) ≡ ((b && q x) || list_any (λ y. p y && q y) xs)
+    by true rest = ap (λ t. q x || t) rest
+    by false rest = rest
 
 some_left : (p q : ℕ → Bool) (xs : List ℕ) → ((x : ℕ) → p x ≡ true → q x ≡ true) → is_empty (filter p xs) ≡ false → is_empty (filter q xs) ≡ false
 some_left p q [] implies some = some
-some_left p q (x ∷ xs) implies some = by (q x) (p x) refl refl some
+some_left p q (x ∷ xs) implies some = by (q x) (p x) refl refl some (some_left p q xs implies)
   where
-    by : (b a : Bool) → q x ≡ b → p x ≡ a → is_empty (if a then x ∷ filter p xs else filter p xs) ≡ false → is_empty (if b then x ∷ filter q xs else filter q xs) ≡ false
-    by true a e f some = refl
-    by false true e f some = clash (implies x f) e
-    by false false e f some = some_left p q xs implies some
+    by : (b a : Bool) → q x ≡ b → p x ≡ a → is_empty (if a then x ∷ filter p xs else filter p xs) ≡ false → (is_empty (filter p xs) ≡ false → is_empty (filter q xs) ≡ false) → is_empty (if b then x ∷ filter q xs else filter q xs) ≡ false
+    by true a e f some rest = refl
+    by false true e f some rest = clash (implies x f) e
+    by false false e f some rest = rest some
 
 above_also : (m : Metamodels) → Transitive m → (h : HeadClass) (c d : ℕ) → descends m d c ≡ true → is_above m h c ≡ true → is_above m h d ≡ true
 above_also m t Missing c d down h = absurd (cc)
@@ -66,7 +69,7 @@ module _ (m : Metamodels) (us : List Signature) (t : Transitive m) where
 
   -- below a class that some units are above, a class that lacks a choice is one of those that are told
   stuck_is : (ns : List ℕ) (c d : ℕ) → is_empty (candidates m us ns c) ≡ false → (is_stuck m us ns d && descends m d c) ≡ lacks_choice m us ns c d
-  unfolding (is_stuck, lacks_choice)
+  unfolding is_stuck lacks_choice
   stuck_is ns c d some = by (descends m d c) refl
     where
       two : (a b : Bool) → ((a && b) && true) ≡ ((a && true) && b)
@@ -103,13 +106,33 @@ module _ (m : Metamodels) (us : List Signature) (t : Transitive m) where
       ∙ sym ((λ i. if sure i then Untyped else if is_empty (candidates m us ns c) then NoUnit else chosen_of (is_ambiguous m us ns c) (chosen m us ns c))
           ∙ (λ i. if some i then NoUnit else chosen_of (is_ambiguous m us ns c) (chosen m us ns c)))
 
+  some_there : (ns : List ℕ) → (length ns == 0) ≡ false → is_empty ns ≡ false
+  some_there [] h = absurd (cc)
+  some_there (n ∷ ns) h = refl
+
+  none_there : (ns : List ℕ) → (length ns == 0) ≡ true → is_empty ns ≡ true
+  none_there [] h = refl
+  none_there (n ∷ ns) h = absurd (let wrong : length (n ∷ ns) ≡ 0 = eqb-true (length (n ∷ ns)) 0 h in omega (arith, wrong))
+
+  -- the same, where the units that are above the class are told
+  pub found_so : (ns among stuck : List ℕ) (c : ℕ) (x : Found) → is_unsure us ns ≡ false → among ≡ candidates m us ns c → (length among == 0) ≡ false → stuck ≡ all_stuck m us ns
+      → x ≡ chosen_of (lacks_one m stuck c (single (lowest m us among))) (single (lowest m us among)) → x ≡ looked_up m us ns c
+  found_so ns among stuck c x sure are some told is =
+      is ∙ (λ i. chosen_of (lacks_one m (told i) c (single (lowest m us (are i)))) (single (lowest m us (are i))))
+      ∙ found_is ns c sure (ap is_empty (sym are) ∙ some_there among some)
+
+  pub none_found : (ns among : List ℕ) (c : ℕ) → is_unsure us ns ≡ false → among ≡ candidates m us ns c → (length among == 0) ≡ true → NoUnit ≡ looked_up m us ns c
+  none_found ns among c sure are empty =
+      sym ((λ i. if sure i then Untyped else if is_empty (candidates m us ns c) then NoUnit else chosen_of (is_ambiguous m us ns c) (chosen m us ns c))
+        ∙ (λ i. if (ap is_empty (sym are) ∙ none_there among empty) i then NoUnit else chosen_of (is_ambiguous m us ns c) (chosen m us ns c)))
+
   -- one unit alone
   itself : (d : ℕ) → descends m d d ≡ true
-  itself d = or_left (d == d) _ (eq-eqb d d refl)
+  itself d = ap (λ b. b || is_element m d || reaches m d d) (eq-eqb d d refl)
 
   none_lack : (p : ℕ → Bool) (xs : List ℕ) → ((x : ℕ) → p x ≡ false) → list_any p xs ≡ false
-  none_lack p [] no = refl
-  none_lack p (x ∷ xs) no = ap (λ b. b || list_any p xs) (no x) ∙ none_lack p xs no
+  none_lack p [] fails = refl
+  none_lack p (x ∷ xs) fails = ap (λ b. b || list_any p xs) (fails x) ∙ none_lack p xs fails
 
   module _ (n d : ℕ) (h : context_at us n ≡ Known (record { 0 = d })) where
     alone_chosen : (c : ℕ) → descends m c d ≡ true → chosen m us (n ∷ []) c ≡ Some n
@@ -119,7 +142,7 @@ module _ (m : Metamodels) (us : List Signature) (t : Transitive m) where
         ∙ ap (λ b. single (if b && true then n ∷ [] else [])) ((λ i. is_below m (h i) (h i)) ∙ itself d)
 
     alone_clear : (c : ℕ) → descends m c d ≡ true → is_ambiguous m us (n ∷ []) c ≡ false
-    unfolding (is_ambiguous, lacks_choice)
+    unfolding is_ambiguous lacks_choice
     alone_clear c up =
         ap (λ o. not (is_some o) || list_any (lacks_choice m us (n ∷ []) c) (range_with_len 0 (length m.classes))) (alone_chosen c up)
         ∙ none_lack (lacks_choice m us (n ∷ []) c) (range_with_len 0 (length m.classes))
@@ -130,16 +153,16 @@ module _ (m : Metamodels) (us : List Signature) (t : Transitive m) where
     alone_known : (c : ℕ) → looked_up m us (n ∷ []) c ≡ (if descends m c d then Chosen n else NoUnit)
     alone_known c = by (descends m c d) refl
       where
-        kept : Bool → List ℕ
-        kept b = if b then n ∷ [] else []
-
-        start : looked_up m us (n ∷ []) c ≡ (if is_empty (kept (descends m c d)) then NoUnit else chosen_of (is_ambiguous m us (n ∷ []) c) (chosen m us (n ∷ []) c))
-        start = λ i. if (is_unknown (h i) || false) then Untyped else if is_empty (kept (is_above m (h i) c)) then NoUnit else chosen_of (is_ambiguous m us (n ∷ []) c) (chosen m us (n ∷ []) c)
+        start : looked_up m us (n ∷ []) c ≡ (if is_empty (kept_if n (descends m c d)) then NoUnit else chosen_of (is_ambiguous m us (n ∷ []) c) (chosen m us (n ∷ []) c))
+        start = λ i. if (is_unknown (h i) || false) then Untyped else if is_empty (kept_if n (is_above m (h i) c)) then NoUnit else chosen_of (is_ambiguous m us (n ∷ []) c) (chosen m us (n ∷ []) c)
 
         by : (b : Bool) → descends m c d ≡ b → looked_up m us (n ∷ []) c ≡ (if b then Chosen n else NoUnit)
-        by true e = start ∙ ap (λ b. if is_empty (kept b) then NoUnit else chosen_of (is_ambiguous m us (n ∷ []) c) (chosen m us (n ∷ []) c)) e
+        by true e = start ∙ ap (λ b. if is_empty (kept_if n b) then NoUnit else chosen_of (is_ambiguous m us (n ∷ []) c) (chosen m us (n ∷ []) c)) e
             ∙ (λ i. chosen_of (alone_clear c e i) (alone_chosen c e i))
-        by false e = start ∙ ap (λ b. if is_empty (kept b) then NoUnit else chosen_of (is_ambiguous m us (n ∷ []) c) (chosen m us (n ∷ []) c)) e
+        by false e = start ∙ ap (λ b. if is_empty (kept_if n b) then NoUnit else chosen_of (is_ambiguous m us (n ∷ []) c) (chosen m us (n ∷ []) c)) e
+
+  pub alone_found : (n c : ℕ) (h : HeadClass) (d : ℕ) → h ≡ context_at us n → h ≡ Known (record { 0 = d }) → descends m c d ≡ true → Chosen n ≡ looked_up m us (n ∷ []) c
+  alone_found n c h d is known up = sym (alone_known n d (sym is ∙ known) c ∙ ap (λ b. if b then Chosen n else NoUnit) up)
 
   alone_by : (n c : ℕ) (h : HeadClass) → context_at us n ≡ h → looked_up m us (n ∷ []) c ≡ found_alone m n h c
   alone_by n c Missing h = λ i. if (is_unknown (h i) || false) then Untyped else if is_empty (if is_above m (h i) c then n ∷ [] else []) then NoUnit else chosen_of (is_ambiguous m us (n ∷ []) c) (chosen m us (n ∷ []) c)
@@ -169,11 +192,11 @@ unfolding group
 same_group us maps name f first =
     let at : position (is_in_group maps name) us ≡ Some f = sym (first_where (is_in_group maps name) us) ∙ first in
     let u : Signature = unit_at us f in
-    let passes : is_in_group maps name u ≡ true = (position-Some (is_in_group maps name) us f no_unit at).1.0 in
+    let passes : is_in_group maps name u ≡ true = (position-Some (is_in_group maps name) us f no_unit at).1 in
     let rest : (bytes_eq name u.name && has_context u.context) ≡ true = and_right (is_called maps u.sort) (bytes_eq name u.name && has_context u.context) passes in
     let like : is_mapping u.sort ≡ maps = called_so maps u.sort (and_left (is_called maps u.sort) (bytes_eq name u.name && has_context u.context) passes) in
     let named : name ≡ u.name = same_bytes name u.name (and_left (bytes_eq name u.name) (has_context u.context) rest) in
-    (λ i. group (like i) (named (~ i)) us)
+    (λ i. group (like i) (sym named i) us)
 
 first_below : (us : List Signature) (maps : Bool) (name : List ℕ) (f : ℕ) → first_of (group maps name us) ≡ Some f → f < length us
 unfolding group
@@ -183,14 +206,11 @@ in_row : (m : Metamodels) (us : List Signature) (g : List ℕ) (c : ℕ) (x : Fo
 unfolding row
 in_row m us g c x at = by (are_several g) refl at
   where
-    each : List Found
-    each = map (looked_up m us g) (range_with_len 0 (length m.classes))
-
     by : (b : Bool) → are_several g ≡ b → slice_get (if b then map (looked_up m us g) (range_with_len 0 (length m.classes)) else []) c ≡ Some x → x ≡ looked_up m us g c
-    by true e h = sym (get_or_from_slice_get each c x NoUnit h)
-        ∙ get_or-map-range_with_len (looked_up m us g) 0 (length m.classes) c c NoUnit (c_below (slice_get_within each c x h)) (omega arith)
+    by true e h = sym (get_or_from_slice_get (map (looked_up m us g) (range_with_len 0 (length m.classes))) c x NoUnit h)
+        ∙ get_or-map-range_with_len (looked_up m us g) 0 (length m.classes) c c NoUnit (c_below (slice_get_within (map (looked_up m us g) (range_with_len 0 (length m.classes))) c x h)) (omega arith)
       where
-        c_below : c < length each → c < length m.classes
+        c_below : c < length (map (looked_up m us g) (range_with_len 0 (length m.classes))) → c < length m.classes
         c_below l = subst (λ k. c < k) (length-map-range_with_len (looked_up m us g) 0 (length m.classes)) l
     by false e h = absurd (cc)
 
