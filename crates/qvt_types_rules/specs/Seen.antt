@@ -8,10 +8,10 @@ use Rattle.qvt_types_rules.specs.declared.context.Returns.TheVariants as returns
 abbrev pub heads_seen : Heads → known.Heads
 heads_seen h = record {
   given = h.given.now;
-  metas = h.metas.now;
+  metas = h.units.now.metas;
   types = h.types.now;
   models = h.models.now;
-  units = h.units.now;
+  units = h.units.now.units;
   first = h.first;
   flags = h.typed.now;
 }

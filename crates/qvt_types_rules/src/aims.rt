@@ -62,7 +62,7 @@ fn class_aim(
     ensures { result ≡ aims.class_aim (heads_seen heads.now) source name.now class otherwise }
 {
     match class {
-        ClassPart::Class(class) => match heads.metas.feature(class, name) {
+        ClassPart::Class(class) => match heads.units.metas().feature(class, name) {
             None => otherwise,
             Some(feature) => property_aim(heads, source, feature),
         },
@@ -118,7 +118,7 @@ pub fn member_aim(heads: &Heads<'_>, name: &str, object: &Option<Ty>) -> Aim
     let Some(ty) = object else {
         return Aim::UntypedProperty;
     };
-    match feature_in(heads.metas, ty, name) {
+    match feature_in(heads.units.metas(), ty, name) {
         None => Aim::Nowhere,
         Some(feature) => property_aim(heads, None, feature),
     }

@@ -94,11 +94,11 @@ fn aimed_wrong(heads: &Heads<'_>, adds: bool, aim: &Aim, ty: &Ty) -> Option<Refu
         Aim::UntypedProperty => None,
         Aim::UntypedVariable => None,
         Aim::Fixed => Some(RefusalKind::BadTarget),
-        Aim::VariableOf(_, variable) => variable_wrong(heads.metas, adds, variable, ty),
+        Aim::VariableOf(_, variable) => variable_wrong(heads.units.metas(), adds, variable, ty),
         Aim::Property(_, feature) => {
-            let shape = heads.metas.shape(*feature);
+            let shape = heads.units.metas().shape(*feature);
             let single = shape.upper == Some(1);
-            property_wrong(heads.metas, adds, single, &value_type(shape.kind), ty)
+            property_wrong(heads.units.metas(), adds, single, &value_type(shape.kind), ty)
         }
     }
 }

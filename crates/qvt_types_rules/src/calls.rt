@@ -22,7 +22,7 @@ use qvt_types_steps::classes::ClassPart;
 use qvt_types_steps::units::{arguments_wrong, mapping_step, static_class, unit_step};
 use qvt_types_units::choice::Found;
 use qvt_types_units::signature::{HeadClass, Signature, UnitSort};
-use qvt_types_table::table::UnitTable;
+use qvt_types_groups::units::Units;
 use qvt_typing::parts::{Called, Effect};
 use std::alloc::Global;
 
@@ -46,11 +46,11 @@ pub fn no_unit(alloc: Global) -> Signature
 }
 
 /// The unit of this number, or the one that stands for none.
-pub fn unit_at<'a>(units: &'a UnitTable, number: u32, none: &'a Signature) -> &'a Signature
+pub fn unit_at<'a>(units: &'a Units, number: u32, none: &'a Signature) -> &'a Signature
     requires { none.now ≡ numbers.no_unit }
-    ensures { result.now ≡ numbers.unit_at units.now number }
+    ensures { result.now ≡ numbers.unit_at units.now.units number }
 {
-    let units = units.units();
+    let units = units.names().signatures();
     let at = number as usize;
     if at < units.len() { &units[at] } else { none }
 }
@@ -66,7 +66,7 @@ fn on_class(
     ensures { IfOk result (λ f. f ≡ calls.on_class (heads_seen heads.now) maps name.now class) }
 {
     match class {
-        ClassPart::Class(class) => heads.units.called_on(alloc, heads.metas, maps, name, class),
+        ClassPart::Class(class) => heads.units.called_on(alloc, maps, name, class),
         ClassPart::Untyped => Ok(Found::Untyped),
         ClassPart::Missing => Ok(Found::NoUnit),
     }
@@ -126,7 +126,8 @@ pub fn called_behind(
     ensures { IfOk result (λ c. c ≡ calls.called_behind (heads_seen heads.now) maps arrow name.now source.now) }
 {
     let found = on_class(alloc, heads, maps, name, static_class(arrow, source))?;
-    let units = heads.units.group(alloc, maps, name)?;
+    let units = heads.units.names().group(maps, name);
+    let units = Seq::from_slice(alloc, units)?;
     let called = Called {
         found,
         units: units.copy(alloc)?,
@@ -160,7 +161,7 @@ fn called_from(
         Found::NoUnit => Ok(otherwise),
         found => Ok(Called {
             found,
-            units: heads.units.group(alloc, maps, name)?,
+            units: Seq::from_slice(alloc, heads.units.names().group(maps, name))?,
             source: Some(source.name.copy(alloc)?),
         }),
     }
@@ -198,7 +199,7 @@ pub fn called_alone(
 ) -> Result<Called, ListFault>
     ensures { IfOk result (λ c. c ≡ calls.called_alone (heads_seen heads.now) maps name.now sources.now) }
 {
-    let called = match heads.units.free_unit(maps, name)? {
+    let called = match heads.units.names().free_unit(maps, name) {
         None => called_implicitly(alloc, heads, maps, name, sources)?,
         Some(number) => Called {
             found: Found::Chosen(number),
@@ -206,7 +207,7 @@ pub fn called_alone(
             source: None,
         },
     };
-    let units = heads.units.group(alloc, maps, name)?;
+    let units = Seq::from_slice(alloc, heads.units.names().group(maps, name))?;
     Ok(unless_unsure(alloc, heads, units, called))
 }
 
@@ -262,7 +263,7 @@ fn unit_called(
         Found::Chosen(number) => {
             let none = no_unit(alloc);
             let unit = unit_at(heads.units, number, &none);
-            match arguments_wrong(heads.metas, unit.params.as_slice(), types.as_slice()) {
+            match arguments_wrong(heads.units.metas(), unit.params.as_slice(), types.as_slice()) {
                 None => Ok(number),
                 Some(kind) => Err(Ruling::Fails(kind)),
             }

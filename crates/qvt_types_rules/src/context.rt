@@ -14,7 +14,7 @@ use qvt_types_paths::model_types::TypeNames;
 use qvt_types_paths::models::Models;
 use qvt_types_steps::classes::ClassPart;
 use qvt_types_steps::iterators::{IteratorKind, row_of};
-use qvt_types_table::table::UnitTable;
+use qvt_types_groups::units::Units;
 use std::alloc::Global;
 
 /// What the heads of a transformation declare.
@@ -22,11 +22,10 @@ use std::alloc::Global;
 pub struct Heads<'a> {
     /// The metamodels of the job.
     pub given: &'a Metas,
-    /// These, with Element and the intermediate classes.
-    pub metas: &'a Metas,
     pub types: &'a TypeNames,
     pub models: &'a Models,
-    pub units: &'a UnitTable,
+    /// The metamodels with Element and the intermediate classes, and the units by their names.
+    pub units: &'a Units,
     /// The number of the first feature of an intermediate class.
     pub first: u32,
     /// Which features of intermediate classes have a type, from the first on.

@@ -92,12 +92,12 @@ pub fn plain_heading(
     ensures { Does (rule.plain_heading (seen x.now) name.now (phrase.optional_type (seen x.now) (optional_type kind.now)) place items.now state.old) result state.new }
 {
     let kind = type_if(x, kind, state)?;
-    let wrong = iterator_wrong(x.heads.metas, kind.is_given, &kind.ty, items);
+    let wrong = iterator_wrong(x.heads.units.metas(), kind.is_given, &kind.ty, items);
     checked(wrong, place, state)?;
     let known = iterator_known(x, &kind, items)?;
     let is_new = declare_head(x, name, known, place, state)?;
     writes_nothing(state)?;
-    Ok(if_new(is_new, plain_head(x.heads.metas, kind.is_given, &kind.ty, items)))
+    Ok(if_new(is_new, plain_head(x.heads.units.metas(), kind.is_given, &kind.ty, items)))
 }
 
 fn unless_folding_fails(heading: &Heading, told: Option<RefusalKind>) -> Option<RefusalKind>
@@ -119,7 +119,7 @@ fn fold_wrong(
 ) -> Result<Option<RefusalKind>, ListFault>
     ensures { IfOk result (λ o. o ≡ rule.fold_wrong (seen x.now) kind.now items.now ty.now first.now) }
 {
-    let metas = x.heads.metas;
+    let metas = x.heads.units.metas();
     let folding = folding_head(x.alloc, metas, &Heading::Plain, ty, first)?;
     let wrong = iterator_wrong(metas, kind.is_given, &kind.ty, items);
     Ok(unless_folding_fails(&folding, wrong))
@@ -147,7 +147,7 @@ pub fn folded(
 ) -> Result<Heading, ListFault>
     ensures { Does (rule.folded (seen x.now) names.now.iterator.now kind.now names.now.accumulator.now ty.now first.now names.now.accumulator_place names.now.place items.now state.old) result state.new }
 {
-    let metas = x.heads.metas;
+    let metas = x.heads.units.metas();
     checked(fold_wrong(x, kind, items, ty, first)?, names.place, state)?;
     checked(accumulator_wrong(metas, ty, first), names.accumulator_place, state)?;
     writes_nothing(state)?;

@@ -159,10 +159,10 @@ fn property_of(
     source: &Text,
     feature: FeatureNo,
 ) -> Result<Ruling, ListFault>
-    ensures { IfOk result (λ r. r ≡ found.property_of heads.now.metas.now heads.now.first heads.now.typed.now source.now feature) }
+    ensures { IfOk result (λ r. r ≡ found.property_of heads.now.units.now.metas heads.now.first heads.now.typed.now source.now feature) }
 {
     let answer = if is_typed(heads.first, heads.typed, feature) {
-        Some(feature_type(alloc, heads.metas.shape(feature))?)
+        Some(feature_type(alloc, heads.units.metas().shape(feature))?)
     } else {
         None
     };
@@ -184,7 +184,7 @@ fn by_source(
     source: &Variable,
     otherwise: Ruling,
 ) -> Result<Ruling, ListFault>
-    ensures { IfOk result (λ r. r ≡ found.by_source heads.now.metas.now heads.now.first heads.now.typed.now name.now source.now otherwise) }
+    ensures { IfOk result (λ r. r ≡ found.by_source heads.now.units.now.metas heads.now.first heads.now.typed.now name.now source.now otherwise) }
 {
     let VariableSort::Implicit = source.sort else {
         return Ok(otherwise);
@@ -192,7 +192,7 @@ fn by_source(
     let Some(t) = &source.ty else {
         return Ok(Ruling::Silent);
     };
-    match feature_in(heads.metas, t, name) {
+    match feature_in(heads.units.metas(), t, name) {
         None => Ok(otherwise),
         Some(feature) => property_of(alloc, heads, &source.name, feature),
     }
@@ -205,7 +205,7 @@ fn by_sources(
     name: &str,
     sources: &[Variable],
 ) -> Result<Ruling, ListFault>
-    ensures { IfOk result (λ r. r ≡ found.by_sources heads.now.metas.now heads.now.first heads.now.typed.now name.now (rulings.Fails refusal.UnknownName) sources.now) }
+    ensures { IfOk result (λ r. r ≡ found.by_sources heads.now.units.now.metas heads.now.first heads.now.typed.now name.now (rulings.Fails refusal.UnknownName) sources.now) }
 {
     let mut ruling = Ruling::Fails(RefusalKind::UnknownName);
     for source in sources {
@@ -222,7 +222,7 @@ fn model_or(
     sources: &[Variable],
     name: &str,
 ) -> Result<Ruling, ListFault>
-    ensures { IfOk result (λ r. r ≡ found.model_or heads.now.metas.now heads.now.first heads.now.typed.now is_source sources.now name.now (names.model_named (heads_seen heads.now) name.now)) }
+    ensures { IfOk result (λ r. r ≡ found.model_or heads.now.units.now.metas heads.now.first heads.now.typed.now is_source sources.now name.now (names.model_named (heads_seen heads.now) name.now)) }
 {
     match heads.models.names.place(name) {
         Some(model) => {

@@ -84,7 +84,7 @@ pub fn tell_abstract(
     ensures { Does (rule.abstract_told (seen x.now) class place state.old) result state.new }
 {
     match class {
-        ClassPart::Class(class) if x.heads.metas.is_abstract(class) => {
+        ClassPart::Class(class) if x.heads.units.metas().is_abstract(class) => {
             tell(RefusalKind::AbstractClass, place, state)
         }
         _ => Ok(()),
@@ -96,7 +96,7 @@ pub fn extent_of(x: &Context<'_>, name: &Option<Text>, class: ClassNo) -> Option
     ensures { result ≡ rule.extent_of (seen x.now) name.now class }
 {
     let last = x.heads.given.metamodel_count();
-    let metamodel = x.heads.metas.metamodel_of(class);
+    let metamodel = x.heads.units.metas().metamodel_of(class);
     extent(x.heads.models, last, name, metamodel)
 }
 
@@ -168,13 +168,13 @@ fn constructed_by(
     class: ClassNo,
     types: &[Ty],
 ) -> Result<Ruling, ListFault>
-    ensures { IfOk result (λ r. r ≡ rule.constructed_by (seen x.now) class name.now (constructor_of class.0 (length types.now) x.now.heads.units.now) types.now) }
+    ensures { IfOk result (λ r. r ≡ rule.constructed_by (seen x.now) class name.now (constructor_of class.0 (length types.now) x.now.heads.units.now.units) types.now) }
 {
-    match x.heads.units.constructor_of(class, types.len())? {
+    match x.heads.units.names().constructor_of(class, types.len()) {
         Some(number) => {
             let none = no_unit(x.alloc);
             let unit = unit_at(x.heads.units, number, &none);
-            match arguments_wrong(x.heads.metas, unit.params.as_slice(), types) {
+            match arguments_wrong(x.heads.units.metas(), unit.params.as_slice(), types) {
                 None => Ok(made(x, name, class)),
                 Some(kind) => Ok(Ruling::Fails(kind)),
             }

@@ -152,7 +152,7 @@ fn sign(
 ) -> Result<Option<Ty>, ListFault>
     ensures { Does (rule.sign (seen x.now) sign.now operand.now state.old) result state.new }
 {
-    let ruling = prefixed(x.alloc, x.heads.metas, sign.op, operand)?;
+    let ruling = prefixed(x.alloc, x.heads.units.metas(), sign.op, operand)?;
     let read = settled(ruling, sign.place, state)?;
     Ok(read.into_answer())
 }

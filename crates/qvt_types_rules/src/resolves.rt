@@ -26,6 +26,7 @@ use qvt_types_states::steps::{add_source, declare, marks, settled, tell, writes_
 use qvt_types_steps::classes::ClassPart;
 use qvt_types_steps::resolves as ruling_of;
 use qvt_types_steps::resolves::{Joint, class_within};
+use qvt_types_lists::listed::listed;
 use qvt_types_units::signature::HeadClass;
 use qvt_typing::parts::{Effect, Filtered, Given, Within};
 
@@ -61,7 +62,7 @@ pub fn listed_path(
     ensures { Does (rule.listed_path (seen x.now) path.now state.old) result state.new }
 {
     let names = path.names.as_slice();
-    let unit = x.heads.units.listed(x.heads.given, x.heads.types, names)?;
+    let unit = listed(x.heads.given, x.heads.types, x.heads.units.names(), names);
     let read = settled(listed_ruled(x, unit)?, path.place, state)?;
     marks(read, state)?;
     Ok(within_of(unit))
@@ -119,7 +120,7 @@ pub fn filter_settled(
     ensures { Does (rule.filter_settled (seen x.now) class condition.now place state.old) result state.new }
 {
     let kind = class_type(class);
-    let ruling = ruling_of::filter(x.alloc, x.heads.metas, &kind, condition.is_given, &condition.ty)?;
+    let ruling = ruling_of::filter(x.alloc, x.heads.units.metas(), &kind, condition.is_given, &condition.ty)?;
     let part = match &ruling {
         Ruling::Holds(_) => class,
         _ => ClassPart::Untyped,

@@ -138,8 +138,8 @@ pub fn settled_conditional(
     place: Place,
     state: &mut State,
 ) -> Result<Option<Ty>, ListFault>
-    ensures { Does (rule.ruled (seen x.now) number (rulings.conditional x.now.heads.metas.now condition.now yes.now no.now) effects.PlainOne place state.old) result state.new }
+    ensures { Does (rule.ruled (seen x.now) number (rulings.conditional x.now.heads.units.now.metas condition.now yes.now no.now) effects.PlainOne place state.old) result state.new }
 {
-    let ruling = conditional(x.alloc, x.heads.metas, condition, yes, no)?;
+    let ruling = conditional(x.alloc, x.heads.units.metas(), condition, yes, no)?;
     ruled(x, number, ruling, Effect::PlainOne, place, state)
 }

@@ -41,7 +41,7 @@ pub fn declared(
 ) -> Result<(), ListFault>
     ensures { Does (rule_of.declared (seen x.now) name.now kind.now value.now place state.old) result state.new }
 {
-    let wrong = var_wrong(x.heads.metas, kind.is_given, &kind.ty, value.is_given, &value.ty);
+    let wrong = var_wrong(x.heads.units.metas(), kind.is_given, &kind.ty, value.is_given, &value.ty);
     checked(wrong, place, state)?;
     let known = Known {
         sort: VariableSort::Settable,
@@ -57,7 +57,7 @@ fn conforms_told(x: &Context<'_>, ty: &Option<Ty>, value: &Option<Ty>) -> Option
 {
     match (ty, value) {
         (Some(ty), Some(value)) => {
-            if conforms(x.heads.metas, value, ty) {
+            if conforms(x.heads.units.metas(), value, ty) {
                 None
             } else {
                 Some(RefusalKind::WrongType)
@@ -128,15 +128,15 @@ fn is_condition(x: &Context<'_>, condition: &Option<Ty>) -> bool
 {
     match condition {
         None => true,
-        Some(ty) => conforms(x.heads.metas, ty, &Ty::Boolean),
+        Some(ty) => conforms(x.heads.units.metas(), ty, &Ty::Boolean),
     }
 }
 
 fn all_boolean(x: &Context<'_>, types: &[Ty]) -> bool
-    ensures { result ≡ list_all (λ t. conforms_to x.now.heads.metas.now t booleans.Boolean) types.now }
+    ensures { result ≡ list_all (λ t. conforms_to x.now.heads.units.now.metas t booleans.Boolean) types.now }
 {
     for ty in types {
-        if !conforms(x.heads.metas, ty, &Ty::Boolean) {
+        if !conforms(x.heads.units.metas(), ty, &Ty::Boolean) {
             return false;
         }
     }
@@ -189,7 +189,7 @@ fn for_each_told(
     if !(items.is_some() && (has_type(kind) && has_type(condition))) {
         return None;
     }
-    let wrong = iterator_wrong(x.heads.metas, kind.is_given, &kind.ty, items);
+    let wrong = iterator_wrong(x.heads.units.metas(), kind.is_given, &kind.ty, items);
     wrong_unless(wrong.is_none() && is_condition(x, &condition.ty))
 }
 

@@ -190,7 +190,7 @@ pub fn link(
     ensures { Does (phrase.linked (seen x.now) (view.link_view link.now) before.now state.old) result state.new }
 {
     let operand = expr(x, false, &link.operand, state)?;
-    let ruling = operator(x.alloc, x.heads.metas, link.op, before, &operand)?;
+    let ruling = operator(x.alloc, x.heads.units.metas(), link.op, before, &operand)?;
     settled_bare(ruling, link.place, state)
 }
 
@@ -242,7 +242,7 @@ pub fn item(x: &Context<'_>, item: &Item, state: &mut State) -> Result<Option<Ty
         }
         Some(end) => {
             let last = expr(x, false, &end.last, state)?;
-            let ruling = range_ruling(x.heads.metas, &first, &last);
+            let ruling = range_ruling(x.heads.units.metas(), &first, &last);
             let ty = settled_bare(ruling, end.place, state)?;
             writes_nothing(state)?;
             Ok(ty)
@@ -280,7 +280,7 @@ pub fn literal(
 {
     let number = fresh(state)?;
     let types = all_types(x.alloc, all_items(x, items, state)?.as_slice())?;
-    let ruling = literal_ruling(x.alloc, x.heads.metas, kind, &types)?;
+    let ruling = literal_ruling(x.alloc, x.heads.units.metas(), kind, &types)?;
     ruled(x, number, ruling, Effect::PlainOne, place, state)
 }
 

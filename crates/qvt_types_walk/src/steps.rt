@@ -110,7 +110,7 @@ pub fn property_step(
 ) -> Result<Option<Ty>, ListFault>
     ensures { Does (rule.property_step (seen x.now) name.now place source.now state.old) result state.new }
 {
-    let ruling = property(x.alloc, x.heads.metas, name.as_str(), source)?;
+    let ruling = property(x.alloc, x.heads.units.metas(), name.as_str(), source)?;
     let ruling = unless_untyped(&x.heads, ruling);
     stepped(x, ruling, Effect::PlainOne, place, state)
 }
@@ -187,7 +187,7 @@ pub fn call_step(
 {
     let types = all_types(x.alloc, exprs(x, args, state)?.as_slice())?;
     if reads_operation(name.as_str(), source) {
-        let ruling = dot_call(x.alloc, x.heads.metas, name, source, &types)?;
+        let ruling = dot_call(x.alloc, x.heads.units.metas(), name, source, &types)?;
         return stepped(x, ruling, Effect::PlainOne, place, state);
     }
     let called = called_behind(x.alloc, &x.heads, false, false, name.as_str(), source)?;
@@ -281,5 +281,5 @@ pub fn arrow_ruled(
     }
     let inner = body_context(x, iterator_named(name.as_str()));
     let types = all_types(x.alloc, exprs(&inner, args, state)?.as_slice())?;
-    arrow(x.alloc, x.heads.metas, name, heading, source, &types)
+    arrow(x.alloc, x.heads.units.metas(), name, heading, source, &types)
 }

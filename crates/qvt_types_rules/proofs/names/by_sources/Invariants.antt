@@ -5,4 +5,4 @@ use Rattle.qvt_types_names.specs.Names.{by_sources}
 use Rattle.qvt_types_rules.proofs.names.by_sources.Given as goal
 
 abbrev pub invariant-loop-source : goal.invariant-loop-source
-invariant-loop-source l = by_sources l.heads.metas.now l.heads.first l.heads.typed.now l.name l.ruling (drop l.source-index l.sources) ≡ by_sources l.heads.metas.now l.heads.first l.heads.typed.now l.name (Fails UnknownName) l.sources
+invariant-loop-source l = by_sources l.heads.units.now.metas l.heads.first l.heads.typed.now l.name l.ruling (drop l.source-index l.sources) ≡ by_sources l.heads.units.now.metas l.heads.first l.heads.typed.now l.name (Fails UnknownName) l.sources

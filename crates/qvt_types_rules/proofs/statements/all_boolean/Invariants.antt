@@ -5,4 +5,4 @@ use Rattle.qvt_types_words.specs.Types.{conforms}
 use Rattle.qvt_types_rules.proofs.statements.all_boolean.Given as goal
 
 abbrev pub invariant-loop-ty : goal.invariant-loop-ty
-invariant-loop-ty l = list_all (λ t. conforms l.x.heads.metas.now t Boolean) (drop l.ty-index l.types) ≡ list_all (λ t. conforms l.x.heads.metas.now t Boolean) l.types
+invariant-loop-ty l = list_all (λ t. conforms l.x.heads.units.now.metas t Boolean) (drop l.ty-index l.types) ≡ list_all (λ t. conforms l.x.heads.units.now.metas t Boolean) l.types

@@ -1,4 +1,0 @@
-//! Stand-in.
-#![tactic(auto)]
-
-pub mod table;
