@@ -3,13 +3,13 @@
 ghost use Rattle.std.specs.Prelude.{◌≡◌};
 ghost use Rattle.qvt_tree_types.specs.Module.{helper_view};
 ghost use Rattle.qvt_tree_types.specs.View.{optional_type};
-ghost use Rattle.qvt_types_rules.specs.Seen.{heads_seen, returns_seen, seen};
+ghost use Rattle.qvt_types_context.specs.Seen.{heads_seen, returns_seen, seen};
 ghost use Rattle.qvt_typing.specs.Units as units;
 
 use qvt_tree_types::module::Helper;
 use qvt_tree_types::types::TypeTree;
 use qvt_types_data::ty::Ty;
-use qvt_types_rules::context::{Context, Heads, Returns};
+use qvt_types_context::context::{Context, Heads, Returns};
 use qvt_types_rules::resolves::head_part;
 use qvt_types_steps::classes::ClassPart;
 use qvt_types_units::signature::Signature;

@@ -2,7 +2,7 @@
 
 ghost use Rattle.std.specs.Prelude.{◌≡◌, map};
 ghost use Rattle.qvt_tree_types.specs.Module.{field_view, param_view};
-ghost use Rattle.qvt_types_rules.specs.Seen.{seen};
+ghost use Rattle.qvt_types_context.specs.Seen.{seen};
 ghost use Rattle.qvt_types_states.specs.Does.{Does};
 ghost use Rattle.qvt_typing.specs.Units as units;
 
@@ -13,9 +13,9 @@ use qvt_tree_types::types::PathTree;
 use qvt_types_data::note::Reading;
 use qvt_types_data::ruling::Read;
 use qvt_types_data::variable::VariableSort;
-use qvt_types_rules::context::Context;
+use qvt_types_context::context::Context;
 use qvt_types_rules::leaves::{named_class, written_type};
-use qvt_types_rules::names::{class_type, made_read, source};
+use qvt_types_context::names::{class_type, made_read, source};
 use qvt_types_rules::objects::extent_of;
 use qvt_types_rules::resolves::listed_path;
 use qvt_types_states::scope::Known;

@@ -3,7 +3,7 @@
 ghost use Rattle.std.specs.Prelude.{◌≡◌, map};
 ghost use Rattle.qvt_tree_types.specs.Module.{class_view, condition_view, helper_view, mapping_view, unit_view};
 ghost use Rattle.qvt_tree_types.specs.View.{block_view};
-ghost use Rattle.qvt_types_rules.specs.Seen.{heads_seen, seen};
+ghost use Rattle.qvt_types_context.specs.Seen.{heads_seen, seen};
 ghost use Rattle.qvt_types_states.specs.Does.{Does};
 ghost use Rattle.qvt_typing.specs.Units as units;
 
@@ -15,8 +15,8 @@ use qvt_base::list_fault::ListFault;
 use qvt_base::numbers::Place;
 use qvt_tree_types::module::{ClassDecl, Helper, Mapping, Unit};
 use qvt_tree_types::tree::{Expr, Stmt};
-use qvt_types_rules::calls::{no_unit, unit_at};
-use qvt_types_rules::context::{Context, Heads};
+use qvt_types_context::calls::{no_unit, unit_at};
+use qvt_types_context::context::{Context, Heads};
 use qvt_types_rules::leaves::type_if;
 use qvt_types_rules::resolves::head_part;
 use qvt_types_rules::statements::tell_condition;

@@ -2,13 +2,13 @@
 
 ghost use Rattle.std.specs.Prelude.{◌≡◌};
 ghost use Rattle.qvt_types_data.specs.declared.refusal.RefusalKind.TheVariants as refusal;
-ghost use Rattle.qvt_types_rules.specs.Seen.{heads_seen, seen};
+ghost use Rattle.qvt_types_context.specs.Seen.{heads_seen, seen};
 ghost use Rattle.qvt_types_states.specs.Does.{Does};
 ghost use Rattle.qvt_typing.specs.Aims as aims;
 ghost use Rattle.qvt_typing.specs.Statements as rule_of;
 
-use crate::aims::{aim_read, bare_aim, changes_property, member_aim, result_aim};
-use crate::context::{Context, Heads};
+use qvt_types_context::aims::{aim_read, bare_aim, changes_property, member_aim, result_aim};
+use qvt_types_context::context::{Context, Heads};
 use crate::settling::not_pure;
 use qvt_base::list_fault::ListFault;
 use qvt_base::numbers::Place;

@@ -2,14 +2,14 @@
 
 ghost use Rattle.std.specs.Prelude.{◌≡◌, IfOk};
 ghost use Rattle.qvt_tree_types.specs.View.{optional_type};
-ghost use Rattle.qvt_types_rules.specs.Seen.{seen};
+ghost use Rattle.qvt_types_context.specs.Seen.{seen};
 ghost use Rattle.qvt_types_states.specs.Does.{Does};
 ghost use Rattle.qvt_typing.specs.Phrases as phrase;
 ghost use Rattle.qvt_typing.specs.Rules as rule;
 
-use crate::context::Context;
+use qvt_types_context::context::Context;
 use crate::leaves::type_if;
-use crate::names::{source, unnamed};
+use qvt_types_context::names::{source, unnamed};
 use qvt_base::copied::Copied;
 use qvt_base::list_fault::ListFault;
 use qvt_base::numbers::Place;

@@ -2,13 +2,13 @@
 
 ghost use Rattle.std.specs.Prelude.{◌≡◌, IfOk};
 ghost use Rattle.qvt_tree_types.specs.View.{optional_type, type_view};
-ghost use Rattle.qvt_types_rules.specs.Seen.{seen};
+ghost use Rattle.qvt_types_context.specs.Seen.{seen};
 ghost use Rattle.qvt_types_states.specs.Does.{Does};
 ghost use Rattle.qvt_typing.specs.Phrases as phrase;
 ghost use Rattle.qvt_typing.specs.Rules as rule;
 
-use crate::context::Context;
-use crate::names::{class_found, class_ruled, path_ruled, result_ruled, self_ruled, type_ruled};
+use qvt_types_context::context::Context;
+use qvt_types_context::names::{class_found, class_ruled, path_ruled, result_ruled, self_ruled, type_ruled};
 use crate::settling::ruled;
 use qvt_base::copied::Copied;
 use qvt_base::list_fault::ListFault;

@@ -1,16 +1,16 @@
 //! New objects: their variable, their class, their extent, their constructor.
 
 ghost use Rattle.std.specs.Prelude.{◌≡◌, IfOk, length};
-ghost use Rattle.qvt_types_rules.specs.Seen.{seen};
+ghost use Rattle.qvt_types_context.specs.Seen.{seen};
 ghost use Rattle.qvt_types_states.specs.Does.{Does};
 ghost use Rattle.qvt_types_states.specs.Scopes.{found};
 ghost use Rattle.qvt_types_units.specs.Numbers.{constructor_of};
 ghost use Rattle.qvt_typing.specs.Phrases as phrase;
 ghost use Rattle.qvt_typing.specs.Rules as rule;
 
-use crate::calls::{no_unit, unit_at};
-use crate::context::Context;
-use crate::names::{made_read, result_ruled, variable_ruled};
+use qvt_types_context::calls::{no_unit, unit_at};
+use qvt_types_context::context::Context;
+use qvt_types_context::names::{made_read, result_ruled, variable_ruled};
 use crate::settling::tell_effect;
 use qvt_base::list_fault::ListFault;
 use qvt_base::numbers::{ClassNo, ExprNo, Place};

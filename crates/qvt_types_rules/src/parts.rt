@@ -3,13 +3,13 @@
 ghost use Rattle.std.specs.Prelude.{◌≡◌, ◌+◌, ◌<◌, length, map, drop, IfOk};
 ghost use Rattle.std.specs.Option.{option_copied};
 ghost use Rattle.qvt_tree_types.specs.View.{expr_view, step_view, steps_of};
-ghost use Rattle.qvt_types_rules.specs.Seen.{seen};
+ghost use Rattle.qvt_types_context.specs.Seen.{seen};
 ghost use Rattle.qvt_types_states.specs.Does.{Does};
 ghost use Rattle.qvt_typing.specs.Phrases as phrase;
 ghost use Rattle.qvt_typing.specs.Rules as rule;
 
-use crate::context::Context;
-use crate::names::names_model;
+use qvt_types_context::context::Context;
+use qvt_types_context::names::names_model;
 use qvt_base::copied::Copied;
 use qvt_base::list_fault::ListFault;
 use qvt_base::seq::Seq;

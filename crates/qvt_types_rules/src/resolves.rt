@@ -1,14 +1,14 @@
 //! Resolves: their mapping, their filter, their class.
 
 ghost use Rattle.std.specs.Prelude.{◌≡◌, IfOk};
-ghost use Rattle.qvt_types_rules.specs.Seen.{seen};
+ghost use Rattle.qvt_types_context.specs.Seen.{seen};
 ghost use Rattle.qvt_types_states.specs.Does.{Does};
 ghost use Rattle.qvt_typing.specs.Phrases as phrase;
 ghost use Rattle.qvt_typing.specs.Rules as rule;
 
-use crate::calls::{no_unit, numbers_of, unit_at};
-use crate::context::Context;
-use crate::names::{class_type, source, unnamed};
+use qvt_types_context::calls::{no_unit, numbers_of, unit_at};
+use qvt_types_context::context::Context;
+use qvt_types_context::names::{class_type, source, unnamed};
 use crate::settling::tell_effect;
 use qvt_base::list_fault::ListFault;
 use qvt_base::numbers::Place;

@@ -1,14 +1,14 @@
 //! How a ruling settles a node, and what is told of what the node does to a run.
 
 ghost use Rattle.std.specs.Prelude.{◌≡◌};
-ghost use Rattle.qvt_types_rules.specs.Seen.{seen};
+ghost use Rattle.qvt_types_context.specs.Seen.{seen};
 ghost use Rattle.qvt_types_states.specs.Does.{Does};
 ghost use Rattle.qvt_types_words.specs.Rulings as rulings;
 ghost use Rattle.qvt_typing.specs.declared.parts.Effect.TheVariants as effects;
 ghost use Rattle.qvt_typing.specs.Calls as calls;
 ghost use Rattle.qvt_typing.specs.Rules as rule;
 
-use crate::context::Context;
+use qvt_types_context::context::Context;
 use qvt_base::list_fault::ListFault;
 use qvt_base::numbers::{ExprNo, Place};
 use qvt_types_data::note::Reading;

@@ -1,7 +1,7 @@
 //! Statements whose parts are judged.
 
 ghost use Rattle.std.specs.Prelude.{◌≡◌, IfOk};
-ghost use Rattle.qvt_types_rules.specs.Seen.{seen};
+ghost use Rattle.qvt_types_context.specs.Seen.{seen};
 ghost use Rattle.qvt_types_states.specs.Does.{Does};
 ghost use Rattle.qvt_types_states.specs.Judge as checking;
 ghost use Rattle.std.specs.List.{list_all};
@@ -10,7 +10,7 @@ ghost use Rattle.qvt_types_words.specs.Rulings as ruling;
 ghost use Rattle.qvt_types_words.specs.Types.{conforms as conforms_to};
 ghost use Rattle.qvt_typing.specs.Statements as rule_of;
 
-use crate::context::{Context, Returns};
+use qvt_types_context::context::{Context, Returns};
 use qvt_base::list_fault::ListFault;
 use qvt_base::numbers::Place;
 use qvt_base::seq::Seq;

@@ -1,5 +1,5 @@
 use Rattle.std.proofs.Common.{◌≡◌, map, drop}
-use Rattle.qvt_types_rules.specs.Seen.{seen}
+use Rattle.qvt_types_context.specs.Seen.{seen}
 use Rattle.qvt_typing.specs.Units.{all_paths, reused}
 use Rattle.qvt_types_bodies.proofs.parts.all_reused.Given as goal
 

@@ -1,7 +1,7 @@
 //! Calls of units: what is called by a name, and what is ruled of it.
 
 ghost use Rattle.std.specs.Prelude.{◌≡◌, [], IfOk};
-ghost use Rattle.qvt_types_rules.specs.Seen.{heads_seen};
+ghost use Rattle.qvt_types_context.specs.Seen.{heads_seen};
 ghost use Rattle.qvt_types_units.specs.Choice as choice;
 ghost use Rattle.qvt_types_units.specs.Numbers as numbers;
 ghost use Rattle.qvt_typing.specs.Calls as calls;

@@ -1,9 +1,9 @@
 -- What the code knows where a node stands, as the definitions say it.
 use Rattle.qvt_typing.specs.Context as known
-use Rattle.qvt_types_rules.specs.declared.context.Heads.{Heads}
-use Rattle.qvt_types_rules.specs.declared.context.Context.{Context}
-use Rattle.qvt_types_rules.specs.declared.context.Returns.{Returns}
-use Rattle.qvt_types_rules.specs.declared.context.Returns.TheVariants as returns
+use Rattle.qvt_types_context.specs.declared.context.Heads.{Heads}
+use Rattle.qvt_types_context.specs.declared.context.Context.{Context}
+use Rattle.qvt_types_context.specs.declared.context.Returns.{Returns}
+use Rattle.qvt_types_context.specs.declared.context.Returns.TheVariants as returns
 
 abbrev pub heads_seen : Heads → known.Heads
 heads_seen h = record {

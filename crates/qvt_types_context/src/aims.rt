@@ -1,7 +1,7 @@
 //! What an assignment writes.
 
 ghost use Rattle.std.specs.Prelude.{◌≡◌, IfOk};
-ghost use Rattle.qvt_types_rules.specs.Seen.{heads_seen, seen};
+ghost use Rattle.qvt_types_context.specs.Seen.{heads_seen, seen};
 ghost use Rattle.qvt_typing.specs.Aims as aims;
 ghost use Rattle.qvt_typing.specs.Names.{model_named};
 

@@ -1,8 +1,8 @@
 use Rattle.std.proofs.Common.{◌≡◌, take}
-use Rattle.qvt_types_rules.specs.Seen.{heads_seen}
+use Rattle.qvt_types_context.specs.Seen.{heads_seen}
 use Rattle.qvt_types_units.specs.Numbers.{no_unit}
 use Rattle.qvt_typing.specs.Calls.{numbers_of}
-use Rattle.qvt_types_rules.proofs.calls.numbers_of.Given as goal
+use Rattle.qvt_types_context.proofs.calls.numbers_of.Given as goal
 
 abbrev pub invariant-loop-unit : goal.invariant-loop-unit
 invariant-loop-unit l = record {

@@ -1,8 +1,8 @@
 use Rattle.std.proofs.Common.{◌≡◌, drop}
-use Rattle.qvt_types_rules.specs.Seen.{heads_seen}
+use Rattle.qvt_types_context.specs.Seen.{heads_seen}
 use Rattle.qvt_types_units.specs.Choice.{is_unsure}
 use Rattle.qvt_types_units.specs.Numbers.{no_unit}
-use Rattle.qvt_types_rules.proofs.calls.is_unsure.Given as goal
+use Rattle.qvt_types_context.proofs.calls.is_unsure.Given as goal
 
 abbrev pub invariant-loop-unit : goal.invariant-loop-unit
 invariant-loop-unit l = record {

@@ -3,7 +3,7 @@
 ghost use Rattle.std.specs.Prelude.{◌≡◌};
 ghost use Rattle.qvt_typing.specs.Context as known;
 ghost use Rattle.qvt_typing.specs.Phrases as phrase;
-ghost use Rattle.qvt_types_rules.specs.Seen.{heads_seen, seen};
+ghost use Rattle.qvt_types_context.specs.Seen.{heads_seen, seen};
 
 use qvt_metas::metas::Metas;
 use qvt_types_classes::classes::is_typed;

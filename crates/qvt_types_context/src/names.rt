@@ -1,7 +1,7 @@
 //! Names: variables, models, properties of implicit sources, literals, `self` and `result`.
 
 ghost use Rattle.std.specs.Prelude.{◌≡◌, IfOk};
-ghost use Rattle.qvt_types_rules.specs.Seen.{heads_seen};
+ghost use Rattle.qvt_types_context.specs.Seen.{heads_seen};
 ghost use Rattle.qvt_types_data.specs.declared.refusal.RefusalKind.TheVariants as refusal;
 ghost use Rattle.qvt_types_data.specs.declared.ruling.Ruling.TheVariants as rulings;
 ghost use Rattle.qvt_types_data.specs.declared.ty.Ty.{out-Ty};
