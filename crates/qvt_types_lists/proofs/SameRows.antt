@@ -4,6 +4,7 @@ use Rattle.std.specs.Prelude.{◌==◌}
 use Rattle.std.specs.List.{list_any}
 use Rattle.std.specs.Str.{bytes_eq}
 use Rattle.std.proofs.lemmas.Bool.{eqb-true}
+use Rattle.qvt_base.specs.declared.numbers.MappingNo.{MappingNo}
 use Rattle.qvt_metamodel.specs.Metamodels.{Metamodels}
 use Rattle.qvt_metamodel.proofs.Bools.{and_left, and_right}
 use Rattle.qvt_types_data.specs.declared.ty.Ty.{Ty}
@@ -47,7 +48,7 @@ all_are (t ∷ ts) (u ∷ us) l e = λ j.
 types_are : (ts us : List (Option Ty)) → same_types ts us ≡ true → ts ≡ us
 types_are ts us e = all_are ts us (eqb-true (length ts) (length us) (and_left (length ts == length us) (all_same ts us) e)) (and_right (length ts == length us) (all_same ts us) e)
 
-unlike_mappings : (w : UnitSort) (n k : _) → are_unlike w (sort.Mapping n) ≡ are_unlike w (sort.Mapping k)
+unlike_mappings : (w : UnitSort) (n k : MappingNo) → are_unlike w (sort.Mapping n) ≡ are_unlike w (sort.Mapping k)
 unlike_mappings sort.Class n k = refl
 unlike_mappings sort.Main n k = refl
 unlike_mappings sort.Helper n k = refl
@@ -109,19 +110,18 @@ or_false : (a : Bool) → (a || false) ≡ a
 or_false true = refl
 or_false false = refl
 
+each_is : (m : Metamodels) (maps : Bool) (u v : Signature) → is_called maps v.sort ≡ are_alike u.sort v.sort → (is_in_group maps u.name v && clashes m u v) ≡ (overrides m u v && is_misfit m u v)
+unfolding overrides
+each_is m maps u v alike =
+    mixed (is_called maps v.sort) (bytes_eq u.name v.name) (has_context v.context) (is_strictly_below m u.context v.context) (is_misfit m u v) (below_context m u.context v.context)
+    ∙ ap (λ a. (a && (bytes_eq u.name v.name && is_strictly_below m u.context v.context)) && is_misfit m u v) alike
+
 -- a unit that overrides others of its kind
 pub bad_is : (m : Metamodels) (us : List Signature) (maps : Bool) (t : NamedLists) (u : Signature) → Stands maps us t
     → ((v : Signature) → is_called maps v.sort ≡ are_alike u.sort v.sort) → list_any (clashes_at m us u) (numbers_under t u.name) ≡ is_bad_override m us u
-unfolding overrides
 bad_is m us maps t u stands alike =
     stands u.name (clashes m u) (row_is m u)
-    ∙ (λ i. list_any (λ v. each v i) us)
-  where
-    each : (v : Signature) → (is_in_group maps u.name v && clashes m u v) ≡ (overrides m u v && is_misfit m u v)
-    unfolding overrides
-    each v =
-        mixed (is_called maps v.sort) (bytes_eq u.name v.name) (has_context v.context) (is_strictly_below m u.context v.context) (is_misfit m u v) (below_context m u.context v.context)
-        ∙ ap (λ a. (a && (bytes_eq u.name v.name && is_strictly_below m u.context v.context)) && is_misfit m u v) (alike v)
+    ∙ (λ i. list_any (λ v. each_is m maps u v (alike v) i) us)
 
 none : (p : Signature → Bool) (us : List Signature) → ((v : Signature) → p v ≡ false) → false ≡ list_any p us
 none p [] fails = refl
@@ -133,7 +133,7 @@ unfolding overrides
 good_is m us u alone = none (λ v. overrides m u v && is_misfit m u v) us
     (λ v. ap (λ a. (a && (bytes_eq u.name v.name && is_strictly_below m u.context v.context)) && is_misfit m u v) (alone v))
 
-pub mapping_alike : (s : UnitSort) (n : _) → s ≡ sort.Mapping n → (v : Signature) → is_called true v.sort ≡ are_alike s v.sort
+pub mapping_alike : (s : UnitSort) (n : MappingNo) → s ≡ sort.Mapping n → (v : Signature) → is_called true v.sort ≡ are_alike s v.sort
 mapping_alike s n e v = sym (or_false (is_mapping v.sort)) ∙ ap (λ x. are_alike x v.sort) (sym e)
 
 pub helper_alike : (s : UnitSort) → s ≡ sort.Helper → (v : Signature) → is_called false v.sort ≡ are_alike s v.sort

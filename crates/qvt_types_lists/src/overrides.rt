@@ -69,7 +69,9 @@ fn clashes_at(metas: &Metas, units: &[Signature], unit: &Signature, number: u32)
 fn clashes_with(metas: &Metas, units: &[Signature], unit: &Signature, numbers: &[u32]) -> bool
     ensures { result ≡ list_any (rows.clashes_at metas.now units.now unit.now) numbers.now }
 {
-    numbers.iter().any(|number| clashes_at(metas, units, unit, *number))
+    numbers
+        .iter()
+        .any(|number| clashes_at(metas, units, unit, *number))
 }
 
 /// Whether the unit overrides another and does not fit it: BadOverride.
