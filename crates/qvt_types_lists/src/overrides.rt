@@ -12,6 +12,7 @@ use qvt_base::list_fault::ListFault;
 use qvt_metas::metas::Metas;
 use qvt_types_data::refusal::RefusalKind;
 use qvt_types_groups::number_lists::NumberLists;
+use qvt_types_laws::laws::same_means_equal;
 use qvt_types_paths::told::{RefusalList, tell_if};
 use qvt_types_units::overrides::is_misfit;
 use qvt_types_units::signature::{HeadClass, Signature, UnitSort};
@@ -79,6 +80,7 @@ fn is_bad(metas: &Metas, units: &[Signature], distinct: &Distinct, unit: &Signat
     requires { AreDistinct units.now distinct.now }
     ensures { result ≡ overrides.is_bad_override metas.now units.now unit.now }
 {
+    same_means_equal();
     let name = unit.name.as_str();
     match unit.sort {
         UnitSort::Class => false,
