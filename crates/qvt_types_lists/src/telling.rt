@@ -253,7 +253,8 @@ fn tell_unit(
         Unit::Constructor(_) => Ok(()),
         Unit::Mapping(mapping) => {
             let on_cycle = cycles.is_on_cycle(alloc, lists, number)?;
-            tell_mapping_at(alloc, listing, number, on_cycle, mapping, log)
+            tell_mapping_at(alloc, listing, number, on_cycle, mapping, log)?;
+            Ok(())
         }
     }
 }
