@@ -84,7 +84,7 @@ module _ (m : Metamodels) (us : List Signature) (t : Transitive m) where
 
       by : (x : Bool) → descends m d c ≡ x
           → ((not (class_at m d).is_abstract && (not (is_empty (candidates m us ns d)) && not (is_some (chosen m us ns d)))) && x)
-            ≡ ((not (class_at m d).is_abstract && x) && not (is_some (chosen m us ns d)))
+          ≡ ((not (class_at m d).is_abstract && x) && not (is_some (chosen m us ns d)))
       by true e =
           ap (λ b. (not (class_at m d).is_abstract && (not b && not (is_some (chosen m us ns d)))) && true) (still_there ns c d e some)
           ∙ two (not (class_at m d).is_abstract) (not (is_some (chosen m us ns d)))
@@ -104,7 +104,7 @@ module _ (m : Metamodels) (us : List Signature) (t : Transitive m) where
   found_is ns c sure some =
       ap (λ b. chosen_of b (chosen m us ns c)) (ambiguous_is ns c some)
       ∙ sym ((λ i. if sure i then Untyped else if is_empty (candidates m us ns c) then NoUnit else chosen_of (is_ambiguous m us ns c) (chosen m us ns c))
-          ∙ (λ i. if some i then NoUnit else chosen_of (is_ambiguous m us ns c) (chosen m us ns c)))
+      ∙ (λ i. if some i then NoUnit else chosen_of (is_ambiguous m us ns c) (chosen m us ns c)))
 
   some_there : (ns : List ℕ) → (length ns == 0) ≡ false → is_empty ns ≡ false
   some_there [] h = absurd (cc)
@@ -124,7 +124,7 @@ module _ (m : Metamodels) (us : List Signature) (t : Transitive m) where
   pub none_found : (ns among : List ℕ) (c : ℕ) → is_unsure us ns ≡ false → among ≡ candidates m us ns c → (length among == 0) ≡ true → NoUnit ≡ looked_up m us ns c
   none_found ns among c sure are empty =
       sym ((λ i. if sure i then Untyped else if is_empty (candidates m us ns c) then NoUnit else chosen_of (is_ambiguous m us ns c) (chosen m us ns c))
-        ∙ (λ i. if (ap is_empty (sym are) ∙ none_there among empty) i then NoUnit else chosen_of (is_ambiguous m us ns c) (chosen m us ns c)))
+      ∙ (λ i. if (ap is_empty (sym are) ∙ none_there among empty) i then NoUnit else chosen_of (is_ambiguous m us ns c) (chosen m us ns c)))
 
   -- one unit alone
   itself : (d : ℕ) → descends m d d ≡ true
@@ -146,9 +146,9 @@ module _ (m : Metamodels) (us : List Signature) (t : Transitive m) where
     alone_clear c up =
         ap (λ o. not (is_some o) || list_any (lacks_choice m us (n ∷ []) c) (range_with_len 0 (length m.classes))) (alone_chosen c up)
         ∙ none_lack (lacks_choice m us (n ∷ []) c) (range_with_len 0 (length m.classes))
-          (λ x. not_true (lacks_choice m us (n ∷ []) c x)
-            (λ l. clash (ap (λ o. not (is_some o)) (sym (alone_chosen x (t x c d (and_right (not (class_at m x).is_abstract) (descends m x c) (and_left (is_concrete_below m c x) (not (is_some (chosen m us (n ∷ []) x))) l)) up)))
-                ∙ and_right (is_concrete_below m c x) (not (is_some (chosen m us (n ∷ []) x))) l) refl))
+        (λ x. not_true (lacks_choice m us (n ∷ []) c x)
+        (λ l. clash (ap (λ o. not (is_some o)) (sym (alone_chosen x (t x c d (and_right (not (class_at m x).is_abstract) (descends m x c) (and_left (is_concrete_below m c x) (not (is_some (chosen m us (n ∷ []) x))) l)) up)))
+        ∙ and_right (is_concrete_below m c x) (not (is_some (chosen m us (n ∷ []) x))) l) refl))
 
     alone_known : (c : ℕ) → looked_up m us (n ∷ []) c ≡ (if descends m c d then Chosen n else NoUnit)
     alone_known c = by (descends m c d) refl
@@ -222,9 +222,9 @@ row_found m us rows maps name f c x are first at =
     let g : List ℕ = group maps name us in
     let same : group_of us f ≡ g = same_group us maps name f first in
     let here : get_or rows f [] ≡ row m us g =
-        ap (λ rs. get_or rs f []) are
-        ∙ get_or-map-range_with_len (unit_row m us) 0 (length us) f f [] (first_below us maps name f first) (omega arith)
-        ∙ (λ i. if is_first f (first_of (same i)) then row m us (same i) else [])
-        ∙ ap (λ o. if is_first f o then row m us g else []) first
-        ∙ ap (λ b. if b then row m us g else []) (eq-eqb f f refl) in
+    ap (λ rs. get_or rs f []) are
+    ∙ get_or-map-range_with_len (unit_row m us) 0 (length us) f f [] (first_below us maps name f first) (omega arith)
+    ∙ (λ i. if is_first f (first_of (same i)) then row m us (same i) else [])
+    ∙ ap (λ o. if is_first f o then row m us g else []) first
+    ∙ ap (λ b. if b then row m us g else []) (eq-eqb f f refl) in
     in_row m us g c x (ap (λ r. slice_get r c) (sym here) ∙ at)

@@ -1,5 +1,5 @@
 -- The first of the numbers of units that pass.
-use Rattle.std.proofs.Common.{◌≡◌, ◌∙◌, ℕ, ◌+◌, List, [], ◌∷◌, Bool, true, false, Option, Some, None, position, refl, sym}
+use Rattle.std.proofs.Common.{◌≡◌, ◌∙◌, ℕ, ◌+◌, List, [], ◌∷◌, Bool, true, false, Option, Some, None, position, length, get_or, ◌<◌, ◌≤◌, refl, sym, arith}
 use Rattle.std.specs.Prelude.{if◌then◌else◌}
 use Rattle.qvt_meta_names.proofs.Tables.{first_at, first-position}
 use Rattle.qvt_metamodel.proofs.Bools.{not_true, clash}
@@ -32,3 +32,11 @@ none_from p q n (u ∷ us) none implies = by (p u) refl none (λ h. none_from p 
 -- where none passes, none passes a test that is stricter
 pub none_where : (p q : Signature → Bool) (us : List Signature) → numbers_where p 0 us ≡ [] → ((u : Signature) → q u ≡ true → p u ≡ true) → position q us ≡ None
 none_where p q us none implies = sym (first-position q us) ∙ none_from p q 0 us none implies
+
+pub none_is : (ns : List ℕ) → length ns < 1 → ns ≡ []
+none_is [] few = refl
+none_is (n ∷ ns) few = absurd (omega (arith, few))
+
+pub first_is : (ns : List ℕ) → 1 ≤ length ns → first_of ns ≡ Some (get_or ns 0 0)
+first_is [] some = absurd (omega (arith, some))
+first_is (n ∷ ns) some = refl

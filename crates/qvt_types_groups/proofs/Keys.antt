@@ -108,7 +108,7 @@ in_group maps c name u h =
     and_both (is_called maps u.sort) (bytes_eq name u.name && has_context u.context)
     (and_left (is_called maps u.sort) (bytes_eq name u.name && is_context u.context c) h)
     (and_both (bytes_eq name u.name) (has_context u.context) (and_left (bytes_eq name u.name) (is_context u.context c) rest)
-      (context_there u.context c (and_right (bytes_eq name u.name) (is_context u.context c) rest)))
+    (context_there u.context c (and_right (bytes_eq name u.name) (is_context u.context c) rest)))
 
 -- a name that no unit with a context has
 pub named_nowhere : (t : NamedLists) (maps : Bool) (c : ℕ) (name : List ℕ) (us : List Signature) → numbers_under t name ≡ group maps name us

@@ -1,5 +1,5 @@
 -- A unit that is below each of a list is found by going through the list once.
-use Rattle.std.proofs.Common.{◌≡◌, ◌∙◌, ℕ, List, [], ◌∷◌, Bool, true, false, Option, None, ◌⊎◌, inl, inr, refl, sym, ap, subst}
+use Rattle.std.proofs.Common.{◌≡◌, ◌∙◌, ℕ, List, [], ◌∷◌, ◌≤◌, length, get_or, Bool, true, false, Option, None, ◌⊎◌, inl, inr, refl, sym, ap, arith}
 use Rattle.std.specs.Prelude.{if◌then◌else◌, filter, IsTrue}
 use Rattle.std.specs.List.{list_all}
 use Rattle.qvt_metamodel.specs.Metamodels.{Metamodels}
@@ -119,3 +119,16 @@ module _ (m : Metamodels) (us : List Signature) (t : Transitive m) where
           → (if x then single (those_below m us (least_of m us b ns) (b ∷ ns)) else None) ≡ single (lowest m us (b ∷ ns))
       by true e = ap single (λ j. filter (λ n. lowest_by b ns e n j) (b ∷ ns))
       by false e = ap single (sym (none_lowest b ns e))
+
+  unmoved : (t : Bool) (b : ℕ) → (if t then b else b) ≡ b
+  unmoved true b = refl
+  unmoved false b = refl
+
+  -- the same, where the list is gone through from its first one on
+  pub lowest_so : (g : List ℕ) → 1 ≤ length g → (n : ℕ) → n ≡ least_of m us (get_or g 0 0) g → (x : Option ℕ)
+      → x ≡ (if is_lowest m us g n then single (those_below m us n g) else None) → x ≡ single (lowest m us g)
+  lowest_so [] some n least x is = absurd (omega (arith, some))
+  lowest_so (b ∷ ns) some n least x is =
+      is
+      ∙ ap (λ k. if is_lowest m us (b ∷ ns) k then single (those_below m us k (b ∷ ns)) else None) (least ∙ ap (λ k. least_of m us k ns) (unmoved (R b b) b))
+      ∙ single_lowest b ns

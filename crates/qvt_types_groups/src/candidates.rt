@@ -142,9 +142,10 @@ pub fn lowest(
     metas.are_well_formed();
     match group {
         [] => Ok(None),
-        [first, others @ ..] => {
-            let number = least(metas, units, *first, others);
-            lowest_if(alloc, metas, units, number, group)
+        [first, ..] => {
+            let number = least(metas, units, *first, group);
+            let lowest = lowest_if(alloc, metas, units, number, group)?;
+            Ok(lowest)
         }
     }
 }

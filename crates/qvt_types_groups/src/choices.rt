@@ -80,14 +80,18 @@ fn is_unknown(context: HeadClass) -> bool
 fn is_unsure(units: &[Signature], group: &[u32]) -> bool
     ensures { result ≡ choice.is_unsure units.now group.now }
 {
-    group.iter().any(|number| is_unknown(context_at(units, *number)))
+    group
+        .iter()
+        .any(|number| is_unknown(context_at(units, *number)))
 }
 
 /// Whether a class of these is the class or below it.
 fn are_some_below(metas: &Metas, stuck: &[u32], class: ClassNo) -> bool
     ensures { result ≡ list_any (λ d. descends metas.now d class.0) stuck.now }
 {
-    stuck.iter().any(|below| metas.descends(ClassNo(*below), class))
+    stuck
+        .iter()
+        .any(|below| metas.descends(ClassNo(*below), class))
 }
 
 fn lacks_one(metas: &Metas, stuck: &[u32], class: ClassNo, chosen: Option<u32>) -> bool

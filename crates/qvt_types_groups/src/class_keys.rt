@@ -15,7 +15,11 @@ use std::alloc::Global;
 pub fn is_called(maps: bool, sort: UnitSort) -> bool
     ensures { result ≡ is_called maps sort }
 {
-    if maps { is_mapping(sort) } else { is_helper(sort) }
+    if maps {
+        is_mapping(sort)
+    } else {
+        is_helper(sort)
+    }
 }
 
 ghost use Rattle.qvt_types_units.specs.Numbers.{is_called};

@@ -75,7 +75,8 @@ impl ClassTable {
         if self.find(key).is_some() {
             return Ok(());
         }
-        self.add(key, place)
+        self.add(key, place)?;
+        Ok(())
     }
 
     /// The same of a unit that may have no pair.

@@ -3,8 +3,8 @@
 
 pub mod candidates;
 pub mod choices;
-pub mod class_table;
 pub mod class_keys;
+pub mod class_table;
 pub mod number_lists;
 pub mod unit_lists;
 pub mod unit_names;

@@ -113,12 +113,12 @@ impl NumberLists {
     {
         match self.names.place(name) {
             Some(place) => {
-                let all = self.with_more(place, number)?;
-                Ok(all)
+                let more = self.with_more(place, number)?;
+                Ok(more)
             }
             None => {
-                let all = self.with_name(alloc, name, number)?;
-                Ok(all)
+                let named = self.with_name(alloc, name, number)?;
+                Ok(named)
             }
         }
     }

@@ -61,7 +61,14 @@ pub fn lists_of(
     };
     let mut all = NumberLists::new(alloc);
     for number in 0..count {
-        all = with_unit(alloc, maps, with_context, all, number, &units[number as usize])?;
+        all = with_unit(
+            alloc,
+            maps,
+            with_context,
+            all,
+            number,
+            &units[number as usize],
+        )?;
     }
     Ok(all)
 }

@@ -39,11 +39,7 @@ fn unit_row(
 ghost use Rattle.qvt_types_units.specs.Numbers.{unit_at};
 
 /// The rows of all units.
-fn unit_rows(
-    alloc: Global,
-    metas: &Metas,
-    names: &UnitNames,
-) -> Result<Seq<FoundRow>, ListFault>
+fn unit_rows(alloc: Global, metas: &Metas, names: &UnitNames) -> Result<Seq<FoundRow>, ListFault>
     ensures { IfOk result (λ rs. rs ≡ choices_of.unit_rows metas.now names.now (length names.now)) }
 {
     let units = names.signatures();
@@ -130,12 +126,12 @@ impl Units {
         ensures { IfOk result (λ f. f ≡ choice.called_on self.now.metas self.now.units maps name.now class.0) }
     {
         let group = self.names.group(maps, name);
-        let Some(first) = group.first() else {
-            return Ok(Found::NoUnit);
-        };
-        match row_at(self.rows.as_slice(), *first, class) {
-            Some(found) => Ok(found),
-            None => look_up(alloc, &self.metas, self.names.signatures(), group, class),
+        match group {
+            [] => Ok(Found::NoUnit),
+            [first, ..] => match row_at(self.rows.as_slice(), *first, class) {
+                Some(found) => Ok(found),
+                None => look_up(alloc, &self.metas, self.names.signatures(), group, class),
+            },
         }
     }
 }

@@ -26,7 +26,7 @@ before_from p a (suc n) (x ∷ xs) = by (p x) (before_from p (a + 1) n xs)
     by false h = h ∙ ap (λ k. is_before k (first_at p (a + 1) xs)) (let same : a + 1 + n ≡ a + suc n = omega arith in same)
 
 pub any_before : {X : Type 0} (p : X → Bool) (n : ℕ) (xs : List X) → list_any p (take n xs) ≡ is_before n (position p xs)
-any_before p n xs = before_from p 0 n xs ∙ ap (is_before n) (first-position p xs)
+any_before p n xs = before_from p 0 n xs ∙ ap (λ k. is_before k (first_at p 0 xs)) (let same : 0 + n ≡ n = omega arith in same) ∙ ap (is_before n) (first-position p xs)
 
 none_from : {X : Type 0} (p : X → Bool) (n : ℕ) (xs : List X) → ((x : X) → p x ≡ false) → first_at p n xs ≡ None
 none_from p n [] fails = refl

@@ -58,8 +58,8 @@ stood_for maps us u kept name p one same respects =
     by true false e f = sym (or_false (list_any (λ n. p (unit_at us n)) (numbers_under kept name)))
     by true true e f =
         (let found : list_any (λ n. p (unit_at us n)) (numbers_under kept name) ≡ true = any_so (λ n. nat_lt n (length us) && same_row (unit_at us n) u) (λ n. p (unit_at us n)) (numbers_under kept name)
-            (λ n h. respects (unit_at us n) u (and_right (nat_lt n (length us)) (same_row (unit_at us n) u) h) ∙ f)
-            (ap (λ x. list_any (λ n. nat_lt n (length us) && same_row (unit_at us n) u) (numbers_under kept x)) (same_bytes name u.name e) ∙ same) in
+        (λ n h. respects (unit_at us n) u (and_right (nat_lt n (length us)) (same_row (unit_at us n) u) h) ∙ f)
+        (ap (λ x. list_any (λ n. nat_lt n (length us) && same_row (unit_at us n) u) (numbers_under kept x)) (same_bytes name u.name e) ∙ same) in
         found ∙ sym (or_left (list_any (λ n. p (unit_at us n)) (numbers_under kept name)) true found))
 
 one_number : (q : ℕ → Bool) (n : ℕ) (b : Bool) → list_any q (if b then n ∷ [] else []) ≡ (b && q n)
@@ -74,8 +74,8 @@ put_there maps us u number kept all name p one is more =
     ap (list_any (λ n. p (unit_at us n))) more
     ∙ list_any-append (λ n. p (unit_at us n)) (numbers_under kept name) (if bytes_eq name u.name then number ∷ [] else [])
     ∙ ap (λ b. list_any (λ n. p (unit_at us n)) (numbers_under kept name) || b)
-      (one_number (λ n. p (unit_at us n)) number (bytes_eq name u.name)
-      ∙ (λ i. sym (listed (is_called maps u.sort) (bytes_eq name u.name) (has_context u.context) one) i && p (sym is i)))
+    (one_number (λ n. p (unit_at us n)) number (bytes_eq name u.name)
+    ∙ (λ i. sym (listed (is_called maps u.sort) (bytes_eq name u.name) (has_context u.context) one) i && p (sym is i)))
 
 -- one unit more is looked at
 pub any_next : (q : Signature → Bool) (us : List Signature) (n : ℕ) (d : Signature) (has had r : Bool) → n < length us → (had || list_any q (drop n us)) ≡ r

@@ -4,10 +4,11 @@ use Rattle.std.specs.Prelude.{◌==◌}
 use Rattle.std.specs.List.{list_any}
 use Rattle.std.specs.Str.{bytes_eq}
 use Rattle.std.proofs.lemmas.Bool.{eqb-true}
+use Rattle.qvt_base.specs.declared.numbers.MappingNo.{MappingNo}
 use Rattle.qvt_metamodel.specs.Metamodels.{Metamodels}
 use Rattle.qvt_metamodel.proofs.Bools.{and_left, and_right}
+use Rattle.qvt_types_data.specs.Term.{same_type, ty_view}
 use Rattle.qvt_types_data.specs.declared.ty.Ty.{Ty}
-use Rattle.qvt_types_laws.proofs.SameTypes.{one}
 use Rattle.qvt_types_units.specs.declared.signature.HeadClass.{HeadClass}
 use Rattle.qvt_types_units.specs.declared.signature.HeadClass.TheVariants.{Missing, Unknown, Known}
 use Rattle.qvt_types_units.specs.declared.signature.UnitSort.{UnitSort}
@@ -30,24 +31,28 @@ head_is (Known c) Missing e = absurd (cc)
 head_is (Known c) Unknown e = absurd (cc)
 head_is (Known c) (Known d) e = λ j. Known (record { 0 = eqb-true c.0 d.0 e j })
 
-answer_is : (t u : Option Ty) → same_answer t u ≡ true → t ≡ u
-answer_is None None e = refl
-answer_is None (Some u) e = absurd (cc)
-answer_is (Some t) None e = absurd (cc)
-answer_is (Some t) (Some u) e = ap Some (one t u e)
+-- types that are told to be the same are
+abbrev pub Law : Type 0
+Law = (t u : Ty) → same_type (ty_view t) (ty_view u) ≡ true → t ≡ u
 
-all_are : (ts us : List (Option Ty)) → length ts ≡ length us → all_same ts us ≡ true → ts ≡ us
-all_are [] [] l e = refl
-all_are [] (u ∷ us) l e = absurd (omega (arith, l))
-all_are (t ∷ ts) [] l e = absurd (omega (arith, l))
-all_are (t ∷ ts) (u ∷ us) l e = λ j.
-    answer_is t u (and_left (same_answer t u) (all_same ts us) e) j
-    ∷ all_are ts us (let shorter : length ts ≡ length us = omega (arith, l) in shorter) (and_right (same_answer t u) (all_same ts us) e) j
+answer_is : Law → (t u : Option Ty) → same_answer t u ≡ true → t ≡ u
+answer_is law None None e = refl
+answer_is law None (Some u) e = absurd (cc)
+answer_is law (Some t) None e = absurd (cc)
+answer_is law (Some t) (Some u) e = ap Some (law t u e)
 
-types_are : (ts us : List (Option Ty)) → same_types ts us ≡ true → ts ≡ us
-types_are ts us e = all_are ts us (eqb-true (length ts) (length us) (and_left (length ts == length us) (all_same ts us) e)) (and_right (length ts == length us) (all_same ts us) e)
+all_are : Law → (ts us : List (Option Ty)) → length ts ≡ length us → all_same ts us ≡ true → ts ≡ us
+all_are law [] [] l e = refl
+all_are law [] (u ∷ us) l e = absurd (omega (arith, l))
+all_are law (t ∷ ts) [] l e = absurd (omega (arith, l))
+all_are law (t ∷ ts) (u ∷ us) l e = λ j.
+    answer_is law t u (and_left (same_answer t u) (all_same ts us) e) j
+    ∷ all_are law ts us (let shorter : length ts ≡ length us = omega (arith, l) in shorter) (and_right (same_answer t u) (all_same ts us) e) j
 
-unlike_mappings : (w : UnitSort) (n k : _) → are_unlike w (sort.Mapping n) ≡ are_unlike w (sort.Mapping k)
+types_are : Law → (ts us : List (Option Ty)) → same_types ts us ≡ true → ts ≡ us
+types_are law ts us e = all_are law ts us (eqb-true (length ts) (length us) (and_left (length ts == length us) (all_same ts us) e)) (and_right (length ts == length us) (all_same ts us) e)
+
+unlike_mappings : (w : UnitSort) (n k : MappingNo) → are_unlike w (sort.Mapping n) ≡ are_unlike w (sort.Mapping k)
 unlike_mappings sort.Class n k = refl
 unlike_mappings sort.Main n k = refl
 unlike_mappings sort.Helper n k = refl
@@ -78,15 +83,15 @@ unlike_is w (sort.Mapping n) sort.Helper e = absurd (cc)
 unlike_is w (sort.Mapping n) sort.Query e = absurd (cc)
 unlike_is w (sort.Mapping n) sort.Constructor e = absurd (cc)
 
-pub row_is : (m : Metamodels) (w : Signature) → Respects (clashes m w)
+pub row_is : Law → (m : Metamodels) (w : Signature) → Respects (clashes m w)
 unfolding same_row is_misfit
-row_is m w u v e =
+row_is law m w u v e =
     let head : same_head u.context v.context ≡ true = and_left (same_head u.context v.context) _ e in
     let after_head : (same_sort u.sort v.sort && (same_types u.params v.params && same_answer u.answer v.answer)) ≡ true = and_right (same_head u.context v.context) _ e in
     let sorts : same_sort u.sort v.sort ≡ true = and_left (same_sort u.sort v.sort) _ after_head in
     let after_sorts : (same_types u.params v.params && same_answer u.answer v.answer) ≡ true = and_right (same_sort u.sort v.sort) _ after_head in
-    let params : u.params ≡ v.params = types_are u.params v.params (and_left (same_types u.params v.params) (same_answer u.answer v.answer) after_sorts) in
-    let answer : u.answer ≡ v.answer = answer_is u.answer v.answer (and_right (same_types u.params v.params) (same_answer u.answer v.answer) after_sorts) in
+    let params : u.params ≡ v.params = types_are law u.params v.params (and_left (same_types u.params v.params) (same_answer u.answer v.answer) after_sorts) in
+    let answer : u.answer ≡ v.answer = answer_is law u.answer v.answer (and_right (same_types u.params v.params) (same_answer u.answer v.answer) after_sorts) in
     let context : u.context ≡ v.context = head_is u.context v.context head in
     let unlike : are_unlike w.sort u.sort ≡ are_unlike w.sort v.sort = unlike_is w.sort u.sort v.sort sorts in
     λ i. is_strictly_below m w.context (context i) && (params_differ w.params (params i) || (is_wider m w.answer (answer i) || unlike i))
@@ -109,19 +114,18 @@ or_false : (a : Bool) → (a || false) ≡ a
 or_false true = refl
 or_false false = refl
 
--- a unit that overrides others of its kind
-pub bad_is : (m : Metamodels) (us : List Signature) (maps : Bool) (t : NamedLists) (u : Signature) → Stands maps us t
-    → ((v : Signature) → is_called maps v.sort ≡ are_alike u.sort v.sort) → list_any (clashes_at m us u) (numbers_under t u.name) ≡ is_bad_override m us u
+each_is : (m : Metamodels) (maps : Bool) (u v : Signature) → is_called maps v.sort ≡ are_alike u.sort v.sort → (is_in_group maps u.name v && clashes m u v) ≡ (overrides m u v && is_misfit m u v)
 unfolding overrides
-bad_is m us maps t u stands alike =
-    stands u.name (clashes m u) (row_is m u)
-    ∙ (λ i. list_any (λ v. each v i) us)
-  where
-    each : (v : Signature) → (is_in_group maps u.name v && clashes m u v) ≡ (overrides m u v && is_misfit m u v)
-    unfolding overrides
-    each v =
-        mixed (is_called maps v.sort) (bytes_eq u.name v.name) (has_context v.context) (is_strictly_below m u.context v.context) (is_misfit m u v) (below_context m u.context v.context)
-        ∙ ap (λ a. (a && (bytes_eq u.name v.name && is_strictly_below m u.context v.context)) && is_misfit m u v) (alike v)
+each_is m maps u v alike =
+    mixed (is_called maps v.sort) (bytes_eq u.name v.name) (has_context v.context) (is_strictly_below m u.context v.context) (is_misfit m u v) (below_context m u.context v.context)
+    ∙ ap (λ a. (a && (bytes_eq u.name v.name && is_strictly_below m u.context v.context)) && is_misfit m u v) alike
+
+-- a unit that overrides others of its kind
+pub bad_is : Law → (m : Metamodels) (us : List Signature) (maps : Bool) (t : NamedLists) (u : Signature) → Stands maps us t
+    → ((v : Signature) → is_called maps v.sort ≡ are_alike u.sort v.sort) → list_any (clashes_at m us u) (numbers_under t u.name) ≡ is_bad_override m us u
+bad_is law m us maps t u stands alike =
+    stands u.name (clashes m u) (row_is law m u)
+    ∙ (λ i. list_any (λ v. each_is m maps u v (alike v) i) us)
 
 none : (p : Signature → Bool) (us : List Signature) → ((v : Signature) → p v ≡ false) → false ≡ list_any p us
 none p [] fails = refl
@@ -133,7 +137,7 @@ unfolding overrides
 good_is m us u alone = none (λ v. overrides m u v && is_misfit m u v) us
     (λ v. ap (λ a. (a && (bytes_eq u.name v.name && is_strictly_below m u.context v.context)) && is_misfit m u v) (alone v))
 
-pub mapping_alike : (s : UnitSort) (n : _) → s ≡ sort.Mapping n → (v : Signature) → is_called true v.sort ≡ are_alike s v.sort
+pub mapping_alike : (s : UnitSort) (n : MappingNo) → s ≡ sort.Mapping n → (v : Signature) → is_called true v.sort ≡ are_alike s v.sort
 mapping_alike s n e v = sym (or_false (is_mapping v.sort)) ∙ ap (λ x. are_alike x v.sort) (sym e)
 
 pub helper_alike : (s : UnitSort) → s ≡ sort.Helper → (v : Signature) → is_called false v.sort ≡ are_alike s v.sort

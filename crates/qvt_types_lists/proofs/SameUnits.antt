@@ -1,6 +1,7 @@
 -- Units that no call could tell apart, by their sorts and contexts.
 use Rattle.std.proofs.Common.{◌≡◌, ◌∙◌, ℕ, ◌==◌, List, length, Bool, true, false, ◌&&◌, ◌||◌, not, Option, None, position, refl, sym, ap}
 use Rattle.std.specs.Str.{bytes_eq}
+use Rattle.qvt_base.specs.declared.numbers.MappingNo.{MappingNo}
 use Rattle.qvt_metamodel.proofs.Bools.{and_no}
 use Rattle.qvt_types_units.specs.declared.signature.HeadClass.{HeadClass}
 use Rattle.qvt_types_units.specs.declared.signature.HeadClass.TheVariants.{Missing, Unknown, Known}
@@ -58,7 +59,7 @@ module _ (us : List Signature) (u : Signature) where
   pub unknown_same : (maps : Bool) → u.context ≡ Unknown → None ≡ position (is_same_called maps u) us
   unknown_same maps e = nowhere (is_same_called maps u) us
       (λ v. and_no (is_called maps v.sort) (bytes_eq u.name v.name && same_context u.context v.context)
-        (and_no (bytes_eq u.name v.name) (same_context u.context v.context) (ap (λ h. same_context h v.context) e ∙ unknown_context v.context)))
+      (and_no (bytes_eq u.name v.name) (same_context u.context v.context) (ap (λ h. same_context h v.context) e ∙ unknown_context v.context)))
 
   no_constructor : ((v : Signature) → same_class u.context v.context ≡ false) → None ≡ position (is_same_constructor u) us
   no_constructor fails = nowhere (is_same_constructor u) us
@@ -107,7 +108,7 @@ module _ (us : List Signature) (u : Signature) where
   pub constructor_sort : u.sort ≡ sort.Constructor → position (is_same_constructor u) us ≡ position (are_same u) us
   constructor_sort e = sym (as_sort sort.Constructor e)
 
-  pub mapping_sort : (n : _) → u.sort ≡ sort.Mapping n → position (is_same_called true u) us ≡ position (are_same u) us
+  pub mapping_sort : (n : MappingNo) → u.sort ≡ sort.Mapping n → position (is_same_called true u) us ≡ position (are_same u) us
   mapping_sort n e = (λ i. position (λ v. mapped v i) us) ∙ sym (as_sort (sort.Mapping n) e)
     where
       mapped : (v : Signature) → is_same_called true u v ≡ same_as (sort.Mapping n) v

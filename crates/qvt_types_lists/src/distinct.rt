@@ -32,7 +32,9 @@ fn is_same_at(units: &[Signature], unit: &Signature, number: u32) -> bool
 fn has_same(units: &[Signature], numbers: &[u32], unit: &Signature) -> bool
     ensures { result ≡ list_any (λ n. nat_lt n (length units.now) && rows.same_row (unit_at units.now n) unit.now) numbers.now }
 {
-    numbers.iter().any(|number| is_same_at(units, unit, *number))
+    numbers
+        .iter()
+        .any(|number| is_same_at(units, unit, *number))
 }
 
 /// The numbers with that of a unit under its name, where it is one of those that are wanted and no other is there that is not told
@@ -60,11 +62,7 @@ fn with_unit(
 
 /// The mappings with a context, or the helpers and queries, by their names: of those that no override tells apart the first. It is
 /// refused as out of memory where their numbers do not fit 32 bits.
-pub fn distinct(
-    alloc: Global,
-    maps: bool,
-    units: &[Signature],
-) -> Result<NumberLists, ListFault>
+pub fn distinct(alloc: Global, maps: bool, units: &[Signature]) -> Result<NumberLists, ListFault>
     ensures { IfOk result (λ all. (name : List ℕ) (p : Signature → Bool) → rows.Respects p → list_any (λ n. p (unit_at units.now n)) (numbers_under all name) ≡ list_any (λ v. is_in_group maps name v && p v) units.now) }
 {
     let Ok(count) = u32::try_from(units.len()) else {

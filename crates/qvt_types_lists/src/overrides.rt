@@ -12,6 +12,7 @@ use qvt_base::list_fault::ListFault;
 use qvt_metas::metas::Metas;
 use qvt_types_data::refusal::RefusalKind;
 use qvt_types_groups::number_lists::NumberLists;
+use qvt_types_laws::laws::same_means_equal;
 use qvt_types_paths::told::{RefusalList, tell_if};
 use qvt_types_units::overrides::is_misfit;
 use qvt_types_units::signature::{HeadClass, Signature, UnitSort};
@@ -69,7 +70,9 @@ fn clashes_at(metas: &Metas, units: &[Signature], unit: &Signature, number: u32)
 fn clashes_with(metas: &Metas, units: &[Signature], unit: &Signature, numbers: &[u32]) -> bool
     ensures { result ≡ list_any (rows.clashes_at metas.now units.now unit.now) numbers.now }
 {
-    numbers.iter().any(|number| clashes_at(metas, units, unit, *number))
+    numbers
+        .iter()
+        .any(|number| clashes_at(metas, units, unit, *number))
 }
 
 /// Whether the unit overrides another and does not fit it: BadOverride.
@@ -77,6 +80,7 @@ fn is_bad(metas: &Metas, units: &[Signature], distinct: &Distinct, unit: &Signat
     requires { AreDistinct units.now distinct.now }
     ensures { result ≡ overrides.is_bad_override metas.now units.now unit.now }
 {
+    same_means_equal();
     let name = unit.name.as_str();
     match unit.sort {
         UnitSort::Class => false,

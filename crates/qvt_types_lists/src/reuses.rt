@@ -55,9 +55,21 @@ fn reused(
     ensures { IfOk result (λ ns. ns ≡ reuse.reused metas.now names.now units.now (mapping_view mapping.now)) }
 {
     let mut numbers = Seq::new(alloc);
-    add_listed(metas, names, units, mapping.inherits.as_slice(), &mut numbers)?;
+    add_listed(
+        metas,
+        names,
+        units,
+        mapping.inherits.as_slice(),
+        &mut numbers,
+    )?;
     add_listed(metas, names, units, mapping.merges.as_slice(), &mut numbers)?;
-    add_listed(metas, names, units, mapping.disjuncts.as_slice(), &mut numbers)?;
+    add_listed(
+        metas,
+        names,
+        units,
+        mapping.disjuncts.as_slice(),
+        &mut numbers,
+    )?;
     Ok(numbers)
 }
 

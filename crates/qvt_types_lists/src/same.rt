@@ -17,10 +17,11 @@ use qvt_types_units::signature::{HeadClass, Signature, UnitSort};
 fn first_called(units: &UnitNames, maps: bool, unit: &Signature) -> Option<u32>
     ensures { result ≡ position (same_words.is_same_called maps unit.now) units.now }
 {
+    let name = unit.name.as_str();
     match unit.context {
-        HeadClass::Missing => units.free_unit(maps, unit.name.as_str()),
+        HeadClass::Missing => units.free_unit(maps, name),
         HeadClass::Unknown => None,
-        HeadClass::Known(class) => units.named(maps, class, unit.name.as_str()),
+        HeadClass::Known(class) => units.named(maps, class, name),
     }
 }
 

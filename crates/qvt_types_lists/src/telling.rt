@@ -178,11 +178,37 @@ fn tell_mapping(
 ) -> Result<(), ListFault>
     ensures { OnOk result (log.new ≡ log.old ++ lists_of.told_of_lists listing.now.given.now listing.now.metas.now listing.now.names.now listing.now.units.now unit.now on_cycle (mapping_view mapping.now)) }
 {
-    tell_paths(alloc, listing, Reuse::Shared, unit, mapping.inherits.as_slice(), log)?;
-    tell_paths(alloc, listing, Reuse::Shared, unit, mapping.merges.as_slice(), log)?;
-    tell_paths(alloc, listing, Reuse::Disjunct, unit, mapping.disjuncts.as_slice(), log)?;
+    tell_paths(
+        alloc,
+        listing,
+        Reuse::Shared,
+        unit,
+        mapping.inherits.as_slice(),
+        log,
+    )?;
+    tell_paths(
+        alloc,
+        listing,
+        Reuse::Shared,
+        unit,
+        mapping.merges.as_slice(),
+        log,
+    )?;
+    tell_paths(
+        alloc,
+        listing,
+        Reuse::Disjunct,
+        unit,
+        mapping.disjuncts.as_slice(),
+        log,
+    )?;
     tell_if(log, on_cycle, RefusalKind::ReuseCycle, mapping.place)?;
-    tell_if(log, is_bad_disjunct(mapping), RefusalKind::BadDisjunct, mapping.place)
+    tell_if(
+        log,
+        is_bad_disjunct(mapping),
+        RefusalKind::BadDisjunct,
+        mapping.place,
+    )
 }
 
 /// The same of a mapping by its number.
@@ -227,7 +253,8 @@ fn tell_unit(
         Unit::Constructor(_) => Ok(()),
         Unit::Mapping(mapping) => {
             let on_cycle = cycles.is_on_cycle(alloc, lists, number)?;
-            tell_mapping_at(alloc, listing, number, on_cycle, mapping, log)
+            tell_mapping_at(alloc, listing, number, on_cycle, mapping, log)?;
+            Ok(())
         }
     }
 }

@@ -12,7 +12,7 @@ loop-number-preserved c = λ name p r.
     (let low : c.loop-number.number < length c.args.units.now = omega (arith, c.loop-number-test.true) in low)
     (c.loop-number.invariant name p r)
     (c.in_ok-kept.ensures name p r
-      ∙ ap (λ (u : Signature). list_any (λ n. p (unit_at c.args.units.now n)) (numbers_under c.loop-number.kept name) || (is_in_group c.args.maps name u && p u)) c.index-units-number.is)
+    ∙ ap (λ (u : Signature). list_any (λ n. p (unit_at c.args.units.now n)) (numbers_under c.loop-number.kept name) || (is_in_group c.args.maps name u && p u)) c.index-units-number.is)
 
 pub returns : goal.returns
 returns c = λ name p r.

@@ -1,5 +1,5 @@
-use Rattle.std.proofs.Common.{◌∙◌}
-use Rattle.qvt_types_units.specs.Numbers.{constructor_of}
+use Rattle.std.proofs.Common.{◌∙◌, ap, position}
+use Rattle.qvt_types_units.specs.Numbers.{constructor_of, is_constructor_of}
 use Rattle.qvt_types_lists.proofs.SameUnits.{missing_constructor, unknown_constructor, constructor_same}
 use Rattle.qvt_types_lists.proofs.same.first_constructor.Goals as goal
 
@@ -11,4 +11,4 @@ returns-in-Unknown c = unknown_constructor c.args.units.now c.args.unit.now c.in
 
 pub returns-in-Known : goal.returns-in-Known
 unfolding constructor_of
-returns-in-Known c = c.constructor_of.ensures ∙ constructor_same c.args.units.now c.args.unit.now c.in-Known.class.0 c.in-Known.is
+returns-in-Known c = c.constructor_of.ensures ∙ ap (λ n. position (is_constructor_of c.in-Known.class.0 n) c.args.units.now) c.len.ensures ∙ constructor_same c.args.units.now c.args.unit.now c.in-Known.class.0 c.in-Known.is
