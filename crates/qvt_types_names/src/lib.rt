@@ -1,2 +1,4 @@
 //! Single names in expressions.
 #![tactic(auto)]
+
+pub mod sources;

@@ -60,11 +60,12 @@ bare_notes (x ∷ xs) = writes_nothing >>= (λ _. bare_notes xs)
 abbrev pub whole : Heads → ModuleTerm → Judges (Unit {0})
 whole h t = bare_notes t.model_types >>= (λ _. bare_notes t.params >>= (λ _. units h 0 t.units))
 
-abbrev pub start : State
-start = record { scope = record { named = []; sources = [] }; next = 0; log = []; notes = [] }
+-- after what is told of the heads
+abbrev pub start : List Refusal → State
+start told = record { scope = record { named = []; sources = [] }; next = 0; log = told; notes = [] }
 
 unfoldable pub judged : Heads → ModuleTerm → State
-judged h t = (whole h t start).1
+judged h t = (whole h t (start (heads_told h t))).1
 
 -- the order of the refusals
 abbrev pub rank : RefusalKind → ℕ
@@ -94,14 +95,17 @@ rank refusal.NoMain = 22
 abbrev pub comes_before : Refusal → Refusal → Bool
 comes_before r s = nat_lt r.place.offset s.place.offset || ((r.place.offset == s.place.offset) && nat_lt (rank r.kind) (rank s.kind))
 
-abbrev pub sooner : Refusal → Option Refusal → Refusal
-sooner r None = r
-sooner r (Some s) = if comes_before s r then s else r
+abbrev pub sooner : Option Refusal → Refusal → Refusal
+sooner None r = r
+sooner (Some s) r = if comes_before r s then r else s
+
+abbrev pub least_from : Option Refusal → List Refusal → Option Refusal
+least_from first [] = first
+least_from first (r ∷ rs) = least_from (Some (sooner first r)) rs
 
 -- the one before which no other comes
 abbrev pub least : List Refusal → Option Refusal
-least [] = None
-least (r ∷ rs) = Some (sooner r (least rs))
+least rs = least_from None rs
 
 pub record ProgramTerm : Type 0 where
   pub module_ : TypedModuleTerm
@@ -112,7 +116,7 @@ accepted h t None = Ok (record { module_ = t; heads = h })
 accepted h t (Some r) = Err r
 
 abbrev pub accepted_by : Heads → ModuleTerm → State → Result ProgramTerm Refusal
-accepted_by h t s = accepted h (joined t s.notes) (least (heads_told h t ++ s.log))
+accepted_by h t s = accepted h (joined t s.notes) (least s.log)
 
 -- the program, or the refusal that is told
 unfoldable pub accepts : Metamodels → ModuleTerm → Result ProgramTerm Refusal

@@ -20,39 +20,30 @@ use Rattle.qvt_types_steps.specs.declared.classes.ClassPart.{ClassPart}
 use Rattle.qvt_types_steps.specs.declared.classes.ClassPart.TheVariants as part
 use Rattle.qvt_types_words.specs.Rulings.{variable_wrong, property_wrong}
 use Rattle.qvt_types_words.specs.Types.{value_type}
+use Rattle.qvt_typing.specs.declared.parts.Aim.{Aim}
+use Rattle.qvt_typing.specs.declared.parts.Aim.TheVariants.{Nowhere, UntypedProperty, UntypedVariable, Fixed, VariableOf, Property}
 use Rattle.qvt_typing.specs.Context.{Heads, Context}
 use Rattle.qvt_typing.specs.Names.{result_name, model_named}
 
-pub data Aim : Type 0 where
-  -- nothing has the name
-  Nowhere : Aim
-  -- its type is not known
-  Unsure : Aim
-  -- what cannot be assigned
-  Fixed : Aim
-  -- a variable of the type
-  VariableOf : List ℕ → Ty → Aim
-  Property : FeatureNo → Aim
-
 abbrev pub variable_aim : List ℕ → VariableSort → Option Ty → Aim
-variable_aim name k None = Unsure
+variable_aim name k None = UntypedVariable
 variable_aim name sort.Settable (Some t) = VariableOf name t
 variable_aim name sort.Parameter (Some t) = Fixed
 variable_aim name sort.Iterator (Some t) = Fixed
 variable_aim name sort.Implicit (Some t) = Fixed
 
-abbrev pub property_aim : Heads → FeatureNo → Aim
-property_aim h f = if is_typed h.first h.flags f.0 then Property f else Unsure
+abbrev pub property_aim : Heads → Option (List ℕ) → FeatureNo → Aim
+property_aim h source f = if is_typed h.first h.flags f.0 then Property source f else UntypedProperty
 
-abbrev pub feature_aim : Heads → Option FeatureNo → Aim → Aim
-feature_aim h None otherwise = otherwise
-feature_aim h (Some f) otherwise = property_aim h f
+abbrev pub feature_aim : Heads → Option (List ℕ) → Option FeatureNo → Aim → Aim
+feature_aim h source None otherwise = otherwise
+feature_aim h source (Some f) otherwise = property_aim h source f
 
 -- the property of an object of a class
-abbrev pub class_aim : Heads → List ℕ → ClassPart → Aim → Aim
-class_aim h name (part.Class c) otherwise = feature_aim h (feature_named h.metas c.0 name) otherwise
-class_aim h name part.Untyped otherwise = Unsure
-class_aim h name part.Missing otherwise = otherwise
+abbrev pub class_aim : Heads → Option (List ℕ) → List ℕ → ClassPart → Aim → Aim
+class_aim h source name (part.Class c) otherwise = feature_aim h source (feature_named h.metas c.0 name) otherwise
+class_aim h source name part.Untyped otherwise = UntypedProperty
+class_aim h source name part.Missing otherwise = otherwise
 
 abbrev pub model_aim : Option ℕ → Aim
 model_aim None = Nowhere
@@ -62,20 +53,24 @@ abbrev pub known_aim : List ℕ → Option Known → Aim → Aim
 known_aim name None otherwise = otherwise
 known_aim name (Some k) otherwise = variable_aim name k.sort k.ty
 
--- a bare name: a variable, else a property of the innermost object, else one of the object of `result`
+-- a bare name: a variable, else a property of the innermost object expression's object, else one of the object of `result`, which
+-- is written out as the implicit source
 unfoldable pub bare_aim : Context → ScopeTerm → List ℕ → Aim
 bare_aim x s name =
-    known_aim name (found name s) (class_aim x.heads name x.object (class_aim x.heads name x.owner (model_aim (model_named x.heads name))))
+    known_aim name (found name s)
+    (class_aim x.heads None name x.object
+    (class_aim x.heads (Some result_name) name x.owner
+    (model_aim (model_named x.heads name))))
 
 abbrev pub result_aim : Bool → ClassPart → Aim
 result_aim sets (part.Class c) = if sets then VariableOf result_name (ty.Class c) else Fixed
-result_aim sets part.Untyped = Unsure
+result_aim sets part.Untyped = UntypedVariable
 result_aim sets part.Missing = Nowhere
 
 -- a property of an object that an expression gives
 abbrev pub member_aim : Heads → List ℕ → Option Ty → Aim
-member_aim h name None = Unsure
-member_aim h name (Some t) = feature_aim h (feature_in h.metas t name) Nowhere
+member_aim h name None = UntypedProperty
+member_aim h name (Some t) = feature_aim h None (feature_in h.metas t name) Nowhere
 
 -- nothing has the name: this is told of it
 abbrev pub nowhere_told : RefusalKind → Aim → Option RefusalKind
@@ -84,15 +79,16 @@ nowhere_told kind _ = None
 
 abbrev pub aim_read : Aim → Read
 aim_read (VariableOf name t) = plain (reading.Variable name) None
-aim_read (Property f) = plain (reading.Feature f) None
+aim_read (Property source f) = record { reading = reading.Feature f; source = source; wrap = false; collect = false; answer = None }
 aim_read _ = unread
 
 abbrev pub aimed_wrong : Heads → Bool → Aim → Ty → Option RefusalKind
 aimed_wrong h adds Nowhere t = None
-aimed_wrong h adds Unsure t = None
+aimed_wrong h adds UntypedProperty t = None
+aimed_wrong h adds UntypedVariable t = None
 aimed_wrong h adds Fixed t = Some refusal.BadTarget
 aimed_wrong h adds (VariableOf name u) t = variable_wrong h.metas adds u t
-aimed_wrong h adds (Property f) t = property_wrong h.metas adds (is_single h.metas f.0) (value_type (shape_of h.metas f.0).kind) t
+aimed_wrong h adds (Property source f) t = property_wrong h.metas adds (is_single h.metas f.0) (value_type (shape_of h.metas f.0).kind) t
 
 -- what is told of an assignment of a value
 abbrev pub assign_wrong : Heads → Bool → Aim → Option Ty → Option RefusalKind
@@ -101,13 +97,14 @@ assign_wrong h adds a (Some t) = aimed_wrong h adds a t
 
 -- a late resolve may be assigned to a property
 abbrev pub takes_late : Aim → Bool
-takes_late (Property f) = true
-takes_late Unsure = true
+takes_late (Property source f) = true
+takes_late UntypedProperty = true
 takes_late Nowhere = true
+takes_late UntypedVariable = false
 takes_late Fixed = false
 takes_late (VariableOf name t) = false
 
 -- a property is changed
 abbrev pub changes_property : Aim → Bool
-changes_property (Property f) = true
+changes_property (Property source f) = true
 changes_property _ = false

@@ -1,5 +1,5 @@
 -- Calls of units: which units a call chooses among, and what is ruled of it (QVT 1.3, 8.2.1.10, 8.2.1.13, 8.2.1.15 and 8.2.2).
-use Rattle.std.specs.Prelude.{ℕ, Bool, true, false, if◌then◌else◌, List, [], ◌∷◌, Option, Some, None}
+use Rattle.std.specs.Prelude.{ℕ, Bool, true, false, if◌then◌else◌, List, [], ◌∷◌, Option, Some, None, Result, Ok, Err}
 use Rattle.std.specs.List.{flat_map}
 use Rattle.qvt_base.specs.declared.numbers.MappingNo.{MappingNo}
 use Rattle.qvt_types_data.specs.declared.note.Reading.{Reading}
@@ -13,23 +13,24 @@ use Rattle.qvt_types_data.specs.declared.variable.Variable.{Variable}
 use Rattle.qvt_types_steps.specs.UnitCalls.{class_in, static_class, arguments_wrong, unit_step, mapping_step}
 use Rattle.qvt_types_steps.specs.declared.classes.ClassPart.{ClassPart}
 use Rattle.qvt_types_steps.specs.declared.classes.ClassPart.TheVariants as part
-use Rattle.qvt_types_units.specs.Choice.{called_on}
+use Rattle.qvt_types_units.specs.Choice.{called_on, is_unsure}
 use Rattle.qvt_types_units.specs.declared.choice.Found.{Found}
 use Rattle.qvt_types_units.specs.declared.choice.Found.TheVariants.{NoUnit, Untyped, Unclear, Chosen}
 use Rattle.qvt_types_units.specs.Numbers.{unit_at, group, free_unit}
 use Rattle.qvt_types_units.specs.declared.signature.UnitSort.{UnitSort}
 use Rattle.qvt_types_units.specs.declared.signature.UnitSort.TheVariants as sort
 use Rattle.qvt_types_units.specs.declared.signature.Signature.{Signature}
+use Rattle.qvt_typing.specs.declared.parts.Called.{Called}
+use Rattle.qvt_typing.specs.declared.parts.Effect.{Effect}
+use Rattle.qvt_typing.specs.declared.parts.Effect.TheVariants.{PlainOne, PureOne, ImpureOne}
 use Rattle.qvt_typing.specs.Context.{Heads, Context}
-
--- what a call by a name finds, the units that it then chooses among, and its implicit source
-pub record Called : Type 0 where
-  pub found : Found
-  pub units : List ℕ
-  pub source : Option (List ℕ)
 
 abbrev pub nothing_called : Called
 nothing_called = record { found = NoUnit; units = []; source = None }
+
+-- where the context of one unit of the name is unknown, no call by the name has a type
+abbrev pub unless_unsure : Heads → List ℕ → Called → Called
+unless_unsure h units called = if is_unsure h.units units then record { found = Untyped; units = units; source = None } else called
 
 abbrev pub on_class : Heads → Bool → List ℕ → ClassPart → Found
 on_class h maps name (part.Class c) = called_on h.metas h.units maps name c.0
@@ -38,7 +39,8 @@ on_class h maps name part.Missing = NoUnit
 
 -- behind a step
 abbrev pub called_behind : Heads → Bool → Bool → List ℕ → Option Ty → Called
-called_behind h maps arrow name o = record { found = on_class h maps name (static_class arrow o); units = group maps name h.units; source = None }
+called_behind h maps arrow name o =
+    unless_unsure h (group maps name h.units) (record { found = on_class h maps name (static_class arrow o); units = group maps name h.units; source = None })
 
 abbrev pub unless_none : Found → Called → Called → Called
 unless_none NoUnit called otherwise = otherwise
@@ -65,7 +67,8 @@ free_or (Some n) otherwise = record { found = Chosen n; units = n ∷ []; source
 
 -- without a step: a unit without a context, else one with a context on an implicit source
 unfoldable pub called_alone : Heads → Bool → List ℕ → List Variable → Called
-called_alone h maps name sources = free_or (free_unit maps name h.units) (called_implicitly h maps name nothing_called sources)
+called_alone h maps name sources =
+    unless_unsure h (group maps name h.units) (free_or (free_unit maps name h.units) (called_implicitly h maps name nothing_called sources))
 
 abbrev pub mapping_number : UnitSort → List MappingNo
 mapping_number (sort.Mapping n) = n ∷ []
@@ -82,12 +85,21 @@ abbrev pub unless_wrong : Option RefusalKind → Ruling → Ruling
 unless_wrong None r = r
 unless_wrong (Some kind) r = Fails kind
 
-abbrev pub by_found : Heads → Found → Option (List Ty) → (Signature → Ruling) → Ruling
-by_found h found None f = Silent
-by_found h NoUnit (Some us) f = Fails refusal.UnknownName
-by_found h Untyped (Some us) f = Silent
-by_found h Unclear (Some us) f = Fails refusal.Ambiguous
-by_found h (Chosen n) (Some us) f = unless_wrong (arguments_wrong h.metas (unit_at h.units n).params us) (f (unit_at h.units n))
+-- the unit that is called with arguments of these types, or what is ruled where none is
+abbrev pub fitting : Option RefusalKind → ℕ → Result ℕ Ruling
+fitting None n = Ok n
+fitting (Some kind) n = Err (Fails kind)
+
+abbrev pub unit_called : Heads → Found → Option (List Ty) → Result ℕ Ruling
+unit_called h found None = Err Silent
+unit_called h NoUnit (Some us) = Err (Fails refusal.UnknownName)
+unit_called h Untyped (Some us) = Err Silent
+unit_called h Unclear (Some us) = Err (Fails refusal.Ambiguous)
+unit_called h (Chosen n) (Some us) = fitting (arguments_wrong h.metas (unit_at h.units n).params us) n
+
+abbrev pub or_ruled : Result ℕ Ruling → (ℕ → Ruling) → Ruling
+or_ruled (Ok n) f = f n
+or_ruled (Err r) f = r
 
 abbrev pub alone : Reading → Option (List ℕ) → Option Ty → Ruling
 alone r source None = Silent
@@ -95,23 +107,19 @@ alone r source (Some a) = Holds (record { reading = r; source = source; wrap = f
 
 -- a call without a step
 abbrev pub call_ruled : Heads → Bool → Called → Option (List Ty) → Ruling
-call_ruled h maps c us = by_found h c.found us (λ u. alone (reading_of h maps c.units) c.source u.answer)
+call_ruled h maps c us = or_ruled (unit_called h c.found us) (λ n. alone (reading_of h maps c.units) c.source (unit_at h.units n).answer)
 
 -- a call of a helper or a query behind a dot
 abbrev pub unit_ruled : Heads → Option Ty → Called → Option (List Ty) → Ruling
 unit_ruled h None c us = Silent
-unit_ruled h (Some t) c us = by_found h c.found us (λ u. unit_step (Some t) (reading_of h false c.units) u.answer)
+unit_ruled h (Some t) c us = or_ruled (unit_called h c.found us) (λ n. unit_step (Some t) (reading_of h false c.units) (unit_at h.units n).answer)
 
 -- a call of a mapping behind a dot or an arrow
 abbrev pub map_ruled : Heads → Bool → Option Ty → Called → Option (List Ty) → Ruling
 map_ruled h arrow None c us = Silent
-map_ruled h arrow (Some t) c us = by_found h c.found us (λ u. mapping_step arrow (Some t) (reading_of h true c.units) u.answer)
+map_ruled h arrow (Some t) c us = or_ruled (unit_called h c.found us) (λ n. mapping_step arrow (Some t) (reading_of h true c.units) (unit_at h.units n).answer)
 
 -- What a node does to a run. A part is pure that makes and changes nothing; it is plain that besides looks at no unit and no trace.
-pub data Effect : Type 0 where
-  PlainOne : Effect
-  PureOne : Effect
-  ImpureOne : Effect
 
 abbrev pub effect_of_sort : UnitSort → Effect
 effect_of_sort sort.Query = PureOne

@@ -35,7 +35,7 @@ pub data Returns : Type 0 where
 
 pub record Context : Type 0 where
   pub heads : Heads
-  -- in a query, a `when`, or the body of an iterator: nothing is made or changed
+  -- in a query, a `when`, or the body of an iterator other than collect and collectNested: nothing is made or changed
   pub pure : Bool
   -- in the condition of a resolve
   pub plain : Bool
@@ -45,7 +45,7 @@ pub record Context : Type 0 where
   pub result : ClassPart
   -- in an init section, where `result` may be assigned
   pub sets_result : Bool
-  -- the class of the innermost object expression, and that of the object whose properties bare names mean else
+  -- the class of the innermost object expression, and that of `result` where bare names at the left mean its properties else
   pub object : ClassPart
   pub owner : ClassPart
 

@@ -8,6 +8,7 @@ use Rattle.qvt_types_data.specs.Notes.{plain}
 use Rattle.qvt_types_data.specs.declared.note.Reading.TheVariants as reading
 use Rattle.qvt_types_data.specs.declared.refusal.RefusalKind.{RefusalKind}
 use Rattle.qvt_types_data.specs.declared.refusal.RefusalKind.TheVariants as refusal
+use Rattle.qvt_types_data.specs.declared.ruling.Read.{Read}
 use Rattle.qvt_types_data.specs.declared.ruling.Ruling.{Ruling}
 use Rattle.qvt_types_data.specs.declared.ruling.Ruling.TheVariants.{Holds, Fails, Silent}
 use Rattle.qvt_types_data.specs.declared.ty.Ty.{Ty}
@@ -58,21 +59,31 @@ abbrev pub class_found : Result ClassNo RefusalKind → ClassPart
 class_found (Ok c) = part.Class c
 class_found (Err kind) = part.Untyped
 
+-- a class of which an object is made, in an extent if there is one
+abbrev pub made_read : ClassNo → Option ℕ → Read
+made_read c None = plain reading.Nothing (Some (ty.Class c))
+made_read c (Some e) = plain (reading.Make c e) (Some (ty.Class c))
+
 abbrev pub literal_ruled : Result LiteralRef RefusalKind → Ruling
 literal_ruled (Ok l) = Holds (plain (reading.Literal l.metamodel l.enumeration l.literal) (Some (ty.Enum l.metamodel l.enumeration)))
 literal_ruled (Err kind) = Fails kind
 
--- `self` and `result`.
+-- Variables.
+
+abbrev pub variable_ruled : List ℕ → Option Ty → Ruling
+variable_ruled name o = Holds (plain (reading.Variable name) o)
+
+-- the variable that holds an object of a class
+abbrev pub held_ruled : List ℕ → RefusalKind → ClassPart → Ruling
+held_ruled name missing (part.Class c) = variable_ruled name (Some (ty.Class c))
+held_ruled name missing part.Untyped = Silent
+held_ruled name missing part.Missing = Fails missing
 
 abbrev pub self_ruled : ClassPart → Ruling
-self_ruled (part.Class c) = Holds (plain (reading.Variable self_name) (Some (ty.Class c)))
-self_ruled part.Untyped = Silent
-self_ruled part.Missing = Fails refusal.UnknownName
+self_ruled c = held_ruled self_name refusal.UnknownName c
 
 abbrev pub result_ruled : ClassPart → Ruling
-result_ruled (part.Class c) = Holds (plain (reading.Variable result_name) (Some (ty.Class c)))
-result_ruled part.Untyped = Silent
-result_ruled part.Missing = Fails refusal.ResultPlace
+result_ruled c = held_ruled result_name refusal.ResultPlace c
 
 -- A name alone.
 
@@ -81,7 +92,7 @@ model_named h name = position (bytes_eq name) h.models.names
 
 abbrev pub known_or : List ℕ → Option Known → Ruling → Ruling
 known_or name None otherwise = otherwise
-known_or name (Some k) otherwise = Holds (plain (reading.Variable name) k.ty)
+known_or name (Some k) otherwise = variable_ruled name k.ty
 
 -- a model stands as the source of a model's operation alone, and has no type
 unfoldable pub name_ruled : Heads → Bool → ScopeTerm → List ℕ → Ruling

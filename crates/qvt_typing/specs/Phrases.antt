@@ -5,7 +5,7 @@ use Rattle.qvt_base.specs.declared.numbers.Place.{Place}
 use Rattle.qvt_tree_types.specs.declared.types.PathTree.{PathTree}
 use Rattle.qvt_tree_types.specs.declared.types.ObjectVar.{ObjectVar}
 use Rattle.qvt_tree_types.specs.declared.types.ObjectVar.TheVariants as variable
-use Rattle.qvt_tree_types.specs.Tree.{TypeTerm, CollType, PathType, ExprTerm, IntExpr, StrExpr, BoolExpr, NullExpr, SelfExpr, ResultExpr, PathExpr, CallExpr, CollExpr, IfExpr, ObjectExpr, NewExpr, MapExpr, ResolveExpr, ChainExpr, PrefixExpr, PostExpr, ExprTerms, NoExprs, MoreExprs, OptionalExpr, NoExpr, SomeExpr, NoArgs, SomeArgs, LinkTerm, LinkOf, LinkTerms, NoLinks, MoreLinks, ItemTerm, ItemOf, NoRange, RangeTo, ItemTerms, NoItems, MoreItems, MapOf, ResolveOf, FilterTerm, NoFilter, FilterOf, HeadTerm, NoHead, HeadOf, NoAccumulator, AccumulatorOf, StepTerm, DotStep, ArrowStep, DotMapStep, ArrowMapStep, DotResolveStep, ArrowResolveStep, StepTerms, NoSteps, MoreSteps, TargetTerm, BareTarget, ResultTarget, MemberTarget, StmtTerm, VarStmt, AssignStmt, ReturnStmt, ValueStmt, IfStmt, WhileStmt, ForEachStmt, StmtTerms, NoStmts, MoreStmts, ElseTerm, NoElse, ElseOf, ArmTerm, ArmOf, ArmTerms, NoArms, MoreArms}
+use Rattle.qvt_tree_types.specs.Tree.{TypeTerm, CollType, PathType, ExprTerm, IntExpr, StrExpr, BoolExpr, NullExpr, SelfExpr, ResultExpr, PathExpr, CallExpr, CollExpr, IfExpr, ObjectExpr, NewExpr, MapExpr, ResolveExpr, ChainExpr, PrefixExpr, PostExpr, ExprTerms, NoExprs, MoreExprs, OptionalExpr, NoExpr, SomeExpr, NoArgs, SomeArgs, LinkTerm, LinkOf, LinkTerms, NoLinks, MoreLinks, ItemTerm, ItemOf, NoRange, RangeTo, ItemTerms, NoItems, MoreItems, MapTerm, MapOf, ResolveTerm, ResolveOf, FilterTerm, NoFilter, FilterOf, HeadTerm, NoHead, HeadOf, NoAccumulator, AccumulatorOf, StepTerm, DotStep, ArrowStep, DotMapStep, ArrowMapStep, DotResolveStep, ArrowResolveStep, StepTerms, NoSteps, MoreSteps, TargetTerm, BareTarget, ResultTarget, MemberTarget, StmtTerm, VarStmt, AssignStmt, ReturnStmt, ValueStmt, IfStmt, WhileStmt, ForEachStmt, StmtTerms, NoStmts, MoreStmts, ElseTerm, NoElse, ElseOf, ArmTerm, ArmOf, ArmTerms, NoArms, MoreArms}
 use Rattle.qvt_types_data.specs.declared.ty.Ty.{Ty}
 use Rattle.qvt_types_data.specs.declared.ty.Ty.TheVariants as ty
 use Rattle.qvt_types_states.specs.Judge.{Judges, ◌>>=◌, scope}
@@ -14,9 +14,14 @@ use Rattle.qvt_types_steps.specs.IteratorTable.{iterator_named, row_of}
 use Rattle.qvt_types_steps.specs.declared.classes.ClassPart.{ClassPart}
 use Rattle.qvt_types_steps.specs.declared.heads.Heading.{Heading}
 use Rattle.qvt_types_steps.specs.declared.iterators.IteratorKind.{IteratorKind}
+use Rattle.qvt_types_steps.specs.declared.resolves.Joint.{Joint}
 use Rattle.qvt_types_steps.specs.declared.resolves.Joint.TheVariants as joint
 use Rattle.qvt_types_states.specs.Scopes.{ScopeTerm}
-use Rattle.qvt_typing.specs.Aims.{Aim}
+use Rattle.qvt_typing.specs.declared.parts.Aim.{Aim}
+use Rattle.qvt_typing.specs.declared.parts.Given.{Given}
+use Rattle.qvt_typing.specs.declared.parts.ObjectVariable.{ObjectVariable}
+use Rattle.qvt_typing.specs.declared.parts.Within.{Within}
+use Rattle.qvt_typing.specs.declared.parts.Filtered.{Filtered}
 use Rattle.qvt_typing.specs.Context.{Context}
 use Rattle.qvt_typing.specs.Names.{names_model}
 use Rattle.qvt_typing.specs.Rules as rule
@@ -38,65 +43,74 @@ plain_in x = record x { plain = true }
 abbrev pub object_in : Context → ClassPart → Context
 object_in x c = record x { object = c }
 
-abbrev pub object_variable : Context → Option ObjectVar → Judges rule.ObjectVariable
-object_variable x None = rule.no_variable x
+abbrev pub object_variable : Context → Option ObjectVar → Judges ObjectVariable
+object_variable x None = rule.no_variable
 object_variable x (Some (variable.Named name at)) = rule.named_variable x name at
 object_variable x (Some (variable.ResultVar at)) = rule.result_variable x at
 
-abbrev pub within : Context → Option PathTree → Judges rule.Within
-within x None = rule.everywhere x
+abbrev pub within : Context → Option PathTree → Judges Within
+within x None = rule.everywhere
 within x (Some p) = rule.listed_path x p
 
 unfoldable pub type_term : Context → TypeTerm → Judges (Option Ty)
 type_term x (PathType p) = rule.named_type x p
-type_term x (CollType k t at) = rule.collection_type x k (type_term x t)
+type_term x (CollType k t at) = rule.collection_type k (type_term x t)
 
-abbrev pub optional_type : Context → Option TypeTerm → Judges rule.Given
-optional_type x None = rule.not_given x
-optional_type x (Some t) = rule.is_written x (type_term x t)
+abbrev pub optional_type : Context → Option TypeTerm → Judges Given
+optional_type x None = rule.not_given
+optional_type x (Some t) = rule.is_written (type_term x t)
 
 -- a class as a type
 abbrev pub class_term : Context → TypeTerm → Judges ClassPart
 class_term x (PathType p) = rule.named_class x p
-class_term x (CollType k t at) = rule.no_class x (rule.collection_type x k (type_term x t)) at
-
-abbrev pub no_path : PathTree
-no_path = record { names = []; place = record { line = 1; column = 1; offset = 0 } }
-
-abbrev pub path_in : ExprTerm → PathTree
-path_in (PathExpr p) = p
-path_in e = no_path
+class_term x (CollType k t at) = rule.no_class (rule.collection_type k (type_term x t)) at
 
 abbrev pub class_path : ExprTerm → Option PathTree
 class_path (PathExpr p) = Some p
 class_path e = None
 
 -- a model may be the source of its operations alone: the first step is one of these
-abbrev pub is_model_call : Context → ScopeTerm → ExprTerm → StepTerms → Bool
-is_model_call x s (PathExpr p) (MoreSteps (DotStep name (SomeArgs es) at) ss) = names_model x.heads s p.names && is_some (model_call_named name)
-is_model_call x s e ss = false
+abbrev pub model_path : Context → ScopeTerm → ExprTerm → StepTerms → Option PathTree
+model_path x s (PathExpr p) (MoreSteps (DotStep name (SomeArgs es) at) ss) = if names_model x.heads s p.names && is_some (model_call_named name) then Some p else None
+model_path x s e ss = None
+
+abbrev pub are_none : StepTerms → Bool
+are_none NoSteps = true
+are_none (MoreSteps s ss) = false
 
 -- Expressions. A late resolve may stand where `late` tells it.
 unfoldable mutual
   pub expr : Context → Bool → ExprTerm → Judges (Option Ty)
-  expr x late (IntExpr v at) = rule.constant x ty.Integer
-  expr x late (StrExpr v at) = rule.constant x ty.Str
-  expr x late (BoolExpr v at) = rule.constant x ty.Boolean
-  expr x late (NullExpr at) = rule.constant x ty.Void
-  expr x late (SelfExpr at) = rule.self x at
-  expr x late (ResultExpr at) = rule.result x at
+  expr x late (IntExpr v at) = rule.constant ty.Integer
+  expr x late (StrExpr v at) = rule.constant ty.Str
+  expr x late (BoolExpr v at) = rule.constant ty.Boolean
+  expr x late (NullExpr at) = rule.constant ty.Void
+  expr x late (SelfExpr at) = rule.self_ref x at
+  expr x late (ResultExpr at) = rule.result_ref x at
   expr x late (PathExpr p) = rule.path x false p
   expr x late (CallExpr name es at) = rule.call x name (exprs x es) at
   expr x late (CollExpr k items at) = rule.literal x k (all_items x items) at
   expr x late (IfExpr c y z at) = rule.conditional x (expr x false c) (expr x false y) (expr x false z) at
   expr x late (ObjectExpr v path extent ss at) = rule.object x (object_variable x v) path extent (λ c. rule_of.block (object_in x c) (stmts (object_in x c) ss)) at
   expr x late (NewExpr path extent es at) = rule.new x path extent (exprs x es) at
-  expr x late (MapExpr (MapOf strict name es at)) = rule.map x name (exprs x es) at
-  expr x late (ResolveExpr (ResolveOf l w i f at)) = rule.resolve x late l w (within x i) (filtered x f) at
+  expr x late (MapExpr m) = mapped x m
+  expr x late (ResolveExpr r) = resolved x late r
   expr x late (ChainExpr level e ls at) = rule.chain x (expr x false e) (links x ls)
   expr x late (PrefixExpr ss e at) = rule.prefix x ss (expr x false e)
   expr x late (PostExpr e ss at) = scope
-      >>= (λ s. rule.post x (rule.source_path x (is_model_call x s e ss) (path_in e) (expr x false e)) (steps x late (is_model_call x s e ss) ss))
+      >>= (λ s. rule.post x (rule.source_path x (model_path x s e ss) (expr x false e)) (steps x late (is_some (model_path x s e ss)) ss))
+
+  pub mapped : Context → MapTerm → Judges (Option Ty)
+  mapped x (MapOf strict name es at) = rule.map x name (exprs x es) at
+
+  pub mapped_behind : Context → Bool → MapTerm → Option Ty → Judges (Option Ty)
+  mapped_behind x arrow (MapOf strict name es at) = rule.map_step x arrow name (exprs x es) at
+
+  pub resolved : Context → Bool → ResolveTerm → Judges (Option Ty)
+  resolved x late (ResolveOf l w i f at) = rule.resolve x late l w (within x i) (filtered x f) at
+
+  pub resolved_behind : Context → Bool → Joint → ResolveTerm → Option Ty → Judges (Option Ty)
+  resolved_behind x late j (ResolveOf l w i f at) = rule.resolve_step x late l j w (within x i) (filtered x f) at
 
   pub exprs : Context → ExprTerms → List (Judges (Option Ty))
   exprs x NoExprs = []
@@ -115,24 +129,24 @@ unfoldable mutual
   links x (MoreLinks l ls) = linked x l ∷ links x ls
 
   pub item : Context → ItemTerm → Judges (Option Ty)
-  item x (ItemOf e NoRange at) = rule.single x (expr x false e)
+  item x (ItemOf e NoRange at) = rule.single (expr x false e)
   item x (ItemOf e (RangeTo f sign) at) = rule.range x (expr x false e) (expr x false f) sign
 
   pub all_items : Context → ItemTerms → List (Judges (Option Ty))
   all_items x NoItems = []
   all_items x (MoreItems i is) = item x i ∷ all_items x is
 
-  pub filtered : Context → FilterTerm → Judges rule.Filtered
-  filtered x NoFilter = rule.no_filter x
+  pub filtered : Context → FilterTerm → Judges Filtered
+  filtered x NoFilter = rule.no_filter
   filtered x (FilterOf name t o at) = rule.filter x name (class_term x t) (given_expr (plain_in x) o) at
 
-  pub given_expr : Context → OptionalExpr → Judges rule.Given
-  given_expr x NoExpr = rule.not_given x
-  given_expr x (SomeExpr e) = rule.is_written x (expr x false e)
+  pub given_expr : Context → OptionalExpr → Judges Given
+  given_expr x NoExpr = rule.not_given
+  given_expr x (SomeExpr e) = rule.is_written (expr x false e)
 
   -- the accumulator's first value is no part of the body
   pub heading : Context → List ℕ → HeadTerm → Option Ty → Judges Heading
-  heading x name NoHead = rule.no_head x name
+  heading x name NoHead = rule.no_head name
   heading x name (HeadOf v t NoAccumulator at) = rule.plain_heading x v (optional_type x t) at
   heading x name (HeadOf v t (AccumulatorOf a u e acc) at) = rule.folding_heading x v (optional_type x t) a (type_term x u) (expr x false e) acc at
 
@@ -140,16 +154,15 @@ unfoldable mutual
   step x late model (DotStep name NoArgs at) = rule.property_step x name at
   step x late model (DotStep name (SomeArgs es) at) = rule.called x model name (exprs x es) (classes x es) at
   step x late model (ArrowStep name h es at) = rule.arrowed x name (heading x name h) (exprs (body_context (iterator_named name) x) es) (classes x es) at
-  step x late model (DotMapStep (MapOf strict name es at)) = rule.map_step x false name (exprs x es) at
-  step x late model (ArrowMapStep (MapOf strict name es at)) = rule.map_step x true name (exprs x es) at
-  step x late model (DotResolveStep (ResolveOf l w i f at)) = rule.resolve_step x late l joint.Dot w (within x i) (filtered x f) at
-  step x late model (ArrowResolveStep (ResolveOf l w i f at)) = rule.resolve_step x late l joint.Arrow w (within x i) (filtered x f) at
+  step x late model (DotMapStep m) = mapped_behind x false m
+  step x late model (ArrowMapStep m) = mapped_behind x true m
+  step x late model (DotResolveStep r) = resolved_behind x late joint.Dot r
+  step x late model (ArrowResolveStep r) = resolved_behind x late joint.Arrow r
 
   -- a late resolve may be the last step, the operation of a model the first
   pub steps : Context → Bool → Bool → StepTerms → List (Option Ty → Judges (Option Ty))
   steps x late model NoSteps = []
-  steps x late model (MoreSteps s NoSteps) = step x late model s ∷ []
-  steps x late model (MoreSteps s (MoreSteps t ss)) = step x false model s ∷ steps x late false (MoreSteps t ss)
+  steps x late model (MoreSteps s ss) = step x (late && are_none ss) model s ∷ steps x late false ss
 
   pub target : Context → TargetTerm → Judges Aim
   target x (BareTarget name at) = rule_of.bare_target x name at
@@ -173,9 +186,18 @@ unfoldable mutual
   otherwise x NoElse = []
   otherwise x (ElseOf ss) = stmts x ss
 
-  pub one_arm : Context → ArmTerm → Place → Judges (Unit {0})
+  pub one_arm : Context → ArmTerm → Judges (Option Ty)
   one_arm x (ArmOf c ss) = rule_of.arm x (expr x false c) (stmts x ss)
 
-  pub all_arms : Context → ArmTerms → List (Place → Judges (Unit {0}))
+  pub all_arms : Context → ArmTerms → List (Judges (Option Ty))
   all_arms x NoArms = []
   all_arms x (MoreArms a arms) = one_arm x a ∷ all_arms x arms
+
+-- steps on an expression or on a model
+abbrev pub posted : Context → Bool → ExprTerm → StepTerms → Judges (Option Ty)
+posted x late e ss = scope
+    >>= (λ s. rule.post x (rule.source_path x (model_path x s e ss) (expr x false e)) (steps x late (is_some (model_path x s e ss)) ss))
+
+-- the body of an object expression, by the class of the object
+abbrev pub object_body : Context → StmtTerms → ClassPart → Judges (Unit {0})
+object_body x ss c = rule_of.block (object_in x c) (stmts (object_in x c) ss)

@@ -26,7 +26,7 @@ use Rattle.qvt_types_data.specs.declared.variable.VariableSort.TheVariants as so
 use Rattle.qvt_types_paths.specs.Models.{extent}
 use Rattle.qvt_types_paths.specs.Paths.{path_type, path_class, element_no}
 use Rattle.qvt_types_states.specs.Judge.{Judges, ◌>>=◌, gives, fresh, scope, add_source, scoped, tell, checked, declare, settled, answers, marks, writes_nothing}
-use Rattle.qvt_types_states.specs.Scopes.{found}
+use Rattle.qvt_types_states.specs.Scopes.{found, is_known}
 use Rattle.qvt_types_states.specs.declared.scope.Known.{Known}
 use Rattle.qvt_types_steps.specs.Calls.{dot_call, has_operation}
 use Rattle.qvt_types_steps.specs.Classes.{class_test, class_test_named, is_selection, selection, model_call_named, model_objects, model_objects_of}
@@ -52,8 +52,17 @@ use Rattle.qvt_types_units.specs.declared.signature.HeadClass.{HeadClass}
 use Rattle.qvt_types_units.specs.declared.signature.HeadClass.TheVariants as head
 use Rattle.qvt_types_words.specs.Rulings as ruling
 use Rattle.qvt_typing.specs.Context.{Context, unless_untyped}
-use Rattle.qvt_typing.specs.Names.{source, unnamed, class_type, type_ruled, class_ruled, class_found, self_ruled, result_ruled, path_ruled}
-use Rattle.qvt_typing.specs.Calls.{called_alone, called_behind, call_ruled, unit_ruled, map_ruled, numbers_of, unless_wrong, Effect, PlainOne, PureOne, ImpureOne, effect_of, not_pure, not_plain}
+use Rattle.qvt_typing.specs.Names.{source, unnamed, class_type, made_read, variable_ruled, type_ruled, class_ruled, class_found, self_ruled, result_ruled, path_ruled}
+use Rattle.qvt_typing.specs.Calls.{called_alone, called_behind, call_ruled, unit_ruled, map_ruled, numbers_of, unless_wrong, effect_of, not_pure, not_plain}
+use Rattle.qvt_typing.specs.declared.parts.Given.{Given}
+use Rattle.qvt_typing.specs.declared.parts.ObjectVariable.{ObjectVariable}
+use Rattle.qvt_typing.specs.declared.parts.ObjectVariable.TheVariants.{NoVariable, OfType, OfNone}
+use Rattle.qvt_typing.specs.declared.parts.Within.{Within}
+use Rattle.qvt_typing.specs.declared.parts.Within.TheVariants.{Everywhere, Nobody, In}
+use Rattle.qvt_typing.specs.declared.parts.Filtered.{Filtered}
+use Rattle.qvt_typing.specs.declared.parts.Filtered.TheVariants.{NoFilter, By}
+use Rattle.qvt_typing.specs.declared.parts.Effect.{Effect}
+use Rattle.qvt_typing.specs.declared.parts.Effect.TheVariants.{PlainOne, PureOne, ImpureOne}
 
 -- Lists of parts.
 
@@ -71,36 +80,17 @@ beside o [] = gives o
 beside o (p ∷ ps) = p o >>= (λ t. beside t ps)
 
 -- the types of all, if each has one
-abbrev pub one_more : Ty → Option (List Ty) → Option (List Ty)
-one_more t None = None
-one_more t (Some ts) = Some (t ∷ ts)
+abbrev pub types_from : List Ty → List (Option Ty) → Option (List Ty)
+types_from done [] = Some done
+types_from done (None ∷ os) = None
+types_from done (Some t ∷ os) = types_from (done ++ t ∷ []) os
 
 abbrev pub all_types : List (Option Ty) → Option (List Ty)
-all_types [] = Some []
-all_types (None ∷ os) = None
-all_types (Some t ∷ os) = one_more t (all_types os)
+all_types os = types_from [] os
 
--- a part that may be written
-pub record Given : Type 0 where
-  pub is_given : Bool
-  pub type : Option Ty
-
--- the variable of an object expression: none, one of a type, or one whose type is unknown
-pub data ObjectVariable : Type 0 where
-  NoVariable : ObjectVariable
-  OfType : Ty → ObjectVariable
-  OfNone : ObjectVariable
-
--- the mapping of an `In` form
-pub data Within : Type 0 where
-  Everywhere : Within
-  Nobody : Within
-  In : ℕ → Within
-
--- the class that a filter names
-pub data Filtered : Type 0 where
-  NoFilter : Filtered
-  By : ClassPart → Filtered
+-- a part of which nothing but the type is kept
+abbrev pub settled_bare : Ruling → Place → Judges (Option Ty)
+settled_bare w at = settled w at >>= (λ r. writes_nothing >>= (λ _. gives r.answer))
 
 -- an expression without a condition on its parts
 abbrev pub stands : ExprNo → Ty → Judges (Option Ty)
@@ -114,6 +104,149 @@ abbrev pub head_part : HeadClass → ClassPart
 head_part (head.Known c) = part.Class c
 head_part head.Unknown = part.Untyped
 head_part head.Missing = part.Missing
+
+abbrev pub coll_of : CollKind → Option Ty → Read
+coll_of k None = unread
+coll_of k (Some t) = plain (reading.Typed (ty.Coll k t)) (Some (ty.Coll k t))
+
+abbrev pub collection_type : CollKind → Judges (Option Ty) → Judges (Option Ty)
+collection_type k p = p >>= (λ o. marks (coll_of k o))
+
+-- a collection type names no class: this is told where it is a type
+abbrev pub no_class_told : Option Ty → Option RefusalKind
+no_class_told None = None
+no_class_told (Some t) = Some refusal.UnknownType
+
+abbrev pub no_class : Judges (Option Ty) → Place → Judges ClassPart
+no_class p at = p >>= (λ o. checked (no_class_told o) at >>= (λ _. gives part.Untyped))
+
+-- an argument that should be a class, and is none
+abbrev pub no_path : Option Ty → ClassPart
+no_path None = part.Untyped
+no_path (Some t) = part.Missing
+
+abbrev pub class_missing : Judges (Option Ty) → Judges ClassPart
+class_missing p = p >>= (λ o. gives (no_path o))
+
+abbrev pub constant : Ty → Judges (Option Ty)
+constant t = fresh >>= (λ n. stands n t)
+
+-- signs have their notes before the operand, and are ruled from the innermost
+abbrev pub sign_notes : List Sign → Judges (Unit {0})
+sign_notes [] = gives tt
+sign_notes (s ∷ ss) = writes_nothing >>= (λ _. sign_notes ss)
+
+abbrev pub single : Judges (Option Ty) → Judges (Option Ty)
+single p = p >>= (λ o. writes_nothing >>= (λ _. gives o))
+
+-- the operation of the name that the source has, else a helper or a query
+abbrev pub reads_operation : List ℕ → Option Ty → Bool
+reads_operation name None = true
+reads_operation name (Some t) = has_operation name t
+
+abbrev pub add_unnamed : Option IteratorKind → Option Ty → Judges (Unit {0})
+add_unnamed None o = gives tt
+add_unnamed (Some i) o = scope >>= (λ s. add_source (source (unnamed s) o))
+
+-- an iterator without a name is an implicit source
+unfoldable pub no_head : List ℕ → Option Ty → Judges Heading
+no_head name items = add_unnamed (iterator_named name) items >>= (λ _. gives heading.Missing)
+
+abbrev pub not_given : Judges Given
+not_given = gives (record { is_given = false; ty = None })
+
+abbrev pub is_written : Judges (Option Ty) → Judges Given
+is_written p = p >>= (λ o. gives (record { is_given = true; ty = o }))
+
+abbrev pub iterator_known : Given → Option Ty → Known
+iterator_known k items = record { sort = sort.Iterator; ty = iterator_type k.is_given k.ty items }
+
+-- a variable of a Head, and whether its name is new
+abbrev pub declare_head : List ℕ → Known → Place → Judges Bool
+declare_head name k at = scope >>= (λ s. declare name k at >>= (λ _. gives (not (is_known name s))))
+
+-- where it is not, the body means another variable by it, and nothing is told of the step
+abbrev pub if_new : Bool → Heading → Heading
+if_new is_new h = if is_new then h else heading.Untyped
+
+-- an accumulator without a type leaves the Head without one
+abbrev pub unless_folding_fails : Heading → Option RefusalKind → Option RefusalKind
+unless_folding_fails heading.Untyped told = None
+unless_folding_fails h told = told
+
+abbrev pub iterator_effect : Option IteratorKind → Effect
+iterator_effect (Some iterator.Closure) = PureOne
+iterator_effect _ = PlainOne
+
+abbrev pub has_head : Heading → Bool
+has_head heading.Missing = false
+has_head _ = true
+
+-- selectByKind and selectByType, which take no Head
+abbrev pub selected_by : List ℕ → Heading → Option Ty → List ClassPart → Ruling
+selected_by name heading.Untyped o ps = Silent
+selected_by name h o ps = selection name (has_head h) o ps
+
+-- no extent is told at the node, which keeps its type. The class is Untyped where a part of the node has no type.
+abbrev pub extent_told : Option ℕ → Place → Judges (Unit {0})
+extent_told None at = tell refusal.BadExtent at
+extent_told (Some e) at = gives tt
+
+abbrev pub made_in : ClassNo → Option ℕ → Ruling
+made_in c e = Holds (made_read c e)
+
+abbrev pub variable_of_type : Option Ty → ObjectVariable
+variable_of_type None = OfNone
+variable_of_type (Some t) = OfType t
+
+abbrev pub if_settable : VariableSort → Ruling → Ruling
+if_settable sort.Settable r = r
+if_settable _ r = Fails refusal.UnknownName
+
+abbrev pub settable_ruled : List ℕ → Option Known → Ruling
+settable_ruled name None = Fails refusal.UnknownName
+settable_ruled name (Some k) = if_settable k.sort (variable_ruled name k.ty)
+
+abbrev pub no_variable : Judges ObjectVariable
+no_variable = gives NoVariable
+
+-- the class of an object whose parts have types
+abbrev pub class_beside : ObjectVariable → ClassPart → ClassPart
+class_beside OfNone c = part.Untyped
+class_beside NoVariable c = c
+class_beside (OfType t) c = c
+
+abbrev pub class_with : Option (List Ty) → ClassPart → ClassPart
+class_with None c = part.Untyped
+class_with (Some us) c = c
+
+-- a number of arguments that no constructor has is told at the path
+abbrev pub new_place : Ruling → Place → Place → Place
+new_place (Fails refusal.WrongCount) path_at at = path_at
+new_place _ path_at at = at
+
+abbrev pub within_of : Result ℕ RefusalKind → Within
+within_of (Ok n) = In n
+within_of (Err kind) = Nobody
+
+abbrev pub everywhere : Judges Within
+everywhere = gives Everywhere
+
+abbrev pub no_filter : Judges Filtered
+no_filter = gives NoFilter
+
+abbrev pub filter_part : Ruling → ClassPart → ClassPart
+filter_part (Holds r) c = c
+filter_part (Fails kind) c = part.Untyped
+filter_part Silent c = part.Untyped
+
+abbrev pub declare_filter : Option (List ℕ) → ClassPart → Place → Judges (Unit {0})
+declare_filter None c at = scope >>= (λ s. add_source (source (unnamed s) (class_type c)))
+declare_filter (Some name) c at = declare name (record { sort = sort.Iterator; ty = class_type c }) at
+
+-- `late` stands where it may not
+abbrev pub late_told : Bool → Bool → Read → Place → Judges (Unit {0})
+late_told allowed late r at = if is_some r.answer && (late && not allowed) then tell refusal.LatePlace at else gives tt
 
 module _ (x : Context) where
   -- what a node does to a run is told of it where it has a type, which it keeps
@@ -132,44 +265,27 @@ module _ (x : Context) where
   unfoldable pub named_type : PathTree → Judges (Option Ty)
   named_type p = settled (type_ruled (path_type x.heads.given x.heads.types p.names)) p.place >>= marks
 
-  abbrev pub coll_of : CollKind → Option Ty → Read
-  coll_of k None = unread
-  coll_of k (Some t) = plain (reading.Typed (ty.Coll k t)) (Some (ty.Coll k t))
-
-  unfoldable pub collection_type : CollKind → Judges (Option Ty) → Judges (Option Ty)
-  collection_type k p = p >>= (λ o. marks (coll_of k o))
-
   unfoldable pub named_class : PathTree → Judges ClassPart
   named_class p = settled (class_ruled (path_class x.heads.given x.heads.types p.names)) p.place
       >>= (λ r. marks r >>= (λ _. gives (class_found (path_class x.heads.given x.heads.types p.names))))
 
-  -- a type that is no path names no class
-  unfoldable pub no_class : Judges (Option Ty) → Place → Judges ClassPart
-  no_class p at = p >>= (λ _. tell refusal.UnknownType at >>= (λ _. gives part.Untyped))
+  -- an argument that is a class is an expression, and has a number
+  unfoldable pub class_given : PathTree → Judges ClassPart
+  class_given p = fresh >>= (λ n. settled (class_ruled (path_class x.heads.given x.heads.types p.names)) p.place
+      >>= (λ r. answers n r >>= (λ _. gives (class_found (path_class x.heads.given x.heads.types p.names)))))
 
-  -- an argument that should be a class, and is none
-  abbrev pub no_path : Option Ty → ClassPart
-  no_path None = part.Untyped
-  no_path (Some t) = part.Missing
-
-  unfoldable pub class_missing : Judges (Option Ty) → Judges ClassPart
-  class_missing p = p >>= (λ o. gives (no_path o))
-
-  -- an argument that is a class, if it is a path
+  -- an argument that should be a class: it is one if it is a path
   abbrev pub class_argument : Option PathTree → Judges (Option Ty) → Judges ClassPart
   class_argument None p = class_missing p
-  class_argument (Some path) p = named_class path
+  class_argument (Some path) p = class_given path
 
   -- Literals, names, `self` and `result`.
 
-  unfoldable pub constant : Ty → Judges (Option Ty)
-  constant t = fresh >>= (λ n. stands n t)
+  unfoldable pub self_ref : Place → Judges (Option Ty)
+  self_ref at = fresh >>= (λ n. ruled n (self_ruled x.self) PlainOne at)
 
-  unfoldable pub self : Place → Judges (Option Ty)
-  self at = fresh >>= (λ n. ruled n (self_ruled x.self) PlainOne at)
-
-  unfoldable pub result : Place → Judges (Option Ty)
-  result at = fresh >>= (λ n. ruled n (result_ruled x.result) PlainOne at)
+  unfoldable pub result_ref : Place → Judges (Option Ty)
+  result_ref at = fresh >>= (λ n. ruled n (result_ruled x.result) PlainOne at)
 
   -- a name; as the source of a model's operation it may be that of a model
   unfoldable pub path : Bool → PathTree → Judges (Option Ty)
@@ -181,30 +297,24 @@ module _ (x : Context) where
   conditional p q r at = fresh >>= (λ n. p >>= (λ c. q >>= (λ y. r >>= (λ z. ruled n (ruling.conditional x.heads.metas c y z) PlainOne at))))
 
   unfoldable pub link : BinaryOp → Judges (Option Ty) → Place → Option Ty → Judges (Option Ty)
-  link op p at o = p >>= (λ t. settled (ruling.operator x.heads.metas op o t) at >>= (λ r. writes_nothing >>= (λ _. gives r.answer)))
+  link op p at o = p >>= (λ t. settled_bare (ruling.operator x.heads.metas op o t) at)
 
   unfoldable pub chain : Judges (Option Ty) → List (Option Ty → Judges (Option Ty)) → Judges (Option Ty)
   chain p links = fresh >>= (λ n. p >>= (λ o. beside o links >>= (λ t. stands_as n t)))
 
-  -- signs have their notes before the operand, and are ruled from the innermost
-  abbrev pub sign_notes : List Sign → Judges (Unit {0})
-  sign_notes [] = gives tt
-  sign_notes (s ∷ ss) = writes_nothing >>= (λ _. sign_notes ss)
+  abbrev pub sign : Sign → Option Ty → Judges (Option Ty)
+  sign s o = settled (ruling.prefixed x.heads.metas s.op o) s.place >>= (λ r. gives r.answer)
 
   abbrev pub signed : List Sign → Option Ty → Judges (Option Ty)
   signed [] o = gives o
-  signed (s ∷ ss) o = signed ss o >>= (λ t. settled (ruling.prefixed x.heads.metas s.op t) s.place >>= (λ r. gives r.answer))
+  signed (s ∷ ss) o = signed ss o >>= sign s
 
   unfoldable pub prefix : List Sign → Judges (Option Ty) → Judges (Option Ty)
   prefix ss p = fresh >>= (λ n. sign_notes ss >>= (λ _. p >>= (λ o. signed ss o >>= (λ t. stands_as n t))))
 
-  unfoldable pub single : Judges (Option Ty) → Judges (Option Ty)
-  single p = p >>= (λ o. writes_nothing >>= (λ _. gives o))
-
   -- both ends, the note of the `..`, that of the item
   unfoldable pub range : Judges (Option Ty) → Judges (Option Ty) → Place → Judges (Option Ty)
-  range p q sign = p >>= (λ a. q >>= (λ b. settled (ruling.range x.heads.metas a b) sign
-      >>= (λ r. writes_nothing >>= (λ _. writes_nothing >>= (λ _. gives r.answer)))))
+  range p q sign = p >>= (λ a. q >>= (λ b. settled_bare (ruling.range x.heads.metas a b) sign >>= (λ t. writes_nothing >>= (λ _. gives t))))
 
   unfoldable pub literal : CollKind → List (Judges (Option Ty)) → Place → Judges (Option Ty)
   literal k items at = fresh >>= (λ n. in_order items >>= (λ os. ruled n (ruling.literal x.heads.metas k (all_types os)) PlainOne at))
@@ -212,8 +322,9 @@ module _ (x : Context) where
   -- Steps.
 
   -- the source of steps, which may be a model
-  abbrev pub source_path : Bool → PathTree → Judges (Option Ty) → Judges (Option Ty)
-  source_path is_model p q = if is_model then path true p else q
+  abbrev pub source_path : Option PathTree → Judges (Option Ty) → Judges (Option Ty)
+  source_path (Some p) q = path true p
+  source_path None q = q
 
   unfoldable pub post : Judges (Option Ty) → List (Option Ty → Judges (Option Ty)) → Judges (Option Ty)
   post p steps = fresh >>= (λ n. p >>= (λ o. beside o steps >>= (λ t. stands_as n t)))
@@ -224,11 +335,6 @@ module _ (x : Context) where
   -- a test or cast
   unfoldable pub test_step : List ℕ → ClassTest → List (Judges ClassPart) → Place → Option Ty → Judges (Option Ty)
   test_step name t args at o = in_order args >>= (λ ps. stepped (class_test name t o ps) PlainOne at)
-
-  -- the operation of the name that the source has, else a helper or a query
-  abbrev pub reads_operation : List ℕ → Option Ty → Bool
-  reads_operation name None = true
-  reads_operation name (Some t) = has_operation name t
 
   unfoldable pub call_step : List ℕ → List (Judges (Option Ty)) → Place → Option Ty → Judges (Option Ty)
   call_step name args at o = in_order args >>= (λ os.
@@ -259,57 +365,37 @@ module _ (x : Context) where
 
   -- Iterators: their Heads, and the arrow.
 
-  abbrev pub add_unnamed : Option IteratorKind → Option Ty → Judges (Unit {0})
-  add_unnamed None o = gives tt
-  add_unnamed (Some i) o = scope >>= (λ s. add_source (source (unnamed s) o))
-
-  -- an iterator without a name is an implicit source
-  unfoldable pub no_head : List ℕ → Option Ty → Judges Heading
-  no_head name items = add_unnamed (iterator_named name) items >>= (λ _. gives heading.Missing)
-
-  abbrev pub not_given : Judges Given
-  not_given = gives (record { is_given = false; type = None })
-
-  abbrev pub is_written : Judges (Option Ty) → Judges Given
-  is_written p = p >>= (λ o. gives (record { is_given = true; type = o }))
-
-  abbrev pub iterator_known : Given → Option Ty → Known
-  iterator_known k items = record { sort = sort.Iterator; ty = iterator_type k.is_given k.type items }
-
   unfoldable pub plain_heading : List ℕ → Judges Given → Place → Option Ty → Judges Heading
-  plain_heading v p at items = p >>= (λ k. checked (iterator_wrong x.heads.metas k.is_given k.type items) at
-      >>= (λ _. declare v (iterator_known k items) at
-      >>= (λ _. writes_nothing >>= (λ _. gives (plain_head x.heads.metas k.is_given k.type items)))))
+  plain_heading v p at items = p >>= (λ k. checked (iterator_wrong x.heads.metas k.is_given k.ty items) at
+      >>= (λ _. declare_head v (iterator_known k items) at
+      >>= (λ is_new. writes_nothing >>= (λ _. gives (if_new is_new (plain_head x.heads.metas k.is_given k.ty items))))))
+
+  abbrev pub fold_wrong : Given → Option Ty → Option Ty → Option Ty → Option RefusalKind
+  fold_wrong k items t first = unless_folding_fails (folding_head x.heads.metas heading.Plain t first) (iterator_wrong x.heads.metas k.is_given k.ty items)
+
+  -- the iterator and the accumulator are declared
+  unfoldable pub folded : List ℕ → Given → List ℕ → Option Ty → Option Ty → Place → Place → Option Ty → Judges Heading
+  folded v k a t first accumulator_at at items = checked (fold_wrong k items t first) at
+      >>= (λ _. checked (accumulator_wrong x.heads.metas t first) accumulator_at
+      >>= (λ _. writes_nothing
+      >>= (λ _. declare_head v (iterator_known k items) at
+      >>= (λ is_new. declare_head a (record { sort = sort.Iterator; ty = t }) accumulator_at
+      >>= (λ is_other_new. writes_nothing
+      >>= (λ _. gives (if_new (is_new && is_other_new) (folding_head x.heads.metas (plain_head x.heads.metas k.is_given k.ty items) t first))))))))
 
   -- the accumulator's type and first value are judged before the iterator is declared
   unfoldable pub folding_heading : List ℕ → Judges Given → List ℕ → Judges (Option Ty) → Judges (Option Ty) → Place → Place → Option Ty → Judges Heading
-  folding_heading v p a q r accumulator_at at items = p >>= (λ k. q >>= (λ t. r >>= (λ first.
-      checked (iterator_wrong x.heads.metas k.is_given k.type items) at
-      >>= (λ _. checked (accumulator_wrong x.heads.metas t first) accumulator_at
-      >>= (λ _. writes_nothing
-      >>= (λ _. declare v (iterator_known k items) at
-      >>= (λ _. declare a (record { sort = sort.Iterator; ty = t }) accumulator_at
-      >>= (λ _. writes_nothing
-      >>= (λ _. gives (folding_head x.heads.metas (plain_head x.heads.metas k.is_given k.type items) t first))))))))))
+  folding_heading v p a q r accumulator_at at items = p >>= (λ k. q >>= (λ t. r >>= (λ first. folded v k a t first accumulator_at at items)))
 
-  abbrev pub iterator_effect : Option IteratorKind → Effect
-  iterator_effect (Some iterator.Closure) = PureOne
-  iterator_effect _ = PlainOne
+  -- a selection by class, or an iterator or an operation
+  unfoldable pub arrow_parts : List ℕ → List (Judges (Option Ty)) → List (Judges ClassPart) → Option Ty → Heading → Judges Ruling
+  arrow_parts name args classes o h =
+      if is_selection name then in_order classes >>= (λ ps. gives (selected_by name h o ps))
+      else in_order args >>= (λ os. gives (arrow x.heads.metas name h o (all_types os)))
 
-  unfoldable pub arrow_step : List ℕ → (Option Ty → Judges Heading) → List (Judges (Option Ty)) → Place → Option Ty → Judges (Option Ty)
-  arrow_step name head args at o = scoped (head (item_type o) >>= (λ h. in_order args >>= (λ os. gives (arrow x.heads.metas name h o (all_types os)))))
+  unfoldable pub arrowed : List ℕ → (Option Ty → Judges Heading) → List (Judges (Option Ty)) → List (Judges ClassPart) → Place → Option Ty → Judges (Option Ty)
+  arrowed name head args classes at o = scoped (head (item_type o) >>= arrow_parts name args classes o)
       >>= (λ w. stepped w (iterator_effect (iterator_named name)) at)
-
-  abbrev pub has_head : Heading → Bool
-  has_head heading.Missing = false
-  has_head _ = true
-
-  unfoldable pub selection_step : List ℕ → (Option Ty → Judges Heading) → List (Judges ClassPart) → Place → Option Ty → Judges (Option Ty)
-  selection_step name head args at o = scoped (head (item_type o) >>= (λ h. in_order args >>= (λ ps. gives (selection name (has_head h) o ps))))
-      >>= (λ w. stepped w PlainOne at)
-
-  abbrev pub arrowed : List ℕ → (Option Ty → Judges Heading) → List (Judges (Option Ty)) → List (Judges ClassPart) → Place → Option Ty → Judges (Option Ty)
-  arrowed name head args classes at o = if is_selection name then selection_step name head classes at o else arrow_step name head args at o
 
   -- Calls of units.
 
@@ -336,34 +422,10 @@ module _ (x : Context) where
   abbrev pub extent_of : Option (List ℕ) → ClassNo → Option ℕ
   extent_of name c = extent x.heads.models (length x.heads.given.metamodels) name (class_at x.heads.metas c.0).metamodel
 
-  -- no extent is told at the node, which keeps its type
-  abbrev pub extent_told : Option ℕ → Place → Judges (Unit {0})
-  extent_told None at = tell refusal.BadExtent at
-  extent_told (Some e) at = gives tt
-
-  abbrev pub made_in : ClassNo → Option ℕ → Ruling
-  made_in c None = Holds (plain reading.Nothing (Some (ty.Class c)))
-  made_in c (Some e) = Holds (plain (reading.Make c e) (Some (ty.Class c)))
-
   abbrev pub class_extent_told : Option (List ℕ) → ClassPart → Place → Judges (Unit {0})
   class_extent_told name (part.Class c) at = extent_told (extent_of name c) at
   class_extent_told name part.Untyped at = gives tt
   class_extent_told name part.Missing at = gives tt
-
-  abbrev pub variable_of_type : Option Ty → ObjectVariable
-  variable_of_type None = OfNone
-  variable_of_type (Some t) = OfType t
-
-  abbrev pub if_settable : VariableSort → Ruling → Ruling
-  if_settable sort.Settable r = r
-  if_settable _ r = Fails refusal.UnknownName
-
-  abbrev pub settable_ruled : List ℕ → Option Known → Ruling
-  settable_ruled name None = Fails refusal.UnknownName
-  settable_ruled name (Some k) = if_settable k.sort (Holds (plain (reading.Variable name) k.ty))
-
-  unfoldable pub no_variable : Judges ObjectVariable
-  no_variable = gives NoVariable
 
   -- a variable, and no parameter or iterator
   unfoldable pub named_variable : List ℕ → Place → Judges ObjectVariable
@@ -383,7 +445,7 @@ module _ (x : Context) where
   unfoldable pub object : Judges ObjectVariable → PathTree → Option (List ℕ) → (ClassPart → Judges (Unit {0})) → Place → Judges (Option Ty)
   object p path extent body at = fresh >>= (λ n. p >>= (λ v. named_class path >>= (λ c. abstract_told c path.place
       >>= (λ _. body c
-      >>= (λ _. class_extent_told extent c at
+      >>= (λ _. class_extent_told extent (class_beside v c) at
       >>= (λ _. ruled n (object_ruled v extent c) ImpureOne at))))))
 
   -- a `new` without arguments needs no constructor
@@ -398,17 +460,15 @@ module _ (x : Context) where
   new_ruled name part.Untyped us = Silent
   new_ruled name part.Missing us = Silent
 
-  -- a number of arguments that no constructor has is told at the path
-  abbrev pub new_place : Ruling → Place → Place → Place
-  new_place (Fails refusal.WrongCount) path_at at = path_at
-  new_place _ path_at at = at
+  -- a `new` whose class, found at this path, and arguments are judged
+  unfoldable pub constructed : ExprNo → ClassPart → Place → Option (List ℕ) → Option (List Ty) → Place → Judges (Option Ty)
+  constructed n c path_at extent us at = class_extent_told extent (class_with us c) at
+      >>= (λ _. settled (new_ruled extent c us) (new_place (new_ruled extent c us) path_at at)
+      >>= (λ r. effect_told ImpureOne r at >>= (λ _. answers n r)))
 
   unfoldable pub new : PathTree → Option (List ℕ) → List (Judges (Option Ty)) → Place → Judges (Option Ty)
   new path extent args at = fresh >>= (λ n. named_class path >>= (λ c. abstract_told c path.place
-      >>= (λ _. in_order args
-      >>= (λ os. class_extent_told extent c at
-      >>= (λ _. settled (new_ruled extent c (all_types os)) (new_place (new_ruled extent c (all_types os)) path.place at)
-      >>= (λ r. effect_told ImpureOne r at >>= (λ _. answers n r)))))))
+      >>= (λ _. in_order args >>= (λ os. constructed n c path.place extent (all_types os) at))))
 
   -- Resolves.
 
@@ -416,48 +476,26 @@ module _ (x : Context) where
   listed_ruled (Ok n) = Holds (plain (reading.Mappings (numbers_of x.heads (n ∷ []))) None)
   listed_ruled (Err kind) = Fails kind
 
-  abbrev pub within_of : Result ℕ RefusalKind → Within
-  within_of (Ok n) = In n
-  within_of (Err kind) = Nobody
-
-  unfoldable pub everywhere : Judges Within
-  everywhere = gives Everywhere
-
   unfoldable pub listed_path : PathTree → Judges Within
   listed_path p = settled (listed_ruled (listed x.heads.given x.heads.types x.heads.units p.names)) p.place
       >>= (λ r. marks r >>= (λ _. gives (within_of (listed x.heads.given x.heads.types x.heads.units p.names))))
 
-  unfoldable pub no_filter : Judges Filtered
-  no_filter = gives NoFilter
-
-  abbrev pub filter_part : Ruling → ClassPart → ClassPart
-  filter_part (Holds r) c = c
-  filter_part (Fails kind) c = part.Untyped
-  filter_part Silent c = part.Untyped
-
-  abbrev pub declare_filter : Option (List ℕ) → ClassPart → Place → Judges (Unit {0})
-  declare_filter None c at = scope >>= (λ s. add_source (source (unnamed s) (class_type c)))
-  declare_filter (Some name) c at = declare name (record { sort = sort.Iterator; ty = class_type c }) at
+  unfoldable pub filter_settled : ClassPart → Given → Place → Judges Filtered
+  filter_settled c k at = settled (resolving.filter x.heads.metas (class_type c) k.is_given k.ty) at
+      >>= (λ r. writes_nothing
+      >>= (λ _. gives (By (filter_part (resolving.filter x.heads.metas (class_type c) k.is_given k.ty) c))))
 
   -- the class; the filter is in scope in its condition
   unfoldable pub filter : Option (List ℕ) → Judges ClassPart → Judges Given → Place → Judges Filtered
-  filter name p condition at = p >>= (λ c. scoped (declare_filter name c at >>= (λ _. condition))
-      >>= (λ k. settled (resolving.filter x.heads.metas (class_type c) k.is_given k.type) at
-      >>= (λ r. writes_nothing
-      >>= (λ _. gives (By (filter_part (resolving.filter x.heads.metas (class_type c) k.is_given k.type) c))))))
+  filter name p condition at = p >>= (λ c. scoped (declare_filter name c at >>= (λ _. condition)) >>= (λ k. filter_settled c k at))
 
   -- the class that is looked for: that of the filter, else that of the mapping's result or, in the inverse forms, of its context
   abbrev pub looked_for : ResolveWord → Within → Filtered → ClassPart
+  looked_for w Nobody f = part.Untyped
   looked_for w Everywhere (By c) = c
-  looked_for w Nobody (By c) = part.Untyped
   looked_for w (In n) (By c) = c
   looked_for w Everywhere NoFilter = part.Missing
-  looked_for w Nobody NoFilter = part.Untyped
   looked_for w (In n) NoFilter = resolving.class_within w (head_part (unit_at x.heads.units n).result) (head_part (unit_at x.heads.units n).context)
-
-  -- `late` stands where it may not
-  abbrev pub late_told : Bool → Bool → Read → Place → Judges (Unit {0})
-  late_told allowed late r at = if is_some r.answer && (late && not allowed) then tell refusal.LatePlace at else gives tt
 
   abbrev pub resolve_ruled : Bool → Bool → Joint → ResolveWord → Option Ty → ClassPart → Place → Judges Read
   resolve_ruled allowed late j w o c at = settled (resolving.resolve j w o c) at

@@ -5,15 +5,17 @@ use Rattle.qvt_tree_types.specs.Tree.{TypeTerm, OptionalExpr, NoExpr, SomeExpr, 
 use Rattle.qvt_tree_types.specs.Module.{TypedName, ClassTerm, HelperTerm, MappingTerm, UnitTerm, ClassOf, MainOf, HelperOf, ConstructorOf, MappingOf}
 use Rattle.qvt_tree_types.specs.declared.module.ResultDecl.{ResultDecl}
 use Rattle.qvt_tree_types.specs.declared.types.PathTree.{PathTree}
+use Rattle.qvt_types_data.specs.Notes.{unread}
+use Rattle.qvt_types_data.specs.declared.ruling.Read.{Read}
 use Rattle.qvt_types_data.specs.declared.ty.Ty.{Ty}
 use Rattle.qvt_types_data.specs.declared.variable.VariableSort.TheVariants as sort
-use Rattle.qvt_types_states.specs.Judge.{Judges, ◌>>=◌, gives, add_source, scoped, declare, writes_nothing}
+use Rattle.qvt_types_states.specs.Judge.{Judges, ◌>>=◌, gives, add_source, scoped, declare, marks, writes_nothing}
 use Rattle.qvt_types_steps.specs.declared.classes.ClassPart.{ClassPart}
 use Rattle.qvt_types_steps.specs.declared.classes.ClassPart.TheVariants as part
 use Rattle.qvt_types_units.specs.Numbers.{unit_at}
 use Rattle.qvt_types_units.specs.declared.signature.Signature.{Signature}
 use Rattle.qvt_typing.specs.Context.{Heads, Context, Returns, NoValue, Value, Never}
-use Rattle.qvt_typing.specs.Names.{source, self_name, class_type}
+use Rattle.qvt_typing.specs.Names.{source, self_name, class_type, made_read}
 use Rattle.qvt_typing.specs.Phrases.{type_term, optional_type, expr, stmts}
 use Rattle.qvt_typing.specs.Rules as rule
 use Rattle.qvt_typing.specs.Statements as rule_of
@@ -86,9 +88,15 @@ init_context h s = record (outside h) { self = rule.head_part s.context; result 
 abbrev pub section_context : Heads → Signature → Context
 section_context h s = record (outside h) { self = rule.head_part s.context; result = rule.head_part s.result; owner = rule.head_part s.result; returns = Never }
 
+-- the class and the extent of the object that a mapping makes
+abbrev pub result_read : Context → Option (List ℕ) → ClassPart → Read
+result_read x name (part.Class c) = made_read c (rule.extent_of x name c)
+result_read x name part.Untyped = unread
+result_read x name part.Missing = unread
+
 abbrev pub result_head : Context → Option ResultDecl → Judges (Unit {0})
 result_head x None = gives tt
-result_head x (Some r) = rule.named_class x r.path >>= (λ _. writes_nothing)
+result_head x (Some r) = rule.named_class x r.path >>= (λ c. marks (result_read x r.extent c) >>= (λ _. gives tt))
 
 abbrev pub when : Context → OptionalExpr → Place → Judges (Unit {0})
 when x NoExpr at = gives tt
@@ -100,11 +108,13 @@ sections h u s = rule_of.each (stmts (init_context h s) u.init)
     >>= (λ _. rule_of.each (stmts (section_context h s) u.population)
     >>= (λ _. rule_of.each (stmts (section_context h s) u.finish)))
 
+abbrev pub mapping_head : Context → MappingTerm → Signature → Judges (Unit {0})
+mapping_head x u s = with_self (rule.head_part s.context) >>= (λ _. params x u.params >>= (λ _. result_head x u.result_decl
+    >>= (λ _. all_paths (reused x) u.inherits >>= (λ _. all_paths (reused x) u.merges >>= (λ _. all_paths (reused x) u.disjuncts)))))
+
 abbrev pub mapping_unit : Heads → MappingTerm → Signature → Judges (Unit {0})
 mapping_unit h u s =
-    scoped (with_self (rule.head_part s.context) >>= (λ _. params (outside h) u.params >>= (λ _. result_head (outside h) u.result_decl
-    >>= (λ _. all_paths (reused (outside h)) u.inherits >>= (λ _. all_paths (reused (outside h)) u.merges >>= (λ _. all_paths (reused (outside h)) u.disjuncts
-    >>= (λ _. when (when_context h s) u.condition u.place >>= (λ _. sections h u s))))))))
+    scoped (mapping_head (outside h) u s >>= (λ _. when (when_context h s) u.condition u.place >>= (λ _. sections h u s)))
     >>= (λ _. writes_nothing)
 
 -- unit n

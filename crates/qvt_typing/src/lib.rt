@@ -1,1 +1,4 @@
-//! What typing gives: definitions alone.
+//! What typing gives of a transformation, as definitions, and the plain data that they speak of.
+#![tactic(auto)]
+
+pub mod parts;

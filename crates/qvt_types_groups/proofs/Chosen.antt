@@ -1,0 +1,230 @@
+-- The choices that are told once for all classes.
+use Rattle.std.proofs.Common.{◌≡◌, ◌∙◌, ℕ, zero, ◌+◌, ◌<◌, ◌==◌, List, [], ◌∷◌, ◌++◌, length, map, get_or, Bool, true, false, ◌&&◌, ◌||◌, not, Option, Some, None, position, refl, sym, ap, subst, arith}
+use Rattle.std.specs.Prelude.{if◌then◌else◌, filter, is_some, slice_get, IsTrue}
+use Rattle.std.specs.List.{list_any, list_all, range_with_len}
+use Rattle.std.specs.Str.{bytes_eq}
+use Rattle.std.proofs.lemmas.Bool.{eq-eqb, eqb-true}
+use Rattle.std.proofs.lemmas.List.Elements.{filter-append}
+use Rattle.std.proofs.lemmas.List.FromFn.{get_or-map-range_with_len, length-map-range_with_len}
+use Rattle.std.proofs.lemmas.List.Quantifiers.{position-Some}
+use Rattle.std.proofs.lemmas.Option.{slice_get_within, get_or_from_slice_get}
+use Rattle.qvt_meta_names.proofs.Orders.{range-more}
+use Rattle.qvt_metamodel.specs.Metamodels.{Metamodels, class_at, is_element}
+use Rattle.qvt_metamodel.specs.Descends.{descends, reaches}
+use Rattle.qvt_metamodel.proofs.Bools.{and_both, and_left, and_right, not_true, clash}
+use Rattle.qvt_types_units.specs.declared.choice.Found.{Found}
+use Rattle.qvt_types_units.specs.declared.choice.Found.TheVariants.{NoUnit, Untyped, Unclear, Chosen}
+use Rattle.qvt_types_units.specs.declared.signature.HeadClass.{HeadClass}
+use Rattle.qvt_types_units.specs.declared.signature.HeadClass.TheVariants.{Missing, Unknown, Known}
+use Rattle.qvt_types_units.specs.declared.signature.UnitSort.{UnitSort}
+use Rattle.qvt_types_units.specs.declared.signature.UnitSort.TheVariants as sort
+use Rattle.qvt_types_units.specs.declared.signature.Signature.{Signature}
+use Rattle.qvt_types_units.specs.Choice.{is_above, is_below, context_at, candidates, is_lowest, lowest, single, chosen, is_concrete_below, lacks_choice, is_ambiguous, is_unknown, is_unsure, is_empty, chosen_of, looked_up}
+use Rattle.qvt_types_units.specs.Numbers.{unit_at, no_unit, is_mapping, is_helper, is_called, has_context, is_in_group, numbers_where, group}
+use Rattle.qvt_types_groups.specs.Choices.{is_stuck, stuck_among, all_stuck, lacks_one, found_alone, are_several, row, group_of, is_first, unit_row, unit_rows, row_at}
+use Rattle.qvt_types_groups.specs.Lists.{first_of}
+use Rattle.qvt_types_groups.proofs.Firsts.{first_where}
+use Rattle.qvt_types_groups.proofs.Lists.{same_bytes}
+
+abbrev pub Transitive : Metamodels → Type 0
+Transitive m = (c d e : ℕ) → IsTrue (descends m c d) → IsTrue (descends m d e) → IsTrue (descends m c e)
+
+-- one class more is looked at
+pub stuck_next : (p : ℕ → Bool) (n : ℕ) (had has : List ℕ) → had ≡ filter p (range_with_len 0 n) → has ≡ had ++ (if p n then n ∷ [] else []) → has ≡ filter p (range_with_len 0 (n + 1))
+stuck_next p n had has before is =
+    is ∙ ap (λ ns. ns ++ (if p n then n ∷ [] else [])) before ∙ one (p n) refl
+    ∙ sym (filter-append p (range_with_len 0 n) (n ∷ [])) ∙ ap (filter p) (range-more n)
+  where
+    one : (b : Bool) → p n ≡ b → filter p (range_with_len 0 n) ++ (if b then n ∷ [] else []) ≡ filter p (range_with_len 0 n) ++ (if b then n ∷ [] else [])
+    one b e = refl
+
+abbrev kept_if : ℕ → Bool → List ℕ
+kept_if n b = if b then n ∷ [] else []
+
+any_filter : (p q : ℕ → Bool) (xs : List ℕ) → list_any q (filter p xs) ≡ list_any (λ x. p x && q x) xs
+any_filter p q [] = refl
+any_filter p q (x ∷ xs) = by (p x) (any_filter p q xs)
+  where
+    by : (b : Bool) → list_any q (filter p xs) ≡ list_any (λ y. p y && q y) xs → list_any q (if b then x ∷ filter p xs else filter p xs) ≡ ((b && q x) || list_any (λ y. p y && q y) xs)
+    by true rest = ap (λ t. q x || t) rest
+    by false rest = rest
+
+some_left : (p q : ℕ → Bool) (xs : List ℕ) → ((x : ℕ) → p x ≡ true → q x ≡ true) → is_empty (filter p xs) ≡ false → is_empty (filter q xs) ≡ false
+some_left p q [] implies some = some
+some_left p q (x ∷ xs) implies some = by (q x) (p x) refl refl some (some_left p q xs implies)
+  where
+    by : (b a : Bool) → q x ≡ b → p x ≡ a → is_empty (if a then x ∷ filter p xs else filter p xs) ≡ false → (is_empty (filter p xs) ≡ false → is_empty (filter q xs) ≡ false) → is_empty (if b then x ∷ filter q xs else filter q xs) ≡ false
+    by true a e f some rest = refl
+    by false true e f some rest = clash (implies x f) e
+    by false false e f some rest = rest some
+
+above_also : (m : Metamodels) → Transitive m → (h : HeadClass) (c d : ℕ) → descends m d c ≡ true → is_above m h c ≡ true → is_above m h d ≡ true
+above_also m t Missing c d down h = absurd (cc)
+above_also m t Unknown c d down h = absurd (cc)
+above_also m t (Known e) c d down h = t d c e.0 down h
+
+module _ (m : Metamodels) (us : List Signature) (t : Transitive m) where
+  still_there : (ns : List ℕ) (c d : ℕ) → descends m d c ≡ true → is_empty (candidates m us ns c) ≡ false → is_empty (candidates m us ns d) ≡ false
+  still_there ns c d down some = some_left (λ n. is_above m (context_at us n) c) (λ n. is_above m (context_at us n) d) ns (λ n h. above_also m t (context_at us n) c d down h) some
+
+  -- below a class that some units are above, a class that lacks a choice is one of those that are told
+  stuck_is : (ns : List ℕ) (c d : ℕ) → is_empty (candidates m us ns c) ≡ false → (is_stuck m us ns d && descends m d c) ≡ lacks_choice m us ns c d
+  unfolding is_stuck lacks_choice
+  stuck_is ns c d some = by (descends m d c) refl
+    where
+      two : (a b : Bool) → ((a && b) && true) ≡ ((a && true) && b)
+      two true true = refl
+      two true false = refl
+      two false b = refl
+
+      none : (a b k : Bool) → ((a && b) && false) ≡ ((a && false) && k)
+      none true true k = refl
+      none true false k = refl
+      none false b k = refl
+
+      by : (x : Bool) → descends m d c ≡ x
+          → ((not (class_at m d).is_abstract && (not (is_empty (candidates m us ns d)) && not (is_some (chosen m us ns d)))) && x)
+          ≡ ((not (class_at m d).is_abstract && x) && not (is_some (chosen m us ns d)))
+      by true e =
+          ap (λ b. (not (class_at m d).is_abstract && (not b && not (is_some (chosen m us ns d)))) && true) (still_there ns c d e some)
+          ∙ two (not (class_at m d).is_abstract) (not (is_some (chosen m us ns d)))
+      by false e = none (not (class_at m d).is_abstract) (not (is_empty (candidates m us ns d)) && not (is_some (chosen m us ns d))) (not (is_some (chosen m us ns d)))
+
+  pub ambiguous_is : (ns : List ℕ) (c : ℕ) → is_empty (candidates m us ns c) ≡ false
+      → lacks_one m (all_stuck m us ns) c (chosen m us ns c) ≡ is_ambiguous m us ns c
+  unfolding is_ambiguous
+  ambiguous_is ns c some = ap (λ b. not (is_some (chosen m us ns c)) || b)
+      (any_filter (is_stuck m us ns) (λ d. descends m d c) (range_with_len 0 (length m.classes))
+      ∙ (λ i. list_any (λ d. stuck_is ns c d some i) (range_with_len 0 (length m.classes))))
+
+  -- what is found for a class that some units are above
+  pub found_is : (ns : List ℕ) (c : ℕ) → is_unsure us ns ≡ false → is_empty (candidates m us ns c) ≡ false
+      → chosen_of (lacks_one m (all_stuck m us ns) c (single (lowest m us (candidates m us ns c)))) (single (lowest m us (candidates m us ns c))) ≡ looked_up m us ns c
+  unfolding chosen
+  found_is ns c sure some =
+      ap (λ b. chosen_of b (chosen m us ns c)) (ambiguous_is ns c some)
+      ∙ sym ((λ i. if sure i then Untyped else if is_empty (candidates m us ns c) then NoUnit else chosen_of (is_ambiguous m us ns c) (chosen m us ns c))
+      ∙ (λ i. if some i then NoUnit else chosen_of (is_ambiguous m us ns c) (chosen m us ns c)))
+
+  some_there : (ns : List ℕ) → (length ns == 0) ≡ false → is_empty ns ≡ false
+  some_there [] h = absurd (cc)
+  some_there (n ∷ ns) h = refl
+
+  none_there : (ns : List ℕ) → (length ns == 0) ≡ true → is_empty ns ≡ true
+  none_there [] h = refl
+  none_there (n ∷ ns) h = absurd (let wrong : length (n ∷ ns) ≡ 0 = eqb-true (length (n ∷ ns)) 0 h in omega (arith, wrong))
+
+  -- the same, where the units that are above the class are told
+  pub found_so : (ns among stuck : List ℕ) (c : ℕ) (x : Found) → is_unsure us ns ≡ false → among ≡ candidates m us ns c → (length among == 0) ≡ false → stuck ≡ all_stuck m us ns
+      → x ≡ chosen_of (lacks_one m stuck c (single (lowest m us among))) (single (lowest m us among)) → x ≡ looked_up m us ns c
+  found_so ns among stuck c x sure are some told is =
+      is ∙ (λ i. chosen_of (lacks_one m (told i) c (single (lowest m us (are i)))) (single (lowest m us (are i))))
+      ∙ found_is ns c sure (ap is_empty (sym are) ∙ some_there among some)
+
+  pub none_found : (ns among : List ℕ) (c : ℕ) → is_unsure us ns ≡ false → among ≡ candidates m us ns c → (length among == 0) ≡ true → NoUnit ≡ looked_up m us ns c
+  none_found ns among c sure are empty =
+      sym ((λ i. if sure i then Untyped else if is_empty (candidates m us ns c) then NoUnit else chosen_of (is_ambiguous m us ns c) (chosen m us ns c))
+      ∙ (λ i. if (ap is_empty (sym are) ∙ none_there among empty) i then NoUnit else chosen_of (is_ambiguous m us ns c) (chosen m us ns c)))
+
+  -- one unit alone
+  itself : (d : ℕ) → descends m d d ≡ true
+  itself d = ap (λ b. b || is_element m d || reaches m d d) (eq-eqb d d refl)
+
+  none_lack : (p : ℕ → Bool) (xs : List ℕ) → ((x : ℕ) → p x ≡ false) → list_any p xs ≡ false
+  none_lack p [] fails = refl
+  none_lack p (x ∷ xs) fails = ap (λ b. b || list_any p xs) (fails x) ∙ none_lack p xs fails
+
+  module _ (n d : ℕ) (h : context_at us n ≡ Known (record { 0 = d })) where
+    alone_chosen : (c : ℕ) → descends m c d ≡ true → chosen m us (n ∷ []) c ≡ Some n
+    unfolding chosen
+    alone_chosen c up =
+        ap (λ b. single (lowest m us (if b then n ∷ [] else []))) (ap (λ k. is_above m k c) h ∙ up)
+        ∙ ap (λ b. single (if b && true then n ∷ [] else [])) ((λ i. is_below m (h i) (h i)) ∙ itself d)
+
+    alone_clear : (c : ℕ) → descends m c d ≡ true → is_ambiguous m us (n ∷ []) c ≡ false
+    unfolding is_ambiguous lacks_choice
+    alone_clear c up =
+        ap (λ o. not (is_some o) || list_any (lacks_choice m us (n ∷ []) c) (range_with_len 0 (length m.classes))) (alone_chosen c up)
+        ∙ none_lack (lacks_choice m us (n ∷ []) c) (range_with_len 0 (length m.classes))
+        (λ x. not_true (lacks_choice m us (n ∷ []) c x)
+        (λ l. clash (ap (λ o. not (is_some o)) (sym (alone_chosen x (t x c d (and_right (not (class_at m x).is_abstract) (descends m x c) (and_left (is_concrete_below m c x) (not (is_some (chosen m us (n ∷ []) x))) l)) up)))
+        ∙ and_right (is_concrete_below m c x) (not (is_some (chosen m us (n ∷ []) x))) l) refl))
+
+    alone_known : (c : ℕ) → looked_up m us (n ∷ []) c ≡ (if descends m c d then Chosen n else NoUnit)
+    alone_known c = by (descends m c d) refl
+      where
+        start : looked_up m us (n ∷ []) c ≡ (if is_empty (kept_if n (descends m c d)) then NoUnit else chosen_of (is_ambiguous m us (n ∷ []) c) (chosen m us (n ∷ []) c))
+        start = λ i. if (is_unknown (h i) || false) then Untyped else if is_empty (kept_if n (is_above m (h i) c)) then NoUnit else chosen_of (is_ambiguous m us (n ∷ []) c) (chosen m us (n ∷ []) c)
+
+        by : (b : Bool) → descends m c d ≡ b → looked_up m us (n ∷ []) c ≡ (if b then Chosen n else NoUnit)
+        by true e = start ∙ ap (λ b. if is_empty (kept_if n b) then NoUnit else chosen_of (is_ambiguous m us (n ∷ []) c) (chosen m us (n ∷ []) c)) e
+            ∙ (λ i. chosen_of (alone_clear c e i) (alone_chosen c e i))
+        by false e = start ∙ ap (λ b. if is_empty (kept_if n b) then NoUnit else chosen_of (is_ambiguous m us (n ∷ []) c) (chosen m us (n ∷ []) c)) e
+
+  pub alone_found : (n c : ℕ) (h : HeadClass) (d : ℕ) → h ≡ context_at us n → h ≡ Known (record { 0 = d }) → descends m c d ≡ true → Chosen n ≡ looked_up m us (n ∷ []) c
+  alone_found n c h d is known up = sym (alone_known n d (sym is ∙ known) c ∙ ap (λ b. if b then Chosen n else NoUnit) up)
+
+  alone_by : (n c : ℕ) (h : HeadClass) → context_at us n ≡ h → looked_up m us (n ∷ []) c ≡ found_alone m n h c
+  alone_by n c Missing h = λ i. if (is_unknown (h i) || false) then Untyped else if is_empty (if is_above m (h i) c then n ∷ [] else []) then NoUnit else chosen_of (is_ambiguous m us (n ∷ []) c) (chosen m us (n ∷ []) c)
+  alone_by n c Unknown h = λ i. if (is_unknown (h i) || false) then Untyped else if is_empty (if is_above m (h i) c then n ∷ [] else []) then NoUnit else chosen_of (is_ambiguous m us (n ∷ []) c) (chosen m us (n ∷ []) c)
+  alone_by n c (Known d) h = alone_known n d.0 h c
+
+  pub alone_is : (n c : ℕ) → found_alone m n (context_at us n) c ≡ looked_up m us (n ∷ []) c
+  alone_is n c = sym (alone_by n c (context_at us n) refl)
+
+-- The rows.
+
+helper_not_mapping : (s : UnitSort) → is_helper s ≡ true → is_mapping s ≡ false
+helper_not_mapping sort.Helper h = refl
+helper_not_mapping sort.Query h = refl
+helper_not_mapping sort.Class h = absurd (cc)
+helper_not_mapping sort.Main h = absurd (cc)
+helper_not_mapping sort.Constructor h = absurd (cc)
+helper_not_mapping (sort.Mapping n) h = absurd (cc)
+
+called_so : (maps : Bool) (s : UnitSort) → is_called maps s ≡ true → is_mapping s ≡ maps
+called_so true s h = h
+called_so false s h = helper_not_mapping s h
+
+-- the first unit of a name is called like the others
+pub same_group : (us : List Signature) (maps : Bool) (name : List ℕ) (f : ℕ) → first_of (group maps name us) ≡ Some f → group_of us f ≡ group maps name us
+unfolding group
+same_group us maps name f first =
+    let at : position (is_in_group maps name) us ≡ Some f = sym (first_where (is_in_group maps name) us) ∙ first in
+    let u : Signature = unit_at us f in
+    let passes : is_in_group maps name u ≡ true = (position-Some (is_in_group maps name) us f no_unit at).1 in
+    let rest : (bytes_eq name u.name && has_context u.context) ≡ true = and_right (is_called maps u.sort) (bytes_eq name u.name && has_context u.context) passes in
+    let like : is_mapping u.sort ≡ maps = called_so maps u.sort (and_left (is_called maps u.sort) (bytes_eq name u.name && has_context u.context) passes) in
+    let named : name ≡ u.name = same_bytes name u.name (and_left (bytes_eq name u.name) (has_context u.context) rest) in
+    (λ i. group (like i) (sym named i) us)
+
+first_below : (us : List Signature) (maps : Bool) (name : List ℕ) (f : ℕ) → first_of (group maps name us) ≡ Some f → f < length us
+unfolding group
+first_below us maps name f first = (position-Some (is_in_group maps name) us f no_unit (sym (first_where (is_in_group maps name) us) ∙ first)).0
+
+in_row : (m : Metamodels) (us : List Signature) (g : List ℕ) (c : ℕ) (x : Found) → slice_get (row m us g) c ≡ Some x → x ≡ looked_up m us g c
+unfolding row
+in_row m us g c x at = by (are_several g) refl at
+  where
+    by : (b : Bool) → are_several g ≡ b → slice_get (if b then map (looked_up m us g) (range_with_len 0 (length m.classes)) else []) c ≡ Some x → x ≡ looked_up m us g c
+    by true e h = sym (get_or_from_slice_get (map (looked_up m us g) (range_with_len 0 (length m.classes))) c x NoUnit h)
+        ∙ get_or-map-range_with_len (looked_up m us g) 0 (length m.classes) c c NoUnit (c_below (slice_get_within (map (looked_up m us g) (range_with_len 0 (length m.classes))) c x h)) (omega arith)
+      where
+        c_below : c < length (map (looked_up m us g) (range_with_len 0 (length m.classes))) → c < length m.classes
+        c_below l = subst (λ k. c < k) (length-map-range_with_len (looked_up m us g) 0 (length m.classes)) l
+    by false e h = absurd (cc)
+
+-- what stands in the row of the first unit of a name
+pub row_found : (m : Metamodels) (us : List Signature) (rows : List (List Found)) (maps : Bool) (name : List ℕ) (f c : ℕ) (x : Found)
+    → rows ≡ unit_rows m us (length us) → first_of (group maps name us) ≡ Some f → row_at rows f c ≡ Some x → x ≡ looked_up m us (group maps name us) c
+unfolding unit_row
+row_found m us rows maps name f c x are first at =
+    let g : List ℕ = group maps name us in
+    let same : group_of us f ≡ g = same_group us maps name f first in
+    let here : get_or rows f [] ≡ row m us g =
+    ap (λ rs. get_or rs f []) are
+    ∙ get_or-map-range_with_len (unit_row m us) 0 (length us) f f [] (first_below us maps name f first) (omega arith)
+    ∙ (λ i. if is_first f (first_of (same i)) then row m us (same i) else [])
+    ∙ ap (λ o. if is_first f o then row m us g else []) first
+    ∙ ap (λ b. if b then row m us g else []) (eq-eqb f f refl) in
+    in_row m us g c x (ap (λ r. slice_get r c) (sym here) ∙ at)

@@ -1,0 +1,5 @@
+pub mod Lists
+pub mod Firsts
+pub mod Keys
+pub mod Lowest
+pub mod Chosen

@@ -1,0 +1,12 @@
+use Rattle.std.proofs.Common.{◌∙◌, ◌<◌, ◌++◌, [], ◌∷◌, length, ap, arith}
+use Rattle.std.specs.Prelude.{if◌then◌else◌}
+use Rattle.qvt_types_units.specs.declared.signature.Signature.{Signature}
+use Rattle.qvt_types_groups.specs.Lists.{is_listed, numbers_under}
+use Rattle.qvt_types_groups.proofs.Lists.{where_next}
+use Rattle.qvt_types_groups.proofs.unit_lists.lists_of.Goals as goal
+
+pub loop-number-preserved : goal.loop-number-preserved
+loop-number-preserved c = λ name. where_next (is_listed c.args.maps c.args.with_context name) c.args.units.now c.loop-number.number c.index-units-number.result _ (numbers_under c.loop-number.all name) _
+    (let low : c.loop-number.number < length c.args.units.now = omega (arith, c.loop-number-test.true) in low)
+    (c.loop-number.invariant name)
+    (c.in_ok-all.ensures name ∙ ap (λ (u : Signature). numbers_under c.loop-number.all name ++ (if is_listed c.args.maps c.args.with_context name u then c.loop-number.number ∷ [] else [])) c.index-units-number.is)

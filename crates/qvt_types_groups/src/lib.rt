@@ -1,0 +1,11 @@
+//! The units of a transformation by their names, and the choice among those of a name.
+#![tactic(auto)]
+
+pub mod candidates;
+pub mod choices;
+pub mod class_keys;
+pub mod class_table;
+pub mod number_lists;
+pub mod unit_lists;
+pub mod unit_names;
+pub mod units;

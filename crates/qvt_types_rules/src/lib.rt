@@ -1,0 +1,11 @@
+//! How typing settles a node whose parts are judged.
+#![tactic(auto)]
+
+pub mod assignments;
+pub mod heads;
+pub mod leaves;
+pub mod objects;
+pub mod parts;
+pub mod resolves;
+pub mod settling;
+pub mod statements;
