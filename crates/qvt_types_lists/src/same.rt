@@ -77,5 +77,7 @@ pub fn tell_same(units: &UnitNames, log: &mut RefusalList) -> Result<(), ListFau
 pub fn tell_main(units: &UnitNames, end: Place, log: &mut RefusalList) -> Result<(), ListFault>
     ensures { OnOk result (log.new ≡ log.old ++ units_told.main_told units.now end) }
 {
-    tell_if(log, units.main().is_none(), RefusalKind::NoMain, end)
+    let missing = units.main().is_none();
+    tell_if(log, missing, RefusalKind::NoMain, end)?;
+    Ok(())
 }

@@ -16,4 +16,4 @@ returns-then-has_same c = λ name p r. stood_for c.args.maps c.args.units.now c.
     ∙ ap (list_any (λ n. nat_lt n (length c.args.units.now) && same_row (unit_at c.args.units.now n) c.args.unit.now)) (sym c.find.ensures) ∙ sym c.has_same.ensures ∙ c.if-has_same.true) r
 
 pub returns : goal.returns
-returns c = λ name p r. put_there c.args.maps c.args.units.now c.args.unit.now c.args.number c.args.kept _ name p (sym c.is_one.ensures ∙ c.if-not-is_one.false) c.requires (c.in_ok-all.ensures name ∙ ap (λ x. numbers_under c.args.kept name ++ (if bytes_eq name x then c.args.number ∷ [] else [])) c.as_str-2.ensures)
+returns c = λ name p r. put_there c.args.maps c.args.units.now c.args.unit.now c.args.number c.args.kept c.in_ok-all.all name p (sym c.is_one.ensures ∙ c.if-not-is_one.false) c.requires (c.in_ok-all.ensures name ∙ ap (λ x. numbers_under c.args.kept name ++ (if bytes_eq name x then c.args.number ∷ [] else [])) c.as_str-2.ensures)
