@@ -285,6 +285,7 @@ pub fn literal(
 }
 
 #[cycle(walk)]
+#[tactic(auto, unfolding(qvt_typing::specs::Phrases::given_expr))]
 pub fn given_expr(
     x: &Context<'_>,
     node: &Option<Expr>,
@@ -302,6 +303,7 @@ pub fn given_expr(
 }
 
 #[cycle(walk)]
+#[tactic(auto, unfolding(qvt_typing::specs::Phrases::given_expr))]
 pub fn given_boxed(
     x: &Context<'_>,
     node: &Option<Box<Expr>>,

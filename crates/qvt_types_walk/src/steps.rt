@@ -237,7 +237,7 @@ pub fn heading(
                 accumulator: &accumulator.name,
                 accumulator_place: accumulator.place,
             };
-            folding(x, &names, &head.kind, &accumulator.kind, &accumulator.first, &items, state)
+            folding(x, &accumulator.first, &names, &head.kind, &accumulator.kind, &items, state)
         }
     }
 }
@@ -247,10 +247,10 @@ pub fn heading(
 #[tactic(auto, unfolding(qvt_typing::specs::Rules::folding_heading))]
 pub fn folding(
     x: &Context<'_>,
+    first: &Expr,
     names: &FoldNames<'_>,
     kind: &Option<TypeTree>,
     accumulator_kind: &TypeTree,
-    first: &Expr,
     items: &Option<Ty>,
     state: &mut State,
 ) -> Result<Heading, ListFault>

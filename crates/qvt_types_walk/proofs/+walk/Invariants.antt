@@ -18,8 +18,8 @@ invariant-expressions::all_items-loop-next l = all l.types (phrase.all_items (se
 abbrev pub invariant-expressions::links-loop-next : goal.invariant-expressions::links-loop-next
 invariant-expressions::links-loop-next l = beside l.ty (phrase.links (seen l.x) (links_of (map link_view (drop l.next-index l.rest)))) l.state ≡ beside l.fn.first (phrase.links (seen l.x) (links_of (map link_view l.rest))) l.initial.state
 
-abbrev pub invariant-steps::all_steps-loop-next : goal.invariant-steps::all_steps-loop-next
-invariant-steps::all_steps-loop-next l = beside l.ty (phrase.steps (seen l.x) l.late l.is_first (steps_of (map step_view (drop l.next-index l.list)))) l.state ≡ beside l.fn.first (phrase.steps (seen l.x) l.late l.is_model (steps_of (map step_view l.list))) l.initial.state
+abbrev pub invariant-steps::all_steps-loop-at : goal.invariant-steps::all_steps-loop-at
+invariant-steps::all_steps-loop-at l = beside l.ty (phrase.steps (seen l.x) l.late l.is_first (steps_of (map step_view (drop l.at l.list)))) l.state ≡ beside l.fn.first (phrase.steps (seen l.x) l.late l.is_model (steps_of (map step_view l.list))) l.initial.state
 
 abbrev pub invariant-statements::stmts-loop-next : goal.invariant-statements::stmts-loop-next
 invariant-statements::stmts-loop-next l = each (phrase.stmts (seen l.x) (stmts_of (map stmt_view (drop l.next-index l.body)))) l.state ≡ each (phrase.stmts (seen l.x) (stmts_of (map stmt_view l.body))) l.initial.state
