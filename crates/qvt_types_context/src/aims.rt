@@ -129,9 +129,7 @@ pub fn aim_read(alloc: Global, aim: &Aim) -> Result<Read, ListFault>
     ensures { IfOk result (λ r. r ≡ aims.aim_read aim.now) }
 {
     match aim {
-        Aim::VariableOf(name, _) => {
-            Ok(Read::plain(Reading::Variable(name.copy(alloc)?), None))
-        }
+        Aim::VariableOf(name, _) => { Ok(Read::plain(Reading::Variable(name.copy(alloc)?), None)) }
         Aim::Property(source, feature) => Ok(Read {
             reading: Reading::Feature(*feature),
             source: match source {

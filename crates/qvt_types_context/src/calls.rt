@@ -18,11 +18,11 @@ use qvt_types_data::refusal::RefusalKind;
 use qvt_types_data::ruling::{Read, Ruling};
 use qvt_types_data::ty::{Ty, copied};
 use qvt_types_data::variable::Variable;
+use qvt_types_groups::units::Units;
 use qvt_types_steps::classes::ClassPart;
 use qvt_types_steps::units::{arguments_wrong, mapping_step, static_class, unit_step};
 use qvt_types_units::choice::Found;
 use qvt_types_units::signature::{HeadClass, Signature, UnitSort};
-use qvt_types_groups::units::Units;
 use qvt_typing::parts::{Called, Effect};
 use std::alloc::Global;
 
@@ -95,12 +95,7 @@ fn is_unsure(alloc: Global, heads: &Heads<'_>, units: &[u32]) -> bool
 }
 
 /// What is called, or nothing that is known where the context of one unit of the name is unknown.
-fn unless_unsure(
-    alloc: Global,
-    heads: &Heads<'_>,
-    units: UnitNoList,
-    called: Called,
-) -> Called
+fn unless_unsure(alloc: Global, heads: &Heads<'_>, units: UnitNoList, called: Called) -> Called
     ensures { result ≡ calls.unless_unsure (heads_seen heads.now) units called }
 {
     if is_unsure(alloc, heads, units.as_slice()) {
@@ -212,11 +207,7 @@ pub fn called_alone(
 }
 
 /// The numbers of those of the units that are mappings.
-pub fn numbers_of(
-    alloc: Global,
-    heads: &Heads<'_>,
-    units: &[u32],
-) -> Result<MappingList, ListFault>
+pub fn numbers_of(alloc: Global, heads: &Heads<'_>, units: &[u32]) -> Result<MappingList, ListFault>
     ensures { IfOk result (λ ns. ns ≡ calls.numbers_of (heads_seen heads.now) units.now) }
 {
     let none = no_unit(alloc);
@@ -263,7 +254,11 @@ fn unit_called(
         Found::Chosen(number) => {
             let none = no_unit(alloc);
             let unit = unit_at(heads.units, number, &none);
-            match arguments_wrong(heads.units.metas(), unit.params.as_slice(), types.as_slice()) {
+            match arguments_wrong(
+                heads.units.metas(),
+                unit.params.as_slice(),
+                types.as_slice(),
+            ) {
                 None => Ok(number),
                 Some(kind) => Err(Ruling::Fails(kind)),
             }

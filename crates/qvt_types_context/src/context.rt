@@ -10,11 +10,11 @@ use qvt_types_classes::classes::is_typed;
 use qvt_types_data::note::Reading;
 use qvt_types_data::ruling::Ruling;
 use qvt_types_data::ty::Ty;
+use qvt_types_groups::units::Units;
 use qvt_types_paths::model_types::TypeNames;
 use qvt_types_paths::models::Models;
 use qvt_types_steps::classes::ClassPart;
 use qvt_types_steps::iterators::{IteratorKind, row_of};
-use qvt_types_groups::units::Units;
 use std::alloc::Global;
 
 /// What the heads of a transformation declare.

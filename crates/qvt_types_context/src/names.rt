@@ -91,11 +91,7 @@ fn literal_ruled(literal: Result<LiteralRef, RefusalKind>) -> Ruling
 {
     match literal {
         Ok(literal) => {
-            let reading = Reading::Literal(
-                literal.metamodel,
-                literal.enumeration,
-                literal.literal,
-            );
+            let reading = Reading::Literal(literal.metamodel, literal.enumeration, literal.literal);
             let ty = Ty::Enum(literal.metamodel, literal.enumeration);
             Ruling::Holds(Read::plain(reading, Some(ty)))
         }

@@ -7,12 +7,12 @@ ghost use Rattle.qvt_types_states.specs.Does.{Does};
 ghost use Rattle.qvt_typing.specs.Aims as aims;
 ghost use Rattle.qvt_typing.specs.Statements as rule_of;
 
-use qvt_types_context::aims::{aim_read, bare_aim, changes_property, member_aim, result_aim};
-use qvt_types_context::context::{Context, Heads};
 use crate::settling::not_pure;
 use qvt_base::list_fault::ListFault;
 use qvt_base::numbers::Place;
 use qvt_base::text::Text;
+use qvt_types_context::aims::{aim_read, bare_aim, changes_property, member_aim, result_aim};
+use qvt_types_context::context::{Context, Heads};
 use qvt_types_data::refusal::RefusalKind;
 use qvt_types_data::ty::Ty;
 use qvt_types_states::state::State;
@@ -60,11 +60,7 @@ pub fn bare_target(
 }
 
 #[tactic(auto, unfolding(qvt_typing::specs::Statements::result_target))]
-pub fn result_target(
-    x: &Context<'_>,
-    place: Place,
-    state: &mut State,
-) -> Result<Aim, ListFault>
+pub fn result_target(x: &Context<'_>, place: Place, state: &mut State) -> Result<Aim, ListFault>
     ensures { Does (rule_of.result_target (seen x.now) place state.old) result state.new }
 {
     let aim = result_aim(x)?;
@@ -98,7 +94,13 @@ fn aimed_wrong(heads: &Heads<'_>, adds: bool, aim: &Aim, ty: &Ty) -> Option<Refu
         Aim::Property(_, feature) => {
             let shape = heads.units.metas().shape(*feature);
             let single = shape.upper == Some(1);
-            property_wrong(heads.units.metas(), adds, single, &value_type(shape.kind), ty)
+            property_wrong(
+                heads.units.metas(),
+                adds,
+                single,
+                &value_type(shape.kind),
+                ty,
+            )
         }
     }
 }

@@ -7,14 +7,14 @@ ghost use Rattle.qvt_types_states.specs.Does.{Does};
 ghost use Rattle.qvt_typing.specs.Phrases as phrase;
 ghost use Rattle.qvt_typing.specs.Rules as rule;
 
-use qvt_types_context::context::Context;
 use crate::leaves::type_if;
-use qvt_types_context::names::{source, unnamed};
 use qvt_base::copied::Copied;
 use qvt_base::list_fault::ListFault;
 use qvt_base::numbers::Place;
 use qvt_base::text::Text;
 use qvt_tree_types::types::TypeTree;
+use qvt_types_context::context::Context;
+use qvt_types_context::names::{source, unnamed};
 use qvt_types_data::refusal::RefusalKind;
 use qvt_types_data::ty::{Ty, copied};
 use qvt_types_data::variable::VariableSort;
@@ -45,11 +45,7 @@ pub fn no_head(
 }
 
 /// What an iterator is in scope, by the type that may be written and that of the items.
-fn iterator_known(
-    x: &Context<'_>,
-    kind: &Given,
-    items: &Option<Ty>,
-) -> Result<Known, ListFault>
+fn iterator_known(x: &Context<'_>, kind: &Given, items: &Option<Ty>) -> Result<Known, ListFault>
     ensures { IfOk result (λ k. k ≡ rule.iterator_known kind.now items.now) }
 {
     Ok(Known {
@@ -97,7 +93,10 @@ pub fn plain_heading(
     let known = iterator_known(x, &kind, items)?;
     let is_new = declare_head(x, name, known, place, state)?;
     writes_nothing(state)?;
-    Ok(if_new(is_new, plain_head(x.heads.units.metas(), kind.is_given, &kind.ty, items)))
+    Ok(if_new(
+        is_new,
+        plain_head(x.heads.units.metas(), kind.is_given, &kind.ty, items),
+    ))
 }
 
 fn unless_folding_fails(heading: &Heading, told: Option<RefusalKind>) -> Option<RefusalKind>
@@ -149,7 +148,11 @@ pub fn folded(
 {
     let metas = x.heads.units.metas();
     checked(fold_wrong(x, kind, items, ty, first)?, names.place, state)?;
-    checked(accumulator_wrong(metas, ty, first), names.accumulator_place, state)?;
+    checked(
+        accumulator_wrong(metas, ty, first),
+        names.accumulator_place,
+        state,
+    )?;
     writes_nothing(state)?;
     let known = iterator_known(x, kind, items)?;
     let is_new = declare_head(x, names.iterator, known, names.place, state)?;

@@ -7,14 +7,16 @@ ghost use Rattle.qvt_types_states.specs.Does.{Does};
 ghost use Rattle.qvt_typing.specs.Phrases as phrase;
 ghost use Rattle.qvt_typing.specs.Rules as rule;
 
-use qvt_types_context::context::Context;
-use qvt_types_context::names::{class_found, class_ruled, path_ruled, result_ruled, self_ruled, type_ruled};
 use crate::settling::ruled;
 use qvt_base::copied::Copied;
 use qvt_base::list_fault::ListFault;
 use qvt_base::numbers::Place;
 use qvt_tree_types::types::{PathTree, TypeTree};
 use qvt_tree_types::words::CollKind;
+use qvt_types_context::context::Context;
+use qvt_types_context::names::{
+    class_found, class_ruled, path_ruled, result_ruled, self_ruled, type_ruled,
+};
 use qvt_types_data::boxed::Boxed;
 use qvt_types_data::note::Reading;
 use qvt_types_data::refusal::RefusalKind;
@@ -61,11 +63,7 @@ pub fn path(
 }
 
 #[tactic(auto, unfolding(qvt_typing::specs::Rules::named_type))]
-fn named_type(
-    x: &Context<'_>,
-    path: &PathTree,
-    state: &mut State,
-) -> Result<Option<Ty>, ListFault>
+fn named_type(x: &Context<'_>, path: &PathTree, state: &mut State) -> Result<Option<Ty>, ListFault>
     ensures { Does (rule.named_type (seen x.now) path.now state.old) result state.new }
 {
     let ty = path_type(x.heads.given, x.heads.types, path.names.as_slice());

@@ -8,15 +8,15 @@ ghost use Rattle.qvt_types_units.specs.Numbers.{constructor_of};
 ghost use Rattle.qvt_typing.specs.Phrases as phrase;
 ghost use Rattle.qvt_typing.specs.Rules as rule;
 
-use qvt_types_context::calls::{no_unit, unit_at};
-use qvt_types_context::context::Context;
-use qvt_types_context::names::{made_read, result_ruled, variable_ruled};
 use crate::settling::tell_effect;
 use qvt_base::list_fault::ListFault;
 use qvt_base::numbers::{ClassNo, ExprNo, Place};
 use qvt_base::seq::Seq;
 use qvt_base::text::Text;
 use qvt_tree_types::types::ObjectVar;
+use qvt_types_context::calls::{no_unit, unit_at};
+use qvt_types_context::context::Context;
+use qvt_types_context::names::{made_read, result_ruled, variable_ruled};
 use qvt_types_data::refusal::RefusalKind;
 use qvt_types_data::ruling::Ruling;
 use qvt_types_data::ty::{Ty, same};
@@ -224,7 +224,11 @@ pub fn constructed(
 ) -> Result<Option<Ty>, ListFault>
     ensures { Does (rule.constructed (seen x.now) number class.0 class.1 name.now types.now place state.old) result state.new }
 {
-    let beside = if types.is_some() { class.0 } else { ClassPart::Untyped };
+    let beside = if types.is_some() {
+        class.0
+    } else {
+        ClassPart::Untyped
+    };
     tell_extent(x, name, beside, place, state)?;
     let ruling = new_ruled(x, name, class.0, types)?;
     let at = new_place(&ruling, class.1, place);

@@ -8,8 +8,6 @@ ghost use Rattle.qvt_types_states.specs.Does.{Does};
 ghost use Rattle.qvt_typing.specs.Phrases as phrase;
 ghost use Rattle.qvt_typing.specs.Rules as rule;
 
-use qvt_types_context::context::Context;
-use qvt_types_context::names::names_model;
 use qvt_base::copied::Copied;
 use qvt_base::list_fault::ListFault;
 use qvt_base::seq::Seq;
@@ -17,6 +15,8 @@ use qvt_base::text::Text;
 use qvt_tree_types::tree::{Expr, Step};
 use qvt_tree_types::types::PathTree;
 use qvt_tree_types::words::Sign;
+use qvt_types_context::context::Context;
+use qvt_types_context::names::names_model;
 use qvt_types_data::ruling::Ruling;
 use qvt_types_data::ty::Ty;
 use qvt_types_states::scope::Scope;
@@ -67,7 +67,15 @@ pub fn model_path<'a>(
     let Expr::Path(path) = first else {
         return None;
     };
-    let [Step::Dot { name, args: Some(_), .. }, ..] = list else {
+    let [
+        Step::Dot {
+            name,
+            args: Some(_),
+            ..
+        },
+        ..
+    ] = list
+    else {
         return None;
     };
     let is_model = names_model(&x.heads, scope, path.names.as_slice());

@@ -6,27 +6,27 @@ ghost use Rattle.qvt_types_states.specs.Does.{Does};
 ghost use Rattle.qvt_typing.specs.Phrases as phrase;
 ghost use Rattle.qvt_typing.specs.Rules as rule;
 
-use qvt_types_context::calls::{no_unit, numbers_of, unit_at};
-use qvt_types_context::context::Context;
-use qvt_types_context::names::{class_type, source, unnamed};
 use crate::settling::tell_effect;
 use qvt_base::list_fault::ListFault;
 use qvt_base::numbers::Place;
 use qvt_base::text::Text;
 use qvt_tree_types::types::PathTree;
 use qvt_tree_types::words::ResolveWord;
+use qvt_types_context::calls::{no_unit, numbers_of, unit_at};
+use qvt_types_context::context::Context;
+use qvt_types_context::names::{class_type, source, unnamed};
 use qvt_types_data::note::Reading;
 use qvt_types_data::refusal::RefusalKind;
 use qvt_types_data::ruling::{Read, Ruling};
 use qvt_types_data::ty::Ty;
 use qvt_types_data::variable::VariableSort;
+use qvt_types_lists::listed::listed;
 use qvt_types_states::scope::Known;
 use qvt_types_states::state::State;
 use qvt_types_states::steps::{add_source, declare, marks, settled, tell, writes_nothing};
 use qvt_types_steps::classes::ClassPart;
 use qvt_types_steps::resolves as ruling_of;
 use qvt_types_steps::resolves::{Joint, class_within};
-use qvt_types_lists::listed::listed;
 use qvt_types_units::signature::HeadClass;
 use qvt_typing::parts::{Effect, Filtered, Given, Within};
 
@@ -54,11 +54,7 @@ fn within_of(unit: Result<u32, RefusalKind>) -> Within
 
 /// A path that names a mapping.
 #[tactic(auto, unfolding(qvt_typing::specs::Rules::listed_path))]
-pub fn listed_path(
-    x: &Context<'_>,
-    path: &PathTree,
-    state: &mut State,
-) -> Result<Within, ListFault>
+pub fn listed_path(x: &Context<'_>, path: &PathTree, state: &mut State) -> Result<Within, ListFault>
     ensures { Does (rule.listed_path (seen x.now) path.now state.old) result state.new }
 {
     let names = path.names.as_slice();
@@ -120,7 +116,13 @@ pub fn filter_settled(
     ensures { Does (rule.filter_settled (seen x.now) class condition.now place state.old) result state.new }
 {
     let kind = class_type(class);
-    let ruling = ruling_of::filter(x.alloc, x.heads.units.metas(), &kind, condition.is_given, &condition.ty)?;
+    let ruling = ruling_of::filter(
+        x.alloc,
+        x.heads.units.metas(),
+        &kind,
+        condition.is_given,
+        &condition.ty,
+    )?;
     let part = match &ruling {
         Ruling::Holds(_) => class,
         _ => ClassPart::Untyped,
@@ -141,12 +143,7 @@ pub fn head_part(class: HeadClass) -> ClassPart
 }
 
 /// The class that is looked for.
-fn looked_for(
-    x: &Context<'_>,
-    word: ResolveWord,
-    within: Within,
-    filter: Filtered,
-) -> ClassPart
+fn looked_for(x: &Context<'_>, word: ResolveWord, within: Within, filter: Filtered) -> ClassPart
     ensures { result ≡ rule.looked_for (seen x.now) word within filter }
 {
     match (within, filter) {

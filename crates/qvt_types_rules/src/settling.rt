@@ -8,9 +8,9 @@ ghost use Rattle.qvt_typing.specs.declared.parts.Effect.TheVariants as effects;
 ghost use Rattle.qvt_typing.specs.Calls as calls;
 ghost use Rattle.qvt_typing.specs.Rules as rule;
 
-use qvt_types_context::context::Context;
 use qvt_base::list_fault::ListFault;
 use qvt_base::numbers::{ExprNo, Place};
+use qvt_types_context::context::Context;
 use qvt_types_data::note::Reading;
 use qvt_types_data::refusal::RefusalKind;
 use qvt_types_data::ruling::{Read, Ruling};

@@ -10,11 +10,11 @@ ghost use Rattle.qvt_types_words.specs.Rulings as ruling;
 ghost use Rattle.qvt_types_words.specs.Types.{conforms as conforms_to};
 ghost use Rattle.qvt_typing.specs.Statements as rule_of;
 
-use qvt_types_context::context::{Context, Returns};
 use qvt_base::list_fault::ListFault;
 use qvt_base::numbers::Place;
 use qvt_base::seq::Seq;
 use qvt_base::text::Text;
+use qvt_types_context::context::{Context, Returns};
 use qvt_types_data::note::Reading;
 use qvt_types_data::refusal::RefusalKind;
 use qvt_types_data::ruling::Read;
@@ -41,7 +41,13 @@ pub fn declared(
 ) -> Result<(), ListFault>
     ensures { Does (rule_of.declared (seen x.now) name.now kind.now value.now place state.old) result state.new }
 {
-    let wrong = var_wrong(x.heads.units.metas(), kind.is_given, &kind.ty, value.is_given, &value.ty);
+    let wrong = var_wrong(
+        x.heads.units.metas(),
+        kind.is_given,
+        &kind.ty,
+        value.is_given,
+        &value.ty,
+    );
     checked(wrong, place, state)?;
     let known = Known {
         sort: VariableSort::Settable,
@@ -119,7 +125,11 @@ pub fn tell_condition(
 ) -> Result<(), ListFault>
     ensures { Does (rule_of.condition_checked (seen x.now) condition.now place state.old) result state.new }
 {
-    checked(conforms_told(x, &Some(Ty::Boolean), condition), place, state)
+    checked(
+        conforms_told(x, &Some(Ty::Boolean), condition),
+        place,
+        state,
+    )
 }
 
 /// Whether the condition is a Boolean, where it has a type.
@@ -156,7 +166,11 @@ fn are_conditions(x: &Context<'_>, types: &Option<Seq<Ty>>) -> bool
 fn wrong_unless(right: bool) -> Option<RefusalKind>
     ensures { result ≡ ruling.wrong_unless right }
 {
-    if right { None } else { Some(RefusalKind::WrongType) }
+    if right {
+        None
+    } else {
+        Some(RefusalKind::WrongType)
+    }
 }
 
 /// Tells that a condition of an `if` is no Boolean.
