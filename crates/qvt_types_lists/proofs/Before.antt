@@ -1,6 +1,6 @@
 -- The first place at which a test passes, and the items before a place.
 use Rattle.std.proofs.Common.{◌≡◌, ◌∙◌, ℕ, zero, suc, ◌+◌, ◌<◌, ◌≤◌, List, [], ◌∷◌, take, Bool, true, false, not, ◌||◌, Option, Some, None, position, refl, sym, ap, arith}
-use Rattle.std.specs.Prelude.{if◌then◌else◌, nat_lt, is_none, is_some}
+use Rattle.std.specs.Prelude.{if◌then◌else◌, nat_lt}
 use Rattle.std.specs.List.{list_any}
 use Rattle.std.proofs.lemmas.Bool.{lt-ltb, ltb-true}
 use Rattle.qvt_meta_names.proofs.Tables.{first_at, first-position}
@@ -35,6 +35,6 @@ none_from p n (x ∷ xs) fails = ap (λ b. if b then Some n else first_at p (n +
 pub nowhere : {X : Type 0} (p : X → Bool) (xs : List X) → ((x : X) → p x ≡ false) → None ≡ position p xs
 nowhere p xs fails = sym (none_from p 0 xs fails) ∙ first-position p xs
 
-pub none_is_not : {X : Type 0} (o : Option X) → is_none o ≡ not (is_some o)
-none_is_not None = refl
-none_is_not (Some x) = refl
+pub twice : (b : Bool) → b ≡ not (not b)
+twice true = refl
+twice false = refl
