@@ -27,7 +27,7 @@ abbrev pub has_one_if : Bool → List ℕ → List JobModel → Bool
 has_one_if is_wanted name models = times name models == (if is_wanted then 1 else 0)
 
 -- a parameter that is read is once among the inputs, else not at all; one that is written once among the outputs, else not at all
-abbrev pub is_served : Job → ModelParam → Bool
+unfoldable pub is_served : Job → ModelParam → Bool
 is_served job p = has_one_if (is_read p.direction) p.name job.inputs && has_one_if (is_written p.direction) p.name job.outputs
 
 abbrev pub unserved : Job → List ModelParam → Option (List ℕ)

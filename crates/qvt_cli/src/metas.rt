@@ -92,8 +92,9 @@ pub fn read_metamodels<F: Files>(
 {
     let mut metas = Metas::new(alloc);
     for name in names {
-        if let Err(stop) = read_metamodel(alloc, files, &mut metas, name) {
-            return Err(stop);
+        match read_metamodel(alloc, files, &mut metas, name) {
+            Err(stop) => return Err(stop),
+            Ok(()) => {}
         }
     }
     Ok(metas)

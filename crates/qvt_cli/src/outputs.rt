@@ -1,6 +1,6 @@
 //! What a run leaves: it is within its lower bounds, and is written.
 
-ghost use Rattle.std.specs.Prelude.{◌≡◌, Err, IfOk, IsTrue};
+ghost use Rattle.std.specs.Prelude.{◌≡◌, ◌==◌, Err, IfOk, IsTrue, position};
 ghost use Rattle.qvt_store.specs.Contents.{is_extent};
 ghost use Rattle.qvt_model.specs.Extents.{numbers, place_of, data_of};
 ghost use Rattle.qvt_model.specs.RunIds.{place_id};
@@ -27,11 +27,17 @@ use qvt_model::write::write_model;
 use qvt_store::store::Store;
 use std::alloc::Global;
 
-/// Where an object stands among others.
+fn position_of(members: &[Oid], object: Oid) -> Option<usize>
+    ensures { result ≡ position (λ member. object.0 == member.0) members.now }
+{
+    members.iter().position(|member| object.0 == member.0)
+}
+
+/// Where an object stands among the members of an extent.
 fn place_of(members: &[Oid], object: Oid) -> Option<usize>
     ensures { result ≡ place_of (numbers members.now) object.0 }
 {
-    members.iter().position(|member| object.0 == member.0)
+    position_of(members, object)
 }
 
 /// The id of the object that stands there.
@@ -92,7 +98,8 @@ fn outputs_of(
 {
     let mut outputs = Seq::new(alloc);
     for model in models {
-        outputs.push(output_of(alloc, store, &model.file)?)?;
+        let output = output_of(alloc, store, &model.file)?;
+        outputs.push(output)?;
     }
     Ok(outputs)
 }

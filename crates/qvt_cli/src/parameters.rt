@@ -48,6 +48,7 @@ fn has_one_if(models: &[JobModel], name: &str, is_wanted: bool) -> bool
 }
 
 /// Whether the job has what a parameter reads and writes, once, and nothing else for it.
+#[tactic(auto, unfolding(crate::specs::Parameters::is_served))]
 fn is_served(job: &Job, parameter: &ModelParam) -> bool
     ensures { result ≡ is_served job.now parameter.now }
 {
