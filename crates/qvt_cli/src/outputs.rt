@@ -87,11 +87,7 @@ fn output_of(alloc: Global, store: &Store, file: &Text) -> Result<Output, ListFa
 }
 
 /// The files of these models, each with the text of the model.
-fn outputs_of(
-    alloc: Global,
-    store: &Store,
-    models: &[JobModel],
-) -> Result<Seq<Output>, ListFault>
+fn outputs_of(alloc: Global, store: &Store, models: &[JobModel]) -> Result<Seq<Output>, ListFault>
     requires { HasOutput store.now }
     ensures written { IfOk result (λ outputs. files_in outputs ≡ written store.now models.now) }
     ensures ready { IfOk result (λ outputs. IsReady outputs) }

@@ -33,10 +33,7 @@ fn is_written(direction: Direction) -> bool
 fn times(models: &[JobModel], name: &str) -> usize
     ensures { result ≡ times name.now models.now }
 {
-    models
-        .iter()
-        .filter(|m| name == m.model.as_str())
-        .count()
+    models.iter().filter(|m| name == m.model.as_str()).count()
 }
 
 /// Whether these are once the model for the parameter of this name, or not at all, as is wanted.
@@ -54,7 +51,11 @@ fn is_served(job: &Job, parameter: &ModelParam) -> bool
 {
     let name = parameter.name.as_str();
     has_one_if(job.inputs.as_slice(), name, is_read(parameter.direction))
-        && has_one_if(job.outputs.as_slice(), name, is_written(parameter.direction))
+        && has_one_if(
+            job.outputs.as_slice(),
+            name,
+            is_written(parameter.direction),
+        )
 }
 
 /// The first parameter that the job does not serve.

@@ -166,12 +166,7 @@ fn done_line(alloc: Global, objects: usize, cost: u64) -> Result<Bytes, AllocErr
 
 /// Runs with the job's fuel, and makes every byte that is to be written.
 #[tactic(auto, unfolding(crate::specs::Run::performed))]
-fn perform_small(
-    alloc: Global,
-    job: &Job,
-    metas: &Metas,
-    run: &SmallRun,
-) -> Result<Plan, Stop>
+fn perform_small(alloc: Global, job: &Job, metas: &Metas, run: &SmallRun) -> Result<Plan, Stop>
     requires { IsTrue (have_names metas.now run.now.metamodel run.now.model) }
     ensures gives { Gives outcome_of result (performed job.now metas.now run.now) }
     ensures ready { IfOk result (λ p. IsReady p.outputs) }
@@ -207,12 +202,7 @@ fn perform_with_metas<F: Files>(
 }
 
 /// Reads the metamodels, then the text, and runs it.
-fn perform_job<F: Files>(
-    alloc: Global,
-    files: &mut F,
-    name: &Text,
-    job: &Job,
-) -> Result<Plan, Stop>
+fn perform_job<F: Files>(alloc: Global, files: &mut F, name: &Text, job: &Job) -> Result<Plan, Stop>
     ensures follows { Follows outcome_of (after_job name.now job.now) (F.seen files.old) result (F.seen files.new) }
     ensures ready { IfOk result (λ p. IsReady p.outputs) }
 {
