@@ -1,7 +1,7 @@
 //! What a run leaves: it is within its lower bounds, and is written.
 
 ghost use Rattle.std.specs.Prelude.{◌≡◌, ◌==◌, Err, IfOk, IsTrue, position};
-ghost use Rattle.qvt_store.specs.Contents.{is_extent};
+ghost use Rattle.qvt_store.specs.Contents.{extent_at, is_extent};
 ghost use Rattle.qvt_model.specs.Extents.{numbers, place_of, data_of};
 ghost use Rattle.qvt_model.specs.RunIds.{place_id};
 ghost use Rattle.qvt_model.specs.Written.{model_text};
@@ -55,16 +55,30 @@ fn id_text(alloc: Global, place: Option<usize>) -> Result<Text, ListFault>
     }
 }
 
-/// The end of a run where an object of the written model has too few items for a feature.
-fn low_stop(alloc: Global, store: &Store, low: LowFault) -> Result<Stop, ListFault>
+/// The name of the first extent.
+fn model_name(store: &Store) -> &Text
     requires { IsTrue (is_extent store.now 0) }
-    ensures stops { IfOk result (λ stop. Stops {A = Outcome} stop (Err (low_outcome store.now low))) }
-    ensures no_reads { IfOk result (λ stop. IsFaultWith stop (λ file. ⊥)) }
+    ensures { result.now ≡ (extent_at store.now 0).name }
 {
-    let model = store.extents().as_slice()[0].name.copy(alloc)?;
-    let id = id_text(alloc, place_of(store.extent(0), low.object))?;
-    let feature = Text::from_str(alloc, store.metas().feature_name(low.feature))?;
-    Ok(Stop::Low(model, id, feature))
+    &store.extents().as_slice()[0].name
+}
+
+/// The end of a run where an object of the written model has too few items for a feature.
+fn low_stop(alloc: Global, store: &Store, low: LowFault) -> Stop
+    requires { IsTrue (is_extent store.now 0) }
+    ensures stops { Stops {A = Outcome} result (Err (low_outcome store.now low)) }
+    ensures no_reads { IsFaultWith result (λ file. ⊥) }
+{
+    let Ok(model) = model_name(store).copy(alloc) else {
+        return Stop::NoMemory;
+    };
+    let Ok(id) = id_text(alloc, place_of(store.extent(0), low.object)) else {
+        return Stop::NoMemory;
+    };
+    let Ok(feature) = Text::from_str(alloc, store.metas().feature_name(low.feature)) else {
+        return Stop::NoMemory;
+    };
+    Stop::Low(model, id, feature)
 }
 
 /// A file that is to have the text of the model.
@@ -108,14 +122,11 @@ pub fn finished(alloc: Global, job: &Job, store: &Store, line: Bytes) -> Result<
     ensures ready { IfOk result (λ p. IsReady p.outputs) }
     ensures no_reads { IfFaultOf result (λ file. ⊥) }
 {
-    if let Err(low) = lower_bounds(store, 0) {
-        return match low_stop(alloc, store, low) {
-            Ok(stop) => Err(stop),
+    match lower_bounds(store, 0) {
+        Err(low) => Err(low_stop(alloc, store, low)),
+        Ok(()) => match outputs_of(alloc, store, job.outputs.as_slice()) {
             Err(_) => Err(Stop::NoMemory),
-        };
-    }
-    match outputs_of(alloc, store, job.outputs.as_slice()) {
-        Err(_) => Err(Stop::NoMemory),
-        Ok(outputs) => Ok(Plan { outputs, line }),
+            Ok(outputs) => Ok(Plan { outputs, line }),
+        },
     }
 }
