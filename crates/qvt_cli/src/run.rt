@@ -197,7 +197,7 @@ fn perform_with_metas<F: Files>(
 {
     match read_text(alloc, files, name, job, metas) {
         Err(stop) => Err(stop),
-        Ok(run) => perform_small(alloc, job, metas, &run),
+        Ok(small) => perform_small(alloc, job, metas, &small),
     }
 }
 

@@ -11,4 +11,4 @@ returns-in-Err-clause-follows g c = stopped (λ (run : SmallRun). run) outcome_o
 
 pub returns-in-Ok-clause-follows : goal.returns-in-Ok-clause-follows
 unfolding after_metas
-returns-in-Ok-clause-follows g c = stepped (λ (run : SmallRun). run) outcome_of (text_read c.args.name.now c.args.job.now c.args.metas.now) (λ (run : SmallRun). performed c.args.job.now c.args.metas.now run) (g.F.Files.seen c.args.files.now) (g.F.Files.seen c.read_text.new.files) c.in-Ok.run c.perform_small.result c.in-Ok.ensures.follows c.perform_small.ensures.gives c.perform_small.ensures.no_reads
+returns-in-Ok-clause-follows g c = stepped (λ (run : SmallRun). run) outcome_of (text_read c.args.name.now c.args.job.now c.args.metas.now) (λ (run : SmallRun). performed c.args.job.now c.args.metas.now run) (g.F.Files.seen c.args.files.now) (g.F.Files.seen c.read_text.new.files) c.in-Ok.small c.perform_small.result c.in-Ok.ensures.follows c.perform_small.ensures.gives c.perform_small.ensures.no_reads
