@@ -8,11 +8,16 @@ use qvt_base::seq::Seq;
 use qvt_cli::status::Status;
 use std::alloc::Global;
 
-const FILES: [(&str, &str); 3] = [
+const FILES: [(&str, &str); 5] = [
     (
         "job.json",
         "{\"fuel\":100,\"inputs\":[],\"metamodels\":[\"m.json\"],\"outputs\":[{\"file\":\"o.json\",\"model\":\"t\"}],\"text\":\"t.qvto\"}",
     ),
+    (
+        "jobs.json",
+        "{\"fuel\":100,\"inputs\":[],\"metamodels\":[\"n.json\",\"m.json\"],\"outputs\":[{\"file\":\"o.json\",\"model\":\"t\"}],\"text\":\"t.qvto\"}",
+    ),
+    ("n.json", "{\"classes\":[],\"name\":\"N\"}"),
     (
         "m.json",
         "{\"classes\":[{\"features\":[{\"name\":\"b\",\"type\":\"Integer\"},{\"name\":\"a\",\"type\":\"Integer\"}],\"name\":\"C\"}],\"name\":\"M\"}",
@@ -36,23 +41,32 @@ fn files_of(alloc: Global, failing: u64) -> Option<MemFiles> {
     Some(files)
 }
 
-/// What is to fail, the number of a call over the files and the number of a write to the sink (0 for none), and then the
-/// status, what the sink got, and what the output holds.
-type Case = (u64, u64, Status, &'static str, &'static str);
+const ONE: &str = "run job.json";
 
-const CASES: [Case; 5] = [
-    (0, 0, Status::Done, DONE, MODEL),
-    (2, 0, Status::ReadFault, "cannot read: m.json\n", ""),
-    (4, 0, Status::WriteFault, "cannot write: o.json\n", ""),
-    (0, 1, Status::WriteFault, "", MODEL),
-    (0, 2, Status::WriteFault, "don", MODEL),
+/// A run with two metamodels.
+const TWO: &str = "run jobs.json";
+
+/// The command; what is to fail, the number of a call over the files and the number of a write to the sink (0 for none);
+/// and then the status, what the sink got, and what the output holds.
+type Case = (&'static str, u64, u64, Status, &'static str, &'static str);
+
+const CASES: [Case; 9] = [
+    (ONE, 0, 0, Status::Done, DONE, MODEL),
+    (ONE, 2, 0, Status::ReadFault, "cannot read: m.json\n", ""),
+    (ONE, 4, 0, Status::WriteFault, "cannot write: o.json\n", ""),
+    (ONE, 0, 1, Status::WriteFault, "", MODEL),
+    (ONE, 0, 2, Status::WriteFault, "don", MODEL),
+    (TWO, 0, 0, Status::Done, DONE, MODEL),
+    (TWO, 2, 0, Status::ReadFault, "cannot read: n.json\n", ""),
+    (TWO, 3, 0, Status::ReadFault, "cannot read: m.json\n", ""),
+    (TWO, 4, 0, Status::ReadFault, "cannot read: t.qvto\n", ""),
 ];
 
 fn is_as_told(alloc: Global, case: &Case) -> Option<bool> {
-    let (failing, lost, expected, line, model) = case;
+    let (command, failing, lost, expected, line, model) = case;
     let mut files = files_of(alloc, *failing)?;
     let mut out = MemSink::new(alloc, Seq::from_slice(alloc, &[*lost]).ok()?, 3);
-    let status = call(alloc, "run job.json", &mut files, &mut out).ok()?;
+    let status = call(alloc, command, &mut files, &mut out).ok()?;
     let held = files.held("o.json").unwrap_or(b"");
     Some(status == *expected && out.bytes() == line.as_bytes() && held == model.as_bytes())
 }

@@ -1,12 +1,15 @@
 -- An early end by the fault of a file is one of what is stated.
-use Rattle.std.proofs.Common.{◌≡◌, ◌≢◌, ◌∙◌, ◌<◌, ap, sym, subst, arith, ℕ, List, false, Some, None, Result, Ok, Err, IfOk, IfErr}
+use Rattle.std.proofs.Common.{◌≡◌, ◌≢◌, ◌∙◌, ◌<◌, ap, sym, subst, arith, ℕ, List, length-append, true, false, Some, None, Result, Ok, Err, IfOk, IfErr}
 use Rattle.std.specs.Prelude.{nat_lt, length, if◌then◌else◌}
 use Rattle.qvt_model.specs.declared.data.ObjectData.{ObjectData}
 use Rattle.qvt_metamodel.specs.Metamodels.{Metamodels}
 use Rattle.qvt_metamodel.specs.Added.{added, numbered}
 use Rattle.qvt_metamodel.specs.Joined.{joined}
 use Rattle.qvt_metamodel.specs.declared.declared.MetaData.{MetaData}
-use Rattle.qvt_cli.specs.Metas.{no_metamodels}
+use Rattle.qvt_metamodel.specs.Named.{has_metamodel}
+use Rattle.qvt_metamodel.specs.declared.fault.MetasFault.{MetasFault}
+use Rattle.qvt_metamodel.specs.declared.fault.MetasFault.TheVariants.{SameMetamodel}
+use Rattle.qvt_cli.specs.Metas.{with_metamodel}
 use Rattle.qvt_conform.specs.Conformance.{IsWellFormed, conform_fault}
 use Rattle.qvt_model.specs.WellFormed.{IsModel}
 use Rattle.qvt_conform.specs.declared.fault.ConformFault.{ConformFault}
@@ -60,14 +63,20 @@ pub conform_goes_on : (m : Metamodels) (name : List ℕ) (os : List ObjectData) 
 unfolding conforming
 conform_goes_on m name os small none = ap (λ r. r >>= (λ n. unless_fault name n (conform_fault m os))) (few name (length os) small) ∙ ap (unless_fault name (length os)) none
 
-one_added : (d : MetaData) → 0 < length (added no_metamodels d).metamodels
+one_added : (m : Metamodels) (d : MetaData) → 0 < length (added m d).metamodels
 unfolding joined numbered
-one_added d = omega arith
+one_added m d = let more = length-append m.metamodels (numbered d).metamodels in omega (arith, more)
 
--- a metamodel alone is one
-pub some_metamodel : {F : Type 0} (r : Result Metamodels F) (d : MetaData) → IfOk r (λ m. m ≡ added no_metamodels d) → IfOk r (λ m. 0 < length m.metamodels)
-some_metamodel (Ok m) d h = subst (λ m. 0 < length m.metamodels) (sym h) (one_added d)
-some_metamodel (Err e) d h = h
+-- where one was added, there is one
+pub some_metamodel : (m now : Metamodels) (d : MetaData) → now ≡ added m d → 0 < length now.metamodels
+some_metamodel m now d h = subst (λ t. 0 < length t.metamodels) (sym h) (one_added m d)
+
+-- a metamodel of the name is there
+pub same_metamodel : (m : Metamodels) (d : MetaData) (why : MetasFault) → has_metamodel m d.name ≡ true → why ≡ SameMetamodel d.name → with_metamodel m d ≡ Err why
+same_metamodel m d why there is = ap (λ b. if b then Err (SameMetamodel d.name) else Ok (added m d)) there ∙ ap Err (sym is)
+
+pub new_metamodel : (m : Metamodels) (d : MetaData) → has_metamodel m d.name ≡ false → with_metamodel m d ≡ Ok (added m d)
+new_metamodel m d fresh = ap (λ b. if b then Err (SameMetamodel d.name) else Ok (added m d)) fresh
 
 -- a plan that was made, or want of memory
 pub planned : (r : Result Plan Stop) (o : Outcome) → IfOk r (λ p. outcome_of p ≡ o) → IfErr r (λ e. e ≡ stop.NoMemory) → Gives outcome_of r (Ok o)

@@ -34,6 +34,11 @@ infixl 10 ◌>=>◌
 abbrev pub ◌>=>◌ : {A B : Type 0} → Chain A → (A → Chain B) → Chain B
 c >=> f = λ held. behind (c held).names (on_ok (c held).answer (λ x. f x held))
 
+-- a chain for each item in order, over what the chains before it gave
+unfoldable pub folded : {A B : Type 0} → (B → A → Chain B) → B → List A → Chain B
+folded f b [] = step (Ok b)
+folded f b (x ∷ xs) = f b x >=> (λ c. folded f c xs)
+
 -- a file's bytes, or its refusal
 abbrev pub read_of : List ℕ → Look → Result (List ℕ) Outcome
 read_of name (found bytes) = Ok bytes

@@ -8,7 +8,7 @@ use Rattle.qvt_model.specs.declared.data.ObjectData.{ObjectData}
 use Rattle.qvt_conform.specs.Conformance.{conform_fault}
 use Rattle.qvt_conform.specs.declared.fault.ConformFault.{ConformFault}
 use Rattle.qvt_cli.specs.Outcome.{Outcome, refused, done, conforms_line}
-use Rattle.qvt_cli.specs.Metas.{metas_read}
+use Rattle.qvt_cli.specs.Metas.{no_metamodels, metamodel_read}
 use Rattle.qvt_cli.specs.Steps.{or_refused}
 use Rattle.qvt_cli.specs.Chain.{Chain, step, ◌>=>◌, read_step}
 use Rattle.qvt_cli.specs.declared.refusal.Refusal.TheVariants as refusal
@@ -42,4 +42,4 @@ unfoldable pub after_metamodel : List ℕ → Metamodels → Chain Outcome
 after_metamodel model metas = model_read model metas >=> (λ n. step (conforms n))
 
 unfoldable pub check_of : List ℕ → List ℕ → Chain Outcome
-check_of metamodel model = metas_read metamodel >=> after_metamodel model
+check_of metamodel model = metamodel_read no_metamodels metamodel >=> after_metamodel model

@@ -48,3 +48,7 @@ pub record Follows {X A : Type 0} (view : X → A) (chain : Chain A) (old : File
   pub reads : FailedBy result old new
   pub held : new.held ≡ old.held
   pub writes : new.writes ≡ old.writes
+
+-- a call that follows the rest from here on follows the whole from there on
+abbrev pub Continues : {X A : Type 0} (view : X → A) → Chain A → FilesSeen → Chain A → FilesSeen → Type 0
+Continues view whole old rest now = (result : Result _ Stop) (new : FilesSeen) → Follows view rest now result new → Follows view whole old result new

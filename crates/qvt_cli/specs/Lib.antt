@@ -5,6 +5,7 @@ pub mod Follows
 pub mod Job
 pub mod Metas
 pub mod Outcome
+pub mod Parameters
 pub mod Plans
 pub mod Reported
 pub mod Source

@@ -1,24 +1,33 @@
--- The metamodel of a file, alone.
-use Rattle.std.specs.Prelude.{ℕ, List, [], None, Result, Ok}
+-- The metamodels of files, in order: each has a name that none before it has.
+use Rattle.std.specs.Prelude.{ℕ, List, [], None, Result, Ok, Err, if◌then◌else◌}
 use Rattle.qvt_json.specs.Steps.{◌>>=◌}
 use Rattle.qvt_metamodel.specs.Metamodels.{Metamodels}
 use Rattle.qvt_metamodel.specs.Added.{added}
+use Rattle.qvt_metamodel.specs.Named.{has_metamodel}
 use Rattle.qvt_metamodel.specs.declared.declared.MetaData.{MetaData}
+use Rattle.qvt_metamodel.specs.declared.fault.MetasFault.{MetasFault}
+use Rattle.qvt_metamodel.specs.declared.fault.MetasFault.TheVariants.{SameMetamodel}
 use Rattle.qvt_meta.specs.MetaOf.{meta_of}
 use Rattle.qvt_cli.specs.Outcome.{Outcome}
 use Rattle.qvt_cli.specs.Steps.{or_refused}
-use Rattle.qvt_cli.specs.Chain.{Chain, step, ◌>=>◌, read_step}
+use Rattle.qvt_cli.specs.Chain.{Chain, step, folded, ◌>=>◌, read_step}
 use Rattle.qvt_cli.specs.declared.refusal.Refusal.TheVariants as refusal
 
 abbrev pub no_metamodels : Metamodels
 no_metamodels = record { metamodels = []; classes = []; features = []; element = None }
 
-abbrev pub alone : MetaData → Result Metamodels Outcome
-alone d = Ok (added no_metamodels d)
+-- one more, unless a metamodel of its name is there
+abbrev pub with_metamodel : Metamodels → MetaData → Result Metamodels MetasFault
+with_metamodel m d = if has_metamodel m d.name then Err (SameMetamodel d.name) else Ok (added m d)
 
-unfoldable pub metas_in : List ℕ → List ℕ → Result Metamodels Outcome
-metas_in name bytes = or_refused refusal.Metamodel name (meta_of bytes) >>= alone
+-- with the metamodel of a file's bytes
+unfoldable pub metas_in : Metamodels → List ℕ → List ℕ → Result Metamodels Outcome
+metas_in m name bytes = or_refused refusal.Metamodel name (meta_of bytes) >>= (λ d. or_refused refusal.Metamodels name (with_metamodel m d))
 
--- reads the metamodel
-unfoldable pub metas_read : List ℕ → Chain Metamodels
-metas_read name = read_step name 1048576 >=> (λ bytes. step (metas_in name bytes))
+-- reads a metamodel
+unfoldable pub metamodel_read : Metamodels → List ℕ → Chain Metamodels
+metamodel_read m name = read_step name 1048576 >=> (λ bytes. step (metas_in m name bytes))
+
+-- reads the metamodels of these files, in order
+unfoldable pub metamodels_read : List (List ℕ) → Chain Metamodels
+metamodels_read names = folded metamodel_read no_metamodels names

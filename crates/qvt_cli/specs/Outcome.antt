@@ -9,6 +9,8 @@ use Rattle.qvt_parsed.specs.declared.fault.ParseFault.{ParseFault}
 use Rattle.qvt_parsed.specs.declared.fault.ParseFault.TheVariants as parse
 use Rattle.qvt_metamodel.specs.declared.fault.MetaFault.{MetaFault}
 use Rattle.qvt_metamodel.specs.declared.fault.MetaFault.TheVariants as meta
+use Rattle.qvt_metamodel.specs.declared.fault.MetasFault.{MetasFault}
+use Rattle.qvt_metamodel.specs.declared.fault.MetasFault.TheVariants as metas
 use Rattle.qvt_model.specs.declared.data.ModelFault.{ModelFault}
 use Rattle.qvt_model.specs.declared.data.ModelFault.TheVariants as model
 use Rattle.qvt_conform.specs.declared.fault.ConformFault.{ConformFault}
@@ -84,6 +86,10 @@ metamodel_text (meta.BadBounds class feature) = with_two (codes "BadBounds") cla
 metamodel_text (meta.BadOpposite class feature) = with_two (codes "BadOpposite") class feature
 metamodel_text (meta.SameFeature class feature) = with_two (codes "SameFeature") class feature
 
+abbrev pub metamodels_text : MetasFault → List ℕ
+metamodels_text metas.NoMemory = codes "no memory"
+metamodels_text (metas.SameMetamodel name) = with_one (codes "SameMetamodel") name
+
 abbrev pub model_text : ModelFault → List ℕ
 model_text model.NoMemory = codes "no memory"
 model_text model.Json = codes "Json"
@@ -109,11 +115,13 @@ refusal_text refusal.Missing = codes "Missing"
 refusal_text refusal.TooLarge = codes "TooLarge"
 refusal_text (refusal.Job why) = job_text why
 refusal_text (refusal.Metamodel why) = metamodel_text why
+refusal_text (refusal.Metamodels why) = metamodels_text why
 refusal_text (refusal.Model why) = model_text why
 refusal_text refusal.TooManyObjects = codes "TooManyObjects"
 refusal_text (refusal.Conform why) = conform_text why
 refusal_text refusal.Utf8 = codes "Utf8"
 refusal_text (refusal.Parse why) = parse_text why
+refusal_text (refusal.JobModels model) = with_one (codes "JobModels") model
 refusal_text refusal.NotBuilt = codes "NotBuilt"
 
 abbrev pub usage_line : List ℕ

@@ -1,78 +1,82 @@
--- What `run JOB` does over the bytes that the files hold: the job, its metamodel, its text, the fuel, in this order.
-use Rattle.std.specs.Prelude.{ℕ, List, [], ◌∷◌, length, nat_lt, if◌then◌else◌, Option, Some, None, option_and_then, Result, Ok, Err}
-use Rattle.qvt_json.specs.Steps.{◌>>=◌}
-use Rattle.qvt_metamodel.specs.Metamodels.{Metamodels}
-use Rattle.qvt_meta_read.specs.SmallMeta.{is_small}
+-- What `run JOB` does over the bytes that the files hold: the job, its metamodels, its text, whether its models are the
+-- text's, the fuel, and the lower bounds of what is written, in this order.
+use Rattle.std.specs.Prelude.{ℕ, List, [], ◌∷◌, map, length, nat_lt, is_some, if◌then◌else◌, Option, Some, None, option_map, option_and_then, Result, Ok, Err}
+use Rattle.qvt_json.specs.Steps.{◌>>=◌, none_of}
+use Rattle.qvt_metamodel.specs.Metamodels.{Metamodels, feature_at}
+use Rattle.qvt_store.specs.Contents.{Contents, extent_at, members_of}
+use Rattle.qvt_model.specs.Extents.{numbers, place_of, data_of}
+use Rattle.qvt_model.specs.RunIds.{place_id}
+use Rattle.qvt_model.specs.Written.{model_text}
+use Rattle.qvt_conform.specs.LowerBounds.{low_of}
+use Rattle.qvt_conform.specs.declared.fault.LowFault.{LowFault}
+use Rattle.qvt_tree_types.specs.Module.{ModuleTerm}
+use Rattle.qvt_small.specs.declared.text.SmallRun.{SmallRun}
+use Rattle.qvt_small.specs.SmallText.{small_of}
+use Rattle.qvt_small.specs.SmallRun.{run_of as small_run, cost, done_line}
+use Rattle.qvt_small.specs.SmallStore.{store_after}
 use Rattle.qvt_cli.specs.Job.{job_of}
+use Rattle.qvt_cli.specs.Parameters.{mismatch}
 use Rattle.qvt_cli.specs.declared.job.Job.{Job}
 use Rattle.qvt_cli.specs.declared.job.JobModel.{JobModel}
 use Rattle.qvt_cli.specs.declared.refusal.Refusal.TheVariants as refusal
-use Rattle.qvt_cli.specs.declared.run.SmallJob.{SmallJob}
-use Rattle.qvt_small.specs.declared.text.SmallText.{SmallText}
-use Rattle.qvt_tree_types.specs.Module.{ModuleTerm}
-use Rattle.qvt_small.specs.SmallText.{small_of}
-use Rattle.qvt_small.specs.SmallRun.{fits, cost, done_line}
-use Rattle.qvt_small.specs.SmallStore.{model_text}
 use Rattle.qvt_cli.specs.Source.{tree_in}
-use Rattle.qvt_cli.specs.Outcome.{Outcome, out_of_fuel, done}
+use Rattle.qvt_cli.specs.Outcome.{Outcome, File, refused, out_of_fuel, low, done}
 use Rattle.qvt_cli.specs.Steps.{built, or_refused}
 use Rattle.qvt_cli.specs.Chain.{Chain, step, ◌>=>◌, read_step}
-use Rattle.qvt_cli.specs.Metas.{metas_in}
+use Rattle.qvt_cli.specs.Metas.{metamodels_read}
 
--- one metamodel and one output, no input and no trace
-abbrev pub small_parts : ℕ → List ℕ → List JobModel → List (List ℕ) → List JobModel → Option (List ℕ) → Option SmallJob
-small_parts fuel text [] (m ∷ []) (o ∷ []) None = Some (record { fuel = fuel; metamodel = m; text = text; file = o.file; model = o.model })
-small_parts fuel text inputs metamodels outputs trace = None
+-- a job without a trace
+abbrev pub if_untraced : Job → Option Job
+if_untraced job = if is_some job.trace then None else Some job
 
-abbrev pub small_job : Job → Option SmallJob
-small_job job = small_parts job.fuel job.text job.inputs job.metamodels job.outputs job.trace
-
-unfoldable pub job_in : List ℕ → List ℕ → Result SmallJob Outcome
-job_in name bytes = or_refused refusal.Job name (job_of bytes) >>= (λ job. built name (small_job job))
+unfoldable pub job_in : List ℕ → List ℕ → Result Job Outcome
+job_in name bytes = or_refused refusal.Job name (job_of bytes) >>= (λ job. built name (if_untraced job))
 
 -- reads the job
-unfoldable pub job_read : List ℕ → Chain SmallJob
+unfoldable pub job_read : List ℕ → Chain Job
 job_read name = read_step name 65536 >=> (λ bytes. step (job_in name bytes))
 
--- the metamodels, if the file is of the form of a small one
-abbrev pub if_small : List ℕ → Metamodels → Option Metamodels
-if_small bytes metas = if is_small bytes then Some metas else None
+-- the small run of a tree, which fits a metamodel
+unfoldable pub small_in : Metamodels → List ℕ → ModuleTerm → Result SmallRun Outcome
+small_in metas file tree = built file (option_and_then (small_run metas) (small_of tree))
 
-unfoldable pub small_metas_in : List ℕ → List ℕ → Result Metamodels Outcome
-small_metas_in name bytes = metas_in name bytes >>= (λ metas. built name (if_small bytes metas))
+-- the models of the job are those of the tree
+unfoldable pub with_models : List ℕ → Job → ModuleTerm → SmallRun → Result SmallRun Outcome
+with_models name job tree run = none_of (option_map (λ model. refused name (refusal.JobModels model)) (mismatch job tree.params)) >>= (λ _. Ok run)
 
--- reads the metamodel
-unfoldable pub small_metas_read : List ℕ → Chain Metamodels
-small_metas_read name = read_step name 1048576 >=> (λ bytes. step (small_metas_in name bytes))
+unfoldable pub tree_run : List ℕ → Job → Metamodels → ModuleTerm → Result SmallRun Outcome
+tree_run name job metas tree = small_in metas job.text tree >>= with_models name job tree
 
-abbrev pub if_fits : Metamodels → List ℕ → SmallText → Option SmallText
-if_fits metas model text = if fits metas model text then Some text else None
-
--- the small text of a tree, which fits the metamodel and the output
-unfoldable pub small_in : Metamodels → SmallJob → ModuleTerm → Result SmallText Outcome
-small_in metas job tree = built job.text (option_and_then (if_fits metas job.model) (small_of tree))
-
-unfoldable pub text_in : Metamodels → SmallJob → List ℕ → Result SmallText Outcome
-text_in metas job bytes = tree_in job.text bytes >>= small_in metas job
+unfoldable pub text_in : List ℕ → Job → Metamodels → List ℕ → Result SmallRun Outcome
+text_in name job metas bytes = tree_in job.text bytes >>= tree_run name job metas
 
 -- reads the text
-unfoldable pub text_read : SmallJob → Metamodels → Chain SmallText
-text_read job metas = read_step job.text 262144 >=> (λ bytes. step (text_in metas job bytes))
+unfoldable pub text_read : List ℕ → Job → Metamodels → Chain SmallRun
+text_read name job metas = read_step job.text 262144 >=> (λ bytes. step (text_in name job metas bytes))
 
-abbrev pub done_outcome : SmallJob → Metamodels → SmallText → ℕ → Outcome
-done_outcome job metas text spent = done ((job.file, model_text metas job.model text.objects) ∷ []) (done_line (length text.objects) spent)
+-- an object of the first extent, by the model's name and its own place in it, and the feature
+abbrev pub low_outcome : Contents → LowFault → Outcome
+low_outcome s fault = low (extent_at s 0).name (place_id (place_of (numbers (members_of s 0)) fault.object.0)) (feature_at s.metas fault.feature.0).name
+
+-- each output of the job has the text of the model
+abbrev pub written : Contents → List JobModel → List File
+written s outputs = map (λ o. (o.file, model_text s.metas (data_of s 0))) outputs
+
+-- what a run leaves is within its lower bounds and is written
+unfoldable pub finished : Job → Contents → List ℕ → Result Outcome Outcome
+finished job s line = none_of (option_map (low_outcome s) (low_of s 0)) >>= (λ _. Ok (done (written s job.outputs) line))
 
 -- runs: the fuel is enough, or the cost would pass it
-unfoldable pub performed : SmallJob → Metamodels → SmallText → Result Outcome Outcome
-performed job metas text = if nat_lt job.fuel (cost text.objects)
+unfoldable pub performed : Job → Metamodels → SmallRun → Result Outcome Outcome
+performed job metas run = if nat_lt job.fuel (cost run.objects)
     then Err (out_of_fuel job.fuel)
-    else Ok (done_outcome job metas text (cost text.objects))
+    else finished job (store_after metas run) (done_line (length run.objects) (cost run.objects))
 
-unfoldable pub after_metas : SmallJob → Metamodels → Chain Outcome
-after_metas job metas = text_read job metas >=> (λ text. step (performed job metas text))
+unfoldable pub after_metas : List ℕ → Job → Metamodels → Chain Outcome
+after_metas name job metas = text_read name job metas >=> (λ run. step (performed job metas run))
 
-unfoldable pub after_job : SmallJob → Chain Outcome
-after_job job = small_metas_read job.metamodel >=> after_metas job
+unfoldable pub after_job : List ℕ → Job → Chain Outcome
+after_job name job = metamodels_read job.metamodels >=> after_metas name job
 
 unfoldable pub run_of : List ℕ → Chain Outcome
-run_of name = job_read name >=> after_job
+run_of name = job_read name >=> after_job name

@@ -9,7 +9,7 @@ ghost use Rattle.qvt_cli.specs.Follows.{Follows};
 ghost use Rattle.qvt_cli.specs.Steps.{Gives, IfFaultOf, IsFaultWith, StopsBy};
 
 use crate::fetch::{fetch, refused};
-use crate::metas::read_metas;
+use crate::metas::read_metamodel;
 use crate::plan::Plan;
 use crate::refusal::Refusal;
 use crate::report::conforms_line;
@@ -137,8 +137,9 @@ pub fn perform_check<F: Files>(
     ensures follows { Follows outcome_of (check_of metamodel.now model.now) (F.seen files.old) result (F.seen files.new) }
     ensures ready { IfOk result (λ p. IsReady p.outputs) }
 {
-    match read_metas(alloc, files, metamodel) {
+    let mut metas = Metas::new(alloc);
+    match read_metamodel(alloc, files, &mut metas, metamodel) {
         Err(stop) => Err(stop),
-        Ok(metas) => check_model(alloc, files, model, &metas),
+        Ok(()) => check_model(alloc, files, model, &metas),
     }
 }

@@ -6,6 +6,8 @@ pub mod fetch;
 pub mod job;
 pub mod job_form;
 pub mod metas;
+pub mod outputs;
+pub mod parameters;
 pub mod plan;
 pub mod print;
 pub mod read_job;

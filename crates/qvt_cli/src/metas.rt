@@ -1,9 +1,9 @@
-//! The metamodel of a file, alone.
+//! The metamodels of files, in order.
 
-ghost use Rattle.std.specs.Prelude.{◌≡◌, ◌<◌, IfOk, length};
+ghost use Rattle.std.specs.Prelude.{◌<◌, OnOk, length};
 ghost use Rattle.qvt_cli.specs.Follows.{Follows};
-ghost use Rattle.qvt_cli.specs.Steps.{Gives, IfFaultOf, IsFaultWith, StopsBy};
-ghost use Rattle.qvt_cli.specs.Metas.{metas_in, metas_read};
+ghost use Rattle.qvt_cli.specs.Steps.{Gives, IfFaultOf, IsFaultWith, StopsBy, or_refused};
+ghost use Rattle.qvt_cli.specs.Metas.{with_metamodel, metas_in, metamodel_read, metamodels_read};
 
 use crate::fetch::{fetch, refused};
 use crate::refusal::Refusal;
@@ -11,7 +11,7 @@ use crate::stop::Stop;
 use qvt_base::outside::Files;
 use qvt_base::text::Text;
 use qvt_meta::meta::{Meta, read_meta};
-use qvt_metamodel::fault::MetaFault;
+use qvt_metamodel::fault::{MetaFault, MetasFault};
 use qvt_metas::metas::Metas;
 use std::alloc::Global;
 
@@ -26,44 +26,76 @@ fn meta_stop(alloc: Global, name: &Text, why: MetaFault) -> Stop
     }
 }
 
-ghost use Rattle.qvt_metamodel.specs.Added.{added};
-ghost use Rattle.qvt_cli.specs.Metas.{no_metamodels};
-
-/// The metamodels that have this one alone.
-fn alone(alloc: Global, meta: Meta) -> Result<Metas, Stop>
-    ensures alone { IfOk result (λ metas. metas ≡ added no_metamodels meta) }
-    ensures memory { IfErr result (λ stop. stop ≡ Stop.NoMemory) }
+/// The refusal of a metamodel that does not go with those before it.
+fn metas_stop(alloc: Global, name: &Text, why: MetasFault) -> Stop
+    ensures stop { StopsBy MetasFault.NoMemory Refusal.Metamodels name.now why result }
+    ensures no_reads { IsFaultWith result (λ file. ⊥) }
 {
-    let mut metas = Metas::new(alloc);
-    meta.fits();
-    match metas.add(meta) {
-        Err(_) => Err(Stop::NoMemory),
-        Ok(()) => Ok(metas),
+    match &why {
+        MetasFault::NoMemory => Stop::NoMemory,
+        _ => refused(alloc, name, Refusal::Metamodels(why)),
     }
 }
 
-ghost use Rattle.std.specs.Prelude.{IfErr};
-
-/// The metamodels of a file's bytes: the one that it has.
-#[tactic(auto, unfolding(crate::specs::Metas::metas_in))]
-pub fn metas_in(alloc: Global, name: &Text, bytes: &[u8]) -> Result<Metas, Stop>
+/// Adds the metamodel of a file. That its numbers do not fit, as no files within their limits have
+/// it, is want of memory.
+fn add_metamodel(alloc: Global, metas: &mut Metas, name: &Text, meta: Meta) -> Result<(), Stop>
     ensures no_reads { IfFaultOf result (λ file. ⊥) }
-    ensures gives { Gives (λ metas. metas) result (metas_in name.now bytes.now) }
-    ensures one { IfOk result (λ metas. 0 < length metas.metamodels) }
+    ensures gives { Gives (λ _. metas.new) result (or_refused Refusal.Metamodels name.now (with_metamodel metas.old meta)) }
+    ensures some { OnOk result (0 < length metas.new.metamodels) }
+{
+    if !metas.has_room(&meta) {
+        return Err(Stop::NoMemory);
+    }
+    match metas.add(meta) {
+        Err(why) => Err(metas_stop(alloc, name, why)),
+        Ok(()) => Ok(()),
+    }
+}
+
+/// Adds the metamodel of a file's bytes.
+#[tactic(auto, unfolding(crate::specs::Metas::metas_in))]
+fn add_bytes(alloc: Global, metas: &mut Metas, name: &Text, bytes: &[u8]) -> Result<(), Stop>
+    ensures no_reads { IfFaultOf result (λ file. ⊥) }
+    ensures gives { Gives (λ _. metas.new) result (metas_in metas.old name.now bytes.now) }
+    ensures some { OnOk result (0 < length metas.new.metamodels) }
 {
     match read_meta(alloc, bytes) {
         Err(why) => Err(meta_stop(alloc, name, why)),
-        Ok(meta) => alone(alloc, meta),
+        Ok(meta) => add_metamodel(alloc, metas, name, meta),
     }
 }
 
-/// Reads the metamodel.
-pub fn read_metas<F: Files>(alloc: Global, files: &mut F, name: &Text) -> Result<Metas, Stop>
-    ensures follows { Follows (λ metas. metas) (metas_read name.now) (F.seen files.old) result (F.seen files.new) }
-    ensures one { IfOk result (λ metas. 0 < length metas.metamodels) }
+/// Reads a metamodel, and adds it.
+pub fn read_metamodel<F: Files>(
+    alloc: Global,
+    files: &mut F,
+    metas: &mut Metas,
+    name: &Text,
+) -> Result<(), Stop>
+    ensures follows { Follows (λ _. metas.new) (metamodel_read metas.old name.now) (F.seen files.old) result (F.seen files.new) }
+    ensures some { OnOk result (0 < length metas.new.metamodels) }
 {
     match fetch(alloc, files, name, 1_048_576) {
         Err(stop) => Err(stop),
-        Ok(bytes) => metas_in(alloc, name, bytes.as_slice()),
+        Ok(bytes) => add_bytes(alloc, metas, name, bytes.as_slice()),
     }
+}
+
+/// Reads the metamodels of these files, in order.
+pub fn read_metamodels<F: Files>(
+    alloc: Global,
+    files: &mut F,
+    names: &[Text],
+) -> Result<Metas, Stop>
+    ensures { Follows (λ metas. metas) (metamodels_read names.now) (F.seen files.old) result (F.seen files.new) }
+{
+    let mut metas = Metas::new(alloc);
+    for name in names {
+        match read_metamodel(alloc, files, &mut metas, name) {
+            Err(stop) => return Err(stop),
+            Ok(()) => {}
+        }
+    }
+    Ok(metas)
 }

@@ -1,6 +1,7 @@
 use crate::job::JobFault;
+use qvt_base::text::Text;
 use qvt_conform::fault::ConformFault;
-use qvt_metamodel::fault::MetaFault;
+use qvt_metamodel::fault::{MetaFault, MetasFault};
 use qvt_model::data::ModelFault;
 use qvt_parsed::fault::ParseFault;
 
@@ -14,6 +15,8 @@ pub enum Refusal {
     Job(JobFault),
     /// The file is no metamodel.
     Metamodel(MetaFault),
+    /// The metamodel does not go with those before it.
+    Metamodels(MetasFault),
     /// The file is no model of its metamodel.
     Model(ModelFault),
     /// The models have more than 1,000,000 objects.
@@ -24,6 +27,8 @@ pub enum Refusal {
     Utf8,
     /// The text is no transformation.
     Parse(ParseFault),
+    /// The job's models are not those of the transformation's parameters: the first that does not fit.
+    JobModels(Text),
     /// What the file asks for is not built yet.
     NotBuilt,
 }
@@ -35,11 +40,13 @@ impl Drop for Refusal {
             Refusal::TooLarge => {}
             Refusal::Job(why) => {}
             Refusal::Metamodel(why) => {}
+            Refusal::Metamodels(why) => {}
             Refusal::Model(why) => {}
             Refusal::TooManyObjects => {}
             Refusal::Conform(why) => {}
             Refusal::Utf8 => {}
             Refusal::Parse(why) => {}
+            Refusal::JobModels(model) => {}
             Refusal::NotBuilt => {}
         }
     }

@@ -1,19 +1,20 @@
 //! The names of refusals with what they carry.
 
 ghost use Rattle.std.specs.Prelude.{◌≡◌, IfOk, string_bytes};
-ghost use Rattle.qvt_cli.specs.Outcome.{with_one, with_two, with_place, lex_name, job_text, parse_text, metamodel_text, model_text, conform_text};
+ghost use Rattle.qvt_cli.specs.Outcome.{with_one, with_two, with_place, lex_name, job_text, parse_text, metamodel_text, metamodels_text, model_text, conform_text};
 
 use crate::job::JobFault;
 use qvt_base::numbers::Place;
 use qvt_base::text::Text;
 use qvt_conform::fault::ConformFault;
 use qvt_lexer::token::LexKind;
-use qvt_metamodel::fault::MetaFault;
+use qvt_metamodel::fault::{MetaFault, MetasFault};
 use qvt_model::data::ModelFault;
 use qvt_parsed::fault::ParseFault;
 use std::alloc::{AllocError, Global};
 
-fn with_one(alloc: Global, name: &str, a: &Text) -> Result<String, AllocError>
+/// A name and what it carries.
+pub fn with_one(alloc: Global, name: &str, a: &Text) -> Result<String, AllocError>
     ensures { IfOk result (λ text. string_bytes text ≡ with_one name.now a.now) }
 {
     let a = a.as_str();
@@ -87,6 +88,16 @@ pub fn metamodel_text(alloc: Global, why: &MetaFault) -> Result<String, AllocErr
         MetaFault::BadBounds(class, feature) => with_two(alloc, "BadBounds", class, feature),
         MetaFault::BadOpposite(class, feature) => with_two(alloc, "BadOpposite", class, feature),
         MetaFault::SameFeature(class, feature) => with_two(alloc, "SameFeature", class, feature),
+    }
+}
+
+/// The refusal of a metamodel that does not go with those before it.
+pub fn metamodels_text(alloc: Global, why: &MetasFault) -> Result<String, AllocError>
+    ensures { IfOk result (λ text. string_bytes text ≡ metamodels_text why.now) }
+{
+    match why {
+        MetasFault::NoMemory => String::from_str(alloc, "no memory"),
+        MetasFault::SameMetamodel(name) => with_one(alloc, "SameMetamodel", name),
     }
 }
 

@@ -4,7 +4,9 @@ ghost use Rattle.qvt_cli.specs.Steps.{stop_line, stop_status};
 ghost use Rattle.qvt_cli.specs.Reported.{IsWhole, IsCut, Reports};
 
 use crate::refusal::Refusal;
-use crate::refusal_text::{conform_text, job_text, metamodel_text, model_text, parse_text};
+use crate::refusal_text::{
+    conform_text, job_text, metamodel_text, metamodels_text, model_text, parse_text, with_one,
+};
 use crate::status::Status;
 use crate::stop::Stop;
 use qvt_base::lists::Bytes;
@@ -74,11 +76,13 @@ fn refusal_text(alloc: Global, why: &Refusal) -> Result<String, AllocError>
         Refusal::TooLarge => String::from_str(alloc, "TooLarge"),
         Refusal::Job(why) => job_text(alloc, why),
         Refusal::Metamodel(why) => metamodel_text(alloc, why),
+        Refusal::Metamodels(why) => metamodels_text(alloc, why),
         Refusal::Model(why) => model_text(alloc, why),
         Refusal::TooManyObjects => String::from_str(alloc, "TooManyObjects"),
         Refusal::Conform(why) => conform_text(alloc, why),
         Refusal::Utf8 => String::from_str(alloc, "Utf8"),
         Refusal::Parse(why) => parse_text(alloc, why),
+        Refusal::JobModels(model) => with_one(alloc, "JobModels", model),
         Refusal::NotBuilt => String::from_str(alloc, "NotBuilt"),
     }
 }

@@ -1,67 +1,34 @@
+//! The command `run`: a job, and all that it names.
+
 ghost use Rattle.std.specs.Prelude.{◌≡◌, ◌≤◌, length, IfOk, IsTrue};
 ghost use Rattle.qvt_cli.specs.Follows.{Follows};
-ghost use Rattle.qvt_cli.specs.Steps.{Gives, IfFaultOf, IsFaultWith, StopsBy};
+ghost use Rattle.qvt_cli.specs.Steps.{Gives, IfFaultOf, IsFaultWith, RefusedOrNoMemory, StopsBy};
 ghost use Rattle.qvt_cli.specs.Plans.{outcome_of, IsReady};
-ghost use Rattle.qvt_cli.specs.Run.{small_job, job_in, job_read, small_metas_in, small_metas_read, small_in, text_in, text_read, performed, after_metas, after_job, run_of, done_outcome};
+ghost use Rattle.qvt_cli.specs.Run.{job_in, job_read, small_in, tree_run, text_in, text_read, performed, after_metas, after_job, run_of};
 ghost use Rattle.qvt_tree_types.specs.Module.{module_view};
 ghost use Rattle.qvt_small.specs.SmallRun.{have_names, done_line};
 
 use crate::fetch::{fetch, refused};
 use crate::job::{Job, JobFault};
-use crate::metas::metas_in;
-use crate::plan::{Output, Plan};
+use crate::metas::read_metamodels;
+use crate::outputs::finished;
+use crate::parameters::mismatch;
+use crate::plan::Plan;
 use crate::read_job::read_job;
 use crate::refusal::Refusal;
-use crate::report::write_fault_line;
 use crate::source::tree_in;
 use crate::stop::Stop;
 use qvt_base::copied::Copied;
-use qvt_base::list_fault::ListFault;
 use qvt_base::lists::Bytes;
 use qvt_base::outside::Files;
 use qvt_base::seq::Seq;
 use qvt_base::text::Text;
-use qvt_meta_read::small::is_small;
 use qvt_metas::metas::Metas;
-use qvt_small::made::model_text;
-use qvt_small::program::{cost_within, fits};
-use qvt_small::text::{SmallText, small_of};
+use qvt_small::made::made;
+use qvt_small::program::{cost_within, run_of};
+use qvt_small::text::{SmallRun, small_of};
 use qvt_tree_types::module::Module;
 use std::alloc::{AllocError, Global};
-
-/// A job with one metamodel, one output, no input and no trace.
-#[derive(Drop)]
-pub struct SmallJob {
-    pub fuel: u64,
-    pub metamodel: Text,
-    pub text: Text,
-    /// The file of the output.
-    pub file: Text,
-    /// The model of the output.
-    pub model: Text,
-}
-
-/// The job as a small one, None where it is none.
-fn small_job(alloc: Global, job: &Job) -> Result<Option<SmallJob>, ListFault>
-    ensures { IfOk result (λ o. o ≡ small_job job.now) }
-{
-    if !job.inputs.is_empty() || job.trace.is_some() {
-        return Ok(None);
-    }
-    let [metamodel] = job.metamodels.as_slice() else {
-        return Ok(None);
-    };
-    let [output] = job.outputs.as_slice() else {
-        return Ok(None);
-    };
-    Ok(Some(SmallJob {
-        fuel: job.fuel,
-        metamodel: metamodel.copy(alloc)?,
-        text: job.text.copy(alloc)?,
-        file: output.file.copy(alloc)?,
-        model: output.model.copy(alloc)?,
-    }))
-}
 
 /// The refusal of a job's file.
 fn job_stop(alloc: Global, name: &Text, why: JobFault) -> Stop
@@ -74,24 +41,26 @@ fn job_stop(alloc: Global, name: &Text, why: JobFault) -> Stop
     }
 }
 
-/// The small job of a file's bytes.
+/// The job of a file's bytes, which has no trace.
 #[tactic(auto, unfolding(crate::specs::Run::job_in))]
-fn job_in(alloc: Global, name: &Text, bytes: &[u8]) -> Result<SmallJob, Stop>
+fn job_in(alloc: Global, name: &Text, bytes: &[u8]) -> Result<Job, Stop>
     ensures no_reads { IfFaultOf result (λ file. ⊥) }
     ensures gives { Gives (λ job. job) result (job_in name.now bytes.now) }
 {
     match read_job(alloc, bytes) {
         Err(why) => Err(job_stop(alloc, name, why)),
-        Ok(job) => match small_job(alloc, &job) {
-            Err(_) => Err(Stop::NoMemory),
-            Ok(None) => Err(refused(alloc, name, Refusal::NotBuilt)),
-            Ok(Some(job)) => Ok(job),
-        },
+        Ok(job) => {
+            if job.trace.is_some() {
+                Err(refused(alloc, name, Refusal::NotBuilt))
+            } else {
+                Ok(job)
+            }
+        }
     }
 }
 
 /// Reads the job.
-fn read_small_job<F: Files>(alloc: Global, files: &mut F, name: &Text) -> Result<SmallJob, Stop>
+fn read_untraced<F: Files>(alloc: Global, files: &mut F, name: &Text) -> Result<Job, Stop>
     ensures { Follows (λ job. job) (job_read name.now) (F.seen files.old) result (F.seen files.new) }
 {
     match fetch(alloc, files, name, 65_536) {
@@ -100,63 +69,73 @@ fn read_small_job<F: Files>(alloc: Global, files: &mut F, name: &Text) -> Result
     }
 }
 
-/// The metamodels of a file's bytes, which is of the form of a small metamodel.
-#[tactic(auto, unfolding(crate::specs::Run::small_metas_in))]
-fn small_metas_in(alloc: Global, name: &Text, bytes: &[u8]) -> Result<Metas, Stop>
+/// The small run of a tree, which fits the metamodel that it names.
+#[tactic(auto, unfolding(crate::specs::Run::small_in))]
+fn small_in(alloc: Global, metas: &Metas, file: &Text, tree: &Module) -> Result<SmallRun, Stop>
     ensures no_reads { IfFaultOf result (λ file. ⊥) }
-    ensures gives { Gives (λ metas. metas) result (small_metas_in name.now bytes.now) }
+    ensures gives { Gives (λ run. run) result (small_in metas.now file.now (module_view tree.now)) }
+    ensures named { IfOk result (λ run. IsTrue (have_names metas.now run.metamodel run.model)) }
 {
-    match metas_in(alloc, name, bytes) {
-        Err(stop) => Err(stop),
-        Ok(metas) => match is_small(alloc, bytes) {
-            Err(_) => Err(Stop::NoMemory),
-            Ok(false) => Err(refused(alloc, name, Refusal::NotBuilt)),
-            Ok(true) => Ok(metas),
+    match small_of(alloc, tree) {
+        Err(_) => Err(Stop::NoMemory),
+        Ok(None) => Err(refused(alloc, file, Refusal::NotBuilt)),
+        Ok(Some(text)) => match run_of(metas, text) {
+            None => Err(refused(alloc, file, Refusal::NotBuilt)),
+            Some(run) => Ok(run),
         },
     }
 }
 
-/// Reads the metamodel.
-fn read_small_metas<F: Files>(alloc: Global, files: &mut F, name: &Text) -> Result<Metas, Stop>
-    ensures { Follows (λ metas. metas) (small_metas_read name.now) (F.seen files.old) result (F.seen files.new) }
+/// The refusal of a job whose model of this name does not fit the transformation.
+fn models_stop(alloc: Global, name: &Text, model: &Text) -> Stop
+    ensures stop { RefusedOrNoMemory name.now (Refusal.JobModels model.now) result }
+    ensures no_reads { IsFaultWith result (λ file. ⊥) }
 {
-    match fetch(alloc, files, name, 1_048_576) {
-        Err(stop) => Err(stop),
-        Ok(bytes) => small_metas_in(alloc, name, bytes.as_slice()),
+    match model.copy(alloc) {
+        Ok(model) => refused(alloc, name, Refusal::JobModels(model)),
+        Err(_) => Stop::NoMemory,
     }
 }
 
-/// The small text of a tree, which fits the metamodel and the output.
-#[tactic(auto, unfolding(crate::specs::Run::small_in))]
-fn small_in(alloc: Global, metas: &Metas, job: &SmallJob, tree: &Module) -> Result<SmallText, Stop>
+/// The small run of a tree, whose parameters are the models of the job.
+#[tactic(auto, unfolding(crate::specs::Run::tree_run, crate::specs::Run::with_models))]
+fn tree_run(
+    alloc: Global,
+    name: &Text,
+    job: &Job,
+    metas: &Metas,
+    tree: &Module,
+) -> Result<SmallRun, Stop>
     ensures no_reads { IfFaultOf result (λ file. ⊥) }
-    ensures gives { Gives (λ text. text) result (small_in metas.now job.now (module_view tree.now)) }
-    ensures named { IfOk result (λ text. IsTrue (have_names metas.now job.now.model)) }
+    ensures gives { Gives (λ run. run) result (tree_run name.now job.now metas.now (module_view tree.now)) }
+    ensures named { IfOk result (λ run. IsTrue (have_names metas.now run.metamodel run.model)) }
 {
-    match small_of(alloc, tree) {
-        Err(_) => Err(Stop::NoMemory),
-        Ok(None) => Err(refused(alloc, &job.text, Refusal::NotBuilt)),
-        Ok(Some(text)) => {
-            if fits(metas, job.model.as_str(), &text) {
-                Ok(text)
-            } else {
-                Err(refused(alloc, &job.text, Refusal::NotBuilt))
-            }
-        }
+    match small_in(alloc, metas, &job.text, tree) {
+        Err(stop) => Err(stop),
+        Ok(run) => match mismatch(job, tree.params.as_slice()) {
+            Some(model) => Err(models_stop(alloc, name, model)),
+            None => Ok(run),
+        },
     }
 }
 
-/// The text of a file's bytes, which is small and fits the metamodel and the output.
+/// The small run of a file's bytes.
 #[tactic(auto, unfolding(crate::specs::Run::text_in))]
-fn text_in(alloc: Global, metas: &Metas, job: &SmallJob, bytes: &[u8]) -> Result<SmallText, Stop>
+fn text_in(
+    alloc: Global,
+    name: &Text,
+    job: &Job,
+    metas: &Metas,
+    bytes: &[u8],
+) -> Result<SmallRun, Stop>
     requires { length bytes.now ≤ 262144 }
     ensures no_reads { IfFaultOf result (λ file. ⊥) }
-    ensures gives { Gives (λ text. text) result (text_in metas.now job.now bytes.now) }
-    ensures named { IfOk result (λ text. IsTrue (have_names metas.now job.now.model)) }
+    ensures gives { Gives (λ run. run) result (text_in name.now job.now metas.now bytes.now) }
+    ensures named { IfOk result (λ run. IsTrue (have_names metas.now run.metamodel run.model)) }
 {
     match tree_in(alloc, &job.text, bytes) {
         Err(stop) => Err(stop),
-        Ok(tree) => small_in(alloc, metas, job, &tree),
+        Ok(tree) => tree_run(alloc, name, job, metas, &tree),
     }
 }
 
@@ -164,15 +143,16 @@ fn text_in(alloc: Global, metas: &Metas, job: &SmallJob, bytes: &[u8]) -> Result
 fn read_text<F: Files>(
     alloc: Global,
     files: &mut F,
-    job: &SmallJob,
+    name: &Text,
+    job: &Job,
     metas: &Metas,
-) -> Result<SmallText, Stop>
-    ensures follows { Follows (λ text. text) (text_read job.now metas.now) (F.seen files.old) result (F.seen files.new) }
-    ensures have_names { IfOk result (λ text. IsTrue (have_names metas.now job.now.model)) }
+) -> Result<SmallRun, Stop>
+    ensures follows { Follows (λ run. run) (text_read name.now job.now metas.now) (F.seen files.old) result (F.seen files.new) }
+    ensures named { IfOk result (λ run. IsTrue (have_names metas.now run.metamodel run.model)) }
 {
     match fetch(alloc, files, &job.text, 262_144) {
         Err(stop) => Err(stop),
-        Ok(bytes) => text_in(alloc, metas, job, bytes.as_slice()),
+        Ok(bytes) => text_in(alloc, name, job, metas, bytes.as_slice()),
     }
 }
 
@@ -184,55 +164,23 @@ fn done_line(alloc: Global, objects: usize, cost: u64) -> Result<Bytes, AllocErr
     Ok(Seq::from_vec(text.into_bytes()))
 }
 
-/// The plan of a run that is done.
-fn plan_of(
-    alloc: Global,
-    job: &SmallJob,
-    metas: &Metas,
-    text: &SmallText,
-    cost: u64,
-) -> Result<Plan, ListFault>
-    requires { IsTrue (have_names metas.now job.now.model) }
-    ensures plan { IfOk result (λ p. outcome_of p ≡ done_outcome job.now metas.now text.now cost) }
-    ensures ready { IfOk result (λ p. IsReady p.outputs) }
-{
-    let objects = text.objects.as_slice();
-    let bytes = model_text(alloc, metas, &job.model, objects)?;
-    let Ok(line) = done_line(alloc, objects.len(), cost) else {
-        return Err(ListFault::NoMemory);
-    };
-    let Ok(fault_line) = write_fault_line(alloc, job.file.as_str()) else {
-        return Err(ListFault::NoMemory);
-    };
-    let file = job.file.copy(alloc)?;
-    let mut outputs = Seq::new(alloc);
-    outputs.push(Output {
-        file,
-        bytes,
-        fault_line,
-    })?;
-    Ok(Plan { outputs, line })
-}
-
-/// Runs a small text with the job's fuel, and makes every byte that is to be written.
+/// Runs with the job's fuel, and makes every byte that is to be written.
 #[tactic(auto, unfolding(crate::specs::Run::performed))]
-fn perform_text(
-    alloc: Global,
-    job: &SmallJob,
-    metas: &Metas,
-    text: &SmallText,
-) -> Result<Plan, Stop>
-    requires { IsTrue (have_names metas.now job.now.model) }
-    ensures gives { Gives outcome_of result (performed job.now metas.now text.now) }
+fn perform_small(alloc: Global, job: &Job, metas: &Metas, run: &SmallRun) -> Result<Plan, Stop>
+    requires { IsTrue (have_names metas.now run.now.metamodel run.now.model) }
+    ensures gives { Gives outcome_of result (performed job.now metas.now run.now) }
     ensures ready { IfOk result (λ p. IsReady p.outputs) }
     ensures no_reads { IfFaultOf result (λ file. ⊥) }
 {
-    let Some(cost) = cost_within(job.fuel, text.objects.as_slice()) else {
+    let Some(cost) = cost_within(job.fuel, run.objects.as_slice()) else {
         return Err(Stop::OutOfFuel(job.fuel));
     };
-    match plan_of(alloc, job, metas, text, cost) {
+    let Ok(line) = done_line(alloc, run.objects.len(), cost) else {
+        return Err(Stop::NoMemory);
+    };
+    match made(alloc, metas, run) {
         Err(_) => Err(Stop::NoMemory),
-        Ok(plan) => Ok(plan),
+        Ok(store) => finished(alloc, job, &store, line),
     }
 }
 
@@ -240,26 +188,27 @@ fn perform_text(
 fn perform_with_metas<F: Files>(
     alloc: Global,
     files: &mut F,
-    job: &SmallJob,
+    name: &Text,
+    job: &Job,
     metas: &Metas,
 ) -> Result<Plan, Stop>
-    ensures follows { Follows outcome_of (after_metas job.now metas.now) (F.seen files.old) result (F.seen files.new) }
+    ensures follows { Follows outcome_of (after_metas name.now job.now metas.now) (F.seen files.old) result (F.seen files.new) }
     ensures ready { IfOk result (λ p. IsReady p.outputs) }
 {
-    match read_text(alloc, files, job, metas) {
+    match read_text(alloc, files, name, job, metas) {
         Err(stop) => Err(stop),
-        Ok(text) => perform_text(alloc, job, metas, &text),
+        Ok(small) => perform_small(alloc, job, metas, &small),
     }
 }
 
-/// Reads the metamodel, then the text, and runs it.
-fn perform_job<F: Files>(alloc: Global, files: &mut F, job: &SmallJob) -> Result<Plan, Stop>
-    ensures follows { Follows outcome_of (after_job job.now) (F.seen files.old) result (F.seen files.new) }
+/// Reads the metamodels, then the text, and runs it.
+fn perform_job<F: Files>(alloc: Global, files: &mut F, name: &Text, job: &Job) -> Result<Plan, Stop>
+    ensures follows { Follows outcome_of (after_job name.now job.now) (F.seen files.old) result (F.seen files.new) }
     ensures ready { IfOk result (λ p. IsReady p.outputs) }
 {
-    match read_small_metas(alloc, files, &job.metamodel) {
+    match read_metamodels(alloc, files, job.metamodels.as_slice()) {
         Err(stop) => Err(stop),
-        Ok(metas) => perform_with_metas(alloc, files, job, &metas),
+        Ok(metas) => perform_with_metas(alloc, files, name, job, &metas),
     }
 }
 
@@ -268,8 +217,8 @@ pub fn perform_run<F: Files>(alloc: Global, files: &mut F, name: &Text) -> Resul
     ensures follows { Follows outcome_of (run_of name.now) (F.seen files.old) result (F.seen files.new) }
     ensures ready { IfOk result (λ p. IsReady p.outputs) }
 {
-    match read_small_job(alloc, files, name) {
+    match read_untraced(alloc, files, name) {
         Err(stop) => Err(stop),
-        Ok(job) => perform_job(alloc, files, &job),
+        Ok(job) => perform_job(alloc, files, name, &job),
     }
 }

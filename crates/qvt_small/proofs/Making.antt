@@ -18,7 +18,8 @@ use Rattle.qvt_slots.specs.Contents.{Contents, AreNamed, is_named, no_extent, cl
 use Rattle.qvt_slots.specs.Types.{IsAssignable, IsAttributeChange}
 use Rattle.qvt_store.specs.Sound.{IsClassFor, Sound}
 use Rattle.qvt_small.specs.SmallRun.{have_names}
-use Rattle.qvt_small.specs.SmallStore.{outputs, IsMaking}
+use Rattle.qvt_small.specs.SmallStore.{outputs, IsMaking, HasOutput}
+use Rattle.qvt_small.specs.declared.text.SmallRun.{SmallRun}
 
 -- one turn of a loop
 pub turn : {A B : Type 0} (f : B → A → B) (s next all : B) (xs : List A) (i : ℕ) (x : A) → i < length xs → x ≡ get_or xs i x → next ≡ f s x
@@ -47,13 +48,13 @@ found_among p (g ∷ gs) f h = found_case p g gs f (p g) (found_among p gs f) h
 pub class_of_metamodel : (m : Metamodels) (k : ℕ) (name : List ℕ) (c : ℕ) → class_named m k name ≡ Some c → (class_at m c).metamodel ≡ k
 class_of_metamodel m k name c h = eqb-true (class_at m c).metamodel k (and_left ((class_at m c).metamodel == k) _ (position-Some (λ c. (c.metamodel == k) && bytes_eq name c.name) m.classes c nowhere_class h).1)
 
-first_extent : (model : List ℕ) (e : ℕ) → nat_lt e 1 ≡ true → (slice_index_or (outputs model) e no_extent).writable ≡ true
-first_extent model zero h = refl
-first_extent model (suc e) h = absurd (let q = ltb-true (suc e) 1 h in omega (arith, q))
+first_extent : (r : SmallRun) (e : ℕ) → nat_lt e 1 ≡ true → (slice_index_or (outputs r) e no_extent).writable ≡ true
+first_extent r zero h = refl
+first_extent r (suc e) h = absurd (let q = ltb-true (suc e) 1 h in omega (arith, q))
 
-module _ (model : List ℕ) (s : Contents) (making : IsMaking model s) where
+module _ (r : SmallRun) (s : Contents) (making : IsMaking r s) where
   pub writable : (e : ℕ) → is_extent s e ≡ true → (extent_at s e).writable ≡ true
-  writable e = subst (λ xs. nat_lt e (length xs) ≡ true → (slice_index_or xs e no_extent).writable ≡ true) (sym making.extents) (first_extent model e)
+  writable e = subst (λ xs. nat_lt e (length xs) ≡ true → (slice_index_or xs e no_extent).writable ≡ true) (sym making.extents) (first_extent r e)
 
   module _ (x f : ℕ) (z : ℤ) (live : is_live s x ≡ true) (there : has_feature s.metas (class_of s x) f ≡ true) (kind : (shape_of s.metas f).kind ≡ Int) (single : is_single s.metas f ≡ true) where
     pub assignable : IsAssignable s x f (IntValue z ∷ [])
@@ -62,25 +63,33 @@ module _ (model : List ℕ) (s : Contents) (making : IsMaking model s) where
     pub attribute_change : IsAttributeChange s x f (IntValue z ∷ [])
     attribute_change = record { attribute = cc; single = single; few = omega arith; writable = writable _ (making.sound.parts.classes x live).extent }
 
-  pub set_making : (x f : ℕ) (vs : List Value) (s' : Contents) → s' ≡ with_slot s x f vs → Sound s' → IsMaking model s'
+  pub set_making : (x f : ℕ) (vs : List Value) (s' : Contents) → s' ≡ with_slot s x f vs → Sound s' → IsMaking r s'
   set_making x f vs s' is sound = record { extents = ap (λ (t : Contents). t.extents) is ∙ making.extents; sound = sound }
 
   pub set_live : (x f : ℕ) (vs : List Value) (s' : Contents) → s' ≡ with_slot s x f vs → is_live s x ≡ true → is_live s' x ≡ true
   set_live x f vs s' is live = ap (λ (t : Contents). is_live t x) is ∙ ap (nat_lt x) (length-set s.objects x _) ∙ live
 
-  pub class_for : (c : ℕ) → c < length s.metas.classes → (class_at s.metas c).metamodel ≡ 0 → (class_at s.metas c).is_abstract ≡ false → IsClassFor s c 0
-  class_for c live first concrete = record {
+  pub class_for : (c : ℕ) → c < length s.metas.classes → (class_at s.metas c).metamodel ≡ r.metamodel → (class_at s.metas c).is_abstract ≡ false → IsClassFor s c 0
+  class_for c live home concrete = record {
     extent = ap (λ (xs : List Extent). nat_lt 0 (length xs)) making.extents;
     live = live;
-    metamodel = first ∙ ap (λ (xs : List Extent). (slice_index_or xs 0 no_extent).metamodel) (sym making.extents);
+    metamodel = home ∙ ap (λ (xs : List Extent). (slice_index_or xs 0 no_extent).metamodel) (sym making.extents);
     concrete = concrete;
   }
 
-  pub new_making : (c : ℕ) (s' : Contents) → s' ≡ with_new s c 0 → Sound (with_new s c 0) → IsMaking model s'
+  pub new_making : (c : ℕ) (s' : Contents) → s' ≡ with_new s c 0 → Sound (with_new s c 0) → IsMaking r s'
   new_making c s' is sound = record { extents = ap (λ (t : Contents). t.extents) is ∙ making.extents; sound = subst Sound (sym is) sound }
 
-  pub is_output : is_extent s 0 ≡ true
+  is_output : is_extent s 0 ≡ true
   is_output = ap (λ (xs : List Extent). nat_lt 0 (length xs)) making.extents
+
+  pub has_output : is_named r.model ≡ true → HasOutput s
+  has_output named = record {
+    extent = is_output;
+    model = ap (λ (xs : List Extent). is_named (slice_index_or xs 0 no_extent).name) making.extents ∙ named;
+    writable = writable 0 is_output;
+    sound = making.sound;
+  }
 
 below : (n : ℕ) → nat_lt n (n + 1) ≡ true
 below n = lt-ltb n (n + 1) (omega arith)
@@ -88,8 +97,11 @@ below n = lt-ltb n (n + 1) (omega arith)
 pub new_live : (c : ℕ) (s s' : Contents) (n : ℕ) → n ≡ length s.objects → s' ≡ with_new s c 0 → is_live s' n ≡ true
 new_live c s s' n at is = ap (λ (t : Contents). is_live t n) is ∙ ap (nat_lt n) (length-append s.objects _) ∙ ap (λ k. nat_lt n (k + 1)) (sym at) ∙ below n
 
-pub named : (m : Metamodels) (model : List ℕ) → have_names m model ≡ true → AreNamed m (outputs model)
-named m model h = record { named = names } where
-  names : (e : ℕ) → nat_lt e 1 ≡ true → is_named (slice_index_or (outputs model) e no_extent).name ≡ is_named (metamodel_at m (slice_index_or (outputs model) e no_extent).metamodel).name
-  names zero k = and_right (is_named (metamodel_at m 0).name) (is_named model) h ∙ sym (and_left (is_named (metamodel_at m 0).name) (is_named model) h)
+pub model_named : (m : Metamodels) (r : SmallRun) → have_names m r.metamodel r.model ≡ true → is_named r.model ≡ true
+model_named m r h = and_right (is_named (metamodel_at m r.metamodel).name) (is_named r.model) h
+
+pub named : (m : Metamodels) (r : SmallRun) → have_names m r.metamodel r.model ≡ true → AreNamed m (outputs r)
+named m r h = record { named = names } where
+  names : (e : ℕ) → nat_lt e 1 ≡ true → is_named (slice_index_or (outputs r) e no_extent).name ≡ is_named (metamodel_at m (slice_index_or (outputs r) e no_extent).metamodel).name
+  names zero k = model_named m r h ∙ sym (and_left (is_named (metamodel_at m r.metamodel).name) (is_named r.model) h)
   names (suc e) k = absurd (let q = ltb-true (suc e) 1 k in omega (arith, q))

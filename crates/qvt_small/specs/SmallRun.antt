@@ -1,7 +1,7 @@
--- Which small texts can be run, what they cost, and what a run tells.
+-- Which small texts can be run over metamodels, what they cost, and what a run tells.
 use Rattle.std.specs.Prelude.{ℕ, ◌+◌, ◌*◌, Bool, true, false, ◌&&◌, List, [], ◌∷◌, ◌++◌, length, nat_le, sum_by, Option, Some, None, is_some, if◌then◌else◌, decimal, codes}
 use Rattle.std.specs.List.{list_all}
-use Rattle.std.specs.Option.{option_map_or}
+use Rattle.std.specs.Option.{option_map_or, option_and_then}
 use Rattle.std.specs.Str.{bytes_eq}
 use Rattle.qvt_base.specs.declared.numbers.FeatureNo.{FeatureNo}
 use Rattle.qvt_metamodel.specs.declared.info.TypeKind.{TypeKind}
@@ -12,6 +12,7 @@ use Rattle.qvt_slots.specs.Contents.{is_named}
 use Rattle.qvt_small.specs.declared.text.Assignment.{Assignment}
 use Rattle.qvt_small.specs.declared.text.SmallObject.{SmallObject}
 use Rattle.qvt_small.specs.declared.text.SmallText.{SmallText}
+use Rattle.qvt_small.specs.declared.text.SmallRun.{SmallRun}
 
 abbrev pub is_integer : TypeKind → Bool
 is_integer BoolKind = false
@@ -27,7 +28,7 @@ abbrev pub if_holds_one : Metamodels → Option FeatureNo → Option FeatureNo
 if_holds_one m None = None
 if_holds_one m (Some f) = if holds_one_integer m f then Some f else None
 
--- the attribute of this name that objects of the class have; in a small metamodel each feature holds one Integer
+-- the attribute of this name that objects of the class have, if it holds one Integer
 abbrev pub attribute_named : Metamodels → ℕ → List ℕ → Option FeatureNo
 attribute_named m c name = if_holds_one m (feature_named m c name)
 
@@ -35,9 +36,9 @@ abbrev pub if_concrete : Metamodels → Option ℕ → Option ℕ
 if_concrete m None = None
 if_concrete m (Some c) = if (class_at m c).is_abstract then None else Some c
 
--- the class of this name in the one metamodel; in a small metamodel each class is concrete
-abbrev pub concrete_named : Metamodels → List ℕ → Option ℕ
-concrete_named m name = if_concrete m (class_named m 0 name)
+-- the class of this name in a metamodel, if it is concrete
+abbrev pub concrete_named : Metamodels → ℕ → List ℕ → Option ℕ
+concrete_named m k name = if_concrete m (class_named m k name)
 
 -- the name is that of an attribute of the class
 abbrev pub is_attribute : Metamodels → ℕ → Assignment → Bool
@@ -47,21 +48,30 @@ abbrev pub fits_class : Metamodels → SmallObject → ℕ → Bool
 fits_class m o c = list_all (is_attribute m c) o.assignments
 
 -- the object's class is in the metamodel, and each assigned name is an attribute of it
-abbrev pub fits_object : Metamodels → SmallObject → Bool
-fits_object m o = option_map_or (fits_class m o) (concrete_named m o.class) false
+abbrev pub fits_object : Metamodels → ℕ → SmallObject → Bool
+fits_object m k o = option_map_or (fits_class m o) (concrete_named m k o.class) false
 
 -- the metamodel and the model have names, as those of files do
-abbrev pub have_names : Metamodels → List ℕ → Bool
-have_names m model = is_named (metamodel_at m 0).name && is_named model
+abbrev pub have_names : Metamodels → ℕ → List ℕ → Bool
+have_names m k model = is_named (metamodel_at m k).name && is_named model
 
 -- there is room for the objects, as there is for those of any text that is short enough
 abbrev pub have_room : List SmallObject → Bool
 have_room objects = nat_le (length objects) 1000000
 
--- the text fits the metamodel, which is the first, and the model that the job names for its output
-unfoldable pub fits : Metamodels → List ℕ → SmallText → Bool
-fits m model t = have_names m model && have_room t.objects && is_some (metamodel_named m t.uses) && bytes_eq t.parameter_type t.type_name
-    && bytes_eq t.parameter model && list_all (fits_object m) t.objects
+-- the text fits the metamodel of this number
+unfoldable pub fits : Metamodels → ℕ → SmallText → Bool
+fits m k t = have_names m k t.parameter && have_room t.objects && bytes_eq t.parameter_type t.type_name && list_all (fits_object m k) t.objects
+
+abbrev pub run_over : SmallText → ℕ → SmallRun
+run_over t k = record { metamodel = k; model = t.parameter; objects = t.objects }
+
+abbrev pub run_if_fits : Metamodels → SmallText → ℕ → Option SmallRun
+run_if_fits m t k = if fits m k t then Some (run_over t k) else None
+
+-- the run of a text over the metamodel that it names, if it fits that
+unfoldable pub run_of : Metamodels → SmallText → Option SmallRun
+run_of m t = option_and_then (run_if_fits m t) (metamodel_named m t.uses)
 
 -- two units for an object and two for each assignment
 abbrev pub cost_of : SmallObject → ℕ

@@ -1,15 +1,14 @@
 -- What a small text means: each `object` makes an object of its class, and each `:=` in it sets an attribute to a literal,
 -- in order, so that the last literal of an attribute stays (QVT 1.3, 8.2.2.24 and 8.2.2.12).
-use Rattle.std.specs.Prelude.{◌≡◌, ℕ, true, List, [], ◌∷◌, length, fold, Option, Some, None}
+use Rattle.std.specs.Prelude.{◌≡◌, ℕ, true, List, [], ◌∷◌, length, fold, Option, Some, None, IsTrue}
 use Rattle.qvt_base.specs.declared.numbers.FeatureNo.{FeatureNo}
 use Rattle.qvt_value.specs.declared.value.Value.TheVariants.{Int as IntValue}
 use Rattle.qvt_metamodel.specs.Metamodels.{Metamodels}
 use Rattle.qvt_slots.specs.declared.extent.Extent.{Extent}
-use Rattle.qvt_slots.specs.Contents.{Contents, class_of, with_new, with_slot}
+use Rattle.qvt_slots.specs.Contents.{Contents, class_of, extent_at, is_extent, is_model, with_new, with_slot}
 use Rattle.qvt_store.specs.Sound.{Sound}
-use Rattle.qvt_model.specs.Extents.{data_of}
-use Rattle.qvt_model.specs.Written as model
 use Rattle.qvt_small.specs.SmallRun.{attribute_named, concrete_named}
+use Rattle.qvt_small.specs.declared.text.SmallRun.{SmallRun}
 use Rattle.qvt_small.specs.declared.text.Assignment.{Assignment}
 use Rattle.qvt_small.specs.declared.text.SmallObject.{SmallObject}
 
@@ -25,31 +24,31 @@ abbrev pub with_class : Contents → Option ℕ → SmallObject → Contents
 with_class s None o = s
 with_class s (Some c) o = fold (with_assignment (length s.objects)) (with_new s c 0) o.assignments
 
--- one object more, with its assignments carried out
-abbrev pub with_object : Contents → SmallObject → Contents
-with_object s o = with_class s (concrete_named s.metas o.class) o
+-- one object more of a class of the metamodel, with its assignments carried out
+abbrev pub with_object : ℕ → Contents → SmallObject → Contents
+with_object k s o = with_class s (concrete_named s.metas k o.class) o
 
-abbrev pub output : List ℕ → Extent
-output model = record { name = model; metamodel = 0; writable = true }
+abbrev pub output : SmallRun → Extent
+output r = record { name = r.model; metamodel = r.metamodel; writable = true }
 
-abbrev pub outputs : List ℕ → List Extent
-outputs model = output model ∷ []
+abbrev pub outputs : SmallRun → List Extent
+outputs r = output r ∷ []
 
--- the store before: the model of the output, without objects
-abbrev pub store_before : Metamodels → List ℕ → Contents
-store_before m model = record { metas = m; extents = outputs model; objects = [] }
+-- the store before: the model of the parameter, without objects
+abbrev pub store_before : Metamodels → SmallRun → Contents
+store_before m r = record { metas = m; extents = outputs r; objects = [] }
 
-unfoldable pub store_after : Metamodels → List ℕ → List SmallObject → Contents
-store_after m model os = fold with_object (store_before m model) os
-
--- the text that is written for the model of a store
-abbrev pub written : Contents → List ℕ
-written s = model.model_text s.metas (data_of s 0)
-
-unfoldable pub model_text : Metamodels → List ℕ → List SmallObject → List ℕ
-model_text m model os = written (store_after m model os)
+unfoldable pub store_after : Metamodels → SmallRun → Contents
+store_after m r = fold (with_object r.metamodel) (store_before m r) r.objects
 
 -- what holds while the objects are made
-pub record IsMaking (model : List ℕ) (s : Contents) : Type 0 where
-  pub extents : s.extents ≡ outputs model
+pub record IsMaking (r : SmallRun) (s : Contents) : Type 0 where
+  pub extents : s.extents ≡ outputs r
+  pub sound : Sound s
+
+-- the first extent is a model's that can be written
+pub record HasOutput (s : Contents) : Type 0 where
+  pub extent : IsTrue (is_extent s 0)
+  pub model : IsTrue (is_model s 0)
+  pub writable : IsTrue (extent_at s 0).writable
   pub sound : Sound s

@@ -2,10 +2,11 @@ ghost use Rattle.std.specs.Prelude.{◌≡◌, ◌≤◌, ◌<◌, ◌+◌, leng
 ghost use Rattle.std.specs.List.{list_all};
 ghost use Rattle.qvt_metamodel.specs.declared.info.TypeKind.TheVariants.{Int};
 ghost use Rattle.qvt_metamodel.specs.Metamodels.{class_at, shape_of, is_single, has_feature};
-ghost use Rattle.qvt_small.specs.SmallRun.{holds_one_integer, attribute_named, concrete_named, cost_of, cost, is_attribute, fits_object, have_names, fits};
+ghost use Rattle.qvt_small.specs.SmallRun.{holds_one_integer, attribute_named, concrete_named, cost_of, cost, is_attribute, fits_object, have_names, fits, run_of};
 
-use crate::text::{Assignment, SmallObject, SmallText};
+use crate::text::{Assignment, SmallObject, SmallRun, SmallText};
 use qvt_base::numbers::{ClassNo, FeatureNo};
+use qvt_base::text::Text;
 use qvt_metamodel::info::TypeKind;
 use qvt_metas::metas::Metas;
 
@@ -41,14 +42,14 @@ pub(crate) fn attribute(metas: &Metas, class: ClassNo, name: &str) -> Option<Fea
     }
 }
 
-/// The concrete class of this name in the first metamodel.
-pub(crate) fn concrete_class(metas: &Metas, name: &str) -> Option<ClassNo>
-    ensures named { option_map (λ c. c.0) result ≡ concrete_named metas.now name.now }
+/// The concrete class of this name in a metamodel.
+pub(crate) fn concrete_class(metas: &Metas, metamodel: u32, name: &str) -> Option<ClassNo>
+    ensures named { option_map (λ c. c.0) result ≡ concrete_named metas.now metamodel name.now }
     ensures live { IfSome result (λ c. c.0 < length metas.now.classes) }
-    ensures first { IfSome result (λ c. (class_at metas.now c.0).metamodel ≡ 0) }
+    ensures home { IfSome result (λ c. (class_at metas.now c.0).metamodel ≡ metamodel) }
     ensures concrete { IfSome result (λ c. IsFalse (class_at metas.now c.0).is_abstract) }
 {
-    match metas.class(0, name) {
+    match metas.class(metamodel, name) {
         None => None,
         Some(class) => {
             if metas.is_abstract(class) {
@@ -73,20 +74,20 @@ fn are_attributes(metas: &Metas, class: ClassNo, assignments: &[Assignment]) -> 
 }
 
 /// Whether the object is of a class of the metamodel, with attributes of it.
-fn fits_object(metas: &Metas, object: &SmallObject) -> bool
-    ensures { result ≡ fits_object metas.now object.now }
+fn fits_object(metas: &Metas, metamodel: u32, object: &SmallObject) -> bool
+    ensures { result ≡ fits_object metas.now metamodel object.now }
 {
-    match concrete_class(metas, object.class.as_str()) {
+    match concrete_class(metas, metamodel, object.class.as_str()) {
         Some(class) => are_attributes(metas, class, object.assignments.as_slice()),
         None => false,
     }
 }
 
-fn fit_objects(metas: &Metas, objects: &[SmallObject]) -> bool
-    ensures { result ≡ list_all (fits_object metas.now) objects.now }
+fn fit_objects(metas: &Metas, metamodel: u32, objects: &[SmallObject]) -> bool
+    ensures { result ≡ list_all (fits_object metas.now metamodel) objects.now }
 {
     for object in objects {
-        if !fits_object(metas, object) {
+        if !fits_object(metas, metamodel, object) {
             return false;
         }
     }
@@ -94,24 +95,35 @@ fn fit_objects(metas: &Metas, objects: &[SmallObject]) -> bool
 }
 
 /// Whether the metamodel and the model have names.
-fn have_names(metas: &Metas, model: &str) -> bool
-    ensures { result ≡ have_names metas.now model.now }
+fn have_names(metas: &Metas, metamodel: u32, model: &Text) -> bool
+    ensures { result ≡ have_names metas.now metamodel model.now }
 {
-    !metas.metamodel_name(0).is_empty() && !model.is_empty()
+    !metas.metamodel_name(metamodel).is_empty() && !model.as_str().is_empty()
 }
 
-/// Whether the text fits the one metamodel and the model of the one output.
+/// Whether the text fits the metamodel.
 #[tactic(auto, unfolding(crate::specs::SmallRun::fits))]
-pub fn fits(metas: &Metas, model: &str, text: &SmallText) -> bool
-    ensures fits { result ≡ fits metas.now model.now text.now }
-    ensures named { IsTrue result → IsTrue (have_names metas.now model.now) }
+fn fits(metas: &Metas, metamodel: u32, text: &SmallText) -> bool
+    ensures fits { result ≡ fits metas.now metamodel text.now }
+    ensures named { IsTrue result → IsTrue (have_names metas.now metamodel text.now.parameter) }
 {
-    have_names(metas, model)
+    have_names(metas, metamodel, &text.parameter)
         && text.objects.len() <= 1_000_000
-        && metas.metamodel(text.uses.as_str()).is_some()
         && text.parameter_type.as_str() == text.type_name.as_str()
-        && text.parameter.as_str() == model
-        && fit_objects(metas, text.objects.as_slice())
+        && fit_objects(metas, metamodel, text.objects.as_slice())
+}
+
+/// The run of a text over the metamodel that it names; None where it names none, or does not fit it.
+#[tactic(auto, unfolding(crate::specs::SmallRun::run_of))]
+pub fn run_of(metas: &Metas, text: SmallText) -> Option<SmallRun>
+    ensures run { result ≡ run_of metas.now text }
+    ensures named { IfSome result (λ r. IsTrue (have_names metas.now r.metamodel r.model)) }
+{
+    let metamodel = metas.metamodel(text.uses.as_str())?;
+    if !fits(metas, metamodel, &text) {
+        return None;
+    }
+    Some(text.into_run(metamodel))
 }
 
 /// Charges for an object and its assignments, None where the cost would pass the fuel.

@@ -1,6 +1,7 @@
 ghost use Rattle.std.specs.Prelude.{◌≡◌, map, option_map, IfOk};
 ghost use Rattle.qvt_tree_types.specs.View.{expr_view, stmt_view, target_view, block_view};
 ghost use Rattle.qvt_tree_types.specs.Module.{unit_view, module_view};
+ghost use Rattle.qvt_small.specs.SmallRun.{run_over};
 ghost use Rattle.qvt_small.specs.SmallText.{all_of, bare_name, literal, assignment_of, one_name, object_in, object_of, objects_of, one_unit, one_type, one_param, small_of};
 
 use qvt_base::copied::Copied;
@@ -57,6 +58,44 @@ impl Drop for SmallText {
             parameter_type,
             objects,
         } = self;
+    }
+}
+
+/// The run of a small text: the objects that it makes in the model of its parameter, which is of the
+/// metamodel of this number.
+pub struct SmallRun {
+    pub metamodel: u32,
+    pub model: Text,
+    pub objects: Seq<SmallObject>,
+}
+
+impl Drop for SmallRun {
+    fn drop(self) {
+        let SmallRun {
+            metamodel,
+            model,
+            objects,
+        } = self;
+    }
+}
+
+impl SmallText {
+    /// The run of the text over the metamodel of this number.
+    pub(crate) fn into_run(self, metamodel: u32) -> SmallRun
+        ensures { result ≡ run_over self metamodel }
+    {
+        let SmallText {
+            type_name,
+            uses,
+            parameter,
+            parameter_type,
+            objects,
+        } = self;
+        SmallRun {
+            metamodel,
+            model: parameter,
+            objects,
+        }
     }
 }
 
