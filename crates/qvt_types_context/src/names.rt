@@ -2,28 +2,22 @@
 
 ghost use Rattle.std.specs.Prelude.{◌≡◌, IfOk};
 ghost use Rattle.qvt_types_context.specs.Seen.{heads_seen};
-ghost use Rattle.qvt_types_data.specs.declared.refusal.RefusalKind.TheVariants as refusal;
-ghost use Rattle.qvt_types_data.specs.declared.ruling.Ruling.TheVariants as rulings;
-ghost use Rattle.qvt_types_data.specs.declared.ty.Ty.{out-Ty};
-ghost use Rattle.qvt_types_names.specs.Names as found;
 ghost use Rattle.qvt_typing.specs.Names as names;
 
 use crate::context::Heads;
 use qvt_base::copied::Copied;
 use qvt_base::list_fault::ListFault;
-use qvt_base::numbers::{ClassNo, FeatureNo};
+use qvt_base::numbers::ClassNo;
 use qvt_base::text::Text;
-use qvt_metas::metas::Metas;
-use qvt_types_classes::classes::is_typed;
 use qvt_types_data::note::Reading;
 use qvt_types_data::refusal::RefusalKind;
 use qvt_types_data::ruling::{Read, Ruling};
 use qvt_types_data::ty::{Ty, copied};
 use qvt_types_data::variable::{Variable, VariableSort};
+use qvt_types_names::sources::model_or;
 use qvt_types_paths::paths::path_literal;
 use qvt_types_states::scope::Scope;
 use qvt_types_steps::classes::ClassPart;
-use qvt_types_words::types::feature_type;
 use qvt_value::value::LiteralRef;
 use std::alloc::Global;
 
@@ -138,100 +132,6 @@ pub fn result_ruled(alloc: Global, class: ClassPart) -> Result<Ruling, ListFault
     held_ruled(alloc, "#result", RefusalKind::ResultPlace, class)
 }
 
-/// The property of this name that values of the type have.
-fn feature_in(metas: &Metas, t: &Ty, name: &str) -> Option<FeatureNo>
-    ensures { result ≡ found.feature_in metas.now name.now (out-Ty t.now) }
-{
-    match t {
-        Ty::Class(class) => metas.feature(*class, name),
-        _ => None,
-    }
-}
-
-/// What is ruled of a name that is a property of an implicit source.
-fn property_of(
-    alloc: Global,
-    heads: &Heads<'_>,
-    source: &Text,
-    feature: FeatureNo,
-) -> Result<Ruling, ListFault>
-    ensures { IfOk result (λ r. r ≡ found.property_of heads.now.units.now.metas heads.now.first heads.now.typed.now source.now feature) }
-{
-    let answer = if is_typed(heads.first, heads.typed, feature) {
-        Some(feature_type(alloc, heads.units.metas().shape(feature))?)
-    } else {
-        None
-    };
-    Ok(Ruling::Holds(Read {
-        reading: Reading::Feature(feature),
-        source: Some(source.copy(alloc)?),
-        wrap: false,
-        collect: false,
-        answer,
-    }))
-}
-
-/// The ruling of a name by one more implicit source, which is nearer than those of the ruling so far.
-#[tactic(auto, unfolding(qvt_types_names::specs::Names::by_source))]
-fn by_source(
-    alloc: Global,
-    heads: &Heads<'_>,
-    name: &str,
-    source: &Variable,
-    otherwise: Ruling,
-) -> Result<Ruling, ListFault>
-    ensures { IfOk result (λ r. r ≡ found.by_source heads.now.units.now.metas heads.now.first heads.now.typed.now name.now source.now otherwise) }
-{
-    let VariableSort::Implicit = source.sort else {
-        return Ok(otherwise);
-    };
-    let Some(t) = &source.ty else {
-        return Ok(Ruling::Silent);
-    };
-    match feature_in(heads.units.metas(), t, name) {
-        None => Ok(otherwise),
-        Some(feature) => property_of(alloc, heads, &source.name, feature),
-    }
-}
-
-/// What is ruled of a name that is no variable and no model.
-fn by_sources(
-    alloc: Global,
-    heads: &Heads<'_>,
-    name: &str,
-    sources: &[Variable],
-) -> Result<Ruling, ListFault>
-    ensures { IfOk result (λ r. r ≡ found.by_sources heads.now.units.now.metas heads.now.first heads.now.typed.now name.now (rulings.Fails refusal.UnknownName) sources.now) }
-{
-    let mut ruling = Ruling::Fails(RefusalKind::UnknownName);
-    for source in sources {
-        ruling = by_source(alloc, heads, name, source, ruling)?;
-    }
-    Ok(ruling)
-}
-
-/// What is ruled of a name that is no variable: that of a model may stand before a model's operation alone.
-fn model_or(
-    alloc: Global,
-    heads: &Heads<'_>,
-    is_source: bool,
-    sources: &[Variable],
-    name: &str,
-) -> Result<Ruling, ListFault>
-    ensures { IfOk result (λ r. r ≡ found.model_or heads.now.units.now.metas heads.now.first heads.now.typed.now is_source sources.now name.now (names.model_named (heads_seen heads.now) name.now)) }
-{
-    match heads.models.names.place(name) {
-        Some(model) => {
-            if is_source {
-                Ok(Ruling::Holds(Read::plain(Reading::Model(model), None)))
-            } else {
-                Ok(Ruling::Fails(RefusalKind::ModelUse))
-            }
-        }
-        None => by_sources(alloc, heads, name, sources),
-    }
-}
-
 /// What is ruled of a name alone.
 #[tactic(auto, unfolding(qvt_typing::specs::Names::name_ruled))]
 fn name_ruled(
@@ -245,7 +145,19 @@ fn name_ruled(
 {
     match scope.find(name) {
         Some(known) => variable_ruled(alloc, name, &known.ty),
-        None => model_or(alloc, heads, is_source, scope.sources(), name),
+        None => {
+            let model = heads.models.names.place(name);
+            model_or(
+                alloc,
+                heads.units.metas(),
+                heads.first,
+                heads.typed,
+                is_source,
+                scope.sources(),
+                name,
+                model,
+            )
+        }
     }
 }
 
