@@ -24,17 +24,18 @@ fn item(alloc: Global, data: &str, number: u32) -> Option<Value> {
     Some(Value::Str(Text::from_string(text)))
 }
 
-fn scattered(number: u32, from: u32) -> u32 {
-    number.wrapping_mul(2_654_435_761).wrapping_add(from) ^ 0x5bd1_e995
+fn scattered(number: u32) -> u32 {
+    number.wrapping_mul(2_654_435_761) ^ 0x5bd1_e995
 }
 
-/// So many items: numbers or texts, scattered, or rising numbers.
+/// So many items, those from a number on: numbers or texts, scattered, or rising numbers.
 pub fn items(alloc: Global, data: &str, from: u32, n: u32) -> Option<Values> {
     let mut items = Seq::new(alloc);
-    for number in 0..n {
+    for place in 0..n {
+        let number = from.wrapping_add(place);
         let value = match data {
-            "rising" => Value::Int(i64::from(from) + i64::from(number)),
-            _ => item(alloc, data, scattered(number, from))?,
+            "rising" => Value::Int(i64::from(number)),
+            _ => item(alloc, data, scattered(number))?,
         };
         items.push(value).ok()?;
     }
@@ -56,11 +57,12 @@ pub fn one(alloc: Global, value: Value) -> Option<Values> {
     Some(values)
 }
 
-/// A text of so many characters, of two bytes each.
-pub fn long_text(alloc: Global, n: u32) -> Option<Text> {
+/// A text of so many characters: letters of two bytes each, or the digit 0.
+pub fn long_text(alloc: Global, data: &str, n: u32) -> Option<Text> {
+    let c = if data == "digits" { '0' } else { '\u{e9}' };
     let mut text = Text::new(alloc);
     for _character in 0..n {
-        text.push('\u{e9}').ok()?;
+        text.push(c).ok()?;
     }
     Some(text)
 }

@@ -4,6 +4,7 @@
 #![tactic(auto)]
 
 mod files;
+mod forms;
 mod items;
 mod meta;
 mod metas;

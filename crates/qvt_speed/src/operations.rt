@@ -1,18 +1,28 @@
 //! Applies an operation so many times to a collection of so many items, or to a text of so many characters. Its words are the
-//! form, the items (`numbers`, `texts` or `rising` numbers), the kind (`set`, `bag`, `sequence` or `ordered`) and the two
-//! numbers. The forms `copy` and `sort` are plain loops over a vector of the same values, `copy` in the order that they have in
-//! the collection, `chars` is one over the text, and the forms that end in `Onto` hand each answer over to the next call.
+//! form, the items (`numbers`, `texts` or `rising` numbers; of a text `letters` or `digits`), the kind (`set`, `bag`, `sequence`
+//! or `ordered`) and the two numbers. The forms `copy` and `sort` are plain loops over a vector of the same values, `copy` in the
+//! order that they have in the collection, `chars` is one over the text. After the words `onto`, `made` and `made-onto` come an
+//! operation's words: each answer is handed over to the next call, the source is known to be as made, or both.
 //! `bench/operations.sh` times it.
 
-use crate::items::{items, kind_of, long_text, longest, one};
-use crate::words::{number, word};
+ghost use Rattle.std.specs.Prelude.{All, IfSome};
+ghost use Rattle.qvt_value.specs.Items.{stands_for};
+ghost use Rattle.qvt_ocl_made.specs.AsMade.{IsAsMade};
+
+use crate::forms::{
+    Taking, Work, collection, collection_arguments, on_collections, on_texts, text, text_arguments,
+    work_of,
+};
+use crate::items::{items, long_text};
+use crate::words::word;
 use qvt_base::lists::Bytes;
 use qvt_base::numbers::Place;
-use qvt_ocl::apply::{apply, apply_owned};
+use qvt_ocl::apply::{apply, apply_made_lent, apply_made_owned, apply_owned};
+use qvt_ocl_made::as_made::{are_as_made, is_as_made};
 use qvt_ocl_words::op::Op;
 use qvt_value::copy::copies;
-use qvt_value::make::make;
-use qvt_value::value::{Kind, Value, Values};
+use qvt_value::items::Items;
+use qvt_value::value::{Value, Values};
 use std::alloc::Global;
 
 const HERE: Place = Place {
@@ -21,117 +31,29 @@ const HERE: Place = Place {
     offset: 0,
 };
 
-/// The arguments of a call.
-#[derive(Clone, Copy)]
-enum Taking {
-    Nothing,
-    /// A collection of the same kind, half of whose items are the source's.
-    Half,
-    /// An item that comes after all others.
-    Last,
-    /// The last index.
-    Index,
-    /// The indices of the second half.
-    Span,
-    /// A text that stands nowhere.
-    Absent,
-}
-
-/// The operations on a collection, each by the name of its form and with how it is called.
-const ON_COLLECTIONS: [(&str, Op, Taking); 12] = [
-    ("asSet", Op::AsSet, Taking::Nothing),
-    ("asOrderedSet", Op::AsOrderedSet, Taking::Nothing),
-    ("union", Op::Union, Taking::Half),
-    ("intersection", Op::Intersection, Taking::Half),
-    ("minus", Op::Minus, Taking::Half),
-    ("includesAll", Op::IncludesAll, Taking::Half),
-    ("including", Op::Including, Taking::Last),
-    ("append", Op::Append, Taking::Last),
-    ("reverse", Op::Reverse, Taking::Nothing),
-    ("flatten", Op::Flatten, Taking::Nothing),
-    ("sum", Op::Sum, Taking::Nothing),
-    ("max", Op::Max, Taking::Nothing),
-];
-
-/// The operations on a collection that is handed over.
-const ONTO_COLLECTIONS: [(&str, Op, Taking); 2] = [
-    ("includingOnto", Op::Including, Taking::Last),
-    ("appendOnto", Op::Append, Taking::Last),
-];
-
-/// The operations on a text.
-const ON_TEXTS: [(&str, Op, Taking); 4] = [
-    ("textIndexOf", Op::IndexOf, Taking::Absent),
-    ("textSubstring", Op::Substring, Taking::Span),
-    ("textAt", Op::At, Taking::Index),
-    ("textCharacters", Op::Characters, Taking::Nothing),
-];
-
-/// What is asked for: the items, their kind, how many there are, and how many calls.
-#[derive(Clone, Copy)]
-struct Work<'a> {
-    data: &'a str,
-    kind: Kind,
-    n: u32,
-    times: u32,
-}
-
-/// The operation of a form, and how it is called.
-fn named(forms: &[(&str, Op, Taking)], name: &str) -> Option<(Op, Taking)> {
-    for (form, op, taking) in forms {
-        if *form == name {
-            return Some((*op, *taking));
-        }
-    }
-    None
-}
-
-/// Two indices.
-fn span(alloc: Global, n: u32) -> Option<Values> {
-    let mut indices = one(alloc, Value::Int(i64::from(n / 2)))?;
-    indices.push(Value::Int(i64::from(n))).ok()?;
-    Some(indices)
-}
-
-/// A collection, half of whose items are those of the source.
-fn half(alloc: Global, work: &Work) -> Option<Value> {
-    let others = items(alloc, work.data, work.n / 2, work.n)?;
-    make(alloc, work.kind, others).ok()
-}
-
-fn arguments(alloc: Global, taking: Taking, work: &Work) -> Option<Values> {
-    match taking {
-        Taking::Nothing => Some(Values::new(alloc)),
-        Taking::Half => one(alloc, half(alloc, work)?),
-        Taking::Last => one(alloc, longest(alloc, work.data)?),
-        Taking::Index => one(alloc, Value::Int(i64::from(work.n))),
-        Taking::Span => span(alloc, work.n),
-        Taking::Absent => one(alloc, longest(alloc, "texts")?),
-    }
-}
-
 /// Makes the calls of an operation on a source.
-fn called(alloc: Global, op: Op, taking: Taking, source: &Value, work: &Work) -> Option<()> {
-    let args = arguments(alloc, taking, work)?;
-    for _time in 0..work.times {
-        apply(alloc, op, HERE, source, args.as_slice()).ok()?;
+fn called(alloc: Global, op: Op, source: &Value, args: &[Value], times: u32) -> Option<()> {
+    for _time in 0..times {
+        apply(alloc, op, HERE, source, args).ok()?;
     }
     Some(())
 }
 
-/// The collection.
-fn collection(alloc: Global, work: &Work) -> Option<Value> {
-    make(alloc, work.kind, items(alloc, work.data, 0, work.n)?).ok()
-}
-
 fn on_collection(alloc: Global, op: Op, taking: Taking, work: &Work) -> Option<()> {
     let source = collection(alloc, work)?;
-    called(alloc, op, taking, &source, work)
+    let args = collection_arguments(alloc, taking, work)?;
+    called(alloc, op, &source, args.as_slice(), work.times)
+}
+
+fn on_text(alloc: Global, op: Op, taking: Taking, work: &Work) -> Option<()> {
+    let source = text(alloc, work)?;
+    let args = text_arguments(alloc, taking, work)?;
+    called(alloc, op, &source, args.as_slice(), work.times)
 }
 
 /// Makes the calls of an operation, each on the answer of the call before it.
 fn onto_collection(alloc: Global, op: Op, taking: Taking, work: &Work) -> Option<()> {
-    let args = arguments(alloc, taking, work)?;
+    let args = collection_arguments(alloc, taking, work)?;
     let mut answer = collection(alloc, work)?;
     for _time in 0..work.times {
         answer = apply_owned(alloc, op, HERE, answer, args.as_slice()).ok()?;
@@ -139,9 +61,54 @@ fn onto_collection(alloc: Global, op: Op, taking: Taking, work: &Work) -> Option
     Some(())
 }
 
-fn on_text(alloc: Global, op: Op, taking: Taking, work: &Work) -> Option<()> {
-    let source = Value::Str(long_text(alloc, work.n)?);
-    called(alloc, op, taking, &source, work)
+fn called_made(alloc: Global, op: Op, source: &Items<'_>, args: &[Value], times: u32) -> Option<()>
+    requires { IsAsMade (stands_for source.now) }
+{
+    for _time in 0..times {
+        apply_made_lent(alloc, op, HERE, source, args).ok()?;
+    }
+    Some(())
+}
+
+/// Makes the calls of an operation on a source that is as made.
+fn on_made(alloc: Global, op: Op, taking: Taking, work: &Work) -> Option<()> {
+    let source = collection(alloc, work)?;
+    let args = collection_arguments(alloc, taking, work)?;
+    if !is_as_made(alloc, &source).ok()? {
+        return None;
+    }
+    match &source {
+        Value::Coll(kind, items) => {
+            let lent = Items::Lent(*kind, items.as_slice());
+            called_made(alloc, op, &lent, args.as_slice(), work.times)
+        }
+        _ => None,
+    }
+}
+
+/// The collection, where it is as made.
+fn collection_made(alloc: Global, work: &Work) -> Option<Value>
+    ensures { IfSome result (λ value. IsAsMade value) }
+{
+    let value = collection(alloc, work)?;
+    if is_as_made(alloc, &value).ok()? {
+        Some(value)
+    } else {
+        None
+    }
+}
+
+/// Makes the calls of an operation on a source that is as made, each on the answer of the call before it.
+fn onto_made(alloc: Global, op: Op, taking: Taking, work: &Work) -> Option<()> {
+    let args = collection_arguments(alloc, taking, work)?;
+    let mut answer = collection_made(alloc, work)?;
+    if !are_as_made(alloc, args.as_slice()).ok()? {
+        return None;
+    }
+    for _time in 0..work.times {
+        answer = apply_made_owned(alloc, op, HERE, answer, args.as_slice()).ok()?;
+    }
+    Some(())
 }
 
 fn copied(alloc: Global, work: &Work) -> Option<()> {
@@ -172,7 +139,7 @@ fn sum_of_characters(text: &str) -> u64 {
 }
 
 fn summed(alloc: Global, work: &Work) -> Option<u64> {
-    let text = long_text(alloc, work.n)?;
+    let text = long_text(alloc, work.data, work.n)?;
     let mut all: u64 = 0;
     for _time in 0..work.times {
         all = all.wrapping_add(sum_of_characters(text.as_str()));
@@ -182,13 +149,10 @@ fn summed(alloc: Global, work: &Work) -> Option<u64> {
 
 /// Does an operation's form.
 fn applied(alloc: Global, form: &str, work: &Work) -> Option<()> {
-    if let Some((op, taking)) = named(&ON_TEXTS, form) {
+    if let Some((op, taking)) = on_texts(form) {
         return on_text(alloc, op, taking, work);
     }
-    if let Some((op, taking)) = named(&ONTO_COLLECTIONS, form) {
-        return onto_collection(alloc, op, taking, work);
-    }
-    let (op, taking) = named(&ON_COLLECTIONS, form)?;
+    let (op, taking) = on_collections(form)?;
     on_collection(alloc, op, taking, work)
 }
 
@@ -205,29 +169,27 @@ fn done(alloc: Global, form: &str, work: &Work) -> Option<()> {
     }
 }
 
-/// What the words after the form ask for.
-fn work_of<'a>(words: &[&'a str]) -> Option<Work<'a>> {
-    let kind = kind_of(word(words, 3))?;
-    let n = number(words, 4)?;
-    let times = number(words, 5)?;
-    Some(Work {
-        data: word(words, 2),
-        kind,
-        n,
-        times,
-    })
+/// Does what the words after `onto`, `made` or `made-onto` say.
+fn done_so(alloc: Global, how: &str, words: &[&str]) -> Option<()> {
+    let work = work_of(words)?;
+    let (op, taking) = on_collections(word(words, 1))?;
+    match how {
+        "onto" => onto_collection(alloc, op, taking, &work),
+        "made" => on_made(alloc, op, taking, &work),
+        _ => onto_made(alloc, op, taking, &work),
+    }
 }
 
 /// Does what the words say.
-fn is_done(alloc: Global, words: &[&str]) -> bool {
-    match work_of(words) {
-        Some(work) => done(alloc, word(words, 1), &work).is_some(),
-        None => false,
+fn performed(alloc: Global, words: &[&str]) -> Option<()> {
+    match word(words, 1) {
+        "onto" | "made" | "made-onto" => done_so(alloc, word(words, 1), words.get(1..)?),
+        form => done(alloc, form, &work_of(words)?),
     }
 }
 
 pub fn run(alloc: Global, words: &[&str], out: &mut Bytes) -> Option<()> {
-    if is_done(alloc, words) {
+    if performed(alloc, words).is_some() {
         out.extend(b"done\n").ok()
     } else {
         out.extend(b"not done\n").ok()
