@@ -3,5 +3,5 @@ use Rattle.std.proofs.Common.{All}
 use Rattle.qvt_ocl_made.specs.AsMade.{IsAsMade}
 use Rattle.qvt_speed.proofs.operations.onto_made.Given as goal
 
-abbrev pub invariant-loop-_time : goal.invariant-loop-_time
-invariant-loop-_time l = IsAsMade l.answer × All IsAsMade l.args
+abbrev pub invariant-loop-time : goal.invariant-loop-time
+invariant-loop-time l = IsAsMade l.answer × All IsAsMade l.args
