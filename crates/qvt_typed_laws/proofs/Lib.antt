@@ -1,0 +1,9 @@
+mod Contexts
+mod Every
+mod Keeps
+mod Solid
+mod Rulings
+mod Rules
+mod Objects
+mod Statements
+mod Phrases

@@ -1,0 +1,3 @@
+//! Laws of typing: what is true of every transformation of which nothing is told.
+#![tactic(auto)]
+
