@@ -1,8 +1,8 @@
 -- What holds of each item of a list.
-use Rattle.std.proofs.Common.{◌≡◌, refl, sym, subst, ℕ, zero, suc, Bool, true, false, List, [], ◌∷◌, ◌++◌, take, Option, Some, None, cond, ◌||◌}
+use Rattle.std.proofs.Common.{◌≡◌, refl, sym, subst, ℕ, zero, suc, Bool, true, false, List, [], ◌∷◌, ◌++◌, take, Some, cond, ◌||◌}
 use Rattle.std.proofs.lemmas.Bool.{and_from, false≢true}
-use Rattle.std.specs.Prelude.{is_some}
-use Rattle.std.specs.List.{list_all, list_any}
+use Rattle.std.specs.Prelude.{slice_index_or, map}
+use Rattle.std.specs.List.{list_all, list_any, flat_map}
 use Rattle.std.specs.Map.{lookup}
 
 pub data Every {A : Type 0} (P : A → Type 0) : List A → Type 0 where
@@ -48,3 +48,16 @@ every_found p P R f (k ∷ es) h x e = by (p k.0) e (every_found p P R f es (oth
     by : (b : Bool) → cond b (Some k.1) (lookup p es) ≡ Some x → (lookup p es ≡ Some x → R x) → R x
     by true s later = subst R (let z : k.1 ≡ x = cc in z) (f k (first h))
     by false s later = later s
+
+pub every_at : {A : Type 0} (P : A → Type 0) (all : List A) (i : ℕ) (d : A) → Every P all → P d → P (slice_index_or all i d)
+every_at P [] i d h k = k
+every_at P (a ∷ all) zero d h k = first h
+every_at P (a ∷ all) (suc i) d h k = every_at P all i d (others h) k
+
+pub every_map : {A B : Type 0} (P : B → Type 0) (f : A → B) → ((a : A) → P (f a)) → (all : List A) → Every P (map f all)
+every_map P f k [] = none
+every_map P f k (a ∷ all) = also (k a) (every_map P f k all)
+
+pub every_flat : {A B : Type 0} (P : B → Type 0) (f : A → List B) → ((a : A) → Every P (f a)) → (all : List A) → Every P (flat_map f all)
+every_flat P f k [] = none
+every_flat P f k (a ∷ all) = every_more P (f a) (flat_map f all) (k a) (every_flat P f k all)

@@ -1,21 +1,18 @@
 -- What judging keeps: where nothing is told, what is in scope has a type, and so have the expressions that are noted.
-use Rattle.std.proofs.Common.{◌≡◌, refl, sym, ◌∙◌, ap, ℕ, Bool, true, false, List, [], ◌∷◌, ◌++◌, Option, Some, None, length, cond}
-use Rattle.std.proofs.lemmas.Bool.{false≢true}
+use Rattle.std.proofs.Common.{◌≡◌, refl, ℕ, Bool, true, false, List, [], ◌∷◌, ◌++◌, Option, Some, None, length}
 use Rattle.std.specs.Prelude.{is_some, if◌then◌else◌, ◌||◌}
 use Rattle.qvt_base.specs.declared.numbers.ExprNo.{ExprNo}
 use Rattle.qvt_base.specs.declared.numbers.Place.{Place}
 use Rattle.qvt_types_data.specs.Notes.{told, noted, marked, bare}
 use Rattle.qvt_types_data.specs.declared.note.Note.{Note}
-use Rattle.qvt_types_data.specs.declared.note.Reading.{Reading}
 use Rattle.qvt_types_data.specs.declared.refusal.RefusalKind.{RefusalKind}
 use Rattle.qvt_types_data.specs.declared.refusal.RefusalKind.TheVariants as refusal
 use Rattle.qvt_types_data.specs.declared.ruling.Read.{Read}
 use Rattle.qvt_types_data.specs.declared.ruling.Ruling.{Ruling}
-use Rattle.qvt_types_data.specs.declared.ruling.Ruling.TheVariants.{Holds, Fails, Silent}
 use Rattle.qvt_types_data.specs.declared.ty.Ty.{Ty}
 use Rattle.qvt_types_data.specs.declared.variable.Variable.{Variable}
 use Rattle.qvt_types_states.specs.Judge.{Judges, ◌>>=◌, gives, fresh, scope, in_scope, add_source, scoped, tell, checked, declare, settled, write, answers, marks, writes_nothing}
-use Rattle.qvt_types_states.specs.Scopes.{ScopeTerm, is_known, with_source, with_named, back_to}
+use Rattle.qvt_types_states.specs.Scopes.{ScopeTerm, is_known, with_named}
 use Rattle.qvt_types_states.specs.declared.scope.Known.{Known}
 use Rattle.qvt_types_states.specs.declared.state.State.{State}
 use Rattle.qvt_typed_laws.specs.Typed.{is_typed_note, is_model}
@@ -83,14 +80,16 @@ pub inside : {P A : Type 0} {Q : A → Type 0} {p : Judges A} → Keeps P Q p �
 inside {p = p} a = record {
   back = a.back;
   on = λ h s t e.
-      let r = a.on h s t e in
-      (record {
-        scope = record {
-          named = every_front TypedName (length s.scope.named) (p s).1.scope.named r.0.scope.named;
-          sources = every_front TypedSource (length s.scope.sources) (p s).1.scope.sources r.0.scope.sources;
-        };
-        notes = r.0.notes;
-      }, r.1);
+      let r = a.on h s t e in (
+        record {
+          scope = record {
+            named = every_front TypedName (length s.scope.named) (p s).1.scope.named r.0.scope.named;
+            sources = every_front TypedSource (length s.scope.sources) (p s).1.scope.sources r.0.scope.sources;
+          };
+          notes = r.0.notes;
+        },
+        r.1,
+      );
 }
 
 pub not_told : {X : Type 0} (l : List X) (x : X) → l ++ x ∷ [] ≡ [] → ⊥

@@ -7,3 +7,7 @@ mod Rules
 mod Objects
 mod Statements
 mod Phrases
+mod Units
+mod Properties
+mod Heads
+mod Whole

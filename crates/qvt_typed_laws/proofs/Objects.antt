@@ -1,19 +1,14 @@
 -- What the rules of iterators, objects and resolves keep, over what their parts keep.
-use Rattle.std.proofs.Common.{◌≡◌, refl, sym, ◌∙◌, ap, subst, ℕ, Bool, true, false, List, [], ◌∷◌, ◌++◌, Option, Some, None, cond, ◌+◌}
+use Rattle.std.proofs.Common.{◌≡◌, refl, sym, ℕ, Bool, true, false, List, [], Option, Some, None}
 use Rattle.std.proofs.lemmas.Bool.{false≢true, and_from}
 use Rattle.std.specs.Prelude.{is_some, if◌then◌else◌, not, Result, Ok, Err, ◌||◌, ◌&&◌}
 use Rattle.std.specs.List.{list_any}
-use Rattle.qvt_base.specs.declared.numbers.ClassNo.{ClassNo}
 use Rattle.qvt_base.specs.declared.numbers.ExprNo.{ExprNo}
 use Rattle.qvt_base.specs.declared.numbers.Place.{Place}
 use Rattle.qvt_metamodel.specs.Metamodels.{Metamodels, class_at}
 use Rattle.qvt_tree_types.specs.declared.types.PathTree.{PathTree}
-use Rattle.qvt_tree_types.specs.declared.words.BinaryOp.{BinaryOp}
-use Rattle.qvt_tree_types.specs.declared.words.CollKind.{CollKind}
 use Rattle.qvt_tree_types.specs.declared.words.ResolveWord.{ResolveWord}
-use Rattle.qvt_tree_types.specs.declared.words.Sign.{Sign}
-use Rattle.qvt_types_data.specs.Notes.{told, plain, unread}
-use Rattle.qvt_types_data.specs.declared.note.Reading.TheVariants as reading
+use Rattle.qvt_types_data.specs.Notes.{told}
 use Rattle.qvt_types_data.specs.declared.refusal.RefusalKind.{RefusalKind}
 use Rattle.qvt_types_data.specs.declared.refusal.RefusalKind.TheVariants as refusal
 use Rattle.qvt_types_data.specs.declared.ruling.Read.{Read}
@@ -23,53 +18,44 @@ use Rattle.qvt_tree_types.specs.Resolves.{is_inverse}
 use Rattle.qvt_types_data.specs.declared.ty.Ty.{Ty}
 use Rattle.qvt_types_data.specs.declared.ty.Ty.TheVariants as ty
 use Rattle.qvt_types_data.specs.declared.variable.VariableSort.TheVariants as sort
-use Rattle.qvt_types_paths.specs.Paths.{path_type, path_class, element_no}
-use Rattle.qvt_types_states.specs.Judge.{Judges, ◌>>=◌, gives, scope, in_scope, tell, checked, declare, settled, answers, marks}
-use Rattle.qvt_types_states.specs.Scopes.{ScopeTerm, found, is_known, with_named}
+use Rattle.qvt_types_states.specs.Judge.{Judges, in_scope, tell, declare}
+use Rattle.qvt_types_states.specs.Scopes.{found, is_known, with_named}
 use Rattle.qvt_types_states.specs.declared.scope.Known.{Known}
 use Rattle.qvt_types_states.specs.declared.state.State.{State}
-use Rattle.qvt_types_steps.specs.Calls.{dot_call}
 use Rattle.qvt_types_steps.specs.Classes as classes
 use Rattle.qvt_types_steps.specs.Iterators as iterators
-use Rattle.qvt_types_steps.specs.Properties.{property}
 use Rattle.qvt_types_steps.specs.Resolving as resolving
 use Rattle.qvt_types_steps.specs.declared.classes.ClassPart.{ClassPart}
 use Rattle.qvt_types_steps.specs.declared.classes.ClassPart.TheVariants as part
-use Rattle.qvt_types_steps.specs.declared.classes.ClassTest.{ClassTest}
-use Rattle.qvt_types_steps.specs.declared.classes.ModelCall.{ModelCall}
-use Rattle.qvt_types_steps.specs.declared.classes.ModelCall.TheVariants as model_call
 use Rattle.qvt_types_steps.specs.declared.heads.Heading.{Heading}
 use Rattle.qvt_types_steps.specs.declared.heads.Heading.TheVariants as heading
 use Rattle.qvt_types_steps.specs.declared.iterators.IteratorKind.{IteratorKind}
 use Rattle.qvt_types_steps.specs.declared.resolves.Joint.{Joint}
 use Rattle.qvt_types_steps.specs.declared.resolves.Joint.TheVariants as joint
 use Rattle.qvt_types_steps.specs.IteratorTable.{iterator_named}
-use Rattle.qvt_types_units.specs.Numbers.{unit_at, constructor_of}
+use Rattle.qvt_types_units.specs.Numbers.{unit_at}
 use Rattle.qvt_types_units.specs.Reuse.{listed}
 use Rattle.qvt_types_words.specs.Rulings as ruling
 use Rattle.qvt_types_words.specs.Types.{conforms}
-use Rattle.qvt_typing.specs.Calls as calls
 use Rattle.qvt_typing.specs.Context.{Context}
 use Rattle.qvt_typing.specs.Names as names
 use Rattle.qvt_typing.specs.Rules as rule
-use Rattle.qvt_typing.specs.Statements.{has_type}
-use Rattle.qvt_typing.specs.declared.parts.Effect.{Effect}
-use Rattle.qvt_typing.specs.declared.parts.Effect.TheVariants.{PlainOne, PureOne, ImpureOne}
+use Rattle.qvt_typing.specs.declared.parts.Effect.TheVariants.{PureOne, ImpureOne}
 use Rattle.qvt_typing.specs.declared.parts.Filtered.{Filtered}
 use Rattle.qvt_typing.specs.declared.parts.Filtered.TheVariants.{NoFilter, By}
 use Rattle.qvt_typing.specs.declared.parts.Given.{Given}
 use Rattle.qvt_typing.specs.declared.parts.ObjectVariable.{ObjectVariable}
-use Rattle.qvt_typing.specs.declared.parts.ObjectVariable.TheVariants.{NoVariable, OfType, OfNone}
+use Rattle.qvt_typing.specs.declared.parts.ObjectVariable.TheVariants.{NoVariable}
 use Rattle.qvt_typing.specs.declared.parts.Within.{Within}
 use Rattle.qvt_typing.specs.declared.parts.Within.TheVariants.{Everywhere, Nobody, In}
-use Rattle.qvt_typed_laws.proofs.Contexts.{TypedUnit, TypedHeads, TypedContext}
-use Rattle.qvt_typed_laws.proofs.Every.{Every, every_last, every_none}
-use Rattle.qvt_typed_laws.proofs.Keeps.{SomeTy, Anything, TypedScope, Tidy, Keeps, weak, with, next, given, numbered, looked, sourced, inside, telling, checking, either, declaring, Settles, settling, is_read, answering, marking, blank, not_told}
+use Rattle.qvt_typed_laws.proofs.Contexts.{TypedHeads, TypedContext}
+use Rattle.qvt_typed_laws.proofs.Every.{Every}
+use Rattle.qvt_typed_laws.proofs.Keeps.{SomeTy, Anything, Keeps, weak, next, given, numbered, looked, sourced, inside, telling, checking, either, declaring, settling, marking, blank, not_told}
 use Rattle.qvt_typed_laws.proofs.Rulings as rulings
 use Rattle.qvt_typed_laws.proofs.Rulings.{Readable, readable_read, or_first, IsClass, class_there, class_typed, class_type_some, has_no_type}
 use Rattle.qvt_typed_laws.proofs.Solid as solid
 use Rattle.qvt_typed_laws.proofs.Solid.{Solid, Typed, solid_read}
-use Rattle.qvt_typed_laws.proofs.Rules.{settled_solid, checked_any, answered, marked_some, marked_any, effect, ruled, stepped, in_order, all_types, none_untyped, HasType, is_written, known_some, named_class, Behind}
+use Rattle.qvt_typed_laws.proofs.Rules.{settled_solid, answered, marked_some, effect, ruled, stepped, in_order, all_types, none_untyped, HasType, known_some, named_class, Behind}
 
 abbrev pub TypedHeading : Heading → Type 0
 TypedHeading h = iterators.is_untyped h ≡ false
@@ -162,11 +148,11 @@ module _ (x : Context) where
       next (declared_new a (record { sort = sort.Iterator; ty = t }) accumulator_at (λ h. h.0.0.0.0.1.1.0)) (λ c.
       next blank (λ o.
       given (rule.if_new (b && c) (iterators.folding_head x.heads.metas (iterators.plain_head x.heads.metas k.is_given k.ty items) t first)) (λ h.
-        let start = h.0.0.0.0.0.0.1 in
-        let wrong = h.0.0.0.0.0.1 in
-        let fold = h.0.0.0.0.1 in
-        new_typed (b && c) (iterators.folding_head x.heads.metas (iterators.plain_head x.heads.metas k.is_given k.ty items) t first) (and_from b c h.0.0.1 h.0.1) (folds t first start.1.0 start.1.1.0 fold (iterators.plain_head x.heads.metas k.is_given k.ty items)
-          (plain_typed x.heads.metas k items start.0 start.1.1.1 (untold (iterators.folding_head x.heads.metas heading.Plain t first) (iterators.iterator_wrong x.heads.metas k.is_given k.ty items) (folds t first start.1.0 start.1.1.0 fold heading.Plain refl) wrong))))))))))
+      let start = h.0.0.0.0.0.0.1 in
+      let wrong = h.0.0.0.0.0.1 in
+      let fold = h.0.0.0.0.1 in
+      new_typed (b && c) (iterators.folding_head x.heads.metas (iterators.plain_head x.heads.metas k.is_given k.ty items) t first) (and_from b c h.0.0.1 h.0.1) (folds t first start.1.0 start.1.1.0 fold (iterators.plain_head x.heads.metas k.is_given k.ty items)
+      (plain_typed x.heads.metas k items start.0 start.1.1.1 (untold (iterators.folding_head x.heads.metas heading.Plain t first) (iterators.iterator_wrong x.heads.metas k.is_given k.ty items) (folds t first start.1.0 start.1.1.0 fold heading.Plain refl) wrong))))))))))
 
   pub folding_heading : {P : Type 0} (v : List ℕ) {p : Judges Given} (a : List ℕ) {q r : Judges (Option Ty)} (accumulator_at at : Place) → Keeps P HasType p → Keeps P SomeTy q → Keeps P SomeTy r → Heads P (rule.folding_heading x v p a q r accumulator_at at)
   unfolding rule.folding_heading

@@ -1,13 +1,12 @@
 -- What the judgement of each node keeps.
-use Rattle.std.proofs.Common.{◌≡◌, refl, ℕ, Bool, true, false, List, [], ◌∷◌, Option, Some, None}
+use Rattle.std.proofs.Common.{ℕ, Bool, true, false, List, [], ◌∷◌, Option, Some, None}
 use Rattle.std.specs.Prelude.{is_some, if◌then◌else◌, ◌&&◌}
 use Rattle.qvt_tree_types.specs.declared.types.PathTree.{PathTree}
 use Rattle.qvt_tree_types.specs.declared.types.ObjectVar.{ObjectVar}
 use Rattle.qvt_tree_types.specs.declared.types.ObjectVar.TheVariants as variable
 use Rattle.qvt_tree_types.specs.Tree.{TypeTerm, CollType, PathType, ExprTerm, IntExpr, StrExpr, BoolExpr, NullExpr, SelfExpr, ResultExpr, PathExpr, CallExpr, CollExpr, IfExpr, ObjectExpr, NewExpr, MapExpr, ResolveExpr, ChainExpr, PrefixExpr, PostExpr, ExprTerms, NoExprs, MoreExprs, OptionalExpr, NoExpr, SomeExpr, NoArgs, SomeArgs, LinkTerm, LinkOf, LinkTerms, NoLinks, MoreLinks, ItemTerm, ItemOf, NoRange, RangeTo, ItemTerms, NoItems, MoreItems, MapTerm, MapOf, ResolveTerm, ResolveOf, FilterTerm, NoFilter, FilterOf, HeadTerm, NoHead, HeadOf, NoAccumulator, AccumulatorOf, StepTerm, DotStep, ArrowStep, DotMapStep, ArrowMapStep, DotResolveStep, ArrowResolveStep, StepTerms, NoSteps, MoreSteps, TargetTerm, BareTarget, ResultTarget, MemberTarget, StmtTerm, VarStmt, AssignStmt, ReturnStmt, ValueStmt, IfStmt, WhileStmt, ForEachStmt, StmtTerms, NoStmts, MoreStmts, ElseTerm, NoElse, ElseOf, ArmTerm, ArmOf, ArmTerms, NoArms, MoreArms}
-use Rattle.qvt_types_data.specs.declared.ty.Ty.{Ty}
 use Rattle.qvt_types_data.specs.declared.ty.Ty.TheVariants as ty
-use Rattle.qvt_types_states.specs.Judge.{Judges, scope}
+use Rattle.qvt_types_states.specs.Judge.{Judges}
 use Rattle.qvt_types_states.specs.Scopes.{ScopeTerm}
 use Rattle.qvt_types_steps.specs.Classes.{model_call_named}
 use Rattle.qvt_types_steps.specs.IteratorTable.{iterator_named, row_of}
@@ -21,7 +20,7 @@ use Rattle.qvt_typing.specs.Phrases as phrase
 use Rattle.qvt_typing.specs.Rules as rule
 use Rattle.qvt_typed_laws.proofs.Contexts.{TypedContext}
 use Rattle.qvt_typed_laws.proofs.Every.{Every, none, also, first, others}
-use Rattle.qvt_typed_laws.proofs.Keeps.{SomeTy, Anything, Keeps, weak, next, looked, given}
+use Rattle.qvt_typed_laws.proofs.Keeps.{SomeTy, Anything, Keeps, weak, next, looked}
 use Rattle.qvt_typed_laws.proofs.Rulings.{IsClass}
 use Rattle.qvt_typed_laws.proofs.Solid.{Typed}
 use Rattle.qvt_typed_laws.proofs.Rules as rules
@@ -101,6 +100,7 @@ posted x late e ss s k l m = rules.post x (λ t. t) k l
 
 mutual
   unfolding phrase.expr phrase.mapped phrase.mapped_behind phrase.resolved phrase.resolved_behind phrase.exprs phrase.classes phrase.linked phrase.links phrase.item phrase.all_items phrase.filtered phrase.given_expr phrase.heading phrase.step phrase.steps phrase.target phrase.stmt phrase.stmts phrase.otherwise phrase.one_arm phrase.all_arms
+
   pub expr : (x : Context) (late : Bool) (e : ExprTerm) → Keeps (TypedContext x) SomeTy (phrase.expr x late e)
   expr x late (IntExpr v at) = rules.constant ty.Integer
   expr x late (StrExpr v at) = rules.constant ty.Str

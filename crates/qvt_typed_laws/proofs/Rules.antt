@@ -1,67 +1,44 @@
 -- What each rule keeps, over what its parts keep.
-use Rattle.std.proofs.Common.{◌≡◌, refl, sym, ◌∙◌, ap, subst, ℕ, Bool, true, false, List, [], ◌∷◌, ◌++◌, Option, Some, None, cond, ◌+◌}
-use Rattle.std.proofs.lemmas.Bool.{false≢true, and_parts}
-use Rattle.std.specs.Prelude.{is_some, if◌then◌else◌, not, Result, Ok, Err, ◌||◌, ◌&&◌}
+use Rattle.std.proofs.Common.{◌≡◌, refl, sym, subst, ℕ, Bool, true, false, List, [], ◌∷◌, ◌++◌, Option, Some, None}
+use Rattle.std.proofs.lemmas.Bool.{false≢true}
+use Rattle.std.specs.Prelude.{is_some, not, ◌||◌}
 use Rattle.std.specs.List.{list_any}
-use Rattle.qvt_base.specs.declared.numbers.ClassNo.{ClassNo}
 use Rattle.qvt_base.specs.declared.numbers.ExprNo.{ExprNo}
 use Rattle.qvt_base.specs.declared.numbers.Place.{Place}
-use Rattle.qvt_metamodel.specs.Metamodels.{Metamodels, class_at}
 use Rattle.qvt_tree_types.specs.declared.types.PathTree.{PathTree}
 use Rattle.qvt_tree_types.specs.declared.words.BinaryOp.{BinaryOp}
 use Rattle.qvt_tree_types.specs.declared.words.CollKind.{CollKind}
-use Rattle.qvt_tree_types.specs.declared.words.ResolveWord.{ResolveWord}
 use Rattle.qvt_tree_types.specs.declared.words.Sign.{Sign}
-use Rattle.qvt_types_data.specs.Notes.{told, plain, unread}
+use Rattle.qvt_types_data.specs.Notes.{plain}
 use Rattle.qvt_types_data.specs.declared.note.Reading.TheVariants as reading
 use Rattle.qvt_types_data.specs.declared.refusal.RefusalKind.{RefusalKind}
 use Rattle.qvt_types_data.specs.declared.refusal.RefusalKind.TheVariants as refusal
 use Rattle.qvt_types_data.specs.declared.ruling.Read.{Read}
 use Rattle.qvt_types_data.specs.declared.ruling.Ruling.{Ruling}
 use Rattle.qvt_types_data.specs.declared.ty.Ty.{Ty}
-use Rattle.qvt_types_data.specs.declared.ty.Ty.TheVariants as ty
 use Rattle.qvt_types_paths.specs.Paths.{path_type, path_class, element_no}
-use Rattle.qvt_types_states.specs.Judge.{Judges, ◌>>=◌, gives, scope, checked, declare, settled, answers, marks}
-use Rattle.qvt_types_states.specs.Scopes.{ScopeTerm, found, is_known}
-use Rattle.qvt_types_states.specs.declared.scope.Known.{Known}
-use Rattle.qvt_types_states.specs.declared.state.State.{State}
+use Rattle.qvt_types_states.specs.Judge.{Judges, checked, settled, answers, marks}
 use Rattle.qvt_types_steps.specs.Calls.{dot_call}
 use Rattle.qvt_types_steps.specs.Classes as classes
 use Rattle.qvt_types_steps.specs.Iterators as iterators
 use Rattle.qvt_types_steps.specs.Properties.{property}
-use Rattle.qvt_types_steps.specs.Resolving as resolving
 use Rattle.qvt_types_steps.specs.declared.classes.ClassPart.{ClassPart}
 use Rattle.qvt_types_steps.specs.declared.classes.ClassPart.TheVariants as part
 use Rattle.qvt_types_steps.specs.declared.classes.ClassTest.{ClassTest}
 use Rattle.qvt_types_steps.specs.declared.classes.ModelCall.{ModelCall}
 use Rattle.qvt_types_steps.specs.declared.classes.ModelCall.TheVariants as model_call
-use Rattle.qvt_types_steps.specs.declared.heads.Heading.{Heading}
-use Rattle.qvt_types_steps.specs.declared.heads.Heading.TheVariants as heading
-use Rattle.qvt_types_steps.specs.declared.iterators.IteratorKind.{IteratorKind}
-use Rattle.qvt_types_steps.specs.declared.resolves.Joint.{Joint}
-use Rattle.qvt_types_steps.specs.declared.resolves.Joint.TheVariants as joint
-use Rattle.qvt_types_steps.specs.IteratorTable.{iterator_named}
-use Rattle.qvt_types_units.specs.Numbers.{unit_at, constructor_of}
-use Rattle.qvt_types_units.specs.Reuse.{listed}
 use Rattle.qvt_types_words.specs.Rulings as ruling
-use Rattle.qvt_types_words.specs.Types.{conforms}
 use Rattle.qvt_typing.specs.Calls as calls
 use Rattle.qvt_typing.specs.Context.{Context, unless_untyped}
 use Rattle.qvt_typing.specs.Names as names
 use Rattle.qvt_typing.specs.Rules as rule
 use Rattle.qvt_typing.specs.Statements.{has_type}
 use Rattle.qvt_typing.specs.declared.parts.Effect.{Effect}
-use Rattle.qvt_typing.specs.declared.parts.Effect.TheVariants.{PlainOne, PureOne, ImpureOne}
-use Rattle.qvt_typing.specs.declared.parts.Filtered.{Filtered}
-use Rattle.qvt_typing.specs.declared.parts.Filtered.TheVariants.{NoFilter, By}
+use Rattle.qvt_typing.specs.declared.parts.Effect.TheVariants.{PlainOne, ImpureOne}
 use Rattle.qvt_typing.specs.declared.parts.Given.{Given}
-use Rattle.qvt_typing.specs.declared.parts.ObjectVariable.{ObjectVariable}
-use Rattle.qvt_typing.specs.declared.parts.ObjectVariable.TheVariants.{NoVariable, OfType, OfNone}
-use Rattle.qvt_typing.specs.declared.parts.Within.{Within}
-use Rattle.qvt_typing.specs.declared.parts.Within.TheVariants.{Everywhere, Nobody, In}
-use Rattle.qvt_typed_laws.proofs.Contexts.{TypedUnit, TypedHeads, TypedContext}
-use Rattle.qvt_typed_laws.proofs.Every.{Every, none, also, first, others, every_last, every_none}
-use Rattle.qvt_typed_laws.proofs.Keeps.{SomeTy, Anything, TypedScope, Tidy, Keeps, weak, with, next, given, numbered, looked, sourced, inside, telling, checking, either, declaring, Settles, settling, is_read, answering, marking, blank}
+use Rattle.qvt_typed_laws.proofs.Contexts.{TypedContext}
+use Rattle.qvt_typed_laws.proofs.Every.{Every, none, first, others, every_last, every_none}
+use Rattle.qvt_typed_laws.proofs.Keeps.{SomeTy, Anything, Keeps, weak, with, next, given, numbered, looked, checking, either, Settles, settling, is_read, answering, marking, blank}
 use Rattle.qvt_typed_laws.proofs.Rulings as rulings
 use Rattle.qvt_typed_laws.proofs.Rulings.{Readable, readable_read, or_first, IsClass, class_there, class_typed, class_type_some, has_no_type}
 use Rattle.qvt_typed_laws.proofs.Solid as solid

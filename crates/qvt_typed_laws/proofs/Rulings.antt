@@ -1,20 +1,18 @@
 -- What is ruled of names and of calls where heads and scope have types.
-use Rattle.std.proofs.Common.{◌≡◌, refl, sym, ◌∙◌, ap, subst, ℕ, Bool, true, false, List, [], ◌∷◌, ◌++◌, Option, Some, None, cond, length, ◌+◌}
+use Rattle.std.proofs.Common.{◌≡◌, refl, sym, ℕ, Bool, true, false, List, [], ◌∷◌, Option, Some, None, length}
 use Rattle.std.proofs.lemmas.Bool.{false≢true}
 use Rattle.std.specs.Prelude.{is_some, if◌then◌else◌, Result, Ok, Err, ◌||◌}
-use Rattle.std.specs.List.{list_any}
 use Rattle.std.specs.Str.{bytes_eq}
 use Rattle.qvt_base.specs.declared.numbers.ClassNo.{ClassNo}
 use Rattle.qvt_base.specs.declared.numbers.FeatureNo.{FeatureNo}
-use Rattle.qvt_metamodel.specs.Metamodels.{Metamodels, shape_of}
+use Rattle.qvt_metamodel.specs.Metamodels.{shape_of}
 use Rattle.qvt_types_classes.specs.Classes.{is_typed}
-use Rattle.qvt_types_data.specs.Notes.{told, plain}
+use Rattle.qvt_types_data.specs.Notes.{told}
 use Rattle.qvt_types_data.specs.Term.{same_type, ty_view}
 use Rattle.qvt_types_data.specs.declared.note.Reading.{Reading}
 use Rattle.qvt_types_data.specs.declared.note.Reading.TheVariants as reading
 use Rattle.qvt_types_data.specs.declared.refusal.RefusalKind.{RefusalKind}
 use Rattle.qvt_types_data.specs.declared.refusal.RefusalKind.TheVariants as refusal
-use Rattle.qvt_types_data.specs.declared.ruling.Read.{Read}
 use Rattle.qvt_types_data.specs.declared.ruling.Ruling.{Ruling}
 use Rattle.qvt_types_data.specs.declared.ruling.Ruling.TheVariants.{Holds, Fails, Silent}
 use Rattle.qvt_types_data.specs.declared.ty.Ty.{Ty}
@@ -23,12 +21,12 @@ use Rattle.qvt_types_data.specs.declared.variable.Variable.{Variable}
 use Rattle.qvt_types_data.specs.declared.variable.VariableSort.{VariableSort}
 use Rattle.qvt_types_data.specs.declared.variable.VariableSort.TheVariants as sort
 use Rattle.qvt_types_paths.specs.Paths.{path_literal}
-use Rattle.qvt_types_names.specs.Names.{feature_in, is_implicit, property_of, or_property, on_source, by_source, by_sources, model_or}
+use Rattle.qvt_types_names.specs.Names.{is_implicit, property_of, or_property, on_source, by_source, by_sources, model_or}
 use Rattle.qvt_types_states.specs.Scopes.{ScopeTerm, found}
 use Rattle.qvt_types_states.specs.declared.scope.Known.{Known}
 use Rattle.qvt_types_words.specs.Types.{feature_type, innermost}
 use Rattle.qvt_types_steps.specs.Calls.{source_of}
-use Rattle.qvt_types_steps.specs.UnitCalls.{class_in, class_at, static_class, arguments_wrong}
+use Rattle.qvt_types_steps.specs.UnitCalls.{class_in, static_class, arguments_wrong}
 use Rattle.qvt_types_steps.specs.declared.classes.ClassPart.{ClassPart}
 use Rattle.qvt_types_steps.specs.declared.classes.ClassPart.TheVariants as part
 use Rattle.qvt_types_units.specs.Choice.{is_unknown, is_unsure, context_at, candidates, is_empty, is_ambiguous, chosen, chosen_of, looked_up, called_on}
@@ -37,7 +35,6 @@ use Rattle.qvt_types_units.specs.declared.choice.Found.{Found}
 use Rattle.qvt_types_units.specs.declared.choice.Found.TheVariants.{NoUnit, Untyped, Unclear, Chosen}
 use Rattle.qvt_types_units.specs.declared.signature.HeadClass.{HeadClass}
 use Rattle.qvt_types_units.specs.declared.signature.HeadClass.TheVariants as head
-use Rattle.qvt_types_units.specs.declared.signature.Signature.{Signature}
 use Rattle.qvt_value.specs.declared.value.LiteralRef.{LiteralRef}
 use Rattle.qvt_typing.specs.Calls as calls
 use Rattle.qvt_typing.specs.Context.{Context, Heads, is_typed_reading, unless_untyped}
@@ -47,10 +44,10 @@ use Rattle.qvt_typing.specs.declared.parts.Called.{Called}
 use Rattle.qvt_typing.specs.declared.parts.ObjectVariable.{ObjectVariable}
 use Rattle.qvt_typing.specs.declared.parts.ObjectVariable.TheVariants.{NoVariable, OfType, OfNone}
 use Rattle.qvt_typed_laws.specs.Typed.{is_model}
-use Rattle.qvt_typed_laws.proofs.Contexts.{TypedUnit, TypedHeads, TypedContext}
+use Rattle.qvt_typed_laws.proofs.Contexts.{TypedHeads}
 use Rattle.qvt_typed_laws.proofs.Every.{Every, none, also, first, others, every_none, every_found}
-use Rattle.qvt_typed_laws.proofs.Keeps.{SomeTy, TypedName, TypedSource, TypedScope, Settles, is_read}
-use Rattle.qvt_typed_laws.proofs.Solid.{is_solid, Solid, Typed, solid_read, stepped_unit, stepped_mapping, solid_if}
+use Rattle.qvt_typed_laws.proofs.Keeps.{SomeTy, TypedName, TypedSource, TypedScope, is_read}
+use Rattle.qvt_typed_laws.proofs.Solid.{Solid, Typed, stepped_unit, stepped_mapping, solid_if}
 
 -- what is noted of an expression: a type, or a model
 abbrev pub is_readable : Ruling → Bool
@@ -182,6 +179,7 @@ module _ (h : Heads) (th : TypedHeads h) where
       read_typed : (r : Reading) → is_typed_reading h r ≡ true
       read_typed (reading.Feature f) = th.properties f.0
       read_typed r = refl
+
       solid_typed : (b : Bool) → b ≡ true → Solid (if b then Holds r else Silent)
       solid_typed true e = k
       solid_typed false e = e
@@ -211,9 +209,11 @@ module _ (h : Heads) (th : TypedHeads h) where
       chosen_typed true o = refl
       chosen_typed false None = refl
       chosen_typed false (Some n) = refl
+
       inner : (b : Bool) (f : Found) → TypedFound f → TypedFound (if b then NoUnit else f)
       inner true f k = refl
       inner false f k = k
+
       by : (b : Bool) → b ≡ false → (f : Found) → TypedFound f → TypedFound (if b then Untyped else f)
       by true e f k = absurd (false≢true (sym e))
       by false e f k = k

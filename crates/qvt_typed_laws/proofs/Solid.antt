@@ -1,7 +1,7 @@
 -- What is ruled of a node whose parts have types: that it holds, with a type, or fails. It is silent nowhere.
-use Rattle.std.proofs.Common.{◌≡◌, refl, sym, ◌∙◌, ap, ℕ, Bool, true, false, List, [], ◌∷◌, ◌++◌, Option, Some, None, cond, length}
+use Rattle.std.proofs.Common.{◌≡◌, refl, sym, ℕ, Bool, true, false, List, [], ◌∷◌, Option, Some, None, length}
 use Rattle.std.proofs.lemmas.Bool.{false≢true}
-use Rattle.std.specs.Prelude.{is_some, if◌then◌else◌, ◌==◌, ◌&&◌, Result, Ok, Err}
+use Rattle.std.specs.Prelude.{is_some, if◌then◌else◌, ◌==◌}
 use Rattle.std.specs.List.{list_any}
 use Rattle.qvt_base.specs.declared.numbers.ClassNo.{ClassNo}
 use Rattle.qvt_base.specs.declared.numbers.FeatureNo.{FeatureNo}
@@ -13,14 +13,13 @@ use Rattle.qvt_tree_types.specs.declared.words.CollKind.TheVariants as coll
 use Rattle.qvt_tree_types.specs.declared.words.PrefixOp.{PrefixOp}
 use Rattle.qvt_tree_types.specs.declared.words.PrefixOp.TheVariants as sign
 use Rattle.qvt_tree_types.specs.declared.words.ResolveWord.{ResolveWord}
-use Rattle.qvt_types_data.specs.Notes.{ruled_wrapped, ruled_for_each_item, told, plain}
+use Rattle.qvt_types_data.specs.Notes.{ruled_wrapped, told, plain}
 use Rattle.qvt_types_data.specs.declared.note.Reading.{Reading}
-use Rattle.qvt_types_data.specs.declared.ruling.Read.{Read}
 use Rattle.qvt_types_data.specs.declared.ruling.Ruling.{Ruling}
 use Rattle.qvt_types_data.specs.declared.ruling.Ruling.TheVariants.{Holds, Fails, Silent}
 use Rattle.qvt_types_data.specs.declared.ty.Ty.{Ty}
 use Rattle.qvt_types_data.specs.declared.ty.Ty.TheVariants as ty
-use Rattle.qvt_types_steps.specs.Calls.{flattened, all_answers, collected_over, collected, operation_read, counted, applied, call, dot_call, named_arity, is_single, source_of}
+use Rattle.qvt_types_steps.specs.Calls.{flattened, collected_over, collected, operation_read, counted, applied, dot_call, named_arity, is_single, source_of}
 use Rattle.qvt_types_steps.specs.Classes as classes
 use Rattle.qvt_types_steps.specs.Iterators as iterators
 use Rattle.qvt_types_steps.specs.Properties.{feature_read, feature_in, property}
@@ -30,7 +29,6 @@ use Rattle.qvt_types_steps.specs.declared.classes.ClassPart.{ClassPart}
 use Rattle.qvt_types_steps.specs.declared.classes.ClassPart.TheVariants as part
 use Rattle.qvt_types_steps.specs.declared.classes.ClassTest.{ClassTest}
 use Rattle.qvt_types_steps.specs.declared.heads.Heading.{Heading}
-use Rattle.qvt_types_steps.specs.declared.heads.Heading.TheVariants as heading
 use Rattle.qvt_types_steps.specs.declared.iterators.IteratorKind.{IteratorKind}
 use Rattle.qvt_types_steps.specs.declared.iterators.IteratorRow.{IteratorRow}
 use Rattle.qvt_types_steps.specs.declared.resolves.Joint.{Joint}
