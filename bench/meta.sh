@@ -64,3 +64,25 @@ awk 'BEGIN{
   printf "],\"name\":\"M\"}"
 }' >m.json
 tell "a chain of 6,500 classes with another superclass each"
+awk 'BEGIN{
+  printf "{\"classes\":[{\"features\":["
+  for (i = 0; i < 8900; i++) printf "%s{\"name\":\"a%d\",\"opposite\":\"b%d\",\"type\":\"B\",\"upper\":\"*\"}", (i ? "," : ""), i, i
+  printf "],\"name\":\"A\"},{\"features\":["
+  for (i = 0; i < 8900; i++) printf "%s{\"name\":\"b%d\",\"opposite\":\"a%d\",\"type\":\"A\",\"upper\":\"*\"}", (i ? "," : ""), i, i
+  printf "],\"name\":\"B\"}],\"name\":\"M\"}"
+}' >m.json
+tell "8,900 pairs of opposites of two classes"
+awk 'BEGIN{
+  printf "{\"classes\":[{\"features\":["
+  for (i = 0; i < 4000; i++) printf "%s{\"name\":\"f%d\",\"type\":\"Integer\"}", (i ? "," : ""), i
+  printf "],\"name\":\"C\"}"
+  for (i = 0; i < 4000; i++) printf ",{\"name\":\"D%d\",\"supers\":[\"C\"]}", i
+  printf "],\"name\":\"M\"}"
+}' >m.json
+tell "4,000 features above 4,000 classes"
+awk 'BEGIN{
+  printf "{\"classes\":[],\"enums\":[{\"literals\":["
+  for (i = 0; i < 90000; i++) printf "%s\"l%d\"", (i ? "," : ""), i
+  printf "],\"name\":\"E\"}],\"name\":\"M\"}"
+}' >m.json
+tell "90,000 literals"

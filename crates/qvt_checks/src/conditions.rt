@@ -1,8 +1,8 @@
 //! The conditions of the store's calls, asked of a store at run time.
 
-ghost use Rattle.std.specs.Prelude.{◌≡◌, IsTrue};
+ghost use Rattle.std.specs.Prelude.{◌≡◌, IsTrue, IsFalse};
 ghost use Rattle.std.specs.List.{list_all};
-ghost use Rattle.qvt_metamodel.specs.Metamodels.{has_feature};
+ghost use Rattle.qvt_metamodel.specs.Metamodels.{has_feature, is_containment};
 ghost use Rattle.qvt_metamodel.specs.Named.{metamodel_at};
 ghost use Rattle.qvt_store.specs.Contents.{AreNamed, is_named};
 ghost use Rattle.qvt_store.specs.Sound.{IsClassFor};
@@ -17,14 +17,16 @@ use qvt_store::store::Store;
 use qvt_value::value::Value;
 
 fn is_named_alike(metas: &Metas, extent: &Extent) -> bool
-    ensures { IsTrue result → is_named extent.now.name ≡ is_named (metamodel_at metas.now extent.now.metamodel).name }
+    ensures named { IsTrue result → is_named extent.now.name ≡ is_named (metamodel_at metas.now extent.now.metamodel).name }
+    ensures full { is_named extent.now.name ≡ is_named (metamodel_at metas.now extent.now.metamodel).name → IsTrue result }
 {
     extent.name.is_empty() == metas.metamodel_name(extent.metamodel).is_empty()
 }
 
 /// Whether each extent has a name exactly where its metamodel has one.
 pub fn are_named(metas: &Metas, extents: &ExtentList) -> bool
-    ensures { IsTrue result → AreNamed metas.now extents.now }
+    ensures named { IsTrue result → AreNamed metas.now extents.now }
+    ensures full { AreNamed metas.now extents.now → IsTrue result }
 {
     for extent in extents.as_slice() {
         if !is_named_alike(metas, extent) {
@@ -34,8 +36,10 @@ pub fn are_named(metas: &Metas, extents: &ExtentList) -> bool
     true
 }
 
+/// Whether objects of the class can be made in the extent.
 pub fn is_class_for(store: &Store, class: ClassNo, extent: u32) -> bool
-    ensures { IsTrue result → IsClassFor store.now class.0 extent }
+    ensures class { IsTrue result → IsClassFor store.now class.0 extent }
+    ensures full { IsClassFor store.now class.0 extent → IsTrue result }
 {
     let metas = store.metas();
     match store.extents().get(extent as usize) {
@@ -128,8 +132,10 @@ fn are_of_type(store: &Store, feature: FeatureNo, values: &[Value]) -> bool
     values.iter().all(|value| is_of_type(store, feature, value))
 }
 
+/// Whether these values can be assigned to the slot, or put last into it.
 pub fn can_assign(store: &Store, object: Oid, feature: FeatureNo, values: &[Value]) -> bool
-    ensures { IsTrue result → IsAssignable store.now object.0 feature.0 values.now }
+    ensures assignable { IsTrue result → IsAssignable store.now object.0 feature.0 values.now }
+    ensures full { IsAssignable store.now object.0 feature.0 values.now → IsTrue result }
 {
     object.0 < store.len()
         && has_feature(store.metas(), store.class_of(object), feature)
@@ -138,7 +144,8 @@ pub fn can_assign(store: &Store, object: Oid, feature: FeatureNo, values: &[Valu
 
 /// Whether a slot that is no containment can be placed.
 pub fn can_place(store: &Store, object: Oid, feature: FeatureNo, values: &[Value]) -> bool
-    ensures { IsTrue result → IsPlaceable store.now object.0 feature.0 values.now }
+    ensures placeable { IsTrue result → IsPlaceable store.now object.0 feature.0 values.now }
+    ensures full { IsPlaceable store.now object.0 feature.0 values.now → IsFalse (is_containment store.now.metas feature.0) → IsTrue result }
 {
     can_assign(store, object, feature, values)
         && store.slot(object, feature).is_empty()

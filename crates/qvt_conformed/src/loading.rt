@@ -74,6 +74,7 @@ pub fn read_faultless(
 fn is_extent_of(store: &Store, extent: u32, metamodel: u32) -> bool
     ensures live { IsTrue result → IsTrue (is_extent store.now extent) }
     ensures metamodel { IsTrue result → (extent_at store.now extent).metamodel ≡ metamodel }
+    ensures full { IsTrue (is_extent store.now extent) → (extent_at store.now extent).metamodel ≡ metamodel → IsTrue result }
 {
     match store.extents().get(extent as usize) {
         None => false,
@@ -84,14 +85,16 @@ fn is_extent_of(store: &Store, extent: u32, metamodel: u32) -> bool
 /// Whether an extent has no objects.
 fn has_no_objects(store: &Store, extent: u32) -> bool
     requires { IsTrue (is_extent store.now extent) }
-    ensures { IsTrue result → members_of store.now extent ≡ [] }
+    ensures empty { IsTrue result → members_of store.now extent ≡ [] }
+    ensures full { members_of store.now extent ≡ [] → IsTrue result }
 {
     store.extent(extent).is_empty()
 }
 
 /// Whether the store has room for the objects of the model.
 fn has_room(store: &Store, model: &ModelData) -> bool
-    ensures { IsTrue result → length store.now.objects + length model.now.objects ≤ 1000000 }
+    ensures room { IsTrue result → length store.now.objects + length model.now.objects ≤ 1000000 }
+    ensures full { length store.now.objects + length model.now.objects ≤ 1000000 → IsTrue result }
 {
     let count = model.objects.len();
     if count > MOST_OBJECTS {
@@ -103,7 +106,8 @@ fn has_room(store: &Store, model: &ModelData) -> bool
 /// Whether the extent has this metamodel and no objects, and the store has room for the model.
 fn is_loadable(store: &Store, extent: u32, metamodel: u32, model: &ModelData) -> bool
     requires { IsModel store.now.metas metamodel model.now.objects }
-    ensures { IsTrue result → IsLoadable store.now extent model.now.objects }
+    ensures loadable { IsTrue result → IsLoadable store.now extent model.now.objects }
+    ensures full { IsLoadable store.now extent model.now.objects → (extent_at store.now extent).metamodel ≡ metamodel → IsTrue result }
 {
     if !is_extent_of(store, extent, metamodel) {
         return false;
@@ -119,6 +123,7 @@ fn is_written(store: &Store, extent: u32) -> bool
     ensures live { IsTrue result → IsTrue (is_extent store.now extent) }
     ensures model { IsTrue result → IsTrue (is_model store.now extent) }
     ensures writable { IsTrue result → IsTrue (extent_at store.now extent).writable }
+    ensures full { IsTrue (is_extent store.now extent) → IsTrue (is_model store.now extent) → IsTrue (extent_at store.now extent).writable → IsTrue result }
 {
     match store.extents().get(extent as usize) {
         None => false,

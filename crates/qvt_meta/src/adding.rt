@@ -3,13 +3,14 @@
 ghost use Rattle.std.specs.Prelude.{◌≡◌, ◌+◌, ◌<◌, ◌≤◌, ◌^◌, ℕ, List, length, map, take, slice_index, IfOk, OnOk, ◌++◌, option_map, position, IfSome, IsTrue, [], None, ◌∷◌};
 ghost use Rattle.std.specs.Str.{bytes_eq};
 ghost use Rattle.qvt_metamodel.specs.MetaData.{feature_names};
-ghost use Rattle.qvt_meta.specs.Places.{ArePlaces, firsts_of};
+ghost use Rattle.qvt_meta.specs.Places.{ArePlaces, AreOwnNames, firsts_of};
 ghost use Rattle.qvt_json.specs.Repeated.{repeated};
 ghost use Rattle.std.specs.List.{list_all};
 ghost use Rattle.qvt_metamodel.specs.Checks.{same_name};
 ghost use Rattle.qvt_meta.specs.Numbers.{has_few_literals, AreNumbers};
 ghost use Rattle.qvt_metamodel.specs.Added.{declared_at, place_in, kind_of, feature_count, feature_number, feature_info, feature_infos, numbers_from, class_info, class_infos, names_of};
 
+use crate::own_names::own_names;
 use qvt_base::copied::Copied;
 use qvt_base::list_fault::ListFault;
 use qvt_base::lists::{ClassNoList, FeatureNoList};
@@ -18,6 +19,7 @@ use qvt_base::seq::Seq;
 use qvt_base::text::Text;
 use qvt_meta_checks::name_set::NameSet;
 use qvt_meta_checks::names::{names_of as distinct_names, place_in};
+use qvt_meta_names::name_table::NameTable;
 use qvt_metamodel::begin::Begin;
 use qvt_metamodel::copied::copy_of_text;
 use qvt_metamodel::declared::{DeclaredClass, DeclaredFeature, MetaData};
@@ -28,13 +30,14 @@ use qvt_metamodel::numbering::numbers_from;
 use qvt_metamodel::room::has_room;
 use std::alloc::Global;
 
-/// Where the names of a metamodel that is added are: its enumerations, its classes, and how many
-/// features stand before those of each class, and before the end.
+/// Where the names of a metamodel that is added are: its enumerations, its classes, how many features
+/// stand before those of each class, and before the end, and the features of each class.
 #[derive(Drop)]
 pub struct Places {
     pub enums: NameSet,
     pub classes: NameSet,
     pub firsts: Vec<u32>,
+    pub own: Seq<NameTable>,
 }
 
 /// The numbered parts of one metamodel.
@@ -124,35 +127,20 @@ pub fn class_infos(
     Ok(infos.into_vec())
 }
 
-fn find_feature(features: &[DeclaredFeature], name: &Text) -> Option<usize>
-    ensures value { result ≡ position (λ f. bytes_eq name.now f.name) features.now }
-    ensures bound { IfSome result (λ i. i < length features.now) }
-{
-    features
-        .iter()
-        .position(|f| name.as_str() == f.name.as_str())
-}
-
-/// The place among these features of the one with this name, 0 where there is none.
-fn feature_place(features: &[DeclaredFeature], name: &Text) -> usize
-    ensures place { result ≡ place_in (map (λ f. f.name) features.now) name.now }
-    ensures bound { result ≤ length features.now }
-{
-    match find_feature(features, name) {
-        Some(place) => place,
-        None => 0,
-    }
-}
-
-/// The same among the features of the class at a place.
-fn own_place(classes: &[DeclaredClass], class: usize, name: &Text) -> usize
+/// The place, among the features of the class at a place, of the one with this name, 0 where there is
+/// none.
+fn own_place(own: &Seq<NameTable>, classes: &[DeclaredClass], class: usize, name: &Text) -> usize
+    requires { AreOwnNames classes.now own.now }
     ensures place { result ≡ place_in (feature_names (declared_at classes.now class)) name.now }
     ensures bound { result ≤ length (declared_at classes.now class).features }
 {
-    if class < classes.len() {
-        feature_place(classes[class].features.as_slice(), name)
-    } else {
-        0
+    if class >= classes.len() {
+        return 0;
+    }
+    let tables = own.as_slice();
+    match tables[class].find(name.as_str()) {
+        Some(place) => place as usize,
+        None => 0,
     }
 }
 
@@ -169,7 +157,7 @@ fn feature_number(
     requires places { ArePlaces begin places.now classes.now }
     ensures { result ≡ feature_number begin classes.now class name.now }
 {
-    let place = own_place(classes, class, name);
+    let place = own_place(&places.own, classes, class, name);
     FeatureNo(begin.feature + (places.firsts[class] + place as u32))
 }
 
@@ -292,11 +280,13 @@ pub fn places_of(
     ensures enums { IfOk result (λ p. p.enums ≡ map (λ e. e.name) enums.now) }
     ensures classes { IfOk result (λ p. p.classes ≡ names_of classes.now) }
     ensures firsts { IfOk result (λ p. p.firsts.items ≡ firsts_of 0 classes.now) }
+    ensures own { IfOk result (λ p. AreOwnNames classes.now p.own) }
 {
     Ok(Places {
         enums: distinct_names(alloc, enums)?,
         classes: distinct_names(alloc, classes)?,
         firsts: firsts(alloc, classes)?,
+        own: own_names(alloc, classes)?,
     })
 }
 

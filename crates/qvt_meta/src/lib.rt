@@ -3,6 +3,7 @@
 
 mod adding;
 pub mod meta;
+mod own_names;
 mod same_feature;
 
 pub use qvt_meta_read::small;

@@ -1,0 +1,11 @@
+use Rattle.std.proofs.Common.{◌∙◌, ◌∷◌, [], ◌++◌, ap}
+use Rattle.std.specs.Map.{lookup}
+use Rattle.std.specs.Str.{bytes_eq}
+use Rattle.qvt_meta_names.proofs.Tables.{lookup-last}
+use Rattle.qvt_meta.proofs.own_names.add_feature.Goals as goal
+
+pub returns : goal.returns
+returns c = λ name.
+    ap (lookup (bytes_eq name)) c.in_ok-add.ensures
+    ∙ ap (λ key. lookup (bytes_eq name) (c.args.table.now ++ (key, c.args.place) ∷ [])) c.as_str-2.ensures
+    ∙ lookup-last (bytes_eq name) c.args.table.now c.args.feature.now.name c.args.place
