@@ -1,3 +1,4 @@
+mod Arrows
 mod Contexts
 mod Every
 mod Follows
@@ -12,3 +13,4 @@ mod Solid
 mod Statements
 mod Units
 mod Whole
+mod Written
