@@ -1,73 +1,50 @@
 -- What the rules of iterators, objects, resolves and statements write, over what their parts write.
-use Rattle.qvt_base.specs.declared.numbers.ClassNo.{ClassNo}
 use Rattle.qvt_base.specs.declared.numbers.ExprNo.{ExprNo}
 use Rattle.qvt_base.specs.declared.numbers.Place.{Place}
-use Rattle.qvt_metamodel.specs.Metamodels.{Metamodels, class_at}
+use Rattle.qvt_metamodel.specs.Metamodels.{class_at}
 use Rattle.qvt_tree_types.specs.declared.types.PathTree.{PathTree}
-use Rattle.qvt_tree_types.specs.declared.words.BinaryOp.{BinaryOp}
-use Rattle.qvt_tree_types.specs.declared.words.CollKind.{CollKind}
 use Rattle.qvt_tree_types.specs.declared.words.ResolveWord.{ResolveWord}
-use Rattle.qvt_tree_types.specs.declared.words.Sign.{Sign}
-use Rattle.qvt_typed_laws.proofs.Follows.{◌&◌, changed, Quiet, Marks, Answers, Follows, Closes, quietly, given, looked, sourced, telling, checking, either, declaring, settling, blank, marking, answering, before_mark, after_mark, before_answer, after_answer, no_number, nothing, one_mark, both, closed, last, part, numbered, alone, before, after, before_closing, inside, made}
-use Rattle.qvt_typed_laws.proofs.Written.{effect, ruled, stepped, named_class, is_written}
+use Rattle.qvt_typed_laws.proofs.Follows.{◌&◌, Quiet, Marks, Answers, Follows, quietly, given, looked, sourced, telling, checking, either, declaring, settling, blank, marking, answering, before_mark, after_mark, before_answer, one_mark, both, closed, behind, last, part, numbered, before, after, before_closing, inside}
+use Rattle.qvt_typed_laws.proofs.Written.{effect, ruled, stepped, named_class}
 use Rattle.qvt_typed_laws.specs.Numbers.{number}
-use Rattle.qvt_types_data.specs.Notes.{told, plain, unread}
-use Rattle.qvt_types_data.specs.declared.note.Reading.TheVariants as reading
 use Rattle.qvt_types_data.specs.declared.refusal.RefusalKind.TheVariants as refusal
 use Rattle.qvt_types_data.specs.declared.refusal.RefusalKind.{RefusalKind}
 use Rattle.qvt_types_data.specs.declared.ruling.Read.{Read}
-use Rattle.qvt_types_data.specs.declared.ruling.Ruling.TheVariants.{Holds, Fails, Silent}
-use Rattle.qvt_types_data.specs.declared.ruling.Ruling.{Ruling}
-use Rattle.qvt_types_data.specs.declared.ty.Ty.TheVariants as ty
 use Rattle.qvt_types_data.specs.declared.ty.Ty.{Ty}
 use Rattle.qvt_types_data.specs.declared.variable.VariableSort.TheVariants as sort
+use Rattle.qvt_types_data.specs.declared.note.Note.{Note}
 use Rattle.qvt_types_laws.specs.Join as join
 use Rattle.qvt_types_laws.specs.Join.{Takes, next_note, join_sign, join_signs}
-use Rattle.qvt_types_nodes.specs.declared.types.TypedPathTree.{TypedPathTree}
-use Rattle.qvt_types_nodes.specs.declared.types.TypedSign.{TypedSign}
-use Rattle.qvt_types_paths.specs.Paths.{path_type, path_class, element_no}
-use Rattle.qvt_types_states.specs.Judge.{Judges, ◌>>=◌, gives, scope, checked, declare, settled, answers, marks, writes_nothing}
-use Rattle.qvt_types_states.specs.Scopes.{ScopeTerm, found, is_known}
+use Rattle.qvt_types_states.specs.Judge.{Judges, ◌>>=◌, gives, checked, writes_nothing}
+use Rattle.qvt_types_states.specs.Scopes.{found, is_known}
 use Rattle.qvt_types_states.specs.declared.scope.Known.{Known}
-use Rattle.qvt_types_states.specs.declared.state.State.{State}
-use Rattle.qvt_types_steps.specs.Calls.{dot_call}
 use Rattle.qvt_types_steps.specs.Classes as classes
 use Rattle.qvt_types_steps.specs.IteratorTable.{iterator_named}
 use Rattle.qvt_types_steps.specs.Iterators as iterators
-use Rattle.qvt_types_steps.specs.Properties.{property}
 use Rattle.qvt_types_steps.specs.Resolving as resolving
 use Rattle.qvt_types_steps.specs.declared.classes.ClassPart.TheVariants as part
 use Rattle.qvt_types_steps.specs.declared.classes.ClassPart.{ClassPart}
-use Rattle.qvt_types_steps.specs.declared.classes.ClassTest.{ClassTest}
-use Rattle.qvt_types_steps.specs.declared.classes.ModelCall.TheVariants as model_call
-use Rattle.qvt_types_steps.specs.declared.classes.ModelCall.{ModelCall}
 use Rattle.qvt_types_steps.specs.declared.heads.Heading.TheVariants as heading
 use Rattle.qvt_types_steps.specs.declared.heads.Heading.{Heading}
 use Rattle.qvt_types_steps.specs.declared.iterators.IteratorKind.{IteratorKind}
 use Rattle.qvt_types_steps.specs.declared.resolves.Joint.TheVariants as joint
 use Rattle.qvt_types_steps.specs.declared.resolves.Joint.{Joint}
-use Rattle.qvt_types_units.specs.Numbers.{unit_at, constructor_of}
 use Rattle.qvt_types_units.specs.Reuse.{listed}
 use Rattle.qvt_types_words.specs.Rulings as ruling
-use Rattle.qvt_types_words.specs.Types.{conforms}
 use Rattle.qvt_typing.specs.Aims as aims
-use Rattle.qvt_typing.specs.Calls as calls
-use Rattle.qvt_typing.specs.Context.{Context, unless_untyped}
+use Rattle.qvt_typing.specs.Context.{Context}
 use Rattle.qvt_typing.specs.Names as names
 use Rattle.qvt_typing.specs.Rules as rule
 use Rattle.qvt_typing.specs.Statements as rule_of
 use Rattle.qvt_typing.specs.declared.parts.Aim.{Aim}
-use Rattle.qvt_typing.specs.declared.parts.Effect.TheVariants.{PlainOne, PureOne, ImpureOne}
-use Rattle.qvt_typing.specs.declared.parts.Effect.{Effect}
-use Rattle.qvt_typing.specs.declared.parts.Filtered.TheVariants.{NoFilter, By}
+use Rattle.qvt_typing.specs.declared.parts.Effect.TheVariants.{PureOne, ImpureOne}
+use Rattle.qvt_typing.specs.declared.parts.Filtered.TheVariants.{By}
 use Rattle.qvt_typing.specs.declared.parts.Filtered.{Filtered}
 use Rattle.qvt_typing.specs.declared.parts.Given.{Given}
-use Rattle.qvt_typing.specs.declared.parts.ObjectVariable.TheVariants.{NoVariable, OfType, OfNone}
 use Rattle.qvt_typing.specs.declared.parts.ObjectVariable.{ObjectVariable}
-use Rattle.qvt_typing.specs.declared.parts.Within.TheVariants.{Everywhere, Nobody, In}
 use Rattle.qvt_typing.specs.declared.parts.Within.{Within}
-use Rattle.std.proofs.Common.{◌≡◌, refl, sym, ◌∙◌, ap, subst, ℕ, Bool, true, false, List, [], ◌∷◌, ◌++◌, Option, Some, None, cond, ◌+◌, arith}
-use Rattle.std.specs.Prelude.{is_some, if◌then◌else◌, not, Result, Ok, Err, ◌||◌, ◌&&◌}
+use Rattle.std.proofs.Common.{◌≡◌, refl, ◌∙◌, ℕ, Bool, true, false, List, [], ◌∷◌, ◌++◌, Option, Some, None, ◌+◌, arith}
+use Rattle.std.specs.Prelude.{is_some, if◌then◌else◌, not, ◌&&◌}
 
 -- Heads of iterators.
 
@@ -83,15 +60,15 @@ unfolding rule.no_head
 no_head name o = quietly (unnamed (iterator_named name) o) (λ u. given heading.Missing)
 
 -- a note after what leaves none
-pub without : {A B : Type 0} {p : Judges A} (b : B) → Marks p → Follows p (join.gives b & next_note) no_number
-without b a = record {
+pub without : {A B : Type 0} (more : B → List ℕ) {p : Judges A} (b : B) → more b ≡ [] → Marks p → Follows p (join.gives b & next_note) (λ (y : B × Note). more y.0)
+without more b none a = record {
   notes = λ s. a.note s ∷ [];
   node = λ s. (b, a.note s);
   count = λ s. 0;
   writes = a.notes;
   counts = λ s. a.next s ∙ (let z : s.next ≡ s.next + 0 = omega arith in z);
   takes = λ s rest. refl;
-  numbers = λ s. refl;
+  numbers = λ s. none;
 }
 
 module _ (x : Context) where
@@ -102,9 +79,9 @@ module _ (x : Context) where
       given (rule.if_new b (iterators.plain_head x.heads.metas k.is_given k.ty items)))))
 
   -- its Head without an accumulator
-  pub plain_heading : {B C : Type 0} {num : B → List ℕ} {q : Takes B} (v : List ℕ) {p : Judges Given} (at : Place) (none : C) → Follows p q num → (items : Option Ty) → Follows (rule.plain_heading x v p at items) (q & (join.gives none & next_note)) (λ y. num y.0 ++ [])
+  pub plain_heading : {B C : Type 0} {num : B → List ℕ} {q : Takes B} (v : List ℕ) {p : Judges Given} (at : Place) (more : C → List ℕ) (none : C) → more none ≡ [] → Follows p q num → (items : Option Ty) → Follows (rule.plain_heading x v p at items) (q & (join.gives none & next_note)) (λ y. num y.0 ++ more y.1.0)
   unfolding rule.plain_heading
-  plain_heading v at none a items = both a (λ k. without none (plain_mark v k at items))
+  plain_heading v at more none e a items = both a (λ k. without more none e (plain_mark v k at items))
 
   -- the accumulator's note, and that of the Head
   folded_first : (k : Given) (t first : Option Ty) (accumulator_at at : Place) (items : Option Ty) → Marks {A = Option Ty × Option Ty} (checked (rule.fold_wrong x k items t first) at
@@ -205,9 +182,9 @@ module _ (x : Context) where
     unfolding rule.resolve
     resolve allowed late w at a b = numbered (λ n. part a (λ i. last b (λ f. before_answer (resolve_ruled allowed late joint.Sourceless w None (rule.looked_for x w i f) at) (λ r. answering n r))))
 
-    pub resolve_step : (allowed late : Bool) (j : Joint) (w : ResolveWord) {p : Judges Within} {f : Judges Filtered} (at : Place) → Follows p q num → Follows f r more → (o : Option Ty) → Follows (rule.resolve_step x allowed late j w p f at o) (q & (r & next_note)) (λ y. num y.0 ++ more y.1.0)
+    pub resolve_step : (allowed late : Bool) (j : Joint) (w : ResolveWord) {p : Judges Within} {f : Judges Filtered} (at : Place) → Follows p q num → Follows f r more → (o : Option Ty) → Follows (rule.resolve_step x allowed late j w p f at o) (q & (r & next_note)) (λ y. num y.0 ++ (number y.1.1 ++ more y.1.0))
     unfolding rule.resolve_step
-    resolve_step allowed late j w at a b o = both a (λ i. closed b (λ f. before_mark (resolve_ruled allowed late j w o (rule.looked_for x w i f) at) (λ r. marking r)))
+    resolve_step allowed late j w at a b o = both a (λ i. behind b (λ f. before_mark (resolve_ruled allowed late j w o (rule.looked_for x w i f) at) (λ r. marking r)))
 
 -- Statements.
 

@@ -1,5 +1,5 @@
 -- What judging writes, and what joining takes of it: each note for its node, with the numbers in the order of the text.
-use Rattle.std.proofs.Common.{◌≡◌, refl, sym, ◌∙◌, ap, subst, ℕ, zero, suc, ◌+◌, Bool, true, false, List, [], ◌∷◌, ◌++◌, Option, Some, None, arith}
+use Rattle.std.proofs.Common.{◌≡◌, refl, sym, ◌∙◌, ap, ℕ, zero, suc, ◌+◌, Bool, true, false, List, [], ◌∷◌, ◌++◌, Option, Some, None, arith}
 use Rattle.std.proofs.lemmas.List.{append_assoc, append-nil}
 use Rattle.std.specs.Prelude.{if◌then◌else◌}
 use Rattle.std.specs.List.{range_with_len}
@@ -14,7 +14,7 @@ use Rattle.qvt_types_data.specs.declared.ruling.Ruling.{Ruling}
 use Rattle.qvt_types_data.specs.declared.variable.Variable.{Variable}
 use Rattle.qvt_types_laws.specs.Join.{Takes, next_note}
 use Rattle.qvt_types_laws.specs.Join as join
-use Rattle.qvt_types_states.specs.Judge.{Judges, ◌>>=◌, gives, fresh, scope, in_scope, add_source, scoped, tell, checked, declare, settled, write, answers, marks, writes_nothing}
+use Rattle.qvt_types_states.specs.Judge.{Judges, ◌>>=◌, gives, fresh, scope, in_scope, add_source, scoped, tell, checked, declare, settled, answers, marks, writes_nothing}
 use Rattle.qvt_types_states.specs.Scopes.{ScopeTerm, is_known, with_named}
 use Rattle.qvt_types_states.specs.declared.scope.Known.{Known}
 use Rattle.qvt_types_states.specs.declared.state.State.{State}
@@ -205,6 +205,19 @@ closed {C = C} {p = p} {q = q} a b = record {
   counts = λ s. (b (p s).0).next (p s).1 ∙ a.counts s;
   takes = λ s rest. ap (λ (x : C × List Note). ((x.0, (next_note x.1).0), (next_note x.1).1)) (ap q (append_assoc (a.notes s) ((b (p s).0).note (p s).1 ∷ []) rest) ∙ a.takes s ((b (p s).0).note (p s).1 ∷ rest));
   numbers = a.numbers;
+}
+
+-- the same, with the number of its note, which is none
+pub behind : {A B C : Type 0} {num : C → List ℕ} {p : Judges A} {f : A → Judges B} {q : Takes C} → Follows p q num → ((a : A) → Marks (f a)) → Follows (p >>= f) (q & next_note) (λ (x : C × Note). number x.1 ++ num x.0)
+unfolding closed
+behind {num = num} {p = p} a b = record {
+  notes = (closed a b).notes;
+  node = (closed a b).node;
+  count = (closed a b).count;
+  writes = (closed a b).writes;
+  counts = (closed a b).counts;
+  takes = (closed a b).takes;
+  numbers = λ s. ap (λ o. number_if o ++ num (a.node s)) ((b (p s).0).number (p s).1) ∙ a.numbers s;
 }
 
 -- the same, where the node has the number n

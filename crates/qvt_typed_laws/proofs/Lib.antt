@@ -1,4 +1,5 @@
 mod Arrows
+mod Bodies
 mod Contexts
 mod Every
 mod Follows
@@ -11,6 +12,7 @@ mod Rules
 mod Rulings
 mod Solid
 mod Statements
+mod Texts
 mod Units
 mod Whole
 mod Written

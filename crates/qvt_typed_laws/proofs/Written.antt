@@ -1,65 +1,37 @@
 -- What each rule writes, over what its parts write: the notes of its parts, and then its own.
-use Rattle.qvt_base.specs.declared.numbers.ClassNo.{ClassNo}
 use Rattle.qvt_base.specs.declared.numbers.ExprNo.{ExprNo}
 use Rattle.qvt_base.specs.declared.numbers.Place.{Place}
-use Rattle.qvt_metamodel.specs.Metamodels.{Metamodels, class_at}
 use Rattle.qvt_tree_types.specs.declared.types.PathTree.{PathTree}
 use Rattle.qvt_tree_types.specs.declared.words.BinaryOp.{BinaryOp}
 use Rattle.qvt_tree_types.specs.declared.words.CollKind.{CollKind}
-use Rattle.qvt_tree_types.specs.declared.words.ResolveWord.{ResolveWord}
 use Rattle.qvt_tree_types.specs.declared.words.Sign.{Sign}
-use Rattle.qvt_typed_laws.proofs.Follows.{◌&◌, changed, Quiet, Marks, Answers, Follows, Closes, quietly, given, looked, sourced, telling, checking, either, declaring, settling, blank, marking, answering, before_mark, after_mark, before_answer, after_answer, no_number, nothing, one_mark, both, closed, last, part, numbered, alone, before, after, before_closing, inside, made}
+use Rattle.qvt_typed_laws.proofs.Follows.{◌&◌, Quiet, Marks, Answers, Follows, quietly, given, looked, checking, either, settling, blank, marking, answering, before_mark, after_mark, before_answer, after_answer, no_number, nothing, one_mark, both, closed, behind, last, part, numbered, alone, after, made}
 use Rattle.qvt_typed_laws.specs.Numbers.{number}
-use Rattle.qvt_types_data.specs.Notes.{told, plain, unread}
+use Rattle.qvt_types_data.specs.Notes.{plain}
 use Rattle.qvt_types_data.specs.declared.note.Reading.TheVariants as reading
-use Rattle.qvt_types_data.specs.declared.refusal.RefusalKind.{RefusalKind}
 use Rattle.qvt_types_data.specs.declared.ruling.Read.{Read}
 use Rattle.qvt_types_data.specs.declared.ruling.Ruling.{Ruling}
-use Rattle.qvt_types_data.specs.declared.ty.Ty.TheVariants as ty
 use Rattle.qvt_types_data.specs.declared.ty.Ty.{Ty}
-use Rattle.qvt_types_laws.specs.Join as join
-use Rattle.qvt_types_laws.specs.Join.{Takes, next_note, join_sign, join_signs}
-use Rattle.qvt_types_nodes.specs.declared.types.TypedSign.{TypedSign}
+use Rattle.qvt_types_laws.specs.Join.{Takes, next_note, join_signs}
 use Rattle.qvt_types_paths.specs.Paths.{path_type, path_class, element_no}
-use Rattle.qvt_types_states.specs.Judge.{Judges, ◌>>=◌, gives, scope, checked, declare, settled, answers, marks}
-use Rattle.qvt_types_states.specs.Scopes.{ScopeTerm, found, is_known}
-use Rattle.qvt_types_states.specs.declared.scope.Known.{Known}
-use Rattle.qvt_types_states.specs.declared.state.State.{State}
+use Rattle.qvt_types_states.specs.Judge.{Judges}
 use Rattle.qvt_types_steps.specs.Calls.{dot_call}
 use Rattle.qvt_types_steps.specs.Classes as classes
-use Rattle.qvt_types_steps.specs.IteratorTable.{iterator_named}
-use Rattle.qvt_types_steps.specs.Iterators as iterators
 use Rattle.qvt_types_steps.specs.Properties.{property}
-use Rattle.qvt_types_steps.specs.Resolving as resolving
 use Rattle.qvt_types_steps.specs.declared.classes.ClassPart.TheVariants as part
 use Rattle.qvt_types_steps.specs.declared.classes.ClassPart.{ClassPart}
 use Rattle.qvt_types_steps.specs.declared.classes.ClassTest.{ClassTest}
 use Rattle.qvt_types_steps.specs.declared.classes.ModelCall.TheVariants as model_call
 use Rattle.qvt_types_steps.specs.declared.classes.ModelCall.{ModelCall}
-use Rattle.qvt_types_steps.specs.declared.heads.Heading.TheVariants as heading
-use Rattle.qvt_types_steps.specs.declared.heads.Heading.{Heading}
-use Rattle.qvt_types_steps.specs.declared.iterators.IteratorKind.{IteratorKind}
-use Rattle.qvt_types_steps.specs.declared.resolves.Joint.TheVariants as joint
-use Rattle.qvt_types_steps.specs.declared.resolves.Joint.{Joint}
-use Rattle.qvt_types_units.specs.Numbers.{unit_at, constructor_of}
-use Rattle.qvt_types_units.specs.Reuse.{listed}
 use Rattle.qvt_types_words.specs.Rulings as ruling
-use Rattle.qvt_types_words.specs.Types.{conforms}
 use Rattle.qvt_typing.specs.Calls as calls
 use Rattle.qvt_typing.specs.Context.{Context, unless_untyped}
 use Rattle.qvt_typing.specs.Names as names
 use Rattle.qvt_typing.specs.Rules as rule
-use Rattle.qvt_typing.specs.declared.parts.Effect.TheVariants.{PlainOne, PureOne, ImpureOne}
+use Rattle.qvt_typing.specs.declared.parts.Effect.TheVariants.{PlainOne, ImpureOne}
 use Rattle.qvt_typing.specs.declared.parts.Effect.{Effect}
-use Rattle.qvt_typing.specs.declared.parts.Filtered.TheVariants.{NoFilter, By}
-use Rattle.qvt_typing.specs.declared.parts.Filtered.{Filtered}
-use Rattle.qvt_typing.specs.declared.parts.Given.{Given}
-use Rattle.qvt_typing.specs.declared.parts.ObjectVariable.TheVariants.{NoVariable, OfType, OfNone}
-use Rattle.qvt_typing.specs.declared.parts.ObjectVariable.{ObjectVariable}
-use Rattle.qvt_typing.specs.declared.parts.Within.TheVariants.{Everywhere, Nobody, In}
-use Rattle.qvt_typing.specs.declared.parts.Within.{Within}
-use Rattle.std.proofs.Common.{◌≡◌, refl, sym, ◌∙◌, ap, subst, ℕ, Bool, true, false, List, [], ◌∷◌, ◌++◌, Option, Some, None, cond, ◌+◌}
-use Rattle.std.specs.Prelude.{is_some, if◌then◌else◌, not, Result, Ok, Err, ◌||◌, ◌&&◌}
+use Rattle.std.proofs.Common.{refl, ℕ, Bool, true, false, List, [], ◌∷◌, ◌++◌, Option, Some, None}
+use Rattle.std.specs.Prelude.{is_some, if◌then◌else◌}
 
 module _ (x : Context) where
   pub effect : (e : Effect) (r : Read) (at : Place) → Quiet (rule.effect_told x e r at)
@@ -216,6 +188,6 @@ module _ (x : Context) where
     map name args at a = numbered (λ n. last a (λ os. before_answer looked (λ s.
         ruled x n (calls.call_ruled x.heads true (calls.called_alone x.heads true name s.sources) (rule.all_types os)) ImpureOne at)))
 
-    pub map_step : (arrow : Bool) (name : List ℕ) (args : List (Judges (Option Ty))) (at : Place) → Follows (rule.all [] args) q num → (o : Option Ty) → Follows (rule.map_step x arrow name args at o) (q & next_note) (λ y. num y.0)
+    pub map_step : (arrow : Bool) (name : List ℕ) (args : List (Judges (Option Ty))) (at : Place) → Follows (rule.all [] args) q num → (o : Option Ty) → Follows (rule.map_step x arrow name args at o) (q & next_note) (λ y. number y.1 ++ num y.0)
     unfolding rule.map_step
-    map_step arrow name args at a o = closed a (λ os. stepped x (calls.map_ruled x.heads arrow o (calls.called_behind x.heads true arrow name o) (rule.all_types os)) ImpureOne at)
+    map_step arrow name args at a o = behind a (λ os. stepped x (calls.map_ruled x.heads arrow o (calls.called_behind x.heads true arrow name o) (rule.all_types os)) ImpureOne at)
