@@ -1,10 +1,10 @@
 -- An object that stands once in all containment slots stands in one of them, once.
-use Rattle.std.proofs.Common.{◌≡◌, ◌≢◌, ℕ, zero, suc, ◌+◌, ◌<◌, ◌≤◌, Bool, true, false, ◌==◌, ◌||◌, cond, inl, inr, refl, sym, ap, ◌∙◌, subst, List, [], ◌∷◌, ◌++◌, map, length, arith}
+use Rattle.std.proofs.Common.{◌≡◌, ◌≢◌, ℕ, zero, suc, ◌+◌, ◌≤◌, Bool, true, false, ◌==◌, ◌||◌, cond, inl, inr, refl, sym, ap, ◌∙◌, subst, List, [], ◌∷◌, ◌++◌, map, arith}
 use Rattle.std.specs.Prelude.{slice_index_or}
 use Rattle.std.specs.List.{list_any, AllByRecursion}
-use Rattle.std.proofs.lemmas.Bool.{cases_eq, eq-eqb, ne_eqb}
+use Rattle.std.proofs.lemmas.Bool.{cases_eq}
 use Rattle.std.proofs.lemmas.Bool.Decides.{Decides-eqb}
-use Rattle.qvt_relation.proofs.Bools.{or_left, or_right, or_cases, either, clash}
+use Rattle.qvt_relation.proofs.Bools.{or_left, or_right, or_cases, clash}
 use Rattle.qvt_metamodel.specs.Metamodels.{Metamodels, is_containment}
 use Rattle.qvt_slots.specs.Slots.{is_object, has}
 use Rattle.qvt_slots.specs.Repeats.{same_value, repeats}

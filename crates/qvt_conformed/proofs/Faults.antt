@@ -1,27 +1,22 @@
 -- A model without a fault conforms in the terms of a store.
-use Rattle.std.proofs.Common.{◌≡◌, ◌≢◌, ℕ, zero, suc, ◌+◌, ◌<◌, ◌≤◌, Bool, true, false, ◌==◌, ◌||◌, ◌&&◌, not, cond, inl, inr, refl, sym, ap, ◌∙◌, subst, List, [], ◌∷◌, ◌++◌, map, length, nat_lt, arith}
+use Rattle.std.proofs.Common.{◌≡◌, ℕ, zero, suc, ◌+◌, ◌<◌, ◌≤◌, Bool, true, false, ◌==◌, ◌||◌, ◌&&◌, not, cond, inl, inr, refl, sym, ap, ◌∙◌, subst, List, [], ◌∷◌, ◌++◌, map, length, nat_lt, arith}
 use Rattle.std.specs.Prelude.{Option, Some, None, slice_index_or}
 use Rattle.std.specs.List.{list_any, AllByRecursion}
-use Rattle.std.specs.Str.{bytes_eq}
 use Rattle.std.proofs.Math.Bool.{beq}
-use Rattle.std.proofs.lemmas.Bool.{cases_lt, cases_eq, eq-eqb, ne_eqb, le-ltb, lt-ltb, leb-true, ltb-true, ltb-false}
+use Rattle.std.proofs.lemmas.Bool.{cases_lt, cases_eq, eq-eqb, ne_eqb, le-ltb, leb-true, ltb-false}
 use Rattle.std.proofs.lemmas.Bool.Decides.{Decides-eqb, Decides-int_eq}
-use Rattle.std.proofs.lemmas.List.{get_or-map}
 use Rattle.std.proofs.lemmas.Slice.Eq.{bytes_eq-Decides}
 use Rattle.qvt_base.specs.declared.numbers.FeatureNo.{FeatureNo}
 use Rattle.qvt_value.specs.declared.value.LiteralRef.{LiteralRef}
-use Rattle.qvt_value.specs.declared.value.Value.{Value}
 use Rattle.qvt_metamodel.specs.Metamodels.{Metamodels, class_at, feature_at, features_of, among_features, has_feature, shape_of, opposite, is_opposite, is_feature_number, is_containment}
-use Rattle.qvt_relation.specs.Closure.{Closure, reaches, Decides, IsBelow}
+use Rattle.qvt_relation.specs.Closure.{Closure}
 use Rattle.qvt_relation.specs.Closure.Closure.{directly as one_step, through as more_steps}
-use Rattle.qvt_relation.proofs.Bools.{and_left, and_right, and_both, or_left, or_right, or_cases, or_none, none_left, none_right, either, clash, refuted}
+use Rattle.qvt_relation.proofs.Bools.{and_left, and_right, and_both, or_cases, or_none, none_left, none_right, either, clash, refuted}
 use Rattle.qvt_relation.proofs.Closures.{closure-reaches}
 use Rattle.qvt_json.specs.Steps.{or_next}
 use Rattle.qvt_model.proofs.Steps.{neither}
-use Rattle.qvt_slots.specs.Slots.{is_object, has, Contains, Inside, directly, through}
+use Rattle.qvt_slots.specs.Slots.{is_object, has, Inside, directly, through}
 use Rattle.qvt_slots.specs.Repeats.{same_value, repeats}
-use Rattle.qvt_metamodel.specs.declared.info.TypeKind.{TypeKind}
-use Rattle.qvt_metamodel.specs.declared.info.TypeKind.TheVariants.{Bool as BoolKind, Int as IntKind, Str as StrKind, Enum as EnumKind, Class as ClassKind}
 use Rattle.qvt_slots.specs.Assign.{is_beyond}
 use Rattle.qvt_slots.proofs.Lists.{length-map, past_end}
 use Rattle.qvt_model.specs.declared.data.Datum.{Datum}
@@ -34,7 +29,7 @@ use Rattle.qvt_conform.specs.declared.fault.ConformFault.{ConformFault}
 use Rattle.qvt_conform.specs.declared.fault.ConformFault.TheVariants.{Bounds, NotUnique, Opposite, Abstract, TwoContainers, ContainmentCycle}
 use Rattle.qvt_conform.specs.Items.{is_at_most, is_within, same_literal, same_item, repeats_after, is_ref, lacks, lack_opposite}
 use Rattle.qvt_conform.specs.Items as item
-use Rattle.qvt_conform.specs.Containment.{refs_of, refs, contents_of_slot, contents_of_slots, contents_of, contents}
+use Rattle.qvt_conform.specs.Containment.{contents_of_slots, contents_of, contents}
 use Rattle.qvt_conform.specs.Conformance.{fault_if, feature_fault, features_fault, containment_fault, object_fault, faults_from, conform_fault}
 use Rattle.qvt_model.specs.Items.{items_in}
 use Rattle.qvt_model.specs.Loaded.{value_at}
@@ -42,7 +37,7 @@ use Rattle.qvt_model.specs.Conforming.{slots_at, Conforms}
 use Rattle.qvt_model.proofs.Final.{not_own, all_at}
 use Rattle.qvt_model.proofs.Placing.{ref_below}
 use Rattle.qvt_model.proofs.Lists.{index-map}
-use Rattle.qvt_conformed.proofs.Counts.{Twice, held_among, in_slots, two_slots, slot_count, once_in_lists, at_most_here, repeated_twice}
+use Rattle.qvt_conformed.proofs.Counts.{held_among, in_slots, two_slots, once_in_lists, at_most_here}
 use Rattle.qvt_conformed.specs.Law.{FaultlessConforms}
 
 no_fault : (b : Bool) (f : ConformFault) → fault_if b f ≡ None → b ≡ false

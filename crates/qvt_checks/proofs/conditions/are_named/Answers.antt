@@ -15,13 +15,13 @@ loop-extent-preserved c = λ e h. elim (cases_order e c.loop-extent.extent-index
   | inl same ↦ subst (λ n. is_named (slice_index_or c.as_slice-extent-items.result.now n no_extent).name ≡ is_named (metamodel_at c.args.metas.now (slice_index_or c.as_slice-extent-items.result.now n no_extent).metamodel).name) (sym same)
       (subst (λ (x : Extent). is_named x.name ≡ is_named (metamodel_at c.args.metas.now x.metamodel).name)
       (c.extent-item.is ∙ any_default c.as_slice-extent-items.result.now c.loop-extent.extent-index c.extent-item.result no_extent c.loop-extent-test.true)
-      (c.is_named_alike.ensures c.if-not-is_named_alike.false))
+      (c.is_named_alike.ensures.named c.if-not-is_named_alike.false))
   | inr (inl less) ↦ c.loop-extent.invariant e less
   | inr (inr more) ↦ absurd (omega arith)
 ]
 
-pub returns : goal.returns
-returns c = λ _. record {
+pub returns-clause-named : goal.returns-clause-named
+returns-clause-named c = λ _. record {
   named = λ e live.
       let within : e < length c.args.extents.now = ltb-true e (length c.args.extents.now) live in
       let beyond : length c.as_slice-extent-items.result.now ≤ c.loop-extent.extent-index = c.loop-extent-test.false in

@@ -1,4 +1,4 @@
-use Rattle.std.proofs.Common.{◌≡◌, ◌∙◌, [], None, Option, ap, sym, subst, option_map}
+use Rattle.std.proofs.Common.{◌∙◌, [], Option, ap, sym, subst, option_map}
 use Rattle.qvt_json.specs.Steps.{◌>>=◌, Gives, none_of}
 use Rattle.qvt_metamodel.specs.Checks.{Told}
 use Rattle.qvt_metamodel.specs.declared.fault.MetaFault.TheVariants.{NoMemory, UnknownType}

@@ -16,5 +16,14 @@ loop-class-preserved c = record {
       (each-more (λ k (t : List (List ℕ × ℕ)). (name : List ℕ) → lookup (bytes_eq name) t ≡ position (λ (f : DeclaredFeature). bytes_eq name f.name) (declared_at c.args.classes.now k).features) []
       c.loop-class.tables c.loop-class.class c.in_ok-names_of.field-0 c.loop-class.invariant.each c.loop-class.invariant.at
       (λ name. c.in_ok-names_of.ensures name
-      ∙ ap (position (λ (f : DeclaredFeature). bytes_eq name f.name)) (c.as_slice.ensures ∙ ap (λ (k : DeclaredClass). k.features) (get_or_read c.args.classes.now c.loop-class.class _ (omega (arith, c.loop-class-test.true)) c.index-classes-class.is nothing_declared))));
+      ∙ ap (position (λ (f : DeclaredFeature). bytes_eq name f.name)) (c.as_slice.ensures ∙ ap (λ (k : DeclaredClass). k.features) (sym c.index-classes-class.is ∙ get_or_read c.args.classes.now c.loop-class.class _ (omega (arith, c.loop-class-test.true)) c.index-classes-class.is nothing_declared))));
 }
+
+pub returns : goal.returns
+returns c =
+    let test = c.loop-class-test.false in
+    let end = c.loop-class.auto.class-end in
+    record {
+      each = c.loop-class.invariant.each ∙ (let all : c.loop-class.class ≡ length c.args.classes.now = omega (arith, test, end) in all);
+      at = λ k live name. c.loop-class.invariant.at k (omega (arith, test, live)) name;
+    }
