@@ -5,4 +5,4 @@ pub mod given;
 mod live;
 mod loose;
 mod named;
-mod room;
+pub mod room;

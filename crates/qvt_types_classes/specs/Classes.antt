@@ -1,17 +1,28 @@
 -- The metamodels of a transformation: those that are given, Element, and the intermediate classes (QVT 1.3, 8.2.1.1).
-use Rattle.std.specs.Prelude.{ℕ, ◌+◌, ◌-◌, nat_lt, Bool, true, List, ◌++◌, map, slice_index_or, if◌then◌else◌}
-use Rattle.std.specs.List.{flat_map}
+use Rattle.std.specs.Prelude.{ℕ, ◌+◌, ◌-◌, ◌<◌, nat_lt, Bool, true, List, ◌++◌, length, map, slice_index_or, if◌then◌else◌}
+use Rattle.std.specs.List.{flat_map, AllByRecursion}
 use Rattle.qvt_base.specs.declared.numbers.ClassNo.{ClassNo}
+use Rattle.qvt_metamodel.specs.Kept.{AreRanks}
 use Rattle.qvt_metamodel.specs.Metamodels.{Metamodels}
 use Rattle.qvt_metamodel.specs.Extended.{extended}
 use Rattle.qvt_metamodel.specs.declared.given.ClassData.{ClassData}
 use Rattle.qvt_metamodel.specs.declared.given.FeatureData.{FeatureData}
+use Rattle.qvt_metamodel.specs.declared.info.ClassInfo.{ClassInfo}
+use Rattle.qvt_meta_tables.specs.Tables.{of_classes}
 use Rattle.qvt_types_data.specs.declared.refusal.Refusal.{Refusal}
 use Rattle.qvt_types_paths.specs.ModelTypes.{NamedTypes}
 use Rattle.qvt_types_classes.specs.declared.declared.Property.{Property}
 use Rattle.qvt_types_classes.specs.declared.declared.Declared.{Declared}
 use Rattle.qvt_types_classes.specs.Written.{super_lists, cycle_flags, uncycled_from, cycles_told}
 use Rattle.qvt_types_classes.specs.Inherited.{numbered_from, all_properties, property_lists, read_from, same_told_from}
+
+-- the superclasses of classes are among these
+abbrev pub HaveSupers : List Declared → Type 0
+HaveSupers ds = AllByRecursion (λ d. AllByRecursion (λ s. s < length ds) d.supers) ds
+
+-- classes by number have ranks above those of their superclasses
+abbrev pub HaveRanks : List ClassInfo → Type 0
+HaveRanks ks = (ranks : List ℕ) × AreRanks (of_classes ks) ranks
 
 -- the classes as they are written, those that are above themselves without superclasses
 unfoldable pub own_classes : List Declared → List Declared

@@ -1,7 +1,11 @@
 //! The metamodels of a transformation with its intermediate classes.
 
-ghost use Rattle.std.specs.Prelude.{◌≡◌, ◌++◌, [], None, map, IfOk, OnOk};
+ghost use Rattle.std.specs.Prelude.{◌≡◌, ◌++◌, [], None, length, map, IfOk, OnOk};
+ghost use Rattle.qvt_metamodel.specs.Extended.{AreGiven};
+ghost use Rattle.qvt_meta_tables.specs.Search.{AreLive, IsAcyclic};
 ghost use Rattle.qvt_tree_types.specs.Module.{unit_view};
+ghost use Rattle.qvt_types_paths.specs.ModelTypes.{class_names};
+ghost use Rattle.qvt_types_classes.specs.Inherited.{numbered_from};
 ghost use Rattle.qvt_types_classes.specs.Written.{all_declared, classes_told};
 ghost use Rattle.qvt_types_classes.specs.Classes as words;
 
@@ -15,7 +19,7 @@ use qvt_base::list_fault::ListFault;
 use qvt_base::lists::ClassNoList;
 use qvt_base::numbers::{ClassNo, FeatureNo};
 use qvt_base::seq::Seq;
-use qvt_meta_given::given::are_given;
+use qvt_meta_given::room::has_room_for;
 use qvt_metamodel::given::{ClassData, ClassDataList, FeatureData, FeatureDataList};
 use qvt_metas::metas::Metas;
 use qvt_tree_types::module::Unit;
@@ -30,7 +34,10 @@ fn read_classes(
     classes: &[Declared],
     log: &mut RefusalList,
 ) -> Result<Seq<Declared>, ListFault>
+    requires live { AreLive (numbered_from 0 classes.now) }
+    requires acyclic { IsAcyclic (numbered_from 0 classes.now) }
     ensures read { IfOk result (λ ds. ds ≡ words.read_classes classes.now) }
+    ensures ranked { IfOk result (λ ds. words.HaveRanks (numbered_from 0 classes.now)) }
     ensures told { OnOk result (log.new ≡ log.old ++ words.all_same_told classes.now) }
 {
     let infos = numbered(alloc, classes)?;
@@ -47,7 +54,9 @@ fn classes_above(
     written: &[Declared],
     log: &mut RefusalList,
 ) -> Result<Seq<Declared>, ListFault>
+    requires { words.HaveSupers written.now }
     ensures read { IfOk result (λ ds. ds ≡ words.read_classes (words.own_classes written.now)) }
+    ensures ranked { IfOk result (λ ds. words.HaveRanks (numbered_from 0 (words.own_classes written.now))) }
     ensures told { OnOk result (log.new ≡ log.old ++ words.above_told written.now) }
 {
     let flags = cycle_flags(alloc, written)?;
@@ -117,18 +126,19 @@ fn all_data(
     Ok(data)
 }
 
-/// The metamodels with Element and the classes. It is refused as out of memory where the classes can't stand above the metamodels.
+/// The metamodels with Element and the classes. It is refused as out of memory where the numbers do not fit 32 bits.
 fn extended_by(
     alloc: Global,
     metas: &Metas,
     names: &TypeNames,
     classes: &[Declared],
 ) -> Result<Metas, ListFault>
-    requires { metas.now.element ≡ None }
+    requires element { metas.now.element ≡ None }
+    requires given { AreGiven metas.now (words.all_data names.now classes.now) }
     ensures { IfOk result (λ m. m ≡ words.extended_by metas.now names.now classes.now) }
 {
     let data = all_data(alloc, names, classes)?;
-    if !are_given(alloc, metas, &data)? {
+    if !has_room_for(metas, data.as_slice()) {
         return Err(ListFault::NoMemory);
     }
     match metas.extended(&data) {
@@ -169,7 +179,8 @@ impl Drop for Extended {
     }
 }
 
-/// The metamodels with Element and the intermediate classes, and what is told of these.
+/// The metamodels with Element and the intermediate classes, and what is told of these. It is refused as out of memory where numbers
+/// do not fit 32 bits.
 pub fn with_classes(
     alloc: Global,
     metas: &Metas,
@@ -177,7 +188,9 @@ pub fn with_classes(
     units: &[Unit],
     log: &mut RefusalList,
 ) -> Result<Extended, ListFault>
-    requires { metas.now.element ≡ None }
+    requires element { metas.now.element ≡ None }
+    requires above { names.now.element ≡ length metas.now.classes }
+    requires classes { names.now.classes ≡ class_names (map unit_view units.now) }
     ensures metas { IfOk result (λ e. e.metas ≡ words.extended_by metas.now names.now (words.read_classes (words.own_classes (all_declared metas.now names.now (map unit_view units.now))))) }
     ensures typed { IfOk result (λ e. e.typed ≡ words.typed_flags (words.read_classes (words.own_classes (all_declared metas.now names.now (map unit_view units.now))))) }
     ensures told { OnOk result (log.new ≡ log.old ++ (classes_told metas.now names.now [] (map unit_view units.now) ++ words.above_told (all_declared metas.now names.now (map unit_view units.now)))) }

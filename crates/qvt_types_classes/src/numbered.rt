@@ -1,9 +1,8 @@
 //! Intermediate classes by number, and the properties of each with those that it inherits.
 
-ghost use Rattle.std.specs.Prelude.{◌≡◌, ◌+◌, ◌<◌, ◌^◌, [], ℕ, length, map, nat_lt, slice_index_or, IfOk, IfSome, OnOk};
-ghost use Rattle.std.specs.List.{list_all};
-ghost use Rattle.qvt_metamodel.specs.Metamodels.{features_of};
-ghost use Rattle.qvt_meta_tables.specs.Tables.{of_classes};
+ghost use Rattle.std.specs.Prelude.{◌≡◌, ◌+◌, ◌<◌, ◌^◌, [], length, map, slice_index_or, IfOk, IfSome, OnOk};
+ghost use Rattle.qvt_meta_tables.specs.Search.{AreLive, IsAcyclic};
+ghost use Rattle.qvt_types_classes.specs.Classes.{HaveRanks};
 ghost use Rattle.qvt_types_classes.specs.Inherited as inherited;
 
 use crate::declared::{Declared, Property, nowhere_shape};
@@ -14,7 +13,6 @@ use qvt_base::numbers::{ClassNo, FeatureNo, Place};
 use qvt_base::seq::Seq;
 use qvt_base::text::Text;
 use qvt_cycle::lists::Positions;
-use qvt_meta_tables::cycle::first_cycle;
 use qvt_meta_tables::tables::tables_of;
 use qvt_metamodel::info::ClassInfo;
 use qvt_metamodel::numbering::numbers_from;
@@ -98,36 +96,17 @@ pub fn all_properties(alloc: Global, classes: &[Declared]) -> Result<Seq<Propert
     Ok(all)
 }
 
-/// Whether all these classes are among as many.
-fn are_there(classes: &[ClassNo], count: u32) -> bool
-    ensures { result ≡ list_all (λ s. nat_lt s.0 count) classes.now }
-{
-    classes.iter().all(|class| class.0 < count)
-}
-
-/// Whether all superclasses are there.
-fn have_supers(classes: &[ClassInfo], count: u32) -> bool
-    ensures { result ≡ list_all (λ k. list_all (λ s. nat_lt s.0 count) k.supers) classes.now }
-{
-    classes
-        .iter()
-        .all(|class| are_there(class.supers.as_slice(), count))
-}
-
-/// The numbers of the properties of each class, those that it inherits before its own. It is refused as out of memory where a class
-/// is above itself or a superclass is not there.
+/// The numbers of the properties of each class, those that it inherits before its own. It is refused as out of memory where the
+/// numbers of the classes do not fit 32 bits.
 pub fn property_lists(alloc: Global, classes: &[ClassInfo]) -> Result<Vec<FeatureNoList>, ListFault>
-    ensures { IfOk result (λ v. v.items ≡ inherited.property_lists classes.now) }
+    requires live { AreLive classes.now }
+    requires acyclic { IsAcyclic classes.now }
+    ensures lists { IfOk result (λ v. v.items ≡ inherited.property_lists classes.now) }
+    ensures ranked { IfOk result (λ v. HaveRanks classes.now) }
 {
     let Ok(count) = u32::try_from(classes.len()) else {
         return Err(ListFault::NoMemory);
     };
-    if !have_supers(classes, count) {
-        return Err(ListFault::NoMemory);
-    }
-    if first_cycle(alloc, classes, count)?.is_some() {
-        return Err(ListFault::NoMemory);
-    }
     let tables = tables_of(alloc, classes, count)?;
     Ok(tables.lists)
 }

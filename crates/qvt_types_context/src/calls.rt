@@ -10,9 +10,7 @@ use crate::context::Heads;
 use qvt_base::copied::Copied;
 use qvt_base::list_fault::ListFault;
 use qvt_base::lists::MappingList;
-use qvt_base::numbers::Place;
 use qvt_base::seq::Seq;
-use qvt_base::text::Text;
 use qvt_types_data::note::{Reading, UnitNoList};
 use qvt_types_data::refusal::RefusalKind;
 use qvt_types_data::ruling::{Read, Ruling};
@@ -21,29 +19,11 @@ use qvt_types_data::variable::Variable;
 use qvt_types_groups::units::Units;
 use qvt_types_steps::classes::ClassPart;
 use qvt_types_steps::units::{arguments_wrong, mapping_step, static_class, unit_step};
-use qvt_types_units::choice::Found;
-use qvt_types_units::signature::{HeadClass, Signature, UnitSort};
+use qvt_types_units::choice::{Found, is_unknown};
+pub use qvt_types_units::numbers::no_unit;
+use qvt_types_units::signature::{Signature, UnitSort};
 use qvt_typing::parts::{Called, Effect};
 use std::alloc::Global;
-
-/// The signature that stands for none.
-pub fn no_unit(alloc: Global) -> Signature
-    ensures { result ≡ numbers.no_unit }
-{
-    Signature {
-        sort: UnitSort::Main,
-        name: Text::new(alloc),
-        context: HeadClass::Missing,
-        params: Seq::new(alloc),
-        answer: Some(Ty::Void),
-        result: HeadClass::Missing,
-        place: Place {
-            line: 1,
-            column: 1,
-            offset: 0,
-        },
-    }
-}
 
 /// The unit of this number, or the one that stands for none.
 pub fn unit_at<'a>(units: &'a Units, number: u32, none: &'a Signature) -> &'a Signature
@@ -69,15 +49,6 @@ fn on_class(
         ClassPart::Class(class) => heads.units.called_on(alloc, maps, name, class),
         ClassPart::Untyped => Ok(Found::Untyped),
         ClassPart::Missing => Ok(Found::NoUnit),
-    }
-}
-
-fn is_unknown(context: HeadClass) -> bool
-    ensures { result ≡ choice.is_unknown context }
-{
-    match context {
-        HeadClass::Unknown => true,
-        HeadClass::Missing | HeadClass::Known(_) => false,
     }
 }
 

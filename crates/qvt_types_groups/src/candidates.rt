@@ -5,71 +5,11 @@ ghost use Rattle.qvt_types_units.specs.Choice as choice;
 ghost use Rattle.qvt_types_groups.specs.Least as lows;
 
 use qvt_base::list_fault::ListFault;
-use qvt_base::numbers::ClassNo;
 use qvt_base::seq::Seq;
 use qvt_metas::metas::Metas;
-use qvt_types_units::signature::{HeadClass, Signature};
+use qvt_types_units::choice::{context_at, is_below, is_lowest, single};
+use qvt_types_units::signature::Signature;
 use std::alloc::Global;
-
-/// Whether the context class is this class or above it.
-fn is_above(metas: &Metas, context: HeadClass, class: ClassNo) -> bool
-    ensures { result ≡ choice.is_above metas.now context class.0 }
-{
-    match context {
-        HeadClass::Missing => false,
-        HeadClass::Unknown => false,
-        HeadClass::Known(above) => metas.descends(class, above),
-    }
-}
-
-/// Whether the first context class is the second or below it.
-fn is_below(metas: &Metas, one: HeadClass, other: HeadClass) -> bool
-    ensures { result ≡ choice.is_below metas.now one other }
-{
-    match one {
-        HeadClass::Missing => false,
-        HeadClass::Unknown => false,
-        HeadClass::Known(class) => is_above(metas, other, class),
-    }
-}
-
-/// The context of a unit by its number.
-pub fn context_at(units: &[Signature], number: u32) -> HeadClass
-    ensures { result ≡ choice.context_at units.now number }
-{
-    let at = number as usize;
-    if at < units.len() {
-        units[at].context
-    } else {
-        HeadClass::Missing
-    }
-}
-
-/// Those of the units that an object of the class may be handed to.
-pub fn candidates(
-    alloc: Global,
-    metas: &Metas,
-    units: &[Signature],
-    group: &[u32],
-    class: ClassNo,
-) -> Result<Seq<u32>, ListFault>
-    ensures { IfOk result (λ ns. ns ≡ choice.candidates metas.now units.now group.now class.0) }
-{
-    let mut numbers = Seq::new(alloc);
-    for number in group {
-        if is_above(metas, context_at(units, *number), class) {
-            numbers.push(*number)?;
-        }
-    }
-    Ok(numbers)
-}
-
-fn is_lowest(metas: &Metas, units: &[Signature], group: &[u32], number: u32) -> bool
-    ensures { result ≡ choice.is_lowest metas.now units.now group.now number }
-{
-    let context = context_at(units, number);
-    group.iter().all(|other| is_below(metas, context, context_at(units, *other)))
-}
 
 /// Of two units the one whose context is the other's or below it, else the first.
 fn lower(metas: &Metas, units: &[Signature], one: u32, other: u32) -> u32
@@ -147,14 +87,5 @@ pub fn lowest(
             let lowest = lowest_if(alloc, metas, units, number, group)?;
             Ok(lowest)
         }
-    }
-}
-
-fn single(numbers: &[u32]) -> Option<u32>
-    ensures { result ≡ choice.single numbers.now }
-{
-    match numbers {
-        [number] => Some(*number),
-        _ => None,
     }
 }

@@ -6,12 +6,12 @@ ghost use Rattle.qvt_metamodel.specs.Descends.{descends};
 ghost use Rattle.qvt_types_units.specs.Choice as choice;
 ghost use Rattle.qvt_types_groups.specs.Choices as choices_of;
 
-use crate::candidates::{candidates, context_at, lowest};
+use crate::candidates::lowest;
 use qvt_base::list_fault::ListFault;
 use qvt_base::numbers::ClassNo;
 use qvt_base::seq::Seq;
 use qvt_metas::metas::Metas;
-use qvt_types_units::choice::Found;
+use qvt_types_units::choice::{Found, candidates, context_at, is_unknown};
 use qvt_types_units::signature::{HeadClass, Signature};
 use std::alloc::Global;
 
@@ -64,16 +64,6 @@ fn stuck_classes(
         push_if(&mut stuck, is_one, class)?;
     }
     Ok(stuck)
-}
-
-fn is_unknown(context: HeadClass) -> bool
-    ensures { result ≡ choice.is_unknown context }
-{
-    match context {
-        HeadClass::Missing => false,
-        HeadClass::Unknown => true,
-        HeadClass::Known(_) => false,
-    }
 }
 
 /// Whether the context of one of the units is unknown.

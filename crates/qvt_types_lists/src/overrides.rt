@@ -14,8 +14,8 @@ use qvt_types_data::refusal::RefusalKind;
 use qvt_types_groups::number_lists::NumberLists;
 use qvt_types_laws::laws::same_means_equal;
 use qvt_types_paths::told::{RefusalList, tell_if};
-use qvt_types_units::overrides::is_misfit;
-use qvt_types_units::signature::{HeadClass, Signature, UnitSort};
+use qvt_types_units::overrides::{is_misfit, is_strictly_below};
+use qvt_types_units::signature::{Signature, UnitSort};
 use std::alloc::Global;
 
 /// Units by their names, without those that no override tells from others.
@@ -37,21 +37,6 @@ fn distinct_units(alloc: Global, units: &[Signature]) -> Result<Distinct, ListFa
         mappings: distinct(alloc, true, units)?,
         helpers: distinct(alloc, false, units)?,
     })
-}
-
-/// Whether the first context class is below the second, and another class.
-fn is_strictly_below(metas: &Metas, one: HeadClass, other: HeadClass) -> bool
-    ensures { result ≡ overrides.is_strictly_below metas.now one other }
-{
-    match one {
-        HeadClass::Missing => false,
-        HeadClass::Unknown => false,
-        HeadClass::Known(class) => match other {
-            HeadClass::Missing => false,
-            HeadClass::Unknown => false,
-            HeadClass::Known(above) => class.0 != above.0 && metas.descends(class, above),
-        },
-    }
 }
 
 /// Whether the unit does not fit the one with this number, which is above it.

@@ -14,8 +14,6 @@ use crate::listed::listed;
 use crate::reuses::reuse_lists;
 use qvt_base::list_fault::ListFault;
 use qvt_base::numbers::Place;
-use qvt_base::seq::Seq;
-use qvt_base::text::Text;
 use qvt_cycle::cycles::Cycles;
 use qvt_cycle::lists::Positions;
 use qvt_metas::metas::Metas;
@@ -23,12 +21,12 @@ use qvt_tree_types::module::{Mapping, Unit};
 use qvt_tree_types::tree::Stmt;
 use qvt_tree_types::types::PathTree;
 use qvt_types_data::refusal::{Refusal, RefusalKind};
-use qvt_types_data::ty::Ty;
 use qvt_types_groups::unit_names::UnitNames;
 use qvt_types_paths::model_types::TypeNames;
 use qvt_types_paths::told::{RefusalList, tell_if};
+use qvt_types_units::numbers::no_unit;
 use qvt_types_units::reuse::{Reuse, is_bad_reuse};
-use qvt_types_units::signature::{HeadClass, Signature, UnitSort};
+use qvt_types_units::signature::Signature;
 use std::alloc::Global;
 
 /// What lists of mappings are judged by: the metamodels that are given, in which paths are looked up, those with the intermediate
@@ -39,25 +37,6 @@ pub struct Listing<'a> {
     pub metas: &'a Metas,
     pub names: &'a TypeNames,
     pub units: &'a UnitNames,
-}
-
-/// What stands past the end of the units.
-fn no_unit(alloc: Global) -> Signature
-    ensures { result ≡ numbers.no_unit }
-{
-    Signature {
-        sort: UnitSort::Main,
-        name: Text::new(alloc),
-        context: HeadClass::Missing,
-        params: Seq::new(alloc),
-        answer: Some(Ty::Void),
-        result: HeadClass::Missing,
-        place: Place {
-            line: 1,
-            column: 1,
-            offset: 0,
-        },
-    }
 }
 
 /// Whether the mapping may not reuse the unit with this number.

@@ -1,7 +1,6 @@
--- Single names in expressions (OCL 2.4, 7.5.9 and 9.4.1; QVT 1.3, 8.2.2): a variable in scope, else a model parameter, else a
--- property of the nearest implicit source that has it.
-use Rattle.std.specs.Prelude.{ℕ, Bool, true, false, List, [], ◌∷◌, position, Option, Some, None, if◌then◌else◌}
-use Rattle.std.specs.Str.{bytes_eq}
+-- Single names in expressions that are no variables (OCL 2.4, 7.5.9 and 9.4.1; QVT 1.3, 8.2.2): a model parameter, else a property
+-- of the nearest implicit source that has it.
+use Rattle.std.specs.Prelude.{ℕ, Bool, true, false, List, [], ◌∷◌, Option, Some, None, if◌then◌else◌}
 use Rattle.qvt_base.specs.declared.numbers.FeatureNo.{FeatureNo}
 use Rattle.qvt_metamodel.specs.Metamodels.{Metamodels, shape_of}
 use Rattle.qvt_metamodel.specs.Named.{feature_named}
@@ -17,14 +16,6 @@ use Rattle.qvt_types_data.specs.declared.variable.VariableSort.{VariableSort}
 use Rattle.qvt_types_data.specs.declared.variable.VariableSort.TheVariants as sort
 use Rattle.qvt_types_words.specs.Types.{feature_type}
 use Rattle.qvt_types_classes.specs.Classes.{is_typed}
-
--- the latest variable of the name, in a list that ends with the innermost
-abbrev pub latest_from : List ℕ → Option Variable → List Variable → Option Variable
-latest_from name latest [] = latest
-latest_from name latest (v ∷ vs) = latest_from name (if bytes_eq name v.name then Some v else latest) vs
-
-abbrev pub variable_named : List ℕ → List Variable → Option Variable
-variable_named name vs = latest_from name None vs
 
 abbrev pub is_implicit : VariableSort → Bool
 is_implicit sort.Implicit = true
@@ -67,13 +58,3 @@ model_ruled false i = Fails ModelUse
 abbrev pub model_or : Metamodels → ℕ → List Bool → Bool → List Variable → List ℕ → Option ℕ → Ruling
 model_or m first typed is_source vs name (Some i) = model_ruled is_source i
 model_or m first typed is_source vs name None = by_sources m first typed name (Fails UnknownName) vs
-
-abbrev pub variable_or : Option Variable → List ℕ → Ruling → Ruling
-variable_or (Some v) name otherwise = Holds (plain (reading.Variable name) v.ty)
-variable_or None name otherwise = otherwise
-
--- a single name, among model parameters of these names and variables; `is_source` tells that it stands before one of the
--- operations of models
-abbrev pub name_ruled : Metamodels → ℕ → List Bool → List (List ℕ) → Bool → List Variable → List ℕ → Ruling
-name_ruled m first typed models is_source vs name =
-    variable_or (variable_named name vs) name (model_or m first typed is_source vs name (position (bytes_eq name) models))

@@ -36,7 +36,7 @@ fn is_above(metas: &Metas, context: HeadClass, class: ClassNo) -> bool
 }
 
 /// Whether the first context class is the second or below it.
-fn is_below(metas: &Metas, one: HeadClass, other: HeadClass) -> bool
+pub fn is_below(metas: &Metas, one: HeadClass, other: HeadClass) -> bool
     ensures { result ≡ choice.is_below metas.now one other }
 {
     match one {
@@ -46,7 +46,8 @@ fn is_below(metas: &Metas, one: HeadClass, other: HeadClass) -> bool
     }
 }
 
-fn context_at(units: &[Signature], number: u32) -> HeadClass
+/// The context of a unit by its number.
+pub fn context_at(units: &[Signature], number: u32) -> HeadClass
     ensures { result ≡ choice.context_at units.now number }
 {
     let at = number as usize;
@@ -57,8 +58,19 @@ fn context_at(units: &[Signature], number: u32) -> HeadClass
     }
 }
 
+/// Whether what stands there names no class.
+pub fn is_unknown(context: HeadClass) -> bool
+    ensures { result ≡ choice.is_unknown context }
+{
+    match context {
+        HeadClass::Missing => false,
+        HeadClass::Unknown => true,
+        HeadClass::Known(_) => false,
+    }
+}
+
 /// Those of the units that an object of the class may be handed to.
-fn candidates(
+pub fn candidates(
     alloc: Global,
     metas: &Metas,
     units: &[Signature],
@@ -76,7 +88,8 @@ fn candidates(
     Ok(numbers)
 }
 
-fn is_lowest(metas: &Metas, units: &[Signature], group: &[u32], number: u32) -> bool
+/// Whether the context of the unit is that of each of these or below it.
+pub fn is_lowest(metas: &Metas, units: &[Signature], group: &[u32], number: u32) -> bool
     ensures { result ≡ choice.is_lowest metas.now units.now group.now number }
 {
     let context = context_at(units, number);
@@ -101,7 +114,8 @@ fn lowest(
     Ok(numbers)
 }
 
-fn single(numbers: &[u32]) -> Option<u32>
+/// The number, where it is the only one.
+pub fn single(numbers: &[u32]) -> Option<u32>
     ensures { result ≡ choice.single numbers.now }
 {
     match numbers {

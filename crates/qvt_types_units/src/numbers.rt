@@ -1,10 +1,33 @@
-//! What units are by their sorts and contexts.
+//! What units are by their sorts and contexts, and the one that stands for none.
 
 ghost use Rattle.std.specs.Prelude.{◌≡◌};
 ghost use Rattle.qvt_types_units.specs.Numbers as numbers;
 
-use crate::signature::{HeadClass, UnitSort};
-use qvt_base::numbers::ClassNo;
+use crate::signature::{HeadClass, Signature, UnitSort};
+use qvt_base::numbers::{ClassNo, Place};
+use qvt_base::seq::Seq;
+use qvt_base::text::Text;
+use qvt_types_data::ty::Ty;
+use std::alloc::Global;
+
+/// The signature that stands for none.
+pub fn no_unit(alloc: Global) -> Signature
+    ensures { result ≡ numbers.no_unit }
+{
+    Signature {
+        sort: UnitSort::Main,
+        name: Text::new(alloc),
+        context: HeadClass::Missing,
+        params: Seq::new(alloc),
+        answer: Some(Ty::Void),
+        result: HeadClass::Missing,
+        place: Place {
+            line: 1,
+            column: 1,
+            offset: 0,
+        },
+    }
+}
 
 pub fn is_mapping(sort: UnitSort) -> bool
     ensures { result ≡ numbers.is_mapping sort }

@@ -67,7 +67,8 @@ fn are_alike(one: UnitSort, other: UnitSort) -> bool
     (is_mapping(one) && is_mapping(other)) || (is_helper(one) && is_helper(other))
 }
 
-fn is_strictly_below(metas: &Metas, one: HeadClass, other: HeadClass) -> bool
+/// Whether the first context class is below the second, and another class.
+pub fn is_strictly_below(metas: &Metas, one: HeadClass, other: HeadClass) -> bool
     ensures { result ≡ overrides.is_strictly_below metas.now one other }
 {
     match one {
