@@ -3,8 +3,6 @@
 ghost use Rattle.std.specs.Prelude.{◌≡◌};
 ghost use Rattle.qvt_types_context.specs.Seen.{seen};
 ghost use Rattle.qvt_types_states.specs.Does.{Does};
-ghost use Rattle.qvt_types_words.specs.Rulings as rulings;
-ghost use Rattle.qvt_typing.specs.declared.parts.Effect.TheVariants as effects;
 ghost use Rattle.qvt_typing.specs.Calls as calls;
 ghost use Rattle.qvt_typing.specs.Rules as rule;
 
@@ -17,7 +15,6 @@ use qvt_types_data::ruling::{Read, Ruling};
 use qvt_types_data::ty::Ty;
 use qvt_types_states::state::State;
 use qvt_types_states::steps::{answers, checked, fresh, marks, settled, writes_nothing};
-use qvt_types_words::rulings::conditional;
 use qvt_typing::parts::Effect;
 
 /// What is told of a node that does this where nothing may be made or changed.
@@ -126,20 +123,4 @@ pub fn settled_bare(
     let read = settled(ruling, place, state)?;
     writes_nothing(state)?;
     Ok(read.into_answer())
-}
-
-/// Settles a conditional by the types of its parts.
-pub fn settled_conditional(
-    x: &Context<'_>,
-    number: ExprNo,
-    condition: &Option<Ty>,
-    yes: &Option<Ty>,
-    no: &Option<Ty>,
-    place: Place,
-    state: &mut State,
-) -> Result<Option<Ty>, ListFault>
-    ensures { Does (rule.ruled (seen x.now) number (rulings.conditional x.now.heads.units.now.metas condition.now yes.now no.now) effects.PlainOne place state.old) result state.new }
-{
-    let ruling = conditional(x.alloc, x.heads.units.metas(), condition, yes, no)?;
-    ruled(x, number, ruling, Effect::PlainOne, place, state)
 }

@@ -6,6 +6,8 @@ ghost use Rattle.qvt_types_context.specs.Seen.{seen};
 ghost use Rattle.qvt_types_states.specs.Does.{Does};
 ghost use Rattle.qvt_types_steps.specs.Classes.{class_test_named, model_call_named};
 ghost use Rattle.qvt_types_steps.specs.IteratorTable.{iterator_named};
+ghost use Rattle.qvt_types_words.specs.Rulings as rulings;
+ghost use Rattle.qvt_typing.specs.declared.parts.Effect.TheVariants as effects;
 ghost use Rattle.qvt_typing.specs.Phrases as phrase;
 ghost use Rattle.qvt_typing.specs.Rules as rule;
 ghost use Rattle.qvt_typing.specs.Statements as rule_of;
@@ -13,22 +15,40 @@ ghost use Rattle.qvt_typing.specs.Statements as rule_of;
 use crate::objects::{new, object, resolve_call};
 use crate::steps::all_steps;
 use qvt_base::list_fault::ListFault;
-use qvt_base::numbers::Place;
+use qvt_base::numbers::{ExprNo, Place};
 use qvt_base::seq::Seq;
 use qvt_base::text::Text;
 use qvt_tree_types::tree::{Expr, Item, Link, MapCall};
 use qvt_tree_types::words::{CollKind, Sign};
-use qvt_types_data::ty::Ty;
 use qvt_types_context::calls::{call_ruled, called_alone, effect_of};
 use qvt_types_context::context::Context;
+use qvt_types_data::ty::Ty;
 use qvt_types_rules::leaves::{class_given, path, result_ref, self_ref};
 use qvt_types_rules::parts::{all_types, model_path, no_path, sign_notes, signed};
-use qvt_types_rules::settling::{constant, ruled, settled_bare, settled_conditional, stands_as};
+use qvt_types_rules::settling::{constant, ruled, settled_bare, stands_as};
 use qvt_types_states::state::State;
 use qvt_types_states::steps::{fresh, writes_nothing};
 use qvt_types_steps::classes::ClassPart;
-use qvt_types_words::rulings::{literal as literal_ruling, operator, range as range_ruling};
+use qvt_types_words::rulings::{
+    conditional, literal as literal_ruling, operator, range as range_ruling,
+};
 use qvt_typing::parts::{Effect, Given};
+
+/// Settles a conditional by the types of its parts.
+fn settled_conditional(
+    x: &Context<'_>,
+    number: ExprNo,
+    condition: &Option<Ty>,
+    yes: &Option<Ty>,
+    no: &Option<Ty>,
+    place: Place,
+    state: &mut State,
+) -> Result<Option<Ty>, ListFault>
+    ensures { Does (rule.ruled (seen x.now) number (rulings.conditional x.now.heads.units.now.metas condition.now yes.now no.now) effects.PlainOne place state.old) result state.new }
+{
+    let ruling = conditional(x.alloc, x.heads.units.metas(), condition, yes, no)?;
+    ruled(x, number, ruling, Effect::PlainOne, place, state)
+}
 
 #[cycle(walk)]
 #[tactic(auto, unfolding(qvt_typing::specs::Phrases::expr, qvt_typing::specs::Rules::conditional, qvt_typing::specs::Rules::chain, qvt_typing::specs::Rules::post))]
@@ -117,7 +137,11 @@ pub fn exprs(
 
 /// An argument that is to be a class.
 #[cycle(walk)]
-pub fn class_argument(x: &Context<'_>, node: &Expr, state: &mut State) -> Result<ClassPart, ListFault>
+pub fn class_argument(
+    x: &Context<'_>,
+    node: &Expr,
+    state: &mut State,
+) -> Result<ClassPart, ListFault>
     ensures { Does (rule.class_argument (seen x.now) (phrase.class_path (view.expr_view node.now)) (phrase.expr (seen x.now) false (view.expr_view node.now)) state.old) result state.new }
 {
     match node {
@@ -167,16 +191,30 @@ pub fn call(
 }
 
 #[cycle(walk)]
-#[tactic(auto, unfolding(qvt_typing::specs::Phrases::mapped, qvt_typing::specs::Rules::map))]
+#[tactic(auto, unfolding(qvt_typing::specs::Rules::map))]
+pub fn mapped(
+    x: &Context<'_>,
+    name: &Text,
+    args: &[Expr],
+    place: Place,
+    state: &mut State,
+) -> Result<Option<Ty>, ListFault>
+    ensures { Does (rule.map (seen x.now) name.now (phrase.exprs (seen x.now) (view.exprs_of (map view.expr_view args.now))) place state.old) result state.new }
+{
+    let number = fresh(state)?;
+    let types = all_types(x.alloc, exprs(x, args, state)?.as_slice())?;
+    let sources = state.scope.sources();
+    let called = called_alone(x.alloc, &x.heads, true, name.as_str(), sources)?;
+    let ruling = call_ruled(x.alloc, &x.heads, true, &called, &types)?;
+    ruled(x, number, ruling, Effect::ImpureOne, place, state)
+}
+
+#[cycle(walk)]
+#[tactic(auto, unfolding(qvt_typing::specs::Phrases::mapped))]
 pub fn map_call(x: &Context<'_>, call: &MapCall, state: &mut State) -> Result<Option<Ty>, ListFault>
     ensures { Does (phrase.mapped (seen x.now) (view.map_view call.now) state.old) result state.new }
 {
-    let number = fresh(state)?;
-    let types = all_types(x.alloc, exprs(x, call.args.as_slice(), state)?.as_slice())?;
-    let sources = state.scope.sources();
-    let called = called_alone(x.alloc, &x.heads, true, call.name.as_str(), sources)?;
-    let ruling = call_ruled(x.alloc, &x.heads, true, &called, &types)?;
-    ruled(x, number, ruling, Effect::ImpureOne, call.place, state)
+    mapped(x, &call.name, call.args.as_slice(), call.place, state)
 }
 
 #[cycle(walk)]

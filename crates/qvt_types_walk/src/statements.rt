@@ -9,6 +9,7 @@ ghost use Rattle.qvt_types_steps.specs.IteratorTable.{iterator_named};
 ghost use Rattle.qvt_typing.specs.Phrases as phrase;
 ghost use Rattle.qvt_typing.specs.Rules as rule;
 ghost use Rattle.qvt_typing.specs.Statements as rule_of;
+ghost use Rattle.qvt_types_walk.specs.Parts as part;
 
 use crate::expressions::{expr, given_expr};
 use crate::objects::new;
@@ -18,13 +19,15 @@ use qvt_base::seq::Seq;
 use qvt_base::text::Text;
 use qvt_tree_types::tree::{Arm, Expr, Stmt, Target};
 use qvt_tree_types::types::TypeTree;
-use qvt_types_data::ty::Ty;
 use qvt_types_context::aims::takes_late;
-use qvt_types_rules::assignments::{assigned, bare_target, member_aimed, result_target};
 use qvt_types_context::context::Context;
+use qvt_types_data::ty::Ty;
+use qvt_types_rules::assignments::{assigned, bare_target, member_aimed, result_target};
 use qvt_types_rules::leaves::type_if;
 use qvt_types_rules::parts::all_types;
-use qvt_types_rules::statements::{declare_iterator, declared, for_each_settled, returned, tell_condition, tell_conditions};
+use qvt_types_rules::statements::{
+    declare_iterator, declared, for_each_settled, returned, tell_condition, tell_conditions,
+};
 use qvt_types_states::state::State;
 use qvt_types_states::steps::writes_nothing;
 use qvt_typing::parts::Aim;
@@ -83,12 +86,8 @@ pub fn stmt(x: &Context<'_>, stmt: &Stmt, state: &mut State) -> Result<(), ListF
             let ty = expr(x, false, condition, state)?;
             block(x, body.as_slice(), state)?;
             let types = all_arms(x, ty, arms.as_slice(), state)?;
-            let types = all_types(x.alloc, types.as_slice())?;
-            if let Some(otherwise) = otherwise {
-                block(x, otherwise.as_slice(), state)?;
-            }
-            tell_conditions(x, &types, *place, state)?;
-            writes_nothing(state)
+            else_block(x, otherwise, state)?;
+            if_settled(x, types.as_slice(), *place, state)
         }
         Stmt::While {
             condition,
@@ -117,6 +116,36 @@ pub fn stmt(x: &Context<'_>, stmt: &Stmt, state: &mut State) -> Result<(), ListF
             state.scope.cut(named, sources);
             for_each_settled(x, &source, &kind, &condition, *place, state)
         }
+    }
+}
+
+/// Settles an `if` by the types of its conditions.
+fn if_settled(
+    x: &Context<'_>,
+    types: &[Option<Ty>],
+    place: Place,
+    state: &mut State,
+) -> Result<(), ListFault>
+    ensures { Does (part.if_settled (seen x.now) types.now place state.old) result state.new }
+{
+    let types = all_types(x.alloc, types)?;
+    tell_conditions(x, &types, place, state)?;
+    writes_nothing(state)
+}
+
+/// The block of an `else`.
+#[cycle(walk)]
+#[tactic(auto, using(crate::proofs::Steps::no_block), unfolding(qvt_typing::specs::Phrases::otherwise))]
+pub fn else_block(
+    x: &Context<'_>,
+    body: &Option<Seq<Stmt>>,
+    state: &mut State,
+) -> Result<(), ListFault>
+    ensures { Does (rule_of.block (seen x.now) (phrase.otherwise (seen x.now) (view.optional_else (option_map (map view.stmt_view) body.now))) state.old) result state.new }
+{
+    match body {
+        None => Ok(()),
+        Some(body) => block(x, body.as_slice(), state),
     }
 }
 
@@ -211,4 +240,3 @@ pub fn all_arms(
     }
     Ok(types)
 }
-

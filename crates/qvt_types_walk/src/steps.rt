@@ -9,18 +9,20 @@ ghost use Rattle.qvt_types_steps.specs.IteratorTable.{iterator_named};
 ghost use Rattle.qvt_typing.specs.Phrases as phrase;
 ghost use Rattle.qvt_typing.specs.Rules as rule;
 ghost use Rattle.qvt_typing.specs.Statements as rule_of;
+ghost use Rattle.qvt_types_walk.specs.Parts as part;
 
 use crate::expressions::{classes, expr, exprs};
 use crate::objects::resolve_step;
 use qvt_base::list_fault::ListFault;
 use qvt_base::numbers::Place;
+use qvt_base::seq::Seq;
 use qvt_base::text::Text;
 use qvt_tree_types::tree::{Expr, Head, MapCall, Step};
 use qvt_tree_types::types::TypeTree;
-use qvt_types_data::ruling::Ruling;
-use qvt_types_data::ty::Ty;
 use qvt_types_context::calls::{called_behind, effect_of, map_ruled, unit_ruled};
 use qvt_types_context::context::{Context, body_context, unless_untyped};
+use qvt_types_data::ruling::Ruling;
+use qvt_types_data::ty::Ty;
 use qvt_types_rules::heads::{FoldNames, folded, no_head, plain_heading};
 use qvt_types_rules::leaves::{type_if, written_type};
 use qvt_types_rules::parts::{all_types, is_last, iterator_effect, reads_operation, selected_by};
@@ -28,7 +30,10 @@ use qvt_types_rules::settling::stepped;
 use qvt_types_states::state::State;
 use qvt_types_steps::arrows::arrow;
 use qvt_types_steps::calls::dot_call;
-use qvt_types_steps::classes::{ClassTest, ModelCall, class_test, class_test_named, is_selection, model_call_named, model_objects, model_objects_of};
+use qvt_types_steps::classes::{
+    ClassTest, ModelCall, class_test, class_test_named, is_selection, model_call_named,
+    model_objects, model_objects_of,
+};
 use qvt_types_steps::heads::{Heading, item_type};
 use qvt_types_steps::iterators::iterator_named;
 use qvt_types_steps::properties::property;
@@ -173,6 +178,27 @@ pub fn test_step(
     stepped(x, ruling, Effect::PlainOne, place, state)
 }
 
+/// Settles a step with arguments behind a dot by their types.
+fn call_settled(
+    x: &Context<'_>,
+    name: &Text,
+    types: &Option<Seq<Ty>>,
+    place: Place,
+    source: &Option<Ty>,
+    state: &mut State,
+) -> Result<Option<Ty>, ListFault>
+    ensures { Does (part.call_settled (seen x.now) name.now types.now place source.now state.old) result state.new }
+{
+    if reads_operation(name.as_str(), source) {
+        let ruling = dot_call(x.alloc, x.heads.units.metas(), name, source, types)?;
+        return stepped(x, ruling, Effect::PlainOne, place, state);
+    }
+    let called = called_behind(x.alloc, &x.heads, false, false, name.as_str(), source)?;
+    let ruling = unit_ruled(x.alloc, &x.heads, source, &called, types)?;
+    let effect = effect_of(x.alloc, &x.heads, &called);
+    stepped(x, ruling, effect, place, state)
+}
+
 #[cycle(walk)]
 #[tactic(auto, unfolding(qvt_typing::specs::Rules::call_step))]
 pub fn call_step(
@@ -186,18 +212,30 @@ pub fn call_step(
     ensures { Does (rule.call_step (seen x.now) name.now (phrase.exprs (seen x.now) (view.exprs_of (map view.expr_view args.now))) place source.now state.old) result state.new }
 {
     let types = all_types(x.alloc, exprs(x, args, state)?.as_slice())?;
-    if reads_operation(name.as_str(), source) {
-        let ruling = dot_call(x.alloc, x.heads.units.metas(), name, source, &types)?;
-        return stepped(x, ruling, Effect::PlainOne, place, state);
-    }
-    let called = called_behind(x.alloc, &x.heads, false, false, name.as_str(), source)?;
-    let ruling = unit_ruled(x.alloc, &x.heads, source, &called, &types)?;
-    let effect = effect_of(x.alloc, &x.heads, &called);
-    stepped(x, ruling, effect, place, state)
+    call_settled(x, name, &types, place, source, state)
 }
 
 #[cycle(walk)]
-#[tactic(auto, unfolding(qvt_typing::specs::Phrases::mapped_behind, qvt_typing::specs::Rules::map_step))]
+#[tactic(auto, unfolding(qvt_typing::specs::Rules::map_step))]
+pub fn mapped_behind(
+    x: &Context<'_>,
+    is_arrow: bool,
+    name: &Text,
+    args: &[Expr],
+    place: Place,
+    source: &Option<Ty>,
+    state: &mut State,
+) -> Result<Option<Ty>, ListFault>
+    ensures { Does (rule.map_step (seen x.now) is_arrow name.now (phrase.exprs (seen x.now) (view.exprs_of (map view.expr_view args.now))) place source.now state.old) result state.new }
+{
+    let types = all_types(x.alloc, exprs(x, args, state)?.as_slice())?;
+    let called = called_behind(x.alloc, &x.heads, true, is_arrow, name.as_str(), source)?;
+    let ruling = map_ruled(x.alloc, &x.heads, is_arrow, source, &called, &types)?;
+    stepped(x, ruling, Effect::ImpureOne, place, state)
+}
+
+#[cycle(walk)]
+#[tactic(auto, unfolding(qvt_typing::specs::Phrases::mapped_behind))]
 pub fn map_step(
     x: &Context<'_>,
     is_arrow: bool,
@@ -207,11 +245,15 @@ pub fn map_step(
 ) -> Result<Option<Ty>, ListFault>
     ensures { Does (phrase.mapped_behind (seen x.now) is_arrow (view.map_view call.now) source.now state.old) result state.new }
 {
-    let types = all_types(x.alloc, exprs(x, call.args.as_slice(), state)?.as_slice())?;
-    let name = call.name.as_str();
-    let called = called_behind(x.alloc, &x.heads, true, is_arrow, name, source)?;
-    let ruling = map_ruled(x.alloc, &x.heads, is_arrow, source, &called, &types)?;
-    stepped(x, ruling, Effect::ImpureOne, call.place, state)
+    mapped_behind(
+        x,
+        is_arrow,
+        &call.name,
+        call.args.as_slice(),
+        call.place,
+        source,
+        state,
+    )
 }
 
 #[cycle(walk)]
@@ -237,7 +279,15 @@ pub fn heading(
                 accumulator: &accumulator.name,
                 accumulator_place: accumulator.place,
             };
-            folding(x, &accumulator.first, &names, &head.kind, &accumulator.kind, &items, state)
+            folding(
+                x,
+                &accumulator.first,
+                &names,
+                &head.kind,
+                &accumulator.kind,
+                &items,
+                state,
+            )
         }
     }
 }
@@ -281,5 +331,12 @@ pub fn arrow_ruled(
     }
     let inner = body_context(x, iterator_named(name.as_str()));
     let types = all_types(x.alloc, exprs(&inner, args, state)?.as_slice())?;
-    arrow(x.alloc, x.heads.units.metas(), name, heading, source, &types)
+    arrow(
+        x.alloc,
+        x.heads.units.metas(),
+        name,
+        heading,
+        source,
+        &types,
+    )
 }
