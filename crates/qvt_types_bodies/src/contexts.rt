@@ -8,8 +8,8 @@ ghost use Rattle.qvt_typing.specs.Units as units;
 
 use qvt_tree_types::module::Helper;
 use qvt_tree_types::types::TypeTree;
-use qvt_types_data::ty::Ty;
 use qvt_types_context::context::{Context, Heads, Returns};
+use qvt_types_data::ty::Ty;
 use qvt_types_rules::resolves::head_part;
 use qvt_types_steps::classes::ClassPart;
 use qvt_types_units::signature::Signature;
@@ -78,11 +78,7 @@ pub fn constructor_context<'a>(
 }
 
 /// The `when` of a mapping.
-pub fn when_context<'a>(
-    alloc: Global,
-    heads: &Heads<'a>,
-    signature: &Signature,
-) -> Context<'a>
+pub fn when_context<'a>(alloc: Global, heads: &Heads<'a>, signature: &Signature) -> Context<'a>
     ensures { seen result ≡ units.when_context (heads_seen heads.now) signature.now }
 {
     Context {
@@ -93,11 +89,7 @@ pub fn when_context<'a>(
 }
 
 /// The init section of a mapping, where `result` may be assigned.
-pub fn init_context<'a>(
-    alloc: Global,
-    heads: &Heads<'a>,
-    signature: &Signature,
-) -> Context<'a>
+pub fn init_context<'a>(alloc: Global, heads: &Heads<'a>, signature: &Signature) -> Context<'a>
     ensures { seen result ≡ units.init_context (heads_seen heads.now) signature.now }
 {
     Context {
@@ -109,11 +101,7 @@ pub fn init_context<'a>(
 }
 
 /// The other sections of a mapping.
-pub fn section_context<'a>(
-    alloc: Global,
-    heads: &Heads<'a>,
-    signature: &Signature,
-) -> Context<'a>
+pub fn section_context<'a>(alloc: Global, heads: &Heads<'a>, signature: &Signature) -> Context<'a>
     ensures { seen result ≡ units.section_context (heads_seen heads.now) signature.now }
 {
     let result = head_part(signature.result);

@@ -86,7 +86,10 @@ pub fn stmt(x: &Context<'_>, stmt: &Stmt, state: &mut State) -> Result<(), ListF
             let ty = expr(x, false, condition, state)?;
             block(x, body.as_slice(), state)?;
             let types = all_arms(x, ty, arms.as_slice(), state)?;
-            else_block(x, otherwise, state)?;
+            if let Some(otherwise) = otherwise {
+                block(x, otherwise.as_slice(), state)?;
+                return if_settled(x, types.as_slice(), *place, state);
+            }
             if_settled(x, types.as_slice(), *place, state)
         }
         Stmt::While {
@@ -131,22 +134,6 @@ fn if_settled(
     let types = all_types(x.alloc, types)?;
     tell_conditions(x, &types, place, state)?;
     writes_nothing(state)
-}
-
-/// The block of an `else`.
-#[cycle(walk)]
-#[tactic(auto, using(crate::proofs::Steps::no_block), unfolding(qvt_typing::specs::Phrases::otherwise))]
-pub fn else_block(
-    x: &Context<'_>,
-    body: &Option<Seq<Stmt>>,
-    state: &mut State,
-) -> Result<(), ListFault>
-    ensures { Does (rule_of.block (seen x.now) (phrase.otherwise (seen x.now) (view.optional_else (option_map (map view.stmt_view) body.now))) state.old) result state.new }
-{
-    match body {
-        None => Ok(()),
-        Some(body) => block(x, body.as_slice(), state),
-    }
 }
 
 #[cycle(walk)]
