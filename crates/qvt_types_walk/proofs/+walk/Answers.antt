@@ -1,6 +1,6 @@
 use Rattle.std.proofs.Common.{◌≡◌, ◌∙◌, [], ◌∷◌, None, arith, false, map, option_map, rules, sym, subst, ap}
 use Rattle.std.proofs.lemmas.Grind.{common_steps}
-use Rattle.qvt_tree_types.specs.Tree.{ExprTerm, ResolveTerm, StepTerm, StmtTerm, IfExpr, ForEachStmt}
+use Rattle.qvt_tree_types.specs.Tree.{ExprTerm, ResolveTerm, StepTerm, StmtTerm}
 use Rattle.qvt_tree_types.specs.View as view
 use Rattle.qvt_tree_types.specs.declared.tree.ResolveCall.{out-ResolveCall}
 use Rattle.qvt_tree_types.specs.declared.tree.Stmt.TheVariants as statements
