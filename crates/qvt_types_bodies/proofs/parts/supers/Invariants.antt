@@ -1,0 +1,7 @@
+use Rattle.std.proofs.Common.{◌≡◌, map, drop}
+use Rattle.qvt_types_context.specs.Seen.{seen}
+use Rattle.qvt_typing.specs.Units.{all_paths, super}
+use Rattle.qvt_types_bodies.proofs.parts.supers.Given as goal
+
+abbrev pub invariant-loop-path : goal.invariant-loop-path
+invariant-loop-path l = all_paths (super (seen l.x)) (drop l.path-index l.list) l.state ≡ all_paths (super (seen l.x)) l.list l.initial.state

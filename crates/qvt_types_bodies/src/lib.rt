@@ -1,0 +1,6 @@
+//! The judgements of units: their heads and their bodies.
+#![tactic(auto)]
+
+pub mod contexts;
+pub mod parts;
+pub mod units;
