@@ -54,6 +54,7 @@ fn helper_unit(x: &Context<'_>, helper: &Helper, state: &mut State) -> Result<()
     writes_nothing(state)
 }
 
+#[tactic(auto, unfolding(qvt_typing::specs::Statements::condition))]
 fn when(
     x: &Context<'_>,
     condition: &Option<Expr>,
