@@ -2,6 +2,4 @@
 #![tactic(auto)]
 
 pub mod joined;
-mod nodes;
-mod stmts;
 mod units;

@@ -3,32 +3,36 @@
 ghost use Rattle.std.specs.Prelude.{◌≡◌, map};
 ghost use Rattle.qvt_tree_types.specs.Module.{helper_view, condition_view, mapping_view, unit_view, module_view};
 ghost use Rattle.qvt_types_laws.specs.Join.{join_optional_expr};
-ghost use Rattle.qvt_types_laws.specs.JoinModule.{join_all, join_helper, join_mapping, join_unit, join_module};
-ghost use Rattle.qvt_types_nodes.specs.Module.{typed_helper_view, typed_condition_view, typed_mapping_view, typed_unit_view, typed_module_view};
+ghost use Rattle.qvt_types_laws.specs.JoinModule.{join_all, join_result, join_helper, join_mapping, join_unit, join_module};
 ghost use Rattle.qvt_types_leaves.specs.Joins.{Joins};
+ghost use Rattle.qvt_types_exprs.specs.Made.{held, unboxed};
+ghost use Rattle.qvt_types_nodes.specs.Module.{typed_helper_view, typed_condition_view, typed_mapping_view, typed_unit_view, typed_module_view};
 
-use crate::nodes::expr;
-use crate::stmts::stmts;
 use qvt_base::copied::Copied;
 use qvt_base::list_fault::ListFault;
 use qvt_base::seq::Seq;
-use qvt_tree_types::module::{Helper, Mapping, Module, Unit};
+use qvt_tree_types::module::{Helper, Mapping, Module, ResultDecl, Unit};
 use qvt_tree_types::tree::Expr;
+use qvt_types_exprs::boxes::{optional_type, push};
 use qvt_types_leaves::heads::{class, model_params, model_types, params, result_decl};
-use qvt_types_leaves::leaves::{optional_in_box, optional_type, out_of_box, paths};
+use qvt_types_leaves::leaves::{in_box, optional_in_box, out_of_box, paths};
 use qvt_types_leaves::notes::Notes;
-use qvt_types_nodes::module::{TypedHelper, TypedMapping, TypedModule, TypedUnit, TypedUnitList};
+use qvt_types_nested::exprs::expr;
+use qvt_types_nested::stmts::stmts;
+use qvt_types_nodes::module::{
+    TypedHelper, TypedMapping, TypedModule, TypedResultDecl, TypedUnit, TypedUnitList,
+};
 use qvt_types_nodes::tree::TypedExpr;
 use std::alloc::Global;
 
-pub fn helper(alloc: Global, of: &Helper, notes: &mut Notes) -> Result<TypedHelper, ListFault>
-    ensures { Joins typed_helper_view (join_helper (helper_view of.now) notes.old) result notes.new }
+pub fn helper(alloc: Global, of: &Helper, notes: &mut Notes) -> Result<Box<TypedHelper>, ListFault>
+    ensures { Joins (held typed_helper_view) (join_helper (helper_view of.now) notes.old) result notes.new }
 {
     let path = of.path.copy(alloc)?;
     let params = params(alloc, of.params.as_slice(), notes)?;
-    let answer = optional_in_box(alloc, optional_type(alloc, &of.answer, notes)?)?;
+    let answer = optional_type(alloc, &of.answer, notes)?;
     let body = stmts(alloc, of.body.as_slice(), notes)?;
-    Ok(TypedHelper {
+    let helper = TypedHelper {
         pure: of.pure,
         path,
         params,
@@ -36,15 +40,27 @@ pub fn helper(alloc: Global, of: &Helper, notes: &mut Notes) -> Result<TypedHelp
         body,
         place: of.place,
         note: notes.take(),
-    })
+    };
+    in_box(alloc, helper)
+}
+
+pub fn result(
+    alloc: Global,
+    of: &Option<ResultDecl>,
+    notes: &mut Notes,
+) -> Result<Option<Box<TypedResultDecl>>, ListFault>
+    ensures { Joins unboxed (join_result of.now notes.old) result notes.new }
+{
+    let decl = result_decl(alloc, of, notes)?;
+    optional_in_box(alloc, decl)
 }
 
 pub fn condition(
     alloc: Global,
     of: &Option<Expr>,
     notes: &mut Notes,
-) -> Result<Option<TypedExpr>, ListFault>
-    ensures { Joins typed_condition_view (join_optional_expr (condition_view of.now) notes.old) result notes.new }
+) -> Result<Option<Box<TypedExpr>>, ListFault>
+    ensures { Joins (λ o. typed_condition_view (unboxed o)) (join_optional_expr (condition_view of.now) notes.old) result notes.new }
 {
     match of {
         None => Ok(None),
@@ -52,21 +68,24 @@ pub fn condition(
     }
 }
 
-pub fn mapping(alloc: Global, of: &Mapping, notes: &mut Notes) -> Result<TypedMapping, ListFault>
-    ensures { Joins typed_mapping_view (join_mapping (mapping_view of.now) notes.old) result notes.new }
+pub fn mapping(
+    alloc: Global,
+    of: &Mapping,
+    notes: &mut Notes,
+) -> Result<Box<TypedMapping>, ListFault>
+    ensures { Joins (held typed_mapping_view) (join_mapping (mapping_view of.now) notes.old) result notes.new }
 {
+    let path = of.path.copy(alloc)?;
     let params = params(alloc, of.params.as_slice(), notes)?;
-    let result = optional_in_box(alloc, result_decl(alloc, &of.result, notes)?)?;
+    let result = result(alloc, &of.result, notes)?;
     let inherits = paths(alloc, of.inherits.as_slice(), notes)?;
     let merges = paths(alloc, of.merges.as_slice(), notes)?;
     let disjuncts = paths(alloc, of.disjuncts.as_slice(), notes)?;
-    let condition = optional_in_box(alloc, condition(alloc, &of.condition, notes)?)?;
+    let condition = condition(alloc, &of.condition, notes)?;
     let init = stmts(alloc, of.init.as_slice(), notes)?;
     let population = stmts(alloc, of.population.as_slice(), notes)?;
     let finish = stmts(alloc, of.finish.as_slice(), notes)?;
-    let path = of.path.copy(alloc)?;
-    let note = notes.take();
-    Ok(TypedMapping {
+    let mapping = TypedMapping {
         path,
         params,
         result: out_of_box(result),
@@ -78,22 +97,35 @@ pub fn mapping(alloc: Global, of: &Mapping, notes: &mut Notes) -> Result<TypedMa
         population,
         finish,
         place: of.place,
-        note,
-    })
+        note: notes.take(),
+    };
+    in_box(alloc, mapping)
 }
 
-pub fn unit(alloc: Global, of: &Unit, notes: &mut Notes) -> Result<TypedUnit, ListFault>
-    ensures { Joins typed_unit_view (join_unit (unit_view of.now) notes.old) result notes.new }
+pub fn unit(alloc: Global, of: &Unit, notes: &mut Notes) -> Result<Box<TypedUnit>, ListFault>
+    ensures { Joins (held typed_unit_view) (join_unit (unit_view of.now) notes.old) result notes.new }
 {
     match of {
-        Unit::Class(of) => Ok(TypedUnit::Class(class(alloc, of, notes)?)),
+        Unit::Class(of) => {
+            let class = class(alloc, of, notes)?;
+            in_box(alloc, TypedUnit::Class(class))
+        }
         Unit::Main(body, place) => {
             let body = stmts(alloc, body.as_slice(), notes)?;
-            Ok(TypedUnit::Main(body, *place, notes.take()))
+            in_box(alloc, TypedUnit::Main(body, *place, notes.take()))
         }
-        Unit::Helper(of) => Ok(TypedUnit::Helper(helper(alloc, of, notes)?)),
-        Unit::Constructor(of) => Ok(TypedUnit::Constructor(helper(alloc, of, notes)?)),
-        Unit::Mapping(of) => Ok(TypedUnit::Mapping(mapping(alloc, of, notes)?)),
+        Unit::Helper(of) => {
+            let helper = helper(alloc, of, notes)?;
+            in_box(alloc, TypedUnit::Helper(Box::into_inner(helper)))
+        }
+        Unit::Constructor(of) => {
+            let helper = helper(alloc, of, notes)?;
+            in_box(alloc, TypedUnit::Constructor(Box::into_inner(helper)))
+        }
+        Unit::Mapping(of) => {
+            let mapping = mapping(alloc, of, notes)?;
+            in_box(alloc, TypedUnit::Mapping(Box::into_inner(mapping)))
+        }
     }
 }
 
@@ -102,7 +134,8 @@ pub fn units(alloc: Global, of: &[Unit], notes: &mut Notes) -> Result<TypedUnitL
 {
     let mut done = Seq::new(alloc);
     for each in of {
-        done.push(unit(alloc, each, notes)?)?;
+        let next = unit(alloc, each, notes)?;
+        push(&mut done, next)?;
     }
     Ok(done)
 }

@@ -4,7 +4,7 @@ use Rattle.qvt_types_nodes.specs.View.{typed_expr_view, typed_link_view, typed_i
 use Rattle.qvt_types_laws.specs.Join.{join_expr, join_link, join_item, join_step, join_stmt, join_arm}
 use Rattle.qvt_types_laws.specs.JoinModule.{join_all}
 use Rattle.qvt_types_leaves.proofs.Lists.{after}
-use Rattle.qvt_types_join.proofs.+join.Given as goal
+use Rattle.qvt_types_nested.proofs.+join.Given as goal
 
 abbrev pub invariant-exprs-loop-each : goal.invariant-exprs-loop-each
 invariant-exprs-loop-each l = join_all join_expr (map expr_view l.of) l.initial.notes ≡ after (map typed_expr_view l.done) (join_all join_expr (map expr_view (drop l.each-index l.of)) l.notes)
