@@ -3,11 +3,11 @@
 ghost use Rattle.std.specs.Option.{option_map};
 ghost use Rattle.std.specs.Prelude.{◌≡◌, map};
 ghost use Rattle.qvt_tree_types.specs.Tree.{CallExpr, CollExpr, ObjectExpr, NewExpr, PrefixExpr};
-ghost use Rattle.qvt_tree_types.specs.View.{expr_view, exprs_of, link_view, links_of, item_view, items_of, range_view, step_view, steps_of, head_view, accumulator_view, filter_view, map_view, resolve_view, optional_args, optional_filter, optional_head, optional_accumulator, optional_range, block_view};
-ghost use Rattle.qvt_types_laws.specs.Join.{join_expr, join_exprs, join_link, join_links, join_item, join_items, join_range, join_step, join_steps, join_head, join_accumulator, join_filter, join_map, join_resolve, join_optional_args, join_optional_expr};
+ghost use Rattle.qvt_tree_types.specs.View.{expr_view, exprs_of, link_view, links_of, item_view, items_of, range_view, step_view, steps_of, head_view, accumulator_view, filter_view, map_view, resolve_view, optional_filter, optional_head, optional_accumulator, optional_range, block_view};
+ghost use Rattle.qvt_types_laws.specs.Join.{join_expr, join_exprs, join_link, join_links, join_item, join_items, join_range, join_step, join_steps, join_head, join_accumulator, join_filter, join_map, join_resolve, join_optional_expr};
 ghost use Rattle.qvt_types_leaves.specs.Joins.{Joins, boxed_view, typed_boxed_view};
 ghost use Rattle.qvt_types_exprs.specs.Made.{held, unboxed};
-ghost use Rattle.qvt_types_nodes.specs.View.{typed_expr_view, typed_exprs_of, typed_link_view, typed_links_of, typed_item_view, typed_items_of, typed_range_view, typed_step_view, typed_steps_of, typed_head_view, typed_accumulator_view, typed_filter_view, typed_map_view, typed_resolve_view, typed_optional_args, typed_optional_filter, typed_optional_head, typed_optional_accumulator, typed_optional_range};
+ghost use Rattle.qvt_types_nodes.specs.View.{typed_expr_view, typed_exprs_of, typed_link_view, typed_links_of, typed_item_view, typed_items_of, typed_range_view, typed_step_view, typed_steps_of, typed_head_view, typed_accumulator_view, typed_filter_view, typed_map_view, typed_resolve_view, typed_optional_filter, typed_optional_head, typed_optional_accumulator, typed_optional_range};
 
 use crate::stmts::stmts;
 use qvt_base::list_fault::ListFault;
@@ -384,10 +384,13 @@ pub fn step(alloc: Global, of: &Step, notes: &mut Notes) -> Result<Box<TypedStep
     ensures { Joins (held typed_step_view) (join_step (step_view of.now) notes.old) result notes.new }
 {
     match of {
-        Step::Dot { name, args, place } => {
-            let args = optional_args(alloc, args, notes)?;
-            made_step::dot(alloc, name, args, *place, notes)
-        }
+        Step::Dot { name, args, place } => match args {
+            None => made_step::dot(alloc, name, None, *place, notes),
+            Some(args) => {
+                let args = exprs(alloc, args.as_slice(), notes)?;
+                made_step::dot(alloc, name, Some(args), *place, notes)
+            }
+        },
         Step::Arrow {
             name,
             head,
@@ -414,20 +417,6 @@ pub fn step(alloc: Global, of: &Step, notes: &mut Notes) -> Result<Box<TypedStep
             let call = resolve_call(alloc, of, notes)?;
             made_step::arrow_resolve(alloc, call)
         }
-    }
-}
-
-#[cycle(join)]
-pub fn optional_args(
-    alloc: Global,
-    of: &Option<Seq<Expr>>,
-    notes: &mut Notes,
-) -> Result<Option<TypedExprList>, ListFault>
-    ensures { Joins (λ o. typed_optional_args (option_map (map typed_expr_view) o)) (join_optional_args (optional_args (option_map (map expr_view) of.now)) notes.old) result notes.new }
-{
-    match of {
-        None => Ok(None),
-        Some(of) => Ok(Some(exprs(alloc, of.as_slice(), notes)?)),
     }
 }
 

@@ -3,11 +3,11 @@
 ghost use Rattle.std.specs.Option.{option_map};
 ghost use Rattle.std.specs.Prelude.{◌≡◌, map};
 ghost use Rattle.qvt_tree_types.specs.Tree.{VarStmt};
-ghost use Rattle.qvt_tree_types.specs.View.{expr_view, stmt_view, target_view, arm_view, arms_of, optional_type, optional_expr, optional_else, block_view};
-ghost use Rattle.qvt_types_laws.specs.Join.{join_stmt, join_stmts, join_target, join_arm, join_arms, join_optional_expr, join_else};
+ghost use Rattle.qvt_tree_types.specs.View.{expr_view, stmt_view, target_view, arm_view, arms_of, optional_type, optional_expr, block_view};
+ghost use Rattle.qvt_types_laws.specs.Join.{join_stmt, join_stmts, join_target, join_arm, join_arms, join_optional_expr};
 ghost use Rattle.qvt_types_leaves.specs.Joins.{Joins};
 ghost use Rattle.qvt_types_exprs.specs.Made.{held, unboxed};
-ghost use Rattle.qvt_types_nodes.specs.View.{typed_expr_view, typed_stmt_view, typed_target_view, typed_arm_view, typed_arms_of, typed_optional_expr, typed_optional_else, typed_block_view};
+ghost use Rattle.qvt_types_nodes.specs.View.{typed_expr_view, typed_stmt_view, typed_target_view, typed_arm_view, typed_arms_of, typed_optional_expr, typed_block_view};
 
 use crate::exprs::expr;
 use qvt_base::list_fault::ListFault;
@@ -89,8 +89,13 @@ pub fn stmt(alloc: Global, of: &Stmt, notes: &mut Notes) -> Result<Box<TypedStmt
             let condition = expr(alloc, condition, notes)?;
             let body = stmts(alloc, body.as_slice(), notes)?;
             let arms = all_arms(alloc, arms.as_slice(), notes)?;
-            let otherwise = optional_stmts(alloc, otherwise, notes)?;
-            made::choice(alloc, condition, body, arms, otherwise, *place, notes)
+            match otherwise {
+                None => made::choice(alloc, condition, body, arms, None, *place, notes),
+                Some(last) => {
+                    let last = stmts(alloc, last.as_slice(), notes)?;
+                    made::choice(alloc, condition, body, arms, Some(last), *place, notes)
+                }
+            }
         }
         Stmt::While {
             condition,
@@ -171,18 +176,4 @@ pub fn all_arms(alloc: Global, of: &[Arm], notes: &mut Notes) -> Result<TypedArm
         push(&mut done, next)?;
     }
     Ok(done)
-}
-
-#[cycle(join)]
-pub fn optional_stmts(
-    alloc: Global,
-    of: &Option<Seq<Stmt>>,
-    notes: &mut Notes,
-) -> Result<Option<TypedStmts>, ListFault>
-    ensures { Joins (λ o. typed_optional_else (option_map (map typed_stmt_view) o)) (join_else (optional_else (option_map (map stmt_view) of.now)) notes.old) result notes.new }
-{
-    match of {
-        None => Ok(None),
-        Some(of) => Ok(Some(stmts(alloc, of.as_slice(), notes)?)),
-    }
 }
