@@ -55,12 +55,12 @@ signed m t = signed_from m (type_names m t.model_types t.units) 0 t.units
 pub numbered_so : (m : Metamodels) (t : ModuleTerm) (d : Declarations) → heads_over m d ≡ heads_of m t → AreNumbered 0 d.units.units
 numbered_so m t d same = subst (λ h. AreNumbered 0 h.units) (sym same) (signed m t)
 
+abbrev module_or : TypedModuleTerm → Result ProgramTerm Refusal → TypedModuleTerm
+module_or typed (Ok q) = q.module_
+module_or typed (Err r) = typed
+
 in_program : (h : Heads) (t : ModuleTerm) (typed : TypedModuleTerm) (o : Option Refusal) (p : ProgramTerm) → accepted h typed o ≡ Ok p → strip typed ≡ t → strip p.module_ ≡ t
-in_program h t typed None p e stays = ap (λ x. strip (module_in x)) (sym e) ∙ stays
-  where
-    abbrev module_in : Result ProgramTerm Refusal → TypedModuleTerm
-    module_in (Ok q) = q.module_
-    module_in (Err r) = typed
+in_program h t typed None p e stays = ap (λ x. strip (module_or typed x)) (sym e) ∙ stays
 in_program h t typed (Some r) p e stays = absurd (cc)
 
 pub tree_stays : TreeStays

@@ -29,24 +29,33 @@ without_last xs x =
 abbrev pub cut : Metamodels → ℕ → ℕ → Metamodels
 cut m c f = record { metamodels = take (length m.metamodels - 1) m.metamodels; classes = take c m.classes; features = take f m.features; element = None }
 
+abbrev with_metamodels : Metamodels → List MetamodelInfo → Metamodels
+with_metamodels m ms = record m { metamodels = ms }
+
+abbrev with_classes : Metamodels → List ClassInfo → Metamodels
+with_classes m cs = record m { classes = cs }
+
+abbrev with_features : Metamodels → List FeatureInfo → Metamodels
+with_features m fs = record m { features = fs }
+
+abbrev with_element : Metamodels → Option ClassNo → Metamodels
+with_element m e = record m { element = e }
+
 pub cut-extended : (m : Metamodels) (cs : List ClassData) → m.element ≡ None → cut (extended m cs) (length m.classes) (length m.features) ≡ m
 unfolding extended
 cut-extended m cs none =
-    ap (λ ms. let r : Metamodels = record { metamodels = ms; classes = take (length m.classes) (m.classes ++ added); features = take (length m.features) (m.features ++ more); element = None } in r) (without_last m.metamodels unnamed)
-    ∙ ap (λ xs. let r : Metamodels = record { metamodels = m.metamodels; classes = xs; features = take (length m.features) (m.features ++ more); element = None } in r) (before m.classes added)
-    ∙ ap (λ fs. let r : Metamodels = record { metamodels = m.metamodels; classes = m.classes; features = fs; element = None } in r) (before m.features more)
-    ∙ ap (λ e. let r : Metamodels = record { metamodels = m.metamodels; classes = m.classes; features = m.features; element = e } in r) (sym none)
-  where
-    abbrev added : List ClassInfo
-    added = element_class (length m.metamodels) ∷ given_classes (length m.metamodels) (length m.features) cs
-    abbrev more : List FeatureInfo
-    more = given_features (length m.classes + 1) cs
+    ap (with_metamodels (cut (extended m cs) (length m.classes) (length m.features))) (without_last m.metamodels unnamed)
+    ∙ ap (with_classes (with_metamodels (cut (extended m cs) (length m.classes) (length m.features)) m.metamodels))
+    (before m.classes (element_class (length m.metamodels) ∷ given_classes (length m.metamodels) (length m.features) cs))
+    ∙ ap (with_features (with_element m None)) (before m.features (given_features (length m.classes + 1) cs))
+    ∙ ap (with_element m) (sym none)
 
 abbrev cut_in : Heads → Metamodels
 cut_in h = cut h.metas h.types.element h.first
 
 cut_again : (m : Metamodels) (t : ModuleTerm) → m.element ≡ None → cut_in (heads_of m t) ≡ m
 unfolding heads_of
+
 unfolding type_names
 cut_again m t none = cut-extended m _ none
 

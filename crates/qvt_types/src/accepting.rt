@@ -36,7 +36,7 @@ fn program(
     notes: Seq<Note>,
 ) -> Result<Program, ListFault>
     requires { AreNumbered 0 declarations.units.units }
-    ensures { IfOk result (λ p. program_view p ≡ program_of (joined (module_view module.now) notes) declarations) }
+    ensures { IfOk result (λ p. program_view p ≡ program_of (joined (module_view «module».now) notes) declarations) }
 {
     let tables = tables(alloc, module.params.as_slice(), &declarations)?;
     let typed = joined(alloc, module, notes)?;
@@ -47,8 +47,8 @@ fn program(
 /// The program of a transformation over the metamodels of its job, or the first of its refusals.
 pub fn accept(alloc: Global, module: &Module, metas: &Metas) -> Result<Program, TypingFault>
     requires { metas.now.element ≡ None }
-    ensures ok { IfOk result (λ p. accepts.accepts metas.now (module_view module.now) ≡ Ok (program_view p)) }
-    ensures err { IfErr result (λ fault. fault ≢ NoMemory → answered (accepts.accepts metas.now (module_view module.now)) ≡ Err fault) }
+    ensures ok { IfOk result (λ p. accepts.accepts metas.now (module_view «module».now) ≡ Ok (program_view p)) }
+    ensures err { IfErr result (λ fault. fault ≢ NoMemory → answered (accepts.accepts metas.now (module_view «module».now)) ≡ Err fault) }
 {
     let mut told = Seq::new(alloc);
     let declarations = read_heads(alloc, module, metas, &mut told)?;

@@ -32,7 +32,7 @@ fn whole(
     module: &Module,
     state: &mut State,
 ) -> Result<(), ListFault>
-    ensures { Does (accepts.whole (heads_seen heads.now) (module_view module.now) state.old) result state.new }
+    ensures { Does (accepts.whole (heads_seen heads.now) (module_view «module».now) state.old) result state.new }
 {
     bare_notes(module.model_types.as_slice(), state)?;
     bare_notes(module.params.as_slice(), state)?;
@@ -46,7 +46,7 @@ pub fn judged(
     module: &Module,
     told: RefusalList,
 ) -> Result<State, ListFault>
-    ensures { IfOk result (λ s. accepts.whole (heads_seen heads.now) (module_view module.now) (accepts.start told) ≡ (tt, s)) }
+    ensures { IfOk result (λ s. accepts.whole (heads_seen heads.now) (module_view «module».now) (accepts.start told) ≡ (tt, s)) }
 {
     let mut state = State::new(alloc);
     state.log = told;

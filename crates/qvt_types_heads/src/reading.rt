@@ -47,8 +47,8 @@ fn read_models(
     module: &Module,
     log: &mut RefusalList,
 ) -> Result<Models, ListFault>
-    ensures models { IfOk result (λ s. s ≡ models types.now (length given.now.metamodels) module.now.params) }
-    ensures told { OnOk result (log.new ≡ log.old ++ (model_types_told given.now [] module.now.model_types ++ models_told types.now [] module.now.params)) }
+    ensures models { IfOk result (λ s. s ≡ models types.now (length given.now.metamodels) «module».now.params) }
+    ensures told { OnOk result (log.new ≡ log.old ++ (model_types_told given.now [] «module».now.model_types ++ models_told types.now [] «module».now.params)) }
 {
     tell_model_types(alloc, given, module.model_types.as_slice(), log)?;
     tell_models(alloc, types, module.params.as_slice(), log)?;
@@ -75,8 +75,8 @@ fn declared(
     log: &mut RefusalList,
 ) -> Result<Declarations, ListFault>
     requires { given.now.element ≡ None }
-    ensures heads { IfOk result (λ d. heads_words.heads_over given.now d ≡ accepts.heads_of given.now (module_view module.now)) }
-    ensures told { OnOk result (log.new ≡ log.old ++ heads_words.types_told given.now (accepts.heads_of given.now (module_view module.now)).types (module_view module.now)) }
+    ensures heads { IfOk result (λ d. heads_words.heads_over given.now d ≡ accepts.heads_of given.now (module_view «module».now)) }
+    ensures told { OnOk result (log.new ≡ log.old ++ heads_words.types_told given.now (accepts.heads_of given.now (module_view «module».now)).types (module_view «module».now)) }
 {
     let _classes = given.class_count();
     let first = given.feature_infos().len() as u32;
@@ -105,8 +105,8 @@ pub fn read_heads(
     log: &mut RefusalList,
 ) -> Result<Declarations, ListFault>
     requires { given.now.element ≡ None }
-    ensures heads { IfOk result (λ d. heads_words.heads_over given.now d ≡ accepts.heads_of given.now (module_view module.now)) }
-    ensures told { OnOk result (log.new ≡ log.old ++ accepts.heads_told (accepts.heads_of given.now (module_view module.now)) (module_view module.now)) }
+    ensures heads { IfOk result (λ d. heads_words.heads_over given.now d ≡ accepts.heads_of given.now (module_view «module».now)) }
+    ensures told { OnOk result (log.new ≡ log.old ++ accepts.heads_told (accepts.heads_of given.now (module_view «module».now)) (module_view «module».now)) }
 {
     let declarations = declared(alloc, module, given, log)?;
     tell_units(alloc, &lent(&declarations, given), module, log)?;

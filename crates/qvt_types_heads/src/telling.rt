@@ -41,7 +41,7 @@ pub fn tell_units(
     module: &Module,
     log: &mut RefusalList,
 ) -> Result<(), ListFault>
-    ensures { OnOk result (log.new ≡ log.old ++ heads_words.units_told (heads_seen heads.now) (module_view module.now)) }
+    ensures { OnOk result (log.new ≡ log.old ++ heads_words.units_told (heads_seen heads.now) (module_view «module».now)) }
 {
     let metas = heads.units.metas();
     let names = heads.units.names();

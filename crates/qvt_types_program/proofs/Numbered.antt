@@ -15,21 +15,22 @@ is_one u = is_mapping u.sort
 
 found : (us : List Signature) (n i k : ℕ) → AreNumbered n us → first_at (is_mapping_number (n + k)) i us ≡ slice_get (numbers_where is_one i us) k
 found [] n i k numbered = refl
-found (u ∷ us) n i k numbered = by u.sort k numbered.0 numbered.1
+found (u ∷ us) n i k numbered = by u.sort k (λ m j. found us m (i + 1) j) numbered.0 numbered.1
   where
-    by : (s : UnitSort) (k : ℕ) → HasNumber n s → AreNumbered (number_after n s) us
+    by : (s : UnitSort) (k : ℕ) → ((m j : ℕ) → AreNumbered m us → first_at (is_mapping_number (m + j)) (i + 1) us ≡ slice_get (numbers_where is_one (i + 1) us) j)
+        → HasNumber n s → AreNumbered (number_after n s) us
         → (if is_mapping_of (n + k) s then Some i else first_at (is_mapping_number (n + k)) (i + 1) us)
         ≡ slice_get (if is_mapping s then i ∷ numbers_where is_one (i + 1) us else numbers_where is_one (i + 1) us) k
-    by (sort.Mapping m) zero h rest = ap (λ b. if b then Some i else first_at (is_mapping_number (n + 0)) (i + 1) us) (eq-eqb m.0 (n + 0) (omega (arith, h)))
-    by (sort.Mapping m) (suc k) h rest =
+    by (sort.Mapping m) zero more h rest = ap (λ b. if b then Some i else first_at (is_mapping_number (n + 0)) (i + 1) us) (eq-eqb m.0 (n + 0) (omega (arith, h)))
+    by (sort.Mapping m) (suc k) more h rest =
         ap (λ b. if b then Some i else first_at (is_mapping_number (n + suc k)) (i + 1) us) (ne_eqb m.0 (n + suc k) (λ e. absurd (omega (arith, h, e))))
         ∙ ap (λ x. first_at (is_mapping_number x) (i + 1) us) (let same : n + suc k ≡ n + 1 + k = omega arith in same)
-        ∙ found us (n + 1) (i + 1) k rest
-    by sort.Class k h rest = found us n (i + 1) k rest
-    by sort.Main k h rest = found us n (i + 1) k rest
-    by sort.Helper k h rest = found us n (i + 1) k rest
-    by sort.Query k h rest = found us n (i + 1) k rest
-    by sort.Constructor k h rest = found us n (i + 1) k rest
+        ∙ more (n + 1) k rest
+    by sort.Class k more h rest = more n k rest
+    by sort.Main k more h rest = more n k rest
+    by sort.Helper k more h rest = more n k rest
+    by sort.Query k more h rest = more n k rest
+    by sort.Constructor k more h rest = more n k rest
 
 pub unit_found : (us : List Signature) (k : ℕ) → AreNumbered 0 us → slice_get (mapping_units us) k ≡ mapping_unit us k
 unfolding mapping_unit

@@ -25,7 +25,7 @@ abbrev pub program_of : TypedModuleTerm → Declarations → ProgramTerm
 program_of t d = record { module_ = t; heads = heads_over (given_in d) d }
 
 abbrev pub program_view : Program → ProgramTerm
-program_view p = program_of (typed_module_view p.module) p.declarations
+program_view p = program_of (typed_module_view p.«module») p.declarations
 
 -- the model parameters, in the order of the header
 abbrev pub model_params : ProgramTerm → List ModelParam

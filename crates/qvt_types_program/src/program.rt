@@ -22,7 +22,7 @@ pub struct Program {
     pub module: TypedModule,
     declarations: Declarations,
     tables: Tables,
-    ghost tables_are: { tables ≡ tables_of (strip (typed_module_view module)).params declarations },
+    ghost tables_are: { tables ≡ tables_of (strip (typed_module_view «module»)).params declarations },
     ghost numbered: { AreNumbered 0 declarations.units.units },
 }
 
@@ -45,9 +45,9 @@ impl Program {
 
     /// The program of a typed tree, with what its heads declare.
     pub fn new(module: TypedModule, declarations: Declarations, tables: Tables) -> Program
-        requires tables { tables ≡ tables_of (strip (typed_module_view module)).params declarations }
+        requires tables { tables ≡ tables_of (strip (typed_module_view «module»)).params declarations }
         requires numbered { AreNumbered 0 declarations.units.units }
-        ensures { words.program_view result ≡ words.program_of (typed_module_view module) declarations }
+        ensures { words.program_view result ≡ words.program_of (typed_module_view «module») declarations }
     {
         Program {
             module,
