@@ -2,11 +2,11 @@
 use Rattle.std.proofs.Common.{◌≡◌, ◌∙◌, List, Option, Some, None, Result, Ok, Err, refl, sym, ap, subst}
 use Rattle.qvt_metamodel.specs.Metamodels.{Metamodels}
 use Rattle.qvt_tree_types.specs.Module.{ModuleTerm}
+use Rattle.qvt_types_data.specs.declared.note.Note.{Note}
 use Rattle.qvt_types_data.specs.declared.refusal.Refusal.{Refusal}
 use Rattle.qvt_types_laws.specs.JoinModule.{joined}
 use Rattle.qvt_types_nodes.specs.Module.{TypedModuleTerm}
 use Rattle.qvt_types_nodes.specs.StripModule.{strip}
-use Rattle.qvt_types_laws.proofs.StrippedModule.{same_module}
 use Rattle.qvt_types_states.specs.declared.state.State.{State}
 use Rattle.qvt_types_paths.specs.ModelTypes.{type_names}
 use Rattle.qvt_types_units.specs.Signatures.{signatures}
@@ -63,6 +63,7 @@ in_program : (h : Heads) (t : ModuleTerm) (typed : TypedModuleTerm) (o : Option 
 in_program h t typed None p e stays = ap (λ x. strip (module_or typed x)) (sym e) ∙ stays
 in_program h t typed (Some r) p e stays = absurd (cc)
 
-pub tree_stays : TreeStays
+-- where notes leave every tree
+pub tree_stays : ((t : ModuleTerm) (ns : List Note) → strip (joined t ns) ≡ t) → TreeStays
 unfolding accepts
-tree_stays m t p e = in_program (heads_of m t) t (joined t (judged (heads_of m t) t).notes) (least (judged (heads_of m t) t).log) p e (same_module t (judged (heads_of m t) t).notes)
+tree_stays leaves m t p e = in_program (heads_of m t) t (joined t (judged (heads_of m t) t).notes) (least (judged (heads_of m t) t).log) p e (leaves t (judged (heads_of m t) t).notes)

@@ -1,6 +1,5 @@
 -- The metamodels of the job are those of the program without what was put after them.
 use Rattle.std.proofs.Common.{◌≡◌, ◌∙◌, ℕ, ◌+◌, ◌-◌, List, [], ◌∷◌, ◌++◌, length, take, Option, Some, None, refl, sym, ap, arith, length-append}
-use Rattle.std.proofs.lemmas.List.{take-append}
 use Rattle.qvt_base.specs.declared.numbers.ClassNo.{ClassNo}
 use Rattle.qvt_metamodel.specs.Extended.{extended, unnamed, element_class, given_classes, given_features}
 use Rattle.qvt_metamodel.specs.Metamodels.{Metamodels}
@@ -54,9 +53,7 @@ abbrev cut_in : Heads → Metamodels
 cut_in h = cut h.metas h.types.element h.first
 
 cut_again : (m : Metamodels) (t : ModuleTerm) → m.element ≡ None → cut_in (heads_of m t) ≡ m
-unfolding heads_of
-
-unfolding type_names
+unfolding heads_of type_names
 cut_again m t none = cut-extended m _ none
 
 pub given_again : (m : Metamodels) (t : ModuleTerm) (d : Declarations) → m.element ≡ None → heads_over m d ≡ heads_of m t → given_in d ≡ m

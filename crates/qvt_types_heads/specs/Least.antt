@@ -1,5 +1,5 @@
 -- The refusal that is told of several.
-use Rattle.std.specs.Prelude.{◌≡◌, List, [], ◌∷◌, ◌++◌, IsTrue, IsFalse, Option, Some, None}
+use Rattle.std.specs.Prelude.{◌≡◌, List, [], ◌∷◌, ◌++◌, IsTrue, IsFalse, Some, None}
 use Rattle.std.specs.List.{AllByRecursion}
 use Rattle.qvt_types_data.specs.declared.refusal.Refusal.{Refusal}
 use Rattle.qvt_typing.specs.Accepts.{comes_before, least}

@@ -67,7 +67,6 @@ fn parts(alloc: Global, extended: Extended) -> (Metas, Seq<bool>)
 }
 
 /// What the heads declare. It tells what is wrong with model types, model parameters and intermediate classes.
-#[tactic(auto, unfolding(crate::specs::Heads::types_told, qvt_typing::specs::Accepts::heads_of))]
 fn declared(
     alloc: Global,
     module: &Module,
@@ -97,7 +96,6 @@ fn declared(
 
 /// What the heads of a transformation declare over the metamodels of its job; tells all that is wrong with them. It is refused as out
 /// of memory where numbers do not fit 32 bits.
-#[tactic(auto, using(crate::proofs::Told::all_told))]
 pub fn read_heads(
     alloc: Global,
     module: &Module,

@@ -1,29 +1,31 @@
 -- Where the mappings have their numbers in the order of the text, mapping k is the k-th unit that is one.
-use Rattle.std.proofs.Common.{◌≡◌, ◌∙◌, ℕ, zero, suc, ◌+◌, Bool, List, [], ◌∷◌, map, get_or, Option, Some, None, position, refl, sym, ap, arith}
+use Rattle.std.proofs.Common.{◌≡◌, ◌∙◌, ℕ, zero, suc, ◌+◌, Bool, true, List, [], ◌∷◌, map, get_or, Option, Some, None, position, refl, sym, ap, arith}
 use Rattle.std.specs.Prelude.{if◌then◌else◌, slice_get}
-use Rattle.std.proofs.lemmas.Bool.{eq-eqb, ne_eqb}
+use Rattle.std.proofs.lemmas.Bool.{and_parts, eq-eqb, eqb-true, ne_eqb}
 use Rattle.qvt_meta_names.proofs.Tables.{first_at, first-position}
 use Rattle.qvt_metamodel.specs.Metamodels.{Metamodels}
 use Rattle.qvt_types_units.specs.Numbers.{is_mapping, numbers_where, unit_at}
 use Rattle.qvt_types_units.specs.declared.signature.Signature.{Signature}
 use Rattle.qvt_types_units.specs.declared.signature.UnitSort.{UnitSort}
 use Rattle.qvt_types_units.specs.declared.signature.UnitSort.TheVariants as sort
-use Rattle.qvt_types_program.specs.Mappings.{AreNumbered, HasNumber, number_after, is_mapping_number, is_mapping_of, mapping_unit, mapping_units, mapping_names, mapping_name, signature_at, traced}
+use Rattle.qvt_types_program.specs.Mappings.{AreNumbered, are_numbered, has_number, number_after, is_mapping_number, is_mapping_of, mapping_unit, mapping_units, mapping_names, mapping_name, signature_at, traced}
 
 abbrev is_one : Signature → Bool
 is_one u = is_mapping u.sort
 
 found : (us : List Signature) (n i k : ℕ) → AreNumbered n us → first_at (is_mapping_number (n + k)) i us ≡ slice_get (numbers_where is_one i us) k
 found [] n i k numbered = refl
-found (u ∷ us) n i k numbered = by u.sort k (λ m j. found us m (i + 1) j) numbered.0 numbered.1
+found (u ∷ us) n i k numbered = by u.sort k (λ m j. found us m (i + 1) j)
+    (and_parts (has_number n u.sort) (are_numbered (number_after n u.sort) us) numbered).0
+    (and_parts (has_number n u.sort) (are_numbered (number_after n u.sort) us) numbered).1
   where
     by : (s : UnitSort) (k : ℕ) → ((m j : ℕ) → AreNumbered m us → first_at (is_mapping_number (m + j)) (i + 1) us ≡ slice_get (numbers_where is_one (i + 1) us) j)
-        → HasNumber n s → AreNumbered (number_after n s) us
+        → has_number n s ≡ true → AreNumbered (number_after n s) us
         → (if is_mapping_of (n + k) s then Some i else first_at (is_mapping_number (n + k)) (i + 1) us)
         ≡ slice_get (if is_mapping s then i ∷ numbers_where is_one (i + 1) us else numbers_where is_one (i + 1) us) k
-    by (sort.Mapping m) zero more h rest = ap (λ b. if b then Some i else first_at (is_mapping_number (n + 0)) (i + 1) us) (eq-eqb m.0 (n + 0) (omega (arith, h)))
+    by (sort.Mapping m) zero more h rest = ap (λ b. if b then Some i else first_at (is_mapping_number (n + 0)) (i + 1) us) (eq-eqb m.0 (n + 0) (let same : m.0 ≡ n = eqb-true m.0 n h in omega (arith, same)))
     by (sort.Mapping m) (suc k) more h rest =
-        ap (λ b. if b then Some i else first_at (is_mapping_number (n + suc k)) (i + 1) us) (ne_eqb m.0 (n + suc k) (λ e. absurd (omega (arith, h, e))))
+        ap (λ b. if b then Some i else first_at (is_mapping_number (n + suc k)) (i + 1) us) (ne_eqb m.0 (n + suc k) (λ e. (let same : m.0 ≡ n = eqb-true m.0 n h in absurd (omega (arith, same, e)))))
         ∙ ap (λ x. first_at (is_mapping_number x) (i + 1) us) (let same : n + suc k ≡ n + 1 + k = omega arith in same)
         ∙ more (n + 1) k rest
     by sort.Class k more h rest = more n k rest

@@ -1,5 +1,5 @@
 -- The mappings of a transformation by their numbers, and their names in traces (QVT 1.3, 8.2.1.15).
-use Rattle.std.specs.Prelude.{◌≡◌, ℕ, ◌+◌, ◌==◌, Bool, false, List, [], ◌∷◌, map, count_by, position, Option, Some, None}
+use Rattle.std.specs.Prelude.{ℕ, ◌+◌, ◌==◌, ◌&&◌, Bool, true, false, IsTrue, List, [], ◌∷◌, map, count_by, position, Option, Some, None}
 use Rattle.qvt_metamodel.specs.Metamodels.{Metamodels}
 use Rattle.qvt_types_units.specs.declared.signature.Signature.{Signature}
 use Rattle.qvt_types_units.specs.declared.signature.UnitSort.{UnitSort}
@@ -41,15 +41,18 @@ abbrev pub mapping_names : Metamodels → List Signature → List (List ℕ)
 mapping_names m us = map (λ n. traced m (unit_at us n)) (mapping_units us)
 
 -- a mapping that comes next has this number
-abbrev pub HasNumber : ℕ → UnitSort → Type 0
-HasNumber n (sort.Mapping k) = k.0 ≡ n
-HasNumber n s = Unit {0}
+abbrev pub has_number : ℕ → UnitSort → Bool
+has_number n (sort.Mapping k) = k.0 == n
+has_number n s = true
 
 abbrev pub number_after : ℕ → UnitSort → ℕ
 number_after n (sort.Mapping k) = n + 1
 number_after n s = n
 
 -- the mappings have the numbers from n on, in the order of the text
+abbrev pub are_numbered : ℕ → List Signature → Bool
+are_numbered n [] = true
+are_numbered n (u ∷ us) = has_number n u.sort && are_numbered (number_after n u.sort) us
+
 abbrev pub AreNumbered : ℕ → List Signature → Type 0
-AreNumbered n [] = Unit {0}
-AreNumbered n (u ∷ us) = HasNumber n u.sort × AreNumbered (number_after n u.sort) us
+AreNumbered n us = IsTrue (are_numbered n us)
