@@ -24,7 +24,7 @@ use qvt_types_heads::reading::read_heads;
 use qvt_types_join::joined::joined;
 use qvt_types_laws::laws::notes_leave_the_tree;
 use qvt_types_program::program::Program;
-use qvt_types_program::tables::tables;
+use qvt_types_program::tables::tables_of;
 use std::alloc::Global;
 use std::mem::replace;
 
@@ -38,7 +38,7 @@ fn program(
     requires { AreNumbered 0 declarations.units.units }
     ensures { IfOk result (λ p. program_view p ≡ program_of (joined (module_view «module».now) notes) declarations) }
 {
-    let tables = tables(alloc, module.params.as_slice(), &declarations)?;
+    let tables = tables_of(alloc, module.params.as_slice(), &declarations)?;
     let typed = joined(alloc, module, notes)?;
     notes_leave_the_tree();
     Ok(Program::new(typed, declarations, tables))

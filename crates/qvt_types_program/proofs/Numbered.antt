@@ -1,6 +1,7 @@
 -- Where the mappings have their numbers in the order of the text, mapping k is the k-th unit that is one.
-use Rattle.std.proofs.Common.{◌≡◌, ◌∙◌, ℕ, zero, suc, ◌+◌, Bool, true, List, [], ◌∷◌, map, get_or, Option, Some, None, position, refl, sym, ap, arith}
+use Rattle.std.proofs.Common.{◌≡◌, ◌∙◌, ℕ, zero, suc, ◌+◌, ◌<◌, ◌≤◌, length, Bool, true, List, [], ◌∷◌, map, get_or, Some, refl, sym, ap, arith}
 use Rattle.std.specs.Prelude.{if◌then◌else◌, slice_get}
+use Rattle.std.proofs.lemmas.List.{get_or_default, get_or_past}
 use Rattle.std.proofs.lemmas.Bool.{and_parts, eq-eqb, eqb-true, ne_eqb}
 use Rattle.qvt_meta_names.proofs.Tables.{first_at, first-position}
 use Rattle.qvt_metamodel.specs.Metamodels.{Metamodels}
@@ -49,3 +50,10 @@ at_number m us (n ∷ ns) (suc k) = at_number m us ns k
 
 pub name_found : (m : Metamodels) (us : List Signature) (k : ℕ) → AreNumbered 0 us → get_or (mapping_names m us) k [] ≡ mapping_name m us k
 name_found m us k numbered = at_number m us (mapping_units us) k ∙ ap (λ o. traced m (signature_at us o)) (unit_found us k numbered)
+
+pub name_there : (m : Metamodels) (us : List Signature) (k : ℕ) (names : List (List ℕ)) (name : List ℕ) → AreNumbered 0 us → names ≡ mapping_names m us → k < length names → name ≡ get_or names k name
+    → name ≡ mapping_name m us k
+name_there m us k names name numbered are l at = at ∙ get_or_default names k name [] l ∙ ap (λ xs. get_or xs k []) are ∙ name_found m us k numbered
+
+pub name_past : (m : Metamodels) (us : List Signature) (k : ℕ) (names : List (List ℕ)) → AreNumbered 0 us → names ≡ mapping_names m us → length names ≤ k → [] ≡ mapping_name m us k
+name_past m us k names numbered are l = sym (get_or_past names k [] l) ∙ ap (λ xs. get_or xs k []) are ∙ name_found m us k numbered

@@ -125,11 +125,7 @@ impl Program {
     pub fn mapping_unit(&self, mapping: MappingNo) -> Option<u32>
         ensures { result ≡ mappings_of.mapping_unit (words.program_view self.now).heads.units mapping.0 }
     {
-        self.tables
-            .mappings
-            .as_slice()
-            .get(mapping.0 as usize)
-            .copied()
+        self.tables.mappings.get(mapping.0 as usize).copied()
     }
 
     /// The name of the mapping in a trace: metamodel, class and name; empty where there is no such mapping.

@@ -113,7 +113,7 @@ fn mapping_names(alloc: Global, units: &Units, mappings: &[u32]) -> Result<NameL
 }
 
 /// What is asked of a program with these model parameters and heads.
-pub fn tables(
+pub fn tables_of(
     alloc: Global,
     params: &[ModelParam],
     declarations: &Declarations,
