@@ -1,0 +1,69 @@
+-- What is accepted, by what is told and noted.
+use Rattle.std.proofs.Common.{◌≡◌, ◌∙◌, List, Option, Some, None, Result, Ok, Err, refl, sym, ap, subst}
+use Rattle.qvt_metamodel.specs.Metamodels.{Metamodels}
+use Rattle.qvt_tree_types.specs.Module.{ModuleTerm}
+use Rattle.qvt_types_data.specs.declared.note.Note.{Note}
+use Rattle.qvt_types_data.specs.declared.refusal.Refusal.{Refusal}
+use Rattle.qvt_types_laws.specs.JoinModule.{joined}
+use Rattle.qvt_types_nodes.specs.Module.{TypedModuleTerm}
+use Rattle.qvt_types_nodes.specs.StripModule.{strip}
+use Rattle.qvt_types_states.specs.declared.state.State.{State}
+use Rattle.qvt_types_paths.specs.ModelTypes.{type_names}
+use Rattle.qvt_types_units.specs.Signatures.{signatures}
+use Rattle.qvt_types_heads.specs.declared.declarations.Declarations.{Declarations}
+use Rattle.qvt_types_heads.specs.Heads.{heads_over}
+use Rattle.qvt_typing.specs.Accepts.{ProgramTerm, accepts, accepted, accepted_by, heads_of, heads_told, judged, least, start, whole}
+use Rattle.qvt_typing.specs.Context.{Heads}
+use Rattle.qvt_types_program.specs.Mappings.{AreNumbered}
+use Rattle.qvt_types_program.specs.Program.{given_in, program_of}
+use Rattle.qvt_types_program.proofs.Signed.{signed_from}
+use Rattle.qvt_types.proofs.Given.{given_again}
+use Rattle.qvt_types.specs.Faults.{answered, fault_of}
+use Rattle.qvt_types.specs.Laws.{TreeStays}
+
+-- judged by the heads that were read
+abbrev pub IsJudged : Metamodels → ModuleTerm → Declarations → State → Type 0
+IsJudged m t d s = whole (heads_over m d) t (start (heads_told (heads_of m t) t)) ≡ (tt, s)
+
+judged_so : (m : Metamodels) (t : ModuleTerm) (d : Declarations) (s : State) → heads_over m d ≡ heads_of m t → IsJudged m t d s → judged (heads_of m t) t ≡ s
+unfolding judged
+judged_so m t d s same is = ap (λ h. (whole h t (start (heads_told (heads_of m t) t))).1) (sym same) ∙ ap (λ x. x.1) is
+
+accepts_by : (m : Metamodels) (t : ModuleTerm) (s : State) → judged (heads_of m t) t ≡ s → accepts m t ≡ accepted_by (heads_of m t) t s
+unfolding accepts
+accepts_by m t s is = ap (λ x. accepted_by (heads_of m t) t x) is
+
+same_heads : (m : Metamodels) (t : ModuleTerm) (d : Declarations) → m.element ≡ None → heads_over m d ≡ heads_of m t → heads_of m t ≡ heads_over (given_in d) d
+same_heads m t d none same = sym same ∙ ap (λ x. heads_over x d) (sym (given_again m t d none same))
+
+pub accepted_so : (m : Metamodels) (t : ModuleTerm) (d : Declarations) (s : State) → m.element ≡ None → heads_over m d ≡ heads_of m t → IsJudged m t d s → least s.log ≡ None
+    → accepts m t ≡ Ok (program_of (joined t s.notes) d)
+accepted_so m t d s none same is quiet =
+    accepts_by m t s (judged_so m t d s same is)
+    ∙ ap (accepted (heads_of m t) (joined t s.notes)) quiet
+    ∙ ap (λ h. Result.Ok (let p : ProgramTerm = record { module_ = joined t s.notes; heads = h } in p)) (same_heads m t d none same)
+
+pub refused_so : (m : Metamodels) (t : ModuleTerm) (d : Declarations) (s : State) (r : Refusal) → heads_over m d ≡ heads_of m t → IsJudged m t d s → least s.log ≡ Some r
+    → answered (accepts m t) ≡ Err (fault_of r)
+refused_so m t d s r same is told =
+    ap answered (accepts_by m t s (judged_so m t d s same is) ∙ ap (accepted (heads_of m t) (joined t s.notes)) told)
+
+signed : (m : Metamodels) (t : ModuleTerm) → AreNumbered 0 (heads_of m t).units
+unfolding heads_of
+signed m t = signed_from m (type_names m t.model_types t.units) 0 t.units
+
+pub numbered_so : (m : Metamodels) (t : ModuleTerm) (d : Declarations) → heads_over m d ≡ heads_of m t → AreNumbered 0 d.units.units
+numbered_so m t d same = subst (λ h. AreNumbered 0 h.units) (sym same) (signed m t)
+
+abbrev module_or : TypedModuleTerm → Result ProgramTerm Refusal → TypedModuleTerm
+module_or typed (Ok q) = q.module_
+module_or typed (Err r) = typed
+
+in_program : (h : Heads) (t : ModuleTerm) (typed : TypedModuleTerm) (o : Option Refusal) (p : ProgramTerm) → accepted h typed o ≡ Ok p → strip typed ≡ t → strip p.module_ ≡ t
+in_program h t typed None p e stays = ap (λ x. strip (module_or typed x)) (sym e) ∙ stays
+in_program h t typed (Some r) p e stays = absurd (cc)
+
+-- where notes leave every tree
+pub tree_stays : ((t : ModuleTerm) (ns : List Note) → strip (joined t ns) ≡ t) → TreeStays
+unfolding accepts
+tree_stays leaves m t p e = in_program (heads_of m t) t (joined t (judged (heads_of m t) t).notes) (least (judged (heads_of m t) t).log) p e (leaves t (judged (heads_of m t) t).notes)

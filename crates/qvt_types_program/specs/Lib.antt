@@ -1,0 +1,5 @@
+pub mod Mappings
+pub mod Tables
+pub mod Known
+pub mod Program
+pub mod Extents
