@@ -67,6 +67,7 @@ fn parts(alloc: Global, extended: Extended) -> (Metas, Seq<bool>)
 }
 
 /// What the heads declare. It tells what is wrong with model types, model parameters and intermediate classes.
+#[tactic(auto, unfolding(qvt_types_paths::specs::ModelTypes::type_names))]
 fn declared(
     alloc: Global,
     module: &Module,
