@@ -1,6 +1,6 @@
 //! Each function does nothing: its contract is what the definitions come to.
 
-ghost use Rattle.qvt_meaning_tries.specs.Worked.{AnObject, EnoughFuel, TooLittleFuel, Overflows, DividesByZero, StopsAtFalse, NoTurn, NoEnd, AMapping, ALateResolve, ALateCost};
+ghost use Rattle.qvt_meaning_tries.specs.Worked.{AnObject, EnoughFuel, TooLittleFuel, Overflows, DividesByZero, StopsAtFalse, NoTurn, NoEnd, AMapping, ALateResolve, ALateCost, ADotWithin, ADotOnNull};
 
 /// An object whose attribute is set costs four, and four units of fuel are enough.
 pub fn an_object_costs_four()
@@ -35,4 +35,10 @@ pub fn a_mapping_is_recorded()
 pub fn a_late_resolve_reads_the_end()
     ensures slot { ALateResolve }
     ensures cost { ALateCost }
+{}
+
+/// A dot goes over a collection within a collection by itself; on a null one an invalid argument decides.
+pub fn a_dot_goes_over_each_collection()
+    ensures within { ADotWithin }
+    ensures null { ADotOnNull }
 {}

@@ -65,6 +65,10 @@ all_objects (v ∷ vs) = with_object v (all_objects vs)
 unfoldable pub objects_in : Value → Option (List Oid)
 objects_in v = all_objects (present_items (flattened (items_of v)))
 
+-- what a dot gives of null where a collection is: NullSource, unless an argument is invalid
+abbrev pub without_source : Place → List Value → Value
+without_source at ws = value_or (find is_invalid ws) (Invalid NullSource at)
+
 module _ {E : Type 0} where
   -- what follows a value that is not invalid
   abbrev pub unless_invalid : Value → Does E Value → Does E Value
@@ -104,10 +108,6 @@ module _ {E : Type 0} where
       pub for_row : {m : _} → Row_of-Value m → List (Does E Value)
       for_row end_of-Value = []
       for_row (more_of-Value v vs) = for_items v ∷ for_row vs
-
-  -- the source is null: NullSource, unless an argument is invalid
-  abbrev pub without_source : Place → List Value → Value
-  without_source at ws = value_or (find is_invalid ws) (Invalid NullSource at)
 
   -- a dot over a collection, with these arguments
   abbrev pub collecting : Place → List Value → (Value → Does E Value) → Value → Does E Value
