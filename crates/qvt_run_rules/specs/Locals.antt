@@ -6,7 +6,7 @@ use Rattle.qvt_base.specs.declared.numbers.Place.{Place}
 use Rattle.qvt_value.specs.declared.value.Value.{Value}
 use Rattle.qvt_value.specs.declared.value.Var.{Var}
 use Rattle.qvt_types_data.specs.declared.ty.Ty.{Ty}
-use Rattle.qvt_run_rules.specs.State.{Local, State, Exit, Done, Does, ◌>>=◌, ◌>>◌, look, turn_to}
+use Rattle.qvt_run_rules.specs.State.{Local, State, Exit, Done, Does, ◌>>=◌, look, turn_to}
 use Rattle.qvt_run_rules.specs.Typed.{asked}
 
 -- The names of what has none in a text.
