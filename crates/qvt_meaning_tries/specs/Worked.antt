@@ -1,15 +1,11 @@
 -- What some small programs come to, by the definitions: objects, costs, faults with their places, the end of the fuel.
-use Rattle.std.specs.Prelude.{◌≡◌, ℕ, ℤ, pos, negsuc, true, false, List, [], ◌∷◌, Some, None, Result, Ok, Err}
+use Rattle.std.specs.Prelude.{◌≡◌, ℕ, pos, true, false, List, [], ◌∷◌, Some, None, Result, Ok, Err}
 use Rattle.qvt_tree_types.specs.declared.words.BinaryOp.TheVariants as op
 use Rattle.qvt_slots.specs.Contents.{Contents, Instance}
 use Rattle.qvt_types_data.specs.declared.ty.Ty.TheVariants as ty
 use Rattle.qvt_value.specs.declared.value.Reason.TheVariants as reason
 use Rattle.qvt_run_data.specs.declared.fault.RunFault.TheVariants as fault
-use Rattle.qvt_value.specs.declared.value.Kind.TheVariants.{Set, Sequence}
-use Rattle.qvt_value.specs.declared.value.Value.{Value, Null, Int, Invalid}
-use Rattle.qvt_value.specs.declared.value.Value.TheViews.{Coll}
-use Rattle.qvt_ocl_words.specs.declared.op.Op.TheVariants as operator
-use Rattle.qvt_run_rules.specs.Expressions.{applied}
+use Rattle.qvt_value.specs.declared.value.Value.{Value, Null, Invalid}
 use Rattle.qvt_run_rules.specs.Sources.{dotted}
 use Rattle.qvt_run_rules.specs.State.{State, Does, End, Fault, OutOfFuel}
 use Rattle.qvt_typing.specs.Accepts.{ProgramTerm}
@@ -75,14 +71,6 @@ ALateResolve = at_the_end (finished resolved_late (store []) 100) ≡ Ok (store 
 
 abbrev pub ALateCost : Type 0
 ALateCost = cost_of (finished resolved_late (store []) 100) ≡ Ok 11
-
--- a dot over a collection within: what it gives for a Set stands in the order of a Bag
-abbrev pub values_of : ℤ → ℤ → List Value
-values_of a b = Int a ∷ Int b ∷ []
-
-abbrev pub ADotWithin : Type 0
-ADotWithin = (s : State (Unit {0})) → dotted true (at 40) [] (applied operator.Abs [] (at 40)) (Coll Sequence (Coll Set (values_of (negsuc 4) (pos 3)) ∷ [])) s
-    ≡ (Ok (Coll Sequence (values_of (pos 3) (pos 5))), s)
 
 -- an invalid argument decides before a null collection
 abbrev pub ADotOnNull : Type 0
