@@ -1,7 +1,9 @@
--- What is to hold of every run: that no answer of a late resolve reaches a statement, that one run which keeps requests alone comes to the
--- same, and what the entries leave in one slot.
-use Rattle.std.specs.Prelude.{◌≡◌, ℕ, ◌==◌, ◌&&◌, ◌++◌, Bool, List, [], ◌∷◌, filter, map, None, Result, Ok, Err, IsTrue, IsFalse}
+-- What is to hold of every run: that no answer of a late resolve reaches a statement, that its cost is exact and each key has one record at
+-- most, that one run which keeps requests alone comes to the same, and what the entries leave in one slot.
+use Rattle.std.specs.Prelude.{◌≡◌, ℕ, suc, ◌==◌, ◌&&◌, ◌++◌, Bool, true, not, List, [], ◌∷◌, filter, map, Option, None, Result, Ok, Err, IsTrue, IsFalse}
 use Rattle.std.specs.List.{fold}
+use Rattle.std.specs.Option.{is_some}
+use Rattle.qvt_base.specs.declared.numbers.Place.{Place}
 use Rattle.qvt_metamodel.specs.Metamodels.{opposite, is_containment}
 use Rattle.qvt_metamodel.specs.WellFormed.{IsWellFormed}
 use Rattle.qvt_slots.specs.Contents.{Contents, is_slot, slot_of}
@@ -12,8 +14,17 @@ use Rattle.qvt_typing.specs.Accepts.{ProgramTerm}
 use Rattle.qvt_value.specs.declared.value.Value.{Value, Obj}
 use Rattle.qvt_run_data.specs.declared.late.LateWrite.{LateWrite}
 use Rattle.qvt_run_data.specs.declared.late.LateValue.{LateValue}
-use Rattle.qvt_run_rules.specs.State.{State, End, Exit, Returned, Ends, Done}
-use Rattle.qvt_meaning.specs.Run.{Finish, Entry, Finished, answered, main_run, finish_of, walk, carried_out, finished, patched}
+use Rattle.qvt_run_data.specs.declared.record.Record.{Record}
+use Rattle.qvt_run_rules.specs.State.{State, End, OutOfFuel, Exit, Returned, Ends, Done, Does}
+use Rattle.qvt_run_rules.specs.Calls.{Callee}
+use Rattle.qvt_run_rules.specs.Statements.{in_order}
+use Rattle.qvt_run_rules.specs.Trace.{key_of, result_for}
+use Rattle.qvt_types_data.specs.declared.ty.Ty.{Ty}
+use Rattle.qvt_types_nodes.specs.Tree.{TypedExprTerm, TypedStmtTerms}
+use Rattle.qvt_meaning.specs.Phrases.{expr, stmts}
+use Rattle.qvt_meaning.specs.Readings.{Setting}
+use Rattle.qvt_meaning.specs.Units.{calls_to}
+use Rattle.qvt_meaning.specs.Run.{Finish, Entry, Finished, empty_finish, answered, setting, main_run, finish_of, walk, carried_out, finished, patched}
 
 -- an outcome and a state, without the answers of the entries
 abbrev pub bare_state : State Entry → State LateWrite
@@ -25,6 +36,53 @@ bare d = (d.0, bare_state d.1)
 -- the finish changes nothing but the answers of the entries
 abbrev pub Independent : Type 0
 Independent = (p : ProgramTerm) (f g : Finish) (fuel : ℕ) (store : Contents) → bare (main_run (answered p f) p fuel store) ≡ bare (main_run (answered p g) p fuel store)
+
+-- the rules with the answers over this finish
+abbrev pub with_finish : ProgramTerm → Finish → ℕ → Setting Entry
+with_finish p f fuel = setting (answered p f) p fuel
+
+-- the same of a call while so many more may be open, of an expression, and of statements, from states that differ in answers alone
+abbrev pub CallsIndependent : Type 0
+CallsIndependent = (p : ProgramTerm) (f g : Finish) (fuel left : ℕ) (c : Callee) (vs : List Value) (at : Place) (s t : State Entry) → bare_state s ≡ bare_state t →
+    bare (calls_to (with_finish p f fuel) left c vs at s) ≡ bare (calls_to (with_finish p g fuel) left c vs at t)
+
+abbrev pub expr_with : ProgramTerm → Finish → ℕ → ℕ → Option Ty → TypedExprTerm → Does Entry Value
+expr_with p f fuel left answer e = expr (with_finish p f fuel) (calls_to (with_finish p f fuel) left) answer e
+
+abbrev pub ExpressionsIndependent : Type 0
+ExpressionsIndependent = (p : ProgramTerm) (f g : Finish) (fuel left : ℕ) (answer : Option Ty) (e : TypedExprTerm) (s t : State Entry) → bare_state s ≡ bare_state t →
+    bare (expr_with p f fuel left answer e s) ≡ bare (expr_with p g fuel left answer e t)
+
+abbrev pub stmts_with : ProgramTerm → Finish → ℕ → ℕ → Option Ty → TypedStmtTerms → Does Entry (Unit {0})
+stmts_with p f fuel left answer ss = in_order (stmts (with_finish p f fuel) (calls_to (with_finish p f fuel) left) answer ss)
+
+abbrev pub StatementsIndependent : Type 0
+StatementsIndependent = (p : ProgramTerm) (f g : Finish) (fuel left : ℕ) (answer : Option Ty) (ss : TypedStmtTerms) (s t : State Entry) → bare_state s ≡ bare_state t →
+    bare (stmts_with p f fuel left answer ss s) ≡ bare (stmts_with p g fuel left answer ss t)
+
+-- what a run with this finish leaves
+abbrev pub left_with : ProgramTerm → ℕ → Contents → Finish → Finish
+left_with p fuel store f = finish_of (main_run (answered p f) p fuel store).1
+
+-- so the second run leaves what the first one left, and no other finish is left by a run with it
+abbrev pub SecondRun : Type 0
+SecondRun = (p : ProgramTerm) (fuel : ℕ) (store : Contents) → left_with p fuel store (left_with p fuel store empty_finish) ≡ left_with p fuel store empty_finish
+
+abbrev pub OnlyFinish : Type 0
+OnlyFinish = (p : ProgramTerm) (fuel : ℕ) (store : Contents) (f : Finish) → left_with p fuel store f ≡ f → f ≡ left_with p fuel store empty_finish
+
+-- The cost is exact: fuel for it is enough, and one unit less is not.
+abbrev pub ExactCost : Type 0
+ExactCost = (p : ProgramTerm) (store : Contents) (fuel : ℕ) (f : Finished) → finished p store fuel ≡ Ok f →
+    (finished p store f.cost ≡ Ok f) × ((n : ℕ) → f.cost ≡ suc n → finished p store n ≡ Err OutOfFuel)
+
+-- Each key has one record at most.
+abbrev pub keys_differ : List Record → Bool
+keys_differ [] = true
+keys_differ (r ∷ rs) = not (is_some (result_for (key_of r) rs)) && keys_differ rs
+
+abbrev pub OneRecord : Type 0
+OneRecord = (p : ProgramTerm) (store : Contents) (fuel : ℕ) (f : Finished) → finished p store fuel ≡ Ok f → IsTrue (keys_differ f.finish.trace)
 
 -- a run that keeps requests alone
 abbrev pub request_run : ProgramTerm → ℕ → Contents → Done LateWrite (Unit {0})

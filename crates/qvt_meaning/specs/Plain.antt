@@ -1,6 +1,6 @@
 -- Plain expressions and their cost (OCL 2.4, 7 and 11): the rules, with a cost that is counted without an end. And the answer of a request:
 -- its candidates for which the condition is true, which is a plain expression.
-use Rattle.std.specs.Prelude.{ℕ, ◌+◌, List, [], ◌∷◌, ◌++◌, map, Option, Some, None, Result, Ok, Err}
+use Rattle.std.specs.Prelude.{ℕ, List, [], ◌∷◌, ◌++◌, map, Option, Some, None, Result, Ok, Err}
 use Rattle.qvt_base.specs.declared.numbers.ExprNo.{ExprNo}
 use Rattle.qvt_base.specs.declared.numbers.Oid.{Oid}
 use Rattle.qvt_base.specs.declared.numbers.Place.{Place}

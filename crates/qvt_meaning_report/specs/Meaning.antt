@@ -1,5 +1,5 @@
--- What a program means over a loaded store and with a fuel: a fault, the end of the fuel, the first slot that is under its lower bound, or
--- the run that has ended well.
+-- What a program means over a loaded store and with a fuel: a fault, the end of the fuel, the first slot that is under its lower bound, with
+-- the store in which it is, or the run that has ended well.
 use Rattle.std.specs.Prelude.{ℕ, Bool, ◌&&◌, List, [], ◌∷◌, length, filter, Option, Some, None, Result, Ok, Err}
 use Rattle.std.specs.List.{range_with_len}
 use Rattle.qvt_base.specs.declared.numbers.Place.{Place}
@@ -16,7 +16,7 @@ use Rattle.qvt_meaning.specs.Run.{Finished, finished}
 pub data Outcome : Type 0 where
   Fault : RunFault → Place → Outcome
   OutOfFuel : Outcome
-  Low : LowFault → Outcome
+  Low : Contents → LowFault → Outcome
   Done : Finished → Outcome
 
 -- The extents that are written: those of models that can be changed.
@@ -35,7 +35,7 @@ unfoldable pub low_in : Contents → Option LowFault
 low_in s = low_among s (written_extents s)
 
 abbrev pub unless_low : Option LowFault → Finished → Outcome
-unless_low (Some fault) f = Low fault
+unless_low (Some fault) f = Low f.after fault
 unless_low None f = Done f
 
 abbrev pub outcome_of : Result Finished End → Outcome

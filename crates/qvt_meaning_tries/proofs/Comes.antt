@@ -1,6 +1,6 @@
 -- What the small programs come to, computed.
 use Rattle.std.specs.Prelude.{refl}
-use Rattle.qvt_meaning_tries.specs.Worked.{AnObject, EnoughFuel, TooLittleFuel, Overflows, DividesByZero, StopsAtFalse, NoTurn, NoEnd, AMapping, ALateResolve, ALateCost}
+use Rattle.qvt_meaning_tries.specs.Worked.{AnObject, EnoughFuel, TooLittleFuel, Overflows, DividesByZero, StopsAtFalse, NoTurn, NoEnd, AMapping, ALateResolve, ALateCost, ADotOnNull}
 use Rattle.qvt_meaning.specs.Run.{finished, main_run, setting}
 use Rattle.qvt_meaning.specs.Phrases.{expr, exprs, link, links, map_step, steps, step, dot_step, stmt, stmts, target, late_source}
 use Rattle.qvt_meaning.specs.Program.{mapping_unit, chosen_for, form_of}
@@ -70,3 +70,6 @@ late_slot = refl
 pub late_cost : ALateCost
 unfolding finished main_run setting expr stmt stmts target late_source charge scoped inside new_object put literal statement discard object on_object inner_target assign_property block features_of reaches on_first steps step map_step exprs variable read call_step chosen_for mapping_unit choice calls_to mapping_at mapping frame called_by once first first_inside caught with_key note in_own in_frame sections body made_by chosen_on member_target above same_key late answer candidates form_of
 late_cost = refl
+
+pub dot_on_null : ADotOnNull
+dot_on_null s f = refl

@@ -5,7 +5,9 @@ use Rattle.qvt_slots.specs.Contents.{Contents, Instance}
 use Rattle.qvt_types_data.specs.declared.ty.Ty.TheVariants as ty
 use Rattle.qvt_value.specs.declared.value.Reason.TheVariants as reason
 use Rattle.qvt_run_data.specs.declared.fault.RunFault.TheVariants as fault
-use Rattle.qvt_run_rules.specs.State.{End, Fault, OutOfFuel}
+use Rattle.qvt_value.specs.declared.value.Value.{Value, Null, Invalid}
+use Rattle.qvt_run_rules.specs.Sources.{dotted}
+use Rattle.qvt_run_rules.specs.State.{State, Does, End, Fault, OutOfFuel}
 use Rattle.qvt_typing.specs.Accepts.{ProgramTerm}
 use Rattle.qvt_meaning.specs.Run.{Finished, finished}
 use Rattle.qvt_meaning_tries.specs.Small.{at, store, object_with, object_to, int, truth, chain, divided, conditional, one_object, looping, mapped, resolved_late}
@@ -69,3 +71,7 @@ ALateResolve = at_the_end (finished resolved_late (store []) 100) ≡ Ok (store 
 
 abbrev pub ALateCost : Type 0
 ALateCost = cost_of (finished resolved_late (store []) 100) ≡ Ok 11
+
+-- an invalid argument decides before a null collection
+abbrev pub ADotOnNull : Type 0
+ADotOnNull = (s : State (Unit {0})) (f : Value → Does (Unit {0}) Value) → dotted true (at 40) (Invalid reason.ZeroDivide (at 50) ∷ []) f Null s ≡ (Ok (Invalid reason.ZeroDivide (at 50)), s)

@@ -1,6 +1,6 @@
 //! Each function does nothing: its contract is what the definitions come to.
 
-ghost use Rattle.qvt_meaning_tries.specs.Worked.{AnObject, EnoughFuel, TooLittleFuel, Overflows, DividesByZero, StopsAtFalse, NoTurn, NoEnd, AMapping, ALateResolve, ALateCost};
+ghost use Rattle.qvt_meaning_tries.specs.Worked.{AnObject, EnoughFuel, TooLittleFuel, Overflows, DividesByZero, StopsAtFalse, NoTurn, NoEnd, AMapping, ALateResolve, ALateCost, ADotOnNull};
 
 /// An object whose attribute is set costs four, and four units of fuel are enough.
 pub fn an_object_costs_four()
@@ -35,4 +35,9 @@ pub fn a_mapping_is_recorded()
 pub fn a_late_resolve_reads_the_end()
     ensures slot { ALateResolve }
     ensures cost { ALateCost }
+{}
+
+/// On a null collection behind a dot an invalid argument decides.
+pub fn an_invalid_argument_decides()
+    ensures { ADotOnNull }
 {}

@@ -5,13 +5,13 @@ use Rattle.qvt_base.specs.declared.numbers.Oid.{Oid}
 use Rattle.qvt_base.specs.declared.numbers.Place.{Place}
 use Rattle.qvt_types_data.specs.declared.ty.Ty.{Ty}
 use Rattle.qvt_value.specs.declared.value.Value.{Value, Null, Obj}
-use Rattle.qvt_value.specs.declared.value.Value.TheViews.{Coll}
 use Rattle.qvt_value.specs.declared.value.Kind.TheVariants.{Sequence}
-use Rattle.qvt_ocl_words.specs.Lists.{is_null, flattened}
+use Rattle.qvt_value.specs.Limits.{built}
+use Rattle.qvt_ocl_words.specs.Lists.{is_null}
 use Rattle.qvt_run_rules.specs.State.{Local, State, Exit, Returned, Ends, Done, Does, ◌>>=◌, ◌>>◌, pure, misfit, found, caught}
 use Rattle.qvt_run_rules.specs.Typed.{valid, present, object_of, asked}
 use Rattle.qvt_run_rules.specs.Locals.{self_name, result_name, fixed, read, in_frame}
-use Rattle.qvt_run_rules.specs.Sources.{collected_kind, objects_in, over_items, gathered, as_flat}
+use Rattle.qvt_run_rules.specs.Sources.{objects_in, collecting}
 use Rattle.qvt_run_rules.specs.Store.{new_object}
 
 -- how a mapping is called: by a `map`, or an `xmap` where this is true; as a candidate of a dispatcher whose `when` was true; or on the
@@ -103,9 +103,9 @@ module _ {E : Type 0} where
     abbrev pub with_result : Value → List Value → List Value
     with_result v done = if is_null v then done else done ++ v ∷ []
 
-    abbrev pub mapped_onto : List Value → (Oid → Does E Value) → List Oid → Does E Value
-    mapped_onto done f [] = pure (Coll Sequence done)
-    mapped_onto done f (o ∷ os) = f o >>= (λ v. mapped_onto (with_result v done) f os)
+    abbrev pub mapped_onto : Place → List Value → (Oid → Does E Value) → List Oid → Does E Value
+    mapped_onto at done f [] = pure (built at Sequence done)
+    mapped_onto at done f (o ∷ os) = f o >>= (λ v. mapped_onto at (with_result v done) f os)
 
 module _ {E : Type 0} (spend : ℕ → Does E (Unit {0})) (calls : Calls E) where
   -- a unit without a context
@@ -122,8 +122,7 @@ module _ {E : Type 0} (spend : ℕ → Does E (Unit {0})) (calls : Calls E) wher
 
   -- a helper or a query for each item of a collection: the answers flattened. A null item is the fault when its turn comes
   abbrev pub each_called : (Oid → Does E Callee) → List Value → Place → Value → Does E Value
-  each_called choose vs at v = over_items at (λ k xs.
-      gathered (as_flat at (collected_kind k)) (λ x. object_of at x >>= call_on calls choose vs at) [] (flattened xs)) v
+  each_called choose vs at v = collecting at [] (λ x. object_of at x >>= call_on calls choose vs at) v
 
   unfoldable pub call_each : (Oid → Does E Callee) → List (Does E Value) → Place → Value → Does E Value
   call_each choose ps at v = valid v >>= (λ w. spend 1 >> (present at w >>= (λ u. arguments ps >>= (λ vs. each_called choose vs at u))))
@@ -131,7 +130,7 @@ module _ {E : Type 0} (spend : ℕ → Does E (Unit {0})) (calls : Calls E) wher
   -- A mapping over a collection, or over a single value behind an arrow: for each object in order, with the arguments evaluated once; a
   -- null item is left out. The answer is the Sequence of the results that are not null.
   unfoldable pub map_all : (Oid → Does E Callee) → List (Does E Value) → Place → Value → Does E Value
-  map_all choose ps at v = valid v >>= (λ w. spend 1 >> (arguments ps >>= (λ vs. found (objects_in w) at >>= mapped_onto calls [] (call_on calls choose vs at))))
+  map_all choose ps at v = valid v >>= (λ w. spend 1 >> (arguments ps >>= (λ vs. found (objects_in w) at >>= mapped_onto calls at [] (call_on calls choose vs at))))
 
   -- `new`: a constructor, or the object alone
   unfoldable pub new_by : ℕ → ℕ → ℕ → List (Does E Value) → Place → Does E Value

@@ -187,18 +187,18 @@ module _ {E : Type 0} (spend : ℕ → Does E (Unit {0})) where
   -- Steps, each of the value before it.
 
   unfoldable pub dot : Bool → ℕ → Place → Value → Does E Value
-  dot collect f at v = tick >> dotted collect at (property_of f at) v
+  dot collect f at v = tick >> dotted collect at [] (property_of f at) v
 
   -- an operation: its arguments are evaluated once, whatever the source is
   abbrev pub applied : Op → List Value → Place → Value → Does E Value
   applied o ws at v = found (operation o at v ws) at
 
   unfoldable pub called : Bool → Op → List (Does E Value) → Place → Value → Does E Value
-  called collect o ps at v = tick >> (values ps >>= (λ ws. dotted collect at (applied o ws at) v))
+  called collect o ps at v = tick >> (values ps >>= (λ ws. dotted collect at ws (applied o ws at) v))
 
   -- a test or cast, with a class, which costs nothing
   unfoldable pub object_tested : Bool → ObjectTest → ℕ → Place → Value → Does E Value
-  object_tested collect t c at v = tick >> dotted collect at (λ w. look (λ s. tested s.store t c at w) at) v
+  object_tested collect t c at v = tick >> dotted collect at [] (λ w. look (λ s. tested s.store t c at w) at) v
 
   -- a selection by class, of what an arrow goes over
   unfoldable pub select_class : Bool → ℕ → Place → Value → Does E Value

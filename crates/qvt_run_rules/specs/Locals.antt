@@ -1,12 +1,13 @@
 -- The variables of a run and their scopes (QVT 1.3, 8.2.2.10 VariableInitExp and 8.2.2.2 BlockExp). A scope ends in every outcome.
-use Rattle.std.specs.Prelude.{ℕ, ◌==◌, Bool, false, not, ◌&&◌, if◌then◌else◌, List, [], ◌∷◌, ◌++◌, length, take, filter, position, slice_set, Option, Some, None, Result, Ok, Err, codes, decimal}
+use Rattle.std.specs.Prelude.{ℕ, ◌==◌, Bool, false, not, ◌&&◌, if◌then◌else◌, List, [], ◌∷◌, ◌++◌, length, take, position, slice_set, Option, Some, None, Result, Ok, Err, codes, decimal}
+use Rattle.std.specs.List.{count_by}
 use Rattle.std.specs.Str.{bytes_eq}
 use Rattle.qvt_base.specs.declared.numbers.Oid.{Oid}
 use Rattle.qvt_base.specs.declared.numbers.Place.{Place}
 use Rattle.qvt_value.specs.declared.value.Value.{Value}
 use Rattle.qvt_value.specs.declared.value.Var.{Var}
 use Rattle.qvt_types_data.specs.declared.ty.Ty.{Ty}
-use Rattle.qvt_run_rules.specs.State.{Local, State, Exit, Done, Does, ◌>>=◌, ◌>>◌, look, turn_to}
+use Rattle.qvt_run_rules.specs.State.{Local, State, Exit, Done, Does, ◌>>=◌, look, turn_to}
 use Rattle.qvt_run_rules.specs.Typed.{asked}
 
 -- The names of what has none in a text.
@@ -17,17 +18,17 @@ self_name = codes "#self"
 abbrev pub result_name : List ℕ
 result_name = codes "#result"
 
--- an implicit source: `self`, and each iterator or filter without a name
+-- an iterator or a filter without a name
 abbrev pub begins_with_sign : List ℕ → Bool
 begins_with_sign [] = false
 begins_with_sign (c ∷ cs) = c == 35
 
-abbrev pub is_source : Local → Bool
-is_source v = begins_with_sign v.name && not (bytes_eq result_name v.name)
+abbrev pub is_unnamed : Local → Bool
+is_unnamed v = begins_with_sign v.name && (not (bytes_eq self_name v.name) && not (bytes_eq result_name v.name))
 
--- an iterator or a filter without a name is known by how many implicit sources stand around it
+-- it is known by how many of them stand around it
 unfoldable pub unnamed : List Local → List ℕ
-unnamed vs = codes "#" ++ decimal (length (filter is_source vs))
+unnamed vs = codes "#" ++ decimal (count_by is_unnamed vs)
 
 abbrev pub name_in : List Local → Option (List ℕ) → List ℕ
 name_in vs None = unnamed vs

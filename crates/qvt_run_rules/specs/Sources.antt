@@ -1,16 +1,19 @@
 -- What stands before a dot, an arrow, a mapping call or a resolve (OCL 2.4, 7.5.3 and 7.6.2): the wrap of a single value, null that is
 -- an empty collection, the implicit collect.
 use Rattle.std.specs.Prelude.{Bool, true, false, not, if◌then◌else◌, List, [], ◌∷◌, ◌++◌, filter, Option, Some, None}
+use Rattle.std.specs.List.{find}
 use Rattle.qvt_base.specs.declared.numbers.Oid.{Oid}
 use Rattle.qvt_base.specs.declared.numbers.Place.{Place}
-use Rattle.qvt_value.specs.declared.value.Value.{Value, Null, Obj, Invalid, Coll', items-the_row-Value}
+use Rattle.qvt_value.specs.declared.value.Value.{Value, Null, Obj, Invalid, Coll', items-the_row-Value, Row_of-Value, end_of-Value, more_of-Value}
 use Rattle.qvt_value.specs.declared.value.Value.TheViews.{Coll}
 use Rattle.qvt_value.specs.declared.value.Kind.{Kind}
 use Rattle.qvt_value.specs.declared.value.Kind.TheVariants.{Set, Bag, Sequence, OrderedSet}
 use Rattle.qvt_value.specs.declared.value.Reason.TheVariants.{NullSource}
 use Rattle.qvt_value.specs.Limits.{built}
+use Rattle.qvt_value.specs.Make.{is_invalid}
 use Rattle.qvt_ocl_words.specs.Collections.{is_in_order}
 use Rattle.qvt_ocl_words.specs.Lists.{is_null, flattened}
+use Rattle.qvt_run_rules.specs.Logic.{value_or}
 use Rattle.qvt_run_rules.specs.State.{Does, ◌>>=◌, pure, misfit}
 
 -- The arrow.
@@ -62,6 +65,10 @@ all_objects (v ∷ vs) = with_object v (all_objects vs)
 unfoldable pub objects_in : Value → Option (List Oid)
 objects_in v = all_objects (present_items (flattened (items_of v)))
 
+-- what a dot gives of null where a collection is: NullSource, unless an argument is invalid
+abbrev pub without_source : Place → List Value → Value
+without_source at ws = value_or (find is_invalid ws) (Invalid NullSource at)
+
 module _ {E : Type 0} where
   -- what follows a value that is not invalid
   abbrev pub unless_invalid : Value → Does E Value → Does E Value
@@ -85,12 +92,31 @@ module _ {E : Type 0} where
   abbrev pub as_flat : Place → Kind → List Value → Does E Value
   as_flat at k vs = pure (built at k (flattened vs))
 
-  -- The implicit collect: what a dot does for each item of a collection, flattened. On null it is NullSource.
-  abbrev pub collecting : Place → (Value → Does E Value) → Value → Does E Value
-  collecting at f Null = pure (Invalid NullSource at)
-  collecting at f v = over_items at (λ k vs. gathered (as_flat at (collected_kind k)) f [] (flattened vs)) v
+  -- The same over phrases, one after another.
+  abbrev pub in_turn : (List Value → Does E Value) → List Value → List (Does E Value) → Does E Value
+  in_turn finish done [] = finish done
+  in_turn finish done (p ∷ ps) = p >>= (λ w. unless_invalid w (in_turn finish (done ++ w ∷ []) ps))
+
+  -- The implicit collect: what a dot does, for each item of a collection in order, flattened. On an item that is a collection the dot does
+  -- likewise, so what it gives for a Set or a Bag within stands in the order of a Bag.
+  module _ (at : Place) (f : Value → Does E Value) where
+    abbrev mutual
+      pub for_items : Value → Does E Value
+      for_items (Coll' k s r) = in_turn (as_flat at (collected_kind k)) [] (for_row r)
+      for_items v = f v
+
+      pub for_row : {m : _} → Row_of-Value m → List (Does E Value)
+      for_row end_of-Value = []
+      for_row (more_of-Value v vs) = for_items v ∷ for_row vs
+
+  -- a dot over a collection, with these arguments
+  abbrev pub collecting : Place → List Value → (Value → Does E Value) → Value → Does E Value
+  collecting at ws f Null = pure (without_source at ws)
+  collecting at ws f (Invalid r p) = pure (Invalid r p)
+  collecting at ws f (Coll' k s r) = for_items at f (Coll' k s r)
+  collecting at ws f v = misfit at
 
   -- a dot, with or without it
-  abbrev pub dotted : Bool → Place → (Value → Does E Value) → Value → Does E Value
-  dotted true at f v = collecting at f v
-  dotted false at f v = f v
+  abbrev pub dotted : Bool → Place → List Value → (Value → Does E Value) → Value → Does E Value
+  dotted true at ws f v = collecting at ws f v
+  dotted false at ws f v = f v

@@ -190,11 +190,15 @@ pub fn names_model(heads: &Heads<'_>, scope: &Scope, path: &[Text]) -> bool
     }
 }
 
-/// The name of an iterator or a filter without one, by how many implicit sources stand around it.
+/// The name of an iterator or a filter without one, by how many of them stand around it.
 pub fn unnamed(alloc: Global, scope: &Scope) -> Result<Text, ListFault>
     ensures { IfOk result (λ t. t ≡ names.unnamed scope.now) }
 {
-    let count = scope.sources().len();
+    let count = scope
+        .sources()
+        .iter()
+        .filter(|v| v.name.as_str() != "#self")
+        .count();
     match format!(in alloc; "#{count}") {
         Ok(text) => Ok(Text::from_string(text)),
         Err(_) => Err(ListFault::NoMemory),

@@ -1,7 +1,8 @@
 -- What a name in an expression stands for: a variable, else a model, else a property of the nearest implicit source that has it
 -- (OCL 2.4, 7.4.3 and 7.6.1; QVT 1.3, 8.2.1).
-use Rattle.std.specs.Prelude.{ℕ, Bool, true, false, List, [], ◌∷◌, ◌++◌, length, position, Option, Some, None, Result, Ok, Err, codes}
+use Rattle.std.specs.Prelude.{ℕ, Bool, true, false, List, [], ◌∷◌, ◌++◌, not, position, Option, Some, None, Result, Ok, Err, codes}
 use Rattle.std.specs.Fmt.{decimal}
+use Rattle.std.specs.List.{count_by}
 use Rattle.std.specs.Str.{bytes_eq}
 use Rattle.qvt_base.specs.declared.numbers.ClassNo.{ClassNo}
 use Rattle.qvt_types_data.specs.Notes.{plain}
@@ -32,9 +33,13 @@ self_name = codes "#self"
 abbrev pub result_name : List ℕ
 result_name = codes "#result"
 
--- an iterator or a filter without a name, by how many implicit sources stand around it
+-- an implicit source that is not `self`
+abbrev pub is_unnamed : Variable → Bool
+is_unnamed v = not (bytes_eq v.name self_name)
+
+-- an iterator or a filter without a name, by how many of them stand around it
 abbrev pub unnamed : ScopeTerm → List ℕ
-unnamed s = codes "#" ++ decimal (length s.sources)
+unnamed s = codes "#" ++ decimal (count_by is_unnamed s.sources)
 
 -- an implicit source
 abbrev pub source : List ℕ → Option Ty → Variable
