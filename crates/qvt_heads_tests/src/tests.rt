@@ -1,0 +1,4 @@
+mod ground;
+mod shown;
+mod units;
+mod written;

@@ -1,0 +1,5 @@
+mod ground;
+mod names;
+mod shown;
+mod steps;
+mod types;
