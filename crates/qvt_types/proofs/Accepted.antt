@@ -1,5 +1,5 @@
 -- What is accepted, by what is told and noted.
-use Rattle.std.proofs.Common.{◌≡◌, ◌∙◌, List, [], ◌++◌, Option, Some, None, Result, Ok, Err, refl, sym, ap, subst}
+use Rattle.std.proofs.Common.{◌≡◌, ◌∙◌, List, [], ◌++◌, Option, Some, None, Result, Ok, Err, sym, ap, subst}
 use Rattle.qvt_metamodel.specs.Metamodels.{Metamodels}
 use Rattle.qvt_tree_types.specs.Module.{ModuleTerm}
 use Rattle.qvt_types_data.specs.declared.note.Note.{Note}
@@ -9,7 +9,6 @@ use Rattle.qvt_types_nodes.specs.Module.{TypedModuleTerm}
 use Rattle.qvt_types_nodes.specs.StripModule.{strip}
 use Rattle.qvt_types_states.specs.declared.state.State.{State}
 use Rattle.qvt_types_paths.specs.ModelTypes.{type_names}
-use Rattle.qvt_types_units.specs.Signatures.{signatures}
 use Rattle.qvt_types_heads.specs.declared.declarations.Declarations.{Declarations}
 use Rattle.qvt_types_heads.specs.Heads.{heads_over}
 use Rattle.qvt_typing.specs.Accepts.{ProgramTerm, accepts, accepted, accepted_by, heads_of, heads_told, judged, least, start, whole}

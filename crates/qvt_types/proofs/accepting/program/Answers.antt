@@ -1,4 +1,3 @@
-use Rattle.std.proofs.Common.{◌∙◌, ap}
 use Rattle.qvt_tree_types.specs.Module.{module_view}
 use Rattle.qvt_types_nodes.specs.Module.{typed_module_view}
 use Rattle.qvt_types.proofs.Accepted.{tables_so}
