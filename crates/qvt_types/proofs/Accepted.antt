@@ -1,5 +1,5 @@
 -- What is accepted, by what is told and noted.
-use Rattle.std.proofs.Common.{◌≡◌, ◌∙◌, List, Option, Some, None, Result, Ok, Err, refl, sym, ap, subst}
+use Rattle.std.proofs.Common.{◌≡◌, ◌∙◌, List, [], ◌++◌, Option, Some, None, Result, Ok, Err, sym, ap, subst}
 use Rattle.qvt_metamodel.specs.Metamodels.{Metamodels}
 use Rattle.qvt_tree_types.specs.Module.{ModuleTerm}
 use Rattle.qvt_types_data.specs.declared.note.Note.{Note}
@@ -9,17 +9,20 @@ use Rattle.qvt_types_nodes.specs.Module.{TypedModuleTerm}
 use Rattle.qvt_types_nodes.specs.StripModule.{strip}
 use Rattle.qvt_types_states.specs.declared.state.State.{State}
 use Rattle.qvt_types_paths.specs.ModelTypes.{type_names}
-use Rattle.qvt_types_units.specs.Signatures.{signatures}
 use Rattle.qvt_types_heads.specs.declared.declarations.Declarations.{Declarations}
 use Rattle.qvt_types_heads.specs.Heads.{heads_over}
 use Rattle.qvt_typing.specs.Accepts.{ProgramTerm, accepts, accepted, accepted_by, heads_of, heads_told, judged, least, start, whole}
 use Rattle.qvt_typing.specs.Context.{Heads}
+use Rattle.qvt_tree_types.specs.declared.module.ModelParam.{ModelParam}
 use Rattle.qvt_types_program.specs.Mappings.{AreNumbered}
+use Rattle.qvt_types_program.specs.Tables.{tables_of}
+use Rattle.qvt_types_program.specs.declared.tables.Tables.{Tables}
 use Rattle.qvt_types_program.specs.Program.{given_in, program_of}
 use Rattle.qvt_types_program.proofs.Signed.{signed_from}
 use Rattle.qvt_types.proofs.Given.{given_again}
 use Rattle.qvt_types.specs.Faults.{answered, fault_of}
 use Rattle.qvt_types.specs.Laws.{TreeStays}
+use Rattle.qvt_types.specs.declared.fault.TypingFault.{TypingFault}
 
 -- judged by the heads that were read
 abbrev pub IsJudged : Metamodels → ModuleTerm → Declarations → State → Type 0
@@ -67,3 +70,26 @@ in_program h t typed (Some r) p e stays = absurd (cc)
 pub tree_stays : ((t : ModuleTerm) (ns : List Note) → strip (joined t ns) ≡ t) → TreeStays
 unfolding accepts
 tree_stays leaves m t p e = in_program (heads_of m t) t (joined t (judged (heads_of m t) t).notes) (least (judged (heads_of m t) t).log) p e (leaves t (judged (heads_of m t) t).notes)
+
+-- what is told of the heads comes first
+pub judged_by : (m : Metamodels) (t : ModuleTerm) (d : Declarations) (h : Heads) (s : State) (before told : List Refusal)
+    → h ≡ heads_over m d → before ≡ [] → told ≡ before ++ heads_told (heads_of m t) t → whole h t (start told) ≡ (tt, s) → IsJudged m t d s
+judged_by m t d h s before told heads-are none-before told-is is =
+    ap (λ k. whole k t (start (heads_told (heads_of m t) t))) (sym heads-are)
+    ∙ ap (λ l. whole h t (start l)) (sym (told-is ∙ ap (λ l. l ++ heads_told (heads_of m t) t) none-before))
+    ∙ is
+
+-- the tables of a tree joined with notes are those of the tree
+pub tables_so : (t : ModuleTerm) (ns : List Note) (typed : TypedModuleTerm) (ps : List ModelParam) (d : Declarations) (tables : Tables)
+    → tables ≡ tables_of ps d → ps ≡ t.params → strip (joined t ns) ≡ t → typed ≡ joined t ns → tables ≡ tables_of (strip typed).params d
+tables_so t ns typed ps d tables is params-are leaves typed-is =
+    is ∙ ap (λ xs. tables_of xs d) (params-are ∙ ap (λ u. u.params) (sym leaves) ∙ ap (λ x. (strip x).params) (sym typed-is))
+
+pub accepted_as : (m : Metamodels) (t : ModuleTerm) (d : Declarations) (s : State) (ns : List Note) (p : ProgramTerm) → m.element ≡ None → heads_over m d ≡ heads_of m t → IsJudged m t d s → least s.log ≡ None
+    → ns ≡ s.notes → p ≡ program_of (joined t ns) d → accepts m t ≡ Ok p
+accepted_as m t d s ns p none same is quiet notes-are p-is =
+    accepted_so m t d s none same is quiet ∙ ap (λ q. Result.Ok q) (ap (λ xs. program_of (joined t xs) d) (sym notes-are) ∙ sym p-is)
+
+pub refused_as : (m : Metamodels) (t : ModuleTerm) (d : Declarations) (s : State) (r : Refusal) (f : TypingFault) → heads_over m d ≡ heads_of m t → IsJudged m t d s → least s.log ≡ Some r → f ≡ fault_of r
+    → answered (accepts m t) ≡ Err f
+refused_as m t d s r f same is told f-is = refused_so m t d s r same is told ∙ ap (λ e. Result.Err e) (sym f-is)

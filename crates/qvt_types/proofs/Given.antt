@@ -1,5 +1,5 @@
 -- The metamodels of the job are those of the program without what was put after them.
-use Rattle.std.proofs.Common.{◌≡◌, ◌∙◌, ℕ, ◌+◌, ◌-◌, List, [], ◌∷◌, ◌++◌, length, take, Option, Some, None, refl, sym, ap, arith, length-append}
+use Rattle.std.proofs.Common.{◌≡◌, ◌∙◌, ℕ, ◌+◌, ◌-◌, List, [], ◌∷◌, ◌++◌, length, take, Option, None, refl, sym, ap, arith, length-append}
 use Rattle.qvt_base.specs.declared.numbers.ClassNo.{ClassNo}
 use Rattle.qvt_metamodel.specs.Extended.{extended, unnamed, element_class, given_classes, given_features}
 use Rattle.qvt_metamodel.specs.Metamodels.{Metamodels}
@@ -8,7 +8,7 @@ use Rattle.qvt_metamodel.specs.declared.info.ClassInfo.{ClassInfo}
 use Rattle.qvt_metamodel.specs.declared.info.FeatureInfo.{FeatureInfo}
 use Rattle.qvt_metamodel.specs.declared.info.MetamodelInfo.{MetamodelInfo}
 use Rattle.qvt_tree_types.specs.Module.{ModuleTerm}
-use Rattle.qvt_types_paths.specs.ModelTypes.{NamedTypes, type_names}
+use Rattle.qvt_types_paths.specs.ModelTypes.{type_names}
 use Rattle.qvt_types_heads.specs.declared.declarations.Declarations.{Declarations}
 use Rattle.qvt_types_heads.specs.Heads.{heads_over}
 use Rattle.qvt_typing.specs.Accepts.{heads_of}

@@ -1,6 +1,6 @@
 //! What typing tells and notes of a transformation.
 
-ghost use Rattle.std.specs.Prelude.{◌≡◌, tt, IfOk};
+ghost use Rattle.std.specs.Prelude.{◌≡◌, IfOk};
 ghost use Rattle.qvt_tree_types.specs.Module.{module_view};
 ghost use Rattle.qvt_types_context.specs.Seen.{heads_seen};
 ghost use Rattle.qvt_types_states.specs.Does.{Does};
