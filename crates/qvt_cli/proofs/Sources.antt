@@ -5,13 +5,13 @@ use Rattle.std.proofs.lemmas.Str.{is_utf8-from_IsUtf8, IsUtf8-from_is_utf8}
 use Rattle.qvt_tree_types.specs.Module.{ModuleTerm, module_view}
 use Rattle.qvt_tree_types.specs.declared.module.Module.{Module}
 use Rattle.qvt_parsed.specs.Parsed.{parsed}
-use Rattle.qvt_cli.specs.Outcome.{Outcome, refused}
+use Rattle.qvt_outcome.specs.Outcome.{Outcome, refused}
 use Rattle.qvt_cli.specs.Source.{tree_in}
-use Rattle.qvt_cli.specs.Steps.{Stops, Gives, RefusedOrNoMemory, or_refused}
-use Rattle.qvt_cli.specs.declared.refusal.Refusal.{Refusal}
-use Rattle.qvt_cli.specs.declared.refusal.Refusal.TheVariants as refusal
-use Rattle.qvt_cli.specs.declared.stop.Stop.{Stop}
-use Rattle.qvt_cli.specs.declared.stop.Stop.TheVariants as stop
+use Rattle.qvt_outcome.specs.Steps.{Stops, Gives, RefusedOrNoMemory, or_refused}
+use Rattle.qvt_outcome.specs.declared.refusal.Refusal.{Refusal}
+use Rattle.qvt_outcome.specs.declared.refusal.Refusal.TheVariants as refusal
+use Rattle.qvt_outcome.specs.declared.stop.Stop.{Stop}
+use Rattle.qvt_outcome.specs.declared.stop.Stop.TheVariants as stop
 
 not_utf8 : (bytes : List ℕ) (b : Bool) → ¬ IsUtf8 bytes → is_utf8 bytes ≡ b → b ≡ false
 not_utf8 bytes true isnt is = absurd (isnt (IsUtf8-from_is_utf8 bytes is))

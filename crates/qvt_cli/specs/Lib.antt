@@ -1,16 +1,8 @@
-pub mod Chain
 pub mod Check
 pub mod Commands
-pub mod Follows
-pub mod Job
 pub mod Metas
-pub mod Outcome
-pub mod Parameters
-pub mod Plans
-pub mod Reported
 pub mod Source
 pub mod Printing
 pub mod Run
-pub mod Steps
 pub mod Words
 pub mod Work

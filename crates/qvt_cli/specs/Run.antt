@@ -14,15 +14,15 @@ use Rattle.qvt_small.specs.declared.text.SmallRun.{SmallRun}
 use Rattle.qvt_small.specs.SmallText.{small_of}
 use Rattle.qvt_small.specs.SmallRun.{run_of as small_run, cost, done_line}
 use Rattle.qvt_small.specs.SmallStore.{store_after}
-use Rattle.qvt_cli.specs.Job.{job_of}
-use Rattle.qvt_cli.specs.Parameters.{mismatch}
-use Rattle.qvt_cli.specs.declared.job.Job.{Job}
-use Rattle.qvt_cli.specs.declared.job.JobModel.{JobModel}
-use Rattle.qvt_cli.specs.declared.refusal.Refusal.TheVariants as refusal
+use Rattle.qvt_job.specs.Job.{job_of}
+use Rattle.qvt_job.specs.Parameters.{mismatch}
+use Rattle.qvt_job.specs.declared.job.Job.{Job}
+use Rattle.qvt_job.specs.declared.job.JobModel.{JobModel}
+use Rattle.qvt_outcome.specs.declared.refusal.Refusal.TheVariants as refusal
 use Rattle.qvt_cli.specs.Source.{tree_in}
-use Rattle.qvt_cli.specs.Outcome.{Outcome, File, refused, out_of_fuel, low, done}
-use Rattle.qvt_cli.specs.Steps.{built, or_refused}
-use Rattle.qvt_cli.specs.Chain.{Chain, step, ◌>=>◌, read_step}
+use Rattle.qvt_outcome.specs.Outcome.{Outcome, File, refused, out_of_fuel, low, done}
+use Rattle.qvt_outcome.specs.Steps.{built, or_refused}
+use Rattle.qvt_outcome.specs.Chain.{Chain, step, ◌>=>◌, read_step}
 use Rattle.qvt_cli.specs.Metas.{metamodels_read}
 
 -- a job without a trace

@@ -1,18 +1,18 @@
 //! The metamodels of files, in order.
 
 ghost use Rattle.std.specs.Prelude.{◌<◌, OnOk, length};
-ghost use Rattle.qvt_cli.specs.Follows.{Follows};
-ghost use Rattle.qvt_cli.specs.Steps.{Gives, IfFaultOf, IsFaultWith, StopsBy, or_refused};
+ghost use Rattle.qvt_outcome.specs.Follows.{Follows};
+ghost use Rattle.qvt_outcome.specs.Steps.{Gives, IfFaultOf, IsFaultWith, StopsBy, or_refused};
 ghost use Rattle.qvt_cli.specs.Metas.{with_metamodel, metas_in, metamodel_read, metamodels_read};
 
-use crate::fetch::{fetch, refused};
-use crate::refusal::Refusal;
-use crate::stop::Stop;
 use qvt_base::outside::Files;
 use qvt_base::text::Text;
 use qvt_meta::meta::{Meta, read_meta};
 use qvt_metamodel::fault::{MetaFault, MetasFault};
 use qvt_metas::metas::Metas;
+use qvt_outcome::fetch::{fetch, refused};
+use qvt_outcome::refusal::Refusal;
+use qvt_outcome::stop::Stop;
 use std::alloc::Global;
 
 /// The refusal of a metamodel's file.

@@ -1,29 +1,29 @@
 //! The command `run`: a job, and all that it names.
 
 ghost use Rattle.std.specs.Prelude.{◌≡◌, ◌≤◌, length, IfOk, IsTrue};
-ghost use Rattle.qvt_cli.specs.Follows.{Follows};
-ghost use Rattle.qvt_cli.specs.Steps.{Gives, IfFaultOf, IsFaultWith, RefusedOrNoMemory, StopsBy};
-ghost use Rattle.qvt_cli.specs.Plans.{outcome_of, IsReady};
+ghost use Rattle.qvt_outcome.specs.Follows.{Follows};
+ghost use Rattle.qvt_outcome.specs.Steps.{Gives, IfFaultOf, IsFaultWith, RefusedOrNoMemory, StopsBy};
+ghost use Rattle.qvt_outcome.specs.Plans.{outcome_of, IsReady};
 ghost use Rattle.qvt_cli.specs.Run.{job_in, job_read, small_in, tree_run, text_in, text_read, performed, after_metas, after_job, run_of};
 ghost use Rattle.qvt_tree_types.specs.Module.{module_view};
 ghost use Rattle.qvt_small.specs.SmallRun.{have_names, done_line};
 
-use crate::fetch::{fetch, refused};
-use crate::job::{Job, JobFault};
 use crate::metas::read_metamodels;
 use crate::outputs::finished;
-use crate::parameters::mismatch;
-use crate::plan::Plan;
-use crate::read_job::read_job;
-use crate::refusal::Refusal;
 use crate::source::tree_in;
-use crate::stop::Stop;
 use qvt_base::copied::Copied;
 use qvt_base::lists::Bytes;
 use qvt_base::outside::Files;
 use qvt_base::seq::Seq;
 use qvt_base::text::Text;
+use qvt_job::job::{Job, JobFault};
+use qvt_job::parameters::mismatch;
+use qvt_job::read_job::read_job;
 use qvt_metas::metas::Metas;
+use qvt_outcome::fetch::{fetch, refused};
+use qvt_outcome::plan::Plan;
+use qvt_outcome::refusal::Refusal;
+use qvt_outcome::stop::Stop;
 use qvt_small::made::made;
 use qvt_small::program::{cost_within, run_of};
 use qvt_small::text::{SmallRun, small_of};

@@ -1,9 +1,9 @@
 use Rattle.std.proofs.Common.{arith, subst}
 use Rattle.qvt_metamodel.specs.Metamodels.{Metamodels}
-use Rattle.qvt_cli.specs.Chain.{folded}
-use Rattle.qvt_cli.specs.Follows.{Follows}
+use Rattle.qvt_outcome.specs.Chain.{folded}
+use Rattle.qvt_outcome.specs.Follows.{Follows}
 use Rattle.qvt_cli.specs.Metas.{metamodel_read, metamodels_read}
-use Rattle.qvt_cli.proofs.Folded.{fails, goes_on, ends}
+use Rattle.qvt_outcome.proofs.Folded.{fails, goes_on, ends}
 use Rattle.qvt_cli.proofs.metas.read_metamodels.Goals as goal
 
 pub loop-name-init : goal.loop-name-init

@@ -1,7 +1,7 @@
 use Rattle.std.proofs.Common.{drop}
 use Rattle.qvt_metamodel.specs.Metamodels.{Metamodels}
-use Rattle.qvt_cli.specs.Chain.{folded}
-use Rattle.qvt_cli.specs.Follows.{Continues}
+use Rattle.qvt_outcome.specs.Chain.{folded}
+use Rattle.qvt_outcome.specs.Follows.{Continues}
 use Rattle.qvt_cli.specs.Metas.{metamodel_read, metamodels_read}
 use Rattle.qvt_cli.proofs.metas.read_metamodels.Given as goal
 

@@ -1,10 +1,10 @@
 use Rattle.std.proofs.Common.{ℕ, List, subst, Ok, Err}
 use Rattle.qvt_metamodel.specs.Metamodels.{Metamodels}
-use Rattle.qvt_cli.specs.Follows.{Follows}
+use Rattle.qvt_outcome.specs.Follows.{Follows}
 use Rattle.qvt_cli.specs.Metas.{metamodels_read}
-use Rattle.qvt_cli.specs.Plans.{outcome_of}
+use Rattle.qvt_outcome.specs.Plans.{outcome_of}
 use Rattle.qvt_cli.specs.Run.{after_job, after_metas}
-use Rattle.qvt_cli.proofs.Chained.{stopped, chained}
+use Rattle.qvt_outcome.proofs.Chained.{stopped, chained}
 use Rattle.qvt_cli.proofs.run.perform_job.Goals as goal
 
 pub returns-in-Err-clause-follows : goal.returns-in-Err-clause-follows
