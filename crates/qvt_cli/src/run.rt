@@ -1,11 +1,12 @@
 //! The command `run`: a job, and all that it names.
 
-ghost use Rattle.std.specs.Prelude.{◌≡◌, ◌≤◌, length, IfOk, IsTrue};
+ghost use Rattle.std.specs.Prelude.{◌≡◌, ◌≤◌, length, IfOk, IsTrue, MatchOption};
 ghost use Rattle.qvt_outcome.specs.Follows.{Follows};
 ghost use Rattle.qvt_outcome.specs.Steps.{Gives, IfFaultOf, IsFaultWith, RefusedOrNoMemory, StopsBy};
 ghost use Rattle.qvt_outcome.specs.Plans.{outcome_of, IsReady};
-ghost use Rattle.qvt_cli.specs.Run.{job_in, job_read, small_in, tree_run, text_in, text_read, performed, after_metas, after_job, run_of};
+ghost use Rattle.qvt_cli.specs.Run.{job_in, job_read, typed_in, small_in, tree_run, text_in, text_read, performed, after_metas, after_job, run_of};
 ghost use Rattle.qvt_tree_types.specs.Module.{module_view};
+ghost use Rattle.qvt_types.specs.Program.{program_view};
 ghost use Rattle.qvt_small.specs.SmallRun.{have_names, done_line};
 
 use crate::metas::read_metamodels;
@@ -28,6 +29,8 @@ use qvt_small::made::made;
 use qvt_small::program::{cost_within, run_of};
 use qvt_small::text::{SmallRun, small_of};
 use qvt_tree_types::module::Module;
+use qvt_types::accept::{Program, accept};
+use qvt_types_data::refusal::Refusal as TypingRefusal;
 use std::alloc::{AllocError, Global};
 
 /// The refusal of a job's file.
@@ -69,6 +72,40 @@ fn read_untraced<F: Files>(alloc: Global, files: &mut F, name: &Text) -> Result<
     }
 }
 
+/// The refusal of a text by the types of its parts; none is want of memory.
+fn typing_stop(alloc: Global, name: &Text, why: Option<TypingRefusal>) -> Stop
+    ensures stop { MatchOption why (result ≡ Stop.NoMemory) (λ r. RefusedOrNoMemory name.now (Refusal.Typing r) result) }
+    ensures no_reads { IsFaultWith result (λ file. ⊥) }
+{
+    match why {
+        None => Stop::NoMemory,
+        Some(why) => refused(alloc, name, Refusal::Typing(why)),
+    }
+}
+
+/// The program of a tree over the metamodels.
+#[tactic(auto, unfolding(crate::specs::Run::typed_in))]
+fn typed_in(alloc: Global, metas: &Metas, file: &Text, tree: &Module) -> Result<Program, Stop>
+    ensures no_reads { IfFaultOf result (λ file. ⊥) }
+    ensures gives { Gives program_view result (typed_in metas.now file.now (module_view tree.now)) }
+{
+    match accept(alloc, tree, metas) {
+        Ok(program) => Ok(program),
+        Err(fault) => Err(typing_stop(alloc, file, fault.refusal())),
+    }
+}
+
+/// The refusal of a job whose model of this name does not fit the transformation.
+fn models_stop(alloc: Global, name: &Text, model: &Text) -> Stop
+    ensures stop { RefusedOrNoMemory name.now (Refusal.JobModels model.now) result }
+    ensures no_reads { IsFaultWith result (λ file. ⊥) }
+{
+    match model.copy(alloc) {
+        Ok(model) => refused(alloc, name, Refusal::JobModels(model)),
+        Err(_) => Stop::NoMemory,
+    }
+}
+
 /// The small run of a tree, which fits the metamodel that it names.
 #[tactic(auto, unfolding(crate::specs::Run::small_in))]
 fn small_in(alloc: Global, metas: &Metas, file: &Text, tree: &Module) -> Result<SmallRun, Stop>
@@ -86,19 +123,8 @@ fn small_in(alloc: Global, metas: &Metas, file: &Text, tree: &Module) -> Result<
     }
 }
 
-/// The refusal of a job whose model of this name does not fit the transformation.
-fn models_stop(alloc: Global, name: &Text, model: &Text) -> Stop
-    ensures stop { RefusedOrNoMemory name.now (Refusal.JobModels model.now) result }
-    ensures no_reads { IsFaultWith result (λ file. ⊥) }
-{
-    match model.copy(alloc) {
-        Ok(model) => refused(alloc, name, Refusal::JobModels(model)),
-        Err(_) => Stop::NoMemory,
-    }
-}
-
-/// The small run of a tree, whose parameters are the models of the job.
-#[tactic(auto, unfolding(crate::specs::Run::tree_run, crate::specs::Run::with_models))]
+/// The small run of a tree that is typed, and whose parameters are the models of the job.
+#[tactic(auto, unfolding(crate::specs::Run::tree_run))]
 fn tree_run(
     alloc: Global,
     name: &Text,
@@ -110,11 +136,11 @@ fn tree_run(
     ensures gives { Gives (λ run. run) result (tree_run name.now job.now metas.now (module_view tree.now)) }
     ensures named { IfOk result (λ run. IsTrue (have_names metas.now run.metamodel run.model)) }
 {
-    match small_in(alloc, metas, &job.text, tree) {
+    match typed_in(alloc, metas, &job.text, tree) {
         Err(stop) => Err(stop),
-        Ok(run) => match mismatch(job, tree.params.as_slice()) {
+        Ok(_) => match mismatch(job, tree.params.as_slice()) {
             Some(model) => Err(models_stop(alloc, name, model)),
-            None => Ok(run),
+            None => small_in(alloc, metas, &job.text, tree),
         },
     }
 }

@@ -7,6 +7,9 @@ use Rattle.qvt_lexer.specs.declared.token.LexKind.{LexKind}
 use Rattle.qvt_lexer.specs.declared.token.LexKind.TheVariants as lex
 use Rattle.qvt_parsed.specs.declared.fault.ParseFault.{ParseFault}
 use Rattle.qvt_parsed.specs.declared.fault.ParseFault.TheVariants as parse
+use Rattle.qvt_types_data.specs.declared.refusal.Refusal.{Refusal as TypingRefusal}
+use Rattle.qvt_types_data.specs.declared.refusal.RefusalKind.{RefusalKind}
+use Rattle.qvt_types_data.specs.declared.refusal.RefusalKind.TheVariants as typing
 use Rattle.qvt_metamodel.specs.declared.fault.MetaFault.{MetaFault}
 use Rattle.qvt_metamodel.specs.declared.fault.MetaFault.TheVariants as meta
 use Rattle.qvt_metamodel.specs.declared.fault.MetasFault.{MetasFault}
@@ -68,6 +71,33 @@ parse_text (parse.Lex fault) = with_place (lex_name fault.kind) fault.place
 parse_text (parse.TooDeep place) = with_place (codes "TooDeep") place
 parse_text (parse.Syntax place) = with_place (codes "Syntax") place
 
+abbrev pub typing_name : RefusalKind → List ℕ
+typing_name typing.UnknownMetamodel = codes "UnknownMetamodel"
+typing_name typing.UnknownName = codes "UnknownName"
+typing_name typing.UnknownType = codes "UnknownType"
+typing_name typing.SameName = codes "SameName"
+typing_name typing.Ambiguous = codes "Ambiguous"
+typing_name typing.WrongType = codes "WrongType"
+typing_name typing.WrongCount = codes "WrongCount"
+typing_name typing.NotPure = codes "NotPure"
+typing_name typing.LatePlace = codes "LatePlace"
+typing_name typing.NotPlain = codes "NotPlain"
+typing_name typing.ReuseCycle = codes "ReuseCycle"
+typing_name typing.BadReuse = codes "BadReuse"
+typing_name typing.BadOverride = codes "BadOverride"
+typing_name typing.BadContext = codes "BadContext"
+typing_name typing.BadTarget = codes "BadTarget"
+typing_name typing.BadReturn = codes "BadReturn"
+typing_name typing.BadExtent = codes "BadExtent"
+typing_name typing.AbstractClass = codes "AbstractClass"
+typing_name typing.ResultPlace = codes "ResultPlace"
+typing_name typing.BadDisjunct = codes "BadDisjunct"
+typing_name typing.ModelUse = codes "ModelUse"
+typing_name typing.NoMain = codes "NoMain"
+
+abbrev pub typing_text : TypingRefusal → List ℕ
+typing_text r = with_place (typing_name r.kind) r.place
+
 abbrev pub job_text : JobFault → List ℕ
 job_text fault.NoMemory = codes "no memory"
 job_text fault.Json = codes "Json"
@@ -121,6 +151,7 @@ refusal_text refusal.TooManyObjects = codes "TooManyObjects"
 refusal_text (refusal.Conform why) = conform_text why
 refusal_text refusal.Utf8 = codes "Utf8"
 refusal_text (refusal.Parse why) = parse_text why
+refusal_text (refusal.Typing why) = typing_text why
 refusal_text (refusal.JobModels model) = with_one (codes "JobModels") model
 refusal_text refusal.NotBuilt = codes "NotBuilt"
 

@@ -4,6 +4,7 @@ use qvt_job::job::JobFault;
 use qvt_metamodel::fault::{MetaFault, MetasFault};
 use qvt_model::data::ModelFault;
 use qvt_parsed::fault::ParseFault;
+use qvt_types_data::refusal::Refusal as TypingRefusal;
 
 /// Why a file was refused.
 pub enum Refusal {
@@ -27,6 +28,8 @@ pub enum Refusal {
     Utf8,
     /// The text is no transformation.
     Parse(ParseFault),
+    /// The transformation does not go with its metamodels, by the types of its parts.
+    Typing(TypingRefusal),
     /// The job's models are not those of the transformation's parameters: the first that does not fit.
     JobModels(Text),
     /// What the file asks for is not built yet.
@@ -46,6 +49,7 @@ impl Drop for Refusal {
             Refusal::Conform(why) => {}
             Refusal::Utf8 => {}
             Refusal::Parse(why) => {}
+            Refusal::Typing(why) => {}
             Refusal::JobModels(model) => {}
             Refusal::NotBuilt => {}
         }

@@ -1,7 +1,7 @@
 //! The names of refusals with what they carry.
 
 ghost use Rattle.std.specs.Prelude.{◌≡◌, IfOk, string_bytes};
-ghost use Rattle.qvt_outcome.specs.Outcome.{with_one, with_two, with_place, lex_name, job_text, parse_text, metamodel_text, metamodels_text, model_text, conform_text};
+ghost use Rattle.qvt_outcome.specs.Outcome.{with_one, with_two, with_place, lex_name, job_text, parse_text, typing_name, typing_text, metamodel_text, metamodels_text, model_text, conform_text};
 
 use qvt_base::numbers::Place;
 use qvt_base::text::Text;
@@ -11,6 +11,7 @@ use qvt_lexer::token::LexKind;
 use qvt_metamodel::fault::{MetaFault, MetasFault};
 use qvt_model::data::ModelFault;
 use qvt_parsed::fault::ParseFault;
+use qvt_types_data::refusal::{Refusal, RefusalKind};
 use std::alloc::{AllocError, Global};
 
 /// A name and what it carries.
@@ -72,6 +73,42 @@ pub fn parse_text(alloc: Global, why: &ParseFault) -> Result<String, AllocError>
         ParseFault::TooDeep(place) => with_place(alloc, "TooDeep", *place),
         ParseFault::Syntax(place) => with_place(alloc, "Syntax", *place),
     }
+}
+
+fn typing_name(kind: RefusalKind) -> &'static str
+    ensures { result.now ≡ typing_name kind }
+{
+    match kind {
+        RefusalKind::UnknownMetamodel => "UnknownMetamodel",
+        RefusalKind::UnknownName => "UnknownName",
+        RefusalKind::UnknownType => "UnknownType",
+        RefusalKind::SameName => "SameName",
+        RefusalKind::Ambiguous => "Ambiguous",
+        RefusalKind::WrongType => "WrongType",
+        RefusalKind::WrongCount => "WrongCount",
+        RefusalKind::NotPure => "NotPure",
+        RefusalKind::LatePlace => "LatePlace",
+        RefusalKind::NotPlain => "NotPlain",
+        RefusalKind::ReuseCycle => "ReuseCycle",
+        RefusalKind::BadReuse => "BadReuse",
+        RefusalKind::BadOverride => "BadOverride",
+        RefusalKind::BadContext => "BadContext",
+        RefusalKind::BadTarget => "BadTarget",
+        RefusalKind::BadReturn => "BadReturn",
+        RefusalKind::BadExtent => "BadExtent",
+        RefusalKind::AbstractClass => "AbstractClass",
+        RefusalKind::ResultPlace => "ResultPlace",
+        RefusalKind::BadDisjunct => "BadDisjunct",
+        RefusalKind::ModelUse => "ModelUse",
+        RefusalKind::NoMain => "NoMain",
+    }
+}
+
+/// The refusal of a transformation by its types.
+pub fn typing_text(alloc: Global, why: Refusal) -> Result<String, AllocError>
+    ensures { IfOk result (λ text. string_bytes text ≡ typing_text why) }
+{
+    with_place(alloc, typing_name(why.kind), why.place)
 }
 
 /// The refusal of a metamodel.

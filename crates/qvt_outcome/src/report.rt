@@ -5,7 +5,8 @@ ghost use Rattle.qvt_outcome.specs.Reported.{IsWhole, IsCut, Reports};
 
 use crate::refusal::Refusal;
 use crate::refusal_text::{
-    conform_text, job_text, metamodel_text, metamodels_text, model_text, parse_text, with_one,
+    conform_text, job_text, metamodel_text, metamodels_text, model_text, parse_text, typing_text,
+    with_one,
 };
 use crate::status::Status;
 use crate::stop::Stop;
@@ -82,6 +83,7 @@ fn refusal_text(alloc: Global, why: &Refusal) -> Result<String, AllocError>
         Refusal::Conform(why) => conform_text(alloc, why),
         Refusal::Utf8 => String::from_str(alloc, "Utf8"),
         Refusal::Parse(why) => parse_text(alloc, why),
+        Refusal::Typing(why) => typing_text(alloc, *why),
         Refusal::JobModels(model) => with_one(alloc, "JobModels", model),
         Refusal::NotBuilt => String::from_str(alloc, "NotBuilt"),
     }
