@@ -1,6 +1,6 @@
 //! The command `run`: a job, and all that it names.
 
-ghost use Rattle.std.specs.Prelude.{◌≡◌, ◌≤◌, length, IfOk, IsTrue, MatchOption};
+ghost use Rattle.std.specs.Prelude.{◌≡◌, ◌≤◌, length, None, IfOk, IsTrue, MatchOption};
 ghost use Rattle.qvt_outcome.specs.Follows.{Follows};
 ghost use Rattle.qvt_outcome.specs.Steps.{Gives, IfFaultOf, IsFaultWith, RefusedOrNoMemory, StopsBy};
 ghost use Rattle.qvt_outcome.specs.Plans.{outcome_of, IsReady};
@@ -86,6 +86,7 @@ fn typing_stop(alloc: Global, name: &Text, why: Option<TypingRefusal>) -> Stop
 /// The program of a tree over the metamodels.
 #[tactic(auto, unfolding(crate::specs::Run::typed_in))]
 fn typed_in(alloc: Global, metas: &Metas, file: &Text, tree: &Module) -> Result<Program, Stop>
+    requires { metas.now.element ≡ None }
     ensures no_reads { IfFaultOf result (λ file. ⊥) }
     ensures gives { Gives program_view result (typed_in metas.now file.now (module_view tree.now)) }
 {
@@ -132,6 +133,7 @@ fn tree_run(
     metas: &Metas,
     tree: &Module,
 ) -> Result<SmallRun, Stop>
+    requires { metas.now.element ≡ None }
     ensures no_reads { IfFaultOf result (λ file. ⊥) }
     ensures gives { Gives (λ run. run) result (tree_run name.now job.now metas.now (module_view tree.now)) }
     ensures named { IfOk result (λ run. IsTrue (have_names metas.now run.metamodel run.model)) }
@@ -154,7 +156,8 @@ fn text_in(
     metas: &Metas,
     bytes: &[u8],
 ) -> Result<SmallRun, Stop>
-    requires { length bytes.now ≤ 262144 }
+    requires few { length bytes.now ≤ 262144 }
+    requires element { metas.now.element ≡ None }
     ensures no_reads { IfFaultOf result (λ file. ⊥) }
     ensures gives { Gives (λ run. run) result (text_in name.now job.now metas.now bytes.now) }
     ensures named { IfOk result (λ run. IsTrue (have_names metas.now run.metamodel run.model)) }
@@ -173,6 +176,7 @@ fn read_text<F: Files>(
     job: &Job,
     metas: &Metas,
 ) -> Result<SmallRun, Stop>
+    requires { metas.now.element ≡ None }
     ensures follows { Follows (λ run. run) (text_read name.now job.now metas.now) (F.seen files.old) result (F.seen files.new) }
     ensures named { IfOk result (λ run. IsTrue (have_names metas.now run.metamodel run.model)) }
 {
@@ -218,6 +222,7 @@ fn perform_with_metas<F: Files>(
     job: &Job,
     metas: &Metas,
 ) -> Result<Plan, Stop>
+    requires { metas.now.element ≡ None }
     ensures follows { Follows outcome_of (after_metas name.now job.now metas.now) (F.seen files.old) result (F.seen files.new) }
     ensures ready { IfOk result (λ p. IsReady p.outputs) }
 {
