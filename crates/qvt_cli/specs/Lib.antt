@@ -4,5 +4,6 @@ pub mod Metas
 pub mod Source
 pub mod Printing
 pub mod Run
+pub mod Typing
 pub mod Words
 pub mod Work

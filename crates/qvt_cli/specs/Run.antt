@@ -10,7 +10,6 @@ use Rattle.qvt_model.specs.Written.{model_text}
 use Rattle.qvt_conform.specs.LowerBounds.{low_of}
 use Rattle.qvt_conform.specs.declared.fault.LowFault.{LowFault}
 use Rattle.qvt_tree_types.specs.Module.{ModuleTerm}
-use Rattle.qvt_typing.specs.Accepts.{ProgramTerm, accepts}
 use Rattle.qvt_small.specs.declared.text.SmallRun.{SmallRun}
 use Rattle.qvt_small.specs.SmallText.{small_of}
 use Rattle.qvt_small.specs.SmallRun.{run_of as small_run, cost, done_line}
@@ -21,6 +20,7 @@ use Rattle.qvt_job.specs.declared.job.Job.{Job}
 use Rattle.qvt_job.specs.declared.job.JobModel.{JobModel}
 use Rattle.qvt_outcome.specs.declared.refusal.Refusal.TheVariants as refusal
 use Rattle.qvt_cli.specs.Source.{tree_in}
+use Rattle.qvt_cli.specs.Typing.{typed_in}
 use Rattle.qvt_outcome.specs.Outcome.{Outcome, File, refused, out_of_fuel, low, done}
 use Rattle.qvt_outcome.specs.Steps.{built, or_refused}
 use Rattle.qvt_outcome.specs.Chain.{Chain, step, ◌>=>◌, read_step}
@@ -36,10 +36,6 @@ job_in name bytes = or_refused refusal.Job name (job_of bytes) >>= (λ job. buil
 -- reads the job
 unfoldable pub job_read : List ℕ → Chain Job
 job_read name = read_step name 65536 >=> (λ bytes. step (job_in name bytes))
-
--- the program of a tree over the metamodels, or what typing refuses of it
-unfoldable pub typed_in : Metamodels → List ℕ → ModuleTerm → Result ProgramTerm Outcome
-typed_in metas file tree = or_refused refusal.Typing file (accepts metas tree)
 
 -- the models of the job are those of the tree
 abbrev pub unless_mismatch : List ℕ → Option (List ℕ) → Result ⊤ Outcome

@@ -8,5 +8,6 @@ pub mod print;
 pub mod run;
 pub mod source;
 pub mod top;
+pub mod typing;
 pub mod words;
 pub mod work;

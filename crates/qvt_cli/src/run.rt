@@ -1,17 +1,17 @@
 //! The command `run`: a job, and all that it names.
 
-ghost use Rattle.std.specs.Prelude.{◌≡◌, ◌≤◌, length, None, IfOk, IsTrue, MatchOption};
+ghost use Rattle.std.specs.Prelude.{◌≡◌, ◌≤◌, length, None, IfOk, IsTrue};
 ghost use Rattle.qvt_outcome.specs.Follows.{Follows};
 ghost use Rattle.qvt_outcome.specs.Steps.{Gives, IfFaultOf, IsFaultWith, RefusedOrNoMemory, StopsBy};
 ghost use Rattle.qvt_outcome.specs.Plans.{outcome_of, IsReady};
-ghost use Rattle.qvt_cli.specs.Run.{job_in, job_read, typed_in, small_in, tree_run, text_in, text_read, performed, after_metas, after_job, run_of};
+ghost use Rattle.qvt_cli.specs.Run.{job_in, job_read, small_in, tree_run, text_in, text_read, performed, after_metas, after_job, run_of};
 ghost use Rattle.qvt_tree_types.specs.Module.{module_view};
-ghost use Rattle.qvt_types.specs.Program.{program_view};
 ghost use Rattle.qvt_small.specs.SmallRun.{have_names, done_line};
 
 use crate::metas::read_metamodels;
 use crate::outputs::finished;
 use crate::source::tree_in;
+use crate::typing::typed_in;
 use qvt_base::copied::Copied;
 use qvt_base::lists::Bytes;
 use qvt_base::outside::Files;
@@ -29,8 +29,6 @@ use qvt_small::made::made;
 use qvt_small::program::{cost_within, run_of};
 use qvt_small::text::{SmallRun, small_of};
 use qvt_tree_types::module::Module;
-use qvt_types::accept::{Program, accept};
-use qvt_types_data::refusal::Refusal as TypingRefusal;
 use std::alloc::{AllocError, Global};
 
 /// The refusal of a job's file.
@@ -69,30 +67,6 @@ fn read_untraced<F: Files>(alloc: Global, files: &mut F, name: &Text) -> Result<
     match fetch(alloc, files, name, 65_536) {
         Err(stop) => Err(stop),
         Ok(bytes) => job_in(alloc, name, bytes.as_slice()),
-    }
-}
-
-/// The refusal of a text by the types of its parts; none is want of memory.
-fn typing_stop(alloc: Global, name: &Text, why: Option<TypingRefusal>) -> Stop
-    ensures stop { MatchOption why (result ≡ Stop.NoMemory) (λ r. RefusedOrNoMemory name.now (Refusal.Typing r) result) }
-    ensures no_reads { IsFaultWith result (λ file. ⊥) }
-{
-    match why {
-        None => Stop::NoMemory,
-        Some(why) => refused(alloc, name, Refusal::Typing(why)),
-    }
-}
-
-/// The program of a tree over the metamodels.
-#[tactic(auto, unfolding(crate::specs::Run::typed_in))]
-fn typed_in(alloc: Global, metas: &Metas, file: &Text, tree: &Module) -> Result<Program, Stop>
-    requires { metas.now.element ≡ None }
-    ensures no_reads { IfFaultOf result (λ file. ⊥) }
-    ensures gives { Gives program_view result (typed_in metas.now file.now (module_view tree.now)) }
-{
-    match accept(alloc, tree, metas) {
-        Ok(program) => Ok(program),
-        Err(fault) => Err(typing_stop(alloc, file, fault.refusal())),
     }
 }
 
