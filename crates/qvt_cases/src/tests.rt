@@ -5,7 +5,7 @@ use super::call;
 use qvt_base::mem_files::MemFiles;
 use qvt_base::mem_sink::MemSink;
 use qvt_base::seq::Seq;
-use qvt_cli::status::Status;
+use qvt_outcome::status::Status;
 use std::alloc::Global;
 
 const FILES: [(&str, &str); 5] = [

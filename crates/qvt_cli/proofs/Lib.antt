@@ -1,10 +1,5 @@
-pub mod Chained
-pub mod Ended
 pub mod Faults
-pub mod Folded
 pub mod Planned
 pub mod Ran
-pub mod Sent
-pub mod Settle
 pub mod Sources
-pub mod Written
+mod Typings

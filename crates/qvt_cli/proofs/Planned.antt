@@ -7,11 +7,11 @@ use Rattle.qvt_base.specs.declared.numbers.Oid.{Oid}
 use Rattle.qvt_store.specs.Contents.{Contents}
 use Rattle.qvt_model.specs.Extents.{numbers, place_of, data_of}
 use Rattle.qvt_model.specs.Written.{model_text}
-use Rattle.qvt_cli.specs.Outcome.{File, write_fault_line}
-use Rattle.qvt_cli.specs.Plans.{file_of, files_in, IsReady}
+use Rattle.qvt_outcome.specs.Outcome.{File, write_fault_line}
+use Rattle.qvt_outcome.specs.Plans.{file_of, files_in, IsReady}
 use Rattle.qvt_cli.specs.Run.{written}
-use Rattle.qvt_cli.specs.declared.job.JobModel.{JobModel}
-use Rattle.qvt_cli.specs.declared.plan.Output.{Output}
+use Rattle.qvt_job.specs.declared.job.JobModel.{JobModel}
+use Rattle.qvt_outcome.specs.declared.plan.Output.{Output}
 
 files_push : (outputs : List Output) (o : Output) → files_in (outputs ++ o ∷ []) ≡ files_in outputs ++ file_of o ∷ []
 files_push [] o = refl

@@ -11,14 +11,14 @@ use Rattle.qvt_small.specs.SmallRun.{cost, done_line}
 use Rattle.qvt_small.specs.SmallStore.{store_after}
 use Rattle.qvt_small.specs.declared.text.SmallObject.{SmallObject}
 use Rattle.qvt_small.specs.declared.text.SmallRun.{SmallRun}
-use Rattle.qvt_cli.specs.Outcome.{Outcome, File, out_of_fuel, done}
-use Rattle.qvt_cli.specs.Plans.{files_in, outcome_of}
+use Rattle.qvt_outcome.specs.Outcome.{Outcome, File, out_of_fuel, done}
+use Rattle.qvt_outcome.specs.Plans.{files_in, outcome_of}
 use Rattle.qvt_cli.specs.Run.{low_outcome, written, finished, performed}
-use Rattle.qvt_cli.specs.Steps.{Stops, Gives}
-use Rattle.qvt_cli.specs.declared.job.Job.{Job}
-use Rattle.qvt_cli.specs.declared.plan.Output.{Output}
-use Rattle.qvt_cli.specs.declared.plan.Plan.{Plan}
-use Rattle.qvt_cli.specs.declared.stop.Stop.{Stop}
+use Rattle.qvt_outcome.specs.Steps.{Stops, Gives}
+use Rattle.qvt_job.specs.declared.job.Job.{Job}
+use Rattle.qvt_outcome.specs.declared.plan.Output.{Output}
+use Rattle.qvt_outcome.specs.declared.plan.Plan.{Plan}
+use Rattle.qvt_outcome.specs.declared.stop.Stop.{Stop}
 
 -- an object has too few items
 pub low_stops : (job : Job) (s : Contents) (line : List ℕ) (low : LowFault) (e : Stop) → Some low ≡ low_of s 0 → Stops {A = Outcome} e (Err (low_outcome s low)) → Stops e (finished job s line)

@@ -5,20 +5,20 @@ use Rattle.std.proofs.lemmas.Str.{is_utf8-from_IsUtf8, IsUtf8-from_is_utf8}
 use Rattle.qvt_tree_types.specs.Module.{ModuleTerm, module_view}
 use Rattle.qvt_tree_types.specs.declared.module.Module.{Module}
 use Rattle.qvt_parsed.specs.Parsed.{parsed}
-use Rattle.qvt_cli.specs.Outcome.{Outcome, refused}
+use Rattle.qvt_outcome.specs.Outcome.{Outcome, refused}
 use Rattle.qvt_cli.specs.Source.{tree_in}
-use Rattle.qvt_cli.specs.Steps.{Stops, Gives, RefusedOrNoMemory, or_refused}
-use Rattle.qvt_cli.specs.declared.refusal.Refusal.{Refusal}
-use Rattle.qvt_cli.specs.declared.refusal.Refusal.TheVariants as refusal
-use Rattle.qvt_cli.specs.declared.stop.Stop.{Stop}
-use Rattle.qvt_cli.specs.declared.stop.Stop.TheVariants as stop
+use Rattle.qvt_outcome.specs.Steps.{Stops, Gives, RefusedOrNoMemory, or_refused}
+use Rattle.qvt_outcome.specs.declared.refusal.Refusal.{Refusal}
+use Rattle.qvt_outcome.specs.declared.refusal.Refusal.TheVariants as refusal
+use Rattle.qvt_outcome.specs.declared.stop.Stop.{Stop}
+use Rattle.qvt_outcome.specs.declared.stop.Stop.TheVariants as stop
 
 not_utf8 : (bytes : List ℕ) (b : Bool) → ¬ IsUtf8 bytes → is_utf8 bytes ≡ b → b ≡ false
 not_utf8 bytes true isnt is = absurd (isnt (IsUtf8-from_is_utf8 bytes is))
 not_utf8 bytes false isnt is = refl
 
 -- a file that is refused
-refused_stops : {A : Type 0} (name : List ℕ) (why : Refusal) (e : Stop) (r : Result A Outcome) → r ≡ Err (refused name why) → RefusedOrNoMemory name why e → Stops e r
+pub refused_stops : {A : Type 0} (name : List ℕ) (why : Refusal) (e : Stop) (r : Result A Outcome) → r ≡ Err (refused name why) → RefusedOrNoMemory name why e → Stops e r
 refused_stops name why (stop.Refused file cause) r is h = is ∙ (λ i. Err (refused (sym h.0 i) (sym h.1 i)))
 refused_stops name why (stop.OutOfFuel fuel) r is h = absurd h
 refused_stops name why (stop.Low model id feature) r is h = absurd h

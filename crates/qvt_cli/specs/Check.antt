@@ -7,11 +7,11 @@ use Rattle.qvt_model.specs.Reading.{model_of}
 use Rattle.qvt_model.specs.declared.data.ObjectData.{ObjectData}
 use Rattle.qvt_conform.specs.Conformance.{conform_fault}
 use Rattle.qvt_conform.specs.declared.fault.ConformFault.{ConformFault}
-use Rattle.qvt_cli.specs.Outcome.{Outcome, refused, done, conforms_line}
+use Rattle.qvt_outcome.specs.Outcome.{Outcome, refused, done, conforms_line}
 use Rattle.qvt_cli.specs.Metas.{no_metamodels, metamodel_read}
-use Rattle.qvt_cli.specs.Steps.{or_refused}
-use Rattle.qvt_cli.specs.Chain.{Chain, step, ◌>=>◌, read_step}
-use Rattle.qvt_cli.specs.declared.refusal.Refusal.TheVariants as refusal
+use Rattle.qvt_outcome.specs.Steps.{or_refused}
+use Rattle.qvt_outcome.specs.Chain.{Chain, step, ◌>=>◌, read_step}
+use Rattle.qvt_outcome.specs.declared.refusal.Refusal.TheVariants as refusal
 
 abbrev pub most_objects : ℕ
 most_objects = 1000000

@@ -1,16 +1,9 @@
-pub mod Chain
 pub mod Check
 pub mod Commands
-pub mod Follows
-pub mod Job
 pub mod Metas
-pub mod Outcome
-pub mod Parameters
-pub mod Plans
-pub mod Reported
 pub mod Source
 pub mod Printing
 pub mod Run
-pub mod Steps
+pub mod Typing
 pub mod Words
 pub mod Work

@@ -8,10 +8,10 @@ use Rattle.qvt_metamodel.specs.declared.declared.MetaData.{MetaData}
 use Rattle.qvt_metamodel.specs.declared.fault.MetasFault.{MetasFault}
 use Rattle.qvt_metamodel.specs.declared.fault.MetasFault.TheVariants.{SameMetamodel}
 use Rattle.qvt_meta.specs.MetaOf.{meta_of}
-use Rattle.qvt_cli.specs.Outcome.{Outcome}
-use Rattle.qvt_cli.specs.Steps.{or_refused}
-use Rattle.qvt_cli.specs.Chain.{Chain, step, folded, ◌>=>◌, read_step}
-use Rattle.qvt_cli.specs.declared.refusal.Refusal.TheVariants as refusal
+use Rattle.qvt_outcome.specs.Outcome.{Outcome}
+use Rattle.qvt_outcome.specs.Steps.{or_refused}
+use Rattle.qvt_outcome.specs.Chain.{Chain, step, folded, ◌>=>◌, read_step}
+use Rattle.qvt_outcome.specs.declared.refusal.Refusal.TheVariants as refusal
 
 abbrev pub no_metamodels : Metamodels
 no_metamodels = record { metamodels = []; classes = []; features = []; element = None }

@@ -2,9 +2,9 @@
 use Rattle.std.specs.Prelude.{ℕ, List, [], Result, Ok}
 use Rattle.qvt_tree_types.specs.Module.{ModuleTerm}
 use Rattle.qvt_printer.specs.PrintText.{print_text}
-use Rattle.qvt_cli.specs.Outcome.{Outcome, done}
+use Rattle.qvt_outcome.specs.Outcome.{Outcome, done}
 use Rattle.qvt_cli.specs.Source.{tree_in}
-use Rattle.qvt_cli.specs.Chain.{Chain, step, ◌>=>◌, read_step}
+use Rattle.qvt_outcome.specs.Chain.{Chain, step, ◌>=>◌, read_step}
 
 -- reads the text
 unfoldable pub tree_read : List ℕ → Chain ModuleTerm

@@ -1,6 +1,6 @@
--- What `run JOB` does over the bytes that the files hold: the job, its metamodels, its text, whether its models are the
--- text's, the fuel, and the lower bounds of what is written, in this order.
-use Rattle.std.specs.Prelude.{ℕ, List, [], ◌∷◌, map, length, nat_lt, is_some, if◌then◌else◌, Option, Some, None, option_map, option_and_then, Result, Ok, Err}
+-- What `run JOB` does over the bytes that the files hold: the job, its metamodels, its text, the types of the text's parts,
+-- whether its models are the text's, whether the text is small, the fuel, and the lower bounds of what is written, in this order.
+use Rattle.std.specs.Prelude.{ℕ, List, [], ◌∷◌, map, length, nat_lt, is_some, if◌then◌else◌, Option, Some, None, option_map, option_and_then, Result, Ok, Err, ⊤}
 use Rattle.qvt_json.specs.Steps.{◌>>=◌, none_of}
 use Rattle.qvt_metamodel.specs.Metamodels.{Metamodels, feature_at}
 use Rattle.qvt_store.specs.Contents.{Contents, extent_at, members_of}
@@ -14,15 +14,16 @@ use Rattle.qvt_small.specs.declared.text.SmallRun.{SmallRun}
 use Rattle.qvt_small.specs.SmallText.{small_of}
 use Rattle.qvt_small.specs.SmallRun.{run_of as small_run, cost, done_line}
 use Rattle.qvt_small.specs.SmallStore.{store_after}
-use Rattle.qvt_cli.specs.Job.{job_of}
-use Rattle.qvt_cli.specs.Parameters.{mismatch}
-use Rattle.qvt_cli.specs.declared.job.Job.{Job}
-use Rattle.qvt_cli.specs.declared.job.JobModel.{JobModel}
-use Rattle.qvt_cli.specs.declared.refusal.Refusal.TheVariants as refusal
+use Rattle.qvt_job.specs.Job.{job_of}
+use Rattle.qvt_job.specs.Parameters.{mismatch}
+use Rattle.qvt_job.specs.declared.job.Job.{Job}
+use Rattle.qvt_job.specs.declared.job.JobModel.{JobModel}
+use Rattle.qvt_outcome.specs.declared.refusal.Refusal.TheVariants as refusal
 use Rattle.qvt_cli.specs.Source.{tree_in}
-use Rattle.qvt_cli.specs.Outcome.{Outcome, File, refused, out_of_fuel, low, done}
-use Rattle.qvt_cli.specs.Steps.{built, or_refused}
-use Rattle.qvt_cli.specs.Chain.{Chain, step, ◌>=>◌, read_step}
+use Rattle.qvt_cli.specs.Typing.{typed_in}
+use Rattle.qvt_outcome.specs.Outcome.{Outcome, File, refused, out_of_fuel, low, done}
+use Rattle.qvt_outcome.specs.Steps.{built, or_refused}
+use Rattle.qvt_outcome.specs.Chain.{Chain, step, ◌>=>◌, read_step}
 use Rattle.qvt_cli.specs.Metas.{metamodels_read}
 
 -- a job without a trace
@@ -36,16 +37,20 @@ job_in name bytes = or_refused refusal.Job name (job_of bytes) >>= (λ job. buil
 unfoldable pub job_read : List ℕ → Chain Job
 job_read name = read_step name 65536 >=> (λ bytes. step (job_in name bytes))
 
--- the small run of a tree, which fits a metamodel
+-- the models of the job are those of the tree
+abbrev pub unless_mismatch : List ℕ → Option (List ℕ) → Result ⊤ Outcome
+unless_mismatch name other = none_of (option_map (λ model. refused name (refusal.JobModels model)) other)
+
+-- the small run of a tree
 unfoldable pub small_in : Metamodels → List ℕ → ModuleTerm → Result SmallRun Outcome
 small_in metas file tree = built file (option_and_then (small_run metas) (small_of tree))
 
--- the models of the job are those of the tree
-unfoldable pub with_models : List ℕ → Job → ModuleTerm → SmallRun → Result SmallRun Outcome
-with_models name job tree run = none_of (option_map (λ model. refused name (refusal.JobModels model)) (mismatch job tree.params)) >>= (λ _. Ok run)
-
+-- the tree is typed, its models are the job's, and it is small
 unfoldable pub tree_run : List ℕ → Job → Metamodels → ModuleTerm → Result SmallRun Outcome
-tree_run name job metas tree = small_in metas job.text tree >>= with_models name job tree
+tree_run name job metas tree = do
+  _ ← typed_in metas job.text tree
+  _ ← unless_mismatch name (mismatch job tree.params)
+  small_in metas job.text tree
 
 unfoldable pub text_in : List ℕ → Job → Metamodels → List ℕ → Result SmallRun Outcome
 text_in name job metas bytes = tree_in job.text bytes >>= tree_run name job metas

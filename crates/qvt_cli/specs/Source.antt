@@ -3,9 +3,9 @@ use Rattle.std.specs.Prelude.{ℕ, List, Result, Err, if◌then◌else◌}
 use Rattle.std.specs.Str.{is_utf8}
 use Rattle.qvt_tree_types.specs.Module.{ModuleTerm}
 use Rattle.qvt_parsed.specs.Parsed.{parsed}
-use Rattle.qvt_cli.specs.Outcome.{Outcome, refused}
-use Rattle.qvt_cli.specs.Steps.{or_refused}
-use Rattle.qvt_cli.specs.declared.refusal.Refusal.TheVariants as refusal
+use Rattle.qvt_outcome.specs.Outcome.{Outcome, refused}
+use Rattle.qvt_outcome.specs.Steps.{or_refused}
+use Rattle.qvt_outcome.specs.declared.refusal.Refusal.TheVariants as refusal
 
 -- the tree of a file's bytes
 unfoldable pub tree_in : List ℕ → List ℕ → Result ModuleTerm Outcome

@@ -1,12 +1,12 @@
 -- The outcome of the words of a command line over the bytes that the files hold, and the names that are read for it.
 use Rattle.std.specs.Prelude.{List, ℕ, Option, Some, None, Ok}
 use Rattle.qvt_base.specs.Outside.{Held}
-use Rattle.qvt_cli.specs.Chain.{Chain, step}
+use Rattle.qvt_outcome.specs.Chain.{Chain, step}
 use Rattle.qvt_cli.specs.Check.{check_of}
-use Rattle.qvt_cli.specs.Outcome.{Outcome, usage}
+use Rattle.qvt_outcome.specs.Outcome.{Outcome, usage}
 use Rattle.qvt_cli.specs.Printing.{print_of}
 use Rattle.qvt_cli.specs.Run.{run_of}
-use Rattle.qvt_cli.specs.Steps.{settled}
+use Rattle.qvt_outcome.specs.Steps.{settled}
 use Rattle.qvt_cli.specs.Words.{Command, run, check, print, command_of}
 
 abbrev pub work_of : Command → Chain Outcome

@@ -3,17 +3,12 @@
 ghost use Rattle.std.specs.Prelude.{◌≡◌, ◌<◌, [], IfOk, IfErr, length};
 ghost use Rattle.qvt_conform.specs.Conformance.{IsWellFormed, conform_fault};
 ghost use Rattle.qvt_cli.specs.Check.{unless_fault, conforming, model_in, model_read, after_metamodel, check_of};
-ghost use Rattle.qvt_cli.specs.Outcome.{done, conforms_line};
-ghost use Rattle.qvt_cli.specs.Plans.{outcome_of, IsReady};
-ghost use Rattle.qvt_cli.specs.Follows.{Follows};
-ghost use Rattle.qvt_cli.specs.Steps.{Gives, IfFaultOf, IsFaultWith, StopsBy};
+ghost use Rattle.qvt_outcome.specs.Outcome.{done, conforms_line};
+ghost use Rattle.qvt_outcome.specs.Plans.{outcome_of, IsReady};
+ghost use Rattle.qvt_outcome.specs.Follows.{Follows};
+ghost use Rattle.qvt_outcome.specs.Steps.{Gives, IfFaultOf, IsFaultWith, StopsBy};
 
-use crate::fetch::{fetch, refused};
 use crate::metas::read_metamodel;
-use crate::plan::Plan;
-use crate::refusal::Refusal;
-use crate::report::conforms_line;
-use crate::stop::Stop;
 use qvt_base::outside::Files;
 use qvt_base::seq::Seq;
 use qvt_base::text::Text;
@@ -22,6 +17,11 @@ use qvt_conform::fault::ConformFault;
 use qvt_metas::metas::Metas;
 use qvt_model::data::{ModelData, ModelFault};
 use qvt_model::read::read_model;
+use qvt_outcome::fetch::{fetch, refused};
+use qvt_outcome::plan::Plan;
+use qvt_outcome::refusal::Refusal;
+use qvt_outcome::report::conforms_line;
+use qvt_outcome::stop::Stop;
 use std::alloc::Global;
 
 /// How many objects a store holds at most.

@@ -1,18 +1,18 @@
 //! The metamodels of files, in order.
 
-ghost use Rattle.std.specs.Prelude.{◌<◌, OnOk, length};
-ghost use Rattle.qvt_cli.specs.Follows.{Follows};
-ghost use Rattle.qvt_cli.specs.Steps.{Gives, IfFaultOf, IsFaultWith, StopsBy, or_refused};
+ghost use Rattle.std.specs.Prelude.{◌≡◌, ◌<◌, None, IfOk, OnOk, length};
+ghost use Rattle.qvt_outcome.specs.Follows.{Follows};
+ghost use Rattle.qvt_outcome.specs.Steps.{Gives, IfFaultOf, IsFaultWith, StopsBy, or_refused};
 ghost use Rattle.qvt_cli.specs.Metas.{with_metamodel, metas_in, metamodel_read, metamodels_read};
 
-use crate::fetch::{fetch, refused};
-use crate::refusal::Refusal;
-use crate::stop::Stop;
 use qvt_base::outside::Files;
 use qvt_base::text::Text;
 use qvt_meta::meta::{Meta, read_meta};
 use qvt_metamodel::fault::{MetaFault, MetasFault};
 use qvt_metas::metas::Metas;
+use qvt_outcome::fetch::{fetch, refused};
+use qvt_outcome::refusal::Refusal;
+use qvt_outcome::stop::Stop;
 use std::alloc::Global;
 
 /// The refusal of a metamodel's file.
@@ -43,6 +43,7 @@ fn add_metamodel(alloc: Global, metas: &mut Metas, name: &Text, meta: Meta) -> R
     ensures no_reads { IfFaultOf result (λ file. ⊥) }
     ensures gives { Gives (λ _. metas.new) result (or_refused Refusal.Metamodels name.now (with_metamodel metas.old meta)) }
     ensures some { OnOk result (0 < length metas.new.metamodels) }
+    ensures element { OnOk result (metas.new.element ≡ metas.old.element) }
 {
     if !metas.has_room(&meta) {
         return Err(Stop::NoMemory);
@@ -59,6 +60,7 @@ fn add_bytes(alloc: Global, metas: &mut Metas, name: &Text, bytes: &[u8]) -> Res
     ensures no_reads { IfFaultOf result (λ file. ⊥) }
     ensures gives { Gives (λ _. metas.new) result (metas_in metas.old name.now bytes.now) }
     ensures some { OnOk result (0 < length metas.new.metamodels) }
+    ensures element { OnOk result (metas.new.element ≡ metas.old.element) }
 {
     match read_meta(alloc, bytes) {
         Err(why) => Err(meta_stop(alloc, name, why)),
@@ -75,6 +77,7 @@ pub fn read_metamodel<F: Files>(
 ) -> Result<(), Stop>
     ensures follows { Follows (λ _. metas.new) (metamodel_read metas.old name.now) (F.seen files.old) result (F.seen files.new) }
     ensures some { OnOk result (0 < length metas.new.metamodels) }
+    ensures element { OnOk result (metas.new.element ≡ metas.old.element) }
 {
     match fetch(alloc, files, name, 1_048_576) {
         Err(stop) => Err(stop),
@@ -88,7 +91,8 @@ pub fn read_metamodels<F: Files>(
     files: &mut F,
     names: &[Text],
 ) -> Result<Metas, Stop>
-    ensures { Follows (λ metas. metas) (metamodels_read names.now) (F.seen files.old) result (F.seen files.new) }
+    ensures follows { Follows (λ metas. metas) (metamodels_read names.now) (F.seen files.old) result (F.seen files.new) }
+    ensures element { IfOk result (λ metas. metas.element ≡ None) }
 {
     let mut metas = Metas::new(alloc);
     for name in names {

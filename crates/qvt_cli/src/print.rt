@@ -3,18 +3,18 @@
 ghost use Rattle.std.specs.Prelude.{◌≡◌, [], IfOk, IfErr};
 ghost use Rattle.qvt_tree_types.specs.Module.{module_view};
 ghost use Rattle.qvt_printer.specs.PrintText.{print_text};
-ghost use Rattle.qvt_cli.specs.Outcome.{done};
-ghost use Rattle.qvt_cli.specs.Plans.{outcome_of, IsReady};
+ghost use Rattle.qvt_outcome.specs.Outcome.{done};
+ghost use Rattle.qvt_outcome.specs.Plans.{outcome_of, IsReady};
 ghost use Rattle.qvt_cli.specs.Printing.{tree_read, print_of};
-ghost use Rattle.qvt_cli.specs.Follows.{Follows};
+ghost use Rattle.qvt_outcome.specs.Follows.{Follows};
 
-use crate::fetch::fetch;
-use crate::plan::Plan;
 use crate::source::tree_in;
-use crate::stop::Stop;
 use qvt_base::outside::Files;
 use qvt_base::seq::Seq;
 use qvt_base::text::Text;
+use qvt_outcome::fetch::fetch;
+use qvt_outcome::plan::Plan;
+use qvt_outcome::stop::Stop;
 use qvt_printer::print::print;
 use qvt_tree_types::module::Module;
 use std::alloc::Global;

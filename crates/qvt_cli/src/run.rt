@@ -1,29 +1,30 @@
 //! The command `run`: a job, and all that it names.
 
-ghost use Rattle.std.specs.Prelude.{◌≡◌, ◌≤◌, length, IfOk, IsTrue};
-ghost use Rattle.qvt_cli.specs.Follows.{Follows};
-ghost use Rattle.qvt_cli.specs.Steps.{Gives, IfFaultOf, IsFaultWith, RefusedOrNoMemory, StopsBy};
-ghost use Rattle.qvt_cli.specs.Plans.{outcome_of, IsReady};
+ghost use Rattle.std.specs.Prelude.{◌≡◌, ◌≤◌, length, None, IfOk, IsTrue};
+ghost use Rattle.qvt_outcome.specs.Follows.{Follows};
+ghost use Rattle.qvt_outcome.specs.Steps.{Gives, IfFaultOf, IsFaultWith, RefusedOrNoMemory, StopsBy};
+ghost use Rattle.qvt_outcome.specs.Plans.{outcome_of, IsReady};
 ghost use Rattle.qvt_cli.specs.Run.{job_in, job_read, small_in, tree_run, text_in, text_read, performed, after_metas, after_job, run_of};
 ghost use Rattle.qvt_tree_types.specs.Module.{module_view};
 ghost use Rattle.qvt_small.specs.SmallRun.{have_names, done_line};
 
-use crate::fetch::{fetch, refused};
-use crate::job::{Job, JobFault};
 use crate::metas::read_metamodels;
 use crate::outputs::finished;
-use crate::parameters::mismatch;
-use crate::plan::Plan;
-use crate::read_job::read_job;
-use crate::refusal::Refusal;
 use crate::source::tree_in;
-use crate::stop::Stop;
+use crate::typing::typed_in;
 use qvt_base::copied::Copied;
 use qvt_base::lists::Bytes;
 use qvt_base::outside::Files;
 use qvt_base::seq::Seq;
 use qvt_base::text::Text;
+use qvt_job::job::{Job, JobFault};
+use qvt_job::parameters::mismatch;
+use qvt_job::read_job::read_job;
 use qvt_metas::metas::Metas;
+use qvt_outcome::fetch::{fetch, refused};
+use qvt_outcome::plan::Plan;
+use qvt_outcome::refusal::Refusal;
+use qvt_outcome::stop::Stop;
 use qvt_small::made::made;
 use qvt_small::program::{cost_within, run_of};
 use qvt_small::text::{SmallRun, small_of};
@@ -69,6 +70,17 @@ fn read_untraced<F: Files>(alloc: Global, files: &mut F, name: &Text) -> Result<
     }
 }
 
+/// The refusal of a job whose model of this name does not fit the transformation.
+fn models_stop(alloc: Global, name: &Text, model: &Text) -> Stop
+    ensures stop { RefusedOrNoMemory name.now (Refusal.JobModels model.now) result }
+    ensures no_reads { IsFaultWith result (λ file. ⊥) }
+{
+    match model.copy(alloc) {
+        Ok(model) => refused(alloc, name, Refusal::JobModels(model)),
+        Err(_) => Stop::NoMemory,
+    }
+}
+
 /// The small run of a tree, which fits the metamodel that it names.
 #[tactic(auto, unfolding(crate::specs::Run::small_in))]
 fn small_in(alloc: Global, metas: &Metas, file: &Text, tree: &Module) -> Result<SmallRun, Stop>
@@ -86,19 +98,8 @@ fn small_in(alloc: Global, metas: &Metas, file: &Text, tree: &Module) -> Result<
     }
 }
 
-/// The refusal of a job whose model of this name does not fit the transformation.
-fn models_stop(alloc: Global, name: &Text, model: &Text) -> Stop
-    ensures stop { RefusedOrNoMemory name.now (Refusal.JobModels model.now) result }
-    ensures no_reads { IsFaultWith result (λ file. ⊥) }
-{
-    match model.copy(alloc) {
-        Ok(model) => refused(alloc, name, Refusal::JobModels(model)),
-        Err(_) => Stop::NoMemory,
-    }
-}
-
-/// The small run of a tree, whose parameters are the models of the job.
-#[tactic(auto, unfolding(crate::specs::Run::tree_run, crate::specs::Run::with_models))]
+/// The small run of a tree that is typed, and whose parameters are the models of the job.
+#[tactic(auto, unfolding(crate::specs::Run::tree_run))]
 fn tree_run(
     alloc: Global,
     name: &Text,
@@ -106,15 +107,16 @@ fn tree_run(
     metas: &Metas,
     tree: &Module,
 ) -> Result<SmallRun, Stop>
+    requires { metas.now.element ≡ None }
     ensures no_reads { IfFaultOf result (λ file. ⊥) }
     ensures gives { Gives (λ run. run) result (tree_run name.now job.now metas.now (module_view tree.now)) }
     ensures named { IfOk result (λ run. IsTrue (have_names metas.now run.metamodel run.model)) }
 {
-    match small_in(alloc, metas, &job.text, tree) {
+    match typed_in(alloc, metas, &job.text, tree) {
         Err(stop) => Err(stop),
-        Ok(run) => match mismatch(job, tree.params.as_slice()) {
+        Ok(_) => match mismatch(job, tree.params.as_slice()) {
             Some(model) => Err(models_stop(alloc, name, model)),
-            None => Ok(run),
+            None => small_in(alloc, metas, &job.text, tree),
         },
     }
 }
@@ -128,7 +130,8 @@ fn text_in(
     metas: &Metas,
     bytes: &[u8],
 ) -> Result<SmallRun, Stop>
-    requires { length bytes.now ≤ 262144 }
+    requires few { length bytes.now ≤ 262144 }
+    requires element { metas.now.element ≡ None }
     ensures no_reads { IfFaultOf result (λ file. ⊥) }
     ensures gives { Gives (λ run. run) result (text_in name.now job.now metas.now bytes.now) }
     ensures named { IfOk result (λ run. IsTrue (have_names metas.now run.metamodel run.model)) }
@@ -147,6 +150,7 @@ fn read_text<F: Files>(
     job: &Job,
     metas: &Metas,
 ) -> Result<SmallRun, Stop>
+    requires { metas.now.element ≡ None }
     ensures follows { Follows (λ run. run) (text_read name.now job.now metas.now) (F.seen files.old) result (F.seen files.new) }
     ensures named { IfOk result (λ run. IsTrue (have_names metas.now run.metamodel run.model)) }
 {
@@ -192,6 +196,7 @@ fn perform_with_metas<F: Files>(
     job: &Job,
     metas: &Metas,
 ) -> Result<Plan, Stop>
+    requires { metas.now.element ≡ None }
     ensures follows { Follows outcome_of (after_metas name.now job.now metas.now) (F.seen files.old) result (F.seen files.new) }
     ensures ready { IfOk result (λ p. IsReady p.outputs) }
 {

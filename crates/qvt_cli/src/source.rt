@@ -4,12 +4,12 @@ ghost use Rattle.std.specs.Prelude.{◌≡◌, ◌≤◌, ◌+◌, ◌<◌, ◌^
 ghost use Rattle.qvt_tree_types.specs.Module.{module_view};
 ghost use Rattle.qvt_parsed.specs.Parsed.{parsed};
 ghost use Rattle.qvt_cli.specs.Source.{tree_in};
-ghost use Rattle.qvt_cli.specs.Steps.{Gives, IfFaultOf, IsFaultWith, StopsBy, or_refused};
+ghost use Rattle.qvt_outcome.specs.Steps.{Gives, IfFaultOf, IsFaultWith, StopsBy, or_refused};
 
-use crate::fetch::refused;
-use crate::refusal::Refusal;
-use crate::stop::Stop;
 use qvt_base::text::Text;
+use qvt_outcome::fetch::refused;
+use qvt_outcome::refusal::Refusal;
+use qvt_outcome::stop::Stop;
 use qvt_parsed::fault::ParseFault;
 use qvt_parser::parse::parse;
 use qvt_tree_types::module::Module;

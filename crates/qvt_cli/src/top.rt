@@ -1,19 +1,19 @@
 ghost use Rattle.std.specs.Prelude.{◌≡◌, ◌≢◌, ◌⊎◌, Some, None};
 ghost use Rattle.qvt_base.specs.Outside.{Held};
-ghost use Rattle.qvt_cli.specs.Outcome.{status_of, usage_line};
-ghost use Rattle.qvt_cli.specs.Reported.{Answers, Fails, NoneRose, IsWhole, outside};
+ghost use Rattle.qvt_outcome.specs.Outcome.{status_of, usage_line};
+ghost use Rattle.qvt_outcome.specs.Reported.{Answers, Fails, NoneRose, IsWhole, outside};
 ghost use Rattle.qvt_cli.specs.Commands.{command_view};
 ghost use Rattle.qvt_cli.specs.Work.{work_of, job, turns};
-ghost use Rattle.qvt_cli.specs.Steps.{settled};
+ghost use Rattle.qvt_outcome.specs.Steps.{settled};
 ghost use Rattle.qvt_cli.specs.Words.{command_of};
 
-use crate::plan::carry_out;
-use crate::report::{finish, report};
-use crate::status::Status;
 use crate::words::{Command, command_of};
 use crate::work::perform;
 use qvt_base::lists::WordList;
 use qvt_base::outside::{Files, Sink};
+use qvt_outcome::plan::carry_out;
+use qvt_outcome::report::{finish, report};
+use qvt_outcome::status::Status;
 use std::alloc::Global;
 
 /// Does the work of a command, and reports.

@@ -1,16 +1,16 @@
 ghost use Rattle.std.specs.Prelude.{IfOk};
 ghost use Rattle.qvt_cli.specs.Commands.{command_view};
-ghost use Rattle.qvt_cli.specs.Plans.{outcome_of, IsReady};
-ghost use Rattle.qvt_cli.specs.Follows.{Follows};
+ghost use Rattle.qvt_outcome.specs.Plans.{outcome_of, IsReady};
+ghost use Rattle.qvt_outcome.specs.Follows.{Follows};
 ghost use Rattle.qvt_cli.specs.Work.{work_of};
 
 use crate::check::perform_check;
-use crate::plan::Plan;
 use crate::print::perform_print;
 use crate::run::perform_run;
-use crate::stop::Stop;
 use crate::words::Command;
 use qvt_base::outside::Files;
+use qvt_outcome::plan::Plan;
+use qvt_outcome::stop::Stop;
 use std::alloc::Global;
 
 /// Does the work of a command up to its first write, and plans what is to be written.

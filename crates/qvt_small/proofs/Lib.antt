@@ -1,2 +1,3 @@
 mod Alls
+mod Attributes
 pub mod Making

@@ -1,23 +1,24 @@
 -- What holds while the objects are made, and what each step of it needs.
-use Rattle.std.proofs.Common.{◌≡◌, ◌∙◌, ap, sym, refl, subst, arith, ℕ, zero, suc, ◌+◌, ◌<◌, List, [], ◌∷◌, drop, length, length-append, get_or, fold, add-one, Bool, true, false, ◌||◌, ◌&&◌, ◌==◌, cond, Some, ℤ}
+use Rattle.std.proofs.Common.{◌≡◌, ◌∙◌, ap, sym, refl, subst, arith, ℕ, zero, suc, ◌+◌, ◌<◌, List, [], ◌∷◌, drop, length, length-append, get_or, fold, add-one, Bool, true, false, ◌||◌, ◌&&◌, ◌==◌, cond, Some}
 use Rattle.std.specs.Prelude.{nat_lt, find, slice_index_or}
 use Rattle.std.specs.Str.{bytes_eq}
 use Rattle.std.proofs.Math.Seq.{drop-cons}
 use Rattle.std.proofs.lemmas.Bool.{eq-eqb, eqb-true, lt-ltb, ltb-true}
 use Rattle.std.proofs.lemmas.List.Quantifiers.{position-Some}
-use Rattle.qvt_relation.proofs.Bools.{and_left, and_right}
+use Rattle.qvt_relation.proofs.Bools.{and_left, and_right, and_both}
 use Rattle.std.proofs.lemmas.List.{length-set}
 use Rattle.qvt_base.specs.declared.numbers.FeatureNo.{FeatureNo}
 use Rattle.qvt_value.specs.declared.value.Value.{Value}
-use Rattle.qvt_value.specs.declared.value.Value.TheVariants.{Int as IntValue}
-use Rattle.qvt_metamodel.specs.declared.info.TypeKind.TheVariants.{Int}
-use Rattle.qvt_metamodel.specs.Metamodels.{Metamodels, nowhere_class, among_features, class_at, shape_of, is_single, has_feature}
+use Rattle.qvt_metamodel.specs.declared.info.TypeKind.{TypeKind}
+use Rattle.qvt_metamodel.specs.declared.info.TypeKind.TheVariants.{Bool as BoolKind, Int as IntKind, Str as StrKind, Enum as EnumKind, Class as ClassKind}
+use Rattle.qvt_metamodel.specs.Descends.{is_class_type}
+use Rattle.qvt_metamodel.specs.Metamodels.{Metamodels, nowhere_class, among_features, class_at, shape_of, has_feature}
 use Rattle.qvt_metamodel.specs.Named.{metamodel_at, class_named}
 use Rattle.qvt_slots.specs.declared.extent.Extent.{Extent}
 use Rattle.qvt_slots.specs.Contents.{Contents, AreNamed, is_named, no_extent, class_of, is_live, is_extent, extent_at, with_new, with_slot}
-use Rattle.qvt_slots.specs.Types.{IsAssignable, IsAttributeChange}
+use Rattle.qvt_slots.specs.Types.{is_of_kind, IsAssignable}
 use Rattle.qvt_store.specs.Sound.{IsClassFor, Sound}
-use Rattle.qvt_small.specs.SmallRun.{have_names}
+use Rattle.qvt_small.specs.SmallRun.{takes, have_names}
 use Rattle.qvt_small.specs.SmallStore.{outputs, IsMaking, HasOutput}
 use Rattle.qvt_small.specs.declared.text.SmallRun.{SmallRun}
 
@@ -48,6 +49,20 @@ found_among p (g ∷ gs) f h = found_case p g gs f (p g) (found_among p gs f) h
 pub class_of_metamodel : (m : Metamodels) (k : ℕ) (name : List ℕ) (c : ℕ) → class_named m k name ≡ Some c → (class_at m c).metamodel ≡ k
 class_of_metamodel m k name c h = eqb-true (class_at m c).metamodel k (and_left ((class_at m c).metamodel == k) _ (position-Some (λ c. (c.metamodel == k) && bytes_eq name c.name) m.classes c nowhere_class h).1)
 
+of_kind : (s : Contents) (k : TypeKind) (v : Value) → takes k v ≡ true → is_of_kind s k v ≡ true
+of_kind s BoolKind v h = cc
+of_kind s IntKind v h = h
+of_kind s StrKind v h = h
+of_kind s (EnumKind k e) v h = cc
+of_kind s (ClassKind c) v h = cc
+
+pub no_class : (k : TypeKind) (v : Value) → takes k v ≡ true → is_class_type k ≡ false
+no_class BoolKind v h = refl
+no_class IntKind v h = refl
+no_class StrKind v h = refl
+no_class (EnumKind k e) v h = refl
+no_class (ClassKind c) v h = cc
+
 first_extent : (r : SmallRun) (e : ℕ) → nat_lt e 1 ≡ true → (slice_index_or (outputs r) e no_extent).writable ≡ true
 first_extent r zero h = refl
 first_extent r (suc e) h = absurd (let q = ltb-true (suc e) 1 h in omega (arith, q))
@@ -56,12 +71,8 @@ module _ (r : SmallRun) (s : Contents) (making : IsMaking r s) where
   pub writable : (e : ℕ) → is_extent s e ≡ true → (extent_at s e).writable ≡ true
   writable e = subst (λ xs. nat_lt e (length xs) ≡ true → (slice_index_or xs e no_extent).writable ≡ true) (sym making.extents) (first_extent r e)
 
-  module _ (x f : ℕ) (z : ℤ) (live : is_live s x ≡ true) (there : has_feature s.metas (class_of s x) f ≡ true) (kind : (shape_of s.metas f).kind ≡ Int) (single : is_single s.metas f ≡ true) where
-    pub assignable : IsAssignable s x f (IntValue z ∷ [])
-    assignable = record { live = live; feature = there; types = cc }
-
-    pub attribute_change : IsAttributeChange s x f (IntValue z ∷ [])
-    attribute_change = record { attribute = cc; single = single; few = omega arith; writable = writable _ (making.sound.parts.classes x live).extent }
+  pub assignable : (x f : ℕ) (v : Value) → is_live s x ≡ true → has_feature s.metas (class_of s x) f ≡ true → takes (shape_of s.metas f).kind v ≡ true → IsAssignable s x f (v ∷ [])
+  assignable x f v live there fits = record { live = live; feature = there; types = and_both _ _ (of_kind s (shape_of s.metas f).kind v fits) refl }
 
   pub set_making : (x f : ℕ) (vs : List Value) (s' : Contents) → s' ≡ with_slot s x f vs → Sound s' → IsMaking r s'
   set_making x f vs s' is sound = record { extents = ap (λ (t : Contents). t.extents) is ∙ making.extents; sound = sound }

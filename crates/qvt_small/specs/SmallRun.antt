@@ -6,31 +6,31 @@ use Rattle.std.specs.Str.{bytes_eq}
 use Rattle.qvt_base.specs.declared.numbers.FeatureNo.{FeatureNo}
 use Rattle.qvt_metamodel.specs.declared.info.TypeKind.{TypeKind}
 use Rattle.qvt_metamodel.specs.declared.info.TypeKind.TheVariants.{Bool as BoolKind, Int as IntKind, Str as StrKind, Enum as EnumKind, Class as ClassKind}
-use Rattle.qvt_metamodel.specs.Metamodels.{Metamodels, class_at, shape_of, is_single}
+use Rattle.qvt_metamodel.specs.Metamodels.{Metamodels, class_at, shape_of}
 use Rattle.qvt_metamodel.specs.Named.{metamodel_at, class_named, feature_named, metamodel_named}
+use Rattle.qvt_value.specs.declared.value.Value.{Value}
 use Rattle.qvt_slots.specs.Contents.{is_named}
+use Rattle.qvt_slots.specs.Types.{is_int, is_text}
 use Rattle.qvt_small.specs.declared.text.Assignment.{Assignment}
 use Rattle.qvt_small.specs.declared.text.SmallObject.{SmallObject}
 use Rattle.qvt_small.specs.declared.text.SmallText.{SmallText}
 use Rattle.qvt_small.specs.declared.text.SmallRun.{SmallRun}
 
-abbrev pub is_integer : TypeKind → Bool
-is_integer BoolKind = false
-is_integer IntKind = true
-is_integer StrKind = false
-is_integer (EnumKind k e) = false
-is_integer (ClassKind c) = false
+-- a value that a text can write is of the type
+abbrev pub takes : TypeKind → Value → Bool
+takes BoolKind v = false
+takes IntKind v = is_int v
+takes StrKind v = is_text v
+takes (EnumKind k e) v = false
+takes (ClassKind c) v = false
 
-abbrev pub holds_one_integer : Metamodels → FeatureNo → Bool
-holds_one_integer m f = is_integer (shape_of m f.0).kind && is_single m f.0
+abbrev pub if_takes : Metamodels → Value → Option FeatureNo → Option FeatureNo
+if_takes m v None = None
+if_takes m v (Some f) = if takes (shape_of m f.0).kind v then Some f else None
 
-abbrev pub if_holds_one : Metamodels → Option FeatureNo → Option FeatureNo
-if_holds_one m None = None
-if_holds_one m (Some f) = if holds_one_integer m f then Some f else None
-
--- the attribute of this name that objects of the class have, if it holds one Integer
-abbrev pub attribute_named : Metamodels → ℕ → List ℕ → Option FeatureNo
-attribute_named m c name = if_holds_one m (feature_named m c name)
+-- the attribute that an assignment in an object of the class sets, if it is of the type of the literal
+abbrev pub attribute_of : Metamodels → ℕ → Assignment → Option FeatureNo
+attribute_of m c a = if_takes m a.value (feature_named m c a.attribute)
 
 abbrev pub if_concrete : Metamodels → Option ℕ → Option ℕ
 if_concrete m None = None
@@ -40,9 +40,9 @@ if_concrete m (Some c) = if (class_at m c).is_abstract then None else Some c
 abbrev pub concrete_named : Metamodels → ℕ → List ℕ → Option ℕ
 concrete_named m k name = if_concrete m (class_named m k name)
 
--- the name is that of an attribute of the class
+-- the name is that of an attribute of the class, which takes the literal
 abbrev pub is_attribute : Metamodels → ℕ → Assignment → Bool
-is_attribute m c a = is_some (attribute_named m c a.attribute)
+is_attribute m c a = is_some (attribute_of m c a)
 
 abbrev pub fits_class : Metamodels → SmallObject → ℕ → Bool
 fits_class m o c = list_all (is_attribute m c) o.assignments

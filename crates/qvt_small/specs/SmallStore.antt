@@ -2,23 +2,22 @@
 -- in order, so that the last literal of an attribute stays (QVT 1.3, 8.2.2.24 and 8.2.2.12).
 use Rattle.std.specs.Prelude.{◌≡◌, ℕ, true, List, [], ◌∷◌, length, fold, Option, Some, None, IsTrue}
 use Rattle.qvt_base.specs.declared.numbers.FeatureNo.{FeatureNo}
-use Rattle.qvt_value.specs.declared.value.Value.TheVariants.{Int as IntValue}
 use Rattle.qvt_metamodel.specs.Metamodels.{Metamodels}
 use Rattle.qvt_slots.specs.declared.extent.Extent.{Extent}
 use Rattle.qvt_slots.specs.Contents.{Contents, class_of, extent_at, is_extent, is_model, with_new, with_slot}
 use Rattle.qvt_store.specs.Sound.{Sound}
-use Rattle.qvt_small.specs.SmallRun.{attribute_named, concrete_named}
+use Rattle.qvt_small.specs.SmallRun.{attribute_of, concrete_named}
 use Rattle.qvt_small.specs.declared.text.SmallRun.{SmallRun}
 use Rattle.qvt_small.specs.declared.text.Assignment.{Assignment}
 use Rattle.qvt_small.specs.declared.text.SmallObject.{SmallObject}
 
 abbrev pub with_attribute : Contents → ℕ → Option FeatureNo → Assignment → Contents
 with_attribute s x None a = s
-with_attribute s x (Some f) a = with_slot s x f.0 (IntValue a.value ∷ [])
+with_attribute s x (Some f) a = with_slot s x f.0 (a.value ∷ [])
 
--- the attribute of the object holds the literal alone
+-- the attribute of the object holds the literal alone, also where it may hold several
 abbrev pub with_assignment : ℕ → Contents → Assignment → Contents
-with_assignment x s a = with_attribute s x (attribute_named s.metas (class_of s x) a.attribute) a
+with_assignment x s a = with_attribute s x (attribute_of s.metas (class_of s x) a) a
 
 abbrev pub with_class : Contents → Option ℕ → SmallObject → Contents
 with_class s None o = s

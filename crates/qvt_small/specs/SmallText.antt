@@ -1,8 +1,10 @@
 -- The transformations that are run today, by their tree: one model type, one model that is written, and a `main` that
 -- makes objects with literals (QVT 1.3, 8.2.1 and 8.2.2).
-use Rattle.std.specs.Prelude.{ℕ, ℤ, false, List, [], ◌∷◌, Option, Some, None}
+use Rattle.std.specs.Prelude.{ℕ, false, List, [], ◌∷◌, Option, Some, None}
 use Rattle.std.specs.Option.{option_map}
-use Rattle.qvt_tree_types.specs.Tree.{ExprTerm, IntExpr, ObjectExpr, TargetTerm, BareTarget, StmtTerm, AssignStmt, ValueStmt, StmtTerms, NoStmts, MoreStmts}
+use Rattle.qvt_value.specs.declared.value.Value.{Value}
+use Rattle.qvt_value.specs.declared.value.Value.TheVariants.{Int as IntValue, Str as StrValue}
+use Rattle.qvt_tree_types.specs.Tree.{ExprTerm, IntExpr, StrExpr, ObjectExpr, TargetTerm, BareTarget, StmtTerm, AssignStmt, ValueStmt, StmtTerms, NoStmts, MoreStmts}
 use Rattle.qvt_tree_types.specs.Module.{UnitTerm, MainOf, ModuleTerm}
 use Rattle.qvt_tree_types.specs.declared.words.Direction.{Direction}
 use Rattle.qvt_tree_types.specs.declared.words.Direction.TheVariants as direction
@@ -26,11 +28,13 @@ abbrev pub bare_name : TargetTerm → Option (List ℕ)
 bare_name (BareTarget name place) = Some name
 bare_name t = None
 
-abbrev pub literal : ExprTerm → Option ℤ
-literal (IntExpr value place) = Some value
+-- the value of a literal, an Integer or a String
+abbrev pub literal : ExprTerm → Option Value
+literal (IntExpr value place) = Some (IntValue value)
+literal (StrExpr value place) = Some (StrValue value)
 literal e = None
 
-abbrev pub assigned : List ℕ → ℤ → Assignment
+abbrev pub assigned : List ℕ → Value → Assignment
 assigned name value = record { attribute = name; value = value }
 
 -- `name := literal;`

@@ -1,8 +1,10 @@
 //! The objects of a small run, made in a store.
 
-ghost use Rattle.std.specs.Prelude.{◌≡◌, fold, IsTrue, IfOk, OnOk};
+ghost use Rattle.std.specs.Prelude.{◌≡◌, ◌∷◌, [], fold, IsTrue, IsFalse, IfOk, OnOk};
+ghost use Rattle.qvt_metamodel.specs.Descends.{is_class_type};
+ghost use Rattle.qvt_metamodel.specs.Metamodels.{shape_of};
 ghost use Rattle.qvt_slots.specs.Contents.{is_live, with_slot};
-ghost use Rattle.qvt_slots.specs.Types.{IsAssignable, IsAttributeChange};
+ghost use Rattle.qvt_slots.specs.Types.{IsAssignable};
 ghost use Rattle.qvt_small.specs.SmallRun.{have_names};
 ghost use Rattle.qvt_small.specs.SmallStore.{with_assignment, with_object, outputs, store_after, IsMaking, HasOutput};
 
@@ -17,22 +19,24 @@ use qvt_slots::extent::{Extent, ExtentList};
 use qvt_store::store::Store;
 use qvt_value::value::Value;
 use std::alloc::Global;
+use std::slice;
 
-/// Sets the slot of an attribute.
+/// Sets the slot of an attribute to one value. No other slot changes.
 fn set_slot(
     store: &mut Store,
     run: &SmallRun,
     object: Oid,
     feature: FeatureNo,
-    values: &[Value],
+    value: &Value,
 ) -> Result<(), ListFault>
     requires making { IsMaking run.now store.old }
-    requires can { IsAssignable store.old object.0 feature.0 values.now }
-    requires change { IsAttributeChange store.old object.0 feature.0 values.now }
-    ensures set { OnOk result (store.new ≡ with_slot store.old object.0 feature.0 values.now) }
+    requires can { IsAssignable store.old object.0 feature.0 (value.now ∷ []) }
+    requires attribute { IsFalse (is_class_type (shape_of store.old.metas feature.0).kind) }
+    ensures set { OnOk result (store.new ≡ with_slot store.old object.0 feature.0 (value.now ∷ [])) }
     ensures making { OnOk result (IsMaking run.now store.new) }
 {
-    match store.assign(object, feature, values) {
+    store.is_whole();
+    match store.assign(object, feature, slice::from_ref(value)) {
         Ok(()) => Ok(()),
         Err(_) => Err(ListFault::NoMemory),
     }
@@ -52,12 +56,9 @@ fn set_attribute(
     ensures live { OnOk result (IsTrue (is_live store.new object.0)) }
 {
     let class = store.class_of(object);
-    match attribute(store.metas(), class, assignment.attribute.as_str()) {
+    match attribute(store.metas(), class, assignment) {
         None => Ok(()),
-        Some(feature) => {
-            let values = [Value::Int(assignment.value)];
-            set_slot(store, run, object, feature, &values)
-        }
+        Some(feature) => set_slot(store, run, object, feature, &assignment.value),
     }
 }
 

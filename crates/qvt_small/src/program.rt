@@ -1,39 +1,36 @@
 ghost use Rattle.std.specs.Prelude.{◌≡◌, ◌≤◌, ◌<◌, ◌+◌, length, option_map, IsTrue, IsFalse, IfSome, MatchOption};
 ghost use Rattle.std.specs.List.{list_all};
-ghost use Rattle.qvt_metamodel.specs.declared.info.TypeKind.TheVariants.{Int};
-ghost use Rattle.qvt_metamodel.specs.Metamodels.{class_at, shape_of, is_single, has_feature};
-ghost use Rattle.qvt_small.specs.SmallRun.{holds_one_integer, attribute_named, concrete_named, cost_of, cost, is_attribute, fits_object, have_names, fits, run_of};
+ghost use Rattle.qvt_metamodel.specs.Metamodels.{class_at, shape_of, has_feature};
+ghost use Rattle.qvt_small.specs.SmallRun.{takes, attribute_of, concrete_named, cost_of, cost, is_attribute, fits_object, have_names, fits, run_of};
 
 use crate::text::{Assignment, SmallObject, SmallRun, SmallText};
 use qvt_base::numbers::{ClassNo, FeatureNo};
 use qvt_base::text::Text;
 use qvt_metamodel::info::TypeKind;
 use qvt_metas::metas::Metas;
+use qvt_value::value::Value;
 
-/// Whether the feature holds one Integer.
-fn holds_one_integer(metas: &Metas, feature: FeatureNo) -> bool
-    ensures value { result ≡ holds_one_integer metas.now feature }
-    ensures integer { IsTrue result → (shape_of metas.now feature.0).kind ≡ Int }
-    ensures single { IsTrue result → IsTrue (is_single metas.now feature.0) }
+/// Whether the value, which a text can write, is of the type.
+fn takes(kind: TypeKind, value: &Value) -> bool
+    ensures { result ≡ takes kind value.now }
 {
-    let shape = metas.shape(feature);
-    match shape.kind {
-        TypeKind::Int => shape.upper == Some(1),
+    match kind {
+        TypeKind::Int => matches!(value, Value::Int(_)),
+        TypeKind::Str => matches!(value, Value::Str(_)),
         _ => false,
     }
 }
 
-/// The attribute of this name that objects of the class have, which holds one Integer.
-pub(crate) fn attribute(metas: &Metas, class: ClassNo, name: &str) -> Option<FeatureNo>
-    ensures named { result ≡ attribute_named metas.now class.0 name.now }
+/// The attribute that an assignment in an object of the class sets, if it is of the type of the literal.
+pub(crate) fn attribute(metas: &Metas, class: ClassNo, assignment: &Assignment) -> Option<FeatureNo>
+    ensures named { result ≡ attribute_of metas.now class.0 assignment.now }
     ensures there { IfSome result (λ f. IsTrue (has_feature metas.now class.0 f.0)) }
-    ensures integer { IfSome result (λ f. (shape_of metas.now f.0).kind ≡ Int) }
-    ensures single { IfSome result (λ f. IsTrue (is_single metas.now f.0)) }
+    ensures takes { IfSome result (λ f. IsTrue (takes (shape_of metas.now f.0).kind assignment.now.value)) }
 {
-    match metas.feature(class, name) {
+    match metas.feature(class, assignment.attribute.as_str()) {
         None => None,
         Some(feature) => {
-            if holds_one_integer(metas, feature) {
+            if takes(metas.shape(feature).kind, &assignment.value) {
                 Some(feature)
             } else {
                 None
@@ -66,7 +63,7 @@ fn are_attributes(metas: &Metas, class: ClassNo, assignments: &[Assignment]) -> 
     ensures { result ≡ list_all (is_attribute metas.now class.0) assignments.now }
 {
     for assignment in assignments {
-        if attribute(metas, class, assignment.attribute.as_str()).is_none() {
+        if attribute(metas, class, assignment).is_none() {
             return false;
         }
     }

@@ -12,12 +12,14 @@ use qvt_tree_types::module::{ModelParam, ModelType, Module, Unit};
 use qvt_tree_types::tree::{Expr, Stmt, Target};
 use qvt_tree_types::types::PathTree;
 use qvt_tree_types::words::Direction;
+use qvt_value::value::Value;
 use std::alloc::Global;
 
 /// An assignment of a literal to an attribute.
 pub struct Assignment {
     pub attribute: Text,
-    pub value: i64,
+    /// An Integer or a String.
+    pub value: Value,
 }
 
 impl Drop for Assignment {
@@ -109,13 +111,14 @@ fn bare_name(target: &Target) -> Option<&Text>
     }
 }
 
-/// The number of an integer literal.
-fn literal(value: &Expr) -> Option<i64>
-    ensures { result ≡ literal (expr_view value.now) }
+/// The value of a literal, an Integer or a String.
+fn literal(alloc: Global, value: &Expr) -> Result<Option<Value>, ListFault>
+    ensures { IfOk result (λ o. o ≡ literal (expr_view value.now)) }
 {
     match value {
-        Expr::Int { value, .. } => Some(*value),
-        _ => None,
+        Expr::Int { value, .. } => Ok(Some(Value::Int(*value))),
+        Expr::Str { value, .. } => Ok(Some(Value::Str(value.copy(alloc)?))),
+        _ => Ok(None),
     }
 }
 
@@ -133,7 +136,7 @@ fn assignment_of(alloc: Global, stmt: &Stmt) -> Result<Option<Assignment>, ListF
             let Some(name) = bare_name(target) else {
                 return Ok(None);
             };
-            let Some(value) = literal(value) else {
+            let Some(value) = literal(alloc, value)? else {
                 return Ok(None);
             };
             let attribute = name.copy(alloc)?;

@@ -1,10 +1,10 @@
 use Rattle.std.proofs.Common.{ℕ, []}
-use Rattle.qvt_cli.specs.Chain.{step}
+use Rattle.qvt_outcome.specs.Chain.{step}
 use Rattle.qvt_cli.specs.Check.{after_metamodel, model_read, conforms}
-use Rattle.qvt_cli.specs.Outcome.{done, conforms_line}
-use Rattle.qvt_cli.specs.Plans.{outcome_of}
-use Rattle.qvt_cli.proofs.Chained.{stopped, stepped}
-use Rattle.qvt_cli.proofs.Faults.{planned, planned_quiet}
+use Rattle.qvt_outcome.specs.Outcome.{done, conforms_line}
+use Rattle.qvt_outcome.specs.Plans.{outcome_of}
+use Rattle.qvt_outcome.proofs.Chained.{stopped, stepped}
+use Rattle.qvt_outcome.proofs.Refused.{planned, planned_quiet}
 use Rattle.qvt_cli.proofs.check.check_model.Goals as goal
 
 pub returns-in-Err-clause-follows : goal.returns-in-Err-clause-follows

@@ -1,8 +1,8 @@
 use Rattle.qvt_model.specs.Reading.{model_of}
 use Rattle.qvt_model.specs.declared.data.ModelFault.TheVariants as model
-use Rattle.qvt_cli.specs.declared.refusal.Refusal.TheVariants as refusal
+use Rattle.qvt_outcome.specs.declared.refusal.Refusal.TheVariants as refusal
 use Rattle.qvt_cli.specs.Check.{model_in, conforming}
-use Rattle.qvt_cli.proofs.Faults.{stops_by}
+use Rattle.qvt_outcome.proofs.Refused.{stops_by}
 use Rattle.qvt_cli.proofs.check.model_in.Goals as goal
 
 pub returns-in-Err-clause-gives : goal.returns-in-Err-clause-gives

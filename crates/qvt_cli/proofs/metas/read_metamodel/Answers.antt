@@ -1,8 +1,8 @@
 use Rattle.std.proofs.Common.{ℕ, List, subst}
-use Rattle.qvt_cli.specs.Steps.{Gives}
-use Rattle.qvt_cli.specs.Chain.{step, read_step}
+use Rattle.qvt_outcome.specs.Steps.{Gives}
+use Rattle.qvt_outcome.specs.Chain.{step, read_step}
 use Rattle.qvt_cli.specs.Metas.{metamodel_read, metas_in}
-use Rattle.qvt_cli.proofs.Chained.{stopped, stepped}
+use Rattle.qvt_outcome.proofs.Chained.{stopped, stepped}
 use Rattle.qvt_cli.proofs.metas.read_metamodel.Goals as goal
 
 pub returns-in-Err-clause-follows : goal.returns-in-Err-clause-follows

@@ -1,5 +1,5 @@
 use Rattle.std.proofs.Common.{◌≡◌, take}
-use Rattle.qvt_cli.specs.Plans.{files_in, IsReady}
+use Rattle.qvt_outcome.specs.Plans.{files_in, IsReady}
 use Rattle.qvt_cli.specs.Run.{written}
 use Rattle.qvt_cli.proofs.outputs.outputs_of.Given as goal
 

@@ -1,12 +1,12 @@
 use Rattle.qvt_tree_types.specs.Module.{ModuleTerm, module_view}
 use Rattle.qvt_printer.specs.PrintText.{print_text}
 use Rattle.std.proofs.Common.{[]}
-use Rattle.qvt_cli.specs.Chain.{step}
-use Rattle.qvt_cli.specs.Outcome.{done}
-use Rattle.qvt_cli.specs.Plans.{outcome_of}
+use Rattle.qvt_outcome.specs.Chain.{step}
+use Rattle.qvt_outcome.specs.Outcome.{done}
+use Rattle.qvt_outcome.specs.Plans.{outcome_of}
 use Rattle.qvt_cli.specs.Printing.{print_of, tree_read, printed}
-use Rattle.qvt_cli.proofs.Chained.{stopped, stepped}
-use Rattle.qvt_cli.proofs.Faults.{planned, planned_quiet}
+use Rattle.qvt_outcome.proofs.Chained.{stopped, stepped}
+use Rattle.qvt_outcome.proofs.Refused.{planned, planned_quiet}
 use Rattle.qvt_cli.proofs.print.perform_print.Goals as goal
 
 pub returns-in-Err-clause-follows : goal.returns-in-Err-clause-follows

@@ -1,9 +1,9 @@
-use Rattle.qvt_cli.specs.Job.{job_of}
+use Rattle.qvt_job.specs.Job.{job_of}
 use Rattle.qvt_cli.specs.Run.{job_in, if_untraced}
-use Rattle.qvt_cli.specs.Steps.{built}
-use Rattle.qvt_cli.specs.declared.job.JobFault.TheVariants as fault
-use Rattle.qvt_cli.specs.declared.refusal.Refusal.TheVariants as refusal
-use Rattle.qvt_cli.proofs.Faults.{stops_by}
+use Rattle.qvt_outcome.specs.Steps.{built}
+use Rattle.qvt_job.specs.declared.job.JobFault.TheVariants as fault
+use Rattle.qvt_outcome.specs.declared.refusal.Refusal.TheVariants as refusal
+use Rattle.qvt_outcome.proofs.Refused.{stops_by}
 use Rattle.qvt_cli.proofs.run.job_in.Goals as goal
 
 pub returns-in-Err-clause-gives : goal.returns-in-Err-clause-gives

@@ -1,7 +1,7 @@
-use Rattle.qvt_cli.specs.declared.job.Job.{Job}
+use Rattle.qvt_job.specs.declared.job.Job.{Job}
 use Rattle.qvt_cli.specs.Run.{job_read, run_of, after_job}
-use Rattle.qvt_cli.specs.Plans.{outcome_of}
-use Rattle.qvt_cli.proofs.Chained.{stopped, chained}
+use Rattle.qvt_outcome.specs.Plans.{outcome_of}
+use Rattle.qvt_outcome.proofs.Chained.{stopped, chained}
 use Rattle.qvt_cli.proofs.run.perform_run.Goals as goal
 
 pub returns-in-Err-clause-follows : goal.returns-in-Err-clause-follows

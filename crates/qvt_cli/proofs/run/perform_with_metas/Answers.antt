@@ -1,8 +1,8 @@
 use Rattle.qvt_small.specs.declared.text.SmallRun.{SmallRun}
-use Rattle.qvt_cli.specs.Chain.{step}
-use Rattle.qvt_cli.specs.Plans.{outcome_of}
+use Rattle.qvt_outcome.specs.Chain.{step}
+use Rattle.qvt_outcome.specs.Plans.{outcome_of}
 use Rattle.qvt_cli.specs.Run.{after_metas, text_read, performed}
-use Rattle.qvt_cli.proofs.Chained.{stopped, stepped}
+use Rattle.qvt_outcome.proofs.Chained.{stopped, stepped}
 use Rattle.qvt_cli.proofs.run.perform_with_metas.Goals as goal
 
 pub returns-in-Err-clause-follows : goal.returns-in-Err-clause-follows

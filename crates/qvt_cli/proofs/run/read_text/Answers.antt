@@ -1,9 +1,9 @@
 use Rattle.std.proofs.Common.{ℕ, List, subst}
-use Rattle.qvt_cli.specs.Steps.{Gives}
-use Rattle.qvt_cli.specs.Chain.{step, read_step}
+use Rattle.qvt_outcome.specs.Steps.{Gives}
+use Rattle.qvt_outcome.specs.Chain.{step, read_step}
 use Rattle.qvt_cli.specs.Run.{text_read, text_in}
 use Rattle.qvt_small.specs.declared.text.SmallRun.{SmallRun}
-use Rattle.qvt_cli.proofs.Chained.{stopped, stepped}
+use Rattle.qvt_outcome.proofs.Chained.{stopped, stepped}
 use Rattle.qvt_cli.proofs.run.read_text.Goals as goal
 
 pub returns-in-Err-clause-follows : goal.returns-in-Err-clause-follows

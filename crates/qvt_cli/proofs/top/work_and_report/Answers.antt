@@ -1,8 +1,8 @@
 -- The plan was carried out, or the work ended early and that was told.
 use Rattle.qvt_cli.specs.Commands.{command_view}
 use Rattle.qvt_cli.specs.Work.{work_of}
-use Rattle.qvt_cli.proofs.Settle.{carried_after, finished_after}
-use Rattle.qvt_cli.proofs.Ended.{carried_fails, carried_complete, carried_no_usage, finished_fails, finished_complete, finished_no_usage}
+use Rattle.qvt_outcome.proofs.Settle.{carried_after, finished_after}
+use Rattle.qvt_outcome.proofs.Ended.{carried_fails, carried_complete, carried_no_usage, finished_fails, finished_complete, finished_no_usage}
 use Rattle.qvt_cli.proofs.top.work_and_report.Goals as goal
 
 pub returns-in-Ok-clause-answer : goal.returns-in-Ok-clause-answer

@@ -1,0 +1,6 @@
+pub mod Chain
+pub mod Follows
+pub mod Outcome
+pub mod Plans
+pub mod Reported
+pub mod Steps
