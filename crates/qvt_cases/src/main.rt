@@ -1,7 +1,11 @@
 //! Many calls of the top call over the files of the working folder. Each line of standard input is a command line; or
 //! `status` and a command line, whose status is told too, by its number; or `show` and a name, and what is then told is
-//! what the file of this name holds; or `blanks`, a name and a number, and a file of this name and of so many blanks is made.
-//! What is told is compared with what has to be told.
+//! what the file of this name holds; or `blanks`, a name and a number, and a file of this name and of so many blanks is made;
+//! or `edit`, two names and a text ` => ` another, and the second file is made of the first with the other text in the place
+//! of the one where that stands first, and the change is told; or `script` and a name. A script is such lines, and files:
+//! its pieces are parted by empty lines, and of a piece of several lines a file is made. The first line of this is its name,
+//! and after a blank a title, which is told; the others are what the file holds. What is told is compared with what has to
+//! be told.
 #![tactic(auto)]
 
 #[cfg(test)]
@@ -59,6 +63,26 @@ fn make_blank<F: Files>(alloc: Global, asked: &str, files: &mut F) -> Option<Wri
     Some(files.write(name, blanks.as_slice()))
 }
 
+/// Makes a file of another one: what stands there for a text, where that stands first, is another text.
+fn make_edited<F: Files>(rt: HostRuntime, asked: &str, files: &mut F) -> Option<WriteAnswer> {
+    let (from, rest) = asked.split_once(' ')?;
+    let (name, change) = rest.split_once(' ')?;
+    let (old, new) = change.split_once(" => ")?;
+    let text = fs::read_to_string(&rt, from).ok()?;
+    let (front, back) = text.as_str().split_once(old)?;
+    println!(rt; "{change}").ok()?;
+    let edited = format!(in rt.alloc(); "{front}{new}{back}").ok()?;
+    Some(files.write(name, edited.as_bytes()))
+}
+
+/// Tells where a file that was asked for was not made.
+fn tell_made(rt: HostRuntime, answer: Option<WriteAnswer>) -> io::Result<()> {
+    match answer {
+        Some(WriteAnswer::Written) => Ok(()),
+        _ => println!(rt; "no file is made"),
+    }
+}
+
 /// Does what a line asks for.
 fn perform<F: Files, S: Sink>(
     rt: HostRuntime,
@@ -70,10 +94,10 @@ fn perform<F: Files, S: Sink>(
         return show(&rt, name);
     }
     if let Some(asked) = line.strip_prefix("blanks ") {
-        return match make_blank(rt.alloc(), asked, files) {
-            Some(WriteAnswer::Written) => Ok(()),
-            _ => println!(rt; "no file is made"),
-        };
+        return tell_made(rt, make_blank(rt.alloc(), asked, files));
+    }
+    if let Some(asked) = line.strip_prefix("edit ") {
+        return tell_made(rt, make_edited(rt, asked, files));
     }
     let asked = line.strip_prefix("status ");
     let Ok(status) = call(rt.alloc(), asked.unwrap_or(line), files, out) else {
@@ -86,12 +110,45 @@ fn perform<F: Files, S: Sink>(
     Ok(())
 }
 
+/// Makes the file of a piece of a script, and tells its title.
+fn make_titled<F: Files>(rt: HostRuntime, line: &str, held: &str, files: &mut F) -> io::Result<()> {
+    let (name, title) = match line.split_once(' ') {
+        Some(parts) => parts,
+        None => (line, ""),
+    };
+    if !title.is_empty() {
+        println!(rt; "{title}")?;
+    }
+    tell_made(rt, Some(files.write(name, held.as_bytes())))
+}
+
+/// Does what the pieces of a script ask for.
+fn follow<F: Files, S: Sink>(
+    rt: HostRuntime,
+    name: &str,
+    files: &mut F,
+    out: &mut S,
+) -> io::Result<()> {
+    let script = fs::read_to_string(&rt, name)?;
+    for piece in script.as_str().split("\n\n") {
+        match piece.split_once('\n') {
+            Some((line, "")) => perform(rt, line, files, out)?,
+            Some((line, held)) => make_titled(rt, line, held, files)?,
+            None => perform(rt, piece, files, out)?,
+        }
+    }
+    Ok(())
+}
+
 fn main(rt: HostRuntime) -> io::Result<()> {
     let mut files = DirFiles::new(rt);
     let mut out = StdSink::new(rt);
     for line in BufReader::new(rt.alloc(), rt.reader())?.lines(rt.alloc()) {
         let line = line?;
-        perform(rt, line.as_str(), &mut files, &mut out)?;
+        match line.as_str().strip_prefix("script ") {
+            Some(name) => follow(rt, name, &mut files, &mut out)?,
+            None => perform(rt, line.as_str(), &mut files, &mut out)?,
+        }
     }
     Ok(())
 }
