@@ -1,6 +1,6 @@
 //! Families of calls that are timed, or go as deep as may be. The first word names the family: `meta`, `store`, `model`,
-//! `parse`, `operations`, `value-depth` or `parse-depth`; the words after it are the family's own, and the files that it reads
-//! are those of the working folder. Without words it does what each line of standard input says, until one fails.
+//! `parse`, `typing`, `operations`, `value-depth` or `parse-depth`; the words after it are the family's own, and the files that it
+//! reads are those of the working folder. Without words it does what each line of standard input says, until one fails.
 #![tactic(auto)]
 
 mod files;
@@ -13,6 +13,7 @@ mod operations;
 mod parse;
 mod parse_depth;
 mod store;
+mod typing;
 mod value_depth;
 mod words;
 
@@ -40,6 +41,7 @@ fn perform<R: Clock, F: Files>(
         "store" => store::run(alloc, words, out),
         "model" => model::run(alloc, words, files, out),
         "parse" => parse::run(rt, alloc, words, files, out),
+        "typing" => typing::run(rt, alloc, words, files, out),
         "operations" => operations::run(alloc, words, out),
         "value-depth" => value_depth::run(alloc, out),
         "parse-depth" => parse_depth::run(alloc, out),

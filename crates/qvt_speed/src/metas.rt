@@ -1,6 +1,6 @@
 //! A metamodel, and the extent of one model of it.
 
-ghost use Rattle.std.specs.Prelude.{[], None};
+ghost use Rattle.std.specs.Prelude.{◌≡◌, [], None, IfSome};
 ghost use Rattle.qvt_metamodel.specs.Added.{HasRoom};
 
 use qvt_base::seq::Seq;
@@ -13,6 +13,7 @@ use std::alloc::Global;
 
 fn only(alloc: Global, meta: Meta) -> Option<Metas>
     requires { HasRoom (record { metamodels = []; classes = []; features = []; element = None }) meta }
+    ensures { IfSome result (λ m. m.element ≡ None) }
 {
     let mut metas = Metas::new(alloc);
     metas.add(meta).ok()?;
@@ -20,7 +21,9 @@ fn only(alloc: Global, meta: Meta) -> Option<Metas>
 }
 
 /// The metamodel of a file, alone.
-pub fn metas_of(alloc: Global, bytes: &[u8]) -> Option<Metas> {
+pub fn metas_of(alloc: Global, bytes: &[u8]) -> Option<Metas>
+    ensures { IfSome result (λ m. m.element ≡ None) }
+{
     let meta = read_meta(alloc, bytes).ok()?;
     meta.fits();
     only(alloc, meta)

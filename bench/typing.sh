@@ -1,0 +1,107 @@
+#!/usr/bin/env bash
+# Typing transformations of up to 262,144 bytes against parsing them. Prints the least time by the clock of parsing, from the
+# text at hand to the tree, and of typing, from the tree to the program; what typing a byte takes; how many times the parsing the
+# typing takes; and of the whole texts how many times the typing of a tenth it takes, where 10 is linear. Each text is accepted.
+# Wants the program of crates/qvt_speed, and makes it where it is missing.
+#   bench/typing.sh [RUNS [BYTES]]     of how many runs the least time is taken (15), and the size of the texts
+set -u
+here=$(cd "$(dirname "${BASH_SOURCE[0]}")/.." && pwd)
+work=$(mktemp -d)
+trap 'rm -rf "$work"' EXIT
+program=${QVT_SPEED:-"$here/crates/qvt_speed/out/qvt_speed"}
+[ -x "$program" ] || (cd "$here/crates/qvt_speed" && rt run </dev/null >/dev/null 2>&1)
+cd "$work" || exit 1
+times=${1:-15}
+most=${2:-262144}
+clocked() { # the least microseconds that parsing took, and that typing took, in $times runs
+  local line parse typing least_parse=999999999 least_typing=999999999
+  for _ in $(seq "$times"); do
+    line=$("$program" typing time) || return 1
+    read -r parse typing <<<"$line"
+    [ "$parse" -lt "$least_parse" ] && least_parse=$parse
+    [ "$typing" -lt "$least_typing" ] && least_typing=$typing
+  done
+  echo "$least_parse $least_typing"
+}
+tell() { # what the text is, and what the typing of a tenth of it took, or 0
+  local bytes line parse typing growth=""
+  bytes=$(wc -c <t.qvto)
+  if ! line=$(clocked); then
+    echo "$1, $bytes bytes: not accepted"
+    status=1
+    typing=0
+    return
+  fi
+  read -r parse typing <<<"$line"
+  [ "$2" -gt 0 ] && growth=", $(awk "BEGIN{printf \"%.1f\", $typing / $2}") times a tenth"
+  echo "$1, $bytes bytes: parsed in $parse us, typed in $typing us, $(awk "BEGIN{printf \"%.1f ns a byte, %.1f times the parsing\", 1000 * $typing / $bytes, $typing / ($parse > 0 ? $parse : 1)}")$growth"
+  tenth=$typing
+}
+# a text of so many bytes at most: what stands before, a piece again and again, what stands after; in a piece # is its number, ~ the
+# number after that, and % the number of the next piece, which for the last is the first
+texts() { # name, front, piece, end
+  local size
+  tenth=0
+  for size in $((most / 10)) "$most"; do
+    awk -v most="$size" -v front="$2" -v piece="$3" -v end="$4" 'BEGIN{
+      room = most - length(front) - length(end)
+      while (1) {
+        long = piece; gsub(/[#%~]/, 1000 * 10, long)
+        if (used + length(long) > room && count > 0) break
+        used += length(long); count++
+      }
+      printf "%s", front
+      for (i = 0; i < count; i++) {
+        one = piece; gsub(/#/, i, one); gsub(/~/, i + 1, one); gsub(/%/, (i + 1) % count, one)
+        printf "%s", one
+      }
+      printf "%s", end
+    }' >t.qvto
+    tell "$1" "$tenth"
+  done
+}
+repeat() { # text, times
+  local all=""
+  for _ in $(seq "$2"); do all+=$1; done
+  printf '%s' "$all"
+}
+status=0
+awk 'BEGIN{
+  printf "{\"classes\":[{\"abstract\":true,\"features\":[{\"name\":\"name\",\"type\":\"String\"}],\"name\":\"Named\"}"
+  printf ",{\"features\":[{\"name\":\"pages\",\"type\":\"Integer\"},{\"name\":\"writer\",\"type\":\"Author\"},{\"name\":\"authors\",\"ordered\":true,\"type\":\"Author\",\"upper\":\"*\"},{\"name\":\"next\",\"type\":\"Book\"}],\"name\":\"Book\",\"supers\":[\"Named\"]}"
+  printf ",{\"features\":[{\"name\":\"born\",\"type\":\"Integer\"}],\"name\":\"Author\",\"supers\":[\"Named\"]}"
+  for (i = 0; i < 8000; i++) printf ",{\"name\":\"C%d\",\"supers\":[\"%s\"]}", i, i ? "C" i - 1 : "Named"
+  for (i = 0; i < 8000; i++) printf ",{\"name\":\"D%d\",\"supers\":[\"Book\"]}", i
+  printf "],\"enums\":[{\"literals\":[\"prose\",\"verse\"],\"name\":\"Kind\"}],\"name\":\"M\"}"
+}' >m.json
+begin="modeltype MT uses 'M'; transformation T(in s : MT, out t : MT); "
+main="${begin}main() { } "
+texts "queries" "$main" 'query Book::q#(p : Integer) : Boolean = self.authors->select(a | a.born > p and not a.name.oclIsUndefined())->notEmpty(); ' ''
+texts "queries that call each other" "$main" 'query Book::q#(p : Integer) : Integer = self.next.q%(p + 1) + q%(pages); ' ''
+texts "queries of one name, of classes of a chain" "$main" 'query C#::q() : Integer = #; ' 'query Author::q() : Integer = 0;'
+texts "queries of one name, of classes side by side" "$main" 'query D#::q() : Integer = #; ' 'query Book::q() : Integer = next.q();'
+texts "mappings" "$main" 'mapping Book::m#() : Book when { self.pages > 0 } { name := self.name; authors := self.authors; next := self.next.map m%(); } ' ''
+texts "mappings that inherit one" "$main mapping Book::m() : Book { } " 'mapping Book::n#() : Book inherits Book::m { } ' ''
+texts "a chain of inherited mappings" "$main mapping Book::m0() : Book { } " 'mapping Book::m~() : Book inherits Book::m# { } ' ''
+texts "one list of mappings" "$main mapping Book::m0() : Book { } mapping Book::m() : Book inherits Book::m0" ', Book::m0' ' { }'
+texts "one disjunction" "$main mapping Book::m0() : Book { } mapping Book::m() : Book disjuncts Book::m0" ', Book::m0' ';'
+texts "intermediate classes" "$main" 'intermediate class K# { a : Integer; b : Set(Book); c : K%; } ' ''
+texts "a chain of intermediate classes" "$main intermediate class K0 { } " 'intermediate class K~ extends K# { a# : Integer; } ' ''
+texts "constructors" "$main" 'constructor D#::D#(p : Integer) { pages := p; } ' ''
+texts "variables of one block" "${begin}main() { var first : Integer := 1; " 'var x# : Integer := first + #; if (x# = null) { first := x#; } ' '}'
+texts "variables of many blocks" "${begin}main() { var first : Integer := 1; " 'while (first < #) { var x := first; first := x + 1; } ' '}'
+texts "late resolves" "${begin}main() { var b := object Book { }; " 'b.authors += s.objectsOfType(Book).late resolve(a : Author | a.born = #); ' '}'
+texts "objects" "${begin}main() { " 'object Book { name := "x"; pages := #; authors += object Author { born := #; }; }; ' '}'
+texts "one sum" "${main}query Book::q() : Integer = 1" ' + self.pages' ';'
+texts "one collection" "${main}query q() : Set(Integer) = Set{1" ', #' '};'
+texts "one collection of objects" "${main}helper f() : Sequence(Named) { return Sequence{object Author { }" ', object Author { }' '}; }'
+texts "steps of one expression" "${main}query Book::q() : Book = self" '.next' ';'
+texts "arrows of one expression" "${main}query Book::q() : OrderedSet(Author) = self.authors" '->select(a | a.born > #)' ';'
+texts "signs of one operand" "${main}query q() : Boolean = " 'not ' 'true;'
+texts "deep brackets" "$main" "query q#() : Integer = $(repeat '(1 + ' 60)1$(repeat ')' 60); " ''
+texts "deep objects" "$main" "helper h#() { $(repeat 'object Book { next := ' 60)null$(repeat '; }' 60); } " ''
+texts "deep conditionals" "$main" "query q#(a : Boolean) : Integer = $(repeat 'if a then 1 else ' 60)#$(repeat ' endif' 60); " ''
+texts "deep iterators" "$main" "query Book::q#() : Boolean = $(repeat 'authors->exists(born = 1 or ' 60)true$(repeat ')' 60); " ''
+texts "deep types" "$main" "query q#(p : $(repeat 'Set(' 60)Integer$(repeat ')' 60)) : Boolean = p = null; " ''
+texts "deep blocks" "$main" "helper h#(a : Boolean) { $(repeat 'if (a) { var x := 1; } while (a) { ' 60)$(repeat '}' 60) } " ''
+exit "$status"
