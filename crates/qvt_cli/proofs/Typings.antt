@@ -9,7 +9,6 @@ use Rattle.qvt_typing.specs.Accepts.{ProgramTerm}
 use Rattle.qvt_types.specs.Faults.{fault_at, fault_of, answered}
 use Rattle.qvt_types.specs.declared.fault.TypingFault.{TypingFault}
 use Rattle.qvt_types.specs.declared.fault.TypingFault.TheVariants as fault
-use Rattle.qvt_outcome.specs.Outcome.{refused}
 use Rattle.qvt_outcome.specs.Steps.{Stops, RefusedOrNoMemory, or_refused}
 use Rattle.qvt_outcome.specs.declared.refusal.Refusal.TheVariants as refusal
 use Rattle.qvt_outcome.specs.declared.stop.Stop.{Stop}
@@ -17,7 +16,7 @@ use Rattle.qvt_outcome.specs.declared.stop.Stop.TheVariants as stop
 use Rattle.qvt_cli.specs.Typing.{refusal_in}
 use Rattle.qvt_cli.proofs.Sources.{refused_stops}
 
-at : RefusalKind → Place → Refusal
+abbrev at : RefusalKind → Place → Refusal
 at k p = record { kind = k; place = p }
 
 -- a refusal is told by its fault
@@ -58,7 +57,7 @@ pub typing_stops : (name : List ℕ) (f : TypingFault) (e : Stop) (r : Result Pr
 typing_stops name f e r h is = go (refusal_in f) refl h
   where
     go : (o : Option Refusal) → refusal_in f ≡ o → MatchOption o (e ≡ stop.NoMemory) (λ why. RefusedOrNoMemory name (refusal.Typing why) e) → Stops e (or_refused refusal.Typing name r)
-    go None no end = subst (λ (s : Stop). Stops s (or_refused refusal.Typing name r)) (sym end) tt
+    go None nothing end = subst (λ (s : Stop). Stops s (or_refused refusal.Typing name r)) (sym end) tt
     go (Some why) one end =
         let other : f ≢ fault.NoMemory = λ none. (let q : Some why ≡ None = sym one ∙ ap refusal_in none in absurd cc) in
         refused_stops name (refusal.Typing why) e (or_refused refusal.Typing name r) (ap (or_refused refusal.Typing name) (the_refusal f why r one (is other))) end

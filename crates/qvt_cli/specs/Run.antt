@@ -1,6 +1,6 @@
 -- What `run JOB` does over the bytes that the files hold: the job, its metamodels, its text, the types of the text's parts,
 -- whether its models are the text's, whether the text is small, the fuel, and the lower bounds of what is written, in this order.
-use Rattle.std.specs.Prelude.{ℕ, List, [], ◌∷◌, map, length, nat_lt, is_some, if◌then◌else◌, Option, Some, None, option_map, option_and_then, Result, Ok, Err, ⊤}
+use Rattle.std.specs.Prelude.{ℕ, List, map, length, nat_lt, is_some, if◌then◌else◌, Option, Some, None, option_map, option_and_then, Result, Ok, Err, ⊤}
 use Rattle.qvt_json.specs.Steps.{◌>>=◌, none_of}
 use Rattle.qvt_metamodel.specs.Metamodels.{Metamodels, feature_at}
 use Rattle.qvt_store.specs.Contents.{Contents, extent_at, members_of}
