@@ -1,5 +1,5 @@
 -- Which small texts can be run over metamodels, what they cost, and what a run tells.
-use Rattle.std.specs.Prelude.{ℕ, ◌+◌, ◌*◌, Bool, false, ◌&&◌, List, [], ◌∷◌, ◌++◌, length, nat_le, sum_by, Option, Some, None, is_some, if◌then◌else◌, decimal, codes}
+use Rattle.std.specs.Prelude.{ℕ, ◌+◌, ◌*◌, Bool, true, false, ◌&&◌, List, [], ◌∷◌, ◌++◌, length, nat_le, sum_by, Option, Some, None, is_some, if◌then◌else◌, decimal, codes}
 use Rattle.std.specs.List.{list_all}
 use Rattle.std.specs.Option.{option_map_or, option_and_then}
 use Rattle.std.specs.Str.{bytes_eq}
