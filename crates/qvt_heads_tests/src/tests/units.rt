@@ -36,7 +36,7 @@ struct Read {
     units: UnitNames,
 }
 
-fn read(alloc: Global, given: &Metas) -> Result<Read, Fail> {
+fn heads_of(alloc: Global, given: &Metas) -> Result<Read, Fail> {
     let tree = tree_of(alloc, FRONT, UNITS)?;
     let written = tree.units.as_slice();
     let types = type_names(alloc, given, tree.model_types.as_slice(), written)?;
@@ -79,7 +79,7 @@ fn has_types(
 fn signatures_of_units(rt: HostRuntime) -> Result<(), Fail> {
     let alloc = rt.alloc();
     let given = metas(alloc)?;
-    let read = read(alloc, &given)?;
+    let read = heads_of(alloc, &given)?;
     assert!(rt; read.units.count() == 11);
     for (unit, (name, params, answer)) in read.units.signatures().iter().zip(&SIGNATURES) {
         assert!(rt; unit.name.as_str() == *name, "{name}");
@@ -94,7 +94,7 @@ fn signatures_of_units(rt: HostRuntime) -> Result<(), Fail> {
 fn units_by_their_names(rt: HostRuntime) -> Result<(), Fail> {
     let alloc = rt.alloc();
     let given = metas(alloc)?;
-    let units = read(alloc, &given)?.units;
+    let units = heads_of(alloc, &given)?.units;
     assert!(rt; units.group(false, "f") == [1, 2, 3].as_slice());
     assert!(rt; units.group(true, "f").is_empty());
     assert!(rt; units.group(true, "m") == [6, 7].as_slice());
@@ -122,7 +122,7 @@ const CHOICES: [(u32, Option<u32>); 5] = [
 fn which_unit_is_chosen_for_a_class(rt: HostRuntime) -> Result<(), Fail> {
     let alloc = rt.alloc();
     let given = metas(alloc)?;
-    let units = read(alloc, &given)?.units;
+    let units = heads_of(alloc, &given)?.units;
     let group = units.group(false, "f");
     for (class, expected) in &CHOICES {
         let class = ClassNo(*class);
@@ -151,7 +151,7 @@ const CALLS: [(bool, &str, u32, Found); 10] = [
 fn what_calls_find(rt: HostRuntime) -> Result<(), Fail> {
     let alloc = rt.alloc();
     let given = metas(alloc)?;
-    let names = read(alloc, &given)?.units;
+    let names = heads_of(alloc, &given)?.units;
     let units = Units::new(alloc, given.copy(alloc)?, names)?;
     for (maps, name, class, expected) in &CALLS {
         let found = units.called_on(alloc, *maps, name, ClassNo(*class))?;
@@ -175,7 +175,7 @@ const LISTED: [(&str, u32, &str); 5] = [
 fn which_mappings_lists_name(rt: HostRuntime) -> Result<(), Fail> {
     let alloc = rt.alloc();
     let given = metas(alloc)?;
-    let read = read(alloc, &given)?;
+    let read = heads_of(alloc, &given)?;
     for (path, number, told) in &LISTED {
         let names = path_of(alloc, path)?;
         match listed(&given, &read.types, &read.units, names.as_slice()) {
@@ -193,7 +193,7 @@ fn which_mappings_lists_name(rt: HostRuntime) -> Result<(), Fail> {
 fn what_units_reuse(rt: HostRuntime) -> Result<(), Fail> {
     let alloc = rt.alloc();
     let given = metas(alloc)?;
-    let read = read(alloc, &given)?;
+    let read = heads_of(alloc, &given)?;
     let written = read.tree.units.as_slice();
     let lists = reuse_lists(alloc, &given, &read.types, &read.units, written)?;
     assert!(rt; lists.len() == 11);
@@ -209,7 +209,7 @@ fn what_units_reuse(rt: HostRuntime) -> Result<(), Fail> {
 fn units_that_fit_others(rt: HostRuntime) -> Result<(), Fail> {
     let alloc = rt.alloc();
     let given = metas(alloc)?;
-    let units = read(alloc, &given)?.units;
+    let units = heads_of(alloc, &given)?.units;
     let all = units.signatures();
     assert!(rt; !is_bad_override(&given, all, &all[2]));
     assert!(rt; is_bad_override(&given, all, &all[3]));

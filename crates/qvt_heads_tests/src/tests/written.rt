@@ -237,7 +237,7 @@ struct Read {
 }
 
 #[tactic(auto, unfolding(qvt_types_paths::specs::ModelTypes::type_names))]
-fn read(alloc: Global, given: &Metas, units: &str) -> Result<Read, Fail>
+fn heads_of(alloc: Global, given: &Metas, units: &str) -> Result<Read, Fail>
     requires { given.now.element ≡ None }
 {
     let tree = tree_of(alloc, FRONT, units)?;
@@ -281,7 +281,7 @@ fn class_named(alloc: Global, given: &Metas, read: &Read, path: &[Text]) -> Resu
 fn what_paths_name(rt: HostRuntime) -> Result<(), Fail> {
     let alloc = rt.alloc();
     let given = metas(alloc)?;
-    let read = read(alloc, &given, PROPERTIES)?;
+    let read = heads_of(alloc, &given, PROPERTIES)?;
     for line in PATHS.lines() {
         let (path, rest) = before(line)?;
         let (t, class) = before(rest)?;
@@ -307,7 +307,7 @@ const LITERALS: [(&str, Option<u32>); 5] = [
 fn which_literals_paths_name(rt: HostRuntime) -> Result<(), Fail> {
     let alloc = rt.alloc();
     let given = metas(alloc)?;
-    let read = read(alloc, &given, "")?;
+    let read = heads_of(alloc, &given, "")?;
     for (path, expected) in &LITERALS {
         let names = path_of(alloc, path)?;
         let found = match path_literal(&given, &read.types, names.as_slice()) {
@@ -335,7 +335,7 @@ const EXTENTS: [(&str, u32, Option<u32>); 8] = [
 fn where_objects_are_made(rt: HostRuntime) -> Result<(), Fail> {
     let alloc = rt.alloc();
     let given = metas(alloc)?;
-    let read = read(alloc, &given, "")?;
+    let read = heads_of(alloc, &given, "")?;
     for (name, metamodel, expected) in &EXTENTS {
         let name = match *name {
             "" => None,
@@ -351,7 +351,7 @@ fn where_objects_are_made(rt: HostRuntime) -> Result<(), Fail> {
 fn what_type_names_tell(rt: HostRuntime) -> Result<(), Fail> {
     let alloc = rt.alloc();
     let given = metas(alloc)?;
-    let read = read(alloc, &given, PROPERTIES)?;
+    let read = heads_of(alloc, &given, PROPERTIES)?;
     assert!(rt; read.types.metamodel("NT") == Some(1));
     assert!(rt; read.types.metamodel("XT").is_none());
     assert!(rt; read.types.has_model_type("MT"));
@@ -370,7 +370,7 @@ fn classes_stand_above_the_metamodels(rt: HostRuntime) -> Result<(), Fail> {
     let alloc = rt.alloc();
     let given = metas(alloc)?;
     let first = given.feature_infos().len() as u32;
-    let read = read(alloc, &given, PROPERTIES)?;
+    let read = heads_of(alloc, &given, PROPERTIES)?;
     let metas = &read.extended.metas;
     assert!(rt; metas.descends(ClassNo(9), ClassNo(8)));
     assert!(rt; metas.descends(ClassNo(0), ClassNo(7)));
@@ -409,7 +409,7 @@ fn classes_are_read_with_properties_of_one_name(rt: HostRuntime) -> Result<(), F
     let alloc = rt.alloc();
     let given = metas(alloc)?;
     for (units, counts) in &REPEATED {
-        let read = read(alloc, &given, units)?;
+        let read = heads_of(alloc, &given, units)?;
         for (class, count) in (8u32..).zip(*counts) {
             let features = read.extended.metas.features(ClassNo(class));
             assert!(rt; features.len() == *count, "{units} {class}");
@@ -425,7 +425,7 @@ const WRITTEN: [&str; 3] = ["Integer", "Circle Sequence", "UnknownType"];
 fn which_types_are_written(rt: HostRuntime) -> Result<(), Fail> {
     let alloc = rt.alloc();
     let given = metas(alloc)?;
-    let read = read(alloc, &given, PROPERTIES)?;
+    let read = heads_of(alloc, &given, PROPERTIES)?;
     let Some(Unit::Class(class)) = read.tree.units.get(1) else {
         return Err(Fail::new("a class"));
     };
