@@ -1,6 +1,6 @@
 //! What programs tell of themselves.
 
-use super::read::{Answer, answer, metas_of, text_of};
+use super::read::{answer, metas_of, text_of};
 use qvt_base::numbers::MappingNo;
 use qvt_types_program::program::Program;
 use std::alloc::Global;
@@ -13,11 +13,7 @@ const UNITS: &str =
 fn program_of(alloc: Global, units: &str) -> Result<Program, Fail> {
     let metas = metas_of(alloc)?;
     let text = text_of(alloc, units)?;
-    match answer(alloc, &metas, text.as_str()) {
-        Answer::Accepted(program) => Ok(program),
-        Answer::Refused(_) => Err(Fail::new("refused")),
-        Answer::NotRead => Err(Fail::new("not read")),
-    }
+    answer(alloc, &metas, text.as_str()).into_program()
 }
 
 #[test]

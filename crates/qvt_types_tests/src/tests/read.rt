@@ -52,6 +52,17 @@ impl Drop for Answer {
     }
 }
 
+impl Answer {
+    /// The program, where the text is accepted.
+    pub fn into_program(self) -> Result<Program, Fail> {
+        match self {
+            Answer::Accepted(program) => Ok(program),
+            Answer::Refused(fault) => Err(Fail::new("refused")),
+            Answer::NotRead => Err(Fail::new("not read")),
+        }
+    }
+}
+
 /// Whether the text is accepted over the metamodel.
 pub fn answer(alloc: Global, metas: &Metas, text: &str) -> Answer
     requires { metas.now.element ≡ None }
