@@ -27,7 +27,7 @@ fn is_parsed(alloc: Global, text: &str) -> bool
 
 /// Whether the text is a transformation that is accepted.
 fn is_accepted(alloc: Global, text: &str, metas: &Metas) -> bool
-    requires { length text.now + 1 < 2 ^ 32 }
+    requires short { length text.now + 1 < 2 ^ 32 }
     requires element { metas.now.element ≡ None }
 {
     match parse(alloc, text) {
@@ -38,7 +38,7 @@ fn is_accepted(alloc: Global, text: &str, metas: &Metas) -> bool
 
 /// How many microseconds it took to read the transformation, and how many to accept it.
 fn taken<R: Clock>(rt: &R, alloc: Global, text: &str, metas: &Metas) -> Option<(u128, u128)>
-    requires { length text.now + 1 < 2 ^ 32 }
+    requires short { length text.now + 1 < 2 ^ 32 }
     requires element { metas.now.element ≡ None }
 {
     let reading = Instant::now(rt).ok()?;
@@ -55,7 +55,7 @@ fn taken<R: Clock>(rt: &R, alloc: Global, text: &str, metas: &Metas) -> Option<(
 
 /// Tells how many microseconds it took to read the transformation, and how many to accept it.
 fn timed<R: Clock>(rt: &R, alloc: Global, text: &str, metas: &Metas, out: &mut Bytes) -> Option<()>
-    requires { length text.now + 1 < 2 ^ 32 }
+    requires short { length text.now + 1 < 2 ^ 32 }
     requires element { metas.now.element ≡ None }
 {
     let (read, typed) = taken(rt, alloc, text, metas)?;
@@ -65,7 +65,7 @@ fn timed<R: Clock>(rt: &R, alloc: Global, text: &str, metas: &Metas, out: &mut B
 
 /// Whether what the form asks of the text is done.
 fn is_done(alloc: Global, form: &str, text: &str, metas: &Metas) -> bool
-    requires { length text.now + 1 < 2 ^ 32 }
+    requires short { length text.now + 1 < 2 ^ 32 }
     requires element { metas.now.element ≡ None }
 {
     match form {
