@@ -1,6 +1,6 @@
 //! What programs tell of themselves.
 
-use super::read::{answer, metas_of, text_of};
+use super::read::{asked, metas_of, text_of};
 use qvt_base::numbers::MappingNo;
 use qvt_types_program::program::Program;
 use std::alloc::Global;
@@ -13,7 +13,7 @@ const UNITS: &str =
 fn program_of(alloc: Global, units: &str) -> Result<Program, Fail> {
     let metas = metas_of(alloc)?;
     let text = text_of(alloc, units)?;
-    answer(alloc, &metas, text.as_str()).into_program()
+    asked(alloc, &metas, text.as_str()).into_program()
 }
 
 #[test]

@@ -64,7 +64,7 @@ impl Answer {
 }
 
 /// Whether the text is accepted over the metamodel.
-pub fn answer(alloc: Global, metas: &Metas, text: &str) -> Answer
+pub fn asked(alloc: Global, metas: &Metas, text: &str) -> Answer
     requires { metas.now.element ≡ None }
 {
     if text.len() > 100_000 {

@@ -1,6 +1,6 @@
 //! The refusals.
 
-use super::read::{Answer, answer, metas_of, text_of};
+use super::read::{Answer, asked, metas_of, text_of};
 use qvt_base::numbers::Place;
 use qvt_types::fault::TypingFault;
 use std::alloc::Global;
@@ -56,13 +56,13 @@ fn outcome(answer: &Answer) -> Told {
 fn told_of(alloc: Global, units: &str) -> Result<Told, Fail> {
     let metas = metas_of(alloc)?;
     let text = text_of(alloc, units)?;
-    Ok(outcome(&answer(alloc, &metas, text.as_str())))
+    Ok(outcome(&asked(alloc, &metas, text.as_str())))
 }
 
 /// What is told of a whole text.
 fn told_of_text(alloc: Global, text: &str) -> Result<Told, Fail> {
     let metas = metas_of(alloc)?;
-    Ok(outcome(&answer(alloc, &metas, text)))
+    Ok(outcome(&asked(alloc, &metas, text)))
 }
 
 #[test]
