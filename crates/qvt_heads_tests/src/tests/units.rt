@@ -211,6 +211,9 @@ fn units_that_fit_others(rt: HostRuntime) -> Result<(), Fail> {
     let given = metas(alloc)?;
     let units = heads_of(alloc, &given)?.units;
     let all = units.signatures();
+    if all.len() < 8 {
+        return Err(Fail::new("units are missing"));
+    }
     assert!(rt; !is_bad_override(&given, all, &all[2]));
     assert!(rt; is_bad_override(&given, all, &all[3]));
     assert!(rt; is_bad_reuse(&given, Reuse::Shared, &all[7], &all[6]));

@@ -1,6 +1,6 @@
 //! The heads of transformations as texts: what is told of them, and what their paths name.
 
-ghost use Rattle.std.specs.Prelude.{None};
+ghost use Rattle.std.specs.Prelude.{◌≡◌, None};
 
 use super::ground::{before, metas};
 use super::shown::{kind_shown, log_shown, type_shown};
