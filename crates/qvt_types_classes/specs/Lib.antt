@@ -1,3 +1,4 @@
 pub mod Written
 pub mod Inherited
+pub mod Keys
 pub mod Classes

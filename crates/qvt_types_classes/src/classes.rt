@@ -11,6 +11,7 @@ ghost use Rattle.qvt_types_classes.specs.Classes as words;
 
 use crate::cycles::{cycle_flags, tell_cycles, uncycled_all};
 use crate::declared::{Declared, Property, all_declared};
+use crate::keyed::KeyedProperties;
 use crate::numbered::{all_properties, numbered, property_lists};
 use crate::reading::{read_all, tell_all_same};
 use crate::telling::tell_classes;
@@ -41,10 +42,10 @@ fn read_classes(
     ensures told { OnOk result (log.new ≡ log.old ++ words.all_same_told classes.now) }
 {
     let infos = numbered(alloc, classes)?;
-    let all = all_properties(alloc, classes)?;
+    let all = KeyedProperties::new(alloc, all_properties(alloc, classes)?)?;
     let lists = property_lists(alloc, infos.as_slice())?;
-    tell_all_same(alloc, all.as_slice(), lists.as_slice(), classes, log)?;
-    read_all(alloc, all.as_slice(), lists.as_slice(), classes)
+    tell_all_same(alloc, &all, lists.as_slice(), classes, log)?;
+    read_all(alloc, &all, lists.as_slice(), classes)
 }
 
 /// The classes as they are read, and what is told of them by what stands above them.

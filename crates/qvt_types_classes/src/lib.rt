@@ -4,6 +4,7 @@
 pub mod classes;
 pub mod cycles;
 pub mod declared;
+pub mod keyed;
 pub mod numbered;
 pub mod reading;
 pub mod shapes;

@@ -128,7 +128,11 @@ fn no_property(alloc: Global) -> Property
 }
 
 /// The property with this number.
-fn property_at(alloc: Global, all: &[Property], feature: FeatureNo) -> Result<Property, ListFault>
+pub fn property_at(
+    alloc: Global,
+    all: &[Property],
+    feature: FeatureNo,
+) -> Result<Property, ListFault>
     ensures { IfOk result (λ p. p ≡ inherited.property_at all.now feature) }
 {
     let at = feature.0 as usize;
