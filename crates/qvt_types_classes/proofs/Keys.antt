@@ -1,5 +1,5 @@
 -- The numbers of names: two names have one number exactly where they are one, and sets of numbers tell which names were seen.
-use Rattle.std.proofs.Common.{◌≡◌, ◌∙◌, ℕ, zero, suc, ◌+◌, ◌-◌, ◌<◌, ◌≤◌, List, [], ◌∷◌, ◌++◌, length, map, take, drop, get_or, Bool, true, false, ◌&&◌, ◌||◌, ◌==◌, inl, inr, Option, Some, None, position, is_some, refl, ap, sym, subst, arith, append_assoc, append-nil}
+use Rattle.std.proofs.Common.{◌≡◌, ◌∙◌, ℕ, zero, suc, ◌+◌, ◌-◌, ◌<◌, ◌≤◌, List, [], ◌∷◌, ◌++◌, length, map, take, drop, get_or, Bool, true, false, ◌&&◌, ◌||◌, ◌==◌, inl, inr, Some, None, position, is_some, refl, ap, sym, subst, arith, append_assoc, append-nil}
 use Rattle.std.specs.Prelude.{if◌then◌else◌, unwrap_or}
 use Rattle.std.specs.List.{drop-map}
 use Rattle.std.specs.Str.{bytes_eq}
@@ -12,7 +12,7 @@ use Rattle.qvt_base.specs.declared.numbers.FeatureNo.{FeatureNo}
 use Rattle.qvt_base.specs.declared.numbers.Place.{Place}
 use Rattle.qvt_metamodel.specs.Added.{place_in}
 use Rattle.qvt_metamodel.specs.Names.{is_among, repeated}
-use Rattle.qvt_metamodel.proofs.Bools.{ap2, and_left, and_right, clash, not_true, no-and, and_no, or_cases, or_left, or_right}
+use Rattle.qvt_metamodel.proofs.Bools.{ap2, clash, not_true, no-and, and_no, or_cases, or_left, or_right}
 use Rattle.qvt_metamodel.proofs.Infos.{map-at_all}
 use Rattle.qvt_metamodel.proofs.Lookups.{bytes_eq-refl}
 use Rattle.qvt_metamodel.proofs.Positions.{place-found, place-is}

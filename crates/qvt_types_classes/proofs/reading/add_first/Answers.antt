@@ -1,4 +1,4 @@
-use Rattle.std.proofs.Common.{◌≡◌, ◌∙◌, ◌++◌, ◌∷◌, ◌||◌, ◌==◌, [], ap, append-nil, subst, sym}
+use Rattle.std.proofs.Common.{◌∙◌, ◌++◌, ◌∷◌, ◌||◌, ◌==◌, [], ap, append-nil, subst, sym}
 use Rattle.std.specs.Prelude.{if◌then◌else◌}
 use Rattle.qvt_metamodel.specs.Names.{is_among}
 use Rattle.qvt_meta_tables.specs.NumberSets.{has_number}

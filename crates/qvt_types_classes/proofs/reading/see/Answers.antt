@@ -1,4 +1,4 @@
-use Rattle.std.proofs.Common.{◌≡◌, ◌∙◌, ◌||◌, ◌==◌, ap}
+use Rattle.std.proofs.Common.{◌∙◌, ◌||◌, ◌==◌, ap}
 use Rattle.qvt_meta_tables.specs.NumberSets.{has_number}
 use Rattle.qvt_types_classes.specs.Inherited.{property_at}
 use Rattle.qvt_types_classes.proofs.Keys.{known_at, seen_at, seen_more}

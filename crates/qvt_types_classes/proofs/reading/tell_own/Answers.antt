@@ -1,4 +1,4 @@
-use Rattle.std.proofs.Common.{◌≡◌, ◌∙◌, ◌+◌, ◌++◌, ◌∷◌, ◌||◌, ℕ, List, [], ap, drop, sym}
+use Rattle.std.proofs.Common.{◌∙◌, ◌+◌, ◌++◌, ◌∷◌, ◌||◌, ℕ, List, [], ap, drop, sym}
 use Rattle.qvt_metamodel.specs.Names.{is_among}
 use Rattle.qvt_types_data.specs.declared.refusal.RefusalKind.TheVariants.{SameName}
 use Rattle.qvt_types_paths.specs.Told.{told_if}
@@ -19,7 +19,7 @@ loop-property-preserved c = λ names seen.
     ap (λ (e : List (List ℕ)). c.tell_if.new.log ++ own_told (names ++ e) (drop (i + 1) ps)) (c.in_ok-earlier.ensures ∙ ap (λ (x : List ℕ). earlier ++ x ∷ []) name_is)
     ∙ own_next names earlier c.loop-property.log c.tell_if.new.log _ ps i _ c.if-is_seen.repeated c.loop-property-test.true
     ((elim c.if-is_seen.branch [
-      | then-is_seen w ↦ w.repeated-is ∙ ap (λ a. a || is_among name earlier) (sym (sym c.is_seen.ensures ∙ w.if-is_seen.true))
+      | then-is_seen w ↦ w.repeated-is ∙ w.if-is_seen.true ∙ ap (λ a. a || is_among name earlier) (sym (sym c.is_seen.ensures ∙ w.if-is_seen.true))
       | else-is_seen w ↦ w.repeated-is ∙ w.has-repeated.ensures ∙ ap (λ a. a || is_among name earlier) (sym (sym c.is_seen.ensures ∙ w.if-is_seen.false))
     ])
     ∙ seen_or all c.args.seen.now names earlier name seen
