@@ -9,7 +9,8 @@
 #   `indexOf` looks for is half of the text and then a letter that stands nowhere.
 # * Each against a tenth of its items, where 10 is linear, n log n is 12, and 100 the square: at most 30, since a list that no cache
 #   holds costs more for each item. A row that takes less than 2 ms is too short to tell.
-# Rows without a bar have a fifth of the items. Where an item is put in, ten fewer, so that the answers are within the limit.
+# Rows without a bar have a fifth of the items. Each answer is within the limit of a million: where an item is put in, the source has
+# ten fewer; a union has a million items itself, two thirds of which are those of the source of a Set or an OrderedSet, else half.
 # The status is 0 where no row is above a bar. It takes about four minutes on a quiet machine.
 #   bench/operations.sh [ITEMS]     the number of items in place of a million
 set -u
@@ -25,7 +26,11 @@ above=()
 row() { # FORM ITEMS KIND BASE BAR: the form of two words where it has two, the bar `-` where there is none
   local form=$1 items=$2 kind=$3 base=$4 bar=$5 many=$most key one ten said
   [ "$bar" != - ] || many=$((most / 5))
-  case $form in *including | *append | prepend | insertAt) many=$((many - 10)) ;; esac
+  case $form-$kind in
+    union-set | union-ordered) many=$((many * 2 / 3)) ;;
+    union-*) many=$((many / 2)) ;;
+    *including-* | *append-* | prepend-* | insertAt-*) many=$((many - 10)) ;;
+  esac
   key="$base $items $kind $many"
   [ "$base" != sort ] || key="sort $items $many"
   [ -n "${bases[$key]-}" ] || bases[$key]=$(median "$base" "$items" "$kind" "$many")
