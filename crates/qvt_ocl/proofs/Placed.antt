@@ -19,7 +19,7 @@ use Rattle.qvt_value.proofs.KeptItems as items
 use Rattle.qvt_value.proofs.OrderOfValues.{total, exact}
 use Rattle.qvt_value.proofs.Same as derived
 use Rattle.qvt_ocl_words.specs.Lists.{same, has}
-use Rattle.qvt_ocl.proofs.Growing.{same_flip, firsts_more}
+use Rattle.qvt_ocl_lists.proofs.Joined.{same_flip, firsts_more}
 
 abbrev count : Value → List Value → ℕ
 count = items.count order_of total exact

@@ -1,6 +1,7 @@
 //! Collections made of lists, for every kind.
 
 ghost use Rattle.std.specs.Prelude.{◌≡◌, ◌++◌, ◌∷◌, [], IfOk};
+ghost use Rattle.qvt_value.specs.declared.value.Kind.TheVariants.{OrderedSet};
 ghost use Rattle.qvt_ocl_words.specs.Lists.{excluding, lacking, flattened};
 ghost use Rattle.qvt_ocl_words.specs.Collections.{kept, where', is_once, same_kind, common_kind, intersected};
 
@@ -11,6 +12,7 @@ use qvt_ocl_lists::counts::common;
 use qvt_ocl_lists::flat::flattened;
 use qvt_ocl_lists::items;
 use qvt_ocl_lists::lookup::lacking;
+use qvt_ocl_lists::once::joining;
 use qvt_value::copy::copies;
 use qvt_value::make::make;
 use qvt_value::value::{Kind, Value, Values};
@@ -74,10 +76,28 @@ pub fn excluding(
     kept(alloc, kind, items::excluding(alloc, item, items)?)
 }
 
+/// The OrderedSet of the items and then the others. Where no item equals an earlier one, each is looked up once.
+#[tactic(auto, unfolding(qvt_ocl_words::specs::Collections::kept))]
+fn joined(alloc: Global, items: Values, others: &[Value]) -> Result<Value, ListFault>
+    ensures { IfOk result (λ answer. answer ≡ kept OrderedSet (items ++ others.now)) }
+{
+    match joining(alloc, items.as_slice(), others)? {
+        Some(fresh) => Ok(Value::Coll(Kind::OrderedSet, items::followed(items, fresh)?)),
+        None => kept(
+            alloc,
+            Kind::OrderedSet,
+            items::extend(alloc, items, others)?,
+        ),
+    }
+}
+
 fn with_all(alloc: Global, kind: Kind, items: Values, others: &[Value]) -> Result<Value, ListFault>
     ensures { IfOk result (λ answer. answer ≡ kept kind (items ++ others.now)) }
 {
-    kept(alloc, kind, items::extend(alloc, items, others)?)
+    match kind {
+        Kind::OrderedSet => joined(alloc, items, others),
+        _ => kept(alloc, kind, items::extend(alloc, items, others)?),
+    }
 }
 
 /// The items of both, of one kind.

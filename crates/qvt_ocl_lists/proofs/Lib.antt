@@ -1,2 +1,3 @@
 pub mod CountTables
 pub mod ItemLists
+pub mod Joined

@@ -34,11 +34,13 @@ impl<'a> Model for Counts<'a> {
 }
 
 impl<'a> Counts<'a> {
-    fn new(alloc: Global) -> Counts<'a>
-        ensures { (x : Value) → left result x ≡ 0 }
+    /// None of any value, with room for so many values.
+    fn with_room(alloc: Global, n: usize) -> Result<Counts<'a>, ListFault>
+        ensures { IfOk result (λ none. (x : Value) → left none x ≡ 0) }
     {
-        Counts {
-            counts: IndexMap::new(alloc),
+        match IndexMap::with_capacity(alloc, n) {
+            Ok(counts) => Ok(Counts { counts }),
+            Err(_) => Err(ListFault::NoMemory),
         }
     }
 
@@ -62,7 +64,7 @@ impl<'a> Counts<'a> {
     pub fn in_list(alloc: Global, values: &'a [Value]) -> Result<Counts<'a>, ListFault>
         ensures { IfOk result (λ all. (x : Value) → left all x ≡ count x values.now) }
     {
-        let mut all = Counts::new(alloc);
+        let mut all = Counts::with_room(alloc, values.len())?;
         for value in values {
             // No list is so long that this is not told.
             let Some(more) = all.of(value).checked_add(1) else {

@@ -10,15 +10,15 @@ use qvt_base::list_fault::ListFault;
 use qvt_base::numbers::Place;
 use qvt_base::seq::Seq;
 use qvt_ocl_words::numbers::following;
-use qvt_value::order::compare;
 use qvt_value::value::{Reason, Value, Values};
 use std::alloc::Global;
 
-/// Whether the values are equal.
+/// Whether the values are equal. It stops at the first difference, and texts of other lengths are told by these.
+#[tactic(auto, using(qvt_value::proofs::OrderOfValues::alike))]
 pub fn same(a: &Value, b: &Value) -> bool
     ensures { result ≡ same a.now b.now }
 {
-    compare(a, b).is_eq()
+    a == b
 }
 
 /// Whether the value stands in the list.
@@ -78,6 +78,18 @@ pub fn extend(alloc: Global, items: Values, values: &[Value]) -> Result<Values, 
         all.push(value.copy(alloc)?)?;
     }
     Ok(all)
+}
+
+/// The items and then the others, which are handed over. No item is copied.
+pub fn followed(items: Values, others: Values) -> Result<Values, ListFault>
+    ensures { IfOk result (λ all. all ≡ items ++ others) }
+{
+    let mut all = items.into_vec();
+    let mut more = others.into_vec();
+    match all.append(&mut more) {
+        Ok(()) => Ok(Seq::from_vec(all)),
+        Err(_) => Err(ListFault::NoMemory),
+    }
 }
 
 /// Copies of what is not this value.

@@ -1,5 +1,5 @@
-//! Words on lists of values: equal items, look-ups and counts by hash, what is kept of a list, its
-//! innermost items, its sum, its least and greatest item.
+//! Words on lists of values: equal items, look-ups and counts by hash, what is kept of a list and of
+//! two, its innermost items, its sum, its least and greatest item.
 #![tactic(auto)]
 
 pub mod best;
@@ -7,4 +7,5 @@ pub mod counts;
 pub mod flat;
 pub mod items;
 pub mod lookup;
+pub mod once;
 pub mod total;

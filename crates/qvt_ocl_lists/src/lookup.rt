@@ -33,19 +33,23 @@ impl<'a> Model for Lookup<'a> {
 }
 
 impl<'a> Lookup<'a> {
-    fn new(alloc: Global) -> Lookup<'a>
-        ensures { (x : Value) → has result x ≡ false }
+    /// No values, with room for so many.
+    pub fn with_room(alloc: Global, n: usize) -> Result<Lookup<'a>, ListFault>
+        ensures { IfOk result (λ none. (x : Value) → has none x ≡ false) }
     {
-        Lookup {
-            keys: IndexSet::new(alloc),
+        match IndexSet::with_capacity(alloc, n) {
+            Ok(keys) => Ok(Lookup { keys }),
+            Err(_) => Err(ListFault::NoMemory),
         }
     }
 
-    fn note(&mut self, value: &'a Value) -> Result<(), ListFault>
-        ensures { OnOk result ((x : Value) → has self.new x ≡ (has self.old x || same x value.now)) }
+    /// Puts the value among them, and tells whether no equal one was there.
+    pub fn note(&mut self, value: &'a Value) -> Result<bool, ListFault>
+        ensures fresh { IfOk result (λ is_new. is_new ≡ not (has self.old value.now)) }
+        ensures more { OnOk result ((x : Value) → has self.new x ≡ (has self.old x || same x value.now)) }
     {
         match self.keys.insert(value) {
-            Ok(_) => Ok(()),
+            Ok(is_new) => Ok(is_new),
             Err(_) => Err(ListFault::NoMemory),
         }
     }
@@ -54,7 +58,7 @@ impl<'a> Lookup<'a> {
     pub fn of(alloc: Global, values: &'a [Value]) -> Result<Lookup<'a>, ListFault>
         ensures { IfOk result (λ all. (x : Value) → has all x ≡ has values.now x) }
     {
-        let mut all = Lookup::new(alloc);
+        let mut all = Lookup::with_room(alloc, values.len())?;
         for value in values {
             all.note(value)?;
         }
