@@ -56,7 +56,7 @@ fn local_named<'a>(locals: &'a [Local], name: &str) -> Option<&'a Local>
     None
 }
 
-/// The value of the first variable of that name.
+/// The value of the first variable of that name, else a misfit.
 #[tactic(auto, unfolding(qvt_run_rules::specs::Locals::read))]
 pub fn read(alloc: Global, state: &RunState<'_>, name: &str, place: Place) -> Result<Value, Halt>
     ensures { Runs (read name.now place (seen state.now)) result state.now }
@@ -67,12 +67,10 @@ pub fn read(alloc: Global, state: &RunState<'_>, name: &str, place: Place) -> Re
     }
 }
 
-/// Declares a variable that nothing is assigned to. A refused call changes nothing.
-pub fn bind_named(alloc: Global, state: &mut RunState<'_>, name: &Text, value: Value) -> Result<(), ListFault>
-    ensures ok { OnOk result (seen state.new ≡ with_local (fixed name.now value) (seen state.old)) }
+fn push(state: &mut RunState<'_>, name: Text, value: Value) -> Result<(), ListFault>
+    ensures ok { OnOk result (seen state.new ≡ with_local (fixed name value) (seen state.old)) }
     ensures err { OnErr result (seen state.new ≡ seen state.old) }
 {
-    let name = name.copy(alloc)?;
     state.locals.push(Local {
         name,
         asked: None,
@@ -80,15 +78,30 @@ pub fn bind_named(alloc: Global, state: &mut RunState<'_>, name: &Text, value: V
     })
 }
 
-/// The same for an iterator or a filter, which may have no name.
-pub fn bind(alloc: Global, state: &mut RunState<'_>, name: Option<&Text>, value: Value) -> Result<(), ListFault>
+/// Declares a variable to which nothing is assigned. A refused call changes nothing.
+pub fn bind_named(
+    alloc: Global,
+    state: &mut RunState<'_>,
+    name: &Text,
+    value: Value,
+) -> Result<(), ListFault>
+    ensures ok { OnOk result (seen state.new ≡ with_local (fixed name.now value) (seen state.old)) }
+    ensures err { OnErr result (seen state.new ≡ seen state.old) }
+{
+    let name = name.copy(alloc)?;
+    push(state, name, value)
+}
+
+/// The same of an iterator or a filter, which may have no name.
+pub fn bind(
+    alloc: Global,
+    state: &mut RunState<'_>,
+    name: Option<&Text>,
+    value: Value,
+) -> Result<(), ListFault>
     ensures ok { OnOk result (seen state.new ≡ with_local (fixed (name_in state.old.locals (option_copied name)) value) (seen state.old)) }
     ensures err { OnErr result (seen state.new ≡ seen state.old) }
 {
     let name = name_in(alloc, state.locals.as_slice(), name)?;
-    state.locals.push(Local {
-        name,
-        asked: None,
-        value,
-    })
+    push(state, name, value)
 }
