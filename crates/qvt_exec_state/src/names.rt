@@ -16,6 +16,7 @@ pub const SELF_NAME: &str = "#self";
 /// The name of the variable that `result` reads.
 pub const RESULT_NAME: &str = "#result";
 
+#[tactic(auto, using(crate::proofs::Signs::first_is_sign))]
 fn begins_with_sign(name: &str) -> bool
     ensures { result ≡ begins_with_sign name.now }
 {
@@ -46,7 +47,7 @@ fn unnamed(alloc: Global, locals: &[Local]) -> Result<Text, ListFault>
 
 /// The name by which an iterator or a filter is known, which may have one of its own.
 pub fn name_in(alloc: Global, locals: &[Local], name: Option<&Text>) -> Result<Text, ListFault>
-    ensures { IfOk result (λ own. own ≡ name_in locals.now (option_copied name)) }
+    ensures { IfOk result (λ own. own ≡ name_in locals.now (option_copied name.entry)) }
 {
     match name {
         None => unnamed(alloc, locals),

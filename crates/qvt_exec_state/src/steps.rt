@@ -99,7 +99,7 @@ pub fn bind(
     name: Option<&Text>,
     value: Value,
 ) -> Result<(), ListFault>
-    ensures ok { OnOk result (seen state.new ≡ with_local (fixed (name_in state.old.locals (option_copied name)) value) (seen state.old)) }
+    ensures ok { OnOk result (seen state.new ≡ with_local (fixed (name_in state.old.locals (option_copied name.entry)) value) (seen state.old)) }
     ensures err { OnErr result (seen state.new ≡ seen state.old) }
 {
     let name = name_in(alloc, state.locals.as_slice(), name)?;
