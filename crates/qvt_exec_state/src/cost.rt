@@ -56,10 +56,7 @@ impl Cost {
     pub fn told(&self) -> u64
         ensures { result ≡ min self.now u64.MAX }
     {
-        if self.laps.is_empty() {
-            self.low
-        } else {
-            u64::MAX
-        }
+        let low = self.low;
+        if self.laps.is_empty() { low } else { u64::MAX }
     }
 }

@@ -2,6 +2,7 @@
 #![tactic(auto)]
 
 pub mod cost;
+pub mod locals;
 pub mod names;
 pub mod state;
 pub mod steps;

@@ -3,10 +3,11 @@
 ghost use Rattle.std.specs.Prelude.{◌≡◌, Err, OnOk, OnErr};
 ghost use Rattle.std.specs.Option.{option_copied};
 ghost use Rattle.qvt_run_rules.specs.Cost.{count};
-ghost use Rattle.qvt_run_rules.specs.Locals.{fixed, local_named, name_in, read};
+ghost use Rattle.qvt_run_rules.specs.Locals.{fixed, name_in, read};
 ghost use Rattle.qvt_run_rules.specs.State.{found};
 ghost use Rattle.qvt_exec_state.specs.Runs.{Runs, seen, with_local};
 
+use crate::locals::local_named;
 use crate::names::name_in;
 use crate::state::RunState;
 use qvt_base::copied::Copied;
@@ -43,17 +44,6 @@ pub fn tick(state: &mut RunState<'_>) -> Result<(), Halt>
 {
     state.cost.add(1)?;
     Ok(())
-}
-
-fn local_named<'a>(locals: &'a [Local], name: &str) -> Option<&'a Local>
-    ensures { option_copied result ≡ local_named name.now locals.now }
-{
-    for local in locals {
-        if name == local.name.as_str() {
-            return Some(local);
-        }
-    }
-    None
 }
 
 /// The value of the first variable of that name, else a misfit.
