@@ -1,5 +1,5 @@
 -- What state of a run the code's is, and when a call does what a phrase does (OCL 2.4, 7).
-use Rattle.std.specs.Prelude.{◌≡◌, List, [], ◌∷◌, ◌++◌, None, Result, Ok, Err}
+use Rattle.std.specs.Prelude.{◌≡◌, [], ◌∷◌, ◌++◌, None, Result, Ok, Err}
 use Rattle.qvt_run_data.specs.declared.exit.Halt.{Halt}
 use Rattle.qvt_run_data.specs.declared.exit.Halt.TheVariants.{Exits, NoMemory}
 use Rattle.qvt_run_data.specs.declared.late.LateWrite.{LateWrite}
