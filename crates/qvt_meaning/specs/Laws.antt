@@ -15,7 +15,11 @@ use Rattle.qvt_value.specs.declared.value.Value.{Value, Obj}
 use Rattle.qvt_run_data.specs.declared.late.LateWrite.{LateWrite}
 use Rattle.qvt_run_data.specs.declared.late.LateValue.{LateValue}
 use Rattle.qvt_run_data.specs.declared.record.Record.{Record}
-use Rattle.qvt_run_rules.specs.State.{State, End, OutOfFuel, Exit, Returned, Ends, Done, Does}
+use Rattle.qvt_run_data.specs.declared.exit.End.{End}
+use Rattle.qvt_run_data.specs.declared.exit.Exit.{Exit}
+use Rattle.qvt_run_data.specs.declared.exit.End.TheVariants.{OutOfFuel}
+use Rattle.qvt_run_data.specs.declared.exit.Exit.TheVariants.{Returned, Ends}
+use Rattle.qvt_run_rules.specs.State.{State, Done, Does}
 use Rattle.qvt_run_rules.specs.Calls.{Callee}
 use Rattle.qvt_run_rules.specs.Statements.{in_order}
 use Rattle.qvt_run_rules.specs.Trace.{key_of, result_for}

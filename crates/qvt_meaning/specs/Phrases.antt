@@ -4,7 +4,7 @@ use Rattle.qvt_base.specs.declared.numbers.Place.{Place}
 use Rattle.qvt_types_data.specs.Term.{kind_of}
 use Rattle.qvt_types_data.specs.declared.note.Note.{Note}
 use Rattle.qvt_types_data.specs.declared.ty.Ty.{Ty}
-use Rattle.qvt_types_nodes.specs.Tree.{TypedTypeTerm, TypedExprTerm, TypedIntExpr, TypedStrExpr, TypedBoolExpr, TypedNullExpr, TypedSelfExpr, TypedResultExpr, TypedPathExpr, TypedCallExpr, TypedCollExpr, TypedIfExpr, TypedObjectExpr, TypedNewExpr, TypedMapExpr, TypedResolveExpr, TypedChainExpr, TypedPrefixExpr, TypedPostExpr, TypedExprTerms, TypedNoExprs, TypedMoreExprs, TypedOptionalExpr, TypedNoExpr, TypedSomeExpr, TypedOptionalArgs, TypedNoArgs, TypedSomeArgs, TypedLinkTerm, TypedLinkOf, TypedLinkTerms, TypedNoLinks, TypedMoreLinks, TypedItemTerm, TypedItemOf, TypedRangeTerm, TypedNoRange, TypedRangeTo, TypedItemTerms, TypedNoItems, TypedMoreItems, TypedMapTerm, TypedMapOf, TypedHeadTerm, TypedNoHead, TypedHeadOf, TypedAccumulatorTerm, TypedNoAccumulator, TypedAccumulatorOf, TypedStepTerm, TypedDotStep, TypedArrowStep, TypedDotMapStep, TypedArrowMapStep, TypedDotResolveStep, TypedArrowResolveStep, TypedStepTerms, TypedNoSteps, TypedMoreSteps, TypedTargetTerm, TypedBareTarget, TypedResultTarget, TypedMemberTarget, TypedStmtTerm, TypedVarStmt, TypedAssignStmt, TypedReturnStmt, TypedValueStmt, TypedIfStmt, TypedWhileStmt, TypedForEachStmt, TypedStmtTerms, TypedNoStmts, TypedMoreStmts, TypedElseTerm, TypedNoElse, TypedElseOf, TypedArmTerm, TypedArmOf, TypedArmTerms, TypedNoArms, TypedMoreArms}
+use Rattle.qvt_types_nodes.specs.Tree.{TypedTypeTerm, TypedExprTerm, TypedIntExpr, TypedStrExpr, TypedBoolExpr, TypedNullExpr, TypedSelfExpr, TypedResultExpr, TypedPathExpr, TypedCallExpr, TypedCollExpr, TypedIfExpr, TypedObjectExpr, TypedNewExpr, TypedMapExpr, TypedResolveExpr, TypedChainExpr, TypedPrefixExpr, TypedPostExpr, TypedExprTerms, TypedNoExprs, TypedMoreExprs, TypedOptionalExpr, TypedNoExpr, TypedSomeExpr, TypedOptionalArgs, TypedNoArgs, TypedSomeArgs, TypedLinkTerm, TypedLinkOf, TypedLinkTerms, TypedNoLinks, TypedMoreLinks, TypedItemTerm, TypedItemOf, TypedRangeTerm, TypedNoRange, TypedRangeTo, TypedItemTerms, TypedNoItems, TypedMoreItems, TypedMapTerm, TypedMapOf, TypedResolveTerm, TypedHeadTerm, TypedNoHead, TypedHeadOf, TypedAccumulatorTerm, TypedNoAccumulator, TypedAccumulatorOf, TypedStepTerm, TypedDotStep, TypedArrowStep, TypedDotMapStep, TypedArrowMapStep, TypedDotResolveStep, TypedArrowResolveStep, TypedStepTerms, TypedNoSteps, TypedMoreSteps, TypedTargetTerm, TypedBareTarget, TypedResultTarget, TypedMemberTarget, TypedStmtTerm, TypedVarStmt, TypedAssignStmt, TypedReturnStmt, TypedValueStmt, TypedIfStmt, TypedWhileStmt, TypedForEachStmt, TypedStmtTerms, TypedNoStmts, TypedMoreStmts, TypedElseTerm, TypedNoElse, TypedElseOf, TypedArmTerm, TypedArmOf, TypedArmTerms, TypedNoArms, TypedMoreArms}
 use Rattle.qvt_types_steps.specs.Iterators.{item_type}
 use Rattle.qvt_types_words.specs.Rulings.{unless_void}
 use Rattle.qvt_value.specs.declared.value.Value.{Value, Null, Bool as Truth, Int, Str}
@@ -50,13 +50,13 @@ module _ {E : Type 0} (x : Setting E) (calls : Calls E) (answer : Option Ty) whe
     expr (TypedSelfExpr at n) = rule.variable x.spend self_name at
     expr (TypedResultExpr at n) = rule.variable x.spend result_name at
     expr (TypedPathExpr p) = by.name_of x p.note.reading p.note.source p.place
-    expr (TypedCallExpr name es at n) = by.call_alone x calls n.reading n.source false (exprs es) at
+    expr (TypedCallExpr name es at n) = x.beyond at (by.call_alone x calls n.reading n.source false (exprs es) at)
     expr (TypedCollExpr k is at n) = rule.collected x.spend (kind_of k) (items is) at
     expr (TypedIfExpr c y z at n) = rule.conditional x.spend (expr c) (place_of c) (expr y) (expr z)
-    expr (TypedObjectExpr v path e ss at n) = by.object_by x (by.variable_of x v) n.reading (statement.block (stmts ss)) at
-    expr (TypedNewExpr path e es at n) = by.new_by x calls n.reading (exprs es) at
+    expr (TypedObjectExpr v path e ss at n) = x.beyond at (by.object_by x (by.variable_of x v) n.reading (statement.block (stmts ss)) at)
+    expr (TypedNewExpr path e es at n) = x.beyond at (by.new_by x calls n.reading (exprs es) at)
     expr (TypedMapExpr m) = map_alone m
-    expr (TypedResolveExpr r) = by.resolve_alone x (form_of x.program r) (resolve_mark r).place
+    expr (TypedResolveExpr r) = x.beyond (resolve_mark r).place (by.resolve_alone x (form_of x.program r) (resolve_mark r).place)
     expr (TypedChainExpr level e ls at n) = rule.on_first (expr e) (links ls)
     expr (TypedPrefixExpr ss e at n) = by.signs_of x ss (expr e)
     expr (TypedPostExpr e ss at n) = by.post_of x (model_named e) at (expr e) ss (steps (type_of e) ss)
@@ -85,11 +85,11 @@ module _ {E : Type 0} (x : Setting E) (calls : Calls E) (answer : Option Ty) whe
 
     -- a mapping on the implicit source, or without a context
     pub map_alone : TypedMapTerm → Does E Value
-    map_alone (TypedMapOf strict name es at n) = by.call_alone x calls n.reading n.source strict (exprs es) at
+    map_alone (TypedMapOf strict name es at n) = x.beyond at (by.call_alone x calls n.reading n.source strict (exprs es) at)
 
     -- over all objects of the source, or on one
     pub map_step : Bool → TypedMapTerm → Value → Does E Value
-    map_step all (TypedMapOf strict name es at n) = by.map_step x calls n.reading (if all then true else n.collect) strict (exprs es) at
+    map_step all (TypedMapOf strict name es at n) v = x.beyond at (by.map_step x calls n.reading (if all then true else n.collect) strict (exprs es) at v)
 
     pub head : TypedHeadTerm → HeadDoes E
     head TypedNoHead = no_head
@@ -99,14 +99,17 @@ module _ {E : Type 0} (x : Setting E) (calls : Calls E) (answer : Option Ty) whe
     accumulator TypedNoAccumulator = None
     accumulator (TypedAccumulatorOf name t e at n) = Some (name, expr e)
 
+    pub resolve_step : TypedResolveTerm → Value → Does E Value
+    resolve_step r v = x.beyond (resolve_mark r).place (by.resolve_step x (form_of x.program r) (resolve_mark r).place v)
+
     -- the type of what stands before the step comes first
     pub step : Option Ty → TypedStepTerm → Value → Does E Value
     step o (TypedDotStep name args at n) = dot_step name args at n
     step o (TypedArrowStep name h es at n) = by.arrow_by x (kind_before o) n.wrap name (head h) (exprs es) (class_argument es) at
     step o (TypedDotMapStep m) = map_step false m
     step o (TypedArrowMapStep m) = map_step true m
-    step o (TypedDotResolveStep r) = by.resolve_step x (form_of x.program r) (resolve_mark r).place
-    step o (TypedArrowResolveStep r) = by.resolve_step x (form_of x.program r) (resolve_mark r).place
+    step o (TypedDotResolveStep r) = resolve_step r
+    step o (TypedArrowResolveStep r) = resolve_step r
 
     pub dot_step : List ℕ → TypedOptionalArgs → Place → Note → Value → Does E Value
     dot_step name TypedNoArgs at n = by.property_by x n.reading n.collect at

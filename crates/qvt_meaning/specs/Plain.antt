@@ -12,7 +12,12 @@ use Rattle.qvt_value.specs.declared.value.Var.{Var}
 use Rattle.qvt_run_data.specs.declared.fault.RunFault.TheVariants as fault
 use Rattle.qvt_run_data.specs.declared.late.LateWrite.{LateWrite}
 use Rattle.qvt_run_data.specs.declared.record.Record.{Record}
-use Rattle.qvt_run_rules.specs.State.{Local, State, End, Fault, Exit, Returned, Ends, Done, Does, misfit}
+use Rattle.qvt_run_data.specs.declared.local.Local.{Local}
+use Rattle.qvt_run_data.specs.declared.exit.End.{End}
+use Rattle.qvt_run_data.specs.declared.exit.Exit.{Exit}
+use Rattle.qvt_run_data.specs.declared.exit.End.TheVariants.{Fault}
+use Rattle.qvt_run_data.specs.declared.exit.Exit.TheVariants.{Returned, Ends}
+use Rattle.qvt_run_rules.specs.State.{State, Done, Does, misfit}
 use Rattle.qvt_run_rules.specs.Cost.{count}
 use Rattle.qvt_run_rules.specs.Locals.{fixed, local_of, name_in}
 use Rattle.qvt_run_rules.specs.Trace.{candidates}
@@ -44,18 +49,21 @@ pub record Evaluated : Type 0 where
 abbrev pub evaluated : {E : Type 0} → Done E Value → Evaluated
 evaluated d = record { outcome = ended d.0; cost = d.1.cost }
 
--- a plain expression calls no unit and resolves nothing
-abbrev pub no_calls : Calls (Unit {0})
+-- a plain expression calls no unit, resolves nothing, and has nothing beyond it
+abbrev pub no_calls : Calls LateWrite
 no_calls c vs at = misfit at
 
-abbrev pub no_resolve : Place → Query → Does (Unit {0}) Value
+abbrev pub no_resolve : Place → Query → Does LateWrite Value
 no_resolve at q = misfit at
 
-abbrev pub no_entry : LateWrite → Does (Unit {0}) (Unit {0})
+abbrev pub no_entry : LateWrite → Does LateWrite (Unit {0})
 no_entry w = misfit w.place
 
-abbrev pub plain_setting : ProgramTerm → Setting (Unit {0})
-plain_setting p = record { program = p; spend = count; turns = 0; resolve = no_resolve; enter = no_entry }
+abbrev pub nothing_beyond : Place → Does LateWrite Value → Does LateWrite Value
+nothing_beyond at p = misfit at
+
+abbrev pub plain_setting : ProgramTerm → Setting LateWrite
+plain_setting p = record { program = p; spend = count; turns = 0; resolve = no_resolve; enter = no_entry; beyond = nothing_beyond }
 
 -- the value of a plain expression over a store and variables, and its cost
 unfoldable pub plain : ProgramTerm → Contents → List Local → TypedExprTerm → Evaluated

@@ -34,7 +34,10 @@ use Rattle.qvt_run_rules.specs.State.{Does, misfit, look}
 use Rattle.qvt_run_rules.specs.Locals.{result_name}
 use Rattle.qvt_run_rules.specs.Sources.{before_arrow}
 use Rattle.qvt_run_rules.specs.Expressions as rule
-use Rattle.qvt_run_rules.specs.Expressions.{ObjectTest, IsKindOf, IsTypeOf, AsType, ModelQuery, Objects, RootObjects, ObjectsOfType}
+use Rattle.qvt_run_data.specs.declared.questions.ObjectTest.{ObjectTest}
+use Rattle.qvt_run_data.specs.declared.questions.ObjectTest.TheVariants.{IsKindOf, IsTypeOf, AsType}
+use Rattle.qvt_run_data.specs.declared.questions.ModelQuery.{ModelQuery}
+use Rattle.qvt_run_data.specs.declared.questions.ModelQuery.TheVariants.{Objects, RootObjects, ObjectsOfType}
 use Rattle.qvt_run_rules.specs.Iterators as each
 use Rattle.qvt_run_rules.specs.Statements as statement
 use Rattle.qvt_run_rules.specs.Calls as call
@@ -45,13 +48,15 @@ use Rattle.qvt_meaning.specs.Nodes.{resolve_mark, class_argument}
 use Rattle.qvt_meaning.specs.Program.{chosen_for, free_callee, form_of}
 
 -- What the rules of a run stand on: the program; what a charge of so many units does; how many turns a loop may have at most; what a
--- resolve answers that is not late, at its place; and what a late assignment does with what it keeps.
+-- resolve answers that is not late, at its place; what a late assignment does with what it keeps; and what becomes of a phrase, at its
+-- place, that no plain expression has: one that calls a unit, makes or changes something, resolves, or need not end.
 pub record Setting (E : Type 0) : Type 0 where
   pub program : ProgramTerm
   pub spend : ℕ → Does E (Unit {0})
   pub turns : ℕ
   pub resolve : Place → Query → Does E Value
   pub enter : LateWrite → Does E (Unit {0})
+  pub beyond : Place → Does E Value → Does E Value
 
 -- a target: a bare name by its reading and its implicit source, `result`, or a property of an object that an expression gives
 pub data TargetDoes (E : Type 0) : Type 0 where
@@ -147,7 +152,7 @@ module _ {E : Type 0} (x : Setting E) where
   -- a step with arguments behind a dot
   abbrev pub dot_by : Calls E → List ℕ → Reading → Bool → List (Does E Value) → Option ℕ → Place → Value → Does E Value
   dot_by calls name (reading.Operation o) collect ps c at v = operation_step name ps c collect at v
-  dot_by calls name (reading.Units ns) collect ps c at v = unit_step calls (reading.Units ns) collect ps at v
+  dot_by calls name (reading.Units ns) collect ps c at v = x.beyond at (unit_step calls (reading.Units ns) collect ps at v)
   dot_by calls name r collect ps c at v = misfit at
 
   -- Behind an arrow.
@@ -167,7 +172,7 @@ module _ {E : Type 0} (x : Setting E) where
   iterator_by iterator.One h p at v = each.one x.spend at h.name p v
   iterator_by iterator.IsUnique h p at v = each.is_unique x.spend at h.name p v
   iterator_by iterator.SortedBy h p at v = each.sorted_by x.spend at h.name p v
-  iterator_by iterator.Closure h p at v = each.closure x.spend at h.name p x.turns v
+  iterator_by iterator.Closure h p at v = x.beyond at (each.closure x.spend at h.name p x.turns v)
   iterator_by iterator.Iterate h p at v = iterate_by h p at h.accumulator v
 
   -- an iterator has one body

@@ -16,7 +16,11 @@ use Rattle.qvt_run_data.specs.declared.fault.RunFault.TheVariants as fault
 use Rattle.qvt_run_data.specs.declared.late.LateWrite.{LateWrite}
 use Rattle.qvt_run_data.specs.declared.late.LateValue.{LateValue}
 use Rattle.qvt_run_data.specs.declared.record.Record.{Record}
-use Rattle.qvt_run_rules.specs.State.{State, End, Fault, OutOfFuel, Exit, Returned, Ends, Done, Does, turn_to}
+use Rattle.qvt_run_data.specs.declared.exit.End.{End}
+use Rattle.qvt_run_data.specs.declared.exit.Exit.{Exit}
+use Rattle.qvt_run_data.specs.declared.exit.End.TheVariants.{Fault, OutOfFuel}
+use Rattle.qvt_run_data.specs.declared.exit.Exit.TheVariants.{Returned, Ends}
+use Rattle.qvt_run_rules.specs.State.{State, Done, Does, turn_to}
 use Rattle.qvt_run_rules.specs.Cost.{charge}
 use Rattle.qvt_run_rules.specs.Locals.{local_of}
 use Rattle.qvt_run_rules.specs.Statements as statement
@@ -68,9 +72,12 @@ module _ {E : Type 0} (keep : LateWrite → E) (p : ProgramTerm) (fuel : ℕ) wh
   abbrev pub entered : LateWrite → Does E (Unit {0})
   entered w = turn_to (λ s. record s { entries = s.entries ++ keep w ∷ [] })
 
+  abbrev pub nothing_barred : Place → Does E Value → Does E Value
+  nothing_barred at q = q
+
   -- with this fuel; what is kept of a late write is told by `keep`
   unfoldable pub setting : Setting E
-  setting = record { program = p; spend = charge fuel; turns = fuel; resolve = resolved; enter = entered }
+  setting = record { program = p; spend = charge fuel; turns = fuel; resolve = resolved; enter = entered; beyond = nothing_barred }
 
   -- `main`, outside all objects
   abbrev pub main_does : Does E (Unit {0})

@@ -9,7 +9,8 @@ use Rattle.qvt_types_nodes.specs.declared.module.TypedResultDecl.{TypedResultDec
 use Rattle.qvt_types_units.specs.declared.signature.Signature.{Signature}
 use Rattle.qvt_types_units.specs.Numbers.{has_context}
 use Rattle.qvt_run_data.specs.declared.fault.RunFault.TheVariants as fault
-use Rattle.qvt_run_rules.specs.State.{Does, Fault, ◌>>=◌, stop, found}
+use Rattle.qvt_run_data.specs.declared.exit.End.TheVariants.{Fault}
+use Rattle.qvt_run_rules.specs.State.{Does, ◌>>=◌, stop, found}
 use Rattle.qvt_run_rules.specs.Statements as statement
 use Rattle.qvt_run_rules.specs.Calls.{HelperCall, ConstructorCall, MappingCall, Calls, Param, Routine, helper, constructor_}
 use Rattle.qvt_run_rules.specs.Mappings.{Making, MappingRule, mapping}

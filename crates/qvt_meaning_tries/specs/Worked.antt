@@ -7,7 +7,9 @@ use Rattle.qvt_value.specs.declared.value.Reason.TheVariants as reason
 use Rattle.qvt_run_data.specs.declared.fault.RunFault.TheVariants as fault
 use Rattle.qvt_value.specs.declared.value.Value.{Value, Null, Invalid}
 use Rattle.qvt_run_rules.specs.Sources.{dotted}
-use Rattle.qvt_run_rules.specs.State.{State, Does, End, Fault, OutOfFuel}
+use Rattle.qvt_run_data.specs.declared.exit.End.{End}
+use Rattle.qvt_run_data.specs.declared.exit.End.TheVariants.{Fault, OutOfFuel}
+use Rattle.qvt_run_rules.specs.State.{State, Does}
 use Rattle.qvt_typing.specs.Accepts.{ProgramTerm}
 use Rattle.qvt_meaning.specs.Run.{Finished, finished}
 use Rattle.qvt_meaning_tries.specs.Small.{at, store, object_with, object_to, int, truth, chain, divided, conditional, one_object, looping, mapped, resolved_late}

@@ -1,7 +1,11 @@
-//! What a run keeps and tells: records of the trace, requests, late writes, and the run's faults.
+//! What a run keeps and tells: variables in scope, records of the trace, requests, late writes, what ends
+//! phrases, and the run's faults.
 #![tactic(auto)]
 
+pub mod exit;
 pub mod fault;
 pub mod late;
+pub mod local;
+pub mod questions;
 pub mod record;
 pub mod request;

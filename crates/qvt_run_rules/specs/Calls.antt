@@ -8,7 +8,10 @@ use Rattle.qvt_value.specs.declared.value.Value.{Value, Null, Obj}
 use Rattle.qvt_value.specs.declared.value.Kind.TheVariants.{Sequence}
 use Rattle.qvt_value.specs.Limits.{built}
 use Rattle.qvt_ocl_words.specs.Lists.{is_null}
-use Rattle.qvt_run_rules.specs.State.{Local, State, Exit, Returned, Ends, Done, Does, ◌>>=◌, ◌>>◌, pure, misfit, found, caught}
+use Rattle.qvt_run_data.specs.declared.local.Local.{Local}
+use Rattle.qvt_run_data.specs.declared.exit.Exit.{Exit}
+use Rattle.qvt_run_data.specs.declared.exit.Exit.TheVariants.{Returned, Ends}
+use Rattle.qvt_run_rules.specs.State.{State, Done, Does, ◌>>=◌, ◌>>◌, pure, misfit, found, caught}
 use Rattle.qvt_run_rules.specs.Typed.{valid, present, object_of, asked}
 use Rattle.qvt_run_rules.specs.Locals.{self_name, result_name, fixed, read, in_frame}
 use Rattle.qvt_run_rules.specs.Sources.{objects_in, collecting}

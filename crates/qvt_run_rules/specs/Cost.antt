@@ -1,6 +1,8 @@
 -- Fuel (the engine's own). Each rule charges where evaluation reaches the unit, so a rule takes what a charge of so many units does.
 use Rattle.std.specs.Prelude.{ℕ, ◌+◌, nat_lt, if◌then◌else◌, Ok, Err}
-use Rattle.qvt_run_rules.specs.State.{OutOfFuel, Ends, Does}
+use Rattle.qvt_run_data.specs.declared.exit.End.TheVariants.{OutOfFuel}
+use Rattle.qvt_run_data.specs.declared.exit.Exit.TheVariants.{Ends}
+use Rattle.qvt_run_rules.specs.State.{Does}
 
 -- n units more, unless the cost would pass the fuel
 unfoldable pub charge : {E : Type 0} → ℕ → ℕ → Does E (Unit {0})

@@ -17,6 +17,10 @@ use Rattle.qvt_ocl_words.specs.declared.op.Op.{Op}
 use Rattle.qvt_ocl_words.specs.declared.op.Op.TheVariants as operator
 use Rattle.qvt_ocl_words.specs.Operation.{operation}
 use Rattle.qvt_slots.specs.Contents.{Contents, class_of, is_live, members_of}
+use Rattle.qvt_run_data.specs.declared.questions.ObjectTest.{ObjectTest}
+use Rattle.qvt_run_data.specs.declared.questions.ObjectTest.TheVariants.{IsKindOf, IsTypeOf, AsType}
+use Rattle.qvt_run_data.specs.declared.questions.ModelQuery.{ModelQuery}
+use Rattle.qvt_run_data.specs.declared.questions.ModelQuery.TheVariants.{Objects, RootObjects, ObjectsOfType}
 use Rattle.qvt_run_rules.specs.State.{Does, ◌>>=◌, ◌>>◌, pure, misfit, found, look, ask}
 use Rattle.qvt_run_rules.specs.Locals.{read}
 use Rattle.qvt_run_rules.specs.Logic.{value_or, logic, by_left, not_of}
@@ -49,11 +53,6 @@ collection at k vs = value_or (find is_invalid vs) (built at k vs)
 
 -- The tests of an object, and its cast (OCL 2.4, 11.3.3).
 
-pub data ObjectTest : Type 0 where
-  IsKindOf : ObjectTest
-  IsTypeOf : ObjectTest
-  AsType : ObjectTest
-
 abbrev pub object_test : Contents → ObjectTest → ℕ → Place → Oid → Value
 object_test s IsKindOf c at o = Truth (descends s.metas (class_of s o.0) c)
 object_test s IsTypeOf c at o = Truth (class_of s o.0 == c)
@@ -84,11 +83,6 @@ abbrev pub selected : Contents → Bool → ℕ → Place → Kind → List Valu
 selected s exact c at k vs = if list_all (is_object s) vs then Some (built at k (filter (is_selected s exact c) vs)) else None
 
 -- The operations of a model (QVT 1.3, 8.3.4.1 to 8.3.4.3).
-
-pub data ModelQuery : Type 0 where
-  Objects : ModelQuery
-  RootObjects : ModelQuery
-  ObjectsOfType : ℕ → ModelQuery
 
 abbrev pub model_objects : Contents → ModelQuery → ℕ → List Oid
 model_objects s Objects e = objects_of s e

@@ -11,7 +11,8 @@ use Rattle.qvt_value.specs.Kept.{sorted}
 use Rattle.qvt_value.specs.Limits.{built}
 use Rattle.qvt_value.specs.Order.{order_of}
 use Rattle.qvt_ocl_words.specs.Lists.{has, is_integer, is_string}
-use Rattle.qvt_run_rules.specs.State.{Does, ◌>>=◌, ◌>>◌, pure, stop, misfit, found, OutOfFuel}
+use Rattle.qvt_run_data.specs.declared.exit.End.TheVariants.{OutOfFuel}
+use Rattle.qvt_run_rules.specs.State.{Does, ◌>>=◌, ◌>>◌, pure, stop, misfit, found}
 use Rattle.qvt_run_rules.specs.Locals.{fixed, name_in, with_locals}
 use Rattle.qvt_run_rules.specs.Logic.{is_true, conjunction, disjunction, if_logical}
 use Rattle.qvt_run_rules.specs.Sources.{items_of, present_items, collected_kind, sorted_kind, reached_kind, unless_invalid, over_items, gathered, as_kind, as_flat}

@@ -7,7 +7,9 @@ use Rattle.qvt_base.specs.declared.numbers.Place.{Place}
 use Rattle.qvt_value.specs.declared.value.Value.{Value}
 use Rattle.qvt_value.specs.declared.value.Var.{Var}
 use Rattle.qvt_types_data.specs.declared.ty.Ty.{Ty}
-use Rattle.qvt_run_rules.specs.State.{Local, State, Exit, Done, Does, ◌>>=◌, look, turn_to}
+use Rattle.qvt_run_data.specs.declared.local.Local.{Local}
+use Rattle.qvt_run_data.specs.declared.exit.Exit.{Exit}
+use Rattle.qvt_run_rules.specs.State.{State, Done, Does, ◌>>=◌, look, turn_to}
 use Rattle.qvt_run_rules.specs.Typed.{asked}
 
 -- The names of what has none in a text.
@@ -35,7 +37,7 @@ name_in vs None = unnamed vs
 name_in vs (Some name) = name
 
 abbrev pub local : List ℕ → Option Ty → Value → Local
-local name t v = record { name = name; type = t; value = v }
+local name t v = record { name = name; asked = t; value = v }
 
 -- a variable that nothing is assigned to
 abbrev pub fixed : List ℕ → Value → Local
@@ -86,7 +88,7 @@ module _ {E : Type 0} where
 
   -- the variable keeps its type, which the value has to have
   abbrev pub set_as : Local → Value → Place → Does E (Unit {0})
-  set_as old v at = asked old.type at v >>= (λ w. replace (local old.name old.type w))
+  set_as old v at = asked old.asked at v >>= (λ w. replace (local old.name old.asked w))
 
   unfoldable pub set : List ℕ → Value → Place → Does E (Unit {0})
   set name v at = read_local name at >>= (λ old. set_as old v at)

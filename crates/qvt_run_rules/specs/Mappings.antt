@@ -9,7 +9,9 @@ use Rattle.qvt_slots.specs.Contents.{class_of}
 use Rattle.qvt_types_data.specs.declared.ty.Ty.TheVariants as ty
 use Rattle.qvt_value.specs.declared.value.Value.{Value, Null, Obj}
 use Rattle.qvt_run_data.specs.declared.fault.RunFault.TheVariants as fault
-use Rattle.qvt_run_rules.specs.State.{Local, Key, State, Fault, Done, Does, ◌>>=◌, ◌>>◌, pure, stop, misfit, found, ask, turn_to, caught}
+use Rattle.qvt_run_data.specs.declared.local.Local.{Local}
+use Rattle.qvt_run_data.specs.declared.exit.End.TheVariants.{Fault}
+use Rattle.qvt_run_rules.specs.State.{Key, State, Done, Does, ◌>>=◌, ◌>>◌, pure, stop, misfit, found, ask, turn_to, caught}
 use Rattle.qvt_run_rules.specs.Locals.{result_name, local, read, set, in_frame, in_own}
 use Rattle.qvt_run_rules.specs.Store.{new_object}
 use Rattle.qvt_run_rules.specs.Trace.{result_for, has_key, record_of}

@@ -17,7 +17,9 @@ use Rattle.qvt_value.specs.declared.value.Reason.TheVariants.{NullValue}
 use Rattle.qvt_run_data.specs.declared.fault.RunFault.TheVariants as fault
 use Rattle.qvt_run_data.specs.declared.late.LateWrite.{LateWrite}
 use Rattle.qvt_run_data.specs.declared.request.Request.{Request}
-use Rattle.qvt_run_rules.specs.State.{State, End, Fault, Does, ◌>>=◌, ◌>>◌, pure, stop, look}
+use Rattle.qvt_run_data.specs.declared.exit.End.{End}
+use Rattle.qvt_run_data.specs.declared.exit.End.TheVariants.{Fault}
+use Rattle.qvt_run_rules.specs.State.{State, Does, ◌>>=◌, ◌>>◌, pure, stop, look}
 use Rattle.qvt_run_rules.specs.Typed.{valid}
 use Rattle.qvt_run_rules.specs.Locals.{var_of}
 use Rattle.qvt_run_rules.specs.Sources.{objects_in}

@@ -5,16 +5,13 @@ use Rattle.qvt_base.specs.declared.numbers.Oid.{Oid}
 use Rattle.qvt_base.specs.declared.numbers.Place.{Place}
 use Rattle.qvt_value.specs.declared.value.Value.{Value}
 use Rattle.qvt_slots.specs.Contents.{Contents}
-use Rattle.qvt_types_data.specs.declared.ty.Ty.{Ty}
-use Rattle.qvt_run_data.specs.declared.fault.RunFault.{RunFault}
+use Rattle.qvt_run_data.specs.declared.exit.End.{End}
+use Rattle.qvt_run_data.specs.declared.exit.End.TheVariants.{Fault}
+use Rattle.qvt_run_data.specs.declared.exit.Exit.{Exit}
+use Rattle.qvt_run_data.specs.declared.exit.Exit.TheVariants.{Returned, Ends}
 use Rattle.qvt_run_data.specs.declared.fault.RunFault.TheVariants as fault
+use Rattle.qvt_run_data.specs.declared.local.Local.{Local}
 use Rattle.qvt_run_data.specs.declared.record.Record.{Record}
-
--- a variable in scope, with the type that an assignment to it asks, if it has one that is asked
-pub record Local : Type 0 where
-  pub name : List ℕ
-  pub type : Option Ty
-  pub value : Value
 
 -- what a mapping is called with: its number, the context if it has one, and the arguments
 pub record Key : Type 0 where
@@ -32,16 +29,6 @@ pub record State (E : Type 0) : Type 0 where
   pub keys : List Key
   pub entries : List E
   pub cost : ℕ
-
--- what ends a run
-pub data End : Type 0 where
-  Fault : RunFault → Place → End
-  OutOfFuel : End
-
--- what ends the phrases around it: a `return`, up to the body or section of its unit, with its value if it has one; or the end of the run
-pub data Exit : Type 0 where
-  Returned : Option Value → Exit
-  Ends : End → Exit
 
 -- an outcome and a state
 abbrev pub Done : Type 0 → Type 0 → Type 0

@@ -14,7 +14,10 @@ use Rattle.qvt_types_data.specs.declared.ty.Ty.{Ty}
 use Rattle.qvt_types_words.specs.Types.{Collection, collection_of}
 use Rattle.qvt_types_words.specs.Rulings.{items_conform}
 use Rattle.qvt_run_data.specs.declared.fault.RunFault.TheVariants as fault
-use Rattle.qvt_run_rules.specs.State.{Local, Does, Fault, OutOfFuel, Returned, ◌>>=◌, ◌>>◌, pure, exits, stop, misfit, look}
+use Rattle.qvt_run_data.specs.declared.local.Local.{Local}
+use Rattle.qvt_run_data.specs.declared.exit.End.TheVariants.{Fault, OutOfFuel}
+use Rattle.qvt_run_data.specs.declared.exit.Exit.TheVariants.{Returned}
+use Rattle.qvt_run_rules.specs.State.{Does, ◌>>=◌, ◌>>◌, pure, exits, stop, misfit, look}
 use Rattle.qvt_run_rules.specs.Typed.{has_type, valid, object_of, taken}
 use Rattle.qvt_run_rules.specs.Locals.{local, read, read_local, push, set, scoped, with_locals, inside}
 use Rattle.qvt_run_rules.specs.Sources.{items_of}
@@ -83,7 +86,7 @@ module _ {E : Type 0} where
 
   -- `+=` to a variable, of a value with this type
   abbrev pub added : Local → Option Ty → Value → Place → Does E Value
-  added old t v at = look (λ s. added_as s.store at (collection_type old.type) (collection_type t) old.value v) at
+  added old t v at = look (λ s. added_as s.store at (collection_type old.asked) (collection_type t) old.value v) at
 
   unfoldable pub add_variable : List ℕ → Option Ty → Does E Value → Place → Does E (Unit {0})
   add_variable name t p at = p >>= valid >>= (λ v. read_local name at >>= (λ old. added old t v at >>= valid >>= (λ w. set name w at)))

@@ -22,7 +22,8 @@ use Rattle.qvt_slots.specs.Types.{is_of_type}
 use Rattle.qvt_slots.specs.Assign.{is_in, write}
 use Rattle.qvt_run_data.specs.declared.fault.RunFault.{RunFault}
 use Rattle.qvt_run_data.specs.declared.fault.RunFault.TheVariants as fault
-use Rattle.qvt_run_rules.specs.State.{Does, stop, misfit, look, Fault}
+use Rattle.qvt_run_data.specs.declared.exit.End.TheVariants.{Fault}
+use Rattle.qvt_run_rules.specs.State.{Does, stop, misfit, look}
 
 -- Properties.
 

@@ -13,7 +13,8 @@ use Rattle.qvt_slots.specs.Types.{is_bool, is_int, is_text, is_literal, is_insta
 use Rattle.qvt_types_data.specs.Term.{TyTerm, Void, Boolean, Integer, Text, Literals, Class, Collection, ty_view}
 use Rattle.qvt_types_data.specs.declared.ty.Ty.{Ty}
 use Rattle.qvt_run_data.specs.declared.fault.RunFault.TheVariants as fault
-use Rattle.qvt_run_rules.specs.State.{Does, ◌>>=◌, pure, stop, misfit, look, Fault}
+use Rattle.qvt_run_data.specs.declared.exit.End.TheVariants.{Fault}
+use Rattle.qvt_run_rules.specs.State.{Does, ◌>>=◌, pure, stop, misfit, look}
 
 -- a collection of the kind, of items that pass
 abbrev pub is_collection_of : Kind → (Value → Bool) → Value → Bool

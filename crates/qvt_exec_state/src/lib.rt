@@ -1,0 +1,8 @@
+//! The state of the evaluation of a plain expression, and the steps that it takes on it.
+#![tactic(auto)]
+
+pub mod cost;
+pub mod locals;
+pub mod names;
+pub mod state;
+pub mod steps;
