@@ -1,0 +1,53 @@
+-- The Integers of a range, one after another.
+use Rattle.std.proofs.Common.{◌≡◌, ◌∙◌, ℕ, zero, suc, ◌+◌, Bool, true, false, refl, sym, ap, List, [], ◌∷◌, add-one, arith}
+use Rattle.std.specs.Prelude.{Option, Some, None, ℤ, pos, negsuc, ◌+ℤ◌, ◌-ℤ◌, ◌≤ℤ◌, ◌<ℤ◌, int_le, unsigned_abs, if◌then◌else◌}
+use Rattle.std.specs.List.{find}
+use Rattle.std.proofs.lemmas.Int.{ints}
+use Rattle.qvt_value.specs.declared.value.Value.{Value, Int}
+use Rattle.qvt_value.specs.Make.{is_invalid}
+use Rattle.qvt_run_rules.specs.Expressions.{integers_from, integers_to}
+
+-- none of them is invalid
+from_valid : (a : ℤ) (n : ℕ) → find is_invalid (integers_from a n) ≡ None
+from_valid a zero = refl
+from_valid a (suc n) = from_valid (a +ℤ pos 1) n
+
+pub all_valid : (a b : ℤ) → find is_invalid (integers_to a b) ≡ None
+unfolding integers_to
+all_valid a b = by (int_le a b)
+  where
+    by : (t : Bool) → find is_invalid (if t then integers_from a (unsigned_abs (b -ℤ a) + 1) else []) ≡ None
+    by true = from_valid a (unsigned_abs (b -ℤ a) + 1)
+    by false = refl
+
+le_yes : (a b : ℤ) → a ≤ℤ b → int_le a b ≡ true
+le_yes a b h = grind (arith, ints)
+
+le_no : (a b : ℤ) → b <ℤ a → int_le a b ≡ false
+le_no a b h = grind (arith, ints)
+
+pub none_left : (a b : ℤ) → b <ℤ a → integers_to a b ≡ []
+unfolding integers_to
+none_left a b h = ap (λ t. if t then integers_from a (unsigned_abs (b -ℤ a) + 1) else []) (le_no a b h)
+
+some_left : (a b : ℤ) → a ≤ℤ b → integers_to a b ≡ integers_from a (unsigned_abs (b -ℤ a) + 1)
+unfolding integers_to
+some_left a b h = ap (λ t. if t then integers_from a (unsigned_abs (b -ℤ a) + 1) else []) (le_yes a b h)
+
+natural : (z : ℤ) → pos 0 ≤ℤ z → z ≡ pos (unsigned_abs z)
+natural (pos n) h = refl
+natural (negsuc n) h = absurd (omega (arith, ints))
+
+next : (a b : ℤ) (n : ℕ) → b -ℤ a ≡ pos n → integers_from a (n + 1) ≡ Int a ∷ integers_to (a +ℤ pos 1) b
+next a b zero e =
+    let above : b <ℤ (a +ℤ pos 1) = omega (arith, ints, e) in
+    ap (λ l. Int a ∷ l) (sym (none_left (a +ℤ pos 1) b above))
+next a b (suc n) e =
+    let less : b -ℤ (a +ℤ pos 1) ≡ pos n = omega (arith, ints, e) in
+    let below : (a +ℤ pos 1) ≤ℤ b = omega (arith, ints, e) in
+    ap (integers_from a) (add-one (suc n))
+    ∙ ap (λ l. Int a ∷ l) (ap (integers_from (a +ℤ pos 1)) (sym (add-one n)) ∙ ap (λ z. integers_from (a +ℤ pos 1) (unsigned_abs z + 1)) (sym less) ∙ sym (some_left (a +ℤ pos 1) b below))
+
+pub one_left : (a b : ℤ) → a ≤ℤ b → integers_to a b ≡ Int a ∷ integers_to (a +ℤ pos 1) b
+one_left a b h =
+    some_left a b h ∙ next a b (unsigned_abs (b -ℤ a)) (natural (b -ℤ a) (omega (arith, ints, h)))
