@@ -160,10 +160,11 @@ impl Gathered {
             self.is_full = self.items.len() > MOST;
             return Ok(());
         }
-        if self.items.len() > 2 * MOST {
-            self.keep_firsts(alloc)?;
-            self.is_full = self.items.len() > MOST;
+        if self.items.len() <= 2 * MOST {
+            return Ok(());
         }
+        self.keep_firsts(alloc)?;
+        self.is_full = self.items.len() > MOST;
         Ok(())
     }
 
@@ -171,14 +172,14 @@ impl Gathered {
     pub fn push(&mut self, alloc: Global, item: Value) -> Result<(), ListFault>
         ensures { OnOk result (HasMore (item ∷ []) self.old self.new) }
     {
-        if self.is_full {
-            if is_invalid(&item) {
-                self.put(item)?;
-            }
-            return Ok(());
+        if !self.is_full {
+            self.put(item)?;
+            return self.settle(alloc);
         }
-        self.put(item)?;
-        self.settle(alloc)
+        if is_invalid(&item) {
+            return self.put(item);
+        }
+        Ok(())
     }
 
     /// Puts the Integers from the first to the last.
