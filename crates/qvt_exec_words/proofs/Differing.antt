@@ -1,12 +1,15 @@
 -- No value stands in a list twice exactly where each is counted once.
-use Rattle.std.proofs.Common.{◌≡◌, ◌∙◌, ℕ, zero, suc, ◌+◌, ◌<◌, ◌≤◌, Bool, true, false, ◌&&◌, ◌||◌, not, cond, refl, sym, ap, List, [], ◌∷◌, arith}
+use Rattle.std.proofs.Common.{◌≡◌, ◌≢◌, ◌∙◌, ℕ, zero, suc, ◌+◌, ◌<◌, ◌≤◌, Bool, true, false, ◌&&◌, ◌||◌, not, cond, refl, sym, ap, List, [], ◌∷◌, arith}
 use Rattle.std.specs.Prelude.{◌==◌}
 use Rattle.std.specs.List.{list_all}
+use Rattle.std.specs.Ordering.{is_eq, ordering_reverse}
+use Rattle.std.specs.declared.cmp.Ordering.{Ordering}
+use Rattle.std.specs.declared.cmp.Ordering.TheVariants.{Less, Equal, Greater}
 use Rattle.std.proofs.lemmas.Bool.Decides.{nat_tests}
 use Rattle.qvt_value.specs.declared.value.Value.{Value}
 use Rattle.qvt_value.specs.Order.{order_of}
 use Rattle.qvt_value.proofs.KeptItems as items
-use Rattle.qvt_value.proofs.OrderOfValues.{total, exact}
+use Rattle.qvt_value.proofs.OrderOfValues.{total, exact, itself}
 use Rattle.qvt_ocl_words.specs.Lists.{same, has, count}
 use Rattle.qvt_run_rules.specs.Iterators.{all_differ}
 
@@ -17,10 +20,15 @@ counted : (z v : Value) (vs : List Value) → count z (v ∷ vs) ≡ one z v + c
 counted z v vs = items.count_is order_of total exact z (v ∷ vs) ∙ ap (λ n. one z v + n) (sym (items.count_is order_of total exact z vs))
 
 flip : (v w : Value) → same v w ≡ same w v
-flip = items.same_flip order_of total exact
+flip v w = ap is_eq (total.antisymm v w) ∙ by (order_of w v)
+  where
+    by : (r : Ordering) → is_eq (ordering_reverse r) ≡ is_eq r
+    by Less = refl
+    by Equal = refl
+    by Greater = refl
 
-itself : (v : Value) → one v v ≡ 1
-itself v = ap (λ b. cond b 1 0) (items.same_itself order_of total exact v)
+one_itself : (v : Value) → one v v ≡ 1
+one_itself v = ap (λ r. cond (is_eq r) 1 0) (itself v)
 
 apart : (z v : Value) → same z v ≡ false → one z v ≡ 0
 apart z v h = ap (λ b. cond b 1 0) h
@@ -69,7 +77,11 @@ each_once [] = refl
 each_once (v ∷ vs) = by (has vs v) refl (each_once vs)
   where
     by : (b : Bool) → has vs v ≡ b → all_differ vs ≡ list_all (Once vs) vs → (not b && all_differ vs) ≡ list_all (Once (v ∷ vs)) (v ∷ vs)
-    by true e k = sym (ap (λ b. b && list_all (Once (v ∷ vs)) vs) (not_one (count v (v ∷ vs)) (omega (arith, counted v v vs, itself v, some_of v vs e))))
+    by true e k = sym (ap (λ b. b && list_all (Once (v ∷ vs)) vs) (not_one (count v (v ∷ vs)) (omega (arith, counted v v vs, one_itself v, some_of v vs e))))
     by false e k =
         k ∙ sym (passed v vs vs e)
-        ∙ sym (ap (λ b. b && list_all (Once (v ∷ vs)) vs) (is_one (count v (v ∷ vs)) (omega (arith, counted v v vs, itself v, none_of v vs e))))
+        ∙ sym (ap (λ b. b && list_all (Once (v ∷ vs)) vs) (is_one (count v (v ∷ vs)) (omega (arith, counted v v vs, one_itself v, none_of v vs e))))
+
+-- one that is counted otherwise
+pub counted_else : (vs : List Value) (v : Value) (n : ℕ) → n ≡ count v vs → n ≢ 1 → (count v vs == 1) ≡ false
+counted_else vs v n e h = grind (arith, nat_tests)

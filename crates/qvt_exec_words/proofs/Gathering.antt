@@ -1,6 +1,6 @@
 -- Steps of gathering the items of a literal.
 use Rattle.std.proofs.Common.{◌≡◌, ◌∙◌, ℕ, zero, suc, ◌+◌, ◌*◌, ◌<◌, ◌≤◌, Bool, true, false, cond, refl, sym, ap, subst, List, [], ◌∷◌, ◌++◌, append_assoc, append-nil, length, arith}
-use Rattle.std.specs.Prelude.{Option, Some, None, nat_lt}
+use Rattle.std.specs.Prelude.{Option, Some, None, Result, Ok, Err, OnOk, MatchOption, nat_lt}
 use Rattle.std.specs.List.{find}
 use Rattle.std.specs.Option.{option_or}
 use Rattle.std.proofs.lemmas.Bool.{ltb-true, ltb-false}
@@ -17,7 +17,7 @@ use Rattle.qvt_ocl_words.specs.Collections.{is_once}
 use Rattle.qvt_run_rules.specs.Expressions.{collection}
 use Rattle.qvt_run_rules.specs.Logic.{value_or}
 use Rattle.qvt_exec_words.specs.declared.literals.Gathered.{Gathered}
-use Rattle.qvt_exec_words.specs.Gathered.{kept_of, IsKept, AreGathered, AreHeld}
+use Rattle.qvt_exec_words.specs.Gathered.{kept_of, IsKept, AreGathered, AreHeld, HasMore}
 use Rattle.qvt_exec_words.proofs.KeptOf.{kept_onto, kept_longer, kept_of_firsts, kept_of_list, kept_of_set, find_firsts, same_collection, large_collection}
 
 pub none_yet : (k : Kind) → AreGathered k [] (record { kind = k; items = []; is_full = false })
@@ -124,3 +124,28 @@ pub too_many : (at : Place) (g : Gathered) (k : Kind) (all : List Value) → Are
 too_many at g k all a e =
     ap (λ o. value_or o (Invalid TooLarge at)) a.invalid
     ∙ sym (large_collection at k all (kept_many g.is_full k g.items all e a.kept))
+
+-- ---- at the returns
+
+pub settled_firsts : (g h : Gathered) (n : ℕ) (k : Kind) (all : List Value) → is_once g.kind ≡ true → h ≡ with_items g (firsts order_of g.items) → n ≡ length h.items → AreHeld k all g
+    → AreGathered k all (record { kind = h.kind; items = h.items; is_full = nat_lt most n })
+settled_firsts g h n k all o e l a =
+    let m : nat_lt most (length (firsts order_of g.items)) ≡ nat_lt most n = ap (nat_lt most) (ap (λ (f : Gathered). length f.items) (sym e) ∙ sym l) in
+    subst (λ (f : Gathered). AreGathered k all f) (λ i. record { kind = (sym e i).kind; items = (sym e i).items; is_full = m i }) (seen_firsts g k all o a)
+
+pub pushed : {A E : Type 0} (r : Result A E) (g p h : Gathered) (v : Value) → g.is_full ≡ false → p ≡ with_items g (g.items ++ v ∷ []) → OnOk r ((k : Kind) (all : List Value) → AreHeld k all p → AreGathered k all h)
+    → OnOk r (HasMore (v ∷ []) g h)
+pushed (Ok x) g p h v e q s = λ k all a. s k (all ++ v ∷ []) (subst (λ (f : Gathered). AreHeld k (all ++ v ∷ []) f) (sym q) (put g k all v a e))
+pushed (Err x) g p h v e q s = tt
+
+pub pushed_behind : {A E : Type 0} (r : Result A E) (g h : Gathered) (v : Value) → g.is_full ≡ true → OnOk r (h ≡ with_items g (g.items ++ v ∷ [])) → OnOk r (HasMore (v ∷ []) g h)
+pushed_behind (Ok x) g h v e q = λ k all a. subst (λ (f : Gathered). AreGathered k (all ++ v ∷ []) f) (sym q) (put_behind g k all v a e)
+pushed_behind (Err x) g h v e q = tt
+
+pub ranged : (o : Option (List Value)) (xs : List Value) (g h : Gathered) → Some xs ≡ o → HasMore xs g h → MatchOption o (true ≡ false) (λ items. (true ≡ true) × HasMore items g h)
+ranged None xs g h e m = cc
+ranged (Some ys) xs g h e m = let same : xs ≡ ys = cc in (refl, subst (λ (zs : List Value). HasMore zs g h) same m)
+
+pub not_ranged : (o : Option (List Value)) (g h : Gathered) → None ≡ o → MatchOption o (false ≡ false) (λ items. (false ≡ true) × HasMore items g h)
+not_ranged None g h e = refl
+not_ranged (Some ys) g h e = cc

@@ -96,11 +96,11 @@ find_without x (y ∷ ys) h = by (is_same order_of x y) refl (find_without x ys 
 
 pub find_firsts : (xs : List Value) → find is_invalid (first_ones xs) ≡ find is_invalid xs
 find_firsts [] = refl
-find_firsts (x ∷ xs) = by (is_invalid x) refl
+find_firsts (x ∷ xs) = by (is_invalid x) refl (find_firsts xs)
   where
-    by : (b : Bool) → is_invalid x ≡ b → cond b (Some x) (find is_invalid (without order_of x (first_ones xs))) ≡ cond b (Some x) (find is_invalid xs)
-    by true e = refl
-    by false e = find_without x (first_ones xs) e ∙ find_firsts xs
+    by : (b : Bool) → is_invalid x ≡ b → find is_invalid (first_ones xs) ≡ find is_invalid xs → cond b (Some x) (find is_invalid (without order_of x (first_ones xs))) ≡ cond b (Some x) (find is_invalid xs)
+    by true e k = refl
+    by false e k = find_without x (first_ones xs) e ∙ k
 
 -- ---- how long the collection is
 

@@ -1,11 +1,15 @@
 -- The Integers of a range, one after another.
-use Rattle.std.proofs.Common.{◌≡◌, ◌∙◌, ℕ, zero, suc, ◌+◌, Bool, true, false, refl, sym, ap, List, [], ◌∷◌, add-one, arith}
+use Rattle.std.proofs.Common.{◌≡◌, ◌∙◌, ℕ, zero, suc, ◌+◌, Bool, true, false, refl, sym, ap, subst, List, [], ◌∷◌, ◌++◌, append_assoc, append-nil, add-one, arith}
 use Rattle.std.specs.Prelude.{Option, Some, None, ℤ, pos, negsuc, ◌+ℤ◌, ◌-ℤ◌, ◌≤ℤ◌, ◌<ℤ◌, int_le, unsigned_abs, if◌then◌else◌}
 use Rattle.std.specs.List.{find}
 use Rattle.std.proofs.lemmas.Int.{ints}
+use Rattle.qvt_value.specs.declared.value.Kind.{Kind}
 use Rattle.qvt_value.specs.declared.value.Value.{Value, Int}
 use Rattle.qvt_value.specs.Make.{is_invalid}
 use Rattle.qvt_run_rules.specs.Expressions.{integers_from, integers_to}
+use Rattle.qvt_exec_words.specs.declared.literals.Gathered.{Gathered}
+use Rattle.qvt_exec_words.specs.Gathered.{AreGathered, HasMore}
+use Rattle.qvt_exec_words.proofs.Gathering.{passed}
 
 -- none of them is invalid
 from_valid : (a : ℤ) (n : ℕ) → find is_invalid (integers_from a n) ≡ None
@@ -51,3 +55,32 @@ next a b (suc n) e =
 pub one_left : (a b : ℤ) → a ≤ℤ b → integers_to a b ≡ Int a ∷ integers_to (a +ℤ pos 1) b
 one_left a b h =
     some_left a b h ∙ next a b (unsigned_abs (b -ℤ a)) (natural (b -ℤ a) (omega (arith, ints, h)))
+
+-- ---- a range that is gathered one by one: those before n were
+
+abbrev pub IsAlong : ℤ → ℤ → ℤ → Gathered → Gathered → Type 0
+IsAlong first last n g h = (done : List Value) × (done ++ integers_to n last ≡ integers_to first last) × HasMore done g h
+
+pub at_first : (first last : ℤ) (g : Gathered) → IsAlong first last first g g
+at_first first last g = ([], refl, λ (k : Kind) (all : List Value) (a : AreGathered k all g). subst (λ (l : List Value). AreGathered k l g) (sym (append-nil all)) a)
+
+pub one_more : (first last n : ℤ) (g h f : Gathered) → n ≤ℤ last → IsAlong first last n g h → HasMore (Int n ∷ []) h f → IsAlong first last (n +ℤ pos 1) g f
+one_more first last n g h f le a m = (
+  a.0 ++ Int n ∷ [],
+  append_assoc a.0 (Int n ∷ []) (integers_to (n +ℤ pos 1) last) ∙ ap (λ l. a.0 ++ l) (sym (one_left n last le)) ∙ a.1,
+  λ (k : Kind) (all : List Value) (t : AreGathered k all g). subst (λ (l : List Value). AreGathered k l f) (append_assoc all a.0 (Int n ∷ [])) (m k (all ++ a.0) (a.2 k all t)),
+)
+
+-- where there is no room for those that are left
+pub none_needed : (first last n : ℤ) (g h : Gathered) → h.is_full ≡ true → IsAlong first last n g h → HasMore (integers_to first last) g h
+none_needed first last n g h e a =
+    λ (k : Kind) (all : List Value) (t : AreGathered k all g).
+    subst (λ (l : List Value). AreGathered k l h)
+    (append_assoc all a.0 (integers_to n last) ∙ ap (λ l. all ++ l) a.1)
+    (passed h k (all ++ a.0) (integers_to n last) (a.2 k all t) e (all_valid n last))
+
+-- where none is left
+pub all_done : (first last n : ℤ) (g h : Gathered) → last <ℤ n → IsAlong first last n g h → HasMore (integers_to first last) g h
+all_done first last n g h l a =
+    let whole : a.0 ≡ integers_to first last = sym (append-nil a.0) ∙ ap (λ l. a.0 ++ l) (sym (none_left n last l)) ∙ a.1 in
+    subst (λ (l : List Value). HasMore l g h) whole a.2

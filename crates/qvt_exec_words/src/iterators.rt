@@ -19,7 +19,6 @@ use qvt_value::value::{Kind, Value, Values};
 use std::alloc::Global;
 
 /// Whether no value stands in the list twice. Values are looked up by hash.
-#[tactic(auto, using(crate::proofs::Differing::each_once))]
 pub fn all_differ(alloc: Global, values: &[Value]) -> Result<bool, ListFault>
     ensures { IfOk result (λ differ. differ ≡ all_differ values.now) }
 {
@@ -44,11 +43,23 @@ fn has_string(keyed: &Keyed) -> bool
     matches!(keyed.key, Value::Str(_))
 }
 
+fn have_integers(items: &[Keyed]) -> bool
+    ensures { result ≡ list_all (λ (k : Item). is_integer k.key) items.now }
+{
+    items.iter().all(has_integer)
+}
+
+fn have_strings(items: &[Keyed]) -> bool
+    ensures { result ≡ list_all (λ (k : Item). is_string k.key) items.now }
+{
+    items.iter().all(has_string)
+}
+
 /// Whether all keys are Integers, or all Strings.
 fn are_keys(items: &[Keyed]) -> bool
     ensures { result ≡ are_keys items.now }
 {
-    items.iter().all(has_integer) || items.iter().all(has_string)
+    have_integers(items) || have_strings(items)
 }
 
 /// The items by their keys, those with equal keys in their order.

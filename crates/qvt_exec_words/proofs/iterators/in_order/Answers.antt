@@ -1,8 +1,9 @@
-use Rattle.std.proofs.Common.{rules}
+use Rattle.std.proofs.Common.{◌∙◌, ap, rules}
 use Rattle.std.specs.Cmp.{on_total}
 use Rattle.std.specs.Ordering.{is_lt}
 use Rattle.std.proofs.lemmas.Fn.{always_returns_same}
 use Rattle.std.proofs.lemmas.List.Sorted.{ranks_by}
+use Rattle.qvt_value.specs.Kept.{sorted}
 use Rattle.qvt_value.specs.Order.{order_of}
 use Rattle.qvt_value.proofs.OrderOfValues.{total}
 use Rattle.qvt_run_data.specs.declared.keyed.Keyed.{Keyed}
@@ -17,3 +18,4 @@ returns-in-Ok c =
     let weak = ranks_by total key in
     let answers = always_returns_same _ _ _ (λ a r q k. search rules) in
     stable_is key_order (on_total key total) _ _ (c.in-Ok.ensures.sorted lt weak answers) (c.in-Ok.ensures.stable lt weak answers)
+    ∙ ap (sorted key_order) c.into_vec-all.ensures
