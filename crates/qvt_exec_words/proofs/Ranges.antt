@@ -71,6 +71,21 @@ one_more first last n g h f le a m = (
   λ (k : Kind) (all : List Value) (t : AreGathered k all g). subst (λ (l : List Value). AreGathered k l f) (append_assoc all a.0 (Int n ∷ [])) (m k (all ++ a.0) (a.2 k all t)),
 )
 
+pub read_yes : (a b : ℤ) → int_le a b ≡ true → a ≤ℤ b
+read_yes a b h = grind (arith, ints)
+
+pub read_no : (a b : ℤ) → int_le a b ≡ false → b <ℤ a
+read_no a b h = grind (arith, ints)
+
+-- the same where the numbers are told otherwise
+pub one_more_at : (first last n m x : ℤ) (g h f : Gathered) → n ≤ℤ last → m ≡ n +ℤ pos 1 → IsAlong first last n g h → HasMore (Int x ∷ []) h f → x ≡ n → IsAlong first last m g f
+one_more_at first last n m x g h f le e a t is =
+    subst (λ (z : ℤ). IsAlong first last z g f) (sym e) (one_more first last n g h f le a (subst (λ (z : ℤ). HasMore (Int z ∷ []) h f) is t))
+
+pub ends_at : (first last a b : ℤ) (g h : Gathered) → a ≡ first → b ≡ last → HasMore (integers_to a b) g h → HasMore (integers_to first last) g h
+ends_at first last a b g h e f t =
+    subst (λ (z : ℤ). HasMore (integers_to first z) g h) f (subst (λ (z : ℤ). HasMore (integers_to z b) g h) e t)
+
 -- where there is no room for those that are left
 pub none_needed : (first last n : ℤ) (g h : Gathered) → h.is_full ≡ true → IsAlong first last n g h → HasMore (integers_to first last) g h
 none_needed first last n g h e a =
