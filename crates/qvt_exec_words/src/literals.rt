@@ -195,8 +195,18 @@ impl Gathered {
         Ok(())
     }
 
+    fn push_ends(&mut self, alloc: Global, ends: Ends) -> Result<(), ListFault>
+        ensures { OnOk result (HasMore (items_between ends) self.old self.new) }
+    {
+        match ends {
+            Ends::Item(reason, at) => self.push(alloc, Value::Invalid(reason, at)),
+            Ends::Integers(first, last) => self.push_integers(alloc, first, last),
+        }
+    }
+
     /// Puts the items of the range with these ends. Where they are no ends of a range nothing is put,
     /// and it answers so.
+    #[tactic(auto, using(crate::proofs::Gathering::ranged, crate::proofs::Gathering::not_ranged))]
     pub fn push_range(
         &mut self,
         alloc: Global,
@@ -207,12 +217,8 @@ impl Gathered {
         ensures { IfOk result (λ put. MatchOption (range_of place first.now last.now) (put ≡ false) (λ items. (put ≡ true) × HasMore items self.old self.new)) }
     {
         match ends_of(place, first, last) {
-            Some(Ends::Item(reason, at)) => {
-                self.push(alloc, Value::Invalid(reason, at))?;
-                Ok(true)
-            }
-            Some(Ends::Integers(first, last)) => {
-                self.push_integers(alloc, first, last)?;
+            Some(ends) => {
+                self.push_ends(alloc, ends)?;
                 Ok(true)
             }
             None => Ok(false),
