@@ -2,6 +2,7 @@
 //! values, and whether an object can be made or a slot written. They change nothing.
 #![tactic(auto)]
 
+mod collections;
 pub mod fits;
 pub mod models;
 pub mod objects;

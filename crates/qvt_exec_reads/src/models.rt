@@ -69,6 +69,7 @@ fn asked_of(
 
 /// The objects of an extent, looked for among all. Where the extent is not there it has none, which
 /// a store does not tell of itself.
+#[tactic(auto, using(crate::proofs::Asked::next_member))]
 fn looked_for(alloc: Global, store: &Store, extent: u32) -> Result<OidList, ListFault>
     ensures { IfOk result (λ members. members ≡ members_of store.now extent) }
 {

@@ -5,7 +5,7 @@ ghost use Rattle.std.specs.List.{list_all};
 ghost use Rattle.qvt_slots.specs.Contents.{class_of};
 ghost use Rattle.qvt_run_rules.specs.Expressions.{object_test, tested, is_object, is_selected, selected};
 
-use crate::property::collection;
+use crate::collections::built;
 use qvt_base::copied::Copied;
 use qvt_base::list_fault::ListFault;
 use qvt_base::numbers::{ClassNo, Oid, Place};
@@ -138,6 +138,6 @@ pub fn selected(
         return Ok(None);
     }
     let kept = chosen(alloc, store, exact, class, items.as_slice())?;
-    let value = collection(alloc, place, kind, kept)?;
+    let value = built(alloc, place, kind, kept)?;
     Ok(Some(value))
 }

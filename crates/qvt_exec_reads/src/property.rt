@@ -1,9 +1,9 @@
 //! Properties of objects (OCL 2.4, 7.5.3).
 
 ghost use Rattle.std.specs.Prelude.{◌≡◌, IfOk};
-ghost use Rattle.qvt_value.specs.Limits.{built};
 ghost use Rattle.qvt_run_rules.specs.Store.{feature_kind, flags_kind, property, single, slot_value};
 
+use crate::collections::built;
 use qvt_base::copied::Copied;
 use qvt_base::list_fault::ListFault;
 use qvt_base::numbers::{FeatureNo, Oid, Place};
@@ -14,8 +14,7 @@ use qvt_slots::features::is_single;
 use qvt_store::store::Store;
 use qvt_value::copy::copies;
 use qvt_value::limits::limited;
-use qvt_value::make::make_within;
-use qvt_value::value::{Kind, Value, Values};
+use qvt_value::value::{Kind, Value};
 use std::alloc::Global;
 
 /// The kind of collection that a property with several values is.
@@ -40,21 +39,6 @@ fn single(alloc: Global, values: &[Value]) -> Result<Value, ListFault>
     }
 }
 
-/// The collection of the kind that the items make, or TooLarge.
-pub(crate) fn collection(
-    alloc: Global,
-    place: Place,
-    kind: Kind,
-    items: Values,
-) -> Result<Value, ListFault>
-    ensures { IfOk result (λ value. value ≡ built place kind items) }
-{
-    match make_within(alloc, place, kind, items) {
-        Ok(value) => Ok(value),
-        Err(_) => Err(ListFault::NoMemory),
-    }
-}
-
 /// What a slot of the feature with this list is as a value.
 #[tactic(auto, unfolding(qvt_value::specs::Limits::built))]
 fn slot_value(
@@ -71,7 +55,7 @@ fn slot_value(
         return Ok(limited(place, value));
     }
     let kind = feature_kind(metas.shape(feature));
-    collection(alloc, place, kind, copies(alloc, values)?)
+    built(alloc, place, kind, copies(alloc, values)?)
 }
 
 /// The property of an object, None where the object is not there or its class lacks the feature.
