@@ -1,5 +1,5 @@
 -- The objects of a model, as the code finds them.
-use Rattle.std.proofs.Common.{◌≡◌, ℕ, zero, suc, ◌+◌, ◌<◌, Bool, true, false, ◌==◌, cond, refl, sym, ap, ◌∙◌, List, [], ◌∷◌, ◌++◌, take, length, get_or, arith}
+use Rattle.std.proofs.Common.{◌≡◌, ℕ, zero, suc, ◌+◌, ◌<◌, Bool, true, false, ◌==◌, cond, refl, sym, ap, ◌∙◌, List, [], ◌∷◌, ◌++◌, take, length, get_or, add-one, arith}
 use Rattle.std.specs.Prelude.{filter}
 use Rattle.qvt_base.specs.declared.numbers.Oid.{Oid}
 use Rattle.qvt_slots.specs.Contents.{Contents, Instance, extent_of, members_from, members_of, no_instance}
@@ -22,7 +22,7 @@ abbrev oid : ℕ → Oid
 oid x = record { 0 = x }
 
 members-more : (obs : List Instance) (x i n e : ℕ) (d : Instance) → i < length obs → x + i ≡ n →
-    members_from x (take (i + 1) obs) e ≡ cond ((get_or obs i d).extent == e) (members_from x (take i obs) e ++ oid n ∷ []) (members_from x (take i obs) e)
+    members_from x (take (suc i) obs) e ≡ cond ((get_or obs i d).extent == e) (members_from x (take i obs) e ++ oid n ∷ []) (members_from x (take i obs) e)
 members-more [] x i n e d h same = absurd (omega arith)
 members-more (o ∷ obs) x zero n e d h same = let here : x ≡ n = omega arith in ap (λ k. cond (o.extent == e) (oid k ∷ []) []) here
 members-more (o ∷ obs) x (suc i) n e d h same = ap (λ l. cond (o.extent == e) (oid x ∷ l) l) (members-more obs (suc x) i n e d (omega arith) (omega arith)) ∙ go (o.extent == e) ((get_or obs i d).extent == e)
@@ -36,4 +36,4 @@ members-more (o ∷ obs) x (suc i) n e d h same = ap (λ l. cond (o.extent == e)
 
 -- one more object, as at a step of a loop
 pub next_member : (s : Contents) (i e : ℕ) → i < length s.objects → members_from 0 (take (i + 1) s.objects) e ≡ cond (extent_of s i == e) (members_from 0 (take i s.objects) e ++ oid i ∷ []) (members_from 0 (take i s.objects) e)
-next_member s i e h = members-more s.objects 0 i i e no_instance h refl
+next_member s i e h = rw add-one (members-more s.objects 0 i i e no_instance h (omega arith))
