@@ -1,13 +1,13 @@
 -- The conditions of the store's calls as words that compute.
-use Rattle.std.proofs.Common.{◌≡◌, ℕ, Bool, true, ◌==◌, ◌&&◌, List, length}
+use Rattle.std.proofs.Common.{◌≡◌, ℕ, Bool, true, ◌==◌, List, length}
 use Rattle.std.specs.Prelude.{nat_lt}
 use Rattle.std.specs.List.{list_all}
 use Rattle.std.proofs.lemmas.Bool.{eq-eqb, lt-ltb, ltb-true}
 use Rattle.std.proofs.lemmas.Bool.Decides.{Decides-eqb}
 use Rattle.qvt_value.specs.declared.value.Value.{Value}
-use Rattle.qvt_metamodel.specs.Metamodels.{class_at, has_feature}
+use Rattle.qvt_metamodel.specs.Metamodels.{class_at}
 use Rattle.qvt_relation.proofs.Bools.{and_both, and_left, and_right, not_of_false, not_true, same_test}
-use Rattle.qvt_slots.specs.Contents.{Contents, class_of, extent_at, is_extent, is_live, is_slot}
+use Rattle.qvt_slots.specs.Contents.{Contents, extent_at, is_extent, is_live, is_slot}
 use Rattle.qvt_slots.specs.Types.{IsAssignable, is_of_type}
 use Rattle.qvt_store_laws.specs.Sound.{IsClassFor}
 use Rattle.qvt_run_rules.specs.Store.{are_fit, is_class_for}

@@ -1,9 +1,7 @@
 -- The objects that stand in no containment slot.
-use Rattle.std.proofs.Common.{◌≡◌, ℕ, ◌<◌, Bool, true, false, ◌&&◌, not, inl, inr, refl, sym, ap, ◌∙◌, length}
+use Rattle.std.proofs.Common.{◌≡◌, ℕ, ◌<◌, true, false, inl, inr, ap, length}
 use Rattle.std.proofs.lemmas.Bool.{ltb-true}
 use Rattle.qvt_base.specs.declared.numbers.Oid.{Oid}
-use Rattle.qvt_metamodel.specs.Metamodels.{shape_of}
-use Rattle.qvt_relation.specs.Closure.{any_below}
 use Rattle.qvt_relation.proofs.Bools.{and_left, clash, either, not_of_false, not_of_true, refuted}
 use Rattle.qvt_relation.proofs.Closures.{any_below-at, any_below-some}
 use Rattle.qvt_slots.specs.Slots.{Contains, has}
