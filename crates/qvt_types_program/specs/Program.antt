@@ -8,6 +8,7 @@ use Rattle.qvt_types_paths.specs.Models.{nowhere_row}
 use Rattle.qvt_types_heads.specs.declared.declarations.Declarations.{Declarations}
 use Rattle.qvt_types_heads.specs.Heads.{heads_over}
 use Rattle.qvt_typing.specs.Accepts.{ProgramTerm}
+use Rattle.qvt_typing.specs.Context.{Heads}
 use Rattle.qvt_types_program.specs.Known.{known}
 use Rattle.qvt_types_program.specs.declared.program.Program.{Program}
 
@@ -36,3 +37,7 @@ model_metamodel p i = known (slice_index_or p.heads.models.rows i nowhere_row).m
 
 abbrev pub unit_term : ProgramTerm → ℕ → Option TypedUnitTerm
 unit_term p n = slice_get p.module_.units n
+
+-- what the heads declare, as a ruling may be asked of it when the typing is done: the metamodels of the program stand for those of the job
+abbrev pub heads_in : ProgramTerm → Heads
+heads_in p = record { given = p.heads.metas; metas = p.heads.metas; types = p.heads.types; models = p.heads.models; units = p.heads.units; first = p.heads.first; flags = p.heads.flags }

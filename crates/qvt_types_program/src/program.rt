@@ -11,8 +11,9 @@ use crate::tables::Tables;
 use qvt_base::numbers::MappingNo;
 use qvt_metas::metas::Metas;
 use qvt_tree_types::module::ModelParamList;
+use qvt_types_context::context::Heads;
 use qvt_types_groups::units::Units;
-use qvt_types_heads::declarations::Declarations;
+use qvt_types_heads::declarations::{Declarations, lent};
 use qvt_types_nodes::module::{TypedModule, TypedUnit};
 use qvt_types_paths::models::Models;
 use qvt_types_units::signature::Signature;
@@ -42,6 +43,7 @@ impl Program {
     ghost use Rattle.qvt_types_nodes.specs.Module.{typed_unit_view};
     ghost use Rattle.qvt_types_program.specs.Mappings as mappings_of;
     ghost use Rattle.qvt_types_program.specs.Program as words;
+    ghost use Rattle.qvt_types_context.specs.Seen.{heads_seen};
 
     /// The program of a typed tree, with what its heads declare.
     pub fn new(module: TypedModule, declarations: Declarations, tables: Tables) -> Program
@@ -62,6 +64,13 @@ impl Program {
         ensures { result.now ≡ (words.program_view self.now).heads.metas }
     {
         self.declarations.units.metas()
+    }
+
+    /// What the heads declare, for the rulings of typing: those on calls and steps do not ask for the metamodels of the job.
+    pub fn heads(&self) -> Heads<'_>
+        ensures { heads_seen result ≡ words.heads_in (words.program_view self.now) }
+    {
+        lent(&self.declarations, self.declarations.units.metas())
     }
 
     /// The units by their names, and which of them is called on objects of a class.
