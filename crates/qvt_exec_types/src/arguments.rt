@@ -17,6 +17,7 @@ use qvt_types_steps::heads::Heading;
 use std::alloc::Global;
 
 /// The types of arguments, if each has one.
+#[tactic(auto, using(crate::proofs::Listed::none_before, crate::proofs::Listed::one_before, crate::proofs::Listed::all_before))]
 pub fn types_of(alloc: Global, args: &[TypedExpr]) -> Result<Option<Seq<Ty>>, ListFault>
     ensures { IfOk result (λ ts. ts ≡ nodes.types_of (typed_exprs_of (map typed_expr_view args.now))) }
 {

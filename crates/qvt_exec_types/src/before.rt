@@ -96,11 +96,7 @@ impl<'a> Before<'a> {
     ghost use Rattle.qvt_exec_types.specs.Post.{post_of, type_at};
 
     /// Those of an expression with these steps, by the type of what stands before the first. It takes no memory.
-    pub fn new(
-        program: &'a Program,
-        first: &'a Option<Ty>,
-        steps: &'a [TypedStep],
-    ) -> Before<'a>
+    pub fn new(program: &'a Program, first: &'a Option<Ty>, steps: &'a [TypedStep]) -> Before<'a>
         ensures { post_of result ≡ record { program = program_view program.now; first = first.now; steps = map typed_step_view steps.now } }
     {
         Before {

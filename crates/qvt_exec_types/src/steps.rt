@@ -174,13 +174,19 @@ pub fn step_type(
     let heads = program.heads();
     match step {
         TypedStep::Dot {
-            name, args, note, ..
+            name,
+            args,
+            note,
+            ..
         } => match args {
             None => property_type(alloc, &heads, name, source),
             Some(args) => dot_type(alloc, &heads, name, &note.reading, args.as_slice(), source),
         },
         TypedStep::Arrow {
-            name, head, args, ..
+            name,
+            head,
+            args,
+            ..
         } => arrow_type(alloc, &heads, name, head, args.as_slice(), source),
         TypedStep::DotMap(call) => map_type(alloc, &heads, false, call, source),
         TypedStep::ArrowMap(call) => map_type(alloc, &heads, true, call, source),
