@@ -104,7 +104,7 @@ fn class_for(
 }
 
 /// The type of a resolve.
-#[tactic(auto, unfolding(qvt_meaning::specs::Program::form_of))]
+#[tactic(auto, unfolding(qvt_meaning::specs::Program::form_of), using(crate::proofs::Formed::form_ruled))]
 pub fn resolved_type(
     alloc: Global,
     program: &Program,

@@ -1,11 +1,12 @@
 //! The types of steps.
 
-ghost use Rattle.std.specs.Prelude.{◌≡◌, map, option_map, IfOk};
-ghost use Rattle.qvt_types_context.specs.Seen.{heads_seen};
+ghost use Rattle.std.specs.Prelude.{◌≡◌, false, map, option_map, IfOk};
 ghost use Rattle.qvt_types_nodes.specs.View.{typed_expr_view, typed_exprs_of, typed_head_view, typed_map_view, typed_optional_head, typed_step_view};
 ghost use Rattle.qvt_types_program.specs.Program.{program_view};
-ghost use Rattle.qvt_types_steps.specs.Classes.{model_call_named as call_named};
+ghost use Rattle.qvt_types_steps.specs.Classes as classes;
 ghost use Rattle.qvt_types_steps.specs.Properties as properties;
+ghost use Rattle.qvt_typing.specs.Calls as calls;
+ghost use Rattle.qvt_meaning.specs.Nodes as nodes;
 ghost use Rattle.qvt_meaning.specs.StepTypes as types;
 
 use crate::arguments::{class_parts, has_head, heading_of, types_of};
@@ -14,7 +15,6 @@ use crate::resolves::resolved_type;
 use qvt_base::list_fault::ListFault;
 use qvt_base::text::Text;
 use qvt_types_context::calls::{called_behind, map_ruled, unit_ruled};
-use qvt_types_context::context::Heads;
 use qvt_types_data::note::Reading;
 use qvt_types_data::ty::Ty;
 use qvt_types_nodes::tree::{TypedExpr, TypedHead, TypedMapCall, TypedStep};
@@ -30,24 +30,24 @@ use std::alloc::Global;
 
 fn property_type(
     alloc: Global,
-    heads: &Heads<'_>,
+    program: &Program,
     name: &Text,
     source: &Option<Ty>,
 ) -> Result<Option<Ty>, ListFault>
-    ensures { IfOk result (λ t. t ≡ types.answer_of (properties.property (heads_seen heads.now).metas name.now source.now)) }
+    ensures { IfOk result (λ t. t ≡ types.answer_of (properties.property (program_view program.now).heads.metas name.now source.now)) }
 {
-    let ruling = property(alloc, heads.units.metas(), name.as_str(), source)?;
+    let ruling = property(alloc, program.metas(), name.as_str(), source)?;
     Ok(answer_of(ruling))
 }
 
 /// The type of an operation of a model.
 fn model_type(
     alloc: Global,
-    heads: &Heads<'_>,
+    program: &Program,
     name: &Text,
     args: &[TypedExpr],
 ) -> Result<Option<Ty>, ListFault>
-    ensures { IfOk result (λ t. t ≡ types.model_type (heads_seen heads.now) name.now (typed_exprs_of (map typed_expr_view args.now)) (call_named name.now)) }
+    ensures { IfOk result (λ t. t ≡ types.model_type (program_view program.now).heads name.now (typed_exprs_of (map typed_expr_view args.now)) (classes.model_call_named name.now)) }
 {
     let Some(call) = model_call_named(name.as_str()) else {
         return Ok(None);
@@ -57,19 +57,20 @@ fn model_type(
         return Ok(answer_of(model_objects_of(alloc, name, parts.as_slice())?));
     }
     let types = types_of(alloc, args)?;
-    let ruling = model_objects(alloc, name, heads.types.element(), &types)?;
+    let element = program.heads().types.element();
+    let ruling = model_objects(alloc, name, element, &types)?;
     Ok(answer_of(ruling))
 }
 
 /// The type of a test or cast of an object, or of an operation.
 fn tested_type(
     alloc: Global,
-    heads: &Heads<'_>,
+    program: &Program,
     name: &Text,
     args: &[TypedExpr],
     source: &Option<Ty>,
 ) -> Result<Option<Ty>, ListFault>
-    ensures { IfOk result (λ t. t ≡ types.tested_type (heads_seen heads.now) name.now (test_named name.now) (typed_exprs_of (map typed_expr_view args.now)) source.now) }
+    ensures { IfOk result (λ t. t ≡ types.tested_type (program_view program.now).heads name.now (classes.class_test_named name.now) (typed_exprs_of (map typed_expr_view args.now)) source.now) }
 {
     if let Some(test) = class_test_named(name.as_str()) {
         let parts = class_parts(alloc, args)?;
@@ -77,62 +78,58 @@ fn tested_type(
         return Ok(answer_of(ruling));
     }
     let types = types_of(alloc, args)?;
-    let ruling = dot_call(alloc, heads.units.metas(), name, source, &types)?;
+    let ruling = dot_call(alloc, program.metas(), name, source, &types)?;
     Ok(answer_of(ruling))
 }
 
-ghost use Rattle.qvt_types_steps.specs.Classes.{class_test_named as test_named};
-ghost use Rattle.qvt_typing.specs.Calls as calls;
-ghost use Rattle.std.specs.Prelude.{false, true};
-
 /// The type of a call of a helper or a query.
+#[tactic(auto, using(crate::proofs::Asked::unit_asked))]
 fn unit_type(
     alloc: Global,
-    heads: &Heads<'_>,
+    program: &Program,
     name: &Text,
     args: &[TypedExpr],
     source: &Option<Ty>,
 ) -> Result<Option<Ty>, ListFault>
-    ensures { IfOk result (λ t. t ≡ types.answer_of (calls.unit_ruled (heads_seen heads.now) source.now (calls.called_behind (heads_seen heads.now) false false name.now source.now) (nodes.types_of (typed_exprs_of (map typed_expr_view args.now))))) }
+    ensures { IfOk result (λ t. t ≡ types.answer_of (calls.unit_ruled (program_view program.now).heads source.now (calls.called_behind (program_view program.now).heads false false name.now source.now) (nodes.types_of (typed_exprs_of (map typed_expr_view args.now))))) }
 {
-    let called = called_behind(alloc, heads, false, false, name.as_str(), source)?;
+    let heads = program.heads();
+    let called = called_behind(alloc, &heads, false, false, name.as_str(), source)?;
     let types = types_of(alloc, args)?;
-    let ruling = unit_ruled(alloc, heads, source, &called, &types)?;
+    let ruling = unit_ruled(alloc, &heads, source, &called, &types)?;
     Ok(answer_of(ruling))
 }
-
-ghost use Rattle.qvt_meaning.specs.Nodes as nodes;
 
 /// The type of a step with arguments behind a dot.
 fn dot_type(
     alloc: Global,
-    heads: &Heads<'_>,
+    program: &Program,
     name: &Text,
     reading: &Reading,
     args: &[TypedExpr],
     source: &Option<Ty>,
 ) -> Result<Option<Ty>, ListFault>
-    ensures { IfOk result (λ t. t ≡ types.dot_type (heads_seen heads.now) name.now reading.now (typed_exprs_of (map typed_expr_view args.now)) source.now) }
+    ensures { IfOk result (λ t. t ≡ types.dot_type (program_view program.now).heads name.now reading.now (typed_exprs_of (map typed_expr_view args.now)) source.now) }
 {
     if source.is_none() {
-        return model_type(alloc, heads, name, args);
+        return model_type(alloc, program, name, args);
     }
     match reading {
-        Reading::Units(_) => unit_type(alloc, heads, name, args, source),
-        _ => tested_type(alloc, heads, name, args, source),
+        Reading::Units(_) => unit_type(alloc, program, name, args, source),
+        _ => tested_type(alloc, program, name, args, source),
     }
 }
 
 /// The type of an iterator, an operation or a selection behind an arrow.
 fn arrow_type(
     alloc: Global,
-    heads: &Heads<'_>,
+    program: &Program,
     name: &Text,
     head: &Option<TypedHead>,
     args: &[TypedExpr],
     source: &Option<Ty>,
 ) -> Result<Option<Ty>, ListFault>
-    ensures { IfOk result (λ t. t ≡ types.arrow_type (heads_seen heads.now) name.now (typed_optional_head (option_map typed_head_view head.now)) (typed_exprs_of (map typed_expr_view args.now)) source.now) }
+    ensures { IfOk result (λ t. t ≡ types.arrow_type (program_view program.now).heads name.now (typed_optional_head (option_map typed_head_view head.now)) (typed_exprs_of (map typed_expr_view args.now)) source.now) }
 {
     if is_selection(name.as_str()) {
         let parts = class_parts(alloc, args)?;
@@ -141,27 +138,29 @@ fn arrow_type(
     }
     let heading = heading_of(alloc, head)?;
     let types = types_of(alloc, args)?;
-    let ruling = arrow(alloc, heads.units.metas(), name, &heading, source, &types)?;
+    let ruling = arrow(alloc, program.metas(), name, &heading, source, &types)?;
     Ok(answer_of(ruling))
 }
 
-/// The type of a call of a mapping.
+/// The type of a call of a mapping, behind an arrow or else behind a dot.
+#[tactic(auto, using(crate::proofs::Asked::map_asked))]
 fn map_type(
     alloc: Global,
-    heads: &Heads<'_>,
+    program: &Program,
     is_arrow: bool,
     call: &TypedMapCall,
     source: &Option<Ty>,
 ) -> Result<Option<Ty>, ListFault>
-    ensures { IfOk result (λ t. t ≡ types.map_type (heads_seen heads.now) is_arrow (typed_map_view call.now) source.now) }
+    ensures { IfOk result (λ t. t ≡ types.map_type (program_view program.now).heads is_arrow (typed_map_view call.now) source.now) }
 {
-    let called = called_behind(alloc, heads, true, is_arrow, call.name.as_str(), source)?;
+    let heads = program.heads();
+    let called = called_behind(alloc, &heads, true, is_arrow, call.name.as_str(), source)?;
     let types = types_of(alloc, call.args.as_slice())?;
-    let ruling = map_ruled(alloc, heads, is_arrow, source, &called, &types)?;
+    let ruling = map_ruled(alloc, &heads, is_arrow, source, &called, &types)?;
     Ok(answer_of(ruling))
 }
 
-/// The type of a step on a source with this type. A program that is accepted gives each step one.
+/// The type of a step on a source with this type.
 #[tactic(auto, unfolding(qvt_meaning::specs::StepTypes::step_type))]
 pub fn step_type(
     alloc: Global,
@@ -171,7 +170,6 @@ pub fn step_type(
 ) -> Result<Option<Ty>, ListFault>
     ensures { IfOk result (λ t. t ≡ types.step_type (program_view program.now) (typed_step_view step.now) source.now) }
 {
-    let heads = program.heads();
     match step {
         TypedStep::Dot {
             name,
@@ -179,17 +177,17 @@ pub fn step_type(
             note,
             ..
         } => match args {
-            None => property_type(alloc, &heads, name, source),
-            Some(args) => dot_type(alloc, &heads, name, &note.reading, args.as_slice(), source),
+            None => property_type(alloc, program, name, source),
+            Some(args) => dot_type(alloc, program, name, &note.reading, args.as_slice(), source),
         },
         TypedStep::Arrow {
             name,
             head,
             args,
             ..
-        } => arrow_type(alloc, &heads, name, head, args.as_slice(), source),
-        TypedStep::DotMap(call) => map_type(alloc, &heads, false, call, source),
-        TypedStep::ArrowMap(call) => map_type(alloc, &heads, true, call, source),
+        } => arrow_type(alloc, program, name, head, args.as_slice(), source),
+        TypedStep::DotMap(call) => map_type(alloc, program, false, call, source),
+        TypedStep::ArrowMap(call) => map_type(alloc, program, true, call, source),
         TypedStep::DotResolve(call) => resolved_type(alloc, program, call),
         TypedStep::ArrowResolve(call) => resolved_type(alloc, program, call),
     }
