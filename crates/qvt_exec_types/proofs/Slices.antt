@@ -1,14 +1,26 @@
 -- Steps from one place up to another, and what is told of them.
-use Rattle.std.proofs.Common.{◌≡◌, ◌∙◌, ℕ, ◌+◌, ◌-◌, ◌≤◌, sym, ap, arith, List, ◌++◌, length, take, drop, map, min}
+use Rattle.std.proofs.Common.{◌≡◌, ◌∙◌, ℕ, zero, suc, ◌+◌, ◌-◌, ◌≤◌, refl, sym, ap, arith, List, [], ◌++◌, length, take, drop, map}
 use Rattle.std.specs.List.{fold}
-use Rattle.std.proofs.lemmas.List.{length-drop, take_min, take-map, map-append, take-append-drop, take-take, drop-take}
+use Rattle.std.proofs.lemmas.List.{length-drop, drop_all, take_all, take-map, map-append, take-append-drop, take-take, drop-take}
 use Rattle.std.proofs.lemmas.List.Sums.{fold-append}
 
--- an end past the list is that of the list
-pub cut : {A : Type 0} (xs : List A) (from upto : ℕ) → take (min upto (length xs) - from) (drop from xs) ≡ take (upto - from) (drop from xs)
-cut xs from upto =
-    let same : min upto (length xs) - from ≡ min (upto - from) (length (drop from xs)) = omega (arith, length-drop from xs) in
-    ap (λ n. take n (drop from xs)) same ∙ take_min (upto - from) (drop from xs)
+-- nothing stands between two places of which the second is no later
+pub none_between : {A : Type 0} (xs : List A) (from upto : ℕ) → upto ≤ from → [] ≡ take (upto - from) (drop from xs)
+none_between xs from upto h =
+    let none : 0 ≡ upto - from = omega arith in
+    ap (λ n. take n (drop from xs)) none
+
+take_none : {A : Type 0} (n : ℕ) → [] {A = A} ≡ take n []
+take_none zero = refl
+take_none (suc n) = refl
+
+-- nor behind the last
+pub none_behind : {A : Type 0} (xs : List A) (from upto : ℕ) → length xs ≤ from → [] ≡ take (upto - from) (drop from xs)
+none_behind xs from upto h = take_none (upto - from) ∙ ap (λ ys. take (upto - from) ys) (sym (drop_all from xs h))
+
+-- up to a place behind the last there are all
+pub all_behind : {A : Type 0} (xs : List A) (from upto : ℕ) → length xs ≤ upto → drop from xs ≡ take (upto - from) (drop from xs)
+all_behind xs from upto h = sym (take_all (upto - from) (drop from xs) (omega (arith, length-drop from xs)))
 
 joined : {A : Type 0} (xs : List A) (from upto : ℕ) → from ≤ upto → take from xs ++ take (upto - from) (drop from xs) ≡ take upto xs
 joined xs from upto h =

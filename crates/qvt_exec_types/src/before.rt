@@ -43,15 +43,20 @@ pub fn type_behind(
 }
 
 /// The steps from one place up to another.
+#[tactic(auto, using(crate::proofs::Slices::none_between, crate::proofs::Slices::none_behind, crate::proofs::Slices::all_behind))]
 fn between(steps: &[TypedStep], from: usize, upto: usize) -> &[TypedStep]
     ensures { result.now ≡ take (upto - from) (drop from steps.now) }
 {
-    let end = upto.min(steps.len());
-    if from < end {
-        &steps[from..end]
-    } else {
-        &steps[..0]
+    if upto <= from {
+        return &steps[..0];
     }
+    if steps.len() <= from {
+        return &steps[..0];
+    }
+    if steps.len() <= upto {
+        return &steps[from..];
+    }
+    &steps[from..upto]
 }
 
 /// The kind of what stands before step `upto`, by the type of what stands before the first step.
