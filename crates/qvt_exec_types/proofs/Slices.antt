@@ -1,7 +1,8 @@
 -- Steps from one place up to another, and what is told of them.
-use Rattle.std.proofs.Common.{◌≡◌, ◌∙◌, ℕ, zero, suc, ◌+◌, ◌-◌, ◌<◌, ◌≤◌, ◌==◌, sym, ap, arith, List, [], ◌++◌, length, take, drop, map}
+use Rattle.std.proofs.Common.{◌≡◌, ◌∙◌, ℕ, ◌+◌, ◌-◌, ◌<◌, ◌≤◌, ◌==◌, sym, ap, arith, List, [], ◌++◌, length, take, drop, map}
 use Rattle.std.specs.Prelude.{if◌then◌else◌}
 use Rattle.std.specs.List.{fold}
+use Rattle.std.proofs.lemmas.Bool.{ne_eqb}
 use Rattle.std.proofs.lemmas.List.{length-drop, drop_all, take_all, take-map, map-append, take-append-drop, take-take, drop-take}
 use Rattle.std.proofs.lemmas.List.Sums.{fold-append}
 
@@ -38,8 +39,8 @@ goes_on f v o xs from upto h =
 pub told_next : {A B C : Type 0} (f : C → B → C) (v : A → B) (o : C) (xs : List A) (from upto : ℕ) (t last : C) (ys : List A) → from < upto
     → last ≡ fold f o (take from (map v xs)) → ys ≡ take (upto - from) (drop from xs) → t ≡ fold f last (map v ys)
     → (if upto == 0 then o else t) ≡ fold f o (take upto (map v xs))
-told_next f v o xs from zero t last ys h e1 e2 e3 = absurd (omega arith)
-told_next f v o xs from (suc n) t last ys h e1 e2 e3 =
-    e3 ∙ ap (λ zs. fold f last (map v zs)) e2
-    ∙ ap (λ y. fold f y (map v (take (suc n - from) (drop from xs)))) e1
-    ∙ goes_on f v o xs from (suc n) (omega arith)
+told_next f v o xs from upto t last ys h e1 e2 e3 =
+    ap (λ b. if b then o else t) (ne_eqb upto 0 (λ e. (let same : upto ≡ 0 = e in absurd (omega (arith, same, h)))))
+    ∙ e3 ∙ ap (λ zs. fold f last (map v zs)) e2
+    ∙ ap (λ y. fold f y (map v (take (upto - from) (drop from xs)))) e1
+    ∙ goes_on f v o xs from upto (omega (arith, h))

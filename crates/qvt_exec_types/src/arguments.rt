@@ -54,7 +54,7 @@ pub fn class_parts(alloc: Global, args: &[TypedExpr]) -> Result<Seq<ClassPart>, 
 
 /// A Head whose accumulator has this type, if that is known.
 fn folding(alloc: Global, ty: Option<&Ty>) -> Result<Heading, ListFault>
-    ensures { IfOk result (λ h. h ≡ types.folding (option_copied ty)) }
+    ensures { IfOk result (λ h. h ≡ types.folding (option_copied ty.entry)) }
 {
     match ty {
         None => Ok(Heading::Untyped),

@@ -60,7 +60,7 @@ pub fn written_type(written: &TypedTypeTree) -> Option<&Ty>
 
 /// The class of the objects of a type, if it is one of objects.
 pub fn class_in(ty: Option<&Ty>) -> ClassPart
-    ensures { result ≡ types.class_part (nodes.class_in (option_copied ty)) }
+    ensures { result ≡ types.class_part (nodes.class_in (option_copied ty.entry)) }
 {
     match ty {
         Some(Ty::Class(class)) => ClassPart::Class(*class),
