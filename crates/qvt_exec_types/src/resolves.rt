@@ -103,8 +103,24 @@ fn class_for(
     }
 }
 
+/// The type of a resolve by its parts.
+fn found_type(
+    alloc: Global,
+    program: &Program,
+    word: ResolveWord,
+    within: &Option<TypedPathTree>,
+    filter: &Option<TypedFilter>,
+) -> Result<Option<Ty>, ListFault>
+    ensures { IfOk result (λ t. t ≡ types.form_type word (words.form_with (program_view program.now) word (words.within_named within.now) (typed_optional_filter (option_map typed_filter_view filter.now)) (words.class_for (program_view program.now) word (words.within_named within.now) (typed_optional_filter (option_map typed_filter_view filter.now))))) }
+{
+    let mapping = within_named(within);
+    let class = class_for(alloc, program, word, mapping, filter);
+    let ruling = resolve(alloc, Joint::Sourceless, word, &None, class)?;
+    Ok(answer_of(ruling))
+}
+
 /// The type of a resolve.
-#[tactic(auto, unfolding(qvt_meaning::specs::Program::form_of), using(crate::proofs::Formed::form_ruled))]
+#[tactic(auto, unfolding(qvt_meaning::specs::Program::form_of))]
 pub fn resolved_type(
     alloc: Global,
     program: &Program,
@@ -112,8 +128,5 @@ pub fn resolved_type(
 ) -> Result<Option<Ty>, ListFault>
     ensures { IfOk result (λ t. t ≡ types.resolved_type (program_view program.now) (typed_resolve_view call.now)) }
 {
-    let mapping = within_named(&call.within);
-    let class = class_for(alloc, program, call.word, mapping, &call.filter);
-    let ruling = resolve(alloc, Joint::Sourceless, call.word, &None, class)?;
-    Ok(answer_of(ruling))
+    found_type(alloc, program, call.word, &call.within, &call.filter)
 }

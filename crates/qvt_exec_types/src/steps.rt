@@ -1,6 +1,6 @@
 //! The types of steps.
 
-ghost use Rattle.std.specs.Prelude.{◌≡◌, false, map, option_map, IfOk};
+ghost use Rattle.std.specs.Prelude.{◌≡◌, false, true, map, option_map, IfOk};
 ghost use Rattle.qvt_types_nodes.specs.View.{typed_expr_view, typed_exprs_of, typed_head_view, typed_map_view, typed_optional_head, typed_step_view};
 ghost use Rattle.qvt_types_program.specs.Program.{program_view};
 ghost use Rattle.qvt_types_steps.specs.Classes as classes;
@@ -83,7 +83,6 @@ fn tested_type(
 }
 
 /// The type of a call of a helper or a query.
-#[tactic(auto, using(crate::proofs::Asked::unit_asked))]
 fn unit_type(
     alloc: Global,
     program: &Program,
@@ -142,8 +141,24 @@ fn arrow_type(
     Ok(answer_of(ruling))
 }
 
-/// The type of a call of a mapping, behind an arrow or else behind a dot.
-#[tactic(auto, using(crate::proofs::Asked::map_asked))]
+/// The type of a call of a mapping by its name, behind an arrow or else behind a dot.
+fn mapped_type(
+    alloc: Global,
+    program: &Program,
+    is_arrow: bool,
+    name: &Text,
+    args: &[TypedExpr],
+    source: &Option<Ty>,
+) -> Result<Option<Ty>, ListFault>
+    ensures { IfOk result (λ t. t ≡ types.answer_of (calls.map_ruled (program_view program.now).heads is_arrow source.now (calls.called_behind (program_view program.now).heads true is_arrow name.now source.now) (nodes.types_of (typed_exprs_of (map typed_expr_view args.now))))) }
+{
+    let heads = program.heads();
+    let called = called_behind(alloc, &heads, true, is_arrow, name.as_str(), source)?;
+    let types = types_of(alloc, args)?;
+    let ruling = map_ruled(alloc, &heads, is_arrow, source, &called, &types)?;
+    Ok(answer_of(ruling))
+}
+
 fn map_type(
     alloc: Global,
     program: &Program,
@@ -153,11 +168,14 @@ fn map_type(
 ) -> Result<Option<Ty>, ListFault>
     ensures { IfOk result (λ t. t ≡ types.map_type (program_view program.now).heads is_arrow (typed_map_view call.now) source.now) }
 {
-    let heads = program.heads();
-    let called = called_behind(alloc, &heads, true, is_arrow, call.name.as_str(), source)?;
-    let types = types_of(alloc, call.args.as_slice())?;
-    let ruling = map_ruled(alloc, &heads, is_arrow, source, &called, &types)?;
-    Ok(answer_of(ruling))
+    mapped_type(
+        alloc,
+        program,
+        is_arrow,
+        &call.name,
+        call.args.as_slice(),
+        source,
+    )
 }
 
 /// The type of a step on a source with this type.
