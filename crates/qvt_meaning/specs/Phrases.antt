@@ -41,6 +41,9 @@ some_value p = p >>= (λ v. pure (Some v))
 
 -- Phrases of a unit whose `return` has to have a value of the type `answer`.
 module _ {E : Type 0} (x : Setting E) (calls : Calls E) (answer : Option Ty) where
+  abbrev resolve_step : TypedResolveTerm → Value → Does E Value
+  resolve_step r v = x.beyond (resolve_mark r).place (by.resolve_step x (form_of x.program r) (resolve_mark r).place v)
+
   unfoldable mutual
     pub expr : TypedExprTerm → Does E Value
     expr (TypedIntExpr v at n) = rule.literal x.spend (Int v)
@@ -98,9 +101,6 @@ module _ {E : Type 0} (x : Setting E) (calls : Calls E) (answer : Option Ty) whe
     pub accumulator : TypedAccumulatorTerm → Option (List ℕ × Does E Value)
     accumulator TypedNoAccumulator = None
     accumulator (TypedAccumulatorOf name t e at n) = Some (name, expr e)
-
-    pub resolve_step : TypedResolveTerm → Value → Does E Value
-    resolve_step r v = x.beyond (resolve_mark r).place (by.resolve_step x (form_of x.program r) (resolve_mark r).place v)
 
     -- the type of what stands before the step comes first
     pub step : Option Ty → TypedStepTerm → Value → Does E Value
