@@ -10,7 +10,7 @@ use Rattle.qvt_slots.specs.Contents.{Contents, extent_at, is_model}
 use Rattle.qvt_typing.specs.Accepts.{ProgramTerm}
 use Rattle.qvt_run_data.specs.declared.fault.RunFault.{RunFault}
 use Rattle.qvt_run_data.specs.declared.exit.End.{End}
-use Rattle.qvt_run_rules.specs.State as run
+use Rattle.qvt_run_data.specs.declared.exit.End.TheVariants as run
 use Rattle.qvt_meaning.specs.Run.{Finished, finished}
 
 pub data Outcome : Type 0 where
