@@ -4,7 +4,7 @@ ghost use Rattle.std.specs.Prelude.{◌≡◌, IsTrue, IsFalse};
 ghost use Rattle.std.specs.List.{list_all};
 ghost use Rattle.qvt_metamodel.specs.Metamodels.{has_feature, is_containment};
 ghost use Rattle.qvt_metamodel.specs.Named.{metamodel_at};
-ghost use Rattle.qvt_store.specs.Contents.{AreNamed, is_named};
+ghost use Rattle.qvt_store.specs.Contents.{AreNamed, is_named, is_slot};
 ghost use Rattle.qvt_store.specs.Sound.{IsClassFor};
 ghost use Rattle.qvt_store.specs.Place.{IsPlaceable};
 ghost use Rattle.qvt_store.specs.Types.{is_bool, is_int, is_text, is_literal, is_instance, is_of_type, IsAssignable};
@@ -12,6 +12,7 @@ ghost use Rattle.qvt_store.specs.Types.{is_bool, is_int, is_text, is_literal, is
 use qvt_base::numbers::{ClassNo, FeatureNo, Oid};
 use qvt_metamodel::info::TypeKind;
 use qvt_metas::metas::Metas;
+use qvt_slots::put::find_place;
 use qvt_store::extent::{Extent, ExtentList};
 use qvt_store::store::Store;
 use qvt_value::value::Value;
@@ -52,16 +53,25 @@ pub fn is_class_for(store: &Store, class: ClassNo, extent: u32) -> bool
     }
 }
 
+#[tactic(auto, using(crate::proofs::Places::there))]
 fn has_feature(metas: &Metas, class: ClassNo, feature: FeatureNo) -> bool
     ensures { result ≡ has_feature metas.now class.0 feature.0 }
 {
-    metas
-        .features(class)
-        .iter()
-        .any(|known| known.0 == feature.0)
+    match find_place(metas, class, feature) {
+        None => false,
+        Some(_) => true,
+    }
 }
 
-fn is_bool(value: &Value) -> bool
+/// Whether the object is there and its class has the feature.
+pub fn is_slot(store: &Store, object: Oid, feature: FeatureNo) -> bool
+    ensures { result ≡ is_slot store.now object.0 feature.0 }
+{
+    object.0 < store.len() && has_feature(store.metas(), store.class_of(object), feature)
+}
+
+/// Whether the value is a Boolean.
+pub fn is_bool(value: &Value) -> bool
     ensures { result ≡ is_bool value.now }
 {
     match value {
@@ -70,7 +80,8 @@ fn is_bool(value: &Value) -> bool
     }
 }
 
-fn is_int(value: &Value) -> bool
+/// Whether the value is an Integer.
+pub fn is_int(value: &Value) -> bool
     ensures { result ≡ is_int value.now }
 {
     match value {
@@ -79,7 +90,8 @@ fn is_int(value: &Value) -> bool
     }
 }
 
-fn is_text(value: &Value) -> bool
+/// Whether the value is a String.
+pub fn is_text(value: &Value) -> bool
     ensures { result ≡ is_text value.now }
 {
     match value {
@@ -88,7 +100,8 @@ fn is_text(value: &Value) -> bool
     }
 }
 
-fn is_literal(metas: &Metas, metamodel: u32, enumeration: u32, value: &Value) -> bool
+/// Whether the value is a literal that is there, of the enumeration.
+pub fn is_literal(metas: &Metas, metamodel: u32, enumeration: u32, value: &Value) -> bool
     ensures { result ≡ is_literal metas.now metamodel enumeration value.now }
 {
     match value {
@@ -101,7 +114,8 @@ fn is_literal(metas: &Metas, metamodel: u32, enumeration: u32, value: &Value) ->
     }
 }
 
-fn is_instance(store: &Store, class: ClassNo, value: &Value) -> bool
+/// Whether the value is an object that is there, of the class or one below it.
+pub fn is_instance(store: &Store, class: ClassNo, value: &Value) -> bool
     ensures { result ≡ is_instance store.now class.0 value.now }
 {
     match value {
@@ -137,9 +151,7 @@ pub fn can_assign(store: &Store, object: Oid, feature: FeatureNo, values: &[Valu
     ensures assignable { IsTrue result → IsAssignable store.now object.0 feature.0 values.now }
     ensures full { IsAssignable store.now object.0 feature.0 values.now → IsTrue result }
 {
-    object.0 < store.len()
-        && has_feature(store.metas(), store.class_of(object), feature)
-        && are_of_type(store, feature, values)
+    is_slot(store, object, feature) && are_of_type(store, feature, values)
 }
 
 /// Whether a slot that is no containment can be placed.
