@@ -17,9 +17,6 @@ use Rattle.qvt_types_nodes.specs.declared.types.TypedSign.{TypedSign}
 use Rattle.qvt_types_nodes.specs.Tree.{TypedResolveTerm, TypedStepTerms, TypedMoreSteps, TypedDotStep, TypedSomeArgs}
 use Rattle.qvt_types_steps.specs.Classes.{class_test_named, is_selection, model_call_named}
 use Rattle.qvt_types_steps.specs.declared.classes.ClassTest.{ClassTest}
-use Rattle.qvt_types_steps.specs.declared.classes.ClassTest.TheVariants as class_test
-use Rattle.qvt_types_steps.specs.declared.classes.ModelCall.{ModelCall}
-use Rattle.qvt_types_steps.specs.declared.classes.ModelCall.TheVariants as model_call
 use Rattle.qvt_types_steps.specs.IteratorTable.{iterator_named}
 use Rattle.qvt_types_steps.specs.declared.iterators.IteratorKind.{IteratorKind}
 use Rattle.qvt_types_steps.specs.declared.iterators.IteratorKind.TheVariants as iterator
@@ -34,11 +31,9 @@ use Rattle.qvt_run_rules.specs.State.{Does, misfit, look}
 use Rattle.qvt_run_rules.specs.Locals.{result_name}
 use Rattle.qvt_run_rules.specs.Sources.{before_arrow}
 use Rattle.qvt_run_rules.specs.Expressions as rule
-use Rattle.qvt_run_data.specs.declared.questions.ObjectTest.{ObjectTest}
-use Rattle.qvt_run_data.specs.declared.questions.ObjectTest.TheVariants.{IsKindOf, IsTypeOf, AsType}
 use Rattle.qvt_run_data.specs.declared.questions.ModelQuery.{ModelQuery}
-use Rattle.qvt_run_data.specs.declared.questions.ModelQuery.TheVariants.{Objects, RootObjects, ObjectsOfType}
 use Rattle.qvt_run_rules.specs.Iterators as each
+use Rattle.qvt_run_rules.specs.Questions.{object_test, named_query}
 use Rattle.qvt_run_rules.specs.Statements as statement
 use Rattle.qvt_run_rules.specs.Calls as call
 use Rattle.qvt_run_rules.specs.Calls.{Callee, Calls}
@@ -68,21 +63,6 @@ pub data TargetDoes (E : Type 0) : Type 0 where
 pub record HeadDoes (E : Type 0) : Type 0 where
   pub name : Option (List ℕ)
   pub accumulator : Option (List ℕ × Does E Value)
-
-abbrev pub object_test : ClassTest → ObjectTest
-object_test class_test.IsKindOf = IsKindOf
-object_test class_test.IsTypeOf = IsTypeOf
-object_test class_test.AsType = AsType
-
-abbrev pub model_query : ModelCall → Option ℕ → Option ModelQuery
-model_query model_call.Objects c = Some Objects
-model_query model_call.RootObjects c = Some RootObjects
-model_query model_call.ObjectsOfType None = None
-model_query model_call.ObjectsOfType (Some c) = Some (ObjectsOfType c)
-
-abbrev pub named_query : Option ModelCall → Option ℕ → Option ModelQuery
-named_query None c = None
-named_query (Some q) c = model_query q c
 
 module _ {E : Type 0} (x : Setting E) where
   -- Names.

@@ -1,9 +1,10 @@
-//! What a run keeps and tells: variables in scope, records of the trace, requests, late writes, what ends
-//! phrases, and the run's faults.
+//! What a run keeps and tells: variables in scope, items with sort keys, records of the trace, requests,
+//! late writes, what ends phrases, and the run's faults.
 #![tactic(auto)]
 
 pub mod exit;
 pub mod fault;
+pub mod keyed;
 pub mod late;
 pub mod local;
 pub mod questions;

@@ -12,6 +12,7 @@ use Rattle.qvt_value.specs.Limits.{built}
 use Rattle.qvt_value.specs.Order.{order_of}
 use Rattle.qvt_ocl_words.specs.Lists.{has, is_integer, is_string}
 use Rattle.qvt_run_data.specs.declared.exit.End.TheVariants.{OutOfFuel}
+use Rattle.qvt_run_data.specs.declared.keyed.Keyed.{Keyed}
 use Rattle.qvt_run_rules.specs.State.{Does, ◌>>=◌, ◌>>◌, pure, stop, misfit, found}
 use Rattle.qvt_run_rules.specs.Locals.{fixed, name_in, with_locals}
 use Rattle.qvt_run_rules.specs.Logic.{is_true, conjunction, disjunction, if_logical}
@@ -22,11 +23,7 @@ abbrev pub all_differ : List Value → Bool
 all_differ [] = true
 all_differ (v ∷ vs) = not (has vs v) && all_differ vs
 
--- an item with its sort key
-pub record Keyed : Type 0 where
-  pub key : Value
-  pub item : Value
-
+-- items by their sort keys
 abbrev pub key_order : Keyed → Keyed → Ordering
 key_order a b = order_of a.key b.key
 

@@ -6,6 +6,7 @@ pub mod Store
 pub mod Logic
 pub mod Sources
 pub mod Expressions
+pub mod Questions
 pub mod Iterators
 pub mod Statements
 pub mod Calls
