@@ -1,6 +1,6 @@
 //! Collection literals, with ranges of any length.
 
-use super::values::{HERE, kind_of, value, values};
+use super::values::{HERE, kind_of, optional, value, values};
 use qvt_exec_words::literals::{Gathered, collection};
 use qvt_value::value::Value;
 use std::alloc::Global;
@@ -16,7 +16,7 @@ const COLLECTIONS: [(&str, &str, &str); 5] = [
 ];
 
 /// A kind, parts of a literal, of which ranges have two dots, and the collection.
-const LITERALS: [(&str, &str, &str); 15] = [
+const LITERALS: [(&str, &str, &str); 10] = [
     ("Sequence", "7 1..3 'a 2..2", "Sequence 7 1 2 3 'a 2"),
     ("OrderedSet", "3 1..4", "OrderedSet 3 1 2 4"),
     ("Set", "3 1..4 2", "Set 1 2 3 4"),
@@ -26,6 +26,11 @@ const LITERALS: [(&str, &str, &str); 15] = [
     ("Sequence", "1..null", "!NullSource"),
     ("Sequence", "null..^Overflow", "^Overflow"),
     ("Sequence", "1..3 ^Overflow..null", "^Overflow"),
+    ("Sequence", "1..'a", "-"),
+];
+
+/// The same with ranges that no collection holds.
+const LARGE: [(&str, &str, &str); 5] = [
     ("Sequence", "1..9000000000000000000", "!TooLarge"),
     ("Set", "5 1..9000000000000000000 7", "!TooLarge"),
     ("Bag", "1..1000001", "!TooLarge"),
@@ -35,7 +40,6 @@ const LITERALS: [(&str, &str, &str); 15] = [
         "^Overflow",
     ),
     ("Sequence", "1..9000000000000000000 1..null", "!NullSource"),
-    ("Sequence", "1..'a", "-"),
 ];
 
 /// Puts a part, and tells whether it could be put.
@@ -53,6 +57,20 @@ fn put(alloc: Global, gathered: &mut Gathered, part: &str) -> Result<bool, Fail>
     }
 }
 
+/// The collection of the kind that the parts make, none where the last can not be put.
+fn literal(alloc: Global, kind: &str, parts: &str) -> Result<Option<Value>, Fail> {
+    let kind = kind_of(kind).ok_or("a kind")?;
+    let mut gathered = Gathered::new(alloc, kind);
+    let mut is_put = true;
+    for part in parts.split_whitespace() {
+        is_put = put(alloc, &mut gathered, part)?;
+    }
+    if !is_put {
+        return Ok(None);
+    }
+    Ok(Some(gathered.into_value(alloc, HERE)?))
+}
+
 #[test]
 fn collection_literals(rt: HostRuntime) -> Result<(), Fail> {
     let alloc = rt.alloc();
@@ -62,40 +80,36 @@ fn collection_literals(rt: HostRuntime) -> Result<(), Fail> {
         assert!(rt; answer == value(alloc, expected)?, "{kind} {words}");
     }
     for (kind, parts, expected) in &LITERALS {
-        let own = kind_of(kind).ok_or("a kind")?;
-        let mut gathered = Gathered::new(alloc, own);
-        let mut is_put = true;
-        for part in parts.split_whitespace() {
-            is_put = put(alloc, &mut gathered, part)?;
-        }
-        assert!(rt; is_put == (*expected != "-"), "{kind} {parts}");
-        if is_put {
-            let answer = gathered.into_value(alloc, HERE)?;
-            assert!(rt; answer == value(alloc, expected)?, "{kind} {parts}");
-        }
+        let answer = literal(alloc, kind, parts)?;
+        assert!(rt; answer == optional(alloc, expected)?, "{kind} {parts}");
     }
     Ok(())
 }
 
-/// A kind, and how often the range is put.
-const TIMES: [(&str, u32); 4] = [("Set", 3), ("OrderedSet", 3), ("Bag", 1), ("Sequence", 1)];
+/// A kind, and parts that put the Integers from 1 to 1,000,000.
+const MOST: [(&str, &str); 2] = [
+    ("Set", "1..1000000 1..1000000 1..1000000"),
+    ("Sequence", "1..1000000"),
+];
 
-/// The Integers from 1 to 1,000,000 may stand in a collection, and in one without duplicates be put again.
+/// These Integers may stand in a collection, and in one without duplicates be put again. One more may not.
 #[test]
 fn the_largest_literals(rt: HostRuntime) -> Result<(), Fail> {
     let alloc = rt.alloc();
-    let most = value(alloc, "1000000")?;
-    for (kind, times) in &TIMES {
-        let own = kind_of(kind).ok_or("a kind")?;
-        let mut gathered = Gathered::new(alloc, own);
-        for _time in 0..*times {
-            assert!(rt; gathered.push_range(alloc, HERE, &Value::Int(1), &most)?);
-        }
-        let (made, items) = match gathered.into_value(alloc, HERE)?.into_items() {
+    for (kind, parts, expected) in &LARGE {
+        let answer = literal(alloc, kind, parts)?;
+        assert!(rt; answer == optional(alloc, expected)?, "{kind} {parts}");
+    }
+    for (kind, parts) in &MOST {
+        let made = literal(alloc, kind, parts)?.ok_or("no ends")?;
+        let (own, items) = match made.into_items() {
             Ok(parts) => parts,
             Err(_) => return Err(Fail::new("no collection")),
         };
-        assert!(rt; made == own && items.len() == 1_000_000, "{kind}");
+        assert!(rt;
+            Some(own) == kind_of(kind) && items.len() == 1_000_000,
+            "{kind}"
+        );
     }
     Ok(())
 }
