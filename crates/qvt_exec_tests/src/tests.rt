@@ -1,0 +1,6 @@
+mod literals;
+mod reads;
+mod state;
+mod stores;
+mod values;
+mod words;
