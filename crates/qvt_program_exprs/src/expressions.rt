@@ -21,7 +21,7 @@ pub fn expr<'a>(
     node: &'a TypedExpr,
     all: &mut ExprList<'a>,
 ) -> Result<(), ListFault>
-    ensures { OnOk result (listing all.new ≡ listing all.old ++ numbered.in_expr (filter_view filter) (view.typed_expr_view node.now)) }
+    ensures { OnOk result (listing all.new ≡ listing all.old ++ numbered.in_expr (filter_view filter.entry) (view.typed_expr_view node.now)) }
 {
     add(filter, node, all)?;
     match node {

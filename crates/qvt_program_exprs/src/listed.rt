@@ -37,7 +37,7 @@ pub fn add<'a>(
     expr: &'a TypedExpr,
     all: &mut ExprList<'a>,
 ) -> Result<(), ListFault>
-    ensures { OnOk result (listing all.new ≡ listing all.old ++ numbered.listed (filter_view filter) (typed_expr_view expr.now) ∷ []) }
+    ensures { OnOk result (listing all.new ≡ listing all.old ++ numbered.listed (filter_view filter.entry) (typed_expr_view expr.now) ∷ []) }
 {
     all.push(ListedExpr { filter, expr })
 }

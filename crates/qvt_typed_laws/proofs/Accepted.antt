@@ -19,9 +19,9 @@ none_told : (rs : List Refusal) → least rs ≡ None → rs ≡ []
 none_told [] e = refl
 none_told (r ∷ rs) e = absurd (some_least r rs e)
 
-pub record Parts (h : Heads) (tree : TypedModuleTerm) (o : Option Refusal) (p : ProgramTerm) : Type 0 where
+pub record Parts (h : Heads) (typed : TypedModuleTerm) (o : Option Refusal) (p : ProgramTerm) : Type 0 where
   pub heads : p.heads ≡ h
-  pub tree : p.module_ ≡ tree
+  pub tree : p.module_ ≡ typed
   pub none : o ≡ None
 
 abbrev heads_or : Heads → Result ProgramTerm Refusal → Heads
@@ -29,12 +29,12 @@ heads_or h (Ok p) = p.heads
 heads_or h (Err r) = h
 
 abbrev tree_or : TypedModuleTerm → Result ProgramTerm Refusal → TypedModuleTerm
-tree_or tree (Ok p) = p.module_
-tree_or tree (Err r) = tree
+tree_or typed (Ok p) = p.module_
+tree_or typed (Err r) = typed
 
-parts : (h : Heads) (tree : TypedModuleTerm) (o : Option Refusal) (p : ProgramTerm) → accepted h tree o ≡ Ok p → Parts h tree o p
-parts h tree None p e = record { heads = ap (heads_or h) (sym e); tree = ap (tree_or tree) (sym e); none = refl }
-parts h tree (Some r) p e = absurd (cc)
+parts : (h : Heads) (typed : TypedModuleTerm) (o : Option Refusal) (p : ProgramTerm) → accepted h typed o ≡ Ok p → Parts h typed o p
+parts h typed None p e = record { heads = ap (heads_or h) (sym e); tree = ap (tree_or typed) (sym e); none = refl }
+parts h typed (Some r) p e = absurd (cc)
 
 pub accepted_is_judged : AcceptedIsJudged
 unfolding accepts
