@@ -1,15 +1,18 @@
 -- What is found at the first place that passes.
-use Rattle.std.proofs.Common.{◌≡◌, ◌∙◌, refl, sym, ap, ℕ, Bool, true, false, cond, List, length, map, Option, Some, None, arith}
+use Rattle.std.proofs.Common.{◌≡◌, ◌∙◌, refl, sym, ap, ℕ, Bool, true, false, cond, List, length, Option, Some, None}
 use Rattle.std.specs.Prelude.{find, nat_lt, option_map, position, slice_get}
 use Rattle.std.specs.List.{position_or_len}
 use Rattle.std.proofs.lemmas.Bool.{ltb-false}
 use Rattle.std.proofs.lemmas.List.Folds.{find_at}
 use Rattle.std.proofs.lemmas.Option.{slice_get-map, slice_get_past}
-use Rattle.qvt_meaning.specs.Numbered.{Listed, expr_in, condition_in, condition_of, has_number}
-use Rattle.qvt_program_exprs.specs.Index.{IsIndex, numbered_so, place_under}
-use Rattle.qvt_program_exprs.specs.Listing.{listed_view, listing}
-use Rattle.qvt_program_exprs.specs.declared.listed.ListedExpr.{ListedExpr}
 use Rattle.qvt_base.specs.declared.numbers.ExprNo.{ExprNo}
+use Rattle.qvt_types_program.specs.Program.{program_view}
+use Rattle.qvt_meaning.specs.Numbered.{all_listed, has_number}
+use Rattle.qvt_program_exprs.specs.Index.{numbered_so, place_under}
+use Rattle.qvt_program_exprs.specs.Listing.{listed_view, listing}
+use Rattle.qvt_program_exprs.specs.Table.{IsTable}
+use Rattle.qvt_program_exprs.specs.declared.listed.ListedExpr.{ListedExpr}
+use Rattle.qvt_program_exprs.specs.declared.table.Expressions.{Expressions}
 
 abbrev item_at : {X : Type 0} → List X → Option ℕ → Option X
 item_at xs None = None
@@ -23,10 +26,14 @@ found p xs o is = find_at p xs ∙ by (nat_lt (position_or_len p xs) (length xs)
     by false e = slice_get_past xs (position_or_len p xs) (ltb-false (position_or_len p xs) (length xs) e)
 
 -- no place stands under the number
-pub none_found : (all : List ListedExpr) (places : List (Option ℕ)) (n : ExprNo) → IsIndex (listing all) places → place_under places n.0 ≡ None → find (has_number n) (listing all) ≡ None
-none_found all places n are none = found (numbered_so n.0) (listing all) None (sym none ∙ are n.0)
+pub none_listed : (es : Expressions) (n : ExprNo) → IsTable es → None ≡ place_under es.places n.0 → None ≡ find (has_number n) (all_listed (program_view es.program.now))
+none_listed es n t none = sym (found (numbered_so n.0) (listing es.all) None (none ∙ t.finds n.0)) ∙ ap (find (has_number n)) t.lists
 
-pub one_found : (all : List ListedExpr) (places : List (Option ℕ)) (n : ExprNo) (place : ℕ) → IsIndex (listing all) places → place_under places n.0 ≡ Some place
-    → find (has_number n) (listing all) ≡ option_map listed_view (slice_get all place)
+listed_at : (all : List ListedExpr) (place : ℕ) → option_map listed_view (slice_get all place) ≡ slice_get (listing all) place
 unfolding listing
-one_found all places n place are there = found (numbered_so n.0) (map listed_view all) (Some place) (sym there ∙ are n.0) ∙ slice_get-map listed_view all place
+listed_at all place = sym (slice_get-map listed_view all place)
+
+pub one_listed : (es : Expressions) (n : ExprNo) (place : ℕ) → IsTable es → Some place ≡ place_under es.places n.0
+    → option_map listed_view (slice_get es.all place) ≡ find (has_number n) (all_listed (program_view es.program.now))
+one_listed es n place t there =
+    listed_at es.all place ∙ sym (found (numbered_so n.0) (listing es.all) (Some place) (there ∙ t.finds n.0)) ∙ ap (find (has_number n)) t.lists

@@ -9,8 +9,8 @@ use crate::listed::{ExprList, FilterName, add, filter_name};
 use crate::statements::stmts;
 use qvt_base::list_fault::ListFault;
 use qvt_types_nodes::tree::{
-    TypedAccumulator, TypedExpr, TypedExprList, TypedFilter, TypedHead, TypedItem, TypedLink,
-    TypedRangeEnd, TypedStep,
+    TypedAccumulator, TypedExpr, TypedFilter, TypedHead, TypedItem, TypedLink, TypedRangeEnd,
+    TypedStep,
 };
 
 /// An expression and those in it.
@@ -79,17 +79,6 @@ pub fn optional<'a>(node: &'a Option<TypedExpr>, all: &mut ExprList<'a>) -> Resu
     match node {
         None => Ok(()),
         Some(node) => expr(FilterName::NoFilter, node, all),
-    }
-}
-
-#[cycle(listing)]
-#[tactic(auto, unfolding(qvt_meaning::specs::Numbered::in_args))]
-pub fn args<'a>(nodes: &'a Option<TypedExprList>, all: &mut ExprList<'a>) -> Result<(), ListFault>
-    ensures { OnOk result (listing all.new ≡ listing all.old ++ numbered.in_args (view.typed_optional_args (option_map (λ es. map view.typed_expr_view es) nodes.now))) }
-{
-    match nodes {
-        None => Ok(()),
-        Some(nodes) => exprs(nodes.as_slice(), all),
     }
 }
 
@@ -193,12 +182,15 @@ pub fn optional_head<'a>(
 }
 
 #[cycle(listing)]
-#[tactic(auto, unfolding(qvt_meaning::specs::Numbered::in_step, qvt_meaning::specs::Numbered::in_map, qvt_meaning::specs::Numbered::in_resolve))]
+#[tactic(auto, unfolding(qvt_meaning::specs::Numbered::in_step, qvt_meaning::specs::Numbered::in_args, qvt_meaning::specs::Numbered::in_map, qvt_meaning::specs::Numbered::in_resolve))]
 pub fn step<'a>(node: &'a TypedStep, all: &mut ExprList<'a>) -> Result<(), ListFault>
     ensures { OnOk result (listing all.new ≡ listing all.old ++ numbered.in_step (view.typed_step_view node.now)) }
 {
     match node {
-        TypedStep::Dot { args: nodes, .. } => args(nodes, all),
+        TypedStep::Dot { args, .. } => match args {
+            None => Ok(()),
+            Some(args) => exprs(args.as_slice(), all),
+        },
         TypedStep::Arrow { head, args, .. } => {
             optional_head(head, all)?;
             exprs(args.as_slice(), all)

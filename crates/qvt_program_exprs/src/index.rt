@@ -54,16 +54,24 @@ fn enter_expr(places: &mut PlaceList, place: u32, expr: &ListedExpr<'_>) -> Resu
     }
 }
 
-/// For each number the place of the first expression that has it. It is refused as out of memory where a place does not fit 32 bits.
+/// For each number the place of the first of as many expressions that has it.
+fn first_places(alloc: Global, all: &[ListedExpr<'_>], count: u32) -> Result<PlaceList, ListFault>
+    requires { length all.now ≡ count }
+    ensures { IfOk result (λ ps. IsIndex (listing all.now) ps) }
+{
+    let mut places = Seq::new(alloc);
+    for place in 0..count {
+        enter_expr(&mut places, place, &all[place as usize])?;
+    }
+    Ok(places)
+}
+
+/// The same of any number of expressions. It is refused as out of memory where that does not fit 32 bits.
 pub fn places_of(alloc: Global, all: &[ListedExpr<'_>]) -> Result<PlaceList, ListFault>
     ensures { IfOk result (λ ps. IsIndex (listing all.now) ps) }
 {
     let Ok(count) = u32::try_from(all.len()) else {
         return Err(ListFault::NoMemory);
     };
-    let mut places = Seq::new(alloc);
-    for place in 0..count {
-        enter_expr(&mut places, place, &all[place as usize])?;
-    }
-    Ok(places)
+    first_places(alloc, all, count)
 }

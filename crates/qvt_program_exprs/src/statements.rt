@@ -1,6 +1,6 @@
 //! Statements.
 
-ghost use Rattle.std.specs.Prelude.{◌≡◌, ◌++◌, None, map, option_map, OnOk};
+ghost use Rattle.std.specs.Prelude.{◌≡◌, ◌++◌, map, OnOk};
 ghost use Rattle.qvt_types_nodes.specs.View as view;
 ghost use Rattle.qvt_meaning.specs.Numbered as numbered;
 ghost use Rattle.qvt_program_exprs.specs.Listing.{listing};
@@ -8,7 +8,7 @@ ghost use Rattle.qvt_program_exprs.specs.Listing.{listing};
 use crate::expressions::{expr, optional};
 use crate::listed::{ExprList, FilterName};
 use qvt_base::list_fault::ListFault;
-use qvt_types_nodes::tree::{TypedArm, TypedStmt, TypedStmts, TypedTarget};
+use qvt_types_nodes::tree::{TypedArm, TypedStmt, TypedTarget};
 
 #[cycle(listing)]
 #[tactic(auto, unfolding(qvt_meaning::specs::Numbered::in_target))]
@@ -23,7 +23,7 @@ pub fn target<'a>(node: &'a TypedTarget, all: &mut ExprList<'a>) -> Result<(), L
 }
 
 #[cycle(listing)]
-#[tactic(auto, unfolding(qvt_meaning::specs::Numbered::in_stmt))]
+#[tactic(auto, unfolding(qvt_meaning::specs::Numbered::in_stmt, qvt_meaning::specs::Numbered::in_else))]
 pub fn stmt<'a>(node: &'a TypedStmt, all: &mut ExprList<'a>) -> Result<(), ListFault>
     ensures { OnOk result (listing all.new ≡ listing all.old ++ numbered.in_stmt (view.typed_stmt_view node.now)) }
 {
@@ -43,13 +43,16 @@ pub fn stmt<'a>(node: &'a TypedStmt, all: &mut ExprList<'a>) -> Result<(), ListF
             condition,
             body,
             arms,
-            otherwise: other,
+            otherwise,
             ..
         } => {
             expr(FilterName::NoFilter, condition, all)?;
             stmts(body.as_slice(), all)?;
             all_arms(arms.as_slice(), all)?;
-            otherwise(other, all)
+            match otherwise {
+                None => Ok(()),
+                Some(other) => stmts(other.as_slice(), all),
+            }
         }
         TypedStmt::While {
             condition,
@@ -81,17 +84,6 @@ pub fn stmts<'a>(nodes: &'a [TypedStmt], all: &mut ExprList<'a>) -> Result<(), L
         stmt(node, all)?;
     }
     Ok(())
-}
-
-#[cycle(listing)]
-#[tactic(auto, unfolding(qvt_meaning::specs::Numbered::in_else))]
-pub fn otherwise<'a>(nodes: &'a Option<TypedStmts>, all: &mut ExprList<'a>) -> Result<(), ListFault>
-    ensures { OnOk result (listing all.new ≡ listing all.old ++ numbered.in_else (view.typed_optional_else (option_map (λ ss. map view.typed_stmt_view ss) nodes.now))) }
-{
-    match nodes {
-        None => Ok(()),
-        Some(nodes) => stmts(nodes.as_slice(), all),
-    }
 }
 
 #[cycle(listing)]

@@ -1,10 +1,13 @@
 //! The expressions of a program by their numbers.
 
-ghost use Rattle.std.specs.Prelude.{◌≡◌};
-ghost use Rattle.qvt_meaning.specs.Numbered as numbered;
+ghost use Rattle.std.specs.Prelude.{◌≡◌, option_map, IfOk};
+ghost use Rattle.std.specs.List.{find};
+ghost use Rattle.std.specs.Option.{option_copied};
+ghost use Rattle.qvt_types_nodes.specs.View.{typed_expr_view};
 ghost use Rattle.qvt_types_program.specs.Program.{program_view};
-ghost use Rattle.qvt_program_exprs.specs.Index.{IsIndex};
-ghost use Rattle.qvt_program_exprs.specs.Listing.{listing};
+ghost use Rattle.qvt_meaning.specs.Numbered as numbered;
+ghost use Rattle.qvt_program_exprs.specs.Listing.{filter_view, listed_view};
+ghost use Rattle.qvt_program_exprs.specs.Table.{IsTable, condition_view};
 
 use crate::index::{PlaceList, place_under, places_of};
 use crate::listed::{ExprList, FilterName, ListedExpr};
@@ -29,8 +32,6 @@ pub struct Expressions<'a> {
     program: &'a Program,
     all: ExprList<'a>,
     places: PlaceList,
-    ghost lists: { listing all ≡ numbered.all_listed (program_view program.now) },
-    ghost indexes: { IsIndex (listing all) places },
 }
 
 impl<'a> Drop for Expressions<'a> {
@@ -44,17 +45,10 @@ impl<'a> Drop for Expressions<'a> {
 }
 
 impl<'a> Expressions<'a> {
-    ghost use Rattle.std.specs.Prelude.{IfOk};
-    ghost use Rattle.std.specs.List.{find};
-    ghost use Rattle.std.specs.Prelude.{option_map};
-    ghost use Rattle.std.specs.Option.{option_copied};
-    ghost use Rattle.qvt_types_nodes.specs.View.{typed_expr_view};
-    ghost use Rattle.qvt_program_exprs.specs.Listing.{listed_view};
-    ghost use Rattle.qvt_program_exprs.specs.Table.{condition_view};
-
     /// Those of this program. It is refused as out of memory too where there are more than 32 bits can number.
     pub fn new(alloc: Global, program: &'a Program) -> Result<Expressions<'a>, ListFault>
-        ensures { IfOk result (λ es. es.program.now ≡ program.now) }
+        ensures program { IfOk result (λ es. es.program.now ≡ program.now) }
+        ensures table { IfOk result (λ es. IsTable es) }
     {
         let all = all_exprs(alloc, program)?;
         let places = places_of(alloc, all.as_slice())?;
@@ -74,17 +68,18 @@ impl<'a> Expressions<'a> {
 
     /// What is listed under this number.
     fn listed(&self, number: ExprNo) -> Option<ListedExpr<'a>>
+        requires { IsTable self.now }
         ensures { option_map listed_view result ≡ find (numbered.has_number number) (numbered.all_listed (program_view self.now.program.now)) }
     {
-        let Some(place) = place_under(self.places.as_slice(), number.0) else {
-            return None;
-        };
-        self.all.get(place as usize).copied()
+        match place_under(self.places.as_slice(), number.0) {
+            None => None,
+            Some(place) => self.all.get(place as usize).copied(),
+        }
     }
 
     /// The expression of this number. It takes no memory.
-    #[tactic(auto, unfolding(qvt_meaning::specs::Numbered::expr_at))]
     pub fn expr(&self, number: ExprNo) -> Option<&'a TypedExpr>
+        requires { IsTable self.now }
         ensures { option_map typed_expr_view (option_copied result) ≡ numbered.expr_at (program_view self.now.program.now) number }
     {
         match self.listed(number) {
@@ -94,8 +89,8 @@ impl<'a> Expressions<'a> {
     }
 
     /// The condition of this number, with the variable of its filter. It takes no memory.
-    #[tactic(auto, unfolding(qvt_meaning::specs::Numbered::condition_at))]
     pub fn condition(&self, number: ExprNo) -> Option<Condition<'a>>
+        requires { IsTable self.now }
         ensures { option_map condition_view result ≡ numbered.condition_at (program_view self.now.program.now) number }
     {
         match self.listed(number) {
@@ -105,14 +100,9 @@ impl<'a> Expressions<'a> {
     }
 }
 
-ghost use Rattle.std.specs.Prelude.{option_map};
-ghost use Rattle.qvt_types_nodes.specs.View.{typed_expr_view};
-ghost use Rattle.qvt_program_exprs.specs.Listing.{filter_view};
-ghost use Rattle.qvt_program_exprs.specs.Table.{condition_view};
-
 /// The condition that a listed expression is.
 fn condition_of<'a>(listed: ListedExpr<'a>) -> Option<Condition<'a>>
-    ensures { option_map condition_view result ≡ numbered.condition_of (typed_expr_view listed.expr.now) (filter_view listed.filter) }
+    ensures { option_map condition_view result ≡ numbered.condition_of (typed_expr_view listed.entry.expr.now) (filter_view listed.entry.filter) }
 {
     let expr = listed.expr;
     match listed.filter {

@@ -1,13 +1,11 @@
 -- Of a transformation that is accepted nothing is told.
 use Rattle.std.proofs.Common.{◌≡◌, refl, sym, ap, List, [], ◌∷◌, Option, Some, None, Result, Ok, Err}
-use Rattle.qvt_metamodel.specs.Metamodels.{Metamodels}
-use Rattle.qvt_tree_types.specs.Module.{ModuleTerm}
 use Rattle.qvt_types_data.specs.declared.refusal.Refusal.{Refusal}
 use Rattle.qvt_types_laws.specs.JoinModule.{joined}
 use Rattle.qvt_types_nodes.specs.Module.{TypedModuleTerm}
 use Rattle.qvt_typing.specs.Accepts.{ProgramTerm, accepts, accepted, heads_of, judged, least, least_from, sooner}
 use Rattle.qvt_typing.specs.Context.{Heads}
-use Rattle.qvt_typed_laws.specs.Accepted.{IsJudged, AcceptedIsJudged}
+use Rattle.qvt_typed_laws.specs.Accepted.{AcceptedIsJudged}
 use Rattle.qvt_typed_laws.proofs.Whole.{heads_untold}
 
 -- what has refusals has a least one

@@ -1,5 +1,5 @@
 -- What a program that is accepted is, by what judging gives.
-use Rattle.std.specs.Prelude.{◌≡◌, List, [], Ok}
+use Rattle.std.specs.Prelude.{◌≡◌, [], Ok}
 use Rattle.qvt_metamodel.specs.Metamodels.{Metamodels}
 use Rattle.qvt_tree_types.specs.Module.{ModuleTerm}
 use Rattle.qvt_types_laws.specs.JoinModule.{joined}
