@@ -1,33 +1,31 @@
 -- Where nothing is told of model types and model parameters, each parameter has a metamodel.
-use Rattle.std.proofs.Common.{◌≡◌, ◌∙◌, refl, sym, ap, subst, ℕ, zero, suc, ◌<◌, ◌≤◌, Bool, true, false, List, [], ◌∷◌, ◌++◌, length, map, Option, Some, None, Ok, arith}
+use Rattle.std.proofs.Common.{◌≡◌, ◌∙◌, refl, sym, ap, subst, ℕ, zero, suc, ◌<◌, Bool, true, List, [], ◌∷◌, ◌++◌, length, map, Option, Some, None, arith}
 use Rattle.std.specs.Prelude.{position, slice_index_or, is_some, is_none, not}
+use Rattle.std.specs.List.{flat_map}
 use Rattle.std.specs.Str.{bytes_eq}
 use Rattle.std.proofs.lemmas.List.{length-map}
 use Rattle.std.proofs.lemmas.List.Quantifiers.{position-Some}
 use Rattle.qvt_base.specs.declared.numbers.Place.{Place}
 use Rattle.qvt_metamodel.specs.Metamodels.{Metamodels}
-use Rattle.qvt_metamodel.specs.Named.{metamodel_named, nowhere_metamodel}
+use Rattle.qvt_metamodel.specs.Named.{nowhere_metamodel}
 use Rattle.qvt_tree_types.specs.Module.{ModuleTerm, UnitTerm}
 use Rattle.qvt_tree_types.specs.declared.module.ModelParam.{ModelParam}
 use Rattle.qvt_tree_types.specs.declared.module.ModelType.{ModelType}
-use Rattle.qvt_types_data.specs.declared.refusal.Refusal.{Refusal}
+use Rattle.qvt_types_data.specs.declared.note.Note.{Note}
 use Rattle.qvt_types_data.specs.declared.refusal.RefusalKind.{RefusalKind}
+use Rattle.qvt_types_laws.specs.JoinModule.{joined}
+use Rattle.qvt_types_nodes.specs.StripModule.{strip}
 use Rattle.qvt_types_classes.specs.Classes.{above_told}
 use Rattle.qvt_types_classes.specs.Written.{all_declared, classes_told}
-use Rattle.qvt_types_paths.specs.ModelTypes.{NamedTypes, type_names, meant, model_type_told, model_types_told, metamodel_at, model_type_metamodel}
-use Rattle.qvt_types_paths.specs.Models.{model_row, model_told, models, models_told, nowhere_row}
+use Rattle.qvt_types_paths.specs.ModelTypes.{type_names, meant, model_type_told, model_types_told, metamodel_at}
+use Rattle.qvt_types_paths.specs.Models.{model_row, model_told, models, models_told}
 use Rattle.qvt_types_paths.specs.Told.{told_if}
-use Rattle.qvt_types_paths.specs.declared.models.ModelRow.{ModelRow}
 use Rattle.qvt_types_units.specs.Units.{head_told, same_told, overrides_told, lists_told, main_told}
-use Rattle.qvt_typing.specs.Accepts.{ProgramTerm, accepts, heads_of, heads_told, reuse_lists}
-use Rattle.std.specs.List.{flat_map}
-use Rattle.qvt_types_laws.specs.JoinModule.{joined}
-use Rattle.qvt_types_data.specs.declared.note.Note.{Note}
-use Rattle.qvt_types_nodes.specs.StripModule.{strip}
+use Rattle.qvt_typing.specs.Accepts.{ProgramTerm, heads_of, heads_told, reuse_lists}
 use Rattle.qvt_types_program.specs.Extents.{row_at}
 use Rattle.qvt_types_program.specs.Known.{known}
-use Rattle.qvt_types_program.specs.Program.{model_metamodel, model_params}
-use Rattle.qvt_typed_laws.specs.Accepted.{IsJudged, AcceptedIsJudged}
+use Rattle.qvt_types_program.specs.Program.{model_metamodel}
+use Rattle.qvt_typed_laws.specs.Accepted.{AcceptedIsJudged}
 use Rattle.qvt_program_laws.specs.Models.{HasMetamodel, ModelsHaveMetamodels}
 
 nothing_first : {A : Type 0} (xs ys : List A) → xs ++ ys ≡ [] → xs ≡ []

@@ -1,5 +1,5 @@
 -- Units are signed in order, and mappings numbered.
-use Rattle.std.proofs.Common.{◌≡◌, ◌∙◌, refl, sym, ap, subst, ℕ, zero, suc, ◌<◌, Bool, true, false, List, [], ◌∷◌, length, map, Option, Some, None, arith}
+use Rattle.std.proofs.Common.{◌≡◌, ◌∙◌, refl, sym, ap, subst, ℕ, zero, suc, ◌<◌, Bool, true, false, List, [], ◌∷◌, length, map, Some}
 use Rattle.std.specs.Prelude.{if◌then◌else◌, slice_get}
 use Rattle.std.proofs.lemmas.Bool.{false≢true}
 use Rattle.std.proofs.lemmas.List.{length-map}
@@ -19,12 +19,11 @@ use Rattle.qvt_types_units.specs.declared.signature.UnitSort.{UnitSort}
 use Rattle.qvt_types_units.specs.declared.signature.UnitSort.TheVariants as sort
 use Rattle.qvt_typing.specs.Accepts.{ProgramTerm, heads_of}
 use Rattle.qvt_types_program.specs.Mappings.{AreNumbered, is_mapping_number, is_mapping_of, mapping_count, mapping_unit, mapping_units}
-use Rattle.qvt_types_program.specs.Program.{unit_term}
 use Rattle.qvt_types_program.proofs.Counted.{counted}
 use Rattle.qvt_types_program.proofs.Numbered.{unit_found}
 use Rattle.qvt_types_program.proofs.Signed.{signed_from}
 use Rattle.qvt_typed_laws.specs.Accepted.{IsJudged, AcceptedIsJudged}
-use Rattle.qvt_program_laws.specs.Units.{UnitsAreSigned, IsMappingUnit, MappingsAreUnits}
+use Rattle.qvt_program_laws.specs.Units.{UnitsAreSigned, MappingsAreUnits}
 
 -- where notes leave every tree
 abbrev pub NotesLeave : Type 0
