@@ -1,3 +1,4 @@
+mod Accepted
 mod Arrows
 mod Bodies
 mod Contexts

@@ -23,6 +23,11 @@ kept h t = next (blanks t.model_types) (λ u. next (blanks t.params) (λ v. weak
 at_the_start : (told : List Refusal) → Tidy (start told)
 at_the_start told = record { scope = record { named = none; sources = none }; notes = none }
 
+-- what is told of the heads stays told
+pub heads_untold : (m : Metamodels) (t : ModuleTerm) → (judged (heads_of m t) t).log ≡ [] → heads_told (heads_of m t) t ≡ []
+unfolding judged
+heads_untold m t e = (kept (heads_of m t) t).back (start (heads_told (heads_of m t) t)) e
+
 pub whole_typed : (m : Metamodels) (t : ModuleTerm) → (judged (heads_of m t) t).log ≡ [] → list_all is_typed_note (judged (heads_of m t) t).notes ≡ true
 unfolding judged
 whole_typed m t e =

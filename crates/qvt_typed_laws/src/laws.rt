@@ -7,6 +7,7 @@ ghost use Rattle.qvt_tree_types.specs.Module.{ModuleTerm};
 ghost use Rattle.qvt_types_data.specs.declared.note.Note.{Note};
 ghost use Rattle.qvt_types_laws.specs.JoinModule.{join_module, joined};
 ghost use Rattle.qvt_typing.specs.Accepts.{heads_of, judged};
+ghost use Rattle.qvt_typed_laws.specs.Accepted.{AcceptedIsJudged};
 ghost use Rattle.qvt_typed_laws.specs.Numbers.{numbers};
 ghost use Rattle.qvt_typed_laws.specs.Typed.{is_typed_note};
 
@@ -26,4 +27,9 @@ pub fn notes_are_of_nodes()
 pub fn numbers_ascend()
     ensures { (m : Metamodels) (t : ModuleTerm)
         → numbers (joined t (judged (heads_of m t) t).notes) ≡ range_with_len 0 (judged (heads_of m t) t).next }
+{}
+
+/// A program that is accepted is the tree joined with the notes of its nodes, with what its heads declare, and nothing is told of it.
+pub fn accepted_is_judged()
+    ensures { AcceptedIsJudged }
 {}
