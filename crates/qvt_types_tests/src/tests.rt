@@ -1,3 +1,4 @@
+mod numbered;
 mod programs;
 mod read;
 mod refused;
