@@ -1,6 +1,5 @@
 -- The place of the first expression of each number.
 use Rattle.std.specs.Prelude.{◌≡◌, ℕ, Bool, List, position, Option, None, slice_index_or}
-use Rattle.qvt_base.specs.declared.numbers.ExprNo.{ExprNo}
 use Rattle.qvt_meaning.specs.Numbered.{Listed, has_number}
 
 abbrev pub place_under : List (Option ℕ) → ℕ → Option ℕ
