@@ -1,6 +1,0 @@
-mod literals;
-mod reads;
-mod state;
-mod stores;
-mod values;
-mod words;
