@@ -1,4 +1,3 @@
-mod numbered;
 mod programs;
 mod read;
 mod refused;
