@@ -131,7 +131,7 @@ module _ {E : Type 0} (x : Setting E) (calls : Calls E) (answer : Option Ty) whe
     stmt (TypedValueStmt e at n) = statement.statement x.spend (statement.discard (expr e))
     stmt (TypedIfStmt c ss more other at n) = statement.statement x.spend (statement.branch (expr c) (place_of c) (statement.block (stmts ss)) (arms more (otherwise other)))
     stmt (TypedWhileStmt c ss at n) = statement.statement x.spend (statement.loop x.turns (expr c) (place_of c) (statement.block (stmts ss)))
-    stmt (TypedForEachStmt e name t c ss at n) = statement.statement x.spend (statement.for_each (expr e) name (each_type t e) (guarded c (statement.block (stmts ss))))
+    stmt (TypedForEachStmt e name t c ss at n) = statement.statement x.spend (statement.for_each (expr e) (place_of e) name (each_type t e) (guarded c (statement.block (stmts ss))))
 
     pub target : TypedTargetTerm → TargetDoes E
     target (TypedBareTarget name at n) = BareTarget n.reading n.source

@@ -13,10 +13,9 @@ use Rattle.qvt_model.specs.RunIds.{run_id}
 use Rattle.qvt_slots.specs.Contents.{Contents, extent_at, extent_of, is_named}
 use Rattle.qvt_slots.specs.declared.op.SetOp.{SetOp}
 use Rattle.qvt_slots.specs.declared.op.SetOp.TheVariants as op
-use Rattle.qvt_types_units.specs.declared.signature.HeadClass.{HeadClass}
-use Rattle.qvt_types_units.specs.declared.signature.HeadClass.TheVariants as head
 use Rattle.qvt_types_units.specs.declared.signature.Signature.{Signature}
 use Rattle.qvt_types_units.specs.Numbers.{no_unit}
+use Rattle.qvt_types_units.specs.Units.{traced_name}
 use Rattle.qvt_typing.specs.Accepts.{ProgramTerm}
 use Rattle.qvt_value.specs.declared.value.LiteralRef.{LiteralRef}
 use Rattle.qvt_value.specs.declared.value.Kind.{Kind}
@@ -41,17 +40,12 @@ class_path m c = under (metamodel_at m (class_at m c).metamodel).name (class_at 
 abbrev pub literal_path : Metamodels → LiteralRef → List ℕ
 literal_path m l = with_colons (with_colons (metamodel_at m l.metamodel).name (enumeration_at m l.metamodel l.enumeration).name) (literal_at m l.metamodel l.enumeration l.literal)
 
--- a mapping under its context class, if it has one
-abbrev pub name_under : Metamodels → HeadClass → List ℕ → List ℕ
-name_under m (head.Known c) name = with_colons (class_path m c.0) name
-name_under m h name = name
-
 abbrev pub signature_at : ProgramTerm → Option ℕ → Signature
 signature_at p None = no_unit
 signature_at p (Some n) = signature_of p n
 
 unfoldable pub mapping_path : ProgramTerm → ℕ → List ℕ
-mapping_path p k = name_under p.heads.metas (signature_at p (mapping_unit p k)).context (signature_at p (mapping_unit p k)).name
+mapping_path p k = traced_name p.heads.metas (signature_at p (mapping_unit p k)).context (signature_at p (mapping_unit p k)).name
 
 abbrev pub one : List ℕ → Data → Data
 one key d = object (member key d no_members)

@@ -22,7 +22,7 @@ use Rattle.qvt_run_data.specs.declared.exit.End.TheVariants.{Fault}
 use Rattle.qvt_run_rules.specs.State.{State, Does, ◌>>=◌, ◌>>◌, pure, stop, look}
 use Rattle.qvt_run_rules.specs.Typed.{valid}
 use Rattle.qvt_run_rules.specs.Locals.{var_of}
-use Rattle.qvt_run_rules.specs.Sources.{objects_in}
+use Rattle.qvt_run_rules.specs.Sources.{sources_in}
 use Rattle.qvt_run_rules.specs.Store.{op_of}
 
 -- what a condition says of a candidate
@@ -115,7 +115,7 @@ module _ {E : Type 0} where
   -- the sources: none behind which a resolve stands is none at all, and null is no source
   abbrev pub sources_of : Place → Option Value → Does E (Option (List Oid))
   sources_of at None = pure None
-  sources_of at (Some v) = look (λ s. all_live s.store (objects_in v)) at >>= (λ os. pure (Some os))
+  sources_of at (Some v) = look (λ s. all_live s.store (sources_in v)) at >>= (λ os. pure (Some os))
 
   abbrev pub valid_source : Option Value → Does E (Option Value)
   valid_source None = pure None

@@ -65,6 +65,10 @@ all_objects (v ∷ vs) = with_object v (all_objects vs)
 unfoldable pub objects_in : Value → Option (List Oid)
 objects_in v = all_objects (present_items (flattened (items_of v)))
 
+-- the objects that a resolve looks from: an object, or the items of a collection but for nulls
+unfoldable pub sources_in : Value → Option (List Oid)
+sources_in v = all_objects (present_items (items_of v))
+
 -- what a dot gives of null where a collection is: NullSource, unless an argument is invalid
 abbrev pub without_source : Place → List Value → Value
 without_source at ws = value_or (find is_invalid ws) (Invalid NullSource at)

@@ -18,7 +18,7 @@ use Rattle.qvt_run_data.specs.declared.local.Local.{Local}
 use Rattle.qvt_run_data.specs.declared.exit.End.TheVariants.{Fault, OutOfFuel}
 use Rattle.qvt_run_data.specs.declared.exit.Exit.TheVariants.{Returned}
 use Rattle.qvt_run_rules.specs.State.{Does, ◌>>=◌, ◌>>◌, pure, exits, stop, misfit, look}
-use Rattle.qvt_run_rules.specs.Typed.{has_type, valid, object_of, taken}
+use Rattle.qvt_run_rules.specs.Typed.{has_type, has_asked, valid, object_of, taken}
 use Rattle.qvt_run_rules.specs.Locals.{local, read, read_local, push, set, scoped, with_locals, inside}
 use Rattle.qvt_run_rules.specs.Sources.{items_of}
 use Rattle.qvt_run_rules.specs.Store.{put, new_object}
@@ -135,8 +135,12 @@ module _ {E : Type 0} where
   each_item f [] = pure tt
   each_item f (v ∷ vs) = f v >> each_item f vs
 
-  unfoldable pub for_each : Does E Value → List ℕ → Option Ty → Does E (Unit {0}) → Does E (Unit {0})
-  for_each source name t body = source >>= valid >>= (λ v. each_item (for_item name t body) (items_of v))
+  -- the items, which are of the type of the variable
+  abbrev pub asked_items : Option Ty → Place → List Value → Does E (List Value)
+  asked_items t at vs = look (λ s. if list_all (has_asked s.store t) vs then Some vs else None) at
+
+  unfoldable pub for_each : Does E Value → Place → List ℕ → Option Ty → Does E (Unit {0}) → Does E (Unit {0})
+  for_each source at name t body = source >>= valid >>= (λ v. asked_items t at (items_of v)) >>= each_item (for_item name t body)
 
   -- Object expressions.
 
