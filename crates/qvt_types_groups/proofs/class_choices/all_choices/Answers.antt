@@ -1,0 +1,12 @@
+use Rattle.std.proofs.Common.{◌<◌, sym, subst}
+use Rattle.qvt_meta_tables.specs.Search.{IsAcyclic}
+use Rattle.qvt_types_groups.proofs.ByClass.{own_known}
+use Rattle.qvt_types_groups.proofs.class_choices.all_choices.Goals as goal
+
+pub order_of-requires-clause-acyclic : goal.order_of-requires-clause-acyclic
+order_of-requires-clause-acyclic c = subst IsAcyclic (sym c.class_infos.ensures) c.are_well_formed.ensures.regular.acyclic
+
+pub tell_all-requires-clause-known : goal.tell_all-requires-clause-known
+tell_all-requires-clause-known c =
+    own_known c.args.metas.now c.args.units.now c.are_well_formed.ensures.regular.antisymmetric c.ancestors_are_least.ensures c.args.group.now c.in_ok-known.known
+    (λ x low. c.in_ok-known.ensures.own x (subst (λ n. x < n) c.in_ok-known.ensures.each low))
