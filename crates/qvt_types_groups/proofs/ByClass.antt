@@ -1,23 +1,23 @@
 -- The choice for a class, by its own units and by its superclasses.
-use Rattle.std.proofs.Common.{◌≡◌, ◌∙◌, ◌≢◌, ℕ, ◌+◌, ◌<◌, ◌==◌, List, [], ◌∷◌, length, get_or, set, Bool, true, false, ◌&&◌, ◌||◌, not, Option, Some, None, ◌⊎◌, inl, inr, refl, sym, ap, subst, arith}
-use Rattle.std.specs.Prelude.{if◌then◌else◌, filter, is_some, IsTrue, ◌↔◌}
+use Rattle.std.proofs.Common.{◌≡◌, ◌∙◌, ◌≢◌, ℕ, ◌+◌, ◌<◌, ◌==◌, List, [], ◌∷◌, length, set, Bool, true, false, ◌&&◌, ◌||◌, Option, Some, None, inl, inr, refl, sym, ap, subst, arith}
+use Rattle.std.specs.Prelude.{if◌then◌else◌, filter, IsTrue, ◌↔◌}
 use Rattle.std.specs.List.{list_any, list_all}
 use Rattle.std.proofs.lemmas.Bool.{eq-eqb, eqb-true}
 use Rattle.std.proofs.lemmas.List.{length-set, get_or-set_same, get_or-set_other, get_or_past}
 use Rattle.qvt_base.specs.declared.numbers.ClassNo.{ClassNo}
 use Rattle.qvt_metamodel.specs.declared.info.ClassInfo.{ClassInfo}
 use Rattle.qvt_metamodel.specs.Metamodels.{Metamodels, class_at, nowhere_class, is_element}
-use Rattle.qvt_metamodel.specs.Descends.{is_superclass, IsAncestor, superclass, above, element, descends, Descends}
+use Rattle.qvt_metamodel.specs.Descends.{IsAncestor, superclass, above, element, descends, Descends}
 use Rattle.qvt_metamodel.proofs.Bools.{not_true, clash}
 use Rattle.qvt_metamodel.proofs.Halves.{Half, old, new, half}
 use Rattle.qvt_types_units.specs.declared.choice.Found.{Found}
-use Rattle.qvt_types_units.specs.declared.choice.Found.TheVariants.{NoUnit, Untyped, Unclear, Chosen}
+use Rattle.qvt_types_units.specs.declared.choice.Found.TheVariants.{NoUnit, Unclear, Chosen}
 use Rattle.qvt_types_units.specs.declared.signature.HeadClass.{HeadClass}
 use Rattle.qvt_types_units.specs.declared.signature.HeadClass.TheVariants.{Missing, Unknown, Known}
 use Rattle.qvt_types_units.specs.declared.signature.Signature.{Signature}
 use Rattle.qvt_types_units.specs.Choice.{is_above, is_below, context_at, candidates, is_lowest, lowest, single, is_empty, chosen_of}
 use Rattle.qvt_types_units.specs.Numbers.{is_context}
-use Rattle.qvt_types_groups.specs.ByClass.{choice_among, choice_for, own, one_more, all_more, known_at, told_more, is_top, tops, top_choice, inherited, AreKnown}
+use Rattle.qvt_types_groups.specs.ByClass.{choice_among, choice_for, own, one_more, all_more, known_at, told_more, is_top, top_choice, inherited, AreKnown}
 use Rattle.qvt_types_groups.proofs.Lowest.{Transitive, In, all_at, same_test}
 
 abbrev pub Antisymmetric : Metamodels → Type 0

@@ -1,9 +1,9 @@
 -- The choices that are told once for all classes.
-use Rattle.std.proofs.Common.{◌≡◌, ◌∙◌, ℕ, zero, ◌+◌, ◌<◌, ◌==◌, List, [], ◌∷◌, ◌++◌, length, map, get_or, Bool, true, false, ◌&&◌, ◌||◌, not, Option, Some, None, position, refl, sym, ap, subst, arith}
+use Rattle.std.proofs.Common.{◌≡◌, ◌∙◌, ℕ, ◌+◌, ◌<◌, List, [], ◌∷◌, ◌++◌, length, map, get_or, Bool, true, false, ◌&&◌, ◌||◌, not, Option, Some, None, position, refl, sym, ap, subst, arith}
 use Rattle.std.specs.Prelude.{if◌then◌else◌, filter, is_some, slice_get, IsTrue}
-use Rattle.std.specs.List.{list_any, list_all, range_with_len}
+use Rattle.std.specs.List.{list_any, range_with_len}
 use Rattle.std.specs.Str.{bytes_eq}
-use Rattle.std.proofs.lemmas.Bool.{eq-eqb, eqb-true}
+use Rattle.std.proofs.lemmas.Bool.{eq-eqb}
 use Rattle.std.proofs.lemmas.List.Elements.{filter-append}
 use Rattle.std.proofs.lemmas.List.FromFn.{get_or-map-range_with_len, length-map-range_with_len}
 use Rattle.std.proofs.lemmas.List.Quantifiers.{position-Some}
@@ -11,7 +11,7 @@ use Rattle.std.proofs.lemmas.Option.{slice_get_within, get_or_from_slice_get}
 use Rattle.qvt_meta_names.proofs.Orders.{range-more}
 use Rattle.qvt_metamodel.specs.Metamodels.{Metamodels, class_at, is_element}
 use Rattle.qvt_metamodel.specs.Descends.{descends, reaches}
-use Rattle.qvt_metamodel.proofs.Bools.{and_both, and_left, and_right, not_true, clash}
+use Rattle.qvt_metamodel.proofs.Bools.{and_left, and_right, not_true, clash}
 use Rattle.qvt_types_units.specs.declared.choice.Found.{Found}
 use Rattle.qvt_types_units.specs.declared.choice.Found.TheVariants.{NoUnit, Untyped, Unclear, Chosen}
 use Rattle.qvt_types_units.specs.declared.signature.HeadClass.{HeadClass}
@@ -19,8 +19,8 @@ use Rattle.qvt_types_units.specs.declared.signature.HeadClass.TheVariants.{Missi
 use Rattle.qvt_types_units.specs.declared.signature.UnitSort.{UnitSort}
 use Rattle.qvt_types_units.specs.declared.signature.UnitSort.TheVariants as sort
 use Rattle.qvt_types_units.specs.declared.signature.Signature.{Signature}
-use Rattle.qvt_types_units.specs.Choice.{is_above, is_below, context_at, candidates, is_lowest, lowest, single, chosen, is_concrete_below, lacks_choice, is_ambiguous, is_unknown, is_unsure, is_empty, chosen_of, looked_up}
-use Rattle.qvt_types_units.specs.Numbers.{unit_at, no_unit, is_mapping, is_helper, is_called, has_context, is_in_group, numbers_where, group}
+use Rattle.qvt_types_units.specs.Choice.{is_above, is_below, context_at, candidates, lowest, single, chosen, is_concrete_below, lacks_choice, is_ambiguous, is_unknown, is_unsure, is_empty, chosen_of, looked_up}
+use Rattle.qvt_types_units.specs.Numbers.{unit_at, no_unit, is_mapping, is_helper, is_called, has_context, is_in_group, group}
 use Rattle.qvt_types_groups.specs.Choices.{is_stuck, stuck_among, all_stuck, lacks_one, found_alone, are_several, row, group_of, is_first, unit_row, unit_rows, row_at}
 use Rattle.qvt_types_groups.specs.ByClass.{choice_among, choice_for, choices, choice_at, is_unclear, is_stuck_by, settled}
 use Rattle.qvt_types_groups.specs.Lists.{first_of}

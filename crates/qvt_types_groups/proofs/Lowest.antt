@@ -8,8 +8,8 @@ use Rattle.qvt_metamodel.proofs.Bools.{and_both, and_left, and_right, not_true, 
 use Rattle.qvt_types_units.specs.declared.signature.HeadClass.{HeadClass}
 use Rattle.qvt_types_units.specs.declared.signature.HeadClass.TheVariants.{Missing, Unknown, Known}
 use Rattle.qvt_types_units.specs.declared.signature.Signature.{Signature}
-use Rattle.qvt_types_units.specs.Choice.{is_above, is_below, is_lowest, lowest, single, context_at}
-use Rattle.qvt_types_groups.specs.Least.{stands_below, lower, least_of, those_below}
+use Rattle.qvt_types_units.specs.Choice.{is_below, is_lowest, lowest, single, context_at}
+use Rattle.qvt_types_groups.specs.Least.{stands_below, least_of, those_below}
 
 abbrev pub Transitive : Metamodels → Type 0
 Transitive m = (c d e : ℕ) → IsTrue (descends m c d) → IsTrue (descends m d e) → IsTrue (descends m c e)

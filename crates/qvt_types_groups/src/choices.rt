@@ -7,7 +7,7 @@ ghost use Rattle.qvt_types_units.specs.Choice as choice;
 ghost use Rattle.qvt_types_groups.specs.Choices as choices_of;
 ghost use Rattle.qvt_types_groups.specs.ByClass as by_class;
 
-use crate::class_choices::{ClassChoices, all_choices, choice_for};
+use crate::class_choices::{ClassChoices, all_choices, choice_for, class_order};
 use qvt_base::list_fault::ListFault;
 use qvt_base::numbers::ClassNo;
 use qvt_base::seq::Seq;
@@ -83,7 +83,14 @@ pub fn look_up(
         [number] => Ok(found_alone(metas, units, *number, class)),
         several => {
             metas.are_well_formed();
-            let ClassChoices { stuck, .. } = all_choices(alloc, metas, units, several)?;
+            let order = class_order(alloc, metas)?;
+            let ClassChoices { stuck, .. } = all_choices(
+                alloc,
+                metas,
+                units,
+                several,
+                order.classes.as_slice(),
+            )?;
             let choice = choice_for(alloc, metas, units, several, class)?;
             let is_unsure = is_unsure(units, several);
             Ok(found(metas, is_unsure, stuck.as_slice(), class, choice))
@@ -108,11 +115,12 @@ fn full_row(
     metas: &Metas,
     units: &[Signature],
     group: &[u32],
+    order: &[u32],
 ) -> Result<FoundRow, ListFault>
     ensures { IfOk result (λ fs. fs ≡ map (choice.looked_up metas.now units.now group.now) (range_with_len 0 (length metas.now.classes))) }
 {
     metas.are_well_formed();
-    let ClassChoices { each, stuck } = all_choices(alloc, metas, units, group)?;
+    let ClassChoices { each, stuck } = all_choices(alloc, metas, units, group, order)?;
     let is_unsure = is_unsure(units, group);
     let mut row = Seq::new(alloc);
     for class in 0..metas.class_count() {
@@ -124,8 +132,26 @@ fn full_row(
 
 ghost use Rattle.std.specs.Prelude.{length};
 
-/// The same, where there are several units.
+/// The same, where there are several units. It is the same along each order of the classes, and soon told where each comes after its
+/// superclasses.
 #[tactic(auto, unfolding(crate::specs::Choices::row))]
+pub fn row_along(
+    alloc: Global,
+    metas: &Metas,
+    units: &[Signature],
+    group: &[u32],
+    order: &[u32],
+) -> Result<FoundRow, ListFault>
+    ensures { IfOk result (λ fs. fs ≡ choices_of.row metas.now units.now group.now) }
+{
+    match group {
+        [] => Ok(Seq::new(alloc)),
+        [_] => Ok(Seq::new(alloc)),
+        several => full_row(alloc, metas, units, several, order),
+    }
+}
+
+/// The same of one name alone.
 pub fn row(
     alloc: Global,
     metas: &Metas,
@@ -134,9 +160,6 @@ pub fn row(
 ) -> Result<FoundRow, ListFault>
     ensures { IfOk result (λ fs. fs ≡ choices_of.row metas.now units.now group.now) }
 {
-    match group {
-        [] => Ok(Seq::new(alloc)),
-        [_] => Ok(Seq::new(alloc)),
-        several => full_row(alloc, metas, units, several),
-    }
+    let order = class_order(alloc, metas)?;
+    row_along(alloc, metas, units, group, order.classes.as_slice())
 }

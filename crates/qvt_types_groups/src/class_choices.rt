@@ -10,7 +10,7 @@ use crate::candidates::lowest;
 use qvt_base::list_fault::ListFault;
 use qvt_base::numbers::ClassNo;
 use qvt_base::seq::Seq;
-use qvt_meta_tables::order::order_of;
+use qvt_meta_tables::order::{Order, order_of};
 use qvt_meta_tables::tables::supers_at;
 use qvt_metas::metas::Metas;
 use qvt_types_units::choice::{Found, candidates, context_at};
@@ -187,12 +187,7 @@ fn top_choice(
 }
 
 /// The choice for a class without units of its own, where its superclasses tell it.
-fn inherited(
-    metas: &Metas,
-    known: &[Option<Found>],
-    top: Found,
-    class: u32,
-) -> Option<Found>
+fn inherited(metas: &Metas, known: &[Option<Found>], top: Found, class: u32) -> Option<Found>
     ensures { result ≡ by_class.inherited known.now top (class_at metas.now class).supers }
 {
     match supers_at(metas.class_infos(), class) {
@@ -301,22 +296,33 @@ fn choices_by(
     Ok(ClassChoices { each, stuck })
 }
 
-/// The choice for each class, from what its own units tell and then from the superclasses down.
+/// The classes, each after its superclasses.
+pub fn class_order(alloc: Global, metas: &Metas) -> Result<Order, ListFault>
+    ensures { IfOk result (λ order. IsOrder (of_classes metas.now.classes) order.classes order.ranks) }
+{
+    metas.are_well_formed();
+    let order = order_of(alloc, metas.class_infos(), metas.class_count())?;
+    Ok(order)
+}
+
+ghost use Rattle.qvt_meta_tables.specs.Tables.{IsOrder, of_classes};
+
+/// The choice for each class, from what its own units tell and then along an order. It is the same along each, and soon told where each
+/// class comes after its superclasses.
 pub fn all_choices(
     alloc: Global,
     metas: &Metas,
     units: &[Signature],
     group: &[u32],
+    order: &[u32],
 ) -> Result<ClassChoices, ListFault>
     ensures { IfOk result (AreChosen metas.now units.now group.now) }
 {
     metas.are_well_formed();
     metas.ancestors_are_least();
-    let count = metas.class_count();
-    let order = order_of(alloc, metas.class_infos(), count)?;
     let top = top_choice(alloc, metas, units, group)?;
-    let mut known = own_choices(alloc, units, group, count)?;
-    tell_all(alloc, metas, units, group, top, order.classes.as_slice(), &mut known)?;
+    let mut known = own_choices(alloc, units, group, metas.class_count())?;
+    tell_all(alloc, metas, units, group, top, order, &mut known)?;
     let choices = choices_by(alloc, metas, units, group, top, known.as_slice())?;
     Ok(choices)
 }

@@ -1,10 +1,6 @@
-use Rattle.std.proofs.Common.{◌<◌, sym, subst}
-use Rattle.qvt_meta_tables.specs.Search.{IsAcyclic}
+use Rattle.std.proofs.Common.{◌<◌, subst}
 use Rattle.qvt_types_groups.proofs.ByClass.{own_known}
 use Rattle.qvt_types_groups.proofs.class_choices.all_choices.Goals as goal
-
-pub order_of-requires-clause-acyclic : goal.order_of-requires-clause-acyclic
-order_of-requires-clause-acyclic c = subst IsAcyclic (sym c.class_infos.ensures) c.are_well_formed.ensures.regular.acyclic
 
 pub tell_all-requires-clause-known : goal.tell_all-requires-clause-known
 tell_all-requires-clause-known c =
