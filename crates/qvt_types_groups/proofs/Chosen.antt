@@ -1,9 +1,9 @@
 -- The choices that are told once for all classes.
-use Rattle.std.proofs.Common.{◌≡◌, ◌∙◌, ℕ, zero, ◌+◌, ◌<◌, ◌==◌, List, [], ◌∷◌, ◌++◌, length, map, get_or, Bool, true, false, ◌&&◌, ◌||◌, not, Option, Some, None, position, refl, sym, ap, subst, arith}
+use Rattle.std.proofs.Common.{◌≡◌, ◌∙◌, ℕ, ◌+◌, ◌<◌, List, [], ◌∷◌, ◌++◌, length, map, get_or, Bool, true, false, ◌&&◌, ◌||◌, not, Option, Some, None, position, refl, sym, ap, subst, arith}
 use Rattle.std.specs.Prelude.{if◌then◌else◌, filter, is_some, slice_get, IsTrue}
-use Rattle.std.specs.List.{list_any, list_all, range_with_len}
+use Rattle.std.specs.List.{list_any, range_with_len}
 use Rattle.std.specs.Str.{bytes_eq}
-use Rattle.std.proofs.lemmas.Bool.{eq-eqb, eqb-true}
+use Rattle.std.proofs.lemmas.Bool.{eq-eqb}
 use Rattle.std.proofs.lemmas.List.Elements.{filter-append}
 use Rattle.std.proofs.lemmas.List.FromFn.{get_or-map-range_with_len, length-map-range_with_len}
 use Rattle.std.proofs.lemmas.List.Quantifiers.{position-Some}
@@ -11,7 +11,7 @@ use Rattle.std.proofs.lemmas.Option.{slice_get_within, get_or_from_slice_get}
 use Rattle.qvt_meta_names.proofs.Orders.{range-more}
 use Rattle.qvt_metamodel.specs.Metamodels.{Metamodels, class_at, is_element}
 use Rattle.qvt_metamodel.specs.Descends.{descends, reaches}
-use Rattle.qvt_metamodel.proofs.Bools.{and_both, and_left, and_right, not_true, clash}
+use Rattle.qvt_metamodel.proofs.Bools.{and_left, and_right, not_true, clash}
 use Rattle.qvt_types_units.specs.declared.choice.Found.{Found}
 use Rattle.qvt_types_units.specs.declared.choice.Found.TheVariants.{NoUnit, Untyped, Unclear, Chosen}
 use Rattle.qvt_types_units.specs.declared.signature.HeadClass.{HeadClass}
@@ -19,15 +19,26 @@ use Rattle.qvt_types_units.specs.declared.signature.HeadClass.TheVariants.{Missi
 use Rattle.qvt_types_units.specs.declared.signature.UnitSort.{UnitSort}
 use Rattle.qvt_types_units.specs.declared.signature.UnitSort.TheVariants as sort
 use Rattle.qvt_types_units.specs.declared.signature.Signature.{Signature}
-use Rattle.qvt_types_units.specs.Choice.{is_above, is_below, context_at, candidates, is_lowest, lowest, single, chosen, is_concrete_below, lacks_choice, is_ambiguous, is_unknown, is_unsure, is_empty, chosen_of, looked_up}
-use Rattle.qvt_types_units.specs.Numbers.{unit_at, no_unit, is_mapping, is_helper, is_called, has_context, is_in_group, numbers_where, group}
+use Rattle.qvt_types_units.specs.Choice.{is_above, is_below, context_at, candidates, lowest, single, chosen, is_concrete_below, lacks_choice, is_ambiguous, is_unknown, is_unsure, is_empty, chosen_of, looked_up}
+use Rattle.qvt_types_units.specs.Numbers.{unit_at, no_unit, is_mapping, is_helper, is_called, has_context, is_in_group, group}
 use Rattle.qvt_types_groups.specs.Choices.{is_stuck, stuck_among, all_stuck, lacks_one, found_alone, are_several, row, group_of, is_first, unit_row, unit_rows, row_at}
+use Rattle.qvt_types_groups.specs.ByClass.{choice_among, choice_for, choices, choice_at, is_unclear, is_stuck_by, settled}
 use Rattle.qvt_types_groups.specs.Lists.{first_of}
 use Rattle.qvt_types_groups.proofs.Firsts.{first_where}
 use Rattle.qvt_types_groups.proofs.Lists.{same_bytes}
 
 abbrev pub Transitive : Metamodels → Type 0
 Transitive m = (c d e : ℕ) → IsTrue (descends m c d) → IsTrue (descends m d e) → IsTrue (descends m c e)
+
+-- whether a class is without a single choice is told by its choice
+pub stuck_by : (m : Metamodels) (us : List Signature) (ns : List ℕ) (c : ℕ) → is_stuck_by m c (choice_for m us ns c) ≡ is_stuck m us ns c
+unfolding choice_for is_stuck chosen
+stuck_by m us ns c = ap (λ b. not (class_at m c).is_abstract && b) (by (is_empty (candidates m us ns c)) (single (lowest m us (candidates m us ns c))))
+  where
+    by : (b : Bool) (o : Option ℕ) → is_unclear (if b then NoUnit else chosen_of false o) ≡ (not b && not (is_some o))
+    by true o = refl
+    by false None = refl
+    by false (Some n) = refl
 
 -- one class more is looked at
 pub stuck_next : (p : ℕ → Bool) (n : ℕ) (had has : List ℕ) → had ≡ filter p (range_with_len 0 n) → has ≡ had ++ (if p n then n ∷ [] else []) → has ≡ filter p (range_with_len 0 (n + 1))
@@ -37,6 +48,15 @@ stuck_next p n had has before is =
   where
     one : (b : Bool) → p n ≡ b → filter p (range_with_len 0 n) ++ (if b then n ∷ [] else []) ≡ filter p (range_with_len 0 n) ++ (if b then n ∷ [] else [])
     one b e = refl
+
+pub more_stuck : (m : Metamodels) (us : List Signature) (ns : List ℕ) (n : ℕ) (had has : List ℕ) (b : Bool) (f : Found) → had ≡ stuck_among m us ns n → f ≡ choice_for m us ns n → b ≡ is_stuck_by m n f
+    → has ≡ had ++ (if b then n ∷ [] else []) → has ≡ stuck_among m us ns (n + 1)
+more_stuck m us ns n had has b f before is told e =
+    stuck_next (is_stuck m us ns) n had has before (e ∙ ap (λ x. had ++ (if x then n ∷ [] else [])) (told ∙ ap (is_stuck_by m n) is ∙ stuck_by m us ns n))
+
+-- the choice for a class among those of all
+pub choice_there : (m : Metamodels) (us : List Signature) (ns : List ℕ) (all : List Found) (n c : ℕ) (f : Found) → all ≡ choices m us ns n → c < n → f ≡ choice_at all c → f ≡ choice_for m us ns c
+choice_there m us ns all n c f are low e = e ∙ ap (λ fs. choice_at fs c) are ∙ get_or-map-range_with_len (choice_for m us ns) 0 n c c NoUnit low (omega arith)
 
 abbrev kept_if : ℕ → Bool → List ℕ
 kept_if n b = if b then n ∷ [] else []
@@ -106,25 +126,36 @@ module _ (m : Metamodels) (us : List Signature) (t : Transitive m) where
       ∙ sym ((λ i. if sure i then Untyped else if is_empty (candidates m us ns c) then NoUnit else chosen_of (is_ambiguous m us ns c) (chosen m us ns c))
       ∙ (λ i. if some i then NoUnit else chosen_of (is_ambiguous m us ns c) (chosen m us ns c)))
 
-  some_there : (ns : List ℕ) → (length ns == 0) ≡ false → is_empty ns ≡ false
-  some_there [] h = absurd (cc)
-  some_there (n ∷ ns) h = refl
+  -- what is found for a class is settled by its choice
+  pub settled_is : (ns : List ℕ) (c : ℕ) → settled m (is_unsure us ns) (all_stuck m us ns) c (choice_for m us ns c) ≡ looked_up m us ns c
+  unfolding choice_for
+  settled_is ns c = by (is_unsure us ns) refl
+    where
+      several : List ℕ
+      several = candidates m us ns c
 
-  none_there : (ns : List ℕ) → (length ns == 0) ≡ true → is_empty ns ≡ true
-  none_there [] h = refl
-  none_there (n ∷ ns) h = absurd (let wrong : length (n ∷ ns) ≡ 0 = eqb-true (length (n ∷ ns)) 0 h in omega (arith, wrong))
+      clear : (o : Option ℕ) → settled m false (all_stuck m us ns) c (chosen_of false o) ≡ chosen_of (lacks_one m (all_stuck m us ns) c o) o
+      clear None = refl
+      clear (Some n) = one (list_any (λ d. descends m d c) (all_stuck m us ns))
+        where
+          one : (b : Bool) → (if b then Unclear else Chosen n) ≡ chosen_of (false || b) (Some n)
+          one true = refl
+          one false = refl
 
-  -- the same, where the units that are above the class are told
-  pub found_so : (ns among stuck : List ℕ) (c : ℕ) (x : Found) → is_unsure us ns ≡ false → among ≡ candidates m us ns c → (length among == 0) ≡ false → stuck ≡ all_stuck m us ns
-      → x ≡ chosen_of (lacks_one m stuck c (single (lowest m us among))) (single (lowest m us among)) → x ≡ looked_up m us ns c
-  found_so ns among stuck c x sure are some told is =
-      is ∙ (λ i. chosen_of (lacks_one m (told i) c (single (lowest m us (are i)))) (single (lowest m us (are i))))
-      ∙ found_is ns c sure (ap is_empty (sym are) ∙ some_there among some)
+      among : (b : Bool) → is_unsure us ns ≡ false → is_empty several ≡ b
+          → settled m false (all_stuck m us ns) c (if b then NoUnit else chosen_of false (single (lowest m us several))) ≡ (if b then NoUnit else chosen_of (is_ambiguous m us ns c) (chosen m us ns c))
+      among true sure e = refl
+      among false sure e = clear (single (lowest m us several)) ∙ found_is ns c sure e
+          ∙ (λ i. if sure i then Untyped else if e i then NoUnit else chosen_of (is_ambiguous m us ns c) (chosen m us ns c))
 
-  pub none_found : (ns among : List ℕ) (c : ℕ) → is_unsure us ns ≡ false → among ≡ candidates m us ns c → (length among == 0) ≡ true → NoUnit ≡ looked_up m us ns c
-  none_found ns among c sure are empty =
-      sym ((λ i. if sure i then Untyped else if is_empty (candidates m us ns c) then NoUnit else chosen_of (is_ambiguous m us ns c) (chosen m us ns c))
-      ∙ (λ i. if (ap is_empty (sym are) ∙ none_there among empty) i then NoUnit else chosen_of (is_ambiguous m us ns c) (chosen m us ns c)))
+      by : (b : Bool) → is_unsure us ns ≡ b
+          → settled m b (all_stuck m us ns) c (choice_among m us several) ≡ (if b then Untyped else if is_empty several then NoUnit else chosen_of (is_ambiguous m us ns c) (chosen m us ns c))
+      by true e = refl
+      by false e = among (is_empty several) e refl
+
+  -- the same, where the choice is told
+  pub settled_so : (ns stuck : List ℕ) (c : ℕ) (b : Bool) (f x : Found) → b ≡ is_unsure us ns → stuck ≡ all_stuck m us ns → f ≡ choice_for m us ns c → x ≡ settled m b stuck c f → x ≡ looked_up m us ns c
+  settled_so ns stuck c b f x sure told is e = e ∙ (λ i. settled m (sure i) (told i) c (is i)) ∙ settled_is ns c
 
   -- one unit alone
   itself : (d : ℕ) → descends m d d ≡ true

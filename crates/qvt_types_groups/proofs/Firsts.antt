@@ -1,5 +1,5 @@
 -- The first of the numbers of units that pass.
-use Rattle.std.proofs.Common.{◌≡◌, ◌∙◌, ℕ, ◌+◌, List, [], ◌∷◌, Bool, true, false, Option, Some, None, position, length, get_or, ◌<◌, ◌≤◌, refl, sym, arith}
+use Rattle.std.proofs.Common.{◌≡◌, ◌∙◌, ℕ, ◌+◌, List, [], ◌∷◌, Bool, true, false, Some, None, position, length, get_or, ◌<◌, ◌≤◌, refl, sym, arith}
 use Rattle.std.specs.Prelude.{if◌then◌else◌}
 use Rattle.qvt_meta_names.proofs.Tables.{first_at, first-position}
 use Rattle.qvt_metamodel.proofs.Bools.{not_true, clash}

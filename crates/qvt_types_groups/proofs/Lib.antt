@@ -2,4 +2,5 @@ pub mod Lists
 pub mod Firsts
 pub mod Keys
 pub mod Lowest
+pub mod ByClass
 pub mod Chosen

@@ -6,7 +6,7 @@ use Rattle.std.specs.Str.{bytes_eq}
 use Rattle.std.proofs.lemmas.List.{append-nil, drop_more, get_or-set_same, get_or-set_other, get_or_append_left, get_or-append-add}
 use Rattle.std.proofs.lemmas.List.Quantifiers.{position-Some}
 use Rattle.std.proofs.lemmas.Slice.Eq.{bytes_eq-Decides}
-use Rattle.qvt_metamodel.proofs.Bools.{not_true, clash}
+use Rattle.qvt_metamodel.proofs.Bools.{clash}
 use Rattle.qvt_types_paths.proofs.Places.{position-push}
 use Rattle.qvt_types_units.specs.declared.signature.Signature.{Signature}
 use Rattle.qvt_types_units.specs.Numbers.{numbers_where, is_called}

@@ -8,17 +8,17 @@ use Rattle.qvt_metamodel.proofs.Bools.{and_both, and_left, and_right, not_true, 
 use Rattle.qvt_types_units.specs.declared.signature.HeadClass.{HeadClass}
 use Rattle.qvt_types_units.specs.declared.signature.HeadClass.TheVariants.{Missing, Unknown, Known}
 use Rattle.qvt_types_units.specs.declared.signature.Signature.{Signature}
-use Rattle.qvt_types_units.specs.Choice.{is_above, is_below, is_lowest, lowest, single, context_at}
-use Rattle.qvt_types_groups.specs.Least.{stands_below, lower, least_of, those_below}
+use Rattle.qvt_types_units.specs.Choice.{is_below, is_lowest, lowest, single, context_at}
+use Rattle.qvt_types_groups.specs.Least.{stands_below, least_of, those_below}
 
 abbrev pub Transitive : Metamodels → Type 0
 Transitive m = (c d e : ℕ) → IsTrue (descends m c d) → IsTrue (descends m d e) → IsTrue (descends m c e)
 
-abbrev In : ℕ → List ℕ → Type 0
+abbrev pub In : ℕ → List ℕ → Type 0
 In x [] = ⊥
 In x (y ∷ ys) = (x ≡ y) ⊎ In x ys
 
-all_at : (p : ℕ → Bool) (x : ℕ) (xs : List ℕ) → In x xs → list_all p xs ≡ true → p x ≡ true
+pub all_at : (p : ℕ → Bool) (x : ℕ) (xs : List ℕ) → In x xs → list_all p xs ≡ true → p x ≡ true
 all_at p x [] i h = absurd i
 all_at p x (y ∷ ys) i h = elim i [
   | inl e ↦ ap p e ∙ and_left (p y) (list_all p ys) h
@@ -29,7 +29,7 @@ none_kept : (p : ℕ → Bool) (xs : List ℕ) → ((x : ℕ) → In x xs → p 
 none_kept p [] none = refl
 none_kept p (x ∷ xs) none = ap (λ b. if b then x ∷ filter p xs else filter p xs) (none x (inl refl)) ∙ none_kept p xs (λ y i. none y (inr i))
 
-same_test : (a b : Bool) → (a ≡ true → b ≡ true) → (b ≡ true → a ≡ true) → a ≡ b
+pub same_test : (a b : Bool) → (a ≡ true → b ≡ true) → (b ≡ true → a ≡ true) → a ≡ b
 same_test true b f g = sym (f refl)
 same_test false true f g = g refl
 same_test false false f g = refl

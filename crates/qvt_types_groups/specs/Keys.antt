@@ -1,6 +1,6 @@
 -- Units that a class and a number tell: mappings, or helpers and queries, by their context and the number of their name, constructors
 -- by their class and the number of their parameters.
-use Rattle.std.specs.Prelude.{◌≡◌, ℕ, ◌==◌, ◌&&◌, Bool, true, false, List, [], ◌∷◌, length, position, Option, Some, None, if◌then◌else◌}
+use Rattle.std.specs.Prelude.{◌≡◌, ℕ, ◌==◌, ◌&&◌, Bool, false, List, length, position, Option, Some, None, if◌then◌else◌}
 use Rattle.std.specs.Map.{lookup}
 use Rattle.std.specs.Str.{bytes_eq}
 use Rattle.qvt_types_units.specs.declared.signature.HeadClass.{HeadClass}

@@ -3,3 +3,4 @@ pub mod Keys
 pub mod Indexed
 pub mod Least
 pub mod Choices
+pub mod ByClass

@@ -3,6 +3,7 @@
 
 pub mod candidates;
 pub mod choices;
+pub mod class_choices;
 pub mod class_keys;
 pub mod class_table;
 pub mod number_lists;

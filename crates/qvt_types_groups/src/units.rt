@@ -5,7 +5,8 @@ ghost use Rattle.std.specs.Option.{option_copied};
 ghost use Rattle.qvt_types_units.specs.Choice as choice;
 ghost use Rattle.qvt_types_groups.specs.Choices as choices_of;
 
-use crate::choices::{FoundRow, look_up, row};
+use crate::choices::{FoundRow, look_up, row_along};
+use crate::class_choices::class_order;
 use crate::unit_names::UnitNames;
 use qvt_base::list_fault::ListFault;
 use qvt_base::numbers::ClassNo;
@@ -23,6 +24,7 @@ fn unit_row(
     alloc: Global,
     metas: &Metas,
     names: &UnitNames,
+    order: &[u32],
     number: u32,
     unit: &Signature,
 ) -> Result<FoundRow, ListFault>
@@ -32,7 +34,7 @@ fn unit_row(
     match names.group(is_mapping(unit.sort), unit.name.as_str()) {
         [] => Ok(Seq::new(alloc)),
         [first, ..] if *first != number => Ok(Seq::new(alloc)),
-        group => row(alloc, metas, names.signatures(), group),
+        group => row_along(alloc, metas, names.signatures(), group, order),
     }
 }
 
@@ -42,10 +44,13 @@ ghost use Rattle.qvt_types_units.specs.Numbers.{unit_at};
 fn unit_rows(alloc: Global, metas: &Metas, names: &UnitNames) -> Result<Seq<FoundRow>, ListFault>
     ensures { IfOk result (λ rs. rs ≡ choices_of.unit_rows metas.now names.now (length names.now)) }
 {
+    let order = class_order(alloc, metas)?;
+    let order = order.classes.as_slice();
     let units = names.signatures();
     let mut rows = Seq::new(alloc);
     for number in 0..names.count() {
-        rows.push(unit_row(alloc, metas, names, number, &units[number as usize])?)?;
+        let unit = &units[number as usize];
+        rows.push(unit_row(alloc, metas, names, order, number, unit)?)?;
     }
     Ok(rows)
 }

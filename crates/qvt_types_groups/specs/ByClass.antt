@@ -1,0 +1,98 @@
+-- The choice for each class by itself, whatever is below it: that of its own units, or else what its one superclass has.
+use Rattle.std.specs.Prelude.{◌≡◌, ◌<◌, ℕ, ◌&&◌, not, Bool, true, false, List, [], ◌∷◌, length, map, filter, Option, Some, None, if◌then◌else◌, slice_index_or, slice_set}
+use Rattle.std.specs.List.{list_any, range_with_len}
+use Rattle.qvt_base.specs.declared.numbers.ClassNo.{ClassNo}
+use Rattle.qvt_metamodel.specs.Metamodels.{Metamodels, class_at, is_element}
+use Rattle.qvt_metamodel.specs.Descends.{descends}
+use Rattle.qvt_types_units.specs.declared.choice.Found.{Found}
+use Rattle.qvt_types_units.specs.declared.choice.Found.TheVariants.{NoUnit, Untyped, Unclear, Chosen}
+use Rattle.qvt_types_units.specs.declared.signature.HeadClass.{HeadClass}
+use Rattle.qvt_types_units.specs.declared.signature.HeadClass.TheVariants.{Missing, Unknown, Known}
+use Rattle.qvt_types_units.specs.declared.signature.Signature.{Signature}
+use Rattle.qvt_types_units.specs.Choice.{candidates, chosen_of, context_at, is_empty, lowest, single}
+use Rattle.qvt_types_units.specs.Numbers.{is_context}
+use Rattle.qvt_types_groups.specs.Choices.{all_stuck}
+use Rattle.qvt_types_groups.specs.declared.class_choices.ClassChoices.{ClassChoices}
+
+-- the choice where these are the units that an object may be handed to
+abbrev pub choice_among : Metamodels → List Signature → List ℕ → Found
+choice_among m us ns = if is_empty ns then NoUnit else chosen_of false (single (lowest m us ns))
+
+unfoldable pub choice_for : Metamodels → List Signature → List ℕ → ℕ → Found
+choice_for m us ns c = choice_among m us (candidates m us ns c)
+
+-- for each of the first n classes
+abbrev pub choices : Metamodels → List Signature → List ℕ → ℕ → List Found
+choices m us ns n = map (choice_for m us ns) (range_with_len 0 n)
+
+abbrev pub choice_at : List Found → ℕ → Found
+choice_at choices c = slice_index_or choices c NoUnit
+
+abbrev pub is_unclear : Found → Bool
+is_unclear Unclear = true
+is_unclear NoUnit = false
+is_unclear Untyped = false
+is_unclear (Chosen n) = false
+
+-- a concrete class without a single choice
+abbrev pub is_stuck_by : Metamodels → ℕ → Found → Bool
+is_stuck_by m c f = not (class_at m c).is_abstract && is_unclear f
+
+-- what is found for a class with this choice, where these are the classes without a single one
+abbrev pub settled : Metamodels → Bool → List ℕ → ℕ → Found → Found
+settled m true stuck c f = Untyped
+settled m false stuck c (Chosen n) = if list_any (λ d. descends m d c) stuck then Unclear else Chosen n
+settled m false stuck c NoUnit = NoUnit
+settled m false stuck c Untyped = Untyped
+settled m false stuck c Unclear = Unclear
+
+-- the units of exactly this class
+abbrev pub own : List Signature → List ℕ → ℕ → List ℕ
+own us ns c = filter (λ n. is_context (context_at us n) c) ns
+
+-- a class has one unit more: of several none is chosen
+abbrev pub one_more : Option Found → ℕ → Option Found
+one_more None n = Some (Chosen n)
+one_more (Some f) n = Some Unclear
+
+abbrev pub all_more : Option Found → List ℕ → Option Found
+all_more o [] = o
+all_more o (n ∷ ns) = all_more (one_more o n) ns
+
+-- what is known of a class, in a list by the numbers of classes
+abbrev pub known_at : List (Option Found) → ℕ → Option Found
+known_at known c = slice_index_or known c None
+
+-- the class of a unit has one more
+abbrev pub told_more : List (Option Found) → HeadClass → ℕ → List (Option Found)
+told_more known (Known c) n = slice_set known c.0 (one_more (known_at known c.0) n)
+told_more known Missing n = known
+told_more known Unknown n = known
+
+-- the unit's class is the one above all
+abbrev pub is_top : Metamodels → HeadClass → Bool
+is_top m (Known c) = is_element m c.0
+is_top m Missing = false
+is_top m Unknown = false
+
+abbrev pub tops : Metamodels → List Signature → List ℕ → List ℕ
+tops m us ns = filter (λ n. is_top m (context_at us n)) ns
+
+-- the choice for a class without superclasses and without units of its own
+abbrev pub top_choice : Metamodels → List Signature → List ℕ → Found
+top_choice m us ns = choice_among m us (tops m us ns)
+
+-- the choice for a class without units of its own, by its superclasses
+abbrev pub inherited : List (Option Found) → Found → List ClassNo → Option Found
+inherited known top [] = Some top
+inherited known top (c ∷ []) = known_at known c.0
+inherited known top (c ∷ d ∷ more) = None
+
+-- what is known of a class is its choice; one of which nothing is known has no units of its own
+pub record AreKnown (m : Metamodels) (us : List Signature) (ns : List ℕ) (known : List (Option Found)) : Type 0 where
+  pub told : (c : ℕ) (f : Found) → known_at known c ≡ Some f → f ≡ choice_for m us ns c
+  pub untold : (c : ℕ) → c < length known → known_at known c ≡ None → own us ns c ≡ []
+
+pub record AreChosen (m : Metamodels) (us : List Signature) (ns : List ℕ) (t : ClassChoices) : Type 0 where
+  pub each : t.each ≡ choices m us ns (length m.classes)
+  pub stuck : t.stuck ≡ all_stuck m us ns
