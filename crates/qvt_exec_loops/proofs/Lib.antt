@@ -1,0 +1,2 @@
+pub mod TurnLaw
+pub mod TurnLoop

@@ -1,0 +1,71 @@
+//! `collect`, `collectNested` and `isUnique` (OCL 2.4, 7.6.2 and 11.9).
+
+ghost use Rattle.std.specs.Prelude.{◌≡◌, List, []};
+ghost use Rattle.qvt_run_data.specs.declared.late.LateWrite.{LateWrite};
+ghost use Rattle.qvt_run_rules.specs.State.{Does};
+ghost use Rattle.qvt_exec_loops.specs.Turns.{after_of, rest_of, Finds, Takes};
+ghost use Rattle.qvt_exec_loops.specs.declared.turns.Turns.TheVariants as turn;
+
+use qvt_base::numbers::Place;
+use qvt_base::seq::Seq;
+use qvt_exec_words::iterators::all_differ;
+use qvt_exec_words::made::{built, built_flat};
+use qvt_exec_words::sources::collected_kind;
+use qvt_run_data::exit::Halt;
+use qvt_value::value::{Kind, Value, Values};
+use std::alloc::Global;
+
+/// What becomes of the values of the bodies.
+#[derive(Clone, Copy, Debug, PartialEq, Eq)]
+pub enum Finish {
+    /// A collection of them.
+    Nested,
+    /// The same of their innermost items.
+    Flat,
+    /// Whether no two of them are the same.
+    Unique,
+}
+
+/// The values of the bodies so far, for items of a collection of the kind.
+#[derive(Drop)]
+pub struct Gathered {
+    pub finish: Finish,
+    pub kind: Kind,
+    pub done: Values,
+}
+
+impl Gathered {
+    /// None so far. It takes no memory.
+    pub fn new(alloc: Global, finish: Finish, kind: Kind) -> Gathered
+        ensures { result ≡ record { finish = finish; kind = kind; done = [] } }
+    {
+        Gathered {
+            finish,
+            kind,
+            done: Seq::new(alloc),
+        }
+    }
+
+    /// A body that is invalid ends it.
+    pub fn take(&mut self, given: Value) -> Result<Option<Value>, Halt>
+        ensures { (at : Place) (f : Value → Does LateWrite Value) (x : Value) (xs : List Value) → Takes (after_of at f (turn.Gathered self.old) x xs given) result (rest_of at f (turn.Gathered self.new) xs) }
+    {
+        if let Value::Invalid(reason, cause) = &given {
+            return Ok(Some(Value::Invalid(*reason, *cause)));
+        }
+        self.done.push(given)?;
+        Ok(None)
+    }
+
+    /// What becomes of them.
+    pub fn finish(self, alloc: Global, place: Place) -> Result<Value, Halt>
+        ensures { (f : Value → Does LateWrite Value) → Finds (rest_of place f (turn.Gathered self) []) result }
+    {
+        let Gathered { finish, kind, done } = self;
+        match finish {
+            Finish::Nested => Ok(built(alloc, place, collected_kind(kind), done)?),
+            Finish::Flat => Ok(built_flat(alloc, place, collected_kind(kind), done.as_slice())?),
+            Finish::Unique => Ok(Value::Bool(all_differ(alloc, done.as_slice())?)),
+        }
+    }
+}
