@@ -1,13 +1,14 @@
 -- What an iterator does with an item and those behind it is its body for the item, and then its turn.
-use Rattle.std.proofs.Common.{◌≡◌, Bool, true, false, refl, List, ◌∷◌}
+use Rattle.std.proofs.Common.{◌≡◌, Bool, true, false, refl, sym, subst, List, ◌∷◌, Option, Result}
 use Rattle.qvt_base.specs.declared.numbers.Place.{Place}
 use Rattle.qvt_value.specs.declared.value.Value.{Value}
 use Rattle.qvt_value.specs.declared.value.Kind.{Kind}
+use Rattle.qvt_run_data.specs.declared.exit.Halt.{Halt}
 use Rattle.qvt_run_data.specs.declared.late.LateWrite.{LateWrite}
 use Rattle.qvt_run_rules.specs.State.{Does, ◌>>=◌}
 use Rattle.qvt_run_rules.specs.Iterators as each
 use Rattle.qvt_exec_loops.specs.Laws.{AreTurns}
-use Rattle.qvt_exec_loops.specs.Turns.{after_kept, after_of, rest_of}
+use Rattle.qvt_exec_loops.specs.Turns.{after_kept, after_of, rest_of, Takes}
 use Rattle.qvt_exec_loops.specs.declared.turns.Turns.{Turns}
 use Rattle.qvt_exec_loops.specs.declared.turns.Turns.TheVariants as turn
 
@@ -23,6 +24,11 @@ turned at f (turn.One n) x xs = refl
 turned at f (turn.Exists v) x xs = refl
 turned at f (turn.ForAll v) x xs = refl
 turned at f (turn.Sorted t) x xs = refl
+
+-- a turn of a machine that is known
+pub taken_as : (at : Place) (f : Value → Does LateWrite Value) (t u : Turns) (x : Value) (xs : List Value) (w : Value) (r : Result (Option Value) Halt) (q : Does LateWrite Value) → t ≡ u →
+    Takes (after_of at f u x xs w) r q → Takes (after_of at f t x xs w) r q
+taken_as at f t u x xs w r q e h = subst (λ (m : Turns). Takes (after_of at f m x xs w) r q) (sym e) h
 
 pub all_turns : AreTurns
 unfolding each.select each.reject each.collect each.collect_nested each.exists_ each.for_all each.any each.one each.is_unique each.sorted_by

@@ -1,6 +1,6 @@
 -- The iterators as machines (OCL 2.4, 7.6 and 11.9): what one keeps between its turns, what it does with the items that are left, and what
 -- it does as soon as its body has a value for an item.
-use Rattle.std.specs.Prelude.{◌≡◌, ℕ, ◌+◌, Bool, true, false, not, if◌then◌else◌, List, [], ◌∷◌, ◌++◌, Option, Some, None, Result, Ok, Err}
+use Rattle.std.specs.Prelude.{◌≡◌, ◌+◌, Bool, true, false, not, if◌then◌else◌, List, [], ◌∷◌, ◌++◌, Option, Some, None, Result, Ok, Err}
 use Rattle.qvt_base.specs.declared.numbers.Place.{Place}
 use Rattle.qvt_value.specs.declared.value.Value.{Value, Bool as Truth, Invalid, Null}
 use Rattle.qvt_value.specs.declared.value.Kind.{Kind}
