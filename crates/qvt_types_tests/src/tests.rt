@@ -1,3 +1,4 @@
+mod plain;
 mod programs;
 mod read;
 mod refused;

@@ -1,0 +1,6 @@
+//! The value of a plain expression and its cost, over a store and variables that are handed in.
+#![tactic(auto)]
+
+pub mod plain;
+pub mod told;
+pub mod vars;
