@@ -1,5 +1,5 @@
 -- What is told of an evaluation (OCL 2.4, 7; the cost is the engine's own).
-use Rattle.std.specs.Prelude.{◌≡◌, min, Result, Ok, Err}
+use Rattle.std.specs.Prelude.{◌≡◌, ◌^◌, ◌-◌, min, Result, Ok, Err}
 use Rattle.qvt_value.specs.declared.value.Value.{Value}
 use Rattle.qvt_run_data.specs.declared.exit.End.{End}
 use Rattle.qvt_run_data.specs.declared.exit.Halt.{Halt}
@@ -10,7 +10,7 @@ use Rattle.qvt_exec_plain.specs.declared.told.Told.{Told}
 -- it tells what the expression gives, and what that cost, a cost beyond 64 bits as the greatest number of 64 bits
 pub record Tells (e : Evaluated) (t : Told) : Type 0 where
   pub outcome : t.outcome ≡ e.outcome
-  pub cost : t.cost ≡ min e.cost u64.MAX
+  pub cost : t.cost ≡ min e.cost (2 ^ 64 - 1)
 
 -- what ends an evaluation tells its outcome, unless there was no memory
 abbrev pub EndsAs : Result Value Halt → Result Value End → Type 0

@@ -36,7 +36,7 @@ pub fn evaluate(
 {
     let mut state = RunState::new(x.alloc, store, locals);
     let given = expr(x, node, &mut state);
-    let outcome = outcome_of(given)?;
+    let outcome = outcome_of(x.alloc, given)?;
     Ok(Told {
         outcome,
         cost: state.cost.told(),
