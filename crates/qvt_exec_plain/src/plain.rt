@@ -25,7 +25,7 @@ use qvt_value::value::Var;
 use std::alloc::Global;
 
 /// What an expression of the program gives over a store, with these variables in scope, and its cost.
-#[tactic(auto, unfolding(qvt_meaning::specs::Plain::plain, qvt_exec_exprs::specs::Means::expr_of))]
+#[tactic(auto, using(crate::proofs::Telling::told_of), unfolding(qvt_meaning::specs::Plain::plain, qvt_exec_exprs::specs::Means::expr_of))]
 pub fn evaluate(
     x: &Engine<'_>,
     node: &TypedExpr,
