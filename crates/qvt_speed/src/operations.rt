@@ -161,8 +161,8 @@ fn one_onto_made<R: CpuClock>(
     args: &[Value],
     told: &mut Bytes,
 ) -> Option<Value>
-    requires { IsAsMade source }
-    requires { All IsAsMade args.now }
+    requires source { IsAsMade source }
+    requires args { All IsAsMade args.now }
     ensures { IfSome result (λ answer. IsAsMade answer) }
 {
     let begin = now(rt)?;
