@@ -1,12 +1,12 @@
--- Units that no override tells apart.
+-- Units that take and answer the same: an override fits both or none.
 use Rattle.std.proofs.Common.{◌≡◌, ◌∙◌, ℕ, suc, ◌+◌, List, [], ◌∷◌, length, Bool, true, false, ◌&&◌, ◌||◌, Option, Some, None, refl, sym, ap, arith}
-use Rattle.std.specs.Prelude.{◌==◌}
+use Rattle.std.specs.Prelude.{◌==◌, nat_lt}
 use Rattle.std.specs.List.{list_any}
 use Rattle.std.specs.Str.{bytes_eq}
 use Rattle.std.proofs.lemmas.Bool.{eqb-true}
 use Rattle.qvt_base.specs.declared.numbers.MappingNo.{MappingNo}
 use Rattle.qvt_metamodel.specs.Metamodels.{Metamodels}
-use Rattle.qvt_metamodel.proofs.Bools.{and_left, and_right}
+use Rattle.qvt_metamodel.proofs.Bools.{and_both, and_left, and_right}
 use Rattle.qvt_types_data.specs.Term.{same_type, ty_view}
 use Rattle.qvt_types_data.specs.declared.ty.Ty.{Ty}
 use Rattle.qvt_types_units.specs.declared.signature.HeadClass.{HeadClass}
@@ -16,20 +16,11 @@ use Rattle.qvt_types_units.specs.declared.signature.UnitSort.TheVariants as sort
 use Rattle.qvt_types_units.specs.declared.signature.Signature.{Signature}
 use Rattle.qvt_types_units.specs.Numbers.{is_mapping, is_helper, is_called, has_context, is_in_group, unit_at}
 use Rattle.qvt_types_units.specs.Overrides.{are_unlike, are_alike, is_strictly_below, params_differ, is_wider, overrides, is_misfit, is_bad_override}
-use Rattle.qvt_types_groups.specs.Lists.{NamedLists, numbers_under}
-use Rattle.qvt_types_lists.specs.Rows.{same_head, same_sort, same_answer, all_same, same_types, same_row, Respects, clashes, clashes_at}
-use Rattle.qvt_types_lists.specs.Distinct.{Stands}
-
-head_is : (h i : HeadClass) → same_head h i ≡ true → h ≡ i
-head_is Missing Missing e = refl
-head_is Missing Unknown e = absurd (cc)
-head_is Missing (Known d) e = absurd (cc)
-head_is Unknown Missing e = absurd (cc)
-head_is Unknown Unknown e = refl
-head_is Unknown (Known d) e = absurd (cc)
-head_is (Known c) Missing e = absurd (cc)
-head_is (Known c) Unknown e = absurd (cc)
-head_is (Known c) (Known d) e = λ j. Known (record { 0 = eqb-true c.0 d.0 e j })
+use Rattle.qvt_types_groups.specs.Lists.{numbers_under}
+use Rattle.qvt_types_lists.specs.declared.odd.Named.{Named}
+use Rattle.qvt_types_lists.specs.Shapes.{same_sort, same_answer, all_same, same_types, same_shape}
+use Rattle.qvt_types_lists.specs.Odd.{is_like_first, is_odd, AreNamed, clashes, clashes_at, misfits_first, clashes_among}
+use Rattle.qvt_types_lists.proofs.Odd.{any_where, parted}
 
 -- types that are told to be the same are
 abbrev pub Law : Type 0
@@ -83,18 +74,15 @@ unlike_is w (sort.Mapping n) sort.Helper e = absurd (cc)
 unlike_is w (sort.Mapping n) sort.Query e = absurd (cc)
 unlike_is w (sort.Mapping n) sort.Constructor e = absurd (cc)
 
-pub row_is : Law → (m : Metamodels) (w : Signature) → Respects (clashes m w)
-unfolding same_row is_misfit
-row_is law m w u v e =
-    let head : same_head u.context v.context ≡ true = and_left (same_head u.context v.context) _ e in
-    let after_head : (same_sort u.sort v.sort && (same_types u.params v.params && same_answer u.answer v.answer)) ≡ true = and_right (same_head u.context v.context) _ e in
-    let sorts : same_sort u.sort v.sort ≡ true = and_left (same_sort u.sort v.sort) _ after_head in
-    let after_sorts : (same_types u.params v.params && same_answer u.answer v.answer) ≡ true = and_right (same_sort u.sort v.sort) _ after_head in
+pub shape_is : Law → (m : Metamodels) (w u v : Signature) → same_shape u v ≡ true → is_misfit m w u ≡ is_misfit m w v
+unfolding same_shape is_misfit
+shape_is law m w u v e =
+    let sorts : same_sort u.sort v.sort ≡ true = and_left (same_sort u.sort v.sort) _ e in
+    let after_sorts : (same_types u.params v.params && same_answer u.answer v.answer) ≡ true = and_right (same_sort u.sort v.sort) _ e in
     let params : u.params ≡ v.params = types_are law u.params v.params (and_left (same_types u.params v.params) (same_answer u.answer v.answer) after_sorts) in
     let answer : u.answer ≡ v.answer = answer_is law u.answer v.answer (and_right (same_types u.params v.params) (same_answer u.answer v.answer) after_sorts) in
-    let context : u.context ≡ v.context = head_is u.context v.context head in
     let unlike : are_unlike w.sort u.sort ≡ are_unlike w.sort v.sort = unlike_is w.sort u.sort v.sort sorts in
-    λ i. is_strictly_below m w.context (context i) && (params_differ w.params (params i) || (is_wider m w.answer (answer i) || unlike i))
+    λ i. params_differ w.params (params i) || (is_wider m w.answer (answer i) || unlike i)
 
 below_context : (m : Metamodels) (h i : HeadClass) → is_strictly_below m h i ≡ true → has_context i ≡ true
 below_context m Missing i e = absurd (cc)
@@ -120,11 +108,23 @@ each_is m maps u v alike =
     mixed (is_called maps v.sort) (bytes_eq u.name v.name) (has_context v.context) (is_strictly_below m u.context v.context) (is_misfit m u v) (below_context m u.context v.context)
     ∙ ap (λ a. (a && (bytes_eq u.name v.name && is_strictly_below m u.context v.context)) && is_misfit m u v) alike
 
+-- a unit that does not fit one that is like the first of these does not fit the first
+like_is : Law → (m : Metamodels) (us : List Signature) (u v : Signature) (ns : List ℕ) → is_like_first us ns v ≡ true → clashes m u v ≡ true → misfits_first m us ns u ≡ true
+like_is law m us u v [] like e = absurd (cc)
+like_is law m us u v (n ∷ ns) like e =
+    and_both (nat_lt n (length us)) (is_misfit m u (unit_at us n)) (and_left (nat_lt n (length us)) (same_shape (unit_at us n) v) like)
+    (shape_is law m u (unit_at us n) v (and_right (nat_lt n (length us)) (same_shape (unit_at us n) v) like)
+    ∙ and_right (is_strictly_below m u.context v.context) (is_misfit m u v) e)
+
 -- a unit that overrides others of its kind
-pub bad_is : Law → (m : Metamodels) (us : List Signature) (maps : Bool) (t : NamedLists) (u : Signature) → Stands maps us t
-    → ((v : Signature) → is_called maps v.sort ≡ are_alike u.sort v.sort) → list_any (clashes_at m us u) (numbers_under t u.name) ≡ is_bad_override m us u
-bad_is law m us maps t u stands alike =
-    stands u.name (clashes m u) (row_is law m u)
+pub bad_is : Law → (m : Metamodels) (us : List Signature) (maps : Bool) (t : Named) (u : Signature) → AreNamed maps us t
+    → ((v : Signature) → is_called maps v.sort ≡ are_alike u.sort v.sort) → clashes_among m us t u ≡ is_bad_override m us u
+bad_is law m us maps t u are alike =
+    (λ i. list_any (clashes_at m us u) (are.odd u.name i) || (misfits_first m us (numbers_under t.all u.name) u && list_any (clashes_at m us u) (are.all u.name i)))
+    ∙ (λ i. any_where (is_odd maps us (numbers_under t.all u.name) u.name) (clashes m u) us i
+      || (misfits_first m us (numbers_under t.all u.name) u && any_where (is_in_group maps u.name) (clashes m u) us i))
+    ∙ parted (is_in_group maps u.name) (is_like_first us (numbers_under t.all u.name)) (clashes m u) us (misfits_first m us (numbers_under t.all u.name) u)
+    (λ v. like_is law m us u v (numbers_under t.all u.name))
     ∙ (λ i. list_any (λ v. each_is m maps u v (alike v) i) us)
 
 none : (p : Signature → Bool) (us : List Signature) → ((v : Signature) → p v ≡ false) → false ≡ list_any p us

@@ -1,24 +1,13 @@
-//! Units of a name that no override tells apart.
+//! Units that take and answer the same.
 
 ghost use Rattle.std.specs.Prelude.{◌≡◌, ◌&&◌};
-ghost use Rattle.qvt_types_lists.specs.Rows as rows;
+ghost use Rattle.qvt_types_lists.specs.Shapes as shapes;
 
 use qvt_types_data::ty::{Ty, same};
-use qvt_types_units::signature::{HeadClass, Signature, UnitSort};
-
-fn same_head(one: HeadClass, other: HeadClass) -> bool
-    ensures { result ≡ rows.same_head one other }
-{
-    match (one, other) {
-        (HeadClass::Missing, HeadClass::Missing) => true,
-        (HeadClass::Unknown, HeadClass::Unknown) => true,
-        (HeadClass::Known(class), HeadClass::Known(other)) => class.0 == other.0,
-        _ => false,
-    }
-}
+use qvt_types_units::signature::{Signature, UnitSort};
 
 fn same_sort(one: UnitSort, other: UnitSort) -> bool
-    ensures { result ≡ rows.same_sort one other }
+    ensures { result ≡ shapes.same_sort one other }
 {
     match (one, other) {
         (UnitSort::Helper, UnitSort::Helper) => true,
@@ -29,7 +18,7 @@ fn same_sort(one: UnitSort, other: UnitSort) -> bool
 }
 
 fn same_answer(one: &Option<Ty>, other: &Option<Ty>) -> bool
-    ensures { result ≡ rows.same_answer one.now other.now }
+    ensures { result ≡ shapes.same_answer one.now other.now }
 {
     match one {
         None => match other {
@@ -44,7 +33,7 @@ fn same_answer(one: &Option<Ty>, other: &Option<Ty>) -> bool
 }
 
 fn same_types(some: &[Option<Ty>], others: &[Option<Ty>]) -> bool
-    ensures { result ≡ rows.same_types some.now others.now }
+    ensures { result ≡ shapes.same_types some.now others.now }
 {
     if some.len() != others.len() {
         return false;
@@ -57,13 +46,12 @@ fn same_types(some: &[Option<Ty>], others: &[Option<Ty>]) -> bool
     true
 }
 
-/// Whether the contexts, parameters and answers are the same.
-#[tactic(auto, unfolding(crate::specs::Rows::same_row))]
-pub fn same_row(one: &Signature, other: &Signature) -> bool
-    ensures { result ≡ rows.same_row one.now other.now }
+/// Whether the parameters and answers are the same, and both are helpers, queries or mappings.
+#[tactic(auto, unfolding(crate::specs::Shapes::same_shape))]
+pub fn same_shape(one: &Signature, other: &Signature) -> bool
+    ensures { result ≡ shapes.same_shape one.now other.now }
 {
-    same_head(one.context, other.context)
-        && same_sort(one.sort, other.sort)
+    same_sort(one.sort, other.sort)
         && same_types(one.params.as_slice(), other.params.as_slice())
         && same_answer(&one.answer, &other.answer)
 }
