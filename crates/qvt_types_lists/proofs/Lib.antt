@@ -1,5 +1,5 @@
 pub mod Before
 pub mod SameUnits
 pub mod SameShapes
-pub mod Odd
+pub mod Parted
 pub mod Told

@@ -1,5 +1,5 @@
 -- Units that take and answer the same: an override fits both or none.
-use Rattle.std.proofs.Common.{◌≡◌, ◌∙◌, ℕ, suc, ◌+◌, List, [], ◌∷◌, length, Bool, true, false, ◌&&◌, ◌||◌, Option, Some, None, refl, sym, ap, arith}
+use Rattle.std.proofs.Common.{◌≡◌, ◌∙◌, ℕ, List, [], ◌∷◌, length, Bool, true, false, ◌&&◌, ◌||◌, Option, Some, None, refl, sym, ap, arith}
 use Rattle.std.specs.Prelude.{◌==◌, nat_lt}
 use Rattle.std.specs.List.{list_any}
 use Rattle.std.specs.Str.{bytes_eq}
@@ -14,13 +14,13 @@ use Rattle.qvt_types_units.specs.declared.signature.HeadClass.TheVariants.{Missi
 use Rattle.qvt_types_units.specs.declared.signature.UnitSort.{UnitSort}
 use Rattle.qvt_types_units.specs.declared.signature.UnitSort.TheVariants as sort
 use Rattle.qvt_types_units.specs.declared.signature.Signature.{Signature}
-use Rattle.qvt_types_units.specs.Numbers.{is_mapping, is_helper, is_called, has_context, is_in_group, unit_at}
+use Rattle.qvt_types_units.specs.Numbers.{is_mapping, is_called, has_context, is_in_group, unit_at}
 use Rattle.qvt_types_units.specs.Overrides.{are_unlike, are_alike, is_strictly_below, params_differ, is_wider, overrides, is_misfit, is_bad_override}
 use Rattle.qvt_types_groups.specs.Lists.{numbers_under}
 use Rattle.qvt_types_lists.specs.declared.odd.Named.{Named}
 use Rattle.qvt_types_lists.specs.Shapes.{same_sort, same_answer, all_same, same_types, same_shape}
 use Rattle.qvt_types_lists.specs.Odd.{is_like_first, is_odd, AreNamed, clashes, clashes_at, misfits_first, clashes_among}
-use Rattle.qvt_types_lists.proofs.Odd.{any_where, parted}
+use Rattle.qvt_types_lists.proofs.Parted.{any_where, parted}
 
 -- types that are told to be the same are
 abbrev pub Law : Type 0
@@ -122,7 +122,7 @@ pub bad_is : Law → (m : Metamodels) (us : List Signature) (maps : Bool) (t : N
 bad_is law m us maps t u are alike =
     (λ i. list_any (clashes_at m us u) (are.odd u.name i) || (misfits_first m us (numbers_under t.all u.name) u && list_any (clashes_at m us u) (are.all u.name i)))
     ∙ (λ i. any_where (is_odd maps us (numbers_under t.all u.name) u.name) (clashes m u) us i
-      || (misfits_first m us (numbers_under t.all u.name) u && any_where (is_in_group maps u.name) (clashes m u) us i))
+    || (misfits_first m us (numbers_under t.all u.name) u && any_where (is_in_group maps u.name) (clashes m u) us i))
     ∙ parted (is_in_group maps u.name) (is_like_first us (numbers_under t.all u.name)) (clashes m u) us (misfits_first m us (numbers_under t.all u.name) u)
     (λ v. like_is law m us u v (numbers_under t.all u.name))
     ∙ (λ i. list_any (λ v. each_is m maps u v (alike v) i) us)

@@ -5,7 +5,7 @@ use Rattle.qvt_metamodel.specs.Metamodels.{Metamodels}
 use Rattle.qvt_types_units.specs.declared.signature.Signature.{Signature}
 use Rattle.qvt_types_units.specs.Numbers.{unit_at, is_in_group, numbers_where}
 use Rattle.qvt_types_units.specs.Overrides.{is_strictly_below, is_misfit}
-use Rattle.qvt_types_groups.specs.Lists.{NamedLists, numbers_under}
+use Rattle.qvt_types_groups.specs.Lists.{numbers_under}
 use Rattle.qvt_types_lists.specs.declared.odd.Named.{Named}
 use Rattle.qvt_types_lists.specs.Shapes.{same_shape}
 

@@ -51,9 +51,7 @@ fn is_odd(maps: bool, units: &[Signature], all: &NumberLists, unit: &Signature) 
     ensures { result ≡ (is_one maps true unit.now && not (odd_words.is_like_first units.now (numbers_under all.now unit.now.name) unit.now)) }
 {
     let group = all.find(unit.name.as_str());
-    is_called(maps, unit.sort)
-        && has_context(unit.context)
-        && !is_like_first(units, group, unit)
+    is_called(maps, unit.sort) && has_context(unit.context) && !is_like_first(units, group, unit)
 }
 
 ghost use Rattle.std.specs.Prelude.{true};
@@ -93,14 +91,22 @@ fn odd_ones(
     };
     let mut odd = NumberLists::new(alloc);
     for number in 0..count {
-        odd = with_unit(alloc, maps, units, all, odd, number, &units[number as usize])?;
+        odd = with_unit(
+            alloc,
+            maps,
+            units,
+            all,
+            odd,
+            number,
+            &units[number as usize],
+        )?;
     }
     Ok(odd)
 }
 
 /// The mappings with a context, or the helpers and queries, by their names. It is refused as out of memory where their numbers do not
 /// fit 32 bits.
-pub fn named(alloc: Global, maps: bool, units: &[Signature]) -> Result<Named, ListFault>
+pub fn by_name(alloc: Global, maps: bool, units: &[Signature]) -> Result<Named, ListFault>
     ensures { IfOk result (AreNamed maps units.now) }
 {
     let all = lists_of(alloc, maps, true, units)?;

@@ -8,7 +8,7 @@ ghost use Rattle.qvt_types_units.specs.Units as units_told;
 ghost use Rattle.qvt_types_lists.specs.Odd as odd_words;
 ghost use Rattle.qvt_types_lists.specs.Odd.{AreNamed};
 
-use crate::odd::{Named, named};
+use crate::odd::{Named, by_name};
 use qvt_base::list_fault::ListFault;
 use qvt_metas::metas::Metas;
 use qvt_types_data::refusal::RefusalKind;
@@ -100,8 +100,8 @@ pub fn tell_overrides(
 ) -> Result<(), ListFault>
     ensures { OnOk result (log.new ≡ log.old ++ units_told.overrides_told metas.now units.now units.now) }
 {
-    let mappings = named(alloc, true, units)?;
-    let helpers = named(alloc, false, units)?;
+    let mappings = by_name(alloc, true, units)?;
+    let helpers = by_name(alloc, false, units)?;
     for unit in units {
         let bad = is_bad(metas, units, &mappings, &helpers, unit);
         tell_if(log, bad, RefusalKind::BadOverride, unit.place)?;

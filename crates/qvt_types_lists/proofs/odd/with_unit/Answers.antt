@@ -2,7 +2,7 @@ use Rattle.std.proofs.Common.{◌∙◌, ◌++◌, [], ◌∷◌, ap, sym}
 use Rattle.std.specs.Prelude.{if◌then◌else◌}
 use Rattle.std.specs.Str.{bytes_eq}
 use Rattle.qvt_types_groups.specs.Lists.{numbers_under}
-use Rattle.qvt_types_lists.proofs.Odd.{left_out, put_there}
+use Rattle.qvt_types_lists.proofs.Parted.{left_out, put_there}
 use Rattle.qvt_types_lists.proofs.odd.with_unit.Goals as goal
 
 pub returns-in_ok-more : goal.returns-in_ok-more

@@ -1,13 +1,13 @@
 -- Units that take or answer other than the first of their name.
-use Rattle.std.proofs.Common.{◌≡◌, ◌∙◌, ℕ, zero, suc, ◌+◌, ◌<◌, List, [], ◌∷◌, ◌++◌, length, get_or, Bool, true, false, not, ◌&&◌, ◌||◌, refl, sym, ap, subst, inl, inr, arith}
+use Rattle.std.proofs.Common.{◌≡◌, ◌∙◌, ℕ, zero, suc, ◌+◌, List, [], ◌∷◌, ◌++◌, get_or, Bool, true, false, not, ◌&&◌, ◌||◌, refl, sym, ap, inl, inr, arith}
 use Rattle.std.specs.Prelude.{if◌then◌else◌}
 use Rattle.std.specs.List.{list_any}
 use Rattle.std.specs.Str.{bytes_eq}
 use Rattle.std.proofs.lemmas.List.{append-nil}
 use Rattle.qvt_metamodel.proofs.Bools.{or_left, or_right, or_cases}
 use Rattle.qvt_types_units.specs.declared.signature.Signature.{Signature}
-use Rattle.qvt_types_units.specs.Numbers.{no_unit, unit_at, numbers_where, is_called, has_context, is_in_group}
-use Rattle.qvt_types_groups.specs.Lists.{numbers_under, is_one}
+use Rattle.qvt_types_units.specs.Numbers.{no_unit, unit_at, numbers_where, is_called, has_context}
+use Rattle.qvt_types_groups.specs.Lists.{is_one}
 use Rattle.qvt_types_groups.proofs.Lists.{same_bytes}
 use Rattle.qvt_types_lists.specs.Odd.{is_like_first, is_odd}
 
@@ -48,10 +48,10 @@ kept true false c e = e
 kept false l c e = e
 
 none_left : (g l c : Bool) → (l ≡ true → c ≡ true → false ≡ true) → ((g && not l) && c) ≡ (g && c)
-none_left false l c no = refl
-none_left true false c no = refl
-none_left true true false no = refl
-none_left true true true no = absurd (let wrong : false ≡ true = no refl refl in cc)
+none_left false l c never = refl
+none_left true false c never = refl
+none_left true true false never = refl
+none_left true true true never = absurd (let wrong : false ≡ true = never refl refl in cc)
 
 -- of some items those that are unlike are looked at, and all where one of the others may be it
 pub parted : (g l c : Signature → Bool) (us : List Signature) (b : Bool) → ((u : Signature) → l u ≡ true → c u ≡ true → b ≡ true)
