@@ -15,6 +15,7 @@ mod parse_depth;
 mod store;
 mod typing;
 mod value_depth;
+mod watch;
 mod words;
 
 use qvt_base::lists::Bytes;
@@ -26,10 +27,11 @@ use std::env;
 use std::io::{self, Write};
 use std::process::ExitCode;
 use std::rt::{Clock, Env};
+use std::time::CpuClock;
 use words::{parted, word};
 
 /// Does what the words say. What is told stands in `out`, also where it fails.
-fn perform<R: Clock, F: Files>(
+fn perform<R: Clock + CpuClock, F: Files>(
     rt: &R,
     alloc: Global,
     words: &[&str],
@@ -42,7 +44,7 @@ fn perform<R: Clock, F: Files>(
         "model" => model::run(alloc, words, files, out),
         "parse" => parse::run(rt, alloc, words, files, out),
         "typing" => typing::run(rt, alloc, words, files, out),
-        "operations" => operations::run(alloc, words, out),
+        "operations" => operations::run(rt, alloc, words, out),
         "value-depth" => value_depth::run(alloc, out),
         "parse-depth" => parse_depth::run(alloc, out),
         _ => None,

@@ -2,8 +2,9 @@
 //! form, the items (`numbers`, `texts` or `rising` numbers; of a text `letters` or `digits`), the kind (`set`, `bag`, `sequence`
 //! or `ordered`) and the two numbers. The forms `copy` and `sort` are plain loops over a vector of the same values, `copy` in the
 //! order that they have in the collection, `chars` is one over the text. After the words `onto`, `made` and `made-onto` come an
-//! operation's words: each answer is handed over to the next call, the source is known to be as made, or both.
-//! `bench/operations.sh` times it.
+//! operation's words: each answer is handed over to the next call, the source is known to be as made, or both. After the word
+//! `time` come the words of any of these: it tells how many microseconds of the processor each call took. `bench/operations.sh`
+//! asks it.
 
 ghost use Rattle.std.specs.Prelude.{All, IfSome};
 ghost use Rattle.qvt_value.specs.Items.{stands_for};
@@ -14,9 +15,11 @@ use crate::forms::{
     work_of,
 };
 use crate::items::{items, long_text};
+use crate::watch::{now, tell};
 use crate::words::word;
 use qvt_base::lists::Bytes;
 use qvt_base::numbers::Place;
+use qvt_base::seq::Seq;
 use qvt_ocl::apply::{apply, apply_made_lent, apply_made_owned, apply_owned};
 use qvt_ocl_made::as_made::{are_as_made, is_as_made};
 use qvt_ocl_words::op::Op;
@@ -24,6 +27,7 @@ use qvt_value::copy::copies;
 use qvt_value::items::Items;
 use qvt_value::value::{Value, Values};
 use std::alloc::Global;
+use std::time::CpuClock;
 
 const HERE: Place = Place {
     line: 1,
@@ -32,46 +36,96 @@ const HERE: Place = Place {
 };
 
 /// Makes the calls of an operation on a source.
-fn called(alloc: Global, op: Op, source: &Value, args: &[Value], times: u32) -> Option<()> {
+fn called<R: CpuClock>(
+    rt: &R,
+    alloc: Global,
+    op: Op,
+    source: &Value,
+    args: &[Value],
+    times: u32,
+    told: &mut Bytes,
+) -> Option<()> {
     for _time in 0..times {
+        let begin = now(rt)?;
         apply(alloc, op, HERE, source, args).ok()?;
+        tell(rt, alloc, begin, told)?;
     }
     Some(())
 }
 
-fn on_collection(alloc: Global, op: Op, taking: Taking, work: &Work) -> Option<()> {
+fn on_collection<R: CpuClock>(
+    rt: &R,
+    alloc: Global,
+    op: Op,
+    taking: Taking,
+    work: &Work,
+    told: &mut Bytes,
+) -> Option<()> {
     let source = collection(alloc, work)?;
     let args = collection_arguments(alloc, taking, work)?;
-    called(alloc, op, &source, args.as_slice(), work.times)
+    called(rt, alloc, op, &source, args.as_slice(), work.times, told)
 }
 
-fn on_text(alloc: Global, op: Op, taking: Taking, work: &Work) -> Option<()> {
+fn on_text<R: CpuClock>(
+    rt: &R,
+    alloc: Global,
+    op: Op,
+    taking: Taking,
+    work: &Work,
+    told: &mut Bytes,
+) -> Option<()> {
     let source = text(alloc, work)?;
     let args = text_arguments(alloc, taking, work)?;
-    called(alloc, op, &source, args.as_slice(), work.times)
+    called(rt, alloc, op, &source, args.as_slice(), work.times, told)
 }
 
 /// Makes the calls of an operation, each on the answer of the call before it.
-fn onto_collection(alloc: Global, op: Op, taking: Taking, work: &Work) -> Option<()> {
+fn onto_collection<R: CpuClock>(
+    rt: &R,
+    alloc: Global,
+    op: Op,
+    taking: Taking,
+    work: &Work,
+    told: &mut Bytes,
+) -> Option<()> {
     let args = collection_arguments(alloc, taking, work)?;
     let mut answer = collection(alloc, work)?;
     for _time in 0..work.times {
+        let begin = now(rt)?;
         answer = apply_owned(alloc, op, HERE, answer, args.as_slice()).ok()?;
+        tell(rt, alloc, begin, told)?;
     }
     Some(())
 }
 
-fn called_made(alloc: Global, op: Op, source: &Items<'_>, args: &[Value], times: u32) -> Option<()>
+fn called_made<R: CpuClock>(
+    rt: &R,
+    alloc: Global,
+    op: Op,
+    source: &Items<'_>,
+    args: &[Value],
+    times: u32,
+    told: &mut Bytes,
+) -> Option<()>
     requires { IsAsMade (stands_for source.now) }
 {
     for _time in 0..times {
+        let begin = now(rt)?;
         apply_made_lent(alloc, op, HERE, source, args).ok()?;
+        tell(rt, alloc, begin, told)?;
     }
     Some(())
 }
 
 /// Makes the calls of an operation on a source that is as made.
-fn on_made(alloc: Global, op: Op, taking: Taking, work: &Work) -> Option<()> {
+fn on_made<R: CpuClock>(
+    rt: &R,
+    alloc: Global,
+    op: Op,
+    taking: Taking,
+    work: &Work,
+    told: &mut Bytes,
+) -> Option<()> {
     let source = collection(alloc, work)?;
     let args = collection_arguments(alloc, taking, work)?;
     if !is_as_made(alloc, &source).ok()? {
@@ -80,7 +134,7 @@ fn on_made(alloc: Global, op: Op, taking: Taking, work: &Work) -> Option<()> {
     match &source {
         Value::Coll(kind, items) => {
             let lent = Items::Lent(*kind, items.as_slice());
-            called_made(alloc, op, &lent, args.as_slice(), work.times)
+            called_made(rt, alloc, op, &lent, args.as_slice(), work.times, told)
         }
         _ => None,
     }
@@ -98,34 +152,69 @@ fn collection_made(alloc: Global, work: &Work) -> Option<Value>
     }
 }
 
+/// Makes a call on a source that is as made, of arguments that are.
+fn one_onto_made<R: CpuClock>(
+    rt: &R,
+    alloc: Global,
+    op: Op,
+    source: Value,
+    args: &[Value],
+    told: &mut Bytes,
+) -> Option<Value>
+    requires source { IsAsMade source }
+    requires args { All IsAsMade args.now }
+    ensures { IfSome result (λ answer. IsAsMade answer) }
+{
+    let begin = now(rt)?;
+    let answer = apply_made_owned(alloc, op, HERE, source, args).ok()?;
+    tell(rt, alloc, begin, told)?;
+    Some(answer)
+}
+
 /// Makes the calls of an operation on a source that is as made, each on the answer of the call before it.
-fn onto_made(alloc: Global, op: Op, taking: Taking, work: &Work) -> Option<()> {
+fn onto_made<R: CpuClock>(
+    rt: &R,
+    alloc: Global,
+    op: Op,
+    taking: Taking,
+    work: &Work,
+    told: &mut Bytes,
+) -> Option<()> {
     let args = collection_arguments(alloc, taking, work)?;
     let mut answer = collection_made(alloc, work)?;
     if !are_as_made(alloc, args.as_slice()).ok()? {
         return None;
     }
     for _time in 0..work.times {
-        answer = apply_made_owned(alloc, op, HERE, answer, args.as_slice()).ok()?;
+        answer = one_onto_made(rt, alloc, op, answer, args.as_slice(), told)?;
     }
     Some(())
 }
 
-fn copied(alloc: Global, work: &Work) -> Option<()> {
+fn copied<R: CpuClock>(rt: &R, alloc: Global, work: &Work, told: &mut Bytes) -> Option<()> {
     let Ok((_, items)) = collection(alloc, work)?.into_items() else {
         return None;
     };
     for _time in 0..work.times {
+        let begin = now(rt)?;
         copies(alloc, items.as_slice()).ok()?;
+        tell(rt, alloc, begin, told)?;
     }
     Some(())
 }
 
-fn sorted(alloc: Global, work: &Work) -> Option<()> {
+fn sorted_copy(alloc: Global, items: &[Value]) -> Option<()> {
+    let mut sorted = copies(alloc, items).ok()?;
+    sorted.sort();
+    Some(())
+}
+
+fn sorted<R: CpuClock>(rt: &R, alloc: Global, work: &Work, told: &mut Bytes) -> Option<()> {
     let items = items(alloc, work.data, 0, work.n)?;
     for _time in 0..work.times {
-        let mut sorted = copies(alloc, items.as_slice()).ok()?;
-        sorted.sort();
+        let begin = now(rt)?;
+        sorted_copy(alloc, items.as_slice())?;
+        tell(rt, alloc, begin, told)?;
     }
     Some(())
 }
@@ -138,60 +227,105 @@ fn sum_of_characters(text: &str) -> u64 {
     sum
 }
 
-fn summed(alloc: Global, work: &Work) -> Option<u64> {
+fn summed<R: CpuClock>(rt: &R, alloc: Global, work: &Work, told: &mut Bytes) -> Option<u64> {
     let text = long_text(alloc, work.data, work.n)?;
     let mut all: u64 = 0;
     for _time in 0..work.times {
+        let begin = now(rt)?;
         all = all.wrapping_add(sum_of_characters(text.as_str()));
+        tell(rt, alloc, begin, told)?;
     }
     Some(all)
 }
 
 /// Does an operation's form.
-fn applied(alloc: Global, form: &str, work: &Work) -> Option<()> {
+fn applied<R: CpuClock>(
+    rt: &R,
+    alloc: Global,
+    form: &str,
+    work: &Work,
+    told: &mut Bytes,
+) -> Option<()> {
     if let Some((op, taking)) = on_texts(form) {
-        return on_text(alloc, op, taking, work);
+        return on_text(rt, alloc, op, taking, work, told);
     }
     let (op, taking) = on_collections(form)?;
-    on_collection(alloc, op, taking, work)
+    on_collection(rt, alloc, op, taking, work, told)
 }
 
-fn done(alloc: Global, form: &str, work: &Work) -> Option<()> {
+fn done<R: CpuClock>(
+    rt: &R,
+    alloc: Global,
+    form: &str,
+    work: &Work,
+    told: &mut Bytes,
+) -> Option<()> {
     match form {
-        "copy" => copied(alloc, work),
-        "sort" => sorted(alloc, work),
-        "chars" => match summed(alloc, work)? {
+        "copy" => copied(rt, alloc, work, told),
+        "sort" => sorted(rt, alloc, work, told),
+        "chars" => match summed(rt, alloc, work, told)? {
             // the sum is looked at, so that its loop is not left out
             u64::MAX => None,
             _ => Some(()),
         },
-        _ => applied(alloc, form, work),
+        _ => applied(rt, alloc, form, work, told),
     }
 }
 
 /// Does what the words after `onto`, `made` or `made-onto` say.
-fn done_so(alloc: Global, how: &str, words: &[&str]) -> Option<()> {
+fn done_so<R: CpuClock>(
+    rt: &R,
+    alloc: Global,
+    how: &str,
+    words: &[&str],
+    told: &mut Bytes,
+) -> Option<()> {
     let work = work_of(words)?;
     let (op, taking) = on_collections(word(words, 1))?;
     match how {
-        "onto" => onto_collection(alloc, op, taking, &work),
-        "made" => on_made(alloc, op, taking, &work),
-        _ => onto_made(alloc, op, taking, &work),
+        "onto" => onto_collection(rt, alloc, op, taking, &work, told),
+        "made" => on_made(rt, alloc, op, taking, &work, told),
+        _ => onto_made(rt, alloc, op, taking, &work, told),
     }
 }
 
-/// Does what the words say.
-fn performed(alloc: Global, words: &[&str]) -> Option<()> {
+/// Does what the words say, and tells how long each call took.
+fn performed<R: CpuClock>(rt: &R, alloc: Global, words: &[&str], told: &mut Bytes) -> Option<()> {
     match word(words, 1) {
-        "onto" | "made" | "made-onto" => done_so(alloc, word(words, 1), words.get(1..)?),
-        form => done(alloc, form, &work_of(words)?),
+        "onto" | "made" | "made-onto" => {
+            done_so(rt, alloc, word(words, 1), words.get(1..)?, told)
+        }
+        form => done(rt, alloc, form, &work_of(words)?, told),
     }
 }
 
-pub fn run(alloc: Global, words: &[&str], out: &mut Bytes) -> Option<()> {
-    if performed(alloc, words).is_some() {
-        out.extend(b"done\n").ok()
+/// Writes what was told, or that all was done.
+fn write_told(is_timed: bool, told: &[u8], out: &mut Bytes) -> Option<()> {
+    if is_timed {
+        out.extend(told).ok()
     } else {
-        out.extend(b"not done\n").ok()
+        out.extend(b"done\n").ok()
     }
+}
+
+/// Does what the words say. Where it is timed, what was told comes out, else that it was done.
+fn run_so<R: CpuClock>(
+    rt: &R,
+    alloc: Global,
+    is_timed: bool,
+    words: &[&str],
+    out: &mut Bytes,
+) -> Option<()> {
+    let mut told = Seq::new(alloc);
+    if performed(rt, alloc, words, &mut told).is_none() {
+        return out.extend(b"not done\n").ok();
+    }
+    write_told(is_timed, told.as_slice(), out)
+}
+
+pub fn run<R: CpuClock>(rt: &R, alloc: Global, words: &[&str], out: &mut Bytes) -> Option<()> {
+    if word(words, 1) == "time" {
+        return run_so(rt, alloc, true, words.get(1..)?, out);
+    }
+    run_so(rt, alloc, false, words, out)
 }
