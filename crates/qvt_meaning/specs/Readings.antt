@@ -36,9 +36,11 @@ use Rattle.qvt_run_rules.specs.Iterators as each
 use Rattle.qvt_run_rules.specs.Questions.{object_test, named_query}
 use Rattle.qvt_run_rules.specs.Statements as statement
 use Rattle.qvt_run_rules.specs.Calls as call
-use Rattle.qvt_run_rules.specs.Calls.{Callee, Calls}
+use Rattle.qvt_run_data.specs.declared.callee.Callee.{Callee}
+use Rattle.qvt_run_rules.specs.Calls.{Calls}
 use Rattle.qvt_run_rules.specs.Resolve as resolving
-use Rattle.qvt_run_rules.specs.Resolve.{Query, Form}
+use Rattle.qvt_run_data.specs.declared.request.Query.{Query}
+use Rattle.qvt_run_data.specs.declared.request.Form.{Form}
 use Rattle.qvt_meaning.specs.Nodes.{resolve_mark, class_argument}
 use Rattle.qvt_meaning.specs.Program.{chosen_for, free_callee, form_of}
 

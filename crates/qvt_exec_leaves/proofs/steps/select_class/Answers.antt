@@ -4,5 +4,5 @@ use Rattle.qvt_exec_leaves.proofs.steps.select_class.Goals as goal
 
 pub returns-in_ok-kept-in-Ok : goal.returns-in_ok-kept-in-Ok
 returns-in_ok-kept-in-Ok c =
-    class_selected c.args.exact c.args.class c.args.place c.args.value c.in-Ok.kind c.in-Ok.items c.in_ok-kept-in-Ok.kept c.in_ok-tick.field-0 (seen c.args.state.now) c.found.result c.tick.new.state
+    class_selected c.args.limit c.args.exact c.args.class c.args.place c.args.value c.in-Ok.kind c.in-Ok.items c.in_ok-kept-in-Ok.kept c.in_ok-tick.field-0 (seen c.args.state.now) c.found.result c.tick.new.state
     c.in-Ok.ensures c.in_ok-tick.ensures c.in_ok-kept-in-Ok.ensures c.found.ensures
