@@ -1,12 +1,7 @@
 //! What stands behind a call or a resolve.
 
-ghost use Rattle.qvt_base.specs.declared.numbers.Place.{Place};
-ghost use Rattle.qvt_value.specs.declared.value.Value.{Value};
-ghost use Rattle.qvt_run_data.specs.declared.late.LateWrite.{LateWrite};
-ghost use Rattle.qvt_run_data.specs.declared.request.Query.{Query};
-ghost use Rattle.qvt_run_rules.specs.Calls.{Calls};
-ghost use Rattle.qvt_run_rules.specs.State.{Does};
 ghost use Rattle.qvt_exec_state.specs.Runs.{Runs, seen};
+ghost use Rattle.qvt_exec_calls.specs.Units.{Units};
 
 use qvt_base::numbers::Place;
 use qvt_exec_state::state::RunState;
@@ -20,9 +15,7 @@ use std::marker::Model;
 pub trait UnitCalls {
     ghost ready: { Self → Type 0 };
 
-    ghost calls: { Self → Calls LateWrite };
-
-    ghost resolves: { Self → Place → Query → Does LateWrite Value };
+    ghost means: { Self → Units };
 
     /// The call of a unit with these arguments, at its place.
     fn call(
@@ -33,12 +26,12 @@ pub trait UnitCalls {
         state: &mut RunState<'_>,
     ) -> Result<Value, Halt>
         requires { ready self.now }
-        ensures { Runs (calls self.now callee args place (seen state.old)) result state.new };
+        ensures { Runs ((means self.now).calls callee args place (seen state.old)) result state.new };
 
     /// The answer of a resolve that is not late, at its place.
     fn resolve(&self, query: Query, place: Place, state: &mut RunState<'_>) -> Result<Value, Halt>
         requires { ready self.now }
-        ensures { Runs (resolves self.now place query (seen state.old)) result state.new };
+        ensures { Runs ((means self.now).resolves place query (seen state.old)) result state.new };
 }
 
 /// Units that are ready.
@@ -48,11 +41,9 @@ pub struct ReadyUnits<C: UnitCalls> {
 }
 
 impl<C: UnitCalls> Model for ReadyUnits<C> {
-    ghost use Rattle.qvt_exec_calls.specs.Units.{Units};
+    ghost Value = { C };
 
-    ghost Value = { Units };
-
-    ghost view = { λ u. record { calls = C.calls u.units; resolves = C.resolves u.units } };
+    ghost view = { λ u. u.units };
 
     ghost invariant = { λ u. C.ready u.units };
 }
@@ -66,7 +57,7 @@ impl<C: UnitCalls> ReadyUnits<C> {
         place: Place,
         state: &mut RunState<'_>,
     ) -> Result<Value, Halt>
-        ensures { Runs (self.now.calls callee args place (seen state.old)) result state.new }
+        ensures { Runs ((C.means self.now).calls callee args place (seen state.old)) result state.new }
     {
         self.units.call(callee, args, place, state)
     }
@@ -78,7 +69,7 @@ impl<C: UnitCalls> ReadyUnits<C> {
         place: Place,
         state: &mut RunState<'_>,
     ) -> Result<Value, Halt>
-        ensures { Runs (self.now.resolves place query (seen state.old)) result state.new }
+        ensures { Runs ((C.means self.now).resolves place query (seen state.old)) result state.new }
     {
         self.units.resolve(query, place, state)
     }

@@ -7,6 +7,7 @@ ghost use Rattle.qvt_run_rules.specs.Expressions as rule;
 ghost use Rattle.qvt_meaning.specs.Readings as by;
 ghost use Rattle.qvt_typing.specs.Accepts.{ProgramTerm};
 ghost use Rattle.qvt_exec_state.specs.Runs.{Runs, seen};
+ghost use Rattle.qvt_exec_leaves.specs.Signs.{ticks_of};
 ghost use Rattle.qvt_exec_leaves.specs.Spending.{Bars, Enters, Resolves, spending};
 
 use qvt_base::copied::Copied;
@@ -14,18 +15,21 @@ use qvt_base::numbers::{FeatureNo, Place};
 use qvt_base::text::Text;
 use qvt_exec_reads::property::property;
 use qvt_exec_state::state::RunState;
-use qvt_exec_state::steps::{found, misfit, read, spend, tick};
+use qvt_exec_state::steps::{found, misfit, read, tick};
 use qvt_run_data::exit::Halt;
 use qvt_types_data::note::Reading;
 use qvt_types_nodes::types::TypedPathTree;
 use qvt_value::value::{LiteralRef, Reason, Value};
 use std::alloc::Global;
 
-/// So many units.
+/// So many single units.
 pub fn ticks(limit: Option<u64>, units: usize, state: &mut RunState<'_>) -> Result<(), Halt>
-    ensures { Runs (spend_of limit units (seen state.old)) result state.new }
+    ensures { Runs (ticks_of limit units (seen state.old)) result state.new }
 {
-    spend(limit, units as u64, state)
+    for _ in 0..units {
+        tick(limit, state)?;
+    }
+    Ok(())
 }
 
 /// A literal.

@@ -9,8 +9,8 @@ ghost use Rattle.qvt_meaning.specs.Readings as by;
 ghost use Rattle.qvt_types_words.specs.OperationNames as names;
 ghost use Rattle.qvt_exec_types.specs.Post.{post_of, type_at};
 ghost use Rattle.qvt_exec_state.specs.Runs.{Runs, seen};
-ghost use Rattle.qvt_exec_exprs.specs.Loops.{named_alone};
-ghost use Rattle.qvt_exec_exprs.specs.Means.{exprs_of, setting_of, step_of, steps_of};
+ghost use Rattle.qvt_exec_phrases.specs.Loops.{named_alone};
+ghost use Rattle.qvt_exec_phrases.specs.Means.{exprs_of, setting_of, step_of, steps_of};
 
 use crate::engine::Engine;
 use crate::exprs::{expr, values};
@@ -34,10 +34,11 @@ use qvt_types_words::operation_names::operation_named;
 use qvt_value::value::Value;
 
 /// An operation by its name, whose arguments are evaluated once, whatever the source is.
-#[cycle(plain)]
+#[cycle(phrases)]
 #[tactic(auto, unfolding(qvt_run_rules::specs::Expressions::called))]
-fn operation_by(
+fn operation_by<C: UnitCalls>(
     x: &Engine<'_>,
+units: &ReadyUnits<C>,
     args: &[TypedExpr],
     name: &Text,
     collect: bool,
@@ -45,12 +46,12 @@ fn operation_by(
     value: Value,
     state: &mut RunState<'_>,
 ) -> Result<Value, Halt>
-    ensures { Runs (by.operation_by (setting_of x.now) (names.operation_named name.now) (exprs_of x.now args.now) collect place value (seen state.old)) result state.new }
+    ensures { Runs (by.operation_by (setting_of (x.now, units.now)) (names.operation_named name.now) (exprs_of (x.now, units.now) args.now) collect place value (seen state.old)) result state.new }
 {
     match operation_named(name.as_str()) {
         Some(op) => {
             tick(state)?;
-            let given = values(x, args, state)?;
+            let given = values(x, units, args, state)?;
             called_on(x.alloc, op, collect, given.as_slice(), place, value, state)
         }
         None => misfit(place),
@@ -58,9 +59,10 @@ fn operation_by(
 }
 
 /// A test or cast with a class, or an operation with values.
-#[cycle(plain)]
-fn operation_step(
+#[cycle(phrases)]
+fn operation_step<C: UnitCalls>(
     x: &Engine<'_>,
+units: &ReadyUnits<C>,
     args: &[TypedExpr],
     name: &Text,
     collect: bool,
@@ -68,7 +70,7 @@ fn operation_step(
     value: Value,
     state: &mut RunState<'_>,
 ) -> Result<Value, Halt>
-    ensures { Runs (by.operation_step (setting_of x.now) name.now (exprs_of x.now args.now) (nodes.class_argument (typed_exprs_of (map typed_expr_view args.now))) collect place value (seen state.old)) result state.new }
+    ensures { Runs (by.operation_step (setting_of (x.now, units.now)) name.now (exprs_of (x.now, units.now) args.now) (nodes.class_argument (typed_exprs_of (map typed_expr_view args.now))) collect place value (seen state.old)) result state.new }
 {
     match class_test_named(name.as_str()) {
         Some(test) => tested_by(
@@ -80,22 +82,23 @@ fn operation_step(
             value,
             state,
         ),
-        None => operation_by(x, args, name, collect, place, value, state),
+        None => operation_by(x, units, args, name, collect, place, value, state),
     }
 }
 
 /// A step behind an arrow that has no accumulator, on the collection that it goes over.
-#[cycle(plain)]
+#[cycle(phrases)]
 #[tactic(auto, using(crate::proofs::Args::no_body), unfolding(crate::specs::Means::exprs_of, crate::specs::Means::expr_of, qvt_meaning::specs::Phrases::exprs))]
-fn arrow_on(
+fn arrow_on<C: UnitCalls>(
     x: &Engine<'_>,
+units: &ReadyUnits<C>,
     args: &[TypedExpr],
     name: &Text,
     it: Iteration<'_>,
     value: Value,
     state: &mut RunState<'_>,
 ) -> Result<Value, Halt>
-    ensures { Runs (by.arrow_on (setting_of x.now) name.now (named_alone (option_copied it.entry.name)) (exprs_of x.now args.now) (nodes.class_argument (typed_exprs_of (map typed_expr_view args.now))) it.entry.place value (seen state.old)) result state.new }
+    ensures { Runs (by.arrow_on (setting_of (x.now, units.now)) name.now (named_alone (option_copied it.entry.name)) (exprs_of (x.now, units.now) args.now) (nodes.class_argument (typed_exprs_of (map typed_expr_view args.now))) it.entry.place value (seen state.old)) result state.new }
 {
     if is_selection(name.as_str()) {
         return selection(x.alloc, name, class_argument(args), it.place, value, state);
@@ -103,18 +106,19 @@ fn arrow_on(
     match iterator_named(name.as_str()) {
         Some(which) => match args {
             [] => misfit(it.place),
-            [body] => iterator(x, body, which, it, value, state),
+            [body] => iterator(x, units, body, which, it, value, state),
             [_, _, ..] => misfit(it.place),
         },
-        None => operation_by(x, args, name, false, it.place, value, state),
+        None => operation_by(x, units, args, name, false, it.place, value, state),
     }
 }
 
 /// A step of a Post.
-#[cycle(plain)]
+#[cycle(phrases)]
 #[tactic(auto, using(crate::proofs::Loops::arrow_alone, crate::proofs::Loops::iterates_on, crate::proofs::Args::no_body), unfolding(crate::specs::Means::step_of, crate::specs::Means::expr_of, crate::specs::Means::exprs_of, crate::specs::Means::head_of, qvt_meaning::specs::Phrases::step, qvt_meaning::specs::Phrases::exprs, qvt_meaning::specs::Phrases::dot_step, qvt_meaning::specs::Phrases::map_step, qvt_meaning::specs::Phrases::head, qvt_meaning::specs::Phrases::accumulator, qvt_run_rules::specs::Iterators::iterate))]
-fn step(
+fn step<C: UnitCalls>(
     x: &Engine<'_>,
+units: &ReadyUnits<C>,
     node: &TypedStep,
     before: &mut Before<'_>,
     index: usize,
@@ -122,7 +126,7 @@ fn step(
     state: &mut RunState<'_>,
 ) -> Result<Value, Halt>
     ensures same { post_of before.new ≡ post_of before.old }
-    ensures runs { Runs (step_of x.now (type_at (post_of before.old) index) node.now value (seen state.old)) result state.new }
+    ensures runs { Runs (step_of (x.now, units.now) (type_at (post_of before.old) index) node.now value (seen state.old)) result state.new }
 {
     match node {
         TypedStep::Dot {
@@ -134,7 +138,7 @@ fn step(
             None => property_by(x.alloc, note, *place, value, state),
             Some(args) => match &note.reading {
                 Reading::Operation(_) => {
-                    operation_step(x, args.as_slice(), name, note.collect, *place, value, state)
+                    operation_step(x, units, args.as_slice(), name, note.collect, *place, value, state)
                 }
                 _ => misfit(*place),
             },
@@ -152,7 +156,7 @@ fn step(
                 place: *place,
             };
             if !iterates(name.as_str()) {
-                return arrow_on(x, args.as_slice(), name, it, source, state);
+                return arrow_on(x, units, args.as_slice(), name, it, source, state);
             }
             match args.as_slice() {
                 [] => misfit(*place),
@@ -162,8 +166,8 @@ fn step(
                         None => misfit(*place),
                         Some(accumulator) => {
                             tick(state)?;
-                            let first = expr(x, &accumulator.first, state)?;
-                            iterate(x, body, it, &accumulator.name, first, source, state)
+                            let first = expr(x, units, &accumulator.first, state)?;
+                            iterate(x, units, body, it, &accumulator.name, first, source, state)
                         }
                     },
                 },
@@ -178,22 +182,23 @@ fn step(
 }
 
 /// The steps from a place on.
-#[cycle(plain)]
+#[cycle(phrases)]
 #[tactic(auto, using(crate::proofs::Behind::steps_done))]
-pub fn steps_from(
+pub fn steps_from<C: UnitCalls>(
     x: &Engine<'_>,
+units: &ReadyUnits<C>,
     all: &[TypedStep],
     first: &Option<Ty>,
     from: usize,
     value: Value,
     state: &mut RunState<'_>,
 ) -> Result<Value, Halt>
-    ensures { Runs (rule.along value (drop from (steps_of x.now first.now all.now)) (seen state.old)) result state.new }
+    ensures { Runs (rule.along value (drop from (steps_of (x.now, units.now) first.now all.now)) (seen state.old)) result state.new }
 {
     let mut before = Before::new(x.program, first, all);
     let mut value = value;
     for index in from..all.len() {
-        value = step(x, &all[index], &mut before, index, value, state)?;
+        value = step(x, units, &all[index], &mut before, index, value, state)?;
     }
     Ok(value)
 }

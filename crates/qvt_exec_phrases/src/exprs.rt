@@ -11,8 +11,8 @@ ghost use Rattle.qvt_run_rules.specs.State.{Does};
 ghost use Rattle.qvt_run_rules.specs.Expressions as rule;
 ghost use Rattle.qvt_exec_state.specs.Runs.{Runs, seen};
 ghost use Rattle.qvt_exec_leaves.specs.Signs.{signed_by};
-ghost use Rattle.qvt_exec_exprs.specs.Means.{expr_of, exprs_of, link_of, links_of, item_of, items_of, charged_first, gathered_in, setting_of, steps_of, all_steps, Gathers};
-ghost use Rattle.qvt_exec_exprs.specs.Choices.{Decides};
+ghost use Rattle.qvt_exec_phrases.specs.Means.{expr_of, exprs_of, link_of, links_of, item_of, items_of, charged_first, gathered_in, setting_of, steps_of, all_steps, Gathers};
+ghost use Rattle.qvt_exec_phrases.specs.Choices.{Decides};
 
 use crate::choice::{Choice, choice_by};
 use crate::engine::Engine;
@@ -38,10 +38,10 @@ use qvt_types_nodes::types::TypedSign;
 use qvt_value::value::{Kind, Value, Values};
 
 /// What an expression gives.
-#[cycle(plain)]
+#[cycle(phrases)]
 #[tactic(auto, unfolding(crate::specs::Means::expr_of, crate::specs::Means::items_of, crate::specs::Means::links_of, crate::specs::Means::steps_of, qvt_meaning::specs::Phrases::expr, qvt_meaning::specs::Phrases::map_alone, qvt_run_rules::specs::Expressions::on_first))]
-pub fn expr(x: &Engine<'_>, node: &TypedExpr, state: &mut RunState<'_>) -> Result<Value, Halt>
-    ensures { Runs (expr_of x.now node.now (seen state.old)) result state.new }
+pub fn expr<C: UnitCalls>(x: &Engine<'_>, units: &ReadyUnits<C>, node: &TypedExpr, state: &mut RunState<'_>) -> Result<Value, Halt>
+    ensures { Runs (expr_of (x.now, units.now) node.now (seen state.old)) result state.new }
 {
     match node {
         TypedExpr::Int { value, .. } => literal(Value::Int(*value), state),
@@ -57,15 +57,15 @@ pub fn expr(x: &Engine<'_>, node: &TypedExpr, state: &mut RunState<'_>) -> Resul
             items,
             place,
             ..
-        } => collection(x, items.as_slice(), kind_of(*kind), *place, state),
+        } => collection(x, units, items.as_slice(), kind_of(*kind), *place, state),
         TypedExpr::If {
             condition,
             yes,
             no,
             ..
-        } => match tested(x, condition, state)? {
-            Choice::Yes => expr(x, yes, state),
-            Choice::No => expr(x, no, state),
+        } => match tested(x, units, condition, state)? {
+            Choice::Yes => expr(x, units, yes, state),
+            Choice::No => expr(x, units, no, state),
             Choice::Given(value) => Ok(value),
         },
         TypedExpr::Object { place, .. } => misfit(*place),
@@ -73,10 +73,10 @@ pub fn expr(x: &Engine<'_>, node: &TypedExpr, state: &mut RunState<'_>) -> Resul
         TypedExpr::Map(call) => misfit(call.place),
         TypedExpr::Resolve(call) => misfit(call.place),
         TypedExpr::Chain { first, rest, .. } => {
-            let value = expr(x, first, state)?;
-            links(x, rest.as_slice(), value, state)
+            let value = expr(x, units, first, state)?;
+            links(x, units, rest.as_slice(), value, state)
         }
-        TypedExpr::Prefix { signs, operand, .. } => signed(x, operand, signs.as_slice(), state),
+        TypedExpr::Prefix { signs, operand, .. } => signed(x, units, operand, signs.as_slice(), state),
         TypedExpr::Post {
             first,
             steps,
@@ -84,108 +84,112 @@ pub fn expr(x: &Engine<'_>, node: &TypedExpr, state: &mut RunState<'_>) -> Resul
             ..
         } => match model_named(first) {
             None => {
-                let value = expr(x, first, state)?;
-                steps_from(x, steps.as_slice(), &note_of(first).answer, 0, value, state)
+                let value = expr(x, units, first, state)?;
+                steps_from(x, units, steps.as_slice(), &note_of(first).answer, 0, value, state)
             }
             Some(model) => {
                 let ty = &note_of(first).answer;
-                model_steps(x, steps.as_slice(), ty, model, *place, state)
+                model_steps(x, units, steps.as_slice(), ty, model, *place, state)
             }
         },
     }
 }
 
 /// The values of expressions, one after another.
-#[cycle(plain)]
+#[cycle(phrases)]
 #[tactic(auto, unfolding(crate::specs::Means::exprs_of, crate::specs::Means::expr_of, qvt_meaning::specs::Phrases::exprs))]
-pub fn values(x: &Engine<'_>, nodes: &[TypedExpr], state: &mut RunState<'_>) -> Result<Values, Halt>
-    ensures { Runs (rule.values (exprs_of x.now nodes.now) (seen state.old)) result state.new }
+pub fn values<C: UnitCalls>(x: &Engine<'_>, units: &ReadyUnits<C>, nodes: &[TypedExpr], state: &mut RunState<'_>) -> Result<Values, Halt>
+    ensures { Runs (rule.values (exprs_of (x.now, units.now) nodes.now) (seen state.old)) result state.new }
 {
     let mut done = Seq::new(x.alloc);
     for node in nodes {
-        let value = expr(x, node, state)?;
+        let value = expr(x, units, node, state)?;
         done.push(value)?;
     }
     Ok(done)
 }
 
 /// An item of a collection literal.
-#[cycle(plain)]
+#[cycle(phrases)]
 #[tactic(auto, unfolding(crate::specs::Means::item_of, crate::specs::Means::expr_of, qvt_meaning::specs::Phrases::item, qvt_meaning::specs::Phrases::item_to, qvt_run_rules::specs::Expressions::item, qvt_run_rules::specs::Expressions::range))]
-fn item(
+fn item<C: UnitCalls>(
     x: &Engine<'_>,
+units: &ReadyUnits<C>,
     node: &TypedItem,
     gathered: &mut Gathered,
     state: &mut RunState<'_>,
 ) -> Result<(), Halt>
-    ensures { Gathers (item_of x.now node.now (seen state.old)) gathered.old gathered.new result state.new }
+    ensures { Gathers (item_of (x.now, units.now) node.now (seen state.old)) gathered.old gathered.new result state.new }
 {
-    let first = expr(x, &node.first, state)?;
+    let first = expr(x, units, &node.first, state)?;
     match &node.last {
         None => put_one(x.alloc, gathered, first, state),
         Some(end) => {
-            let last = expr(x, &end.last, state)?;
+            let last = expr(x, units, &end.last, state)?;
             put_range(x.alloc, gathered, end.place, &first, &last, state)
         }
     }
 }
 
 /// A collection literal.
-#[cycle(plain)]
+#[cycle(phrases)]
 #[tactic(auto, unfolding(qvt_run_rules::specs::Expressions::collected))]
-fn collection(
+fn collection<C: UnitCalls>(
     x: &Engine<'_>,
+units: &ReadyUnits<C>,
     nodes: &[TypedItem],
     kind: Kind,
     place: Place,
     state: &mut RunState<'_>,
 ) -> Result<Value, Halt>
-    ensures { Runs (rule.collected count kind (items_of x.now nodes.now) place (seen state.old)) result state.new }
+    ensures { Runs (rule.collected count kind (items_of (x.now, units.now) nodes.now) place (seen state.old)) result state.new }
 {
     tick(state)?;
-    collected(x, nodes, kind, place, state)
+    collected(x, units, nodes, kind, place, state)
 }
 
 /// The collection of all items.
-#[cycle(plain)]
+#[cycle(phrases)]
 #[tactic(auto, using(crate::proofs::Lists::gathering_none))]
-fn collected(
+fn collected<C: UnitCalls>(
     x: &Engine<'_>,
+units: &ReadyUnits<C>,
     nodes: &[TypedItem],
     kind: Kind,
     place: Place,
     state: &mut RunState<'_>,
 ) -> Result<Value, Halt>
-    ensures { Runs (gathered_in kind (items_of x.now nodes.now) place (seen state.old)) result state.new }
+    ensures { Runs (gathered_in kind (items_of (x.now, units.now) nodes.now) place (seen state.old)) result state.new }
 {
     let mut gathered = Gathered::new(x.alloc, kind);
     for node in nodes {
-        item(x, node, &mut gathered, state)?;
+        item(x, units, node, &mut gathered, state)?;
     }
     Ok(gathered.into_value(x.alloc, place)?)
 }
 
 /// A further operand of a chain. A word of logic may know its value before its right side, which is then not evaluated.
-#[cycle(plain)]
+#[cycle(phrases)]
 #[tactic(auto, unfolding(crate::specs::Means::link_of, crate::specs::Means::expr_of, qvt_meaning::specs::Phrases::link, qvt_run_rules::specs::Expressions::operated, qvt_run_rules::specs::Expressions::logical))]
-fn link(
+fn link<C: UnitCalls>(
     x: &Engine<'_>,
+units: &ReadyUnits<C>,
     node: &TypedLink,
     left: Value,
     state: &mut RunState<'_>,
 ) -> Result<Value, Halt>
-    ensures { Runs (link_of x.now node.now left (seen state.old)) result state.new }
+    ensures { Runs (link_of (x.now, units.now) node.now left (seen state.old)) result state.new }
 {
     tick(state)?;
     match operation_of(node.op) {
         Some(op) => {
-            let args = [expr(x, &node.operand, state)?];
+            let args = [expr(x, units, &node.operand, state)?];
             applied_to(x.alloc, op, &args, node.place, left, state)
         }
         None => match by_left(node.op, &left) {
             Some(value) => Ok(value),
             None => {
-                let right = expr(x, &node.operand, state)?;
+                let right = expr(x, units, &node.operand, state)?;
                 worded(node.op, left, right, node.place, state)
             }
         },
@@ -193,75 +197,79 @@ fn link(
 }
 
 /// The further operands of a chain.
-#[cycle(plain)]
+#[cycle(phrases)]
 #[tactic(auto, unfolding(crate::specs::Means::links_of, crate::specs::Means::link_of, qvt_meaning::specs::Phrases::links))]
-fn links(
+fn links<C: UnitCalls>(
     x: &Engine<'_>,
+units: &ReadyUnits<C>,
     nodes: &[TypedLink],
     left: Value,
     state: &mut RunState<'_>,
 ) -> Result<Value, Halt>
-    ensures { Runs (rule.along left (links_of x.now nodes.now) (seen state.old)) result state.new }
+    ensures { Runs (rule.along left (links_of (x.now, units.now) nodes.now) (seen state.old)) result state.new }
 {
     let mut value = left;
     for node in nodes {
-        value = link(x, node, value, state)?;
+        value = link(x, units, node, value, state)?;
     }
     Ok(value)
 }
 
 /// An operand with signs before it: the outer sign is met first, and so all are charged before the operand.
-#[cycle(plain)]
-fn prefixed(
+#[cycle(phrases)]
+fn prefixed<C: UnitCalls>(
     x: &Engine<'_>,
+units: &ReadyUnits<C>,
     operand: &TypedExpr,
     signs: &[TypedSign],
     state: &mut RunState<'_>,
 ) -> Result<Value, Halt>
-    ensures { Runs (charged_first (length signs.now) (expr_of x.now operand.now) (signed_by signs.now) (seen state.old)) result state.new }
+    ensures { Runs (charged_first (length signs.now) (expr_of (x.now, units.now) operand.now) (signed_by signs.now) (seen state.old)) result state.new }
 {
     ticks(signs.len(), state)?;
-    let value = expr(x, operand, state)?;
+    let value = expr(x, units, operand, state)?;
     signs_on(x.alloc, signs, value, state)
 }
 
 /// The same of an operand with signs, which are told from the outer one inwards.
-#[cycle(plain)]
-fn signed(
+#[cycle(phrases)]
+fn signed<C: UnitCalls>(
     x: &Engine<'_>,
+units: &ReadyUnits<C>,
     operand: &TypedExpr,
     signs: &[TypedSign],
     state: &mut RunState<'_>,
 ) -> Result<Value, Halt>
-    ensures { Runs (by.signs_of (setting_of x.now) signs.now (expr_of x.now operand.now) (seen state.old)) result state.new }
+    ensures { Runs (by.signs_of (setting_of (x.now, units.now)) signs.now (expr_of (x.now, units.now) operand.now) (seen state.old)) result state.new }
 {
-    prefixed(x, operand, signs, state)
+    prefixed(x, units, operand, signs, state)
 }
 
 /// What the condition of a conditional tells.
-#[cycle(plain)]
+#[cycle(phrases)]
 #[tactic(auto, unfolding(qvt_run_rules::specs::Expressions::conditional))]
-fn tested(x: &Engine<'_>, condition: &TypedExpr, state: &mut RunState<'_>) -> Result<Choice, Halt>
-    ensures { (one other : Does LateWrite Value) → Decides (rule.conditional count (expr_of x.now condition.now) (nodes.place_of (typed_expr_view condition.now)) one other (seen state.old)) one other result state.new }
+fn tested<C: UnitCalls>(x: &Engine<'_>, units: &ReadyUnits<C>, condition: &TypedExpr, state: &mut RunState<'_>) -> Result<Choice, Halt>
+    ensures { (one other : Does LateWrite Value) → Decides (rule.conditional count (expr_of (x.now, units.now) condition.now) (nodes.place_of (typed_expr_view condition.now)) one other (seen state.old)) one other result state.new }
 {
     tick(state)?;
-    let test = expr(x, condition, state)?;
+    let test = expr(x, units, condition, state)?;
     choice_by(&test, place_of(condition))
 }
 
 /// The name of a model with its steps.
-#[cycle(plain)]
+#[cycle(phrases)]
 #[tactic(auto, unfolding(qvt_run_rules::specs::Expressions::on_first))]
-fn model_steps(
+fn model_steps<C: UnitCalls>(
     x: &Engine<'_>,
+units: &ReadyUnits<C>,
     all: &[TypedStep],
     first: &Option<Ty>,
     model: u32,
     place: Place,
     state: &mut RunState<'_>,
 ) -> Result<Value, Halt>
-    ensures { Runs (rule.on_first (by.model_first (setting_of x.now) model place (all_steps all.now)) (drop 1 (steps_of x.now first.now all.now)) (seen state.old)) result state.new }
+    ensures { Runs (rule.on_first (by.model_first (setting_of (x.now, units.now)) model place (all_steps all.now)) (drop 1 (steps_of (x.now, units.now) first.now all.now)) (seen state.old)) result state.new }
 {
     let value = model_first(x.alloc, model, place, all, state)?;
-    steps_from(x, all, first, 1, value, state)
+    steps_from(x, units, all, first, 1, value, state)
 }

@@ -12,7 +12,7 @@ use Rattle.qvt_types_nodes.specs.declared.tree.TypedExpr.TheOpen.{TypedExpr-F}
 use Rattle.qvt_types_nodes.specs.declared.tree.TypedExpr.TheVariants as expressions
 use Rattle.qvt_types_nodes.specs.Tree.{TypedExprTerm, TypedStepTerm, TypedStmtTerm, TypedTargetTerm, TypedAccumulatorTerm, TypedArmTerm, TypedFilterTerm, TypedHeadTerm, TypedItemTerm, TypedLinkTerm, TypedMapTerm, TypedRangeTerm, TypedResolveTerm, TypedIfExpr}
 use Rattle.qvt_types_nodes.specs.View as view
-use Rattle.qvt_run_rules.specs.Cost.{count}
+use Rattle.qvt_run_rules.specs.Cost.{spend_of}
 use Rattle.qvt_run_rules.specs.Expressions as rule
 use Rattle.qvt_run_rules.specs.State.{State, Done, Does}
 use Rattle.qvt_meaning.specs.Nodes as nodes
@@ -20,24 +20,23 @@ use Rattle.qvt_meaning.specs.Phrases as phrase
 use Rattle.qvt_meaning.specs.Plain.{no_calls}
 use Rattle.qvt_exec_state.specs.Runs.{Runs, seen}
 use Rattle.qvt_exec_state.specs.declared.state.RunState.{RunState}
-use Rattle.qvt_exec_exprs.specs.declared.choice.Choice.{Choice}
-use Rattle.qvt_exec_exprs.specs.declared.choice.Choice.TheVariants as choice
-use Rattle.qvt_exec_exprs.specs.declared.engine.Engine.{Engine}
-use Rattle.qvt_exec_exprs.specs.Choices.{Decides, chosen_by}
-use Rattle.qvt_exec_exprs.specs.Means.{expr_of, setting_of}
+use Rattle.qvt_exec_phrases.specs.declared.choice.Choice.{Choice}
+use Rattle.qvt_exec_phrases.specs.declared.choice.Choice.TheVariants as choice
+use Rattle.qvt_exec_phrases.specs.Choices.{Decides, chosen_by}
+use Rattle.qvt_exec_phrases.specs.Means.{Scene, expr_of, setting_of}
 
 conditional_view : (c y z : Box TypedExpr Global) (at : Place) (n : Note) → view.typed_expr_view (expressions.If c y z at n) ≡ TypedIfExpr (view.typed_expr_view c.value) (view.typed_expr_view y.value) (view.typed_expr_view z.value) at n
 conditional_view c y z at n = ap view.typed_expr_view (sym (expressions.rolls-If c y z at n)) ∙ folds.fold-roll-TypedExpr TypedExprTerm TypedStepTerm TypedStmtTerm TypedTargetTerm TypedAccumulatorTerm TypedArmTerm TypedFilterTerm TypedHeadTerm TypedItemTerm TypedLinkTerm TypedMapTerm TypedRangeTerm TypedResolveTerm view.typed_expr_step view.typed_step_step view.typed_stmt_step view.typed_target_step view.typed_accumulator_step view.typed_arm_step view.typed_filter_step view.typed_head_step view.typed_item_step view.typed_link_step view.typed_map_step view.typed_range_step view.typed_resolve_step (TypedExpr-F.«TypedExpr::If» c y z at n)
 
 -- what the conditional does whose condition is k
-abbrev does : Engine → TypedExpr → TypedExpr → TypedExpr → Does LateWrite Value
-does x k y z = rule.conditional count (expr_of x k) (nodes.place_of (view.typed_expr_view k)) (expr_of x y) (expr_of x z)
+abbrev does : Scene → TypedExpr → TypedExpr → TypedExpr → Does LateWrite Value
+does x k y z = rule.conditional (spend_of x.0.limit) (expr_of x k) (nodes.place_of (view.typed_expr_view k)) (expr_of x y) (expr_of x z)
 
-is_conditional : (x : Engine) (c y z : Box TypedExpr Global) (at : Place) (n : Note) → expr_of x (expressions.If c y z at n) ≡ does x c.value y.value z.value
+is_conditional : (x : Scene) (c y z : Box TypedExpr Global) (at : Place) (n : Note) → expr_of x (expressions.If c y z at n) ≡ does x c.value y.value z.value
 unfolding expr_of phrase.expr
-is_conditional x c y z at n = ap (phrase.expr (setting_of x) no_calls None) (conditional_view c y z at n)
+is_conditional x c y z at n = ap (phrase.expr (setting_of x) x.1.calls x.0.answer.now) (conditional_view c y z at n)
 
-pub decides_if : (x : Engine) (node k : TypedExpr) (c y z : Box TypedExpr Global) (at : Place) (n : Note) (s : State LateWrite) (r : Result Choice Halt) (t : RunState) → node ≡ expressions.If c y z at n → k ≡ c.value →
+pub decides_if : (x : Scene) (node k : TypedExpr) (c y z : Box TypedExpr Global) (at : Place) (n : Note) (s : State LateWrite) (r : Result Choice Halt) (t : RunState) → node ≡ expressions.If c y z at n → k ≡ c.value →
     Decides (does x k y.value z.value s) (expr_of x y.value) (expr_of x z.value) r t → Decides (expr_of x node s) (expr_of x y.value) (expr_of x z.value) r t
 decides_if x node k c y z at n s r t is same decides =
     subst (λ (p : Does LateWrite Value). Decides (p s) (expr_of x y.value) (expr_of x z.value) r t)

@@ -1,7 +1,7 @@
 //! What the condition of a conditional tells.
 
 ghost use Rattle.std.specs.Prelude.{◌≡◌};
-ghost use Rattle.qvt_exec_exprs.specs.Choices.{choice_of};
+ghost use Rattle.qvt_exec_phrases.specs.Choices.{choice_of};
 
 use qvt_base::numbers::Place;
 use qvt_exec_state::steps::misfit;

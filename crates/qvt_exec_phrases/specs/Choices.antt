@@ -12,8 +12,8 @@ use Rattle.qvt_run_data.specs.declared.late.LateWrite.{LateWrite}
 use Rattle.qvt_run_rules.specs.State.{Does, Done, pure}
 use Rattle.qvt_exec_state.specs.Runs.{seen}
 use Rattle.qvt_exec_state.specs.declared.state.RunState.{RunState}
-use Rattle.qvt_exec_exprs.specs.declared.choice.Choice.{Choice}
-use Rattle.qvt_exec_exprs.specs.declared.choice.Choice.TheVariants as choice
+use Rattle.qvt_exec_phrases.specs.declared.choice.Choice.{Choice}
+use Rattle.qvt_exec_phrases.specs.declared.choice.Choice.TheVariants as choice
 
 -- one of two phrases, or a value in place of both
 abbrev pub chosen_by : Choice → Does LateWrite Value → Does LateWrite Value → Does LateWrite Value

@@ -11,18 +11,17 @@ use Rattle.qvt_types_steps.specs.IteratorTable.{iterator_named}
 use Rattle.qvt_meaning.specs.Phrases as phrase
 use Rattle.qvt_meaning.specs.Readings as by
 use Rattle.qvt_meaning.specs.Readings.{HeadDoes}
-use Rattle.qvt_exec_exprs.specs.Means.{exprs_of, setting_of}
-use Rattle.qvt_exec_exprs.specs.declared.engine.Engine.{Engine}
+use Rattle.qvt_exec_phrases.specs.Means.{Scene, exprs_of, setting_of}
 
 -- several arguments are no body
-pub no_body : (x : Engine) (i : IteratorKind) (h : HeadDoes LateWrite) (es : List TypedExpr) (at : Place) (v : Value) → 2 ≤ length es → by.iterator_step (setting_of x) i h (exprs_of x es) at v ≡ misfit at
+pub no_body : (x : Scene) (i : IteratorKind) (h : HeadDoes LateWrite) (es : List TypedExpr) (at : Place) (v : Value) → 2 ≤ length es → by.iterator_step (setting_of x) i h (exprs_of x es) at v ≡ misfit at
 unfolding exprs_of phrase.exprs
 no_body x i h [] at v many = absurd (omega (arith, many))
 no_body x i h (e ∷ []) at v many = absurd (omega (arith, many))
 no_body x i h (e ∷ f ∷ es) at v many = refl
 
 -- nor does an iterator take them
-pub arrow_misfits : (x : Engine) (name : List ℕ) (i : IteratorKind) (h : HeadDoes LateWrite) (es : List TypedExpr) (c : Option ℕ) (at : Place) (v : Value) → is_selection name ≡ false → iterator_named name ≡ Some i → 2 ≤ length es →
+pub arrow_misfits : (x : Scene) (name : List ℕ) (i : IteratorKind) (h : HeadDoes LateWrite) (es : List TypedExpr) (c : Option ℕ) (at : Place) (v : Value) → is_selection name ≡ false → iterator_named name ≡ Some i → 2 ≤ length es →
     by.arrow_on (setting_of x) name h (exprs_of x es) c at v ≡ misfit at
 arrow_misfits x name i h es c at v other is many =
     ap (λ (b : Bool). if b then by.selection_by (setting_of x) name c at v else by.named_step (setting_of x) (iterator_named name) name h (exprs_of x es) at v) other

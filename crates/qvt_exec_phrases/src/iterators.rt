@@ -8,8 +8,8 @@ ghost use Rattle.qvt_meaning.specs.Readings as by;
 ghost use Rattle.qvt_exec_state.specs.Runs.{Runs, seen};
 ghost use Rattle.qvt_exec_loops.specs.Laws.{by_turns};
 ghost use Rattle.qvt_exec_loops.specs.Turns.{rest_of};
-ghost use Rattle.qvt_exec_exprs.specs.Loops.{iterate_once, iterated_from, named_alone};
-ghost use Rattle.qvt_exec_exprs.specs.Means.{expr_of, setting_of};
+ghost use Rattle.qvt_exec_phrases.specs.Loops.{iterate_once, iterated_from, named_alone};
+ghost use Rattle.qvt_exec_phrases.specs.Means.{expr_of, setting_of};
 
 use crate::engine::Engine;
 use crate::exprs::expr;
@@ -26,40 +26,42 @@ use qvt_types_steps::iterators::IteratorKind;
 use qvt_value::value::Value;
 
 /// The body for an item.
-#[cycle(plain)]
+#[cycle(phrases)]
 #[tactic(auto, unfolding(qvt_run_rules::specs::Iterators::for_item, qvt_run_rules::specs::Locals::with_locals))]
-fn for_item(
+fn for_item<C: UnitCalls>(
     x: &Engine<'_>,
+units: &ReadyUnits<C>,
     body: &TypedExpr,
     it: Iteration<'_>,
     item: &Value,
     state: &mut RunState<'_>,
 ) -> Result<Value, Halt>
-    ensures { Runs (each.for_item (option_copied it.entry.name) (expr_of x.now body.now) item.now (seen state.old)) result state.new }
+    ensures { Runs (each.for_item (option_copied it.entry.name) (expr_of (x.now, units.now) body.now) item.now (seen state.old)) result state.new }
 {
     let depth = state.locals.len();
     let value = item.copy(x.alloc)?;
     bind(x.alloc, state, it.name, value)?;
-    let given = expr(x, body, state);
+    let given = expr(x, units, body, state);
     state.locals.truncate(depth);
     given
 }
 
 /// The items that are left, in their order.
-#[cycle(plain)]
-fn each_of(
+#[cycle(phrases)]
+fn each_of<C: UnitCalls>(
     x: &Engine<'_>,
+units: &ReadyUnits<C>,
     body: &TypedExpr,
     it: Iteration<'_>,
     first: Turns,
     items: &[Value],
     state: &mut RunState<'_>,
 ) -> Result<Value, Halt>
-    ensures { Runs (rest_of it.entry.place (each.for_item (option_copied it.entry.name) (expr_of x.now body.now)) first items.now (seen state.old)) result state.new }
+    ensures { Runs (rest_of it.entry.place (each.for_item (option_copied it.entry.name) (expr_of (x.now, units.now) body.now)) first items.now (seen state.old)) result state.new }
 {
     let mut turns = first;
     for item in items {
-        let given = for_item(x, body, it, item, state)?;
+        let given = for_item(x, units, body, it, item, state)?;
         if let Some(value) = turns.take(x.alloc, it.place, item, given)? {
             return Ok(value);
         }
@@ -68,10 +70,11 @@ fn each_of(
 }
 
 /// The body of `iterate` for an item and what there is so far.
-#[cycle(plain)]
+#[cycle(phrases)]
 #[tactic(auto, unfolding(qvt_run_rules::specs::Locals::with_locals))]
-fn iterate_item(
+fn iterate_item<C: UnitCalls>(
     x: &Engine<'_>,
+units: &ReadyUnits<C>,
     body: &TypedExpr,
     it: Iteration<'_>,
     accumulator: &Text,
@@ -79,21 +82,22 @@ fn iterate_item(
     item: &Value,
     state: &mut RunState<'_>,
 ) -> Result<Value, Halt>
-    ensures { Runs (iterate_once (option_copied it.entry.name) accumulator.now (expr_of x.now body.now) so_far item.now (seen state.old)) result state.new }
+    ensures { Runs (iterate_once (option_copied it.entry.name) accumulator.now (expr_of (x.now, units.now) body.now) so_far item.now (seen state.old)) result state.new }
 {
     let depth = state.locals.len();
     let value = item.copy(x.alloc)?;
     bind(x.alloc, state, it.name, value)?;
     bind_named(x.alloc, state, accumulator, so_far)?;
-    let given = expr(x, body, state);
+    let given = expr(x, units, body, state);
     state.locals.truncate(depth);
     given
 }
 
 /// The turns of `iterate`.
-#[cycle(plain)]
-fn iterate_from(
+#[cycle(phrases)]
+fn iterate_from<C: UnitCalls>(
     x: &Engine<'_>,
+units: &ReadyUnits<C>,
     body: &TypedExpr,
     it: Iteration<'_>,
     accumulator: &Text,
@@ -101,11 +105,11 @@ fn iterate_from(
     items: &[Value],
     state: &mut RunState<'_>,
 ) -> Result<Value, Halt>
-    ensures { Runs (each.iterate_from (option_copied it.entry.name) accumulator.now (expr_of x.now body.now) first items.now (seen state.old)) result state.new }
+    ensures { Runs (each.iterate_from (option_copied it.entry.name) accumulator.now (expr_of (x.now, units.now) body.now) first items.now (seen state.old)) result state.new }
 {
     let mut so_far = first;
     for item in items {
-        so_far = iterate_item(x, body, it, accumulator, so_far, item, state)?;
+        so_far = iterate_item(x, units, body, it, accumulator, so_far, item, state)?;
         if is_invalid(&so_far) {
             return Ok(so_far);
         }
@@ -114,10 +118,11 @@ fn iterate_from(
 }
 
 /// `iterate`, whose first value was evaluated whatever the source is.
-#[cycle(plain)]
+#[cycle(phrases)]
 #[tactic(auto, using(crate::proofs::Over::over_coll))]
-pub fn iterate(
+pub fn iterate<C: UnitCalls>(
     x: &Engine<'_>,
+units: &ReadyUnits<C>,
     body: &TypedExpr,
     it: Iteration<'_>,
     accumulator: &Text,
@@ -125,14 +130,14 @@ pub fn iterate(
     value: Value,
     state: &mut RunState<'_>,
 ) -> Result<Value, Halt>
-    ensures { Runs (iterated_from it.entry.place (option_copied it.entry.name) accumulator.now (expr_of x.now body.now) first value (seen state.old)) result state.new }
+    ensures { Runs (iterated_from it.entry.place (option_copied it.entry.name) accumulator.now (expr_of (x.now, units.now) body.now) first value (seen state.old)) result state.new }
 {
     match &value {
         Value::Coll(_, items) => {
             if is_invalid(&first) {
                 Ok(first)
             } else {
-                iterate_from(x, body, it, accumulator, first, items.as_slice(), state)
+                iterate_from(x, units, body, it, accumulator, first, items.as_slice(), state)
             }
         }
         Value::Invalid(reason, cause) => Ok(Value::Invalid(*reason, *cause)),
@@ -141,22 +146,23 @@ pub fn iterate(
 }
 
 /// An iterator over the items of its source in order.
-#[cycle(plain)]
+#[cycle(phrases)]
 #[tactic(auto, using(crate::proofs::Over::over_coll))]
-fn iterated(
+fn iterated<C: UnitCalls>(
     x: &Engine<'_>,
+units: &ReadyUnits<C>,
     body: &TypedExpr,
     which: IteratorKind,
     it: Iteration<'_>,
     value: Value,
     state: &mut RunState<'_>,
 ) -> Result<Value, Halt>
-    ensures { Runs (each.iterated count it.entry.place (option_copied it.entry.name) (expr_of x.now body.now) (by_turns which it.entry.place (each.for_item (option_copied it.entry.name) (expr_of x.now body.now))) value (seen state.old)) result state.new }
+    ensures { Runs (each.iterated count it.entry.place (option_copied it.entry.name) (expr_of (x.now, units.now) body.now) (by_turns which it.entry.place (each.for_item (option_copied it.entry.name) (expr_of (x.now, units.now) body.now))) value (seen state.old)) result state.new }
 {
     tick(state)?;
     match &value {
         Value::Coll(kind, items) => match Turns::start(x.alloc, which, *kind) {
-            Some(turns) => each_of(x, body, it, turns, items.as_slice(), state),
+            Some(turns) => each_of(x, units, body, it, turns, items.as_slice(), state),
             None => misfit(it.place),
         },
         Value::Invalid(reason, cause) => Ok(Value::Invalid(*reason, *cause)),
@@ -165,20 +171,21 @@ fn iterated(
 }
 
 /// An iterator without an accumulator. No plain expression has a closure, which need not end.
-#[cycle(plain)]
-pub fn iterator(
+#[cycle(phrases)]
+pub fn iterator<C: UnitCalls>(
     x: &Engine<'_>,
+units: &ReadyUnits<C>,
     body: &TypedExpr,
     which: IteratorKind,
     it: Iteration<'_>,
     value: Value,
     state: &mut RunState<'_>,
 ) -> Result<Value, Halt>
-    ensures { Runs (by.iterator_by (setting_of x.now) which (named_alone (option_copied it.entry.name)) (expr_of x.now body.now) it.entry.place value (seen state.old)) result state.new }
+    ensures { Runs (by.iterator_by (setting_of (x.now, units.now)) which (named_alone (option_copied it.entry.name)) (expr_of (x.now, units.now) body.now) it.entry.place value (seen state.old)) result state.new }
 {
     match which {
         IteratorKind::Closure => misfit(it.place),
         IteratorKind::Iterate => misfit(it.place),
-        _ => iterated(x, body, which, it, value, state),
+        _ => iterated(x, units, body, which, it, value, state),
     }
 }
