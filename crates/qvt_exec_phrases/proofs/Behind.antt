@@ -11,7 +11,7 @@ use Rattle.qvt_exec_state.specs.Runs.{Runs, seen}
 use Rattle.qvt_exec_state.specs.declared.state.RunState.{RunState}
 use Rattle.qvt_exec_types.specs.Post as post
 use Rattle.qvt_exec_types.specs.Post.{Post}
-use Rattle.qvt_exec_phrases.proofs.Ends.{ends}
+use Rattle.qvt_exec_leaves.proofs.Ends.{ends}
 use Rattle.qvt_types_data.specs.declared.ty.Ty.{Ty}
 use Rattle.qvt_types_nodes.specs.declared.tree.TypedStep.{TypedStep}
 use Rattle.qvt_types_nodes.specs.View.{typed_step_view}

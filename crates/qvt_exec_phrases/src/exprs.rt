@@ -6,7 +6,7 @@ ghost use Rattle.qvt_run_data.specs.declared.late.LateWrite.{LateWrite};
 ghost use Rattle.qvt_types_nodes.specs.View.{typed_expr_view};
 ghost use Rattle.qvt_meaning.specs.Nodes as nodes;
 ghost use Rattle.qvt_meaning.specs.Readings as by;
-ghost use Rattle.qvt_run_rules.specs.Cost.{count};
+ghost use Rattle.qvt_run_rules.specs.Cost.{spend_of};
 ghost use Rattle.qvt_run_rules.specs.State.{Does};
 ghost use Rattle.qvt_run_rules.specs.Expressions as rule;
 ghost use Rattle.qvt_exec_state.specs.Runs.{Runs, seen};
@@ -41,17 +41,19 @@ use qvt_value::value::{Kind, Value, Values};
 #[cycle(phrases)]
 #[tactic(auto, unfolding(crate::specs::Means::expr_of, crate::specs::Means::items_of, crate::specs::Means::links_of, crate::specs::Means::steps_of, qvt_meaning::specs::Phrases::expr, qvt_meaning::specs::Phrases::map_alone, qvt_run_rules::specs::Expressions::on_first))]
 pub fn expr<C: UnitCalls>(x: &Engine<'_>, units: &ReadyUnits<C>, node: &TypedExpr, state: &mut RunState<'_>) -> Result<Value, Halt>
-    ensures { Runs (expr_of (x.now, units.now) node.now (seen state.old)) result state.new }
+    ensures { Runs (expr_of (x.now, C.means units.now) node.now (seen state.old)) result state.new }
 {
     match node {
-        TypedExpr::Int { value, .. } => literal(Value::Int(*value), state),
-        TypedExpr::Str { value, .. } => string(x.alloc, value, state),
-        TypedExpr::Bool { value, .. } => literal(Value::Bool(*value), state),
-        TypedExpr::Null { .. } => literal(Value::Null, state),
-        TypedExpr::SelfRef { place, .. } => variable(x.alloc, SELF_NAME, *place, state),
-        TypedExpr::ResultRef { place, .. } => variable(x.alloc, RESULT_NAME, *place, state),
-        TypedExpr::Path(path) => named(x.alloc, path, state),
-        TypedExpr::Call { place, .. } => misfit(*place),
+        TypedExpr::Int { value, .. } => literal(x.limit, Value::Int(*value), state),
+        TypedExpr::Str { value, .. } => string(x.alloc, x.limit, value, state),
+        TypedExpr::Bool { value, .. } => literal(x.limit, Value::Bool(*value), state),
+        TypedExpr::Null { .. } => literal(x.limit, Value::Null, state),
+        TypedExpr::SelfRef { place, .. } => variable(x.alloc, x.limit, SELF_NAME, *place, state),
+        TypedExpr::ResultRef { place, .. } => variable(x.alloc, x.limit, RESULT_NAME, *place, state),
+        TypedExpr::Path(path) => named(x.alloc, x.limit, path, state),
+        TypedExpr::Call { args, place, note, .. } => {
+            call_alone(x, units, args.as_slice(), note, false, *place, state)
+        }
         TypedExpr::Coll {
             kind,
             items,
@@ -68,10 +70,14 @@ pub fn expr<C: UnitCalls>(x: &Engine<'_>, units: &ReadyUnits<C>, node: &TypedExp
             Choice::No => expr(x, units, no, state),
             Choice::Given(value) => Ok(value),
         },
-        TypedExpr::Object { place, .. } => misfit(*place),
-        TypedExpr::New { place, .. } => misfit(*place),
-        TypedExpr::Map(call) => misfit(call.place),
-        TypedExpr::Resolve(call) => misfit(call.place),
+        TypedExpr::Object { variable, body, place, note, .. } => {
+            object_barred(x, units, body.as_slice(), variable, note, *place, state)
+        }
+        TypedExpr::New { args, place, note, .. } => {
+            new_by(x, units, args.as_slice(), &note.reading, *place, state)
+        }
+        TypedExpr::Map(call) => map_alone(x, units, call, state),
+        TypedExpr::Resolve(call) => resolve_alone(x, units, call, state),
         TypedExpr::Chain { first, rest, .. } => {
             let value = expr(x, units, first, state)?;
             links(x, units, rest.as_slice(), value, state)
@@ -82,16 +88,7 @@ pub fn expr<C: UnitCalls>(x: &Engine<'_>, units: &ReadyUnits<C>, node: &TypedExp
             steps,
             place,
             ..
-        } => match model_named(first) {
-            None => {
-                let value = expr(x, units, first, state)?;
-                steps_from(x, units, steps.as_slice(), &note_of(first).answer, 0, value, state)
-            }
-            Some(model) => {
-                let ty = &note_of(first).answer;
-                model_steps(x, units, steps.as_slice(), ty, model, *place, state)
-            }
-        },
+        } => post(x, units, first, steps.as_slice(), steps.as_slice(), *place, state),
     }
 }
 
@@ -99,7 +96,7 @@ pub fn expr<C: UnitCalls>(x: &Engine<'_>, units: &ReadyUnits<C>, node: &TypedExp
 #[cycle(phrases)]
 #[tactic(auto, unfolding(crate::specs::Means::exprs_of, crate::specs::Means::expr_of, qvt_meaning::specs::Phrases::exprs))]
 pub fn values<C: UnitCalls>(x: &Engine<'_>, units: &ReadyUnits<C>, nodes: &[TypedExpr], state: &mut RunState<'_>) -> Result<Values, Halt>
-    ensures { Runs (rule.values (exprs_of (x.now, units.now) nodes.now) (seen state.old)) result state.new }
+    ensures { Runs (rule.values (exprs_of (x.now, C.means units.now) nodes.now) (seen state.old)) result state.new }
 {
     let mut done = Seq::new(x.alloc);
     for node in nodes {
@@ -114,12 +111,12 @@ pub fn values<C: UnitCalls>(x: &Engine<'_>, units: &ReadyUnits<C>, nodes: &[Type
 #[tactic(auto, unfolding(crate::specs::Means::item_of, crate::specs::Means::expr_of, qvt_meaning::specs::Phrases::item, qvt_meaning::specs::Phrases::item_to, qvt_run_rules::specs::Expressions::item, qvt_run_rules::specs::Expressions::range))]
 fn item<C: UnitCalls>(
     x: &Engine<'_>,
-units: &ReadyUnits<C>,
+    units: &ReadyUnits<C>,
     node: &TypedItem,
     gathered: &mut Gathered,
     state: &mut RunState<'_>,
 ) -> Result<(), Halt>
-    ensures { Gathers (item_of (x.now, units.now) node.now (seen state.old)) gathered.old gathered.new result state.new }
+    ensures { Gathers (item_of (x.now, C.means units.now) node.now (seen state.old)) gathered.old gathered.new result state.new }
 {
     let first = expr(x, units, &node.first, state)?;
     match &node.last {
@@ -136,15 +133,15 @@ units: &ReadyUnits<C>,
 #[tactic(auto, unfolding(qvt_run_rules::specs::Expressions::collected))]
 fn collection<C: UnitCalls>(
     x: &Engine<'_>,
-units: &ReadyUnits<C>,
+    units: &ReadyUnits<C>,
     nodes: &[TypedItem],
     kind: Kind,
     place: Place,
     state: &mut RunState<'_>,
 ) -> Result<Value, Halt>
-    ensures { Runs (rule.collected count kind (items_of (x.now, units.now) nodes.now) place (seen state.old)) result state.new }
+    ensures { Runs (rule.collected (spend_of x.now.limit) kind (items_of (x.now, C.means units.now) nodes.now) place (seen state.old)) result state.new }
 {
-    tick(state)?;
+    tick(x.limit, state)?;
     collected(x, units, nodes, kind, place, state)
 }
 
@@ -153,13 +150,13 @@ units: &ReadyUnits<C>,
 #[tactic(auto, using(crate::proofs::Lists::gathering_none))]
 fn collected<C: UnitCalls>(
     x: &Engine<'_>,
-units: &ReadyUnits<C>,
+    units: &ReadyUnits<C>,
     nodes: &[TypedItem],
     kind: Kind,
     place: Place,
     state: &mut RunState<'_>,
 ) -> Result<Value, Halt>
-    ensures { Runs (gathered_in kind (items_of (x.now, units.now) nodes.now) place (seen state.old)) result state.new }
+    ensures { Runs (gathered_in kind (items_of (x.now, C.means units.now) nodes.now) place (seen state.old)) result state.new }
 {
     let mut gathered = Gathered::new(x.alloc, kind);
     for node in nodes {
@@ -173,14 +170,14 @@ units: &ReadyUnits<C>,
 #[tactic(auto, unfolding(crate::specs::Means::link_of, crate::specs::Means::expr_of, qvt_meaning::specs::Phrases::link, qvt_run_rules::specs::Expressions::operated, qvt_run_rules::specs::Expressions::logical))]
 fn link<C: UnitCalls>(
     x: &Engine<'_>,
-units: &ReadyUnits<C>,
+    units: &ReadyUnits<C>,
     node: &TypedLink,
     left: Value,
     state: &mut RunState<'_>,
 ) -> Result<Value, Halt>
-    ensures { Runs (link_of (x.now, units.now) node.now left (seen state.old)) result state.new }
+    ensures { Runs (link_of (x.now, C.means units.now) node.now left (seen state.old)) result state.new }
 {
-    tick(state)?;
+    tick(x.limit, state)?;
     match operation_of(node.op) {
         Some(op) => {
             let args = [expr(x, units, &node.operand, state)?];
@@ -201,12 +198,12 @@ units: &ReadyUnits<C>,
 #[tactic(auto, unfolding(crate::specs::Means::links_of, crate::specs::Means::link_of, qvt_meaning::specs::Phrases::links))]
 fn links<C: UnitCalls>(
     x: &Engine<'_>,
-units: &ReadyUnits<C>,
+    units: &ReadyUnits<C>,
     nodes: &[TypedLink],
     left: Value,
     state: &mut RunState<'_>,
 ) -> Result<Value, Halt>
-    ensures { Runs (rule.along left (links_of (x.now, units.now) nodes.now) (seen state.old)) result state.new }
+    ensures { Runs (rule.along left (links_of (x.now, C.means units.now) nodes.now) (seen state.old)) result state.new }
 {
     let mut value = left;
     for node in nodes {
@@ -219,14 +216,14 @@ units: &ReadyUnits<C>,
 #[cycle(phrases)]
 fn prefixed<C: UnitCalls>(
     x: &Engine<'_>,
-units: &ReadyUnits<C>,
+    units: &ReadyUnits<C>,
     operand: &TypedExpr,
     signs: &[TypedSign],
     state: &mut RunState<'_>,
 ) -> Result<Value, Halt>
-    ensures { Runs (charged_first (length signs.now) (expr_of (x.now, units.now) operand.now) (signed_by signs.now) (seen state.old)) result state.new }
+    ensures { Runs (charged_first x.now.limit (length signs.now) (expr_of (x.now, C.means units.now) operand.now) (signed_by signs.now) (seen state.old)) result state.new }
 {
-    ticks(signs.len(), state)?;
+    ticks(x.limit, signs.len(), state)?;
     let value = expr(x, units, operand, state)?;
     signs_on(x.alloc, signs, value, state)
 }
@@ -235,12 +232,12 @@ units: &ReadyUnits<C>,
 #[cycle(phrases)]
 fn signed<C: UnitCalls>(
     x: &Engine<'_>,
-units: &ReadyUnits<C>,
+    units: &ReadyUnits<C>,
     operand: &TypedExpr,
     signs: &[TypedSign],
     state: &mut RunState<'_>,
 ) -> Result<Value, Halt>
-    ensures { Runs (by.signs_of (setting_of (x.now, units.now)) signs.now (expr_of (x.now, units.now) operand.now) (seen state.old)) result state.new }
+    ensures { Runs (by.signs_of (setting_of (x.now, C.means units.now)) signs.now (expr_of (x.now, C.means units.now) operand.now) (seen state.old)) result state.new }
 {
     prefixed(x, units, operand, signs, state)
 }
@@ -249,11 +246,49 @@ units: &ReadyUnits<C>,
 #[cycle(phrases)]
 #[tactic(auto, unfolding(qvt_run_rules::specs::Expressions::conditional))]
 fn tested<C: UnitCalls>(x: &Engine<'_>, units: &ReadyUnits<C>, condition: &TypedExpr, state: &mut RunState<'_>) -> Result<Choice, Halt>
-    ensures { (one other : Does LateWrite Value) → Decides (rule.conditional count (expr_of (x.now, units.now) condition.now) (nodes.place_of (typed_expr_view condition.now)) one other (seen state.old)) one other result state.new }
+    ensures { (one other : Does LateWrite Value) → Decides (rule.conditional (spend_of x.now.limit) (expr_of (x.now, C.means units.now) condition.now) (nodes.place_of (typed_expr_view condition.now)) one other (seen state.old)) one other result state.new }
 {
-    tick(state)?;
+    tick(x.limit, state)?;
     let test = expr(x, units, condition, state)?;
     choice_by(&test, place_of(condition))
+}
+
+/// A mapping on the implicit source, or without a context.
+#[cycle(phrases)]
+#[tactic(auto, unfolding(crate::specs::Means::map_alone_of, crate::specs::Means::exprs_of, qvt_meaning::specs::Phrases::map_alone))]
+fn map_alone<C: UnitCalls>(
+    x: &Engine<'_>,
+    units: &ReadyUnits<C>,
+    node: &TypedMapCall,
+    state: &mut RunState<'_>,
+) -> Result<Value, Halt>
+    ensures { Runs (map_alone_of (x.now, C.means units.now) node.now (seen state.old)) result state.new }
+{
+    call_alone(x, units, node.args.as_slice(), &node.note, node.strict, node.place, state)
+}
+
+/// A first part with some of the steps behind it, all of which are given too.
+#[cycle(phrases)]
+#[tactic(auto, unfolding(qvt_run_rules::specs::Expressions::on_first, crate::specs::Means::steps_of))]
+pub fn post<C: UnitCalls>(
+    x: &Engine<'_>,
+    units: &ReadyUnits<C>,
+    first: &TypedExpr,
+    all: &[TypedStep],
+    steps: &[TypedStep],
+    place: Place,
+    state: &mut RunState<'_>,
+) -> Result<Value, Halt>
+    ensures { Runs (by.post_of (setting_of (x.now, C.means units.now)) (nodes.model_named (typed_expr_view first.now)) place (expr_of (x.now, C.means units.now) first.now) (all_steps all.now) (steps_of (x.now, C.means units.now) (nodes.type_of (typed_expr_view first.now)) steps.now) (seen state.old)) result state.new }
+{
+    let ty = &note_of(first).answer;
+    match model_named(first) {
+        None => {
+            let value = expr(x, units, first, state)?;
+            steps_from(x, units, steps, ty, 0, value, state)
+        }
+        Some(model) => model_steps(x, units, all, steps, ty, model, place, state),
+    }
 }
 
 /// The name of a model with its steps.
@@ -261,15 +296,16 @@ fn tested<C: UnitCalls>(x: &Engine<'_>, units: &ReadyUnits<C>, condition: &Typed
 #[tactic(auto, unfolding(qvt_run_rules::specs::Expressions::on_first))]
 fn model_steps<C: UnitCalls>(
     x: &Engine<'_>,
-units: &ReadyUnits<C>,
+    units: &ReadyUnits<C>,
     all: &[TypedStep],
+    steps: &[TypedStep],
     first: &Option<Ty>,
     model: u32,
     place: Place,
     state: &mut RunState<'_>,
 ) -> Result<Value, Halt>
-    ensures { Runs (rule.on_first (by.model_first (setting_of (x.now, units.now)) model place (all_steps all.now)) (drop 1 (steps_of (x.now, units.now) first.now all.now)) (seen state.old)) result state.new }
+    ensures { Runs (rule.on_first (by.model_first (setting_of (x.now, C.means units.now)) model place (all_steps all.now)) (drop 1 (steps_of (x.now, C.means units.now) first.now steps.now)) (seen state.old)) result state.new }
 {
-    let value = model_first(x.alloc, model, place, all, state)?;
-    steps_from(x, units, all, first, 1, value, state)
+    let value = model_first(x.alloc, x.limit, model, place, all, state)?;
+    steps_from(x, units, steps, first, 1, value, state)
 }

@@ -2,7 +2,7 @@
 
 ghost use Rattle.std.specs.Prelude.{◌≡◌};
 ghost use Rattle.std.specs.Option.{option_copied};
-ghost use Rattle.qvt_run_rules.specs.Cost.{count};
+ghost use Rattle.qvt_run_rules.specs.Cost.{spend_of};
 ghost use Rattle.qvt_run_rules.specs.Iterators as each;
 ghost use Rattle.qvt_meaning.specs.Readings as by;
 ghost use Rattle.qvt_exec_state.specs.Runs.{Runs, seen};
@@ -30,13 +30,13 @@ use qvt_value::value::Value;
 #[tactic(auto, unfolding(qvt_run_rules::specs::Iterators::for_item, qvt_run_rules::specs::Locals::with_locals))]
 fn for_item<C: UnitCalls>(
     x: &Engine<'_>,
-units: &ReadyUnits<C>,
+    units: &ReadyUnits<C>,
     body: &TypedExpr,
     it: Iteration<'_>,
     item: &Value,
     state: &mut RunState<'_>,
 ) -> Result<Value, Halt>
-    ensures { Runs (each.for_item (option_copied it.entry.name) (expr_of (x.now, units.now) body.now) item.now (seen state.old)) result state.new }
+    ensures { Runs (each.for_item (option_copied it.entry.name) (expr_of (x.now, C.means units.now) body.now) item.now (seen state.old)) result state.new }
 {
     let depth = state.locals.len();
     let value = item.copy(x.alloc)?;
@@ -50,14 +50,14 @@ units: &ReadyUnits<C>,
 #[cycle(phrases)]
 fn each_of<C: UnitCalls>(
     x: &Engine<'_>,
-units: &ReadyUnits<C>,
+    units: &ReadyUnits<C>,
     body: &TypedExpr,
     it: Iteration<'_>,
     first: Turns,
     items: &[Value],
     state: &mut RunState<'_>,
 ) -> Result<Value, Halt>
-    ensures { Runs (rest_of it.entry.place (each.for_item (option_copied it.entry.name) (expr_of (x.now, units.now) body.now)) first items.now (seen state.old)) result state.new }
+    ensures { Runs (rest_of it.entry.place (each.for_item (option_copied it.entry.name) (expr_of (x.now, C.means units.now) body.now)) first items.now (seen state.old)) result state.new }
 {
     let mut turns = first;
     for item in items {
@@ -74,7 +74,7 @@ units: &ReadyUnits<C>,
 #[tactic(auto, unfolding(qvt_run_rules::specs::Locals::with_locals))]
 fn iterate_item<C: UnitCalls>(
     x: &Engine<'_>,
-units: &ReadyUnits<C>,
+    units: &ReadyUnits<C>,
     body: &TypedExpr,
     it: Iteration<'_>,
     accumulator: &Text,
@@ -82,7 +82,7 @@ units: &ReadyUnits<C>,
     item: &Value,
     state: &mut RunState<'_>,
 ) -> Result<Value, Halt>
-    ensures { Runs (iterate_once (option_copied it.entry.name) accumulator.now (expr_of (x.now, units.now) body.now) so_far item.now (seen state.old)) result state.new }
+    ensures { Runs (iterate_once (option_copied it.entry.name) accumulator.now (expr_of (x.now, C.means units.now) body.now) so_far item.now (seen state.old)) result state.new }
 {
     let depth = state.locals.len();
     let value = item.copy(x.alloc)?;
@@ -97,7 +97,7 @@ units: &ReadyUnits<C>,
 #[cycle(phrases)]
 fn iterate_from<C: UnitCalls>(
     x: &Engine<'_>,
-units: &ReadyUnits<C>,
+    units: &ReadyUnits<C>,
     body: &TypedExpr,
     it: Iteration<'_>,
     accumulator: &Text,
@@ -105,7 +105,7 @@ units: &ReadyUnits<C>,
     items: &[Value],
     state: &mut RunState<'_>,
 ) -> Result<Value, Halt>
-    ensures { Runs (each.iterate_from (option_copied it.entry.name) accumulator.now (expr_of (x.now, units.now) body.now) first items.now (seen state.old)) result state.new }
+    ensures { Runs (each.iterate_from (option_copied it.entry.name) accumulator.now (expr_of (x.now, C.means units.now) body.now) first items.now (seen state.old)) result state.new }
 {
     let mut so_far = first;
     for item in items {
@@ -119,10 +119,10 @@ units: &ReadyUnits<C>,
 
 /// `iterate`, whose first value was evaluated whatever the source is.
 #[cycle(phrases)]
-#[tactic(auto, using(crate::proofs::Over::over_coll))]
+#[tactic(auto, using(qvt_exec_leaves::proofs::Over::over_coll))]
 pub fn iterate<C: UnitCalls>(
     x: &Engine<'_>,
-units: &ReadyUnits<C>,
+    units: &ReadyUnits<C>,
     body: &TypedExpr,
     it: Iteration<'_>,
     accumulator: &Text,
@@ -130,7 +130,7 @@ units: &ReadyUnits<C>,
     value: Value,
     state: &mut RunState<'_>,
 ) -> Result<Value, Halt>
-    ensures { Runs (iterated_from it.entry.place (option_copied it.entry.name) accumulator.now (expr_of (x.now, units.now) body.now) first value (seen state.old)) result state.new }
+    ensures { Runs (iterated_from it.entry.place (option_copied it.entry.name) accumulator.now (expr_of (x.now, C.means units.now) body.now) first value (seen state.old)) result state.new }
 {
     match &value {
         Value::Coll(_, items) => {
@@ -147,19 +147,19 @@ units: &ReadyUnits<C>,
 
 /// An iterator over the items of its source in order.
 #[cycle(phrases)]
-#[tactic(auto, using(crate::proofs::Over::over_coll))]
+#[tactic(auto, using(qvt_exec_leaves::proofs::Over::over_coll))]
 fn iterated<C: UnitCalls>(
     x: &Engine<'_>,
-units: &ReadyUnits<C>,
+    units: &ReadyUnits<C>,
     body: &TypedExpr,
     which: IteratorKind,
     it: Iteration<'_>,
     value: Value,
     state: &mut RunState<'_>,
 ) -> Result<Value, Halt>
-    ensures { Runs (each.iterated count it.entry.place (option_copied it.entry.name) (expr_of (x.now, units.now) body.now) (by_turns which it.entry.place (each.for_item (option_copied it.entry.name) (expr_of (x.now, units.now) body.now))) value (seen state.old)) result state.new }
+    ensures { Runs (each.iterated (spend_of x.now.limit) it.entry.place (option_copied it.entry.name) (expr_of (x.now, C.means units.now) body.now) (by_turns which it.entry.place (each.for_item (option_copied it.entry.name) (expr_of (x.now, C.means units.now) body.now))) value (seen state.old)) result state.new }
 {
-    tick(state)?;
+    tick(x.limit, state)?;
     match &value {
         Value::Coll(kind, items) => match Turns::start(x.alloc, which, *kind) {
             Some(turns) => each_of(x, units, body, it, turns, items.as_slice(), state),
@@ -174,14 +174,14 @@ units: &ReadyUnits<C>,
 #[cycle(phrases)]
 pub fn iterator<C: UnitCalls>(
     x: &Engine<'_>,
-units: &ReadyUnits<C>,
+    units: &ReadyUnits<C>,
     body: &TypedExpr,
     which: IteratorKind,
     it: Iteration<'_>,
     value: Value,
     state: &mut RunState<'_>,
 ) -> Result<Value, Halt>
-    ensures { Runs (by.iterator_by (setting_of (x.now, units.now)) which (named_alone (option_copied it.entry.name)) (expr_of (x.now, units.now) body.now) it.entry.place value (seen state.old)) result state.new }
+    ensures { Runs (by.iterator_by (setting_of (x.now, C.means units.now)) which (named_alone (option_copied it.entry.name)) (expr_of (x.now, C.means units.now) body.now) it.entry.place value (seen state.old)) result state.new }
 {
     match which {
         IteratorKind::Closure => misfit(it.place),

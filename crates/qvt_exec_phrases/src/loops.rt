@@ -7,7 +7,7 @@ ghost use Rattle.qvt_meaning.specs.Nodes as nodes;
 ghost use Rattle.qvt_meaning.specs.Phrases as phrase;
 ghost use Rattle.qvt_types_nodes.specs.View.{typed_expr_view, typed_optional_type};
 ghost use Rattle.qvt_exec_state.specs.Runs.{Runs, seen};
-ghost use Rattle.qvt_exec_phrases.specs.Means.{block_of, expr_of, guarded_of, turns_of};
+ghost use Rattle.qvt_exec_phrases.specs.Means.{block_of, expr_of, for_each_item, guarded_of, turns_of};
 
 use crate::engine::Engine;
 use crate::exprs::expr;
@@ -37,7 +37,7 @@ fn turn<C: UnitCalls>(
     body: &[TypedStmt],
     state: &mut RunState<'_>,
 ) -> Result<bool, Halt>
-    ensures { Runs (statement.turn (expr_of (x.now, units.now) condition.now) (nodes.place_of (typed_expr_view condition.now)) (block_of (x.now, units.now) body.now) (seen state.old)) result state.new }
+    ensures { Runs (statement.turn (expr_of (x.now, C.means units.now) condition.now) (nodes.place_of (typed_expr_view condition.now)) (block_of (x.now, C.means units.now) body.now) (seen state.old)) result state.new }
 {
     if !holds(x, units, condition, state)? {
         return Ok(false);
@@ -55,7 +55,7 @@ pub fn repeat<C: UnitCalls>(
     body: &[TypedStmt],
     state: &mut RunState<'_>,
 ) -> Result<(), Halt>
-    ensures { Runs (statement.loop (turns_of x.now.limit) (expr_of (x.now, units.now) condition.now) (nodes.place_of (typed_expr_view condition.now)) (block_of (x.now, units.now) body.now) (seen state.old)) result state.new }
+    ensures { Runs (statement.loop (turns_of x.now.limit) (expr_of (x.now, C.means units.now) condition.now) (nodes.place_of (typed_expr_view condition.now)) (block_of (x.now, C.means units.now) body.now) (seen state.old)) result state.new }
 {
     for _ in 0..turns_of(x.limit) {
         if !turn(x, units, condition, body, state)? {
@@ -85,7 +85,7 @@ fn guarded<C: UnitCalls>(
     body: &[TypedStmt],
     state: &mut RunState<'_>,
 ) -> Result<(), Halt>
-    ensures { Runs (guarded_of (x.now, units.now) condition.now (block_of (x.now, units.now) body.now) (seen state.old)) result state.new }
+    ensures { Runs (guarded_of (x.now, C.means units.now) condition.now (block_of (x.now, C.means units.now) body.now) (seen state.old)) result state.new }
 {
     match condition {
         None => block(x, units, body, state),
@@ -117,7 +117,7 @@ fn for_item<C: UnitCalls>(
     item: &Value,
     state: &mut RunState<'_>,
 ) -> Result<(), Halt>
-    ensures { Runs (statement.for_item each.now.name.now each.now.of.now (guarded_of (x.now, units.now) each.now.condition.now (block_of (x.now, units.now) each.now.body.now)) item.now (seen state.old)) result state.new }
+    ensures { Runs (for_each_item (x.now, C.means units.now) each.now item.now (seen state.old)) result state.new }
 {
     let depth = state.locals.len();
     let value = item.copy(x.alloc)?;
@@ -136,7 +136,7 @@ fn each_item<C: UnitCalls>(
     items: &[Value],
     state: &mut RunState<'_>,
 ) -> Result<(), Halt>
-    ensures { Runs (statement.each_item (statement.for_item each.now.name.now each.now.of.now (guarded_of (x.now, units.now) each.now.condition.now (block_of (x.now, units.now) each.now.body.now))) items.now (seen state.old)) result state.new }
+    ensures { Runs (statement.each_item (for_each_item (x.now, C.means units.now) each.now) items.now (seen state.old)) result state.new }
 {
     for item in items {
         for_item(x, units, each, item, state)?;
@@ -157,7 +157,7 @@ pub fn for_each<C: UnitCalls>(
     body: &[TypedStmt],
     state: &mut RunState<'_>,
 ) -> Result<(), Halt>
-    ensures { Runs (statement.for_each (expr_of (x.now, units.now) source.now) (nodes.place_of (typed_expr_view source.now)) name.now (phrase.each_type (typed_optional_type kind.now) (typed_expr_view source.now)) (guarded_of (x.now, units.now) condition.now (block_of (x.now, units.now) body.now)) (seen state.old)) result state.new }
+    ensures { Runs (statement.for_each (expr_of (x.now, C.means units.now) source.now) (nodes.place_of (typed_expr_view source.now)) name.now (phrase.each_type (typed_optional_type kind.now) (typed_expr_view source.now)) (guarded_of (x.now, C.means units.now) condition.now (block_of (x.now, C.means units.now) body.now)) (seen state.old)) result state.new }
 {
     let value = expr(x, units, source, state)?;
     let value = valid(value)?;

@@ -34,7 +34,7 @@ fn body_inside<C: UnitCalls>(
     object: Oid,
     state: &mut RunState<'_>,
 ) -> Result<(), Halt>
-    ensures { Runs (inside object (block_of (x.now, units.now) body.now) (seen state.old)) result state.new }
+    ensures { Runs (inside object (block_of (x.now, C.means units.now) body.now) (seen state.old)) result state.new }
 {
     let outer = state.inner;
     state.inner = Some(object);
@@ -53,7 +53,7 @@ fn on_object<C: UnitCalls>(
     object: Oid,
     state: &mut RunState<'_>,
 ) -> Result<Value, Halt>
-    ensures { Runs (statement.on_object (block_of (x.now, units.now) body.now) object (seen state.old)) result state.new }
+    ensures { Runs (statement.on_object (block_of (x.now, C.means units.now) body.now) object (seen state.old)) result state.new }
 {
     body_inside(x, units, body, object, state)?;
     Ok(Value::Obj(object))
@@ -71,7 +71,7 @@ fn object<C: UnitCalls>(
     place: Place,
     state: &mut RunState<'_>,
 ) -> Result<Value, Halt>
-    ensures { Runs (statement.object (spend_of x.now.limit) class.0 extent (block_of (x.now, units.now) body.now) place (seen state.old)) result state.new }
+    ensures { Runs (statement.object (spend_of x.now.limit) class.0 extent (block_of (x.now, C.means units.now) body.now) place (seen state.old)) result state.new }
 {
     tick(x.limit, state)?;
     let made = new_object(class, extent, place, state)?;
@@ -91,7 +91,7 @@ fn object_in<C: UnitCalls>(
     place: Place,
     state: &mut RunState<'_>,
 ) -> Result<Value, Halt>
-    ensures { Runs (statement.object_in (spend_of x.now.limit) name.now (ty.Class class) class.0 extent (block_of (x.now, units.now) body.now) place (seen state.old)) result state.new }
+    ensures { Runs (statement.object_in (spend_of x.now.limit) name.now (ty.Class class) class.0 extent (block_of (x.now, C.means units.now) body.now) place (seen state.old)) result state.new }
 {
     tick(x.limit, state)?;
     let object = variable_object(x.alloc, name, &Ty::Class(class), class, extent, place, state)?;
@@ -109,7 +109,7 @@ pub fn object_by<C: UnitCalls>(
     place: Place,
     state: &mut RunState<'_>,
 ) -> Result<Value, Halt>
-    ensures { Runs (by.object_by (setting_of (x.now, units.now)) (by.variable_of variable.now) note.now.reading (block_of (x.now, units.now) body.now) place (seen state.old)) result state.new }
+    ensures { Runs (by.object_by (setting_of (x.now, C.means units.now)) (by.variable_of variable.now) note.now.reading (block_of (x.now, C.means units.now) body.now) place (seen state.old)) result state.new }
 {
     match &note.reading {
         Reading::Make(class, extent) => match variable_of(variable) {
@@ -131,7 +131,7 @@ pub fn object_barred<C: UnitCalls>(
     place: Place,
     state: &mut RunState<'_>,
 ) -> Result<Value, Halt>
-    ensures { Runs (barred_in x.now.is_plain place (by.object_by (setting_of (x.now, units.now)) (by.variable_of variable.now) note.now.reading (block_of (x.now, units.now) body.now) place) (seen state.old)) result state.new }
+    ensures { Runs (barred_in x.now.is_plain place (by.object_by (setting_of (x.now, C.means units.now)) (by.variable_of variable.now) note.now.reading (block_of (x.now, C.means units.now) body.now) place) (seen state.old)) result state.new }
 {
     if x.is_plain {
         return misfit(place);

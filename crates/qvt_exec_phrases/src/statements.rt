@@ -35,7 +35,7 @@ pub fn in_order<C: UnitCalls>(
     nodes: &[TypedStmt],
     state: &mut RunState<'_>,
 ) -> Result<(), Halt>
-    ensures { Runs (statement.in_order (stmts_of (x.now, units.now) nodes.now) (seen state.old)) result state.new }
+    ensures { Runs (statement.in_order (stmts_of (x.now, C.means units.now) nodes.now) (seen state.old)) result state.new }
 {
     for node in nodes {
         stmt(x, units, node, state)?;
@@ -52,7 +52,7 @@ pub fn block<C: UnitCalls>(
     nodes: &[TypedStmt],
     state: &mut RunState<'_>,
 ) -> Result<(), Halt>
-    ensures { Runs (block_of (x.now, units.now) nodes.now (seen state.old)) result state.new }
+    ensures { Runs (block_of (x.now, C.means units.now) nodes.now (seen state.old)) result state.new }
 {
     let depth = state.locals.len();
     let done = in_order(x, units, nodes, state);
@@ -69,7 +69,7 @@ fn optional<C: UnitCalls>(
     node: &Option<TypedExpr>,
     state: &mut RunState<'_>,
 ) -> Result<Value, Halt>
-    ensures { Runs (optional_of (x.now, units.now) node.now (seen state.old)) result state.new }
+    ensures { Runs (optional_of (x.now, C.means units.now) node.now (seen state.old)) result state.new }
 {
     match node {
         None => Ok(Value::Null),
@@ -89,7 +89,7 @@ fn variable<C: UnitCalls>(
     place: Place,
     state: &mut RunState<'_>,
 ) -> Result<(), Halt>
-    ensures { Runs (statement.declare name.now (phrase.variable_type (typed_optional_type kind.now) (typed_optional_expr (option_map typed_expr_view value.now))) (optional_of (x.now, units.now) value.now) (nodes.optional_place place (typed_optional_expr (option_map typed_expr_view value.now))) (seen state.old)) result state.new }
+    ensures { Runs (statement.declare name.now (phrase.variable_type (typed_optional_type kind.now) (typed_optional_expr (option_map typed_expr_view value.now))) (optional_of (x.now, C.means units.now) value.now) (nodes.optional_place place (typed_optional_expr (option_map typed_expr_view value.now))) (seen state.old)) result state.new }
 {
     let first = optional(x, units, value, state)?;
     let of = variable_type(kind, value);
@@ -105,7 +105,7 @@ fn give<C: UnitCalls>(
     node: &Option<TypedExpr>,
     state: &mut RunState<'_>,
 ) -> Result<(), Halt>
-    ensures { Runs (return_of (x.now, units.now) node.now (seen state.old)) result state.new }
+    ensures { Runs (return_of (x.now, C.means units.now) node.now (seen state.old)) result state.new }
 {
     match node {
         None => Err(Halt::Exits(Exit::Returned(None))),
@@ -125,7 +125,7 @@ fn discard<C: UnitCalls>(
     node: &TypedExpr,
     state: &mut RunState<'_>,
 ) -> Result<(), Halt>
-    ensures { Runs (statement.discard (expr_of (x.now, units.now) node.now) (seen state.old)) result state.new }
+    ensures { Runs (statement.discard (expr_of (x.now, C.means units.now) node.now) (seen state.old)) result state.new }
 {
     let _value = expr(x, units, node, state)?;
     Ok(())
@@ -139,7 +139,7 @@ pub fn holds<C: UnitCalls>(
     node: &TypedExpr,
     state: &mut RunState<'_>,
 ) -> Result<bool, Halt>
-    ensures { Runs (holds_of (x.now, units.now) node.now (seen state.old)) result state.new }
+    ensures { Runs (holds_of (x.now, C.means units.now) node.now (seen state.old)) result state.new }
 {
     let test = expr(x, units, node, state)?;
     truth(place_of(node), &test)
@@ -154,7 +154,7 @@ fn otherwise<C: UnitCalls>(
     body: &Option<TypedStmts>,
     state: &mut RunState<'_>,
 ) -> Result<(), Halt>
-    ensures { Runs (otherwise_of (x.now, units.now) body.now (seen state.old)) result state.new }
+    ensures { Runs (otherwise_of (x.now, C.means units.now) body.now (seen state.old)) result state.new }
 {
     match body {
         None => Ok(()),
@@ -171,7 +171,7 @@ fn arms<C: UnitCalls>(
     last: &Option<TypedStmts>,
     state: &mut RunState<'_>,
 ) -> Result<(), Halt>
-    ensures { Runs (arms_of (x.now, units.now) nodes.now (otherwise_of (x.now, units.now) last.now) (seen state.old)) result state.new }
+    ensures { Runs (arms_of (x.now, C.means units.now) nodes.now (otherwise_of (x.now, C.means units.now) last.now) (seen state.old)) result state.new }
 {
     for node in nodes {
         if holds(x, units, &node.condition, state)? {
@@ -193,7 +193,7 @@ fn branch<C: UnitCalls>(
     last: &Option<TypedStmts>,
     state: &mut RunState<'_>,
 ) -> Result<(), Halt>
-    ensures { Runs (statement.branch (expr_of (x.now, units.now) condition.now) (nodes.place_of (typed_expr_view condition.now)) (block_of (x.now, units.now) body.now) (arms_of (x.now, units.now) more.now (otherwise_of (x.now, units.now) last.now)) (seen state.old)) result state.new }
+    ensures { Runs (statement.branch (expr_of (x.now, C.means units.now) condition.now) (nodes.place_of (typed_expr_view condition.now)) (block_of (x.now, C.means units.now) body.now) (arms_of (x.now, C.means units.now) more.now (otherwise_of (x.now, C.means units.now) last.now)) (seen state.old)) result state.new }
 {
     if holds(x, units, condition, state)? {
         return block(x, units, body, state);
@@ -210,7 +210,7 @@ fn behind_unit<C: UnitCalls>(
     node: &TypedStmt,
     state: &mut RunState<'_>,
 ) -> Result<(), Halt>
-    ensures { Runs (does_of (x.now, units.now) (typed_stmt_view node.now) (seen state.old)) result state.new }
+    ensures { Runs (does_of (x.now, C.means units.now) (typed_stmt_view node.now) (seen state.old)) result state.new }
 {
     match node {
         TypedStmt::Var { name, kind, value, place, .. } => variable(x, units, name, kind, value, *place, state),
@@ -232,7 +232,7 @@ fn stmt<C: UnitCalls>(
     node: &TypedStmt,
     state: &mut RunState<'_>,
 ) -> Result<(), Halt>
-    ensures { Runs (stmt_of (x.now, units.now) node.now (seen state.old)) result state.new }
+    ensures { Runs (stmt_of (x.now, C.means units.now) node.now (seen state.old)) result state.new }
 {
     tick(x.limit, state)?;
     behind_unit(x, units, node, state)

@@ -38,7 +38,7 @@ use qvt_value::value::Value;
 #[tactic(auto, unfolding(qvt_run_rules::specs::Expressions::called))]
 fn operation_by<C: UnitCalls>(
     x: &Engine<'_>,
-units: &ReadyUnits<C>,
+    units: &ReadyUnits<C>,
     args: &[TypedExpr],
     name: &Text,
     collect: bool,
@@ -46,11 +46,11 @@ units: &ReadyUnits<C>,
     value: Value,
     state: &mut RunState<'_>,
 ) -> Result<Value, Halt>
-    ensures { Runs (by.operation_by (setting_of (x.now, units.now)) (names.operation_named name.now) (exprs_of (x.now, units.now) args.now) collect place value (seen state.old)) result state.new }
+    ensures { Runs (by.operation_by (setting_of (x.now, C.means units.now)) (names.operation_named name.now) (exprs_of (x.now, C.means units.now) args.now) collect place value (seen state.old)) result state.new }
 {
     match operation_named(name.as_str()) {
         Some(op) => {
-            tick(state)?;
+            tick(x.limit, state)?;
             let given = values(x, units, args, state)?;
             called_on(x.alloc, op, collect, given.as_slice(), place, value, state)
         }
@@ -62,7 +62,7 @@ units: &ReadyUnits<C>,
 #[cycle(phrases)]
 fn operation_step<C: UnitCalls>(
     x: &Engine<'_>,
-units: &ReadyUnits<C>,
+    units: &ReadyUnits<C>,
     args: &[TypedExpr],
     name: &Text,
     collect: bool,
@@ -70,11 +70,12 @@ units: &ReadyUnits<C>,
     value: Value,
     state: &mut RunState<'_>,
 ) -> Result<Value, Halt>
-    ensures { Runs (by.operation_step (setting_of (x.now, units.now)) name.now (exprs_of (x.now, units.now) args.now) (nodes.class_argument (typed_exprs_of (map typed_expr_view args.now))) collect place value (seen state.old)) result state.new }
+    ensures { Runs (by.operation_step (setting_of (x.now, C.means units.now)) name.now (exprs_of (x.now, C.means units.now) args.now) (nodes.class_argument (typed_exprs_of (map typed_expr_view args.now))) collect place value (seen state.old)) result state.new }
 {
     match class_test_named(name.as_str()) {
         Some(test) => tested_by(
             x.alloc,
+            x.limit,
             test,
             class_argument(args),
             collect,
@@ -91,17 +92,17 @@ units: &ReadyUnits<C>,
 #[tactic(auto, using(crate::proofs::Args::no_body), unfolding(crate::specs::Means::exprs_of, crate::specs::Means::expr_of, qvt_meaning::specs::Phrases::exprs))]
 fn arrow_on<C: UnitCalls>(
     x: &Engine<'_>,
-units: &ReadyUnits<C>,
+    units: &ReadyUnits<C>,
     args: &[TypedExpr],
     name: &Text,
     it: Iteration<'_>,
     value: Value,
     state: &mut RunState<'_>,
 ) -> Result<Value, Halt>
-    ensures { Runs (by.arrow_on (setting_of (x.now, units.now)) name.now (named_alone (option_copied it.entry.name)) (exprs_of (x.now, units.now) args.now) (nodes.class_argument (typed_exprs_of (map typed_expr_view args.now))) it.entry.place value (seen state.old)) result state.new }
+    ensures { Runs (by.arrow_on (setting_of (x.now, C.means units.now)) name.now (named_alone (option_copied it.entry.name)) (exprs_of (x.now, C.means units.now) args.now) (nodes.class_argument (typed_exprs_of (map typed_expr_view args.now))) it.entry.place value (seen state.old)) result state.new }
 {
     if is_selection(name.as_str()) {
-        return selection(x.alloc, name, class_argument(args), it.place, value, state);
+        return selection(x.alloc, x.limit, name, class_argument(args), it.place, value, state);
     }
     match iterator_named(name.as_str()) {
         Some(which) => match args {
@@ -113,12 +114,33 @@ units: &ReadyUnits<C>,
     }
 }
 
+/// A mapping over all objects of its source, or on one.
+#[cycle(phrases)]
+#[tactic(auto, unfolding(crate::specs::Means::map_step_of, crate::specs::Means::exprs_of, qvt_meaning::specs::Phrases::map_step))]
+fn mapped<C: UnitCalls>(
+    x: &Engine<'_>,
+    units: &ReadyUnits<C>,
+    node: &TypedMapCall,
+    all: bool,
+    value: Value,
+    state: &mut RunState<'_>,
+) -> Result<Value, Halt>
+    ensures { Runs (map_step_of (x.now, C.means units.now) all node.now value (seen state.old)) result state.new }
+{
+    let how = Call {
+        reading: &node.note.reading,
+        strict: node.strict,
+        place: node.place,
+    };
+    map_step(x, units, node.args.as_slice(), all || node.note.collect, how, value, state)
+}
+
 /// A step of a Post.
 #[cycle(phrases)]
 #[tactic(auto, using(crate::proofs::Loops::arrow_alone, crate::proofs::Loops::iterates_on, crate::proofs::Args::no_body), unfolding(crate::specs::Means::step_of, crate::specs::Means::expr_of, crate::specs::Means::exprs_of, crate::specs::Means::head_of, qvt_meaning::specs::Phrases::step, qvt_meaning::specs::Phrases::exprs, qvt_meaning::specs::Phrases::dot_step, qvt_meaning::specs::Phrases::map_step, qvt_meaning::specs::Phrases::head, qvt_meaning::specs::Phrases::accumulator, qvt_run_rules::specs::Iterators::iterate))]
 fn step<C: UnitCalls>(
     x: &Engine<'_>,
-units: &ReadyUnits<C>,
+    units: &ReadyUnits<C>,
     node: &TypedStep,
     before: &mut Before<'_>,
     index: usize,
@@ -126,7 +148,7 @@ units: &ReadyUnits<C>,
     state: &mut RunState<'_>,
 ) -> Result<Value, Halt>
     ensures same { post_of before.new ≡ post_of before.old }
-    ensures runs { Runs (step_of (x.now, units.now) (type_at (post_of before.old) index) node.now value (seen state.old)) result state.new }
+    ensures runs { Runs (step_of (x.now, C.means units.now) (type_at (post_of before.old) index) node.now value (seen state.old)) result state.new }
 {
     match node {
         TypedStep::Dot {
@@ -135,10 +157,13 @@ units: &ReadyUnits<C>,
             place,
             note,
         } => match args {
-            None => property_by(x.alloc, note, *place, value, state),
+            None => property_by(x.alloc, x.limit, note, *place, value, state),
             Some(args) => match &note.reading {
                 Reading::Operation(_) => {
                     operation_step(x, units, args.as_slice(), name, note.collect, *place, value, state)
+                }
+                Reading::Units(_) => {
+                    unit_step(x, units, args.as_slice(), note, *place, value, state)
                 }
                 _ => misfit(*place),
             },
@@ -165,7 +190,7 @@ units: &ReadyUnits<C>,
                     Some(head) => match &head.accumulator {
                         None => misfit(*place),
                         Some(accumulator) => {
-                            tick(state)?;
+                            tick(x.limit, state)?;
                             let first = expr(x, units, &accumulator.first, state)?;
                             iterate(x, units, body, it, &accumulator.name, first, source, state)
                         }
@@ -174,10 +199,10 @@ units: &ReadyUnits<C>,
                 [_, _, ..] => misfit(*place),
             }
         }
-        TypedStep::DotMap(call) => misfit(call.place),
-        TypedStep::ArrowMap(call) => misfit(call.place),
-        TypedStep::DotResolve(call) => misfit(call.place),
-        TypedStep::ArrowResolve(call) => misfit(call.place),
+        TypedStep::DotMap(call) => mapped(x, units, call, false, value, state),
+        TypedStep::ArrowMap(call) => mapped(x, units, call, true, value, state),
+        TypedStep::DotResolve(call) => resolve_step(x, units, call, value, state),
+        TypedStep::ArrowResolve(call) => resolve_step(x, units, call, value, state),
     }
 }
 
@@ -186,14 +211,14 @@ units: &ReadyUnits<C>,
 #[tactic(auto, using(crate::proofs::Behind::steps_done))]
 pub fn steps_from<C: UnitCalls>(
     x: &Engine<'_>,
-units: &ReadyUnits<C>,
+    units: &ReadyUnits<C>,
     all: &[TypedStep],
     first: &Option<Ty>,
     from: usize,
     value: Value,
     state: &mut RunState<'_>,
 ) -> Result<Value, Halt>
-    ensures { Runs (rule.along value (drop from (steps_of (x.now, units.now) first.now all.now)) (seen state.old)) result state.new }
+    ensures { Runs (rule.along value (drop from (steps_of (x.now, C.means units.now) first.now all.now)) (seen state.old)) result state.new }
 {
     let mut before = Before::new(x.program, first, all);
     let mut value = value;
