@@ -1,14 +1,12 @@
 //! Literals, names, and properties of values.
 
-ghost use Rattle.std.specs.Prelude.{◌≡◌, ℕ};
+ghost use Rattle.std.specs.Prelude.{◌≡◌};
 ghost use Rattle.qvt_value.specs.declared.value.Value.TheVariants as value;
 ghost use Rattle.qvt_run_rules.specs.Cost.{spend_of};
 ghost use Rattle.qvt_run_rules.specs.Expressions as rule;
 ghost use Rattle.qvt_meaning.specs.Readings as by;
-ghost use Rattle.qvt_typing.specs.Accepts.{ProgramTerm};
 ghost use Rattle.qvt_exec_state.specs.Runs.{Runs, seen};
 ghost use Rattle.qvt_exec_leaves.specs.Signs.{ticks_of};
-ghost use Rattle.qvt_exec_leaves.specs.Spending.{Bars, Enters, Resolves, spending};
 
 use qvt_base::copied::Copied;
 use qvt_base::numbers::{FeatureNo, Place};
@@ -116,7 +114,7 @@ pub fn named(
     path: &TypedPathTree,
     state: &mut RunState<'_>,
 ) -> Result<Value, Halt>
-    ensures { (p : ProgramTerm) (n : ℕ) (r : Resolves) (k : Enters) (b : Bars) → Runs (by.name_of (spending limit p n r k b) path.now.note.reading path.now.note.source path.now.place (seen state.old)) result state.new }
+    ensures { Runs (by.name_of (spend_of limit) path.now.note.reading path.now.note.source path.now.place (seen state.old)) result state.new }
 {
     match &path.note.reading {
         Reading::Variable(name) => variable(alloc, limit, name.as_str(), path.place, state),

@@ -1,14 +1,12 @@
 //! Steps behind a first part that evaluate no phrase, and operations of models.
 
-ghost use Rattle.std.specs.Prelude.{◌≡◌, ℕ, Some, map};
+ghost use Rattle.std.specs.Prelude.{◌≡◌, Some, map};
 ghost use Rattle.qvt_types_nodes.specs.View.{typed_step_view, typed_steps_of};
 ghost use Rattle.qvt_run_rules.specs.Cost.{spend_of};
 ghost use Rattle.qvt_run_rules.specs.Expressions as rule;
 ghost use Rattle.qvt_meaning.specs.Readings as by;
-ghost use Rattle.qvt_typing.specs.Accepts.{ProgramTerm};
 ghost use Rattle.qvt_exec_state.specs.Runs.{Runs, seen};
 ghost use Rattle.qvt_exec_leaves.specs.Leaves.{without_items};
-ghost use Rattle.qvt_exec_leaves.specs.Spending.{Bars, Enters, Resolves, spending};
 
 use crate::dotted::{Leaf, dotted};
 use crate::nodes::class_argument;
@@ -38,7 +36,7 @@ pub fn property_by(
     value: Value,
     state: &mut RunState<'_>,
 ) -> Result<Value, Halt>
-    ensures { (p : ProgramTerm) (n : ℕ) (r : Resolves) (k : Enters) (b : Bars) → Runs (by.property_by (spending limit p n r k b) note.now.reading note.now.collect place value (seen state.old)) result state.new }
+    ensures { Runs (by.property_by (spend_of limit) note.now.reading note.now.collect place value (seen state.old)) result state.new }
 {
     match &note.reading {
         Reading::Feature(feature) => {
@@ -80,7 +78,7 @@ pub fn tested_by(
     value: Value,
     state: &mut RunState<'_>,
 ) -> Result<Value, Halt>
-    ensures { (p : ProgramTerm) (n : ℕ) (r : Resolves) (k : Enters) (b : Bars) → Runs (by.tested_by (spending limit p n r k b) (Some test) class collect place value (seen state.old)) result state.new }
+    ensures { Runs (by.tested_by (spend_of limit) (Some test) class collect place value (seen state.old)) result state.new }
 {
     match class {
         Some(class) => object_tested(
@@ -149,7 +147,7 @@ pub fn selection(
     value: Value,
     state: &mut RunState<'_>,
 ) -> Result<Value, Halt>
-    ensures { (p : ProgramTerm) (n : ℕ) (r : Resolves) (k : Enters) (b : Bars) → Runs (by.selection_by (spending limit p n r k b) name.now class place value (seen state.old)) result state.new }
+    ensures { Runs (by.selection_by (spend_of limit) name.now class place value (seen state.old)) result state.new }
 {
     match class {
         Some(class) => {
@@ -186,7 +184,7 @@ pub fn model_first(
     all: &[TypedStep],
     state: &mut RunState<'_>,
 ) -> Result<Value, Halt>
-    ensures { (p : ProgramTerm) (n : ℕ) (r : Resolves) (k : Enters) (b : Bars) → Runs (by.model_first (spending limit p n r k b) model place (typed_steps_of (map typed_step_view all.now)) (seen state.old)) result state.new }
+    ensures { Runs (by.model_first (spend_of limit) model place (typed_steps_of (map typed_step_view all.now)) (seen state.old)) result state.new }
 {
     match all {
         [
