@@ -21,6 +21,7 @@ use qvt_value::value::{LiteralRef, Reason, Value};
 use std::alloc::Global;
 
 /// So many single units.
+#[tactic(auto, using(crate::proofs::Signs::ticks_more, crate::proofs::Signs::ticks_over))]
 pub fn ticks(limit: Option<u64>, units: usize, state: &mut RunState<'_>) -> Result<(), Halt>
     ensures { Runs (ticks_of limit units (seen state.old)) result state.new }
 {

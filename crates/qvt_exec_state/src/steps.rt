@@ -59,6 +59,7 @@ fn charge(fuel: u64, units: u64, state: &mut RunState<'_>) -> Result<(), Halt>
 }
 
 /// So many units more, within the limit if there is one.
+#[tactic(auto, unfolding(qvt_run_rules::specs::Cost::spend_of))]
 pub fn spend(limit: Option<u64>, units: u64, state: &mut RunState<'_>) -> Result<(), Halt>
     ensures { Runs (spend_of limit units (seen state.old)) result state.new }
 {

@@ -13,6 +13,6 @@ unfoldable pub count : {E : Type 0} → ℕ → Does E (Unit {0})
 count n = λ s. (Ok tt, record s { cost = s.cost + n })
 
 -- within a limit, if there is one
-abbrev pub spend_of : {E : Type 0} → Option ℕ → ℕ → Does E (Unit {0})
-spend_of None n = count n
-spend_of (Some fuel) n = charge fuel n
+unfoldable pub spend_of : {E : Type 0} → Option ℕ → ℕ → Does E (Unit {0})
+spend_of None = count
+spend_of (Some fuel) = charge fuel
