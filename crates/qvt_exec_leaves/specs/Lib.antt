@@ -1,3 +1,4 @@
 pub mod Heads
 pub mod Leaves
 pub mod Signs
+pub mod Spending

@@ -1,0 +1,4 @@
+pub mod Choices
+pub mod Late
+pub mod Loops
+pub mod Means
