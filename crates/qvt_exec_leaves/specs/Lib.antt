@@ -1,4 +1,3 @@
 pub mod Heads
 pub mod Leaves
 pub mod Signs
-pub mod Spending

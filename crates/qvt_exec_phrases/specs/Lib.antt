@@ -1,4 +1,0 @@
-pub mod Choices
-pub mod Late
-pub mod Loops
-pub mod Means
