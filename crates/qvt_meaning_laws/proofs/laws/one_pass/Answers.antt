@@ -1,4 +1,7 @@
-use Rattle.qvt_meaning_laws.proofs.Parts.{on}
+use Rattle.qvt_meaning_laws.proofs.Values.{on_first}
+use Rattle.qvt_meaning_laws.proofs.Loops.{iterate}
+use Rattle.qvt_meaning_laws.proofs.Actions.{block}
+use Rattle.qvt_meaning_laws.proofs.Calling.{bound}
 use Rattle.qvt_meaning_laws.proofs.laws.one_pass.Goals as goal
 
 pub returns : goal.returns
