@@ -4,3 +4,6 @@ pub mod Values
 pub mod Loops
 pub mod Actions
 pub mod Calling
+pub mod Making
+pub mod Resolving
+pub mod Naming
