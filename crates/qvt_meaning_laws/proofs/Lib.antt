@@ -7,3 +7,4 @@ pub mod Calling
 pub mod Making
 pub mod Resolving
 pub mod Naming
+pub mod Phrasing
