@@ -8,3 +8,5 @@ pub mod Making
 pub mod Resolving
 pub mod Naming
 pub mod Phrasing
+pub mod Calls
+pub mod Alike

@@ -5,7 +5,8 @@ use Rattle.qvt_meaning_laws.proofs.Calling.{bound}
 use Rattle.qvt_meaning_laws.proofs.Making.{mapping}
 use Rattle.qvt_meaning_laws.proofs.Resolving.{late}
 use Rattle.qvt_meaning_laws.proofs.Naming.{assigned}
-use Rattle.qvt_meaning_laws.proofs.Phrasing.{of_expr}
+use Rattle.qvt_meaning_laws.proofs.Calls.{calls_to}
+use Rattle.qvt_meaning_laws.proofs.Alike.{Alike}
 use Rattle.qvt_meaning_laws.proofs.laws.one_pass.Goals as goal
 
 pub returns : goal.returns
