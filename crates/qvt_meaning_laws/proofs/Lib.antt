@@ -10,3 +10,4 @@ pub mod Naming
 pub mod Phrasing
 pub mod Calls
 pub mod Alike
+pub mod Runs
