@@ -1,5 +1,5 @@
 -- The rules of statements and of object expressions, under a closed relation.
-use Rattle.std.proofs.Common.{ℕ, Bool, true, false, cond, if◌then◌else◌, List, [], ◌∷◌, ◌++◌, Option, Some, None}
+use Rattle.std.proofs.Common.{ℕ, Bool, if◌then◌else◌, List, [], ◌∷◌, Option, Some, None}
 use Rattle.std.specs.List.{list_all}
 use Rattle.qvt_base.specs.declared.numbers.Oid.{Oid}
 use Rattle.qvt_base.specs.declared.numbers.Place.{Place}
@@ -8,7 +8,7 @@ use Rattle.qvt_types_data.specs.declared.ty.Ty.{Ty}
 use Rattle.qvt_value.specs.declared.value.Value.{Value, Null, Bool as Truth, Obj, Invalid}
 use Rattle.qvt_run_data.specs.declared.local.Local.{Local}
 use Rattle.qvt_run_data.specs.declared.exit.Exit.TheVariants.{Returned}
-use Rattle.qvt_run_rules.specs.State.{Does, ◌>>=◌, ◌>>◌, pure}
+use Rattle.qvt_run_rules.specs.State.{Does}
 use Rattle.qvt_run_rules.specs.Typed.{has_asked}
 use Rattle.qvt_run_rules.specs.Locals.{local}
 use Rattle.qvt_run_rules.specs.Sources.{items_of}

@@ -1,6 +1,6 @@
 -- What two phrases do is alike where one does what the other does, but for the entries: each is made of one of the other's. So it is of all
 -- phrases over settings that keep alike entries, for no rule reads an entry.
-use Rattle.std.proofs.Common.{◌≡◌, ◌∙◌, ℕ, zero, suc, ◌+◌, Bool, true, false, nat_lt, cond, if◌then◌else◌, refl, sym, ap, List, [], ◌∷◌, ◌++◌, map, length, Option, Some, None, Result, Ok, Err}
+use Rattle.std.proofs.Common.{◌≡◌, ◌∙◌, ℕ, zero, suc, ◌+◌, Bool, true, false, nat_lt, if◌then◌else◌, refl, sym, ap, List, [], ◌∷◌, ◌++◌, map, length, Option, Some, None, Result, Ok, Err}
 use Rattle.std.proofs.lemmas.List.{map-append}
 use Rattle.qvt_base.specs.declared.numbers.Oid.{Oid}
 use Rattle.qvt_base.specs.declared.numbers.Place.{Place}
@@ -17,8 +17,7 @@ use Rattle.qvt_run_data.specs.declared.exit.Exit.TheVariants.{Returned, Ends}
 use Rattle.qvt_run_data.specs.declared.late.LateWrite.{LateWrite}
 use Rattle.qvt_run_data.specs.declared.local.Local.{Local}
 use Rattle.qvt_run_data.specs.declared.record.Key.{Key}
-use Rattle.qvt_run_data.specs.declared.request.Query.{Query}
-use Rattle.qvt_run_rules.specs.State.{State, Done, Does, on_outcome, ◌>>=◌, ◌>>◌, pure, exits, ask, misfit, caught_in, caught}
+use Rattle.qvt_run_rules.specs.State.{State, Done, Does, on_outcome, ◌>>=◌, ◌>>◌, pure, ask, misfit, caught_in, caught}
 use Rattle.qvt_run_rules.specs.Cost.{charge}
 use Rattle.qvt_run_rules.specs.Locals.{push, scoped, with_locals, inside, cut, out_of, under, begun, own_in, in_frame, in_own}
 use Rattle.qvt_run_rules.specs.Store.{made_one, is_class_for, new_object, are_fit, changed, written, op_of, slot_items, put}
@@ -31,7 +30,6 @@ use Rattle.qvt_run_rules.specs.Mappings as of
 use Rattle.qvt_run_rules.specs.Mappings.{Begun, Known, Ended, New, note, once, with_key}
 use Rattle.qvt_run_rules.specs.Resolve.{Answer, Found, Objects, Undefined, Stopped, answer_value, answered_now, late_write}
 use Rattle.qvt_meaning.specs.Plain.{answer, state_of}
-use Rattle.qvt_meaning.specs.Readings.{Setting}
 use Rattle.qvt_meaning.specs.Run.{entered, setting, main_in, main_run}
 use Rattle.qvt_meaning_laws.proofs.Closed.{Closed}
 use Rattle.qvt_meaning_laws.proofs.Actions.{block}
@@ -174,9 +172,9 @@ module _ {E F : Type 0} (g : E → F) where
   unfolding once
   onces k at p q e =
       let inner : Alike Begun (with_key k (p >>= of.noted k)) (with_key k (q >>= of.noted k))
-          = keys Begun k (p >>= of.noted k) (q >>= of.noted k) (binds Begun Begun p q (of.noted k) (of.noted k) e (λ z. noted k z.0 z)) in
+      = keys Begun k (p >>= of.noted k) (q >>= of.noted k) (binds Begun Begun p q (of.noted k) (of.noted k) e (λ z. noted k z.0 z)) in
       let free : Alike Begun (ask (λ s. has_key s.keys k) >>= (λ b. of.unless_open b at (with_key k (p >>= of.noted k)))) (ask (λ s. has_key s.keys k) >>= (λ b. of.unless_open b at (with_key k (q >>= of.noted k))))
-          = λ s. unless_open (has_key s.keys k) at _ _ inner s in
+      = λ s. unless_open (has_key s.keys k) at _ _ inner s in
       λ s. unless_known (result_for k s.trace) _ _ free s
 
   -- Loops.

@@ -6,14 +6,14 @@ use Rattle.qvt_value.specs.declared.value.Value.{Value, Obj}
 use Rattle.qvt_run_data.specs.declared.callee.Callee.{Callee}
 use Rattle.qvt_run_data.specs.declared.callee.Callee.TheVariants.{ConstructorCall}
 use Rattle.qvt_run_data.specs.declared.local.Local.{Local}
-use Rattle.qvt_run_rules.specs.State.{Does, ◌>>=◌, ◌>>◌, pure, found}
+use Rattle.qvt_run_rules.specs.State.{Does}
 use Rattle.qvt_run_rules.specs.Locals.{self_name, result_name, fixed}
 use Rattle.qvt_run_rules.specs.Sources.{objects_in}
 use Rattle.qvt_run_rules.specs.Calls as call
 use Rattle.qvt_run_rules.specs.Calls.{Calls, Param, Routine}
 use Rattle.qvt_meaning.specs.Readings.{Setting}
 use Rattle.qvt_meaning_laws.proofs.Closed.{Relation, Closed, Each, none, more}
-use Rattle.qvt_meaning_laws.proofs.Parts.{on, after, ticks, stops, misfits, finds, valids, presents, objects, askeds, reads, collects}
+use Rattle.qvt_meaning_laws.proofs.Parts.{on, after, ticks, misfits, finds, valids, presents, objects, askeds, reads, collects}
 
 module _ {E F : Type 0} {R : Relation E F} {x : Setting E} {y : Setting F} (c : Closed E F R x y) where
   -- What a unit begins with.

@@ -1,14 +1,12 @@
 -- A closed relation holds of every call, over settings of one program.
-use Rattle.std.proofs.Common.{ℕ, zero, suc, Bool, List, Option, Some, None}
-use Rattle.qvt_base.specs.declared.numbers.Place.{Place}
+use Rattle.std.proofs.Common.{ℕ, zero, suc, Bool, Option, Some, None}
 use Rattle.qvt_types_data.specs.declared.ty.Ty.{Ty}
-use Rattle.qvt_types_nodes.specs.Tree.{TypedExprTerm, TypedOptionalExpr, TypedNoExpr, TypedSomeExpr, TypedStmtTerms}
+use Rattle.qvt_types_nodes.specs.Tree.{TypedOptionalExpr, TypedNoExpr, TypedSomeExpr, TypedStmtTerms}
 use Rattle.qvt_types_nodes.specs.Module.{TypedMappingTerm, TypedUnitTerm, TypedHelperOf, TypedConstructorOf, TypedMappingOf}
 use Rattle.qvt_types_units.specs.declared.signature.Signature.{Signature}
 use Rattle.qvt_types_units.specs.Numbers.{has_context}
 use Rattle.qvt_typing.specs.Accepts.{ProgramTerm}
 use Rattle.qvt_value.specs.declared.value.Value.{Value}
-use Rattle.qvt_run_data.specs.declared.callee.Callee.{Callee}
 use Rattle.qvt_run_data.specs.declared.callee.Callee.TheVariants.{HelperCall, ConstructorCall, MappingCall}
 use Rattle.qvt_run_rules.specs.Calls.{Calls}
 use Rattle.qvt_meaning.specs.Nodes.{place_of, mappings_named}
@@ -51,8 +49,16 @@ module _ {E F : Type 0} {R : Relation E F} {x : Setting E} {y : Setting F} (c : 
     routine_at n = routine_in (signature_of program n) (unit_term program n)
 
     mapping_rule : (n : ℕ) (u : Signature) (m : TypedMappingTerm) → Mappings c (of.mapping_rule Left d n u m) (of.mapping_rule Right d' n u m)
-    mapping_rule n u m = mappings (record { number = n; context = known_class u.context; params = of.params_of m.params u.params; result = of.result_of m.result_decl;
-        inherits = numbers (mappings_named m.inherits); merges = numbers (mappings_named m.merges); disjuncts = numbers (mappings_named m.disjuncts); place = m.place })
+    mapping_rule n u m = mappings (record {
+      number = n;
+      context = known_class u.context;
+      params = of.params_of m.params u.params;
+      result = of.result_of m.result_decl;
+      inherits = numbers (mappings_named m.inherits);
+      merges = numbers (mappings_named m.merges);
+      disjuncts = numbers (mappings_named m.disjuncts);
+      place = m.place;
+    })
         (when_of m.condition) (section m.init) (section m.population) (section m.finish)
 
     mapping_in : (n : ℕ) (u : Signature) (t : Option TypedUnitTerm) → Held (Mappings c) (of.mapping_in Left d n u t) (of.mapping_in Right d' n u t)

@@ -6,11 +6,10 @@ use Rattle.qvt_slots.specs.Contents.{Contents}
 use Rattle.qvt_value.specs.declared.value.Value.{Value}
 use Rattle.qvt_value.specs.declared.value.Kind.{Kind}
 use Rattle.qvt_run_data.specs.declared.exit.Exit.{Exit}
-use Rattle.qvt_run_data.specs.declared.late.LateWrite.{LateWrite}
 use Rattle.qvt_run_data.specs.declared.local.Local.{Local}
 use Rattle.qvt_run_data.specs.declared.record.Key.{Key}
 use Rattle.qvt_run_data.specs.declared.request.Query.{Query}
-use Rattle.qvt_run_rules.specs.State.{State, Does, ◌>>=◌, pure, exits, ask, caught}
+use Rattle.qvt_run_rules.specs.State.{Does, ◌>>=◌, pure, exits, ask, caught}
 use Rattle.qvt_run_rules.specs.Locals.{push, replace, scoped, with_locals, inside, in_frame, in_own}
 use Rattle.qvt_run_rules.specs.Store.{new_object, put}
 use Rattle.qvt_run_rules.specs.Iterators.{closure_from}

@@ -1,18 +1,18 @@
 -- The iterators, under a closed relation.
-use Rattle.std.proofs.Common.{ℕ, suc, ◌+◌, Bool, true, false, not, cond, if◌then◌else◌, List, [], ◌∷◌, ◌++◌, Option, Some, None}
+use Rattle.std.proofs.Common.{ℕ, ◌+◌, Bool, true, false, not, if◌then◌else◌, List, [], ◌∷◌, ◌++◌, Option}
 use Rattle.qvt_base.specs.declared.numbers.Place.{Place}
 use Rattle.qvt_value.specs.declared.value.Value.{Value, Null, Bool as Truth, Invalid}
 use Rattle.qvt_value.specs.declared.value.Kind.{Kind}
 use Rattle.qvt_value.specs.Limits.{built}
 use Rattle.qvt_run_data.specs.declared.keyed.Keyed.{Keyed}
-use Rattle.qvt_run_rules.specs.State.{Does, ◌>>=◌, ◌>>◌, pure, found}
+use Rattle.qvt_run_rules.specs.State.{Does, pure}
 use Rattle.qvt_run_rules.specs.Locals.{fixed, name_in}
 use Rattle.qvt_run_rules.specs.Logic.{is_true, conjunction, disjunction, if_logical}
-use Rattle.qvt_run_rules.specs.Sources.{collected_kind, as_kind, as_flat}
+use Rattle.qvt_run_rules.specs.Sources.{collected_kind}
 use Rattle.qvt_run_rules.specs.Iterators as each
 use Rattle.qvt_meaning.specs.Readings.{Setting}
 use Rattle.qvt_meaning_laws.proofs.Closed.{Relation, Closed}
-use Rattle.qvt_meaning_laws.proofs.Parts.{on, after, ticks, picks, misfits, finds, unless_invalids, over, gathers, flats}
+use Rattle.qvt_meaning_laws.proofs.Parts.{on, ticks, picks, misfits, finds, unless_invalids, over, gathers, flats}
 
 module _ {E F : Type 0} {R : Relation E F} {x : Setting E} {y : Setting F} (c : Closed E F R x y) where
   for_item : (name : Option (List ℕ)) {p : Does E Value} {q : Does F Value} (v : Value) → R Value p q → R Value (each.for_item name p v) (each.for_item name q v)

@@ -1,5 +1,5 @@
 -- The steps of a mapping call, under a closed relation.
-use Rattle.std.proofs.Common.{ℕ, Bool, true, false, cond, if◌then◌else◌, List, [], ◌∷◌, ◌++◌, Option, Some, None}
+use Rattle.std.proofs.Common.{ℕ, Bool, true, false, List, [], ◌∷◌, ◌++◌, Option, Some, None}
 use Rattle.qvt_base.specs.declared.numbers.Oid.{Oid}
 use Rattle.qvt_base.specs.declared.numbers.Place.{Place}
 use Rattle.qvt_metamodel.specs.Metamodels.{class_at}
@@ -10,7 +10,7 @@ use Rattle.qvt_run_data.specs.declared.callee.Callee.TheVariants.{MappingCall}
 use Rattle.qvt_run_data.specs.declared.callee.Way.{Way}
 use Rattle.qvt_run_data.specs.declared.callee.Way.TheVariants.{Called, Chosen, Reused}
 use Rattle.qvt_run_data.specs.declared.local.Local.{Local}
-use Rattle.qvt_run_rules.specs.State.{Does, ◌>>=◌, ◌>>◌, pure, ask, caught}
+use Rattle.qvt_run_rules.specs.State.{Does, ◌>>◌, pure, ask, caught}
 use Rattle.qvt_run_rules.specs.Locals.{result_name}
 use Rattle.qvt_run_rules.specs.Calls.{Calls, Param}
 use Rattle.qvt_run_rules.specs.Mappings as of
@@ -32,8 +32,20 @@ pub record Frame : Type 0 where
   pub place : Place
 
 abbrev pub mapping_with : {E : Type 0} → Frame → Option (Does E Bool) → Does E (Unit {0}) → Does E (Unit {0}) → Does E (Unit {0}) → MappingRule E
-mapping_with a w i p e = record { number = a.number; context = a.context; params = a.params; result = a.result; when = w; init = i; population = p; finish = e;
-    inherits = a.inherits; merges = a.merges; disjuncts = a.disjuncts; place = a.place }
+mapping_with a w i p e = record {
+  number = a.number;
+  context = a.context;
+  params = a.params;
+  result = a.result;
+  when = w;
+  init = i;
+  population = p;
+  finish = e;
+  inherits = a.inherits;
+  merges = a.merges;
+  disjuncts = a.disjuncts;
+  place = a.place;
+}
 
 module _ {E F : Type 0} {R : Relation E F} {x : Setting E} {y : Setting F} (c : Closed E F R x y) where
   when_holds : (ls : List Local) {w : Option (Does E Bool)} {w' : Option (Does F Bool)} → Held (R Bool) w w' → R Bool (of.when_holds w ls) (of.when_holds w' ls)

@@ -1,5 +1,5 @@
 -- The rule that a node has by its reading, under a closed relation. Both settings are of one program.
-use Rattle.std.proofs.Common.{ℕ, Bool, true, false, cond, if◌then◌else◌, List, [], ◌∷◌, length, Option, Some, None, codes}
+use Rattle.std.proofs.Common.{ℕ, Bool, true, false, if◌then◌else◌, List, [], ◌∷◌, length, Option, Some, None, codes}
 use Rattle.std.specs.Option.{is_some}
 use Rattle.std.specs.Str.{bytes_eq}
 use Rattle.qvt_base.specs.declared.numbers.Oid.{Oid}
@@ -11,7 +11,7 @@ use Rattle.qvt_types_data.specs.declared.note.Reading.TheVariants as reading
 use Rattle.qvt_types_data.specs.declared.ty.Ty.{Ty}
 use Rattle.qvt_types_data.specs.declared.ty.Ty.TheVariants as ty
 use Rattle.qvt_types_nodes.specs.declared.types.TypedSign.{TypedSign}
-use Rattle.qvt_types_nodes.specs.Tree.{TypedResolveTerm, TypedStepTerms, TypedNoSteps, TypedMoreSteps, TypedDotStep, TypedSomeArgs}
+use Rattle.qvt_types_nodes.specs.Tree.{TypedResolveTerm, TypedStepTerms, TypedMoreSteps, TypedDotStep, TypedSomeArgs}
 use Rattle.qvt_types_steps.specs.Classes.{class_test_named, is_selection, model_call_named}
 use Rattle.qvt_types_steps.specs.declared.classes.ClassTest.{ClassTest}
 use Rattle.qvt_types_steps.specs.IteratorTable.{iterator_named}
@@ -36,7 +36,7 @@ use Rattle.qvt_meaning.specs.Program.{chosen_for, free_callee, form_of}
 use Rattle.qvt_meaning.specs.Readings as by
 use Rattle.qvt_meaning.specs.Readings.{Setting, TargetDoes, HeadDoes, BareTarget, ResultTarget, MemberTarget}
 use Rattle.qvt_meaning_laws.proofs.Closed.{Relation, Closed, Each, none, more, Held, held_none, held_some, lengths, drops}
-use Rattle.qvt_meaning_laws.proofs.Parts.{on, misfits, looks}
+use Rattle.qvt_meaning_laws.proofs.Parts.{misfits, looks}
 use Rattle.qvt_meaning_laws.proofs.Values as value
 use Rattle.qvt_meaning_laws.proofs.Loops as loop
 use Rattle.qvt_meaning_laws.proofs.Actions as action

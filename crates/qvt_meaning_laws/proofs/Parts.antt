@@ -1,5 +1,5 @@
 -- What values, variables, sources and stores are made of, under a closed relation.
-use Rattle.std.proofs.Common.{ℕ, Bool, true, false, cond, if◌then◌else◌, List, [], ◌∷◌, ◌++◌, Option, Some, None}
+use Rattle.std.proofs.Common.{ℕ, Bool, true, false, if◌then◌else◌, List, [], ◌∷◌, ◌++◌, Option, Some, None}
 use Rattle.qvt_base.specs.declared.numbers.Oid.{Oid}
 use Rattle.qvt_base.specs.declared.numbers.Place.{Place}
 use Rattle.qvt_ocl_words.specs.Lists.{is_null}
@@ -10,10 +10,10 @@ use Rattle.qvt_value.specs.declared.value.Kind.{Kind}
 use Rattle.qvt_run_data.specs.declared.exit.End.{End}
 use Rattle.qvt_run_data.specs.declared.exit.Exit.TheVariants.{Ends}
 use Rattle.qvt_run_data.specs.declared.local.Local.{Local}
-use Rattle.qvt_run_rules.specs.State.{Does, ◌>>=◌, ◌>>◌, pure, stop, misfit, found, look, ask}
+use Rattle.qvt_run_rules.specs.State.{Does, ◌>>=◌, ◌>>◌, stop, misfit, found, look, ask}
 use Rattle.qvt_run_rules.specs.Typed.{has_asked, valid, present_at, present, object_of, asked, taken}
-use Rattle.qvt_run_rules.specs.Locals.{local, local_named, value_in, read_local, read, replace, set_as, set}
-use Rattle.qvt_run_rules.specs.Sources.{collected_kind, unless_invalid, over_items, gathered, as_kind, as_flat, in_turn, for_items, for_row, collecting, dotted}
+use Rattle.qvt_run_rules.specs.Locals.{local, local_named, value_in, read_local, read, set_as, set}
+use Rattle.qvt_run_rules.specs.Sources.{collected_kind, unless_invalid, over_items, gathered, as_flat, in_turn, for_items, for_row, collecting, dotted}
 use Rattle.qvt_run_rules.specs.Store.{property, read_property}
 use Rattle.qvt_meaning.specs.Readings.{Setting}
 use Rattle.qvt_meaning_laws.proofs.Closed.{Relation, Closed, Each, none, more, Held, held_none, held_some}

@@ -1,12 +1,12 @@
 -- Resolves, under a closed relation.
-use Rattle.std.proofs.Common.{ℕ, Bool, List, cond, if◌then◌else◌, Option, Some, None}
+use Rattle.std.proofs.Common.{ℕ, Bool, List, if◌then◌else◌, Option, Some, None}
 use Rattle.qvt_base.specs.declared.numbers.Oid.{Oid}
 use Rattle.qvt_base.specs.declared.numbers.Place.{Place}
 use Rattle.qvt_metamodel.specs.Metamodels.{shape_of}
 use Rattle.qvt_metamodel.specs.Descends.{is_class_kind}
 use Rattle.qvt_value.specs.declared.value.Value.{Value}
 use Rattle.qvt_run_data.specs.declared.request.Form.{Form}
-use Rattle.qvt_run_rules.specs.State.{Does, ◌>>=◌, ◌>>◌, pure, look}
+use Rattle.qvt_run_rules.specs.State.{Does, look}
 use Rattle.qvt_run_rules.specs.Sources.{sources_in}
 use Rattle.qvt_run_rules.specs.Resolve as by
 use Rattle.qvt_meaning.specs.Readings.{Setting}

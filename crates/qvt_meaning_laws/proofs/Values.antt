@@ -1,6 +1,5 @@
 -- The rules of expressions that make and change nothing, under a closed relation.
-use Rattle.std.proofs.Common.{ℕ, suc, Bool, true, false, cond, if◌then◌else◌, List, [], ◌∷◌, ◌++◌, Option, Some, None}
-use Rattle.qvt_base.specs.declared.numbers.Oid.{Oid}
+use Rattle.std.proofs.Common.{ℕ, Bool, true, false, List, [], ◌∷◌, ◌++◌, Option, Some, None}
 use Rattle.qvt_base.specs.declared.numbers.Place.{Place}
 use Rattle.qvt_tree_types.specs.declared.words.BinaryOp.{BinaryOp}
 use Rattle.qvt_tree_types.specs.declared.words.PrefixOp.{PrefixOp}
@@ -12,13 +11,13 @@ use Rattle.qvt_ocl_words.specs.declared.op.Op.{Op}
 use Rattle.qvt_ocl_words.specs.Operation.{operation}
 use Rattle.qvt_run_data.specs.declared.questions.ObjectTest.{ObjectTest}
 use Rattle.qvt_run_data.specs.declared.questions.ModelQuery.{ModelQuery}
-use Rattle.qvt_run_rules.specs.State.{Does, ◌>>=◌, ◌>>◌, pure, found}
+use Rattle.qvt_run_rules.specs.State.{Does, found}
 use Rattle.qvt_run_rules.specs.Logic.{logic, by_left}
 use Rattle.qvt_run_rules.specs.Store.{ordered_set}
 use Rattle.qvt_run_rules.specs.Expressions as rule
 use Rattle.qvt_meaning.specs.Readings.{Setting}
 use Rattle.qvt_meaning_laws.proofs.Closed.{Relation, Closed, Each, none, more}
-use Rattle.qvt_meaning_laws.proofs.Parts.{on, after, ticks, misfits, finds, looks, reads, over, dots, reads_property}
+use Rattle.qvt_meaning_laws.proofs.Parts.{on, ticks, misfits, finds, looks, reads, over, dots, reads_property}
 
 module _ {E F : Type 0} {R : Relation E F} {x : Setting E} {y : Setting F} (c : Closed E F R x y) where
   -- Parts in order.
