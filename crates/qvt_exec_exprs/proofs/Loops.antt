@@ -112,7 +112,7 @@ is_other iterator.Closure e = tt
 
 -- as it is without the names that tell
 abbrev arrow_as : Engine → Bool → Option IteratorKind → List ℕ → HeadDoes LateWrite → List (Does LateWrite Value) → Option ℕ → Place → Value → Does LateWrite Value
-arrow_as x b o name h ps c at v = if b then by.selection_by (setting_of x) name c at v else by.named_step (setting_of x) o name h ps at v
+arrow_as x b o name h ps c at v = if b then by.selection_by (spend_of x.limit) name c at v else by.named_step (setting_of x) o name h ps at v
 
 alone_as : (x : Engine) (b : Bool) (o : Option IteratorKind) (name : List ℕ) (h : HeadDoes LateWrite) (ps : List (Does LateWrite Value)) (c : Option ℕ) (at : Place) (v : Value) →
     (if b then false else is_iterate o) ≡ false → arrow_as x b o name h ps c at v ≡ arrow_as x b o name (alone h) ps c at v

@@ -266,7 +266,7 @@ fn model_steps(
     place: Place,
     state: &mut RunState<'_>,
 ) -> Result<Value, Halt>
-    ensures { Runs (rule.on_first (by.model_first (setting_of x.now) model place (all_steps all.now)) (drop 1 (steps_of x.now first.now all.now)) (seen state.old)) result state.new }
+    ensures { Runs (rule.on_first (by.model_first (spend_of x.now.limit) model place (all_steps all.now)) (drop 1 (steps_of x.now first.now all.now)) (seen state.old)) result state.new }
 {
     let value = model_first(x.alloc, x.limit, model, place, all, state)?;
     steps_from(x, all, first, 1, value, state)

@@ -7,6 +7,7 @@ use Rattle.qvt_exec_state.specs.Runs.{Runs, seen}
 use Rattle.qvt_exec_types.specs.Post.{post_of, type_at}
 use Rattle.qvt_exec_exprs.specs.Loops.{iterated_from, named_alone}
 use Rattle.qvt_exec_exprs.specs.Means.{all_steps, expr_of, exprs_of, head_of, program_of, setting_of, step_of, steps_of}
+use Rattle.qvt_run_rules.specs.Cost.{spend_of}
 use Rattle.qvt_run_rules.specs.Expressions as rule
 use Rattle.qvt_exec_leaves.proofs.Ends.{ends}
 use Rattle.qvt_exec_exprs.specs.Choices.{choice_of}
@@ -171,7 +172,7 @@ steps::step-returns-in_ok-first-in-Some-accumulator-clause-runs t c =
 pub exprs::model_steps-returns-in_err-value : goal.exprs::model_steps-returns-in_err-value
 unfolding rule.on_first
 exprs::model_steps-returns-in_err-value t c =
-    let p : Does LateWrite Value = by.model_first (setting_of c.args.x.now) c.args.model c.args.place (all_steps c.args.all.now) in
+    let p : Does LateWrite Value = by.model_first (spend_of c.args.x.now.limit) c.args.model c.args.place (all_steps c.args.all.now) in
     let fs : List (Value → Does LateWrite Value) = drop 1 (steps_of c.args.x.now c.args.first.now c.args.all.now) in
     ends (p (seen c.args.state.now)) (λ v. rule.along v fs) (rule.on_first p fs (seen c.args.state.now)) c.in_err-value.field-0.0 c.from_residual.result c.model_first.new.state refl c.in_err-value.ensures c.from_residual.ensures.1
 
