@@ -1,9 +1,10 @@
 //! The call of the unit that is chosen for an object.
 
 ghost use Rattle.qvt_run_rules.specs.Calls as rule;
+ghost use Rattle.qvt_meaning.specs.Readings as by;
 ghost use Rattle.qvt_types_program.specs.Program.{program_view};
 ghost use Rattle.qvt_exec_state.specs.Runs.{Runs, seen};
-ghost use Rattle.qvt_exec_calls.specs.Choice.{callee_by, item_by, chosen_by};
+ghost use Rattle.qvt_exec_calls.specs.Choice.{callee_by, item_by};
 
 use crate::units::{ReadyUnits, UnitCalls};
 use crate::values::object_of;
@@ -39,7 +40,7 @@ pub fn choose(
     object: Oid,
     state: &RunState<'_>,
 ) -> Result<Callee, Halt>
-    ensures { Runs (chosen_by (program_view program.now) reading.now strict place object (seen state.now)) result state.now }
+    ensures { Runs (by.choose (program_view program.now) reading.now strict place object (seen state.now)) result state.now }
 {
     let store = state.store.as_store();
     match chosen_for(alloc, program, reading, strict, object, store)? {

@@ -2,9 +2,10 @@
 
 ghost use Rattle.std.specs.Prelude.{◌≡◌, ◌<◌, IfOk, OnOk};
 ghost use Rattle.qvt_run_rules.specs.Sources.{for_items};
+ghost use Rattle.qvt_meaning.specs.Readings as by;
 ghost use Rattle.qvt_types_program.specs.Program.{program_view};
 ghost use Rattle.qvt_exec_state.specs.Runs.{Runs, seen};
-ghost use Rattle.qvt_exec_calls.specs.Choice.{chosen_by, each_by, item_by, items_by, mapped_by};
+ghost use Rattle.qvt_exec_calls.specs.Choice.{each_by, item_by, items_by, mapped_by};
 
 use crate::choice::{Choosing, call_on_item};
 use crate::mapped::mapped;
@@ -96,7 +97,7 @@ pub fn each_called<C: UnitCalls>(
     value: Value,
     state: &mut RunState<'_>,
 ) -> Result<Value, Halt>
-    ensures { Runs (each_by (C.means units.now).calls (chosen_by (program_view program.now) reading.now strict place) args place value (seen state.old)) result state.new }
+    ensures { Runs (each_by (C.means units.now).calls (by.choose (program_view program.now) reading.now strict place) args place value (seen state.old)) result state.new }
 {
     let how = Choosing {
         alloc,
@@ -126,7 +127,7 @@ pub fn map_each<C: UnitCalls>(
     value: Value,
     state: &mut RunState<'_>,
 ) -> Result<Value, Halt>
-    ensures { Runs (mapped_by (C.means units.now).calls (chosen_by (program_view program.now) reading.now strict place) args place value (seen state.old)) result state.new }
+    ensures { Runs (mapped_by (C.means units.now).calls (by.choose (program_view program.now) reading.now strict place) args place value (seen state.old)) result state.new }
 {
     let how = Choosing {
         alloc,
