@@ -9,6 +9,7 @@ use Rattle.qvt_types_steps.specs.declared.iterators.IteratorKind.{IteratorKind}
 use Rattle.qvt_types_steps.specs.Classes.{is_selection}
 use Rattle.qvt_types_steps.specs.IteratorTable.{iterator_named}
 use Rattle.qvt_meaning.specs.Phrases as phrase
+use Rattle.qvt_run_rules.specs.Cost.{spend_of}
 use Rattle.qvt_meaning.specs.Readings as by
 use Rattle.qvt_meaning.specs.Readings.{HeadDoes}
 use Rattle.qvt_exec_exprs.specs.Means.{exprs_of, setting_of}
@@ -25,6 +26,6 @@ no_body x i h (e ∷ f ∷ es) at v many = refl
 pub arrow_misfits : (x : Engine) (name : List ℕ) (i : IteratorKind) (h : HeadDoes LateWrite) (es : List TypedExpr) (c : Option ℕ) (at : Place) (v : Value) → is_selection name ≡ false → iterator_named name ≡ Some i → 2 ≤ length es →
     by.arrow_on (setting_of x) name h (exprs_of x es) c at v ≡ misfit at
 arrow_misfits x name i h es c at v other is many =
-    ap (λ (b : Bool). if b then by.selection_by (setting_of x) name c at v else by.named_step (setting_of x) (iterator_named name) name h (exprs_of x es) at v) other
+    ap (λ (b : Bool). if b then by.selection_by (spend_of x.limit) name c at v else by.named_step (setting_of x) (iterator_named name) name h (exprs_of x es) at v) other
     ∙ ap (λ (o : Option IteratorKind). by.named_step (setting_of x) o name h (exprs_of x es) at v) is
     ∙ no_body x i h es at v many

@@ -19,7 +19,7 @@ use Rattle.qvt_types_nodes.specs.declared.tree.TypedExpr.TheFolds as folds
 use Rattle.qvt_types_nodes.specs.declared.tree.TypedExpr.TheOpen.{TypedStep-F}
 use Rattle.qvt_meaning.specs.Plain.{no_calls}
 use Rattle.qvt_types_steps.specs.declared.iterators.IteratorKind.TheVariants as iterator
-use Rattle.qvt_run_rules.specs.Cost.{count}
+use Rattle.qvt_run_rules.specs.Cost.{spend_of}
 use Rattle.qvt_run_rules.specs.Iterators as each
 use Rattle.qvt_run_rules.specs.Sources.{before_arrow, over_items, unless_invalid}
 use Rattle.qvt_run_rules.specs.State.{State, Done, Does, ◌>>=◌, ◌>>◌, on_outcome, misfit}
@@ -32,7 +32,7 @@ use Rattle.qvt_exec_state.specs.declared.state.RunState.{RunState}
 use Rattle.qvt_exec_leaves.proofs.Ends.{ends}
 use Rattle.qvt_exec_leaves.specs.Heads.{iterates, name_of}
 use Rattle.qvt_exec_exprs.specs.Loops.{iterated_from, named_alone}
-use Rattle.qvt_exec_exprs.specs.Means.{expr_of, exprs_of, head_of, program_of, setting_of, step_of}
+use Rattle.qvt_exec_exprs.specs.Means.{expr_of, exprs_of, head_of, setting_of, step_of}
 use Rattle.qvt_exec_exprs.specs.declared.engine.Engine.{Engine}
 use Rattle.qvt_exec_exprs.proofs.Args.{no_body}
 use Rattle.qvt_exec_exprs.proofs.Loops.{arrow_alone, iterates_on}
@@ -71,7 +71,7 @@ other_runs x o s v name head args at n source item z r t is other named runs =
 iterate_is : (x : Engine) (o : Option Ty) (s : TypedStep) (v : Value) (name : List ℕ) (head : Option TypedHead) (args : List TypedExpr) (at : Place) (n : Note) (source : Value) → IsArrow x o s v name head args at n source → iterates name ≡ true →
     step_of x o s v ≡ by.iterator_step (setting_of x) iterator.Iterate (head_of x head) (exprs_of x args) at source
 iterate_is x o s v name head args at n source is it =
-    arrow_is x o s v name head args at n source is ∙ iterates_on (program_of x) name (head_of x head) (exprs_of x args) (nodes.class_argument (typed_exprs_of (map typed_expr_view args))) at source it
+    arrow_is x o s v name head args at n source is ∙ iterates_on x name (head_of x head) (exprs_of x args) (nodes.class_argument (typed_exprs_of (map typed_expr_view args))) at source it
 
 -- with no body, or several
 pub without_body : (x : Engine) (o : Option Ty) (s : TypedStep) (v : Value) (name : List ℕ) (head : Option TypedHead) (args : List TypedExpr) (at : Place) (n : Note) (source : Value) → IsArrow x o s v name head args at n source → iterates name ≡ true → args ≡ [] →
@@ -103,23 +103,23 @@ without_accumulator x o s v name head args at n source body is it one none =
 -- `iterate` with one: its unit, the first value, and then the turns
 pub iterate_begins : (x : Engine) (o : Option Ty) (s : TypedStep) (v : Value) (name : List ℕ) (head : Option TypedHead) (args : List TypedExpr) (at : Place) (n : Note) (source : Value) (body : TypedExpr) (a : List ℕ) (p : Does LateWrite Value) (m : Option (List ℕ)) →
     IsArrow x o s v name head args at n source → iterates name ≡ true → args ≡ body ∷ [] → (head_of x head).accumulator ≡ Some (a, p) → (head_of x head).name ≡ m →
-    step_of x o s v ≡ (count 1 >> (p >>= (λ b. iterated_from at m a (expr_of x body) b source)))
+    step_of x o s v ≡ (spend_of x.limit 1 >> (p >>= (λ b. iterated_from at m a (expr_of x body) b source)))
 unfolding each.iterate
 iterate_begins x o s v name head args at n source body a p m is it one acc named =
     iterate_by_is x o s v name head args at n source body is it one ∙ ap (λ k. by.iterate_by (setting_of x) (head_of x head) (expr_of x body) at k source) acc
-    ∙ ap (λ (k : Option (List ℕ)). each.iterate count at k (expr_of x body) a p source) named
+    ∙ ap (λ (k : Option (List ℕ)). each.iterate (spend_of x.limit) at k (expr_of x body) a p source) named
 
-module _ (q p : Does LateWrite Value) (g : Value → Does LateWrite Value) (e : q ≡ (count 1 >> (p >>= g))) where
-  pub unit_ends : (s : State LateWrite) (h : Halt) (r : Result Value Halt) (t : RunState) → Runs {A = Unit {0}} (count 1 s) (Err h) t → IsErrAnd r (λ k. k ≡ h) → Runs (q s) r t
-  unit_ends s h r t on err = ends (count 1 s) (λ (_ : Unit {0}). p >>= g) (q s) h r t (ap (λ (k : Does LateWrite Value). k s) e) on err
+module _ (limit : Option ℕ) (q p : Does LateWrite Value) (g : Value → Does LateWrite Value) (e : q ≡ (spend_of limit 1 >> (p >>= g))) where
+  pub unit_ends : (s : State LateWrite) (h : Halt) (r : Result Value Halt) (t : RunState) → Runs {A = Unit {0}} (spend_of limit 1 s) (Err h) t → IsErrAnd r (λ k. k ≡ h) → Runs (q s) r t
+  unit_ends s h r t on err = ends (spend_of limit 1 s) (λ (_ : Unit {0}). p >>= g) (q s) h r t (ap (λ (k : Does LateWrite Value). k s) e) on err
 
-  behind : (s z : State LateWrite) (u : Unit {0}) → count 1 s ≡ (Ok u, z) → q s ≡ on_outcome (p z).0 (p z).1 g
+  behind : (s z : State LateWrite) (u : Unit {0}) → spend_of limit 1 s ≡ (Ok u, z) → q s ≡ on_outcome (p z).0 (p z).1 g
   behind s z u ticked = ap (λ (k : Does LateWrite Value). k s) e ∙ ap (λ (d : Done LateWrite (Unit {0})). on_outcome d.0 d.1 (λ _. p >>= g)) ticked
 
-  pub first_ends : (s z : State LateWrite) (u : Unit {0}) (h : Halt) (r : Result Value Halt) (t : RunState) → count 1 s ≡ (Ok u, z) → Runs (p z) (Err h) t → IsErrAnd r (λ k. k ≡ h) → Runs (q s) r t
+  pub first_ends : (s z : State LateWrite) (u : Unit {0}) (h : Halt) (r : Result Value Halt) (t : RunState) → spend_of limit 1 s ≡ (Ok u, z) → Runs (p z) (Err h) t → IsErrAnd r (λ k. k ≡ h) → Runs (q s) r t
   first_ends s z u h r t ticked on err = ends (p z) g (q s) h r t (behind s z u ticked) on err
 
-  pub then_runs : (s z w : State LateWrite) (u : Unit {0}) (a : Value) (r : Result Value Halt) (t : RunState) → count 1 s ≡ (Ok u, z) → p z ≡ (Ok a, w) → Runs (g a w) r t → Runs (q s) r t
+  pub then_runs : (s z w : State LateWrite) (u : Unit {0}) (a : Value) (r : Result Value Halt) (t : RunState) → spend_of limit 1 s ≡ (Ok u, z) → p z ≡ (Ok a, w) → Runs (g a w) r t → Runs (q s) r t
   then_runs s z w u a r t ticked given runs =
       subst (λ (d : Done LateWrite Value). Runs d r t) (sym (behind s z u ticked ∙ ap (λ (d : Done LateWrite Value). on_outcome d.0 d.1 g) given)) runs
 

@@ -12,7 +12,7 @@ use Rattle.qvt_types_nodes.specs.declared.tree.TypedExpr.TheOpen.{TypedExpr-F}
 use Rattle.qvt_types_nodes.specs.declared.tree.TypedExpr.TheVariants as expressions
 use Rattle.qvt_types_nodes.specs.Tree.{TypedExprTerm, TypedStepTerm, TypedStmtTerm, TypedTargetTerm, TypedAccumulatorTerm, TypedArmTerm, TypedFilterTerm, TypedHeadTerm, TypedItemTerm, TypedLinkTerm, TypedMapTerm, TypedRangeTerm, TypedResolveTerm, TypedIfExpr}
 use Rattle.qvt_types_nodes.specs.View as view
-use Rattle.qvt_run_rules.specs.Cost.{count}
+use Rattle.qvt_run_rules.specs.Cost.{spend_of}
 use Rattle.qvt_run_rules.specs.Expressions as rule
 use Rattle.qvt_run_rules.specs.State.{State, Done, Does}
 use Rattle.qvt_meaning.specs.Nodes as nodes
@@ -31,7 +31,7 @@ conditional_view c y z at n = ap view.typed_expr_view (sym (expressions.rolls-If
 
 -- what the conditional does whose condition is k
 abbrev does : Engine → TypedExpr → TypedExpr → TypedExpr → Does LateWrite Value
-does x k y z = rule.conditional count (expr_of x k) (nodes.place_of (view.typed_expr_view k)) (expr_of x y) (expr_of x z)
+does x k y z = rule.conditional (spend_of x.limit) (expr_of x k) (nodes.place_of (view.typed_expr_view k)) (expr_of x y) (expr_of x z)
 
 is_conditional : (x : Engine) (c y z : Box TypedExpr Global) (at : Place) (n : Note) → expr_of x (expressions.If c y z at n) ≡ does x c.value y.value z.value
 unfolding expr_of phrase.expr

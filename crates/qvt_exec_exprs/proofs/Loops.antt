@@ -6,16 +6,15 @@ use Rattle.qvt_types_steps.specs.declared.iterators.IteratorKind.{IteratorKind}
 use Rattle.qvt_types_steps.specs.declared.iterators.IteratorKind.TheVariants as iterator
 use Rattle.qvt_run_data.specs.declared.late.LateWrite.{LateWrite}
 use Rattle.qvt_run_rules.specs.State.{Does}
-use Rattle.qvt_run_rules.specs.Cost.{count}
+use Rattle.qvt_run_rules.specs.Cost.{spend_of}
 use Rattle.qvt_run_rules.specs.Iterators as each
-use Rattle.qvt_meaning.specs.Plain.{no_calls, plain_setting}
+use Rattle.qvt_meaning.specs.Plain.{no_calls}
 use Rattle.qvt_meaning.specs.Readings as by
 use Rattle.qvt_meaning.specs.Readings.{HeadDoes}
-use Rattle.qvt_typing.specs.Accepts.{ProgramTerm}
 use Rattle.qvt_exec_leaves.specs.Heads.{is_iterate, iterates, name_in, name_of}
 use Rattle.qvt_exec_loops.specs.Laws.{by_turns}
 use Rattle.qvt_exec_exprs.specs.Loops.{named_alone}
-use Rattle.qvt_exec_exprs.specs.Means.{head_of, program_of, setting_of}
+use Rattle.qvt_exec_exprs.specs.Means.{head_of, setting_of}
 use Rattle.qvt_exec_exprs.specs.declared.engine.Engine.{Engine}
 use Rattle.qvt_meaning.specs.Phrases as phrase
 use Rattle.qvt_types_nodes.specs.Tree.{TypedHeadTerm, TypedNoHead, TypedHeadOf}
@@ -33,36 +32,36 @@ IsLoop i = Unit {0}
 abbrev body_of : HeadDoes LateWrite → Does LateWrite Value → Value → Does LateWrite Value
 body_of h p = each.for_item h.name p
 
-loop_is : (q : ProgramTerm) (i : IteratorKind) → IsLoop i → (h : HeadDoes LateWrite) (p : Does LateWrite Value) (at : Place) (v : Value) →
-    by.iterator_by (plain_setting q) i h p at v ≡ each.iterated count at h.name p (by_turns i at (body_of h p)) v
+loop_is : (x : Engine) (i : IteratorKind) → IsLoop i → (h : HeadDoes LateWrite) (p : Does LateWrite Value) (at : Place) (v : Value) →
+    by.iterator_by (setting_of x) i h p at v ≡ each.iterated (spend_of x.limit) at h.name p (by_turns i at (body_of h p)) v
 unfolding each.select each.reject each.collect each.collect_nested each.exists_ each.for_all each.any each.one each.is_unique each.sorted_by
-loop_is q iterator.Select is h p at v = refl
-loop_is q iterator.Reject is h p at v = refl
-loop_is q iterator.Collect is h p at v = refl
-loop_is q iterator.CollectNested is h p at v = refl
-loop_is q iterator.Exists is h p at v = refl
-loop_is q iterator.ForAll is h p at v = refl
-loop_is q iterator.Any is h p at v = refl
-loop_is q iterator.One is h p at v = refl
-loop_is q iterator.IsUnique is h p at v = refl
-loop_is q iterator.SortedBy is h p at v = refl
-loop_is q iterator.Iterate is h p at v = absurd is
-loop_is q iterator.Closure is h p at v = absurd is
+loop_is x iterator.Select is h p at v = refl
+loop_is x iterator.Reject is h p at v = refl
+loop_is x iterator.Collect is h p at v = refl
+loop_is x iterator.CollectNested is h p at v = refl
+loop_is x iterator.Exists is h p at v = refl
+loop_is x iterator.ForAll is h p at v = refl
+loop_is x iterator.Any is h p at v = refl
+loop_is x iterator.One is h p at v = refl
+loop_is x iterator.IsUnique is h p at v = refl
+loop_is x iterator.SortedBy is h p at v = refl
+loop_is x iterator.Iterate is h p at v = absurd is
+loop_is x iterator.Closure is h p at v = absurd is
 
-pub loop_by : (q : ProgramTerm) (i : IteratorKind) (h : HeadDoes LateWrite) (p : Does LateWrite Value) (at : Place) (v : Value) → i ≢ iterator.Closure → i ≢ iterator.Iterate →
-    by.iterator_by (plain_setting q) i h p at v ≡ each.iterated count at h.name p (by_turns i at (body_of h p)) v
-loop_by q iterator.Select h p at v c d = loop_is q iterator.Select tt h p at v
-loop_by q iterator.Reject h p at v c d = loop_is q iterator.Reject tt h p at v
-loop_by q iterator.Collect h p at v c d = loop_is q iterator.Collect tt h p at v
-loop_by q iterator.CollectNested h p at v c d = loop_is q iterator.CollectNested tt h p at v
-loop_by q iterator.Exists h p at v c d = loop_is q iterator.Exists tt h p at v
-loop_by q iterator.ForAll h p at v c d = loop_is q iterator.ForAll tt h p at v
-loop_by q iterator.Any h p at v c d = loop_is q iterator.Any tt h p at v
-loop_by q iterator.One h p at v c d = loop_is q iterator.One tt h p at v
-loop_by q iterator.IsUnique h p at v c d = loop_is q iterator.IsUnique tt h p at v
-loop_by q iterator.SortedBy h p at v c d = loop_is q iterator.SortedBy tt h p at v
-loop_by q iterator.Iterate h p at v c d = absurd (d refl)
-loop_by q iterator.Closure h p at v c d = absurd (c refl)
+pub loop_by : (x : Engine) (i : IteratorKind) (h : HeadDoes LateWrite) (p : Does LateWrite Value) (at : Place) (v : Value) → i ≢ iterator.Closure → i ≢ iterator.Iterate →
+    by.iterator_by (setting_of x) i h p at v ≡ each.iterated (spend_of x.limit) at h.name p (by_turns i at (body_of h p)) v
+loop_by x iterator.Select h p at v c d = loop_is x iterator.Select tt h p at v
+loop_by x iterator.Reject h p at v c d = loop_is x iterator.Reject tt h p at v
+loop_by x iterator.Collect h p at v c d = loop_is x iterator.Collect tt h p at v
+loop_by x iterator.CollectNested h p at v c d = loop_is x iterator.CollectNested tt h p at v
+loop_by x iterator.Exists h p at v c d = loop_is x iterator.Exists tt h p at v
+loop_by x iterator.ForAll h p at v c d = loop_is x iterator.ForAll tt h p at v
+loop_by x iterator.Any h p at v c d = loop_is x iterator.Any tt h p at v
+loop_by x iterator.One h p at v c d = loop_is x iterator.One tt h p at v
+loop_by x iterator.IsUnique h p at v c d = loop_is x iterator.IsUnique tt h p at v
+loop_by x iterator.SortedBy h p at v c d = loop_is x iterator.SortedBy tt h p at v
+loop_by x iterator.Iterate h p at v c d = absurd (d refl)
+loop_by x iterator.Closure h p at v c d = absurd (c refl)
 
 -- without its accumulator an iterator that is not `iterate` is the same
 abbrev pub alone : HeadDoes LateWrite → HeadDoes LateWrite
@@ -72,26 +71,26 @@ abbrev IsOther : IteratorKind → Type 0
 IsOther iterator.Iterate = ⊥
 IsOther i = Unit {0}
 
-alone_by : (q : ProgramTerm) (i : IteratorKind) → IsOther i → (h : HeadDoes LateWrite) (p : Does LateWrite Value) (at : Place) (v : Value) →
-    by.iterator_by (plain_setting q) i h p at v ≡ by.iterator_by (plain_setting q) i (alone h) p at v
-alone_by q iterator.Select is h p at v = refl
-alone_by q iterator.Reject is h p at v = refl
-alone_by q iterator.Collect is h p at v = refl
-alone_by q iterator.CollectNested is h p at v = refl
-alone_by q iterator.Exists is h p at v = refl
-alone_by q iterator.ForAll is h p at v = refl
-alone_by q iterator.Any is h p at v = refl
-alone_by q iterator.One is h p at v = refl
-alone_by q iterator.IsUnique is h p at v = refl
-alone_by q iterator.SortedBy is h p at v = refl
-alone_by q iterator.Iterate is h p at v = absurd is
-alone_by q iterator.Closure is h p at v = refl
+alone_by : (x : Engine) (i : IteratorKind) → IsOther i → (h : HeadDoes LateWrite) (p : Does LateWrite Value) (at : Place) (v : Value) →
+    by.iterator_by (setting_of x) i h p at v ≡ by.iterator_by (setting_of x) i (alone h) p at v
+alone_by x iterator.Select is h p at v = refl
+alone_by x iterator.Reject is h p at v = refl
+alone_by x iterator.Collect is h p at v = refl
+alone_by x iterator.CollectNested is h p at v = refl
+alone_by x iterator.Exists is h p at v = refl
+alone_by x iterator.ForAll is h p at v = refl
+alone_by x iterator.Any is h p at v = refl
+alone_by x iterator.One is h p at v = refl
+alone_by x iterator.IsUnique is h p at v = refl
+alone_by x iterator.SortedBy is h p at v = refl
+alone_by x iterator.Iterate is h p at v = absurd is
+alone_by x iterator.Closure is h p at v = refl
 
-alone_step : (q : ProgramTerm) (i : IteratorKind) → IsOther i → (h : HeadDoes LateWrite) (ps : List (Does LateWrite Value)) (at : Place) (v : Value) →
-    by.iterator_step (plain_setting q) i h ps at v ≡ by.iterator_step (plain_setting q) i (alone h) ps at v
-alone_step q i is h [] at v = refl
-alone_step q i is h (p ∷ []) at v = alone_by q i is h p at v
-alone_step q i is h (p ∷ r ∷ ps) at v = refl
+alone_step : (x : Engine) (i : IteratorKind) → IsOther i → (h : HeadDoes LateWrite) (ps : List (Does LateWrite Value)) (at : Place) (v : Value) →
+    by.iterator_step (setting_of x) i h ps at v ≡ by.iterator_step (setting_of x) i (alone h) ps at v
+alone_step x i is h [] at v = refl
+alone_step x i is h (p ∷ []) at v = alone_by x i is h p at v
+alone_step x i is h (p ∷ r ∷ ps) at v = refl
 
 abbrev Only : Bool → Type 0
 Only true = Unit {0}
@@ -112,19 +111,19 @@ is_other iterator.Iterate e = subst Only e tt
 is_other iterator.Closure e = tt
 
 -- as it is without the names that tell
-abbrev arrow_as : ProgramTerm → Bool → Option IteratorKind → List ℕ → HeadDoes LateWrite → List (Does LateWrite Value) → Option ℕ → Place → Value → Does LateWrite Value
-arrow_as q b o name h ps c at v = if b then by.selection_by (plain_setting q) name c at v else by.named_step (plain_setting q) o name h ps at v
+abbrev arrow_as : Engine → Bool → Option IteratorKind → List ℕ → HeadDoes LateWrite → List (Does LateWrite Value) → Option ℕ → Place → Value → Does LateWrite Value
+arrow_as x b o name h ps c at v = if b then by.selection_by (spend_of x.limit) name c at v else by.named_step (setting_of x) o name h ps at v
 
-alone_as : (q : ProgramTerm) (b : Bool) (o : Option IteratorKind) (name : List ℕ) (h : HeadDoes LateWrite) (ps : List (Does LateWrite Value)) (c : Option ℕ) (at : Place) (v : Value) →
-    (if b then false else is_iterate o) ≡ false → arrow_as q b o name h ps c at v ≡ arrow_as q b o name (alone h) ps c at v
-alone_as q true o name h ps c at v e = refl
-alone_as q false None name h ps c at v e = refl
-alone_as q false (Some i) name h ps c at v e = alone_step q i (is_other i e) h ps at v
+alone_as : (x : Engine) (b : Bool) (o : Option IteratorKind) (name : List ℕ) (h : HeadDoes LateWrite) (ps : List (Does LateWrite Value)) (c : Option ℕ) (at : Place) (v : Value) →
+    (if b then false else is_iterate o) ≡ false → arrow_as x b o name h ps c at v ≡ arrow_as x b o name (alone h) ps c at v
+alone_as x true o name h ps c at v e = refl
+alone_as x false None name h ps c at v e = refl
+alone_as x false (Some i) name h ps c at v e = alone_step x i (is_other i e) h ps at v
 
 -- a step that is not `iterate` has no accumulator
-pub alone_on : (q : ProgramTerm) (name : List ℕ) (h : HeadDoes LateWrite) (ps : List (Does LateWrite Value)) (c : Option ℕ) (at : Place) (v : Value) →
-    iterates name ≡ false → by.arrow_on (plain_setting q) name h ps c at v ≡ by.arrow_on (plain_setting q) name (alone h) ps c at v
-alone_on q name h ps c at v e = alone_as q (is_selection name) (iterator_named name) name h ps c at v e
+pub alone_on : (x : Engine) (name : List ℕ) (h : HeadDoes LateWrite) (ps : List (Does LateWrite Value)) (c : Option ℕ) (at : Place) (v : Value) →
+    iterates name ≡ false → by.arrow_on (setting_of x) name h ps c at v ≡ by.arrow_on (setting_of x) name (alone h) ps c at v
+alone_on x name h ps c at v e = alone_as x (is_selection name) (iterator_named name) name h ps c at v e
 
 no_iterate : {X : Type 0} → false ≡ true → X
 no_iterate e = absurd (subst Only (sym e) tt)
@@ -143,16 +142,16 @@ is_it iterator.SortedBy e = no_iterate e
 is_it iterator.Iterate e = refl
 is_it iterator.Closure e = no_iterate e
 
-iterates_as : (q : ProgramTerm) (b : Bool) (o : Option IteratorKind) (name : List ℕ) (h : HeadDoes LateWrite) (ps : List (Does LateWrite Value)) (c : Option ℕ) (at : Place) (v : Value) →
-    (if b then false else is_iterate o) ≡ true → arrow_as q b o name h ps c at v ≡ by.iterator_step (plain_setting q) iterator.Iterate h ps at v
-iterates_as q true o name h ps c at v e = no_iterate e
-iterates_as q false None name h ps c at v e = no_iterate e
-iterates_as q false (Some i) name h ps c at v e = ap (λ (k : IteratorKind). by.iterator_step (plain_setting q) k h ps at v) (is_it i e)
+iterates_as : (x : Engine) (b : Bool) (o : Option IteratorKind) (name : List ℕ) (h : HeadDoes LateWrite) (ps : List (Does LateWrite Value)) (c : Option ℕ) (at : Place) (v : Value) →
+    (if b then false else is_iterate o) ≡ true → arrow_as x b o name h ps c at v ≡ by.iterator_step (setting_of x) iterator.Iterate h ps at v
+iterates_as x true o name h ps c at v e = no_iterate e
+iterates_as x false None name h ps c at v e = no_iterate e
+iterates_as x false (Some i) name h ps c at v e = ap (λ (k : IteratorKind). by.iterator_step (setting_of x) k h ps at v) (is_it i e)
 
 -- a step that is `iterate`
-pub iterates_on : (q : ProgramTerm) (name : List ℕ) (h : HeadDoes LateWrite) (ps : List (Does LateWrite Value)) (c : Option ℕ) (at : Place) (v : Value) →
-    iterates name ≡ true → by.arrow_on (plain_setting q) name h ps c at v ≡ by.iterator_step (plain_setting q) iterator.Iterate h ps at v
-iterates_on q name h ps c at v e = iterates_as q (is_selection name) (iterator_named name) name h ps c at v e
+pub iterates_on : (x : Engine) (name : List ℕ) (h : HeadDoes LateWrite) (ps : List (Does LateWrite Value)) (c : Option ℕ) (at : Place) (v : Value) →
+    iterates name ≡ true → by.arrow_on (setting_of x) name h ps c at v ≡ by.iterator_step (setting_of x) iterator.Iterate h ps at v
+iterates_on x name h ps c at v e = iterates_as x (is_selection name) (iterator_named name) name h ps c at v e
 
 name_there : (x : Engine) (t : TypedHeadTerm) → (phrase.head (setting_of x) no_calls None t).name ≡ name_in t
 unfolding phrase.head
@@ -167,4 +166,4 @@ name_here x h = name_there x (typed_optional_head (option_map typed_head_view h)
 pub arrow_alone : (x : Engine) (name : List ℕ) (h : Option TypedHead) (item : Option (List ℕ)) (ps : List (Does LateWrite Value)) (c : Option ℕ) (at : Place) (v : Value) → iterates name ≡ false → item ≡ name_of h →
     by.arrow_on (setting_of x) name (head_of x h) ps c at v ≡ by.arrow_on (setting_of x) name (named_alone item) ps c at v
 arrow_alone x name h item ps c at v other is =
-    alone_on (program_of x) name (head_of x h) ps c at v other ∙ ap (λ n. by.arrow_on (setting_of x) name (named_alone n) ps c at v) (name_here x h ∙ sym is)
+    alone_on x name (head_of x h) ps c at v other ∙ ap (λ n. by.arrow_on (setting_of x) name (named_alone n) ps c at v) (name_here x h ∙ sym is)

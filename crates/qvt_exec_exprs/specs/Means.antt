@@ -6,7 +6,7 @@ use Rattle.qvt_value.specs.declared.value.Value.{Value}
 use Rattle.qvt_run_data.specs.declared.exit.Halt.{Halt}
 use Rattle.qvt_run_data.specs.declared.exit.Halt.TheVariants.{Exits, NoMemory}
 use Rattle.qvt_run_data.specs.declared.late.LateWrite.{LateWrite}
-use Rattle.qvt_run_rules.specs.Cost.{count}
+use Rattle.qvt_run_rules.specs.Cost.{spend_of}
 use Rattle.qvt_run_rules.specs.State.{State, Done, Does, ◌>>=◌, ◌>>◌, pure}
 use Rattle.qvt_run_rules.specs.Expressions as rule
 use Rattle.qvt_types_data.specs.declared.ty.Ty.{Ty}
@@ -22,17 +22,18 @@ use Rattle.qvt_typing.specs.Accepts.{ProgramTerm}
 use Rattle.qvt_exec_state.specs.Runs.{seen}
 use Rattle.qvt_exec_state.specs.declared.state.RunState.{RunState}
 use Rattle.qvt_meaning.specs.Phrases.{expr, exprs, link, links, item, items, step, steps, head}
-use Rattle.qvt_meaning.specs.Plain.{plain_setting, no_calls}
+use Rattle.qvt_meaning.specs.Plain.{no_calls, no_entry, no_resolve, nothing_beyond}
 use Rattle.qvt_meaning.specs.Readings.{Setting, HeadDoes}
 use Rattle.qvt_exec_words.specs.Gathered.{AreGathered, HasMore}
 use Rattle.qvt_exec_words.specs.declared.literals.Gathered.{Gathered}
+use Rattle.qvt_exec_leaves.specs.Signs.{ticks_of}
 use Rattle.qvt_exec_exprs.specs.declared.engine.Engine.{Engine}
 
 abbrev pub program_of : Engine → ProgramTerm
 program_of x = program_view x.program.now
 
 abbrev pub setting_of : Engine → Setting LateWrite
-setting_of x = plain_setting (program_of x)
+setting_of x = record { program = program_of x; spend = spend_of x.limit; turns = 0; resolve = no_resolve; enter = no_entry; beyond = nothing_beyond }
 
 unfoldable pub expr_of : Engine → TypedExpr → Does LateWrite Value
 expr_of x e = expr (setting_of x) no_calls None (typed_expr_view e)
@@ -86,5 +87,5 @@ abbrev pub gathered_in : Kind → List (Does LateWrite (List Value)) → Place �
 gathered_in k ps at = rule.lists_onto [] ps >>= (λ vs. pure (rule.collection at k vs))
 
 -- so many units first, then a phrase, then what is made of its value
-abbrev pub charged_first : ℕ → Does LateWrite Value → (Value → Does LateWrite Value) → Does LateWrite Value
-charged_first n p f = count n >> (p >>= f)
+abbrev pub charged_first : Option ℕ → ℕ → Does LateWrite Value → (Value → Does LateWrite Value) → Does LateWrite Value
+charged_first limit n p f = ticks_of limit n >> (p >>= f)

@@ -6,7 +6,7 @@ ghost use Rattle.qvt_run_data.specs.declared.late.LateWrite.{LateWrite};
 ghost use Rattle.qvt_types_nodes.specs.View.{typed_expr_view};
 ghost use Rattle.qvt_meaning.specs.Nodes as nodes;
 ghost use Rattle.qvt_meaning.specs.Readings as by;
-ghost use Rattle.qvt_run_rules.specs.Cost.{count};
+ghost use Rattle.qvt_run_rules.specs.Cost.{spend_of};
 ghost use Rattle.qvt_run_rules.specs.State.{Does};
 ghost use Rattle.qvt_run_rules.specs.Expressions as rule;
 ghost use Rattle.qvt_exec_state.specs.Runs.{Runs, seen};
@@ -44,13 +44,19 @@ pub fn expr(x: &Engine<'_>, node: &TypedExpr, state: &mut RunState<'_>) -> Resul
     ensures { Runs (expr_of x.now node.now (seen state.old)) result state.new }
 {
     match node {
-        TypedExpr::Int { value, .. } => literal(Value::Int(*value), state),
-        TypedExpr::Str { value, .. } => string(x.alloc, value, state),
-        TypedExpr::Bool { value, .. } => literal(Value::Bool(*value), state),
-        TypedExpr::Null { .. } => literal(Value::Null, state),
-        TypedExpr::SelfRef { place, .. } => variable(x.alloc, SELF_NAME, *place, state),
-        TypedExpr::ResultRef { place, .. } => variable(x.alloc, RESULT_NAME, *place, state),
-        TypedExpr::Path(path) => named(x.alloc, path, state),
+        TypedExpr::Int { value, .. } => literal(x.limit, Value::Int(*value), state),
+        TypedExpr::Str { value, .. } => string(x.alloc, x.limit, value, state),
+        TypedExpr::Bool { value, .. } => literal(x.limit, Value::Bool(*value), state),
+        TypedExpr::Null { .. } => literal(x.limit, Value::Null, state),
+        TypedExpr::SelfRef { place, .. } => variable(x.alloc, x.limit, SELF_NAME, *place, state),
+        TypedExpr::ResultRef { place, .. } => variable(
+            x.alloc,
+            x.limit,
+            RESULT_NAME,
+            *place,
+            state,
+        ),
+        TypedExpr::Path(path) => named(x.alloc, x.limit, path, state),
         TypedExpr::Call { place, .. } => misfit(*place),
         TypedExpr::Coll {
             kind,
@@ -140,9 +146,9 @@ fn collection(
     place: Place,
     state: &mut RunState<'_>,
 ) -> Result<Value, Halt>
-    ensures { Runs (rule.collected count kind (items_of x.now nodes.now) place (seen state.old)) result state.new }
+    ensures { Runs (rule.collected (spend_of x.now.limit) kind (items_of x.now nodes.now) place (seen state.old)) result state.new }
 {
-    tick(state)?;
+    tick(x.limit, state)?;
     collected(x, nodes, kind, place, state)
 }
 
@@ -176,7 +182,7 @@ fn link(
 ) -> Result<Value, Halt>
     ensures { Runs (link_of x.now node.now left (seen state.old)) result state.new }
 {
-    tick(state)?;
+    tick(x.limit, state)?;
     match operation_of(node.op) {
         Some(op) => {
             let args = [expr(x, &node.operand, state)?];
@@ -218,9 +224,9 @@ fn prefixed(
     signs: &[TypedSign],
     state: &mut RunState<'_>,
 ) -> Result<Value, Halt>
-    ensures { Runs (charged_first (length signs.now) (expr_of x.now operand.now) (signed_by signs.now) (seen state.old)) result state.new }
+    ensures { Runs (charged_first x.now.limit (length signs.now) (expr_of x.now operand.now) (signed_by signs.now) (seen state.old)) result state.new }
 {
-    ticks(signs.len(), state)?;
+    ticks(x.limit, signs.len(), state)?;
     let value = expr(x, operand, state)?;
     signs_on(x.alloc, signs, value, state)
 }
@@ -242,9 +248,9 @@ fn signed(
 #[cycle(plain)]
 #[tactic(auto, unfolding(qvt_run_rules::specs::Expressions::conditional))]
 fn tested(x: &Engine<'_>, condition: &TypedExpr, state: &mut RunState<'_>) -> Result<Choice, Halt>
-    ensures { (one other : Does LateWrite Value) → Decides (rule.conditional count (expr_of x.now condition.now) (nodes.place_of (typed_expr_view condition.now)) one other (seen state.old)) one other result state.new }
+    ensures { (one other : Does LateWrite Value) → Decides (rule.conditional (spend_of x.now.limit) (expr_of x.now condition.now) (nodes.place_of (typed_expr_view condition.now)) one other (seen state.old)) one other result state.new }
 {
-    tick(state)?;
+    tick(x.limit, state)?;
     let test = expr(x, condition, state)?;
     choice_by(&test, place_of(condition))
 }
@@ -260,8 +266,8 @@ fn model_steps(
     place: Place,
     state: &mut RunState<'_>,
 ) -> Result<Value, Halt>
-    ensures { Runs (rule.on_first (by.model_first (setting_of x.now) model place (all_steps all.now)) (drop 1 (steps_of x.now first.now all.now)) (seen state.old)) result state.new }
+    ensures { Runs (rule.on_first (by.model_first (spend_of x.now.limit) model place (all_steps all.now)) (drop 1 (steps_of x.now first.now all.now)) (seen state.old)) result state.new }
 {
-    let value = model_first(x.alloc, model, place, all, state)?;
+    let value = model_first(x.alloc, x.limit, model, place, all, state)?;
     steps_from(x, all, first, 1, value, state)
 }

@@ -2,7 +2,7 @@
 
 ghost use Rattle.std.specs.Prelude.{◌≡◌};
 ghost use Rattle.std.specs.Option.{option_copied};
-ghost use Rattle.qvt_run_rules.specs.Cost.{count};
+ghost use Rattle.qvt_run_rules.specs.Cost.{spend_of};
 ghost use Rattle.qvt_run_rules.specs.Iterators as each;
 ghost use Rattle.qvt_meaning.specs.Readings as by;
 ghost use Rattle.qvt_exec_state.specs.Runs.{Runs, seen};
@@ -151,9 +151,9 @@ fn iterated(
     value: Value,
     state: &mut RunState<'_>,
 ) -> Result<Value, Halt>
-    ensures { Runs (each.iterated count it.entry.place (option_copied it.entry.name) (expr_of x.now body.now) (by_turns which it.entry.place (each.for_item (option_copied it.entry.name) (expr_of x.now body.now))) value (seen state.old)) result state.new }
+    ensures { Runs (each.iterated (spend_of x.now.limit) it.entry.place (option_copied it.entry.name) (expr_of x.now body.now) (by_turns which it.entry.place (each.for_item (option_copied it.entry.name) (expr_of x.now body.now))) value (seen state.old)) result state.new }
 {
-    tick(state)?;
+    tick(x.limit, state)?;
     match &value {
         Value::Coll(kind, items) => match Turns::start(x.alloc, which, *kind) {
             Some(turns) => each_of(x, body, it, turns, items.as_slice(), state),

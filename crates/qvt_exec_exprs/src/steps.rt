@@ -49,7 +49,7 @@ fn operation_by(
 {
     match operation_named(name.as_str()) {
         Some(op) => {
-            tick(state)?;
+            tick(x.limit, state)?;
             let given = values(x, args, state)?;
             called_on(x.alloc, op, collect, given.as_slice(), place, value, state)
         }
@@ -73,6 +73,7 @@ fn operation_step(
     match class_test_named(name.as_str()) {
         Some(test) => tested_by(
             x.alloc,
+            x.limit,
             test,
             class_argument(args),
             collect,
@@ -98,7 +99,15 @@ fn arrow_on(
     ensures { Runs (by.arrow_on (setting_of x.now) name.now (named_alone (option_copied it.entry.name)) (exprs_of x.now args.now) (nodes.class_argument (typed_exprs_of (map typed_expr_view args.now))) it.entry.place value (seen state.old)) result state.new }
 {
     if is_selection(name.as_str()) {
-        return selection(x.alloc, name, class_argument(args), it.place, value, state);
+        return selection(
+            x.alloc,
+            x.limit,
+            name,
+            class_argument(args),
+            it.place,
+            value,
+            state,
+        );
     }
     match iterator_named(name.as_str()) {
         Some(which) => match args {
@@ -131,7 +140,7 @@ fn step(
             place,
             note,
         } => match args {
-            None => property_by(x.alloc, note, *place, value, state),
+            None => property_by(x.alloc, x.limit, note, *place, value, state),
             Some(args) => match &note.reading {
                 Reading::Operation(_) => {
                     operation_step(x, args.as_slice(), name, note.collect, *place, value, state)
@@ -161,7 +170,7 @@ fn step(
                     Some(head) => match &head.accumulator {
                         None => misfit(*place),
                         Some(accumulator) => {
-                            tick(state)?;
+                            tick(x.limit, state)?;
                             let first = expr(x, &accumulator.first, state)?;
                             iterate(x, body, it, &accumulator.name, first, source, state)
                         }

@@ -7,7 +7,8 @@ use Rattle.qvt_value.specs.declared.value.Kind.{Kind}
 use Rattle.qvt_value.specs.Make.{is_collection}
 use Rattle.qvt_run_data.specs.declared.exit.Halt.{Halt}
 use Rattle.qvt_run_data.specs.declared.late.LateWrite.{LateWrite}
-use Rattle.qvt_run_rules.specs.Cost.{count}
+use Rattle.qvt_live_store.specs.Held.{contents_of}
+use Rattle.qvt_run_rules.specs.Cost.{spend_of}
 use Rattle.qvt_run_rules.specs.Expressions.{select_class, selected}
 use Rattle.qvt_run_rules.specs.State.{State, Done, Does, on_outcome, found, look}
 use Rattle.qvt_run_rules.specs.Sources.{over_items}
@@ -27,10 +28,10 @@ over_none at f v t h = refl
 abbrev by_class : Bool → ℕ → Place → Kind → List Value → Does LateWrite Value
 by_class exact c at = λ k vs. look (λ s. selected s.store exact c at k vs) at
 
-pub class_selected : (exact : Bool) (c : ℕ) (at : Place) (v : Value) (k : Kind) (vs : List Value) (kept : Option Value) (u : Unit {0}) (s : State LateWrite) (r : Result Value Halt) (t : RunState) →
-    v ≡ Coll k vs → count 1 s ≡ (Ok u, seen t) → kept ≡ selected t.store.now exact c at k vs → Runs (found kept at (seen t)) r t → Runs (select_class count exact c at v s) r t
+pub class_selected : (limit : Option ℕ) (exact : Bool) (c : ℕ) (at : Place) (v : Value) (k : Kind) (vs : List Value) (kept : Option Value) (u : Unit {0}) (s : State LateWrite) (r : Result Value Halt) (t : RunState) →
+    v ≡ Coll k vs → spend_of limit 1 s ≡ (Ok u, seen t) → kept ≡ selected (contents_of t.store) exact c at k vs → Runs (found kept at (seen t)) r t → Runs (select_class (spend_of limit) exact c at v s) r t
 unfolding select_class
-class_selected exact c at v k vs kept u s r t is ticked found_so runs =
+class_selected limit exact c at v k vs kept u s r t is ticked found_so runs =
     subst (λ (d : Done LateWrite (Unit {0})). Runs (on_outcome d.0 d.1 (λ _. over_items at (by_class exact c at) v)) r t) (sym ticked)
     (subst (λ (p : Does LateWrite Value). Runs (p (seen t)) r t) (sym (ap (over_items at (by_class exact c at)) is ∙ over_coll at (by_class exact c at) k vs))
     (subst (λ (o : Option Value). Runs (found o at (seen t)) r t) found_so runs))

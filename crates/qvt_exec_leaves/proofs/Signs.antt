@@ -1,19 +1,19 @@
 -- Signs before an operand, from the inner one outwards.
-use Rattle.std.proofs.Common.{◌≡◌, ◌∙◌, ℕ, suc, refl, sym, ap, List, [], ◌∷◌, ◌++◌, length, take, ◌<◌, Result, Ok, Err, IsErrAnd}
+use Rattle.std.proofs.Common.{◌≡◌, ◌∙◌, ℕ, suc, refl, sym, ap, List, [], ◌∷◌, ◌++◌, length, take, ◌<◌, ◌≤◌, ◌-◌, arith, Option, Result, Ok, Err, IsErrAnd}
 use Rattle.std.proofs.Math.Seq.{take-suc}
 use Rattle.std.proofs.Math.ListN.{get_or}
 use Rattle.qvt_value.specs.declared.value.Value.{Value}
 use Rattle.qvt_run_data.specs.declared.exit.Exit.{Exit}
 use Rattle.qvt_run_data.specs.declared.late.LateWrite.{LateWrite}
 use Rattle.qvt_run_rules.specs.State.{State, Done, Does, on_outcome, ◌>>=◌, pure, found}
-use Rattle.qvt_run_rules.specs.Cost.{count}
+use Rattle.qvt_run_rules.specs.Cost.{count, spend_of}
 use Rattle.qvt_run_rules.specs.Expressions as rule
 use Rattle.qvt_run_data.specs.declared.exit.Halt.{Halt}
 use Rattle.qvt_exec_state.specs.Runs.{Runs, seen}
 use Rattle.qvt_exec_state.specs.declared.state.RunState.{RunState}
 use Rattle.qvt_exec_leaves.proofs.Ends.{ends}
 use Rattle.qvt_types_nodes.specs.declared.types.TypedSign.{TypedSign}
-use Rattle.qvt_exec_leaves.specs.Signs.{signed_by}
+use Rattle.qvt_exec_leaves.specs.Signs.{signed_by, ticks_of}
 
 -- a step after two steps is a step after the first of them
 pub later : {A B C : Type 0} (r : Result A Exit) (s : State LateWrite) (f : A → Does LateWrite B) (g : B → Does LateWrite C) → on_outcome (on_outcome r s f).0 (on_outcome r s f).1 g ≡ on_outcome r s (λ a. f a >>= g)
@@ -57,3 +57,11 @@ pub signed_on : (ss : List TypedSign) (left n : ℕ) (g : TypedSign) (v w operan
     signed_by ss operand s ≡ signed_by (take left ss) v s → on_sign g v s ≡ (Ok w, s) → signed_by ss operand s ≡ signed_by (take n ss) w s
 signed_on ss left n g v w operand s more within is before on =
     before ∙ signed_more ss left n g v s more within is ∙ ap (λ (d : Done LateWrite Value). on_outcome d.0 d.1 (signed_by (take n ss))) on
+
+-- so many single units, the first of them first
+pub ticks_more : (limit : Option ℕ) (n k : ℕ) (s : State LateWrite) → k < n →
+    ticks_of limit (n - k) s ≡ on_outcome (spend_of limit 1 s).0 (spend_of limit 1 s).1 (λ _. ticks_of limit (n - suc k))
+ticks_more limit n k s h = let e : n - k ≡ suc (n - suc k) = omega (arith, h) in ap (λ m. ticks_of limit m s) e
+
+pub ticks_over : (limit : Option ℕ) (n k : ℕ) (s : State LateWrite) → n ≤ k → ticks_of limit (n - k) s ≡ (Ok tt, s)
+ticks_over limit n k s h = let e : n - k ≡ 0 = omega (arith, h) in ap (λ m. ticks_of limit m s) e

@@ -74,7 +74,7 @@ fn on_one(
         Leaf::Operation(op, args) => applied(alloc, *op, args, place, value, state),
         Leaf::Test(test, class) => {
             found(
-                tested(state.store, *test, *class, place, value),
+                tested(state.store.as_store(), *test, *class, place, value),
                 place,
                 state,
             )

@@ -2,12 +2,11 @@
 
 ghost use Rattle.std.specs.Prelude.{◌≡◌};
 ghost use Rattle.qvt_value.specs.declared.value.Value.TheVariants as value;
-ghost use Rattle.qvt_run_rules.specs.Cost.{count};
+ghost use Rattle.qvt_run_rules.specs.Cost.{spend_of};
 ghost use Rattle.qvt_run_rules.specs.Expressions as rule;
-ghost use Rattle.qvt_meaning.specs.Plain.{plain_setting};
 ghost use Rattle.qvt_meaning.specs.Readings as by;
-ghost use Rattle.qvt_typing.specs.Accepts.{ProgramTerm};
 ghost use Rattle.qvt_exec_state.specs.Runs.{Runs, seen};
+ghost use Rattle.qvt_exec_leaves.specs.Signs.{ticks_of};
 
 use qvt_base::copied::Copied;
 use qvt_base::numbers::{FeatureNo, Place};
@@ -21,30 +20,37 @@ use qvt_types_nodes::types::TypedPathTree;
 use qvt_value::value::{LiteralRef, Reason, Value};
 use std::alloc::Global;
 
-/// So many units.
-#[tactic(auto, unfolding(qvt_run_rules::specs::Cost::count))]
-pub fn ticks(units: usize, state: &mut RunState<'_>) -> Result<(), Halt>
-    ensures { Runs (count units (seen state.old)) result state.new }
+/// So many single units.
+#[tactic(auto, using(crate::proofs::Signs::ticks_more, crate::proofs::Signs::ticks_over))]
+pub fn ticks(limit: Option<u64>, units: usize, state: &mut RunState<'_>) -> Result<(), Halt>
+    ensures { Runs (ticks_of limit units (seen state.old)) result state.new }
 {
-    state.cost.add(units as u64)?;
+    for _ in 0..units {
+        tick(limit, state)?;
+    }
     Ok(())
 }
 
 /// A literal.
 #[tactic(auto, unfolding(qvt_run_rules::specs::Expressions::literal))]
-pub fn literal(value: Value, state: &mut RunState<'_>) -> Result<Value, Halt>
-    ensures { Runs (rule.literal count value (seen state.old)) result state.new }
+pub fn literal(limit: Option<u64>, value: Value, state: &mut RunState<'_>) -> Result<Value, Halt>
+    ensures { Runs (rule.literal (spend_of limit) value (seen state.old)) result state.new }
 {
-    tick(state)?;
+    tick(limit, state)?;
     Ok(value)
 }
 
 /// A text.
 #[tactic(auto, unfolding(qvt_run_rules::specs::Expressions::literal))]
-pub fn string(alloc: Global, text: &Text, state: &mut RunState<'_>) -> Result<Value, Halt>
-    ensures { Runs (rule.literal count (value.Str text.now) (seen state.old)) result state.new }
+pub fn string(
+    alloc: Global,
+    limit: Option<u64>,
+    text: &Text,
+    state: &mut RunState<'_>,
+) -> Result<Value, Halt>
+    ensures { Runs (rule.literal (spend_of limit) (value.Str text.now) (seen state.old)) result state.new }
 {
-    tick(state)?;
+    tick(limit, state)?;
     Ok(Value::Str(text.copy(alloc)?))
 }
 
@@ -52,13 +58,14 @@ pub fn string(alloc: Global, text: &Text, state: &mut RunState<'_>) -> Result<Va
 #[tactic(auto, unfolding(qvt_run_rules::specs::Expressions::variable))]
 pub fn variable(
     alloc: Global,
+    limit: Option<u64>,
     name: &str,
     place: Place,
     state: &mut RunState<'_>,
 ) -> Result<Value, Halt>
-    ensures { Runs (rule.variable count name.now place (seen state.old)) result state.new }
+    ensures { Runs (rule.variable (spend_of limit) name.now place (seen state.old)) result state.new }
 {
-    tick(state)?;
+    tick(limit, state)?;
     read(alloc, state, name, place)
 }
 
@@ -77,7 +84,7 @@ pub fn property_of(
         Value::Invalid(reason, cause) => Ok(Value::Invalid(*reason, *cause)),
         Value::Null => Ok(Value::Invalid(Reason::NullSource, place)),
         Value::Obj(object) => {
-            let value = property(alloc, place, state.store, *object, feature)?;
+            let value = property(alloc, place, state.store.as_store(), *object, feature)?;
             found(value, place, state)
         }
         _ => misfit(place),
@@ -88,29 +95,36 @@ pub fn property_of(
 #[tactic(auto, unfolding(qvt_run_rules::specs::Expressions::implicit))]
 fn implicit(
     alloc: Global,
+    limit: Option<u64>,
     source: &str,
     feature: FeatureNo,
     place: Place,
     state: &mut RunState<'_>,
 ) -> Result<Value, Halt>
-    ensures { Runs (rule.implicit count source.now feature.0 place (seen state.old)) result state.new }
+    ensures { Runs (rule.implicit (spend_of limit) source.now feature.0 place (seen state.old)) result state.new }
 {
-    tick(state)?;
+    tick(limit, state)?;
     let value = read(alloc, state, source, place)?;
     property_of(alloc, feature, place, &value, state)
 }
 
 /// A path, by what typing read it as.
-pub fn named(alloc: Global, path: &TypedPathTree, state: &mut RunState<'_>) -> Result<Value, Halt>
-    ensures { (q : ProgramTerm) → Runs (by.name_of (plain_setting q) path.now.note.reading path.now.note.source path.now.place (seen state.old)) result state.new }
+pub fn named(
+    alloc: Global,
+    limit: Option<u64>,
+    path: &TypedPathTree,
+    state: &mut RunState<'_>,
+) -> Result<Value, Halt>
+    ensures { Runs (by.name_of (spend_of limit) path.now.note.reading path.now.note.source path.now.place (seen state.old)) result state.new }
 {
     match &path.note.reading {
-        Reading::Variable(name) => variable(alloc, name.as_str(), path.place, state),
+        Reading::Variable(name) => variable(alloc, limit, name.as_str(), path.place, state),
         Reading::Feature(feature) => match &path.note.source {
-            Some(source) => implicit(alloc, source.as_str(), *feature, path.place, state),
+            Some(source) => implicit(alloc, limit, source.as_str(), *feature, path.place, state),
             None => misfit(path.place),
         },
         Reading::Literal(metamodel, enumeration, literal) => enumerated(
+            limit,
             LiteralRef {
                 metamodel: *metamodel,
                 enumeration: *enumeration,
@@ -123,8 +137,8 @@ pub fn named(alloc: Global, path: &TypedPathTree, state: &mut RunState<'_>) -> R
 }
 
 /// A literal of an enumeration.
-fn enumerated(of: LiteralRef, state: &mut RunState<'_>) -> Result<Value, Halt>
-    ensures { Runs (rule.literal count (value.Enum of) (seen state.old)) result state.new }
+fn enumerated(limit: Option<u64>, of: LiteralRef, state: &mut RunState<'_>) -> Result<Value, Halt>
+    ensures { Runs (rule.literal (spend_of limit) (value.Enum of) (seen state.old)) result state.new }
 {
-    literal(Value::Enum(of), state)
+    literal(limit, Value::Enum(of), state)
 }

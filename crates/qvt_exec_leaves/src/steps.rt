@@ -2,11 +2,9 @@
 
 ghost use Rattle.std.specs.Prelude.{◌≡◌, Some, map};
 ghost use Rattle.qvt_types_nodes.specs.View.{typed_step_view, typed_steps_of};
-ghost use Rattle.qvt_run_rules.specs.Cost.{count};
+ghost use Rattle.qvt_run_rules.specs.Cost.{spend_of};
 ghost use Rattle.qvt_run_rules.specs.Expressions as rule;
-ghost use Rattle.qvt_meaning.specs.Plain.{plain_setting};
 ghost use Rattle.qvt_meaning.specs.Readings as by;
-ghost use Rattle.qvt_typing.specs.Accepts.{ProgramTerm};
 ghost use Rattle.qvt_exec_state.specs.Runs.{Runs, seen};
 ghost use Rattle.qvt_exec_leaves.specs.Leaves.{without_items};
 
@@ -32,16 +30,17 @@ use std::alloc::Global;
 #[tactic(auto, unfolding(qvt_run_rules::specs::Expressions::dot))]
 pub fn property_by(
     alloc: Global,
+    limit: Option<u64>,
     note: &Note,
     place: Place,
     value: Value,
     state: &mut RunState<'_>,
 ) -> Result<Value, Halt>
-    ensures { (q : ProgramTerm) → Runs (by.property_by (plain_setting q) note.now.reading note.now.collect place value (seen state.old)) result state.new }
+    ensures { Runs (by.property_by (spend_of limit) note.now.reading note.now.collect place value (seen state.old)) result state.new }
 {
     match &note.reading {
         Reading::Feature(feature) => {
-            tick(state)?;
+            tick(limit, state)?;
             let leaf = Leaf::Property(*feature);
             dotted(alloc, note.collect, &leaf, place, &value, state)
         }
@@ -53,6 +52,7 @@ pub fn property_by(
 #[tactic(auto, unfolding(qvt_run_rules::specs::Expressions::object_tested))]
 pub fn object_tested(
     alloc: Global,
+    limit: Option<u64>,
     collect: bool,
     test: ObjectTest,
     class: u32,
@@ -60,9 +60,9 @@ pub fn object_tested(
     value: Value,
     state: &mut RunState<'_>,
 ) -> Result<Value, Halt>
-    ensures { Runs (rule.object_tested count collect test class place value (seen state.old)) result state.new }
+    ensures { Runs (rule.object_tested (spend_of limit) collect test class place value (seen state.old)) result state.new }
 {
-    tick(state)?;
+    tick(limit, state)?;
     let leaf = Leaf::Test(test, ClassNo(class));
     dotted(alloc, collect, &leaf, place, &value, state)
 }
@@ -70,6 +70,7 @@ pub fn object_tested(
 /// A test or cast by its name, with the class that its argument names, if it names one.
 pub fn tested_by(
     alloc: Global,
+    limit: Option<u64>,
     test: ClassTest,
     class: Option<u32>,
     collect: bool,
@@ -77,11 +78,12 @@ pub fn tested_by(
     value: Value,
     state: &mut RunState<'_>,
 ) -> Result<Value, Halt>
-    ensures { (q : ProgramTerm) → Runs (by.tested_by (plain_setting q) (Some test) class collect place value (seen state.old)) result state.new }
+    ensures { Runs (by.tested_by (spend_of limit) (Some test) class collect place value (seen state.old)) result state.new }
 {
     match class {
         Some(class) => object_tested(
             alloc,
+            limit,
             collect,
             object_test(test),
             class,
@@ -108,20 +110,21 @@ pub fn without_items(value: Value, place: Place) -> Result<Value, Halt>
 #[tactic(auto, using(crate::proofs::Over::over_none), unfolding(qvt_run_rules::specs::Expressions::select_class))]
 pub fn select_class(
     alloc: Global,
+    limit: Option<u64>,
     exact: bool,
     class: u32,
     place: Place,
     value: Value,
     state: &mut RunState<'_>,
 ) -> Result<Value, Halt>
-    ensures { Runs (rule.select_class count exact class place value (seen state.old)) result state.new }
+    ensures { Runs (rule.select_class (spend_of limit) exact class place value (seen state.old)) result state.new }
 {
-    tick(state)?;
+    tick(limit, state)?;
     match value.into_items() {
         Ok((kind, items)) => {
             let kept = selected(
                 alloc,
-                state.store,
+                state.store.as_store(),
                 exact,
                 ClassNo(class),
                 place,
@@ -137,18 +140,19 @@ pub fn select_class(
 /// A selection by its name, with the class that its argument names, if it names one.
 pub fn selection(
     alloc: Global,
+    limit: Option<u64>,
     name: &Text,
     class: Option<u32>,
     place: Place,
     value: Value,
     state: &mut RunState<'_>,
 ) -> Result<Value, Halt>
-    ensures { (q : ProgramTerm) → Runs (by.selection_by (plain_setting q) name.now class place value (seen state.old)) result state.new }
+    ensures { Runs (by.selection_by (spend_of limit) name.now class place value (seen state.old)) result state.new }
 {
     match class {
         Some(class) => {
             let exact = name.as_str() == "selectByType";
-            select_class(alloc, exact, class, place, value, state)
+            select_class(alloc, limit, exact, class, place, value, state)
         }
         None => misfit(place),
     }
@@ -158,27 +162,29 @@ pub fn selection(
 #[tactic(auto, unfolding(qvt_run_rules::specs::Expressions::model_step))]
 fn model_step(
     alloc: Global,
+    limit: Option<u64>,
     query: ModelQuery,
     model: u32,
     place: Place,
     state: &mut RunState<'_>,
 ) -> Result<Value, Halt>
-    ensures { Runs (rule.model_step count query model place (seen state.old)) result state.new }
+    ensures { Runs (rule.model_step (spend_of limit) query model place (seen state.old)) result state.new }
 {
-    tick(state)?;
-    tick(state)?;
-    Ok(model_value(alloc, state.store, query, model, place)?)
+    tick(limit, state)?;
+    tick(limit, state)?;
+    Ok(model_value(alloc, state.store.as_store(), query, model, place)?)
 }
 
 /// The name of a model with its first step.
 pub fn model_first(
     alloc: Global,
+    limit: Option<u64>,
     model: u32,
     place: Place,
     all: &[TypedStep],
     state: &mut RunState<'_>,
 ) -> Result<Value, Halt>
-    ensures { (q : ProgramTerm) → Runs (by.model_first (plain_setting q) model place (typed_steps_of (map typed_step_view all.now)) (seen state.old)) result state.new }
+    ensures { Runs (by.model_first (spend_of limit) model place (typed_steps_of (map typed_step_view all.now)) (seen state.old)) result state.new }
 {
     match all {
         [
@@ -193,7 +199,7 @@ pub fn model_first(
             model_call_named(name.as_str()),
             class_argument(args.as_slice()),
         ) {
-            Some(query) => model_step(alloc, query, model, *place, state),
+            Some(query) => model_step(alloc, limit, query, model, *place, state),
             None => misfit(*place),
         },
         _ => misfit(place),

@@ -21,22 +21,29 @@ use qvt_run_data::fault::RunFault;
 use qvt_run_data::local::Local;
 use qvt_store::store::Store;
 use qvt_types_nodes::tree::TypedExpr;
+use qvt_types_program::program::Program;
 use qvt_value::value::Var;
 use std::alloc::Global;
 
 /// What an expression of the program gives over a store, with these variables in scope, and its cost.
-#[tactic(auto, using(crate::proofs::Telling::told_of), unfolding(qvt_meaning::specs::Plain::plain, qvt_exec_exprs::specs::Means::expr_of))]
+#[tactic(auto, using(crate::proofs::Telling::told_of), unfolding(qvt_meaning::specs::Plain::plain, qvt_run_rules::specs::Cost::spend_of, qvt_exec_exprs::specs::Means::expr_of))]
 pub fn evaluate(
-    x: &Engine<'_>,
+    alloc: Global,
+    program: &Program,
     node: &TypedExpr,
     store: &Store,
     locals: Seq<Local>,
 ) -> Result<Told, ListFault>
-    ensures { IfOk result (Tells (plain (program_view x.now.program.now) store.now locals (typed_expr_view node.now))) }
+    ensures { IfOk result (Tells (plain (program_view program.now) store.now locals (typed_expr_view node.now))) }
 {
-    let mut state = RunState::new(x.alloc, store, locals);
-    let given = expr(x, node, &mut state);
-    let outcome = outcome_of(x.alloc, given)?;
+    let x = Engine {
+        alloc,
+        limit: None,
+        program,
+    };
+    let mut state = RunState::new(alloc, store, locals);
+    let given = expr(&x, node, &mut state);
+    let outcome = outcome_of(alloc, given)?;
     Ok(Told {
         outcome,
         cost: state.cost.told(),
@@ -74,12 +81,8 @@ pub fn eval_plain(
     match expressions.expr(number) {
         None => Ok(no_expression()),
         Some(node) => {
-            let x = Engine {
-                alloc,
-                program: expressions.program(),
-            };
             let locals = locals_of(alloc, vars)?;
-            evaluate(&x, node, store, locals)
+            evaluate(alloc, expressions.program(), node, store, locals)
         }
     }
 }

@@ -1,6 +1,6 @@
 //! Costs.
 
-ghost use Rattle.std.specs.Prelude.{◌≡◌, ◌+◌, min, OnOk, OnErr};
+ghost use Rattle.std.specs.Prelude.{◌≡◌, ◌+◌, min, nat_lt, OnOk, OnErr};
 
 use qvt_base::list_fault::ListFault;
 use qvt_base::seq::Seq;
@@ -50,6 +50,19 @@ impl Cost {
         }
         self.low = low;
         Ok(())
+    }
+
+    /// Whether so many units more are above the limit.
+    pub fn passes(&self, units: u64, limit: u64) -> bool
+        ensures { result ≡ nat_lt limit (self.now + units) }
+    {
+        if !self.laps.is_empty() {
+            return true;
+        }
+        match self.low.checked_add(units) {
+            None => true,
+            Some(sum) => limit < sum,
+        }
     }
 
     /// The number, or the greatest one of 64 bits where it is above that.

@@ -1,19 +1,30 @@
-//! The state of an evaluation.
+//! The state of a run, and of the evaluation of an expression.
 
 ghost use Rattle.std.specs.Prelude.{◌≡◌, [], None};
+ghost use Rattle.qvt_live_store.specs.Held.{contents_of};
 ghost use Rattle.qvt_exec_state.specs.Runs.{seen};
 
 use crate::cost::Cost;
+use qvt_base::numbers::Oid;
 use qvt_base::seq::Seq;
+use qvt_live_store::held::Held;
+use qvt_live_store::live::LiveStore;
+use qvt_run_data::late::LateWrite;
 use qvt_run_data::local::Local;
+use qvt_run_data::record::{Key, Record};
 use qvt_store::store::Store;
 use std::alloc::Global;
 
-/// The store that is read, the variables in scope, the latest last, and the cost so far. A scope ends
-/// where `locals` are cut to those from before it.
+/// The store; the variables in scope, the latest last; the object of the innermost object expression;
+/// the trace; the keys of the mapping calls that are open; what late assignments keep; and the cost so
+/// far. A scope ends where `locals` are cut to those from before it.
 pub struct RunState<'s> {
-    pub store: &'s Store,
+    pub store: Held<'s>,
     pub locals: Seq<Local>,
+    pub inner: Option<Oid>,
+    pub trace: Seq<Record>,
+    pub keys: Seq<Key>,
+    pub entries: Seq<LateWrite>,
     pub cost: Cost,
 }
 
@@ -22,20 +33,42 @@ impl Drop for RunState<'_> {
         let RunState {
             store,
             locals,
+            inner,
+            trace,
+            keys,
+            entries,
             cost,
         } = self;
     }
 }
 
+/// Nothing is done yet, over this store, with these variables in scope. It takes no memory.
+fn begun<'s>(alloc: Global, store: Held<'s>, locals: Seq<Local>) -> RunState<'s>
+    ensures { seen result ≡ record { locals = locals; inner = None; store = contents_of store.entry; trace = []; keys = []; entries = []; cost = 0 } }
+{
+    RunState {
+        store,
+        locals,
+        inner: None,
+        trace: Seq::new(alloc),
+        keys: Seq::new(alloc),
+        entries: Seq::new(alloc),
+        cost: Cost::new(alloc),
+    }
+}
+
 impl<'s> RunState<'s> {
-    /// Nothing is evaluated yet. It takes no memory.
+    /// Before the evaluation of an expression, over a store that is lent. It takes no memory.
     pub fn new(alloc: Global, store: &'s Store, locals: Seq<Local>) -> RunState<'s>
         ensures { seen result ≡ record { locals = locals; inner = None; store = store.now; trace = []; keys = []; entries = []; cost = 0 } }
     {
-        RunState {
-            store,
-            locals,
-            cost: Cost::new(alloc),
-        }
+        begun(alloc, Held::Lent(store), locals)
+    }
+
+    /// Before a run, which changes the store. It takes no memory.
+    pub fn of_run(alloc: Global, store: LiveStore) -> RunState<'s>
+        ensures { seen result ≡ record { locals = []; inner = None; store = store; trace = []; keys = []; entries = []; cost = 0 } }
+    {
+        begun(alloc, Held::Own(store), Seq::new(alloc))
     }
 }

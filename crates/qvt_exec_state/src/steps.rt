@@ -2,7 +2,7 @@
 
 ghost use Rattle.std.specs.Prelude.{◌≡◌, Err, OnOk, OnErr};
 ghost use Rattle.std.specs.Option.{option_copied};
-ghost use Rattle.qvt_run_rules.specs.Cost.{count};
+ghost use Rattle.qvt_run_rules.specs.Cost.{charge, count, spend_of};
 ghost use Rattle.qvt_run_rules.specs.Locals.{fixed, name_in, read};
 ghost use Rattle.qvt_run_rules.specs.State.{found};
 ghost use Rattle.qvt_exec_state.specs.Runs.{Runs, seen, with_local};
@@ -37,13 +37,43 @@ pub fn found(value: Option<Value>, place: Place, state: &RunState<'_>) -> Result
     }
 }
 
-/// One unit more.
+/// So many units more, without an end.
 #[tactic(auto, unfolding(qvt_run_rules::specs::Cost::count))]
-pub fn tick(state: &mut RunState<'_>) -> Result<(), Halt>
-    ensures { Runs (count 1 (seen state.old)) result state.new }
+fn count(units: u64, state: &mut RunState<'_>) -> Result<(), Halt>
+    ensures { Runs (count units (seen state.old)) result state.new }
 {
-    state.cost.add(1)?;
+    state.cost.add(units)?;
     Ok(())
+}
+
+/// So many units more, unless the cost would pass the fuel.
+#[tactic(auto, unfolding(qvt_run_rules::specs::Cost::charge))]
+fn charge(fuel: u64, units: u64, state: &mut RunState<'_>) -> Result<(), Halt>
+    ensures { Runs (charge fuel units (seen state.old)) result state.new }
+{
+    if state.cost.passes(units, fuel) {
+        return Err(Halt::Exits(Exit::Ends(End::OutOfFuel)));
+    }
+    state.cost.add(units)?;
+    Ok(())
+}
+
+/// So many units more, within the limit if there is one.
+#[tactic(auto, unfolding(qvt_run_rules::specs::Cost::spend_of))]
+pub fn spend(limit: Option<u64>, units: u64, state: &mut RunState<'_>) -> Result<(), Halt>
+    ensures { Runs (spend_of limit units (seen state.old)) result state.new }
+{
+    match limit {
+        None => count(units, state),
+        Some(fuel) => charge(fuel, units, state),
+    }
+}
+
+/// One unit more.
+pub fn tick(limit: Option<u64>, state: &mut RunState<'_>) -> Result<(), Halt>
+    ensures { Runs (spend_of limit 1 (seen state.old)) result state.new }
+{
+    spend(limit, 1, state)
 }
 
 /// The value of the first variable of that name, else a misfit.

@@ -20,7 +20,7 @@ use Rattle.qvt_run_data.specs.declared.exit.Exit.{Exit}
 use Rattle.qvt_run_data.specs.declared.exit.End.TheVariants.{OutOfFuel}
 use Rattle.qvt_run_data.specs.declared.exit.Exit.TheVariants.{Returned, Ends}
 use Rattle.qvt_run_rules.specs.State.{State, Done, Does}
-use Rattle.qvt_run_rules.specs.Calls.{Callee}
+use Rattle.qvt_run_data.specs.declared.callee.Callee.{Callee}
 use Rattle.qvt_run_rules.specs.Statements.{in_order}
 use Rattle.qvt_run_rules.specs.Trace.{key_of, result_for}
 use Rattle.qvt_types_data.specs.declared.ty.Ty.{Ty}

@@ -52,7 +52,7 @@ module _ {E : Type 0} (x : Setting E) (calls : Calls E) (answer : Option Ty) whe
     expr (TypedNullExpr at n) = rule.literal x.spend Null
     expr (TypedSelfExpr at n) = rule.variable x.spend self_name at
     expr (TypedResultExpr at n) = rule.variable x.spend result_name at
-    expr (TypedPathExpr p) = by.name_of x p.note.reading p.note.source p.place
+    expr (TypedPathExpr p) = by.name_of x.spend p.note.reading p.note.source p.place
     expr (TypedCallExpr name es at n) = x.beyond at (by.call_alone x calls n.reading n.source false (exprs es) at)
     expr (TypedCollExpr k is at n) = rule.collected x.spend (kind_of k) (items is) at
     expr (TypedIfExpr c y z at n) = rule.conditional x.spend (expr c) (place_of c) (expr y) (expr z)
@@ -112,7 +112,7 @@ module _ {E : Type 0} (x : Setting E) (calls : Calls E) (answer : Option Ty) whe
     step o (TypedArrowResolveStep r) = resolve_step r
 
     pub dot_step : List ℕ → TypedOptionalArgs → Place → Note → Value → Does E Value
-    dot_step name TypedNoArgs at n = by.property_by x n.reading n.collect at
+    dot_step name TypedNoArgs at n = by.property_by x.spend n.reading n.collect at
     dot_step name (TypedSomeArgs es) at n = by.dot_by x calls name n.reading n.collect (exprs es) (class_argument es) at
 
     pub steps : Option Ty → TypedStepTerms → List (Value → Does E Value)

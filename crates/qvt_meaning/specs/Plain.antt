@@ -22,7 +22,8 @@ use Rattle.qvt_run_rules.specs.Cost.{count}
 use Rattle.qvt_run_rules.specs.Locals.{fixed, local_of, name_in}
 use Rattle.qvt_run_rules.specs.Trace.{candidates}
 use Rattle.qvt_run_rules.specs.Calls.{Calls}
-use Rattle.qvt_run_rules.specs.Resolve.{Answer, Weighed, Passes, Stops, Query, verdict_of, sifted}
+use Rattle.qvt_run_data.specs.declared.request.Query.{Query}
+use Rattle.qvt_run_rules.specs.Resolve.{Answer, Weighed, Passes, Stops, verdict_of, sifted}
 use Rattle.qvt_meaning.specs.Nodes.{place_of}
 use Rattle.qvt_meaning.specs.Numbered.{Condition, condition_at, expr_at}
 use Rattle.qvt_meaning.specs.Phrases.{expr}

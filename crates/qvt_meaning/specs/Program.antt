@@ -21,8 +21,10 @@ use Rattle.qvt_types_units.specs.Choice as units
 use Rattle.qvt_types_units.specs.Numbers.{unit_at, has_context}
 use Rattle.qvt_typing.specs.Accepts.{ProgramTerm}
 use Rattle.qvt_slots.specs.Contents.{Contents, class_of, is_live}
-use Rattle.qvt_run_rules.specs.Calls.{Callee, HelperCall, MappingCall, Called}
-use Rattle.qvt_run_rules.specs.Resolve.{Form}
+use Rattle.qvt_run_data.specs.declared.callee.Callee.{Callee}
+use Rattle.qvt_run_data.specs.declared.callee.Callee.TheVariants.{HelperCall, MappingCall}
+use Rattle.qvt_run_data.specs.declared.callee.Way.TheVariants.{Called}
+use Rattle.qvt_run_data.specs.declared.request.Form.{Form}
 use Rattle.qvt_meaning.specs.Nodes.{mark_of, class_in, written_type, mappings_in, mappings_named}
 
 -- Units.

@@ -36,9 +36,11 @@ use Rattle.qvt_run_rules.specs.Iterators as each
 use Rattle.qvt_run_rules.specs.Questions.{object_test, named_query}
 use Rattle.qvt_run_rules.specs.Statements as statement
 use Rattle.qvt_run_rules.specs.Calls as call
-use Rattle.qvt_run_rules.specs.Calls.{Callee, Calls}
+use Rattle.qvt_run_data.specs.declared.callee.Callee.{Callee}
+use Rattle.qvt_run_rules.specs.Calls.{Calls}
 use Rattle.qvt_run_rules.specs.Resolve as resolving
-use Rattle.qvt_run_rules.specs.Resolve.{Query, Form}
+use Rattle.qvt_run_data.specs.declared.request.Query.{Query}
+use Rattle.qvt_run_data.specs.declared.request.Form.{Form}
 use Rattle.qvt_meaning.specs.Nodes.{resolve_mark, class_argument}
 use Rattle.qvt_meaning.specs.Program.{chosen_for, free_callee, form_of}
 
@@ -64,15 +66,52 @@ pub record HeadDoes (E : Type 0) : Type 0 where
   pub name : Option (List ℕ)
   pub accumulator : Option (List ℕ × Does E Value)
 
-module _ {E : Type 0} (x : Setting E) where
+module _ {E : Type 0} where
+  -- the unit that is called on an object, by its class
+  abbrev pub choose : ProgramTerm → Reading → Bool → Place → Oid → Does E Callee
+  choose p r strict at o = look (λ s. chosen_for p r strict o s.store) at
+
+  -- the object whose property a bare name means: that of the innermost object expression, or that of its implicit source
+  abbrev pub bare_target : Option (List ℕ) → ℕ → Place → Does E Oid
+  bare_target None f at = statement.inner_target f at
+  bare_target (Some source) f at = statement.source_target source f at
+
+-- Readings of phrases that do nothing but charge and read.
+module _ {E : Type 0} (spend : ℕ → Does E (Unit {0})) where
   -- Names.
 
   abbrev pub name_of : Reading → Option (List ℕ) → Place → Does E Value
-  name_of (reading.Variable name) source at = rule.variable x.spend name at
-  name_of (reading.Feature f) (Some source) at = rule.implicit x.spend source f.0 at
-  name_of (reading.Literal m e l) source at = rule.literal x.spend (Enum (record { metamodel = m; enumeration = e; literal = l }))
+  name_of (reading.Variable name) source at = rule.variable spend name at
+  name_of (reading.Feature f) (Some source) at = rule.implicit spend source f.0 at
+  name_of (reading.Literal m e l) source at = rule.literal spend (Enum (record { metamodel = m; enumeration = e; literal = l }))
   name_of r source at = misfit at
 
+  -- Steps behind a dot.
+
+  abbrev pub property_by : Reading → Bool → Place → Value → Does E Value
+  property_by (reading.Feature f) collect at v = rule.dot spend collect f.0 at v
+  property_by r collect at v = misfit at
+
+  abbrev pub tested_by : Option ClassTest → Option ℕ → Bool → Place → Value → Does E Value
+  tested_by (Some t) (Some c) collect at v = rule.object_tested spend collect (object_test t) c at v
+  tested_by t c collect at v = misfit at
+
+  abbrev pub selection_by : List ℕ → Option ℕ → Place → Value → Does E Value
+  selection_by name (Some c) at v = rule.select_class spend (bytes_eq name (codes "selectByType")) c at v
+  selection_by name None at v = misfit at
+
+  -- Models.
+
+  abbrev pub query_step : Option ModelQuery → ℕ → Place → Does E Value
+  query_step (Some q) i at = rule.model_step spend q i at
+  query_step None i at = misfit at
+
+  -- the name of a model with its first step
+  abbrev pub model_first : ℕ → Place → TypedStepTerms → Does E Value
+  model_first i at (TypedMoreSteps (TypedDotStep name (TypedSomeArgs es) step_at n) ss) = query_step (named_query (model_call_named name) (class_argument es)) i step_at
+  model_first i at ss = misfit at
+
+module _ {E : Type 0} (x : Setting E) where
   -- Operators.
 
   abbrev pub operated_by : Option Op → BinaryOp → Does E Value → Place → Value → Does E Value
@@ -87,16 +126,6 @@ module _ {E : Type 0} (x : Setting E) where
   signs_of [] p = p
   signs_of (s ∷ ss) p = rule.prefixed x.spend s.op s.place (signs_of ss p)
 
-  -- Steps behind a dot.
-
-  abbrev pub property_by : Reading → Bool → Place → Value → Does E Value
-  property_by (reading.Feature f) collect at v = rule.dot x.spend collect f.0 at v
-  property_by r collect at v = misfit at
-
-  abbrev pub tested_by : Option ClassTest → Option ℕ → Bool → Place → Value → Does E Value
-  tested_by (Some t) (Some c) collect at v = rule.object_tested x.spend collect (object_test t) c at v
-  tested_by t c collect at v = misfit at
-
   abbrev pub operation_by : Option Op → List (Does E Value) → Bool → Place → Value → Does E Value
   operation_by (Some o) ps collect at v = rule.called x.spend collect o ps at v
   operation_by None ps collect at v = misfit at
@@ -104,13 +133,10 @@ module _ {E : Type 0} (x : Setting E) where
   -- a test or cast takes a class, and any other operation values
   abbrev pub operation_step : List ℕ → List (Does E Value) → Option ℕ → Bool → Place → Value → Does E Value
   operation_step name ps c collect at v =
-      if is_some (class_test_named name) then tested_by (class_test_named name) c collect at v
+      if is_some (class_test_named name) then tested_by x.spend (class_test_named name) c collect at v
       else operation_by (operation_named name) ps collect at v
 
   -- Calls of units.
-
-  abbrev pub choose : Reading → Bool → Place → Oid → Does E Callee
-  choose r strict at o = look (λ s. chosen_for x.program r strict o s.store) at
 
   abbrev pub call_free : Calls E → Option Callee → List (Does E Value) → Place → Does E Value
   call_free calls (Some c) ps at = call.call_free x.spend calls c ps at
@@ -118,16 +144,16 @@ module _ {E : Type 0} (x : Setting E) where
 
   -- without a step: on the implicit source, or without a context
   abbrev pub call_alone : Calls E → Reading → Option (List ℕ) → Bool → List (Does E Value) → Place → Does E Value
-  call_alone calls r (Some source) strict ps at = call.call_implicit x.spend calls (choose r strict at) source ps at
+  call_alone calls r (Some source) strict ps at = call.call_implicit x.spend calls (choose x.program r strict at) source ps at
   call_alone calls r None strict ps at = call_free calls (free_callee x.program r strict) ps at
 
   abbrev pub unit_step : Calls E → Reading → Bool → List (Does E Value) → Place → Value → Does E Value
-  unit_step calls r true ps at v = call.call_each x.spend calls (choose r false at) ps at v
-  unit_step calls r false ps at v = call.call_step x.spend calls (choose r false at) ps at v
+  unit_step calls r true ps at v = call.call_each x.spend calls (choose x.program r false at) ps at v
+  unit_step calls r false ps at v = call.call_step x.spend calls (choose x.program r false at) ps at v
 
   abbrev pub map_step : Calls E → Reading → Bool → Bool → List (Does E Value) → Place → Value → Does E Value
-  map_step calls r true strict ps at v = call.map_all x.spend calls (choose r strict at) ps at v
-  map_step calls r false strict ps at v = call.call_step x.spend calls (choose r strict at) ps at v
+  map_step calls r true strict ps at v = call.map_all x.spend calls (choose x.program r strict at) ps at v
+  map_step calls r false strict ps at v = call.call_step x.spend calls (choose x.program r strict at) ps at v
 
   -- a step with arguments behind a dot
   abbrev pub dot_by : Calls E → List ℕ → Reading → Bool → List (Does E Value) → Option ℕ → Place → Value → Does E Value
@@ -164,12 +190,8 @@ module _ {E : Type 0} (x : Setting E) where
   named_step (Some i) name h ps at v = iterator_step i h ps at v
   named_step None name h ps at v = operation_by (operation_named name) ps false at v
 
-  abbrev pub selection_by : List ℕ → Option ℕ → Place → Value → Does E Value
-  selection_by name (Some c) at v = rule.select_class x.spend (bytes_eq name (codes "selectByType")) c at v
-  selection_by name None at v = misfit at
-
   abbrev pub arrow_on : List ℕ → HeadDoes E → List (Does E Value) → Option ℕ → Place → Value → Does E Value
-  arrow_on name h ps c at v = if is_selection name then selection_by name c at v else named_step (iterator_named name) name h ps at v
+  arrow_on name h ps c at v = if is_selection name then selection_by x.spend name c at v else named_step (iterator_named name) name h ps at v
 
   -- on the collection that the source is, or is wrapped in
   abbrev pub arrow_by : Kind → Bool → List ℕ → HeadDoes E → List (Does E Value) → Option ℕ → Place → Value → Does E Value
@@ -177,19 +199,10 @@ module _ {E : Type 0} (x : Setting E) where
 
   -- Models.
 
-  abbrev pub query_step : Option ModelQuery → ℕ → Place → Does E Value
-  query_step (Some q) i at = rule.model_step x.spend q i at
-  query_step None i at = misfit at
-
-  -- the name of a model with its first step
-  abbrev pub model_first : ℕ → Place → TypedStepTerms → Does E Value
-  model_first i at (TypedMoreSteps (TypedDotStep name (TypedSomeArgs es) step_at n) ss) = query_step (named_query (model_call_named name) (class_argument es)) i step_at
-  model_first i at ss = misfit at
-
   -- a first part with its steps; where it is the name of a model, the first step goes with it
   abbrev pub post_of : Option ℕ → Place → Does E Value → TypedStepTerms → List (Value → Does E Value) → Does E Value
   post_of None at p ss fs = rule.on_first p fs
-  post_of (Some i) at p ss fs = rule.on_first (model_first i at ss) (drop 1 fs)
+  post_of (Some i) at p ss fs = rule.on_first (model_first x.spend i at ss) (drop 1 fs)
 
   -- Objects.
 
@@ -232,11 +245,6 @@ module _ {E : Type 0} (x : Setting E) where
   abbrev pub assign_variable : List ℕ → Bool → Option Ty → Does E Value → Place → Does E (Unit {0})
   assign_variable name false t p at = statement.assign_variable name p at
   assign_variable name true t p at = statement.add_variable name t p at
-
-  -- the object whose property a bare name means: that of the innermost object expression, or that of its implicit source
-  abbrev pub bare_target : Option (List ℕ) → ℕ → Place → Does E Oid
-  bare_target None f at = statement.inner_target f at
-  bare_target (Some source) f at = statement.source_target source f at
 
   abbrev pub bare_assign : Reading → Option (List ℕ) → Bool → Option Ty → Does E Value → Place → Does E (Unit {0})
   bare_assign (reading.Variable name) source adds t p at = assign_variable name adds t p at

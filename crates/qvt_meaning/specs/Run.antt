@@ -25,7 +25,8 @@ use Rattle.qvt_run_rules.specs.Cost.{charge}
 use Rattle.qvt_run_rules.specs.Locals.{local_of}
 use Rattle.qvt_run_rules.specs.Statements as statement
 use Rattle.qvt_run_rules.specs.Store.{fault_of}
-use Rattle.qvt_run_rules.specs.Resolve.{Answer, Found, Objects, Undefined, Stopped, Query, answered_now}
+use Rattle.qvt_run_data.specs.declared.request.Query.{Query}
+use Rattle.qvt_run_rules.specs.Resolve.{Answer, Found, Objects, Undefined, Stopped, answered_now}
 use Rattle.qvt_meaning.specs.Numbered.{expr_at}
 use Rattle.qvt_meaning.specs.Phrases.{expr, stmts}
 use Rattle.qvt_meaning.specs.Plain.{Evaluated, state_of, evaluated, no_expression, answer}

@@ -26,7 +26,7 @@ use Rattle.qvt_typing.specs.Context.{Heads}
 use Rattle.qvt_typing.specs.Calls.{called_behind, unit_ruled, map_ruled}
 use Rattle.qvt_value.specs.declared.value.Kind.{Kind}
 use Rattle.qvt_value.specs.declared.value.Kind.TheVariants.{Set}
-use Rattle.qvt_run_rules.specs.Resolve.{Form}
+use Rattle.qvt_run_data.specs.declared.request.Form.{Form}
 use Rattle.qvt_meaning.specs.Nodes.{types_of, class_named, written_type}
 use Rattle.qvt_meaning.specs.Program.{form_of}
 

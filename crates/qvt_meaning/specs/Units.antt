@@ -12,7 +12,8 @@ use Rattle.qvt_run_data.specs.declared.fault.RunFault.TheVariants as fault
 use Rattle.qvt_run_data.specs.declared.exit.End.TheVariants.{Fault}
 use Rattle.qvt_run_rules.specs.State.{Does, ◌>>=◌, stop, found}
 use Rattle.qvt_run_rules.specs.Statements as statement
-use Rattle.qvt_run_rules.specs.Calls.{HelperCall, ConstructorCall, MappingCall, Calls, Param, Routine, helper, constructor_}
+use Rattle.qvt_run_data.specs.declared.callee.Callee.TheVariants.{HelperCall, ConstructorCall, MappingCall}
+use Rattle.qvt_run_rules.specs.Calls.{Calls, Param, Routine, helper, constructor_}
 use Rattle.qvt_run_rules.specs.Mappings.{Making, MappingRule, mapping}
 use Rattle.qvt_meaning.specs.Nodes.{place_of, mappings_named}
 use Rattle.qvt_meaning.specs.Program.{unit_term, signature_of, known_class, mapping_unit, numbers}

@@ -1,7 +1,8 @@
-//! What a run keeps and tells: variables in scope, items with sort keys, records of the trace, requests,
+//! What a run keeps and tells: what is called, variables in scope, items with sort keys, records of the trace, requests,
 //! late writes, what ends phrases, and the run's faults.
 #![tactic(auto)]
 
+pub mod callee;
 pub mod exit;
 pub mod fault;
 pub mod keyed;

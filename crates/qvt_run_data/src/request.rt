@@ -1,5 +1,5 @@
 use qvt_base::lists::{MappingList, OidList};
-use qvt_base::numbers::ClassNo;
+use qvt_base::numbers::{ClassNo, ExprNo};
 
 /// What a resolve looks for (QVT 1.3, 8.1.10 and 8.2.1.22).
 pub struct Request {
@@ -19,6 +19,45 @@ impl Drop for Request {
             within,
             sources,
             class,
+        } = self;
+    }
+}
+
+/// What a resolve asks: a request, whether one object is wanted, and the number of the condition if it
+/// has one.
+pub struct Query {
+    pub request: Request,
+    pub one: bool,
+    pub condition: Option<ExprNo>,
+}
+
+impl Drop for Query {
+    fn drop(self) {
+        let Query {
+            request,
+            one,
+            condition,
+        } = self;
+    }
+}
+
+/// A resolve as it is written. Its sources come with its run.
+pub struct Form {
+    pub inverse: bool,
+    pub within: Option<MappingList>,
+    pub class: u32,
+    pub one: bool,
+    pub condition: Option<ExprNo>,
+}
+
+impl Drop for Form {
+    fn drop(self) {
+        let Form {
+            inverse,
+            within,
+            class,
+            one,
+            condition,
         } = self;
     }
 }

@@ -8,6 +8,8 @@ use Rattle.qvt_value.specs.declared.value.Value.{Value, Null, Obj}
 use Rattle.qvt_value.specs.declared.value.Kind.TheVariants.{Sequence}
 use Rattle.qvt_value.specs.Limits.{built}
 use Rattle.qvt_ocl_words.specs.Lists.{is_null}
+use Rattle.qvt_run_data.specs.declared.callee.Callee.{Callee}
+use Rattle.qvt_run_data.specs.declared.callee.Callee.TheVariants.{ConstructorCall}
 use Rattle.qvt_run_data.specs.declared.local.Local.{Local}
 use Rattle.qvt_run_data.specs.declared.exit.Exit.{Exit}
 use Rattle.qvt_run_data.specs.declared.exit.Exit.TheVariants.{Returned, Ends}
@@ -16,20 +18,6 @@ use Rattle.qvt_run_rules.specs.Typed.{valid, present, object_of, asked}
 use Rattle.qvt_run_rules.specs.Locals.{self_name, result_name, fixed, read, in_frame}
 use Rattle.qvt_run_rules.specs.Sources.{objects_in, collecting}
 use Rattle.qvt_run_rules.specs.Store.{new_object}
-
--- how a mapping is called: by a `map`, or an `xmap` where this is true; as a candidate of a dispatcher whose `when` was true; or on the
--- result of the mapping that reuses it
-pub data Way : Type 0 where
-  Called : Bool → Way
-  Chosen : Way
-  Reused : Option Oid → Way
-
--- what is called: a helper or query, by the number of its unit, on its context; a constructor, with the class and the extent of the new
--- object; a mapping, by its number, on its context
-pub data Callee : Type 0 where
-  HelperCall : ℕ → Option Oid → Callee
-  ConstructorCall : ℕ → ℕ → ℕ → Callee
-  MappingCall : ℕ → Way → Option Oid → Callee
 
 -- what a call does with its arguments, at its place
 abbrev pub Calls : Type 0 → Type 0

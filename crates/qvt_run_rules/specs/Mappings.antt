@@ -9,13 +9,17 @@ use Rattle.qvt_slots.specs.Contents.{class_of}
 use Rattle.qvt_types_data.specs.declared.ty.Ty.TheVariants as ty
 use Rattle.qvt_value.specs.declared.value.Value.{Value, Null, Obj}
 use Rattle.qvt_run_data.specs.declared.fault.RunFault.TheVariants as fault
+use Rattle.qvt_run_data.specs.declared.callee.Callee.TheVariants.{MappingCall}
+use Rattle.qvt_run_data.specs.declared.callee.Way.{Way}
+use Rattle.qvt_run_data.specs.declared.callee.Way.TheVariants.{Called, Chosen, Reused}
 use Rattle.qvt_run_data.specs.declared.local.Local.{Local}
+use Rattle.qvt_run_data.specs.declared.record.Key.{Key}
 use Rattle.qvt_run_data.specs.declared.exit.End.TheVariants.{Fault}
-use Rattle.qvt_run_rules.specs.State.{Key, State, Done, Does, ◌>>=◌, ◌>>◌, pure, stop, misfit, found, ask, turn_to, caught}
+use Rattle.qvt_run_rules.specs.State.{State, Done, Does, ◌>>=◌, ◌>>◌, pure, stop, misfit, found, ask, turn_to, caught}
 use Rattle.qvt_run_rules.specs.Locals.{result_name, local, read, set, in_frame, in_own}
 use Rattle.qvt_run_rules.specs.Store.{new_object}
 use Rattle.qvt_run_rules.specs.Trace.{result_for, has_key, record_of}
-use Rattle.qvt_run_rules.specs.Calls.{Way, Called, Chosen, Reused, MappingCall, Calls, Param, frame}
+use Rattle.qvt_run_rules.specs.Calls.{Calls, Param, frame}
 
 -- a class, and the extent in which its objects are made
 pub record Making : Type 0 where
@@ -63,7 +67,7 @@ result_local None v = []
 result_local (Some c) v = local result_name (Some (ty.Class (record { 0 = c.class }))) v ∷ []
 
 abbrev pub key : ℕ → Option Oid → List Value → Key
-key n o vs = record { mapping = n; context = o; args = vs }
+key n o vs = record { mapping = record { 0 = n }; context = o; args = vs }
 
 module _ {E : Type 0} where
   -- Keys and records.

@@ -2,8 +2,6 @@
 -- a late one keeps.
 use Rattle.std.specs.Prelude.{ℕ, ◌+◌, Bool, true, false, if◌then◌else◌, List, [], ◌∷◌, ◌++◌, map, Option, Some, None, Result, Ok, Err}
 use Rattle.std.specs.List.{list_all}
-use Rattle.qvt_base.specs.declared.numbers.ExprNo.{ExprNo}
-use Rattle.qvt_base.specs.declared.numbers.MappingNo.{MappingNo}
 use Rattle.qvt_base.specs.declared.numbers.Oid.{Oid}
 use Rattle.qvt_base.specs.declared.numbers.Place.{Place}
 use Rattle.qvt_metamodel.specs.Metamodels.{shape_of}
@@ -16,7 +14,8 @@ use Rattle.qvt_value.specs.declared.value.Reason.{Reason}
 use Rattle.qvt_value.specs.declared.value.Reason.TheVariants.{NullValue}
 use Rattle.qvt_run_data.specs.declared.fault.RunFault.TheVariants as fault
 use Rattle.qvt_run_data.specs.declared.late.LateWrite.{LateWrite}
-use Rattle.qvt_run_data.specs.declared.request.Request.{Request}
+use Rattle.qvt_run_data.specs.declared.request.Form.{Form}
+use Rattle.qvt_run_data.specs.declared.request.Query.{Query}
 use Rattle.qvt_run_data.specs.declared.exit.End.{End}
 use Rattle.qvt_run_data.specs.declared.exit.End.TheVariants.{Fault}
 use Rattle.qvt_run_rules.specs.State.{State, Does, ◌>>=◌, ◌>>◌, pure, stop, look}
@@ -76,20 +75,6 @@ first_object (o ∷ os) = Obj o
 abbrev pub objects_value : Bool → List Oid → Value
 objects_value true os = first_object os
 objects_value false os = Coll Sequence (map Obj os)
-
--- what a resolve asks: a request, whether one object is wanted, and the number of a condition if it has one
-pub record Query : Type 0 where
-  pub request : Request
-  pub one : Bool
-  pub condition : Option ExprNo
-
--- a resolve as it is written: the sources come with its run
-pub record Form : Type 0 where
-  pub inverse : Bool
-  pub within : Option (List MappingNo)
-  pub class : ℕ
-  pub one : Bool
-  pub condition : Option ExprNo
 
 abbrev pub query_of : Form → Option (List Oid) → Query
 query_of f os = record { request = record { inverse = f.inverse; within = f.within; sources = os; class = record { 0 = f.class } }; one = f.one; condition = f.condition }

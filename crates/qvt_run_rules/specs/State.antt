@@ -11,13 +11,8 @@ use Rattle.qvt_run_data.specs.declared.exit.Exit.{Exit}
 use Rattle.qvt_run_data.specs.declared.exit.Exit.TheVariants.{Returned, Ends}
 use Rattle.qvt_run_data.specs.declared.fault.RunFault.TheVariants as fault
 use Rattle.qvt_run_data.specs.declared.local.Local.{Local}
+use Rattle.qvt_run_data.specs.declared.record.Key.{Key}
 use Rattle.qvt_run_data.specs.declared.record.Record.{Record}
-
--- what a mapping is called with: its number, the context if it has one, and the arguments
-pub record Key : Type 0 where
-  pub mapping : ℕ
-  pub context : Option Oid
-  pub args : List Value
 
 -- the variables in scope, the object of the innermost object expression, the store, the trace, the keys that are open, the entries,
 -- and the cost so far

@@ -7,9 +7,9 @@ use Rattle.qvt_metamodel.specs.Descends.{descends}
 use Rattle.qvt_ocl_words.specs.Lists.{same}
 use Rattle.qvt_slots.specs.Contents.{Contents, class_of, is_live}
 use Rattle.qvt_value.specs.declared.value.Value.{Value}
+use Rattle.qvt_run_data.specs.declared.record.Key.{Key}
 use Rattle.qvt_run_data.specs.declared.record.Record.{Record}
 use Rattle.qvt_run_data.specs.declared.request.Request.{Request}
-use Rattle.qvt_run_rules.specs.State.{Key}
 
 -- Keys.
 
@@ -28,13 +28,13 @@ same_values (v ∷ vs) (w ∷ ws) = same v w && same_values vs ws
 same_values vs ws = false
 
 unfoldable pub same_key : Key → Key → Bool
-same_key a b = (a.mapping == b.mapping) && (same_end a.context b.context && same_values a.args b.args)
+same_key a b = (a.mapping.0 == b.mapping.0) && (same_end a.context b.context && same_values a.args b.args)
 
 abbrev pub key_of : Record → Key
-key_of r = record { mapping = r.mapping.0; context = r.context; args = r.args }
+key_of r = record { mapping = r.mapping; context = r.context; args = r.args }
 
 abbrev pub record_of : Key → Option Oid → Record
-record_of k result = record { mapping = record { 0 = k.mapping }; context = k.context; args = k.args; result = result }
+record_of k result = record { mapping = k.mapping; context = k.context; args = k.args; result = result }
 
 -- the result that a list of records has for a key, if one of them has the key
 abbrev pub result_for : Key → List Record → Option (Option Oid)

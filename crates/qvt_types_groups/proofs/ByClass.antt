@@ -1,5 +1,5 @@
 -- The choice for a class, by its own units and by its superclasses.
-use Rattle.std.proofs.Common.{◌≡◌, ◌∙◌, ◌≢◌, ℕ, ◌+◌, ◌<◌, ◌==◌, List, [], ◌∷◌, length, set, Bool, true, false, ◌&&◌, ◌||◌, Option, Some, None, inl, inr, refl, sym, ap, subst, arith}
+use Rattle.std.proofs.Common.{◌≡◌, ◌∙◌, ◌≢◌, ℕ, ◌+◌, ◌<◌, ◌==◌, List, [], ◌∷◌, length, set, Bool, true, false, ◌&&◌, Option, Some, None, inl, inr, refl, sym, ap, subst, arith}
 use Rattle.std.specs.Prelude.{if◌then◌else◌, filter, IsTrue, ◌↔◌}
 use Rattle.std.specs.List.{list_any, list_all}
 use Rattle.std.proofs.lemmas.Bool.{eq-eqb, eqb-true}
@@ -17,7 +17,7 @@ use Rattle.qvt_types_units.specs.declared.signature.HeadClass.TheVariants.{Missi
 use Rattle.qvt_types_units.specs.declared.signature.Signature.{Signature}
 use Rattle.qvt_types_units.specs.Choice.{is_above, is_below, context_at, candidates, is_lowest, lowest, single, is_empty, chosen_of}
 use Rattle.qvt_types_units.specs.Numbers.{is_context}
-use Rattle.qvt_types_groups.specs.ByClass.{choice_among, choice_for, own, one_more, all_more, known_at, told_more, is_top, top_choice, inherited, AreKnown}
+use Rattle.qvt_types_groups.specs.ByClass.{choice_among, choice_for, own, one_more, all_more, known_at, told_more, is_top, top_choice, AreKnown}
 use Rattle.qvt_types_groups.proofs.Lowest.{Transitive, In, all_at, same_test}
 
 abbrev pub Antisymmetric : Metamodels → Type 0
@@ -28,13 +28,13 @@ AreLeast m = (sub sup : ℕ) → IsTrue (descends m sub sup) ↔ Descends m sub 
 
 -- Lists that are filtered.
 
-filter_same : (p q : ℕ → Bool) (xs : List ℕ) → ((x : ℕ) → In x xs → p x ≡ q x) → filter p xs ≡ filter q xs
+pub filter_same : (p q : ℕ → Bool) (xs : List ℕ) → ((x : ℕ) → In x xs → p x ≡ q x) → filter p xs ≡ filter q xs
 filter_same p q [] same = refl
 filter_same p q (x ∷ xs) same =
     let rest : filter p xs ≡ filter q xs = filter_same p q xs (λ y i. same y (inr i)) in
     (λ i. if same x (inl refl) i then x ∷ rest i else rest i)
 
-in_filter : (p : ℕ → Bool) (x : ℕ) (xs : List ℕ) → In x (filter p xs) → In x xs × (p x ≡ true)
+pub in_filter : (p : ℕ → Bool) (x : ℕ) (xs : List ℕ) → In x (filter p xs) → In x xs × (p x ≡ true)
 in_filter p x [] i = absurd i
 in_filter p x (y ∷ ys) i = by (p y) refl i (in_filter p x ys)
   where
@@ -45,7 +45,7 @@ in_filter p x (y ∷ ys) i = by (p y) refl i (in_filter p x ys)
     ]
     by false e i rest = (inr (rest i).0, (rest i).1)
 
-into_filter : (p : ℕ → Bool) (x : ℕ) (xs : List ℕ) → In x xs → p x ≡ true → In x (filter p xs)
+pub into_filter : (p : ℕ → Bool) (x : ℕ) (xs : List ℕ) → In x xs → p x ≡ true → In x (filter p xs)
 into_filter p x [] i h = absurd i
 into_filter p x (y ∷ ys) i h = by (p y) refl i (λ r. into_filter p x ys r h)
   where
@@ -53,11 +53,11 @@ into_filter p x (y ∷ ys) i h = by (p y) refl i (λ r. into_filter p x ys r h)
     by true e i rest = elim i [ inl same ↦ inl same | inr r ↦ inr (rest r) ]
     by false e i rest = elim i [ inl same ↦ clash (sym (ap p same) ∙ h) e | inr r ↦ rest r ]
 
-none_passes : (p : ℕ → Bool) (xs : List ℕ) → filter p xs ≡ [] → (x : ℕ) → In x xs → p x ≡ false
+pub none_passes : (p : ℕ → Bool) (xs : List ℕ) → filter p xs ≡ [] → (x : ℕ) → In x xs → p x ≡ false
 none_passes p xs none x i = not_true (p x) (λ h. subst (In x) none (into_filter p x xs i h))
 
 -- what passes both tests, where one implies the other
-kept_both : (p q : ℕ → Bool) (xs : List ℕ) → ((x : ℕ) → p x ≡ true → q x ≡ true) → filter p (filter q xs) ≡ filter p xs
+pub kept_both : (p q : ℕ → Bool) (xs : List ℕ) → ((x : ℕ) → p x ≡ true → q x ≡ true) → filter p (filter q xs) ≡ filter p xs
 kept_both p q [] implies = refl
 kept_both p q (x ∷ xs) implies = by (q x) refl (kept_both p q xs implies)
   where
@@ -65,7 +65,7 @@ kept_both p q (x ∷ xs) implies = by (q x) refl (kept_both p q xs implies)
     by true e rest = λ i. if p x then x ∷ rest i else rest i
     by false e rest = rest ∙ (λ i. if sym (not_true (p x) (λ h. clash (implies x h) e)) i then x ∷ filter p xs else filter p xs)
 
-all_pass : (p : ℕ → Bool) (xs : List ℕ) → list_all p (filter p xs) ≡ true
+pub all_pass : (p : ℕ → Bool) (xs : List ℕ) → list_all p (filter p xs) ≡ true
 all_pass p [] = refl
 all_pass p (x ∷ xs) = by (p x) refl (all_pass p xs)
   where
@@ -77,10 +77,10 @@ some_in : (x : ℕ) (xs : List ℕ) → In x xs → is_empty xs ≡ false
 some_in x [] i = absurd i
 some_in x (y ∷ ys) i = refl
 
-some_none : (f : Found) → Some f ≡ None → ⊥
+pub some_none : (f : Found) → Some f ≡ None → ⊥
 some_none f e = absurd (cc)
 
-same_some : (f g : Found) → Some f ≡ Some g → g ≡ f
+pub same_some : (f g : Found) → Some f ≡ Some g → g ≡ f
 same_some f g e = cc
 
 some_within : (known : List (Option Found)) (c : ℕ) (f : Found) → known_at known c ≡ Some f → c < length known
@@ -90,10 +90,6 @@ some_within known c f tells = by c (half (length known) c) tells
     by _ (old c low) tells = low
     by _ (new k) tells = absurd (some_none f (sym tells ∙ get_or_past known (length known + k) None (omega arith)))
 
-or_false : (b : Bool) → (b || false) ≡ true → b ≡ true
-or_false true h = refl
-or_false false h = h
-
 known_context : (h : HeadClass) (c : ℕ) → is_context h c ≡ true → h ≡ Known (record { 0 = c })
 known_context Missing c e = absurd (cc)
 known_context Unknown c e = absurd (cc)
@@ -102,11 +98,6 @@ known_context (Known d) c e = ap (λ x. Known (record { 0 = x })) (eqb-true d.0 
 -- What is above a class by its superclasses.
 
 module _ (m : Metamodels) where
-  one_above : (s : ClassNo) (d c : ℕ) → IsAncestor m d c → (class_at m c).supers ≡ s ∷ [] → Descends m s.0 d
-  one_above s d _ (superclass c is) e = inl (eqb-true s.0 d (or_false (s.0 == d) (sym (ap (list_any (λ (x : ClassNo). x.0 == d)) e) ∙ is)))
-  one_above s d _ (above c k is up) e = inr (subst (IsAncestor m d) (sym (eqb-true s.0 k (or_false (s.0 == k) (sym (ap (list_any (λ (x : ClassNo). x.0 == k)) e) ∙ is)))) up)
-  one_above s d _ (element c top) e = inr (element s.0 top)
-
   none_above : (d c : ℕ) → IsAncestor m d c → (class_at m c).supers ≡ [] → is_element m d ≡ true
   none_above d _ (superclass c is) e = clash is (ap (list_any (λ (x : ClassNo). x.0 == d)) e)
   none_above d _ (above c k is up) e = clash is (ap (list_any (λ (x : ClassNo). x.0 == k)) e)
@@ -123,16 +114,6 @@ module _ (m : Metamodels) where
 
 module _ (m : Metamodels) (us : List Signature) where
   module _ (t : Transitive m) (least : AreLeast m) where
-    above_super : (h : HeadClass) (c : ℕ) (s : ClassNo) → is_context h c ≡ false → (class_at m c).supers ≡ s ∷ [] → is_above m h c ≡ is_above m h s.0
-    above_super Missing c s other e = refl
-    above_super Unknown c s other e = refl
-    above_super (Known d) c s other e = same_test (descends m c d.0) (descends m s.0 d.0)
-        (λ h. elim ((least c d.0).0 h) [
-          | inl same ↦ clash (eq-eqb d.0 c (sym same)) other
-          | inr up ↦ (least s.0 d.0).1 (one_above m s d.0 c up e)
-        ])
-        (λ h. t c s.0 d.0 ((least c s.0).1 (inr (superclass c (ap (list_any (λ (x : ClassNo). x.0 == s.0)) e ∙ ap (λ b. b || false) (eq-eqb s.0 s.0 refl))))) h)
-
     above_top : (h : HeadClass) (c : ℕ) → is_context h c ≡ false → (class_at m c).supers ≡ [] → is_above m h c ≡ is_top m h
     above_top Missing c other e = refl
     above_top Unknown c other e = refl
@@ -143,25 +124,10 @@ module _ (m : Metamodels) (us : List Signature) where
         ])
         (λ h. (least c d.0).1 (inr (element c h)))
 
-    by_super : (ns : List ℕ) (c : ℕ) (s : ClassNo) → own us ns c ≡ [] → (class_at m c).supers ≡ s ∷ [] → choice_for m us ns c ≡ choice_for m us ns s.0
-    unfolding choice_for
-    by_super ns c s none e = ap (choice_among m us) (filter_same (λ n. is_above m (context_at us n) c) (λ n. is_above m (context_at us n) s.0) ns
-        (λ n i. above_super (context_at us n) c s (none_passes (λ k. is_context (context_at us k) c) ns none n i) e))
-
-    by_top : (ns : List ℕ) (c : ℕ) → own us ns c ≡ [] → (class_at m c).supers ≡ [] → choice_for m us ns c ≡ top_choice m us ns
+    pub by_top : (ns : List ℕ) (c : ℕ) → own us ns c ≡ [] → (class_at m c).supers ≡ [] → choice_for m us ns c ≡ top_choice m us ns
     unfolding choice_for
     by_top ns c none e = ap (choice_among m us) (filter_same (λ n. is_above m (context_at us n) c) (λ n. is_top m (context_at us n)) ns
         (λ n i. above_top (context_at us n) c (none_passes (λ k. is_context (context_at us k) c) ns none n i) e))
-
-    -- what the superclasses tell of a class without units of its own is its choice
-    pub inherited_is : (ns : List ℕ) (known : List (Option Found)) (top : Found) (c : ℕ) (f : Found) → AreKnown m us ns known → top ≡ top_choice m us ns → own us ns c ≡ []
-        → inherited known top (class_at m c).supers ≡ Some f → f ≡ choice_for m us ns c
-    inherited_is ns known top c f are is none tells = by (class_at m c).supers refl tells
-      where
-        by : (ks : List ClassNo) → (class_at m c).supers ≡ ks → inherited known top ks ≡ Some f → f ≡ choice_for m us ns c
-        by [] e tells = same_some top f tells ∙ is ∙ sym (by_top ns c none e)
-        by (s ∷ []) e tells = are.told s.0 f tells ∙ sym (by_super ns c s none e)
-        by (s ∷ k ∷ more) e tells = absurd (cc)
 
   -- The units of the class itself.
 

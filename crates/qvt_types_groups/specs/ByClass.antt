@@ -1,5 +1,5 @@
--- The choice for each class by itself, whatever is below it: that of its own units, or else what its one superclass has.
-use Rattle.std.specs.Prelude.{◌≡◌, ◌<◌, ℕ, ◌&&◌, not, Bool, true, false, List, [], ◌∷◌, length, map, filter, Option, Some, None, if◌then◌else◌, slice_index_or, slice_set}
+-- The choice for each class by itself, whatever is below it: that of its own units, or else what its superclasses have.
+use Rattle.std.specs.Prelude.{◌≡◌, ◌<◌, ℕ, ◌==◌, ◌&&◌, not, Bool, true, false, List, [], ◌∷◌, length, map, filter, Option, Some, None, if◌then◌else◌, slice_index_or, slice_set}
 use Rattle.std.specs.List.{list_any, range_with_len}
 use Rattle.qvt_base.specs.declared.numbers.ClassNo.{ClassNo}
 use Rattle.qvt_metamodel.specs.Metamodels.{Metamodels, class_at, is_element}
@@ -82,11 +82,29 @@ tops m us ns = filter (λ n. is_top m (context_at us n)) ns
 abbrev pub top_choice : Metamodels → List Signature → List ℕ → Found
 top_choice m us ns = choice_among m us (tops m us ns)
 
+-- what two classes tell of one below both, where no other is above it
+abbrev pub joined_found : Found → Found → Option Found
+joined_found NoUnit g = Some g
+joined_found Untyped g = None
+joined_found Unclear g = None
+joined_found (Chosen n) NoUnit = Some (Chosen n)
+joined_found (Chosen n) Untyped = None
+joined_found (Chosen n) Unclear = None
+joined_found (Chosen n) (Chosen k) = if n == k then Some (Chosen n) else None
+
+abbrev pub joined : Option Found → Option Found → Option Found
+joined None o = None
+joined (Some f) None = None
+joined (Some f) (Some g) = joined_found f g
+
+abbrev pub all_joined : List (Option Found) → Option Found → List ClassNo → Option Found
+all_joined known o [] = o
+all_joined known o (c ∷ cs) = all_joined known (joined o (known_at known c.0)) cs
+
 -- the choice for a class without units of its own, by its superclasses
 abbrev pub inherited : List (Option Found) → Found → List ClassNo → Option Found
 inherited known top [] = Some top
-inherited known top (c ∷ []) = known_at known c.0
-inherited known top (c ∷ d ∷ more) = None
+inherited known top (c ∷ cs) = all_joined known (known_at known c.0) cs
 
 -- what is known of a class is its choice; one of which nothing is known has no units of its own
 pub record AreKnown (m : Metamodels) (us : List Signature) (ns : List ℕ) (known : List (Option Found)) : Type 0 where

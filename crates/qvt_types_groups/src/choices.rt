@@ -150,16 +150,3 @@ pub fn row_along(
         several => full_row(alloc, metas, units, several, order),
     }
 }
-
-/// The same of one name alone.
-pub fn row(
-    alloc: Global,
-    metas: &Metas,
-    units: &[Signature],
-    group: &[u32],
-) -> Result<FoundRow, ListFault>
-    ensures { IfOk result (λ fs. fs ≡ choices_of.row metas.now units.now group.now) }
-{
-    let order = class_order(alloc, metas)?;
-    row_along(alloc, metas, units, group, order.classes.as_slice())
-}

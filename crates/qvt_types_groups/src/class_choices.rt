@@ -1,4 +1,4 @@
-//! The choice of a unit for each class by itself, whatever is below it: that of its own units, or else what its one superclass has.
+//! The choice of a unit for each class by itself, whatever is below it: that of its own units, or else what its superclasses have.
 
 ghost use Rattle.std.specs.Prelude.{◌≡◌, ◌<◌, ℕ, length, replicate, false, None, IfOk, OnOk};
 ghost use Rattle.qvt_metamodel.specs.Metamodels.{class_at};
@@ -186,14 +186,60 @@ fn top_choice(
     choice_among(alloc, metas, units, tops.as_slice())
 }
 
+/// What two classes tell of one below both, where no other is above it: one that has no units tells nothing, and two that have the
+/// same unit tell of that.
+fn joined_found(one: Found, other: Found) -> Option<Found>
+    ensures { result ≡ by_class.joined_found one other }
+{
+    match one {
+        Found::NoUnit => Some(other),
+        Found::Untyped => None,
+        Found::Unclear => None,
+        Found::Chosen(number) => match other {
+            Found::NoUnit => Some(Found::Chosen(number)),
+            Found::Untyped => None,
+            Found::Unclear => None,
+            Found::Chosen(same) => {
+                if number == same {
+                    Some(Found::Chosen(number))
+                } else {
+                    None
+                }
+            }
+        },
+    }
+}
+
+fn joined(one: Option<Found>, other: Option<Found>) -> Option<Found>
+    ensures { result ≡ by_class.joined one other }
+{
+    match one {
+        None => None,
+        Some(one) => match other {
+            None => None,
+            Some(other) => joined_found(one, other),
+        },
+    }
+}
+
+/// What is told by one superclass and these others.
+fn all_joined(known: &[Option<Found>], first: Option<Found>, others: &[ClassNo]) -> Option<Found>
+    ensures { result ≡ by_class.all_joined known.now first others.now }
+{
+    let mut found = first;
+    for above in others {
+        found = joined(found, known_at(known, above.0));
+    }
+    found
+}
+
 /// The choice for a class without units of its own, where its superclasses tell it.
 fn inherited(metas: &Metas, known: &[Option<Found>], top: Found, class: u32) -> Option<Found>
     ensures { result ≡ by_class.inherited known.now top (class_at metas.now class).supers }
 {
     match supers_at(metas.class_infos(), class) {
         [] => Some(top),
-        [above] => known_at(known, above.0),
-        _ => None,
+        [above, others @ ..] => all_joined(known, known_at(known, above.0), others),
     }
 }
 

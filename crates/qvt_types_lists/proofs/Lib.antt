@@ -1,5 +1,5 @@
 pub mod Before
 pub mod SameUnits
-pub mod SameRows
-pub mod Kept
+pub mod SameShapes
+pub mod Parted
 pub mod Told

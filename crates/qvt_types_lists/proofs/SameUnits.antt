@@ -1,5 +1,5 @@
 -- Units that no call could tell apart, by their sorts and contexts.
-use Rattle.std.proofs.Common.{◌≡◌, ◌∙◌, ℕ, ◌==◌, List, length, Bool, true, false, ◌&&◌, ◌||◌, not, Option, None, position, refl, sym, ap}
+use Rattle.std.proofs.Common.{◌≡◌, ◌∙◌, ℕ, ◌==◌, List, length, Bool, true, false, ◌&&◌, ◌||◌, not, None, position, refl, sym, ap}
 use Rattle.std.specs.Str.{bytes_eq}
 use Rattle.qvt_base.specs.declared.numbers.MappingNo.{MappingNo}
 use Rattle.qvt_metamodel.proofs.Bools.{and_no}

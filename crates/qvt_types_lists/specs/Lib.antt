@@ -1,4 +1,4 @@
-pub mod Rows
+pub mod Shapes
 pub mod Same
 pub mod Lists
-pub mod Distinct
+pub mod Odd

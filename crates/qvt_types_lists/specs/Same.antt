@@ -1,5 +1,5 @@
 -- Units that no call could tell apart, by their sorts.
-use Rattle.std.specs.Prelude.{ℕ, ◌==◌, ◌&&◌, Bool, false, List, length, Option, Some, None, nat_lt}
+use Rattle.std.specs.Prelude.{ℕ, ◌==◌, ◌&&◌, Bool, false, length, Option, Some, None, nat_lt}
 use Rattle.std.specs.Str.{bytes_eq}
 use Rattle.qvt_types_units.specs.declared.signature.Signature.{Signature}
 use Rattle.qvt_types_units.specs.Numbers.{is_called, is_constructor}

@@ -1,47 +1,26 @@
 //! What is told of units that override others.
 
-ghost use Rattle.std.specs.Prelude.{◌≡◌, ◌++◌, ◌&&◌, Bool, ℕ, List, IfOk, OnOk};
+ghost use Rattle.std.specs.Prelude.{◌≡◌, ◌++◌, ◌&&◌, Bool, true, false, ℕ, List, length, nat_lt, IfOk, OnOk};
 ghost use Rattle.std.specs.List.{list_any};
+ghost use Rattle.qvt_types_units.specs.Numbers.{unit_at};
 ghost use Rattle.qvt_types_units.specs.Overrides as overrides;
 ghost use Rattle.qvt_types_units.specs.Units as units_told;
-ghost use Rattle.qvt_types_lists.specs.Distinct.{AreDistinct};
-ghost use Rattle.qvt_types_lists.specs.Rows as rows;
+ghost use Rattle.qvt_types_lists.specs.Odd as odd_words;
+ghost use Rattle.qvt_types_lists.specs.Odd.{AreNamed};
 
-use crate::distinct::distinct;
+use crate::odd::{Named, by_name};
 use qvt_base::list_fault::ListFault;
 use qvt_metas::metas::Metas;
 use qvt_types_data::refusal::RefusalKind;
-use qvt_types_groups::number_lists::NumberLists;
 use qvt_types_laws::laws::same_means_equal;
 use qvt_types_paths::told::{RefusalList, tell_if};
 use qvt_types_units::overrides::{is_misfit, is_strictly_below};
 use qvt_types_units::signature::{Signature, UnitSort};
 use std::alloc::Global;
 
-/// Units by their names, without those that no override tells from others.
-pub struct Distinct {
-    pub mappings: NumberLists,
-    pub helpers: NumberLists,
-}
-
-impl Drop for Distinct {
-    fn drop(self) {
-        let Distinct { mappings, helpers } = self;
-    }
-}
-
-fn distinct_units(alloc: Global, units: &[Signature]) -> Result<Distinct, ListFault>
-    ensures { IfOk result (AreDistinct units.now) }
-{
-    Ok(Distinct {
-        mappings: distinct(alloc, true, units)?,
-        helpers: distinct(alloc, false, units)?,
-    })
-}
-
 /// Whether the unit does not fit the one with this number, which is above it.
 fn clashes_at(metas: &Metas, units: &[Signature], unit: &Signature, number: u32) -> bool
-    ensures { result ≡ rows.clashes_at metas.now units.now unit.now number }
+    ensures { result ≡ odd_words.clashes_at metas.now units.now unit.now number }
 {
     let at = number as usize;
     if at < units.len() {
@@ -53,27 +32,61 @@ fn clashes_at(metas: &Metas, units: &[Signature], unit: &Signature, number: u32)
 }
 
 fn clashes_with(metas: &Metas, units: &[Signature], unit: &Signature, numbers: &[u32]) -> bool
-    ensures { result ≡ list_any (rows.clashes_at metas.now units.now unit.now) numbers.now }
+    ensures { result ≡ list_any (odd_words.clashes_at metas.now units.now unit.now) numbers.now }
 {
     numbers
         .iter()
         .any(|number| clashes_at(metas, units, unit, *number))
 }
 
+fn misfits_at(metas: &Metas, units: &[Signature], unit: &Signature, number: u32) -> bool
+    ensures { result ≡ (nat_lt number (length units.now) && overrides.is_misfit metas.now unit.now (unit_at units.now number)) }
+{
+    let at = number as usize;
+    at < units.len() && is_misfit(metas, unit, &units[at])
+}
+
+/// Whether the unit does not fit the first of these, which may be anywhere.
+fn misfits_first(metas: &Metas, units: &[Signature], group: &[u32], unit: &Signature) -> bool
+    ensures { result ≡ odd_words.misfits_first metas.now units.now group.now unit.now }
+{
+    match group {
+        [] => false,
+        [first, ..] => misfits_at(metas, units, unit, *first),
+    }
+}
+
+/// Whether the unit does not fit one of its name that is above it. Where all of the name are alike and it fits the first, none of them
+/// is looked at.
+fn clashes_among(metas: &Metas, units: &[Signature], named: &Named, unit: &Signature) -> bool
+    ensures { result ≡ odd_words.clashes_among metas.now units.now named.now unit.now }
+{
+    let name = unit.name.as_str();
+    let all = named.all.find(name);
+    clashes_with(metas, units, unit, named.odd.find(name))
+        || (misfits_first(metas, units, all, unit) && clashes_with(metas, units, unit, all))
+}
+
 /// Whether the unit overrides another and does not fit it: BadOverride.
-fn is_bad(metas: &Metas, units: &[Signature], distinct: &Distinct, unit: &Signature) -> bool
-    requires { AreDistinct units.now distinct.now }
+fn is_bad(
+    metas: &Metas,
+    units: &[Signature],
+    mappings: &Named,
+    helpers: &Named,
+    unit: &Signature,
+) -> bool
+    requires mappings { AreNamed true units.now mappings.now }
+    requires helpers { AreNamed false units.now helpers.now }
     ensures { result ≡ overrides.is_bad_override metas.now units.now unit.now }
 {
     same_means_equal();
-    let name = unit.name.as_str();
     match unit.sort {
         UnitSort::Class => false,
         UnitSort::Main => false,
-        UnitSort::Helper => clashes_with(metas, units, unit, distinct.helpers.find(name)),
-        UnitSort::Query => clashes_with(metas, units, unit, distinct.helpers.find(name)),
+        UnitSort::Helper => clashes_among(metas, units, helpers, unit),
+        UnitSort::Query => clashes_among(metas, units, helpers, unit),
         UnitSort::Constructor => false,
-        UnitSort::Mapping(_) => clashes_with(metas, units, unit, distinct.mappings.find(name)),
+        UnitSort::Mapping(_) => clashes_among(metas, units, mappings, unit),
     }
 }
 
@@ -87,9 +100,10 @@ pub fn tell_overrides(
 ) -> Result<(), ListFault>
     ensures { OnOk result (log.new ≡ log.old ++ units_told.overrides_told metas.now units.now units.now) }
 {
-    let distinct = distinct_units(alloc, units)?;
+    let mappings = by_name(alloc, true, units)?;
+    let helpers = by_name(alloc, false, units)?;
     for unit in units {
-        let bad = is_bad(metas, units, &distinct, unit);
+        let bad = is_bad(metas, units, &mappings, &helpers, unit);
         tell_if(log, bad, RefusalKind::BadOverride, unit.place)?;
     }
     Ok(())

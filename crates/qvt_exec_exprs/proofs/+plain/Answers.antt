@@ -7,6 +7,7 @@ use Rattle.qvt_exec_state.specs.Runs.{Runs, seen}
 use Rattle.qvt_exec_types.specs.Post.{post_of, type_at}
 use Rattle.qvt_exec_exprs.specs.Loops.{iterated_from, named_alone}
 use Rattle.qvt_exec_exprs.specs.Means.{all_steps, expr_of, exprs_of, head_of, program_of, setting_of, step_of, steps_of}
+use Rattle.qvt_run_rules.specs.Cost.{spend_of}
 use Rattle.qvt_run_rules.specs.Expressions as rule
 use Rattle.qvt_exec_leaves.proofs.Ends.{ends}
 use Rattle.qvt_exec_exprs.specs.Choices.{choice_of}
@@ -57,7 +58,7 @@ steps::steps_from-returns-in_err-value t c =
 pub iterators::iterator-returns-in_default : goal.iterators::iterator-returns-in_default
 iterators::iterator-returns-in_default t c =
     subst (λ (p : Does LateWrite Value). Runs (p (seen c.args.state.now)) c.iterated.result c.iterated.new.state)
-    (sym (loop_by (program_of c.args.x.now) c.args.which (named_alone (option_copied c.args.it.name)) (expr_of c.args.x.now c.args.body.now) c.args.it.place c.args.value c.in_default.not-Closure c.in_default.not-Iterate))
+    (sym (loop_by c.args.x.now c.args.which (named_alone (option_copied c.args.it.name)) (expr_of c.args.x.now c.args.body.now) c.args.it.place c.args.value c.in_default.not-Closure c.in_default.not-Iterate))
     c.iterated.ensures
 
 pub iterators::each_of-returns-in_err-given : goal.iterators::each_of-returns-in_err-given
@@ -92,7 +93,7 @@ exprs::collected-returns t c =
 pub exprs::signed-returns : goal.exprs::signed-returns
 exprs::signed-returns t c =
     subst (λ (d : Done LateWrite Value). Runs d c.prefixed.result c.prefixed.new.state)
-    (sym (signs_met (program_of c.args.x.now) c.args.signs.now (expr_of c.args.x.now c.args.operand.now) (seen c.args.state.now))) c.prefixed.ensures
+    (sym (signs_met c.args.x.now c.args.signs.now (expr_of c.args.x.now c.args.operand.now) (seen c.args.state.now))) c.prefixed.ensures
 
 pub steps::arrow_on-returns-in-len2-up : goal.steps::arrow_on-returns-in-len2-up
 steps::arrow_on-returns-in-len2-up t c =
@@ -102,13 +103,13 @@ steps::arrow_on-returns-in-len2-up t c =
     (arrow_misfits c.args.x.now c.args.name.now c.in-Some.which (named_alone (option_copied c.args.it.name)) c.args.args.now (nodes.class_argument (typed_exprs_of (map typed_expr_view c.args.args.now))) c.args.it.place c.args.value other is c.in-len2-up.len_at_least) c.misfit-in-len2-up.ensures
 
 pub exprs::tested-returns-in_err-tick : goal.exprs::tested-returns-in_err-tick
-exprs::tested-returns-in_err-tick t c = λ one other. unticked (expr_of c.args.x.now c.args.condition.now) (nodes.place_of (typed_expr_view c.args.condition.now)) one other (seen c.args.state.now) c.tick.new.state c.in_err-tick.field-0.0 c.from_residual.result c.in_err-tick.ensures c.from_residual.ensures.1
+exprs::tested-returns-in_err-tick t c = λ one other. unticked c.args.x.now.limit (expr_of c.args.x.now c.args.condition.now) (nodes.place_of (typed_expr_view c.args.condition.now)) one other (seen c.args.state.now) c.tick.new.state c.in_err-tick.field-0.0 c.from_residual.result c.in_err-tick.ensures c.from_residual.ensures.1
 
 pub exprs::tested-returns-in_err-test : goal.exprs::tested-returns-in_err-test
-exprs::tested-returns-in_err-test t c = λ one other. undecided (expr_of c.args.x.now c.args.condition.now) (nodes.place_of (typed_expr_view c.args.condition.now)) one other (seen c.args.state.now) (seen c.tick.new.state) tt c.expr.new.state c.in_err-test.field-0.0 c.from_residual-in_err-test.result c.in_ok-tick.ensures c.in_err-test.ensures c.from_residual-in_err-test.ensures.1
+exprs::tested-returns-in_err-test t c = λ one other. undecided c.args.x.now.limit (expr_of c.args.x.now c.args.condition.now) (nodes.place_of (typed_expr_view c.args.condition.now)) one other (seen c.args.state.now) (seen c.tick.new.state) tt c.expr.new.state c.in_err-test.field-0.0 c.from_residual-in_err-test.result c.in_ok-tick.ensures c.in_err-test.ensures c.from_residual-in_err-test.ensures.1
 
 pub exprs::tested-returns : goal.exprs::tested-returns
-exprs::tested-returns t c = λ one other. decided (expr_of c.args.x.now c.args.condition.now) (nodes.place_of (typed_expr_view c.args.condition.now)) one other (seen c.args.state.now) (seen c.tick.new.state) tt c.in_ok-test.test c.expr.new.state c.choice_by.result c.in_ok-tick.ensures c.in_ok-test.ensures (c.choice_by.ensures ∙ ap (λ k. choice_of k c.in_ok-test.test) c.place_of.ensures)
+exprs::tested-returns t c = λ one other. decided c.args.x.now.limit (expr_of c.args.x.now c.args.condition.now) (nodes.place_of (typed_expr_view c.args.condition.now)) one other (seen c.args.state.now) (seen c.tick.new.state) tt c.in_ok-test.test c.expr.new.state c.choice_by.result c.in_ok-tick.ensures c.in_ok-test.ensures (c.choice_by.ensures ∙ ap (λ k. choice_of k c.in_ok-test.test) c.place_of.ensures)
 
 pub steps::step-returns-then-not-iterates-clause-runs : goal.steps::step-returns-then-not-iterates-clause-runs
 steps::step-returns-then-not-iterates-clause-runs t c =
@@ -146,7 +147,7 @@ steps::step-returns-in_err-tick-in-Some-accumulator-clause-runs t c =
     let one : c.in-Arrow.args ≡ c.body-item.result ∷ [] = sym d ∙ one_there c.as_slice-in-Arrow.result.now c.body-item.result c.in-len1.len_at_least c.in-len1.len_below c.body-item.is in
     let acc : (head_of c.args.x.now c.in-Arrow.head).accumulator ≡ Some (c.in-Some-accumulator.accumulator.name, expr_of c.args.x.now c.in-Some-accumulator.accumulator.first) = head_with c.args.x.now c.in-Arrow.head c.in-Some-head.head c.in-Some-accumulator.accumulator c.in-Some-head.is c.in-Some-accumulator.is in
     let named : (head_of c.args.x.now c.in-Arrow.head).name ≡ option_copied c.name_in.result = search rules in
-    unit_ends (step_of c.args.x.now (type_at (post_of c.args.before.now) c.args.index) c.args.node.now c.args.value) (expr_of c.args.x.now c.in-Some-accumulator.accumulator.first) (λ b. iterated_from c.in-Arrow.place (option_copied c.name_in.result) c.in-Some-accumulator.accumulator.name (expr_of c.args.x.now c.body-item.result) b c.in_ok-source-in-Arrow.source) (iterate_begins c.args.x.now (type_at (post_of c.args.before.now) c.args.index) c.args.node.now c.args.value c.in-Arrow.name c.in-Arrow.head c.in-Arrow.args c.in-Arrow.place c.in-Arrow.note c.in_ok-source-in-Arrow.source c.body-item.result c.in-Some-accumulator.accumulator.name (expr_of c.args.x.now c.in-Some-accumulator.accumulator.first) (option_copied c.name_in.result) (record { step = c.in-Arrow.is; goes_over = c.in_ok-source-in-Arrow.ensures.source }) it one acc named) (seen c.args.state.now) c.in_err-tick-in-Some-accumulator.field-0.0 c.from_residual-in_err-tick-in-Some-accumulator.result c.tick.new.state c.in_err-tick-in-Some-accumulator.ensures c.from_residual-in_err-tick-in-Some-accumulator.ensures.1
+    unit_ends c.args.x.now.limit (step_of c.args.x.now (type_at (post_of c.args.before.now) c.args.index) c.args.node.now c.args.value) (expr_of c.args.x.now c.in-Some-accumulator.accumulator.first) (λ b. iterated_from c.in-Arrow.place (option_copied c.name_in.result) c.in-Some-accumulator.accumulator.name (expr_of c.args.x.now c.body-item.result) b c.in_ok-source-in-Arrow.source) (iterate_begins c.args.x.now (type_at (post_of c.args.before.now) c.args.index) c.args.node.now c.args.value c.in-Arrow.name c.in-Arrow.head c.in-Arrow.args c.in-Arrow.place c.in-Arrow.note c.in_ok-source-in-Arrow.source c.body-item.result c.in-Some-accumulator.accumulator.name (expr_of c.args.x.now c.in-Some-accumulator.accumulator.first) (option_copied c.name_in.result) (record { step = c.in-Arrow.is; goes_over = c.in_ok-source-in-Arrow.ensures.source }) it one acc named) (seen c.args.state.now) c.in_err-tick-in-Some-accumulator.field-0.0 c.from_residual-in_err-tick-in-Some-accumulator.result c.tick.new.state c.in_err-tick-in-Some-accumulator.ensures c.from_residual-in_err-tick-in-Some-accumulator.ensures.1
 
 pub steps::step-returns-in_err-first-in-Some-accumulator-clause-runs : goal.steps::step-returns-in_err-first-in-Some-accumulator-clause-runs
 unfolding head_of expr_of phrase.head phrase.accumulator
@@ -156,7 +157,7 @@ steps::step-returns-in_err-first-in-Some-accumulator-clause-runs t c =
     let one : c.in-Arrow.args ≡ c.body-item.result ∷ [] = sym d ∙ one_there c.as_slice-in-Arrow.result.now c.body-item.result c.in-len1.len_at_least c.in-len1.len_below c.body-item.is in
     let acc : (head_of c.args.x.now c.in-Arrow.head).accumulator ≡ Some (c.in-Some-accumulator.accumulator.name, expr_of c.args.x.now c.in-Some-accumulator.accumulator.first) = head_with c.args.x.now c.in-Arrow.head c.in-Some-head.head c.in-Some-accumulator.accumulator c.in-Some-head.is c.in-Some-accumulator.is in
     let named : (head_of c.args.x.now c.in-Arrow.head).name ≡ option_copied c.name_in.result = search rules in
-    first_ends (step_of c.args.x.now (type_at (post_of c.args.before.now) c.args.index) c.args.node.now c.args.value) (expr_of c.args.x.now c.in-Some-accumulator.accumulator.first) (λ b. iterated_from c.in-Arrow.place (option_copied c.name_in.result) c.in-Some-accumulator.accumulator.name (expr_of c.args.x.now c.body-item.result) b c.in_ok-source-in-Arrow.source) (iterate_begins c.args.x.now (type_at (post_of c.args.before.now) c.args.index) c.args.node.now c.args.value c.in-Arrow.name c.in-Arrow.head c.in-Arrow.args c.in-Arrow.place c.in-Arrow.note c.in_ok-source-in-Arrow.source c.body-item.result c.in-Some-accumulator.accumulator.name (expr_of c.args.x.now c.in-Some-accumulator.accumulator.first) (option_copied c.name_in.result) (record { step = c.in-Arrow.is; goes_over = c.in_ok-source-in-Arrow.ensures.source }) it one acc named) (seen c.args.state.now) (seen c.tick.new.state) tt c.in_err-first-in-Some-accumulator.field-0.0 c.from_residual-in_err-first-in-Some-accumulator.result c.expr.new.state c.in_ok-tick-in-Some-accumulator.ensures c.in_err-first-in-Some-accumulator.ensures c.from_residual-in_err-first-in-Some-accumulator.ensures.1
+    first_ends c.args.x.now.limit (step_of c.args.x.now (type_at (post_of c.args.before.now) c.args.index) c.args.node.now c.args.value) (expr_of c.args.x.now c.in-Some-accumulator.accumulator.first) (λ b. iterated_from c.in-Arrow.place (option_copied c.name_in.result) c.in-Some-accumulator.accumulator.name (expr_of c.args.x.now c.body-item.result) b c.in_ok-source-in-Arrow.source) (iterate_begins c.args.x.now (type_at (post_of c.args.before.now) c.args.index) c.args.node.now c.args.value c.in-Arrow.name c.in-Arrow.head c.in-Arrow.args c.in-Arrow.place c.in-Arrow.note c.in_ok-source-in-Arrow.source c.body-item.result c.in-Some-accumulator.accumulator.name (expr_of c.args.x.now c.in-Some-accumulator.accumulator.first) (option_copied c.name_in.result) (record { step = c.in-Arrow.is; goes_over = c.in_ok-source-in-Arrow.ensures.source }) it one acc named) (seen c.args.state.now) (seen c.tick.new.state) tt c.in_err-first-in-Some-accumulator.field-0.0 c.from_residual-in_err-first-in-Some-accumulator.result c.expr.new.state c.in_ok-tick-in-Some-accumulator.ensures c.in_err-first-in-Some-accumulator.ensures c.from_residual-in_err-first-in-Some-accumulator.ensures.1
 
 pub steps::step-returns-in_ok-first-in-Some-accumulator-clause-runs : goal.steps::step-returns-in_ok-first-in-Some-accumulator-clause-runs
 unfolding head_of expr_of phrase.head phrase.accumulator
@@ -166,14 +167,14 @@ steps::step-returns-in_ok-first-in-Some-accumulator-clause-runs t c =
     let one : c.in-Arrow.args ≡ c.body-item.result ∷ [] = sym d ∙ one_there c.as_slice-in-Arrow.result.now c.body-item.result c.in-len1.len_at_least c.in-len1.len_below c.body-item.is in
     let acc : (head_of c.args.x.now c.in-Arrow.head).accumulator ≡ Some (c.in-Some-accumulator.accumulator.name, expr_of c.args.x.now c.in-Some-accumulator.accumulator.first) = head_with c.args.x.now c.in-Arrow.head c.in-Some-head.head c.in-Some-accumulator.accumulator c.in-Some-head.is c.in-Some-accumulator.is in
     let named : (head_of c.args.x.now c.in-Arrow.head).name ≡ option_copied c.name_in.result = search rules in
-    then_runs (step_of c.args.x.now (type_at (post_of c.args.before.now) c.args.index) c.args.node.now c.args.value) (expr_of c.args.x.now c.in-Some-accumulator.accumulator.first) (λ b. iterated_from c.in-Arrow.place (option_copied c.name_in.result) c.in-Some-accumulator.accumulator.name (expr_of c.args.x.now c.body-item.result) b c.in_ok-source-in-Arrow.source) (iterate_begins c.args.x.now (type_at (post_of c.args.before.now) c.args.index) c.args.node.now c.args.value c.in-Arrow.name c.in-Arrow.head c.in-Arrow.args c.in-Arrow.place c.in-Arrow.note c.in_ok-source-in-Arrow.source c.body-item.result c.in-Some-accumulator.accumulator.name (expr_of c.args.x.now c.in-Some-accumulator.accumulator.first) (option_copied c.name_in.result) (record { step = c.in-Arrow.is; goes_over = c.in_ok-source-in-Arrow.ensures.source }) it one acc named) (seen c.args.state.now) (seen c.tick.new.state) (seen c.expr.new.state) tt c.in_ok-first-in-Some-accumulator.first c.iterate.result c.iterate.new.state c.in_ok-tick-in-Some-accumulator.ensures c.in_ok-first-in-Some-accumulator.ensures c.iterate.ensures
+    then_runs c.args.x.now.limit (step_of c.args.x.now (type_at (post_of c.args.before.now) c.args.index) c.args.node.now c.args.value) (expr_of c.args.x.now c.in-Some-accumulator.accumulator.first) (λ b. iterated_from c.in-Arrow.place (option_copied c.name_in.result) c.in-Some-accumulator.accumulator.name (expr_of c.args.x.now c.body-item.result) b c.in_ok-source-in-Arrow.source) (iterate_begins c.args.x.now (type_at (post_of c.args.before.now) c.args.index) c.args.node.now c.args.value c.in-Arrow.name c.in-Arrow.head c.in-Arrow.args c.in-Arrow.place c.in-Arrow.note c.in_ok-source-in-Arrow.source c.body-item.result c.in-Some-accumulator.accumulator.name (expr_of c.args.x.now c.in-Some-accumulator.accumulator.first) (option_copied c.name_in.result) (record { step = c.in-Arrow.is; goes_over = c.in_ok-source-in-Arrow.ensures.source }) it one acc named) (seen c.args.state.now) (seen c.tick.new.state) (seen c.expr.new.state) tt c.in_ok-first-in-Some-accumulator.first c.iterate.result c.iterate.new.state c.in_ok-tick-in-Some-accumulator.ensures c.in_ok-first-in-Some-accumulator.ensures c.iterate.ensures
 
 pub exprs::model_steps-returns-in_err-value : goal.exprs::model_steps-returns-in_err-value
 unfolding rule.on_first
 exprs::model_steps-returns-in_err-value t c =
-    let p : Does LateWrite Value = by.model_first (setting_of c.args.x.now) c.args.model c.args.place (all_steps c.args.all.now) in
+    let p : Does LateWrite Value = by.model_first (spend_of c.args.x.now.limit) c.args.model c.args.place (all_steps c.args.all.now) in
     let fs : List (Value → Does LateWrite Value) = drop 1 (steps_of c.args.x.now c.args.first.now c.args.all.now) in
-    ends (p (seen c.args.state.now)) (λ v. rule.along v fs) (rule.on_first p fs (seen c.args.state.now)) c.in_err-value.field-0.0 c.from_residual.result c.model_first.new.state refl (c.in_err-value.ensures (program_of c.args.x.now)) c.from_residual.ensures.1
+    ends (p (seen c.args.state.now)) (λ v. rule.along v fs) (rule.on_first p fs (seen c.args.state.now)) c.in_err-value.field-0.0 c.from_residual.result c.model_first.new.state refl c.in_err-value.ensures c.from_residual.ensures.1
 
 pub exprs::expr-returns-in_err-tested-in-If : goal.exprs::expr-returns-in_err-tested-in-If
 exprs::expr-returns-in_err-tested-in-If t c =

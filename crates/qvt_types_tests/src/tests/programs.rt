@@ -1,20 +1,11 @@
 //! What programs tell of themselves.
 
-use super::read::{asked, metas_of, text_of};
+use super::read::program_of;
 use qvt_base::numbers::MappingNo;
-use qvt_types_program::program::Program;
-use std::alloc::Global;
 use std::test::Fail;
 
 const UNITS: &str =
     "intermediate class B { b : Integer; } mapping m() { } mapping C::n() : C { a := 1; } helper h() { } mapping B::o() { } mapping Element::p() { } main() { map m(); }";
-
-/// The program of a text whose third line this is.
-fn program_of(alloc: Global, units: &str) -> Result<Program, Fail> {
-    let metas = metas_of(alloc)?;
-    let text = text_of(alloc, units)?;
-    asked(alloc, &metas, text.as_str()).into_program()
-}
 
 #[test]
 fn mappings_are_named_as_in_traces(rt: HostRuntime) -> Result<(), Fail> {

@@ -85,3 +85,10 @@ pub fn text_of(alloc: Global, units: &str) -> Result<Text, ListFault> {
     text.push_str(units)?;
     Ok(text)
 }
+
+/// The program of a text whose third line this is.
+pub fn program_of(alloc: Global, units: &str) -> Result<Program, Fail> {
+    let metas = metas_of(alloc)?;
+    let text = text_of(alloc, units)?;
+    asked(alloc, &metas, text.as_str()).into_program()
+}

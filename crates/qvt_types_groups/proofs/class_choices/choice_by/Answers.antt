@@ -1,5 +1,5 @@
 use Rattle.std.proofs.Common.{◌∙◌, sym}
-use Rattle.qvt_types_groups.proofs.ByClass.{inherited_is}
+use Rattle.qvt_types_groups.proofs.Joined.{inherited_is}
 use Rattle.qvt_types_groups.proofs.class_choices.choice_by.Goals as goal
 
 pub returns-in-Some-inherited : goal.returns-in-Some-inherited

@@ -1,4 +1,4 @@
-use Rattle.std.proofs.Common.{◌∙◌, ◌<◌, length, arith}
+use Rattle.std.proofs.Common.{◌<◌, length, arith}
 use Rattle.qvt_types_lists.proofs.Told.{lists_next}
 use Rattle.qvt_types_lists.proofs.telling.tell_units.Goals as goal
 

@@ -1,0 +1,3 @@
+mod Bound
+mod Items
+mod Present

@@ -1,0 +1,12 @@
+//! Calls of units as phrases meet them: what stands behind a call or a resolve, the unit that is chosen for
+//! an object, calls for each item of a collection, and what a unit begins with and gives back.
+#![tactic(auto)]
+
+pub mod choice;
+pub mod each;
+pub mod frames;
+pub mod given;
+mod mapped;
+pub mod objects;
+pub mod units;
+mod values;

@@ -1,0 +1,4 @@
+pub mod Added
+pub mod Appended
+pub mod Named
+pub mod Present

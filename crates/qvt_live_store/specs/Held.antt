@@ -1,0 +1,8 @@
+-- What a store has that is held or lent.
+use Rattle.qvt_slots.specs.Contents.{Contents}
+use Rattle.qvt_live_store.specs.declared.held.Held.{Held}
+use Rattle.qvt_live_store.specs.declared.held.Held.TheVariants.{Lent, Own}
+
+abbrev pub contents_of : Held → Contents
+contents_of (Lent s) = s.now
+contents_of (Own s) = s

@@ -1,0 +1,13 @@
+pub mod Closed
+pub mod Parts
+pub mod Values
+pub mod Loops
+pub mod Actions
+pub mod Calling
+pub mod Making
+pub mod Resolving
+pub mod Naming
+pub mod Phrasing
+pub mod Calls
+pub mod Alike
+pub mod Runs

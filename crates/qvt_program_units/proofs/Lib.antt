@@ -1,0 +1,2 @@
+mod Mappings
+mod Told
