@@ -1,0 +1,5 @@
+pub mod Disjuncts
+pub mod Late
+pub mod Numbers
+pub mod Sources
+pub mod Verdicts

@@ -1,0 +1,10 @@
+//! What a resolve is, what it looks from, what a late one keeps, and the objects that a trace has for a request.
+#![tactic(auto)]
+
+pub mod disjuncts;
+pub mod late;
+pub mod nodes;
+pub mod number_set;
+pub mod sources;
+pub mod units;
+pub mod verdicts;
