@@ -12,7 +12,7 @@ has-append xs ys k = list_any-append (λ j. j == k) xs ys
 pub has-first : (k : ℕ) (ks : List ℕ) → has (k ∷ ks) k ≡ true
 has-first k ks = or_left (k == k) (has ks k) (eq-eqb k k refl)
 
-has-last : (ks : List ℕ) (k x : ℕ) → has (ks ++ k ∷ []) x ≡ (has ks x || (k == x))
+pub has-last : (ks : List ℕ) (k x : ℕ) → has (ks ++ k ∷ []) x ≡ (has ks x || (k == x))
 has-last ks k x = has-append ks (k ∷ []) x ∙ ap (λ b. has ks x || b) (or_false (k == x))
 
 -- ---- a number more

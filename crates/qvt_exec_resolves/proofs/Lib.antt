@@ -1,3 +1,4 @@
+pub mod Ends
 pub mod FoundObjects
 pub mod Holding
 pub mod LateSteps

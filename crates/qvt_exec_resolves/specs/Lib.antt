@@ -1,3 +1,4 @@
+pub mod Candidates
 pub mod Disjuncts
 pub mod Late
 pub mod Numbers
