@@ -44,7 +44,7 @@ impl Drop for RunState<'_> {
 
 /// Nothing is done yet, over this store, with these variables in scope. It takes no memory.
 fn begun<'s>(alloc: Global, store: Held<'s>, locals: Seq<Local>) -> RunState<'s>
-    ensures { seen result ≡ record { locals = locals; inner = None; store = contents_of store; trace = []; keys = []; entries = []; cost = 0 } }
+    ensures { seen result ≡ record { locals = locals; inner = None; store = contents_of store.entry; trace = []; keys = []; entries = []; cost = 0 } }
 {
     RunState {
         store,
