@@ -12,7 +12,7 @@ use Rattle.qvt_slots.specs.Contents.{Contents}
 use Rattle.qvt_run_data.specs.declared.record.Record.{Record}
 use Rattle.qvt_run_data.specs.declared.request.Request.{Request}
 use Rattle.qvt_run_rules.specs.Trace.{comes_from, far_end, has_object, is_object_of, is_within, near_end, same_end, with_new}
-use Rattle.qvt_relation.proofs.Bools.{or_false, or_left, or_right}
+use Rattle.qvt_relation.proofs.Bools.{or_false, or_left}
 use Rattle.qvt_meaning.specs.Program.{with_number}
 use Rattle.qvt_exec_resolves.specs.Numbers.{has}
 use Rattle.qvt_exec_resolves.specs.Candidates.{oid, oids, with_end, ends_of, ends_within, ends_from}

@@ -1,14 +1,13 @@
 -- Late resolves among nodes.
-use Rattle.std.proofs.Common.{◌≡◌, ◌∙◌, ◌-◌, ℕ, zero, suc, ◌<◌, ◌≤◌, ◌+◌, Bool, true, false, refl, sym, ap, List, [], ◌∷◌, map, length, take, get_or, Option, Some, None, arith}
+use Rattle.std.proofs.Common.{◌≡◌, ◌∙◌, ◌-◌, ℕ, zero, suc, ◌<◌, Bool, true, false, refl, sym, ap, List, [], ◌∷◌, map, length, take, get_or, Option, Some, None, arith}
 use Rattle.qvt_base.specs.declared.numbers.Place.{Place}
 use Rattle.qvt_tree_types.specs.declared.words.ResolveWord.{ResolveWord}
 use Rattle.qvt_types_data.specs.declared.note.Note.{Note}
 use Rattle.qvt_types_data.specs.declared.ty.Ty.{Ty}
-use Rattle.qvt_types_nodes.specs.Tree.{TypedResolveTerm, TypedResolveOf, TypedFilterTerm, TypedStepTerm, TypedDotStep, TypedArrowStep, TypedDotMapStep, TypedArrowMapStep, TypedDotResolveStep, TypedArrowResolveStep}
+use Rattle.qvt_types_nodes.specs.Tree.{TypedResolveOf, TypedFilterTerm, TypedStepTerm, TypedDotStep, TypedArrowStep, TypedDotMapStep, TypedArrowMapStep, TypedDotResolveStep, TypedArrowResolveStep}
 use Rattle.qvt_types_nodes.specs.declared.types.TypedPathTree.{TypedPathTree}
-use Rattle.qvt_types_nodes.specs.declared.tree.TypedResolveCall.{TypedResolveCall}
 use Rattle.qvt_types_nodes.specs.declared.tree.TypedStep.{TypedStep}
-use Rattle.qvt_types_nodes.specs.View.{typed_resolve_view, typed_optional_filter, typed_step_view, typed_steps_of}
+use Rattle.qvt_types_nodes.specs.View.{typed_step_view, typed_steps_of}
 use Rattle.qvt_run_data.specs.declared.late.LateWrite.{LateWrite}
 use Rattle.qvt_run_rules.specs.Calls.{Calls}
 use Rattle.qvt_meaning.specs.Nodes as nodes

@@ -1,9 +1,8 @@
 -- The list of a mapping and those that it disjuncts to, as the search has it.
-use Rattle.std.proofs.Common.{◌≡◌, ◌∙◌, ℕ, zero, suc, refl, sym, ap, List, [], ◌∷◌, fold, length, map}
+use Rattle.std.proofs.Common.{◌≡◌, ◌∙◌, ℕ, zero, suc, refl, sym, ap, [], ◌∷◌, fold, length}
 use Rattle.std.specs.List.{flat_map}
 use Rattle.std.proofs.lemmas.List.{length-map}
 use Rattle.qvt_types_nodes.specs.Module.{typed_unit_view}
-use Rattle.qvt_types_nodes.specs.declared.module.TypedUnit.{TypedUnit}
 use Rattle.qvt_types_program.specs.Program.{program_view}
 use Rattle.qvt_types_program.specs.declared.program.Program.{Program}
 use Rattle.qvt_typing.specs.Accepts.{ProgramTerm}

@@ -1,5 +1,5 @@
 -- Numbers of a set that is looked up by hash.
-use Rattle.std.proofs.Common.{◌≡◌, ℕ, ◌==◌, ◌||◌, sym, refl, ap, ◌∙◌, List, [], ◌∷◌, ◌++◌, eq-eqb, eqb-true, nat_eq}
+use Rattle.std.proofs.Common.{◌≡◌, ℕ, ◌==◌, ◌||◌, sym, refl, ap, List, [], ◌∷◌, ◌++◌, eq-eqb, eqb-true, nat_eq}
 use Rattle.std.specs.Prelude.{if◌then◌else◌}
 use Rattle.std.specs.List.{list_any}
 use Rattle.indexmap.specs.IndexSet.{insert_key}

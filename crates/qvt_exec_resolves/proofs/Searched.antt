@@ -9,7 +9,7 @@ use Rattle.qvt_exec_resolves.specs.Disjuncts.{waiting, from, opened, closed, tak
 use Rattle.qvt_exec_resolves.specs.declared.disjuncts.Search.{Search}
 use Rattle.qvt_exec_resolves.specs.declared.disjuncts.Turn.{Turn}
 use Rattle.qvt_exec_resolves.specs.declared.disjuncts.Turn.TheVariants.{Open, Close}
-use Rattle.qvt_exec_resolves.proofs.Holding.{has-first, stays, is_there, was_there, all_there, in_some, each_of}
+use Rattle.qvt_exec_resolves.proofs.Holding.{stays, was_there, all_there, in_some, each_of}
 use Rattle.qvt_exec_resolves.proofs.Turns.{fold-joined, gathered, gathered-last, gathered-waiting}
 
 module _ (next : ℕ → List ℕ) where

@@ -1,10 +1,10 @@
 -- What the turns of a search give together, the last first.
-use Rattle.std.proofs.Common.{◌≡◌, ℕ, refl, sym, ap, ◌∙◌, List, [], ◌∷◌, ◌++◌, append_assoc, append-nil, fold, map, reverse}
+use Rattle.std.proofs.Common.{◌≡◌, ℕ, refl, sym, ap, ◌∙◌, List, [], ◌∷◌, ◌++◌, append_assoc, append-nil, fold, map}
 use Rattle.std.specs.List.{flat_map}
 use Rattle.std.proofs.lemmas.List.{reverse-append}
 use Rattle.qvt_exec_resolves.specs.Disjuncts.{waiting}
 use Rattle.qvt_exec_resolves.specs.declared.disjuncts.Turn.{Turn}
-use Rattle.qvt_exec_resolves.specs.declared.disjuncts.Turn.TheVariants.{Open, Close}
+use Rattle.qvt_exec_resolves.specs.declared.disjuncts.Turn.TheVariants.{Open}
 
 pub fold-joined : {A B : Type 0} (f : B → A → B) (a : B) (xs ys : List A) → fold f a (xs ++ ys) ≡ fold f (fold f a xs) ys
 fold-joined f a [] ys = refl

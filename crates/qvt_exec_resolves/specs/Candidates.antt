@@ -1,5 +1,5 @@
 -- What records give a request beside what it has (QVT 1.3, 8.1.10 and 8.2.1.22).
-use Rattle.std.specs.Prelude.{◌≡◌, ℕ, Bool, true, List, [], ◌∷◌, filter, map, if◌then◌else◌, Option, Some, None}
+use Rattle.std.specs.Prelude.{◌≡◌, ℕ, Bool, true, List, filter, map, if◌then◌else◌, Option, Some, None}
 use Rattle.std.specs.List.{filter_map, fold}
 use Rattle.qvt_base.specs.declared.numbers.MappingNo.{MappingNo}
 use Rattle.qvt_base.specs.declared.numbers.Oid.{Oid}

@@ -1,7 +1,6 @@
 -- What a late assignment keeps (QVT 1.3, 8.1.10): an entry more.
-use Rattle.std.specs.Prelude.{[], ◌∷◌, ◌++◌}
+use Rattle.std.specs.Prelude.{[], ◌∷◌, ◌++◌, Option, None}
 use Rattle.qvt_types_nodes.specs.Tree.{TypedStepTerm, TypedResolveTerm, TypedDotResolveStep, TypedArrowResolveStep}
-use Rattle.std.specs.Prelude.{Option, Some, None}
 use Rattle.qvt_run_data.specs.declared.late.LateWrite.{LateWrite}
 use Rattle.qvt_run_rules.specs.State.{Does, turn_to}
 use Rattle.qvt_meaning.specs.Nodes.{late_in}

@@ -1,5 +1,5 @@
 -- Verdicts on candidates, and what they lead to, as the rules have them (QVT 1.3, 8.2.1.22).
-use Rattle.std.specs.Prelude.{ℕ, Bool, List}
+use Rattle.std.specs.Prelude.{ℕ, List}
 use Rattle.qvt_base.specs.declared.numbers.Oid.{Oid}
 use Rattle.qvt_run_rules.specs.Resolve as rule
 use Rattle.qvt_exec_resolves.specs.declared.verdicts.Verdict.{Verdict}

@@ -187,12 +187,7 @@ impl<'a> Sieve<'a> {
 
     /// The same, if the source is the near end of the record.
     #[tactic(auto, using(crate::proofs::Ends::one_from, crate::proofs::Ends::one_elsewhere))]
-    fn take_from(
-        &self,
-        source: Oid,
-        found: &mut NumberSet,
-        call: &Record,
-    ) -> Result<(), ListFault>
+    fn take_from(&self, source: Oid, found: &mut NumberSet, call: &Record) -> Result<(), ListFault>
         ensures { OnOk result (oids found.new ≡ ends_from self.now.store.now self.now.request.now source (oids found.old) (call.now ∷ [])) }
     {
         if is_end(near_end(self.request, call), source) {

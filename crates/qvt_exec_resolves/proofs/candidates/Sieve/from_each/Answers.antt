@@ -1,4 +1,3 @@
-use Rattle.std.proofs.Common.{[]}
 use Rattle.std.proofs.lemmas.List.{get_or_default}
 use Rattle.qvt_exec_resolves.specs.Candidates.{oids}
 use Rattle.qvt_exec_resolves.proofs.Ends.{source_more}
