@@ -145,6 +145,7 @@ fn objects_of(alloc: Global, numbers: &[u32]) -> Result<OidList, ListFault>
 }
 
 impl<'a> Sieve<'a> {
+    /// A sieve of the request over the store.
     pub fn new(
         alloc: Global,
         store: &'a Store,
