@@ -1,4 +1,4 @@
--- What phrases ask of what stands behind them: the calls of units, and what a resolve answers that is not late (QVT 1.3, 8.2.1.10 to
+-- What phrases ask of what stands behind them: the program, the calls of units, and what a resolve answers that is not late (QVT 1.3, 8.2.1.10 to
 -- 8.2.1.15 and 8.2.1.22).
 use Rattle.qvt_base.specs.declared.numbers.Place.{Place}
 use Rattle.qvt_value.specs.declared.value.Value.{Value}
@@ -6,7 +6,9 @@ use Rattle.qvt_run_data.specs.declared.late.LateWrite.{LateWrite}
 use Rattle.qvt_run_data.specs.declared.request.Query.{Query}
 use Rattle.qvt_run_rules.specs.Calls.{Calls}
 use Rattle.qvt_run_rules.specs.State.{Does}
+use Rattle.qvt_typing.specs.Accepts.{ProgramTerm}
 
 pub record Units : Type 0 where
+  pub program : ProgramTerm
   pub calls : Calls LateWrite
   pub resolves : Place → Query → Does LateWrite Value

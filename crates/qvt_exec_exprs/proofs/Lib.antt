@@ -1,11 +1,2 @@
-pub mod Ends
-pub mod Args
-pub mod Signs
-pub mod Behind
 pub mod Lists
-pub mod Loops
-pub mod Over
-pub mod Misfits
-pub mod Arrows
-pub mod Choices
-pub mod Conditionals
+pub mod Signs

@@ -16,10 +16,10 @@ use Rattle.qvt_run_data.specs.declared.exit.Halt.{Halt}
 use Rattle.qvt_run_data.specs.declared.exit.Halt.TheVariants.{Exits, NoMemory}
 use Rattle.qvt_types_nodes.specs.declared.tree.TypedItem.{TypedItem}
 use Rattle.qvt_meaning.specs.Phrases as phrase
-use Rattle.qvt_exec_exprs.specs.declared.engine.Engine.{Engine}
 use Rattle.qvt_exec_state.specs.Runs.{Runs, seen}
 use Rattle.qvt_exec_state.specs.declared.state.RunState.{RunState}
-use Rattle.qvt_exec_exprs.specs.Means.{Gathers, Gives, IsGathering, item_of, items_of}
+use Rattle.qvt_exec_phrases.specs.Means.{Scene, item_of, items_of}
+use Rattle.qvt_exec_exprs.specs.Gathering.{Gathers, Gives, IsGathering}
 
 abbrev Only : Bool → Type 0
 Only true = Unit {0}
@@ -43,11 +43,11 @@ pub gathered_end : (kind : Kind) (d : Done LateWrite (List Value)) (p : Does Lat
     IsGathering kind d (p ∷ ps) g s → p s ≡ (Err e, t) → d ≡ (Err e, t)
 gathered_end kind d p ps g s t e i h = sym i.rest ∙ ap (onwards i.done ps) h
 
-first_item : (x : Engine) (i : TypedItem) (is : List TypedItem) → items_of x (i ∷ is) ≡ item_of x i ∷ items_of x is
+first_item : (x : Scene) (i : TypedItem) (is : List TypedItem) → items_of x (i ∷ is) ≡ item_of x i ∷ items_of x is
 unfolding items_of item_of phrase.items
 first_item x i is = refl
 
-next_items : (x : Engine) (is : List TypedItem) (n : ℕ) (i : TypedItem) → n < length is → i ≡ get_or is n i → items_of x (drop n is) ≡ item_of x i ∷ items_of x (drop (n + 1) is)
+next_items : (x : Scene) (is : List TypedItem) (n : ℕ) (i : TypedItem) → n < length is → i ≡ get_or is n i → items_of x (drop n is) ≡ item_of x i ∷ items_of x (drop (n + 1) is)
 next_items x is n i within at =
     let next_is : suc n ≡ n + 1 = omega arith in
     ap (items_of x) (drop-cons is n i within) ∙ first_item x (get_or is n i) (drop (suc n) is)
@@ -75,13 +75,13 @@ pub gathering_none : (kind : Kind) (ps : List (Does LateWrite (List Value))) (g 
 gathering_none kind ps g s none = record { done = []; gathered = none; rest = refl }
 
 -- one more of them
-pub gathering_on : (x : Engine) (is : List TypedItem) (n : ℕ) (i : TypedItem) (kind : Kind) (d : Done LateWrite (List Value)) (g h : Gathered) (s : State LateWrite) (t : RunState) → n < length is → i ≡ get_or is n i →
+pub gathering_on : (x : Scene) (is : List TypedItem) (n : ℕ) (i : TypedItem) (kind : Kind) (d : Done LateWrite (List Value)) (g h : Gathered) (s : State LateWrite) (t : RunState) → n < length is → i ≡ get_or is n i →
     IsGathering kind d (items_of x (drop n is)) g s → Gives (item_of x i s) g h t → IsGathering kind d (items_of x (drop (n + 1) is)) h (seen t)
 gathering_on x is n i kind d g h s t within at so_far gives =
     gathered_on kind d (item_of x i) (items_of x (drop (n + 1) is)) g h s t (subst (λ ps. IsGathering kind d ps g s) (next_items x is n i within at) so_far) gives
 
 -- one of them ends it
-pub gathering_end : (x : Engine) (is : List TypedItem) (n : ℕ) (i : TypedItem) (kind : Kind) (d : Done LateWrite (List Value)) (g k : Gathered) (s : State LateWrite) (f : List Value → Does LateWrite Value) (h : Halt) (r : Result Value Halt) (t : RunState) → n < length is → i ≡ get_or is n i →
+pub gathering_end : (x : Scene) (is : List TypedItem) (n : ℕ) (i : TypedItem) (kind : Kind) (d : Done LateWrite (List Value)) (g k : Gathered) (s : State LateWrite) (f : List Value → Does LateWrite Value) (h : Halt) (r : Result Value Halt) (t : RunState) → n < length is → i ≡ get_or is n i →
     IsGathering kind d (items_of x (drop n is)) g s → Gathers (item_of x i s) g k (Err h) t → IsErrAnd r (λ e. e ≡ h) → Runs (on_outcome d.0 d.1 f) r t
 gathering_end x is n i kind d g k s f h (Ok w) t within at so_far gives err = absurd err
 gathering_end x is n i kind d g k s f NoMemory (Err e) t within at so_far gives err = subst (λ (z : Halt). Runs (on_outcome d.0 d.1 f) (Err z) t) (sym err) tt
@@ -99,7 +99,7 @@ gathering_all kind d g t at v i made =
     ap (λ (q : Done LateWrite (List Value)). on_outcome q.0 q.1 (λ vs. pure (rule.collection at kind vs))) (sym i.rest)
     ∙ ap (given t) (sym (made kind i.done i.gathered))
 
-items_end : (x : Engine) (is : List TypedItem) (n : ℕ) → length is ≤ n → items_of x (drop n is) ≡ []
+items_end : (x : Scene) (is : List TypedItem) (n : ℕ) → length is ≤ n → items_of x (drop n is) ≡ []
 unfolding items_of phrase.items
 items_end x [] zero h = refl
 items_end x [] (suc n) h = refl
@@ -107,6 +107,6 @@ items_end x (i ∷ is) zero h = absurd (omega (arith, h))
 items_end x (i ∷ is) (suc n) h = items_end x is n (omega (arith, h))
 
 -- the last of them is behind
-pub gathering_over : (x : Engine) (is : List TypedItem) (n : ℕ) (kind : Kind) (d : Done LateWrite (List Value)) (g : Gathered) (t : RunState) (at : Place) (v : Value) → length is ≤ n → IsGathering kind d (items_of x (drop n is)) g (seen t) →
+pub gathering_over : (x : Scene) (is : List TypedItem) (n : ℕ) (kind : Kind) (d : Done LateWrite (List Value)) (g : Gathered) (t : RunState) (at : Place) (v : Value) → length is ≤ n → IsGathering kind d (items_of x (drop n is)) g (seen t) →
     ((k : Kind) (all : List Value) → AreGathered k all g → v ≡ rule.collection at k all) → on_outcome d.0 d.1 (λ vs. pure (rule.collection at kind vs)) ≡ (Ok v, seen t)
 gathering_over x is n kind d g t at v over i made = gathering_all kind d g t at v (subst (λ ps. IsGathering kind d ps g (seen t)) (items_end x is n over) i) made

@@ -1,3 +1,2 @@
-pub mod Choices
-pub mod Loops
-pub mod Means
+pub mod Charged
+pub mod Gathering

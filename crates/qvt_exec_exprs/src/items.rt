@@ -4,7 +4,7 @@ ghost use Rattle.std.specs.Prelude.{[], ◌∷◌};
 ghost use Rattle.qvt_run_rules.specs.Expressions.{range_of};
 ghost use Rattle.qvt_run_rules.specs.State.{found, pure};
 ghost use Rattle.qvt_exec_state.specs.Runs.{seen};
-ghost use Rattle.qvt_exec_exprs.specs.Means.{Gathers};
+ghost use Rattle.qvt_exec_exprs.specs.Gathering.{Gathers};
 
 use qvt_base::numbers::Place;
 use qvt_exec_state::state::RunState;

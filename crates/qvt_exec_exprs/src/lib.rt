@@ -1,10 +1,8 @@
-//! Plain expressions: what they give of a store and the variables in scope, and what they cost.
+//! Expressions: what each gives by its rule, over the phrases that stand inside it.
 #![tactic(auto)]
 
-mod choice;
-pub mod engine;
+mod conditionals;
 pub mod exprs;
 mod items;
-pub mod iterators;
-pub mod sources;
-pub mod steps;
+mod literals;
+mod operands;

@@ -1,7 +1,6 @@
 -- What is told of an evaluation that has ended.
 use Rattle.std.proofs.Common.{◌≡◌, ◌∙◌, ◌^◌, ◌-◌, min, sym, ap, Result, Ok, Err}
 use Rattle.qvt_value.specs.declared.value.Value.{Value}
-use Rattle.qvt_run_data.specs.declared.exit.End.{End}
 use Rattle.qvt_run_data.specs.declared.exit.Halt.{Halt}
 use Rattle.qvt_run_data.specs.declared.exit.Halt.TheVariants.{Exits, NoMemory}
 use Rattle.qvt_run_data.specs.declared.late.LateWrite.{LateWrite}

@@ -1,6 +1,9 @@
 //! The value of a plain expression and its cost, over a store and variables that are handed in.
 #![tactic(auto)]
 
+mod alone;
+mod inside;
+mod knot;
 pub mod plain;
 pub mod told;
 pub mod vars;

@@ -7,13 +7,13 @@ ghost use Rattle.qvt_meaning.specs.Plain.{no_expression, plain, plain_at};
 ghost use Rattle.qvt_program_exprs.specs.Table.{IsTable};
 ghost use Rattle.qvt_exec_plain.specs.Told.{Tells};
 
+use crate::knot::value_alone;
 use crate::told::{Told, outcome_of};
 use crate::vars::locals_of;
 use qvt_base::list_fault::ListFault;
 use qvt_base::numbers::{ExprNo, Place};
 use qvt_base::seq::Seq;
-use qvt_exec_exprs::engine::Engine;
-use qvt_exec_exprs::exprs::expr;
+use qvt_exec_phrases::engine::Engine;
 use qvt_exec_state::state::RunState;
 use qvt_program_exprs::table::Expressions;
 use qvt_run_data::exit::End;
@@ -26,7 +26,7 @@ use qvt_value::value::Var;
 use std::alloc::Global;
 
 /// What an expression of the program gives over a store, with these variables in scope, and its cost.
-#[tactic(auto, using(crate::proofs::Telling::told_of), unfolding(qvt_meaning::specs::Plain::plain, qvt_run_rules::specs::Cost::spend_of, qvt_exec_exprs::specs::Means::expr_of))]
+#[tactic(auto, using(crate::proofs::Telling::told_of), unfolding(qvt_meaning::specs::Plain::plain, qvt_run_rules::specs::Cost::spend_of, qvt_exec_phrases::specs::Means::expr_of))]
 pub fn evaluate(
     alloc: Global,
     program: &Program,
@@ -39,10 +39,11 @@ pub fn evaluate(
     let x = Engine {
         alloc,
         limit: None,
-        program,
+        is_plain: true,
+        answer: &None,
     };
     let mut state = RunState::new(alloc, store, locals);
-    let given = expr(&x, node, &mut state);
+    let given = value_alone(program, &x, node, &mut state);
     let outcome = outcome_of(alloc, given)?;
     Ok(Told {
         outcome,

@@ -66,7 +66,7 @@ fn push_named(all: &mut Seq<u32>, reading: &Reading) -> Result<(), ListFault>
 }
 
 /// The mappings that the paths stand for.
-fn named_by(alloc: Global, paths: &[TypedPathTree]) -> Result<Seq<u32>, ListFault>
+pub fn named_by(alloc: Global, paths: &[TypedPathTree]) -> Result<Seq<u32>, ListFault>
     ensures { IfOk result (λ all. all ≡ meaning.numbers (mappings_named paths.now)) }
 {
     let mut all = Seq::new(alloc);

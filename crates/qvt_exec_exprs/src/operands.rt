@@ -1,0 +1,111 @@
+//! Operands with operators between them, or signs before them (OCL 2.4, 7.4.7).
+
+ghost use Rattle.std.specs.Prelude.{length};
+ghost use Rattle.qvt_meaning.specs.Readings as by;
+ghost use Rattle.qvt_run_rules.specs.Expressions as rule;
+ghost use Rattle.qvt_exec_state.specs.Runs.{Runs, seen};
+ghost use Rattle.qvt_exec_leaves.specs.Signs.{signed_by};
+ghost use Rattle.qvt_exec_phrases.specs.Means.{expr_of, link_of, links_of, setting_of};
+ghost use Rattle.qvt_exec_exprs.specs.Charged.{charged_first};
+
+use qvt_exec_calls::units::ReadyUnits;
+use qvt_exec_leaves::applied::{applied_to, operation_of, signs_on, worded};
+use qvt_exec_leaves::names::ticks;
+use qvt_exec_phrases::engine::Engine;
+use qvt_exec_phrases::nested::{Nested, expr};
+use qvt_exec_state::state::RunState;
+use qvt_exec_state::steps::tick;
+use qvt_exec_words::logic::by_left;
+use qvt_run_data::exit::Halt;
+use qvt_types_nodes::tree::{TypedExpr, TypedLink};
+use qvt_types_nodes::types::TypedSign;
+use qvt_value::value::Value;
+
+/// A further operand of a chain. A word of logic may know its value before its right side, which is then
+/// not evaluated.
+#[tactic(auto, unfolding(qvt_exec_phrases::specs::Means::link_of, qvt_exec_phrases::specs::Means::expr_of, qvt_meaning::specs::Phrases::link, qvt_run_rules::specs::Expressions::operated, qvt_run_rules::specs::Expressions::logical))]
+fn link<C: Nested>(
+    x: &Engine<'_>,
+    units: &ReadyUnits<C>,
+    node: &TypedLink,
+    left: Value,
+    state: &mut RunState<'_>,
+) -> Result<Value, Halt>
+    ensures { Runs (link_of (x.now, C.means units.now) node.now left (seen state.old)) result state.new }
+{
+    tick(x.limit, state)?;
+    match operation_of(node.op) {
+        Some(op) => {
+            let args = [expr(x, units, &node.operand, state)?];
+            applied_to(x.alloc, op, &args, node.place, left, state)
+        }
+        None => match by_left(node.op, &left) {
+            Some(value) => Ok(value),
+            None => {
+                let right = expr(x, units, &node.operand, state)?;
+                worded(node.op, left, right, node.place, state)
+            }
+        },
+    }
+}
+
+/// The further operands of a chain.
+#[tactic(auto, unfolding(qvt_exec_phrases::specs::Means::links_of, qvt_exec_phrases::specs::Means::link_of, qvt_meaning::specs::Phrases::links))]
+fn links<C: Nested>(
+    x: &Engine<'_>,
+    units: &ReadyUnits<C>,
+    nodes: &[TypedLink],
+    left: Value,
+    state: &mut RunState<'_>,
+) -> Result<Value, Halt>
+    ensures { Runs (rule.along left (links_of (x.now, C.means units.now) nodes.now) (seen state.old)) result state.new }
+{
+    let mut value = left;
+    for node in nodes {
+        value = link(x, units, node, value, state)?;
+    }
+    Ok(value)
+}
+
+/// A chain of operands.
+#[tactic(auto, unfolding(qvt_run_rules::specs::Expressions::on_first))]
+pub fn chain<C: Nested>(
+    x: &Engine<'_>,
+    units: &ReadyUnits<C>,
+    first: &TypedExpr,
+    rest: &[TypedLink],
+    state: &mut RunState<'_>,
+) -> Result<Value, Halt>
+    ensures { Runs (rule.on_first (expr_of (x.now, C.means units.now) first.now) (links_of (x.now, C.means units.now) rest.now) (seen state.old)) result state.new }
+{
+    let value = expr(x, units, first, state)?;
+    links(x, units, rest, value, state)
+}
+
+/// An operand with signs before it: the outer sign is met first, and so all are charged before the operand.
+fn prefixed<C: Nested>(
+    x: &Engine<'_>,
+    units: &ReadyUnits<C>,
+    operand: &TypedExpr,
+    signs: &[TypedSign],
+    state: &mut RunState<'_>,
+) -> Result<Value, Halt>
+    ensures { Runs (charged_first x.now.limit (length signs.now) (expr_of (x.now, C.means units.now) operand.now) (signed_by signs.now) (seen state.old)) result state.new }
+{
+    ticks(x.limit, signs.len(), state)?;
+    let value = expr(x, units, operand, state)?;
+    signs_on(x.alloc, signs, value, state)
+}
+
+/// The same of an operand with signs, which are told from the outer one inwards.
+pub fn signed<C: Nested>(
+    x: &Engine<'_>,
+    units: &ReadyUnits<C>,
+    operand: &TypedExpr,
+    signs: &[TypedSign],
+    state: &mut RunState<'_>,
+) -> Result<Value, Halt>
+    ensures { Runs (by.signs_of (setting_of (x.now, C.means units.now)) signs.now (expr_of (x.now, C.means units.now) operand.now) (seen state.old)) result state.new }
+{
+    prefixed(x, units, operand, signs, state)
+}

@@ -1,0 +1,7 @@
+//! Calls of units, resolves that are not late, and object expressions, over what their parts do.
+#![tactic(auto)]
+
+mod callees;
+pub mod calls;
+pub mod objects;
+pub mod resolves;

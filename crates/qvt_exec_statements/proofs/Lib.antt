@@ -1,0 +1,4 @@
+mod Arms
+mod Charges
+mod Each
+mod Turns

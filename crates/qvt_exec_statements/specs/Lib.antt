@@ -1,0 +1,4 @@
+pub mod Arms
+pub mod Items
+pub mod Late
+pub mod Puts

@@ -1,0 +1,11 @@
+//! Statements (QVT 1.3, 8.2.2), each by the rule of its kind, over what stands inside it.
+#![tactic(auto)]
+
+mod assignments;
+pub mod conditions;
+mod late;
+mod loops;
+pub mod statements;
+mod targets;
+mod types;
+mod values;

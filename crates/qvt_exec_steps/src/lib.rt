@@ -1,0 +1,12 @@
+//! Steps behind a first part, over the expressions that stand inside them.
+#![tactic(auto)]
+
+mod arrows;
+mod closures;
+mod iterators;
+pub mod late;
+mod operations;
+pub mod posts;
+mod sources;
+pub mod steps;
+pub mod values;
