@@ -11,7 +11,7 @@ ghost use Rattle.qvt_store.specs.Types.{is_bool, is_int, is_text, is_literal, is
 
 use qvt_base::numbers::{ClassNo, FeatureNo, Oid};
 use qvt_metamodel::info::TypeKind;
-use qvt_metas::metas::Metas;
+use qvt_slots::metas::Metas;
 use qvt_slots::put::find_place;
 use qvt_store::extent::{Extent, ExtentList};
 use qvt_store::store::Store;

@@ -3,3 +3,5 @@
 #![tactic(auto)]
 
 pub mod conditions;
+
+pub use qvt_store::store;

@@ -2,7 +2,7 @@
 
 ghost use Rattle.std.specs.Prelude.{◌≡◌, None, MatchOption};
 ghost use Rattle.qvt_tree_types.specs.Module.{module_view};
-ghost use Rattle.qvt_types_program.specs.Program.{program_view};
+ghost use Rattle.qvt_types.specs.Program.{program_view};
 ghost use Rattle.qvt_outcome.specs.Steps.{Gives, IfFaultOf, IsFaultWith, RefusedOrNoMemory};
 ghost use Rattle.qvt_cli.specs.Typing.{typed_in, refusal_in};
 
@@ -14,8 +14,8 @@ use qvt_outcome::stop::Stop;
 use qvt_tree_types::module::Module;
 use qvt_types::accepting::accept;
 use qvt_types::fault::TypingFault;
+use qvt_types::program::Program;
 use qvt_types_data::refusal::{Refusal as TypingRefusal, RefusalKind};
-use qvt_types_program::program::Program;
 use std::alloc::Global;
 
 /// The refusal that a fault tells, none where there was no memory.

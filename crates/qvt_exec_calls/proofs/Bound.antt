@@ -12,7 +12,7 @@ use Rattle.qvt_run_rules.specs.State.{State, Done, Does, ◌>>=◌, on_outcome, 
 use Rattle.qvt_run_rules.specs.Locals.{fixed}
 use Rattle.qvt_run_rules.specs.Typed.{asked}
 use Rattle.qvt_run_rules.specs.Calls.{Param, bound}
-use Rattle.qvt_meaning.specs.Units.{params_of}
+use Rattle.qvt_program_units.specs.Units.{params_of}
 use Rattle.qvt_exec_calls.specs.Frames.{bound_after, first_type, other_types}
 
 pub params_next : (m : TypedMember) (ms : List TypedMember) (ts : List (Option Ty)) → params_of (m ∷ ms) ts ≡ record { name = m.name; type = first_type ts } ∷ params_of ms (other_types ts)

@@ -12,8 +12,8 @@ use Rattle.qvt_run_rules.specs.Typed.{object_of}
 use Rattle.qvt_run_rules.specs.Sources.{as_flat, collected_kind, collecting, for_items, in_turn, objects_in}
 use Rattle.qvt_run_rules.specs.Calls as rule
 use Rattle.qvt_run_rules.specs.Calls.{Calls}
-use Rattle.qvt_types_program.specs.Program.{program_view}
-use Rattle.qvt_meaning.specs.Readings.{choose}
+use Rattle.qvt_program_units.specs.Program.{program_view}
+use Rattle.qvt_program_units.specs.Readings.{choose}
 use Rattle.qvt_exec_calls.specs.declared.choice.Choosing.{Choosing}
 
 -- what a call calls for an object, by its class

@@ -1,3 +1,11 @@
+pub use Rattle.qvt_program_units.specs.Accepts
+pub use Rattle.qvt_program_units.specs.Numbers
+pub use Rattle.qvt_program_units.specs.Program
+pub use Rattle.qvt_program_units.specs.Readings
+pub use Rattle.qvt_program_units.specs.Plain
+pub use Rattle.qvt_program_units.specs.Phrases
+pub use Rattle.qvt_program_units.specs.Nodes
+pub use Rattle.qvt_exec_state.specs.Runs
 pub mod Choice
 pub mod Frames
 pub mod Units

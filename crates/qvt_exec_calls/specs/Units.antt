@@ -6,7 +6,7 @@ use Rattle.qvt_run_data.specs.declared.late.LateWrite.{LateWrite}
 use Rattle.qvt_run_data.specs.declared.request.Query.{Query}
 use Rattle.qvt_run_rules.specs.Calls.{Calls}
 use Rattle.qvt_run_rules.specs.State.{Does}
-use Rattle.qvt_typing.specs.Accepts.{ProgramTerm}
+use Rattle.qvt_program_units.specs.Accepts.{ProgramTerm}
 
 pub record Units : Type 0 where
   pub program : ProgramTerm

@@ -1,8 +1,8 @@
 //! The call of the unit that is chosen for an object.
 
 ghost use Rattle.qvt_run_rules.specs.Calls as rule;
-ghost use Rattle.qvt_meaning.specs.Readings as by;
-ghost use Rattle.qvt_types_program.specs.Program.{program_view};
+ghost use Rattle.qvt_program_units.specs.Readings as by;
+ghost use Rattle.qvt_program_units.specs.Program.{program_view};
 ghost use Rattle.qvt_exec_state.specs.Runs.{Runs, seen};
 ghost use Rattle.qvt_exec_calls.specs.Choice.{callee_by, item_by};
 
@@ -12,10 +12,10 @@ use qvt_base::numbers::{Oid, Place};
 use qvt_exec_state::state::RunState;
 use qvt_exec_state::steps::misfit;
 use qvt_program_units::callees::chosen_for;
+use qvt_program_units::program::Program;
 use qvt_run_data::callee::Callee;
 use qvt_run_data::exit::Halt;
 use qvt_types_data::note::Reading;
-use qvt_types_program::program::Program;
 use qvt_value::value::{Value, Values};
 use std::alloc::Global;
 

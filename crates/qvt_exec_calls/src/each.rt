@@ -2,8 +2,8 @@
 
 ghost use Rattle.std.specs.Prelude.{◌≡◌, ◌<◌, IfOk, OnOk};
 ghost use Rattle.qvt_run_rules.specs.Sources.{for_items};
-ghost use Rattle.qvt_meaning.specs.Readings as by;
-ghost use Rattle.qvt_types_program.specs.Program.{program_view};
+ghost use Rattle.qvt_program_units.specs.Readings as by;
+ghost use Rattle.qvt_program_units.specs.Program.{program_view};
 ghost use Rattle.qvt_exec_state.specs.Runs.{Runs, seen};
 ghost use Rattle.qvt_exec_calls.specs.Choice.{each_by, item_by, items_by, mapped_by};
 
@@ -18,9 +18,9 @@ use qvt_exec_state::state::RunState;
 use qvt_exec_state::steps::misfit;
 use qvt_exec_words::made::built_flat;
 use qvt_exec_words::sources::collected_kind;
+use qvt_program_units::program::Program;
 use qvt_run_data::exit::Halt;
 use qvt_types_data::note::Reading;
-use qvt_types_program::program::Program;
 use qvt_value::copy::copies;
 use qvt_value::value::{Kind, Reason, Value, Values};
 use std::alloc::Global;

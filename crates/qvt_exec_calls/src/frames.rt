@@ -3,7 +3,7 @@
 ghost use Rattle.std.specs.Prelude.{◌≡◌, map};
 ghost use Rattle.std.specs.Option.{option_copied};
 ghost use Rattle.qvt_run_rules.specs.Calls as rule;
-ghost use Rattle.qvt_meaning.specs.Units.{params_of};
+ghost use Rattle.qvt_program_units.specs.Units.{params_of};
 ghost use Rattle.qvt_types_nodes.specs.Module.{typed_param_view};
 ghost use Rattle.qvt_exec_state.specs.Runs.{Runs, seen};
 ghost use Rattle.qvt_exec_calls.specs.Frames.{bound_after, first_type, other_types};

@@ -10,3 +10,6 @@ mod mapped;
 pub mod objects;
 pub mod units;
 mod values;
+
+pub use qvt_exec_state::state;
+pub use qvt_program_units::{callees, numbers, program};

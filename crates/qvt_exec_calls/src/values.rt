@@ -9,9 +9,9 @@ use qvt_base::numbers::{Oid, Place};
 use qvt_exec_reads::types::has_type;
 use qvt_exec_state::state::RunState;
 use qvt_exec_state::steps::misfit;
+use qvt_exec_state::store::Store;
 use qvt_run_data::exit::{End, Exit, Halt};
 use qvt_run_data::fault::RunFault;
-use qvt_store::store::Store;
 use qvt_types_data::ty::Ty;
 use qvt_value::value::{Reason, Value};
 

@@ -18,7 +18,7 @@ use Rattle.qvt_types_nodes.specs.declared.tree.TypedItem.{TypedItem}
 use Rattle.qvt_meaning.specs.Phrases as phrase
 use Rattle.qvt_exec_state.specs.Runs.{Runs, seen}
 use Rattle.qvt_exec_state.specs.declared.state.RunState.{RunState}
-use Rattle.qvt_exec_phrases.specs.Means.{Scene, item_of, items_of}
+use Rattle.qvt_exec_steps.specs.Means.{Scene, item_of, items_of}
 use Rattle.qvt_exec_exprs.specs.Gathering.{Gathers, Gives, IsGathering}
 
 abbrev Only : Bool → Type 0

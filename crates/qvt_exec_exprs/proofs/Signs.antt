@@ -9,7 +9,7 @@ use Rattle.qvt_meaning.specs.Readings as by
 use Rattle.qvt_types_nodes.specs.declared.types.TypedSign.{TypedSign}
 use Rattle.qvt_exec_leaves.proofs.Signs.{later, nothing_after, on_sign}
 use Rattle.qvt_exec_leaves.specs.Signs.{signed_by, ticks_of}
-use Rattle.qvt_exec_phrases.specs.Means.{Scene, setting_of}
+use Rattle.qvt_exec_steps.specs.Means.{Scene, setting_of}
 use Rattle.qvt_exec_exprs.specs.Charged.{charged_first}
 
 -- what follows is the same in each state

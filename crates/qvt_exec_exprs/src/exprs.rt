@@ -1,28 +1,28 @@
 //! Expressions (OCL 2.4, 7; QVT 1.3, 8.2).
 
 ghost use Rattle.qvt_exec_state.specs.Runs.{Runs, seen};
-ghost use Rattle.qvt_exec_phrases.specs.Means.{expr_of, map_alone_of};
+ghost use Rattle.qvt_exec_steps.specs.Means.{expr_of, map_alone_of};
 
 use crate::conditionals::conditional;
 use crate::literals::collection;
 use crate::operands::{chain, signed};
-use qvt_exec_calls::units::ReadyUnits;
-use qvt_exec_invocations::calls::{call_alone, new_by};
-use qvt_exec_invocations::objects::object_barred;
-use qvt_exec_invocations::resolves::resolve_alone;
 use qvt_exec_leaves::names::{literal, named, string, variable};
-use qvt_exec_phrases::engine::Engine;
-use qvt_exec_phrases::nested::Nested;
 use qvt_exec_state::names::{RESULT_NAME, SELF_NAME};
 use qvt_exec_state::state::RunState;
+use qvt_exec_steps::calls::{call_alone, new_by};
+use qvt_exec_steps::engine::Engine;
+use qvt_exec_steps::nested::Nested;
+use qvt_exec_steps::objects::object_barred;
 use qvt_exec_steps::posts::post;
+use qvt_exec_steps::resolves::resolve_alone;
+use qvt_exec_steps::units::ReadyUnits;
 use qvt_run_data::exit::Halt;
 use qvt_types_data::kinds::kind_of;
 use qvt_types_nodes::tree::{TypedExpr, TypedMapCall};
 use qvt_value::value::Value;
 
 /// A mapping on the implicit source, or without a context.
-#[tactic(auto, unfolding(qvt_exec_phrases::specs::Means::map_alone_of, qvt_exec_phrases::specs::Means::exprs_of, qvt_meaning::specs::Phrases::map_alone))]
+#[tactic(auto, unfolding(qvt_exec_steps::specs::Means::map_alone_of, qvt_exec_steps::specs::Means::exprs_of, qvt_meaning::specs::Phrases::map_alone))]
 fn map_alone<C: Nested>(
     x: &Engine<'_>,
     units: &ReadyUnits<C>,
@@ -43,7 +43,7 @@ fn map_alone<C: Nested>(
 }
 
 /// What an expression gives, by its rule over what its parts give.
-#[tactic(auto, unfolding(qvt_exec_phrases::specs::Means::expr_of, qvt_exec_phrases::specs::Means::exprs_of, qvt_exec_phrases::specs::Means::items_of, qvt_exec_phrases::specs::Means::links_of, qvt_exec_phrases::specs::Means::steps_of, qvt_exec_phrases::specs::Means::stmts_of, qvt_exec_phrases::specs::Means::map_alone_of, qvt_meaning::specs::Phrases::expr))]
+#[tactic(auto, unfolding(qvt_exec_steps::specs::Means::expr_of, qvt_exec_steps::specs::Means::exprs_of, qvt_exec_steps::specs::Means::items_of, qvt_exec_steps::specs::Means::links_of, qvt_exec_steps::specs::Means::steps_of, qvt_exec_steps::specs::Means::stmts_of, qvt_exec_steps::specs::Means::map_alone_of, qvt_meaning::specs::Phrases::expr))]
 pub fn expression<C: Nested>(
     x: &Engine<'_>,
     units: &ReadyUnits<C>,

@@ -6,3 +6,5 @@ pub mod exprs;
 mod items;
 mod literals;
 mod operands;
+
+pub use qvt_exec_steps::{engine, nested, units};

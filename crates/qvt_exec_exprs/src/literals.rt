@@ -3,23 +3,23 @@
 ghost use Rattle.qvt_run_rules.specs.Cost.{spend_of};
 ghost use Rattle.qvt_run_rules.specs.Expressions as rule;
 ghost use Rattle.qvt_exec_state.specs.Runs.{Runs, seen};
-ghost use Rattle.qvt_exec_phrases.specs.Means.{item_of, items_of};
+ghost use Rattle.qvt_exec_steps.specs.Means.{item_of, items_of};
 ghost use Rattle.qvt_exec_exprs.specs.Gathering.{Gathers, gathered_in};
 
 use crate::items::{put_one, put_range};
 use qvt_base::numbers::Place;
-use qvt_exec_calls::units::ReadyUnits;
-use qvt_exec_phrases::engine::Engine;
-use qvt_exec_phrases::nested::{Nested, expr};
 use qvt_exec_state::state::RunState;
 use qvt_exec_state::steps::tick;
+use qvt_exec_steps::engine::Engine;
+use qvt_exec_steps::nested::{Nested, expr};
+use qvt_exec_steps::units::ReadyUnits;
 use qvt_exec_words::literals::Gathered;
 use qvt_run_data::exit::Halt;
 use qvt_types_nodes::tree::TypedItem;
 use qvt_value::value::{Kind, Value};
 
 /// An item of a collection literal.
-#[tactic(auto, unfolding(qvt_exec_phrases::specs::Means::item_of, qvt_exec_phrases::specs::Means::expr_of, qvt_meaning::specs::Phrases::item, qvt_meaning::specs::Phrases::item_to, qvt_run_rules::specs::Expressions::item, qvt_run_rules::specs::Expressions::range))]
+#[tactic(auto, unfolding(qvt_exec_steps::specs::Means::item_of, qvt_exec_steps::specs::Means::expr_of, qvt_meaning::specs::Phrases::item, qvt_meaning::specs::Phrases::item_to, qvt_run_rules::specs::Expressions::item, qvt_run_rules::specs::Expressions::range))]
 fn item<C: Nested>(
     x: &Engine<'_>,
     units: &ReadyUnits<C>,

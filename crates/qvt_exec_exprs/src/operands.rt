@@ -5,16 +5,16 @@ ghost use Rattle.qvt_meaning.specs.Readings as by;
 ghost use Rattle.qvt_run_rules.specs.Expressions as rule;
 ghost use Rattle.qvt_exec_state.specs.Runs.{Runs, seen};
 ghost use Rattle.qvt_exec_leaves.specs.Signs.{signed_by};
-ghost use Rattle.qvt_exec_phrases.specs.Means.{expr_of, link_of, links_of, setting_of};
+ghost use Rattle.qvt_exec_steps.specs.Means.{expr_of, link_of, links_of, setting_of};
 ghost use Rattle.qvt_exec_exprs.specs.Charged.{charged_first};
 
-use qvt_exec_calls::units::ReadyUnits;
 use qvt_exec_leaves::applied::{applied_to, operation_of, signs_on, worded};
 use qvt_exec_leaves::names::ticks;
-use qvt_exec_phrases::engine::Engine;
-use qvt_exec_phrases::nested::{Nested, expr};
 use qvt_exec_state::state::RunState;
 use qvt_exec_state::steps::tick;
+use qvt_exec_steps::engine::Engine;
+use qvt_exec_steps::nested::{Nested, expr};
+use qvt_exec_steps::units::ReadyUnits;
 use qvt_exec_words::logic::by_left;
 use qvt_run_data::exit::Halt;
 use qvt_types_nodes::tree::{TypedExpr, TypedLink};
@@ -23,7 +23,7 @@ use qvt_value::value::Value;
 
 /// A further operand of a chain. A word of logic may know its value before its right side, which is then
 /// not evaluated.
-#[tactic(auto, unfolding(qvt_exec_phrases::specs::Means::link_of, qvt_exec_phrases::specs::Means::expr_of, qvt_meaning::specs::Phrases::link, qvt_run_rules::specs::Expressions::operated, qvt_run_rules::specs::Expressions::logical))]
+#[tactic(auto, unfolding(qvt_exec_steps::specs::Means::link_of, qvt_exec_steps::specs::Means::expr_of, qvt_meaning::specs::Phrases::link, qvt_run_rules::specs::Expressions::operated, qvt_run_rules::specs::Expressions::logical))]
 fn link<C: Nested>(
     x: &Engine<'_>,
     units: &ReadyUnits<C>,
@@ -50,7 +50,7 @@ fn link<C: Nested>(
 }
 
 /// The further operands of a chain.
-#[tactic(auto, unfolding(qvt_exec_phrases::specs::Means::links_of, qvt_exec_phrases::specs::Means::link_of, qvt_meaning::specs::Phrases::links))]
+#[tactic(auto, unfolding(qvt_exec_steps::specs::Means::links_of, qvt_exec_steps::specs::Means::link_of, qvt_meaning::specs::Phrases::links))]
 fn links<C: Nested>(
     x: &Engine<'_>,
     units: &ReadyUnits<C>,

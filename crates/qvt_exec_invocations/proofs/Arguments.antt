@@ -7,7 +7,7 @@ use Rattle.qvt_run_data.specs.declared.late.LateWrite.{LateWrite}
 use Rattle.qvt_run_rules.specs.State.{State, Done, Does, on_outcome}
 use Rattle.qvt_run_rules.specs.Calls as call
 use Rattle.qvt_types_nodes.specs.declared.tree.TypedExpr.{TypedExpr}
-use Rattle.qvt_meaning.specs.Phrases as phrase
+use Rattle.qvt_exec_phrases.specs.Phrases as phrase
 use Rattle.qvt_exec_phrases.specs.Means.{Scene, expr_of, exprs_of, valid_of}
 
 -- what follows an argument

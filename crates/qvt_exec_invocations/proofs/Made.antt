@@ -5,7 +5,7 @@ use Rattle.qvt_base.specs.declared.numbers.Place.{Place}
 use Rattle.qvt_types_data.specs.declared.note.Reading.{Reading}
 use Rattle.qvt_types_data.specs.declared.note.Reading.TheVariants as reading
 use Rattle.qvt_types_nodes.specs.declared.tree.TypedExpr.{TypedExpr}
-use Rattle.qvt_types_units.specs.Numbers.{constructor_of}
+use Rattle.qvt_exec_phrases.specs.Numbers.{constructor_of}
 use Rattle.qvt_value.specs.declared.value.Value.{Value}
 use Rattle.qvt_run_data.specs.declared.exit.End.TheVariants.{Fault}
 use Rattle.qvt_run_data.specs.declared.exit.Exit.TheVariants.{Ends}
@@ -15,8 +15,8 @@ use Rattle.qvt_run_data.specs.declared.fault.RunFault.TheVariants.{TypeFault}
 use Rattle.qvt_run_rules.specs.Calls as call
 use Rattle.qvt_run_rules.specs.Cost.{spend_of}
 use Rattle.qvt_run_rules.specs.State.{misfit}
-use Rattle.qvt_meaning.specs.Phrases as phrase
-use Rattle.qvt_meaning.specs.Readings as by
+use Rattle.qvt_exec_phrases.specs.Phrases as phrase
+use Rattle.qvt_exec_phrases.specs.Readings as by
 use Rattle.qvt_exec_state.specs.Runs.{Runs, seen}
 use Rattle.qvt_exec_state.specs.declared.state.RunState.{RunState}
 use Rattle.qvt_exec_phrases.specs.Means.{Scene, exprs_of, program_of, setting_of}

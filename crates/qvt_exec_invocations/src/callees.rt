@@ -1,21 +1,21 @@
 //! What is called, by the program that the phrases are of.
 
 ghost use Rattle.std.specs.Prelude.{◌≡◌};
-ghost use Rattle.qvt_meaning.specs.Program as of_program;
-ghost use Rattle.qvt_meaning.specs.Readings as by;
-ghost use Rattle.qvt_types_units.specs.Numbers as numbers;
+ghost use Rattle.qvt_exec_resolves.specs.Program as of_program;
+ghost use Rattle.qvt_exec_phrases.specs.Readings as by;
+ghost use Rattle.qvt_exec_phrases.specs.Numbers as numbers;
 ghost use Rattle.qvt_exec_state.specs.Runs.{Runs, seen};
-ghost use Rattle.qvt_exec_calls.specs.Choice.{each_by, mapped_by};
+ghost use Rattle.qvt_exec_phrases.specs.Choice.{each_by, mapped_by};
 
 use qvt_base::numbers::{ClassNo, Oid, Place};
-use qvt_exec_calls::choice::choose;
-use qvt_exec_calls::each::{each_called, map_each};
-use qvt_exec_calls::units::ReadyUnits;
+use qvt_exec_phrases::callees::free_callee;
+use qvt_exec_phrases::choice::choose;
+use qvt_exec_phrases::each::{each_called, map_each};
 use qvt_exec_phrases::engine::Engine;
 use qvt_exec_phrases::nested::{Nested, program};
+use qvt_exec_phrases::numbers::constructor_of;
+use qvt_exec_phrases::units::ReadyUnits;
 use qvt_exec_state::state::RunState;
-use qvt_program_units::callees::free_callee;
-use qvt_program_units::numbers::constructor_of;
 use qvt_run_data::callee::Callee;
 use qvt_run_data::exit::Halt;
 use qvt_types_data::note::Reading;

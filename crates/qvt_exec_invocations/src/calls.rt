@@ -3,18 +3,18 @@
 ghost use Rattle.std.specs.Prelude.{None};
 ghost use Rattle.qvt_run_rules.specs.Calls as call;
 ghost use Rattle.qvt_run_rules.specs.Cost.{spend_of};
-ghost use Rattle.qvt_meaning.specs.Readings as by;
+ghost use Rattle.qvt_exec_phrases.specs.Readings as by;
 ghost use Rattle.qvt_exec_state.specs.Runs.{Runs, seen};
 ghost use Rattle.qvt_exec_phrases.specs.Means.{barred_in, exprs_of, program_of, setting_of, valid_of};
 
 use crate::callees::{called_for_items, chosen, constructor, mapped_for_objects, without_context};
 use qvt_base::numbers::{ClassNo, Place};
 use qvt_base::seq::Seq;
-use qvt_exec_calls::units::ReadyUnits;
 use qvt_exec_moves::objects::new_object;
 use qvt_exec_moves::values::{object_of, present, valid};
 use qvt_exec_phrases::engine::Engine;
 use qvt_exec_phrases::nested::{Nested, expr};
+use qvt_exec_phrases::units::ReadyUnits;
 use qvt_exec_state::state::RunState;
 use qvt_exec_state::steps::{misfit, read, tick};
 use qvt_run_data::callee::Callee;
@@ -45,7 +45,7 @@ fn argument<C: Nested>(
 }
 
 /// The arguments of a call, of which none is invalid.
-#[tactic(auto, unfolding(qvt_exec_phrases::specs::Means::exprs_of, qvt_exec_phrases::specs::Means::expr_of, qvt_meaning::specs::Phrases::exprs))]
+#[tactic(auto, unfolding(qvt_exec_phrases::specs::Means::exprs_of, qvt_exec_phrases::specs::Means::expr_of, qvt_exec_phrases::specs::Phrases::exprs))]
 fn arguments<C: Nested>(
     x: &Engine<'_>,
     units: &ReadyUnits<C>,

@@ -5,3 +5,6 @@ mod callees;
 pub mod calls;
 pub mod objects;
 pub mod resolves;
+
+pub use qvt_exec_phrases::{engine, nested, units};
+pub use qvt_exec_resolves::nodes;

@@ -4,15 +4,15 @@ ghost use Rattle.qvt_run_rules.specs.Cost.{spend_of};
 ghost use Rattle.qvt_run_rules.specs.Locals.{inside};
 ghost use Rattle.qvt_run_rules.specs.Statements as statement;
 ghost use Rattle.qvt_types_data.specs.declared.ty.Ty.TheVariants as ty;
-ghost use Rattle.qvt_meaning.specs.Readings as by;
+ghost use Rattle.qvt_exec_phrases.specs.Readings as by;
 ghost use Rattle.qvt_exec_state.specs.Runs.{Runs, seen};
 ghost use Rattle.qvt_exec_phrases.specs.Means.{barred_in, block_of, setting_of};
 
 use qvt_base::numbers::{ClassNo, Oid, Place};
-use qvt_exec_calls::units::ReadyUnits;
 use qvt_exec_moves::objects::{new_object, variable_object};
 use qvt_exec_phrases::engine::Engine;
 use qvt_exec_phrases::nested::{Nested, block};
+use qvt_exec_phrases::units::ReadyUnits;
 use qvt_exec_state::names::RESULT_NAME;
 use qvt_exec_state::state::RunState;
 use qvt_exec_state::steps::{misfit, tick};

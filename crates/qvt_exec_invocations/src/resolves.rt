@@ -1,19 +1,19 @@
 //! Resolves that are not late (QVT 1.3, 8.2.1.22).
 
 ghost use Rattle.std.specs.Prelude.{◌≡◌, IfOk};
-ghost use Rattle.qvt_meaning.specs.Nodes as nodes;
-ghost use Rattle.qvt_meaning.specs.Program.{form_of};
-ghost use Rattle.qvt_meaning.specs.Readings as by;
+ghost use Rattle.qvt_exec_phrases.specs.Nodes as nodes;
+ghost use Rattle.qvt_exec_resolves.specs.Program.{form_of};
+ghost use Rattle.qvt_exec_phrases.specs.Readings as by;
 ghost use Rattle.qvt_types_nodes.specs.View.{typed_resolve_view};
 ghost use Rattle.qvt_types_nodes.specs.declared.tree.TypedResolveCall.{out-TypedResolveCall};
 ghost use Rattle.qvt_exec_state.specs.Runs.{Runs, seen};
 ghost use Rattle.qvt_exec_phrases.specs.Means.{barred_in, program_of, setting_of};
 
 use qvt_base::list_fault::ListFault;
-use qvt_exec_calls::units::ReadyUnits;
 use qvt_exec_moves::values::valid;
 use qvt_exec_phrases::engine::Engine;
 use qvt_exec_phrases::nested::{Nested, program};
+use qvt_exec_phrases::units::ReadyUnits;
 use qvt_exec_resolves::forms::{form_of, query_of};
 use qvt_exec_resolves::sources::sources_of;
 use qvt_exec_state::state::RunState;

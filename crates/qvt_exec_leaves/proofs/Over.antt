@@ -7,7 +7,7 @@ use Rattle.qvt_value.specs.declared.value.Kind.{Kind}
 use Rattle.qvt_value.specs.Make.{is_collection}
 use Rattle.qvt_run_data.specs.declared.exit.Halt.{Halt}
 use Rattle.qvt_run_data.specs.declared.late.LateWrite.{LateWrite}
-use Rattle.qvt_live_store.specs.Held.{contents_of}
+use Rattle.qvt_exec_state.specs.Held.{contents_of}
 use Rattle.qvt_run_rules.specs.Cost.{spend_of}
 use Rattle.qvt_run_rules.specs.Expressions.{select_class, selected}
 use Rattle.qvt_run_rules.specs.State.{State, Done, Does, on_outcome, found, look}

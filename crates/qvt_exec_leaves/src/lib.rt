@@ -7,3 +7,6 @@ pub mod dotted;
 pub mod names;
 pub mod nodes;
 pub mod steps;
+
+pub use qvt_exec_state::state;
+pub use qvt_exec_words::sources;

@@ -7,3 +7,5 @@ pub mod laws;
 pub mod selection;
 pub mod sorting;
 pub mod turns;
+
+pub use qvt_exec_state::steps;

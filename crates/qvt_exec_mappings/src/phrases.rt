@@ -13,17 +13,17 @@ ghost use Rattle.qvt_exec_mappings.specs.Stage.{setting_in};
 use crate::run::Run;
 use qvt_exec_calls::given::caught;
 use qvt_exec_calls::units::ReadyUnits;
-use qvt_exec_phrases::engine::Engine;
-use qvt_exec_phrases::nested::Nested;
 use qvt_exec_state::state::RunState;
 use qvt_exec_statements::conditions::holds;
+use qvt_exec_statements::engine::Engine;
+use qvt_exec_statements::nested::Nested;
 use qvt_exec_statements::statements::{in_order, in_scope};
 use qvt_run_data::exit::Halt;
 use qvt_types_data::ty::Ty;
 use qvt_types_nodes::tree::{TypedExpr, TypedStmt};
 
 /// The body of a unit whose answer has this type.
-#[tactic(auto, unfolding(qvt_exec_phrases::specs::Means::stmts_of))]
+#[tactic(auto, unfolding(qvt_exec_statements::specs::Means::stmts_of))]
 pub fn body<C: Nested>(
     run: &Run,
     units: &ReadyUnits<C>,
@@ -43,7 +43,7 @@ pub fn body<C: Nested>(
 }
 
 /// A section of a mapping, whose variables stay in scope.
-#[tactic(auto, unfolding(qvt_exec_phrases::specs::Means::stmts_of))]
+#[tactic(auto, unfolding(qvt_exec_statements::specs::Means::stmts_of))]
 pub fn section<C: Nested>(
     run: &Run,
     units: &ReadyUnits<C>,
@@ -76,7 +76,7 @@ pub fn section_returns<C: Nested>(
 }
 
 /// Whether the condition of a mapping is true.
-#[tactic(auto, unfolding(qvt_exec_phrases::specs::Means::expr_of))]
+#[tactic(auto, unfolding(qvt_exec_statements::specs::Means::expr_of))]
 pub fn condition<C: Nested>(
     run: &Run,
     units: &ReadyUnits<C>,

@@ -4,7 +4,7 @@
 //! and `state.inner = outer;`, whatever comes of it.
 
 ghost use Rattle.std.specs.Prelude.{◌<◌, length, true, nat_lt};
-ghost use Rattle.qvt_live_store.specs.Held.{contents_of};
+ghost use Rattle.qvt_exec_state.specs.Held.{contents_of};
 ghost use Rattle.qvt_run_rules.specs.Statements.{object_or_new, set_object};
 ghost use Rattle.qvt_run_rules.specs.Store.{changed, made_one, new_object, put, slot_items, written};
 ghost use Rattle.qvt_slots.specs.Assign.{write};

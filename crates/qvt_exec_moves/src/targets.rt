@@ -6,7 +6,7 @@ ghost use Rattle.qvt_exec_moves.specs.Moves.{member_of};
 
 use crate::values::object_of;
 use qvt_base::numbers::{FeatureNo, Oid, Place};
-use qvt_checks::conditions::is_slot;
+use qvt_exec_reads::conditions::is_slot;
 use qvt_exec_state::locals::local_named;
 use qvt_exec_state::state::RunState;
 use qvt_exec_state::steps::misfit;

@@ -3,3 +3,5 @@
 
 pub mod engine;
 pub mod nested;
+
+pub use qvt_exec_calls::{callees, choice, each, numbers, units};

@@ -5,7 +5,7 @@ use Rattle.qvt_run_data.specs.declared.exit.Halt.{Halt}
 use Rattle.qvt_run_data.specs.declared.exit.Halt.TheVariants.{Exits, NoMemory}
 use Rattle.qvt_run_data.specs.declared.late.LateWrite.{LateWrite}
 use Rattle.qvt_run_rules.specs.State.{Done}
-use Rattle.qvt_meaning.specs.Plain.{ended, evaluated}
+use Rattle.qvt_exec_exprs.specs.Plain.{ended, evaluated}
 use Rattle.qvt_exec_state.specs.Runs.{Runs}
 use Rattle.qvt_exec_state.specs.declared.state.RunState.{RunState}
 use Rattle.qvt_exec_plain.specs.Told.{EndsAs, Tells}

@@ -4,14 +4,14 @@ use denote.Ref.{Bor, MutBor}
 use Rattle.qvt_value.specs.declared.value.Value.{Value}
 use Rattle.qvt_types_nodes.specs.declared.tree.TypedExpr.{TypedExpr}
 use Rattle.qvt_types_nodes.specs.declared.tree.TypedStmt.{TypedStmt}
-use Rattle.qvt_types_program.specs.Program.{program_view}
-use Rattle.qvt_types_program.specs.declared.program.Program.{Program}
-use Rattle.qvt_typing.specs.Accepts.{ProgramTerm}
+use Rattle.qvt_program_exprs.specs.Program.{program_view}
+use Rattle.qvt_program_exprs.specs.declared.program.Program.{Program}
+use Rattle.qvt_exec_exprs.specs.Accepts.{ProgramTerm}
 use Rattle.qvt_run_data.specs.declared.exit.Halt.{Halt}
-use Rattle.qvt_meaning.specs.Plain.{no_calls, no_resolve}
-use Rattle.qvt_exec_calls.specs.Units.{Units}
-use Rattle.qvt_exec_phrases.specs.Means.{block_of, expr_of}
-use Rattle.qvt_exec_phrases.specs.declared.engine.Engine.{Engine}
+use Rattle.qvt_exec_exprs.specs.Plain.{no_calls, no_resolve}
+use Rattle.qvt_exec_exprs.specs.Units.{Units}
+use Rattle.qvt_exec_exprs.specs.Means.{block_of, expr_of}
+use Rattle.qvt_exec_exprs.specs.declared.engine.Engine.{Engine}
 use Rattle.qvt_exec_state.specs.Runs.{Runs, seen}
 use Rattle.qvt_exec_state.specs.declared.state.RunState.{RunState}
 

@@ -1,2 +1,3 @@
+pub use Rattle.qvt_program_exprs.specs.Table
 pub mod Alone
 pub mod Told

@@ -4,7 +4,7 @@ use Rattle.qvt_value.specs.declared.value.Value.{Value}
 use Rattle.qvt_run_data.specs.declared.exit.End.{End}
 use Rattle.qvt_run_data.specs.declared.exit.Halt.{Halt}
 use Rattle.qvt_run_data.specs.declared.exit.Halt.TheVariants.{Exits, NoMemory}
-use Rattle.qvt_meaning.specs.Plain.{Evaluated, ended}
+use Rattle.qvt_exec_exprs.specs.Plain.{Evaluated, ended}
 use Rattle.qvt_exec_plain.specs.declared.told.Told.{Told}
 
 -- it tells what the expression gives, and what that cost, a cost beyond 64 bits as the greatest number of 64 bits

@@ -2,20 +2,20 @@
 
 ghost use Rattle.std.specs.Prelude.{◌≡◌, List};
 ghost use Rattle.qvt_types_nodes.specs.declared.tree.TypedStmt.{TypedStmt};
-ghost use Rattle.qvt_types_program.specs.Program.{program_view};
+ghost use Rattle.qvt_program_exprs.specs.Program.{program_view};
 ghost use Rattle.qvt_exec_plain.specs.Alone.{GivesBlock, GivesExpr, alone_in};
 
 use qvt_base::numbers::Place;
-use qvt_exec_calls::units::UnitCalls;
-use qvt_exec_phrases::engine::Engine;
-use qvt_exec_phrases::nested::Nested;
+use qvt_exec_exprs::engine::Engine;
+use qvt_exec_exprs::nested::Nested;
+use qvt_exec_exprs::units::UnitCalls;
 use qvt_exec_state::state::RunState;
 use qvt_exec_state::steps::misfit;
+use qvt_program_exprs::program::Program;
 use qvt_run_data::callee::Callee;
 use qvt_run_data::exit::Halt;
 use qvt_run_data::request::Query;
 use qvt_types_nodes::tree::{TypedExpr, TypedStmt};
-use qvt_types_program::program::Program;
 use qvt_value::value::{Value, Values};
 use std::marker::PhantomData;
 

@@ -1,12 +1,12 @@
 //! Phrases over what stands inside them.
 
-ghost use Rattle.qvt_exec_phrases.specs.Means.{block_of, expr_of};
+ghost use Rattle.qvt_exec_exprs.specs.Means.{block_of, expr_of};
 ghost use Rattle.qvt_exec_state.specs.Runs.{Runs, seen};
 
-use qvt_exec_calls::units::ReadyUnits;
+use qvt_exec_exprs::engine::Engine;
 use qvt_exec_exprs::exprs::expression;
-use qvt_exec_phrases::engine::Engine;
-use qvt_exec_phrases::nested::Nested;
+use qvt_exec_exprs::nested::Nested;
+use qvt_exec_exprs::units::ReadyUnits;
 use qvt_exec_state::state::RunState;
 use qvt_exec_statements::statements::in_scope;
 use qvt_run_data::exit::Halt;

@@ -1,17 +1,17 @@
 //! Phrases that stand alone, with all phrases inside them.
 
-ghost use Rattle.qvt_types_program.specs.Program.{program_view};
-ghost use Rattle.qvt_exec_phrases.specs.Means.{block_of, expr_of};
+ghost use Rattle.qvt_program_exprs.specs.Program.{program_view};
+ghost use Rattle.qvt_exec_exprs.specs.Means.{block_of, expr_of};
 ghost use Rattle.qvt_exec_state.specs.Runs.{Runs, seen};
 ghost use Rattle.qvt_exec_plain.specs.Alone.{alone_in};
 
 use crate::alone::{Alone, Statement};
 use crate::inside::{block_inside, expr_inside};
-use qvt_exec_phrases::engine::Engine;
+use qvt_exec_exprs::engine::Engine;
 use qvt_exec_state::state::RunState;
+use qvt_program_exprs::program::Program;
 use qvt_run_data::exit::Halt;
 use qvt_types_nodes::tree::{TypedExpr, TypedStmt};
-use qvt_types_program::program::Program;
 use qvt_value::value::Value;
 use std::marker::PhantomData;
 

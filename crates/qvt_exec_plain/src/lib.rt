@@ -7,3 +7,5 @@ mod knot;
 pub mod plain;
 pub mod told;
 pub mod vars;
+
+pub use qvt_program_exprs::table;

@@ -2,8 +2,8 @@
 
 ghost use Rattle.std.specs.Prelude.{IfOk};
 ghost use Rattle.qvt_types_nodes.specs.View.{typed_expr_view};
-ghost use Rattle.qvt_types_program.specs.Program.{program_view};
-ghost use Rattle.qvt_meaning.specs.Plain.{no_expression, plain, plain_at};
+ghost use Rattle.qvt_program_exprs.specs.Program.{program_view};
+ghost use Rattle.qvt_exec_exprs.specs.Plain.{no_expression, plain, plain_at};
 ghost use Rattle.qvt_program_exprs.specs.Table.{IsTable};
 ghost use Rattle.qvt_exec_plain.specs.Told.{Tells};
 
@@ -13,20 +13,20 @@ use crate::vars::locals_of;
 use qvt_base::list_fault::ListFault;
 use qvt_base::numbers::{ExprNo, Place};
 use qvt_base::seq::Seq;
-use qvt_exec_phrases::engine::Engine;
+use qvt_exec_exprs::engine::Engine;
 use qvt_exec_state::state::RunState;
+use qvt_program_exprs::program::Program;
 use qvt_program_exprs::table::Expressions;
 use qvt_run_data::exit::End;
 use qvt_run_data::fault::RunFault;
 use qvt_run_data::local::Local;
 use qvt_store::store::Store;
 use qvt_types_nodes::tree::TypedExpr;
-use qvt_types_program::program::Program;
 use qvt_value::value::Var;
 use std::alloc::Global;
 
 /// What an expression of the program gives over a store, with these variables in scope, and its cost.
-#[tactic(auto, using(crate::proofs::Telling::told_of), unfolding(qvt_meaning::specs::Plain::plain, qvt_run_rules::specs::Cost::spend_of, qvt_exec_phrases::specs::Means::expr_of))]
+#[tactic(auto, using(crate::proofs::Telling::told_of), unfolding(qvt_exec_exprs::specs::Plain::plain, qvt_run_rules::specs::Cost::spend_of, qvt_exec_exprs::specs::Means::expr_of))]
 pub fn evaluate(
     alloc: Global,
     program: &Program,
@@ -68,7 +68,7 @@ fn no_expression() -> Told
 
 /// The value of the plain expression of this number over a store, with these variables in scope, and its
 /// cost. A type fault at the begin of the text is told of a number that no expression has.
-#[tactic(auto, unfolding(qvt_meaning::specs::Plain::plain_at))]
+#[tactic(auto, unfolding(qvt_exec_exprs::specs::Plain::plain_at))]
 pub fn eval_plain(
     alloc: Global,
     expressions: &Expressions<'_>,

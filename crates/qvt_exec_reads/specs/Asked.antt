@@ -3,8 +3,8 @@ use Rattle.std.specs.Prelude.{Bool, true}
 use Rattle.qvt_base.specs.declared.numbers.Oid.{Oid}
 use Rattle.qvt_metamodel.specs.Descends.{descends}
 use Rattle.qvt_slots.specs.Contents.{Contents, class_of}
-use Rattle.qvt_run_data.specs.declared.questions.ModelQuery.{ModelQuery}
-use Rattle.qvt_run_data.specs.declared.questions.ModelQuery.TheVariants.{Objects, RootObjects, ObjectsOfType}
+use Rattle.qvt_run_rules.specs.declared.questions.ModelQuery.{ModelQuery}
+use Rattle.qvt_run_rules.specs.declared.questions.ModelQuery.TheVariants.{Objects, RootObjects, ObjectsOfType}
 use Rattle.qvt_run_rules.specs.Store.{is_root}
 
 abbrev pub is_asked : Contents → ModelQuery → Oid → Bool

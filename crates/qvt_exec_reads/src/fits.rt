@@ -7,7 +7,7 @@ ghost use Rattle.qvt_run_rules.specs.Store.{is_class_for, are_fit};
 
 use qvt_base::numbers::{ClassNo, FeatureNo, Oid};
 use qvt_checks::conditions;
-use qvt_store::store::Store;
+use qvt_checks::store::Store;
 use qvt_value::value::Value;
 
 /// Whether objects of the class can be made in the extent.

@@ -8,3 +8,5 @@ pub mod models;
 pub mod objects;
 pub mod property;
 pub mod types;
+
+pub use qvt_checks::conditions;

@@ -10,8 +10,8 @@ use qvt_base::copied::Copied;
 use qvt_base::list_fault::ListFault;
 use qvt_base::numbers::{ClassNo, Oid, Place};
 use qvt_base::seq::Seq;
-use qvt_run_data::questions::ObjectTest;
-use qvt_store::store::Store;
+use qvt_checks::store::Store;
+use qvt_run_rules::questions::ObjectTest;
 use qvt_value::value::{Kind, Reason, Value, Values};
 use std::alloc::Global;
 

@@ -5,9 +5,9 @@ ghost use Rattle.qvt_types_data.specs.Term.{ty_view};
 ghost use Rattle.qvt_run_rules.specs.Typed.{has_type, is_sure};
 
 use qvt_checks::conditions::{is_bool, is_instance, is_int, is_literal, is_text};
+use qvt_checks::store::Store;
 use qvt_ocl::kinds::same_kind;
 use qvt_ocl_lists::items::is_null;
-use qvt_store::store::Store;
 use qvt_types_data::kinds::kind_of;
 use qvt_types_data::ty::Ty;
 use qvt_value::value::Value;

@@ -3,9 +3,9 @@ use Rattle.std.proofs.Common.{◌≡◌, ◌∙◌, ℕ, zero, suc, refl, sym, a
 use Rattle.std.specs.List.{flat_map}
 use Rattle.std.proofs.lemmas.List.{length-map}
 use Rattle.qvt_types_nodes.specs.Module.{typed_unit_view}
-use Rattle.qvt_types_program.specs.Program.{program_view}
-use Rattle.qvt_types_program.specs.declared.program.Program.{Program}
-use Rattle.qvt_typing.specs.Accepts.{ProgramTerm}
+use Rattle.qvt_exec_types.specs.Program.{program_view}
+use Rattle.qvt_exec_types.specs.declared.program.Program.{Program}
+use Rattle.qvt_meaning.specs.Accepts.{ProgramTerm}
 use Rattle.qvt_meaning.specs.Program as meaning
 use Rattle.qvt_exec_resolves.specs.Disjuncts.{from, next_of}
 

@@ -7,12 +7,12 @@ use Rattle.qvt_base.specs.declared.numbers.MappingNo.{MappingNo}
 use Rattle.qvt_tree_types.specs.Resolves.{is_inverse}
 use Rattle.qvt_tree_types.specs.declared.words.ResolveWord.{ResolveWord}
 use Rattle.qvt_types_nodes.specs.declared.types.TypedPathTree.{TypedPathTree}
-use Rattle.qvt_types_program.specs.Mappings as mappings_of
-use Rattle.qvt_types_units.specs.Numbers.{no_unit, unit_at}
-use Rattle.qvt_types_units.specs.declared.signature.Signature.{Signature}
-use Rattle.qvt_types_units.specs.declared.signature.UnitSort.{UnitSort}
-use Rattle.qvt_types_units.specs.declared.signature.UnitSort.TheVariants as sort
-use Rattle.qvt_typing.specs.Accepts.{ProgramTerm}
+use Rattle.qvt_exec_types.specs.Mappings as mappings_of
+use Rattle.qvt_meaning.specs.Numbers.{no_unit, unit_at}
+use Rattle.qvt_meaning.specs.declared.signature.Signature.{Signature}
+use Rattle.qvt_meaning.specs.declared.signature.UnitSort.{UnitSort}
+use Rattle.qvt_meaning.specs.declared.signature.UnitSort.TheVariants as sort
+use Rattle.qvt_meaning.specs.Accepts.{ProgramTerm}
 use Rattle.qvt_meaning.specs.Nodes.{mappings_in, mappings_named}
 use Rattle.qvt_meaning.specs.Program as meaning
 

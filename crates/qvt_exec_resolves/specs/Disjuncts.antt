@@ -1,7 +1,7 @@
 -- A search for the mappings that a mapping disjuncts to, through any depth (QVT 1.3, 8.2.1.15). It takes turns, the last that waits first.
 use Rattle.std.specs.Prelude.{ℕ, zero, suc, ◌&&◌, List, [], ◌∷◌, ◌++◌, map, reverse, if◌then◌else◌}
 use Rattle.std.specs.List.{list_all, flat_map}
-use Rattle.qvt_typing.specs.Accepts.{ProgramTerm}
+use Rattle.qvt_meaning.specs.Accepts.{ProgramTerm}
 use Rattle.qvt_meaning.specs.Program.{disjuncts_in, mapping_term, with_number}
 use Rattle.qvt_exec_resolves.specs.Numbers.{has}
 use Rattle.qvt_exec_resolves.specs.declared.disjuncts.Search.{Search}

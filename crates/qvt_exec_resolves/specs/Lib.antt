@@ -1,3 +1,7 @@
+pub use Rattle.qvt_meaning.specs.Readings
+pub use Rattle.qvt_meaning.specs.Program
+pub use Rattle.qvt_meaning.specs.Phrases
+pub use Rattle.qvt_meaning.specs.Nodes
 pub mod Candidates
 pub mod Disjuncts
 pub mod Late

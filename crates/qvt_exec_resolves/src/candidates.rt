@@ -11,9 +11,9 @@ use qvt_base::list_fault::ListFault;
 use qvt_base::lists::{MappingList, OidList};
 use qvt_base::numbers::{ClassNo, MappingNo, Oid};
 use qvt_base::seq::Seq;
+use qvt_exec_state::store::Store;
 use qvt_run_data::record::Record;
 use qvt_run_data::request::Request;
-use qvt_store::store::Store;
 use std::alloc::Global;
 
 /// A request over a store, with the mappings whose records are looked at as they are looked up by hash.

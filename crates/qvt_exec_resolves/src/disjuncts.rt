@@ -2,7 +2,7 @@
 
 ghost use Rattle.std.specs.Prelude.{◌≡◌, ◌∷◌, ◌++◌, [], fold, IfOk, OnOk, MatchOption};
 ghost use Rattle.std.specs.List.{list_all};
-ghost use Rattle.qvt_types_program.specs.Program.{program_view};
+ghost use Rattle.qvt_exec_types.specs.Program.{program_view};
 ghost use Rattle.qvt_meaning.specs.Program as meaning;
 ghost use Rattle.qvt_exec_resolves.specs.Numbers.{has};
 ghost use Rattle.qvt_exec_resolves.specs.Disjuncts.{closed, from, next_of, opened, taken, waiting};
@@ -13,7 +13,7 @@ use qvt_base::list_fault::ListFault;
 use qvt_base::lists::MappingList;
 use qvt_base::numbers::MappingNo;
 use qvt_base::seq::Seq;
-use qvt_types_program::program::Program;
+use qvt_exec_types::program::Program;
 use std::alloc::Global;
 
 /// What the search does next.

@@ -3,7 +3,7 @@
 ghost use Rattle.std.specs.Prelude.{◌≡◌, option_map, IfOk};
 ghost use Rattle.std.specs.Option.{option_copied};
 ghost use Rattle.qvt_types_nodes.specs.View.{typed_filter_view, typed_optional_filter, typed_resolve_view, typed_type_view};
-ghost use Rattle.qvt_types_program.specs.Program.{program_view};
+ghost use Rattle.qvt_exec_types.specs.Program.{program_view};
 ghost use Rattle.qvt_meaning.specs.Nodes as nodes;
 ghost use Rattle.qvt_meaning.specs.Program as meaning;
 ghost use Rattle.qvt_run_rules.specs.Resolve as rule;
@@ -14,14 +14,14 @@ use qvt_base::list_fault::ListFault;
 use qvt_base::lists::OidList;
 use qvt_base::numbers::{ClassNo, ExprNo, MappingNo};
 use qvt_exec_types::nodes::{note_of, written_type};
+use qvt_exec_types::program::Program;
+use qvt_meaning::signature::{HeadClass, Signature};
 use qvt_run_data::request::{Form, Query, Request};
 use qvt_tree_types::words::ResolveWord;
 use qvt_types_data::note::Reading;
 use qvt_types_data::ty::Ty;
 use qvt_types_nodes::tree::{TypedFilter, TypedResolveCall};
 use qvt_types_nodes::types::{TypedPathTree, TypedTypeTree};
-use qvt_types_program::program::Program;
-use qvt_types_units::signature::{HeadClass, Signature};
 use std::alloc::Global;
 
 /// The only one of these mappings.

@@ -14,9 +14,9 @@ use qvt_base::numbers::{Oid, Place};
 use qvt_base::seq::Seq;
 use qvt_exec_state::state::RunState;
 use qvt_exec_state::steps::misfit;
+use qvt_exec_state::store::Store;
 use qvt_run_data::exit::{End, Exit, Halt};
 use qvt_run_data::fault::RunFault;
-use qvt_store::store::Store;
 use qvt_value::value::Value;
 use std::alloc::Global;
 

@@ -3,7 +3,7 @@
 ghost use Rattle.std.specs.Prelude.{◌≡◌, ◌++◌, [], option_map, IfOk, OnOk};
 ghost use Rattle.std.specs.Option.{option_copied};
 ghost use Rattle.qvt_types_nodes.specs.Module.{typed_mapping_view};
-ghost use Rattle.qvt_types_program.specs.Program.{program_view};
+ghost use Rattle.qvt_exec_types.specs.Program.{program_view};
 ghost use Rattle.qvt_meaning.specs.Nodes.{mappings_in, mappings_named};
 ghost use Rattle.qvt_meaning.specs.Program as meaning;
 ghost use Rattle.qvt_exec_resolves.specs.Disjuncts.{next_of};
@@ -11,10 +11,10 @@ ghost use Rattle.qvt_exec_resolves.specs.Disjuncts.{next_of};
 use qvt_base::list_fault::ListFault;
 use qvt_base::numbers::MappingNo;
 use qvt_base::seq::Seq;
+use qvt_exec_types::program::Program;
 use qvt_types_data::note::Reading;
 use qvt_types_nodes::module::{TypedMapping, TypedUnit};
 use qvt_types_nodes::types::TypedPathTree;
-use qvt_types_program::program::Program;
 use std::alloc::Global;
 
 /// The unit that the mapping of this number is.

@@ -1,9 +1,9 @@
 -- What state of a run the code's is, and when a call does what a phrase does (OCL 2.4, 7).
 use Rattle.std.specs.Prelude.{◌≡◌, [], ◌∷◌, ◌++◌, Result, Ok, Err}
-use Rattle.qvt_run_data.specs.declared.exit.Halt.{Halt}
-use Rattle.qvt_run_data.specs.declared.exit.Halt.TheVariants.{Exits, NoMemory}
-use Rattle.qvt_run_data.specs.declared.late.LateWrite.{LateWrite}
-use Rattle.qvt_run_data.specs.declared.local.Local.{Local}
+use Rattle.qvt_run_rules.specs.declared.exit.Halt.{Halt}
+use Rattle.qvt_run_rules.specs.declared.exit.Halt.TheVariants.{Exits, NoMemory}
+use Rattle.qvt_run_rules.specs.declared.late.LateWrite.{LateWrite}
+use Rattle.qvt_run_rules.specs.declared.local.Local.{Local}
 use Rattle.qvt_run_rules.specs.State.{State, Done}
 use Rattle.qvt_live_store.specs.Held.{contents_of}
 use Rattle.qvt_exec_state.specs.declared.state.RunState.{RunState}

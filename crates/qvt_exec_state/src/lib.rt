@@ -6,3 +6,5 @@ pub mod locals;
 pub mod names;
 pub mod state;
 pub mod steps;
+
+pub use qvt_live_store::store;

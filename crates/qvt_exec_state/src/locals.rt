@@ -4,7 +4,7 @@ ghost use Rattle.std.specs.Prelude.{◌≡◌};
 ghost use Rattle.std.specs.Option.{option_copied};
 ghost use Rattle.qvt_run_rules.specs.Locals.{local_named};
 
-use qvt_run_data::local::Local;
+use qvt_run_rules::local::Local;
 
 /// The first variable of that name.
 pub fn local_named<'a>(locals: &'a [Local], name: &str) -> Option<&'a Local>

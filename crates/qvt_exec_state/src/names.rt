@@ -7,7 +7,7 @@ ghost use Rattle.qvt_run_rules.specs.Locals.{begins_with_sign, is_unnamed, name_
 use qvt_base::copied::Copied;
 use qvt_base::list_fault::ListFault;
 use qvt_base::text::Text;
-use qvt_run_data::local::Local;
+use qvt_run_rules::local::Local;
 use std::alloc::Global;
 
 /// The name of the variable that `self` reads.

@@ -9,10 +9,10 @@ use qvt_base::numbers::Oid;
 use qvt_base::seq::Seq;
 use qvt_live_store::held::Held;
 use qvt_live_store::live::LiveStore;
-use qvt_run_data::late::LateWrite;
-use qvt_run_data::local::Local;
-use qvt_run_data::record::{Key, Record};
-use qvt_store::store::Store;
+use qvt_live_store::store::Store;
+use qvt_run_rules::late::LateWrite;
+use qvt_run_rules::local::Local;
+use qvt_run_rules::record::{Key, Record};
 use std::alloc::Global;
 
 /// The store; the variables in scope, the latest last; the object of the innermost object expression;

@@ -14,9 +14,9 @@ use qvt_base::copied::Copied;
 use qvt_base::list_fault::ListFault;
 use qvt_base::numbers::Place;
 use qvt_base::text::Text;
-use qvt_run_data::exit::{End, Exit, Halt};
-use qvt_run_data::fault::RunFault;
-use qvt_run_data::local::Local;
+use qvt_run_rules::exit::{End, Exit, Halt};
+use qvt_run_rules::fault::RunFault;
+use qvt_run_rules::local::Local;
 use qvt_value::value::Value;
 use std::alloc::Global;
 

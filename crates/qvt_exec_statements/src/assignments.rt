@@ -1,27 +1,27 @@
 //! Assignments (QVT 1.3, 8.2.2.11 AssignExp).
 
-ghost use Rattle.qvt_meaning.specs.Nodes as nodes;
-ghost use Rattle.qvt_meaning.specs.Readings as by;
+ghost use Rattle.qvt_exec_resolves.specs.Nodes as nodes;
+ghost use Rattle.qvt_exec_resolves.specs.Readings as by;
 ghost use Rattle.qvt_types_nodes.specs.View.{typed_expr_view};
 ghost use Rattle.qvt_exec_state.specs.Runs.{Runs, seen};
-ghost use Rattle.qvt_exec_phrases.specs.Means.{expr_of, late_source_of, setting_of, target_of, valid_of};
+ghost use Rattle.qvt_exec_steps.specs.Means.{expr_of, late_source_of, setting_of, target_of, valid_of};
 ghost use Rattle.qvt_exec_statements.specs.Puts.{put_valid};
 
 use crate::late::assign_late;
 use crate::targets::{bare_target, owner};
 use qvt_base::numbers::{FeatureNo, Oid, Place};
-use qvt_exec_calls::units::ReadyUnits;
 use qvt_exec_moves::assignments::add_variable;
 use qvt_exec_moves::objects::put;
 use qvt_exec_moves::values::valid;
 use qvt_exec_moves::variables::set_variable;
-use qvt_exec_phrases::engine::Engine;
-use qvt_exec_phrases::nested::{Nested, expr};
 use qvt_exec_resolves::nodes::late_of;
 use qvt_exec_state::names::RESULT_NAME;
 use qvt_exec_state::state::RunState;
 use qvt_exec_state::steps::misfit;
-use qvt_exec_types::nodes::note_of;
+use qvt_exec_steps::engine::Engine;
+use qvt_exec_steps::nested::{Nested, expr};
+use qvt_exec_steps::nodes::note_of;
+use qvt_exec_steps::units::ReadyUnits;
 use qvt_run_data::exit::Halt;
 use qvt_types_data::note::{Note, Reading};
 use qvt_types_nodes::tree::{TypedExpr, TypedTarget};
@@ -134,7 +134,7 @@ fn member_assign<C: Nested>(
 }
 
 /// A value that is assigned.
-#[tactic(auto, unfolding(qvt_exec_phrases::specs::Means::target_of, qvt_exec_phrases::specs::Means::expr_of, qvt_meaning::specs::Phrases::target))]
+#[tactic(auto, unfolding(qvt_exec_steps::specs::Means::target_of, qvt_exec_steps::specs::Means::expr_of, qvt_exec_resolves::specs::Phrases::target))]
 fn assign_value<C: Nested>(
     x: &Engine<'_>,
     units: &ReadyUnits<C>,

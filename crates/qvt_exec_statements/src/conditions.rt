@@ -1,18 +1,18 @@
 //! Conditions, and what is done where they are true (QVT 1.3, 8.2.2.8 SwitchExp).
 
 ghost use Rattle.qvt_run_rules.specs.Statements as statement;
-ghost use Rattle.qvt_meaning.specs.Nodes as nodes;
+ghost use Rattle.qvt_exec_resolves.specs.Nodes as nodes;
 ghost use Rattle.qvt_types_nodes.specs.View.{typed_arm_view, typed_expr_view};
 ghost use Rattle.qvt_exec_state.specs.Runs.{Runs, seen};
-ghost use Rattle.qvt_exec_phrases.specs.Means.{arms_of, block_of, expr_of, guarded_of, holds_of, otherwise_of};
+ghost use Rattle.qvt_exec_steps.specs.Means.{arms_of, block_of, expr_of, guarded_of, holds_of, otherwise_of};
 ghost use Rattle.qvt_exec_statements.specs.Arms.{arm_turn};
 
-use qvt_exec_calls::units::ReadyUnits;
 use qvt_exec_leaves::nodes::place_of;
 use qvt_exec_moves::values::truth;
-use qvt_exec_phrases::engine::Engine;
-use qvt_exec_phrases::nested::{Nested, block, expr};
 use qvt_exec_state::state::RunState;
+use qvt_exec_steps::engine::Engine;
+use qvt_exec_steps::nested::{Nested, block, expr};
+use qvt_exec_steps::units::ReadyUnits;
 use qvt_run_data::exit::Halt;
 use qvt_types_nodes::tree::{TypedArm, TypedExpr, TypedStmt, TypedStmts};
 
@@ -48,7 +48,7 @@ pub(crate) fn turn<C: Nested>(
 }
 
 /// The body of a `forEach` where its condition is true.
-#[tactic(auto, unfolding(qvt_exec_phrases::specs::Means::guarded_of, qvt_exec_phrases::specs::Means::expr_of, qvt_meaning::specs::Phrases::guarded, qvt_run_rules::specs::Statements::branch))]
+#[tactic(auto, unfolding(qvt_exec_steps::specs::Means::guarded_of, qvt_exec_steps::specs::Means::expr_of, qvt_exec_resolves::specs::Phrases::guarded, qvt_run_rules::specs::Statements::branch))]
 pub(crate) fn guarded<C: Nested>(
     x: &Engine<'_>,
     units: &ReadyUnits<C>,
@@ -70,7 +70,7 @@ pub(crate) fn guarded<C: Nested>(
 }
 
 /// What stands last in an `if`.
-#[tactic(auto, unfolding(qvt_exec_phrases::specs::Means::otherwise_of, qvt_exec_phrases::specs::Means::stmts_of, qvt_meaning::specs::Phrases::otherwise))]
+#[tactic(auto, unfolding(qvt_exec_steps::specs::Means::otherwise_of, qvt_exec_steps::specs::Means::stmts_of, qvt_exec_resolves::specs::Phrases::otherwise))]
 fn otherwise<C: Nested>(
     x: &Engine<'_>,
     units: &ReadyUnits<C>,
@@ -86,7 +86,7 @@ fn otherwise<C: Nested>(
 }
 
 /// An arm: whether its condition was true.
-#[tactic(auto, unfolding(qvt_exec_phrases::specs::Means::expr_of, qvt_exec_phrases::specs::Means::stmts_of))]
+#[tactic(auto, unfolding(qvt_exec_steps::specs::Means::expr_of, qvt_exec_steps::specs::Means::stmts_of))]
 fn arm<C: Nested>(
     x: &Engine<'_>,
     units: &ReadyUnits<C>,

@@ -1,26 +1,26 @@
 //! Late assignments (QVT 1.3, 8.1.10).
 
 ghost use Rattle.std.specs.Prelude.{◌≡◌, IfOk};
-ghost use Rattle.qvt_meaning.specs.Nodes as nodes;
-ghost use Rattle.qvt_meaning.specs.Program.{form_of};
-ghost use Rattle.qvt_meaning.specs.Readings as by;
+ghost use Rattle.qvt_exec_resolves.specs.Nodes as nodes;
+ghost use Rattle.qvt_exec_resolves.specs.Program.{form_of};
+ghost use Rattle.qvt_exec_resolves.specs.Readings as by;
 ghost use Rattle.qvt_types_nodes.specs.View.{typed_resolve_view};
 ghost use Rattle.qvt_exec_state.specs.Runs.{Runs, seen};
-ghost use Rattle.qvt_exec_phrases.specs.Means.{expr_of, late_source_of, program_of, setting_of, target_of};
+ghost use Rattle.qvt_exec_steps.specs.Means.{expr_of, late_source_of, program_of, setting_of, target_of};
 ghost use Rattle.qvt_exec_statements.specs.Late.{late_behind};
 
 use crate::targets::{bare_target, owner};
 use qvt_base::list_fault::ListFault;
 use qvt_base::numbers::{ClassNo, FeatureNo, Oid, Place};
-use qvt_exec_calls::units::ReadyUnits;
-use qvt_exec_phrases::engine::Engine;
-use qvt_exec_phrases::nested::{Nested, program};
 use qvt_exec_resolves::forms::{form_of, query_of};
 use qvt_exec_resolves::late::{entered, if_fits};
 use qvt_exec_resolves::sources::{sources_of, valid_source};
 use qvt_exec_state::state::RunState;
 use qvt_exec_state::steps::{misfit, tick};
+use qvt_exec_steps::engine::Engine;
 use qvt_exec_steps::late::late_source;
+use qvt_exec_steps::nested::{Nested, program};
+use qvt_exec_steps::units::ReadyUnits;
 use qvt_run_data::exit::Halt;
 use qvt_run_data::request::Form;
 use qvt_types_data::note::{Note, Reading};
@@ -148,7 +148,7 @@ fn member_late<C: Nested>(
 }
 
 /// An assignment whose right side is a late resolve.
-#[tactic(auto, unfolding(qvt_exec_phrases::specs::Means::target_of, qvt_exec_phrases::specs::Means::expr_of, qvt_meaning::specs::Phrases::target))]
+#[tactic(auto, unfolding(qvt_exec_steps::specs::Means::target_of, qvt_exec_steps::specs::Means::expr_of, qvt_exec_resolves::specs::Phrases::target))]
 pub(crate) fn assign_late<C: Nested>(
     x: &Engine<'_>,
     units: &ReadyUnits<C>,

@@ -9,3 +9,6 @@ pub mod statements;
 mod targets;
 mod types;
 mod values;
+
+pub use qvt_exec_resolves::units;
+pub use qvt_exec_steps::{engine, nested};

@@ -2,11 +2,11 @@
 
 ghost use Rattle.std.specs.Prelude.{◌≡◌};
 ghost use Rattle.qvt_run_rules.specs.Statements as statement;
-ghost use Rattle.qvt_meaning.specs.Nodes as nodes;
-ghost use Rattle.qvt_meaning.specs.Phrases as phrase;
+ghost use Rattle.qvt_exec_resolves.specs.Nodes as nodes;
+ghost use Rattle.qvt_exec_resolves.specs.Phrases as phrase;
 ghost use Rattle.qvt_types_nodes.specs.View.{typed_expr_view, typed_optional_type};
 ghost use Rattle.qvt_exec_state.specs.Runs.{Runs, seen};
-ghost use Rattle.qvt_exec_phrases.specs.Means.{block_of, expr_of, for_each_item, guarded_of, turns_of};
+ghost use Rattle.qvt_exec_steps.specs.Means.{block_of, expr_of, for_each_item, guarded_of, turns_of};
 ghost use Rattle.qvt_exec_statements.specs.Items.{over_items};
 
 use crate::conditions::{guarded, turn};
@@ -14,14 +14,14 @@ use crate::types::each_type;
 use qvt_base::copied::Copied;
 use qvt_base::numbers::Place;
 use qvt_base::text::Text;
-use qvt_exec_calls::units::ReadyUnits;
 use qvt_exec_leaves::nodes::place_of;
 use qvt_exec_moves::items::asked_items;
 use qvt_exec_moves::values::valid;
 use qvt_exec_moves::variables::bind_typed;
-use qvt_exec_phrases::engine::Engine;
-use qvt_exec_phrases::nested::{Nested, expr};
 use qvt_exec_state::state::RunState;
+use qvt_exec_steps::engine::Engine;
+use qvt_exec_steps::nested::{Nested, expr};
+use qvt_exec_steps::units::ReadyUnits;
 use qvt_run_data::exit::{End, Exit, Halt};
 use qvt_types_data::ty::Ty;
 use qvt_types_nodes::tree::{TypedExpr, TypedStmt};

@@ -3,22 +3,22 @@
 ghost use Rattle.qvt_run_rules.specs.Statements as statement;
 ghost use Rattle.qvt_types_nodes.specs.View.{typed_stmt_view};
 ghost use Rattle.qvt_exec_state.specs.Runs.{Runs, seen};
-ghost use Rattle.qvt_exec_phrases.specs.Means.{block_of, does_of, stmt_of, stmts_of};
+ghost use Rattle.qvt_exec_steps.specs.Means.{block_of, does_of, stmt_of, stmts_of};
 
 use crate::assignments::assigned;
 use crate::conditions::branch;
 use crate::loops::{for_each, repeat};
 use crate::values::{discard, give, variable};
-use qvt_exec_calls::units::ReadyUnits;
-use qvt_exec_phrases::engine::Engine;
-use qvt_exec_phrases::nested::Nested;
 use qvt_exec_state::state::RunState;
 use qvt_exec_state::steps::tick;
+use qvt_exec_steps::engine::Engine;
+use qvt_exec_steps::nested::Nested;
+use qvt_exec_steps::units::ReadyUnits;
 use qvt_run_data::exit::Halt;
 use qvt_types_nodes::tree::TypedStmt;
 
 /// What a statement does behind its unit.
-#[tactic(auto, unfolding(qvt_exec_phrases::specs::Means::optional_of, qvt_exec_phrases::specs::Means::return_of, qvt_exec_phrases::specs::Means::expr_of, qvt_exec_phrases::specs::Means::stmts_of, qvt_exec_phrases::specs::Means::arms_of, qvt_exec_phrases::specs::Means::otherwise_of, qvt_exec_phrases::specs::Means::guarded_of, qvt_exec_phrases::specs::Means::target_of, qvt_exec_phrases::specs::Means::late_source_of))]
+#[tactic(auto, unfolding(qvt_exec_steps::specs::Means::optional_of, qvt_exec_steps::specs::Means::return_of, qvt_exec_steps::specs::Means::expr_of, qvt_exec_steps::specs::Means::stmts_of, qvt_exec_steps::specs::Means::arms_of, qvt_exec_steps::specs::Means::otherwise_of, qvt_exec_steps::specs::Means::guarded_of, qvt_exec_steps::specs::Means::target_of, qvt_exec_steps::specs::Means::late_source_of))]
 fn behind_unit<C: Nested>(
     x: &Engine<'_>,
     units: &ReadyUnits<C>,
@@ -99,7 +99,7 @@ fn stmt<C: Nested>(
 }
 
 /// Statements one after another, whose variables stay in scope.
-#[tactic(auto, unfolding(qvt_exec_phrases::specs::Means::stmts_of, qvt_exec_phrases::specs::Means::stmt_of, qvt_meaning::specs::Phrases::stmts))]
+#[tactic(auto, unfolding(qvt_exec_steps::specs::Means::stmts_of, qvt_exec_steps::specs::Means::stmt_of, qvt_exec_resolves::specs::Phrases::stmts))]
 pub fn in_order<C: Nested>(
     x: &Engine<'_>,
     units: &ReadyUnits<C>,

@@ -1,17 +1,17 @@
 //! The objects that assignments change (QVT 1.3, 8.2.2.11 AssignExp).
 
 ghost use Rattle.qvt_run_rules.specs.Statements as statement;
-ghost use Rattle.qvt_meaning.specs.Readings as by;
+ghost use Rattle.qvt_exec_resolves.specs.Readings as by;
 ghost use Rattle.qvt_exec_state.specs.Runs.{Runs, seen};
-ghost use Rattle.qvt_exec_phrases.specs.Means.{expr_of};
+ghost use Rattle.qvt_exec_steps.specs.Means.{expr_of};
 
 use qvt_base::numbers::{FeatureNo, Oid, Place};
 use qvt_base::text::Text;
-use qvt_exec_calls::units::ReadyUnits;
 use qvt_exec_moves::targets::{inner_target, member_target, source_target};
-use qvt_exec_phrases::engine::Engine;
-use qvt_exec_phrases::nested::{Nested, expr};
 use qvt_exec_state::state::RunState;
+use qvt_exec_steps::engine::Engine;
+use qvt_exec_steps::nested::{Nested, expr};
+use qvt_exec_steps::units::ReadyUnits;
 use qvt_run_data::exit::Halt;
 use qvt_types_nodes::tree::TypedExpr;
 

@@ -2,8 +2,8 @@
 
 ghost use Rattle.std.specs.Prelude.{◌≡◌, IfOk, option_map};
 ghost use Rattle.std.specs.Option.{option_copied};
-ghost use Rattle.qvt_meaning.specs.Nodes as nodes;
-ghost use Rattle.qvt_meaning.specs.Phrases as phrase;
+ghost use Rattle.qvt_exec_resolves.specs.Nodes as nodes;
+ghost use Rattle.qvt_exec_resolves.specs.Phrases as phrase;
 ghost use Rattle.qvt_types_nodes.specs.View.{typed_expr_view, typed_optional_expr, typed_optional_type, typed_type_view};
 ghost use Rattle.qvt_types_words.specs.Rulings.{unless_void};
 
@@ -11,7 +11,7 @@ use qvt_base::copied::Copied;
 use qvt_base::list_fault::ListFault;
 use qvt_base::numbers::Place;
 use qvt_exec_leaves::nodes::place_of;
-use qvt_exec_types::nodes::{note_of, written_type};
+use qvt_exec_steps::nodes::{note_of, written_type};
 use qvt_types_data::ty::Ty;
 use qvt_types_nodes::tree::TypedExpr;
 use qvt_types_nodes::types::TypedTypeTree;

@@ -3,29 +3,29 @@
 
 ghost use Rattle.std.specs.Prelude.{option_map};
 ghost use Rattle.qvt_run_rules.specs.Statements as statement;
-ghost use Rattle.qvt_meaning.specs.Nodes as nodes;
-ghost use Rattle.qvt_meaning.specs.Phrases as phrase;
+ghost use Rattle.qvt_exec_resolves.specs.Nodes as nodes;
+ghost use Rattle.qvt_exec_resolves.specs.Phrases as phrase;
 ghost use Rattle.qvt_types_nodes.specs.View.{typed_expr_view, typed_optional_expr, typed_optional_type};
 ghost use Rattle.qvt_exec_state.specs.Runs.{Runs, seen};
-ghost use Rattle.qvt_exec_phrases.specs.Means.{expr_of, optional_of, return_of};
+ghost use Rattle.qvt_exec_steps.specs.Means.{expr_of, optional_of, return_of};
 
 use crate::types::{optional_place, variable_type};
 use qvt_base::numbers::Place;
 use qvt_base::text::Text;
-use qvt_exec_calls::units::ReadyUnits;
 use qvt_exec_leaves::nodes::place_of;
 use qvt_exec_moves::values::give_back;
 use qvt_exec_moves::variables::declare;
-use qvt_exec_phrases::engine::Engine;
-use qvt_exec_phrases::nested::{Nested, expr};
 use qvt_exec_state::state::RunState;
+use qvt_exec_steps::engine::Engine;
+use qvt_exec_steps::nested::{Nested, expr};
+use qvt_exec_steps::units::ReadyUnits;
 use qvt_run_data::exit::{Exit, Halt};
 use qvt_types_nodes::tree::TypedExpr;
 use qvt_types_nodes::types::TypedTypeTree;
 use qvt_value::value::Value;
 
 /// A value that may be missing is null.
-#[tactic(auto, unfolding(qvt_exec_phrases::specs::Means::optional_of, qvt_exec_phrases::specs::Means::expr_of, qvt_meaning::specs::Phrases::optional))]
+#[tactic(auto, unfolding(qvt_exec_steps::specs::Means::optional_of, qvt_exec_steps::specs::Means::expr_of, qvt_exec_resolves::specs::Phrases::optional))]
 fn optional<C: Nested>(
     x: &Engine<'_>,
     units: &ReadyUnits<C>,
@@ -66,7 +66,7 @@ pub(crate) fn variable<C: Nested>(
 }
 
 /// What a `return` gives back to its unit.
-#[tactic(auto, unfolding(qvt_exec_phrases::specs::Means::return_of, qvt_exec_phrases::specs::Means::expr_of, qvt_meaning::specs::Phrases::return_, qvt_run_rules::specs::Statements::give_back, qvt_run_rules::specs::Statements::go_back))]
+#[tactic(auto, unfolding(qvt_exec_steps::specs::Means::return_of, qvt_exec_steps::specs::Means::expr_of, qvt_exec_resolves::specs::Phrases::return_, qvt_run_rules::specs::Statements::give_back, qvt_run_rules::specs::Statements::go_back))]
 pub(crate) fn give<C: Nested>(
     x: &Engine<'_>,
     units: &ReadyUnits<C>,

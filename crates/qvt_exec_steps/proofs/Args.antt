@@ -8,11 +8,11 @@ use Rattle.qvt_types_nodes.specs.declared.tree.TypedExpr.{TypedExpr}
 use Rattle.qvt_types_steps.specs.declared.iterators.IteratorKind.{IteratorKind}
 use Rattle.qvt_types_steps.specs.Classes.{is_selection}
 use Rattle.qvt_types_steps.specs.IteratorTable.{iterator_named}
-use Rattle.qvt_meaning.specs.Phrases as phrase
+use Rattle.qvt_exec_types.specs.Phrases as phrase
 use Rattle.qvt_run_rules.specs.Cost.{spend_of}
-use Rattle.qvt_meaning.specs.Readings as by
-use Rattle.qvt_meaning.specs.Readings.{HeadDoes}
-use Rattle.qvt_exec_phrases.specs.Means.{Scene, exprs_of, setting_of}
+use Rattle.qvt_exec_types.specs.Readings as by
+use Rattle.qvt_exec_types.specs.Readings.{HeadDoes}
+use Rattle.qvt_exec_invocations.specs.Means.{Scene, exprs_of, setting_of}
 
 -- several arguments are no body
 pub no_body : (x : Scene) (i : IteratorKind) (h : HeadDoes LateWrite) (es : List TypedExpr) (at : Place) (v : Value) → 2 ≤ length es → by.iterator_step (setting_of x) i h (exprs_of x es) at v ≡ misfit at

@@ -18,12 +18,12 @@ use Rattle.qvt_types_nodes.specs.declared.tree.TypedExpr.TheOpen.{TypedStep-F}
 use Rattle.qvt_types_steps.specs.declared.iterators.IteratorKind.TheVariants as iterator
 use Rattle.qvt_run_rules.specs.Sources.{before_arrow}
 use Rattle.qvt_run_rules.specs.State.{Does, misfit}
-use Rattle.qvt_meaning.specs.Nodes as nodes
-use Rattle.qvt_meaning.specs.Phrases as phrase
-use Rattle.qvt_meaning.specs.Readings as by
-use Rattle.qvt_meaning.specs.StepTypes.{kind_before}
+use Rattle.qvt_exec_types.specs.Nodes as nodes
+use Rattle.qvt_exec_types.specs.Phrases as phrase
+use Rattle.qvt_exec_types.specs.Readings as by
+use Rattle.qvt_exec_types.specs.StepTypes.{kind_before}
 use Rattle.qvt_exec_leaves.specs.Heads.{iterates}
-use Rattle.qvt_exec_phrases.specs.Means.{Scene, expr_of, exprs_of, head_of, setting_of, step_of}
+use Rattle.qvt_exec_invocations.specs.Means.{Scene, expr_of, exprs_of, head_of, setting_of, step_of}
 use Rattle.qvt_exec_steps.proofs.Args.{no_body}
 use Rattle.qvt_exec_steps.proofs.Loops.{iterates_on}
 

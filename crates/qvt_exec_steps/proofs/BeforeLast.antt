@@ -9,11 +9,11 @@ use Rattle.qvt_types_data.specs.declared.ty.Ty.{Ty}
 use Rattle.qvt_types_nodes.specs.declared.tree.TypedExpr.{TypedExpr}
 use Rattle.qvt_types_nodes.specs.declared.tree.TypedStep.{TypedStep}
 use Rattle.qvt_types_nodes.specs.View.{typed_expr_view, typed_step_view, typed_steps_of}
-use Rattle.qvt_meaning.specs.Nodes as nodes
-use Rattle.qvt_meaning.specs.Phrases as phrase
-use Rattle.qvt_meaning.specs.Readings as by
-use Rattle.qvt_meaning.specs.Readings.{Setting}
-use Rattle.qvt_exec_phrases.specs.Means.{Scene, all_steps, expr_of, setting_of, steps_of}
+use Rattle.qvt_exec_types.specs.Nodes as nodes
+use Rattle.qvt_exec_types.specs.Phrases as phrase
+use Rattle.qvt_exec_types.specs.Readings as by
+use Rattle.qvt_exec_types.specs.Readings.{Setting}
+use Rattle.qvt_exec_invocations.specs.Means.{Scene, all_steps, expr_of, setting_of, steps_of}
 
 -- the steps before the last do what they do before it
 abbrev AreBefore : List TypedStep → List TypedStep → Type 0

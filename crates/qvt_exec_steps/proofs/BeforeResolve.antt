@@ -13,12 +13,12 @@ use Rattle.qvt_types_nodes.specs.declared.tree.TypedExpr.TheOpen.{TypedExpr-F}
 use Rattle.qvt_types_nodes.specs.declared.tree.TypedExpr.TheVariants as expressions
 use Rattle.qvt_types_nodes.specs.Tree.{TypedExprTerm, TypedStepTerm, TypedStmtTerm, TypedTargetTerm, TypedAccumulatorTerm, TypedArmTerm, TypedFilterTerm, TypedHeadTerm, TypedItemTerm, TypedLinkTerm, TypedMapTerm, TypedRangeTerm, TypedResolveTerm, TypedPostExpr}
 use Rattle.qvt_types_nodes.specs.View as view
-use Rattle.qvt_meaning.specs.Nodes as nodes
-use Rattle.qvt_meaning.specs.Phrases as phrase
-use Rattle.qvt_meaning.specs.Readings as by
-use Rattle.qvt_exec_state.specs.Runs.{Runs}
-use Rattle.qvt_exec_state.specs.declared.state.RunState.{RunState}
-use Rattle.qvt_exec_phrases.specs.Means.{Scene, all_steps, expr_of, late_source_of, setting_of, steps_of}
+use Rattle.qvt_exec_types.specs.Nodes as nodes
+use Rattle.qvt_exec_types.specs.Phrases as phrase
+use Rattle.qvt_exec_types.specs.Readings as by
+use Rattle.qvt_exec_leaves.specs.Runs.{Runs}
+use Rattle.qvt_exec_leaves.specs.declared.state.RunState.{RunState}
+use Rattle.qvt_exec_invocations.specs.Means.{Scene, all_steps, expr_of, late_source_of, setting_of, steps_of}
 
 post_view : (e : Box TypedExpr Global) (ss : List TypedStep) (at : Place) (n : Note) → view.typed_expr_view (expressions.Post e ss at n) ≡ TypedPostExpr (view.typed_expr_view e.value) (view.typed_steps_of (map view.typed_step_view ss)) at n
 post_view e ss at n = ap view.typed_expr_view (sym (expressions.rolls-Post e ss at n)) ∙ folds.fold-roll-TypedExpr TypedExprTerm TypedStepTerm TypedStmtTerm TypedTargetTerm TypedAccumulatorTerm TypedArmTerm TypedFilterTerm TypedHeadTerm TypedItemTerm TypedLinkTerm TypedMapTerm TypedRangeTerm TypedResolveTerm view.typed_expr_step view.typed_step_step view.typed_stmt_step view.typed_target_step view.typed_accumulator_step view.typed_arm_step view.typed_filter_step view.typed_head_step view.typed_item_step view.typed_link_step view.typed_map_step view.typed_range_step view.typed_resolve_step (TypedExpr-F.Post e ss at n)

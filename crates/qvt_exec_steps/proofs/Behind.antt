@@ -7,18 +7,18 @@ use Rattle.qvt_run_data.specs.declared.late.LateWrite.{LateWrite}
 use Rattle.qvt_run_rules.specs.State.{Does, Done, State, on_outcome}
 use Rattle.qvt_run_rules.specs.Expressions as rule
 use Rattle.qvt_run_data.specs.declared.exit.Halt.{Halt}
-use Rattle.qvt_exec_state.specs.Runs.{Runs}
-use Rattle.qvt_exec_state.specs.declared.state.RunState.{RunState}
+use Rattle.qvt_exec_leaves.specs.Runs.{Runs}
+use Rattle.qvt_exec_leaves.specs.declared.state.RunState.{RunState}
 use Rattle.qvt_exec_types.specs.Post as post
 use Rattle.qvt_exec_types.specs.Post.{Post}
 use Rattle.qvt_exec_leaves.proofs.Ends.{ends}
 use Rattle.qvt_types_data.specs.declared.ty.Ty.{Ty}
 use Rattle.qvt_types_nodes.specs.declared.tree.TypedStep.{TypedStep}
 use Rattle.qvt_types_nodes.specs.View.{typed_step_view}
-use Rattle.qvt_meaning.specs.Phrases as phrase
-use Rattle.qvt_meaning.specs.StepTypes.{step_type}
+use Rattle.qvt_exec_types.specs.Phrases as phrase
+use Rattle.qvt_exec_types.specs.StepTypes.{step_type}
 use Rattle.qvt_exec_types.specs.Types.{type_before}
-use Rattle.qvt_exec_phrases.specs.Means.{Scene, program_of, step_of, steps_of}
+use Rattle.qvt_exec_invocations.specs.Means.{Scene, program_of, step_of, steps_of}
 
 -- the type before a step
 abbrev pub type_at : Scene → Option Ty → List TypedStep → ℕ → Option Ty

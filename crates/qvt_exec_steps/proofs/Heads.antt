@@ -11,9 +11,9 @@ use Rattle.qvt_types_nodes.specs.declared.tree.TypedExpr.TheFolds as folds
 use Rattle.qvt_run_rules.specs.Cost.{spend_of}
 use Rattle.qvt_run_rules.specs.Iterators as each
 use Rattle.qvt_run_rules.specs.State.{Does, misfit}
-use Rattle.qvt_meaning.specs.Phrases as phrase
-use Rattle.qvt_meaning.specs.Readings as by
-use Rattle.qvt_exec_phrases.specs.Means.{Scene, expr_of, head_of, setting_of}
+use Rattle.qvt_exec_types.specs.Phrases as phrase
+use Rattle.qvt_exec_types.specs.Readings as by
+use Rattle.qvt_exec_invocations.specs.Means.{Scene, expr_of, head_of, setting_of}
 
 head_view_is : (h : TypedHead) → view.typed_head_view h ≡ TypedHeadOf (out-TypedHead h).name (view.typed_optional_type (out-TypedHead h).kind) (view.typed_optional_accumulator (option_map view.typed_accumulator_view (out-TypedHead h).accumulator)) (out-TypedHead h).place (out-TypedHead h).note
 head_view_is h = folds.fold_out-TypedHead TypedExprTerm TypedStepTerm TypedStmtTerm TypedTargetTerm TypedAccumulatorTerm TypedArmTerm TypedFilterTerm TypedHeadTerm TypedItemTerm TypedLinkTerm TypedMapTerm TypedRangeTerm TypedResolveTerm view.typed_expr_step view.typed_step_step view.typed_stmt_step view.typed_target_step view.typed_accumulator_step view.typed_arm_step view.typed_filter_step view.typed_head_step view.typed_item_step view.typed_link_step view.typed_map_step view.typed_range_step view.typed_resolve_step h ∙ (grind arith)

@@ -8,13 +8,13 @@ use Rattle.qvt_run_data.specs.declared.late.LateWrite.{LateWrite}
 use Rattle.qvt_run_rules.specs.State.{Does}
 use Rattle.qvt_run_rules.specs.Cost.{spend_of}
 use Rattle.qvt_run_rules.specs.Iterators as each
-use Rattle.qvt_meaning.specs.Readings as by
-use Rattle.qvt_meaning.specs.Readings.{HeadDoes}
+use Rattle.qvt_exec_types.specs.Readings as by
+use Rattle.qvt_exec_types.specs.Readings.{HeadDoes}
 use Rattle.qvt_exec_leaves.specs.Heads.{is_iterate, iterates, name_in, name_of}
 use Rattle.qvt_exec_loops.specs.Laws.{by_turns}
 use Rattle.qvt_exec_steps.specs.Loops.{named_alone}
-use Rattle.qvt_exec_phrases.specs.Means.{Scene, head_of, setting_of}
-use Rattle.qvt_meaning.specs.Phrases as phrase
+use Rattle.qvt_exec_invocations.specs.Means.{Scene, head_of, setting_of}
+use Rattle.qvt_exec_types.specs.Phrases as phrase
 use Rattle.qvt_types_nodes.specs.Tree.{TypedHeadTerm, TypedNoHead, TypedHeadOf}
 use Rattle.qvt_types_nodes.specs.View.{typed_head_view, typed_optional_head}
 use Rattle.qvt_types_nodes.specs.declared.tree.TypedHead.{TypedHead}

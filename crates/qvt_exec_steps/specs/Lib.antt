@@ -1,1 +1,3 @@
+pub use Rattle.qvt_exec_invocations.specs.Means
+pub use Rattle.qvt_exec_invocations.specs.Units
 pub mod Loops

@@ -7,7 +7,7 @@ use Rattle.qvt_run_rules.specs.State.{Does}
 use Rattle.qvt_run_rules.specs.Locals as local
 use Rattle.qvt_run_rules.specs.Sources.{over_items, unless_invalid}
 use Rattle.qvt_run_rules.specs.Iterators.{iterate_from}
-use Rattle.qvt_meaning.specs.Readings.{HeadDoes}
+use Rattle.qvt_exec_types.specs.Readings.{HeadDoes}
 
 -- `iterate` behind its first value
 abbrev pub iterated_from : Place → Option (List ℕ) → List ℕ → Does LateWrite Value → Value → Value → Does LateWrite Value

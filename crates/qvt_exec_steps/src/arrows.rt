@@ -5,10 +5,10 @@ ghost use Rattle.std.specs.Option.{option_copied};
 ghost use Rattle.qvt_run_rules.specs.Cost.{spend_of};
 ghost use Rattle.qvt_run_rules.specs.Iterators as each;
 ghost use Rattle.qvt_types_nodes.specs.View.{typed_expr_view, typed_exprs_of};
-ghost use Rattle.qvt_meaning.specs.Nodes as nodes;
-ghost use Rattle.qvt_meaning.specs.Readings as by;
-ghost use Rattle.qvt_exec_state.specs.Runs.{Runs, seen};
-ghost use Rattle.qvt_exec_phrases.specs.Means.{expr_of, exprs_of, head_of, setting_of};
+ghost use Rattle.qvt_exec_types.specs.Nodes as nodes;
+ghost use Rattle.qvt_exec_types.specs.Readings as by;
+ghost use Rattle.qvt_exec_leaves.specs.Runs.{Runs, seen};
+ghost use Rattle.qvt_exec_invocations.specs.Means.{expr_of, exprs_of, head_of, setting_of};
 ghost use Rattle.qvt_exec_steps.specs.Loops.{named_alone};
 
 use crate::closures::closure;
@@ -17,13 +17,13 @@ use crate::operations::operation_by;
 use crate::sources::Iteration;
 use qvt_base::numbers::Place;
 use qvt_base::text::Text;
-use qvt_exec_calls::units::ReadyUnits;
+use qvt_exec_invocations::engine::Engine;
+use qvt_exec_invocations::nested::{Nested, expr};
+use qvt_exec_invocations::units::ReadyUnits;
 use qvt_exec_leaves::nodes::{class_argument, iterates, name_in};
+use qvt_exec_leaves::state::RunState;
 use qvt_exec_leaves::steps::selection;
-use qvt_exec_phrases::engine::Engine;
-use qvt_exec_phrases::nested::{Nested, expr};
-use qvt_exec_state::state::RunState;
-use qvt_exec_state::steps::{misfit, tick};
+use qvt_exec_loops::steps::{misfit, tick};
 use qvt_run_data::exit::Halt;
 use qvt_types_nodes::tree::{TypedExpr, TypedHead};
 use qvt_types_steps::classes::is_selection;
@@ -50,7 +50,7 @@ fn iterator<C: Nested>(
 }
 
 /// A step that has no accumulator, on the collection that it goes over.
-#[tactic(auto, using(crate::proofs::Args::no_body), unfolding(qvt_exec_phrases::specs::Means::exprs_of, qvt_exec_phrases::specs::Means::expr_of, qvt_meaning::specs::Phrases::exprs))]
+#[tactic(auto, using(crate::proofs::Args::no_body), unfolding(qvt_exec_invocations::specs::Means::exprs_of, qvt_exec_invocations::specs::Means::expr_of, qvt_exec_types::specs::Phrases::exprs))]
 fn arrow_on<C: Nested>(
     x: &Engine<'_>,
     units: &ReadyUnits<C>,

@@ -3,21 +3,21 @@
 ghost use Rattle.std.specs.Option.{option_copied};
 ghost use Rattle.qvt_run_rules.specs.Cost.{spend_of};
 ghost use Rattle.qvt_run_rules.specs.Iterators as each;
-ghost use Rattle.qvt_exec_state.specs.Runs.{Runs, seen};
+ghost use Rattle.qvt_exec_leaves.specs.Runs.{Runs, seen};
 ghost use Rattle.qvt_exec_loops.specs.Laws.{by_turns};
 ghost use Rattle.qvt_exec_loops.specs.Turns.{rest_of};
-ghost use Rattle.qvt_exec_phrases.specs.Means.{expr_of};
+ghost use Rattle.qvt_exec_invocations.specs.Means.{expr_of};
 ghost use Rattle.qvt_exec_steps.specs.Loops.{iterate_once, iterated_from};
 
 use crate::sources::Iteration;
 use qvt_base::copied::Copied;
 use qvt_base::text::Text;
-use qvt_exec_calls::units::ReadyUnits;
+use qvt_exec_invocations::engine::Engine;
+use qvt_exec_invocations::nested::{Nested, expr};
+use qvt_exec_invocations::units::ReadyUnits;
+use qvt_exec_leaves::state::RunState;
+use qvt_exec_loops::steps::{bind, bind_named, misfit, tick};
 use qvt_exec_loops::turns::Turns;
-use qvt_exec_phrases::engine::Engine;
-use qvt_exec_phrases::nested::{Nested, expr};
-use qvt_exec_state::state::RunState;
-use qvt_exec_state::steps::{bind, bind_named, misfit, tick};
 use qvt_ocl::operands::is_invalid;
 use qvt_run_data::exit::Halt;
 use qvt_types_nodes::tree::TypedExpr;

@@ -1,19 +1,19 @@
 //! What a late resolve stands behind.
 
 ghost use Rattle.qvt_types_nodes.specs.View.{typed_expr_view};
-ghost use Rattle.qvt_meaning.specs.Nodes as nodes;
-ghost use Rattle.qvt_meaning.specs.Phrases.{but_last, some_value};
-ghost use Rattle.qvt_meaning.specs.Readings as by;
-ghost use Rattle.qvt_exec_state.specs.Runs.{Runs, seen};
-ghost use Rattle.qvt_exec_phrases.specs.Means.{all_steps, expr_of, late_source_of, setting_of, steps_of};
+ghost use Rattle.qvt_exec_types.specs.Nodes as nodes;
+ghost use Rattle.qvt_exec_types.specs.Phrases.{but_last, some_value};
+ghost use Rattle.qvt_exec_types.specs.Readings as by;
+ghost use Rattle.qvt_exec_leaves.specs.Runs.{Runs, seen};
+ghost use Rattle.qvt_exec_invocations.specs.Means.{all_steps, expr_of, late_source_of, setting_of, steps_of};
 
 use crate::posts::post;
 use qvt_base::numbers::Place;
-use qvt_exec_calls::units::ReadyUnits;
-use qvt_exec_phrases::engine::Engine;
-use qvt_exec_phrases::nested::Nested;
-use qvt_exec_resolves::nodes::before_last;
-use qvt_exec_state::state::RunState;
+use qvt_exec_invocations::engine::Engine;
+use qvt_exec_invocations::nested::Nested;
+use qvt_exec_invocations::nodes::before_last;
+use qvt_exec_invocations::units::ReadyUnits;
+use qvt_exec_leaves::state::RunState;
 use qvt_run_data::exit::Halt;
 use qvt_types_nodes::tree::{TypedExpr, TypedStep};
 use qvt_value::value::Value;
@@ -34,7 +34,7 @@ fn without_last<C: Nested>(
 }
 
 /// What stands before the late resolve that ends an expression.
-#[tactic(auto, unfolding(qvt_exec_phrases::specs::Means::late_source_of, qvt_exec_phrases::specs::Means::expr_of, qvt_exec_phrases::specs::Means::steps_of, qvt_meaning::specs::Phrases::late_source))]
+#[tactic(auto, unfolding(qvt_exec_invocations::specs::Means::late_source_of, qvt_exec_invocations::specs::Means::expr_of, qvt_exec_invocations::specs::Means::steps_of, qvt_exec_types::specs::Phrases::late_source))]
 pub fn late_source<C: Nested>(
     x: &Engine<'_>,
     units: &ReadyUnits<C>,

@@ -10,3 +10,6 @@ pub mod posts;
 mod sources;
 pub mod steps;
 pub mod values;
+
+pub use qvt_exec_invocations::{calls, engine, nested, objects, resolves, units};
+pub use qvt_exec_types::nodes;

@@ -4,19 +4,19 @@ ghost use Rattle.std.specs.Prelude.{drop};
 ghost use Rattle.qvt_types_nodes.specs.View.{typed_expr_view};
 ghost use Rattle.qvt_run_rules.specs.Cost.{spend_of};
 ghost use Rattle.qvt_run_rules.specs.Expressions as rule;
-ghost use Rattle.qvt_meaning.specs.Nodes as nodes;
-ghost use Rattle.qvt_meaning.specs.Readings as by;
-ghost use Rattle.qvt_exec_state.specs.Runs.{Runs, seen};
-ghost use Rattle.qvt_exec_phrases.specs.Means.{all_steps, expr_of, setting_of, steps_of};
+ghost use Rattle.qvt_exec_types.specs.Nodes as nodes;
+ghost use Rattle.qvt_exec_types.specs.Readings as by;
+ghost use Rattle.qvt_exec_leaves.specs.Runs.{Runs, seen};
+ghost use Rattle.qvt_exec_invocations.specs.Means.{all_steps, expr_of, setting_of, steps_of};
 
 use crate::steps::steps_from;
 use qvt_base::numbers::Place;
-use qvt_exec_calls::units::ReadyUnits;
+use qvt_exec_invocations::engine::Engine;
+use qvt_exec_invocations::nested::{Nested, expr};
+use qvt_exec_invocations::units::ReadyUnits;
 use qvt_exec_leaves::nodes::model_named;
+use qvt_exec_leaves::state::RunState;
 use qvt_exec_leaves::steps::model_first;
-use qvt_exec_phrases::engine::Engine;
-use qvt_exec_phrases::nested::{Nested, expr};
-use qvt_exec_state::state::RunState;
 use qvt_exec_types::nodes::note_of;
 use qvt_run_data::exit::Halt;
 use qvt_types_data::ty::Ty;
@@ -24,7 +24,7 @@ use qvt_types_nodes::tree::{TypedExpr, TypedStep};
 use qvt_value::value::Value;
 
 /// A first part with some of the steps behind it, all of which are given too.
-#[tactic(auto, unfolding(qvt_run_rules::specs::Expressions::on_first, qvt_exec_phrases::specs::Means::steps_of))]
+#[tactic(auto, unfolding(qvt_run_rules::specs::Expressions::on_first, qvt_exec_invocations::specs::Means::steps_of))]
 pub fn post<C: Nested>(
     x: &Engine<'_>,
     units: &ReadyUnits<C>,

@@ -2,14 +2,14 @@
 
 ghost use Rattle.std.specs.Prelude.{◌≡◌, IfOk};
 ghost use Rattle.qvt_run_rules.specs.Sources.{before_arrow};
-ghost use Rattle.qvt_meaning.specs.StepTypes.{kind_before};
+ghost use Rattle.qvt_exec_types.specs.StepTypes.{kind_before};
 ghost use Rattle.qvt_exec_types.specs.Post.{post_of, type_at};
 
 use qvt_base::list_fault::ListFault;
 use qvt_base::numbers::Place;
 use qvt_base::text::Text;
+use qvt_exec_leaves::sources::before_arrow;
 use qvt_exec_types::before::Before;
-use qvt_exec_words::sources::before_arrow;
 use qvt_ocl_lists::items::is_null;
 use qvt_value::value::{Kind, Value};
 use std::alloc::Global;

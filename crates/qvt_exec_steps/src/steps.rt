@@ -3,25 +3,25 @@
 ghost use Rattle.std.specs.Prelude.{◌≡◌, drop, map};
 ghost use Rattle.qvt_types_nodes.specs.View.{typed_expr_view, typed_exprs_of};
 ghost use Rattle.qvt_run_rules.specs.Expressions as rule;
-ghost use Rattle.qvt_meaning.specs.Nodes as nodes;
-ghost use Rattle.qvt_meaning.specs.Readings as by;
+ghost use Rattle.qvt_exec_types.specs.Nodes as nodes;
+ghost use Rattle.qvt_exec_types.specs.Readings as by;
 ghost use Rattle.qvt_exec_types.specs.Post.{post_of, type_at};
-ghost use Rattle.qvt_exec_state.specs.Runs.{Runs, seen};
-ghost use Rattle.qvt_exec_phrases.specs.Means.{exprs_of, map_step_of, setting_of, step_of, steps_of};
+ghost use Rattle.qvt_exec_leaves.specs.Runs.{Runs, seen};
+ghost use Rattle.qvt_exec_invocations.specs.Means.{exprs_of, map_step_of, setting_of, step_of, steps_of};
 
 use crate::arrows::arrow;
 use crate::operations::operation_step;
 use crate::sources::arrow_source;
 use qvt_base::numbers::Place;
 use qvt_base::text::Text;
-use qvt_exec_calls::units::ReadyUnits;
 use qvt_exec_invocations::calls::{Call, map_step, unit_step};
+use qvt_exec_invocations::engine::Engine;
+use qvt_exec_invocations::nested::{Nested, program};
 use qvt_exec_invocations::resolves::resolve_step;
+use qvt_exec_invocations::units::ReadyUnits;
+use qvt_exec_leaves::state::RunState;
 use qvt_exec_leaves::steps::property_by;
-use qvt_exec_phrases::engine::Engine;
-use qvt_exec_phrases::nested::{Nested, program};
-use qvt_exec_state::state::RunState;
-use qvt_exec_state::steps::misfit;
+use qvt_exec_loops::steps::misfit;
 use qvt_exec_types::before::Before;
 use qvt_run_data::exit::Halt;
 use qvt_types_data::note::{Note, Reading};
@@ -52,7 +52,7 @@ fn dot_by<C: Nested>(
 }
 
 /// A mapping over all objects of its source, or on one.
-#[tactic(auto, unfolding(qvt_exec_phrases::specs::Means::map_step_of, qvt_exec_phrases::specs::Means::exprs_of, qvt_meaning::specs::Phrases::map_step))]
+#[tactic(auto, unfolding(qvt_exec_invocations::specs::Means::map_step_of, qvt_exec_invocations::specs::Means::exprs_of, qvt_exec_types::specs::Phrases::map_step))]
 fn mapped<C: Nested>(
     x: &Engine<'_>,
     units: &ReadyUnits<C>,
@@ -73,7 +73,7 @@ fn mapped<C: Nested>(
 }
 
 /// A step, behind the type before it.
-#[tactic(auto, unfolding(qvt_exec_phrases::specs::Means::step_of, qvt_exec_phrases::specs::Means::exprs_of, qvt_exec_phrases::specs::Means::head_of, qvt_exec_phrases::specs::Means::map_step_of, qvt_meaning::specs::Phrases::step, qvt_meaning::specs::Phrases::dot_step))]
+#[tactic(auto, unfolding(qvt_exec_invocations::specs::Means::step_of, qvt_exec_invocations::specs::Means::exprs_of, qvt_exec_invocations::specs::Means::head_of, qvt_exec_invocations::specs::Means::map_step_of, qvt_exec_types::specs::Phrases::step, qvt_exec_types::specs::Phrases::dot_step))]
 fn step<C: Nested>(
     x: &Engine<'_>,
     units: &ReadyUnits<C>,

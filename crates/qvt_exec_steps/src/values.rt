@@ -1,20 +1,20 @@
 //! Arguments.
 
 ghost use Rattle.qvt_run_rules.specs.Expressions as rule;
-ghost use Rattle.qvt_exec_state.specs.Runs.{Runs, seen};
-ghost use Rattle.qvt_exec_phrases.specs.Means.{exprs_of};
+ghost use Rattle.qvt_exec_leaves.specs.Runs.{Runs, seen};
+ghost use Rattle.qvt_exec_invocations.specs.Means.{exprs_of};
 
 use qvt_base::seq::Seq;
-use qvt_exec_calls::units::ReadyUnits;
-use qvt_exec_phrases::engine::Engine;
-use qvt_exec_phrases::nested::{Nested, expr};
-use qvt_exec_state::state::RunState;
+use qvt_exec_invocations::engine::Engine;
+use qvt_exec_invocations::nested::{Nested, expr};
+use qvt_exec_invocations::units::ReadyUnits;
+use qvt_exec_leaves::state::RunState;
 use qvt_run_data::exit::Halt;
 use qvt_types_nodes::tree::TypedExpr;
 use qvt_value::value::Values;
 
 /// The values of expressions, one after another.
-#[tactic(auto, unfolding(qvt_exec_phrases::specs::Means::exprs_of, qvt_exec_phrases::specs::Means::expr_of, qvt_meaning::specs::Phrases::exprs))]
+#[tactic(auto, unfolding(qvt_exec_invocations::specs::Means::exprs_of, qvt_exec_invocations::specs::Means::expr_of, qvt_exec_types::specs::Phrases::exprs))]
 pub fn values<C: Nested>(
     x: &Engine<'_>,
     units: &ReadyUnits<C>,

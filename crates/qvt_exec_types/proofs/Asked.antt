@@ -3,10 +3,10 @@ use Rattle.std.proofs.Common.{◌≡◌, ◌∙◌, ℕ, Bool, true, false, List
 use Rattle.qvt_types_data.specs.declared.ty.Ty.{Ty}
 use Rattle.qvt_types_data.specs.declared.ruling.Ruling.{Ruling}
 use Rattle.qvt_types_program.specs.Program.{heads_in}
-use Rattle.qvt_typing.specs.Accepts.{ProgramTerm}
-use Rattle.qvt_typing.specs.Calls.{called_behind, unit_ruled, map_ruled}
-use Rattle.qvt_typing.specs.Context.{Heads}
-use Rattle.qvt_typing.specs.declared.parts.Called.{Called}
+use Rattle.qvt_types_program.specs.Accepts.{ProgramTerm}
+use Rattle.qvt_meaning.specs.Calls.{called_behind, unit_ruled, map_ruled}
+use Rattle.qvt_types_program.specs.Context.{Heads}
+use Rattle.qvt_meaning.specs.declared.parts.Called.{Called}
 use Rattle.qvt_meaning.specs.StepTypes.{answer_of}
 
 pub unit_asked : (p : ProgramTerm) (h : Heads) (name : List ℕ) (o : Option Ty) (us : Option (List Ty)) → h ≡ heads_in p

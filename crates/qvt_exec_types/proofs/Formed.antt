@@ -7,7 +7,7 @@ use Rattle.qvt_types_nodes.specs.Tree.{TypedFilterTerm}
 use Rattle.qvt_types_steps.specs.Resolving.{resolve}
 use Rattle.qvt_types_steps.specs.declared.classes.ClassPart.{ClassPart}
 use Rattle.qvt_types_steps.specs.declared.resolves.Joint.TheVariants.{Sourceless}
-use Rattle.qvt_typing.specs.Accepts.{ProgramTerm}
+use Rattle.qvt_types_program.specs.Accepts.{ProgramTerm}
 use Rattle.qvt_meaning.specs.Program.{class_for, form_with}
 use Rattle.qvt_meaning.specs.StepTypes.{answer_of, class_part, form_type}
 

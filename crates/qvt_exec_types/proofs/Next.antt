@@ -4,7 +4,7 @@ use Rattle.std.proofs.lemmas.List.{take_more}
 use Rattle.std.proofs.lemmas.List.Sums.{fold-append}
 use Rattle.qvt_types_data.specs.declared.ty.Ty.{Ty}
 use Rattle.qvt_types_nodes.specs.Tree.{TypedStepTerm}
-use Rattle.qvt_typing.specs.Accepts.{ProgramTerm}
+use Rattle.qvt_types_program.specs.Accepts.{ProgramTerm}
 use Rattle.qvt_meaning.specs.StepTypes.{step_type}
 use Rattle.qvt_exec_types.specs.Types.{next_type, type_after, type_before}
 

@@ -4,7 +4,7 @@ use Rattle.qvt_types_data.specs.declared.ty.Ty.{Ty}
 use Rattle.qvt_types_nodes.specs.Tree.{TypedStepTerm}
 use Rattle.qvt_types_nodes.specs.View.{typed_step_view}
 use Rattle.qvt_types_program.specs.Program.{program_view}
-use Rattle.qvt_typing.specs.Accepts.{ProgramTerm}
+use Rattle.qvt_types_program.specs.Accepts.{ProgramTerm}
 use Rattle.qvt_exec_types.specs.Types.{type_before}
 use Rattle.qvt_exec_types.specs.declared.before.Before.{Before}
 

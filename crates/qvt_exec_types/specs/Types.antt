@@ -3,7 +3,7 @@ use Rattle.std.specs.Prelude.{ℕ, List, take, Option}
 use Rattle.std.specs.List.{fold}
 use Rattle.qvt_types_data.specs.declared.ty.Ty.{Ty}
 use Rattle.qvt_types_nodes.specs.Tree.{TypedStepTerm}
-use Rattle.qvt_typing.specs.Accepts.{ProgramTerm}
+use Rattle.qvt_types_program.specs.Accepts.{ProgramTerm}
 use Rattle.qvt_meaning.specs.StepTypes.{step_type}
 
 abbrev pub next_type : ProgramTerm → Option Ty → TypedStepTerm → Option Ty

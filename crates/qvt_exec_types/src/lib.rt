@@ -6,3 +6,5 @@ pub mod before;
 pub mod nodes;
 pub mod resolves;
 pub mod steps;
+
+pub use qvt_types_program::program;

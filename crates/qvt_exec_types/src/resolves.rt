@@ -10,15 +10,15 @@ use crate::nodes::{answer_of, class_in, written_type};
 use qvt_base::list_fault::ListFault;
 use qvt_base::numbers::MappingNo;
 use qvt_tree_types::words::ResolveWord;
-use qvt_types_context::calls::{no_unit, unit_at};
 use qvt_types_data::note::Reading;
 use qvt_types_data::ty::Ty;
 use qvt_types_nodes::tree::{TypedFilter, TypedResolveCall};
 use qvt_types_nodes::types::TypedPathTree;
+use qvt_types_program::calls::{no_unit, unit_at};
 use qvt_types_program::program::Program;
+use qvt_types_program::signature::{HeadClass, Signature};
 use qvt_types_steps::classes::ClassPart;
 use qvt_types_steps::resolves::{Joint, resolve};
-use qvt_types_units::signature::{HeadClass, Signature};
 use std::alloc::Global;
 
 /// The mapping of a list that has one alone.

@@ -5,7 +5,7 @@ ghost use Rattle.qvt_types_nodes.specs.View.{typed_expr_view, typed_exprs_of, ty
 ghost use Rattle.qvt_types_program.specs.Program.{program_view};
 ghost use Rattle.qvt_types_steps.specs.Classes as classes;
 ghost use Rattle.qvt_types_steps.specs.Properties as properties;
-ghost use Rattle.qvt_typing.specs.Calls as calls;
+ghost use Rattle.qvt_meaning.specs.Calls as calls;
 ghost use Rattle.qvt_meaning.specs.Nodes as nodes;
 ghost use Rattle.qvt_meaning.specs.StepTypes as types;
 
@@ -14,10 +14,10 @@ use crate::nodes::answer_of;
 use crate::resolves::resolved_type;
 use qvt_base::list_fault::ListFault;
 use qvt_base::text::Text;
-use qvt_types_context::calls::{called_behind, map_ruled, unit_ruled};
 use qvt_types_data::note::Reading;
 use qvt_types_data::ty::Ty;
 use qvt_types_nodes::tree::{TypedExpr, TypedHead, TypedMapCall, TypedStep};
+use qvt_types_program::calls::{called_behind, map_ruled, unit_ruled};
 use qvt_types_program::program::Program;
 use qvt_types_steps::arrows::arrow;
 use qvt_types_steps::calls::dot_call;

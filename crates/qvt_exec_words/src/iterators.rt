@@ -3,7 +3,7 @@
 ghost use Rattle.std.specs.Prelude.{◌≡◌, IfOk};
 ghost use Rattle.std.specs.List.{list_all};
 ghost use Rattle.qvt_ocl_words.specs.Lists.{is_integer, is_string};
-ghost use Rattle.qvt_run_data.specs.declared.keyed.Keyed.{Keyed as Item};
+ghost use Rattle.qvt_run_rules.specs.declared.keyed.Keyed.{Keyed as Item};
 ghost use Rattle.qvt_run_rules.specs.Iterators.{all_differ, key_order, are_keys, items_sorted, by_keys};
 ghost use Rattle.qvt_value.specs.Kept.{sorted};
 
@@ -13,7 +13,7 @@ use qvt_base::list_fault::ListFault;
 use qvt_base::numbers::Place;
 use qvt_base::seq::Seq;
 use qvt_ocl_lists::counts::Counts;
-use qvt_run_data::keyed::Keyed;
+use qvt_run_rules::keyed::Keyed;
 use qvt_value::order::compare;
 use qvt_value::value::{Kind, Value, Values};
 use std::alloc::Global;

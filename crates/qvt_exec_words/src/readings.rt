@@ -3,8 +3,8 @@
 ghost use Rattle.std.specs.Prelude.{◌≡◌};
 ghost use Rattle.qvt_run_rules.specs.Questions.{object_test, model_query, named_query};
 
-use qvt_run_data::questions::{ModelQuery, ObjectTest};
-use qvt_types_steps::classes::{ClassTest, ModelCall};
+use qvt_run_rules::classes::{ClassTest, ModelCall};
+use qvt_run_rules::questions::{ModelQuery, ObjectTest};
 
 /// The question that a test or cast asks of objects.
 pub fn object_test(test: ClassTest) -> ObjectTest

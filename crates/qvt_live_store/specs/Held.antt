@@ -1,5 +1,5 @@
 -- What a store has that is held or lent.
-use Rattle.qvt_slots.specs.Contents.{Contents}
+use Rattle.qvt_store.specs.Contents.{Contents}
 use Rattle.qvt_live_store.specs.declared.held.Held.{Held}
 use Rattle.qvt_live_store.specs.declared.held.Held.TheVariants.{Lent, Own}
 

@@ -1,17 +1,17 @@
 //! A store that is held, or lent to be read.
 
 ghost use Rattle.std.specs.Prelude.{◌≡◌, ◌≢◌, ◌<◌, length, Ok, Err, IfOk, IfErr, OnOk, OnErr};
-ghost use Rattle.qvt_slots.specs.Contents.{with_new};
-ghost use Rattle.qvt_slots.specs.Types.{IsAssignable};
-ghost use Rattle.qvt_slots.specs.Assign.{write};
+ghost use Rattle.qvt_store.specs.Contents.{with_new};
+ghost use Rattle.qvt_store.specs.Types.{IsAssignable};
+ghost use Rattle.qvt_store.specs.Assign.{write};
 ghost use Rattle.qvt_store.specs.Fault.{IsAddFault};
-ghost use Rattle.qvt_store_laws.specs.Sound.{IsClassFor};
+ghost use Rattle.qvt_store.specs.Sound.{IsClassFor};
 ghost use Rattle.qvt_live_store.specs.Held.{contents_of};
 
 use crate::live::LiveStore;
 use qvt_base::numbers::{ClassNo, FeatureNo, Oid};
-use qvt_slots::fault::StoreFault;
-use qvt_slots::op::SetOp;
+use qvt_store::fault::StoreFault;
+use qvt_store::op::SetOp;
 use qvt_store::store::Store;
 use qvt_value::value::Value;
 

@@ -3,3 +3,5 @@
 
 pub mod held;
 pub mod live;
+
+pub use qvt_store::store;

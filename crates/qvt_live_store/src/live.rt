@@ -1,15 +1,15 @@
 //! A store that is sound.
 
 ghost use Rattle.std.specs.Prelude.{◌≡◌, ◌≢◌, ◌<◌, length, Ok, Err, IfOk, IfErr, OnOk, OnErr};
-ghost use Rattle.qvt_slots.specs.Contents.{with_new};
-ghost use Rattle.qvt_slots.specs.Types.{IsAssignable};
-ghost use Rattle.qvt_slots.specs.Assign.{write};
+ghost use Rattle.qvt_store.specs.Contents.{with_new};
+ghost use Rattle.qvt_store.specs.Types.{IsAssignable};
+ghost use Rattle.qvt_store.specs.Assign.{write};
 ghost use Rattle.qvt_store.specs.Fault.{IsAddFault};
-ghost use Rattle.qvt_store_laws.specs.Sound.{IsClassFor, Sound};
+ghost use Rattle.qvt_store.specs.Sound.{IsClassFor, Sound};
 
 use qvt_base::numbers::{ClassNo, FeatureNo, Oid};
-use qvt_slots::fault::StoreFault;
-use qvt_slots::op::SetOp;
+use qvt_store::fault::StoreFault;
+use qvt_store::op::SetOp;
 use qvt_store::store::Store;
 use qvt_value::value::Value;
 use std::marker::Model;
@@ -26,8 +26,8 @@ impl Drop for LiveStore {
 }
 
 impl Model for LiveStore {
-    ghost use Rattle.qvt_slots.specs.Contents.{Contents};
-    ghost use Rattle.qvt_store_laws.specs.Sound.{Sound};
+    ghost use Rattle.qvt_store.specs.Contents.{Contents};
+    ghost use Rattle.qvt_store.specs.Sound.{Sound};
     ghost use Rattle.std.specs.Coded.{codes};
     ghost use Rattle.qvt_value.specs.contracts.value.Value as value;
 

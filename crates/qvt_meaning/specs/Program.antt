@@ -12,13 +12,13 @@ use Rattle.qvt_types_data.specs.declared.note.Reading.TheVariants as reading
 use Rattle.qvt_types_nodes.specs.declared.types.TypedPathTree.{TypedPathTree}
 use Rattle.qvt_types_nodes.specs.Tree.{TypedOptionalExpr, TypedNoExpr, TypedSomeExpr, TypedResolveTerm, TypedResolveOf, TypedFilterTerm, TypedNoFilter, TypedFilterOf}
 use Rattle.qvt_types_nodes.specs.Module.{TypedMappingTerm, TypedUnitTerm, TypedMappingOf}
-use Rattle.qvt_types_units.specs.declared.signature.HeadClass.{HeadClass}
-use Rattle.qvt_types_units.specs.declared.signature.HeadClass.TheVariants as head
-use Rattle.qvt_types_units.specs.declared.signature.Signature.{Signature}
-use Rattle.qvt_types_units.specs.declared.signature.UnitSort.{UnitSort}
-use Rattle.qvt_types_units.specs.declared.signature.UnitSort.TheVariants as sort
-use Rattle.qvt_types_units.specs.Choice as units
-use Rattle.qvt_types_units.specs.Numbers.{unit_at, has_context}
+use Rattle.qvt_typing.specs.declared.signature.HeadClass.{HeadClass}
+use Rattle.qvt_typing.specs.declared.signature.HeadClass.TheVariants as head
+use Rattle.qvt_typing.specs.declared.signature.Signature.{Signature}
+use Rattle.qvt_typing.specs.declared.signature.UnitSort.{UnitSort}
+use Rattle.qvt_typing.specs.declared.signature.UnitSort.TheVariants as sort
+use Rattle.qvt_typing.specs.Choice as units
+use Rattle.qvt_typing.specs.Numbers.{unit_at, has_context}
 use Rattle.qvt_typing.specs.Accepts.{ProgramTerm}
 use Rattle.qvt_slots.specs.Contents.{Contents, class_of, is_live}
 use Rattle.qvt_run_data.specs.declared.callee.Callee.{Callee}

@@ -20,9 +20,9 @@ use Rattle.qvt_types_steps.specs.declared.classes.ClassTest.{ClassTest}
 use Rattle.qvt_types_steps.specs.IteratorTable.{iterator_named}
 use Rattle.qvt_types_steps.specs.declared.iterators.IteratorKind.{IteratorKind}
 use Rattle.qvt_types_steps.specs.declared.iterators.IteratorKind.TheVariants as iterator
-use Rattle.qvt_types_units.specs.Numbers.{constructor_of}
-use Rattle.qvt_types_words.specs.OperationNames.{operation_named}
-use Rattle.qvt_types_words.specs.Rulings.{operation_of}
+use Rattle.qvt_typing.specs.Numbers.{constructor_of}
+use Rattle.qvt_types_steps.specs.OperationNames.{operation_named}
+use Rattle.qvt_types_steps.specs.Rulings.{operation_of}
 use Rattle.qvt_typing.specs.Accepts.{ProgramTerm}
 use Rattle.qvt_value.specs.declared.value.Value.{Value, Enum}
 use Rattle.qvt_value.specs.declared.value.Kind.{Kind}

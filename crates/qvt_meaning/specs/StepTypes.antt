@@ -7,7 +7,7 @@ use Rattle.qvt_types_data.specs.declared.ruling.Ruling.{Ruling}
 use Rattle.qvt_types_data.specs.declared.ruling.Ruling.TheVariants.{Holds, Fails, Silent}
 use Rattle.qvt_types_data.specs.declared.ty.Ty.{Ty}
 use Rattle.qvt_types_nodes.specs.Tree.{TypedExprTerms, TypedNoExprs, TypedMoreExprs, TypedNoArgs, TypedSomeArgs, TypedMapTerm, TypedMapOf, TypedResolveTerm, TypedResolveOf, TypedHeadTerm, TypedNoHead, TypedHeadOf, TypedNoAccumulator, TypedAccumulatorOf, TypedStepTerm, TypedDotStep, TypedArrowStep, TypedDotMapStep, TypedArrowMapStep, TypedDotResolveStep, TypedArrowResolveStep}
-use Rattle.qvt_types_paths.specs.Paths.{element_no}
+use Rattle.qvt_typing.specs.Paths.{element_no}
 use Rattle.qvt_types_steps.specs.Calls.{dot_call, source_of}
 use Rattle.qvt_types_steps.specs.Classes as by_class
 use Rattle.qvt_types_steps.specs.Iterators.{arrow}

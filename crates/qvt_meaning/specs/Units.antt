@@ -6,8 +6,8 @@ use Rattle.qvt_types_data.specs.declared.ty.Ty.{Ty}
 use Rattle.qvt_types_nodes.specs.Tree.{TypedOptionalExpr, TypedNoExpr, TypedSomeExpr, TypedStmtTerms}
 use Rattle.qvt_types_nodes.specs.Module.{TypedMember, TypedHelperTerm, TypedMappingTerm, TypedUnitTerm, TypedHelperOf, TypedConstructorOf, TypedMappingOf}
 use Rattle.qvt_types_nodes.specs.declared.module.TypedResultDecl.{TypedResultDecl}
-use Rattle.qvt_types_units.specs.declared.signature.Signature.{Signature}
-use Rattle.qvt_types_units.specs.Numbers.{has_context}
+use Rattle.qvt_typing.specs.declared.signature.Signature.{Signature}
+use Rattle.qvt_typing.specs.Numbers.{has_context}
 use Rattle.qvt_run_data.specs.declared.fault.RunFault.TheVariants as fault
 use Rattle.qvt_run_data.specs.declared.exit.End.TheVariants.{Fault}
 use Rattle.qvt_run_rules.specs.State.{Does, ◌>>=◌, stop, found}

@@ -1,2 +1,4 @@
 //! What a transformation means: definitions alone.
 #![tactic(auto)]
+
+pub use qvt_typing::{parts, signature};

@@ -16,7 +16,7 @@ use Rattle.qvt_slots.specs.declared.op.SetOp.TheVariants as op
 use Rattle.qvt_types_units.specs.declared.signature.Signature.{Signature}
 use Rattle.qvt_types_units.specs.Numbers.{no_unit}
 use Rattle.qvt_types_units.specs.Units.{traced_name}
-use Rattle.qvt_typing.specs.Accepts.{ProgramTerm}
+use Rattle.qvt_meaning.specs.Accepts.{ProgramTerm}
 use Rattle.qvt_value.specs.declared.value.LiteralRef.{LiteralRef}
 use Rattle.qvt_value.specs.declared.value.Kind.{Kind}
 use Rattle.qvt_value.specs.declared.value.Kind.TheVariants.{Set, Bag, Sequence, OrderedSet}

@@ -1,2 +1,3 @@
+pub use Rattle.qvt_metamodel.specs.Names
 pub mod Named
 pub mod Ordered

@@ -6,3 +6,6 @@ mod joining;
 pub mod meta;
 pub mod metas;
 pub mod numbered;
+
+pub use qvt_meta_tables::{number_set, tables};
+pub use qvt_metamodel::info;

@@ -1,3 +1,4 @@
+pub use Rattle.qvt_ocl_words.specs.Operation
 pub mod Fits
 pub mod Law
 pub mod Rows

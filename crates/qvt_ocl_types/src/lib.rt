@@ -5,3 +5,5 @@
 pub mod law;
 pub mod signature;
 pub mod table;
+
+pub use qvt_ocl_words::op;

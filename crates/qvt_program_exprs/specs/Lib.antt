@@ -1,3 +1,4 @@
+pub use Rattle.qvt_types_program.specs.Program
 pub mod Listing
 pub mod Index
 pub mod Table

@@ -8,3 +8,5 @@ pub mod numbers;
 pub mod statements;
 pub mod table;
 pub mod units;
+
+pub use qvt_types_program::program;

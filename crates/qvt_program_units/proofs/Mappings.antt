@@ -9,7 +9,7 @@ use Rattle.qvt_types_units.specs.declared.signature.Signature.{Signature}
 use Rattle.qvt_types_units.specs.declared.signature.UnitSort.{UnitSort}
 use Rattle.qvt_types_units.specs.declared.signature.UnitSort.TheVariants as sort
 use Rattle.qvt_types_units.specs.Choice.{single}
-use Rattle.qvt_typing.specs.Accepts.{ProgramTerm}
+use Rattle.qvt_types_program.specs.Accepts.{ProgramTerm}
 use Rattle.qvt_meaning.specs.Program.{if_free, is_mapping_of, mapping_unit}
 use Rattle.qvt_program_units.specs.Chosen.{are_units, as_list, free_at, is_unit, units_of}
 

@@ -10,8 +10,8 @@ use Rattle.qvt_types_units.specs.declared.signature.HeadClass.{HeadClass}
 use Rattle.qvt_types_units.specs.declared.signature.HeadClass.TheVariants.{Missing, Unknown, Known}
 use Rattle.qvt_types_units.specs.Choice as units
 use Rattle.qvt_types_units.specs.Numbers.{has_context}
-use Rattle.qvt_types_groups.specs.Choices.{group_of}
-use Rattle.qvt_typing.specs.Accepts.{ProgramTerm}
+use Rattle.qvt_types_program.specs.Choices.{group_of}
+use Rattle.qvt_types_program.specs.Accepts.{ProgramTerm}
 use Rattle.qvt_run_data.specs.declared.callee.Callee.{Callee}
 use Rattle.qvt_meaning.specs.Program.{callee, mapping_unit, numbers, signature_of}
 

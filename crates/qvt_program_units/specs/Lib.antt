@@ -1,1 +1,9 @@
+pub use Rattle.qvt_types_program.specs.Accepts
+pub use Rattle.qvt_types_units.specs.Numbers
+pub use Rattle.qvt_types_program.specs.Program
+pub use Rattle.qvt_meaning.specs.Units
+pub use Rattle.qvt_meaning.specs.Readings
+pub use Rattle.qvt_meaning.specs.Plain
+pub use Rattle.qvt_meaning.specs.Phrases
+pub use Rattle.qvt_meaning.specs.Nodes
 pub mod Chosen

@@ -5,3 +5,5 @@ pub mod callees;
 pub mod choices;
 pub mod numbers;
 pub mod readings;
+
+pub use qvt_types_program::program;

@@ -15,3 +15,5 @@ pub mod put;
 pub mod seen;
 pub mod values;
 pub mod walk;
+
+pub use qvt_metas::metas;

@@ -22,11 +22,11 @@ use qvt_base::list_fault::ListFault;
 use qvt_base::lists::OidList;
 use qvt_base::numbers::{ClassNo, FeatureNo, Oid};
 use qvt_base::seq::Seq;
-use qvt_metas::metas::Metas;
 use qvt_slots::add::{add_cell, empty_slots};
 use qvt_slots::cell::{Cell, Holder, Marks};
 use qvt_slots::extent::{Extent, ExtentList};
 use qvt_slots::fault::StoreFault;
+use qvt_slots::metas::Metas;
 use qvt_slots::put::{find_place, place_of};
 use qvt_store_laws::law::{
     add_keeps_sound, add_leaves_inputs, add_stays, inputs_stay_is_reflexive, new_is_sound,

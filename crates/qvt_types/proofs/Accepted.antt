@@ -9,10 +9,10 @@ use Rattle.qvt_types_nodes.specs.Module.{TypedModuleTerm}
 use Rattle.qvt_types_nodes.specs.StripModule.{strip}
 use Rattle.qvt_types_states.specs.declared.state.State.{State}
 use Rattle.qvt_types_paths.specs.ModelTypes.{type_names}
-use Rattle.qvt_types_heads.specs.declared.declarations.Declarations.{Declarations}
-use Rattle.qvt_types_heads.specs.Heads.{heads_over}
-use Rattle.qvt_typing.specs.Accepts.{ProgramTerm, accepts, accepted, accepted_by, heads_of, heads_told, judged, least, start, whole}
-use Rattle.qvt_typing.specs.Context.{Heads}
+use Rattle.qvt_types_program.specs.declared.declarations.Declarations.{Declarations}
+use Rattle.qvt_types_program.specs.Heads.{heads_over}
+use Rattle.qvt_types_program.specs.Accepts.{ProgramTerm, accepts, accepted, accepted_by, heads_of, heads_told, judged, least, start, whole}
+use Rattle.qvt_types_program.specs.Context.{Heads}
 use Rattle.qvt_tree_types.specs.declared.module.ModelParam.{ModelParam}
 use Rattle.qvt_types_program.specs.Mappings.{AreNumbered}
 use Rattle.qvt_types_program.specs.Tables.{tables_of}

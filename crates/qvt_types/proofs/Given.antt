@@ -9,10 +9,10 @@ use Rattle.qvt_metamodel.specs.declared.info.FeatureInfo.{FeatureInfo}
 use Rattle.qvt_metamodel.specs.declared.info.MetamodelInfo.{MetamodelInfo}
 use Rattle.qvt_tree_types.specs.Module.{ModuleTerm}
 use Rattle.qvt_types_paths.specs.ModelTypes.{type_names}
-use Rattle.qvt_types_heads.specs.declared.declarations.Declarations.{Declarations}
-use Rattle.qvt_types_heads.specs.Heads.{heads_over}
-use Rattle.qvt_typing.specs.Accepts.{heads_of}
-use Rattle.qvt_typing.specs.Context.{Heads}
+use Rattle.qvt_types_program.specs.declared.declarations.Declarations.{Declarations}
+use Rattle.qvt_types_program.specs.Heads.{heads_over}
+use Rattle.qvt_types_program.specs.Accepts.{heads_of}
+use Rattle.qvt_types_program.specs.Context.{Heads}
 use Rattle.qvt_types_program.specs.Program.{given_in}
 
 before : {A : Type 0} (xs ys : List A) → take (length xs) (xs ++ ys) ≡ xs

@@ -3,7 +3,7 @@ use Rattle.std.specs.Prelude.{◌≡◌, Ok}
 use Rattle.qvt_metamodel.specs.Metamodels.{Metamodels}
 use Rattle.qvt_tree_types.specs.Module.{ModuleTerm}
 use Rattle.qvt_types_nodes.specs.StripModule.{strip}
-use Rattle.qvt_typing.specs.Accepts.{ProgramTerm, accepts}
+use Rattle.qvt_types_program.specs.Accepts.{ProgramTerm, accepts}
 
 -- the tree of a program without its notes is the tree that was accepted
 abbrev pub TreeStays : Type 0

@@ -2,14 +2,14 @@
 
 ghost use Rattle.std.specs.Prelude.{◌≡◌, IfOk};
 ghost use Rattle.qvt_tree_types.specs.Module.{module_view};
-ghost use Rattle.qvt_types_context.specs.Seen.{heads_seen};
+ghost use Rattle.qvt_types_program.specs.Seen.{heads_seen};
 ghost use Rattle.qvt_types_states.specs.Does.{Does};
-ghost use Rattle.qvt_typing.specs.Accepts as accepts;
+ghost use Rattle.qvt_types_program.specs.Accepts as accepts;
 
 use qvt_base::list_fault::ListFault;
 use qvt_tree_types::module::Module;
+use qvt_types_bodies::context::Heads;
 use qvt_types_bodies::units::all_units;
-use qvt_types_context::context::Heads;
 use qvt_types_paths::told::RefusalList;
 use qvt_types_states::state::State;
 use qvt_types_states::steps::writes_nothing;

@@ -5,3 +5,5 @@ pub mod accepting;
 pub mod fault;
 mod faults;
 pub mod judged;
+
+pub use qvt_types_program::program;

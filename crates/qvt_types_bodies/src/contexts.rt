@@ -4,7 +4,7 @@ ghost use Rattle.std.specs.Prelude.{◌≡◌};
 ghost use Rattle.qvt_tree_types.specs.Module.{helper_view};
 ghost use Rattle.qvt_tree_types.specs.View.{optional_type};
 ghost use Rattle.qvt_types_context.specs.Seen.{heads_seen, returns_seen, seen};
-ghost use Rattle.qvt_typing.specs.Units as units;
+ghost use Rattle.qvt_types_context.specs.Units as units;
 
 use qvt_tree_types::module::Helper;
 use qvt_tree_types::types::TypeTree;

@@ -4,3 +4,5 @@
 pub mod contexts;
 pub mod parts;
 pub mod units;
+
+pub use qvt_types_context::context;

@@ -4,7 +4,7 @@ ghost use Rattle.std.specs.Prelude.{◌≡◌, map};
 ghost use Rattle.qvt_tree_types.specs.Module.{field_view, param_view};
 ghost use Rattle.qvt_types_context.specs.Seen.{seen};
 ghost use Rattle.qvt_types_states.specs.Does.{Does};
-ghost use Rattle.qvt_typing.specs.Units as units;
+ghost use Rattle.qvt_types_context.specs.Units as units;
 
 use qvt_base::list_fault::ListFault;
 use qvt_base::text::Text;

@@ -5,7 +5,7 @@ ghost use Rattle.qvt_tree_types.specs.Module.{class_view, condition_view, helper
 ghost use Rattle.qvt_tree_types.specs.View.{block_view};
 ghost use Rattle.qvt_types_context.specs.Seen.{heads_seen, seen};
 ghost use Rattle.qvt_types_states.specs.Does.{Does};
-ghost use Rattle.qvt_typing.specs.Units as units;
+ghost use Rattle.qvt_types_context.specs.Units as units;
 
 use crate::contexts::{
     constructor_context, helper_context, init_context, outside, section_context, when_context,
@@ -54,7 +54,7 @@ fn helper_unit(x: &Context<'_>, helper: &Helper, state: &mut State) -> Result<()
     writes_nothing(state)
 }
 
-#[tactic(auto, unfolding(qvt_typing::specs::Statements::condition))]
+#[tactic(auto, unfolding(qvt_types_context::specs::Statements::condition))]
 fn when(
     x: &Context<'_>,
     condition: &Option<Expr>,
@@ -125,7 +125,7 @@ fn mapping_unit(
 }
 
 /// The unit of this number.
-#[tactic(auto, unfolding(qvt_typing::specs::Units::unit))]
+#[tactic(auto, unfolding(qvt_types_context::specs::Units::unit))]
 fn unit(
     alloc: Global,
     heads: &Heads<'_>,

@@ -21,7 +21,7 @@ use Rattle.qvt_metamodel.proofs.Halves.{Half, old, new, half}
 use Rattle.qvt_metamodel.proofs.Infos.{among_numbers, length-numbers_from}
 use Rattle.qvt_metamodel.proofs.Lookups.{repeated-fewer}
 use Rattle.qvt_metamodel.proofs.Owners.{Declared as Owner, declared as owner, among-flat, once-from, once-has, includes, all-there}
-use Rattle.qvt_meta_tables.specs.Tables.{of_classes}
+use Rattle.qvt_metas.specs.Tables.{of_classes}
 use Rattle.qvt_types_classes.specs.declared.declared.Property.{Property}
 use Rattle.qvt_types_classes.specs.declared.declared.Declared.{Declared}
 use Rattle.qvt_types_classes.specs.Inherited.{all_properties, firsts, inherits_twice, names_of, no_property, numbered_from, properties_at, property_at, property_lists, read_class, read_from}

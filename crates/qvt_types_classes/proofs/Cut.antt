@@ -15,8 +15,8 @@ use Rattle.qvt_metamodel.proofs.Halves.{Half, old, new, half}
 use Rattle.qvt_metamodel.proofs.Infos.{map-at_all}
 use Rattle.qvt_metamodel.proofs.Lists.{list_any-map}
 use Rattle.qvt_metamodel.proofs.Owners.{all-there}
-use Rattle.qvt_meta_tables.specs.Tables.{of_classes}
-use Rattle.qvt_meta_tables.specs.Search.{AreLive, IsAcyclic}
+use Rattle.qvt_metas.specs.Tables.{of_classes}
+use Rattle.qvt_metas.specs.Search.{AreLive, IsAcyclic}
 use Rattle.qvt_types_classes.specs.declared.declared.Declared.{Declared}
 use Rattle.qvt_types_classes.specs.Written.{super_lists, cycle_flags, flag_at, uncycled_from}
 use Rattle.qvt_types_classes.specs.Inherited.{class_number, numbered_from}

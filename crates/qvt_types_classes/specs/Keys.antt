@@ -3,7 +3,7 @@ use Rattle.std.specs.Prelude.{◌≡◌, ℕ, Bool, ◌&&◌, List, [], ◌∷�
 use Rattle.qvt_base.specs.declared.numbers.FeatureNo.{FeatureNo}
 use Rattle.qvt_metamodel.specs.Added.{place_in}
 use Rattle.qvt_metamodel.specs.Names.{is_among}
-use Rattle.qvt_meta_tables.specs.NumberSets.{has_number}
+use Rattle.qvt_metas.specs.NumberSets.{has_number}
 use Rattle.qvt_types_classes.specs.declared.declared.Property.{Property}
 use Rattle.qvt_types_classes.specs.Inherited.{names_of, property_at}
 

@@ -1,3 +1,8 @@
+pub use Rattle.qvt_types_paths.specs.Told
+pub use Rattle.qvt_types_paths.specs.Paths
+pub use Rattle.qvt_types_paths.specs.Models
+pub use Rattle.qvt_types_paths.specs.ModelTypes
+pub use Rattle.qvt_cycle.specs.Successors
 pub mod Written
 pub mod Inherited
 pub mod Keys

@@ -9,3 +9,5 @@ pub mod numbered;
 pub mod reading;
 pub mod shapes;
 pub mod telling;
+
+pub use qvt_types_paths::{extents, model_types, models, paths, told};

@@ -1,7 +1,7 @@
 //! Intermediate classes by number, and the properties of each with those that it inherits.
 
 ghost use Rattle.std.specs.Prelude.{◌≡◌, ◌+◌, ◌<◌, ◌^◌, [], length, map, slice_index_or, IfOk, IfSome, OnOk};
-ghost use Rattle.qvt_meta_tables.specs.Search.{AreLive, IsAcyclic};
+ghost use Rattle.qvt_metas.specs.Search.{AreLive, IsAcyclic};
 ghost use Rattle.qvt_types_classes.specs.Classes.{HaveRanks};
 ghost use Rattle.qvt_types_classes.specs.Inherited as inherited;
 
@@ -13,9 +13,9 @@ use qvt_base::numbers::{ClassNo, FeatureNo, Place};
 use qvt_base::seq::Seq;
 use qvt_base::text::Text;
 use qvt_cycle::lists::Positions;
-use qvt_meta_tables::tables::tables_of;
 use qvt_metamodel::info::ClassInfo;
 use qvt_metamodel::numbering::numbers_from;
+use qvt_metas::tables::tables_of;
 use std::alloc::Global;
 
 fn class_numbers(alloc: Global, places: &[u32]) -> Result<ClassNoList, ListFault>

@@ -1,1 +1,9 @@
+pub use Rattle.qvt_typing.specs.Units
+pub use Rattle.qvt_typing.specs.Statements
+pub use Rattle.qvt_typing.specs.Rules
+pub use Rattle.qvt_typing.specs.Phrases
+pub use Rattle.qvt_typing.specs.Context
+pub use Rattle.qvt_typing.specs.Calls
+pub use Rattle.qvt_typing.specs.Aims
+pub use Rattle.qvt_typing.specs.Accepts
 pub mod Seen

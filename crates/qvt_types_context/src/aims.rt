@@ -10,15 +10,15 @@ use qvt_base::copied::Copied;
 use qvt_base::list_fault::ListFault;
 use qvt_base::numbers::FeatureNo;
 use qvt_base::text::Text;
-use qvt_types_classes::classes::is_typed;
 use qvt_types_data::note::Reading;
 use qvt_types_data::ruling::Read;
 use qvt_types_data::ty::Ty;
 use qvt_types_data::variable::VariableSort;
+use qvt_types_groups::classes::is_typed;
 use qvt_types_states::scope::Scope;
-use qvt_types_steps::classes::ClassPart;
-use qvt_types_steps::properties::feature_in;
+use qvt_typing::classes::ClassPart;
 use qvt_typing::parts::Aim;
+use qvt_typing::properties::feature_in;
 use std::alloc::Global;
 
 fn variable_aim(

@@ -2,8 +2,8 @@
 
 ghost use Rattle.std.specs.Prelude.{◌≡◌, [], IfOk};
 ghost use Rattle.qvt_types_context.specs.Seen.{heads_seen};
-ghost use Rattle.qvt_types_units.specs.Choice as choice;
-ghost use Rattle.qvt_types_units.specs.Numbers as numbers;
+ghost use Rattle.qvt_typing.specs.Choice as choice;
+ghost use Rattle.qvt_typing.specs.Numbers as numbers;
 ghost use Rattle.qvt_typing.specs.Calls as calls;
 
 use crate::context::Heads;
@@ -16,13 +16,13 @@ use qvt_types_data::refusal::RefusalKind;
 use qvt_types_data::ruling::{Read, Ruling};
 use qvt_types_data::ty::{Ty, copied};
 use qvt_types_data::variable::Variable;
+use qvt_types_groups::choice::{Found, is_unknown};
+pub use qvt_types_groups::numbers::no_unit;
 use qvt_types_groups::units::Units;
-use qvt_types_steps::classes::ClassPart;
-use qvt_types_steps::units::{arguments_wrong, mapping_step, static_class, unit_step};
-use qvt_types_units::choice::{Found, is_unknown};
-pub use qvt_types_units::numbers::no_unit;
-use qvt_types_units::signature::{Signature, UnitSort};
+use qvt_typing::classes::ClassPart;
 use qvt_typing::parts::{Called, Effect};
+use qvt_typing::signature::{Signature, UnitSort};
+use qvt_typing::units::{arguments_wrong, mapping_step, static_class, unit_step};
 use std::alloc::Global;
 
 /// The unit of this number, or the one that stands for none.

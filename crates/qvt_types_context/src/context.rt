@@ -5,16 +5,16 @@ ghost use Rattle.qvt_typing.specs.Context as known;
 ghost use Rattle.qvt_typing.specs.Phrases as phrase;
 ghost use Rattle.qvt_types_context.specs.Seen.{heads_seen, seen};
 
-use qvt_metas::metas::Metas;
-use qvt_types_classes::classes::is_typed;
 use qvt_types_data::note::Reading;
 use qvt_types_data::ruling::Ruling;
 use qvt_types_data::ty::Ty;
+use qvt_types_groups::classes::is_typed;
+use qvt_types_groups::metas::Metas;
+use qvt_types_groups::model_types::TypeNames;
+use qvt_types_groups::models::Models;
 use qvt_types_groups::units::Units;
-use qvt_types_paths::model_types::TypeNames;
-use qvt_types_paths::models::Models;
-use qvt_types_steps::classes::ClassPart;
-use qvt_types_steps::iterators::{IteratorKind, row_of};
+use qvt_typing::classes::ClassPart;
+use qvt_typing::iterators::{IteratorKind, row_of};
 use std::alloc::Global;
 
 /// What the heads of a transformation declare.

@@ -5,3 +5,6 @@ pub mod aims;
 pub mod calls;
 pub mod context;
 pub mod names;
+
+pub use qvt_types_groups::telling;
+pub use qvt_typing::parts;

@@ -14,10 +14,10 @@ use qvt_types_data::refusal::RefusalKind;
 use qvt_types_data::ruling::{Read, Ruling};
 use qvt_types_data::ty::{Ty, copied};
 use qvt_types_data::variable::{Variable, VariableSort};
-use qvt_types_names::sources::model_or;
-use qvt_types_paths::paths::path_literal;
+use qvt_types_groups::paths::path_literal;
 use qvt_types_states::scope::Scope;
-use qvt_types_steps::classes::ClassPart;
+use qvt_typing::classes::ClassPart;
+use qvt_typing::sources::model_or;
 use qvt_value::value::LiteralRef;
 use std::alloc::Global;
 

@@ -1,3 +1,10 @@
+pub use Rattle.qvt_types_units.specs.Units
+pub use Rattle.qvt_types_units.specs.Signatures
+pub use Rattle.qvt_types_units.specs.Reuse
+pub use Rattle.qvt_types_units.specs.Overrides
+pub use Rattle.qvt_types_units.specs.Numbers
+pub use Rattle.qvt_types_units.specs.Written
+pub use Rattle.qvt_types_units.specs.Classes
 pub mod Lists
 pub mod Keys
 pub mod Indexed

@@ -6,7 +6,7 @@ ghost use Rattle.qvt_types_groups.specs.Least as lows;
 
 use qvt_base::list_fault::ListFault;
 use qvt_base::seq::Seq;
-use qvt_metas::metas::Metas;
+use qvt_types_paths::metas::Metas;
 use qvt_types_units::choice::{context_at, is_below, is_lowest, single};
 use qvt_types_units::signature::Signature;
 use std::alloc::Global;

@@ -11,7 +11,7 @@ use crate::class_choices::{ClassChoices, all_choices, choice_for, class_order};
 use qvt_base::list_fault::ListFault;
 use qvt_base::numbers::ClassNo;
 use qvt_base::seq::Seq;
-use qvt_metas::metas::Metas;
+use qvt_types_paths::metas::Metas;
 use qvt_types_units::choice::{Found, context_at, is_unknown};
 use qvt_types_units::signature::{HeadClass, Signature};
 use std::alloc::Global;

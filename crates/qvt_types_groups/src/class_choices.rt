@@ -12,7 +12,7 @@ use qvt_base::numbers::ClassNo;
 use qvt_base::seq::Seq;
 use qvt_meta_tables::order::{Order, order_of};
 use qvt_meta_tables::tables::supers_at;
-use qvt_metas::metas::Metas;
+use qvt_types_paths::metas::Metas;
 use qvt_types_units::choice::{Found, candidates, context_at};
 use qvt_types_units::signature::{HeadClass, Signature};
 use std::alloc::Global;

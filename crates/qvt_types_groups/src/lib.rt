@@ -10,3 +10,8 @@ pub mod number_lists;
 pub mod unit_lists;
 pub mod unit_names;
 pub mod units;
+
+pub use qvt_types_paths::{metas, model_types, models, paths};
+pub use qvt_types_units::{
+    choice, classes, numbers, overrides, reuse, signature, signatures, telling,
+};

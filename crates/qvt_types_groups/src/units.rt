@@ -11,7 +11,7 @@ use crate::unit_names::UnitNames;
 use qvt_base::list_fault::ListFault;
 use qvt_base::numbers::ClassNo;
 use qvt_base::seq::Seq;
-use qvt_metas::metas::Metas;
+use qvt_types_paths::metas::Metas;
 use qvt_types_units::choice::Found;
 use qvt_types_units::numbers::is_mapping;
 use qvt_types_units::signature::Signature;

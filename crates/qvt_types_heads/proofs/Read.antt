@@ -3,16 +3,16 @@ use Rattle.std.proofs.Common.{◌≡◌, ◌∙◌, ℕ, Bool, List, [], ◌++�
 use Rattle.qvt_metamodel.specs.Metamodels.{Metamodels}
 use Rattle.qvt_tree_types.specs.Module.{ModuleTerm, UnitTerm}
 use Rattle.qvt_tree_types.specs.declared.module.ModelType.{ModelType}
-use Rattle.qvt_types_classes.specs.Classes.{above_told, extended_by, own_classes, read_classes, typed_flags}
-use Rattle.qvt_types_classes.specs.Written.{all_declared, classes_told}
+use Rattle.qvt_types_lists.specs.Classes.{above_told, extended_by, own_classes, read_classes, typed_flags}
+use Rattle.qvt_types_lists.specs.Written.{all_declared, classes_told}
 use Rattle.qvt_types_data.specs.declared.refusal.Refusal.{Refusal}
 use Rattle.qvt_types_paths.specs.ModelTypes.{NamedTypes, model_types_told, type_names}
 use Rattle.qvt_types_paths.specs.Models.{models, models_told}
 use Rattle.qvt_types_paths.specs.declared.models.Models.{Models}
-use Rattle.qvt_types_units.specs.Signatures.{signatures}
-use Rattle.qvt_types_units.specs.declared.signature.Signature.{Signature}
-use Rattle.qvt_typing.specs.Accepts.{heads_of}
-use Rattle.qvt_typing.specs.Context.{Heads}
+use Rattle.qvt_types_lists.specs.Signatures.{signatures}
+use Rattle.qvt_types_lists.specs.declared.signature.Signature.{Signature}
+use Rattle.qvt_types_context.specs.Accepts.{heads_of}
+use Rattle.qvt_types_context.specs.Context.{Heads}
 use Rattle.qvt_types_heads.specs.Heads.{types_told}
 
 -- by the units and the names of types

@@ -5,7 +5,7 @@ use Rattle.std.specs.List.{AllByRecursion}
 use Rattle.std.proofs.lemmas.Bool.{or_cases, or_parts, or_left, or_right, or_from, and_parts, and_cases, and_from, and_left, and_right, ltb-true, ltb-false, lt-ltb, le-ltb, eqb-true, eqb-false, eq-eqb, ne_eqb, cases_lt}
 use Rattle.std.proofs.lemmas.List.{append-nil}
 use Rattle.qvt_types_data.specs.declared.refusal.Refusal.{Refusal}
-use Rattle.qvt_typing.specs.Accepts.{comes_before, least_from, rank, sooner}
+use Rattle.qvt_types_context.specs.Accepts.{comes_before, least_from, rank, sooner}
 use Rattle.qvt_types_heads.specs.Least.{IsLeast, LeastIsLeast, NoneOfNone}
 
 -- an offset and a rank before another

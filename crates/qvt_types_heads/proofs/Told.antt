@@ -4,9 +4,9 @@ use Rattle.std.specs.List.{flat_map}
 use Rattle.qvt_metamodel.specs.Metamodels.{Metamodels}
 use Rattle.qvt_tree_types.specs.Module.{ModuleTerm}
 use Rattle.qvt_types_data.specs.declared.refusal.Refusal.{Refusal}
-use Rattle.qvt_types_units.specs.Units.{head_told, same_told, overrides_told, lists_told, main_told}
-use Rattle.qvt_typing.specs.Accepts.{heads_of, heads_told, reuse_lists}
-use Rattle.qvt_typing.specs.Context.{Heads}
+use Rattle.qvt_types_lists.specs.Units.{head_told, same_told, overrides_told, lists_told, main_told}
+use Rattle.qvt_types_context.specs.Accepts.{heads_of, heads_told, reuse_lists}
+use Rattle.qvt_types_context.specs.Context.{Heads}
 use Rattle.qvt_types_heads.specs.Heads.{types_told, units_told}
 
 split : (p a b c d e : List Refusal) → p ++ a ++ b ++ c ++ d ++ e ≡ p ++ (a ++ b ++ c ++ d ++ e)

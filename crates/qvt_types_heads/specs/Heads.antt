@@ -3,14 +3,14 @@ use Rattle.std.specs.Prelude.{List, [], ◌++◌}
 use Rattle.std.specs.List.{flat_map}
 use Rattle.qvt_metamodel.specs.Metamodels.{Metamodels}
 use Rattle.qvt_tree_types.specs.Module.{ModuleTerm}
-use Rattle.qvt_types_classes.specs.Classes.{above_told}
-use Rattle.qvt_types_classes.specs.Written.{all_declared, classes_told}
+use Rattle.qvt_types_lists.specs.Classes.{above_told}
+use Rattle.qvt_types_lists.specs.Written.{all_declared, classes_told}
 use Rattle.qvt_types_data.specs.declared.refusal.Refusal.{Refusal}
 use Rattle.qvt_types_paths.specs.ModelTypes.{NamedTypes, model_types_told}
 use Rattle.qvt_types_paths.specs.Models.{models_told}
-use Rattle.qvt_types_units.specs.Units.{head_told, same_told, overrides_told, lists_told, main_told}
-use Rattle.qvt_typing.specs.Context.{Heads}
-use Rattle.qvt_typing.specs.Accepts.{reuse_lists}
+use Rattle.qvt_types_lists.specs.Units.{head_told, same_told, overrides_told, lists_told, main_told}
+use Rattle.qvt_types_context.specs.Context.{Heads}
+use Rattle.qvt_types_context.specs.Accepts.{reuse_lists}
 use Rattle.qvt_types_heads.specs.declared.declarations.Declarations.{Declarations}
 
 abbrev pub heads_over : Metamodels → Declarations → Heads

@@ -2,7 +2,7 @@
 use Rattle.std.specs.Prelude.{◌≡◌, List, [], ◌∷◌, ◌++◌, IsTrue, IsFalse, Some, None}
 use Rattle.std.specs.List.{AllByRecursion}
 use Rattle.qvt_types_data.specs.declared.refusal.Refusal.{Refusal}
-use Rattle.qvt_typing.specs.Accepts.{comes_before, least}
+use Rattle.qvt_types_context.specs.Accepts.{comes_before, least}
 
 -- the refusal is among these, none of these comes before it, and it comes before each that stands to its left
 pub record IsLeast (rs : List Refusal) (r : Refusal) : Type 0 where

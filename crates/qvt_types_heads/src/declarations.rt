@@ -5,9 +5,9 @@ ghost use Rattle.qvt_types_context.specs.Seen.{heads_seen};
 ghost use Rattle.qvt_types_heads.specs.Heads.{heads_over};
 
 use qvt_base::seq::Seq;
-use qvt_metas::metas::Metas;
 use qvt_types_context::context::Heads;
-use qvt_types_groups::units::Units;
+use qvt_types_lists::units::Units;
+use qvt_types_paths::metas::Metas;
 use qvt_types_paths::model_types::TypeNames;
 use qvt_types_paths::models::Models;
 

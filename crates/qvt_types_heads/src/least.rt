@@ -1,7 +1,7 @@
 //! The refusal that is told of several.
 
 ghost use Rattle.std.specs.Prelude.{◌≡◌};
-ghost use Rattle.qvt_typing.specs.Accepts as accepts;
+ghost use Rattle.qvt_types_context.specs.Accepts as accepts;
 ghost use Rattle.qvt_types_heads.specs.Least.{LeastIsLeast, NoneOfNone};
 
 use qvt_types_data::refusal::{Refusal, RefusalKind};

@@ -5,3 +5,6 @@ pub mod declarations;
 pub mod least;
 pub mod reading;
 pub mod telling;
+
+pub use qvt_types_context::{calls, context};
+pub use qvt_types_lists::traced;

@@ -4,23 +4,23 @@ ghost use Rattle.std.specs.Prelude.{◌≡◌, ◌++◌, [], None, length, map, 
 ghost use Rattle.qvt_tree_types.specs.Module.{module_view, unit_view};
 ghost use Rattle.qvt_types_paths.specs.ModelTypes.{model_types_told};
 ghost use Rattle.qvt_types_paths.specs.Models.{models, models_told};
-ghost use Rattle.qvt_types_units.specs.Signatures.{signatures};
-ghost use Rattle.qvt_typing.specs.Accepts as accepts;
+ghost use Rattle.qvt_types_lists.specs.Signatures.{signatures};
+ghost use Rattle.qvt_types_context.specs.Accepts as accepts;
 ghost use Rattle.qvt_types_heads.specs.Heads as heads_words;
 
 use crate::declarations::{Declarations, lent};
 use crate::telling::tell_units;
 use qvt_base::list_fault::ListFault;
 use qvt_base::seq::Seq;
-use qvt_metas::metas::Metas;
 use qvt_tree_types::module::{Module, Unit};
-use qvt_types_classes::classes::{Extended, with_classes};
-use qvt_types_groups::unit_names::UnitNames;
-use qvt_types_groups::units::Units;
+use qvt_types_lists::classes::{Extended, with_classes};
+use qvt_types_lists::signatures::all_signatures;
+use qvt_types_lists::unit_names::UnitNames;
+use qvt_types_lists::units::Units;
+use qvt_types_paths::metas::Metas;
 use qvt_types_paths::model_types::{TypeNames, tell_model_types, type_names};
 use qvt_types_paths::models::{Models, all_models, tell_models};
 use qvt_types_paths::told::RefusalList;
-use qvt_types_units::signatures::all_signatures;
 use std::alloc::Global;
 use std::mem::replace;
 

@@ -4,17 +4,17 @@ ghost use Rattle.std.specs.Prelude.{◌≡◌, ◌++◌, map, OnOk};
 ghost use Rattle.std.specs.List.{flat_map};
 ghost use Rattle.qvt_tree_types.specs.Module.{module_view, unit_view};
 ghost use Rattle.qvt_types_context.specs.Seen.{heads_seen};
-ghost use Rattle.qvt_types_units.specs.Units.{head_told};
+ghost use Rattle.qvt_types_lists.specs.Units.{head_told};
 ghost use Rattle.qvt_types_heads.specs.Heads as heads_words;
 
 use qvt_base::list_fault::ListFault;
 use qvt_tree_types::module::{Module, Unit};
 use qvt_types_context::context::Heads;
+use qvt_types_context::telling::{Heads as UnitHeads, tell_head};
 use qvt_types_lists::overrides::tell_overrides;
 use qvt_types_lists::same::{tell_main, tell_same};
 use qvt_types_lists::telling::{Listing, tell_lists};
 use qvt_types_paths::told::RefusalList;
-use qvt_types_units::telling::{Heads as UnitHeads, tell_head};
 use std::alloc::Global;
 
 /// Tells what is wrong with the heads of units one by one.

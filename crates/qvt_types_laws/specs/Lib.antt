@@ -1,3 +1,4 @@
+pub use Rattle.qvt_types_nodes.specs.Module
 pub mod Join
 pub mod JoinModule
 pub mod NotesOf

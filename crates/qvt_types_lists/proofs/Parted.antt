@@ -5,8 +5,8 @@ use Rattle.std.specs.List.{list_any}
 use Rattle.std.specs.Str.{bytes_eq}
 use Rattle.std.proofs.lemmas.List.{append-nil}
 use Rattle.qvt_metamodel.proofs.Bools.{or_left, or_right, or_cases}
-use Rattle.qvt_types_units.specs.declared.signature.Signature.{Signature}
-use Rattle.qvt_types_units.specs.Numbers.{no_unit, unit_at, numbers_where, is_called, has_context}
+use Rattle.qvt_types_groups.specs.declared.signature.Signature.{Signature}
+use Rattle.qvt_types_groups.specs.Numbers.{no_unit, unit_at, numbers_where, is_called, has_context}
 use Rattle.qvt_types_groups.specs.Lists.{is_one}
 use Rattle.qvt_types_groups.proofs.Lists.{same_bytes}
 use Rattle.qvt_types_lists.specs.Odd.{is_like_first, is_odd}

@@ -9,13 +9,13 @@ use Rattle.qvt_metamodel.specs.Metamodels.{Metamodels}
 use Rattle.qvt_metamodel.proofs.Bools.{and_both, and_left, and_right}
 use Rattle.qvt_types_data.specs.Term.{same_type, ty_view}
 use Rattle.qvt_types_data.specs.declared.ty.Ty.{Ty}
-use Rattle.qvt_types_units.specs.declared.signature.HeadClass.{HeadClass}
-use Rattle.qvt_types_units.specs.declared.signature.HeadClass.TheVariants.{Missing, Unknown, Known}
-use Rattle.qvt_types_units.specs.declared.signature.UnitSort.{UnitSort}
-use Rattle.qvt_types_units.specs.declared.signature.UnitSort.TheVariants as sort
-use Rattle.qvt_types_units.specs.declared.signature.Signature.{Signature}
-use Rattle.qvt_types_units.specs.Numbers.{is_mapping, is_called, has_context, is_in_group, unit_at}
-use Rattle.qvt_types_units.specs.Overrides.{are_unlike, are_alike, is_strictly_below, params_differ, is_wider, overrides, is_misfit, is_bad_override}
+use Rattle.qvt_types_groups.specs.declared.signature.HeadClass.{HeadClass}
+use Rattle.qvt_types_groups.specs.declared.signature.HeadClass.TheVariants.{Missing, Unknown, Known}
+use Rattle.qvt_types_groups.specs.declared.signature.UnitSort.{UnitSort}
+use Rattle.qvt_types_groups.specs.declared.signature.UnitSort.TheVariants as sort
+use Rattle.qvt_types_groups.specs.declared.signature.Signature.{Signature}
+use Rattle.qvt_types_groups.specs.Numbers.{is_mapping, is_called, has_context, is_in_group, unit_at}
+use Rattle.qvt_types_groups.specs.Overrides.{are_unlike, are_alike, is_strictly_below, params_differ, is_wider, overrides, is_misfit, is_bad_override}
 use Rattle.qvt_types_groups.specs.Lists.{numbers_under}
 use Rattle.qvt_types_lists.specs.declared.odd.Named.{Named}
 use Rattle.qvt_types_lists.specs.Shapes.{same_sort, same_answer, all_same, same_types, same_shape}

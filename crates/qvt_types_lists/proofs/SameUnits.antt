@@ -3,13 +3,13 @@ use Rattle.std.proofs.Common.{◌≡◌, ◌∙◌, ℕ, ◌==◌, List, length,
 use Rattle.std.specs.Str.{bytes_eq}
 use Rattle.qvt_base.specs.declared.numbers.MappingNo.{MappingNo}
 use Rattle.qvt_metamodel.proofs.Bools.{and_no}
-use Rattle.qvt_types_units.specs.declared.signature.HeadClass.{HeadClass}
-use Rattle.qvt_types_units.specs.declared.signature.HeadClass.TheVariants.{Missing, Unknown, Known}
-use Rattle.qvt_types_units.specs.declared.signature.UnitSort.{UnitSort}
-use Rattle.qvt_types_units.specs.declared.signature.UnitSort.TheVariants as sort
-use Rattle.qvt_types_units.specs.declared.signature.Signature.{Signature}
-use Rattle.qvt_types_units.specs.Numbers.{is_mapping, is_helper, is_constructor, is_main, is_called, is_context, has_context, is_free, is_constructor_of}
-use Rattle.qvt_types_units.specs.Units.{are_same, same_context, same_class}
+use Rattle.qvt_types_groups.specs.declared.signature.HeadClass.{HeadClass}
+use Rattle.qvt_types_groups.specs.declared.signature.HeadClass.TheVariants.{Missing, Unknown, Known}
+use Rattle.qvt_types_groups.specs.declared.signature.UnitSort.{UnitSort}
+use Rattle.qvt_types_groups.specs.declared.signature.UnitSort.TheVariants as sort
+use Rattle.qvt_types_groups.specs.declared.signature.Signature.{Signature}
+use Rattle.qvt_types_groups.specs.Numbers.{is_mapping, is_helper, is_constructor, is_main, is_called, is_context, has_context, is_free, is_constructor_of}
+use Rattle.qvt_types_groups.specs.Units.{are_same, same_context, same_class}
 use Rattle.qvt_types_groups.specs.Keys.{is_named}
 use Rattle.qvt_types_groups.proofs.Keys.{flip_eq}
 use Rattle.qvt_types_lists.specs.Same.{is_same_called, is_same_constructor}

@@ -12,9 +12,9 @@ use Rattle.qvt_types_data.specs.declared.refusal.Refusal.{Refusal}
 use Rattle.qvt_types_data.specs.declared.refusal.RefusalKind.TheVariants.{SameName}
 use Rattle.qvt_types_paths.specs.ModelTypes.{NamedTypes}
 use Rattle.qvt_types_paths.specs.Told.{told_if}
-use Rattle.qvt_types_units.specs.declared.signature.Signature.{Signature}
-use Rattle.qvt_types_units.specs.Reuse.{has_stmts}
-use Rattle.qvt_types_units.specs.Units.{lists_told, same_told, are_same}
+use Rattle.qvt_types_groups.specs.declared.signature.Signature.{Signature}
+use Rattle.qvt_types_groups.specs.Reuse.{has_stmts}
+use Rattle.qvt_types_groups.specs.Units.{lists_told, same_told, are_same}
 use Rattle.qvt_types_lists.specs.Lists.{unit_told}
 
 first_told : (m e : Metamodels) (t : NamedTypes) (us : List Signature) (lists : List (List ℕ)) (n : ℕ) (v : UnitTerm) (more : List UnitTerm)

@@ -6,9 +6,9 @@ use Rattle.qvt_types_data.specs.declared.refusal.Refusal.{Refusal}
 use Rattle.qvt_types_data.specs.declared.refusal.RefusalKind.TheVariants.{ReuseCycle, BadDisjunct}
 use Rattle.qvt_types_paths.specs.ModelTypes.{NamedTypes}
 use Rattle.qvt_types_paths.specs.Told.{told_if}
-use Rattle.qvt_types_units.specs.declared.signature.Signature.{Signature}
-use Rattle.qvt_types_units.specs.declared.reuse.Reuse.TheVariants.{Shared, Disjunct}
-use Rattle.qvt_types_units.specs.Reuse.{paths_told, is_bad_disjunct, mapping_told}
+use Rattle.qvt_types_groups.specs.declared.signature.Signature.{Signature}
+use Rattle.qvt_types_groups.specs.declared.reuse.Reuse.TheVariants.{Shared, Disjunct}
+use Rattle.qvt_types_groups.specs.Reuse.{paths_told, is_bad_disjunct, mapping_told}
 
 -- of mapping u with signature s
 abbrev pub told_of_lists : Metamodels → Metamodels → NamedTypes → List Signature → Signature → Bool → MappingTerm → List Refusal

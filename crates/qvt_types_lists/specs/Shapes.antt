@@ -2,9 +2,9 @@
 use Rattle.std.specs.Prelude.{◌==◌, ◌&&◌, Bool, true, false, List, [], ◌∷◌, length, Option, Some, None}
 use Rattle.qvt_types_data.specs.Term.{same_type, ty_view}
 use Rattle.qvt_types_data.specs.declared.ty.Ty.{Ty}
-use Rattle.qvt_types_units.specs.declared.signature.UnitSort.{UnitSort}
-use Rattle.qvt_types_units.specs.declared.signature.UnitSort.TheVariants as sort
-use Rattle.qvt_types_units.specs.declared.signature.Signature.{Signature}
+use Rattle.qvt_types_groups.specs.declared.signature.UnitSort.{UnitSort}
+use Rattle.qvt_types_groups.specs.declared.signature.UnitSort.TheVariants as sort
+use Rattle.qvt_types_groups.specs.declared.signature.Signature.{Signature}
 
 abbrev pub same_sort : UnitSort → UnitSort → Bool
 same_sort sort.Helper sort.Helper = true

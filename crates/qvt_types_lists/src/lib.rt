@@ -9,3 +9,5 @@ pub mod same;
 pub mod shapes;
 pub mod telling;
 pub mod traced;
+
+pub use qvt_types_groups::{classes, signature, signatures, unit_names, units};

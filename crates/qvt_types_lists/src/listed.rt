@@ -2,16 +2,16 @@
 
 ghost use Rattle.std.specs.Prelude.{◌≡◌};
 ghost use Rattle.qvt_types_paths.specs.Paths as paths;
-ghost use Rattle.qvt_types_units.specs.Reuse as reuse;
+ghost use Rattle.qvt_types_groups.specs.Reuse as reuse;
 
 use qvt_base::numbers::ClassNo;
 use qvt_base::text::Text;
-use qvt_metas::metas::Metas;
 use qvt_types_data::refusal::RefusalKind;
+use qvt_types_groups::signatures::{front_of, last_of};
 use qvt_types_groups::unit_names::UnitNames;
+use qvt_types_paths::metas::Metas;
 use qvt_types_paths::model_types::TypeNames;
 use qvt_types_paths::paths::path_class;
-use qvt_types_units::signatures::{front_of, last_of};
 
 fn or_unknown(number: Option<u32>) -> Result<u32, RefusalKind>
     ensures { result ≡ reuse.or_unknown number }
@@ -61,7 +61,7 @@ fn mapping_under(
 }
 
 /// The unit that the path names: the mapping of exactly this context and name, or UnknownName or Ambiguous.
-#[tactic(auto, unfolding(qvt_types_units::specs::Reuse::listed))]
+#[tactic(auto, unfolding(qvt_types_groups::specs::Reuse::listed))]
 pub fn listed(
     metas: &Metas,
     names: &TypeNames,

@@ -1,7 +1,7 @@
 //! The units of each name with a context, and those of them that take or answer other than the first.
 
 ghost use Rattle.std.specs.Prelude.{◌≡◌, ◌++◌, ◌∷◌, [], ◌&&◌, not, ℕ, List, length, nat_lt, if◌then◌else◌, IfOk};
-ghost use Rattle.qvt_types_units.specs.Numbers.{unit_at, numbers_where};
+ghost use Rattle.qvt_types_groups.specs.Numbers.{unit_at, numbers_where};
 ghost use Rattle.qvt_types_groups.specs.Lists.{is_one, numbers_under};
 ghost use Rattle.qvt_types_lists.specs.Odd as odd_words;
 ghost use Rattle.qvt_types_lists.specs.Odd.{AreNamed};
@@ -11,9 +11,9 @@ use crate::shapes::same_shape;
 use qvt_base::list_fault::ListFault;
 use qvt_types_groups::class_keys::is_called;
 use qvt_types_groups::number_lists::NumberLists;
+use qvt_types_groups::numbers::has_context;
+use qvt_types_groups::signature::Signature;
 use qvt_types_groups::unit_lists::lists_of;
-use qvt_types_units::numbers::has_context;
-use qvt_types_units::signature::Signature;
 use std::alloc::Global;
 
 /// Units that are called alike and have a context, by their names.

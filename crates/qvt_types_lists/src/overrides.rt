@@ -2,20 +2,20 @@
 
 ghost use Rattle.std.specs.Prelude.{◌≡◌, ◌++◌, ◌&&◌, Bool, true, false, ℕ, List, length, nat_lt, IfOk, OnOk};
 ghost use Rattle.std.specs.List.{list_any};
-ghost use Rattle.qvt_types_units.specs.Numbers.{unit_at};
-ghost use Rattle.qvt_types_units.specs.Overrides as overrides;
-ghost use Rattle.qvt_types_units.specs.Units as units_told;
+ghost use Rattle.qvt_types_groups.specs.Numbers.{unit_at};
+ghost use Rattle.qvt_types_groups.specs.Overrides as overrides;
+ghost use Rattle.qvt_types_groups.specs.Units as units_told;
 ghost use Rattle.qvt_types_lists.specs.Odd as odd_words;
 ghost use Rattle.qvt_types_lists.specs.Odd.{AreNamed};
 
 use crate::odd::{Named, by_name};
 use qvt_base::list_fault::ListFault;
-use qvt_metas::metas::Metas;
 use qvt_types_data::refusal::RefusalKind;
+use qvt_types_groups::overrides::{is_misfit, is_strictly_below};
+use qvt_types_groups::signature::{Signature, UnitSort};
 use qvt_types_laws::laws::same_means_equal;
+use qvt_types_paths::metas::Metas;
 use qvt_types_paths::told::{RefusalList, tell_if};
-use qvt_types_units::overrides::{is_misfit, is_strictly_below};
-use qvt_types_units::signature::{Signature, UnitSort};
 use std::alloc::Global;
 
 /// Whether the unit does not fit the one with this number, which is above it.

@@ -4,17 +4,17 @@ ghost use Rattle.std.specs.Prelude.{◌≡◌, ◌++◌, ◌∷◌, [], map, IfO
 ghost use Rattle.std.specs.List.{flat_map};
 ghost use Rattle.qvt_tree_types.specs.Module.{mapping_view, unit_view};
 ghost use Rattle.qvt_tree_types.specs.declared.types.PathTree.{PathTree};
-ghost use Rattle.qvt_types_units.specs.Reuse as reuse;
+ghost use Rattle.qvt_types_groups.specs.Reuse as reuse;
 
 use crate::listed::listed;
 use qvt_base::list_fault::ListFault;
 use qvt_base::seq::Seq;
 use qvt_cycle::lists::Positions;
-use qvt_metas::metas::Metas;
 use qvt_tree_types::module::{Mapping, Unit};
 use qvt_tree_types::types::PathTree;
 use qvt_types_data::refusal::RefusalKind;
 use qvt_types_groups::unit_names::UnitNames;
+use qvt_types_paths::metas::Metas;
 use qvt_types_paths::model_types::TypeNames;
 use std::alloc::Global;
 

@@ -2,16 +2,16 @@
 
 ghost use Rattle.std.specs.Prelude.{◌≡◌, ◌++◌, [], take, position, OnOk};
 ghost use Rattle.std.specs.List.{list_any};
-ghost use Rattle.qvt_types_units.specs.Numbers as numbers;
-ghost use Rattle.qvt_types_units.specs.Units as units_told;
+ghost use Rattle.qvt_types_groups.specs.Numbers as numbers;
+ghost use Rattle.qvt_types_groups.specs.Units as units_told;
 ghost use Rattle.qvt_types_lists.specs.Same as same_words;
 
 use qvt_base::list_fault::ListFault;
 use qvt_base::numbers::Place;
 use qvt_types_data::refusal::RefusalKind;
+use qvt_types_groups::signature::{HeadClass, Signature, UnitSort};
 use qvt_types_groups::unit_names::UnitNames;
 use qvt_types_paths::told::{RefusalList, tell_if};
-use qvt_types_units::signature::{HeadClass, Signature, UnitSort};
 
 /// The first unit of the name and context of this one.
 fn first_called(units: &UnitNames, maps: bool, unit: &Signature) -> Option<u32>

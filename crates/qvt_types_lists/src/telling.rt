@@ -5,9 +5,9 @@ ghost use Rattle.std.specs.List.{flat_map};
 ghost use Rattle.qvt_cycle.specs.Ready.{IsReady};
 ghost use Rattle.qvt_tree_types.specs.Module.{mapping_view, unit_view};
 ghost use Rattle.qvt_tree_types.specs.View.{block_view};
-ghost use Rattle.qvt_types_units.specs.Numbers as numbers;
-ghost use Rattle.qvt_types_units.specs.Reuse as reuse;
-ghost use Rattle.qvt_types_units.specs.Units as units_told;
+ghost use Rattle.qvt_types_groups.specs.Numbers as numbers;
+ghost use Rattle.qvt_types_groups.specs.Reuse as reuse;
+ghost use Rattle.qvt_types_groups.specs.Units as units_told;
 ghost use Rattle.qvt_types_lists.specs.Lists as lists_of;
 
 use crate::listed::listed;
@@ -16,17 +16,17 @@ use qvt_base::list_fault::ListFault;
 use qvt_base::numbers::Place;
 use qvt_cycle::cycles::Cycles;
 use qvt_cycle::lists::Positions;
-use qvt_metas::metas::Metas;
 use qvt_tree_types::module::{Mapping, Unit};
 use qvt_tree_types::tree::Stmt;
 use qvt_tree_types::types::PathTree;
 use qvt_types_data::refusal::{Refusal, RefusalKind};
+use qvt_types_groups::numbers::no_unit;
+use qvt_types_groups::reuse::{Reuse, is_bad_reuse};
+use qvt_types_groups::signature::Signature;
 use qvt_types_groups::unit_names::UnitNames;
+use qvt_types_paths::metas::Metas;
 use qvt_types_paths::model_types::TypeNames;
 use qvt_types_paths::told::{RefusalList, tell_if};
-use qvt_types_units::numbers::no_unit;
-use qvt_types_units::reuse::{Reuse, is_bad_reuse};
-use qvt_types_units::signature::Signature;
 use std::alloc::Global;
 
 /// What lists of mappings are judged by: the metamodels that are given, in which paths are looked up, those with the intermediate
@@ -79,7 +79,7 @@ fn tell_reuse_of(
 }
 
 /// Tells what is wrong with a path in a list of the mapping.
-#[tactic(auto, unfolding(qvt_types_units::specs::Reuse::reuse_told))]
+#[tactic(auto, unfolding(qvt_types_groups::specs::Reuse::reuse_told))]
 fn tell_reuse(
     alloc: Global,
     listing: &Listing<'_>,
@@ -134,7 +134,7 @@ fn has_stmts(stmts: &[Stmt]) -> bool
 }
 
 /// Whether a dispatcher has statements, or inherits or merges: BadDisjunct.
-#[tactic(auto, unfolding(qvt_types_units::specs::Reuse::is_bad_disjunct))]
+#[tactic(auto, unfolding(qvt_types_groups::specs::Reuse::is_bad_disjunct))]
 pub fn is_bad_disjunct(mapping: &Mapping) -> bool
     ensures { result ≡ reuse.is_bad_disjunct (mapping_view mapping.now) }
 {
@@ -211,7 +211,7 @@ fn tell_mapping_at(
 }
 
 /// Tells what is wrong with the lists of a unit, where it is a mapping; `cycles` tells of the lists which lead back to themselves.
-#[tactic(auto, unfolding(qvt_types_units::specs::Reuse::mapping_told))]
+#[tactic(auto, unfolding(qvt_types_groups::specs::Reuse::mapping_told))]
 fn tell_unit(
     alloc: Global,
     listing: &Listing<'_>,

@@ -1,12 +1,12 @@
 //! The names of mappings in traces.
 
 ghost use Rattle.std.specs.Prelude.{◌≡◌, ◌++◌, codes, IfOk};
-ghost use Rattle.qvt_types_units.specs.Units as units_told;
+ghost use Rattle.qvt_types_groups.specs.Units as units_told;
 
 use qvt_base::list_fault::ListFault;
 use qvt_base::text::Text;
-use qvt_metas::metas::Metas;
-use qvt_types_units::signature::HeadClass;
+use qvt_types_groups::signature::HeadClass;
+use qvt_types_paths::metas::Metas;
 use std::alloc::Global;
 
 /// A name behind another.

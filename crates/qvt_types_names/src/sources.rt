@@ -11,13 +11,13 @@ use qvt_base::copied::Copied;
 use qvt_base::list_fault::ListFault;
 use qvt_base::numbers::FeatureNo;
 use qvt_base::text::Text;
-use qvt_metas::metas::Metas;
 use qvt_types_classes::classes::is_typed;
 use qvt_types_data::note::Reading;
 use qvt_types_data::refusal::RefusalKind;
 use qvt_types_data::ruling::{Read, Ruling};
 use qvt_types_data::ty::Ty;
 use qvt_types_data::variable::{Variable, VariableSort};
+use qvt_types_words::metas::Metas;
 use qvt_types_words::types::feature_type;
 use std::alloc::Global;
 

@@ -3,9 +3,9 @@
 use Rattle.std.specs.Prelude.{ℕ, ◌==◌, List, [], ◌∷◌, ◌++◌, map, position, Option, Some, None, is_none, if◌then◌else◌, length, slice_index_or}
 use Rattle.std.specs.List.{list_any, flat_map}
 use Rattle.std.specs.Str.{bytes_eq}
-use Rattle.qvt_metamodel.specs.Metamodels.{Metamodels}
-use Rattle.qvt_metamodel.specs.Named.{metamodel_named}
-use Rattle.qvt_metamodel.specs.Names.{is_among}
+use Rattle.qvt_metas.specs.Metamodels.{Metamodels}
+use Rattle.qvt_metas.specs.Named.{metamodel_named}
+use Rattle.qvt_meta_names.specs.Names.{is_among}
 use Rattle.qvt_tree_types.specs.Module.{UnitTerm, ClassOf, MainOf, HelperOf, ConstructorOf, MappingOf}
 use Rattle.qvt_tree_types.specs.declared.module.ModelType.{ModelType}
 use Rattle.qvt_types_data.specs.declared.refusal.Refusal.{Refusal}

@@ -7,3 +7,6 @@ pub mod models;
 pub mod name_index;
 pub mod paths;
 pub mod told;
+
+pub use qvt_metas::metas;
+pub use qvt_types_data::{refusal, ty};

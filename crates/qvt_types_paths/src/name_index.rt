@@ -4,7 +4,7 @@ ghost use Rattle.std.specs.Prelude.{◌≡◌, ℕ, List, [], ◌∷◌, ◌++�
 ghost use Rattle.std.specs.Map.{lookup};
 ghost use Rattle.std.specs.Option.{option_or};
 ghost use Rattle.std.specs.Str.{bytes_eq};
-ghost use Rattle.qvt_metamodel.specs.Names.{is_among};
+ghost use Rattle.qvt_meta_names.specs.Names.{is_among};
 
 use qvt_base::list_fault::ListFault;
 use qvt_base::lists::NameList;

@@ -2,8 +2,8 @@
 use Rattle.std.proofs.Common.{◌≡◌, ◌∙◌, ℕ, suc, ◌+◌, ◌≤◌, Bool, true, false, cond, List, [], ◌∷◌, length, count_by, refl, sym, ap, arith}
 use Rattle.std.specs.Prelude.{if◌then◌else◌}
 use Rattle.std.proofs.lemmas.List.Sums.{count_by-le-length, sum_by-cons}
-use Rattle.qvt_types_units.specs.Numbers.{numbers_where}
-use Rattle.qvt_types_units.specs.declared.signature.Signature.{Signature}
+use Rattle.qvt_types_groups.specs.Numbers.{numbers_where}
+use Rattle.qvt_types_groups.specs.declared.signature.Signature.{Signature}
 
 pub counted : (p : Signature → Bool) (n : ℕ) (us : List Signature) → length (numbers_where p n us) ≡ count_by p us
 counted p n [] = refl

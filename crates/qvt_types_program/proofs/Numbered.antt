@@ -5,10 +5,10 @@ use Rattle.std.proofs.lemmas.List.{get_or_default, get_or_past}
 use Rattle.std.proofs.lemmas.Bool.{and_parts, eq-eqb, eqb-true, ne_eqb}
 use Rattle.qvt_meta_names.proofs.Tables.{first_at, first-position}
 use Rattle.qvt_metamodel.specs.Metamodels.{Metamodels}
-use Rattle.qvt_types_units.specs.Numbers.{is_mapping, numbers_where, unit_at}
-use Rattle.qvt_types_units.specs.declared.signature.Signature.{Signature}
-use Rattle.qvt_types_units.specs.declared.signature.UnitSort.{UnitSort}
-use Rattle.qvt_types_units.specs.declared.signature.UnitSort.TheVariants as sort
+use Rattle.qvt_types_groups.specs.Numbers.{is_mapping, numbers_where, unit_at}
+use Rattle.qvt_types_groups.specs.declared.signature.Signature.{Signature}
+use Rattle.qvt_types_groups.specs.declared.signature.UnitSort.{UnitSort}
+use Rattle.qvt_types_groups.specs.declared.signature.UnitSort.TheVariants as sort
 use Rattle.qvt_types_program.specs.Mappings.{AreNumbered, are_numbered, has_number, number_after, is_mapping_number, is_mapping_of, mapping_unit, mapping_units, mapping_names, mapping_name, signature_at, traced}
 
 abbrev is_one : Signature → Bool

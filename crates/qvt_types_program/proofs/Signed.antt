@@ -5,8 +5,8 @@ use Rattle.std.proofs.lemmas.Bool.{and_from, eq-eqb}
 use Rattle.qvt_metamodel.specs.Metamodels.{Metamodels}
 use Rattle.qvt_tree_types.specs.Module.{UnitTerm, ClassOf, MainOf, HelperOf, ConstructorOf, MappingOf}
 use Rattle.qvt_types_paths.specs.ModelTypes.{NamedTypes}
-use Rattle.qvt_types_units.specs.Signatures.{signature, signatures_from}
-use Rattle.qvt_types_units.specs.declared.signature.UnitSort.TheVariants as sort
+use Rattle.qvt_types_groups.specs.Signatures.{signature, signatures_from}
+use Rattle.qvt_types_groups.specs.declared.signature.UnitSort.TheVariants as sort
 use Rattle.qvt_types_program.specs.Mappings.{AreNumbered, are_numbered, has_number, number_after}
 
 pub signed_from : (m : Metamodels) (t : NamedTypes) (n : ℕ) (us : List UnitTerm) → AreNumbered n (signatures_from m t n us)

@@ -4,7 +4,7 @@ use Rattle.std.specs.Prelude.{ℕ, ◌+◌, ◌-◌, true, List, [], ◌∷◌, 
 use Rattle.qvt_slots.specs.declared.extent.Extent.{Extent}
 use Rattle.qvt_types_paths.specs.Models.{nowhere_row}
 use Rattle.qvt_types_paths.specs.declared.models.ModelRow.{ModelRow}
-use Rattle.qvt_typing.specs.Accepts.{ProgramTerm}
+use Rattle.qvt_types_heads.specs.Accepts.{ProgramTerm}
 use Rattle.qvt_types_program.specs.Known.{known}
 
 abbrev pub row_at : List ModelRow → ℕ → ModelRow

@@ -1,3 +1,8 @@
+pub use Rattle.qvt_types_heads.specs.Context
+pub use Rattle.qvt_types_heads.specs.Accepts
+pub use Rattle.qvt_types_heads.specs.Heads
+pub use Rattle.qvt_types_groups.specs.Choices
+pub use Rattle.qvt_types_heads.specs.Seen
 pub mod Mappings
 pub mod Tables
 pub mod Known

@@ -1,11 +1,11 @@
 -- The mappings of a transformation by their numbers, and their names in traces (QVT 1.3, 8.2.1.15).
 use Rattle.std.specs.Prelude.{ℕ, ◌+◌, ◌==◌, ◌&&◌, Bool, true, false, IsTrue, List, [], ◌∷◌, map, count_by, position, Option, Some, None}
 use Rattle.qvt_metamodel.specs.Metamodels.{Metamodels}
-use Rattle.qvt_types_units.specs.declared.signature.Signature.{Signature}
-use Rattle.qvt_types_units.specs.declared.signature.UnitSort.{UnitSort}
-use Rattle.qvt_types_units.specs.declared.signature.UnitSort.TheVariants as sort
-use Rattle.qvt_types_units.specs.Numbers.{unit_at, no_unit, numbers_where, is_mapping}
-use Rattle.qvt_types_units.specs.Units.{traced_name}
+use Rattle.qvt_types_groups.specs.declared.signature.Signature.{Signature}
+use Rattle.qvt_types_groups.specs.declared.signature.UnitSort.{UnitSort}
+use Rattle.qvt_types_groups.specs.declared.signature.UnitSort.TheVariants as sort
+use Rattle.qvt_types_groups.specs.Numbers.{unit_at, no_unit, numbers_where, is_mapping}
+use Rattle.qvt_types_groups.specs.Units.{traced_name}
 
 abbrev pub mapping_count : List Signature → ℕ
 mapping_count us = count_by (λ u. is_mapping u.sort) us

@@ -7,8 +7,8 @@ use Rattle.qvt_types_nodes.specs.StripModule.{strip}
 use Rattle.qvt_types_paths.specs.Models.{nowhere_row}
 use Rattle.qvt_types_heads.specs.declared.declarations.Declarations.{Declarations}
 use Rattle.qvt_types_heads.specs.Heads.{heads_over}
-use Rattle.qvt_typing.specs.Accepts.{ProgramTerm}
-use Rattle.qvt_typing.specs.Context.{Heads}
+use Rattle.qvt_types_heads.specs.Accepts.{ProgramTerm}
+use Rattle.qvt_types_heads.specs.Context.{Heads}
 use Rattle.qvt_types_program.specs.Known.{known}
 use Rattle.qvt_types_program.specs.declared.program.Program.{Program}
 

@@ -5,3 +5,6 @@ pub mod extents;
 mod known;
 pub mod program;
 pub mod tables;
+
+pub use qvt_types_groups::signature;
+pub use qvt_types_heads::{calls, declarations, least, reading};

@@ -9,14 +9,14 @@ ghost use Rattle.qvt_types_program.specs.Tables.{tables_of};
 use crate::known::known;
 use crate::tables::Tables;
 use qvt_base::numbers::MappingNo;
-use qvt_metas::metas::Metas;
 use qvt_tree_types::module::ModelParamList;
-use qvt_types_context::context::Heads;
+use qvt_types_groups::signature::Signature;
 use qvt_types_groups::units::Units;
+use qvt_types_heads::context::Heads;
 use qvt_types_heads::declarations::{Declarations, lent};
 use qvt_types_nodes::module::{TypedModule, TypedUnit};
+use qvt_types_paths::metas::Metas;
 use qvt_types_paths::models::Models;
-use qvt_types_units::signature::Signature;
 
 /// A transformation that is accepted: the tree of its text with a note on each node, and what its heads declare.
 pub struct Program {
@@ -43,7 +43,7 @@ impl Program {
     ghost use Rattle.qvt_types_nodes.specs.Module.{typed_unit_view};
     ghost use Rattle.qvt_types_program.specs.Mappings as mappings_of;
     ghost use Rattle.qvt_types_program.specs.Program as words;
-    ghost use Rattle.qvt_types_context.specs.Seen.{heads_seen};
+    ghost use Rattle.qvt_types_heads.specs.Seen.{heads_seen};
 
     /// The program of a typed tree, with what its heads declare.
     pub fn new(module: TypedModule, declarations: Declarations, tables: Tables) -> Program

@@ -1,7 +1,7 @@
 //! What a program is asked by number: its model parameters and its mappings.
 
 ghost use Rattle.std.specs.Prelude.{◌≡◌, ◌++◌, [], ◌∷◌, ◌<◌, map, length, IfOk, OnOk, if◌then◌else◌};
-ghost use Rattle.qvt_types_units.specs.Numbers as numbers;
+ghost use Rattle.qvt_types_groups.specs.Numbers as numbers;
 ghost use Rattle.qvt_types_program.specs.Mappings as mappings_of;
 ghost use Rattle.qvt_types_program.specs.Tables.{tables_of};
 
@@ -10,13 +10,13 @@ use qvt_base::list_fault::ListFault;
 use qvt_base::lists::NameList;
 use qvt_base::seq::Seq;
 use qvt_base::text::Text;
-use qvt_metas::metas::Metas;
 use qvt_tree_types::module::{ModelParam, ModelParamList};
+use qvt_types_groups::numbers::is_mapping;
+use qvt_types_groups::signature::Signature;
 use qvt_types_groups::units::Units;
 use qvt_types_heads::declarations::Declarations;
-use qvt_types_lists::traced::traced_name;
-use qvt_types_units::numbers::is_mapping;
-use qvt_types_units::signature::Signature;
+use qvt_types_heads::traced::traced_name;
+use qvt_types_paths::metas::Metas;
 use std::alloc::Global;
 
 /// What a program is asked by number.

@@ -5,7 +5,7 @@ use Rattle.qvt_tree_types.specs.declared.words.Sign.{Sign}
 use Rattle.qvt_tree_types.specs.declared.words.PrefixOp.TheVariants.{Not}
 use Rattle.qvt_types_states.specs.Judge.{writes_nothing}
 use Rattle.qvt_types_states.specs.declared.state.State.{State}
-use Rattle.qvt_typing.specs.Rules.{sign_notes}
+use Rattle.qvt_types_context.specs.Rules.{sign_notes}
 
 some_sign : Sign
 some_sign = record { op = Not; place = record { line = 1; column = 1; offset = 0 } }

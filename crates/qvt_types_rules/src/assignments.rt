@@ -4,8 +4,8 @@ ghost use Rattle.std.specs.Prelude.{◌≡◌};
 ghost use Rattle.qvt_types_data.specs.declared.refusal.RefusalKind.TheVariants as refusal;
 ghost use Rattle.qvt_types_context.specs.Seen.{heads_seen, seen};
 ghost use Rattle.qvt_types_states.specs.Does.{Does};
-ghost use Rattle.qvt_typing.specs.Aims as aims;
-ghost use Rattle.qvt_typing.specs.Statements as rule_of;
+ghost use Rattle.qvt_types_context.specs.Aims as aims;
+ghost use Rattle.qvt_types_context.specs.Statements as rule_of;
 
 use crate::settling::not_pure;
 use qvt_base::list_fault::ListFault;
@@ -13,13 +13,13 @@ use qvt_base::numbers::Place;
 use qvt_base::text::Text;
 use qvt_types_context::aims::{aim_read, bare_aim, changes_property, member_aim, result_aim};
 use qvt_types_context::context::{Context, Heads};
+use qvt_types_context::parts::{Aim, Effect};
 use qvt_types_data::refusal::RefusalKind;
 use qvt_types_data::ty::Ty;
 use qvt_types_states::state::State;
 use qvt_types_states::steps::{checked, marks, writes_nothing};
 use qvt_types_words::rulings::{property_wrong, variable_wrong};
 use qvt_types_words::types::value_type;
-use qvt_typing::parts::{Aim, Effect};
 
 /// What is told where nothing has the name.
 fn nowhere_told(kind: RefusalKind, aim: &Aim) -> Option<RefusalKind>
@@ -46,7 +46,7 @@ fn aimed(
     Ok(aim)
 }
 
-#[tactic(auto, unfolding(qvt_typing::specs::Statements::bare_target))]
+#[tactic(auto, unfolding(qvt_types_context::specs::Statements::bare_target))]
 pub fn bare_target(
     x: &Context<'_>,
     name: &Text,
@@ -59,7 +59,7 @@ pub fn bare_target(
     aimed(x, RefusalKind::UnknownName, place, aim, state)
 }
 
-#[tactic(auto, unfolding(qvt_typing::specs::Statements::result_target))]
+#[tactic(auto, unfolding(qvt_types_context::specs::Statements::result_target))]
 pub fn result_target(x: &Context<'_>, place: Place, state: &mut State) -> Result<Aim, ListFault>
     ensures { Does (rule_of.result_target (seen x.now) place state.old) result state.new }
 {
@@ -106,7 +106,7 @@ fn aimed_wrong(heads: &Heads<'_>, adds: bool, aim: &Aim, ty: &Ty) -> Option<Refu
 }
 
 /// Tells what is wrong with an assignment whose target and value are judged.
-#[tactic(auto, unfolding(qvt_typing::specs::Statements::assigned))]
+#[tactic(auto, unfolding(qvt_types_context::specs::Statements::assigned))]
 pub fn assigned(
     x: &Context<'_>,
     aim: &Aim,

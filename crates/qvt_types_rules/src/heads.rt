@@ -4,8 +4,8 @@ ghost use Rattle.std.specs.Prelude.{◌≡◌, IfOk};
 ghost use Rattle.qvt_tree_types.specs.View.{optional_type};
 ghost use Rattle.qvt_types_context.specs.Seen.{seen};
 ghost use Rattle.qvt_types_states.specs.Does.{Does};
-ghost use Rattle.qvt_typing.specs.Phrases as phrase;
-ghost use Rattle.qvt_typing.specs.Rules as rule;
+ghost use Rattle.qvt_types_context.specs.Phrases as phrase;
+ghost use Rattle.qvt_types_context.specs.Rules as rule;
 
 use crate::leaves::type_if;
 use qvt_base::copied::Copied;
@@ -15,6 +15,7 @@ use qvt_base::text::Text;
 use qvt_tree_types::types::TypeTree;
 use qvt_types_context::context::Context;
 use qvt_types_context::names::{source, unnamed};
+use qvt_types_context::parts::Given;
 use qvt_types_data::refusal::RefusalKind;
 use qvt_types_data::ty::{Ty, copied};
 use qvt_types_data::variable::VariableSort;
@@ -25,10 +26,9 @@ use qvt_types_steps::heads::{
     Heading, accumulator_wrong, folding_head, iterator_type, iterator_wrong, plain_head,
 };
 use qvt_types_steps::iterators::iterator_named;
-use qvt_typing::parts::Given;
 
 /// An arrow without a Head: an iterator without a name is an implicit source.
-#[tactic(auto, unfolding(qvt_typing::specs::Rules::no_head))]
+#[tactic(auto, unfolding(qvt_types_context::specs::Rules::no_head))]
 pub fn no_head(
     x: &Context<'_>,
     name: &Text,
@@ -76,7 +76,7 @@ fn if_new(is_new: bool, heading: Heading) -> Heading
 }
 
 /// A Head without an accumulator.
-#[tactic(auto, unfolding(qvt_typing::specs::Rules::plain_heading))]
+#[tactic(auto, unfolding(qvt_types_context::specs::Rules::plain_heading))]
 pub fn plain_heading(
     x: &Context<'_>,
     name: &Text,
@@ -134,7 +134,7 @@ pub struct FoldNames<'a> {
 }
 
 /// Declares the iterator and the accumulator of a Head whose types and first value are judged.
-#[tactic(auto, unfolding(qvt_typing::specs::Rules::folded))]
+#[tactic(auto, unfolding(qvt_types_context::specs::Rules::folded))]
 pub fn folded(
     x: &Context<'_>,
     names: &FoldNames<'_>,

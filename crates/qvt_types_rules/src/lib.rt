@@ -9,3 +9,5 @@ pub mod parts;
 pub mod resolves;
 pub mod settling;
 pub mod statements;
+
+pub use qvt_types_context::{aims, calls, context};

@@ -4,9 +4,9 @@ ghost use Rattle.std.specs.Prelude.{◌≡◌, IfOk, length};
 ghost use Rattle.qvt_types_context.specs.Seen.{seen};
 ghost use Rattle.qvt_types_states.specs.Does.{Does};
 ghost use Rattle.qvt_types_states.specs.Scopes.{found};
-ghost use Rattle.qvt_types_units.specs.Numbers.{constructor_of};
-ghost use Rattle.qvt_typing.specs.Phrases as phrase;
-ghost use Rattle.qvt_typing.specs.Rules as rule;
+ghost use Rattle.qvt_types_lists.specs.Numbers.{constructor_of};
+ghost use Rattle.qvt_types_context.specs.Phrases as phrase;
+ghost use Rattle.qvt_types_context.specs.Rules as rule;
 
 use crate::settling::tell_effect;
 use qvt_base::list_fault::ListFault;
@@ -17,6 +17,7 @@ use qvt_tree_types::types::ObjectVar;
 use qvt_types_context::calls::{no_unit, unit_at};
 use qvt_types_context::context::Context;
 use qvt_types_context::names::{made_read, result_ruled, variable_ruled};
+use qvt_types_context::parts::{Effect, ObjectVariable};
 use qvt_types_data::refusal::RefusalKind;
 use qvt_types_data::ruling::Ruling;
 use qvt_types_data::ty::{Ty, same};
@@ -27,7 +28,6 @@ use qvt_types_states::state::State;
 use qvt_types_states::steps::{answers, marks, settled, tell};
 use qvt_types_steps::classes::ClassPart;
 use qvt_types_steps::units::arguments_wrong;
-use qvt_typing::parts::{Effect, ObjectVariable};
 
 fn variable_of_type(ty: Option<Ty>) -> ObjectVariable
     ensures { result ≡ rule.variable_of_type ty }
@@ -52,7 +52,7 @@ fn settable_ruled(x: &Context<'_>, scope: &Scope, name: &str) -> Result<Ruling, 
 }
 
 /// The variable of an object expression.
-#[tactic(auto, unfolding(qvt_typing::specs::Rules::no_variable, qvt_typing::specs::Rules::named_variable, qvt_typing::specs::Rules::result_variable))]
+#[tactic(auto, unfolding(qvt_types_context::specs::Rules::no_variable, qvt_types_context::specs::Rules::named_variable, qvt_types_context::specs::Rules::result_variable))]
 pub fn object_variable(
     x: &Context<'_>,
     variable: &Option<ObjectVar>,
@@ -212,7 +212,7 @@ fn new_place(ruling: &Ruling, path: Place, place: Place) -> Place
 }
 
 /// Settles a `new` whose class and arguments are judged.
-#[tactic(auto, unfolding(qvt_typing::specs::Rules::constructed))]
+#[tactic(auto, unfolding(qvt_types_context::specs::Rules::constructed))]
 pub fn constructed(
     x: &Context<'_>,
     number: ExprNo,

@@ -5,8 +5,8 @@ ghost use Rattle.std.specs.Option.{option_copied};
 ghost use Rattle.qvt_tree_types.specs.View.{expr_view, step_view, steps_of};
 ghost use Rattle.qvt_types_context.specs.Seen.{seen};
 ghost use Rattle.qvt_types_states.specs.Does.{Does};
-ghost use Rattle.qvt_typing.specs.Phrases as phrase;
-ghost use Rattle.qvt_typing.specs.Rules as rule;
+ghost use Rattle.qvt_types_context.specs.Phrases as phrase;
+ghost use Rattle.qvt_types_context.specs.Rules as rule;
 
 use qvt_base::copied::Copied;
 use qvt_base::list_fault::ListFault;
@@ -17,6 +17,7 @@ use qvt_tree_types::types::PathTree;
 use qvt_tree_types::words::Sign;
 use qvt_types_context::context::Context;
 use qvt_types_context::names::names_model;
+use qvt_types_context::parts::Effect;
 use qvt_types_data::ruling::Ruling;
 use qvt_types_data::ty::Ty;
 use qvt_types_states::scope::Scope;
@@ -27,7 +28,6 @@ use qvt_types_steps::classes::{ClassPart, model_call_named, selection};
 use qvt_types_steps::heads::Heading;
 use qvt_types_steps::iterators::IteratorKind;
 use qvt_types_words::rulings::prefixed;
-use qvt_typing::parts::Effect;
 use std::alloc::Global;
 
 /// The types of all, if each has one.

@@ -3,8 +3,8 @@
 ghost use Rattle.std.specs.Prelude.{◌≡◌, IfOk};
 ghost use Rattle.qvt_types_context.specs.Seen.{seen};
 ghost use Rattle.qvt_types_states.specs.Does.{Does};
-ghost use Rattle.qvt_typing.specs.Phrases as phrase;
-ghost use Rattle.qvt_typing.specs.Rules as rule;
+ghost use Rattle.qvt_types_context.specs.Phrases as phrase;
+ghost use Rattle.qvt_types_context.specs.Rules as rule;
 
 use crate::settling::tell_effect;
 use qvt_base::list_fault::ListFault;
@@ -15,20 +15,20 @@ use qvt_tree_types::words::ResolveWord;
 use qvt_types_context::calls::{no_unit, numbers_of, unit_at};
 use qvt_types_context::context::Context;
 use qvt_types_context::names::{class_type, source, unnamed};
+use qvt_types_context::parts::{Effect, Filtered, Given, Within};
 use qvt_types_data::note::Reading;
 use qvt_types_data::refusal::RefusalKind;
 use qvt_types_data::ruling::{Read, Ruling};
 use qvt_types_data::ty::Ty;
 use qvt_types_data::variable::VariableSort;
 use qvt_types_lists::listed::listed;
+use qvt_types_lists::signature::HeadClass;
 use qvt_types_states::scope::Known;
 use qvt_types_states::state::State;
 use qvt_types_states::steps::{add_source, declare, marks, settled, tell, writes_nothing};
 use qvt_types_steps::classes::ClassPart;
 use qvt_types_steps::resolves as ruling_of;
 use qvt_types_steps::resolves::{Joint, class_within};
-use qvt_types_units::signature::HeadClass;
-use qvt_typing::parts::{Effect, Filtered, Given, Within};
 
 /// What is ruled of a path that is to name a mapping.
 fn listed_ruled(x: &Context<'_>, unit: Result<u32, RefusalKind>) -> Result<Ruling, ListFault>
@@ -53,7 +53,7 @@ fn within_of(unit: Result<u32, RefusalKind>) -> Within
 }
 
 /// A path that names a mapping.
-#[tactic(auto, unfolding(qvt_typing::specs::Rules::listed_path))]
+#[tactic(auto, unfolding(qvt_types_context::specs::Rules::listed_path))]
 pub fn listed_path(x: &Context<'_>, path: &PathTree, state: &mut State) -> Result<Within, ListFault>
     ensures { Does (rule.listed_path (seen x.now) path.now state.old) result state.new }
 {
@@ -65,7 +65,7 @@ pub fn listed_path(x: &Context<'_>, path: &PathTree, state: &mut State) -> Resul
 }
 
 /// The mapping of an `In` form.
-#[tactic(auto, unfolding(qvt_typing::specs::Rules::everywhere))]
+#[tactic(auto, unfolding(qvt_types_context::specs::Rules::everywhere))]
 pub fn within(
     x: &Context<'_>,
     path: &Option<PathTree>,
@@ -105,7 +105,7 @@ pub fn declare_filter(
 }
 
 /// Settles a filter whose class and condition are judged.
-#[tactic(auto, unfolding(qvt_typing::specs::Rules::filter_settled))]
+#[tactic(auto, unfolding(qvt_types_context::specs::Rules::filter_settled))]
 pub fn filter_settled(
     x: &Context<'_>,
     class: ClassPart,

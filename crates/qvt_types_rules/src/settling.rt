@@ -3,19 +3,19 @@
 ghost use Rattle.std.specs.Prelude.{◌≡◌};
 ghost use Rattle.qvt_types_context.specs.Seen.{seen};
 ghost use Rattle.qvt_types_states.specs.Does.{Does};
-ghost use Rattle.qvt_typing.specs.Calls as calls;
-ghost use Rattle.qvt_typing.specs.Rules as rule;
+ghost use Rattle.qvt_types_context.specs.Calls as calls;
+ghost use Rattle.qvt_types_context.specs.Rules as rule;
 
 use qvt_base::list_fault::ListFault;
 use qvt_base::numbers::{ExprNo, Place};
 use qvt_types_context::context::Context;
+use qvt_types_context::parts::Effect;
 use qvt_types_data::note::Reading;
 use qvt_types_data::refusal::RefusalKind;
 use qvt_types_data::ruling::{Read, Ruling};
 use qvt_types_data::ty::Ty;
 use qvt_types_states::state::State;
 use qvt_types_states::steps::{answers, checked, fresh, marks, settled, writes_nothing};
-use qvt_typing::parts::Effect;
 
 /// What is told of a node that does this where nothing may be made or changed.
 pub fn not_pure(x: &Context<'_>, effect: Effect) -> Option<RefusalKind>
@@ -104,7 +104,7 @@ pub fn stands_as(
 }
 
 /// A literal of this type.
-#[tactic(auto, unfolding(qvt_typing::specs::Rules::constant))]
+#[tactic(auto, unfolding(qvt_types_context::specs::Rules::constant))]
 pub fn constant(x: &Context<'_>, ty: Ty, state: &mut State) -> Result<Option<Ty>, ListFault>
     ensures { Does (rule.constant ty state.old) result state.new }
 {

@@ -8,13 +8,14 @@ ghost use Rattle.std.specs.List.{list_all};
 ghost use Rattle.qvt_types_data.specs.declared.ty.Ty.TheVariants as booleans;
 ghost use Rattle.qvt_types_words.specs.Rulings as ruling;
 ghost use Rattle.qvt_types_words.specs.Types.{conforms as conforms_to};
-ghost use Rattle.qvt_typing.specs.Statements as rule_of;
+ghost use Rattle.qvt_types_context.specs.Statements as rule_of;
 
 use qvt_base::list_fault::ListFault;
 use qvt_base::numbers::Place;
 use qvt_base::seq::Seq;
 use qvt_base::text::Text;
 use qvt_types_context::context::{Context, Returns};
+use qvt_types_context::parts::Given;
 use qvt_types_data::note::Reading;
 use qvt_types_data::refusal::RefusalKind;
 use qvt_types_data::ruling::Read;
@@ -27,10 +28,9 @@ use qvt_types_steps::calls::is_single;
 use qvt_types_steps::heads::{item_type, iterator_type, iterator_wrong};
 use qvt_types_words::rulings::{var_type, var_wrong};
 use qvt_types_words::types::conforms;
-use qvt_typing::parts::Given;
 
 /// Declares a variable whose type and value are judged.
-#[tactic(auto, unfolding(qvt_typing::specs::Statements::declared))]
+#[tactic(auto, unfolding(qvt_types_context::specs::Statements::declared))]
 pub fn declared(
     x: &Context<'_>,
     name: &Text,
@@ -103,7 +103,7 @@ fn return_told(x: &Context<'_>, value: &Given) -> Option<RefusalKind>
 }
 
 /// Tells what is wrong with a `return` whose value is judged.
-#[tactic(auto, unfolding(qvt_typing::specs::Statements::returned))]
+#[tactic(auto, unfolding(qvt_types_context::specs::Statements::returned))]
 pub fn returned(
     x: &Context<'_>,
     value: &Given,

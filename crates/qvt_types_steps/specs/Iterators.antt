@@ -1,17 +1,17 @@
 -- What is ruled of an arrow: of iterators by their Head, the items of the source and the body (OCL 2.4, 7.6 and 11.9), and of
 -- operations, which take no Head.
 use Rattle.std.specs.Prelude.{ℕ, ◌&&◌, ◌||◌, Bool, true, false, if◌then◌else◌, List, [], ◌∷◌, Option, Some, None}
-use Rattle.qvt_metamodel.specs.Metamodels.{Metamodels}
+use Rattle.qvt_types_words.specs.Metamodels.{Metamodels}
 use Rattle.qvt_tree_types.specs.declared.words.CollKind.{CollKind}
 use Rattle.qvt_tree_types.specs.declared.words.CollKind.TheVariants as coll
-use Rattle.qvt_types_data.specs.declared.ty.Ty.{Ty}
-use Rattle.qvt_types_data.specs.declared.ty.Ty.TheVariants as ty
-use Rattle.qvt_types_data.specs.Notes.{plain, ruled_wrapped}
-use Rattle.qvt_types_data.specs.declared.note.Reading.TheVariants as reading
-use Rattle.qvt_types_data.specs.declared.refusal.RefusalKind.{RefusalKind}
-use Rattle.qvt_types_data.specs.declared.refusal.RefusalKind.TheVariants as refusal
-use Rattle.qvt_types_data.specs.declared.ruling.Ruling.{Ruling}
-use Rattle.qvt_types_data.specs.declared.ruling.Ruling.TheVariants.{Holds, Fails, Silent}
+use Rattle.qvt_types_words.specs.declared.ty.Ty.{Ty}
+use Rattle.qvt_types_words.specs.declared.ty.Ty.TheVariants as ty
+use Rattle.qvt_types_words.specs.Notes.{plain, ruled_wrapped}
+use Rattle.qvt_types_words.specs.declared.note.Reading.TheVariants as reading
+use Rattle.qvt_types_words.specs.declared.refusal.RefusalKind.{RefusalKind}
+use Rattle.qvt_types_words.specs.declared.refusal.RefusalKind.TheVariants as refusal
+use Rattle.qvt_types_words.specs.declared.ruling.Ruling.{Ruling}
+use Rattle.qvt_types_words.specs.declared.ruling.Ruling.TheVariants.{Holds, Fails, Silent}
 use Rattle.qvt_types_words.specs.Rulings.{wrong_unless, items_conform}
 use Rattle.qvt_types_words.specs.Types.{conforms, innermost, is_ordered, collected_kind, Collection, collection_of}
 use Rattle.qvt_types_steps.specs.Calls.{source_of, is_single, call, named_arity}

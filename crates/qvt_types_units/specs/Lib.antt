@@ -1,3 +1,8 @@
+pub use Rattle.qvt_types_classes.specs.Paths
+pub use Rattle.qvt_types_classes.specs.Models
+pub use Rattle.qvt_types_classes.specs.ModelTypes
+pub use Rattle.qvt_types_classes.specs.Written
+pub use Rattle.qvt_types_classes.specs.Classes
 pub mod Signatures
 pub mod Numbers
 pub mod Choice

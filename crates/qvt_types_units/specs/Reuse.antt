@@ -4,18 +4,18 @@ use Rattle.std.specs.Prelude.{ℕ, ◌==◌, ◌&&◌, ◌||◌, not, Bool, true
 use Rattle.std.specs.List.{flat_map}
 use Rattle.qvt_base.specs.declared.numbers.ClassNo.{ClassNo}
 use Rattle.qvt_base.specs.declared.numbers.Place.{Place}
-use Rattle.qvt_cycle.specs.Successors.{is_on_cycle}
+use Rattle.qvt_types_classes.specs.Successors.{is_on_cycle}
 use Rattle.qvt_metamodel.specs.Metamodels.{Metamodels}
 use Rattle.qvt_metamodel.specs.Descends.{descends}
 use Rattle.qvt_tree_types.specs.Tree.{StmtTerms, NoStmts, MoreStmts}
 use Rattle.qvt_tree_types.specs.Module.{MappingTerm, UnitTerm, ClassOf, MainOf, HelperOf, ConstructorOf, MappingOf}
 use Rattle.qvt_tree_types.specs.declared.types.PathTree.{PathTree}
-use Rattle.qvt_types_data.specs.declared.refusal.Refusal.{Refusal}
-use Rattle.qvt_types_data.specs.declared.refusal.RefusalKind.{RefusalKind}
-use Rattle.qvt_types_data.specs.declared.refusal.RefusalKind.TheVariants.{UnknownName, BadReuse, BadDisjunct, ReuseCycle}
-use Rattle.qvt_types_paths.specs.ModelTypes.{NamedTypes}
-use Rattle.qvt_types_paths.specs.Paths.{path_class, unless_ambiguous}
-use Rattle.qvt_types_paths.specs.Told.{told_if}
+use Rattle.qvt_types_words.specs.declared.refusal.Refusal.{Refusal}
+use Rattle.qvt_types_words.specs.declared.refusal.RefusalKind.{RefusalKind}
+use Rattle.qvt_types_words.specs.declared.refusal.RefusalKind.TheVariants.{UnknownName, BadReuse, BadDisjunct, ReuseCycle}
+use Rattle.qvt_types_classes.specs.ModelTypes.{NamedTypes}
+use Rattle.qvt_types_classes.specs.Paths.{path_class, unless_ambiguous}
+use Rattle.qvt_types_classes.specs.Told.{told_if}
 use Rattle.qvt_types_units.specs.declared.signature.HeadClass.{HeadClass}
 use Rattle.qvt_types_units.specs.declared.signature.HeadClass.TheVariants.{Missing, Unknown, Known}
 use Rattle.qvt_types_units.specs.declared.signature.Signature.{Signature}

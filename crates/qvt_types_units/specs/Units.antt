@@ -8,14 +8,14 @@ use Rattle.qvt_metamodel.specs.Named.{metamodel_at}
 use Rattle.qvt_tree_types.specs.Tree.{TypeTerm}
 use Rattle.qvt_tree_types.specs.Module.{TypedName, HelperTerm, MappingTerm, UnitTerm, ClassOf, MainOf, HelperOf, ConstructorOf, MappingOf}
 use Rattle.qvt_tree_types.specs.declared.module.ResultDecl.{ResultDecl}
-use Rattle.qvt_types_data.specs.declared.refusal.Refusal.{Refusal}
-use Rattle.qvt_types_data.specs.declared.refusal.RefusalKind.TheVariants.{SameName, BadOverride, BadContext, BadExtent, NoMain}
-use Rattle.qvt_types_data.specs.declared.ty.Ty.{Ty}
-use Rattle.qvt_types_paths.specs.declared.models.Models.{Models}
-use Rattle.qvt_types_paths.specs.ModelTypes.{NamedTypes}
-use Rattle.qvt_types_paths.specs.Models.{extent}
-use Rattle.qvt_types_paths.specs.Paths.{path_class, written_type}
-use Rattle.qvt_types_paths.specs.Told.{told_if}
+use Rattle.qvt_types_words.specs.declared.refusal.Refusal.{Refusal}
+use Rattle.qvt_types_words.specs.declared.refusal.RefusalKind.TheVariants.{SameName, BadOverride, BadContext, BadExtent, NoMain}
+use Rattle.qvt_types_words.specs.declared.ty.Ty.{Ty}
+use Rattle.qvt_types_classes.specs.declared.models.Models.{Models}
+use Rattle.qvt_types_classes.specs.ModelTypes.{NamedTypes}
+use Rattle.qvt_types_classes.specs.Models.{extent}
+use Rattle.qvt_types_classes.specs.Paths.{path_class, written_type}
+use Rattle.qvt_types_classes.specs.Told.{told_if}
 use Rattle.qvt_types_classes.specs.Written.{told_of}
 use Rattle.qvt_types_units.specs.declared.signature.HeadClass.{HeadClass}
 use Rattle.qvt_types_units.specs.declared.signature.HeadClass.TheVariants.{Missing, Unknown, Known}

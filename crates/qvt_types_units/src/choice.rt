@@ -8,7 +8,7 @@ use crate::signature::{HeadClass, Signature};
 use qvt_base::list_fault::ListFault;
 use qvt_base::numbers::ClassNo;
 use qvt_base::seq::Seq;
-use qvt_metas::metas::Metas;
+use qvt_types_words::metas::Metas;
 use std::alloc::Global;
 
 /// What a call by a name finds for objects of a static class.

@@ -8,3 +8,5 @@ pub mod reuse;
 pub mod signature;
 pub mod signatures;
 pub mod telling;
+
+pub use qvt_types_classes::{classes, models};

@@ -5,7 +5,7 @@ ghost use Rattle.qvt_types_units.specs.Reuse as reuse;
 
 use crate::overrides::params_differ;
 use crate::signature::{HeadClass, Signature};
-use qvt_metas::metas::Metas;
+use qvt_types_words::metas::Metas;
 
 /// How a mapping is reused.
 #[derive(Clone, Copy, Debug, PartialEq, Eq)]

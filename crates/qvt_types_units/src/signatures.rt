@@ -11,13 +11,13 @@ use qvt_base::list_fault::ListFault;
 use qvt_base::numbers::{ClassNo, MappingNo};
 use qvt_base::seq::Seq;
 use qvt_base::text::Text;
-use qvt_metas::metas::Metas;
 use qvt_tree_types::module::{ClassDecl, Helper, Mapping, Param, ResultDecl, Unit};
 use qvt_tree_types::types::TypeTree;
-use qvt_types_data::refusal::{Refusal, RefusalKind};
-use qvt_types_data::ty::Ty;
-use qvt_types_paths::model_types::TypeNames;
-use qvt_types_paths::paths::{path_class, written_type};
+use qvt_types_classes::model_types::TypeNames;
+use qvt_types_classes::paths::{path_class, written_type};
+use qvt_types_words::metas::Metas;
+use qvt_types_words::refusal::{Refusal, RefusalKind};
+use qvt_types_words::ty::Ty;
 use std::alloc::Global;
 
 /// A path without its last name.

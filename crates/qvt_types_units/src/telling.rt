@@ -12,16 +12,16 @@ use crate::signatures::{context_of, front_of, head_class, last_of};
 use qvt_base::list_fault::ListFault;
 use qvt_base::numbers::{ClassNo, Place};
 use qvt_base::text::Text;
-use qvt_metas::metas::Metas;
 use qvt_tree_types::module::{Helper, Mapping, Param, ResultDecl, Unit};
 use qvt_tree_types::types::TypeTree;
-use qvt_types_data::refusal::{Refusal, RefusalKind};
-use qvt_types_data::ty::Ty;
-use qvt_types_paths::extents::extent;
-use qvt_types_paths::model_types::TypeNames;
-use qvt_types_paths::models::Models;
-use qvt_types_paths::paths::{path_class, written_type};
-use qvt_types_paths::told::{RefusalList, tell_if};
+use qvt_types_classes::extents::extent;
+use qvt_types_classes::model_types::TypeNames;
+use qvt_types_classes::models::Models;
+use qvt_types_classes::paths::{path_class, written_type};
+use qvt_types_classes::told::{RefusalList, tell_if};
+use qvt_types_words::metas::Metas;
+use qvt_types_words::refusal::{Refusal, RefusalKind};
+use qvt_types_words::ty::Ty;
 use std::alloc::Global;
 
 /// What the heads of units are judged by: the metamodels that are given, those with the intermediate classes, the names of types

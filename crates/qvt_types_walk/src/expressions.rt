@@ -2,7 +2,7 @@
 
 ghost use Rattle.std.specs.Prelude.{◌≡◌, ◌+◌, ◌<◌, length, map, drop, option_map, false};
 ghost use Rattle.qvt_tree_types.specs.View as view;
-ghost use Rattle.qvt_types_context.specs.Seen.{seen};
+ghost use Rattle.qvt_types_rules.specs.Seen.{seen};
 ghost use Rattle.qvt_types_states.specs.Does.{Does};
 ghost use Rattle.qvt_types_steps.specs.Classes.{class_test_named, model_call_named};
 ghost use Rattle.qvt_types_steps.specs.IteratorTable.{iterator_named};
@@ -20,9 +20,9 @@ use qvt_base::seq::Seq;
 use qvt_base::text::Text;
 use qvt_tree_types::tree::{Expr, Item, Link, MapCall};
 use qvt_tree_types::words::{CollKind, Sign};
-use qvt_types_context::calls::{call_ruled, called_alone, effect_of};
-use qvt_types_context::context::Context;
 use qvt_types_data::ty::Ty;
+use qvt_types_rules::calls::{call_ruled, called_alone, effect_of};
+use qvt_types_rules::context::Context;
 use qvt_types_rules::leaves::{class_given, path, result_ref, self_ref};
 use qvt_types_rules::parts::{all_types, model_path, no_path, sign_notes, signed};
 use qvt_types_rules::settling::{constant, ruled, settled_bare, stands_as};

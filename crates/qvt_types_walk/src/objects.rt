@@ -2,7 +2,7 @@
 
 ghost use Rattle.std.specs.Prelude.{◌≡◌, ◌+◌, ◌<◌, length, map, drop, option_map, false};
 ghost use Rattle.qvt_tree_types.specs.View as view;
-ghost use Rattle.qvt_types_context.specs.Seen.{seen};
+ghost use Rattle.qvt_types_rules.specs.Seen.{seen};
 ghost use Rattle.qvt_types_states.specs.Does.{Does};
 ghost use Rattle.qvt_types_steps.specs.Classes.{class_test_named, model_call_named};
 ghost use Rattle.qvt_types_steps.specs.IteratorTable.{iterator_named};
@@ -18,9 +18,9 @@ use qvt_base::numbers::Place;
 use qvt_base::text::Text;
 use qvt_tree_types::tree::{Expr, Filter, ResolveCall, Stmt};
 use qvt_tree_types::types::{ObjectVar, PathTree};
-use qvt_types_context::context::Context;
 use qvt_types_data::ruling::Read;
 use qvt_types_data::ty::Ty;
+use qvt_types_rules::context::Context;
 use qvt_types_rules::leaves::{named_class, path, written_class};
 use qvt_types_rules::objects::{
     class_beside, constructed, object_ruled, object_variable, tell_abstract, tell_extent,

@@ -2,7 +2,7 @@
 
 ghost use Rattle.std.specs.Prelude.{◌≡◌, ◌∷◌, [], map, option_map, false};
 ghost use Rattle.qvt_tree_types.specs.View as view;
-ghost use Rattle.qvt_types_context.specs.Seen.{seen};
+ghost use Rattle.qvt_types_rules.specs.Seen.{seen};
 ghost use Rattle.qvt_types_states.specs.Does.{Does};
 ghost use Rattle.qvt_types_steps.specs.Classes.{class_test_named, model_call_named};
 ghost use Rattle.qvt_types_steps.specs.IteratorTable.{iterator_named};
@@ -19,10 +19,10 @@ use qvt_base::seq::Seq;
 use qvt_base::text::Text;
 use qvt_tree_types::tree::{Arm, Expr, Stmt, Target};
 use qvt_tree_types::types::TypeTree;
-use qvt_types_context::aims::takes_late;
-use qvt_types_context::context::Context;
 use qvt_types_data::ty::Ty;
+use qvt_types_rules::aims::takes_late;
 use qvt_types_rules::assignments::{assigned, bare_target, member_aimed, result_target};
+use qvt_types_rules::context::Context;
 use qvt_types_rules::leaves::type_if;
 use qvt_types_rules::parts::all_types;
 use qvt_types_rules::statements::{

@@ -2,7 +2,7 @@
 
 ghost use Rattle.std.specs.Prelude.{◌≡◌, ◌+◌, ◌<◌, length, map, drop, option_map, false};
 ghost use Rattle.qvt_tree_types.specs.View as view;
-ghost use Rattle.qvt_types_context.specs.Seen.{seen};
+ghost use Rattle.qvt_types_rules.specs.Seen.{seen};
 ghost use Rattle.qvt_types_states.specs.Does.{Does};
 ghost use Rattle.qvt_types_steps.specs.Classes.{class_test_named, model_call_named};
 ghost use Rattle.qvt_types_steps.specs.IteratorTable.{iterator_named};
@@ -19,10 +19,10 @@ use qvt_base::seq::Seq;
 use qvt_base::text::Text;
 use qvt_tree_types::tree::{Expr, Head, MapCall, Step};
 use qvt_tree_types::types::TypeTree;
-use qvt_types_context::calls::{called_behind, effect_of, map_ruled, unit_ruled};
-use qvt_types_context::context::{Context, body_context, unless_untyped};
 use qvt_types_data::ruling::Ruling;
 use qvt_types_data::ty::Ty;
+use qvt_types_rules::calls::{called_behind, effect_of, map_ruled, unit_ruled};
+use qvt_types_rules::context::{Context, body_context, unless_untyped};
 use qvt_types_rules::heads::{FoldNames, folded, no_head, plain_heading};
 use qvt_types_rules::leaves::{type_if, written_type};
 use qvt_types_rules::parts::{all_types, is_last, iterator_effect, reads_operation, selected_by};

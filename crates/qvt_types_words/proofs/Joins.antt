@@ -1,8 +1,8 @@
 -- A join of types is the join of their plain data.
 use Rattle.std.proofs.Common.{◌≡◌, refl, Bool, true, false, Option, Some, None, cond}
 use Rattle.std.specs.Option.{option_map}
-use Rattle.qvt_metamodel.specs.Metamodels.{Metamodels}
-use Rattle.qvt_metamodel.specs.Descends.{descends}
+use Rattle.qvt_metas.specs.Metamodels.{Metamodels}
+use Rattle.qvt_metas.specs.Descends.{descends}
 use Rattle.qvt_types_data.specs.Term.{ty_view}
 use Rattle.qvt_types_data.specs.declared.ty.Ty.{Ty}
 use Rattle.qvt_types_words.specs.Types.{conforms, join}

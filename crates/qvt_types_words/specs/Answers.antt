@@ -1,10 +1,10 @@
 -- The table of operations over the types of the program: what an operation answers at types of its source and its arguments,
 -- and how many arguments it takes (OCL 2.4, 11).
 use Rattle.std.specs.Prelude.{ℕ, Bool, if◌then◌else◌, List, [], length, map, Option, Some, None, option_map}
-use Rattle.qvt_metamodel.specs.Metamodels.{Metamodels}
-use Rattle.qvt_metamodel.specs.Descends.{descends}
-use Rattle.qvt_ocl_words.specs.declared.op.Op.{Op}
-use Rattle.qvt_ocl_words.specs.Operation.{is_test, is_equality}
+use Rattle.qvt_metas.specs.Metamodels.{Metamodels}
+use Rattle.qvt_metas.specs.Descends.{descends}
+use Rattle.qvt_ocl_types.specs.declared.op.Op.{Op}
+use Rattle.qvt_ocl_types.specs.Operation.{is_test, is_equality}
 use Rattle.qvt_ocl_types.specs.Table.{signature, listed}
 use Rattle.qvt_ocl_types.specs.Typing.{Taken, sort_of, accepts, answer_type}
 use Rattle.qvt_ocl_types.specs.declared.signature.Param.{Param}

@@ -1,3 +1,7 @@
+pub use Rattle.qvt_types_data.specs.Term
+pub use Rattle.qvt_types_data.specs.Notes
+pub use Rattle.qvt_metas.specs.Named
+pub use Rattle.qvt_metas.specs.Metamodels
 pub mod Answers
 pub mod OperationNames
 pub mod Rulings

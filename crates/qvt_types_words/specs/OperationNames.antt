@@ -1,8 +1,8 @@
 -- The operations by their names (OCL 2.4, 11). Operators have none.
 use Rattle.std.specs.Prelude.{ℕ, List, Option, Some, None, if◌then◌else◌, codes}
 use Rattle.std.specs.Str.{bytes_eq}
-use Rattle.qvt_ocl_words.specs.declared.op.Op.{Op}
-use Rattle.qvt_ocl_words.specs.declared.op.Op.TheVariants.{Abs, Append, AsBag, AsOrderedSet, AsSequence, AsSet, At, Characters, Concat, Count, Div, EndsWith, Excludes, ExcludesAll, Excluding, First, FirstToLower, FirstToUpper, Flatten, Includes, IncludesAll, Including, IndexOf, InsertAt, Intersection, IsEmpty, IsInvalid, IsUndefined, Last, Max, Min, Mod, NotEmpty, Prepend, Reverse, Size, StartsWith, SubOrderedSet, SubSequence, Substring, Sum, ToInteger, ToLower, ToString, ToUpper, Union}
+use Rattle.qvt_ocl_types.specs.declared.op.Op.{Op}
+use Rattle.qvt_ocl_types.specs.declared.op.Op.TheVariants.{Abs, Append, AsBag, AsOrderedSet, AsSequence, AsSet, At, Characters, Concat, Count, Div, EndsWith, Excludes, ExcludesAll, Excluding, First, FirstToLower, FirstToUpper, Flatten, Includes, IncludesAll, Including, IndexOf, InsertAt, Intersection, IsEmpty, IsInvalid, IsUndefined, Last, Max, Min, Mod, NotEmpty, Prepend, Reverse, Size, StartsWith, SubOrderedSet, SubSequence, Substring, Sum, ToInteger, ToLower, ToString, ToUpper, Union}
 
 -- of all values
 unfoldable pub of_any : List ℕ → Option Op

@@ -1,6 +1,6 @@
 -- What is ruled of a node by the types of its parts alone.
 use Rattle.std.specs.Prelude.{◌&&◌, ◌||◌, Bool, true, false, if◌then◌else◌, List, [], ◌∷◌, Option, Some, None}
-use Rattle.qvt_metamodel.specs.Metamodels.{Metamodels}
+use Rattle.qvt_metas.specs.Metamodels.{Metamodels}
 use Rattle.qvt_tree_types.specs.declared.words.BinaryOp.{BinaryOp}
 use Rattle.qvt_tree_types.specs.declared.words.BinaryOp.TheVariants as op
 use Rattle.qvt_tree_types.specs.declared.words.PrefixOp.{PrefixOp}
@@ -14,8 +14,8 @@ use Rattle.qvt_types_data.specs.declared.refusal.RefusalKind.{RefusalKind}
 use Rattle.qvt_types_data.specs.declared.refusal.RefusalKind.TheVariants as refusal
 use Rattle.qvt_types_data.specs.declared.ruling.Ruling.{Ruling}
 use Rattle.qvt_types_data.specs.declared.ruling.Ruling.TheVariants.{Holds, Fails, Silent}
-use Rattle.qvt_ocl_words.specs.declared.op.Op.{Op}
-use Rattle.qvt_ocl_words.specs.declared.op.Op.TheVariants.{Equal, NotEqual, Plus, Minus, Times, Negate, Less, LessEqual, Greater, GreaterEqual}
+use Rattle.qvt_ocl_types.specs.declared.op.Op.{Op}
+use Rattle.qvt_ocl_types.specs.declared.op.Op.TheVariants.{Equal, NotEqual, Plus, Minus, Times, Negate, Less, LessEqual, Greater, GreaterEqual}
 use Rattle.qvt_types_words.specs.Answers.{answer}
 use Rattle.qvt_types_words.specs.Types.{conforms, join, is_void, Collection, collection_of}
 

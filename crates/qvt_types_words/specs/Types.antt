@@ -1,10 +1,10 @@
 -- Types over metamodels: which conforms to which, joins, what a property holds (OCL 2.4, 7.4 and 11.2).
 use Rattle.std.specs.Prelude.{Bool, true, false, if◌then◌else◌, Option, Some, None}
-use Rattle.qvt_metamodel.specs.Metamodels.{Metamodels, is_one}
-use Rattle.qvt_metamodel.specs.Descends.{descends}
-use Rattle.qvt_metamodel.specs.declared.info.FeatureShape.{FeatureShape}
-use Rattle.qvt_metamodel.specs.declared.info.TypeKind.{TypeKind}
-use Rattle.qvt_metamodel.specs.declared.info.TypeKind.TheVariants as kind
+use Rattle.qvt_metas.specs.Metamodels.{Metamodels, is_one}
+use Rattle.qvt_metas.specs.Descends.{descends}
+use Rattle.qvt_metas.specs.declared.info.FeatureShape.{FeatureShape}
+use Rattle.qvt_metas.specs.declared.info.TypeKind.{TypeKind}
+use Rattle.qvt_metas.specs.declared.info.TypeKind.TheVariants as kind
 use Rattle.qvt_tree_types.specs.declared.words.CollKind.{CollKind}
 use Rattle.qvt_tree_types.specs.declared.words.CollKind.TheVariants as coll
 use Rattle.qvt_types_data.specs.Term.{ty_view, ty_of}

@@ -2,8 +2,8 @@
 
 ghost use Rattle.std.specs.Prelude.{◌≡◌, Option, IfOk, Some, None, option_map, if◌then◌else◌, length, [], ◌∷◌};
 ghost use Rattle.std.specs.Option.{is_some};
-ghost use Rattle.qvt_metamodel.specs.Descends.{descends};
-ghost use Rattle.qvt_ocl_words.specs.Operation.{is_test, is_equality};
+ghost use Rattle.qvt_metas.specs.Descends.{descends};
+ghost use Rattle.qvt_ocl_types.specs.Operation.{is_test, is_equality};
 ghost use Rattle.qvt_types_data.specs.Term.{ty_view, Boolean, Collection};
 ghost use Rattle.qvt_ocl_types.specs.Table.{listed, allows};
 ghost use Rattle.qvt_ocl_types.specs.Rows.{type_of, kind_in_common};
@@ -16,9 +16,9 @@ use crate::types::{conforms, innermost, is_string, join};
 use qvt_base::copied::Copied;
 use qvt_base::list_fault::ListFault;
 use qvt_metas::metas::Metas;
+use qvt_ocl_types::op::Op;
 use qvt_ocl_types::signature::{Answer, Demand, Kinds, Param, Params, Signature, Sort};
 use qvt_ocl_types::table::signature;
-use qvt_ocl_words::op::Op;
 use qvt_types_data::boxed::Boxed;
 use qvt_types_data::kinds::{kind_of, word_of};
 use qvt_types_data::ty::Ty;

@@ -6,3 +6,7 @@ pub mod answers;
 pub mod operation_names;
 pub mod rulings;
 pub mod types;
+
+pub use qvt_metas::metas;
+pub use qvt_ocl_types::op;
+pub use qvt_types_data::{boxed, note, refusal, ruling, ty};

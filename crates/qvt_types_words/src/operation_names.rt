@@ -3,7 +3,7 @@
 ghost use Rattle.std.specs.Prelude.{◌≡◌};
 ghost use Rattle.qvt_types_words.specs.OperationNames as names;
 
-use qvt_ocl_words::op::Op;
+use qvt_ocl_types::op::Op;
 
 /// The operations of all values.
 #[tactic(auto, unfolding(crate::specs::OperationNames::of_any))]

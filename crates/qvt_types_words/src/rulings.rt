@@ -11,7 +11,7 @@ use qvt_base::copied::Copied;
 use qvt_base::list_fault::ListFault;
 use qvt_base::seq::Seq;
 use qvt_metas::metas::Metas;
-use qvt_ocl_words::op::Op;
+use qvt_ocl_types::op::Op;
 use qvt_tree_types::words::{BinaryOp, CollKind, PrefixOp};
 use qvt_types_data::boxed::Boxed;
 use qvt_types_data::note::Reading;

@@ -1,12 +1,12 @@
 //! Types over metamodels.
 
 ghost use Rattle.std.specs.Prelude.{◌≡◌, IfOk};
-ghost use Rattle.qvt_metamodel.specs.Metamodels.{is_one};
+ghost use Rattle.qvt_metas.specs.Metamodels.{is_one};
 ghost use Rattle.qvt_types_words.specs.Types as types;
 
 use qvt_base::copied::Copied;
 use qvt_base::list_fault::ListFault;
-use qvt_metamodel::info::{FeatureShape, TypeKind};
+use qvt_metas::info::{FeatureShape, TypeKind};
 use qvt_metas::metas::Metas;
 use qvt_tree_types::words::CollKind;
 use qvt_types_data::boxed::Boxed;

@@ -4,15 +4,15 @@ use Rattle.std.specs.Prelude.{ℕ, ◌==◌, ◌&&◌, ◌||◌, nat_lt, Bool, i
 use Rattle.std.specs.List.{flat_map}
 use Rattle.qvt_metamodel.specs.Metamodels.{Metamodels}
 use Rattle.qvt_tree_types.specs.Module.{ModuleTerm, UnitTerm}
-use Rattle.qvt_types_classes.specs.Classes.{own_classes, read_classes, above_told, extended_by, typed_flags}
-use Rattle.qvt_types_classes.specs.Written.{all_declared, classes_told}
+use Rattle.qvt_types_units.specs.Classes.{own_classes, read_classes, above_told, extended_by, typed_flags}
+use Rattle.qvt_types_units.specs.Written.{all_declared, classes_told}
 use Rattle.qvt_types_data.specs.declared.refusal.Refusal.{Refusal}
 use Rattle.qvt_types_data.specs.declared.refusal.RefusalKind.{RefusalKind}
 use Rattle.qvt_types_data.specs.declared.refusal.RefusalKind.TheVariants as refusal
 use Rattle.qvt_types_laws.specs.JoinModule.{joined}
-use Rattle.qvt_types_nodes.specs.Module.{TypedModuleTerm}
-use Rattle.qvt_types_paths.specs.ModelTypes.{NamedTypes, type_names, model_types_told}
-use Rattle.qvt_types_paths.specs.Models.{models, models_told}
+use Rattle.qvt_types_laws.specs.Module.{TypedModuleTerm}
+use Rattle.qvt_types_units.specs.ModelTypes.{NamedTypes, type_names, model_types_told}
+use Rattle.qvt_types_units.specs.Models.{models, models_told}
 use Rattle.qvt_types_states.specs.Judge.{Judges, ◌>>=◌, gives, writes_nothing}
 use Rattle.qvt_types_states.specs.declared.state.State.{State}
 use Rattle.qvt_types_units.specs.Reuse.{unit_reuses}

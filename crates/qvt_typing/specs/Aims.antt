@@ -3,7 +3,7 @@ use Rattle.std.specs.Prelude.{ℕ, Bool, true, false, if◌then◌else◌, List,
 use Rattle.qvt_base.specs.declared.numbers.FeatureNo.{FeatureNo}
 use Rattle.qvt_metamodel.specs.Metamodels.{shape_of, is_single}
 use Rattle.qvt_metamodel.specs.Named.{feature_named}
-use Rattle.qvt_types_classes.specs.Classes.{is_typed}
+use Rattle.qvt_types_units.specs.Classes.{is_typed}
 use Rattle.qvt_types_data.specs.Notes.{plain, unread}
 use Rattle.qvt_types_data.specs.declared.note.Reading.TheVariants as reading
 use Rattle.qvt_types_data.specs.declared.refusal.RefusalKind.{RefusalKind}
@@ -18,8 +18,8 @@ use Rattle.qvt_types_states.specs.declared.scope.Known.{Known}
 use Rattle.qvt_types_steps.specs.Properties.{feature_in}
 use Rattle.qvt_types_steps.specs.declared.classes.ClassPart.{ClassPart}
 use Rattle.qvt_types_steps.specs.declared.classes.ClassPart.TheVariants as part
-use Rattle.qvt_types_words.specs.Rulings.{variable_wrong, property_wrong}
-use Rattle.qvt_types_words.specs.Types.{value_type}
+use Rattle.qvt_types_steps.specs.Rulings.{variable_wrong, property_wrong}
+use Rattle.qvt_types_steps.specs.Types.{value_type}
 use Rattle.qvt_typing.specs.declared.parts.Aim.{Aim}
 use Rattle.qvt_typing.specs.declared.parts.Aim.TheVariants.{Nowhere, UntypedProperty, UntypedVariable, Fixed, VariableOf, Property}
 use Rattle.qvt_typing.specs.Context.{Heads, Context}

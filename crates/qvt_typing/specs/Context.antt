@@ -1,14 +1,14 @@
 -- What is known where a node stands (QVT 1.3, 8.2.1 and 8.2.2).
 use Rattle.std.specs.Prelude.{ℕ, Bool, true, if◌then◌else◌, List, Option}
 use Rattle.qvt_metamodel.specs.Metamodels.{Metamodels}
-use Rattle.qvt_types_classes.specs.Classes.{is_typed}
+use Rattle.qvt_types_units.specs.Classes.{is_typed}
 use Rattle.qvt_types_data.specs.declared.note.Reading.{Reading}
 use Rattle.qvt_types_data.specs.declared.note.Reading.TheVariants as reading
 use Rattle.qvt_types_data.specs.declared.ruling.Ruling.{Ruling}
 use Rattle.qvt_types_data.specs.declared.ruling.Ruling.TheVariants.{Holds, Fails, Silent}
 use Rattle.qvt_types_data.specs.declared.ty.Ty.{Ty}
-use Rattle.qvt_types_paths.specs.ModelTypes.{NamedTypes}
-use Rattle.qvt_types_paths.specs.declared.models.Models.{Models}
+use Rattle.qvt_types_units.specs.ModelTypes.{NamedTypes}
+use Rattle.qvt_types_units.specs.declared.models.Models.{Models}
 use Rattle.qvt_types_steps.specs.declared.classes.ClassPart.{ClassPart}
 use Rattle.qvt_types_units.specs.declared.signature.Signature.{Signature}
 

@@ -1,3 +1,6 @@
+pub use Rattle.qvt_types_units.specs.Numbers
+pub use Rattle.qvt_types_units.specs.Choice
+pub use Rattle.qvt_types_units.specs.Paths
 pub mod Context
 pub mod Names
 pub mod Calls

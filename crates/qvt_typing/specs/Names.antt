@@ -16,7 +16,7 @@ use Rattle.qvt_types_data.specs.declared.ty.Ty.{Ty}
 use Rattle.qvt_types_data.specs.declared.ty.Ty.TheVariants as ty
 use Rattle.qvt_types_data.specs.declared.variable.Variable.{Variable}
 use Rattle.qvt_types_data.specs.declared.variable.VariableSort.TheVariants as sort
-use Rattle.qvt_types_paths.specs.Paths.{path_literal}
+use Rattle.qvt_types_units.specs.Paths.{path_literal}
 use Rattle.qvt_types_states.specs.Scopes.{ScopeTerm, found}
 use Rattle.qvt_types_states.specs.declared.scope.Known.{Known}
 use Rattle.qvt_types_names.specs.Names.{model_or}

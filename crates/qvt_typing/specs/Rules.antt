@@ -23,8 +23,8 @@ use Rattle.qvt_types_data.specs.declared.ty.Ty.{Ty}
 use Rattle.qvt_types_data.specs.declared.ty.Ty.TheVariants as ty
 use Rattle.qvt_types_data.specs.declared.variable.VariableSort.{VariableSort}
 use Rattle.qvt_types_data.specs.declared.variable.VariableSort.TheVariants as sort
-use Rattle.qvt_types_paths.specs.Models.{extent}
-use Rattle.qvt_types_paths.specs.Paths.{path_type, path_class, element_no}
+use Rattle.qvt_types_units.specs.Models.{extent}
+use Rattle.qvt_types_units.specs.Paths.{path_type, path_class, element_no}
 use Rattle.qvt_types_states.specs.Judge.{Judges, ◌>>=◌, gives, fresh, scope, add_source, scoped, tell, checked, declare, settled, answers, marks, writes_nothing}
 use Rattle.qvt_types_states.specs.Scopes.{found, is_known}
 use Rattle.qvt_types_states.specs.declared.scope.Known.{Known}
@@ -50,7 +50,7 @@ use Rattle.qvt_types_units.specs.Numbers.{unit_at, constructor_of}
 use Rattle.qvt_types_units.specs.Reuse.{listed}
 use Rattle.qvt_types_units.specs.declared.signature.HeadClass.{HeadClass}
 use Rattle.qvt_types_units.specs.declared.signature.HeadClass.TheVariants as head
-use Rattle.qvt_types_words.specs.Rulings as ruling
+use Rattle.qvt_types_steps.specs.Rulings as ruling
 use Rattle.qvt_typing.specs.Context.{Context, unless_untyped}
 use Rattle.qvt_typing.specs.Names.{source, unnamed, class_type, made_read, variable_ruled, type_ruled, class_ruled, class_found, self_ruled, result_ruled, path_ruled}
 use Rattle.qvt_typing.specs.Calls.{called_alone, called_behind, call_ruled, unit_ruled, map_ruled, numbers_of, unless_wrong, effect_of, not_pure, not_plain}

@@ -15,8 +15,8 @@ use Rattle.qvt_types_states.specs.Judge.{Judges, ◌>>=◌, gives, scope, scoped
 use Rattle.qvt_types_steps.specs.Calls.{is_single}
 use Rattle.qvt_types_states.specs.declared.scope.Known.{Known}
 use Rattle.qvt_types_steps.specs.Iterators.{item_type, iterator_type, iterator_wrong}
-use Rattle.qvt_types_words.specs.Types.{conforms}
-use Rattle.qvt_types_words.specs.Rulings as ruling
+use Rattle.qvt_types_steps.specs.Types.{conforms}
+use Rattle.qvt_types_steps.specs.Rulings as ruling
 use Rattle.qvt_typing.specs.Aims.{bare_aim, result_aim, member_aim, nowhere_told, aim_read, assign_wrong, takes_late, changes_property}
 use Rattle.qvt_typing.specs.Calls.{not_pure}
 use Rattle.qvt_typing.specs.declared.parts.Aim.{Aim}

@@ -2,3 +2,7 @@
 #![tactic(auto)]
 
 pub mod parts;
+
+pub use qvt_types_names::sources;
+pub use qvt_types_steps::{classes, iterators, properties, units};
+pub use qvt_types_units::signature;

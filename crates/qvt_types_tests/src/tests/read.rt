@@ -9,7 +9,7 @@ use qvt_metas::metas::Metas;
 use qvt_parser::parse::parse;
 use qvt_types::accepting::accept;
 use qvt_types::fault::TypingFault;
-use qvt_types_program::program::Program;
+use qvt_types::program::Program;
 use std::alloc::Global;
 use std::test::Fail;
 

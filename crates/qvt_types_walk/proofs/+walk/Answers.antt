@@ -4,7 +4,7 @@ use Rattle.qvt_tree_types.specs.Tree.{ExprTerm, ResolveTerm, StepTerm, StmtTerm}
 use Rattle.qvt_tree_types.specs.View as view
 use Rattle.qvt_tree_types.specs.declared.tree.ResolveCall.{out-ResolveCall}
 use Rattle.qvt_tree_types.specs.declared.tree.Stmt.TheVariants as statements
-use Rattle.qvt_types_context.specs.Seen.{seen}
+use Rattle.qvt_types_rules.specs.Seen.{seen}
 use Rattle.qvt_types_states.specs.Does.{Does}
 use Rattle.qvt_types_states.specs.Scopes.{back_to}
 use Rattle.qvt_types_steps.specs.IteratorTable.{iterator_named}

@@ -3,7 +3,7 @@ use Rattle.qvt_tree_types.specs.View.{expr_view, link_view, item_view, step_view
 use Rattle.qvt_typing.specs.Phrases as phrase
 use Rattle.qvt_typing.specs.Rules.{all, in_order, beside}
 use Rattle.qvt_typing.specs.Statements.{each}
-use Rattle.qvt_types_context.specs.Seen.{seen}
+use Rattle.qvt_types_rules.specs.Seen.{seen}
 use Rattle.qvt_types_walk.proofs.+walk.Given as goal
 
 abbrev pub invariant-expressions::exprs-loop-node : goal.invariant-expressions::exprs-loop-node

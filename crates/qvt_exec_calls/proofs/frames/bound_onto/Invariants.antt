@@ -1,5 +1,5 @@
 use Rattle.std.proofs.Common.{◌≡◌, drop, map, reverse}
-use Rattle.qvt_meaning.specs.Units.{params_of}
+use Rattle.qvt_program_units.specs.Units.{params_of}
 use Rattle.qvt_types_nodes.specs.Module.{typed_param_view}
 use Rattle.qvt_exec_state.specs.Runs.{seen}
 use Rattle.qvt_exec_calls.specs.Frames.{bound_after}

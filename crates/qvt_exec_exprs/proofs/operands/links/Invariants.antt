@@ -1,7 +1,7 @@
 use Rattle.std.proofs.Common.{◌≡◌, drop}
 use Rattle.qvt_run_rules.specs.Expressions as rule
 use Rattle.qvt_exec_state.specs.Runs.{seen}
-use Rattle.qvt_exec_phrases.specs.Means.{links_of}
+use Rattle.qvt_exec_steps.specs.Means.{links_of}
 use Rattle.qvt_exec_exprs.proofs.operands.links.Given as goal
 
 abbrev pub invariant-loop-node : goal.invariant-loop-node

@@ -3,7 +3,7 @@ use Rattle.qvt_value.specs.declared.value.Value.{Value}
 use Rattle.qvt_run_data.specs.declared.late.LateWrite.{LateWrite}
 use Rattle.qvt_run_rules.specs.State.{Done}
 use Rattle.qvt_exec_state.specs.Runs.{Runs, seen}
-use Rattle.qvt_exec_phrases.specs.Means.{expr_of}
+use Rattle.qvt_exec_steps.specs.Means.{expr_of}
 use Rattle.qvt_exec_exprs.proofs.Signs.{signs_met}
 use Rattle.qvt_exec_exprs.proofs.operands.signed.Goals as goal
 

@@ -1,8 +1,8 @@
 use Rattle.std.proofs.Common.{subst}
-use Rattle.qvt_typing.specs.Accepts.{ProgramTerm}
-use Rattle.qvt_meaning.specs.Readings.{choose}
+use Rattle.qvt_exec_phrases.specs.Accepts.{ProgramTerm}
+use Rattle.qvt_exec_phrases.specs.Readings.{choose}
 use Rattle.qvt_exec_state.specs.Runs.{Runs, seen}
-use Rattle.qvt_exec_calls.specs.Choice.{each_by}
+use Rattle.qvt_exec_phrases.specs.Choice.{each_by}
 use Rattle.qvt_exec_invocations.proofs.callees.called_for_items.Goals as goal
 
 pub returns : goal.returns

@@ -1,6 +1,6 @@
 use Rattle.std.proofs.Common.{◌∙◌, ap}
-use Rattle.qvt_typing.specs.Accepts.{ProgramTerm}
-use Rattle.qvt_types_units.specs.Numbers.{constructor_of}
+use Rattle.qvt_exec_phrases.specs.Accepts.{ProgramTerm}
+use Rattle.qvt_exec_phrases.specs.Numbers.{constructor_of}
 use Rattle.qvt_exec_invocations.proofs.callees.constructor.Goals as goal
 
 pub returns : goal.returns

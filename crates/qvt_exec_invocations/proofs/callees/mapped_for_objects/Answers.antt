@@ -1,8 +1,8 @@
 use Rattle.std.proofs.Common.{subst}
-use Rattle.qvt_typing.specs.Accepts.{ProgramTerm}
-use Rattle.qvt_meaning.specs.Readings.{choose}
+use Rattle.qvt_exec_phrases.specs.Accepts.{ProgramTerm}
+use Rattle.qvt_exec_phrases.specs.Readings.{choose}
 use Rattle.qvt_exec_state.specs.Runs.{Runs, seen}
-use Rattle.qvt_exec_calls.specs.Choice.{mapped_by}
+use Rattle.qvt_exec_phrases.specs.Choice.{mapped_by}
 use Rattle.qvt_exec_invocations.proofs.callees.mapped_for_objects.Goals as goal
 
 pub returns : goal.returns

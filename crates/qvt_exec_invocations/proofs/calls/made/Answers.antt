@@ -1,5 +1,5 @@
 use Rattle.std.proofs.Common.{◌≡◌, sym, subst, length, rules}
-use Rattle.qvt_types_units.specs.Numbers.{constructor_of}
+use Rattle.qvt_exec_phrases.specs.Numbers.{constructor_of}
 use Rattle.qvt_value.specs.declared.value.Value.{Value}
 use Rattle.qvt_run_data.specs.declared.late.LateWrite.{LateWrite}
 use Rattle.qvt_run_rules.specs.State.{Does}

@@ -2,8 +2,8 @@ use Rattle.std.proofs.Common.{◌≡◌, subst, Option}
 use Rattle.std.specs.Prelude.{IfOk}
 use Rattle.qvt_run_data.specs.declared.request.Form.{Form}
 use Rattle.qvt_types_nodes.specs.View.{typed_resolve_view}
-use Rattle.qvt_typing.specs.Accepts.{ProgramTerm}
-use Rattle.qvt_meaning.specs.Program.{form_of}
+use Rattle.qvt_exec_phrases.specs.Accepts.{ProgramTerm}
+use Rattle.qvt_exec_resolves.specs.Program.{form_of}
 use Rattle.qvt_exec_invocations.proofs.resolves.written.Goals as goal
 
 pub returns : goal.returns

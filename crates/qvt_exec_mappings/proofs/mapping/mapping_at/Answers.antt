@@ -1,6 +1,6 @@
 use Rattle.std.proofs.Common.{◌≡◌, Some}
 use Rattle.qvt_meaning.specs.Program.{mapping_unit}
-use Rattle.qvt_types_program.specs.Program.{program_view}
+use Rattle.qvt_exec_calls.specs.Program.{program_view}
 use Rattle.qvt_exec_mappings.specs.Stage.{setting_in}
 use Rattle.qvt_exec_mappings.proofs.Found.{found}
 use Rattle.qvt_exec_mappings.proofs.mapping.mapping_at.Goals as goal

@@ -1,5 +1,5 @@
 use Rattle.std.proofs.Common.{[], fold}
-use Rattle.qvt_types_program.specs.Program.{program_view}
+use Rattle.qvt_exec_types.specs.Program.{program_view}
 use Rattle.qvt_meaning.specs.Program.{with_number}
 use Rattle.qvt_exec_resolves.specs.Disjuncts.{from, next_of}
 use Rattle.qvt_exec_resolves.proofs.Searched.{goes_on, gets_less}

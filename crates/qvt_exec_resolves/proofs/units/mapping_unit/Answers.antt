@@ -1,5 +1,5 @@
 use Rattle.std.proofs.Common.{◌∙◌}
-use Rattle.qvt_types_program.specs.Program.{program_view}
+use Rattle.qvt_exec_types.specs.Program.{program_view}
 use Rattle.qvt_exec_resolves.proofs.Named.{same_unit}
 use Rattle.qvt_exec_resolves.proofs.units.mapping_unit.Goals as goal
 

@@ -4,10 +4,10 @@ use Rattle.qvt_value.specs.declared.value.Value.{Value}
 use Rattle.qvt_run_data.specs.declared.late.LateWrite.{LateWrite}
 use Rattle.qvt_run_rules.specs.State.{Does}
 use Rattle.qvt_types_nodes.specs.View.{typed_expr_view, typed_exprs_of}
-use Rattle.qvt_meaning.specs.Nodes as nodes
+use Rattle.qvt_exec_types.specs.Nodes as nodes
 use Rattle.qvt_exec_leaves.specs.Heads.{iterates}
-use Rattle.qvt_exec_state.specs.Runs.{Runs, seen}
-use Rattle.qvt_exec_phrases.specs.Means.{Scene, exprs_of}
+use Rattle.qvt_exec_leaves.specs.Runs.{Runs, seen}
+use Rattle.qvt_exec_invocations.specs.Means.{Scene, exprs_of}
 use Rattle.qvt_exec_steps.proofs.ArrowArms.{arrow_does, with_bodies, with_body, without_body}
 use Rattle.qvt_exec_steps.proofs.Loops.{arrow_alone}
 use Rattle.qvt_exec_steps.proofs.Misfits.{misfits}

@@ -3,9 +3,9 @@ use Rattle.std.specs.Option.{option_copied}
 use Rattle.qvt_types_nodes.specs.View.{typed_expr_view, typed_exprs_of}
 use Rattle.qvt_types_steps.specs.Classes.{is_selection}
 use Rattle.qvt_types_steps.specs.IteratorTable.{iterator_named}
-use Rattle.qvt_meaning.specs.Nodes as nodes
-use Rattle.qvt_meaning.specs.Readings as by
-use Rattle.qvt_exec_phrases.specs.Means.{Scene, exprs_of, setting_of}
+use Rattle.qvt_exec_types.specs.Nodes as nodes
+use Rattle.qvt_exec_types.specs.Readings as by
+use Rattle.qvt_exec_invocations.specs.Means.{Scene, exprs_of, setting_of}
 use Rattle.qvt_exec_steps.specs.Loops.{named_alone}
 use Rattle.qvt_exec_steps.proofs.Args.{arrow_misfits}
 use Rattle.qvt_exec_steps.proofs.Misfits.{misfits}

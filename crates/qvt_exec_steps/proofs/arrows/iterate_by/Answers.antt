@@ -3,9 +3,9 @@ use Rattle.std.specs.Option.{option_copied}
 use Rattle.qvt_value.specs.declared.value.Value.{Value}
 use Rattle.qvt_run_data.specs.declared.late.LateWrite.{LateWrite}
 use Rattle.qvt_run_rules.specs.State.{Does}
-use Rattle.qvt_meaning.specs.Readings as by
-use Rattle.qvt_exec_state.specs.Runs.{Runs, seen}
-use Rattle.qvt_exec_phrases.specs.Means.{Scene, expr_of, head_of, setting_of}
+use Rattle.qvt_exec_types.specs.Readings as by
+use Rattle.qvt_exec_leaves.specs.Runs.{Runs, seen}
+use Rattle.qvt_exec_invocations.specs.Means.{Scene, expr_of, head_of, setting_of}
 use Rattle.qvt_exec_steps.proofs.Heads.{head_missing, head_with, head_without, iterate_with, iterate_without}
 use Rattle.qvt_exec_steps.proofs.Loops.{name_here}
 use Rattle.qvt_exec_steps.proofs.Misfits.{misfits}

@@ -3,8 +3,8 @@ use Rattle.std.specs.Option.{option_copied}
 use Rattle.qvt_value.specs.declared.value.Value.{Value}
 use Rattle.qvt_run_data.specs.declared.late.LateWrite.{LateWrite}
 use Rattle.qvt_run_rules.specs.State.{Does}
-use Rattle.qvt_exec_state.specs.Runs.{Runs, seen}
-use Rattle.qvt_exec_phrases.specs.Means.{Scene, expr_of}
+use Rattle.qvt_exec_leaves.specs.Runs.{Runs, seen}
+use Rattle.qvt_exec_invocations.specs.Means.{Scene, expr_of}
 use Rattle.qvt_exec_steps.specs.Loops.{named_alone}
 use Rattle.qvt_exec_steps.proofs.Loops.{loop_by}
 use Rattle.qvt_exec_steps.proofs.arrows.iterator.Goals as goal

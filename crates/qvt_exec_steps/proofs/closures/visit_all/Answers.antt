@@ -5,10 +5,10 @@ use Rattle.qvt_run_data.specs.declared.late.LateWrite.{LateWrite}
 use Rattle.qvt_run_rules.specs.Iterators as each
 use Rattle.qvt_run_rules.specs.State.{Does}
 use Rattle.qvt_types_nodes.specs.declared.tree.TypedExpr.{TypedExpr}
-use Rattle.qvt_exec_state.specs.Runs.{seen}
+use Rattle.qvt_exec_leaves.specs.Runs.{seen}
 use Rattle.qvt_exec_visits.specs.Visited.{rest_of}
 use Rattle.qvt_exec_visits.proofs.VisitLoop.{all_visited, body_ends, last_visit, visit_ends, visit_goes_on}
-use Rattle.qvt_exec_phrases.specs.Means.{Scene, expr_of}
+use Rattle.qvt_exec_invocations.specs.Means.{Scene, expr_of}
 use Rattle.qvt_exec_steps.proofs.closures.visit_all.Goals as goal
 
 -- the body of the closure for its items

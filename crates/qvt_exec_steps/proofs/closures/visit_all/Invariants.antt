@@ -1,9 +1,9 @@
 use Rattle.std.proofs.Common.{◌≡◌, suc}
 use Rattle.std.specs.Option.{option_copied}
 use Rattle.qvt_run_rules.specs.Iterators as each
-use Rattle.qvt_exec_state.specs.Runs.{seen}
+use Rattle.qvt_exec_leaves.specs.Runs.{seen}
 use Rattle.qvt_exec_visits.specs.Visited.{rest_of}
-use Rattle.qvt_exec_phrases.specs.Means.{expr_of, turns_of}
+use Rattle.qvt_exec_invocations.specs.Means.{expr_of, turns_of}
 use Rattle.qvt_exec_steps.proofs.closures.visit_all.Given as goal
 
 abbrev pub invariant-loop-item : goal.invariant-loop-item

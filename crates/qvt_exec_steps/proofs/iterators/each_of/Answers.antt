@@ -5,9 +5,9 @@ use Rattle.qvt_run_data.specs.declared.late.LateWrite.{LateWrite}
 use Rattle.qvt_run_rules.specs.Iterators as each
 use Rattle.qvt_run_rules.specs.State.{Does}
 use Rattle.qvt_types_nodes.specs.declared.tree.TypedExpr.{TypedExpr}
-use Rattle.qvt_exec_state.specs.Runs.{seen}
+use Rattle.qvt_exec_leaves.specs.Runs.{seen}
 use Rattle.qvt_exec_loops.proofs.TurnLoop.{body_ends, turn_ends, turn_gives, turn_goes_on, all_taken}
-use Rattle.qvt_exec_phrases.specs.Means.{Scene, expr_of}
+use Rattle.qvt_exec_invocations.specs.Means.{Scene, expr_of}
 use Rattle.qvt_exec_steps.proofs.iterators.each_of.Goals as goal
 
 -- the body of the iterator for its items

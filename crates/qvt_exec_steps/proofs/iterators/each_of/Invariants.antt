@@ -1,9 +1,9 @@
 use Rattle.std.proofs.Common.{◌≡◌, drop}
 use Rattle.std.specs.Option.{option_copied}
 use Rattle.qvt_run_rules.specs.Iterators as each
-use Rattle.qvt_exec_state.specs.Runs.{seen}
+use Rattle.qvt_exec_leaves.specs.Runs.{seen}
 use Rattle.qvt_exec_loops.specs.Turns.{rest_of}
-use Rattle.qvt_exec_phrases.specs.Means.{expr_of}
+use Rattle.qvt_exec_invocations.specs.Means.{expr_of}
 use Rattle.qvt_exec_steps.proofs.iterators.each_of.Given as goal
 
 abbrev pub invariant-loop-item : goal.invariant-loop-item

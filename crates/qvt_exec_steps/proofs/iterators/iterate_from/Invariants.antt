@@ -1,8 +1,8 @@
 use Rattle.std.proofs.Common.{◌≡◌, drop}
 use Rattle.std.specs.Option.{option_copied}
 use Rattle.qvt_run_rules.specs.Iterators as each
-use Rattle.qvt_exec_state.specs.Runs.{seen}
-use Rattle.qvt_exec_phrases.specs.Means.{expr_of}
+use Rattle.qvt_exec_leaves.specs.Runs.{seen}
+use Rattle.qvt_exec_invocations.specs.Means.{expr_of}
 use Rattle.qvt_exec_steps.proofs.iterators.iterate_from.Given as goal
 
 abbrev pub invariant-loop-item : goal.invariant-loop-item

@@ -1,6 +1,6 @@
 use Rattle.std.proofs.Common.{◌≡◌, rules}
-use Rattle.qvt_exec_state.specs.Runs.{seen}
-use Rattle.qvt_exec_phrases.specs.Means.{Scene}
+use Rattle.qvt_exec_leaves.specs.Runs.{seen}
+use Rattle.qvt_exec_invocations.specs.Means.{Scene}
 use Rattle.qvt_exec_steps.proofs.BeforeResolve.{post_runs}
 use Rattle.qvt_exec_steps.proofs.late.late_source.Goals as goal
 

@@ -3,8 +3,8 @@ use Rattle.qvt_value.specs.declared.value.Value.{Value}
 use Rattle.qvt_run_data.specs.declared.late.LateWrite.{LateWrite}
 use Rattle.qvt_run_rules.specs.State.{Does, Done, on_outcome, pure}
 use Rattle.qvt_exec_leaves.proofs.Ends.{ends}
-use Rattle.qvt_exec_state.specs.Runs.{seen}
-use Rattle.qvt_exec_phrases.specs.Means.{Scene}
+use Rattle.qvt_exec_leaves.specs.Runs.{seen}
+use Rattle.qvt_exec_invocations.specs.Means.{Scene}
 use Rattle.qvt_exec_steps.proofs.BeforeLast.{given_by, without_last}
 use Rattle.qvt_exec_steps.proofs.late.without_last.Goals as goal
 

@@ -4,10 +4,10 @@ use Rattle.qvt_run_data.specs.declared.late.LateWrite.{LateWrite}
 use Rattle.qvt_run_rules.specs.Cost.{spend_of}
 use Rattle.qvt_run_rules.specs.Expressions as rule
 use Rattle.qvt_run_rules.specs.State.{Does}
-use Rattle.qvt_meaning.specs.Readings as by
+use Rattle.qvt_exec_types.specs.Readings as by
 use Rattle.qvt_exec_leaves.proofs.Ends.{ends}
-use Rattle.qvt_exec_state.specs.Runs.{seen}
-use Rattle.qvt_exec_phrases.specs.Means.{all_steps, steps_of}
+use Rattle.qvt_exec_leaves.specs.Runs.{seen}
+use Rattle.qvt_exec_invocations.specs.Means.{all_steps, steps_of}
 use Rattle.qvt_exec_steps.proofs.posts.model_steps.Goals as goal
 
 pub returns-in_err-value : goal.returns-in_err-value

@@ -4,8 +4,8 @@ use Rattle.qvt_run_data.specs.declared.late.LateWrite.{LateWrite}
 use Rattle.qvt_run_rules.specs.State.{Does}
 use Rattle.qvt_types_nodes.specs.declared.tree.TypedExpr.{TypedExpr}
 use Rattle.qvt_exec_types.specs.Post.{post_of, type_at}
-use Rattle.qvt_exec_state.specs.Runs.{Runs, seen}
-use Rattle.qvt_exec_phrases.specs.Means.{Scene}
+use Rattle.qvt_exec_leaves.specs.Runs.{Runs, seen}
+use Rattle.qvt_exec_invocations.specs.Means.{Scene}
 use Rattle.qvt_exec_steps.proofs.ArrowArms.{arrow_does, arrow_is}
 use Rattle.qvt_exec_steps.proofs.steps.step.Goals as goal
 

@@ -1,7 +1,7 @@
 use Rattle.std.proofs.Common.{◌∙◌}
 use Rattle.qvt_exec_types.specs.Post.{post_of}
-use Rattle.qvt_exec_state.specs.Runs.{seen}
-use Rattle.qvt_exec_phrases.specs.Means.{Scene}
+use Rattle.qvt_exec_leaves.specs.Runs.{seen}
+use Rattle.qvt_exec_invocations.specs.Means.{Scene}
 use Rattle.qvt_exec_steps.proofs.Behind.{step_end, step_on}
 use Rattle.qvt_exec_steps.proofs.steps.steps_from.Goals as goal
 

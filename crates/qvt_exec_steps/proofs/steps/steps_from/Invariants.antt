@@ -2,8 +2,8 @@ use Rattle.std.proofs.Common.{◌≡◌, map, drop}
 use Rattle.qvt_types_nodes.specs.View.{typed_step_view}
 use Rattle.qvt_run_rules.specs.Expressions as rule
 use Rattle.qvt_exec_types.specs.Post.{post_of}
-use Rattle.qvt_exec_state.specs.Runs.{seen}
-use Rattle.qvt_exec_phrases.specs.Means.{program_of, steps_of}
+use Rattle.qvt_exec_leaves.specs.Runs.{seen}
+use Rattle.qvt_exec_invocations.specs.Means.{program_of, steps_of}
 use Rattle.qvt_exec_steps.proofs.steps.steps_from.Given as goal
 
 abbrev pub invariant-loop-index : goal.invariant-loop-index

@@ -1,7 +1,7 @@
 use Rattle.std.proofs.Common.{◌≡◌, drop, []}
 use Rattle.qvt_run_rules.specs.Expressions as rule
-use Rattle.qvt_exec_state.specs.Runs.{seen}
-use Rattle.qvt_exec_phrases.specs.Means.{exprs_of}
+use Rattle.qvt_exec_leaves.specs.Runs.{seen}
+use Rattle.qvt_exec_invocations.specs.Means.{exprs_of}
 use Rattle.qvt_exec_steps.proofs.values.values.Given as goal
 
 abbrev pub invariant-loop-node : goal.invariant-loop-node

@@ -1,5 +1,5 @@
 use Rattle.std.proofs.Common.{map}
-use Rattle.qvt_types_context.specs.Seen.{heads_seen}
+use Rattle.qvt_types_program.specs.Seen.{heads_seen}
 use Rattle.qvt_types_nodes.specs.View.{typed_expr_view, typed_exprs_of}
 use Rattle.qvt_types_program.specs.Program.{program_view}
 use Rattle.qvt_meaning.specs.Nodes.{types_of}

@@ -6,7 +6,7 @@ use Rattle.std.proofs.lemmas.List.Sorted.{ranks_by}
 use Rattle.qvt_value.specs.Kept.{sorted}
 use Rattle.qvt_value.specs.Order.{order_of}
 use Rattle.qvt_value.proofs.OrderOfValues.{total}
-use Rattle.qvt_run_data.specs.declared.keyed.Keyed.{Keyed}
+use Rattle.qvt_run_rules.specs.declared.keyed.Keyed.{Keyed}
 use Rattle.qvt_run_rules.specs.Iterators.{key_order}
 use Rattle.qvt_exec_words.proofs.Stable.{stable_is}
 use Rattle.qvt_exec_words.proofs.iterators.in_order.Goals as goal

@@ -1,7 +1,7 @@
 use Rattle.std.proofs.Common.{◌∙◌, sym, ap}
 use Rattle.qvt_tree_types.specs.Module.{module_view}
-use Rattle.qvt_types_context.specs.Seen.{heads_seen}
-use Rattle.qvt_typing.specs.Accepts.{least}
+use Rattle.qvt_types_program.specs.Seen.{heads_seen}
+use Rattle.qvt_types_program.specs.Accepts.{least}
 use Rattle.qvt_types_program.specs.Program.{program_view}
 use Rattle.qvt_types.proofs.Accepted.{accepted_as, refused_as, judged_by, numbered_so}
 use Rattle.qvt_types.proofs.accepting.accept.Goals as goal

@@ -1,5 +1,5 @@
 use Rattle.std.proofs.Common.{◌≡◌, drop}
-use Rattle.qvt_typing.specs.Accepts.{bare_notes}
+use Rattle.qvt_types_program.specs.Accepts.{bare_notes}
 use Rattle.qvt_types.proofs.judged.bare_notes.Given as goal
 
 abbrev pub invariant-loop-node : goal.invariant-loop-node

@@ -1,7 +1,7 @@
 use Rattle.std.proofs.Common.{◌≡◌, map, drop}
 use Rattle.qvt_tree_types.specs.Module.{field_view}
 use Rattle.qvt_types_context.specs.Seen.{seen}
-use Rattle.qvt_typing.specs.Units.{fields}
+use Rattle.qvt_types_context.specs.Units.{fields}
 use Rattle.qvt_types_bodies.proofs.parts.fields.Given as goal
 
 abbrev pub invariant-loop-next : goal.invariant-loop-next

@@ -1,7 +1,7 @@
 use Rattle.std.proofs.Common.{◌≡◌, map, drop}
 use Rattle.qvt_tree_types.specs.Module.{param_view}
 use Rattle.qvt_types_context.specs.Seen.{seen}
-use Rattle.qvt_typing.specs.Units.{params}
+use Rattle.qvt_types_context.specs.Units.{params}
 use Rattle.qvt_types_bodies.proofs.parts.params.Given as goal
 
 abbrev pub invariant-loop-next : goal.invariant-loop-next

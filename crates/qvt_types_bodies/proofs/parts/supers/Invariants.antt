@@ -1,6 +1,6 @@
 use Rattle.std.proofs.Common.{◌≡◌, drop}
 use Rattle.qvt_types_context.specs.Seen.{seen}
-use Rattle.qvt_typing.specs.Units.{all_paths, super}
+use Rattle.qvt_types_context.specs.Units.{all_paths, super}
 use Rattle.qvt_types_bodies.proofs.parts.supers.Given as goal
 
 abbrev pub invariant-loop-path : goal.invariant-loop-path

@@ -1,7 +1,7 @@
 use Rattle.std.proofs.Common.{◌≡◌, map, drop}
 use Rattle.qvt_tree_types.specs.Module.{unit_view}
 use Rattle.qvt_types_context.specs.Seen.{heads_seen}
-use Rattle.qvt_typing.specs.Units.{units}
+use Rattle.qvt_types_context.specs.Units.{units}
 use Rattle.qvt_types_bodies.proofs.units.all_units.Given as goal
 
 abbrev pub invariant-loop-next : goal.invariant-loop-next

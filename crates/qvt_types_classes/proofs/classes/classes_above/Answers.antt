@@ -1,5 +1,5 @@
 use Rattle.std.proofs.Common.{◌≡◌, ◌∙◌, ap, subst, sym}
-use Rattle.qvt_meta_tables.specs.Search.{AreLive, IsAcyclic}
+use Rattle.qvt_metas.specs.Search.{AreLive, IsAcyclic}
 use Rattle.qvt_types_classes.specs.Classes.{own_classes}
 use Rattle.qvt_types_classes.specs.Inherited.{numbered_from}
 use Rattle.qvt_types_classes.specs.Written.{uncycled_from}

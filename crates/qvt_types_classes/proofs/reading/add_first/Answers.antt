@@ -1,7 +1,7 @@
 use Rattle.std.proofs.Common.{◌∙◌, ◌++◌, ◌∷◌, ◌||◌, ◌==◌, [], ap, append-nil, subst, sym}
 use Rattle.std.specs.Prelude.{if◌then◌else◌}
 use Rattle.qvt_metamodel.specs.Names.{is_among}
-use Rattle.qvt_meta_tables.specs.NumberSets.{has_number}
+use Rattle.qvt_metas.specs.NumberSets.{has_number}
 use Rattle.qvt_types_classes.specs.Inherited.{names_of, property_at}
 use Rattle.qvt_types_classes.specs.Keys.{AreSeen}
 use Rattle.qvt_types_classes.proofs.Keys.{known_at, seen_at, seen_more}

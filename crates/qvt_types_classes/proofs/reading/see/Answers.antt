@@ -1,5 +1,5 @@
 use Rattle.std.proofs.Common.{◌∙◌, ◌||◌, ◌==◌, ap}
-use Rattle.qvt_meta_tables.specs.NumberSets.{has_number}
+use Rattle.qvt_metas.specs.NumberSets.{has_number}
 use Rattle.qvt_types_classes.specs.Inherited.{property_at}
 use Rattle.qvt_types_classes.proofs.Keys.{known_at, seen_at, seen_more}
 use Rattle.qvt_types_classes.proofs.reading.see.Goals as goal

@@ -1,7 +1,7 @@
 use Rattle.std.proofs.Common.{◌≡◌, drop}
 use Rattle.qvt_types_context.specs.Seen.{heads_seen}
-use Rattle.qvt_types_units.specs.Choice.{is_unsure}
-use Rattle.qvt_types_units.specs.Numbers.{no_unit}
+use Rattle.qvt_typing.specs.Choice.{is_unsure}
+use Rattle.qvt_typing.specs.Numbers.{no_unit}
 use Rattle.qvt_types_context.proofs.calls.is_unsure.Given as goal
 
 abbrev pub invariant-loop-unit : goal.invariant-loop-unit

@@ -1,6 +1,6 @@
 use Rattle.std.proofs.Common.{◌≡◌, take}
 use Rattle.qvt_types_context.specs.Seen.{heads_seen}
-use Rattle.qvt_types_units.specs.Numbers.{no_unit}
+use Rattle.qvt_typing.specs.Numbers.{no_unit}
 use Rattle.qvt_typing.specs.Calls.{numbers_of}
 use Rattle.qvt_types_context.proofs.calls.numbers_of.Given as goal
 

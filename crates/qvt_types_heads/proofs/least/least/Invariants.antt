@@ -1,5 +1,5 @@
 use Rattle.std.proofs.Common.{◌≡◌, drop}
-use Rattle.qvt_typing.specs.Accepts.{least, least_from}
+use Rattle.qvt_types_context.specs.Accepts.{least, least_from}
 use Rattle.qvt_types_heads.proofs.least.least.Given as goal
 
 abbrev pub invariant-loop-refusal : goal.invariant-loop-refusal

@@ -1,7 +1,7 @@
 use Rattle.std.proofs.Common.{◌≡◌, ◌++◌, map, take}
 use Rattle.std.specs.List.{flat_map}
 use Rattle.qvt_tree_types.specs.Module.{unit_view}
-use Rattle.qvt_types_units.specs.Units.{head_told}
+use Rattle.qvt_types_lists.specs.Units.{head_told}
 use Rattle.qvt_types_heads.proofs.telling.tell_each.Given as goal
 
 abbrev pub invariant-loop-unit : goal.invariant-loop-unit

@@ -1,6 +1,6 @@
 use Rattle.std.proofs.Common.{◌∙◌, ◌<◌, ◌++◌, [], ◌∷◌, length, ap, arith}
 use Rattle.std.specs.Prelude.{if◌then◌else◌}
-use Rattle.qvt_types_units.specs.declared.signature.Signature.{Signature}
+use Rattle.qvt_types_groups.specs.declared.signature.Signature.{Signature}
 use Rattle.qvt_types_groups.specs.Lists.{numbers_under}
 use Rattle.qvt_types_groups.proofs.Lists.{where_next}
 use Rattle.qvt_types_lists.specs.Odd.{is_odd}

@@ -1,5 +1,5 @@
 use Rattle.std.proofs.Common.{◌≡◌, ℕ, List, ◌++◌, drop}
-use Rattle.qvt_types_units.specs.Numbers.{numbers_where}
+use Rattle.qvt_types_groups.specs.Numbers.{numbers_where}
 use Rattle.qvt_types_groups.specs.Lists.{numbers_under}
 use Rattle.qvt_types_lists.specs.Odd.{is_odd}
 use Rattle.qvt_types_lists.proofs.odd.odd_ones.Given as goal

@@ -1,5 +1,5 @@
 use Rattle.std.proofs.Common.{◌≡◌, ◌++◌, take}
-use Rattle.qvt_types_units.specs.Units.{overrides_told}
+use Rattle.qvt_types_groups.specs.Units.{overrides_told}
 use Rattle.qvt_types_lists.proofs.overrides.tell_overrides.Given as goal
 
 abbrev pub invariant-loop-unit : goal.invariant-loop-unit

@@ -1,7 +1,7 @@
 use Rattle.std.proofs.Common.{◌∙◌, ◌++◌}
 use Rattle.std.specs.List.{flat_map}
 use Rattle.qvt_tree_types.specs.declared.types.PathTree.{PathTree}
-use Rattle.qvt_types_units.specs.Reuse.{numbers_of, listed}
+use Rattle.qvt_types_groups.specs.Reuse.{numbers_of, listed}
 use Rattle.qvt_types_lists.proofs.Told.{three}
 use Rattle.qvt_types_lists.proofs.reuses.reused.Goals as goal
 

@@ -1,5 +1,5 @@
 use Rattle.std.proofs.Common.{◌∙◌, ap, position}
-use Rattle.qvt_types_units.specs.Numbers.{free_unit, is_free}
+use Rattle.qvt_types_groups.specs.Numbers.{free_unit, is_free}
 use Rattle.qvt_types_groups.specs.Keys.{is_named}
 use Rattle.qvt_types_lists.proofs.SameUnits.{free_same, unknown_same, named_same}
 use Rattle.qvt_types_lists.proofs.same.first_called.Goals as goal

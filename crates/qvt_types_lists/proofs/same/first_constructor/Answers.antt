@@ -1,5 +1,5 @@
 use Rattle.std.proofs.Common.{◌∙◌, ap, position}
-use Rattle.qvt_types_units.specs.Numbers.{constructor_of, is_constructor_of}
+use Rattle.qvt_types_groups.specs.Numbers.{constructor_of, is_constructor_of}
 use Rattle.qvt_types_lists.proofs.SameUnits.{missing_constructor, unknown_constructor, constructor_same}
 use Rattle.qvt_types_lists.proofs.same.first_constructor.Goals as goal
 

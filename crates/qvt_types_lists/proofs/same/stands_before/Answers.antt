@@ -1,5 +1,5 @@
 use Rattle.std.proofs.Common.{◌∙◌, ap, sym}
-use Rattle.qvt_types_units.specs.Units.{are_same}
+use Rattle.qvt_types_groups.specs.Units.{are_same}
 use Rattle.qvt_types_lists.specs.Same.{is_before}
 use Rattle.qvt_types_lists.proofs.Before.{any_before}
 use Rattle.qvt_types_lists.proofs.same.stands_before.Goals as goal

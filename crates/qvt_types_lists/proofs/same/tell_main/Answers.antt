@@ -3,8 +3,8 @@ use Rattle.std.specs.Prelude.{is_some}
 use Rattle.qvt_types_data.specs.declared.refusal.RefusalKind.TheVariants.{NoMain}
 use Rattle.qvt_types_paths.specs.Told.{told_if}
 use Rattle.qvt_types_paths.proofs.Places.{some_position}
-use Rattle.qvt_types_units.specs.declared.signature.Signature.{Signature}
-use Rattle.qvt_types_units.specs.Numbers.{is_main}
+use Rattle.qvt_types_groups.specs.declared.signature.Signature.{Signature}
+use Rattle.qvt_types_groups.specs.Numbers.{is_main}
 use Rattle.qvt_types_lists.proofs.Before.{twice}
 use Rattle.qvt_types_lists.proofs.same.tell_main.Goals as goal
 

@@ -1,5 +1,5 @@
 use Rattle.std.proofs.Common.{◌≡◌, ◌++◌, [], take, drop}
-use Rattle.qvt_types_units.specs.Units.{same_told}
+use Rattle.qvt_types_groups.specs.Units.{same_told}
 use Rattle.qvt_types_lists.proofs.same.tell_same.Given as goal
 
 abbrev pub invariant-loop-number : goal.invariant-loop-number

@@ -1,5 +1,5 @@
 use Rattle.std.proofs.Common.{◌≡◌, ◌++◌, take}
-use Rattle.qvt_types_units.specs.Reuse.{paths_told}
+use Rattle.qvt_types_groups.specs.Reuse.{paths_told}
 use Rattle.qvt_types_lists.proofs.telling.tell_paths.Given as goal
 
 abbrev pub invariant-loop-path : goal.invariant-loop-path

@@ -1,6 +1,6 @@
 use Rattle.std.proofs.Common.{◌≡◌, ◌++◌, map, drop}
 use Rattle.qvt_tree_types.specs.Module.{unit_view}
-use Rattle.qvt_types_units.specs.Units.{lists_told}
+use Rattle.qvt_types_groups.specs.Units.{lists_told}
 use Rattle.qvt_types_lists.proofs.telling.tell_units.Given as goal
 
 abbrev pub invariant-loop-number : goal.invariant-loop-number

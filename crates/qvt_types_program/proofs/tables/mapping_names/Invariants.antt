@@ -1,5 +1,5 @@
 use Rattle.std.proofs.Common.{◌≡◌, map, take}
-use Rattle.qvt_types_units.specs.Numbers.{unit_at}
+use Rattle.qvt_types_groups.specs.Numbers.{unit_at}
 use Rattle.qvt_types_program.specs.Mappings.{traced}
 use Rattle.qvt_types_program.proofs.tables.mapping_names.Given as goal
 

@@ -1,7 +1,7 @@
 use Rattle.std.proofs.Common.{◌∙◌, ◌<◌, ◌++◌, [], ◌∷◌, length, ap, arith}
 use Rattle.std.specs.Prelude.{if◌then◌else◌}
-use Rattle.qvt_types_units.specs.Numbers.{is_mapping}
-use Rattle.qvt_types_units.specs.declared.signature.Signature.{Signature}
+use Rattle.qvt_types_groups.specs.Numbers.{is_mapping}
+use Rattle.qvt_types_groups.specs.declared.signature.Signature.{Signature}
 use Rattle.qvt_types_groups.proofs.Lists.{where_next}
 use Rattle.qvt_types_program.proofs.tables.mapping_units.Goals as goal
 

@@ -1,5 +1,5 @@
 use Rattle.std.proofs.Common.{◌≡◌, ◌++◌, drop}
-use Rattle.qvt_types_units.specs.Numbers.{is_mapping, numbers_where}
+use Rattle.qvt_types_groups.specs.Numbers.{is_mapping, numbers_where}
 use Rattle.qvt_types_program.proofs.tables.mapping_units.Given as goal
 
 abbrev pub invariant-loop-number : goal.invariant-loop-number

@@ -1,5 +1,5 @@
 use Rattle.std.proofs.Common.{◌≡◌, drop}
-use Rattle.qvt_typing.specs.Rules.{types_from, all_types}
+use Rattle.qvt_types_context.specs.Rules.{types_from, all_types}
 use Rattle.qvt_types_rules.proofs.parts.all_types.Given as goal
 
 abbrev pub invariant-loop-ty : goal.invariant-loop-ty

@@ -1,5 +1,5 @@
 use Rattle.std.proofs.Common.{◌≡◌, drop}
-use Rattle.qvt_typing.specs.Rules.{sign_notes}
+use Rattle.qvt_types_context.specs.Rules.{sign_notes}
 use Rattle.qvt_types_rules.proofs.parts.sign_notes.Given as goal
 
 abbrev pub invariant-loop-sign : goal.invariant-loop-sign

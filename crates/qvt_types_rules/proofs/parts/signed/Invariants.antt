@@ -1,5 +1,5 @@
 use Rattle.std.proofs.Common.{◌≡◌, ◌≤◌, drop, length}
-use Rattle.qvt_typing.specs.Rules.{signed}
+use Rattle.qvt_types_context.specs.Rules.{signed}
 use Rattle.qvt_types_context.specs.Seen.{seen}
 use Rattle.qvt_types_rules.proofs.parts.signed.Given as goal
 

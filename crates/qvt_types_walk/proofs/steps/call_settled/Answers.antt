@@ -1,5 +1,5 @@
 use Rattle.std.proofs.Common.{◌∙◌, false, sym, ap}
-use Rattle.qvt_types_context.specs.Seen.{seen}
+use Rattle.qvt_types_rules.specs.Seen.{seen}
 use Rattle.qvt_types_steps.specs.Calls.{dot_call}
 use Rattle.qvt_typing.specs.Calls.{called_behind}
 use Rattle.qvt_typing.specs.Rules.{reads_operation}

@@ -1,5 +1,5 @@
 use Rattle.std.proofs.Common.{option_map}
-use Rattle.qvt_metamodel.specs.Descends.{descends}
+use Rattle.qvt_metas.specs.Descends.{descends}
 use Rattle.qvt_types_data.specs.Term.{ty_view}
 use Rattle.qvt_types_words.specs.Answers.{accepted_view, plain_types}
 use Rattle.qvt_types_words.proofs.Arguments.{two_by_two}

@@ -1,5 +1,5 @@
 use Rattle.std.proofs.Common.{◌∙◌, ap, length, arith}
-use Rattle.qvt_types_units.specs.Numbers.{is_mapping}
+use Rattle.qvt_types_groups.specs.Numbers.{is_mapping}
 use Rattle.qvt_types_program.proofs.Counted.{counted, few}
 use Rattle.qvt_types_program.proofs.program.Program.mapping_count.Goals as goal
 

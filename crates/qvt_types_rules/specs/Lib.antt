@@ -1,0 +1,1 @@
+pub use Rattle.qvt_types_context.specs.Seen
