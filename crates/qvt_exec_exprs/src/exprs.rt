@@ -90,7 +90,7 @@ pub fn expression<C: Nested>(
             place,
             note,
             ..
-        } => object_barred(x, units, body.as_slice(), variable, note, *place, state),
+        } => object_barred(x, units, body, variable, note, *place, state),
         TypedExpr::New {
             args,
             place,

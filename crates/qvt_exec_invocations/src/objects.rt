@@ -19,7 +19,7 @@ use qvt_exec_state::steps::{misfit, tick};
 use qvt_run_data::exit::Halt;
 use qvt_types_data::note::{Note, Reading};
 use qvt_types_data::ty::Ty;
-use qvt_types_nodes::tree::TypedStmt;
+use qvt_types_nodes::tree::TypedStmts;
 use qvt_types_nodes::types::TypedObjectVar;
 use qvt_value::value::Value;
 
@@ -28,7 +28,7 @@ use qvt_value::value::Value;
 fn body_inside<C: Nested>(
     x: &Engine<'_>,
     units: &ReadyUnits<C>,
-    body: &[TypedStmt],
+    body: &TypedStmts,
     object: Oid,
     state: &mut RunState<'_>,
 ) -> Result<(), Halt>
@@ -46,7 +46,7 @@ fn body_inside<C: Nested>(
 fn on_object<C: Nested>(
     x: &Engine<'_>,
     units: &ReadyUnits<C>,
-    body: &[TypedStmt],
+    body: &TypedStmts,
     object: Oid,
     state: &mut RunState<'_>,
 ) -> Result<Value, Halt>
@@ -61,7 +61,7 @@ fn on_object<C: Nested>(
 fn object<C: Nested>(
     x: &Engine<'_>,
     units: &ReadyUnits<C>,
-    body: &[TypedStmt],
+    body: &TypedStmts,
     class: ClassNo,
     extent: u32,
     place: Place,
@@ -79,7 +79,7 @@ fn object<C: Nested>(
 fn object_in<C: Nested>(
     x: &Engine<'_>,
     units: &ReadyUnits<C>,
-    body: &[TypedStmt],
+    body: &TypedStmts,
     name: &str,
     class: ClassNo,
     extent: u32,
@@ -98,7 +98,7 @@ fn object_in<C: Nested>(
 fn object_with<C: Nested>(
     x: &Engine<'_>,
     units: &ReadyUnits<C>,
-    body: &[TypedStmt],
+    body: &TypedStmts,
     variable: &Option<TypedObjectVar>,
     class: ClassNo,
     extent: u32,
@@ -122,7 +122,7 @@ fn object_with<C: Nested>(
 fn object_by<C: Nested>(
     x: &Engine<'_>,
     units: &ReadyUnits<C>,
-    body: &[TypedStmt],
+    body: &TypedStmts,
     variable: &Option<TypedObjectVar>,
     note: &Note,
     place: Place,
@@ -142,7 +142,7 @@ fn object_by<C: Nested>(
 pub fn object_barred<C: Nested>(
     x: &Engine<'_>,
     units: &ReadyUnits<C>,
-    body: &[TypedStmt],
+    body: &TypedStmts,
     variable: &Option<TypedObjectVar>,
     note: &Note,
     place: Place,

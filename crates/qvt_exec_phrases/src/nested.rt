@@ -10,7 +10,7 @@ use qvt_exec_calls::program::Program;
 use qvt_exec_calls::state::RunState;
 use qvt_exec_calls::units::{ReadyUnits, UnitCalls};
 use qvt_run_data::exit::Halt;
-use qvt_types_nodes::tree::{TypedExpr, TypedStmt};
+use qvt_types_nodes::tree::{TypedExpr, TypedStmts};
 use qvt_value::value::Value;
 
 /// The phrases that stand inside a phrase, with the calls of units and the program.
@@ -29,7 +29,7 @@ pub trait Nested: UnitCalls {
     fn block(
         &self,
         x: &Engine<'_>,
-        nodes: &[TypedStmt],
+        nodes: &TypedStmts,
         state: &mut RunState<'_>,
     ) -> Result<(), Halt>
         requires { Self.ready self.now }
@@ -56,7 +56,7 @@ pub fn expr<C: Nested>(
 pub fn block<C: Nested>(
     x: &Engine<'_>,
     units: &ReadyUnits<C>,
-    nodes: &[TypedStmt],
+    nodes: &TypedStmts,
     state: &mut RunState<'_>,
 ) -> Result<(), Halt>
     ensures { Runs (block_of (x.now, C.means units.now) nodes.now (seen state.old)) result state.new }

@@ -15,7 +15,7 @@ use qvt_program_exprs::program::Program;
 use qvt_run_data::callee::Callee;
 use qvt_run_data::exit::Halt;
 use qvt_run_data::request::Query;
-use qvt_types_nodes::tree::{TypedExpr, TypedStmt};
+use qvt_types_nodes::tree::{TypedExpr, TypedStmt, TypedStmts};
 use qvt_value::value::{Value, Values};
 use std::marker::PhantomData;
 
@@ -113,7 +113,7 @@ impl<
     fn block(
         &self,
         x: &Engine<'_>,
-        nodes: &[TypedStmt],
+        nodes: &TypedStmts,
         state: &mut RunState<'_>,
     ) -> Result<(), Halt> {
         (self.block_at)(
@@ -121,7 +121,7 @@ impl<
             self.left,
             self.statements,
             x,
-            S::hide(nodes),
+            S::hide(nodes.as_slice()),
             state,
         )
     }

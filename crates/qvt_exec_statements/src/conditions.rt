@@ -14,7 +14,7 @@ use qvt_exec_steps::engine::Engine;
 use qvt_exec_steps::nested::{Nested, block, expr};
 use qvt_exec_steps::units::ReadyUnits;
 use qvt_run_data::exit::Halt;
-use qvt_types_nodes::tree::{TypedArm, TypedExpr, TypedStmt, TypedStmts};
+use qvt_types_nodes::tree::{TypedArm, TypedExpr, TypedStmts};
 
 /// Whether a condition is true.
 pub fn holds<C: Nested>(
@@ -35,7 +35,7 @@ pub(crate) fn turn<C: Nested>(
     x: &Engine<'_>,
     units: &ReadyUnits<C>,
     condition: &TypedExpr,
-    body: &[TypedStmt],
+    body: &TypedStmts,
     state: &mut RunState<'_>,
 ) -> Result<bool, Halt>
     ensures { Runs (statement.turn (expr_of (x.now, C.means units.now) condition.now) (nodes.place_of (typed_expr_view condition.now)) (block_of (x.now, C.means units.now) body.now) (seen state.old)) result state.new }
@@ -53,7 +53,7 @@ pub(crate) fn guarded<C: Nested>(
     x: &Engine<'_>,
     units: &ReadyUnits<C>,
     condition: &Option<TypedExpr>,
-    body: &[TypedStmt],
+    body: &TypedStmts,
     state: &mut RunState<'_>,
 ) -> Result<(), Halt>
     ensures { Runs (guarded_of (x.now, C.means units.now) condition.now (block_of (x.now, C.means units.now) body.now) (seen state.old)) result state.new }
@@ -81,7 +81,7 @@ fn otherwise<C: Nested>(
 {
     match body {
         None => Ok(()),
-        Some(body) => block(x, units, body.as_slice(), state),
+        Some(body) => block(x, units, body, state),
     }
 }
 
@@ -95,7 +95,7 @@ fn arm<C: Nested>(
 ) -> Result<bool, Halt>
     ensures { Runs (arm_turn (x.now, C.means units.now) (typed_arm_view node.now) (seen state.old)) result state.new }
 {
-    turn(x, units, &node.condition, node.body.as_slice(), state)
+    turn(x, units, &node.condition, &node.body, state)
 }
 
 /// The first arm whose condition is true, or else what stands last.
@@ -122,7 +122,7 @@ pub(crate) fn branch<C: Nested>(
     x: &Engine<'_>,
     units: &ReadyUnits<C>,
     condition: &TypedExpr,
-    body: &[TypedStmt],
+    body: &TypedStmts,
     more: &[TypedArm],
     last: &Option<TypedStmts>,
     state: &mut RunState<'_>,

@@ -24,7 +24,7 @@ use qvt_exec_steps::nested::{Nested, expr};
 use qvt_exec_steps::units::ReadyUnits;
 use qvt_run_data::exit::{End, Exit, Halt};
 use qvt_types_data::ty::Ty;
-use qvt_types_nodes::tree::{TypedExpr, TypedStmt};
+use qvt_types_nodes::tree::{TypedExpr, TypedStmts};
 use qvt_types_nodes::types::TypedTypeTree;
 use qvt_value::value::Value;
 
@@ -34,7 +34,7 @@ pub(crate) fn repeat<C: Nested>(
     x: &Engine<'_>,
     units: &ReadyUnits<C>,
     condition: &TypedExpr,
-    body: &[TypedStmt],
+    body: &TypedStmts,
     state: &mut RunState<'_>,
 ) -> Result<(), Halt>
     ensures { Runs (statement.loop (turns_of x.now.limit) (expr_of (x.now, C.means units.now) condition.now) (nodes.place_of (typed_expr_view condition.now)) (block_of (x.now, C.means units.now) body.now) (seen state.old)) result state.new }
@@ -65,7 +65,7 @@ fn for_item<C: Nested>(
     name: &Text,
     of: &Option<Ty>,
     condition: &Option<TypedExpr>,
-    body: &[TypedStmt],
+    body: &TypedStmts,
     item: &Value,
     state: &mut RunState<'_>,
 ) -> Result<(), Halt>
@@ -86,7 +86,7 @@ fn each_item<C: Nested>(
     name: &Text,
     of: &Option<Ty>,
     condition: &Option<TypedExpr>,
-    body: &[TypedStmt],
+    body: &TypedStmts,
     items: &[Value],
     state: &mut RunState<'_>,
 ) -> Result<(), Halt>
@@ -105,7 +105,7 @@ fn over_items<C: Nested>(
     name: &Text,
     of: &Option<Ty>,
     condition: &Option<TypedExpr>,
-    body: &[TypedStmt],
+    body: &TypedStmts,
     place: Place,
     value: Value,
     state: &mut RunState<'_>,
@@ -125,7 +125,7 @@ pub(crate) fn for_each<C: Nested>(
     name: &Text,
     kind: &Option<TypedTypeTree>,
     condition: &Option<TypedExpr>,
-    body: &[TypedStmt],
+    body: &TypedStmts,
     state: &mut RunState<'_>,
 ) -> Result<(), Halt>
     ensures { Runs (statement.for_each (expr_of (x.now, C.means units.now) source.now) (nodes.place_of (typed_expr_view source.now)) name.now (phrase.each_type (typed_optional_type kind.now) (typed_expr_view source.now)) (guarded_of (x.now, C.means units.now) condition.now (block_of (x.now, C.means units.now) body.now)) (seen state.old)) result state.new }

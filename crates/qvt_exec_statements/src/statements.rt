@@ -50,20 +50,12 @@ fn behind_unit<C: Nested>(
             arms,
             otherwise,
             ..
-        } => branch(
-            x,
-            units,
-            condition,
-            body.as_slice(),
-            arms.as_slice(),
-            otherwise,
-            state,
-        ),
+        } => branch(x, units, condition, body, arms.as_slice(), otherwise, state),
         TypedStmt::While {
             condition,
             body,
             ..
-        } => repeat(x, units, condition, body.as_slice(), state),
+        } => repeat(x, units, condition, body, state),
         TypedStmt::ForEach {
             source,
             name,
@@ -71,16 +63,7 @@ fn behind_unit<C: Nested>(
             condition,
             body,
             ..
-        } => for_each(
-            x,
-            units,
-            source,
-            name,
-            kind,
-            condition,
-            body.as_slice(),
-            state,
-        ),
+        } => for_each(x, units, source, name, kind, condition, body, state),
     }
 }
 

@@ -1,6 +1,6 @@
 //! Words on texts.
 
-ghost use Rattle.std.specs.Prelude.{◌≡◌, ◌==◌, ◌++◌, pos, IfOk, Some, None, if◌then◌else◌, nat_lt, length, take, drop, map, slice_index, encode_utf8, eqb};
+ghost use Rattle.std.specs.Prelude.{◌≡◌, ◌==◌, ◌++◌, ◌-◌, pos, IfOk, Some, None, if◌then◌else◌, nat_lt, length, take, drop, map, slice_index, slice_range, option_map, IfSome, IsUtf8, encode_utf8, eqb};
 ghost use Rattle.std.specs.List.{starts_with, ends_with};
 ghost use Rattle.std.specs.Str.{chars, encode_utf8_all};
 ghost use Rattle.std.specs.Char.{to_ascii_uppercase, to_ascii_lowercase};
@@ -15,42 +15,29 @@ use qvt_ocl_words::numbers::following;
 use qvt_value::value::{Reason, Value};
 use std::alloc::Global;
 
-/// The text without its first `n` characters.
-#[tactic(auto, using(crate::proofs::Chars::drop_past, crate::proofs::Chars::drop_none))]
-pub fn after_chars(text: &str, n: usize) -> &str
-    ensures { chars result.now ≡ drop n (chars text.now) }
+/// The text behind its first `n` characters, or none of fewer.
+#[tactic(auto, using(crate::proofs::Chars::drop_past, crate::proofs::Chars::fewer_left, crate::proofs::Chars::behind_short, crate::proofs::Chars::behind_all))]
+fn after_chars(text: &str, n: usize) -> Option<&str>
+    ensures value { option_map (λ rest. chars rest.now) result ≡ (if nat_lt (length (chars text.now)) n then None else Some (drop n (chars text.now))) }
+    ensures text { IfSome result (λ rest. IsUtf8 rest.now) }
 {
     let mut rest = text;
     let mut left = n;
     while left > 0 {
-        match split_first_char(rest) {
-            Some((_, more)) => rest = more,
-            None => return rest,
-        }
+        let (_, more) = split_first_char(rest)?;
+        rest = more;
         left -= 1;
     }
-    rest
+    Some(rest)
 }
 
-/// The first `n` characters of the text, or none of fewer.
-#[tactic(auto, using(crate::proofs::Chars::front_more, crate::proofs::Chars::front_short, crate::proofs::Chars::front_full, crate::proofs::Chars::fewer_left))]
-fn first_chars(alloc: Global, text: &str, n: usize) -> Result<Option<Text>, ListFault>
-    ensures { IfOk result (λ front. front ≡ (if nat_lt (length (chars text.now)) n then None else Some (encode_utf8_all (take n (chars text.now))))) }
+/// The first `n` characters of the text, or none of fewer. No character is looked at behind them.
+fn first_chars(text: &str, n: usize) -> Option<&str>
+    ensures { option_map (λ front. front.now) result ≡ (if nat_lt (length (chars text.now)) n then None else Some (encode_utf8_all (take n (chars text.now)))) }
 {
-    let mut front = Text::new(alloc);
-    let mut rest = text;
-    let mut left = n;
-    while left > 0 {
-        match split_first_char(rest) {
-            Some((c, more)) => {
-                front.push(c)?;
-                rest = more;
-            }
-            None => return Ok(None),
-        }
-        left -= 1;
-    }
-    Ok(Some(front))
+    let rest = after_chars(text, n)?;
+    let (front, _) = text.split_at(text.len() - rest.len());
+    Some(front)
 }
 
 /// Whether 1 <= l <= u <= n.
@@ -67,6 +54,17 @@ pub fn natural(i: i64) -> usize
     if i < 0 { 0 } else { i as usize }
 }
 
+/// The characters from the l-th to the u-th, where they are there.
+fn span(text: &str, l: i64, u: i64) -> Option<&str>
+    ensures { option_map (λ part. part.now) result ≡ (if is_span l u (length (chars text.now)) then Some (encode_utf8_all (slice_range (chars text.now) (natural l - 1) (natural u))) else None) }
+{
+    if l < 1 || u < l {
+        return None;
+    }
+    let before = natural(l) - 1;
+    first_chars(after_chars(text, before)?, natural(u) - before)
+}
+
 /// The characters from the l-th to the u-th. No character is looked at behind them.
 pub fn substring(
     alloc: Global,
@@ -77,12 +75,8 @@ pub fn substring(
 ) -> Result<Value, ListFault>
     ensures { IfOk result (λ answer. answer ≡ substring place text.now l u) }
 {
-    if l < 1 || u < l {
-        return Ok(Value::Invalid(Reason::BadIndex, place));
-    }
-    let before = natural(l) - 1;
-    match first_chars(alloc, after_chars(text, before), natural(u) - before)? {
-        Some(part) => Ok(Value::Str(part)),
+    match span(text, l, u) {
+        Some(part) => Ok(Value::Str(Text::from_str(alloc, part)?)),
         None => Ok(Value::Invalid(Reason::BadIndex, place)),
     }
 }
