@@ -132,7 +132,7 @@ fn called<C: Nested>(
 ) -> Result<Value, Halt>
     ensures { Runs (rule.called (mappings_of (run.now, C.means units.now)) (C.means units.now).calls (rule_of (run.now, C.means units.now) mapping.now) strict context args.now locals place (seen state.old)) result state.new }
 {
-    if is_asked(run, units, mapping, locals.as_slice(), state)? {
+    if is_asked(run, units, mapping, &locals, state)? {
         chosen(run, units, mapping, context, args, locals, place, state)
     } else {
         refused(strict, place, state)

@@ -9,7 +9,6 @@ ghost use Rattle.qvt_exec_mappings.specs.Framed.{framed_holds};
 ghost use Rattle.qvt_exec_mappings.specs.Stage.{mappings_of, rule_of};
 
 use crate::frames::frame_of;
-use crate::locals::copies_of;
 use crate::mapping::{MappingUnit, mapping_at};
 use crate::phrases::condition;
 use crate::run::Run;
@@ -59,7 +58,7 @@ pub fn is_asked<C: Nested>(
     run: &Run,
     units: &ReadyUnits<C>,
     mapping: &MappingUnit<'_>,
-    locals: &[Local],
+    locals: &Seq<Local>,
     state: &mut RunState<'_>,
 ) -> Result<bool, Halt>
     ensures { Runs (rule.when_holds (rule_of (run.now, C.means units.now) mapping.now).when locals.now (seen state.old)) result state.new }
@@ -67,7 +66,7 @@ pub fn is_asked<C: Nested>(
     if mapping.node.condition.is_none() {
         return Ok(true);
     }
-    let copies = copies_of(run.alloc, locals)?;
+    let copies = locals.copy(run.alloc)?;
     when_holds(run, units, mapping, copies, state)
 }
 

@@ -9,7 +9,6 @@ mod faults;
 pub mod first;
 pub mod frames;
 pub mod keys;
-pub mod locals;
 pub mod mapping;
 pub mod once;
 pub mod phrases;

@@ -63,7 +63,7 @@ pub fn reused<C: Nested>(
 ) -> Result<Value, Halt>
     ensures { Runs (rule.reused (mappings_of (run.now, C.means units.now)) (C.means units.now).calls (rule_of (run.now, C.means units.now) mapping.now) shared context args.now locals place (seen state.old)) result state.new }
 {
-    if !is_asked(run, units, mapping, locals.as_slice(), state)? {
+    if !is_asked(run, units, mapping, &locals, state)? {
         return Ok(Value::Null);
     }
     let (returned, own) = begun(run, units, mapping, shared, locals, state)?;
