@@ -3,7 +3,7 @@
 use Rattle.std.specs.Prelude.{ℕ, Bool, true, false, if◌then◌else◌, List, [], ◌∷◌, ◌++◌, Option, Some, None, Result, Ok, Err}
 use Rattle.qvt_base.specs.declared.numbers.Oid.{Oid}
 use Rattle.qvt_base.specs.declared.numbers.Place.{Place}
-use Rattle.qvt_types_steps.specs.declared.ty.Ty.{Ty}
+use Rattle.qvt_types_data.specs.declared.ty.Ty.{Ty}
 use Rattle.qvt_value.specs.declared.value.Value.{Value, Null, Obj}
 use Rattle.qvt_value.specs.declared.value.Kind.TheVariants.{Sequence}
 use Rattle.qvt_value.specs.Limits.{built}

@@ -6,7 +6,7 @@ use Rattle.qvt_base.specs.declared.numbers.Place.{Place}
 use Rattle.qvt_metamodel.specs.Metamodels.{class_at}
 use Rattle.qvt_metamodel.specs.Descends.{descends}
 use Rattle.qvt_slots.specs.Contents.{class_of}
-use Rattle.qvt_types_steps.specs.declared.ty.Ty.TheVariants as ty
+use Rattle.qvt_types_data.specs.declared.ty.Ty.TheVariants as ty
 use Rattle.qvt_value.specs.declared.value.Value.{Value, Null, Obj}
 use Rattle.qvt_run_data.specs.declared.fault.RunFault.TheVariants as fault
 use Rattle.qvt_run_data.specs.declared.callee.Callee.TheVariants.{MappingCall}

@@ -5,12 +5,12 @@ use Rattle.std.specs.List.{list_all}
 use Rattle.qvt_base.specs.declared.numbers.Oid.{Oid}
 use Rattle.qvt_base.specs.declared.numbers.Place.{Place}
 use Rattle.qvt_metamodel.specs.Metamodels.{Metamodels}
-use Rattle.qvt_types_steps.specs.Term.{kind_of}
+use Rattle.qvt_types_data.specs.Term.{kind_of}
 use Rattle.qvt_value.specs.declared.value.Value.{Value, Null, Bool as Truth, Obj, Invalid}
 use Rattle.qvt_value.specs.declared.value.Reason.TheVariants.{NullValue}
 use Rattle.qvt_value.specs.Limits.{built}
 use Rattle.qvt_slots.specs.Contents.{Contents, is_slot}
-use Rattle.qvt_types_steps.specs.declared.ty.Ty.{Ty}
+use Rattle.qvt_types_data.specs.declared.ty.Ty.{Ty}
 use Rattle.qvt_types_steps.specs.Types.{Collection, collection_of}
 use Rattle.qvt_types_steps.specs.Rulings.{items_conform}
 use Rattle.qvt_run_data.specs.declared.fault.RunFault.TheVariants as fault

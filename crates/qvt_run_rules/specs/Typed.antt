@@ -10,8 +10,8 @@ use Rattle.qvt_ocl_words.specs.Collections.{same_kind}
 use Rattle.qvt_ocl_words.specs.Lists.{is_null}
 use Rattle.qvt_slots.specs.Contents.{Contents}
 use Rattle.qvt_slots.specs.Types.{is_bool, is_int, is_text, is_literal, is_instance}
-use Rattle.qvt_types_steps.specs.Term.{TyTerm, Void, Boolean, Integer, Text, Literals, Class, Collection, ty_view}
-use Rattle.qvt_types_steps.specs.declared.ty.Ty.{Ty}
+use Rattle.qvt_types_data.specs.Term.{TyTerm, Void, Boolean, Integer, Text, Literals, Class, Collection, ty_view}
+use Rattle.qvt_types_data.specs.declared.ty.Ty.{Ty}
 use Rattle.qvt_run_data.specs.declared.fault.RunFault.TheVariants as fault
 use Rattle.qvt_run_data.specs.declared.exit.End.TheVariants.{Fault}
 use Rattle.qvt_run_rules.specs.State.{Does, ◌>>=◌, pure, stop, misfit, look}

@@ -18,12 +18,12 @@ use Rattle.qvt_tree_types.specs.Tree.{TypeTerm, CollType, PathType}
 use Rattle.qvt_tree_types.specs.Module.{TypedName, UnitTerm, ClassOf, MainOf, HelperOf, ConstructorOf, MappingOf}
 use Rattle.qvt_tree_types.specs.declared.types.PathTree.{PathTree}
 use Rattle.qvt_tree_types.specs.declared.words.CollKind.{CollKind}
-use Rattle.qvt_types_paths.specs.declared.refusal.Refusal.{Refusal}
-use Rattle.qvt_types_paths.specs.declared.refusal.RefusalKind.{RefusalKind}
-use Rattle.qvt_types_paths.specs.declared.refusal.RefusalKind.TheVariants.{UnknownType}
-use Rattle.qvt_types_paths.specs.declared.ty.Ty.{Ty, out-Ty, out-roll-Ty}
-use Rattle.qvt_types_paths.specs.declared.ty.Ty.TheOpen.{Ty-F}
-use Rattle.qvt_types_paths.specs.declared.ty.Ty.TheVariants as ty
+use Rattle.qvt_types_data.specs.declared.refusal.Refusal.{Refusal}
+use Rattle.qvt_types_data.specs.declared.refusal.RefusalKind.{RefusalKind}
+use Rattle.qvt_types_data.specs.declared.refusal.RefusalKind.TheVariants.{UnknownType}
+use Rattle.qvt_types_data.specs.declared.ty.Ty.{Ty, out-Ty, out-roll-Ty}
+use Rattle.qvt_types_data.specs.declared.ty.Ty.TheOpen.{Ty-F}
+use Rattle.qvt_types_data.specs.declared.ty.Ty.TheVariants as ty
 use Rattle.qvt_types_paths.specs.ModelTypes.{NamedTypes, class_name, class_names, model_type_metamodel}
 use Rattle.qvt_types_paths.specs.Paths.{basic_type, class_in, class_of_type, class_or_enum, collection, element_no, intermediate, intermediate_no, known, met_also, met_in, met_next, met_type, one_name, path_class, path_type, told_at, two_names, type_in, type_of_model, written_type}
 use Rattle.qvt_types_paths.specs.declared.paths.Met.{Met}

@@ -20,8 +20,8 @@ use Rattle.qvt_metas.specs.NumberSets.{has_number}
 use Rattle.qvt_types_paths.proofs.Places.{some_position}
 use Rattle.qvt_types_classes.specs.declared.declared.Declared.{Declared}
 use Rattle.qvt_types_classes.specs.declared.declared.Property.{Property}
-use Rattle.qvt_types_paths.specs.declared.refusal.Refusal.{Refusal}
-use Rattle.qvt_types_paths.specs.declared.refusal.RefusalKind.TheVariants.{SameName}
+use Rattle.qvt_types_data.specs.declared.refusal.Refusal.{Refusal}
+use Rattle.qvt_types_data.specs.declared.refusal.RefusalKind.TheVariants.{SameName}
 use Rattle.qvt_types_paths.specs.Told.{told_if}
 use Rattle.qvt_types_classes.specs.Inherited.{names_of, no_property, property_at, firsts, own_told, same_told, inherits_twice, read_class}
 use Rattle.qvt_types_classes.specs.Keys.{known, key_of, names_at, is_seen, AreSeen}

@@ -9,7 +9,7 @@ use Rattle.qvt_metamodel.specs.declared.given.ClassData.{ClassData}
 use Rattle.qvt_metamodel.specs.declared.given.FeatureData.{FeatureData}
 use Rattle.qvt_metamodel.specs.declared.info.ClassInfo.{ClassInfo}
 use Rattle.qvt_metas.specs.Tables.{of_classes}
-use Rattle.qvt_types_paths.specs.declared.refusal.Refusal.{Refusal}
+use Rattle.qvt_types_data.specs.declared.refusal.Refusal.{Refusal}
 use Rattle.qvt_types_paths.specs.ModelTypes.{NamedTypes}
 use Rattle.qvt_types_classes.specs.declared.declared.Property.{Property}
 use Rattle.qvt_types_classes.specs.declared.declared.Declared.{Declared}

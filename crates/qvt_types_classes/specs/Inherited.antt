@@ -9,8 +9,8 @@ use Rattle.qvt_metamodel.specs.Added.{numbers_from}
 use Rattle.qvt_metamodel.specs.Names.{is_among, repeated}
 use Rattle.qvt_metamodel.specs.declared.info.ClassInfo.{ClassInfo}
 use Rattle.qvt_metas.specs.Tables.{of_classes}
-use Rattle.qvt_types_paths.specs.declared.refusal.Refusal.{Refusal}
-use Rattle.qvt_types_paths.specs.declared.refusal.RefusalKind.TheVariants.{SameName}
+use Rattle.qvt_types_data.specs.declared.refusal.Refusal.{Refusal}
+use Rattle.qvt_types_data.specs.declared.refusal.RefusalKind.TheVariants.{SameName}
 use Rattle.qvt_types_paths.specs.Told.{told_if}
 use Rattle.qvt_types_classes.specs.declared.declared.Property.{Property}
 use Rattle.qvt_types_classes.specs.declared.declared.Declared.{Declared}

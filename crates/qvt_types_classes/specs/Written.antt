@@ -15,11 +15,11 @@ use Rattle.qvt_tree_types.specs.Module.{TypedName, ClassTerm, UnitTerm, ClassOf,
 use Rattle.qvt_tree_types.specs.declared.types.PathTree.{PathTree}
 use Rattle.qvt_tree_types.specs.declared.words.CollKind.{CollKind}
 use Rattle.qvt_tree_types.specs.declared.words.CollKind.TheVariants as coll
-use Rattle.qvt_types_paths.specs.declared.refusal.Refusal.{Refusal}
-use Rattle.qvt_types_paths.specs.declared.refusal.RefusalKind.{RefusalKind}
-use Rattle.qvt_types_paths.specs.declared.refusal.RefusalKind.TheVariants.{UnknownType, SameName, WrongType, ReuseCycle}
-use Rattle.qvt_types_paths.specs.declared.ty.Ty.{Ty, out-Ty}
-use Rattle.qvt_types_paths.specs.declared.ty.Ty.TheOpen.{Ty-F}
+use Rattle.qvt_types_data.specs.declared.refusal.Refusal.{Refusal}
+use Rattle.qvt_types_data.specs.declared.refusal.RefusalKind.{RefusalKind}
+use Rattle.qvt_types_data.specs.declared.refusal.RefusalKind.TheVariants.{UnknownType, SameName, WrongType, ReuseCycle}
+use Rattle.qvt_types_data.specs.declared.ty.Ty.{Ty, out-Ty}
+use Rattle.qvt_types_data.specs.declared.ty.Ty.TheOpen.{Ty-F}
 use Rattle.qvt_types_paths.specs.ModelTypes.{NamedTypes, class_name}
 use Rattle.qvt_types_paths.specs.Paths.{path_class, written_type}
 use Rattle.qvt_types_paths.specs.Told.{told_if}

@@ -9,7 +9,7 @@ use qvt_base::list_fault::ListFault;
 use qvt_base::seq::Seq;
 use qvt_cycle::cycles::Cycles;
 use qvt_cycle::lists::Positions;
-use qvt_types_paths::refusal::RefusalKind;
+use qvt_types_data::refusal::RefusalKind;
 use qvt_types_paths::told::{RefusalList, tell_if};
 use std::alloc::Global;
 

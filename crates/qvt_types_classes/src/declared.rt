@@ -16,9 +16,9 @@ use qvt_metamodel::info::{FeatureShape, TypeKind};
 use qvt_metas::metas::Metas;
 use qvt_tree_types::module::{ClassDecl, Field, Unit};
 use qvt_tree_types::types::PathTree;
+use qvt_types_data::refusal::{Refusal, RefusalKind};
 use qvt_types_paths::model_types::TypeNames;
 use qvt_types_paths::paths::path_class;
-use qvt_types_paths::refusal::{Refusal, RefusalKind};
 use std::alloc::Global;
 
 /// A property of an intermediate class, and whether its type is known: where it is not, what it holds says nothing.

@@ -14,8 +14,8 @@ use qvt_base::lists::FeatureNoList;
 use qvt_base::numbers::FeatureNo;
 use qvt_base::seq::Seq;
 use qvt_metas::number_set::NumberSet;
+use qvt_types_data::refusal::RefusalKind;
 use qvt_types_paths::name_index::NameIndex;
-use qvt_types_paths::refusal::RefusalKind;
 use qvt_types_paths::told::{RefusalList, tell_if};
 use std::alloc::Global;
 

@@ -3,7 +3,7 @@
 ghost use Rattle.std.specs.Prelude.{◌≡◌, IfOk};
 ghost use Rattle.qvt_tree_types.specs.Module.{field_view};
 ghost use Rattle.qvt_tree_types.specs.View.{type_view};
-ghost use Rattle.qvt_types_paths.specs.declared.ty.Ty.{out-Ty};
+ghost use Rattle.qvt_types_data.specs.declared.ty.Ty.{out-Ty};
 ghost use Rattle.qvt_types_classes.specs.Written as declared;
 
 use qvt_base::list_fault::ListFault;
@@ -13,10 +13,10 @@ use qvt_metas::metas::Metas;
 use qvt_tree_types::module::Field;
 use qvt_tree_types::types::TypeTree;
 use qvt_tree_types::words::CollKind;
+use qvt_types_data::refusal::{Refusal, RefusalKind};
+use qvt_types_data::ty::Ty;
 use qvt_types_paths::model_types::TypeNames;
 use qvt_types_paths::paths::written_type;
-use qvt_types_paths::refusal::{Refusal, RefusalKind};
-use qvt_types_paths::ty::Ty;
 use std::alloc::Global;
 
 /// The type of one value, where that is no collection.

@@ -13,9 +13,9 @@ use qvt_metamodel::info::FeatureShape;
 use qvt_metas::metas::Metas;
 use qvt_tree_types::module::{ClassDecl, Field, Unit};
 use qvt_tree_types::types::PathTree;
+use qvt_types_data::refusal::{Refusal, RefusalKind};
 use qvt_types_paths::model_types::{TypeNames, with_class_name};
 use qvt_types_paths::name_index::NameIndex;
-use qvt_types_paths::refusal::{Refusal, RefusalKind};
 use qvt_types_paths::told::{RefusalList, tell_if};
 use std::alloc::Global;
 

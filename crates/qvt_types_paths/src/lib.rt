@@ -9,4 +9,3 @@ pub mod paths;
 pub mod told;
 
 pub use qvt_metas::metas;
-pub use qvt_types_data::{refusal, ty};

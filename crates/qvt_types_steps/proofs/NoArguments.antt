@@ -1,7 +1,7 @@
 -- Where no argument is left, the rest conform.
 use Rattle.std.proofs.Common.{◌≡◌, refl, true, List, [], ◌∷◌, Option}
 use Rattle.qvt_types_words.specs.Metamodels.{Metamodels}
-use Rattle.qvt_types_words.specs.declared.ty.Ty.{Ty}
+use Rattle.qvt_types_data.specs.declared.ty.Ty.{Ty}
 use Rattle.qvt_types_steps.specs.UnitCalls.{arguments_conform}
 
 pub none_left : (m : Metamodels) (ps : List (Option Ty)) → arguments_conform m ps [] ≡ true

@@ -6,13 +6,13 @@ use Rattle.std.specs.Str.{bytes_eq}
 use Rattle.qvt_base.specs.declared.numbers.ClassNo.{ClassNo}
 use Rattle.qvt_tree_types.specs.declared.words.CollKind.{CollKind}
 use Rattle.qvt_tree_types.specs.declared.words.CollKind.TheVariants as coll
-use Rattle.qvt_types_words.specs.declared.ty.Ty.{Ty}
-use Rattle.qvt_types_words.specs.declared.ty.Ty.TheVariants as ty
-use Rattle.qvt_types_words.specs.Notes.{plain, ruled_wrapped}
-use Rattle.qvt_types_words.specs.declared.note.Reading.TheVariants as reading
-use Rattle.qvt_types_words.specs.declared.refusal.RefusalKind.TheVariants as refusal
-use Rattle.qvt_types_words.specs.declared.ruling.Ruling.{Ruling}
-use Rattle.qvt_types_words.specs.declared.ruling.Ruling.TheVariants.{Holds, Fails, Silent}
+use Rattle.qvt_types_data.specs.declared.ty.Ty.{Ty}
+use Rattle.qvt_types_data.specs.declared.ty.Ty.TheVariants as ty
+use Rattle.qvt_types_data.specs.Notes.{plain, ruled_wrapped}
+use Rattle.qvt_types_data.specs.declared.note.Reading.TheVariants as reading
+use Rattle.qvt_types_data.specs.declared.refusal.RefusalKind.TheVariants as refusal
+use Rattle.qvt_types_data.specs.declared.ruling.Ruling.{Ruling}
+use Rattle.qvt_types_data.specs.declared.ruling.Ruling.TheVariants.{Holds, Fails, Silent}
 use Rattle.qvt_types_words.specs.Types.{innermost, Collection}
 use Rattle.qvt_types_steps.specs.Calls.{collected, source_of, is_single}
 use Rattle.qvt_types_steps.specs.Iterators.{is_object}

@@ -4,14 +4,14 @@ use Rattle.std.specs.Prelude.{ℕ, ◌&&◌, ◌||◌, Bool, true, false, if◌t
 use Rattle.qvt_types_words.specs.Metamodels.{Metamodels}
 use Rattle.qvt_tree_types.specs.declared.words.CollKind.{CollKind}
 use Rattle.qvt_tree_types.specs.declared.words.CollKind.TheVariants as coll
-use Rattle.qvt_types_words.specs.declared.ty.Ty.{Ty}
-use Rattle.qvt_types_words.specs.declared.ty.Ty.TheVariants as ty
-use Rattle.qvt_types_words.specs.Notes.{plain, ruled_wrapped}
-use Rattle.qvt_types_words.specs.declared.note.Reading.TheVariants as reading
-use Rattle.qvt_types_words.specs.declared.refusal.RefusalKind.{RefusalKind}
-use Rattle.qvt_types_words.specs.declared.refusal.RefusalKind.TheVariants as refusal
-use Rattle.qvt_types_words.specs.declared.ruling.Ruling.{Ruling}
-use Rattle.qvt_types_words.specs.declared.ruling.Ruling.TheVariants.{Holds, Fails, Silent}
+use Rattle.qvt_types_data.specs.declared.ty.Ty.{Ty}
+use Rattle.qvt_types_data.specs.declared.ty.Ty.TheVariants as ty
+use Rattle.qvt_types_data.specs.Notes.{plain, ruled_wrapped}
+use Rattle.qvt_types_data.specs.declared.note.Reading.TheVariants as reading
+use Rattle.qvt_types_data.specs.declared.refusal.RefusalKind.{RefusalKind}
+use Rattle.qvt_types_data.specs.declared.refusal.RefusalKind.TheVariants as refusal
+use Rattle.qvt_types_data.specs.declared.ruling.Ruling.{Ruling}
+use Rattle.qvt_types_data.specs.declared.ruling.Ruling.TheVariants.{Holds, Fails, Silent}
 use Rattle.qvt_types_words.specs.Rulings.{wrong_unless, items_conform}
 use Rattle.qvt_types_words.specs.Types.{conforms, innermost, is_ordered, collected_kind, Collection, collection_of}
 use Rattle.qvt_types_steps.specs.Calls.{source_of, is_single, call, named_arity}

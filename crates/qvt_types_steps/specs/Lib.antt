@@ -1,7 +1,6 @@
 pub use Rattle.qvt_types_words.specs.Types
 pub use Rattle.qvt_types_words.specs.Rulings
 pub use Rattle.qvt_types_words.specs.OperationNames
-pub use Rattle.qvt_types_words.specs.Term
 pub mod Calls
 pub mod Classes
 pub mod IteratorTable

@@ -3,13 +3,13 @@ use Rattle.std.specs.Prelude.{ℕ, List, Option, Some, None}
 use Rattle.qvt_base.specs.declared.numbers.FeatureNo.{FeatureNo}
 use Rattle.qvt_types_words.specs.Metamodels.{Metamodels, shape_of}
 use Rattle.qvt_types_words.specs.Named.{feature_named}
-use Rattle.qvt_types_words.specs.declared.ty.Ty.{Ty}
-use Rattle.qvt_types_words.specs.declared.ty.Ty.TheVariants as ty
-use Rattle.qvt_types_words.specs.Notes.{plain}
-use Rattle.qvt_types_words.specs.declared.note.Reading.TheVariants as reading
-use Rattle.qvt_types_words.specs.declared.refusal.RefusalKind.TheVariants as refusal
-use Rattle.qvt_types_words.specs.declared.ruling.Ruling.{Ruling}
-use Rattle.qvt_types_words.specs.declared.ruling.Ruling.TheVariants.{Holds, Fails, Silent}
+use Rattle.qvt_types_data.specs.declared.ty.Ty.{Ty}
+use Rattle.qvt_types_data.specs.declared.ty.Ty.TheVariants as ty
+use Rattle.qvt_types_data.specs.Notes.{plain}
+use Rattle.qvt_types_data.specs.declared.note.Reading.TheVariants as reading
+use Rattle.qvt_types_data.specs.declared.refusal.RefusalKind.TheVariants as refusal
+use Rattle.qvt_types_data.specs.declared.ruling.Ruling.{Ruling}
+use Rattle.qvt_types_data.specs.declared.ruling.Ruling.TheVariants.{Holds, Fails, Silent}
 use Rattle.qvt_types_words.specs.Types.{innermost, feature_type}
 use Rattle.qvt_types_steps.specs.Calls.{collected}
 

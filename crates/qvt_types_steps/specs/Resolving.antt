@@ -5,12 +5,12 @@ use Rattle.qvt_types_words.specs.Metamodels.{Metamodels}
 use Rattle.qvt_tree_types.specs.Resolves.{is_one, is_inverse}
 use Rattle.qvt_tree_types.specs.declared.words.CollKind.TheVariants as coll
 use Rattle.qvt_tree_types.specs.declared.words.ResolveWord.{ResolveWord}
-use Rattle.qvt_types_words.specs.declared.ty.Ty.{Ty}
-use Rattle.qvt_types_words.specs.declared.ty.Ty.TheVariants as ty
-use Rattle.qvt_types_words.specs.declared.refusal.RefusalKind.TheVariants as refusal
-use Rattle.qvt_types_words.specs.declared.ruling.Ruling.{Ruling}
-use Rattle.qvt_types_words.specs.declared.ruling.Ruling.TheVariants.{Holds, Fails, Silent}
-use Rattle.qvt_types_words.specs.Notes.{ruled_wrapped}
+use Rattle.qvt_types_data.specs.declared.ty.Ty.{Ty}
+use Rattle.qvt_types_data.specs.declared.ty.Ty.TheVariants as ty
+use Rattle.qvt_types_data.specs.declared.refusal.RefusalKind.TheVariants as refusal
+use Rattle.qvt_types_data.specs.declared.ruling.Ruling.{Ruling}
+use Rattle.qvt_types_data.specs.declared.ruling.Ruling.TheVariants.{Holds, Fails, Silent}
+use Rattle.qvt_types_data.specs.Notes.{ruled_wrapped}
 use Rattle.qvt_types_words.specs.Rulings.{typed, typed_if}
 use Rattle.qvt_types_words.specs.Types.{conforms}
 use Rattle.qvt_types_steps.specs.Calls.{source_of, is_single}

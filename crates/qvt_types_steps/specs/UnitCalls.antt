@@ -3,14 +3,14 @@
 use Rattle.std.specs.Prelude.{ℕ, ◌==◌, Bool, true, false, if◌then◌else◌, List, [], ◌∷◌, length, Option, Some, None}
 use Rattle.qvt_types_words.specs.Metamodels.{Metamodels}
 use Rattle.qvt_tree_types.specs.declared.words.CollKind.TheVariants as coll
-use Rattle.qvt_types_words.specs.declared.ty.Ty.{Ty}
-use Rattle.qvt_types_words.specs.declared.ty.Ty.TheVariants as ty
-use Rattle.qvt_types_words.specs.Notes.{plain}
-use Rattle.qvt_types_words.specs.declared.note.Reading.{Reading}
-use Rattle.qvt_types_words.specs.declared.refusal.RefusalKind.{RefusalKind}
-use Rattle.qvt_types_words.specs.declared.refusal.RefusalKind.TheVariants as refusal
-use Rattle.qvt_types_words.specs.declared.ruling.Ruling.{Ruling}
-use Rattle.qvt_types_words.specs.declared.ruling.Ruling.TheVariants.{Holds, Fails, Silent}
+use Rattle.qvt_types_data.specs.declared.ty.Ty.{Ty}
+use Rattle.qvt_types_data.specs.declared.ty.Ty.TheVariants as ty
+use Rattle.qvt_types_data.specs.Notes.{plain}
+use Rattle.qvt_types_data.specs.declared.note.Reading.{Reading}
+use Rattle.qvt_types_data.specs.declared.refusal.RefusalKind.{RefusalKind}
+use Rattle.qvt_types_data.specs.declared.refusal.RefusalKind.TheVariants as refusal
+use Rattle.qvt_types_data.specs.declared.ruling.Ruling.{Ruling}
+use Rattle.qvt_types_data.specs.declared.ruling.Ruling.TheVariants.{Holds, Fails, Silent}
 use Rattle.qvt_types_words.specs.Types.{conforms, innermost}
 use Rattle.qvt_types_steps.specs.Calls.{source_of, is_single, collected}
 use Rattle.qvt_types_steps.specs.declared.classes.ClassPart.{ClassPart}

@@ -1,7 +1,7 @@
 //! Arrows with a name: iterators, and operations, which take no Head.
 
 ghost use Rattle.std.specs.Prelude.{◌≡◌, IfOk, [], ◌∷◌};
-ghost use Rattle.qvt_types_words.specs.declared.ty.Ty.TheVariants as ty;
+ghost use Rattle.qvt_types_data.specs.declared.ty.Ty.TheVariants as ty;
 ghost use Rattle.qvt_types_steps.specs.Calls.{source_of};
 ghost use Rattle.qvt_types_steps.specs.IteratorTable.{iterator_named as iterator_of};
 ghost use Rattle.qvt_types_steps.specs.Iterators as iterators;
@@ -16,12 +16,12 @@ use qvt_base::list_fault::ListFault;
 use qvt_base::seq::Seq;
 use qvt_base::text::Text;
 use qvt_tree_types::words::CollKind;
-use qvt_types_words::boxed::Boxed;
+use qvt_types_data::boxed::Boxed;
+use qvt_types_data::refusal::RefusalKind;
+use qvt_types_data::ruling::Ruling;
+use qvt_types_data::ty::Ty;
 use qvt_types_words::metas::Metas;
-use qvt_types_words::refusal::RefusalKind;
-use qvt_types_words::ruling::Ruling;
 use qvt_types_words::rulings::items_conform;
-use qvt_types_words::ty::Ty;
 use qvt_types_words::types::{collected_kind, conforms, is_ordered};
 use std::alloc::Global;
 

@@ -2,7 +2,7 @@
 
 ghost use Rattle.std.specs.Prelude.{◌≡◌, IfOk, Some, None};
 ghost use Rattle.qvt_types_words.specs.Answers.{answer as answer_of};
-ghost use Rattle.qvt_types_words.specs.declared.ty.Ty.TheVariants as ty;
+ghost use Rattle.qvt_types_data.specs.declared.ty.Ty.TheVariants as ty;
 ghost use Rattle.qvt_types_words.specs.Types.{innermost as innermost_of, collected_kind as collected_kind_of};
 ghost use Rattle.qvt_types_steps.specs.Calls as calls;
 
@@ -11,15 +11,15 @@ use qvt_base::list_fault::ListFault;
 use qvt_base::seq::Seq;
 use qvt_base::text::Text;
 use qvt_tree_types::words::CollKind;
+use qvt_types_data::boxed::Boxed;
+use qvt_types_data::note::Reading;
+use qvt_types_data::refusal::RefusalKind;
+use qvt_types_data::ruling::{Read, Ruling};
+use qvt_types_data::ty::Ty;
 use qvt_types_words::answers::{answer, arity};
-use qvt_types_words::boxed::Boxed;
 use qvt_types_words::metas::Metas;
-use qvt_types_words::note::Reading;
 use qvt_types_words::op::Op;
 use qvt_types_words::operation_names::operation_named;
-use qvt_types_words::refusal::RefusalKind;
-use qvt_types_words::ruling::{Read, Ruling};
-use qvt_types_words::ty::Ty;
 use qvt_types_words::types::{collected_kind, innermost};
 use std::alloc::Global;
 

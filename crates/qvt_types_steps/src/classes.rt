@@ -12,10 +12,10 @@ use qvt_base::numbers::ClassNo;
 use qvt_base::seq::Seq;
 use qvt_base::text::Text;
 use qvt_tree_types::words::CollKind;
-use qvt_types_words::boxed::Boxed;
-use qvt_types_words::refusal::RefusalKind;
-use qvt_types_words::ruling::Ruling;
-use qvt_types_words::ty::Ty;
+use qvt_types_data::boxed::Boxed;
+use qvt_types_data::refusal::RefusalKind;
+use qvt_types_data::ruling::Ruling;
+use qvt_types_data::ty::Ty;
 use qvt_types_words::types::innermost;
 use std::alloc::Global;
 

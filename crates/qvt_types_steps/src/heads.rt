@@ -8,9 +8,9 @@ ghost use Rattle.qvt_types_steps.specs.Iterators as iterators;
 use crate::calls::source_item;
 use qvt_base::copied::Copied;
 use qvt_base::list_fault::ListFault;
+use qvt_types_data::refusal::RefusalKind;
+use qvt_types_data::ty::{Ty, copied};
 use qvt_types_words::metas::Metas;
-use qvt_types_words::refusal::RefusalKind;
-use qvt_types_words::ty::{Ty, copied};
 use qvt_types_words::types::conforms;
 use std::alloc::Global;
 

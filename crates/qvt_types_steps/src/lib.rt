@@ -10,5 +10,3 @@ pub mod iterators;
 pub mod properties;
 pub mod resolves;
 pub mod units;
-
-pub use qvt_types_words::ty;

@@ -6,11 +6,11 @@ ghost use Rattle.qvt_types_steps.specs.Properties as properties;
 use crate::calls::collected;
 use qvt_base::list_fault::ListFault;
 use qvt_base::numbers::FeatureNo;
+use qvt_types_data::note::Reading;
+use qvt_types_data::refusal::RefusalKind;
+use qvt_types_data::ruling::{Read, Ruling};
+use qvt_types_data::ty::Ty;
 use qvt_types_words::metas::Metas;
-use qvt_types_words::note::Reading;
-use qvt_types_words::refusal::RefusalKind;
-use qvt_types_words::ruling::{Read, Ruling};
-use qvt_types_words::ty::Ty;
 use qvt_types_words::types::{feature_type, innermost};
 use std::alloc::Global;
 

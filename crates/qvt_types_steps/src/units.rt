@@ -8,12 +8,12 @@ use crate::classes::ClassPart;
 use qvt_base::copied::Copied;
 use qvt_base::list_fault::ListFault;
 use qvt_tree_types::words::CollKind;
-use qvt_types_words::boxed::Boxed;
+use qvt_types_data::boxed::Boxed;
+use qvt_types_data::note::Reading;
+use qvt_types_data::refusal::RefusalKind;
+use qvt_types_data::ruling::{Read, Ruling};
+use qvt_types_data::ty::Ty;
 use qvt_types_words::metas::Metas;
-use qvt_types_words::note::Reading;
-use qvt_types_words::refusal::RefusalKind;
-use qvt_types_words::ruling::{Read, Ruling};
-use qvt_types_words::ty::Ty;
 use qvt_types_words::types::{conforms, innermost};
 use std::alloc::Global;
 

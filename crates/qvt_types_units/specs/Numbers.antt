@@ -1,7 +1,7 @@
 -- Units by their numbers and by their names.
 use Rattle.std.specs.Prelude.{ℕ, ◌+◌, ◌==◌, ◌&&◌, not, Bool, true, false, List, [], ◌∷◌, length, position, Option, Some, if◌then◌else◌, slice_index_or}
 use Rattle.std.specs.Str.{bytes_eq}
-use Rattle.qvt_types_words.specs.declared.ty.Ty.TheVariants as ty
+use Rattle.qvt_types_data.specs.declared.ty.Ty.TheVariants as ty
 use Rattle.qvt_types_units.specs.declared.signature.UnitSort.{UnitSort}
 use Rattle.qvt_types_units.specs.declared.signature.UnitSort.TheVariants as sort
 use Rattle.qvt_types_units.specs.declared.signature.HeadClass.{HeadClass}

@@ -4,8 +4,8 @@ use Rattle.std.specs.List.{list_any}
 use Rattle.std.specs.Str.{bytes_eq}
 use Rattle.qvt_metamodel.specs.Metamodels.{Metamodels}
 use Rattle.qvt_metamodel.specs.Descends.{descends}
-use Rattle.qvt_types_words.specs.Term.{same_type, ty_view}
-use Rattle.qvt_types_words.specs.declared.ty.Ty.{Ty}
+use Rattle.qvt_types_data.specs.Term.{same_type, ty_view}
+use Rattle.qvt_types_data.specs.declared.ty.Ty.{Ty}
 use Rattle.qvt_types_words.specs.Types.{conforms}
 use Rattle.qvt_types_units.specs.declared.signature.UnitSort.{UnitSort}
 use Rattle.qvt_types_units.specs.declared.signature.UnitSort.TheVariants as sort

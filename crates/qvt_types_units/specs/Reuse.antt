@@ -10,9 +10,9 @@ use Rattle.qvt_metamodel.specs.Descends.{descends}
 use Rattle.qvt_tree_types.specs.Tree.{StmtTerms, NoStmts, MoreStmts}
 use Rattle.qvt_tree_types.specs.Module.{MappingTerm, UnitTerm, ClassOf, MainOf, HelperOf, ConstructorOf, MappingOf}
 use Rattle.qvt_tree_types.specs.declared.types.PathTree.{PathTree}
-use Rattle.qvt_types_words.specs.declared.refusal.Refusal.{Refusal}
-use Rattle.qvt_types_words.specs.declared.refusal.RefusalKind.{RefusalKind}
-use Rattle.qvt_types_words.specs.declared.refusal.RefusalKind.TheVariants.{UnknownName, BadReuse, BadDisjunct, ReuseCycle}
+use Rattle.qvt_types_data.specs.declared.refusal.Refusal.{Refusal}
+use Rattle.qvt_types_data.specs.declared.refusal.RefusalKind.{RefusalKind}
+use Rattle.qvt_types_data.specs.declared.refusal.RefusalKind.TheVariants.{UnknownName, BadReuse, BadDisjunct, ReuseCycle}
 use Rattle.qvt_types_classes.specs.ModelTypes.{NamedTypes}
 use Rattle.qvt_types_classes.specs.Paths.{path_class, unless_ambiguous}
 use Rattle.qvt_types_classes.specs.Told.{told_if}

@@ -5,10 +5,10 @@ use Rattle.qvt_metamodel.specs.Metamodels.{Metamodels}
 use Rattle.qvt_tree_types.specs.Tree.{TypeTerm}
 use Rattle.qvt_tree_types.specs.Module.{TypedName, ClassTerm, HelperTerm, MappingTerm, UnitTerm, ClassOf, MainOf, HelperOf, ConstructorOf, MappingOf}
 use Rattle.qvt_tree_types.specs.declared.module.ResultDecl.{ResultDecl}
-use Rattle.qvt_types_words.specs.declared.refusal.Refusal.{Refusal}
-use Rattle.qvt_types_words.specs.declared.refusal.RefusalKind.{RefusalKind}
-use Rattle.qvt_types_words.specs.declared.ty.Ty.{Ty}
-use Rattle.qvt_types_words.specs.declared.ty.Ty.TheVariants as ty
+use Rattle.qvt_types_data.specs.declared.refusal.Refusal.{Refusal}
+use Rattle.qvt_types_data.specs.declared.refusal.RefusalKind.{RefusalKind}
+use Rattle.qvt_types_data.specs.declared.ty.Ty.{Ty}
+use Rattle.qvt_types_data.specs.declared.ty.Ty.TheVariants as ty
 use Rattle.qvt_types_classes.specs.ModelTypes.{NamedTypes}
 use Rattle.qvt_types_classes.specs.Paths.{path_class, written_type}
 use Rattle.qvt_types_units.specs.declared.signature.UnitSort.{UnitSort}

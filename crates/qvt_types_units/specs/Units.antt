@@ -8,9 +8,9 @@ use Rattle.qvt_metamodel.specs.Named.{metamodel_at}
 use Rattle.qvt_tree_types.specs.Tree.{TypeTerm}
 use Rattle.qvt_tree_types.specs.Module.{TypedName, HelperTerm, MappingTerm, UnitTerm, ClassOf, MainOf, HelperOf, ConstructorOf, MappingOf}
 use Rattle.qvt_tree_types.specs.declared.module.ResultDecl.{ResultDecl}
-use Rattle.qvt_types_words.specs.declared.refusal.Refusal.{Refusal}
-use Rattle.qvt_types_words.specs.declared.refusal.RefusalKind.TheVariants.{SameName, BadOverride, BadContext, BadExtent, NoMain}
-use Rattle.qvt_types_words.specs.declared.ty.Ty.{Ty}
+use Rattle.qvt_types_data.specs.declared.refusal.Refusal.{Refusal}
+use Rattle.qvt_types_data.specs.declared.refusal.RefusalKind.TheVariants.{SameName, BadOverride, BadContext, BadExtent, NoMain}
+use Rattle.qvt_types_data.specs.declared.ty.Ty.{Ty}
 use Rattle.qvt_types_classes.specs.declared.models.Models.{Models}
 use Rattle.qvt_types_classes.specs.ModelTypes.{NamedTypes}
 use Rattle.qvt_types_classes.specs.Models.{extent}

@@ -7,7 +7,7 @@ use crate::signature::{HeadClass, Signature, UnitSort};
 use qvt_base::numbers::{ClassNo, Place};
 use qvt_base::seq::Seq;
 use qvt_base::text::Text;
-use qvt_types_words::ty::Ty;
+use qvt_types_data::ty::Ty;
 use std::alloc::Global;
 
 /// The signature that stands for none.

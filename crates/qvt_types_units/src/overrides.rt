@@ -6,8 +6,8 @@ ghost use Rattle.qvt_types_units.specs.Overrides as overrides;
 
 use crate::numbers::{is_helper, is_mapping};
 use crate::signature::{HeadClass, Signature, UnitSort};
+use qvt_types_data::ty::{Ty, same};
 use qvt_types_words::metas::Metas;
-use qvt_types_words::ty::{Ty, same};
 use qvt_types_words::types::conforms;
 
 /// Whether two types differ where both are known.

@@ -3,7 +3,7 @@
 use qvt_base::numbers::{ClassNo, MappingNo, Place};
 use qvt_base::seq::Seq;
 use qvt_base::text::Text;
-use qvt_types_words::ty::Ty;
+use qvt_types_data::ty::Ty;
 
 /// What a unit is. Mappings have numbers of their own, from 0 in the order of the text.
 #[derive(Clone, Copy, Debug, PartialEq, Eq)]

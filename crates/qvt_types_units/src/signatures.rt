@@ -15,9 +15,9 @@ use qvt_tree_types::module::{ClassDecl, Helper, Mapping, Param, ResultDecl, Unit
 use qvt_tree_types::types::TypeTree;
 use qvt_types_classes::model_types::TypeNames;
 use qvt_types_classes::paths::{path_class, written_type};
+use qvt_types_data::refusal::{Refusal, RefusalKind};
+use qvt_types_data::ty::Ty;
 use qvt_types_words::metas::Metas;
-use qvt_types_words::refusal::{Refusal, RefusalKind};
-use qvt_types_words::ty::Ty;
 use std::alloc::Global;
 
 /// A path without its last name.

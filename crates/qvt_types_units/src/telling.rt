@@ -19,9 +19,9 @@ use qvt_types_classes::model_types::TypeNames;
 use qvt_types_classes::models::Models;
 use qvt_types_classes::paths::{path_class, written_type};
 use qvt_types_classes::told::{RefusalList, tell_if};
+use qvt_types_data::refusal::{Refusal, RefusalKind};
+use qvt_types_data::ty::Ty;
 use qvt_types_words::metas::Metas;
-use qvt_types_words::refusal::{Refusal, RefusalKind};
-use qvt_types_words::ty::Ty;
 use std::alloc::Global;
 
 /// What the heads of units are judged by: the metamodels that are given, those with the intermediate classes, the names of types

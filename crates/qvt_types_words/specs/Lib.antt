@@ -1,5 +1,3 @@
-pub use Rattle.qvt_types_data.specs.Term
-pub use Rattle.qvt_types_data.specs.Notes
 pub use Rattle.qvt_metas.specs.Named
 pub use Rattle.qvt_metas.specs.Metamodels
 pub mod Answers

@@ -9,4 +9,3 @@ pub mod types;
 
 pub use qvt_metas::metas;
 pub use qvt_ocl_types::op;
-pub use qvt_types_data::{boxed, note, refusal, ruling, ty};

@@ -10,7 +10,7 @@ use Rattle.qvt_types_data.specs.declared.refusal.Refusal.{Refusal}
 use Rattle.qvt_types_data.specs.declared.refusal.RefusalKind.{RefusalKind}
 use Rattle.qvt_types_data.specs.declared.refusal.RefusalKind.TheVariants as refusal
 use Rattle.qvt_types_laws.specs.JoinModule.{joined}
-use Rattle.qvt_types_laws.specs.Module.{TypedModuleTerm}
+use Rattle.qvt_types_nodes.specs.Module.{TypedModuleTerm}
 use Rattle.qvt_types_units.specs.ModelTypes.{NamedTypes, type_names, model_types_told}
 use Rattle.qvt_types_units.specs.Models.{models, models_told}
 use Rattle.qvt_types_states.specs.Judge.{Judges, ◌>>=◌, gives, writes_nothing}

@@ -1,6 +1,6 @@
 use Rattle.std.proofs.Common.{◌∙◌, ◌+◌, ◌++◌, ◌∷◌, ◌||◌, ℕ, List, [], ap, drop, sym}
 use Rattle.qvt_metamodel.specs.Names.{is_among}
-use Rattle.qvt_types_paths.specs.declared.refusal.RefusalKind.TheVariants.{SameName}
+use Rattle.qvt_types_data.specs.declared.refusal.RefusalKind.TheVariants.{SameName}
 use Rattle.qvt_types_paths.specs.Told.{told_if}
 use Rattle.qvt_types_classes.specs.declared.declared.Property.{Property}
 use Rattle.qvt_types_classes.specs.Inherited.{own_told}
