@@ -1,0 +1,5 @@
+//! A run of `main`, which keeps what its late assignments ask.
+#![tactic(auto)]
+
+pub mod main_body;
+pub mod ran;

@@ -1,0 +1,4 @@
+pub mod Entries
+pub mod Patches
+pub mod Finish
+pub mod Stay
