@@ -1,5 +1,6 @@
-//! A run of `main`, which keeps what its late assignments ask.
+//! A run of a program.
 #![tactic(auto)]
 
 pub mod main_body;
 pub mod ran;
+pub mod run;
