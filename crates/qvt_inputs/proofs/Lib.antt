@@ -1,3 +1,3 @@
 pub mod Faults
 pub mod Loads
-pub mod Served
+pub mod Apart

@@ -28,7 +28,9 @@ use std::alloc::Global;
 fn place_named(extents: &[Extent], name: &str) -> Option<usize>
     ensures { result ≡ position (λ e. bytes_eq name.now e.name) extents.now }
 {
-    extents.iter().position(|extent| name == extent.name.as_str())
+    extents
+        .iter()
+        .position(|extent| name == extent.name.as_str())
 }
 
 /// The extent of this name, none where its number does not fit.
@@ -36,18 +38,24 @@ fn extent_named(store: &Store, name: &Text) -> Option<u32>
     ensures number { IfSome result (λ e. e ≡ extent_named store.now name.now) }
     ensures fits { length store.now.extents < 2 ^ 32 → IsTrue (is_some result) }
 {
-    match place_named(store.extents().as_slice(), name.as_str()) {
-        None => Some(0),
-        Some(place) => u32::try_from(place).ok(),
+    let Some(place) = place_named(store.extents().as_slice(), name.as_str()) else {
+        return Some(0);
+    };
+    if place > u32::MAX as usize {
+        return None;
     }
+    Some(place as u32)
 }
 
 fn metamodel_of(store: &Store, extent: u32) -> u32
     ensures { result ≡ metamodel_of store.now extent }
 {
-    match store.extents().get(extent as usize) {
-        None => 0,
-        Some(known) => known.metamodel,
+    let extents = store.extents().as_slice();
+    let place = extent as usize;
+    if place < extents.len() {
+        extents[place].metamodel
+    } else {
+        0
     }
 }
 

@@ -1,22 +1,17 @@
 -- The inputs of a job can be loaded for a program whose parameters are the job's models.
-use Rattle.std.specs.Prelude.{◌≡◌, IsTrue, List, None, Ok}
+use Rattle.std.specs.Prelude.{◌≡◌, ◌≢◌, [], None, Ok}
 use Rattle.std.specs.List.{AllByRecursion}
 use Rattle.qvt_metamodel.specs.Metamodels.{Metamodels}
 use Rattle.qvt_tree_types.specs.Module.{ModuleTerm}
-use Rattle.qvt_slots.specs.Contents.{is_named}
 use Rattle.qvt_typing.specs.Accepts.{ProgramTerm, accepts}
 use Rattle.qvt_job.specs.declared.job.Job.{Job}
-use Rattle.qvt_job.specs.declared.job.JobModel.{JobModel}
+use Rattle.qvt_job.specs.Names.{HaveNames}
 use Rattle.qvt_job.specs.Parameters.{mismatch}
 use Rattle.qvt_program_inputs.specs.Start.{CanLoad}
 
 -- each of the metamodels has a name
 abbrev pub AreAllNamed : Metamodels → Type 0
-AreAllNamed m = AllByRecursion (λ i. IsTrue (is_named i.name)) m.metamodels
-
--- so has each model of a job
-abbrev pub HaveNames : List JobModel → Type 0
-HaveNames models = AllByRecursion (λ x. IsTrue (is_named x.model)) models
+AreAllNamed m = AllByRecursion (λ i. i.name ≢ []) m.metamodels
 
 -- the program is that of the tree over the metamodels of the job, and the models of the job are those of the tree
 pub record IsOfJob (job : Job) (m : Metamodels) (t : ModuleTerm) (p : ProgramTerm) : Type 0 where

@@ -1,6 +1,6 @@
 -- The store of a run of a program before its inputs are loaded (QVT 1.3, 8.2.1.5 and 8.2.1.1), and what the inputs of a job make of it.
 use Rattle.std.specs.Prelude.{List, []}
-use Rattle.qvt_slots.specs.Contents.{Contents, AreNamed}
+use Rattle.qvt_store.specs.Contents.{Contents, AreNamed}
 use Rattle.qvt_types_program.specs.Accepts.{ProgramTerm}
 use Rattle.qvt_types_program.specs.Extents.{extents}
 use Rattle.qvt_job.specs.declared.job.JobModel.{JobModel}

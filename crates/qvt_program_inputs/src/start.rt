@@ -1,13 +1,12 @@
 //! The store in which a run of a program begins.
 
 ghost use Rattle.std.specs.Prelude.{◌≡◌, IfErr, IfOk};
-ghost use Rattle.qvt_slots.specs.Contents.{AreNamed};
-ghost use Rattle.qvt_store_laws.specs.Sound.{Sound};
-ghost use Rattle.qvt_store_laws.specs.Stay.{StaysIn};
-ghost use Rattle.qvt_model.specs.Loaded.{TellsAll, TellsNoOther};
+ghost use Rattle.qvt_store.specs.Contents.{AreNamed};
+ghost use Rattle.qvt_store.specs.Sound.{Sound};
 ghost use Rattle.qvt_types_program.specs.Extents.{extents};
 ghost use Rattle.qvt_types_program.specs.Program.{program_view};
 ghost use Rattle.qvt_outcome.specs.Follows.{Follows};
+ghost use Rattle.qvt_inputs.specs.Inputs.{IsLoaded};
 ghost use Rattle.qvt_program_inputs.specs.Start.{start_of, program_inputs, CanLoad};
 
 use qvt_base::outside::Files;
@@ -43,10 +42,7 @@ pub fn read_program_inputs<F: Files>(
 ) -> Result<Loaded, Stop>
     requires { CanLoad (program_view program.now) inputs.now }
     ensures follows { Follows (λ l. l) (program_inputs (program_view program.now) inputs.now) (F.seen files.old) result (F.seen files.new) }
-    ensures sound { IfOk result (λ l. Sound l.store) }
-    ensures stays { IfOk result (λ l. StaysIn (start_of (program_view program.now)) l.store) }
-    ensures told { IfOk result (λ l. TellsAll l.store l.ids) }
-    ensures no_other { IfOk result (λ l. TellsNoOther l.store l.ids) }
+    ensures loaded { IfOk result (λ l. IsLoaded (start_of (program_view program.now)) l) }
 {
     match start_of(alloc, program) {
         Err(stop) => Err(stop),
