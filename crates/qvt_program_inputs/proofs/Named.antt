@@ -5,6 +5,7 @@ use Rattle.std.specs.List.{list_any, AllByRecursion}
 use Rattle.std.specs.Str.{bytes_eq}
 use Rattle.qvt_store.specs.declared.extent.Extent.{Extent}
 use Rattle.qvt_store.specs.Contents.{is_named, no_extent}
+use Rattle.qvt_tree_types.specs.declared.module.ModelParam.{ModelParam}
 use Rattle.qvt_types_paths.specs.declared.models.ModelRow.{ModelRow}
 use Rattle.qvt_types_program.specs.Extents.{row_at, model_extent, extents_from}
 
@@ -40,6 +41,15 @@ each_at P (x ∷ xs) d (suc i) h l = each_at P xs d i h.1 (omega arith)
 pub is_named_of : (name : List ℕ) → name ≢ [] → is_named name ≡ true
 is_named_of [] h = absurd (h refl)
 is_named_of (b ∷ bs) h = refl
+
+pub names_named : (ps : List ModelParam) → AllByRecursion (λ (x : ModelParam). x.name ≢ []) ps → (e : ℕ) → e < length ps → is_named (slice_index_or (map (λ (x : ModelParam). x.name) ps) e []) ≡ true
+names_named [] all e l = absurd (omega arith)
+names_named (p ∷ ps) all zero l = is_named_of p.name all.0
+names_named (p ∷ ps) all (suc e) l = names_named ps all.1 e (omega arith)
+
+pub any_name : (name : List ℕ) (ps : List ModelParam) → list_any (bytes_eq name) (map (λ (x : ModelParam). x.name) ps) ≡ list_any (λ (x : ModelParam). bytes_eq name x.name) ps
+any_name name [] = refl
+any_name name (p ∷ ps) = ap (λ b. bytes_eq name p.name || b) (any_name name ps)
 
 -- a name among them is that of an extent
 pub among_front : (rows : List ModelRow) (i : ℕ) (name : List ℕ) (names : List (List ℕ)) (last : Extent) → list_any (bytes_eq name) names ≡ true

@@ -4,24 +4,19 @@ use Rattle.std.specs.Prelude.{slice_index_or, nat_lt}
 use Rattle.std.specs.List.{list_any, AllByRecursion}
 use Rattle.std.specs.Str.{bytes_eq}
 use Rattle.std.proofs.lemmas.Bool.{ltb-true, cases_lt}
-use Rattle.std.proofs.lemmas.List.{length-map, get_or-map}
+use Rattle.std.proofs.lemmas.List.{length-map}
 use Rattle.qvt_metamodel.specs.Metamodels.{Metamodels}
-use Rattle.qvt_metamodel.specs.Extended.{extended, unnamed}
+use Rattle.qvt_metamodel.specs.Extended.{unnamed}
 use Rattle.qvt_metamodel.specs.Named.{metamodel_at, nowhere_metamodel}
 use Rattle.qvt_tree_types.specs.Module.{ModuleTerm}
 use Rattle.qvt_tree_types.specs.declared.module.ModelParam.{ModelParam}
-use Rattle.qvt_types_data.specs.declared.note.Note.{Note}
-use Rattle.qvt_types_laws.specs.JoinModule.{joined}
-use Rattle.qvt_types_nodes.specs.StripModule.{strip}
-use Rattle.qvt_types_paths.specs.Models.{models, model_row}
 use Rattle.qvt_store.specs.declared.extent.Extent.{Extent}
 use Rattle.qvt_store.specs.Contents.{AreNamed, extent_at, is_named, no_extent}
-use Rattle.qvt_typing.specs.Accepts.{ProgramTerm, accepts, heads_of}
-use Rattle.qvt_typed_laws.specs.Accepted.{IsJudged, AcceptedIsJudged}
+use Rattle.qvt_typing.specs.Accepts.{ProgramTerm}
 use Rattle.qvt_types_program.specs.Extents.{row_at, model_extent, extents_from, intermediate_extent, extents}
 use Rattle.qvt_types_program.specs.Known.{known}
 use Rattle.qvt_types_program.specs.Program.{model_metamodel, model_params}
-use Rattle.qvt_program_laws.specs.Models.{HasMetamodel, ModelsHaveMetamodels}
+use Rattle.qvt_program_laws.specs.Models.{HasMetamodel, HasModels, ModelsAreDeclared}
 use Rattle.qvt_job.specs.Names.{HaveNames}
 use Rattle.qvt_job.specs.Parameters.{times, is_parameter, mismatch}
 use Rattle.qvt_job.specs.Served.{IsOnly, InputsAreApart, ParametersHaveNames}
@@ -31,21 +26,7 @@ use Rattle.qvt_inputs.specs.Inputs.{metamodel_of, HaveExtents}
 use Rattle.qvt_inputs.proofs.Apart.{IsAlone, have_extents}
 use Rattle.qvt_program_inputs.specs.Start.{start_of, CanLoad}
 use Rattle.qvt_program_inputs.specs.Law.{AreAllNamed, IsOfJob, JobCanLoad}
-use Rattle.qvt_program_inputs.proofs.Named.{count, front, last_at, front_at, each_at, is_named_of, among_front}
-
--- what the heads of a transformation have of its models and metamodels
-pub record HasModels (m : Metamodels) (t : ModuleTerm) (p : ProgramTerm) : Type 0 where
-  pub metamodels : p.heads.metas.metamodels ≡ m.metamodels ++ unnamed ∷ []
-  pub names : p.heads.models.names ≡ map (λ (x : ModelParam). x.name) t.params
-  pub known : (i : ℕ) → i < length t.params → HasMetamodel m p i
-
-of_heads : (m : Metamodels) (t : ModuleTerm) (p : ProgramTerm) → p.heads ≡ heads_of m t → ((i : ℕ) → i < length t.params → HasMetamodel m p i) → HasModels m t p
-unfolding heads_of extended models
-of_heads m t p h k = record {
-  metamodels = ap (λ x. x.metas.metamodels) h;
-  names = ap (λ x. x.models.names) h;
-  known = k;
-}
+use Rattle.qvt_program_inputs.proofs.Named.{count, front, last_at, front_at, each_at, is_named_of, names_named, any_name, among_front}
 
 module _ (m : Metamodels) (t : ModuleTerm) (p : ProgramTerm) (h : HasModels m t p) where
   abbrev rows : _
@@ -85,11 +66,7 @@ module _ (m : Metamodels) (t : ModuleTerm) (p : ProgramTerm) (h : HasModels m t 
   ]
 
   named_param : AllByRecursion (λ (x : ModelParam). x.name ≢ []) t.params → (e : ℕ) → e < length t.params → is_named (slice_index_or names e []) ≡ true
-  named_param all e l = is_named_of _ (subst (λ (n : List ℕ). n ≢ []) (sym (ap (λ (ns : List (List ℕ)). slice_index_or ns e []) h.names ∙ get_or-map (λ (x : ModelParam). x.name) t.params e no_param [] l))
-      (each_at (λ (x : ModelParam). x.name ≢ []) t.params no_param e all l))
-    where
-      abbrev no_param : ModelParam
-      no_param = slice_index_or t.params e ?
+  named_param all e l = subst (λ (ns : List (List ℕ)). is_named (slice_index_or ns e []) ≡ true) (sym h.names) (names_named t.params all e l)
 
   named_meta : AreAllNamed m → (k : ℕ) → k < length m.metamodels → is_named (metamodel_at p.heads.metas k).name ≡ true
   named_meta all k l = is_named_of _ (subst (λ (n : List ℕ). n ≢ []) (sym (ap (λ i. i.name) (ap (λ ms. slice_index_or ms k nowhere_metamodel) h.metamodels ∙ front_at m.metamodels (unnamed ∷ []) nowhere_metamodel k l)))
@@ -112,12 +89,7 @@ module _ (m : Metamodels) (t : ModuleTerm) (p : ProgramTerm) (h : HasModels m t 
   -- the extent of an input
   param_extent : (name : List ℕ) → is_parameter t.params name ≡ true → list_any (λ (x : Extent). bytes_eq name x.name) (extents p) ≡ true
   param_extent name is = among_front rows 0 name names (intermediate_extent (length p.heads.metas.metamodels))
-      (subst (λ (ns : List (List ℕ)). list_any (bytes_eq name) ns ≡ true) (sym h.names) (through t.params is))
-    where
-      through : (ps : List ModelParam) → is_parameter ps name ≡ true → list_any (bytes_eq name) (map (λ (x : ModelParam). x.name) ps) ≡ true
-      through ps e = any_map ps ∙ e
-      any_map : (ps : List ModelParam) → list_any (bytes_eq name) (map (λ (x : ModelParam). x.name) ps) ≡ is_parameter ps name
-      any_map ps = ?
+      (subst (λ (ns : List (List ℕ)). list_any (bytes_eq name) ns ≡ true) (sym h.names) (any_name name t.params ∙ is))
 
   alone : (job : Job) (xs : List JobModel) → AllByRecursion (IsOnly job t.params) xs → AllByRecursion (IsAlone (start_of p) job.inputs) xs
   alone job [] all = tt
@@ -126,11 +98,9 @@ module _ (m : Metamodels) (t : ModuleTerm) (p : ProgramTerm) (h : HasModels m t 
   pub inputs_have : (job : Job) → AllByRecursion (IsOnly job t.params) job.inputs → HaveExtents (start_of p) job.inputs
   inputs_have job all = have_extents (start_of p) job.inputs refl live job.inputs (alone job job.inputs all) (λ name. omega arith)
 
-pub job_can_load : AcceptedIsJudged → ((t : ModuleTerm) (ns : List Note) → strip (joined t ns) ≡ t) → ModelsHaveMetamodels → InputsAreApart → ParametersHaveNames → JobCanLoad
-job_can_load judged leaves have apart named job m t p of =
-    let is = judged m t p of.accepted in
-    let stripped : strip p.module_ ≡ t = ap strip is.tree ∙ leaves t _ in
-    let h = of_heads m t p is.heads (λ i l. have m t p of.accepted i (subst (λ (x : ModuleTerm). i < length x.params) (sym stripped) l)) in
+pub job_can_load : ModelsAreDeclared → InputsAreApart → ParametersHaveNames → JobCanLoad
+job_can_load declared apart named job m t p of =
+    let h = declared m t p of.accepted in
     record {
       named = are_named m t p h of.metamodels (named job t.params of.inputs of.outputs of.models);
       extents_of = inputs_have m t p h job (apart job t.params of.models);
