@@ -19,6 +19,7 @@ use qvt_base::copied::Copied;
 use qvt_base::outside::Files;
 use qvt_base::text::Text;
 use qvt_job::job::{Job, JobFault};
+use qvt_job::laws::models_have_names;
 use qvt_job::parameters::mismatch;
 use qvt_job::read_job::read_job;
 use qvt_metas::metas::Metas;
@@ -49,6 +50,7 @@ fn job_in(alloc: Global, name: &Text, bytes: &[u8]) -> Result<Job, Stop>
     ensures gives { Gives (λ job. job) result (job_in name.now bytes.now) }
     ensures named { IfOk result (λ job. HaveNames job.inputs × HaveNames job.outputs) }
 {
+    models_have_names();
     match read_job(alloc, bytes) {
         Err(why) => Err(job_stop(alloc, name, why)),
         Ok(job) => Ok(job),
