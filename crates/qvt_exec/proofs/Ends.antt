@@ -10,8 +10,8 @@ use Rattle.qvt_run_rules.specs.State.{Done}
 use Rattle.qvt_typing.specs.Accepts.{ProgramTerm}
 use Rattle.qvt_meaning.specs.Laws.{from_requests}
 use Rattle.qvt_meaning.specs.Run as run
-use Rattle.qvt_exec_late.specs.declared.finish.Finished.{Finished}
-use Rattle.qvt_exec_late.specs.declared.stop.Stop.{Stop}
+use Rattle.qvt_exec.specs.declared.finish.Finished.{Finished}
+use Rattle.qvt_exec.specs.declared.stop.Stop.{Stop}
 use Rattle.qvt_exec.specs.Comes.{Comes}
 
 -- a run that gives the same

@@ -10,10 +10,10 @@ ghost use Rattle.qvt_program_exprs.specs.Table.{IsTable};
 ghost use Rattle.qvt_exec_answers.specs.Answering.{program_of};
 ghost use Rattle.qvt_exec.specs.Comes.{Comes};
 
+use crate::finish::{Finished, finish};
 use crate::ran::{Ran, main_run};
+use crate::stop::Stop;
 use qvt_exec_answers::answering::Answering;
-use qvt_exec_late::finish::{Finished, finish};
-use qvt_exec_late::stop::Stop;
 use qvt_exec_state::state::RunState;
 use qvt_live_store::held::Held;
 use qvt_live_store::live::LiveStore;
