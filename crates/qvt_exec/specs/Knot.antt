@@ -7,7 +7,7 @@ use Rattle.qvt_types_nodes.specs.declared.tree.TypedExpr.{TypedExpr}
 use Rattle.qvt_types_nodes.specs.declared.tree.TypedStmt.{TypedStmt}
 use Rattle.qvt_run_data.specs.declared.callee.Callee.{Callee}
 use Rattle.qvt_run_data.specs.declared.exit.Halt.{Halt}
-use Rattle.qvt_program_exprs.specs.Table.{IsTable}
+use Rattle.qvt_exec_answers.specs.Table.{IsTable}
 use Rattle.qvt_exec_phrases.specs.Means.{block_of, expr_of}
 use Rattle.qvt_exec_phrases.specs.declared.engine.Engine.{Engine}
 use Rattle.qvt_exec_state.specs.Runs.{Runs, seen}

@@ -1,6 +1,6 @@
 //! What stands behind the phrases of a unit: functions by which phrases run, and calls and resolves are answered.
 
-ghost use Rattle.qvt_program_exprs.specs.Table.{IsTable};
+ghost use Rattle.qvt_exec_answers.specs.Table.{IsTable};
 ghost use Rattle.qvt_exec.specs.Calls.{units_of};
 ghost use Rattle.qvt_exec.specs.Knot.{GivesBlock, GivesCall, GivesExpr};
 

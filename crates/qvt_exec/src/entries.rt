@@ -2,7 +2,7 @@
 
 ghost use Rattle.std.specs.Prelude.{◌≡◌, IfOk};
 ghost use Rattle.qvt_run_rules.specs.Locals.{local_of};
-ghost use Rattle.qvt_program_exprs.specs.Table.{IsTable};
+ghost use Rattle.qvt_exec_answers.specs.Table.{IsTable};
 ghost use Rattle.qvt_exec_answers.specs.Room.{IsAnswer};
 ghost use Rattle.qvt_exec.specs.Entries.{IsFound, Steps, answer_over, entry_over};
 ghost use Rattle.qvt_exec_resolves.specs.Verdicts.{found_view};
@@ -16,7 +16,7 @@ use qvt_exec_answers::answers::answer;
 use qvt_exec_answers::questions::Question;
 use qvt_exec_answers::room::Room;
 use qvt_exec_answers::sifting::Sum;
-use qvt_exec_plain::vars::locals_of;
+use qvt_exec_answers::vars::locals_of;
 use qvt_exec_resolves::verdicts::Found;
 use qvt_exec_state::cost::Cost;
 use qvt_run_data::exit::End;

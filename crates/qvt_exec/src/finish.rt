@@ -1,6 +1,6 @@
 //! The end of a run.
 
-ghost use Rattle.qvt_program_exprs.specs.Table.{IsTable};
+ghost use Rattle.qvt_exec_answers.specs.Table.{IsTable};
 ghost use Rattle.qvt_meaning.specs.Laws.{after_requests};
 ghost use Rattle.qvt_exec_answers.specs.Answering.{program_of};
 ghost use Rattle.qvt_exec.specs.Finish.{Finishes, left};

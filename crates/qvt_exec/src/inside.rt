@@ -3,12 +3,12 @@
 ghost use Rattle.qvt_exec_phrases.specs.Means.{block_of, expr_of};
 ghost use Rattle.qvt_exec_state.specs.Runs.{Runs, seen};
 
+use qvt_exec_answers::exprs::expression;
 use qvt_exec_calls::units::ReadyUnits;
-use qvt_exec_exprs::exprs::expression;
+use qvt_exec_mappings::statements::in_scope;
 use qvt_exec_phrases::engine::Engine;
 use qvt_exec_phrases::nested::Nested;
 use qvt_exec_state::state::RunState;
-use qvt_exec_statements::statements::in_scope;
 use qvt_run_data::exit::Halt;
 use qvt_types_nodes::tree::{TypedExpr, TypedStmts};
 use qvt_value::value::Value;

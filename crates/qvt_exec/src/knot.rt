@@ -2,7 +2,7 @@
 
 ghost use Rattle.qvt_exec_phrases.specs.Means.{block_of, expr_of};
 ghost use Rattle.qvt_exec_state.specs.Runs.{Runs, seen};
-ghost use Rattle.qvt_program_exprs.specs.Table.{IsTable};
+ghost use Rattle.qvt_exec_answers.specs.Table.{IsTable};
 ghost use Rattle.qvt_exec.specs.Calls.{calls_of, units_of};
 
 use crate::below::Below;

@@ -12,9 +12,9 @@ ghost use Rattle.qvt_exec_mappings.specs.Stage.{setting_in};
 ghost use Rattle.qvt_exec_mappings.specs.declared.run.Run.{Run};
 ghost use Rattle.qvt_exec.specs.Routines.{routine_in, routine_of};
 
+use qvt_exec_calls::numbers::{signature_of, unit_of};
 use qvt_exec_calls::units::ReadyUnits;
 use qvt_exec_phrases::nested::{Nested, program};
-use qvt_program_units::numbers::{signature_of, unit_of};
 use qvt_types_nodes::module::{TypedHelper, TypedUnit};
 use qvt_types_units::signature::Signature;
 

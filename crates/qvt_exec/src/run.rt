@@ -6,7 +6,7 @@ ghost use Rattle.qvt_meaning.specs.Run.{finished};
 ghost use Rattle.qvt_run_data.specs.declared.late.LateWrite.{LateWrite};
 ghost use Rattle.qvt_run_rules.specs.State.{Done};
 ghost use Rattle.qvt_exec_state.specs.Runs.{Runs, seen};
-ghost use Rattle.qvt_program_exprs.specs.Table.{IsTable};
+ghost use Rattle.qvt_exec_answers.specs.Table.{IsTable};
 ghost use Rattle.qvt_exec_answers.specs.Answering.{program_of};
 ghost use Rattle.qvt_exec.specs.Comes.{Comes};
 

@@ -1,6 +1,6 @@
 //! The answers of late entries in order.
 
-ghost use Rattle.qvt_program_exprs.specs.Table.{IsTable};
+ghost use Rattle.qvt_exec_answers.specs.Table.{IsTable};
 ghost use Rattle.qvt_exec.specs.Entries.{Walks, entries_over};
 
 use crate::entries::{Ended, Entry, step};
