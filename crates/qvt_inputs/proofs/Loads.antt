@@ -1,11 +1,11 @@
 -- Inputs that are loaded one after the other.
-use Rattle.std.proofs.Common.{◌≡◌, ◌≢◌, ◌∙◌, ◌<◌, ap, sym, subst, ℕ, List, [], ◌∷◌, drop, get_or, length, true, ◌+◌, arith, Option, Some, None, Result, Ok, Err}
+use Rattle.std.proofs.Common.{◌≡◌, ◌≢◌, ◌∙◌, ◌<◌, ap, sym, subst, ℕ, List, [], ◌∷◌, drop, get_or, length, ◌+◌, arith, Option, Result, Ok, Err}
 use Rattle.std.specs.Prelude.{position, unwrap_or, nat_lt, OnOk, IfErr}
 use Rattle.std.specs.Str.{bytes_eq}
 use Rattle.std.proofs.lemmas.Bool.{ltb-true}
 use Rattle.std.proofs.lemmas.List.{drop_more}
 use Rattle.qvt_store.specs.declared.extent.Extent.{Extent}
-use Rattle.qvt_store.specs.Contents.{Contents, Instance, extent_at, is_extent, members_of}
+use Rattle.qvt_store.specs.Contents.{Contents, Instance, is_extent, members_of}
 use Rattle.qvt_store.specs.Sound.{Sound}
 use Rattle.qvt_store.specs.Stay.{StaysIn}
 use Rattle.qvt_model.specs.IdTables.{id_in}

@@ -10,6 +10,7 @@ use Rattle.qvt_metamodel.specs.Extended.{unnamed}
 use Rattle.qvt_metamodel.specs.Named.{metamodel_at, nowhere_metamodel}
 use Rattle.qvt_tree_types.specs.Module.{ModuleTerm}
 use Rattle.qvt_tree_types.specs.declared.module.ModelParam.{ModelParam}
+use Rattle.qvt_types_paths.specs.declared.models.ModelRow.{ModelRow}
 use Rattle.qvt_store.specs.declared.extent.Extent.{Extent}
 use Rattle.qvt_store.specs.Contents.{AreNamed, extent_at, is_named, no_extent}
 use Rattle.qvt_typing.specs.Accepts.{ProgramTerm}
@@ -29,7 +30,7 @@ use Rattle.qvt_program_inputs.specs.Law.{AreAllNamed, IsOfJob, JobCanLoad}
 use Rattle.qvt_program_inputs.proofs.Named.{count, front, last_at, front_at, each_at, is_named_of, names_named, any_name, among_front}
 
 module _ (m : Metamodels) (t : ModuleTerm) (p : ProgramTerm) (h : HasModels m t p) where
-  abbrev rows : _
+  abbrev rows : List ModelRow
   rows = p.heads.models.rows
 
   abbrev names : List (List ℕ)
@@ -47,6 +48,7 @@ module _ (m : Metamodels) (t : ModuleTerm) (p : ProgramTerm) (h : HasModels m t 
   -- the extent of a model
   model : (e : ℕ) → e < length t.params → slice_index_or (extents p) e no_extent ≡ model_extent (slice_index_or names e []) (row_at rows e)
   model e l = front rows 0 names (intermediate_extent (length p.heads.metas.metamodels)) e (subst (λ n. e < n) (sym many) l)
+      ∙ ap (λ k. model_extent (slice_index_or names e []) (row_at rows k)) (omega arith)
 
   model_known : (e : ℕ) → e < length t.params → (slice_index_or (extents p) e no_extent).metamodel ≡ model_metamodel p e
   model_known e l = ap (λ (x : Extent). x.metamodel) (model e l)

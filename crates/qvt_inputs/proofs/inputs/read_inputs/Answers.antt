@@ -1,10 +1,8 @@
-use Rattle.std.proofs.Common.{◌≡◌, ap, arith, subst, sym, refl, List, [], length, drop}
-use Rattle.qvt_store.specs.Contents.{Contents}
-use Rattle.qvt_job.specs.declared.job.JobModel.{JobModel}
+use Rattle.std.proofs.Common.{◌≡◌, arith, subst, []}
 use Rattle.qvt_outcome.specs.Chain.{folded}
 use Rattle.qvt_outcome.specs.Follows.{Follows}
 use Rattle.qvt_outcome.proofs.Folded.{fails, goes_on, ends}
-use Rattle.qvt_inputs.specs.Inputs.{extent_named, nothing_loaded, input_read, inputs_read, HaveExtents, IsLoaded}
+use Rattle.qvt_inputs.specs.Inputs.{input_read, inputs_read}
 use Rattle.qvt_inputs.specs.declared.loaded.Loaded.{Loaded}
 use Rattle.qvt_inputs.proofs.Loads.{begins, first_of, next_of}
 use Rattle.qvt_inputs.proofs.inputs.read_inputs.Goals as goal
