@@ -69,7 +69,7 @@ lex_name lex.NumberTooLarge = codes "NumberTooLarge"
 
 abbrev pub parse_text : ParseFault → List ℕ
 parse_text parse.NoMemory = codes "no memory"
-parse_text (parse.Lex fault) = with_place (lex_name fault.kind) fault.place
+parse_text (parse.Lex f) = with_place (lex_name f.kind) f.place
 parse_text (parse.TooDeep place) = with_place (codes "TooDeep") place
 parse_text (parse.Syntax place) = with_place (codes "Syntax") place
 
