@@ -22,7 +22,7 @@ use qvt_types_nodes::tree::{TypedExpr, TypedMapCall};
 use qvt_value::value::Value;
 
 /// A mapping on the implicit source, or without a context.
-#[tactic(auto, unfolding(qvt_exec_steps::specs::Means::map_alone_of, qvt_exec_steps::specs::Means::exprs_of, qvt_meaning::specs::Phrases::map_alone))]
+#[tactic(auto, unfolding(qvt_exec_phrases::specs::Means::map_alone_of, qvt_exec_phrases::specs::Means::exprs_of, qvt_meaning::specs::Phrases::map_alone))]
 fn map_alone<C: Nested>(
     x: &Engine<'_>,
     units: &ReadyUnits<C>,
@@ -43,7 +43,7 @@ fn map_alone<C: Nested>(
 }
 
 /// What an expression gives, by its rule over what its parts give.
-#[tactic(auto, unfolding(qvt_exec_steps::specs::Means::expr_of, qvt_exec_steps::specs::Means::exprs_of, qvt_exec_steps::specs::Means::items_of, qvt_exec_steps::specs::Means::links_of, qvt_exec_steps::specs::Means::steps_of, qvt_exec_steps::specs::Means::stmts_of, qvt_exec_steps::specs::Means::map_alone_of, qvt_meaning::specs::Phrases::expr))]
+#[tactic(auto, unfolding(qvt_exec_phrases::specs::Means::expr_of, qvt_exec_phrases::specs::Means::exprs_of, qvt_exec_phrases::specs::Means::items_of, qvt_exec_phrases::specs::Means::links_of, qvt_exec_phrases::specs::Means::steps_of, qvt_exec_phrases::specs::Means::stmts_of, qvt_exec_phrases::specs::Means::map_alone_of, qvt_meaning::specs::Phrases::expr))]
 pub fn expression<C: Nested>(
     x: &Engine<'_>,
     units: &ReadyUnits<C>,

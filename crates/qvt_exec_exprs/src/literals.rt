@@ -19,7 +19,7 @@ use qvt_types_nodes::tree::TypedItem;
 use qvt_value::value::{Kind, Value};
 
 /// An item of a collection literal.
-#[tactic(auto, unfolding(qvt_exec_steps::specs::Means::item_of, qvt_exec_steps::specs::Means::expr_of, qvt_meaning::specs::Phrases::item, qvt_meaning::specs::Phrases::item_to, qvt_run_rules::specs::Expressions::item, qvt_run_rules::specs::Expressions::range))]
+#[tactic(auto, unfolding(qvt_exec_phrases::specs::Means::item_of, qvt_exec_phrases::specs::Means::expr_of, qvt_meaning::specs::Phrases::item, qvt_meaning::specs::Phrases::item_to, qvt_run_rules::specs::Expressions::item, qvt_run_rules::specs::Expressions::range))]
 fn item<C: Nested>(
     x: &Engine<'_>,
     units: &ReadyUnits<C>,

@@ -23,7 +23,7 @@ use qvt_value::value::Value;
 
 /// A further operand of a chain. A word of logic may know its value before its right side, which is then
 /// not evaluated.
-#[tactic(auto, unfolding(qvt_exec_steps::specs::Means::link_of, qvt_exec_steps::specs::Means::expr_of, qvt_meaning::specs::Phrases::link, qvt_run_rules::specs::Expressions::operated, qvt_run_rules::specs::Expressions::logical))]
+#[tactic(auto, unfolding(qvt_exec_phrases::specs::Means::link_of, qvt_exec_phrases::specs::Means::expr_of, qvt_meaning::specs::Phrases::link, qvt_run_rules::specs::Expressions::operated, qvt_run_rules::specs::Expressions::logical))]
 fn link<C: Nested>(
     x: &Engine<'_>,
     units: &ReadyUnits<C>,
@@ -50,7 +50,7 @@ fn link<C: Nested>(
 }
 
 /// The further operands of a chain.
-#[tactic(auto, unfolding(qvt_exec_steps::specs::Means::links_of, qvt_exec_steps::specs::Means::link_of, qvt_meaning::specs::Phrases::links))]
+#[tactic(auto, unfolding(qvt_exec_phrases::specs::Means::links_of, qvt_exec_phrases::specs::Means::link_of, qvt_meaning::specs::Phrases::links))]
 fn links<C: Nested>(
     x: &Engine<'_>,
     units: &ReadyUnits<C>,

@@ -45,7 +45,7 @@ fn argument<C: Nested>(
 }
 
 /// The arguments of a call, of which none is invalid.
-#[tactic(auto, unfolding(qvt_exec_phrases::specs::Means::exprs_of, qvt_exec_phrases::specs::Means::expr_of, qvt_exec_phrases::specs::Phrases::exprs))]
+#[tactic(auto, unfolding(qvt_exec_phrases::specs::Means::exprs_of, qvt_exec_phrases::specs::Means::expr_of, qvt_meaning::specs::Phrases::exprs))]
 fn arguments<C: Nested>(
     x: &Engine<'_>,
     units: &ReadyUnits<C>,

@@ -23,7 +23,7 @@ use qvt_types_data::ty::Ty;
 use qvt_types_nodes::tree::{TypedExpr, TypedStmt};
 
 /// The body of a unit whose answer has this type.
-#[tactic(auto, unfolding(qvt_exec_statements::specs::Means::stmts_of))]
+#[tactic(auto, unfolding(qvt_exec_phrases::specs::Means::stmts_of))]
 pub fn body<C: Nested>(
     run: &Run,
     units: &ReadyUnits<C>,
@@ -43,7 +43,7 @@ pub fn body<C: Nested>(
 }
 
 /// A section of a mapping, whose variables stay in scope.
-#[tactic(auto, unfolding(qvt_exec_statements::specs::Means::stmts_of))]
+#[tactic(auto, unfolding(qvt_exec_phrases::specs::Means::stmts_of))]
 pub fn section<C: Nested>(
     run: &Run,
     units: &ReadyUnits<C>,
@@ -76,7 +76,7 @@ pub fn section_returns<C: Nested>(
 }
 
 /// Whether the condition of a mapping is true.
-#[tactic(auto, unfolding(qvt_exec_statements::specs::Means::expr_of))]
+#[tactic(auto, unfolding(qvt_exec_phrases::specs::Means::expr_of))]
 pub fn condition<C: Nested>(
     run: &Run,
     units: &ReadyUnits<C>,

@@ -26,7 +26,7 @@ use qvt_value::value::Var;
 use std::alloc::Global;
 
 /// What an expression of the program gives over a store, with these variables in scope, and its cost.
-#[tactic(auto, using(crate::proofs::Telling::told_of), unfolding(qvt_exec_exprs::specs::Plain::plain, qvt_run_rules::specs::Cost::spend_of, qvt_exec_exprs::specs::Means::expr_of))]
+#[tactic(auto, using(crate::proofs::Telling::told_of), unfolding(qvt_meaning::specs::Plain::plain, qvt_run_rules::specs::Cost::spend_of, qvt_exec_phrases::specs::Means::expr_of))]
 pub fn evaluate(
     alloc: Global,
     program: &Program,
@@ -68,7 +68,7 @@ fn no_expression() -> Told
 
 /// The value of the plain expression of this number over a store, with these variables in scope, and its
 /// cost. A type fault at the begin of the text is told of a number that no expression has.
-#[tactic(auto, unfolding(qvt_exec_exprs::specs::Plain::plain_at))]
+#[tactic(auto, unfolding(qvt_meaning::specs::Plain::plain_at))]
 pub fn eval_plain(
     alloc: Global,
     expressions: &Expressions<'_>,

@@ -1,3 +1,3 @@
 pub mod Asked
 pub mod Roots
-pub mod Conditions
+pub mod Fitting

@@ -134,7 +134,7 @@ fn member_assign<C: Nested>(
 }
 
 /// A value that is assigned.
-#[tactic(auto, unfolding(qvt_exec_steps::specs::Means::target_of, qvt_exec_steps::specs::Means::expr_of, qvt_exec_resolves::specs::Phrases::target))]
+#[tactic(auto, unfolding(qvt_exec_phrases::specs::Means::target_of, qvt_exec_phrases::specs::Means::expr_of, qvt_meaning::specs::Phrases::target))]
 fn assign_value<C: Nested>(
     x: &Engine<'_>,
     units: &ReadyUnits<C>,

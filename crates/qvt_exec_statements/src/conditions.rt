@@ -48,7 +48,7 @@ pub(crate) fn turn<C: Nested>(
 }
 
 /// The body of a `forEach` where its condition is true.
-#[tactic(auto, unfolding(qvt_exec_steps::specs::Means::guarded_of, qvt_exec_steps::specs::Means::expr_of, qvt_exec_resolves::specs::Phrases::guarded, qvt_run_rules::specs::Statements::branch))]
+#[tactic(auto, unfolding(qvt_exec_phrases::specs::Means::guarded_of, qvt_exec_phrases::specs::Means::expr_of, qvt_meaning::specs::Phrases::guarded, qvt_run_rules::specs::Statements::branch))]
 pub(crate) fn guarded<C: Nested>(
     x: &Engine<'_>,
     units: &ReadyUnits<C>,
@@ -70,7 +70,7 @@ pub(crate) fn guarded<C: Nested>(
 }
 
 /// What stands last in an `if`.
-#[tactic(auto, unfolding(qvt_exec_steps::specs::Means::otherwise_of, qvt_exec_steps::specs::Means::stmts_of, qvt_exec_resolves::specs::Phrases::otherwise))]
+#[tactic(auto, unfolding(qvt_exec_phrases::specs::Means::otherwise_of, qvt_exec_phrases::specs::Means::stmts_of, qvt_meaning::specs::Phrases::otherwise))]
 fn otherwise<C: Nested>(
     x: &Engine<'_>,
     units: &ReadyUnits<C>,
@@ -86,7 +86,7 @@ fn otherwise<C: Nested>(
 }
 
 /// An arm: whether its condition was true.
-#[tactic(auto, unfolding(qvt_exec_steps::specs::Means::expr_of, qvt_exec_steps::specs::Means::stmts_of))]
+#[tactic(auto, unfolding(qvt_exec_phrases::specs::Means::expr_of, qvt_exec_phrases::specs::Means::stmts_of))]
 fn arm<C: Nested>(
     x: &Engine<'_>,
     units: &ReadyUnits<C>,

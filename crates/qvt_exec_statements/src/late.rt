@@ -148,7 +148,7 @@ fn member_late<C: Nested>(
 }
 
 /// An assignment whose right side is a late resolve.
-#[tactic(auto, unfolding(qvt_exec_steps::specs::Means::target_of, qvt_exec_steps::specs::Means::expr_of, qvt_exec_resolves::specs::Phrases::target))]
+#[tactic(auto, unfolding(qvt_exec_phrases::specs::Means::target_of, qvt_exec_phrases::specs::Means::expr_of, qvt_meaning::specs::Phrases::target))]
 pub(crate) fn assign_late<C: Nested>(
     x: &Engine<'_>,
     units: &ReadyUnits<C>,

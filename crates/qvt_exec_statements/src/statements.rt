@@ -18,7 +18,7 @@ use qvt_run_data::exit::Halt;
 use qvt_types_nodes::tree::TypedStmt;
 
 /// What a statement does behind its unit.
-#[tactic(auto, unfolding(qvt_exec_steps::specs::Means::optional_of, qvt_exec_steps::specs::Means::return_of, qvt_exec_steps::specs::Means::expr_of, qvt_exec_steps::specs::Means::stmts_of, qvt_exec_steps::specs::Means::arms_of, qvt_exec_steps::specs::Means::otherwise_of, qvt_exec_steps::specs::Means::guarded_of, qvt_exec_steps::specs::Means::target_of, qvt_exec_steps::specs::Means::late_source_of))]
+#[tactic(auto, unfolding(qvt_exec_phrases::specs::Means::optional_of, qvt_exec_phrases::specs::Means::return_of, qvt_exec_phrases::specs::Means::expr_of, qvt_exec_phrases::specs::Means::stmts_of, qvt_exec_phrases::specs::Means::arms_of, qvt_exec_phrases::specs::Means::otherwise_of, qvt_exec_phrases::specs::Means::guarded_of, qvt_exec_phrases::specs::Means::target_of, qvt_exec_phrases::specs::Means::late_source_of))]
 fn behind_unit<C: Nested>(
     x: &Engine<'_>,
     units: &ReadyUnits<C>,
@@ -82,7 +82,7 @@ fn stmt<C: Nested>(
 }
 
 /// Statements one after another, whose variables stay in scope.
-#[tactic(auto, unfolding(qvt_exec_steps::specs::Means::stmts_of, qvt_exec_steps::specs::Means::stmt_of, qvt_exec_resolves::specs::Phrases::stmts))]
+#[tactic(auto, unfolding(qvt_exec_phrases::specs::Means::stmts_of, qvt_exec_phrases::specs::Means::stmt_of, qvt_meaning::specs::Phrases::stmts))]
 pub fn in_order<C: Nested>(
     x: &Engine<'_>,
     units: &ReadyUnits<C>,

@@ -25,7 +25,7 @@ use qvt_types_nodes::types::TypedTypeTree;
 use qvt_value::value::Value;
 
 /// A value that may be missing is null.
-#[tactic(auto, unfolding(qvt_exec_steps::specs::Means::optional_of, qvt_exec_steps::specs::Means::expr_of, qvt_exec_resolves::specs::Phrases::optional))]
+#[tactic(auto, unfolding(qvt_exec_phrases::specs::Means::optional_of, qvt_exec_phrases::specs::Means::expr_of, qvt_meaning::specs::Phrases::optional))]
 fn optional<C: Nested>(
     x: &Engine<'_>,
     units: &ReadyUnits<C>,
@@ -66,7 +66,7 @@ pub(crate) fn variable<C: Nested>(
 }
 
 /// What a `return` gives back to its unit.
-#[tactic(auto, unfolding(qvt_exec_steps::specs::Means::return_of, qvt_exec_steps::specs::Means::expr_of, qvt_exec_resolves::specs::Phrases::return_, qvt_run_rules::specs::Statements::give_back, qvt_run_rules::specs::Statements::go_back))]
+#[tactic(auto, unfolding(qvt_exec_phrases::specs::Means::return_of, qvt_exec_phrases::specs::Means::expr_of, qvt_meaning::specs::Phrases::return_, qvt_run_rules::specs::Statements::give_back, qvt_run_rules::specs::Statements::go_back))]
 pub(crate) fn give<C: Nested>(
     x: &Engine<'_>,
     units: &ReadyUnits<C>,

@@ -50,7 +50,7 @@ fn iterator<C: Nested>(
 }
 
 /// A step that has no accumulator, on the collection that it goes over.
-#[tactic(auto, using(crate::proofs::Args::no_body), unfolding(qvt_exec_invocations::specs::Means::exprs_of, qvt_exec_invocations::specs::Means::expr_of, qvt_exec_types::specs::Phrases::exprs))]
+#[tactic(auto, using(crate::proofs::Args::no_body), unfolding(qvt_exec_phrases::specs::Means::exprs_of, qvt_exec_phrases::specs::Means::expr_of, qvt_meaning::specs::Phrases::exprs))]
 fn arrow_on<C: Nested>(
     x: &Engine<'_>,
     units: &ReadyUnits<C>,

@@ -34,7 +34,7 @@ fn without_last<C: Nested>(
 }
 
 /// What stands before the late resolve that ends an expression.
-#[tactic(auto, unfolding(qvt_exec_invocations::specs::Means::late_source_of, qvt_exec_invocations::specs::Means::expr_of, qvt_exec_invocations::specs::Means::steps_of, qvt_exec_types::specs::Phrases::late_source))]
+#[tactic(auto, unfolding(qvt_exec_phrases::specs::Means::late_source_of, qvt_exec_phrases::specs::Means::expr_of, qvt_exec_phrases::specs::Means::steps_of, qvt_meaning::specs::Phrases::late_source))]
 pub fn late_source<C: Nested>(
     x: &Engine<'_>,
     units: &ReadyUnits<C>,

@@ -24,7 +24,7 @@ use qvt_types_nodes::tree::{TypedExpr, TypedStep};
 use qvt_value::value::Value;
 
 /// A first part with some of the steps behind it, all of which are given too.
-#[tactic(auto, unfolding(qvt_run_rules::specs::Expressions::on_first, qvt_exec_invocations::specs::Means::steps_of))]
+#[tactic(auto, unfolding(qvt_run_rules::specs::Expressions::on_first, qvt_exec_phrases::specs::Means::steps_of))]
 pub fn post<C: Nested>(
     x: &Engine<'_>,
     units: &ReadyUnits<C>,

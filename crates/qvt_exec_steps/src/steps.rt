@@ -52,7 +52,7 @@ fn dot_by<C: Nested>(
 }
 
 /// A mapping over all objects of its source, or on one.
-#[tactic(auto, unfolding(qvt_exec_invocations::specs::Means::map_step_of, qvt_exec_invocations::specs::Means::exprs_of, qvt_exec_types::specs::Phrases::map_step))]
+#[tactic(auto, unfolding(qvt_exec_phrases::specs::Means::map_step_of, qvt_exec_phrases::specs::Means::exprs_of, qvt_meaning::specs::Phrases::map_step))]
 fn mapped<C: Nested>(
     x: &Engine<'_>,
     units: &ReadyUnits<C>,
@@ -73,7 +73,7 @@ fn mapped<C: Nested>(
 }
 
 /// A step, behind the type before it.
-#[tactic(auto, unfolding(qvt_exec_invocations::specs::Means::step_of, qvt_exec_invocations::specs::Means::exprs_of, qvt_exec_invocations::specs::Means::head_of, qvt_exec_invocations::specs::Means::map_step_of, qvt_exec_types::specs::Phrases::step, qvt_exec_types::specs::Phrases::dot_step))]
+#[tactic(auto, unfolding(qvt_exec_phrases::specs::Means::step_of, qvt_exec_phrases::specs::Means::exprs_of, qvt_exec_phrases::specs::Means::head_of, qvt_exec_phrases::specs::Means::map_step_of, qvt_meaning::specs::Phrases::step, qvt_meaning::specs::Phrases::dot_step))]
 fn step<C: Nested>(
     x: &Engine<'_>,
     units: &ReadyUnits<C>,

@@ -14,7 +14,7 @@ use qvt_types_nodes::tree::TypedExpr;
 use qvt_value::value::Values;
 
 /// The values of expressions, one after another.
-#[tactic(auto, unfolding(qvt_exec_invocations::specs::Means::exprs_of, qvt_exec_invocations::specs::Means::expr_of, qvt_exec_types::specs::Phrases::exprs))]
+#[tactic(auto, unfolding(qvt_exec_phrases::specs::Means::exprs_of, qvt_exec_phrases::specs::Means::expr_of, qvt_meaning::specs::Phrases::exprs))]
 pub fn values<C: Nested>(
     x: &Engine<'_>,
     units: &ReadyUnits<C>,

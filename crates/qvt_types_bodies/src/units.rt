@@ -54,7 +54,7 @@ fn helper_unit(x: &Context<'_>, helper: &Helper, state: &mut State) -> Result<()
     writes_nothing(state)
 }
 
-#[tactic(auto, unfolding(qvt_types_context::specs::Statements::condition))]
+#[tactic(auto, unfolding(qvt_typing::specs::Statements::condition))]
 fn when(
     x: &Context<'_>,
     condition: &Option<Expr>,
@@ -125,7 +125,7 @@ fn mapping_unit(
 }
 
 /// The unit of this number.
-#[tactic(auto, unfolding(qvt_types_context::specs::Units::unit))]
+#[tactic(auto, unfolding(qvt_typing::specs::Units::unit))]
 fn unit(
     alloc: Global,
     heads: &Heads<'_>,

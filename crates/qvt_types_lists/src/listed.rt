@@ -61,7 +61,7 @@ fn mapping_under(
 }
 
 /// The unit that the path names: the mapping of exactly this context and name, or UnknownName or Ambiguous.
-#[tactic(auto, unfolding(qvt_types_groups::specs::Reuse::listed))]
+#[tactic(auto, unfolding(qvt_types_units::specs::Reuse::listed))]
 pub fn listed(
     metas: &Metas,
     names: &TypeNames,

@@ -79,7 +79,7 @@ fn tell_reuse_of(
 }
 
 /// Tells what is wrong with a path in a list of the mapping.
-#[tactic(auto, unfolding(qvt_types_groups::specs::Reuse::reuse_told))]
+#[tactic(auto, unfolding(qvt_types_units::specs::Reuse::reuse_told))]
 fn tell_reuse(
     alloc: Global,
     listing: &Listing<'_>,
@@ -134,7 +134,7 @@ fn has_stmts(stmts: &[Stmt]) -> bool
 }
 
 /// Whether a dispatcher has statements, or inherits or merges: BadDisjunct.
-#[tactic(auto, unfolding(qvt_types_groups::specs::Reuse::is_bad_disjunct))]
+#[tactic(auto, unfolding(qvt_types_units::specs::Reuse::is_bad_disjunct))]
 pub fn is_bad_disjunct(mapping: &Mapping) -> bool
     ensures { result ≡ reuse.is_bad_disjunct (mapping_view mapping.now) }
 {
@@ -211,7 +211,7 @@ fn tell_mapping_at(
 }
 
 /// Tells what is wrong with the lists of a unit, where it is a mapping; `cycles` tells of the lists which lead back to themselves.
-#[tactic(auto, unfolding(qvt_types_groups::specs::Reuse::mapping_told))]
+#[tactic(auto, unfolding(qvt_types_units::specs::Reuse::mapping_told))]
 fn tell_unit(
     alloc: Global,
     listing: &Listing<'_>,

@@ -46,7 +46,7 @@ fn aimed(
     Ok(aim)
 }
 
-#[tactic(auto, unfolding(qvt_types_context::specs::Statements::bare_target))]
+#[tactic(auto, unfolding(qvt_typing::specs::Statements::bare_target))]
 pub fn bare_target(
     x: &Context<'_>,
     name: &Text,
@@ -59,7 +59,7 @@ pub fn bare_target(
     aimed(x, RefusalKind::UnknownName, place, aim, state)
 }
 
-#[tactic(auto, unfolding(qvt_types_context::specs::Statements::result_target))]
+#[tactic(auto, unfolding(qvt_typing::specs::Statements::result_target))]
 pub fn result_target(x: &Context<'_>, place: Place, state: &mut State) -> Result<Aim, ListFault>
     ensures { Does (rule_of.result_target (seen x.now) place state.old) result state.new }
 {
@@ -106,7 +106,7 @@ fn aimed_wrong(heads: &Heads<'_>, adds: bool, aim: &Aim, ty: &Ty) -> Option<Refu
 }
 
 /// Tells what is wrong with an assignment whose target and value are judged.
-#[tactic(auto, unfolding(qvt_types_context::specs::Statements::assigned))]
+#[tactic(auto, unfolding(qvt_typing::specs::Statements::assigned))]
 pub fn assigned(
     x: &Context<'_>,
     aim: &Aim,

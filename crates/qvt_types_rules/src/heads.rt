@@ -28,7 +28,7 @@ use qvt_types_steps::heads::{
 use qvt_types_steps::iterators::iterator_named;
 
 /// An arrow without a Head: an iterator without a name is an implicit source.
-#[tactic(auto, unfolding(qvt_types_context::specs::Rules::no_head))]
+#[tactic(auto, unfolding(qvt_typing::specs::Rules::no_head))]
 pub fn no_head(
     x: &Context<'_>,
     name: &Text,
@@ -76,7 +76,7 @@ fn if_new(is_new: bool, heading: Heading) -> Heading
 }
 
 /// A Head without an accumulator.
-#[tactic(auto, unfolding(qvt_types_context::specs::Rules::plain_heading))]
+#[tactic(auto, unfolding(qvt_typing::specs::Rules::plain_heading))]
 pub fn plain_heading(
     x: &Context<'_>,
     name: &Text,
@@ -134,7 +134,7 @@ pub struct FoldNames<'a> {
 }
 
 /// Declares the iterator and the accumulator of a Head whose types and first value are judged.
-#[tactic(auto, unfolding(qvt_types_context::specs::Rules::folded))]
+#[tactic(auto, unfolding(qvt_typing::specs::Rules::folded))]
 pub fn folded(
     x: &Context<'_>,
     names: &FoldNames<'_>,

@@ -28,7 +28,7 @@ use qvt_types_states::state::State;
 use qvt_types_states::steps::{answers, fresh, marks, settled, tell};
 use qvt_types_steps::classes::ClassPart;
 
-#[tactic(auto, unfolding(qvt_types_context::specs::Rules::self_ref))]
+#[tactic(auto, unfolding(qvt_typing::specs::Rules::self_ref))]
 pub fn self_ref(x: &Context<'_>, place: Place, state: &mut State) -> Result<Option<Ty>, ListFault>
     ensures { Does (rule.self_ref (seen x.now) place state.old) result state.new }
 {
@@ -37,7 +37,7 @@ pub fn self_ref(x: &Context<'_>, place: Place, state: &mut State) -> Result<Opti
     ruled(x, number, ruling, Effect::PlainOne, place, state)
 }
 
-#[tactic(auto, unfolding(qvt_types_context::specs::Rules::result_ref))]
+#[tactic(auto, unfolding(qvt_typing::specs::Rules::result_ref))]
 pub fn result_ref(x: &Context<'_>, place: Place, state: &mut State) -> Result<Option<Ty>, ListFault>
     ensures { Does (rule.result_ref (seen x.now) place state.old) result state.new }
 {
@@ -47,7 +47,7 @@ pub fn result_ref(x: &Context<'_>, place: Place, state: &mut State) -> Result<Op
 }
 
 /// A path; that of a model may stand before a model's operation alone.
-#[tactic(auto, unfolding(qvt_types_context::specs::Rules::path))]
+#[tactic(auto, unfolding(qvt_typing::specs::Rules::path))]
 pub fn path(
     x: &Context<'_>,
     is_source: bool,
@@ -62,7 +62,7 @@ pub fn path(
     ruled(x, number, ruling, Effect::PlainOne, path.place, state)
 }
 
-#[tactic(auto, unfolding(qvt_types_context::specs::Rules::named_type))]
+#[tactic(auto, unfolding(qvt_typing::specs::Rules::named_type))]
 fn named_type(x: &Context<'_>, path: &PathTree, state: &mut State) -> Result<Option<Ty>, ListFault>
     ensures { Does (rule.named_type (seen x.now) path.now state.old) result state.new }
 {
@@ -84,7 +84,7 @@ fn collection_read(x: &Context<'_>, kind: CollKind, item: Option<Ty>) -> Result<
     Ok(Read::plain(reading, Some(answer)))
 }
 
-#[tactic(auto, unfolding(qvt_types_context::specs::Phrases::type_term, qvt_types_context::specs::Rules::collection_type))]
+#[tactic(auto, unfolding(qvt_typing::specs::Phrases::type_term, qvt_typing::specs::Rules::collection_type))]
 pub fn written_type(
     x: &Context<'_>,
     written: &TypeTree,
@@ -121,7 +121,7 @@ pub fn type_if(
     }
 }
 
-#[tactic(auto, unfolding(qvt_types_context::specs::Rules::named_class))]
+#[tactic(auto, unfolding(qvt_typing::specs::Rules::named_class))]
 pub fn named_class(
     x: &Context<'_>,
     path: &PathTree,
@@ -136,7 +136,7 @@ pub fn named_class(
 }
 
 /// An argument that is a class.
-#[tactic(auto, unfolding(qvt_types_context::specs::Rules::class_given))]
+#[tactic(auto, unfolding(qvt_typing::specs::Rules::class_given))]
 pub fn class_given(
     x: &Context<'_>,
     path: &PathTree,
@@ -152,7 +152,7 @@ pub fn class_given(
 }
 
 /// A class that is written as a type.
-#[tactic(auto, unfolding(qvt_types_context::specs::Rules::no_class, qvt_types_context::specs::Rules::collection_type))]
+#[tactic(auto, unfolding(qvt_typing::specs::Rules::no_class, qvt_typing::specs::Rules::collection_type))]
 pub fn written_class(
     x: &Context<'_>,
     written: &TypeTree,

@@ -52,7 +52,7 @@ fn settable_ruled(x: &Context<'_>, scope: &Scope, name: &str) -> Result<Ruling, 
 }
 
 /// The variable of an object expression.
-#[tactic(auto, unfolding(qvt_types_context::specs::Rules::no_variable, qvt_types_context::specs::Rules::named_variable, qvt_types_context::specs::Rules::result_variable))]
+#[tactic(auto, unfolding(qvt_typing::specs::Rules::no_variable, qvt_typing::specs::Rules::named_variable, qvt_typing::specs::Rules::result_variable))]
 pub fn object_variable(
     x: &Context<'_>,
     variable: &Option<ObjectVar>,
@@ -212,7 +212,7 @@ fn new_place(ruling: &Ruling, path: Place, place: Place) -> Place
 }
 
 /// Settles a `new` whose class and arguments are judged.
-#[tactic(auto, unfolding(qvt_types_context::specs::Rules::constructed))]
+#[tactic(auto, unfolding(qvt_typing::specs::Rules::constructed))]
 pub fn constructed(
     x: &Context<'_>,
     number: ExprNo,

@@ -53,7 +53,7 @@ fn within_of(unit: Result<u32, RefusalKind>) -> Within
 }
 
 /// A path that names a mapping.
-#[tactic(auto, unfolding(qvt_types_context::specs::Rules::listed_path))]
+#[tactic(auto, unfolding(qvt_typing::specs::Rules::listed_path))]
 pub fn listed_path(x: &Context<'_>, path: &PathTree, state: &mut State) -> Result<Within, ListFault>
     ensures { Does (rule.listed_path (seen x.now) path.now state.old) result state.new }
 {
@@ -65,7 +65,7 @@ pub fn listed_path(x: &Context<'_>, path: &PathTree, state: &mut State) -> Resul
 }
 
 /// The mapping of an `In` form.
-#[tactic(auto, unfolding(qvt_types_context::specs::Rules::everywhere))]
+#[tactic(auto, unfolding(qvt_typing::specs::Rules::everywhere))]
 pub fn within(
     x: &Context<'_>,
     path: &Option<PathTree>,
@@ -105,7 +105,7 @@ pub fn declare_filter(
 }
 
 /// Settles a filter whose class and condition are judged.
-#[tactic(auto, unfolding(qvt_types_context::specs::Rules::filter_settled))]
+#[tactic(auto, unfolding(qvt_typing::specs::Rules::filter_settled))]
 pub fn filter_settled(
     x: &Context<'_>,
     class: ClassPart,

@@ -104,7 +104,7 @@ pub fn stands_as(
 }
 
 /// A literal of this type.
-#[tactic(auto, unfolding(qvt_types_context::specs::Rules::constant))]
+#[tactic(auto, unfolding(qvt_typing::specs::Rules::constant))]
 pub fn constant(x: &Context<'_>, ty: Ty, state: &mut State) -> Result<Option<Ty>, ListFault>
     ensures { Does (rule.constant ty state.old) result state.new }
 {

@@ -30,7 +30,7 @@ use qvt_types_words::rulings::{var_type, var_wrong};
 use qvt_types_words::types::conforms;
 
 /// Declares a variable whose type and value are judged.
-#[tactic(auto, unfolding(qvt_types_context::specs::Statements::declared))]
+#[tactic(auto, unfolding(qvt_typing::specs::Statements::declared))]
 pub fn declared(
     x: &Context<'_>,
     name: &Text,
@@ -103,7 +103,7 @@ fn return_told(x: &Context<'_>, value: &Given) -> Option<RefusalKind>
 }
 
 /// Tells what is wrong with a `return` whose value is judged.
-#[tactic(auto, unfolding(qvt_types_context::specs::Statements::returned))]
+#[tactic(auto, unfolding(qvt_typing::specs::Statements::returned))]
 pub fn returned(
     x: &Context<'_>,
     value: &Given,

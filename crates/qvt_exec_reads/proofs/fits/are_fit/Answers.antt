@@ -1,4 +1,4 @@
-use Rattle.qvt_exec_reads.proofs.Conditions.{fit}
+use Rattle.qvt_exec_reads.proofs.Fitting.{fit}
 use Rattle.qvt_exec_reads.proofs.fits.are_fit.Goals as goal
 
 pub returns-clause-value : goal.returns-clause-value

@@ -1,4 +1,4 @@
-use Rattle.qvt_exec_reads.proofs.Conditions.{class_for}
+use Rattle.qvt_exec_reads.proofs.Fitting.{class_for}
 use Rattle.qvt_exec_reads.proofs.fits.is_class_for.Goals as goal
 
 pub returns-clause-value : goal.returns-clause-value
