@@ -7,7 +7,7 @@ use Rattle.qvt_metamodel.specs.Metamodels.{feature_at}
 use Rattle.qvt_model.specs.Extents.{data_of}
 use Rattle.qvt_model.specs.RunIds.{run_id}
 use Rattle.qvt_model.specs.Written.{model_text}
-use Rattle.qvt_slots.specs.Contents.{Contents, extent_at, extent_of}
+use Rattle.qvt_store.specs.Contents.{Contents, extent_at, extent_of}
 use Rattle.qvt_job.specs.declared.job.Job.{Job}
 use Rattle.qvt_job.specs.declared.job.JobModel.{JobModel}
 use Rattle.qvt_meaning.specs.Accepts.{ProgramTerm}

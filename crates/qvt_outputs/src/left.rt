@@ -8,6 +8,7 @@ ghost use Rattle.qvt_meaning_report.specs.Meaning as meaning;
 ghost use Rattle.qvt_outcome.specs.Outcome.{Outcome, done};
 ghost use Rattle.qvt_outcome.specs.Plans.{IsReady, files_in, outcome_of};
 ghost use Rattle.qvt_outcome.specs.Steps.{Gives, IfFaultOf, IsFaultWith, Stops};
+ghost use Rattle.qvt_store.specs.Sound.{Sound};
 ghost use Rattle.qvt_types_program.specs.Program.{program_view};
 ghost use Rattle.qvt_outputs.specs.Left.{files_left, left};
 ghost use Rattle.qvt_outputs.specs.RunEnd.{IsEnd};
@@ -35,6 +36,7 @@ fn outputs_of(
     ids: &IdTable,
     end: &RunEnd<'_>,
 ) -> Result<Seq<Output>, ListFault>
+    requires { Sound end.now.store.now }
     ensures files { IfOk result (λ outputs. (f : Finished) → IsEnd f end.now → files_in outputs ≡ files_left job.now (program_view program.now) ids.now f) }
     ensures ready { IfOk result (λ outputs. IsReady outputs) }
 {
@@ -51,13 +53,14 @@ fn plan_of(
     ids: &IdTable,
     end: &RunEnd<'_>,
 ) -> Result<Plan, ListFault>
+    requires { Sound end.now.store.now }
     ensures done { IfOk result (λ plan. (f : Finished) → IsEnd f end.now → outcome_of plan ≡ done (files_left job.now (program_view program.now) ids.now f) (lines.done_line f)) }
     ensures ready { IfOk result (λ plan. IsReady plan.outputs) }
 {
     let outputs = outputs_of(alloc, job, program, ids, end)?;
     let line = done_line(
         alloc,
-        end.store.as_store(),
+        end.store,
         end.records.len(),
         end.entries.len(),
         end.cost,
@@ -73,11 +76,12 @@ pub fn left_by(
     ids: &IdTable,
     end: &RunEnd<'_>,
 ) -> Result<Plan, Stop>
+    requires { Sound end.now.store.now }
     ensures gives { (f : Finished) → IsEnd f end.now → Gives outcome_of result (left job.now (program_view program.now) ids.now (meaning.outcome_of (Ok f))) }
     ensures ready { IfOk result (λ plan. IsReady plan.outputs) }
     ensures no_reads { IfFaultOf result (λ file. ⊥) }
 {
-    within_bounds(alloc, end.store.as_store(), ids)?;
+    within_bounds(alloc, end.store, ids)?;
     let plan = plan_of(alloc, job, program, ids, end)?;
     Ok(plan)
 }

@@ -10,11 +10,11 @@ ghost use Rattle.qvt_outputs.specs.Left.{low_outcome};
 use qvt_base::list_fault::ListFault;
 use qvt_base::text::Text;
 use qvt_conform::fault::LowFault;
-use qvt_live_store::store::Store;
 use qvt_model::id_table::IdTable;
 use qvt_outcome::stop::Stop;
 use qvt_report::extents::low_in;
 use qvt_run_ids::run_ids::RunIds;
+use qvt_store::store::Store;
 use std::alloc::Global;
 
 /// The end of a run where an object of a written model has too few items for a feature.

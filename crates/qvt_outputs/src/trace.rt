@@ -34,8 +34,7 @@ pub fn put_trace(
     let Some(file) = file else {
         return Ok(());
     };
-    let store = end.store.as_store();
-    let bytes = write_trace(alloc, program, ids, store, end.records, end.entries)?;
+    let bytes = write_trace(alloc, program, ids, end.store, end.records, end.entries)?;
     let output = output_of(alloc, file, bytes)?;
     outputs.push(output)
 }
