@@ -81,9 +81,13 @@ pub fn left_by(
     ensures ready { IfOk result (λ plan. IsReady plan.outputs) }
     ensures no_reads { IfFaultOf result (λ file. ⊥) }
 {
-    within_bounds(alloc, end.store, ids)?;
-    let plan = plan_of(alloc, job, program, ids, end)?;
-    Ok(plan)
+    match within_bounds(alloc, end.store, ids) {
+        Err(stop) => Err(stop),
+        Ok(()) => {
+            let plan = plan_of(alloc, job, program, ids, end)?;
+            Ok(plan)
+        }
+    }
 }
 
 /// The end of a run that a fault ended, or the end of the fuel.
