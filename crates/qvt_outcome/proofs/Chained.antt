@@ -14,6 +14,7 @@ use Rattle.qvt_outcome.specs.declared.stop.Stop.TheVariants as stop
 
 ended : {A B : Type 0} (e : Stop) (answer : Result A Outcome) (f : A → Reading B) → Stops e answer → Stops e (on_ok answer f).answer
 ended (stop.Refused file why) answer f h = ap (λ r. (on_ok r f).answer) h
+ended (stop.Fault line) answer f h = ap (λ r. (on_ok r f).answer) h
 ended (stop.OutOfFuel fuel) answer f h = ap (λ r. (on_ok r f).answer) h
 ended (stop.Low model id feature) answer f h = ap (λ r. (on_ok r f).answer) h
 ended (stop.ReadFault file) answer f h = h
@@ -25,6 +26,7 @@ goes_on view r answer a f is h = subst (λ s. Gives view r (on_ok s f).answer) (
 
 wider_stop : (e : Stop) (P Q : List ℕ → Type 0) → IsFaultWith e P → ((file : List ℕ) → P file → Q file) → IsFaultWith e Q
 wider_stop (stop.Refused file why) P Q h f = h
+wider_stop (stop.Fault line) P Q h f = h
 wider_stop (stop.OutOfFuel fuel) P Q h f = h
 wider_stop (stop.Low model id feature) P Q h f = h
 wider_stop (stop.ReadFault file) P Q h f = f file h
@@ -55,6 +57,7 @@ one_then file old mid new h k = record {
 
 stop_then : (e : Stop) (old mid new : FilesSeen) → NoneFailed old mid → FailedAt e mid new → FailedAt e old new
 stop_then (stop.Refused file why) old mid new h k = none_then old mid new h k
+stop_then (stop.Fault line) old mid new h k = none_then old mid new h k
 stop_then (stop.OutOfFuel fuel) old mid new h k = none_then old mid new h k
 stop_then (stop.Low model id feature) old mid new h k = none_then old mid new h k
 stop_then (stop.ReadFault file) old mid new h k = one_then file old mid new h k
@@ -70,6 +73,7 @@ still s = record { reads = refl; failed = refl }
 
 still_at : (e : Stop) (s : FilesSeen) → IsFaultWith e (λ file. ⊥) → FailedAt e s s
 still_at (stop.Refused file why) s h = still s
+still_at (stop.Fault line) s h = still s
 still_at (stop.OutOfFuel fuel) s h = still s
 still_at (stop.Low model id feature) s h = still s
 still_at (stop.ReadFault file) s h = absurd h
@@ -124,6 +128,7 @@ stepped view seen c p old new x r h k none = chained view seen c (λ a. step (p 
 
 refused_by : {A : Type 0} (name : List ℕ) (why : Refusal) (e : Stop) (answer : Result A Outcome) → RefusedOrNoMemory name why e → answer ≡ Err (refused name why) → Stops e answer
 refused_by name why (stop.Refused file cause) answer h is = is ∙ (λ i. Err (refused (sym h.0 i) (sym h.1 i)))
+refused_by name why (stop.Fault line) answer h is = absurd h
 refused_by name why (stop.OutOfFuel fuel) answer h is = absurd h
 refused_by name why (stop.Low model id feature) answer h is = absurd h
 refused_by name why (stop.ReadFault file) answer h is = absurd h
@@ -131,6 +136,7 @@ refused_by name why stop.NoMemory answer h is = tt
 
 at_refused : (name : List ℕ) (why : Refusal) (e : Stop) (old new : FilesSeen) → RefusedOrNoMemory name why e → NoneFailed old new → FailedAt e old new
 at_refused name why (stop.Refused file cause) old new h k = k
+at_refused name why (stop.Fault line) old new h k = absurd h
 at_refused name why (stop.OutOfFuel fuel) old new h k = absurd h
 at_refused name why (stop.Low model id feature) old new h k = absurd h
 at_refused name why (stop.ReadFault file) old new h k = absurd h
@@ -138,6 +144,7 @@ at_refused name why stop.NoMemory old new h k = inl k
 
 unnamed_refused : (name : List ℕ) (why : Refusal) (e : Stop) (P : List ℕ → Type 0) → RefusedOrNoMemory name why e → IsFaultWith e P
 unnamed_refused name why (stop.Refused file cause) P h = tt
+unnamed_refused name why (stop.Fault line) P h = absurd h
 unnamed_refused name why (stop.OutOfFuel fuel) P h = absurd h
 unnamed_refused name why (stop.Low model id feature) P h = absurd h
 unnamed_refused name why (stop.ReadFault file) P h = absurd h
@@ -189,6 +196,7 @@ one_failed name limit old new h = record { rose = h.cause.failed; one = h.cause.
 
 fault_stops : {A : Type 0} (name : List ℕ) (e : Stop) (answer : Result A Outcome) → ReadFaultOrNoMemory name e → Stops e answer
 fault_stops name (stop.Refused file why) answer h = absurd h
+fault_stops name (stop.Fault line) answer h = absurd h
 fault_stops name (stop.OutOfFuel fuel) answer h = absurd h
 fault_stops name (stop.Low model id feature) answer h = absurd h
 fault_stops name (stop.ReadFault file) answer h = tt
@@ -196,6 +204,7 @@ fault_stops name stop.NoMemory answer h = tt
 
 fault_named : (name : List ℕ) (e : Stop) → ReadFaultOrNoMemory name e → IsFaultWith e (λ file. IsAmong file (name ∷ []))
 fault_named name (stop.Refused file why) h = absurd h
+fault_named name (stop.Fault line) h = absurd h
 fault_named name (stop.OutOfFuel fuel) h = absurd h
 fault_named name (stop.Low model id feature) h = absurd h
 fault_named name (stop.ReadFault file) h = inl h
@@ -203,6 +212,7 @@ fault_named name stop.NoMemory h = tt
 
 fault_at : (name : List ℕ) (e : Stop) (old new : FilesSeen) → ReadFaultOrNoMemory name e → OneFailed name old new → FailedAt e old new
 fault_at name (stop.Refused file why) old new h k = absurd h
+fault_at name (stop.Fault line) old new h k = absurd h
 fault_at name (stop.OutOfFuel fuel) old new h k = absurd h
 fault_at name (stop.Low model id feature) old new h k = absurd h
 fault_at name (stop.ReadFault file) old new h k = subst (λ f. OneFailed f old new) (sym h) k

@@ -33,6 +33,7 @@ carried_fails p c old mid new sink after answer f h = carried_fails_from p old n
 own_line : (e : Stop) (old new : FilesSeen) (sink after : SinkSeen) → FailedAt e old new → new.writes ≡ old.writes → IsWhole (stop_line e) sink after
     → Fails (outside old sink) (outside new after) (stop_status e)
 own_line (stop.Refused file why) old new sink after failed writes h = record { reads = failed; writes = writes; faults = h.faults }
+own_line (stop.Fault line) old new sink after failed writes h = record { reads = failed; writes = writes; faults = h.faults }
 own_line (stop.OutOfFuel fuel) old new sink after failed writes h = record { reads = failed; writes = writes; faults = h.faults }
 own_line (stop.Low model id feature) old new sink after failed writes h = record { reads = failed; writes = writes; faults = h.faults }
 own_line (stop.ReadFault file) old new sink after failed writes h = record { file = file; failed = failed; line = h; writes = writes }
@@ -66,6 +67,7 @@ carried_complete p c old mid new sink after answer f h held is none =
 stated_end : (e : Stop) (stated : Result Outcome Outcome) (old new : FilesSeen) (answer : Status) → Stops e stated → FailedAt e old new → ¬ Rose old.reads new.reads
     → answer ≡ stop_status e → IsStated stated answer
 stated_end (stop.Refused file why) stated old new answer stops failed none a = inl (a ∙ sym (ap (λ s. status_of (settled s)) stops))
+stated_end (stop.Fault line) stated old new answer stops failed none a = inl (a ∙ sym (ap (λ s. status_of (settled s)) stops))
 stated_end (stop.OutOfFuel fuel) stated old new answer stops failed none a = inl (a ∙ sym (ap (λ s. status_of (settled s)) stops))
 stated_end (stop.Low model id feature) stated old new answer stops failed none a = inl (a ∙ sym (ap (λ s. status_of (settled s)) stops))
 stated_end (stop.ReadFault file) stated old new answer stops failed none a = absurd (none failed.rose)
@@ -82,6 +84,7 @@ finished_complete e c old new sink after answer f (inr (inr r)) held is none = a
 
 not_usage : (e : Stop) → stop_status e ≢ status.Usage
 not_usage (stop.Refused file why) u = absurd cc
+not_usage (stop.Fault line) u = absurd cc
 not_usage (stop.OutOfFuel fuel) u = absurd cc
 not_usage (stop.Low model id feature) u = absurd cc
 not_usage (stop.ReadFault file) u = absurd cc

@@ -16,6 +16,9 @@ stops_at free say name why (stop.Refused file cause) r h is =
     let other : why ≢ free = λ p. (let q : stop.Refused file cause ≡ stop.NoMemory = h.1 p in absurd cc) in
     let same = h.0 other in
     is other ∙ (λ i. Err (refused (sym same.0 i) (sym same.1 i)))
+stops_at free say name why (stop.Fault line) r h is =
+    let other : why ≢ free = λ p. (let q : stop.Fault line ≡ stop.NoMemory = h.1 p in absurd cc) in
+    absurd (h.0 other)
 stops_at free say name why (stop.OutOfFuel fuel) r h is =
     let other : why ≢ free = λ p. (let q : stop.OutOfFuel fuel ≡ stop.NoMemory = h.1 p in absurd cc) in
     absurd (h.0 other)

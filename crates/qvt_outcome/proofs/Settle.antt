@@ -4,7 +4,7 @@ use Rattle.std.specs.Option.{option_map}
 use Rattle.qvt_base.specs.Outside.{Held, FilesSeen, SinkSeen, Rose, SameBut, BothTold}
 use Rattle.qvt_outcome.specs.Chain.{Chain}
 use Rattle.qvt_outcome.specs.Follows.{IsAmong, NoneFailed, FailedAt, OneFailed, AtMostOneFailed, Follows}
-use Rattle.qvt_outcome.specs.Outcome.{Outcome, usage, refused, out_of_fuel, low, done, status_of, report, files_after, put_all, read_fault_line, write_fault_line, no_memory_line}
+use Rattle.qvt_outcome.specs.Outcome.{Outcome, usage, refused, fault, out_of_fuel, low, done, status_of, report, files_after, put_all, read_fault_line, write_fault_line, no_memory_line}
 use Rattle.qvt_outcome.specs.Reported.{OutsideSeen, outside, IsWhole, Reports, Answers, name_at}
 use Rattle.qvt_outcome.specs.Plans.{files_in, outcome_of, StoppedAt, CarriedOut}
 use Rattle.qvt_outcome.specs.Steps.{Stops, IsFaultWith, settled, stop_line, stop_status}
@@ -16,6 +16,7 @@ use Rattle.qvt_outcome.specs.declared.plan.Plan.{Plan}
 
 pub at_most : (e : Stop) (old new : FilesSeen) → FailedAt e old new → AtMostOneFailed old new
 at_most (stop.Refused file why) old new h = inl h
+at_most (stop.Fault line) old new h = inl h
 at_most (stop.OutOfFuel fuel) old new h = inl h
 at_most (stop.Low model id feature) old new h = inl h
 at_most (stop.ReadFault file) old new h = inr (file, h)
@@ -25,6 +26,7 @@ told_whole : (o : Outcome) (names : List (List ℕ)) (before : Held) (old new : 
     → IsWhole (report o) old.sink new.sink → Answers o names before old new (status_of o)
 told_whole usage names before old new held sink = record { status = refl; held = held; sink = sink }
 told_whole (refused file why) names before old new held sink = record { status = refl; held = held; sink = sink }
+told_whole (fault line) names before old new held sink = record { status = refl; held = held; sink = sink }
 told_whole (out_of_fuel fuel) names before old new held sink = record { status = refl; held = held; sink = sink }
 told_whole (low model id feature) names before old new held sink = record { status = refl; held = held; sink = sink }
 told_whole (done fs text) names before old new held sink = record { status = refl; held = held; sink = sink }
@@ -55,6 +57,8 @@ stopped : (e : Stop) (run : Result Outcome Outcome) (names : List (List ℕ)) (b
     → Reports (stop_line e) (stop_status e) old.sink new.sink answer → Answers (settled run) names before old new answer
 stopped (stop.Refused file why) run names before old new answer stops held failed writes among h =
     subst (λ r. Answers (settled r) names before old new answer) (sym stops) (told_of (refused file why) names before old new answer held failed writes h)
+stopped (stop.Fault line) run names before old new answer stops held failed writes among h =
+    subst (λ r. Answers (settled r) names before old new answer) (sym stops) (told_of (fault line) names before old new answer held failed writes h)
 stopped (stop.OutOfFuel fuel) run names before old new answer stops held failed writes among h =
     subst (λ r. Answers (settled r) names before old new answer) (sym stops) (told_of (out_of_fuel fuel) names before old new answer held failed writes h)
 stopped (stop.Low model id feature) run names before old new answer stops held failed writes among h =

@@ -32,6 +32,7 @@ AtMostOneFailed old new = NoneFailed old new ⊎ ((file : List ℕ) × OneFailed
 -- a read failed where the answer tells so; where there was no memory, none or one
 abbrev pub FailedAt : Stop → FilesSeen → FilesSeen → Type 0
 FailedAt (stop.Refused file why) old new = NoneFailed old new
+FailedAt (stop.Fault line) old new = NoneFailed old new
 FailedAt (stop.OutOfFuel fuel) old new = NoneFailed old new
 FailedAt (stop.Low model id feature) old new = NoneFailed old new
 FailedAt (stop.ReadFault file) old new = OneFailed file old new

@@ -19,7 +19,7 @@ use Rattle.qvt_model.specs.declared.data.ModelFault.TheVariants as model
 use Rattle.qvt_conform.specs.declared.fault.ConformFault.{ConformFault}
 use Rattle.qvt_conform.specs.declared.fault.ConformFault.TheVariants as conform
 use Rattle.qvt_job.specs.declared.job.JobFault.{JobFault}
-use Rattle.qvt_job.specs.declared.job.JobFault.TheVariants as fault
+use Rattle.qvt_job.specs.declared.job.JobFault.TheVariants as job
 use Rattle.qvt_outcome.specs.declared.status.Status.{Status}
 use Rattle.qvt_outcome.specs.declared.status.Status.TheVariants as status
 use Rattle.qvt_outcome.specs.declared.refusal.Refusal.{Refusal}
@@ -40,9 +40,11 @@ status_number status.NoMemory = 8
 abbrev pub File : Type 0
 File = List ℕ × List ℕ
 
+-- a fault of the run has its line
 pub data Outcome : Type 0 where
   usage : Outcome
   refused : List ℕ → Refusal → Outcome
+  fault : List ℕ → Outcome
   out_of_fuel : ℕ → Outcome
   low : List ℕ → List ℕ → List ℕ → Outcome
   done : List File → List ℕ → Outcome
@@ -67,7 +69,7 @@ lex_name lex.NumberTooLarge = codes "NumberTooLarge"
 
 abbrev pub parse_text : ParseFault → List ℕ
 parse_text parse.NoMemory = codes "no memory"
-parse_text (parse.Lex fault) = with_place (lex_name fault.kind) fault.place
+parse_text (parse.Lex f) = with_place (lex_name f.kind) f.place
 parse_text (parse.TooDeep place) = with_place (codes "TooDeep") place
 parse_text (parse.Syntax place) = with_place (codes "Syntax") place
 
@@ -99,11 +101,11 @@ abbrev pub typing_text : TypingRefusal → List ℕ
 typing_text r = with_place (typing_name r.kind) r.place
 
 abbrev pub job_text : JobFault → List ℕ
-job_text fault.NoMemory = codes "no memory"
-job_text fault.Json = codes "Json"
-job_text (fault.Shape path) = with_one (codes "Shape") path
-job_text fault.TooManyFiles = codes "TooManyFiles"
-job_text (fault.SameFile file) = with_one (codes "SameFile") file
+job_text job.NoMemory = codes "no memory"
+job_text job.Json = codes "Json"
+job_text (job.Shape path) = with_one (codes "Shape") path
+job_text job.TooManyFiles = codes "TooManyFiles"
+job_text (job.SameFile file) = with_one (codes "SameFile") file
 
 abbrev pub metamodel_text : MetaFault → List ℕ
 metamodel_text meta.NoMemory = codes "no memory"
@@ -183,6 +185,7 @@ write_fault_line file = codes "cannot write: " ++ (file ++ 10 ∷ [])
 abbrev pub status_of : Outcome → Status
 status_of usage = status.Usage
 status_of (refused file why) = status.Refused
+status_of (fault line) = status.Fault
 status_of (out_of_fuel fuel) = status.OutOfFuel
 status_of (low model id feature) = status.Low
 status_of (done files text) = status.Done
@@ -191,6 +194,7 @@ status_of (done files text) = status.Done
 abbrev pub report : Outcome → List ℕ
 report usage = usage_line
 report (refused file why) = refused_line file why
+report (fault line) = line
 report (out_of_fuel fuel) = out_of_fuel_line fuel
 report (low model id feature) = low_line model id feature
 report (done files text) = text
@@ -204,6 +208,7 @@ put_all (f ∷ fs) held = put_all fs (map.insert held f.0 f.1)
 abbrev pub files_of : Outcome → List File
 files_of usage = []
 files_of (refused file why) = []
+files_of (fault line) = []
 files_of (out_of_fuel fuel) = []
 files_of (low model id feature) = []
 files_of (done files text) = files

@@ -10,6 +10,7 @@ use crate::refusal_text::{
 };
 use crate::status::Status;
 use crate::stop::Stop;
+use qvt_base::copied::Copied;
 use qvt_base::lists::Bytes;
 use qvt_base::outside::{Sink, SinkAnswer};
 use qvt_base::seq::Seq;
@@ -114,12 +115,23 @@ pub fn refused_line(alloc: Global, file: &str, why: &Refusal) -> Result<Bytes, A
     Ok(bytes_of(format!(in alloc; "refused: {file}: {text}\n")?))
 }
 
+/// The line of a fault.
+fn fault_line(alloc: Global, line: &Bytes) -> Result<Bytes, AllocError>
+    ensures { IfOk result (λ copy. copy ≡ line.now) }
+{
+    match line.copy(alloc) {
+        Ok(line) => Ok(line),
+        Err(_) => Err(AllocError),
+    }
+}
+
 /// The line and the status of an early end.
 fn line_of(alloc: Global, stop: &Stop) -> Result<(Bytes, Status), AllocError>
     ensures { IfOk result (λ x. (x.0 ≡ stop_line stop.now) × (x.1 ≡ stop_status stop.now)) }
 {
     match stop {
         Stop::Refused(file, why) => Ok((refused_line(alloc, file.as_str(), why)?, Status::Refused)),
+        Stop::Fault(line) => Ok((fault_line(alloc, line)?, Status::Fault)),
         Stop::OutOfFuel(fuel) => Ok((out_of_fuel_line(alloc, *fuel)?, Status::OutOfFuel)),
         Stop::Low(model, id, feature) => Ok((low_line(alloc, model, id, feature)?, Status::Low)),
         Stop::ReadFault(file) => Ok((read_fault_line(alloc, file.as_str())?, Status::ReadFault)),

@@ -1,11 +1,14 @@
 use crate::refusal::Refusal;
 use qvt_base::list_fault::ListFault;
+use qvt_base::lists::Bytes;
 use qvt_base::text::Text;
 
 /// Why the work of a command ended before its end.
 pub enum Stop {
     /// A file was refused.
     Refused(Text, Refusal),
+    /// The run met a fault, which this line tells.
+    Fault(Bytes),
     /// The cost would pass this fuel.
     OutOfFuel(u64),
     /// A model, the id of an object in it, and the name of a feature of which it has too few items.
@@ -19,6 +22,7 @@ impl Drop for Stop {
     fn drop(self) {
         match self {
             Stop::Refused(file, why) => {}
+            Stop::Fault(line) => {}
             Stop::OutOfFuel(fuel) => {}
             Stop::Low(model, id, feature) => {}
             Stop::ReadFault(file) => {}

@@ -19,7 +19,7 @@ use std::alloc::Global;
 
 /// Whether the extent is that of a model that can be changed.
 #[tactic(auto, using(crate::proofs::Along::is_unnamed, crate::proofs::Along::has_name))]
-fn is_written(extent: &Extent) -> bool
+pub fn is_written(extent: &Extent) -> bool
     ensures { result ≡ is_written extent.now }
 {
     !extent.name.is_empty() && extent.writable

@@ -74,16 +74,17 @@ fn low_line(alloc: Global, store: &Store, ids: &IdTable, low: LowFault) -> Resul
     Ok(bytes_of(line))
 }
 
-/// The line of a run without such a slot.
-fn done_line(
+/// The line of a run without such a slot, by its store, how many records and entries there are, and the cost.
+pub fn done_line(
     alloc: Global,
-    objects: usize,
+    store: &Store,
     records: usize,
     entries: usize,
     cost: u64,
 ) -> Result<Bytes, ListFault>
-    ensures { IfOk result (λ line. line ≡ done_text objects records entries cost) }
+    ensures { IfOk result (λ line. line ≡ done_text (lines.written_count store.now) records entries cost) }
 {
+    let objects = written_count(alloc, store)?;
     let Ok(line) = format!(in alloc;
         "done: {objects} objects, {records} records, {entries} late, cost {cost}\n"
     ) else {
@@ -106,10 +107,7 @@ fn line_for(
 {
     match low {
         Some(low) => low_line(alloc, store, ids, low),
-        None => {
-            let objects = written_count(alloc, store)?;
-            done_line(alloc, objects, records, entries, cost)
-        }
+        None => done_line(alloc, store, records, entries, cost),
     }
 }
 

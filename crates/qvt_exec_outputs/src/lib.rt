@@ -1,0 +1,6 @@
+//! What a run of the engine leaves: how it ended, told by what is to be written.
+#![tactic(auto)]
+
+pub mod ends;
+mod entries;
+pub mod laws;

@@ -1,0 +1,3 @@
+pub mod Bounded
+pub mod Filed
+pub mod Meant

@@ -1,0 +1,7 @@
+use Rattle.std.proofs.Common.{◌≡◌, map, take}
+use Rattle.qvt_outcome.specs.Plans.{IsReady, files_in}
+use Rattle.qvt_outputs.specs.Left.{model_file}
+use Rattle.qvt_outputs.proofs.models.model_outputs.Given as goal
+
+abbrev pub invariant-loop-model : goal.invariant-loop-model
+invariant-loop-model l = record { files : files_in l.outputs ≡ map (model_file l.store) (take l.model-index l.models); ready : IsReady l.outputs }
