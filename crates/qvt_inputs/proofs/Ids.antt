@@ -29,7 +29,8 @@ all_in_order n (o ∷ os) table h =
 pub ids_come_in_order : IdsComeInOrder
 unfolding with_input loaded
 ids_come_in_order l e os h =
-    let told : all_told (length l.store.objects) os l.ids ≡ l.ids ++ ids_of os = all_in_order (length l.store.objects) os l.ids h in
-    (told,
-    ap length told ∙ length-append l.ids (ids_of os) ∙ (let a = length-map os (λ (o : ObjectData). Some o.id) in let b = length-map os (instance_at l.store.metas e (length l.store.objects)) in
-      let c = length-append l.store.objects (map (instance_at l.store.metas e (length l.store.objects)) os) in omega (arith, a, b, c, h)))
+    let told : all_told (length l.store.objects) os l.ids ≡ l.ids ++ ids_of os = all_in_order (length l.store.objects) os l.ids h in (
+      told,
+      ap length told ∙ length-append l.ids (ids_of os) ∙ (let a = length-map os (λ (o : ObjectData). Some o.id) in let b = length-map os (instance_at l.store.metas e (length l.store.objects)) in
+          let c = length-append l.store.objects (map (instance_at l.store.metas e (length l.store.objects)) os) in omega (arith, a, b, c, h)),
+    )

@@ -1,7 +1,6 @@
 -- The form of a job asks a name of each model.
-use Rattle.std.proofs.Common.{◌≡◌, ◌≢◌, ◌∙◌, ℕ, suc, List, [], Bool, true, false, ◌&&◌, Option, Some, None, Result, Ok, Err, refl, sym, ap, subst}
-use Rattle.std.specs.Prelude.{if◌then◌else◌, nat_le, length, option_map, option_and_then, unwrap_or, codes, decimal, ⊤}
-use Rattle.std.specs.List.{AllByRecursion}
+use Rattle.std.proofs.Common.{◌≡◌, ◌≢◌, ◌∙◌, ℕ, suc, List, [], Bool, true, false, ◌&&◌, Option, Some, None, Result, Ok, refl, ap, subst}
+use Rattle.std.specs.Prelude.{if◌then◌else◌, nat_le, length, option_map, option_and_then, unwrap_or, codes, ⊤}
 use Rattle.std.specs.Option.{option_map_or}
 use Rattle.std.proofs.lemmas.Str.{chars-nil}
 use Rattle.serde_json.specs.Data.{Data, Items, no_items, item}

@@ -1,5 +1,5 @@
 -- A metamodel that passes its checks is the data that was read.
-use Rattle.std.proofs.Common.{◌≡◌, ◌≢◌, ◌∙◌, ℕ, List, [], Option, Some, None, Result, Ok, Err, refl, subst}
+use Rattle.std.proofs.Common.{◌≡◌, ◌≢◌, [], Option, Some, None, Result, Ok, refl, subst}
 use Rattle.std.specs.Prelude.{option_map, ⊤}
 use Rattle.serde_json.specs.Data.{Data}
 use Rattle.qvt_json.specs.Json.{json}

@@ -1,6 +1,6 @@
 -- The inputs of a job can be loaded.
-use Rattle.std.proofs.Common.{◌≡◌, ◌≢◌, ◌∙◌, refl, sym, ap, subst, ℕ, zero, suc, ◌+◌, ◌-◌, ◌<◌, ◌≤◌, Bool, true, false, List, [], ◌∷◌, ◌++◌, length, map, Option, Some, None, Ok, inl, inr, arith, length-append}
-use Rattle.std.specs.Prelude.{slice_index_or, nat_lt}
+use Rattle.std.proofs.Common.{◌≡◌, ◌≢◌, ◌∙◌, refl, sym, ap, subst, ℕ, ◌+◌, ◌<◌, true, false, List, [], ◌∷◌, length, inl, inr, arith, length-append}
+use Rattle.std.specs.Prelude.{slice_index_or}
 use Rattle.std.specs.List.{list_any, AllByRecursion}
 use Rattle.std.specs.Str.{bytes_eq}
 use Rattle.std.proofs.lemmas.Bool.{ltb-true, cases_lt}
@@ -12,21 +12,19 @@ use Rattle.qvt_tree_types.specs.Module.{ModuleTerm}
 use Rattle.qvt_tree_types.specs.declared.module.ModelParam.{ModelParam}
 use Rattle.qvt_types_paths.specs.declared.models.ModelRow.{ModelRow}
 use Rattle.qvt_store.specs.declared.extent.Extent.{Extent}
-use Rattle.qvt_store.specs.Contents.{AreNamed, extent_at, is_named, no_extent}
+use Rattle.qvt_store.specs.Contents.{AreNamed, is_named, no_extent}
 use Rattle.qvt_typing.specs.Accepts.{ProgramTerm}
 use Rattle.qvt_types_program.specs.Extents.{row_at, model_extent, extents_from, intermediate_extent, extents}
-use Rattle.qvt_types_program.specs.Known.{known}
-use Rattle.qvt_types_program.specs.Program.{model_metamodel, model_params}
-use Rattle.qvt_program_laws.specs.Models.{HasMetamodel, HasModels, ModelsAreDeclared}
-use Rattle.qvt_job.specs.Names.{HaveNames}
-use Rattle.qvt_job.specs.Parameters.{times, is_parameter, mismatch}
+use Rattle.qvt_types_program.specs.Program.{model_metamodel}
+use Rattle.qvt_program_laws.specs.Models.{HasModels, ModelsAreDeclared}
+use Rattle.qvt_job.specs.Parameters.{is_parameter}
 use Rattle.qvt_job.specs.Served.{IsOnly, InputsAreApart, ParametersHaveNames}
 use Rattle.qvt_job.specs.declared.job.Job.{Job}
 use Rattle.qvt_job.specs.declared.job.JobModel.{JobModel}
-use Rattle.qvt_inputs.specs.Inputs.{metamodel_of, HaveExtents}
+use Rattle.qvt_inputs.specs.Inputs.{HaveExtents}
 use Rattle.qvt_inputs.proofs.Apart.{IsAlone, have_extents}
-use Rattle.qvt_program_inputs.specs.Start.{start_of, CanLoad}
-use Rattle.qvt_program_inputs.specs.Law.{AreAllNamed, IsOfJob, JobCanLoad}
+use Rattle.qvt_program_inputs.specs.Start.{start_of}
+use Rattle.qvt_program_inputs.specs.Law.{AreAllNamed, JobCanLoad}
 use Rattle.qvt_program_inputs.proofs.Named.{count, front, last_at, front_at, each_at, is_named_of, names_named, any_name, among_front}
 
 module _ (m : Metamodels) (t : ModuleTerm) (p : ProgramTerm) (h : HasModels m t p) where
