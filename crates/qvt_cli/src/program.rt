@@ -31,7 +31,7 @@ fn run_loaded(alloc: Global, job: &Job, program: &Program, loaded: Loaded) -> Re
     ensures ready { IfOk result (λ p. IsReady p.outputs) }
     ensures no_reads { IfFaultOf result (λ file. ⊥) }
 {
-    let Loaded { store, ids } = loaded;
+    let (store, ids) = loaded.into_parts();
     let expressions = Expressions::new(alloc, program)?;
     let reads = Answering {
         alloc,

@@ -1,3 +1,5 @@
+ghost use Rattle.std.specs.Prelude.{◌≡◌};
+
 use qvt_model::id_table::IdTable;
 use qvt_store::store::Store;
 
@@ -11,5 +13,15 @@ pub struct Loaded {
 impl Drop for Loaded {
     fn drop(self) {
         let Loaded { store, ids } = self;
+    }
+}
+
+impl Loaded {
+    /// The store and the ids.
+    pub fn into_parts(self) -> (Store, IdTable)
+        ensures { result ≡ (self.store, self.ids) }
+    {
+        let Loaded { store, ids } = self;
+        (store, ids)
     }
 }
