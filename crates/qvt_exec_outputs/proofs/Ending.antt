@@ -1,6 +1,6 @@
 -- A run that has ended well has written its late entries.
-use Rattle.std.proofs.Common.{◌≡◌, refl, ap, sym, subst, ℕ, List, [], ◌∷◌, map, Result, Ok, Err}
-use Rattle.qvt_slots.specs.Contents.{Contents}
+use Rattle.std.proofs.Common.{◌≡◌, ◌∙◌, refl, ap, sym, subst, ℕ, List, [], ◌∷◌, map, Option, Result, Ok, Err}
+use Rattle.qvt_store.specs.Contents.{Contents}
 use Rattle.qvt_run_data.specs.declared.exit.End.{End}
 use Rattle.qvt_run_data.specs.declared.exit.Exit.{Exit}
 use Rattle.qvt_run_data.specs.declared.exit.Exit.TheVariants.{Returned, Ends}
@@ -9,10 +9,25 @@ use Rattle.qvt_run_rules.specs.State.{State}
 use Rattle.qvt_meaning.specs.Accepts.{ProgramTerm}
 use Rattle.qvt_meaning.specs.Run as run
 use Rattle.qvt_trace_text.specs.Written.{written_entry}
-use Rattle.qvt_exec_late.specs.Entries.{entry_view}
-use Rattle.qvt_exec_late.specs.Patches.{value_of}
-use Rattle.qvt_exec_late.specs.Stay.{CandidatesStay}
-use Rattle.qvt_exec_late.specs.declared.entries.Entry.{Entry}
+use Rattle.qvt_trace_text.specs.declared.entry.WrittenEntry.{WrittenEntry}
+use Rattle.qvt_exec.specs.Entries.{entry_view}
+use Rattle.qvt_exec.specs.Patches.{value_of}
+use Rattle.qvt_exec.specs.Stay.{CandidatesStay}
+use Rattle.qvt_exec.specs.declared.entries.Entry.{Entry}
+use Rattle.qvt_exec.specs.Comes.{Comes}
+use Rattle.qvt_exec.specs.Finish.{finished_view}
+use Rattle.qvt_exec.specs.declared.finish.Finished.{Finished}
+use Rattle.qvt_exec.specs.declared.stop.Stop.{Stop as RunStop}
+use Rattle.qvt_exec.specs.declared.stop.Stop.TheVariants as end
+use Rattle.qvt_job.specs.declared.job.Job.{Job}
+use Rattle.qvt_meaning_report.specs.Meaning as means
+use Rattle.qvt_outcome.specs.Outcome.{Outcome}
+use Rattle.qvt_outcome.specs.Plans.{outcome_of}
+use Rattle.qvt_outcome.specs.Steps.{Gives, Stops}
+use Rattle.qvt_outcome.specs.declared.plan.Plan.{Plan}
+use Rattle.qvt_outcome.specs.declared.stop.Stop.{Stop}
+use Rattle.qvt_outputs.specs.Left.{left}
+use Rattle.qvt_exec_outputs.specs.Ends.{left_over}
 use Rattle.qvt_exec_outputs.specs.Entries.{EntriesAreWritten, entry_with}
 
 abbrev HasWritten : run.Finished → Type 0
@@ -56,3 +71,38 @@ entries_same stay before after records es is = among es
     among : (xs : List Entry) → map (written_entry (record { trace = records; store = before })) (map entry_view xs) ≡ map (entry_with records after) xs
     among [] = refl
     among (x ∷ xs) = λ i. one x i ∷ among xs i
+
+pub entries_left : CandidatesStay → (before : Contents) (f : Finished) (s : Contents) (records : List Record) (es : List Entry) (ws : List WrittenEntry)
+    → run.patched before (map value_of f.entries) ≡ Ok f.after → s ≡ f.after → records ≡ f.trace → es ≡ f.entries → ws ≡ map (entry_with records s) es
+    → map (written_entry (record { trace = f.trace; store = before })) (map entry_view f.entries) ≡ ws
+entries_left stay before f s records es ws is store trace same made =
+    entries_same stay before f.after f.trace f.entries is ∙ sym (made ∙ (λ i. map (entry_with (trace i) (store i)) (same i)))
+
+values_same : (es : List Entry) → map value_of es ≡ map run.late_value (map entry_view es)
+values_same [] = refl
+values_same (e ∷ es) = λ i. value_of e ∷ values_same es i
+
+module _ (job : Job) (p : ProgramTerm) (ids : List (Option (List ℕ))) (store : Contents) (x : Result Finished RunStop) where
+  -- a run has ended well
+  pub well_ended : (f : Finished) (plan : Result Plan Stop) → x ≡ Ok f → Comes (run.finished p store job.fuel) x
+      → ((before : Contents) → run.patched before (map value_of f.entries) ≡ Ok f.after → Gives outcome_of plan (left job p ids (means.outcome_of (Ok (finished_view before f)))))
+      → Gives outcome_of plan (left_over job p ids store)
+  unfolding means.meaning
+  well_ended f plan is comes gives =
+      let known : Comes (run.finished p store job.fuel) (Ok f) = subst (Comes (run.finished p store job.fuel)) is comes in
+      subst (λ r. Gives outcome_of plan (left job p ids (means.outcome_of r))) (sym known.1)
+      (gives known.0 (ap (run.patched known.0) (values_same f.entries) ∙ entries_are_written p store job.fuel (finished_view known.0 f) known.1))
+
+  -- it is not finished
+  pub ended_early : (why : RunStop) (stop : Stop) → x ≡ Err why → Comes (run.finished p store job.fuel) x
+      → ((p : ProgramTerm) (ids : List (Option (List ℕ))) (r : Result run.Finished End) → Comes r (Err why) → Stops {A = Outcome} stop (left job p ids (means.outcome_of r)))
+      → Stops {A = Outcome} stop (left_over job p ids store)
+  unfolding means.meaning
+  ended_early why stop is comes stops = stops p ids (run.finished p store job.fuel) (subst (Comes (run.finished p store job.fuel)) is comes)
+
+-- a fault has ended it, or the end of the fuel
+pub ended_by : (job : Job) (p : ProgramTerm) (ids : List (Option (List ℕ))) (r : Result run.Finished End) (why : RunStop) (e : End) (stop : Stop) → why ≡ end.Ends e → Comes r (Err why)
+    → Stops {A = Outcome} stop (left job p ids (means.outcome_of (Err e))) → Stops {A = Outcome} stop (left job p ids (means.outcome_of r))
+ended_by job p ids r why e stop is comes stops =
+    let known : Comes r (Err (end.Ends e)) = subst (λ w. Comes r (Err w)) is comes in
+    subst (λ x. Stops {A = Outcome} stop (left job p ids (means.outcome_of x))) (sym known.1) stops

@@ -2,11 +2,11 @@
 use Rattle.std.specs.Prelude.{◌≡◌, ℕ, List, map, Ok}
 use Rattle.qvt_run_rules.specs.Trace.{candidates}
 use Rattle.qvt_run_data.specs.declared.record.Record.{Record}
-use Rattle.qvt_slots.specs.Contents.{Contents}
+use Rattle.qvt_store.specs.Contents.{Contents}
 use Rattle.qvt_meaning.specs.Accepts.{ProgramTerm}
 use Rattle.qvt_meaning.specs.Run.{Finished, finished, late_value, patched}
 use Rattle.qvt_trace_text.specs.declared.entry.WrittenEntry.{WrittenEntry}
-use Rattle.qvt_exec_late.specs.declared.entries.Entry.{Entry}
+use Rattle.qvt_exec.specs.declared.entries.Entry.{Entry}
 
 -- over the records and a store
 abbrev pub entry_with : List Record → Contents → Entry → WrittenEntry

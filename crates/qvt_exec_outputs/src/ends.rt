@@ -1,20 +1,25 @@
 //! What a run of the engine leaves.
 
-ghost use Rattle.std.specs.Prelude.{◌≡◌, IfOk, Ok, map};
-ghost use Rattle.qvt_slots.specs.Contents.{Contents};
+ghost use Rattle.std.specs.Prelude.{◌≡◌, Err, IfOk, List, Ok, Option, Result, map, ℕ};
+ghost use Rattle.qvt_store.specs.Contents.{Contents};
+ghost use Rattle.qvt_run_data.specs.declared.exit.End.{End};
+ghost use Rattle.qvt_meaning.specs.Accepts.{ProgramTerm};
 ghost use Rattle.qvt_meaning.specs.Run as rules;
 ghost use Rattle.qvt_meaning_report.specs.Meaning as meaning;
+ghost use Rattle.qvt_outcome.specs.Outcome.{Outcome};
 ghost use Rattle.qvt_outcome.specs.Plans.{IsReady, outcome_of};
-ghost use Rattle.qvt_outcome.specs.Steps.{Gives, IfFaultOf};
+ghost use Rattle.qvt_outcome.specs.Steps.{Gives, IfFaultOf, IsFaultWith, Stops};
 ghost use Rattle.qvt_types_program.specs.Program.{program_view};
-ghost use Rattle.qvt_exec_late.specs.Finish.{Finishes, finished_view};
-ghost use Rattle.qvt_exec_late.specs.Patches.{value_of};
+ghost use Rattle.qvt_exec.specs.Comes.{Comes};
+ghost use Rattle.qvt_exec.specs.Finish.{finished_view};
+ghost use Rattle.qvt_exec.specs.Patches.{value_of};
 ghost use Rattle.qvt_outputs.specs.Left.{left};
 ghost use Rattle.qvt_exec_outputs.specs.Ends.{left_over};
 
 use crate::entries::written_entries;
-use qvt_exec_late::finish::Finished;
-use qvt_exec_late::stop::Stop as RunStop;
+use qvt_exec::finish::Finished;
+use qvt_exec::laws::candidates_stay;
+use qvt_exec::stop::Stop as RunStop;
 use qvt_job::job::Job;
 use qvt_model::id_table::IdTable;
 use qvt_outcome::plan::Plan;
@@ -36,20 +41,27 @@ fn finished_left(
     ensures ready { IfOk result (λ plan. IsReady plan.outputs) }
     ensures no_reads { IfFaultOf result (λ file. ⊥) }
 {
-    let Finished {
-        after,
-        trace,
-        entries,
-        cost,
-    } = finished;
-    let entries = written_entries(alloc, trace.as_slice(), after.as_store(), entries)?;
+    candidates_stay();
+    let (store, trace, entries, cost) = finished.into_parts();
+    let entries = written_entries(alloc, trace.as_slice(), &store, entries)?;
     let end = RunEnd {
-        store: &after,
+        store: &store,
         records: trace.as_slice(),
         entries: entries.as_slice(),
         cost,
     };
     left_by(alloc, job, program, ids, &end)
+}
+
+/// The end of a run that is not finished.
+fn unfinished(alloc: Global, job: &Job, why: RunStop) -> Stop
+    ensures stops { (p : ProgramTerm) (ids : List (Option (List ℕ))) (r : Result rules.Finished End) → Comes r (Err why) → Stops {A = Outcome} result (left job.now p ids (meaning.outcome_of r)) }
+    ensures no_reads { IsFaultWith result (λ file. ⊥) }
+{
+    match why {
+        RunStop::Ends(end) => stopped_by(alloc, job, end),
+        RunStop::NoMemory => Stop::NoMemory,
+    }
 }
 
 /// What a run of a job's program leaves, by how it ended: all that is to be written, or what ended it.
@@ -60,13 +72,12 @@ pub fn ended(
     ids: &IdTable,
     run: Result<Finished, RunStop>,
 ) -> Result<Plan, Stop>
-    ensures gives { (store before : Contents) → Finishes before (rules.finished (program_view program.now) store job.now.fuel) run → Gives outcome_of result (left_over job.now (program_view program.now) ids.now store) }
+    ensures gives { (store : Contents) → Comes (rules.finished (program_view program.now) store job.now.fuel) run → Gives outcome_of result (left_over job.now (program_view program.now) ids.now store) }
     ensures ready { IfOk result (λ plan. IsReady plan.outputs) }
     ensures no_reads { IfFaultOf result (λ file. ⊥) }
 {
     match run {
         Ok(finished) => finished_left(alloc, job, program, ids, finished),
-        Err(RunStop::Ends(end)) => Err(stopped_by(alloc, job, end)),
-        Err(RunStop::NoMemory) => Err(Stop::NoMemory),
+        Err(why) => Err(unfinished(alloc, job, why)),
     }
 }

@@ -5,10 +5,10 @@ ghost use Rattle.qvt_exec_outputs.specs.Entries.{entry_with};
 
 use qvt_base::list_fault::ListFault;
 use qvt_base::seq::Seq;
-use qvt_exec_late::entries::Entry;
+use qvt_exec::entries::Entry;
 use qvt_exec_resolves::candidates::candidates;
-use qvt_live_store::store::Store;
 use qvt_run_data::record::Record;
+use qvt_store::store::Store;
 use qvt_trace_text::entry::WrittenEntry;
 use std::alloc::Global;
 
@@ -22,15 +22,11 @@ fn written_entry(
     ensures { IfOk result (λ written. written ≡ entry_with records.now store.now entry) }
 {
     let candidates = candidates(alloc, records, store, &entry.write.request)?;
-    let Entry {
-        write,
-        objects,
-        cost: _,
-    } = entry;
+    let (write, values) = entry.into_parts();
     Ok(WrittenEntry {
         write,
         candidates,
-        values: objects,
+        values,
     })
 }
 
