@@ -3,8 +3,8 @@
 
 pub mod check;
 pub mod metas;
-pub mod outputs;
 pub mod print;
+pub mod program;
 pub mod run;
 pub mod source;
 pub mod top;

@@ -1,1 +1,9 @@
+pub mod Calls
+pub mod Comes
+pub mod Entries
+pub mod Finish
+pub mod Knot
+pub mod Patches
 pub mod Ran
+pub mod Routines
+pub mod Stay

@@ -1,5 +1,19 @@
-//! A run of `main`, which keeps what its late assignments ask.
+//! The interpreter: units of a program and their calls, of which 100 may be open, over the phrases of a run; a run of
+//! `main`; the late entries, answered over the trace and the store that `main` left, and then written into their slots.
 #![tactic(auto)]
 
-pub mod main_body;
-pub mod ran;
+mod below;
+mod called;
+pub mod entries;
+pub mod finish;
+mod inside;
+mod knot;
+pub mod laws;
+mod main_body;
+mod patches;
+mod ran;
+mod routine_at;
+mod routines;
+pub mod run;
+pub mod stop;
+mod walk;

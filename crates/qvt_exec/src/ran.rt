@@ -2,18 +2,18 @@
 
 ghost use Rattle.std.specs.Prelude.{None};
 ghost use Rattle.qvt_types_nodes.specs.View.{typed_block_view};
-ghost use Rattle.qvt_program_exprs.specs.Table.{IsTable};
+ghost use Rattle.qvt_exec_answers.specs.Table.{IsTable};
 ghost use Rattle.qvt_meaning.specs.Units as of_units;
 ghost use Rattle.qvt_exec_state.specs.Runs.{Runs, seen};
-ghost use Rattle.qvt_exec_units.specs.Calls.{calls_of, setting_of};
+ghost use Rattle.qvt_exec.specs.Calls.{calls_of, setting_of};
 ghost use Rattle.qvt_exec.specs.Ran.{main_of, run_of};
 
+use crate::knot::run_block;
 use crate::main_body::main_body;
 use qvt_base::seq::Seq;
 use qvt_exec_answers::answering::Answering;
 use qvt_exec_phrases::engine::Engine;
 use qvt_exec_state::state::RunState;
-use qvt_exec_units::knot::run_block;
 use qvt_live_store::live::LiveStore;
 use qvt_run_data::exit::Halt;
 use qvt_types_nodes::tree::TypedStmts;

@@ -1,4 +1,4 @@
-use qvt_program_exprs::table::Expressions;
+use qvt_exec_plain::table::Expressions;
 use std::alloc::Global;
 
 /// What the units of a run and the answers of resolves read: the expressions of the program, in which a condition

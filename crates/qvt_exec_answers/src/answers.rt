@@ -1,7 +1,7 @@
 //! What resolves answer (QVT 1.3, 8.1.10 and 8.2.1.22).
 
 ghost use Rattle.std.specs.Prelude.{IfOk};
-ghost use Rattle.qvt_program_exprs.specs.Table.{IsTable};
+ghost use Rattle.qvt_exec_plain.specs.Table.{IsTable};
 ghost use Rattle.qvt_exec_resolves.specs.Verdicts.{found_view};
 ghost use Rattle.qvt_exec_answers.specs.Answering.{answer_in, answer_of, resolves_of};
 ghost use Rattle.qvt_exec_answers.specs.Room.{IsAnswer, charged_of};

@@ -8,3 +8,5 @@ pub mod questions;
 pub mod room;
 pub mod sifting;
 pub mod weights;
+
+pub use qvt_exec_plain::{exprs, vars};

@@ -2,7 +2,7 @@
 
 ghost use Rattle.std.specs.Prelude.{[], IfOk};
 ghost use Rattle.qvt_run_rules.specs.Resolve.{sifted};
-ghost use Rattle.qvt_program_exprs.specs.Table.{IsTable};
+ghost use Rattle.qvt_exec_plain.specs.Table.{IsTable};
 ghost use Rattle.qvt_exec_answers.specs.Room.{IsAnswer};
 ghost use Rattle.qvt_exec_answers.specs.Weights.{test_of};
 

@@ -4,7 +4,7 @@ ghost use Rattle.std.specs.Prelude.{◌≡◌, IfOk};
 ghost use Rattle.std.specs.Option.{option_copied};
 ghost use Rattle.qvt_meaning.specs.Nodes as nodes;
 ghost use Rattle.qvt_meaning.specs.Plain as rule;
-ghost use Rattle.qvt_program_exprs.specs.Table.{IsTable, condition_view};
+ghost use Rattle.qvt_exec_plain.specs.Table.{IsTable, condition_view};
 ghost use Rattle.qvt_exec_answers.specs.Answering.{program_of};
 ghost use Rattle.qvt_exec_answers.specs.Weights.{Weighs};
 
@@ -17,9 +17,9 @@ use qvt_base::seq::Seq;
 use qvt_base::text::Text;
 use qvt_exec_leaves::nodes::place_of;
 use qvt_exec_plain::plain::evaluate;
+use qvt_exec_plain::table::Condition;
 use qvt_exec_resolves::verdicts::{Verdict, verdict_of};
 use qvt_exec_state::names::name_in;
-use qvt_program_exprs::table::Condition;
 use qvt_run_data::exit::End;
 use qvt_run_data::fault::RunFault;
 use qvt_run_data::local::Local;
@@ -66,7 +66,13 @@ fn weigh_by(
 {
     let alloc = a.alloc;
     let locals = candidate(alloc, locals, condition.variable, object)?;
-    let told = evaluate(alloc, a.expressions.program(), condition.expr, store, locals)?;
+    let told = evaluate(
+        alloc,
+        a.expressions.program(),
+        condition.expr,
+        store,
+        locals,
+    )?;
     Ok(Weight {
         verdict: verdict_of(place_of(condition.expr), &told.outcome),
         cost: told.cost,

@@ -16,3 +16,5 @@ pub mod results;
 pub mod reused;
 pub mod run;
 pub mod sections;
+
+pub use qvt_exec_statements::statements;

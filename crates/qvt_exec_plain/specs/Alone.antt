@@ -19,15 +19,15 @@ abbrev pub alone_in : ProgramTerm → Units
 alone_in p = record { program = p; calls = no_calls; resolves = no_resolve }
 
 -- a function gives what expressions give, where so many phrases are left
-pub record GivesExpr {M : Type 0} (p : Program) (left : ℕ) (m : M) (pre : Bor Program → ℕ → M → Bor Engine → Bor TypedExpr → MutBor RunState → Type 0)
-    (post : Bor Program → ℕ → M → Bor Engine → Bor TypedExpr → MutBor RunState → Result Value Halt → MutBor RunState → Type 0) : Type 0 where
-  pub callable : (b : Bor Program) (x : Bor Engine) (e : Bor TypedExpr) (old : MutBor RunState) → b.now ≡ p → pre b left m x e old
+pub record GivesExpr (p : Program) (left : ℕ) (pre : Bor Program → ℕ → Bor Engine → Bor TypedExpr → MutBor RunState → Type 0)
+    (post : Bor Program → ℕ → Bor Engine → Bor TypedExpr → MutBor RunState → Result Value Halt → MutBor RunState → Type 0) : Type 0 where
+  pub callable : (b : Bor Program) (x : Bor Engine) (e : Bor TypedExpr) (old : MutBor RunState) → b.now ≡ p → pre b left x e old
   pub gives : (b : Bor Program) (x : Bor Engine) (e : Bor TypedExpr) (old new : MutBor RunState) (r : Result Value Halt) → b.now ≡ p
-      → post b left m x e old r new → Runs (expr_of (x.now, alone_in (program_view p)) e.now (seen old.now)) r new.now
+      → post b left x e old r new → Runs (expr_of (x.now, alone_in (program_view p)) e.now (seen old.now)) r new.now
 
 -- a function does what blocks do, where so many phrases are left
-pub record GivesBlock {S M : Type 0} (shown : List S → List TypedStmt) (p : Program) (left : ℕ) (m : M) (pre : Bor Program → ℕ → M → Bor Engine → Bor (List S) → MutBor RunState → Type 0)
-    (post : Bor Program → ℕ → M → Bor Engine → Bor (List S) → MutBor RunState → Result (Unit {0}) Halt → MutBor RunState → Type 0) : Type 0 where
-  pub callable : (b : Bor Program) (x : Bor Engine) (ss : Bor (List S)) (old : MutBor RunState) → b.now ≡ p → pre b left m x ss old
-  pub gives : (b : Bor Program) (x : Bor Engine) (ss : Bor (List S)) (old new : MutBor RunState) (r : Result (Unit {0}) Halt) → b.now ≡ p
-      → post b left m x ss old r new → Runs (block_of (x.now, alone_in (program_view p)) (shown ss.now) (seen old.now)) r new.now
+pub record GivesBlock (p : Program) (left : ℕ) (pre : Bor Program → ℕ → Bor Engine → Bor (List TypedStmt) → MutBor RunState → Type 0)
+    (post : Bor Program → ℕ → Bor Engine → Bor (List TypedStmt) → MutBor RunState → Result (Unit {0}) Halt → MutBor RunState → Type 0) : Type 0 where
+  pub callable : (b : Bor Program) (x : Bor Engine) (ss : Bor (List TypedStmt)) (old : MutBor RunState) → b.now ≡ p → pre b left x ss old
+  pub gives : (b : Bor Program) (x : Bor Engine) (ss : Bor (List TypedStmt)) (old new : MutBor RunState) (r : Result (Unit {0}) Halt) → b.now ≡ p
+      → post b left x ss old r new → Runs (block_of (x.now, alone_in (program_view p)) ss.now (seen old.now)) r new.now

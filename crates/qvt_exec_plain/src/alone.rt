@@ -1,7 +1,5 @@
 //! What stands inside phrases that stand alone: no unit is behind their calls, and no trace behind their resolves.
 
-ghost use Rattle.std.specs.Prelude.{◌≡◌, List};
-ghost use Rattle.qvt_types_nodes.specs.declared.tree.TypedStmt.{TypedStmt};
 ghost use Rattle.qvt_program_exprs.specs.Program.{program_view};
 ghost use Rattle.qvt_exec_plain.specs.Alone.{GivesBlock, GivesExpr, alone_in};
 
@@ -15,61 +13,24 @@ use qvt_program_exprs::program::Program;
 use qvt_run_data::callee::Callee;
 use qvt_run_data::exit::Halt;
 use qvt_run_data::request::Query;
-use qvt_types_nodes::tree::{TypedExpr, TypedStmt, TypedStmts};
+use qvt_types_nodes::tree::{TypedExpr, TypedStmts};
 use qvt_value::value::{Value, Values};
-use std::marker::PhantomData;
-
-/// A type that stands for that of statements, which is too large for the call of a function value.
-pub trait Statement {
-    ghost shown: { List Self → List TypedStmt };
-
-    /// The same statements, as those of this type.
-    fn hide(nodes: &[TypedStmt]) -> &[Self]
-        ensures { shown result.now ≡ nodes.now };
-
-    /// The statements that they are.
-    fn show(nodes: &[Self]) -> &[TypedStmt]
-        ensures { result.now ≡ shown nodes.now };
-}
-
-impl Statement for TypedStmt {
-    ghost shown = { λ ss. ss };
-
-    fn hide(nodes: &[TypedStmt]) -> &[TypedStmt] {
-        nodes
-    }
-
-    fn show(nodes: &[TypedStmt]) -> &[TypedStmt] {
-        nodes
-    }
-}
 
 /// Functions that evaluate expressions and run blocks, and how many phrases may stand within one another.
-/// Each takes `statements`, the type that stands for that of statements, as their calls are covered only
-/// where their own parameters name it.
 #[derive(Drop)]
-pub struct Alone<'p, S, E, B> {
+pub struct Alone<'p, E, B> {
     pub program: &'p Program,
     pub expr_at: E,
     pub block_at: B,
     pub left: u32,
-    pub statements: PhantomData<S>,
 }
 
 impl<
     'p,
-    S: Statement,
-    E: Fn(
-        &Program,
-        u32,
-        PhantomData<S>,
-        &Engine<'_>,
-        &TypedExpr,
-        &mut RunState<'_>,
-    ) -> Result<Value, Halt>,
-    B: Fn(&Program, u32, PhantomData<S>, &Engine<'_>, &[S], &mut RunState<'_>) -> Result<(), Halt>,
-> UnitCalls for Alone<'p, S, E, B> {
-    ghost ready = { λ a. GivesExpr a.program.now a.left a.statements (E.pre a.expr_at) (E.post a.expr_at) × GivesBlock S.shown a.program.now a.left a.statements (B.pre a.block_at) (B.post a.block_at) };
+    E: Fn(&Program, u32, &Engine<'_>, &TypedExpr, &mut RunState<'_>) -> Result<Value, Halt>,
+    B: Fn(&Program, u32, &Engine<'_>, &TypedStmts, &mut RunState<'_>) -> Result<(), Halt>,
+> UnitCalls for Alone<'p, E, B> {
+    ghost ready = { λ a. GivesExpr a.program.now a.left (E.pre a.expr_at) (E.post a.expr_at) × GivesBlock a.program.now a.left (B.pre a.block_at) (B.post a.block_at) };
 
     ghost means = { λ a. alone_in (program_view a.program.now) };
 
@@ -90,24 +51,16 @@ impl<
 
 impl<
     'p,
-    S: Statement,
-    E: Fn(
-        &Program,
-        u32,
-        PhantomData<S>,
-        &Engine<'_>,
-        &TypedExpr,
-        &mut RunState<'_>,
-    ) -> Result<Value, Halt>,
-    B: Fn(&Program, u32, PhantomData<S>, &Engine<'_>, &[S], &mut RunState<'_>) -> Result<(), Halt>,
-> Nested for Alone<'p, S, E, B> {
+    E: Fn(&Program, u32, &Engine<'_>, &TypedExpr, &mut RunState<'_>) -> Result<Value, Halt>,
+    B: Fn(&Program, u32, &Engine<'_>, &TypedStmts, &mut RunState<'_>) -> Result<(), Halt>,
+> Nested for Alone<'p, E, B> {
     fn expr(
         &self,
         x: &Engine<'_>,
         node: &TypedExpr,
         state: &mut RunState<'_>,
     ) -> Result<Value, Halt> {
-        (self.expr_at)(self.program, self.left, self.statements, x, node, state)
+        (self.expr_at)(self.program, self.left, x, node, state)
     }
 
     fn block(
@@ -116,14 +69,7 @@ impl<
         nodes: &TypedStmts,
         state: &mut RunState<'_>,
     ) -> Result<(), Halt> {
-        (self.block_at)(
-            self.program,
-            self.left,
-            self.statements,
-            x,
-            S::hide(nodes.as_slice()),
-            state,
-        )
+        (self.block_at)(self.program, self.left, x, nodes, state)
     }
 
     fn program(&self) -> &Program {

@@ -5,15 +5,14 @@ ghost use Rattle.qvt_exec_exprs.specs.Means.{block_of, expr_of};
 ghost use Rattle.qvt_exec_state.specs.Runs.{Runs, seen};
 ghost use Rattle.qvt_exec_plain.specs.Alone.{alone_in};
 
-use crate::alone::{Alone, Statement};
+use crate::alone::Alone;
 use crate::inside::{block_inside, expr_inside};
 use qvt_exec_exprs::engine::Engine;
 use qvt_exec_state::state::RunState;
 use qvt_program_exprs::program::Program;
 use qvt_run_data::exit::Halt;
-use qvt_types_nodes::tree::{TypedExpr, TypedStmt};
+use qvt_types_nodes::tree::{TypedExpr, TypedStmts};
 use qvt_value::value::Value;
-use std::marker::PhantomData;
 
 /// How many phrases may stand within one another. It guards the stack: want of memory is told of a phrase that
 /// stands deeper. No text that is read has such a one: of what stands open within one another there are at most
@@ -22,10 +21,9 @@ pub const NESTED: u32 = 2000;
 
 /// What an expression gives, where so many phrases may stand within one another.
 #[cycle(alone)]
-fn expr_at<S: Statement>(
+fn expr_at(
     program: &Program,
     left: u32,
-    statements: PhantomData<S>,
     x: &Engine<'_>,
     node: &TypedExpr,
     state: &mut RunState<'_>,
@@ -37,37 +35,34 @@ fn expr_at<S: Statement>(
     }
     let inside = Alone {
         program,
-        expr_at: expr_at::<S>,
-        block_at: block_at::<S>,
+        expr_at,
+        block_at,
         left: left - 1,
-        statements,
     };
     expr_inside(x, inside, node, state)
 }
 
 /// What a block does, where so many phrases may stand within one another.
 #[cycle(alone)]
-fn block_at<S: Statement>(
+fn block_at(
     program: &Program,
     left: u32,
-    statements: PhantomData<S>,
     x: &Engine<'_>,
-    nodes: &[S],
+    nodes: &TypedStmts,
     state: &mut RunState<'_>,
 ) -> Result<(), Halt>
-    ensures { Runs (block_of (x.now, alone_in (program_view program.now)) (S.shown nodes.now) (seen state.old)) result state.new }
+    ensures { Runs (block_of (x.now, alone_in (program_view program.now)) nodes.now (seen state.old)) result state.new }
 {
     if left == 0 {
         return Err(Halt::NoMemory);
     }
     let inside = Alone {
         program,
-        expr_at: expr_at::<S>,
-        block_at: block_at::<S>,
+        expr_at,
+        block_at,
         left: left - 1,
-        statements,
     };
-    block_inside(x, inside, S::show(nodes), state)
+    block_inside(x, inside, nodes.as_slice(), state)
 }
 
 /// What an expression gives that stands alone.
@@ -79,5 +74,5 @@ pub fn value_alone(
 ) -> Result<Value, Halt>
     ensures { Runs (expr_of (x.now, alone_in (program_view program.now)) node.now (seen state.old)) result state.new }
 {
-    expr_at::<TypedStmt>(program, NESTED, PhantomData, x, node, state)
+    expr_at(program, NESTED, x, node, state)
 }

@@ -8,4 +8,5 @@ pub mod plain;
 pub mod told;
 pub mod vars;
 
+pub use qvt_exec_exprs::exprs;
 pub use qvt_program_exprs::table;

@@ -1,2 +1,4 @@
 pub mod Job
 pub mod Parameters
+pub mod Names
+pub mod Served

@@ -3,5 +3,6 @@
 
 pub mod job;
 pub mod job_form;
+pub mod laws;
 pub mod parameters;
 pub mod read_job;

@@ -1,3 +1,4 @@
 pub mod MetaOf
 pub mod Places
 pub mod Numbers
+pub mod Named

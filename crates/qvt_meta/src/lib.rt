@@ -2,6 +2,7 @@
 #![tactic(auto)]
 
 mod adding;
+pub mod law;
 pub mod meta;
 mod own_names;
 mod same_feature;

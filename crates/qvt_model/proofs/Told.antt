@@ -1,14 +1,14 @@
 -- The steps of the loops of loading.
-use Rattle.std.proofs.Common.{◌≡◌, ℕ, zero, suc, ◌+◌, ◌<◌, ◌≤◌, Bool, true, false, ◌==◌, cond, inl, inr, refl, sym, ap, ◌∙◌, subst, List, [], ◌∷◌, drop, length, get_or, arith}
-use Rattle.std.specs.Prelude.{Option, Some, None}
+use Rattle.std.proofs.Common.{◌≡◌, ℕ, zero, suc, ◌+◌, ◌<◌, ◌≤◌, Bool, true, false, ◌==◌, cond, refl, sym, ap, ◌∙◌, subst, List, [], ◌∷◌, drop, length, get_or, arith}
+use Rattle.std.specs.Prelude.{Option, Some}
 use Rattle.std.proofs.lemmas.Bool.{ne_eqb}
 use Rattle.std.proofs.lemmas.Bool.Decides.{Decides-eqb}
 use Rattle.qvt_slots.specs.Contents.{Contents, with_new, with_slot}
 use Rattle.qvt_model.specs.declared.data.SlotData.{SlotData}
 use Rattle.qvt_model.specs.declared.data.ObjectData.{ObjectData}
-use Rattle.qvt_model.specs.IdTables.{id_in}
-use Rattle.qvt_model.specs.Loaded.{id_told}
-use Rattle.qvt_model.specs.Steps.{added, CanAdd, slot_values, put_slots, put_objects, with_objects, IsAdding, ArePutting, IsPutting, IsTelling}
+use Rattle.qvt_model.specs.IdTables.{id_in, with_id}
+use Rattle.qvt_model.specs.Loaded.{id_told, all_told}
+use Rattle.qvt_model.specs.Steps.{slot_values, put_slots, with_objects, IsAdding, ArePutting, IsPutting, IsTelling}
 
 pub drop_cons : {X : Type 0} (xs : List X) (i : ℕ) (x : X) → i < length xs → x ≡ get_or xs i x → drop i xs ≡ x ∷ drop (i + 1) xs
 drop_cons [] i x h e = absurd (omega arith)
@@ -35,8 +35,8 @@ told_past n [] x old h = refl
 told_past n (o ∷ os) x old h = ap (λ b. cond b (Some o.id) (id_told (suc n) os x old)) (ne_eqb x n (λ e. let r : x ≡ n = e in omega arith)) ∙ told_past (suc n) os x old (omega arith)
 
 pub told_more : (old now now' : List (Option (List ℕ))) (n x y : ℕ) (all rest : List ObjectData) (o : ObjectData) → y ≡ suc x →
-    ((z : ℕ) → id_in now' z ≡ cond (z == x) (Some o.id) (id_in now z)) → IsTelling old now n x all (o ∷ rest) → IsTelling old now' n y all rest
-told_more old now now' n x y all rest o next is h = subst (λ w. IsTelling old now' n w all rest) (sym next) (record { same = λ z. ap (λ v. id_told (suc x) rest z v) (is z) ∙ go z (z == x) refl ∙ h.same z })
+    now' ≡ with_id now x o.id → ((z : ℕ) → id_in now' z ≡ cond (z == x) (Some o.id) (id_in now z)) → IsTelling old now n x all (o ∷ rest) → IsTelling old now' n y all rest
+told_more old now now' n x y all rest o next set is h = subst (λ w. IsTelling old now' n w all rest) (sym next) (record { same = λ z. ap (λ v. id_told (suc x) rest z v) (is z) ∙ go z (z == x) refl ∙ h.same z; exact = ap (all_told (suc x) rest) set ∙ h.exact })
   where
     go : (z : ℕ) (b : Bool) → (z == x) ≡ b → id_told (suc x) rest z (cond b (Some o.id) (id_in now z)) ≡ cond b (Some o.id) (id_told (suc x) rest z (id_in now z))
     go z true e = told_past (suc x) rest z (Some o.id) (let q : z ≡ x = (Decides-eqb z x).0 e in omega arith)

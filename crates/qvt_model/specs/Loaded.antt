@@ -1,8 +1,7 @@
 -- A store with a model loaded into an extent: after the objects that are there its objects stand in order, each with the class,
 -- and for each feature of the class with the items, of its data.
 use Rattle.std.specs.List.{AllByRecursion}
-use Rattle.std.specs.Prelude.{⊤, ◌≡◌, ◌≢◌, ℕ, suc, ◌+◌, ◌<◌, ◌≤◌, ◌==◌, List, [], ◌∷◌, ◌++◌, map, length, slice_index_or, if◌then◌else◌, IsTrue, IsFalse, Option, Some, None, is_some}
-use Rattle.qvt_base.specs.declared.numbers.FeatureNo.{FeatureNo}
+use Rattle.std.specs.Prelude.{⊤, ◌≡◌, ◌≢◌, ℕ, suc, ◌+◌, ◌<◌, ◌≤◌, ◌==◌, List, [], ◌∷◌, ◌++◌, map, length, if◌then◌else◌, IsTrue, IsFalse, Option, Some, None, is_some}
 use Rattle.qvt_value.specs.declared.value.Value.{Value}
 use Rattle.qvt_value.specs.declared.value.Value.TheVariants.{Bool as BoolValue, Int as IntValue, Str as StrValue, Enum as EnumValue, Obj}
 use Rattle.qvt_metamodel.specs.Metamodels.{Metamodels, features_of}
@@ -11,9 +10,8 @@ use Rattle.qvt_store.specs.Stay.{InputsStay, StaysIn}
 use Rattle.qvt_model.specs.declared.data.Datum.{Datum}
 use Rattle.qvt_model.specs.declared.data.Datum.TheVariants.{Bool as BoolDatum, Int, Str, Literal, Ref}
 use Rattle.qvt_model.specs.declared.data.ObjectData.{ObjectData}
-use Rattle.qvt_model.specs.declared.data.SlotData.{SlotData}
 use Rattle.qvt_model.specs.Items.{items_in}
-use Rattle.qvt_model.specs.IdTables.{id_in}
+use Rattle.qvt_model.specs.IdTables.{id_in, with_id}
 use Rattle.qvt_model.specs.Extents.{own_id}
 use Rattle.qvt_model.specs.RunIds.{run_id}
 use Rattle.qvt_model.specs.WellFormed.{object_at, IsModel}
@@ -40,6 +38,11 @@ loaded s e os = record s { objects = s.objects ++ map (instance_at s.metas e (le
 abbrev pub id_told : ℕ → List ObjectData → ℕ → Option (List ℕ) → Option (List ℕ)
 id_told n [] x old = old
 id_told n (o ∷ os) x old = if x == n then Some o.id else id_told (suc n) os x old
+
+-- the table with the ids of these objects, of which the first got number n
+abbrev pub all_told : ℕ → List ObjectData → List (Option (List ℕ)) → List (Option (List ℕ))
+all_told n [] table = table
+all_told n (o ∷ os) table = all_told (suc n) os (with_id table n o.id)
 
 -- the data are those of a model of the extent's metamodel, the extent has no objects, and the store has room for them
 pub record IsLoadable (s : Contents) (e : ℕ) (os : List ObjectData) : Type 0 where

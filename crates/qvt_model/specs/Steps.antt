@@ -9,7 +9,7 @@ use Rattle.qvt_store.specs.Place.{IsPlaceable}
 use Rattle.qvt_store.specs.Sound.{IsClassFor}
 use Rattle.qvt_slots.specs.declared.extent.Extent.{Extent}
 use Rattle.qvt_model.specs.IdTables.{id_in}
-use Rattle.qvt_model.specs.Loaded.{value_at, id_told}
+use Rattle.qvt_model.specs.Loaded.{value_at, id_told, all_told}
 
 abbrev pub added : Contents → ℕ → List ObjectData → Contents
 added s e [] = s
@@ -62,3 +62,4 @@ pub record IsPutting (old now : Contents) (n x : ℕ) (all rest : List ObjectDat
 
 pub record IsTelling (old now : List (Option (List ℕ))) (n x : ℕ) (all rest : List ObjectData) : Type 0 where
   pub same : (y : ℕ) → id_told x rest y (id_in now y) ≡ id_told n all y (id_in old y)
+  pub exact : all_told x rest now ≡ all_told n all old

@@ -1,5 +1,5 @@
 ghost use Rattle.std.specs.Prelude.{◌≡◌, ◌==◌, ℕ, [], option_map, Some, if◌then◌else◌, OnOk};
-ghost use Rattle.qvt_model.specs.IdTables.{id_in, IsReached};
+ghost use Rattle.qvt_model.specs.IdTables.{id_in, with_id, IsReached};
 
 use qvt_base::list_fault::ListFault;
 use qvt_base::numbers::Oid;
@@ -54,6 +54,7 @@ impl IdTable {
     /// Tells the id of an object in its file.
     pub(crate) fn set(&mut self, object: Oid, id: Text) -> Result<(), ListFault>
         ensures ok { OnOk result ((x : ℕ) → id_in self.new x ≡ (if x == object.0 then Some id else id_in self.old x)) }
+        ensures exact { OnOk result (self.new ≡ with_id self.old object.0 id) }
     {
         let at = object.0 as usize;
         reach(&mut self.ids, at + 1)?;

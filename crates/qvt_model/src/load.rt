@@ -6,7 +6,7 @@ ghost use Rattle.qvt_store.specs.Place.{IsPlaceable};
 ghost use Rattle.qvt_store.specs.Sound.{IsClassFor, Sound};
 ghost use Rattle.qvt_model.specs.IdTables.{id_in};
 ghost use Rattle.qvt_store.specs.Stay.{InputsStay, StaysIn};
-ghost use Rattle.qvt_model.specs.Loaded.{loaded, id_told, AreTold, IsLoadable, MembersStay, TellsAll, TellsNoOther};
+ghost use Rattle.qvt_model.specs.Loaded.{loaded, id_told, all_told, AreTold, IsLoadable, MembersStay, TellsAll, TellsNoOther};
 ghost use Rattle.qvt_model.specs.Conforming.{Conforms};
 ghost use Rattle.qvt_model.specs.Steps.{added, CanAdd, slot_values, put_slots, put_objects, with_objects, CanPutSlots, CanPutObjects};
 
@@ -100,7 +100,8 @@ fn tell_ids(
     first: u32,
     objects: &[ObjectData],
 ) -> Result<(), ListFault>
-    ensures { OnOk result ((x : ℕ) → id_in ids.new x ≡ id_told first objects.now x (id_in ids.old x)) }
+    ensures told { OnOk result ((x : ℕ) → id_in ids.new x ≡ id_told first objects.now x (id_in ids.old x)) }
+    ensures exact { OnOk result (ids.new ≡ all_told first objects.now ids.old) }
 {
     for (i, object) in objects.iter().enumerate() {
         let number = numbered(first, i)?;
@@ -124,6 +125,7 @@ pub fn load(
     requires conforms { Conforms store.old.metas model.now.objects }
     ensures store { OnOk result (store.new ≡ loaded store.old extent model.now.objects) }
     ensures ids { OnOk result (AreTold store.old model.now.objects ids.old ids.new) }
+    ensures table { OnOk result (ids.new ≡ all_told (length store.old.objects) model.now.objects ids.old) }
     ensures stays { OnOk result (StaysIn store.old store.new) }
     ensures inputs { OnOk result (InputsStay store.old store.new) }
     ensures others { OnOk result (MembersStay store.old store.new extent) }

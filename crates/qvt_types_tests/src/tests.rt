@@ -1,5 +1,4 @@
 mod numbered;
-mod plain;
 mod programs;
 mod read;
 mod refused;

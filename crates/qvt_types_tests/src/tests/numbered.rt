@@ -1,10 +1,10 @@
 //! Expressions and conditions of programs by their numbers.
 
-ghost use Rattle.qvt_exec_plain.specs.Table.{IsTable};
+ghost use Rattle.qvt_program_exprs.specs.Table.{IsTable};
 
 use super::read::program_of;
 use qvt_base::numbers::ExprNo;
-use qvt_exec_plain::table::Expressions;
+use qvt_program_exprs::table::Expressions;
 use qvt_types_nodes::tree::TypedExpr;
 use std::test::Fail;
 

@@ -6,8 +6,8 @@ use Rattle.qvt_cli.proofs.run.perform_run.Goals as goal
 
 pub returns-in-Err-clause-follows : goal.returns-in-Err-clause-follows
 unfolding run_of
-returns-in-Err-clause-follows g c = stopped (λ (job : Job). job) outcome_of (job_read c.args.name.now) (after_job c.args.name.now) (g.F.Files.seen c.args.files.now) (g.F.Files.seen c.read_untraced.new.files) c.in-Err.stop c.in-Err.ensures
+returns-in-Err-clause-follows g c = stopped (λ (job : Job). job) outcome_of (job_read c.args.name.now) (after_job c.args.name.now) (g.F.Files.seen c.args.files.now) (g.F.Files.seen c.read_named_job.new.files) c.in-Err.stop c.in-Err.ensures.follows
 
 pub returns-in-Ok-clause-follows : goal.returns-in-Ok-clause-follows
 unfolding run_of
-returns-in-Ok-clause-follows g c = chained (λ (job : Job). job) outcome_of (job_read c.args.name.now) (after_job c.args.name.now) (g.F.Files.seen c.args.files.now) (g.F.Files.seen c.read_untraced.new.files) (g.F.Files.seen c.perform_job.new.files) c.in-Ok.job c.perform_job.result c.in-Ok.ensures c.perform_job.ensures.follows
+returns-in-Ok-clause-follows g c = chained (λ (job : Job). job) outcome_of (job_read c.args.name.now) (after_job c.args.name.now) (g.F.Files.seen c.args.files.now) (g.F.Files.seen c.read_named_job.new.files) (g.F.Files.seen c.perform_job.new.files) c.in-Ok.job c.perform_job.result c.in-Ok.ensures.follows c.perform_job.ensures.follows

@@ -1,7 +1,7 @@
 use Rattle.qvt_exec_plain.proofs.knot.+alone.Given as goal
 
 abbrev pub decreases-expr_at : goal.decreases-expr_at
-decreases-expr_at g l = l.left
+decreases-expr_at l = l.left
 
 abbrev pub decreases-block_at : goal.decreases-block_at
-decreases-block_at g l = l.left
+decreases-block_at l = l.left

@@ -1,11 +1,10 @@
-use Rattle.std.proofs.Common.{◌≡◌, ◌∙◌, ℕ, sym, ap, subst, List, length}
-use Rattle.std.specs.Prelude.{Option}
+use Rattle.std.proofs.Common.{◌≡◌, ◌∙◌, sym, ap, subst, List}
 use Rattle.qvt_slots.specs.Contents.{Contents}
 use Rattle.qvt_store.specs.Sound.{Sound}
 use Rattle.qvt_store.specs.Stay.{InputsStay, StaysIn}
 use Rattle.qvt_model.specs.declared.data.ObjectData.{ObjectData}
 use Rattle.qvt_model.specs.IdTables.{id_in}
-use Rattle.qvt_model.specs.Loaded.{loaded, id_told, MembersStay, TellsAll, TellsNoOther}
+use Rattle.qvt_model.specs.Loaded.{id_told, all_told, MembersStay, TellsAll, TellsNoOther}
 use Rattle.qvt_model.specs.Steps.{added, CanAdd, put_objects, with_objects, CanPutObjects}
 use Rattle.qvt_model.proofs.Loading.{adds, puts, gives, stays_sound}
 use Rattle.qvt_model.proofs.Loads.{load_leaves}
@@ -40,7 +39,10 @@ returns-clause-store c =
     ∙ gives s e os c.requires.loadable well c.is_whole.ensures.typed c.is_whole.ensures.outside_itself c.requires.conforms
 
 pub returns-clause-ids : goal.returns-clause-ids
-returns-clause-ids c x = c.in_ok-tell_ids.ensures x ∙ (λ i. id_told (c.len-first.ensures i) (c.as_slice-objects.ensures i) x (id_in c.args.ids.now x))
+returns-clause-ids c x = c.in_ok-tell_ids.ensures.told x ∙ (λ i. id_told (c.len-first.ensures i) (c.as_slice-objects.ensures i) x (id_in c.args.ids.now x))
+
+pub returns-clause-table : goal.returns-clause-table
+returns-clause-table c = c.in_ok-tell_ids.ensures.exact ∙ (λ i. all_told (c.len-first.ensures i) (c.as_slice-objects.ensures i) c.args.ids.now)
 
 pub returns-clause-sound : goal.returns-clause-sound
 returns-clause-sound c sound =

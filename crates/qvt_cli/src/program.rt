@@ -1,0 +1,61 @@
+//! A program with the inputs of a job: they are read, and it is run over them.
+
+ghost use Rattle.std.specs.Prelude.{IfOk};
+ghost use Rattle.qvt_store.specs.Sound.{Sound};
+ghost use Rattle.qvt_types_program.specs.Program.{program_view};
+ghost use Rattle.qvt_outcome.specs.Follows.{Follows};
+ghost use Rattle.qvt_outcome.specs.Plans.{outcome_of, IsReady};
+ghost use Rattle.qvt_outcome.specs.Steps.{Gives, IfFaultOf};
+ghost use Rattle.qvt_program_inputs.specs.Start.{CanLoad};
+ghost use Rattle.qvt_exec_outputs.specs.Ends.{left_over};
+ghost use Rattle.qvt_cli.specs.Run.{performed};
+
+use qvt_base::outside::Files;
+use qvt_exec::run::run;
+use qvt_exec_answers::answering::Answering;
+use qvt_exec_outputs::ends::ended;
+use qvt_inputs::loaded::Loaded;
+use qvt_job::job::Job;
+use qvt_live_store::live::LiveStore;
+use qvt_outcome::plan::Plan;
+use qvt_outcome::stop::Stop;
+use qvt_program_exprs::table::Expressions;
+use qvt_program_inputs::start::read_program_inputs;
+use qvt_types_program::program::Program;
+use std::alloc::Global;
+
+/// Runs a program over its loaded inputs with the job's fuel, and makes every byte that is to be written.
+fn run_loaded(alloc: Global, job: &Job, program: &Program, loaded: Loaded) -> Result<Plan, Stop>
+    requires { Sound loaded.store }
+    ensures gives { Gives outcome_of result (left_over job.now (program_view program.now) loaded.ids loaded.store) }
+    ensures ready { IfOk result (λ p. IsReady p.outputs) }
+    ensures no_reads { IfFaultOf result (λ file. ⊥) }
+{
+    let Loaded { store, ids } = loaded;
+    let expressions = Expressions::new(alloc, program)?;
+    let reads = Answering {
+        alloc,
+        expressions: &expressions,
+        fuel: job.fuel,
+    };
+    let end = run(&reads, LiveStore::new(store));
+    ended(alloc, job, program, &ids, end)
+}
+
+/// Reads the inputs of a job, and runs its program over them.
+#[tactic(auto, unfolding(crate::specs::Run::performed))]
+pub fn perform<F: Files>(
+    alloc: Global,
+    files: &mut F,
+    job: &Job,
+    program: &Program,
+) -> Result<Plan, Stop>
+    requires { CanLoad (program_view program.now) job.now.inputs }
+    ensures follows { Follows outcome_of (performed job.now (program_view program.now)) (F.seen files.old) result (F.seen files.new) }
+    ensures ready { IfOk result (λ p. IsReady p.outputs) }
+{
+    match read_program_inputs(alloc, files, program, job.inputs.as_slice()) {
+        Err(stop) => Err(stop),
+        Ok(loaded) => run_loaded(alloc, job, program, loaded),
+    }
+}

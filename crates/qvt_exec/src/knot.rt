@@ -1,0 +1,142 @@
+//! The phrases of a run and its calls, of which 100 may be open inside one another.
+
+ghost use Rattle.qvt_exec_phrases.specs.Means.{block_of, expr_of};
+ghost use Rattle.qvt_exec_state.specs.Runs.{Runs, seen};
+ghost use Rattle.qvt_exec_answers.specs.Table.{IsTable};
+ghost use Rattle.qvt_exec.specs.Calls.{calls_of, units_of};
+
+use crate::below::Below;
+use crate::called::called;
+use crate::inside::{block_inside, expr_inside};
+use qvt_base::numbers::Place;
+use qvt_exec_answers::answering::Answering;
+use qvt_exec_mappings::run::Run;
+use qvt_exec_phrases::engine::Engine;
+use qvt_exec_state::state::RunState;
+use qvt_run_data::callee::Callee;
+use qvt_run_data::exit::{End, Exit, Halt};
+use qvt_run_data::fault::RunFault;
+use qvt_types_nodes::tree::{TypedExpr, TypedStmts};
+use qvt_value::value::{Value, Values};
+
+/// How many calls of units may be open.
+pub const DEPTH: u32 = 100;
+
+/// How many phrases and calls may stand inside one another in a run. It guards the stack: a phrase that would
+/// stand deeper is told as want of memory. A call goes on with what is left of it.
+pub const PHRASES: u32 = 4000;
+
+/// What an expression gives, where so many calls may be open and so many phrases are left.
+#[cycle(run)]
+fn expr_at(
+    a: &Answering<'_, '_>,
+    calls: u32,
+    left: u32,
+    x: &Engine<'_>,
+    node: &TypedExpr,
+    state: &mut RunState<'_>,
+) -> Result<Value, Halt>
+    requires { IsTable a.now.expressions.now }
+    ensures { Runs (expr_of (x.now, units_of a.now calls) node.now (seen state.old)) result state.new }
+{
+    if left == 0 {
+        return Err(Halt::NoMemory);
+    }
+    let inside = Below {
+        answering: a,
+        expr_at,
+        block_at,
+        call_at,
+        calls,
+        left: left - 1,
+    };
+    expr_inside(x, inside, node, state)
+}
+
+/// What a block does, where so many calls may be open and so many phrases are left.
+#[cycle(run)]
+fn block_at(
+    a: &Answering<'_, '_>,
+    calls: u32,
+    left: u32,
+    x: &Engine<'_>,
+    nodes: &TypedStmts,
+    state: &mut RunState<'_>,
+) -> Result<(), Halt>
+    requires { IsTable a.now.expressions.now }
+    ensures { Runs (block_of (x.now, units_of a.now calls) nodes.now (seen state.old)) result state.new }
+{
+    if left == 0 {
+        return Err(Halt::NoMemory);
+    }
+    let inside = Below {
+        answering: a,
+        expr_at,
+        block_at,
+        call_at,
+        calls,
+        left: left - 1,
+    };
+    block_inside(x, inside, nodes, state)
+}
+
+/// The call of a unit, where so many may be open and so many phrases are left.
+#[cycle(run)]
+fn call_at(
+    a: &Answering<'_, '_>,
+    calls: u32,
+    left: u32,
+    callee: Callee,
+    args: Values,
+    place: Place,
+    state: &mut RunState<'_>,
+) -> Result<Value, Halt>
+    requires { IsTable a.now.expressions.now }
+    ensures { Runs (calls_of a.now calls callee args place (seen state.old)) result state.new }
+{
+    if calls == 0 {
+        return Err(Halt::Exits(Exit::Ends(End::Fault(RunFault::CallDepth, place))));
+    }
+    if left == 0 {
+        return Err(Halt::NoMemory);
+    }
+    let inside = Below {
+        answering: a,
+        expr_at,
+        block_at,
+        call_at,
+        calls: calls - 1,
+        left: left - 1,
+    };
+    let run = Run {
+        alloc: a.alloc,
+        fuel: a.fuel,
+    };
+    called(&run, inside, callee, args, place, state)
+}
+
+/// What an expression gives in a run, outside all calls.
+pub fn value_of(
+    a: &Answering<'_, '_>,
+    x: &Engine<'_>,
+    node: &TypedExpr,
+    state: &mut RunState<'_>,
+) -> Result<Value, Halt>
+    requires { IsTable a.now.expressions.now }
+    ensures { Runs (expr_of (x.now, units_of a.now 100) node.now (seen state.old)) result state.new }
+{
+    expr_at(a, DEPTH, PHRASES, x, node, state)
+}
+
+/// What a block does in a run, outside all calls.
+pub fn run_block(
+    a: &Answering<'_, '_>,
+    x: &Engine<'_>,
+    nodes: &TypedStmts,
+    state: &mut RunState<'_>,
+) -> Result<(), Halt>
+    requires { IsTable a.now.expressions.now }
+    ensures { Runs (block_of (x.now, units_of a.now 100) nodes.now (seen state.old)) result state.new }
+{
+    block_at(a, DEPTH, PHRASES, x, nodes, state)
+}

@@ -1,4 +1,0 @@
-pub mod Entries
-pub mod Patches
-pub mod Finish
-pub mod Stay

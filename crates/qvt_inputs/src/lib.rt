@@ -1,0 +1,6 @@
+//! The input models of a run: read, found to conform, and loaded in the order of the job.
+#![tactic(auto)]
+
+pub mod conforming;
+pub mod inputs;
+pub mod loaded;
