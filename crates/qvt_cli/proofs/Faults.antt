@@ -1,43 +1,17 @@
--- An early end by the fault of a metamodel or a model is one of what is stated.
-use Rattle.std.proofs.Common.{◌≡◌, ◌≢◌, ◌∙◌, ◌<◌, ap, sym, subst, arith, ℕ, List, length-append, true, false, Some, None, Ok, Err}
-use Rattle.std.specs.Prelude.{nat_lt, length, if◌then◌else◌}
-use Rattle.qvt_model.specs.declared.data.ObjectData.{ObjectData}
+-- An early end by the fault of a metamodel is one of what is stated, and what an added metamodel leaves.
+use Rattle.std.proofs.Common.{◌≡◌, ◌≢◌, ◌∙◌, ◌<◌, ap, sym, subst, arith, List, [], ◌∷◌, ◌++◌, length-append, true, false, Ok, Err}
+use Rattle.std.specs.Prelude.{length, if◌then◌else◌}
+use Rattle.std.specs.List.{AllByRecursion}
 use Rattle.qvt_metamodel.specs.Metamodels.{Metamodels}
 use Rattle.qvt_metamodel.specs.Added.{added, numbered}
 use Rattle.qvt_metamodel.specs.Joined.{joined}
 use Rattle.qvt_metamodel.specs.declared.declared.MetaData.{MetaData}
+use Rattle.qvt_metamodel.specs.declared.info.MetamodelInfo.{MetamodelInfo}
 use Rattle.qvt_metamodel.specs.Named.{has_metamodel}
 use Rattle.qvt_metamodel.specs.declared.fault.MetasFault.{MetasFault}
 use Rattle.qvt_metamodel.specs.declared.fault.MetasFault.TheVariants.{SameMetamodel}
 use Rattle.qvt_cli.specs.Metas.{with_metamodel}
-use Rattle.qvt_conform.specs.Conformance.{IsWellFormed, conform_fault}
-use Rattle.qvt_model.specs.WellFormed.{IsModel}
-use Rattle.qvt_conform.specs.declared.fault.ConformFault.{ConformFault}
-use Rattle.qvt_conform.specs.declared.fault.ConformFault.TheVariants as conform
-use Rattle.qvt_cli.specs.Check.{few_objects, unless_fault, conforming, most_objects}
-use Rattle.qvt_outcome.specs.Outcome.{refused}
-use Rattle.qvt_outcome.specs.declared.refusal.Refusal.TheVariants as refusal
-use Rattle.qvt_json.specs.Steps.{◌>>=◌}
-use Rattle.qvt_outcome.specs.Steps.{Stops, StopsBy}
-use Rattle.qvt_outcome.specs.declared.stop.Stop.{Stop}
-use Rattle.qvt_outcome.proofs.Refused.{stops_at}
-
-pub well_formed_of : (m : Metamodels) (k : ℕ) (os : List ObjectData) → IsModel m k os → IsWellFormed m os
-well_formed_of m k os h = record { metamodel = k; model = h }
-
-few : (name : List ℕ) (n : ℕ) → nat_lt most_objects n ≡ false → few_objects name n ≡ Ok n
-few name n h = ap (λ b. if b then Err (refused name refusal.TooManyObjects) else Ok n) h
-
--- a model that does not conform
-pub conform_stops : (m : Metamodels) (name : List ℕ) (os : List ObjectData) (why : ConformFault) (e : Stop) → nat_lt most_objects (length os) ≡ false
-    → StopsBy conform.NoMemory refusal.Conform name why e → (why ≢ conform.NoMemory → conform_fault m os ≡ Some why) → Stops e (conforming m name os)
-unfolding conforming
-conform_stops m name os why e small h is = stops_at conform.NoMemory refusal.Conform name why e _ h
-    (λ other. ap (λ r. r >>= (λ n. unless_fault name n (conform_fault m os))) (few name (length os) small) ∙ ap (unless_fault name (length os)) (is other))
-
-pub conform_goes_on : (m : Metamodels) (name : List ℕ) (os : List ObjectData) → nat_lt most_objects (length os) ≡ false → conform_fault m os ≡ None → conforming m name os ≡ Ok (length os)
-unfolding conforming
-conform_goes_on m name os small none = ap (λ r. r >>= (λ n. unless_fault name n (conform_fault m os))) (few name (length os) small) ∙ ap (unless_fault name (length os)) none
+use Rattle.qvt_program_inputs.specs.Law.{AreAllNamed}
 
 one_added : (m : Metamodels) (d : MetaData) → 0 < length (added m d).metamodels
 unfolding joined numbered
@@ -53,3 +27,15 @@ same_metamodel m d why there is = ap (λ b. if b then Err (SameMetamodel d.name)
 
 pub new_metamodel : (m : Metamodels) (d : MetaData) → has_metamodel m d.name ≡ false → with_metamodel m d ≡ Ok (added m d)
 new_metamodel m d fresh = ap (λ b. if b then Err (SameMetamodel d.name) else Ok (added m d)) fresh
+
+one_more : (is : List MetamodelInfo) (i : MetamodelInfo) → AllByRecursion (λ (x : MetamodelInfo). x.name ≢ []) is → i.name ≢ [] → AllByRecursion (λ (x : MetamodelInfo). x.name ≢ []) (is ++ i ∷ [])
+one_more [] i all h = (h, tt)
+one_more (x ∷ xs) i all h = (all.0, one_more xs i all.1 h)
+
+all_added : (m : Metamodels) (d : MetaData) → d.name ≢ [] → AreAllNamed m → AreAllNamed (added m d)
+unfolding joined numbered
+all_added m d named all = one_more m.metamodels _ all named
+
+-- where one with a name was added to those that have names, each has one
+pub named_metamodel : (m now : Metamodels) (d : MetaData) → now ≡ added m d → d.name ≢ [] → AreAllNamed m → AreAllNamed now
+named_metamodel m now d h named all = subst AreAllNamed (sym h) (all_added m d named all)

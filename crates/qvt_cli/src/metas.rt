@@ -1,12 +1,14 @@
 //! The metamodels of files, in order.
 
-ghost use Rattle.std.specs.Prelude.{◌≡◌, ◌<◌, None, IfOk, OnOk, length};
+ghost use Rattle.std.specs.Prelude.{◌≡◌, ◌≢◌, ◌<◌, [], None, IfOk, OnOk, length};
 ghost use Rattle.qvt_outcome.specs.Follows.{Follows};
 ghost use Rattle.qvt_outcome.specs.Steps.{Gives, IfFaultOf, IsFaultWith, StopsBy, or_refused};
 ghost use Rattle.qvt_cli.specs.Metas.{with_metamodel, metas_in, metamodel_read, metamodels_read};
+ghost use Rattle.qvt_program_inputs.specs.Law.{AreAllNamed};
 
 use qvt_base::outside::Files;
 use qvt_base::text::Text;
+use qvt_meta::law::meta_has_name;
 use qvt_meta::meta::{Meta, read_meta};
 use qvt_metamodel::fault::{MetaFault, MetasFault};
 use qvt_metas::metas::Metas;
@@ -44,6 +46,7 @@ fn add_metamodel(alloc: Global, metas: &mut Metas, name: &Text, meta: Meta) -> R
     ensures gives { Gives (λ _. metas.new) result (or_refused Refusal.Metamodels name.now (with_metamodel metas.old meta)) }
     ensures some { OnOk result (0 < length metas.new.metamodels) }
     ensures element { OnOk result (metas.new.element ≡ metas.old.element) }
+    ensures named { meta.name ≢ [] → AreAllNamed metas.old → OnOk result (AreAllNamed metas.new) }
 {
     if !metas.has_room(&meta) {
         return Err(Stop::NoMemory);
@@ -61,7 +64,9 @@ fn add_bytes(alloc: Global, metas: &mut Metas, name: &Text, bytes: &[u8]) -> Res
     ensures gives { Gives (λ _. metas.new) result (metas_in metas.old name.now bytes.now) }
     ensures some { OnOk result (0 < length metas.new.metamodels) }
     ensures element { OnOk result (metas.new.element ≡ metas.old.element) }
+    ensures named { AreAllNamed metas.old → OnOk result (AreAllNamed metas.new) }
 {
+    meta_has_name();
     match read_meta(alloc, bytes) {
         Err(why) => Err(meta_stop(alloc, name, why)),
         Ok(meta) => add_metamodel(alloc, metas, name, meta),
@@ -78,6 +83,7 @@ pub fn read_metamodel<F: Files>(
     ensures follows { Follows (λ _. metas.new) (metamodel_read metas.old name.now) (F.seen files.old) result (F.seen files.new) }
     ensures some { OnOk result (0 < length metas.new.metamodels) }
     ensures element { OnOk result (metas.new.element ≡ metas.old.element) }
+    ensures named { AreAllNamed metas.old → OnOk result (AreAllNamed metas.new) }
 {
     match fetch(alloc, files, name, 1_048_576) {
         Err(stop) => Err(stop),
@@ -93,6 +99,7 @@ pub fn read_metamodels<F: Files>(
 ) -> Result<Metas, Stop>
     ensures follows { Follows (λ metas. metas) (metamodels_read names.now) (F.seen files.old) result (F.seen files.new) }
     ensures element { IfOk result (λ metas. metas.element ≡ None) }
+    ensures named { IfOk result (λ metas. AreAllNamed metas) }
 {
     let mut metas = Metas::new(alloc);
     for name in names {

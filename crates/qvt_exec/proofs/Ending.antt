@@ -2,14 +2,14 @@
 use Rattle.std.proofs.Common.{◌≡◌, ◌≢◌, ◌∙◌, ◌^◌, ◌-◌, min, ℕ, List, [], ◌∷◌, map, Result, Ok, Err, refl, sym, ap, arith}
 use Rattle.qvt_slots.specs.Contents.{Contents}
 use Rattle.qvt_run_data.specs.declared.exit.End.{End}
-use Rattle.qvt_run_data.specs.declared.late.LateValue.{LateValue}
 use Rattle.qvt_run_data.specs.declared.late.LateWrite.{LateWrite}
 use Rattle.qvt_run_data.specs.declared.record.Record.{Record}
+use Rattle.qvt_run_rules.specs.State.{State}
 use Rattle.qvt_meaning.specs.Laws.{after_requests}
 use Rattle.qvt_meaning.specs.Run as run
 use Rattle.qvt_typing.specs.Accepts.{ProgramTerm}
 use Rattle.qvt_exec.specs.Entries.{entry_view}
-use Rattle.qvt_exec.specs.Finish.{Finishes, left}
+use Rattle.qvt_exec.specs.Finish.{Finishes}
 use Rattle.qvt_exec.specs.Patches.{PatchesAll, value_of}
 use Rattle.qvt_exec.specs.declared.entries.Entry.{Entry}
 use Rattle.qvt_exec.specs.declared.stop.Stop.{Stop}
@@ -23,24 +23,24 @@ values_same : (xs : List Entry) → map value_of xs ≡ map run.late_value (map 
 values_same [] = refl
 values_same (x ∷ xs) = ap (λ vs. value_of x ∷ vs) (values_same xs)
 
-module _ (p : ProgramTerm) (fuel : ℕ) (store s : Contents) (trace t : List Record) (writes : List LateWrite) (cost : ℕ) (xs : List Entry) (behind n : ℕ)
-    (same_trace : t ≡ trace) (same_store : s ≡ store) (told : n ≡ behind) where
+module _ (p : ProgramTerm) (fuel : ℕ) (z : State LateWrite) (s : Contents) (t : List Record) (ws : List LateWrite) (k : ℕ) (xs : List Entry) (behind n : ℕ)
+    (same_trace : t ≡ z.trace) (same_store : s ≡ z.store) (same_writes : ws ≡ z.entries) (same_cost : k ≡ z.cost) (told : n ≡ behind) where
   abbrev pub finish : run.Finish
-  finish = record { trace = trace; store = store }
+  finish = record { trace = z.trace; store = z.store }
 
-  abbrev pub es : Contents → List Record → List run.Entry
-  es store trace = map (run.answered p (record { trace = trace; store = store })) writes
+  abbrev pub es : Contents → List Record → List LateWrite → List run.Entry
+  es store trace writes = map (run.answered p (record { trace = trace; store = store })) writes
 
   -- the changes decide
-  pub carried : map entry_view xs ≡ es s t → run.walk fuel cost (es s t) ≡ Ok behind → (r : Result Contents End) → run.patched store (map value_of xs) ≡ r
-      → after_requests p fuel (left store trace writes cost) ≡ run.finished_as finish (map entry_view xs) n r
+  pub carried : map entry_view xs ≡ es s t ws → run.walk fuel k (es s t ws) ≡ Ok behind → (r : Result Contents End) → run.patched z.store (map value_of xs) ≡ r
+      → after_requests p fuel z ≡ run.finished_as finish (map entry_view xs) n r
   carried entries walked r patched =
-      (λ i. run.carried_out finish (es (sym same_store i) (sym same_trace i)) (run.walk fuel cost (es (sym same_store i) (sym same_trace i))))
-      ∙ ap (run.carried_out finish (es s t)) walked
-      ∙ (λ i. run.finished_as finish (sym entries i) (sym told i) (run.patched store (map run.late_value (sym entries i))))
-      ∙ ap (run.finished_as finish (map entry_view xs) n) (ap (run.patched store) (sym (values_same xs)) ∙ patched)
+      (λ i. run.carried_out finish (es (sym same_store i) (sym same_trace i) (sym same_writes i)) (run.walk fuel (sym same_cost i) (es (sym same_store i) (sym same_trace i) (sym same_writes i))))
+      ∙ ap (run.carried_out finish (es s t ws)) walked
+      ∙ (λ i. run.finished_as finish (sym entries i) (sym told i) (run.patched z.store (map run.late_value (sym entries i))))
+      ∙ ap (run.finished_as finish (map entry_view xs) n) (ap (run.patched z.store) (sym (values_same xs)) ∙ patched)
 
-  pub stopped : (x : Stop) (new : Contents) → map entry_view xs ≡ es s t → run.walk fuel cost (es s t) ≡ Ok behind → PatchesAll store xs (Err x) new
-      → Finishes store (after_requests p fuel (left store trace writes cost)) (Err x)
+  pub stopped : (x : Stop) (new : Contents) → map entry_view xs ≡ es s t ws → run.walk fuel k (es s t ws) ≡ Ok behind → PatchesAll z.store xs (Err x) new
+      → Finishes z.store (after_requests p fuel z) (Err x)
   stopped (Ends e) new entries walked patched = carried entries walked (Err e) patched
   stopped NoMemory new entries walked patched = tt

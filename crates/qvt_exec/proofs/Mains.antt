@@ -6,7 +6,7 @@ use Rattle.qvt_meaning.specs.Units as of_units
 use Rattle.qvt_exec_answers.specs.declared.answering.Answering.{Answering}
 use Rattle.qvt_exec_answers.specs.Answering.{program_of}
 use Rattle.qvt_exec.specs.Calls.{calls_of, setting_of}
-use Rattle.qvt_exec.specs.Ran.{main_of}
+use Rattle.qvt_exec.specs.Mains.{main_of}
 
 pub main_is : (a : Answering) → main_of a ≡ of_units.body_of (setting_of a) (calls_of a 100) None (main_in (program_of a).module_.units)
 unfolding setting spend_of

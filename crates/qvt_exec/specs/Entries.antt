@@ -3,8 +3,6 @@ use Rattle.std.specs.Prelude.{◌≡◌, ℕ, List, ◌∷◌, map, Result, Ok, 
 use Rattle.qvt_base.specs.declared.numbers.Oid.{Oid}
 use Rattle.qvt_run_data.specs.declared.late.LateWrite.{LateWrite}
 use Rattle.qvt_run_data.specs.declared.exit.End.{End}
-use Rattle.qvt_run_data.specs.declared.exit.End.TheVariants.{Fault}
-use Rattle.qvt_run_data.specs.declared.fault.RunFault.TheVariants as fault
 use Rattle.qvt_run_rules.specs.Resolve as rule
 use Rattle.qvt_meaning.specs.Run as run
 use Rattle.qvt_exec_answers.specs.Answering.{program_of}

@@ -3,7 +3,7 @@ pub mod Comes
 pub mod Entries
 pub mod Finish
 pub mod Knot
+pub mod Mains
 pub mod Patches
-pub mod Ran
 pub mod Routines
 pub mod Stay

@@ -45,6 +45,20 @@ impl Drop for Entry {
     }
 }
 
+impl Entry {
+    /// What was kept, and the objects that were written.
+    pub fn into_parts(self) -> (LateWrite, OidList)
+        ensures { result ≡ (self.write, self.objects) }
+    {
+        let Entry {
+            write,
+            objects,
+            cost,
+        } = self;
+        (write, objects)
+    }
+}
+
 /// The trace and the store that `main` left, over which late entries are answered.
 #[derive(Clone, Copy)]
 pub struct Ended<'f> {

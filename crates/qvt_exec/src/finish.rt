@@ -2,8 +2,10 @@
 
 ghost use Rattle.qvt_exec_answers.specs.Table.{IsTable};
 ghost use Rattle.qvt_meaning.specs.Laws.{after_requests};
+ghost use Rattle.qvt_live_store.specs.Held.{contents_of};
+ghost use Rattle.qvt_exec_state.specs.Runs.{seen};
 ghost use Rattle.qvt_exec_answers.specs.Answering.{program_of};
-ghost use Rattle.qvt_exec.specs.Finish.{Finishes, left};
+ghost use Rattle.qvt_exec.specs.Finish.{Finishes};
 
 use crate::entries::{Ended, Entry};
 use crate::patches::patch_all;
@@ -12,23 +14,21 @@ use crate::walk::walk;
 use qvt_base::seq::Seq;
 use qvt_exec_answers::answering::Answering;
 use qvt_exec_state::cost::Cost;
-use qvt_live_store::live::LiveStore;
-use qvt_run_data::late::LateWrite;
-use qvt_run_data::record::Record;
+use qvt_exec_state::state::RunState;
+use std::mem;
 
-/// A run that has ended well: the store with its late entries written, the trace, the entries, and the cost.
-pub struct Finished {
-    pub after: LiveStore,
-    pub trace: Seq<Record>,
+/// A run that has ended well: the state that it left, with its late entries written into the store; the entries; and the
+/// cost.
+pub struct Finished<'s> {
+    pub state: RunState<'s>,
     pub entries: Seq<Entry>,
     pub cost: u64,
 }
 
-impl Drop for Finished {
+impl Drop for Finished<'_> {
     fn drop(self) {
         let Finished {
-            after,
-            trace,
+            state,
             entries,
             cost,
         } = self;
@@ -37,31 +37,25 @@ impl Drop for Finished {
 
 /// What comes of a run behind its last statement, by what it left: each entry is answered over the store before
 /// any is written. A cost that 64 bits do not hold is told as want of memory.
-pub fn finish(
-    a: &Answering<'_, '_>,
-    store: LiveStore,
-    trace: Seq<Record>,
-    writes: Seq<LateWrite>,
-    cost: Cost,
-) -> Result<Finished, Stop>
+pub fn finish<'s>(a: &Answering<'_, '_>, state: RunState<'s>) -> Result<Finished<'s>, Stop>
     requires { IsTable a.now.expressions.now }
-    ensures { Finishes store (after_requests (program_of a.now) a.now.fuel (left store trace writes cost)) result }
+    ensures { Finishes (contents_of state.entry.store) (after_requests (program_of a.now) a.now.fuel (seen state.entry)) result }
 {
-    let mut cost = cost;
+    let mut state = state;
+    let writes = mem::replace(&mut state.entries, Seq::new(a.alloc));
+    let mut cost = mem::replace(&mut state.cost, Cost::new(a.alloc));
     let ended = Ended {
-        trace: trace.as_slice(),
-        store: store.as_store(),
+        trace: state.trace.as_slice(),
+        store: state.store.as_store(),
     };
     let entries = walk(a, &ended, writes, &mut cost)?;
     let cost = cost.told();
     if cost == u64::MAX {
         return Err(Stop::NoMemory);
     }
-    let mut after = store;
-    match patch_all(a.alloc, entries.as_slice(), &mut after) {
+    match patch_all(a.alloc, entries.as_slice(), &mut state.store) {
         Ok(()) => Ok(Finished {
-            after,
-            trace,
+            state,
             entries,
             cost,
         }),

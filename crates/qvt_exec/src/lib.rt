@@ -11,7 +11,6 @@ mod knot;
 pub mod laws;
 mod main_body;
 mod patches;
-mod ran;
 mod routine_at;
 mod routines;
 pub mod run;

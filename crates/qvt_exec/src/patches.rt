@@ -5,6 +5,7 @@ ghost use Rattle.qvt_value.specs.declared.value.Value.{Obj};
 ghost use Rattle.qvt_run_rules.specs.Store.{fault_of};
 ghost use Rattle.qvt_slots.specs.Assign.{write};
 ghost use Rattle.qvt_slots.specs.Types.{IsAssignable};
+ghost use Rattle.qvt_live_store.specs.Held.{contents_of};
 ghost use Rattle.qvt_exec.specs.Patches.{Patches, PatchesAll, Writes};
 
 use crate::entries::Entry;
@@ -13,7 +14,7 @@ use qvt_base::list_fault::ListFault;
 use qvt_base::numbers::Oid;
 use qvt_base::seq::Seq;
 use qvt_exec_reads::fits::are_fit;
-use qvt_live_store::live::LiveStore;
+use qvt_live_store::held::Held;
 use qvt_run_data::exit::End;
 use qvt_run_data::fault::RunFault;
 use qvt_run_data::late::LateWrite;
@@ -47,9 +48,9 @@ fn fault_of(refusal: StoreFault) -> RunFault
 }
 
 /// Writes values that fit into the slot, or the fault of the refusal, at the sign of the assignment.
-fn write_fit(late: &LateWrite, values: &[Value], store: &mut LiveStore) -> Result<(), Stop>
-    requires { IsAssignable store.old late.now.object.0 late.now.feature.0 values.now }
-    ensures { Writes (write store.old late.now.object.0 late.now.feature.0 late.now.op values.now) late.now.place result store.new }
+fn write_fit(late: &LateWrite, values: &[Value], store: &mut Held<'_>) -> Result<(), Stop>
+    requires { IsAssignable (contents_of store.old) late.now.object.0 late.now.feature.0 values.now }
+    ensures { Writes (write (contents_of store.old) late.now.object.0 late.now.feature.0 late.now.op values.now) late.now.place result (contents_of store.new) }
 {
     match store.write(late.object, late.feature, late.op, values) {
         Ok(()) => Ok(()),
@@ -60,8 +61,8 @@ fn write_fit(late: &LateWrite, values: &[Value], store: &mut LiveStore) -> Resul
 
 /// Writes the objects of an entry into its slot, in one change with one refusal. A run keeps entries for slots
 /// alone that are there and take the class that is looked for; any other is told as want of memory.
-fn patch(alloc: Global, entry: &Entry, store: &mut LiveStore) -> Result<(), Stop>
-    ensures { Patches store.old entry.now result store.new }
+fn patch(alloc: Global, entry: &Entry, store: &mut Held<'_>) -> Result<(), Stop>
+    ensures { Patches (contents_of store.old) entry.now result (contents_of store.new) }
 {
     let late = &entry.write;
     let values = values_of(alloc, entry.objects.as_slice())?;
@@ -78,8 +79,8 @@ fn patch(alloc: Global, entry: &Entry, store: &mut LiveStore) -> Result<(), Stop
 }
 
 /// Writes all entries in order, up to the first that is refused.
-pub fn patch_all(alloc: Global, entries: &[Entry], store: &mut LiveStore) -> Result<(), Stop>
-    ensures { PatchesAll store.old entries.now result store.new }
+pub fn patch_all(alloc: Global, entries: &[Entry], store: &mut Held<'_>) -> Result<(), Stop>
+    ensures { PatchesAll (contents_of store.old) entries.now result (contents_of store.new) }
 {
     for entry in entries {
         patch(alloc, entry, store)?;

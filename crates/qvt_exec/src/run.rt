@@ -1,69 +1,99 @@
-//! A run of a program (QVT 1.3, 8.1.10 for what is late): `main`, then the answers of the late entries, then their
-//! changes.
+//! A run of a program (QVT 1.3, 8.2.1.3 for `main`, 8.1.10 for what is late): `main`, outside all objects; then the
+//! answers of the late entries, then their changes.
 
-ghost use Rattle.qvt_meaning.specs.Laws.{after_requests, from_requests};
+ghost use Rattle.std.specs.Prelude.{◌≡◌, None};
+ghost use Rattle.qvt_types_nodes.specs.View.{typed_block_view};
+ghost use Rattle.qvt_meaning.specs.Laws.{from_requests};
 ghost use Rattle.qvt_meaning.specs.Run.{finished};
+ghost use Rattle.qvt_meaning.specs.Units as of_units;
 ghost use Rattle.qvt_run_data.specs.declared.late.LateWrite.{LateWrite};
 ghost use Rattle.qvt_run_rules.specs.State.{Done};
 ghost use Rattle.qvt_exec_state.specs.Runs.{Runs, seen};
 ghost use Rattle.qvt_exec_answers.specs.Table.{IsTable};
 ghost use Rattle.qvt_exec_answers.specs.Answering.{program_of};
-ghost use Rattle.qvt_exec.specs.Comes.{Comes};
+ghost use Rattle.qvt_exec.specs.Calls.{calls_of, setting_of};
+ghost use Rattle.qvt_exec.specs.Comes.{Comes, ending};
+ghost use Rattle.qvt_exec.specs.Mains.{main_of};
 
 use crate::finish::{Finished, finish};
-use crate::ran::{Ran, main_run};
+use crate::knot::run_block;
+use crate::main_body::main_body;
 use crate::stop::Stop;
+use qvt_base::seq::Seq;
 use qvt_exec_answers::answering::Answering;
+use qvt_exec_phrases::engine::Engine;
 use qvt_exec_state::state::RunState;
-use qvt_live_store::held::Held;
 use qvt_live_store::live::LiveStore;
 use qvt_meaning_laws::laws::one_pass;
 use qvt_run_data::exit::{Exit, Halt};
+use qvt_types_nodes::tree::TypedStmts;
 
-/// What comes of a state that `main` left. A store that is lent can't be changed; none is lent to a run.
-fn ended(a: &Answering<'_, '_>, state: RunState<'_>) -> Result<Finished, Stop>
+/// A block whose `return` gives any value, outside all calls.
+#[tactic(auto, unfolding(qvt_exec_phrases::specs::Means::stmts_of))]
+fn free_block(
+    a: &Answering<'_, '_>,
+    nodes: &TypedStmts,
+    state: &mut RunState<'_>,
+) -> Result<(), Halt>
     requires { IsTable a.now.expressions.now }
-    ensures { Comes (after_requests (program_of a.now) a.now.fuel (seen state)) result }
+    ensures { Runs (of_units.body_of (setting_of a.now) (calls_of a.now 100) None (typed_block_view nodes.now) (seen state.old)) result state.new }
 {
-    let RunState {
-        store,
-        locals,
-        inner,
-        trace,
-        keys,
-        entries,
-        cost,
-    } = state;
-    match store {
-        Held::Own(store) => finish(a, store, trace, entries, cost),
-        Held::Lent(_) => Err(Stop::NoMemory),
+    let none = None;
+    let x = Engine {
+        alloc: a.alloc,
+        limit: Some(a.fuel),
+        is_plain: false,
+        answer: &none,
+    };
+    run_block(a, &x, nodes, state)
+}
+
+/// `main`: a `return` ends it.
+#[tactic(auto, using(crate::proofs::Mains::main_is))]
+fn run_main(a: &Answering<'_, '_>, state: &mut RunState<'_>) -> Result<(), Halt>
+    requires { IsTable a.now.expressions.now }
+    ensures { Runs (main_of a.now (seen state.old)) result state.new }
+{
+    let none = Seq::new(a.alloc);
+    free_block(a, main_body(a.expressions.program(), &none), state)
+}
+
+/// What ends a run before its late entries are answered, if anything does: a `return` ends `main` as its last statement
+/// does.
+fn ending(outcome: &Result<(), Halt>) -> Result<(), Stop>
+    ensures { result ≡ ending outcome.now }
+{
+    match outcome {
+        Ok(()) => Ok(()),
+        Err(Halt::Exits(Exit::Returned(_))) => Ok(()),
+        Err(Halt::Exits(Exit::Ends(end))) => Err(Stop::Ends(*end)),
+        Err(Halt::NoMemory) => Err(Stop::NoMemory),
     }
 }
 
-/// What comes of a run: a `return` ends `main` as its last statement does.
-fn behind_main(
+/// What comes of a run behind `main`.
+fn behind_main<'s>(
     a: &Answering<'_, '_>,
-    outcome: Result<(), Halt>,
-    state: RunState<'_>,
-) -> Result<Finished, Stop>
+    outcome: &Result<(), Halt>,
+    state: RunState<'s>,
+) -> Result<Finished<'s>, Stop>
     requires { IsTable a.now.expressions.now }
-    ensures { (main : Done LateWrite (Unit {0})) → Runs main outcome state → Comes (from_requests (program_of a.now) a.now.fuel main.0 main.1) result }
+    ensures { (main : Done LateWrite (Unit {0})) → Runs main outcome.now state.entry → Comes (from_requests (program_of a.now) a.now.fuel main.0 main.1) result }
 {
-    match outcome {
-        Ok(()) => ended(a, state),
-        Err(Halt::Exits(Exit::Returned(_))) => ended(a, state),
-        Err(Halt::Exits(Exit::Ends(end))) => Err(Stop::Ends(end)),
-        Err(Halt::NoMemory) => Err(Stop::NoMemory),
+    match ending(outcome) {
+        Ok(()) => finish(a, state),
+        Err(stop) => Err(stop),
     }
 }
 
 /// The run of a program over a loaded store: what it leaves, or what ends it. A cost that 64 bits do not hold is told
 /// as want of memory.
-pub fn run(a: &Answering<'_, '_>, store: LiveStore) -> Result<Finished, Stop>
+pub fn run<'s>(a: &Answering<'_, '_>, store: LiveStore) -> Result<Finished<'s>, Stop>
     requires { IsTable a.now.expressions.now }
     ensures { Comes (finished (program_of a.now) store a.now.fuel) result }
 {
     one_pass();
-    let Ran { outcome, state } = main_run(a, store);
-    behind_main(a, outcome, state)
+    let mut state = RunState::of_run(a.alloc, store);
+    let outcome = run_main(a, &mut state);
+    behind_main(a, &outcome, state)
 }

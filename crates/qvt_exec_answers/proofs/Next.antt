@@ -1,5 +1,5 @@
 -- Answers, candidate by candidate.
-use Rattle.std.proofs.Common.{nat_lt, Option, Some, None, subst, drop, drop-cons, get_or, length, suc, ◌<◌, ◌≤◌, ◌≡◌, ◌∙◌, ◌+◌, ◌-◌, ℕ, Bool, true, false, List, [], ◌∷◌, ◌++◌, sym, ap, arith}
+use Rattle.std.proofs.Common.{nat_lt, Option, Some, None, subst, drop, drop-cons, get_or, length, suc, ◌<◌, ◌≤◌, ◌≡◌, ◌∙◌, ◌+◌, ℕ, Bool, true, false, List, [], ◌∷◌, ◌++◌, sym, ap, arith}
 use Rattle.qvt_base.specs.declared.numbers.Oid.{Oid}
 use Rattle.qvt_run_rules.specs.Resolve as rule
 use Rattle.qvt_exec_answers.specs.Room.{IsSum}

@@ -6,6 +6,7 @@ use Rattle.qvt_run_data.specs.declared.exit.Exit.{Exit}
 use Rattle.qvt_run_data.specs.declared.exit.Exit.TheVariants.{Returned, Ends}
 use Rattle.qvt_run_data.specs.declared.record.Record.{Record}
 use Rattle.qvt_run_rules.specs.State.{State}
+use Rattle.qvt_live_store.specs.Held.{contents_of}
 use Rattle.qvt_meaning.specs.Accepts.{ProgramTerm}
 use Rattle.qvt_meaning.specs.Run as run
 use Rattle.qvt_trace_text.specs.Written.{written_entry}
@@ -72,11 +73,11 @@ entries_same stay before after records es is = among es
     among [] = refl
     among (x ∷ xs) = λ i. one x i ∷ among xs i
 
-pub entries_left : CandidatesStay → (before : Contents) (f : Finished) (s : Contents) (records : List Record) (es : List Entry) (ws : List WrittenEntry)
-    → run.patched before (map value_of f.entries) ≡ Ok f.after → s ≡ f.after → records ≡ f.trace → es ≡ f.entries → ws ≡ map (entry_with records s) es
-    → map (written_entry (record { trace = f.trace; store = before })) (map entry_view f.entries) ≡ ws
-entries_left stay before f s records es ws is store trace same made =
-    entries_same stay before f.after f.trace f.entries is ∙ sym (made ∙ (λ i. map (entry_with (trace i) (store i)) (same i)))
+-- the entries that were written, as the code has found them
+pub entries_left : CandidatesStay → (before after s : Contents) (trace records : List Record) (kept es : List Entry) (ws : List WrittenEntry) → run.patched before (map value_of kept) ≡ Ok after
+    → s ≡ after → records ≡ trace → es ≡ kept → ws ≡ map (entry_with records s) es → map (written_entry (record { trace = trace; store = before })) (map entry_view kept) ≡ ws
+entries_left stay before after s trace records kept es ws is store same_trace same made =
+    entries_same stay before after trace kept is ∙ sym (made ∙ (λ i. map (entry_with (same_trace i) (store i)) (same i)))
 
 values_same : (es : List Entry) → map value_of es ≡ map run.late_value (map entry_view es)
 values_same [] = refl
@@ -85,7 +86,7 @@ values_same (e ∷ es) = λ i. value_of e ∷ values_same es i
 module _ (job : Job) (p : ProgramTerm) (ids : List (Option (List ℕ))) (store : Contents) (x : Result Finished RunStop) where
   -- a run has ended well
   pub well_ended : (f : Finished) (plan : Result Plan Stop) → x ≡ Ok f → Comes (run.finished p store job.fuel) x
-      → ((before : Contents) → run.patched before (map value_of f.entries) ≡ Ok f.after → Gives outcome_of plan (left job p ids (means.outcome_of (Ok (finished_view before f)))))
+      → ((before : Contents) → run.patched before (map value_of f.entries) ≡ Ok (contents_of f.state.store) → Gives outcome_of plan (left job p ids (means.outcome_of (Ok (finished_view before f)))))
       → Gives outcome_of plan (left_over job p ids store)
   unfolding means.meaning
   well_ended f plan is comes gives =

@@ -11,16 +11,19 @@ ghost use Rattle.qvt_outcome.specs.Plans.{IsReady, outcome_of};
 ghost use Rattle.qvt_outcome.specs.Steps.{Gives, IfFaultOf, IsFaultWith, Stops};
 ghost use Rattle.qvt_types_program.specs.Program.{program_view};
 ghost use Rattle.qvt_exec.specs.Comes.{Comes};
+ghost use Rattle.qvt_live_store.specs.Held.{contents_of};
 ghost use Rattle.qvt_exec.specs.Finish.{finished_view};
 ghost use Rattle.qvt_exec.specs.Patches.{value_of};
 ghost use Rattle.qvt_outputs.specs.Left.{left};
 ghost use Rattle.qvt_exec_outputs.specs.Ends.{left_over};
 
 use crate::entries::written_entries;
+use qvt_base::seq::Seq;
 use qvt_exec::finish::Finished;
 use qvt_exec::laws::candidates_stay;
 use qvt_exec::stop::Stop as RunStop;
 use qvt_job::job::Job;
+use qvt_live_store::held::Held;
 use qvt_model::id_table::IdTable;
 use qvt_outcome::plan::Plan;
 use qvt_outcome::stop::Stop;
@@ -28,6 +31,7 @@ use qvt_outputs::left::{left_by, stopped_by};
 use qvt_outputs::run_end::RunEnd;
 use qvt_types_program::program::Program;
 use std::alloc::Global;
+use std::mem;
 
 /// What a run leaves that has ended well, and has written its entries into the store that its last statement left.
 fn finished_left(
@@ -35,20 +39,25 @@ fn finished_left(
     job: &Job,
     program: &Program,
     ids: &IdTable,
-    finished: Finished,
+    finished: Finished<'_>,
 ) -> Result<Plan, Stop>
-    ensures gives { (before : Contents) → rules.patched before (map value_of finished.entries) ≡ Ok finished.after → Gives outcome_of result (left job.now (program_view program.now) ids.now (meaning.outcome_of (Ok (finished_view before finished)))) }
+    ensures gives { (before : Contents) → rules.patched before (map value_of finished.entry.entries) ≡ Ok (contents_of finished.entry.state.store) → Gives outcome_of result (left job.now (program_view program.now) ids.now (meaning.outcome_of (Ok (finished_view before finished.entry)))) }
     ensures ready { IfOk result (λ plan. IsReady plan.outputs) }
     ensures no_reads { IfFaultOf result (λ file. ⊥) }
 {
     candidates_stay();
-    let (store, trace, entries, cost) = finished.into_parts();
-    let entries = written_entries(alloc, trace.as_slice(), &store, entries)?;
+    let mut finished = finished;
+    let kept = mem::replace(&mut finished.entries, Seq::new(alloc));
+    let Held::Own(store) = &finished.state.store else {
+        return Err(Stop::NoMemory);
+    };
+    let records = finished.state.trace.as_slice();
+    let entries = written_entries(alloc, records, store.as_store(), kept)?;
     let end = RunEnd {
-        store: &store,
-        records: trace.as_slice(),
+        store: store.as_store(),
+        records,
         entries: entries.as_slice(),
-        cost,
+        cost: finished.cost,
     };
     left_by(alloc, job, program, ids, &end)
 }
@@ -70,7 +79,7 @@ pub fn ended(
     job: &Job,
     program: &Program,
     ids: &IdTable,
-    run: Result<Finished, RunStop>,
+    run: Result<Finished<'_>, RunStop>,
 ) -> Result<Plan, Stop>
     ensures gives { (store : Contents) → Comes (rules.finished (program_view program.now) store job.now.fuel) run → Gives outcome_of result (left_over job.now (program_view program.now) ids.now store) }
     ensures ready { IfOk result (λ plan. IsReady plan.outputs) }

@@ -1,3 +1,4 @@
 pub mod Faults
+pub mod Ids
 pub mod Loads
 pub mod Apart

@@ -1,2 +1,3 @@
 pub mod Conforming
 pub mod Inputs
+pub mod Law

@@ -3,4 +3,5 @@
 
 pub mod conforming;
 pub mod inputs;
+pub mod laws;
 pub mod loaded;

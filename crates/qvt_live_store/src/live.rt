@@ -57,7 +57,8 @@ impl LiveStore {
     }
 
     pub fn as_store(&self) -> &Store
-        ensures { result.now ≡ self.now }
+        ensures value { result.now ≡ self.now }
+        ensures sound { Sound result.now }
     {
         &self.store
     }

@@ -3,7 +3,7 @@ use Rattle.qvt_metamodel.specs.declared.fault.MetasFault.TheVariants as metas
 use Rattle.qvt_outcome.specs.declared.refusal.Refusal.TheVariants as refusal
 use Rattle.qvt_outcome.specs.Steps.{or_refused}
 use Rattle.qvt_cli.specs.Metas.{with_metamodel}
-use Rattle.qvt_cli.proofs.Faults.{same_metamodel, some_metamodel}
+use Rattle.qvt_cli.proofs.Faults.{same_metamodel, some_metamodel, named_metamodel}
 use Rattle.qvt_outcome.proofs.Refused.{stops_at}
 use Rattle.qvt_cli.proofs.metas.add_metamodel.Goals as goal
 
@@ -13,3 +13,6 @@ returns-in-Err-clause-gives c = stops_at metas.NoMemory refusal.Metamodels c.arg
 
 pub returns-in-Ok-clause-some : goal.returns-in-Ok-clause-some
 returns-in-Ok-clause-some c = some_metamodel c.args.metas.now c.add.new.self c.args.meta c.in-Ok.ensures.ok
+
+pub returns-in-Ok-clause-named : goal.returns-in-Ok-clause-named
+returns-in-Ok-clause-named c named all = named_metamodel c.args.metas.now c.add.new.self c.args.meta c.in-Ok.ensures.ok named all

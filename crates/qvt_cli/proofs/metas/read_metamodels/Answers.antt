@@ -1,8 +1,9 @@
-use Rattle.std.proofs.Common.{◌∙◌, ap, arith, subst}
+use Rattle.std.proofs.Common.{◌∙◌, ap, sym, arith, subst}
 use Rattle.qvt_metamodel.specs.Metamodels.{Metamodels}
 use Rattle.qvt_outcome.specs.Chain.{folded}
 use Rattle.qvt_outcome.specs.Follows.{Follows}
 use Rattle.qvt_cli.specs.Metas.{metamodel_read, metamodels_read}
+use Rattle.qvt_program_inputs.specs.Law.{AreAllNamed}
 use Rattle.qvt_outcome.proofs.Folded.{fails, goes_on, ends}
 use Rattle.qvt_cli.proofs.metas.read_metamodels.Goals as goal
 
@@ -11,6 +12,7 @@ unfolding metamodels_read
 loop-name-init g c = record {
   follows = λ result new h. subst (λ (m : Metamodels). Follows (λ (metas : Metamodels). metas) (folded metamodel_read m c.args.names.now) (g.F.Files.seen c.args.files.now) result new) c.new-metas.ensures h;
   element = ap (λ (m : Metamodels). m.element) c.new-metas.ensures;
+  named = subst AreAllNamed (sym c.new-metas.ensures) tt;
 }
 
 pub returns-in-Err-clause-follows : goal.returns-in-Err-clause-follows
@@ -24,6 +26,7 @@ loop-name-preserved g c = record {
       c.loop-name.metas c.loop-name.name-index c.name-item.result c.in-Ok.field-0 (g.F.Files.seen c.loop-name.files) (g.F.Files.seen c.read_metamodel.new.files)
       c.loop-name-test.true c.name-item.is c.loop-name.invariant.follows c.in-Ok.ensures.follows;
   element = c.in-Ok.ensures.element ∙ c.loop-name.invariant.element;
+  named = c.in-Ok.ensures.named c.loop-name.invariant.named;
 }
 
 pub returns-clause-follows : goal.returns-clause-follows

@@ -1,4 +1,4 @@
-use Rattle.std.proofs.Common.{◌≡◌, Option, None, rules}
+use Rattle.std.proofs.Common.{◌≡◌, None, rules}
 use Rattle.std.proofs.lemmas.List.{get_or_default}
 use Rattle.qvt_exec_answers.specs.Weights.{test_of}
 use Rattle.qvt_exec_answers.proofs.Next.{past_at}
