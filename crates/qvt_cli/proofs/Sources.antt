@@ -20,6 +20,7 @@ not_utf8 bytes false isnt is = refl
 -- a file that is refused
 pub refused_stops : {A : Type 0} (name : List ℕ) (why : Refusal) (e : Stop) (r : Result A Outcome) → r ≡ Err (refused name why) → RefusedOrNoMemory name why e → Stops e r
 refused_stops name why (stop.Refused file cause) r is h = is ∙ (λ i. Err (refused (sym h.0 i) (sym h.1 i)))
+refused_stops name why (stop.Fault line) r is h = absurd h
 refused_stops name why (stop.OutOfFuel fuel) r is h = absurd h
 refused_stops name why (stop.Low model id feature) r is h = absurd h
 refused_stops name why (stop.ReadFault file) r is h = absurd h

@@ -10,6 +10,7 @@ use Rattle.qvt_live_store.specs.Held.{contents_of}
 use Rattle.qvt_meaning.specs.Accepts.{ProgramTerm}
 use Rattle.qvt_meaning.specs.Run as run
 use Rattle.qvt_trace_text.specs.Written.{written_entry}
+use Rattle.qvt_trace_text.specs.declared.entry.WrittenEntry.{WrittenEntry}
 use Rattle.qvt_exec.specs.Entries.{entry_view}
 use Rattle.qvt_exec.specs.Patches.{value_of}
 use Rattle.qvt_exec.specs.Stay.{CandidatesStay}
@@ -72,6 +73,12 @@ entries_same stay before after records es is = among es
     among [] = refl
     among (x ∷ xs) = λ i. one x i ∷ among xs i
 
+-- the entries that were written, as the code has found them
+pub entries_left : CandidatesStay → (before after s : Contents) (trace records : List Record) (kept es : List Entry) (ws : List WrittenEntry) → run.patched before (map value_of kept) ≡ Ok after
+    → s ≡ after → records ≡ trace → es ≡ kept → ws ≡ map (entry_with records s) es → map (written_entry (record { trace = trace; store = before })) (map entry_view kept) ≡ ws
+entries_left stay before after s trace records kept es ws is store same_trace same made =
+    entries_same stay before after trace kept is ∙ sym (made ∙ (λ i. map (entry_with (same_trace i) (store i)) (same i)))
+
 values_same : (es : List Entry) → map value_of es ≡ map run.late_value (map entry_view es)
 values_same [] = refl
 values_same (e ∷ es) = λ i. value_of e ∷ values_same es i
@@ -87,10 +94,16 @@ module _ (job : Job) (p : ProgramTerm) (ids : List (Option (List ℕ))) (store :
       subst (λ r. Gives outcome_of plan (left job p ids (means.outcome_of r))) (sym known.1)
       (gives known.0 (ap (run.patched known.0) (values_same f.entries) ∙ entries_are_written p store job.fuel (finished_view known.0 f) known.1))
 
-  -- a fault has ended it, or the end of the fuel
-  pub ended_by : (e : End) (stop : Stop) → x ≡ Err (end.Ends e) → Comes (run.finished p store job.fuel) x
-      → ((p : ProgramTerm) (ids : List (Option (List ℕ))) → Stops {A = Outcome} stop (left job p ids (means.outcome_of (Err e)))) → Stops {A = Outcome} stop (left_over job p ids store)
+  -- it is not finished
+  pub ended_early : (why : RunStop) (stop : Stop) → x ≡ Err why → Comes (run.finished p store job.fuel) x
+      → ((p : ProgramTerm) (ids : List (Option (List ℕ))) (r : Result run.Finished End) → Comes r (Err why) → Stops {A = Outcome} stop (left job p ids (means.outcome_of r)))
+      → Stops {A = Outcome} stop (left_over job p ids store)
   unfolding means.meaning
-  ended_by e stop is comes stops =
-      let known : Comes (run.finished p store job.fuel) (Err (end.Ends e)) = subst (Comes (run.finished p store job.fuel)) is comes in
-      subst (λ r. Stops {A = Outcome} stop (left job p ids (means.outcome_of r))) (sym known.1) (stops p ids)
+  ended_early why stop is comes stops = stops p ids (run.finished p store job.fuel) (subst (Comes (run.finished p store job.fuel)) is comes)
+
+-- a fault has ended it, or the end of the fuel
+pub ended_by : (job : Job) (p : ProgramTerm) (ids : List (Option (List ℕ))) (r : Result run.Finished End) (why : RunStop) (e : End) (stop : Stop) → why ≡ end.Ends e → Comes r (Err why)
+    → Stops {A = Outcome} stop (left job p ids (means.outcome_of (Err e))) → Stops {A = Outcome} stop (left job p ids (means.outcome_of r))
+ended_by job p ids r why e stop is comes stops =
+    let known : Comes r (Err (end.Ends e)) = subst (λ w. Comes r (Err w)) is comes in
+    subst (λ x. Stops {A = Outcome} stop (left job p ids (means.outcome_of x))) (sym known.1) stops

@@ -1,11 +1,14 @@
 //! What a run of the engine leaves.
 
-ghost use Rattle.std.specs.Prelude.{◌≡◌, IfOk, Ok, map};
+ghost use Rattle.std.specs.Prelude.{◌≡◌, Err, IfOk, List, Ok, Option, Result, map, ℕ};
 ghost use Rattle.qvt_store.specs.Contents.{Contents};
+ghost use Rattle.qvt_run_data.specs.declared.exit.End.{End};
+ghost use Rattle.qvt_meaning.specs.Accepts.{ProgramTerm};
 ghost use Rattle.qvt_meaning.specs.Run as rules;
 ghost use Rattle.qvt_meaning_report.specs.Meaning as meaning;
+ghost use Rattle.qvt_outcome.specs.Outcome.{Outcome};
 ghost use Rattle.qvt_outcome.specs.Plans.{IsReady, outcome_of};
-ghost use Rattle.qvt_outcome.specs.Steps.{Gives, IfFaultOf};
+ghost use Rattle.qvt_outcome.specs.Steps.{Gives, IfFaultOf, IsFaultWith, Stops};
 ghost use Rattle.qvt_types_program.specs.Program.{program_view};
 ghost use Rattle.qvt_exec.specs.Comes.{Comes};
 ghost use Rattle.qvt_live_store.specs.Held.{contents_of};
@@ -59,6 +62,17 @@ fn finished_left(
     left_by(alloc, job, program, ids, &end)
 }
 
+/// The end of a run that is not finished.
+fn unfinished(alloc: Global, job: &Job, why: RunStop) -> Stop
+    ensures stops { (p : ProgramTerm) (ids : List (Option (List ℕ))) (r : Result rules.Finished End) → Comes r (Err why) → Stops {A = Outcome} result (left job.now p ids (meaning.outcome_of r)) }
+    ensures no_reads { IsFaultWith result (λ file. ⊥) }
+{
+    match why {
+        RunStop::Ends(end) => stopped_by(alloc, job, end),
+        RunStop::NoMemory => Stop::NoMemory,
+    }
+}
+
 /// What a run of a job's program leaves, by how it ended: all that is to be written, or what ended it.
 pub fn ended(
     alloc: Global,
@@ -73,7 +87,6 @@ pub fn ended(
 {
     match run {
         Ok(finished) => finished_left(alloc, job, program, ids, finished),
-        Err(RunStop::Ends(end)) => Err(stopped_by(alloc, job, end)),
-        Err(RunStop::NoMemory) => Err(Stop::NoMemory),
+        Err(why) => Err(unfinished(alloc, job, why)),
     }
 }

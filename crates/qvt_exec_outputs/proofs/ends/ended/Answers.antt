@@ -1,0 +1,11 @@
+use Rattle.qvt_types_program.specs.Program.{program_view}
+use Rattle.qvt_exec_outputs.proofs.Ending.{ended_early, well_ended}
+use Rattle.qvt_exec_outputs.proofs.ends.ended.Goals as goal
+
+pub returns-in-Ok-clause-gives : goal.returns-in-Ok-clause-gives
+returns-in-Ok-clause-gives c = λ store comes.
+    well_ended c.args.job.now (program_view c.args.program.now) c.args.ids.now store c.args.run c.in-Ok.finished c.finished_left.result c.in-Ok.is comes c.finished_left.ensures.gives
+
+pub returns-in-Err-clause-gives : goal.returns-in-Err-clause-gives
+returns-in-Err-clause-gives c = λ store comes.
+    ended_early c.args.job.now (program_view c.args.program.now) c.args.ids.now store c.args.run c.in-Err.why c.unfinished.result c.in-Err.is comes c.unfinished.ensures.stops
