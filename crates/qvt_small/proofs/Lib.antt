@@ -1,3 +1,0 @@
-mod Alls
-mod Attributes
-pub mod Making

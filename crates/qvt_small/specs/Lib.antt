@@ -1,3 +1,0 @@
-pub mod SmallText
-pub mod SmallRun
-pub mod SmallStore
