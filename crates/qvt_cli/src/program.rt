@@ -11,9 +11,9 @@ ghost use Rattle.qvt_exec_outputs.specs.Ends.{left_over};
 ghost use Rattle.qvt_cli.specs.Run.{performed};
 
 use qvt_base::outside::Files;
-use qvt_exec::run::run;
-use qvt_exec_answers::answering::Answering;
+use qvt_exec_outputs::answering::Answering;
 use qvt_exec_outputs::ends::ended;
+use qvt_exec_outputs::run::run;
 use qvt_inputs::loaded::Loaded;
 use qvt_job::job::Job;
 use qvt_live_store::live::LiveStore;

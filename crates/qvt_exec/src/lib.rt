@@ -16,3 +16,5 @@ mod routines;
 pub mod run;
 pub mod stop;
 mod walk;
+
+pub use qvt_exec_answers::answering;

@@ -4,3 +4,5 @@
 pub mod ends;
 mod entries;
 pub mod laws;
+
+pub use qvt_exec::{answering, run};
