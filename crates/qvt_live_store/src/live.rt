@@ -57,8 +57,7 @@ impl LiveStore {
     }
 
     pub fn as_store(&self) -> &Store
-        ensures value { result.now ≡ self.now }
-        ensures sound { Sound result.now }
+        ensures { result.now ≡ self.now }
     {
         &self.store
     }
