@@ -81,7 +81,7 @@ pub fn ended(
     ids: &IdTable,
     run: Result<Finished<'_>, RunStop>,
 ) -> Result<Plan, Stop>
-    ensures gives { (store : Contents) → Comes (rules.finished (program_view program.now) store job.now.fuel) run → Gives outcome_of result (left_over job.now (program_view program.now) ids.now store) }
+    ensures gives { (store : Contents) → Comes (rules.finished (program_view program.now) store job.now.fuel) run.entry → Gives outcome_of result (left_over job.now (program_view program.now) ids.now store) }
     ensures ready { IfOk result (λ plan. IsReady plan.outputs) }
     ensures no_reads { IfFaultOf result (λ file. ⊥) }
 {
