@@ -61,3 +61,8 @@ typing_stops name f e r h is = go (refusal_in f) refl h
     go (Some why) one end =
         let other : f ≢ fault.NoMemory = λ none. (let q : Some why ≡ None = sym one ∙ ap refusal_in none in absurd cc) in
         refused_stops name (refusal.Typing why) e (or_refused refusal.Typing name r) (ap (or_refused refusal.Typing name) (the_refusal f why r one (is other))) end
+
+-- a program that is given is that of the tree
+pub not_refused : (name : List ℕ) (r : Result ProgramTerm Refusal) (p : ProgramTerm) → or_refused refusal.Typing name r ≡ Ok p → r ≡ Ok p
+not_refused name (Ok q) p e = cc
+not_refused name (Err why) p e = absurd (cc)
