@@ -1,3 +1,4 @@
 pub mod Faults
 pub mod Sources
 mod Typings
+pub mod Ending

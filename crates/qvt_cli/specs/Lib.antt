@@ -7,3 +7,5 @@ pub mod Run
 pub mod Typing
 pub mod Words
 pub mod Work
+pub mod Ends
+pub mod Entries

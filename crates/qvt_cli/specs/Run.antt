@@ -16,7 +16,7 @@ use Rattle.qvt_outcome.specs.Outcome.{Outcome, refused}
 use Rattle.qvt_outcome.specs.Steps.{or_refused}
 use Rattle.qvt_outcome.specs.Chain.{Chain, step, ◌>=>◌, read_step}
 use Rattle.qvt_program_inputs.specs.Start.{program_inputs}
-use Rattle.qvt_exec_outputs.specs.Ends.{left_over}
+use Rattle.qvt_cli.specs.Ends.{left_over}
 
 unfoldable pub job_in : List ℕ → List ℕ → Result Job Outcome
 job_in name bytes = or_refused refusal.Job name (job_of bytes)

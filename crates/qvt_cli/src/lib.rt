@@ -2,6 +2,9 @@
 #![tactic(auto)]
 
 pub mod check;
+pub mod ends;
+mod entries;
+pub mod laws;
 pub mod metas;
 pub mod print;
 pub mod program;

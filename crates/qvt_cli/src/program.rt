@@ -7,13 +7,13 @@ ghost use Rattle.qvt_outcome.specs.Follows.{Follows};
 ghost use Rattle.qvt_outcome.specs.Plans.{outcome_of, IsReady};
 ghost use Rattle.qvt_outcome.specs.Steps.{Gives, IfFaultOf};
 ghost use Rattle.qvt_program_inputs.specs.Start.{CanLoad};
-ghost use Rattle.qvt_exec_outputs.specs.Ends.{left_over};
+ghost use Rattle.qvt_cli.specs.Ends.{left_over};
 ghost use Rattle.qvt_cli.specs.Run.{performed};
 
+use crate::ends::ended;
 use qvt_base::outside::Files;
-use qvt_exec_outputs::answering::Answering;
-use qvt_exec_outputs::ends::ended;
-use qvt_exec_outputs::run::run;
+use qvt_exec::answering::Answering;
+use qvt_exec::run::run;
 use qvt_inputs::loaded::Loaded;
 use qvt_job::job::Job;
 use qvt_live_store::live::LiveStore;

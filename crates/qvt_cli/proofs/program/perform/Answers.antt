@@ -6,7 +6,7 @@ use Rattle.qvt_outcome.specs.Plans.{outcome_of}
 use Rattle.qvt_outcome.specs.Chain.{step}
 use Rattle.qvt_types_program.specs.Program.{program_view}
 use Rattle.qvt_program_inputs.specs.Start.{program_inputs}
-use Rattle.qvt_exec_outputs.specs.Ends.{left_over}
+use Rattle.qvt_cli.specs.Ends.{left_over}
 use Rattle.qvt_cli.specs.Run.{performed}
 use Rattle.qvt_outcome.proofs.Chained.{stopped, stepped}
 use Rattle.qvt_cli.proofs.program.perform.Goals as goal

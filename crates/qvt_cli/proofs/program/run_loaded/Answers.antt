@@ -4,9 +4,9 @@ use Rattle.qvt_types_program.specs.Program.{program_view}
 use Rattle.qvt_types_program.specs.declared.program.Program.{Program}
 use Rattle.qvt_outcome.specs.Plans.{outcome_of}
 use Rattle.qvt_outcome.specs.Steps.{Gives}
-use Rattle.qvt_exec_outputs.specs.Comes.{Comes}
-use Rattle.qvt_exec_outputs.specs.Ends.{left_over}
-use Rattle.qvt_exec_outputs.specs.Run.{finished}
+use Rattle.qvt_exec.specs.Comes.{Comes}
+use Rattle.qvt_cli.specs.Ends.{left_over}
+use Rattle.qvt_meaning.specs.Run.{finished}
 use Rattle.qvt_cli.proofs.program.run_loaded.Goals as goal
 
 pub returns-clause-gives : goal.returns-clause-gives

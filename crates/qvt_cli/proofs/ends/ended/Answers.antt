@@ -1,6 +1,6 @@
 use Rattle.qvt_types_program.specs.Program.{program_view}
-use Rattle.qvt_exec_outputs.proofs.Ending.{ended_early, well_ended}
-use Rattle.qvt_exec_outputs.proofs.ends.ended.Goals as goal
+use Rattle.qvt_cli.proofs.Ending.{ended_early, well_ended}
+use Rattle.qvt_cli.proofs.ends.ended.Goals as goal
 
 pub returns-in-Ok-clause-gives : goal.returns-in-Ok-clause-gives
 returns-in-Ok-clause-gives c = λ store comes.

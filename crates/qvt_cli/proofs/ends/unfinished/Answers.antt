@@ -1,5 +1,5 @@
-use Rattle.qvt_exec_outputs.proofs.Ending.{ended_by}
-use Rattle.qvt_exec_outputs.proofs.ends.unfinished.Goals as goal
+use Rattle.qvt_cli.proofs.Ending.{ended_by}
+use Rattle.qvt_cli.proofs.ends.unfinished.Goals as goal
 
 pub returns-in-Ends-clause-stops : goal.returns-in-Ends-clause-stops
 returns-in-Ends-clause-stops c = λ p ids r comes.

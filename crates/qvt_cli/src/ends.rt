@@ -15,7 +15,7 @@ ghost use Rattle.qvt_live_store.specs.Held.{contents_of};
 ghost use Rattle.qvt_exec.specs.Finish.{finished_view};
 ghost use Rattle.qvt_exec.specs.Patches.{value_of};
 ghost use Rattle.qvt_outputs.specs.Left.{left};
-ghost use Rattle.qvt_exec_outputs.specs.Ends.{left_over};
+ghost use Rattle.qvt_cli.specs.Ends.{left_over};
 
 use crate::entries::written_entries;
 use qvt_base::seq::Seq;

@@ -1,6 +1,6 @@
 //! What a run has written. The function does nothing: its contract is the law.
 
-ghost use Rattle.qvt_exec_outputs.specs.Entries.{EntriesAreWritten};
+ghost use Rattle.qvt_cli.specs.Entries.{EntriesAreWritten};
 
 /// A run that has ended well has written its late entries in order.
 #[tactic(auto, using(crate::proofs::Ending::entries_are_written))]

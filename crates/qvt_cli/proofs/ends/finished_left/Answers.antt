@@ -1,8 +1,8 @@
 use Rattle.std.proofs.Common.{◌∙◌, ap, refl, sym}
 use Rattle.qvt_live_store.specs.Held.{contents_of}
 use Rattle.qvt_exec.specs.Finish.{finished_view}
-use Rattle.qvt_exec_outputs.proofs.Ending.{entries_left}
-use Rattle.qvt_exec_outputs.proofs.ends.finished_left.Goals as goal
+use Rattle.qvt_cli.proofs.Ending.{entries_left}
+use Rattle.qvt_cli.proofs.ends.finished_left.Goals as goal
 
 pub returns-clause-gives : goal.returns-clause-gives
 returns-clause-gives c = λ before is.

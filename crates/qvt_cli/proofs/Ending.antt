@@ -28,8 +28,8 @@ use Rattle.qvt_outcome.specs.Steps.{Gives, Stops}
 use Rattle.qvt_outcome.specs.declared.plan.Plan.{Plan}
 use Rattle.qvt_outcome.specs.declared.stop.Stop.{Stop}
 use Rattle.qvt_outputs.specs.Left.{left}
-use Rattle.qvt_exec_outputs.specs.Ends.{left_over}
-use Rattle.qvt_exec_outputs.specs.Entries.{EntriesAreWritten, entry_with}
+use Rattle.qvt_cli.specs.Ends.{left_over}
+use Rattle.qvt_cli.specs.Entries.{EntriesAreWritten, entry_with}
 
 abbrev HasWritten : run.Finished → Type 0
 HasWritten f = run.patched f.finish.store (map run.late_value f.entries) ≡ Ok f.after

@@ -1,7 +1,7 @@
 //! Late entries with what they found.
 
 ghost use Rattle.std.specs.Prelude.{◌≡◌, IfOk, map};
-ghost use Rattle.qvt_exec_outputs.specs.Entries.{entry_with};
+ghost use Rattle.qvt_cli.specs.Entries.{entry_with};
 
 use qvt_base::list_fault::ListFault;
 use qvt_base::seq::Seq;
