@@ -22,9 +22,9 @@ use qvt_value::value::{Value, Values};
 /// How many calls of units may be open.
 pub const DEPTH: u32 = 100;
 
-/// How many phrases and calls may stand inside one another in a run. It guards the stack: a phrase that would
+/// How many phrases and calls may stand inside one another in a run. It guards the stack of 8 MiB: a phrase that would
 /// stand deeper is told as want of memory. A call goes on with what is left of it.
-pub const PHRASES: u32 = 4000;
+pub const PHRASES: u32 = 1400;
 
 /// What an expression gives, where so many calls may be open and so many phrases are left.
 #[cycle(run)]
