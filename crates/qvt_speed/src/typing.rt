@@ -36,8 +36,7 @@ fn is_accepted(alloc: Global, text: &str, metas: &Metas) -> bool
     }
 }
 
-/// How many microseconds it took to read the transformation, and how many to accept it. Neither the tree nor the program is let go of
-/// meanwhile.
+/// How many microseconds it took to read the transformation, and how many to accept it.
 fn taken<R: Clock>(rt: &R, alloc: Global, text: &str, metas: &Metas) -> Option<(u128, u128)>
     requires short { length text.now + 1 < 2 ^ 32 }
     requires element { metas.now.element ≡ None }
@@ -46,9 +45,9 @@ fn taken<R: Clock>(rt: &R, alloc: Global, text: &str, metas: &Metas) -> Option<(
     let module = parse(alloc, text).ok()?;
     let read = reading.elapsed(rt).ok()?;
     let typing = Instant::now(rt).ok()?;
-    let answer = accept(alloc, &module, metas);
+    let is_good = accept(alloc, &module, metas).is_ok();
     let typed = typing.elapsed(rt).ok()?;
-    if answer.is_err() {
+    if !is_good {
         return None;
     }
     Some((read.as_micros(), typed.as_micros()))

@@ -2,4 +2,5 @@
 #![tactic(auto)]
 
 pub mod exprs;
+mod room;
 pub mod stmts;
