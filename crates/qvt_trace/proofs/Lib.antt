@@ -1,0 +1,4 @@
+mod Found
+mod Indexed
+pub mod Numbers
+mod Same
