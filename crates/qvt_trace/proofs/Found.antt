@@ -11,8 +11,8 @@ use Rattle.qvt_base.specs.declared.numbers.Oid.{Oid}
 use Rattle.qvt_value.specs.declared.value.Value.{Value}
 use Rattle.qvt_run_data.specs.declared.record.Record.{Record}
 use Rattle.qvt_run_rules.specs.Trace.{same_end, same_key, same_values}
-use Rattle.qvt_trace.specs.Hashes.{key_hash}
-use Rattle.qvt_trace.specs.Keys.{is_of, has_hash}
+use Rattle.qvt_trace.specs.Hashes.{has_hash, key_hash}
+use Rattle.qvt_trace.specs.Keys.{is_of}
 use Rattle.qvt_trace.specs.Numbers.{numbers_from, numbers}
 use Rattle.qvt_trace.proofs.Numbers.{numbers_both}
 use Rattle.qvt_trace.proofs.Same.{end_is, values_are}

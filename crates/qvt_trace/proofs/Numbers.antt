@@ -26,7 +26,7 @@ numbers_more test xs x w e = numbers_append test 0 xs (x ∷ []) ∙ by (test x)
 
 -- ---- the items with the numbers
 
-record After {X : Type 0} (whole : List X) (n : ℕ) (x : X) (xs : List X) : Type 0 where
+pub record After {X : Type 0} (whole : List X) (n : ℕ) (x : X) (xs : List X) : Type 0 where
   pub here : slice_get whole n ≡ Some x
   pub rest : drop (n + 1) whole ≡ xs
   pub within : n < length whole
@@ -39,7 +39,7 @@ tail_of : {X : Type 0} → List X → List X
 tail_of [] = []
 tail_of (x ∷ xs) = xs
 
-after : {X : Type 0} (whole : List X) (n : ℕ) (x : X) (xs : List X) → drop n whole ≡ x ∷ xs → After whole n x xs
+pub after : {X : Type 0} (whole : List X) (n : ℕ) (x : X) (xs : List X) → drop n whole ≡ x ∷ xs → After whole n x xs
 unfolding head_or tail_of
 after whole n x xs h =
     let k : length (drop n whole) ≡ length (x ∷ xs) = ap length h in

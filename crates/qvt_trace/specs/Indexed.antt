@@ -3,7 +3,7 @@ use Rattle.std.specs.Prelude.{◌≡◌, ℕ, ◌==◌, Bool, List, Option, nat_
 use Rattle.std.specs.Option.{option_eq}
 use Rattle.qvt_base.specs.declared.numbers.Oid.{Oid}
 use Rattle.qvt_run_data.specs.declared.record.Record.{Record}
-use Rattle.qvt_trace.specs.Keys.{has_hash}
+use Rattle.qvt_trace.specs.Hashes.{has_hash}
 use Rattle.qvt_trace.specs.Numbers.{numbers}
 use Rattle.qvt_trace.specs.Tables.{kept}
 use Rattle.qvt_trace.specs.declared.table.Table.{Table}

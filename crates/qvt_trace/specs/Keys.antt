@@ -1,11 +1,10 @@
 -- What records are looked up by (QVT 1.3, 8.1.12): their keys, and their ends.
-use Rattle.std.specs.Prelude.{ℕ, ◌==◌, Bool, List, Option, Some}
+use Rattle.std.specs.Prelude.{Bool, List, Option, Some}
 use Rattle.qvt_base.specs.declared.numbers.MappingNo.{MappingNo}
 use Rattle.qvt_base.specs.declared.numbers.Oid.{Oid}
 use Rattle.qvt_value.specs.declared.value.Value.{Value}
 use Rattle.qvt_run_data.specs.declared.record.Record.{Record}
 use Rattle.qvt_run_rules.specs.Trace.{key_of, same_end, same_key}
-use Rattle.qvt_trace.specs.Hashes.{key_hash}
 
 -- the record is of a call of this mapping, on this context, with these arguments
 abbrev pub is_of : MappingNo → Option Oid → List Value → Record → Bool
@@ -16,7 +15,3 @@ has_context o r = same_end r.context (Some o)
 
 abbrev pub has_result : Oid → Record → Bool
 has_result o r = same_end r.result (Some o)
-
--- its key has this hash
-abbrev pub has_hash : ℕ → Record → Bool
-has_hash h r = key_hash r.mapping r.context r.args == h

@@ -48,8 +48,8 @@ impl Model for Trace {
 
 impl Trace {
     ghost use Rattle.std.specs.Prelude.{◌≡◌, ◌<◌, [], ◌∷◌, ◌++◌, length, slice_get, position, All, Some, IfOk, IfSome, OnOk, OnErr};
-    ghost use Rattle.qvt_trace.specs.Hashes as hashes;
-    ghost use Rattle.qvt_trace.specs.Keys.{is_of, has_context, has_hash, has_result};
+    ghost use Rattle.qvt_trace.specs.Hashes.{has_hash};
+    ghost use Rattle.qvt_trace.specs.Keys.{is_of, has_context, has_result};
     ghost use Rattle.qvt_trace.specs.Numbers.{numbers};
 
     /// No records. It takes no memory.
