@@ -51,11 +51,11 @@ fn finished_left(
     let Held::Own(store) = &finished.state.store else {
         return Err(Stop::NoMemory);
     };
-    let records = finished.state.trace.as_slice();
-    let entries = written_entries(alloc, records, store.as_store(), kept)?;
+    let trace = &finished.state.trace;
+    let entries = written_entries(alloc, trace, store.as_store(), kept)?;
     let end = RunEnd {
         store: store.as_store(),
-        records,
+        records: trace.as_slice(),
         entries: entries.as_slice(),
         cost: finished.cost,
     };

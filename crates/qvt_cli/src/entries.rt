@@ -7,21 +7,21 @@ use qvt_base::list_fault::ListFault;
 use qvt_base::seq::Seq;
 use qvt_exec::entries::Entry;
 use qvt_exec_resolves::candidates::candidates;
-use qvt_run_data::record::Record;
 use qvt_store::store::Store;
+use qvt_trace::trace::Trace;
 use qvt_trace_text::entry::WrittenEntry;
 use std::alloc::Global;
 
 /// An entry with its candidates, over the records and a store.
 fn written_entry(
     alloc: Global,
-    records: &[Record],
+    trace: &Trace,
     store: &Store,
     entry: Entry,
 ) -> Result<WrittenEntry, ListFault>
-    ensures { IfOk result (λ written. written ≡ entry_with records.now store.now entry) }
+    ensures { IfOk result (λ written. written ≡ entry_with trace.now store.now entry) }
 {
-    let candidates = candidates(alloc, records, store, &entry.write.request)?;
+    let candidates = candidates(alloc, trace, store, &entry.write.request)?;
     let (write, values) = entry.into_parts();
     Ok(WrittenEntry {
         write,
@@ -33,15 +33,15 @@ fn written_entry(
 /// Each entry with its candidates.
 pub fn written_entries(
     alloc: Global,
-    records: &[Record],
+    trace: &Trace,
     store: &Store,
     entries: Seq<Entry>,
 ) -> Result<Seq<WrittenEntry>, ListFault>
-    ensures { IfOk result (λ written. written ≡ map (entry_with records.now store.now) entries) }
+    ensures { IfOk result (λ written. written ≡ map (entry_with trace.now store.now) entries) }
 {
     let mut written = Seq::new(alloc);
     for entry in entries.into_vec() {
-        written.push(written_entry(alloc, records, store, entry)?)?;
+        written.push(written_entry(alloc, trace, store, entry)?)?;
     }
     Ok(written)
 }

@@ -22,8 +22,8 @@ use qvt_exec_state::cost::Cost;
 use qvt_run_data::exit::End;
 use qvt_run_data::fault::RunFault;
 use qvt_run_data::late::LateWrite;
-use qvt_run_data::record::Record;
 use qvt_store::store::Store;
+use qvt_trace::trace::Trace;
 use std::alloc::Global;
 use std::mem;
 
@@ -62,7 +62,7 @@ impl Entry {
 /// The trace and the store that `main` left, over which late entries are answered.
 #[derive(Clone, Copy)]
 pub struct Ended<'f> {
-    pub trace: &'f [Record],
+    pub trace: &'f Trace,
     pub store: &'f Store,
 }
 

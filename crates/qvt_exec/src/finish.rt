@@ -45,7 +45,7 @@ pub fn finish<'s>(a: &Answering<'_, '_>, state: RunState<'s>) -> Result<Finished
     let writes = mem::replace(&mut state.entries, Seq::new(a.alloc));
     let mut cost = mem::replace(&mut state.cost, Cost::new(a.alloc));
     let ended = Ended {
-        trace: state.trace.as_slice(),
+        trace: &state.trace,
         store: state.store.as_store(),
     };
     let entries = walk(a, &ended, writes, &mut cost)?;

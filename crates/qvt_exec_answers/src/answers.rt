@@ -18,9 +18,9 @@ use qvt_exec_resolves::verdicts::answer_value;
 use qvt_exec_state::state::RunState;
 use qvt_exec_state::steps::spend;
 use qvt_run_data::exit::{End, Exit, Halt};
-use qvt_run_data::record::Record;
 use qvt_run_data::request::Query;
 use qvt_store::store::Store;
+use qvt_trace::trace::Trace;
 use qvt_value::value::Value;
 
 /// The answer of a question over a trace and a store, None where its cost is above the fuel.
@@ -28,14 +28,14 @@ use qvt_value::value::Value;
 pub fn answer(
     a: &Answering<'_, '_>,
     question: &Question<'_>,
-    records: &[Record],
+    trace: &Trace,
     store: &Store,
     room: &Room<'_>,
 ) -> Result<Option<Sum>, ListFault>
     requires { IsTable a.now.expressions.now }
-    ensures { IfOk result (IsAnswer room.now.fuel room.now.spent.now (answer_of a.now records.now store.now question.now)) }
+    ensures { IfOk result (IsAnswer room.now.fuel room.now.spent.now (answer_of a.now trace.now store.now question.now)) }
 {
-    let objects = candidates(a.alloc, records, store, question.request)?;
+    let objects = candidates(a.alloc, trace, store, question.request)?;
     sift(a, question, objects.as_slice(), store, room)
 }
 
@@ -73,8 +73,13 @@ fn answered_in(
         spent: &state.cost,
         fuel: a.fuel,
     };
-    let records = state.trace.as_slice();
-    answer(a, &question, records, state.store.as_store(), &room)
+    answer(
+        a,
+        &question,
+        &state.trace,
+        state.store.as_store(),
+        &room,
+    )
 }
 
 /// The answer of a resolve that is not late, over the state's own trace and store, with the cost of the

@@ -9,10 +9,10 @@ use qvt_base::copied::Copied;
 use qvt_base::list_fault::ListFault;
 use qvt_base::numbers::{MappingNo, Oid};
 use qvt_exec_state::state::RunState;
-use qvt_ocl_lists::items::same;
 use qvt_run_data::exit::Halt;
 use qvt_run_data::record::{Key, Record};
-use qvt_value::value::{Value, Values};
+use qvt_trace::keys::{same_end, same_values};
+use qvt_value::value::Values;
 use std::alloc::Global;
 
 /// A key of its own memory.
@@ -32,37 +32,6 @@ pub fn key_of(
     })
 }
 
-fn same_end(some: Option<Oid>, other: Option<Oid>) -> bool
-    ensures { result ≡ trace.same_end some other }
-{
-    match some {
-        None => other.is_none(),
-        Some(object) => match other {
-            None => false,
-            Some(end) => object.0 == end.0,
-        },
-    }
-}
-
-/// Whether the arguments are equal by value.
-fn same_values(some: &[Value], others: &[Value]) -> bool
-    ensures { result ≡ trace.same_values some.now others.now }
-{
-    let mut rest = others;
-    for value in some {
-        match rest {
-            [] => return false,
-            [other, more @ ..] => {
-                if !same(value, other) {
-                    return false;
-                }
-                rest = more;
-            }
-        }
-    }
-    rest.is_empty()
-}
-
 #[tactic(auto, unfolding(qvt_run_rules::specs::Trace::same_key))]
 fn same_key(some: &Key, other: &Key) -> bool
     ensures { result ≡ trace.same_key some.now other.now }
@@ -72,32 +41,15 @@ fn same_key(some: &Key, other: &Key) -> bool
         && same_values(some.args.as_slice(), other.args.as_slice())
 }
 
-/// Whether a record is that of the key.
-#[tactic(auto, unfolding(qvt_run_rules::specs::Trace::same_key))]
-fn is_of_key(held: &Record, key: &Key) -> bool
-    ensures { result ≡ trace.same_key (trace.key_of held.now) key.now }
-{
-    held.mapping.0 == key.mapping.0
-        && same_end(held.context, key.context)
-        && same_values(held.args.as_slice(), key.args.as_slice())
-}
-
-fn result_in(records: &[Record], key: &Key) -> Option<Option<Oid>>
-    ensures { result ≡ trace.result_for key.now records.now }
-{
-    for held in records {
-        if is_of_key(held, key) {
-            return Some(held.result);
-        }
-    }
-    None
-}
-
-/// The result that the trace has for a key, if it has the key.
+/// The result that the trace has for a key, if it has the key. The key is looked up by its hash.
+#[tactic(auto, using(qvt_trace::proofs::Results::result_at, qvt_trace::proofs::Results::result_none))]
 pub fn result_for(key: &Key, state: &RunState<'_>) -> Option<Option<Oid>>
     ensures { result ≡ trace.result_for key.now (seen state.now).trace }
 {
-    result_in(state.trace.as_slice(), key)
+    match state.trace.find(key.mapping, key.context, key.args.as_slice()) {
+        None => None,
+        Some(number) => Some(state.trace.at(number).result),
+    }
 }
 
 /// Whether the key is open.
@@ -124,6 +76,6 @@ pub fn note(
         args,
         result: outcome,
     };
-    state.trace.push(record)?;
+    state.trace.add(record)?;
     Ok(())
 }

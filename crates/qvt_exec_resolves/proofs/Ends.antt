@@ -1,7 +1,7 @@
 -- The far ends of records, found one after another.
-use Rattle.std.proofs.Common.{◌≡◌, ◌∙◌, ◌<◌, ◌+◌, ℕ, Bool, true, false, ◌==◌, ◌&&◌, ◌||◌, cond, refl, sym, ap, subst, List, [], ◌∷◌, ◌++◌, map, fold, filter, filter_map, length, take, get_or, eqb-true}
+use Rattle.std.proofs.Common.{◌≡◌, ◌∙◌, ◌<◌, ◌+◌, ℕ, Bool, true, false, ◌==◌, ◌&&◌, ◌||◌, cond, refl, sym, ap, subst, List, [], ◌∷◌, ◌++◌, map, fold, filter, filter_map, length, slice_get, take, get_or, eqb-true}
 use Rattle.std.specs.Prelude.{if◌then◌else◌, Option, Some, None}
-use Rattle.std.specs.List.{list_any, flat_map}
+use Rattle.std.specs.List.{cons_option, list_any, flat_map}
 use Rattle.std.proofs.lemmas.List.{map-append, take_more}
 use Rattle.std.proofs.lemmas.List.Concat.{flat_map-append}
 use Rattle.std.proofs.lemmas.List.Elements.{filter-append, filter_map-append}
@@ -11,11 +11,13 @@ use Rattle.qvt_base.specs.declared.numbers.Oid.{Oid}
 use Rattle.qvt_slots.specs.Contents.{Contents}
 use Rattle.qvt_run_data.specs.declared.record.Record.{Record}
 use Rattle.qvt_run_data.specs.declared.request.Request.{Request}
-use Rattle.qvt_run_rules.specs.Trace.{comes_from, far_end, has_object, is_object_of, is_within, near_end, same_end, with_new}
+use Rattle.qvt_run_rules.specs.Trace.{comes_from, far_end, has_object, is_object_of, is_within, with_new}
+use Rattle.qvt_trace.specs.Numbers.{numbers}
+use Rattle.qvt_trace.proofs.Numbers.{picked}
 use Rattle.qvt_relation.proofs.Bools.{or_false, or_left}
 use Rattle.qvt_meaning.specs.Program.{with_number}
 use Rattle.qvt_exec_resolves.specs.Numbers.{has}
-use Rattle.qvt_exec_resolves.specs.Candidates.{oid, oids, with_end, ends_of, ends_within, ends_from}
+use Rattle.qvt_exec_resolves.specs.Candidates.{oid, oids, with_end, ends_of, ends_within, ends_from, is_near}
 use Rattle.qvt_exec_resolves.proofs.Holding.{has-last}
 use Rattle.qvt_exec_resolves.proofs.Turns.{fold-joined}
 
@@ -37,6 +39,14 @@ put_last s c ks new o is more = ap oids more ∙ put_new ks o ∙ sym (ap (λ b.
 
 -- ---- one record
 
+filter_twice : {X : Type 0} (p q : X → Bool) (xs : List X) → filter q (filter p xs) ≡ filter (λ x. p x && q x) xs
+filter_twice p q [] = refl
+filter_twice p q (x ∷ xs) = by (p x) (filter_twice p q xs)
+  where
+    by : {a b : List _} (t : Bool) → filter q a ≡ b → filter q (cond t (x ∷ a) a) ≡ cond (t && q x) (x ∷ b) b
+    by true e = ap (λ l. cond (q x) (x ∷ l) l) e
+    by false e = e
+
 module _ (s : Contents) (q : Request) where
   one_end : (done : List Oid) (r : Record) → with_end s q.class.0 done (far_end q r) ≡ ends_of s q done (r ∷ [])
   one_end done r = by (far_end q r)
@@ -45,7 +55,7 @@ module _ (s : Contents) (q : Request) where
       of_object o true = refl
       of_object o false = refl
 
-      by : (e : Option Oid) → with_end s q.class.0 done e ≡ fold with_new done (filter (is_object_of s q.class.0) (Rattle.std.specs.List.cons_option e []))
+      by : (e : Option Oid) → with_end s q.class.0 done e ≡ fold with_new done (filter (is_object_of s q.class.0) (cons_option e []))
       by None = refl
       by (Some o) = of_object o (is_object_of s q.class.0 o)
 
@@ -55,12 +65,6 @@ module _ (s : Contents) (q : Request) where
   pub one_without : (done : List Oid) (r : Record) → is_within q r ≡ false → done ≡ ends_within s q done (r ∷ [])
   one_without done r h = ap (λ b. ends_of s q done (cond b (r ∷ []) [])) (sym h)
 
-  pub one_from : (o : Oid) (done : List Oid) (r : Record) → same_end (near_end q r) (Some o) ≡ true → ends_within s q done (r ∷ []) ≡ ends_from s q o done (r ∷ [])
-  one_from o done r h = ap (λ b. ends_of s q done (cond (b && is_within q r) (r ∷ []) [])) (sym h)
-
-  pub one_elsewhere : (o : Oid) (done : List Oid) (r : Record) → same_end (near_end q r) (Some o) ≡ false → done ≡ ends_from s q o done (r ∷ [])
-  one_elsewhere o done r h = ap (λ b. ends_of s q done (cond (b && is_within q r) (r ∷ []) [])) (sym h)
-
   -- ---- and more
 
   pub ends_joined : (done : List Oid) (xs ys : List Record) → ends_of s q done (xs ++ ys) ≡ ends_of s q (ends_of s q done xs) ys
@@ -69,22 +73,36 @@ module _ (s : Contents) (q : Request) where
       ∙ ap (fold with_new done) (filter-append (is_object_of s q.class.0) (filter_map (far_end q) xs) (filter_map (far_end q) ys))
       ∙ fold-joined with_new done (filter (is_object_of s q.class.0) (filter_map (far_end q) xs)) (filter (is_object_of s q.class.0) (filter_map (far_end q) ys))
 
-  ends_more : (test : Record → Bool) (start : List Oid) (rs : List Record) (i : ℕ) (r : Record) (old new : List Oid) → i < length rs → r ≡ get_or rs i r
-      → old ≡ ends_of s q start (filter test (take i rs)) → new ≡ ends_of s q old (filter test (r ∷ [])) → new ≡ ends_of s q start (filter test (take (i + 1) rs))
-  ends_more test start rs i r old new l at before is =
-      is ∙ ap (λ (d : List Oid). ends_of s q d (filter test (r ∷ []))) before
-      ∙ sym (ends_joined start (filter test (take i rs)) (filter test (r ∷ [])))
-      ∙ ap (ends_of s q start) (sym (filter-append test (take i rs) (r ∷ [])))
-      ∙ ap (λ (x : Record). ends_of s q start (filter test (take i rs ++ x ∷ []))) at
-      ∙ ap (λ (l : List Record). ends_of s q start (filter test l)) (sym (take_more rs i r l))
+  ends_last : (start : List Oid) (xs : List Record) (r : Record) (old new : List Oid) → old ≡ ends_within s q start xs → new ≡ ends_within s q old (r ∷ []) → new ≡ ends_within s q start (xs ++ r ∷ [])
+  ends_last start xs r old new before is =
+      is ∙ ap (λ (d : List Oid). ends_within s q d (r ∷ [])) before
+      ∙ sym (ends_joined start (filter (is_within q) xs) (filter (is_within q) (r ∷ [])))
+      ∙ ap (ends_of s q start) (sym (filter-append (is_within q) xs (r ∷ [])))
 
   pub within_more : (start : List Oid) (rs : List Record) (i : ℕ) (r : Record) (old new : List Oid) → i < length rs → r ≡ get_or rs i r
       → old ≡ ends_within s q start (take i rs) → new ≡ ends_within s q old (r ∷ []) → new ≡ ends_within s q start (take (i + 1) rs)
-  within_more = ends_more (is_within q)
+  within_more start rs i r old new l at before is =
+      ends_last start (take i rs) r old new before is
+      ∙ ap (λ (x : Record). ends_within s q start (take i rs ++ x ∷ [])) at
+      ∙ ap (ends_within s q start) (sym (take_more rs i r l))
 
-  pub from_more : (o : Oid) (start : List Oid) (rs : List Record) (i : ℕ) (r : Record) (old new : List Oid) → i < length rs → r ≡ get_or rs i r
-      → old ≡ ends_from s q o start (take i rs) → new ≡ ends_from s q o old (r ∷ []) → new ≡ ends_from s q o start (take (i + 1) rs)
-  from_more o = ends_more (comes_from q o)
+  -- the records with these numbers, one after another
+  pub numbered_more : (start : List Oid) (rs : List Record) (ns : List ℕ) (i n : ℕ) (r : Record) (old new : List Oid) → i < length ns → n ≡ get_or ns i n → slice_get rs n ≡ Some r
+      → old ≡ ends_within s q start (filter_map (slice_get rs) (take i ns)) → new ≡ ends_within s q old (r ∷ []) → new ≡ ends_within s q start (filter_map (slice_get rs) (take (i + 1) ns))
+  numbered_more start rs ns i n r old new l at there before is =
+      ends_last start (filter_map (slice_get rs) (take i ns)) r old new before is
+      ∙ ap (λ (o : Option Record). ends_within s q start (filter_map (slice_get rs) (take i ns) ++ cons_option o [])) (sym there)
+      ∙ ap (ends_within s q start) (sym (filter_map-append (slice_get rs) (take i ns) (n ∷ [])))
+      ∙ ap (λ (m : ℕ). ends_within s q start (filter_map (slice_get rs) (take i ns ++ m ∷ []))) at
+      ∙ ap (λ (ms : List ℕ). ends_within s q start (filter_map (slice_get rs) ms)) (sym (take_more ns i n l))
+
+  -- those whose near end is the source
+  pub from_numbered : (o : Oid) (rs : List Record) (ns : List ℕ) (done new : List Oid) → ns ≡ numbers (is_near q o) rs
+      → new ≡ ends_within s q done (filter_map (slice_get rs) ns) → new ≡ ends_from s q o done rs
+  from_numbered o rs ns done new e is =
+      is ∙ ap (λ (ms : List ℕ). ends_within s q done (filter_map (slice_get rs) ms)) e
+      ∙ ap (ends_within s q done) (picked (is_near q o) rs)
+      ∙ ap (ends_of s q done) (filter_twice (is_near q o) (is_within q) rs)
 
   -- the records of sources, one after another
   abbrev pub from_all : List Record → List Oid → List Record

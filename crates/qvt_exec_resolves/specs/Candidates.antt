@@ -6,7 +6,7 @@ use Rattle.qvt_base.specs.declared.numbers.Oid.{Oid}
 use Rattle.qvt_slots.specs.Contents.{Contents}
 use Rattle.qvt_run_data.specs.declared.record.Record.{Record}
 use Rattle.qvt_run_data.specs.declared.request.Request.{Request}
-use Rattle.qvt_run_rules.specs.Trace.{comes_from, far_end, is_listed, is_object_of, is_within, with_new}
+use Rattle.qvt_run_rules.specs.Trace.{comes_from, far_end, is_listed, is_object_of, is_within, near_end, same_end, with_new}
 use Rattle.qvt_exec_resolves.specs.Numbers.{has}
 
 -- objects by their numbers
@@ -28,6 +28,10 @@ ends_of s q done rs = fold with_new done (filter (is_object_of s q.class.0) (fil
 -- the same of those records that are of the mappings that are looked at
 abbrev pub ends_within : Contents → Request → List Oid → List Record → List Oid
 ends_within s q done rs = ends_of s q done (filter (is_within q) rs)
+
+-- the record has the source as its near end
+abbrev pub is_near : Request → Oid → Record → Bool
+is_near q o r = same_end (near_end q r) (Some o)
 
 -- the same of those that besides come from the source
 abbrev pub ends_from : Contents → Request → Oid → List Oid → List Record → List Oid

@@ -1,9 +1,10 @@
 //! The objects that a trace has for a request (QVT 1.3, 8.1.10 and 8.2.1.22).
 
-ghost use Rattle.std.specs.Prelude.{◌≡◌, ◌==◌, ◌∷◌, [], ℕ, Some, None, IfOk, OnOk};
-ghost use Rattle.std.specs.List.{list_any};
-ghost use Rattle.qvt_run_rules.specs.Trace as trace;
-ghost use Rattle.qvt_exec_resolves.specs.Candidates.{AreNumbersOf, ends_from, ends_of, ends_within, is_number_in, oids, with_end};
+ghost use Rattle.std.specs.Prelude.{◌≡◌, ◌==◌, ◌<◌, ◌∷◌, [], ℕ, Some, None, IfOk, OnOk, All, length, slice_get};
+ghost use Rattle.std.specs.List.{filter_map, list_any};
+ghost use Rattle.qvt_run_rules.specs.Trace as rule;
+ghost use Rattle.qvt_trace.specs.Numbers.{numbers};
+ghost use Rattle.qvt_exec_resolves.specs.Candidates.{AreNumbersOf, ends_from, ends_of, ends_within, is_near, is_number_in, oids, with_end};
 ghost use Rattle.qvt_exec_resolves.specs.Numbers.{has};
 
 use crate::number_set::NumberSet;
@@ -14,6 +15,7 @@ use qvt_base::seq::Seq;
 use qvt_exec_state::store::Store;
 use qvt_run_data::record::Record;
 use qvt_run_data::request::Request;
+use qvt_trace::trace::Trace;
 use std::alloc::Global;
 
 /// A request over a store, with the mappings whose records are looked at as they are looked up by hash.
@@ -69,37 +71,18 @@ fn is_number_in(numbers: &Option<NumberSet>, number: u32) -> bool
 
 /// Whether the object is there and of the class.
 fn is_object_of(store: &Store, class: ClassNo, object: Oid) -> bool
-    ensures { result ≡ trace.is_object_of store.now class.0 object }
+    ensures { result ≡ rule.is_object_of store.now class.0 object }
 {
     object.0 < store.len() && store.metas().descends(store.class_of(object), class)
 }
 
 fn far_end(request: &Request, call: &Record) -> Option<Oid>
-    ensures { result ≡ trace.far_end request.now call.now }
+    ensures { result ≡ rule.far_end request.now call.now }
 {
     if request.inverse {
         call.context
     } else {
         call.result
-    }
-}
-
-fn near_end(request: &Request, call: &Record) -> Option<Oid>
-    ensures { result ≡ trace.near_end request.now call.now }
-{
-    if request.inverse {
-        call.result
-    } else {
-        call.context
-    }
-}
-
-fn is_end(end: Option<Oid>, object: Oid) -> bool
-    ensures { result ≡ trace.same_end end (Some object) }
-{
-    match end {
-        None => false,
-        Some(end) => end.0 == object.0,
     }
 }
 
@@ -164,13 +147,13 @@ impl<'a> Sieve<'a> {
 
     /// Whether the record is of one of the mappings that are looked at.
     fn is_within(&self, call: &Record) -> bool
-        ensures { result ≡ trace.is_within self.now.request.now call.now }
+        ensures { result ≡ rule.is_within self.now.request.now call.now }
     {
         is_number_in(&self.within, call.mapping.0)
     }
 
-    /// Puts the far end of a record last, if it is a candidate that does not stand there. Whoever looks
-    /// records up by their near ends gives those of a source to this.
+    /// Puts the far end of a record last, if the record is of one of the mappings that are looked at, and the far end
+    /// is a candidate that does not stand there.
     #[tactic(auto, using(crate::proofs::Ends::one_within, crate::proofs::Ends::one_without))]
     pub fn take(&self, found: &mut NumberSet, call: &Record) -> Result<(), ListFault>
         ensures { OnOk result (oids found.new ≡ ends_within self.now.store.now self.now.request.now (oids found.old) (call.now ∷ [])) }
@@ -186,17 +169,6 @@ impl<'a> Sieve<'a> {
         Ok(())
     }
 
-    /// The same, if the source is the near end of the record.
-    #[tactic(auto, using(crate::proofs::Ends::one_from, crate::proofs::Ends::one_elsewhere))]
-    fn take_from(&self, source: Oid, found: &mut NumberSet, call: &Record) -> Result<(), ListFault>
-        ensures { OnOk result (oids found.new ≡ ends_from self.now.store.now self.now.request.now source (oids found.old) (call.now ∷ [])) }
-    {
-        if is_end(near_end(self.request, call), source) {
-            return self.take(found, call);
-        }
-        Ok(())
-    }
-
     /// The candidates without a source.
     fn all(&self, alloc: Global, records: &[Record]) -> Result<NumberSet, ListFault>
         ensures { IfOk result (λ found. oids found ≡ ends_within self.now.store.now self.now.request.now [] records.now) }
@@ -208,18 +180,46 @@ impl<'a> Sieve<'a> {
         Ok(found)
     }
 
-    /// Puts the candidates from the source last that do not stand there.
-    fn take_all_from(
+    /// The same of the records of these numbers, behind what was found.
+    fn take_numbered(
+        &self,
+        trace: &Trace,
+        numbers: &[usize],
+        found: &mut NumberSet,
+    ) -> Result<(), ListFault>
+        requires { All (λ n. n < length trace.now) numbers.now }
+        ensures { OnOk result (oids found.new ≡ ends_within self.now.store.now self.now.request.now (oids found.old) (filter_map (slice_get trace.now) numbers.now)) }
+    {
+        for number in numbers {
+            self.take(found, trace.at(*number))?;
+        }
+        Ok(())
+    }
+
+    /// The numbers of the records that have the source as their near end.
+    fn numbers_from<'t>(&self, trace: &'t Trace, source: Oid) -> &'t [usize]
+        ensures within { All (λ n. n < length trace.now) result.now }
+        ensures exact { result.now ≡ numbers (is_near self.now.request.now source) trace.now }
+    {
+        if self.request.inverse {
+            trace.with_result(source)
+        } else {
+            trace.with_context(source)
+        }
+    }
+
+    /// Puts the candidates from the source last that do not stand there. Only the records of the source are looked at.
+    #[tactic(auto, using(crate::proofs::Ends::from_numbered))]
+    fn take_from(
         &self,
         source: Oid,
         found: &mut NumberSet,
-        records: &[Record],
+        trace: &Trace,
     ) -> Result<(), ListFault>
-        ensures { OnOk result (oids found.new ≡ ends_from self.now.store.now self.now.request.now source (oids found.old) records.now) }
+        ensures { OnOk result (oids found.new ≡ ends_from self.now.store.now self.now.request.now source (oids found.old) trace.now) }
     {
-        for call in records {
-            self.take_from(source, found, call)?;
-        }
+        let numbers = self.numbers_from(trace, source);
+        self.take_numbered(trace, numbers, found)?;
         Ok(())
     }
 
@@ -228,41 +228,42 @@ impl<'a> Sieve<'a> {
         &self,
         alloc: Global,
         sources: &[Oid],
-        records: &[Record],
+        trace: &Trace,
     ) -> Result<NumberSet, ListFault>
-        ensures { IfOk result (λ found. oids found ≡ ends_of self.now.store.now self.now.request.now [] (trace.matched_by self.now.request.now (Some sources.now) records.now)) }
+        ensures { IfOk result (λ found. oids found ≡ ends_of self.now.store.now self.now.request.now [] (rule.matched_by self.now.request.now (Some sources.now) trace.now)) }
     {
         let mut found = NumberSet::new(alloc);
         for source in sources {
-            self.take_all_from(*source, &mut found, records)?;
+            self.take_from(*source, &mut found, trace)?;
         }
         Ok(found)
     }
 
     /// The candidates.
-    fn found_in(&self, alloc: Global, records: &[Record]) -> Result<NumberSet, ListFault>
-        ensures { IfOk result (λ found. oids found ≡ ends_of self.now.store.now self.now.request.now [] (trace.matched_by self.now.request.now self.now.request.now.sources records.now)) }
+    fn found_in(&self, alloc: Global, trace: &Trace) -> Result<NumberSet, ListFault>
+        ensures { IfOk result (λ found. oids found ≡ ends_of self.now.store.now self.now.request.now [] (rule.matched_by self.now.request.now self.now.request.now.sources trace.now)) }
     {
         match &self.request.sources {
-            None => self.all(alloc, records),
-            Some(sources) => self.from_each(alloc, sources.as_slice(), records),
+            None => self.all(alloc, trace.as_slice()),
+            Some(sources) => self.from_each(alloc, sources.as_slice(), trace),
         }
     }
 }
 
 /// The candidates for a request: the other ends of the records that it looks at, each where it first
-/// stands. The records are looked through once for each source.
+/// stands. Of each source only the records are looked at that have it as their near end; without a source
+/// all are.
 #[tactic(auto, unfolding(qvt_run_rules::specs::Trace::candidates))]
 pub fn candidates(
     alloc: Global,
-    records: &[Record],
+    trace: &Trace,
     store: &Store,
     request: &Request,
 ) -> Result<OidList, ListFault>
-    ensures { IfOk result (λ objects. objects ≡ trace.candidates records.now store.now request.now) }
+    ensures { IfOk result (λ objects. objects ≡ rule.candidates trace.now store.now request.now) }
 {
     let sieve = Sieve::new(alloc, store, request)?;
-    let found = sieve.found_in(alloc, records)?;
+    let found = sieve.found_in(alloc, trace)?;
     let objects = objects_of(alloc, found.as_slice())?;
     Ok(objects)
 }

@@ -12,7 +12,8 @@ use qvt_live_store::live::LiveStore;
 use qvt_live_store::store::Store;
 use qvt_run_rules::late::LateWrite;
 use qvt_run_rules::local::Local;
-use qvt_run_rules::record::{Key, Record};
+use qvt_run_rules::record::Key;
+use qvt_trace::trace::Trace;
 use std::alloc::Global;
 
 /// The store; the variables in scope, the latest last; the object of the innermost object expression;
@@ -22,7 +23,7 @@ pub struct RunState<'s> {
     pub store: Held<'s>,
     pub locals: Seq<Local>,
     pub inner: Option<Oid>,
-    pub trace: Seq<Record>,
+    pub trace: Trace,
     pub keys: Seq<Key>,
     pub entries: Seq<LateWrite>,
     pub cost: Cost,
@@ -50,7 +51,7 @@ fn begun<'s>(alloc: Global, store: Held<'s>, locals: Seq<Local>) -> RunState<'s>
         store,
         locals,
         inner: None,
-        trace: Seq::new(alloc),
+        trace: Trace::new(alloc),
         keys: Seq::new(alloc),
         entries: Seq::new(alloc),
         cost: Cost::new(alloc),

@@ -1,0 +1,5 @@
+mod Found
+mod Indexed
+pub mod Numbers
+pub mod Results
+mod Same

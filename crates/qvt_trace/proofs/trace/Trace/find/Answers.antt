@@ -1,0 +1,2 @@
+use Rattle.qvt_trace.proofs.Found.{begun}
+use Rattle.qvt_trace.proofs.trace.Trace.find.Goals as goal
