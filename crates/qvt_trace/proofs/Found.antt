@@ -1,15 +1,14 @@
 -- The first record of a key, looked for among those whose keys have the same hash.
-use Rattle.std.proofs.Common.{◌≡◌, ℕ, ◌+◌, ◌<◌, Bool, true, false, cond, ◌&&◌, ◌==◌, List, [], ◌∷◌, length, slice_get, drop, filter, position, Option, Some, None, IfSome, refl, ap, sym, subst, ◌∙◌, add-one, drop-cons, get_or}
+use Rattle.std.proofs.Common.{◌≡◌, ℕ, ◌+◌, Bool, true, false, cond, ◌&&◌, ◌==◌, List, [], ◌∷◌, slice_get, filter, position, Option, Some, None, refl, ap, sym, ◌∙◌}
 use Rattle.std.specs.Cmp.{first_so, second_so}
-use Rattle.std.specs.List.{All, position_from}
+use Rattle.std.specs.List.{position_from}
 use Rattle.std.specs.Option.{option_map_or}
 use Rattle.std.proofs.lemmas.Bool.{eqb-true, eq-eqb}
 use Rattle.std.proofs.lemmas.Iterator.Adapters.{position_from-zero}
-use Rattle.std.proofs.lemmas.List.{take-append-drop}
 use Rattle.qvt_base.specs.declared.numbers.MappingNo.{MappingNo}
 use Rattle.qvt_base.specs.declared.numbers.Oid.{Oid}
 use Rattle.qvt_value.specs.declared.value.Value.{Value}
-use Rattle.qvt_run_data.specs.declared.record.Record.{Record}
+use Rattle.qvt_run_rules.specs.declared.record.Record.{Record}
 use Rattle.qvt_run_rules.specs.Trace.{same_end, same_key, same_values}
 use Rattle.qvt_trace.specs.Hashes.{has_hash, key_hash}
 use Rattle.qvt_trace.specs.Keys.{is_of}
@@ -25,11 +24,11 @@ first_of (n ∷ ns) = Some n
 
 first_from : {X : Type 0} (test : X → Bool) (n : ℕ) (xs : List X) → position_from test n xs ≡ first_of (numbers_from test n xs)
 first_from test n [] = refl
-first_from test n (x ∷ xs) = by (test x) (first_from test (n + 1) xs)
+first_from test n (x ∷ xs) = by (test x) _ (first_from test (n + 1) xs)
   where
-    by : {o : Option ℕ} {ns : List ℕ} (b : Bool) → o ≡ first_of ns → cond b (Some n) o ≡ first_of (cond b (n ∷ ns) ns)
-    by true e = refl
-    by false e = e
+    by : {o : Option ℕ} (b : Bool) (ns : List ℕ) → o ≡ first_of ns → cond b (Some n) o ≡ first_of (cond b (n ∷ ns) ns)
+    by true ns e = refl
+    by false ns e = e
 
 first_is : {X : Type 0} (test : X → Bool) (xs : List X) → position test xs ≡ first_of (numbers test xs)
 first_is test xs = position_from-zero test xs ∙ first_from test 0 xs
@@ -43,7 +42,7 @@ module _ (m : MappingNo) (c : Option Oid) (args : List Value) where
       let rest : (same_end r.context c && same_values r.args args) ≡ true = second_so (r.mapping.0 == m.0) _ h in
       let of_mapping : r.mapping.0 ≡ m.0 = eqb-true r.mapping.0 m.0 (first_so (r.mapping.0 == m.0) _ h) in
       let same : key_hash r.mapping r.context r.args ≡ key_hash m c args
-          = λ i. key_hash (record { 0 = of_mapping i }) (end_is r.context c (first_so (same_end r.context c) _ rest) i) (values_are r.args args (second_so (same_end r.context c) _ rest) i) in
+      = λ i. key_hash (record { 0 = of_mapping i }) (end_is r.context c (first_so (same_end r.context c) _ rest) i) (values_are r.args args (second_so (same_end r.context c) _ rest) i) in
       eq-eqb _ _ same
 
   both : (r : Record) → is_of m c args r ≡ (has_hash (key_hash m c args) r && is_of m c args r)

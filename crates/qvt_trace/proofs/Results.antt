@@ -4,8 +4,8 @@ use Rattle.std.specs.List.{position_from}
 use Rattle.std.specs.Option.{option_map}
 use Rattle.std.proofs.lemmas.Iterator.Adapters.{position_from-zero}
 use Rattle.qvt_base.specs.declared.numbers.Oid.{Oid}
-use Rattle.qvt_run_data.specs.declared.record.Key.{Key}
-use Rattle.qvt_run_data.specs.declared.record.Record.{Record}
+use Rattle.qvt_run_rules.specs.declared.record.Key.{Key}
+use Rattle.qvt_run_rules.specs.declared.record.Record.{Record}
 use Rattle.qvt_run_rules.specs.Trace.{key_of, result_for, same_key}
 use Rattle.qvt_trace.specs.Keys.{is_of}
 use Rattle.qvt_trace.proofs.Numbers.{after}
@@ -23,11 +23,11 @@ module _ (k : Key) where
   looked whole i [] h = refl
   looked whole i (r ∷ rs) h =
       let a = after whole i r rs h in
-      by (is_first r) (ap (option_map (λ (x : Record). x.result)) (sym a.here)) (looked whole (i + 1) rs a.rest)
+      by (is_first r) _ (ap (option_map (λ (x : Record). x.result)) (sym a.here)) (looked whole (i + 1) rs a.rest)
     where
-      by : {e f : Option (Option Oid)} {o : Option ℕ} (b : Bool) → e ≡ result_of whole (Some i) → f ≡ result_of whole o → cond b e f ≡ result_of whole (cond b (Some i) o)
-      by true p q = p
-      by false p q = q
+      by : {e f : Option (Option Oid)} (b : Bool) (o : Option ℕ) → e ≡ result_of whole (Some i) → f ≡ result_of whole o → cond b e f ≡ result_of whole (cond b (Some i) o)
+      by true o p q = p
+      by false o p q = q
 
   pub result_at : (rs : List Record) (n : ℕ) (r : Record) → position (is_of k.mapping k.context k.args) rs ≡ Some n → slice_get rs n ≡ Some r → result_for k rs ≡ Some r.result
   unfolding result_of

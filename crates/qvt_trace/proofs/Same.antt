@@ -1,18 +1,17 @@
 -- Arguments, ends and keys that are the same.
-use Rattle.std.proofs.Common.{◌≡◌, ℕ, Bool, true, false, ◌&&◌, List, [], ◌∷◌, Option, Some, None, refl, ap, sym, ◌∙◌, true≢false}
+use Rattle.std.proofs.Common.{◌≡◌, ℕ, true, ◌&&◌, List, [], ◌∷◌, Option, Some, None, refl, ap, sym, true≢false}
 use Rattle.std.specs.Cmp.{first_so, second_so}
 use Rattle.std.specs.Cmp.Lexicographic.{pointwise}
 use Rattle.std.specs.Ordering.{is_eq}
 use Rattle.std.specs.declared.cmp.Ordering.{Ordering}
 use Rattle.std.specs.declared.cmp.Ordering.TheVariants.{Less, Equal, Greater}
-use Rattle.qvt_base.specs.declared.numbers.MappingNo.{MappingNo}
 use Rattle.qvt_base.specs.declared.numbers.Oid.{Oid}
 use Rattle.qvt_value.specs.declared.value.Value.{Value}
 use Rattle.qvt_value.specs.contracts.value.ValuePartialEq.TheImpl as equality
+use Rattle.qvt_value.specs.Kept.{is_same}
 use Rattle.qvt_value.specs.Order.{order_of}
 use Rattle.qvt_value.proofs.OrderOfValues.{alike, exact}
 use Rattle.std.proofs.lemmas.Bool.{eqb-true}
-use Rattle.qvt_ocl_words.specs.Lists.{same}
 use Rattle.qvt_run_rules.specs.Trace.{same_end, same_object, same_values}
 use Rattle.qvt_trace.specs.Indexed.{is_end}
 
@@ -38,7 +37,7 @@ end_is None (Some b) h = absurd (true≢false (sym h))
 end_is (Some a) None h = absurd (true≢false (sym h))
 end_is (Some a) (Some b) h = ap Some (same_is a b h)
 
-value_is : (v w : Value) → same v w ≡ true → v ≡ w
+value_is : (v w : Value) → is_same order_of v w ≡ true → v ≡ w
 value_is v w h = exact v w (by (order_of v w) h)
   where
     by : (o : Ordering) → is_eq o ≡ true → o ≡ Equal
@@ -50,4 +49,4 @@ pub values_are : (vs ws : List Value) → same_values vs ws ≡ true → vs ≡ 
 values_are [] [] h = refl
 values_are [] (w ∷ ws) h = absurd (true≢false (sym h))
 values_are (v ∷ vs) [] h = absurd (true≢false (sym h))
-values_are (v ∷ vs) (w ∷ ws) h = λ i. value_is v w (first_so (same v w) (same_values vs ws) h) i ∷ values_are vs ws (second_so (same v w) (same_values vs ws) h) i
+values_are (v ∷ vs) (w ∷ ws) h = λ i. value_is v w (first_so (is_same order_of v w) (same_values vs ws) h) i ∷ values_are vs ws (second_so (is_same order_of v w) (same_values vs ws) h) i

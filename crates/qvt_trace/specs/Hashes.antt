@@ -8,7 +8,7 @@ use Rattle.qvt_base.specs.contracts.numbers.MappingNoHash.TheImpl as mapping
 use Rattle.qvt_base.specs.contracts.numbers.OidHash.TheImpl as object
 use Rattle.qvt_value.specs.contracts.value.ValueHash.TheImpl as value
 use Rattle.qvt_value.specs.declared.value.Value.{Value}
-use Rattle.qvt_run_data.specs.declared.record.Record.{Record}
+use Rattle.qvt_run_rules.specs.declared.record.Record.{Record}
 
 -- SipHash of the mapping, the context and the arguments, one after another
 unfoldable pub key_hash : MappingNo → Option Oid → List Value → ℕ

@@ -1,8 +1,8 @@
 -- Records and the tables that they are looked up by.
-use Rattle.std.specs.Prelude.{◌≡◌, ℕ, ◌==◌, Bool, List, Option, nat_eq}
+use Rattle.std.specs.Prelude.{◌≡◌, ℕ, Bool, List, Option, nat_eq}
 use Rattle.std.specs.Option.{option_eq}
 use Rattle.qvt_base.specs.declared.numbers.Oid.{Oid}
-use Rattle.qvt_run_data.specs.declared.record.Record.{Record}
+use Rattle.qvt_run_rules.specs.declared.record.Record.{Record}
 use Rattle.qvt_trace.specs.Hashes.{has_hash}
 use Rattle.qvt_trace.specs.Numbers.{numbers}
 use Rattle.qvt_trace.specs.Tables.{kept}

@@ -1,7 +1,7 @@
 ghost use Rattle.qvt_trace.specs.declared.fault.TraceFault.TheVariants.{NoMemory};
 
 use qvt_base::list_fault::ListFault;
-use qvt_run_data::exit::Halt;
+use qvt_run_rules::exit::Halt;
 use std::alloc::AllocError;
 use thiserror::Error;
 
@@ -34,7 +34,7 @@ impl From<AllocError> for TraceFault {
 
 impl From<TraceFault> for Halt {
     ghost use Rattle.std.specs.Prelude.{◌≡◌};
-    ghost use Rattle.qvt_run_data.specs.declared.exit.Halt.{Halt};
+    ghost use Rattle.qvt_run_rules.specs.declared.exit.Halt.{Halt};
 
     ghost from_gives = { λ _ halt. halt ≡ Halt.NoMemory };
 

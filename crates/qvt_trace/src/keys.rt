@@ -6,7 +6,7 @@ ghost use Rattle.qvt_trace.specs.Keys.{is_of};
 ghost use Rattle.qvt_trace.specs.Hashes as hashes;
 
 use qvt_base::numbers::{MappingNo, Oid};
-use qvt_run_data::record::Record;
+use qvt_run_rules::record::Record;
 use qvt_value::value::Value;
 use std::hash::{DefaultHasher, Hash, Hasher};
 
@@ -33,12 +33,7 @@ pub fn same_values(some: &[Value], others: &[Value]) -> bool
 
 /// Whether the record is of a call of the mapping on this context with these arguments.
 #[tactic(auto, unfolding(qvt_run_rules::specs::Trace::same_key))]
-pub(crate) fn is_of(
-    call: &Record,
-    mapping: MappingNo,
-    context: Option<Oid>,
-    args: &[Value],
-) -> bool
+pub(crate) fn is_of(call: &Record, mapping: MappingNo, context: Option<Oid>, args: &[Value]) -> bool
     ensures { result ≡ is_of mapping context args.now call.now }
 {
     call.mapping.0 == mapping.0

@@ -5,7 +5,7 @@ use crate::keys::{is_of, key_hash};
 use crate::table::Table;
 use qvt_base::numbers::{MappingNo, Oid};
 use qvt_base::seq::Seq;
-use qvt_run_data::record::Record;
+use qvt_run_rules::record::Record;
 use qvt_value::value::Value;
 use std::alloc::Global;
 use std::marker::Model;
@@ -34,7 +34,7 @@ impl Model for Trace {
     ghost use Rattle.std.specs.Prelude.{List};
     ghost use Rattle.std.specs.Coded.{codes};
     ghost use Rattle.qvt_value.specs.contracts.value.Value as value;
-    ghost use Rattle.qvt_run_data.specs.declared.record.Record.{Record};
+    ghost use Rattle.qvt_run_rules.specs.declared.record.Record.{Record};
     ghost use Rattle.qvt_trace.specs.Indexed.{IsIndexed};
 
     ghost Value = { List Record };
