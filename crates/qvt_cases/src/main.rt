@@ -2,10 +2,11 @@
 //! `status` and a command line, whose status is told too, by its number; or `show` and a name, and what is then told is
 //! what the file of this name holds; or `blanks`, a name and a number, and a file of this name and of so many blanks is made;
 //! or `edit`, two names and a text ` => ` another, and the second file is made of the first with the other text in the place
-//! of the one where that stands first, and the change is told; or `script` and a name. A script is such lines, and files:
-//! its pieces are parted by empty lines, and of a piece of several lines a file is made. The first line of this is its name,
-//! and after a blank a title, which is told; the others are what the file holds. What is told is compared with what has to
-//! be told.
+//! of the one where that stands first, and the change is told; or `sweep`, two names and a number, and so many times, with
+//! each fuel from 0 on, the second file is made of the first with the fuel in the place of the word `FUEL`, and run as a job;
+//! or `script` and a name. A script is such lines, and files: its pieces are parted by empty lines, and of a piece of several
+//! lines a file is made. The first line of this is its name, and after a blank a title, which is told; the others are what
+//! the file holds. What is told is compared with what has to be told.
 #![tactic(auto)]
 
 #[cfg(test)]
@@ -75,6 +76,30 @@ fn make_edited<F: Files>(rt: HostRuntime, asked: &str, files: &mut F) -> Option<
     Some(files.write(name, edited.as_bytes()))
 }
 
+/// Runs a job with each fuel from 0 on, so many times: the job is what a file holds with the fuel in the place of `FUEL`.
+fn sweep<F: Files, S: Sink>(
+    rt: HostRuntime,
+    asked: &str,
+    files: &mut F,
+    out: &mut S,
+) -> Option<WriteAnswer> {
+    let (from, rest) = asked.split_once(' ')?;
+    let (name, count) = rest.split_once(' ')?;
+    let count = count.parse::<u32>().ok()?;
+    let text = fs::read_to_string(&rt, from).ok()?;
+    let (front, back) = text.as_str().split_once("FUEL")?;
+    let line = format!(in rt.alloc(); "run {name}").ok()?;
+    for fuel in 0..count {
+        let job = format!(in rt.alloc(); "{front}{fuel}{back}").ok()?;
+        match files.write(name, job.as_bytes()) {
+            WriteAnswer::Written => {}
+            WriteAnswer::Failed => return Some(WriteAnswer::Failed),
+        }
+        call(rt.alloc(), line.as_str(), files, out).ok()?;
+    }
+    Some(WriteAnswer::Written)
+}
+
 /// Tells where a file that was asked for was not made.
 fn tell_made(rt: HostRuntime, answer: Option<WriteAnswer>) -> io::Result<()> {
     match answer {
@@ -98,6 +123,9 @@ fn perform<F: Files, S: Sink>(
     }
     if let Some(asked) = line.strip_prefix("edit ") {
         return tell_made(rt, make_edited(rt, asked, files));
+    }
+    if let Some(asked) = line.strip_prefix("sweep ") {
+        return tell_made(rt, sweep(rt, asked, files, out));
     }
     let asked = line.strip_prefix("status ");
     let Ok(status) = call(rt.alloc(), asked.unwrap_or(line), files, out) else {
