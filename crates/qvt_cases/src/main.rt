@@ -1,6 +1,7 @@
 //! Many calls of the top call over the files of the working folder. Each line of standard input is a command line; or
 //! `status` and a command line, whose status is told too, by its number; or `show` and a name, and what is then told is
 //! what the file of this name holds; or `blanks`, a name and a number, and a file of this name and of so many blanks is made;
+//! or `front`, two names and a number, and the second file is made of so many bytes with which the first begins;
 //! or `edit`, two names and a text ` => ` another, and the second file is made of the first with the other text in the place
 //! of the one where that stands first, and the change is told; or `sweep`, two names and a number, and so many times, with
 //! each fuel from 0 on, the second file is made of the first with the fuel in the place of the word `FUEL`, and run as a job;
@@ -64,6 +65,16 @@ fn make_blank<F: Files>(alloc: Global, asked: &str, files: &mut F) -> Option<Wri
     Some(files.write(name, blanks.as_slice()))
 }
 
+/// Makes a file of the first bytes of another one, so many.
+fn make_front<F: Files>(rt: HostRuntime, asked: &str, files: &mut F) -> Option<WriteAnswer> {
+    let (from, rest) = asked.split_once(' ')?;
+    let (name, count) = rest.split_once(' ')?;
+    let count = count.parse::<usize>().ok()?;
+    let text = fs::read_to_string(&rt, from).ok()?;
+    let front = text.as_str().as_bytes().get(..count)?;
+    Some(files.write(name, front))
+}
+
 /// Makes a file of another one: what stands there for a text, where that stands first, is another text.
 fn make_edited<F: Files>(rt: HostRuntime, asked: &str, files: &mut F) -> Option<WriteAnswer> {
     let (from, rest) = asked.split_once(' ')?;
@@ -123,6 +134,9 @@ fn perform<F: Files, S: Sink>(
     }
     if let Some(asked) = line.strip_prefix("edit ") {
         return tell_made(rt, make_edited(rt, asked, files));
+    }
+    if let Some(asked) = line.strip_prefix("front ") {
+        return tell_made(rt, make_front(rt, asked, files));
     }
     if let Some(asked) = line.strip_prefix("sweep ") {
         return tell_made(rt, sweep(rt, asked, files, out));
