@@ -1,11 +1,13 @@
 //! Many calls of the top call over the files of the working folder. Each line of standard input is a command line; or
 //! `status` and a command line, whose status is told too, by its number; or `show` and a name, and what is then told is
 //! what the file of this name holds; or `blanks`, a name and a number, and a file of this name and of so many blanks is made;
+//! or `front`, two names and a number, and the second file is made of so many bytes with which the first begins;
 //! or `edit`, two names and a text ` => ` another, and the second file is made of the first with the other text in the place
-//! of the one where that stands first, and the change is told; or `script` and a name. A script is such lines, and files:
-//! its pieces are parted by empty lines, and of a piece of several lines a file is made. The first line of this is its name,
-//! and after a blank a title, which is told; the others are what the file holds. What is told is compared with what has to
-//! be told.
+//! of the one where that stands first, and the change is told; or `sweep`, two names and a number, and so many times, with
+//! each fuel from 0 on, the second file is made of the first with the fuel in the place of the word `FUEL`, and run as a job;
+//! or `script` and a name. A script is such lines, and files: its pieces are parted by empty lines, and of a piece of several
+//! lines a file is made. The first line of this is its name, and after a blank a title, which is told; the others are what
+//! the file holds. What is told is compared with what has to be told.
 #![tactic(auto)]
 
 #[cfg(test)]
@@ -63,6 +65,16 @@ fn make_blank<F: Files>(alloc: Global, asked: &str, files: &mut F) -> Option<Wri
     Some(files.write(name, blanks.as_slice()))
 }
 
+/// Makes a file of the first bytes of another one, so many.
+fn make_front<F: Files>(rt: HostRuntime, asked: &str, files: &mut F) -> Option<WriteAnswer> {
+    let (from, rest) = asked.split_once(' ')?;
+    let (name, count) = rest.split_once(' ')?;
+    let count = count.parse::<usize>().ok()?;
+    let text = fs::read_to_string(&rt, from).ok()?;
+    let front = text.as_str().as_bytes().get(..count)?;
+    Some(files.write(name, front))
+}
+
 /// Makes a file of another one: what stands there for a text, where that stands first, is another text.
 fn make_edited<F: Files>(rt: HostRuntime, asked: &str, files: &mut F) -> Option<WriteAnswer> {
     let (from, rest) = asked.split_once(' ')?;
@@ -73,6 +85,30 @@ fn make_edited<F: Files>(rt: HostRuntime, asked: &str, files: &mut F) -> Option<
     println!(rt; "{change}").ok()?;
     let edited = format!(in rt.alloc(); "{front}{new}{back}").ok()?;
     Some(files.write(name, edited.as_bytes()))
+}
+
+/// Runs a job with each fuel from 0 on, so many times: the job is what a file holds with the fuel in the place of `FUEL`.
+fn sweep<F: Files, S: Sink>(
+    rt: HostRuntime,
+    asked: &str,
+    files: &mut F,
+    out: &mut S,
+) -> Option<WriteAnswer> {
+    let (from, rest) = asked.split_once(' ')?;
+    let (name, count) = rest.split_once(' ')?;
+    let count = count.parse::<u32>().ok()?;
+    let text = fs::read_to_string(&rt, from).ok()?;
+    let (front, back) = text.as_str().split_once("FUEL")?;
+    let line = format!(in rt.alloc(); "run {name}").ok()?;
+    for fuel in 0..count {
+        let job = format!(in rt.alloc(); "{front}{fuel}{back}").ok()?;
+        match files.write(name, job.as_bytes()) {
+            WriteAnswer::Written => {}
+            WriteAnswer::Failed => return Some(WriteAnswer::Failed),
+        }
+        call(rt.alloc(), line.as_str(), files, out).ok()?;
+    }
+    Some(WriteAnswer::Written)
 }
 
 /// Tells where a file that was asked for was not made.
@@ -98,6 +134,12 @@ fn perform<F: Files, S: Sink>(
     }
     if let Some(asked) = line.strip_prefix("edit ") {
         return tell_made(rt, make_edited(rt, asked, files));
+    }
+    if let Some(asked) = line.strip_prefix("front ") {
+        return tell_made(rt, make_front(rt, asked, files));
+    }
+    if let Some(asked) = line.strip_prefix("sweep ") {
+        return tell_made(rt, sweep(rt, asked, files, out));
     }
     let asked = line.strip_prefix("status ");
     let Ok(status) = call(rt.alloc(), asked.unwrap_or(line), files, out) else {

@@ -8,7 +8,7 @@ use qvt_base::seq::Seq;
 use qvt_outcome::status::Status;
 use std::alloc::Global;
 
-const FILES: [(&str, &str); 5] = [
+const FILES: [(&str, &str); 11] = [
     (
         "job.json",
         "{\"fuel\":100,\"inputs\":[],\"metamodels\":[\"m.json\"],\"outputs\":[{\"file\":\"o.json\",\"model\":\"t\"}],\"text\":\"t.qvto\"}",
@@ -26,7 +26,28 @@ const FILES: [(&str, &str); 5] = [
         "t.qvto",
         "modeltype MT uses 'M';\ntransformation T(out t : MT);\nmain() { object C { a := 7; }; }",
     ),
+    (
+        "all.json",
+        "{\"fuel\":100,\"inputs\":[],\"metamodels\":[\"m.json\"],\"outputs\":[{\"file\":\"o.json\",\"model\":\"t\"},{\"file\":\"p.json\",\"model\":\"w\"}],\"text\":\"two.qvto\",\"trace\":\"tr.json\"}",
+    ),
+    (
+        "two.qvto",
+        "modeltype MT uses 'M';\ntransformation T(out t : MT, out w : MT);\nmain() { object C { a := 7; }; object C@w { b := 8; }; }",
+    ),
+    (
+        "wrong.json",
+        "{\"fuel\":100,\"inputs\":[],\"metamodels\":[\"m.json\"],\"outputs\":[{\"file\":\"o.json\",\"model\":\"t\"}],\"text\":\"wrong.qvto\"}",
+    ),
+    (
+        "wrong.qvto",
+        "modeltype MT uses 'M';\ntransformation T(out t : MT);\nmain() { var v := 1.div(0); }",
+    ),
+    ("p.json", BEFORE),
+    ("tr.json", BEFORE),
 ];
+
+/// What a file holds before the call.
+const BEFORE: &str = "as before";
 
 const DONE: &str = "done: 1 objects, 0 records, 0 late, cost 4\n";
 
@@ -46,11 +67,16 @@ const ONE: &str = "run job.json";
 /// A run with two metamodels.
 const TWO: &str = "run jobs.json";
 
+/// A run that ends with a fault.
+const WRONG: &str = "run wrong.json";
+
+const FAULT: &str = "fault: wrong.qvto: InvalidValue ZeroDivide at 3:21\n";
+
 /// The command; what is to fail, the number of a call over the files and the number of a write to the sink (0 for none);
 /// and then the status, what the sink got, and what the output holds.
 type Case = (&'static str, u64, u64, Status, &'static str, &'static str);
 
-const CASES: [Case; 9] = [
+const CASES: [Case; 16] = [
     (ONE, 0, 0, Status::Done, DONE, MODEL),
     (ONE, 2, 0, Status::ReadFault, "cannot read: m.json\n", ""),
     (ONE, 4, 0, Status::WriteFault, "cannot write: o.json\n", ""),
@@ -60,6 +86,13 @@ const CASES: [Case; 9] = [
     (TWO, 2, 0, Status::ReadFault, "cannot read: n.json\n", ""),
     (TWO, 3, 0, Status::ReadFault, "cannot read: m.json\n", ""),
     (TWO, 4, 0, Status::ReadFault, "cannot read: t.qvto\n", ""),
+    (WRONG, 0, 0, Status::Fault, FAULT, ""),
+    (WRONG, 0, 1, Status::WriteFault, "", ""),
+    (WRONG, 0, 3, Status::WriteFault, "fault:", ""),
+    ("run gone.json", 0, 1, Status::WriteFault, "", ""),
+    ("run", 0, 2, Status::WriteFault, "usa", ""),
+    ("check m.json t.json", 0, 1, Status::WriteFault, "", ""),
+    ("print t.qvto", 0, 2, Status::WriteFault, "mod", ""),
 ];
 
 fn is_as_told(alloc: Global, case: &Case) -> Option<bool> {
@@ -71,9 +104,94 @@ fn is_as_told(alloc: Global, case: &Case) -> Option<bool> {
     Some(status == *expected && out.bytes() == line.as_bytes() && held == model.as_bytes())
 }
 
+/// A run with two outputs and a trace, over three reads and three writes: what is to fail, as above; and then the status,
+/// what the sink got, and what the first output, the second and the trace hold. Where the write of a file failed, this may
+/// hold anything, which is told by a star.
+type Whole = (u64, u64, Status, &'static str, [&'static str; 3]);
+
+const OTHER: &str = "{\"objects\":[{\"class\":\"C\",\"id\":\"o1\",\"slots\":{\"b\":8}}]}\n";
+
+const TRACE: &str = "{\"late\":[],\"records\":[]}\n";
+
+const BOTH: &str = "done: 2 objects, 0 records, 0 late, cost 8\n";
+
+const WHOLE: [Whole; 11] = [
+    (0, 0, Status::Done, BOTH, [MODEL, OTHER, TRACE]),
+    (
+        1,
+        0,
+        Status::ReadFault,
+        "cannot read: all.json\n",
+        ["", BEFORE, BEFORE],
+    ),
+    (
+        2,
+        0,
+        Status::ReadFault,
+        "cannot read: m.json\n",
+        ["", BEFORE, BEFORE],
+    ),
+    (
+        3,
+        0,
+        Status::ReadFault,
+        "cannot read: two.qvto\n",
+        ["", BEFORE, BEFORE],
+    ),
+    (
+        4,
+        0,
+        Status::WriteFault,
+        "cannot write: o.json\n",
+        ["*", BEFORE, BEFORE],
+    ),
+    (
+        5,
+        0,
+        Status::WriteFault,
+        "cannot write: p.json\n",
+        [MODEL, "*", BEFORE],
+    ),
+    (
+        6,
+        0,
+        Status::WriteFault,
+        "cannot write: tr.json\n",
+        [MODEL, OTHER, "*"],
+    ),
+    (0, 1, Status::WriteFault, "", [MODEL, OTHER, TRACE]),
+    (0, 4, Status::WriteFault, "done: 2 o", [MODEL, OTHER, TRACE]),
+    (5, 1, Status::WriteFault, "", [MODEL, "*", BEFORE]),
+    (2, 2, Status::WriteFault, "can", ["", BEFORE, BEFORE]),
+];
+
+fn holds(files: &MemFiles, name: &str, wanted: &str) -> bool {
+    wanted == "*" || files.held(name).unwrap_or(b"") == wanted.as_bytes()
+}
+
+fn is_whole_as_told(alloc: Global, case: &Whole) -> Option<bool> {
+    let (failing, lost, expected, line, [first, second, trace]) = case;
+    let mut files = files_of(alloc, *failing)?;
+    let mut out = MemSink::new(alloc, Seq::from_slice(alloc, &[*lost]).ok()?, 3);
+    let status = call(alloc, "run all.json", &mut files, &mut out).ok()?;
+    let is_told = status == *expected && out.bytes() == line.as_bytes();
+    let are_outputs = holds(&files, "o.json", first) && holds(&files, "p.json", second);
+    Some(is_told && are_outputs && holds(&files, "tr.json", trace))
+}
+
 #[test]
 fn what_fails_outside_is_told(rt: HostRuntime) {
     for case in &CASES {
         assert!(rt; is_as_told(rt.alloc(), case) == Some(true), "{case:?}");
+    }
+}
+
+#[test]
+fn earlier_files_are_whole_and_later_ones_untouched(rt: HostRuntime) {
+    for case in &WHOLE {
+        assert!(rt;
+            is_whole_as_told(rt.alloc(), case) == Some(true),
+            "{case:?}"
+        );
     }
 }
