@@ -145,8 +145,9 @@ fn of_several_keys(alloc: Global) -> Result<Trace, TraceFault> {
         (0, Some(3), [1, 2].as_slice(), None),
         (0, Some(3), [].as_slice(), Some(8)),
     ] {
+        let count = trace.len();
         let number = trace.add(record(mapping, context, numbers(alloc, args)?, made))?;
-        if number + 1 != trace.len() {
+        if number != count {
             return Err(TraceFault::NoMemory);
         }
     }
