@@ -53,9 +53,10 @@ fn finished_left(
     };
     let trace = &finished.state.trace;
     let entries = written_entries(alloc, trace, store.as_store(), kept)?;
+    let records = trace.as_slice();
     let end = RunEnd {
         store: store.as_store(),
-        records: trace.as_slice(),
+        records,
         entries: entries.as_slice(),
         cost: finished.cost,
     };

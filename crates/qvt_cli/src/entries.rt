@@ -7,8 +7,8 @@ use qvt_base::list_fault::ListFault;
 use qvt_base::seq::Seq;
 use qvt_exec::entries::Entry;
 use qvt_exec_resolves::candidates::candidates;
+use qvt_exec_resolves::trace::Trace;
 use qvt_store::store::Store;
-use qvt_trace::trace::Trace;
 use qvt_trace_text::entry::WrittenEntry;
 use std::alloc::Global;
 

@@ -17,13 +17,13 @@ use qvt_exec_answers::questions::Question;
 use qvt_exec_answers::room::Room;
 use qvt_exec_answers::sifting::Sum;
 use qvt_exec_answers::vars::locals_of;
+use qvt_exec_resolves::trace::Trace;
 use qvt_exec_resolves::verdicts::Found;
 use qvt_exec_state::cost::Cost;
 use qvt_run_data::exit::End;
 use qvt_run_data::fault::RunFault;
 use qvt_run_data::late::LateWrite;
 use qvt_store::store::Store;
-use qvt_trace::trace::Trace;
 use std::alloc::Global;
 use std::mem;
 

@@ -14,13 +14,13 @@ use crate::sifting::{Sum, sift};
 use qvt_base::list_fault::ListFault;
 use qvt_base::numbers::Place;
 use qvt_exec_resolves::candidates::candidates;
+use qvt_exec_resolves::trace::Trace;
 use qvt_exec_resolves::verdicts::answer_value;
 use qvt_exec_state::state::RunState;
 use qvt_exec_state::steps::spend;
 use qvt_run_data::exit::{End, Exit, Halt};
 use qvt_run_data::request::Query;
 use qvt_store::store::Store;
-use qvt_trace::trace::Trace;
 use qvt_value::value::Value;
 
 /// The answer of a question over a trace and a store, None where its cost is above the fuel.

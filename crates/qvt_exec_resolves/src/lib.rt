@@ -10,3 +10,5 @@ pub mod number_set;
 pub mod sources;
 pub mod units;
 pub mod verdicts;
+
+pub use qvt_trace::trace;

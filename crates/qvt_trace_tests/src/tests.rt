@@ -9,6 +9,7 @@ use qvt_value::value::{Kind, LiteralRef, Reason, Value, Values};
 use std::alloc::Global;
 
 /// A value as a table holds it.
+#[derive(Clone, Copy)]
 enum Sample {
     Null,
     Bool(bool),
@@ -90,12 +91,12 @@ fn args_with(alloc: Global, sample: &Sample) -> Result<Values, ListFault> {
     Ok(args)
 }
 
-fn record(mapping: u32, context: Option<u32>, args: Values, result: Option<u32>) -> Record {
+fn record(mapping: u32, context: Option<u32>, args: Values, made: Option<u32>) -> Record {
     Record {
         mapping: MappingNo(mapping),
         context: context.map(Oid),
         args,
-        result: result.map(Oid),
+        result: made.map(Oid),
     }
 }
 
@@ -117,8 +118,16 @@ fn arguments_of_every_sort(rt: HostRuntime) -> Result<(), TraceFault> {
         let args = args_with(alloc, sample)?;
         let found = trace.find(MappingNo(0), Some(Oid(4)), args.as_slice());
         assert!(rt; found == Some(number), "{number}");
-        assert!(rt; trace.find(MappingNo(1), Some(Oid(4)), args.as_slice()).is_none());
-        assert!(rt; trace.find(MappingNo(0), Some(Oid(5)), args.as_slice()).is_none());
+        assert!(rt;
+            trace
+                .find(MappingNo(1), Some(Oid(4)), args.as_slice())
+                .is_none()
+        );
+        assert!(rt;
+            trace
+                .find(MappingNo(0), Some(Oid(5)), args.as_slice())
+                .is_none()
+        );
         assert!(rt; trace.find(MappingNo(0), None, args.as_slice()).is_none());
     }
     Ok(())
@@ -127,7 +136,7 @@ fn arguments_of_every_sort(rt: HostRuntime) -> Result<(), TraceFault> {
 /// Records of three mappings on several contexts. The second and the last have one key.
 fn of_several_keys(alloc: Global) -> Result<Trace, TraceFault> {
     let mut trace = Trace::new(alloc);
-    for (mapping, context, args, result) in [
+    for (mapping, context, args, made) in [
         (0, None, [].as_slice(), Some(8)),
         (0, Some(3), [].as_slice(), Some(9)),
         (1, Some(3), [].as_slice(), None),
@@ -136,8 +145,9 @@ fn of_several_keys(alloc: Global) -> Result<Trace, TraceFault> {
         (0, Some(3), [1, 2].as_slice(), None),
         (0, Some(3), [].as_slice(), Some(8)),
     ] {
-        let number = trace.add(record(mapping, context, numbers(alloc, args)?, result))?;
-        if number + 1 != trace.len() {
+        let count = trace.len();
+        let number = trace.add(record(mapping, context, numbers(alloc, args)?, made))?;
+        if number != count {
             return Err(TraceFault::NoMemory);
         }
     }

@@ -11,7 +11,7 @@ returns-clause-gives c = λ before is.
       written = record {
         store = held ∙ sym c.as_store-2.ensures;
         records = sym c.as_slice-records.ensures;
-        entries = entries_left c.candidates_stay.ensures before (contents_of c.args.finished.state.store) _ c.args.finished.state.trace _ _ _ _ is (c.as_store.ensures ∙ sym held) c.as_slice-records.ensures c.replace-kept.ensures.value
+        entries = entries_left c.candidates_stay.ensures before (contents_of c.args.finished.state.store) _ c.args.finished.state.trace _ _ _ _ is (c.as_store.ensures ∙ sym held) refl c.replace-kept.ensures.value
             (c.as_slice.ensures ∙ c.in_ok-entries.ensures);
       };
       cost = refl;

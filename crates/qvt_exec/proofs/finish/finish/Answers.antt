@@ -1,4 +1,4 @@
-use Rattle.std.proofs.Common.{List, Ok, Err, subst}
+use Rattle.std.proofs.Common.{List, Ok, Err, refl, subst}
 use Rattle.qvt_live_store.specs.Held.{contents_of}
 use Rattle.qvt_exec_state.specs.Runs.{seen}
 use Rattle.qvt_exec_answers.specs.Answering.{program_of}
@@ -9,14 +9,14 @@ use Rattle.qvt_exec.proofs.finish.finish.Goals as goal
 
 pub returns-in-Ok : goal.returns-in-Ok
 returns-in-Ok c =
-    let patched = rw c.as_slice-2.ensures at c.in-Ok.ensures in
-    carried (program_of c.args.a.now) c.args.a.now.fuel (seen c.args.state) c.as_store.result.now c.as_slice.result.now c.replace-writes.result c.replace-cost.result c.in_ok-entries.entries
-    c.walk.new.cost c.told-cost.result c.as_slice.ensures c.as_store.ensures c.replace-writes.ensures.value c.replace-cost.ensures.value (as_told c.walk.new.cost c.told-cost.result c.told-cost.ensures c.if-cost.false)
+    let patched = rw c.as_slice.ensures at c.in-Ok.ensures in
+    carried (program_of c.args.a.now) c.args.a.now.fuel (seen c.args.state) c.as_store.result.now c.args.state.trace c.replace-writes.result c.replace-cost.result c.in_ok-entries.entries
+    c.walk.new.cost c.told-cost.result refl c.as_store.ensures c.replace-writes.ensures.value c.replace-cost.ensures.value (as_told c.walk.new.cost c.told-cost.result c.told-cost.ensures c.if-cost.false)
     c.in_ok-entries.ensures.0 c.in_ok-entries.ensures.1 (Ok (contents_of c.patch_all.new.store)) patched
 
 pub returns : goal.returns
 returns c =
-    let patched = subst (λ (xs : List Entry). PatchesAll (contents_of c.args.state.store) xs (Err c.in-Err.stop) (contents_of c.patch_all.new.store)) c.as_slice-2.ensures c.in-Err.ensures in
-    stopped (program_of c.args.a.now) c.args.a.now.fuel (seen c.args.state) c.as_store.result.now c.as_slice.result.now c.replace-writes.result c.replace-cost.result c.in_ok-entries.entries
-    c.walk.new.cost c.told-cost.result c.as_slice.ensures c.as_store.ensures c.replace-writes.ensures.value c.replace-cost.ensures.value (as_told c.walk.new.cost c.told-cost.result c.told-cost.ensures c.if-cost.false)
+    let patched = subst (λ (xs : List Entry). PatchesAll (contents_of c.args.state.store) xs (Err c.in-Err.stop) (contents_of c.patch_all.new.store)) c.as_slice.ensures c.in-Err.ensures in
+    stopped (program_of c.args.a.now) c.args.a.now.fuel (seen c.args.state) c.as_store.result.now c.args.state.trace c.replace-writes.result c.replace-cost.result c.in_ok-entries.entries
+    c.walk.new.cost c.told-cost.result refl c.as_store.ensures c.replace-writes.ensures.value c.replace-cost.ensures.value (as_told c.walk.new.cost c.told-cost.result c.told-cost.ensures c.if-cost.false)
     c.in-Err.stop (contents_of c.patch_all.new.store) c.in_ok-entries.ensures.0 c.in_ok-entries.ensures.1 patched
