@@ -19,6 +19,7 @@ use qvt_run_data::callee::{Callee, Way};
 use qvt_run_data::exit::Halt;
 use qvt_value::value::{Value, Values};
 
+#[inline(never)]
 fn helper_at<C: Nested>(
     run: &Run,
     units: &ReadyUnits<C>,
@@ -37,6 +38,7 @@ fn helper_at<C: Nested>(
     }
 }
 
+#[inline(never)]
 fn constructor_at<C: Nested>(
     run: &Run,
     units: &ReadyUnits<C>,
@@ -56,6 +58,7 @@ fn constructor_at<C: Nested>(
     }
 }
 
+#[inline(never)]
 fn mapping_by_number<C: Nested>(
     run: &Run,
     units: &ReadyUnits<C>,

@@ -8,9 +8,12 @@ ghost use Rattle.qvt_exec.specs.Calls.{calls_of, units_of};
 use crate::below::Below;
 use crate::called::called;
 use crate::inside::{block_inside, expr_inside};
+use crate::stack::left_in_call;
 use qvt_base::numbers::Place;
 use qvt_exec_answers::answering::Answering;
+use qvt_exec_answers::exprs::{bytes_of, left_behind};
 use qvt_exec_mappings::run::Run;
+use qvt_exec_mappings::statements::bytes_of_block;
 use qvt_exec_phrases::engine::Engine;
 use qvt_exec_state::state::RunState;
 use qvt_run_data::callee::Callee;
@@ -22,12 +25,13 @@ use qvt_value::value::{Value, Values};
 /// How many calls of units may be open.
 pub const DEPTH: u32 = 100;
 
-/// How many phrases and calls may stand inside one another in a run. It guards the stack of 8 MiB: a phrase that would
-/// stand deeper is told as want of memory. A call goes on with what is left of it.
-pub const PHRASES: u32 = 1400;
+/// How many bytes of the stack the phrases and calls of a run may take. It guards the stack of 8 MiB: a phrase that would
+/// stand deeper is told as want of memory. A call goes on with what is left of them.
+pub const STACK: u32 = 7_600_000;
 
-/// What an expression gives, where so many calls may be open and so many phrases are left.
+/// What an expression gives, where so many calls may be open and so many bytes of the stack are left.
 #[cycle(run)]
+#[inline(never)]
 fn expr_at(
     a: &Answering<'_, '_>,
     calls: u32,
@@ -39,22 +43,23 @@ fn expr_at(
     requires { IsTable a.now.expressions.now }
     ensures { Runs (expr_of (x.now, units_of a.now calls) node.now (seen state.old)) result state.new }
 {
-    if left == 0 {
+    let Some(less) = left_behind(left, bytes_of(node)) else {
         return Err(Halt::NoMemory);
-    }
+    };
     let inside = Below {
         answering: a,
         expr_at,
         block_at,
         call_at,
         calls,
-        left: left - 1,
+        left: less,
     };
     expr_inside(x, inside, node, state)
 }
 
-/// What a block does, where so many calls may be open and so many phrases are left.
+/// What a block does, where so many calls may be open and so many bytes of the stack are left.
 #[cycle(run)]
+#[inline(never)]
 fn block_at(
     a: &Answering<'_, '_>,
     calls: u32,
@@ -66,22 +71,23 @@ fn block_at(
     requires { IsTable a.now.expressions.now }
     ensures { Runs (block_of (x.now, units_of a.now calls) nodes.now (seen state.old)) result state.new }
 {
-    if left == 0 {
+    let Some(less) = left_behind(left, bytes_of_block(nodes.as_slice())) else {
         return Err(Halt::NoMemory);
-    }
+    };
     let inside = Below {
         answering: a,
         expr_at,
         block_at,
         call_at,
         calls,
-        left: left - 1,
+        left: less,
     };
     block_inside(x, inside, nodes, state)
 }
 
-/// The call of a unit, where so many may be open and so many phrases are left.
+/// The call of a unit, where so many may be open and so many bytes of the stack are left.
 #[cycle(run)]
+#[inline(never)]
 fn call_at(
     a: &Answering<'_, '_>,
     calls: u32,
@@ -97,16 +103,16 @@ fn call_at(
     if calls == 0 {
         return Err(Halt::Exits(Exit::Ends(End::Fault(RunFault::CallDepth, place))));
     }
-    if left == 0 {
+    let Some(less) = left_in_call(a.expressions.program(), &callee, left) else {
         return Err(Halt::NoMemory);
-    }
+    };
     let inside = Below {
         answering: a,
         expr_at,
         block_at,
         call_at,
         calls: calls - 1,
-        left: left - 1,
+        left: less,
     };
     let run = Run {
         alloc: a.alloc,
@@ -125,7 +131,7 @@ pub fn value_of(
     requires { IsTable a.now.expressions.now }
     ensures { Runs (expr_of (x.now, units_of a.now 100) node.now (seen state.old)) result state.new }
 {
-    expr_at(a, DEPTH, PHRASES, x, node, state)
+    expr_at(a, DEPTH, STACK, x, node, state)
 }
 
 /// What a block does in a run, outside all calls.
@@ -138,5 +144,5 @@ pub fn run_block(
     requires { IsTable a.now.expressions.now }
     ensures { Runs (block_of (x.now, units_of a.now 100) nodes.now (seen state.old)) result state.new }
 {
-    block_at(a, DEPTH, PHRASES, x, nodes, state)
+    block_at(a, DEPTH, STACK, x, nodes, state)
 }

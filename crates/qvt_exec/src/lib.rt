@@ -14,6 +14,7 @@ mod patches;
 mod routine_at;
 mod routines;
 pub mod run;
+mod stack;
 pub mod stop;
 mod walk;
 

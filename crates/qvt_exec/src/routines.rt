@@ -64,6 +64,7 @@ fn answered<C: Nested>(
 }
 
 /// A helper or a query on its context, with these arguments.
+#[inline(never)]
 #[tactic(auto, unfolding(qvt_run_rules::specs::Calls::helper, crate::specs::Routines::routine_in))]
 pub fn helper<C: Nested>(
     run: &Run,
@@ -109,6 +110,7 @@ fn joined(first: Seq<Local>, others: Seq<Local>) -> Result<Seq<Local>, ListFault
 }
 
 /// The new object as `self` and `result`, and these variables.
+#[inline(never)]
 fn with_new(alloc: Global, object: Oid, locals: Seq<Local>) -> Result<Seq<Local>, ListFault>
     ensures { IfOk result (λ own. own ≡ fixed self_name (Obj object) ∷ fixed result_name (Obj object) ∷ locals) }
 {
@@ -149,6 +151,7 @@ fn on_new<C: Nested>(
 }
 
 /// A constructor, with the class and the extent of the new object.
+#[inline(never)]
 #[tactic(auto, unfolding(qvt_run_rules::specs::Calls::constructor_, crate::specs::Routines::routine_in))]
 pub fn constructor<C: Nested>(
     run: &Run,

@@ -45,6 +45,7 @@ fn chosen<C: Nested>(
 }
 
 /// A conditional, of which one side alone is evaluated.
+#[inline(never)]
 #[tactic(auto, unfolding(qvt_run_rules::specs::Expressions::conditional))]
 pub fn conditional<C: Nested>(
     x: &Engine<'_>,

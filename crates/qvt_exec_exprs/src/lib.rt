@@ -4,7 +4,9 @@
 mod conditionals;
 pub mod exprs;
 mod items;
+mod leaves;
 mod literals;
 mod operands;
+mod stack;
 
 pub use qvt_exec_steps::{engine, nested, units};

@@ -59,17 +59,18 @@ fn collected<C: Nested>(
 }
 
 /// A collection literal.
+#[inline(never)]
 #[tactic(auto, unfolding(qvt_run_rules::specs::Expressions::collected))]
 pub fn collection<C: Nested>(
     x: &Engine<'_>,
     units: &ReadyUnits<C>,
     nodes: &[TypedItem],
     kind: Kind,
-    place: Place,
+    place: &Place,
     state: &mut RunState<'_>,
 ) -> Result<Value, Halt>
-    ensures { Runs (rule.collected (spend_of x.now.limit) kind (items_of (x.now, C.means units.now) nodes.now) place (seen state.old)) result state.new }
+    ensures { Runs (rule.collected (spend_of x.now.limit) kind (items_of (x.now, C.means units.now) nodes.now) place.now (seen state.old)) result state.new }
 {
     tick(x.limit, state)?;
-    collected(x, units, nodes, kind, place, state)
+    collected(x, units, nodes, kind, *place, state)
 }

@@ -2,6 +2,7 @@
 
 ghost use Rattle.std.specs.Prelude.{length};
 ghost use Rattle.qvt_meaning.specs.Readings as by;
+ghost use Rattle.qvt_run_rules.specs.Cost.{spend_of};
 ghost use Rattle.qvt_run_rules.specs.Expressions as rule;
 ghost use Rattle.qvt_exec_state.specs.Runs.{Runs, seen};
 ghost use Rattle.qvt_exec_leaves.specs.Signs.{signed_by};
@@ -16,14 +17,53 @@ use qvt_exec_steps::engine::Engine;
 use qvt_exec_steps::nested::{Nested, expr};
 use qvt_exec_steps::units::ReadyUnits;
 use qvt_exec_words::logic::by_left;
+use qvt_ocl_words::op::Op;
 use qvt_run_data::exit::Halt;
 use qvt_types_nodes::tree::{TypedExpr, TypedLink};
 use qvt_types_nodes::types::TypedSign;
 use qvt_value::value::Value;
 
-/// A further operand of a chain. A word of logic may know its value before its right side, which is then
-/// not evaluated.
-#[tactic(auto, unfolding(qvt_exec_phrases::specs::Means::link_of, qvt_exec_phrases::specs::Means::expr_of, qvt_meaning::specs::Phrases::link, qvt_run_rules::specs::Expressions::operated, qvt_run_rules::specs::Expressions::logical))]
+/// An operator on what stands before it and its operand.
+#[inline(never)]
+#[tactic(auto, unfolding(qvt_run_rules::specs::Expressions::operated))]
+fn operated<C: Nested>(
+    x: &Engine<'_>,
+    units: &ReadyUnits<C>,
+    node: &TypedLink,
+    op: Op,
+    left: Value,
+    state: &mut RunState<'_>,
+) -> Result<Value, Halt>
+    ensures { Runs (rule.operated (spend_of x.now.limit) op (expr_of (x.now, C.means units.now) node.now.operand) node.now.place left (seen state.old)) result state.new }
+{
+    tick(x.limit, state)?;
+    let args = [expr(x, units, &node.operand, state)?];
+    applied_to(x.alloc, op, &args, node.place, left, state)
+}
+
+/// A word of logic, which may know its value before its right side: that is then not evaluated.
+#[inline(never)]
+#[tactic(auto, unfolding(qvt_run_rules::specs::Expressions::logical))]
+fn logical<C: Nested>(
+    x: &Engine<'_>,
+    units: &ReadyUnits<C>,
+    node: &TypedLink,
+    left: Value,
+    state: &mut RunState<'_>,
+) -> Result<Value, Halt>
+    ensures { Runs (rule.logical (spend_of x.now.limit) node.now.op (expr_of (x.now, C.means units.now) node.now.operand) node.now.place left (seen state.old)) result state.new }
+{
+    tick(x.limit, state)?;
+    if let Some(value) = by_left(node.op, &left) {
+        return Ok(value);
+    }
+    let right = expr(x, units, &node.operand, state)?;
+    worded(node.op, left, right, node.place, state)
+}
+
+/// A further operand of a chain.
+#[inline(always)]
+#[tactic(auto, unfolding(qvt_exec_phrases::specs::Means::link_of, qvt_exec_phrases::specs::Means::expr_of, qvt_meaning::specs::Phrases::link))]
 fn link<C: Nested>(
     x: &Engine<'_>,
     units: &ReadyUnits<C>,
@@ -33,19 +73,9 @@ fn link<C: Nested>(
 ) -> Result<Value, Halt>
     ensures { Runs (link_of (x.now, C.means units.now) node.now left (seen state.old)) result state.new }
 {
-    tick(x.limit, state)?;
     match operation_of(node.op) {
-        Some(op) => {
-            let args = [expr(x, units, &node.operand, state)?];
-            applied_to(x.alloc, op, &args, node.place, left, state)
-        }
-        None => match by_left(node.op, &left) {
-            Some(value) => Ok(value),
-            None => {
-                let right = expr(x, units, &node.operand, state)?;
-                worded(node.op, left, right, node.place, state)
-            }
-        },
+        Some(op) => operated(x, units, node, op, left, state),
+        None => logical(x, units, node, left, state),
     }
 }
 
@@ -68,6 +98,7 @@ fn links<C: Nested>(
 }
 
 /// A chain of operands.
+#[inline(never)]
 #[tactic(auto, unfolding(qvt_run_rules::specs::Expressions::on_first))]
 pub fn chain<C: Nested>(
     x: &Engine<'_>,
@@ -98,6 +129,7 @@ fn prefixed<C: Nested>(
 }
 
 /// The same of an operand with signs, which are told from the outer one inwards.
+#[inline(never)]
 pub fn signed<C: Nested>(
     x: &Engine<'_>,
     units: &ReadyUnits<C>,

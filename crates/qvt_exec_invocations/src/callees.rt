@@ -22,6 +22,7 @@ use qvt_types_data::note::Reading;
 use qvt_value::value::{Value, Values};
 
 /// What a call with this reading calls for an object, by its class.
+#[inline(never)]
 pub(crate) fn chosen<C: Nested>(
     x: &Engine<'_>,
     units: &ReadyUnits<C>,
@@ -45,6 +46,7 @@ pub(crate) fn chosen<C: Nested>(
 }
 
 /// What a call with this reading calls without a context.
+#[inline(never)]
 pub(crate) fn without_context<C: Nested>(
     units: &ReadyUnits<C>,
     reading: &Reading,
@@ -56,6 +58,7 @@ pub(crate) fn without_context<C: Nested>(
 }
 
 /// The constructor of the class with so many parameters.
+#[inline(never)]
 pub(crate) fn constructor<C: Nested>(
     units: &ReadyUnits<C>,
     class: ClassNo,

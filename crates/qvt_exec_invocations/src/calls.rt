@@ -45,6 +45,7 @@ fn argument<C: Nested>(
 }
 
 /// The arguments of a call, of which none is invalid.
+#[inline(never)]
 #[tactic(auto, unfolding(qvt_exec_phrases::specs::Means::exprs_of, qvt_exec_phrases::specs::Means::expr_of, qvt_meaning::specs::Phrases::exprs))]
 fn arguments<C: Nested>(
     x: &Engine<'_>,
@@ -63,6 +64,7 @@ fn arguments<C: Nested>(
 }
 
 /// A call on a context: null is told before the arguments.
+#[inline(never)]
 fn on_context<C: Nested>(
     x: &Engine<'_>,
     units: &ReadyUnits<C>,
@@ -80,6 +82,7 @@ fn on_context<C: Nested>(
 }
 
 /// A call of a unit without a context.
+#[inline(never)]
 #[tactic(auto, unfolding(qvt_run_rules::specs::Calls::call_free))]
 fn call_free<C: Nested>(
     x: &Engine<'_>,
@@ -102,6 +105,7 @@ fn call_free<C: Nested>(
 }
 
 /// A call on an implicit source.
+#[inline(never)]
 #[tactic(auto, unfolding(qvt_run_rules::specs::Calls::call_implicit))]
 fn call_implicit<C: Nested>(
     x: &Engine<'_>,
@@ -119,6 +123,7 @@ fn call_implicit<C: Nested>(
 }
 
 /// A call without a step: on the implicit source, or without a context.
+#[inline(never)]
 fn alone<C: Nested>(
     x: &Engine<'_>,
     units: &ReadyUnits<C>,
@@ -147,24 +152,26 @@ fn alone<C: Nested>(
 }
 
 /// A call without a step, on its implicit source if it has one. A plain expression has none.
+#[inline(never)]
 pub fn call_alone<C: Nested>(
     x: &Engine<'_>,
     units: &ReadyUnits<C>,
     args: &[TypedExpr],
     note: &Note,
     strict: bool,
-    place: Place,
+    place: &Place,
     state: &mut RunState<'_>,
 ) -> Result<Value, Halt>
-    ensures { Runs (barred_in x.now.is_plain place (by.call_alone (setting_of (x.now, C.means units.now)) (C.means units.now).calls note.now.reading note.now.source strict (exprs_of (x.now, C.means units.now) args.now) place) (seen state.old)) result state.new }
+    ensures { Runs (barred_in x.now.is_plain place.now (by.call_alone (setting_of (x.now, C.means units.now)) (C.means units.now).calls note.now.reading note.now.source strict (exprs_of (x.now, C.means units.now) args.now) place.now) (seen state.old)) result state.new }
 {
     if x.is_plain {
-        return misfit(place);
+        return misfit(*place);
     }
-    alone(x, units, args, note, strict, place, state)
+    alone(x, units, args, note, strict, *place, state)
 }
 
 /// A call behind a dot, on one object.
+#[inline(never)]
 #[tactic(auto, unfolding(qvt_run_rules::specs::Calls::call_step))]
 fn call_step<C: Nested>(
     x: &Engine<'_>,
@@ -182,6 +189,7 @@ fn call_step<C: Nested>(
 }
 
 /// A helper or a query for each item of a collection.
+#[inline(never)]
 #[tactic(auto, unfolding(qvt_run_rules::specs::Calls::call_each))]
 fn call_each<C: Nested>(
     x: &Engine<'_>,
@@ -211,6 +219,7 @@ fn call_each<C: Nested>(
 
 /// A helper or a query behind a dot: on one object, or for each item of a collection where the note says
 /// so. A plain expression has none.
+#[inline(always)]
 pub fn unit_step<C: Nested>(
     x: &Engine<'_>,
     units: &ReadyUnits<C>,
@@ -238,6 +247,7 @@ pub fn unit_step<C: Nested>(
 }
 
 /// A mapping over a collection, or over a single value behind an arrow.
+#[inline(never)]
 #[tactic(auto, unfolding(qvt_run_rules::specs::Calls::map_all))]
 fn map_all<C: Nested>(
     x: &Engine<'_>,
@@ -266,6 +276,7 @@ fn map_all<C: Nested>(
 
 /// A mapping behind a dot or an arrow: on all objects of the value, or on the one that it is. A plain
 /// expression has none.
+#[inline(always)]
 pub fn map_step<C: Nested>(
     x: &Engine<'_>,
     units: &ReadyUnits<C>,
@@ -383,18 +394,19 @@ fn made<C: Nested>(
 
 /// A `new`: an object that the constructor of the class with so many parameters makes, or an object alone.
 /// A plain expression has none.
+#[inline(never)]
 pub fn new_by<C: Nested>(
     x: &Engine<'_>,
     units: &ReadyUnits<C>,
     args: &[TypedExpr],
     reading: &Reading,
-    place: Place,
+    place: &Place,
     state: &mut RunState<'_>,
 ) -> Result<Value, Halt>
-    ensures { Runs (barred_in x.now.is_plain place (by.new_by (setting_of (x.now, C.means units.now)) (C.means units.now).calls reading.now (exprs_of (x.now, C.means units.now) args.now) place) (seen state.old)) result state.new }
+    ensures { Runs (barred_in x.now.is_plain place.now (by.new_by (setting_of (x.now, C.means units.now)) (C.means units.now).calls reading.now (exprs_of (x.now, C.means units.now) args.now) place.now) (seen state.old)) result state.new }
 {
     if x.is_plain {
-        return misfit(place);
+        return misfit(*place);
     }
-    made(x, units, args, reading, place, state)
+    made(x, units, args, reading, *place, state)
 }

@@ -24,6 +24,7 @@ use qvt_types_nodes::types::TypedObjectVar;
 use qvt_value::value::Value;
 
 /// A body whose bare names mean the properties of this object.
+#[inline(never)]
 #[tactic(auto, unfolding(qvt_run_rules::specs::Locals::inside))]
 fn body_inside<C: Nested>(
     x: &Engine<'_>,
@@ -57,6 +58,7 @@ fn on_object<C: Nested>(
 }
 
 /// A new object.
+#[inline(never)]
 #[tactic(auto, unfolding(qvt_run_rules::specs::Statements::object))]
 fn object<C: Nested>(
     x: &Engine<'_>,
@@ -75,6 +77,7 @@ fn object<C: Nested>(
 }
 
 /// The object of a variable, or a new one where it is null.
+#[inline(never)]
 #[tactic(auto, unfolding(qvt_run_rules::specs::Statements::object_in))]
 fn object_in<C: Nested>(
     x: &Engine<'_>,
@@ -139,19 +142,20 @@ fn object_by<C: Nested>(
 }
 
 /// An object expression: on a new object, or on that of its variable. No plain expression is one.
+#[inline(never)]
 pub fn object_barred<C: Nested>(
     x: &Engine<'_>,
     units: &ReadyUnits<C>,
     body: &TypedStmts,
     variable: &Option<TypedObjectVar>,
     note: &Note,
-    place: Place,
+    place: &Place,
     state: &mut RunState<'_>,
 ) -> Result<Value, Halt>
-    ensures { Runs (barred_in x.now.is_plain place (by.object_by (setting_of (x.now, C.means units.now)) (by.variable_of (setting_of (x.now, C.means units.now)) variable.now) note.now.reading (block_of (x.now, C.means units.now) body.now) place) (seen state.old)) result state.new }
+    ensures { Runs (barred_in x.now.is_plain place.now (by.object_by (setting_of (x.now, C.means units.now)) (by.variable_of (setting_of (x.now, C.means units.now)) variable.now) note.now.reading (block_of (x.now, C.means units.now) body.now) place.now) (seen state.old)) result state.new }
 {
     if x.is_plain {
-        return misfit(place);
+        return misfit(*place);
     }
-    object_by(x, units, body, variable, note, place, state)
+    object_by(x, units, body, variable, note, *place, state)
 }

@@ -54,6 +54,7 @@ fn alone<C: Nested>(
 }
 
 /// A resolve without a source, which no plain expression has.
+#[inline(never)]
 #[tactic(auto, using(crate::proofs::Marks::stands))]
 pub fn resolve_alone<C: Nested>(
     x: &Engine<'_>,
@@ -70,6 +71,7 @@ pub fn resolve_alone<C: Nested>(
 }
 
 /// A resolve behind a source.
+#[inline(never)]
 #[tactic(auto, unfolding(qvt_run_rules::specs::Resolve::resolve_step))]
 fn step<C: Nested>(
     x: &Engine<'_>,
@@ -92,6 +94,7 @@ fn step<C: Nested>(
 }
 
 /// A resolve behind a source, which no plain expression has.
+#[inline(always)]
 #[tactic(auto, using(crate::proofs::Marks::stands))]
 pub fn resolve_step<C: Nested>(
     x: &Engine<'_>,

@@ -8,19 +8,21 @@ ghost use Rattle.qvt_exec_plain.specs.Alone.{alone_in};
 use crate::alone::Alone;
 use crate::inside::{block_inside, expr_inside};
 use qvt_exec_exprs::engine::Engine;
+use qvt_exec_exprs::exprs::{bytes_of, left_behind};
 use qvt_exec_state::state::RunState;
+use qvt_exec_statements::statements::bytes_of_block;
 use qvt_program_exprs::program::Program;
 use qvt_run_data::exit::Halt;
 use qvt_types_nodes::tree::{TypedExpr, TypedStmts};
 use qvt_value::value::Value;
 
-/// How many phrases may stand within one another. It guards the stack: want of memory is told of a phrase that
-/// stands deeper. No text that is read has such a one: of what stands open within one another there are at most
-/// 64, and fewer than 30 phrases between two of them.
-pub const NESTED: u32 = 2000;
+/// How many bytes of the stack the phrases of a plain expression may take. It guards the stack of 8 MiB, of which as much
+/// is kept free for them: want of memory is told of a phrase that would stand deeper.
+pub const STACK: u32 = 500_000;
 
-/// What an expression gives, where so many phrases may stand within one another.
+/// What an expression gives, where so many bytes of the stack are left.
 #[cycle(alone)]
+#[inline(never)]
 fn expr_at(
     program: &Program,
     left: u32,
@@ -30,20 +32,21 @@ fn expr_at(
 ) -> Result<Value, Halt>
     ensures { Runs (expr_of (x.now, alone_in (program_view program.now)) node.now (seen state.old)) result state.new }
 {
-    if left == 0 {
+    let Some(less) = left_behind(left, bytes_of(node)) else {
         return Err(Halt::NoMemory);
-    }
+    };
     let inside = Alone {
         program,
         expr_at,
         block_at,
-        left: left - 1,
+        left: less,
     };
     expr_inside(x, inside, node, state)
 }
 
-/// What a block does, where so many phrases may stand within one another.
+/// What a block does, where so many bytes of the stack are left.
 #[cycle(alone)]
+#[inline(never)]
 fn block_at(
     program: &Program,
     left: u32,
@@ -53,14 +56,14 @@ fn block_at(
 ) -> Result<(), Halt>
     ensures { Runs (block_of (x.now, alone_in (program_view program.now)) nodes.now (seen state.old)) result state.new }
 {
-    if left == 0 {
+    let Some(less) = left_behind(left, bytes_of_block(nodes.as_slice())) else {
         return Err(Halt::NoMemory);
-    }
+    };
     let inside = Alone {
         program,
         expr_at,
         block_at,
-        left: left - 1,
+        left: less,
     };
     block_inside(x, inside, nodes.as_slice(), state)
 }
@@ -74,5 +77,5 @@ pub fn value_alone(
 ) -> Result<Value, Halt>
     ensures { Runs (expr_of (x.now, alone_in (program_view program.now)) node.now (seen state.old)) result state.new }
 {
-    expr_at(program, NESTED, x, node, state)
+    expr_at(program, STACK, x, node, state)
 }

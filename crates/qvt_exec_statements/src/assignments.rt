@@ -41,6 +41,7 @@ fn valid_value<C: Nested>(
 }
 
 /// A value for a slot of an object.
+#[inline(never)]
 fn put_value<C: Nested>(
     x: &Engine<'_>,
     units: &ReadyUnits<C>,
@@ -58,6 +59,7 @@ fn put_value<C: Nested>(
 }
 
 /// A value for a variable.
+#[inline(never)]
 #[tactic(auto, unfolding(qvt_run_rules::specs::Statements::assign_variable, qvt_run_rules::specs::Statements::add_variable))]
 fn variable_assign<C: Nested>(
     x: &Engine<'_>,
@@ -80,6 +82,7 @@ fn variable_assign<C: Nested>(
 }
 
 /// A value for what a bare name means.
+#[inline(never)]
 #[tactic(auto, unfolding(qvt_run_rules::specs::Statements::assign_property))]
 fn bare_assign<C: Nested>(
     x: &Engine<'_>,
@@ -111,6 +114,7 @@ fn bare_assign<C: Nested>(
 }
 
 /// A value for a property behind a dot.
+#[inline(never)]
 #[tactic(auto, unfolding(qvt_run_rules::specs::Statements::assign_property))]
 fn member_assign<C: Nested>(
     x: &Engine<'_>,
@@ -164,6 +168,7 @@ fn assign_value<C: Nested>(
 }
 
 /// An assignment. A late resolve makes an entry, and any other value is assigned.
+#[inline(never)]
 pub(crate) fn assigned<C: Nested>(
     x: &Engine<'_>,
     units: &ReadyUnits<C>,

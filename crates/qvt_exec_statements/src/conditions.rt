@@ -17,6 +17,7 @@ use qvt_run_data::exit::Halt;
 use qvt_types_nodes::tree::{TypedArm, TypedExpr, TypedStmts};
 
 /// Whether a condition is true.
+#[inline(never)]
 pub fn holds<C: Nested>(
     x: &Engine<'_>,
     units: &ReadyUnits<C>,
@@ -30,6 +31,7 @@ pub fn holds<C: Nested>(
 }
 
 /// A block where a condition is true: whether it was.
+#[inline(never)]
 #[tactic(auto, unfolding(qvt_run_rules::specs::Statements::turn))]
 pub(crate) fn turn<C: Nested>(
     x: &Engine<'_>,
@@ -99,6 +101,7 @@ fn arm<C: Nested>(
 }
 
 /// The first arm whose condition is true, or else what stands last.
+#[inline(never)]
 fn arms<C: Nested>(
     x: &Engine<'_>,
     units: &ReadyUnits<C>,
@@ -117,6 +120,7 @@ fn arms<C: Nested>(
 }
 
 /// An `if` with its arms.
+#[inline(never)]
 #[tactic(auto, unfolding(qvt_run_rules::specs::Statements::branch))]
 pub(crate) fn branch<C: Nested>(
     x: &Engine<'_>,

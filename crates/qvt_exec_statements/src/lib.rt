@@ -5,6 +5,7 @@ mod assignments;
 pub mod conditions;
 mod late;
 mod loops;
+mod stack;
 pub mod statements;
 mod targets;
 mod types;

@@ -29,6 +29,7 @@ use qvt_types_nodes::types::TypedTypeTree;
 use qvt_value::value::Value;
 
 /// A `while`. Each turn costs a unit at least, so there are no more turns than fuel.
+#[inline(never)]
 #[tactic(auto, using(crate::proofs::Turns::one_more, crate::proofs::Turns::none_left))]
 pub(crate) fn repeat<C: Nested>(
     x: &Engine<'_>,
@@ -99,6 +100,7 @@ fn each_item<C: Nested>(
 }
 
 /// The items of a value, which are of the type of the variable, in their order.
+#[inline(never)]
 fn over_items<C: Nested>(
     x: &Engine<'_>,
     units: &ReadyUnits<C>,
@@ -117,6 +119,7 @@ fn over_items<C: Nested>(
 }
 
 /// A `forEach`, whose items are taken once.
+#[inline(never)]
 #[tactic(auto, unfolding(qvt_run_rules::specs::Statements::for_each))]
 pub(crate) fn for_each<C: Nested>(
     x: &Engine<'_>,

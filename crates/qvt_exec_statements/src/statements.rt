@@ -8,6 +8,7 @@ ghost use Rattle.qvt_exec_steps.specs.Means.{block_of, does_of, stmt_of, stmts_o
 use crate::assignments::assigned;
 use crate::conditions::branch;
 use crate::loops::{for_each, repeat};
+pub use crate::stack::bytes_of_block;
 use crate::values::{discard, give, variable};
 use qvt_exec_state::state::RunState;
 use qvt_exec_state::steps::tick;
@@ -18,6 +19,7 @@ use qvt_run_data::exit::Halt;
 use qvt_types_nodes::tree::TypedStmt;
 
 /// What a statement does behind its unit.
+#[inline(always)]
 #[tactic(auto, unfolding(qvt_exec_phrases::specs::Means::optional_of, qvt_exec_phrases::specs::Means::return_of, qvt_exec_phrases::specs::Means::expr_of, qvt_exec_phrases::specs::Means::stmts_of, qvt_exec_phrases::specs::Means::arms_of, qvt_exec_phrases::specs::Means::otherwise_of, qvt_exec_phrases::specs::Means::guarded_of, qvt_exec_phrases::specs::Means::target_of, qvt_exec_phrases::specs::Means::late_source_of))]
 fn behind_unit<C: Nested>(
     x: &Engine<'_>,
@@ -68,6 +70,7 @@ fn behind_unit<C: Nested>(
 }
 
 /// A statement, which costs one unit.
+#[inline(always)]
 #[tactic(auto, using(crate::proofs::Charges::unit_first))]
 fn stmt<C: Nested>(
     x: &Engine<'_>,
@@ -82,6 +85,7 @@ fn stmt<C: Nested>(
 }
 
 /// Statements one after another, whose variables stay in scope.
+#[inline(always)]
 #[tactic(auto, unfolding(qvt_exec_phrases::specs::Means::stmts_of, qvt_exec_phrases::specs::Means::stmt_of, qvt_meaning::specs::Phrases::stmts))]
 pub fn in_order<C: Nested>(
     x: &Engine<'_>,
@@ -98,6 +102,7 @@ pub fn in_order<C: Nested>(
 }
 
 /// A block: statements one after another in a scope of their own.
+#[inline(always)]
 #[tactic(auto, unfolding(qvt_run_rules::specs::Statements::block, qvt_run_rules::specs::Locals::scoped))]
 pub fn in_scope<C: Nested>(
     x: &Engine<'_>,

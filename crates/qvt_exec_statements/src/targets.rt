@@ -32,6 +32,7 @@ pub(crate) fn bare_target(
 }
 
 /// The object of a property that is written behind a dot.
+#[inline(never)]
 #[tactic(auto, unfolding(qvt_run_rules::specs::Statements::member_target))]
 pub(crate) fn owner<C: Nested>(
     x: &Engine<'_>,

@@ -41,6 +41,7 @@ fn optional<C: Nested>(
 }
 
 /// The declaration of a variable.
+#[inline(never)]
 #[tactic(auto, unfolding(qvt_run_rules::specs::Statements::declare))]
 pub(crate) fn variable<C: Nested>(
     x: &Engine<'_>,
@@ -66,6 +67,7 @@ pub(crate) fn variable<C: Nested>(
 }
 
 /// What a `return` gives back to its unit.
+#[inline(never)]
 #[tactic(auto, unfolding(qvt_exec_phrases::specs::Means::return_of, qvt_exec_phrases::specs::Means::expr_of, qvt_meaning::specs::Phrases::return_, qvt_run_rules::specs::Statements::give_back, qvt_run_rules::specs::Statements::go_back))]
 pub(crate) fn give<C: Nested>(
     x: &Engine<'_>,
@@ -85,6 +87,7 @@ pub(crate) fn give<C: Nested>(
 }
 
 /// An expression whose value is dropped.
+#[inline(never)]
 #[tactic(auto, unfolding(qvt_run_rules::specs::Statements::discard))]
 pub(crate) fn discard<C: Nested>(
     x: &Engine<'_>,

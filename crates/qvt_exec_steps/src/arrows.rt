@@ -31,6 +31,7 @@ use qvt_types_steps::iterators::{IteratorKind, iterator_named};
 use qvt_value::value::Value;
 
 /// An iterator without an accumulator.
+#[inline(always)]
 fn iterator<C: Nested>(
     x: &Engine<'_>,
     units: &ReadyUnits<C>,
@@ -50,6 +51,7 @@ fn iterator<C: Nested>(
 }
 
 /// A step that has no accumulator, on the collection that it goes over.
+#[inline(always)]
 #[tactic(auto, using(crate::proofs::Args::no_body), unfolding(qvt_exec_phrases::specs::Means::exprs_of, qvt_exec_phrases::specs::Means::expr_of, qvt_meaning::specs::Phrases::exprs))]
 fn arrow_on<C: Nested>(
     x: &Engine<'_>,
@@ -77,6 +79,7 @@ fn arrow_on<C: Nested>(
 }
 
 /// `iterate` with its accumulator, whose first value is evaluated whatever the source is.
+#[inline(never)]
 #[tactic(auto, unfolding(qvt_run_rules::specs::Iterators::iterate))]
 fn accumulated<C: Nested>(
     x: &Engine<'_>,
@@ -96,6 +99,7 @@ fn accumulated<C: Nested>(
 }
 
 /// `iterate`.
+#[inline(always)]
 fn iterate_by<C: Nested>(
     x: &Engine<'_>,
     units: &ReadyUnits<C>,
@@ -124,6 +128,7 @@ fn iterate_by<C: Nested>(
 }
 
 /// A step on the collection that it goes over.
+#[inline(always)]
 pub fn arrow<C: Nested>(
     x: &Engine<'_>,
     units: &ReadyUnits<C>,

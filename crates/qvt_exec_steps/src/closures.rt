@@ -32,6 +32,7 @@ fn turns_within(limit: Option<u64>) -> u64
 
 /// The items that are left to visit. Each body costs a unit at least, so no more of them are evaluated than
 /// there is fuel, but for the one that would pass it.
+#[inline(always)]
 fn visit_all<C: Nested>(
     x: &Engine<'_>,
     units: &ReadyUnits<C>,
@@ -60,6 +61,7 @@ fn visit_all<C: Nested>(
 }
 
 /// A closure over its source.
+#[inline(never)]
 #[tactic(auto, using(qvt_exec_leaves::proofs::Over::over_coll), unfolding(qvt_run_rules::specs::Iterators::closure))]
 fn closed<C: Nested>(
     x: &Engine<'_>,
@@ -83,6 +85,7 @@ fn closed<C: Nested>(
 }
 
 /// The same, which no plain expression has.
+#[inline(always)]
 pub fn closure<C: Nested>(
     x: &Engine<'_>,
     units: &ReadyUnits<C>,

@@ -25,6 +25,7 @@ use qvt_types_steps::iterators::IteratorKind;
 use qvt_value::value::Value;
 
 /// The body for an item.
+#[inline(never)]
 #[tactic(auto, unfolding(qvt_run_rules::specs::Iterators::for_item, qvt_run_rules::specs::Locals::with_locals))]
 pub fn for_item<C: Nested>(
     x: &Engine<'_>,
@@ -67,6 +68,7 @@ fn each_of<C: Nested>(
 }
 
 /// The body of `iterate` for an item and what there is so far.
+#[inline(never)]
 #[tactic(auto, unfolding(qvt_run_rules::specs::Locals::with_locals))]
 fn iterate_item<C: Nested>(
     x: &Engine<'_>,
@@ -113,6 +115,7 @@ fn iterate_from<C: Nested>(
 }
 
 /// `iterate`, whose first value was evaluated whatever the source is.
+#[inline(never)]
 #[tactic(auto, using(qvt_exec_leaves::proofs::Over::over_coll))]
 pub fn iterate<C: Nested>(
     x: &Engine<'_>,
@@ -141,6 +144,7 @@ pub fn iterate<C: Nested>(
 }
 
 /// An iterator over the items of its source in order.
+#[inline(never)]
 #[tactic(auto, using(qvt_exec_leaves::proofs::Over::over_coll))]
 pub fn iterated<C: Nested>(
     x: &Engine<'_>,

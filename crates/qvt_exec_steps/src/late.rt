@@ -29,7 +29,7 @@ fn without_last<C: Nested>(
 ) -> Result<Option<Value>, Halt>
     ensures { Runs (some_value (by.post_of (setting_of (x.now, C.means units.now)) (nodes.model_named (typed_expr_view first.now)) place (expr_of (x.now, C.means units.now) first.now) (all_steps all.now) (but_last (steps_of (x.now, C.means units.now) (nodes.type_of (typed_expr_view first.now)) all.now))) (seen state.old)) result state.new }
 {
-    let value = post(x, units, first, all, before_last(all), place, state)?;
+    let value = post(x, units, first, all, before_last(all), &place, state)?;
     Ok(Some(value))
 }
 

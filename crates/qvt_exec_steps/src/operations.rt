@@ -26,6 +26,7 @@ use qvt_types_words::operation_names::operation_named;
 use qvt_value::value::Value;
 
 /// An operation by its name, whose arguments are evaluated once, whatever the source is.
+#[inline(never)]
 #[tactic(auto, unfolding(qvt_run_rules::specs::Expressions::called))]
 pub fn operation_by<C: Nested>(
     x: &Engine<'_>,
@@ -50,6 +51,7 @@ pub fn operation_by<C: Nested>(
 }
 
 /// A test or cast with a class, or an operation with values.
+#[inline(always)]
 pub fn operation_step<C: Nested>(
     x: &Engine<'_>,
     units: &ReadyUnits<C>,

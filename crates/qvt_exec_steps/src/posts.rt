@@ -24,6 +24,7 @@ use qvt_types_nodes::tree::{TypedExpr, TypedStep};
 use qvt_value::value::Value;
 
 /// A first part with some of the steps behind it, all of which are given too.
+#[inline(never)]
 #[tactic(auto, unfolding(qvt_run_rules::specs::Expressions::on_first, qvt_exec_phrases::specs::Means::steps_of))]
 pub fn post<C: Nested>(
     x: &Engine<'_>,
@@ -31,10 +32,10 @@ pub fn post<C: Nested>(
     first: &TypedExpr,
     all: &[TypedStep],
     steps: &[TypedStep],
-    place: Place,
+    place: &Place,
     state: &mut RunState<'_>,
 ) -> Result<Value, Halt>
-    ensures { Runs (by.post_of (setting_of (x.now, C.means units.now)) (nodes.model_named (typed_expr_view first.now)) place (expr_of (x.now, C.means units.now) first.now) (all_steps all.now) (steps_of (x.now, C.means units.now) (nodes.type_of (typed_expr_view first.now)) steps.now) (seen state.old)) result state.new }
+    ensures { Runs (by.post_of (setting_of (x.now, C.means units.now)) (nodes.model_named (typed_expr_view first.now)) place.now (expr_of (x.now, C.means units.now) first.now) (all_steps all.now) (steps_of (x.now, C.means units.now) (nodes.type_of (typed_expr_view first.now)) steps.now) (seen state.old)) result state.new }
 {
     let ty = &note_of(first).answer;
     match model_named(first) {
@@ -42,11 +43,12 @@ pub fn post<C: Nested>(
             let value = expr(x, units, first, state)?;
             steps_from(x, units, steps, ty, 0, value, state)
         }
-        Some(model) => model_steps(x, units, all, steps, ty, model, place, state),
+        Some(model) => model_steps(x, units, all, steps, ty, model, *place, state),
     }
 }
 
 /// The name of a model with its steps, of which the first goes with the name.
+#[inline(never)]
 #[tactic(auto, unfolding(qvt_run_rules::specs::Expressions::on_first))]
 fn model_steps<C: Nested>(
     x: &Engine<'_>,

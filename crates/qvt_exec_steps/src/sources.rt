@@ -22,6 +22,7 @@ pub struct Iteration<'a> {
 }
 
 /// What an arrow goes over. The type before the step is asked for where the value is null alone.
+#[inline(never)]
 pub fn arrow_source(
     alloc: Global,
     before: &mut Before<'_>,

@@ -30,6 +30,7 @@ use qvt_types_nodes::tree::{TypedExpr, TypedMapCall, TypedStep};
 use qvt_value::value::Value;
 
 /// A step with arguments behind a dot: an operation, or a helper or a query.
+#[inline(always)]
 fn dot_by<C: Nested>(
     x: &Engine<'_>,
     units: &ReadyUnits<C>,
@@ -52,6 +53,7 @@ fn dot_by<C: Nested>(
 }
 
 /// A mapping over all objects of its source, or on one.
+#[inline(always)]
 #[tactic(auto, unfolding(qvt_exec_phrases::specs::Means::map_step_of, qvt_exec_phrases::specs::Means::exprs_of, qvt_meaning::specs::Phrases::map_step))]
 fn mapped<C: Nested>(
     x: &Engine<'_>,
@@ -73,6 +75,7 @@ fn mapped<C: Nested>(
 }
 
 /// A step, behind the type before it.
+#[inline(never)]
 #[tactic(auto, unfolding(qvt_exec_phrases::specs::Means::step_of, qvt_exec_phrases::specs::Means::exprs_of, qvt_exec_phrases::specs::Means::head_of, qvt_exec_phrases::specs::Means::map_step_of, qvt_meaning::specs::Phrases::step, qvt_meaning::specs::Phrases::dot_step))]
 fn step<C: Nested>(
     x: &Engine<'_>,
@@ -114,6 +117,7 @@ fn step<C: Nested>(
 }
 
 /// The steps from a place on, by the type of what stands before the first of all.
+#[inline(always)]
 #[tactic(auto, using(crate::proofs::Behind::steps_done))]
 pub fn steps_from<C: Nested>(
     x: &Engine<'_>,
