@@ -7,6 +7,7 @@ const LOOKED_AT: usize = 8;
 
 /// How much a block takes, and the most that it takes with one of its statements.
 const BLOCK: u32 = 700;
+
 const MOST: u32 = 5700;
 
 fn is_resolve(step: &TypedStep) -> bool {
@@ -32,13 +33,7 @@ fn ends_in_resolve(value: &TypedExpr) -> bool {
 fn bytes_of_stmt(stmt: &TypedStmt) -> u32 {
     match stmt {
         TypedStmt::Var { .. } => 1300,
-        TypedStmt::Assign { value, .. } => {
-            if ends_in_resolve(value) {
-                MOST
-            } else {
-                2000
-            }
-        }
+        TypedStmt::Assign { value, .. } => { if ends_in_resolve(value) { MOST } else { 2000 } }
         TypedStmt::Return { .. } => 1100,
         TypedStmt::Value { .. } => 1100,
         TypedStmt::If { .. } => 1300,
