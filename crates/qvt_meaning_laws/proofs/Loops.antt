@@ -120,9 +120,9 @@ module _ {E F : Type 0} {R : Relation E F} {x : Setting E} {y : Setting F} (c : 
     unfolding each.sorted_by
     sorted_by v = iterated v (λ k xs. sorts at _ _ items k [] xs)
 
-    pub closure : (v : Value) → R Value (each.closure x.spend at name p x.turns v) (each.closure y.spend at name q y.turns v)
+    pub closure : (v : Value) → c.Repeats p q → R Value (each.closure x.spend at name p x.turns v) (each.closure y.spend at name q y.turns v)
     unfolding each.closure
-    closure v = iterated v (λ k xs. c.closures at (each.for_item name p) (each.for_item name q) k [] (each.unvisited [] xs) items)
+    closure v d = iterated v (λ k xs. c.closures at name p q k [] (each.unvisited [] xs) d e)
 
     pub iterate : (acc : List ℕ) {h : Does E Value} {j : Does F Value} (v : Value) → R Value h j → R Value (each.iterate x.spend at name p acc h v) (each.iterate y.spend at name q acc j v)
     unfolding each.iterate

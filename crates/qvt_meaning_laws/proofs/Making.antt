@@ -167,5 +167,9 @@ module _ {E F : Type 0} {R : Relation E F} {x : Setting E} {y : Setting F} (c : 
       unfolding of.mapping
       by_mapping way o vs at = on c (frame c (of.is_there a.context) a.params o vs at) (λ ls. by_way way o vs at ls)
 
+    -- the init section and the result
+    pub begins : {m : MappingRule E} {m' : MappingRule F} (ls : List Local) → Mappings m m' → R Begun (of.first m ls) (of.first m' ls)
+    begins ls (mappings a ew ei ep ee) = first a ew ei ep ee ls
+
     pub mapping : {m : MappingRule E} {m' : MappingRule F} (way : Way) (o : Option Oid) (vs : List Value) (at : Place) → Mappings m m' → R Value (of.mapping ms d m way o vs at) (of.mapping ms' d' m' way o vs at)
     mapping way o vs at (mappings a ew ei ep ee) = by_mapping a ew ei ep ee way o vs at
