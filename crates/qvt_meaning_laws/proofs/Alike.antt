@@ -232,7 +232,7 @@ module _ {E F : Type 0} (g : E → F) where
     enters : (w : LateWrite) → Alike (Unit {0}) (entered keep p fuel w) (entered keep' p fuel w)
     enters w = λ s. ap (λ (es : List F). (Ok tt, record (image s) { entries = es })) (ap (λ (z : F). map g s.entries ++ z ∷ []) (sym (same w)) ∙ sym (map-append g s.entries (keep w ∷ [])))
 
-    pub alike : Closed E F Alike (setting keep p fuel) (setting keep' p fuel)
+    pub alike : Closed E F Alike (λ p q. Unit {0}) (setting keep p fuel) (setting keep' p fuel)
     unfolding setting
     alike = record {
       binds = binds;
@@ -254,7 +254,6 @@ module _ {E F : Type 0} (g : E → F) where
       catches = catches;
       gives_back = gives_back;
       onces = onces;
-      Repeats = λ p q. Unit {0};
       loops = λ t u at p q z d e. spending fuel (loop fuel t at p) (loop fuel u at q) (loops fuel t u at p q d e);
       closures = λ at name p q k done vs z e. closures (suc fuel) at (for_item name p) (for_item name q) k done vs (items name p q e);
       resolves = λ at q s. answers fuel q.one (answer p s.trace s.store s.locals at q) s;

@@ -1,7 +1,7 @@
 -- A closed relation holds of every call, over settings of one program.
 use Rattle.std.proofs.Common.{ℕ, zero, suc, Bool, Option, Some, None}
 use Rattle.qvt_types_data.specs.declared.ty.Ty.{Ty}
-use Rattle.qvt_types_nodes.specs.Tree.{TypedOptionalExpr, TypedNoExpr, TypedSomeExpr, TypedStmtTerms}
+use Rattle.qvt_types_nodes.specs.Tree.{TypedExprTerm, TypedOptionalExpr, TypedNoExpr, TypedSomeExpr, TypedStmtTerms}
 use Rattle.qvt_types_nodes.specs.Module.{TypedMappingTerm, TypedUnitTerm, TypedHelperOf, TypedConstructorOf, TypedMappingOf}
 use Rattle.qvt_types_units.specs.declared.signature.Signature.{Signature}
 use Rattle.qvt_types_units.specs.Numbers.{has_context}
@@ -14,7 +14,7 @@ use Rattle.qvt_meaning.specs.Program.{unit_term, signature_of, known_class, mapp
 use Rattle.qvt_meaning.specs.Phrases.{expr}
 use Rattle.qvt_meaning.specs.Readings.{Setting}
 use Rattle.qvt_meaning.specs.Units as of
-use Rattle.qvt_meaning_laws.proofs.Closed.{Relation, Closed, Held, held_none, held_some}
+use Rattle.qvt_meaning_laws.proofs.Closed.{Relation, Repeated, Closed, Held, held_none, held_some}
 use Rattle.qvt_meaning_laws.proofs.Parts.{stops, founds}
 use Rattle.qvt_meaning_laws.proofs.Actions.{holds, in_order, block}
 use Rattle.qvt_meaning_laws.proofs.Calling.{AlikeCalls, Routines, routines, helper, constructor_}
@@ -22,7 +22,7 @@ use Rattle.qvt_meaning_laws.proofs.Making.{Mappings, mappings, mapping}
 use Rattle.qvt_meaning_laws.proofs.Naming as naming
 use Rattle.qvt_meaning_laws.proofs.Phrasing.{of_expr, of_stmts}
 
-module _ {E F : Type 0} {R : Relation E F} {x : Setting E} {y : Setting F} (c : Closed E F R x y) (program : ProgramTerm) where
+module _ {E F : Type 0} {R : Relation E F} {T : Repeated E F} {x : Setting E} {y : Setting F} (c : Closed E F R T x y) (program : ProgramTerm) where
   abbrev Left : Setting E
   Left = naming.Left c program
 
@@ -31,7 +31,7 @@ module _ {E F : Type 0} {R : Relation E F} {x : Setting E} {y : Setting F} (c : 
 
   -- what is known of an expression that is the condition of a loop or the body of a closure, where calls do this
   abbrev pub RepeatsOf : Calls E → Calls F → Type 0
-  RepeatsOf d d' = (answer : Option Ty) (e : TypedExprTerm) → c.Repeats (expr Left d answer e) (expr Right d' answer e)
+  RepeatsOf d d' = (answer : Option Ty) (e : TypedExprTerm) → T (expr Left d answer e) (expr Right d' answer e)
 
   module _ {d : Calls E} {d' : Calls F} (k : AlikeCalls c d d') (repeats : RepeatsOf d d') where
     body_of : (answer : Option Ty) (ss : TypedStmtTerms) → R (Unit {0}) (of.body_of Left d answer ss) (of.body_of Right d' answer ss)

@@ -16,7 +16,7 @@ use Rattle.qvt_run_rules.specs.Calls.{Calls, Param}
 use Rattle.qvt_run_rules.specs.Mappings as of
 use Rattle.qvt_run_rules.specs.Mappings.{Making, MappingRule, Made, Known, Ended, New, Begun}
 use Rattle.qvt_meaning.specs.Readings.{Setting}
-use Rattle.qvt_meaning_laws.proofs.Closed.{Relation, Closed, Held, held_none, held_some}
+use Rattle.qvt_meaning_laws.proofs.Closed.{Relation, Repeated, Closed, Held, held_none, held_some}
 use Rattle.qvt_meaning_laws.proofs.Parts.{on, after, picks, stops, misfits, founds, reads, sets}
 use Rattle.qvt_meaning_laws.proofs.Calling.{frame, AlikeCalls}
 
@@ -47,7 +47,7 @@ mapping_with a w i p e = record {
   place = a.place;
 }
 
-module _ {E F : Type 0} {R : Relation E F} {x : Setting E} {y : Setting F} (c : Closed E F R x y) where
+module _ {E F : Type 0} {R : Relation E F} {T : Repeated E F} {x : Setting E} {y : Setting F} (c : Closed E F R T x y) where
   when_holds : (ls : List Local) {w : Option (Does E Bool)} {w' : Option (Does F Bool)} → Held (R Bool) w w' → R Bool (of.when_holds w ls) (of.when_holds w' ls)
   when_holds ls held_none = c.gives Bool true
   when_holds ls (held_some {a = p} {b = q} e) = c.frames Bool ls p q e

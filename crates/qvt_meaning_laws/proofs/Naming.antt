@@ -35,7 +35,7 @@ use Rattle.qvt_meaning.specs.Nodes.{resolve_mark, class_argument}
 use Rattle.qvt_meaning.specs.Program.{chosen_for, free_callee, form_of}
 use Rattle.qvt_meaning.specs.Readings as by
 use Rattle.qvt_meaning.specs.Readings.{Setting, TargetDoes, HeadDoes, BareTarget, ResultTarget, MemberTarget}
-use Rattle.qvt_meaning_laws.proofs.Closed.{Relation, Closed, Each, none, more, Held, held_none, held_some, lengths, drops}
+use Rattle.qvt_meaning_laws.proofs.Closed.{Relation, Repeated, Closed, Each, none, more, Held, held_none, held_some, lengths, drops}
 use Rattle.qvt_meaning_laws.proofs.Parts.{misfits, looks}
 use Rattle.qvt_meaning_laws.proofs.Values as value
 use Rattle.qvt_meaning_laws.proofs.Loops as loop
@@ -48,7 +48,7 @@ use Rattle.qvt_meaning_laws.proofs.Resolving as resolving
 abbrev pub of_program : {E : Type 0} → ProgramTerm → Setting E → Setting E
 of_program p x = record x { program = p }
 
-module _ {E F : Type 0} {R : Relation E F} {x : Setting E} {y : Setting F} (c : Closed E F R x y) (program : ProgramTerm) where
+module _ {E F : Type 0} {R : Relation E F} {T : Repeated E F} {x : Setting E} {y : Setting F} (c : Closed E F R T x y) (program : ProgramTerm) where
   abbrev pub Left : Setting E
   Left = of_program program x
 
@@ -135,7 +135,7 @@ module _ {E F : Type 0} {R : Relation E F} {x : Setting E} {y : Setting F} (c : 
 
   -- what is known of two phrases each of which may be the body of a closure
   abbrev pub Bodies : Does E Value → Does F Value → Type 0
-  Bodies p q = c.Repeats p q × R Value p q
+  Bodies p q = T p q × R Value p q
 
   values_of : {ps : List (Does E Value)} {qs : List (Does F Value)} → Each Bodies ps qs → Each (R Value) ps qs
   values_of none = none
@@ -153,7 +153,7 @@ module _ {E F : Type 0} {R : Relation E F} {x : Setting E} {y : Setting F} (c : 
   iterate_by name at v held_none e = misfits c Value at
   iterate_by name at v (held_some (firsts acc k)) e = loop.iterate c at name e acc v k
 
-  iterator_by : (i : IteratorKind) {h : HeadDoes E} {j : HeadDoes F} {p : Does E Value} {q : Does F Value} (at : Place) (v : Value) → Heads h j → c.Repeats p q → R Value p q → R Value (by.iterator_by Left i h p at v) (by.iterator_by Right i j q at v)
+  iterator_by : (i : IteratorKind) {h : HeadDoes E} {j : HeadDoes F} {p : Does E Value} {q : Does F Value} (at : Place) (v : Value) → Heads h j → T p q → R Value p q → R Value (by.iterator_by Left i h p at v) (by.iterator_by Right i j q at v)
   iterator_by iterator.Select at v (heads name k) d e = loop.select c at name e v
   iterator_by iterator.Reject at v (heads name k) d e = loop.reject c at name e v
   iterator_by iterator.Collect at v (heads name k) d e = loop.collect c at name e v

@@ -16,7 +16,7 @@ use Rattle.qvt_meaning.specs.StepTypes.{step_type, kind_before}
 use Rattle.qvt_meaning.specs.Readings as by
 use Rattle.qvt_meaning.specs.Readings.{Setting}
 use Rattle.qvt_meaning.specs.Phrases as of
-use Rattle.qvt_meaning_laws.proofs.Closed.{Relation, Closed, Each, none, more, Held, held_none, held_some, lengths, takes}
+use Rattle.qvt_meaning_laws.proofs.Closed.{Relation, Repeated, Closed, Each, none, more, Held, held_none, held_some, lengths, takes}
 use Rattle.qvt_meaning_laws.proofs.Parts.{on}
 use Rattle.qvt_meaning_laws.proofs.Values as value
 use Rattle.qvt_meaning_laws.proofs.Actions as action
@@ -28,8 +28,8 @@ use Rattle.qvt_meaning_laws.proofs.Naming.{Bodies, Firsts, firsts, Heads, heads,
 but_last : {A B : Type 0} {P : A → B → Type 0} {xs : List A} {ys : List B} → Each P xs ys → Each P (of.but_last xs) (of.but_last ys)
 but_last {xs} {ys} e = rw (lengths e) (takes (length ys - 1) e)
 
-module _ {E F : Type 0} {R : Relation E F} {x : Setting E} {y : Setting F} (c : Closed E F R x y) (program : ProgramTerm) {d : Calls E} {d' : Calls F} (k : AlikeCalls c d d')
-    (repeats : (answer : Option Ty) (e : TypedExprTerm) → c.Repeats (of.expr (naming.Left c program) d answer e) (of.expr (naming.Right c program) d' answer e)) (answer : Option Ty) where
+module _ {E F : Type 0} {R : Relation E F} {T : Repeated E F} {x : Setting E} {y : Setting F} (c : Closed E F R T x y) (program : ProgramTerm) {d : Calls E} {d' : Calls F} (k : AlikeCalls c d d')
+    (repeats : (answer : Option Ty) (e : TypedExprTerm) → T (of.expr (naming.Left c program) d answer e) (of.expr (naming.Right c program) d' answer e)) (answer : Option Ty) where
   abbrev Left : Setting E
   Left = naming.Left c program
 

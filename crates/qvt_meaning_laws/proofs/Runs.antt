@@ -35,7 +35,7 @@ module _ (p : ProgramTerm) (fuel : ℕ) where
   abbrev requests : Setting LateWrite
   requests = setting kept p fuel
 
-  closed : (f : Finish) → Closed Entry LateWrite (Alike request) (with_finish p f fuel) requests
+  closed : (f : Finish) → Closed Entry LateWrite (Alike request) (λ p q. Unit {0}) (with_finish p f fuel) requests
   closed f = alike request (answered p f) kept (λ w. refl) p fuel
 
   bare_run : (f : Finish) (store : Contents) → main_run kept p fuel store ≡ bare (main_run (answered p f) p fuel store)

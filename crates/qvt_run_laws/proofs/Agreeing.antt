@@ -231,7 +231,7 @@ module _ {E : Type 0} (f g : ℕ) (more : f ≤ g) where
   answers one a = binds (charge f a.cost) (charge g a.cost) (λ _. answer_value one a.found) (λ _. answer_value one a.found) (spends a.cost) (λ _. values one a.found)
 
   -- over the rules of two runs in which a loop has as many turns at most
-  pub agree : (keep : LateWrite → E) (p : ProgramTerm) (n : ℕ) → Closed E E Agree (bounded keep p f n) (bounded keep p g n)
+  pub agree : (keep : LateWrite → E) (p : ProgramTerm) (n : ℕ) → Closed E E Agree (λ p q. Unit {0}) (bounded keep p f n) (bounded keep p g n)
   agree keep program n = record {
     binds = λ A B p q h k e z. binds p q h k e z;
     gives = λ A a. pures a;
@@ -252,7 +252,6 @@ module _ {E : Type 0} (f g : ℕ) (more : f ≤ g) where
     catches = catches;
     gives_back = gives_back;
     onces = onces;
-    Repeats = λ p q. Unit {0};
     loops = λ t u at p q z d e. statements (loop n t at p) (loop n u at q) (loops n t u at p q d e);
     closures = λ at name p q k done vs z e. closures (suc n) at (for_item name p) (for_item name q) k done vs (items name p q e);
     resolves = λ at q s. answers q.one (answer program s.trace s.store s.locals at q) s;

@@ -351,7 +351,7 @@ module _ {E : Type 0} where
       once_records w s h = written_known (result_for k s.trace) s refl h w
 
   -- over the setting of a run
-  pub keeps : (keep : LateWrite → E) (program : ProgramTerm) (fuel : ℕ) → Closed E E Kept (setting keep program fuel) (setting keep program fuel)
+  pub keeps : (keep : LateWrite → E) (program : ProgramTerm) (fuel : ℕ) → Closed E E Kept (λ p q. Unit {0}) (setting keep program fuel) (setting keep program fuel)
   unfolding setting
   keeps keep program fuel = record {
     binds = λ A B p q f g e k. binds p f e k;
@@ -373,7 +373,6 @@ module _ {E : Type 0} where
     catches = λ p q e. catches p e;
     gives_back = λ p q e. gives_back p e;
     onces = λ k at p q e. onces k at p e;
-    Repeats = λ p q. Unit {0};
     loops = λ t u at p q z d e. statements fuel (loop fuel t at p) (loops fuel t at p d e);
     closures = λ at name p q k done vs z e. closures (suc fuel) at (for_item name p) k done vs (items name p e);
     resolves = λ at q s h. answers fuel q.one (answer program s.trace s.store s.locals at q) s h;

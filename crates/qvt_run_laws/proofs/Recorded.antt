@@ -36,7 +36,7 @@ free : (left : ℕ) (answer : Option Ty) (e : TypedExprTerm) → Unit {0}
 free left answer e = tt
 
 module _ (p : ProgramTerm) (fuel : ℕ) where
-  closed : Closed LateWrite LateWrite Kept (rules p fuel) (rules p fuel)
+  closed : Closed LateWrite LateWrite Kept (λ p q. Unit {0}) (rules p fuel) (rules p fuel)
   closed = keeps (λ w. w) p fuel
 
 pub calls_keep : CallsKeepRecords

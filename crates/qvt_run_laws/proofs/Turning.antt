@@ -273,7 +273,7 @@ module _ {E : Type 0} (fuel : ℕ) where
   answers one a = binds (charge fuel a.cost) (charge fuel a.cost) (λ _. answer_value one a.found) (λ _. answer_value one a.found) (spends a.cost) (λ _. values one a.found)
 
   -- over the rules of two runs with this fuel, in which a loop may have at least as many turns
-  pub meet : (keep : LateWrite → E) (p : ProgramTerm) (n m : ℕ) → fuel ≤ n → fuel ≤ m → Closed E E Meet (bounded keep p fuel n) (bounded keep p fuel m)
+  pub meet : (keep : LateWrite → E) (p : ProgramTerm) (n m : ℕ) → fuel ≤ n → fuel ≤ m → Closed E E Meet (λ p q. Spends fuel Value q) (bounded keep p fuel n) (bounded keep p fuel m)
   meet keep program n m a b = record {
     binds = λ A B p q h k e z. binds p q h k e z;
     gives = λ A x. pures x;
@@ -294,7 +294,6 @@ module _ {E : Type 0} (fuel : ℕ) where
     catches = catches;
     gives_back = gives_back;
     onces = onces;
-    Repeats = λ p q. Spends fuel Value q;
     loops = λ t u at p q costs d e. while_loops t u at p q d e costs n m a b;
     closures = λ at name p q k done vs costs e s c. closures at name p q e costs (suc n) (suc m) k done vs s c (omega (arith, a)) (omega (arith, b));
     resolves = λ at q s. answers q.one (answer program s.trace s.store s.locals at q) s;
