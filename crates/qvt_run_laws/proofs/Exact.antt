@@ -52,9 +52,6 @@ module _ {E : Type 0} (keep : LateWrite → E) (p : ProgramTerm) where
 pub turns_are_no_bound : TurnsAreNoBound
 turns_are_no_bound p store fuel turns more = meets (λ w. w) p fuel turns fuel more (omega arith) store ∙ sym (main_is (λ w. w) p fuel store)
 
-out_twice : {A : Type 0} (r : Result A Exit) → r ≢ Err (Ends OutOfFuel) → IsOut r → ⊥
-out_twice r no yes = no yes
-
 either_way : (n m : ℕ) → (n ≤ m) ⊎ (m ≤ n)
 either_way n m = grind arith
 
@@ -66,23 +63,23 @@ module _ (p : ProgramTerm) (store : Contents) where
   Comes n d e = (e.1.cost ≤ n → d ≡ e) × (n < e.1.cost → IsOut d.0)
 
   with_less : (n g : ℕ) (more : n ≤ g) (d e : Done LateWrite (Unit {0})) → e.0 ≢ Err (Ends OutOfFuel) → Agrees n g more d e → Comes n d e
-  with_less n g more d e no (inl w) = (λ c. w.0, λ c. absurd (omega (arith, w.1, c)))
-  with_less n g more d e no (inr w) = past w.0 w.1
+  with_less n g more d e runs (inl w) = (λ c. w.0, λ c. absurd (omega (arith, w.1, c)))
+  with_less n g more d e runs (inr w) = past w.0 w.1
     where
       past : IsOut d.0 → IsOut e.0 ⊎ (n < e.1.cost) → Comes n d e
-      past out (inl o) = absurd (no o)
+      past out (inl o) = absurd (runs o)
       past out (inr c) = (λ k. absurd (omega (arith, c, k)), λ k. out)
 
   with_more : (n g : ℕ) (more : g ≤ n) (d e : Done LateWrite (Unit {0})) → e.0 ≢ Err (Ends OutOfFuel) → Agrees g n more e d → Comes n d e
-  with_more n g more d e no (inl w) = (λ c. sym w.0, λ c. let same : e.1.cost ≡ d.1.cost = ap (λ x. x.1.cost) w.0 in absurd (omega (arith, w.1, c, same)))
-  with_more n g more d e no (inr w) = absurd (no w.0)
+  with_more n g more d e runs (inl w) = (λ c. sym w.0, λ c. let same : e.1.cost ≡ d.1.cost = ap (λ x. x.1.cost) w.0 in absurd (omega (arith, w.1, c, same)))
+  with_more n g more d e runs (inr w) = absurd (runs w.0)
 
   comes : (fuel n : ℕ) → (request_run p fuel store).0 ≢ Err (Ends OutOfFuel) → (n ≤ fuel) ⊎ (fuel ≤ n) → Comes n (request_run p n store) (request_run p fuel store)
-  comes fuel n no (inl c) = with_less n fuel c (request_run p n store) (request_run p fuel store) no (run_agrees n fuel c)
-  comes fuel n no (inr c) = with_more n fuel c (request_run p n store) (request_run p fuel store) no (run_agrees fuel n c)
+  comes fuel n runs (inl c) = with_less n fuel c (request_run p n store) (request_run p fuel store) runs (run_agrees n fuel c)
+  comes fuel n runs (inr c) = with_more n fuel c (request_run p n store) (request_run p fuel store) runs (run_agrees fuel n c)
 
 pub main_is_exact : MainIsExact
-main_is_exact p store fuel n no = comes p store fuel n no (either_way n fuel)
+main_is_exact p store fuel n runs = comes p store fuel n runs (either_way n fuel)
 
 -- The walk of the late entries.
 
@@ -109,28 +106,28 @@ beyond n cost r c = ap (λ b. if b then Err OutOfFuel else r) (lt-ltb n cost c)
 
 -- behind an entry that both fuels allow
 on_entry : (n : ℕ) (f : Found) (here rest : ℕ) (x y : Result ℕ End) → here ≤ n → walk_on f y ≢ Err OutOfFuel → (y ≢ Err OutOfFuel → x ≡ limited n rest y) → walk_on f x ≡ limited n (walked_on f here rest) (walk_on f y)
-on_entry n (Objects os) here rest x y c no h = h no
-on_entry n (Undefined r at) here rest x y c no h = sym (unlimited n here _ c)
-on_entry n (Stopped e) here rest x y c no h = sym (unlimited n here _ c)
+on_entry n (Objects os) here rest x y c runs h = h runs
+on_entry n (Undefined r at) here rest x y c runs h = sym (unlimited n here _ c)
+on_entry n (Stopped e) here rest x y c runs h = sym (unlimited n here _ c)
 
 walk_by : (n fuel here : ℕ) (e : Entry) (es : List Entry) (b d : Bool) → nat_lt n here ≡ b → nat_lt fuel here ≡ d
     → (if d then Err OutOfFuel else walk_on e.answer.found (walk fuel here es)) ≢ Err OutOfFuel
     → (here ≤ n → walk fuel here es ≢ Err OutOfFuel → walk n here es ≡ limited n (walked here es) (walk fuel here es))
     → (if b then Err OutOfFuel else walk_on e.answer.found (walk n here es)) ≡ limited n (walked_on e.answer.found here (walked here es)) (if d then Err OutOfFuel else walk_on e.answer.found (walk fuel here es))
-walk_by n fuel here e es b true x y no h = absurd (no refl)
-walk_by n fuel here e es true false x y no h =
+walk_by n fuel here e es b true x y runs h = absurd (runs refl)
+walk_by n fuel here e es true false x y runs h =
     let low : n < here = ltb-true n here x in
     let high : here ≤ walked_on e.answer.found here (walked here es) = on_rises e.answer.found here (walked here es) (walk_rises here es) in
     sym (beyond n (walked_on e.answer.found here (walked here es)) _ (omega (arith, low, high)))
-walk_by n fuel here e es false false x y no h =
+walk_by n fuel here e es false false x y runs h =
     let low : here ≤ n = ltb-false n here x in
-    on_entry n e.answer.found here (walked here es) (walk n here es) (walk fuel here es) low no (h low)
+    on_entry n e.answer.found here (walked here es) (walk n here es) (walk fuel here es) low runs (h low)
 
 walk_exact : (n fuel cost : ℕ) (es : List Entry) → cost ≤ n → walk fuel cost es ≢ Err OutOfFuel → walk n cost es ≡ limited n (walked cost es) (walk fuel cost es)
-walk_exact n fuel cost [] c no = sym (unlimited n cost (Ok cost) c)
-walk_exact n fuel cost (e ∷ es) c no =
+walk_exact n fuel cost [] c runs = sym (unlimited n cost (Ok cost) c)
+walk_exact n fuel cost (e ∷ es) c runs =
     let here : ℕ = cost + (1 + e.answer.cost) in
-    walk_by n fuel here e es (nat_lt n here) (nat_lt fuel here) refl refl no (λ low goes. walk_exact n fuel here es low goes)
+    walk_by n fuel here e es (nat_lt n here) (nat_lt fuel here) refl refl runs (λ low goes. walk_exact n fuel here es low goes)
 
 -- the cost that it tells
 told_on : (f : Found) (here rest k : ℕ) (r : Result ℕ End) → (r ≡ Ok k → rest ≡ k) → walk_on f r ≡ Ok k → walked_on f here rest ≡ k
@@ -142,7 +139,7 @@ told_by : (d : Bool) (f : Found) (here rest k : ℕ) (r : Result ℕ End) → (r
 told_by true f here rest k r h e = absurd (cc)
 told_by false f here rest k r h e = told_on f here rest k r h e
 
-cost_in : ℕ → Result ℕ End → ℕ
+abbrev cost_in : ℕ → Result ℕ End → ℕ
 cost_in n (Ok k) = k
 cost_in n (Err e) = n
 
@@ -160,15 +157,15 @@ carried_by n cost f es r false = refl
 
 module _ (p : ProgramTerm) (n fuel : ℕ) where
   after_exact : (s : State LateWrite) → s.cost ≤ n → after_requests p fuel s ≢ Err OutOfFuel → after_requests p n s ≡ within n (walked s.cost (answered_from p s)) (after_requests p fuel s)
-  after_exact s c no =
+  after_exact s c runs =
       let es : List Entry = answered_from p s in
-      ap (carried_out (finish_of s) es) (walk_exact n fuel s.cost es c (λ e. no (ap (carried_out (finish_of s) es) e)))
+      ap (carried_out (finish_of s) es) (walk_exact n fuel s.cost es c (λ e. runs (ap (carried_out (finish_of s) es) e)))
       ∙ carried_by n (walked s.cost es) (finish_of s) es (walk fuel s.cost es) (nat_lt n (walked s.cost es))
 
   ends_exact : (r : Result (Unit {0}) Exit) (s : State LateWrite) → s.cost ≤ n → from_requests p fuel r s ≢ Err OutOfFuel → from_requests p n r s ≡ within n (spent_by p r s) (from_requests p fuel r s)
-  ends_exact (Ok u) s c no = after_exact s c no
-  ends_exact (Err (Returned v)) s c no = after_exact s c no
-  ends_exact (Err (Ends e)) s c no = sym (ap (λ b. if b then Err OutOfFuel else Err e) (le-ltb n s.cost c))
+  ends_exact (Ok u) s c runs = after_exact s c runs
+  ends_exact (Err (Returned v)) s c runs = after_exact s c runs
+  ends_exact (Err (Ends e)) s c runs = sym (ap (λ b. if b then Err OutOfFuel else Err e) (le-ltb n s.cost c))
 
   spent_rises : (r : Result (Unit {0}) Exit) (s : State LateWrite) → s.cost ≤ spent_by p r s
   spent_rises (Ok u) s = walk_rises s.cost (answered_from p s)
@@ -183,16 +180,16 @@ module _ (p : ProgramTerm) (n fuel : ℕ) where
 
   run_exact : (d e : Done LateWrite (Unit {0})) → (e.1.cost ≤ n → d ≡ e) → (n < e.1.cost → IsOut d.0) → from_requests p fuel e.0 e.1 ≢ Err OutOfFuel → (e.1.cost ≤ n) ⊎ (n < e.1.cost)
       → from_requests p n d.0 d.1 ≡ within n (spent_by p e.0 e.1) (from_requests p fuel e.0 e.1)
-  run_exact d e same out no (inl c) = ap (λ x. from_requests p n x.0 x.1) (same c) ∙ ends_exact e.0 e.1 c no
-  run_exact d e same out no (inr c) = out_of d.0 d.1 (out c) ∙ sym (cut_off (spent_by p e.0 e.1) (from_requests p fuel e.0 e.1) (let more : e.1.cost ≤ spent_by p e.0 e.1 = spent_rises e.0 e.1 in omega (arith, c, more)))
+  run_exact d e same out runs (inl c) = ap (λ x. from_requests p n x.0 x.1) (same c) ∙ ends_exact e.0 e.1 c runs
+  run_exact d e same out runs (inr c) = out_of d.0 d.1 (out c) ∙ sym (cut_off (spent_by p e.0 e.1) (from_requests p fuel e.0 e.1) (let more : e.1.cost ≤ spent_by p e.0 e.1 = spent_rises e.0 e.1 in omega (arith, c, more)))
 
 within_or : (n m : ℕ) → (n ≤ m) ⊎ (m < n)
 within_or n m = grind arith
 
 pub fuel_is_exact : FuelIsExact
-fuel_is_exact p store fuel n no =
+fuel_is_exact p store fuel n runs =
     let e : Done LateWrite (Unit {0}) = request_run p fuel store in
-    let goes : from_requests p fuel e.0 e.1 ≢ Err OutOfFuel = λ x. no (one_pass p fuel store ∙ x) in
+    let goes : from_requests p fuel e.0 e.1 ≢ Err OutOfFuel = λ x. runs (one_pass p fuel store ∙ x) in
     let main_goes : e.0 ≢ Err (Ends OutOfFuel) = λ x. goes (out_of p fuel fuel e.0 e.1 x) in
     let w = main_is_exact p store fuel n main_goes in
     one_pass p n store ∙ run_exact p n fuel (request_run p n store) e w.0 w.1 goes (within_or e.1.cost n) ∙ sym (ap (within n (cost_of p store fuel)) (one_pass p fuel store))
@@ -216,7 +213,7 @@ pub cost_is_told : CostIsTold
 cost_is_told p store fuel f e = as_ended p fuel (request_run p fuel store).0 (request_run p fuel store).1 f (sym (one_pass p fuel store) ∙ e)
 
 ok_is_no_end : (r : Result Finished End) (f : Finished) → r ≡ Ok f → r ≢ Err OutOfFuel
-ok_is_no_end r f e = λ x. let no : Ok f ≡ Err OutOfFuel = sym e ∙ x in absurd (cc)
+ok_is_no_end r f e = λ x. let both : Ok f ≡ Err OutOfFuel = sym e ∙ x in absurd (cc)
 
 pub done_is_exact : DoneIsExact
 done_is_exact p store fuel n f e =

@@ -23,7 +23,7 @@ use Rattle.qvt_run_data.specs.declared.request.Query.{Query}
 use Rattle.qvt_run_rules.specs.State.{State, Done, Does, on_outcome, ◌>>=◌, ◌>>◌, pure, exits, ask, misfit, caught_in, caught}
 use Rattle.qvt_run_rules.specs.Cost.{charge}
 use Rattle.qvt_run_rules.specs.Locals.{fixed, name_in, push, replace, scoped, with_locals, inside, cut, out_of, under, begun, own_in, in_frame, in_own}
-use Rattle.qvt_run_rules.specs.Store.{made_one, is_class_for, new_object, are_fit, changed, written, op_of, slot_items, put}
+use Rattle.qvt_run_rules.specs.Store.{made_one, is_class_for, new_object, are_fit, changed, op_of, slot_items, put}
 use Rattle.qvt_run_rules.specs.Trace.{same_key, key_of, record_of, result_for, has_key}
 use Rattle.qvt_run_rules.specs.Sources as source
 use Rattle.qvt_run_rules.specs.Iterators.{unvisited, for_item, closure_from}
@@ -38,6 +38,16 @@ use Rattle.qvt_meaning.specs.Run.{entered, setting}
 use Rattle.qvt_meaning_laws.proofs.Closed.{Closed}
 use Rattle.qvt_run_laws.specs.Records.{records_of, IsKeyed, Keeps, recorded, IsRecorded}
 use Rattle.qvt_run_laws.proofs.Keys.{key_same, key_last, key_before, key_itself, key_apart, result_more, differ_more, known, no_records, first_record}
+
+-- the steps under the key did not find it in the trace
+abbrev pub IsMade : Made → Type 0
+IsMade (Known r) = ⊥
+IsMade (Ended r) = Unit {0}
+IsMade (New r) = Unit {0}
+
+abbrev pub Fresh : Result Begun Exit → Type 0
+Fresh (Ok x) = IsMade x.0
+Fresh (Err e) = Unit {0}
 
 module _ {E : Type 0} where
   abbrev pub Kept : (A : Type 0) → Does E A → Does E A → Type 0
@@ -94,7 +104,10 @@ module _ {E : Type 0} where
 
   -- Steps.
 
-  charge_by : (b : Bool) (n : ℕ) (s : State E) → IsKeyed s → Keeps s (if b then (Err (Ends OutOfFuel), s) else (Ok tt, record s { cost = s.cost + n })).1
+  abbrev charged : Bool → ℕ → State E → Done E (Unit {0})
+  charged b n s = if b then (Err (Ends OutOfFuel), s) else (Ok tt, record s { cost = s.cost + n })
+
+  charge_by : (b : Bool) (n : ℕ) (s : State E) → IsKeyed s → Keeps s (charged b n s).1
   charge_by true n s h = same s s refl refl h
   charge_by false n s h = same s (record s { cost = s.cost + n }) refl refl h
 
@@ -214,7 +227,7 @@ module _ {E : Type 0} where
   loops : (n : ℕ) (t : Does E Value) (at : Place) (p : Does E (Unit {0})) → Kept Value t t → Kept (Unit {0}) p p → Kept (Unit {0}) (loop n t at p) (loop n t at p)
   unfolding loop
   loops zero t at p d e = λ s h. same s s refl refl h
-  loops (suc n) t at p d e = binds (turn t at p) (λ b. if b then loop n t at p else pure tt) (turns t at p d e) (λ b. picks b (loop n t at p) (pure tt) (loops n t at p d e) (pures tt))
+  loops (suc n) t at p d e = binds {A = Bool} {B = Unit {0}} (turn t at p) (λ b. if b then loop n t at p else pure tt) (turns t at p d e) (λ b. picks {A = Unit {0}} b (loop n t at p) (pure tt) (loops n t at p d e) (pures {A = Unit {0}} tt))
 
   statements : (fuel : ℕ) (p : Does E (Unit {0})) → Kept (Unit {0}) p p → Kept (Unit {0}) (statement (charge fuel) p) (statement (charge fuel) p)
   unfolding statement
@@ -237,16 +250,6 @@ module _ {E : Type 0} where
       (λ w. unless_invalid w (closure_from at f n k (done ++ v ∷ []) (rest w)) (closures n at f k (done ++ v ∷ []) (rest w) e))
 
   -- A key that is opened, and its record.
-
-  -- the steps under the key did not find it in the trace
-  abbrev pub IsMade : Made → Type 0
-  IsMade (Known r) = ⊥
-  IsMade (Ended r) = Unit {0}
-  IsMade (New r) = Unit {0}
-
-  abbrev pub Fresh : Result Begun Exit → Type 0
-  Fresh (Ok x) = IsMade x.0
-  Fresh (Err e) = Unit {0}
 
   module _ (k : Key) where
     -- it has no record, and is not open
@@ -323,16 +326,16 @@ module _ {E : Type 0} where
 
       -- The record of the key, where what comes first does not find one itself.
 
-      written : (s t : State E) (m : Made) (ls : List Local) → IsMade m → Keeps (opened s) t
+      record_stands : (s t : State E) (m : Made) (ls : List Local) → IsMade m → Keeps (opened s) t
           → IsRecorded k (of.noted_on k m (m, ls) t).0 (of.noted_on k m (m, ls) t).1.trace
       unfolding note
-      written s t (Known r) ls n h = absurd n
-      written s t (Ended None) ls n h = ap (map (λ (r : Record). r.result)) (no_records k t.trace (still_free s t h))
-      written s t (Ended (Some o)) ls n h = ap (map (λ (r : Record). r.result)) (first_record k t.trace (record_of k (Some o)) refl (still_free s t h))
-      written s t (New r) ls n h = ap (map (λ (r : Record). r.result)) (first_record k t.trace (record_of k r) refl (still_free s t h))
+      record_stands s t (Known r) ls n h = absurd n
+      record_stands s t (Ended None) ls n h = ap (map (λ (r : Record). r.result)) (no_records k t.trace (still_free s t h))
+      record_stands s t (Ended (Some o)) ls n h = ap (map (λ (r : Record). r.result)) (first_record k t.trace (record_of k (Some o)) refl (still_free s t h))
+      record_stands s t (New r) ls n h = ap (map (λ (r : Record). r.result)) (first_record k t.trace (record_of k r) refl (still_free s t h))
 
       writing : (s : State E) (r : Result Begun Exit) (t : State E) → Fresh r → Keeps (opened s) t → IsRecorded k (on_outcome r t (of.noted k)).0 (on_outcome r t (of.noted k)).1.trace
-      writing s (Ok x) t n h = written s t x.0 x.1 n h
+      writing s (Ok x) t n h = record_stands s t x.0 x.1 n h
       writing s (Err z) t n h = tt
 
       written_open : (b : Bool) (s : State E) → has_key s.keys k ≡ b → result_for k s.trace ≡ None → IsKeyed s → ((t : State E) → Fresh (p t).0)

@@ -166,7 +166,7 @@ first_record k rs r e h =
 abbrev results : List Record → List (Option Oid)
 results rs = map (λ (r : Record). r.result) rs
 
-result_in : Option (Option Oid) → Option Oid
+abbrev result_in : Option (Option Oid) → Option Oid
 result_in None = None
 result_in (Some r) = r
 
@@ -189,7 +189,7 @@ empty_list : (rs : List Record) → results rs ≡ [] → rs ≡ []
 empty_list [] h = refl
 empty_list (r ∷ rs) h = absurd (cc)
 
-rest_of : List (Option Oid) → List (Option Oid)
+abbrev rest_of : List (Option Oid) → List (Option Oid)
 rest_of [] = []
 rest_of (r ∷ rs) = rs
 

@@ -87,11 +87,11 @@ one_record p store fuel f e =
 
 -- The steps of a call up to the record do not find the key themselves.
 
-module _ {E : Type 0} where
-  abbrev MadeBy : Result Made Exit → Type 0
-  MadeBy (Ok m) = IsMade {E = E} m
-  MadeBy (Err e) = Unit {0}
+abbrev MadeBy : Result Made Exit → Type 0
+MadeBy (Ok m) = IsMade m
+MadeBy (Err e) = Unit {0}
 
+module _ {E : Type 0} where
   abbrev Makes : Does E Made → Type 0
   Makes p = (s : State E) → MadeBy (p s).0
 
@@ -119,11 +119,11 @@ module _ {E : Type 0} where
   inside_makes m = then_makes (caught m.init) (λ returned. of.result_read m.result m.place >>= (λ r. if returned then pure (Ended r) else of.completed m r))
       (λ b. then_makes (of.result_read m.result m.place) (λ r. if b then pure (Ended r) else of.completed m r) (λ r. ends_or b m r))
 
-  owned : (r : Result Made Exit) (t s : State E) → MadeBy r → Fresh {E = E} (own_in r t s).0
+  owned : (r : Result Made Exit) (t s : State E) → MadeBy r → Fresh (own_in r t s).0
   owned (Ok m) t s h = h
   owned (Err e) t s h = tt
 
-  first_makes : (m : MappingRule E) (ls : List Local) (s : State E) → Fresh {E = E} (of.first m ls s).0
+  first_makes : (m : MappingRule E) (ls : List Local) (s : State E) → Fresh (of.first m ls s).0
   unfolding of.first in_own
   first_makes m ls s =
       let t : State E = begun (ls ++ of.result_local m.result (of.value_of None)) s in

@@ -50,16 +50,19 @@ module _ {E : Type 0} (fuel : ℕ) where
   bars_first : {A B : Type 0} (p : Does E A) (h : A → Does E B) → Bars A p → Bars B (p >>= h)
   bars_first p h e = λ s c. behind (p s).0 (p s).1 h (e s c)
 
+  abbrev charged : Bool → State E → Done E (Unit {0})
+  charged b s = if b then (Err (Ends OutOfFuel), s) else (Ok tt, record s { cost = s.cost + 1 })
+
   bars_charge : Bars (Unit {0}) (charge fuel 1)
   unfolding charge
   bars_charge = λ s c.
       let out : nat_lt fuel (s.cost + 1) ≡ true = lt-ltb fuel (s.cost + 1) (omega arith) in
-      subst (λ b. NoValue (if b then (Err (Ends OutOfFuel), s) else (Ok tt, record s { cost = s.cost + 1 })).0) (sym out) tt
+      subst (λ b. NoValue (charged b s).0) (sym out) tt
 
   bars : {B : Type 0} (p : Does E B) → Bars B (charge fuel 1 >> p)
   bars p = bars_first (charge fuel 1) (λ _. p) bars_charge
 
-  misfits : {A : Type 0} (at : Place) → Bars A (misfit at)
+  misfits : (at : Place) → Bars Value (misfit at)
   misfits at = λ s c. tt
 
   module _ (keep : LateWrite → E) (program : ProgramTerm) (turns : ℕ) where

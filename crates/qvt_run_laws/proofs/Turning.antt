@@ -31,6 +31,11 @@ use Rattle.qvt_run_laws.specs.Fuel.{bounded}
 use Rattle.qvt_run_laws.proofs.Spending.{HasSpent, Spends}
 use Rattle.qvt_run_laws.proofs.Steady.{made_cost, put_cost, caught_cost, given_cost, owned_cost}
 
+-- what costs more than it has to
+spent_more : {A : Type 0} (r : Result A Exit) (n m : ℕ) → n < m → HasSpent n r m
+spent_more (Ok a) n m c = c
+spent_more (Err x) n m c = tt
+
 module _ {E : Type 0} (fuel : ℕ) where
   -- from this state: the same, at no less cost, within the fuel
   abbrev pub Meets : {A : Type 0} → State E → Done E A → Done E A → Type 0
@@ -150,10 +155,6 @@ module _ {E : Type 0} (fuel : ℕ) where
 
   -- What costs something where it gives a value.
 
-  spent_more : {A : Type 0} (r : Result A Exit) (n m : ℕ) → n < m → HasSpent n r m
-  spent_more (Ok a) n m c = c
-  spent_more (Err x) n m c = tt
-
   spent_behind : {A B : Type 0} (h k : A → Does E B) → ((a : A) → Meet B (h a) (k a)) → (n : ℕ) (r : Result A Exit) (t : State E) → HasSpent n r t.cost → t.cost ≤ fuel → HasSpent n (on_outcome r t k).0 (on_outcome r t k).1.cost
   spent_behind h k z n (Ok a) t d c = let w : Meets t (h a t) (k a t) = z a t c in spent_more (k a t).0 n (k a t).1.cost (omega (arith, d, w.1))
   spent_behind h k z n (Err x) t d c = tt
@@ -209,7 +210,7 @@ module _ {E : Type 0} (fuel : ℕ) where
     charge_costs true s = tt
     charge_costs false s = omega arith
 
-    one_costs : Spends fuel (Unit {0}) (charge fuel 1)
+    one_costs : Spends {E = E} fuel (Unit {0}) (charge fuel 1)
     unfolding charge
     one_costs = λ s c. charge_costs (nat_lt fuel (s.cost + 1)) s
 
