@@ -9,3 +9,4 @@ pub mod Words
 pub mod Work
 pub mod Ends
 pub mod Entries
+pub mod Exact

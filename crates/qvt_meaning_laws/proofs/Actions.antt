@@ -14,10 +14,10 @@ use Rattle.qvt_run_rules.specs.Locals.{local}
 use Rattle.qvt_run_rules.specs.Sources.{items_of}
 use Rattle.qvt_run_rules.specs.Statements as statement
 use Rattle.qvt_meaning.specs.Readings.{Setting}
-use Rattle.qvt_meaning_laws.proofs.Closed.{Relation, Closed, Each, none, more}
+use Rattle.qvt_meaning_laws.proofs.Closed.{Relation, Repeated, Closed, Each, none, more}
 use Rattle.qvt_meaning_laws.proofs.Parts.{on, after, ticks, picks, stops, misfits, looks, looks_inner, valids, objects, takens, reads, read_locals, sets}
 
-module _ {E F : Type 0} {R : Relation E F} {x : Setting E} {y : Setting F} (c : Closed E F R x y) where
+module _ {E F : Type 0} {R : Relation E F} {T : Repeated E F} {x : Setting E} {y : Setting F} (c : Closed E F R T x y) where
   -- Conditions.
 
   truths : (at : Place) (v : Value) → R Bool (statement.truth at v) (statement.truth at v)

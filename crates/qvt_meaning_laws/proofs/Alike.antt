@@ -19,12 +19,12 @@ use Rattle.qvt_run_data.specs.declared.local.Local.{Local}
 use Rattle.qvt_run_data.specs.declared.record.Key.{Key}
 use Rattle.qvt_run_rules.specs.State.{State, Done, Does, on_outcome, ◌>>=◌, ◌>>◌, pure, ask, misfit, caught_in, caught}
 use Rattle.qvt_run_rules.specs.Cost.{charge}
-use Rattle.qvt_run_rules.specs.Locals.{push, scoped, with_locals, inside, cut, out_of, under, begun, own_in, in_frame, in_own}
+use Rattle.qvt_run_rules.specs.Locals.{fixed, name_in, push, scoped, with_locals, inside, cut, out_of, under, begun, own_in, in_frame, in_own}
 use Rattle.qvt_run_rules.specs.Store.{made_one, is_class_for, new_object, are_fit, changed, written, op_of, slot_items, put}
 use Rattle.qvt_run_rules.specs.Trace.{result_for, has_key}
 use Rattle.qvt_run_rules.specs.Sources as source
-use Rattle.qvt_run_rules.specs.Iterators.{unvisited, closure_from}
-use Rattle.qvt_run_rules.specs.Statements.{loop, turn, holds, truth}
+use Rattle.qvt_run_rules.specs.Iterators.{unvisited, for_item, closure_from}
+use Rattle.qvt_run_rules.specs.Statements.{statement, loop, turn, holds, truth}
 use Rattle.qvt_run_rules.specs.Calls.{given_in, given}
 use Rattle.qvt_run_rules.specs.Mappings as of
 use Rattle.qvt_run_rules.specs.Mappings.{Begun, Known, Ended, New, note, once, with_key}
@@ -196,6 +196,15 @@ module _ {E F : Type 0} (g : E → F) where
   loops (suc n) t u at p q d e = binds Bool (Unit {0}) (turn t at p) (turn u at q) (λ b. if b then loop n t at p else pure tt) (λ b. if b then loop n u at q else pure tt) (turns t u at p q d e)
       (λ b. picks (Unit {0}) b (loop n t at p) (pure tt) (loop n u at q) (pure tt) (loops n t u at p q d e) (λ s. refl))
 
+  -- a statement
+  spending : (fuel : ℕ) (p : Does E (Unit {0})) (q : Does F (Unit {0})) → Alike (Unit {0}) p q → Alike (Unit {0}) (statement (charge fuel) p) (statement (charge fuel) q)
+  unfolding statement
+  spending fuel p q e = binds (Unit {0}) (Unit {0}) (charge fuel 1) (charge fuel 1) (λ _. p) (λ _. q) (charges fuel 1) (λ _. e)
+
+  items : (name : Option (List ℕ)) (p : Does E Value) (q : Does F Value) → Alike Value p q → (v : Value) → Alike Value (for_item name p v) (for_item name q v)
+  unfolding for_item
+  items name p q e v = withs Value (λ vs. fixed (name_in vs name) v ∷ []) p q e
+
   unless_invalid : (w : Value) (p : Does E Value) (q : Does F Value) → Alike Value p q → Alike Value (source.unless_invalid w p) (source.unless_invalid w q)
   unless_invalid (Invalid r i) p q e = λ s. refl
   unless_invalid w p q e = e
@@ -223,7 +232,7 @@ module _ {E F : Type 0} (g : E → F) where
     enters : (w : LateWrite) → Alike (Unit {0}) (entered keep p fuel w) (entered keep' p fuel w)
     enters w = λ s. ap (λ (es : List F). (Ok tt, record (image s) { entries = es })) (ap (λ (z : F). map g s.entries ++ z ∷ []) (sym (same w)) ∙ sym (map-append g s.entries (keep w ∷ [])))
 
-    pub alike : Closed E F Alike (setting keep p fuel) (setting keep' p fuel)
+    pub alike : Closed E F Alike (λ p q. Unit {0}) (setting keep p fuel) (setting keep' p fuel)
     unfolding setting
     alike = record {
       binds = binds;
@@ -245,8 +254,8 @@ module _ {E F : Type 0} (g : E → F) where
       catches = catches;
       gives_back = gives_back;
       onces = onces;
-      loops = loops fuel;
-      closures = closures (suc fuel);
+      loops = λ t u at p q z d e. spending fuel (loop fuel t at p) (loop fuel u at q) (loops fuel t u at p q d e);
+      closures = λ at name p q k done vs z e. closures (suc fuel) at (for_item name p) (for_item name q) k done vs (items name p q e);
       resolves = λ at q s. answers fuel q.one (answer p s.trace s.store s.locals at q) s;
       enters = λ o f adds q at s. enters (late_write o f adds q at s) s;
       beyonds = λ at p q e. e;
@@ -255,4 +264,4 @@ module _ {E F : Type 0} (g : E → F) where
     -- a whole run
     pub runs : (store : Contents) → main_run keep' p fuel store ≡ image_of (main_run keep p fuel store)
     unfolding main_run setting
-    runs store = block alike (of_stmts alike p (calls_to alike p 100) None (main_in p.module_.units)) (state_of store [] [])
+    runs store = block alike (of_stmts alike p (calls_to alike p (λ left answer e. tt) 100) (λ answer e. tt) None (main_in p.module_.units)) (state_of store [] [])

@@ -12,10 +12,10 @@ use Rattle.qvt_run_rules.specs.Sources.{objects_in}
 use Rattle.qvt_run_rules.specs.Calls as call
 use Rattle.qvt_run_rules.specs.Calls.{Calls, Param, Routine}
 use Rattle.qvt_meaning.specs.Readings.{Setting}
-use Rattle.qvt_meaning_laws.proofs.Closed.{Relation, Closed, Each, none, more}
+use Rattle.qvt_meaning_laws.proofs.Closed.{Relation, Repeated, Closed, Each, none, more}
 use Rattle.qvt_meaning_laws.proofs.Parts.{on, after, ticks, misfits, finds, valids, presents, objects, askeds, reads, collects}
 
-module _ {E F : Type 0} {R : Relation E F} {x : Setting E} {y : Setting F} (c : Closed E F R x y) where
+module _ {E F : Type 0} {R : Relation E F} {T : Repeated E F} {x : Setting E} {y : Setting F} (c : Closed E F R T x y) where
   -- What a unit begins with.
 
   pub bound : (ps : List Param) (vs : List Value) (at : Place) → R (List Local) (call.bound ps vs at) (call.bound ps vs at)

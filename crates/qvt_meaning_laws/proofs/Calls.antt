@@ -1,7 +1,7 @@
 -- A closed relation holds of every call, over settings of one program.
 use Rattle.std.proofs.Common.{ℕ, zero, suc, Bool, Option, Some, None}
 use Rattle.qvt_types_data.specs.declared.ty.Ty.{Ty}
-use Rattle.qvt_types_nodes.specs.Tree.{TypedOptionalExpr, TypedNoExpr, TypedSomeExpr, TypedStmtTerms}
+use Rattle.qvt_types_nodes.specs.Tree.{TypedExprTerm, TypedOptionalExpr, TypedNoExpr, TypedSomeExpr, TypedStmtTerms}
 use Rattle.qvt_types_nodes.specs.Module.{TypedMappingTerm, TypedUnitTerm, TypedHelperOf, TypedConstructorOf, TypedMappingOf}
 use Rattle.qvt_types_units.specs.declared.signature.Signature.{Signature}
 use Rattle.qvt_types_units.specs.Numbers.{has_context}
@@ -11,9 +11,10 @@ use Rattle.qvt_run_data.specs.declared.callee.Callee.TheVariants.{HelperCall, Co
 use Rattle.qvt_run_rules.specs.Calls.{Calls}
 use Rattle.qvt_meaning.specs.Nodes.{place_of, mappings_named}
 use Rattle.qvt_meaning.specs.Program.{unit_term, signature_of, known_class, mapping_unit, numbers}
+use Rattle.qvt_meaning.specs.Phrases.{expr}
 use Rattle.qvt_meaning.specs.Readings.{Setting}
 use Rattle.qvt_meaning.specs.Units as of
-use Rattle.qvt_meaning_laws.proofs.Closed.{Relation, Closed, Held, held_none, held_some}
+use Rattle.qvt_meaning_laws.proofs.Closed.{Relation, Repeated, Closed, Held, held_none, held_some}
 use Rattle.qvt_meaning_laws.proofs.Parts.{stops, founds}
 use Rattle.qvt_meaning_laws.proofs.Actions.{holds, in_order, block}
 use Rattle.qvt_meaning_laws.proofs.Calling.{AlikeCalls, Routines, routines, helper, constructor_}
@@ -21,23 +22,27 @@ use Rattle.qvt_meaning_laws.proofs.Making.{Mappings, mappings, mapping}
 use Rattle.qvt_meaning_laws.proofs.Naming as naming
 use Rattle.qvt_meaning_laws.proofs.Phrasing.{of_expr, of_stmts}
 
-module _ {E F : Type 0} {R : Relation E F} {x : Setting E} {y : Setting F} (c : Closed E F R x y) (program : ProgramTerm) where
+module _ {E F : Type 0} {R : Relation E F} {T : Repeated E F} {x : Setting E} {y : Setting F} (c : Closed E F R T x y) (program : ProgramTerm) where
   abbrev Left : Setting E
   Left = naming.Left c program
 
   abbrev Right : Setting F
   Right = naming.Right c program
 
-  module _ {d : Calls E} {d' : Calls F} (k : AlikeCalls c d d') where
+  -- what is known of an expression that is the condition of a loop or the body of a closure, where calls do this
+  abbrev pub RepeatsOf : Calls E → Calls F → Type 0
+  RepeatsOf d d' = (answer : Option Ty) (e : TypedExprTerm) → T (expr Left d answer e) (expr Right d' answer e)
+
+  module _ {d : Calls E} {d' : Calls F} (k : AlikeCalls c d d') (repeats : RepeatsOf d d') where
     body_of : (answer : Option Ty) (ss : TypedStmtTerms) → R (Unit {0}) (of.body_of Left d answer ss) (of.body_of Right d' answer ss)
-    body_of answer ss = block c (of_stmts c program k answer ss)
+    body_of answer ss = block c (of_stmts c program k repeats answer ss)
 
     section : (ss : TypedStmtTerms) → R (Unit {0}) (of.section Left d ss) (of.section Right d' ss)
-    section ss = in_order c (of_stmts c program k None ss)
+    section ss = in_order c (of_stmts c program k repeats None ss)
 
     when_of : (e : TypedOptionalExpr) → Held (R Bool) (of.when_of Left d e) (of.when_of Right d' e)
     when_of TypedNoExpr = held_none
-    when_of (TypedSomeExpr e) = held_some (holds c (place_of e) (of_expr c program k None e))
+    when_of (TypedSomeExpr e) = held_some (holds c (place_of e) (of_expr c program k repeats None e))
 
     routine_in : (u : Signature) (t : Option TypedUnitTerm) → Held (Routines c) (of.routine_in Left d u t) (of.routine_in Right d' u t)
     routine_in u (Some (TypedHelperOf h)) = held_some (routines (has_context u.context) (of.params_of h.params u.params) (body_of u.answer h.body))
@@ -69,7 +74,7 @@ module _ {E F : Type 0} {R : Relation E F} {x : Setting E} {y : Setting F} (c : 
     mapping_of n None = held_none
     mapping_of n (Some m) = mapping_in n (signature_of program m) (unit_term program m)
 
-    mapping_at : (n : ℕ) → Held (Mappings c) (of.mapping_at Left d n) (of.mapping_at Right d' n)
+    pub mapping_at : (n : ℕ) → Held (Mappings c) (of.mapping_at Left d n) (of.mapping_at Right d' n)
     unfolding of.mapping_at
     mapping_at n = mapping_of n (mapping_unit program n)
 
@@ -79,7 +84,7 @@ module _ {E F : Type 0} {R : Relation E F} {x : Setting E} {y : Setting F} (c : 
     called (MappingCall n way o) vs at = founds c at (mapping_at n) (λ m m' e. mapping c mapping_at k way o vs at e)
 
   -- so many calls may be open
-  pub calls_to : (left : ℕ) → AlikeCalls c (of.calls_to Left left) (of.calls_to Right left)
+  pub calls_to : ((left : ℕ) → RepeatsOf (of.calls_to Left left) (of.calls_to Right left)) → (left : ℕ) → AlikeCalls c (of.calls_to Left left) (of.calls_to Right left)
   unfolding of.calls_to
-  calls_to zero n vs at = stops c Value _
-  calls_to (suc left) n vs at = called (calls_to left) n vs at
+  calls_to repeats zero n vs at = stops c Value _
+  calls_to repeats (suc left) n vs at = called (calls_to repeats left) (repeats left) n vs at

@@ -12,8 +12,8 @@ use Rattle.qvt_run_data.specs.declared.request.Query.{Query}
 use Rattle.qvt_run_rules.specs.State.{Does, ◌>>=◌, pure, exits, ask, caught}
 use Rattle.qvt_run_rules.specs.Locals.{push, replace, scoped, with_locals, inside, in_frame, in_own}
 use Rattle.qvt_run_rules.specs.Store.{new_object, put}
-use Rattle.qvt_run_rules.specs.Iterators.{closure_from}
-use Rattle.qvt_run_rules.specs.Statements.{loop}
+use Rattle.qvt_run_rules.specs.Iterators.{for_item, closure_from}
+use Rattle.qvt_run_rules.specs.Statements.{statement, loop}
 use Rattle.qvt_run_rules.specs.Calls.{given}
 use Rattle.qvt_run_rules.specs.Mappings.{Begun, once}
 use Rattle.qvt_run_rules.specs.Resolve.{entered}
@@ -22,8 +22,12 @@ use Rattle.qvt_meaning.specs.Readings.{Setting}
 abbrev pub Relation : Type 0 → Type 0 → Type 1
 Relation E F = (A : Type 0) → Does E A → Does F A → Type 0
 
--- It holds of each step of a run, over these two settings, and of what is made of phrases of which it holds.
-pub record Closed (E F : Type 0) (R : Relation E F) (x : Setting E) (y : Setting F) : Type 1 where
+-- what is known of two expressions each of which may be the condition of a loop or the body of a closure
+abbrev pub Repeated : Type 0 → Type 0 → Type 1
+Repeated E F = Does E Value → Does F Value → Type 0
+
+-- It holds of each step of a run, over these two settings, and of what is made of phrases of which it holds; T is known of what is repeated.
+pub record Closed (E F : Type 0) (R : Relation E F) (T : Repeated E F) (x : Setting E) (y : Setting F) : Type 1 where
   pub binds : (A B : Type 0) (p : Does E A) (q : Does F A) (f : A → Does E B) (g : A → Does F B) → R A p q → ((a : A) → R B (f a) (g a)) → R B (p >>= f) (q >>= g)
   pub gives : (A : Type 0) (a : A) → R A (pure a) (pure a)
   pub ends : (A : Type 0) (e : Exit) → R A (exits e) (exits e)
@@ -49,9 +53,10 @@ pub record Closed (E F : Type 0) (R : Relation E F) (x : Setting E) (y : Setting
   -- the trace
   pub onces : (k : Key) (at : Place) (p : Does E Begun) (q : Does F Begun) → R Begun p q → R Begun (once k at p) (once k at q)
   -- loops, of at most so many turns
-  pub loops : (t : Does E Value) (u : Does F Value) (at : Place) (p : Does E (Unit {0})) (q : Does F (Unit {0})) → R Value t u → R (Unit {0}) p q → R (Unit {0}) (loop x.turns t at p) (loop y.turns u at q)
-  pub closures : (at : Place) (f : Value → Does E Value) (g : Value → Does F Value) (k : Kind) (done vs : List Value) → ((v : Value) → R Value (f v) (g v))
-      → R Value (closure_from at f (suc x.turns) k done vs) (closure_from at g (suc y.turns) k done vs)
+  pub loops : (t : Does E Value) (u : Does F Value) (at : Place) (p : Does E (Unit {0})) (q : Does F (Unit {0})) → T t u → R Value t u → R (Unit {0}) p q
+      → R (Unit {0}) (statement x.spend (loop x.turns t at p)) (statement y.spend (loop y.turns u at q))
+  pub closures : (at : Place) (name : Option (List ℕ)) (p : Does E Value) (q : Does F Value) (k : Kind) (done vs : List Value) → T p q → R Value p q
+      → R Value (closure_from at (for_item name p) (suc x.turns) k done vs) (closure_from at (for_item name q) (suc y.turns) k done vs)
   -- what the settings tell
   pub resolves : (at : Place) (q : Query) → R Value (x.resolve at q) (y.resolve at q)
   pub enters : (o : Oid) (f : ℕ) (adds : Bool) (q : Query) (at : Place) → R (Unit {0}) (entered x.enter o f adds q at) (entered y.enter o f adds q at)

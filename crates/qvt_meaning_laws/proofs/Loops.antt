@@ -11,10 +11,10 @@ use Rattle.qvt_run_rules.specs.Logic.{is_true, conjunction, disjunction, if_logi
 use Rattle.qvt_run_rules.specs.Sources.{collected_kind}
 use Rattle.qvt_run_rules.specs.Iterators as each
 use Rattle.qvt_meaning.specs.Readings.{Setting}
-use Rattle.qvt_meaning_laws.proofs.Closed.{Relation, Closed}
+use Rattle.qvt_meaning_laws.proofs.Closed.{Relation, Repeated, Closed}
 use Rattle.qvt_meaning_laws.proofs.Parts.{on, ticks, picks, misfits, finds, unless_invalids, over, gathers, flats}
 
-module _ {E F : Type 0} {R : Relation E F} {x : Setting E} {y : Setting F} (c : Closed E F R x y) where
+module _ {E F : Type 0} {R : Relation E F} {T : Repeated E F} {x : Setting E} {y : Setting F} (c : Closed E F R T x y) where
   for_item : (name : Option (List ℕ)) {p : Does E Value} {q : Does F Value} (v : Value) → R Value p q → R Value (each.for_item name p v) (each.for_item name q v)
   unfolding each.for_item
   for_item name {p} {q} v e = c.withs Value (λ vs. fixed (name_in vs name) v ∷ []) p q e
@@ -120,9 +120,9 @@ module _ {E F : Type 0} {R : Relation E F} {x : Setting E} {y : Setting F} (c : 
     unfolding each.sorted_by
     sorted_by v = iterated v (λ k xs. sorts at _ _ items k [] xs)
 
-    pub closure : (v : Value) → R Value (each.closure x.spend at name p x.turns v) (each.closure y.spend at name q y.turns v)
+    pub closure : (v : Value) → T p q → R Value (each.closure x.spend at name p x.turns v) (each.closure y.spend at name q y.turns v)
     unfolding each.closure
-    closure v = iterated v (λ k xs. c.closures at (each.for_item name p) (each.for_item name q) k [] (each.unvisited [] xs) items)
+    closure v d = iterated v (λ k xs. c.closures at name p q k [] (each.unvisited [] xs) d e)
 
     pub iterate : (acc : List ℕ) {h : Does E Value} {j : Does F Value} (v : Value) → R Value h j → R Value (each.iterate x.spend at name p acc h v) (each.iterate y.spend at name q acc j v)
     unfolding each.iterate

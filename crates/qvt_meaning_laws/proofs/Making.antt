@@ -16,7 +16,7 @@ use Rattle.qvt_run_rules.specs.Calls.{Calls, Param}
 use Rattle.qvt_run_rules.specs.Mappings as of
 use Rattle.qvt_run_rules.specs.Mappings.{Making, MappingRule, Made, Known, Ended, New, Begun}
 use Rattle.qvt_meaning.specs.Readings.{Setting}
-use Rattle.qvt_meaning_laws.proofs.Closed.{Relation, Closed, Held, held_none, held_some}
+use Rattle.qvt_meaning_laws.proofs.Closed.{Relation, Repeated, Closed, Held, held_none, held_some}
 use Rattle.qvt_meaning_laws.proofs.Parts.{on, after, picks, stops, misfits, founds, reads, sets}
 use Rattle.qvt_meaning_laws.proofs.Calling.{frame, AlikeCalls}
 
@@ -47,7 +47,7 @@ mapping_with a w i p e = record {
   place = a.place;
 }
 
-module _ {E F : Type 0} {R : Relation E F} {x : Setting E} {y : Setting F} (c : Closed E F R x y) where
+module _ {E F : Type 0} {R : Relation E F} {T : Repeated E F} {x : Setting E} {y : Setting F} (c : Closed E F R T x y) where
   when_holds : (ls : List Local) {w : Option (Does E Bool)} {w' : Option (Does F Bool)} → Held (R Bool) w w' → R Bool (of.when_holds w ls) (of.when_holds w' ls)
   when_holds ls held_none = c.gives Bool true
   when_holds ls (held_some {a = p} {b = q} e) = c.frames Bool ls p q e
@@ -166,6 +166,10 @@ module _ {E F : Type 0} {R : Relation E F} {x : Setting E} {y : Setting F} (c : 
       by_mapping : (way : Way) (o : Option Oid) (vs : List Value) (at : Place) → R Value (of.mapping ms d one way o vs at) (of.mapping ms' d' other way o vs at)
       unfolding of.mapping
       by_mapping way o vs at = on c (frame c (of.is_there a.context) a.params o vs at) (λ ls. by_way way o vs at ls)
+
+    -- the init section and the result
+    pub begins : {m : MappingRule E} {m' : MappingRule F} (ls : List Local) → Mappings m m' → R Begun (of.first m ls) (of.first m' ls)
+    begins ls (mappings a ew ei ep ee) = first a ew ei ep ee ls
 
     pub mapping : {m : MappingRule E} {m' : MappingRule F} (way : Way) (o : Option Oid) (vs : List Value) (at : Place) → Mappings m m' → R Value (of.mapping ms d m way o vs at) (of.mapping ms' d' m' way o vs at)
     mapping way o vs at (mappings a ew ei ep ee) = by_mapping a ew ei ep ee way o vs at

@@ -35,7 +35,7 @@ use Rattle.qvt_meaning.specs.Nodes.{resolve_mark, class_argument}
 use Rattle.qvt_meaning.specs.Program.{chosen_for, free_callee, form_of}
 use Rattle.qvt_meaning.specs.Readings as by
 use Rattle.qvt_meaning.specs.Readings.{Setting, TargetDoes, HeadDoes, BareTarget, ResultTarget, MemberTarget}
-use Rattle.qvt_meaning_laws.proofs.Closed.{Relation, Closed, Each, none, more, Held, held_none, held_some, lengths, drops}
+use Rattle.qvt_meaning_laws.proofs.Closed.{Relation, Repeated, Closed, Each, none, more, Held, held_none, held_some, lengths, drops}
 use Rattle.qvt_meaning_laws.proofs.Parts.{misfits, looks}
 use Rattle.qvt_meaning_laws.proofs.Values as value
 use Rattle.qvt_meaning_laws.proofs.Loops as loop
@@ -48,7 +48,7 @@ use Rattle.qvt_meaning_laws.proofs.Resolving as resolving
 abbrev pub of_program : {E : Type 0} → ProgramTerm → Setting E → Setting E
 of_program p x = record x { program = p }
 
-module _ {E F : Type 0} {R : Relation E F} {x : Setting E} {y : Setting F} (c : Closed E F R x y) (program : ProgramTerm) where
+module _ {E F : Type 0} {R : Relation E F} {T : Repeated E F} {x : Setting E} {y : Setting F} (c : Closed E F R T x y) (program : ProgramTerm) where
   abbrev pub Left : Setting E
   Left = of_program program x
 
@@ -133,6 +133,14 @@ module _ {E F : Type 0} {R : Relation E F} {x : Setting E} {y : Setting F} (c : 
 
   -- Behind an arrow.
 
+  -- what is known of two phrases each of which may be the body of a closure
+  abbrev pub Bodies : Does E Value → Does F Value → Type 0
+  Bodies p q = T p q × R Value p q
+
+  values_of : {ps : List (Does E Value)} {qs : List (Does F Value)} → Each Bodies ps qs → Each (R Value) ps qs
+  values_of none = none
+  values_of (more e es) = more e.1 (values_of es)
+
   -- two accumulators of one name with first values that are alike
   pub data Firsts : (List ℕ × Does E Value) → (List ℕ × Does F Value) → Type 0 where
     firsts : (name : List ℕ) {p : Does E Value} {q : Does F Value} → R Value p q → Firsts (name, p) (name, q)
@@ -145,40 +153,40 @@ module _ {E F : Type 0} {R : Relation E F} {x : Setting E} {y : Setting F} (c : 
   iterate_by name at v held_none e = misfits c Value at
   iterate_by name at v (held_some (firsts acc k)) e = loop.iterate c at name e acc v k
 
-  iterator_by : (i : IteratorKind) {h : HeadDoes E} {j : HeadDoes F} {p : Does E Value} {q : Does F Value} (at : Place) (v : Value) → Heads h j → R Value p q → R Value (by.iterator_by Left i h p at v) (by.iterator_by Right i j q at v)
-  iterator_by iterator.Select at v (heads name k) e = loop.select c at name e v
-  iterator_by iterator.Reject at v (heads name k) e = loop.reject c at name e v
-  iterator_by iterator.Collect at v (heads name k) e = loop.collect c at name e v
-  iterator_by iterator.CollectNested at v (heads name k) e = loop.collect_nested c at name e v
-  iterator_by iterator.Exists at v (heads name k) e = loop.exists_ c at name e v
-  iterator_by iterator.ForAll at v (heads name k) e = loop.for_all c at name e v
-  iterator_by iterator.Any at v (heads name k) e = loop.any c at name e v
-  iterator_by iterator.One at v (heads name k) e = loop.one c at name e v
-  iterator_by iterator.IsUnique at v (heads name k) e = loop.is_unique c at name e v
-  iterator_by iterator.SortedBy at v (heads name k) e = loop.sorted_by c at name e v
-  iterator_by iterator.Closure at v (heads name k) e = c.beyonds at _ _ (loop.closure c at name e v)
-  iterator_by iterator.Iterate at v (heads name k) e = iterate_by name at v k e
+  iterator_by : (i : IteratorKind) {h : HeadDoes E} {j : HeadDoes F} {p : Does E Value} {q : Does F Value} (at : Place) (v : Value) → Heads h j → T p q → R Value p q → R Value (by.iterator_by Left i h p at v) (by.iterator_by Right i j q at v)
+  iterator_by iterator.Select at v (heads name k) d e = loop.select c at name e v
+  iterator_by iterator.Reject at v (heads name k) d e = loop.reject c at name e v
+  iterator_by iterator.Collect at v (heads name k) d e = loop.collect c at name e v
+  iterator_by iterator.CollectNested at v (heads name k) d e = loop.collect_nested c at name e v
+  iterator_by iterator.Exists at v (heads name k) d e = loop.exists_ c at name e v
+  iterator_by iterator.ForAll at v (heads name k) d e = loop.for_all c at name e v
+  iterator_by iterator.Any at v (heads name k) d e = loop.any c at name e v
+  iterator_by iterator.One at v (heads name k) d e = loop.one c at name e v
+  iterator_by iterator.IsUnique at v (heads name k) d e = loop.is_unique c at name e v
+  iterator_by iterator.SortedBy at v (heads name k) d e = loop.sorted_by c at name e v
+  iterator_by iterator.Closure at v (heads name k) d e = c.beyonds at _ _ (loop.closure c at name e v d)
+  iterator_by iterator.Iterate at v (heads name k) d e = iterate_by name at v k e
 
-  iterator_step : (i : IteratorKind) {h : HeadDoes E} {j : HeadDoes F} {ps : List (Does E Value)} {qs : List (Does F Value)} (at : Place) (v : Value) → Heads h j → Each (R Value) ps qs →
+  iterator_step : (i : IteratorKind) {h : HeadDoes E} {j : HeadDoes F} {ps : List (Does E Value)} {qs : List (Does F Value)} (at : Place) (v : Value) → Heads h j → Each Bodies ps qs →
       R Value (by.iterator_step Left i h ps at v) (by.iterator_step Right i j qs at v)
   iterator_step i at v k none = misfits c Value at
-  iterator_step i at v k (more e none) = iterator_by i at v k e
+  iterator_step i at v k (more e none) = iterator_by i at v k e.0 e.1
   iterator_step i at v k (more e (more e' es)) = misfits c Value at
 
-  named_step : (i : Option IteratorKind) (name : List ℕ) {h : HeadDoes E} {j : HeadDoes F} {ps : List (Does E Value)} {qs : List (Does F Value)} (at : Place) (v : Value) → Heads h j → Each (R Value) ps qs →
+  named_step : (i : Option IteratorKind) (name : List ℕ) {h : HeadDoes E} {j : HeadDoes F} {ps : List (Does E Value)} {qs : List (Does F Value)} (at : Place) (v : Value) → Heads h j → Each Bodies ps qs →
       R Value (by.named_step Left i name h ps at v) (by.named_step Right i name j qs at v)
   named_step (Some i) name at v k e = iterator_step i at v k e
-  named_step None name at v k e = operation_by (operation_named name) false at v e
+  named_step None name at v k e = operation_by (operation_named name) false at v (values_of e)
 
   selection_by : (name : List ℕ) (n : Option ℕ) (at : Place) (v : Value) → R Value (by.selection_by x.spend name n at v) (by.selection_by y.spend name n at v)
   selection_by name (Some n) at v = value.select_class c (bytes_eq name (codes "selectByType")) n at v
   selection_by name None at v = misfits c Value at
 
-  arrow_on : (name : List ℕ) {h : HeadDoes E} {j : HeadDoes F} {ps : List (Does E Value)} {qs : List (Does F Value)} (n : Option ℕ) (at : Place) (v : Value) → Heads h j → Each (R Value) ps qs →
+  arrow_on : (name : List ℕ) {h : HeadDoes E} {j : HeadDoes F} {ps : List (Does E Value)} {qs : List (Does F Value)} (n : Option ℕ) (at : Place) (v : Value) → Heads h j → Each Bodies ps qs →
       R Value (by.arrow_on Left name h ps n at v) (by.arrow_on Right name j qs n at v)
   arrow_on name n at v k e = either (is_selection name) (selection_by name n at v) (named_step (iterator_named name) name at v k e)
 
-  pub arrow_by : (kind : Kind) (wrap : Bool) (name : List ℕ) {h : HeadDoes E} {j : HeadDoes F} {ps : List (Does E Value)} {qs : List (Does F Value)} (n : Option ℕ) (at : Place) (v : Value) → Heads h j → Each (R Value) ps qs →
+  pub arrow_by : (kind : Kind) (wrap : Bool) (name : List ℕ) {h : HeadDoes E} {j : HeadDoes F} {ps : List (Does E Value)} {qs : List (Does F Value)} (n : Option ℕ) (at : Place) (v : Value) → Heads h j → Each Bodies ps qs →
       R Value (by.arrow_by Left kind wrap name h ps n at v) (by.arrow_by Right kind wrap name j qs n at v)
   arrow_by kind wrap name n at v k e = arrow_on name n at (before_arrow wrap kind v) k e
 

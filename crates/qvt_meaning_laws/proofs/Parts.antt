@@ -16,9 +16,9 @@ use Rattle.qvt_run_rules.specs.Locals.{local, local_named, value_in, read_local,
 use Rattle.qvt_run_rules.specs.Sources.{collected_kind, unless_invalid, over_items, gathered, as_flat, in_turn, for_items, for_row, collecting, dotted}
 use Rattle.qvt_run_rules.specs.Store.{property, read_property}
 use Rattle.qvt_meaning.specs.Readings.{Setting}
-use Rattle.qvt_meaning_laws.proofs.Closed.{Relation, Closed, Each, none, more, Held, held_none, held_some}
+use Rattle.qvt_meaning_laws.proofs.Closed.{Relation, Repeated, Closed, Each, none, more, Held, held_none, held_some}
 
-module _ {E F : Type 0} {R : Relation E F} {x : Setting E} {y : Setting F} (c : Closed E F R x y) where
+module _ {E F : Type 0} {R : Relation E F} {T : Repeated E F} {x : Setting E} {y : Setting F} (c : Closed E F R T x y) where
   pub on : {A B : Type 0} {p : Does E A} {q : Does F A} {f : A → Does E B} {g : A → Does F B} → R A p q → ((a : A) → R B (f a) (g a)) → R B (p >>= f) (q >>= g)
   on {A} {B} {p} {q} {f} {g} e k = c.binds A B p q f g e k
 

@@ -16,19 +16,20 @@ use Rattle.qvt_meaning.specs.StepTypes.{step_type, kind_before}
 use Rattle.qvt_meaning.specs.Readings as by
 use Rattle.qvt_meaning.specs.Readings.{Setting}
 use Rattle.qvt_meaning.specs.Phrases as of
-use Rattle.qvt_meaning_laws.proofs.Closed.{Relation, Closed, Each, none, more, Held, held_none, held_some, lengths, takes}
+use Rattle.qvt_meaning_laws.proofs.Closed.{Relation, Repeated, Closed, Each, none, more, Held, held_none, held_some, lengths, takes}
 use Rattle.qvt_meaning_laws.proofs.Parts.{on}
 use Rattle.qvt_meaning_laws.proofs.Values as value
 use Rattle.qvt_meaning_laws.proofs.Actions as action
 use Rattle.qvt_meaning_laws.proofs.Calling.{AlikeCalls}
 use Rattle.qvt_meaning_laws.proofs.Naming as naming
-use Rattle.qvt_meaning_laws.proofs.Naming.{Firsts, firsts, Heads, heads, Targets, bare_targets, result_targets, member_targets}
+use Rattle.qvt_meaning_laws.proofs.Naming.{Bodies, Firsts, firsts, Heads, heads, Targets, bare_targets, result_targets, member_targets}
 
 -- all but the last
 but_last : {A B : Type 0} {P : A → B → Type 0} {xs : List A} {ys : List B} → Each P xs ys → Each P (of.but_last xs) (of.but_last ys)
 but_last {xs} {ys} e = rw (lengths e) (takes (length ys - 1) e)
 
-module _ {E F : Type 0} {R : Relation E F} {x : Setting E} {y : Setting F} (c : Closed E F R x y) (program : ProgramTerm) {d : Calls E} {d' : Calls F} (k : AlikeCalls c d d') (answer : Option Ty) where
+module _ {E F : Type 0} {R : Relation E F} {T : Repeated E F} {x : Setting E} {y : Setting F} (c : Closed E F R T x y) (program : ProgramTerm) {d : Calls E} {d' : Calls F} (k : AlikeCalls c d d')
+    (repeats : (answer : Option Ty) (e : TypedExprTerm) → T (of.expr (naming.Left c program) d answer e) (of.expr (naming.Right c program) d' answer e)) (answer : Option Ty) where
   abbrev Left : Setting E
   Left = naming.Left c program
 
@@ -67,6 +68,10 @@ module _ {E F : Type 0} {R : Relation E F} {x : Setting E} {y : Setting F} (c : 
     of_exprs TypedNoExprs = none
     of_exprs (TypedMoreExprs e es) = more (of_expr e) (of_exprs es)
 
+    of_bodies : (es : TypedExprTerms) → Each (Bodies c program) (of.exprs Left d answer es) (of.exprs Right d' answer es)
+    of_bodies TypedNoExprs = none
+    of_bodies (TypedMoreExprs e es) = more (repeats answer e, of_expr e) (of_bodies es)
+
     of_link : (l : TypedLinkTerm) (v : Value) → R Value (of.link Left d answer l v) (of.link Right d' answer l v)
     of_link (TypedLinkOf op e at n) v = naming.link_of c program op at v (of_expr e)
 
@@ -101,7 +106,7 @@ module _ {E F : Type 0} {R : Relation E F} {x : Setting E} {y : Setting F} (c : 
 
     of_step : (o : Option Ty) (s : TypedStepTerm) (v : Value) → R Value (of.step Left d answer o s v) (of.step Right d' answer o s v)
     of_step o (TypedDotStep name args at n) v = of_dot_step name args at n v
-    of_step o (TypedArrowStep name h es at n) v = naming.arrow_by c program (kind_before o) n.wrap name (class_argument es) at v (of_head h) (of_exprs es)
+    of_step o (TypedArrowStep name h es at n) v = naming.arrow_by c program (kind_before o) n.wrap name (class_argument es) at v (of_head h) (of_bodies es)
     of_step o (TypedDotMapStep m) v = of_map_step false m v
     of_step o (TypedArrowMapStep m) v = of_map_step true m v
     of_step o (TypedDotResolveStep r) v = resolved r v
@@ -125,7 +130,7 @@ module _ {E F : Type 0} {R : Relation E F} {x : Setting E} {y : Setting F} (c : 
     of_stmt (TypedReturnStmt v at n) = action.statements c (of_return v)
     of_stmt (TypedValueStmt e at n) = action.statements c (action.discard c (of_expr e))
     of_stmt (TypedIfStmt t ss others other at n) = action.statements c (action.branch c (place_of t) (of_expr t) (action.block c (of_stmts ss)) (of_arms others _ _ (of_otherwise other)))
-    of_stmt (TypedWhileStmt t ss at n) = action.statements c (c.loops _ _ (place_of t) _ _ (of_expr t) (action.block c (of_stmts ss)))
+    of_stmt (TypedWhileStmt t ss at n) = c.loops _ _ (place_of t) _ _ (repeats answer t) (of_expr t) (action.block c (of_stmts ss))
     of_stmt (TypedForEachStmt e name t g ss at n) = action.statements c (action.for_each c (place_of e) name (of.each_type t e) (of_expr e) (of_guarded g _ _ (action.block c (of_stmts ss))))
 
     of_target : (t : TypedTargetTerm) → Targets c program (of.target Left d answer t) (of.target Right d' answer t)

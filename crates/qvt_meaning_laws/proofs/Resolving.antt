@@ -10,10 +10,10 @@ use Rattle.qvt_run_rules.specs.State.{Does, look}
 use Rattle.qvt_run_rules.specs.Sources.{sources_in}
 use Rattle.qvt_run_rules.specs.Resolve as by
 use Rattle.qvt_meaning.specs.Readings.{Setting}
-use Rattle.qvt_meaning_laws.proofs.Closed.{Relation, Closed}
+use Rattle.qvt_meaning_laws.proofs.Closed.{Relation, Repeated, Closed}
 use Rattle.qvt_meaning_laws.proofs.Parts.{on, after, ticks, looks, valids}
 
-module _ {E F : Type 0} {R : Relation E F} {x : Setting E} {y : Setting F} (c : Closed E F R x y) where
+module _ {E F : Type 0} {R : Relation E F} {T : Repeated E F} {x : Setting E} {y : Setting F} (c : Closed E F R T x y) where
   sources : (at : Place) (v : Option Value) → R (Option (List Oid)) (by.sources_of at v) (by.sources_of at v)
   sources at None = c.gives (Option (List Oid)) None
   sources at (Some v) = on c (looks c (List Oid) (λ st. by.all_live st (sources_in v)) at) (λ os. c.gives (Option (List Oid)) (Some os))

@@ -35,24 +35,28 @@ module _ (p : ProgramTerm) (fuel : ℕ) where
   abbrev requests : Setting LateWrite
   requests = setting kept p fuel
 
-  closed : (f : Finish) → Closed Entry LateWrite (Alike request) (with_finish p f fuel) requests
+  closed : (f : Finish) → Closed Entry LateWrite (Alike request) (λ p q. Unit {0}) (with_finish p f fuel) requests
   closed f = alike request (answered p f) kept (λ w. refl) p fuel
 
   bare_run : (f : Finish) (store : Contents) → main_run kept p fuel store ≡ bare (main_run (answered p f) p fuel store)
   bare_run f store = runs request (answered p f) kept (λ w. refl) p fuel store
 
+  -- nothing is asked of conditions of loops and bodies of closures
+  free : (left : ℕ) (answer : Option Ty) (e : TypedExprTerm) → Unit {0}
+  free left answer e = tt
+
   module _ (left : ℕ) where
     bare_call : (f : Finish) (c : Callee) (vs : List Value) (at : Place) (s : State Entry) → unit.calls_to requests left c vs at (bare_state s) ≡ bare (unit.calls_to (with_finish p f fuel) left c vs at s)
     unfolding setting
-    bare_call f c vs at s = calls.calls_to (closed f) p left c vs at s
+    bare_call f c vs at s = calls.calls_to (closed f) p free left c vs at s
 
     bare_expr : (f : Finish) (answer : Option Ty) (e : TypedExprTerm) (s : State Entry) → phrase.expr requests (unit.calls_to requests left) answer e (bare_state s) ≡ bare (expr_with p f fuel left answer e s)
     unfolding setting
-    bare_expr f answer e s = of_expr (closed f) p (calls.calls_to (closed f) p left) answer e s
+    bare_expr f answer e s = of_expr (closed f) p (calls.calls_to (closed f) p free left) (free left) answer e s
 
     bare_stmts : (f : Finish) (answer : Option Ty) (ss : TypedStmtTerms) (s : State Entry) → in_order (phrase.stmts requests (unit.calls_to requests left) answer ss) (bare_state s) ≡ bare (stmts_with p f fuel left answer ss s)
     unfolding setting
-    bare_stmts f answer ss s = action.in_order (closed f) (of_stmts (closed f) p (calls.calls_to (closed f) p left) answer ss) s
+    bare_stmts f answer ss s = action.in_order (closed f) (of_stmts (closed f) p (calls.calls_to (closed f) p free left) (free left) answer ss) s
 
 pub independent : Independent
 independent p f g fuel store = sym (bare_run p fuel f store) ∙ bare_run p fuel g store

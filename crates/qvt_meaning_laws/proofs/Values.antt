@@ -16,10 +16,10 @@ use Rattle.qvt_run_rules.specs.Logic.{logic, by_left}
 use Rattle.qvt_run_rules.specs.Store.{ordered_set}
 use Rattle.qvt_run_rules.specs.Expressions as rule
 use Rattle.qvt_meaning.specs.Readings.{Setting}
-use Rattle.qvt_meaning_laws.proofs.Closed.{Relation, Closed, Each, none, more}
+use Rattle.qvt_meaning_laws.proofs.Closed.{Relation, Repeated, Closed, Each, none, more}
 use Rattle.qvt_meaning_laws.proofs.Parts.{on, ticks, misfits, finds, looks, reads, over, dots, reads_property}
 
-module _ {E F : Type 0} {R : Relation E F} {x : Setting E} {y : Setting F} (c : Closed E F R x y) where
+module _ {E F : Type 0} {R : Relation E F} {T : Repeated E F} {x : Setting E} {y : Setting F} (c : Closed E F R T x y) where
   -- Parts in order.
 
   pub values_onto : (done : List Value) {ps : List (Does E Value)} {qs : List (Does F Value)} → Each (R Value) ps qs → R (List Value) (rule.values_onto done ps) (rule.values_onto done qs)
