@@ -222,4 +222,5 @@ done_is_exact p store fuel n f e =
 pub exact_cost : ExactCost
 exact_cost p store fuel f e = (
   done_is_exact p store fuel f.cost f e ∙ ap (λ b. if b then Err OutOfFuel else Ok f) (le-ltb f.cost f.cost (omega arith)),
-  λ n h. done_is_exact p store fuel n f e ∙ ap (λ b. if b then Err OutOfFuel else Ok f) (lt-ltb n f.cost (omega (arith, h))))
+  λ n h. done_is_exact p store fuel n f e ∙ ap (λ b. if b then Err OutOfFuel else Ok f) (lt-ltb n f.cost (omega (arith, h))),
+)
