@@ -62,11 +62,7 @@ pub fn variable(
 
 /// A path, by what typing read it as.
 #[inline(never)]
-pub fn name(
-    x: &Engine<'_>,
-    path: &TypedPathTree,
-    state: &mut RunState<'_>,
-) -> Result<Value, Halt>
+pub fn name(x: &Engine<'_>, path: &TypedPathTree, state: &mut RunState<'_>) -> Result<Value, Halt>
     ensures { Runs (by.name_of (spend_of x.now.limit) path.now.note.reading path.now.note.source path.now.place (seen state.old)) result state.new }
 {
     names::named(x.alloc, x.limit, path, state)
