@@ -11,10 +11,10 @@ use qvt_types_program::program::Program;
 
 /// How many bytes of the stack stand between a call of a helper, a query or a constructor and its statements, by what was
 /// measured of the program.
-const ROUTINE: u32 = 1900;
+const ROUTINE: u32 = 1600;
 
 /// How many bytes stand between a call of a mapping and the phrases inside its statements.
-const MAPPING: u32 = 10_400;
+const MAPPING: u32 = 10_300;
 
 /// What is left of so many bytes inside a helper, a query or a constructor, if there are enough.
 fn left_in_routine(unit: Option<&TypedUnit>, left: u32) -> Option<u32>

@@ -2,54 +2,78 @@
 
 ghost use Rattle.std.specs.Prelude.{IfSome, ◌<◌};
 
-use qvt_types_nodes::tree::{TypedExpr, TypedStep};
+use qvt_types_data::note::{Note, Reading};
+use qvt_types_nodes::tree::{TypedExpr, TypedExprList, TypedStep};
 
-/// How many bytes of the stack a step may stand on, by what was measured of the program.
-fn bytes_of_step(step: &TypedStep) -> u32 {
-    match step {
-        TypedStep::Dot { args: None, .. } => 0,
-        TypedStep::Dot { args: Some(_), .. } => 2300,
-        TypedStep::Arrow { name, args, .. } => match args.as_slice() {
-            [] => 0,
-            _ => {
-                if name.as_str() == "closure" {
-                    4500
-                } else {
-                    3500
-                }
-            }
+/// How many bytes an expression takes with its steps, where nothing stands inside them.
+const CLOSED: u32 = 700;
+
+/// How many where phrases or calls stand inside them.
+const OPEN: u32 = 3650;
+
+/// How many where they may be the steps of a model too.
+const OF_MODEL: u32 = 4100;
+
+/// Whether a phrase or a call may stand inside a step behind a dot.
+fn is_open_dot(args: &Option<TypedExprList>, note: &Note) -> bool {
+    match args {
+        None => false,
+        Some(args) => match &note.reading {
+            Reading::Operation(_) => !args.is_empty(),
+            _ => true,
         },
-        _ => 4000,
     }
 }
 
-/// The most that one of these steps stands on.
-fn bytes_of_steps(steps: &[TypedStep]) -> u32 {
-    let mut most = 1000;
+/// Whether a phrase or a call may stand inside a step.
+fn is_open(step: &TypedStep) -> bool {
+    match step {
+        TypedStep::Dot { args, note, .. } => is_open_dot(args, note),
+        TypedStep::Arrow { args, .. } => !args.is_empty(),
+        _ => true,
+    }
+}
+
+/// Whether a phrase or a call may stand inside one of them.
+fn any_is_open(steps: &[TypedStep]) -> bool {
     for step in steps {
-        let bytes = bytes_of_step(step);
-        if bytes > most {
-            most = bytes;
+        if is_open(step) {
+            return true;
         }
     }
-    most
+    false
 }
 
-/// How many bytes of the stack an expression takes with what may stand between it and a phrase inside it, by what was
-/// measured of the program.
+/// How many bytes an expression with these steps takes.
+fn bytes_of_steps(first: &TypedExpr, steps: &[TypedStep]) -> u32 {
+    if !any_is_open(steps) {
+        return CLOSED;
+    }
+    match first {
+        TypedExpr::Path(_) => OF_MODEL,
+        _ => OPEN,
+    }
+}
+
+/// How many bytes a call takes, on an implicit source or without a context.
+fn bytes_of_call(note: &Note) -> u32 {
+    if note.source.is_some() { 2000 } else { 1400 }
+}
+
+/// How many bytes of the stack an expression takes with what may stand between it and a phrase or a call inside it, by
+/// what was measured of the program as LLVM builds it.
 pub fn bytes_of(node: &TypedExpr) -> u32 {
     match node {
-        TypedExpr::Call { .. } => 1700,
-        TypedExpr::Coll { .. } => 1250,
-        TypedExpr::If { .. } => 750,
-        TypedExpr::Object { .. } => 2000,
-        TypedExpr::New { .. } => 1700,
-        TypedExpr::Map(_) => 1900,
-        TypedExpr::Resolve(_) => 2000,
-        TypedExpr::Chain { .. } => 1150,
-        TypedExpr::Prefix { .. } => 1000,
-        TypedExpr::Post { steps, .. } => bytes_of_steps(steps.as_slice()),
-        _ => 400,
+        TypedExpr::Call { note, .. } => bytes_of_call(note),
+        TypedExpr::Coll { .. } => 1070,
+        TypedExpr::If { .. } => 890,
+        TypedExpr::Object { .. } => 960,
+        TypedExpr::New { .. } => 1190,
+        TypedExpr::Map(_) => 2100,
+        TypedExpr::Chain { .. } => 1190,
+        TypedExpr::Prefix { .. } => 710,
+        TypedExpr::Post { first, steps, .. } => bytes_of_steps(first, steps.as_slice()),
+        _ => 220,
     }
 }
 

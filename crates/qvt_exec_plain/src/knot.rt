@@ -18,7 +18,7 @@ use qvt_value::value::Value;
 
 /// How many bytes of the stack the phrases of a plain expression may take. It guards the stack of 8 MiB, of which as much
 /// is kept free for them: want of memory is told of a phrase that would stand deeper.
-pub const STACK: u32 = 500_000;
+pub const STACK: u32 = 250_000;
 
 /// What an expression gives, where so many bytes of the stack are left.
 #[cycle(alone)]

@@ -17,7 +17,7 @@ use qvt_run_data::exit::Halt;
 use qvt_types_nodes::tree::{TypedArm, TypedExpr, TypedStmts};
 
 /// Whether a condition is true.
-#[inline(never)]
+#[inline(always)]
 pub fn holds<C: Nested>(
     x: &Engine<'_>,
     units: &ReadyUnits<C>,
@@ -101,7 +101,7 @@ fn arm<C: Nested>(
 }
 
 /// The first arm whose condition is true, or else what stands last.
-#[inline(never)]
+#[inline(always)]
 fn arms<C: Nested>(
     x: &Engine<'_>,
     units: &ReadyUnits<C>,
