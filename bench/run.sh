@@ -48,7 +48,7 @@ row() { # NAME SIZE BASELINE STATEMENTS [UNITS]: # stands for the size
     [ "$step" -eq 1 ] || told+=$(awk "BEGIN{printf \" x%-5.1f\", $third / ($second > 0 ? $second : 1)}")
     [ "$step" -lt 3 ] || break
     # the next size, if it may take so long
-    [ "$(awk "BEGIN{print ($third * ($second > 9 ? $third / $second : 10) > $most * 1000)}")" -eq 0 ] || break
+    [ "$(awk "BEGIN{print ($third * ($second > 2 ? $third / $second : 10) > $most * 1000)}")" -eq 0 ] || break
     size=$((size * 10))
   done
   if [ -n "$baseline" ] && [ "$base" != - ]; then
