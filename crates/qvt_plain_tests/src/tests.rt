@@ -88,15 +88,12 @@ fn metas_of(alloc: Global) -> Result<Metas, Fail>
     }
 }
 
-/// The program whose first expression this is.
-fn program_of(alloc: Global, expression: &str) -> Result<Program, Fail> {
-    if expression.len() > 1000 {
+/// The program of a text.
+fn read(alloc: Global, text: &str) -> Result<Program, Fail> {
+    if text.len() > 100_000 {
         return Err(Fail::new("too long"));
     }
-    let mut text = Text::from_str(alloc, HEAD)?;
-    text.push_str(expression)?;
-    text.push_str("; }")?;
-    let Ok(module) = parse(alloc, text.as_str()) else {
+    let Ok(module) = parse(alloc, text) else {
         return Err(Fail::new("not read"));
     };
     let metas = metas_of(alloc)?;
@@ -104,6 +101,14 @@ fn program_of(alloc: Global, expression: &str) -> Result<Program, Fail> {
         Ok(program) => Ok(program),
         Err(_) => Err(Fail::new("refused")),
     }
+}
+
+/// The program whose first expression this is.
+fn program_of(alloc: Global, expression: &str) -> Result<Program, Fail> {
+    let mut text = Text::from_str(alloc, HEAD)?;
+    text.push_str(expression)?;
+    text.push_str("; }")?;
+    read(alloc, text.as_str())
 }
 
 /// What the expression of this number gives.
