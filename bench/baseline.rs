@@ -27,7 +27,11 @@ fn objects(count: i64) -> usize {
     let mut last = Value::Null;
     for i in 1..=count {
         let number = store.len() as u32;
-        store.push(Object { class: 1, extent: 1, slots: vec![Vec::new(); 4] });
+        store.push(Object {
+            class: 1,
+            extent: 1,
+            slots: vec![Vec::new(); 4],
+        });
         let object = store.last_mut().unwrap();
         object.slots[0] = vec![Value::Int(i)];
         object.slots[1] = vec![Value::Str("x".to_string())];
@@ -37,7 +41,10 @@ fn objects(count: i64) -> usize {
         };
         last = Value::Obj(number);
     }
-    store.iter().map(|o| o.slots.len() + (o.class + o.extent) as usize).sum()
+    store
+        .iter()
+        .map(|o| o.slots.len() + (o.class + o.extent) as usize)
+        .sum()
 }
 
 enum Expr {
@@ -91,7 +98,11 @@ fn items(value: Value) -> Vec<Value> {
 impl Run {
     fn spend(&mut self) -> Result<(), Ended> {
         self.cost += 1;
-        if self.cost > self.fuel { Err(Ended) } else { Ok(()) }
+        if self.cost > self.fuel {
+            Err(Ended)
+        } else {
+            Ok(())
+        }
     }
 
     fn under(&mut self, item: Value, body: &Expr) -> Result<Value, Ended> {
@@ -110,18 +121,42 @@ impl Run {
 
     fn value(&mut self, expr: &Expr) -> Result<Value, Ended> {
         match expr {
-            Int(value) => { self.spend()?; Ok(Value::Int(*value)) }
-            Name(at) => { self.spend()?; Ok(self.scope[*at].clone()) }
-            Plus(a, b) => { let (a, b) = self.pair(a, b)?; Ok(numbers(a, b, i64::checked_add)) }
-            Times(a, b) => { let (a, b) = self.pair(a, b)?; Ok(numbers(a, b, i64::checked_mul)) }
-            Greater(a, b) => { let (a, b) = self.pair(a, b)?; Ok(compared(a, b, |a, b| a > b)) }
-            Less(a, b) => { let (a, b) = self.pair(a, b)?; Ok(compared(a, b, |a, b| a < b)) }
-            Range(a, b) => { self.cost += 2; self.spend()?; Ok(Value::Coll((*a..=*b).map(Value::Int).collect())) }
+            Int(value) => {
+                self.spend()?;
+                Ok(Value::Int(*value))
+            }
+            Name(at) => {
+                self.spend()?;
+                Ok(self.scope[*at].clone())
+            }
+            Plus(a, b) => {
+                let (a, b) = self.pair(a, b)?;
+                Ok(numbers(a, b, i64::checked_add))
+            }
+            Times(a, b) => {
+                let (a, b) = self.pair(a, b)?;
+                Ok(numbers(a, b, i64::checked_mul))
+            }
+            Greater(a, b) => {
+                let (a, b) = self.pair(a, b)?;
+                Ok(compared(a, b, |a, b| a > b))
+            }
+            Less(a, b) => {
+                let (a, b) = self.pair(a, b)?;
+                Ok(compared(a, b, |a, b| a < b))
+            }
+            Range(a, b) => {
+                self.cost += 2;
+                self.spend()?;
+                Ok(Value::Coll((*a..=*b).map(Value::Int).collect()))
+            }
             Collect(source, body) => {
                 let source = items(self.value(source)?);
                 self.spend()?;
                 let mut made = Vec::new();
-                for item in source { made.push(self.under(item, body)?); }
+                for item in source {
+                    made.push(self.under(item, body)?);
+                }
                 Ok(Value::Coll(made))
             }
             Select(source, body) => {
@@ -129,7 +164,9 @@ impl Run {
                 self.spend()?;
                 let mut made = Vec::new();
                 for item in source {
-                    if self.under(item.clone(), body)? == Value::Bool(true) { made.push(item); }
+                    if self.under(item.clone(), body)? == Value::Bool(true) {
+                        made.push(item);
+                    }
                 }
                 Ok(Value::Coll(made))
             }
@@ -137,7 +174,9 @@ impl Run {
                 let source = items(self.value(source)?);
                 self.spend()?;
                 for item in source {
-                    if self.under(item, body)? != Value::Bool(true) { return Ok(Value::Bool(false)); }
+                    if self.under(item, body)? != Value::Bool(true) {
+                        return Ok(Value::Bool(false));
+                    }
                 }
                 Ok(Value::Bool(true))
             }
@@ -186,36 +225,62 @@ impl Run {
 }
 
 fn with(scope: Vec<Value>, expr: &Expr) -> u64 {
-    let mut run = Run { scope, cost: 0, fuel: 1_000_000_000 };
+    let mut run = Run {
+        scope,
+        cost: 0,
+        fuel: 1_000_000_000,
+    };
     match run.value(black_box(expr)) {
-        Ok(value) => { black_box(value); run.cost }
+        Ok(value) => {
+            black_box(value);
+            run.cost
+        }
         Err(Ended) => 0,
     }
 }
 
-fn boxed(expr: Expr) -> Box<Expr> { Box::new(expr) }
+fn boxed(expr: Expr) -> Box<Expr> {
+    Box::new(expr)
+}
 
-fn twice(at: usize) -> Box<Expr> { boxed(Times(boxed(Name(at)), boxed(Int(2)))) }
+fn twice(at: usize) -> Box<Expr> {
+    boxed(Times(boxed(Name(at)), boxed(Int(2))))
+}
 
 fn main() {
     let words: Vec<String> = std::env::args().collect();
     let count: i64 = words[2].parse().unwrap();
     let range = || boxed(Range(1, count));
     let tree = match words[1].as_str() {
-        "collect" => Some(Sum(boxed(Collect(range(), boxed(Plus(twice(0), boxed(Int(1)))))))),
-        "select" => Some(Size(boxed(Select(range(), boxed(Greater(twice(0), boxed(Int(1000)))))))),
+        "collect" => Some(Sum(boxed(Collect(
+            range(),
+            boxed(Plus(twice(0), boxed(Int(1)))),
+        )))),
+        "select" => Some(Size(boxed(Select(
+            range(),
+            boxed(Greater(twice(0), boxed(Int(1000)))),
+        )))),
         "iterate" => Some(Iterate(range(), boxed(Plus(boxed(Name(1)), twice(0))))),
         "forAll" => Some(ForAll(range(), boxed(Greater(twice(0), boxed(Int(1)))))),
-        "while" => Some(While(boxed(Less(boxed(Name(0)), boxed(Int(count)))), boxed(Plus(boxed(Name(0)), boxed(Int(1)))))),
+        "while" => Some(While(
+            boxed(Less(boxed(Name(0)), boxed(Int(count)))),
+            boxed(Plus(boxed(Name(0)), boxed(Int(1)))),
+        )),
         _ => None,
     };
     for _ in 0..10 {
         match &tree {
             Some(tree) => {
-                let scope = if words[1] == "while" { vec![Value::Int(0)] } else { Vec::new() };
+                let scope = if words[1] == "while" {
+                    vec![Value::Int(0)]
+                } else {
+                    Vec::new()
+                };
                 black_box(with(scope, tree));
             }
-            None => { black_box(objects(black_box(count))); }
+            None => {
+                black_box(objects(black_box(count)));
+            }
         }
     }
 }
