@@ -41,11 +41,11 @@ put_last s c ks new o is more = ap oids more ∙ put_new ks o ∙ sym (ap (λ b.
 
 filter_twice : {X : Type 0} (p q : X → Bool) (xs : List X) → filter q (filter p xs) ≡ filter (λ x. p x && q x) xs
 filter_twice p q [] = refl
-filter_twice p q (x ∷ xs) = by (p x) (filter_twice p q xs)
+filter_twice {X} p q (x ∷ xs) = by (filter p xs) (filter (λ y. p y && q y) xs) (p x) (filter_twice p q xs)
   where
-    by : {a b : List _} (t : Bool) → filter q a ≡ b → filter q (cond t (x ∷ a) a) ≡ cond (t && q x) (x ∷ b) b
-    by true e = ap (λ l. cond (q x) (x ∷ l) l) e
-    by false e = e
+    by : (a b : List X) (t : Bool) → filter q a ≡ b → filter q (cond t (x ∷ a) a) ≡ cond (t && q x) (x ∷ b) b
+    by a b true e = ap (λ (l : List X). cond (q x) (x ∷ l) l) e
+    by a b false e = e
 
 module _ (s : Contents) (q : Request) where
   one_end : (done : List Oid) (r : Record) → with_end s q.class.0 done (far_end q r) ≡ ends_of s q done (r ∷ [])
@@ -87,14 +87,13 @@ module _ (s : Contents) (q : Request) where
       ∙ ap (ends_within s q start) (sym (take_more rs i r l))
 
   -- the records with these numbers, one after another
-  pub numbered_more : (start : List Oid) (rs : List Record) (ns : List ℕ) (i n : ℕ) (r : Record) (old new : List Oid) → i < length ns → n ≡ get_or ns i n → slice_get rs n ≡ Some r
+  pub numbered_more : (start : List Oid) (rs : List Record) (ns : List ℕ) (i : ℕ) (r : Record) (old new : List Oid) → i < length ns → slice_get rs (get_or ns i 0) ≡ Some r
       → old ≡ ends_within s q start (filter_map (slice_get rs) (take i ns)) → new ≡ ends_within s q old (r ∷ []) → new ≡ ends_within s q start (filter_map (slice_get rs) (take (i + 1) ns))
-  numbered_more start rs ns i n r old new l at there before is =
+  numbered_more start rs ns i r old new l there before is =
       ends_last start (filter_map (slice_get rs) (take i ns)) r old new before is
       ∙ ap (λ (o : Option Record). ends_within s q start (filter_map (slice_get rs) (take i ns) ++ cons_option o [])) (sym there)
-      ∙ ap (ends_within s q start) (sym (filter_map-append (slice_get rs) (take i ns) (n ∷ [])))
-      ∙ ap (λ (m : ℕ). ends_within s q start (filter_map (slice_get rs) (take i ns ++ m ∷ []))) at
-      ∙ ap (λ (ms : List ℕ). ends_within s q start (filter_map (slice_get rs) ms)) (sym (take_more ns i n l))
+      ∙ ap (ends_within s q start) (sym (filter_map-append (slice_get rs) (take i ns) (get_or ns i 0 ∷ [])))
+      ∙ ap (λ (ms : List ℕ). ends_within s q start (filter_map (slice_get rs) ms)) (sym (take_more ns i 0 l))
 
   -- those whose near end is the source
   pub from_numbered : (o : Oid) (rs : List Record) (ns : List ℕ) (done new : List Oid) → ns ≡ numbers (is_near q o) rs
