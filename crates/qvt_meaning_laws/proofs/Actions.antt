@@ -8,7 +8,7 @@ use Rattle.qvt_types_data.specs.declared.ty.Ty.{Ty}
 use Rattle.qvt_value.specs.declared.value.Value.{Value, Null, Bool as Truth, Obj, Invalid}
 use Rattle.qvt_run_data.specs.declared.local.Local.{Local}
 use Rattle.qvt_run_data.specs.declared.exit.Exit.TheVariants.{Returned}
-use Rattle.qvt_run_rules.specs.State.{Does}
+use Rattle.qvt_run_rules.specs.State.{Does, ◌>>=◌}
 use Rattle.qvt_run_rules.specs.Typed.{has_asked}
 use Rattle.qvt_run_rules.specs.Locals.{local}
 use Rattle.qvt_run_rules.specs.Sources.{items_of}
@@ -45,6 +45,22 @@ module _ {E F : Type 0} {R : Relation E F} {T : Repeated E F} {x : Setting E} {y
   pub source_target : (name : List ℕ) (f : ℕ) (at : Place) → R Oid (statement.source_target name f at) (statement.source_target name f at)
   unfolding statement.source_target
   source_target name f at = on c (on c (reads c name at) (λ v. objects c at v)) (λ o. with_slot f at o)
+
+  -- two targets that are asked for this slot
+  pub data Aims (f : ℕ) (at : Place) : Does E Oid → Does F Oid → Type 0 where
+    aims : {t : Does E Oid} {u : Does F Oid} → R Oid t u → Aims f at (t >>= statement.with_slot f at) (u >>= statement.with_slot f at)
+
+  pub member_aims : {p : Does E Value} {q : Does F Value} (f : ℕ) (at : Place) → R Value p q → Aims f at (statement.member_target p f at) (statement.member_target q f at)
+  unfolding statement.member_target
+  member_aims f at e = aims (on c e (λ v. objects c at v))
+
+  pub inner_aims : (f : ℕ) (at : Place) → Aims f at (statement.inner_target f at) (statement.inner_target f at)
+  unfolding statement.inner_target
+  inner_aims f at = aims (looks_inner c at)
+
+  pub source_aims : (name : List ℕ) (f : ℕ) (at : Place) → Aims f at (statement.source_target name f at) (statement.source_target name f at)
+  unfolding statement.source_target
+  source_aims name f at = aims (on c (reads c name at) (λ v. objects c at v))
 
   -- Assignments.
 

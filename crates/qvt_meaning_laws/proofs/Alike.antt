@@ -32,6 +32,7 @@ use Rattle.qvt_run_rules.specs.Resolve.{Answer, Found, Objects, Undefined, Stopp
 use Rattle.qvt_meaning.specs.Plain.{answer, state_of}
 use Rattle.qvt_meaning.specs.Run.{entered, setting, main_in, main_run}
 use Rattle.qvt_meaning_laws.proofs.Closed.{Closed}
+use Rattle.qvt_meaning_laws.proofs.Lates.{lates}
 use Rattle.qvt_meaning_laws.proofs.Actions.{block}
 use Rattle.qvt_meaning_laws.proofs.Phrasing.{of_stmts}
 use Rattle.qvt_meaning_laws.proofs.Calls.{calls_to}
@@ -232,13 +233,17 @@ module _ {E F : Type 0} (g : E → F) where
     enters : (w : LateWrite) → Alike (Unit {0}) (entered keep p fuel w) (entered keep' p fuel w)
     enters w = λ s. ap (λ (es : List F). (Ok tt, record (image s) { entries = es })) (ap (λ (z : F). map g s.entries ++ z ∷ []) (sym (same w)) ∙ sym (map-append g s.entries (keep w ∷ [])))
 
+    charges_both : (n : ℕ) → Alike (Unit {0}) ((setting keep p fuel).spend n) ((setting keep' p fuel).spend n)
+    unfolding setting
+    charges_both n = charges fuel n
+
     pub alike : Closed E F Alike (λ p q. Unit {0}) (setting keep p fuel) (setting keep' p fuel)
     unfolding setting
     alike = record {
       binds = binds;
       gives = λ A a s. refl;
       ends = λ A e s. refl;
-      spends = λ n. charges fuel n;
+      spends = charges_both;
       stores = λ A f s. refl;
       variables = λ A f s. refl;
       inners = λ s. refl;
@@ -257,7 +262,7 @@ module _ {E F : Type 0} (g : E → F) where
       loops = λ t u at p q z d e. spending fuel (loop fuel t at p) (loop fuel u at q) (loops fuel t u at p q d e);
       closures = λ at name p q k done vs z e. closures (suc fuel) at (for_item name p) (for_item name q) k done vs (items name p q e);
       resolves = λ at q s. answers fuel q.one (answer p s.trace s.store s.locals at q) s;
-      enters = λ o f adds q at s. enters (late_write o f adds q at s) s;
+      lates = lates Alike (setting keep p fuel) (setting keep' p fuel) binds (λ A a s. refl) (λ A e s. refl) charges_both (λ A f s. refl) (λ o f adds q at s. enters (late_write o f adds q at s) s);
       beyonds = λ at p q e. e;
     }
 

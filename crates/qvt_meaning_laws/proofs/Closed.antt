@@ -8,15 +8,16 @@ use Rattle.qvt_value.specs.declared.value.Kind.{Kind}
 use Rattle.qvt_run_data.specs.declared.exit.Exit.{Exit}
 use Rattle.qvt_run_data.specs.declared.local.Local.{Local}
 use Rattle.qvt_run_data.specs.declared.record.Key.{Key}
+use Rattle.qvt_run_data.specs.declared.request.Form.{Form}
 use Rattle.qvt_run_data.specs.declared.request.Query.{Query}
 use Rattle.qvt_run_rules.specs.State.{Does, ◌>>=◌, pure, exits, ask, caught}
 use Rattle.qvt_run_rules.specs.Locals.{push, replace, scoped, with_locals, inside, in_frame, in_own}
 use Rattle.qvt_run_rules.specs.Store.{new_object, put}
 use Rattle.qvt_run_rules.specs.Iterators.{for_item, closure_from}
-use Rattle.qvt_run_rules.specs.Statements.{statement, loop}
+use Rattle.qvt_run_rules.specs.Statements.{statement, loop, with_slot}
 use Rattle.qvt_run_rules.specs.Calls.{given}
 use Rattle.qvt_run_rules.specs.Mappings.{Begun, once}
-use Rattle.qvt_run_rules.specs.Resolve.{entered}
+use Rattle.qvt_run_rules.specs.Resolve.{late}
 use Rattle.qvt_meaning.specs.Readings.{Setting}
 
 abbrev pub Relation : Type 0 → Type 0 → Type 1
@@ -59,7 +60,8 @@ pub record Closed (E F : Type 0) (R : Relation E F) (T : Repeated E F) (x : Sett
       → R Value (closure_from at (for_item name p) (suc x.turns) k done vs) (closure_from at (for_item name q) (suc y.turns) k done vs)
   -- what the settings tell
   pub resolves : (at : Place) (q : Query) → R Value (x.resolve at q) (y.resolve at q)
-  pub enters : (o : Oid) (f : ℕ) (adds : Bool) (q : Query) (at : Place) → R (Unit {0}) (entered x.enter o f adds q at) (entered y.enter o f adds q at)
+  pub lates : (f : ℕ) (adds : Bool) (form : Form) (sign at : Place) (t : Does E Oid) (u : Does F Oid) (p : Does E (Option Value)) (q : Does F (Option Value)) → R Oid t u → R (Option Value) p q
+      → R (Unit {0}) (late x.spend x.enter (t >>= with_slot f sign) f adds p form sign at) (late y.spend y.enter (u >>= with_slot f sign) f adds q form sign at)
   pub beyonds : (at : Place) (p : Does E Value) (q : Does F Value) → R Value p q → R Value (x.beyond at p) (y.beyond at q)
 
 -- Lists of phrases, and phrases that may be missing, of which a relation holds one by one.

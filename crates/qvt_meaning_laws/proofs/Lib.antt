@@ -1,4 +1,5 @@
 pub mod Closed
+pub mod Lates
 pub mod Parts
 pub mod Values
 pub mod Loops

@@ -244,19 +244,23 @@ module _ {E F : Type 0} {R : Relation E F} {T : Repeated E F} {x : Setting E} {y
   member_assign (reading.Feature f) adds at e k = action.assign_property c f.0 adds at (action.member_target c f.0 at e) k
   member_assign r adds at e k = misfits c (Unit {0}) at
 
-  late_with : (form : Option Form) {h : Does E Oid} {j : Does F Oid} (f : ℕ) (adds : Bool) {p : Does E (Option Value)} {q : Does F (Option Value)} (sign at : Place) → R Oid h j → R (Option Value) p q →
+  late_with : (form : Option Form) (f : ℕ) (sign : Place) {h : Does E Oid} {j : Does F Oid} (adds : Bool) {p : Does E (Option Value)} {q : Does F (Option Value)} (at : Place) → action.Aims c f sign h j → R (Option Value) p q →
       R (Unit {0}) (by.late_with Left form h f adds p sign at) (by.late_with Right form j f adds q sign at)
-  late_with (Some form) f adds sign at e k = resolving.late c f adds form sign at e k
-  late_with None f adds sign at e k = misfits c (Unit {0}) at
+  late_with (Some form) f sign adds {p} {q} at (action.aims {t} {u} e) k = c.lates f adds form sign at t u p q e k
+  late_with None f sign adds at e k = misfits c (Unit {0}) at
+
+  bare_aims : (source : Option (List ℕ)) (f : ℕ) (at : Place) → action.Aims c f at (by.bare_target source f at) (by.bare_target source f at)
+  bare_aims None f at = action.inner_aims c f at
+  bare_aims (Some source) f at = action.source_aims c source f at
 
   bare_late : (r : Reading) (implicit : Option (List ℕ)) (adds : Bool) {p : Does E (Option Value)} {q : Does F (Option Value)} (form : Option Form) (sign at : Place) → R (Option Value) p q →
       R (Unit {0}) (by.bare_late Left r implicit adds p form sign at) (by.bare_late Right r implicit adds q form sign at)
-  bare_late (reading.Feature f) implicit adds form sign at e = late_with form f.0 adds sign at (bare_target implicit f.0 sign) e
+  bare_late (reading.Feature f) implicit adds form sign at e = late_with form f.0 sign adds at (bare_aims implicit f.0 sign) e
   bare_late r implicit adds form sign at e = misfits c (Unit {0}) sign
 
   member_late : (r : Reading) {h : Does E Value} {j : Does F Value} (adds : Bool) {p : Does E (Option Value)} {q : Does F (Option Value)} (form : Option Form) (sign at : Place) → R Value h j → R (Option Value) p q →
       R (Unit {0}) (by.member_late Left r h adds p form sign at) (by.member_late Right r j adds q form sign at)
-  member_late (reading.Feature f) adds form sign at e k = late_with form f.0 adds sign at (action.member_target c f.0 sign e) k
+  member_late (reading.Feature f) adds form sign at e k = late_with form f.0 sign adds at (action.member_aims c f.0 sign e) k
   member_late r adds form sign at e k = misfits c (Unit {0}) sign
 
   -- two targets that are alike

@@ -3,24 +3,19 @@
 use Rattle.std.proofs.Common.{◌≡◌, ◌∙◌, ◌⊎◌, inl, inr, ℕ, zero, suc, ◌+◌, ◌≤◌, ◌<◌, Bool, true, false, nat_lt, if◌then◌else◌, refl, sym, ap, subst, List, [], ◌∷◌, ◌++◌, length, Option, Some, None, Result, Ok, Err, arith, ltb-true, ltb-false}
 use Rattle.qvt_base.specs.declared.numbers.Oid.{Oid}
 use Rattle.qvt_base.specs.declared.numbers.Place.{Place}
-use Rattle.qvt_metamodel.specs.Metamodels.{is_single}
-use Rattle.qvt_slots.specs.declared.fault.StoreFault.{StoreFault}
-use Rattle.qvt_slots.specs.Assign.{write}
-use Rattle.qvt_slots.specs.Contents.{Contents}
 use Rattle.qvt_typing.specs.Accepts.{ProgramTerm}
 use Rattle.qvt_value.specs.declared.value.Value.{Value, Null, Bool as Truth, Invalid}
 use Rattle.qvt_value.specs.declared.value.Kind.{Kind}
 use Rattle.qvt_run_data.specs.declared.exit.End.TheVariants.{OutOfFuel}
 use Rattle.qvt_run_data.specs.declared.exit.Exit.{Exit}
-use Rattle.qvt_run_data.specs.declared.exit.Exit.TheVariants.{Returned, Ends}
+use Rattle.qvt_run_data.specs.declared.exit.Exit.TheVariants.{Ends}
 use Rattle.qvt_run_data.specs.declared.late.LateWrite.{LateWrite}
 use Rattle.qvt_run_data.specs.declared.local.Local.{Local}
 use Rattle.qvt_run_data.specs.declared.record.Key.{Key}
-use Rattle.qvt_run_data.specs.declared.request.Query.{Query}
 use Rattle.qvt_run_rules.specs.State.{State, Done, Does, on_outcome, ◌>>=◌, ◌>>◌, pure, exits, ask, misfit, caught_in, caught}
 use Rattle.qvt_run_rules.specs.Cost.{charge}
 use Rattle.qvt_run_rules.specs.Locals.{fixed, name_in, push, replace, scoped, with_locals, inside, cut, out_of, under, begun, own_in, in_frame, in_own}
-use Rattle.qvt_run_rules.specs.Store.{made_one, is_class_for, new_object, are_fit, changed, written, op_of, slot_items, put}
+use Rattle.qvt_run_rules.specs.Store.{new_object, put}
 use Rattle.qvt_run_rules.specs.Trace.{result_for, has_key}
 use Rattle.qvt_run_rules.specs.Sources as source
 use Rattle.qvt_run_rules.specs.Iterators.{unvisited, for_item, closure_from}
@@ -32,6 +27,7 @@ use Rattle.qvt_run_rules.specs.Resolve.{Answer, Found, Objects, Undefined, Stopp
 use Rattle.qvt_meaning.specs.Plain.{answer}
 use Rattle.qvt_meaning.specs.Run.{entered}
 use Rattle.qvt_meaning_laws.proofs.Closed.{Closed}
+use Rattle.qvt_meaning_laws.proofs.Lates.{lates}
 use Rattle.qvt_run_laws.specs.Fuel.{bounded}
 use Rattle.qvt_run_laws.proofs.Steady.{made_cost, put_cost, caught_cost, given_cost, owned_cost}
 
@@ -255,6 +251,7 @@ module _ {E : Type 0} (f g : ℕ) (more : f ≤ g) where
     loops = λ t u at p q z d e. statements (loop n t at p) (loop n u at q) (loops n t u at p q d e);
     closures = λ at name p q k done vs z e. closures (suc n) at (for_item name p) (for_item name q) k done vs (items name p q e);
     resolves = λ at q s. answers q.one (answer program s.trace s.store s.locals at q) s;
-    enters = λ o h adds q at s. steady (entered keep program f (late_write o h adds q at s)) (λ t. refl) s;
+    lates = lates Agree (bounded keep program f n) (bounded keep program g n) (λ A B p q h k e z. binds p q h k e z) (λ A a. pures a) (λ A e. steady (exits e) (λ s. refl)) spends (λ A h. steady (ask (λ s. h s.store)) (λ s. refl))
+        (λ o h adds q at s. steady (entered keep program f (late_write o h adds q at s)) (λ t. refl) s);
     beyonds = λ at p q e. e;
   }

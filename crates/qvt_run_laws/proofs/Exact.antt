@@ -1,5 +1,5 @@
 -- The laws of the fuel.
-use Rattle.std.proofs.Common.{◌≡◌, ◌≢◌, ◌∙◌, ◌⊎◌, inl, inr, ℕ, zero, suc, ◌+◌, ◌≤◌, ◌<◌, Bool, true, false, nat_lt, if◌then◌else◌, refl, sym, ap, subst, List, [], ◌∷◌, map, Option, Some, None, Result, Ok, Err, arith, lt-ltb, le-ltb, ltb-true, ltb-false}
+use Rattle.std.proofs.Common.{◌≡◌, ◌≢◌, ◌∙◌, ◌⊎◌, inl, inr, ℕ, ◌+◌, ◌≤◌, ◌<◌, Bool, true, false, nat_lt, if◌then◌else◌, refl, sym, ap, subst, List, [], ◌∷◌, map, Option, None, Result, Ok, Err, arith, lt-ltb, le-ltb, ltb-true, ltb-false}
 use Rattle.qvt_slots.specs.Contents.{Contents}
 use Rattle.qvt_types_data.specs.declared.ty.Ty.{Ty}
 use Rattle.qvt_types_nodes.specs.Tree.{TypedExprTerm}
@@ -18,10 +18,10 @@ use Rattle.qvt_meaning_laws.proofs.Actions as action
 use Rattle.qvt_meaning_laws.proofs.Calls as calls
 use Rattle.qvt_meaning_laws.proofs.Phrasing.{of_stmts}
 use Rattle.qvt_meaning_laws.proofs.Runs.{one_pass}
-use Rattle.qvt_run_laws.specs.Fuel.{walked_on, walked, spent_by, cost_of, within, FuelIsExact, CostIsTold, DoneIsExact, MainIsExact, bounded, bounded_run, TurnsAreNoBound}
-use Rattle.qvt_run_laws.proofs.Agreeing.{IsOut, Passes, Agrees, Agree, agree}
+use Rattle.qvt_run_laws.specs.Fuel.{walked_on, walked, spent_by, cost_of, within, FuelIsExact, CostIsTold, DoneIsExact, MainIsExact, bounded_run, TurnsAreNoBound}
+use Rattle.qvt_run_laws.proofs.Agreeing.{IsOut, Agrees, agree}
 use Rattle.qvt_run_laws.proofs.Spending.{spends_expr}
-use Rattle.qvt_run_laws.proofs.Turning.{Meets, Meet, meet}
+use Rattle.qvt_run_laws.proofs.Turning.{meet}
 
 -- `main`.
 

@@ -6,7 +6,6 @@ use Rattle.qvt_base.specs.declared.numbers.Oid.{Oid}
 use Rattle.qvt_base.specs.declared.numbers.Place.{Place}
 use Rattle.qvt_metamodel.specs.Metamodels.{is_single}
 use Rattle.qvt_slots.specs.declared.fault.StoreFault.{StoreFault}
-use Rattle.qvt_slots.specs.declared.op.SetOp.{SetOp}
 use Rattle.qvt_slots.specs.Assign.{write}
 use Rattle.qvt_slots.specs.Contents.{Contents}
 use Rattle.qvt_typing.specs.Accepts.{ProgramTerm}
@@ -19,12 +18,11 @@ use Rattle.qvt_run_data.specs.declared.late.LateWrite.{LateWrite}
 use Rattle.qvt_run_data.specs.declared.local.Local.{Local}
 use Rattle.qvt_run_data.specs.declared.record.Key.{Key}
 use Rattle.qvt_run_data.specs.declared.record.Record.{Record}
-use Rattle.qvt_run_data.specs.declared.request.Query.{Query}
-use Rattle.qvt_run_rules.specs.State.{State, Done, Does, on_outcome, ◌>>=◌, ◌>>◌, pure, exits, ask, misfit, caught_in, caught}
+use Rattle.qvt_run_rules.specs.State.{State, Done, Does, on_outcome, ◌>>=◌, ◌>>◌, pure, ask, misfit, caught_in, caught}
 use Rattle.qvt_run_rules.specs.Cost.{charge}
 use Rattle.qvt_run_rules.specs.Locals.{fixed, name_in, push, replace, scoped, with_locals, inside, cut, out_of, under, begun, own_in, in_frame, in_own}
 use Rattle.qvt_run_rules.specs.Store.{made_one, is_class_for, new_object, are_fit, changed, op_of, slot_items, put}
-use Rattle.qvt_run_rules.specs.Trace.{same_key, key_of, record_of, result_for, has_key}
+use Rattle.qvt_run_rules.specs.Trace.{same_key, record_of, result_for, has_key}
 use Rattle.qvt_run_rules.specs.Sources as source
 use Rattle.qvt_run_rules.specs.Iterators.{unvisited, for_item, closure_from}
 use Rattle.qvt_run_rules.specs.Statements.{statement, loop, turn, holds, truth}
@@ -36,7 +34,8 @@ use Rattle.qvt_meaning.specs.Laws.{keys_differ}
 use Rattle.qvt_meaning.specs.Plain.{answer}
 use Rattle.qvt_meaning.specs.Run.{entered, setting}
 use Rattle.qvt_meaning_laws.proofs.Closed.{Closed}
-use Rattle.qvt_run_laws.specs.Records.{records_of, IsKeyed, Keeps, recorded, IsRecorded}
+use Rattle.qvt_meaning_laws.proofs.Lates.{lates}
+use Rattle.qvt_run_laws.specs.Records.{IsKeyed, Keeps, IsRecorded}
 use Rattle.qvt_run_laws.proofs.Keys.{key_same, key_last, key_before, key_itself, key_apart, result_more, differ_more, known, no_records, first_record}
 
 -- the steps under the key did not find it in the trace
@@ -379,6 +378,7 @@ module _ {E : Type 0} where
     loops = λ t u at p q z d e. statements fuel (loop fuel t at p) (loops fuel t at p d e);
     closures = λ at name p q k done vs z e. closures (suc fuel) at (for_item name p) k done vs (items name p e);
     resolves = λ at q s h. answers fuel q.one (answer program s.trace s.store s.locals at q) s h;
-    enters = λ o f adds q at s h. same s (entered keep program fuel (late_write o f adds q at s) s).1 refl refl h;
+    lates = lates Kept (setting keep program fuel) (setting keep program fuel) (λ A B p q f g e k. binds p f e k) (λ A a. pures a) (λ A e s h. same s s refl refl h) (spends fuel) (λ A f s h. same s s refl refl h)
+        (λ o f adds q at s h. same s (entered keep program fuel (late_write o f adds q at s) s).1 refl refl h);
     beyonds = λ at p q e. e;
   }

@@ -6,3 +6,6 @@ pub mod Agreeing
 pub mod Spending
 pub mod Turning
 pub mod Exact
+pub mod Every
+pub mod Fitting
+pub mod Answering

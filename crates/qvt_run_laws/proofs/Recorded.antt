@@ -1,20 +1,18 @@
 -- The laws of the records of a run.
-use Rattle.std.proofs.Common.{◌≡◌, ◌∙◌, ℕ, Bool, true, false, refl, sym, ap, subst, List, [], ◌++◌, map, Option, Some, None, Result, Ok, Err, if◌then◌else◌}
+use Rattle.std.proofs.Common.{◌≡◌, ◌∙◌, ℕ, Bool, true, false, refl, sym, subst, List, [], ◌++◌, map, Option, Some, None, Result, Ok, Err, if◌then◌else◌}
 use Rattle.qvt_base.specs.declared.numbers.Oid.{Oid}
 use Rattle.qvt_base.specs.declared.numbers.Place.{Place}
 use Rattle.qvt_slots.specs.Contents.{Contents}
 use Rattle.qvt_types_data.specs.declared.ty.Ty.{Ty}
 use Rattle.qvt_types_nodes.specs.Tree.{TypedExprTerm}
 use Rattle.qvt_typing.specs.Accepts.{ProgramTerm}
-use Rattle.qvt_value.specs.declared.value.Value.{Value, Obj}
+use Rattle.qvt_value.specs.declared.value.Value.{Obj}
 use Rattle.qvt_run_data.specs.declared.exit.End.{End}
 use Rattle.qvt_run_data.specs.declared.exit.Exit.{Exit}
 use Rattle.qvt_run_data.specs.declared.exit.Exit.TheVariants.{Returned, Ends}
 use Rattle.qvt_run_data.specs.declared.late.LateWrite.{LateWrite}
 use Rattle.qvt_run_data.specs.declared.local.Local.{Local}
-use Rattle.qvt_run_data.specs.declared.record.Key.{Key}
-use Rattle.qvt_run_data.specs.declared.record.Record.{Record}
-use Rattle.qvt_run_rules.specs.State.{State, Done, Does, on_outcome, ◌>>=◌, ◌>>◌, pure, caught}
+use Rattle.qvt_run_rules.specs.State.{State, Does, on_outcome, ◌>>=◌, pure, caught}
 use Rattle.qvt_run_rules.specs.Locals.{result_name, begun, own_in, in_own, set}
 use Rattle.qvt_run_rules.specs.Mappings as of
 use Rattle.qvt_run_rules.specs.Mappings.{MappingRule, Making, Made, Known, Ended, New, Begun, key}
@@ -28,7 +26,7 @@ use Rattle.qvt_meaning_laws.proofs.Phrasing.{of_expr, of_stmts}
 use Rattle.qvt_meaning_laws.proofs.Making.{Mappings, begins}
 use Rattle.qvt_meaning_laws.proofs.Calls as call
 use Rattle.qvt_meaning_laws.proofs.Runs.{one_pass}
-use Rattle.qvt_run_laws.specs.Records.{IsKeyed, Keeps, rules, calls, CallsKeepRecords, ExpressionsKeepRecords, StatementsKeepRecords, RunsAreKeyed, recorded, IsRecorded, OneIsWritten}
+use Rattle.qvt_run_laws.specs.Records.{IsKeyed, Keeps, rules, calls, CallsKeepRecords, ExpressionsKeepRecords, StatementsKeepRecords, RunsAreKeyed, OneIsWritten}
 use Rattle.qvt_run_laws.proofs.Keeping.{Kept, IsMade, Fresh, once_records, keeps}
 
 -- nothing is asked of conditions of loops and bodies of closures
@@ -45,11 +43,11 @@ calls_keep p fuel left c vs at s h = call.calls_to (closed p fuel) p free left c
 
 pub expressions_keep : ExpressionsKeepRecords
 unfolding setting
-expressions_keep p fuel left answer e s h = of_expr (closed p fuel) p (call.calls_to (closed p fuel) p free left) (free left) answer e s h
+expressions_keep p fuel left answer e s h = of_expr (closed p fuel) p {d = calls p fuel left} {d' = calls p fuel left} (call.calls_to (closed p fuel) p free left) (free left) answer e s h
 
 pub statements_keep : StatementsKeepRecords
 unfolding setting
-statements_keep p fuel left answer ss s h = action.in_order (closed p fuel) (of_stmts (closed p fuel) p (call.calls_to (closed p fuel) p free left) (free left) answer ss) s h
+statements_keep p fuel left answer ss s h = action.in_order (closed p fuel) (of_stmts (closed p fuel) p {d = calls p fuel left} {d' = calls p fuel left} (call.calls_to (closed p fuel) p free left) (free left) answer ss) s h
 
 -- A whole run.
 
@@ -58,7 +56,7 @@ at_first store = record { differ = refl; free = λ k q. refl }
 
 run_keeps : (p : ProgramTerm) (fuel : ℕ) (store : Contents) → Keeps (state_of store [] []) (request_run p fuel store).1
 unfolding main_run setting
-run_keeps p fuel store = action.block (closed p fuel) (of_stmts (closed p fuel) p (call.calls_to (closed p fuel) p free 100) (free 100) None (main_in p.module_.units)) (state_of store [] []) (at_first store)
+run_keeps p fuel store = action.block (closed p fuel) (of_stmts (closed p fuel) p {d = calls p fuel 100} {d' = calls p fuel 100} (call.calls_to (closed p fuel) p free 100) (free 100) None (main_in p.module_.units)) (state_of store [] []) (at_first store)
 
 pub runs_are_keyed : RunsAreKeyed
 runs_are_keyed p fuel store = let h : Keeps (state_of store [] []) (request_run p fuel store).1 = run_keeps p fuel store in (h.keyed, h.keys)
@@ -141,7 +139,8 @@ module _ (p : ProgramTerm) (fuel left : ℕ) where
   all_mappings n = call.mapping_at (closed p fuel) p (call.calls_to (closed p fuel) p free left) (free left) n
 
   first_keeps : (m : MappingRule LateWrite) (ls : List Local) → AlikeMappings m m → Kept Begun (of.first m ls) (of.first m ls)
-  first_keeps m ls e = begins (closed p fuel) all_mappings (call.calls_to (closed p fuel) p free left) ls e
+  unfolding setting
+  first_keeps m ls e = begins (closed p fuel) all_mappings {d = calls p fuel left} {d' = calls p fuel left} (call.calls_to (closed p fuel) p free left) ls e
 
 pub one_is_written : OneIsWritten
 one_is_written p fuel left n m is o vs ls at s h =

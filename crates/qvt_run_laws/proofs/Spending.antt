@@ -1,6 +1,5 @@
 -- An expression that gives a value has cost at least one: it gives none in a run whose cost is the fuel, and so its cost is more than it was.
-use Rattle.std.proofs.Common.{◌≡◌, ◌∙◌, ◌⊎◌, inl, inr, ℕ, zero, suc, ◌+◌, ◌≤◌, ◌<◌, Bool, true, false, nat_lt, if◌then◌else◌, refl, sym, ap, subst, List, [], ◌∷◌, drop, length, Option, Some, None, Result, Ok, Err, arith, lt-ltb, le_refl}
-use Rattle.qvt_base.specs.declared.numbers.Oid.{Oid}
+use Rattle.std.proofs.Common.{◌≡◌, ◌⊎◌, inl, inr, ℕ, ◌+◌, ◌≤◌, ◌<◌, Bool, true, false, nat_lt, if◌then◌else◌, sym, subst, List, [], ◌∷◌, drop, Option, Some, None, Result, Ok, Err, arith, lt-ltb, le_refl}
 use Rattle.qvt_base.specs.declared.numbers.Place.{Place}
 use Rattle.qvt_types_data.specs.declared.note.Reading.{Reading}
 use Rattle.qvt_types_data.specs.declared.note.Reading.TheVariants as reading
@@ -16,7 +15,7 @@ use Rattle.qvt_run_data.specs.declared.exit.Exit.TheVariants.{Ends}
 use Rattle.qvt_run_data.specs.declared.late.LateWrite.{LateWrite}
 use Rattle.qvt_run_data.specs.declared.questions.ModelQuery.{ModelQuery}
 use Rattle.qvt_run_data.specs.declared.request.Form.{Form}
-use Rattle.qvt_run_rules.specs.State.{State, Done, Does, on_outcome, ◌>>=◌, ◌>>◌, pure, misfit}
+use Rattle.qvt_run_rules.specs.State.{State, Done, Does, on_outcome, ◌>>=◌, ◌>>◌, misfit}
 use Rattle.qvt_run_rules.specs.Cost.{charge}
 use Rattle.qvt_run_rules.specs.Calls as call
 use Rattle.qvt_run_rules.specs.Calls.{Calls}
@@ -32,7 +31,7 @@ use Rattle.qvt_meaning.specs.Units.{calls_to}
 use Rattle.qvt_meaning_laws.proofs.Phrasing.{of_expr}
 use Rattle.qvt_meaning_laws.proofs.Calls as calls
 use Rattle.qvt_run_laws.specs.Fuel.{bounded}
-use Rattle.qvt_run_laws.proofs.Agreeing.{IsOut, Passes, Agrees, Agree, agree}
+use Rattle.qvt_run_laws.proofs.Agreeing.{IsOut, Agrees, Agree, agree}
 
 abbrev pub NoValue : {A : Type 0} → Result A Exit → Type 0
 NoValue (Ok a) = ⊥

@@ -1,6 +1,5 @@
 -- Steps that keep the cost.
-use Rattle.std.proofs.Common.{◌≡◌, ℕ, Bool, true, false, nat_lt, if◌then◌else◌, refl, List, length, Option, Some, None, Result, Ok, Err}
-use Rattle.qvt_base.specs.declared.numbers.Oid.{Oid}
+use Rattle.std.proofs.Common.{◌≡◌, ℕ, Bool, true, false, nat_lt, if◌then◌else◌, refl, List, length, Some, None, Result, Ok, Err}
 use Rattle.qvt_base.specs.declared.numbers.Place.{Place}
 use Rattle.qvt_metamodel.specs.Metamodels.{is_single}
 use Rattle.qvt_slots.specs.declared.fault.StoreFault.{StoreFault}
@@ -9,7 +8,7 @@ use Rattle.qvt_slots.specs.Contents.{Contents}
 use Rattle.qvt_value.specs.declared.value.Value.{Value}
 use Rattle.qvt_run_data.specs.declared.exit.Exit.{Exit}
 use Rattle.qvt_run_data.specs.declared.exit.Exit.TheVariants.{Returned, Ends}
-use Rattle.qvt_run_rules.specs.State.{State, Does, misfit, caught_in}
+use Rattle.qvt_run_rules.specs.State.{State, misfit, caught_in}
 use Rattle.qvt_run_rules.specs.Locals.{own_in}
 use Rattle.qvt_run_rules.specs.Store.{made_one, is_class_for, new_object, are_fit, changed, op_of, slot_items, put}
 use Rattle.qvt_run_rules.specs.Calls.{given_in}

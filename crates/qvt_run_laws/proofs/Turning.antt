@@ -1,5 +1,5 @@
 -- How many turns a loop may have at most tells nothing, where it may have at least as many as there is fuel: each turn costs something.
-use Rattle.std.proofs.Common.{◌≡◌, ◌∙◌, ℕ, zero, suc, ◌+◌, ◌≤◌, ◌<◌, Bool, true, false, nat_lt, if◌then◌else◌, refl, sym, ap, subst, List, [], ◌∷◌, ◌++◌, length, Option, Some, None, Result, Ok, Err, arith, ltb-false}
+use Rattle.std.proofs.Common.{◌≡◌, ◌∙◌, ℕ, zero, suc, ◌+◌, ◌≤◌, ◌<◌, Bool, true, false, nat_lt, if◌then◌else◌, refl, ap, List, [], ◌∷◌, ◌++◌, length, Option, Some, None, Result, Ok, Err, arith, ltb-false}
 use Rattle.qvt_base.specs.declared.numbers.Oid.{Oid}
 use Rattle.qvt_base.specs.declared.numbers.Place.{Place}
 use Rattle.qvt_typing.specs.Accepts.{ProgramTerm}
@@ -7,11 +7,10 @@ use Rattle.qvt_value.specs.declared.value.Value.{Value, Null, Bool as Truth, Inv
 use Rattle.qvt_value.specs.declared.value.Kind.{Kind}
 use Rattle.qvt_run_data.specs.declared.exit.End.TheVariants.{OutOfFuel}
 use Rattle.qvt_run_data.specs.declared.exit.Exit.{Exit}
-use Rattle.qvt_run_data.specs.declared.exit.Exit.TheVariants.{Returned, Ends}
+use Rattle.qvt_run_data.specs.declared.exit.Exit.TheVariants.{Ends}
 use Rattle.qvt_run_data.specs.declared.late.LateWrite.{LateWrite}
 use Rattle.qvt_run_data.specs.declared.local.Local.{Local}
 use Rattle.qvt_run_data.specs.declared.record.Key.{Key}
-use Rattle.qvt_run_data.specs.declared.request.Query.{Query}
 use Rattle.qvt_run_rules.specs.State.{State, Done, Does, on_outcome, ◌>>=◌, ◌>>◌, pure, exits, ask, misfit, caught_in, caught}
 use Rattle.qvt_run_rules.specs.Cost.{charge}
 use Rattle.qvt_run_rules.specs.Locals.{fixed, name_in, push, replace, scoped, with_locals, inside, cut, out_of, under, begun, own_in, in_frame, in_own}
@@ -27,6 +26,7 @@ use Rattle.qvt_run_rules.specs.Resolve.{Answer, Found, Objects, Undefined, Stopp
 use Rattle.qvt_meaning.specs.Plain.{answer}
 use Rattle.qvt_meaning.specs.Run.{entered}
 use Rattle.qvt_meaning_laws.proofs.Closed.{Closed}
+use Rattle.qvt_meaning_laws.proofs.Lates.{lates}
 use Rattle.qvt_run_laws.specs.Fuel.{bounded}
 use Rattle.qvt_run_laws.proofs.Spending.{HasSpent, Spends}
 use Rattle.qvt_run_laws.proofs.Steady.{made_cost, put_cost, caught_cost, given_cost, owned_cost}
@@ -298,6 +298,7 @@ module _ {E : Type 0} (fuel : ℕ) where
     loops = λ t u at p q costs d e. while_loops t u at p q d e costs n m a b;
     closures = λ at name p q k done vs costs e s c. closures at name p q e costs (suc n) (suc m) k done vs s c (omega (arith, a)) (omega (arith, b));
     resolves = λ at q s. answers q.one (answer program s.trace s.store s.locals at q) s;
-    enters = λ o h adds q at s. steady (entered keep program fuel (late_write o h adds q at s)) (λ t. refl) s;
+    lates = lates Meet (bounded keep program fuel n) (bounded keep program fuel m) (λ A B p q h k e z. binds p q h k e z) (λ A x. pures x) (λ A e. steady (exits e) (λ s. refl)) spends (λ A h. steady (ask (λ s. h s.store)) (λ s. refl))
+        (λ o h adds q at s. steady (entered keep program fuel (late_write o h adds q at s)) (λ t. refl) s);
     beyonds = λ at p q e. e;
   }

@@ -1,6 +1,6 @@
 -- How the fuel bounds a run (the engine's own). A run has a cost that does not hang on the fuel: with at least so much fuel it ends the same,
 -- in the same state, and with less it ends out of fuel.
-use Rattle.std.specs.Prelude.{◌≡◌, ◌≢◌, ℕ, ◌+◌, ◌≤◌, ◌<◌, nat_lt, if◌then◌else◌, List, [], ◌∷◌, Option, None, Result, Ok, Err}
+use Rattle.std.specs.Prelude.{◌≡◌, ◌≢◌, ℕ, ◌+◌, ◌≤◌, ◌<◌, nat_lt, if◌then◌else◌, List, [], ◌∷◌, None, Result, Ok, Err}
 use Rattle.qvt_slots.specs.Contents.{Contents}
 use Rattle.qvt_typing.specs.Accepts.{ProgramTerm}
 use Rattle.qvt_run_data.specs.declared.exit.End.{End}
@@ -8,7 +8,7 @@ use Rattle.qvt_run_data.specs.declared.exit.End.TheVariants.{OutOfFuel}
 use Rattle.qvt_run_data.specs.declared.exit.Exit.{Exit}
 use Rattle.qvt_run_data.specs.declared.exit.Exit.TheVariants.{Returned, Ends}
 use Rattle.qvt_run_data.specs.declared.late.LateWrite.{LateWrite}
-use Rattle.qvt_run_rules.specs.State.{State, Done, Does}
+use Rattle.qvt_run_rules.specs.State.{State, Done}
 use Rattle.qvt_run_rules.specs.Cost.{charge}
 use Rattle.qvt_run_rules.specs.Resolve.{Found, Objects, Undefined, Stopped}
 use Rattle.qvt_run_rules.specs.Statements.{block}

@@ -1,2 +1,3 @@
 pub mod Fuel
 pub mod Records
+pub mod Entries

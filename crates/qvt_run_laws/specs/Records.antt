@@ -15,7 +15,7 @@ use Rattle.qvt_run_data.specs.declared.late.LateWrite.{LateWrite}
 use Rattle.qvt_run_data.specs.declared.local.Local.{Local}
 use Rattle.qvt_run_data.specs.declared.record.Key.{Key}
 use Rattle.qvt_run_data.specs.declared.record.Record.{Record}
-use Rattle.qvt_run_rules.specs.State.{State, Done, Does}
+use Rattle.qvt_run_rules.specs.State.{State, Does}
 use Rattle.qvt_run_rules.specs.Calls.{Calls}
 use Rattle.qvt_run_rules.specs.Mappings.{MappingRule, Made, Known, Ended, New, Begun, key, once, first}
 use Rattle.qvt_run_rules.specs.Statements.{in_order}

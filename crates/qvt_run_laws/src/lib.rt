@@ -2,5 +2,6 @@
 //! is the law.
 #![tactic(auto)]
 
+pub mod entries;
 pub mod fuel;
 pub mod records;
