@@ -27,7 +27,7 @@ pub const DEPTH: u32 = 100;
 
 /// How many bytes of the stack the phrases and calls of a run may take. It guards the stack of 8 MiB: a phrase that would
 /// stand deeper is told as want of memory. A call goes on with what is left of them.
-pub const STACK: u32 = 7_750_000;
+pub const STACK: u32 = 7_900_000;
 
 /// What an expression gives, where so many calls may be open and so many bytes of the stack are left.
 #[cycle(run)]
