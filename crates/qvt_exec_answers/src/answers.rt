@@ -73,13 +73,7 @@ fn answered_in(
         spent: &state.cost,
         fuel: a.fuel,
     };
-    answer(
-        a,
-        &question,
-        &state.trace,
-        state.store.as_store(),
-        &room,
-    )
+    answer(a, &question, &state.trace, state.store.as_store(), &room)
 }
 
 /// The answer of a resolve that is not late, over the state's own trace and store, with the cost of the
