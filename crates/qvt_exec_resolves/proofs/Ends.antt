@@ -41,11 +41,11 @@ put_last s c ks new o is more = ap oids more ∙ put_new ks o ∙ sym (ap (λ b.
 
 filter_twice : {X : Type 0} (p q : X → Bool) (xs : List X) → filter q (filter p xs) ≡ filter (λ x. p x && q x) xs
 filter_twice p q [] = refl
-filter_twice p q (x ∷ xs) = by (p x) (filter_twice p q xs)
+filter_twice p q (x ∷ xs) = by _ (p x) (filter_twice p q xs)
   where
-    by : {a b : List _} (t : Bool) → filter q a ≡ b → filter q (cond t (x ∷ a) a) ≡ cond (t && q x) (x ∷ b) b
-    by true e = ap (λ l. cond (q x) (x ∷ l) l) e
-    by false e = e
+    by : {b : List _} (a : List _) (t : Bool) → filter q a ≡ b → filter q (cond t (x ∷ a) a) ≡ cond (t && q x) (x ∷ b) b
+    by a true e = ap (λ l. cond (q x) (x ∷ l) l) e
+    by a false e = e
 
 module _ (s : Contents) (q : Request) where
   one_end : (done : List Oid) (r : Record) → with_end s q.class.0 done (far_end q r) ≡ ends_of s q done (r ∷ [])
