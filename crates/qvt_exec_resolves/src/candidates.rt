@@ -210,12 +210,7 @@ impl<'a> Sieve<'a> {
 
     /// Puts the candidates from the source last that do not stand there. Only the records of the source are looked at.
     #[tactic(auto, using(crate::proofs::Ends::from_numbered))]
-    fn take_from(
-        &self,
-        source: Oid,
-        found: &mut NumberSet,
-        trace: &Trace,
-    ) -> Result<(), ListFault>
+    fn take_from(&self, source: Oid, found: &mut NumberSet, trace: &Trace) -> Result<(), ListFault>
         ensures { OnOk result (oids found.new ≡ ends_from self.now.store.now self.now.request.now source (oids found.old) trace.now) }
     {
         let numbers = self.numbers_from(trace, source);
