@@ -1,5 +1,5 @@
 -- The end of a run, once its entries are answered.
-use Rattle.std.proofs.Common.{◌≡◌, ◌≢◌, ◌∙◌, ◌^◌, ◌-◌, min, ℕ, List, [], ◌∷◌, map, Result, Ok, Err, refl, sym, ap, arith}
+use Rattle.std.proofs.Common.{◌≡◌, ◌≢◌, ◌∙◌, ◌^◌, ◌-◌, min, ℕ, List, [], ◌∷◌, map, Result, Ok, Err, IsErrAnd, refl, sym, ap, subst, arith}
 use Rattle.qvt_slots.specs.Contents.{Contents}
 use Rattle.qvt_run_data.specs.declared.exit.End.{End}
 use Rattle.qvt_run_data.specs.declared.late.LateWrite.{LateWrite}
@@ -8,10 +8,11 @@ use Rattle.qvt_run_rules.specs.State.{State}
 use Rattle.qvt_meaning.specs.Laws.{after_requests}
 use Rattle.qvt_meaning.specs.Run as run
 use Rattle.qvt_typing.specs.Accepts.{ProgramTerm}
-use Rattle.qvt_exec.specs.Entries.{entry_view}
+use Rattle.qvt_exec.specs.Entries.{Walks, entry_view}
 use Rattle.qvt_exec.specs.Finish.{Finishes}
 use Rattle.qvt_exec.specs.Patches.{PatchesAll, value_of}
 use Rattle.qvt_exec.specs.declared.entries.Entry.{Entry}
+use Rattle.qvt_exec.specs.declared.finish.Finished.{Finished}
 use Rattle.qvt_exec.specs.declared.stop.Stop.{Stop}
 use Rattle.qvt_exec.specs.declared.stop.Stop.TheVariants.{Ends, NoMemory}
 
@@ -44,3 +45,21 @@ module _ (p : ProgramTerm) (fuel : ℕ) (z : State LateWrite) (s : Contents) (t 
       → Finishes z.store (after_requests p fuel z) (Err x)
   stopped (Ends e) new entries walked patched = carried entries walked (Err e) patched
   stopped NoMemory new entries walked patched = tt
+
+-- an entry ends the walk
+module _ (p : ProgramTerm) (fuel : ℕ) (z : State LateWrite) (s : Contents) (t : List Record) (ws : List LateWrite) (k after : ℕ)
+    (same_trace : t ≡ z.trace) (same_store : s ≡ z.store) (same_writes : ws ≡ z.entries) (same_cost : k ≡ z.cost) where
+  answers : Contents → List Record → List LateWrite → List run.Entry
+  answers store trace writes = map (run.answered p (record { trace = trace; store = store })) writes
+
+  broken : (x : Stop) → Walks fuel k (map (run.answered p (record { trace = t; store = s })) ws) (Err x) after → Finishes z.store (after_requests p fuel z) (Err x)
+  unfolding answers
+  broken (Ends e) walked =
+      (λ i. run.carried_out (record { trace = z.trace; store = z.store }) (answers (sym same_store i) (sym same_trace i) (sym same_writes i)) (run.walk fuel (sym same_cost i) (answers (sym same_store i) (sym same_trace i) (sym same_writes i))))
+      ∙ ap (run.carried_out (record { trace = z.trace; store = z.store }) (answers s t ws)) walked
+  broken NoMemory walked = tt
+
+  pub broken_off : (x : Stop) (r : Result Finished Stop) → Walks fuel k (map (run.answered p (record { trace = t; store = s })) ws) (Err x) after → IsErrAnd r (λ e. e ≡ x)
+      → Finishes z.store (after_requests p fuel z) r
+  broken_off x (Ok f) walked err = absurd err
+  broken_off x (Err e) walked err = subst (λ (y : Stop). Finishes z.store (after_requests p fuel z) (Err y)) (sym err) (broken x walked)

@@ -46,10 +46,8 @@ fn same_key(some: &Key, other: &Key) -> bool
 pub fn result_for(key: &Key, state: &RunState<'_>) -> Option<Option<Oid>>
     ensures { result ≡ trace.result_for key.now (seen state.now).trace }
 {
-    match state
-        .trace
-        .find(key.mapping, key.context, key.args.as_slice())
-    {
+    let args = key.args.as_slice();
+    match state.trace.find(key.mapping, key.context, args) {
         None => None,
         Some(number) => Some(state.trace.at(number).result),
     }

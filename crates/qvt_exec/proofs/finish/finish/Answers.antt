@@ -4,7 +4,7 @@ use Rattle.qvt_exec_state.specs.Runs.{seen}
 use Rattle.qvt_exec_answers.specs.Answering.{program_of}
 use Rattle.qvt_exec.specs.Patches.{PatchesAll}
 use Rattle.qvt_exec.specs.declared.entries.Entry.{Entry}
-use Rattle.qvt_exec.proofs.Ending.{as_told, carried, stopped}
+use Rattle.qvt_exec.proofs.Ending.{as_told, broken_off, carried, stopped}
 use Rattle.qvt_exec.proofs.finish.finish.Goals as goal
 
 pub returns-in-Ok : goal.returns-in-Ok
@@ -20,3 +20,8 @@ returns c =
     stopped (program_of c.args.a.now) c.args.a.now.fuel (seen c.args.state) c.as_store.result.now c.args.state.trace c.replace-writes.result c.replace-cost.result c.in_ok-entries.entries
     c.walk.new.cost c.told-cost.result refl c.as_store.ensures c.replace-writes.ensures.value c.replace-cost.ensures.value (as_told c.walk.new.cost c.told-cost.result c.told-cost.ensures c.if-cost.false)
     c.in-Err.stop (contents_of c.patch_all.new.store) c.in_ok-entries.ensures.0 c.in_ok-entries.ensures.1 patched
+
+pub returns-in_err-entries : goal.returns-in_err-entries
+returns-in_err-entries c =
+    broken_off (program_of c.args.a.now) c.args.a.now.fuel (seen c.args.state) c.as_store.result.now c.args.state.trace c.replace-writes.result c.replace-cost.result c.walk.new.cost
+    refl c.as_store.ensures c.replace-writes.ensures.value c.replace-cost.ensures.value c.in_err-entries.field-0.0 c.from_residual.result c.in_err-entries.ensures c.from_residual.ensures.1
