@@ -1,0 +1,4 @@
+//! A law of models that are written: each conforms to its metamodel.
+#![tactic(auto)]
+
+pub mod laws;
