@@ -3,7 +3,7 @@ use Rattle.std.proofs.Common.{◌≡◌, ℕ, ◌≤◌, List, [], ◌∷◌, �
 use Rattle.std.proofs.lemmas.Bool.Decides.{nat_tests}
 use Rattle.std.specs.Str.{encode_utf8_all}
 use Rattle.qvt_lexer.specs.Characters.{is_blank, is_start, is_continue, is_digit}
-use Rattle.qvt_lexer.specs.Words.{is_reserved}
+use Rattle.qvt_words.specs.Words.{is_reserved}
 use Rattle.qvt_lexer.specs.Literals.{run, skip, every, begins, number_of, greatest_number}
 use Rattle.qvt_lexer.specs.Pieces.{IsPlainName, IsEscapedName, IsDigits, Spells, IsPiece, NoPiece}
 use Rattle.qvt_lexer.specs.Scan.{IsScanOf, word_at, is_apostrophe, closed_at, escaped_at, number_at}
