@@ -6,7 +6,7 @@ use Rattle.qvt_grammar.proofs.Wider.{sub_same, sub_then}
 use Rattle.qvt_grammar.proofs.Lists.{regroup, grouped}
 use Rattle.qvt_tree_types.specs.Tree.{ExprTerm, StepTerm, LinkTerm, StmtTerm}
 use Rattle.qvt_tree_types.specs.declared.words.Sign.{Sign}
-use Rattle.qvt_language.specs.declared.class.Class.TheVariants.{IfWord, ThenWord, ElseWord, EndifWord}
+use Rattle.qvt_words.specs.declared.class.Class.TheVariants.{IfWord, ThenWord, ElseWord, EndifWord}
 use Rattle.qvt_language.specs.Tokens.{Tok}
 use Rattle.qvt_language.specs.Readers.{nowhere, the}
 use Rattle.qvt_language.specs.Series.{finished}

@@ -10,7 +10,7 @@ use Rattle.qvt_grammar.proofs.Wider.{Sub, sub_same, sub_follow, sub_then, sub_ei
 use Rattle.qvt_language.specs.Tokens.{Tok, of, is, code_of}
 use Rattle.qvt_language.specs.Readers.{Reader, nowhere, the, the_at, placed, placed_at}
 use Rattle.qvt_language.specs.Series.{left, right, series, barring, barring_at}
-use Rattle.qvt_language.specs.declared.class.Class.{Class}
+use Rattle.qvt_words.specs.declared.class.Class.{Class}
 use Rattle.qvt_language.proofs.Sets.{all_in, none_in, within, apart, within_left, within_right}
 
 -- on lists of fewer than k tokens m has no more than l

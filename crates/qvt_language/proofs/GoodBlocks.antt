@@ -7,7 +7,7 @@ use Rattle.qvt_grammar.proofs.Lists.{nil_right}
 use Rattle.qvt_tree_types.specs.Tree.{ExprTerm, StepTerm, LinkTerm, StmtTerm, TargetTerm}
 use Rattle.qvt_tree_types.specs.declared.words.Sign.{Sign}
 use Rattle.qvt_language.specs.Tokens.{Tok, of, code_of}
-use Rattle.qvt_language.specs.declared.class.Class.TheVariants.{NotWord, MinusSign, Dot, Arrow, OpenRound, ForEachWord, Becomes, PlusEqual, Semicolon, Colon, OpenBrace, CloseBrace, IfWord, WhileWord, VarWord, ReturnWord, ElifWord, ElseWord, EndifWord}
+use Rattle.qvt_words.specs.declared.class.Class.TheVariants.{NotWord, MinusSign, Dot, Arrow, OpenRound, ForEachWord, Becomes, PlusEqual, Semicolon, Colon, OpenBrace, CloseBrace, IfWord, WhileWord, VarWord, ReturnWord, ElifWord, ElseWord, EndifWord}
 use Rattle.qvt_language.specs.Readers.{Reader}
 use Rattle.qvt_language.specs.Series.{series}
 use Rattle.qvt_language.specs.Firsts.{expr_first, expr_next, post_next, primary_first, resolve_first, step_first, sign_first, stmt_first, assign_first}
@@ -175,10 +175,6 @@ last_next = code_of Becomes ∷ code_of PlusEqual ∷ code_of Semicolon ∷ code
 
 abbrev stmt_next : Turn → List ℕ
 stmt_next = turn_next item_next last_next
-
-written_sides : (s : StmtTerm) (t : Option Tok) (tail : List ℕ) → all_in tail last_next ≡ true → Within (of (optional_next tail [] t)) (of (stmt_next (simple_turn (s, t))))
-written_sides s None tail w = within tail last_next w
-written_sides s (Some t) tail w = λ x h. absurd cc
 
 abbrev lead_next_of : Lead × Tail → List ℕ
 lead_next_of xt = lead_tail_next xt.0 xt.1

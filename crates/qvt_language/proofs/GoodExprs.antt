@@ -9,7 +9,7 @@ use Rattle.qvt_language.specs.Grammar.{Nested, name, more_names, path, paths, un
 use Rattle.qvt_language.specs.Reading.{NestedAt, name_at, more_names_at, path_at, paths_at, unit_path_at, extent_at, kind_word_at, coll_type_at, typed_at, colon_type_at, expr_at, exprs_at, args_at, literal_at, word_at, named_expr_at, item_at, coll_at, if_expr_at, colon_path_at, object_head_at, object_at, new_expr_at, map_call_at, filter_head_at, bar_expr_at, filter_at, all_word_at, in_word_at, all_form_at, in_form_at, resolve_at, brackets_at, longer_at, bare_expr_at, other_primary_at, primary_at, dot_rest_at, dot_step_at, accumulator_at, head_rest_at, more_exprs_at}
 use Rattle.qvt_language.specs.Trees.{second, first, cons_of, nothing, inner, text_of, named_of, path_of, unit_path_of, coll_type_of, int_of, str_of, true_of, false_of, null_of, self_of, result_of, named_expr_of, coll_of, range_of, item_of, if_of, result_head, named_head, object_of, new_of, map_of, all_of, in_of, resolve_of, no_name, named_type, filter_of, bare, bracketed, dot_of, accumulator_of, expr_of}
 use Rattle.qvt_language.proofs.Forms.{Loose, Good, good_the, good_made, loose_made, good_placed, loose_sets, good_sets, loose_maybe, loose_many, good_then, good_rest, good_after, good_either, loose_either}
-use Rattle.qvt_language.specs.declared.class.Class.TheVariants.{Name, Integer, Str, OpenRound, CloseRound, OpenBrace, CloseBrace, Comma, Semicolon, Colon, DoubleColon, Dot, DotDot, Bar, AtSign, EqualSign, BagWord, ElseWord, EndifWord, FalseWord, IfWord, InvResolveWord, InvResolveInWord, InvResolveOneWord, InvResolveOneInWord, LateWord, MapWord, NewWord, NullWord, ObjectWord, OrderedSetWord, ResolveAllWord, ResolveInWord, ResolveOneWord, ResolveOneInWord, ResultWord, SelfWord, SequenceWord, SetWord, ThenWord, TrueWord, XmapWord}
+use Rattle.qvt_words.specs.declared.class.Class.TheVariants.{Name, Integer, Str, OpenRound, CloseRound, OpenBrace, CloseBrace, Comma, Semicolon, Colon, DoubleColon, Dot, DotDot, Bar, AtSign, EqualSign, BagWord, ElseWord, EndifWord, FalseWord, IfWord, InvResolveWord, InvResolveInWord, InvResolveOneWord, InvResolveOneInWord, LateWord, MapWord, NewWord, NullWord, ObjectWord, OrderedSetWord, ResolveAllWord, ResolveInWord, ResolveOneWord, ResolveOneInWord, ResultWord, SelfWord, SequenceWord, SetWord, ThenWord, TrueWord, XmapWord}
 
 -- what is kept of what stands nested inside
 pub record GoodNested (n : ℕ) (i j : Nested) (r : NestedAt) : Type 0 where

@@ -3,7 +3,7 @@ use Rattle.std.proofs.Common.{◌≡◌, ℕ, List, [], ◌∷◌, Bool, true, f
 use Rattle.qvt_grammar.proofs.Firsts.{Within}
 use Rattle.qvt_tree_types.specs.Tree.{StepTerm}
 use Rattle.qvt_language.specs.Tokens.{Tok, of, code_of}
-use Rattle.qvt_language.specs.declared.class.Class.TheVariants.{Dot, Arrow, OpenRound, OpenBrace, ForEachWord, IfWord, ThenWord, ElifWord, ElseWord, EndifWord}
+use Rattle.qvt_words.specs.declared.class.Class.TheVariants.{Dot, Arrow, OpenRound, OpenBrace, ForEachWord, IfWord, ThenWord, ElifWord, ElseWord, EndifWord}
 use Rattle.qvt_language.specs.Firsts.{expr_first, resolve_first, step_first}
 use Rattle.qvt_language.specs.Leads.{Lead, Bracketed, EachPart}
 use Rattle.qvt_language.specs.Trees.{second, inner}
@@ -27,12 +27,6 @@ step_next = turn_next opens []
 
 abbrev arrow_next : Tok × (StepTerm ⊎ EachPart) → List ℕ
 arrow_next x = step_next x.1
-
-step_sides : (s : StepTerm) → Within (of opens) (of (step_next (inl s)))
-step_sides s t h = h
-
-each_sides : (e : EachPart) → Within (of []) (of (step_next (inr e)))
-each_sides e t h = h
 
 pub goodv_lead_step : {n : ℕ} {i j : Nested} {r : NestedAt} → GoodNested n i j r → GoodV n true step_first step_next (lead_step i) (lead_step j) (lead_step_at r)
 unfolding lead_step lead_step_at

@@ -10,7 +10,7 @@ use Rattle.qvt_language.specs.Grammar.{Nested, name, arrow_body, arrow_args, arr
 use Rattle.qvt_language.specs.Reading.{NestedAt, arrow_body_at, arrow_args_at, arrow_rest_at, step_at, post_at, sign_at, more_signs_at, signs_at, signed_post_at, pre_at, each_tail_at, lead_step_at, after_first_at}
 use Rattle.qvt_language.specs.Trees.{second, first, no_args, arrow_of, expr_of, headed, with_first, post_lead, not_of, minus_of, prefix_lead, each_of}
 use Rattle.qvt_language.proofs.Forms.{Loose, Good, good_the, good_made, loose_made, good_placed, loose_sets, good_sets, loose_maybe, loose_many, good_then, good_rest, good_after, good_either, loose_either, good_follow}
-use Rattle.qvt_language.specs.declared.class.Class.TheVariants.{Name, OpenRound, CloseRound, Colon, Dot, Arrow, Bar, MinusSign, ForEachWord, NotWord}
+use Rattle.qvt_words.specs.declared.class.Class.TheVariants.{Name, OpenRound, CloseRound, Colon, Dot, Arrow, Bar, MinusSign, ForEachWord, NotWord}
 use Rattle.qvt_language.proofs.GoodExprs.{GoodNested, good_name, good_colon_type, good_map_call, good_bar_expr, good_resolve, good_primary, good_dot_step, good_head_rest, good_more_exprs}
 
 pub good_sign : {n : ℕ} → Good n true (25 ∷ 62 ∷ []) [] sign sign sign_at

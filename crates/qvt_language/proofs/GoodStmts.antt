@@ -11,12 +11,8 @@ use Rattle.qvt_language.specs.Statements.{condition, var_stmt, return_stmt, arm,
 use Rattle.qvt_language.specs.ReadingStatements.{condition_at, var_stmt_at, return_stmt_at, arm_at, else_part_at, while_stmt_at, assignment_at, semicolon_at}
 use Rattle.qvt_language.specs.StmtTrees.{var_of, return_of, arm_of, while_of}
 use Rattle.qvt_language.proofs.Forms.{Loose, Good, good_the, good_made, good_placed, loose_sets, good_sets, loose_maybe, good_then, good_rest, good_after, loose_then, good_either}
-use Rattle.qvt_language.specs.declared.class.Class.TheVariants.{OpenRound, CloseRound, Semicolon, Colon, Becomes, PlusEqual, ElifWord, ElseWord, ReturnWord, ThenWord, VarWord, WhileWord}
+use Rattle.qvt_words.specs.declared.class.Class.TheVariants.{OpenRound, CloseRound, Semicolon, Colon, Becomes, PlusEqual, ElifWord, ElseWord, ReturnWord, ThenWord, VarWord, WhileWord}
 use Rattle.qvt_language.proofs.GoodExprs.{GoodNested, good_name, good_expr, good_colon_type}
-
-pub good_semicolon : {n : ℕ} → Loose n true (8 ∷ []) (8 ∷ []) semicolon semicolon semicolon_at
-unfolding semicolon semicolon_at
-good_semicolon = loose_sets (8 ∷ []) (8 ∷ []) refl refl (loose_maybe (code_of Semicolon ∷ []) refl (good_the Semicolon))
 
 module _ {n : ℕ} {i j : Nested} {r : NestedAt} (h : GoodNested n i j r) where
   pub good_condition : Good n true (3 ∷ []) [] (condition i) (condition j) (condition_at r)

@@ -3,7 +3,7 @@ use Rattle.std.specs.Prelude.{ℕ, zero, suc, List, [], ◌∷◌, ◌++◌}
 use Rattle.std.proofs.Common.{◌≡◌, true, refl}
 use Rattle.qvt_grammar.specs.Language.{Language}
 use Rattle.qvt_language.specs.Tokens.{Tok, code_of}
-use Rattle.qvt_language.specs.declared.class.Class.TheVariants.{Star, PlusSign, MinusSign, LessSign, AtMost, GreaterSign, AtLeast, EqualSign, DoubleEqual, Diamond, BangEqual, AndWord, OrWord, XorWord, ImpliesWord}
+use Rattle.qvt_words.specs.declared.class.Class.TheVariants.{Star, PlusSign, MinusSign, LessSign, AtMost, GreaterSign, AtLeast, EqualSign, DoubleEqual, Diamond, BangEqual, AndWord, OrWord, XorWord, ImpliesWord}
 use Rattle.qvt_language.specs.Readers.{Reader}
 use Rattle.qvt_language.specs.Firsts.{expr_first, expr_next, post_next}
 use Rattle.qvt_language.specs.Levels.{next_at}

@@ -17,7 +17,7 @@ use Rattle.qvt_language.specs.ReadingUnits.{param_at, params_at, feature_at, fea
 use Rattle.qvt_language.specs.UnitTrees.{typed_name_of, param_of, class_of, main_of, return_body, helper_of, constructor_of, result_decl_of, Clauses, no_clauses, InheritsClause, MergesClause, DisjunctsClause, WhenClause, with_clause, read_words, or_same, empty_body, body_of, sections_of, open_sections_of, mapping_of, some_unit, model_type_of, model_param_of, module_of, kept, no_end}
 use Rattle.qvt_language.proofs.Forms.{Loose, Good, good_the, good_made, loose_made, good_placed, loose_sets, good_sets, loose_maybe, loose_many, good_then, good_rest, good_after, good_either, loose_either, loose_empty, good_follow}
 use Rattle.qvt_language.proofs.Forms.{low_same, loose_follow, good_barring}
-use Rattle.qvt_language.specs.declared.class.Class.TheVariants.{Name, Str, OpenRound, CloseRound, OpenBrace, CloseBrace, Comma, Semicolon, Colon, EqualSign, ClassWord, ConstructorWord, DisjunctsWord, EndWord, ExtendsWord, HelperWord, InWord, InheritsWord, InitWord, InoutWord, IntermediateWord, MainWord, MappingWord, MergesWord, ModelTypeWord, OutWord, PopulationWord, QueryWord, TransformationWord, UsesWord, WhenWord}
+use Rattle.qvt_words.specs.declared.class.Class.TheVariants.{Name, Str, OpenRound, CloseRound, OpenBrace, CloseBrace, Comma, Semicolon, Colon, EqualSign, ClassWord, ConstructorWord, DisjunctsWord, EndWord, ExtendsWord, HelperWord, InWord, InheritsWord, InitWord, InoutWord, IntermediateWord, MainWord, MappingWord, MergesWord, ModelTypeWord, OutWord, PopulationWord, QueryWord, TransformationWord, UsesWord, WhenWord}
 use Rattle.qvt_language.proofs.GoodExprs.{GoodNested, good_name, good_path, good_paths, good_unit_path, good_extent, good_colon_type, good_expr}
 use Rattle.qvt_language.proofs.GoodBlocks.{stmts_next, loose_statements}
 

@@ -8,8 +8,8 @@ use Rattle.qvt_language.specs.Tokens.{Tok, is, code_of}
 use Rattle.qvt_language.specs.Readers.{nowhere, the, placed}
 use Rattle.qvt_language.specs.Series.{left, right, series, finished, barring}
 use Rattle.qvt_language.specs.Same.{SimpleText, IsSimple}
-use Rattle.qvt_language.specs.declared.class.Class.{Class}
-use Rattle.qvt_language.specs.declared.class.Class.TheVariants.{Name, Str}
+use Rattle.qvt_words.specs.declared.class.Class.{Class}
+use Rattle.qvt_words.specs.declared.class.Class.TheVariants.{Name, Str}
 
 pub record Live {A : Type 0} (l m : Language Tok A) : Type 0 where
   pub closed : Closed l

@@ -2,7 +2,7 @@
 use Rattle.std.proofs.Common.{ℕ, zero, suc, ◌<◌, ◌≤◌, Some, None, arith}
 use Rattle.qvt_grammar.specs.Language.{Language}
 use Rattle.qvt_language.specs.Tokens.{Tok}
-use Rattle.qvt_language.specs.declared.class.Class.TheVariants.{Star, PlusSign, MinusSign, LessSign, AtMost, GreaterSign, AtLeast, EqualSign, DoubleEqual, Diamond, BangEqual, AndWord, OrWord, XorWord, ImpliesWord, Semicolon, OpenBrace, CloseBrace}
+use Rattle.qvt_words.specs.declared.class.Class.TheVariants.{Star, PlusSign, MinusSign, LessSign, AtMost, GreaterSign, AtLeast, EqualSign, DoubleEqual, Diamond, BangEqual, AndWord, OrWord, XorWord, ImpliesWord, Semicolon, OpenBrace, CloseBrace}
 use Rattle.qvt_language.specs.Leads.{Lead, Plain, Bracketed, Each}
 use Rattle.qvt_language.specs.Trees.{nothing, each_lead, link_of, chain_of}
 use Rattle.qvt_language.specs.StmtTrees.{empty_turn, closed_turn, simple_turn, no_tail, plain_tail, lead_turn, ended_of, block_of}

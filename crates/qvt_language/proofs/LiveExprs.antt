@@ -6,7 +6,7 @@ use Rattle.qvt_language.specs.Leads.{Lead, Plain}
 use Rattle.qvt_language.specs.Grammar.{Nested, name, more_names, path, paths, unit_path, extent, kind_word, coll_type, typed, colon_type, expr, exprs, args, literal, word, named_expr, item, coll, if_expr, colon_path, object_head, object, new_expr, map_call, filter_head, bar_expr, filter, all_word, in_word, all_form, in_form, resolve, brackets, longer, bare_expr, other_primary, primary, dot_rest, dot_step, accumulator, head_rest, more_exprs, arrow_body, arrow_args, arrow_rest, step, post, sign, more_signs, signs, signed_post, pre, each_tail, lead_step, after_first}
 use Rattle.qvt_language.specs.Trees.{second, first, cons_of, nothing, inner, text_of, named_of, path_of, unit_path_of, coll_type_of, int_of, str_of, true_of, false_of, null_of, self_of, result_of, named_expr_of, coll_of, range_of, item_of, if_of, result_head, named_head, object_of, new_of, map_of, all_of, in_of, resolve_of, no_name, named_type, filter_of, bare, bracketed, dot_of, no_args, arrow_of, accumulator_of, expr_of, headed, with_first, post_lead, not_of, minus_of, prefix_lead, each_of}
 use Rattle.qvt_language.proofs.Live.{Live, live_the, live_made, live_placed, live_maybe, live_many, live_either, live_then, live_follow}
-use Rattle.qvt_language.specs.declared.class.Class.TheVariants.{Name, Integer, Str, OpenRound, CloseRound, OpenBrace, CloseBrace, Comma, Semicolon, Colon, DoubleColon, Dot, DotDot, Arrow, Bar, AtSign, EqualSign, MinusSign, BagWord, ElseWord, EndifWord, FalseWord, ForEachWord, IfWord, InvResolveWord, InvResolveInWord, InvResolveOneWord, InvResolveOneInWord, LateWord, MapWord, NewWord, NotWord, NullWord, ObjectWord, OrderedSetWord, ResolveAllWord, ResolveInWord, ResolveOneWord, ResolveOneInWord, ResultWord, SelfWord, SequenceWord, SetWord, ThenWord, TrueWord, XmapWord}
+use Rattle.qvt_words.specs.declared.class.Class.TheVariants.{Name, Integer, Str, OpenRound, CloseRound, OpenBrace, CloseBrace, Comma, Semicolon, Colon, DoubleColon, Dot, DotDot, Arrow, Bar, AtSign, EqualSign, MinusSign, BagWord, ElseWord, EndifWord, FalseWord, ForEachWord, IfWord, InvResolveWord, InvResolveInWord, InvResolveOneWord, InvResolveOneInWord, LateWord, MapWord, NewWord, NotWord, NullWord, ObjectWord, OrderedSetWord, ResolveAllWord, ResolveInWord, ResolveOneWord, ResolveOneInWord, ResultWord, SelfWord, SequenceWord, SetWord, ThenWord, TrueWord, XmapWord}
 
 pub record LiveNested (i j : Nested) : Type 0 where
   pub flagged : Live i.flagged j.flagged

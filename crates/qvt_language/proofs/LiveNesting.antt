@@ -6,7 +6,7 @@ use Rattle.qvt_grammar.proofs.Wider.{Sub}
 use Rattle.qvt_grammar.proofs.Fronts.{Each}
 use Rattle.qvt_tree_types.specs.Tree.{TypeTerm, IntExpr, PathType, StmtTerm}
 use Rattle.qvt_language.specs.Tokens.{Tok, of}
-use Rattle.qvt_language.specs.declared.class.Class.TheVariants.{Integer, Name, OpenBrace, CloseBrace}
+use Rattle.qvt_words.specs.declared.class.Class.TheVariants.{Integer, Name, OpenBrace, CloseBrace}
 use Rattle.qvt_language.specs.Readers.{nowhere}
 use Rattle.qvt_language.specs.Firsts.{expr_next}
 use Rattle.qvt_language.specs.Leads.{Lead, Plain}

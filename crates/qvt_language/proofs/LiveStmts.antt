@@ -9,7 +9,7 @@ use Rattle.qvt_language.specs.Grammar.{Nested, lead_step}
 use Rattle.qvt_language.specs.Statements.{condition, var_stmt, return_stmt, arm, else_part, branches, choice, if_rest, if_stmt, while_stmt, assignment, semicolon}
 use Rattle.qvt_language.specs.StmtTrees.{var_of, return_of, arm_of, if_stmt_of, while_of}
 use Rattle.qvt_language.proofs.Live.{Live, live_the, live_made, live_placed, live_maybe, live_many, live_either, live_then, live_follow, live_finished}
-use Rattle.qvt_language.specs.declared.class.Class.TheVariants.{Arrow, OpenRound, CloseRound, Semicolon, Becomes, PlusEqual, ElifWord, ElseWord, EndifWord, IfWord, ReturnWord, ThenWord, VarWord, WhileWord}
+use Rattle.qvt_words.specs.declared.class.Class.TheVariants.{Arrow, OpenRound, CloseRound, Semicolon, Becomes, PlusEqual, ElifWord, ElseWord, EndifWord, IfWord, ReturnWord, ThenWord, VarWord, WhileWord}
 use Rattle.qvt_language.proofs.LiveExprs.{LiveNested, live_name, live_expr, live_colon_type, live_each_tail, live_lead_step}
 
 pub live_semicolon : Live semicolon semicolon

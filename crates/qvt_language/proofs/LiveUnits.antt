@@ -11,7 +11,7 @@ use Rattle.qvt_language.specs.Grammar.{Nested}
 use Rattle.qvt_language.specs.Units.{param, params, feature, features, class_unit, main_unit, helper_body, helper_unit, constructor_unit, result_decl, when_clause, clause, init_part, end_part, sections, body, mapping_unit, unit, uri, model_type, model_param, header, transformation, end_unless, end_after, clauses, is_strictness, strictness}
 use Rattle.qvt_language.specs.UnitTrees.{typed_name_of, param_of, class_of, main_of, return_body, helper_of, constructor_of, result_decl_of, Clauses, no_clauses, InheritsClause, MergesClause, DisjunctsClause, WhenClause, with_clause, read_words, or_same, empty_body, body_of, sections_of, open_sections_of, mapping_of, some_unit, model_type_of, model_param_of, module_of, kept, no_end}
 use Rattle.qvt_language.proofs.Live.{Live, live_the, live_made, live_placed, live_maybe, live_many, live_either, live_then, live_follow, live_empty, live_maybe_more, more_made, more_follow, more_barring}
-use Rattle.qvt_language.specs.declared.class.Class.TheVariants.{Name, Str, OpenRound, CloseRound, OpenBrace, CloseBrace, Comma, Semicolon, Colon, EqualSign, ClassWord, ConstructorWord, DisjunctsWord, EndWord, ExtendsWord, HelperWord, InWord, InheritsWord, InitWord, InoutWord, IntermediateWord, MainWord, MappingWord, MergesWord, ModelTypeWord, OutWord, PopulationWord, QueryWord, TransformationWord, UsesWord, WhenWord}
+use Rattle.qvt_words.specs.declared.class.Class.TheVariants.{Name, Str, OpenRound, CloseRound, OpenBrace, CloseBrace, Comma, Semicolon, Colon, EqualSign, ClassWord, ConstructorWord, DisjunctsWord, EndWord, ExtendsWord, HelperWord, InWord, InheritsWord, InitWord, InoutWord, IntermediateWord, MainWord, MappingWord, MergesWord, ModelTypeWord, OutWord, PopulationWord, QueryWord, TransformationWord, UsesWord, WhenWord}
 use Rattle.qvt_language.proofs.LiveExprs.{LiveNested, live_name, live_path, live_paths, live_unit_path, live_extent, live_colon_type, live_expr}
 use Rattle.qvt_language.proofs.LiveBlocks.{live_statements}
 

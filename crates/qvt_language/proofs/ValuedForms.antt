@@ -43,9 +43,6 @@ module _ {n : ℕ} {A : Type 0} {b1 : Bool} {f1 : List ℕ} {next1 : A → List 
   pub loose_all : (next : List ℕ) → ((a : A) → Within (of (next1 a)) (of next)) → LooseV n b1 f1 next1 l l2 f → Loose n b1 f1 next l l2 f
   loose_all next w k = record { firsts = k.firsts; exact = λ ts. unvalued (λ a. of (next1 a)) (of next) l ts (f ts) w (k.exact ts); sub = k.sub; low = k.low }
 
-  pub good_all : (next : List ℕ) → ((a : A) → Within (of (next1 a)) (of next)) → GoodV n b1 f1 next1 l l2 f → Good n b1 f1 next l l2 f
-  good_all next w k = record { loose = loose_all next w k.loose; solid = k.solid; solid_more = k.solid_more }
-
   pub loosev_made : {B : Type 0} (h : A → B) (next : B → List ℕ) → ((a : A) → Within (of (next1 a)) (of (next (h a)))) → LooseV n b1 f1 next1 l l2 f → LooseV n b1 f1 next (made h l) (made h l2) (made_at h f)
   loosev_made h next w k = record {
     firsts = firsts_made h l (of f1) k.firsts;

@@ -3,7 +3,7 @@ use Rattle.std.specs.Prelude.{List, Option}
 use Rattle.qvt_base.specs.declared.numbers.Place.{Place}
 use Rattle.qvt_grammar.specs.Language.{Language, then, either, made, maybe}
 use Rattle.qvt_tree_types.specs.Tree.{ExprTerm, StepTerm, StmtTerm}
-use Rattle.qvt_language.specs.declared.class.Class.TheVariants.{IfWord, ThenWord}
+use Rattle.qvt_words.specs.declared.class.Class.TheVariants.{IfWord, ThenWord}
 use Rattle.qvt_language.specs.Tokens.{Tok}
 use Rattle.qvt_language.specs.Readers.{the, placed}
 use Rattle.qvt_language.specs.Series.{finished}

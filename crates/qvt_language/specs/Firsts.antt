@@ -1,7 +1,7 @@
 -- Sets of classes: with what something begins, and with what it may go on.
 use Rattle.std.specs.Prelude.{ℕ, List, [], ◌∷◌}
 use Rattle.qvt_language.specs.Tokens.{code_of}
-use Rattle.qvt_language.specs.declared.class.Class.TheVariants.{Name, Integer, Str, OpenRound, Semicolon, Colon, DoubleColon, Dot, Arrow, Bar, EqualSign, DoubleEqual, Diamond, BangEqual, LessSign, AtMost, GreaterSign, AtLeast, PlusSign, MinusSign, Star, Becomes, PlusEqual, AndWord, BagWord, ConstructorWord, DisjunctsWord, FalseWord, HelperWord, IfWord, ImpliesWord, InheritsWord, IntermediateWord, InvResolveWord, InvResolveInWord, InvResolveOneWord, InvResolveOneInWord, LateWord, MainWord, MapWord, MappingWord, MergesWord, NewWord, NotWord, NullWord, ObjectWord, OrWord, OrderedSetWord, QueryWord, ResolveAllWord, ResolveInWord, ResolveOneWord, ResolveOneInWord, ResultWord, ReturnWord, SelfWord, SequenceWord, SetWord, TrueWord, VarWord, WhenWord, WhileWord, XmapWord, XorWord}
+use Rattle.qvt_words.specs.declared.class.Class.TheVariants.{Name, Integer, Str, OpenRound, Semicolon, Colon, DoubleColon, Dot, Arrow, Bar, EqualSign, DoubleEqual, Diamond, BangEqual, LessSign, AtMost, GreaterSign, AtLeast, PlusSign, MinusSign, Star, Becomes, PlusEqual, AndWord, BagWord, ConstructorWord, DisjunctsWord, FalseWord, HelperWord, IfWord, ImpliesWord, InheritsWord, IntermediateWord, InvResolveWord, InvResolveInWord, InvResolveOneWord, InvResolveOneInWord, LateWord, MainWord, MapWord, MappingWord, MergesWord, NewWord, NotWord, NullWord, ObjectWord, OrWord, OrderedSetWord, QueryWord, ResolveAllWord, ResolveInWord, ResolveOneWord, ResolveOneInWord, ResultWord, ReturnWord, SelfWord, SequenceWord, SetWord, TrueWord, VarWord, WhenWord, WhileWord, XmapWord, XorWord}
 
 abbrev pub kind_first : List ℕ
 kind_first = code_of BagWord ∷ code_of OrderedSetWord ∷ code_of SequenceWord ∷ code_of SetWord ∷ []

@@ -4,7 +4,7 @@ use Rattle.qvt_base.specs.declared.numbers.Place.{Place}
 use Rattle.qvt_grammar.specs.Language.{Language, token, marked}
 use Rattle.qvt_grammar.specs.Reader.{Answer, token_at, marked_at}
 use Rattle.qvt_language.specs.Tokens.{Tok, is}
-use Rattle.qvt_language.specs.declared.class.Class.{Class}
+use Rattle.qvt_words.specs.declared.class.Class.{Class}
 
 abbrev pub Reader : Type 0 → Type 0
 Reader A = List Tok → Answer Tok A

@@ -10,7 +10,7 @@ use Rattle.qvt_tree_types.specs.declared.words.Sign.{Sign}
 use Rattle.qvt_tree_types.specs.declared.words.ResolveWord.{ResolveWord}
 use Rattle.qvt_language.specs.declared.named.Named.{Named}
 use Rattle.qvt_language.specs.declared.named.UnitPath.{UnitPath}
-use Rattle.qvt_language.specs.declared.class.Class.TheVariants.{Name, Integer, Str, OpenRound, CloseRound, OpenBrace, CloseBrace, Comma, Semicolon, Colon, DoubleColon, Dot, DotDot, Arrow, Bar, AtSign, EqualSign, DoubleEqual, Diamond, BangEqual, LessSign, AtMost, GreaterSign, AtLeast, PlusSign, MinusSign, Star, AndWord, BagWord, ElseWord, EndifWord, FalseWord, ForEachWord, IfWord, ImpliesWord, InvResolveWord, InvResolveInWord, InvResolveOneWord, InvResolveOneInWord, LateWord, MapWord, NewWord, NotWord, NullWord, ObjectWord, OrWord, OrderedSetWord, ResolveAllWord, ResolveInWord, ResolveOneWord, ResolveOneInWord, ResultWord, SelfWord, SequenceWord, SetWord, ThenWord, TrueWord, XmapWord, XorWord}
+use Rattle.qvt_words.specs.declared.class.Class.TheVariants.{Name, Integer, Str, OpenRound, CloseRound, OpenBrace, CloseBrace, Comma, Semicolon, Colon, DoubleColon, Dot, DotDot, Arrow, Bar, AtSign, EqualSign, DoubleEqual, Diamond, BangEqual, LessSign, AtMost, GreaterSign, AtLeast, PlusSign, MinusSign, Star, AndWord, BagWord, ElseWord, EndifWord, FalseWord, ForEachWord, IfWord, ImpliesWord, InvResolveWord, InvResolveInWord, InvResolveOneWord, InvResolveOneInWord, LateWord, MapWord, NewWord, NotWord, NullWord, ObjectWord, OrWord, OrderedSetWord, ResolveAllWord, ResolveInWord, ResolveOneWord, ResolveOneInWord, ResultWord, SelfWord, SequenceWord, SetWord, ThenWord, TrueWord, XmapWord, XorWord}
 use Rattle.qvt_language.specs.Tokens.{Tok, of, is, code_of}
 use Rattle.qvt_language.specs.Readers.{Reader, the_at, placed_at}
 use Rattle.qvt_language.specs.Firsts.{kind_first, map_first, all_first, literal_first, word_first, head_first, step_first, sign_first}

@@ -3,7 +3,7 @@ use Rattle.std.specs.Prelude.{List, Option, Some, None, ◌⊎◌}
 use Rattle.std.proofs.Common.{inl, inr}
 use Rattle.qvt_tree_types.specs.Tree.{ExprTerm, StmtTerm, ArmTerm}
 use Rattle.qvt_grammar.specs.Reader.{then_at, choose_at, follow_at, many_at, made_at, empty_at, maybe_at, ended_at}
-use Rattle.qvt_language.specs.declared.class.Class.TheVariants.{OpenRound, CloseRound, OpenBrace, CloseBrace, Semicolon, Colon, Becomes, PlusEqual, ElifWord, ElseWord, EndifWord, IfWord, ReturnWord, ThenWord, VarWord, WhileWord}
+use Rattle.qvt_words.specs.declared.class.Class.TheVariants.{OpenRound, CloseRound, OpenBrace, CloseBrace, Semicolon, Colon, Becomes, PlusEqual, ElifWord, ElseWord, EndifWord, IfWord, ReturnWord, ThenWord, VarWord, WhileWord}
 use Rattle.qvt_language.specs.Tokens.{Tok, of, is}
 use Rattle.qvt_language.specs.Readers.{Reader, the_at, placed_at}
 use Rattle.qvt_language.specs.Firsts.{expr_first, step_first, stmt_first, assign_first}

@@ -1,7 +1,7 @@
 -- Tokens that are the same wherever they stand, and tokens that say as little as they can.
 use Rattle.std.specs.Prelude.{◌≡◌, ℕ, pos, List, [], ◌∷◌, map, ◌⊎◌, codes}
-use Rattle.qvt_language.specs.declared.class.Class.{Class}
-use Rattle.qvt_language.specs.declared.class.Class.TheVariants.{Name, Str}
+use Rattle.qvt_words.specs.declared.class.Class.{Class}
+use Rattle.qvt_words.specs.declared.class.Class.TheVariants.{Name, Str}
 use Rattle.qvt_language.specs.Tokens.{Tok}
 use Rattle.qvt_language.specs.Readers.{nowhere}
 

@@ -3,7 +3,7 @@ use Rattle.std.specs.Prelude.{List, Option, Some, None, ◌⊎◌}
 use Rattle.std.proofs.Common.{inl, inr}
 use Rattle.qvt_tree_types.specs.Tree.{ExprTerm, StmtTerm, ArmTerm}
 use Rattle.qvt_grammar.specs.Language.{Language, then, either, follow, many, made, empty, maybe}
-use Rattle.qvt_language.specs.declared.class.Class.TheVariants.{OpenRound, CloseRound, OpenBrace, CloseBrace, Semicolon, Becomes, PlusEqual, ElifWord, ElseWord, EndifWord, IfWord, ReturnWord, ThenWord, VarWord, WhileWord}
+use Rattle.qvt_words.specs.declared.class.Class.TheVariants.{OpenRound, CloseRound, OpenBrace, CloseBrace, Semicolon, Becomes, PlusEqual, ElifWord, ElseWord, EndifWord, IfWord, ReturnWord, ThenWord, VarWord, WhileWord}
 use Rattle.qvt_language.specs.Tokens.{Tok}
 use Rattle.qvt_language.specs.Readers.{the, placed}
 use Rattle.qvt_language.specs.Series.{series, finished}

@@ -5,8 +5,8 @@ use Rattle.qvt_base.specs.declared.numbers.Place.{Place}
 use Rattle.qvt_tree_types.specs.Tree.{TypeTerm, ExprTerm, IfExpr, StepTerm, StmtTerm, VarStmt, AssignStmt, ReturnStmt, ValueStmt, IfStmt, WhileStmt, ForEachStmt, ArmTerm, ArmOf, TargetTerm}
 use Rattle.qvt_tree_types.specs.View.{stmts_of, arms_of, optional_expr, optional_else}
 use Rattle.qvt_language.specs.declared.named.Named.{Named}
-use Rattle.qvt_language.specs.declared.class.Class.{Class}
-use Rattle.qvt_language.specs.declared.class.Class.TheVariants.{PlusEqual}
+use Rattle.qvt_words.specs.declared.class.Class.{Class}
+use Rattle.qvt_words.specs.declared.class.Class.TheVariants.{PlusEqual}
 use Rattle.qvt_language.specs.Tokens.{Tok}
 use Rattle.qvt_language.specs.Leads.{Lead, Plain, Bracketed, Each, EachPart, Ended}
 use Rattle.qvt_language.specs.Trees.{is_there, expr_of, post_of}

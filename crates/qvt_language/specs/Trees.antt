@@ -19,8 +19,8 @@ use Rattle.qvt_tree_types.specs.declared.words.ResolveWord.{ResolveWord}
 use Rattle.qvt_tree_types.specs.declared.words.ResolveWord.TheVariants as resolves
 use Rattle.qvt_language.specs.declared.named.Named.{Named}
 use Rattle.qvt_language.specs.declared.named.UnitPath.{UnitPath}
-use Rattle.qvt_language.specs.declared.class.Class.{Class}
-use Rattle.qvt_language.specs.declared.class.Class.TheVariants.{SetWord, BagWord, SequenceWord, ImpliesWord, XorWord, OrWord, AndWord, EqualSign, DoubleEqual, Diamond, BangEqual, LessSign, AtMost, GreaterSign, AtLeast, PlusSign, MinusSign, XmapWord, ResolveAllWord, ResolveOneWord, InvResolveWord, InvResolveOneWord, ResolveInWord, ResolveOneInWord, InvResolveInWord}
+use Rattle.qvt_words.specs.declared.class.Class.{Class}
+use Rattle.qvt_words.specs.declared.class.Class.TheVariants.{SetWord, BagWord, SequenceWord, ImpliesWord, XorWord, OrWord, AndWord, EqualSign, DoubleEqual, Diamond, BangEqual, LessSign, AtMost, GreaterSign, AtLeast, PlusSign, MinusSign, XmapWord, ResolveAllWord, ResolveOneWord, InvResolveWord, InvResolveOneWord, ResolveInWord, ResolveOneInWord, InvResolveInWord}
 use Rattle.qvt_language.specs.Tokens.{Tok}
 use Rattle.qvt_language.specs.Leads.{Lead, Plain, Bracketed, Each, EachPart}
 

@@ -12,8 +12,8 @@ use Rattle.qvt_tree_types.specs.declared.words.Direction.{Direction}
 use Rattle.qvt_tree_types.specs.declared.words.Direction.TheVariants.{Input, Output, Both}
 use Rattle.qvt_language.specs.declared.named.Named.{Named}
 use Rattle.qvt_language.specs.declared.named.UnitPath.{UnitPath}
-use Rattle.qvt_language.specs.declared.class.Class.{Class}
-use Rattle.qvt_language.specs.declared.class.Class.TheVariants.{InWord, OutWord, QueryWord, InheritsWord, MergesWord, DisjunctsWord, WhenWord}
+use Rattle.qvt_words.specs.declared.class.Class.{Class}
+use Rattle.qvt_words.specs.declared.class.Class.TheVariants.{InWord, OutWord, QueryWord, InheritsWord, MergesWord, DisjunctsWord, WhenWord}
 use Rattle.qvt_language.specs.Tokens.{Tok, code_of}
 use Rattle.qvt_language.specs.Readers.{nowhere}
 use Rattle.qvt_language.specs.Leads.{Ended}

@@ -14,10 +14,6 @@ use Rattle.qvt_lexer.specs.declared.scan.Piece.TheVariants.{Blank, Comment, Toke
 use Rattle.qvt_lexer.proofs.Runs.{and_both, and_left, no_both, run_more, run_skip, every_run, begins_skip, run_longest, run_only}
 use Rattle.qvt_lexer.proofs.Sorts.{AtBlank, AtStart, AtDigit, sort_of, piece_of_sort, quote_continues}
 
--- a character that is no `_` begins no escaped name
-not_escape : (c : ℕ) (cs w : List ℕ) → (c ≡ 95 → ⊥) → c ∷ cs ≡ 95 ∷ 39 ∷ w → ⊥
-not_escape c cs w h e = h cc
-
 -- blanks
 blank_longest : (c : ℕ) (cs : List ℕ) (p : Piece) (v s : List ℕ) → IsPiece (c ∷ cs) p v s → AtBlank ≡ sort_of p → length v ≤ 1
 blank_longest c cs Blank v s k e = omega (arith, ap length k.spells.1)

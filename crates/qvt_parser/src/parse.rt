@@ -8,11 +8,11 @@ ghost use Rattle.qvt_parsed.specs.Parsed.{parsed};
 ghost use Rattle.qvt_parsed.specs.declared.fault.ParseFault.TheVariants as faults;
 
 use qvt_base::numbers::Place;
+use qvt_language::laws::answers;
+use qvt_language::token::Token;
 use qvt_parsed::fault::ParseFault;
 use qvt_parsed::law::parsing;
 use qvt_parser_grammar::cursor::{ParseError, Parser};
-use qvt_language::laws::answers;
-use qvt_language::token::Token;
 use qvt_parser_tokens::depth::deep;
 use qvt_parser_tokens::text::{read, strings};
 use qvt_parser_units::units::transformation;

@@ -12,11 +12,11 @@ ghost use Rattle.qvt_parser_chains.specs.Raised.{raised_at};
 use crate::made::{chained, each_lead, linked, post_lead, prefixed};
 use qvt_base::numbers::Place;
 use qvt_base::seq::Seq;
+use qvt_language::class::Class;
 use qvt_parser_exprs::inside::{Inside, Nest};
 use qvt_parser_exprs::leading::{EachTail, LeadStep, Leading};
 use qvt_parser_exprs::made::{finish, short_list};
 use qvt_parser_grammar::cursor::{ParseError, Parser};
-use qvt_language::class::Class;
 use qvt_tree_types::tree::{Link, Step};
 
 /// The calls that read steps and chains of operands, over those that read the expressions in them.

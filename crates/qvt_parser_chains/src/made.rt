@@ -11,11 +11,11 @@ ghost use Rattle.qvt_parser_chains.specs.Heads.{name_in};
 
 use qvt_base::numbers::Place;
 use qvt_base::seq::Seq;
+use qvt_language::class::Class;
+use qvt_language::named::Named;
 use qvt_parser_exprs::leading::{EachTail, First, Leading};
 use qvt_parser_exprs::made::{boxed, finish, is_name, only_name, posted, short_list};
 use qvt_parser_grammar::cursor::ParseError;
-use qvt_language::named::Named;
-use qvt_language::class::Class;
 use qvt_tree_types::tree::{Accumulator, Expr, Head, Link, Step};
 use qvt_tree_types::types::TypeTree;
 use qvt_tree_types::words::{BinaryOp, Level, Sign};

@@ -14,11 +14,11 @@ ghost use Rattle.qvt_parser_chains.specs.Heads.{name_in};
 use crate::chains::Chains;
 use crate::made::{head_name, head_of, is_head, one_expr};
 use qvt_base::seq::Seq;
+use qvt_language::class::Class;
 use qvt_parser_exprs::inside::Nest;
 use qvt_parser_exprs::leading::Leading;
 use qvt_parser_exprs::made::{boxed, short_list};
 use qvt_parser_grammar::cursor::{ParseError, Parser};
-use qvt_language::class::Class;
 use qvt_tree_types::tree::{Accumulator, Expr, Head, Step};
 use qvt_tree_types::types::TypeTree;
 

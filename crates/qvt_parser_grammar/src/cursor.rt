@@ -6,10 +6,10 @@ ghost use Rattle.qvt_language.specs.Readers.{nowhere, the_at};
 ghost use Rattle.qvt_parser_grammar.specs.Options.{option_view};
 ghost use Rattle.qvt_parser_grammar.specs.Gives.{Gives, toks};
 
-use qvt_language::class::Class;
-use qvt_language::token::Token;
 use qvt_base::list_fault::ListFault;
 use qvt_base::numbers::Place;
+use qvt_language::class::Class;
+use qvt_language::token::Token;
 use std::alloc::{AllocError, AllocFailed, Global};
 
 /// Why no tree is given.

@@ -11,12 +11,12 @@ ghost use Rattle.qvt_language.specs.Nesting.{nested_at};
 ghost use Rattle.qvt_parser_grammar.specs.Gives.{Gives, Makes, toks, same};
 
 use crate::cursor::{ParseError, Parser};
-use qvt_language::named::{Named, UnitPath};
-use qvt_language::class::Class;
-use qvt_language::token::Token;
 use qvt_base::lists::NameList;
 use qvt_base::seq::Seq;
 use qvt_base::text::Text;
+use qvt_language::class::Class;
+use qvt_language::named::{Named, UnitPath};
+use qvt_language::token::Token;
 use qvt_tree_types::types::{PathTree, TypeTree};
 use qvt_tree_types::words::CollKind;
 use std::alloc::Global;

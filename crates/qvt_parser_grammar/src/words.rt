@@ -9,10 +9,10 @@ ghost use Rattle.qvt_parser_grammar.specs.Gives.{Gives, toks, same};
 
 use crate::cursor::{ParseError, Parser};
 use crate::names::path_of;
-use qvt_language::class::Class;
-use qvt_language::token::Token;
 use qvt_base::seq::Seq;
 use qvt_base::text::Text;
+use qvt_language::class::Class;
+use qvt_language::token::Token;
 use qvt_tree_types::tree::Expr;
 use qvt_tree_types::types::{ObjectVar, PathTree};
 use qvt_tree_types::words::{PrefixOp, Sign};

@@ -14,10 +14,10 @@ ghost use Rattle.qvt_parser_stmts.specs.Views.{held_view, turn_view};
 use crate::turns::Turn;
 use qvt_base::numbers::Place;
 use qvt_base::seq::Seq;
+use qvt_language::class::Class;
 use qvt_parser_exprs::leading::{EachTail, Leading};
 use qvt_parser_exprs::made::{is_name, only_name, posted};
 use qvt_parser_grammar::cursor::ParseError;
-use qvt_language::class::Class;
 use qvt_tree_types::tree::{Expr, Step, Stmt, Target};
 use std::alloc::Global;
 

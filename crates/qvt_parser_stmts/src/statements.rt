@@ -23,13 +23,13 @@ use crate::made::{
 use crate::turns::{EndedStmts, Turn};
 use qvt_base::numbers::Place;
 use qvt_base::seq::Seq;
+use qvt_language::class::Class;
+use qvt_language::token::Token;
 use qvt_parser_chains::chains::Chains;
 use qvt_parser_exprs::inside::Nest;
 use qvt_parser_exprs::leading::Leading;
 use qvt_parser_exprs::made::{boxed, conditional, finish, posted};
 use qvt_parser_grammar::cursor::{ParseError, Parser};
-use qvt_language::class::Class;
-use qvt_language::token::Token;
 use qvt_tree_types::tree::{Arm, Expr, Stmt};
 
 /// The calls that read statements, over those that read the expressions in them.

@@ -11,11 +11,11 @@ use qvt_base::list_fault::ListFault;
 use qvt_base::numbers::Place;
 use qvt_base::seq::Seq;
 use qvt_base::text::Text;
+use qvt_language::class::Class;
+use qvt_language::token::Token;
 use qvt_lexer::lexer::Lexer;
 use qvt_lexer::token as lexed;
 use qvt_lexer::token::{LexFault, TokenKind};
-use qvt_language::class::Class;
-use qvt_language::token::Token;
 use qvt_words::words::{sign_of, word_of};
 use std::alloc::Global;
 

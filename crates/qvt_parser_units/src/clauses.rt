@@ -10,9 +10,9 @@ ghost use Rattle.qvt_parser_grammar.specs.Gives.{Makes};
 
 use qvt_base::numbers::Place;
 use qvt_base::seq::Seq;
-use qvt_parser_grammar::cursor::ParseError;
-use qvt_language::named::UnitPath;
 use qvt_language::class::Class;
+use qvt_language::named::UnitPath;
+use qvt_parser_grammar::cursor::ParseError;
 use qvt_tree_types::module::{Mapping, Param, ResultDecl};
 use qvt_tree_types::tree::{Expr, Stmt};
 use qvt_tree_types::types::PathTree;

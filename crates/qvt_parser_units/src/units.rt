@@ -23,9 +23,9 @@ use crate::clauses::{
 use qvt_base::numbers::Place;
 use qvt_base::seq::Seq;
 use qvt_base::text::Text;
-use qvt_parser_grammar::cursor::{ParseError, Parser};
 use qvt_language::class::Class;
 use qvt_language::token::Token;
+use qvt_parser_grammar::cursor::{ParseError, Parser};
 use qvt_parser_stmts::nested::{block, expr, statements};
 use qvt_tree_types::module::{
     ClassDecl, Field, Helper, ModelParam, ModelType, Module, Param, ResultDecl, Unit,

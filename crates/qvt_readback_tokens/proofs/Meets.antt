@@ -265,12 +265,10 @@ apart_ends class.Comma d h = refl
 apart_ends class.Semicolon d h = refl
 apart_ends class.Colon d h = apart_colon d h where
   apart_colon : (d : ℕ) → is_apart d ≡ true → sign_ends (58 ∷ []) d ≡ true
-  unfolding is_double
   apart_colon d h = grind (arith, nat_tests)
 apart_ends class.DoubleColon d h = refl
 apart_ends class.Dot d h = apart_dot d h where
   apart_dot : (d : ℕ) → is_apart d ≡ true → sign_ends (46 ∷ []) d ≡ true
-  unfolding is_double
   apart_dot d h = grind (arith, nat_tests)
 apart_ends class.DotDot d h = refl
 apart_ends class.Arrow d h = refl
@@ -278,28 +276,23 @@ apart_ends class.Bar d h = refl
 apart_ends class.AtSign d h = refl
 apart_ends class.EqualSign d h = apart_equalsign d h where
   apart_equalsign : (d : ℕ) → is_apart d ≡ true → sign_ends (61 ∷ []) d ≡ true
-  unfolding is_double
   apart_equalsign d h = grind (arith, nat_tests)
 apart_ends class.DoubleEqual d h = refl
 apart_ends class.Diamond d h = refl
 apart_ends class.BangEqual d h = refl
 apart_ends class.LessSign d h = apart_lesssign d h where
   apart_lesssign : (d : ℕ) → is_apart d ≡ true → sign_ends (60 ∷ []) d ≡ true
-  unfolding is_double
   apart_lesssign d h = grind (arith, nat_tests)
 apart_ends class.AtMost d h = refl
 apart_ends class.GreaterSign d h = apart_greatersign d h where
   apart_greatersign : (d : ℕ) → is_apart d ≡ true → sign_ends (62 ∷ []) d ≡ true
-  unfolding is_double
   apart_greatersign d h = grind (arith, nat_tests)
 apart_ends class.AtLeast d h = refl
 apart_ends class.PlusSign d h = apart_plussign d h where
   apart_plussign : (d : ℕ) → is_apart d ≡ true → sign_ends (43 ∷ []) d ≡ true
-  unfolding is_double
   apart_plussign d h = grind (arith, nat_tests)
 apart_ends class.MinusSign d h = apart_minussign d h where
   apart_minussign : (d : ℕ) → is_apart d ≡ true → sign_ends (45 ∷ []) d ≡ true
-  unfolding is_double
   apart_minussign d h = grind (arith, nat_tests)
 apart_ends class.Star d h = refl
 apart_ends class.Becomes d h = refl
