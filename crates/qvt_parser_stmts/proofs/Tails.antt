@@ -1,17 +1,16 @@
 -- What stands after an expression at the front of a statement, read part by part.
-use Rattle.std.proofs.Common.{◌≡◌, List, Bool, true, false, ◌&&◌, IsTrue, refl, sym, ap, ◌∙◌, Option, Some, None, Ok, Err, cond}
+use Rattle.std.proofs.Common.{◌≡◌, List, Bool, true, false, ◌&&◌, refl, sym, ap, ◌∙◌, Option, Some, None, Ok, Err, cond}
 use Rattle.qvt_base.specs.declared.numbers.Place.{Place}
-use Rattle.qvt_grammar.specs.Language.{head_of}
-use Rattle.qvt_grammar.specs.Reader.{Fault, Answer, ◌>>=◌, starts, made_at}
+use Rattle.qvt_grammar.specs.Reader.{Answer, ◌>>=◌, starts, made_at}
 use Rattle.qvt_tree_types.specs.Tree.{ExprTerm, StmtTerm, AssignStmt, ValueStmt, TargetTerm}
 use Rattle.qvt_language.specs.Tokens.{Tok, of}
-use Rattle.qvt_language.specs.Readers.{Reader, nowhere}
+use Rattle.qvt_language.specs.Readers.{Reader}
 use Rattle.qvt_language.specs.Firsts.{assign_first}
 use Rattle.qvt_language.specs.Leads.{Lead, Plain, Bracketed, Each}
 use Rattle.qvt_language.specs.Trees.{is_there, expr_of}
-use Rattle.qvt_language.specs.StmtTrees.{Turn, Tail, plain_tail, simple_turn, is_adding, lead_turn, written_turn, target_in, IsPlain}
-use Rattle.qvt_language.specs.Reading.{NestedAt, lead_at}
-use Rattle.qvt_language.specs.ReadingStatements.{assignment_at, semicolon_at, lead_tail_at, lead_stmt_at}
+use Rattle.qvt_language.specs.StmtTrees.{Turn, Tail, plain_tail, simple_turn, is_adding, written_turn, target_in, IsPlain}
+use Rattle.qvt_language.specs.Reading.{NestedAt}
+use Rattle.qvt_language.specs.ReadingStatements.{assignment_at, semicolon_at, lead_tail_at}
 
 -- a statement, and the `;` that may stand after it
 abbrev pub closing : StmtTerm → Reader Turn

@@ -1,8 +1,7 @@
 -- What the tokens of a text tell: names are names, texts are characters, numbers are not too large.
-use Rattle.std.proofs.Common.{◌≡◌, ℕ, pos, ◌<◌, List, [], ◌∷◌, ◌++◌, Bool, true, false, ◌||◌, ◌&&◌, ◌==◌, nat_le, inl, inr, refl, sym, ap, ◌∙◌, subst, arith, map, unwrap_or}
+use Rattle.std.proofs.Common.{◌≡◌, ℕ, pos, ◌<◌, List, [], ◌∷◌, ◌++◌, Bool, true, false, ◌||◌, ◌==◌, nat_le, inl, inr, refl, sym, ap, ◌∙◌, subst, arith, map, unwrap_or}
 use Rattle.std.proofs.lemmas.Bool.Decides.{nat_tests}
-use Rattle.std.proofs.lemmas.Slice.Eq.{bytes_eq-Decides}
-use Rattle.std.specs.Str.{chars, encode_utf8_all, bytes_eq}
+use Rattle.std.specs.Str.{chars, encode_utf8_all}
 use Rattle.std.proofs.lemmas.Str.{encode_ascii}
 use Rattle.qvt_base.specs.declared.numbers.Place.{Place}
 use Rattle.qvt_words.specs.Words.{is_single, is_double, is_reserved, word_of, sign_of}
@@ -20,7 +19,7 @@ use Rattle.qvt_language.specs.Tokens.{Tok, code_of}
 use Rattle.qvt_parser_tokens.specs.Said.{said, name_of, string_of}
 use Rattle.qvt_parser_tokens.specs.Text.{HasTokens}
 use Rattle.qvt_readback_tokens.specs.Told.{IsTold, AllTold}
-use Rattle.qvt_readback_tokens.proofs.Tests.{both, is_number, single_small, double_small}
+use Rattle.qvt_readback_tokens.proofs.Tests.{single_small, double_small}
 use Rattle.qvt_readback_tokens.proofs.Decoded.{chars_of}
 use Rattle.qvt_readback_tokens.proofs.Names.{plain_name, held_name, held_bytes, some_name}
 
