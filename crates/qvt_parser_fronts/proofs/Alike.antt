@@ -4,12 +4,12 @@ use Rattle.std.proofs.Common.{◌≡◌, ℕ, List, [], ◌∷◌, ◌++◌, map
 use Rattle.qvt_base.specs.declared.numbers.Place.{Place}
 use Rattle.qvt_grammar.specs.Language.{Language, token, follow, then, either, many, turns, made, never, empty, maybe, head_of, lastly}
 use Rattle.qvt_grammar.specs.Reader.{starts}
-use Rattle.qvt_parser_grammar.specs.Tokens.{Tok, is, of, code_of}
-use Rattle.qvt_parser_grammar.specs.Same.{unplaced, SameTokens}
-use Rattle.qvt_parser_grammar.specs.Readers.{the, placed, nowhere}
-use Rattle.qvt_parser_grammar.specs.Trees.{second}
-use Rattle.qvt_parser_grammar.specs.Series.{left, right, series, finished, barring}
-use Rattle.qvt_parser_grammar.specs.declared.token.Class.{Class}
+use Rattle.qvt_language.specs.Tokens.{Tok, is, of, code_of}
+use Rattle.qvt_language.specs.Same.{unplaced, SameTokens}
+use Rattle.qvt_language.specs.Readers.{the, placed, nowhere}
+use Rattle.qvt_language.specs.Trees.{second}
+use Rattle.qvt_language.specs.Series.{left, right, series, finished, barring}
+use Rattle.qvt_language.specs.declared.class.Class.{Class}
 
 pub record Alike {A K : Type 0} (key : A → K) (l m : Language Tok A) : Type 0 where
   pub reads : (ts us : List Tok) (a : A) → SameTokens ts us → l.reads ts a → (b : A) × m.reads us b × (key a ≡ key b)

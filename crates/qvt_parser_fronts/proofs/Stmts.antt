@@ -4,15 +4,15 @@ use Rattle.qvt_base.specs.declared.numbers.Place.{Place}
 use Rattle.qvt_tree_types.specs.Tree.{ExprTerm, StepTerm, LinkTerm, StmtTerm, BareTarget, ResultTarget, MemberTarget}
 use Rattle.qvt_tree_types.specs.declared.words.Level.{Level}
 use Rattle.qvt_grammar.specs.Language.{Language, made, then, maybe}
-use Rattle.qvt_parser_grammar.specs.Tokens.{Tok}
-use Rattle.qvt_parser_grammar.specs.Readers.{the}
-use Rattle.qvt_parser_grammar.specs.declared.token.Class.TheVariants.{Star, PlusSign, MinusSign, LessSign, AtMost, GreaterSign, AtLeast, EqualSign, DoubleEqual, Diamond, BangEqual, AndWord, OrWord, XorWord, ImpliesWord, OpenRound, CloseRound, OpenBrace, CloseBrace, Semicolon, Becomes, PlusEqual, ElifWord, ElseWord, EndifWord, IfWord, ReturnWord, ThenWord, VarWord, WhileWord}
-use Rattle.qvt_parser_grammar.specs.Leads.{Lead, Plain, Bracketed, Each, EachPart, Ended}
-use Rattle.qvt_parser_grammar.specs.Trees.{second, inner, nothing, is_there, each_lead, link_of, chain_of}
-use Rattle.qvt_parser_grammar.specs.StmtTrees.{Branches, Choice, var_of, return_of, arm_of, if_stmt_of, while_of, Turn, Tail, empty_turn, closed_turn, simple_turn, no_tail, plain_tail, lead_turn, ended_of, block_of}
-use Rattle.qvt_parser_grammar.specs.Grammar.{Nested, pre, level_of, operator, link, links, chain, flagged, lead_post, lead_pre, lead}
-use Rattle.qvt_parser_grammar.specs.Statements.{condition, var_stmt, return_stmt, arm, else_part, branches, choice, if_rest, if_stmt, while_stmt, assignment, semicolon, lead_tail, lead_stmt, statement, statements, block}
-use Rattle.qvt_parser_grammar.specs.Nesting.{nested}
+use Rattle.qvt_language.specs.Tokens.{Tok}
+use Rattle.qvt_language.specs.Readers.{the}
+use Rattle.qvt_language.specs.declared.class.Class.TheVariants.{Star, PlusSign, MinusSign, LessSign, AtMost, GreaterSign, AtLeast, EqualSign, DoubleEqual, Diamond, BangEqual, AndWord, OrWord, XorWord, ImpliesWord, OpenRound, CloseRound, OpenBrace, CloseBrace, Semicolon, Becomes, PlusEqual, ElifWord, ElseWord, EndifWord, IfWord, ReturnWord, ThenWord, VarWord, WhileWord}
+use Rattle.qvt_language.specs.Leads.{Lead, Plain, Bracketed, Each, EachPart, Ended}
+use Rattle.qvt_language.specs.Trees.{second, inner, nothing, is_there, each_lead, link_of, chain_of}
+use Rattle.qvt_language.specs.StmtTrees.{Branches, Choice, var_of, return_of, arm_of, if_stmt_of, while_of, Turn, Tail, empty_turn, closed_turn, simple_turn, no_tail, plain_tail, lead_turn, ended_of, block_of}
+use Rattle.qvt_language.specs.Grammar.{Nested, pre, level_of, operator, link, links, chain, flagged, lead_post, lead_pre, lead}
+use Rattle.qvt_language.specs.Statements.{condition, var_stmt, return_stmt, arm, else_part, branches, choice, if_rest, if_stmt, while_stmt, assignment, semicolon, lead_tail, lead_stmt, statement, statements, block}
+use Rattle.qvt_language.specs.Nesting.{nested}
 use Rattle.qvt_parser_fronts.proofs.Alike.{Alike, any, alike_any, alike_by, alike_made, alike_placed, alike_either, alike_maybe, alike_many, alike_follow, alike_then, alike_never, alike_empty, sum_key, alike_series, alike_finished, same_the, same_made, same_placed, same_many, same_maybe, same_then, same_either}
 use Rattle.qvt_parser_fronts.proofs.Exprs.{TargetKey, NoTarget, BareName, OtherTarget, LeadKey, PlainKey, BracketKey, EachKey, lead_key, PrimaryKey, primary_key, step_key, AlikeNested, post_tell, post_is, same_name, same_expr, same_typed, same_colon_type, alike_other_primary, alike_signed_post, alike_pre, alike_lead_step}
 

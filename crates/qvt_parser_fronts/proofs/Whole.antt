@@ -1,9 +1,9 @@
 -- Start symbols do not look at places.
 use Rattle.std.proofs.Common.{ℕ, List}
-use Rattle.qvt_parser_grammar.specs.Tokens.{Tok}
-use Rattle.qvt_parser_grammar.specs.Nesting.{nested}
-use Rattle.qvt_parser_grammar.specs.Units.{transformation, unit}
-use Rattle.qvt_parser_grammar.specs.Module.{Start}
+use Rattle.qvt_language.specs.Tokens.{Tok}
+use Rattle.qvt_language.specs.Nesting.{nested}
+use Rattle.qvt_language.specs.Units.{transformation, unit}
+use Rattle.qvt_language.specs.Module.{Start}
 use Rattle.qvt_parser_fronts.specs.Law.{LooksAtNoPlace}
 use Rattle.qvt_parser_fronts.proofs.Alike.{Alike, any}
 use Rattle.qvt_parser_fronts.proofs.Stmts.{alike_nested}
