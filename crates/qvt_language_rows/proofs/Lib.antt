@@ -1,0 +1,4 @@
+pub mod Ties
+pub mod Plain
+pub mod Steps
+pub mod Primaries

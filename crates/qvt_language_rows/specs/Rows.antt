@@ -12,7 +12,7 @@ use Rattle.qvt_parser_grammar.specs.Trees.{named_of, path_of, text_of, coll_type
 use Rattle.qvt_parser_grammar.specs.StmtTrees.{var_of, return_of, arm_of, while_of, concat}
 use Rattle.qvt_parser_grammar.specs.Conditionals.{block_form_of}
 use Rattle.qvt_language_rows.specs.Phrase.{Phrase, ◌or◌, ◌gives◌, ◌then◌, the, many, maybe, placed, after, before, between, commas, listed, barring}
-use Rattle.qvt_language_rows.specs.Values.{call_of, named_var, result_var, object_of, filter_of, headed_body, without_head, or_no_args, stepped_of, signed_of, linked, chained, bare_target, result_target, member_target, assign_of, value_of, loop_of, no_stmts, single, with_last}
+use Rattle.qvt_language_rows.specs.Values.{call_of, named_var, result_var, object_of, filter_of, headed_body, without_head, or_no_args, stepped_of, signed_of, linked, chained, named_target, result_target, feature_target, assign_of, value_of, loop_of, no_stmts, single, with_last}
 
 -- types, expressions and blocks that stand inside others
 pub record Inside : Type 1 where
@@ -134,9 +134,9 @@ module _ (inside : Inside) where
   -- statements
 
   unfoldable pub Target : Phrase TargetTerm
-  Target = Name gives bare_target
+  Target = Name gives named_target
       or the ResultWord gives result_target
-      or Post then after Dot Name gives member_target
+      or Post then after Dot Name gives feature_target
 
   -- a Simple never begins with `if`
   unfoldable pub Simple : Phrase StmtTerm

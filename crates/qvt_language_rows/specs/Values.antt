@@ -69,14 +69,14 @@ chained level (place, (e, (l ∷ ls))) = ChainExpr level e (links_of (l ∷ ls))
 
 -- statements
 
-abbrev pub bare_target : Named → TargetTerm
-bare_target n = BareTarget n.text n.place
+abbrev pub named_target : Named → TargetTerm
+named_target n = BareTarget n.text n.place
 
 abbrev pub result_target : Tok → TargetTerm
 result_target t = ResultTarget t.place
 
-abbrev pub member_target : ExprTerm × Named → TargetTerm
-member_target (e, n) = MemberTarget e n.text n.place
+abbrev pub feature_target : ExprTerm × Named → TargetTerm
+feature_target (e, n) = MemberTarget e n.text n.place
 
 abbrev pub assign_of : TargetTerm × (Tok × ExprTerm) → StmtTerm
 assign_of (target, (sign, value)) = AssignStmt target (is_adding sign.class) value sign.place
