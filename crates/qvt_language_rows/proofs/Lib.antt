@@ -2,3 +2,9 @@ pub mod Ties
 pub mod Plain
 pub mod Steps
 pub mod Primaries
+pub mod Leads
+pub mod Operands
+pub mod Levels
+pub mod Statements
+pub mod Units
+pub mod Whole

@@ -53,9 +53,9 @@ pub ties_in : Ties in_word In in_word
 unfolding in_word In
 ties_in = ties_or (ties_the class.ResolveInWord) (ties_or (ties_the class.ResolveOneInWord) (ties_or (ties_the class.InvResolveInWord) (ties_the class.InvResolveOneInWord)))
 
-pub ties_signs : Ties more_signs (many (the class.NotWord gives not_of or the class.MinusSign gives minus_of)) more_signs
-unfolding more_signs sign
-ties_signs = ties_many (ties_or (ties_gives not_of (ties_the class.NotWord)) (ties_gives minus_of (ties_the class.MinusSign)))
+pub ties_sign : Ties sign (the class.NotWord gives not_of or the class.MinusSign gives minus_of) sign
+unfolding sign
+ties_sign = ties_or (ties_gives not_of (ties_the class.NotWord)) (ties_gives minus_of (ties_the class.MinusSign))
 
 -- a list between two tokens, where none may stand
 abbrev pub listing : {A : Type 0} → Class → Language Tok (List A) → Class → Language Tok (List A)

@@ -56,7 +56,7 @@ module _ {i : Nested} {j : Inside} {k : Nested} (h : TiesInside i j k) where
   bare_to ts e (inr (inr (inr (inr (inr (inr (inl (m, rd, q)))))))) = inr (inr (inr (inr (inr (inr (inr (inr (inr (inr (inr (inr (inr (inl (m, (ties_map h).to ts m rd, q))))))))))))))
   bare_to ts e (inr (inr (inr (inr (inr (inr (inr (m, rd, q)))))))) = inr (inr (inr (inr (inr (inr (inr (inr (inr (inr (inr (inr (inr (inr (inl (m, (ties_resolve h).to ts m rd, q)))))))))))))))
 
-  at_if : (ts : List Tok) (e : ExprTerm) → (placed (the class.IfWord then j.expr then after class.ThenWord j.expr then between class.ElseWord j.expr class.EndifWord) gives if_of) ts e → Primary j ts e
+  pub at_if : (ts : List Tok) (e : ExprTerm) → (placed (the class.IfWord then j.expr then after class.ThenWord j.expr then between class.ElseWord j.expr class.EndifWord) gives if_of) ts e → Primary j ts e
   unfolding Primary
   at_if ts e rd = inr (inr (inr (inr (inr (inr (inr (inr (inr (inr (inl rd))))))))))
 
@@ -105,7 +105,7 @@ module _ {i : Nested} {j : Inside} {k : Nested} (h : TiesInside i j k) where
 
   -- and to them
 
-  other_of : (ts : List Tok) (e : ExprTerm) → Primary j ts e → ((b : Bool) × (other_primary k).reads ts (e, b)) ⊎ (if_expr k).reads ts e
+  pub other_of : (ts : List Tok) (e : ExprTerm) → Primary j ts e → ((b : Bool) × (other_primary k).reads ts (e, b)) ⊎ (if_expr k).reads ts e
   unfolding other_primary bare_expr literal word named_expr longer path Primary
   other_of ts e (inl rd) = inl (true, inr (e, inl (inl rd), refl))
   other_of ts e (inr (inl rd)) = inl (true, inr (e, inl (inr (inl rd)), refl))

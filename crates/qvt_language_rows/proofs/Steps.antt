@@ -27,7 +27,7 @@ variable = Name gives named_var or the class.ResultWord gives result_var
 abbrev head_row : Phrase (Option ObjectVar × PathTree)
 head_row = maybe (before variable class.Colon) then Path
 
-path_row : (ts : List Tok) (n : Named) (ns : List Named) (a b : List Tok) → ts ≡ a ++ b → name.reads a n → more_names.reads b ns → Path ts (path_of (n, ns))
+pub path_row : (ts : List Tok) (n : Named) (ns : List Named) (a b : List Tok) → ts ≡ a ++ b → name.reads a n → more_names.reads b ns → Path ts (path_of (n, ns))
 unfolding Path
 path_row ts n ns a b e nm rd = ((n, ns), (a, b, e, ties_name.to a n nm, ties_more_names.to b ns rd), refl)
 

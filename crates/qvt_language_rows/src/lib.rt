@@ -2,3 +2,4 @@
 //! productions read.
 #![tactic(auto)]
 
+pub mod law;
