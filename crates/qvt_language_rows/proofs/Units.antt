@@ -5,6 +5,7 @@ use Rattle.qvt_grammar.specs.Language as language
 use Rattle.qvt_grammar.specs.Reader.{starts}
 use Rattle.qvt_tree_types.specs.Tree.{ExprTerm, StmtTerm}
 use Rattle.qvt_tree_types.specs.Module.{TypedName, UnitTerm}
+use Rattle.qvt_tree_types.specs.declared.types.PathTree.{PathTree}
 use Rattle.qvt_parser_grammar.specs.Tokens.{Tok, is, of, code_of}
 use Rattle.qvt_parser_grammar.specs.declared.token.Class.{Class}
 use Rattle.qvt_parser_grammar.specs.declared.token.Class.TheVariants as class
@@ -90,34 +91,34 @@ read_of x (MergesClause paths) = is_there x.merges
 read_of x (DisjunctsClause paths) = is_there x.disjuncts
 read_of x (WhenClause e) = is_there x.condition
 
-module _ {A B C D : Type 0} where
-  abbrev last_word : Option D → List ℕ
-  last_word d = where_there d (code_of class.WhenWord)
+-- the words of the clauses that were read, from the last
+abbrev last_word : Option ExprTerm → List ℕ
+last_word d = where_there d (code_of class.WhenWord)
 
-  abbrev last_two : Option C → Option D → List ℕ
-  last_two c d = where_there c (code_of class.DisjunctsWord) ++ last_word d
+abbrev last_two : Option (List PathTree) → Option ExprTerm → List ℕ
+last_two c d = where_there c (code_of class.DisjunctsWord) ++ last_word d
 
-  abbrev last_three : Option B → Option C → Option D → List ℕ
-  last_three b c d = where_there b (code_of class.MergesWord) ++ last_two c d
+abbrev last_three : Option (List PathTree) → Option (List PathTree) → Option ExprTerm → List ℕ
+last_three b c d = where_there b (code_of class.MergesWord) ++ last_two c d
 
-  abbrev words : Option A → Option B → Option C → Option D → List ℕ
-  words a b c d = where_there a (code_of class.InheritsWord) ++ last_three b c d
+abbrev words : Option (List PathTree) → Option (List PathTree) → Option (List PathTree) → Option ExprTerm → List ℕ
+words a b c d = where_there a (code_of class.InheritsWord) ++ last_three b c d
 
-  has_inherits : (a : Option A) (b : Option B) (c : Option C) (d : Option D) → has (code_of class.InheritsWord) (words a b c d) ≡ is_there a
-  has_inherits (Some x) b c d = has_here (code_of class.InheritsWord) x (last_three b c d) refl
-  has_inherits None b c d = has_past (code_of class.InheritsWord) (code_of class.MergesWord) b (last_two c d) refl ∙ has_past (code_of class.InheritsWord) (code_of class.DisjunctsWord) c (last_word d) refl ∙ has_last (code_of class.InheritsWord) (code_of class.WhenWord) d refl
+has_inherits : (a : Option (List PathTree)) (b : Option (List PathTree)) (c : Option (List PathTree)) (d : Option ExprTerm) → has (code_of class.InheritsWord) (words a b c d) ≡ is_there a
+has_inherits (Some x) b c d = has_here (code_of class.InheritsWord) x (last_three b c d) refl
+has_inherits None b c d = has_past (code_of class.InheritsWord) (code_of class.MergesWord) b (last_two c d) refl ∙ has_past (code_of class.InheritsWord) (code_of class.DisjunctsWord) c (last_word d) refl ∙ has_last (code_of class.InheritsWord) (code_of class.WhenWord) d refl
 
-  has_merges : (a : Option A) (b : Option B) (c : Option C) (d : Option D) → has (code_of class.MergesWord) (words a b c d) ≡ is_there b
-  has_merges a (Some x) c d = has_past (code_of class.MergesWord) (code_of class.InheritsWord) a (last_three (Some x) c d) refl ∙ has_here (code_of class.MergesWord) x (last_two c d) refl
-  has_merges a None c d = has_past (code_of class.MergesWord) (code_of class.InheritsWord) a (last_three None c d) refl ∙ has_past (code_of class.MergesWord) (code_of class.DisjunctsWord) c (last_word d) refl ∙ has_last (code_of class.MergesWord) (code_of class.WhenWord) d refl
+has_merges : (a : Option (List PathTree)) (b : Option (List PathTree)) (c : Option (List PathTree)) (d : Option ExprTerm) → has (code_of class.MergesWord) (words a b c d) ≡ is_there b
+has_merges a (Some x) c d = has_past (code_of class.MergesWord) (code_of class.InheritsWord) a (last_three (Some x) c d) refl ∙ has_here (code_of class.MergesWord) x (last_two c d) refl
+has_merges a None c d = has_past (code_of class.MergesWord) (code_of class.InheritsWord) a (last_three None c d) refl ∙ has_past (code_of class.MergesWord) (code_of class.DisjunctsWord) c (last_word d) refl ∙ has_last (code_of class.MergesWord) (code_of class.WhenWord) d refl
 
-  has_disjuncts : (a : Option A) (b : Option B) (c : Option C) (d : Option D) → has (code_of class.DisjunctsWord) (words a b c d) ≡ is_there c
-  has_disjuncts a b (Some x) d = has_past (code_of class.DisjunctsWord) (code_of class.InheritsWord) a (last_three b (Some x) d) refl ∙ has_past (code_of class.DisjunctsWord) (code_of class.MergesWord) b (last_two (Some x) d) refl ∙ has_here (code_of class.DisjunctsWord) x (last_word d) refl
-  has_disjuncts a b None d = has_past (code_of class.DisjunctsWord) (code_of class.InheritsWord) a (last_three b None d) refl ∙ has_past (code_of class.DisjunctsWord) (code_of class.MergesWord) b (last_two None d) refl ∙ has_last (code_of class.DisjunctsWord) (code_of class.WhenWord) d refl
+has_disjuncts : (a : Option (List PathTree)) (b : Option (List PathTree)) (c : Option (List PathTree)) (d : Option ExprTerm) → has (code_of class.DisjunctsWord) (words a b c d) ≡ is_there c
+has_disjuncts a b (Some x) d = has_past (code_of class.DisjunctsWord) (code_of class.InheritsWord) a (last_three b (Some x) d) refl ∙ has_past (code_of class.DisjunctsWord) (code_of class.MergesWord) b (last_two (Some x) d) refl ∙ has_here (code_of class.DisjunctsWord) x (last_word d) refl
+has_disjuncts a b None d = has_past (code_of class.DisjunctsWord) (code_of class.InheritsWord) a (last_three b None d) refl ∙ has_past (code_of class.DisjunctsWord) (code_of class.MergesWord) b (last_two None d) refl ∙ has_last (code_of class.DisjunctsWord) (code_of class.WhenWord) d refl
 
-  has_when : (a : Option A) (b : Option B) (c : Option C) (d : Option D) → has (code_of class.WhenWord) (words a b c d) ≡ is_there d
-  has_when a b c (Some x) = has_past (code_of class.WhenWord) (code_of class.InheritsWord) a (last_three b c (Some x)) refl ∙ has_past (code_of class.WhenWord) (code_of class.MergesWord) b (last_two c (Some x)) refl ∙ has_past (code_of class.WhenWord) (code_of class.DisjunctsWord) c (last_word (Some x)) refl
-  has_when a b c None = has_past (code_of class.WhenWord) (code_of class.InheritsWord) a (last_three b c None) refl ∙ has_past (code_of class.WhenWord) (code_of class.MergesWord) b (last_two c None) refl ∙ has_past (code_of class.WhenWord) (code_of class.DisjunctsWord) c (last_word None) refl
+has_when : (a : Option (List PathTree)) (b : Option (List PathTree)) (c : Option (List PathTree)) (d : Option ExprTerm) → has (code_of class.WhenWord) (words a b c d) ≡ is_there d
+has_when a b c (Some x) = has_past (code_of class.WhenWord) (code_of class.InheritsWord) a (last_three b c (Some x)) refl ∙ has_past (code_of class.WhenWord) (code_of class.MergesWord) b (last_two c (Some x)) refl ∙ has_past (code_of class.WhenWord) (code_of class.DisjunctsWord) c (last_word (Some x)) refl
+has_when a b c None = has_past (code_of class.WhenWord) (code_of class.InheritsWord) a (last_three b c None) refl ∙ has_past (code_of class.WhenWord) (code_of class.MergesWord) b (last_two c None) refl ∙ has_past (code_of class.WhenWord) (code_of class.DisjunctsWord) c (last_word None) refl
 
 has_read : (x : Clauses) (c : Clause) → has (kind_of c) (read_words x) ≡ read_of x c
 has_read x (InheritsClause paths) = has_inherits x.inherits x.merges x.disjuncts x.condition
