@@ -1,5 +1,5 @@
 -- The rows of the eight levels of operators.
-use Rattle.std.proofs.Common.{ℕ, List, [], ◌++◌, Bool, sym, subst}
+use Rattle.std.proofs.Common.{List, [], ◌++◌, Bool, sym, subst}
 use Rattle.qvt_grammar.specs.Language.{Language}
 use Rattle.qvt_grammar.specs.Language as language
 use Rattle.qvt_tree_types.specs.Tree.{ExprTerm, TargetTerm}

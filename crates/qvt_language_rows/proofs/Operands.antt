@@ -1,28 +1,27 @@
 -- The rows of one operand: steps after it, and signs before it.
-use Rattle.std.proofs.Common.{◌≡◌, ℕ, List, [], ◌∷◌, ◌++◌, Bool, true, false, ◌⊎◌, inl, inr, refl, sym, ap, ◌∙◌, subst, append-nil, append_assoc, Option, Some, None}
+use Rattle.std.proofs.Common.{◌≡◌, ℕ, List, [], ◌∷◌, ◌++◌, Bool, true, false, ◌⊎◌, inl, inr, refl, sym, ap, ◌∙◌, subst, append-nil, append_assoc, Some, None}
 use Rattle.qvt_base.specs.declared.numbers.Place.{Place}
 use Rattle.qvt_grammar.specs.Language.{Language, head_of}
 use Rattle.qvt_grammar.specs.Language as language
 use Rattle.qvt_grammar.specs.Reader.{starts}
 use Rattle.qvt_grammar.proofs.Lists.{grouped}
-use Rattle.qvt_tree_types.specs.Tree.{ExprTerm, PathExpr, ResultExpr, StepTerm, DotStep, ArrowStep, DotMapStep, ArrowMapStep, DotResolveStep, ArrowResolveStep, NoArgs, SomeArgs, TargetTerm, BareTarget, ResultTarget, MemberTarget}
+use Rattle.qvt_tree_types.specs.Tree.{ExprTerm, PathExpr, ResultExpr, StepTerm, DotStep, ArrowStep, DotMapStep, ArrowMapStep, DotResolveStep, ArrowResolveStep, NoArgs, SomeArgs, TargetTerm, MemberTarget}
 use Rattle.qvt_tree_types.specs.View.{optional_args}
 use Rattle.qvt_tree_types.specs.declared.words.Sign.{Sign}
 use Rattle.qvt_parser_grammar.specs.Tokens.{Tok, is}
 use Rattle.qvt_parser_grammar.specs.declared.named.Named.{Named}
 use Rattle.qvt_parser_grammar.specs.declared.token.Class.TheVariants as class
 use Rattle.qvt_parser_grammar.specs.Readers.{nowhere}
-use Rattle.qvt_parser_grammar.specs.Series.{series, left, right, finished}
-use Rattle.qvt_parser_grammar.specs.Leads.{Lead, Plain, Bracketed, Each, EachPart}
+use Rattle.qvt_parser_grammar.specs.Series.{left, finished}
+use Rattle.qvt_parser_grammar.specs.Leads.{Lead, Plain, Each, EachPart}
 use Rattle.qvt_parser_grammar.specs.StmtTrees.{IsPlain}
-use Rattle.qvt_parser_grammar.specs.Trees.{path_of, expr_of, bare_target, post_of, split_last, member_of, post_lead, each_lead, signed, prefix_lead, each_of}
-use Rattle.qvt_parser_grammar.specs.Grammar.{Nested, if_expr, primary, other_primary, brackets, bare_expr, word, literal, named_expr, more_names, step, dot_step, arrow_rest, post, signs, more_signs, signed_post, pre, each_tail, lead_step, lead_post, lead_pre, chain as chain_production, flagged, lead}
-use Rattle.qvt_language_rows.specs.Phrase.{Phrase, ◌or◌, ◌gives◌, ◌then◌, nothing, the, many, maybe, after, listed}
-use Rattle.qvt_language_rows.specs.Values.{stepped_of, signed_of, named_target, result_target, feature_target}
+use Rattle.qvt_parser_grammar.specs.Trees.{path_of, expr_of, bare_target, post_of, split_last, member_of, post_lead, signed, prefix_lead, each_of}
+use Rattle.qvt_parser_grammar.specs.Grammar.{Nested, if_expr, primary, other_primary, bare_expr, word, named_expr, more_names, step, dot_step, arrow_rest, post, signs, more_signs, signed_post, pre, each_tail, lead_step, lead_post, lead_pre, lead}
+use Rattle.qvt_language_rows.specs.Phrase.{Phrase, ◌gives◌, ◌then◌, nothing, the, many, maybe, after}
 use Rattle.qvt_language_rows.specs.Rows.{Inside, Name, «Type», Primary, Step, Post, Pre, Target}
 use Rattle.qvt_language_rows.proofs.Ties.{Ties, ties_the, ties_then, ties_gives, ties_maybe, turns_to, turns_of}
 use Rattle.qvt_language_rows.proofs.Plain.{TiesInside, ties_name, ties_colon_type, ties_bar, ties_sign}
-use Rattle.qvt_language_rows.proofs.Steps.{ties_step, ties_arrow_rest}
+use Rattle.qvt_language_rows.proofs.Steps.{ties_step}
 use Rattle.qvt_language_rows.proofs.Primaries.{primary_to, primary_target, primary_of, other_of, other_primary_of}
 use Rattle.qvt_language_rows.proofs.Leads.{Means, means_plain, never_each, means_more, HasLead, raise}
 
@@ -273,9 +272,11 @@ module _ {i : Nested} {j : Inside} {k : Nested} (h : TiesInside i j k) (solid_i 
       let all : ts ≡ u ++ (v ++ b) = cut ∙ ap (λ z. z ++ b) e1 ∙ append_assoc u v b in
       let here : y.0 ≡ head_of (λ t. t.place) nowhere ts = at ∙ ap (head_of (λ t. t.place) nowhere) e1 ∙ same_place u v (v ++ b) (some_row u y.1.0 rd) ∙ sym (ap (head_of (λ t. t.place) nowhere) all) in
       let p = push_lead y.0 (y.1.0, w.0) y.1.1 n.text n.place in
-      let last = step_left b (DotStep n.text NoArgs n.place) ((ties_step h).of b (DotStep n.text NoArgs n.place) (name_dot j b n dot)) in
-      (p.0, subst (λ z. (lead k).reads ts (Plain p.0 (Some (MemberTarget z n.text n.place)))) (sym q)
-        (subst (λ z. (lead k).reads ts z) p.1 (lead_raise ts _ (lead_post_reads ts u (v ++ b) y.0 y.1.0 w.0 (y.1.1 ++ DotStep n.text NoArgs n.place ∷ []) all here w.1 (turns_push (left (lead_step k)) y.1.1 v b (DotStep n.text NoArgs n.place) (steps_left y.1.1 v more) last)))))
+      let last = step_left b (DotStep n.text NoArgs n.place) ((ties_step h).of b (DotStep n.text NoArgs n.place) (name_dot j b n dot)) in (
+        p.0,
+        subst (λ z. (lead k).reads ts (Plain p.0 (Some (MemberTarget z n.text n.place)))) (sym q)
+            (subst (λ z. (lead k).reads ts z) p.1 (lead_raise ts _ (lead_post_reads ts u (v ++ b) y.0 y.1.0 w.0 (y.1.1 ++ DotStep n.text NoArgs n.place ∷ []) all here w.1 (turns_push (left (lead_step k)) y.1.1 v b (DotStep n.text NoArgs n.place) (steps_left y.1.1 v more) last)))),
+      )
 
   pub target_of : (ts : List Tok) (t : TargetTerm) → NoIf ts → Target j ts t → (e : ExprTerm) × (lead k).reads ts (Plain e (Some t))
   unfolding Target
@@ -299,6 +300,6 @@ module _ {i : Nested} {j : Inside} {k : Nested} (h : TiesInside i j k) (solid_i 
       let here : y.0 ≡ head_of (λ t. t.place) nowhere ts = at ∙ ap (head_of (λ t. t.place) nowhere) e1 ∙ same_place u v (v ++ b) (some_row u y.1.0 rd) ∙ sym (ap (head_of (λ t. t.place) nowhere) all) in
       elim (other_of h u y.1.0 rd) [
         | inl w ↦ inl (subst (λ z. (lead k).reads ts (Each z x.1)) (sym q) (lead_raise ts (Each (post_of y.0 y.1.0 y.1.1) x.1)
-          ((y.0, ((y.1.0, w.0), (y.1.1, Some x.1))), ((u, v ++ b, all, w.1, (v, b, refl, steps_left y.1.1 v more, each_right b x.1 rest)), here), refl)))
+            ((y.0, ((y.1.0, w.0), (y.1.1, Some x.1))), ((u, v ++ b, all, w.1, (v, b, refl, steps_left y.1.1 v more, each_right b x.1 rest)), here), refl)))
         | inr w ↦ inr (y.0, y.1.0, y.1.1, u, v ++ b, q, here, all, w, (v, b, refl, steps_left y.1.1 v more, each_right b x.1 rest))
       ]

@@ -1,17 +1,16 @@
 -- The rows that the parser's productions have as they are: names, types, arguments, calls, filters.
-use Rattle.std.proofs.Common.{◌≡◌, ℕ, List, [], ◌∷◌, ◌++◌, ◌⊎◌, inl, inr, refl, sym, ap, ◌∙◌, subst, Option, Some, None}
+use Rattle.std.proofs.Common.{ℕ, List, [], refl, Some}
 use Rattle.qvt_grammar.specs.Language.{Language}
 use Rattle.qvt_grammar.specs.Language as language
-use Rattle.qvt_grammar.proofs.Lists.{regroup, grouped}
 use Rattle.qvt_tree_types.specs.Tree.{ExprTerm, PathType, BareTarget, PathExpr}
 use Rattle.qvt_parser_grammar.specs.Tokens.{Tok}
 use Rattle.qvt_parser_grammar.specs.declared.named.Named.{Named}
 use Rattle.qvt_parser_grammar.specs.declared.token.Class.{Class}
 use Rattle.qvt_parser_grammar.specs.declared.token.Class.TheVariants as class
 use Rattle.qvt_parser_grammar.specs.Readers as readers
-use Rattle.qvt_parser_grammar.specs.Leads.{Lead, Plain}
-use Rattle.qvt_parser_grammar.specs.Trees.{first, second, named_of, path_of, unit_path_of, text_of, coll_type_of, nothing, coll_of, range_of, item_of, if_of, new_of, map_of, all_of, in_of, resolve_of, accumulator_of, not_of, minus_of, each_of}
-use Rattle.qvt_parser_grammar.specs.Grammar.{Nested, name, more_names, path, paths, unit_path, extent, kind_word, coll_type, typed, colon_type, expr, exprs, args, item, coll, if_expr, new_expr, map_call, bar_expr, all_word, in_word, brackets, accumulator, more_exprs, sign, more_signs, each_tail}
+use Rattle.qvt_parser_grammar.specs.Leads.{Plain}
+use Rattle.qvt_parser_grammar.specs.Trees.{first, second, named_of, path_of, unit_path_of, text_of, coll_type_of, nothing, coll_of, range_of, item_of, map_of, not_of, minus_of}
+use Rattle.qvt_parser_grammar.specs.Grammar.{Nested, name, more_names, path, paths, unit_path, extent, kind_word, coll_type, typed, colon_type, expr, exprs, args, item, coll, map_call, bar_expr, all_word, in_word, sign}
 use Rattle.qvt_language_rows.specs.Phrase.{Phrase, ◌or◌, ◌gives◌, ◌then◌, the, many, maybe, after, between, commas, or_none, listed}
 use Rattle.qvt_language_rows.specs.Rows.{Inside, Name, Path, Paths, Extent, Kind, All, In, «Type», Exprs, Item, Map}
 use Rattle.qvt_language_rows.specs.Units.{UnitPath}

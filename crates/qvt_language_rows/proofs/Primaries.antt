@@ -1,18 +1,17 @@
 -- The rows of what stands before steps, with the targets that such an expression also is.
-use Rattle.std.proofs.Common.{◌≡◌, ℕ, List, [], ◌∷◌, ◌++◌, Bool, true, false, ◌⊎◌, inl, inr, refl, sym, ap, ◌∙◌, subst, append-nil, Option, Some, None}
+use Rattle.std.proofs.Common.{◌≡◌, List, [], ◌∷◌, ◌++◌, Bool, true, false, ◌⊎◌, inl, inr, refl, sym, ap, ◌∙◌, subst, append-nil, Some, None}
 use Rattle.qvt_grammar.specs.Reader.{starts}
 use Rattle.qvt_tree_types.specs.View.{exprs_of}
-use Rattle.qvt_tree_types.specs.Tree.{ExprTerm, PathExpr, CallExpr, MapExpr, ResolveExpr, TargetTerm, BareTarget, ResultTarget}
+use Rattle.qvt_tree_types.specs.Tree.{ExprTerm, PathExpr, CallExpr, TargetTerm, BareTarget, ResultTarget}
 use Rattle.qvt_parser_grammar.specs.Tokens.{Tok, is}
 use Rattle.qvt_parser_grammar.specs.declared.named.Named.{Named}
 use Rattle.qvt_parser_grammar.specs.declared.token.Class.TheVariants as class
-use Rattle.qvt_parser_grammar.specs.Trees.{path_of, named_expr_of, bare_target, coll_of, if_of, new_of}
-use Rattle.qvt_parser_grammar.specs.Grammar.{Nested, name, more_names, path, args, literal, word, named_expr, coll, object, new_expr, if_expr, longer, brackets, bare_expr, other_primary, primary}
-use Rattle.qvt_language_rows.specs.Phrase.{Phrase, ◌or◌, ◌gives◌, ◌then◌, the, many, maybe, placed, after, before, between, commas, listed}
-use Rattle.qvt_language_rows.specs.Values.{call_of}
-use Rattle.qvt_language_rows.specs.Rows.{Inside, Name, Path, Extent, Exprs, Item, Map, Resolve, Kind, Primary, Target}
+use Rattle.qvt_parser_grammar.specs.Trees.{path_of, named_expr_of, bare_target, if_of, new_of}
+use Rattle.qvt_parser_grammar.specs.Grammar.{Nested, name, more_names, path, literal, word, named_expr, coll, object, new_expr, if_expr, longer, brackets, bare_expr, other_primary, primary}
+use Rattle.qvt_language_rows.specs.Phrase.{◌gives◌, ◌then◌, the, maybe, placed, after, between, listed}
+use Rattle.qvt_language_rows.specs.Rows.{Inside, Name, Path, Extent, Exprs, Primary, Target}
 use Rattle.qvt_language_rows.proofs.Ties.{Ties, ties_the, ties_then, ties_gives, ties_placed, ties_after, ties_between}
-use Rattle.qvt_language_rows.proofs.Plain.{TiesInside, ties_name, ties_more_names, ties_path, ties_extent, ties_args, ties_map, ties_coll}
+use Rattle.qvt_language_rows.proofs.Plain.{TiesInside, ties_name, ties_path, ties_extent, ties_args, ties_map, ties_coll}
 use Rattle.qvt_language_rows.proofs.Steps.{path_row, ties_object, ties_resolve}
 
 begins : (c : _) (ts u v : List Tok) (t : Tok) → ts ≡ u ++ v → the c u t → starts (is c) ts ≡ true

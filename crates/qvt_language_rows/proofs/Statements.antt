@@ -1,37 +1,34 @@
 -- The rows of statements and blocks.
-use Rattle.std.proofs.Common.{◌≡◌, ℕ, suc, List, [], ◌∷◌, ◌++◌, Bool, true, false, IsTrue, ◌⊎◌, inl, inr, refl, sym, ap, ◌∙◌, subst, append-nil, append_assoc, Option, Some, None}
+use Rattle.std.proofs.Common.{◌≡◌, ℕ, suc, List, [], ◌∷◌, ◌++◌, Bool, true, false, inl, inr, refl, sym, ap, ◌∙◌, subst, append-nil, Option, Some, None}
 use Rattle.qvt_base.specs.declared.numbers.Place.{Place}
 use Rattle.qvt_grammar.specs.Language.{Language, head_of}
 use Rattle.qvt_grammar.specs.Language as language
-use Rattle.qvt_grammar.specs.Reader.{starts}
 use Rattle.qvt_grammar.proofs.Firsts.{Firsts}
 use Rattle.qvt_grammar.proofs.Lists.{regroup, grouped}
-use Rattle.qvt_tree_types.specs.Tree.{ExprTerm, StepTerm, StmtTerm, ValueStmt, AssignStmt, TargetTerm}
+use Rattle.qvt_tree_types.specs.Tree.{ExprTerm, StmtTerm, ValueStmt, AssignStmt, TargetTerm}
 use Rattle.qvt_parser_grammar.specs.Tokens.{Tok, is, of, code_of}
 use Rattle.qvt_parser_grammar.specs.declared.token.Class.TheVariants as class
 use Rattle.qvt_parser_grammar.specs.Firsts.{primary_first}
 use Rattle.qvt_parser_grammar.specs.Readers.{nowhere}
-use Rattle.qvt_parser_grammar.specs.Readers as readers
-use Rattle.qvt_parser_grammar.specs.Series.{series, left, right, finished}
+use Rattle.qvt_parser_grammar.specs.Series.{left, right}
 use Rattle.qvt_parser_grammar.specs.Leads.{Lead, Plain, Bracketed, Each, EachPart, Ended}
-use Rattle.qvt_parser_grammar.specs.Trees.{second, is_there, expr_of, post_of}
-use Rattle.qvt_parser_grammar.specs.StmtTrees.{IsPlain, var_of, return_of, arm_of, while_of, Branches, for_each_of, Turn, empty_turn, closed_turn, simple_turn, is_adding, written, Tail, lead_turn, concat, last_of, ended_of, block_of}
-use Rattle.qvt_parser_grammar.specs.Conditionals.{block_form_of, block_form, each_form, if_forms}
-use Rattle.qvt_parser_grammar.specs.Grammar.{Nested, primary, expr, lead, lead_step, if_expr}
+use Rattle.qvt_parser_grammar.specs.Trees.{is_there, expr_of, post_of}
+use Rattle.qvt_parser_grammar.specs.StmtTrees.{IsPlain, var_of, return_of, arm_of, while_of, for_each_of, Turn, simple_turn, is_adding, written, Tail, lead_turn, concat, last_of}
+use Rattle.qvt_parser_grammar.specs.Conditionals.{block_form_of, block_form, if_forms}
+use Rattle.qvt_parser_grammar.specs.Grammar.{primary, lead}
 use Rattle.qvt_parser_grammar.specs.Statements.{condition, var_stmt, return_stmt, arm, else_part, branches, if_stmt, while_stmt, assignment, semicolon, lead_tail, lead_stmt, statement, statements, block}
-use Rattle.qvt_parser_grammar.specs.Nesting.{nested, nested_at}
+use Rattle.qvt_parser_grammar.specs.Nesting.{nested}
 use Rattle.qvt_parser_grammar.proofs.Sets.{none_in, apart}
 use Rattle.qvt_parser_grammar.proofs.GoodExprs.{good_primary}
 use Rattle.qvt_parser_grammar.proofs.GoodStmts.{good_var_stmt, good_return_stmt}
 use Rattle.qvt_parser_grammar.proofs.GoodBlocks.{goodv_lead, goodv_statement}
 use Rattle.qvt_parser_grammar.proofs.GoodNesting.{good_same, good_nested}
 use Rattle.qvt_parser_grammar.proofs.Conditionals.{forms_of, stmt_of}
-use Rattle.qvt_language_rows.specs.Phrase.{Phrase, ◌or◌, ◌gives◌, ◌then◌, the, many, maybe, placed, after, before, between, barring}
-use Rattle.qvt_language_rows.specs.Values.{assign_of, value_of, loop_of, no_stmts, single, with_last}
-use Rattle.qvt_language_rows.specs.Rows.{Inside, Name, «Type», Post, Expr, Target, Simple, Compound, Items, Block}
+use Rattle.qvt_language_rows.specs.Phrase.{Phrase, ◌or◌, ◌gives◌, ◌then◌, the, many, maybe, placed, after, before, between}
+use Rattle.qvt_language_rows.specs.Values.{no_stmts, single, with_last}
+use Rattle.qvt_language_rows.specs.Rows.{Inside, Name, «Type», Expr, Target, Simple, Compound, Items, Block}
 use Rattle.qvt_language_rows.proofs.Ties.{Ties, ties_the, ties_then, ties_or, ties_gives, ties_many, ties_maybe, ties_placed, ties_after, ties_between}
 use Rattle.qvt_language_rows.proofs.Plain.{TiesInside, ties_name, ties_colon_type}
-use Rattle.qvt_language_rows.proofs.Leads.{HasLead}
 use Rattle.qvt_language_rows.proofs.Primaries.{ties_if, at_if}
 use Rattle.qvt_language_rows.proofs.Operands.{same_place, NoIf, no_if_first, no_if_more, loop_row, loop_to, loop_of_row, target_of}
 use Rattle.qvt_language_rows.proofs.Levels.{lead_to, lead_of}
@@ -113,7 +110,7 @@ module _ (n m : ℕ) {j : Inside} (h : TiesInside (nested n) j (nested m)) where
   form_to ts s (inl rd) = block_compound ts s (ties_blocks.to ts s rd)
   form_to ts s (inr (x, ((a, b, cut, cond, (v, w, e, more, last)), at), q)) =
       subst (λ z. Compound j ts z) (sym q) (loop_compound ts x.0 (post_of x.0 x.1.0 x.1.1.0) x.1.1.1 at
-        (loop_to h solid_i solid_k ts a v w x.0 x.1.0 x.1.1.0 x.1.1.1 (cut ∙ ap (λ z. a ++ z) e) at (at_if h a x.1.0 ((ties_if h).to a x.1.0 cond)) more last))
+      (loop_to h solid_i solid_k ts a v w x.0 x.1.0 x.1.1.0 x.1.1.1 (cut ∙ ap (λ z. a ++ z) e) at (at_if h a x.1.0 ((ties_if h).to a x.1.0 cond)) more last))
 
   if_to : (ts : List Tok) (s : StmtTerm) → (if_stmt (nested n)).reads ts s → Compound j ts s
   if_to ts s rd = form_to ts s (forms_of n ts s rd)
@@ -145,7 +142,8 @@ module _ (n m : ℕ) {j : Inside} (h : TiesInside (nested n) j (nested m)) where
   unfolding Simple
   value_simple ts u v place e x cut at ld rd = (
     inr (inr (inr ((place, e), (rd, at ∙ ap (head_of (λ t. t.place) nowhere) cut ∙ same_place u v [] (lead_some u x ld) ∙ ap (head_of (λ t. t.place) nowhere) (append-nil u)), refl))),
-    lead_no_if u x ld)
+    lead_no_if u x ld,
+  )
 
   assign_simple : (u v : List Tok) (e : ExprTerm) (t : TargetTerm) (sign : Tok) (value : ExprTerm) → (lead (nested n)).reads u (Plain e (Some t)) → Target j u t → (assignment (nested n)).reads v (sign, value) → Simple j (u ++ v) (AssignStmt t (is_adding sign.class) value sign.place)
   unfolding Simple
@@ -223,7 +221,7 @@ module _ (n m : ℕ) {j : Inside} (h : TiesInside (nested n) j (nested m)) where
       let w = lead_of h solid_i solid_k u e g rd in
       let here : place ≡ head_of (λ t. t.place) nowhere ts = at ∙ sym (ap (head_of (λ t. t.place) nowhere) (append-nil u)) ∙ same_place u [] v (lead_some_k u w.0 w.1) ∙ sym (ap (head_of (λ t. t.place) nowhere) cut) in
       lead_turn_of ts (simple_turn (ValueStmt e place, o)) (subst (λ z. (lead_stmt (nested m)).reads ts (simple_turn (ValueStmt z place, o))) (sym w.2)
-        (subst (λ z. (lead_stmt (nested m)).reads ts (simple_turn (ValueStmt (expr_of w.0) z, o))) (sym here) (value_lead ts u v w.0 o cut w.3 w.1 semi)))
+      (subst (λ z. (lead_stmt (nested m)).reads ts (simple_turn (ValueStmt (expr_of w.0) z, o))) (sym here) (value_lead ts u v w.0 o cut w.3 w.1 semi)))
 
   simple_of : (ts u v : List Tok) (s : StmtTerm) (o : Option Tok) → ts ≡ u ++ v → Simple j u s → semicolon.reads v o → (statement (nested m)).reads ts (simple_turn (s, o))
   unfolding Simple statement

@@ -1,6 +1,5 @@
 -- The rows with an optional name before them, and steps.
-use Rattle.std.proofs.Common.{◌≡◌, ℕ, List, [], ◌∷◌, ◌++◌, ◌⊎◌, inl, inr, refl, sym, ap, ◌∙◌, subst, Option, Some, None}
-use Rattle.qvt_grammar.specs.Language as language
+use Rattle.std.proofs.Common.{◌≡◌, ℕ, List, [], ◌∷◌, ◌++◌, inl, inr, refl, sym, ap, ◌∙◌, subst, Option, Some, None}
 use Rattle.qvt_grammar.proofs.Lists.{regroup, grouped}
 use Rattle.qvt_base.specs.declared.numbers.Place.{Place}
 use Rattle.qvt_tree_types.specs.View.{optional_expr}
@@ -11,12 +10,12 @@ use Rattle.qvt_parser_grammar.specs.Tokens.{Tok}
 use Rattle.qvt_parser_grammar.specs.declared.named.Named.{Named}
 use Rattle.qvt_parser_grammar.specs.declared.token.Class.TheVariants as class
 use Rattle.qvt_parser_grammar.specs.Leads.{Lead, Plain, Bracketed, Each}
-use Rattle.qvt_parser_grammar.specs.Trees.{second, path_of, all_of, in_of, resolve_of, result_head, named_head, no_name, named_type, accumulator_of, dot_of, arrow_of, no_args, headed, with_first, expr_of}
-use Rattle.qvt_parser_grammar.specs.Grammar.{Nested, name, more_names, path, colon_path, object_head, object, coll_type, typed, colon_type, filter_head, filter, all_form, in_form, resolve, dot_rest, dot_step, accumulator, head_rest, more_exprs, after_first, arrow_body, arrow_args, arrow_rest, step, bar_expr, expr}
-use Rattle.qvt_language_rows.specs.Phrase.{Phrase, ◌or◌, ◌gives◌, ◌then◌, the, many, maybe, after, before, between, commas, listed}
-use Rattle.qvt_language_rows.specs.Values.{named_var, result_var, object_of, name_text, filter_of, headed_body, without_head, or_no_args}
-use Rattle.qvt_language_rows.specs.Rows.{Inside, Name, Path, Extent, All, In, «Type», Exprs, Filter, Resolve, Head, Map, Step}
-use Rattle.qvt_language_rows.proofs.Ties.{Ties, ties_the, ties_then, ties_or, ties_gives, ties_many, ties_maybe, ties_placed, ties_after, ties_between, ties_commas, ties_optional, right_of, left_of}
+use Rattle.qvt_parser_grammar.specs.Trees.{path_of, all_of, in_of, resolve_of, result_head, named_head, named_type, accumulator_of, dot_of, arrow_of, no_args, headed, expr_of}
+use Rattle.qvt_parser_grammar.specs.Grammar.{Nested, name, more_names, path, colon_path, object_head, object, coll_type, typed, colon_type, filter_head, filter, all_form, in_form, resolve, dot_rest, dot_step, accumulator, head_rest, more_exprs, after_first, arrow_body, arrow_args, arrow_rest, step, expr}
+use Rattle.qvt_language_rows.specs.Phrase.{Phrase, ◌or◌, ◌gives◌, ◌then◌, the, maybe, after, before, between, listed}
+use Rattle.qvt_language_rows.specs.Values.{named_var, result_var, object_of, name_text, headed_body, without_head, or_no_args}
+use Rattle.qvt_language_rows.specs.Rows.{Inside, Name, Path, Extent, «Type», Exprs, Filter, Resolve, Head, Map, Step}
+use Rattle.qvt_language_rows.proofs.Ties.{Ties, ties_the, ties_then, ties_or, ties_gives, ties_many, ties_maybe, ties_placed, ties_after, ties_between, ties_optional, right_of, left_of}
 use Rattle.qvt_language_rows.proofs.Plain.{TiesInside, ties_name, ties_more_names, ties_path, ties_extent, ties_all, ties_in, ties_coll_type, ties_type, ties_colon_type, ties_args, ties_map, ties_bar}
 
 -- [(Name | "result") ":"] Path
@@ -64,8 +63,11 @@ module _ {i : Nested} {j : Inside} {k : Nested} (h : TiesInside i j k) where
   pub ties_object : Ties (object i) (the class.ObjectWord then maybe (before variable class.Colon) then Path then maybe Extent then j.block gives object_of) (object k)
   unfolding object
   ties_object = record {
-    to = λ ts a (x, (u, v, e, w, (v1, v2, e2, hd, (v3, v4, e4, ext, body))), q). ((x.0, (x.1.0.0, (x.1.0.1, x.1.1))),
-        (u, v, e, w, right_of (maybe (before variable class.Colon)) Path (maybe Extent then j.block) v v1 v2 x.1.0.0 x.1.0.1 x.1.1 e2 (head_to v1 x.1.0 hd) (v3, v4, e4, ties_extent.to v3 x.1.1.0 ext, h.block.to v4 x.1.1.1 body)), q);
+    to = λ ts a (x, (u, v, e, w, (v1, v2, e2, hd, (v3, v4, e4, ext, body))), q). (
+      (x.0, (x.1.0.0, (x.1.0.1, x.1.1))),
+      (u, v, e, w, right_of (maybe (before variable class.Colon)) Path (maybe Extent then j.block) v v1 v2 x.1.0.0 x.1.0.1 x.1.1 e2 (head_to v1 x.1.0 hd) (v3, v4, e4, ties_extent.to v3 x.1.1.0 ext, h.block.to v4 x.1.1.1 body)),
+      q,
+    );
     of = λ ts a (x, (u, v, e, w, rest), q). (let l = left_of (maybe (before variable class.Colon)) Path (maybe Extent then j.block) v x.1.0 x.1.1.0 x.1.1.1 rest in
         ((x.0, ((x.1.0, x.1.1.0), x.1.1.1)), (u, v, e, w, (l.0, l.1, l.2, head_of l.0 (x.1.0, x.1.1.0) l.3, (l.4.0, l.4.1, l.4.2, ties_extent.of l.4.0 x.1.1.1.0 l.4.3, h.block.of l.4.1 x.1.1.1.1 l.4.4))), q));
   }
@@ -104,9 +106,11 @@ module _ {i : Nested} {j : Inside} {k : Nested} (h : TiesInside i j k) where
   pub ties_filter : Ties (filter i) (Filter j) (filter k)
   unfolding filter Filter
   ties_filter = record {
-    to = λ ts a (x, ((u, v, e, hd, br), pl), q). (let y = filter_head_to u x.1.0 hd in
-        ((x.0, (y.0, (x.1.0.1, x.1.1))), (right_of (maybe (before Name class.Colon)) («Type» j) (maybe (after class.Bar j.expr)) ts u v y.0 x.1.0.1 x.1.1 e y.2 ((ties_maybe (ties_bar h)).to v x.1.1 br), pl),
-        q ∙ ap (λ z. from_text x.0 z x.1.0.1 x.1.1) y.1));
+    to = λ ts a (x, ((u, v, e, hd, br), pl), q). (let y = filter_head_to u x.1.0 hd in (
+      (x.0, (y.0, (x.1.0.1, x.1.1))),
+      (right_of (maybe (before Name class.Colon)) («Type» j) (maybe (after class.Bar j.expr)) ts u v y.0 x.1.0.1 x.1.1 e y.2 ((ties_maybe (ties_bar h)).to v x.1.1 br), pl),
+      q ∙ ap (λ z. from_text x.0 z x.1.0.1 x.1.1) y.1,
+    ));
     of = λ ts a (x, (rest, pl), q). (let l = left_of (maybe (before Name class.Colon)) («Type» j) (maybe (after class.Bar j.expr)) ts x.1.0 x.1.1.0 x.1.1.1 rest in
         ((x.0, ((name_text x.1.0, x.1.1.0), x.1.1.1)), ((l.0, l.1, l.2, filter_head_of l.0 x.1.0 x.1.1.0 l.3, (ties_maybe (ties_bar h)).of l.1 x.1.1.1 l.4), pl), q));
   }
@@ -133,11 +137,17 @@ module _ {i : Nested} {j : Inside} {k : Nested} (h : TiesInside i j k) where
   body_to : (ts u v : List Tok) (x : Lead) (b : HeadTerm × List ExprTerm) → ts ≡ u ++ v → i.flagged.reads u x → (after_first i x).reads v b → body_row ts b
   unfolding head_rest Head
   body_to ts u v (Plain e (Some (BareTarget text place))) b cut fl (inl (y, (v1, v2, e1, mk, (v3, v4, e2, ma, br)), q)) =
-      inl (((record { text = text; place = place }, (y.0, y.1.0)), y.1.1),
-        (u ++ (v1 ++ v3), v4, grouped ts v v4 u (v1 ++ v3) cut (grouped v v2 v4 v1 v3 e1 e2),
+      inl (
+        ((record { text = text; place = place }, (y.0, y.1.0)), y.1.1),
+        (
+          u ++ (v1 ++ v3),
+          v4,
+          grouped ts v v4 u (v1 ++ v3) cut (grouped v v2 v4 v1 v3 e1 e2),
           (u, v1 ++ v3, refl, h.bare_to u e text place fl, (v1, v3, refl, (ties_maybe (ties_colon_type h)).to v1 y.0 mk, (ties_maybe ties_accumulator).to v3 y.1.0 ma)),
-          (ties_bar h).to v4 y.1.1 br),
-        q)
+          (ties_bar h).to v4 y.1.1 br,
+        ),
+        q,
+      )
   body_to ts u v (Plain e (Some (BareTarget text place))) b cut fl (inr (es, rd, q)) = subst (λ z. body_row ts z) (sym q) (some_exprs ts u v (Plain e (Some (BareTarget text place))) es cut fl rd)
   body_to ts u v (Plain e (Some (ResultTarget place))) b cut fl (es, rd, q) = subst (λ z. body_row ts z) (sym q) (some_exprs ts u v (Plain e (Some (ResultTarget place))) es cut fl rd)
   body_to ts u v (Plain e (Some (MemberTarget o text place))) b cut fl (es, rd, q) = subst (λ z. body_row ts z) (sym q) (some_exprs ts u v (Plain e (Some (MemberTarget o text place))) es cut fl rd)
@@ -155,14 +165,17 @@ module _ {i : Nested} {j : Inside} {k : Nested} (h : TiesInside i j k) where
 
   body_of : (ts : List Tok) (b : HeadTerm × List ExprTerm) → body_row ts b → (arrow_body k).reads ts b
   unfolding arrow_body head_rest Head Exprs expr more_exprs
-  body_of ts b (inl (((n, (kind, acc)), body), (u, v, e, (a, c, e1, nm, (c1, c2, e2, mk, ma)), br), q)) =
-      ((Plain (PathExpr (path_of (n, []))) (Some (BareTarget n.text n.place)), headed n.text n.place (kind, (acc, body))),
-        (a, c ++ v, regroup ts u v a c e e1, h.bare_of a n nm, inl ((kind, (acc, body)), (c1, c2 ++ v, regroup (c ++ v) c v c1 c2 refl e2, (ties_maybe (ties_colon_type h)).of c1 kind mk, (c2, v, refl, (ties_maybe ties_accumulator).of c2 acc ma, (ties_bar h).of v body br)), refl)),
-        q)
+  body_of ts b (inl (((n, (kind, acc)), body), (u, v, e, (a, c, e1, nm, (c1, c2, e2, mk, ma)), br), q)) = (
+    (Plain (PathExpr (path_of (n, []))) (Some (BareTarget n.text n.place)), headed n.text n.place (kind, (acc, body))),
+    (a, c ++ v, regroup ts u v a c e e1, h.bare_of a n nm, inl ((kind, (acc, body)), (c1, c2 ++ v, regroup (c ++ v) c v c1 c2 refl e2, (ties_maybe (ties_colon_type h)).of c1 kind mk, (c2, v, refl, (ties_maybe ties_accumulator).of c2 acc ma, (ties_bar h).of v body br)), refl)),
+    q,
+  )
   body_of ts b (inr (all, ((one, es), (u, v, e, first_one, more), d), q)) =
-      let x = h.expr.of u one first_one in
-      ((x.0, (NoHead, expr_of x.0 ∷ es)), (u, v, e, x.1, after_exprs v x.0 es ((ties_many (ties_after class.Comma h.expr)).of v es more)),
-        q ∙ ap (λ z. without_head z) (d ∙ ap (λ z. z ∷ es) x.2))
+      let x = h.expr.of u one first_one in (
+        (x.0, (NoHead, expr_of x.0 ∷ es)),
+        (u, v, e, x.1, after_exprs v x.0 es ((ties_many (ties_after class.Comma h.expr)).of v es more)),
+        q ∙ ap (λ z. without_head z) (d ∙ ap (λ z. z ∷ es) x.2),
+      )
 
   ties_body : Ties (arrow_body i) body_row (arrow_body k)
   unfolding arrow_body

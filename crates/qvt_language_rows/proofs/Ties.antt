@@ -1,6 +1,6 @@
 -- What the parser's productions read and what the rows are, form by form: a production at one nesting (l) is within the row (p),
 -- and the row within the production at another nesting (m).
-use Rattle.std.proofs.Common.{◌≡◌, List, [], ◌∷◌, ◌++◌, ◌⊎◌, inl, inr, refl, sym, ap, ◌∙◌, subst, Option, Some, None}
+use Rattle.std.proofs.Common.{◌≡◌, List, [], ◌∷◌, ◌++◌, inl, inr, refl, sym, ap, ◌∙◌, subst, Option, Some, None}
 use Rattle.qvt_grammar.specs.Language.{Language}
 use Rattle.qvt_grammar.specs.Language as language
 use Rattle.qvt_grammar.proofs.Lists.{regroup, grouped}

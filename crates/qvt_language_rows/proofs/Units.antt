@@ -1,30 +1,29 @@
 -- The rows of units and of the module.
-use Rattle.std.proofs.Common.{◌≡◌, ℕ, zero, suc, ◌+◌, ◌≤◌, List, [], ◌∷◌, ◌++◌, Bool, true, false, ◌||◌, ◌&&◌, IsTrue, ◌⊎◌, inl, inr, refl, sym, ap, ◌∙◌, subst, append-nil, arith, eqb, eqb-true, Option, Some, None}
+use Rattle.std.proofs.Common.{◌≡◌, ℕ, zero, suc, ◌+◌, ◌≤◌, List, [], ◌∷◌, ◌++◌, Bool, true, false, ◌||◌, ◌&&◌, IsTrue, inl, inr, refl, sym, ap, ◌∙◌, subst, append-nil, arith, eqb, eqb-true, Option, Some, None}
 use Rattle.qvt_grammar.specs.Language.{Language}
 use Rattle.qvt_grammar.specs.Language as language
 use Rattle.qvt_grammar.specs.Reader.{starts}
 use Rattle.qvt_tree_types.specs.Tree.{ExprTerm, StmtTerm}
-use Rattle.qvt_tree_types.specs.Module.{TypedName, UnitTerm}
+use Rattle.qvt_tree_types.specs.Module.{UnitTerm}
 use Rattle.qvt_tree_types.specs.declared.types.PathTree.{PathTree}
 use Rattle.qvt_parser_grammar.specs.Tokens.{Tok, is, of, code_of}
 use Rattle.qvt_parser_grammar.specs.declared.token.Class.{Class}
 use Rattle.qvt_parser_grammar.specs.declared.token.Class.TheVariants as class
-use Rattle.qvt_parser_grammar.specs.Leads.{Ended}
 use Rattle.qvt_parser_grammar.specs.Trees.{second, inner, text_of, is_there}
 use Rattle.qvt_parser_grammar.specs.StmtTrees.{last_of}
 use Rattle.qvt_parser_grammar.specs.UnitTrees.{typed_name_of, param_of, class_of, main_of, return_body, helper_of, constructor_of, result_decl_of, Clauses, no_clauses, Clause, InheritsClause, MergesClause, DisjunctsClause, WhenClause, with_clause, where_there, read_words, or_same, stmts_or_none, empty_body, body_of, sections_of, open_sections_of, mapping_of, some_unit, model_type_of, model_param_of, module_of}
-use Rattle.qvt_parser_grammar.specs.Grammar.{Nested, expr}
+use Rattle.qvt_parser_grammar.specs.Grammar.{expr}
 use Rattle.qvt_parser_grammar.specs.Statements.{statements}
-use Rattle.qvt_parser_grammar.specs.Units.{param, params, feature, features, class_unit, main_unit, helper_body, helper_unit, constructor_unit, result_decl, when_clause, clause, init_part, end_part, end_unless, end_after, sections, body, fresh, clauses, mapping_unit, unit, is_strictness, strictness, uri, model_type, model_param, header, transformation}
+use Rattle.qvt_parser_grammar.specs.Units.{param, params, feature, features, class_unit, main_unit, helper_body, helper_unit, constructor_unit, result_decl, when_clause, clause, init_part, end_part, end_unless, end_after, sections, body, clauses, mapping_unit, unit, is_strictness, strictness, uri, model_type, model_param, header, transformation}
 use Rattle.qvt_parser_grammar.specs.Nesting.{nested}
 use Rattle.qvt_parser_grammar.proofs.Sets.{has}
 use Rattle.qvt_parser_grammar.proofs.GoodNesting.{good_nested}
-use Rattle.qvt_language_rows.specs.Phrase.{Phrase, ◌or◌, ◌gives◌, ◌then◌, the, many, maybe, placed, after, before, between, commas, listed, such_that}
+use Rattle.qvt_language_rows.specs.Phrase.{Phrase, ◌or◌, ◌gives◌, ◌then◌, the, many, maybe, placed, after, before, between, listed, such_that}
 use Rattle.qvt_language_rows.specs.Values.{open_sections, no_units, kind_of, IsOther, AreOnce, with_clauses, clauses_of}
 use Rattle.qvt_language_rows.specs.Rows.{Inside, Name, Path, Paths, Extent, «Type», Simple, Items}
 use Rattle.qvt_language_rows.specs.Units.{UnitPath, ModelType, ModelParam, Header, Param, Params, Extra, Body, «Unit», Module}
 use Rattle.qvt_language_rows.proofs.Ties.{Ties, ties_the, ties_then, ties_or, ties_swap, ties_gives, ties_many, ties_maybe, ties_placed, ties_after, ties_before, ties_between, ties_commas}
-use Rattle.qvt_language_rows.proofs.Plain.{TiesInside, listing, ties_listed, ties_name, ties_path, ties_paths, ties_unit_path, ties_extent, ties_colon_type}
+use Rattle.qvt_language_rows.proofs.Plain.{TiesInside, ties_listed, ties_name, ties_path, ties_paths, ties_unit_path, ties_extent, ties_colon_type}
 use Rattle.qvt_language_rows.proofs.Statements.{ended_from, statements_to, statements_of}
 
 -- the module's own rows
@@ -301,9 +300,11 @@ module _ (n m : ℕ) {j : Inside} (h : TiesInside (nested n) j (nested m)) where
   open_of : (ts : List Tok) (y : List StmtTerm × List StmtTerm) → open_row ts y → (language.made open_sections_of (language.follow (statements (nested (suc m))) (end_after (nested (suc m))))).reads ts y
   open_of ts y (x, (a, b, cut, items, (inl (last, rd, p))), q) =
       ((ended_from (x.0, last), None), (ts, [], sym (append-nil ts), statements_of n m h ts (x.0, last) (a, b, cut, items, rd), no_more last), q ∙ ap (λ z. open_sections (x.0, z)) p)
-  open_of ts y (x, (a, b, cut, items, (inr (ss, rd, p))), q) =
-      ((ended_from (x.0, None), Some ss), (a, b, cut, statements_of n m h a (x.0, None) (a, [], sym (append-nil a), items, inr (tt, refl, refl)), inl (ss, ties_end.of b ss rd, refl)),
-        q ∙ ap (λ z. open_sections (x.0, z)) p ∙ λ i. (sym (append-nil x.0) i, ss))
+  open_of ts y (x, (a, b, cut, items, (inr (ss, rd, p))), q) = (
+    (ended_from (x.0, None), Some ss),
+    (a, b, cut, statements_of n m h a (x.0, None) (a, [], sym (append-nil a), items, inr (tt, refl, refl)), inl (ss, ties_end.of b ss rd, refl)),
+    q ∙ ap (λ z. open_sections (x.0, z)) p ∙ λ i. (sym (append-nil x.0) i, ss),
+  )
 
   ties_open : Ties (language.made open_sections_of (language.follow (statements (nested n)) (end_after (nested n)))) open_row (language.made open_sections_of (language.follow (statements (nested (suc m))) (end_after (nested (suc m)))))
   ties_open = record {

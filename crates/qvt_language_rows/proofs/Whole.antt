@@ -1,16 +1,15 @@
 -- The rows at each nesting, and the law of the rows.
-use Rattle.std.proofs.Common.{◌≡◌, ℕ, zero, suc, List, [], ◌∷◌, ◌++◌, Bool, true, ◌⊎◌, inl, inr, refl, sym, ap, ◌∙◌, subst, append-nil, Option, Some, None}
+use Rattle.std.proofs.Common.{◌≡◌, ℕ, zero, suc, List, [], ◌++◌, true, inl, inr, refl, sym, subst, append-nil, Some}
 use Rattle.qvt_grammar.specs.Language.{head_of}
-use Rattle.qvt_grammar.specs.Language as language
 use Rattle.qvt_tree_types.specs.Tree.{ExprTerm, PathExpr, BareTarget}
 use Rattle.qvt_parser_grammar.specs.Tokens.{Tok}
 use Rattle.qvt_parser_grammar.specs.declared.named.Named.{Named}
 use Rattle.qvt_parser_grammar.specs.Readers.{nowhere}
-use Rattle.qvt_parser_grammar.specs.Leads.{Lead, Plain}
+use Rattle.qvt_parser_grammar.specs.Leads.{Plain}
 use Rattle.qvt_parser_grammar.specs.Trees.{path_of}
 use Rattle.qvt_parser_grammar.specs.Grammar.{Nested, more_names, bare_expr, named_expr, other_primary, primary, post, pre, expr, flagged}
 use Rattle.qvt_parser_grammar.specs.Units.{transformation, unit}
-use Rattle.qvt_parser_grammar.specs.Module.{Start, ReadsFrom, FrontFrom, FaultFrom}
+use Rattle.qvt_parser_grammar.specs.Module.{Start, ReadsFrom, FrontFrom}
 use Rattle.qvt_parser_grammar.specs.Laws.{Beginnings}
 use Rattle.qvt_parser_grammar.specs.Nesting.{nested}
 use Rattle.qvt_parser_grammar.proofs.Starts.{beginnings}
@@ -18,7 +17,7 @@ use Rattle.qvt_parser_grammar.proofs.Whole as grammar
 use Rattle.qvt_language_rows.specs.Phrase.{Phrase}
 use Rattle.qvt_language_rows.specs.Rows.{Inside, Name, Target}
 use Rattle.qvt_language_rows.specs.Units.{«Unit», Module}
-use Rattle.qvt_language_rows.specs.Language.{inside, Is, Begins, HasFault}
+use Rattle.qvt_language_rows.specs.Language.{inside, Is, Begins}
 use Rattle.qvt_language_rows.specs.Law.{AreOne}
 use Rattle.qvt_language_rows.proofs.Ties.{Ties, ties_none}
 use Rattle.qvt_language_rows.proofs.Plain.{TiesInside, ties_name, ties_type}
@@ -31,8 +30,11 @@ use Rattle.qvt_language_rows.proofs.Units.{g, ties_unit, ties_module}
 name_flagged : (k : Nested) (ts : List Tok) (a : Named) → Name ts a → (flagged k).reads ts (Plain (PathExpr (path_of (a, []))) (Some (BareTarget a.text a.place)))
 unfolding flagged pre post primary other_primary bare_expr named_expr more_names
 name_flagged k ts a rd = raise (pre k) (pre k) 8 ts (Plain (PathExpr (path_of (a, []))) (Some (BareTarget a.text a.place)))
-    (inr ((head_of (λ t. t.place) nowhere ts, ((PathExpr (path_of (a, [])), true), [])),
-      ((ts, [], sym (append-nil ts), inr (inr (PathExpr (path_of (a, [])), inr (inr (inl ((a, inr []), (ts, [], sym (append-nil ts), ties_name.of ts a rd, inr ([], refl, refl)), refl))), refl)), refl), refl), refl))
+    (inr (
+      (head_of (λ t. t.place) nowhere ts, ((PathExpr (path_of (a, [])), true), [])),
+      ((ts, [], sym (append-nil ts), inr (inr (PathExpr (path_of (a, [])), inr (inr (inl ((a, inr []), (ts, [], sym (append-nil ts), ties_name.of ts a rd, inr ([], refl, refl)), refl))), refl)), refl), refl),
+      refl,
+    ))
 
 -- a target of one name is one
 target_name : (j : Inside) (ts : List Tok) (text : List ℕ) (place : _) → Target j ts (BareTarget text place) → Name ts (record { text = text; place = place })
@@ -86,7 +88,8 @@ module _ {A : Type 0} (row : Inside → Phrase A) (start : Start A) (ties : (n :
     begun = λ ts. (front_of ts, begins_of ts);
     faulty = λ ts rest. (
       (λ f. record { before = (f.before.0, f.before.1, front_of f.before.0 f.before.2); longest = λ u s e b. f.longest u s e (begins_of u b); unread = λ a r. f.none a (is_of ts a r) }),
-      (λ f. record { before = (f.before.0, f.before.1, begins_of f.before.0 f.before.2); longest = λ u s e b. f.longest u s e (front_of u b); none = λ a r. f.unread a (reads_of ts a r) }));
+      (λ f. record { before = (f.before.0, f.before.1, begins_of f.before.0 f.before.2); longest = λ u s e b. f.longest u s e (front_of u b); none = λ a r. f.unread a (reads_of ts a r) }),
+    );
   }
 
 pub whole : AreOne Module transformation

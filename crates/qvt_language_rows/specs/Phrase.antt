@@ -1,5 +1,5 @@
 -- Phrases, by the forms of an EBNF grammar (ISO 14977): which lists of tokens a phrase is, and as which value.
-use Rattle.std.specs.Prelude.{◌≡◌, ℕ, List, [], ◌∷◌, ◌++◌, Bool, false, IsTrue, ◌⊎◌, Option, Some, None}
+use Rattle.std.specs.Prelude.{◌≡◌, List, [], ◌∷◌, ◌++◌, false, IsTrue, ◌⊎◌, Option, Some, None}
 use Rattle.qvt_base.specs.declared.numbers.Place.{Place}
 use Rattle.qvt_grammar.specs.Language.{head_of}
 use Rattle.qvt_grammar.specs.Reader.{starts}
@@ -15,7 +15,6 @@ Phrase A = List Tok → A → Type 0
 infixr 10 ◌or◌
 infixl 20 ◌gives◌
 infixr 30 ◌then◌
-
 -- no list at all
 abbrev pub nothing : {A : Type 0} → Phrase A
 nothing ts a = ⊥

@@ -148,8 +148,8 @@ module _ (inside : Inside) where
 
   unfoldable pub Compound : Phrase StmtTerm
   Compound = placed (the IfWord then between OpenRound inside.expr CloseRound then maybe (the ThenWord) then inside.block
-          then many (the ElifWord then between OpenRound inside.expr CloseRound then maybe (the ThenWord) then inside.block gives arm_of)
-          then maybe (after ElseWord inside.block) then maybe (the EndifWord)) gives block_form_of
+      then many (the ElifWord then between OpenRound inside.expr CloseRound then maybe (the ThenWord) then inside.block gives arm_of)
+      then maybe (after ElseWord inside.block) then maybe (the EndifWord)) gives block_form_of
       or placed (the WhileWord then between OpenRound inside.expr CloseRound then inside.block) gives while_of
       or placed (Post then after Arrow (the ForEachWord then the OpenRound then Name then maybe (after Colon «Type») then maybe (after Bar inside.expr) then the CloseRound then inside.block gives each_of)) gives loop_of
 

@@ -1,13 +1,11 @@
 -- The rows of the grammar, as docs/LANGUAGE.md shows them: units and the module (QVT 1.3, 8.2.1 and 8.4).
-use Rattle.std.specs.Prelude.{◌≡◌, ℕ, List, Option, IsTrue}
+use Rattle.std.specs.Prelude.{ℕ, List, IsTrue}
 use Rattle.std.proofs.Common.{inl, inr}
-use Rattle.qvt_tree_types.specs.Tree.{StmtTerm}
 use Rattle.qvt_tree_types.specs.Module.{TypedName, UnitTerm, ModuleTerm}
 use Rattle.qvt_tree_types.specs.declared.module.ModelType.{ModelType as ModelTypeTree}
 use Rattle.qvt_tree_types.specs.declared.module.ModelParam.{ModelParam as ModelParamTree}
 use Rattle.qvt_parser_grammar.specs.declared.named.UnitPath.{UnitPath as UnitPathTree}
 use Rattle.qvt_parser_grammar.specs.declared.token.Class.TheVariants.{Name as NameToken, Str as StringToken, OpenRound, CloseRound, OpenBrace, CloseBrace, Semicolon, Colon, DoubleColon, EqualSign, ClassWord, ConstructorWord, DisjunctsWord, EndWord, ExtendsWord, HelperWord, InWord, InheritsWord, InitWord, InoutWord, IntermediateWord, MainWord, MappingWord, MergesWord, ModelTypeWord, OutWord, PopulationWord, QueryWord, TransformationWord, UsesWord, WhenWord}
-use Rattle.qvt_parser_grammar.specs.Tokens.{Tok}
 use Rattle.qvt_parser_grammar.specs.Trees.{inner, second, text_of, unit_path_of}
 use Rattle.qvt_parser_grammar.specs.Units.{is_strictness}
 use Rattle.qvt_parser_grammar.specs.UnitTrees.{typed_name_of, param_of, class_of, main_of, return_body, helper_of, constructor_of, result_decl_of, Clause, InheritsClause, MergesClause, DisjunctsClause, WhenClause, Body as BodyParts, empty_body, body_of, sections_of, mapping_of, some_unit, model_type_of, model_param_of, module_of}
@@ -53,13 +51,13 @@ module _ (inside : Inside) where
   -- each kind of Extra comes at most once
   unfoldable pub «Unit» : Phrase UnitTerm
   «Unit» = placed (after IntermediateWord (after ClassWord (Name then maybe (after ExtendsWord Paths) then
-          (the OpenBrace then many (before (Name then after Colon («Type» inside) gives typed_name_of) Semicolon) then the CloseBrace gives inner)))) gives class_of
+      (the OpenBrace then many (before (Name then after Colon («Type» inside) gives typed_name_of) Semicolon) then the CloseBrace gives inner)))) gives class_of
       or placed (after MainWord (after OpenRound (after CloseRound inside.block))) gives main_of
       or (the HelperWord or the QueryWord) then UnitPath then listed OpenRound Params CloseRound then maybe (after Colon («Type» inside)) then
-          (inside.block or before (the EqualSign then inside.expr) Semicolon gives return_body) gives helper_of
+      (inside.block or before (the EqualSign then inside.expr) Semicolon gives return_body) gives helper_of
       or after ConstructorWord (UnitPath then listed OpenRound Params CloseRound then inside.block) gives constructor_of
       or after MappingWord (UnitPath then listed OpenRound Params CloseRound then maybe (after Colon (Path then maybe Extent gives result_decl_of)) then
-          (such_that AreOnce (many Extra) gives clauses_of) then (Body or the Semicolon gives empty_body)) gives mapping_of
+      (such_that AreOnce (many Extra) gives clauses_of) then (Body or the Semicolon gives empty_body)) gives mapping_of
 
   unfoldable pub Module : Phrase ModuleTerm
   Module = many ModelType then Header then many («Unit» gives some_unit or the Semicolon gives no_units) gives module_of
