@@ -8,3 +8,4 @@ pub mod Levels
 pub mod Statements
 pub mod Units
 pub mod Whole
+pub mod Answers

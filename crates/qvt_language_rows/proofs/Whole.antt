@@ -87,8 +87,8 @@ module _ {A : Type 0} (row : Inside → Phrase A) (start : Start A) (ties : (n :
     read = λ ts a. (reads_of ts a, is_of ts a);
     begun = λ ts. (front_of ts, begins_of ts);
     faulty = λ ts rest. (
-      (λ f. record { before = (f.before.0, f.before.1, front_of f.before.0 f.before.2); longest = λ u s e b. f.longest u s e (begins_of u b); unread = λ a r. f.none a (is_of ts a r) }),
-      (λ f. record { before = (f.before.0, f.before.1, begins_of f.before.0 f.before.2); longest = λ u s e b. f.longest u s e (front_of u b); none = λ a r. f.unread a (reads_of ts a r) }),
+      (λ f. record { before = (f.before.0, f.before.1, front_of f.before.0 f.before.2); longest = λ u s e b. f.longest u s e (begins_of u b); unread = λ a r. f.unread a (is_of ts a r) }),
+      (λ f. record { before = (f.before.0, f.before.1, begins_of f.before.0 f.before.2); longest = λ u s e b. f.longest u s e (front_of u b); unread = λ a r. f.unread a (reads_of ts a r) }),
     );
   }
 
