@@ -9,3 +9,5 @@ pub mod Statements
 pub mod Units
 pub mod Whole
 pub mod Answers
+pub mod Every
+pub mod Alike
