@@ -3,14 +3,14 @@ use Rattle.std.proofs.Common.{◌≡◌, List, [], ◌∷◌, ◌++◌, map, IsT
 use Rattle.qvt_grammar.specs.Language.{head_of}
 use Rattle.qvt_grammar.specs.Reader.{starts}
 use Rattle.qvt_base.specs.declared.numbers.Place.{Place}
-use Rattle.qvt_parser_grammar.specs.Tokens.{Tok, is, code_of}
-use Rattle.qvt_parser_grammar.specs.Same.{unplaced, SameTokens}
-use Rattle.qvt_parser_grammar.specs.Readers.{nowhere}
-use Rattle.qvt_parser_grammar.specs.Units.{is_strictness}
+use Rattle.qvt_language.specs.Tokens.{Tok, is, code_of}
+use Rattle.qvt_language.specs.Same.{unplaced, SameTokens}
+use Rattle.qvt_language.specs.Readers.{nowhere}
+use Rattle.qvt_language.specs.Units.{is_strictness}
 use Rattle.qvt_tree_types.specs.Module.{UnitTerm, ModuleTerm}
-use Rattle.qvt_parser_grammar.specs.UnitTrees.{Clause, InheritsClause, MergesClause, DisjunctsClause, WhenClause}
-use Rattle.qvt_parser_grammar.specs.declared.token.Class.{Class}
-use Rattle.qvt_parser_grammar.specs.declared.token.Class.TheVariants as class
+use Rattle.qvt_language.specs.UnitTrees.{Clause, InheritsClause, MergesClause, DisjunctsClause, WhenClause}
+use Rattle.qvt_language.specs.declared.class.Class.{Class}
+use Rattle.qvt_language.specs.declared.class.Class.TheVariants as class
 use Rattle.qvt_language_rows.specs.Phrase.{Phrase, ◌or◌, ◌gives◌, ◌then◌, the, many, placed, barring, such_that}
 use Rattle.qvt_language_rows.specs.Values.{kind_of, IsOther, AreOnce}
 use Rattle.qvt_language_rows.specs.Rows.{Inside}

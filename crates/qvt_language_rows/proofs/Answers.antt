@@ -2,12 +2,12 @@
 use Rattle.std.proofs.Common.{◌≡◌, ℕ, ◌≤◌, List, length, true, false, Ok, Err}
 use Rattle.qvt_grammar.specs.Reader.{At}
 use Rattle.qvt_tree_types.specs.Module.{ModuleTerm}
-use Rattle.qvt_parser_grammar.specs.Tokens.{Tok}
-use Rattle.qvt_parser_grammar.specs.Gives.{is_nil}
-use Rattle.qvt_parser_grammar.specs.Nesting.{nested_at}
-use Rattle.qvt_parser_grammar.specs.ReadingUnits.{transformation_at}
-use Rattle.qvt_parser_grammar.specs.Module as grammar
-use Rattle.qvt_parser_grammar.proofs.Whole as productions
+use Rattle.qvt_language.specs.Tokens.{Tok}
+use Rattle.qvt_language.specs.Tokens.{is_nil}
+use Rattle.qvt_language.specs.Nesting.{nested_at}
+use Rattle.qvt_language.specs.ReadingUnits.{transformation_at}
+use Rattle.qvt_language.specs.Module as grammar
+use Rattle.qvt_language.proofs.Whole as productions
 use Rattle.qvt_language_rows.specs.Language.{Reads, IsFront, IsFault}
 use Rattle.qvt_language_rows.proofs.Whole.{whole}
 

@@ -5,14 +5,14 @@ use Rattle.qvt_tree_types.specs.Module.{UnitTerm, ModuleTerm}
 use Rattle.qvt_tree_types.specs.declared.words.Level.{Level}
 use Rattle.qvt_tree_types.specs.declared.words.Level.TheVariants as levels
 use Rattle.qvt_base.specs.declared.numbers.Place.{Place}
-use Rattle.qvt_parser_grammar.specs.Tokens.{Tok}
-use Rattle.qvt_parser_grammar.specs.declared.token.Class.{Class}
-use Rattle.qvt_parser_grammar.specs.declared.token.Class.TheVariants as class
-use Rattle.qvt_parser_grammar.specs.Trees.{first, second, inner, cons_of, named_of, path_of, unit_path_of, text_of, coll_type_of, int_of, str_of, true_of, false_of, null_of, self_of, result_of, coll_of, range_of, item_of, if_of, new_of, map_of, all_of, in_of, resolve_of, dot_of, arrow_of, accumulator_of, not_of, minus_of, each_of}
-use Rattle.qvt_parser_grammar.specs.StmtTrees.{var_of, return_of, arm_of, while_of, concat}
-use Rattle.qvt_parser_grammar.specs.Conditionals.{block_form_of}
-use Rattle.qvt_parser_grammar.specs.Units.{is_strictness}
-use Rattle.qvt_parser_grammar.specs.UnitTrees.{typed_name_of, param_of, class_of, main_of, return_body, helper_of, constructor_of, result_decl_of, Clause, InheritsClause, MergesClause, DisjunctsClause, WhenClause, empty_body, body_of, sections_of, mapping_of, some_unit, model_type_of, model_param_of, module_of}
+use Rattle.qvt_language.specs.Tokens.{Tok}
+use Rattle.qvt_language.specs.declared.class.Class.{Class}
+use Rattle.qvt_language.specs.declared.class.Class.TheVariants as class
+use Rattle.qvt_language.specs.Trees.{first, second, inner, cons_of, named_of, path_of, unit_path_of, text_of, coll_type_of, int_of, str_of, true_of, false_of, null_of, self_of, result_of, coll_of, range_of, item_of, if_of, new_of, map_of, all_of, in_of, resolve_of, dot_of, arrow_of, accumulator_of, not_of, minus_of, each_of}
+use Rattle.qvt_language.specs.StmtTrees.{var_of, return_of, arm_of, while_of, concat}
+use Rattle.qvt_language.specs.Conditionals.{block_form_of}
+use Rattle.qvt_language.specs.Units.{is_strictness}
+use Rattle.qvt_language.specs.UnitTrees.{typed_name_of, param_of, class_of, main_of, return_body, helper_of, constructor_of, result_decl_of, Clause, InheritsClause, MergesClause, DisjunctsClause, WhenClause, empty_body, body_of, sections_of, mapping_of, some_unit, model_type_of, model_param_of, module_of}
 use Rattle.qvt_language_rows.specs.Phrase.{Phrase, ◌or◌, ◌gives◌, ◌then◌, nothing, no_tokens, the, many, maybe, placed, after, before, between, commas, or_none, listed, barring, such_that}
 use Rattle.qvt_language_rows.specs.Values.{call_of, named_var, result_var, object_of, filter_of, headed_body, without_head, or_no_args, stepped_of, signed_of, linked, chained, named_target, result_target, feature_target, assign_of, value_of, loop_of, no_stmts, single, with_last, open_sections, no_units, AreOnce, clauses_of}
 use Rattle.qvt_language_rows.specs.Rows.{Inside, Name, Path, Paths, Extent, Kind, All, In, chain, «Type», Exprs, Item, Filter, Resolve, Head, Map, Step, Primary, Post, Pre, Mul, Add, Rel, Eq, And, Or, Xor, Expr, Target, Simple, Compound, Items, Block}

@@ -6,12 +6,12 @@ use Rattle.qvt_grammar.specs.Language as language
 use Rattle.qvt_tree_types.specs.Tree.{ExprTerm, ChainExpr, LinkTerm, LinkOf, TargetTerm}
 use Rattle.qvt_tree_types.specs.View.{links_of}
 use Rattle.qvt_tree_types.specs.declared.words.Level.{Level}
-use Rattle.qvt_parser_grammar.specs.Tokens.{Tok}
-use Rattle.qvt_parser_grammar.specs.Readers.{nowhere}
-use Rattle.qvt_parser_grammar.specs.Leads.{Lead, Plain, Bracketed, Each, EachPart}
-use Rattle.qvt_parser_grammar.specs.Trees.{expr_of, chain_of, binary_op}
-use Rattle.qvt_parser_grammar.specs.StmtTrees.{IsPlain}
-use Rattle.qvt_parser_grammar.specs.Grammar.{level_of, operator, link, links, chain as chain_production}
+use Rattle.qvt_language.specs.Tokens.{Tok}
+use Rattle.qvt_language.specs.Readers.{nowhere}
+use Rattle.qvt_language.specs.Leads.{Lead, Plain, Bracketed, Each, EachPart}
+use Rattle.qvt_language.specs.Trees.{expr_of, chain_of, binary_op}
+use Rattle.qvt_language.specs.StmtTrees.{IsPlain}
+use Rattle.qvt_language.specs.Grammar.{level_of, operator, link, links, chain as chain_production}
 use Rattle.qvt_language_rows.specs.Phrase.{Phrase, ◌gives◌, ◌then◌, nothing, many}
 use Rattle.qvt_language_rows.specs.Values.{linked, chained}
 use Rattle.qvt_language_rows.specs.Rows.{chain}

@@ -3,10 +3,10 @@ use Rattle.std.proofs.Common.{List, [], ◌++◌, Bool, sym, subst}
 use Rattle.qvt_grammar.specs.Language.{Language}
 use Rattle.qvt_grammar.specs.Language as language
 use Rattle.qvt_tree_types.specs.Tree.{ExprTerm, TargetTerm}
-use Rattle.qvt_parser_grammar.specs.Tokens.{Tok}
-use Rattle.qvt_parser_grammar.specs.Leads.{Lead, EachPart}
-use Rattle.qvt_parser_grammar.specs.Trees.{expr_of}
-use Rattle.qvt_parser_grammar.specs.Grammar.{Nested, primary, pre, lead_pre, flagged, lead, chain as chain_production}
+use Rattle.qvt_language.specs.Tokens.{Tok}
+use Rattle.qvt_language.specs.Leads.{Lead, EachPart}
+use Rattle.qvt_language.specs.Trees.{expr_of}
+use Rattle.qvt_language.specs.Grammar.{Nested, primary, pre, lead_pre, flagged, lead, chain as chain_production}
 use Rattle.qvt_language_rows.specs.Phrase.{Phrase, nothing}
 use Rattle.qvt_language_rows.specs.Rows.{Inside, Pre, Mul, Add, Rel, Eq, And, Or, Xor, Expr, Target}
 use Rattle.qvt_language_rows.proofs.Ties.{Ties}

@@ -8,15 +8,15 @@ use Rattle.qvt_grammar.proofs.Lists.{grouped}
 use Rattle.qvt_tree_types.specs.Tree.{ExprTerm, PathExpr, ResultExpr, StepTerm, DotStep, ArrowStep, DotMapStep, ArrowMapStep, DotResolveStep, ArrowResolveStep, NoArgs, SomeArgs, TargetTerm, MemberTarget}
 use Rattle.qvt_tree_types.specs.View.{optional_args}
 use Rattle.qvt_tree_types.specs.declared.words.Sign.{Sign}
-use Rattle.qvt_parser_grammar.specs.Tokens.{Tok, is}
-use Rattle.qvt_parser_grammar.specs.declared.named.Named.{Named}
-use Rattle.qvt_parser_grammar.specs.declared.token.Class.TheVariants as class
-use Rattle.qvt_parser_grammar.specs.Readers.{nowhere}
-use Rattle.qvt_parser_grammar.specs.Series.{left, finished}
-use Rattle.qvt_parser_grammar.specs.Leads.{Lead, Plain, Each, EachPart}
-use Rattle.qvt_parser_grammar.specs.StmtTrees.{IsPlain}
-use Rattle.qvt_parser_grammar.specs.Trees.{path_of, expr_of, bare_target, post_of, split_last, member_of, post_lead, signed, prefix_lead, each_of}
-use Rattle.qvt_parser_grammar.specs.Grammar.{Nested, if_expr, primary, other_primary, bare_expr, word, named_expr, more_names, step, dot_step, arrow_rest, post, signs, more_signs, signed_post, pre, each_tail, lead_step, lead_post, lead_pre, lead}
+use Rattle.qvt_language.specs.Tokens.{Tok, is}
+use Rattle.qvt_language.specs.declared.named.Named.{Named}
+use Rattle.qvt_language.specs.declared.class.Class.TheVariants as class
+use Rattle.qvt_language.specs.Readers.{nowhere}
+use Rattle.qvt_language.specs.Series.{left, finished}
+use Rattle.qvt_language.specs.Leads.{Lead, Plain, Each, EachPart}
+use Rattle.qvt_language.specs.StmtTrees.{IsPlain}
+use Rattle.qvt_language.specs.Trees.{path_of, expr_of, bare_target, post_of, split_last, member_of, post_lead, signed, prefix_lead, each_of}
+use Rattle.qvt_language.specs.Grammar.{Nested, if_expr, primary, other_primary, bare_expr, word, named_expr, more_names, step, dot_step, arrow_rest, post, signs, more_signs, signed_post, pre, each_tail, lead_step, lead_post, lead_pre, lead}
 use Rattle.qvt_language_rows.specs.Phrase.{Phrase, ◌gives◌, ◌then◌, nothing, the, many, maybe, after}
 use Rattle.qvt_language_rows.specs.Rows.{Inside, Name, «Type», Primary, Step, Post, Pre, Target}
 use Rattle.qvt_language_rows.proofs.Ties.{Ties, ties_the, ties_then, ties_gives, ties_maybe, turns_to, turns_of}

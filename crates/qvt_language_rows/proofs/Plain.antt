@@ -3,14 +3,14 @@ use Rattle.std.proofs.Common.{ℕ, List, [], refl, Some}
 use Rattle.qvt_grammar.specs.Language.{Language}
 use Rattle.qvt_grammar.specs.Language as language
 use Rattle.qvt_tree_types.specs.Tree.{ExprTerm, PathType, BareTarget, PathExpr}
-use Rattle.qvt_parser_grammar.specs.Tokens.{Tok}
-use Rattle.qvt_parser_grammar.specs.declared.named.Named.{Named}
-use Rattle.qvt_parser_grammar.specs.declared.token.Class.{Class}
-use Rattle.qvt_parser_grammar.specs.declared.token.Class.TheVariants as class
-use Rattle.qvt_parser_grammar.specs.Readers as readers
-use Rattle.qvt_parser_grammar.specs.Leads.{Plain}
-use Rattle.qvt_parser_grammar.specs.Trees.{first, second, named_of, path_of, unit_path_of, text_of, coll_type_of, nothing, coll_of, range_of, item_of, map_of, not_of, minus_of}
-use Rattle.qvt_parser_grammar.specs.Grammar.{Nested, name, more_names, path, paths, unit_path, extent, kind_word, coll_type, typed, colon_type, expr, exprs, args, item, coll, map_call, bar_expr, all_word, in_word, sign}
+use Rattle.qvt_language.specs.Tokens.{Tok}
+use Rattle.qvt_language.specs.declared.named.Named.{Named}
+use Rattle.qvt_language.specs.declared.class.Class.{Class}
+use Rattle.qvt_language.specs.declared.class.Class.TheVariants as class
+use Rattle.qvt_language.specs.Readers as readers
+use Rattle.qvt_language.specs.Leads.{Plain}
+use Rattle.qvt_language.specs.Trees.{first, second, named_of, path_of, unit_path_of, text_of, coll_type_of, nothing, coll_of, range_of, item_of, map_of, not_of, minus_of}
+use Rattle.qvt_language.specs.Grammar.{Nested, name, more_names, path, paths, unit_path, extent, kind_word, coll_type, typed, colon_type, expr, exprs, args, item, coll, map_call, bar_expr, all_word, in_word, sign}
 use Rattle.qvt_language_rows.specs.Phrase.{Phrase, ◌or◌, ◌gives◌, ◌then◌, the, many, maybe, after, between, commas, or_none, listed}
 use Rattle.qvt_language_rows.specs.Rows.{Inside, Name, Path, Paths, Extent, Kind, All, In, «Type», Exprs, Item, Map}
 use Rattle.qvt_language_rows.specs.Units.{UnitPath}

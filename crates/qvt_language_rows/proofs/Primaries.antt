@@ -3,11 +3,11 @@ use Rattle.std.proofs.Common.{◌≡◌, List, [], ◌∷◌, ◌++◌, Bool, tr
 use Rattle.qvt_grammar.specs.Reader.{starts}
 use Rattle.qvt_tree_types.specs.View.{exprs_of}
 use Rattle.qvt_tree_types.specs.Tree.{ExprTerm, PathExpr, CallExpr, TargetTerm, BareTarget, ResultTarget}
-use Rattle.qvt_parser_grammar.specs.Tokens.{Tok, is}
-use Rattle.qvt_parser_grammar.specs.declared.named.Named.{Named}
-use Rattle.qvt_parser_grammar.specs.declared.token.Class.TheVariants as class
-use Rattle.qvt_parser_grammar.specs.Trees.{path_of, named_expr_of, bare_target, if_of, new_of}
-use Rattle.qvt_parser_grammar.specs.Grammar.{Nested, name, more_names, path, literal, word, named_expr, coll, object, new_expr, if_expr, longer, brackets, bare_expr, other_primary, primary}
+use Rattle.qvt_language.specs.Tokens.{Tok, is}
+use Rattle.qvt_language.specs.declared.named.Named.{Named}
+use Rattle.qvt_language.specs.declared.class.Class.TheVariants as class
+use Rattle.qvt_language.specs.Trees.{path_of, named_expr_of, bare_target, if_of, new_of}
+use Rattle.qvt_language.specs.Grammar.{Nested, name, more_names, path, literal, word, named_expr, coll, object, new_expr, if_expr, longer, brackets, bare_expr, other_primary, primary}
 use Rattle.qvt_language_rows.specs.Phrase.{◌gives◌, ◌then◌, the, maybe, placed, after, between, listed}
 use Rattle.qvt_language_rows.specs.Rows.{Inside, Name, Path, Extent, Exprs, Primary, Target}
 use Rattle.qvt_language_rows.proofs.Ties.{Ties, ties_the, ties_then, ties_gives, ties_placed, ties_after, ties_between}

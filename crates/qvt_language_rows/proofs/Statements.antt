@@ -6,24 +6,24 @@ use Rattle.qvt_grammar.specs.Language as language
 use Rattle.qvt_grammar.proofs.Firsts.{Firsts}
 use Rattle.qvt_grammar.proofs.Lists.{regroup, grouped}
 use Rattle.qvt_tree_types.specs.Tree.{ExprTerm, StmtTerm, ValueStmt, AssignStmt, TargetTerm}
-use Rattle.qvt_parser_grammar.specs.Tokens.{Tok, is, of, code_of}
-use Rattle.qvt_parser_grammar.specs.declared.token.Class.TheVariants as class
-use Rattle.qvt_parser_grammar.specs.Firsts.{primary_first}
-use Rattle.qvt_parser_grammar.specs.Readers.{nowhere}
-use Rattle.qvt_parser_grammar.specs.Series.{left, right}
-use Rattle.qvt_parser_grammar.specs.Leads.{Lead, Plain, Bracketed, Each, EachPart, Ended}
-use Rattle.qvt_parser_grammar.specs.Trees.{is_there, expr_of, post_of}
-use Rattle.qvt_parser_grammar.specs.StmtTrees.{IsPlain, var_of, return_of, arm_of, while_of, for_each_of, Turn, simple_turn, is_adding, written, Tail, lead_turn, concat, last_of}
-use Rattle.qvt_parser_grammar.specs.Conditionals.{block_form_of, block_form, if_forms}
-use Rattle.qvt_parser_grammar.specs.Grammar.{primary, lead}
-use Rattle.qvt_parser_grammar.specs.Statements.{condition, var_stmt, return_stmt, arm, else_part, branches, if_stmt, while_stmt, assignment, semicolon, lead_tail, lead_stmt, statement, statements, block}
-use Rattle.qvt_parser_grammar.specs.Nesting.{nested}
-use Rattle.qvt_parser_grammar.proofs.Sets.{none_in, apart}
-use Rattle.qvt_parser_grammar.proofs.GoodExprs.{good_primary}
-use Rattle.qvt_parser_grammar.proofs.GoodStmts.{good_var_stmt, good_return_stmt}
-use Rattle.qvt_parser_grammar.proofs.GoodBlocks.{goodv_lead, goodv_statement}
-use Rattle.qvt_parser_grammar.proofs.GoodNesting.{good_same, good_nested}
-use Rattle.qvt_parser_grammar.proofs.Conditionals.{forms_of, stmt_of}
+use Rattle.qvt_language.specs.Tokens.{Tok, is, of, code_of}
+use Rattle.qvt_language.specs.declared.class.Class.TheVariants as class
+use Rattle.qvt_language.specs.Firsts.{primary_first}
+use Rattle.qvt_language.specs.Readers.{nowhere}
+use Rattle.qvt_language.specs.Series.{left, right}
+use Rattle.qvt_language.specs.Leads.{Lead, Plain, Bracketed, Each, EachPart, Ended}
+use Rattle.qvt_language.specs.Trees.{is_there, expr_of, post_of}
+use Rattle.qvt_language.specs.StmtTrees.{IsPlain, var_of, return_of, arm_of, while_of, for_each_of, Turn, simple_turn, is_adding, written, Tail, lead_turn, concat, last_of}
+use Rattle.qvt_language.specs.Conditionals.{block_form_of, block_form, if_forms}
+use Rattle.qvt_language.specs.Grammar.{primary, lead}
+use Rattle.qvt_language.specs.Statements.{condition, var_stmt, return_stmt, arm, else_part, branches, if_stmt, while_stmt, assignment, semicolon, lead_tail, lead_stmt, statement, statements, block}
+use Rattle.qvt_language.specs.Nesting.{nested}
+use Rattle.qvt_language.proofs.Sets.{none_in, apart}
+use Rattle.qvt_language.proofs.GoodExprs.{good_primary}
+use Rattle.qvt_language.proofs.GoodStmts.{good_var_stmt, good_return_stmt}
+use Rattle.qvt_language.proofs.GoodBlocks.{goodv_lead, goodv_statement}
+use Rattle.qvt_language.proofs.GoodNesting.{good_same, good_nested}
+use Rattle.qvt_language.proofs.Conditionals.{forms_of, stmt_of}
 use Rattle.qvt_language_rows.specs.Phrase.{Phrase, ◌or◌, ◌gives◌, ◌then◌, the, many, maybe, placed, after, before, between}
 use Rattle.qvt_language_rows.specs.Values.{no_stmts, single, with_last}
 use Rattle.qvt_language_rows.specs.Rows.{Inside, Name, «Type», Expr, Target, Simple, Compound, Items, Block}

@@ -6,12 +6,12 @@ use Rattle.qvt_tree_types.specs.View.{optional_expr}
 use Rattle.qvt_tree_types.specs.Tree.{FilterTerm, FilterOf, TypeTerm, PathType, ExprTerm, StepTerm, DotMapStep, DotResolveStep, ArrowMapStep, ArrowResolveStep, PathExpr, BareTarget, ResultTarget, MemberTarget, HeadTerm, NoHead}
 use Rattle.qvt_tree_types.specs.declared.types.PathTree.{PathTree}
 use Rattle.qvt_tree_types.specs.declared.types.ObjectVar.{ObjectVar}
-use Rattle.qvt_parser_grammar.specs.Tokens.{Tok}
-use Rattle.qvt_parser_grammar.specs.declared.named.Named.{Named}
-use Rattle.qvt_parser_grammar.specs.declared.token.Class.TheVariants as class
-use Rattle.qvt_parser_grammar.specs.Leads.{Lead, Plain, Bracketed, Each}
-use Rattle.qvt_parser_grammar.specs.Trees.{path_of, all_of, in_of, resolve_of, result_head, named_head, named_type, accumulator_of, dot_of, arrow_of, no_args, headed, expr_of}
-use Rattle.qvt_parser_grammar.specs.Grammar.{Nested, name, more_names, path, colon_path, object_head, object, coll_type, typed, colon_type, filter_head, filter, all_form, in_form, resolve, dot_rest, dot_step, accumulator, head_rest, more_exprs, after_first, arrow_body, arrow_args, arrow_rest, step, expr}
+use Rattle.qvt_language.specs.Tokens.{Tok}
+use Rattle.qvt_language.specs.declared.named.Named.{Named}
+use Rattle.qvt_language.specs.declared.class.Class.TheVariants as class
+use Rattle.qvt_language.specs.Leads.{Lead, Plain, Bracketed, Each}
+use Rattle.qvt_language.specs.Trees.{path_of, all_of, in_of, resolve_of, result_head, named_head, named_type, accumulator_of, dot_of, arrow_of, no_args, headed, expr_of}
+use Rattle.qvt_language.specs.Grammar.{Nested, name, more_names, path, colon_path, object_head, object, coll_type, typed, colon_type, filter_head, filter, all_form, in_form, resolve, dot_rest, dot_step, accumulator, head_rest, more_exprs, after_first, arrow_body, arrow_args, arrow_rest, step, expr}
 use Rattle.qvt_language_rows.specs.Phrase.{Phrase, ◌or◌, ◌gives◌, ◌then◌, the, maybe, after, before, between, listed}
 use Rattle.qvt_language_rows.specs.Values.{named_var, result_var, object_of, name_text, headed_body, without_head, or_no_args}
 use Rattle.qvt_language_rows.specs.Rows.{Inside, Name, Path, Extent, «Type», Exprs, Filter, Resolve, Head, Map, Step}

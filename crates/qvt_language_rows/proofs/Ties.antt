@@ -4,11 +4,11 @@ use Rattle.std.proofs.Common.{◌≡◌, List, [], ◌∷◌, ◌++◌, inl, inr
 use Rattle.qvt_grammar.specs.Language.{Language}
 use Rattle.qvt_grammar.specs.Language as language
 use Rattle.qvt_grammar.proofs.Lists.{regroup, grouped}
-use Rattle.qvt_parser_grammar.specs.Tokens.{Tok}
-use Rattle.qvt_parser_grammar.specs.declared.token.Class.{Class}
-use Rattle.qvt_parser_grammar.specs.declared.token.Class.TheVariants.{Comma}
-use Rattle.qvt_parser_grammar.specs.Readers as readers
-use Rattle.qvt_parser_grammar.specs.Trees.{first, second, inner, cons_of}
+use Rattle.qvt_language.specs.Tokens.{Tok}
+use Rattle.qvt_language.specs.declared.class.Class.{Class}
+use Rattle.qvt_language.specs.declared.class.Class.TheVariants.{Comma}
+use Rattle.qvt_language.specs.Readers as readers
+use Rattle.qvt_language.specs.Trees.{first, second, inner, cons_of}
 use Rattle.qvt_language_rows.specs.Phrase.{Phrase, ◌or◌, ◌gives◌, ◌then◌, nothing, the, many, maybe, placed, after, before, between, commas}
 
 pub record Ties {A : Type 0} (l : Language Tok A) (p : Phrase A) (m : Language Tok A) : Type 0 where

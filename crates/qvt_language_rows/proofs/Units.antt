@@ -6,18 +6,18 @@ use Rattle.qvt_grammar.specs.Reader.{starts}
 use Rattle.qvt_tree_types.specs.Tree.{ExprTerm, StmtTerm}
 use Rattle.qvt_tree_types.specs.Module.{UnitTerm}
 use Rattle.qvt_tree_types.specs.declared.types.PathTree.{PathTree}
-use Rattle.qvt_parser_grammar.specs.Tokens.{Tok, is, of, code_of}
-use Rattle.qvt_parser_grammar.specs.declared.token.Class.{Class}
-use Rattle.qvt_parser_grammar.specs.declared.token.Class.TheVariants as class
-use Rattle.qvt_parser_grammar.specs.Trees.{second, inner, text_of, is_there}
-use Rattle.qvt_parser_grammar.specs.StmtTrees.{last_of}
-use Rattle.qvt_parser_grammar.specs.UnitTrees.{typed_name_of, param_of, class_of, main_of, return_body, helper_of, constructor_of, result_decl_of, Clauses, no_clauses, Clause, InheritsClause, MergesClause, DisjunctsClause, WhenClause, with_clause, where_there, read_words, or_same, stmts_or_none, empty_body, body_of, sections_of, open_sections_of, mapping_of, some_unit, model_type_of, model_param_of, module_of}
-use Rattle.qvt_parser_grammar.specs.Grammar.{expr}
-use Rattle.qvt_parser_grammar.specs.Statements.{statements}
-use Rattle.qvt_parser_grammar.specs.Units.{param, params, feature, features, class_unit, main_unit, helper_body, helper_unit, constructor_unit, result_decl, when_clause, clause, init_part, end_part, end_unless, end_after, sections, body, clauses, mapping_unit, unit, is_strictness, strictness, uri, model_type, model_param, header, transformation}
-use Rattle.qvt_parser_grammar.specs.Nesting.{nested}
-use Rattle.qvt_parser_grammar.proofs.Sets.{has}
-use Rattle.qvt_parser_grammar.proofs.GoodNesting.{good_nested}
+use Rattle.qvt_language.specs.Tokens.{Tok, is, of, code_of}
+use Rattle.qvt_language.specs.declared.class.Class.{Class}
+use Rattle.qvt_language.specs.declared.class.Class.TheVariants as class
+use Rattle.qvt_language.specs.Trees.{second, inner, text_of, is_there}
+use Rattle.qvt_language.specs.StmtTrees.{last_of}
+use Rattle.qvt_language.specs.UnitTrees.{typed_name_of, param_of, class_of, main_of, return_body, helper_of, constructor_of, result_decl_of, Clauses, no_clauses, Clause, InheritsClause, MergesClause, DisjunctsClause, WhenClause, with_clause, where_there, read_words, or_same, stmts_or_none, empty_body, body_of, sections_of, open_sections_of, mapping_of, some_unit, model_type_of, model_param_of, module_of}
+use Rattle.qvt_language.specs.Grammar.{expr}
+use Rattle.qvt_language.specs.Statements.{statements}
+use Rattle.qvt_language.specs.Units.{param, params, feature, features, class_unit, main_unit, helper_body, helper_unit, constructor_unit, result_decl, when_clause, clause, init_part, end_part, end_unless, end_after, sections, body, clauses, mapping_unit, unit, is_strictness, strictness, uri, model_type, model_param, header, transformation}
+use Rattle.qvt_language.specs.Nesting.{nested}
+use Rattle.qvt_language.proofs.Sets.{has}
+use Rattle.qvt_language.proofs.GoodNesting.{good_nested}
 use Rattle.qvt_language_rows.specs.Phrase.{Phrase, ◌or◌, ◌gives◌, ◌then◌, the, many, maybe, placed, after, before, between, listed, such_that}
 use Rattle.qvt_language_rows.specs.Values.{open_sections, no_units, kind_of, IsOther, AreOnce, with_clauses, clauses_of}
 use Rattle.qvt_language_rows.specs.Rows.{Inside, Name, Path, Paths, Extent, «Type», Simple, Items}

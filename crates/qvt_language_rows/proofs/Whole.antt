@@ -2,18 +2,18 @@
 use Rattle.std.proofs.Common.{◌≡◌, ℕ, zero, suc, List, [], ◌++◌, true, inl, inr, refl, sym, subst, append-nil, Some}
 use Rattle.qvt_grammar.specs.Language.{head_of}
 use Rattle.qvt_tree_types.specs.Tree.{ExprTerm, PathExpr, BareTarget}
-use Rattle.qvt_parser_grammar.specs.Tokens.{Tok}
-use Rattle.qvt_parser_grammar.specs.declared.named.Named.{Named}
-use Rattle.qvt_parser_grammar.specs.Readers.{nowhere}
-use Rattle.qvt_parser_grammar.specs.Leads.{Plain}
-use Rattle.qvt_parser_grammar.specs.Trees.{path_of}
-use Rattle.qvt_parser_grammar.specs.Grammar.{Nested, more_names, bare_expr, named_expr, other_primary, primary, post, pre, expr, flagged}
-use Rattle.qvt_parser_grammar.specs.Units.{transformation, unit}
-use Rattle.qvt_parser_grammar.specs.Module.{Start, ReadsFrom, FrontFrom}
-use Rattle.qvt_parser_grammar.specs.Laws.{Beginnings}
-use Rattle.qvt_parser_grammar.specs.Nesting.{nested}
-use Rattle.qvt_parser_grammar.proofs.Starts.{beginnings}
-use Rattle.qvt_parser_grammar.proofs.Whole as grammar
+use Rattle.qvt_language.specs.Tokens.{Tok}
+use Rattle.qvt_language.specs.declared.named.Named.{Named}
+use Rattle.qvt_language.specs.Readers.{nowhere}
+use Rattle.qvt_language.specs.Leads.{Plain}
+use Rattle.qvt_language.specs.Trees.{path_of}
+use Rattle.qvt_language.specs.Grammar.{Nested, more_names, bare_expr, named_expr, other_primary, primary, post, pre, expr, flagged}
+use Rattle.qvt_language.specs.Units.{transformation, unit}
+use Rattle.qvt_language.specs.Module.{Start, ReadsFrom, FrontFrom}
+use Rattle.qvt_language.specs.Laws.{Beginnings}
+use Rattle.qvt_language.specs.Nesting.{nested}
+use Rattle.qvt_language.proofs.Starts.{beginnings}
+use Rattle.qvt_language.proofs.Whole as grammar
 use Rattle.qvt_language_rows.specs.Phrase.{Phrase}
 use Rattle.qvt_language_rows.specs.Rows.{Inside, Name, Target}
 use Rattle.qvt_language_rows.specs.Units.{«Unit», Module}

@@ -1,7 +1,7 @@
 -- The language: which lists of tokens are a transformation, which are the beginning of one, and where the first fault is.
 use Rattle.std.specs.Prelude.{◌≡◌, ◌≤◌, ◌++◌, length, ℕ, zero, suc, List}
 use Rattle.qvt_tree_types.specs.Module.{ModuleTerm}
-use Rattle.qvt_parser_grammar.specs.Tokens.{Tok}
+use Rattle.qvt_language.specs.Tokens.{Tok}
 use Rattle.qvt_language_rows.specs.Phrase.{Phrase, nothing}
 use Rattle.qvt_language_rows.specs.Rows.{Inside, «Type», Expr, Block}
 use Rattle.qvt_language_rows.specs.Units.{Module}

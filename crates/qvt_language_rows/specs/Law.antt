@@ -1,7 +1,7 @@
 -- The law that the rows of the grammar are what the parser's productions read.
 use Rattle.std.specs.Prelude.{List, ◌↔◌}
-use Rattle.qvt_parser_grammar.specs.Tokens.{Tok}
-use Rattle.qvt_parser_grammar.specs.Module.{Start, ReadsFrom, FrontFrom, FaultFrom}
+use Rattle.qvt_language.specs.Tokens.{Tok}
+use Rattle.qvt_language.specs.Module.{Start, ReadsFrom, FrontFrom, FaultFrom}
 use Rattle.qvt_language_rows.specs.Phrase.{Phrase}
 use Rattle.qvt_language_rows.specs.Rows.{Inside}
 use Rattle.qvt_language_rows.specs.Language.{Is, Begins, HasFault}

@@ -5,12 +5,12 @@ use Rattle.qvt_tree_types.specs.Tree.{TypeTerm, PathType, ExprTerm, PathExpr, Ma
 use Rattle.qvt_tree_types.specs.declared.types.PathTree.{PathTree}
 use Rattle.qvt_tree_types.specs.declared.words.Level.{Level}
 use Rattle.qvt_tree_types.specs.declared.words.Level.TheVariants as levels
-use Rattle.qvt_parser_grammar.specs.declared.named.Named.{Named}
-use Rattle.qvt_parser_grammar.specs.declared.token.Class.TheVariants.{Name as NameToken, Integer as IntegerToken, Str as StringToken, OpenRound, CloseRound, OpenBrace, CloseBrace, Comma, Semicolon, Colon, DoubleColon, Dot, DotDot, Arrow, Bar, AtSign, EqualSign, DoubleEqual, Diamond, BangEqual, LessSign, AtMost, GreaterSign, AtLeast, PlusSign, MinusSign, Star, Becomes, PlusEqual, AndWord, BagWord, ElifWord, ElseWord, EndifWord, FalseWord, ForEachWord, IfWord, ImpliesWord, InvResolveWord, InvResolveInWord, InvResolveOneWord, InvResolveOneInWord, LateWord, MapWord, NewWord, NotWord, NullWord, ObjectWord, OrWord, OrderedSetWord, ResolveAllWord, ResolveInWord, ResolveOneWord, ResolveOneInWord, ResultWord, ReturnWord, SelfWord, SequenceWord, SetWord, ThenWord, TrueWord, VarWord, WhileWord, XmapWord, XorWord}
-use Rattle.qvt_parser_grammar.specs.Tokens.{Tok}
-use Rattle.qvt_parser_grammar.specs.Trees.{named_of, path_of, text_of, coll_type_of, int_of, str_of, true_of, false_of, null_of, self_of, result_of, coll_of, range_of, item_of, if_of, new_of, map_of, all_of, in_of, resolve_of, dot_of, arrow_of, accumulator_of, not_of, minus_of, each_of}
-use Rattle.qvt_parser_grammar.specs.StmtTrees.{var_of, return_of, arm_of, while_of, concat}
-use Rattle.qvt_parser_grammar.specs.Conditionals.{block_form_of}
+use Rattle.qvt_language.specs.declared.named.Named.{Named}
+use Rattle.qvt_language.specs.declared.class.Class.TheVariants.{Name as NameToken, Integer as IntegerToken, Str as StringToken, OpenRound, CloseRound, OpenBrace, CloseBrace, Comma, Semicolon, Colon, DoubleColon, Dot, DotDot, Arrow, Bar, AtSign, EqualSign, DoubleEqual, Diamond, BangEqual, LessSign, AtMost, GreaterSign, AtLeast, PlusSign, MinusSign, Star, Becomes, PlusEqual, AndWord, BagWord, ElifWord, ElseWord, EndifWord, FalseWord, ForEachWord, IfWord, ImpliesWord, InvResolveWord, InvResolveInWord, InvResolveOneWord, InvResolveOneInWord, LateWord, MapWord, NewWord, NotWord, NullWord, ObjectWord, OrWord, OrderedSetWord, ResolveAllWord, ResolveInWord, ResolveOneWord, ResolveOneInWord, ResultWord, ReturnWord, SelfWord, SequenceWord, SetWord, ThenWord, TrueWord, VarWord, WhileWord, XmapWord, XorWord}
+use Rattle.qvt_language.specs.Tokens.{Tok}
+use Rattle.qvt_language.specs.Trees.{named_of, path_of, text_of, coll_type_of, int_of, str_of, true_of, false_of, null_of, self_of, result_of, coll_of, range_of, item_of, if_of, new_of, map_of, all_of, in_of, resolve_of, dot_of, arrow_of, accumulator_of, not_of, minus_of, each_of}
+use Rattle.qvt_language.specs.StmtTrees.{var_of, return_of, arm_of, while_of, concat}
+use Rattle.qvt_language.specs.Conditionals.{block_form_of}
 use Rattle.qvt_language_rows.specs.Phrase.{Phrase, ◌or◌, ◌gives◌, ◌then◌, the, many, maybe, placed, after, before, between, commas, listed, barring}
 use Rattle.qvt_language_rows.specs.Values.{call_of, named_var, result_var, object_of, filter_of, headed_body, without_head, or_no_args, stepped_of, signed_of, linked, chained, named_target, result_target, feature_target, assign_of, value_of, loop_of, no_stmts, single, with_last}
 

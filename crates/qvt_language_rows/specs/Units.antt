@@ -4,11 +4,11 @@ use Rattle.std.proofs.Common.{inl, inr}
 use Rattle.qvt_tree_types.specs.Module.{TypedName, UnitTerm, ModuleTerm}
 use Rattle.qvt_tree_types.specs.declared.module.ModelType.{ModelType as ModelTypeTree}
 use Rattle.qvt_tree_types.specs.declared.module.ModelParam.{ModelParam as ModelParamTree}
-use Rattle.qvt_parser_grammar.specs.declared.named.UnitPath.{UnitPath as UnitPathTree}
-use Rattle.qvt_parser_grammar.specs.declared.token.Class.TheVariants.{Name as NameToken, Str as StringToken, OpenRound, CloseRound, OpenBrace, CloseBrace, Semicolon, Colon, DoubleColon, EqualSign, ClassWord, ConstructorWord, DisjunctsWord, EndWord, ExtendsWord, HelperWord, InWord, InheritsWord, InitWord, InoutWord, IntermediateWord, MainWord, MappingWord, MergesWord, ModelTypeWord, OutWord, PopulationWord, QueryWord, TransformationWord, UsesWord, WhenWord}
-use Rattle.qvt_parser_grammar.specs.Trees.{inner, second, text_of, unit_path_of}
-use Rattle.qvt_parser_grammar.specs.Units.{is_strictness}
-use Rattle.qvt_parser_grammar.specs.UnitTrees.{typed_name_of, param_of, class_of, main_of, return_body, helper_of, constructor_of, result_decl_of, Clause, InheritsClause, MergesClause, DisjunctsClause, WhenClause, Body as BodyParts, empty_body, body_of, sections_of, mapping_of, some_unit, model_type_of, model_param_of, module_of}
+use Rattle.qvt_language.specs.declared.named.UnitPath.{UnitPath as UnitPathTree}
+use Rattle.qvt_language.specs.declared.class.Class.TheVariants.{Name as NameToken, Str as StringToken, OpenRound, CloseRound, OpenBrace, CloseBrace, Semicolon, Colon, DoubleColon, EqualSign, ClassWord, ConstructorWord, DisjunctsWord, EndWord, ExtendsWord, HelperWord, InWord, InheritsWord, InitWord, InoutWord, IntermediateWord, MainWord, MappingWord, MergesWord, ModelTypeWord, OutWord, PopulationWord, QueryWord, TransformationWord, UsesWord, WhenWord}
+use Rattle.qvt_language.specs.Trees.{inner, second, text_of, unit_path_of}
+use Rattle.qvt_language.specs.Units.{is_strictness}
+use Rattle.qvt_language.specs.UnitTrees.{typed_name_of, param_of, class_of, main_of, return_body, helper_of, constructor_of, result_decl_of, Clause, InheritsClause, MergesClause, DisjunctsClause, WhenClause, Body as BodyParts, empty_body, body_of, sections_of, mapping_of, some_unit, model_type_of, model_param_of, module_of}
 use Rattle.qvt_language_rows.specs.Phrase.{Phrase, ◌or◌, ◌gives◌, ◌then◌, the, many, maybe, placed, after, before, between, commas, listed, such_that}
 use Rattle.qvt_language_rows.specs.Values.{open_sections, no_units, AreOnce, clauses_of}
 use Rattle.qvt_language_rows.specs.Rows.{Inside, Name, Path, Paths, Extent, «Type», Simple, Items}

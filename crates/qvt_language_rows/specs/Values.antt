@@ -11,13 +11,13 @@ use Rattle.qvt_tree_types.specs.declared.types.ObjectVar.{ObjectVar}
 use Rattle.qvt_tree_types.specs.declared.types.ObjectVar.TheVariants as variables
 use Rattle.qvt_tree_types.specs.declared.words.Level.{Level}
 use Rattle.qvt_tree_types.specs.declared.words.Sign.{Sign}
-use Rattle.qvt_parser_grammar.specs.declared.named.Named.{Named}
-use Rattle.qvt_parser_grammar.specs.declared.token.Class.TheVariants.{InheritsWord, MergesWord, DisjunctsWord, WhenWord}
-use Rattle.qvt_parser_grammar.specs.Tokens.{Tok, code_of}
-use Rattle.qvt_parser_grammar.specs.Leads.{EachPart}
-use Rattle.qvt_parser_grammar.specs.Trees.{binary_op, headed, signed, post_of}
-use Rattle.qvt_parser_grammar.specs.StmtTrees.{for_each_of, is_adding, last_of}
-use Rattle.qvt_parser_grammar.specs.UnitTrees.{Clause, Clauses, InheritsClause, MergesClause, DisjunctsClause, WhenClause, with_clause, no_clauses}
+use Rattle.qvt_language.specs.declared.named.Named.{Named}
+use Rattle.qvt_language.specs.declared.class.Class.TheVariants.{InheritsWord, MergesWord, DisjunctsWord, WhenWord}
+use Rattle.qvt_language.specs.Tokens.{Tok, code_of}
+use Rattle.qvt_language.specs.Leads.{EachPart}
+use Rattle.qvt_language.specs.Trees.{binary_op, headed, signed, post_of}
+use Rattle.qvt_language.specs.StmtTrees.{for_each_of, is_adding, last_of}
+use Rattle.qvt_language.specs.UnitTrees.{Clause, Clauses, InheritsClause, MergesClause, DisjunctsClause, WhenClause, with_clause, no_clauses}
 
 -- expressions
 

@@ -1,11 +1,11 @@
 ghost use Rattle.std.specs.Prelude.{◌≡◌, ◌≤◌, List, length, ℕ, true, false, Ok, Err};
 ghost use Rattle.qvt_grammar.specs.Reader.{At};
 ghost use Rattle.qvt_tree_types.specs.Module.{ModuleTerm};
-ghost use Rattle.qvt_parser_grammar.specs.Tokens.{Tok};
-ghost use Rattle.qvt_parser_grammar.specs.Gives.{is_nil};
-ghost use Rattle.qvt_parser_grammar.specs.Nesting.{nested_at};
-ghost use Rattle.qvt_parser_grammar.specs.ReadingUnits.{transformation_at};
-ghost use Rattle.qvt_parser_grammar.specs.Units.{transformation, unit};
+ghost use Rattle.qvt_language.specs.Tokens.{Tok};
+ghost use Rattle.qvt_language.specs.Tokens.{is_nil};
+ghost use Rattle.qvt_language.specs.Nesting.{nested_at};
+ghost use Rattle.qvt_language.specs.ReadingUnits.{transformation_at};
+ghost use Rattle.qvt_language.specs.Units.{transformation, unit};
 ghost use Rattle.qvt_language_rows.specs.Units.{«Unit», Module};
 ghost use Rattle.qvt_language_rows.specs.Language.{Reads, IsFault};
 ghost use Rattle.qvt_language_rows.specs.Law.{AreOne};

@@ -4,7 +4,7 @@ use Rattle.std.specs.Str.{chars, IsUtf8, encode_utf8_all}
 use Rattle.std.proofs.lemmas.Str.{chars-append, encodes-chars}
 use Rattle.std.proofs.lemmas.List.{append_cancel_right}
 use Rattle.qvt_lexer.specs.Characters.{is_continue, is_digit}
-use Rattle.qvt_lexer.specs.Words.{is_reserved}
+use Rattle.qvt_words.specs.Words.{is_reserved}
 use Rattle.qvt_lexer.specs.Literals.{run, skip, every, number_of, greatest_number}
 use Rattle.qvt_lexer.specs.Scan.{word_at, number_at}
 use Rattle.qvt_lexer.specs.declared.token.TokenKind.TheVariants.{Name, Integer, Word}

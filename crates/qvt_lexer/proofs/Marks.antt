@@ -1,7 +1,9 @@
 -- Symbols and comments: the scan gives the next piece.
-use Rattle.std.proofs.Common.{◌≡◌, ℕ, ◌+◌, ◌≤◌, List, [], ◌∷◌, ◌++◌, length, Bool, true, false, ◌&&◌, ◌==◌, ◌⊎◌, inl, inr, refl, sym, ap, ◌∙◌, arith, length-append, Ok, Err, cond, Option, Some, None}
+use Rattle.std.proofs.Common.{◌≡◌, ℕ, ◌+◌, ◌≤◌, List, [], ◌∷◌, ◌++◌, length, Bool, true, false, ◌&&◌, ◌==◌, not, ◌⊎◌, inl, inr, refl, sym, ap, ◌∙◌, arith, length-append, Ok, Err, cond, Option, Some, None}
 use Rattle.std.proofs.lemmas.Bool.Decides.{nat_tests}
-use Rattle.qvt_lexer.specs.Characters.{is_blank, is_start, is_digit, is_quote, is_in_line, is_single, is_double, is_line_comment, is_block_comment}
+use Rattle.qvt_lexer.specs.Characters.{is_blank, is_start, is_digit, is_quote, is_in_line, is_line_comment, is_block_comment}
+use Rattle.qvt_words.specs.Words.{is_single, is_double}
+use Rattle.qvt_words.proofs.Rows.{of_double}
 use Rattle.qvt_lexer.specs.Literals.{run, skip, after_close}
 use Rattle.qvt_lexer.specs.Pieces.{IsLineComment, IsBlockComment, IsSymbol, IsPiece, NoPiece, OpensEscape, OpensComment}
 use Rattle.qvt_lexer.specs.Scan.{IsScanOf, block_at, single_at, mark_at}
@@ -131,11 +133,17 @@ module _ (c d : ℕ) (cs v s : List ℕ) (e : c ∷ d ∷ cs ≡ v ++ s) where
   block_close l o n (inr (inl (x, h, k))) = absurd (no_both (is_single x) k (ap is_single (one_is c x (d ∷ cs) v s e h) ∙ n))
   block_close l o n (inr (inr w)) = absurd (no_both (is_double c d) (double_is w.0 w.1 w.2 w.3) o)
 
-double_line : (c d : ℕ) → is_double c d ≡ true → is_line_comment c d ≡ false
-double_line c d h = grind (arith, nat_tests)
+-- no sign of two characters opens a comment
+abbrev opens_none : List ℕ → Bool
+opens_none [] = true
+opens_none (c ∷ []) = true
+opens_none (c ∷ d ∷ u) = not (is_line_comment c d) && not (is_block_comment c d)
+
+pub double_line : (c d : ℕ) → is_double c d ≡ true → is_line_comment c d ≡ false
+double_line c d h = let k = of_double opens_none c d refl h in grind (arith, nat_tests)
 
 double_block : (c d : ℕ) → is_double c d ≡ true → is_block_comment c d ≡ false
-double_block c d h = grind (arith, nat_tests)
+double_block c d h = let k = of_double opens_none c d refl h in grind (arith, nat_tests)
 
 line_block : (c d : ℕ) → is_line_comment c d ≡ true → is_block_comment c d ≡ false
 line_block c d h = grind (arith, nat_tests)
@@ -143,11 +151,12 @@ line_block c d h = grind (arith, nat_tests)
 block_line : (c d : ℕ) → is_block_comment c d ≡ true → is_line_comment c d ≡ false
 block_line c d h = grind (arith, nat_tests)
 
-block_single : (c d : ℕ) → is_block_comment c d ≡ true → is_single c ≡ false
-block_single c d h = grind (arith, nat_tests)
-
 block_first : (c d : ℕ) → is_block_comment c d ≡ true → c ≡ 47
 block_first c d h = grind (arith, nat_tests)
+
+block_single : (c d : ℕ) → is_block_comment c d ≡ true → is_single c ≡ false
+unfolding is_single
+block_single c d h = ap is_single (block_first c d h)
 
 block_second : (c d : ℕ) → is_block_comment c d ≡ true → d ≡ 42
 block_second c d h = grind (arith, nat_tests)

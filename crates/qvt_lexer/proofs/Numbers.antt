@@ -1,19 +1,11 @@
--- The ends of comments, and the numbers that digits write.
+-- What comes after the end of a comment, and the numbers that digits write.
 use Rattle.std.proofs.Common.{◌≡◌, ℕ, ◌+◌, ◌*◌, ◌-◌, ◌≤◌, ◌<◌, List, [], ◌∷◌, Bool, true, false, ◌&&◌, ◌==◌, nat_le, refl, sym, ap, ◌∙◌, arith, cond, Option, Some, None, inl, inr}
 use Rattle.std.proofs.lemmas.Bool.Decides.{nat_tests}
 use Rattle.qvt_lexer.specs.Characters.{is_digit}
 use Rattle.std.specs.Char.{InScalarRange, OutOfScalarRange}
 use Rattle.qvt_lexer.specs.Literals.{every, number_after, greatest_number, after_close, Taken, is_surrogate, no_surrogate}
 use Rattle.qvt_lexer.specs.Scan.{closes_at}
-use Rattle.qvt_lexer.proofs.Runs.{and_left, and_right}
-
-found_step : (b : Bool) (d : ℕ) (cs r : List ℕ) → ◌≡◌ {A = Option (List ℕ)} (cond b (Some cs) None) (Some r) → ◌≡◌ {A = Option (List ℕ)} (cond b (Some cs) (after_close (d ∷ cs))) (Some r)
-found_step true d cs r e = e
-found_step false d cs r e = absurd cc
-
-pub close_found : (c : ℕ) (cs r : List ℕ) → closes_at c cs ≡ Some r → after_close (c ∷ cs) ≡ Some r
-close_found c [] r e = absurd cc
-close_found c (d ∷ cs) r e = found_step (c == 42 && d == 47) d cs r e
+use Rattle.qvt_lexer.proofs.Runs.{and_right}
 
 none_step : (b : Bool) (d : ℕ) (cs : List ℕ) → ◌≡◌ {A = Option (List ℕ)} (cond b (Some cs) None) None → ◌≡◌ {A = Option (List ℕ)} (cond b (Some cs) (after_close (d ∷ cs))) (after_close (d ∷ cs))
 none_step true d cs e = absurd cc
@@ -45,14 +37,8 @@ number_above n v cs e lt = too_large n v (let k = number_grows cs v in omega (ar
 pub number_above_tenth : (n v c : ℕ) (cs : List ℕ) → number_after v (c ∷ cs) ≡ n → 922337203685477580 < v → nat_le n greatest_number ≡ false
 number_above_tenth n v c cs e lt = number_above n (10 * v + (c - 48)) cs e (omega arith)
 
-pub first_digit : (text more : List ℕ) (c : ℕ) → text ≡ c ∷ more → every is_digit text ≡ true → is_digit c ≡ true
-first_digit text more c e h = and_left (is_digit c) (every is_digit more) (sym (ap (every is_digit) e) ∙ h)
-
 pub more_digits : (text more : List ℕ) (c : ℕ) → text ≡ c ∷ more → every is_digit text ≡ true → every is_digit more ≡ true
 more_digits text more c e h = and_right (is_digit c) (every is_digit more) (sym (ap (every is_digit) e) ∙ h)
-
-pub number_within : (n v : ℕ) (cs : List ℕ) → number_after v cs ≡ n → cs ≡ [] → v ≤ greatest_number → nat_le n greatest_number ≡ true
-number_within n v cs e none le = let k : v ≡ n = sym (ap (number_after v) none) ∙ e in grind (arith, nat_tests)
 
 -- a code point of four hexadecimal digits is a character exactly where it is no surrogate
 pub whole_character : (x : Taken) (v w : ℕ) (s : List ℕ) → x ≡ Some (v, s) → InScalarRange v → w ≡ v → no_surrogate x ≡ Some (w, s)

@@ -3,7 +3,7 @@ use Rattle.std.proofs.Common.{◌≡◌, ℕ, ◌≤◌, List, [], ◌∷◌, �
 use Rattle.std.proofs.lemmas.Bool.Decides.{nat_tests}
 use Rattle.std.specs.Str.{encode_utf8_all}
 use Rattle.qvt_lexer.specs.Characters.{is_blank, is_start, is_continue, is_digit}
-use Rattle.qvt_lexer.specs.Words.{is_reserved}
+use Rattle.qvt_words.specs.Words.{is_reserved}
 use Rattle.qvt_lexer.specs.Literals.{run, skip, every, begins, number_of, greatest_number}
 use Rattle.qvt_lexer.specs.Pieces.{IsPlainName, IsEscapedName, IsDigits, Spells, IsPiece, NoPiece}
 use Rattle.qvt_lexer.specs.Scan.{IsScanOf, word_at, is_apostrophe, closed_at, escaped_at, number_at}
@@ -13,10 +13,6 @@ use Rattle.qvt_lexer.specs.declared.scan.Piece.{Piece}
 use Rattle.qvt_lexer.specs.declared.scan.Piece.TheVariants.{Blank, Comment, Token}
 use Rattle.qvt_lexer.proofs.Runs.{and_both, and_left, no_both, run_more, run_skip, every_run, begins_skip, run_longest, run_only}
 use Rattle.qvt_lexer.proofs.Sorts.{AtBlank, AtStart, AtDigit, sort_of, piece_of_sort, quote_continues}
-
--- a character that is no `_` begins no escaped name
-not_escape : (c : ℕ) (cs w : List ℕ) → (c ≡ 95 → ⊥) → c ∷ cs ≡ 95 ∷ 39 ∷ w → ⊥
-not_escape c cs w h e = h cc
 
 -- blanks
 blank_longest : (c : ℕ) (cs : List ℕ) (p : Piece) (v s : List ℕ) → IsPiece (c ∷ cs) p v s → AtBlank ≡ sort_of p → length v ≤ 1

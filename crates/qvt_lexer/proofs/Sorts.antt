@@ -1,10 +1,12 @@
 -- Each piece tells by its first character of which sort it is: the sorts are apart.
-use Rattle.std.proofs.Common.{◌≡◌, ℕ, ◌<◌, List, [], ◌∷◌, ◌++◌, Bool, true, false, ◌||◌, ◌==◌, inl, inr, refl, ap, ◌∙◌, subst, arith}
+use Rattle.std.proofs.Common.{◌≡◌, ℕ, ◌<◌, List, [], ◌∷◌, ◌++◌, Bool, true, false, ◌||◌, ◌&&◌, ◌==◌, not, nat_lt, eqb-true, inl, inr, refl, ap, ◌∙◌, subst, arith}
 use Rattle.std.proofs.lemmas.Bool.Decides.{nat_tests}
 use Rattle.std.specs.Char.{is_ascii_alphabetic}
 use Rattle.unicode_ident.specs.Ident.{is_xid_start}
 use Rattle.unicode_ident.proofs.IdentLemmas.{is_xid_start-ascii, is_xid_continue-ascii}
-use Rattle.qvt_lexer.specs.Characters.{is_blank, is_start, is_continue, is_digit, is_quote, is_single, is_double, is_line_comment}
+use Rattle.qvt_lexer.specs.Characters.{is_blank, is_start, is_continue, is_digit, is_quote, is_line_comment}
+use Rattle.qvt_words.specs.Words.{is_single, is_double}
+use Rattle.qvt_words.proofs.Rows.{of_single, of_double}
 use Rattle.qvt_lexer.specs.Pieces.{IsPiece}
 use Rattle.qvt_lexer.specs.declared.token.TokenKind.TheVariants.{Name, Integer, Str, Word, Symbol, End}
 use Rattle.qvt_lexer.specs.declared.scan.Piece.{Piece}
@@ -53,8 +55,44 @@ digit_start c h k = no_start c (grind (arith, nat_tests)) (grind (arith, nat_tes
 quote_start : (c : ℕ) → is_quote c ≡ true → is_start c ≡ true → ⊥
 quote_start c h k = no_start c (grind (arith, nat_tests)) (grind (arith, nat_tests)) (grind (arith, nat_tests)) k
 
+-- what begins a symbol or a comment is ASCII, and of no other sort
+abbrev pub is_plain : List ℕ → Bool
+is_plain [] = true
+is_plain (c ∷ u) = nat_lt c 128 && not (is_ascii_alphabetic c) && not (c == 95) && not (is_blank c) && not (is_digit c) && not (is_quote c)
+
+plain_as : (c d : ℕ) → (c == d) ≡ true → is_plain (d ∷ []) ≡ true → is_plain (c ∷ []) ≡ true
+plain_as c d e h = ap (λ z. is_plain (z ∷ [])) (eqb-true c d e) ∙ h
+
+pub plain_mark : (c : ℕ) → is_mark c ≡ true → is_plain (c ∷ []) ≡ true
+plain_mark c h = single (is_single c) refl h where
+  slash : (b : Bool) → (c == 33) ≡ b → (b || (c == 47)) ≡ true → is_plain (c ∷ []) ≡ true
+  slash true e k = plain_as c 33 e refl
+  slash false e k = plain_as c 47 k refl
+
+  single : (b : Bool) → is_single c ≡ b → (b || (c == 33) || (c == 47)) ≡ true → is_plain (c ∷ []) ≡ true
+  single true e k = of_single is_plain c refl e
+  single false e k = slash (c == 33) refl k
+
+plain_low : (c : ℕ) → is_plain (c ∷ []) ≡ true → c < 128
+plain_low c h = grind (arith, nat_tests)
+
+plain_letter : (c : ℕ) → is_plain (c ∷ []) ≡ true → is_ascii_alphabetic c ≡ false
+plain_letter c h = grind (arith, nat_tests)
+
+pub plain_line : (c : ℕ) → is_plain (c ∷ []) ≡ true → (c == 95) ≡ false
+plain_line c h = grind (arith, nat_tests)
+
+plain_blank : (c : ℕ) → is_plain (c ∷ []) ≡ true → is_blank c ≡ false
+plain_blank c h = grind (arith, nat_tests)
+
+plain_digit : (c : ℕ) → is_plain (c ∷ []) ≡ true → is_digit c ≡ false
+plain_digit c h = grind (arith, nat_tests)
+
+plain_quote : (c : ℕ) → is_plain (c ∷ []) ≡ true → is_quote c ≡ false
+plain_quote c h = grind (arith, nat_tests)
+
 mark_start : (c : ℕ) → is_mark c ≡ true → is_start c ≡ true → ⊥
-mark_start c h k = no_start c (grind (arith, nat_tests)) (grind (arith, nat_tests)) (grind (arith, nat_tests)) k
+mark_start c h k = let p = plain_mark c h in no_start c (plain_low c p) (plain_letter c p) (plain_line c p) k
 
 blank_digit : (c : ℕ) → is_blank c ≡ true → is_digit c ≡ true → ⊥
 blank_digit c h k = absurd (grind (arith, nat_tests))
@@ -63,16 +101,16 @@ blank_quote : (c : ℕ) → is_blank c ≡ true → is_quote c ≡ true → ⊥
 blank_quote c h k = absurd (grind (arith, nat_tests))
 
 blank_mark : (c : ℕ) → is_blank c ≡ true → is_mark c ≡ true → ⊥
-blank_mark c h k = absurd (grind (arith, nat_tests))
+blank_mark c h k = no_both (is_blank c) h (plain_blank c (plain_mark c k))
 
 pub digit_quote : (c : ℕ) → is_digit c ≡ true → is_quote c ≡ true → ⊥
 digit_quote c h k = absurd (grind (arith, nat_tests))
 
 digit_mark : (c : ℕ) → is_digit c ≡ true → is_mark c ≡ true → ⊥
-digit_mark c h k = absurd (grind (arith, nat_tests))
+digit_mark c h k = no_both (is_digit c) h (plain_digit c (plain_mark c k))
 
 quote_mark : (c : ℕ) → is_quote c ≡ true → is_mark c ≡ true → ⊥
-quote_mark c h k = absurd (grind (arith, nat_tests))
+quote_mark c h k = no_both (is_quote c) h (plain_quote c (plain_mark c k))
 
 -- two sorts of one character are the same
 pub same_sort : (s r : Sort) (c : ℕ) → IsOf s c → IsOf r c → s ≡ r
@@ -105,11 +143,33 @@ same_sort AtMark AtMark c h k = refl
 single_mark : (c : ℕ) → is_single c ≡ true → is_mark c ≡ true
 single_mark c h = ap (λ b. b || (c == 33) || (c == 47)) h
 
-double_mark : (c d : ℕ) → is_double c d ≡ true → is_mark c ≡ true
-double_mark c d h = grind (arith, nat_tests)
+abbrev begins_mark : List ℕ → Bool
+begins_mark [] = true
+begins_mark (c ∷ u) = is_mark c
+
+pub double_mark : (c d : ℕ) → is_double c d ≡ true → is_mark c ≡ true
+unfolding is_single
+double_mark c d h = of_double begins_mark c d refl h
+
+slash_mark : is_mark 47 ≡ true
+unfolding is_single
+slash_mark = refl
+
+dash_mark : is_mark 45 ≡ true
+unfolding is_single
+dash_mark = refl
+
+mark_as : (c d : ℕ) → (c == d) ≡ true → is_mark d ≡ true → is_mark c ≡ true
+mark_as c d e h = ap is_mark (eqb-true c d e) ∙ h
 
 line_mark : (c d : ℕ) → is_line_comment c d ≡ true → is_mark c ≡ true
-line_mark c d h = grind (arith, nat_tests)
+line_mark c d h = by (c == 47) refl where
+  dash : (c d : ℕ) → is_line_comment c d ≡ true → (c == 47) ≡ false → (c == 45) ≡ true
+  dash c d h e = grind (arith, nat_tests)
+
+  by : (b : Bool) → (c == 47) ≡ b → is_mark c ≡ true
+  by true e = mark_as c 47 e slash_mark
+  by false e = mark_as c 45 (dash c d h e) dash_mark
 
 -- the character at the front of a piece
 first_is : (c x : ℕ) (cs u v s : List ℕ) → c ∷ cs ≡ v ++ s → v ≡ x ∷ u → x ≡ c
@@ -122,7 +182,7 @@ pub piece_sort : (p : Piece) (c : ℕ) (cs v s : List ℕ) → IsPiece (c ∷ cs
 piece_sort Blank c cs v s k = let w = k.spells in moved AtBlank c w.0 cs [] v s k.cut w.1 w.2
 piece_sort Comment c cs v s k = elim k.spells [
   | inl w ↦ moved AtMark c w.0 cs (w.1 ∷ w.2) v s k.cut w.3 (line_mark w.0 w.1 w.4)
-  | inr w ↦ moved AtMark c 47 cs (42 ∷ w.0) v s k.cut w.1 refl
+  | inr w ↦ moved AtMark c 47 cs (42 ∷ w.0) v s k.cut w.1 slash_mark
 ]
 piece_sort (Token Name) c cs v s k = elim k.spells [
   | inl w ↦ moved AtStart c w.0.0 cs w.0.1 v s k.cut w.0.2 w.0.3

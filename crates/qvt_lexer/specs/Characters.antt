@@ -30,18 +30,6 @@ is_hex c = (nat_le 48 c && nat_le c 57) || (nat_le 65 c && nat_le c 70) || (nat_
 abbrev pub hex_value : ℕ → ℕ
 hex_value c = if nat_le c 57 then c - 48 else if nat_le c 70 then c - 55 else c - 87
 
--- the symbols of one character: ( ) { } , ; : . | @ = < > + - *
-abbrev pub is_single : ℕ → Bool
-is_single c =
-    (c == 40) || (c == 41) || (c == 123) || (c == 125) || (c == 44) || (c == 59) || (c == 58) || (c == 46) || (c == 124) || (c == 64) || (c == 61) || (c == 60)
-    || (c == 62) || (c == 43) || (c == 45) || (c == 42)
-
--- the symbols of two characters: :: .. -> == <> != <= >= := +=
-abbrev pub is_double : ℕ → ℕ → Bool
-is_double c d =
-    (c == 58 && d == 58) || (c == 46 && d == 46) || (c == 45 && d == 62) || (c == 61 && d == 61) || (c == 60 && d == 62) || (c == 33 && d == 61)
-    || (c == 60 && d == 61) || (c == 62 && d == 61) || (c == 58 && d == 61) || (c == 43 && d == 61)
-
 -- a comment to the line's end opens: `--` or `//`
 abbrev pub is_line_comment : ℕ → ℕ → Bool
 is_line_comment c d = (c == 45 && d == 45) || (c == 47 && d == 47)

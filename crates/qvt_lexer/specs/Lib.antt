@@ -1,5 +1,4 @@
 pub mod Characters
-pub mod Words
 pub mod Literals
 pub mod Pieces
 pub mod Division

@@ -1,8 +1,8 @@
 -- The pieces of a text: blanks, comments and tokens.
 use Rattle.std.specs.Prelude.{◌≡◌, ℕ, ◌≤◌, true, false, IsTrue, List, [], ◌∷◌, ◌++◌, length, Some, None, ◌⊎◌}
 use Rattle.std.specs.Str.{encode_utf8_all}
-use Rattle.qvt_lexer.specs.Characters.{is_blank, is_start, is_continue, is_digit, is_quote, is_in_line, is_single, is_double, is_line_comment}
-use Rattle.qvt_lexer.specs.Words.{is_reserved}
+use Rattle.qvt_lexer.specs.Characters.{is_blank, is_start, is_continue, is_digit, is_quote, is_in_line, is_line_comment}
+use Rattle.qvt_words.specs.Words.{is_single, is_double, is_reserved}
 use Rattle.qvt_lexer.specs.Literals.{every, begins, number_of, greatest_number, after_close, item_at, Content}
 use Rattle.qvt_lexer.specs.declared.token.TokenKind.TheVariants.{Name, Integer, Str, Word, Symbol, End}
 use Rattle.qvt_lexer.specs.declared.token.LexKind.{LexKind}

@@ -1,8 +1,8 @@
 -- The next piece of a text, as a function of its characters.
 use Rattle.std.specs.Prelude.{ℕ, zero, suc, Bool, ◌&&◌, ◌==◌, nat_le, List, [], ◌∷◌, length, drop, Option, Some, None, Result, Ok, Err, if◌then◌else◌}
 use Rattle.std.specs.Str.{encode_utf8_all}
-use Rattle.qvt_lexer.specs.Characters.{is_blank, is_start, is_continue, is_digit, is_quote, is_in_line, is_single, is_double, is_line_comment, is_block_comment}
-use Rattle.qvt_lexer.specs.Words.{is_reserved}
+use Rattle.qvt_lexer.specs.Characters.{is_blank, is_start, is_continue, is_digit, is_quote, is_in_line, is_line_comment, is_block_comment}
+use Rattle.qvt_words.specs.Words.{is_single, is_double, is_reserved}
 use Rattle.qvt_lexer.specs.Pieces.{IsNext, NoPiece, IsFaultOf}
 use Rattle.qvt_lexer.specs.Literals.{run, skip, begins, number_of, greatest_number, after_close, item_at}
 use Rattle.qvt_lexer.specs.declared.token.TokenKind.{TokenKind}

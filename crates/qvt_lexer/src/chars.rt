@@ -69,42 +69,6 @@ pub fn is_hex(c: char) -> bool
     ((c >= '0') & (c <= '9')) | ((c >= 'A') & (c <= 'F')) | ((c >= 'a') & (c <= 'f'))
 }
 
-pub fn is_single(c: char) -> bool
-    ensures { result ≡ class.is_single c }
-{
-    (c == '(')
-        | (c == ')')
-        | (c == '{')
-        | (c == '}')
-        | (c == ',')
-        | (c == ';')
-        | (c == ':')
-        | (c == '.')
-        | (c == '|')
-        | (c == '@')
-        | (c == '=')
-        | (c == '<')
-        | (c == '>')
-        | (c == '+')
-        | (c == '-')
-        | (c == '*')
-}
-
-pub fn is_double(c: char, d: char) -> bool
-    ensures { result ≡ class.is_double c d }
-{
-    ((c == ':') & (d == ':'))
-        | ((c == '.') & (d == '.'))
-        | ((c == '-') & (d == '>'))
-        | ((c == '=') & (d == '='))
-        | ((c == '<') & (d == '>'))
-        | ((c == '!') & (d == '='))
-        | ((c == '<') & (d == '='))
-        | ((c == '>') & (d == '='))
-        | ((c == ':') & (d == '='))
-        | ((c == '+') & (d == '='))
-}
-
 pub fn is_line_comment(c: char, d: char) -> bool
     ensures { result ≡ class.is_line_comment c d }
 {

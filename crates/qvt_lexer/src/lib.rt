@@ -9,4 +9,3 @@ pub mod lexer;
 pub mod literals;
 mod scan;
 pub mod token;
-pub mod words;

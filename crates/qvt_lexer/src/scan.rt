@@ -7,12 +7,12 @@ ghost use Rattle.qvt_lexer.specs.Scanned.{Gives, StaysIn};
 ghost use Rattle.qvt_lexer.specs.Ends.{IsEndOf};
 
 use crate::chars::{
-    Class, before, is_blank, is_block_comment, is_digit, is_double, is_line_comment, is_quote,
-    is_single, is_start, skip, split_char,
+    Class, before, is_blank, is_block_comment, is_digit, is_line_comment, is_quote, is_start, skip,
+    split_char,
 };
 use crate::literals::{after_close, content_end, is_within};
 use crate::token::{LexKind, TokenKind};
-use crate::words::is_reserved;
+use qvt_words::words::{is_double, is_reserved, is_single};
 
 /// What stands at the front of a text.
 #[derive(Clone, Copy, Debug, PartialEq, Eq)]

@@ -1,10 +1,10 @@
 -- The place where the text of a tree ends.
 use Rattle.std.proofs.Common.{◌≡◌, List, ap, ◌∙◌, sym}
 use Rattle.qvt_tree_types.specs.Module.{ModuleTerm}
-use Rattle.qvt_parser_grammar.specs.Tokens.{Tok}
-use Rattle.qvt_parser_grammar.specs.Readers.{nowhere}
-use Rattle.qvt_parser_grammar.specs.Units.{transformation}
-use Rattle.qvt_parser_grammar.specs.Module.{Reads, with_end}
+use Rattle.qvt_language.specs.Tokens.{Tok}
+use Rattle.qvt_language.specs.Readers.{nowhere}
+use Rattle.qvt_language.specs.Units.{transformation}
+use Rattle.qvt_language.specs.Module.{Reads, with_end}
 
 -- what tokens are read as ends nowhere
 pub read_nowhere : (ts : List Tok) (m : ModuleTerm) → Reads ts m → m ≡ with_end nowhere m

@@ -7,14 +7,13 @@ use Rattle.qvt_lexer.specs.Division.{start_at}
 use Rattle.qvt_lexer.specs.Lexed.{Lexed, lexed, LexesFrom}
 use Rattle.qvt_lexer.proofs.Lexing.{every_text}
 use Rattle.qvt_tree_types.specs.Module.{ModuleTerm}
-use Rattle.qvt_parser_grammar.specs.Tokens.{Tok}
-use Rattle.qvt_parser_grammar.specs.Gives.{place_of}
-use Rattle.qvt_parser_grammar.specs.Nesting.{nested_at}
-use Rattle.qvt_parser_grammar.specs.ReadingUnits.{transformation_at}
-use Rattle.qvt_parser_grammar.specs.Module.{Reads, IsFault, with_end}
-use Rattle.qvt_parser_grammar.specs.Readers.{nowhere}
+use Rattle.qvt_language.specs.Tokens.{Tok, place_of}
+use Rattle.qvt_language.specs.Nesting.{nested_at}
+use Rattle.qvt_language.specs.ReadingUnits.{transformation_at}
+use Rattle.qvt_language.specs.Module.{Reads, IsFault, with_end}
+use Rattle.qvt_language.specs.Readers.{nowhere}
 use Rattle.qvt_parsed.proofs.Ends.{read_nowhere, same_tree}
-use Rattle.qvt_parser_grammar.proofs.Whole.{answer_reads, answer_rest, answer_fault, one_tree, one_fault}
+use Rattle.qvt_language.proofs.Whole.{answer_reads, answer_rest, answer_fault, one_tree, one_fault}
 use Rattle.qvt_parser_tokens.specs.Depth.{deep}
 use Rattle.qvt_parser_tokens.specs.Said.{said}
 use Rattle.qvt_parser_tokens.specs.Text.{HasTokens, HasLexFault}

@@ -4,11 +4,10 @@ use Rattle.qvt_base.specs.declared.numbers.Place.{Place}
 use Rattle.qvt_grammar.specs.Reader.{At, Answer}
 use Rattle.qvt_lexer.specs.Lexed.{Lexed, lexed}
 use Rattle.qvt_tree_types.specs.Module.{ModuleTerm}
-use Rattle.qvt_parser_grammar.specs.Tokens.{Tok}
-use Rattle.qvt_parser_grammar.specs.Gives.{place_of}
-use Rattle.qvt_parser_grammar.specs.Module.{with_end}
-use Rattle.qvt_parser_grammar.specs.Nesting.{nested_at}
-use Rattle.qvt_parser_grammar.specs.ReadingUnits.{transformation_at}
+use Rattle.qvt_language.specs.Tokens.{Tok, place_of}
+use Rattle.qvt_language.specs.Module.{with_end}
+use Rattle.qvt_language.specs.Nesting.{nested_at}
+use Rattle.qvt_language.specs.ReadingUnits.{transformation_at}
 use Rattle.qvt_parser_tokens.specs.Depth.{deep}
 use Rattle.qvt_parser_tokens.specs.Said.{said}
 use Rattle.qvt_parsed.specs.Parsing.{IsTransformation, IsFaultOf}

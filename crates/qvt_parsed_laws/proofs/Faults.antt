@@ -2,11 +2,11 @@
 use Rattle.std.proofs.Common.{◌≡◌, ℕ, List, [], ◌∷◌, ◌++◌, length, sym, ap, ◌∙◌, subst, arith, append_assoc}
 use Rattle.qvt_base.specs.declared.numbers.Place.{Place}
 use Rattle.qvt_tree_types.specs.Module.{ModuleTerm}
-use Rattle.qvt_parser_grammar.specs.Tokens.{Tok}
-use Rattle.qvt_parser_grammar.specs.Same.{SameTokens, AllSimple}
-use Rattle.qvt_parser_grammar.specs.Module.{Reads, IsFront}
-use Rattle.qvt_parser_grammar.proofs.Whole as grammar
-use Rattle.qvt_parser_grammar.proofs.Starts.{beginnings}
+use Rattle.qvt_language.specs.Tokens.{Tok}
+use Rattle.qvt_language.specs.Same.{SameTokens, AllSimple}
+use Rattle.qvt_language.specs.Module.{Reads, IsFront}
+use Rattle.qvt_language.proofs.Whole as grammar
+use Rattle.qvt_language.proofs.Starts.{beginnings}
 use Rattle.qvt_parser_fronts.proofs.Whole as fronts
 use Rattle.qvt_parser_tokens.specs.Text.{HasTokens}
 use Rattle.qvt_parsed.specs.Parsing.{HasSyntaxFault}

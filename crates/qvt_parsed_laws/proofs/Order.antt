@@ -6,7 +6,7 @@ use Rattle.qvt_base.specs.declared.numbers.Place.{Place}
 use Rattle.qvt_lexer.specs.Division.{Written, TokenData, token_of, tokens_of, place_after, past, moved, start_at}
 use Rattle.qvt_lexer.specs.declared.scan.Piece.{Piece}
 use Rattle.qvt_lexer.specs.declared.scan.Piece.TheVariants.{Blank, Comment, Token}
-use Rattle.qvt_parser_grammar.specs.Tokens.{Tok}
+use Rattle.qvt_language.specs.Tokens.{Tok}
 use Rattle.qvt_parser_tokens.specs.Said.{said}
 use Rattle.qvt_parser_tokens.specs.Text.{HasTokens}
 use Rattle.qvt_parser_places.specs.Law.{NoneBefore, DoNotFall}

@@ -10,10 +10,10 @@ use Rattle.qvt_lexer.specs.declared.scan.Piece.{Piece}
 use Rattle.qvt_lexer.specs.declared.scan.Piece.TheVariants.{Blank, Comment, Token}
 use Rattle.qvt_lexer.proofs.Steps.{spells_some}
 use Rattle.qvt_tree_types.specs.Module.{MappingTerm, ModuleTerm}
-use Rattle.qvt_parser_grammar.specs.Tokens.{Tok}
-use Rattle.qvt_parser_grammar.specs.declared.token.Class.TheVariants as classes
-use Rattle.qvt_parser_grammar.specs.Readers.{nowhere}
-use Rattle.qvt_parser_grammar.specs.Module.{with_end}
+use Rattle.qvt_language.specs.Tokens.{Tok}
+use Rattle.qvt_language.specs.declared.class.Class.TheVariants as classes
+use Rattle.qvt_language.specs.Readers.{nowhere}
+use Rattle.qvt_language.specs.Module.{with_end}
 use Rattle.qvt_parser_tokens.specs.Said.{said}
 use Rattle.qvt_parser_tokens.specs.Text.{HasTokens}
 use Rattle.qvt_parsed.specs.Parsing.{IsTransformation}

@@ -7,11 +7,11 @@ use Rattle.qvt_base.specs.declared.numbers.Place.{Place}
 use Rattle.qvt_lexer.specs.Division.{TokenData}
 use Rattle.qvt_lexer.specs.declared.token.TokenKind.{TokenKind}
 use Rattle.qvt_lexer.specs.declared.token.TokenKind.TheVariants as kinds
-use Rattle.qvt_parser_grammar.specs.Tokens.{Tok, code_of}
-use Rattle.qvt_parser_grammar.specs.Readers.{nowhere}
-use Rattle.qvt_parser_grammar.specs.Same.{unplaced, SameTokens, SimpleText, IsSimple, AllSimple}
-use Rattle.qvt_parser_grammar.specs.declared.token.Class.{Class}
-use Rattle.qvt_parser_grammar.specs.declared.token.Class.TheVariants as classes
+use Rattle.qvt_language.specs.Tokens.{Tok, code_of}
+use Rattle.qvt_language.specs.Readers.{nowhere}
+use Rattle.qvt_language.specs.Same.{unplaced, SameTokens, SimpleText, IsSimple, AllSimple}
+use Rattle.qvt_language.specs.declared.class.Class.{Class}
+use Rattle.qvt_language.specs.declared.class.Class.TheVariants as classes
 use Rattle.qvt_parser_tokens.specs.Said.{said}
 use Rattle.qvt_printer_layout.specs.declared.piece.Piece.{Piece}
 use Rattle.qvt_printer_layout.specs.declared.piece.Piece.TheVariants.{Plain, Name, Integer, Quoted, Line}

@@ -1,8 +1,8 @@
 -- Tokens that some text has.
 use Rattle.std.specs.Prelude.{◌++◌, ℕ, List, map}
 use Rattle.qvt_base.specs.declared.numbers.Place.{Place}
-use Rattle.qvt_parser_grammar.specs.Tokens.{Tok}
-use Rattle.qvt_parser_grammar.specs.Same.{unplaced, AllSimple}
+use Rattle.qvt_language.specs.Tokens.{Tok}
+use Rattle.qvt_language.specs.Same.{unplaced, AllSimple}
 use Rattle.qvt_parser_tokens.specs.Text.{HasTokens}
 use Rattle.qvt_readback_tokens.specs.Law.{HasSpelled}
 

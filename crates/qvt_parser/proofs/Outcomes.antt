@@ -5,9 +5,9 @@ use Rattle.qvt_base.specs.declared.numbers.Place.{Place}
 use Rattle.qvt_lexer.specs.declared.token.LexFault.{LexFault}
 use Rattle.qvt_tree_types.specs.Module.{ModuleTerm, module_view}
 use Rattle.qvt_tree_types.specs.declared.module.Module.{Module}
-use Rattle.qvt_parser_grammar.specs.Tokens.{Tok}
-use Rattle.qvt_parser_grammar.specs.Module.{Reads, IsFault, with_end}
-use Rattle.qvt_parser_grammar.specs.Readers.{nowhere}
+use Rattle.qvt_language.specs.Tokens.{Tok}
+use Rattle.qvt_language.specs.Module.{Reads, IsFault, with_end}
+use Rattle.qvt_language.specs.Readers.{nowhere}
 use Rattle.qvt_parsed.proofs.Ends.{same_tree}
 use Rattle.qvt_parser_tokens.specs.Depth.{deep}
 use Rattle.qvt_parser_tokens.specs.Text.{HasTokens, HasLexFault}

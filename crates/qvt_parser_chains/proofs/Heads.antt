@@ -5,12 +5,12 @@ use Rattle.qvt_tree_types.specs.Parts.{path_in}
 use Rattle.qvt_tree_types.specs.Tree.{TypeTerm, AccumulatorTerm, ExprTerm, BareTarget, ResultTarget, MemberTarget}
 use Rattle.qvt_tree_types.specs.Tree.{IntExpr, StrExpr, BoolExpr, NullExpr, SelfExpr, ResultExpr, PathExpr, CallExpr, CollExpr, IfExpr, ObjectExpr, NewExpr, MapExpr, ResolveExpr, ChainExpr, PrefixExpr, PostExpr}
 use Rattle.qvt_tree_types.specs.declared.types.PathTree.{PathTree}
-use Rattle.qvt_parser_grammar.specs.Firsts.{head_first}
-use Rattle.qvt_parser_grammar.specs.declared.named.Named.{Named}
-use Rattle.qvt_parser_grammar.specs.Leads.{Lead, Plain, Bracketed, Each}
-use Rattle.qvt_parser_grammar.specs.Reading.{NestedAt, after_first_at, head_rest_at, more_exprs_at}
-use Rattle.qvt_parser_grammar.specs.Tokens.{Tok, of}
-use Rattle.qvt_parser_grammar.specs.Trees.{bare_target, expr_of, headed, is_there, with_first}
+use Rattle.qvt_language.specs.Firsts.{head_first}
+use Rattle.qvt_language.specs.declared.named.Named.{Named}
+use Rattle.qvt_language.specs.Leads.{Lead, Plain, Bracketed, Each}
+use Rattle.qvt_language.specs.Reading.{NestedAt, after_first_at, head_rest_at, more_exprs_at}
+use Rattle.qvt_language.specs.Tokens.{Tok, of}
+use Rattle.qvt_language.specs.Trees.{bare_target, expr_of, headed, is_there, with_first}
 use Rattle.qvt_parser_chains.specs.Heads.{name_in}
 
 pub after_headless : (r : NestedAt) (ts : List Tok) (x : Lead) (e : ExprTerm) → e ≡ expr_of x → is_there (name_in x) ≡ false → after_first_at r x ts ≡ made_at (with_first e) (more_exprs_at r) ts

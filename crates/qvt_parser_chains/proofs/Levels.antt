@@ -5,14 +5,14 @@ use Rattle.qvt_grammar.specs.Language.{head_of}
 use Rattle.qvt_grammar.proofs.Loops.{many_stop}
 use Rattle.qvt_grammar.specs.Reader.{At, Fault, Answer, ◌>>=◌, starts, Consumes}
 use Rattle.qvt_tree_types.specs.Tree.{LinkTerm}
-use Rattle.qvt_parser_grammar.specs.Grammar.{level_of}
+use Rattle.qvt_language.specs.Grammar.{level_of}
 use Rattle.qvt_parser_exprs.specs.declared.leading.Leading.{Leading}
 use Rattle.qvt_parser_grammar.specs.Gives.{Gives}
-use Rattle.qvt_parser_grammar.specs.Leads.{Lead, Plain, Bracketed, Each}
-use Rattle.qvt_parser_grammar.specs.Readers.{Reader, nowhere}
-use Rattle.qvt_parser_grammar.specs.Reading.{chain_at, links_at, link_at, operators}
-use Rattle.qvt_parser_grammar.specs.Tokens.{Tok, of}
-use Rattle.qvt_parser_grammar.specs.Trees.{chain_of}
+use Rattle.qvt_language.specs.Leads.{Lead, Plain, Bracketed, Each}
+use Rattle.qvt_language.specs.Readers.{Reader, nowhere}
+use Rattle.qvt_language.specs.Reading.{chain_at, links_at, link_at, operators}
+use Rattle.qvt_language.specs.Tokens.{Tok, of}
+use Rattle.qvt_language.specs.Trees.{chain_of}
 use Rattle.qvt_parser_grammar.specs.declared.cursor.ParseError.{ParseError}
 use Rattle.qvt_parser_grammar.specs.declared.cursor.ParseError.TheVariants.{NoMemory, Syntax}
 use Rattle.qvt_parser_exprs.specs.Views.{lead_view}

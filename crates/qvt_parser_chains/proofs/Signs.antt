@@ -4,7 +4,7 @@ use Rattle.qvt_base.specs.declared.numbers.Place.{Place}
 use Rattle.qvt_tree_types.specs.Parts.{prefix_in}
 use Rattle.qvt_tree_types.specs.Tree.{ExprTerm, IntExpr, StrExpr, BoolExpr, NullExpr, SelfExpr, ResultExpr, PathExpr, CallExpr, CollExpr, IfExpr, ObjectExpr, NewExpr, MapExpr, ResolveExpr, ChainExpr, PrefixExpr, PostExpr}
 use Rattle.qvt_tree_types.specs.declared.words.Sign.{Sign}
-use Rattle.qvt_parser_grammar.specs.Trees.{signed}
+use Rattle.qvt_language.specs.Trees.{signed}
 
 pub signed_apart : (place : Place) (signs : List Sign) (e : ExprTerm) → prefix_in e ≡ None → signed place signs e ≡ PrefixExpr signs e place
 signed_apart place signs (PrefixExpr old e p) h = absurd cc

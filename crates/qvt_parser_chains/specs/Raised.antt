@@ -3,11 +3,11 @@ use Rattle.std.specs.Prelude.{ℕ, List}
 use Rattle.qvt_base.specs.declared.numbers.Place.{Place}
 use Rattle.qvt_grammar.specs.Reader.{made_at}
 use Rattle.qvt_tree_types.specs.Tree.{LinkTerm}
-use Rattle.qvt_parser_grammar.specs.Grammar.{level_of}
-use Rattle.qvt_parser_grammar.specs.Leads.{Lead}
-use Rattle.qvt_parser_grammar.specs.Readers.{Reader}
-use Rattle.qvt_parser_grammar.specs.Reading.{links_at, chain_at}
-use Rattle.qvt_parser_grammar.specs.Trees.{chain_of}
+use Rattle.qvt_language.specs.Grammar.{level_of}
+use Rattle.qvt_language.specs.Leads.{Lead}
+use Rattle.qvt_language.specs.Readers.{Reader}
+use Rattle.qvt_language.specs.Reading.{links_at, chain_at}
+use Rattle.qvt_language.specs.Trees.{chain_of}
 
 -- the operand with further ones of a level after it
 abbrev pub linked : ℕ → Place → Lead → List LinkTerm → Lead

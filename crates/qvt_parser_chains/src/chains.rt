@@ -1,10 +1,10 @@
 ghost use Rattle.std.specs.Prelude.{◌<◌, ◌≤◌, length, OnOk};
 ghost use Rattle.qvt_grammar.specs.Reader.{many_at, ended_at};
 ghost use Rattle.qvt_tree_types.specs.View.{link_view};
-ghost use Rattle.qvt_parser_grammar.specs.Tokens.{of};
-ghost use Rattle.qvt_parser_grammar.specs.Firsts.{step_first};
-ghost use Rattle.qvt_parser_grammar.specs.Reading.{operators, post_at, signed_post_at, pre_at, each_tail_at, lead_step_at, link_at, links_at, chain_at, lead_post_at, lead_pre_at, lead_at};
-ghost use Rattle.qvt_parser_grammar.specs.Nesting.{nested_at};
+ghost use Rattle.qvt_language.specs.Tokens.{of};
+ghost use Rattle.qvt_language.specs.Firsts.{step_first};
+ghost use Rattle.qvt_language.specs.Reading.{operators, post_at, signed_post_at, pre_at, each_tail_at, lead_step_at, link_at, links_at, chain_at, lead_post_at, lead_pre_at, lead_at};
+ghost use Rattle.qvt_language.specs.Nesting.{nested_at};
 ghost use Rattle.qvt_parser_exprs.specs.Views.{lead_view, held_each_view, links_view, lead_step_view, lead_steps_view};
 ghost use Rattle.qvt_parser_grammar.specs.Gives.{Gives, toks};
 ghost use Rattle.qvt_parser_chains.specs.Raised.{raised_at};
@@ -12,11 +12,11 @@ ghost use Rattle.qvt_parser_chains.specs.Raised.{raised_at};
 use crate::made::{chained, each_lead, linked, post_lead, prefixed};
 use qvt_base::numbers::Place;
 use qvt_base::seq::Seq;
+use qvt_language::class::Class;
 use qvt_parser_exprs::inside::{Inside, Nest};
 use qvt_parser_exprs::leading::{EachTail, LeadStep, Leading};
 use qvt_parser_exprs::made::{finish, short_list};
 use qvt_parser_grammar::cursor::{ParseError, Parser};
-use qvt_parser_grammar::token::Class;
 use qvt_tree_types::tree::{Link, Step};
 
 /// The calls that read steps and chains of operands, over those that read the expressions in them.
@@ -26,7 +26,7 @@ pub struct Chains<N> {
 }
 
 impl<N: Nest> Chains<N> {
-    #[tactic(auto, unfolding(qvt_parser_grammar::specs::Reading::post_at))]
+    #[tactic(auto, unfolding(qvt_language::specs::Reading::post_at))]
     fn post(&self, parser: &mut Parser<'_>) -> Result<Leading, ParseError>
         ensures gives { Gives lead_view result (toks parser.new) (post_at (nested_at (N.room self.now.inside.nest)) (toks parser.old)) }
         ensures fewer { length (toks parser.new) ≤ length (toks parser.old) }
@@ -39,7 +39,7 @@ impl<N: Nest> Chains<N> {
     }
 
     #[inline(never)]
-    #[tactic(auto, unfolding(qvt_parser_grammar::specs::Reading::signed_post_at, qvt_parser_grammar::specs::Reading::signs_at))]
+    #[tactic(auto, unfolding(qvt_language::specs::Reading::signed_post_at, qvt_language::specs::Reading::signs_at))]
     fn signed_post(&self, parser: &mut Parser<'_>) -> Result<Leading, ParseError>
         ensures gives { Gives lead_view result (toks parser.new) (signed_post_at (nested_at (N.room self.now.inside.nest)) (toks parser.old)) }
         ensures fewer { length (toks parser.new) ≤ length (toks parser.old) }
@@ -53,7 +53,7 @@ impl<N: Nest> Chains<N> {
         prefixed(parser.alloc, place, sign, more, operand)
     }
 
-    #[tactic(auto, unfolding(qvt_parser_grammar::specs::Reading::pre_at))]
+    #[tactic(auto, unfolding(qvt_language::specs::Reading::pre_at))]
     fn pre(&self, parser: &mut Parser<'_>) -> Result<Leading, ParseError>
         ensures gives { Gives lead_view result (toks parser.new) (pre_at (nested_at (N.room self.now.inside.nest)) (toks parser.old)) }
         ensures fewer { length (toks parser.new) ≤ length (toks parser.old) }
@@ -140,7 +140,7 @@ impl<N: Nest> Chains<N> {
     }
 
     #[cycle(chain)]
-    #[tactic(auto, unfolding(qvt_parser_grammar::specs::Reading::link_at))]
+    #[tactic(auto, unfolding(qvt_language::specs::Reading::link_at))]
     fn link(&self, parser: &mut Parser<'_>, level: usize) -> Result<Link, ParseError>
         requires tight { level < 8 }
         ensures gives { Gives link_view result (toks parser.new) (link_at level (chain_at level (pre_at (nested_at (N.room self.now.inside.nest))) (pre_at (nested_at (N.room self.now.inside.nest)))) (toks parser.old)) }
@@ -153,7 +153,7 @@ impl<N: Nest> Chains<N> {
     }
 
     #[inline(never)]
-    #[tactic(auto, unfolding(qvt_parser_grammar::specs::Reading::each_tail_at))]
+    #[tactic(auto, unfolding(qvt_language::specs::Reading::each_tail_at))]
     fn each_tail(&self, parser: &mut Parser<'_>) -> Result<Box<EachTail>, ParseError>
         ensures gives { Gives held_each_view result (toks parser.new) (each_tail_at (nested_at (N.room self.now.inside.nest)) (toks parser.old)) }
         ensures fewer { length (toks parser.new) ≤ length (toks parser.old) }
@@ -177,7 +177,7 @@ impl<N: Nest> Chains<N> {
     }
 
     #[inline(never)]
-    #[tactic(auto, unfolding(qvt_parser_grammar::specs::Reading::lead_step_at))]
+    #[tactic(auto, unfolding(qvt_language::specs::Reading::lead_step_at))]
     fn lead_step(&self, parser: &mut Parser<'_>) -> Result<LeadStep, ParseError>
         ensures gives { Gives lead_step_view result (toks parser.new) (lead_step_at (nested_at (N.room self.now.inside.nest)) (toks parser.old)) }
         ensures fewer { length (toks parser.new) ≤ length (toks parser.old) }
@@ -216,7 +216,7 @@ impl<N: Nest> Chains<N> {
         Ok((steps, None))
     }
 
-    #[tactic(auto, unfolding(qvt_parser_grammar::specs::Reading::lead_post_at))]
+    #[tactic(auto, unfolding(qvt_language::specs::Reading::lead_post_at))]
     fn lead_post(&self, parser: &mut Parser<'_>) -> Result<Leading, ParseError>
         ensures gives { Gives lead_view result (toks parser.new) (lead_post_at (nested_at (N.room self.now.inside.nest)) (toks parser.old)) }
         ensures fewer { length (toks parser.new) ≤ length (toks parser.old) }
@@ -228,7 +228,7 @@ impl<N: Nest> Chains<N> {
         each_lead(parser.alloc, place, first, steps, part)
     }
 
-    #[tactic(auto, unfolding(qvt_parser_grammar::specs::Reading::lead_pre_at))]
+    #[tactic(auto, unfolding(qvt_language::specs::Reading::lead_pre_at))]
     fn lead_pre(&self, parser: &mut Parser<'_>) -> Result<Leading, ParseError>
         ensures gives { Gives lead_view result (toks parser.new) (lead_pre_at (nested_at (N.room self.now.inside.nest)) (toks parser.old)) }
         ensures fewer { length (toks parser.new) ≤ length (toks parser.old) }
@@ -241,7 +241,7 @@ impl<N: Nest> Chains<N> {
     }
 
     /// An expression at the front of a statement, which may go on as a `forEach`.
-    #[tactic(auto, unfolding(qvt_parser_grammar::specs::Reading::lead_at))]
+    #[tactic(auto, unfolding(qvt_language::specs::Reading::lead_at))]
     pub fn lead(&self, parser: &mut Parser<'_>) -> Result<Leading, ParseError>
         ensures gives { Gives lead_view result (toks parser.new) (lead_at (nested_at (N.room self.now.inside.nest)) (toks parser.old)) }
         ensures fewer { length (toks parser.new) ≤ length (toks parser.old) }

@@ -1,9 +1,9 @@
 ghost use Rattle.std.specs.Prelude.{◌≡◌, ◌==◌, ◌<◌, ◌∷◌, ◌++◌, [], length, false, None};
 ghost use Rattle.qvt_tree_types.specs.Tree.{HeadOf, LinkOf, PrefixExpr};
 ghost use Rattle.qvt_tree_types.specs.View.{accumulator_view, expr_view, head_view, link_view, optional_accumulator, optional_type};
-ghost use Rattle.qvt_parser_grammar.specs.Leads.{Plain};
-ghost use Rattle.qvt_parser_grammar.specs.Trees as trees;
-ghost use Rattle.qvt_parser_grammar.specs.Grammar as grammar;
+ghost use Rattle.qvt_language.specs.Leads.{Plain};
+ghost use Rattle.qvt_language.specs.Trees as trees;
+ghost use Rattle.qvt_language.specs.Grammar as grammar;
 ghost use Rattle.qvt_parser_grammar.specs.Options.{option_view};
 ghost use Rattle.qvt_parser_exprs.specs.Views.{boxed_view, first_view, lead_view, held_each_view, exprs_view, links_view, steps_view};
 ghost use Rattle.qvt_parser_grammar.specs.Gives.{Makes, same};
@@ -11,11 +11,11 @@ ghost use Rattle.qvt_parser_chains.specs.Heads.{name_in};
 
 use qvt_base::numbers::Place;
 use qvt_base::seq::Seq;
+use qvt_language::class::Class;
+use qvt_language::named::Named;
 use qvt_parser_exprs::leading::{EachTail, First, Leading};
 use qvt_parser_exprs::made::{boxed, finish, is_name, only_name, posted, short_list};
 use qvt_parser_grammar::cursor::ParseError;
-use qvt_parser_grammar::named::Named;
-use qvt_parser_grammar::token::Class;
 use qvt_tree_types::tree::{Accumulator, Expr, Head, Link, Step};
 use qvt_tree_types::types::TypeTree;
 use qvt_tree_types::words::{BinaryOp, Level, Sign};

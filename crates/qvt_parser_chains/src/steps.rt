@@ -1,11 +1,11 @@
 ghost use Rattle.std.specs.Prelude.{◌<◌, ◌≤◌, IsTrue, length, OnOk};
 ghost use Rattle.qvt_grammar.specs.Reader.{starts, made_at, then_at, many_at, maybe_at};
 ghost use Rattle.qvt_tree_types.specs.View.{step_view, accumulator_view};
-ghost use Rattle.qvt_parser_grammar.specs.Tokens.{of, is};
-ghost use Rattle.qvt_parser_grammar.specs.Firsts.{head_first, step_first};
-ghost use Rattle.qvt_parser_grammar.specs.Trees.{dot_of, arrow_of, with_first, is_there};
-ghost use Rattle.qvt_parser_grammar.specs.Reading.{name_at, args_at, dot_rest_at, dot_step_at, accumulator_at, head_rest_at, more_exprs_at, after_first_at, arrow_body_at, arrow_args_at, arrow_rest_at, step_at};
-ghost use Rattle.qvt_parser_grammar.specs.Nesting.{nested_at};
+ghost use Rattle.qvt_language.specs.Tokens.{of, is};
+ghost use Rattle.qvt_language.specs.Firsts.{head_first, step_first};
+ghost use Rattle.qvt_language.specs.Trees.{dot_of, arrow_of, with_first, is_there};
+ghost use Rattle.qvt_language.specs.Reading.{name_at, args_at, dot_rest_at, dot_step_at, accumulator_at, head_rest_at, more_exprs_at, after_first_at, arrow_body_at, arrow_args_at, arrow_rest_at, step_at};
+ghost use Rattle.qvt_language.specs.Nesting.{nested_at};
 ghost use Rattle.qvt_parser_grammar.specs.Options.{option_view};
 ghost use Rattle.qvt_parser_exprs.specs.Views.{boxed_view, lead_view, exprs_view, steps_view, head_rest_view, arrow_args_view};
 ghost use Rattle.qvt_parser_grammar.specs.Gives.{Gives, toks};
@@ -14,16 +14,16 @@ ghost use Rattle.qvt_parser_chains.specs.Heads.{name_in};
 use crate::chains::Chains;
 use crate::made::{head_name, head_of, is_head, one_expr};
 use qvt_base::seq::Seq;
+use qvt_language::class::Class;
 use qvt_parser_exprs::inside::Nest;
 use qvt_parser_exprs::leading::Leading;
 use qvt_parser_exprs::made::{boxed, short_list};
 use qvt_parser_grammar::cursor::{ParseError, Parser};
-use qvt_parser_grammar::token::Class;
 use qvt_tree_types::tree::{Accumulator, Expr, Head, Step};
 use qvt_tree_types::types::TypeTree;
 
 impl<N: Nest> Chains<N> {
-    #[tactic(auto, unfolding(qvt_parser_grammar::specs::Reading::dot_rest_at))]
+    #[tactic(auto, unfolding(qvt_language::specs::Reading::dot_rest_at))]
     fn dot_rest(&self, parser: &mut Parser<'_>) -> Result<Step, ParseError>
         ensures gives { Gives step_view result (toks parser.new) (dot_rest_at (nested_at (N.room self.now.inside.nest)) (toks parser.old)) }
         ensures fewer { length (toks parser.new) ≤ length (toks parser.old) }
@@ -66,7 +66,7 @@ impl<N: Nest> Chains<N> {
     }
 
     /// A step that begins with a dot.
-    #[tactic(auto, unfolding(qvt_parser_grammar::specs::Reading::dot_step_at))]
+    #[tactic(auto, unfolding(qvt_language::specs::Reading::dot_step_at))]
     pub fn dot_step(&self, parser: &mut Parser<'_>) -> Result<Step, ParseError>
         ensures gives { Gives step_view result (toks parser.new) (dot_step_at (nested_at (N.room self.now.inside.nest)) (toks parser.old)) }
         ensures fewer { length (toks parser.new) ≤ length (toks parser.old) }
@@ -77,7 +77,7 @@ impl<N: Nest> Chains<N> {
     }
 
     #[inline(never)]
-    #[tactic(auto, unfolding(qvt_parser_grammar::specs::Reading::accumulator_at))]
+    #[tactic(auto, unfolding(qvt_language::specs::Reading::accumulator_at))]
     fn accumulator(&self, parser: &mut Parser<'_>) -> Result<Accumulator, ParseError>
         ensures gives { Gives accumulator_view result (toks parser.new) (accumulator_at (nested_at (N.room self.now.inside.nest)) (toks parser.old)) }
         ensures fewer { length (toks parser.new) ≤ length (toks parser.old) }
@@ -110,7 +110,7 @@ impl<N: Nest> Chains<N> {
         Ok(None)
     }
 
-    #[tactic(auto, unfolding(qvt_parser_grammar::specs::Reading::head_rest_at, qvt_parser_grammar::specs::Reading::bar_expr_at))]
+    #[tactic(auto, unfolding(qvt_language::specs::Reading::head_rest_at, qvt_language::specs::Reading::bar_expr_at))]
     fn head_rest(
         &self,
         parser: &mut Parser<'_>,
@@ -125,7 +125,7 @@ impl<N: Nest> Chains<N> {
         Ok((kind, (accumulator, body)))
     }
 
-    #[tactic(auto, unfolding(qvt_parser_grammar::specs::Reading::arrow_body_at))]
+    #[tactic(auto, unfolding(qvt_language::specs::Reading::arrow_body_at))]
     fn arrow_body(&self, parser: &mut Parser<'_>) -> Result<(Option<Head>, Seq<Expr>), ParseError>
         ensures gives { Gives arrow_args_view result (toks parser.new) (arrow_body_at (nested_at (N.room self.now.inside.nest)) (toks parser.old)) }
         ensures fewer { length (toks parser.new) ≤ length (toks parser.old) }
@@ -186,7 +186,7 @@ impl<N: Nest> Chains<N> {
         Ok((None, exprs))
     }
 
-    #[tactic(auto, unfolding(qvt_parser_grammar::specs::Reading::arrow_args_at))]
+    #[tactic(auto, unfolding(qvt_language::specs::Reading::arrow_args_at))]
     fn arrow_args(&self, parser: &mut Parser<'_>) -> Result<(Option<Head>, Seq<Expr>), ParseError>
         ensures gives { Gives arrow_args_view result (toks parser.new) (arrow_args_at (nested_at (N.room self.now.inside.nest)) (toks parser.old)) }
         ensures fewer { length (toks parser.new) ≤ length (toks parser.old) }
@@ -219,7 +219,7 @@ impl<N: Nest> Chains<N> {
 
     /// What stands after an arrow, but for `forEach`.
     #[inline(never)]
-    #[tactic(auto, unfolding(qvt_parser_grammar::specs::Reading::arrow_rest_at))]
+    #[tactic(auto, unfolding(qvt_language::specs::Reading::arrow_rest_at))]
     pub fn arrow_rest(&self, parser: &mut Parser<'_>) -> Result<Step, ParseError>
         ensures gives { Gives step_view result (toks parser.new) (arrow_rest_at (nested_at (N.room self.now.inside.nest)) (toks parser.old)) }
         ensures fewer { length (toks parser.new) ≤ length (toks parser.old) }
@@ -237,7 +237,7 @@ impl<N: Nest> Chains<N> {
     }
 
     #[inline(never)]
-    #[tactic(auto, unfolding(qvt_parser_grammar::specs::Reading::step_at))]
+    #[tactic(auto, unfolding(qvt_language::specs::Reading::step_at))]
     fn step(&self, parser: &mut Parser<'_>) -> Result<Step, ParseError>
         ensures gives { Gives step_view result (toks parser.new) (step_at (nested_at (N.room self.now.inside.nest)) (toks parser.old)) }
         ensures fewer { length (toks parser.new) ≤ length (toks parser.old) }

@@ -8,7 +8,7 @@ use Rattle.qvt_tree_types.specs.declared.tree.Step.{Step}
 use Rattle.qvt_parser_grammar.specs.declared.cursor.ParseError.{ParseError}
 use Rattle.qvt_parser_grammar.specs.declared.cursor.ParseError.TheVariants.{NoMemory, Syntax}
 use Rattle.qvt_parser_grammar.specs.Gives.{Makes, same}
-use Rattle.qvt_parser_grammar.specs.Trees.{more_steps, stepped}
+use Rattle.qvt_language.specs.Trees.{more_steps, stepped}
 use Rattle.qvt_tree_types.specs.Parts.{post_in}
 
 more_of : (xs ys : List StepTerm) → more_steps (steps_of xs) ys ≡ steps_of (xs ++ ys)

@@ -22,8 +22,8 @@ use Rattle.qvt_parser_exprs.specs.declared.leading.Leading.{Leading}
 use Rattle.qvt_parser_exprs.specs.declared.leading.Leading.TheVariants.{Bare, Post, Bracketed as InBrackets, Done, Each as EachLead}
 use Rattle.qvt_parser_exprs.specs.declared.leading.EachTail.{EachTail}
 use Rattle.qvt_parser_grammar.specs.Options.{option_view}
-use Rattle.qvt_parser_grammar.specs.Leads.{Lead, Plain, Bracketed, Each, EachPart}
-use Rattle.qvt_parser_grammar.specs.Trees.{bare_target, post_of, member_target}
+use Rattle.qvt_language.specs.Leads.{Lead, Plain, Bracketed, Each, EachPart}
+use Rattle.qvt_language.specs.Trees.{bare_target, post_of, member_target}
 
 abbrev pub exprs_view : List Expr → List ExprTerm
 exprs_view = map expr_view

@@ -2,12 +2,12 @@ ghost use Rattle.std.specs.Prelude.{◌<◌, ◌≤◌, length, OnOk};
 ghost use Rattle.qvt_grammar.specs.Reader.{made_at, then_at, choose_at, many_at, maybe_at};
 ghost use Rattle.qvt_tree_types.specs.Tree.{MapExpr, ResolveExpr};
 ghost use Rattle.qvt_tree_types.specs.View.{expr_view, item_view, filter_view, range_view, map_view, resolve_view};
-ghost use Rattle.qvt_parser_grammar.specs.Tokens.{of, is};
-ghost use Rattle.qvt_parser_grammar.specs.Readers.{the_at};
-ghost use Rattle.qvt_parser_grammar.specs.Firsts.{all_first};
-ghost use Rattle.qvt_parser_grammar.specs.Trees.{second, inner, cons_of, range_of, with_head};
-ghost use Rattle.qvt_parser_grammar.specs.Reading.{expr_at, exprs_at, args_at, named_expr_at, item_at, coll_at, if_expr_at, object_at, new_expr_at, map_call_at, filter_head_at, bar_expr_at, filter_at, all_form_at, in_form_at, resolve_at, longer_at, bare_expr_at, other_primary_at, primary_at, more_exprs_at};
-ghost use Rattle.qvt_parser_grammar.specs.Nesting.{nested_at};
+ghost use Rattle.qvt_language.specs.Tokens.{of, is};
+ghost use Rattle.qvt_language.specs.Readers.{the_at};
+ghost use Rattle.qvt_language.specs.Firsts.{all_first};
+ghost use Rattle.qvt_language.specs.Trees.{second, inner, cons_of, range_of, with_head};
+ghost use Rattle.qvt_language.specs.Reading.{expr_at, exprs_at, args_at, named_expr_at, item_at, coll_at, if_expr_at, object_at, new_expr_at, map_call_at, filter_head_at, bar_expr_at, filter_at, all_form_at, in_form_at, resolve_at, longer_at, bare_expr_at, other_primary_at, primary_at, more_exprs_at};
+ghost use Rattle.qvt_language.specs.Nesting.{nested_at};
 ghost use Rattle.qvt_parser_grammar.specs.Options.{option_view};
 ghost use Rattle.qvt_parser_exprs.specs.Views.{boxed_view, first_view, lead_view, exprs_view, items_view, stmts_view, filter_head_view, form_view};
 ghost use Rattle.qvt_parser_grammar.specs.Gives.{Gives, toks};
@@ -17,9 +17,9 @@ use crate::leading::{First, Leading};
 use crate::made::{bare, boxed, conditional, finish, is_strict, resolve_word, short_list};
 use qvt_base::seq::Seq;
 use qvt_base::text::Text;
+use qvt_language::class::Class;
 use qvt_parser_grammar::cursor::{ParseError, Parser};
 use qvt_parser_grammar::names::{coll_kind, path_of};
-use qvt_parser_grammar::token::Class;
 use qvt_tree_types::tree::{Expr, Filter, Item, MapCall, RangeEnd, ResolveCall, Stmts};
 use qvt_tree_types::types::{PathTree, TypeTree};
 use qvt_tree_types::words::ResolveWord;
@@ -42,7 +42,7 @@ impl<N: Nest> Inside<N> {
     }
 
     /// An expression.
-    #[tactic(auto, unfolding(qvt_parser_grammar::specs::Reading::expr_at))]
+    #[tactic(auto, unfolding(qvt_language::specs::Reading::expr_at))]
     pub fn expr(&self, parser: &mut Parser<'_>) -> Result<Expr, ParseError>
         ensures gives { Gives expr_view result (toks parser.new) (expr_at (nested_at (N.room self.now.nest)) (toks parser.old)) }
         ensures fewer { length (toks parser.new) ≤ length (toks parser.old) }
@@ -52,7 +52,7 @@ impl<N: Nest> Inside<N> {
     }
 
     /// The same, on the heap.
-    #[tactic(auto, unfolding(qvt_parser_grammar::specs::Reading::expr_at))]
+    #[tactic(auto, unfolding(qvt_language::specs::Reading::expr_at))]
     pub fn boxed(&self, parser: &mut Parser<'_>) -> Result<Box<Expr>, ParseError>
         ensures gives { Gives boxed_view result (toks parser.new) (expr_at (nested_at (N.room self.now.nest)) (toks parser.old)) }
         ensures fewer { length (toks parser.new) ≤ length (toks parser.old) }
@@ -88,7 +88,7 @@ impl<N: Nest> Inside<N> {
         Ok(expr)
     }
 
-    #[tactic(auto, unfolding(qvt_parser_grammar::specs::Reading::exprs_at, qvt_parser_grammar::specs::Reading::more_exprs_at))]
+    #[tactic(auto, unfolding(qvt_language::specs::Reading::exprs_at, qvt_language::specs::Reading::more_exprs_at))]
     fn exprs(&self, parser: &mut Parser<'_>) -> Result<Seq<Expr>, ParseError>
         ensures gives { Gives exprs_view result (toks parser.new) (exprs_at (nested_at (N.room self.now.nest)) (toks parser.old)) }
         ensures fewer { length (toks parser.new) ≤ length (toks parser.old) }
@@ -98,7 +98,7 @@ impl<N: Nest> Inside<N> {
     }
 
     /// The expressions after the first one, with it.
-    #[tactic(auto, unfolding(qvt_parser_grammar::specs::Reading::more_exprs_at))]
+    #[tactic(auto, unfolding(qvt_language::specs::Reading::more_exprs_at))]
     pub fn exprs_from(
         &self,
         parser: &mut Parser<'_>,
@@ -118,7 +118,7 @@ impl<N: Nest> Inside<N> {
     }
 
     /// Arguments in brackets.
-    #[tactic(auto, unfolding(qvt_parser_grammar::specs::Reading::args_at))]
+    #[tactic(auto, unfolding(qvt_language::specs::Reading::args_at))]
     pub fn args(&self, parser: &mut Parser<'_>) -> Result<Seq<Expr>, ParseError>
         ensures gives { Gives exprs_view result (toks parser.new) (args_at (nested_at (N.room self.now.nest)) (toks parser.old)) }
         ensures fewer { length (toks parser.new) ≤ length (toks parser.old) }
@@ -134,7 +134,7 @@ impl<N: Nest> Inside<N> {
         Ok(exprs)
     }
 
-    #[tactic(auto, unfolding(qvt_parser_grammar::specs::Reading::named_expr_at))]
+    #[tactic(auto, unfolding(qvt_language::specs::Reading::named_expr_at))]
     fn named_expr(&self, parser: &mut Parser<'_>) -> Result<Expr, ParseError>
         ensures gives { Gives expr_view result (toks parser.new) (named_expr_at (nested_at (N.room self.now.nest)) (toks parser.old)) }
         ensures fewer { length (toks parser.new) ≤ length (toks parser.old) }
@@ -170,7 +170,7 @@ impl<N: Nest> Inside<N> {
         Ok(None)
     }
 
-    #[tactic(auto, unfolding(qvt_parser_grammar::specs::Reading::item_at))]
+    #[tactic(auto, unfolding(qvt_language::specs::Reading::item_at))]
     fn item(&self, parser: &mut Parser<'_>) -> Result<Item, ParseError>
         ensures gives { Gives item_view result (toks parser.new) (item_at (nested_at (N.room self.now.nest)) (toks parser.old)) }
         ensures fewer { length (toks parser.new) ≤ length (toks parser.old) }
@@ -209,7 +209,7 @@ impl<N: Nest> Inside<N> {
     }
 
     #[inline(never)]
-    #[tactic(auto, unfolding(qvt_parser_grammar::specs::Reading::coll_at))]
+    #[tactic(auto, unfolding(qvt_language::specs::Reading::coll_at))]
     fn coll(&self, parser: &mut Parser<'_>) -> Result<Expr, ParseError>
         ensures gives { Gives expr_view result (toks parser.new) (coll_at (nested_at (N.room self.now.nest)) (toks parser.old)) }
         ensures fewer { length (toks parser.new) ≤ length (toks parser.old) }
@@ -235,7 +235,7 @@ impl<N: Nest> Inside<N> {
     }
 
     #[inline(never)]
-    #[tactic(auto, unfolding(qvt_parser_grammar::specs::Reading::if_expr_at))]
+    #[tactic(auto, unfolding(qvt_language::specs::Reading::if_expr_at))]
     fn if_expr(&self, parser: &mut Parser<'_>) -> Result<Expr, ParseError>
         ensures gives { Gives expr_view result (toks parser.new) (if_expr_at (nested_at (N.room self.now.nest)) (toks parser.old)) }
         ensures fewer { length (toks parser.new) ≤ length (toks parser.old) }
@@ -250,7 +250,7 @@ impl<N: Nest> Inside<N> {
     }
 
     #[inline(never)]
-    #[tactic(auto, unfolding(qvt_parser_grammar::specs::Reading::object_at))]
+    #[tactic(auto, unfolding(qvt_language::specs::Reading::object_at))]
     fn object(&self, parser: &mut Parser<'_>) -> Result<Expr, ParseError>
         ensures gives { Gives expr_view result (toks parser.new) (object_at (nested_at (N.room self.now.nest)) (toks parser.old)) }
         ensures fewer { length (toks parser.new) ≤ length (toks parser.old) }
@@ -270,7 +270,7 @@ impl<N: Nest> Inside<N> {
     }
 
     #[inline(never)]
-    #[tactic(auto, unfolding(qvt_parser_grammar::specs::Reading::new_expr_at))]
+    #[tactic(auto, unfolding(qvt_language::specs::Reading::new_expr_at))]
     fn new_expr(&self, parser: &mut Parser<'_>) -> Result<Expr, ParseError>
         ensures gives { Gives expr_view result (toks parser.new) (new_expr_at (nested_at (N.room self.now.nest)) (toks parser.old)) }
         ensures fewer { length (toks parser.new) ≤ length (toks parser.old) }
@@ -290,7 +290,7 @@ impl<N: Nest> Inside<N> {
 
     /// A mapping call.
     #[inline(never)]
-    #[tactic(auto, unfolding(qvt_parser_grammar::specs::Reading::map_call_at))]
+    #[tactic(auto, unfolding(qvt_language::specs::Reading::map_call_at))]
     pub fn map_call(&self, parser: &mut Parser<'_>) -> Result<MapCall, ParseError>
         ensures gives { Gives map_view result (toks parser.new) (map_call_at (nested_at (N.room self.now.nest)) (toks parser.old)) }
         ensures fewer { length (toks parser.new) ≤ length (toks parser.old) }
@@ -307,7 +307,7 @@ impl<N: Nest> Inside<N> {
         })
     }
 
-    #[tactic(auto, unfolding(qvt_parser_grammar::specs::Reading::filter_head_at))]
+    #[tactic(auto, unfolding(qvt_language::specs::Reading::filter_head_at))]
     fn filter_head(&self, parser: &mut Parser<'_>) -> Result<(Option<Text>, TypeTree), ParseError>
         ensures gives { Gives filter_head_view result (toks parser.new) (filter_head_at (nested_at (N.room self.now.nest)) (toks parser.old)) }
         ensures fewer { length (toks parser.new) ≤ length (toks parser.old) }
@@ -328,7 +328,7 @@ impl<N: Nest> Inside<N> {
     }
 
     /// A bar and an expression, or nothing.
-    #[tactic(auto, unfolding(qvt_parser_grammar::specs::Reading::bar_expr_at))]
+    #[tactic(auto, unfolding(qvt_language::specs::Reading::bar_expr_at))]
     pub fn optional_bar(&self, parser: &mut Parser<'_>) -> Result<Option<Expr>, ParseError>
         ensures gives { Gives (option_view expr_view) result (toks parser.new) (maybe_at (is Class.Bar) (bar_expr_at (nested_at (N.room self.now.nest))) (toks parser.old)) }
         ensures fewer { length (toks parser.new) ≤ length (toks parser.old) }
@@ -340,7 +340,7 @@ impl<N: Nest> Inside<N> {
         Ok(None)
     }
 
-    #[tactic(auto, unfolding(qvt_parser_grammar::specs::Reading::filter_at, qvt_parser_grammar::specs::Reading::bar_expr_at))]
+    #[tactic(auto, unfolding(qvt_language::specs::Reading::filter_at, qvt_language::specs::Reading::bar_expr_at))]
     fn filter(&self, parser: &mut Parser<'_>) -> Result<Filter, ParseError>
         ensures gives { Gives filter_view result (toks parser.new) (filter_at (nested_at (N.room self.now.nest)) (toks parser.old)) }
         ensures fewer { length (toks parser.new) ≤ length (toks parser.old) }
@@ -377,7 +377,7 @@ impl<N: Nest> Inside<N> {
         Ok(None)
     }
 
-    #[tactic(auto, unfolding(qvt_parser_grammar::specs::Reading::all_form_at))]
+    #[tactic(auto, unfolding(qvt_language::specs::Reading::all_form_at))]
     fn all_form(
         &self,
         parser: &mut Parser<'_>,
@@ -393,7 +393,7 @@ impl<N: Nest> Inside<N> {
         Ok((resolve_word(word.class), (None, Some(filter))))
     }
 
-    #[tactic(auto, unfolding(qvt_parser_grammar::specs::Reading::in_form_at))]
+    #[tactic(auto, unfolding(qvt_language::specs::Reading::in_form_at))]
     fn in_form(
         &self,
         parser: &mut Parser<'_>,
@@ -426,7 +426,7 @@ impl<N: Nest> Inside<N> {
 
     /// A resolve, with `late` or without.
     #[inline(never)]
-    #[tactic(auto, unfolding(qvt_parser_grammar::specs::Reading::resolve_at))]
+    #[tactic(auto, unfolding(qvt_language::specs::Reading::resolve_at))]
     pub fn resolve(&self, parser: &mut Parser<'_>) -> Result<ResolveCall, ParseError>
         ensures gives { Gives resolve_view result (toks parser.new) (resolve_at (nested_at (N.room self.now.nest)) (toks parser.old)) }
         ensures fewer { length (toks parser.new) ≤ length (toks parser.old) }
@@ -447,7 +447,7 @@ impl<N: Nest> Inside<N> {
         })
     }
 
-    #[tactic(auto, unfolding(qvt_parser_grammar::specs::Reading::bare_expr_at))]
+    #[tactic(auto, unfolding(qvt_language::specs::Reading::bare_expr_at))]
     fn bare_expr(&self, parser: &mut Parser<'_>) -> Result<Expr, ParseError>
         ensures gives { Gives expr_view result (toks parser.new) (bare_expr_at (nested_at (N.room self.now.nest)) (toks parser.old)) }
         ensures fewer { length (toks parser.new) ≤ length (toks parser.old) }
@@ -466,7 +466,7 @@ impl<N: Nest> Inside<N> {
     }
 
     #[inline(never)]
-    #[tactic(auto, unfolding(qvt_parser_grammar::specs::Reading::longer_at))]
+    #[tactic(auto, unfolding(qvt_language::specs::Reading::longer_at))]
     fn longer(&self, parser: &mut Parser<'_>) -> Result<Expr, ParseError>
         ensures gives { Gives expr_view result (toks parser.new) (longer_at (nested_at (N.room self.now.nest)) (toks parser.old)) }
         ensures fewer { length (toks parser.new) ≤ length (toks parser.old) }
@@ -506,7 +506,7 @@ impl<N: Nest> Inside<N> {
     }
 
     /// A primary that is no `if`: such a one may begin a statement.
-    #[tactic(auto, unfolding(qvt_parser_grammar::specs::Reading::other_primary_at, qvt_parser_grammar::specs::Reading::brackets_at))]
+    #[tactic(auto, unfolding(qvt_language::specs::Reading::other_primary_at, qvt_language::specs::Reading::brackets_at))]
     pub fn other_primary(&self, parser: &mut Parser<'_>) -> Result<First, ParseError>
         ensures gives { Gives first_view result (toks parser.new) (other_primary_at (nested_at (N.room self.now.nest)) (toks parser.old)) }
         ensures fewer { length (toks parser.new) ≤ length (toks parser.old) }
@@ -521,7 +521,7 @@ impl<N: Nest> Inside<N> {
     }
 
     /// What stands before steps and between operators.
-    #[tactic(auto, unfolding(qvt_parser_grammar::specs::Reading::primary_at))]
+    #[tactic(auto, unfolding(qvt_language::specs::Reading::primary_at))]
     pub fn primary(&self, parser: &mut Parser<'_>) -> Result<First, ParseError>
         ensures gives { Gives first_view result (toks parser.new) (primary_at (nested_at (N.room self.now.nest)) (toks parser.old)) }
         ensures fewer { length (toks parser.new) ≤ length (toks parser.old) }

@@ -1,6 +1,6 @@
 ghost use Rattle.std.specs.Prelude.{ℕ, ◌≡◌, ◌≤◌, length};
 ghost use Rattle.qvt_parser_grammar.specs.Gives.{Gives, toks};
-ghost use Rattle.qvt_parser_grammar.specs.Nesting.{nested_at};
+ghost use Rattle.qvt_language.specs.Nesting.{nested_at};
 ghost use Rattle.qvt_parser_exprs.specs.Views.{lead_view, stmts_view};
 
 use crate::leading::Leading;

@@ -1,10 +1,10 @@
 -- Start symbols do not look at places: the rows that they read do not.
 use Rattle.std.proofs.Common.{◌≡◌, List, [], ◌∷◌, ◌++◌, map}
 use Rattle.qvt_tree_types.specs.Module.{UnitTerm, ModuleTerm}
-use Rattle.qvt_parser_grammar.specs.Tokens.{Tok}
-use Rattle.qvt_parser_grammar.specs.Same.{unplaced, SameTokens}
-use Rattle.qvt_parser_grammar.specs.Units.{transformation, unit}
-use Rattle.qvt_parser_grammar.specs.Module.{Start, FrontFrom}
+use Rattle.qvt_language.specs.Tokens.{Tok}
+use Rattle.qvt_language.specs.Same.{unplaced, SameTokens}
+use Rattle.qvt_language.specs.Units.{transformation, unit}
+use Rattle.qvt_language.specs.Module.{Start, FrontFrom}
 use Rattle.qvt_language_rows.specs.Phrase.{Phrase}
 use Rattle.qvt_language_rows.specs.Rows.{Inside}
 use Rattle.qvt_language_rows.specs.Units.{«Unit», Module}

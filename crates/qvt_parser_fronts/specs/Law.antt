@@ -1,8 +1,8 @@
 -- The law that a start symbol does not look at places.
 use Rattle.std.specs.Prelude.{List}
-use Rattle.qvt_parser_grammar.specs.Tokens.{Tok}
-use Rattle.qvt_parser_grammar.specs.Same.{SameTokens}
-use Rattle.qvt_parser_grammar.specs.Module.{Start, ReadsFrom, FrontFrom}
+use Rattle.qvt_language.specs.Tokens.{Tok}
+use Rattle.qvt_language.specs.Same.{SameTokens}
+use Rattle.qvt_language.specs.Module.{Start, ReadsFrom, FrontFrom}
 
 pub record LooksAtNoPlace {A : Type 0} (start : Start A) : Type 0 where
   -- the same tokens are read wherever they stand

@@ -1,4 +1,4 @@
-ghost use Rattle.qvt_parser_grammar.specs.Units.{transformation, unit};
+ghost use Rattle.qvt_language.specs.Units.{transformation, unit};
 ghost use Rattle.qvt_parser_fronts.specs.Law.{LooksAtNoPlace};
 
 /// Its clauses are the law that neither a transformation nor one of its units looks at places: the

@@ -2,24 +2,24 @@
 use Rattle.std.proofs.Common.{ℕ, zero, List, refl, Bool, subst}
 use Rattle.qvt_grammar.specs.Language.{Language}
 use Rattle.qvt_grammar.proofs.Repeats.{read_less}
-use Rattle.qvt_parser_grammar.specs.Tokens.{Tok, of}
+use Rattle.qvt_language.specs.Tokens.{Tok, of}
 use Rattle.qvt_grammar.proofs.Valued.{ExactV}
-use Rattle.qvt_parser_grammar.proofs.ValuedForms.{GoodV}
-use Rattle.qvt_parser_grammar.proofs.GoodBlocks.{goodv_statement}
+use Rattle.qvt_language.proofs.ValuedForms.{GoodV}
+use Rattle.qvt_language.proofs.GoodBlocks.{goodv_statement}
 use Rattle.qvt_grammar.specs.Reader.{Consumes, made_at, then_at}
-use Rattle.qvt_parser_grammar.specs.declared.token.Class.TheVariants.{Comma}
-use Rattle.qvt_parser_grammar.specs.Readers.{Reader, the_at}
-use Rattle.qvt_parser_grammar.specs.Firsts.{expr_first, post_next}
-use Rattle.qvt_parser_grammar.specs.Trees.{second}
-use Rattle.qvt_parser_grammar.specs.Reading.{expr_at, item_at, step_at, sign_at, link_at, chain_at, pre_at, lead_step_at}
-use Rattle.qvt_parser_grammar.specs.ReadingStatements.{arm_at, statement_at}
-use Rattle.qvt_parser_grammar.specs.Nesting.{nested_at}
-use Rattle.qvt_parser_grammar.proofs.Forms.{good_the, good_made, good_then, good_sets}
-use Rattle.qvt_parser_grammar.proofs.GoodExprs.{good_expr, good_item}
-use Rattle.qvt_parser_grammar.proofs.GoodSteps.{good_step, good_sign, good_pre, good_lead_step}
-use Rattle.qvt_parser_grammar.proofs.GoodTower.{good_link, good_chain}
-use Rattle.qvt_parser_grammar.proofs.GoodStmts.{good_arm}
-use Rattle.qvt_parser_grammar.proofs.GoodNesting.{consumes, good_same}
+use Rattle.qvt_language.specs.declared.class.Class.TheVariants.{Comma}
+use Rattle.qvt_language.specs.Readers.{Reader, the_at}
+use Rattle.qvt_language.specs.Firsts.{expr_first, post_next}
+use Rattle.qvt_language.specs.Trees.{second}
+use Rattle.qvt_language.specs.Reading.{expr_at, item_at, step_at, sign_at, link_at, chain_at, pre_at, lead_step_at}
+use Rattle.qvt_language.specs.ReadingStatements.{arm_at, statement_at}
+use Rattle.qvt_language.specs.Nesting.{nested_at}
+use Rattle.qvt_language.proofs.Forms.{good_the, good_made, good_then, good_sets}
+use Rattle.qvt_language.proofs.GoodExprs.{good_expr, good_item}
+use Rattle.qvt_language.proofs.GoodSteps.{good_step, good_sign, good_pre, good_lead_step}
+use Rattle.qvt_language.proofs.GoodTower.{good_link, good_chain}
+use Rattle.qvt_language.proofs.GoodStmts.{good_arm}
+use Rattle.qvt_language.proofs.GoodNesting.{consumes, good_same}
 
 pub less_expr : (n : ℕ) → Consumes (made_at second (then_at (the_at Comma) (expr_at (nested_at n))))
 less_expr n = consumes (good_made second (good_then (good_the Comma) (good_expr (good_same n)) refl))

@@ -2,7 +2,7 @@
 use Rattle.std.specs.Prelude.{◌≡◌, List, [], ◌∷◌, Bool, true, false, Result, Ok, Err, drop}
 use Rattle.qvt_base.specs.declared.numbers.Place.{Place}
 use Rattle.qvt_grammar.specs.Reader.{At, Answer}
-use Rattle.qvt_parser_grammar.specs.Tokens.{Tok, toks_of}
+use Rattle.qvt_language.specs.Tokens.{Tok, toks_of}
 use Rattle.qvt_parser_grammar.specs.declared.cursor.ParseError.{ParseError}
 use Rattle.qvt_parser_grammar.specs.declared.cursor.ParseError.TheVariants.{NoMemory, Syntax}
 use Rattle.qvt_parser_grammar.specs.declared.cursor.Parser.{Parser}
@@ -23,15 +23,6 @@ Makes v (Err Syntax) y = ⊥
 -- the tokens that are left
 abbrev pub toks : Parser → List Tok
 toks p = drop p.index (toks_of p.tokens.now)
-
--- the place of the first token, or of the end
-abbrev pub place_of : Place → List Tok → Place
-place_of end [] = end
-place_of end (t ∷ ts) = t.place
-
-abbrev pub is_nil : List Tok → Bool
-is_nil [] = true
-is_nil (t ∷ ts) = false
 
 abbrev pub same : {X : Type 0} → X → X
 same x = x

@@ -1,14 +1,15 @@
 ghost use Rattle.std.specs.Prelude.{◌≡◌, ◌<◌, ◌≤◌, [], length, OnOk};
 ghost use Rattle.qvt_grammar.specs.Language.{head_of};
 ghost use Rattle.qvt_grammar.specs.Reader.{starts, maybe_at};
-ghost use Rattle.qvt_parser_grammar.specs.Tokens.{is, tok_of};
-ghost use Rattle.qvt_parser_grammar.specs.Readers.{nowhere, the_at};
+ghost use Rattle.qvt_language.specs.Tokens.{is, tok_of, place_of, is_nil};
+ghost use Rattle.qvt_language.specs.Readers.{nowhere, the_at};
 ghost use Rattle.qvt_parser_grammar.specs.Options.{option_view};
-ghost use Rattle.qvt_parser_grammar.specs.Gives.{Gives, toks, place_of, is_nil};
+ghost use Rattle.qvt_parser_grammar.specs.Gives.{Gives, toks};
 
-use crate::token::{Class, Token};
 use qvt_base::list_fault::ListFault;
 use qvt_base::numbers::Place;
+use qvt_language::class::Class;
+use qvt_language::token::Token;
 use std::alloc::{AllocError, AllocFailed, Global};
 
 /// Why no tree is given.
@@ -67,7 +68,7 @@ const NOWHERE: Place = Place {
 };
 
 impl<'a> Parser<'a> {
-    ghost use Rattle.qvt_parser_grammar.specs.Tokens.{toks_of};
+    ghost use Rattle.qvt_language.specs.Tokens.{toks_of};
 
     /// A parser at the first of the tokens.
     pub fn new(alloc: Global, tokens: &'a [Token<'a>]) -> Parser<'a>

@@ -1,21 +1,22 @@
 ghost use Rattle.std.specs.Prelude.{◌≡◌, ◌<◌, ◌≤◌, ◌∷◌, length, map, OnOk};
 ghost use Rattle.qvt_grammar.specs.Reader.{starts, made_at, then_at, many_at, maybe_at};
 ghost use Rattle.qvt_tree_types.specs.View.{type_view, optional_type};
-ghost use Rattle.qvt_parser_grammar.specs.Tokens.{of, is, tok_of};
-ghost use Rattle.qvt_parser_grammar.specs.Readers.{the_at};
-ghost use Rattle.qvt_parser_grammar.specs.Firsts.{kind_first};
-ghost use Rattle.qvt_parser_grammar.specs.Trees as trees;
-ghost use Rattle.qvt_parser_grammar.specs.Trees.{second, text_of};
-ghost use Rattle.qvt_parser_grammar.specs.Reading.{name_at, more_names_at, path_at, paths_at, unit_path_at, extent_at, kind_word_at, coll_type_at, typed_at, colon_type_at, colon_path_at};
-ghost use Rattle.qvt_parser_grammar.specs.Nesting.{nested_at};
+ghost use Rattle.qvt_language.specs.Tokens.{of, is, tok_of};
+ghost use Rattle.qvt_language.specs.Readers.{the_at};
+ghost use Rattle.qvt_language.specs.Firsts.{kind_first};
+ghost use Rattle.qvt_language.specs.Trees as trees;
+ghost use Rattle.qvt_language.specs.Trees.{second, text_of};
+ghost use Rattle.qvt_language.specs.Reading.{name_at, more_names_at, path_at, paths_at, unit_path_at, extent_at, kind_word_at, coll_type_at, typed_at, colon_type_at, colon_path_at};
+ghost use Rattle.qvt_language.specs.Nesting.{nested_at};
 ghost use Rattle.qvt_parser_grammar.specs.Gives.{Gives, Makes, toks, same};
 
 use crate::cursor::{ParseError, Parser};
-use crate::named::{Named, UnitPath};
-use crate::token::{Class, Token};
 use qvt_base::lists::NameList;
 use qvt_base::seq::Seq;
 use qvt_base::text::Text;
+use qvt_language::class::Class;
+use qvt_language::named::{Named, UnitPath};
+use qvt_language::token::Token;
 use qvt_tree_types::types::{PathTree, TypeTree};
 use qvt_tree_types::words::CollKind;
 use std::alloc::Global;
@@ -68,7 +69,7 @@ fn unit_path_of(alloc: Global, first: Named, more: Seq<Named>) -> Result<UnitPat
 
 impl<'a> Parser<'a> {
     /// A name.
-    #[tactic(auto, unfolding(crate::specs::Reading::name_at))]
+    #[tactic(auto, unfolding(qvt_language::specs::Reading::name_at))]
     pub fn name(&mut self) -> Result<Named, ParseError>
         ensures gives { Gives same result (toks self.new) (name_at (toks self.old)) }
         ensures fewer { length (toks self.new) ≤ length (toks self.old) }
@@ -92,7 +93,7 @@ impl<'a> Parser<'a> {
     }
 
     /// The further names of a path, each after `::`.
-    #[tactic(auto, unfolding(crate::specs::Reading::more_names_at))]
+    #[tactic(auto, unfolding(qvt_language::specs::Reading::more_names_at))]
     pub fn more_names(&mut self) -> Result<Seq<Named>, ParseError>
         ensures gives { Gives same result (toks self.new) (more_names_at (toks self.old)) }
         ensures fewer { length (toks self.new) ≤ length (toks self.old) }
@@ -106,7 +107,7 @@ impl<'a> Parser<'a> {
     }
 
     /// A path: names with `::` between them, with the place of the first.
-    #[tactic(auto, unfolding(crate::specs::Reading::path_at))]
+    #[tactic(auto, unfolding(qvt_language::specs::Reading::path_at))]
     pub fn path(&mut self) -> Result<PathTree, ParseError>
         ensures gives { Gives same result (toks self.new) (path_at (toks self.old)) }
         ensures fewer { length (toks self.new) ≤ length (toks self.old) }
@@ -118,7 +119,7 @@ impl<'a> Parser<'a> {
     }
 
     /// The path of a unit's name, with the place of the last name.
-    #[tactic(auto, unfolding(crate::specs::Reading::unit_path_at))]
+    #[tactic(auto, unfolding(qvt_language::specs::Reading::unit_path_at))]
     pub fn unit_path(&mut self) -> Result<UnitPath, ParseError>
         ensures gives { Gives same result (toks self.new) (unit_path_at (toks self.old)) }
         ensures fewer { length (toks self.new) ≤ length (toks self.old) }
@@ -139,7 +140,7 @@ impl<'a> Parser<'a> {
     }
 
     /// Paths with commas between them, at least one.
-    #[tactic(auto, unfolding(crate::specs::Reading::paths_at))]
+    #[tactic(auto, unfolding(qvt_language::specs::Reading::paths_at))]
     pub fn paths(&mut self) -> Result<Seq<PathTree>, ParseError>
         ensures gives { Gives same result (toks self.new) (paths_at (toks self.old)) }
         ensures fewer { length (toks self.new) ≤ length (toks self.old) }
@@ -167,7 +168,7 @@ impl<'a> Parser<'a> {
     }
 
     /// The extent that an object is made in, after `@`, if one is told.
-    #[tactic(auto, unfolding(crate::specs::Reading::extent_at))]
+    #[tactic(auto, unfolding(qvt_language::specs::Reading::extent_at))]
     pub fn extent(&mut self) -> Result<Option<Text>, ParseError>
         ensures gives { Gives same result (toks self.new) (extent_at (toks self.old)) }
         ensures fewer { length (toks self.new) ≤ length (toks self.old) }
@@ -181,7 +182,7 @@ impl<'a> Parser<'a> {
     }
 
     /// The word of a kind of collection.
-    #[tactic(auto, unfolding(crate::specs::Reading::kind_word_at))]
+    #[tactic(auto, unfolding(qvt_language::specs::Reading::kind_word_at))]
     pub fn kind_word(&mut self) -> Result<Token<'a>, ParseError>
         ensures gives { Gives tok_of result (toks self.new) (kind_word_at (toks self.old)) }
         ensures fewer { length (toks self.new) ≤ length (toks self.old) }
@@ -200,7 +201,7 @@ impl<'a> Parser<'a> {
     }
 
     /// A path after a colon.
-    #[tactic(auto, unfolding(crate::specs::Reading::colon_path_at))]
+    #[tactic(auto, unfolding(qvt_language::specs::Reading::colon_path_at))]
     pub fn colon_path(&mut self) -> Result<PathTree, ParseError>
         ensures gives { Gives same result (toks self.new) (colon_path_at (toks self.old)) }
         ensures fewer { length (toks self.new) ≤ length (toks self.old) }
@@ -222,7 +223,7 @@ impl<'a> Parser<'a> {
 
     /// The type of a collection: its kind, and the type of its items in brackets.
     #[cycle(types)]
-    #[tactic(auto, unfolding(crate::specs::Reading::coll_type_at))]
+    #[tactic(auto, unfolding(qvt_language::specs::Reading::coll_type_at))]
     pub fn coll_type(&mut self, room: usize) -> Result<TypeTree, ParseError>
         ensures gives { Gives type_view result (toks self.new) (coll_type_at (nested_at room) (toks self.old)) }
         ensures fewer { length (toks self.new) ≤ length (toks self.old) }
@@ -242,7 +243,7 @@ impl<'a> Parser<'a> {
 
     /// A type: that of a collection, or a path. Types are nested in at most `room` others.
     #[cycle(types)]
-    #[tactic(auto, unfolding(crate::specs::Reading::typed_at))]
+    #[tactic(auto, unfolding(qvt_language::specs::Reading::typed_at))]
     pub fn typed(&mut self, room: usize) -> Result<TypeTree, ParseError>
         ensures gives { Gives type_view result (toks self.new) (typed_at (nested_at room) (toks self.old)) }
         ensures fewer { length (toks self.new) ≤ length (toks self.old) }
@@ -256,7 +257,7 @@ impl<'a> Parser<'a> {
     }
 
     #[cycle(types)]
-    #[tactic(auto, unfolding(crate::specs::Nesting::nested_at))]
+    #[tactic(auto, unfolding(qvt_language::specs::Nesting::nested_at))]
     fn kind(&mut self, room: usize) -> Result<TypeTree, ParseError>
         ensures gives { Gives type_view result (toks self.new) ((nested_at room).kind (toks self.old)) }
         ensures fewer { length (toks self.new) ≤ length (toks self.old) }
@@ -268,7 +269,7 @@ impl<'a> Parser<'a> {
     }
 
     /// A type after a colon.
-    #[tactic(auto, unfolding(crate::specs::Reading::colon_type_at))]
+    #[tactic(auto, unfolding(qvt_language::specs::Reading::colon_type_at))]
     pub fn colon_type(&mut self, room: usize) -> Result<TypeTree, ParseError>
         ensures gives { Gives type_view result (toks self.new) (colon_type_at (nested_at room) (toks self.old)) }
         ensures fewer { length (toks self.new) ≤ length (toks self.old) }

@@ -1,17 +1,18 @@
 ghost use Rattle.std.specs.Prelude.{◌≡◌, ◌<◌, ◌≤◌, length, OnOk};
 ghost use Rattle.qvt_grammar.specs.Reader.{starts, choose_at};
 ghost use Rattle.qvt_tree_types.specs.View.{expr_view};
-ghost use Rattle.qvt_parser_grammar.specs.Tokens.{of, is, tok_of};
-ghost use Rattle.qvt_parser_grammar.specs.Readers.{the_at};
-ghost use Rattle.qvt_parser_grammar.specs.Firsts.{map_first, all_first, resolve_first, late_first, maker_first, plain_first, front_first, simple_first, primary_first, literal_first, word_first, head_first, step_first, sign_first, assign_first, expr_first, stmt_first};
-ghost use Rattle.qvt_parser_grammar.specs.Reading.{literal_at, word_at, object_head_at, all_word_at, in_word_at, sign_at, more_signs_at, operator_at, operators};
+ghost use Rattle.qvt_language.specs.Tokens.{of, is, tok_of};
+ghost use Rattle.qvt_language.specs.Readers.{the_at};
+ghost use Rattle.qvt_language.specs.Firsts.{map_first, all_first, resolve_first, late_first, maker_first, plain_first, front_first, simple_first, primary_first, literal_first, word_first, head_first, step_first, sign_first, assign_first, expr_first, stmt_first};
+ghost use Rattle.qvt_language.specs.Reading.{literal_at, word_at, object_head_at, all_word_at, in_word_at, sign_at, more_signs_at, operator_at, operators};
 ghost use Rattle.qvt_parser_grammar.specs.Gives.{Gives, toks, same};
 
 use crate::cursor::{ParseError, Parser};
 use crate::names::path_of;
-use crate::token::{Class, Token};
 use qvt_base::seq::Seq;
 use qvt_base::text::Text;
+use qvt_language::class::Class;
+use qvt_language::token::Token;
 use qvt_tree_types::tree::Expr;
 use qvt_tree_types::types::{ObjectVar, PathTree};
 use qvt_tree_types::words::{PrefixOp, Sign};
@@ -80,7 +81,7 @@ impl<'a> Parser<'a> {
     }
 
     /// A literal: a number, a text, `true` or `false`.
-    #[tactic(auto, unfolding(crate::specs::Reading::literal_at))]
+    #[tactic(auto, unfolding(qvt_language::specs::Reading::literal_at))]
     pub fn literal(&mut self) -> Result<Expr, ParseError>
         ensures gives { Gives expr_view result (toks self.new) (literal_at (toks self.old)) }
         ensures fewer { length (toks self.new) ≤ length (toks self.old) }
@@ -116,7 +117,7 @@ impl<'a> Parser<'a> {
     }
 
     /// `null`, `self` or `result`.
-    #[tactic(auto, unfolding(crate::specs::Reading::word_at))]
+    #[tactic(auto, unfolding(qvt_language::specs::Reading::word_at))]
     pub fn word(&mut self) -> Result<Expr, ParseError>
         ensures gives { Gives expr_view result (toks self.new) (word_at (toks self.old)) }
         ensures fewer { length (toks self.new) ≤ length (toks self.old) }
@@ -135,7 +136,7 @@ impl<'a> Parser<'a> {
     }
 
     /// The variable of an object expression, if one is told, and the path of its class.
-    #[tactic(auto, unfolding(crate::specs::Reading::object_head_at))]
+    #[tactic(auto, unfolding(qvt_language::specs::Reading::object_head_at))]
     pub fn object_head(&mut self) -> Result<(Option<ObjectVar>, PathTree), ParseError>
         ensures gives { Gives same result (toks self.new) (object_head_at (toks self.old)) }
         ensures fewer { length (toks self.new) ≤ length (toks self.old) }
@@ -163,7 +164,7 @@ impl<'a> Parser<'a> {
     }
 
     /// The word of a resolve over all mappings.
-    #[tactic(auto, unfolding(crate::specs::Reading::all_word_at))]
+    #[tactic(auto, unfolding(qvt_language::specs::Reading::all_word_at))]
     pub fn all_word(&mut self) -> Result<Token<'a>, ParseError>
         ensures gives { Gives tok_of result (toks self.new) (all_word_at (toks self.old)) }
         ensures fewer { length (toks self.new) ≤ length (toks self.old) }
@@ -182,7 +183,7 @@ impl<'a> Parser<'a> {
     }
 
     /// The word of a resolve in one mapping.
-    #[tactic(auto, unfolding(crate::specs::Reading::in_word_at))]
+    #[tactic(auto, unfolding(qvt_language::specs::Reading::in_word_at))]
     pub fn in_word(&mut self) -> Result<Token<'a>, ParseError>
         ensures gives { Gives tok_of result (toks self.new) (in_word_at (toks self.old)) }
         ensures fewer { length (toks self.new) ≤ length (toks self.old) }
@@ -225,7 +226,7 @@ impl<'a> Parser<'a> {
     }
 
     /// `not` or the sign `-`.
-    #[tactic(auto, unfolding(crate::specs::Reading::sign_at))]
+    #[tactic(auto, unfolding(qvt_language::specs::Reading::sign_at))]
     pub fn sign(&mut self) -> Result<Sign, ParseError>
         ensures gives { Gives same result (toks self.new) (sign_at (toks self.old)) }
         ensures fewer { length (toks self.new) ≤ length (toks self.old) }
@@ -246,7 +247,7 @@ impl<'a> Parser<'a> {
     }
 
     /// The signs before an operand, as many as stand there.
-    #[tactic(auto, unfolding(crate::specs::Reading::more_signs_at))]
+    #[tactic(auto, unfolding(qvt_language::specs::Reading::more_signs_at))]
     pub fn more_signs(&mut self) -> Result<Seq<Sign>, ParseError>
         ensures gives { Gives same result (toks self.new) (more_signs_at (toks self.old)) }
         ensures fewer { length (toks self.new) ≤ length (toks self.old) }

@@ -1,12 +1,12 @@
 -- What holds of all that a language reads from tokens of whose names and texts it is told, by the forms of the grammar.
 use Rattle.std.proofs.Common.{◌≡◌, ℕ, List, [], ◌∷◌, ◌++◌, Bool, IsTrue, ◌⊎◌, inl, inr, sym, subst, Option, Some, None}
 use Rattle.qvt_grammar.specs.Language.{Language, follow, then, either, turns, many, made, never, maybe, lastly}
-use Rattle.qvt_parser_grammar.specs.Tokens.{Tok, is}
-use Rattle.qvt_parser_grammar.specs.Readers.{the, placed}
-use Rattle.qvt_parser_grammar.specs.Series.{left, right, series, finished, barring}
-use Rattle.qvt_parser_grammar.specs.Trees.{second, first, inner, cons_of, nothing}
-use Rattle.qvt_parser_grammar.specs.declared.token.Class.{Class}
-use Rattle.qvt_parser_grammar.specs.declared.token.Class.TheVariants.{Name, Str}
+use Rattle.qvt_language.specs.Tokens.{Tok, is}
+use Rattle.qvt_language.specs.Readers.{the, placed}
+use Rattle.qvt_language.specs.Series.{left, right, series, finished, barring}
+use Rattle.qvt_language.specs.Trees.{second, first, inner, cons_of, nothing}
+use Rattle.qvt_language.specs.declared.class.Class.{Class}
+use Rattle.qvt_language.specs.declared.class.Class.TheVariants.{Name, Str}
 use Rattle.qvt_parser_names.specs.Names.{Told, AllOf, IfThere}
 
 -- what is told of names holds of a token that is a name, and what is told of texts of a token that is a text

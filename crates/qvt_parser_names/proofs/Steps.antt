@@ -7,11 +7,11 @@ use Rattle.qvt_tree_types.specs.declared.types.PathTree.{PathTree}
 use Rattle.qvt_tree_types.specs.declared.words.Level.{Level}
 use Rattle.qvt_tree_types.specs.declared.words.Sign.{Sign}
 use Rattle.qvt_grammar.specs.Language.{Language, made, empty}
-use Rattle.qvt_parser_grammar.specs.Tokens.{Tok}
-use Rattle.qvt_parser_grammar.specs.declared.token.Class.TheVariants.{OpenRound, CloseRound, Semicolon, Dot, Arrow, EqualSign, ForEachWord}
-use Rattle.qvt_parser_grammar.specs.Leads.{Lead, Plain, Bracketed, Each, EachPart}
-use Rattle.qvt_parser_grammar.specs.Grammar.{Nested, name, more_exprs, dot_rest, dot_step, accumulator, head_rest, after_first, arrow_body, arrow_args, arrow_rest, step, post, signs, signed_post, pre, each_tail, lead_step, level_of, operator, link, links, chain, flagged, lead_post, lead_pre, lead}
-use Rattle.qvt_parser_grammar.specs.Trees.{second, nothing, dot_of, no_args, arrow_of, accumulator_of, expr_of, headed, with_first, bare_target, more_steps, stepped, post_of, split_last, member_of, post_lead, each_lead, signed, prefix_lead, link_of, chain_of, each_of}
+use Rattle.qvt_language.specs.Tokens.{Tok}
+use Rattle.qvt_language.specs.declared.class.Class.TheVariants.{OpenRound, CloseRound, Semicolon, Dot, Arrow, EqualSign, ForEachWord}
+use Rattle.qvt_language.specs.Leads.{Lead, Plain, Bracketed, Each, EachPart}
+use Rattle.qvt_language.specs.Grammar.{Nested, name, more_exprs, dot_rest, dot_step, accumulator, head_rest, after_first, arrow_body, arrow_args, arrow_rest, step, post, signs, signed_post, pre, each_tail, lead_step, level_of, operator, link, links, chain, flagged, lead_post, lead_pre, lead}
+use Rattle.qvt_language.specs.Trees.{second, nothing, dot_of, no_args, arrow_of, accumulator_of, expr_of, headed, with_first, bare_target, more_steps, stepped, post_of, split_last, member_of, post_lead, each_lead, signed, prefix_lead, link_of, chain_of, each_of}
 use Rattle.qvt_parser_names.specs.Names.{Told, AllOf, IfThere, NamesHold, TypeHolds, ExprHolds, ArgsHold, LinkHolds, LinksHold, HeadHolds, AccumulatorHolds, StepHolds, StepsHold, TargetHolds}
 use Rattle.qvt_parser_names.proofs.Forms.{Gives, Both, OneOf, each_any, each_the, each_follow, each_then, each_made, each_either, each_many, each_maybe, each_placed, each_weaker, each_series, of_second, of_first}
 use Rattle.qvt_parser_names.proofs.Exprs.{PartP, LeadP, GivesNested, expr_is, exprs_are, optional_is, of_name, of_colon_type, of_expr, of_more_exprs, of_args, of_map_call, of_bar_expr, of_resolve, of_other_primary, of_primary}

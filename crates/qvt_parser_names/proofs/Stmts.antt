@@ -4,15 +4,15 @@ use Rattle.qvt_base.specs.declared.numbers.Place.{Place}
 use Rattle.qvt_tree_types.specs.Tree.{ExprTerm, IfExpr, StmtTerm, ArmTerm, TargetTerm}
 use Rattle.qvt_tree_types.specs.View.{arms_of, optional_else}
 use Rattle.qvt_grammar.specs.Language.{empty, then, made, maybe}
-use Rattle.qvt_parser_grammar.specs.Tokens.{Tok}
-use Rattle.qvt_parser_grammar.specs.Readers.{the}
-use Rattle.qvt_parser_grammar.specs.declared.token.Class.TheVariants.{OpenRound, CloseRound, OpenBrace, CloseBrace, Semicolon, Becomes, PlusEqual, ElifWord, ElseWord, EndifWord, IfWord, ReturnWord, ThenWord, VarWord, WhileWord}
-use Rattle.qvt_parser_grammar.specs.Leads.{Lead, Plain, Bracketed, Each, EachPart, Ended}
-use Rattle.qvt_parser_grammar.specs.Grammar.{Nested}
-use Rattle.qvt_parser_grammar.specs.Nesting.{nested}
-use Rattle.qvt_parser_grammar.specs.Trees.{second, expr_of, post_of}
-use Rattle.qvt_parser_grammar.specs.Statements.{condition, var_stmt, return_stmt, arm, else_part, branches, choice, if_rest, if_stmt, while_stmt, assignment, semicolon, lead_tail, lead_stmt, statement, statements, block}
-use Rattle.qvt_parser_grammar.specs.StmtTrees.{var_of, return_of, arm_of, for_each_of, Branches, Choice, if_made, if_stmt_of, while_of, Turn, empty_turn, closed_turn, simple_turn, Tail, no_tail, plain_tail, lead_turn, written, concat, last_of, ended_of, block_of}
+use Rattle.qvt_language.specs.Tokens.{Tok}
+use Rattle.qvt_language.specs.Readers.{the}
+use Rattle.qvt_language.specs.declared.class.Class.TheVariants.{OpenRound, CloseRound, OpenBrace, CloseBrace, Semicolon, Becomes, PlusEqual, ElifWord, ElseWord, EndifWord, IfWord, ReturnWord, ThenWord, VarWord, WhileWord}
+use Rattle.qvt_language.specs.Leads.{Lead, Plain, Bracketed, Each, EachPart, Ended}
+use Rattle.qvt_language.specs.Grammar.{Nested}
+use Rattle.qvt_language.specs.Nesting.{nested}
+use Rattle.qvt_language.specs.Trees.{second, expr_of, post_of}
+use Rattle.qvt_language.specs.Statements.{condition, var_stmt, return_stmt, arm, else_part, branches, choice, if_rest, if_stmt, while_stmt, assignment, semicolon, lead_tail, lead_stmt, statement, statements, block}
+use Rattle.qvt_language.specs.StmtTrees.{var_of, return_of, arm_of, for_each_of, Branches, Choice, if_made, if_stmt_of, while_of, Turn, empty_turn, closed_turn, simple_turn, Tail, no_tail, plain_tail, lead_turn, written, concat, last_of, ended_of, block_of}
 use Rattle.qvt_parser_names.specs.Names.{Told, AllOf, IfThere, ExprHolds, StepHolds, TargetHolds, StmtHolds, ArmHolds, ArmsHold, ElseHolds}
 use Rattle.qvt_parser_names.proofs.Forms.{Gives, Any, Both, OneOf, each_any, each_the, each_follow, each_then, each_made, each_either, each_many, each_maybe, each_placed, each_weaker, each_never, each_series, each_finished, of_second, of_inner, all_and}
 use Rattle.qvt_parser_names.proofs.Exprs.{PartP, LeadP, GivesNested, expr_is, stmts_are, optional_is, of_name, of_typed, of_colon_type, of_expr}

@@ -5,12 +5,12 @@ use Rattle.qvt_tree_types.specs.Module.{UnitTerm}
 use Rattle.qvt_tree_types.specs.declared.types.PathTree.{PathTree}
 use Rattle.qvt_tree_types.specs.declared.module.ModelParam.{ModelParam}
 use Rattle.qvt_grammar.specs.Language.{empty, maybe}
-use Rattle.qvt_parser_grammar.specs.Tokens.{of}
-use Rattle.qvt_parser_grammar.specs.declared.token.Class.TheVariants.{Name, Str, OpenRound, CloseRound, OpenBrace, CloseBrace, Comma, Semicolon, Colon, EqualSign, ClassWord, ConstructorWord, DisjunctsWord, EndWord, ExtendsWord, HelperWord, InWord, InheritsWord, InitWord, InoutWord, IntermediateWord, MainWord, MappingWord, MergesWord, ModelTypeWord, OutWord, PopulationWord, QueryWord, TransformationWord, UsesWord, WhenWord}
-use Rattle.qvt_parser_grammar.specs.Grammar.{Nested}
-use Rattle.qvt_parser_grammar.specs.Trees.{second, text_of}
-use Rattle.qvt_parser_grammar.specs.UnitTrees.{typed_name_of, param_of, paths_or_none, class_of, main_of, return_body, helper_of, constructor_of, result_decl_of, Clauses, no_clauses, Clause, InheritsClause, MergesClause, DisjunctsClause, WhenClause, with_clause, read_words, or_same, Body, stmts_or_none, empty_body, body_of, sections_of, open_sections_of, mapping_of, some_unit, units_of, model_type_of, model_param_of, module_of, kept, no_end}
-use Rattle.qvt_parser_grammar.specs.Units.{param, params, feature, features, class_unit, main_unit, helper_body, helper_unit, constructor_unit, result_decl, when_clause, clause, init_part, end_part, end_unless, sections, body, fresh, clauses, mapping_unit, unit, strictness, uri, model_type, model_param, header, transformation}
+use Rattle.qvt_language.specs.Tokens.{of}
+use Rattle.qvt_language.specs.declared.class.Class.TheVariants.{Name, Str, OpenRound, CloseRound, OpenBrace, CloseBrace, Comma, Semicolon, Colon, EqualSign, ClassWord, ConstructorWord, DisjunctsWord, EndWord, ExtendsWord, HelperWord, InWord, InheritsWord, InitWord, InoutWord, IntermediateWord, MainWord, MappingWord, MergesWord, ModelTypeWord, OutWord, PopulationWord, QueryWord, TransformationWord, UsesWord, WhenWord}
+use Rattle.qvt_language.specs.Grammar.{Nested}
+use Rattle.qvt_language.specs.Trees.{second, text_of}
+use Rattle.qvt_language.specs.UnitTrees.{typed_name_of, param_of, paths_or_none, class_of, main_of, return_body, helper_of, constructor_of, result_decl_of, Clauses, no_clauses, Clause, InheritsClause, MergesClause, DisjunctsClause, WhenClause, with_clause, read_words, or_same, Body, stmts_or_none, empty_body, body_of, sections_of, open_sections_of, mapping_of, some_unit, units_of, model_type_of, model_param_of, module_of, kept, no_end}
+use Rattle.qvt_language.specs.Units.{param, params, feature, features, class_unit, main_unit, helper_body, helper_unit, constructor_unit, result_decl, when_clause, clause, init_part, end_part, end_unless, sections, body, fresh, clauses, mapping_unit, unit, strictness, uri, model_type, model_param, header, transformation}
 use Rattle.qvt_parser_names.specs.Names.{Told, AllOf, IfThere, PathHolds, ExprHolds, StmtHolds, TypedHolds, ResultHolds, UnitHolds, ModelTypeHolds, ModelParamHolds, HasNames}
 use Rattle.qvt_parser_names.proofs.Forms.{Gives, Both, each_any, each_the, each_name, each_text, each_follow, each_then, each_made, each_either, each_many, each_maybe, each_placed, each_barring, each_weaker, of_second, of_first, of_inner, of_cons, of_nothing, all_and}
 use Rattle.qvt_parser_names.proofs.Exprs.{GivesNested, stmts_are, optional_is, of_name, of_path, of_paths, of_unit_path, of_extent, of_colon_type, of_expr}

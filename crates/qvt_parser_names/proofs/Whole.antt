@@ -1,10 +1,10 @@
 -- What names and texts a tree has that is read.
 use Rattle.std.proofs.Common.{ℕ, List, [], ◌∷◌, refl, inl, inr}
 use Rattle.qvt_tree_types.specs.Module.{ModuleTerm}
-use Rattle.qvt_parser_grammar.specs.Tokens.{Tok}
-use Rattle.qvt_parser_grammar.specs.Module.{Reads}
-use Rattle.qvt_parser_grammar.specs.declared.token.Class.{Class}
-use Rattle.qvt_parser_grammar.specs.declared.token.Class.TheVariants.{Name, Str}
+use Rattle.qvt_language.specs.Tokens.{Tok}
+use Rattle.qvt_language.specs.Module.{Reads}
+use Rattle.qvt_language.specs.declared.class.Class.{Class}
+use Rattle.qvt_language.specs.declared.class.Class.TheVariants.{Name, Str}
 use Rattle.qvt_parser_names.specs.Names.{Told, AllOf, HasNames}
 use Rattle.qvt_parser_names.specs.Law.{IsTextOf, of_tokens, NamesAreTokens, IsAtMost, at_most, NoneIsLonger}
 use Rattle.qvt_parser_names.proofs.Forms.{AllTell}

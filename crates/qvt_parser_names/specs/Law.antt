@@ -1,10 +1,10 @@
 -- What names a tree has by its tokens.
 use Rattle.std.specs.Prelude.{◌≡◌, ℕ, ◌≤◌, List, [], ◌∷◌, length, ◌⊎◌, IsTrue}
 use Rattle.qvt_tree_types.specs.Module.{ModuleTerm}
-use Rattle.qvt_parser_grammar.specs.Tokens.{Tok, is}
-use Rattle.qvt_parser_grammar.specs.Module.{Reads}
-use Rattle.qvt_parser_grammar.specs.declared.token.Class.{Class}
-use Rattle.qvt_parser_grammar.specs.declared.token.Class.TheVariants.{Name, Str}
+use Rattle.qvt_language.specs.Tokens.{Tok, is}
+use Rattle.qvt_language.specs.Module.{Reads}
+use Rattle.qvt_language.specs.declared.class.Class.{Class}
+use Rattle.qvt_language.specs.declared.class.Class.TheVariants.{Name, Str}
 use Rattle.qvt_parser_names.specs.Names.{Told, AllOf, HasNames}
 
 -- the text of one of the tokens of the class

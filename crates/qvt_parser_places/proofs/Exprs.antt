@@ -6,14 +6,14 @@ use Rattle.qvt_tree_types.specs.View.{exprs_of, items_of, stmts_of, optional_exp
 use Rattle.qvt_tree_types.specs.declared.types.PathTree.{PathTree}
 use Rattle.qvt_tree_types.specs.declared.types.ObjectVar.{ObjectVar}
 use Rattle.qvt_tree_types.specs.declared.words.ResolveWord.{ResolveWord}
-use Rattle.qvt_parser_grammar.specs.declared.named.Named.{Named}
-use Rattle.qvt_parser_grammar.specs.declared.named.UnitPath.{UnitPath}
-use Rattle.qvt_parser_grammar.specs.declared.token.Class.TheVariants.{Name, Integer, Str, BagWord, FalseWord, NullWord, ObjectWord, OrderedSetWord, ResultWord, SelfWord, SequenceWord, SetWord, TrueWord, NewWord, DotDot}
-use Rattle.qvt_parser_grammar.specs.Leads.{Lead, Plain, Bracketed, Each, EachPart}
-use Rattle.qvt_parser_grammar.specs.Grammar.{Nested, name, more_names, path, paths, unit_path, kind_word, coll_type, typed, colon_type, expr, exprs, args, literal, word, named_expr, item, coll, if_expr, colon_path, object_head, object, new_expr, map_call, filter_head, bar_expr, filter, all_form, in_form, resolve, brackets, longer, bare_expr, other_primary, primary, more_exprs}
-use Rattle.qvt_parser_grammar.specs.Reading.{NestedAt}
-use Rattle.qvt_parser_grammar.specs.Trees.{named_of, path_of, last_place, unit_path_of, coll_type_of, int_of, str_of, true_of, false_of, null_of, self_of, result_of, named_expr_of, coll_of, range_of, item_of, if_of, result_head, named_head, object_of, new_of, map_of, all_of, in_of, resolve_of, no_name, named_type, filter_of, bare, bracketed, expr_of}
-use Rattle.qvt_parser_grammar.proofs.GoodExprs.{GoodNested, good_item, good_if_expr, good_filter, good_resolve}
+use Rattle.qvt_language.specs.declared.named.Named.{Named}
+use Rattle.qvt_language.specs.declared.named.UnitPath.{UnitPath}
+use Rattle.qvt_language.specs.declared.class.Class.TheVariants.{Name, Integer, Str, BagWord, FalseWord, NullWord, ObjectWord, OrderedSetWord, ResultWord, SelfWord, SequenceWord, SetWord, TrueWord, NewWord, DotDot}
+use Rattle.qvt_language.specs.Leads.{Lead, Plain, Bracketed, Each, EachPart}
+use Rattle.qvt_language.specs.Grammar.{Nested, name, more_names, path, paths, unit_path, kind_word, coll_type, typed, colon_type, expr, exprs, args, literal, word, named_expr, item, coll, if_expr, colon_path, object_head, object, new_expr, map_call, filter_head, bar_expr, filter, all_form, in_form, resolve, brackets, longer, bare_expr, other_primary, primary, more_exprs}
+use Rattle.qvt_language.specs.Reading.{NestedAt}
+use Rattle.qvt_language.specs.Trees.{named_of, path_of, last_place, unit_path_of, coll_type_of, int_of, str_of, true_of, false_of, null_of, self_of, result_of, named_expr_of, coll_of, range_of, item_of, if_of, result_head, named_head, object_of, new_of, map_of, all_of, in_of, resolve_of, no_name, named_type, filter_of, bare, bracketed, expr_of}
+use Rattle.qvt_language.proofs.GoodExprs.{GoodNested, good_item, good_if_expr, good_filter, good_resolve}
 use Rattle.qvt_parser_places.specs.Places.{all_places, places_if, path_places, type_places, variable_places, expr_places, exprs_places, optional_places, item_places, items_places, range_places, map_places, resolve_places, filter_places, target_places, stmt_places, stmts_places}
 use Rattle.qvt_parser_places.proofs.Along.{Thin, Node, thin_same, thin_is, thin_over, thin_front, node_is}
 use Rattle.qvt_parser_places.proofs.Forms.{Follows, none, token_place, both, one_of, follows_any, follows_the, follows_then, follows_left, follows_right, follows_made, follows_as, follows_node, follows_either, follows_many, follows_maybe, follows_thin, of_second, of_first, of_inner, of_cons, of_nothing}

@@ -3,11 +3,11 @@ use Rattle.std.proofs.Common.{◌≡◌, List, [], ◌∷◌, ◌++◌, ◌⊎�
 use Rattle.qvt_base.specs.declared.numbers.Place.{Place}
 use Rattle.qvt_grammar.specs.Language.{Language, follow, then, either, turns, many, made, never, maybe, head_of, lastly}
 use Rattle.qvt_grammar.proofs.Firsts.{Solid}
-use Rattle.qvt_parser_grammar.specs.Tokens.{Tok}
-use Rattle.qvt_parser_grammar.specs.Readers.{nowhere, the, placed}
-use Rattle.qvt_parser_grammar.specs.Series.{left, right, series, finished}
-use Rattle.qvt_parser_grammar.specs.Trees.{second, first, inner, cons_of, nothing}
-use Rattle.qvt_parser_grammar.specs.declared.token.Class.{Class}
+use Rattle.qvt_language.specs.Tokens.{Tok}
+use Rattle.qvt_language.specs.Readers.{nowhere, the, placed}
+use Rattle.qvt_language.specs.Series.{left, right, series, finished}
+use Rattle.qvt_language.specs.Trees.{second, first, inner, cons_of, nothing}
+use Rattle.qvt_language.specs.declared.class.Class.{Class}
 use Rattle.qvt_parser_places.specs.Places.{all_places, places_if}
 use Rattle.qvt_parser_places.proofs.Along.{Along, Thin, Node, along_after, along_more, along_both, along_head, along_thin, thin_same, thin_is}
 

@@ -9,16 +9,16 @@ use Rattle.qvt_tree_types.specs.declared.words.Sign.{Sign}
 use Rattle.qvt_grammar.specs.Language.{Language, follow, made}
 use Rattle.qvt_grammar.proofs.Firsts.{Solid, solid_made, solid_marked}
 use Rattle.qvt_grammar.proofs.Sequences.{solid_first}
-use Rattle.qvt_parser_grammar.specs.Tokens.{Tok}
-use Rattle.qvt_parser_grammar.specs.Readers.{nowhere, placed}
-use Rattle.qvt_parser_grammar.specs.declared.token.Class.TheVariants.{Star, PlusSign, MinusSign, LessSign, AtMost, GreaterSign, AtLeast, EqualSign, DoubleEqual, Diamond, BangEqual, AndWord, OrWord, XorWord, ImpliesWord, NotWord}
-use Rattle.qvt_parser_grammar.specs.Leads.{Lead, Plain, Bracketed, Each, EachPart}
-use Rattle.qvt_parser_grammar.specs.Grammar.{Nested, dot_rest, dot_step, accumulator, head_rest, after_first, more_exprs, arrow_body, arrow_args, arrow_rest, step, post, sign, more_signs, signs, signed_post, pre, each_tail, lead_step, level_of, operator, link, links, chain, flagged, lead_post, lead_pre, lead}
-use Rattle.qvt_parser_grammar.specs.Reading.{NestedAt}
-use Rattle.qvt_parser_grammar.specs.Trees.{second, nothing, dot_of, no_args, arrow_of, accumulator_of, expr_of, headed, with_first, bare_target, more_steps, stepped, post_of, split_last, member_of, post_lead, each_lead, not_of, minus_of, signed, prefix_lead, link_of, chain_of, each_of}
-use Rattle.qvt_parser_grammar.proofs.GoodExprs.{GoodNested}
-use Rattle.qvt_parser_grammar.proofs.GoodSteps.{good_post, good_signed_post, good_pre}
-use Rattle.qvt_parser_grammar.proofs.GoodBlocks.{goodv_lead_post, goodv_lead_pre}
+use Rattle.qvt_language.specs.Tokens.{Tok}
+use Rattle.qvt_language.specs.Readers.{nowhere, placed}
+use Rattle.qvt_language.specs.declared.class.Class.TheVariants.{Star, PlusSign, MinusSign, LessSign, AtMost, GreaterSign, AtLeast, EqualSign, DoubleEqual, Diamond, BangEqual, AndWord, OrWord, XorWord, ImpliesWord, NotWord}
+use Rattle.qvt_language.specs.Leads.{Lead, Plain, Bracketed, Each, EachPart}
+use Rattle.qvt_language.specs.Grammar.{Nested, dot_rest, dot_step, accumulator, head_rest, after_first, more_exprs, arrow_body, arrow_args, arrow_rest, step, post, sign, more_signs, signs, signed_post, pre, each_tail, lead_step, level_of, operator, link, links, chain, flagged, lead_post, lead_pre, lead}
+use Rattle.qvt_language.specs.Reading.{NestedAt}
+use Rattle.qvt_language.specs.Trees.{second, nothing, dot_of, no_args, arrow_of, accumulator_of, expr_of, headed, with_first, bare_target, more_steps, stepped, post_of, split_last, member_of, post_lead, each_lead, not_of, minus_of, signed, prefix_lead, link_of, chain_of, each_of}
+use Rattle.qvt_language.proofs.GoodExprs.{GoodNested}
+use Rattle.qvt_language.proofs.GoodSteps.{good_post, good_signed_post, good_pre}
+use Rattle.qvt_language.proofs.GoodBlocks.{goodv_lead_post, goodv_lead_pre}
 use Rattle.qvt_parser_places.specs.Places.{all_places, places_if, type_places, sign_places, expr_places, exprs_places, args_places, optional_places, link_places, links_places, head_places, accumulator_places, step_places, steps_places, target_places, stmt_places}
 use Rattle.qvt_parser_places.proofs.Along.{Along, Thin, Node, along_both, along_thin, thin_same, thin_is, thin_over, thin_both, thin_front, node, node_is, no_node}
 use Rattle.qvt_parser_places.proofs.Forms.{Follows, none, token_place, both, left_of, one_of, follows_any, follows_the, follows_never, follows_then, follows_follow, follows_left, follows_right, follows_made, follows_as, follows_node, follows_either, follows_many, follows_maybe, follows_thin, follows_series, of_second, of_first}

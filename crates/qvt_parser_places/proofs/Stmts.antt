@@ -4,20 +4,20 @@ use Rattle.qvt_base.specs.declared.numbers.Place.{Place}
 use Rattle.qvt_tree_types.specs.Tree.{ExprTerm, IfExpr, StmtTerm, ArmTerm, TargetTerm}
 use Rattle.qvt_tree_types.specs.View.{stmts_of, steps_of, arms_of, optional_else}
 use Rattle.qvt_grammar.specs.Language.{then, made, head_of}
-use Rattle.qvt_parser_grammar.specs.Tokens.{Tok}
-use Rattle.qvt_parser_grammar.specs.Readers.{nowhere, the}
-use Rattle.qvt_parser_grammar.specs.declared.token.Class.TheVariants.{Becomes, PlusEqual, ThenWord}
-use Rattle.qvt_parser_grammar.specs.Leads.{Lead, Plain, Bracketed, Each, EachPart, Ended}
-use Rattle.qvt_parser_grammar.specs.Grammar.{Nested, lead}
-use Rattle.qvt_parser_grammar.specs.Nesting.{nested}
-use Rattle.qvt_parser_grammar.specs.Reading.{NestedAt}
-use Rattle.qvt_parser_grammar.specs.Trees.{second, expr_of, post_of}
-use Rattle.qvt_parser_grammar.specs.Statements.{condition, var_stmt, return_stmt, arm, else_part, branches, choice, if_rest, if_stmt, while_stmt, assignment, lead_tail, lead_stmt, statement, statements, block}
-use Rattle.qvt_parser_grammar.specs.StmtTrees.{var_of, return_of, arm_of, for_each_of, Branches, Choice, if_made, if_stmt_of, while_of, Turn, empty_turn, closed_turn, simple_turn, Tail, no_tail, plain_tail, lead_turn, written, concat, last_of, ended_of, block_of}
-use Rattle.qvt_parser_grammar.proofs.GoodExprs.{GoodNested}
-use Rattle.qvt_parser_grammar.proofs.GoodStmts.{good_var_stmt, good_return_stmt, good_while_stmt}
-use Rattle.qvt_parser_grammar.proofs.GoodIfs.{good_if_stmt}
-use Rattle.qvt_parser_grammar.proofs.GoodNesting.{good_same}
+use Rattle.qvt_language.specs.Tokens.{Tok}
+use Rattle.qvt_language.specs.Readers.{nowhere, the}
+use Rattle.qvt_language.specs.declared.class.Class.TheVariants.{Becomes, PlusEqual, ThenWord}
+use Rattle.qvt_language.specs.Leads.{Lead, Plain, Bracketed, Each, EachPart, Ended}
+use Rattle.qvt_language.specs.Grammar.{Nested, lead}
+use Rattle.qvt_language.specs.Nesting.{nested}
+use Rattle.qvt_language.specs.Reading.{NestedAt}
+use Rattle.qvt_language.specs.Trees.{second, expr_of, post_of}
+use Rattle.qvt_language.specs.Statements.{condition, var_stmt, return_stmt, arm, else_part, branches, choice, if_rest, if_stmt, while_stmt, assignment, lead_tail, lead_stmt, statement, statements, block}
+use Rattle.qvt_language.specs.StmtTrees.{var_of, return_of, arm_of, for_each_of, Branches, Choice, if_made, if_stmt_of, while_of, Turn, empty_turn, closed_turn, simple_turn, Tail, no_tail, plain_tail, lead_turn, written, concat, last_of, ended_of, block_of}
+use Rattle.qvt_language.proofs.GoodExprs.{GoodNested}
+use Rattle.qvt_language.proofs.GoodStmts.{good_var_stmt, good_return_stmt, good_while_stmt}
+use Rattle.qvt_language.proofs.GoodIfs.{good_if_stmt}
+use Rattle.qvt_language.proofs.GoodNesting.{good_same}
 use Rattle.qvt_parser_places.specs.Places.{all_places, places_if, type_places, expr_places, optional_places, step_places, steps_places, target_places, stmt_places, stmts_places, arm_places, arms_places, else_places}
 use Rattle.qvt_parser_places.proofs.Along.{Along, Thin, Node, along_more, along_both, along_head, along_thin, thin_same, thin_is, thin_front, node_is}
 use Rattle.qvt_parser_places.proofs.Forms.{Follows, none, token_place, both, one_of, follows_any, follows_the, follows_never, follows_then, follows_follow, follows_left, follows_right, follows_made, follows_as, follows_node, follows_either, follows_many, follows_maybe, follows_series, follows_finished, of_second, of_inner}

@@ -5,19 +5,19 @@ use Rattle.qvt_tree_types.specs.Tree.{ExprTerm, StmtTerm}
 use Rattle.qvt_tree_types.specs.Module.{TypedName, UnitTerm, ClassOf, MainOf, HelperOf, ConstructorOf, MappingOf, MappingTerm}
 use Rattle.qvt_tree_types.specs.View.{stmts_of, optional_expr}
 use Rattle.qvt_tree_types.specs.declared.module.ResultDecl.{ResultDecl}
-use Rattle.qvt_parser_grammar.specs.declared.named.UnitPath.{UnitPath}
+use Rattle.qvt_language.specs.declared.named.UnitPath.{UnitPath}
 use Rattle.qvt_tree_types.specs.declared.types.PathTree.{PathTree}
 use Rattle.qvt_tree_types.specs.declared.module.ModelParam.{ModelParam}
 use Rattle.qvt_grammar.specs.Language.{maybe}
-use Rattle.qvt_parser_grammar.specs.Tokens.{Tok, of}
-use Rattle.qvt_parser_grammar.specs.declared.token.Class.TheVariants.{InWord, InoutWord, OutWord, HelperWord, QueryWord, EqualSign}
-use Rattle.qvt_parser_grammar.specs.Grammar.{Nested, path}
-use Rattle.qvt_parser_grammar.specs.Reading.{NestedAt}
-use Rattle.qvt_parser_grammar.specs.Trees.{second}
-use Rattle.qvt_parser_grammar.specs.UnitTrees.{typed_name_of, param_of, paths_or_none, class_of, main_of, return_body, helper_of, constructor_of, result_decl_of, Clauses, no_clauses, Clause, InheritsClause, MergesClause, DisjunctsClause, WhenClause, with_clause, read_words, or_same, Body, stmts_or_none, empty_body, body_of, sections_of, open_sections_of, mapping_of, some_unit, units_of, model_type_of, model_param_of, module_of, kept, no_end}
-use Rattle.qvt_parser_grammar.specs.Units.{param, params, feature, features, class_unit, main_unit, helper_body, helper_unit, constructor_unit, result_decl, when_clause, clause, init_part, end_part, end_unless, sections, body, fresh, clauses, mapping_unit, unit, model_type, model_param, header, transformation}
-use Rattle.qvt_parser_grammar.proofs.GoodExprs.{GoodNested}
-use Rattle.qvt_parser_grammar.proofs.GoodUnits.{good_param, good_class_unit, good_main_unit, good_model_type}
+use Rattle.qvt_language.specs.Tokens.{Tok, of}
+use Rattle.qvt_language.specs.declared.class.Class.TheVariants.{InWord, InoutWord, OutWord, HelperWord, QueryWord, EqualSign}
+use Rattle.qvt_language.specs.Grammar.{Nested, path}
+use Rattle.qvt_language.specs.Reading.{NestedAt}
+use Rattle.qvt_language.specs.Trees.{second}
+use Rattle.qvt_language.specs.UnitTrees.{typed_name_of, param_of, paths_or_none, class_of, main_of, return_body, helper_of, constructor_of, result_decl_of, Clauses, no_clauses, Clause, InheritsClause, MergesClause, DisjunctsClause, WhenClause, with_clause, read_words, or_same, Body, stmts_or_none, empty_body, body_of, sections_of, open_sections_of, mapping_of, some_unit, units_of, model_type_of, model_param_of, module_of, kept, no_end}
+use Rattle.qvt_language.specs.Units.{param, params, feature, features, class_unit, main_unit, helper_body, helper_unit, constructor_unit, result_decl, when_clause, clause, init_part, end_part, end_unless, sections, body, fresh, clauses, mapping_unit, unit, model_type, model_param, header, transformation}
+use Rattle.qvt_language.proofs.GoodExprs.{GoodNested}
+use Rattle.qvt_language.proofs.GoodUnits.{good_param, good_class_unit, good_main_unit, good_model_type}
 use Rattle.qvt_parser_places.specs.Places as places_of
 use Rattle.qvt_parser_places.specs.Places.{all_places, places_if, path_places, type_places, expr_places, optional_places, stmt_places, stmts_places, typed_places, result_places, clause_places, unit_places, type_place, param_place, places}
 use Rattle.qvt_parser_places.proofs.Along.{Along, Thin, Node, along_after, along_more, thin_same, thin_is, node, node_is}

@@ -1,9 +1,9 @@
 -- Where the nodes of a tree stand that is read.
 use Rattle.std.proofs.Common.{List}
 use Rattle.qvt_tree_types.specs.Module.{MappingTerm, ModuleTerm}
-use Rattle.qvt_parser_grammar.specs.Tokens.{Tok}
-use Rattle.qvt_parser_grammar.specs.Module.{Reads}
-use Rattle.qvt_parser_grammar.proofs.GoodNesting.{good_same}
+use Rattle.qvt_language.specs.Tokens.{Tok}
+use Rattle.qvt_language.specs.Module.{Reads}
+use Rattle.qvt_language.proofs.GoodNesting.{good_same}
 use Rattle.qvt_parser_places.specs.Places.{Clause, places}
 use Rattle.qvt_parser_places.specs.Law.{PlacesOfTree}
 use Rattle.qvt_parser_places.proofs.Along.{Along, along_tokens, along_order}

@@ -1,11 +1,11 @@
 -- Sizes of what a language reads, which are at most twice its tokens, by the forms of the grammar.
 use Rattle.std.proofs.Common.{◌≡◌, ℕ, suc, ◌+◌, ◌-◌, ◌*◌, ◌≤◌, List, [], ◌∷◌, ◌++◌, length, length-append, Bool, ◌⊎◌, inl, inr, sym, ap, subst, arith, Option, Some, None}
 use Rattle.qvt_grammar.specs.Language.{Language, follow, then, either, turns, many, made, never, maybe, lastly}
-use Rattle.qvt_parser_grammar.specs.Tokens.{Tok}
-use Rattle.qvt_parser_grammar.specs.Readers.{the, placed}
-use Rattle.qvt_parser_grammar.specs.Series.{left, right, series, finished, barring}
-use Rattle.qvt_parser_grammar.specs.Trees.{second, first, inner, cons_of, nothing}
-use Rattle.qvt_parser_grammar.specs.declared.token.Class.{Class}
+use Rattle.qvt_language.specs.Tokens.{Tok}
+use Rattle.qvt_language.specs.Readers.{the, placed}
+use Rattle.qvt_language.specs.Series.{left, right, series, finished, barring}
+use Rattle.qvt_language.specs.Trees.{second, first, inner, cons_of, nothing}
+use Rattle.qvt_language.specs.declared.class.Class.{Class}
 use Rattle.qvt_parser_sizes.specs.Nodes.{total}
 
 pub record Sized {A : Type 0} (size : A → ℕ) (l : Language Tok A) : Type 0 where

@@ -7,11 +7,11 @@ use Rattle.qvt_tree_types.specs.declared.types.PathTree.{PathTree}
 use Rattle.qvt_tree_types.specs.declared.words.Level.{Level}
 use Rattle.qvt_tree_types.specs.declared.words.Sign.{Sign}
 use Rattle.qvt_grammar.specs.Language.{Language, made, empty}
-use Rattle.qvt_parser_grammar.specs.Tokens.{Tok}
-use Rattle.qvt_parser_grammar.specs.declared.token.Class.TheVariants.{OpenRound, CloseRound, Semicolon, Dot, Arrow, EqualSign, DoubleEqual, Diamond, BangEqual, LessSign, AtMost, GreaterSign, AtLeast, PlusSign, MinusSign, Star, AndWord, ForEachWord, ImpliesWord, NotWord, OrWord, XorWord}
-use Rattle.qvt_parser_grammar.specs.Leads.{Lead, Plain, Bracketed, Each, EachPart}
-use Rattle.qvt_parser_grammar.specs.Grammar.{Nested, more_exprs, dot_rest, dot_step, accumulator, head_rest, after_first, arrow_body, arrow_args, arrow_rest, step, post, sign, more_signs, signs, signed_post, pre, each_tail, lead_step, level_of, operator, link, links, chain, flagged, lead_post, lead_pre, lead}
-use Rattle.qvt_parser_grammar.specs.Trees.{second, nothing, dot_of, no_args, arrow_of, accumulator_of, expr_of, headed, with_first, bare_target, more_steps, stepped, post_of, split_last, member_of, post_lead, each_lead, not_of, minus_of, signed, prefix_lead, link_of, chain_of, each_of}
+use Rattle.qvt_language.specs.Tokens.{Tok}
+use Rattle.qvt_language.specs.declared.class.Class.TheVariants.{OpenRound, CloseRound, Semicolon, Dot, Arrow, EqualSign, DoubleEqual, Diamond, BangEqual, LessSign, AtMost, GreaterSign, AtLeast, PlusSign, MinusSign, Star, AndWord, ForEachWord, ImpliesWord, NotWord, OrWord, XorWord}
+use Rattle.qvt_language.specs.Leads.{Lead, Plain, Bracketed, Each, EachPart}
+use Rattle.qvt_language.specs.Grammar.{Nested, more_exprs, dot_rest, dot_step, accumulator, head_rest, after_first, arrow_body, arrow_args, arrow_rest, step, post, sign, more_signs, signs, signed_post, pre, each_tail, lead_step, level_of, operator, link, links, chain, flagged, lead_post, lead_pre, lead}
+use Rattle.qvt_language.specs.Trees.{second, nothing, dot_of, no_args, arrow_of, accumulator_of, expr_of, headed, with_first, bare_target, more_steps, stepped, post_of, split_last, member_of, post_lead, each_lead, not_of, minus_of, signed, prefix_lead, link_of, chain_of, each_of}
 use Rattle.qvt_parser_sizes.specs.Nodes.{total, expr_nodes, args_nodes, link_nodes, links_nodes, head_nodes, accumulator_nodes, step_nodes, steps_nodes, target_nodes}
 use Rattle.qvt_parser_sizes.proofs.Forms.{Sized, two, sum, if_there, one_of, sized_any, sized_the, sized_never, sized_follow, sized_then, sized_made, sized_either, sized_many, sized_maybe, sized_placed, sized_series, sized_second, sized_first}
 use Rattle.qvt_parser_sizes.proofs.Exprs.{typed_size, expr_size, part_size, lead_size, barred_size, primary_size, SizedNested, expr_le, exprs_le, type_le, barred_le, sized_name, sized_colon_type, sized_expr, sized_more_exprs, sized_args, sized_map_call, sized_bar_expr, sized_resolve, sized_other_primary, sized_primary}

@@ -6,13 +6,13 @@ use Rattle.qvt_tree_types.specs.declared.types.PathTree.{PathTree}
 use Rattle.qvt_tree_types.specs.declared.module.ResultDecl.{ResultDecl}
 use Rattle.qvt_tree_types.specs.declared.module.ModelParam.{ModelParam}
 use Rattle.qvt_grammar.specs.Language.{empty, made, maybe}
-use Rattle.qvt_parser_grammar.specs.Tokens.{of}
-use Rattle.qvt_parser_grammar.specs.declared.token.Class.TheVariants.{Name, OpenRound, CloseRound, OpenBrace, CloseBrace, Comma, Semicolon, Colon, EqualSign, ClassWord, ConstructorWord, DisjunctsWord, EndWord, ExtendsWord, HelperWord, InWord, InheritsWord, InitWord, InoutWord, IntermediateWord, MainWord, MappingWord, MergesWord, ModelTypeWord, OutWord, PopulationWord, QueryWord, TransformationWord, UsesWord, WhenWord}
-use Rattle.qvt_parser_grammar.specs.Grammar.{Nested, extent}
-use Rattle.qvt_parser_grammar.specs.Readers.{the}
-use Rattle.qvt_parser_grammar.specs.Trees.{second, cons_of, text_of}
-use Rattle.qvt_parser_grammar.specs.UnitTrees.{typed_name_of, param_of, paths_or_none, class_of, main_of, return_body, helper_of, constructor_of, result_decl_of, Clauses, no_clauses, Clause, InheritsClause, MergesClause, DisjunctsClause, WhenClause, with_clause, read_words, or_same, Body, stmts_or_none, empty_body, body_of, sections_of, open_sections_of, mapping_of, some_unit, units_of, model_type_of, model_param_of, module_of, kept, no_end}
-use Rattle.qvt_parser_grammar.specs.Units.{param, params, feature, features, class_unit, main_unit, helper_body, helper_unit, constructor_unit, result_decl, when_clause, clause, init_part, end_part, end_unless, sections, body, fresh, clauses, mapping_unit, unit, strictness, uri, model_type, model_param, header, transformation}
+use Rattle.qvt_language.specs.Tokens.{of}
+use Rattle.qvt_language.specs.declared.class.Class.TheVariants.{Name, OpenRound, CloseRound, OpenBrace, CloseBrace, Comma, Semicolon, Colon, EqualSign, ClassWord, ConstructorWord, DisjunctsWord, EndWord, ExtendsWord, HelperWord, InWord, InheritsWord, InitWord, InoutWord, IntermediateWord, MainWord, MappingWord, MergesWord, ModelTypeWord, OutWord, PopulationWord, QueryWord, TransformationWord, UsesWord, WhenWord}
+use Rattle.qvt_language.specs.Grammar.{Nested, extent}
+use Rattle.qvt_language.specs.Readers.{the}
+use Rattle.qvt_language.specs.Trees.{second, cons_of, text_of}
+use Rattle.qvt_language.specs.UnitTrees.{typed_name_of, param_of, paths_or_none, class_of, main_of, return_body, helper_of, constructor_of, result_decl_of, Clauses, no_clauses, Clause, InheritsClause, MergesClause, DisjunctsClause, WhenClause, with_clause, read_words, or_same, Body, stmts_or_none, empty_body, body_of, sections_of, open_sections_of, mapping_of, some_unit, units_of, model_type_of, model_param_of, module_of, kept, no_end}
+use Rattle.qvt_language.specs.Units.{param, params, feature, features, class_unit, main_unit, helper_body, helper_unit, constructor_unit, result_decl, when_clause, clause, init_part, end_part, end_unless, sections, body, fresh, clauses, mapping_unit, unit, strictness, uri, model_type, model_param, header, transformation}
 use Rattle.qvt_parser_sizes.specs.Nodes.{total, one_if, typed_nodes, unit_nodes, nodes}
 use Rattle.qvt_parser_sizes.proofs.Forms.{Sized, two, uncounted, sum, if_there, sized_any, sized_the, sized_follow, sized_then, sized_made, sized_either, sized_many, sized_maybe, sized_placed, sized_barring, sized_second, sized_first, sized_inner, sized_cons, sized_nothing, length_total, total_append}
 use Rattle.qvt_parser_sizes.proofs.Exprs.{expr_size, stmts_size, SizedNested, stmts_le, optional_le, type_le, sized_name, sized_path, sized_paths, sized_unit_path, sized_colon_type, sized_expr}

@@ -4,15 +4,15 @@ use Rattle.qvt_base.specs.declared.numbers.Place.{Place}
 use Rattle.qvt_grammar.specs.Language.{head_of}
 use Rattle.qvt_grammar.specs.Reader.{Answer, ◌>>=◌, starts, made_at, then_at, choose_at}
 use Rattle.qvt_tree_types.specs.Tree.{ExprTerm, StmtTerm}
-use Rattle.qvt_parser_grammar.specs.Tokens.{Tok}
-use Rattle.qvt_parser_grammar.specs.Readers.{Reader, the_at, nowhere}
-use Rattle.qvt_parser_grammar.specs.Leads.{Lead, Plain, Bracketed, Each}
-use Rattle.qvt_parser_grammar.specs.Trees.{second, expr_of}
-use Rattle.qvt_parser_grammar.specs.StmtTrees.{Branches, Choice, if_made, if_stmt_of}
-use Rattle.qvt_parser_grammar.specs.Reading.{NestedAt}
-use Rattle.qvt_parser_grammar.specs.ReadingStatements.{choice_at, if_rest_at, if_stmt_at}
-use Rattle.qvt_parser_grammar.specs.declared.token.Class.{Class}
-use Rattle.qvt_parser_grammar.specs.declared.token.Class.TheVariants.{IfWord, ThenWord}
+use Rattle.qvt_language.specs.Tokens.{Tok}
+use Rattle.qvt_language.specs.Readers.{Reader, the_at, nowhere}
+use Rattle.qvt_language.specs.Leads.{Lead, Plain, Bracketed, Each}
+use Rattle.qvt_language.specs.Trees.{second, expr_of}
+use Rattle.qvt_language.specs.StmtTrees.{Branches, Choice, if_made, if_stmt_of}
+use Rattle.qvt_language.specs.Reading.{NestedAt}
+use Rattle.qvt_language.specs.ReadingStatements.{choice_at, if_rest_at, if_stmt_at}
+use Rattle.qvt_language.specs.declared.class.Class.{Class}
+use Rattle.qvt_language.specs.declared.class.Class.TheVariants.{IfWord, ThenWord}
 use Rattle.qvt_parser_stmts.specs.Brackets.{in_brackets}
 
 abbrev with_word : {A : Type 0} → Tok → Answer Tok A → Answer Tok (Tok × A)

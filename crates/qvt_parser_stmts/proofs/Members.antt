@@ -8,7 +8,7 @@ use Rattle.qvt_tree_types.specs.Tree.{StepTerm, DotStep, ArrowStep, DotMapStep, 
 use Rattle.qvt_tree_types.specs.declared.types.PathTree.{PathTree}
 use Rattle.qvt_tree_types.specs.View.{step_view}
 use Rattle.qvt_tree_types.specs.declared.tree.Step.{Step}
-use Rattle.qvt_parser_grammar.specs.Trees.{bare_target, split_last, member_of, member_target, post_of}
+use Rattle.qvt_language.specs.Trees.{bare_target, split_last, member_of, member_target, post_of}
 
 split_end : (s : StepTerm) (ss : List StepTerm) (t : StepTerm) → split_last s (ss ++ t ∷ []) ≡ (s ∷ ss, t)
 split_end s [] t = refl

@@ -2,10 +2,10 @@
 use Rattle.std.proofs.Common.{◌≡◌, List, [], ◌∷◌, ◌++◌, Bool, true, false, inl, inr, refl, sym, ap, ◌∙◌, append_assoc, append-nil, Option, Ok, Err}
 use Rattle.qvt_grammar.specs.Reader.{Fault, Answer, ◌>>=◌, Consumes, starts, made_at, ended_at}
 use Rattle.qvt_tree_types.specs.Tree.{StmtTerm}
-use Rattle.qvt_parser_grammar.specs.Tokens.{Tok}
-use Rattle.qvt_parser_grammar.specs.Readers.{Reader}
-use Rattle.qvt_parser_grammar.specs.Leads.{Ended}
-use Rattle.qvt_parser_grammar.specs.StmtTrees.{Turn, concat, last_of, ended_of}
+use Rattle.qvt_language.specs.Tokens.{Tok}
+use Rattle.qvt_language.specs.Readers.{Reader}
+use Rattle.qvt_language.specs.Leads.{Ended}
+use Rattle.qvt_language.specs.StmtTrees.{Turn, concat, last_of, ended_of}
 use Rattle.qvt_parser_grammar.proofs.EndedLoops.{turns_before, ended_more, ended_last, ended_stuck, ended_stop}
 use Rattle.qvt_parser_stmts.specs.Turns.{Adds}
 

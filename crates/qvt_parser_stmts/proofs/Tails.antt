@@ -1,17 +1,16 @@
 -- What stands after an expression at the front of a statement, read part by part.
-use Rattle.std.proofs.Common.{◌≡◌, List, Bool, true, false, ◌&&◌, IsTrue, refl, sym, ap, ◌∙◌, Option, Some, None, Ok, Err, cond}
+use Rattle.std.proofs.Common.{◌≡◌, List, Bool, true, false, ◌&&◌, refl, sym, ap, ◌∙◌, Option, Some, None, Ok, Err, cond}
 use Rattle.qvt_base.specs.declared.numbers.Place.{Place}
-use Rattle.qvt_grammar.specs.Language.{head_of}
-use Rattle.qvt_grammar.specs.Reader.{Fault, Answer, ◌>>=◌, starts, made_at}
+use Rattle.qvt_grammar.specs.Reader.{Answer, ◌>>=◌, starts, made_at}
 use Rattle.qvt_tree_types.specs.Tree.{ExprTerm, StmtTerm, AssignStmt, ValueStmt, TargetTerm}
-use Rattle.qvt_parser_grammar.specs.Tokens.{Tok, of}
-use Rattle.qvt_parser_grammar.specs.Readers.{Reader, nowhere}
-use Rattle.qvt_parser_grammar.specs.Firsts.{assign_first}
-use Rattle.qvt_parser_grammar.specs.Leads.{Lead, Plain, Bracketed, Each}
-use Rattle.qvt_parser_grammar.specs.Trees.{is_there, expr_of}
-use Rattle.qvt_parser_grammar.specs.StmtTrees.{Turn, Tail, plain_tail, simple_turn, is_adding, lead_turn, written_turn, target_in, IsPlain}
-use Rattle.qvt_parser_grammar.specs.Reading.{NestedAt, lead_at}
-use Rattle.qvt_parser_grammar.specs.ReadingStatements.{assignment_at, semicolon_at, lead_tail_at, lead_stmt_at}
+use Rattle.qvt_language.specs.Tokens.{Tok, of}
+use Rattle.qvt_language.specs.Readers.{Reader}
+use Rattle.qvt_language.specs.Firsts.{assign_first}
+use Rattle.qvt_language.specs.Leads.{Lead, Plain, Bracketed, Each}
+use Rattle.qvt_language.specs.Trees.{is_there, expr_of}
+use Rattle.qvt_language.specs.StmtTrees.{Turn, Tail, plain_tail, simple_turn, is_adding, written_turn, target_in, IsPlain}
+use Rattle.qvt_language.specs.Reading.{NestedAt}
+use Rattle.qvt_language.specs.ReadingStatements.{assignment_at, semicolon_at, lead_tail_at}
 
 -- a statement, and the `;` that may stand after it
 abbrev pub closing : StmtTerm → Reader Turn
@@ -61,30 +60,9 @@ module _ (place : Place) (r : NestedAt) where
   tail_assigned (Bracketed e) target ts sign value rest k h q = absurd cc
   tail_assigned (Each e part) target ts sign value rest k h q = absurd cc
 
-  pub tail_stuck : (x : Lead) (ts : List Tok) (f : Fault Tok) → IsTrue (is_there (target_in x)) → starts (of assign_first) ts ≡ true → assignment_at r ts ≡ Err f → made_at (written_turn place x) (lead_tail_at r x) ts ≡ Err f
-  tail_stuck (Plain e (Some t)) ts f k h q = at_sign ts e t true h ∙ ap (λ y. turned place (Plain e (Some t)) (then_semicolon (some_sign y))) q
-  tail_stuck (Plain e None) ts f k h q = absurd cc
-  tail_stuck (Bracketed e) ts f k h q = absurd cc
-  tail_stuck (Each e part) ts f k h q = absurd cc
-
   -- else the expression is the statement
   pub tail_plain : (x : Lead) (value : ExprTerm) (ts : List Tok) → value ≡ expr_of x → IsPlain x → (is_there (target_in x) && starts (of assign_first) ts) ≡ false → made_at (written_turn place x) (lead_tail_at r x) ts ≡ closing (ValueStmt value place) ts
   tail_plain (Plain e (Some t)) value ts q k h = at_sign ts e t false h ∙ value_semicolon e t (semicolon_at ts) ∙ ap (λ z. closing (ValueStmt z place) ts) (sym q)
   tail_plain (Plain e None) value ts q k h = plain_semicolon e (semicolon_at ts) ∙ ap (λ z. closing (ValueStmt z place) ts) (sym q)
   tail_plain (Bracketed e) value ts q k h = bracketed_semicolon e (semicolon_at ts) ∙ ap (λ z. closing (ValueStmt z place) ts) (sym q)
   tail_plain (Each e part) value ts q k h = absurd k
-
--- a statement that begins with an expression is read by what stands after it
-abbrev fronted : Place → Lead → Answer Tok Tail → Answer Tok Turn
-fronted place x y = ((y >>= λ (tail, s). Ok ((x, tail), s)) >>= λ (z, s). Ok ((place, z), s)) >>= λ (z, s). Ok (lead_turn z, s)
-
-fronted_turn : (place : Place) (x : Lead) (y : Answer Tok Tail) → fronted place x y ≡ turned place x y
-fronted_turn place x (Ok (tail, s)) = refl
-fronted_turn place x (Err f) = refl
-
-abbrev after_lead : NestedAt → Place → Answer Tok Lead → Answer Tok Turn
-after_lead r place y = ((y >>= λ (x, s). lead_tail_at r x s >>= λ (tail, t). Ok ((x, tail), t)) >>= λ (z, s). Ok ((place, z), s)) >>= λ (z, s). Ok (lead_turn z, s)
-
-pub lead_then : (r : NestedAt) (ts : List Tok) (x : Lead) (rest : List Tok) → lead_at r ts ≡ Ok (x, rest) → lead_stmt_at r ts ≡ made_at (written_turn (head_of (λ t. t.place) nowhere ts) x) (lead_tail_at r x) rest
-unfolding lead_stmt_at
-lead_then r ts x rest h = ap (after_lead r (head_of (λ t. t.place) nowhere ts)) h ∙ fronted_turn (head_of (λ t. t.place) nowhere ts) x (lead_tail_at r x rest)

@@ -5,10 +5,10 @@ use denote.Ref.{MutBor}
 use Rattle.qvt_tree_types.specs.declared.tree.Stmt.{Stmt}
 use Rattle.qvt_parser_grammar.specs.declared.cursor.ParseError.{ParseError}
 use Rattle.qvt_parser_grammar.specs.declared.cursor.Parser.{Parser}
-use Rattle.qvt_parser_grammar.specs.Tokens.{Tok}
-use Rattle.qvt_parser_grammar.specs.Readers.{Reader}
+use Rattle.qvt_language.specs.Tokens.{Tok}
+use Rattle.qvt_language.specs.Readers.{Reader}
 use Rattle.qvt_parser_grammar.specs.Gives.{Gives, toks}
-use Rattle.qvt_parser_grammar.specs.Nesting.{nested_at}
+use Rattle.qvt_language.specs.Nesting.{nested_at}
 use Rattle.qvt_parser_exprs.specs.declared.leading.Leading.{Leading}
 use Rattle.qvt_parser_stmts.specs.declared.calls.CallPair.{CallPair}
 use Rattle.qvt_parser_exprs.specs.Views.{lead_view, stmts_view}

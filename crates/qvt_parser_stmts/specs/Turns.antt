@@ -4,7 +4,7 @@ use Rattle.std.proofs.Common.{inl, inr}
 use Rattle.qvt_tree_types.specs.Tree.{StmtTerm}
 use Rattle.qvt_parser_grammar.specs.declared.cursor.ParseError.{ParseError}
 use Rattle.qvt_parser_grammar.specs.declared.cursor.ParseError.TheVariants.{NoMemory, Syntax}
-use Rattle.qvt_parser_grammar.specs.StmtTrees.{Turn}
+use Rattle.qvt_language.specs.StmtTrees.{Turn}
 
 -- the statements with those of the turn, and whether it was the last one
 abbrev pub Adds : Turn → List StmtTerm → List StmtTerm → Bool → Type 0

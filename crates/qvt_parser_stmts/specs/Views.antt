@@ -7,10 +7,10 @@ use Rattle.qvt_tree_types.specs.View.{expr_view, stmt_view, arm_view}
 use Rattle.qvt_tree_types.specs.declared.tree.Arm.{Arm}
 use Rattle.qvt_tree_types.specs.declared.tree.Expr.{Expr}
 use Rattle.qvt_tree_types.specs.declared.tree.Stmt.{Stmt}
-use Rattle.qvt_parser_grammar.specs.declared.token.Token.{Token}
-use Rattle.qvt_parser_grammar.specs.Tokens.{Tok, tok_of}
-use Rattle.qvt_parser_grammar.specs.Leads.{Ended}
-use Rattle.qvt_parser_grammar.specs.StmtTrees.{Turn}
+use Rattle.qvt_language.specs.declared.token.Token.{Token}
+use Rattle.qvt_language.specs.Tokens.{Tok, tok_of}
+use Rattle.qvt_language.specs.Leads.{Ended}
+use Rattle.qvt_language.specs.StmtTrees.{Turn}
 use Rattle.qvt_parser_exprs.specs.Views.{stmts_view}
 use Rattle.qvt_parser_stmts.specs.declared.turns.Turn.{Turn as CodeTurn}
 use Rattle.qvt_parser_stmts.specs.declared.turns.Turn.TheVariants.{Empty, Closed, Last}

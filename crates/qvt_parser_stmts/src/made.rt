@@ -4,8 +4,8 @@ ghost use Rattle.qvt_tree_types.specs.Tree.{ExprTerm, StepTerm, AssignStmt, Valu
 ghost use Rattle.qvt_tree_types.specs.Parts.{result_in};
 ghost use Rattle.qvt_tree_types.specs.View.{expr_view, step_view, target_view, stmt_view};
 ghost use Rattle.qvt_parser_grammar.specs.Gives.{Makes};
-ghost use Rattle.qvt_parser_grammar.specs.StmtTrees as statements;
-ghost use Rattle.qvt_parser_grammar.specs.Trees as trees;
+ghost use Rattle.qvt_language.specs.StmtTrees as statements;
+ghost use Rattle.qvt_language.specs.Trees as trees;
 ghost use Rattle.qvt_parser_exprs.specs.Views.{boxed_view, lead_view, each_view, steps_view, stmts_view};
 ghost use Rattle.qvt_parser_stmts.specs.Brackets.{in_brackets};
 ghost use Rattle.qvt_parser_stmts.specs.Turns.{AddsIf};
@@ -14,10 +14,10 @@ ghost use Rattle.qvt_parser_stmts.specs.Views.{held_view, turn_view};
 use crate::turns::Turn;
 use qvt_base::numbers::Place;
 use qvt_base::seq::Seq;
+use qvt_language::class::Class;
 use qvt_parser_exprs::leading::{EachTail, Leading};
 use qvt_parser_exprs::made::{is_name, only_name, posted};
 use qvt_parser_grammar::cursor::ParseError;
-use qvt_parser_grammar::token::Class;
 use qvt_tree_types::tree::{Expr, Step, Stmt, Target};
 use std::alloc::Global;
 

@@ -1,8 +1,8 @@
 ghost use Rattle.std.specs.Prelude.{◌≤◌, length};
 ghost use Rattle.qvt_tree_types.specs.View.{expr_view};
-ghost use Rattle.qvt_parser_grammar.specs.Reading.{expr_at, flagged_at};
-ghost use Rattle.qvt_parser_grammar.specs.ReadingStatements.{statements_at, block_at};
-ghost use Rattle.qvt_parser_grammar.specs.Nesting.{nested_at};
+ghost use Rattle.qvt_language.specs.Reading.{expr_at, flagged_at};
+ghost use Rattle.qvt_language.specs.ReadingStatements.{statements_at, block_at};
+ghost use Rattle.qvt_language.specs.Nesting.{nested_at};
 ghost use Rattle.qvt_parser_grammar.specs.Gives.{Gives, toks};
 ghost use Rattle.qvt_parser_exprs.specs.Views.{lead_view, stmts_view};
 ghost use Rattle.qvt_parser_stmts.specs.Views.{ended_view};
@@ -18,7 +18,7 @@ use qvt_parser_grammar::cursor::{ParseError, Parser};
 use qvt_tree_types::tree::{Expr, Stmts};
 
 /// An expression that may still become a target, by the calls for what stands inside it.
-#[tactic(auto, unfolding(qvt_parser_grammar::specs::Reading::flagged_at))]
+#[tactic(auto, unfolding(qvt_language::specs::Reading::flagged_at))]
 fn flagged_over<C: Calls + Drop>(calls: C, parser: &mut Parser<'_>) -> Result<Leading, ParseError>
     requires { C.ready calls }
     ensures gives { Gives lead_view result (toks parser.new) (flagged_at (nested_at (C.room calls)) (toks parser.old)) }
@@ -67,7 +67,7 @@ fn statements_over<C: Calls + Drop>(
 /// An expression that may still become a target, with fewer than `room` expressions and blocks
 /// inside each other.
 #[cycle(nested)]
-#[tactic(auto, unfolding(qvt_parser_grammar::specs::Nesting::nested_at))]
+#[tactic(auto, unfolding(qvt_language::specs::Nesting::nested_at))]
 pub fn flagged(parser: &mut Parser<'_>, room: usize) -> Result<Leading, ParseError>
     ensures gives { Gives lead_view result (toks parser.new) ((nested_at room).flagged (toks parser.old)) }
     ensures fewer { length (toks parser.new) ≤ length (toks parser.old) }
@@ -94,7 +94,7 @@ pub fn flagged(parser: &mut Parser<'_>, room: usize) -> Result<Leading, ParseErr
 
 /// A block, with fewer than `room` expressions and blocks inside each other.
 #[cycle(nested)]
-#[tactic(auto, unfolding(qvt_parser_grammar::specs::Nesting::nested_at))]
+#[tactic(auto, unfolding(qvt_language::specs::Nesting::nested_at))]
 pub fn block(parser: &mut Parser<'_>, room: usize) -> Result<Stmts, ParseError>
     ensures gives { Gives stmts_view result (toks parser.new) ((nested_at room).block (toks parser.old)) }
     ensures fewer { length (toks parser.new) ≤ length (toks parser.old) }
@@ -120,7 +120,7 @@ pub fn block(parser: &mut Parser<'_>, room: usize) -> Result<Stmts, ParseError>
 }
 
 /// An expression, with fewer than `room` expressions and blocks inside each other.
-#[tactic(auto, unfolding(qvt_parser_grammar::specs::Reading::expr_at))]
+#[tactic(auto, unfolding(qvt_language::specs::Reading::expr_at))]
 pub fn expr(parser: &mut Parser<'_>, room: usize) -> Result<Expr, ParseError>
     ensures gives { Gives expr_view result (toks parser.new) (expr_at (nested_at room) (toks parser.old)) }
     ensures fewer { length (toks parser.new) ≤ length (toks parser.old) }

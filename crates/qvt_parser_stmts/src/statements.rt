@@ -2,16 +2,16 @@ ghost use Rattle.std.specs.Prelude.{◌<◌, ◌≤◌, length, OnOk, ◌≡◌,
 ghost use Rattle.std.proofs.Common.{inl, inr};
 ghost use Rattle.qvt_grammar.specs.Reader.{starts, made_at, then_at, choose_at, many_at, maybe_at};
 ghost use Rattle.qvt_tree_types.specs.View.{expr_view, arm_view};
-ghost use Rattle.qvt_parser_grammar.specs.Tokens.{of, is};
-ghost use Rattle.qvt_parser_grammar.specs.Readers.{the_at};
-ghost use Rattle.qvt_parser_grammar.specs.Firsts.{expr_first, step_first, assign_first};
-ghost use Rattle.qvt_parser_grammar.specs.Trees.{second, inner, expr_of, is_there};
-ghost use Rattle.qvt_parser_grammar.specs.StmtTrees.{choice_expr, each_over, branched, chosen, if_made, closed_turn, simple_turn, written_turn, target_in, IsPlain};
-ghost use Rattle.qvt_parser_grammar.specs.Reading.{expr_at, lead_step_at};
-ghost use Rattle.qvt_parser_grammar.specs.ReadingStatements.{var_stmt_at, return_stmt_at, arm_at, else_part_at, branches_at, choice_at, if_rest_at, if_stmt_at, while_stmt_at, assignment_at, semicolon_at, lead_tail_at, lead_stmt_at, statement_at, statements_at, block_at};
-ghost use Rattle.qvt_parser_grammar.specs.Leads.{Bracketed};
-ghost use Rattle.qvt_parser_grammar.specs.Series.{finished_at};
-ghost use Rattle.qvt_parser_grammar.specs.Nesting.{nested_at};
+ghost use Rattle.qvt_language.specs.Tokens.{of, is};
+ghost use Rattle.qvt_language.specs.Readers.{the_at};
+ghost use Rattle.qvt_language.specs.Firsts.{expr_first, step_first, assign_first};
+ghost use Rattle.qvt_language.specs.Trees.{second, inner, expr_of, is_there};
+ghost use Rattle.qvt_language.specs.StmtTrees.{choice_expr, each_over, branched, chosen, if_made, closed_turn, simple_turn, written_turn, target_in, IsPlain};
+ghost use Rattle.qvt_language.specs.Reading.{expr_at, lead_step_at};
+ghost use Rattle.qvt_language.specs.ReadingStatements.{var_stmt_at, return_stmt_at, arm_at, else_part_at, branches_at, choice_at, if_rest_at, if_stmt_at, while_stmt_at, assignment_at, semicolon_at, lead_tail_at, lead_stmt_at, statement_at, statements_at, block_at};
+ghost use Rattle.qvt_language.specs.Leads.{Bracketed};
+ghost use Rattle.qvt_language.specs.Series.{finished_at};
+ghost use Rattle.qvt_language.specs.Nesting.{nested_at};
 ghost use Rattle.qvt_parser_grammar.specs.Options.{option_view};
 ghost use Rattle.qvt_parser_grammar.specs.Gives.{Gives, toks};
 ghost use Rattle.qvt_parser_exprs.specs.Views.{boxed_view, lead_view, stmts_view};
@@ -23,12 +23,13 @@ use crate::made::{
 use crate::turns::{EndedStmts, Turn};
 use qvt_base::numbers::Place;
 use qvt_base::seq::Seq;
+use qvt_language::class::Class;
+use qvt_language::token::Token;
 use qvt_parser_chains::chains::Chains;
 use qvt_parser_exprs::inside::Nest;
 use qvt_parser_exprs::leading::Leading;
 use qvt_parser_exprs::made::{boxed, conditional, finish, posted};
 use qvt_parser_grammar::cursor::{ParseError, Parser};
-use qvt_parser_grammar::token::{Class, Token};
 use qvt_tree_types::tree::{Arm, Expr, Stmt};
 
 /// The calls that read statements, over those that read the expressions in them.
@@ -38,7 +39,7 @@ pub struct Statements<N> {
 }
 
 /// A statement with the `;` that may stand after it.
-#[tactic(auto, unfolding(qvt_parser_grammar::specs::ReadingStatements::semicolon_at))]
+#[tactic(auto, unfolding(qvt_language::specs::ReadingStatements::semicolon_at))]
 fn ended(parser: &mut Parser<'_>, stmt: Box<Stmt>) -> Turn
     ensures gives { made_at (λ t. simple_turn (held_view stmt, t)) semicolon_at (toks parser.old) ≡ Ok (turn_view result, toks parser.new) }
     ensures fewer { length (toks parser.new) ≤ length (toks parser.old) }
@@ -57,7 +58,7 @@ fn assigns(parser: &Parser<'_>, lead: &Leading) -> bool
 }
 
 impl<N: Nest> Statements<N> {
-    #[tactic(auto, unfolding(qvt_parser_grammar::specs::ReadingStatements::var_stmt_at))]
+    #[tactic(auto, unfolding(qvt_language::specs::ReadingStatements::var_stmt_at))]
     fn var_stmt(&self, parser: &mut Parser<'_>) -> Result<Box<Stmt>, ParseError>
         ensures gives { Gives held_view result (toks parser.new) (var_stmt_at (nested_at (N.room self.now.chains.inside.nest)) (toks parser.old)) }
         ensures fewer { length (toks parser.new) ≤ length (toks parser.old) }
@@ -88,7 +89,7 @@ impl<N: Nest> Statements<N> {
         Ok(None)
     }
 
-    #[tactic(auto, unfolding(qvt_parser_grammar::specs::ReadingStatements::return_stmt_at))]
+    #[tactic(auto, unfolding(qvt_language::specs::ReadingStatements::return_stmt_at))]
     fn return_stmt(&self, parser: &mut Parser<'_>) -> Result<Box<Stmt>, ParseError>
         ensures gives { Gives held_view result (toks parser.new) (return_stmt_at (nested_at (N.room self.now.chains.inside.nest)) (toks parser.old)) }
         ensures fewer { length (toks parser.new) ≤ length (toks parser.old) }
@@ -113,7 +114,7 @@ impl<N: Nest> Statements<N> {
     }
 
     #[inline(never)]
-    #[tactic(auto, unfolding(qvt_parser_grammar::specs::ReadingStatements::arm_at, qvt_parser_grammar::specs::ReadingStatements::condition_at))]
+    #[tactic(auto, unfolding(qvt_language::specs::ReadingStatements::arm_at, qvt_language::specs::ReadingStatements::condition_at))]
     fn arm(&self, parser: &mut Parser<'_>) -> Result<Arm, ParseError>
         ensures gives { Gives arm_view result (toks parser.new) (arm_at (nested_at (N.room self.now.chains.inside.nest)) (toks parser.old)) }
         ensures fewer { length (toks parser.new) ≤ length (toks parser.old) }
@@ -144,7 +145,7 @@ impl<N: Nest> Statements<N> {
         Ok(arms)
     }
 
-    #[tactic(auto, unfolding(qvt_parser_grammar::specs::ReadingStatements::else_part_at))]
+    #[tactic(auto, unfolding(qvt_language::specs::ReadingStatements::else_part_at))]
     fn else_part(&self, parser: &mut Parser<'_>) -> Result<Option<Seq<Stmt>>, ParseError>
         ensures gives { Gives (option_view stmts_view) result (toks parser.new) (maybe_at (is Class.ElseWord) (else_part_at (nested_at (N.room self.now.chains.inside.nest))) (toks parser.old)) }
         ensures fewer { length (toks parser.new) ≤ length (toks parser.old) }
@@ -157,7 +158,7 @@ impl<N: Nest> Statements<N> {
         Ok(None)
     }
 
-    #[tactic(auto, unfolding(qvt_parser_grammar::specs::ReadingStatements::if_stmt_at))]
+    #[tactic(auto, unfolding(qvt_language::specs::ReadingStatements::if_stmt_at))]
     fn if_stmt(&self, parser: &mut Parser<'_>) -> Result<Box<Stmt>, ParseError>
         ensures gives { Gives held_view result (toks parser.new) (if_stmt_at (nested_at (N.room self.now.chains.inside.nest)) (toks parser.old)) }
         ensures fewer { length (toks parser.new) ≤ length (toks parser.old) }
@@ -234,7 +235,7 @@ impl<N: Nest> Statements<N> {
     }
 
     /// The blocks of a conditional statement.
-    #[tactic(auto, unfolding(qvt_parser_grammar::specs::ReadingStatements::branches_at))]
+    #[tactic(auto, unfolding(qvt_language::specs::ReadingStatements::branches_at))]
     fn branched(
         &self,
         parser: &mut Parser<'_>,
@@ -260,7 +261,7 @@ impl<N: Nest> Statements<N> {
 
     /// A `forEach` whose source begins with a conditional, after its `then`.
     #[inline(never)]
-    #[tactic(auto, unfolding(qvt_parser_grammar::specs::ReadingStatements::choice_at))]
+    #[tactic(auto, unfolding(qvt_language::specs::ReadingStatements::choice_at))]
     fn chosen(
         &self,
         parser: &mut Parser<'_>,
@@ -313,7 +314,7 @@ impl<N: Nest> Statements<N> {
         }
     }
 
-    #[tactic(auto, unfolding(qvt_parser_grammar::specs::ReadingStatements::while_stmt_at, qvt_parser_grammar::specs::ReadingStatements::condition_at))]
+    #[tactic(auto, unfolding(qvt_language::specs::ReadingStatements::while_stmt_at, qvt_language::specs::ReadingStatements::condition_at))]
     fn while_stmt(&self, parser: &mut Parser<'_>) -> Result<Box<Stmt>, ParseError>
         ensures gives { Gives held_view result (toks parser.new) (while_stmt_at (nested_at (N.room self.now.chains.inside.nest)) (toks parser.old)) }
         ensures fewer { length (toks parser.new) ≤ length (toks parser.old) }
@@ -334,7 +335,7 @@ impl<N: Nest> Statements<N> {
         held(parser.alloc, stmt)
     }
 
-    #[tactic(auto, unfolding(qvt_parser_grammar::specs::ReadingStatements::assignment_at))]
+    #[tactic(auto, unfolding(qvt_language::specs::ReadingStatements::assignment_at))]
     fn assignment<'a>(&self, parser: &mut Parser<'a>) -> Result<(Token<'a>, Box<Expr>), ParseError>
         ensures gives { Gives assigned_view result (toks parser.new) (assignment_at (nested_at (N.room self.now.chains.inside.nest)) (toks parser.old)) }
         ensures fewer { length (toks parser.new) ≤ length (toks parser.old) }
@@ -346,7 +347,7 @@ impl<N: Nest> Statements<N> {
     }
 
     #[inline(never)]
-    #[tactic(auto, unfolding(qvt_parser_grammar::specs::ReadingStatements::lead_stmt_at))]
+    #[tactic(auto, unfolding(qvt_language::specs::ReadingStatements::lead_stmt_at))]
     fn lead_stmt(&self, parser: &mut Parser<'_>) -> Result<Turn, ParseError>
         ensures gives { Gives turn_view result (toks parser.new) (lead_stmt_at (nested_at (N.room self.now.chains.inside.nest)) (toks parser.old)) }
         ensures fewer { length (toks parser.new) ≤ length (toks parser.old) }
@@ -443,7 +444,7 @@ impl<N: Nest> Statements<N> {
         Ok(ended(parser, stmt))
     }
 
-    #[tactic(auto, unfolding(qvt_parser_grammar::specs::ReadingStatements::statement_at))]
+    #[tactic(auto, unfolding(qvt_language::specs::ReadingStatements::statement_at))]
     fn statement(&self, parser: &mut Parser<'_>) -> Result<Turn, ParseError>
         ensures gives { Gives turn_view result (toks parser.new) (statement_at (nested_at (N.room self.now.chains.inside.nest)) (toks parser.old)) }
         ensures fewer { length (toks parser.new) ≤ length (toks parser.old) }
@@ -469,7 +470,7 @@ impl<N: Nest> Statements<N> {
     }
 
     /// The statements of a block without its braces.
-    #[tactic(auto, unfolding(qvt_parser_grammar::specs::ReadingStatements::statements_at))]
+    #[tactic(auto, unfolding(qvt_language::specs::ReadingStatements::statements_at))]
     pub fn statements(&self, parser: &mut Parser<'_>) -> Result<EndedStmts, ParseError>
         ensures gives { Gives ended_view result (toks parser.new) (statements_at (nested_at (N.room self.now.chains.inside.nest)) (toks parser.old)) }
         ensures fewer { length (toks parser.new) ≤ length (toks parser.old) }
@@ -492,7 +493,7 @@ impl<N: Nest> Statements<N> {
     }
 
     /// A block.
-    #[tactic(auto, unfolding(qvt_parser_grammar::specs::ReadingStatements::block_at))]
+    #[tactic(auto, unfolding(qvt_language::specs::ReadingStatements::block_at))]
     pub fn block_inside(&self, parser: &mut Parser<'_>) -> Result<Seq<Stmt>, ParseError>
         ensures gives { Gives stmts_view result (toks parser.new) (block_at (nested_at (N.room self.now.chains.inside.nest)) (toks parser.old)) }
         ensures fewer { length (toks parser.new) ≤ length (toks parser.old) }

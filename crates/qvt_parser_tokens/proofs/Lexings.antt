@@ -14,7 +14,7 @@ use Rattle.qvt_lexer.specs.declared.scan.Piece.{Piece}
 use Rattle.qvt_lexer.specs.declared.scan.Piece.TheVariants.{Blank, Comment, Token}
 use Rattle.qvt_lexer.proofs.Steps.{spells_some}
 use Rattle.qvt_lexer.proofs.Unique.{one_division, one_fault}
-use Rattle.qvt_parser_grammar.specs.Tokens.{Tok}
+use Rattle.qvt_language.specs.Tokens.{Tok}
 use Rattle.qvt_parser_tokens.specs.Said.{said}
 use Rattle.qvt_parser_tokens.specs.Text.{HasTokens, HasLexFault, OneLexing}
 use Rattle.qvt_parser_tokens.specs.Whole.{IsNumber}

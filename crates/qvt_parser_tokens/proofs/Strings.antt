@@ -4,9 +4,9 @@ use Rattle.std.proofs.lemmas.List.{map-append}
 use Rattle.qvt_lexer.specs.Division.{TokenData}
 use Rattle.qvt_lexer.specs.declared.token.TokenKind.{TokenKind}
 use Rattle.qvt_lexer.specs.declared.token.TokenKind.TheVariants.{Name, Integer, Str, Word, Symbol, End}
-use Rattle.qvt_parser_grammar.specs.Tokens.{tok_of, toks_of}
-use Rattle.qvt_parser_grammar.specs.declared.token.Token.{Token}
-use Rattle.qvt_parser_grammar.specs.declared.token.Class.TheVariants as classes
+use Rattle.qvt_language.specs.Tokens.{tok_of, toks_of}
+use Rattle.qvt_language.specs.declared.token.Token.{Token}
+use Rattle.qvt_language.specs.declared.class.Class.TheVariants as classes
 use Rattle.qvt_parser_tokens.specs.Said.{said, text_of, class_of, number_in}
 use Rattle.qvt_parser_tokens.specs.Whole.{string_in, strings_of}
 

@@ -1,11 +1,9 @@
 -- The limit on open items, by the list of those that are open, the last one first: brackets, and conditionals.
-use Rattle.std.specs.Prelude.{◌≡◌, Result, Ok, Err, Bool, true, false, List, [], ◌∷◌, length, Option, Some, None, nat_le, if◌then◌else◌}
-use Rattle.qvt_parser_grammar.specs.declared.cursor.ParseError.{ParseError}
-use Rattle.qvt_parser_grammar.specs.declared.cursor.ParseError.TheVariants.{NoMemory, Syntax}
+use Rattle.std.specs.Prelude.{Bool, true, false, List, [], ◌∷◌, length, Option, Some, None, nat_le, if◌then◌else◌}
 use Rattle.qvt_base.specs.declared.numbers.Place.{Place}
-use Rattle.qvt_parser_grammar.specs.Tokens.{Tok}
-use Rattle.qvt_parser_grammar.specs.declared.token.Class.{Class}
-use Rattle.qvt_parser_grammar.specs.declared.token.Class.TheVariants.{OpenRound, OpenBrace, CloseRound, CloseBrace, Semicolon, IfWord, EndifWord}
+use Rattle.qvt_language.specs.Tokens.{Tok}
+use Rattle.qvt_language.specs.declared.class.Class.{Class}
+use Rattle.qvt_language.specs.declared.class.Class.TheVariants.{OpenRound, OpenBrace, CloseRound, CloseBrace, Semicolon, IfWord, EndifWord}
 use Rattle.qvt_parser_tokens.specs.declared.depth.Open.{Open}
 use Rattle.qvt_parser_tokens.specs.declared.depth.Open.TheVariants.{Bracket, Conditional}
 
@@ -44,9 +42,3 @@ deep_from fresh items (t ∷ ts) = if nat_le (length (after fresh items t.class)
 -- the place of the first token that would make the list longer than 64
 abbrev pub deep : List Tok → Option Place
 deep = deep_from false []
-
--- a call leaves these items open, unless memory ran out
-abbrev pub Leaves : Result (Unit {0}) ParseError → List Open → List Open → Type 0
-Leaves (Ok u) new items = new ≡ items
-Leaves (Err NoMemory) new items = Unit {0}
-Leaves (Err Syntax) new items = ⊥

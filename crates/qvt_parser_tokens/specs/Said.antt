@@ -1,16 +1,15 @@
 -- What a token of the text says to the grammar: of a name the name without quotes, of a string its characters, of an integer
 -- its number.
-use Rattle.std.specs.Prelude.{ℕ, zero, suc, ◌-◌, ℤ, pos, Bool, ◌&&◌, ◌==◌, nat_le, List, [], ◌∷◌, length, Some, None, slice_index, slice_range, if◌then◌else◌}
+use Rattle.std.specs.Prelude.{ℕ, zero, suc, ◌-◌, ℤ, pos, Bool, ◌&&◌, ◌==◌, nat_le, List, [], ◌∷◌, length, Some, None, unwrap_or, slice_index, slice_range, if◌then◌else◌}
 use Rattle.std.specs.Str.{chars, encode_utf8_all}
 use Rattle.qvt_lexer.specs.Literals.{number_of, item_at}
 use Rattle.qvt_lexer.specs.Division.{TokenData}
 use Rattle.qvt_lexer.specs.declared.token.TokenKind.{TokenKind}
 use Rattle.qvt_lexer.specs.declared.token.TokenKind.TheVariants.{Name, Integer, Str, Word, Symbol}
-use Rattle.qvt_parser_grammar.specs.Tokens.{Tok}
-use Rattle.qvt_parser_grammar.specs.declared.token.Class as class
-use Rattle.qvt_parser_grammar.specs.declared.token.Class.TheVariants as classes
-use Rattle.qvt_parser_tokens.specs.WordClasses.{word_class}
-use Rattle.qvt_parser_tokens.specs.SymbolClasses.{symbol_class}
+use Rattle.qvt_language.specs.Tokens.{Tok}
+use Rattle.qvt_language.specs.declared.class.Class as class
+use Rattle.qvt_language.specs.declared.class.Class.TheVariants as classes
+use Rattle.qvt_words.specs.Words.{word_of, sign_of}
 
 -- whether a name stands in `_'..'`
 abbrev pub is_quoted : List ℕ → Bool
@@ -46,8 +45,8 @@ number_in _ text = pos 0
 abbrev pub class_of : TokenKind → List ℕ → class.Class
 class_of Integer text = classes.Integer
 class_of Str text = classes.Str
-class_of Word text = word_class text
-class_of Symbol text = symbol_class text
+class_of Word text = unwrap_or (word_of text) classes.Name
+class_of Symbol text = unwrap_or (sign_of text) classes.Name
 class_of _ text = classes.Name
 
 abbrev pub said : TokenData → Tok

@@ -4,7 +4,7 @@ use Rattle.std.specs.Str.{chars}
 use Rattle.qvt_base.specs.declared.numbers.Place.{Place}
 use Rattle.qvt_lexer.specs.Division.{Position, TokenData, Reads, IsFaulty, start_at}
 use Rattle.qvt_lexer.specs.declared.token.LexFault.{LexFault}
-use Rattle.qvt_parser_grammar.specs.Tokens.{Tok}
+use Rattle.qvt_language.specs.Tokens.{Tok}
 use Rattle.qvt_parser_tokens.specs.Said.{said}
 
 -- the whole text is divided into blanks, comments and these tokens, and ends here

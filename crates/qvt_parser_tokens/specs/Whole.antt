@@ -6,7 +6,7 @@ use Rattle.qvt_lexer.specs.Literals.{every, number_of, greatest_number}
 use Rattle.qvt_lexer.specs.Division.{Position, TokenData, Reads, start_at}
 use Rattle.qvt_lexer.specs.declared.token.TokenKind.{TokenKind}
 use Rattle.qvt_lexer.specs.declared.token.TokenKind.TheVariants.{Str}
-use Rattle.qvt_parser_grammar.specs.Tokens.{toks_of}
+use Rattle.qvt_language.specs.Tokens.{toks_of}
 use Rattle.qvt_parser_tokens.specs.Said.{text_of}
 use Rattle.qvt_parser_tokens.specs.Text.{HasTokens, HasLexFault}
 use Rattle.qvt_parser_tokens.specs.declared.text.TextTokens.{TextTokens}

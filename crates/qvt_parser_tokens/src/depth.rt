@@ -1,13 +1,12 @@
-ghost use Rattle.std.specs.Prelude.{◌≡◌, ◌∷◌, reverse};
-ghost use Rattle.qvt_parser_grammar.specs.Tokens.{toks_of};
-ghost use Rattle.qvt_parser_grammar.specs.Gives.{Makes, same};
+ghost use Rattle.std.specs.Prelude.{◌≡◌, ◌∷◌, reverse, IfOk, OnOk};
+ghost use Rattle.qvt_language.specs.Tokens.{toks_of};
 ghost use Rattle.qvt_parser_tokens.specs.Depth as depth;
-ghost use Rattle.qvt_parser_tokens.specs.Depth.{Leaves};
 
+use qvt_base::list_fault::ListFault;
 use qvt_base::numbers::Place;
 use qvt_base::seq::Seq;
-use qvt_parser_grammar::cursor::ParseError;
-use qvt_parser_grammar::token::{Class, Token};
+use qvt_language::class::Class;
+use qvt_language::token::Token;
 use std::alloc::Global;
 
 /// What stands open at a place.
@@ -53,16 +52,15 @@ fn begins_statement(class: Class) -> bool
 
 /// Puts an item after the others.
 #[tactic(auto, using(crate::proofs::Depths::last_first))]
-fn add(items: &mut Seq<Open>, item: Open) -> Result<(), ParseError>
-    ensures { Leaves result (reverse items.new) (item ∷ reverse items.old) }
+fn add(items: &mut Seq<Open>, item: Open) -> Result<(), ListFault>
+    ensures { OnOk result (reverse items.new ≡ item ∷ reverse items.old) }
 {
-    items.push(item)?;
-    Ok(())
+    items.push(item)
 }
 
 /// What is open after one more token, where `fresh` tells that a statement may begin with it.
-fn step(items: &mut Seq<Open>, fresh: bool, class: Class) -> Result<(), ParseError>
-    ensures { Leaves result (reverse items.new) (depth.after fresh (reverse items.old) class) }
+fn step(items: &mut Seq<Open>, fresh: bool, class: Class) -> Result<(), ListFault>
+    ensures { OnOk result (reverse items.new ≡ depth.after fresh (reverse items.old) class) }
 {
     match class {
         Class::OpenRound => add(items, Open::Bracket),
@@ -90,8 +88,8 @@ fn step(items: &mut Seq<Open>, fresh: bool, class: Class) -> Result<(), ParseErr
 }
 
 /// The place of the first token that leaves more items open than may be.
-pub fn deep(alloc: Global, tokens: &[Token<'_>]) -> Result<Option<Place>, ParseError>
-    ensures { Makes same result (depth.deep (toks_of tokens.now)) }
+pub fn deep(alloc: Global, tokens: &[Token<'_>]) -> Result<Option<Place>, ListFault>
+    ensures { IfOk result (λ place. place ≡ depth.deep (toks_of tokens.now)) }
 {
     let mut items = Seq::new(alloc);
     let mut fresh = false;

@@ -3,7 +3,5 @@
 #![tactic(auto)]
 
 pub mod depth;
-pub mod reserved;
 pub mod said;
-pub mod symbols;
 pub mod text;

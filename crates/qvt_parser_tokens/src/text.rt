@@ -1,22 +1,22 @@
 ghost use Rattle.std.specs.Prelude.{◌≡◌, ◌≢◌, ◌+◌, ◌<◌, ◌^◌, ◌∷◌, ℕ, List, length};
 ghost use Rattle.qvt_lexer.specs.Division.{data_of};
 ghost use Rattle.qvt_lexer.specs.declared.token.TokenKind.TheVariants as kinds;
-ghost use Rattle.qvt_parser_grammar.specs.Tokens.{tok_of};
+ghost use Rattle.qvt_language.specs.Tokens.{tok_of};
 ghost use Rattle.qvt_parser_tokens.specs.Said as said;
 ghost use Rattle.qvt_parser_tokens.specs.Text.{OneLexing};
 ghost use Rattle.qvt_parser_tokens.specs.Whole.{HasStrings, ReadsStrings, Lexes, IsNumber};
 
-use crate::reserved::word_class;
 use crate::said::{name_of, number_of, string_of};
-use crate::symbols::symbol_class;
 use qvt_base::list_fault::ListFault;
 use qvt_base::numbers::Place;
 use qvt_base::seq::Seq;
 use qvt_base::text::Text;
+use qvt_language::class::Class;
+use qvt_language::token::Token;
 use qvt_lexer::lexer::Lexer;
 use qvt_lexer::token as lexed;
 use qvt_lexer::token::{LexFault, TokenKind};
-use qvt_parser_grammar::token::{Class, Token};
+use qvt_words::words::{sign_of, word_of};
 use std::alloc::Global;
 
 /// The tokens of a whole text, with the place after its last character.
@@ -52,8 +52,8 @@ fn class_of(token: lexed::Token<'_>) -> Class
     match token.kind {
         TokenKind::Integer => Class::Integer,
         TokenKind::Str => Class::Str,
-        TokenKind::Word => word_class(token.text),
-        TokenKind::Symbol => symbol_class(token.text),
+        TokenKind::Word => word_of(token.text).unwrap_or(Class::Name),
+        TokenKind::Symbol => sign_of(token.text).unwrap_or(Class::Name),
         _ => Class::Name,
     }
 }

@@ -1,16 +1,16 @@
 -- What is read in the loops of units takes a token.
 use Rattle.std.proofs.Common.{ℕ, zero, refl, ◌∷◌, []}
 use Rattle.qvt_grammar.specs.Reader.{Consumes, made_at, then_at, choose_at}
-use Rattle.qvt_parser_grammar.specs.declared.token.Class.TheVariants.{Comma, Semicolon}
-use Rattle.qvt_parser_grammar.specs.Tokens.{is, code_of}
-use Rattle.qvt_parser_grammar.specs.Readers.{the_at}
-use Rattle.qvt_parser_grammar.specs.Trees.{second, nothing}
-use Rattle.qvt_parser_grammar.specs.UnitTrees.{some_unit}
-use Rattle.qvt_parser_grammar.specs.ReadingUnits.{param_at, feature_at, model_type_at, model_param_at, unit_at}
-use Rattle.qvt_parser_grammar.specs.Nesting.{nested_at}
-use Rattle.qvt_parser_grammar.proofs.Forms.{good_the, good_made, good_then, good_either}
-use Rattle.qvt_parser_grammar.proofs.GoodUnits.{good_param, good_feature, good_model_type, good_model_param, good_unit}
-use Rattle.qvt_parser_grammar.proofs.GoodNesting.{consumes, good_same}
+use Rattle.qvt_language.specs.declared.class.Class.TheVariants.{Comma, Semicolon}
+use Rattle.qvt_language.specs.Tokens.{is, code_of}
+use Rattle.qvt_language.specs.Readers.{the_at}
+use Rattle.qvt_language.specs.Trees.{second, nothing}
+use Rattle.qvt_language.specs.UnitTrees.{some_unit}
+use Rattle.qvt_language.specs.ReadingUnits.{param_at, feature_at, model_type_at, model_param_at, unit_at}
+use Rattle.qvt_language.specs.Nesting.{nested_at}
+use Rattle.qvt_language.proofs.Forms.{good_the, good_made, good_then, good_either}
+use Rattle.qvt_language.proofs.GoodUnits.{good_param, good_feature, good_model_type, good_model_param, good_unit}
+use Rattle.qvt_language.proofs.GoodNesting.{consumes, good_same}
 
 pub less_param : (n : ℕ) → Consumes (made_at second (then_at (the_at Comma) (param_at (nested_at n))))
 less_param n = consumes (good_made second (good_then (good_the Comma) (good_param (good_same n)) refl))

@@ -3,9 +3,9 @@ use Rattle.std.proofs.Common.{◌≡◌, List, [], ◌∷◌, ◌++◌, Bool, tr
 use Rattle.qvt_grammar.specs.Reader.{Fault, Answer, ◌>>=◌, Consumes, starts, made_at, many_at, with_front}
 use Rattle.qvt_grammar.proofs.Loops.{many_more, many_stop, many_stuck}
 use Rattle.qvt_tree_types.specs.Module.{UnitTerm}
-use Rattle.qvt_parser_grammar.specs.Tokens.{Tok}
-use Rattle.qvt_parser_grammar.specs.Readers.{Reader}
-use Rattle.qvt_parser_grammar.specs.UnitTrees.{units_of}
+use Rattle.qvt_language.specs.Tokens.{Tok}
+use Rattle.qvt_language.specs.Readers.{Reader}
+use Rattle.qvt_language.specs.UnitTrees.{units_of}
 
 module _ (p : Tok → Bool) (f : Reader (List UnitTerm)) (less : Consumes f) where
   abbrev pub all_at : Reader (List UnitTerm)

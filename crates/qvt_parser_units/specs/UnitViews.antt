@@ -11,7 +11,7 @@ use Rattle.qvt_parser_units.specs.declared.clauses.Clause.{Clause as CodeClause}
 use Rattle.qvt_parser_units.specs.declared.clauses.Clause.TheVariants.{Inherits, Merges, Disjuncts, When}
 use Rattle.qvt_parser_units.specs.declared.clauses.Clauses.{Clauses as CodeClauses}
 use Rattle.qvt_parser_units.specs.declared.clauses.Body.{Body as CodeBody}
-use Rattle.qvt_parser_grammar.specs.UnitTrees.{Clause, InheritsClause, MergesClause, DisjunctsClause, WhenClause, Clauses, Body}
+use Rattle.qvt_language.specs.UnitTrees.{Clause, InheritsClause, MergesClause, DisjunctsClause, WhenClause, Clauses, Body}
 use Rattle.qvt_parser_grammar.specs.Options.{option_view}
 use Rattle.qvt_parser_exprs.specs.Views.{stmts_view}
 

@@ -2,14 +2,14 @@ ghost use Rattle.std.specs.Prelude.{◌≡◌, ◌<◌, ◌≤◌, ◌∷◌, []
 ghost use Rattle.qvt_grammar.specs.Reader.{starts, made_at, then_at, choose_at, many_at, maybe_at};
 ghost use Rattle.qvt_tree_types.specs.View.{expr_view};
 ghost use Rattle.qvt_tree_types.specs.Module.{param_view, field_view, unit_view, module_view};
-ghost use Rattle.qvt_parser_grammar.specs.Tokens.{of, is, tok_of, code_of};
-ghost use Rattle.qvt_parser_grammar.specs.Readers.{the_at};
-ghost use Rattle.qvt_parser_grammar.specs.Firsts.{clause_first, unit_first};
-ghost use Rattle.qvt_parser_grammar.specs.Trees.{second, cons_of, nothing, text_of};
-ghost use Rattle.qvt_parser_grammar.specs.UnitTrees.{sections_of, read_words, some_unit, units_of, mapping_of, no_clauses};
-ghost use Rattle.qvt_parser_grammar.specs.Reading.{paths_at, unit_path_at};
-ghost use Rattle.qvt_parser_grammar.specs.ReadingUnits.{param_at, params_at, feature_at, features_at, class_unit_at, main_unit_at, helper_body_at, helper_unit_at, constructor_unit_at, result_decl_at, when_clause_at, clause_at, init_part_at, end_part_at, sections_at, body_at, fresh_at, clauses_at, mapping_unit_at, unit_at, strictness_at, uri_at, model_type_at, model_param_at, header_at, transformation_at};
-ghost use Rattle.qvt_parser_grammar.specs.Nesting.{nested_at};
+ghost use Rattle.qvt_language.specs.Tokens.{of, is, tok_of, code_of};
+ghost use Rattle.qvt_language.specs.Readers.{the_at};
+ghost use Rattle.qvt_language.specs.Firsts.{clause_first, unit_first};
+ghost use Rattle.qvt_language.specs.Trees.{second, cons_of, nothing, text_of};
+ghost use Rattle.qvt_language.specs.UnitTrees.{sections_of, read_words, some_unit, units_of, mapping_of, no_clauses};
+ghost use Rattle.qvt_language.specs.Reading.{paths_at, unit_path_at};
+ghost use Rattle.qvt_language.specs.ReadingUnits.{param_at, params_at, feature_at, features_at, class_unit_at, main_unit_at, helper_body_at, helper_unit_at, constructor_unit_at, result_decl_at, when_clause_at, clause_at, init_part_at, end_part_at, sections_at, body_at, fresh_at, clauses_at, mapping_unit_at, unit_at, strictness_at, uri_at, model_type_at, model_param_at, header_at, transformation_at};
+ghost use Rattle.qvt_language.specs.Nesting.{nested_at};
 ghost use Rattle.qvt_parser_grammar.specs.Options.{option_view};
 ghost use Rattle.qvt_parser_grammar.specs.Gives.{Gives, toks, same};
 ghost use Rattle.qvt_parser_exprs.specs.Views.{stmts_view};
@@ -23,8 +23,9 @@ use crate::clauses::{
 use qvt_base::numbers::Place;
 use qvt_base::seq::Seq;
 use qvt_base::text::Text;
+use qvt_language::class::Class;
+use qvt_language::token::Token;
 use qvt_parser_grammar::cursor::{ParseError, Parser};
-use qvt_parser_grammar::token::{Class, Token};
 use qvt_parser_stmts::nested::{block, expr, statements};
 use qvt_tree_types::module::{
     ClassDecl, Field, Helper, ModelParam, ModelType, Module, Param, ResultDecl, Unit,
@@ -32,7 +33,7 @@ use qvt_tree_types::module::{
 use qvt_tree_types::tree::{Expr, Stmt};
 use qvt_tree_types::types::PathTree;
 
-#[tactic(auto, unfolding(qvt_parser_grammar::specs::ReadingUnits::param_at))]
+#[tactic(auto, unfolding(qvt_language::specs::ReadingUnits::param_at))]
 fn param(parser: &mut Parser<'_>, room: usize) -> Result<Param, ParseError>
     ensures gives { Gives param_view result (toks parser.new) (param_at (nested_at room) (toks parser.old)) }
     ensures fewer { length (toks parser.new) ≤ length (toks parser.old) }
@@ -73,7 +74,7 @@ fn some_params(parser: &mut Parser<'_>, room: usize) -> Result<Seq<Param>, Parse
     Ok(params)
 }
 
-#[tactic(auto, unfolding(qvt_parser_grammar::specs::ReadingUnits::params_at))]
+#[tactic(auto, unfolding(qvt_language::specs::ReadingUnits::params_at))]
 fn params(parser: &mut Parser<'_>, room: usize) -> Result<Seq<Param>, ParseError>
     ensures gives { Gives params_view result (toks parser.new) (params_at (nested_at room) (toks parser.old)) }
     ensures fewer { length (toks parser.new) ≤ length (toks parser.old) }
@@ -89,7 +90,7 @@ fn params(parser: &mut Parser<'_>, room: usize) -> Result<Seq<Param>, ParseError
     Ok(params)
 }
 
-#[tactic(auto, unfolding(qvt_parser_grammar::specs::ReadingUnits::feature_at))]
+#[tactic(auto, unfolding(qvt_language::specs::ReadingUnits::feature_at))]
 fn feature(parser: &mut Parser<'_>, room: usize) -> Result<Field, ParseError>
     ensures gives { Gives field_view result (toks parser.new) (feature_at (nested_at room) (toks parser.old)) }
     ensures fewer { length (toks parser.new) ≤ length (toks parser.old) }
@@ -117,7 +118,7 @@ fn some_features(parser: &mut Parser<'_>, room: usize) -> Result<Seq<Field>, Par
     Ok(features)
 }
 
-#[tactic(auto, unfolding(qvt_parser_grammar::specs::ReadingUnits::features_at))]
+#[tactic(auto, unfolding(qvt_language::specs::ReadingUnits::features_at))]
 fn features(parser: &mut Parser<'_>, room: usize) -> Result<Seq<Field>, ParseError>
     ensures gives { Gives fields_view result (toks parser.new) (features_at (nested_at room) (toks parser.old)) }
     ensures fewer { length (toks parser.new) ≤ length (toks parser.old) }
@@ -149,7 +150,7 @@ fn supers(parser: &mut Parser<'_>) -> Result<Option<Seq<PathTree>>, ParseError>
     Ok(None)
 }
 
-#[tactic(auto, unfolding(qvt_parser_grammar::specs::ReadingUnits::class_unit_at))]
+#[tactic(auto, unfolding(qvt_language::specs::ReadingUnits::class_unit_at))]
 fn class_unit(parser: &mut Parser<'_>, room: usize) -> Result<Unit, ParseError>
     ensures gives { Gives unit_view result (toks parser.new) (class_unit_at (nested_at room) (toks parser.old)) }
     ensures fewer { length (toks parser.new) ≤ length (toks parser.old) }
@@ -170,7 +171,7 @@ fn class_unit(parser: &mut Parser<'_>, room: usize) -> Result<Unit, ParseError>
     }))
 }
 
-#[tactic(auto, unfolding(qvt_parser_grammar::specs::ReadingUnits::main_unit_at))]
+#[tactic(auto, unfolding(qvt_language::specs::ReadingUnits::main_unit_at))]
 fn main_unit(parser: &mut Parser<'_>, room: usize) -> Result<Unit, ParseError>
     ensures gives { Gives unit_view result (toks parser.new) (main_unit_at (nested_at room) (toks parser.old)) }
     ensures fewer { length (toks parser.new) ≤ length (toks parser.old) }
@@ -184,7 +185,7 @@ fn main_unit(parser: &mut Parser<'_>, room: usize) -> Result<Unit, ParseError>
     Ok(Unit::Main(body, place))
 }
 
-#[tactic(auto, unfolding(qvt_parser_grammar::specs::ReadingUnits::helper_body_at))]
+#[tactic(auto, unfolding(qvt_language::specs::ReadingUnits::helper_body_at))]
 fn helper_body(parser: &mut Parser<'_>, room: usize) -> Result<Seq<Stmt>, ParseError>
     ensures gives { Gives stmts_view result (toks parser.new) (helper_body_at (nested_at room) (toks parser.old)) }
     ensures fewer { length (toks parser.new) ≤ length (toks parser.old) }
@@ -209,7 +210,7 @@ fn helper_word<'a>(parser: &mut Parser<'a>) -> Result<Token<'a>, ParseError>
     parser.take(Class::QueryWord)
 }
 
-#[tactic(auto, unfolding(qvt_parser_grammar::specs::ReadingUnits::helper_unit_at))]
+#[tactic(auto, unfolding(qvt_language::specs::ReadingUnits::helper_unit_at))]
 fn helper_unit(parser: &mut Parser<'_>, room: usize) -> Result<Unit, ParseError>
     ensures gives { Gives unit_view result (toks parser.new) (helper_unit_at (nested_at room) (toks parser.old)) }
     ensures fewer { length (toks parser.new) ≤ length (toks parser.old) }
@@ -230,7 +231,7 @@ fn helper_unit(parser: &mut Parser<'_>, room: usize) -> Result<Unit, ParseError>
     }))
 }
 
-#[tactic(auto, unfolding(qvt_parser_grammar::specs::ReadingUnits::constructor_unit_at))]
+#[tactic(auto, unfolding(qvt_language::specs::ReadingUnits::constructor_unit_at))]
 fn constructor_unit(parser: &mut Parser<'_>, room: usize) -> Result<Unit, ParseError>
     ensures gives { Gives unit_view result (toks parser.new) (constructor_unit_at (nested_at room) (toks parser.old)) }
     ensures fewer { length (toks parser.new) ≤ length (toks parser.old) }
@@ -250,7 +251,7 @@ fn constructor_unit(parser: &mut Parser<'_>, room: usize) -> Result<Unit, ParseE
     }))
 }
 
-#[tactic(auto, unfolding(qvt_parser_grammar::specs::ReadingUnits::result_decl_at))]
+#[tactic(auto, unfolding(qvt_language::specs::ReadingUnits::result_decl_at))]
 fn result_decl(parser: &mut Parser<'_>) -> Result<ResultDecl, ParseError>
     ensures gives { Gives same result (toks parser.new) (result_decl_at (toks parser.old)) }
     ensures fewer { length (toks parser.new) ≤ length (toks parser.old) }
@@ -278,7 +279,7 @@ fn optional_result(parser: &mut Parser<'_>) -> Result<Option<ResultDecl>, ParseE
     Ok(None)
 }
 
-#[tactic(auto, unfolding(qvt_parser_grammar::specs::ReadingUnits::when_clause_at))]
+#[tactic(auto, unfolding(qvt_language::specs::ReadingUnits::when_clause_at))]
 fn when_clause(parser: &mut Parser<'_>, room: usize) -> Result<Expr, ParseError>
     ensures gives { Gives expr_view result (toks parser.new) (when_clause_at (nested_at room) (toks parser.old)) }
     ensures fewer { length (toks parser.new) ≤ length (toks parser.old) }
@@ -292,7 +293,7 @@ fn when_clause(parser: &mut Parser<'_>, room: usize) -> Result<Expr, ParseError>
     Ok(condition)
 }
 
-#[tactic(auto, unfolding(qvt_parser_grammar::specs::ReadingUnits::clause_at))]
+#[tactic(auto, unfolding(qvt_language::specs::ReadingUnits::clause_at))]
 fn clause(parser: &mut Parser<'_>, room: usize) -> Result<Clause, ParseError>
     ensures gives { Gives clause_view result (toks parser.new) (clause_at (nested_at room) (toks parser.old)) }
     ensures fewer { length (toks parser.new) ≤ length (toks parser.old) }
@@ -373,7 +374,7 @@ fn fresh(parser: &mut Parser<'_>, clauses: Clauses, room: usize) -> Result<Claus
     Ok(with_clause(clauses, clause))
 }
 
-#[tactic(auto, unfolding(qvt_parser_grammar::specs::ReadingUnits::init_part_at))]
+#[tactic(auto, unfolding(qvt_language::specs::ReadingUnits::init_part_at))]
 fn init_part(parser: &mut Parser<'_>, room: usize) -> Result<Option<Seq<Stmt>>, ParseError>
     ensures gives { Gives (option_view stmts_view) result (toks parser.new) (maybe_at (is Class.InitWord) (init_part_at (nested_at room)) (toks parser.old)) }
     ensures fewer { length (toks parser.new) ≤ length (toks parser.old) }
@@ -386,7 +387,7 @@ fn init_part(parser: &mut Parser<'_>, room: usize) -> Result<Option<Seq<Stmt>>, 
     Ok(None)
 }
 
-#[tactic(auto, unfolding(qvt_parser_grammar::specs::ReadingUnits::end_part_at))]
+#[tactic(auto, unfolding(qvt_language::specs::ReadingUnits::end_part_at))]
 fn end_part(parser: &mut Parser<'_>, room: usize) -> Result<Option<Seq<Stmt>>, ParseError>
     ensures gives { Gives (option_view stmts_view) result (toks parser.new) (maybe_at (is Class.EndWord) (end_part_at (nested_at room)) (toks parser.old)) }
     ensures fewer { length (toks parser.new) ≤ length (toks parser.old) }
@@ -411,7 +412,7 @@ fn population(parser: &mut Parser<'_>, room: usize) -> Result<(Seq<Stmt>, Seq<St
     Ok((population, finish))
 }
 
-#[tactic(auto, unfolding(qvt_parser_grammar::specs::ReadingUnits::sections_at))]
+#[tactic(auto, unfolding(qvt_language::specs::ReadingUnits::sections_at))]
 fn sections(parser: &mut Parser<'_>, room: usize) -> Result<(Seq<Stmt>, Seq<Stmt>), ParseError>
     ensures gives { Gives sections_view result (toks parser.new) (sections_at (nested_at room) (toks parser.old)) }
     ensures fewer { length (toks parser.new) ≤ length (toks parser.old) }
@@ -428,7 +429,7 @@ fn sections(parser: &mut Parser<'_>, room: usize) -> Result<(Seq<Stmt>, Seq<Stmt
     Ok((ended.stmts, finish))
 }
 
-#[tactic(auto, unfolding(qvt_parser_grammar::specs::ReadingUnits::body_at))]
+#[tactic(auto, unfolding(qvt_language::specs::ReadingUnits::body_at))]
 fn body(parser: &mut Parser<'_>, room: usize) -> Result<Body, ParseError>
     ensures gives { Gives body_view result (toks parser.new) (body_at (nested_at room) (toks parser.old)) }
     ensures fewer { length (toks parser.new) ≤ length (toks parser.old) }
@@ -472,7 +473,7 @@ fn mapping_with(parser: &mut Parser<'_>, kinds: usize, room: usize) -> Result<Un
     Ok(Unit::Mapping(mapping(parser.alloc, path, params, result, clauses, body)))
 }
 
-#[tactic(auto, unfolding(qvt_parser_grammar::specs::ReadingUnits::mapping_unit_at))]
+#[tactic(auto, unfolding(qvt_language::specs::ReadingUnits::mapping_unit_at))]
 fn mapping_unit(parser: &mut Parser<'_>, room: usize) -> Result<Unit, ParseError>
     ensures gives { Gives unit_view result (toks parser.new) (mapping_unit_at (nested_at room) (toks parser.old)) }
     ensures fewer { length (toks parser.new) ≤ length (toks parser.old) }
@@ -481,7 +482,7 @@ fn mapping_unit(parser: &mut Parser<'_>, room: usize) -> Result<Unit, ParseError
     mapping_with(parser, CLAUSE_KINDS, room)
 }
 
-#[tactic(auto, unfolding(qvt_parser_grammar::specs::ReadingUnits::unit_at))]
+#[tactic(auto, unfolding(qvt_language::specs::ReadingUnits::unit_at))]
 fn unit(parser: &mut Parser<'_>, room: usize) -> Result<Unit, ParseError>
     ensures gives { Gives unit_view result (toks parser.new) (unit_at (nested_at room) (toks parser.old)) }
     ensures fewer { length (toks parser.new) ≤ length (toks parser.old) }
@@ -512,7 +513,7 @@ fn string(parser: &mut Parser<'_>) -> Result<Text, ParseError>
     Ok(text)
 }
 
-#[tactic(auto, unfolding(qvt_parser_grammar::specs::ReadingUnits::uri_at))]
+#[tactic(auto, unfolding(qvt_language::specs::ReadingUnits::uri_at))]
 fn uri(parser: &mut Parser<'_>) -> Result<Text, ParseError>
     ensures gives { Gives same result (toks parser.new) (uri_at (toks parser.old)) }
     ensures fewer { length (toks parser.new) ≤ length (toks parser.old) }
@@ -544,7 +545,7 @@ fn strictness<'a>(parser: &mut Parser<'a>) -> Result<Option<Token<'a>>, ParseErr
     Ok(Some(token))
 }
 
-#[tactic(auto, unfolding(qvt_parser_grammar::specs::ReadingUnits::model_type_at))]
+#[tactic(auto, unfolding(qvt_language::specs::ReadingUnits::model_type_at))]
 fn model_type(parser: &mut Parser<'_>) -> Result<ModelType, ParseError>
     ensures gives { Gives same result (toks parser.new) (model_type_at (toks parser.old)) }
     ensures fewer { length (toks parser.new) ≤ length (toks parser.old) }
@@ -590,7 +591,7 @@ fn direction_word<'a>(parser: &mut Parser<'a>) -> Result<Token<'a>, ParseError>
     parser.take(Class::InoutWord)
 }
 
-#[tactic(auto, unfolding(qvt_parser_grammar::specs::ReadingUnits::model_param_at))]
+#[tactic(auto, unfolding(qvt_language::specs::ReadingUnits::model_param_at))]
 fn model_param(parser: &mut Parser<'_>) -> Result<ModelParam, ParseError>
     ensures gives { Gives same result (toks parser.new) (model_param_at (toks parser.old)) }
     ensures fewer { length (toks parser.new) ≤ length (toks parser.old) }
@@ -632,7 +633,7 @@ fn model_params(parser: &mut Parser<'_>) -> Result<Seq<ModelParam>, ParseError>
     Ok(params)
 }
 
-#[tactic(auto, unfolding(qvt_parser_grammar::specs::ReadingUnits::header_at))]
+#[tactic(auto, unfolding(qvt_language::specs::ReadingUnits::header_at))]
 fn header(parser: &mut Parser<'_>) -> Result<(Text, Seq<ModelParam>), ParseError>
     ensures gives { Gives same result (toks parser.new) (header_at (toks parser.old)) }
     ensures fewer { length (toks parser.new) ≤ length (toks parser.old) }
@@ -687,7 +688,7 @@ fn units(parser: &mut Parser<'_>, room: usize) -> Result<Seq<Unit>, ParseError>
 }
 
 /// A whole transformation. The tokens do not tell where their text ends.
-#[tactic(auto, unfolding(qvt_parser_grammar::specs::ReadingUnits::transformation_at))]
+#[tactic(auto, unfolding(qvt_language::specs::ReadingUnits::transformation_at))]
 pub fn transformation(parser: &mut Parser<'_>, room: usize) -> Result<Module, ParseError>
     ensures gives { Gives module_view result (toks parser.new) (transformation_at (nested_at room) (toks parser.old)) }
     ensures fewer { length (toks parser.new) ≤ length (toks parser.old) }

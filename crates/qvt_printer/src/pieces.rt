@@ -1,14 +1,14 @@
 ghost use Rattle.std.specs.Prelude.{◌≡◌, ◌++◌, ◌∷◌, [], OnOk};
 ghost use Rattle.qvt_tree_types.specs.View.{type_view, optional_type};
 ghost use Rattle.qvt_printer_layout.specs.declared.piece.Piece.TheVariants.{Plain, Name, Quoted, Tight, Line, Indent, Dedent};
-ghost use Rattle.qvt_parser_grammar.specs.declared.token.Class.TheVariants as class;
+ghost use Rattle.qvt_language.specs.declared.class.Class.TheVariants as class;
 ghost use Rattle.qvt_printer.specs.Expressions as printed;
 
 use qvt_base::copied::Copied;
 use qvt_base::list_fault::ListFault;
 use qvt_base::seq::Seq;
 use qvt_base::text::Text;
-use qvt_parser_grammar::token::Class;
+use qvt_language::class::Class;
 use qvt_printer_layout::piece::Piece;
 use qvt_printer_layout::words::{kind_word, prefix_sign};
 use qvt_tree_types::types::{ObjectVar, PathTree, TypeTree};

@@ -8,7 +8,7 @@ use crate::levels::{is_as_loose, is_chain, is_chain_or_prefix};
 use crate::pieces::Pieces;
 use qvt_base::list_fault::ListFault;
 use qvt_base::text::Text;
-use qvt_parser_grammar::token::Class;
+use qvt_language::class::Class;
 use qvt_printer_layout::piece::Piece;
 use qvt_printer_layout::words::{
     assign_sign, kind_word, map_word, operator_sign, resolve_word, truth_word,

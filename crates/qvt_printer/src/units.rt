@@ -2,7 +2,7 @@ ghost use Rattle.std.specs.Prelude.{◌≡◌, ◌++◌, ◌∷◌, OnOk, map};
 ghost use Rattle.qvt_tree_types.specs.View.{block_view};
 ghost use Rattle.qvt_tree_types.specs.Module as tree;
 ghost use Rattle.qvt_tree_types.specs.Module.{MainOf};
-ghost use Rattle.qvt_parser_grammar.specs.Readers.{nowhere};
+ghost use Rattle.qvt_language.specs.Readers.{nowhere};
 ghost use Rattle.qvt_printer_layout.specs.declared.piece.Piece.TheVariants.{Line};
 ghost use Rattle.qvt_printer.specs.Expressions as expressions;
 ghost use Rattle.qvt_printer.specs.Units as printed;
@@ -10,7 +10,7 @@ ghost use Rattle.qvt_printer.specs.Units as printed;
 use crate::pieces::Pieces;
 use qvt_base::list_fault::ListFault;
 use qvt_base::text::Text;
-use qvt_parser_grammar::token::Class;
+use qvt_language::class::Class;
 use qvt_printer_layout::piece::Piece;
 use qvt_printer_layout::words::{direction_word, helper_word};
 use qvt_tree_types::module::{

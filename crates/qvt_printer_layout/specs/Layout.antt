@@ -2,12 +2,11 @@
 use Rattle.std.specs.Prelude.{ℕ, ℤ, Bool, true, false, ◌||◌, ◌&&◌, ◌==◌, ◌-◌, ◌+◌, ◌/◌, ◌%◌, nat_lt, List, [], ◌∷◌, ◌++◌, replicate, fold, flat_map, codes, if◌then◌else◌, Option, Some, None, encode_utf8}
 use Rattle.std.specs.Fmt.{signed_decimal}
 use Rattle.std.specs.Str.{chars}
-use Rattle.qvt_lexer.specs.Words.{is_reserved}
-use Rattle.qvt_parser_grammar.specs.declared.token.Class.{Class}
-use Rattle.qvt_parser_grammar.specs.declared.token.Class.TheVariants as class
+use Rattle.qvt_language.specs.declared.class.Class.{Class}
+use Rattle.qvt_language.specs.declared.class.Class.TheVariants as class
 use Rattle.qvt_printer_layout.specs.declared.piece.Piece.{Piece}
 use Rattle.qvt_printer_layout.specs.declared.piece.Piece.TheVariants.{Plain, Name, Integer, Quoted, Tight, Line, Indent, Dedent}
-use Rattle.qvt_printer_layout.specs.Spellings.{spelling}
+use Rattle.qvt_words.specs.Words.{is_reserved, spelling}
 
 -- a name, in the escaped form where it is a reserved word
 abbrev pub name_text : List ℕ → List ℕ

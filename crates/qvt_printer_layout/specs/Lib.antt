@@ -1,4 +1,3 @@
 pub mod Layout
 pub mod Seen
-pub mod Spellings
 pub mod Words

@@ -1,7 +1,7 @@
 -- The reserved words and signs of a tree's words (OCL 2.4, 7; QVT 1.3, 8.4).
 use Rattle.std.specs.Prelude.{Bool, true, false}
-use Rattle.qvt_parser_grammar.specs.declared.token.Class.{Class}
-use Rattle.qvt_parser_grammar.specs.declared.token.Class.TheVariants as class
+use Rattle.qvt_language.specs.declared.class.Class.{Class}
+use Rattle.qvt_language.specs.declared.class.Class.TheVariants as class
 use Rattle.qvt_tree_types.specs.declared.words.Direction.{Direction}
 use Rattle.qvt_tree_types.specs.declared.words.Direction.TheVariants as direction
 use Rattle.qvt_tree_types.specs.declared.words.CollKind.{CollKind}

@@ -1,16 +1,15 @@
 ghost use Rattle.std.specs.Prelude.{◌≡◌, ◌++◌, ◌∷◌, ◌<◌, OnOk, IfOk, flat_map, fold, replicate, []};
 ghost use Rattle.std.specs.Str.{chars};
-ghost use Rattle.qvt_parser_grammar.specs.declared.token.Class.TheVariants as class;
+ghost use Rattle.qvt_language.specs.declared.class.Class.TheVariants as class;
 ghost use Rattle.qvt_printer_layout.specs.Layout as layout;
-ghost use Rattle.qvt_printer_layout.specs.Spellings.{spelling};
+ghost use Rattle.qvt_words.specs.Words.{spelling};
 
 use crate::piece::Piece;
-use crate::spellings::spelling;
 use qvt_base::list_fault::ListFault;
 use qvt_base::seq::Seq;
 use qvt_base::text::Text;
-use qvt_lexer::words::is_reserved;
-use qvt_parser_grammar::token::Class;
+use qvt_language::class::Class;
+use qvt_words::words::{is_reserved, spelling};
 use std::alloc::Global;
 use std::marker::Model;
 

@@ -4,5 +4,4 @@
 
 pub mod layout;
 pub mod piece;
-pub mod spellings;
 pub mod words;

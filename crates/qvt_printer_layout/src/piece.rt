@@ -1,5 +1,5 @@
 use qvt_base::text::Text;
-use qvt_parser_grammar::token::Class;
+use qvt_language::class::Class;
 
 /// A part of the printed text, or how the parts after it stand.
 #[derive(Drop)]

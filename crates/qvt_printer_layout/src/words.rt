@@ -3,7 +3,7 @@
 ghost use Rattle.std.specs.Prelude.{◌≡◌};
 ghost use Rattle.qvt_printer_layout.specs.Words as words;
 
-use qvt_parser_grammar::token::Class;
+use qvt_language::class::Class;
 use qvt_tree_types::words::{BinaryOp, CollKind, Direction, PrefixOp, ResolveWord};
 
 pub fn direction_word(direction: Direction) -> Class

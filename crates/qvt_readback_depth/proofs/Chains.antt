@@ -6,14 +6,14 @@ use Rattle.qvt_tree_types.specs.View.{exprs_of, links_of, steps_of, stmts_of, op
 use Rattle.qvt_tree_types.specs.declared.words.BinaryOp.{BinaryOp}
 use Rattle.qvt_tree_types.specs.declared.words.BinaryOp.TheVariants as operators
 use Rattle.qvt_grammar.specs.Language.{Language, made, many, maybe}
-use Rattle.qvt_parser_grammar.specs.Tokens.{Tok}
-use Rattle.qvt_parser_grammar.specs.Readers.{the}
-use Rattle.qvt_parser_grammar.specs.declared.token.Class.{Class}
-use Rattle.qvt_parser_grammar.specs.declared.token.Class.TheVariants as class
-use Rattle.qvt_parser_grammar.specs.declared.token.Class.TheVariants.{Name, OpenRound, CloseRound, Semicolon, Dot, Arrow, Bar, EqualSign, MinusSign, ForEachWord, NotWord, Star, PlusSign, LessSign, AtMost, GreaterSign, AtLeast, DoubleEqual, Diamond, BangEqual, AndWord, OrWord, XorWord, ImpliesWord}
-use Rattle.qvt_parser_grammar.specs.Leads.{Lead, Plain, Bracketed, Each, EachPart}
-use Rattle.qvt_parser_grammar.specs.Grammar.{Nested, args, dot_rest, dot_step, accumulator, head_rest, more_exprs, after_first, arrow_body, arrow_args, arrow_rest, step, post, signed_post, pre, each_tail, lead_step, level_of, operator, link, links, chain, flagged, lead_post, lead_pre, lead}
-use Rattle.qvt_parser_grammar.specs.Trees.{second, dot_of, no_args, arrow_of, accumulator_of, expr_of, headed, with_first, post_lead, each_lead, signed, prefix_lead, binary_op, link_of, chain_of, each_of, nothing}
+use Rattle.qvt_language.specs.Tokens.{Tok}
+use Rattle.qvt_language.specs.Readers.{the}
+use Rattle.qvt_language.specs.declared.class.Class.{Class}
+use Rattle.qvt_language.specs.declared.class.Class.TheVariants as class
+use Rattle.qvt_language.specs.declared.class.Class.TheVariants.{Name, OpenRound, CloseRound, Semicolon, Dot, Arrow, Bar, EqualSign, MinusSign, ForEachWord, NotWord, Star, PlusSign, LessSign, AtMost, GreaterSign, AtLeast, DoubleEqual, Diamond, BangEqual, AndWord, OrWord, XorWord, ImpliesWord}
+use Rattle.qvt_language.specs.Leads.{Lead, Plain, Bracketed, Each, EachPart}
+use Rattle.qvt_language.specs.Grammar.{Nested, args, dot_rest, dot_step, accumulator, head_rest, more_exprs, after_first, arrow_body, arrow_args, arrow_rest, step, post, signed_post, pre, each_tail, lead_step, level_of, operator, link, links, chain, flagged, lead_post, lead_pre, lead}
+use Rattle.qvt_language.specs.Trees.{second, dot_of, no_args, arrow_of, accumulator_of, expr_of, headed, with_first, post_lead, each_lead, signed, prefix_lead, binary_op, link_of, chain_of, each_of, nothing}
 use Rattle.qvt_printer.specs.Expressions as print
 use Rattle.qvt_printer.specs.Levels.{is_as_loose, is_chain, is_chain_or_prefix}
 use Rattle.qvt_printer_layout.specs.Words as words

@@ -1,6 +1,6 @@
 -- How many items are open at once, as a count and as a bound.
 use Rattle.std.proofs.Common.{◌≡◌, ℕ, ◌≤◌, List, [], ◌∷◌, length, Bool, true, false, if◌then◌else◌, refl, arith, nat_le, leb-true, leb-false}
-use Rattle.qvt_parser_grammar.specs.Tokens.{Tok}
+use Rattle.qvt_language.specs.Tokens.{Tok}
 use Rattle.qvt_parser_tokens.specs.declared.depth.Open.{Open}
 use Rattle.qvt_parser_tokens.specs.Depth.{after, begins_statement}
 use Rattle.qvt_readback_depth.specs.Most.{greater, most_from}

@@ -2,15 +2,15 @@
 use Rattle.std.proofs.Common.{◌≡◌, ℕ, suc, ◌+◌, ◌≤◌, List, [], ◌∷◌, ◌++◌, map, length, Bool, true, false, if◌then◌else◌, ◌⊎◌, inl, inr, refl, sym, ap, ◌∙◌, subst, Option, Some, None, arith, nat_le, leb-true, le-leb}
 use Rattle.qvt_base.specs.declared.numbers.Place.{Place}
 use Rattle.qvt_tree_types.specs.Module.{ModuleTerm}
-use Rattle.qvt_parser_grammar.specs.Tokens.{Tok}
-use Rattle.qvt_parser_grammar.specs.Module.{Reads}
-use Rattle.qvt_parser_grammar.specs.Trees.{is_there}
+use Rattle.qvt_language.specs.Tokens.{Tok}
+use Rattle.qvt_language.specs.Module.{Reads}
+use Rattle.qvt_language.specs.Trees.{is_there}
 use Rattle.qvt_parser_tokens.specs.declared.depth.Open.{Open}
 use Rattle.qvt_parser_tokens.specs.Depth.{after, begins_statement, deep_from}
 use Rattle.qvt_printer.specs.Units.{module_pieces}
 use Rattle.qvt_printer_layout.specs.declared.piece.Piece.{Piece}
 use Rattle.qvt_printer_layout.specs.declared.piece.Piece.TheVariants.{Plain, Name, Integer, Quoted, Tight, Line, Indent, Dedent}
-use Rattle.qvt_parser_grammar.specs.Same.{unplaced}
+use Rattle.qvt_language.specs.Same.{unplaced}
 use Rattle.qvt_readback_tokens.specs.Spelled.{spelled, all_spelled}
 use Rattle.qvt_readback_depth.specs.Most.{greater, most_from, most}
 use Rattle.qvt_readback_depth.specs.Law.{HasFullUnit, PrintedIsAsDeep}

@@ -1,11 +1,11 @@
 -- What holds of the tokens that a language reads and of their value, by the forms of the grammar.
 use Rattle.std.proofs.Common.{◌≡◌, List, [], ◌∷◌, ◌++◌, Bool, ◌⊎◌, inl, inr, sym, ap, ◌∙◌, subst, Option, Some, None}
 use Rattle.qvt_grammar.specs.Language.{Language, follow, then, either, turns, many, made, never, empty, maybe, lastly}
-use Rattle.qvt_parser_grammar.specs.Tokens.{Tok}
-use Rattle.qvt_parser_grammar.specs.Readers.{the, placed}
-use Rattle.qvt_parser_grammar.specs.Series.{left, right, series, finished, barring}
-use Rattle.qvt_parser_grammar.specs.Trees.{second, first, inner}
-use Rattle.qvt_parser_grammar.specs.declared.token.Class.{Class}
+use Rattle.qvt_language.specs.Tokens.{Tok}
+use Rattle.qvt_language.specs.Readers.{the, placed}
+use Rattle.qvt_language.specs.Series.{left, right, series, finished, barring}
+use Rattle.qvt_language.specs.Trees.{second, first, inner}
+use Rattle.qvt_language.specs.declared.class.Class.{Class}
 use Rattle.qvt_printer_layout.specs.declared.piece.Piece.{Piece}
 use Rattle.qvt_readback_tokens.proofs.Classes.{same_class}
 use Rattle.qvt_readback_depth.proofs.Runs.{Still, AllStill, strong_nil}

@@ -2,21 +2,21 @@
 use Rattle.std.proofs.Common.{◌≡◌, ℕ, zero, suc, List, [], ◌∷◌, ◌++◌, Bool, true, false, ◌||◌, ◌⊎◌, inl, inr, refl, sym, ap, ◌∙◌, subst, Option, Some, None}
 use Rattle.qvt_tree_types.specs.Tree.{BareTarget, ResultTarget, MemberTarget, MapExpr, ResolveExpr, PathType, DotMapStep, DotResolveStep, ArrowMapStep, ArrowResolveStep}
 use Rattle.qvt_grammar.specs.Language.{Language, follow, then, either, many, made, never, empty, maybe}
-use Rattle.qvt_parser_grammar.specs.Tokens.{Tok, of}
-use Rattle.qvt_parser_grammar.specs.Readers.{the, placed}
-use Rattle.qvt_parser_grammar.specs.Series.{series, finished}
-use Rattle.qvt_parser_grammar.specs.Nesting.{nested}
-use Rattle.qvt_parser_grammar.specs.Leads.{Lead, Plain, Bracketed, Each}
-use Rattle.qvt_parser_grammar.specs.Grammar as g
-use Rattle.qvt_parser_grammar.specs.Grammar.{Nested}
-use Rattle.qvt_parser_grammar.specs.Statements as s
-use Rattle.qvt_parser_grammar.specs.Units as u
-use Rattle.qvt_parser_grammar.specs.Trees as trees
-use Rattle.qvt_parser_grammar.specs.StmtTrees as stmts
-use Rattle.qvt_parser_grammar.specs.UnitTrees as units
-use Rattle.qvt_parser_grammar.specs.UnitTrees.{Clauses}
-use Rattle.qvt_parser_grammar.specs.declared.token.Class.{Class}
-use Rattle.qvt_parser_grammar.specs.declared.token.Class.TheVariants as class
+use Rattle.qvt_language.specs.Tokens.{Tok, of}
+use Rattle.qvt_language.specs.Readers.{the, placed}
+use Rattle.qvt_language.specs.Series.{series, finished}
+use Rattle.qvt_language.specs.Nesting.{nested}
+use Rattle.qvt_language.specs.Leads.{Lead, Plain, Bracketed, Each}
+use Rattle.qvt_language.specs.Grammar as g
+use Rattle.qvt_language.specs.Grammar.{Nested}
+use Rattle.qvt_language.specs.Statements as s
+use Rattle.qvt_language.specs.Units as u
+use Rattle.qvt_language.specs.Trees as trees
+use Rattle.qvt_language.specs.StmtTrees as stmts
+use Rattle.qvt_language.specs.UnitTrees as units
+use Rattle.qvt_language.specs.UnitTrees.{Clauses}
+use Rattle.qvt_language.specs.declared.class.Class.{Class}
+use Rattle.qvt_language.specs.declared.class.Class.TheVariants as class
 use Rattle.qvt_readback_tokens.proofs.Classes.{same_class}
 use Rattle.qvt_readback_depth.specs.Law.{is_population, has_population}
 use Rattle.qvt_readback_depth.proofs.Forms.{Gives, Perhaps, Either, g_follow, g_made, g_either, g_many, g_placed, g_barring, g_weaker, g_series, g_finished}

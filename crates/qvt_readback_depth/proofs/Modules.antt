@@ -5,15 +5,15 @@ use Rattle.qvt_tree_types.specs.Module.{UnitTerm, ModuleTerm}
 use Rattle.qvt_tree_types.specs.declared.module.ModelType.{ModelType}
 use Rattle.qvt_tree_types.specs.declared.module.ModelParam.{ModelParam}
 use Rattle.qvt_grammar.specs.Language.{Language, made, then, either}
-use Rattle.qvt_parser_grammar.specs.Tokens.{Tok}
-use Rattle.qvt_parser_grammar.specs.Readers.{the}
-use Rattle.qvt_parser_grammar.specs.Nesting.{nested}
-use Rattle.qvt_parser_grammar.specs.Grammar.{Nested}
-use Rattle.qvt_parser_grammar.specs.Trees.{second, nothing}
-use Rattle.qvt_parser_grammar.specs.UnitTrees.{class_of, main_of, helper_of, constructor_of, mapping_of, some_unit, units_of, module_of}
-use Rattle.qvt_parser_grammar.specs.Units.{class_unit, main_unit, helper_unit, constructor_unit, mapping_unit, unit, model_type, transformation}
-use Rattle.qvt_parser_grammar.specs.declared.token.Class.{Class}
-use Rattle.qvt_parser_grammar.specs.declared.token.Class.TheVariants.{Semicolon, ConstructorWord, HelperWord, IntermediateWord, MainWord, MappingWord, QueryWord}
+use Rattle.qvt_language.specs.Tokens.{Tok}
+use Rattle.qvt_language.specs.Readers.{the}
+use Rattle.qvt_language.specs.Nesting.{nested}
+use Rattle.qvt_language.specs.Grammar.{Nested}
+use Rattle.qvt_language.specs.Trees.{second, nothing}
+use Rattle.qvt_language.specs.UnitTrees.{class_of, main_of, helper_of, constructor_of, mapping_of, some_unit, units_of, module_of}
+use Rattle.qvt_language.specs.Units.{class_unit, main_unit, helper_unit, constructor_unit, mapping_unit, unit, model_type, transformation}
+use Rattle.qvt_language.specs.declared.class.Class.{Class}
+use Rattle.qvt_language.specs.declared.class.Class.TheVariants.{Semicolon, ConstructorWord, HelperWord, IntermediateWord, MainWord, MappingWord, QueryWord}
 use Rattle.qvt_parser_tokens.specs.declared.depth.Open.{Open}
 use Rattle.qvt_parser_tokens.specs.Depth.{begins_statement}
 use Rattle.qvt_printer.specs.Units as printed

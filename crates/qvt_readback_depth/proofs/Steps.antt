@@ -8,13 +8,13 @@ use Rattle.qvt_tree_types.specs.declared.words.Level.TheVariants as levels
 use Rattle.qvt_tree_types.specs.declared.words.PrefixOp.{PrefixOp}
 use Rattle.qvt_tree_types.specs.declared.words.PrefixOp.TheVariants as prefixes
 use Rattle.qvt_tree_types.specs.declared.words.Sign.{Sign}
-use Rattle.qvt_parser_grammar.specs.Tokens.{Tok}
-use Rattle.qvt_parser_grammar.specs.Readers.{the}
-use Rattle.qvt_parser_grammar.specs.declared.token.Class.{Class}
-use Rattle.qvt_parser_grammar.specs.declared.token.Class.TheVariants as class
-use Rattle.qvt_parser_grammar.specs.declared.token.Class.TheVariants.{Name, OpenRound, CloseRound, Semicolon, Dot, Arrow, Bar, EqualSign, MinusSign, ForEachWord, NotWord, Star, PlusSign, LessSign, AtMost, GreaterSign, AtLeast, DoubleEqual, Diamond, BangEqual, AndWord, OrWord, XorWord, ImpliesWord}
-use Rattle.qvt_parser_grammar.specs.Grammar.{sign, more_signs, signs, level_of}
-use Rattle.qvt_parser_grammar.specs.Trees.{more_steps as join_steps, stepped, post_of, split_last, member_of, bare_target, first_lead, post_lead, signed, not_of, minus_of}
+use Rattle.qvt_language.specs.Tokens.{Tok}
+use Rattle.qvt_language.specs.Readers.{the}
+use Rattle.qvt_language.specs.declared.class.Class.{Class}
+use Rattle.qvt_language.specs.declared.class.Class.TheVariants as class
+use Rattle.qvt_language.specs.declared.class.Class.TheVariants.{Name, OpenRound, CloseRound, Semicolon, Dot, Arrow, Bar, EqualSign, MinusSign, ForEachWord, NotWord, Star, PlusSign, LessSign, AtMost, GreaterSign, AtLeast, DoubleEqual, Diamond, BangEqual, AndWord, OrWord, XorWord, ImpliesWord}
+use Rattle.qvt_language.specs.Grammar.{sign, more_signs, signs, level_of}
+use Rattle.qvt_language.specs.Trees.{more_steps as join_steps, stepped, post_of, split_last, member_of, bare_target, first_lead, post_lead, signed, not_of, minus_of}
 use Rattle.qvt_printer.specs.Expressions as print
 use Rattle.qvt_printer.specs.Levels.{is_as_loose, is_chain, is_chain_or_prefix, tightness}
 use Rattle.qvt_printer_layout.specs.Words as words

@@ -4,16 +4,16 @@ use Rattle.qvt_base.specs.declared.numbers.Place.{Place}
 use Rattle.qvt_tree_types.specs.Tree.{ExprTerm, IfExpr, StmtTerm, AssignStmt, ValueStmt, ArmTerm, ArmOf, TargetTerm}
 use Rattle.qvt_tree_types.specs.View.{stmts_of, arms_of, steps_of, optional_expr, optional_else}
 use Rattle.qvt_grammar.specs.Language.{made, then}
-use Rattle.qvt_parser_grammar.specs.Tokens.{Tok}
-use Rattle.qvt_parser_grammar.specs.Readers.{the}
-use Rattle.qvt_parser_grammar.specs.declared.token.Class.TheVariants as class
-use Rattle.qvt_parser_grammar.specs.declared.token.Class.TheVariants.{OpenRound, CloseRound, OpenBrace, CloseBrace, Semicolon, Becomes, PlusEqual, ElifWord, ElseWord, EndifWord, IfWord, ReturnWord, ThenWord, VarWord, WhileWord}
-use Rattle.qvt_parser_grammar.specs.Leads.{Lead, Plain, Bracketed, Each, EachPart, Ended}
-use Rattle.qvt_parser_grammar.specs.Grammar.{Nested, expr}
-use Rattle.qvt_parser_grammar.specs.Trees.{second, expr_of}
-use Rattle.qvt_parser_grammar.specs.Nesting.{nested}
-use Rattle.qvt_parser_grammar.specs.Statements.{condition, var_stmt, return_stmt, arm, else_part, branches, choice, if_rest, if_stmt, while_stmt, assignment, semicolon, lead_tail, lead_stmt, statement, statements, block}
-use Rattle.qvt_parser_grammar.specs.StmtTrees.{var_of, return_of, arm_of, Branches, Choice, chosen, if_made, if_stmt_of, while_of, Turn, empty_turn, closed_turn, simple_turn, Tail, no_tail, plain_tail, lead_turn, is_adding, for_each_of, concat, last_of, ended_of, block_of}
+use Rattle.qvt_language.specs.Tokens.{Tok}
+use Rattle.qvt_language.specs.Readers.{the}
+use Rattle.qvt_language.specs.declared.class.Class.TheVariants as class
+use Rattle.qvt_language.specs.declared.class.Class.TheVariants.{OpenRound, CloseRound, OpenBrace, CloseBrace, Semicolon, Becomes, PlusEqual, ElifWord, ElseWord, EndifWord, IfWord, ReturnWord, ThenWord, VarWord, WhileWord}
+use Rattle.qvt_language.specs.Leads.{Lead, Plain, Bracketed, Each, EachPart, Ended}
+use Rattle.qvt_language.specs.Grammar.{Nested, expr}
+use Rattle.qvt_language.specs.Trees.{second, expr_of}
+use Rattle.qvt_language.specs.Nesting.{nested}
+use Rattle.qvt_language.specs.Statements.{condition, var_stmt, return_stmt, arm, else_part, branches, choice, if_rest, if_stmt, while_stmt, assignment, semicolon, lead_tail, lead_stmt, statement, statements, block}
+use Rattle.qvt_language.specs.StmtTrees.{var_of, return_of, arm_of, Branches, Choice, chosen, if_made, if_stmt_of, while_of, Turn, empty_turn, closed_turn, simple_turn, Tail, no_tail, plain_tail, lead_turn, is_adding, for_each_of, concat, last_of, ended_of, block_of}
 use Rattle.qvt_printer.specs.Expressions as print
 use Rattle.qvt_printer_layout.specs.Words as words
 use Rattle.qvt_printer_layout.specs.declared.piece.Piece.{Piece}

@@ -1,8 +1,8 @@
 -- How the statements of a text and of its printed text open and close items. The text may leave conditionals open until the
 -- end of a block, the printed text leaves none.
 use Rattle.std.proofs.Common.{◌≡◌, ℕ, suc, ◌+◌, ◌≤◌, List, [], ◌∷◌, ◌++◌, length, Bool, true, false, refl, sym, ap, ◌∙◌, subst, arith}
-use Rattle.qvt_parser_grammar.specs.declared.token.Class.{Class}
-use Rattle.qvt_parser_grammar.specs.declared.token.Class.TheVariants.{CloseBrace, Semicolon, IfWord, EndifWord}
+use Rattle.qvt_language.specs.declared.class.Class.{Class}
+use Rattle.qvt_language.specs.declared.class.Class.TheVariants.{CloseBrace, Semicolon, IfWord, EndifWord}
 use Rattle.qvt_parser_tokens.specs.declared.depth.Open.{Open}
 use Rattle.qvt_parser_tokens.specs.declared.depth.Open.TheVariants.{Bracket, Conditional}
 use Rattle.qvt_parser_tokens.specs.Depth.{closed, ended, after}

@@ -1,7 +1,7 @@
 -- How the units of a text and of its printed text open and close items, where the printed text may open e more at once.
 use Rattle.std.proofs.Common.{◌≡◌, ℕ, suc, ◌+◌, ◌≤◌, List, [], ◌∷◌, ◌++◌, length, Bool, true, false, refl, sym, ap, ◌∙◌, subst, arith}
-use Rattle.qvt_parser_grammar.specs.declared.token.Class.{Class}
-use Rattle.qvt_parser_grammar.specs.declared.token.Class.TheVariants.{OpenRound, OpenBrace, CloseBrace, Semicolon, PopulationWord}
+use Rattle.qvt_language.specs.declared.class.Class.{Class}
+use Rattle.qvt_language.specs.declared.class.Class.TheVariants.{OpenRound, OpenBrace, CloseBrace, Semicolon, PopulationWord}
 use Rattle.qvt_parser_tokens.specs.declared.depth.Open.{Open}
 use Rattle.qvt_parser_tokens.specs.declared.depth.Open.TheVariants.{Bracket}
 use Rattle.qvt_parser_tokens.specs.Depth.{closed, after, begins_statement}

@@ -1,15 +1,15 @@
 -- The law that printing opens no more items than the text had, but for one block more in two forms of units.
 use Rattle.std.specs.Prelude.{◌≡◌, ◌≤◌, ◌↔◌, ℕ, suc, Bool, true, false, not, ◌&&◌, ◌||◌, ◌⊎◌, List, [], ◌∷◌, ◌++◌, map, None}
 use Rattle.qvt_tree_types.specs.Module.{UnitTerm, HelperOf, MappingOf, ModuleTerm}
-use Rattle.qvt_parser_grammar.specs.Tokens.{Tok}
-use Rattle.qvt_parser_grammar.specs.declared.token.Class.{Class}
-use Rattle.qvt_parser_grammar.specs.declared.token.Class.TheVariants.{Semicolon, PopulationWord}
-use Rattle.qvt_parser_grammar.specs.Nesting.{nested}
-use Rattle.qvt_parser_grammar.specs.Units as grammar
-use Rattle.qvt_parser_grammar.specs.Module.{Reads}
+use Rattle.qvt_language.specs.Tokens.{Tok}
+use Rattle.qvt_language.specs.declared.class.Class.{Class}
+use Rattle.qvt_language.specs.declared.class.Class.TheVariants.{Semicolon, PopulationWord}
+use Rattle.qvt_language.specs.Nesting.{nested}
+use Rattle.qvt_language.specs.Units as grammar
+use Rattle.qvt_language.specs.Module.{Reads}
 use Rattle.qvt_parser_tokens.specs.Depth.{deep}
 use Rattle.qvt_printer.specs.Units.{module_pieces, has_statements}
-use Rattle.qvt_parser_grammar.specs.Same.{unplaced}
+use Rattle.qvt_language.specs.Same.{unplaced}
 use Rattle.qvt_readback_tokens.specs.Spelled.{all_spelled}
 use Rattle.qvt_readback_depth.specs.Most.{most}
 

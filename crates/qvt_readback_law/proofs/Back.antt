@@ -3,9 +3,9 @@ use Rattle.std.proofs.Common.{◌≡◌, ◌∙◌, ◌≤◌, ◌≢◌, ◌⊎
 use Rattle.qvt_base.specs.declared.numbers.Place.{Place}
 use Rattle.qvt_tree_types.specs.Module.{ModuleTerm}
 use Rattle.qvt_tree.specs.ModuleShape.{shape}
-use Rattle.qvt_parser_grammar.specs.Tokens.{Tok}
-use Rattle.qvt_parser_grammar.specs.Readers.{nowhere}
-use Rattle.qvt_parser_grammar.specs.Module.{Reads, with_end}
+use Rattle.qvt_language.specs.Tokens.{Tok}
+use Rattle.qvt_language.specs.Readers.{nowhere}
+use Rattle.qvt_language.specs.Module.{Reads, with_end}
 use Rattle.qvt_parser_tokens.specs.Depth.{deep}
 use Rattle.qvt_parsed.proofs.Ends.{read_nowhere}
 use Rattle.qvt_parsed.specs.Parsing.{IsTransformation, IsTooDeep}
@@ -16,7 +16,7 @@ use Rattle.qvt_printer.specs.Units.{module_pieces}
 use Rattle.qvt_printer.specs.PrintText.{print_text}
 use Rattle.qvt_readback_tokens.specs.Told.{AllTold}
 use Rattle.qvt_readback_tokens.specs.Law.{HasSpelled, PrintedIsLexed}
-use Rattle.qvt_parser_grammar.specs.Same.{unplaced}
+use Rattle.qvt_language.specs.Same.{unplaced}
 use Rattle.qvt_readback_tokens.specs.Spelled.{all_spelled}
 use Rattle.qvt_readback_trees.specs.Printable.{IsPrintable}
 use Rattle.qvt_readback_trees.specs.Law.{OneText, ReadsShape, PrintedIsRead}

@@ -3,9 +3,9 @@ use Rattle.std.specs.Prelude.{◌≡◌, ℕ, List, None, Result, Ok, Err}
 use Rattle.qvt_base.specs.declared.numbers.Place.{Place}
 use Rattle.qvt_tree_types.specs.Module.{ModuleTerm}
 use Rattle.qvt_tree.specs.ModuleShape.{shape}
-use Rattle.qvt_parser_grammar.specs.Readers.{nowhere}
-use Rattle.qvt_parser_grammar.specs.Tokens.{Tok}
-use Rattle.qvt_parser_grammar.specs.Module.{Reads, with_end}
+use Rattle.qvt_language.specs.Readers.{nowhere}
+use Rattle.qvt_language.specs.Tokens.{Tok}
+use Rattle.qvt_language.specs.Module.{Reads, with_end}
 use Rattle.qvt_parser_tokens.specs.Depth.{deep}
 use Rattle.qvt_parser_tokens.specs.Text.{HasTokens}
 use Rattle.qvt_parsed.specs.Parsing.{IsTransformation}

@@ -7,11 +7,11 @@ use Rattle.qvt_lexer.specs.Literals.{every, begins}
 use Rattle.qvt_lexer.specs.Scan.{scan_at, word_kind, is_apostrophe}
 use Rattle.qvt_lexer.specs.declared.token.TokenKind.{TokenKind}
 use Rattle.qvt_lexer.specs.declared.scan.Piece.TheVariants.{Token}
-use Rattle.qvt_parser_grammar.specs.Tokens.{Tok}
-use Rattle.qvt_parser_grammar.specs.declared.token.Class.{Class}
+use Rattle.qvt_language.specs.Tokens.{Tok}
+use Rattle.qvt_language.specs.declared.class.Class.{Class}
 use Rattle.qvt_parser_tokens.specs.Said.{said}
-use Rattle.qvt_printer_layout.specs.Spellings.{spelling}
-use Rattle.qvt_parser_grammar.specs.Same.{unplaced}
+use Rattle.qvt_words.specs.Words.{spelling}
+use Rattle.qvt_language.specs.Same.{unplaced}
 use Rattle.qvt_readback_tokens.proofs.Tests.{neither}
 use Rattle.qvt_readback_tokens.proofs.Scans.{scan_name}
 use Rattle.qvt_readback_tokens.proofs.Spelt.{Kind, Named, Number, kind_of}

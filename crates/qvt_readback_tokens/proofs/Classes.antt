@@ -1,9 +1,9 @@
 -- The class of a token that passes the test for a class.
 use Rattle.std.proofs.Common.{◌≡◌, ℕ, zero, suc, List, [], ◌∷◌, refl, sym, ap, ◌∙◌, IsTrue, eqb-true, eq-eqb, pos}
-use Rattle.qvt_parser_grammar.specs.declared.token.Class.{Class}
-use Rattle.qvt_parser_grammar.specs.declared.token.Class.TheVariants.{Name, Integer, Str, OpenRound, CloseRound, OpenBrace, CloseBrace, Comma, Semicolon, Colon, DoubleColon, Dot, DotDot, Arrow, Bar, AtSign, EqualSign, DoubleEqual, Diamond, BangEqual, LessSign, AtMost, GreaterSign, AtLeast, PlusSign, MinusSign, Star, Becomes, PlusEqual, AndWord, BagWord, ClassWord, ConstructorWord, DisjunctsWord, ElifWord, ElseWord, EndWord, EndifWord, ExtendsWord, FalseWord, ForEachWord, HelperWord, IfWord, ImpliesWord, ImportWord, InWord, InheritsWord, InitWord, InoutWord, IntermediateWord, InvResolveWord, InvResolveInWord, InvResolveOneWord, InvResolveOneInWord, LateWord, LibraryWord, MainWord, MapWord, MappingWord, MergesWord, ModelTypeWord, NewWord, NotWord, NullWord, ObjectWord, OrWord, OrderedSetWord, OutWord, PopulationWord, QueryWord, ResolveAllWord, ResolveInWord, ResolveOneWord, ResolveOneInWord, ResultWord, ReturnWord, SelfWord, SequenceWord, SetWord, ThenWord, TransformationWord, TrueWord, UsesWord, VarWord, WhenWord, WhileWord, XmapWord, XorWord}
-use Rattle.qvt_parser_grammar.specs.Tokens.{Tok, code_of, is}
-use Rattle.qvt_parser_grammar.specs.Readers.{nowhere}
+use Rattle.qvt_language.specs.declared.class.Class.{Class}
+use Rattle.qvt_language.specs.declared.class.Class.TheVariants.{Name, Integer, Str, OpenRound, CloseRound, OpenBrace, CloseBrace, Comma, Semicolon, Colon, DoubleColon, Dot, DotDot, Arrow, Bar, AtSign, EqualSign, DoubleEqual, Diamond, BangEqual, LessSign, AtMost, GreaterSign, AtLeast, PlusSign, MinusSign, Star, Becomes, PlusEqual, AndWord, BagWord, ClassWord, ConstructorWord, DisjunctsWord, ElifWord, ElseWord, EndWord, EndifWord, ExtendsWord, FalseWord, ForEachWord, HelperWord, IfWord, ImpliesWord, ImportWord, InWord, InheritsWord, InitWord, InoutWord, IntermediateWord, InvResolveWord, InvResolveInWord, InvResolveOneWord, InvResolveOneInWord, LateWord, LibraryWord, MainWord, MapWord, MappingWord, MergesWord, ModelTypeWord, NewWord, NotWord, NullWord, ObjectWord, OrWord, OrderedSetWord, OutWord, PopulationWord, QueryWord, ResolveAllWord, ResolveInWord, ResolveOneWord, ResolveOneInWord, ResultWord, ReturnWord, SelfWord, SequenceWord, SetWord, ThenWord, TransformationWord, TrueWord, UsesWord, VarWord, WhenWord, WhileWord, XmapWord, XorWord}
+use Rattle.qvt_language.specs.Tokens.{Tok, code_of, is}
+use Rattle.qvt_language.specs.Readers.{nowhere}
 
 class_at : List Class → ℕ → Class
 class_at [] n = Name

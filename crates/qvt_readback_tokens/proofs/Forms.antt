@@ -1,11 +1,11 @@
 -- What holds of all that a language reads from told tokens, by the forms of the grammar.
 use Rattle.std.proofs.Common.{List, [], ◌∷◌, Bool, ◌⊎◌, inl, inr, sym, subst, Option, Some, None, IsTrue}
 use Rattle.qvt_grammar.specs.Language.{Language, follow, then, either, turns, many, made, never, maybe, lastly}
-use Rattle.qvt_parser_grammar.specs.Tokens.{Tok, is}
-use Rattle.qvt_parser_grammar.specs.Readers.{the, placed}
-use Rattle.qvt_parser_grammar.specs.Series.{left, right, series, finished, barring}
-use Rattle.qvt_parser_grammar.specs.declared.token.Class.{Class}
-use Rattle.qvt_parser_grammar.specs.declared.token.Class.TheVariants.{Name, Integer, Str}
+use Rattle.qvt_language.specs.Tokens.{Tok, is}
+use Rattle.qvt_language.specs.Readers.{the, placed}
+use Rattle.qvt_language.specs.Series.{left, right, series, finished, barring}
+use Rattle.qvt_language.specs.declared.class.Class.{Class}
+use Rattle.qvt_language.specs.declared.class.Class.TheVariants.{Name, Integer, Str}
 use Rattle.qvt_readback_tokens.specs.Told.{IsName, IsText, IsSmall, AllTold}
 use Rattle.qvt_readback_tokens.proofs.Told.{told_front, told_back}
 

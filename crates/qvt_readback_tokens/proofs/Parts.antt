@@ -18,7 +18,7 @@ use Rattle.qvt_tree_types.specs.declared.words.ResolveWord.{ResolveWord}
 use Rattle.qvt_tree_types.specs.declared.words.ResolveWord.TheVariants as resolve
 use Rattle.qvt_tree_types.specs.declared.words.Level.{Level}
 use Rattle.qvt_tree_types.specs.declared.words.Sign.{Sign}
-use Rattle.qvt_parser_grammar.specs.declared.token.Class.TheVariants as class
+use Rattle.qvt_language.specs.declared.class.Class.TheVariants as class
 use Rattle.qvt_printer_layout.specs.declared.piece.Piece.{Piece}
 use Rattle.qvt_printer_layout.specs.declared.piece.Piece.TheVariants.{Plain, Tight, Line, Dedent}
 use Rattle.qvt_printer_layout.specs.Words as words

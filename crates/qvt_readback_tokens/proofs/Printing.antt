@@ -6,15 +6,15 @@ use Rattle.qvt_lexer.specs.Division as division
 use Rattle.qvt_lexer.specs.Division.{Position, TokenData, tokens_of, past, start_at, moved, first_place}
 use Rattle.qvt_tree_types.specs.Module.{ModuleTerm}
 use Rattle.qvt_tree_types.specs.declared.module.ModelType.{ModelType}
-use Rattle.qvt_parser_grammar.specs.Tokens.{Tok}
-use Rattle.qvt_parser_grammar.specs.declared.token.Class.TheVariants as class
-use Rattle.qvt_parser_grammar.specs.Module.{Reads}
+use Rattle.qvt_language.specs.Tokens.{Tok}
+use Rattle.qvt_language.specs.declared.class.Class.TheVariants as class
+use Rattle.qvt_language.specs.Module.{Reads}
 use Rattle.qvt_parser_tokens.specs.Said.{said}
 use Rattle.qvt_printer_layout.specs.declared.piece.Piece.{Piece}
 use Rattle.qvt_printer_layout.specs.declared.piece.Piece.TheVariants.{Plain}
 use Rattle.qvt_printer.specs.Units.{model_types, module_pieces}
 use Rattle.qvt_printer.specs.PrintText.{print_text}
-use Rattle.qvt_parser_grammar.specs.Same.{unplaced}
+use Rattle.qvt_language.specs.Same.{unplaced}
 use Rattle.qvt_readback_tokens.specs.Spelled.{all_spelled}
 use Rattle.qvt_readback_tokens.specs.Told.{AllTold}
 use Rattle.qvt_readback_tokens.specs.Law.{HasSpelled, PrintedIsLexed}

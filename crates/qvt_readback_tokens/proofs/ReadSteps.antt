@@ -7,17 +7,17 @@ use Rattle.qvt_tree_types.specs.declared.types.PathTree.{PathTree}
 use Rattle.qvt_tree_types.specs.declared.words.Level.{Level}
 use Rattle.qvt_tree_types.specs.declared.words.Sign.{Sign}
 use Rattle.qvt_grammar.specs.Language.{Language, made, empty}
-use Rattle.qvt_parser_grammar.specs.Tokens.{Tok}
-use Rattle.qvt_parser_grammar.specs.declared.named.Named.{Named}
-use Rattle.qvt_parser_grammar.specs.declared.token.Class.TheVariants.{Name, OpenRound, CloseRound, Semicolon, Dot, Arrow, Bar, EqualSign, MinusSign, ForEachWord, NotWord}
-use Rattle.qvt_parser_grammar.specs.Leads.{Lead, Plain, Bracketed, Each, EachPart}
-use Rattle.qvt_parser_grammar.specs.Grammar.{Nested, dot_rest, dot_step, accumulator, head_rest, more_exprs, after_first, arrow_body, arrow_args, arrow_rest, step, post, signs, signed_post, pre, each_tail, lead_step, level_of, operator, link, links, chain, flagged, lead_post, lead_pre, lead}
-use Rattle.qvt_parser_grammar.specs.Trees.{second, dot_of, no_args, arrow_of, accumulator_of, expr_of, headed, with_first, more_steps as join_steps, stepped, post_of, split_last, member_of, bare_target, post_lead, each_lead, signed, prefix_lead, binary_op, link_of, chain_of, each_of, nothing}
+use Rattle.qvt_language.specs.Tokens.{Tok}
+use Rattle.qvt_language.specs.declared.named.Named.{Named}
+use Rattle.qvt_language.specs.declared.class.Class.TheVariants.{Name, OpenRound, CloseRound, Semicolon, Dot, Arrow, Bar, EqualSign, MinusSign, ForEachWord, NotWord}
+use Rattle.qvt_language.specs.Leads.{Lead, Plain, Bracketed, Each, EachPart}
+use Rattle.qvt_language.specs.Grammar.{Nested, dot_rest, dot_step, accumulator, head_rest, more_exprs, after_first, arrow_body, arrow_args, arrow_rest, step, post, signs, signed_post, pre, each_tail, lead_step, level_of, operator, link, links, chain, flagged, lead_post, lead_pre, lead}
+use Rattle.qvt_language.specs.Trees.{second, dot_of, no_args, arrow_of, accumulator_of, expr_of, headed, with_first, more_steps as join_steps, stepped, post_of, split_last, member_of, bare_target, post_lead, each_lead, signed, prefix_lead, binary_op, link_of, chain_of, each_of, nothing}
 use Rattle.qvt_printer.specs.Expressions as print
 use Rattle.qvt_printer.specs.Levels.{is_as_loose, is_chain, is_chain_or_prefix}
 use Rattle.qvt_printer_layout.specs.declared.piece.Piece.{Piece}
 use Rattle.qvt_printer_layout.specs.declared.piece.Piece.TheVariants as piece
-use Rattle.qvt_parser_grammar.specs.declared.token.Class.TheVariants as class
+use Rattle.qvt_language.specs.declared.class.Class.TheVariants as class
 use Rattle.qvt_readback_tokens.proofs.Sound.{held_free}
 use Rattle.qvt_readback_tokens.specs.Told.{IsName}
 use Rattle.qvt_readback_tokens.proofs.Forms.{Gives, Both, AllOf, IfThere, OneOf, each_any, each_the, each_follow, each_then, each_made, each_either, each_many, each_maybe, each_placed, each_weaker, each_series}

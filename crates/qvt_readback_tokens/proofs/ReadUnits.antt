@@ -9,20 +9,20 @@ use Rattle.qvt_tree_types.specs.declared.module.ResultDecl.{ResultDecl}
 use Rattle.qvt_tree_types.specs.declared.module.ModelType.{ModelType}
 use Rattle.qvt_tree_types.specs.declared.module.ModelParam.{ModelParam}
 use Rattle.qvt_grammar.specs.Language.{empty}
-use Rattle.qvt_parser_grammar.specs.Tokens.{of}
-use Rattle.qvt_parser_grammar.specs.declared.named.UnitPath.{UnitPath}
-use Rattle.qvt_parser_grammar.specs.declared.token.Class.{Class}
-use Rattle.qvt_parser_grammar.specs.declared.token.Class.TheVariants.{Name, Str, OpenRound, CloseRound, OpenBrace, CloseBrace, Comma, Semicolon, Colon, EqualSign, ClassWord, ConstructorWord, DisjunctsWord, EndWord, ExtendsWord, HelperWord, InWord, InheritsWord, InitWord, InoutWord, IntermediateWord, MainWord, MappingWord, MergesWord, ModelTypeWord, OutWord, PopulationWord, QueryWord, TransformationWord, UsesWord, WhenWord}
-use Rattle.qvt_parser_grammar.specs.Grammar.{Nested}
-use Rattle.qvt_parser_grammar.specs.Trees.{second, text_of}
-use Rattle.qvt_parser_grammar.specs.UnitTrees.{typed_name_of, param_of, paths_or_none, class_of, main_of, is_query, return_body, helper_of, constructor_of, result_decl_of, Clauses, no_clauses, Clause, InheritsClause, MergesClause, DisjunctsClause, WhenClause, with_clause, read_words, or_same, Body, stmts_or_none, empty_body, body_of, sections_of, open_sections_of, mapping_of, some_unit, model_type_of, model_param_of, units_of, module_of, kept, no_end}
-use Rattle.qvt_parser_grammar.specs.Units.{param, params, feature, features, class_unit, main_unit, helper_body, helper_unit, constructor_unit, result_decl, when_clause, clause, init_part, end_part, end_unless, sections, body, fresh, clauses, mapping_unit, unit, strictness, uri, model_type, model_param, header, transformation}
+use Rattle.qvt_language.specs.Tokens.{of}
+use Rattle.qvt_language.specs.declared.named.UnitPath.{UnitPath}
+use Rattle.qvt_language.specs.declared.class.Class.{Class}
+use Rattle.qvt_language.specs.declared.class.Class.TheVariants.{Name, Str, OpenRound, CloseRound, OpenBrace, CloseBrace, Comma, Semicolon, Colon, EqualSign, ClassWord, ConstructorWord, DisjunctsWord, EndWord, ExtendsWord, HelperWord, InWord, InheritsWord, InitWord, InoutWord, IntermediateWord, MainWord, MappingWord, MergesWord, ModelTypeWord, OutWord, PopulationWord, QueryWord, TransformationWord, UsesWord, WhenWord}
+use Rattle.qvt_language.specs.Grammar.{Nested}
+use Rattle.qvt_language.specs.Trees.{second, text_of}
+use Rattle.qvt_language.specs.UnitTrees.{typed_name_of, param_of, paths_or_none, class_of, main_of, is_query, return_body, helper_of, constructor_of, result_decl_of, Clauses, no_clauses, Clause, InheritsClause, MergesClause, DisjunctsClause, WhenClause, with_clause, read_words, or_same, Body, stmts_or_none, empty_body, body_of, sections_of, open_sections_of, mapping_of, some_unit, model_type_of, model_param_of, units_of, module_of, kept, no_end}
+use Rattle.qvt_language.specs.Units.{param, params, feature, features, class_unit, main_unit, helper_body, helper_unit, constructor_unit, result_decl, when_clause, clause, init_part, end_part, end_unless, sections, body, fresh, clauses, mapping_unit, unit, strictness, uri, model_type, model_param, header, transformation}
 use Rattle.qvt_printer.specs.Expressions as print
 use Rattle.qvt_printer.specs.Units as printed
 use Rattle.qvt_printer.specs.Units.{module_pieces}
 use Rattle.qvt_printer_layout.specs.declared.piece.Piece.{Piece}
 use Rattle.qvt_printer_layout.specs.declared.piece.Piece.TheVariants as piece
-use Rattle.qvt_parser_grammar.specs.declared.token.Class.TheVariants as class
+use Rattle.qvt_language.specs.declared.class.Class.TheVariants as class
 use Rattle.qvt_readback_tokens.proofs.Meets.{Opened}
 use Rattle.qvt_readback_tokens.proofs.Sound.{held_free, free_opened, sound_append}
 use Rattle.qvt_readback_tokens.specs.Told.{IsName, IsText}

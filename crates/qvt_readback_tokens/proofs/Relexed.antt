@@ -7,15 +7,15 @@ use Rattle.qvt_lexer.specs.Pieces.{IsNext}
 use Rattle.qvt_lexer.specs.Division.{Written, Divides, TokenData, tokens_of, place_after}
 use Rattle.qvt_lexer.specs.declared.token.TokenKind.{TokenKind}
 use Rattle.qvt_lexer.specs.declared.scan.Piece.TheVariants.{Blank, Token}
-use Rattle.qvt_parser_grammar.specs.Tokens.{Tok}
-use Rattle.qvt_parser_grammar.specs.declared.token.Class.{Class}
-use Rattle.qvt_parser_grammar.specs.declared.token.Class.TheVariants as class
+use Rattle.qvt_language.specs.Tokens.{Tok}
+use Rattle.qvt_language.specs.declared.class.Class.{Class}
+use Rattle.qvt_language.specs.declared.class.Class.TheVariants as class
 use Rattle.qvt_parser_tokens.specs.Said.{said}
 use Rattle.qvt_printer_layout.specs.declared.piece.Piece.{Piece}
 use Rattle.qvt_printer_layout.specs.declared.piece.Piece.TheVariants.{Plain, Name, Integer, Quoted, Tight, Line, Indent, Dedent}
-use Rattle.qvt_printer_layout.specs.Spellings.{spelling}
+use Rattle.qvt_words.specs.Words.{spelling}
 use Rattle.qvt_printer_layout.specs.Layout.{blank_before, is_joined, name_text, integer_text, quoted}
-use Rattle.qvt_parser_grammar.specs.Same.{unplaced}
+use Rattle.qvt_language.specs.Same.{unplaced}
 use Rattle.qvt_readback_tokens.specs.Spelled.{all_spelled}
 use Rattle.qvt_readback_tokens.proofs.Tests.{both}
 use Rattle.qvt_readback_tokens.proofs.Decoded.{one_byte, chars_before}

@@ -9,22 +9,19 @@ use Rattle.std.proofs.lemmas.Str.{encodes-append, encode_ascii}
 use Rattle.std.proofs.lemmas.Str.Parse.{IsNumeralModel, numerals_by_fold}
 use Rattle.unicode_ident.specs.Ident.{is_xid_start}
 use Rattle.unicode_ident.proofs.IdentLemmas.{is_xid_start-ascii, is_xid_continue-ascii}
-use Rattle.qvt_lexer.specs.Characters.{is_start, is_continue, is_digit, is_single, is_double}
-use Rattle.qvt_lexer.specs.Words.{is_reserved}
+use Rattle.qvt_lexer.specs.Characters.{is_start, is_continue, is_digit}
+use Rattle.qvt_words.specs.Words.{is_single, is_double, is_reserved, word_of, sign_of, spelling}
 use Rattle.qvt_lexer.specs.Literals.{every, begins, number_after, number_of, greatest_number, Content}
 use Rattle.qvt_lexer.specs.Scan.{scan_at}
 use Rattle.qvt_lexer.specs.declared.token.TokenKind.TheVariants as kinds
 use Rattle.qvt_lexer.specs.declared.scan.Piece.TheVariants.{Token}
 use Rattle.qvt_lexer.proofs.Runs.{and_left, and_right, and_both}
-use Rattle.qvt_parser_grammar.specs.Tokens.{Tok}
-use Rattle.qvt_parser_grammar.specs.Readers.{nowhere}
-use Rattle.qvt_parser_grammar.specs.declared.token.Class.{Class}
-use Rattle.qvt_parser_grammar.specs.declared.token.Class.TheVariants as class
+use Rattle.qvt_language.specs.Tokens.{Tok}
+use Rattle.qvt_language.specs.Readers.{nowhere}
+use Rattle.qvt_language.specs.declared.class.Class.{Class}
+use Rattle.qvt_language.specs.declared.class.Class.TheVariants as class
 use Rattle.qvt_parser_tokens.specs.Said.{string_of}
-use Rattle.qvt_parser_tokens.specs.WordClasses.{word_class}
-use Rattle.qvt_parser_tokens.specs.SymbolClasses.{symbol_class}
 use Rattle.qvt_parser_tokens.proofs.Numerals.{digits_are}
-use Rattle.qvt_printer_layout.specs.Spellings.{spelling}
 use Rattle.qvt_printer_layout.specs.Layout.{name_text, escaped, quoted, integer_text}
 use Rattle.qvt_readback_tokens.proofs.Tests.{single_small, double_small}
 use Rattle.qvt_readback_tokens.proofs.Decoded.{chars_of}
@@ -71,7 +68,7 @@ reserved_end : (u rest : List ℕ) → EndsBy Reserved u rest → EndsBy Named [
 reserved_end u [] e = tt
 reserved_end u (d ∷ rest) e = e
 
-word_again : (c : Class) (u : List ℕ) → begins is_letter u ≡ true → every is_letter u ≡ true → is_reserved u ≡ true → word_class u ≡ c → Again Reserved u u (token c [] (pos 0))
+word_again : (c : Class) (u : List ℕ) → begins is_letter u ≡ true → every is_letter u ≡ true → is_reserved u ≡ true → unwrap_or (word_of u) class.Name ≡ c → Again Reserved u u (token c [] (pos 0))
 word_again c [] some all reserved same = absurd cc
 word_again c (x ∷ u) some all reserved same =
     let bytes = low_bytes (x ∷ u) (every_more is_letter is_low letter_low (x ∷ u) all) in
@@ -91,7 +88,7 @@ single_scan : (x : ℕ) → is_single x ≡ true → (rest : List ℕ) → EndsB
 single_scan x h [] e = scan_single_last x h
 single_scan x h (d ∷ rest) e = scan_single x h d rest e
 
-one_again : (c : Class) (x : ℕ) → is_single x ≡ true → symbol_class (x ∷ []) ≡ c → Again One (x ∷ []) (x ∷ []) (token c [] (pos 0))
+one_again : (c : Class) (x : ℕ) → is_single x ≡ true → unwrap_or (sign_of (x ∷ [])) class.Name ≡ c → Again One (x ∷ []) (x ∷ []) (token c [] (pos 0))
 one_again c x single same = record {
   first = x;
   more = [];
@@ -102,7 +99,7 @@ one_again c x single same = record {
   says = λ at i. token (same i) [] (pos 0);
 }
 
-two_again : (c : Class) (x y : ℕ) → is_double x y ≡ true → symbol_class (x ∷ y ∷ []) ≡ c → Again Two (x ∷ y ∷ []) (x ∷ y ∷ []) (token c [] (pos 0))
+two_again : (c : Class) (x y : ℕ) → is_double x y ≡ true → unwrap_or (sign_of (x ∷ y ∷ [])) class.Name ≡ c → Again Two (x ∷ y ∷ []) (x ∷ y ∷ []) (token c [] (pos 0))
 two_again c x y double same =
     let small = double_small x y double in
     record {
@@ -120,8 +117,8 @@ by_kind Named c h s = absurd cc
 by_kind Number c h s = absurd cc
 by_kind Text c h s = absurd cc
 by_kind Reserved c h s = word_again c (spelling c) s.some s.letters s.reserved s.same
-by_kind One c h s = subst (λ z. Again One z z (token c [] (pos 0))) (sym s.text) (one_again c s.first s.single (ap symbol_class (sym s.text) ∙ s.same))
-by_kind Two c h s = subst (λ z. Again Two z z (token c [] (pos 0))) (sym s.text) (two_again c s.first s.second s.double (ap symbol_class (sym s.text) ∙ s.same))
+by_kind One c h s = subst (λ z. Again One z z (token c [] (pos 0))) (sym s.text) (one_again c s.first s.single (ap (λ z. unwrap_or (sign_of z) class.Name) (sym s.text) ∙ s.same))
+by_kind Two c h s = subst (λ z. Again Two z z (token c [] (pos 0))) (sym s.text) (two_again c s.first s.second s.double (ap (λ z. unwrap_or (sign_of z) class.Name) (sym s.text) ∙ s.same))
 
 pub plain_again : (c : Class) → is_spelled (kind_of c) ≡ true → Again (kind_of c) (spelling c) (spelling c) (token c [] (pos 0))
 plain_again c h = by_kind (kind_of c) c h (spelt c)

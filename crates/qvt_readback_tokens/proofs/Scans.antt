@@ -2,7 +2,8 @@
 use Rattle.std.proofs.Common.{◌≡◌, ℕ, ◌≤◌, List, [], ◌∷◌, ◌++◌, Bool, true, false, cond, ◌||◌, ◌&&◌, ◌==◌, not, nat_le, refl, sym, ap, ◌∙◌, subst, arith, drop, Ok, Err}
 use Rattle.std.proofs.lemmas.Bool.Decides.{nat_tests}
 use Rattle.std.proofs.lemmas.List.{append_cancel_right}
-use Rattle.qvt_lexer.specs.Characters.{is_blank, is_start, is_continue, is_digit, is_quote, is_in_line, is_single, is_double, is_line_comment, is_block_comment}
+use Rattle.qvt_lexer.specs.Characters.{is_blank, is_start, is_continue, is_digit, is_quote, is_in_line, is_line_comment, is_block_comment}
+use Rattle.qvt_words.specs.Words.{is_single, is_double}
 use Rattle.qvt_lexer.specs.Literals.{skip, every, begins, number_of, greatest_number, after_close, item_at, Content}
 use Rattle.qvt_lexer.specs.Pieces.{IsNext}
 use Rattle.qvt_lexer.specs.Scan.{Scan, IsScanOf, scan_at, is_apostrophe, word_kind, word_at, closed_at, escaped_at, number_at, content_end, quoted_at, string_at, block_at, single_at, mark_at}
@@ -11,7 +12,8 @@ use Rattle.qvt_lexer.specs.declared.token.LexKind.TheVariants.{BadChar, BadEscap
 use Rattle.qvt_lexer.specs.declared.scan.Piece.{Piece}
 use Rattle.qvt_lexer.specs.declared.scan.Piece.TheVariants.{Blank, Comment, Token}
 use Rattle.qvt_lexer.proofs.Runs.{and_left, and_both, run_only}
-use Rattle.qvt_lexer.proofs.Sorts.{Sort, AtBlank, AtStart, AtDigit, AtQuote, AtMark, IsOf, same_sort, is_mark, quote_continues}
+use Rattle.qvt_lexer.proofs.Sorts.{Sort, AtBlank, AtStart, AtDigit, AtQuote, AtMark, IsOf, same_sort, is_mark, plain_mark, plain_line, double_mark, quote_continues}
+use Rattle.qvt_words.proofs.Rows.{of_single}
 use Rattle.qvt_lexer.proofs.Scanned.{scan_is}
 use Rattle.qvt_lexer.proofs.Items.{end_past, end_here}
 use Rattle.qvt_readback_tokens.proofs.Tests.{never_true, neither}
@@ -109,16 +111,13 @@ scan_mark c cs mark =
     by_choices c cs false false false false false (apart_sorts AtMark AtBlank c (is_blank c) (λ h. h) mark (λ e. cc)) (no_line c mark) (apart_sorts AtMark AtStart c (is_start c) (λ h. h) mark (λ e. cc))
     (apart_sorts AtMark AtDigit c (is_digit c) (λ h. h) mark (λ e. cc)) (apart_sorts AtMark AtQuote c (is_quote c) (λ h. h) mark (λ e. cc)) where
       no_underscore : (c : ℕ) → is_mark c ≡ true → (c == 95) ≡ false
-      no_underscore c h = grind (arith, nat_tests)
+      no_underscore c h = plain_line c (plain_mark c h)
 
       no_line : (c : ℕ) → is_mark c ≡ true → (c == 95 && begins is_apostrophe cs) ≡ false
       no_line c h = ap (λ b. b && begins is_apostrophe cs) (no_underscore c h)
 
 pub scan_double : (c d : ℕ) (rest : List ℕ) → is_double c d ≡ true → scan_at c (d ∷ rest) ≡ Ok (Token Symbol, rest)
-scan_double c d rest h = scan_mark c (d ∷ rest) (marked c d h) ∙ ap (λ b. cond b (Ok (Token Symbol, rest)) (others c d)) h where
-  marked : (c d : ℕ) → is_double c d ≡ true → is_mark c ≡ true
-  marked c d h = grind (arith, nat_tests)
-
+scan_double c d rest h = scan_mark c (d ∷ rest) (double_mark c d h) ∙ ap (λ b. cond b (Ok (Token Symbol, rest)) (others c d)) h where
   others : ℕ → ℕ → Scan
   others c d = cond (is_line_comment c d) (Ok (Comment, skip is_in_line rest)) (cond (is_block_comment c d) (block_at (c ∷ d ∷ rest) (after_close rest)) (single_at c (d ∷ rest)))
 
@@ -127,6 +126,10 @@ abbrev pub sign_ends : List ℕ → ℕ → Bool
 sign_ends [] d = true
 sign_ends (c ∷ []) d = not (is_double c d || is_line_comment c d)
 sign_ends (c ∷ b ∷ cs) d = true
+
+abbrev no_slashes : List ℕ → Bool
+no_slashes [] = true
+no_slashes (c ∷ u) = not (c == 47)
 
 module _ (c : ℕ) (single : is_single c ≡ true) where
   singly : (rest : List ℕ) → single_at c rest ≡ Ok (Token Symbol, rest)
@@ -147,7 +150,7 @@ module _ (c : ℕ) (single : is_single c ≡ true) where
         no_double = neither (is_double c d) (is_line_comment c d) ends
 
         no_slash : (c : ℕ) → is_single c ≡ true → (c == 47) ≡ false
-        no_slash c h = grind (arith, nat_tests)
+        no_slash c h = let k = of_single no_slashes c refl h in grind (arith, nat_tests)
 
         no_block : (c : ℕ) → is_single c ≡ true → is_block_comment c d ≡ false
         no_block c h = ap (λ b. b && (d == 42)) (no_slash c h)

@@ -1,13 +1,9 @@
 -- How each token is spelled: of letters, or by one or two signs; and which characters end it.
-use Rattle.std.proofs.Common.{◌≡◌, ℕ, [], ◌∷◌, Bool, true, ◌||◌, ◌&&◌, nat_le, refl}
-use Rattle.qvt_lexer.specs.Characters.{is_single, is_double}
-use Rattle.qvt_lexer.specs.Words.{is_reserved}
+use Rattle.std.proofs.Common.{◌≡◌, ℕ, [], ◌∷◌, Bool, true, ◌||◌, ◌&&◌, nat_le, refl, unwrap_or}
+use Rattle.qvt_words.specs.Words.{is_single, is_double, is_reserved, word_of, sign_of, spelling}
 use Rattle.qvt_lexer.specs.Literals.{every, begins}
-use Rattle.qvt_parser_grammar.specs.declared.token.Class.{Class}
-use Rattle.qvt_parser_grammar.specs.declared.token.Class.TheVariants as class
-use Rattle.qvt_parser_tokens.specs.WordClasses.{word_class}
-use Rattle.qvt_parser_tokens.specs.SymbolClasses.{symbol_class}
-use Rattle.qvt_printer_layout.specs.Spellings.{spelling}
+use Rattle.qvt_language.specs.declared.class.Class.{Class}
+use Rattle.qvt_language.specs.declared.class.Class.TheVariants as class
 
 pub data Kind : Type 0 where
   Named : Kind
@@ -57,20 +53,20 @@ pub record IsWord (c : Class) : Type 0 where
   pub some : begins is_letter (spelling c) ≡ true
   pub letters : every is_letter (spelling c) ≡ true
   pub reserved : is_reserved (spelling c) ≡ true
-  pub same : word_class (spelling c) ≡ c
+  pub same : unwrap_or (word_of (spelling c)) class.Name ≡ c
 
 pub record IsOne (c : Class) : Type 0 where
   pub first : ℕ
   pub text : spelling c ≡ first ∷ []
   pub single : is_single first ≡ true
-  pub same : symbol_class (spelling c) ≡ c
+  pub same : unwrap_or (sign_of (spelling c)) class.Name ≡ c
 
 pub record IsTwo (c : Class) : Type 0 where
   pub first : ℕ
   pub second : ℕ
   pub text : spelling c ≡ first ∷ second ∷ []
   pub double : is_double first second ≡ true
-  pub same : symbol_class (spelling c) ≡ c
+  pub same : unwrap_or (sign_of (spelling c)) class.Name ≡ c
 
 abbrev pub Spelt : Kind → Class → Type 0
 Spelt Named c = c ≡ class.Name
@@ -81,7 +77,7 @@ Spelt One c = IsOne c
 Spelt Two c = IsTwo c
 
 pub spelt : (c : Class) → Spelt (kind_of c) c
-unfolding is_reserved word_class symbol_class
+unfolding is_reserved word_of sign_of is_single is_double
 spelt class.Name = refl
 spelt class.Integer = refl
 spelt class.Str = refl

@@ -1,10 +1,10 @@
 -- The laid out text, piece by piece from the front.
 use Rattle.std.proofs.Common.{◌≡◌, ℕ, ◌+◌, ◌-◌, List, [], ◌∷◌, ◌++◌, Option, Some, None, fold, replicate, sym, ap, ◌∙◌, append_assoc, append-nil}
-use Rattle.qvt_parser_grammar.specs.declared.token.Class.{Class}
-use Rattle.qvt_parser_grammar.specs.declared.token.Class.TheVariants as class
+use Rattle.qvt_language.specs.declared.class.Class.{Class}
+use Rattle.qvt_language.specs.declared.class.Class.TheVariants as class
 use Rattle.qvt_printer_layout.specs.declared.piece.Piece.{Piece}
 use Rattle.qvt_printer_layout.specs.declared.piece.Piece.TheVariants.{Plain, Name, Integer, Quoted, Tight, Line, Indent, Dedent}
-use Rattle.qvt_printer_layout.specs.Spellings.{spelling}
+use Rattle.qvt_words.specs.Words.{spelling}
 use Rattle.qvt_printer_layout.specs.Layout.{Sheet, laid, laid_out, blank_sheet, blank_before, name_text, integer_text, quoted, with_token}
 
 -- what the pieces add to a sheet with this margin and this last token

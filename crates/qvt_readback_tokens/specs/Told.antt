@@ -3,8 +3,8 @@ use Rattle.std.specs.Prelude.{◌≡◌, ◌≤◌, ℕ, ℤ, pos, IsTrue, List,
 use Rattle.std.specs.Str.{encode_utf8_all}
 use Rattle.qvt_lexer.specs.Literals.{greatest_number}
 use Rattle.qvt_lexer.specs.Pieces.{IsPlainName}
-use Rattle.qvt_parser_grammar.specs.Tokens.{Tok, is}
-use Rattle.qvt_parser_grammar.specs.declared.token.Class.TheVariants.{Name, Integer, Str}
+use Rattle.qvt_language.specs.Tokens.{Tok, is}
+use Rattle.qvt_language.specs.declared.class.Class.TheVariants.{Name, Integer, Str}
 
 -- the bytes of a name as it is written, reserved or not
 abbrev pub IsName : List ℕ → Type 0

@@ -7,14 +7,14 @@ use Rattle.qvt_tree_types.specs.declared.types.PathTree.{PathTree}
 use Rattle.qvt_tree.specs.Shape.{erase_path, erase_expr}
 use Rattle.qvt_grammar.specs.Language.{Language, made, then}
 use Rattle.qvt_grammar.specs.Reader.{starts}
-use Rattle.qvt_parser_grammar.specs.declared.token.Class.{Class}
-use Rattle.qvt_parser_grammar.specs.declared.token.Class.TheVariants as class
-use Rattle.qvt_parser_grammar.specs.Readers.{the}
-use Rattle.qvt_parser_grammar.specs.Tokens.{Tok, of}
-use Rattle.qvt_parser_grammar.specs.Trees.{second, inner}
-use Rattle.qvt_parser_grammar.specs.Grammar.{Nested, paths}
-use Rattle.qvt_parser_grammar.specs.Units.{when_clause, clause, clauses}
-use Rattle.qvt_parser_grammar.specs.UnitTrees.{Clauses, no_clauses, Clause, InheritsClause, MergesClause, DisjunctsClause, WhenClause, with_clause, read_words, or_same, paths_or_none}
+use Rattle.qvt_language.specs.declared.class.Class.{Class}
+use Rattle.qvt_language.specs.declared.class.Class.TheVariants as class
+use Rattle.qvt_language.specs.Readers.{the}
+use Rattle.qvt_language.specs.Tokens.{Tok, of}
+use Rattle.qvt_language.specs.Trees.{second, inner}
+use Rattle.qvt_language.specs.Grammar.{Nested, paths}
+use Rattle.qvt_language.specs.Units.{when_clause, clause, clauses}
+use Rattle.qvt_language.specs.UnitTrees.{Clauses, no_clauses, Clause, InheritsClause, MergesClause, DisjunctsClause, WhenClause, with_clause, read_words, or_same, paths_or_none}
 use Rattle.qvt_printer_layout.specs.declared.piece.Piece.{Piece}
 use Rattle.qvt_printer_layout.specs.declared.piece.Piece.TheVariants as piece
 use Rattle.qvt_printer.specs.Expressions as print

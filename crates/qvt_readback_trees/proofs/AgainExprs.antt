@@ -8,14 +8,14 @@ use Rattle.qvt_tree_types.specs.declared.words.ResolveWord.{ResolveWord}
 use Rattle.qvt_tree_types.specs.declared.words.ResolveWord.TheVariants as resolves
 use Rattle.qvt_tree.specs.Shape.{nowhere, erase_path, erase_optional_path, erase_optional_variable, erase_type, erase_expr, erase_exprs, erase_optional_expr, erase_item, erase_items, erase_range, erase_map_call, erase_resolve, erase_filter, erase_accumulator, erase_stmt, erase_stmts}
 use Rattle.qvt_grammar.specs.Language.{made, then}
-use Rattle.qvt_parser_grammar.specs.Readers.{the}
-use Rattle.qvt_parser_grammar.specs.declared.named.Named.{Named}
-use Rattle.qvt_parser_grammar.specs.declared.token.Class.{Class}
-use Rattle.qvt_parser_grammar.specs.declared.token.Class.TheVariants as class
-use Rattle.qvt_parser_grammar.specs.Tokens.{Tok}
-use Rattle.qvt_parser_grammar.specs.Leads.{Lead, Plain, Bracketed}
-use Rattle.qvt_parser_grammar.specs.Grammar.{Nested, expr, exprs, args, literal, word, named_expr, item, coll, if_expr, object, new_expr, map_call, filter_head, bar_expr, filter, all_word, in_word, all_form, in_form, resolve, longer, bare_expr, accumulator, more_exprs}
-use Rattle.qvt_parser_grammar.specs.Trees.{second, first, cons_of, nothing, inner, int_of, str_of, true_of, false_of, null_of, self_of, result_of, named_expr_of, coll_of, range_of, item_of, if_of, object_of, new_of, map_of, is_strict, all_of, in_of, is_there, resolve_of, resolve_word, no_name, named_type, filter_of, accumulator_of, expr_of}
+use Rattle.qvt_language.specs.Readers.{the}
+use Rattle.qvt_language.specs.declared.named.Named.{Named}
+use Rattle.qvt_language.specs.declared.class.Class.{Class}
+use Rattle.qvt_language.specs.declared.class.Class.TheVariants as class
+use Rattle.qvt_language.specs.Tokens.{Tok}
+use Rattle.qvt_language.specs.Leads.{Lead, Plain, Bracketed}
+use Rattle.qvt_language.specs.Grammar.{Nested, expr, exprs, args, literal, word, named_expr, item, coll, if_expr, object, new_expr, map_call, filter_head, bar_expr, filter, all_word, in_word, all_form, in_form, resolve, longer, bare_expr, accumulator, more_exprs}
+use Rattle.qvt_language.specs.Trees.{second, first, cons_of, nothing, inner, int_of, str_of, true_of, false_of, null_of, self_of, result_of, named_expr_of, coll_of, range_of, item_of, if_of, object_of, new_of, map_of, is_strict, all_of, in_of, is_there, resolve_of, resolve_word, no_name, named_type, filter_of, accumulator_of, expr_of}
 use Rattle.qvt_printer_layout.specs.declared.piece.Piece.{Piece}
 use Rattle.qvt_printer_layout.specs.declared.piece.Piece.TheVariants as piece
 use Rattle.qvt_printer_layout.specs.Words as words

@@ -6,14 +6,14 @@ use Rattle.qvt_tree_types.specs.Module.{MappingOf}
 use Rattle.qvt_tree.specs.Shape.{nowhere, erase_stmt}
 use Rattle.qvt_tree.specs.ModuleShape.{erase_typed, erase_unit, erase_result}
 use Rattle.qvt_grammar.specs.Language.{Language, made, then, maybe}
-use Rattle.qvt_parser_grammar.specs.declared.token.Class.{Class}
-use Rattle.qvt_parser_grammar.specs.declared.token.Class.TheVariants as class
-use Rattle.qvt_parser_grammar.specs.Readers.{the}
-use Rattle.qvt_parser_grammar.specs.Tokens.{Tok, is}
-use Rattle.qvt_parser_grammar.specs.Trees.{second}
-use Rattle.qvt_parser_grammar.specs.Grammar.{Nested}
-use Rattle.qvt_parser_grammar.specs.Units.{init_part, end_part, end_unless, sections, body, mapping_unit}
-use Rattle.qvt_parser_grammar.specs.UnitTrees.{Body, sections_of, mapping_of, stmts_or_none}
+use Rattle.qvt_language.specs.declared.class.Class.{Class}
+use Rattle.qvt_language.specs.declared.class.Class.TheVariants as class
+use Rattle.qvt_language.specs.Readers.{the}
+use Rattle.qvt_language.specs.Tokens.{Tok, is}
+use Rattle.qvt_language.specs.Trees.{second}
+use Rattle.qvt_language.specs.Grammar.{Nested}
+use Rattle.qvt_language.specs.Units.{init_part, end_part, end_unless, sections, body, mapping_unit}
+use Rattle.qvt_language.specs.UnitTrees.{Body, sections_of, mapping_of, stmts_or_none}
 use Rattle.qvt_printer_layout.specs.declared.piece.Piece.{Piece}
 use Rattle.qvt_printer_layout.specs.declared.piece.Piece.TheVariants as piece
 use Rattle.qvt_printer.specs.Expressions as print

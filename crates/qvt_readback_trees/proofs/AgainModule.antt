@@ -8,16 +8,16 @@ use Rattle.qvt_tree_types.specs.declared.words.Direction.TheVariants as directio
 use Rattle.qvt_tree.specs.Shape.{nowhere}
 use Rattle.qvt_tree.specs.ModuleShape.{erase_unit, erase_model_type, erase_model_param, shape}
 use Rattle.qvt_grammar.specs.Language.{Language, turns, made, either}
-use Rattle.qvt_parser_grammar.specs.declared.named.Named.{Named}
-use Rattle.qvt_parser_grammar.specs.declared.token.Class.{Class}
-use Rattle.qvt_parser_grammar.specs.declared.token.Class.TheVariants as class
-use Rattle.qvt_parser_grammar.specs.Readers.{the}
-use Rattle.qvt_parser_grammar.specs.Tokens.{Tok}
-use Rattle.qvt_parser_grammar.specs.Trees.{second, first, inner, cons_of, nothing, text_of}
-use Rattle.qvt_parser_grammar.specs.Grammar.{Nested}
-use Rattle.qvt_parser_grammar.specs.Units.{unit, uri, model_type, model_param, header, transformation, strictness}
-use Rattle.qvt_parser_grammar.specs.UnitTrees.{some_unit, units_of, model_type_of, model_param_of, direction_of, module_of}
-use Rattle.qvt_parser_grammar.specs.Module.{Reads}
+use Rattle.qvt_language.specs.declared.named.Named.{Named}
+use Rattle.qvt_language.specs.declared.class.Class.{Class}
+use Rattle.qvt_language.specs.declared.class.Class.TheVariants as class
+use Rattle.qvt_language.specs.Readers.{the}
+use Rattle.qvt_language.specs.Tokens.{Tok}
+use Rattle.qvt_language.specs.Trees.{second, first, inner, cons_of, nothing, text_of}
+use Rattle.qvt_language.specs.Grammar.{Nested}
+use Rattle.qvt_language.specs.Units.{unit, uri, model_type, model_param, header, transformation, strictness}
+use Rattle.qvt_language.specs.UnitTrees.{some_unit, units_of, model_type_of, model_param_of, direction_of, module_of}
+use Rattle.qvt_language.specs.Module.{Reads}
 use Rattle.qvt_printer_layout.specs.declared.piece.Piece.{Piece}
 use Rattle.qvt_printer_layout.specs.declared.piece.Piece.TheVariants as piece
 use Rattle.qvt_printer_layout.specs.Words as words

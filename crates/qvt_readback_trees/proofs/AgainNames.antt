@@ -6,15 +6,15 @@ use Rattle.qvt_tree_types.specs.declared.types.ObjectVar.{ObjectVar}
 use Rattle.qvt_tree_types.specs.declared.words.CollKind.{CollKind}
 use Rattle.qvt_tree_types.specs.declared.words.CollKind.TheVariants as kinds
 use Rattle.qvt_tree.specs.Shape.{nowhere, erase_path, erase_type, erase_optional_variable}
-use Rattle.qvt_parser_grammar.specs.declared.named.Named.{Named}
-use Rattle.qvt_parser_grammar.specs.declared.named.UnitPath.{UnitPath}
-use Rattle.qvt_parser_grammar.specs.declared.token.Class.{Class}
-use Rattle.qvt_parser_grammar.specs.declared.token.Class.TheVariants as class
+use Rattle.qvt_language.specs.declared.named.Named.{Named}
+use Rattle.qvt_language.specs.declared.named.UnitPath.{UnitPath}
+use Rattle.qvt_language.specs.declared.class.Class.{Class}
+use Rattle.qvt_language.specs.declared.class.Class.TheVariants as class
 use Rattle.qvt_grammar.specs.Language.{made, then}
-use Rattle.qvt_parser_grammar.specs.Readers.{the}
-use Rattle.qvt_parser_grammar.specs.Tokens.{Tok}
-use Rattle.qvt_parser_grammar.specs.Grammar.{Nested, name, more_names, path, paths, unit_path, extent, kind_word, coll_type, typed, colon_type, colon_path, object_head}
-use Rattle.qvt_parser_grammar.specs.Trees.{second, inner, text_of, named_of, path_of, unit_path_of, cons_of, coll_kind, coll_type_of, last_place, result_head, named_head}
+use Rattle.qvt_language.specs.Readers.{the}
+use Rattle.qvt_language.specs.Tokens.{Tok}
+use Rattle.qvt_language.specs.Grammar.{Nested, name, more_names, path, paths, unit_path, extent, kind_word, coll_type, typed, colon_type, colon_path, object_head}
+use Rattle.qvt_language.specs.Trees.{second, inner, text_of, named_of, path_of, unit_path_of, cons_of, coll_kind, coll_type_of, last_place, result_head, named_head}
 use Rattle.qvt_printer_layout.specs.declared.piece.Piece.{Piece}
 use Rattle.qvt_printer_layout.specs.declared.piece.Piece.TheVariants.{Name, Plain}
 use Rattle.qvt_printer_layout.specs.Words as words

@@ -4,16 +4,16 @@ use Rattle.qvt_tree_types.specs.Tree.{ExprTerm, LinkTerms, StepTerms, BareTarget
 use Rattle.qvt_tree_types.specs.declared.words.Level.{Level}
 use Rattle.qvt_tree.specs.Shape.{nowhere}
 use Rattle.qvt_grammar.proofs.Wider.{sub_turns}
-use Rattle.qvt_parser_grammar.specs.Firsts.{expr_first, post_next}
-use Rattle.qvt_parser_grammar.specs.Leads.{Plain}
-use Rattle.qvt_parser_grammar.specs.Trees.{expr_of}
-use Rattle.qvt_parser_grammar.specs.Grammar.{Nested, name, more_names, named_expr, bare_expr, other_primary, primary, post, pre, chain, flagged}
-use Rattle.qvt_parser_grammar.specs.Nesting.{nested}
-use Rattle.qvt_parser_grammar.proofs.Forms.{good_sets}
-use Rattle.qvt_parser_grammar.proofs.GoodExprs.{good_bare_expr, good_if_expr}
-use Rattle.qvt_parser_grammar.proofs.GoodSteps.{good_step, good_pre}
-use Rattle.qvt_parser_grammar.proofs.GoodTower.{good_link, good_chain}
-use Rattle.qvt_parser_grammar.proofs.GoodNesting.{good_nested}
+use Rattle.qvt_language.specs.Firsts.{expr_first, post_next}
+use Rattle.qvt_language.specs.Leads.{Plain}
+use Rattle.qvt_language.specs.Trees.{expr_of}
+use Rattle.qvt_language.specs.Grammar.{Nested, name, more_names, named_expr, bare_expr, other_primary, primary, post, pre, chain, flagged}
+use Rattle.qvt_language.specs.Nesting.{nested}
+use Rattle.qvt_language.proofs.Forms.{good_sets}
+use Rattle.qvt_language.proofs.GoodExprs.{good_bare_expr, good_if_expr}
+use Rattle.qvt_language.proofs.GoodSteps.{good_step, good_pre}
+use Rattle.qvt_language.proofs.GoodTower.{good_link, good_chain}
+use Rattle.qvt_language.proofs.GoodNesting.{good_nested}
 use Rattle.qvt_readback_trees.proofs.Spelling.{plain_name}
 use Rattle.qvt_readback_trees.proofs.AgainNames.{again_typed}
 use Rattle.qvt_readback_trees.proofs.AgainExprs.{AgainNested}

@@ -4,11 +4,11 @@ use Rattle.qvt_base.specs.declared.numbers.Place.{Place}
 use Rattle.qvt_tree_types.specs.Tree.{TypeTerm, PathExpr, ExprTerm, SomeArgs, HeadTerm, NoHead, HeadOf, AccumulatorTerm, StepTerm, TargetTerm, DotStep, ArrowStep, DotMapStep, DotResolveStep, ArrowMapStep, ArrowResolveStep, BareTarget, ResultTarget, MemberTarget}
 use Rattle.qvt_tree_types.specs.View.{exprs_of, stmts_of, optional_args, optional_accumulator, optional_expr}
 use Rattle.qvt_tree.specs.Shape.{nowhere, erase_type, erase_optional_type, erase_expr, erase_args, erase_head, erase_accumulator, erase_step, erase_stmt, erase_optional_expr}
-use Rattle.qvt_parser_grammar.specs.declared.token.Class.TheVariants as class
-use Rattle.qvt_parser_grammar.specs.Tokens.{Tok}
-use Rattle.qvt_parser_grammar.specs.Leads.{Lead, Plain, Bracketed, Each, EachPart}
-use Rattle.qvt_parser_grammar.specs.Grammar.{Nested, dot_rest, dot_step, head_rest, more_exprs, after_first, arrow_body, arrow_args, arrow_rest, step, each_tail}
-use Rattle.qvt_parser_grammar.specs.Trees.{second, first, no_args, dot_of, arrow_of, expr_of, headed, each_of}
+use Rattle.qvt_language.specs.declared.class.Class.TheVariants as class
+use Rattle.qvt_language.specs.Tokens.{Tok}
+use Rattle.qvt_language.specs.Leads.{Lead, Plain, Bracketed, Each, EachPart}
+use Rattle.qvt_language.specs.Grammar.{Nested, dot_rest, dot_step, head_rest, more_exprs, after_first, arrow_body, arrow_args, arrow_rest, step, each_tail}
+use Rattle.qvt_language.specs.Trees.{second, first, no_args, dot_of, arrow_of, expr_of, headed, each_of}
 use Rattle.qvt_printer_layout.specs.declared.piece.Piece.{Piece}
 use Rattle.qvt_printer_layout.specs.declared.piece.Piece.TheVariants as piece
 use Rattle.qvt_printer.specs.Expressions as print

@@ -3,12 +3,12 @@ use Rattle.std.proofs.Common.{◌≡◌, List, [], ◌∷◌, ◌++◌, map, ref
 use Rattle.qvt_tree_types.specs.Tree.{ExprTerm, StmtTerm, VarStmt, ReturnStmt, WhileStmt, ElseOf, ArmTerm, ArmOf, MoreArms}
 use Rattle.qvt_tree_types.specs.View.{stmts_of, arms_of, optional_expr, optional_else}
 use Rattle.qvt_tree.specs.Shape.{nowhere, erase_expr, erase_stmt, erase_arm, erase_arms, erase_else}
-use Rattle.qvt_parser_grammar.specs.declared.token.Class.TheVariants as class
-use Rattle.qvt_parser_grammar.specs.Readers.{the}
-use Rattle.qvt_parser_grammar.specs.Trees.{second, inner}
-use Rattle.qvt_parser_grammar.specs.Grammar.{Nested}
-use Rattle.qvt_parser_grammar.specs.Statements.{branches, condition, var_stmt, return_stmt, arm, else_part, while_stmt}
-use Rattle.qvt_parser_grammar.specs.StmtTrees.{Branches, var_of, return_of, arm_of, while_of}
+use Rattle.qvt_language.specs.declared.class.Class.TheVariants as class
+use Rattle.qvt_language.specs.Readers.{the}
+use Rattle.qvt_language.specs.Trees.{second, inner}
+use Rattle.qvt_language.specs.Grammar.{Nested}
+use Rattle.qvt_language.specs.Statements.{branches, condition, var_stmt, return_stmt, arm, else_part, while_stmt}
+use Rattle.qvt_language.specs.StmtTrees.{Branches, var_of, return_of, arm_of, while_of}
 use Rattle.qvt_printer_layout.specs.declared.piece.Piece.{Piece}
 use Rattle.qvt_printer_layout.specs.declared.piece.Piece.TheVariants as piece
 use Rattle.qvt_printer.specs.Expressions as print

@@ -8,14 +8,14 @@ use Rattle.qvt_tree_types.specs.declared.module.ResultDecl.{ResultDecl}
 use Rattle.qvt_tree.specs.Shape.{nowhere, erase_path, erase_stmt}
 use Rattle.qvt_tree.specs.ModuleShape.{erase_typed, erase_unit, erase_result, erase_optional_result}
 use Rattle.qvt_grammar.specs.Language.{made, then, either}
-use Rattle.qvt_parser_grammar.specs.declared.token.Class.{Class}
-use Rattle.qvt_parser_grammar.specs.declared.token.Class.TheVariants as class
-use Rattle.qvt_parser_grammar.specs.Readers.{the}
-use Rattle.qvt_parser_grammar.specs.Tokens.{Tok}
-use Rattle.qvt_parser_grammar.specs.Trees.{second, first, inner, cons_of, nothing}
-use Rattle.qvt_parser_grammar.specs.Grammar.{Nested, paths}
-use Rattle.qvt_parser_grammar.specs.Units.{param, params, feature, features, class_unit, main_unit, helper_body, helper_unit, constructor_unit, result_decl}
-use Rattle.qvt_parser_grammar.specs.UnitTrees.{typed_name_of, param_of, paths_or_none, class_of, main_of, is_query, return_body, helper_of, constructor_of, result_decl_of}
+use Rattle.qvt_language.specs.declared.class.Class.{Class}
+use Rattle.qvt_language.specs.declared.class.Class.TheVariants as class
+use Rattle.qvt_language.specs.Readers.{the}
+use Rattle.qvt_language.specs.Tokens.{Tok}
+use Rattle.qvt_language.specs.Trees.{second, first, inner, cons_of, nothing}
+use Rattle.qvt_language.specs.Grammar.{Nested, paths}
+use Rattle.qvt_language.specs.Units.{param, params, feature, features, class_unit, main_unit, helper_body, helper_unit, constructor_unit, result_decl}
+use Rattle.qvt_language.specs.UnitTrees.{typed_name_of, param_of, paths_or_none, class_of, main_of, is_query, return_body, helper_of, constructor_of, result_decl_of}
 use Rattle.qvt_printer_layout.specs.declared.piece.Piece.{Piece}
 use Rattle.qvt_printer_layout.specs.declared.piece.Piece.TheVariants as piece
 use Rattle.qvt_printer_layout.specs.Words as words

@@ -5,10 +5,10 @@ use Rattle.qvt_tree_types.specs.Tree.{ExprTerm, LinkTerm, TargetTerm, ChainExpr,
 use Rattle.qvt_tree_types.specs.declared.words.Level.{Level}
 use Rattle.qvt_tree.specs.Shape.{nowhere, erase_expr}
 use Rattle.qvt_grammar.specs.Language.{Language, head_of, turns}
-use Rattle.qvt_parser_grammar.specs.Tokens.{Tok}
-use Rattle.qvt_parser_grammar.specs.Leads.{Lead, Plain, Bracketed, Each}
-use Rattle.qvt_parser_grammar.specs.Trees.{expr_of}
-use Rattle.qvt_parser_grammar.specs.Grammar.{Nested, pre, link, links, chain, flagged}
+use Rattle.qvt_language.specs.Tokens.{Tok}
+use Rattle.qvt_language.specs.Leads.{Lead, Plain, Bracketed, Each}
+use Rattle.qvt_language.specs.Trees.{expr_of}
+use Rattle.qvt_language.specs.Grammar.{Nested, pre, link, links, chain, flagged}
 use Rattle.qvt_printer.specs.Expressions as print
 use Rattle.qvt_printer.specs.Levels.{is_as_loose, is_chain}
 use Rattle.qvt_readback_tokens.specs.Spelled.{all_spelled}

@@ -8,11 +8,11 @@ use Rattle.qvt_tree_types.specs.declared.words.PrefixOp.{PrefixOp}
 use Rattle.qvt_tree_types.specs.declared.words.PrefixOp.TheVariants as prefixes
 use Rattle.qvt_tree.specs.Shape.{nowhere, erase_expr, erase_signs, erase_sign}
 use Rattle.qvt_grammar.specs.Language.{turns}
-use Rattle.qvt_parser_grammar.specs.Tokens.{Tok}
-use Rattle.qvt_parser_grammar.specs.declared.token.Class.TheVariants as class
-use Rattle.qvt_parser_grammar.specs.Leads.{Plain, Bracketed, Lead}
-use Rattle.qvt_parser_grammar.specs.Trees.{stepped, post_of, post_lead, bare_target, member_of, split_last, signed, expr_of}
-use Rattle.qvt_parser_grammar.specs.Grammar.{Nested, expr, brackets, bare_expr, other_primary, primary, step, post, sign, more_signs, signs, signed_post, if_expr}
+use Rattle.qvt_language.specs.Tokens.{Tok}
+use Rattle.qvt_language.specs.declared.class.Class.TheVariants as class
+use Rattle.qvt_language.specs.Leads.{Plain, Bracketed, Lead}
+use Rattle.qvt_language.specs.Trees.{stepped, post_of, post_lead, bare_target, member_of, split_last, signed, expr_of}
+use Rattle.qvt_language.specs.Grammar.{Nested, expr, brackets, bare_expr, other_primary, primary, step, post, sign, more_signs, signs, signed_post, if_expr}
 use Rattle.qvt_printer_layout.specs.declared.piece.Piece.{Piece}
 use Rattle.qvt_printer_layout.specs.Words as words
 use Rattle.qvt_printer.specs.Expressions as print

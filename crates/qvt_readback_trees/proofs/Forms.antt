@@ -8,8 +8,8 @@ use Rattle.qvt_tree_types.specs.declared.words.Level.TheVariants as levels
 use Rattle.qvt_tree_types.specs.declared.words.Sign.{Sign}
 use Rattle.qvt_tree.specs.Shape.{erase_expr, erase_links, erase_steps}
 use Rattle.qvt_grammar.specs.Language.{turns}
-use Rattle.qvt_parser_grammar.specs.Leads.{Plain}
-use Rattle.qvt_parser_grammar.specs.Grammar.{Nested, bare_expr, if_expr, step, pre, link, chain, level_of}
+use Rattle.qvt_language.specs.Leads.{Plain}
+use Rattle.qvt_language.specs.Grammar.{Nested, bare_expr, if_expr, step, pre, link, chain, level_of}
 use Rattle.qvt_printer.specs.Expressions as print
 use Rattle.qvt_printer.specs.Levels.{tightness, is_as_loose, is_chain, is_chain_or_prefix}
 use Rattle.qvt_readback_tokens.specs.Spelled.{all_spelled}

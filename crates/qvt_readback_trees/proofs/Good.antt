@@ -7,10 +7,10 @@ use Rattle.qvt_tree_types.specs.View.{steps_of}
 use Rattle.qvt_tree_types.specs.declared.words.Sign.{Sign}
 use Rattle.qvt_tree.specs.Shape.{erase_step, erase_steps}
 use Rattle.qvt_grammar.specs.Language.{turns}
-use Rattle.qvt_parser_grammar.specs.Leads.{Lead, Plain, Bracketed, Each}
-use Rattle.qvt_parser_grammar.specs.StmtTrees.{target_in}
-use Rattle.qvt_parser_grammar.specs.Trees.{more_steps, stepped, post_of, split_last, member_of, bare_target, signed, post_lead, expr_of}
-use Rattle.qvt_parser_grammar.specs.Grammar.{Nested, step}
+use Rattle.qvt_language.specs.Leads.{Lead, Plain, Bracketed, Each}
+use Rattle.qvt_language.specs.StmtTrees.{target_in}
+use Rattle.qvt_language.specs.Trees.{more_steps, stepped, post_of, split_last, member_of, bare_target, signed, post_lead, expr_of}
+use Rattle.qvt_language.specs.Grammar.{Nested, step}
 use Rattle.qvt_printer.specs.Expressions as print
 use Rattle.qvt_printer.specs.Levels.{is_chain_or_prefix}
 use Rattle.qvt_readback_tokens.specs.Spelled.{all_spelled}

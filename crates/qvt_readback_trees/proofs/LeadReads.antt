@@ -4,12 +4,12 @@ use Rattle.qvt_base.specs.declared.numbers.Place.{Place}
 use Rattle.qvt_tree_types.specs.Tree.{ExprTerm, StepTerm, TargetTerm, BareTarget, ResultTarget, MemberTarget, PathExpr, ResultExpr, ChainExpr, PrefixExpr, DotStep, NoArgs}
 use Rattle.qvt_tree.specs.Shape.{nowhere, erase_expr}
 use Rattle.qvt_grammar.specs.Language.{Language, turns, lastly, head_of}
-use Rattle.qvt_parser_grammar.specs.Tokens.{Tok}
-use Rattle.qvt_parser_grammar.specs.declared.token.Class.TheVariants as class
-use Rattle.qvt_parser_grammar.specs.Leads.{Lead, Plain, Bracketed, Each, EachPart}
-use Rattle.qvt_parser_grammar.specs.Series.{left, right}
-use Rattle.qvt_parser_grammar.specs.Trees.{post_of, each_lead, split_last, member_of}
-use Rattle.qvt_parser_grammar.specs.Grammar.{Nested, name, more_names, named_expr, word, bare_expr, other_primary, pre, chain, lead_post, lead_pre, lead, lead_step, step, dot_step, dot_rest}
+use Rattle.qvt_language.specs.Tokens.{Tok}
+use Rattle.qvt_language.specs.declared.class.Class.TheVariants as class
+use Rattle.qvt_language.specs.Leads.{Lead, Plain, Bracketed, Each, EachPart}
+use Rattle.qvt_language.specs.Series.{left, right}
+use Rattle.qvt_language.specs.Trees.{post_of, each_lead, split_last, member_of}
+use Rattle.qvt_language.specs.Grammar.{Nested, name, more_names, named_expr, word, bare_expr, other_primary, pre, chain, lead_post, lead_pre, lead, lead_step, step, dot_step, dot_rest}
 use Rattle.qvt_printer.specs.Expressions as print
 use Rattle.qvt_printer.specs.Levels.{is_as_loose, is_chain, is_chain_or_prefix}
 use Rattle.qvt_readback_tokens.specs.Spelled.{all_spelled}

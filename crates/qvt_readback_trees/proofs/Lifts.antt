@@ -3,11 +3,11 @@ use Rattle.std.proofs.Common.{◌≡◌, List, [], ◌∷◌, ◌++◌, map, Boo
 use Rattle.qvt_base.specs.declared.numbers.Place.{Place}
 use Rattle.qvt_grammar.specs.Language.{Language, token, follow, then, either, many, turns, made, empty, maybe, head_of, lastly}
 use Rattle.qvt_grammar.specs.Reader.{starts}
-use Rattle.qvt_parser_grammar.specs.Tokens.{Tok, is, of, code_of}
-use Rattle.qvt_parser_grammar.specs.Readers.{the, placed, nowhere}
-use Rattle.qvt_parser_grammar.specs.Series.{left, right, series, finished, barring}
-use Rattle.qvt_parser_grammar.specs.declared.token.Class.{Class}
-use Rattle.qvt_parser_grammar.specs.Same.{unplaced}
+use Rattle.qvt_language.specs.Tokens.{Tok, is, of, code_of}
+use Rattle.qvt_language.specs.Readers.{the, placed, nowhere}
+use Rattle.qvt_language.specs.Series.{left, right, series, finished, barring}
+use Rattle.qvt_language.specs.declared.class.Class.{Class}
+use Rattle.qvt_language.specs.Same.{unplaced}
 
 -- what l reads of tokens without places, m reads of the tokens themselves, as a value that is the same without places
 pub record Lifts {A : Type 0} (bare : A → A) (l m : Language Tok A) : Type 0 where

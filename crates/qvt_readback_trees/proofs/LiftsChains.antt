@@ -6,12 +6,12 @@ use Rattle.qvt_tree_types.specs.declared.words.Level.{Level}
 use Rattle.qvt_tree_types.specs.declared.words.Sign.{Sign}
 use Rattle.qvt_tree.specs.Shape.{nowhere, erase_expr, erase_head, erase_step, erase_sign, erase_signs, erase_link, erase_stmt, erase_target}
 use Rattle.qvt_grammar.specs.Language.{Language, made}
-use Rattle.qvt_parser_grammar.specs.Tokens.{Tok}
-use Rattle.qvt_parser_grammar.specs.declared.token.Class.TheVariants.{OpenRound, CloseRound, Dot, Arrow, ForEachWord, NotWord, MinusSign, Star, PlusSign, LessSign, AtMost, GreaterSign, AtLeast, EqualSign, DoubleEqual, Diamond, BangEqual, AndWord, OrWord, XorWord, ImpliesWord}
-use Rattle.qvt_parser_grammar.specs.Leads.{Lead, Plain, Bracketed, Each, EachPart}
-use Rattle.qvt_parser_grammar.specs.Trees.{second, first, no_args, dot_of, arrow_of, expr_of, headed, with_first, each_of, stepped, post_of, split_last, member_of, bare_target, post_lead, each_lead, not_of, minus_of, signed, prefix_lead, binary_op, link_of, chain_of, nothing}
-use Rattle.qvt_parser_grammar.specs.Grammar.{Nested, more_exprs, dot_rest, dot_step, after_first, arrow_body, arrow_args, arrow_rest, step, post, sign, more_signs, signs, signed_post, pre, each_tail, lead_step, level_of, operator, link, links, chain, flagged, lead_post, lead_pre, lead}
-use Rattle.qvt_parser_grammar.specs.Same.{unplaced}
+use Rattle.qvt_language.specs.Tokens.{Tok}
+use Rattle.qvt_language.specs.declared.class.Class.TheVariants.{OpenRound, CloseRound, Dot, Arrow, ForEachWord, NotWord, MinusSign, Star, PlusSign, LessSign, AtMost, GreaterSign, AtLeast, EqualSign, DoubleEqual, Diamond, BangEqual, AndWord, OrWord, XorWord, ImpliesWord}
+use Rattle.qvt_language.specs.Leads.{Lead, Plain, Bracketed, Each, EachPart}
+use Rattle.qvt_language.specs.Trees.{second, first, no_args, dot_of, arrow_of, expr_of, headed, with_first, each_of, stepped, post_of, split_last, member_of, bare_target, post_lead, each_lead, not_of, minus_of, signed, prefix_lead, binary_op, link_of, chain_of, nothing}
+use Rattle.qvt_language.specs.Grammar.{Nested, more_exprs, dot_rest, dot_step, after_first, arrow_body, arrow_args, arrow_rest, step, post, sign, more_signs, signs, signed_post, pre, each_tail, lead_step, level_of, operator, link, links, chain, flagged, lead_post, lead_pre, lead}
+use Rattle.qvt_language.specs.Same.{unplaced}
 use Rattle.qvt_readback_trees.proofs.Lifts.{Lifts, both, bare_sum, lifts_the, lifts_then, lifts_follow, lifts_made, lifts_made_as, lifts_either, lifts_placed, lifts_many, lifts_maybe, lifts_series, lifts_empty}
 use Rattle.qvt_readback_trees.proofs.AgainExprs.{bare_exprs, bare_optional}
 use Rattle.qvt_readback_trees.proofs.AgainSteps.{type_bare, args_bare, headed_bare, bare_part, bare_body}

@@ -2,11 +2,11 @@
 use Rattle.std.proofs.Common.{◌≡◌, ℕ, List, ◌∷◌, map, Bool, inl, inr, refl, sym, ap, Option, Some, None, option_map}
 use Rattle.qvt_tree_types.specs.Tree.{PathType, ExprTerm, MapExpr, ResolveExpr, CollExpr, ObjectExpr, NewExpr, MapOf, ItemOf, ResolveOf, FilterOf}
 use Rattle.qvt_tree.specs.Shape.{nowhere, erase_path, erase_optional_path, erase_optional_variable, erase_type, erase_expr, erase_item, erase_range, erase_map_call, erase_resolve, erase_filter, erase_accumulator, erase_stmt, erase_target}
-use Rattle.qvt_parser_grammar.specs.declared.token.Class.TheVariants.{Name, Integer, Str, OpenRound, CloseRound, OpenBrace, CloseBrace, Comma, Semicolon, Colon, DoubleColon, DotDot, Bar, AtSign, EqualSign, BagWord, ElseWord, EndifWord, FalseWord, IfWord, InvResolveWord, InvResolveInWord, InvResolveOneWord, InvResolveOneInWord, LateWord, MapWord, NewWord, NullWord, ObjectWord, OrderedSetWord, ResolveAllWord, ResolveInWord, ResolveOneWord, ResolveOneInWord, ResultWord, SelfWord, SequenceWord, SetWord, ThenWord, TrueWord, XmapWord}
-use Rattle.qvt_parser_grammar.specs.Leads.{Lead, Plain, Bracketed, Each}
-use Rattle.qvt_parser_grammar.specs.Grammar.{Nested, name, more_names, path, paths, unit_path, extent, kind_word, coll_type, typed, colon_type, expr, exprs, args, literal, word, named_expr, item, coll, if_expr, colon_path, object_head, object, new_expr, map_call, filter_head, bar_expr, filter, all_word, in_word, all_form, in_form, resolve, brackets, longer, bare_expr, other_primary, primary, accumulator, head_rest, more_exprs}
-use Rattle.qvt_parser_grammar.specs.Trees.{second, first, cons_of, nothing, inner, text_of, named_of, path_of, unit_path_of, coll_type_of, int_of, str_of, true_of, false_of, null_of, self_of, result_of, named_expr_of, coll_of, coll_kind, range_of, item_of, if_of, result_head, named_head, object_of, new_of, map_of, is_strict, all_of, in_of, resolve_of, no_name, named_type, filter_of, bare, bracketed, accumulator_of, expr_of}
-use Rattle.qvt_parser_grammar.specs.Same.{unplaced}
+use Rattle.qvt_language.specs.declared.class.Class.TheVariants.{Name, Integer, Str, OpenRound, CloseRound, OpenBrace, CloseBrace, Comma, Semicolon, Colon, DoubleColon, DotDot, Bar, AtSign, EqualSign, BagWord, ElseWord, EndifWord, FalseWord, IfWord, InvResolveWord, InvResolveInWord, InvResolveOneWord, InvResolveOneInWord, LateWord, MapWord, NewWord, NullWord, ObjectWord, OrderedSetWord, ResolveAllWord, ResolveInWord, ResolveOneWord, ResolveOneInWord, ResultWord, SelfWord, SequenceWord, SetWord, ThenWord, TrueWord, XmapWord}
+use Rattle.qvt_language.specs.Leads.{Lead, Plain, Bracketed, Each}
+use Rattle.qvt_language.specs.Grammar.{Nested, name, more_names, path, paths, unit_path, extent, kind_word, coll_type, typed, colon_type, expr, exprs, args, literal, word, named_expr, item, coll, if_expr, colon_path, object_head, object, new_expr, map_call, filter_head, bar_expr, filter, all_word, in_word, all_form, in_form, resolve, brackets, longer, bare_expr, other_primary, primary, accumulator, head_rest, more_exprs}
+use Rattle.qvt_language.specs.Trees.{second, first, cons_of, nothing, inner, text_of, named_of, path_of, unit_path_of, coll_type_of, int_of, str_of, true_of, false_of, null_of, self_of, result_of, named_expr_of, coll_of, coll_kind, range_of, item_of, if_of, result_head, named_head, object_of, new_of, map_of, is_strict, all_of, in_of, resolve_of, no_name, named_type, filter_of, bare, bracketed, accumulator_of, expr_of}
+use Rattle.qvt_language.specs.Same.{unplaced}
 use Rattle.qvt_readback_trees.proofs.Lifts.{Lifts, both, lifts_the, lifts_then, lifts_made, lifts_either, lifts_placed, lifts_many, lifts_maybe}
 use Rattle.qvt_readback_trees.proofs.AgainNames.{bare_named, bare_texts, bare_last, bare_unit_path, bare_head, either_bare, named_bare}
 use Rattle.qvt_readback_trees.proofs.AgainExprs.{bare_exprs, bare_items, bare_stmts, bare_optional, bare_call, call_bare, range_bare, bare_filter, bare_either, filter_bare, bare_resolved, there_same, filter_erased}

@@ -3,15 +3,15 @@ use Rattle.std.proofs.Common.{◌≡◌, ℕ, zero, suc, List, [], ◌∷◌, �
 use Rattle.qvt_base.specs.declared.numbers.Place.{Place}
 use Rattle.qvt_tree_types.specs.Tree.{ExprTerm, ValueStmt, TargetTerm, StmtTerm, VarStmt, ReturnStmt, IfStmt, WhileStmt, ForEachStmt, ArmOf}
 use Rattle.qvt_tree.specs.Shape.{nowhere, erase_expr, erase_arm, erase_stmt, erase_target, erase_step}
-use Rattle.qvt_parser_grammar.specs.Tokens.{Tok}
-use Rattle.qvt_parser_grammar.specs.declared.token.Class.TheVariants.{OpenRound, CloseRound, OpenBrace, CloseBrace, Semicolon, Becomes, PlusEqual, ElifWord, ElseWord, EndifWord, IfWord, ReturnWord, ThenWord, VarWord, WhileWord}
-use Rattle.qvt_parser_grammar.specs.Leads.{Lead, Plain, Bracketed, EachPart, Each, Ended}
-use Rattle.qvt_parser_grammar.specs.Trees.{second, inner, post_of, expr_of}
-use Rattle.qvt_parser_grammar.specs.Grammar.{Nested}
-use Rattle.qvt_parser_grammar.specs.Statements.{condition, var_stmt, return_stmt, arm, else_part, if_stmt, while_stmt, assignment, semicolon, lead_tail, lead_stmt, statement, statements, block, branches, choice, if_rest}
-use Rattle.qvt_parser_grammar.specs.StmtTrees.{var_of, return_of, arm_of, if_stmt_of, while_of, Turn, Tail, empty_turn, closed_turn, simple_turn, no_tail, plain_tail, written, lead_turn, concat, last_of, ended_of, block_of, Branches, Choice, for_each_of, choice_expr, if_made}
-use Rattle.qvt_parser_grammar.specs.Nesting.{nested}
-use Rattle.qvt_parser_grammar.specs.Same.{unplaced}
+use Rattle.qvt_language.specs.Tokens.{Tok}
+use Rattle.qvt_language.specs.declared.class.Class.TheVariants.{OpenRound, CloseRound, OpenBrace, CloseBrace, Semicolon, Becomes, PlusEqual, ElifWord, ElseWord, EndifWord, IfWord, ReturnWord, ThenWord, VarWord, WhileWord}
+use Rattle.qvt_language.specs.Leads.{Lead, Plain, Bracketed, EachPart, Each, Ended}
+use Rattle.qvt_language.specs.Trees.{second, inner, post_of, expr_of}
+use Rattle.qvt_language.specs.Grammar.{Nested}
+use Rattle.qvt_language.specs.Statements.{condition, var_stmt, return_stmt, arm, else_part, if_stmt, while_stmt, assignment, semicolon, lead_tail, lead_stmt, statement, statements, block, branches, choice, if_rest}
+use Rattle.qvt_language.specs.StmtTrees.{var_of, return_of, arm_of, if_stmt_of, while_of, Turn, Tail, empty_turn, closed_turn, simple_turn, no_tail, plain_tail, written, lead_turn, concat, last_of, ended_of, block_of, Branches, Choice, for_each_of, choice_expr, if_made}
+use Rattle.qvt_language.specs.Nesting.{nested}
+use Rattle.qvt_language.specs.Same.{unplaced}
 use Rattle.qvt_readback_trees.proofs.Lifts.{Lifts, lifts_finished, both, bare_sum, lifts_the, lifts_then, lifts_follow, lifts_made, lifts_either, lifts_placed, lifts_many, lifts_maybe, lifts_series, lifts_empty}
 use Rattle.qvt_readback_trees.proofs.AgainExprs.{bare_stmts, bare_optional, there_same}
 use Rattle.qvt_readback_trees.proofs.AgainSteps.{type_bare, bare_part}

@@ -5,15 +5,15 @@ use Rattle.qvt_tree_types.specs.Module.{UnitTerm, ClassOf, MainOf, HelperOf, Con
 use Rattle.qvt_tree.specs.Shape.{nowhere, erase_path, erase_expr, erase_stmt}
 use Rattle.qvt_tree.specs.ModuleShape.{erase_typed, erase_unit, erase_result, erase_model_type, erase_model_param, shape}
 use Rattle.qvt_grammar.specs.Language.{made, then}
-use Rattle.qvt_parser_grammar.specs.Tokens.{code_of}
-use Rattle.qvt_parser_grammar.specs.Readers.{the}
-use Rattle.qvt_parser_grammar.specs.declared.token.Class.{Class}
-use Rattle.qvt_parser_grammar.specs.declared.token.Class.TheVariants.{Name, Str, OpenRound, CloseRound, OpenBrace, CloseBrace, Comma, Semicolon, Colon, EqualSign, ClassWord, ConstructorWord, DisjunctsWord, EndWord, ExtendsWord, HelperWord, InWord, InheritsWord, InitWord, InoutWord, IntermediateWord, MainWord, MappingWord, MergesWord, ModelTypeWord, OutWord, PopulationWord, QueryWord, TransformationWord, UsesWord, WhenWord}
-use Rattle.qvt_parser_grammar.specs.Trees.{first, second, inner, nothing, cons_of, text_of}
-use Rattle.qvt_parser_grammar.specs.Grammar.{Nested, paths}
-use Rattle.qvt_parser_grammar.specs.Units.{param, params, feature, features, class_unit, main_unit, helper_body, helper_unit, constructor_unit, result_decl, when_clause, clause, init_part, end_part, end_unless, end_after, sections, body, fresh, clauses, mapping_unit, unit, is_strictness, strictness, uri, model_type, model_param, header, transformation}
-use Rattle.qvt_parser_grammar.specs.UnitTrees.{typed_name_of, param_of, class_of, main_of, is_query, return_body, helper_of, constructor_of, result_decl_of, Clauses, no_clauses, Clause, InheritsClause, MergesClause, DisjunctsClause, WhenClause, with_clause, where_there, read_words, or_same, empty_body, body_of, stmts_or_none, sections_of, open_sections_of, mapping_of, some_unit, model_type_of, model_param_of, units_of, module_of, kept, no_end}
-use Rattle.qvt_parser_grammar.specs.Same.{unplaced}
+use Rattle.qvt_language.specs.Tokens.{code_of}
+use Rattle.qvt_language.specs.Readers.{the}
+use Rattle.qvt_language.specs.declared.class.Class.{Class}
+use Rattle.qvt_language.specs.declared.class.Class.TheVariants.{Name, Str, OpenRound, CloseRound, OpenBrace, CloseBrace, Comma, Semicolon, Colon, EqualSign, ClassWord, ConstructorWord, DisjunctsWord, EndWord, ExtendsWord, HelperWord, InWord, InheritsWord, InitWord, InoutWord, IntermediateWord, MainWord, MappingWord, MergesWord, ModelTypeWord, OutWord, PopulationWord, QueryWord, TransformationWord, UsesWord, WhenWord}
+use Rattle.qvt_language.specs.Trees.{first, second, inner, nothing, cons_of, text_of}
+use Rattle.qvt_language.specs.Grammar.{Nested, paths}
+use Rattle.qvt_language.specs.Units.{param, params, feature, features, class_unit, main_unit, helper_body, helper_unit, constructor_unit, result_decl, when_clause, clause, init_part, end_part, end_unless, end_after, sections, body, fresh, clauses, mapping_unit, unit, is_strictness, strictness, uri, model_type, model_param, header, transformation}
+use Rattle.qvt_language.specs.UnitTrees.{typed_name_of, param_of, class_of, main_of, is_query, return_body, helper_of, constructor_of, result_decl_of, Clauses, no_clauses, Clause, InheritsClause, MergesClause, DisjunctsClause, WhenClause, with_clause, where_there, read_words, or_same, empty_body, body_of, stmts_or_none, sections_of, open_sections_of, mapping_of, some_unit, model_type_of, model_param_of, units_of, module_of, kept, no_end}
+use Rattle.qvt_language.specs.Same.{unplaced}
 use Rattle.qvt_readback_trees.proofs.Lifts.{Lifts, both, lifts_token, lifts_the, lifts_then, lifts_follow, lifts_made, lifts_made_as, lifts_either, lifts_placed, lifts_many, lifts_maybe, lifts_empty, lifts_barring}
 use Rattle.qvt_readback_trees.proofs.AgainNames.{bare_named, bare_unit_path}
 use Rattle.qvt_readback_trees.proofs.AgainExprs.{bare_stmts, bare_optional}

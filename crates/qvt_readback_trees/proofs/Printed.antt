@@ -2,9 +2,9 @@
 use Rattle.std.proofs.Common.{List, map, sym, subst}
 use Rattle.qvt_tree_types.specs.Module.{ModuleTerm}
 use Rattle.qvt_tree.specs.ModuleShape.{shape}
-use Rattle.qvt_parser_grammar.specs.Tokens.{Tok}
-use Rattle.qvt_parser_grammar.specs.Module.{Reads}
-use Rattle.qvt_parser_grammar.specs.Same.{unplaced}
+use Rattle.qvt_language.specs.Tokens.{Tok}
+use Rattle.qvt_language.specs.Module.{Reads}
+use Rattle.qvt_language.specs.Same.{unplaced}
 use Rattle.qvt_readback_trees.specs.Law.{ReadsShape, PrintedIsRead}
 use Rattle.qvt_readback_trees.proofs.AgainModule.{again_module}
 use Rattle.qvt_readback_trees.proofs.LiftsStmts.{lifts_nested}

@@ -7,12 +7,12 @@ use Rattle.qvt_tree_types.specs.declared.words.BinaryOp.{BinaryOp}
 use Rattle.qvt_tree_types.specs.declared.words.BinaryOp.TheVariants as ops
 use Rattle.qvt_tree.specs.Shape.{nowhere, erase_expr, erase_link, erase_links}
 use Rattle.qvt_grammar.specs.Language.{Language, turns}
-use Rattle.qvt_parser_grammar.specs.Tokens.{Tok}
-use Rattle.qvt_parser_grammar.specs.declared.token.Class.{Class}
-use Rattle.qvt_parser_grammar.specs.declared.token.Class.TheVariants as class
-use Rattle.qvt_parser_grammar.specs.Leads.{Lead, Plain, Bracketed, Each}
-use Rattle.qvt_parser_grammar.specs.Trees.{expr_of, link_of, chain_of, binary_op}
-use Rattle.qvt_parser_grammar.specs.Grammar.{Nested, expr, brackets, bare_expr, if_expr, other_primary, primary, step, post, signed_post, pre, operator, link, links, chain, level_of, flagged}
+use Rattle.qvt_language.specs.Tokens.{Tok}
+use Rattle.qvt_language.specs.declared.class.Class.{Class}
+use Rattle.qvt_language.specs.declared.class.Class.TheVariants as class
+use Rattle.qvt_language.specs.Leads.{Lead, Plain, Bracketed, Each}
+use Rattle.qvt_language.specs.Trees.{expr_of, link_of, chain_of, binary_op}
+use Rattle.qvt_language.specs.Grammar.{Nested, expr, brackets, bare_expr, if_expr, other_primary, primary, step, post, signed_post, pre, operator, link, links, chain, level_of, flagged}
 use Rattle.qvt_printer_layout.specs.Words as words
 use Rattle.qvt_printer.specs.Expressions as print
 use Rattle.qvt_printer.specs.Levels.{is_as_loose, is_chain_or_prefix}

@@ -6,15 +6,15 @@ use Rattle.qvt_tree_types.specs.Tree.{ExprTerm, IfExpr, IfStmt, StepTerm, Target
 use Rattle.qvt_tree_types.specs.View.{stmts_of}
 use Rattle.qvt_tree.specs.Shape.{nowhere, erase_expr, erase_target, erase_stmt}
 use Rattle.qvt_grammar.specs.Language.{either, maybe, turns, lastly, head_of}
-use Rattle.qvt_parser_grammar.specs.Tokens.{Tok}
-use Rattle.qvt_parser_grammar.specs.declared.token.Class.TheVariants as class
-use Rattle.qvt_parser_grammar.specs.Leads.{Lead, Plain, Bracketed, Each, EachPart, Ended}
-use Rattle.qvt_parser_grammar.specs.Readers.{the}
-use Rattle.qvt_parser_grammar.specs.Series.{left, right}
-use Rattle.qvt_parser_grammar.specs.Trees.{expr_of, each_lead, post_lead, post_of}
-use Rattle.qvt_parser_grammar.specs.Grammar.{Nested, expr, other_primary, step, lead_post, lead_pre, lead, lead_step, each_tail, if_expr}
-use Rattle.qvt_parser_grammar.specs.Statements.{assignment, semicolon, lead_tail, lead_stmt, statement, statements, block, var_stmt, return_stmt, if_stmt, while_stmt, branches, choice, if_rest}
-use Rattle.qvt_parser_grammar.specs.StmtTrees.{Branches, Choice, for_each_of, branched, choice_expr, chosen, if_made, if_stmt_of, Turn, Tail, simple_turn, is_adding, written, lead_turn, concat, last_of}
+use Rattle.qvt_language.specs.Tokens.{Tok}
+use Rattle.qvt_language.specs.declared.class.Class.TheVariants as class
+use Rattle.qvt_language.specs.Leads.{Lead, Plain, Bracketed, Each, EachPart, Ended}
+use Rattle.qvt_language.specs.Readers.{the}
+use Rattle.qvt_language.specs.Series.{left, right}
+use Rattle.qvt_language.specs.Trees.{expr_of, each_lead, post_lead, post_of}
+use Rattle.qvt_language.specs.Grammar.{Nested, expr, other_primary, step, lead_post, lead_pre, lead, lead_step, each_tail, if_expr}
+use Rattle.qvt_language.specs.Statements.{assignment, semicolon, lead_tail, lead_stmt, statement, statements, block, var_stmt, return_stmt, if_stmt, while_stmt, branches, choice, if_rest}
+use Rattle.qvt_language.specs.StmtTrees.{Branches, Choice, for_each_of, branched, choice_expr, chosen, if_made, if_stmt_of, Turn, Tail, simple_turn, is_adding, written, lead_turn, concat, last_of}
 use Rattle.qvt_printer_layout.specs.declared.piece.Piece.{Piece}
 use Rattle.qvt_printer_layout.specs.declared.piece.Piece.TheVariants as piece
 use Rattle.qvt_printer_layout.specs.Words as words

@@ -4,15 +4,15 @@ use Rattle.qvt_base.specs.declared.numbers.Place.{Place}
 use Rattle.qvt_tree_types.specs.Tree.{ExprTerm, StmtTerm, ReturnStmt, SomeExpr}
 use Rattle.qvt_tree_types.specs.View.{stmts_of}
 use Rattle.qvt_tree.specs.Shape.{nowhere, erase_expr, erase_type, erase_stmt}
-use Rattle.qvt_parser_grammar.specs.Tokens.{Tok}
-use Rattle.qvt_parser_grammar.specs.declared.token.Class.TheVariants as class
-use Rattle.qvt_parser_grammar.specs.Leads.{Ended}
-use Rattle.qvt_parser_grammar.specs.Grammar.{Nested, expr, colon_type}
-use Rattle.qvt_parser_grammar.specs.Statements.{statements, return_stmt}
-use Rattle.qvt_parser_grammar.specs.Nesting.{nested}
-use Rattle.qvt_parser_grammar.proofs.GoodExprs.{good_expr, good_colon_type}
-use Rattle.qvt_parser_grammar.proofs.GoodBlocks.{loose_statements}
-use Rattle.qvt_parser_grammar.proofs.GoodNesting.{good_nested}
+use Rattle.qvt_language.specs.Tokens.{Tok}
+use Rattle.qvt_language.specs.declared.class.Class.TheVariants as class
+use Rattle.qvt_language.specs.Leads.{Ended}
+use Rattle.qvt_language.specs.Grammar.{Nested, expr, colon_type}
+use Rattle.qvt_language.specs.Statements.{statements, return_stmt}
+use Rattle.qvt_language.specs.Nesting.{nested}
+use Rattle.qvt_language.proofs.GoodExprs.{good_expr, good_colon_type}
+use Rattle.qvt_language.proofs.GoodBlocks.{loose_statements}
+use Rattle.qvt_language.proofs.GoodNesting.{good_nested}
 use Rattle.qvt_printer.specs.Expressions as print
 use Rattle.qvt_readback_tokens.specs.Spelled.{all_spelled}
 use Rattle.qvt_readback_trees.specs.Printable.{IsPrintableExpr, ArePrintableStmts}

@@ -1,7 +1,7 @@
 use Rattle.std.proofs.Common.{◌≡◌, List, ℕ, sym, ◌∙◌, subst}
 use Rattle.qvt_base.specs.declared.numbers.Place.{Place}
-use Rattle.qvt_parser_grammar.specs.Tokens.{toks_of}
-use Rattle.qvt_parser_grammar.specs.declared.token.Token.{Token}
+use Rattle.qvt_language.specs.Tokens.{toks_of}
+use Rattle.qvt_language.specs.declared.token.Token.{Token}
 use Rattle.qvt_parser_tokens.specs.Text.{HasTokens}
 use Rattle.qvt_parser.proofs.Outcomes.{strings_fault, lexed_none, deep_none, one_of, none_of}
 use Rattle.qvt_parser.proofs.parse.parse_text.Goals as goal

@@ -1,11 +1,11 @@
 use Rattle.std.proofs.Common.{◌≡◌, ◌≤◌, length, refl, sym, ap, ◌∙◌, subst, arith}
 use Rattle.std.proofs.lemmas.List.{length-map}
 use Rattle.qvt_tree_types.specs.Module.{module_view}
-use Rattle.qvt_parser_grammar.specs.Tokens.{tok_of, toks_of}
-use Rattle.qvt_parser_grammar.specs.Module.{Reads}
+use Rattle.qvt_language.specs.Tokens.{tok_of, toks_of}
+use Rattle.qvt_language.specs.Module.{Reads}
 use Rattle.qvt_parser_grammar.specs.Gives.{toks}
-use Rattle.qvt_parser_grammar.specs.Nesting.{nested_at}
-use Rattle.qvt_parser_grammar.specs.ReadingUnits.{transformation_at}
+use Rattle.qvt_language.specs.Nesting.{nested_at}
+use Rattle.qvt_language.specs.ReadingUnits.{transformation_at}
 use Rattle.qvt_parsed.proofs.Ends.{read_nowhere}
 use Rattle.qvt_parser.proofs.parse.read_tokens.Goals as goal
 

@@ -1,5 +1,5 @@
 use Rattle.std.proofs.Common.{◌≡◌, ◌∷◌, ◌++◌, map}
-use Rattle.qvt_parser_grammar.specs.Trees.{last_place}
+use Rattle.qvt_language.specs.Trees.{last_place}
 use Rattle.qvt_parser_grammar.proofs.names.unit_path_of.Given as goal
 
 abbrev pub invariant-loop-name : goal.invariant-loop-name

@@ -1,6 +1,6 @@
 use Rattle.std.proofs.Common.{sym, ap, ◌∙◌, map}
 use Rattle.qvt_tree_types.specs.View.{step_view}
-use Rattle.qvt_parser_grammar.specs.Trees as trees
+use Rattle.qvt_language.specs.Trees as trees
 use Rattle.qvt_parser_stmts.proofs.Members.{member_last}
 use Rattle.qvt_parser_stmts.proofs.made.ends_in_member.Goals as goal
 

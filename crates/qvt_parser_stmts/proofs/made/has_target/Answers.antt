@@ -1,6 +1,6 @@
 use Rattle.std.proofs.Common.{sym, ap, ◌∙◌}
-use Rattle.qvt_parser_grammar.specs.Trees.{is_there, member_target}
-use Rattle.qvt_parser_grammar.specs.StmtTrees.{target_in}
+use Rattle.qvt_language.specs.Trees.{is_there, member_target}
+use Rattle.qvt_language.specs.StmtTrees.{target_in}
 use Rattle.qvt_parser_exprs.specs.Views.{boxed_view, lead_view, steps_view}
 use Rattle.qvt_parser_stmts.proofs.made.has_target.Goals as goal
 

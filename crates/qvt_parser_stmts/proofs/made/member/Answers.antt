@@ -2,7 +2,7 @@ use Rattle.std.proofs.Common.{IsTrue, Some, sym, subst}
 use Rattle.qvt_tree_types.specs.View.{target_view}
 use Rattle.qvt_parser_grammar.specs.Gives.{Makes}
 use Rattle.qvt_parser_exprs.specs.Views.{boxed_view}
-use Rattle.qvt_parser_grammar.specs.Trees as trees
+use Rattle.qvt_language.specs.Trees as trees
 use Rattle.qvt_parser_stmts.proofs.Members.{member_last}
 use Rattle.qvt_parser_stmts.proofs.made.member.Goals as goal
 

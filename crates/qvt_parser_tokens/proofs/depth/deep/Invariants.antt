@@ -1,6 +1,6 @@
 use Rattle.std.proofs.Common.{◌≡◌, drop}
 use Rattle.std.specs.Prelude.{reverse}
-use Rattle.qvt_parser_grammar.specs.Tokens.{toks_of}
+use Rattle.qvt_language.specs.Tokens.{toks_of}
 use Rattle.qvt_parser_tokens.specs.Depth.{deep_from, deep}
 use Rattle.qvt_parser_tokens.proofs.depth.deep.Given as goal
 

@@ -2,7 +2,7 @@ use Rattle.std.proofs.Common.{◌≡◌, ◌++◌, ◌∷◌, [], map, refl, sym
 use Rattle.std.specs.Str.{chars}
 use Rattle.qvt_lexer.specs.Division.{Reads, data_of, start_at}
 use Rattle.qvt_lexer.specs.declared.token.TokenKind.TheVariants.{Str}
-use Rattle.qvt_parser_grammar.specs.Tokens.{toks_of}
+use Rattle.qvt_language.specs.Tokens.{toks_of}
 use Rattle.qvt_parser_tokens.specs.Said.{said, text_of}
 use Rattle.qvt_parser_tokens.specs.Whole.{strings_of}
 use Rattle.qvt_parser_tokens.proofs.Lexings.{integer_is, token_shorter, reads_then, all_tokens}

@@ -1,7 +1,7 @@
 use Rattle.std.proofs.Common.{◌≡◌, ◌++◌, ℕ, List, map, length}
 use Rattle.std.specs.Str.{chars}
 use Rattle.qvt_lexer.specs.Division.{TokenData, Reads, start_at}
-use Rattle.qvt_parser_grammar.specs.Tokens.{toks_of}
+use Rattle.qvt_language.specs.Tokens.{toks_of}
 use Rattle.qvt_parser_tokens.specs.Said.{said}
 use Rattle.qvt_parser_tokens.specs.Whole.{strings_of}
 use Rattle.qvt_parser_tokens.proofs.text.read.Given as goal

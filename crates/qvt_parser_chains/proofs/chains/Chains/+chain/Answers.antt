@@ -1,9 +1,9 @@
 use Rattle.std.proofs.Common.{sym, ◌∙◌, refl, arith}
 use Rattle.qvt_grammar.proofs.Loops.{loop_push}
-use Rattle.qvt_parser_grammar.specs.Tokens.{of}
+use Rattle.qvt_language.specs.Tokens.{of}
 use Rattle.qvt_parser_grammar.specs.Gives.{toks}
-use Rattle.qvt_parser_grammar.specs.Reading.{pre_at, link_at, chain_at, operators}
-use Rattle.qvt_parser_grammar.specs.Nesting.{nested_at}
+use Rattle.qvt_language.specs.Reading.{pre_at, link_at, chain_at, operators}
+use Rattle.qvt_language.specs.Nesting.{nested_at}
 use Rattle.qvt_parser_exprs.specs.Views.{lead_view}
 use Rattle.qvt_parser_chains.proofs.Levels.{unread, no_level, all_levels, next_level, faulty_level, first_fault}
 use Rattle.qvt_parser_grammar.proofs.LessExprs.{less_link}

@@ -1,9 +1,9 @@
 use Rattle.std.proofs.Common.{◌≡◌, ◌+◌, ◌*◌, ◌≤◌, ◌<◌, length, map, Ok}
 use Rattle.qvt_grammar.specs.Reader.{many_at, with_front}
-use Rattle.qvt_parser_grammar.specs.Tokens.{of}
+use Rattle.qvt_language.specs.Tokens.{of}
 use Rattle.qvt_parser_grammar.specs.Gives.{toks}
-use Rattle.qvt_parser_grammar.specs.Reading.{pre_at, link_at, chain_at, operators}
-use Rattle.qvt_parser_grammar.specs.Nesting.{nested_at}
+use Rattle.qvt_language.specs.Reading.{pre_at, link_at, chain_at, operators}
+use Rattle.qvt_language.specs.Nesting.{nested_at}
 use Rattle.qvt_tree_types.specs.View.{link_view}
 use Rattle.qvt_parser_exprs.specs.Views.{lead_view}
 use Rattle.qvt_parser_chains.proofs.chains.Chains.+chain.Given as goal

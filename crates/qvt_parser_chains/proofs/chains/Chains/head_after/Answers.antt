@@ -1,6 +1,6 @@
 use Rattle.std.proofs.Common.{sym, ◌∙◌, subst}
 use Rattle.qvt_parser_grammar.specs.Gives.{Gives, toks}
-use Rattle.qvt_parser_grammar.specs.Nesting.{nested_at}
+use Rattle.qvt_language.specs.Nesting.{nested_at}
 use Rattle.qvt_parser_exprs.specs.Views.{lead_view, arrow_args_view}
 use Rattle.qvt_parser_chains.proofs.Heads.{after_headless}
 use Rattle.qvt_parser_chains.proofs.chains.Chains.head_after.Goals as goal

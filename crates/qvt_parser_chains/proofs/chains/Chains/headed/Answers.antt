@@ -1,8 +1,8 @@
 use Rattle.std.proofs.Common.{sym, ap, ◌∙◌, Ok}
 use Rattle.qvt_tree_types.specs.View.{head_view}
 use Rattle.qvt_parser_grammar.specs.Gives.{toks}
-use Rattle.qvt_parser_grammar.specs.Nesting.{nested_at}
-use Rattle.qvt_parser_grammar.specs.Trees.{headed}
+use Rattle.qvt_language.specs.Nesting.{nested_at}
+use Rattle.qvt_language.specs.Trees.{headed}
 use Rattle.qvt_parser_exprs.specs.Views.{lead_view, head_rest_view}
 use Rattle.qvt_parser_chains.proofs.Heads.{after_name}
 use Rattle.qvt_parser_chains.proofs.chains.Chains.headed.Goals as goal

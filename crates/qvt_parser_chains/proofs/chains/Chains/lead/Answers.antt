@@ -1,7 +1,7 @@
 use Rattle.std.proofs.Common.{refl, arith}
 use Rattle.qvt_parser_grammar.specs.Gives.{toks}
-use Rattle.qvt_parser_grammar.specs.Nesting.{nested_at}
-use Rattle.qvt_parser_grammar.specs.Reading.{pre_at, lead_pre_at, lead_at}
+use Rattle.qvt_language.specs.Nesting.{nested_at}
+use Rattle.qvt_language.specs.Reading.{pre_at, lead_pre_at, lead_at}
 use Rattle.qvt_parser_exprs.specs.Views.{lead_view}
 use Rattle.qvt_parser_chains.proofs.Levels.{no_level, all_levels, next_level, faulty_level, first_fault}
 use Rattle.qvt_parser_chains.proofs.chains.Chains.lead.Goals as goal

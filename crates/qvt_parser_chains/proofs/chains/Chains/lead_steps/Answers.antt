@@ -1,10 +1,10 @@
 use Rattle.std.proofs.Common.{sym, ap, ◌∙◌, arith, map, Ok}
 use Rattle.qvt_tree_types.specs.View.{step_view}
-use Rattle.qvt_parser_grammar.specs.Tokens.{of}
+use Rattle.qvt_language.specs.Tokens.{of}
 use Rattle.qvt_parser_grammar.specs.Gives.{toks}
-use Rattle.qvt_parser_grammar.specs.Firsts.{step_first}
-use Rattle.qvt_parser_grammar.specs.Reading.{lead_step_at}
-use Rattle.qvt_parser_grammar.specs.Nesting.{nested_at}
+use Rattle.qvt_language.specs.Firsts.{step_first}
+use Rattle.qvt_language.specs.Reading.{lead_step_at}
+use Rattle.qvt_language.specs.Nesting.{nested_at}
 use Rattle.qvt_parser_grammar.proofs.LessExprs.{less_lead_step}
 use Rattle.qvt_parser_grammar.proofs.EndedLoops.{loop_pushed, loop_last}
 use Rattle.qvt_parser_exprs.specs.Views.{lead_step_view, held_each_view}

@@ -1,10 +1,10 @@
 use Rattle.std.proofs.Common.{sym, ◌∙◌, arith}
 use Rattle.qvt_grammar.proofs.Loops.{loop_push}
-use Rattle.qvt_parser_grammar.specs.Tokens.{of}
+use Rattle.qvt_language.specs.Tokens.{of}
 use Rattle.qvt_parser_grammar.specs.Gives.{toks}
-use Rattle.qvt_parser_grammar.specs.Firsts.{step_first}
-use Rattle.qvt_parser_grammar.specs.Reading.{step_at}
-use Rattle.qvt_parser_grammar.specs.Nesting.{nested_at}
+use Rattle.qvt_language.specs.Firsts.{step_first}
+use Rattle.qvt_language.specs.Reading.{step_at}
+use Rattle.qvt_language.specs.Nesting.{nested_at}
 use Rattle.qvt_parser_grammar.proofs.LessExprs.{less_step}
 use Rattle.qvt_tree_types.specs.View.{step_view}
 use Rattle.qvt_parser_chains.proofs.chains.Chains.steps.Goals as goal

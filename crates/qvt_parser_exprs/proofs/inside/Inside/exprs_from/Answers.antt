@@ -1,13 +1,13 @@
 use Rattle.std.proofs.Common.{[], ◌∷◌, ◌++◌, sym, ap, ◌∙◌, arith}
 use Rattle.qvt_grammar.specs.Reader.{made_at, then_at}
 use Rattle.qvt_grammar.proofs.Loops.{loop_push}
-use Rattle.qvt_parser_grammar.specs.Tokens.{is}
-use Rattle.qvt_parser_grammar.specs.Readers.{the_at}
-use Rattle.qvt_parser_grammar.specs.Trees.{second}
+use Rattle.qvt_language.specs.Tokens.{is}
+use Rattle.qvt_language.specs.Readers.{the_at}
+use Rattle.qvt_language.specs.Trees.{second}
 use Rattle.qvt_parser_grammar.specs.Gives.{toks}
-use Rattle.qvt_parser_grammar.specs.declared.token.Class.TheVariants.{Comma}
-use Rattle.qvt_parser_grammar.specs.Reading.{expr_at}
-use Rattle.qvt_parser_grammar.specs.Nesting.{nested_at}
+use Rattle.qvt_language.specs.declared.class.Class.TheVariants.{Comma}
+use Rattle.qvt_language.specs.Reading.{expr_at}
+use Rattle.qvt_language.specs.Nesting.{nested_at}
 use Rattle.qvt_parser_grammar.proofs.LessExprs.{less_expr}
 use Rattle.qvt_tree_types.specs.View.{expr_view}
 use Rattle.qvt_parser_exprs.proofs.inside.Inside.exprs_from.Goals as goal

@@ -1,11 +1,11 @@
 use Rattle.std.proofs.Common.{◌≡◌, ◌≤◌, length}
 use Rattle.qvt_grammar.specs.Reader.{many_at, made_at, then_at, with_front}
-use Rattle.qvt_parser_grammar.specs.Tokens.{is}
-use Rattle.qvt_parser_grammar.specs.Readers.{the_at}
-use Rattle.qvt_parser_grammar.specs.Trees.{second}
+use Rattle.qvt_language.specs.Tokens.{is}
+use Rattle.qvt_language.specs.Readers.{the_at}
+use Rattle.qvt_language.specs.Trees.{second}
 use Rattle.qvt_parser_grammar.specs.Gives.{toks}
-use Rattle.qvt_parser_grammar.specs.declared.token.Class.TheVariants.{DoubleColon}
-use Rattle.qvt_parser_grammar.specs.Reading.{name_at}
+use Rattle.qvt_language.specs.declared.class.Class.TheVariants.{DoubleColon}
+use Rattle.qvt_language.specs.Reading.{name_at}
 use Rattle.qvt_parser_grammar.proofs.cursor.Parser.more_names.Given as goal
 
 abbrev pub invariant-loop-self : goal.invariant-loop-self

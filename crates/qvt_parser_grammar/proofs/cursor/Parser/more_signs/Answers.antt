@@ -1,10 +1,10 @@
 use Rattle.std.proofs.Common.{sym, ap, ◌∙◌, arith}
 use Rattle.qvt_grammar.specs.Reader.{many_at, with_front}
 use Rattle.qvt_grammar.proofs.Loops.{loop_more}
-use Rattle.qvt_parser_grammar.specs.Tokens.{of}
+use Rattle.qvt_language.specs.Tokens.{of}
 use Rattle.qvt_parser_grammar.specs.Gives.{toks}
-use Rattle.qvt_parser_grammar.specs.Firsts.{sign_first}
-use Rattle.qvt_parser_grammar.specs.Reading.{sign_at}
+use Rattle.qvt_language.specs.Firsts.{sign_first}
+use Rattle.qvt_language.specs.Reading.{sign_at}
 use Rattle.qvt_parser_grammar.proofs.LessExprs.{less_sign}
 use Rattle.qvt_parser_grammar.proofs.cursor.Parser.more_signs.Goals as goal
 

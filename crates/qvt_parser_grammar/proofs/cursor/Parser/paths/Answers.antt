@@ -1,12 +1,12 @@
 use Rattle.std.proofs.Common.{sym, ap, ◌∙◌, arith}
 use Rattle.qvt_grammar.specs.Reader.{many_at, made_at, then_at, with_front}
 use Rattle.qvt_grammar.proofs.Loops.{loop_more}
-use Rattle.qvt_parser_grammar.specs.Tokens.{is}
-use Rattle.qvt_parser_grammar.specs.Readers.{the_at}
-use Rattle.qvt_parser_grammar.specs.Trees.{second}
+use Rattle.qvt_language.specs.Tokens.{is}
+use Rattle.qvt_language.specs.Readers.{the_at}
+use Rattle.qvt_language.specs.Trees.{second}
 use Rattle.qvt_parser_grammar.specs.Gives.{toks}
-use Rattle.qvt_parser_grammar.specs.declared.token.Class.TheVariants.{Comma}
-use Rattle.qvt_parser_grammar.specs.Reading.{path_at}
+use Rattle.qvt_language.specs.declared.class.Class.TheVariants.{Comma}
+use Rattle.qvt_language.specs.Reading.{path_at}
 use Rattle.qvt_parser_grammar.proofs.LessNames.{less_path}
 use Rattle.qvt_parser_grammar.proofs.cursor.Parser.paths.Goals as goal
 

@@ -1,10 +1,10 @@
 use Rattle.std.proofs.Common.{◌≡◌, ◌≤◌, length, map}
 use Rattle.qvt_grammar.specs.Reader.{many_at, with_front}
-use Rattle.qvt_parser_grammar.specs.Tokens.{is}
+use Rattle.qvt_language.specs.Tokens.{is}
 use Rattle.qvt_parser_grammar.specs.Gives.{toks}
-use Rattle.qvt_parser_grammar.specs.declared.token.Class.TheVariants.{ElifWord}
-use Rattle.qvt_parser_grammar.specs.ReadingStatements.{arm_at}
-use Rattle.qvt_parser_grammar.specs.Nesting.{nested_at}
+use Rattle.qvt_language.specs.declared.class.Class.TheVariants.{ElifWord}
+use Rattle.qvt_language.specs.ReadingStatements.{arm_at}
+use Rattle.qvt_language.specs.Nesting.{nested_at}
 use Rattle.qvt_tree_types.specs.View.{arm_view}
 use Rattle.qvt_parser_stmts.proofs.statements.Statements.arms.Given as goal
 

@@ -1,8 +1,8 @@
 use Rattle.std.proofs.Common.{sym, ap, ◌∙◌}
 use Rattle.qvt_tree_types.specs.View.{expr_view, target_view}
-use Rattle.qvt_parser_grammar.specs.Tokens.{tok_of}
+use Rattle.qvt_language.specs.Tokens.{tok_of}
 use Rattle.qvt_parser_grammar.specs.Gives.{toks}
-use Rattle.qvt_parser_grammar.specs.Nesting.{nested_at}
+use Rattle.qvt_language.specs.Nesting.{nested_at}
 use Rattle.qvt_parser_exprs.specs.Views.{lead_view}
 use Rattle.qvt_parser_stmts.proofs.Tails.{closing, tail_assigned}
 use Rattle.qvt_parser_stmts.proofs.statements.Statements.assigned.Goals as goal

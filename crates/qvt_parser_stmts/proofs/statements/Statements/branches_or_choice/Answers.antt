@@ -1,11 +1,11 @@
 use Rattle.std.proofs.Common.{inl, inr, sym, ◌∙◌, subst}
 use Rattle.qvt_grammar.specs.Reader.{made_at, choose_at}
-use Rattle.qvt_parser_grammar.specs.Tokens.{is}
-use Rattle.qvt_parser_grammar.specs.declared.token.Class.TheVariants.{OpenBrace, ThenWord}
+use Rattle.qvt_language.specs.Tokens.{is}
+use Rattle.qvt_language.specs.declared.class.Class.TheVariants.{OpenBrace, ThenWord}
 use Rattle.qvt_parser_grammar.specs.Gives.{Gives, toks}
-use Rattle.qvt_parser_grammar.specs.Nesting.{nested_at}
-use Rattle.qvt_parser_grammar.specs.StmtTrees.{if_made}
-use Rattle.qvt_parser_grammar.specs.ReadingStatements.{branches_at, choice_at}
+use Rattle.qvt_language.specs.Nesting.{nested_at}
+use Rattle.qvt_language.specs.StmtTrees.{if_made}
+use Rattle.qvt_language.specs.ReadingStatements.{branches_at, choice_at}
 use Rattle.qvt_parser_stmts.specs.Views.{held_view}
 use Rattle.qvt_parser_exprs.specs.Views.{boxed_view}
 use Rattle.qvt_parser_stmts.proofs.AfterIf.{after_word}

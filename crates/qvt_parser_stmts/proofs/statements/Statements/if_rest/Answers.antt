@@ -1,6 +1,6 @@
 use Rattle.std.proofs.Common.{sym, ◌∙◌, subst}
 use Rattle.qvt_parser_grammar.specs.Gives.{Gives, toks}
-use Rattle.qvt_parser_grammar.specs.Nesting.{nested_at}
+use Rattle.qvt_language.specs.Nesting.{nested_at}
 use Rattle.qvt_parser_stmts.specs.Views.{held_view}
 use Rattle.qvt_parser_exprs.specs.Views.{boxed_view, lead_view}
 use Rattle.qvt_parser_stmts.proofs.AfterIf.{bracketed_rest, other_rest}

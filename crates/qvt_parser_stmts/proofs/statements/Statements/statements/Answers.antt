@@ -1,9 +1,9 @@
 use Rattle.std.proofs.Common.{sym, ◌∙◌, arith}
-use Rattle.qvt_parser_grammar.specs.Tokens.{of}
+use Rattle.qvt_language.specs.Tokens.{of}
 use Rattle.qvt_parser_grammar.specs.Gives.{toks}
-use Rattle.qvt_parser_grammar.specs.Firsts.{stmt_first}
-use Rattle.qvt_parser_grammar.specs.ReadingStatements.{statement_at}
-use Rattle.qvt_parser_grammar.specs.Nesting.{nested_at}
+use Rattle.qvt_language.specs.Firsts.{stmt_first}
+use Rattle.qvt_language.specs.ReadingStatements.{statement_at}
+use Rattle.qvt_language.specs.Nesting.{nested_at}
 use Rattle.qvt_parser_grammar.proofs.LessExprs.{less_statement}
 use Rattle.qvt_parser_exprs.specs.Views.{stmts_view}
 use Rattle.qvt_parser_stmts.specs.Views.{turn_view}

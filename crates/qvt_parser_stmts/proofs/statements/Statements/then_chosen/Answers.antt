@@ -1,8 +1,8 @@
 use Rattle.std.proofs.Common.{inr, sym, subst}
 use Rattle.qvt_parser_grammar.specs.Gives.{Gives, toks}
-use Rattle.qvt_parser_grammar.specs.Nesting.{nested_at}
-use Rattle.qvt_parser_grammar.specs.StmtTrees.{if_made}
-use Rattle.qvt_parser_grammar.specs.ReadingStatements.{choice_at}
+use Rattle.qvt_language.specs.Nesting.{nested_at}
+use Rattle.qvt_language.specs.StmtTrees.{if_made}
+use Rattle.qvt_language.specs.ReadingStatements.{choice_at}
 use Rattle.qvt_parser_stmts.specs.Views.{held_view}
 use Rattle.qvt_parser_exprs.specs.Views.{boxed_view}
 use Rattle.qvt_parser_stmts.proofs.AfterIf.{after_then}

@@ -1,0 +1,252 @@
+-- What statements that begin with an expression keep, and blocks.
+use Rattle.std.proofs.Common.{◌≡◌, sym, ℕ, zero, suc, List, [], ◌∷◌, ◌++◌, Bool, true, false, ◌⊎◌, inl, inr, refl, Option, Some, None, subst}
+use Rattle.qvt_base.specs.declared.numbers.Place.{Place}
+use Rattle.qvt_grammar.specs.Language.{Language, then, made}
+use Rattle.qvt_grammar.proofs.Firsts.{Within}
+use Rattle.qvt_grammar.proofs.Lists.{nil_right}
+use Rattle.qvt_tree_types.specs.Tree.{ExprTerm, StepTerm, LinkTerm, StmtTerm, TargetTerm}
+use Rattle.qvt_tree_types.specs.declared.words.Sign.{Sign}
+use Rattle.qvt_language.specs.Tokens.{Tok, of, code_of}
+use Rattle.qvt_words.specs.declared.class.Class.TheVariants.{NotWord, MinusSign, Dot, Arrow, OpenRound, ForEachWord, Becomes, PlusEqual, Semicolon, Colon, OpenBrace, CloseBrace, IfWord, WhileWord, VarWord, ReturnWord, ElifWord, ElseWord, EndifWord}
+use Rattle.qvt_language.specs.Readers.{Reader}
+use Rattle.qvt_language.specs.Series.{series}
+use Rattle.qvt_language.specs.Firsts.{expr_first, expr_next, post_next, primary_first, resolve_first, step_first, sign_first, stmt_first, assign_first}
+use Rattle.qvt_language.specs.Levels.{next_at}
+use Rattle.qvt_language.specs.Leads.{Lead, Plain, Bracketed, Each, EachPart}
+use Rattle.qvt_language.specs.Trees.{second, nothing, each_lead, prefix_lead, chain_of}
+use Rattle.qvt_language.specs.StmtTrees.{Turn, Tail, empty_turn, closed_turn, simple_turn, no_tail, plain_tail, lead_turn, ended_of, block_of}
+use Rattle.qvt_language.specs.Grammar.{Nested, signed_post, lead_step, lead_post, lead_pre, lead, level_of, links, chain}
+use Rattle.qvt_language.specs.Reading.{NestedAt, signed_post_at, lead_step_at, lead_post_at, lead_pre_at, lead_at, operators, links_at, chain_at}
+use Rattle.qvt_language.specs.Statements.{semicolon, lead_tail, lead_stmt, statement, statements, block}
+use Rattle.qvt_language.specs.ReadingStatements.{semicolon_at, lead_tail_at, lead_stmt_at, statement_at, statements_at, block_at}
+use Rattle.qvt_grammar.specs.Reader.{then_at, made_at}
+use Rattle.qvt_language.proofs.Sets.{all_in, none_in, within, within_left, within_right, within_both}
+use Rattle.qvt_language.proofs.Forms.{Loose, Good, good_the, good_made, good_placed, good_sets, loose_sets, loose_made, good_then, good_after, loose_maybe, loose_empty}
+use Rattle.qvt_language.proofs.ValuedForms.{LooseV, GoodV, loosev_of, goodv_of, loosev_sets, goodv_sets, loose_all, loosev_made, goodv_made, goodv_placed, goodv_follow, loosev_then, goodv_either, optional_next, loosev_maybe, turn_next, ended_next, loosev_series, ended_all}
+use Rattle.qvt_language.proofs.GoodExprs.{GoodNested, good_other_primary, good_dot_step}
+use Rattle.qvt_language.proofs.GoodSteps.{good_arrow_rest, good_each_tail, good_signs, good_post, good_pre}
+use Rattle.qvt_language.proofs.GoodTower.{apart_operators, good_links, good_chain}
+use Rattle.qvt_language.proofs.GoodIfs.{opens, step_next, goodv_lead_step, item_next, good_if_stmt}
+use Rattle.qvt_language.proofs.GoodStmts.{good_while_stmt, good_var_stmt, good_return_stmt, good_assignment}
+
+-- with what a statement begins that begins with an expression
+abbrev lead_first : List ℕ
+lead_first = code_of NotWord ∷ code_of MinusSign ∷ primary_first
+
+-- after an expression at the front of a statement what goes on after k levels may go on, after a `forEach` nothing
+abbrev pub lead_next : ℕ → Lead → List ℕ
+lead_next k (Plain e target) = next_at k
+lead_next k (Bracketed e) = next_at k
+lead_next k (Each e part) = []
+
+abbrev steps_next : (ExprTerm × Bool) × (List StepTerm × Option EachPart) → List ℕ
+steps_next x = ended_next post_next [] x.1
+
+post_sides : (x : Place × ((ExprTerm × Bool) × (List StepTerm × Option EachPart))) → Within (of (steps_next x.1)) (of (lead_next zero (each_lead x)))
+post_sides (place, ((e, true), ([], None))) t h = h
+post_sides (place, ((e, false), ([], None))) t h = h
+post_sides (place, (x, ((s ∷ ss), None))) t h = h
+post_sides (place, (x, (steps, (Some part)))) t h = absurd cc
+
+over_steps : (p : ExprTerm × Bool) (b : List StepTerm × Option EachPart) → Within (of (ended_next (step_first ++ opens) [] b)) (of (steps_next (p, b)))
+over_steps p (steps, None) = within (step_first ++ opens) post_next refl
+over_steps p (steps, (Some part)) = λ t h. h
+
+signed_sides : (x : Place × ((Sign × List Sign) × Lead)) → Within (of post_next) (of (lead_next zero (prefix_lead x)))
+signed_sides (place, ((s, more), x)) t h = h
+
+module _ {n : ℕ} {i j : Nested} {r : NestedAt} (h : GoodNested n i j r) where
+  no_steps : (p : ExprTerm × Bool) (b : List StepTerm × Option EachPart) → (series (lead_step i)).reads [] b → Within (of (code_of OpenRound ∷ 10 ∷ [])) (of (steps_next (p, b)))
+  no_steps p (steps, None) rd = within (code_of OpenRound ∷ 10 ∷ []) post_next refl
+  no_steps p (steps, (Some part)) rd = absurd ((goodv_lead_step h).solid (inr part) (subst (λ z. (lead_step i).reads z (inr part)) (nil_right rd.0 rd.1 rd.2) rd.4))
+
+  pub goodv_lead_post : GoodV n true primary_first (lead_next zero) (lead_post i) (lead_post j) (lead_post_at r)
+  unfolding lead_post lead_post_at
+  goodv_lead_post = goodv_made each_lead (lead_next zero) post_sides (goodv_placed (goodv_follow steps_next (goodv_of (good_sets primary_first (code_of OpenRound ∷ 10 ∷ []) refl refl (good_other_primary h)))
+      (λ _. loosev_series step_first opens [] refl refl (goodv_lead_step h)) (λ _. refl) no_steps over_steps))
+
+  goodv_signed : GoodV n true (25 ∷ 62 ∷ []) (lead_next zero) (signed_post i) (signed_post j) (signed_post_at r)
+  unfolding signed_post signed_post_at
+  goodv_signed = goodv_made prefix_lead (lead_next zero) signed_sides (goodv_of (good_placed (good_then good_signs (good_sets (42 ∷ primary_first) post_next refl refl (good_post h)) refl)))
+
+  pub goodv_lead_pre : GoodV n true lead_first (lead_next zero) (lead_pre i) (lead_pre j) (lead_pre_at r)
+  unfolding lead_pre lead_pre_at
+  goodv_lead_pre = goodv_sets lead_first refl (goodv_either sign_first goodv_signed goodv_lead_post refl refl)
+
+-- chains
+
+abbrev pair_next : ℕ → Lead × List LinkTerm → List ℕ
+pair_next k xl = lead_next (suc k) xl.0
+
+abbrev links_next : ℕ → Lead → List LinkTerm → List ℕ
+links_next k x ls = lead_next (suc k) x
+
+chain_sides : (k : ℕ) (x : Place × (Lead × List LinkTerm)) → Within (of (pair_next k x.1)) (of (lead_next (suc k) (chain_of (level_of k) x)))
+chain_sides k (place, (x, [])) t h = h
+chain_sides k (place, ((Plain e target), (l ∷ ls))) t h = h
+chain_sides k (place, ((Bracketed e), (l ∷ ls))) t h = h
+chain_sides k (place, ((Each e part), (l ∷ ls))) t h = absurd cc
+
+apart_links : (k : ℕ) (x : Lead) → none_in (lead_next k x) (operators k) ≡ true
+apart_links k (Plain e target) = apart_operators k
+apart_links k (Bracketed e) = apart_operators k
+apart_links k (Each e part) = refl
+
+over_links : (k : ℕ) (x : Lead) → Within (of (lead_next k x)) (of (lead_next (suc k) x))
+over_links k (Plain e target) = within_right (operators k) (next_at k)
+over_links k (Bracketed e) = within_right (operators k) (next_at k)
+over_links k (Each e part) = λ t h. h
+
+loosev_links : {n : ℕ} (k : ℕ) {l l2 : Language Tok Lead} {f : Reader Lead} → Good n true expr_first (next_at k) l l2 f → (x : Lead) → LooseV n true (operators k) (links_next k x) (links k l x) (links k l2 x) (links_at k f x)
+loosev_links k h (Plain e target) = loosev_of (good_links k h (Plain e target))
+loosev_links k h (Bracketed e) = loosev_of (good_links k h (Bracketed e))
+loosev_links k h (Each e part) = loosev_of (loose_sets (operators k) [] refl refl (loose_made nothing loose_empty))
+
+pub goodv_chain : {n : ℕ} (k : ℕ) (first : List ℕ) {p p2 q q2 : Language Tok Lead} {f g : Reader Lead} → GoodV n true first (lead_next zero) p p2 f → Good n true expr_first post_next q q2 g
+    → GoodV n true first (lead_next k) (chain k p q) (chain k p2 q2) (chain_at k f g)
+unfolding chain chain_at
+goodv_chain zero first hp hq = hp
+goodv_chain (suc k) first hp hq =
+    goodv_made (chain_of (level_of k)) (lead_next (suc k)) (chain_sides k) (goodv_placed (goodv_follow (pair_next k) (goodv_chain k first hp hq) (loosev_links k (good_chain k expr_first hq hq)) (apart_links k)
+    (λ x ls rd. over_links k x) (λ x ls t q. q)))
+
+pub goodv_lead : {n : ℕ} {i j : Nested} {r : NestedAt} → GoodNested n i j r → GoodV n true lead_first (lead_next 8) (lead i) (lead j) (lead_at r)
+unfolding lead lead_at
+goodv_lead h = goodv_chain 8 lead_first (goodv_lead_pre h) (good_sets expr_first post_next refl refl (good_pre h))
+
+-- statements
+
+abbrev semi : List ℕ
+semi = code_of Semicolon ∷ []
+
+abbrev semi_next : Option Tok → List ℕ
+semi_next = optional_next semi []
+
+loosev_semicolon : {n : ℕ} → LooseV n true semi semi_next semicolon semicolon semicolon_at
+unfolding semicolon semicolon_at
+loosev_semicolon = loosev_maybe semi refl (good_the Semicolon)
+
+no_semicolon : (t : Tok) → semicolon.reads [] (Some t) → ⊥
+unfolding semicolon
+no_semicolon t (inl rd) = let k = rd.1.0 in cc
+no_semicolon t (inr rd) = let k = rd.2 in cc
+
+-- what may go on after an expression at the front of a statement, and after its assignment
+abbrev tail_more : List ℕ
+tail_more = code_of Becomes ∷ code_of PlusEqual ∷ code_of Semicolon ∷ expr_next
+
+abbrev tail_next : Tail → List ℕ
+tail_next (a, None) = tail_more
+tail_next (a, (Some t)) = []
+
+abbrev lead_tail_next : Lead → Tail → List ℕ
+lead_tail_next (Plain e target) tail = tail_next tail
+lead_tail_next (Bracketed e) tail = tail_next tail
+lead_tail_next (Each e part) tail = []
+
+plain_sides : (t : Option Tok) → Within (of (semi_next t)) (of (tail_next (plain_tail t)))
+plain_sides None = within semi tail_more refl
+plain_sides (Some t) = λ x h. h
+
+no_sides : (e : ExprTerm) (p : EachPart) (x : Unit {0}) → Within (of []) (of (lead_tail_next (Each e p) (no_tail x)))
+no_sides e p x t h = h
+
+assigned_over : (a : Option (Tok × ExprTerm)) (t : Option Tok) → semicolon.reads [] t → Within (of (code_of Becomes ∷ code_of PlusEqual ∷ expr_next)) (of (tail_next (a, t)))
+assigned_over a None rd = within (code_of Becomes ∷ code_of PlusEqual ∷ expr_next) tail_more refl
+assigned_over a (Some t) rd = absurd (no_semicolon t rd)
+
+assigned_sides : (a : Option (Tok × ExprTerm)) (t : Option Tok) → Within (of (semi_next t)) (of (tail_next (a, t)))
+assigned_sides a None = within semi tail_more refl
+assigned_sides a (Some t) = λ x h. h
+
+abbrev tail_first : List ℕ
+tail_first = code_of Becomes ∷ code_of PlusEqual ∷ code_of Semicolon ∷ []
+
+loosev_tail : {n : ℕ} {i j : Nested} {r : NestedAt} → GoodNested n i j r → (x : Lead) → LooseV n true tail_first (lead_tail_next x) (lead_tail i x) (lead_tail j x) (lead_tail_at r x)
+loosev_tail h (Plain e None) = loosev_sets tail_first refl (loosev_made plain_tail tail_next plain_sides loosev_semicolon)
+loosev_tail h (Bracketed e) = loosev_sets tail_first refl (loosev_made plain_tail tail_next plain_sides loosev_semicolon)
+loosev_tail h (Plain e (Some target)) = loosev_sets tail_first refl (loosev_then tail_next
+    (loosev_of (loose_sets (code_of Becomes ∷ code_of PlusEqual ∷ []) (code_of Becomes ∷ code_of PlusEqual ∷ expr_next) refl refl (loose_maybe assign_first refl (good_assignment h)))) loosev_semicolon (λ _. refl) assigned_over assigned_sides)
+loosev_tail h (Each e part) = loosev_sets tail_first refl (loosev_made no_tail (lead_tail_next (Each e part)) (no_sides e part) (loosev_of loose_empty))
+
+-- statements without `;` go on with much more than items of a block
+abbrev last_next : List ℕ
+last_next = code_of Becomes ∷ code_of PlusEqual ∷ code_of Semicolon ∷ code_of Colon ∷ (expr_next ++ expr_first)
+
+abbrev stmt_next : Turn → List ℕ
+stmt_next = turn_next item_next last_next
+
+abbrev lead_next_of : Lead × Tail → List ℕ
+lead_next_of xt = lead_tail_next xt.0 xt.1
+
+turn_sides : (x : Place × (Lead × Tail)) → Within (of (lead_next_of x.1)) (of (stmt_next (lead_turn x)))
+turn_sides (place, ((Plain e target), (a, None))) = within tail_more last_next refl
+turn_sides (place, ((Plain e target), (a, (Some t)))) = λ x h. absurd cc
+turn_sides (place, ((Bracketed e), (a, None))) = within tail_more last_next refl
+turn_sides (place, ((Bracketed e), (a, (Some t)))) = λ x h. absurd cc
+turn_sides (place, ((Each e part), tail)) = λ x h. absurd cc
+
+lead_over : (i : Nested) (x : Lead) (tail : Tail) → (lead_tail i x).reads [] tail → Within (of (lead_next 8 x)) (of (lead_tail_next x tail))
+lead_over i (Plain e None) (a, None) rd = within (next_at 8) tail_more refl
+lead_over i (Plain e (Some target)) (a, None) rd = within (next_at 8) tail_more refl
+lead_over i (Bracketed e) (a, None) rd = within (next_at 8) tail_more refl
+lead_over i (Bracketed e) (a, (Some t)) rd = absurd (let k = rd.2 in no_semicolon t (subst (λ z. semicolon.reads [] z) (sym (λ w. (k w).1)) rd.1))
+lead_over i (Plain e None) (a, (Some t)) rd = absurd (let k = rd.2 in no_semicolon t (subst (λ z. semicolon.reads [] z) (sym (λ w. (k w).1)) rd.1))
+lead_over i (Plain e (Some target)) (a, (Some t)) rd = absurd (no_semicolon t (subst (λ z. semicolon.reads z (Some t)) (nil_right rd.0 rd.1 rd.2) rd.4))
+lead_over i (Each e part) tail rd = λ t h. h
+
+lead_apart : (x : Lead) → none_in (lead_next 8 x) tail_first ≡ true
+lead_apart (Plain e target) = refl
+lead_apart (Bracketed e) = refl
+lead_apart (Each e part) = refl
+
+pub goodv_lead_stmt : {n : ℕ} {i j : Nested} {r : NestedAt} → GoodNested n i j r → GoodV n true lead_first stmt_next (lead_stmt i) (lead_stmt j) (lead_stmt_at r)
+unfolding lead_stmt lead_stmt_at
+goodv_lead_stmt {i = i} h = goodv_made lead_turn stmt_next turn_sides (goodv_placed (goodv_follow lead_next_of (goodv_lead h) (loosev_tail h) lead_apart (lead_over i) (λ _ _ t q. q)))
+
+-- a statement that may have a `;`
+module _ {n : ℕ} (first next : List ℕ) {l l2 : Language Tok StmtTerm} {f : Reader StmtTerm} (k : Good n true first next l l2 f) (w : all_in next last_next ≡ true) (a : none_in next semi ≡ true) where
+  abbrev simple_next : StmtTerm × Option Tok → List ℕ
+  simple_next (s, t) = optional_next (next ++ semi) [] t
+
+  simple_over : (s : StmtTerm) (t : Option Tok) → semicolon.reads [] t → Within (of next) (of (simple_next (s, t)))
+  simple_over s None rd = within_left next semi
+  simple_over s (Some t) rd = absurd (no_semicolon t rd)
+
+  simple_more : (s : StmtTerm) (t : Option Tok) → Within (of (semi_next t)) (of (simple_next (s, t)))
+  simple_more s None = within_right next semi
+  simple_more s (Some t) = λ x h. h
+
+  simple_sides : (x : StmtTerm × Option Tok) → Within (of (simple_next x)) (of (stmt_next (simple_turn x)))
+  simple_sides (s, None) = within_both next semi last_next (within next last_next w) (within semi last_next refl)
+  simple_sides (s, (Some t)) = λ x h. absurd cc
+
+  goodv_simple : GoodV n true first stmt_next (made simple_turn (then l semicolon)) (made simple_turn (then l2 semicolon)) (made_at simple_turn (then_at f semicolon_at))
+  goodv_simple = goodv_made simple_turn stmt_next simple_sides (goodv_follow simple_next (goodv_of k) (λ _. loosev_semicolon) (λ _. a) simple_over simple_more)
+
+closed_sides : (s : StmtTerm) → Within (of item_next) (of (stmt_next (closed_turn s)))
+closed_sides s t h = h
+
+empty_sides : (x : Tok) → Within (of []) (of (stmt_next (empty_turn x)))
+empty_sides x t h = absurd cc
+
+pub goodv_statement : {n : ℕ} {i j : Nested} {r : NestedAt} → GoodNested n i j r → GoodV n true stmt_first stmt_next (statement i) (statement j) (statement_at r)
+unfolding statement statement_at
+goodv_statement h = goodv_sets stmt_first refl (goodv_either semi (goodv_made empty_turn stmt_next empty_sides (goodv_of (good_the Semicolon)))
+    (goodv_either (code_of IfWord ∷ []) (goodv_made closed_turn stmt_next closed_sides (goodv_of (good_if_stmt h)))
+    (goodv_either (code_of WhileWord ∷ []) (goodv_made closed_turn stmt_next closed_sides (goodv_of (good_sets (code_of WhileWord ∷ []) item_next refl refl (good_while_stmt h))))
+    (goodv_either (code_of VarWord ∷ []) (goodv_simple (code_of VarWord ∷ []) (code_of Becomes ∷ code_of Colon ∷ expr_next) (good_sets (code_of VarWord ∷ []) (code_of Becomes ∷ code_of Colon ∷ expr_next) refl refl (good_var_stmt h)) refl refl)
+    (goodv_either (code_of ReturnWord ∷ []) (goodv_simple (code_of ReturnWord ∷ []) (expr_next ++ expr_first) (good_sets (code_of ReturnWord ∷ []) (expr_next ++ expr_first) refl refl (good_return_stmt h)) refl refl)
+    (goodv_lead_stmt h) refl refl) refl refl) refl refl) refl refl) refl refl)
+
+-- what may go on after the statements of a block
+abbrev pub stmts_next : List ℕ
+stmts_next = stmt_first ++ (item_next ++ last_next)
+
+pub loose_statements : {n : ℕ} {i j : Nested} {r : NestedAt} → GoodNested n i j r → Loose n true stmt_first stmts_next (statements i) (statements j) (statements_at r)
+unfolding statements statements_at
+loose_statements h = loose_made ended_of (loose_sets stmt_first stmts_next refl refl (loose_all ((stmt_first ++ item_next) ++ last_next) (ended_all (stmt_first ++ item_next) last_next) (loosev_series stmt_first item_next last_next refl refl (goodv_statement h))))
+
+pub good_block : {n : ℕ} {i j : Nested} {r : NestedAt} → GoodNested n i j r → Good n true (code_of OpenBrace ∷ []) [] (block i) (block j) (block_at r)
+unfolding block block_at
+good_block h = good_made block_of (good_then (good_the OpenBrace) (good_sets (code_of CloseBrace ∷ stmt_first) [] refl refl (good_after (loose_statements h) (good_the CloseBrace) refl)) refl)
