@@ -6,7 +6,8 @@ use Rattle.qvt_lexer.specs.declared.token.LexFault.{LexFault}
 use Rattle.qvt_tree_types.specs.Module.{ModuleTerm, module_view}
 use Rattle.qvt_tree_types.specs.declared.module.Module.{Module}
 use Rattle.qvt_language.specs.Tokens.{Tok}
-use Rattle.qvt_language.specs.Module.{Reads, IsFault, with_end}
+use Rattle.qvt_language.specs.Module.{with_end}
+use Rattle.qvt_language_rows.specs.Language.{Reads, IsFault}
 use Rattle.qvt_language.specs.Readers.{nowhere}
 use Rattle.qvt_parsed.proofs.Ends.{same_tree}
 use Rattle.qvt_parser_tokens.specs.Depth.{deep}
