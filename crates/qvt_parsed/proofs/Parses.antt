@@ -1,5 +1,5 @@
 -- What a text is read as is what the text is, and it is one thing.
-use Rattle.std.proofs.Common.{◌≡◌, ◌≢◌, ℕ, List, [], ◌∷◌, ◌++◌, map, length, refl, sym, ap, ◌∙◌, subst, arith, Option, Some, None, Result, Ok, Err}
+use Rattle.std.proofs.Common.{◌≡◌, ◌≢◌, ℕ, List, [], ◌∷◌, map, length, refl, sym, ap, ◌∙◌, subst, arith, Option, Some, None, Result, Ok, Err}
 use Rattle.std.specs.Str.{chars}
 use Rattle.qvt_base.specs.declared.numbers.Place.{Place}
 use Rattle.qvt_grammar.specs.Reader.{At, Answer}
@@ -10,10 +10,11 @@ use Rattle.qvt_tree_types.specs.Module.{ModuleTerm}
 use Rattle.qvt_language.specs.Tokens.{Tok, place_of}
 use Rattle.qvt_language.specs.Nesting.{nested_at}
 use Rattle.qvt_language.specs.ReadingUnits.{transformation_at}
-use Rattle.qvt_language.specs.Module.{Reads, IsFault, with_end}
+use Rattle.qvt_language.specs.Module.{with_end}
+use Rattle.qvt_language_rows.specs.Language.{Reads, IsFault}
 use Rattle.qvt_language.specs.Readers.{nowhere}
 use Rattle.qvt_parsed.proofs.Ends.{read_nowhere, same_tree}
-use Rattle.qvt_language.proofs.Whole.{answer_reads, answer_rest, answer_fault, one_tree, one_fault}
+use Rattle.qvt_language_rows.proofs.Answers.{answer_reads, answer_rest, answer_fault, one_tree, one_fault}
 use Rattle.qvt_parser_tokens.specs.Depth.{deep}
 use Rattle.qvt_parser_tokens.specs.Said.{said}
 use Rattle.qvt_parser_tokens.specs.Text.{HasTokens, HasLexFault}

@@ -5,7 +5,8 @@ use Rattle.qvt_tree_types.specs.Module.{ModuleTerm, module_view}
 use Rattle.qvt_tree_types.specs.declared.module.Module.{Module}
 use Rattle.qvt_language.specs.Tokens.{Tok, place_of}
 use Rattle.qvt_language.specs.Readers.{nowhere}
-use Rattle.qvt_language.specs.Module.{Reads, IsFault, with_end}
+use Rattle.qvt_language.specs.Module.{with_end}
+use Rattle.qvt_language_rows.specs.Language.{Reads, IsFault}
 use Rattle.qvt_parser_tokens.specs.Depth.{deep}
 use Rattle.qvt_parser_tokens.specs.Text.{HasTokens, HasLexFault}
 use Rattle.qvt_parser_tokens.specs.declared.text.TextFault.{TextFault}

@@ -5,7 +5,7 @@ use Rattle.qvt_base.specs.declared.numbers.Place.{Place}
 use Rattle.qvt_tree_types.specs.Module.{ModuleTerm}
 use Rattle.qvt_language.specs.Tokens.{Tok}
 use Rattle.qvt_language.specs.Same.{SameTokens}
-use Rattle.qvt_language.specs.Module.{Reads}
+use Rattle.qvt_language_rows.specs.Language.{Reads}
 use Rattle.qvt_parser_tokens.specs.Text.{HasTokens}
 use Rattle.qvt_parsed.specs.Parsing.{HasSyntaxFault}
 

@@ -1,12 +1,13 @@
 -- What the answer for a text's tokens says of the text.
-use Rattle.std.proofs.Common.{◌≡◌, ◌≢◌, ℕ, List, refl, sym, ap, ◌∙◌, subst, Option, Some, None, Result, Ok, Err, IfOk, IfErr}
+use Rattle.std.proofs.Common.{◌≡◌, ◌≢◌, ℕ, List, refl, sym, ap, ◌∙◌, subst, Some, None, Result, Ok, Err, IfOk, IfErr}
 use Rattle.std.specs.Result.{IsErrAnd}
 use Rattle.qvt_base.specs.declared.numbers.Place.{Place}
 use Rattle.qvt_lexer.specs.declared.token.LexFault.{LexFault}
 use Rattle.qvt_tree_types.specs.Module.{ModuleTerm, module_view}
 use Rattle.qvt_tree_types.specs.declared.module.Module.{Module}
 use Rattle.qvt_language.specs.Tokens.{Tok}
-use Rattle.qvt_language.specs.Module.{Reads, IsFault, with_end}
+use Rattle.qvt_language.specs.Module.{with_end}
+use Rattle.qvt_language_rows.specs.Language.{Reads}
 use Rattle.qvt_language.specs.Readers.{nowhere}
 use Rattle.qvt_parsed.proofs.Ends.{same_tree}
 use Rattle.qvt_parser_tokens.specs.Depth.{deep}

@@ -1,15 +1,16 @@
 ghost use Rattle.std.specs.Prelude.{◌≡◌, ◌≢◌, ◌+◌, ◌<◌, ◌^◌, length, Ok, Err, IfOk, IfErr};
 ghost use Rattle.qvt_tree_types.specs.Module.{ModuleTerm, module_view};
 ghost use Rattle.qvt_language.specs.Tokens.{toks_of};
-ghost use Rattle.qvt_language.specs.Module.{Reads, with_end};
+ghost use Rattle.qvt_language.specs.Module.{with_end};
 ghost use Rattle.qvt_language.specs.Readers.{nowhere};
+ghost use Rattle.qvt_language_rows.specs.Language.{Reads};
 ghost use Rattle.qvt_parsed.specs.Parsing.{IsTransformation, IsFaultOf, IsReadAs};
 ghost use Rattle.qvt_parsed.specs.Parsed.{parsed};
 ghost use Rattle.qvt_parsed.specs.declared.fault.ParseFault.TheVariants as faults;
 
 use qvt_base::numbers::Place;
-use qvt_language::laws::answers;
 use qvt_language::token::Token;
+use qvt_language_rows::law::answers;
 use qvt_parsed::fault::ParseFault;
 use qvt_parsed::law::parsing;
 use qvt_parser_grammar::cursor::{ParseError, Parser};

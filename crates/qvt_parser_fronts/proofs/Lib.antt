@@ -1,5 +1,1 @@
-pub mod Alike
-pub mod Exprs
-pub mod Stmts
-pub mod Units
 pub mod Whole

@@ -2,7 +2,7 @@ use Rattle.std.proofs.Common.{◌≡◌, ◌≤◌, length, refl, sym, ap, ◌�
 use Rattle.std.proofs.lemmas.List.{length-map}
 use Rattle.qvt_tree_types.specs.Module.{module_view}
 use Rattle.qvt_language.specs.Tokens.{tok_of, toks_of}
-use Rattle.qvt_language.specs.Module.{Reads}
+use Rattle.qvt_language_rows.specs.Language.{Reads}
 use Rattle.qvt_parser_grammar.specs.Gives.{toks}
 use Rattle.qvt_language.specs.Nesting.{nested_at}
 use Rattle.qvt_language.specs.ReadingUnits.{transformation_at}
