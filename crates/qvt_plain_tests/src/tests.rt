@@ -5,6 +5,7 @@ ghost use Rattle.std.specs.Prelude.{◌≡◌, None, IfOk};
 use qvt_base::numbers::ExprNo;
 use qvt_base::seq::Seq;
 use qvt_base::text::Text;
+use qvt_checks::conditions::are_named;
 use qvt_exec_plain::plain::eval_plain;
 use qvt_exec_plain::table::Expressions;
 use qvt_exec_plain::told::Told;
@@ -111,13 +112,23 @@ fn program_of(alloc: Global, expression: &str) -> Result<Program, Fail> {
     read(alloc, text.as_str())
 }
 
+/// A store without objects.
+fn store_of(alloc: Global, metas: &Metas) -> Result<Store, Fail> {
+    let extents = Seq::new(alloc);
+    if !are_named(metas, &extents) {
+        return Err(Fail::new("an extent without a name"));
+    }
+    match Store::new(alloc, metas, &extents) {
+        Ok(store) => Ok(store),
+        Err(_) => Err(Fail::new("no memory for the store")),
+    }
+}
+
 /// What the expression of this number gives.
 fn told_of(alloc: Global, expression: &str, number: u32) -> Result<Told, Fail> {
     let program = program_of(alloc, expression)?;
     let expressions = Expressions::new(alloc, &program)?;
-    let Ok(store) = Store::new(alloc, program.metas(), &Seq::new(alloc)) else {
-        return Err(Fail::new("no memory for the store"));
-    };
+    let store = store_of(alloc, program.metas())?;
     let mut vars = Seq::new(alloc);
     vars.push(Var {
         name: Text::from_str(alloc, "x")?,
