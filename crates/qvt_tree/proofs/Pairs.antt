@@ -1,6 +1,6 @@
 -- Two lists that are compared item by item.
-use Rattle.std.proofs.Common.{◌≡◌, ◌≢◌, ℕ, ◌+◌, ◌≤◌, ◌<◌, Bool, true, false, ◌&&◌, List, [], ◌∷◌, length, drop, get_or, map, refl, ap, ◌∙◌, arith}
-use Rattle.std.proofs.lemmas.List.{drop_more, drop_all}
+use Rattle.std.proofs.Common.{◌≡◌, ◌≢◌, ℕ, ◌+◌, ◌<◌, Bool, true, false, ◌&&◌, List, [], ◌∷◌, length, drop, get_or, map, refl, ap, ◌∙◌, arith}
+use Rattle.std.proofs.lemmas.List.{drop_more}
 use Rattle.std.specs.Cmp.Lexicographic.{pointwise}
 use Rattle.qvt_tree_types.specs.Tree.{ExprTerm, LinkTerm, ItemTerm, StepTerm, StmtTerm, ArmTerm}
 use Rattle.qvt_tree_types.specs.View.{exprs_of, links_of, items_of, steps_of, stmts_of, arms_of}
@@ -23,15 +23,9 @@ module _ {A B : Type 0} (test : B → B → Bool) (v : A → B) where
   pub each_more : (xs ys : List A) (i : ℕ) (d e : A) → i < length xs → i < length ys → each (drop i xs) (drop i ys) ≡ (test (v (get_or xs i d)) (v (get_or ys i e)) && each (drop (i + 1) xs) (drop (i + 1) ys))
   each_more xs ys i d e h k = (λ j. each (drop_more xs i d h j) (drop_more ys i e k j))
 
-  pub each_done : (xs ys : List A) (i : ℕ) → length xs ≤ i → length ys ≤ i → each (drop i xs) (drop i ys) ≡ true
-  each_done xs ys i h k = (λ j. each (drop_all i xs h j) (drop_all i ys k j))
-
   -- one more pair, equal or not
   pub each_step : (whole : Bool) (xs ys : List A) (i : ℕ) (d e : A) → whole ≡ each (drop i xs) (drop i ys) → i < length xs → i < length ys → test (v (get_or xs i d)) (v (get_or ys i e)) ≡ true → whole ≡ each (drop (i + 1) xs) (drop (i + 1) ys)
   each_step whole xs ys i d e w h k t = w ∙ each_more xs ys i d e h k ∙ ap (λ z. z && each (drop (i + 1) xs) (drop (i + 1) ys)) t
-
-  pub each_differs : (whole : Bool) (xs ys : List A) (i : ℕ) (d e : A) → whole ≡ each (drop i xs) (drop i ys) → i < length xs → i < length ys → test (v (get_or xs i d)) (v (get_or ys i e)) ≡ false → whole ≡ false
-  each_differs whole xs ys i d e w h k t = w ∙ each_more xs ys i d e h k ∙ ap (λ z. z && each (drop (i + 1) xs) (drop (i + 1) ys)) t
 
 pub exprs_each : (xs ys : List ExprTerm) → same_exprs (exprs_of xs) (exprs_of ys) ≡ pointwise same_expr xs ys
 exprs_each [] [] = refl
