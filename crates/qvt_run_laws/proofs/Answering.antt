@@ -113,7 +113,7 @@ answers_fit p f w well h =
 
 -- The entries of a run that has ended well.
 
-all_answered : (p : ProgramTerm) (f : Finish) → IsWellFormed f.store.metas → (ws : List LateWrite) → Every (IsFor f.store) ws → Every (CanBeWritten f.store) (map (answered p f) ws)
+pub all_answered : (p : ProgramTerm) (f : Finish) → IsWellFormed f.store.metas → (ws : List LateWrite) → Every (IsFor f.store) ws → Every (CanBeWritten f.store) (map (answered p f) ws)
 all_answered p f well [] h = tt
 all_answered p f well (w ∷ ws) h = (answers_fit p f w well h.0, all_answered p f well ws h.1)
 

@@ -9,3 +9,6 @@ pub mod Exact
 pub mod Every
 pub mod Fitting
 pub mod Answering
+pub mod Parting
+pub mod Moving
+pub mod Leaving

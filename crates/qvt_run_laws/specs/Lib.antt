@@ -1,3 +1,4 @@
 pub mod Fuel
 pub mod Records
 pub mod Entries
+pub mod Inputs

@@ -1,7 +1,8 @@
-//! Laws of whole runs: how the fuel bounds them, and which records they leave. Each function does nothing: its contract
-//! is the law.
+//! Laws of whole runs: how the fuel bounds them, which records they leave, that late entries fit, and that no input is
+//! changed. Each function does nothing: its contract is the law.
 #![tactic(auto)]
 
 pub mod entries;
 pub mod fuel;
+pub mod inputs;
 pub mod records;
