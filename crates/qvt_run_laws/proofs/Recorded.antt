@@ -162,4 +162,4 @@ one_is_left p store fuel f e left n m is o vs ls at s h v recorded more front =
     let d : Done LateWrite Begun = begun_by m o vs ls at s in
     subst (λ (rs : List Record). map (λ (r : Record). r.result) (records_of k rs) ≡ v ∷ []) (sym front)
     (result_stays d.1.trace more k v (with_result k v d.0 d.1.trace (one_is_written p fuel left n m is o vs ls at s h) recorded)
-        (subst (λ (rs : List Record). keys_differ rs ≡ true) front (one_record p store fuel f e)))
+    (subst (λ (rs : List Record). keys_differ rs ≡ true) front (one_record p store fuel f e)))

@@ -15,7 +15,7 @@ pub patch_all-requires : goal.patch_all-requires
 patch_all-requires c =
     subst (λ (xs : List Entry). All (CanBeWritten (contents_of c.args.state.store)) (map entry_view xs)) (sym c.as_slice.ensures)
     (all_fit (program_of c.args.a.now) (contents_of c.args.state.store) c.as_store.result.now c.args.state.trace c.replace-writes.result c.args.state.entries c.in_ok-entries.entries
-        c.answers_fit.ensures c.is_whole.ensures c.as_store.ensures c.replace-writes.ensures.value c.requires.entries c.in_ok-entries.ensures.0)
+    c.answers_fit.ensures c.is_whole.ensures c.as_store.ensures c.replace-writes.ensures.value c.requires.entries c.in_ok-entries.ensures.0)
 
 pub returns-in-Ok : goal.returns-in-Ok
 returns-in-Ok c =
