@@ -31,7 +31,7 @@ module _ (s : Contents) (es : List Entry) (i : ℕ) (e : Entry) (less : i < leng
   pub one_fits : All (CanBeWritten s) (map entry_view es) → CanBeWritten s (entry_view e)
   one_fits h =
       subst (CanBeWritten s) (get_or-map entry_view es i e (entry_view e) less ∙ ap entry_view (sym is))
-      (All-get_or (CanBeWritten s) (map entry_view es) i (entry_view e) (subst (λ n. i < n) (sym (length-map entry_view es)) less) h)
+      (All-get_or (CanBeWritten s) (map entry_view es) i (entry_view e) (subst (λ n. i < n) (sym (length-map es entry_view)) less) h)
 
   module _ (t : Contents) (done : run.written s (value_of e) ≡ Ok t) where
     -- once it is written the others can be, too

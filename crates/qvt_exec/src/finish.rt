@@ -42,7 +42,7 @@ impl Drop for Finished<'_> {
 /// any is written. A cost that 64 bits do not hold is told as want of memory.
 pub fn finish<'s>(a: &Answering<'_, '_>, state: RunState<'s>) -> Result<Finished<'s>, Stop>
     requires table { IsTable a.now.expressions.now }
-    requires entries { All (IsFor (contents_of state.entry.store)) state.entry.entries }
+    requires entries { All (IsFor (contents_of state.store)) state.entries }
     ensures { Finishes (contents_of state.entry.store) (after_requests (program_of a.now) a.now.fuel (seen state.entry)) result }
 {
     answers_fit();

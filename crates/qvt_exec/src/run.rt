@@ -83,7 +83,7 @@ fn behind_main<'s>(
     state: RunState<'s>,
 ) -> Result<Finished<'s>, Stop>
     requires table { IsTable a.now.expressions.now }
-    requires entries { IfOk (ending outcome.now) (λ _. All (IsFor (contents_of state.entry.store)) state.entry.entries) }
+    requires entries { IfOk (ending outcome.now) (λ _. All (IsFor (contents_of state.store)) state.entries) }
     ensures { (main : Done LateWrite (Unit {0})) → Runs main outcome.now state.entry → Comes (from_requests (program_of a.now) a.now.fuel main.0 main.1) result }
 {
     match ending(outcome) {
