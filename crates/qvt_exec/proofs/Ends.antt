@@ -1,16 +1,19 @@
 -- The end of a run, by what `main` gave.
 use Rattle.std.proofs.Common.{◌≡◌, ℕ, Result, Ok, Err, refl, sym, subst}
+use Rattle.std.specs.List.{All}
+use Rattle.std.specs.Result.{IfOk}
 use Rattle.qvt_run_data.specs.declared.exit.End.{End}
 use Rattle.qvt_run_data.specs.declared.exit.Exit.{Exit}
 use Rattle.qvt_run_data.specs.declared.exit.Exit.TheVariants.{Returned, Ends}
 use Rattle.qvt_run_data.specs.declared.exit.Halt.{Halt}
 use Rattle.qvt_run_data.specs.declared.exit.Halt.TheVariants.{Exits, NoMemory}
 use Rattle.qvt_run_data.specs.declared.late.LateWrite.{LateWrite}
-use Rattle.qvt_run_rules.specs.State.{Done}
+use Rattle.qvt_run_rules.specs.State.{State, Done}
 use Rattle.qvt_live_store.specs.Held.{contents_of}
 use Rattle.qvt_typing.specs.Accepts.{ProgramTerm}
 use Rattle.qvt_meaning.specs.Laws.{after_requests, from_requests}
 use Rattle.qvt_meaning.specs.Run as run
+use Rattle.qvt_run_laws.specs.Entries.{IsFor}
 use Rattle.qvt_exec_state.specs.Runs.{Runs, seen}
 use Rattle.qvt_exec_state.specs.declared.state.RunState.{RunState}
 use Rattle.qvt_exec.specs.Comes.{Comes, ending}
@@ -39,3 +42,13 @@ module _ (p : ProgramTerm) (fuel : ℕ) (z : RunState) (d : Done LateWrite (Unit
   stops (Err (Exits (Returned v))) s runs is = absurd (cc)
   stops (Err (Exits (Ends e))) s runs is = let same_end : stop.Ends e ≡ s = cc in subst (λ (t : Stop). Comes (from_requests p fuel d.0 d.1) (Err t)) same_end (by_end (Err (stop.Ends e)) (Err (Ends e)) runs refl)
   stops (Err NoMemory) s runs is = let same_end : stop.NoMemory ≡ s = cc in subst (λ (t : Stop). Comes (from_requests p fuel d.0 d.1) (Err t)) same_end (contents_of z.store, tt)
+
+-- where `main` does not end the run, what late assignments have kept fits as `main` left it
+abbrev Fit : State LateWrite → Type 0
+Fit s = All (IsFor s.store) s.entries
+
+pub fits : (z : RunState) (d : Done LateWrite (Unit {0})) (o : Result (Unit {0}) Halt) → Runs d o z → Fit d.1 → IfOk (ending o) (λ _. Fit (seen z))
+fits z d (Ok v) runs h = subst (λ (m : Done LateWrite (Unit {0})). Fit m.1) runs h
+fits z d (Err (Exits (Returned v))) runs h = subst (λ (m : Done LateWrite (Unit {0})). Fit m.1) runs h
+fits z d (Err (Exits (Ends e))) runs h = tt
+fits z d (Err NoMemory) runs h = tt

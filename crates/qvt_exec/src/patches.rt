@@ -1,11 +1,13 @@
 //! Late entries that are written into their slots (QVT 1.3, 8.1.10).
 
-ghost use Rattle.std.specs.Prelude.{◌≡◌, map, IfOk};
+ghost use Rattle.std.specs.Prelude.{◌≡◌, map, All, IfOk};
 ghost use Rattle.qvt_value.specs.declared.value.Value.{Obj};
 ghost use Rattle.qvt_run_rules.specs.Store.{fault_of};
 ghost use Rattle.qvt_slots.specs.Assign.{write};
 ghost use Rattle.qvt_slots.specs.Types.{IsAssignable};
 ghost use Rattle.qvt_live_store.specs.Held.{contents_of};
+ghost use Rattle.qvt_run_laws.specs.Entries.{CanBeWritten};
+ghost use Rattle.qvt_exec.specs.Entries.{entry_view};
 ghost use Rattle.qvt_exec.specs.Patches.{Patches, PatchesAll, Writes};
 
 use crate::entries::Entry;
@@ -13,7 +15,6 @@ use crate::stop::Stop;
 use qvt_base::list_fault::ListFault;
 use qvt_base::numbers::Oid;
 use qvt_base::seq::Seq;
-use qvt_exec_reads::fits::are_fit;
 use qvt_live_store::held::Held;
 use qvt_run_data::exit::End;
 use qvt_run_data::fault::RunFault;
@@ -59,27 +60,19 @@ fn write_fit(late: &LateWrite, values: &[Value], store: &mut Held<'_>) -> Result
     }
 }
 
-/// Writes the objects of an entry into its slot, in one change with one refusal. A run keeps entries for slots
-/// alone that are there and take the class that is looked for; any other is told as want of memory.
+/// Writes the objects of an entry into its slot, in one change with one refusal.
 fn patch(alloc: Global, entry: &Entry, store: &mut Held<'_>) -> Result<(), Stop>
+    requires { CanBeWritten (contents_of store.old) (entry_view entry.now) }
     ensures { Patches (contents_of store.old) entry.now result (contents_of store.new) }
 {
     let late = &entry.write;
     let values = values_of(alloc, entry.objects.as_slice())?;
-    if are_fit(
-        store.as_store(),
-        late.object,
-        late.feature,
-        values.as_slice(),
-    ) {
-        write_fit(late, values.as_slice(), store)
-    } else {
-        Err(Stop::NoMemory)
-    }
+    write_fit(late, values.as_slice(), store)
 }
 
 /// Writes all entries in order, up to the first that is refused.
 pub fn patch_all(alloc: Global, entries: &[Entry], store: &mut Held<'_>) -> Result<(), Stop>
+    requires { All (CanBeWritten (contents_of store.old)) (map entry_view entries.now) }
     ensures { PatchesAll (contents_of store.old) entries.now result (contents_of store.new) }
 {
     for entry in entries {

@@ -1,13 +1,16 @@
 //! A run of a program (QVT 1.3, 8.2.1.3 for `main`, 8.1.10 for what is late): `main`, outside all objects; then the
 //! answers of the late entries, then their changes.
 
-ghost use Rattle.std.specs.Prelude.{◌≡◌, None};
+ghost use Rattle.std.specs.Prelude.{◌≡◌, All, IfOk, IsTrue, None};
 ghost use Rattle.qvt_types_nodes.specs.View.{typed_block_view};
-ghost use Rattle.qvt_meaning.specs.Laws.{from_requests};
+ghost use Rattle.qvt_meaning.specs.Laws.{from_requests, keys_differ};
 ghost use Rattle.qvt_meaning.specs.Run.{finished};
 ghost use Rattle.qvt_meaning.specs.Units as of_units;
 ghost use Rattle.qvt_run_data.specs.declared.late.LateWrite.{LateWrite};
 ghost use Rattle.qvt_run_rules.specs.State.{Done};
+ghost use Rattle.qvt_live_store.specs.Held.{contents_of};
+ghost use Rattle.qvt_run_laws.specs.Entries.{IsFor};
+ghost use Rattle.qvt_run_laws.specs.Records.{HasOneForEach};
 ghost use Rattle.qvt_exec_state.specs.Runs.{Runs, seen};
 ghost use Rattle.qvt_exec_answers.specs.Table.{IsTable};
 ghost use Rattle.qvt_exec_answers.specs.Answering.{program_of};
@@ -26,6 +29,8 @@ use qvt_exec_state::state::RunState;
 use qvt_live_store::live::LiveStore;
 use qvt_meaning_laws::laws::one_pass;
 use qvt_run_data::exit::{Exit, Halt};
+use qvt_run_laws::entries::requests_fit;
+use qvt_run_laws::records::{one_is_left, one_record};
 use qvt_types_nodes::tree::TypedStmts;
 
 /// A block whose `return` gives any value, outside all calls.
@@ -71,13 +76,14 @@ fn ending(outcome: &Result<(), Halt>) -> Result<(), Stop>
     }
 }
 
-/// What comes of a run behind `main`.
+/// What comes of a run behind `main`, whose late assignments fit their slots.
 fn behind_main<'s>(
     a: &Answering<'_, '_>,
     outcome: &Result<(), Halt>,
     state: RunState<'s>,
 ) -> Result<Finished<'s>, Stop>
-    requires { IsTable a.now.expressions.now }
+    requires table { IsTable a.now.expressions.now }
+    requires entries { IfOk (ending outcome.now) (λ _. All (IsFor (contents_of state.store)) state.entries) }
     ensures { (main : Done LateWrite (Unit {0})) → Runs main outcome.now state.entry → Comes (from_requests (program_of a.now) a.now.fuel main.0 main.1) result }
 {
     match ending(outcome) {
@@ -86,13 +92,19 @@ fn behind_main<'s>(
     }
 }
 
-/// The run of a program over a loaded store: what it leaves, or what ends it. A cost that 64 bits do not hold is told
-/// as want of memory.
+/// The run of a program over a loaded store: what it leaves, or what ends it. Its trace has at most one record for each
+/// mapping, context and argument list, and exactly one where a call has come to the step that writes the record, or its
+/// init section returned with a result. A cost that 64 bits do not hold is told as want of memory.
 pub fn run<'s>(a: &Answering<'_, '_>, store: LiveStore) -> Result<Finished<'s>, Stop>
     requires { IsTable a.now.expressions.now }
-    ensures { Comes (finished (program_of a.now) store a.now.fuel) result }
+    ensures comes { Comes (finished (program_of a.now) store a.now.fuel) result }
+    ensures keys { IfOk result (λ f. IsTrue (keys_differ f.state.trace)) }
+    ensures records { IfOk result (λ f. HasOneForEach (program_of a.now) a.now.fuel f.state.trace) }
 {
     one_pass();
+    one_record();
+    one_is_left();
+    requests_fit();
     let mut state = RunState::of_run(a.alloc, store);
     let outcome = run_main(a, &mut state);
     behind_main(a, &outcome, state)

@@ -202,3 +202,15 @@ stays_by rs more k r (Some v) e d joined =
 pub one_stays : OneStays
 one_stays rs more k r d h =
     stays_by rs more k r (result_for k (rs ++ more)) refl d (filter-append (λ x. same_key (key_of x) k) rs more ∙ ap (λ xs. xs ++ records_of k more) h)
+
+-- so does its result
+single : (rs more : List Record) (k : Key) (v : Option Oid) (own : List Record) → records_of k rs ≡ own → results own ≡ v ∷ [] → keys_differ (rs ++ more) ≡ true → results (records_of k (rs ++ more)) ≡ v ∷ []
+single rs more k v [] is h d = absurd (cc)
+single rs more k v (r ∷ own) is h d =
+    let none : own ≡ [] = empty_list own (ap rest_of h) in
+    let same : r.result ≡ v = cc in
+    let one : records_of k (rs ++ more) ≡ r ∷ [] = one_stays rs more k r d (is ∙ ap (λ xs. r ∷ xs) none) in
+    ap results one ∙ (λ i. same i ∷ [])
+
+pub result_stays : (rs more : List Record) (k : Key) (v : Option Oid) → results (records_of k rs) ≡ v ∷ [] → keys_differ (rs ++ more) ≡ true → results (records_of k (rs ++ more)) ≡ v ∷ []
+result_stays rs more k v h d = single rs more k v (records_of k rs) refl h d

@@ -1,5 +1,5 @@
 -- The laws of the records of a run.
-use Rattle.std.proofs.Common.{◌≡◌, ◌∙◌, ℕ, Bool, true, false, refl, sym, subst, List, [], ◌++◌, map, Option, Some, None, Result, Ok, Err, if◌then◌else◌}
+use Rattle.std.proofs.Common.{◌≡◌, ◌∙◌, ℕ, Bool, true, false, refl, sym, subst, List, [], ◌∷◌, ◌++◌, map, Option, Some, None, Result, Ok, Err, if◌then◌else◌}
 use Rattle.qvt_base.specs.declared.numbers.Oid.{Oid}
 use Rattle.qvt_base.specs.declared.numbers.Place.{Place}
 use Rattle.qvt_slots.specs.Contents.{Contents}
@@ -12,7 +12,9 @@ use Rattle.qvt_run_data.specs.declared.exit.Exit.{Exit}
 use Rattle.qvt_run_data.specs.declared.exit.Exit.TheVariants.{Returned, Ends}
 use Rattle.qvt_run_data.specs.declared.late.LateWrite.{LateWrite}
 use Rattle.qvt_run_data.specs.declared.local.Local.{Local}
-use Rattle.qvt_run_rules.specs.State.{State, Does, on_outcome, ◌>>=◌, pure, caught}
+use Rattle.qvt_run_data.specs.declared.record.Key.{Key}
+use Rattle.qvt_run_data.specs.declared.record.Record.{Record}
+use Rattle.qvt_run_rules.specs.State.{State, Done, Does, on_outcome, ◌>>=◌, pure, caught}
 use Rattle.qvt_run_rules.specs.Locals.{result_name, begun, own_in, in_own, set}
 use Rattle.qvt_run_rules.specs.Mappings as of
 use Rattle.qvt_run_rules.specs.Mappings.{MappingRule, Making, Made, Known, Ended, New, Begun, key}
@@ -26,7 +28,8 @@ use Rattle.qvt_meaning_laws.proofs.Phrasing.{of_expr, of_stmts}
 use Rattle.qvt_meaning_laws.proofs.Making.{Mappings, begins}
 use Rattle.qvt_meaning_laws.proofs.Calls as call
 use Rattle.qvt_meaning_laws.proofs.Runs.{one_pass}
-use Rattle.qvt_run_laws.specs.Records.{IsKeyed, Keeps, rules, calls, CallsKeepRecords, ExpressionsKeepRecords, StatementsKeepRecords, RunsAreKeyed, OneIsWritten}
+use Rattle.qvt_run_laws.specs.Records.{IsKeyed, Keeps, rules, calls, CallsKeepRecords, ExpressionsKeepRecords, StatementsKeepRecords, RunsAreKeyed, records_of, IsRecorded, begun as begun_by, OneIsWritten, IsRecordedWith, OneIsLeft}
+use Rattle.qvt_run_laws.proofs.Keys.{result_stays}
 use Rattle.qvt_run_laws.proofs.Keeping.{Kept, IsMade, Fresh, once_records, keeps}
 
 -- nothing is asked of conditions of loops and bodies of closures
@@ -146,3 +149,17 @@ pub one_is_written : OneIsWritten
 one_is_written p fuel left n m is o vs ls at s h =
     let e : AlikeMappings p fuel left m m = there p fuel left m (subst (λ x. Held (AlikeMappings p fuel left) x x) is (all_mappings p fuel left n)) in
     once_records (key m.number o vs) at (of.first m ls) (first_keeps p fuel left m ls e) (first_makes m ls) s h
+
+-- In the trace that a run leaves.
+
+with_result : (k : Key) (v : Option Oid) (d : Result Begun Exit) (rs : List Record) → IsRecorded k d rs → IsRecordedWith v d → map (λ (r : Record). r.result) (records_of k rs) ≡ v ∷ []
+with_result k v (Ok x) rs w h = w ∙ h
+with_result k v (Err e) rs w h = absurd h
+
+pub one_is_left : OneIsLeft
+one_is_left p store fuel f e left n m is o vs ls at s h v recorded more front =
+    let k : Key = key m.number o vs in
+    let d : Done LateWrite Begun = begun_by m o vs ls at s in
+    subst (λ (rs : List Record). map (λ (r : Record). r.result) (records_of k rs) ≡ v ∷ []) (sym front)
+    (result_stays d.1.trace more k v (with_result k v d.0 d.1.trace (one_is_written p fuel left n m is o vs ls at s h) recorded)
+    (subst (λ (rs : List Record). keys_differ rs ≡ true) front (one_record p store fuel f e)))

@@ -23,7 +23,7 @@ use Rattle.qvt_run_rules.specs.Trace.{same_key, key_of, result_for, has_key}
 use Rattle.qvt_meaning.specs.Laws.{keys_differ, request_run}
 use Rattle.qvt_meaning.specs.Phrases.{expr, stmts}
 use Rattle.qvt_meaning.specs.Readings.{Setting}
-use Rattle.qvt_meaning.specs.Run.{setting}
+use Rattle.qvt_meaning.specs.Run.{Finished, finished, setting}
 use Rattle.qvt_meaning.specs.Units.{calls_to, mapping_at}
 
 -- the records of a key
@@ -91,3 +91,19 @@ OneIsWritten = (p : ProgramTerm) (fuel left n : ℕ) (m : MappingRule LateWrite)
 -- a key that has one record has it, and no other, in every later trace
 abbrev pub OneStays : Type 0
 OneStays = (rs more : List Record) (k : Key) (r : Record) → IsTrue (keys_differ (rs ++ more)) → records_of k rs ≡ r ∷ [] → records_of k (rs ++ more) ≡ r ∷ []
+
+-- where a call has a record: with this result
+abbrev pub IsRecordedWith : Option Oid → Result Begun Exit → Type 0
+IsRecordedWith r (Ok x) = recorded x.0 ≡ r ∷ []
+IsRecordedWith r (Err e) = ⊥
+
+-- a trace that goes on behind such a call has exactly one record of its key, with its result
+abbrev pub HasOneForEach : ProgramTerm → ℕ → List Record → Type 0
+HasOneForEach p fuel trace = (left n : ℕ) (m : MappingRule LateWrite) → mapping_at (rules p fuel) (calls p fuel left) n ≡ Some m
+    → (o : Option Oid) (vs : List Value) (ls : List Local) (at : Place) (s : State LateWrite) → IsKeyed s
+    → (result : Option Oid) → IsRecordedWith result (begun m o vs ls at s).0 → (more : List Record) → trace ≡ (begun m o vs ls at s).1.trace ++ more
+    → map (λ (r : Record). r.result) (records_of (key m.number o vs) trace) ≡ result ∷ []
+
+-- so does the trace of a run that has ended well
+abbrev pub OneIsLeft : Type 0
+OneIsLeft = (p : ProgramTerm) (store : Contents) (fuel : ℕ) (f : Finished) → finished p store fuel ≡ Ok f → HasOneForEach p fuel f.finish.trace

@@ -1,7 +1,7 @@
 //! The laws of the records of a run. Each function does nothing: its contract is the law.
 
 ghost use Rattle.qvt_meaning.specs.Laws.{OneRecord};
-ghost use Rattle.qvt_run_laws.specs.Records.{CallsKeepRecords, ExpressionsKeepRecords, OneIsWritten, OneStays, RunsAreKeyed, StatementsKeepRecords};
+ghost use Rattle.qvt_run_laws.specs.Records.{CallsKeepRecords, ExpressionsKeepRecords, OneIsLeft, OneIsWritten, OneStays, RunsAreKeyed, StatementsKeepRecords};
 
 /// A run that ends well leaves at most one record for each mapping, context and argument list.
 pub fn one_record()
@@ -37,4 +37,10 @@ pub fn one_is_written()
 /// The one record of a key stays the only one.
 pub fn one_stays()
     ensures { OneStays }
+{}
+
+/// So a run that ends well leaves exactly one record of each key whose call has come to the step that writes the record,
+/// or whose init section returned with a result.
+pub fn one_is_left()
+    ensures { OneIsLeft }
 {}

@@ -1,11 +1,21 @@
-use Rattle.std.proofs.Common.{List, Ok, Err, refl, subst}
+use Rattle.std.proofs.Common.{List, Ok, Err, map, refl, subst, sym}
+use Rattle.std.specs.List.{All}
 use Rattle.qvt_live_store.specs.Held.{contents_of}
 use Rattle.qvt_exec_state.specs.Runs.{seen}
 use Rattle.qvt_exec_answers.specs.Answering.{program_of}
+use Rattle.qvt_run_laws.specs.Entries.{CanBeWritten}
+use Rattle.qvt_exec.specs.Entries.{entry_view}
 use Rattle.qvt_exec.specs.Patches.{PatchesAll}
 use Rattle.qvt_exec.specs.declared.entries.Entry.{Entry}
 use Rattle.qvt_exec.proofs.Ending.{as_told, broken_off, carried, stopped}
+use Rattle.qvt_exec.proofs.Writing.{all_fit}
 use Rattle.qvt_exec.proofs.finish.finish.Goals as goal
+
+pub patch_all-requires : goal.patch_all-requires
+patch_all-requires c =
+    subst (λ (xs : List Entry). All (CanBeWritten (contents_of c.args.state.store)) (map entry_view xs)) (sym c.as_slice.ensures)
+    (all_fit (program_of c.args.a.now) (contents_of c.args.state.store) c.as_store.result.now c.args.state.trace c.replace-writes.result c.args.state.entries c.in_ok-entries.entries
+    c.answers_fit.ensures c.is_whole.ensures c.as_store.ensures c.replace-writes.ensures.value c.requires.entries c.in_ok-entries.ensures.0)
 
 pub returns-in-Ok : goal.returns-in-Ok
 returns-in-Ok c =
