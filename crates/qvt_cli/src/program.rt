@@ -7,6 +7,8 @@ ghost use Rattle.qvt_outcome.specs.Follows.{Follows};
 ghost use Rattle.qvt_outcome.specs.Plans.{outcome_of, IsReady};
 ghost use Rattle.qvt_outcome.specs.Steps.{Gives, IfFaultOf};
 ghost use Rattle.qvt_program_inputs.specs.Start.{CanLoad};
+ghost use Rattle.qvt_meaning.specs.Run.{finished};
+ghost use Rattle.qvt_outputs.specs.Conforming.{LeavesConforming};
 ghost use Rattle.qvt_cli.specs.Ends.{left_over};
 ghost use Rattle.qvt_cli.specs.Run.{performed};
 
@@ -24,12 +26,14 @@ use qvt_program_inputs::start::read_program_inputs;
 use qvt_types_program::program::Program;
 use std::alloc::Global;
 
-/// Runs a program over its loaded inputs with the job's fuel, and makes every byte that is to be written.
+/// Runs a program over its loaded inputs with the job's fuel, and makes every byte that is to be written. Every model among it conforms
+/// to its metamodel.
 fn run_loaded(alloc: Global, job: &Job, program: &Program, loaded: Loaded) -> Result<Plan, Stop>
     requires { Sound loaded.store }
     ensures gives { Gives outcome_of result (left_over job.now (program_view program.now) loaded.ids loaded.store) }
     ensures ready { IfOk result (λ p. IsReady p.outputs) }
     ensures no_reads { IfFaultOf result (λ file. ⊥) }
+    ensures conform { IfOk result (λ plan. LeavesConforming (finished (program_view program.now) loaded.store job.now.fuel) job.now.outputs) }
 {
     let (store, ids) = loaded.into_parts();
     let expressions = Expressions::new(alloc, program)?;
