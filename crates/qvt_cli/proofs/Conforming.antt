@@ -16,7 +16,7 @@ use Rattle.qvt_outcome.proofs.Ended.{Finished}
 
 pub chained_conforms : {X A : Type 0} (view : X → A) (c : Chain A) (P : A → Held → Type 0) (plan : Result Plan Stop) (old mid : FilesSeen) (x : X) → Follows view c old (Ok x) mid
     → ((held : Held) → mid.held ≡ Some held → IfOk plan (λ _. P (view x) held)) → (held : Held) → old.held ≡ Some held → IfOk plan (λ _. IfOk (c held).answer (λ a. P a held))
-chained_conforms view c P (Ok plan) old mid x f h held is = subst (λ (r : Result _ Outcome). IfOk r (λ a. P a held)) (sym (f.gives held is)) (h held (f.held ∙ is))
+chained_conforms {A = A} view c P (Ok plan) old mid x f h held is = subst (λ (r : Result A Outcome). IfOk r (λ a. P a held)) (sym (f.gives held is)) (h held (f.held ∙ is))
 chained_conforms view c P (Err e) old mid x f h held is = tt
 
 not_done : (e : Stop) → stop_status e ≢ status.Done

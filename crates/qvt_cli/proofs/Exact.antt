@@ -24,7 +24,7 @@ use Rattle.qvt_program_inputs.specs.Start.{program_inputs}
 use Rattle.qvt_run_laws.proofs.Exact.{done_is_exact}
 use Rattle.qvt_run_laws.proofs.Recorded.{one_record}
 use Rattle.qvt_cli.specs.Ends.{left_over}
-use Rattle.qvt_cli.specs.Exact.{MeaningIsExact, with_fuel, ends_with, IsDone, DoneIsExact}
+use Rattle.qvt_cli.specs.Exact.{MeaningIsExact, with_fuel, IsDone, JobIsExact}
 use Rattle.qvt_cli.specs.Metas.{metamodels_read}
 use Rattle.qvt_cli.specs.Run.{program_in, text_in, text_read, performed, after_metas, after_job}
 
@@ -88,8 +88,8 @@ module _ (job : Job) (files : List File) (line : List ℕ) where
           run = f;
           written = w.0;
           told = w.1;
-          keys = keyed_run p store job.fuel f is;
-          fuel = λ n. ap (left (with_fuel job n) p ids) (meaning_is_exact p store job.fuel n f is) ∙ left_by (nat_lt n f.cost) n f w.0 w.1;
+          one_record = keyed_run p store job.fuel f is;
+          exact = λ n. ap (left (with_fuel job n) p ids) (meaning_is_exact p store job.fuel n f is) ∙ left_by (nat_lt n f.cost) n f w.0 w.1;
         }
 
   performs : (p : ProgramTerm) (held : Held) → Follows (performed job p held).answer (λ n. (performed (with_fuel job n) p held).answer)
@@ -116,14 +116,13 @@ module _ (job : Job) (files : List File) (line : List ℕ) where
         run = w.run;
         written = w.written;
         told = w.told;
-        keys = w.keys;
-        fuel = λ n. ap (λ (r : Reading ProgramTerm). (on_ok r.answer (λ p. performed (with_fuel job n) p held)).answer) (same_text name n metas held) ∙ w.fuel n;
+        one_record = w.one_record;
+        exact = λ n. ap (λ (r : Reading ProgramTerm). (on_ok r.answer (λ p. performed (with_fuel job n) p held)).answer) (same_text name n metas held) ∙ w.exact n;
       }
 
   after_all : (name : List ℕ) (held : Held) → Follows (after_job name job held).answer (λ n. (after_job name (with_fuel job n) held).answer)
   unfolding after_job
   after_all name held = behind_step (metamodels_read job.metamodels held).answer (λ metas. after_metas name job metas held) (λ n metas. after_metas name (with_fuel job n) metas held) (λ metas. after_text name metas held)
 
-pub job_is_exact : DoneIsExact
-unfolding ends_with
+pub job_is_exact : JobIsExact
 job_is_exact name job held files line e = after_all job files line name held e

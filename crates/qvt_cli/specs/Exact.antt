@@ -14,28 +14,26 @@ use Rattle.qvt_outcome.specs.Outcome.{Outcome, File, out_of_fuel, done}
 use Rattle.qvt_outputs.specs.Left.{files_left}
 use Rattle.qvt_cli.specs.Run.{after_job}
 
--- Where a program is done with a fuel, with every other fuel it is done just so, or out of fuel where its cost is above that.
+-- A program that is done with a fuel is done just so with every fuel that its cost is not above, and out of fuel with every other.
 abbrev pub MeaningIsExact : Type 0
 MeaningIsExact = (p : ProgramTerm) (store : Contents) (fuel n : ℕ) (f : Finished) → meaning p store fuel ≡ means.Done f → meaning p store n ≡ (if nat_lt n f.cost then means.OutOfFuel else means.Done f)
 
 abbrev pub with_fuel : Job → ℕ → Job
 with_fuel job n = record job { fuel = n }
 
--- what a job comes to over the bytes that the files hold
-unfoldable pub ends_with : List ℕ → Job → Held → Result Outcome Outcome
-ends_with name job held = (after_job name job held).answer
-
--- The run behind these files and this line, where a job comes to this with each fuel: the files are those of its models and its trace, the
--- line tells its cost, no two records of its trace have one key; and with n for its fuel the job is done with the same files and the same
--- line, or out of fuel where n is under the cost.
-pub record IsDone (job : Job) (files : List File) (line : List ℕ) (ends : ℕ → Result Outcome Outcome) : Type 0 where
+-- The run behind the files and the line of a job that is done, where `answer` tells how the job ends with each fuel. The files are those of
+-- its models and its trace, the line tells its cost, and no two records of its trace have one key. With n for its fuel the job is done with
+-- the same files and the same line, or out of fuel where n is under the cost.
+pub record IsDone (job : Job) (files : List File) (line : List ℕ) (answer : ℕ → Result Outcome Outcome) : Type 0 where
   pub program : ProgramTerm
   pub ids : List (Option (List ℕ))
   pub run : Finished
   pub written : files ≡ files_left job program ids run
   pub told : line ≡ done_line run
-  pub keys : IsTrue (keys_differ run.finish.trace)
-  pub fuel : (n : ℕ) → ends n ≡ (if nat_lt n run.cost then Err (out_of_fuel n) else Ok (done files line))
+  pub one_record : IsTrue (keys_differ run.finish.trace)
+  pub exact : (n : ℕ) → answer n ≡ (if nat_lt n run.cost then Err (out_of_fuel n) else Ok (done files line))
 
-abbrev pub DoneIsExact : Type 0
-DoneIsExact = (name : List ℕ) (job : Job) (held : Held) (files : List File) (line : List ℕ) → ends_with name job held ≡ Ok (done files line) → IsDone job files line (λ n. ends_with name (with_fuel job n) held)
+-- over the bytes that the files hold, once the job is read
+abbrev pub JobIsExact : Type 0
+JobIsExact = (name : List ℕ) (job : Job) (held : Held) (files : List File) (line : List ℕ) → (after_job name job held).answer ≡ Ok (done files line)
+    → IsDone job files line (λ n. (after_job name (with_fuel job n) held).answer)
