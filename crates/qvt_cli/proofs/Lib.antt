@@ -2,3 +2,5 @@ pub mod Faults
 pub mod Sources
 mod Typings
 pub mod Ending
+pub mod Conforming
+pub mod Exact

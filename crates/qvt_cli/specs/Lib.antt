@@ -9,3 +9,5 @@ pub mod Words
 pub mod Work
 pub mod Ends
 pub mod Entries
+pub mod Conforming
+pub mod Exact

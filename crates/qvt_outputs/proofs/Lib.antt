@@ -1,3 +1,4 @@
 pub mod Bounded
+pub mod Conforms
 pub mod Filed
 pub mod Meant

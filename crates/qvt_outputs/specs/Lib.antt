@@ -1,3 +1,4 @@
 pub mod Left
 pub mod RunEnd
 pub mod Laws
+pub mod Conforming

@@ -10,6 +10,8 @@ ghost use Rattle.qvt_outcome.specs.Plans.{IsReady, files_in, outcome_of};
 ghost use Rattle.qvt_outcome.specs.Steps.{Gives, IfFaultOf, IsFaultWith, Stops};
 ghost use Rattle.qvt_store.specs.Sound.{Sound};
 ghost use Rattle.qvt_types_program.specs.Program.{program_view};
+ghost use Rattle.std.specs.List.{AllByRecursion};
+ghost use Rattle.qvt_outputs.specs.Conforming.{AreConforming, IsOutput};
 ghost use Rattle.qvt_outputs.specs.Left.{files_left, left};
 ghost use Rattle.qvt_outputs.specs.RunEnd.{IsEnd};
 
@@ -21,11 +23,13 @@ use qvt_base::list_fault::ListFault;
 use qvt_base::seq::Seq;
 use qvt_job::job::Job;
 use qvt_model::id_table::IdTable;
+use qvt_model::laws::extent_is_read;
 use qvt_outcome::plan::{Output, Plan};
 use qvt_outcome::stop::Stop;
 use qvt_report::lines::{done_line, end_line};
 use qvt_run_data::exit::End;
 use qvt_types_program::program::Program;
+use qvt_written::laws::written_conforms;
 use std::alloc::Global;
 
 /// The files of the job's outputs, and that of the trace.
@@ -39,6 +43,7 @@ fn outputs_of(
     requires { Sound end.now.store.now }
     ensures files { IfOk result (λ outputs. (f : Finished) → IsEnd f end.now → files_in outputs ≡ files_left job.now (program_view program.now) ids.now f) }
     ensures ready { IfOk result (λ outputs. IsReady outputs) }
+    ensures there { IfOk result (λ outputs. AllByRecursion (λ o. IsOutput end.now.store.now o.model) job.now.outputs) }
 {
     let mut outputs = model_outputs(alloc, end.store, job.outputs.as_slice())?;
     put_trace(alloc, &mut outputs, &job.trace, program, ids, end)?;
@@ -56,6 +61,7 @@ fn plan_of(
     requires { Sound end.now.store.now }
     ensures done { IfOk result (λ plan. (f : Finished) → IsEnd f end.now → outcome_of plan ≡ done (files_left job.now (program_view program.now) ids.now f) (lines.done_line f)) }
     ensures ready { IfOk result (λ plan. IsReady plan.outputs) }
+    ensures there { IfOk result (λ plan. AllByRecursion (λ o. IsOutput end.now.store.now o.model) job.now.outputs) }
 {
     let outputs = outputs_of(alloc, job, program, ids, end)?;
     let line = done_line(
@@ -68,7 +74,8 @@ fn plan_of(
     Ok(Plan { outputs, line })
 }
 
-/// What a run leaves that has ended well: all that is to be written, or the first slot under its lower bound.
+/// What a run leaves that has ended well: all that is to be written, or the first slot under its lower bound. Every model that
+/// is written conforms to its metamodel.
 pub fn left_by(
     alloc: Global,
     job: &Job,
@@ -80,7 +87,11 @@ pub fn left_by(
     ensures gives { (f : Finished) → IsEnd f end.now → Gives outcome_of result (left job.now (program_view program.now) ids.now (meaning.outcome_of (Ok f))) }
     ensures ready { IfOk result (λ plan. IsReady plan.outputs) }
     ensures no_reads { IfFaultOf result (λ file. ⊥) }
+    ensures conform { IfOk result (λ plan. AreConforming end.now.store.now job.now.outputs) }
 {
+    written_conforms();
+    extent_is_read();
+    end.store.is_whole();
     match within_bounds(alloc, end.store, ids) {
         Err(stop) => Err(stop),
         Ok(()) => {

@@ -5,7 +5,9 @@ ghost use Rattle.std.specs.Str.{bytes_eq};
 ghost use Rattle.qvt_outcome.specs.Outcome.{write_fault_line};
 ghost use Rattle.qvt_outcome.specs.Plans.{IsReady, file_of, files_in};
 ghost use Rattle.qvt_store.specs.Sound.{Sound};
+ghost use Rattle.std.specs.List.{AllByRecursion};
 ghost use Rattle.qvt_outputs.specs.Left.{extent_named, model_file, text_in};
+ghost use Rattle.qvt_outputs.specs.Conforming.{IsOutput};
 
 use crate::output::output_of;
 use qvt_base::list_fault::ListFault;
@@ -30,9 +32,11 @@ fn extent_named(extents: &[Extent], name: &str) -> Option<usize>
 
 /// The text of the model of this name. A job whose models are those of the program names models alone that are written;
 /// any other is told as want of memory.
+#[tactic(auto, using(crate::proofs::Conforms::is_output))]
 fn model_bytes(alloc: Global, store: &Store, name: &str) -> Result<Bytes, ListFault>
     requires { Sound store.now }
-    ensures { IfOk result (λ bytes. bytes ≡ text_in store.now (extent_named store.now name.now)) }
+    ensures text { IfOk result (λ bytes. bytes ≡ text_in store.now (extent_named store.now name.now)) }
+    ensures there { IfOk result (λ bytes. IsOutput store.now name.now) }
 {
     let extents = store.extents().as_slice();
     let Some(place) = extent_named(extents, name) else {
@@ -55,6 +59,7 @@ fn model_output(alloc: Global, store: &Store, model: &JobModel) -> Result<Output
     requires { Sound store.now }
     ensures file { IfOk result (λ o. file_of o ≡ model_file store.now model.now) }
     ensures ready { IfOk result (λ o. o.fault_line ≡ write_fault_line o.file) }
+    ensures there { IfOk result (λ o. IsOutput store.now model.now.model) }
 {
     let bytes = model_bytes(alloc, store, model.model.as_str())?;
     output_of(alloc, &model.file, bytes)
@@ -69,6 +74,7 @@ pub fn model_outputs(
     requires { Sound store.now }
     ensures files { IfOk result (λ outputs. files_in outputs ≡ map (model_file store.now) models.now) }
     ensures ready { IfOk result (λ outputs. IsReady outputs) }
+    ensures there { IfOk result (λ outputs. AllByRecursion (λ o. IsOutput store.now o.model) models.now) }
 {
     let mut outputs = Seq::new(alloc);
     for model in models {
