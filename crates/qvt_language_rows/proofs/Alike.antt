@@ -1,28 +1,51 @@
 -- No row looks at places: the same tokens are the same rows wherever they stand.
-use Rattle.std.proofs.Common.{◌≡◌, List, [], ◌∷◌, ◌++◌, map, IsTrue, inl, inr, refl, sym, ap, ◌∙◌, subst, eqb-true}
+use Rattle.std.proofs.Common.{◌≡◌, List, [], ◌∷◌, ◌++◌, map, IsTrue, inl, inr, refl, sym, ap, ◌∙◌, subst, Option, Some, None}
+use Rattle.qvt_base.specs.declared.numbers.Place.{Place}
 use Rattle.qvt_grammar.specs.Language.{head_of}
 use Rattle.qvt_grammar.specs.Reader.{starts}
-use Rattle.qvt_base.specs.declared.numbers.Place.{Place}
-use Rattle.qvt_language.specs.Tokens.{Tok, is, code_of}
+use Rattle.qvt_language.specs.Tokens.{Tok, is}
 use Rattle.qvt_language.specs.Same.{unplaced, SameTokens}
 use Rattle.qvt_language.specs.Readers.{nowhere}
 use Rattle.qvt_language.specs.Units.{is_strictness}
 use Rattle.qvt_tree_types.specs.Module.{UnitTerm, ModuleTerm}
-use Rattle.qvt_language.specs.UnitTrees.{Clause, InheritsClause, MergesClause, DisjunctsClause, WhenClause}
+use Rattle.qvt_language.specs.UnitTrees.{Clause}
 use Rattle.qvt_language.specs.declared.class.Class.{Class}
 use Rattle.qvt_language.specs.declared.class.Class.TheVariants as class
-use Rattle.qvt_language_rows.specs.Phrase.{Phrase, ◌or◌, ◌gives◌, ◌then◌, the, many, placed, barring, such_that}
+use Rattle.qvt_language_rows.specs.Phrase.{Phrase, ◌or◌, ◌gives◌, ◌then◌, the, many, maybe, placed, commas, listed, or_none, barring, such_that}
 use Rattle.qvt_language_rows.specs.Values.{kind_of, IsOther, AreOnce}
-use Rattle.qvt_language_rows.specs.Rows.{Inside}
-use Rattle.qvt_language_rows.specs.Units.{Extra, «Unit», Module}
+use Rattle.qvt_language_rows.specs.Units.{«Unit», Module}
 use Rattle.qvt_language_rows.specs.Language.{Is}
-use Rattle.qvt_language_rows.proofs.Every.{IsKept, every_unit, every_module}
+use Rattle.qvt_language_rows.proofs.Every.{any_of, Forms, Said, Makers, every_unit, every_module}
 
-abbrev pub Alike : (A : Type 0) → Phrase A → Type 0
-Alike A p = (ts us : List Tok) (a : A) → SameTokens ts us → p ts a → (b : A) × p us b
+-- the same tokens are read as a value that is so related
+record Alike (A : Type 0) (R : A → A → Type 0) (p : Phrase A) : Type 0 where
+  all : (ts us : List Tok) (a : A) → SameTokens ts us → p ts a → (b : A) × p us b × R a b
+
+abbrev Relation : Type 0 → Type 1
+Relation A = A → A → Type 0
+
+abbrev Both : {A B : Type 0} → Relation A → Relation B → Relation (A × B)
+Both R S a b = R a.0 b.0 × S a.1 b.1
+
+-- one by one
+abbrev Each : {A : Type 0} → Relation A → Relation (List A)
+Each R [] [] = Prim.Unit {0}
+Each R (a ∷ all) (b ∷ more) = R a b × Each R all more
+Each R all more = ⊥
+
+abbrev IfThere : {A : Type 0} → Relation A → Relation (Option A)
+IfThere R None None = Prim.Unit {0}
+IfThere R (Some a) (Some b) = R a b
+IfThere R a b = ⊥
+
+abbrev Makes : {A B : Type 0} → Relation A → Relation B → (A → B) → Type 0
+Makes {A} R S f = (a b : A) → R a b → S (f a) (f b)
+
+abbrev SameToken : Relation Tok
+SameToken t s = unplaced t ≡ unplaced s
 
 -- the same tokens are cut alike
-pub cut : (u v us : List Tok) → SameTokens (u ++ v) us → (x : List Tok) × (y : List Tok) × (us ≡ x ++ y) × SameTokens u x × SameTokens v y
+cut : (u v us : List Tok) → SameTokens (u ++ v) us → (x : List Tok) × (y : List Tok) × (us ≡ x ++ y) × SameTokens u x × SameTokens v y
 cut [] v us e = ([], us, refl, refl, e)
 cut (t ∷ u) v [] e = absurd cc
 cut (t ∷ u) v (s ∷ us) e =
@@ -49,9 +72,6 @@ one_left t (s ∷ x ∷ us) e = absurd cc
 one_too : (ts us : List Tok) (t : Tok) → SameTokens ts us → ts ≡ t ∷ [] → (s : Tok) × (us ≡ s ∷ []) × (unplaced t ≡ unplaced s)
 one_too ts us t e d = one_left t us (ap (map unplaced) (sym d) ∙ e)
 
-same_class : (t s : Tok) → unplaced t ≡ unplaced s → t.class ≡ s.class
-same_class t s e = ap (λ z. z.class) e
-
 same_is : (c : Class) (t s : Tok) → unplaced t ≡ unplaced s → is c t ≡ is c s
 same_is c t s e = ap (λ z. is c z) e
 
@@ -64,113 +84,292 @@ same_starts c [] (s ∷ us) e = absurd cc
 same_starts c (t ∷ ts) [] e = absurd cc
 same_starts c (t ∷ ts) (s ∷ us) e = let head : unplaced t ≡ unplaced s = cc in same_is c t s head
 
-alike_the : (c : Class) → Alike Tok (the c)
-alike_the c ts us t e rd = let w = one_too ts us t e rd.0 in (w.0, (w.1, subst IsTrue (same_is c t w.0 w.2) rd.1))
+chosen : (cs : List Class) (ts us : List Tok) (t : Tok) → SameTokens ts us → any_of cs ts t → (s : Tok) × any_of cs us s × SameToken t s
+chosen [] ts us t e rd = absurd rd
+chosen (c ∷ []) ts us t e rd = let w = one_too ts us t e rd.0 in (w.0, (w.1, subst IsTrue (same_is c t w.0 w.2) rd.1), w.2)
+chosen (c ∷ d ∷ cs) ts us t e (inl rd) = let w = one_too ts us t e rd.0 in (w.0, inl (w.1, subst IsTrue (same_is c t w.0 w.2) rd.1), w.2)
+chosen (c ∷ d ∷ cs) ts us t e (inr rd) = let w = chosen (d ∷ cs) ts us t e rd in (w.0, inr w.1, w.2)
 
-alike_strict : Alike Tok (such_that (λ t. IsTrue (is_strictness t)) (the class.Str))
-alike_strict ts us t e rd = let w = one_too ts us t e rd.0.0 in (w.0, ((w.1, subst IsTrue (same_is class.Str t w.0 w.2) rd.0.1), subst IsTrue (same_strict t w.0 w.2) rd.1))
+token_of : (cs : List Class) → Alike Tok SameToken (any_of cs)
+token_of cs = record { all = chosen cs }
 
-alike_then : {A B : Type 0} {p : Phrase A} {q : Phrase B} → Alike A p → Alike B q → Alike (A × B) (p then q)
-alike_then h k ts us ab e (u, v, d, one, two) =
-    let w = cut_at ts u v us d e in
-    let a = h u w.0 ab.0 w.3 one in
-    let b = k v w.1 ab.1 w.4 two in
-    ((a.0, b.0), (w.0, w.1, w.2, a.1, b.1))
+strict_too : (ts us : List Tok) (t : Tok) → SameTokens ts us → such_that (λ t. IsTrue (is_strictness t)) (the class.Str) ts t → (s : Tok) × such_that (λ t. IsTrue (is_strictness t)) (the class.Str) us s × SameToken t s
+strict_too ts us t e rd = let w = one_too ts us t e rd.0.0 in (w.0, ((w.1, subst IsTrue (same_is class.Str t w.0 w.2) rd.0.1), subst IsTrue (same_strict t w.0 w.2) rd.1), w.2)
 
-alike_or : {A : Type 0} {p q : Phrase A} → Alike A p → Alike A q → Alike A (p or q)
-alike_or h k ts us a e (inl rd) = let w = h ts us a e rd in (w.0, inl w.1)
-alike_or h k ts us a e (inr rd) = let w = k ts us a e rd in (w.0, inr w.1)
+in_turn : {A B : Type 0} {R : Relation A} {S : Relation B} {p : Phrase A} {q : Phrase B} → Alike A R p → Alike B S q → Alike (A × B) (Both R S) (p then q)
+in_turn h k = record {
+  all = λ ts us ab e rd. (
+      let w = cut_at ts rd.0 rd.1 us rd.2 e in
+      let a = h.all rd.0 w.0 ab.0 w.3 rd.3 in
+      let b = k.all rd.1 w.1 ab.1 w.4 rd.4 in
+      ((a.0, b.0), (w.0, w.1, w.2, a.1, b.1), (a.2, b.2)));
+}
 
-alike_gives : {A B : Type 0} {p : Phrase A} (f : A → B) → Alike A p → Alike B (p gives f)
-alike_gives f h ts us b e (a, rd, q) = let w = h ts us a e rd in (f w.0, (w.0, w.1, refl))
+of_made : {A B : Type 0} {R : Relation A} {S : Relation B} {p : Phrase A} {f : A → B} → Makes R S f → Alike A R p → Alike B S (p gives f)
+of_made {S = S} {f = f} k h = record {
+  all = λ ts us b e rd. (let w = h.all ts us rd.0 e rd.1 in (f w.0, (w.0, w.1, refl), subst (λ z. S z (f w.0)) (sym rd.2) (k rd.0 w.0 w.2)));
+}
 
-alike_turns : {A : Type 0} {p : Phrase A} → Alike A p → (all : List A) (ts us : List Tok) → SameTokens ts us → many p ts all → (b : List A) × many p us b
-alike_turns h [] ts us e rd = ([], none_too ts us e rd)
-alike_turns h (a ∷ all) ts us e (u, v, d, one, more) =
-    let w = cut_at ts u v us d e in
-    let b = h u w.0 a w.3 one in
-    let bs = alike_turns h all v w.1 w.4 more in
-    (b.0 ∷ bs.0, (w.0, w.1, w.2, b.1, bs.1))
+module _ {A : Type 0} {R : Relation A} {p : Phrase A} (h : Alike A R p) where
+  either_cases : (q : Phrase A) → Alike A R q → (ts us : List Tok) (a : A) → SameTokens ts us → (p or q) ts a → (b : A) × (p or q) us b × R a b
+  either_cases q k ts us a e (inl rd) = let w = h.all ts us a e rd in (w.0, inl w.1, w.2)
+  either_cases q k ts us a e (inr rd) = let w = k.all ts us a e rd in (w.0, inr w.1, w.2)
 
-alike_many : {A : Type 0} {p : Phrase A} → Alike A p → Alike (List A) (many p)
-alike_many h ts us all e rd = alike_turns h all ts us e rd
+  either : {q : Phrase A} → Alike A R q → Alike A R (p or q)
+  either {q = q} k = record { all = either_cases q k }
 
-alike_placed : {A : Type 0} {p : Phrase A} → Alike A p → Alike (Place × A) (placed p)
-alike_placed h ts us pa e rd = let w = h ts us pa.1 e rd.0 in ((head_of (λ t. t.place) nowhere us, w.0), (w.1, refl))
+  turns : (as_ : List A) (ts us : List Tok) → SameTokens ts us → many p ts as_ → (bs : List A) × many p us bs × Each R as_ bs
+  turns [] ts us e rd = ([], none_too ts us e rd, tt)
+  turns (a ∷ as_) ts us e (u, v, d, one, rest) =
+      let w = cut_at ts u v us d e in
+      let b = h.all u w.0 a w.3 one in
+      let bs = turns as_ v w.1 w.4 rest in
+      (b.0 ∷ bs.0, (w.0, w.1, w.2, b.1, bs.1), (b.2, bs.2))
 
-alike_barring : {A : Type 0} {p : Phrase A} (c : Class) → Alike A p → Alike A (barring c p)
-alike_barring c h ts us a e rd = let w = h ts us a e rd.0 in (w.0, (w.1, sym (same_starts c ts us e) ∙ rd.1))
+  many_of : Alike (List A) (Each R) (many p)
+  many_of = record { all = λ ts us as_ e rd. turns as_ ts us e rd }
 
--- the kind of an Extra is told by its first token
+  maybe_cases : (ts us : List Tok) (a : Option A) → SameTokens ts us → maybe p ts a → (b : Option A) × maybe p us b × IfThere R a b
+  maybe_cases ts us a e (inl (x, rd, d)) = let w = h.all ts us x e rd in (Some w.0, inl (w.0, w.1, refl), subst (λ z. IfThere R z (Some w.0)) (sym d) w.2)
+  maybe_cases ts us a e (inr (x, rd, d)) = (None, inr (x, none_too ts us e rd, refl), subst (λ z. IfThere R z None) (sym d) tt)
 
-abbrev KindOf : List Tok → Clause → Type 0
-KindOf ts c = (t : Tok) × (more : List Tok) × (ts ≡ t ∷ more) × (code_of t.class ≡ kind_of c)
+  perhaps : Alike (Option A) (IfThere R) (maybe p)
+  perhaps = record { all = maybe_cases }
 
-kind_told : (c : Class) (ts u v : List Tok) (t : Tok) (x y : Clause) → ts ≡ u ++ v → the c u t → code_of c ≡ kind_of x → y ≡ x → KindOf ts y
-kind_told c ts u v t x y e h k q = (t, v, e ∙ ap (λ z. z ++ v) h.0, eqb-true (code_of t.class) (code_of c) h.1 ∙ k ∙ sym (ap kind_of q))
+  placed_of : Alike (Place × A) (λ a b. R a.1 b.1) (placed p)
+  placed_of = record { all = λ ts us pa e rd. (let w = h.all ts us pa.1 e rd.0 in ((head_of (λ t. t.place) nowhere us, w.0), (w.1, refl), w.2)) }
 
-extra_kind : (j : Inside) (ts : List Tok) (c : Clause) → Extra j ts c → KindOf ts c
-unfolding Extra
-extra_kind j ts c (inl (x, (y, (u, v, e, t, rd), d), q)) = kind_told class.InheritsWord ts u v y.0 (InheritsClause x) c e t refl q
-extra_kind j ts c (inr (inl (x, (y, (u, v, e, t, rd), d), q))) = kind_told class.MergesWord ts u v y.0 (MergesClause x) c e t refl q
-extra_kind j ts c (inr (inr (inl (x, (y, (u, v, e, t, rd), d), q)))) = kind_told class.DisjunctsWord ts u v y.0 (DisjunctsClause x) c e t refl q
-extra_kind j ts c (inr (inr (inr (x, (y, (u, v, e, t, rd), d), q)))) = kind_told class.WhenWord ts u v y.0 (WhenClause x) c e t refl q
+  barring_of : (c : Class) → Alike A R (barring c p)
+  barring_of c = record { all = λ ts us a e rd. (let w = h.all ts us a e rd.0 in (w.0, (w.1, sym (same_starts c ts us e) ∙ rd.1), w.2)) }
 
-first_class : (ts us : List Tok) (t s : Tok) (v w : List Tok) → ts ≡ t ∷ v → us ≡ s ∷ w → SameTokens ts us → t.class ≡ s.class
-first_class ts us t s v w d k e =
-    let all : map unplaced (t ∷ v) ≡ map unplaced (s ∷ w) = ap (map unplaced) (sym d) ∙ e ∙ ap (map unplaced) k in
-    let head : unplaced t ≡ unplaced s = cc in same_class t s head
+commas_of : {A : Type 0} {R : Relation A} {p : Phrase A} → Alike A R p → Alike (List A) (Each R) (commas p)
+commas_of h = of_made (λ a b k. k) (in_turn h (many_of (of_made (λ a b k. k.1) (in_turn (token_of (class.Comma ∷ [])) h))))
 
-same_kind : (ts us : List Tok) (a b : Clause) → SameTokens ts us → KindOf ts a → KindOf us b → kind_of a ≡ kind_of b
-same_kind ts us a b e k l = sym k.3 ∙ ap code_of (first_class ts us k.0 l.0 k.1 l.1 k.2 l.2 e) ∙ l.3
+listed_too : {A : Type 0} (R : Relation A) (a b : Option (List A)) → IfThere (Each R) a b → Each R (or_none a) (or_none b)
+listed_too R None None h = tt
+listed_too R None (Some b) h = absurd h
+listed_too R (Some a) None h = absurd h
+listed_too R (Some a) (Some b) h = h
 
--- clauses of the same kinds, one by one
-abbrev SameKinds : List Clause → List Clause → Type 0
-SameKinds [] [] = Prim.Unit {0}
-SameKinds (a ∷ all) (b ∷ more) = (kind_of a ≡ kind_of b) × SameKinds all more
-SameKinds all more = ⊥
+listed_of : {A : Type 0} {R : Relation A} {p : Phrase A} (c : Class) → Alike A R p → (d : Class) → Alike (List A) (Each R) (listed c (commas p) d)
+listed_of {R = R} c h d = of_made (λ a b k. k.1.0) (in_turn (token_of (c ∷ [])) (in_turn (of_made {S = Each R} (listed_too R) (perhaps (commas_of h))) (token_of (d ∷ []))))
 
-other_too : (a b : Clause) (all more : List Clause) → kind_of a ≡ kind_of b → SameKinds all more → IsOther a all → IsOther b more
+abbrev forms : Forms Relation Alike
+forms = record {
+  token = λ cs. SameToken;
+  pair = Both;
+  list = Each;
+  option = IfThere;
+  marked = λ R a b. R a.1 b.1;
+  after_a = λ c R. R;
+  before_a = λ R c. R;
+  in_two = λ c R d. R;
+  in_commas = Each;
+  in_list = λ c R d. Each R;
+  Makes = Makes;
+  no_list = record { all = λ ts us a e rd. absurd rd };
+  choice = token_of;
+  both = in_turn;
+  one_of = λ h k. either h k;
+  made = of_made;
+  turns = many_of;
+  perhaps = perhaps;
+  at = placed_of;
+  barred = λ c h. barring_of h c;
+  behind = λ c h. of_made (λ a b k. k.1) (in_turn (token_of (c ∷ [])) h);
+  ahead = λ h c. of_made (λ a b k. k.0) (in_turn h (token_of (c ∷ [])));
+  round = λ c h d. of_made (λ a b k. k.1.0) (in_turn (token_of (c ∷ [])) (in_turn h (token_of (d ∷ []))));
+  series = commas_of;
+  lists = listed_of;
+  also = λ k h. record { all = λ ts us a e rd. (let w = h.all ts us a e rd in (w.0, w.1, k a w.0 w.2)) };
+}
+
+-- an Extra is read as one of the same kind
+
+abbrev SameKind : Relation Clause
+SameKind x y = kind_of x ≡ kind_of y
+
+other_too : (a b : Clause) (all more : List Clause) → SameKind a b → Each SameKind all more → IsOther a all → IsOther b more
 other_too a b [] [] q k o = tt
 other_too a b [] (d ∷ more) q k o = absurd k
 other_too a b (c ∷ all) [] q k o = absurd k
 other_too a b (c ∷ all) (d ∷ more) q k o = ((λ e. o.0 (q ∙ e ∙ sym k.0)), other_too a b all more q k.1 o.1)
 
-once_too : (all more : List Clause) → SameKinds all more → AreOnce all → AreOnce more
+once_too : (all more : List Clause) → Each SameKind all more → AreOnce all → AreOnce more
 once_too [] [] k o = tt
 once_too [] (d ∷ more) k o = absurd k
 once_too (c ∷ all) [] k o = absurd k
 once_too (c ∷ all) (d ∷ more) k o = (other_too c d all more k.0 k.1 o.0, once_too all more k.1 o.1)
 
-extras_too : (j : Inside) → Alike Clause (Extra j) → (all : List Clause) (ts us : List Tok) → SameTokens ts us → many (Extra j) ts all → (more : List Clause) × many (Extra j) us more × SameKinds all more
-extras_too j h [] ts us e rd = ([], none_too ts us e rd, tt)
-extras_too j h (a ∷ all) ts us e (u, v, d, one, rest) =
-    let w = cut_at ts u v us d e in
-    let b = h u w.0 a w.3 one in
-    let bs = extras_too j h all v w.1 w.4 rest in
-    (b.0 ∷ bs.0, (w.0, w.1, w.2, b.1, bs.1), (same_kind u w.0 a b.0 w.3 (extra_kind j u a one) (extra_kind j w.0 b.0 b.1), bs.2))
+abbrev Any : {A : Type 0} → Relation A
+Any a b = Prim.Unit {0}
 
-alike_once : (j : Inside) → Alike Clause (Extra j) → Alike (List Clause) (such_that AreOnce (many (Extra j)))
-alike_once j h ts us all e rd = let w = extras_too j h all ts us e rd.0 in (w.0, (w.1, once_too all w.0 w.2 rd.1))
+abbrev said : Said Relation
+said = record {
+  named = Any;
+  name = Any;
+  string = Any;
+  uri = Any;
+  source = Any;
+  path = Any;
+  kind = Any;
+  expr = Any;
+  range = Any;
+  item = Any;
+  filter = Any;
+  form = Any;
+  resolve = Any;
+  accumulator = Any;
+  map = Any;
+  args = Any;
+  step = Any;
+  dot = Any;
+  arrow = Any;
+  dot_call = Any;
+  arrow_call = Any;
+  variable = Any;
+  sign = Any;
+  link = Any;
+  target = Any;
+  stmt = Any;
+  compound = Any;
+  items = Any;
+  inside = Any;
+  block = Any;
+  turn = Any;
+  helper_body = Any;
+  arm = Any;
+  each = Any;
+  unit_path = Any;
+  typed = Any;
+  feature = Any;
+  result = Any;
+  guard_end = SameToken;
+  guard = Any;
+  clause = SameKind;
+  clauses = Any;
+  ending = Any;
+  sections = Any;
+  body = Any;
+  unit = Any;
+  turn_units = Any;
+  model_type = Any;
+  model_param = Any;
+  model_params = Any;
+  whole = Any;
+}
 
-alike_kept : IsKept Alike
-alike_kept = record {
-  no_list = λ ts us a e rd. absurd rd;
-  no_token = λ ts us a e rd. (tt, none_too ts us e rd);
-  one = alike_the;
-  both = alike_then;
-  one_of = alike_or;
-  made = alike_gives;
-  turns = alike_many;
-  at = alike_placed;
-  barred = alike_barring;
-  strict = alike_strict;
-  once = alike_once;
+makers : Makers forms said
+makers = record {
+  named_of = λ a b h. tt;
+  name_of = λ a b h. tt;
+  string_of = λ a b h. tt;
+  path_of = λ a b h. tt;
+  unit_path_of = λ a b h. tt;
+  coll_type_of = λ a b h. tt;
+  path_type = λ a b h. tt;
+  range_of = λ a b h. tt;
+  item_of = λ a b h. tt;
+  filter_of = λ a b h. tt;
+  all_of = λ a b h. tt;
+  in_of = λ a b h. tt;
+  resolve_of = λ a b h. tt;
+  accumulator_of = λ a b h. tt;
+  map_of = λ a b h. tt;
+  dot_of = λ a b h. tt;
+  headed_body = λ a b h. tt;
+  without_head = λ a b h. tt;
+  or_no_args = λ a b h. tt;
+  arrow_of = λ a b h. tt;
+  dot_map = λ a b h. tt;
+  dot_resolve = λ a b h. tt;
+  arrow_map = λ a b h. tt;
+  arrow_resolve = λ a b h. tt;
+  after_dot = λ a b h. tt;
+  after_arrow = λ a b h. tt;
+  call_after_dot = λ a b h. tt;
+  call_after_arrow = λ a b h. tt;
+  int_of = λ a b h. tt;
+  str_of = λ a b h. tt;
+  true_of = λ a b h. tt;
+  false_of = λ a b h. tt;
+  null_of = λ a b h. tt;
+  self_of = λ a b h. tt;
+  result_of = λ a b h. tt;
+  path_expr = λ a b h. tt;
+  call_of = λ a b h. tt;
+  coll_of = λ a b h. tt;
+  if_of = λ a b h. tt;
+  named_var = λ a b h. tt;
+  result_var = λ a b h. tt;
+  object_of = λ a b h. tt;
+  new_of = λ a b h. tt;
+  map_expr = λ a b h. tt;
+  resolve_expr = λ a b h. tt;
+  brackets = λ a b h. tt;
+  stepped_of = λ a b h. tt;
+  not_of = λ a b h. tt;
+  minus_of = λ a b h. tt;
+  signed_of = λ a b h. tt;
+  linked = λ level a b h. tt;
+  chained = λ level a b h. tt;
+  named_target = λ a b h. tt;
+  result_target = λ a b h. tt;
+  feature_target = λ a b h. tt;
+  var_of = λ a b h. tt;
+  assign_of = λ a b h. tt;
+  return_of = λ a b h. tt;
+  value_of = λ a b h. tt;
+  arm_of = λ a b h. tt;
+  block_form_of = λ a b h. tt;
+  while_of = λ a b h. tt;
+  each_of = λ a b h. tt;
+  loop_of = λ a b h. tt;
+  no_stmts = λ a b h. tt;
+  simple_turn = λ a b h. tt;
+  compound_turn = λ a b h. tt;
+  concat = λ a b h. tt;
+  with_last = λ a b h. tt;
+  braces = λ a b h. tt;
+  param_of = λ a b h. tt;
+  typed_name_of = λ a b h. tt;
+  class_of = λ a b h. tt;
+  main_of = λ a b h. tt;
+  return_body = λ a b h. tt;
+  block_body = λ a b h. tt;
+  helper_of = λ a b h. tt;
+  constructor_of = λ a b h. tt;
+  result_decl_of = λ a b h. tt;
+  inherits = λ a b h. refl;
+  merges = λ a b h. refl;
+  disjuncts = λ a b h. refl;
+  guard_end = λ a b h. h.1;
+  guard = λ a b h. tt;
+  condition = λ a b h. refl;
+  clauses_of = λ a b h. tt;
+  sections_of = λ a b h. tt;
+  ends_in_simple = λ a b h. tt;
+  ends_in_block = λ a b h. tt;
+  open_sections = λ a b h. tt;
+  empty_body = λ a b h. tt;
+  body_of = λ a b h. tt;
+  mapping_of = λ a b h. tt;
+  some_unit = λ a b h. tt;
+  no_units = λ a b h. tt;
+  uri_text = λ a b h. tt;
+  uri_named = λ a b h. tt;
+  source = λ a b h. tt;
+  model_type_of = λ a b h. tt;
+  model_param_of = λ a b h. tt;
+  model_params = λ a b h. tt;
+  module_of = λ a b h. tt;
+  strict = record { all = strict_too };
+  once = λ j h. record { all = λ ts us all e rd. (let w = turns h all ts us e rd.0 in (w.0, (w.1, once_too all w.0 w.2 rd.1), w.2)) };
 }
 
 -- the same tokens at other places are a unit and a transformation too
 pub unit_alike : (ts us : List Tok) (a : UnitTerm) → SameTokens ts us → Is «Unit» ts a → (b : UnitTerm) × Is «Unit» us b
-unit_alike ts us a e rd = let w = every_unit Alike alike_kept rd.nesting ts us a e rd.is in (w.0, record { nesting = rd.nesting; is = w.1 })
+unit_alike ts us a e rd = let every = every_unit makers rd.nesting in let w = every.all ts us a e rd.is in (w.0, record { nesting = rd.nesting; is = w.1 })
 
 pub module_alike : (ts us : List Tok) (a : ModuleTerm) → SameTokens ts us → Is Module ts a → (b : ModuleTerm) × Is Module us b
-module_alike ts us a e rd = let w = every_module Alike alike_kept rd.nesting ts us a e rd.is in (w.0, record { nesting = rd.nesting; is = w.1 })
+module_alike ts us a e rd = let every = every_module makers rd.nesting in let w = every.all ts us a e rd.is in (w.0, record { nesting = rd.nesting; is = w.1 })

@@ -10,4 +10,5 @@ pub mod Units
 pub mod Whole
 pub mod Answers
 pub mod Every
+pub mod Gives
 pub mod Alike

@@ -1,3 +1,4 @@
+pub mod Lists
 pub mod Phrase
 pub mod Values
 pub mod Rows

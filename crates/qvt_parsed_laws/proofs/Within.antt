@@ -14,13 +14,13 @@ use Rattle.qvt_language.specs.Tokens.{Tok}
 use Rattle.qvt_language.specs.declared.class.Class.TheVariants as classes
 use Rattle.qvt_language.specs.Readers.{nowhere}
 use Rattle.qvt_language.specs.Module.{with_end}
-use Rattle.qvt_language_rows.proofs.Answers.{of_rows}
+use Rattle.qvt_language_rows.specs.Lists.{AllOf}
 use Rattle.qvt_parser_tokens.specs.Said.{said}
 use Rattle.qvt_parser_tokens.specs.Text.{HasTokens}
 use Rattle.qvt_parsed.specs.Parsing.{IsTransformation}
 use Rattle.qvt_parser_sizes.specs.Nodes.{nodes}
 use Rattle.qvt_parser_sizes.proofs.Whole.{at_most_two_each}
-use Rattle.qvt_parser_names.specs.Names.{Told, AllOf, HasNames}
+use Rattle.qvt_parser_names.specs.Names.{Told, HasNames}
 use Rattle.qvt_parser_names.specs.Law.{of_tokens, IsAtMost, at_most}
 use Rattle.qvt_parser_names.proofs.Whole.{names_are_tokens, none_is_longer}
 use Rattle.qvt_parser_places.specs.Places.{Clause, places}
@@ -122,11 +122,11 @@ spots_last (t ∷ ts) end = ap (λ z. t.place ∷ z) (spots_last ts end)
 
 module _ (text : List ℕ) (m : ModuleTerm) (t : IsTransformation text m) where
   few_nodes : IsUtf8 text → nodes m ≤ 2 * length text
-  few_nodes utf = omega (arith, at_most_two_each t.tokens (with_end nowhere m) (of_rows t.tokens (with_end nowhere m) t.reads), same_nodes nowhere m, tokens_within text t.tokens t.end t.has utf)
+  few_nodes utf = omega (arith, at_most_two_each t.tokens (with_end nowhere m) t.reads, same_nodes nowhere m, tokens_within text t.tokens t.end t.has utf)
 
   in_order : (c : MappingTerm → Clause) → DoNotFall (places c m ++ m.end ∷ [])
   in_order c =
-      let nodes_along = subst (λ z. Along z t.tokens) (same_places c nowhere m) (along c t.tokens (with_end nowhere m) (of_rows t.tokens (with_end nowhere m) t.reads)) in
+      let nodes_along = subst (λ z. Along z t.tokens) (same_places c nowhere m) (along c t.tokens (with_end nowhere m) t.reads) in
       let all = along_both (places c m) (t.end ∷ []) t.tokens (last_token t.end ∷ []) nodes_along ([], last_token t.end, [], refl, refl, tt) in
       let rise = subst DoNotFall (sym (spots_last t.tokens t.end)) (tokens_rise text t.tokens t.end t.has) in
       subst (λ z. DoNotFall (places c m ++ z ∷ [])) (sym t.ends) (along_order (places c m ++ t.end ∷ []) (t.tokens ++ last_token t.end ∷ []) rise all)
@@ -135,7 +135,7 @@ pub lies_in_text : LiesInText
 lies_in_text = record {
   size = λ text m utf t. few_nodes text m t utf;
   numbers = λ text m utf short t. (let k = few_nodes text m t utf in omega (arith, k, short));
-  tokens = λ text m t. same_names (of_tokens t.tokens) nowhere m (names_are_tokens t.tokens (with_end nowhere m) (of_rows t.tokens (with_end nowhere m) t.reads));
-  longest = λ text m utf t. same_names (at_most (length text)) nowhere m (none_is_longer (length text) t.tokens (with_end nowhere m) (tokens_short text t.tokens t.end t.has utf) (of_rows t.tokens (with_end nowhere m) t.reads));
+  tokens = λ text m t. same_names (of_tokens t.tokens) nowhere m (names_are_tokens t.tokens (with_end nowhere m) t.reads);
+  longest = λ text m utf t. same_names (at_most (length text)) nowhere m (none_is_longer (length text) t.tokens (with_end nowhere m) (tokens_short text t.tokens t.end t.has utf) t.reads);
   order = λ c text m t. in_order text m t c;
 }

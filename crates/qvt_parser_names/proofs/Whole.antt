@@ -2,18 +2,21 @@
 use Rattle.std.proofs.Common.{ℕ, List, [], ◌∷◌, refl, inl, inr}
 use Rattle.qvt_tree_types.specs.Module.{ModuleTerm}
 use Rattle.qvt_language.specs.Tokens.{Tok}
-use Rattle.qvt_language.specs.Module.{Reads}
 use Rattle.qvt_language.specs.declared.class.Class.{Class}
 use Rattle.qvt_language.specs.declared.class.Class.TheVariants.{Name, Str}
-use Rattle.qvt_parser_names.specs.Names.{Told, AllOf, HasNames}
+use Rattle.qvt_language_rows.specs.Lists.{AllOf}
+use Rattle.qvt_language_rows.specs.Language.{Reads}
+use Rattle.qvt_language_rows.proofs.Every.{every_module}
+use Rattle.qvt_parser_names.specs.Names.{Told, HasNames}
 use Rattle.qvt_parser_names.specs.Law.{IsTextOf, of_tokens, NamesAreTokens, IsAtMost, at_most, NoneIsLonger}
-use Rattle.qvt_parser_names.proofs.Forms.{AllTell}
-use Rattle.qvt_parser_names.proofs.Stmts.{of_nested}
-use Rattle.qvt_parser_names.proofs.Units.{of_transformation}
+use Rattle.qvt_parser_names.proofs.Makers.{Tells, makers}
+
+abbrev AllTell : Told → List Tok → Type 0
+AllTell N ts = AllOf {A = Tok} (Tells N) ts
 
 -- what the tokens tell holds of all names and texts
-pub holds : (N : Told) (ts : List Tok) (m : ModuleTerm) → AllTell N ts → Reads ts m → HasNames N m
-holds N ts m told rd = (of_transformation (of_nested rd.nesting)).all ts m told rd.reads
+holds : (N : Told) (ts : List Tok) (m : ModuleTerm) → AllTell N ts → Reads ts m → HasNames N m
+holds N ts m told rd = (let every = every_module (makers N) rd.nesting in every.all ts m told rd.is)
 
 told_self : (ts us : List Tok) → ((c : Class) (x : List ℕ) → IsTextOf c us x → IsTextOf c ts x) → AllTell (of_tokens ts) us
 told_self ts [] h = tt

@@ -2,10 +2,11 @@
 use Rattle.std.specs.Prelude.{◌≡◌, ℕ, ◌≤◌, List, [], ◌∷◌, length, ◌⊎◌, IsTrue}
 use Rattle.qvt_tree_types.specs.Module.{ModuleTerm}
 use Rattle.qvt_language.specs.Tokens.{Tok, is}
-use Rattle.qvt_language.specs.Module.{Reads}
 use Rattle.qvt_language.specs.declared.class.Class.{Class}
 use Rattle.qvt_language.specs.declared.class.Class.TheVariants.{Name, Str}
-use Rattle.qvt_parser_names.specs.Names.{Told, AllOf, HasNames}
+use Rattle.qvt_language_rows.specs.Lists.{AllOf}
+use Rattle.qvt_language_rows.specs.Language.{Reads}
+use Rattle.qvt_parser_names.specs.Names.{Told, HasNames}
 
 -- the text of one of the tokens of the class
 abbrev pub IsTextOf : Class → List Tok → List ℕ → Type 0

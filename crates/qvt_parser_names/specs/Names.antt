@@ -1,6 +1,6 @@
 -- What names and texts a tree has: each path has a name, and what is told of names holds of every name, and what is told of
 -- texts of every text in quotes.
-use Rattle.std.specs.Prelude.{ℕ, List, [], ◌∷◌, Option, Some, None}
+use Rattle.std.specs.Prelude.{ℕ, List, [], ◌∷◌}
 use Rattle.qvt_tree_types.specs.Tree.{TypeTerm, ExprTerm, ExprTerms, OptionalExpr, OptionalArgs, LinkTerm, LinkTerms, ItemTerm, RangeTerm, ItemTerms, MapTerm, ResolveTerm, FilterTerm, HeadTerm, AccumulatorTerm, StepTerm, StepTerms, TargetTerm, StmtTerm, StmtTerms, ElseTerm, ArmTerm, ArmTerms}
 use Rattle.qvt_tree_types.specs.Tree.{CollType, PathType, IntExpr, StrExpr, BoolExpr, NullExpr, SelfExpr, ResultExpr, PathExpr, CallExpr, CollExpr, IfExpr, ObjectExpr, NewExpr, MapExpr, ResolveExpr, ChainExpr, PrefixExpr, PostExpr, NoExprs, MoreExprs, NoExpr, SomeExpr, NoArgs, SomeArgs, LinkOf, NoLinks, MoreLinks, ItemOf, NoRange, RangeTo, NoItems, MoreItems, MapOf, ResolveOf, NoFilter, FilterOf, NoHead, HeadOf, NoAccumulator, AccumulatorOf, DotStep, ArrowStep, DotMapStep, ArrowMapStep, DotResolveStep, ArrowResolveStep, NoSteps, MoreSteps, BareTarget, ResultTarget, MemberTarget, VarStmt, AssignStmt, ReturnStmt, ValueStmt, IfStmt, WhileStmt, ForEachStmt, NoStmts, MoreStmts, NoElse, ElseOf, ArmOf, NoArms, MoreArms}
 use Rattle.qvt_tree_types.specs.Module.{TypedName, ClassTerm, HelperTerm, MappingTerm, UnitTerm, ClassOf, MainOf, HelperOf, ConstructorOf, MappingOf, ModuleTerm}
@@ -10,19 +10,12 @@ use Rattle.qvt_tree_types.specs.declared.types.ObjectVar.TheVariants.{Named, Res
 use Rattle.qvt_tree_types.specs.declared.module.ResultDecl.{ResultDecl}
 use Rattle.qvt_tree_types.specs.declared.module.ModelType.{ModelType}
 use Rattle.qvt_tree_types.specs.declared.module.ModelParam.{ModelParam}
-
-abbrev pub AllOf : {A : Type 0} → (A → Type 0) → List A → Type 0
-AllOf p [] = Unit {0}
-AllOf p (a ∷ more) = p a × AllOf p more
+use Rattle.qvt_language_rows.specs.Lists.{AllOf, IfThere}
 
 -- what holds of each name, and what of each text in quotes
 pub record Told : Type 1 where
   pub name : List ℕ → Type 0
   pub text : List ℕ → Type 0
-
-abbrev pub IfThere : {A : Type 0} → (A → Type 0) → Option A → Type 0
-IfThere p None = Unit {0}
-IfThere p (Some a) = p a
 
 -- at least one name, and of all what is told of names
 abbrev pub NamesHold : Told → List (List ℕ) → Type 0

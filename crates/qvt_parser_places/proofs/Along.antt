@@ -70,21 +70,44 @@ along_thin (p ∷ ps) [] ts h k = absurd h
 along_thin (p ∷ ps) (q ∷ qs) ts (inl h) k = (k.0, k.1, k.2, k.3, h.0 ∙ k.4, along_thin ps qs (k.1 ∷ k.2) h.1 k.5)
 along_thin (p ∷ ps) (q ∷ qs) ts (inr h) k = along_thin (p ∷ ps) qs ts h (along_tail q qs ts k)
 
--- what stands at its first token may begin with its place, three times at most
-pub record Node (place : Place) (ps qs : List Place) : Type 0 where
-  pub thin : Thin ps (place ∷ place ∷ place ∷ qs)
+thin_trans : (ps qs rs : List Place) → Thin ps qs → Thin qs rs → Thin ps rs
+thin_trans [] qs rs h k = tt
+thin_trans (p ∷ ps) [] rs h k = absurd h
+thin_trans (p ∷ ps) (q ∷ qs) [] h k = absurd k
+thin_trans (p ∷ ps) (q ∷ qs) (r ∷ rs) (inl h) (inl k) = inl (h.0 ∙ k.0, thin_trans ps qs rs h.1 k.1)
+thin_trans (p ∷ ps) (q ∷ qs) (r ∷ rs) (inr h) (inl k) = inr (thin_trans (p ∷ ps) qs rs h k.1)
+thin_trans (p ∷ ps) (q ∷ qs) (r ∷ rs) h (inr k) = inr (thin_trans (p ∷ ps) (q ∷ qs) rs h k)
 
-pub node : (place : Place) (ps qs : List Place) → Thin ps qs → Node place (place ∷ ps) qs
-node place ps qs h = record { thin = inr (inr (inl (refl, h))) }
+-- the same, part by part
+pub record Less (ps qs : List Place) : Type 0 where
+  pub thin : Thin ps qs
 
-pub node_is : (place : Place) (ps qs : List Place) → ps ≡ qs → Node place (place ∷ ps) qs
-node_is place ps qs e = node place ps qs (thin_is ps qs e)
+pub same : {ps : List Place} → Less ps ps
+same {ps} = record { thin = thin_same ps }
 
-pub no_node : (place : Place) (ps qs : List Place) → Thin ps qs → Node place ps qs
-no_node place ps qs h =
-    let one = thin_over place ps qs h in
-    let two = thin_over place ps (place ∷ qs) one in
-    record { thin = thin_over place ps (place ∷ place ∷ qs) two }
+pub is_same : {ps qs : List Place} → ps ≡ qs → Less ps qs
+is_same {ps} {qs} e = record { thin = thin_is ps qs e }
+
+pub none_of : {qs : List Place} → Less [] qs
+none_of = record { thin = tt }
+
+pub at : (p : Place) {ps qs : List Place} → Less ps qs → Less (p ∷ ps) (p ∷ qs)
+at p h = record { thin = inl (refl, h.thin) }
+
+pub over : (q : Place) {ps qs : List Place} → Less ps qs → Less ps (q ∷ qs)
+over q {ps} {qs} h = record { thin = thin_over q ps qs h.thin }
+
+pub past : (xs : List Place) {ps qs : List Place} → Less ps qs → Less ps (xs ++ qs)
+past xs {ps} {qs} h = record { thin = thin_past xs ps qs h.thin }
+
+pub parts : {ps qs xs ys : List Place} → Less ps qs → Less xs ys → Less (ps ++ xs) (qs ++ ys)
+parts {ps} {qs} {xs} {ys} h k = record { thin = thin_both ps qs xs ys h.thin k.thin }
+
+pub front : (ps qs : List Place) → Less ps (ps ++ qs)
+front ps qs = record { thin = thin_front ps qs }
+
+pub less_trans : {ps qs rs : List Place} → Less ps qs → Less qs rs → Less ps rs
+less_trans {ps} {qs} {rs} h k = record { thin = thin_trans ps qs rs h.thin k.thin }
 
 -- what the tokens show shows in the places
 

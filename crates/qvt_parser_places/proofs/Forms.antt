@@ -1,140 +1,209 @@
--- The places of what a language reads go along its tokens, by the forms of the grammar.
-use Rattle.std.proofs.Common.{◌≡◌, List, [], ◌∷◌, ◌++◌, ◌⊎◌, inl, inr, refl, sym, subst, Option, Some, None}
+-- The places of what a phrase is go along its tokens, by the forms of the grammar.
+use Rattle.std.proofs.Common.{◌≡◌, List, [], ◌∷◌, ◌++◌, Bool, true, false, ◌||◌, ◌⊎◌, inl, inr, refl, sym, ap, ◌∙◌, subst, Option, Some, None}
 use Rattle.qvt_base.specs.declared.numbers.Place.{Place}
-use Rattle.qvt_grammar.specs.Language.{Language, follow, then, either, turns, many, made, never, maybe, head_of, lastly}
-use Rattle.qvt_grammar.proofs.Firsts.{Solid}
 use Rattle.qvt_language.specs.Tokens.{Tok}
-use Rattle.qvt_language.specs.Readers.{nowhere, the, placed}
-use Rattle.qvt_language.specs.Series.{left, right, series, finished}
-use Rattle.qvt_language.specs.Trees.{second, first, inner, cons_of, nothing}
+use Rattle.qvt_language.specs.Trees.{second}
 use Rattle.qvt_language.specs.declared.class.Class.{Class}
-use Rattle.qvt_parser_places.specs.Places.{all_places, places_if}
-use Rattle.qvt_parser_places.proofs.Along.{Along, Thin, Node, along_after, along_more, along_both, along_head, along_thin, thin_same, thin_is}
+use Rattle.qvt_language.specs.declared.class.Class.TheVariants.{Comma}
+use Rattle.qvt_language_rows.specs.Phrase.{Phrase, ◌or◌, ◌gives◌, ◌then◌, the, many, maybe, placed, commas, listed, or_none}
+use Rattle.qvt_language_rows.proofs.Every.{any_of, Forms}
+use Rattle.qvt_parser_places.specs.Places.{Clause, all_places, places_if}
+use Rattle.qvt_parser_places.proofs.Along.{Along, Less, along_both, along_head, along_thin, same, over, front}
 
-pub record Follows {A : Type 0} (p : A → List Place) (l : Language Tok A) : Type 0 where
-  pub all : (ts : List Tok) (a : A) → l.reads ts a → Along (p a) ts
+-- the places of a value, with this clause of a mapping, and whether it is never read from no token
+pub record Spots (A : Type 0) : Type 0 where
+  pub of : Clause → A → List Place
+  pub solid : Bool
 
-abbrev pub none : {A : Type 0} → A → List Place
-none a = []
+pub record Follows (A : Type 0) (s : Spots A) (p : Phrase A) : Type 0 where
+  pub all : (c : Clause) (ts : List Tok) (a : A) → p ts a → Along (s.of c a) ts
+  pub some : s.solid ≡ true → (a : A) → p [] a → ⊥
 
-abbrev pub token_place : Tok → List Place
-token_place t = t.place ∷ []
+-- what is made of a value has places of it, with the clauses that it is read with
+pub record Moves {A B : Type 0} (s : Spots A) (t : Spots B) (f : A → B) : Type 0 where
+  pub solid : t.solid ≡ true → s.solid ≡ true
+  pub along : (c : Clause) (a : A) → (d : Clause) × ((ts : List Tok) → Along (s.of d a) ts → Along (t.of c (f a)) ts)
+
+pub firm : {A B : Type 0} {s : Spots A} {t : Spots B} {f : A → B} → s.solid ≡ true → ((c : Clause) (a : A) → Less (t.of c (f a)) (s.of c a)) → Moves s t f
+firm {s = s} {t = t} {f = f} e h = record { solid = λ d. e; along = λ c a. (c, λ ts k. along_thin (t.of c (f a)) (s.of c a) ts (h c a).thin k) }
+
+pub loose : {A B : Type 0} {s : Spots A} {t : Spots B} {f : A → B} → t.solid ≡ false → ((c : Clause) (a : A) → Less (t.of c (f a)) (s.of c a)) → Moves s t f
+loose {s = s} {t = t} {f = f} e h = record {
+  solid = λ d. absurd (let no : true ≡ false = sym d ∙ e in cc);
+  along = λ c a. (c, λ ts k. along_thin (t.of c (f a)) (s.of c a) ts (h c a).thin k);
+}
 
 abbrev pub both : {A B : Type 0} → (A → List Place) → (B → List Place) → A × B → List Place
 both p q ab = p ab.0 ++ q ab.1
 
-abbrev pub left_of : {A B : Type 0} → (A → List Place) → A × B → List Place
-left_of p ab = p ab.0
+abbrev pub firmly : {A : Type 0} → (A → List Place) → Spots A
+firmly p = record { of = λ c a. p a; solid = true }
 
-abbrev pub right_of : {A B : Type 0} → (B → List Place) → A × B → List Place
-right_of q ab = q ab.1
+abbrev pub loosely : {A : Type 0} → (A → List Place) → Spots A
+loosely p = record { of = λ c a. p a; solid = false }
 
-abbrev pub one_of : {A B : Type 0} → (A → List Place) → (B → List Place) → A ⊎ B → List Place
-one_of p q (inl a) = p a
-one_of p q (inr b) = q b
+abbrev pub token_place : Tok → List Place
+token_place t = t.place ∷ []
 
-pub follows_any : {A : Type 0} {l : Language Tok A} → Follows none l
-follows_any = record { all = λ ts a rd. tt }
+-- the place of the first token, where there is one
+abbrev pub begun : {A : Type 0} → Bool → (A → List Place) → Place × A → List Place
+begun true p pa = pa.0 ∷ p pa.1
+begun false p pa = p pa.1
 
-pub follows_the : (c : Class) → Follows token_place (the c)
-follows_the c = record { all = λ ts a rd. ([], a, [], rd.0, refl, tt) }
+abbrev pub pair_of : {A B : Type 0} → Spots A → Spots B → Spots (A × B)
+pair_of s t = record { of = λ c. both (s.of c) (t.of c); solid = s.solid || t.solid }
 
-pub follows_never : {A : Type 0} {p : A → List Place} → Follows p never
-follows_never = record { all = λ ts a rd. absurd rd }
+abbrev pub list_of : {A : Type 0} → Spots A → Spots (List A)
+list_of s = record { of = λ c. all_places (s.of c); solid = false }
 
-module _ {A B : Type 0} where
-  pub follows_follow : {p : A → List Place} {q : B → List Place} {l : Language Tok A} {m : A → Language Tok B} → Follows p l → ((a : A) → Follows q (m a)) → Follows (both p q) (follow l m)
-  follows_follow {p = p} {q = q} h k = record {
-    all = λ ts ab rd. subst (Along (both p q ab)) (sym rd.2) (along_both (p ab.0) (q ab.1) rd.0 rd.1 (h.all rd.0 ab.0 rd.3) ((k ab.0).all rd.1 ab.1 rd.4));
-  }
+abbrev pub option_of : {A : Type 0} → Spots A → Spots (Option A)
+option_of s = record { of = λ c. places_if (s.of c); solid = false }
 
-  pub follows_then : {p : A → List Place} {q : B → List Place} {l : Language Tok A} {m : Language Tok B} → Follows p l → Follows q m → Follows (both p q) (then l m)
-  follows_then h k = follows_follow h (λ a. k)
+abbrev pub marked_of : {A : Type 0} → Spots A → Spots (Place × A)
+marked_of s = record { of = λ c. begun s.solid (s.of c); solid = s.solid }
 
-  -- the places of the one part alone
-  pub follows_left : {p : A → List Place} {l : Language Tok A} (m : A → Language Tok B) → Follows p l → Follows (left_of p) (follow l m)
-  follows_left {p = p} m h = record { all = λ ts ab rd. subst (Along (p ab.0)) (sym rd.2) (along_more (p ab.0) rd.0 rd.1 (h.all rd.0 ab.0 rd.3)) }
+-- with a token beside it
+abbrev pub beside : {A : Type 0} → Spots A → Spots A
+beside s = record { of = s.of; solid = true }
 
-  pub follows_right : {q : B → List Place} {l : Language Tok A} {m : A → Language Tok B} → ((a : A) → Follows q (m a)) → Follows (right_of q) (follow l m)
-  follows_right {q = q} k = record { all = λ ts ab rd. subst (Along (q ab.1)) (sym rd.2) (along_after (q ab.1) rd.0 rd.1 ((k ab.0).all rd.1 ab.1 rd.4)) }
+abbrev pub listed_of : {A : Type 0} → Spots A → Spots (List A)
+listed_of s = record { of = λ c. all_places (s.of c); solid = true }
 
-  pub follows_made : {p : A → List Place} (q : B → List Place) {l : Language Tok A} (f : A → B) → ((a : A) → Thin (q (f a)) (p a)) → Follows p l → Follows q (made f l)
-  follows_made {p = p} q f k h = record { all = λ ts b rd. subst (λ z. Along (q z) ts) (sym rd.2) (along_thin (q (f rd.0)) (p rd.0) ts (k rd.0) (h.all ts rd.0 rd.1)) }
+abbrev pub series_of : {A : Type 0} → Spots A → Spots (List A)
+series_of s = record { of = λ c. all_places (s.of c); solid = s.solid }
 
-  pub follows_as : {p : A → List Place} (q : B → List Place) {l : Language Tok A} (f : A → B) → ((a : A) → q (f a) ≡ p a) → Follows p l → Follows q (made f l)
-  follows_as {p = p} q f k h = follows_made q f (λ a. thin_is (q (f a)) (p a) (k a)) h
+pub chosen : (cs : List Class) (ts : List Tok) (t : Tok) → any_of cs ts t → Along (token_place t) ts
+chosen [] ts t rd = absurd rd
+chosen (c ∷ []) ts t rd = ([], t, [], rd.0, refl, tt)
+chosen (c ∷ d ∷ cs) ts t (inl rd) = ([], t, [], rd.0, refl, tt)
+chosen (c ∷ d ∷ cs) ts t (inr rd) = chosen (d ∷ cs) ts t rd
 
-  -- what stands at its first token
-  pub follows_node : {p : A → List Place} (q : B → List Place) {l : Language Tok A} (f : Place × A → B) → Solid (made f (placed l)) → ((place : Place) (a : A) → Node place (q (f (place, a))) (p a)) → Follows p l → Follows q (made f (placed l))
-  follows_node {p = p} q {l = l} f solid k h = record {
-    all = λ ts b rd. (
-        let some : ts ≡ [] → ⊥ = λ e. solid b (subst (λ z. (made f (placed l)).reads z b) e rd) in
-        let places = p rd.0.1 in
-        let first_place = head_of (λ t. t.place) nowhere ts in
-        let one = along_head places ts some (h.all ts rd.0.1 rd.1.0) in
-        let two = along_head (first_place ∷ places) ts some one in
-        let three = along_head (first_place ∷ first_place ∷ places) ts some two in
-        let here = subst (λ z. Along (z ∷ z ∷ z ∷ places) ts) (sym rd.1.1) three in
-        subst (λ z. Along (q z) ts) (sym rd.2) (along_thin (q (f rd.0)) (rd.0.0 ∷ rd.0.0 ∷ rd.0.0 ∷ places) ts (k rd.0.0 rd.0.1).thin here));
-  }
+pub no_token : (t : Tok) → [] ≡ t ∷ [] → ⊥
+no_token t e = absurd cc
 
-  follows_inl : {p : A → List Place} {q : B → List Place} {l : Language Tok (A ⊎ B)} → Follows (one_of p q) l → Follows p (left l)
-  follows_inl h = record { all = λ ts a x. h.all ts (inl a) x }
+pub none_chosen : (cs : List Class) (t : Tok) → any_of cs [] t → ⊥
+none_chosen [] t rd = rd
+none_chosen (c ∷ []) t rd = no_token t rd.0
+none_chosen (c ∷ d ∷ cs) t (inl rd) = no_token t rd.0
+none_chosen (c ∷ d ∷ cs) t (inr rd) = none_chosen (d ∷ cs) t rd
 
-  follows_inr : {p : A → List Place} {q : B → List Place} {l : Language Tok (A ⊎ B)} → Follows (one_of p q) l → Follows q (right l)
-  follows_inr h = record { all = λ ts b x. h.all ts (inr b) x }
+pub token_of : (cs : List Class) → Follows Tok (firmly token_place) (any_of cs)
+token_of cs = record { all = λ c. chosen cs; some = λ e. none_chosen cs }
 
-module _ {A : Type 0} {p : A → List Place} {l : Language Tok A} (h : Follows p l) where
-  either_cases : (m : Language Tok A) → Follows p m → (ts : List Tok) (a : A) → l.reads ts a ⊎ m.reads ts a → Along (p a) ts
-  either_cases m k ts a (inl x) = h.all ts a x
-  either_cases m k ts a (inr x) = k.all ts a x
+pub either_some : (x y : Bool) → (x || y) ≡ true → (x ≡ true) ⊎ (y ≡ true)
+either_some true y e = inl refl
+either_some false y e = inr e
 
-  pub follows_either : {m : Language Tok A} → Follows p m → Follows p (either l m)
-  follows_either {m = m} k = record { all = either_cases m k }
+-- both parts of no tokens are of none
+pub first_none : (u v : List Tok) → [] ≡ u ++ v → [] ≡ u
+first_none [] v e = refl
+first_none (t ∷ u) v e = absurd cc
 
-  follows_turns : (as_ : List A) (ts : List Tok) → turns l ts as_ → Along (all_places p as_) ts
-  follows_turns [] ts rd = tt
-  follows_turns (a ∷ more) ts (u, v, e, x, y) = subst (Along (p a ++ all_places p more)) (sym e) (along_both (p a) (all_places p more) u v (h.all u a x) (follows_turns more v y))
+pub second_none : (u v : List Tok) → [] ≡ u ++ v → [] ≡ v
+second_none [] v e = e
+second_none (t ∷ u) v e = absurd cc
 
-  pub follows_many : Follows (all_places p) (many l)
-  follows_many = record { all = λ ts as_ rd. follows_turns as_ ts rd }
+pub in_turn : {A B : Type 0} {s : Spots A} {t : Spots B} {p : Phrase A} {q : Phrase B} → Follows A s p → Follows B t q → Follows (A × B) (pair_of s t) (p then q)
+in_turn {A} {B} {s} {t} {p} {q} h k = record {
+  all = λ c ts ab rd. subst (Along (both (s.of c) (t.of c) ab)) (sym rd.2) (along_both (s.of c ab.0) (t.of c ab.1) rd.0 rd.1 (h.all c rd.0 ab.0 rd.3) (k.all c rd.1 ab.1 rd.4));
+  some = λ e ab rd. by_one (either_some s.solid t.solid e) ab rd;
+} where
+  by_one : (s.solid ≡ true) ⊎ (t.solid ≡ true) → (ab : A × B) → (p then q) [] ab → ⊥
+  by_one (inl e) ab rd = h.some e ab.0 (subst (λ z. p z ab.0) (sym (first_none rd.0 rd.1 rd.2)) rd.3)
+  by_one (inr e) ab rd = k.some e ab.1 (subst (λ z. q z ab.1) (sym (second_none rd.0 rd.1 rd.2)) rd.4)
 
-  maybe_cases : (ts : List Tok) (a : Option A) → (maybe l).reads ts a → Along (places_if p a) ts
-  maybe_cases ts a (inl (x, rd, e)) = subst (λ z. Along (places_if p z) ts) (sym e) (h.all ts x rd)
-  maybe_cases ts a (inr (x, rd, e)) = subst (λ z. Along (places_if p z) ts) (sym e) tt
-
-  pub follows_maybe : Follows (places_if p) (maybe l)
-  follows_maybe = record { all = maybe_cases }
-
-  -- fewer places
-  pub follows_thin : (q : A → List Place) → ((a : A) → Thin (q a) (p a)) → Follows q l
-  follows_thin q k = record { all = λ ts a rd. along_thin (q a) (p a) ts (k a) (h.all ts a rd) }
-
-follows_lastly : {B : Type 0} {q : B → List Place} {m : Language Tok B} → Follows q m → (b : Option B) (ts : List Tok) → lastly m ts b → Along (places_if q b) ts
-follows_lastly h None ts rd = tt
-follows_lastly h (Some b) ts rd = h.all ts b rd
-
-pub follows_series : {A B : Type 0} {p : A → List Place} {q : B → List Place} {l : Language Tok (A ⊎ B)} → Follows (one_of p q) l → Follows (both (all_places p) (places_if q)) (series l)
-follows_series {p = p} {q = q} h = record {
-  all = λ ts got rd. subst (Along (both (all_places p) (places_if q) got)) (sym rd.2)
-      (along_both (all_places p got.0) (places_if q got.1) rd.0 rd.1 (follows_turns (follows_inl h) got.0 rd.0 rd.3) (follows_lastly (follows_inr h) got.1 rd.1 rd.4));
+pub of_made : {A B : Type 0} {s : Spots A} {t : Spots B} {p : Phrase A} {f : A → B} → Moves s t f → Follows A s p → Follows B t (p gives f)
+of_made {t = t} m h = record {
+  all = λ c ts b rd. (let w = m.along c rd.0 in subst (λ z. Along (t.of c z) ts) (sym rd.2) (w.1 ts (h.all w.0 ts rd.0 rd.1)));
+  some = λ e b rd. h.some (m.solid e) rd.0 rd.1;
 }
 
-pub follows_finished : {A B : Type 0} {p : A → List Place} {q : B → List Place} {l : Language Tok (A ⊎ B)} → Follows (one_of p q) l → Follows (both (all_places p) q) (finished l)
-follows_finished h = record { all = λ ts got rd. (follows_series h).all ts (got.0, Some got.1) rd }
+module _ {A : Type 0} {s : Spots A} {p : Phrase A} (h : Follows A s p) where
+  pub either_cases : (q : Phrase A) → Follows A s q → (c : Clause) (ts : List Tok) (a : A) → (p or q) ts a → Along (s.of c a) ts
+  either_cases q k c ts a (inl x) = h.all c ts a x
+  either_cases q k c ts a (inr x) = k.all c ts a x
 
--- the parts of sequences
-pub of_second : {A B : Type 0} {q : B → List Place} {l : Language Tok A} {m : Language Tok B} → Follows q m → Follows q (made second (then l m))
-of_second {q = q} k = follows_as q second (λ ab. refl) (follows_right (λ a. k))
+  pub either_none : (q : Phrase A) → Follows A s q → s.solid ≡ true → (a : A) → (p or q) [] a → ⊥
+  either_none q k e a (inl x) = h.some e a x
+  either_none q k e a (inr x) = k.some e a x
 
-pub of_first : {A B : Type 0} {p : A → List Place} {l : Language Tok A} (m : Language Tok B) → Follows p l → Follows p (made first (then l m))
-of_first {p = p} m h = follows_as p first (λ ab. refl) (follows_left (λ a. m) h)
+  pub either : {q : Phrase A} → Follows A s q → Follows A s (p or q)
+  either {q = q} k = record { all = either_cases q k; some = either_none q k }
 
-pub of_inner : {X A Y : Type 0} {p : A → List Place} {l : Language Tok X} {m : Language Tok A} (n : Language Tok Y) → Follows p m → Follows p (made inner (then l (then m n)))
-of_inner {p = p} n h = follows_as p inner (λ a. refl) (follows_right (λ a. follows_left (λ b. n) h))
+  pub turns : (c : Clause) (as_ : List A) (ts : List Tok) → many p ts as_ → Along (all_places (s.of c) as_) ts
+  turns c [] ts rd = tt
+  turns c (a ∷ more) ts (u, v, e, x, y) = subst (Along (s.of c a ++ all_places (s.of c) more)) (sym e) (along_both (s.of c a) (all_places (s.of c) more) u v (h.all c u a x) (turns c more v y))
 
-pub of_cons : {A : Type 0} (p : A → List Place) {l : Language Tok (A × List A)} → Follows (both p (all_places p)) l → Follows (all_places p) (made cons_of l)
-of_cons p h = follows_as (all_places p) cons_of (λ a. refl) h
+  pub many_of : Follows (List A) (list_of s) (many p)
+  many_of = record { all = λ c ts as_ rd. turns c as_ ts rd; some = λ e. absurd cc }
 
-pub of_nothing : {X A : Type 0} (p : A → List Place) {l : Language Tok X} → Follows (all_places p) (made nothing l)
-of_nothing p = follows_as {p = none} (all_places p) nothing (λ a. refl) follows_any
+  pub maybe_cases : (c : Clause) (ts : List Tok) (a : Option A) → maybe p ts a → Along (places_if (s.of c) a) ts
+  maybe_cases c ts a (inl (x, rd, e)) = subst (λ z. Along (places_if (s.of c) z) ts) (sym e) (h.all c ts x rd)
+  maybe_cases c ts a (inr (x, rd, e)) = subst (λ z. Along (places_if (s.of c) z) ts) (sym e) tt
+
+  pub perhaps : Follows (Option A) (option_of s) (maybe p)
+  perhaps = record { all = maybe_cases; some = λ e. absurd cc }
+
+  pub begun_along : (b : Bool) → s.solid ≡ b → (c : Clause) (ts : List Tok) (pa : Place × A) → placed p ts pa → Along (begun b (s.of c) pa) ts
+  begun_along true e c ts pa rd =
+      let some : ts ≡ [] → ⊥ = λ n. h.some e pa.1 (subst (λ z. p z pa.1) n rd.0) in
+      subst (λ z. Along (z ∷ s.of c pa.1) ts) (sym rd.1) (along_head (s.of c pa.1) ts some (h.all c ts pa.1 rd.0))
+  begun_along false e c ts pa rd = h.all c ts pa.1 rd.0
+
+  pub placed_of : Follows (Place × A) (marked_of s) (placed p)
+  placed_of = record { all = begun_along s.solid refl; some = λ e pa rd. h.some e pa.1 rd.0 }
+
+  pub after_of : (c : Class) → Follows A (beside s) (the c then p gives second)
+  after_of c = of_made (firm refl (λ d ab. over ab.0.place same)) (in_turn (token_of (c ∷ [])) h)
+
+pub commas_of : {A : Type 0} {s : Spots A} {p : Phrase A} → Follows A s p → Follows (List A) (series_of s) (commas p)
+commas_of h = of_made (record { solid = λ e. ap (λ z. z || false) e; along = λ c a. (c, λ ts k. k) }) (in_turn h (many_of (after_of h Comma)))
+
+pub listed_less : {A : Type 0} (p : A → List Place) (a : Option (List A)) → Less (all_places p (or_none a)) (places_if (all_places p) a)
+listed_less p None = same
+listed_less p (Some all) = same
+
+pub ends_firmly : (x : Bool) → (x || true) ≡ true
+ends_firmly true = refl
+ends_firmly false = refl
+
+pub of_also : {A : Type 0} {s t : Spots A} {p : Phrase A} → Moves s t (λ a. a) → Follows A s p → Follows A t p
+of_also m h = record {
+  all = λ c ts a rd. (let w = m.along c a in w.1 ts (h.all w.0 ts a rd));
+  some = λ e a rd. h.some (m.solid e) a rd;
+}
+
+pub list_between : {A : Type 0} {s : Spots A} {p : Phrase A} (c : Class) → Follows A s p → (d : Class) → Follows (List A) (listed_of s) (listed c (commas p) d)
+list_between {s = s} c h d =
+    of_made (firm refl (λ k a. over a.0.place (front (all_places (s.of k) a.1.0) _)))
+    (in_turn (token_of (c ∷ [])) (in_turn (of_made {t = list_of s} (loose refl (λ k a. listed_less (s.of k) a)) (perhaps (commas_of h))) (token_of (d ∷ []))))
+
+abbrev pub forms : Forms Spots Follows
+forms = record {
+  token = λ cs. firmly token_place;
+  pair = pair_of;
+  list = list_of;
+  option = option_of;
+  marked = marked_of;
+  after_a = λ c s. beside s;
+  before_a = λ s c. beside s;
+  in_two = λ c s d. beside s;
+  in_commas = series_of;
+  in_list = λ c s d. listed_of s;
+  Makes = Moves;
+  no_list = record { all = λ c ts a rd. absurd rd; some = λ e a rd. rd };
+  choice = token_of;
+  both = in_turn;
+  one_of = λ h k. either h k;
+  made = of_made;
+  turns = many_of;
+  perhaps = perhaps;
+  at = placed_of;
+  barred = λ c h. record { all = λ d ts a rd. h.all d ts a rd.0; some = λ e a rd. h.some e a rd.0 };
+  behind = λ c h. after_of h c;
+  ahead = λ h c. of_made (firm (ends_firmly _) (λ d ab. front _ _)) (in_turn h (token_of (c ∷ [])));
+  round = λ c h d. of_made (firm refl (λ k a. over a.0.place (front _ _))) (in_turn (token_of (c ∷ [])) (in_turn h (token_of (d ∷ []))));
+  series = commas_of;
+  lists = list_between;
+  also = λ m h. of_also m h;
+}

@@ -1,7 +1,5 @@
 pub mod Along
-pub mod Forms
-pub mod Exprs
-pub mod Steps
-pub mod Stmts
-pub mod Units
+mod Forms
+mod Parts
+mod Makers
 pub mod Whole

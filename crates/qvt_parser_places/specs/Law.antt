@@ -3,7 +3,7 @@ use Rattle.std.specs.Prelude.{◌≡◌, ◌≤◌, ℕ, List, [], ◌∷◌, ma
 use Rattle.qvt_base.specs.declared.numbers.Place.{Place}
 use Rattle.qvt_tree_types.specs.Module.{MappingTerm, ModuleTerm}
 use Rattle.qvt_language.specs.Tokens.{Tok}
-use Rattle.qvt_language.specs.Module.{Reads}
+use Rattle.qvt_language_rows.specs.Language.{Reads}
 use Rattle.qvt_parser_places.specs.Places.{Clause, places}
 
 -- none of the places stands before the one

@@ -1,15 +1,18 @@
--- Sizes of what a language reads, which are at most twice its tokens, by the forms of the grammar.
-use Rattle.std.proofs.Common.{◌≡◌, ℕ, suc, ◌+◌, ◌-◌, ◌*◌, ◌≤◌, List, [], ◌∷◌, ◌++◌, length, length-append, Bool, ◌⊎◌, inl, inr, sym, ap, subst, arith, Option, Some, None}
-use Rattle.qvt_grammar.specs.Language.{Language, follow, then, either, turns, many, made, never, maybe, lastly}
+-- Sizes of what a phrase is, which are at most twice its tokens, by the forms of the grammar.
+use Rattle.std.proofs.Common.{◌≡◌, ℕ, suc, ◌+◌, ◌*◌, ◌≤◌, List, [], ◌∷◌, ◌++◌, length, length-append, inl, inr, sym, ap, subst, arith, Option, Some, None}
+use Rattle.qvt_base.specs.declared.numbers.Place.{Place}
 use Rattle.qvt_language.specs.Tokens.{Tok}
-use Rattle.qvt_language.specs.Readers.{the, placed}
-use Rattle.qvt_language.specs.Series.{left, right, series, finished, barring}
-use Rattle.qvt_language.specs.Trees.{second, first, inner, cons_of, nothing}
 use Rattle.qvt_language.specs.declared.class.Class.{Class}
+use Rattle.qvt_language.specs.declared.class.Class.TheVariants.{Comma}
+use Rattle.qvt_language_rows.specs.Phrase.{Phrase, ◌or◌, ◌gives◌, ◌then◌, many, maybe, commas, listed, or_none}
+use Rattle.qvt_language_rows.proofs.Every.{any_of, Forms}
 use Rattle.qvt_parser_sizes.specs.Nodes.{total}
 
-pub record Sized {A : Type 0} (size : A → ℕ) (l : Language Tok A) : Type 0 where
-  pub all : (ts : List Tok) (a : A) → l.reads ts a → size a ≤ 2 * length ts
+pub record Sized (A : Type 0) (size : A → ℕ) (p : Phrase A) : Type 0 where
+  pub all : (ts : List Tok) (a : A) → p ts a → size a ≤ 2 * length ts
+
+abbrev pub Size : Type 0 → Type 0
+Size A = A → ℕ
 
 abbrev pub two : {A : Type 0} → A → ℕ
 two a = 2
@@ -24,97 +27,92 @@ abbrev pub if_there : {A : Type 0} → (A → ℕ) → Option A → ℕ
 if_there s None = 0
 if_there s (Some a) = s a
 
-abbrev pub one_of : {A B : Type 0} → (A → ℕ) → (B → ℕ) → A ⊎ B → ℕ
-one_of s t (inl a) = s a
-one_of s t (inr b) = t b
-
-abbrev pub marked : {P A : Type 0} → (A → ℕ) → P × A → ℕ
+abbrev pub marked : {A : Type 0} → (A → ℕ) → Place × A → ℕ
 marked s pa = s pa.1
 
-pub sized_any : {A : Type 0} {l : Language Tok A} → Sized uncounted l
-sized_any = record { all = λ ts a rd. omega arith }
+-- two tokens stand round it
+abbrev pub in_two : {A : Type 0} → (A → ℕ) → A → ℕ
+in_two s a = suc (suc (s a))
 
-pub sized_the : (c : Class) → Sized two (the c)
-sized_the c = record { all = λ ts a rd. omega (arith, ap length rd.0) }
+abbrev pub Makes : {A B : Type 0} → (A → ℕ) → (B → ℕ) → (A → B) → Type 0
+Makes {A} s t f = (a : A) → t (f a) ≤ s a
 
-pub sized_never : {A : Type 0} {s : A → ℕ} → Sized s never
-sized_never = record { all = λ ts a rd. absurd rd }
+pub chosen : (cs : List Class) (ts : List Tok) (t : Tok) → any_of cs ts t → 2 ≤ 2 * length ts
+chosen [] ts t rd = absurd rd
+chosen (c ∷ []) ts t rd = omega (arith, ap length rd.0)
+chosen (c ∷ d ∷ cs) ts t (inl rd) = omega (arith, ap length rd.0)
+chosen (c ∷ d ∷ cs) ts t (inr rd) = chosen (d ∷ cs) ts t rd
 
-module _ {A B : Type 0} where
-  pub sized_follow : {s : A → ℕ} (t : A → B → ℕ) {l : Language Tok A} {m : A → Language Tok B} → Sized s l → ((a : A) → Sized (t a) (m a)) → Sized (λ ab. s ab.0 + t ab.0 ab.1) (follow l m)
-  sized_follow t h k = record { all = λ ts ab rd. omega (arith, ap length rd.2, length-append rd.0 rd.1, h.all rd.0 ab.0 rd.3, (k ab.0).all rd.1 ab.1 rd.4) }
+pub token_of : (cs : List Class) → Sized Tok two (any_of cs)
+token_of cs = record { all = chosen cs }
 
-  pub sized_then : {s : A → ℕ} {t : B → ℕ} {l : Language Tok A} {m : Language Tok B} → Sized s l → Sized t m → Sized (sum s t) (then l m)
-  sized_then h k = record { all = λ ts ab rd. omega (arith, ap length rd.2, length-append rd.0 rd.1, h.all rd.0 ab.0 rd.3, k.all rd.1 ab.1 rd.4) }
+pub in_turn : {A B : Type 0} {s : A → ℕ} {t : B → ℕ} {p : Phrase A} {q : Phrase B} → Sized A s p → Sized B t q → Sized (A × B) (sum s t) (p then q)
+in_turn h k = record { all = λ ts ab rd. omega (arith, ap length rd.2, length-append rd.0 rd.1, h.all rd.0 ab.0 rd.3, k.all rd.1 ab.1 rd.4) }
 
-  pub sized_made : {s : A → ℕ} (t : B → ℕ) {l : Language Tok A} (f : A → B) → ((a : A) → t (f a) ≤ s a) → Sized s l → Sized t (made f l)
-  sized_made t f k h = record { all = λ ts b rd. subst (λ z. t z ≤ 2 * length ts) (sym rd.2) (omega (arith, k rd.0, h.all ts rd.0 rd.1)) }
+pub of_made : {A B : Type 0} {s : A → ℕ} {t : B → ℕ} {p : Phrase A} {f : A → B} → Makes s t f → Sized A s p → Sized B t (p gives f)
+of_made {t = t} k h = record { all = λ ts b rd. subst (λ z. t z ≤ 2 * length ts) (sym rd.2) (omega (arith, k rd.0, h.all ts rd.0 rd.1)) }
 
-  sized_left : {s : A → ℕ} {t : B → ℕ} {l : Language Tok (A ⊎ B)} → Sized (one_of s t) l → Sized s (left l)
-  sized_left h = record { all = λ ts a x. h.all ts (inl a) x }
+module _ {A : Type 0} {s : A → ℕ} {p : Phrase A} (h : Sized A s p) where
+  pub either_cases : (q : Phrase A) → Sized A s q → (ts : List Tok) (a : A) → (p or q) ts a → s a ≤ 2 * length ts
+  either_cases q k ts a (inl x) = h.all ts a x
+  either_cases q k ts a (inr x) = k.all ts a x
 
-  sized_right : {s : A → ℕ} {t : B → ℕ} {l : Language Tok (A ⊎ B)} → Sized (one_of s t) l → Sized t (right l)
-  sized_right h = record { all = λ ts b x. h.all ts (inr b) x }
+  pub either : {q : Phrase A} → Sized A s q → Sized A s (p or q)
+  either {q = q} k = record { all = either_cases q k }
 
-module _ {A : Type 0} {s : A → ℕ} {l : Language Tok A} (h : Sized s l) where
-  either_cases : (m : Language Tok A) → Sized s m → (ts : List Tok) (a : A) → l.reads ts a ⊎ m.reads ts a → s a ≤ 2 * length ts
-  either_cases m k ts a (inl x) = h.all ts a x
-  either_cases m k ts a (inr x) = k.all ts a x
+  pub turns : (as_ : List A) (ts : List Tok) → many p ts as_ → total s as_ ≤ 2 * length ts
+  turns [] ts rd = omega arith
+  turns (a ∷ more) ts (u, v, e, x, y) = omega (arith, ap length e, length-append u v, h.all u a x, turns more v y)
 
-  pub sized_either : {m : Language Tok A} → Sized s m → Sized s (either l m)
-  sized_either {m = m} k = record { all = either_cases m k }
+  pub many_of : Sized (List A) (total s) (many p)
+  many_of = record { all = λ ts as_ rd. turns as_ ts rd }
 
-  sized_turns : (as_ : List A) (ts : List Tok) → turns l ts as_ → total s as_ ≤ 2 * length ts
-  sized_turns [] ts rd = omega arith
-  sized_turns (a ∷ more) ts (u, v, e, x, y) = omega (arith, ap length e, length-append u v, h.all u a x, sized_turns more v y)
-
-  pub sized_many : Sized (total s) (many l)
-  sized_many = record { all = λ ts as_ rd. sized_turns as_ ts rd }
-
-  maybe_cases : (ts : List Tok) (a : Option A) → (maybe l).reads ts a → if_there s a ≤ 2 * length ts
+  pub maybe_cases : (ts : List Tok) (a : Option A) → maybe p ts a → if_there s a ≤ 2 * length ts
   maybe_cases ts a (inl (x, rd, e)) = subst (λ z. if_there s z ≤ 2 * length ts) (sym e) (h.all ts x rd)
   maybe_cases ts a (inr (x, rd, e)) = subst (λ z. if_there s z ≤ 2 * length ts) (sym e) (omega arith)
 
-  pub sized_maybe : Sized (if_there s) (maybe l)
-  sized_maybe = record { all = maybe_cases }
+  pub perhaps : Sized (Option A) (if_there s) (maybe p)
+  perhaps = record { all = maybe_cases }
 
-  pub sized_placed : Sized (marked s) (placed l)
-  sized_placed = record { all = λ ts pa rd. h.all ts pa.1 rd.0 }
+pub commas_of : {A : Type 0} {s : A → ℕ} {p : Phrase A} → Sized A s p → Sized (List A) (total s) (commas p)
+commas_of {s = s} h = of_made (λ a. omega arith) (in_turn h (many_of (of_made {t = s} (λ ab. omega arith) (in_turn (token_of (Comma ∷ [])) h))))
 
-  pub sized_barring : (t : Tok → Bool) → Sized s (barring t l)
-  sized_barring t = record { all = λ ts a rd. h.all ts a rd.0 }
+pub listed_le : {A : Type 0} (s : A → ℕ) (a : Option (List A)) → total s (or_none a) ≤ if_there (total s) a
+listed_le s None = omega arith
+listed_le s (Some all) = omega arith
 
-sized_lastly : {B : Type 0} {t : B → ℕ} {m : Language Tok B} → Sized t m → (b : Option B) (ts : List Tok) → lastly m ts b → if_there t b ≤ 2 * length ts
-sized_lastly h None ts rd = omega arith
-sized_lastly h (Some b) ts rd = h.all ts b rd
+pub listed_of : {A : Type 0} {s : A → ℕ} {p : Phrase A} (c : Class) → Sized A s p → (d : Class) → Sized (List A) (total s) (listed c (commas p) d)
+listed_of {s = s} c h d = of_made (λ a. omega arith) (in_turn (token_of (c ∷ [])) (in_turn (of_made {t = total s} (listed_le s) (perhaps (commas_of h))) (token_of (d ∷ []))))
 
-pub sized_series : {A B : Type 0} {s : A → ℕ} {t : B → ℕ} {l : Language Tok (A ⊎ B)} → Sized (one_of s t) l → Sized (sum (total s) (if_there t)) (series l)
-sized_series h = record {
-  all = λ ts got rd. omega (arith, ap length rd.2, length-append rd.0 rd.1, sized_turns (sized_left h) got.0 rd.0 rd.3, sized_lastly (sized_right h) got.1 rd.1 rd.4);
+abbrev pub forms : Forms Size Sized
+forms = record {
+  token = λ cs. two;
+  pair = sum;
+  list = total;
+  option = if_there;
+  marked = marked;
+  after_a = λ c s. s;
+  before_a = λ s c. s;
+  in_two = λ c s d. in_two s;
+  in_commas = total;
+  in_list = λ c s d. total s;
+  Makes = Makes;
+  no_list = record { all = λ ts a rd. absurd rd };
+  choice = token_of;
+  both = in_turn;
+  one_of = λ h k. either h k;
+  made = of_made;
+  turns = many_of;
+  perhaps = perhaps;
+  at = λ h. record { all = λ ts pa rd. h.all ts pa.1 rd.0 };
+  barred = λ c h. record { all = λ ts a rd. h.all ts a rd.0 };
+  behind = λ c h. of_made (λ ab. omega arith) (in_turn (token_of (c ∷ [])) h);
+  ahead = λ h c. of_made (λ ab. omega arith) (in_turn h (token_of (c ∷ [])));
+  round = λ c h d. of_made (λ a. omega arith) (in_turn (token_of (c ∷ [])) (in_turn h (token_of (d ∷ []))));
+  series = commas_of;
+  lists = listed_of;
+  also = λ k h. record { all = λ ts a rd. omega (arith, k a, h.all ts a rd) };
 }
-
-pub sized_finished : {A B : Type 0} {s : A → ℕ} {t : B → ℕ} {l : Language Tok (A ⊎ B)} → Sized (one_of s t) l → Sized (sum (total s) t) (finished l)
-sized_finished h = record { all = λ ts got rd. (sized_series h).all ts (got.0, Some got.1) rd }
-
--- the parts of sequences; what stands around them is let go
-pub sized_second : {A B : Type 0} {s : A → ℕ} {t : B → ℕ} {l : Language Tok A} {m : Language Tok B} → Sized s l → Sized t m → Sized t (made second (then l m))
-sized_second {t = t} h k = sized_made t second (λ ab. omega arith) (sized_then h k)
-
-pub sized_first : {A B : Type 0} {s : A → ℕ} {t : B → ℕ} {l : Language Tok A} {m : Language Tok B} → Sized s l → Sized t m → Sized s (made first (then l m))
-sized_first {s = s} h k = sized_made s first (λ ab. omega arith) (sized_then h k)
-
-pub sized_inner : {X A Y : Type 0} {x : X → ℕ} {s : A → ℕ} {y : Y → ℕ} {l : Language Tok X} {m : Language Tok A} {n : Language Tok Y} → Sized x l → Sized s m → Sized y n → Sized s (made inner (then l (then m n)))
-sized_inner {s = s} h k j = sized_made s inner (λ a. omega arith) (sized_then h (sized_then k j))
-
-pub sized_cons : {A : Type 0} (s : A → ℕ) {l : Language Tok (A × List A)} → Sized (sum s (total s)) l → Sized (total s) (made cons_of l)
-sized_cons s h = sized_made (total s) cons_of (λ a. omega arith) h
-
-pub sized_nothing : {X A : Type 0} {x : X → ℕ} (s : A → ℕ) {l : Language Tok X} → Sized x l → Sized (total s) (made nothing l)
-sized_nothing s h = sized_made (total s) nothing (λ a. omega arith) h
-
--- after a token, which counts
-pub sized_after : {A : Type 0} {s : A → ℕ} (c : Class) {m : Language Tok A} → Sized s m → Sized (λ a. suc (suc (s a))) (made second (then (the c) m))
-sized_after {s = s} c h = sized_made (λ a. suc (suc (s a))) second (λ ab. omega arith) (sized_then (sized_the c) h)
 
 -- lists in which each counts
 pub length_total : {A : Type 0} {s : A → ℕ} → ((a : A) → 1 ≤ s a) → (more : List A) → length more ≤ total s more

@@ -1,6 +1,4 @@
 mod Forms
-mod Exprs
-mod Steps
-mod Stmts
-mod Units
+mod Parts
+mod Makers
 pub mod Whole

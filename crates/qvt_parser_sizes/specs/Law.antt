@@ -2,7 +2,7 @@
 use Rattle.std.specs.Prelude.{◌*◌, ◌≤◌, List, length}
 use Rattle.qvt_tree_types.specs.Module.{ModuleTerm}
 use Rattle.qvt_language.specs.Tokens.{Tok}
-use Rattle.qvt_language.specs.Module.{Reads}
+use Rattle.qvt_language_rows.specs.Language.{Reads}
 use Rattle.qvt_parser_sizes.specs.Nodes.{nodes}
 
 -- a tree has at most two nodes for each token that it is read from

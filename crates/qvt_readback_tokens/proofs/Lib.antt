@@ -12,10 +12,7 @@ pub mod Quotes
 pub mod Reread
 pub mod Relexed
 pub mod Told
-pub mod Forms
 pub mod Parts
-pub mod ReadExprs
-pub mod ReadSteps
-pub mod ReadStmts
-pub mod ReadUnits
+pub mod Made
+pub mod Makers
 pub mod Printing

@@ -27,7 +27,7 @@ use Rattle.qvt_printer.specs.Expressions as print
 use Rattle.qvt_readback_tokens.proofs.Meets.{Free, Held, Opened}
 use Rattle.qvt_readback_tokens.proofs.Sound.{Sound, held_free, free_opened, sound_append}
 use Rattle.qvt_readback_tokens.specs.Told.{IsName}
-use Rattle.qvt_readback_tokens.proofs.Forms.{AllOf, IfThere}
+use Rattle.qvt_language_rows.specs.Lists.{AllOf, IfThere}
 
 -- what can stand anywhere, and what can stand after a token that holds nothing
 abbrev pub Closed : List Piece → Type 0

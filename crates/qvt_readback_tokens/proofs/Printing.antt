@@ -23,8 +23,12 @@ use Rattle.qvt_readback_tokens.proofs.Meets.{Free}
 use Rattle.qvt_readback_tokens.proofs.Tails.{tail, laid_out_is}
 use Rattle.qvt_readback_tokens.proofs.Told.{all_told}
 use Rattle.qvt_readback_tokens.proofs.Relexed.{bare_said, Lexed, relexed}
-use Rattle.qvt_readback_tokens.proofs.ReadStmts.{of_nested}
-use Rattle.qvt_readback_tokens.proofs.ReadUnits.{module_is, of_transformation}
+use Rattle.qvt_language_rows.specs.Lists.{AllOf}
+use Rattle.qvt_language_rows.proofs.Every.{every_module}
+use Rattle.qvt_language_rows.proofs.Answers.{to_rows}
+use Rattle.qvt_readback_tokens.specs.Told.{IsTold}
+use Rattle.qvt_readback_tokens.proofs.Made.{module_is}
+use Rattle.qvt_readback_tokens.proofs.Makers.{makers}
 
 map_twice : (ds : List TokenData) → map unplaced (map said ds) ≡ map bare_said ds
 map_twice [] = refl
@@ -67,10 +71,16 @@ pieces_begin : (m : ModuleTerm) → BeginsAt (tail 0 None (module_pieces m))
 unfolding module_pieces
 pieces_begin m = module_begins m.model_types _
 
+each_told : (ts : List Tok) → AllTold ts → AllOf IsTold ts
+each_told [] h = tt
+each_told (t ∷ ts) h = (h.0, each_told ts h.1)
+
 lexed_again : (ts : List Tok) (m : ModuleTerm) → AllTold ts → Reads ts m → HasSpelled (print_text m) (all_spelled (module_pieces m))
 unfolding print_text
 lexed_again ts m told reads =
-    let whole = (of_transformation (of_nested reads.nesting)).all ts m told reads.reads in
+    let row = to_rows ts m reads in
+    let every = every_module makers row.nesting in
+    let whole = every.all ts m (each_told ts told) row.is in
     let ps = module_pieces m in
     subst (λ z. HasSpelled z (all_spelled ps)) (sym (laid_out_is ps))
     (has_spelled (tail 0 None ps) (all_spelled ps) (pieces_begin m) (relexed ps Free 0 None (module_is m whole)))

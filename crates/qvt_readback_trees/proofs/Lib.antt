@@ -18,9 +18,6 @@ pub mod AgainClauses
 pub mod AgainMappings
 pub mod AgainModule
 pub mod Lifts
-pub mod LiftsExprs
-pub mod LiftsChains
-pub mod LiftsStmts
-pub mod LiftsUnits
+pub mod Lifted
 pub mod Printed
 pub mod Shaped

@@ -1,17 +1,31 @@
--- Tokens that are alike but for places are read as values that are alike but for places.
-use Rattle.std.proofs.Common.{◌≡◌, List, [], ◌∷◌, ◌++◌, map, Bool, false, ◌⊎◌, inl, inr, refl, sym, ap, ◌∙◌, subst, Option, Some, None, option_map, IsTrue, nat_eq, ◌||◌, ℕ}
+-- Tokens that are alike but for places are read as values that are alike but for places, by the forms of the grammar.
+use Rattle.std.proofs.Common.{◌≡◌, List, [], ◌∷◌, ◌++◌, map, IsTrue, inl, inr, refl, sym, ap, ◌∙◌, subst, Option, Some, None, option_map}
 use Rattle.qvt_base.specs.declared.numbers.Place.{Place}
-use Rattle.qvt_grammar.specs.Language.{Language, token, follow, then, either, many, turns, made, empty, maybe, head_of, lastly}
+use Rattle.qvt_grammar.specs.Language.{head_of}
 use Rattle.qvt_grammar.specs.Reader.{starts}
-use Rattle.qvt_language.specs.Tokens.{Tok, is, of, code_of}
-use Rattle.qvt_language.specs.Readers.{the, placed, nowhere}
-use Rattle.qvt_language.specs.Series.{left, right, series, finished, barring}
-use Rattle.qvt_language.specs.declared.class.Class.{Class}
+use Rattle.qvt_language.specs.Tokens.{Tok, is}
+use Rattle.qvt_language.specs.Readers.{nowhere}
 use Rattle.qvt_language.specs.Same.{unplaced}
+use Rattle.qvt_language.specs.declared.class.Class.{Class}
+use Rattle.qvt_language.specs.declared.class.Class.TheVariants.{Comma}
+use Rattle.qvt_language_rows.specs.Phrase.{Phrase, ◌or◌, ◌gives◌, ◌then◌, the, many, maybe, placed, commas, listed, or_none, barring}
+use Rattle.qvt_language_rows.proofs.Every.{any_of, Forms}
 
--- what l reads of tokens without places, m reads of the tokens themselves, as a value that is the same without places
-pub record Lifts {A : Type 0} (bare : A → A) (l m : Language Tok A) : Type 0 where
-  pub lift : (us : List Tok) (a : A) → l.reads (map unplaced us) a → (b : A) × m.reads us b × (bare b ≡ a)
+-- what the phrase reads of tokens without places, it reads of the tokens themselves, as a value that is the same without places
+pub record Lifts (A : Type 0) (bare : A → A) (p : Phrase A) : Type 0 where
+  pub lift : (us : List Tok) (a : A) → p (map unplaced us) a → (b : A) × p us b × (bare b ≡ a)
+
+abbrev pub Bare : Type 0 → Type 0
+Bare A = A → A
+
+abbrev pub both : {A B : Type 0} → (A → A) → (B → B) → A × B → A × B
+both f g ab = (f ab.0, g ab.1)
+
+abbrev pub marked : {A : Type 0} → (A → A) → Place × A → Place × A
+marked f pa = (nowhere, f pa.1)
+
+abbrev pub Makes : {A B : Type 0} → (A → A) → (B → B) → (A → B) → Type 0
+Makes {A} f g h = (a : A) → g (h a) ≡ h (f a)
 
 cut : (us u v : List Tok) → map unplaced us ≡ u ++ v → (x : List Tok) × (y : List Tok) × (us ≡ x ++ y) × (map unplaced x ≡ u) × (map unplaced y ≡ v)
 cut us [] v e = ([], us, refl, refl, e)
@@ -26,144 +40,115 @@ no_tokens : (us : List Tok) → map unplaced us ≡ [] → us ≡ []
 no_tokens [] e = refl
 no_tokens (t ∷ us) e = absurd cc
 
-lift_token : (p : Tok → Bool) → ((t : Tok) → p (unplaced t) ≡ p t) → (us : List Tok) (t : Tok) → (token p).reads (map unplaced us) t → (b : Tok) × (token p).reads us b × (unplaced b ≡ t)
-lift_token p same [] t rd = absurd (let z = rd.0 in cc)
-lift_token p same (s ∷ []) t rd =
+pub one_token : (c : Class) (us : List Tok) (t : Tok) → the c (map unplaced us) t → (s : Tok) × the c us s × (unplaced s ≡ t)
+one_token c [] t rd = absurd (let z = rd.0 in cc)
+one_token c (s ∷ []) t rd =
     let e : unplaced s ≡ t = (let z = rd.0 in cc) in
-    (s, (refl, subst IsTrue (same s) (subst (λ x. IsTrue (p x)) (sym e) rd.1)), e)
-lift_token p same (s ∷ x ∷ us) t rd = absurd (let z = rd.0 in cc)
+    (s, (refl, subst (λ x. IsTrue (is c x)) (sym e) rd.1), e)
+one_token c (s ∷ x ∷ us) t rd = absurd (let z = rd.0 in cc)
 
-pub lifts_token : (p : Tok → Bool) → ((t : Tok) → p (unplaced t) ≡ p t) → Lifts unplaced (token p) (token p)
-lifts_token p same = record { lift = lift_token p same }
+pub chosen : (cs : List Class) (us : List Tok) (t : Tok) → any_of cs (map unplaced us) t → (s : Tok) × any_of cs us s × (unplaced s ≡ t)
+chosen [] us t rd = absurd rd
+chosen (c ∷ []) us t rd = one_token c us t rd
+chosen (c ∷ d ∷ cs) us t (inl rd) = let w = one_token c us t rd in (w.0, inl w.1, w.2)
+chosen (c ∷ d ∷ cs) us t (inr rd) = let w = chosen (d ∷ cs) us t rd in (w.0, inr w.1, w.2)
 
-pub lifts_the : (c : Class) → Lifts unplaced (the c) (the c)
-lifts_the c = lifts_token (is c) (λ t. refl)
+pub token_of : (cs : List Class) → Lifts Tok unplaced (any_of cs)
+token_of cs = record { lift = chosen cs }
 
-head_unplaced : (us : List Tok) → head_of (λ t. t.place) nowhere (map unplaced us) ≡ nowhere
+pub head_unplaced : (us : List Tok) → head_of (λ t. t.place) nowhere (map unplaced us) ≡ nowhere
 head_unplaced [] = refl
 head_unplaced (t ∷ us) = refl
 
-abbrev pub both : {A B : Type 0} → (A → A) → (B → B) → A × B → A × B
-both f g ab = (f ab.0, g ab.1)
+pub starts_unplaced : (c : Class) (us : List Tok) → starts (is c) (map unplaced us) ≡ starts (is c) us
+starts_unplaced c [] = refl
+starts_unplaced c (t ∷ us) = refl
 
-module _ {A B : Type 0} {b1 : A → A} {b2 : B → B} {l l2 : Language Tok A} where
-  pub lifts_follow : (m m2 : A → Language Tok B) → Lifts b1 l l2 → ((a : A) → Lifts b2 (m (b1 a)) (m2 a)) → Lifts (both b1 b2) (follow l m) (follow l2 m2)
-  lifts_follow m m2 k j = record {
-    lift = λ us ab rd. (
-        let w = cut us rd.0 rd.1 rd.2 in
-        let x = k.lift w.0 ab.0 (subst (λ z. l.reads z ab.0) (sym w.3) rd.3) in
-        let r = subst (λ z. (m ab.0).reads z ab.1) (sym w.4) rd.4 in
-        let y = (j x.0).lift w.1 ab.1 (subst (λ z. (m z).reads (map unplaced w.1) ab.1) (sym x.2) r) in
-        ((x.0, y.0), (w.0, w.1, w.2, x.1, y.1), λ i. (x.2 i, y.2 i)));
-  }
+pub in_turn : {A B : Type 0} {f : A → A} {g : B → B} {p : Phrase A} {q : Phrase B} → Lifts A f p → Lifts B g q → Lifts (A × B) (both f g) (p then q)
+in_turn {p = p} {q = q} k j = record {
+  lift = λ us ab rd. (
+      let w = cut us rd.0 rd.1 rd.2 in
+      let x = k.lift w.0 ab.0 (subst (λ z. p z ab.0) (sym w.3) rd.3) in
+      let y = j.lift w.1 ab.1 (subst (λ z. q z ab.1) (sym w.4) rd.4) in
+      ((x.0, y.0), (w.0, w.1, w.2, x.1, y.1), λ i. (x.2 i, y.2 i)));
+}
 
-  pub lifts_then : {m m2 : Language Tok B} → Lifts b1 l l2 → Lifts b2 m m2 → Lifts (both b1 b2) (then l m) (then l2 m2)
-  lifts_then {m = m} {m2 = m2} k j = lifts_follow (λ _. m) (λ _. m2) k (λ a. j)
+pub of_made : {A B : Type 0} {f : A → A} {g : B → B} {p : Phrase A} {h : A → B} → Makes f g h → Lifts A f p → Lifts B g (p gives h)
+of_made {h = h} same k = record { lift = λ us b rd. (let x = k.lift us rd.0 rd.1 in (h x.0, (x.0, x.1, refl), same x.0 ∙ ap h x.2 ∙ sym rd.2)) }
 
-  pub lifts_made_as : (f g : A → B) → Lifts b1 l l2 → ((a : A) → b2 (g a) ≡ f (b1 a)) → Lifts b2 (made f l) (made g l2)
-  lifts_made_as f g k same = record { lift = λ us b rd. (let x = k.lift us rd.0 rd.1 in (g x.0, (x.0, x.1, refl), same x.0 ∙ ap f x.2 ∙ sym rd.2)) }
+module _ {A : Type 0} {f : A → A} {p : Phrase A} (k : Lifts A f p) where
+  pub either_cases : (q : Phrase A) → Lifts A f q → (us : List Tok) (a : A) → (p or q) (map unplaced us) a → (b : A) × (p or q) us b × (f b ≡ a)
+  either_cases q j us a (inl rd) = let x = k.lift us a rd in (x.0, inl x.1, x.2)
+  either_cases q j us a (inr rd) = let x = j.lift us a rd in (x.0, inr x.1, x.2)
 
-  pub lifts_made : (f : A → B) → Lifts b1 l l2 → ((a : A) → b2 (f a) ≡ f (b1 a)) → Lifts b2 (made f l) (made f l2)
-  lifts_made f k same = lifts_made_as f f k same
+  pub either : {q : Phrase A} → Lifts A f q → Lifts A f (p or q)
+  either {q = q} j = record { lift = either_cases q j }
 
-module _ {A : Type 0} {b : A → A} {l l2 : Language Tok A} where
-  pub lifts_either : {m m2 : Language Tok A} → Lifts b l l2 → Lifts b m m2 → Lifts b (either l m) (either l2 m2)
-  lifts_either k j = record {
-    lift = λ us a rd. elim rd [
-      | inl q ↦ (let x = k.lift us a q in (x.0, inl x.1, x.2))
-      | inr q ↦ (let x = j.lift us a q in (x.0, inr x.1, x.2))
-    ];
-  }
+  pub turns : (got : List A) (us : List Tok) → many p (map unplaced us) got → (more : List A) × many p us more × (map f more ≡ got)
+  turns [] us rd = ([], no_tokens us rd, refl)
+  turns (a ∷ got) us rd =
+      let w = cut us rd.0 rd.1 rd.2 in
+      let x = k.lift w.0 a (subst (λ z. p z a) (sym w.3) rd.3) in
+      let y = turns got w.1 (subst (λ z. many p z got) (sym w.4) rd.4) in
+      (x.0 ∷ y.0, (w.0, w.1, w.2, x.1, y.1), λ i. x.2 i ∷ y.2 i)
 
-  pub lifts_placed : Lifts b l l2 → Lifts (λ (x : Place × A). (nowhere, b x.1)) (placed l) (placed l2)
-  lifts_placed k = record {
+  pub many_of : Lifts (List A) (map f) (many p)
+  many_of = record { lift = λ us got rd. turns got us rd }
+
+  pub maybe_cases : (us : List Tok) (a : Option A) → maybe p (map unplaced us) a → (b : Option A) × maybe p us b × (option_map f b ≡ a)
+  maybe_cases us a (inl rd) = let x = k.lift us rd.0 rd.1 in (Some x.0, inl (x.0, x.1, refl), ap Some x.2 ∙ sym rd.2)
+  maybe_cases us a (inr rd) = (None, inr (rd.0, no_tokens us rd.1, refl), sym rd.2)
+
+  pub perhaps : Lifts (Option A) (option_map f) (maybe p)
+  perhaps = record { lift = maybe_cases }
+
+  pub placed_of : Lifts (Place × A) (marked f) (placed p)
+  placed_of = record {
     lift = λ us pa rd. (
         let x = k.lift us pa.1 rd.0 in
         let e : nowhere ≡ pa.0 = sym (rd.1 ∙ head_unplaced us) in
         ((head_of (λ t. t.place) nowhere us, x.0), (x.1, refl), λ i. (e i, x.2 i)));
   }
 
-  lift_turns : Lifts b l l2 → (got : List A) (us : List Tok) → turns l (map unplaced us) got → (more : List A) × turns l2 us more × (map b more ≡ got)
-  lift_turns k [] us rd = ([], no_tokens us rd, refl)
-  lift_turns k (a ∷ got) us rd =
-      let w = cut us rd.0 rd.1 rd.2 in
-      let x = k.lift w.0 a (subst (λ z. l.reads z a) (sym w.3) rd.3) in
-      let y = lift_turns k got w.1 (subst (λ z. turns l z got) (sym w.4) rd.4) in
-      (x.0 ∷ y.0, (w.0, w.1, w.2, x.1, y.1), λ i. x.2 i ∷ y.2 i)
+  pub barring_of : (c : Class) → Lifts A f (barring c p)
+  barring_of c = record { lift = λ us a rd. (let x = k.lift us a rd.0 in (x.0, (x.1, sym (starts_unplaced c us) ∙ rd.1), x.2)) }
 
-  pub lifts_many : Lifts b l l2 → Lifts (map b) (many l) (many l2)
-  lifts_many k = record { lift = λ us got rd. lift_turns k got us rd }
+pub commas_of : {A : Type 0} {f : A → A} {p : Phrase A} → Lifts A f p → Lifts (List A) (map f) (commas p)
+commas_of {f = f} k = of_made (λ a. refl) (in_turn k (many_of (of_made {g = f} (λ ab. refl) (in_turn (token_of (Comma ∷ [])) k))))
 
-pub lifts_empty : Lifts (λ (x : Unit {0}). x) empty empty
-lifts_empty = record { lift = λ us a rd. (a, no_tokens us rd, refl) }
+pub listed_same : {A : Type 0} (f : A → A) (a : Option (List A)) → map f (or_none a) ≡ or_none (option_map (map f) a)
+listed_same f None = refl
+listed_same f (Some all) = refl
 
-module _ {A : Type 0} {b : A → A} {l l2 : Language Tok A} where
-  pub lifts_maybe : Lifts b l l2 → Lifts (option_map b) (maybe l) (maybe l2)
-  lifts_maybe k = lifts_either (lifts_made Some k (λ a. refl)) (lifts_made (λ _. None) lifts_empty (λ a. refl))
+pub listed_of : {A : Type 0} {f : A → A} {p : Phrase A} (c : Class) → Lifts A f p → (d : Class) → Lifts (List A) (map f) (listed c (commas p) d)
+listed_of {f = f} c k d = of_made (λ a. refl) (in_turn (token_of (c ∷ [])) (in_turn (of_made {g = map f} (listed_same f) (perhaps (commas_of k))) (token_of (d ∷ []))))
 
--- turns of two kinds
-
-abbrev pub bare_sum : {A B : Type 0} → (A → A) → (B → B) → A ⊎ B → A ⊎ B
-bare_sum f g (inl a) = inl (f a)
-bare_sum f g (inr b) = inr (g b)
-
-module _ {A B : Type 0} (f : A → A) (g : B → B) (l : Language Tok (A ⊎ B)) where
-  of_left : (us : List Tok) (a : A) (x : A ⊎ B) → l.reads us x → bare_sum f g x ≡ inl a → (b : A) × l.reads us (inl b) × (f b ≡ a)
-  of_left us a (inl b) rd e = (b, rd, cc)
-  of_left us a (inr b) rd e = absurd cc
-
-  of_right : (us : List Tok) (a : B) (x : A ⊎ B) → l.reads us x → bare_sum f g x ≡ inr a → (b : B) × l.reads us (inr b) × (g b ≡ a)
-  of_right us a (inl b) rd e = absurd cc
-  of_right us a (inr b) rd e = (b, rd, cc)
-
-module _ {A B : Type 0} {f : A → A} {g : B → B} {l l2 : Language Tok (A ⊎ B)} where
-  lifts_left : Lifts (bare_sum f g) l l2 → Lifts f (left l) (left l2)
-  lifts_left k = record { lift = λ us a rd. (let x = k.lift us (inl a) rd in of_left f g l2 us a x.0 x.1 x.2) }
-
-  lifts_right : Lifts (bare_sum f g) l l2 → Lifts g (right l) (right l2)
-  lifts_right k = record { lift = λ us a rd. (let x = k.lift us (inr a) rd in of_right f g l2 us a x.0 x.1 x.2) }
-
-module _ {A : Type 0} {b : A → A} {l l2 : Language Tok A} where
-  lift_last : Lifts b l l2 → (x : Option A) (us : List Tok) → lastly l (map unplaced us) x → (y : Option A) × lastly l2 us y × (option_map b y ≡ x)
-  lift_last k None us rd = (None, no_tokens us rd, refl)
-  lift_last k (Some a) us rd = let x = k.lift us a rd in (Some x.0, x.1, ap Some x.2)
-
-module _ {A B : Type 0} {f : A → A} {g : B → B} {l l2 : Language Tok (A ⊎ B)} where
-  pub lifts_series : Lifts (bare_sum f g) l l2 → Lifts (both (map f) (option_map g)) (series l) (series l2)
-  lifts_series k = record {
-    lift = λ us got rd. (
-        let w = cut us rd.0 rd.1 rd.2 in
-        let x = lift_turns (lifts_left k) got.0 w.0 (subst (λ z. turns (left l) z got.0) (sym w.3) rd.3) in
-        let y = lift_last (lifts_right k) got.1 w.1 (subst (λ z. lastly (right l) z got.1) (sym w.4) rd.4) in
-        ((x.0, y.0), (w.0, w.1, w.2, x.1, y.1), λ i. (x.2 i, y.2 i)));
-  }
-
-module _ {A B : Type 0} (f : A → A) (g : B → B) (l : Language Tok (A ⊎ B)) where
-  some_last : (us : List Tok) (xs : List A) (y : Option B) (got : List A × B) → (series l).reads us (xs, y) → both (map f) (option_map g) (xs, y) ≡ (got.0, Some got.1) → (b : List A × B) × (finished l).reads us b × (both (map f) g b ≡ got)
-  some_last us xs None got rd e = absurd (let z : None ≡ Some got.1 = (λ i. (e i).1) in cc)
-  some_last us xs (Some y) got rd e =
-      let z : Some (g y) ≡ Some got.1 = (λ i. (e i).1) in
-      let q : g y ≡ got.1 = cc in
-      ((xs, y), rd, λ i. ((e i).0, q i))
-
-module _ {A B : Type 0} {f : A → A} {g : B → B} {l l2 : Language Tok (A ⊎ B)} where
-  pub lifts_finished : Lifts (bare_sum f g) l l2 → Lifts (both (map f) g) (finished l) (finished l2)
-  lifts_finished k = record { lift = λ us got rd. (let x = (lifts_series k).lift us (got.0, Some got.1) rd in some_last f g l2 us x.0.0 x.0.1 got x.1 x.2) }
-
--- lists that do not begin with certain tokens
-
-of_unplaced : (ks : List ℕ) (t : Tok) → of ks (unplaced t) ≡ of ks t
-of_unplaced [] t = refl
-of_unplaced (k ∷ ks) t = ap (λ z. z || nat_eq (code_of t.class) k) (of_unplaced ks t)
-
-starts_unplaced : (ks : List ℕ) (us : List Tok) → starts (of ks) (map unplaced us) ≡ starts (of ks) us
-starts_unplaced ks [] = refl
-starts_unplaced ks (t ∷ us) = of_unplaced ks t
-
-module _ {A : Type 0} {b : A → A} {l l2 : Language Tok A} where
-  pub lifts_barring : (ks js : List ℕ) → ks ≡ js → Lifts b l l2 → Lifts b (barring (of ks) l) (barring (of js) l2)
-  lifts_barring ks js e k = record {
-    lift = λ us a rd. (
-        let x = k.lift us a rd.0 in
-        (x.0, (x.1, subst (λ z. starts (of z) us ≡ false) e (sym (starts_unplaced ks us) ∙ rd.1)), x.2));
-  }
+abbrev pub forms : Forms Bare Lifts
+forms = record {
+  token = λ cs. unplaced;
+  pair = both;
+  list = map;
+  option = option_map;
+  marked = marked;
+  after_a = λ c f. f;
+  before_a = λ f c. f;
+  in_two = λ c f d. f;
+  in_commas = map;
+  in_list = λ c f d. map f;
+  Makes = Makes;
+  no_list = record { lift = λ us a rd. absurd rd };
+  choice = token_of;
+  both = in_turn;
+  one_of = λ k j. either k j;
+  made = of_made;
+  turns = many_of;
+  perhaps = perhaps;
+  at = placed_of;
+  barred = λ c k. barring_of k c;
+  behind = λ c k. of_made (λ ab. refl) (in_turn (token_of (c ∷ [])) k);
+  ahead = λ k c. of_made (λ ab. refl) (in_turn k (token_of (c ∷ [])));
+  round = λ c k d. of_made (λ a. refl) (in_turn (token_of (c ∷ [])) (in_turn k (token_of (d ∷ []))));
+  series = commas_of;
+  lists = listed_of;
+  also = λ same k. record { lift = λ us a rd. (let x = k.lift us a rd in (x.0, x.1, same x.0 ∙ x.2)) };
+}
