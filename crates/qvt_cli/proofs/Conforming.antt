@@ -1,5 +1,5 @@
 -- What is so of a plan over the value that a chain gave is so over the chain; and where an early end was told nothing was written.
-use Rattle.std.proofs.Common.{◌≡◌, ◌≢◌, ◌∙◌, ◌⊎◌, inl, inr, sym, subst, Option, Some, Result, Ok, Err}
+use Rattle.std.proofs.Common.{◌≡◌, ◌≢◌, ◌∙◌, ◌⊎◌, inl, inr, sym, subst, Some, Result, Ok, Err}
 use Rattle.std.specs.Prelude.{IfOk}
 use Rattle.qvt_base.specs.Outside.{Held, FilesSeen, SinkSeen}
 use Rattle.qvt_outcome.specs.Chain.{Chain}

@@ -1,12 +1,10 @@
 -- A job that is done has one record of a key at most, and its cost is exact.
-use Rattle.std.proofs.Common.{◌≡◌, ◌∙◌, refl, ap, sym, subst, ℕ, Bool, true, false, nat_lt, if◌then◌else◌, List, [], ◌∷◌, ◌++◌, Option, Some, None, option_map, Result, Ok, Err, IsTrue}
+use Rattle.std.proofs.Common.{◌≡◌, ◌∙◌, refl, ap, sym, subst, ℕ, Bool, true, false, nat_lt, if◌then◌else◌, List, [], Option, Some, None, Result, Ok, Err, IsTrue}
 use Rattle.qvt_base.specs.Outside.{Held}
 use Rattle.qvt_metamodel.specs.Metamodels.{Metamodels}
-use Rattle.qvt_tree_types.specs.Module.{ModuleTerm}
 use Rattle.qvt_tree_types.specs.declared.module.ModelParam.{ModelParam}
 use Rattle.qvt_store.specs.Contents.{Contents}
 use Rattle.qvt_conform.specs.declared.fault.LowFault.{LowFault}
-use Rattle.qvt_inputs.specs.declared.loaded.Loaded.{Loaded}
 use Rattle.qvt_job.specs.Parameters.{mismatch, is_served}
 use Rattle.qvt_job.specs.declared.job.Job.{Job}
 use Rattle.qvt_meaning.specs.Accepts.{ProgramTerm}
@@ -18,7 +16,7 @@ use Rattle.qvt_meaning_report.specs.Lines.{done_line}
 use Rattle.qvt_meaning_report.specs.Meaning as means
 use Rattle.qvt_meaning_report.specs.Meaning.{meaning, low_in, unless_low, outcome_of}
 use Rattle.qvt_outcome.specs.Outcome.{Outcome, File, out_of_fuel, done}
-use Rattle.qvt_outcome.specs.Chain.{Reading, reading, Chain, step, on_ok, behind}
+use Rattle.qvt_outcome.specs.Chain.{Reading, reading, on_ok}
 use Rattle.qvt_outputs.specs.Left.{files_left, left}
 use Rattle.qvt_program_inputs.specs.Start.{program_inputs}
 use Rattle.qvt_run_laws.proofs.Exact.{done_is_exact}

@@ -1,5 +1,5 @@
 -- The models that a run writes conform to their metamodels (EMOF 12.4 and 12.5).
-use Rattle.std.specs.Prelude.{◌≡◌, ℕ, List, IsTrue, Option, Some, None, Result, Ok, Err, ⊤}
+use Rattle.std.specs.Prelude.{◌≡◌, ℕ, List, IsTrue, Some, None, Result, Ok, Err, ⊤}
 use Rattle.std.specs.List.{AllByRecursion}
 use Rattle.qvt_store.specs.Contents.{Contents, extent_at, is_extent}
 use Rattle.qvt_model.specs.declared.data.ObjectData.{ObjectData}

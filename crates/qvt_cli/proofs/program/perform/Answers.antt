@@ -9,7 +9,6 @@ use Rattle.qvt_program_inputs.specs.Start.{program_inputs}
 use Rattle.qvt_cli.specs.Ends.{left_over}
 use Rattle.qvt_cli.specs.Run.{performed}
 use Rattle.qvt_outcome.proofs.Chained.{stopped, stepped}
-use Rattle.std.specs.Prelude.{IfOk}
 use Rattle.qvt_base.specs.Outside.{Held}
 use Rattle.qvt_meaning.specs.Run.{finished}
 use Rattle.qvt_outputs.specs.Conforming.{LeavesConforming}
