@@ -3,7 +3,7 @@ use Rattle.std.proofs.Common.{◌≡◌, ◌∙◌, ap, sym, refl, subst, ℕ, �
 use Rattle.std.specs.List.{AllByRecursion}
 use Rattle.std.proofs.lemmas.List.{map_more}
 use Rattle.qvt_store.specs.Contents.{Contents}
-use Rattle.qvt_outcome.specs.Outcome.{File, write_fault_line}
+use Rattle.qvt_outcome.specs.Outcome.{write_fault_line}
 use Rattle.qvt_outcome.specs.Plans.{file_of, files_in, IsReady}
 use Rattle.qvt_outcome.specs.declared.plan.Output.{Output}
 use Rattle.qvt_job.specs.declared.job.JobModel.{JobModel}
