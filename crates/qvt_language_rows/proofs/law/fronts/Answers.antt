@@ -1,5 +1,5 @@
-use Rattle.qvt_parser_fronts.proofs.Whole.{whole, part}
-use Rattle.qvt_parser_fronts.proofs.law.fronts.Goals as goal
+use Rattle.qvt_language_rows.proofs.Fronts.{whole, part}
+use Rattle.qvt_language_rows.proofs.law.fronts.Goals as goal
 
 pub returns-clause-whole : goal.returns-clause-whole
 returns-clause-whole c = whole

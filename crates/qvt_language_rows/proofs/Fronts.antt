@@ -1,6 +1,5 @@
 -- Start symbols do not look at places: the rows that they read do not.
 use Rattle.std.proofs.Common.{◌≡◌, List, [], ◌∷◌, ◌++◌, map}
-use Rattle.qvt_tree_types.specs.Module.{UnitTerm, ModuleTerm}
 use Rattle.qvt_language.specs.Tokens.{Tok}
 use Rattle.qvt_language.specs.Same.{unplaced, SameTokens}
 use Rattle.qvt_language.specs.Units.{transformation, unit}
@@ -9,10 +8,9 @@ use Rattle.qvt_language_rows.specs.Phrase.{Phrase}
 use Rattle.qvt_language_rows.specs.Rows.{Inside}
 use Rattle.qvt_language_rows.specs.Units.{«Unit», Module}
 use Rattle.qvt_language_rows.specs.Language.{Is, Begins}
-use Rattle.qvt_language_rows.specs.Law.{AreOne}
+use Rattle.qvt_language_rows.specs.Law.{AreOne, LooksAtNoPlace}
 use Rattle.qvt_language_rows.proofs.Alike.{unit_alike, module_alike}
 use Rattle.qvt_language_rows.proofs.Whole as rows
-use Rattle.qvt_parser_fronts.specs.Law.{LooksAtNoPlace}
 
 -- with the same tokens after them
 same_more : (ts us more : List Tok) → SameTokens ts us → SameTokens (ts ++ more) (us ++ more)
