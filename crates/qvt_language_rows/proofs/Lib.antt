@@ -11,4 +11,5 @@ pub mod Whole
 pub mod Answers
 pub mod Every
 pub mod Gives
-pub mod Alike
+mod Alike
+pub mod Fronts

@@ -8,7 +8,7 @@ ghost use Rattle.qvt_language.specs.ReadingUnits.{transformation_at};
 ghost use Rattle.qvt_language.specs.Units.{transformation, unit};
 ghost use Rattle.qvt_language_rows.specs.Units.{«Unit», Module};
 ghost use Rattle.qvt_language_rows.specs.Language.{Reads, IsFault};
-ghost use Rattle.qvt_language_rows.specs.Law.{AreOne};
+ghost use Rattle.qvt_language_rows.specs.Law.{AreOne, LooksAtNoPlace};
 
 /// Its clauses are the law that the rows of the grammar have the same lists of tokens, as the same
 /// trees, the same beginnings and the same faults as the productions that the parser follows: a
@@ -26,4 +26,11 @@ pub fn answers()
     ensures one { (n : ℕ) (ts : List Tok) → length ts ≤ n → (m : ModuleTerm) (r : List Tok) → transformation_at (nested_at n) ts ≡ Ok (m, r) → is_nil r ≡ true → (other : ModuleTerm) → Reads ts other → other ≡ m }
     ensures rest { (n : ℕ) (ts : List Tok) → length ts ≤ n → (m : ModuleTerm) (r : List Tok) → transformation_at (nested_at n) ts ≡ Ok (m, r) → is_nil r ≡ false → IsFault ts r }
     ensures fault { (n : ℕ) (ts : List Tok) → length ts ≤ n → (r : List Tok) → transformation_at (nested_at n) ts ≡ Err (At r) → IsFault ts r }
+{}
+
+/// Its clauses are the law that neither a transformation nor one of its units looks at places: the
+/// same tokens are read wherever they stand, and are a front wherever they stand. It does nothing.
+pub fn fronts()
+    ensures whole { LooksAtNoPlace transformation }
+    ensures part { LooksAtNoPlace unit }
 {}

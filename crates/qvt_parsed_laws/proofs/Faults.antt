@@ -7,7 +7,7 @@ use Rattle.qvt_language.specs.Same.{SameTokens, AllSimple}
 use Rattle.qvt_language.specs.Module.{Reads, IsFront}
 use Rattle.qvt_language.proofs.Whole as grammar
 use Rattle.qvt_language.proofs.Starts.{beginnings}
-use Rattle.qvt_parser_fronts.proofs.Whole as fronts
+use Rattle.qvt_language_rows.proofs.Fronts as fronts
 use Rattle.qvt_language_rows.proofs.Answers.{to_rows, of_rows, front_to_rows, front_of_rows}
 use Rattle.qvt_parser_tokens.specs.Text.{HasTokens}
 use Rattle.qvt_parsed.specs.Parsing.{HasSyntaxFault}

@@ -9,7 +9,7 @@ use Rattle.qvt_lexer.specs.declared.scan.Piece.TheVariants.{Blank, Comment, Toke
 use Rattle.qvt_language.specs.Tokens.{Tok}
 use Rattle.qvt_parser_tokens.specs.Said.{said}
 use Rattle.qvt_parser_tokens.specs.Text.{HasTokens}
-use Rattle.qvt_parser_places.specs.Law.{NoneBefore, DoNotFall}
+use Rattle.qvt_parser_nodes.specs.Law.{NoneBefore, DoNotFall}
 
 abbrev pub spots : List Tok → List Place
 spots = map (λ t. t.place)

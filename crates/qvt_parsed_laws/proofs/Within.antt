@@ -18,15 +18,12 @@ use Rattle.qvt_language_rows.specs.Lists.{AllOf}
 use Rattle.qvt_parser_tokens.specs.Said.{said}
 use Rattle.qvt_parser_tokens.specs.Text.{HasTokens}
 use Rattle.qvt_parsed.specs.Parsing.{IsTransformation}
-use Rattle.qvt_parser_sizes.specs.Nodes.{nodes}
-use Rattle.qvt_parser_sizes.proofs.Whole.{at_most_two_each}
-use Rattle.qvt_parser_names.specs.Names.{Told, HasNames}
-use Rattle.qvt_parser_names.specs.Law.{of_tokens, IsAtMost, at_most}
-use Rattle.qvt_parser_names.proofs.Whole.{names_are_tokens, none_is_longer}
-use Rattle.qvt_parser_places.specs.Places.{Clause, places}
-use Rattle.qvt_parser_places.specs.Law.{DoNotFall}
-use Rattle.qvt_parser_places.proofs.Along.{Along, along_both, along_order}
-use Rattle.qvt_parser_places.proofs.Whole.{along}
+use Rattle.qvt_parser_nodes.specs.Nodes.{nodes}
+use Rattle.qvt_parser_nodes.specs.Names.{Told, HasNames}
+use Rattle.qvt_parser_nodes.specs.Places.{Clause, places}
+use Rattle.qvt_parser_nodes.specs.Law.{of_tokens, IsAtMost, at_most, DoNotFall}
+use Rattle.qvt_parser_nodes.proofs.Along.{Along, along_both, along_order}
+use Rattle.qvt_parser_nodes.proofs.Whole.{at_most_two_each, names_are_tokens, none_is_longer, along}
 use Rattle.qvt_parsed_laws.specs.Tree.{LiesInText}
 use Rattle.qvt_parsed_laws.proofs.Bytes.{bytes, bytes_more, bytes_append, scalars_parts, text_short}
 use Rattle.qvt_parsed_laws.proofs.Order.{spots, tokens_rise}

@@ -2,11 +2,10 @@
 use Rattle.std.specs.Prelude.{ℕ, ◌*◌, ◌^◌, ◌≤◌, ◌<◌, List, [], ◌∷◌, ◌++◌, length}
 use Rattle.std.specs.Str.{IsUtf8}
 use Rattle.qvt_tree_types.specs.Module.{MappingTerm, ModuleTerm}
-use Rattle.qvt_parser_sizes.specs.Nodes.{nodes}
-use Rattle.qvt_parser_names.specs.Names.{HasNames}
-use Rattle.qvt_parser_names.specs.Law.{of_tokens, at_most}
-use Rattle.qvt_parser_places.specs.Places.{Clause, places}
-use Rattle.qvt_parser_places.specs.Law.{DoNotFall}
+use Rattle.qvt_parser_nodes.specs.Nodes.{nodes}
+use Rattle.qvt_parser_nodes.specs.Names.{HasNames}
+use Rattle.qvt_parser_nodes.specs.Places.{Clause, places}
+use Rattle.qvt_parser_nodes.specs.Law.{of_tokens, at_most, DoNotFall}
 use Rattle.qvt_parsed.specs.Parsing.{IsTransformation}
 
 -- the limit on a text, in bytes

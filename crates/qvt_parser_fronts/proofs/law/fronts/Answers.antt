@@ -1,8 +1,0 @@
-use Rattle.qvt_parser_fronts.proofs.Whole.{whole, part}
-use Rattle.qvt_parser_fronts.proofs.law.fronts.Goals as goal
-
-pub returns-clause-whole : goal.returns-clause-whole
-returns-clause-whole c = whole
-
-pub returns-clause-part : goal.returns-clause-part
-returns-clause-part c = part

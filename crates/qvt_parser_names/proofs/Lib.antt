@@ -1,3 +1,0 @@
-mod Parts
-mod Makers
-pub mod Whole

@@ -1,0 +1,4 @@
+pub mod Nodes
+pub mod Names
+pub mod Places
+pub mod Law

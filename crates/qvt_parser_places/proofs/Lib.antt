@@ -1,5 +1,0 @@
-pub mod Along
-mod Forms
-mod Parts
-mod Makers
-pub mod Whole

@@ -1,4 +1,0 @@
-mod Forms
-mod Parts
-mod Makers
-pub mod Whole

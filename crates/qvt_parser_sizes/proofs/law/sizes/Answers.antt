@@ -1,5 +1,0 @@
-use Rattle.qvt_parser_sizes.proofs.Whole.{at_most_two_each}
-use Rattle.qvt_parser_sizes.proofs.law.sizes.Goals as goal
-
-pub returns : goal.returns
-returns c = at_most_two_each

@@ -1,4 +1,0 @@
-//! How large the tree is that tokens are read as (QVT 1.3, 8.4).
-#![tactic(auto)]
-
-pub mod law;
