@@ -1,5 +1,5 @@
--- A job that is done has one record of a key at most, and its cost is exact.
-use Rattle.std.proofs.Common.{◌≡◌, ◌∙◌, refl, ap, sym, subst, ℕ, Bool, true, false, nat_lt, if◌then◌else◌, List, [], Option, Some, None, Result, Ok, Err, IsTrue}
+-- A job that is done has the records of its calls, and its cost is exact.
+use Rattle.std.proofs.Common.{◌≡◌, ◌∙◌, refl, ap, sym, subst, ℕ, Bool, true, false, nat_lt, if◌then◌else◌, List, [], Option, Some, None, Result, Ok, Err}
 use Rattle.qvt_base.specs.Outside.{Held}
 use Rattle.qvt_metamodel.specs.Metamodels.{Metamodels}
 use Rattle.qvt_tree_types.specs.declared.module.ModelParam.{ModelParam}
@@ -8,7 +8,6 @@ use Rattle.qvt_conform.specs.declared.fault.LowFault.{LowFault}
 use Rattle.qvt_job.specs.Parameters.{mismatch, is_served}
 use Rattle.qvt_job.specs.declared.job.Job.{Job}
 use Rattle.qvt_meaning.specs.Accepts.{ProgramTerm}
-use Rattle.qvt_meaning.specs.Laws.{keys_differ}
 use Rattle.qvt_meaning.specs.Run.{Finished, finished}
 use Rattle.qvt_run_data.specs.declared.exit.End.{End}
 use Rattle.qvt_run_data.specs.declared.exit.End.TheVariants as end
@@ -20,7 +19,7 @@ use Rattle.qvt_outcome.specs.Chain.{Reading, reading, on_ok}
 use Rattle.qvt_outputs.specs.Left.{files_left, left}
 use Rattle.qvt_program_inputs.specs.Start.{program_inputs}
 use Rattle.qvt_run_laws.proofs.Exact.{done_is_exact}
-use Rattle.qvt_run_laws.proofs.Recorded.{one_record}
+use Rattle.qvt_run_laws.proofs.Recorded.{one_is_left, one_record}
 use Rattle.qvt_cli.specs.Ends.{left_over}
 use Rattle.qvt_cli.specs.Exact.{MeaningIsExact, with_fuel, IsDone, JobIsExact}
 use Rattle.qvt_cli.specs.Metas.{metamodels_read}
@@ -47,9 +46,9 @@ meaning_is_exact p store fuel n f e =
     let w = finished_in (finished p store fuel) f e in
     ap outcome_of (done_is_exact p store fuel n f w.0) ∙ by_bound (nat_lt n f.cost) f w.1
 
-keyed_run : (p : ProgramTerm) (store : Contents) (fuel : ℕ) (f : Finished) → meaning p store fuel ≡ means.Done f → IsTrue (keys_differ f.finish.trace)
+is_finished : (p : ProgramTerm) (store : Contents) (fuel : ℕ) (f : Finished) → meaning p store fuel ≡ means.Done f → finished p store fuel ≡ Ok f
 unfolding meaning
-keyed_run p store fuel f e = one_record p store fuel f (finished_in (finished p store fuel) f e).0
+is_finished p store fuel f e = (finished_in (finished p store fuel) f e).0
 
 -- What a step comes to with each fuel, where it is done with the job's.
 
@@ -86,7 +85,8 @@ module _ (job : Job) (files : List File) (line : List ℕ) where
           run = f;
           written = w.0;
           told = w.1;
-          one_record = keyed_run p store job.fuel f is;
+          one_record = one_record p store job.fuel f (is_finished p store job.fuel f is);
+          one_for_each = one_is_left p store job.fuel f (is_finished p store job.fuel f is);
           exact = λ n. ap (left (with_fuel job n) p ids) (meaning_is_exact p store job.fuel n f is) ∙ left_by (nat_lt n f.cost) n f w.0 w.1;
         }
 
@@ -115,6 +115,7 @@ module _ (job : Job) (files : List File) (line : List ℕ) where
         written = w.written;
         told = w.told;
         one_record = w.one_record;
+        one_for_each = w.one_for_each;
         exact = λ n. ap (λ (r : Reading ProgramTerm). (on_ok r.answer (λ p. performed (with_fuel job n) p held)).answer) (same_text name n metas held) ∙ w.exact n;
       }
 

@@ -1,5 +1,5 @@
 -- What is so of a job that is done (the engine's own; QVT 1.3, 8.1.12 for the trace): its trace has one record at most for each mapping,
--- context and list of arguments, and its cost is exact.
+-- context and list of arguments, and exactly one for each such call that came to its record; and its cost is exact.
 use Rattle.std.specs.Prelude.{◌≡◌, ℕ, nat_lt, if◌then◌else◌, List, Option, Result, Ok, Err, IsTrue}
 use Rattle.qvt_base.specs.Outside.{Held}
 use Rattle.qvt_store.specs.Contents.{Contents}
@@ -12,6 +12,7 @@ use Rattle.qvt_meaning_report.specs.Meaning as means
 use Rattle.qvt_meaning_report.specs.Meaning.{meaning}
 use Rattle.qvt_outcome.specs.Outcome.{Outcome, File, out_of_fuel, done}
 use Rattle.qvt_outputs.specs.Left.{files_left}
+use Rattle.qvt_run_laws.specs.Records.{HasOneForEach}
 use Rattle.qvt_cli.specs.Run.{after_job}
 
 -- A program that is done with a fuel is done just so with every fuel that its cost is not above, and out of fuel with every other.
@@ -22,8 +23,9 @@ abbrev pub with_fuel : Job → ℕ → Job
 with_fuel job n = record job { fuel = n }
 
 -- The run behind the files and the line of a job that is done, where `answer` tells how the job ends with each fuel. The files are those of
--- its models and its trace, the line tells its cost, and no two records of its trace have one key. With n for its fuel the job is done with
--- the same files and the same line, or out of fuel where n is under the cost.
+-- its models and its trace, the line tells its cost, no two records of its trace have one key, and each key has one whose call came to the
+-- step that writes it, or whose init section returned with a result. With n for its fuel the job is done with the same files and the same
+-- line, or out of fuel where n is under the cost.
 pub record IsDone (job : Job) (files : List File) (line : List ℕ) (answer : ℕ → Result Outcome Outcome) : Type 0 where
   pub program : ProgramTerm
   pub ids : List (Option (List ℕ))
@@ -31,6 +33,7 @@ pub record IsDone (job : Job) (files : List File) (line : List ℕ) (answer : �
   pub written : files ≡ files_left job program ids run
   pub told : line ≡ done_line run
   pub one_record : IsTrue (keys_differ run.finish.trace)
+  pub one_for_each : HasOneForEach program job.fuel run.finish.trace
   pub exact : (n : ℕ) → answer n ≡ (if nat_lt n run.cost then Err (out_of_fuel n) else Ok (done files line))
 
 -- over the bytes that the files hold, once the job is read

@@ -15,8 +15,9 @@ pub fn meaning_is_exact()
     ensures { MeaningIsExact }
 {}
 
-/// A job that is done has at most one record for each mapping, context and argument list in its trace, and its cost is
-/// exact: with n for its fuel it is done with the same files and the same line, or out of fuel where n is under the cost.
+/// A job that is done has at most one record for each mapping, context and argument list in its trace, and exactly one
+/// where the call came to its record or its init section returned with a result. Its cost is exact: with n for its fuel
+/// it is done with the same files and the same line, or out of fuel where n is under the cost.
 #[tactic(auto, using(crate::proofs::Exact::job_is_exact))]
 pub fn job_is_exact()
     ensures { JobIsExact }
