@@ -3,4 +3,3 @@ pub mod Sources
 mod Typings
 pub mod Ending
 pub mod Conforming
-pub mod Exact

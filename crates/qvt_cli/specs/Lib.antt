@@ -10,4 +10,3 @@ pub mod Work
 pub mod Ends
 pub mod Entries
 pub mod Conforming
-pub mod Exact
