@@ -2,4 +2,3 @@ pub mod Faults
 pub mod Sources
 mod Typings
 pub mod Ending
-pub mod Conforming

@@ -9,4 +9,3 @@ pub mod Words
 pub mod Work
 pub mod Ends
 pub mod Entries
-pub mod Conforming

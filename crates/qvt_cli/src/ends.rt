@@ -14,7 +14,6 @@ ghost use Rattle.qvt_exec.specs.Comes.{Comes};
 ghost use Rattle.qvt_live_store.specs.Held.{contents_of};
 ghost use Rattle.qvt_exec.specs.Finish.{finished_view};
 ghost use Rattle.qvt_exec.specs.Patches.{value_of};
-ghost use Rattle.qvt_outputs.specs.Conforming.{AreConforming, LeavesConforming};
 ghost use Rattle.qvt_outputs.specs.Left.{left};
 ghost use Rattle.qvt_cli.specs.Ends.{left_over};
 
@@ -45,7 +44,6 @@ fn finished_left(
     ensures gives { (before : Contents) → rules.patched before (map value_of finished.entry.entries) ≡ Ok (contents_of finished.entry.state.store) → Gives outcome_of result (left job.now (program_view program.now) ids.now (meaning.outcome_of (Ok (finished_view before finished.entry)))) }
     ensures ready { IfOk result (λ plan. IsReady plan.outputs) }
     ensures no_reads { IfFaultOf result (λ file. ⊥) }
-    ensures conform { IfOk result (λ plan. AreConforming (contents_of finished.entry.state.store) job.now.outputs) }
 {
     candidates_stay();
     let mut finished = finished;
@@ -87,7 +85,6 @@ pub fn ended(
     ensures gives { (store : Contents) → Comes (rules.finished (program_view program.now) store job.now.fuel) run.entry → Gives outcome_of result (left_over job.now (program_view program.now) ids.now store) }
     ensures ready { IfOk result (λ plan. IsReady plan.outputs) }
     ensures no_reads { IfFaultOf result (λ file. ⊥) }
-    ensures conform { (store : Contents) → Comes (rules.finished (program_view program.now) store job.now.fuel) run.entry → IfOk result (λ plan. LeavesConforming (rules.finished (program_view program.now) store job.now.fuel) job.now.outputs) }
 {
     match run {
         Ok(finished) => finished_left(alloc, job, program, ids, finished),

@@ -3,7 +3,6 @@ ghost use Rattle.qvt_base.specs.Outside.{Held};
 ghost use Rattle.qvt_outcome.specs.Outcome.{status_of, usage_line};
 ghost use Rattle.qvt_outcome.specs.Reported.{Answers, Fails, NoneRose, IsWhole, outside};
 ghost use Rattle.qvt_cli.specs.Commands.{command_view};
-ghost use Rattle.qvt_cli.specs.Conforming.{CommandConforms, WorkConforms};
 ghost use Rattle.qvt_cli.specs.Work.{work_of, job, turns};
 ghost use Rattle.qvt_outcome.specs.Steps.{settled};
 ghost use Rattle.qvt_cli.specs.Words.{command_of};
@@ -29,7 +28,6 @@ fn work_and_report<F: Files, S: Sink>(
     ensures complete { (held : Held) → (F.seen files.old).held ≡ Some held
         → NoneRose (outside (F.seen files.old) (S.seen out.old)) (outside (F.seen files.new) (S.seen out.new))
         → (result ≡ status_of (settled (work_of (command_view command.entry) held).answer)) ⊎ (result ≡ Status.NoMemory) }
-    ensures conform { (held : Held) → (F.seen files.old).held ≡ Some held → (result ≡ Status.Done) ⊎ ((F.seen files.new).held ≢ Some held) → CommandConforms (command_view command.entry) held }
     ensures no_usage { result ≢ Status.Usage }
     ensures fails { Fails (outside (F.seen files.old) (S.seen out.old)) (outside (F.seen files.new) (S.seen out.new)) result }
 {
@@ -57,9 +55,6 @@ pub fn qvto<F: Files, S: Sink>(
     ensures complete { (held : Held) → (F.seen files.old).held ≡ Some held
         → NoneRose (outside (F.seen files.old) (S.seen out.old)) (outside (F.seen files.new) (S.seen out.new))
         → (result ≡ status_of (job words.now held)) ⊎ (result ≡ Status.NoMemory) }
-
-    // Every model that is written conforms: where it is done, or the files are not as before.
-    ensures conform { (held : Held) → (F.seen files.old).held ≡ Some held → (result ≡ Status.Done) ⊎ ((F.seen files.new).held ≢ Some held) → WorkConforms words.now held }
 
     // By the words and the counts alone, whether the files tell what they hold or not.
     ensures usage { result ≡ Status.Usage → (command_of words.now ≡ None) × IsWhole usage_line (S.seen out.old) (S.seen out.new) }

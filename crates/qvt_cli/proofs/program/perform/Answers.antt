@@ -9,10 +9,6 @@ use Rattle.qvt_program_inputs.specs.Start.{program_inputs}
 use Rattle.qvt_cli.specs.Ends.{left_over}
 use Rattle.qvt_cli.specs.Run.{performed}
 use Rattle.qvt_outcome.proofs.Chained.{stopped, stepped}
-use Rattle.qvt_base.specs.Outside.{Held}
-use Rattle.qvt_meaning.specs.Run.{finished}
-use Rattle.qvt_outputs.specs.Conforming.{LeavesConforming}
-use Rattle.qvt_cli.proofs.Conforming.{chained_conforms}
 use Rattle.qvt_cli.proofs.program.perform.Goals as goal
 
 pub returns-in-Err-clause-follows : goal.returns-in-Err-clause-follows
@@ -25,8 +21,3 @@ unfolding performed
 returns-in-Ok-clause-follows g c = stepped (λ (l : Loaded). l) outcome_of (program_inputs (program_view c.args.program.now) c.args.job.now.inputs) (λ (l : Loaded). left_over c.args.job.now (program_view c.args.program.now) l.ids l.store) (g.F.Files.seen c.args.files.now) (g.F.Files.seen c.read_program_inputs.new.files) c.in-Ok.loaded c.run_loaded.result
     (subst (λ (inputs : List JobModel). Follows (λ (l : Loaded). l) (program_inputs (program_view c.args.program.now) inputs) (g.F.Files.seen c.args.files.now) (Ok c.in-Ok.loaded) (g.F.Files.seen c.read_program_inputs.new.files)) c.as_slice.ensures c.in-Ok.ensures.follows)
     c.run_loaded.ensures.gives c.run_loaded.ensures.no_reads
-
-pub returns-in-Ok-clause-conform : goal.returns-in-Ok-clause-conform
-returns-in-Ok-clause-conform g c = chained_conforms (λ (l : Loaded). l) (program_inputs (program_view c.args.program.now) c.args.job.now.inputs) (λ (l : Loaded) (held : Held). LeavesConforming (finished (program_view c.args.program.now) l.store c.args.job.now.fuel) c.args.job.now.outputs) c.run_loaded.result (g.F.Files.seen c.args.files.now) (g.F.Files.seen c.read_program_inputs.new.files) c.in-Ok.loaded
-    (subst (λ (inputs : List JobModel). Follows (λ (l : Loaded). l) (program_inputs (program_view c.args.program.now) inputs) (g.F.Files.seen c.args.files.now) (Ok c.in-Ok.loaded) (g.F.Files.seen c.read_program_inputs.new.files)) c.as_slice.ensures c.in-Ok.ensures.follows)
-    (λ held is. c.run_loaded.ensures.conform)
