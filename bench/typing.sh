@@ -80,6 +80,7 @@ texts "queries" "$main" 'query Book::q#(p : Integer) : Boolean = self.authors->s
 texts "queries that call each other" "$main" 'query Book::q#(p : Integer) : Integer = self.next.q%(p + 1) + q%(pages); ' ''
 texts "queries of one name, of classes of a chain" "$main" 'query C#::q() : Integer = #; ' 'query Author::q() : Integer = 0;'
 texts "queries of one name, of classes side by side" "$main" 'query D#::q() : Integer = #; ' 'query Book::q() : Integer = next.q();'
+texts "queries of one name that are unlike each other" "$main" 'query D#::q() : Integer = #; query C#::q() : Boolean = true; ' ''
 texts "mappings" "$main" 'mapping Book::m#() : Book when { self.pages > 0 } { name := self.name; authors := self.authors; next := self.next.map m%(); } ' ''
 texts "mappings that inherit one" "$main mapping Book::m() : Book { } " 'mapping Book::n#() : Book inherits Book::m { } ' ''
 texts "a chain of inherited mappings" "$main mapping Book::m0() : Book { } " 'mapping Book::m~() : Book inherits Book::m# { } ' ''

@@ -2,6 +2,7 @@
 //! `status` and a command line, whose status is told too, by its number; or `show` and a name, and what is then told is
 //! what the file of this name holds; or `blanks`, a name and a number, and a file of this name and of so many blanks is made;
 //! or `front`, two names and a number, and the second file is made of so many bytes with which the first begins;
+//! or `objects`, a name and a number, and a model of so many objects of class `B` is made, whose ids are their numbers from 1;
 //! or `edit`, two names and a text ` => ` another, and the second file is made of the first with the other text in the place
 //! of the one where that stands first, and the change is told; or `sweep`, two names and a number, and so many times, with
 //! each fuel from 0 on, the second file is made of the first with the fuel in the place of the word `FUEL`, and run as a job;
@@ -75,6 +76,21 @@ fn make_front<F: Files>(rt: HostRuntime, asked: &str, files: &mut F) -> Option<W
     Some(files.write(name, front))
 }
 
+/// Makes a model of so many objects without slots.
+fn make_objects<F: Files>(rt: HostRuntime, asked: &str, files: &mut F) -> Option<WriteAnswer> {
+    let (name, count) = asked.split_once(' ')?;
+    let count = count.parse::<u32>().ok()?;
+    let mut model = Text::from_str(rt.alloc(), "{\"objects\":[").ok()?;
+    for number in 0..count {
+        let comma = if number == 0 { "" } else { "," };
+        let id = u64::from(number) + 1;
+        let object = format!(in rt.alloc(); "{comma}{{\"class\":\"B\",\"id\":\"{id}\"}}").ok()?;
+        model.push_str(object.as_str()).ok()?;
+    }
+    model.push_str("]}").ok()?;
+    Some(files.write(name, model.as_str().as_bytes()))
+}
+
 /// Makes a file of another one: what stands there for a text, where that stands first, is another text.
 fn make_edited<F: Files>(rt: HostRuntime, asked: &str, files: &mut F) -> Option<WriteAnswer> {
     let (from, rest) = asked.split_once(' ')?;
@@ -137,6 +153,9 @@ fn perform<F: Files, S: Sink>(
     }
     if let Some(asked) = line.strip_prefix("front ") {
         return tell_made(rt, make_front(rt, asked, files));
+    }
+    if let Some(asked) = line.strip_prefix("objects ") {
+        return tell_made(rt, make_objects(rt, asked, files));
     }
     if let Some(asked) = line.strip_prefix("sweep ") {
         return tell_made(rt, sweep(rt, asked, files, out));

@@ -8,7 +8,7 @@ use qvt_base::seq::Seq;
 use qvt_outcome::status::Status;
 use std::alloc::Global;
 
-const FILES: [(&str, &str); 11] = [
+const FILES: [(&str, &str); 14] = [
     (
         "job.json",
         "{\"fuel\":100,\"inputs\":[],\"metamodels\":[\"m.json\"],\"outputs\":[{\"file\":\"o.json\",\"model\":\"t\"}],\"text\":\"t.qvto\"}",
@@ -42,6 +42,15 @@ const FILES: [(&str, &str); 11] = [
         "wrong.qvto",
         "modeltype MT uses 'M';\ntransformation T(out t : MT);\nmain() { var v := 1.div(0); }",
     ),
+    (
+        "taking.json",
+        "{\"fuel\":100,\"inputs\":[{\"file\":\"x.json\",\"model\":\"s\"}],\"metamodels\":[\"m.json\"],\"outputs\":[{\"file\":\"o.json\",\"model\":\"t\"}],\"text\":\"taking.qvto\"}",
+    ),
+    (
+        "taking.qvto",
+        "modeltype MT uses 'M';\ntransformation T(in s : MT, out t : MT);\nmain() { object C { a := 7; }; }",
+    ),
+    ("x.json", "{\"objects\":[]}"),
     ("p.json", BEFORE),
     ("tr.json", BEFORE),
 ];
@@ -67,6 +76,9 @@ const ONE: &str = "run job.json";
 /// A run with two metamodels.
 const TWO: &str = "run jobs.json";
 
+/// A run with an input.
+const TAKING: &str = "run taking.json";
+
 /// A run that ends with a fault.
 const WRONG: &str = "run wrong.json";
 
@@ -76,7 +88,7 @@ const FAULT: &str = "fault: wrong.qvto: InvalidValue ZeroDivide at 3:21\n";
 /// and then the status, what the sink got, and what the output holds.
 type Case = (&'static str, u64, u64, Status, &'static str, &'static str);
 
-const CASES: [Case; 16] = [
+const CASES: [Case; 21] = [
     (ONE, 0, 0, Status::Done, DONE, MODEL),
     (ONE, 2, 0, Status::ReadFault, "cannot read: m.json\n", ""),
     (ONE, 4, 0, Status::WriteFault, "cannot write: o.json\n", ""),
@@ -86,12 +98,38 @@ const CASES: [Case; 16] = [
     (TWO, 2, 0, Status::ReadFault, "cannot read: n.json\n", ""),
     (TWO, 3, 0, Status::ReadFault, "cannot read: m.json\n", ""),
     (TWO, 4, 0, Status::ReadFault, "cannot read: t.qvto\n", ""),
+    (TAKING, 0, 0, Status::Done, DONE, MODEL),
+    (TAKING, 4, 0, Status::ReadFault, "cannot read: x.json\n", ""),
+    (
+        TAKING,
+        5,
+        0,
+        Status::WriteFault,
+        "cannot write: o.json\n",
+        "",
+    ),
     (WRONG, 0, 0, Status::Fault, FAULT, ""),
     (WRONG, 0, 1, Status::WriteFault, "", ""),
     (WRONG, 0, 3, Status::WriteFault, "fault:", ""),
     ("run gone.json", 0, 1, Status::WriteFault, "", ""),
     ("run", 0, 2, Status::WriteFault, "usa", ""),
     ("check m.json t.json", 0, 1, Status::WriteFault, "", ""),
+    (
+        "check m.json x.json",
+        1,
+        0,
+        Status::ReadFault,
+        "cannot read: m.json\n",
+        "",
+    ),
+    (
+        "check m.json x.json",
+        2,
+        0,
+        Status::ReadFault,
+        "cannot read: x.json\n",
+        "",
+    ),
     ("print t.qvto", 0, 2, Status::WriteFault, "mod", ""),
 ];
 

@@ -1,5 +1,6 @@
 -- A run that has ended well has written its late entries.
 use Rattle.std.proofs.Common.{◌≡◌, ◌∙◌, refl, ap, sym, subst, ℕ, List, [], ◌∷◌, map, Option, Result, Ok, Err}
+use Rattle.std.specs.Prelude.{IfOk}
 use Rattle.qvt_store.specs.Contents.{Contents}
 use Rattle.qvt_run_data.specs.declared.exit.End.{End}
 use Rattle.qvt_run_data.specs.declared.exit.Exit.{Exit}
@@ -27,8 +28,10 @@ use Rattle.qvt_outcome.specs.Plans.{outcome_of}
 use Rattle.qvt_outcome.specs.Steps.{Gives, Stops}
 use Rattle.qvt_outcome.specs.declared.plan.Plan.{Plan}
 use Rattle.qvt_outcome.specs.declared.stop.Stop.{Stop}
+use Rattle.qvt_outputs.specs.Conforming.{AreConforming, LeavesConforming}
 use Rattle.qvt_outputs.specs.Left.{left}
-use Rattle.qvt_cli.specs.Ends.{left_over}
+use Rattle.qvt_work.specs.Conforming.{EndConforms}
+use Rattle.qvt_work.specs.Ends.{left_over}
 use Rattle.qvt_cli.specs.Entries.{EntriesAreWritten, entry_with}
 
 abbrev HasWritten : run.Finished → Type 0
@@ -93,6 +96,14 @@ module _ (job : Job) (p : ProgramTerm) (ids : List (Option (List ℕ))) (store :
       let known : Comes (run.finished p store job.fuel) (Ok f) = subst (Comes (run.finished p store job.fuel)) is comes in
       subst (λ r. Gives outcome_of plan (left job p ids (means.outcome_of r))) (sym known.1)
       (gives known.0 (ap (run.patched known.0) (values_same f.entries) ∙ entries_are_written p store job.fuel (finished_view known.0 f) known.1))
+
+  -- and the models that it leaves conform
+  pub leaves_conforming : (f : Finished) (plan : Result Plan Stop) → x ≡ Ok f → Comes (run.finished p store job.fuel) x
+      → IfOk plan (λ _. AreConforming (contents_of f.state.store) job.outputs) → IfOk plan (λ _. EndConforms job p store)
+  unfolding EndConforms
+  leaves_conforming f plan is comes conform =
+      let known : Comes (run.finished p store job.fuel) (Ok f) = subst (Comes (run.finished p store job.fuel)) is comes in
+      subst (λ r. IfOk plan (λ _. LeavesConforming r job.outputs)) (sym known.1) conform
 
   -- it is not finished
   pub ended_early : (why : RunStop) (stop : Stop) → x ≡ Err why → Comes (run.finished p store job.fuel) x

@@ -10,7 +10,7 @@ use Rattle.qvt_metamodel.specs.declared.info.MetamodelInfo.{MetamodelInfo}
 use Rattle.qvt_metamodel.specs.Named.{has_metamodel}
 use Rattle.qvt_metamodel.specs.declared.fault.MetasFault.{MetasFault}
 use Rattle.qvt_metamodel.specs.declared.fault.MetasFault.TheVariants.{SameMetamodel}
-use Rattle.qvt_cli.specs.Metas.{with_metamodel}
+use Rattle.qvt_work.specs.Metas.{with_metamodel}
 use Rattle.qvt_program_inputs.specs.Law.{AreAllNamed}
 
 one_added : (m : Metamodels) (d : MetaData) → 0 < length (added m d).metamodels

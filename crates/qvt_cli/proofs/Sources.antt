@@ -6,7 +6,7 @@ use Rattle.qvt_tree_types.specs.Module.{ModuleTerm, module_view}
 use Rattle.qvt_tree_types.specs.declared.module.Module.{Module}
 use Rattle.qvt_parsed.specs.Parsed.{parsed}
 use Rattle.qvt_outcome.specs.Outcome.{Outcome, refused}
-use Rattle.qvt_cli.specs.Source.{tree_in}
+use Rattle.qvt_work.specs.Source.{tree_in}
 use Rattle.qvt_outcome.specs.Steps.{Stops, Gives, RefusedOrNoMemory, or_refused}
 use Rattle.qvt_outcome.specs.declared.refusal.Refusal.{Refusal}
 use Rattle.qvt_outcome.specs.declared.refusal.Refusal.TheVariants as refusal

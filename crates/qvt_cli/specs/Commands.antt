@@ -1,5 +1,5 @@
 -- The code's commands as their words.
-use Rattle.qvt_cli.specs.Words as words
+use Rattle.qvt_work.specs.Words as words
 use Rattle.qvt_cli.specs.declared.words.Command.{Command}
 use Rattle.qvt_cli.specs.declared.words.Command.TheVariants.{Run, Check, Print}
 

@@ -1,11 +1,4 @@
-pub mod Check
 pub mod Commands
-pub mod Metas
-pub mod Source
-pub mod Printing
-pub mod Run
 pub mod Typing
-pub mod Words
-pub mod Work
-pub mod Ends
 pub mod Entries
+pub mod Written

@@ -1,20 +1,11 @@
--- The types of a text: its program over the metamodels of the job, or what typing refuses of it.
-use Rattle.std.specs.Prelude.{ℕ, List, Option, Some, None, Result}
-use Rattle.qvt_metamodel.specs.Metamodels.{Metamodels}
-use Rattle.qvt_tree_types.specs.Module.{ModuleTerm}
+-- The refusal that a fault of typing tells.
+use Rattle.std.specs.Prelude.{Option, Some, None}
 use Rattle.qvt_types_data.specs.declared.refusal.Refusal.{Refusal}
 use Rattle.qvt_types_data.specs.declared.refusal.RefusalKind.TheVariants as kind
 use Rattle.qvt_types.specs.declared.fault.TypingFault.{TypingFault}
 use Rattle.qvt_types.specs.declared.fault.TypingFault.TheVariants as fault
-use Rattle.qvt_typing.specs.Accepts.{ProgramTerm, accepts}
-use Rattle.qvt_outcome.specs.Outcome.{Outcome}
-use Rattle.qvt_outcome.specs.Steps.{or_refused}
-use Rattle.qvt_outcome.specs.declared.refusal.Refusal.TheVariants as refusal
 
-unfoldable pub typed_in : Metamodels → List ℕ → ModuleTerm → Result ProgramTerm Outcome
-typed_in metas file tree = or_refused refusal.Typing file (accepts metas tree)
-
--- the refusal that a fault tells, none where there was no memory
+-- none where there was no memory
 abbrev pub refusal_in : TypingFault → Option Refusal
 refusal_in fault.NoMemory = None
 refusal_in (fault.UnknownMetamodel place) = Some (record { kind = kind.UnknownMetamodel; place = place })

@@ -1,7 +1,7 @@
 //! The command `check`: whether the model of a file conforms to the metamodel of another.
 
 ghost use Rattle.std.specs.Prelude.{◌≡◌, ◌<◌, [], IfOk, IfErr, length};
-ghost use Rattle.qvt_cli.specs.Check.{after_metamodel, check_of};
+ghost use Rattle.qvt_work.specs.Check.{after_metamodel, check_of};
 ghost use Rattle.qvt_outcome.specs.Outcome.{done, conforms_line};
 ghost use Rattle.qvt_outcome.specs.Plans.{outcome_of, IsReady};
 ghost use Rattle.qvt_outcome.specs.Follows.{Follows};

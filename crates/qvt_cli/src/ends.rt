@@ -14,8 +14,10 @@ ghost use Rattle.qvt_exec.specs.Comes.{Comes};
 ghost use Rattle.qvt_live_store.specs.Held.{contents_of};
 ghost use Rattle.qvt_exec.specs.Finish.{finished_view};
 ghost use Rattle.qvt_exec.specs.Patches.{value_of};
+ghost use Rattle.qvt_outputs.specs.Conforming.{AreConforming};
 ghost use Rattle.qvt_outputs.specs.Left.{left};
-ghost use Rattle.qvt_cli.specs.Ends.{left_over};
+ghost use Rattle.qvt_work.specs.Conforming.{EndConforms};
+ghost use Rattle.qvt_work.specs.Ends.{left_over};
 
 use crate::entries::written_entries;
 use qvt_base::seq::Seq;
@@ -44,6 +46,7 @@ fn finished_left(
     ensures gives { (before : Contents) → rules.patched before (map value_of finished.entry.entries) ≡ Ok (contents_of finished.entry.state.store) → Gives outcome_of result (left job.now (program_view program.now) ids.now (meaning.outcome_of (Ok (finished_view before finished.entry)))) }
     ensures ready { IfOk result (λ plan. IsReady plan.outputs) }
     ensures no_reads { IfFaultOf result (λ file. ⊥) }
+    ensures conform { IfOk result (λ plan. AreConforming (contents_of finished.entry.state.store) job.now.outputs) }
 {
     candidates_stay();
     let mut finished = finished;
@@ -85,6 +88,7 @@ pub fn ended(
     ensures gives { (store : Contents) → Comes (rules.finished (program_view program.now) store job.now.fuel) run.entry → Gives outcome_of result (left_over job.now (program_view program.now) ids.now store) }
     ensures ready { IfOk result (λ plan. IsReady plan.outputs) }
     ensures no_reads { IfFaultOf result (λ file. ⊥) }
+    ensures conform { (store : Contents) → Comes (rules.finished (program_view program.now) store job.now.fuel) run.entry → IfOk result (λ plan. EndConforms job.now (program_view program.now) store) }
 {
     match run {
         Ok(finished) => finished_left(alloc, job, program, ids, finished),

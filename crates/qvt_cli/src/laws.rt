@@ -1,4 +1,4 @@
-//! What a run has written. The function does nothing: its contract is the law.
+//! Laws of runs that are done. Each function does nothing: its contract is the law.
 
 ghost use Rattle.qvt_cli.specs.Entries.{EntriesAreWritten};
 

@@ -3,7 +3,7 @@
 ghost use Rattle.std.specs.Prelude.{◌≡◌, ◌≢◌, ◌<◌, [], None, IfOk, OnOk, length};
 ghost use Rattle.qvt_outcome.specs.Follows.{Follows};
 ghost use Rattle.qvt_outcome.specs.Steps.{Gives, IfFaultOf, IsFaultWith, StopsBy, or_refused};
-ghost use Rattle.qvt_cli.specs.Metas.{with_metamodel, metas_in, metamodel_read, metamodels_read};
+ghost use Rattle.qvt_work.specs.Metas.{with_metamodel, metas_in, metamodel_read, metamodels_read};
 ghost use Rattle.qvt_program_inputs.specs.Law.{AreAllNamed};
 
 use qvt_base::outside::Files;
@@ -58,7 +58,7 @@ fn add_metamodel(alloc: Global, metas: &mut Metas, name: &Text, meta: Meta) -> R
 }
 
 /// Adds the metamodel of a file's bytes.
-#[tactic(auto, unfolding(crate::specs::Metas::metas_in))]
+#[tactic(auto, unfolding(qvt_work::specs::Metas::metas_in))]
 fn add_bytes(alloc: Global, metas: &mut Metas, name: &Text, bytes: &[u8]) -> Result<(), Stop>
     ensures no_reads { IfFaultOf result (λ file. ⊥) }
     ensures gives { Gives (λ _. metas.new) result (metas_in metas.old name.now bytes.now) }

@@ -5,7 +5,7 @@ ghost use Rattle.qvt_tree_types.specs.Module.{module_view};
 ghost use Rattle.qvt_printer.specs.PrintText.{print_text};
 ghost use Rattle.qvt_outcome.specs.Outcome.{done};
 ghost use Rattle.qvt_outcome.specs.Plans.{outcome_of, IsReady};
-ghost use Rattle.qvt_cli.specs.Printing.{tree_read, print_of};
+ghost use Rattle.qvt_work.specs.Printing.{tree_read, print_of};
 ghost use Rattle.qvt_outcome.specs.Follows.{Follows};
 
 use crate::source::tree_in;

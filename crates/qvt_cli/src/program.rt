@@ -1,14 +1,16 @@
 //! A program with the inputs of a job: they are read, and it is run over them.
 
-ghost use Rattle.std.specs.Prelude.{IfOk};
+ghost use Rattle.std.specs.Prelude.{◌≡◌, IfOk, Some};
+ghost use Rattle.qvt_base.specs.Outside.{Held};
 ghost use Rattle.qvt_store.specs.Sound.{Sound};
 ghost use Rattle.qvt_types_program.specs.Program.{program_view};
 ghost use Rattle.qvt_outcome.specs.Follows.{Follows};
 ghost use Rattle.qvt_outcome.specs.Plans.{outcome_of, IsReady};
 ghost use Rattle.qvt_outcome.specs.Steps.{Gives, IfFaultOf};
 ghost use Rattle.qvt_program_inputs.specs.Start.{CanLoad};
-ghost use Rattle.qvt_cli.specs.Ends.{left_over};
-ghost use Rattle.qvt_cli.specs.Run.{performed};
+ghost use Rattle.qvt_work.specs.Conforming.{EndConforms, PerformedConforms};
+ghost use Rattle.qvt_work.specs.Ends.{left_over};
+ghost use Rattle.qvt_work.specs.Run.{performed};
 
 use crate::ends::ended;
 use qvt_base::outside::Files;
@@ -24,12 +26,14 @@ use qvt_program_inputs::start::read_program_inputs;
 use qvt_types_program::program::Program;
 use std::alloc::Global;
 
-/// Runs a program over its loaded inputs with the job's fuel, and makes every byte that is to be written.
+/// Runs a program over its loaded inputs with the job's fuel, and makes every byte that is to be written. Every model among it conforms
+/// to its metamodel.
 fn run_loaded(alloc: Global, job: &Job, program: &Program, loaded: Loaded) -> Result<Plan, Stop>
     requires { Sound loaded.store }
     ensures gives { Gives outcome_of result (left_over job.now (program_view program.now) loaded.ids loaded.store) }
     ensures ready { IfOk result (λ p. IsReady p.outputs) }
     ensures no_reads { IfFaultOf result (λ file. ⊥) }
+    ensures conform { IfOk result (λ plan. EndConforms job.now (program_view program.now) loaded.store) }
 {
     let (store, ids) = loaded.into_parts();
     let expressions = Expressions::new(alloc, program)?;
@@ -42,8 +46,8 @@ fn run_loaded(alloc: Global, job: &Job, program: &Program, loaded: Loaded) -> Re
     ended(alloc, job, program, &ids, end)
 }
 
-/// Reads the inputs of a job, and runs its program over them.
-#[tactic(auto, unfolding(crate::specs::Run::performed))]
+/// Reads the inputs of a job, and runs its program over them. Every model that is to be written conforms to its metamodel.
+#[tactic(auto, unfolding(qvt_work::specs::Run::performed))]
 pub fn perform<F: Files>(
     alloc: Global,
     files: &mut F,
@@ -53,6 +57,7 @@ pub fn perform<F: Files>(
     requires { CanLoad (program_view program.now) job.now.inputs }
     ensures follows { Follows outcome_of (performed job.now (program_view program.now)) (F.seen files.old) result (F.seen files.new) }
     ensures ready { IfOk result (λ p. IsReady p.outputs) }
+    ensures conform { (held : Held) → (F.seen files.old).held ≡ Some held → IfOk result (λ plan. PerformedConforms job.now (program_view program.now) held) }
 {
     match read_program_inputs(alloc, files, program, job.inputs.as_slice()) {
         Err(stop) => Err(stop),

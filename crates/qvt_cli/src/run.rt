@@ -1,10 +1,12 @@
 //! The command `run`: a job, and all that it names.
 
-ghost use Rattle.std.specs.Prelude.{◌≡◌, ◌≤◌, length, None, IfOk};
+ghost use Rattle.std.specs.Prelude.{◌≡◌, ◌≤◌, length, None, Some, IfOk};
+ghost use Rattle.qvt_base.specs.Outside.{Held};
 ghost use Rattle.qvt_outcome.specs.Follows.{Follows};
 ghost use Rattle.qvt_outcome.specs.Steps.{Gives, IfFaultOf, IsFaultWith, RefusedOrNoMemory, StopsBy};
 ghost use Rattle.qvt_outcome.specs.Plans.{outcome_of, IsReady};
-ghost use Rattle.qvt_cli.specs.Run.{job_in, job_read, program_in, text_in, text_read, after_metas, after_job, run_of};
+ghost use Rattle.qvt_work.specs.Conforming.{AfterJobConforms, AfterMetasConforms, RunConforms};
+ghost use Rattle.qvt_work.specs.Run.{job_in, job_read, program_in, text_in, text_read, after_metas, after_job, run_of};
 ghost use Rattle.qvt_job.specs.Names.{HaveNames};
 ghost use Rattle.qvt_program_inputs.specs.Law.{AreAllNamed};
 ghost use Rattle.qvt_program_inputs.specs.Start.{CanLoad};
@@ -44,7 +46,7 @@ fn job_stop(alloc: Global, name: &Text, why: JobFault) -> Stop
 }
 
 /// The job of a file's bytes.
-#[tactic(auto, unfolding(crate::specs::Run::job_in))]
+#[tactic(auto, unfolding(qvt_work::specs::Run::job_in))]
 fn job_in(alloc: Global, name: &Text, bytes: &[u8]) -> Result<Job, Stop>
     ensures no_reads { IfFaultOf result (λ file. ⊥) }
     ensures gives { Gives (λ job. job) result (job_in name.now bytes.now) }
@@ -80,7 +82,7 @@ fn models_stop(alloc: Global, name: &Text, model: &Text) -> Stop
 }
 
 /// The program of a tree that is typed, and whose parameters are the models of the job.
-#[tactic(auto, unfolding(crate::specs::Run::program_in))]
+#[tactic(auto, unfolding(qvt_work::specs::Run::program_in))]
 fn program_in(
     alloc: Global,
     name: &Text,
@@ -106,7 +108,7 @@ fn program_in(
 }
 
 /// The program of a file's bytes.
-#[tactic(auto, unfolding(crate::specs::Run::text_in))]
+#[tactic(auto, unfolding(qvt_work::specs::Run::text_in))]
 fn text_in(
     alloc: Global,
     name: &Text,
@@ -161,6 +163,7 @@ fn perform_with_metas<F: Files>(
     requires named { HaveNames job.now.inputs × HaveNames job.now.outputs }
     ensures follows { Follows outcome_of (after_metas name.now job.now metas.now) (F.seen files.old) result (F.seen files.new) }
     ensures ready { IfOk result (λ p. IsReady p.outputs) }
+    ensures conform { (held : Held) → (F.seen files.old).held ≡ Some held → IfOk result (λ plan. AfterMetasConforms name.now job.now metas.now held) }
 {
     match read_text(alloc, files, name, job, metas) {
         Err(stop) => Err(stop),
@@ -173,6 +176,7 @@ fn perform_job<F: Files>(alloc: Global, files: &mut F, name: &Text, job: &Job) -
     requires { HaveNames job.now.inputs × HaveNames job.now.outputs }
     ensures follows { Follows outcome_of (after_job name.now job.now) (F.seen files.old) result (F.seen files.new) }
     ensures ready { IfOk result (λ p. IsReady p.outputs) }
+    ensures conform { (held : Held) → (F.seen files.old).held ≡ Some held → IfOk result (λ plan. AfterJobConforms name.now job.now held) }
 {
     match read_metamodels(alloc, files, job.metamodels.as_slice()) {
         Err(stop) => Err(stop),
@@ -180,10 +184,11 @@ fn perform_job<F: Files>(alloc: Global, files: &mut F, name: &Text, job: &Job) -
     }
 }
 
-/// Reads a job and all that it names, and runs it.
+/// Reads a job and all that it names, and runs it. Every model that is to be written conforms to its metamodel.
 pub fn perform_run<F: Files>(alloc: Global, files: &mut F, name: &Text) -> Result<Plan, Stop>
     ensures follows { Follows outcome_of (run_of name.now) (F.seen files.old) result (F.seen files.new) }
     ensures ready { IfOk result (λ p. IsReady p.outputs) }
+    ensures conform { (held : Held) → (F.seen files.old).held ≡ Some held → IfOk result (λ plan. RunConforms name.now held) }
 {
     match read_named_job(alloc, files, name) {
         Err(stop) => Err(stop),

@@ -3,7 +3,7 @@
 ghost use Rattle.std.specs.Prelude.{◌≡◌, ◌≤◌, ◌+◌, ◌<◌, ◌^◌, length};
 ghost use Rattle.qvt_tree_types.specs.Module.{module_view};
 ghost use Rattle.qvt_parsed.specs.Parsed.{parsed};
-ghost use Rattle.qvt_cli.specs.Source.{tree_in};
+ghost use Rattle.qvt_work.specs.Source.{tree_in};
 ghost use Rattle.qvt_outcome.specs.Steps.{Gives, IfFaultOf, IsFaultWith, StopsBy, or_refused};
 
 use qvt_base::text::Text;
@@ -40,7 +40,7 @@ fn tree_of(alloc: Global, name: &Text, text: &str) -> Result<Module, Stop>
 }
 
 /// The tree of a file's bytes, which are within the limit of a text.
-#[tactic(auto, unfolding(crate::specs::Source::tree_in))]
+#[tactic(auto, unfolding(qvt_work::specs::Source::tree_in))]
 pub fn tree_in(alloc: Global, name: &Text, bytes: &[u8]) -> Result<Module, Stop>
     requires { length bytes.now ≤ 262144 }
     ensures no_reads { IfFaultOf result (λ file. ⊥) }

@@ -1,11 +1,16 @@
-ghost use Rattle.std.specs.Prelude.{◌≡◌, ◌≢◌, ◌⊎◌, Some, None};
+ghost use Rattle.std.specs.Prelude.{◌≡◌, ◌≢◌, ◌⊎◌, IsOk, Some, None};
 ghost use Rattle.qvt_base.specs.Outside.{Held};
 ghost use Rattle.qvt_outcome.specs.Outcome.{status_of, usage_line};
 ghost use Rattle.qvt_outcome.specs.Reported.{Answers, Fails, NoneRose, IsWhole, outside};
 ghost use Rattle.qvt_cli.specs.Commands.{command_view};
-ghost use Rattle.qvt_cli.specs.Work.{work_of, job, turns};
+ghost use Rattle.qvt_cli.specs.Written.{HasWritten};
+ghost use Rattle.qvt_work.specs.Conforming.{CommandConforms, ModelsConform};
+ghost use Rattle.qvt_work.specs.Fuel.{HasExactCost};
+ghost use Rattle.qvt_work.specs.Recorded.{HasOneRecordEach};
+ghost use Rattle.qvt_work.specs.Runs.{IsOfRun};
+ghost use Rattle.qvt_work.specs.Work.{work_of, job, turns};
 ghost use Rattle.qvt_outcome.specs.Steps.{settled};
-ghost use Rattle.qvt_cli.specs.Words.{command_of};
+ghost use Rattle.qvt_work.specs.Words.{command_of};
 
 use crate::words::{Command, command_of};
 use crate::work::perform;
@@ -28,6 +33,8 @@ fn work_and_report<F: Files, S: Sink>(
     ensures complete { (held : Held) → (F.seen files.old).held ≡ Some held
         → NoneRose (outside (F.seen files.old) (S.seen out.old)) (outside (F.seen files.new) (S.seen out.new))
         → (result ≡ status_of (settled (work_of (command_view command.entry) held).answer)) ⊎ (result ≡ Status.NoMemory) }
+    ensures given { (held : Held) → (F.seen files.old).held ≡ Some held → HasWritten result held (F.seen files.new) → IsOk (work_of (command_view command.entry) held).answer }
+    ensures conform { (held : Held) → (F.seen files.old).held ≡ Some held → HasWritten result held (F.seen files.new) → CommandConforms (command_view command.entry) held }
     ensures no_usage { result ≢ Status.Usage }
     ensures fails { Fails (outside (F.seen files.old) (S.seen out.old)) (outside (F.seen files.new) (S.seen out.new)) result }
 {
@@ -39,7 +46,7 @@ fn work_and_report<F: Files, S: Sink>(
 
 /// Does what the words of a command line ask for, over these files and this sink, and answers how it
 /// ended. The words are those after the program's name.
-#[tactic(auto, unfolding(crate::specs::Work::work))]
+#[tactic(auto, unfolding(qvt_work::specs::Work::work))]
 pub fn qvto<F: Files, S: Sink>(
     alloc: Global,
     words: &WordList,
@@ -55,6 +62,16 @@ pub fn qvto<F: Files, S: Sink>(
     ensures complete { (held : Held) → (F.seen files.old).held ≡ Some held
         → NoneRose (outside (F.seen files.old) (S.seen out.old)) (outside (F.seen files.new) (S.seen out.new))
         → (result ≡ status_of (job words.now held)) ⊎ (result ≡ Status.NoMemory) }
+
+    // Where it is done, or a file is not as before, and the words ask for a run, there is a run behind
+    // what is written. Each model of it conforms to its metamodel.
+    ensures conform { (held : Held) → (F.seen files.old).held ≡ Some held → HasWritten result held (F.seen files.new) → IsOfRun words.now held ModelsConform }
+    // Its trace has at most one record for each mapping, context and argument list, and exactly one for
+    // each whose call came to the step that writes its record, or whose init returned with a result.
+    ensures records { (held : Held) → (F.seen files.old).held ≡ Some held → HasWritten result held (F.seen files.new) → IsOfRun words.now held HasOneRecordEach }
+    // Its cost is exact: with n in place of the job's fuel the files and the line are the same, or it is
+    // out of fuel where n is less than the cost.
+    ensures cost { (held : Held) → (F.seen files.old).held ≡ Some held → HasWritten result held (F.seen files.new) → IsOfRun words.now held (HasExactCost held) }
 
     // By the words and the counts alone, whether the files tell what they hold or not.
     ensures usage { result ≡ Status.Usage → (command_of words.now ≡ None) × IsWhole usage_line (S.seen out.old) (S.seen out.new) }

@@ -4,7 +4,8 @@ ghost use Rattle.std.specs.Prelude.{◌≡◌, None, MatchOption};
 ghost use Rattle.qvt_tree_types.specs.Module.{module_view};
 ghost use Rattle.qvt_types.specs.Program.{program_view};
 ghost use Rattle.qvt_outcome.specs.Steps.{Gives, IfFaultOf, IsFaultWith, RefusedOrNoMemory};
-ghost use Rattle.qvt_cli.specs.Typing.{typed_in, refusal_in};
+ghost use Rattle.qvt_cli.specs.Typing.{refusal_in};
+ghost use Rattle.qvt_work.specs.Typing.{typed_in};
 
 use qvt_base::text::Text;
 use qvt_metas::metas::Metas;
@@ -62,7 +63,7 @@ fn typing_stop(alloc: Global, name: &Text, fault: TypingFault) -> Stop
 }
 
 /// The program of a tree over the metamodels.
-#[tactic(auto, unfolding(crate::specs::Typing::typed_in))]
+#[tactic(auto, unfolding(qvt_work::specs::Typing::typed_in))]
 pub fn typed_in(alloc: Global, metas: &Metas, file: &Text, tree: &Module) -> Result<Program, Stop>
     requires { metas.now.element ≡ None }
     ensures no_reads { IfFaultOf result (λ file. ⊥) }

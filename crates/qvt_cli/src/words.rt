@@ -1,5 +1,5 @@
 ghost use Rattle.std.specs.Prelude.{◌≡◌, option_map};
-ghost use Rattle.qvt_cli.specs.Words.{command_of};
+ghost use Rattle.qvt_work.specs.Words.{command_of};
 ghost use Rattle.qvt_cli.specs.Commands.{command_view};
 
 use qvt_base::text::Text;
@@ -16,7 +16,7 @@ pub enum Command<'a> {
 }
 
 /// The command that the words give.
-#[tactic(auto, unfolding(crate::specs::Words::command_of))]
+#[tactic(auto, unfolding(qvt_work::specs::Words::command_of))]
 pub fn command_of(words: &[Text]) -> Option<Command<'_>>
     ensures { option_map command_view result ≡ command_of words.now }
 {

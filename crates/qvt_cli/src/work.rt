@@ -1,8 +1,10 @@
-ghost use Rattle.std.specs.Prelude.{IfOk};
+ghost use Rattle.std.specs.Prelude.{◌≡◌, IfOk, Some};
+ghost use Rattle.qvt_base.specs.Outside.{Held};
 ghost use Rattle.qvt_cli.specs.Commands.{command_view};
 ghost use Rattle.qvt_outcome.specs.Plans.{outcome_of, IsReady};
 ghost use Rattle.qvt_outcome.specs.Follows.{Follows};
-ghost use Rattle.qvt_cli.specs.Work.{work_of};
+ghost use Rattle.qvt_work.specs.Conforming.{CommandConforms};
+ghost use Rattle.qvt_work.specs.Work.{work_of};
 
 use crate::check::perform_check;
 use crate::print::perform_print;
@@ -13,10 +15,12 @@ use qvt_outcome::plan::Plan;
 use qvt_outcome::stop::Stop;
 use std::alloc::Global;
 
-/// Does the work of a command up to its first write, and plans what is to be written.
+/// Does the work of a command up to its first write, and plans what is to be written. Every model among that conforms to its
+/// metamodel.
 pub fn perform<F: Files>(alloc: Global, files: &mut F, command: Command<'_>) -> Result<Plan, Stop>
     ensures follows { Follows outcome_of (work_of (command_view command.entry)) (F.seen files.old) result (F.seen files.new) }
     ensures ready { IfOk result (λ p. IsReady p.outputs) }
+    ensures conform { (held : Held) → (F.seen files.old).held ≡ Some held → IfOk result (λ plan. CommandConforms (command_view command.entry) held) }
 {
     match command {
         Command::Run(job) => perform_run(alloc, files, job),

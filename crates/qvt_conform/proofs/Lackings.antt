@@ -1,6 +1,6 @@
 -- The set of references tells which opposites lack an object, so that the checks by it are the checks of the slots.
 use Rattle.std.proofs.Common.{◌≡◌, ◌≢◌, ◌∙◌, ℕ, zero, suc, ◌+◌, ◌<◌, ◌==◌, List, [], ◌∷◌, ◌++◌, length, Bool, true, false, not, ◌||◌, ◌&&◌, is_some, refl, sym, ap, subst, arith}
-use Rattle.std.specs.Prelude.{Option, Some, None, if◌then◌else◌}
+use Rattle.std.specs.Prelude.{Option, Some, None, option_map, if◌then◌else◌}
 use Rattle.std.specs.List.{list_any, AllByRecursion}
 use Rattle.std.specs.Ordering.{nat_cmp}
 use Rattle.std.specs.Cmp.Lexicographic.{slice_cmp}
@@ -20,7 +20,9 @@ use Rattle.qvt_model.specs.Items.{items_in}
 use Rattle.qvt_conform.specs.Items.{items_of, is_within, repeats, is_ref, lacks, lack_opposite}
 use Rattle.qvt_conform.specs.Links.{link, same_link, links_of_item, links_of_items, links_of_slot, links_of_slots, links_from}
 use Rattle.qvt_conform.specs.Joined.{Joined}
-use Rattle.qvt_conform.specs.Lacking.{lacks_link, lack_links, feature_fault_by, features_fault_by, object_fault_by, faults_by}
+use Rattle.qvt_conform.specs.Breaches.{lacks_link, lack_links, breach_of, fault_named}
+use Rattle.qvt_conform.specs.declared.breach.Breach.TheVariants.{Bounds as BoundsBroken, NotUnique as UniqueBroken, Opposite as OppositeBroken}
+use Rattle.qvt_conform.specs.Lacking.{feature_fault_by, features_fault_by, object_fault_by, faults_by}
 use Rattle.qvt_conform.specs.Containment.{contents}
 use Rattle.qvt_conform.specs.Conformance.{fault_if, feature_fault, features_fault, containment_fault, object_fault, faults_from, conform_fault}
 use Rattle.qvt_conform.proofs.Orders.{not_after_itself}
@@ -190,9 +192,19 @@ slot_lacks m os ls f i h ds = by (opposite m f) refl
         let one : is_opposite m f q.0 ≡ true = ap (λ o. is_feature_number o q.0) e ∙ eq-eqb q.0 q.0 refl in
         items_lack m os ls q.0 i h (some_opposite (opposite m q.0) f (h.mutual_opposites f q.0 one)) ds
 
+-- the breach told as a fault
+told : (id name : List ℕ) (b u l : Bool)
+    → option_map (fault_named id name) (if not b then Some BoundsBroken else (if u then Some UniqueBroken else (if l then Some OppositeBroken else None)))
+    ≡ or_next (fault_if (not b) (Bounds id name)) (or_next (fault_if u (NotUnique id name)) (fault_if l (Opposite id name)))
+told id name false u l = refl
+told id name true true l = refl
+told id name true false true = refl
+told id name true false false = refl
+
 feature_same : (m : Metamodels) (os : List ObjectData) (ls : List Link) (i : ℕ) (o : ObjectData) (f : FeatureNo) → IsLinked m os ls → feature_fault_by m ls i o f ≡ feature_fault m os i o f
-unfolding feature_fault_by feature_fault
-feature_same m os ls i o f h = ap (λ b. or_next (fault_if (not (is_within (shape_of m f.0) (length (items_of o f.0)))) (Bounds o.id (feature_at m f.0).name))
+unfolding feature_fault_by feature_fault breach_of
+feature_same m os ls i o f h = told o.id (feature_at m f.0).name (is_within (shape_of m f.0) (length (items_of o f.0))) ((shape_of m f.0).unique && repeats (items_of o f.0)) (lack_links ls (opposite m f.0) i (items_of o f.0))
+    ∙ ap (λ b. or_next (fault_if (not (is_within (shape_of m f.0) (length (items_of o f.0)))) (Bounds o.id (feature_at m f.0).name))
     (or_next (fault_if ((shape_of m f.0).unique && repeats (items_of o f.0)) (NotUnique o.id (feature_at m f.0).name)) (fault_if b (Opposite o.id (feature_at m f.0).name))))
     (slot_lacks m os ls f.0 i h (items_of o f.0))
 

@@ -1,6 +1,9 @@
+pub mod Asks
 pub mod Joins
+pub mod Kept
 pub mod Lackings
 pub mod Lows
 pub mod Orders
 pub mod SameItems
+pub mod Tables
 pub mod Twice

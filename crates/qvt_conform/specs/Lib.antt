@@ -1,3 +1,5 @@
+pub mod Asked
+pub mod Breaches
 pub mod Conformance
 pub mod Contained
 pub mod Containment
@@ -7,3 +9,4 @@ pub mod Lacking
 pub mod Links
 pub mod LowerBounds
 pub mod Results
+pub mod Slots

@@ -1,21 +1,21 @@
 //! The first fault of a model.
 
-ghost use Rattle.std.specs.Prelude.{◌≡◌, ◌<◌, ◌^◌, ℕ, [], length, IfOk, slice_get, Some};
-ghost use Rattle.qvt_metamodel.specs.Metamodels.{features_of};
+ghost use Rattle.std.specs.Prelude.{◌≡◌, ◌<◌, ◌^◌, length, IfOk};
+ghost use Rattle.qvt_metamodel.specs.Metamodels.{feature_at, features_of};
 ghost use Rattle.qvt_conform.specs.declared.fault.ConformFault.TheVariants.{NoMemory};
-ghost use Rattle.qvt_conform.specs.Conformance.{IsWellFormed, feature_fault, features_fault, object_fault, conform_fault};
-ghost use Rattle.qvt_conform.specs.Containment.{contents};
-ghost use Rattle.qvt_conform.specs.Items.{lacks, lack_opposite, items_of};
-ghost use Rattle.qvt_conform.specs.Joined.{Joined};
-ghost use Rattle.qvt_conform.specs.Links.{links_from};
+ghost use Rattle.qvt_conform.specs.Breaches.{fault_of};
+ghost use Rattle.qvt_conform.specs.Conformance.{IsWellFormed, conform_fault};
 ghost use Rattle.qvt_conform.specs.Contained.{IsContainment};
+ghost use Rattle.qvt_conform.specs.Items.{items_of};
+ghost use Rattle.qvt_conform.specs.Lacking.{feature_fault_by, features_fault_by, object_fault_by, faults_by};
 ghost use Rattle.qvt_conform.specs.Results.{Tells};
-ghost use Rattle.std.specs.List.{list_any};
 
+use crate::asked::Asked;
+use crate::breach::{Breach, are_kept, breach_of};
 use crate::containment::Containment;
 use crate::fault::ConformFault;
-use crate::items::{is_within, items_in, repeats};
-use crate::links::{Link, Links};
+use crate::links::Links;
+use crate::slots::SlotTable;
 use qvt_base::copied::Copied;
 use qvt_base::list_fault::ListFault;
 use qvt_base::numbers::FeatureNo;
@@ -24,43 +24,30 @@ use qvt_metas::metas::Metas;
 use qvt_model::data::{Datum, ModelData, ObjectData};
 use std::alloc::Global;
 
-/// Whether the item is an object that does not hold this one for the feature.
-fn lacks(links: &Links, feature: FeatureNo, place: u32, item: &Datum) -> bool
-    ensures { result ≡ lacks_link links.now feature.0 place item.now }
+/// A copy of a feature's name.
+fn name_of(alloc: Global, metas: &Metas, feature: FeatureNo) -> Result<Text, ListFault>
+    ensures { IfOk result (λ name. name ≡ (feature_at metas.now feature.0).name) }
 {
-    match item {
-        Datum::Ref(other) => !links.holds(Link {
-            object: *other,
-            feature: feature.0,
-            target: place,
-        }),
-        Datum::Bool(_) => false,
-        Datum::Int(_) => false,
-        Datum::Str(_) => false,
-        Datum::Literal(_) => false,
-    }
+    let name = Text::from_str(alloc, metas.feature_name(feature))?;
+    Ok(name)
 }
 
-ghost use Rattle.qvt_conform.specs.Lacking.{lacks_link, lack_links};
-
-fn some_lacks(links: &Links, feature: FeatureNo, place: u32, items: &[Datum]) -> bool
-    ensures { result ≡ list_any (lacks_link links.now feature.0 place) items.now }
+/// The fault that a breach of a feature of the object is.
+fn fault_of(
+    alloc: Global,
+    metas: &Metas,
+    object: &ObjectData,
+    feature: FeatureNo,
+    breach: Breach,
+) -> Result<ConformFault, ListFault>
+    ensures { IfOk result (λ fault. fault ≡ fault_of metas.now object.now feature.0 breach) }
 {
-    for item in items {
-        if lacks(links, feature, place, item) {
-            return true;
-        }
-    }
-    false
-}
-
-/// Whether one of the items does not hold the object for the opposite.
-fn lack(links: &Links, opposite: Option<FeatureNo>, place: u32, items: &[Datum]) -> bool
-    ensures { result ≡ lack_links links.now opposite place items.now }
-{
-    match opposite {
-        None => false,
-        Some(feature) => some_lacks(links, feature, place, items),
+    let id = object.id.copy(alloc)?;
+    let name = name_of(alloc, metas, feature)?;
+    match breach {
+        Breach::Bounds => Ok(ConformFault::Bounds(id, name)),
+        Breach::NotUnique => Ok(ConformFault::NotUnique(id, name)),
+        Breach::Opposite => Ok(ConformFault::Opposite(id, name)),
     }
 }
 
@@ -73,39 +60,19 @@ fn feature_fault(
     place: u32,
     object: &ObjectData,
     feature: FeatureNo,
+    items: &[Datum],
 ) -> Result<(), ConformFault>
+    requires { items.now ≡ items_of object.now feature.0 }
     ensures { Tells NoMemory result (feature_fault_by metas.now links.now place object.now feature) }
 {
-    let shape = metas.shape(feature);
-    let items = items_in(object.slots.as_slice(), feature);
-    if !is_within(shape, items.len()) {
-        let id = object.id.copy(alloc)?;
-        return Err(ConformFault::Bounds(id, name_of(alloc, metas, feature)?));
+    match breach_of(alloc, metas, links, place, feature, items)? {
+        None => Ok(()),
+        Some(breach) => Err(fault_of(alloc, metas, object, feature, breach)?),
     }
-    if shape.unique && repeats(alloc, items)? {
-        let id = object.id.copy(alloc)?;
-        return Err(ConformFault::NotUnique(id, name_of(alloc, metas, feature)?));
-    }
-    if lack(links, metas.opposite(feature), place, items) {
-        let id = object.id.copy(alloc)?;
-        return Err(ConformFault::Opposite(id, name_of(alloc, metas, feature)?));
-    }
-    Ok(())
 }
 
-ghost use Rattle.qvt_conform.specs.Lacking.{feature_fault_by, features_fault_by, object_fault_by, faults_by};
-ghost use Rattle.qvt_metamodel.specs.Metamodels.{feature_at};
-
-/// A copy of a feature's name.
-fn name_of(alloc: Global, metas: &Metas, feature: FeatureNo) -> Result<Text, ListFault>
-    ensures { IfOk result (λ name. name ≡ (feature_at metas.now feature.0).name) }
-{
-    let name = Text::from_str(alloc, metas.feature_name(feature))?;
-    Ok(name)
-}
-
-/// The first fault of the features of an object.
-fn features_fault(
+/// The first fault of the features of an object, in their order in its class.
+fn first_fault(
     alloc: Global,
     metas: &Metas,
     links: &Links,
@@ -114,10 +81,34 @@ fn features_fault(
 ) -> Result<(), ConformFault>
     ensures { Tells NoMemory result (features_fault_by metas.now links.now place object.now (features_of metas.now object.now.class.0)) }
 {
+    let slots = object.slots.as_slice();
+    let table = SlotTable::of(alloc, slots)?;
     for feature in metas.features(object.class) {
-        feature_fault(alloc, metas, links, place, object, *feature)?;
+        let items = table.items(slots, *feature);
+        feature_fault(alloc, metas, links, place, object, *feature, items)?;
     }
     Ok(())
+}
+
+/// The first fault of the features of an object. The slots that are there are looked at in their own order, and then which
+/// features ask for one that is not: only where something is broken are all features of the class gone over.
+#[tactic(auto, using(crate::proofs::Kept::nothing_told))]
+fn features_fault(
+    alloc: Global,
+    metas: &Metas,
+    links: &Links,
+    asked: &Asked,
+    place: u32,
+    object: &ObjectData,
+) -> Result<(), ConformFault>
+    requires { asked.now ≡ metas.now }
+    ensures { Tells NoMemory result (features_fault_by metas.now links.now place object.now (features_of metas.now object.now.class.0)) }
+{
+    let slots = object.slots.as_slice();
+    if are_kept(alloc, metas, links, place, slots)? && asked.are_met(object.class, slots) {
+        return Ok(());
+    }
+    first_fault(alloc, metas, links, place, object)
 }
 
 /// The first fault of an object.
@@ -127,9 +118,11 @@ fn object_fault(
     metas: &Metas,
     links: &Links,
     containment: &Containment,
+    asked: &Asked,
     place: u32,
     object: &ObjectData,
 ) -> Result<(), ConformFault>
+    requires asked { asked.now ≡ metas.now }
     requires containment { IsContainment containment.now.contents containment.now }
     requires there { place < length containment.now.contents }
     ensures { Tells NoMemory result (object_fault_by metas.now links.now containment.now.contents place object.now) }
@@ -137,7 +130,7 @@ fn object_fault(
     if metas.is_abstract(object.class) {
         return Err(ConformFault::Abstract(object.id.copy(alloc)?));
     }
-    features_fault(alloc, metas, links, place, object)?;
+    features_fault(alloc, metas, links, asked, place, object)?;
     containment.fault(alloc, place, object)
 }
 
@@ -154,8 +147,10 @@ fn faults(
     requires few { length objects.now < 2 ^ 32 }
     ensures { Tells NoMemory result (faults_by metas.now links.now containment.now.contents 0 objects.now) }
 {
+    let mut asked = Asked::new(alloc, metas);
     for (i, object) in objects.iter().enumerate() {
-        object_fault(alloc, metas, links, containment, i as u32, object)?;
+        asked.meet(alloc, object.class)?;
+        object_fault(alloc, metas, links, containment, &asked, i as u32, object)?;
     }
     Ok(())
 }

@@ -1,27 +1,13 @@
 //! The checks of one slot.
 
-ghost use Rattle.std.specs.Prelude.{◌≡◌, length, IfOk};
-ghost use Rattle.qvt_model.specs.Items.{items_in};
+ghost use Rattle.std.specs.Prelude.{◌≡◌, IfOk};
 ghost use Rattle.qvt_conform.specs.Items.{is_at_most, is_within, repeats};
 
 use crate::seen::Seen;
 use qvt_base::list_fault::ListFault;
-use qvt_base::numbers::FeatureNo;
 use qvt_metamodel::info::FeatureShape;
-use qvt_model::data::{Datum, SlotData};
+use qvt_model::data::Datum;
 use std::alloc::Global;
-
-/// What an object with these slots holds for a feature.
-pub fn items_in(slots: &[SlotData], feature: FeatureNo) -> &[Datum]
-    ensures { result.now ≡ items_in feature.0 slots.now }
-{
-    for slot in slots {
-        if slot.feature.0 == feature.0 {
-            return slot.items.as_slice();
-        }
-    }
-    &[]
-}
 
 fn is_at_most(count: usize, most: Option<u32>) -> bool
     ensures { result ≡ is_at_most count most }

@@ -5,14 +5,11 @@ use Rattle.qvt_run_rules.specs.Calls.{Calls}
 use Rattle.qvt_meaning.specs.Readings.{Setting}
 use Rattle.qvt_meaning.specs.Units as of_units
 use Rattle.qvt_exec_calls.specs.Units.{Units}
-use Rattle.qvt_exec_mappings.specs.Stage.{Stage, setting_by, setting_in}
+use Rattle.qvt_exec_mappings.specs.Stage.{setting_by}
 use Rattle.qvt_exec_answers.specs.Answering.{program_of, resolves_of}
 use Rattle.qvt_exec_answers.specs.declared.answering.Answering.{Answering}
 
-abbrev pub called_of : Stage → Calls LateWrite
-called_of x = of_units.called (setting_in x) x.1.calls
-
--- its rules
+-- the rules of a run
 abbrev pub setting_of : Answering → Setting LateWrite
 setting_of a = setting_by (program_of a) a.fuel (resolves_of a)
 

@@ -6,7 +6,6 @@ ghost use Rattle.qvt_exec_answers.specs.Table.{IsTable};
 ghost use Rattle.qvt_exec.specs.Calls.{calls_of, units_of};
 
 use crate::below::Below;
-use crate::called::called;
 use crate::inside::{block_inside, expr_inside};
 use crate::stack::left_in_call;
 use qvt_base::numbers::Place;
@@ -15,6 +14,7 @@ use qvt_exec_answers::exprs::{bytes_of, left_behind};
 use qvt_exec_mappings::run::Run;
 use qvt_exec_mappings::statements::bytes_of_block;
 use qvt_exec_phrases::engine::Engine;
+use qvt_exec_routines::called::called;
 use qvt_exec_state::state::RunState;
 use qvt_run_data::callee::Callee;
 use qvt_run_data::exit::{End, Exit, Halt};
@@ -119,19 +119,6 @@ fn call_at(
         fuel: a.fuel,
     };
     called(&run, inside, callee, args, place, state)
-}
-
-/// What an expression gives in a run, outside all calls.
-pub fn value_of(
-    a: &Answering<'_, '_>,
-    x: &Engine<'_>,
-    node: &TypedExpr,
-    state: &mut RunState<'_>,
-) -> Result<Value, Halt>
-    requires { IsTable a.now.expressions.now }
-    ensures { Runs (expr_of (x.now, units_of a.now 100) node.now (seen state.old)) result state.new }
-{
-    expr_at(a, DEPTH, STACK, x, node, state)
 }
 
 /// What a block does in a run, outside all calls.

@@ -1,34 +1,31 @@
 //! A run of a program (QVT 1.3, 8.2.1.3 for `main`, 8.1.10 for what is late): `main`, outside all objects; then the
 //! answers of the late entries, then their changes.
 
-ghost use Rattle.std.specs.Prelude.{◌≡◌, All, IfOk, IsTrue, None};
+ghost use Rattle.std.specs.Prelude.{IfOk, IsTrue, None};
 ghost use Rattle.qvt_types_nodes.specs.View.{typed_block_view};
-ghost use Rattle.qvt_meaning.specs.Laws.{from_requests, keys_differ};
+ghost use Rattle.qvt_meaning.specs.Laws.{keys_differ};
 ghost use Rattle.qvt_meaning.specs.Run.{finished};
 ghost use Rattle.qvt_meaning.specs.Units as of_units;
-ghost use Rattle.qvt_run_data.specs.declared.late.LateWrite.{LateWrite};
-ghost use Rattle.qvt_run_rules.specs.State.{Done};
-ghost use Rattle.qvt_live_store.specs.Held.{contents_of};
-ghost use Rattle.qvt_run_laws.specs.Entries.{IsFor};
 ghost use Rattle.qvt_run_laws.specs.Records.{HasOneForEach};
 ghost use Rattle.qvt_exec_state.specs.Runs.{Runs, seen};
 ghost use Rattle.qvt_exec_answers.specs.Table.{IsTable};
 ghost use Rattle.qvt_exec_answers.specs.Answering.{program_of};
+ghost use Rattle.qvt_exec_finish.specs.Comes.{Comes};
 ghost use Rattle.qvt_exec.specs.Calls.{calls_of, setting_of};
-ghost use Rattle.qvt_exec.specs.Comes.{Comes, ending};
 ghost use Rattle.qvt_exec.specs.Mains.{main_of};
 
-use crate::finish::{Finished, finish};
 use crate::knot::run_block;
-use crate::main_body::main_body;
-use crate::stop::Stop;
+use crate::late::ByConditions;
 use qvt_base::seq::Seq;
 use qvt_exec_answers::answering::Answering;
+use qvt_exec_finish::finish::{Finished, behind_main};
+use qvt_exec_finish::stop::Stop;
 use qvt_exec_phrases::engine::Engine;
+use qvt_exec_routines::main_body::main_body;
 use qvt_exec_state::state::RunState;
 use qvt_live_store::live::LiveStore;
 use qvt_meaning_laws::laws::one_pass;
-use qvt_run_data::exit::{Exit, Halt};
+use qvt_run_data::exit::Halt;
 use qvt_run_laws::entries::requests_fit;
 use qvt_run_laws::records::{one_is_left, one_record};
 use qvt_types_nodes::tree::TypedStmts;
@@ -63,35 +60,6 @@ fn run_main(a: &Answering<'_, '_>, state: &mut RunState<'_>) -> Result<(), Halt>
     free_block(a, main_body(a.expressions.program(), &none), state)
 }
 
-/// What ends a run before its late entries are answered, if anything does: a `return` ends `main` as its last statement
-/// does.
-fn ending(outcome: &Result<(), Halt>) -> Result<(), Stop>
-    ensures { result ≡ ending outcome.now }
-{
-    match outcome {
-        Ok(()) => Ok(()),
-        Err(Halt::Exits(Exit::Returned(_))) => Ok(()),
-        Err(Halt::Exits(Exit::Ends(end))) => Err(Stop::Ends(*end)),
-        Err(Halt::NoMemory) => Err(Stop::NoMemory),
-    }
-}
-
-/// What comes of a run behind `main`, whose late assignments fit their slots.
-fn behind_main<'s>(
-    a: &Answering<'_, '_>,
-    outcome: &Result<(), Halt>,
-    state: RunState<'s>,
-) -> Result<Finished<'s>, Stop>
-    requires table { IsTable a.now.expressions.now }
-    requires entries { IfOk (ending outcome.now) (λ _. All (IsFor (contents_of state.store)) state.entries) }
-    ensures { (main : Done LateWrite (Unit {0})) → Runs main outcome.now state.entry → Comes (from_requests (program_of a.now) a.now.fuel main.0 main.1) result }
-{
-    match ending(outcome) {
-        Ok(()) => finish(a, state),
-        Err(stop) => Err(stop),
-    }
-}
-
 /// The run of a program over a loaded store: what it leaves, or what ends it. Its trace has at most one record for each
 /// mapping, context and argument list, and exactly one where a call has come to the step that writes the record, or its
 /// init section returned with a result. A cost that 64 bits do not hold is told as want of memory.
@@ -107,5 +75,6 @@ pub fn run<'s>(a: &Answering<'_, '_>, store: LiveStore) -> Result<Finished<'s>, 
     requests_fit();
     let mut state = RunState::of_run(a.alloc, store);
     let outcome = run_main(a, &mut state);
-    behind_main(a, &outcome, state)
+    let late = ByConditions { answering: a };
+    behind_main(a.alloc, a.fuel, &late, &outcome, state)
 }

@@ -142,7 +142,45 @@ pub record Said {ℓ} (I : Type 0 → Type ℓ) : Type ℓ where
   pub model_params : I (List ModelParamTree)
   pub whole : I ModuleTerm
 
+-- what is said at a level of the operands of the next looser one; of the loosest there is none
+module _ {ℓ} {A : Type ℓ} where
+  abbrev pub loosened : (Level → A) → A → Level → A
+  loosened operand last levels.Product = operand levels.Sum
+  loosened operand last levels.Sum = operand levels.Relation
+  loosened operand last levels.Relation = operand levels.Equality
+  loosened operand last levels.Equality = operand levels.And
+  loosened operand last levels.And = operand levels.Or
+  loosened operand last levels.Or = operand levels.Xor
+  loosened operand last levels.Xor = operand levels.Implies
+  loosened operand last levels.Implies = last
+
 module _ {ℓ} {I : Type 0 → Type ℓ} {K : (A : Type 0) → I A → Phrase A → Type 0} (F : Forms I K) (S : Said I) where
+  -- what is said of an expression by its row, of a link by its level, and of a unit that is read, where that is more than of
+  -- expressions, links and units as such
+  pub record ByRow : Type (ℓ ⊔ 1) where
+    pub primary : I ExprTerm
+    pub post : I ExprTerm
+    pub operand : Level → I ExprTerm
+    pub chain : Level → I ExprTerm
+    pub link : Level → I LinkTerm
+    pub read : I UnitTerm
+    pub climbs : (level : Level) {p : Phrase ExprTerm} → K ExprTerm (chain level) p → K ExprTerm (loosened operand S.expr level) p
+    pub reads : (n : ℕ) → K UnitTerm S.unit («Unit» (inside n)) → K UnitTerm read («Unit» (inside n))
+
+  pub same_climbs : (level : Level) {p : Phrase ExprTerm} → K ExprTerm S.expr p → K ExprTerm (loosened (λ l. S.expr) S.expr level) p
+  same_climbs levels.Product h = h
+  same_climbs levels.Sum h = h
+  same_climbs levels.Relation h = h
+  same_climbs levels.Equality h = h
+  same_climbs levels.And h = h
+  same_climbs levels.Or h = h
+  same_climbs levels.Xor h = h
+  same_climbs levels.Implies h = h
+
+  -- no more of any
+  abbrev pub alike : ByRow
+  alike = record { primary = S.expr; post = S.expr; operand = λ l. S.expr; chain = λ l. S.expr; link = λ l. S.link; read = S.unit; climbs = same_climbs; reads = λ n h. h }
+
   abbrev one : Class → I Tok
   one c = F.token (c ∷ [])
 
@@ -177,7 +215,7 @@ module _ {ℓ} {I : Type 0 → Type ℓ} {K : (A : Type 0) → I A → Phrase A 
   features = F.in_two class.OpenBrace (F.list (F.before_a S.feature class.Semicolon)) class.CloseBrace
 
   -- what the rows make of their parts
-  pub record Makers : Type 1 where
+  pub record MakersBy (R : ByRow) : Type 1 where
     -- names
     pub named_of : F.Makes (one class.Name) S.named named_of
     pub name_of : F.Makes (one class.Name) S.name text_of
@@ -209,34 +247,34 @@ module _ {ℓ} {I : Type 0 → Type ℓ} {K : (A : Type 0) → I A → Phrase A 
     pub after_arrow : F.Makes (F.after_a class.Arrow S.arrow) S.step (λ x. x)
     pub call_after_dot : F.Makes (F.after_a class.Dot S.dot_call) S.step (λ x. x)
     pub call_after_arrow : F.Makes (F.after_a class.Arrow S.arrow_call) S.step (λ x. x)
-    pub int_of : F.Makes (one class.Integer) S.expr int_of
-    pub str_of : F.Makes (one class.Str) S.expr str_of
-    pub true_of : F.Makes (one class.TrueWord) S.expr true_of
-    pub false_of : F.Makes (one class.FalseWord) S.expr false_of
-    pub null_of : F.Makes (one class.NullWord) S.expr null_of
-    pub self_of : F.Makes (one class.SelfWord) S.expr self_of
-    pub result_of : F.Makes (one class.ResultWord) S.expr result_of
-    pub path_expr : F.Makes S.path S.expr PathExpr
-    pub call_of : F.Makes (F.pair S.named args) S.expr call_of
-    pub coll_of : F.Makes (F.pair (F.token kinds) (F.in_list class.OpenBrace S.item class.CloseBrace)) S.expr coll_of
-    pub if_of : F.Makes (F.marked (F.pair (one class.IfWord) (F.pair S.expr (F.pair (F.after_a class.ThenWord S.expr) (F.in_two class.ElseWord S.expr class.EndifWord))))) S.expr if_of
+    pub int_of : F.Makes (one class.Integer) R.primary int_of
+    pub str_of : F.Makes (one class.Str) R.primary str_of
+    pub true_of : F.Makes (one class.TrueWord) R.primary true_of
+    pub false_of : F.Makes (one class.FalseWord) R.primary false_of
+    pub null_of : F.Makes (one class.NullWord) R.primary null_of
+    pub self_of : F.Makes (one class.SelfWord) R.primary self_of
+    pub result_of : F.Makes (one class.ResultWord) R.primary result_of
+    pub path_expr : F.Makes S.path R.primary PathExpr
+    pub call_of : F.Makes (F.pair S.named args) R.primary call_of
+    pub coll_of : F.Makes (F.pair (F.token kinds) (F.in_list class.OpenBrace S.item class.CloseBrace)) R.primary coll_of
+    pub if_of : F.Makes (F.marked (F.pair (one class.IfWord) (F.pair S.expr (F.pair (F.after_a class.ThenWord S.expr) (F.in_two class.ElseWord S.expr class.EndifWord))))) R.primary if_of
     pub named_var : F.Makes S.named S.variable named_var
     pub result_var : F.Makes (one class.ResultWord) S.variable result_var
-    pub object_of : F.Makes (F.pair (one class.ObjectWord) (F.pair (F.option (F.before_a S.variable class.Colon)) (F.pair S.path (F.pair extent S.block)))) S.expr object_of
-    pub new_of : F.Makes (F.pair (one class.NewWord) (F.pair S.path (F.pair extent args))) S.expr new_of
-    pub map_expr : F.Makes S.map S.expr MapExpr
-    pub resolve_expr : F.Makes S.resolve S.expr ResolveExpr
-    pub brackets : F.Makes (F.in_two class.OpenRound S.expr class.CloseRound) S.expr (λ x. x)
-    pub stepped_of : F.Makes (F.marked (F.pair S.expr (F.list S.step))) S.expr stepped_of
+    pub object_of : F.Makes (F.pair (one class.ObjectWord) (F.pair (F.option (F.before_a S.variable class.Colon)) (F.pair S.path (F.pair extent S.block)))) R.primary object_of
+    pub new_of : F.Makes (F.pair (one class.NewWord) (F.pair S.path (F.pair extent args))) R.primary new_of
+    pub map_expr : F.Makes S.map R.primary MapExpr
+    pub resolve_expr : F.Makes S.resolve R.primary ResolveExpr
+    pub brackets : F.Makes (F.in_two class.OpenRound S.expr class.CloseRound) R.primary (λ x. x)
+    pub stepped_of : F.Makes (F.marked (F.pair R.primary (F.list S.step))) R.post stepped_of
     pub not_of : F.Makes (one class.NotWord) S.sign not_of
     pub minus_of : F.Makes (one class.MinusSign) S.sign minus_of
-    pub signed_of : F.Makes (F.marked (F.pair (F.list S.sign) S.expr)) S.expr signed_of
-    pub linked : (level : Level) → F.Makes (F.pair (F.token (operators level)) S.expr) S.link linked
-    pub chained : (level : Level) → F.Makes (F.marked (F.pair S.expr (F.list S.link))) S.expr (chained level)
+    pub signed_of : F.Makes (F.marked (F.pair (F.list S.sign) R.post)) (R.operand levels.Product) signed_of
+    pub linked : (level : Level) → F.Makes (F.pair (F.token (operators level)) (R.operand level)) (R.link level) linked
+    pub chained : (level : Level) → F.Makes (F.marked (F.pair (R.operand level) (F.list (R.link level)))) (R.chain level) (chained level)
     -- statements
     pub named_target : F.Makes S.named S.target named_target
     pub result_target : F.Makes (one class.ResultWord) S.target result_target
-    pub feature_target : F.Makes (F.pair S.expr (F.after_a class.Dot S.named)) S.target feature_target
+    pub feature_target : F.Makes (F.pair R.post (F.after_a class.Dot S.named)) S.target feature_target
     pub var_of : F.Makes (F.marked (F.pair (one class.VarWord) (F.pair S.named (F.pair colon_type (F.option (F.after_a class.Becomes S.expr)))))) S.stmt var_of
     pub assign_of : F.Makes (F.pair S.target (F.pair (F.token (class.Becomes ∷ class.PlusEqual ∷ [])) S.expr)) S.stmt assign_of
     pub return_of : F.Makes (F.marked (F.pair (one class.ReturnWord) (F.option S.expr))) S.stmt return_of
@@ -245,7 +283,7 @@ module _ {ℓ} {I : Type 0 → Type ℓ} {K : (A : Type 0) → I A → Phrase A 
     pub block_form_of : F.Makes (F.marked (F.pair (one class.IfWord) (F.pair condition (F.pair (F.option (one class.ThenWord)) (F.pair S.block (F.pair (F.list S.arm) (F.pair (F.option (F.after_a class.ElseWord S.block)) (F.option (one class.EndifWord))))))))) S.compound block_form_of
     pub while_of : F.Makes (F.marked (F.pair (one class.WhileWord) (F.pair condition S.block))) S.compound while_of
     pub each_of : F.Makes (F.pair (one class.ForEachWord) (F.pair (one class.OpenRound) (F.pair S.named (F.pair colon_type (F.pair bar_expr (F.pair (one class.CloseRound) S.block)))))) S.each each_of
-    pub loop_of : F.Makes (F.marked (F.pair S.expr (F.after_a class.Arrow S.each))) S.compound loop_of
+    pub loop_of : F.Makes (F.marked (F.pair R.post (F.after_a class.Arrow S.each))) S.compound loop_of
     pub no_stmts : F.Makes (one class.Semicolon) S.turn no_stmts
     pub simple_turn : F.Makes (F.before_a S.stmt class.Semicolon) S.turn single
     pub compound_turn : F.Makes S.compound S.turn single
@@ -276,7 +314,7 @@ module _ {ℓ} {I : Type 0 → Type ℓ} {K : (A : Type 0) → I A → Phrase A 
     pub empty_body : F.Makes (one class.Semicolon) S.body empty_body
     pub body_of : F.Makes (F.pair (one class.OpenBrace) (F.pair (F.option (F.after_a class.InitWord S.block)) (F.pair S.sections (one class.CloseBrace)))) S.body body_of
     pub mapping_of : F.Makes (F.after_a class.MappingWord (F.pair S.unit_path (F.pair params (F.pair (F.option (F.after_a class.Colon S.result)) (F.pair S.clauses S.body))))) S.unit mapping_of
-    pub some_unit : F.Makes S.unit S.turn_units some_unit
+    pub some_unit : F.Makes R.read S.turn_units some_unit
     pub no_units : F.Makes (one class.Semicolon) S.turn_units no_units
     pub uri_text : F.Makes S.string S.uri (λ x. x)
     pub uri_named : F.Makes (F.after_a class.Name (F.in_two class.OpenRound S.string class.CloseRound)) S.uri (λ x. x)
@@ -289,12 +327,15 @@ module _ {ℓ} {I : Type 0 → Type ℓ} {K : (A : Type 0) → I A → Phrase A 
     pub strict : K Tok (one class.Str) (such_that (λ t. IsTrue (is_strictness t)) (the class.Str))
     pub once : (j : Inside) → K Clause S.clause (Extra j) → K (List Clause) (F.list S.clause) (such_that AreOnce (many (Extra j)))
 
-module _ {ℓ} {I : Type 0 → Type ℓ} {K : (A : Type 0) → I A → Phrase A → Type 0} {F : Forms I K} {S : Said I} (m : Makers F S) where
+  abbrev pub Makers : Type 1
+  Makers = MakersBy alike
+
+module _ {ℓ} {I : Type 0 → Type ℓ} {K : (A : Type 0) → I A → Phrase A → Type 0} {F : Forms I K} {S : Said I} {R : ByRow F S} (m : MakersBy F S R) where
   k_one : (c : Class) → K Tok (one F S c) (the c)
   k_one c = F.choice (c ∷ [])
 
-  k_chain : {p : Phrase ExprTerm} (level : Level) → K ExprTerm S.expr p → K ExprTerm S.expr (chain level (any_of (operators level)) p)
-  k_chain level h = F.made (m.chained level) (F.at (F.both h (F.turns (F.made (m.linked level) (F.both (F.choice (operators level)) h)))))
+  k_chain : {p : Phrase ExprTerm} (level : Level) → K ExprTerm (R.operand level) p → K ExprTerm (loosened R.operand S.expr level) (chain level (any_of (operators level)) p)
+  k_chain level h = R.climbs level (F.made (m.chained level) (F.at (F.both h (F.turns (F.made (m.linked level) (F.both (F.choice (operators level)) h))))))
 
   k_name : K _ S.named Name
   unfolding Name
@@ -380,7 +421,7 @@ module _ {ℓ} {I : Type 0 → Type ℓ} {K : (A : Type 0) → I A → Phrase A 
         (F.one_of (F.also m.call_after_dot (F.behind class.Dot (F.one_of (F.made m.dot_map k_map) (F.made m.dot_resolve k_resolve))))
         (F.also m.call_after_arrow (F.behind class.Arrow (F.one_of (F.made m.arrow_map k_map) (F.made m.arrow_resolve k_resolve))))))
 
-    k_primary : K _ S.expr (Primary j)
+    k_primary : K _ R.primary (Primary j)
     unfolding Primary
     k_primary = F.one_of (F.made m.int_of (k_one class.Integer)) (F.one_of (F.made m.str_of (k_one class.Str)) (F.one_of (F.made m.true_of (k_one class.TrueWord)) (F.one_of (F.made m.false_of (k_one class.FalseWord))
         (F.one_of (F.made m.null_of (k_one class.NullWord)) (F.one_of (F.made m.self_of (k_one class.SelfWord)) (F.one_of (F.made m.result_of (k_one class.ResultWord)) (F.one_of (F.made m.path_expr k_path)
@@ -390,11 +431,11 @@ module _ {ℓ} {I : Type 0 → Type ℓ} {K : (A : Type 0) → I A → Phrase A 
         (F.one_of (F.made m.new_of (F.both (k_one class.NewWord) (F.both k_path (F.both (F.perhaps k_extent) k_args))))
         (F.one_of (F.made m.map_expr k_map) (F.one_of (F.made m.resolve_expr k_resolve) (F.also m.brackets (F.round class.OpenRound h.expr class.CloseRound))))))))))))))))
 
-    k_post : K _ S.expr (Post j)
+    k_post : K _ R.post (Post j)
     unfolding Post
     k_post = F.made m.stepped_of (F.at (F.both k_primary (F.turns k_step)))
 
-    k_pre : K _ S.expr (Pre j)
+    k_pre : K _ (R.operand levels.Product) (Pre j)
     unfolding Pre
     k_pre = F.made m.signed_of (F.at (F.both (F.turns (F.one_of (F.made m.not_of (k_one class.NotWord)) (F.made m.minus_of (k_one class.MinusSign)))) k_post))
 
@@ -485,4 +526,4 @@ module _ {ℓ} {I : Type 0 → Type ℓ} {K : (A : Type 0) → I A → Phrase A 
 
   pub every_module : (n : ℕ) → K ModuleTerm S.whole (Module (inside n))
   unfolding Module
-  every_module n = F.made m.module_of (F.both (F.turns k_model_type) (F.both k_header (F.turns (F.one_of (F.made m.some_unit (every_unit n)) (F.made m.no_units (k_one class.Semicolon))))))
+  every_module n = F.made m.module_of (F.both (F.turns k_model_type) (F.both k_header (F.turns (F.one_of (F.made m.some_unit (R.reads n (every_unit n))) (F.made m.no_units (k_one class.Semicolon))))))

@@ -1,3 +1,2 @@
 pub mod MetaForm
-pub mod SmallMeta
 pub mod DataOf

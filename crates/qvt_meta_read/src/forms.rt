@@ -1,12 +1,9 @@
 //! The forms of a metamodel's file.
 
-ghost use Rattle.std.specs.Prelude.{◌≡◌, codes};
-ghost use Rattle.std.specs.Str.{bytes_eq};
+ghost use Rattle.std.specs.Prelude.{◌≡◌};
 ghost use Rattle.serde_json.specs.View.{view};
-ghost use Rattle.qvt_json.specs.Leaves.{is_text_of};
 ghost use Rattle.qvt_json.specs.Shape.{leaf};
 ghost use Rattle.qvt_meta_read.specs.MetaForm.{name_form, is_upper, feature_form, class_form, enum_form, meta_form};
-ghost use Rattle.qvt_meta_read.specs.SmallMeta.{small_feature_form, small_class_form, small_form};
 
 use qvt_base::list_fault::ListFault;
 use qvt_base::names::is_name;
@@ -196,90 +193,5 @@ impl Form for MetaForm {
             return Ok(Some(path));
         }
         optional_fault(alloc, value, "uri", &FileForm {})
-    }
-}
-
-/// The name of the type of whole numbers.
-pub struct IntegerForm {}
-
-impl Form for IntegerForm {
-    ghost form = { λ f. leaf (is_text_of (bytes_eq (codes "Integer"))) };
-
-    fn fault(&self, alloc: Global, value: &Value) -> Result<Option<Text>, ListFault> {
-        let Some(text) = value.as_str() else {
-            return Ok(Some(Text::new(alloc)));
-        };
-        if "Integer" == text {
-            return Ok(None);
-        }
-        Ok(Some(Text::new(alloc)))
-    }
-}
-
-/// A feature of a small metamodel.
-pub struct SmallFeatureForm {}
-
-impl Form for SmallFeatureForm {
-    ghost form = { λ f. small_feature_form };
-
-    #[tactic(auto, unfolding(crate::specs::SmallMeta::small_feature_form))]
-    fn fault(&self, alloc: Global, value: &Value) -> Result<Option<Text>, ListFault> {
-        if !has_only(value, &["name", "type"]) {
-            return Ok(Some(Text::new(alloc)));
-        }
-        if let Some(path) = required_fault(alloc, value, "name", &NameForm {})? {
-            return Ok(Some(path));
-        }
-        required_fault(alloc, value, "type", &IntegerForm {})
-    }
-}
-
-/// A class of a small metamodel.
-pub struct SmallClassForm {}
-
-impl Form for SmallClassForm {
-    ghost form = { λ f. small_class_form };
-
-    #[tactic(auto, unfolding(crate::specs::SmallMeta::small_class_form))]
-    fn fault(&self, alloc: Global, value: &Value) -> Result<Option<Text>, ListFault> {
-        if !has_only(value, &["features", "name"]) {
-            return Ok(Some(Text::new(alloc)));
-        }
-        if let Some(path) = optional_fault(
-            alloc,
-            value,
-            "features",
-            &ListOf {
-                item: SmallFeatureForm {},
-            },
-        )? {
-            return Ok(Some(path));
-        }
-        required_fault(alloc, value, "name", &NameForm {})
-    }
-}
-
-/// A small metamodel: classes whose features are whole numbers.
-pub struct SmallForm {}
-
-impl Form for SmallForm {
-    ghost form = { λ f. small_form };
-
-    #[tactic(auto, unfolding(crate::specs::SmallMeta::small_form))]
-    fn fault(&self, alloc: Global, value: &Value) -> Result<Option<Text>, ListFault> {
-        if !has_only(value, &["classes", "name"]) {
-            return Ok(Some(Text::new(alloc)));
-        }
-        if let Some(path) = required_fault(
-            alloc,
-            value,
-            "classes",
-            &ListOf {
-                item: SmallClassForm {},
-            },
-        )? {
-            return Ok(Some(path));
-        }
-        required_fault(alloc, value, "name", &NameForm {})
     }
 }

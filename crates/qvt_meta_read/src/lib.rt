@@ -3,4 +3,3 @@
 
 pub mod forms;
 pub mod reading;
-pub mod small;

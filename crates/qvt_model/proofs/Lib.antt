@@ -1,5 +1,4 @@
 pub mod Extents
-pub mod IdSets
 pub mod IdTables
 pub mod Lists
 pub mod OwnIds

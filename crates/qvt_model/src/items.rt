@@ -12,6 +12,7 @@ use crate::places::Places;
 use qvt_base::list_fault::ListFault;
 use qvt_base::numbers::{ClassNo, FeatureNo};
 use qvt_base::text::Text;
+use qvt_dictionary::dictionary::Dictionary;
 use qvt_json::leaves::is_id;
 use qvt_metamodel::info::TypeKind;
 use qvt_metas::metas::Metas;
@@ -51,18 +52,18 @@ fn ref_of(metas: &Metas, places: &Places, class: ClassNo, id: &str) -> Option<Da
 
 /// The literal of this name. One whose number passes 32 bits has no room.
 fn literal_of(
-    metas: &Metas,
+    dictionary: &Dictionary,
     metamodel: u32,
     enumeration: u32,
     value: &Value,
 ) -> Result<Option<Datum>, ListFault>
-    ensures value { IfOk result (λ o. o ≡ option_map (literal_in metamodel enumeration) (option_and_then (literal_named metas.now metamodel enumeration) (as_str (view value.now)))) }
+    ensures value { IfOk result (λ o. o ≡ option_map (literal_in metamodel enumeration) (option_and_then (literal_named dictionary.now metamodel enumeration) (as_str (view value.now)))) }
     ensures plain { IfOk result (λ o. IfSome o IsPlainDatum) }
 {
     let Some(name) = value.as_str() else {
         return Ok(None);
     };
-    let Some(literal) = metas.literal(metamodel, enumeration, name) else {
+    let Some(literal) = dictionary.literal(metamodel, enumeration, name) else {
         return Ok(None);
     };
     Ok(Some(Datum::Literal(LiteralRef {
@@ -76,13 +77,13 @@ fn literal_of(
 #[tactic(auto, unfolding(crate::specs::Reading::datum_of))]
 fn datum_of(
     alloc: Global,
-    metas: &Metas,
+    dictionary: &Dictionary,
     places: &Places,
     kind: TypeKind,
     value: &Value,
 ) -> Result<Option<Datum>, ListFault>
     requires few { length places.now.ids < 2 ^ 32 }
-    ensures value { IfOk result (λ o. o ≡ datum_of metas.now places.now kind (view value.now)) }
+    ensures value { IfOk result (λ o. o ≡ datum_of dictionary.now places.now kind (view value.now)) }
     ensures plain { IfOk result (λ o. IfSome o IsPlainDatum) }
 {
     match kind {
@@ -98,9 +99,14 @@ fn datum_of(
             Some(text) => Ok(Some(Datum::Str(Text::from_str(alloc, text)?))),
             None => Ok(None),
         },
-        TypeKind::Enum(metamodel, enumeration) => literal_of(metas, metamodel, enumeration, value),
+        TypeKind::Enum(metamodel, enumeration) => literal_of(
+            dictionary,
+            metamodel,
+            enumeration,
+            value,
+        ),
         TypeKind::Class(class) => match value.as_str() {
-            Some(id) => Ok(ref_of(metas, places, class, id)),
+            Some(id) => Ok(ref_of(dictionary.metas(), places, class, id)),
             None => Ok(None),
         },
     }
@@ -109,18 +115,18 @@ fn datum_of(
 /// The items of a type that the values are.
 fn all_items(
     alloc: Global,
-    metas: &Metas,
+    dictionary: &Dictionary,
     places: &Places,
     kind: TypeKind,
     values: &Vec<Value>,
 ) -> Result<Option<DatumList>, ListFault>
     requires few { length places.now.ids < 2 ^ 32 }
-    ensures value { IfOk result (λ o. o ≡ all_items (datum_of metas.now places.now kind) (items_view values.now.items)) }
+    ensures value { IfOk result (λ o. o ≡ all_items (datum_of dictionary.now places.now kind) (items_view values.now.items)) }
     ensures plain { IfOk result (λ o. IfSome o (AllByRecursion IsPlainDatum)) }
 {
     let mut items = DatumList::new(alloc);
     for value in values {
-        let Some(item) = datum_of(alloc, metas, places, kind, value)? else {
+        let Some(item) = datum_of(alloc, dictionary, places, kind, value)? else {
             return Ok(None);
         };
         items.push(item)?;
@@ -131,20 +137,20 @@ fn all_items(
 /// The item of a slot of upper bound 1, in a list.
 fn one_item(
     alloc: Global,
-    metas: &Metas,
+    dictionary: &Dictionary,
     places: &Places,
     kind: TypeKind,
     value: &Value,
 ) -> Result<Option<DatumList>, ListFault>
     requires few { length places.now.ids < 2 ^ 32 }
-    ensures value { IfOk result (λ o. o ≡ one_item (datum_of metas.now places.now kind) (view value.now)) }
+    ensures value { IfOk result (λ o. o ≡ one_item (datum_of dictionary.now places.now kind) (view value.now)) }
     ensures plain { IfOk result (λ o. IfSome o (AllByRecursion IsPlainDatum)) }
 {
     let mut items = DatumList::new(alloc);
     if value.is_null() {
         return Ok(Some(items));
     }
-    let Some(item) = datum_of(alloc, metas, places, kind, value)? else {
+    let Some(item) = datum_of(alloc, dictionary, places, kind, value)? else {
         return Ok(None);
     };
     items.push(item)?;
@@ -155,21 +161,21 @@ fn one_item(
 #[tactic(auto, unfolding(crate::specs::Reading::items_of))]
 pub fn items_of(
     alloc: Global,
-    metas: &Metas,
+    dictionary: &Dictionary,
     places: &Places,
     feature: FeatureNo,
     value: &Value,
 ) -> Result<Option<DatumList>, ListFault>
     requires few { length places.now.ids < 2 ^ 32 }
-    ensures value { IfOk result (λ o. o ≡ items_of metas.now places.now feature (view value.now)) }
+    ensures value { IfOk result (λ o. o ≡ items_of dictionary.now places.now feature (view value.now)) }
     ensures plain { IfOk result (λ o. IfSome o (AllByRecursion IsPlainDatum)) }
 {
-    let shape = metas.shape(feature);
+    let shape = dictionary.metas().shape(feature);
     if shape.upper == Some(1) {
-        return one_item(alloc, metas, places, shape.kind, value);
+        return one_item(alloc, dictionary, places, shape.kind, value);
     }
     match value.as_array() {
-        Some(values) => all_items(alloc, metas, places, shape.kind, values),
+        Some(values) => all_items(alloc, dictionary, places, shape.kind, values),
         None => Ok(None),
     }
 }

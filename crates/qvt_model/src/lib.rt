@@ -5,7 +5,6 @@ mod dangling;
 pub mod data;
 mod forms;
 pub mod id_table;
-mod ids;
 mod items;
 pub mod laws;
 pub mod load;

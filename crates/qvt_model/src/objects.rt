@@ -6,12 +6,13 @@ ghost use Rattle.qvt_model.specs.Reading.{id_of, slots_in, distinct_ids, class_o
 ghost use Rattle.qvt_model.specs.WellFormed.{IsPlainSlot, IsPlainObject};
 
 use crate::data::{ModelFault, ObjectData, ObjectList, SlotList};
-use crate::ids::IdSet;
 use crate::places::Places;
 use crate::slots::{features_known, slots_of};
 use qvt_base::lists::ClassNoList;
 use qvt_base::numbers::ClassNo;
 use qvt_base::text::Text;
+use qvt_dictionary::dictionary::Dictionary;
+use qvt_dictionary::texts::TextSet;
 use qvt_json::value::{members_at, text_or};
 use qvt_metas::metas::Metas;
 use serde_json::Value;
@@ -19,10 +20,10 @@ use std::alloc::Global;
 
 /// The ids of the objects, which differ.
 #[tactic(auto, unfolding(crate::specs::Reading::distinct_ids))]
-pub fn distinct_ids(alloc: Global, items: &Vec<Value>) -> Result<IdSet, ModelFault>
+pub fn distinct_ids(alloc: Global, items: &Vec<Value>) -> Result<TextSet, ModelFault>
     ensures { Gives ModelFault.NoMemory (λ ids. ids) result (distinct_ids (items_view items.now.items)) }
 {
-    let mut ids = IdSet::new(alloc);
+    let mut ids = TextSet::new(alloc);
     for item in items {
         let id = text_or(item, "id");
         if ids.contains(id) {
@@ -100,17 +101,24 @@ pub fn objects_known(
 /// The slots of an object that are not empty.
 fn object_slots(
     alloc: Global,
-    metas: &Metas,
+    dictionary: &Dictionary,
     places: &Places,
     class: ClassNo,
     item: &Value,
 ) -> Result<SlotList, ModelFault>
     requires few { length places.now.ids < 2 ^ 32 }
-    ensures value { Gives ModelFault.NoMemory (λ ss. ss) result (slots_of metas.now places.now class (id_of (view item.now)) (slots_in (view item.now))) }
+    ensures value { Gives ModelFault.NoMemory (λ ss. ss) result (slots_of dictionary.now places.now class (id_of (view item.now)) (slots_in (view item.now))) }
     ensures plain { IfOk result (AllByRecursion IsPlainSlot) }
 {
     match members_at(item, "slots") {
-        Some(members) => slots_of(alloc, metas, places, class, text_or(item, "id"), members),
+        Some(members) => slots_of(
+            alloc,
+            dictionary,
+            places,
+            class,
+            text_or(item, "id"),
+            members,
+        ),
         None => Ok(SlotList::new(alloc)),
     }
 }
@@ -119,17 +127,17 @@ fn object_slots(
 #[tactic(auto, unfolding(crate::specs::Reading::object_of))]
 fn object_of(
     alloc: Global,
-    metas: &Metas,
+    dictionary: &Dictionary,
     metamodel: u32,
     places: &Places,
     item: &Value,
 ) -> Result<ObjectData, ModelFault>
     requires few { length places.now.ids < 2 ^ 32 }
-    ensures value { Gives ModelFault.NoMemory (λ o. o) result (object_of metas.now metamodel places.now (view item.now)) }
+    ensures value { Gives ModelFault.NoMemory (λ o. o) result (object_of dictionary.now metamodel places.now (view item.now)) }
     ensures plain { IfOk result IsPlainObject }
 {
-    let class = class_of(alloc, metas, metamodel, item)?;
-    let slots = object_slots(alloc, metas, places, class, item)?;
+    let class = class_of(alloc, dictionary.metas(), metamodel, item)?;
+    let slots = object_slots(alloc, dictionary, places, class, item)?;
     let id = Text::from_str(alloc, text_or(item, "id"))?;
     Ok(ObjectData { class, id, slots })
 }
@@ -137,18 +145,18 @@ fn object_of(
 /// The objects, whose references are not checked yet.
 pub fn objects_of(
     alloc: Global,
-    metas: &Metas,
+    dictionary: &Dictionary,
     metamodel: u32,
     places: &Places,
     items: &Vec<Value>,
 ) -> Result<ObjectList, ModelFault>
     requires few { length places.now.ids < 2 ^ 32 }
-    ensures value { Gives ModelFault.NoMemory (λ os. os) result (each_item (object_of metas.now metamodel places.now) (items_view items.now.items)) }
+    ensures value { Gives ModelFault.NoMemory (λ os. os) result (each_item (object_of dictionary.now metamodel places.now) (items_view items.now.items)) }
     ensures plain { IfOk result (AllByRecursion IsPlainObject) }
 {
     let mut objects = ObjectList::new(alloc);
     for item in items {
-        objects.push(object_of(alloc, metas, metamodel, places, item)?)?;
+        objects.push(object_of(alloc, dictionary, metamodel, places, item)?)?;
     }
     Ok(objects)
 }

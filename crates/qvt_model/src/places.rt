@@ -1,9 +1,9 @@
-use crate::ids::IdSet;
 use qvt_base::lists::ClassNoList;
+use qvt_dictionary::texts::TextSet;
 
 /// The objects that a reference may name: the id of each, and its class.
 pub struct Places {
-    pub ids: IdSet,
+    pub ids: TextSet,
     pub classes: ClassNoList,
 }
 

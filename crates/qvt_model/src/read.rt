@@ -10,6 +10,7 @@ use crate::data::{ModelData, ModelFault, ObjectList};
 use crate::forms::ModelForm;
 use crate::objects::{classes_of, distinct_ids, objects_known, objects_of};
 use crate::places::Places;
+use qvt_dictionary::dictionary::Dictionary;
 use qvt_json::shape::shape_fault;
 use qvt_json::value::{items_at, read_value};
 use qvt_metas::metas::Metas;
@@ -34,7 +35,8 @@ fn model_from(
     let classes = classes_of(alloc, metas, metamodel, items)?;
     objects_known(alloc, metas, metamodel, items)?;
     let places = Places { ids, classes };
-    let objects = objects_of(alloc, metas, metamodel, &places, items)?;
+    let dictionary = Dictionary::of(alloc, metas, metamodel)?;
+    let objects = objects_of(alloc, &dictionary, metamodel, &places, items)?;
     match dangling(alloc, metas, objects.len(), objects.as_slice())? {
         Some(fault) => Err(fault),
         None => Ok(objects),

@@ -10,6 +10,7 @@ use crate::items::items_of;
 use crate::places::Places;
 use qvt_base::numbers::{ClassNo, FeatureNo};
 use qvt_base::text::Text;
+use qvt_dictionary::dictionary::Dictionary;
 use qvt_metas::metas::Metas;
 use serde_json::{Map, Value};
 use std::alloc::Global;
@@ -51,7 +52,7 @@ pub fn features_known(
 #[tactic(auto, unfolding(crate::specs::Reading::slot_of))]
 fn slot_of(
     alloc: Global,
-    metas: &Metas,
+    dictionary: &Dictionary,
     places: &Places,
     class: ClassNo,
     id: &str,
@@ -59,11 +60,11 @@ fn slot_of(
     value: &Value,
 ) -> Result<SlotData, ModelFault>
     requires few { length places.now.ids < 2 ^ 32 }
-    ensures value { Gives ModelFault.NoMemory (λ s. s) result (slot_of metas.now places.now class id.now name.now (view value.now)) }
+    ensures value { Gives ModelFault.NoMemory (λ s. s) result (slot_of dictionary.now places.now class id.now name.now (view value.now)) }
     ensures plain { IfOk result IsPlainSlot }
 {
-    let feature = feature_of(alloc, metas, class, id, name)?;
-    let Some(items) = items_of(alloc, metas, places, feature, value)? else {
+    let feature = feature_of(alloc, dictionary.metas(), class, id, name)?;
+    let Some(items) = items_of(alloc, dictionary, places, feature, value)? else {
         let id = Text::from_str(alloc, id)?;
         return Err(ModelFault::WrongValue(id, Text::from_str(alloc, name)?));
     };
@@ -73,19 +74,19 @@ fn slot_of(
 /// The slots of the object that are not empty.
 pub fn slots_of(
     alloc: Global,
-    metas: &Metas,
+    dictionary: &Dictionary,
     places: &Places,
     class: ClassNo,
     id: &str,
     members: &Map<String, Value>,
 ) -> Result<SlotList, ModelFault>
     requires few { length places.now.ids < 2 ^ 32 }
-    ensures value { Gives ModelFault.NoMemory (λ ss. ss) result (slots_of metas.now places.now class id.now (members_view members.now.entries)) }
+    ensures value { Gives ModelFault.NoMemory (λ ss. ss) result (slots_of dictionary.now places.now class id.now (members_view members.now.entries)) }
     ensures plain { IfOk result (AllByRecursion IsPlainSlot) }
 {
     let mut slots = SlotList::new(alloc);
     for (name, value) in members.iter() {
-        let slot = slot_of(alloc, metas, places, class, id, name.as_str(), value)?;
+        let slot = slot_of(alloc, dictionary, places, class, id, name.as_str(), value)?;
         if !slot.items.is_empty() {
             slots.push(slot)?;
         }

@@ -155,7 +155,6 @@ refusal_text refusal.Utf8 = codes "Utf8"
 refusal_text (refusal.Parse why) = parse_text why
 refusal_text (refusal.Typing why) = typing_text why
 refusal_text (refusal.JobModels model) = with_one (codes "JobModels") model
-refusal_text refusal.NotBuilt = codes "NotBuilt"
 
 abbrev pub usage_line : List ℕ
 usage_line = codes "usage: qvto run JOB or check METAMODEL MODEL or print FILE or demo N" ++ 10 ∷ []

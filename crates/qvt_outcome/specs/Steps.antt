@@ -1,17 +1,11 @@
 -- The code's early ends, and what they say of what is stated.
-use Rattle.std.specs.Prelude.{ℕ, ◌≡◌, ◌≢◌, ⊤, List, Result, Ok, Err, Option, Some, None}
+use Rattle.std.specs.Prelude.{ℕ, ◌≡◌, ◌≢◌, ⊤, List, Result, Ok, Err}
 use Rattle.qvt_outcome.specs.Outcome.{Outcome, refused, fault, out_of_fuel, low, refused_line, out_of_fuel_line, low_line, read_fault_line, no_memory_line}
 use Rattle.qvt_outcome.specs.declared.stop.Stop.{Stop}
 use Rattle.qvt_outcome.specs.declared.stop.Stop.TheVariants as stop
 use Rattle.qvt_outcome.specs.declared.refusal.Refusal.{Refusal}
-use Rattle.qvt_outcome.specs.declared.refusal.Refusal.TheVariants as refusal
 use Rattle.qvt_outcome.specs.declared.status.Status.{Status}
 use Rattle.qvt_outcome.specs.declared.status.Status.TheVariants as status
-
--- what is read of a form, or its refusal as not built
-abbrev pub built : {A : Type 0} → List ℕ → Option A → Result A Outcome
-built name None = Err (refused name refusal.NotBuilt)
-built name (Some x) = Ok x
 
 -- what is read of a file, or its refusal by the fault
 abbrev pub or_refused : {A F : Type 0} → (F → Refusal) → List ℕ → Result A F → Result A Outcome

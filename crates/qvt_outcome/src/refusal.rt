@@ -32,8 +32,6 @@ pub enum Refusal {
     Typing(TypingRefusal),
     /// The job's models are not those of the transformation's parameters: the first that does not fit.
     JobModels(Text),
-    /// What the file asks for is not built yet.
-    NotBuilt,
 }
 
 impl Drop for Refusal {
@@ -51,7 +49,6 @@ impl Drop for Refusal {
             Refusal::Parse(why) => {}
             Refusal::Typing(why) => {}
             Refusal::JobModels(model) => {}
-            Refusal::NotBuilt => {}
         }
     }
 }

@@ -86,7 +86,6 @@ fn refusal_text(alloc: Global, why: &Refusal) -> Result<String, AllocError>
         Refusal::Parse(why) => parse_text(alloc, why),
         Refusal::Typing(why) => typing_text(alloc, *why),
         Refusal::JobModels(model) => with_one(alloc, "JobModels", model),
-        Refusal::NotBuilt => String::from_str(alloc, "NotBuilt"),
     }
 }
 

@@ -3,8 +3,9 @@ use Rattle.std.proofs.Common.{◌≡◌, ℕ, suc, ◌+◌, ◌≤◌, List, [],
 use Rattle.qvt_base.specs.declared.numbers.Place.{Place}
 use Rattle.qvt_tree_types.specs.Module.{ModuleTerm}
 use Rattle.qvt_language.specs.Tokens.{Tok}
-use Rattle.qvt_language.specs.Module.{Reads}
 use Rattle.qvt_language.specs.Trees.{is_there}
+use Rattle.qvt_language_rows.specs.Language.{Reads}
+use Rattle.qvt_language_rows.proofs.Every.{every_module}
 use Rattle.qvt_parser_tokens.specs.declared.depth.Open.{Open}
 use Rattle.qvt_parser_tokens.specs.Depth.{after, begins_statement, deep_from}
 use Rattle.qvt_printer.specs.Units.{module_pieces}
@@ -17,7 +18,8 @@ use Rattle.qvt_readback_depth.specs.Law.{HasFullUnit, PrintedIsAsDeep}
 use Rattle.qvt_readback_depth.proofs.Runs.{Below}
 use Rattle.qvt_readback_depth.proofs.Pieces.{piece_class, pc, tc, tc_append}
 use Rattle.qvt_readback_depth.proofs.Counts.{if_le, left_most, right_most, most_below, below_most}
-use Rattle.qvt_readback_depth.proofs.Modules.{g_transformation}
+use Rattle.qvt_readback_depth.proofs.Modules.{ModuleIs}
+use Rattle.qvt_readback_depth.proofs.Makers.{makers}
 
 -- the limit
 clash : {X : Type 0} (p : Place) (o : Option Place) → o ≡ Some p → o ≡ None → X
@@ -65,15 +67,18 @@ Printed ts us m = Reads ts m × (map unplaced us ≡ all_spelled (module_pieces 
 classes : (us : List Tok) (m : ModuleTerm) → map unplaced us ≡ all_spelled (module_pieces m) → pc (module_pieces m) ≡ tc us
 classes us m same = sym (spelled_classes (module_pieces m)) ∙ sym (ap tc same) ∙ unplaced_classes us
 
+read : (ts : List Tok) (m : ModuleTerm) → Reads ts m → ModuleIs ts m
+read ts m r = let every = every_module makers r.nesting in every.all ts m r.is
+
 one_more : (ts us : List Tok) (m : ModuleTerm) → Printed ts us m → most us ≤ suc (most ts)
 one_more ts us m (r, same) =
-    let whole = (g_transformation r.nesting).all ts m r.reads in
+    let whole = read ts m r in
     let n = most ts in
-    let low = whole.0.low 0 false false [] [] (omega arith) n (below_most n false [] ts (omega arith) (omega arith)) in
+    let low = whole.wide.low 0 false false [] [] (omega arith) n (below_most n false [] ts (omega arith) (omega arith)) in
     omega (arith, most_below (n + (1 + 0)) false [] us (subst (Below (n + (1 + 0)) false []) (classes us m same) low))
 
 no_more : (n : ℕ) (ts us : List Tok) (m : ModuleTerm) → Printed ts us m → most ts ≤ n → (most us ≤ n) ⊎ HasFullUnit n ts m.units
-no_more n ts us m (r, same) k = by (((g_transformation r.nesting).all ts m r.reads).1 n false (below_most n false [] ts (omega arith) k)) where
+no_more n ts us m (r, same) k = by ((read ts m r).bounded n false (below_most n false [] ts (omega arith) k)) where
   by : ((f : Bool) → Below n f [] (pc (module_pieces m))) ⊎ HasFullUnit n ts m.units → (most us ≤ n) ⊎ HasFullUnit n ts m.units
   by (inl h) = inl (most_below n false [] us (subst (Below n false []) (classes us m same) (h false)))
   by (inr h) = inr h

@@ -1,410 +1,362 @@
--- The productions of names, types and expressions read what prints no deeper.
-use Rattle.std.proofs.Common.{◌≡◌, ℕ, List, [], ◌∷◌, ◌++◌, Bool, true, false, ◌⊎◌, inl, inr, refl, sym, subst, append_assoc, append-nil, Option, Some, None, IsTrue}
-use Rattle.qvt_tree_types.specs.Tree.{TypeTerm, PathType, ExprTerm, MapExpr, ResolveExpr, ItemTerm, FilterTerm, NoFilter, FilterOf, TargetTerm, ForEachStmt}
-use Rattle.qvt_tree_types.specs.View.{exprs_of, items_of, stmts_of, optional_expr, optional_range, optional_filter}
+-- How expressions and their parts are printed, by how they are read: in brackets where they are read in brackets.
+use Rattle.std.proofs.Common.{◌≡◌, ℕ, suc, List, [], ◌∷◌, ◌++◌, Bool, true, false, ◌&&◌, inl, inr, refl, sym, ap, ◌∙◌, subst, append_assoc, append-nil, Option, Some, None, IsTrue, arith, nat_le, leb-true, le-leb}
+use Rattle.qvt_base.specs.declared.numbers.Place.{Place}
+use Rattle.qvt_tree_types.specs.Tree.{TypeTerm, ExprTerm, ChainExpr, PrefixExpr, PostExpr, LinkTerm, RangeTerm, FilterTerm, NoFilter, FilterOf, AccumulatorTerm, HeadTerm, StepTerm, StepTerms, NoSteps, MoreSteps}
+use Rattle.qvt_tree_types.specs.View.{exprs_of, links_of, steps_of, optional_expr, optional_range, optional_filter, optional_args, optional_accumulator}
 use Rattle.qvt_tree_types.specs.declared.types.PathTree.{PathTree}
 use Rattle.qvt_tree_types.specs.declared.types.ObjectVar.{ObjectVar}
 use Rattle.qvt_tree_types.specs.declared.types.ObjectVar.TheVariants as variables
+use Rattle.qvt_tree_types.specs.declared.words.BinaryOp.{BinaryOp}
+use Rattle.qvt_tree_types.specs.declared.words.BinaryOp.TheVariants as operation
 use Rattle.qvt_tree_types.specs.declared.words.CollKind.{CollKind}
-use Rattle.qvt_tree_types.specs.declared.words.CollKind.TheVariants as kinds
+use Rattle.qvt_tree_types.specs.declared.words.CollKind.TheVariants as kind
+use Rattle.qvt_tree_types.specs.declared.words.Level.{Level}
+use Rattle.qvt_tree_types.specs.declared.words.Level.TheVariants as levels
+use Rattle.qvt_tree_types.specs.declared.words.PrefixOp.{PrefixOp}
+use Rattle.qvt_tree_types.specs.declared.words.PrefixOp.TheVariants as prefixes
 use Rattle.qvt_tree_types.specs.declared.words.ResolveWord.{ResolveWord}
-use Rattle.qvt_tree_types.specs.declared.words.ResolveWord.TheVariants as resolves
-use Rattle.qvt_grammar.specs.Language.{Language, then, made, maybe}
+use Rattle.qvt_tree_types.specs.declared.words.ResolveWord.TheVariants as resolve
+use Rattle.qvt_tree_types.specs.declared.words.Sign.{Sign}
 use Rattle.qvt_language.specs.Tokens.{Tok}
-use Rattle.qvt_language.specs.Readers.{the, nowhere}
-use Rattle.qvt_language.specs.declared.named.Named.{Named}
+use Rattle.qvt_language.specs.Trees.{more_steps as join_steps, stepped, post_of, signed}
 use Rattle.qvt_language.specs.declared.class.Class.{Class}
 use Rattle.qvt_language.specs.declared.class.Class.TheVariants as class
-use Rattle.qvt_language.specs.declared.class.Class.TheVariants.{Name, Integer, Str, OpenRound, CloseRound, OpenBrace, CloseBrace, Comma, Colon, DoubleColon, DotDot, Bar, AtSign, BagWord, ElseWord, EndifWord, FalseWord, IfWord, InvResolveWord, InvResolveInWord, InvResolveOneWord, InvResolveOneInWord, LateWord, MapWord, NewWord, NullWord, ObjectWord, OrderedSetWord, ResolveAllWord, ResolveInWord, ResolveOneWord, ResolveOneInWord, ResultWord, SelfWord, SequenceWord, SetWord, ThenWord, TrueWord, XmapWord}
-use Rattle.qvt_language.specs.Leads.{Lead, Plain, Bracketed, Each, EachPart}
-use Rattle.qvt_language.specs.Grammar.{Nested, name, more_names, path, paths, unit_path, extent, kind_word, coll_type, typed, colon_type, expr, exprs, args, literal, word, named_expr, item, coll, if_expr, colon_path, object_head, object, new_expr, map_call, filter_head, bar_expr, filter, all_word, in_word, all_form, in_form, resolve, brackets, longer, bare_expr, other_primary, primary, more_exprs}
-use Rattle.qvt_language.specs.Trees.{second, cons_of, nothing, text_of, named_of, path_of, unit_path_of, coll_kind, coll_type_of, int_of, str_of, true_of, false_of, null_of, self_of, result_of, named_expr_of, coll_of, range_of, item_of, if_of, result_head, named_head, object_of, new_of, is_strict, map_of, all_of, in_of, is_there, resolve_of, no_name, named_type, filter_of, bare, bracketed, expr_of}
+use Rattle.qvt_language.specs.declared.named.Named.{Named}
+use Rattle.qvt_language_rows.specs.Values.{name_text, signed_of, chained, or_no_args}
+use Rattle.qvt_language_rows.proofs.Every.{operators}
 use Rattle.qvt_printer.specs.Expressions as print
-use Rattle.qvt_printer.specs.Levels.{is_chain_or_prefix}
+use Rattle.qvt_printer.specs.Levels.{is_as_loose, is_chain, is_chain_or_prefix, tightness}
 use Rattle.qvt_printer_layout.specs.Words as words
 use Rattle.qvt_printer_layout.specs.declared.piece.Piece.{Piece}
 use Rattle.qvt_printer_layout.specs.declared.piece.Piece.TheVariants as piece
-use Rattle.qvt_readback_depth.proofs.Runs.{Still, AllStill, Closing, Ender, over_strong}
-use Rattle.qvt_readback_depth.proofs.Pieces.{pc, tc, PStrong, POver, QuietPieces, QuietToks, quiet_toks, quiet_pieces, quiet_strong, strong_more, over_more, ender_before, word_before, Closes, closes_after, closes_at_once, in_brackets, in_item_braces, without_brackets, if_whole, ender_last, quiet_both, quiet_left, quiet_right}
-use Rattle.qvt_readback_depth.proofs.Forms.{Gives, Perhaps, Either, g_the, g_then, g_made, g_second, g_first, g_inner, g_either, g_maybe, g_placed, Quiet, q_the, q_then, q_made, q_many, q_maybe, q_either, Prints, s_many, s_maybe}
+use Rattle.qvt_readback_depth.proofs.Runs.{AllStill}
+use Rattle.qvt_readback_depth.proofs.Pieces.{pc, Cut, IsTok, same, both_cuts, first_two, PStrong, POver, strong_at, over_at, ender_at, as_over, is_still, is_word, Quiet, WordTok, quiet_nil, quiet_none, quiet_tok, quiet_at, quiet_of, pieces_of, no_pieces, keep, skip, word_tok, word_at, word_on, in_brackets, if_whole, ender_last, round_is}
+use Rattle.qvt_readback_depth.proofs.Claims.{After, Before, Between, Perhaps, Many, Series, OneOf, lacking_classes}
 
--- what prints names opens and closes nothing
-pub still_names : (ns : List (List ℕ)) → QuietPieces (print.names ns)
+-- words and signs
+abbrev pub are_words : List Class → Bool
+are_words [] = true
+are_words (c ∷ cs) = is_word c && are_words cs
+
+and_left : (x y : Bool) → IsTrue (x && y) → IsTrue x
+and_left true y h = refl
+and_left false y h = h
+
+and_right : (x y : Bool) → IsTrue (x && y) → IsTrue y
+and_right true y h = h
+and_right false y h = absurd cc
+
+pub a_word : (cs : List Class) {ts : List Tok} → IsTrue (are_words cs) → OneOf cs ts → WordTok ts
+a_word [] w h = absurd h
+a_word (c ∷ []) w h = word_tok (and_left (is_word c) true w) h
+a_word (c ∷ d ∷ cs) w (inl h) = word_tok (and_left (is_word c) (are_words (d ∷ cs)) w) h
+a_word (c ∷ d ∷ cs) w (inr h) = a_word (d ∷ cs) (and_right (is_word c) (are_words (d ∷ cs)) w) h
+
+pub operators_are : (level : Level) → IsTrue (are_words (operators level)) × IsTrue (lacking_classes (operators level) && true)
+operators_are levels.Product = (refl, refl)
+operators_are levels.Sum = (refl, refl)
+operators_are levels.Relation = (refl, refl)
+operators_are levels.Equality = (refl, refl)
+operators_are levels.And = (refl, refl)
+operators_are levels.Or = (refl, refl)
+operators_are levels.Xor = (refl, refl)
+operators_are levels.Implies = (refl, refl)
+
+word_operator : (op : BinaryOp) → IsTrue (is_word (words.operator_sign op))
+word_operator operation.Implies = refl
+word_operator operation.Xor = refl
+word_operator operation.Or = refl
+word_operator operation.And = refl
+word_operator operation.Equal = refl
+word_operator operation.NotEqual = refl
+word_operator operation.Less = refl
+word_operator operation.LessEqual = refl
+word_operator operation.Greater = refl
+word_operator operation.GreaterEqual = refl
+word_operator operation.Plus = refl
+word_operator operation.Minus = refl
+word_operator operation.Times = refl
+
+word_sign : (p : PrefixOp) → IsTrue (is_word (words.prefix_sign p))
+word_sign prefixes.Not = refl
+word_sign prefixes.Minus = refl
+
+pub still_kind : (k : CollKind) → AllStill (pc (print.one (words.kind_word k)))
+still_kind kind.Set = ((λ f s. refl), tt)
+still_kind kind.Bag = ((λ f s. refl), tt)
+still_kind kind.Sequence = ((λ f s. refl), tt)
+still_kind kind.OrderedSet = ((λ f s. refl), tt)
+
+pub still_resolve : (w : ResolveWord) → AllStill (pc (print.one (words.resolve_word w)))
+still_resolve resolve.Resolve = ((λ f s. refl), tt)
+still_resolve resolve.ResolveOne = ((λ f s. refl), tt)
+still_resolve resolve.InvResolve = ((λ f s. refl), tt)
+still_resolve resolve.InvResolveOne = ((λ f s. refl), tt)
+still_resolve resolve.ResolveIn = ((λ f s. refl), tt)
+still_resolve resolve.ResolveOneIn = ((λ f s. refl), tt)
+still_resolve resolve.InvResolveIn = ((λ f s. refl), tt)
+still_resolve resolve.InvResolveOneIn = ((λ f s. refl), tt)
+
+pub still_map : (b : Bool) → AllStill (pc (print.one (words.map_word b)))
+still_map true = ((λ f s. refl), tt)
+still_map false = ((λ f s. refl), tt)
+
+pub still_late : (b : Bool) → AllStill (pc (print.late_if b))
+still_late true = ((λ f s. refl), tt)
+still_late false = tt
+
+still_more : (ns : List (List ℕ)) → AllStill (pc (print.more_names ns))
+still_more [] = tt
+still_more (n ∷ ns) = ((λ f s. refl), ((λ f s. refl), still_more ns))
+
+pub still_names : (ns : List (List ℕ)) → AllStill (pc (print.names ns))
 still_names [] = tt
-still_names (n ∷ ns) = ((λ f s. refl), more ns) where
-  more : (ns : List (List ℕ)) → QuietPieces (print.more_names ns)
-  more [] = tt
-  more (n ∷ ns) = ((λ f s. refl), ((λ f s. refl), more ns))
+still_names (n ∷ ns) = ((λ f s. refl), still_more ns)
 
-pub still_more_paths : (ps : List PathTree) → QuietPieces (print.more_paths ps)
-still_more_paths [] = tt
-still_more_paths (p ∷ ps) = ((λ f s. refl), quiet_pieces (print.path p) (print.more_paths ps) (still_names p.names) (still_more_paths ps))
-
-pub still_paths : (ps : List PathTree) → QuietPieces (print.paths ps)
-still_paths [] = tt
-still_paths (p ∷ ps) = quiet_pieces (print.path p) (print.more_paths ps) (still_names p.names) (still_more_paths ps)
-
-pub still_extent : (n : Option (List ℕ)) → QuietPieces (print.extent n)
+pub still_extent : (n : Option (List ℕ)) → AllStill (pc (print.extent n))
 still_extent None = tt
 still_extent (Some n) = ((λ f s. refl), ((λ f s. refl), tt))
 
-still_variable : (v : Option ObjectVar) → QuietPieces (print.variable v)
+pub still_variable : (v : Option ObjectVar) → AllStill (pc (print.variable v))
 still_variable None = tt
 still_variable (Some (variables.Named n place)) = ((λ f s. refl), ((λ f s. refl), tt))
 still_variable (Some (variables.ResultVar place)) = ((λ f s. refl), ((λ f s. refl), tt))
 
-still_kind : (k : CollKind) → Still (words.kind_word k)
-still_kind kinds.Set = λ f s. refl
-still_kind kinds.Bag = λ f s. refl
-still_kind kinds.Sequence = λ f s. refl
-still_kind kinds.OrderedSet = λ f s. refl
-
-still_resolve : (w : ResolveWord) → Still (words.resolve_word w)
-still_resolve resolves.Resolve = λ f s. refl
-still_resolve resolves.ResolveOne = λ f s. refl
-still_resolve resolves.InvResolve = λ f s. refl
-still_resolve resolves.InvResolveOne = λ f s. refl
-still_resolve resolves.ResolveIn = λ f s. refl
-still_resolve resolves.ResolveOneIn = λ f s. refl
-still_resolve resolves.InvResolveIn = λ f s. refl
-still_resolve resolves.InvResolveOneIn = λ f s. refl
-
-still_map : (b : Bool) → Still (words.map_word b)
-still_map true = λ f s. refl
-still_map false = λ f s. refl
-
-still_late : (b : Bool) → QuietPieces (print.late_if b)
-still_late true = ((λ f s. refl), tt)
-still_late false = tt
-
--- names and paths
-pub q_name : Quiet name
-unfolding name
-q_name = q_made named_of (q_the Name (λ f s. refl))
-
-q_after : {A B : Type 0} {l : Language Tok A} {m : Language Tok B} → Quiet l → Quiet m → Quiet (made second (then l m))
-q_after h k = q_made second (q_then h k)
-
-pub q_more_names : Quiet more_names
-unfolding more_names
-q_more_names = q_many (q_after (q_the DoubleColon (λ f s. refl)) q_name)
-
-pub q_path : Quiet path
-unfolding path
-q_path = q_made path_of (q_then q_name q_more_names)
-
-pub q_paths : Quiet paths
-unfolding paths
-q_paths = q_made cons_of (q_then q_path (q_many (q_after (q_the Comma (λ f s. refl)) q_path)))
-
-pub q_unit_path : Quiet unit_path
-unfolding unit_path
-q_unit_path = q_made unit_path_of (q_then q_name q_more_names)
-
-pub q_extent : Quiet extent
-unfolding extent
-q_extent = q_maybe (q_after (q_the AtSign (λ f s. refl)) (q_made text_of (q_the Name (λ f s. refl))))
-
-q_kind_word : Quiet kind_word
-unfolding kind_word
-q_kind_word = q_either (q_the SetWord (λ f s. refl)) (q_either (q_the BagWord (λ f s. refl)) (q_either (q_the SequenceWord (λ f s. refl)) (q_the OrderedSetWord (λ f s. refl))))
-
-q_colon_path : Quiet colon_path
-unfolding colon_path
-q_colon_path = q_after (q_the Colon (λ f s. refl)) q_path
-
-q_object_head : Quiet object_head
-unfolding object_head
-q_object_head = q_either (q_made result_head (q_then (q_the ResultWord (λ f s. refl)) q_colon_path)) (q_made named_head (q_then q_name (q_either (q_made inl q_colon_path) (q_made inr q_more_names))))
-
-q_all_word : Quiet all_word
-unfolding all_word
-q_all_word = q_either (q_the ResolveAllWord (λ f s. refl)) (q_either (q_the ResolveOneWord (λ f s. refl)) (q_either (q_the InvResolveWord (λ f s. refl)) (q_the InvResolveOneWord (λ f s. refl))))
-
-q_in_word : Quiet in_word
-unfolding in_word
-q_in_word = q_either (q_the ResolveInWord (λ f s. refl)) (q_either (q_the ResolveOneInWord (λ f s. refl)) (q_either (q_the InvResolveInWord (λ f s. refl)) (q_the InvResolveOneInWord (λ f s. refl))))
-
--- an expression that stands without brackets
-abbrev pub Bare : List Tok → ExprTerm → Type 0
-Bare ts e = PStrong (print.expr e) ts × (is_chain_or_prefix e ≡ false)
-
-quiet_one : (c : Class) (ps : List Piece) (ts : List Tok) → QuietPieces ps → Still c → tc ts ≡ c ∷ [] → PStrong ps ts
-quiet_one c ps ts h k e = quiet_strong ps ts h (subst AllStill (sym e) (k, tt))
-
-b_literal : Gives Bare literal
-unfolding literal
-b_literal =
-    g_either (g_made Bare int_of (g_the Integer) (λ ts t h. (quiet_one Integer (print.expr (int_of t)) ts ((λ f s. refl), tt) (λ f s. refl) h.0, refl)))
-    (g_either (g_made Bare str_of (g_the Str) (λ ts t h. (quiet_one Str (print.expr (str_of t)) ts ((λ f s. refl), tt) (λ f s. refl) h.0, refl)))
-    (g_either (g_made Bare true_of (g_the TrueWord) (λ ts t h. (quiet_one TrueWord (print.expr (true_of t)) ts ((λ f s. refl), tt) (λ f s. refl) h.0, refl)))
-    (g_made Bare false_of (g_the FalseWord) (λ ts t h. (quiet_one FalseWord (print.expr (false_of t)) ts ((λ f s. refl), tt) (λ f s. refl) h.0, refl)))))
-
-b_word : Gives Bare word
-unfolding word
-b_word =
-    g_either (g_made Bare null_of (g_the NullWord) (λ ts t h. (quiet_one NullWord (print.expr (null_of t)) ts ((λ f s. refl), tt) (λ f s. refl) h.0, refl)))
-    (g_either (g_made Bare self_of (g_the SelfWord) (λ ts t h. (quiet_one SelfWord (print.expr (self_of t)) ts ((λ f s. refl), tt) (λ f s. refl) h.0, refl)))
-    (g_made Bare result_of (g_the ResultWord) (λ ts t h. (quiet_one ResultWord (print.expr (result_of t)) ts ((λ f s. refl), tt) (λ f s. refl) h.0, refl))))
-
--- after an expression that may begin a statement; where o is true it is read where an `if` may stand
-abbrev pub each_pieces : ExprTerm → EachPart → List Piece
-each_pieces e p = print.stmt (ForEachStmt e p.name p.kind p.condition (stmts_of p.body) nowhere)
-
-abbrev pub IfTarget : Bool → List Tok → Option TargetTerm → Type 0
-IfTarget o ts None = Unit {0}
-IfTarget o ts (Some t) = POver o (print.target t) ts
-
--- what passes the test was read from brackets
-abbrev pub LeadIs : (ExprTerm → Bool) → Bool → List Tok → Lead → Type 0
-LeadIs p o ts (Plain e target) = POver o (print.expr e) ts × (IsTrue (p e) → POver o (print.in_round (print.expr e)) ts) × IfTarget o ts target
-LeadIs p o ts (Bracketed e) = POver o (print.expr e) ts × POver o (print.in_round (print.expr e)) ts
-LeadIs p true ts (Each e part) = ⊥
-LeadIs p false ts (Each e part) = POver false (each_pieces e part) ts
-
-abbrev pub no_test : ExprTerm → Bool
-no_test e = false
-
--- what stands nested inside
-pub record GivesNested (i : Nested) : Type 1 where
-  pub flagged : Gives (LeadIs no_test true) i.flagged
-  pub block : Gives (λ ts ss. PStrong (print.block (stmts_of ss)) ts) i.block
-  pub kind : Prints print.type_of i.kind
-
-pub lead_expr : (p : ExprTerm → Bool) (ts : List Tok) (x : Lead) → LeadIs p true ts x → POver true (print.expr (expr_of x)) ts
-lead_expr p ts (Plain e target) h = h.0
-lead_expr p ts (Bracketed e) h = h.0
-lead_expr p ts (Each e part) h = absurd h
-
-abbrev pub PrimaryIs : Bool → List Tok → ExprTerm × Bool → Type 0
-PrimaryIs o ts (e, true) = POver o (print.expr e) ts × (is_chain_or_prefix e ≡ false)
-PrimaryIs o ts (e, false) = POver o (print.expr e) ts × POver o (print.in_round (print.expr e)) ts
-
-closing_round : Closing CloseRound
-closing_round f s = refl
-
--- conditionals
-abbrev pub else_pieces : ExprTerm → List Piece
-else_pieces other = piece.Plain class.ElseWord ∷ (print.expr other ++ print.one class.EndifWord)
-
-pub else_is : (u v w : List Tok) (other : ExprTerm) → tc u ≡ class.ElseWord ∷ [] → POver true (print.expr other) v → tc w ≡ class.EndifWord ∷ [] → Ender (pc (else_pieces other)) (tc (u ++ (v ++ w)))
-else_is u v w other x y z = subst (λ ts. Ender (pc (else_pieces other)) (tc ts)) (append_assoc u v w)
-    (ender_before (piece.Plain class.ElseWord ∷ print.expr other) (print.one class.EndifWord) (u ++ v) w (word_before true class.ElseWord class.ElseWord (print.expr other) u v ((λ f s. refl), refl) ((λ f s. refl), refl) x y) (ender_last w z))
-
-abbrev pub then_pieces : ExprTerm → List Piece
-then_pieces e = piece.Plain class.ThenWord ∷ print.expr e
-
-module _ {i : Nested} (h : GivesNested i) where
-  s_coll_type : Prints print.type_of (coll_type i)
-  unfolding coll_type
-  s_coll_type =
-      g_made (λ ts t. PStrong (print.type_of t) ts) coll_type_of
-      (g_then (λ ts a. PStrong (print.type_of (coll_type_of a)) ts) q_kind_word
-      (g_inner (λ ts t. PStrong (print.in_round (print.type_of t)) ts) (g_the OpenRound) h.kind (g_the CloseRound) (λ u v w b t c x y z. in_brackets (print.type_of t) u (v ++ w) x.0 (closes_after true false CloseRound (print.type_of t) v w closing_round z.0 (over_strong true y))))
-      (λ u v k t x y. quiet_both (piece.Plain (words.kind_word (coll_kind k.class)) ∷ []) (print.in_round (print.type_of t)) u v (still_kind (coll_kind k.class), tt) x y))
-      (λ ts a x. x)
-
-  pub s_typed : Prints print.type_of (typed i)
-  unfolding typed
-  s_typed = g_either s_coll_type (g_made (λ ts t. PStrong (print.type_of t) ts) PathType q_path (λ ts p x. quiet_strong (print.path p) ts (still_names p.names) x))
-
-  pub s_colon_type : Prints print.typed (colon_type i)
-  unfolding colon_type
-  s_colon_type = g_second (λ ts t. PStrong (print.typed t) ts) (q_the Colon (λ f s. refl)) s_typed (λ u v a t x y. quiet_both (piece.Plain class.Colon ∷ []) (print.type_of t) u v ((λ f s. refl), tt) x y)
-
-  pub o_expr : Gives (λ ts e. POver true (print.expr e) ts) (expr i)
-  unfolding expr
-  o_expr = g_made (λ ts e. POver true (print.expr e) ts) expr_of h.flagged (λ ts x k. lead_expr no_test ts x k)
-
-  comma_expr : Prints (λ e. piece.Plain class.Comma ∷ print.expr e) (made second (then (the Comma) (expr i)))
-  comma_expr = g_second (λ ts e. PStrong (piece.Plain class.Comma ∷ print.expr e) ts) (g_the Comma) o_expr (λ u v a e x y. word_before true class.Comma class.Comma (print.expr e) u v ((λ f s. refl), refl) ((λ f s. refl), refl) x.0 y)
-
-  pub s_more_exprs : Prints (λ es. print.exprs true (exprs_of es)) (more_exprs i)
-  unfolding more_exprs
-  s_more_exprs = s_many (λ e. piece.Plain class.Comma ∷ print.expr e) (λ es. print.exprs true (exprs_of es)) refl (λ e es. refl) comma_expr
-
-  abbrev pub ExprsIs : List Tok → List ExprTerm → Type 0
-  ExprsIs ts es = POver true (print.exprs false (exprs_of es)) ts
-
-  pub first_is : (u v : List Tok) (e : ExprTerm) (es : List ExprTerm) → POver true (print.expr e) u → PStrong (print.exprs true (exprs_of es)) v → ExprsIs (u ++ v) (e ∷ es)
-  first_is u v e es x y = over_more true (print.expr e) (print.exprs true (exprs_of es)) u v x y
-
-  o_exprs : Gives ExprsIs (exprs i)
-  unfolding exprs
-  o_exprs = g_made ExprsIs cons_of
-      (g_then (λ ts a. ExprsIs ts (cons_of a)) o_expr (s_many (λ e. piece.Plain class.Comma ∷ print.expr e) (λ es. print.exprs true (exprs_of es)) refl (λ e es. refl) comma_expr) first_is) (λ ts a x. x)
-
-  abbrev ArgsEnd : List Tok → List ExprTerm → Type 0
-  ArgsEnd ts es = Closes false CloseRound (print.exprs false (exprs_of es)) ts
-
-  pub s_args : Prints (λ es. print.in_round (print.exprs false (exprs_of es))) (args i)
-  unfolding args
-  s_args = g_second (λ ts es. PStrong (print.in_round (print.exprs false (exprs_of es))) ts) (g_the OpenRound)
-      (g_either (g_made ArgsEnd nothing (g_the CloseRound) (λ ts a x. closes_at_once false CloseRound ts closing_round x.0))
-      (g_first ArgsEnd o_exprs (g_the CloseRound) (λ u v es b x y. closes_after true false CloseRound (print.exprs false (exprs_of es)) u v closing_round y.0 x)))
-      (λ u v b es x y. in_brackets (print.exprs false (exprs_of es)) u v x.0 y)
-
-  named_is : (u v : List Tok) (n : Named) (r : List ExprTerm ⊎ List Named) → QuietToks u → Either (λ ts es. PStrong (print.in_round (print.exprs false (exprs_of es))) ts) (λ ts ns. QuietToks ts) v r → Bare (u ++ v) (named_expr_of (n, r))
-  named_is u v n (inl es) x y = (quiet_both (piece.Name n.text ∷ []) (print.in_round (print.exprs false (exprs_of es))) u v ((λ f s. refl), tt) x y, refl)
-  named_is u v n (inr ns) x y = (quiet_strong (print.names (path_of (n, ns)).names) (u ++ v) (still_names (path_of (n, ns)).names) (quiet_toks u v x y), refl)
-
-  abbrev NamedRest : List Tok → List ExprTerm ⊎ List Named → Type 0
-  NamedRest = Either (λ ts es. PStrong (print.in_round (print.exprs false (exprs_of es))) ts) (λ ts ns. QuietToks ts)
-
-  b_named_expr : Gives Bare (named_expr i)
-  unfolding named_expr
-  b_named_expr = g_made Bare named_expr_of (g_then (λ ts a. Bare ts (named_expr_of a)) q_name (g_either (g_made NamedRest inl s_args (λ ts a x. x)) (g_made NamedRest inr q_more_names (λ ts a x. x))) named_is) (λ ts a x. x)
-
-  s_range : Prints print.range (made range_of (then (the DotDot) (expr i)))
-  s_range = g_made (λ ts r. PStrong (print.range r) ts) range_of (g_then (λ ts a. PStrong (print.range (range_of a)) ts) (g_the DotDot) o_expr (λ u v a e x y. word_before true class.DotDot class.DotDot (print.expr e) u v ((λ f s. refl), refl) ((λ f s. refl), refl) x.0 y)) (λ ts a x. x)
-
-  o_item : Gives (λ ts x. POver true (print.item x) ts) (item i)
-  unfolding item
-  o_item = g_made (λ ts x. POver true (print.item x) ts) item_of (g_placed (g_then (λ ts a. POver true (print.expr a.0 ++ print.range (optional_range a.1)) ts) o_expr (s_maybe print.range (λ r. print.range (optional_range r)) refl (λ r. refl) s_range)
-      (λ u v e r x y. over_more true (print.expr e) (print.range (optional_range r)) u v x y))) (λ ts a x. x)
-
-  comma_item : Prints (λ x. piece.Plain class.Comma ∷ print.item x) (made second (then (the Comma) (item i)))
-  comma_item = g_second (λ ts x. PStrong (piece.Plain class.Comma ∷ print.item x) ts) (g_the Comma) o_item (λ u v a t x y. word_before true class.Comma class.Comma (print.item t) u v ((λ f s. refl), refl) ((λ f s. refl), refl) x.0 y)
-
-  abbrev ItemsEnd : List Tok → List ItemTerm → Type 0
-  ItemsEnd ts is = Closes true CloseBrace (print.all_items false (items_of is)) ts
-
-  abbrev ItemsAre : List Tok → List ItemTerm → Type 0
-  ItemsAre ts is = POver true (print.all_items false (items_of is)) ts
-
-  b_coll : Gives Bare (coll i)
-  unfolding coll
-  b_coll = g_made Bare coll_of (g_then (λ ts a. Bare ts (coll_of a)) q_kind_word
-      (g_second (λ ts is. PStrong (print.in_items (print.all_items false (items_of is))) ts) (g_the OpenBrace)
-      (g_either (g_made ItemsEnd nothing (g_the CloseBrace) (λ ts a x. closes_at_once true CloseBrace ts (λ f s. refl) x.0))
-      (g_first ItemsEnd (g_made ItemsAre cons_of (g_then (λ ts a. ItemsAre ts (cons_of a)) o_item (s_many (λ x. piece.Plain class.Comma ∷ print.item x) (λ is. print.all_items true (items_of is)) refl (λ e es. refl) comma_item) (λ u v t is x y. over_more true (print.item t) (print.all_items true (items_of is)) u v x y)) (λ ts a x. x))
-      (g_the CloseBrace) (λ u v is b x y. closes_after true true CloseBrace (print.all_items false (items_of is)) u v (λ f s. refl) y.0 x)))
-      (λ u v b is x y. in_item_braces (print.all_items false (items_of is)) u v x.0 y))
-      (λ u v k is x y. (quiet_both (piece.Plain (words.kind_word (coll_kind k.class)) ∷ []) (print.in_items (print.all_items false (items_of is))) u v (still_kind (coll_kind k.class), tt) x y, refl))) (λ ts a x. x)
-
-  pub s_then_expr : Prints then_pieces (made second (then (the ThenWord) (expr i)))
-  s_then_expr = g_second (λ ts e. PStrong (then_pieces e) ts) (g_the ThenWord) o_expr (λ u v a e x y. word_before true class.ThenWord class.ThenWord (print.expr e) u v ((λ f s. refl), refl) ((λ f s. refl), refl) x.0 y)
-
-  pub o_if_expr : Gives (λ ts e. POver true (print.expr e) ts × (is_chain_or_prefix e ≡ false)) (if_expr i)
-  unfolding if_expr
-  o_if_expr = g_made (λ ts e. POver true (print.expr e) ts × (is_chain_or_prefix e ≡ false)) if_of
-      (g_placed (g_then (λ ts a. POver true (print.conditional (print.expr a.1.0) (print.expr a.1.1.0) (print.expr a.1.1.1)) ts) (g_the IfWord)
-      (g_then (λ ts a. (u : List Tok) → tc u ≡ IfWord ∷ [] → POver true (print.conditional (print.expr a.0) (print.expr a.1.0) (print.expr a.1.1)) (u ++ ts)) o_expr
-      (g_then (λ ts a. Ender (pc (then_pieces a.0 ++ else_pieces a.1)) (tc ts)) s_then_expr
-      (g_inner (λ ts e. Ender (pc (else_pieces e)) (tc ts)) (g_the ElseWord) o_expr (g_the EndifWord) (λ u v w b e c x y z. else_is u v w e x.0 y z.0))
-      (λ u v e g x y. ender_before (then_pieces e) (else_pieces g) u v x y))
-      (λ v w c eg x y u e. if_whole true (print.expr c) (then_pieces eg.0 ++ else_pieces eg.1) u v w e x y))
-      (λ u v t a x y. y u x.0)))
-      (λ ts a x. (x, refl))
-
-  b_object : Gives Bare (object i)
-  unfolding object
-  b_object = g_made Bare object_of (g_then (λ ts a. Bare ts (object_of a)) (q_the ObjectWord (λ f s. refl))
-      (g_then (λ ts a. PStrong (print.variable a.0.0 ++ (print.path a.0.1 ++ (print.extent a.1.0 ++ print.block (stmts_of a.1.1)))) ts) q_object_head
-      (g_then (λ ts a. PStrong (print.extent a.0 ++ print.block (stmts_of a.1)) ts) q_extent h.block (λ u v n ss x y. quiet_both (print.extent n) (print.block (stmts_of ss)) u v (still_extent n) x y))
-      (λ u v vp ns x y. quiet_both (print.variable vp.0) (print.path vp.1 ++ (print.extent ns.0 ++ print.block (stmts_of ns.1))) u v (still_variable vp.0) x
-      (quiet_left (print.path vp.1) (print.extent ns.0 ++ print.block (stmts_of ns.1)) v (still_names vp.1.names) y)))
-      (λ u v w a x y. (quiet_both (piece.Plain class.ObjectWord ∷ []) (print.variable a.0.0 ++ (print.path a.0.1 ++ (print.extent a.1.0 ++ print.block (stmts_of a.1.1)))) u v ((λ f s. refl), tt) x y, refl))) (λ ts a x. x)
-
-  b_new_expr : Gives Bare (new_expr i)
-  unfolding new_expr
-  b_new_expr = g_made Bare new_of (g_then (λ ts a. Bare ts (new_of a)) (q_the NewWord (λ f s. refl))
-      (g_then (λ ts a. PStrong (print.path a.0 ++ (print.extent a.1.0 ++ print.in_round (print.exprs false (exprs_of a.1.1)))) ts) q_path
-      (g_then (λ ts a. PStrong (print.extent a.0 ++ print.in_round (print.exprs false (exprs_of a.1))) ts) q_extent s_args (λ u v n es x y. quiet_both (print.extent n) (print.in_round (print.exprs false (exprs_of es))) u v (still_extent n) x y))
-      (λ u v p ns x y. quiet_both (print.path p) (print.extent ns.0 ++ print.in_round (print.exprs false (exprs_of ns.1))) u v (still_names p.names) x y))
-      (λ u v w a x y. (quiet_both (piece.Plain class.NewWord ∷ []) (print.path a.0 ++ (print.extent a.1.0 ++ print.in_round (print.exprs false (exprs_of a.1.1)))) u v ((λ f s. refl), tt) x y, refl))) (λ ts a x. x)
-
-  pub s_map_call : Prints print.map_call (map_call i)
-  unfolding map_call
-  s_map_call = g_made (λ ts m. PStrong (print.map_call m) ts) map_of (g_then (λ ts a. PStrong (print.map_call (map_of a)) ts) (q_either (q_the MapWord (λ f s. refl)) (q_the XmapWord (λ f s. refl)))
-      (g_then (λ ts a. PStrong (piece.Name a.0.text ∷ print.in_round (print.exprs false (exprs_of a.1))) ts) q_name s_args (λ u v n es x y. quiet_both (piece.Name n.text ∷ []) (print.in_round (print.exprs false (exprs_of es))) u v ((λ f s. refl), tt) x y))
-      (λ u v w a x y. quiet_both (piece.Plain (words.map_word (is_strict w.class)) ∷ []) (piece.Name a.0.text ∷ print.in_round (print.exprs false (exprs_of a.1))) u v (still_map (is_strict w.class), tt) x y)) (λ ts a x. x)
-
-  -- `resolve` and its filter
-  abbrev FilterHead : List Tok → Option (List ℕ) × TypeTerm → Type 0
-  FilterHead ts a = PStrong (print.named_if a.0 ++ print.type_of a.1) ts
-
-  abbrev HeadRest : List Tok → TypeTerm ⊎ List Named → Type 0
-  HeadRest = Either (λ ts t. PStrong (print.typed t) ts) (λ ts ns. QuietToks ts)
-
-  named_type_is : (u v : List Tok) (n : Named) (r : TypeTerm ⊎ List Named) → QuietToks u → HeadRest v r → FilterHead (u ++ v) (named_type (n, r))
-  named_type_is u v n (inl t) x y = quiet_both (piece.Name n.text ∷ []) (print.typed t) u v ((λ f s. refl), tt) x y
-  named_type_is u v n (inr ns) x y = quiet_strong (print.names (path_of (n, ns)).names) (u ++ v) (still_names (path_of (n, ns)).names) (quiet_toks u v x y)
-
-  s_filter_head : Gives FilterHead (filter_head i)
-  unfolding filter_head
-  s_filter_head = g_either (g_made FilterHead no_name s_coll_type (λ ts t x. x))
-      (g_made FilterHead named_type (g_then (λ ts a. FilterHead ts (named_type a)) q_name (g_either (g_made HeadRest inl s_colon_type (λ ts a x. x)) (g_made HeadRest inr q_more_names (λ ts a x. x))) named_type_is) (λ ts a x. x))
-
-  pub s_bar_expr : Prints (λ e. piece.Plain class.Bar ∷ print.expr e) (bar_expr i)
-  unfolding bar_expr
-  s_bar_expr = g_second (λ ts e. PStrong (piece.Plain class.Bar ∷ print.expr e) ts) (g_the Bar) o_expr (λ u v a e x y. word_before true class.Bar class.Bar (print.expr e) u v ((λ f s. refl), refl) ((λ f s. refl), refl) x.0 y)
-
-  pub s_maybe_bar : Prints (λ e. print.condition_if (optional_expr e)) (maybe (bar_expr i))
-  s_maybe_bar = s_maybe (λ e. piece.Plain class.Bar ∷ print.expr e) (λ e. print.condition_if (optional_expr e)) refl (λ e. refl) s_bar_expr
-
-  s_filter : Prints print.filter (filter i)
-  unfolding filter
-  s_filter = g_made (λ ts f. PStrong (print.filter f) ts) filter_of (g_placed (g_then (λ ts a. PStrong (print.named_if a.0.0 ++ (print.type_of a.0.1 ++ print.condition_if (optional_expr a.1))) ts) s_filter_head s_maybe_bar
-      (λ u v a c x y. subst (λ z. PStrong z (u ++ v)) (append_assoc (print.named_if a.0) (print.type_of a.1) (print.condition_if (optional_expr c))) (strong_more (print.named_if a.0 ++ print.type_of a.1) (print.condition_if (optional_expr c)) u v x y)))) (λ ts a x. x)
-
-  abbrev FormIs : List Tok → ResolveWord × (Option PathTree × Option FilterTerm) → Type 0
-  FormIs ts a = PStrong (print.in_round (print.resolved a.1.0 (optional_filter a.1.1))) ts
-
-  all_is : (ts : List Tok) (f : FilterTerm) → PStrong (print.filter f) ts → PStrong (print.resolved None f) ts
-  all_is ts NoFilter x = x
-  all_is ts (FilterOf n t c p) x = x
-
-  s_all_form : Gives FormIs (all_form i)
-  unfolding all_form
-  s_all_form = g_made FormIs all_of (g_then (λ ts a. FormIs ts (all_of a)) q_all_word
-      (g_inner (λ ts f. PStrong (print.in_round (print.resolved None f)) ts) (g_the OpenRound) s_filter (g_the CloseRound)
-      (λ u v w b f c x y z. in_brackets (print.resolved None f) u (v ++ w) x.0 (closes_after true false CloseRound (print.resolved None f) v w closing_round z.0 (over_strong true (all_is v f y)))))
-      (λ u v w f x y. quiet_right (print.in_round (print.resolved None f)) u v x y)) (λ ts a x. x)
-
-  in_is : (u v : List Tok) (p : PathTree) (f : Option FilterTerm) → QuietToks u → Perhaps (λ ts g. (x : List Tok) × (y : List Tok) × (ts ≡ x ++ y) × QuietToks x × PStrong (print.filter g) y) v f → PStrong (print.resolved (Some p) (optional_filter f)) (u ++ v)
-  in_is u v p None h e = subst (λ z. PStrong z (u ++ v)) (append-nil (print.path p)) (quiet_both (print.path p) [] u v (still_names p.names) h (subst (PStrong []) (sym e) (quiet_strong [] [] tt tt)))
-  in_is u v p (Some NoFilter) h k = subst (λ z. PStrong z (u ++ v)) (append-nil (print.path p)) (quiet_both (print.path p) [] u v (still_names p.names) h (subst (PStrong []) (sym k.2) (quiet_right [] k.0 k.1 k.3 k.4)))
-  in_is u v p (Some (FilterOf n t c place)) h k =
-      let f = print.filter (FilterOf n t c place) in
-      quiet_both (print.path p) (piece.Plain class.Comma ∷ f) u v (still_names p.names) h (subst (PStrong (piece.Plain class.Comma ∷ f)) (sym k.2) (quiet_both (piece.Plain class.Comma ∷ []) f k.0 k.1 ((λ f s. refl), tt) k.3 k.4))
-
-  s_in_form : Gives FormIs (in_form i)
-  unfolding in_form
-  s_in_form = g_made FormIs in_of (g_then (λ ts a. FormIs ts (in_of a)) q_in_word
-      (g_then (λ ts a. PStrong (print.in_round (print.resolved (Some a.1.0) (optional_filter a.1.1.0))) ts) (g_the OpenRound)
-      (g_then (λ ts a. Closes false CloseRound (print.resolved (Some a.0) (optional_filter a.1.0)) ts) q_path
-      (g_then (λ ts a. (p : PathTree) (u : List Tok) → QuietToks u → Closes false CloseRound (print.resolved (Some p) (optional_filter a.0)) (u ++ ts))
-      (g_maybe (g_second (λ ts g. (x : List Tok) × (y : List Tok) × (ts ≡ x ++ y) × QuietToks x × PStrong (print.filter g) y) (q_the Comma (λ f s. refl)) s_filter (λ u v a f x y. (u, v, refl, x, y)))) (g_the CloseRound)
-      (λ v w f b x y p u k. subst (Closes false CloseRound (print.resolved (Some p) (optional_filter f))) (append_assoc u v w) (closes_after true false CloseRound (print.resolved (Some p) (optional_filter f)) (u ++ v) w closing_round y.0 (over_strong true (in_is u v p f k x)))))
-      (λ u v p a x y. y p u x))
-      (λ u v b a x y. in_brackets (print.resolved (Some a.0) (optional_filter a.1.0)) u v x.0 y))
-      (λ u v w a x y. quiet_right (print.in_round (print.resolved (Some a.1.0) (optional_filter a.1.1.0))) u v x y)) (λ ts a x. x)
-
-  pub s_resolve : Prints print.resolve (resolve i)
-  unfolding resolve
-  s_resolve = g_made (λ ts r. PStrong (print.resolve r) ts) resolve_of (g_placed (g_then (λ ts a. PStrong (print.late_if (is_there a.0) ++ (piece.Plain (words.resolve_word a.1.0) ∷ print.in_round (print.resolved a.1.1.0 (optional_filter a.1.1.1)))) ts) (q_maybe (q_the LateWord (λ f s. refl))) (g_either s_all_form s_in_form)
-      (λ u v late a x y. quiet_both (print.late_if (is_there late)) (piece.Plain (words.resolve_word a.0) ∷ print.in_round (print.resolved a.1.0 (optional_filter a.1.1))) u v (still_late (is_there late)) x
-      (quiet_left (piece.Plain (words.resolve_word a.0) ∷ []) (print.in_round (print.resolved a.1.0 (optional_filter a.1.1))) v (still_resolve a.0, tt) y)))) (λ ts a x. x)
-
-  -- primaries
-  o_brackets : (o : Bool) → Gives (λ ts e. POver o (print.expr e) ts × POver o (print.in_round (print.expr e)) ts) (brackets i)
-  unfolding brackets
-  o_brackets o = g_inner (λ ts e. POver o (print.expr e) ts × POver o (print.in_round (print.expr e)) ts) (g_the OpenRound) o_expr (g_the CloseRound)
-      (λ u v w b e c x y z. (without_brackets true o (print.expr e) u v w x.0 y z.0, over_strong o (in_brackets (print.expr e) u (v ++ w) x.0 (closes_after true false CloseRound (print.expr e) v w closing_round z.0 y))))
-
-  b_longer : Gives Bare (longer i)
-  unfolding longer
-  b_longer = g_either b_coll (g_either b_object (g_either b_new_expr (g_either (g_made Bare MapExpr s_map_call (λ ts m x. (x, refl))) (g_made Bare ResolveExpr s_resolve (λ ts r x. (x, refl))))))
-
-  b_bare_expr : Gives Bare (bare_expr i)
-  unfolding bare_expr
-  b_bare_expr = g_either b_literal (g_either b_word (g_either b_named_expr b_longer))
-
-  pub o_other_primary : (o : Bool) → Gives (PrimaryIs o) (other_primary i)
-  unfolding other_primary
-  o_other_primary o = g_either (g_made (PrimaryIs o) bracketed (o_brackets o) (λ ts e x. x)) (g_made (PrimaryIs o) bare b_bare_expr (λ ts e x. (over_strong o x.0, x.1)))
-
-  pub o_primary : Gives (PrimaryIs true) (primary i)
-  unfolding primary
-  o_primary = g_either (g_made (PrimaryIs true) bare o_if_expr (λ ts e x. x)) (o_other_primary true)
+pub still_named : (n : Option Named) → AllStill (pc (print.named_if (name_text n)))
+still_named None = tt
+still_named (Some n) = ((λ f s. refl), ((λ f s. refl), tt))
+
+-- tokens that open and close nothing
+abbrev pub Silent : {A : Type 0} → List Tok → A → Type 0
+Silent ts a = Quiet ts
+
+module _ (c : Class) (w : IsTrue (is_still c)) where
+  pub quiet_after : {A : Type 0} {ts : List Tok} (a : A) → After c Silent ts a → Quiet ts
+  quiet_after a h = quiet_at h.2 (quiet_tok w h.3) h.4
+
+  pub after_if : {A : Type 0} {ts : List Tok} (a : Option A) → Perhaps (After c Silent) ts a → Quiet ts
+  after_if None e = quiet_none e
+  after_if (Some a) h = quiet_after a h
+
+  pub before_if : {A : Type 0} {ts : List Tok} (a : Option A) → Perhaps (Before Silent c) ts a → Quiet ts
+  before_if None e = quiet_none e
+  before_if (Some a) h = quiet_at h.2 h.3 (quiet_tok w h.4)
+
+  pub token_if : {ts : List Tok} (t : Option Tok) → Perhaps (λ us t. IsTok c us) ts t → Quiet ts
+  token_if None e = quiet_none e
+  token_if (Some t) h = quiet_tok w h
+
+  pub after_each : {A : Type 0} (more : List A) {ts : List Tok} → Many (After c Silent) ts more → Quiet ts
+  after_each [] e = quiet_none e
+  after_each (a ∷ more) k = quiet_at k.2 (quiet_after a k.3) (after_each more k.4)
+
+pub quiet_series : {A : Type 0} {ts : List Tok} (all : List A) → Series Silent ts all → Quiet ts
+quiet_series [] e = quiet_none e
+quiet_series (a ∷ more) k = quiet_at k.2 k.3 (after_each class.Comma refl more k.4)
+
+pub name_is : (n : List ℕ) {ts : List Tok} → Quiet ts → PStrong (piece.Name n ∷ []) ts
+name_is n h = pieces_of (piece.Name n ∷ []) refl h
+
+pub path_is : (p : PathTree) {ts : List Tok} → Quiet ts → PStrong (print.path p) ts
+path_is p h = quiet_of (print.path p) (still_names p.names) h
+
+pub extent_is : (n : Option (List ℕ)) {ts : List Tok} → Perhaps (After class.AtSign Silent) ts n → PStrong (print.extent n) ts
+extent_is n h = quiet_of (print.extent n) (still_extent n) (after_if class.AtSign refl n h)
+
+-- pieces that open and close nothing, before the rest
+pub led : (ps : List Piece) {qs : List Piece} {ts : List Tok} → AllStill (pc ps) → PStrong qs ts → PStrong (ps ++ qs) ts
+led ps h k = strong_at (same {u = []}) (quiet_of ps h quiet_nil) k
+
+pub only : {ts u v : List Tok} → Cut ts u v → v ≡ [] → u ≡ ts
+only {ts} {u} e g = sym (e.is ∙ ap (λ z. u ++ z) g ∙ append-nil u)
+
+-- parts one after the other, and with commas between them
+module _ {A : Type 0} (f : A → List Piece) (fs : List A → List Piece) (none : fs [] ≡ []) (more : (a : A) (as_ : List A) → fs (a ∷ as_) ≡ f a ++ fs as_) where
+  pub many_are : (as_ : List A) {ts : List Tok} → Many (λ us a. PStrong (f a) us) ts as_ → PStrong (fs as_) ts
+  many_are [] {ts} h = subst (λ z. PStrong z ts) (sym none) (no_pieces h)
+  many_are (a ∷ as_) {ts} h = subst (λ z. PStrong z ts) (sym (more a as_)) (strong_at h.2 h.3 (many_are as_ h.4))
+
+module _ {A : Type 0} (f : A → List Piece) (all later : List A → List Piece) (none : all [] ≡ []) (first : (a : A) (as_ : List A) → all (a ∷ as_) ≡ f a ++ later as_) (no_more : later [] ≡ [])
+    (more : (a : A) (as_ : List A) → later (a ∷ as_) ≡ piece.Plain class.Comma ∷ (f a ++ later as_)) where
+  later_are : (as_ : List A) {ts : List Tok} → Many (After class.Comma (λ us a. POver (f a) us)) ts as_ → PStrong (later as_) ts
+  later_are [] {ts} h = subst (λ z. PStrong z ts) (sym no_more) (no_pieces h)
+  later_are (a ∷ as_) {ts} h = subst (λ z. PStrong z ts) (sym (more a as_)) (strong_at h.2 (word_on {c = class.Comma} refl h.3.2 h.3.3 h.3.4) (later_are as_ h.4))
+
+  pub series_are : {ts : List Tok} (as_ : List A) → Series (λ us a. POver (f a) us) ts as_ → POver (all as_) ts
+  series_are {ts} [] h = subst (λ z. POver z ts) (sym none) (as_over (no_pieces h))
+  series_are {ts} (a ∷ as_) h = subst (λ z. POver z ts) (sym (first a as_)) (over_at h.2 h.3 (later_are as_ h.4))
+
+abbrev pub Printed : {A : Type 0} → (A → List Piece) → List Tok → A → Type 0
+Printed f ts a = PStrong (f a) ts
+
+abbrev pub Opening : {A : Type 0} → (A → List Piece) → List Tok → A → Type 0
+Opening f ts a = POver (f a) ts
+
+-- types
+pub colon_is : {ts : List Tok} (t : TypeTerm) → After class.Colon (Printed print.type_of) ts t → PStrong (print.typed t) ts
+colon_is t h = keep {c = class.Colon} refl h.2 h.3 h.4
+
+pub colon_if : {ts : List Tok} (t : Option TypeTerm) → Perhaps (After class.Colon (Printed print.type_of)) ts t → PStrong (print.typed_if t) ts
+colon_if None h = no_pieces h
+colon_if (Some t) h = colon_is t h
+
+-- an expression that is printed in brackets only where it is read in brackets
+pub record ExprIs (test : ExprTerm → Bool) (ts : List Tok) (e : ExprTerm) : Type 0 where
+  pub plain : POver (print.expr e) ts
+  pub round : IsTrue (test e) → POver (print.in_round (print.expr e)) ts
+
+pub clash : {X : Type 0} → false ≡ true → X
+clash h = absurd (let k : false ≡ true = h in cc)
+
+pub not_both : (b : Bool) → b ≡ false → IsTrue b → {X : Type 0} → X
+not_both true e h = clash (sym e)
+not_both false e h = clash h
+
+pub in_place : (test : ExprTerm → Bool) {ts : List Tok} (e : ExprTerm) → ExprIs test ts e → POver (print.round_if (test e) (print.expr e)) ts
+in_place test e h = round_is (test e) h.round h.plain
+
+pub weaker : {p q : ExprTerm → Bool} {ts : List Tok} (e : ExprTerm) → (IsTrue (q e) → IsTrue (p e)) → ExprIs p ts e → ExprIs q ts e
+weaker e k h = record { plain = h.plain; round = λ t. h.round (k t) }
+
+pub exprs_are : {ts : List Tok} (es : List ExprTerm) → Series (Opening print.expr) ts es → POver (print.exprs false (exprs_of es)) ts
+exprs_are es h = series_are print.expr (λ as_. print.exprs false (exprs_of as_)) (λ as_. print.exprs true (exprs_of as_)) refl (λ a as_. refl) refl (λ a as_. refl) es h
+
+abbrev pub Args : List Tok → List ExprTerm → Type 0
+Args = Between class.OpenRound (Series (Opening print.expr)) class.CloseRound
+
+pub args_are : {ts : List Tok} (es : List ExprTerm) → Args ts es → PStrong (print.in_round (print.exprs false (exprs_of es))) ts
+args_are es h = in_brackets h.3 h.4 (exprs_are es h.5) h.6
+
+pub args_if : {ts : List Tok} (es : Option (List ExprTerm)) → Perhaps Args ts es → PStrong (print.args_if (optional_args es)) ts
+args_if None h = no_pieces h
+args_if (Some es) h = args_are es h
+
+pub bar_if : {ts : List Tok} (e : Option ExprTerm) → Perhaps (After class.Bar (Opening print.expr)) ts e → PStrong (print.condition_if (optional_expr e)) ts
+bar_if None h = no_pieces h
+bar_if (Some e) h = word_on {c = class.Bar} refl h.2 h.3 h.4
+
+pub range_if : {ts : List Tok} (r : Option RangeTerm) → Perhaps (Printed print.range) ts r → PStrong (print.range (optional_range r)) ts
+range_if None h = no_pieces h
+range_if (Some r) h = h
+
+-- a conditional
+pub conditional_is : {ts u v x y : List Tok} (c one other : ExprTerm) → Cut ts u v → IsTok class.IfWord u → Cut v x y → POver (print.expr c) x
+    → (p : List Tok) × (q : List Tok) × Cut y p q × After class.ThenWord (Opening print.expr) p one × Between class.ElseWord (Opening print.expr) class.EndifWord q other
+    → POver (print.conditional (print.expr c) (print.expr one) (print.expr other)) ts
+conditional_is {ts} {u} c one other e w g h (p, q, f, k, j) =
+    let last = ender_at (first_two j.3) (word_on {c = class.ElseWord} refl same j.4 j.5) (ender_last j.6) in
+    if_whole (both_cuts e g) w h (ender_at f (word_on {c = class.ThenWord} refl k.2 k.3 k.4) last)
+
+-- the filter of a resolve
+pub all_is : {ts : List Tok} (f : FilterTerm) → PStrong (print.filter f) ts → PStrong (print.resolved None f) ts
+all_is NoFilter h = h
+all_is (FilterOf n t c p) h = h
+
+pub in_is : (u v : List Tok) (p : PathTree) (f : Option FilterTerm) → Quiet u → Perhaps (After class.Comma (Printed print.filter)) v f → PStrong (print.resolved (Some p) (optional_filter f)) (u ++ v)
+in_is u v p None h k = subst (λ z. PStrong z (u ++ v)) (append-nil (print.path p)) (strong_at same (path_is p h) (no_pieces k))
+in_is u v p (Some NoFilter) h k = subst (λ z. PStrong z (u ++ v)) (append-nil (print.path p)) (strong_at same (path_is p h) (skip {c = class.Comma} refl k.2 k.3 k.4))
+in_is u v p (Some (FilterOf n t c place)) h k = strong_at same (path_is p h) (keep {c = class.Comma} refl k.2 k.3 k.4)
+
+-- the arguments of an arrow
+abbrev pub arrow_pieces : HeadTerm × List ExprTerm → List Piece
+arrow_pieces a = print.head a.0 ++ print.exprs false (exprs_of a.1)
+
+pub accumulator_if : {ts : List Tok} (a : Option AccumulatorTerm) → Perhaps (Printed print.accumulator) ts a → PStrong (print.accumulator (optional_accumulator a)) ts
+accumulator_if None h = no_pieces h
+accumulator_if (Some a) h = h
+
+after_name : (t a e : List Piece) → (t ++ a) ++ (piece.Plain class.Bar ∷ e) ≡ (t ++ (a ++ print.one class.Bar)) ++ (e ++ [])
+after_name t a e =
+    append_assoc t a (piece.Plain class.Bar ∷ e) ∙ ap (λ z. t ++ (a ++ (piece.Plain class.Bar ∷ z))) (sym (append-nil e))
+    ∙ ap (λ z. t ++ z) (sym (append_assoc a (print.one class.Bar) (e ++ []))) ∙ sym (append_assoc t (a ++ print.one class.Bar) (e ++ []))
+
+pub headed_is : {ts u v : List Tok} (n t a e : List Piece) → Cut ts u v → PStrong (n ++ (t ++ a)) u → PStrong (piece.Plain class.Bar ∷ e) v → POver ((n ++ (t ++ (a ++ print.one class.Bar))) ++ (e ++ [])) ts
+headed_is {ts} n t a e g h k =
+    as_over (subst (λ z. PStrong z ts) (append_assoc n (t ++ a) (piece.Plain class.Bar ∷ e) ∙ ap (λ z. n ++ z) (after_name t a e) ∙ sym (append_assoc n (t ++ (a ++ print.one class.Bar)) (e ++ []))) (strong_at g h k))
+
+pub or_none_are : {ts : List Tok} (a : Option (HeadTerm × List ExprTerm)) → Perhaps (Opening arrow_pieces) ts a → POver (arrow_pieces (or_no_args a)) ts
+or_none_are None h = as_over (no_pieces h)
+or_none_are (Some a) h = h
+
+-- what steps make of an expression
+print_more : (old : StepTerms) (ss : List StepTerm) → print.steps (join_steps old ss) ≡ print.steps old ++ print.steps (steps_of ss)
+print_more NoSteps ss = refl
+print_more (MoreSteps s old) ss = ap (λ z. print.step s ++ z) (print_more old ss) ∙ sym (append_assoc (print.step s) (print.steps old) (print.steps (steps_of ss)))
+
+stepped_expr : (place : Place) (e : ExprTerm) (ss : List StepTerm) → print.expr (stepped place e ss) ≡ print.post_first e ++ print.steps (steps_of ss)
+stepped_expr place (PostExpr e old p) ss = ap (λ z. print.round_if (is_chain_or_prefix e) (print.expr e) ++ z) (print_more old ss) ∙ sym (append_assoc (print.round_if (is_chain_or_prefix e) (print.expr e)) (print.steps old) (print.steps (steps_of ss)))
+stepped_expr place _ ss = refl
+
+stepped_test : (place : Place) (e : ExprTerm) (ss : List StepTerm) → is_chain_or_prefix (stepped place e ss) ≡ false
+stepped_test place (PostExpr e old p) ss = refl
+stepped_test place _ ss = refl
+
+pub post_is : {ts u v : List Tok} (place : Place) (e : ExprTerm) (ss : List StepTerm) → Cut ts u v → ExprIs is_chain_or_prefix u e → Many (Printed print.step) v ss → ExprIs is_chain_or_prefix ts (post_of place e ss)
+post_is place e [] g h k = subst (λ z. ExprIs is_chain_or_prefix z e) (only g k) h
+post_is {ts} place e (s ∷ ss) g h k = record {
+  plain = subst (λ z. POver z ts) (sym (stepped_expr place e (s ∷ ss))) (over_at g (in_place is_chain_or_prefix e h) (many_are print.step (λ as_. print.steps (steps_of as_)) refl (λ a as_. refl) (s ∷ ss) k));
+  round = (λ t. not_both (is_chain_or_prefix (stepped place e (s ∷ ss))) (stepped_test place e (s ∷ ss)) t);
+}
+
+-- signs
+signs_append : (ss old : List Sign) → print.signs (ss ++ old) ≡ print.signs ss ++ print.signs old
+signs_append [] old = refl
+signs_append (s ∷ ss) old = ap (λ z. piece.Plain (words.prefix_sign s.op) ∷ z) (signs_append ss old)
+
+signed_expr : (place : Place) (ss : List Sign) (e : ExprTerm) → print.expr (signed place ss e) ≡ print.signs ss ++ print.prefixed e
+signed_expr place ss (PrefixExpr old e p) = ap (λ z. z ++ print.prefixed e) (signs_append ss old) ∙ append_assoc (print.signs ss) (print.signs old) (print.prefixed e)
+signed_expr place ss _ = refl
+
+signed_test : (place : Place) (ss : List Sign) (e : ExprTerm) → is_as_loose levels.Product (signed place ss e) ≡ false
+signed_test place ss (PrefixExpr old e p) = refl
+signed_test place ss _ = refl
+
+chain_loose : (e : ExprTerm) → IsTrue (is_as_loose levels.Product e) → IsTrue (is_chain_or_prefix e)
+chain_loose (ChainExpr l e ls p) h = refl
+chain_loose (PrefixExpr ss e p) h = refl
+chain_loose _ h = clash h
+
+is_chain_or : (e : ExprTerm) → IsTrue (is_chain e) → IsTrue (is_chain_or_prefix e)
+is_chain_or (ChainExpr l e ls p) h = refl
+is_chain_or _ h = clash h
+
+signs_before : (ss : List Sign) (ps : List Piece) {ts u v : List Tok} → Cut ts u v → Many (λ us s. WordTok us) u ss → POver ps v → POver (print.signs ss ++ ps) ts
+signs_before [] ps {v = v} g k h = subst (λ z. POver ps z) (sym (g.is ∙ ap (λ z. z ++ v) k)) h
+signs_before (s ∷ ss) ps {v = v} g k h =
+    as_over (word_at (words.prefix_sign s.op) (word_sign s.op) (record { is = g.is ∙ ap (λ z. z ++ v) k.2.is ∙ append_assoc k.0 k.1 v }) k.3 (signs_before ss ps same k.4 h))
+
+pub signed_is : {ts u v : List Tok} (a : Place × (List Sign × ExprTerm)) → Cut ts u v → Many (λ us s. WordTok us) u a.1.0 → ExprIs is_chain_or_prefix v a.1.1 → ExprIs (is_as_loose levels.Product) ts (signed_of a)
+signed_is {v = v} (place, ([], e)) g k h = subst (λ z. ExprIs (is_as_loose levels.Product) z e) (sym (g.is ∙ ap (λ z. z ++ v) k)) (weaker {p = is_chain_or_prefix} e (chain_loose e) h)
+signed_is {ts} (place, ((s ∷ ss), e)) g k h = record {
+  plain = subst (λ z. POver z ts) (sym (signed_expr place (s ∷ ss) e)) (signs_before (s ∷ ss) (print.prefixed e) g k (in_place is_chain e (weaker {p = is_chain_or_prefix} e (is_chain_or e) h)));
+  round = (λ t. not_both (is_as_loose levels.Product (signed place (s ∷ ss) e)) (signed_test place (s ∷ ss) e) t);
+}
+
+-- chains: one is printed in brackets where it is an operand of a tighter level, or of its own
+abbrev pub is_looser : Level → ExprTerm → Bool
+is_looser l (ChainExpr k first rest place) = nat_le (suc (tightness k)) (tightness l)
+is_looser l e = false
+
+looser_loose : (l : Level) (e : ExprTerm) → IsTrue (is_looser l e) → IsTrue (is_as_loose l e)
+looser_loose l (ChainExpr k e ls p) h = le-leb (tightness k) (tightness l) (omega (arith, leb-true (suc (tightness k)) (tightness l) h))
+looser_loose l _ h = clash h
+
+own_level : (l : Level) (e : ExprTerm) (ls : List LinkTerm) (p : Place) → IsTrue (is_looser l (ChainExpr l e (links_of ls) p)) → {X : Type 0} → X
+own_level l e ls p h = absurd (omega (arith, leb-true (suc (tightness l)) (tightness l) h))
+
+loose_next : (l m : Level) → tightness l ≡ suc (tightness m) → (e : ExprTerm) → IsTrue (is_as_loose m e) → IsTrue (is_looser l e)
+loose_next l m q (ChainExpr k e ls p) h = le-leb (suc (tightness k)) (tightness l) (omega (arith, q, leb-true (tightness k) (tightness m) h))
+loose_next l m q _ h = clash h
+
+pub next_is : {ts : List Tok} (l m : Level) (e : ExprTerm) → tightness l ≡ suc (tightness m) → ExprIs (is_looser l) ts e → ExprIs (is_as_loose m) ts e
+next_is l m e q h = weaker {p = is_looser l} e (loose_next l m q e) h
+
+pub link_is : {ts u v : List Tok} (level : Level) (op : BinaryOp) (e : ExprTerm) → Cut ts u v → OneOf (operators level) u → ExprIs (is_as_loose level) v e → PStrong (piece.Plain (words.operator_sign op) ∷ print.round_if (is_as_loose level e) (print.expr e)) ts
+link_is level op e g k h = word_at (words.operator_sign op) (word_operator op) g (a_word (operators level) (operators_are level).0 k) (in_place (is_as_loose level) e h)
+
+pub chain_is : {ts u v : List Tok} (level : Level) (a : Place × (ExprTerm × List LinkTerm)) → Cut ts u v → ExprIs (is_as_loose level) u a.1.0 → Many (Printed (print.link level)) v a.1.1 → ExprIs (is_looser level) ts (chained level a)
+chain_is level (place, (e, [])) g h k = subst (λ z. ExprIs (is_looser level) z e) (only g k) (weaker {p = is_as_loose level} e (looser_loose level e) h)
+chain_is level (place, (e, (l ∷ ls))) g h k = record {
+  plain = over_at g (in_place (is_as_loose level) e h) (many_are (print.link level) (λ as_. print.links level (links_of as_)) refl (λ a as_. refl) (l ∷ ls) k);
+  round = (λ t. own_level level e (l ∷ ls) place t);
+}

@@ -1,13 +1,14 @@
 -- The classes of pieces and of tokens, and how both open and close items.
-use Rattle.std.proofs.Common.{IsTrue, ◌≡◌, List, [], ◌∷◌, ◌++◌, Bool, true, false, refl, sym, ap, ◌∙◌, subst, append_assoc}
+use Rattle.std.proofs.Common.{IsTrue, ◌≡◌, List, [], ◌∷◌, ◌++◌, Bool, true, false, ◌&&◌, refl, sym, ap, ◌∙◌, subst, append_assoc}
 use Rattle.qvt_language.specs.Tokens.{Tok}
 use Rattle.qvt_language.specs.declared.class.Class.{Class}
 use Rattle.qvt_language.specs.declared.class.Class.TheVariants as class
+use Rattle.qvt_language.specs.declared.class.Class.TheVariants.{OpenRound, CloseRound, OpenBrace, CloseBrace, Semicolon, IfWord, EndifWord}
 use Rattle.qvt_printer_layout.specs.declared.piece.Piece.{Piece}
 use Rattle.qvt_printer_layout.specs.declared.piece.Piece.TheVariants.{Plain, Name, Integer, Quoted, Tight, Line, Indent, Dedent}
 use Rattle.qvt_printer.specs.Expressions.{in_round, in_block, in_items, round_if}
-use Rattle.qvt_readback_depth.proofs.Runs.{AllStill, Word, Closing, Strong, Over, Inside, Ender, strong_nil, strong_then, strong_still, over_then, word_over, inside_over, round_inside, brace_inside, over_bare, over_strong, ender_then, ender_endif, if_over, all_still_append}
-use Rattle.qvt_readback_depth.proofs.Turns.{Turns, Ends, turns_then, turns_inside, ends_append}
+use Rattle.qvt_readback_depth.proofs.Runs.{Still, AllStill, Word, Strong, Over, Inside, Ender, strong_then, strong_still, over_then, word_over, inside_over, round_inside, brace_inside, over_bare, over_strong, ender_then, ender_endif, if_over, all_still_append}
+use Rattle.qvt_readback_depth.proofs.Turns.{Turns, Ends, turns_over, turns_then, turns_inside, ends_append}
 
 abbrev pub piece_class : Piece → List Class
 piece_class (Plain c) = c ∷ []
@@ -44,101 +45,226 @@ tc_last v w e = tc_append v w ∙ ap (λ z. tc v ++ z) e
 pub moved : (P : List Class → List Class → Type 0) (a b : List Piece) (x y : List Tok) → P (pc a ++ pc b) (tc x ++ tc y) → P (pc (a ++ b)) (tc (x ++ y))
 moved P a b x y h = subst (λ z. P z (tc (x ++ y))) (sym (pc_append a b)) (subst (P (pc a ++ pc b)) (sym (tc_append x y)) h)
 
-abbrev pub PStrong : List Piece → List Tok → Type 0
-PStrong ps ts = Strong (pc ps) (tc ts)
+-- tokens that are the one list and then the other, or three lists, and one token of the class
+pub record Cut (ts u v : List Tok) : Type 0 where
+  pub is : ts ≡ u ++ v
 
-abbrev pub POver : Bool → List Piece → List Tok → Type 0
-POver o ps ts = Over o (pc ps) (tc ts)
+pub record Cuts (ts u v w : List Tok) : Type 0 where
+  pub is : ts ≡ u ++ (v ++ w)
 
-abbrev pub PTurns : List Piece → List Tok → Type 0
-PTurns ps ts = Turns (pc ps) (tc ts)
+pub record IsTok (c : Class) (ts : List Tok) : Type 0 where
+  pub is : tc ts ≡ c ∷ []
 
-abbrev pub QuietPieces : List Piece → Type 0
-QuietPieces ps = AllStill (pc ps)
+pub same : {u v : List Tok} → Cut (u ++ v) u v
+same = record { is = refl }
 
-abbrev pub QuietToks : List Tok → Type 0
-QuietToks ts = AllStill (tc ts)
+pub all_same : {u v w : List Tok} → Cuts (u ++ (v ++ w)) u v w
+all_same = record { is = refl }
 
-pub quiet_toks : (x y : List Tok) → QuietToks x → QuietToks y → QuietToks (x ++ y)
-quiet_toks x y h k = subst AllStill (sym (tc_append x y)) (all_still_append (tc x) (tc y) h k)
+pub peel : {ts u v x y : List Tok} → Cut ts u v → Cut v x y → Cut ts (u ++ x) y
+peel {u = u} {x = x} {y = y} e g = record { is = e.is ∙ ap (λ z. u ++ z) g.is ∙ sym (append_assoc u x y) }
 
-pub quiet_pieces : (a b : List Piece) → QuietPieces a → QuietPieces b → QuietPieces (a ++ b)
-quiet_pieces a b h k = subst AllStill (sym (pc_append a b)) (all_still_append (pc a) (pc b) h k)
+pub both_cuts : {ts u r v w : List Tok} → Cut ts u r → Cut r v w → Cuts ts u v w
+both_cuts {u = u} e g = record { is = e.is ∙ ap (λ z. u ++ z) g.is }
 
-pub quiet_strong : (ps : List Piece) (ts : List Tok) → QuietPieces ps → QuietToks ts → PStrong ps ts
-quiet_strong ps ts h k = strong_still (pc ps) (tc ts) h k
+pub first_two : {ts u v w : List Tok} → Cuts ts u v w → Cut ts (u ++ v) w
+first_two {u = u} {v = v} {w = w} e = record { is = e.is ∙ sym (append_assoc u v w) }
 
-pub strong_more : (a b : List Piece) (x y : List Tok) → PStrong a x → PStrong b y → PStrong (a ++ b) (x ++ y)
-strong_more a b x y h k = moved Strong a b x y (strong_then h k)
+pub last_two : {ts u v w : List Tok} → Cuts ts u v w → Cut ts u (v ++ w)
+last_two e = record { is = e.is }
 
-pub over_more : (o : Bool) (a b : List Piece) (x y : List Tok) → POver o a x → PStrong b y → POver o (a ++ b) (x ++ y)
-over_more o a b x y h k = moved (Over o) a b x y (over_then h k)
+-- what is printed and what is read, by the ways that they open and close items
+pub record PStrong (ps : List Piece) (ts : List Tok) : Type 0 where
+  pub is : Strong (pc ps) (tc ts)
 
-pub ender_before : (a b : List Piece) (x y : List Tok) → PStrong a x → Ender (pc b) (tc y) → Ender (pc (a ++ b)) (tc (x ++ y))
-ender_before a b x y h k = moved Ender a b x y (ender_then h k)
+pub record POver (ps : List Piece) (ts : List Tok) : Type 0 where
+  pub is : Over (pc ps) (tc ts)
 
-pub turns_more : (a b : List Piece) (x y : List Tok) → PTurns a x → PTurns b y → PTurns (a ++ b) (x ++ y)
-turns_more a b x y h k = moved Turns a b x y (turns_then h k)
+pub record PEnder (ps : List Piece) (ts : List Tok) : Type 0 where
+  pub is : Ender (pc ps) (tc ts)
+
+pub record PTurns (ps : List Piece) (ts : List Tok) : Type 0 where
+  pub is : Turns (pc ps) (tc ts)
+
+-- the one, and then the other
+module _ {a b : List Piece} {ts u v : List Tok} (e : Cut ts u v) where
+  pub strong_at : PStrong a u → PStrong b v → PStrong (a ++ b) ts
+  strong_at h k = record { is = subst (λ z. Strong (pc (a ++ b)) (tc z)) (sym e.is) (moved Strong a b u v (strong_then h.is k.is)) }
+
+  pub over_at : POver a u → PStrong b v → POver (a ++ b) ts
+  over_at h k = record { is = subst (λ z. Over (pc (a ++ b)) (tc z)) (sym e.is) (moved Over a b u v (over_then h.is k.is)) }
+
+  pub ender_at : PStrong a u → PEnder b v → PEnder (a ++ b) ts
+  ender_at h k = record { is = subst (λ z. Ender (pc (a ++ b)) (tc z)) (sym e.is) (moved Ender a b u v (ender_then h.is k.is)) }
+
+  pub turns_at : PTurns a u → PTurns b v → PTurns (a ++ b) ts
+  turns_at h k = record { is = subst (λ z. Turns (pc (a ++ b)) (tc z)) (sym e.is) (moved Turns a b u v (turns_then h.is k.is)) }
+
+pub as_over : {ps : List Piece} {ts : List Tok} → PStrong ps ts → POver ps ts
+as_over h = record { is = over_strong h.is }
 
 pub ends_more : (a b : List Piece) → Ends (pc b) → Ends (pc (a ++ b))
 ends_more a b h = subst Ends (sym (pc_append a b)) (ends_append (pc a) (pc b) h)
 
+pub as_turns : {ps : List Piece} {ts : List Tok} → POver ps ts → Ends (pc ps) → PTurns ps ts
+as_turns h e = record { is = turns_over h.is e }
+
+-- what opens and closes nothing, and after which besides an `if` begins no statement
+abbrev pub is_still : Class → Bool
+is_still OpenRound = false
+is_still CloseRound = false
+is_still OpenBrace = false
+is_still CloseBrace = false
+is_still IfWord = false
+is_still EndifWord = false
+is_still _ = true
+
+abbrev pub is_word : Class → Bool
+is_word Semicolon = false
+is_word c = is_still c
+
+pub still : (c : Class) → IsTrue (is_still c) → Still c
+still OpenRound h = absurd cc
+still CloseRound h = absurd cc
+still OpenBrace h = absurd cc
+still CloseBrace h = absurd cc
+still IfWord h = absurd cc
+still EndifWord h = absurd cc
+still _ h = λ f s. refl
+
+word : (c : Class) → IsTrue (is_word c) → Word c
+word OpenRound h = absurd cc
+word CloseRound h = absurd cc
+word OpenBrace h = absurd cc
+word CloseBrace h = absurd cc
+word IfWord h = absurd cc
+word EndifWord h = absurd cc
+word Semicolon h = absurd cc
+word _ h = ((λ f s. refl), refl)
+
+abbrev pub are_still : List Class → Bool
+are_still [] = true
+are_still (c ∷ cs) = is_still c && are_still cs
+
+and_left : (x y : Bool) → IsTrue (x && y) → IsTrue x
+and_left true y h = refl
+and_left false y h = h
+
+and_right : (x y : Bool) → IsTrue (x && y) → IsTrue y
+and_right true y h = h
+and_right false y h = absurd cc
+
+all_still : (cs : List Class) → IsTrue (are_still cs) → AllStill cs
+all_still [] h = tt
+all_still (c ∷ cs) h = (still c (and_left (is_still c) (are_still cs) h), all_still cs (and_right (is_still c) (are_still cs) h))
+
+-- tokens that open and close nothing, and one that is a word
+pub record Quiet (ts : List Tok) : Type 0 where
+  pub is : AllStill (tc ts)
+
+pub record WordTok (ts : List Tok) : Type 0 where
+  pub class : Class
+  pub word : IsTrue (is_word class)
+  pub is : tc ts ≡ class ∷ []
+
+pub quiet_nil : Quiet []
+quiet_nil = record { is = tt }
+
+pub quiet_none : {ts : List Tok} → ts ≡ [] → Quiet ts
+quiet_none e = subst Quiet (sym e) quiet_nil
+
+pub quiet_tok : {c : Class} {ts : List Tok} → IsTrue (is_still c) → IsTok c ts → Quiet ts
+quiet_tok {c} h e = record { is = subst AllStill (sym e.is) (still c h, tt) }
+
+pub quiet_at : {ts u v : List Tok} → Cut ts u v → Quiet u → Quiet v → Quiet ts
+quiet_at {ts} {u} {v} e h k = subst Quiet (sym e.is) (record { is = subst AllStill (sym (tc_append u v)) (all_still_append (tc u) (tc v) h.is k.is) })
+
+pub word_still : (c : Class) → IsTrue (is_word c) → IsTrue (is_still c)
+word_still Semicolon h = refl
+word_still OpenRound h = h
+word_still CloseRound h = h
+word_still OpenBrace h = h
+word_still CloseBrace h = h
+word_still IfWord h = h
+word_still EndifWord h = h
+word_still _ h = h
+
+pub quiet_word : {ts : List Tok} → WordTok ts → Quiet ts
+quiet_word h = quiet_tok {c = h.class} (word_still h.class h.word) (record { is = h.is })
+
+pub word_tok : {c : Class} {ts : List Tok} → IsTrue (is_word c) → IsTok c ts → WordTok ts
+word_tok {c} h e = record { class = c; word = h; is = e.is }
+
+-- pieces that open and close nothing, for such tokens
+pub quiet_of : (ps : List Piece) {ts : List Tok} → AllStill (pc ps) → Quiet ts → PStrong ps ts
+quiet_of ps {ts} h k = record { is = strong_still (pc ps) (tc ts) h k.is }
+
+pub pieces_of : (ps : List Piece) {ts : List Tok} → IsTrue (are_still (pc ps)) → Quiet ts → PStrong ps ts
+pieces_of ps h k = quiet_of ps (all_still (pc ps) h) k
+
+pub none_of : {ts : List Tok} → Quiet ts → PStrong [] ts
+none_of k = quiet_of [] tt k
+
+pub no_pieces : {ts : List Tok} → ts ≡ [] → PStrong [] ts
+no_pieces e = none_of (quiet_none e)
+
+-- a token that is printed, or is not, before the rest
+module _ {ps : List Piece} {ts u v : List Tok} {c : Class} (h : IsTrue (is_still c)) (e : Cut ts u v) (x : IsTok c u) where
+  pub keep : PStrong ps v → PStrong (Plain c ∷ ps) ts
+  keep k = strong_at {a = Plain c ∷ []} e (quiet_of (Plain c ∷ []) (still c h, tt) (quiet_tok h x)) k
+
+  pub skip : PStrong ps v → PStrong ps ts
+  skip k = strong_at {a = []} e (none_of (quiet_tok h x)) k
+
 -- a word, and what may begin with `if`
-pub word_before : (o : Bool) (c k : Class) (ps : List Piece) (u v : List Tok) → Word c → Word k → tc u ≡ k ∷ [] → POver o ps v → PStrong (Plain c ∷ ps) (u ++ v)
-word_before o c k ps u v w g e h = subst (Strong (c ∷ pc ps)) (sym (tc_one u v e)) (word_over c k w g h)
+pub word_at : (c : Class) → IsTrue (is_word c) → {ps : List Piece} {ts u v : List Tok} → Cut ts u v → WordTok u → POver ps v → PStrong (Plain c ∷ ps) ts
+word_at c w {ps} {ts} {u} {v} e x h = record { is = subst (Strong (c ∷ pc ps)) (sym (ap tc e.is ∙ tc_one u v x.is)) (word_over c x.class (word c w) (word x.class x.word) h.is) }
 
--- pieces with the closing bracket of an opened one
-abbrev pub Closes : Bool → Class → List Piece → List Tok → Type 0
-Closes g c ps ts = Inside g (pc ps ++ (c ∷ [])) (tc ts)
+pub word_on : {c : Class} → IsTrue (is_word c) → {ps : List Piece} {ts u v : List Tok} → Cut ts u v → IsTok c u → POver ps v → PStrong (Plain c ∷ ps) ts
+word_on {c} w e x h = word_at c w e (word_tok w x) h
 
-pub closes_after : (o g : Bool) (c : Class) (ps : List Piece) (v w : List Tok) → Closing c → tc w ≡ c ∷ [] → POver o ps v → Closes g c ps (v ++ w)
-closes_after o g c ps v w k e h = subst (Inside g (pc ps ++ (c ∷ []))) (sym (tc_last v w e)) (inside_over g c k h)
+-- through the closing bracket
+between_toks : {c d : Class} {ts u v w : List Tok} → Cuts ts u v w → IsTok c u → IsTok d w → tc ts ≡ c ∷ (tc v ++ (d ∷ []))
+between_toks {c} {d} {ts} {u} {v} {w} e x z = ap tc e.is ∙ tc_one u (v ++ w) x.is ∙ ap (λ q. c ∷ q) (tc_append v w ∙ ap (λ q. tc v ++ q) z.is)
 
-pub closes_at_once : (g : Bool) (c : Class) (w : List Tok) → Closing c → tc w ≡ c ∷ [] → Closes g c [] w
-closes_at_once g c w k e = subst (Inside g (c ∷ [])) (sym e) (inside_over g c k (over_strong true strong_nil))
+pub in_brackets : {ps : List Piece} {ts u v w : List Tok} → Cuts ts u v w → IsTok class.OpenRound u → POver ps v → IsTok class.CloseRound w → PStrong (in_round ps) ts
+in_brackets {ps} {v = v} e x h z = record {
+  is = subst (λ q. Strong (pc (in_round ps)) q) (sym (between_toks e x z))
+      (subst (λ q. Strong (class.OpenRound ∷ q) (class.OpenRound ∷ (tc v ++ (class.CloseRound ∷ [])))) (sym (pc_append ps (Plain class.CloseRound ∷ []))) (round_inside (inside_over false class.CloseRound (λ f s. refl) h.is)));
+}
 
-pub closes_turns : (ps : List Piece) (v w : List Tok) → tc w ≡ class.CloseBrace ∷ [] → PTurns ps v → Closes true class.CloseBrace ps (v ++ w)
-closes_turns ps v w e h = subst (Inside true (pc ps ++ (class.CloseBrace ∷ []))) (sym (tc_last v w e)) (turns_inside h)
+-- brackets that are not printed
+pub without_brackets : {ps : List Piece} {ts u v w : List Tok} → Cuts ts u v w → IsTok class.OpenRound u → POver ps v → IsTok class.CloseRound w → POver ps ts
+without_brackets {ps} e x h z = record { is = subst (Over (pc ps)) (sym (between_toks e x z)) (over_bare h.is) }
 
-pub in_brackets : (ps : List Piece) (u v : List Tok) → tc u ≡ class.OpenRound ∷ [] → Closes false class.CloseRound ps v → PStrong (in_round ps) (u ++ v)
-in_brackets ps u v e h = subst (λ z. Strong (class.OpenRound ∷ z) (tc (u ++ v))) (sym (pc_append ps (Plain class.CloseRound ∷ []))) (subst (Strong (class.OpenRound ∷ (pc ps ++ (class.CloseRound ∷ [])))) (sym (tc_one u v e)) (round_inside h))
+braces : (ps qs : List Piece) {ts u v w : List Tok} → Cuts ts u v w → pc qs ≡ class.CloseBrace ∷ [] → IsTok class.OpenBrace u → Inside true (pc ps ++ (class.CloseBrace ∷ [])) (tc v ++ (class.CloseBrace ∷ [])) → IsTok class.CloseBrace w → Strong (class.OpenBrace ∷ pc (ps ++ qs)) (tc ts)
+braces ps qs {v = v} e k x h z = subst (Strong (class.OpenBrace ∷ pc (ps ++ qs))) (sym (between_toks e x z))
+    (subst (λ q. Strong (class.OpenBrace ∷ q) (class.OpenBrace ∷ (tc v ++ (class.CloseBrace ∷ [])))) (sym (pc_append ps qs ∙ ap (λ q. pc ps ++ q) k)) (brace_inside h))
 
-braces : (ps qs : List Piece) (u v : List Tok) → pc qs ≡ class.CloseBrace ∷ [] → tc u ≡ class.OpenBrace ∷ [] → Closes true class.CloseBrace ps v → PStrong (Plain class.OpenBrace ∷ (ps ++ qs)) (u ++ v)
-braces ps qs u v k e h = subst (λ z. Strong (class.OpenBrace ∷ z) (tc (u ++ v))) (sym (pc_append ps qs ∙ ap (λ z. pc ps ++ z) k)) (subst (Strong (class.OpenBrace ∷ (pc ps ++ (class.CloseBrace ∷ [])))) (sym (tc_one u v e)) (brace_inside h))
+module _ {ps : List Piece} {ts u v w : List Tok} (e : Cuts ts u v w) (x : IsTok class.OpenBrace u) where
+  pub in_braces : POver ps v → IsTok class.CloseBrace w → PStrong (Plain class.OpenBrace ∷ (ps ++ (Plain class.CloseBrace ∷ []))) ts
+  in_braces h z = record { is = braces ps (Plain class.CloseBrace ∷ []) e refl x (inside_over true class.CloseBrace (λ f s. refl) h.is) z }
 
-pub in_braces : (ps : List Piece) (u v : List Tok) → tc u ≡ class.OpenBrace ∷ [] → Closes true class.CloseBrace ps v → PStrong (Plain class.OpenBrace ∷ (ps ++ (Plain class.CloseBrace ∷ []))) (u ++ v)
-in_braces ps u v e h = braces ps (Plain class.CloseBrace ∷ []) u v refl e h
+  pub in_item_braces : POver ps v → IsTok class.CloseBrace w → PStrong (in_items ps) ts
+  in_item_braces h z = record { is = braces ps (Tight ∷ Plain class.CloseBrace ∷ []) e refl x (inside_over true class.CloseBrace (λ f s. refl) h.is) z }
 
-pub in_item_braces : (ps : List Piece) (u v : List Tok) → tc u ≡ class.OpenBrace ∷ [] → Closes true class.CloseBrace ps v → PStrong (in_items ps) (u ++ v)
-in_item_braces ps u v e h = braces ps (Tight ∷ Plain class.CloseBrace ∷ []) u v refl e h
+  pub in_blocks : POver ps v → IsTok class.CloseBrace w → PStrong (in_block ps) ts
+  in_blocks h z = record { is = braces ps (Dedent ∷ Line ∷ Plain class.CloseBrace ∷ []) e refl x (inside_over true class.CloseBrace (λ f s. refl) h.is) z }
 
-pub in_blocks : (ps : List Piece) (u v : List Tok) → tc u ≡ class.OpenBrace ∷ [] → Closes true class.CloseBrace ps v → PStrong (in_block ps) (u ++ v)
-in_blocks ps u v e h = braces ps (Dedent ∷ Line ∷ Plain class.CloseBrace ∷ []) u v refl e h
-
-pub without_brackets : (o p : Bool) (ps : List Piece) (u v w : List Tok) → tc u ≡ class.OpenRound ∷ [] → POver o ps v → tc w ≡ class.CloseRound ∷ [] → POver p ps (u ++ (v ++ w))
-without_brackets o p ps u v w e h k = subst (Over p (pc ps)) (sym (tc_one u (v ++ w) e ∙ ap (λ z. class.OpenRound ∷ z) (tc_last v w k))) (over_bare p h)
+  pub in_turns : PTurns ps v → IsTok class.CloseBrace w → PStrong (in_block ps) ts
+  in_turns h z = record { is = braces ps (Dedent ∷ Line ∷ Plain class.CloseBrace ∷ []) e refl x (turns_inside h.is) z }
 
 pub ends_block : (ps : List Piece) → Ends (pc (in_block ps))
 ends_block ps f = ends_more ps (Dedent ∷ Line ∷ Plain class.CloseBrace ∷ []) (λ g. refl) true
 
 -- a conditional
-pub if_whole : (o : Bool) (a b : List Piece) (u x y : List Tok) → tc u ≡ class.IfWord ∷ [] → POver o a x → Ender (pc b) (tc y) → POver true (Plain class.IfWord ∷ (a ++ b)) (u ++ (x ++ y))
-if_whole o a b u x y e h k = subst (Over true (class.IfWord ∷ pc (a ++ b))) (sym (tc_one u (x ++ y) e)) (moved (λ us ts. Over true (class.IfWord ∷ us) (class.IfWord ∷ ts)) a b x y (if_over h k))
+pub if_whole : {a b : List Piece} {ts u x y : List Tok} → Cuts ts u x y → IsTok class.IfWord u → POver a x → PEnder b y → POver (Plain class.IfWord ∷ (a ++ b)) ts
+if_whole {a} {b} {ts} {u} {x} {y} g e h k = record { is = subst (Over (class.IfWord ∷ pc (a ++ b))) (sym (ap tc g.is ∙ tc_one u (x ++ y) e.is)) (moved (λ us ws. Over (class.IfWord ∷ us) (class.IfWord ∷ ws)) a b x y (if_over h.is k.is)) }
 
-pub ender_last : (u : List Tok) → tc u ≡ class.EndifWord ∷ [] → Ender (class.EndifWord ∷ []) (tc u)
-ender_last u e = subst (Ender (class.EndifWord ∷ [])) (sym e) ender_endif
+pub ender_last : {ts : List Tok} → IsTok class.EndifWord ts → PEnder (Plain class.EndifWord ∷ []) ts
+ender_last e = record { is = subst (Ender (class.EndifWord ∷ [])) (sym e.is) ender_endif }
 
 -- brackets where they have to be
-pub round_is : (o b : Bool) (ps : List Piece) (ts : List Tok) → (IsTrue b → POver o (in_round ps) ts) → POver o ps ts → POver o (round_if b ps) ts
-round_is o true ps ts h k = h refl
-round_is o false ps ts h k = k
-
--- what opens and closes nothing, before the rest
-pub quiet_both : (a b : List Piece) (x y : List Tok) → QuietPieces a → QuietToks x → PStrong b y → PStrong (a ++ b) (x ++ y)
-quiet_both a b x y h k j = strong_more a b x y (quiet_strong a x h k) j
-
-pub quiet_left : (a b : List Piece) (y : List Tok) → QuietPieces a → PStrong b y → PStrong (a ++ b) y
-quiet_left a b y h j = strong_more a b [] y (quiet_strong a [] h tt) j
-
-pub quiet_right : (b : List Piece) (x y : List Tok) → QuietToks x → PStrong b y → PStrong b (x ++ y)
-quiet_right b x y k j = strong_more [] b x y (quiet_strong [] x tt k) j
+pub round_is : (b : Bool) {ps : List Piece} {ts : List Tok} → (IsTrue b → POver (in_round ps) ts) → POver ps ts → POver (round_if b ps) ts
+round_is true h k = h refl
+round_is false h k = k

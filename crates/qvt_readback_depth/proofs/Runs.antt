@@ -66,31 +66,16 @@ Calm true [] = Unit {0}
 Calm true (Bracket ∷ s) = Unit {0}
 Calm true (Conditional ∷ s) = ⊥
 
--- where the `if` of the text opens none that of the printed text does not either
+-- where the `if` of the printed text opens one, that of the text does
 abbrev pub Fresher : Bool → Bool → Type 0
+Fresher true ft = Unit {0}
 Fresher false true = ⊥
-Fresher fu ft = Unit {0}
+Fresher false false = Unit {0}
 
--- what a list needs that may begin with `if`
-abbrev pub Free : Bool → Bool → List Open → Type 0
-Free true f s = Calm f s
-Free false f s = Unit {0}
-
-abbrev pub Fits : Bool → Bool → Bool → List Open → Type 0
-Fits true fu ft st = Fresher fu ft × Calm ft st
-Fits false fu ft st = Unit {0}
-
-pub fits_free : (o fu ft : Bool) (st : List Open) → Fits o fu ft st → Free o ft st
-fits_free true fu ft st h = h.1
-fits_free false fu ft st h = tt
-
-pub free_false : (o : Bool) (s : List Open) → Free o false s
-free_false true s = tt
-free_false false s = tt
-
-pub fits_false : (o : Bool) (s : List Open) → Fits o false false s
-fits_false true s = (tt, tt)
-fits_false false s = tt
+-- the items after a text that begins with `if`, or not: its `endif` takes one away
+abbrev pub landed : Bool → Bool → List Open → List Open
+landed true f s = ended (after f s IfWord)
+landed false f s = s
 
 -- both leave the items as they were, and the first opens no more at once; neither begins with `if`
 pub record Strong (us ts : List Class) : Type 0 where
@@ -98,11 +83,12 @@ pub record Strong (us ts : List Class) : Type 0 where
   pub back_t : (f : Bool) (s : List Open) → items_after f s ts ≡ s
   pub low : (d : ℕ) (fu ft : Bool) (su st : List Open) → length su ≤ length st + d → Lower d fu ft su st us ts
 
--- likewise, where the first may begin with `if`, and the other may where o is true
-pub record Over (o : Bool) (us ts : List Class) : Type 0 where
+-- likewise, where both may begin with `if`
+pub record Over (us ts : List Class) : Type 0 where
+  pub begins : Bool
   pub back_u : (f : Bool) (s : List Open) → Calm f s → items_after f s us ≡ s
-  pub back_t : (f : Bool) (s : List Open) → Free o f s → items_after f s ts ≡ s
-  pub low : (d : ℕ) (fu ft : Bool) (su st : List Open) → Calm fu su → Fits o fu ft st → length su ≤ length st + d → Lower d fu ft su st us ts
+  pub back_t : (f : Bool) (s : List Open) → items_after f s ts ≡ landed begins f s
+  pub low : (d : ℕ) (fu ft : Bool) (su st : List Open) → Calm fu su → Fresher fu ft → length su ≤ length st + d → length su ≤ length (landed begins ft st) + d → Lower d fu ft su st us ts
 
 -- likewise, behind an opening bracket and through the closing one
 pub record Inside (g : Bool) (us ts : List Class) : Type 0 where
@@ -167,62 +153,70 @@ strong_then {a} {x} {b} {y} h k = record {
   low = λ d fu ft su st j. lower_then d fu ft su st a x b y (h.low d fu ft su st j) (k.low d (fresh_after fu a) (fresh_after ft x) (items_after fu su a) (items_after ft st x) (lengths d (h.back_u fu su) (h.back_t ft st) j));
 }
 
-pub over_strong : (o : Bool) {us ts : List Class} → Strong us ts → Over o us ts
-over_strong o h = record { back_u = λ f s c. h.back_u f s; back_t = λ f s c. h.back_t f s; low = λ d fu ft su st c e j. h.low d fu ft su st j }
+pub over_strong : {us ts : List Class} → Strong us ts → Over us ts
+over_strong h = record { begins = false; back_u = λ f s c. h.back_u f s; back_t = h.back_t; low = λ d fu ft su st c e j i. h.low d fu ft su st j }
 
-pub over_then : {o : Bool} {a x b y : List Class} → Over o a x → Strong b y → Over o (a ++ b) (x ++ y)
-over_then {o} {a} {x} {b} {y} h k = record {
+pub over_then : {a x b y : List Class} → Over a x → Strong b y → Over (a ++ b) (x ++ y)
+over_then {a} {x} {b} {y} h k = record {
+  begins = h.begins;
   back_u = λ f s c. items_append f s a b ∙ k.back_u (fresh_after f a) (items_after f s a) ∙ h.back_u f s c;
-  back_t = λ f s c. items_append f s x y ∙ k.back_t (fresh_after f x) (items_after f s x) ∙ h.back_t f s c;
-  low = λ d fu ft su st c e j. lower_then d fu ft su st a x b y (h.low d fu ft su st c e j)
-      (k.low d (fresh_after fu a) (fresh_after ft x) (items_after fu su a) (items_after ft st x) (lengths d (h.back_u fu su c) (h.back_t ft st (fits_free o fu ft st e)) j));
+  back_t = λ f s. items_append f s x y ∙ k.back_t (fresh_after f x) (items_after f s x) ∙ h.back_t f s;
+  low = λ d fu ft su st c e j i. lower_then d fu ft su st a x b y (h.low d fu ft su st c e j i)
+      (k.low d (fresh_after fu a) (fresh_after ft x) (items_after fu su a) (items_after ft st x) (lengths d (h.back_u fu su c) (h.back_t ft st) i));
 }
+
+pub landed_later : (b : Bool) (s : List Open) → landed b false s ≡ s
+landed_later true s = refl
+landed_later false s = refl
 
 calm_word : (c : Class) (s : List Open) → Word c → Calm (begins_statement c) s
 calm_word c s w = subst (λ z. Calm z s) (sym w.1) tt
 
-free_word : (o : Bool) (c : Class) (s : List Open) → Word c → Free o (begins_statement c) s
-free_word o c s w = subst (λ z. Free o z s) (sym w.1) (free_false o s)
+landed_word : (k : Class) (b : Bool) (s : List Open) → Word k → landed b (begins_statement k) s ≡ s
+landed_word k b s v = ap (λ z. landed b z s) v.1 ∙ landed_later b s
 
-fits_word : (o : Bool) (c k : Class) (s : List Open) → Word c → Word k → Fits o (begins_statement c) (begins_statement k) s
-fits_word o c k s w v = subst (λ z. Fits o z (begins_statement k) s) (sym w.1) (subst (λ z. Fits o false z s) (sym v.1) (fits_false o s))
+fresher_word : (c k : Class) → Word c → Word k → Fresher (begins_statement c) (begins_statement k)
+fresher_word c k w v = subst (λ z. Fresher z (begins_statement k)) (sym w.1) (subst (λ z. Fresher false z) (sym v.1) tt)
 
 -- a word before what may begin with `if`
-pub word_over : {o : Bool} (c k : Class) {us ts : List Class} → Word c → Word k → Over o us ts → Strong (c ∷ us) (k ∷ ts)
-word_over {o} c k {us} {ts} w v h = record {
+pub word_over : (c k : Class) {us ts : List Class} → Word c → Word k → Over us ts → Strong (c ∷ us) (k ∷ ts)
+word_over c k {us} {ts} w v h = record {
   back_u = λ f s. h.back_u (begins_statement c) (after f s c) (calm_word c (after f s c) w) ∙ w.0 f s;
-  back_t = λ f s. h.back_t (begins_statement k) (after f s k) (free_word o k (after f s k) v) ∙ v.0 f s;
-  low = λ d fu ft su st j n l. (at_most d su st j l.0, h.low d (begins_statement c) (begins_statement k) (after fu su c) (after ft st k) (calm_word c (after fu su c) w) (fits_word o c k (after ft st k) w v) (lengths d (w.0 fu su) (v.0 ft st) j) n l.1);
+  back_t = λ f s. h.back_t (begins_statement k) (after f s k) ∙ landed_word k h.begins (after f s k) v ∙ v.0 f s;
+  low = λ d fu ft su st j n l. let i = lengths d (w.0 fu su) (v.0 ft st) j in (
+    at_most d su st j l.0,
+    h.low d (begins_statement c) (begins_statement k) (after fu su c) (after ft st k) (calm_word c (after fu su c) w) (fresher_word c k w v) i (lengths d refl (landed_word k h.begins (after ft st k) v) i) n l.1,
+  );
 }
 
 calm_bracket : (g : Bool) (s : List Open) → Calm g (Bracket ∷ s)
 calm_bracket true s = tt
 calm_bracket false s = tt
 
-free_bracket : (o g : Bool) (s : List Open) → Free o g (Bracket ∷ s)
-free_bracket true g s = calm_bracket g s
-free_bracket false g s = tt
+landed_bracket : (b g : Bool) (s : List Open) → landed b g (Bracket ∷ s) ≡ Bracket ∷ s
+landed_bracket true true s = refl
+landed_bracket true false s = refl
+landed_bracket false g s = refl
 
 fresher_same : (g : Bool) → Fresher g g
 fresher_same true = tt
 fresher_same false = tt
 
-fits_bracket : (o g : Bool) (s : List Open) → Fits o g g (Bracket ∷ s)
-fits_bracket true g s = (fresher_same g, calm_bracket g s)
-fits_bracket false g s = tt
-
 -- through the closing bracket
-pub inside_over : {o : Bool} (g : Bool) (c : Class) {us ts : List Class} → Closing c → Over o us ts → Inside g (us ++ (c ∷ [])) (ts ++ (c ∷ []))
-inside_over {o} g c {us} {ts} e h = record {
+pub inside_over : (g : Bool) (c : Class) {us ts : List Class} → Closing c → Over us ts → Inside g (us ++ (c ∷ [])) (ts ++ (c ∷ []))
+inside_over g c {us} {ts} e h = record {
   back_u = λ s. items_append g (Bracket ∷ s) us (c ∷ []) ∙ e (fresh_after g us) (items_after g (Bracket ∷ s) us) ∙ ap closed (h.back_u g (Bracket ∷ s) (calm_bracket g s));
-  back_t = λ s. items_append g (Bracket ∷ s) ts (c ∷ []) ∙ e (fresh_after g ts) (items_after g (Bracket ∷ s) ts) ∙ ap closed (h.back_t g (Bracket ∷ s) (free_bracket o g s));
-  low = λ d su st j. lower_then d g g (Bracket ∷ su) (Bracket ∷ st) us ts (c ∷ []) (c ∷ []) (h.low d g g (Bracket ∷ su) (Bracket ∷ st) (calm_bracket g su) (fits_bracket o g st) (one_more d su st Bracket j))
+  back_t = λ s. items_append g (Bracket ∷ s) ts (c ∷ []) ∙ e (fresh_after g ts) (items_after g (Bracket ∷ s) ts) ∙ ap closed (left s);
+  low = λ d su st j. let i = one_more d su st Bracket j in
+      lower_then d g g (Bracket ∷ su) (Bracket ∷ st) us ts (c ∷ []) (c ∷ []) (h.low d g g (Bracket ∷ su) (Bracket ∷ st) (calm_bracket g su) (fresher_same g) i (lengths d {su = Bracket ∷ su} refl (landed_bracket h.begins g st) i))
       (λ n l. (
-        at_most d (items_after g (Bracket ∷ su) us) (items_after g (Bracket ∷ st) ts) (lengths d (h.back_u g (Bracket ∷ su) (calm_bracket g su)) (h.back_t g (Bracket ∷ st) (free_bracket o g st)) (one_more d su st Bracket j)) l.0,
+        at_most d (items_after g (Bracket ∷ su) us) (items_after g (Bracket ∷ st) ts) (lengths d (h.back_u g (Bracket ∷ su) (calm_bracket g su)) (left st) i) l.0,
         at_most d (after (fresh_after g us) (items_after g (Bracket ∷ su) us) c) (after (fresh_after g ts) (items_after g (Bracket ∷ st) ts) c)
-            (lengths d (e (fresh_after g us) (items_after g (Bracket ∷ su) us) ∙ ap closed (h.back_u g (Bracket ∷ su) (calm_bracket g su))) (e (fresh_after g ts) (items_after g (Bracket ∷ st) ts) ∙ ap closed (h.back_t g (Bracket ∷ st) (free_bracket o g st))) j) l.1,
+            (lengths d (e (fresh_after g us) (items_after g (Bracket ∷ su) us) ∙ ap closed (h.back_u g (Bracket ∷ su) (calm_bracket g su))) (e (fresh_after g ts) (items_after g (Bracket ∷ st) ts) ∙ ap closed (left st)) j) l.1,
       ));
-}
+} where
+  left : (s : List Open) → items_after g (Bracket ∷ s) ts ≡ Bracket ∷ s
+  left s = h.back_t g (Bracket ∷ s) ∙ landed_bracket h.begins g s
 
 pub round_inside : {us ts : List Class} → Inside false us ts → Strong (OpenRound ∷ us) (OpenRound ∷ ts)
 round_inside h = record { back_u = λ f s. h.back_u s; back_t = λ f s. h.back_t s; low = λ d fu ft su st j n l. (at_most d su st j l.0, h.low d su st j n l.1) }
@@ -233,17 +227,18 @@ brace_inside h = record { back_u = λ f s. h.back_u s; back_t = λ f s. h.back_t
 closing_round : Closing CloseRound
 closing_round f s = refl
 
-fits_inner : (o fu : Bool) (s : List Open) → Fits o fu false (Bracket ∷ s)
-fits_inner true true s = (tt, tt)
-fits_inner true false s = (tt, tt)
-fits_inner false fu s = tt
+fresher_inner : (fu : Bool) → Fresher fu false
+fresher_inner true = tt
+fresher_inner false = tt
 
 -- brackets that the printed text leaves out
-pub over_bare : {o : Bool} (p : Bool) {us ts : List Class} → Over o us ts → Over p us (OpenRound ∷ (ts ++ (CloseRound ∷ [])))
-over_bare {o} p {us} {ts} h = record {
+pub over_bare : {us ts : List Class} → Over us ts → Over us (OpenRound ∷ (ts ++ (CloseRound ∷ [])))
+over_bare {us} {ts} h = record {
+  begins = false;
   back_u = h.back_u;
-  back_t = λ f s c. (inside_over false CloseRound closing_round h).back_t s;
-  low = λ d fu ft su st c e j n l. h.low d fu false su (Bracket ∷ st) c (fits_inner o fu st) (omega (arith, j)) n (below_front n false (Bracket ∷ st) ts (CloseRound ∷ []) l.1);
+  back_t = λ f s. (inside_over false CloseRound closing_round h).back_t s;
+  low = λ d fu ft su st c e j i n l. let k : length su ≤ length (Bracket ∷ st) + d = omega (arith, j) in
+      h.low d fu false su (Bracket ∷ st) c (fresher_inner fu) k (lengths d {su = su} refl (landed_bracket h.begins false st) k) n (below_front n false (Bracket ∷ st) ts (CloseRound ∷ []) l.1);
 }
 
 -- conditional expressions
@@ -270,17 +265,19 @@ if_length d true false su st e j = omega (arith, j)
 if_length d false false su st e j = omega (arith, j)
 if_length d false true su st e j = absurd e
 
-pub if_over : {o : Bool} {a x b y : List Class} → Over o a x → Ender b y → Over true (IfWord ∷ (a ++ b)) (IfWord ∷ (x ++ y))
-if_over {o} {a} {x} {b} {y} h k = record {
+pub if_over : {a x b y : List Class} → Over a x → Ender b y → Over (IfWord ∷ (a ++ b)) (IfWord ∷ (x ++ y))
+if_over {a} {x} {b} {y} h k = record {
+  begins = true;
   back_u = λ f s c. items_append false (after f s IfWord) a b ∙ k.back_u (fresh_after false a) (items_after false (after f s IfWord) a) ∙ ap ended (h.back_u false (after f s IfWord) tt) ∙ if_back f s c;
-  back_t = λ f s c. items_append false (after f s IfWord) x y ∙ k.back_t (fresh_after false x) (items_after false (after f s IfWord) x) ∙ ap ended (h.back_t false (after f s IfWord) (free_false o (after f s IfWord))) ∙ if_back f s c;
-  low = λ d fu ft su st c e j n l. let i = if_length d fu ft su st e.0 j in
+  back_t = λ f s. items_append false (after f s IfWord) x y ∙ k.back_t (fresh_after false x) (items_after false (after f s IfWord) x) ∙ ap ended (left (after f s IfWord));
+  low = λ d fu ft su st c e j i n l. let m = if_length d fu ft su st e j in
       let bu = h.back_u false (after fu su IfWord) tt in
-      let bt = h.back_t false (after ft st IfWord) (free_false o (after ft st IfWord)) in (
+      let bt = left (after ft st IfWord) in (
         at_most d su st j l.0,
-        lower_then d false false (after fu su IfWord) (after ft st IfWord) a x b y (h.low d false false (after fu su IfWord) (after ft st IfWord) tt (fits_false o (after ft st IfWord)) i)
-            (k.low d (fresh_after false a) (fresh_after false x) (items_after false (after fu su IfWord) a) (items_after false (after ft st IfWord) x)
-            (lengths d bu bt i)
-            (lengths d (ap ended bu ∙ if_back fu su c) (ap ended bt ∙ if_back ft st e.1) j)) n l.1,
+        lower_then d false false (after fu su IfWord) (after ft st IfWord) a x b y (h.low d false false (after fu su IfWord) (after ft st IfWord) tt tt m (lengths d refl (landed_later h.begins (after ft st IfWord)) m))
+            (k.low d (fresh_after false a) (fresh_after false x) (items_after false (after fu su IfWord) a) (items_after false (after ft st IfWord) x) (lengths d bu bt m)
+            (lengths d {vt = ended (items_after false (after ft st IfWord) x)} (ap ended bu ∙ if_back fu su c) (ap ended bt) i)) n l.1,
       );
-}
+} where
+  left : (s : List Open) → items_after false s x ≡ s
+  left s = h.back_t false s ∙ landed_later h.begins s

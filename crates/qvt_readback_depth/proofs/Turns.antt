@@ -6,7 +6,7 @@ use Rattle.qvt_language.specs.declared.class.Class.TheVariants.{CloseBrace, Semi
 use Rattle.qvt_parser_tokens.specs.declared.depth.Open.{Open}
 use Rattle.qvt_parser_tokens.specs.declared.depth.Open.TheVariants.{Bracket, Conditional}
 use Rattle.qvt_parser_tokens.specs.Depth.{closed, ended, after}
-use Rattle.qvt_readback_depth.proofs.Runs.{items_after, fresh_after, Lower, items_append, fresh_append, below_front, lower_then, lengths, at_most, free_false, fits_false, Strong, Over, Inside, Ender}
+use Rattle.qvt_readback_depth.proofs.Runs.{items_after, fresh_after, Lower, items_append, fresh_append, below_front, lower_then, lengths, at_most, landed, landed_later, Over, Inside}
 
 -- conditionals over a bracket over the base
 abbrev pub Rests : List Open → List Open → Type 0
@@ -56,12 +56,16 @@ turns_nil = record { back_u = λ s. refl; fresh_u = refl; back_t = λ f base s r
 pub turns_empty : Turns [] (Semicolon ∷ [])
 turns_empty = record { back_u = λ s. refl; fresh_u = refl; back_t = λ f base s r. r; low = λ d ft su base st j r n l. at_most d (Bracket ∷ su) st (under d su base st j r) l.0 }
 
-pub turns_over : {us ts : List Class} → Over false us ts → Ends us → Turns us ts
+rests_landed : (b f : Bool) (base s : List Open) → Rests base s → Rests base (landed b f s)
+rests_landed true f base s r = rests_ended base (after f s IfWord) (rests_if f base s r)
+rests_landed false f base s r = r
+
+pub turns_over : {us ts : List Class} → Over us ts → Ends us → Turns us ts
 turns_over {us} {ts} h e = record {
   back_u = λ s. h.back_u true (Bracket ∷ s) tt;
   fresh_u = e true;
-  back_t = λ f base s r. subst (Rests base) (sym (h.back_t f s tt)) r;
-  low = λ d ft su base st j r. h.low d true ft (Bracket ∷ su) st tt tt (under d su base st j r);
+  back_t = λ f base s r. subst (Rests base) (sym (h.back_t f s)) (rests_landed h.begins f base s r);
+  low = λ d ft su base st j r. h.low d true ft (Bracket ∷ su) st tt tt (under d su base st j r) (under d su base (landed h.begins ft st) j (rests_landed h.begins ft base st r));
 }
 
 pub turns_then : {a x b y : List Class} → Turns a x → Turns b y → Turns (a ++ b) (x ++ y)
@@ -98,41 +102,14 @@ pub leaves_endif : Leaves (EndifWord ∷ [])
 leaves_endif f base s r = rests_ended base s r
 
 -- a conditional statement
-pub turns_if : {o : Bool} {us ts : List Class} (e : List Class) → Over o us ts → Ends us → Leaves e → Turns (IfWord ∷ us) (IfWord ∷ (ts ++ e))
-turns_if {o} {us} {ts} e h g k = record {
+pub turns_if : {us ts : List Class} (e : List Class) → Over us ts → Ends us → Leaves e → Turns (IfWord ∷ us) (IfWord ∷ (ts ++ e))
+turns_if {us} {ts} e h g k = record {
   back_u = λ s. h.back_u false (Bracket ∷ s) tt;
   fresh_u = g false;
   back_t = λ f base s r. subst (Rests base) (sym (items_append false (after f s IfWord) ts e))
-      (k (fresh_after false ts) base (items_after false (after f s IfWord) ts) (subst (Rests base) (sym (h.back_t false (after f s IfWord) (free_false o (after f s IfWord)))) (rests_if f base s r)));
-  low = λ d ft su base st j r n l. (
+      (k (fresh_after false ts) base (items_after false (after f s IfWord) ts) (subst (Rests base) (sym (h.back_t false (after f s IfWord) ∙ landed_later h.begins (after f s IfWord))) (rests_if f base s r)));
+  low = λ d ft su base st j r n l. let i = under d su base (after ft st IfWord) j (rests_if ft base st r) in (
     at_most d (Bracket ∷ su) st (under d su base st j r) l.0,
-    h.low d false false (Bracket ∷ su) (after ft st IfWord) tt (fits_false o (after ft st IfWord)) (under d su base (after ft st IfWord) j (rests_if ft base st r)) n (below_front n false (after ft st IfWord) ts e l.1),
+    h.low d false false (Bracket ∷ su) (after ft st IfWord) tt tt i (lengths d {su = Bracket ∷ su} refl (landed_later h.begins (after ft st IfWord)) i) n (below_front n false (after ft st IfWord) ts e l.1),
   );
-}
-
-pub ender_more : {a x b y : List Class} → Ender a x → Strong b y → Ender (a ++ b) (x ++ y)
-ender_more {a} {x} {b} {y} h k = record {
-  back_u = λ f s. items_append f s a b ∙ k.back_u (fresh_after f a) (items_after f s a) ∙ h.back_u f s;
-  back_t = λ f s. items_append f s x y ∙ k.back_t (fresh_after f x) (items_after f s x) ∙ h.back_t f s;
-  low = λ d fu ft su st j i. lower_then d fu ft su st a x b y (h.low d fu ft su st j i)
-      (k.low d (fresh_after fu a) (fresh_after ft x) (items_after fu su a) (items_after ft st x) (lengths d (h.back_u fu su) (h.back_t ft st) i));
-}
-
--- a statement that begins with a conditional expression
-pub turns_choice : {o : Bool} {a x b y : List Class} → Over o a x → Ender b y → Ends b → Turns (IfWord ∷ (a ++ b)) (IfWord ∷ (x ++ y))
-turns_choice {o} {a} {x} {b} {y} h k e = record {
-  back_u = λ s. items_append false (Bracket ∷ s) a b ∙ k.back_u (fresh_after false a) (items_after false (Bracket ∷ s) a) ∙ ap ended (h.back_u false (Bracket ∷ s) tt);
-  fresh_u = ends_append a b e false;
-  back_t = λ f base s r. subst (Rests base) (sym (items_append false (after f s IfWord) x y ∙ k.back_t (fresh_after false x) (items_after false (after f s IfWord) x) ∙ ap ended (h.back_t false (after f s IfWord) (free_false o (after f s IfWord)))))
-      (rests_ended base (after f s IfWord) (rests_if f base s r));
-  low = λ d ft su base st j r n l. let vt = after ft st IfWord in
-      let q = rests_if ft base st r in
-      let i = under d su base vt j q in
-      let bu = h.back_u false (Bracket ∷ su) tt in
-      let bt = h.back_t false vt (free_false o vt) in (
-        at_most d (Bracket ∷ su) st (under d su base st j r) l.0,
-        lower_then d false false (Bracket ∷ su) vt a x b y (h.low d false false (Bracket ∷ su) vt tt (fits_false o vt) i)
-            (k.low d (fresh_after false a) (fresh_after false x) (items_after false (Bracket ∷ su) a) (items_after false vt x) (lengths d bu bt i)
-            (lengths d (ap ended bu) (ap ended bt) (under d su base (ended vt) j (rests_ended base vt q)))) n l.1,
-      );
 }

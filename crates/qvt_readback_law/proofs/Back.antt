@@ -7,7 +7,6 @@ use Rattle.qvt_language.specs.Tokens.{Tok}
 use Rattle.qvt_language.specs.Readers.{nowhere}
 use Rattle.qvt_language.specs.Module.{with_end}
 use Rattle.qvt_language_rows.specs.Language.{Reads}
-use Rattle.qvt_language_rows.proofs.Answers.{to_rows, of_rows}
 use Rattle.qvt_parser_tokens.specs.Depth.{deep}
 use Rattle.qvt_parsed.proofs.Ends.{read_nowhere}
 use Rattle.qvt_parsed.specs.Parsing.{IsTransformation, IsTooDeep}
@@ -47,10 +46,10 @@ record Again (m : ModuleTerm) : Type 0 where
 again : PrintedIsLexed → PrintedIsRead → (ts : List Tok) (m : ModuleTerm) → AllTold ts → Reads ts (with_end nowhere m) → IsPrintable m → Again m
 again lexes reads ts m told rd p =
     let n = with_end nowhere m in
-    let printed : HasSpelled (print_text n) (all_spelled (module_pieces n)) = lexes.lexed ts n told (of_rows ts n rd) in
+    let printed : HasSpelled (print_text n) (all_spelled (module_pieces n)) = lexes.lexed ts n told rd in
     let pieces : HasSpelled (print_text n) (all_spelled (module_pieces m)) = subst (λ z. HasSpelled (print_text n) (all_spelled z)) (pieces_without nowhere m) printed in
     let s : HasSpelled (print_text m) (all_spelled (module_pieces m)) = subst (λ z. HasSpelled z (all_spelled (module_pieces m))) (text_without nowhere m) pieces in
-    let back : ReadsShape s.tokens n = reads ts s.tokens n (of_rows ts n rd) p (s.same ∙ ap all_spelled (sym (pieces_without nowhere m))) in
+    let back : ReadsShape s.tokens n = reads ts s.tokens n rd p (s.same ∙ ap all_spelled (sym (pieces_without nowhere m))) in
     record { spelled = s; read = record { tree = back.tree; reads = back.reads; same = back.same ∙ shape_without nowhere m } }
 
 -- where the printed tokens are not too deep
@@ -58,8 +57,7 @@ shallow : IsParsing → OneText → (ts : List Tok) (m : ModuleTerm) (a : Again 
 shallow parsing one ts m a d =
     let end = a.spelled.end in
     let tree = a.read.tree in
-    let rows = to_rows a.spelled.tokens tree a.read.reads in
-    let reads = subst (Reads a.spelled.tokens) (read_nowhere a.spelled.tokens tree rows) rows in
+    let reads = subst (Reads a.spelled.tokens) (read_nowhere a.spelled.tokens tree a.read.reads) a.read.reads in
     let t : IsTransformation (print_text m) (with_end end tree) = record { tokens = a.spelled.tokens; end = end; has = a.spelled.has; shallow = d; reads = reads; ends = refl } in
     let same : shape (with_end end tree) ≡ shape m = shape_without end tree ∙ a.read.same in
     subst (IsReadBack ts m) (sym (parsing.read (print_text m) (with_end end tree) t)) (same, one (with_end end tree) m same)
@@ -80,7 +78,7 @@ read_back parsing lexes reads one depth ts m told none rd p = by (deep a.spelled
   same = a.spelled.same ∙ ap all_spelled (sym (pieces_without nowhere m))
 
   fits : (most a.spelled.tokens ≤ 64) ⊎ HasFullUnit 64 ts m.units
-  fits = depth.unit 64 ts a.spelled.tokens (with_end nowhere m) (of_rows ts (with_end nowhere m) rd) same ((depth.limit ts).0 none)
+  fits = depth.unit 64 ts a.spelled.tokens (with_end nowhere m) rd same ((depth.limit ts).0 none)
 
   too_deep : (place : Place) → deep a.spelled.tokens ≡ Some place → (most a.spelled.tokens ≤ 64) ⊎ HasFullUnit 64 ts m.units → IsReadBack ts m (parsed (print_text m))
   too_deep place d (inl few) = shallow parsing one ts m a ((depth.limit a.spelled.tokens).1 few)

@@ -8,7 +8,7 @@ use Rattle.qvt_tree_types.specs.Module.{ModuleTerm}
 use Rattle.qvt_tree_types.specs.declared.module.ModelType.{ModelType}
 use Rattle.qvt_language.specs.Tokens.{Tok}
 use Rattle.qvt_language.specs.declared.class.Class.TheVariants as class
-use Rattle.qvt_language.specs.Module.{Reads}
+use Rattle.qvt_language_rows.specs.Language.{Reads}
 use Rattle.qvt_parser_tokens.specs.Said.{said}
 use Rattle.qvt_printer_layout.specs.declared.piece.Piece.{Piece}
 use Rattle.qvt_printer_layout.specs.declared.piece.Piece.TheVariants.{Plain}
@@ -25,7 +25,6 @@ use Rattle.qvt_readback_tokens.proofs.Told.{all_told}
 use Rattle.qvt_readback_tokens.proofs.Relexed.{bare_said, Lexed, relexed}
 use Rattle.qvt_language_rows.specs.Lists.{AllOf}
 use Rattle.qvt_language_rows.proofs.Every.{every_module}
-use Rattle.qvt_language_rows.proofs.Answers.{to_rows}
 use Rattle.qvt_readback_tokens.specs.Told.{IsTold}
 use Rattle.qvt_readback_tokens.proofs.Made.{module_is}
 use Rattle.qvt_readback_tokens.proofs.Makers.{makers}
@@ -78,9 +77,8 @@ each_told (t ∷ ts) h = (h.0, each_told ts h.1)
 lexed_again : (ts : List Tok) (m : ModuleTerm) → AllTold ts → Reads ts m → HasSpelled (print_text m) (all_spelled (module_pieces m))
 unfolding print_text
 lexed_again ts m told reads =
-    let row = to_rows ts m reads in
-    let every = every_module makers row.nesting in
-    let whole = every.all ts m (each_told ts told) row.is in
+    let every = every_module makers reads.nesting in
+    let whole = every.all ts m (each_told ts told) reads.is in
     let ps = module_pieces m in
     subst (λ z. HasSpelled z (all_spelled ps)) (sym (laid_out_is ps))
     (has_spelled (tail 0 None ps) (all_spelled ps) (pieces_begin m) (relexed ps Free 0 None (module_is m whole)))

@@ -3,7 +3,7 @@ use Rattle.std.specs.Prelude.{◌≡◌, ℕ, List, map}
 use Rattle.qvt_base.specs.declared.numbers.Place.{Place}
 use Rattle.qvt_tree_types.specs.Module.{ModuleTerm}
 use Rattle.qvt_language.specs.Tokens.{Tok}
-use Rattle.qvt_language.specs.Module.{Reads}
+use Rattle.qvt_language_rows.specs.Language.{Reads}
 use Rattle.qvt_parser_tokens.specs.Text.{HasTokens}
 use Rattle.qvt_printer.specs.Units.{module_pieces}
 use Rattle.qvt_printer.specs.PrintText.{print_text}

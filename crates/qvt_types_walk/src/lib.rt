@@ -2,7 +2,9 @@
 //! is settled by their types.
 #![tactic(auto)]
 
+pub mod blocks;
 pub mod expressions;
-pub mod objects;
+mod inside;
+mod knot;
+mod levels;
 pub mod statements;
-pub mod steps;

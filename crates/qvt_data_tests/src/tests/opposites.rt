@@ -75,6 +75,42 @@ fn lists_are_put_last_at_once(rt: HostRuntime) -> Result<(), Fail> {
     )
 }
 
+/// A list that is written takes the place of the old one or comes after it: one change, with one
+/// refusal that leaves the store as it was.
+#[test]
+fn lists_are_written(rt: HostRuntime) -> Result<(), Fail> {
+    let alloc = rt.alloc();
+    run(
+        &rt,
+        alloc,
+        BOXES,
+        "Box Box Item Item Item@1 Box@2 Item@2",
+        &[
+            "0.parts put 2 3 2 = done; 0.parts 2 3; 2.owner 0; 2 in 0; 3.owner 0; 3 in 0",
+            "1.extras add 3 = done; 0.parts 2; 1.extras 3; 2.owner 0; 2 in 0; 3.holder 1; 3 in 1",
+            "0.parts add 3 2 = done; 0.parts 2 3; 2.owner 0; 2 in 0; 3.owner 0; 3 in 0",
+            "0.parts add = done; 0.parts 2 3; 2.owner 0; 2 in 0; 3.owner 0; 3 in 0",
+            "0.parts put 3 4 = CrossModel; 0.parts 2 3; 2.owner 0; 2 in 0; 3.owner 0; 3 in 0",
+            "2.owner put 0 1 = TooMany; 0.parts 2 3; 2.owner 0; 2 in 0; 3.owner 0; 3 in 0",
+            "5.parts put 6 = ReadOnly; 0.parts 2 3; 2.owner 0; 2 in 0; 3.owner 0; 3 in 0",
+            "0.parts put = done",
+        ],
+    )?;
+    run(
+        &rt,
+        alloc,
+        TREES,
+        "N N",
+        &[
+            "0.bag put 1 1 = done; 0.bag 1 1",
+            "0.bag add 1 = TooMany; 0.bag 1 1",
+            "0.refs add 1 1 0 1 = done; 0.refs 1 0; 0.bag 1 1",
+            "0.kids put 1 = done; 0.kids 1; 0.refs 1 0; 0.bag 1 1; 1.up 0; 1 in 0",
+            "1.part add 0 = ContainmentCycle; 0.kids 1; 0.refs 1 0; 0.bag 1 1; 1.up 0; 1 in 0",
+        ],
+    )
+}
+
 #[test]
 fn opposites_follow_each_other(rt: HostRuntime) -> Result<(), Fail> {
     let alloc = rt.alloc();

@@ -8,6 +8,7 @@ use qvt_meta::meta::read_meta;
 use qvt_metas::metas::Metas;
 use qvt_store::extent::{Extent, ExtentList};
 use qvt_store::fault::StoreFault;
+use qvt_store::op::SetOp;
 use qvt_store::store::Store;
 use qvt_value::value::{Value, Values};
 use std::alloc::Global;
@@ -130,6 +131,20 @@ fn extended(
     Ok(store.extend(object, feature, values.as_slice()))
 }
 
+fn written(
+    rt: &impl Abort,
+    alloc: Global,
+    store: &mut Store,
+    slot: &str,
+    op: SetOp,
+    words: &str,
+) -> Result<Result<(), StoreFault>, Fail> {
+    let (object, feature) = slot_of(rt, store, slot)?;
+    let values = values_of(alloc, words)?;
+    assert!(rt; can_assign(store, object, feature, values.as_slice()));
+    Ok(store.write(object, feature, op, values.as_slice()))
+}
+
 fn placed(
     rt: &impl Abort,
     alloc: Global,
@@ -144,7 +159,8 @@ fn placed(
 }
 
 /// A change is told as `SLOT := VALUES`, as `SLOT += VALUE`, as `SLOT ++ VALUES` where all are put
-/// last at once or, where it is placed, as `SLOT <- VALUES`.
+/// last at once, as `SLOT put VALUES` and `SLOT add VALUES` where it is written with a word or,
+/// where it is placed, as `SLOT <- VALUES`.
 fn changed(
     rt: &impl Abort,
     alloc: Global,
@@ -159,6 +175,12 @@ fn changed(
     }
     if let Some((slot, words)) = change.split_once(" ++") {
         return extended(rt, alloc, store, slot, words);
+    }
+    if let Some((slot, words)) = change.split_once(" put") {
+        return written(rt, alloc, store, slot, SetOp::Put, words);
+    }
+    if let Some((slot, words)) = change.split_once(" add") {
+        return written(rt, alloc, store, slot, SetOp::Add, words);
     }
     let (slot, word) = change.split_once(" += ").ok_or("a change")?;
     appended(rt, alloc, store, slot, word)

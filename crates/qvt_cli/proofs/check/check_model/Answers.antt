@@ -6,7 +6,7 @@ use Rattle.qvt_outcome.specs.Plans.{outcome_of}
 use Rattle.qvt_outcome.proofs.Chained.{stopped, stepped}
 use Rattle.qvt_outcome.proofs.Refused.{planned, planned_quiet}
 use Rattle.qvt_inputs.specs.Conforming.{model_read}
-use Rattle.qvt_cli.specs.Check.{after_metamodel, conforms}
+use Rattle.qvt_work.specs.Check.{after_metamodel, conforms}
 use Rattle.qvt_cli.proofs.check.check_model.Goals as goal
 
 pub returns-in-Err-clause-follows : goal.returns-in-Err-clause-follows

@@ -1,8 +1,8 @@
 use Rattle.std.proofs.Common.{Ok, Err, subst}
 use Rattle.qvt_metamodel.specs.Metamodels.{Metamodels}
-use Rattle.qvt_cli.specs.Metas.{no_metamodels, metamodel_read}
+use Rattle.qvt_work.specs.Metas.{no_metamodels, metamodel_read}
 use Rattle.qvt_outcome.specs.Plans.{outcome_of}
-use Rattle.qvt_cli.specs.Check.{check_of, after_metamodel}
+use Rattle.qvt_work.specs.Check.{check_of, after_metamodel}
 use Rattle.qvt_outcome.specs.Follows.{Follows}
 use Rattle.qvt_outcome.proofs.Chained.{stopped, chained}
 use Rattle.qvt_cli.proofs.check.perform_check.Goals as goal

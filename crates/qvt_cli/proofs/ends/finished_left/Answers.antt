@@ -1,4 +1,7 @@
-use Rattle.std.proofs.Common.{◌∙◌, ap, refl, sym}
+use Rattle.std.proofs.Common.{◌∙◌, ap, refl, sym, subst}
+use Rattle.std.specs.Prelude.{IfOk}
+use Rattle.qvt_store.specs.Contents.{Contents}
+use Rattle.qvt_outputs.specs.Conforming.{AreConforming}
 use Rattle.qvt_live_store.specs.Held.{contents_of}
 use Rattle.qvt_exec.specs.Finish.{finished_view}
 use Rattle.qvt_cli.proofs.Ending.{entries_left}
@@ -16,3 +19,7 @@ returns-clause-gives c = λ before is.
       };
       cost = refl;
     })
+
+pub returns-clause-conform : goal.returns-clause-conform
+returns-clause-conform c =
+    subst (λ (s : Contents). IfOk c.left_by.result (λ plan. AreConforming s c.args.job.now.outputs)) (c.as_store-2.ensures ∙ sym (ap contents_of c.in-Own.is)) c.left_by.ensures.conform

@@ -1,7 +1,7 @@
 use Rattle.qvt_meta.specs.MetaOf.{meta_of}
 use Rattle.qvt_metamodel.specs.declared.fault.MetaFault.TheVariants as meta
 use Rattle.qvt_outcome.specs.declared.refusal.Refusal.TheVariants as refusal
-use Rattle.qvt_cli.specs.Metas.{metas_in, with_metamodel}
+use Rattle.qvt_work.specs.Metas.{metas_in, with_metamodel}
 use Rattle.qvt_outcome.specs.Steps.{or_refused}
 use Rattle.qvt_outcome.proofs.Refused.{stops_by}
 use Rattle.qvt_cli.proofs.metas.add_bytes.Goals as goal

@@ -2,7 +2,7 @@ use Rattle.std.proofs.Common.{ap}
 use Rattle.qvt_metamodel.specs.declared.fault.MetasFault.TheVariants as metas
 use Rattle.qvt_outcome.specs.declared.refusal.Refusal.TheVariants as refusal
 use Rattle.qvt_outcome.specs.Steps.{or_refused}
-use Rattle.qvt_cli.specs.Metas.{with_metamodel}
+use Rattle.qvt_work.specs.Metas.{with_metamodel}
 use Rattle.qvt_cli.proofs.Faults.{same_metamodel, some_metamodel, named_metamodel}
 use Rattle.qvt_outcome.proofs.Refused.{stops_at}
 use Rattle.qvt_cli.proofs.metas.add_metamodel.Goals as goal

@@ -1,7 +1,7 @@
 use Rattle.std.proofs.Common.{ℕ, List, subst}
 use Rattle.qvt_outcome.specs.Steps.{Gives}
 use Rattle.qvt_outcome.specs.Chain.{step, read_step}
-use Rattle.qvt_cli.specs.Metas.{metamodel_read, metas_in}
+use Rattle.qvt_work.specs.Metas.{metamodel_read, metas_in}
 use Rattle.qvt_outcome.proofs.Chained.{stopped, stepped}
 use Rattle.qvt_cli.proofs.metas.read_metamodel.Goals as goal
 

@@ -2,7 +2,7 @@ use Rattle.std.proofs.Common.{◌∙◌, ap, sym, arith, subst}
 use Rattle.qvt_metamodel.specs.Metamodels.{Metamodels}
 use Rattle.qvt_outcome.specs.Chain.{folded}
 use Rattle.qvt_outcome.specs.Follows.{Follows}
-use Rattle.qvt_cli.specs.Metas.{metamodel_read, metamodels_read}
+use Rattle.qvt_work.specs.Metas.{metamodel_read, metamodels_read}
 use Rattle.qvt_program_inputs.specs.Law.{AreAllNamed}
 use Rattle.qvt_outcome.proofs.Folded.{fails, goes_on, ends}
 use Rattle.qvt_cli.proofs.metas.read_metamodels.Goals as goal

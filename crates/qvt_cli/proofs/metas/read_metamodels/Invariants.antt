@@ -2,7 +2,7 @@ use Rattle.std.proofs.Common.{◌≡◌, drop, None}
 use Rattle.qvt_metamodel.specs.Metamodels.{Metamodels}
 use Rattle.qvt_outcome.specs.Chain.{folded}
 use Rattle.qvt_outcome.specs.Follows.{Continues}
-use Rattle.qvt_cli.specs.Metas.{metamodel_read, metamodels_read}
+use Rattle.qvt_work.specs.Metas.{metamodel_read, metamodels_read}
 use Rattle.qvt_program_inputs.specs.Law.{AreAllNamed}
 use Rattle.qvt_cli.proofs.metas.read_metamodels.Given as goal
 

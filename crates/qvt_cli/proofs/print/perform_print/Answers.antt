@@ -4,7 +4,7 @@ use Rattle.std.proofs.Common.{[]}
 use Rattle.qvt_outcome.specs.Chain.{step}
 use Rattle.qvt_outcome.specs.Outcome.{done}
 use Rattle.qvt_outcome.specs.Plans.{outcome_of}
-use Rattle.qvt_cli.specs.Printing.{print_of, tree_read, printed}
+use Rattle.qvt_work.specs.Printing.{print_of, tree_read, printed}
 use Rattle.qvt_outcome.proofs.Chained.{stopped, stepped}
 use Rattle.qvt_outcome.proofs.Refused.{planned, planned_quiet}
 use Rattle.qvt_cli.proofs.print.perform_print.Goals as goal

@@ -2,8 +2,8 @@ use Rattle.std.proofs.Common.{ℕ, List, subst}
 use Rattle.qvt_outcome.specs.Steps.{Gives}
 use Rattle.qvt_tree_types.specs.Module.{module_view}
 use Rattle.qvt_outcome.specs.Chain.{step, read_step}
-use Rattle.qvt_cli.specs.Printing.{tree_read}
-use Rattle.qvt_cli.specs.Source.{tree_in}
+use Rattle.qvt_work.specs.Printing.{tree_read}
+use Rattle.qvt_work.specs.Source.{tree_in}
 use Rattle.qvt_outcome.proofs.Chained.{stopped, stepped}
 use Rattle.qvt_cli.proofs.print.read_tree.Goals as goal
 

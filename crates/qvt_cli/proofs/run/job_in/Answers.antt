@@ -1,6 +1,6 @@
 use Rattle.std.proofs.Common.{ap}
 use Rattle.qvt_job.specs.Job.{job_of}
-use Rattle.qvt_cli.specs.Run.{job_in}
+use Rattle.qvt_work.specs.Run.{job_in}
 use Rattle.qvt_job.specs.declared.job.JobFault.TheVariants as fault
 use Rattle.qvt_outcome.specs.Steps.{or_refused}
 use Rattle.qvt_outcome.specs.declared.refusal.Refusal.TheVariants as refusal

@@ -3,7 +3,7 @@ use Rattle.qvt_tree_types.specs.Module.{module_view}
 use Rattle.qvt_types.specs.Program.{program_view}
 use Rattle.qvt_job.specs.Parameters.{mismatch}
 use Rattle.qvt_typing.specs.Accepts.{accepts}
-use Rattle.qvt_cli.specs.Typing.{typed_in}
+use Rattle.qvt_work.specs.Typing.{typed_in}
 use Rattle.qvt_cli.proofs.Typings.{not_refused}
 use Rattle.qvt_cli.proofs.run.program_in.Goals as goal
 

@@ -1,7 +1,7 @@
 use Rattle.std.proofs.Common.{ℕ, List, subst}
 use Rattle.qvt_outcome.specs.Steps.{Gives}
 use Rattle.qvt_outcome.specs.Chain.{step, read_step}
-use Rattle.qvt_cli.specs.Run.{job_read, job_in}
+use Rattle.qvt_work.specs.Run.{job_read, job_in}
 use Rattle.qvt_job.specs.declared.job.Job.{Job}
 use Rattle.qvt_outcome.proofs.Chained.{stopped, stepped}
 use Rattle.qvt_cli.proofs.run.read_named_job.Goals as goal

@@ -2,7 +2,7 @@ use Rattle.std.proofs.Common.{ℕ, List, subst}
 use Rattle.qvt_outcome.specs.Steps.{Gives}
 use Rattle.qvt_outcome.specs.Chain.{step, read_step}
 use Rattle.qvt_types.specs.Program.{program_view}
-use Rattle.qvt_cli.specs.Run.{text_read, text_in}
+use Rattle.qvt_work.specs.Run.{text_read, text_in}
 use Rattle.qvt_outcome.proofs.Chained.{stopped, stepped}
 use Rattle.qvt_cli.proofs.run.read_text.Goals as goal
 

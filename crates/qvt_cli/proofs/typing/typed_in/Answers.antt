@@ -1,6 +1,6 @@
 use Rattle.qvt_tree_types.specs.Module.{module_view}
 use Rattle.qvt_typing.specs.Accepts.{accepts}
-use Rattle.qvt_cli.specs.Typing.{typed_in}
+use Rattle.qvt_work.specs.Typing.{typed_in}
 use Rattle.qvt_cli.proofs.Typings.{typing_stops}
 use Rattle.qvt_cli.proofs.typing.typed_in.Goals as goal
 

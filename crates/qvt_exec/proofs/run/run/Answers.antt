@@ -6,8 +6,8 @@ use Rattle.qvt_meaning.specs.Run.{finished, main_run}
 use Rattle.qvt_exec_answers.specs.Answering.{program_of}
 use Rattle.qvt_meaning.specs.Laws.{from_requests}
 use Rattle.qvt_exec.specs.Mains.{main_of, run_of}
-use Rattle.qvt_exec.proofs.Ends.{fits, same}
-use Rattle.qvt_exec.proofs.Keyed.{keyed, recorded}
+use Rattle.qvt_exec_finish.proofs.Ends.{fits, same}
+use Rattle.qvt_exec_finish.proofs.Keyed.{keyed, recorded}
 use Rattle.qvt_exec.proofs.run.run.Goals as goal
 
 pub behind_main-requires-clause-entries : goal.behind_main-requires-clause-entries

@@ -9,6 +9,6 @@ use Rattle.qvt_model.proofs.items.all_items.Given as goal
 
 abbrev pub invariant-loop-value : goal.invariant-loop-value
 invariant-loop-value l = record {
-  items : with_all l.items (all_items (datum_of l.metas l.places l.kind) (items_view (drop l.value-index l.value-items))) ≡ all_items (datum_of l.metas l.places l.kind) (items_view l.value-items);
+  items : with_all l.items (all_items (datum_of l.dictionary l.places l.kind) (items_view (drop l.value-index l.value-items))) ≡ all_items (datum_of l.dictionary l.places l.kind) (items_view l.value-items);
   plain : AllByRecursion IsPlainDatum l.items;
 }

@@ -9,6 +9,6 @@ use Rattle.qvt_model.proofs.objects.objects_of.Given as goal
 
 abbrev pub invariant-loop-item : goal.invariant-loop-item
 invariant-loop-item l = record {
-  objects : with_front l.objects (each_item (object_of l.metas l.metamodel l.places) (items_view (drop l.item-index l.item-items))) ≡ each_item (object_of l.metas l.metamodel l.places) (items_view l.item-items);
+  objects : with_front l.objects (each_item (object_of l.dictionary l.metamodel l.places) (items_view (drop l.item-index l.item-items))) ≡ each_item (object_of l.dictionary l.metamodel l.places) (items_view l.item-items);
   plain : AllByRecursion IsPlainObject l.objects;
 }

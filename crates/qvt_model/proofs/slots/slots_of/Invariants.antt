@@ -8,6 +8,6 @@ use Rattle.qvt_model.proofs.slots.slots_of.Given as goal
 
 abbrev pub invariant-loop-name : goal.invariant-loop-name
 invariant-loop-name l = record {
-  slots : with_front l.slots (slots_of l.metas l.places l.class l.id (members_view l.name-iterator)) ≡ slots_of l.metas l.places l.class l.id (members_view l.initial.name-iterator);
+  slots : with_front l.slots (slots_of l.dictionary l.places l.class l.id (members_view l.name-iterator)) ≡ slots_of l.dictionary l.places l.class l.id (members_view l.initial.name-iterator);
   plain : AllByRecursion IsPlainSlot l.slots;
 }

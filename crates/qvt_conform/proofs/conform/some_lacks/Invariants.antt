@@ -1,7 +1,0 @@
-use Rattle.std.proofs.Common.{◌≡◌, drop}
-use Rattle.std.specs.List.{list_any}
-use Rattle.qvt_conform.specs.Lacking.{lacks_link}
-use Rattle.qvt_conform.proofs.conform.some_lacks.Given as goal
-
-abbrev pub invariant-loop-item : goal.invariant-loop-item
-invariant-loop-item l = list_any (lacks_link l.links l.feature.0 l.place) (drop l.item-index l.items) ≡ list_any (lacks_link l.links l.feature.0 l.place) l.items

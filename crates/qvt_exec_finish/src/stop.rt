@@ -1,0 +1,22 @@
+//! What ends a run early.
+
+use qvt_base::list_fault::ListFault;
+use qvt_run_data::exit::End;
+
+/// Why a run is not finished: it ends with a fault or for want of fuel, or there was no memory for it.
+#[derive(Clone, Copy, Debug, PartialEq, Eq)]
+pub enum Stop {
+    Ends(End),
+    NoMemory,
+}
+
+impl From<ListFault> for Stop {
+    ghost use Rattle.std.specs.Prelude.{◌≡◌};
+    ghost use Rattle.qvt_exec_finish.specs.declared.stop.Stop.TheVariants.{NoMemory};
+
+    ghost from_gives = { λ _ stop. stop ≡ NoMemory };
+
+    fn from(_: ListFault) -> Stop {
+        Stop::NoMemory
+    }
+}

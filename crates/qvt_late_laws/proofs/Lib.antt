@@ -1,0 +1,4 @@
+pub mod Standing
+pub mod Carried
+pub mod Apart
+pub mod Left

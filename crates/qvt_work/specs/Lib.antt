@@ -1,0 +1,14 @@
+pub mod Words
+pub mod Source
+pub mod Metas
+pub mod Typing
+pub mod Ends
+pub mod Run
+pub mod Check
+pub mod Printing
+pub mod Work
+pub mod Runs
+pub mod Conforming
+pub mod Recorded
+pub mod Fuel
+pub mod Laws
