@@ -19,7 +19,7 @@ use qvt_exec_calls::numbers::no_unit;
 use qvt_exec_calls::units::{ReadyUnits, UnitCalls};
 use qvt_exec_state::state::RunState;
 use qvt_exec_state::steps::misfit;
-use qvt_exec_statements::nested::Nested;
+use qvt_exec_blocks::nested::Nested;
 use qvt_run_data::callee::{Callee, Way};
 use qvt_run_data::exit::Halt;
 use qvt_run_data::local::Local;

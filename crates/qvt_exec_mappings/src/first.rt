@@ -14,7 +14,7 @@ use crate::run::Run;
 use qvt_base::seq::Seq;
 use qvt_exec_calls::units::ReadyUnits;
 use qvt_exec_state::state::RunState;
-use qvt_exec_statements::nested::Nested;
+use qvt_exec_blocks::nested::Nested;
 use qvt_run_data::exit::Halt;
 use qvt_run_data::local::Local;
 use qvt_value::value::Value;

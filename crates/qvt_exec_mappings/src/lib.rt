@@ -17,4 +17,4 @@ pub mod reused;
 pub mod run;
 pub mod sections;
 
-pub use qvt_exec_statements::statements;
+pub use qvt_exec_blocks::statements;

@@ -13,7 +13,7 @@ ghost use Rattle.qvt_exec_mappings.specs.declared.run.Run.{Run};
 
 use qvt_exec_calls::numbers::{mapping_unit, signature_of, unit_of};
 use qvt_exec_calls::units::ReadyUnits;
-use qvt_exec_statements::nested::{Nested, program};
+use qvt_exec_blocks::nested::{Nested, program};
 use qvt_types_nodes::module::{TypedMapping, TypedUnit};
 use qvt_types_units::signature::Signature;
 

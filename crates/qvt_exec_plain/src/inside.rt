@@ -8,7 +8,7 @@ use qvt_exec_exprs::exprs::expression;
 use qvt_exec_exprs::nested::Nested;
 use qvt_exec_exprs::units::ReadyUnits;
 use qvt_exec_state::state::RunState;
-use qvt_exec_statements::statements::in_scope;
+use qvt_exec_blocks::statements::in_scope;
 use qvt_run_data::exit::Halt;
 use qvt_types_nodes::tree::{TypedExpr, TypedStmt};
 use qvt_value::value::Value;

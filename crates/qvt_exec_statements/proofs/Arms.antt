@@ -15,7 +15,7 @@ use Rattle.qvt_exec_resolves.specs.Phrases as phrase
 use Rattle.qvt_exec_state.specs.Runs.{Runs, seen}
 use Rattle.qvt_exec_state.specs.declared.state.RunState.{RunState}
 use Rattle.qvt_exec_leaves.proofs.Ends.{ends}
-use Rattle.qvt_exec_steps.specs.Means.{Scene, arms_of, setting_of}
+use Rattle.qvt_exec_phrases.specs.Means.{Scene, arms_of, setting_of}
 use Rattle.qvt_exec_statements.specs.Arms.{arm_turn}
 
 -- nothing more where the condition was true, else these

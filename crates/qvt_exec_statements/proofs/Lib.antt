@@ -1,4 +1,3 @@
 mod Arms
-mod Charges
 mod Each
 mod Turns

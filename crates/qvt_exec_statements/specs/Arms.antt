@@ -6,7 +6,7 @@ use Rattle.qvt_run_rules.specs.State.{Does}
 use Rattle.qvt_run_rules.specs.Statements as statement
 use Rattle.qvt_exec_resolves.specs.Nodes.{place_of}
 use Rattle.qvt_exec_resolves.specs.Phrases.{expr, stmts}
-use Rattle.qvt_exec_steps.specs.Means.{Scene, setting_of}
+use Rattle.qvt_exec_phrases.specs.Means.{Scene, setting_of}
 
 -- an arm alone: whether its condition was true
 abbrev pub arm_turn : Scene → TypedArmTerm → Does LateWrite Bool

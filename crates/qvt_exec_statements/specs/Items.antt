@@ -9,7 +9,7 @@ use Rattle.qvt_run_rules.specs.State.{Does, ◌>>=◌}
 use Rattle.qvt_run_rules.specs.Statements as statement
 use Rattle.qvt_types_nodes.specs.declared.tree.TypedExpr.{TypedExpr}
 use Rattle.qvt_types_nodes.specs.declared.tree.TypedStmt.{TypedStmt}
-use Rattle.qvt_exec_steps.specs.Means.{Scene, for_each_item}
+use Rattle.qvt_exec_phrases.specs.Means.{Scene, for_each_item}
 
 -- its items are of the type of the variable, and then each has its turn
 abbrev pub over_items : Scene → List ℕ → Option Ty → Option TypedExpr → List TypedStmt → Place → Value → Does LateWrite (Unit {0})

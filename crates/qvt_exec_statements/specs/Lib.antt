@@ -1,5 +1,4 @@
-pub use Rattle.qvt_exec_steps.specs.Means
+pub use Rattle.qvt_exec_phrases.specs.Means
 pub mod Arms
 pub mod Items
-pub mod Late
 pub mod Puts

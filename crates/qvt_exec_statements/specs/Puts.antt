@@ -5,7 +5,7 @@ use Rattle.qvt_run_data.specs.declared.late.LateWrite.{LateWrite}
 use Rattle.qvt_run_rules.specs.State.{Does, ◌>>=◌}
 use Rattle.qvt_run_rules.specs.Store.{put}
 use Rattle.qvt_types_nodes.specs.declared.tree.TypedExpr.{TypedExpr}
-use Rattle.qvt_exec_steps.specs.Means.{Scene, valid_of}
+use Rattle.qvt_exec_phrases.specs.Means.{Scene, valid_of}
 
 -- a value, which is not invalid, for slot f of an object
 abbrev pub put_valid : Scene → ℕ → ℕ → Bool → TypedExpr → Place → Does LateWrite (Unit {0})

@@ -4,24 +4,22 @@ ghost use Rattle.qvt_exec_resolves.specs.Nodes as nodes;
 ghost use Rattle.qvt_exec_resolves.specs.Readings as by;
 ghost use Rattle.qvt_types_nodes.specs.View.{typed_expr_view};
 ghost use Rattle.qvt_exec_state.specs.Runs.{Runs, seen};
-ghost use Rattle.qvt_exec_steps.specs.Means.{expr_of, late_source_of, setting_of, target_of, valid_of};
+ghost use Rattle.qvt_exec_phrases.specs.Means.{expr_of, setting_of, target_of, valid_of};
 ghost use Rattle.qvt_exec_statements.specs.Puts.{put_valid};
 
-use crate::late::assign_late;
 use crate::targets::{bare_target, owner};
 use qvt_base::numbers::{FeatureNo, Oid, Place};
 use qvt_exec_moves::assignments::add_variable;
 use qvt_exec_moves::objects::put;
 use qvt_exec_moves::values::valid;
 use qvt_exec_moves::variables::set_variable;
-use qvt_exec_resolves::nodes::late_of;
 use qvt_exec_state::names::RESULT_NAME;
 use qvt_exec_state::state::RunState;
 use qvt_exec_state::steps::misfit;
-use qvt_exec_steps::engine::Engine;
-use qvt_exec_steps::nested::{Nested, expr};
-use qvt_exec_steps::nodes::note_of;
-use qvt_exec_steps::units::ReadyUnits;
+use qvt_exec_phrases::engine::Engine;
+use qvt_exec_phrases::nested::{Nested, expr};
+use qvt_exec_resolves::nodes::note_of;
+use qvt_exec_phrases::units::ReadyUnits;
 use qvt_run_data::exit::Halt;
 use qvt_types_data::note::{Note, Reading};
 use qvt_types_nodes::tree::{TypedExpr, TypedTarget};
@@ -139,7 +137,7 @@ fn member_assign<C: Nested>(
 
 /// A value that is assigned.
 #[tactic(auto, unfolding(qvt_exec_phrases::specs::Means::target_of, qvt_exec_phrases::specs::Means::expr_of, qvt_meaning::specs::Phrases::target))]
-fn assign_value<C: Nested>(
+pub fn assign_value<C: Nested>(
     x: &Engine<'_>,
     units: &ReadyUnits<C>,
     target: &TypedTarget,
@@ -164,24 +162,5 @@ fn assign_value<C: Nested>(
         TypedTarget::Member { object, note, .. } => {
             member_assign(x, units, object, note, adds, node, place, state)
         }
-    }
-}
-
-/// An assignment. A late resolve makes an entry, and any other value is assigned.
-#[inline(never)]
-pub(crate) fn assigned<C: Nested>(
-    x: &Engine<'_>,
-    units: &ReadyUnits<C>,
-    target: &TypedTarget,
-    adds: bool,
-    node: &TypedExpr,
-    sign: Place,
-    state: &mut RunState<'_>,
-) -> Result<(), Halt>
-    ensures { Runs (by.assigned (setting_of (x.now, C.means units.now)) (nodes.late_of (typed_expr_view node.now)) (target_of (x.now, C.means units.now) target.now) adds (nodes.type_of (typed_expr_view node.now)) (expr_of (x.now, C.means units.now) node.now) (late_source_of (x.now, C.means units.now) node.now) sign (seen state.old)) result state.new }
-{
-    match late_of(node) {
-        None => assign_value(x, units, target, adds, node, sign, state),
-        Some(resolve) => assign_late(x, units, target, adds, node, resolve, sign, state),
     }
 }

@@ -4,15 +4,15 @@ ghost use Rattle.qvt_run_rules.specs.Statements as statement;
 ghost use Rattle.qvt_exec_resolves.specs.Nodes as nodes;
 ghost use Rattle.qvt_types_nodes.specs.View.{typed_arm_view, typed_expr_view};
 ghost use Rattle.qvt_exec_state.specs.Runs.{Runs, seen};
-ghost use Rattle.qvt_exec_steps.specs.Means.{arms_of, block_of, expr_of, guarded_of, holds_of, otherwise_of};
+ghost use Rattle.qvt_exec_phrases.specs.Means.{arms_of, block_of, expr_of, guarded_of, holds_of, otherwise_of};
 ghost use Rattle.qvt_exec_statements.specs.Arms.{arm_turn};
 
 use qvt_exec_leaves::nodes::place_of;
 use qvt_exec_moves::values::truth;
 use qvt_exec_state::state::RunState;
-use qvt_exec_steps::engine::Engine;
-use qvt_exec_steps::nested::{Nested, block, expr};
-use qvt_exec_steps::units::ReadyUnits;
+use qvt_exec_phrases::engine::Engine;
+use qvt_exec_phrases::nested::{Nested, block, expr};
+use qvt_exec_phrases::units::ReadyUnits;
 use qvt_run_data::exit::Halt;
 use qvt_types_nodes::tree::{TypedArm, TypedExpr, TypedStmts};
 
@@ -122,7 +122,7 @@ fn arms<C: Nested>(
 /// An `if` with its arms.
 #[inline(never)]
 #[tactic(auto, unfolding(qvt_run_rules::specs::Statements::branch))]
-pub(crate) fn branch<C: Nested>(
+pub fn branch<C: Nested>(
     x: &Engine<'_>,
     units: &ReadyUnits<C>,
     condition: &TypedExpr,

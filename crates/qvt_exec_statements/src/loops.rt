@@ -6,7 +6,7 @@ ghost use Rattle.qvt_exec_resolves.specs.Nodes as nodes;
 ghost use Rattle.qvt_exec_resolves.specs.Phrases as phrase;
 ghost use Rattle.qvt_types_nodes.specs.View.{typed_expr_view, typed_optional_type};
 ghost use Rattle.qvt_exec_state.specs.Runs.{Runs, seen};
-ghost use Rattle.qvt_exec_steps.specs.Means.{block_of, expr_of, for_each_item, guarded_of, turns_of};
+ghost use Rattle.qvt_exec_phrases.specs.Means.{block_of, expr_of, for_each_item, guarded_of, turns_of};
 ghost use Rattle.qvt_exec_statements.specs.Items.{over_items};
 
 use crate::conditions::{guarded, turn};
@@ -19,9 +19,9 @@ use qvt_exec_moves::items::asked_items;
 use qvt_exec_moves::values::valid;
 use qvt_exec_moves::variables::bind_typed;
 use qvt_exec_state::state::RunState;
-use qvt_exec_steps::engine::Engine;
-use qvt_exec_steps::nested::{Nested, expr};
-use qvt_exec_steps::units::ReadyUnits;
+use qvt_exec_phrases::engine::Engine;
+use qvt_exec_phrases::nested::{Nested, expr};
+use qvt_exec_phrases::units::ReadyUnits;
 use qvt_run_data::exit::{End, Exit, Halt};
 use qvt_types_data::ty::Ty;
 use qvt_types_nodes::tree::{TypedExpr, TypedStmts};
@@ -31,7 +31,7 @@ use qvt_value::value::Value;
 /// A `while`. Each turn costs a unit at least, so there are no more turns than fuel.
 #[inline(never)]
 #[tactic(auto, using(crate::proofs::Turns::one_more, crate::proofs::Turns::none_left))]
-pub(crate) fn repeat<C: Nested>(
+pub fn repeat<C: Nested>(
     x: &Engine<'_>,
     units: &ReadyUnits<C>,
     condition: &TypedExpr,
@@ -121,7 +121,7 @@ fn over_items<C: Nested>(
 /// A `forEach`, whose items are taken once.
 #[inline(never)]
 #[tactic(auto, unfolding(qvt_run_rules::specs::Statements::for_each))]
-pub(crate) fn for_each<C: Nested>(
+pub fn for_each<C: Nested>(
     x: &Engine<'_>,
     units: &ReadyUnits<C>,
     source: &TypedExpr,

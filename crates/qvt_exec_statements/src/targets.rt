@@ -3,21 +3,21 @@
 ghost use Rattle.qvt_run_rules.specs.Statements as statement;
 ghost use Rattle.qvt_exec_resolves.specs.Readings as by;
 ghost use Rattle.qvt_exec_state.specs.Runs.{Runs, seen};
-ghost use Rattle.qvt_exec_steps.specs.Means.{expr_of};
+ghost use Rattle.qvt_exec_phrases.specs.Means.{expr_of};
 
 use qvt_base::numbers::{FeatureNo, Oid, Place};
 use qvt_base::text::Text;
 use qvt_exec_moves::targets::{inner_target, member_target, source_target};
 use qvt_exec_state::state::RunState;
-use qvt_exec_steps::engine::Engine;
-use qvt_exec_steps::nested::{Nested, expr};
-use qvt_exec_steps::units::ReadyUnits;
+use qvt_exec_phrases::engine::Engine;
+use qvt_exec_phrases::nested::{Nested, expr};
+use qvt_exec_phrases::units::ReadyUnits;
 use qvt_run_data::exit::Halt;
 use qvt_types_nodes::tree::TypedExpr;
 
 /// The object whose property a bare name means: that of the innermost object expression, or that of its
 /// implicit source.
-pub(crate) fn bare_target(
+pub fn bare_target(
     source: &Option<Text>,
     feature: FeatureNo,
     place: Place,
@@ -34,7 +34,7 @@ pub(crate) fn bare_target(
 /// The object of a property that is written behind a dot.
 #[inline(never)]
 #[tactic(auto, unfolding(qvt_run_rules::specs::Statements::member_target))]
-pub(crate) fn owner<C: Nested>(
+pub fn owner<C: Nested>(
     x: &Engine<'_>,
     units: &ReadyUnits<C>,
     object: &TypedExpr,

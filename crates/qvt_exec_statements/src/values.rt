@@ -7,7 +7,7 @@ ghost use Rattle.qvt_exec_resolves.specs.Nodes as nodes;
 ghost use Rattle.qvt_exec_resolves.specs.Phrases as phrase;
 ghost use Rattle.qvt_types_nodes.specs.View.{typed_expr_view, typed_optional_expr, typed_optional_type};
 ghost use Rattle.qvt_exec_state.specs.Runs.{Runs, seen};
-ghost use Rattle.qvt_exec_steps.specs.Means.{expr_of, optional_of, return_of};
+ghost use Rattle.qvt_exec_phrases.specs.Means.{expr_of, optional_of, return_of};
 
 use crate::types::{optional_place, variable_type};
 use qvt_base::numbers::Place;
@@ -16,9 +16,9 @@ use qvt_exec_leaves::nodes::place_of;
 use qvt_exec_moves::values::give_back;
 use qvt_exec_moves::variables::declare;
 use qvt_exec_state::state::RunState;
-use qvt_exec_steps::engine::Engine;
-use qvt_exec_steps::nested::{Nested, expr};
-use qvt_exec_steps::units::ReadyUnits;
+use qvt_exec_phrases::engine::Engine;
+use qvt_exec_phrases::nested::{Nested, expr};
+use qvt_exec_phrases::units::ReadyUnits;
 use qvt_run_data::exit::{Exit, Halt};
 use qvt_types_nodes::tree::TypedExpr;
 use qvt_types_nodes::types::TypedTypeTree;
@@ -43,7 +43,7 @@ fn optional<C: Nested>(
 /// The declaration of a variable.
 #[inline(never)]
 #[tactic(auto, unfolding(qvt_run_rules::specs::Statements::declare))]
-pub(crate) fn variable<C: Nested>(
+pub fn variable<C: Nested>(
     x: &Engine<'_>,
     units: &ReadyUnits<C>,
     name: &Text,
@@ -69,7 +69,7 @@ pub(crate) fn variable<C: Nested>(
 /// What a `return` gives back to its unit.
 #[inline(never)]
 #[tactic(auto, unfolding(qvt_exec_phrases::specs::Means::return_of, qvt_exec_phrases::specs::Means::expr_of, qvt_meaning::specs::Phrases::return_, qvt_run_rules::specs::Statements::give_back, qvt_run_rules::specs::Statements::go_back))]
-pub(crate) fn give<C: Nested>(
+pub fn give<C: Nested>(
     x: &Engine<'_>,
     units: &ReadyUnits<C>,
     node: &Option<TypedExpr>,
@@ -89,7 +89,7 @@ pub(crate) fn give<C: Nested>(
 /// An expression whose value is dropped.
 #[inline(never)]
 #[tactic(auto, unfolding(qvt_run_rules::specs::Statements::discard))]
-pub(crate) fn discard<C: Nested>(
+pub fn discard<C: Nested>(
     x: &Engine<'_>,
     units: &ReadyUnits<C>,
     node: &TypedExpr,

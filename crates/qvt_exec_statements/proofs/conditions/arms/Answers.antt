@@ -1,7 +1,7 @@
 use Rattle.qvt_run_data.specs.declared.late.LateWrite.{LateWrite}
 use Rattle.qvt_run_rules.specs.State.{Done}
 use Rattle.qvt_exec_state.specs.Runs.{seen}
-use Rattle.qvt_exec_steps.specs.Means.{Scene, arms_of, otherwise_of}
+use Rattle.qvt_exec_phrases.specs.Means.{Scene, arms_of, otherwise_of}
 use Rattle.qvt_exec_statements.proofs.Arms.{arm_ends, arm_made, arm_passed, others_run}
 use Rattle.qvt_exec_statements.proofs.conditions.arms.Goals as goal
 

@@ -1,6 +1,6 @@
 use Rattle.std.proofs.Common.{◌≡◌, drop}
 use Rattle.qvt_exec_state.specs.Runs.{seen}
-use Rattle.qvt_exec_steps.specs.Means.{arms_of, otherwise_of}
+use Rattle.qvt_exec_phrases.specs.Means.{arms_of, otherwise_of}
 use Rattle.qvt_exec_statements.proofs.conditions.arms.Given as goal
 
 abbrev pub invariant-loop-node : goal.invariant-loop-node

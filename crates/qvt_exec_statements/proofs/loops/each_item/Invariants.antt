@@ -1,7 +1,7 @@
 use Rattle.std.proofs.Common.{◌≡◌, drop}
 use Rattle.qvt_run_rules.specs.Statements as statement
 use Rattle.qvt_exec_state.specs.Runs.{seen}
-use Rattle.qvt_exec_steps.specs.Means.{for_each_item}
+use Rattle.qvt_exec_phrases.specs.Means.{for_each_item}
 use Rattle.qvt_exec_statements.proofs.loops.each_item.Given as goal
 
 abbrev pub invariant-loop-item : goal.invariant-loop-item

@@ -2,7 +2,7 @@ use Rattle.qvt_exec_resolves.specs.Nodes.{place_of}
 use Rattle.qvt_exec_resolves.specs.Phrases.{each_type}
 use Rattle.qvt_types_nodes.specs.View.{typed_expr_view, typed_optional_type}
 use Rattle.qvt_exec_state.specs.Runs.{seen}
-use Rattle.qvt_exec_steps.specs.Means.{Scene, block_of, expr_of, guarded_of}
+use Rattle.qvt_exec_phrases.specs.Means.{Scene, block_of, expr_of, guarded_of}
 use Rattle.qvt_exec_statements.proofs.Each.{over_runs}
 use Rattle.qvt_exec_statements.proofs.loops.for_each.Goals as goal
 

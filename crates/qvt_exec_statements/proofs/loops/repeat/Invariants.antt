@@ -3,7 +3,7 @@ use Rattle.qvt_run_rules.specs.Statements as statement
 use Rattle.qvt_types_nodes.specs.View.{typed_expr_view}
 use Rattle.qvt_exec_resolves.specs.Nodes.{place_of}
 use Rattle.qvt_exec_state.specs.Runs.{seen}
-use Rattle.qvt_exec_steps.specs.Means.{block_of, expr_of, turns_of}
+use Rattle.qvt_exec_phrases.specs.Means.{block_of, expr_of, turns_of}
 use Rattle.qvt_exec_statements.proofs.loops.repeat.Given as goal
 
 abbrev pub invariant-loop : goal.invariant-loop

@@ -1,8 +1,8 @@
 use Rattle.std.proofs.Common.{◌≡◌, drop}
 use Rattle.qvt_run_rules.specs.Statements as statement
 use Rattle.qvt_exec_state.specs.Runs.{seen}
-use Rattle.qvt_exec_steps.specs.Means.{stmts_of}
-use Rattle.qvt_exec_statements.proofs.statements.in_order.Given as goal
+use Rattle.qvt_exec_phrases.specs.Means.{stmts_of}
+use Rattle.qvt_exec_blocks.proofs.statements.in_order.Given as goal
 
 abbrev pub invariant-loop-node : goal.invariant-loop-node
 invariant-loop-node g l =

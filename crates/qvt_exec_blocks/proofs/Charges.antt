@@ -7,7 +7,7 @@ use Rattle.qvt_types_nodes.specs.Tree.{TypedStmtTerm, TypedVarStmt, TypedAssignS
 use Rattle.qvt_types_nodes.specs.View.{typed_stmt_view}
 use Rattle.qvt_types_nodes.specs.declared.tree.TypedStmt.{TypedStmt}
 use Rattle.qvt_exec_resolves.specs.Phrases as phrase
-use Rattle.qvt_exec_steps.specs.Means.{Scene, does_of, setting_of, stmt_of}
+use Rattle.qvt_exec_phrases.specs.Means.{Scene, does_of, setting_of, stmt_of}
 
 unit_of : (x : Scene) (t : TypedStmtTerm) → phrase.stmt (setting_of x) x.1.calls x.0.answer.now t ≡ (spend_of x.0.limit 1 >> does_of x t)
 unfolding phrase.stmt rule.statement

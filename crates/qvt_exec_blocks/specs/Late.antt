@@ -8,7 +8,7 @@ use Rattle.qvt_run_data.specs.declared.request.Form.{Form}
 use Rattle.qvt_run_rules.specs.Cost.{spend_of}
 use Rattle.qvt_run_rules.specs.Resolve as resolving
 use Rattle.qvt_run_rules.specs.State.{Does, ◌>>=◌, ◌>>◌, look}
-use Rattle.qvt_exec_steps.specs.Means.{Scene, enters_in}
+use Rattle.qvt_exec_phrases.specs.Means.{Scene, enters_in}
 
 -- the source, one unit, and the entry, for slot f of an object
 abbrev pub late_behind : Scene → Oid → ℕ → Bool → Does LateWrite (Option Value) → Form → Place → Place → Does LateWrite (Unit {0})

@@ -3,18 +3,18 @@
 ghost use Rattle.qvt_run_rules.specs.Statements as statement;
 ghost use Rattle.qvt_types_nodes.specs.View.{typed_stmt_view};
 ghost use Rattle.qvt_exec_state.specs.Runs.{Runs, seen};
-ghost use Rattle.qvt_exec_steps.specs.Means.{block_of, does_of, stmt_of, stmts_of};
+ghost use Rattle.qvt_exec_phrases.specs.Means.{block_of, does_of, stmt_of, stmts_of};
 
-use crate::assignments::assigned;
-use crate::conditions::branch;
-use crate::loops::{for_each, repeat};
+use crate::assigned::assigned;
 pub use crate::stack::bytes_of_block;
-use crate::values::{discard, give, variable};
 use qvt_exec_state::state::RunState;
 use qvt_exec_state::steps::tick;
-use qvt_exec_steps::engine::Engine;
-use qvt_exec_steps::nested::Nested;
-use qvt_exec_steps::units::ReadyUnits;
+use qvt_exec_phrases::engine::Engine;
+use qvt_exec_phrases::nested::Nested;
+use qvt_exec_phrases::units::ReadyUnits;
+use qvt_exec_statements::conditions::branch;
+use qvt_exec_statements::loops::{for_each, repeat};
+use qvt_exec_statements::values::{discard, give, variable};
 use qvt_run_data::exit::Halt;
 use qvt_types_nodes::tree::TypedStmt;
 
