@@ -7,11 +7,11 @@ ghost use Rattle.qvt_exec_phrases.specs.Means.{block_of, does_of, stmt_of, stmts
 
 use crate::assigned::assigned;
 pub use crate::stack::bytes_of_block;
-use qvt_exec_state::state::RunState;
-use qvt_exec_state::steps::tick;
 use qvt_exec_phrases::engine::Engine;
 use qvt_exec_phrases::nested::Nested;
 use qvt_exec_phrases::units::ReadyUnits;
+use qvt_exec_state::state::RunState;
+use qvt_exec_state::steps::tick;
 use qvt_exec_statements::conditions::branch;
 use qvt_exec_statements::loops::{for_each, repeat};
 use qvt_exec_statements::values::{discard, give, variable};

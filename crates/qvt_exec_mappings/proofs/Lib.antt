@@ -1,3 +1,1 @@
-pub mod Found
-pub mod Lists
-pub mod Under
+mod Lists

@@ -3,26 +3,26 @@
 ghost use Rattle.std.specs.Prelude.{◌≡◌};
 ghost use Rattle.qvt_run_rules.specs.Mappings as rule;
 ghost use Rattle.qvt_exec_state.specs.Runs.{Runs, seen};
-ghost use Rattle.qvt_exec_mappings.specs.Begun.{begun_view};
-ghost use Rattle.qvt_exec_mappings.specs.Stage.{mappings_of, rule_of};
+ghost use Rattle.qvt_exec_candidates.specs.Begun.{begun_view};
+ghost use Rattle.qvt_exec_candidates.specs.Stage.{mappings_of, rule_of};
 
-use crate::begun::{Begun, Made};
-use crate::candidates::{dispatch, is_asked};
-use crate::faults::faulted;
-use crate::frames::frame_of;
-use crate::keys::key_of;
-use crate::mapping::MappingUnit;
 use crate::once::once;
-use crate::results::value_of;
 use crate::reused::reused;
-use crate::run::Run;
 use crate::sections::body;
 use qvt_base::numbers::{Oid, Place};
 use qvt_base::seq::Seq;
-use qvt_exec_calls::units::ReadyUnits;
-use qvt_exec_state::state::RunState;
 use qvt_exec_blocks::nested::Nested;
 use qvt_exec_blocks::units::named_by;
+use qvt_exec_calls::units::ReadyUnits;
+use qvt_exec_candidates::begun::{Begun, Made};
+use qvt_exec_candidates::candidates::{dispatch, is_asked};
+use qvt_exec_candidates::faults::faulted;
+use qvt_exec_candidates::frames::frame_of;
+use qvt_exec_candidates::keys::key_of;
+use qvt_exec_candidates::mapping::MappingUnit;
+use qvt_exec_candidates::results::value_of;
+use qvt_exec_candidates::run::Run;
+use qvt_exec_state::state::RunState;
 use qvt_run_data::callee::Way;
 use qvt_run_data::exit::Halt;
 use qvt_run_data::fault::RunFault;
@@ -66,7 +66,7 @@ fn locals_of(alloc: Global, begun: Begun) -> Seq<Local>
 }
 
 /// A mapping that is no dispatcher, with these variables.
-#[tactic(auto, unfolding(qvt_run_rules::specs::Mappings::made, crate::specs::Stage::rule_in))]
+#[tactic(auto, unfolding(qvt_run_rules::specs::Mappings::made, qvt_exec_candidates::specs::Stage::rule_in))]
 fn made<C: Nested>(
     run: &Run,
     units: &ReadyUnits<C>,
@@ -85,7 +85,7 @@ fn made<C: Nested>(
 }
 
 /// A mapping whose `when` is true, with these variables. A dispatcher writes no record.
-#[tactic(auto, unfolding(qvt_run_rules::specs::Mappings::chosen, crate::specs::Stage::rule_in), using(crate::proofs::Lists::dispatched))]
+#[tactic(auto, unfolding(qvt_run_rules::specs::Mappings::chosen, qvt_exec_candidates::specs::Stage::rule_in), using(crate::proofs::Lists::dispatched))]
 fn chosen<C: Nested>(
     run: &Run,
     units: &ReadyUnits<C>,

@@ -3,25 +3,25 @@
 ghost use Rattle.qvt_run_rules.specs.Mappings as rule;
 ghost use Rattle.qvt_run_rules.specs.State.{caught};
 ghost use Rattle.qvt_exec_state.specs.Runs.{Runs, seen};
-ghost use Rattle.qvt_exec_mappings.specs.Begun.{RunsTo, begun_view, made_view};
-ghost use Rattle.qvt_exec_mappings.specs.Stage.{rule_of};
+ghost use Rattle.qvt_exec_candidates.specs.Begun.{RunsTo, begun_view, made_view};
+ghost use Rattle.qvt_exec_candidates.specs.Stage.{rule_of};
 
-use crate::begun::{Begun, Made};
-use crate::mapping::MappingUnit;
 use crate::phrases::section_returns;
-use crate::results::{completed, making_of, result_read, with_result};
-use crate::run::Run;
 use qvt_base::seq::Seq;
-use qvt_exec_calls::units::ReadyUnits;
-use qvt_exec_state::state::RunState;
 use qvt_exec_blocks::nested::Nested;
+use qvt_exec_calls::units::ReadyUnits;
+use qvt_exec_candidates::begun::{Begun, Made};
+use qvt_exec_candidates::mapping::MappingUnit;
+use qvt_exec_candidates::results::{completed, making_of, result_read, with_result};
+use qvt_exec_candidates::run::Run;
+use qvt_exec_state::state::RunState;
 use qvt_run_data::exit::Halt;
 use qvt_run_data::local::Local;
 use qvt_value::value::Value;
 use std::mem;
 
 /// Whether a `return` ended the init section.
-#[tactic(auto, unfolding(crate::specs::Stage::rule_in))]
+#[tactic(auto, unfolding(qvt_exec_candidates::specs::Stage::rule_in))]
 pub(crate) fn init<C: Nested>(
     run: &Run,
     units: &ReadyUnits<C>,
@@ -34,7 +34,7 @@ pub(crate) fn init<C: Nested>(
 }
 
 /// The init section, and the result.
-#[tactic(auto, unfolding(qvt_run_rules::specs::Mappings::first_inside, crate::specs::Stage::rule_in))]
+#[tactic(auto, unfolding(qvt_run_rules::specs::Mappings::first_inside, qvt_exec_candidates::specs::Stage::rule_in))]
 fn first_inside<C: Nested>(
     run: &Run,
     units: &ReadyUnits<C>,
@@ -54,7 +54,7 @@ fn first_inside<C: Nested>(
 }
 
 /// The same with variables of its own, those of a call with these.
-#[tactic(auto, unfolding(qvt_run_rules::specs::Mappings::first, qvt_run_rules::specs::Locals::in_own, crate::specs::Stage::rule_in), using(crate::proofs::Under::begun_ok, crate::proofs::Under::begun_err))]
+#[tactic(auto, unfolding(qvt_run_rules::specs::Mappings::first, qvt_run_rules::specs::Locals::in_own, qvt_exec_candidates::specs::Stage::rule_in), using(qvt_exec_candidates::proofs::Under::begun_ok, qvt_exec_candidates::proofs::Under::begun_err))]
 pub(crate) fn first<C: Nested>(
     run: &Run,
     units: &ReadyUnits<C>,

@@ -2,19 +2,9 @@
 //! inherited, population and end, the mappings that are merged.
 #![tactic(auto)]
 
-pub mod begun;
 pub mod calls;
-pub mod candidates;
-mod faults;
-pub mod first;
-pub mod frames;
-pub mod keys;
-pub mod mapping;
-pub mod once;
-pub mod phrases;
-pub mod results;
-pub mod reused;
-pub mod run;
-pub mod sections;
-
-pub use qvt_exec_blocks::statements;
+mod first;
+mod once;
+mod phrases;
+mod reused;
+mod sections;

@@ -2,21 +2,21 @@
 
 ghost use Rattle.qvt_run_rules.specs.Mappings as rule;
 ghost use Rattle.qvt_exec_state.specs.Runs.{seen};
-ghost use Rattle.qvt_exec_mappings.specs.Begun.{RunsTo, begun_view};
-ghost use Rattle.qvt_exec_mappings.specs.Framed.{first_noted};
-ghost use Rattle.qvt_exec_mappings.specs.Stage.{rule_of};
+ghost use Rattle.qvt_exec_candidates.specs.Begun.{RunsTo, begun_view};
+ghost use Rattle.qvt_exec_candidates.specs.Framed.{first_noted};
+ghost use Rattle.qvt_exec_candidates.specs.Stage.{rule_of};
 
-use crate::begun::{Begun, Made};
-use crate::faults::faulted;
 use crate::first::first;
-use crate::keys::{is_open, key_of, note, result_for};
-use crate::mapping::MappingUnit;
-use crate::run::Run;
 use qvt_base::numbers::Place;
 use qvt_base::seq::Seq;
-use qvt_exec_calls::units::ReadyUnits;
-use qvt_exec_state::state::RunState;
 use qvt_exec_blocks::nested::Nested;
+use qvt_exec_calls::units::ReadyUnits;
+use qvt_exec_candidates::begun::{Begun, Made};
+use qvt_exec_candidates::faults::faulted;
+use qvt_exec_candidates::keys::{is_open, key_of, note, result_for};
+use qvt_exec_candidates::mapping::MappingUnit;
+use qvt_exec_candidates::run::Run;
+use qvt_exec_state::state::RunState;
 use qvt_run_data::exit::Halt;
 use qvt_run_data::fault::RunFault;
 use qvt_run_data::local::Local;
@@ -51,7 +51,7 @@ fn first_noted<C: Nested>(
 }
 
 /// The same while the key is open.
-#[tactic(auto, unfolding(qvt_run_rules::specs::Mappings::with_key), using(crate::proofs::Under::shut_runs))]
+#[tactic(auto, unfolding(qvt_run_rules::specs::Mappings::with_key), using(qvt_exec_candidates::proofs::Under::shut_runs))]
 fn keyed<C: Nested>(
     run: &Run,
     units: &ReadyUnits<C>,

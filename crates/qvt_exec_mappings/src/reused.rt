@@ -5,26 +5,26 @@ ghost use Rattle.qvt_run_rules.specs.Mappings as rule;
 ghost use Rattle.qvt_run_rules.specs.State.{caught};
 ghost use Rattle.std.specs.Prelude.{◌++◌};
 ghost use Rattle.qvt_exec_state.specs.Runs.{Runs, seen};
-ghost use Rattle.qvt_exec_mappings.specs.Stage.{mappings_of, rule_of};
+ghost use Rattle.qvt_exec_candidates.specs.Stage.{mappings_of, rule_of};
 
-use crate::candidates::is_asked;
 use crate::first::init;
-use crate::mapping::MappingUnit;
-use crate::results::{making_of, value_of, with_result};
-use crate::run::Run;
 use crate::sections::body;
 use qvt_base::numbers::{Oid, Place};
 use qvt_base::seq::Seq;
-use qvt_exec_calls::units::ReadyUnits;
-use qvt_exec_state::state::RunState;
 use qvt_exec_blocks::nested::Nested;
+use qvt_exec_calls::units::ReadyUnits;
+use qvt_exec_candidates::candidates::is_asked;
+use qvt_exec_candidates::mapping::MappingUnit;
+use qvt_exec_candidates::results::{making_of, value_of, with_result};
+use qvt_exec_candidates::run::Run;
+use qvt_exec_state::state::RunState;
 use qvt_run_data::exit::Halt;
 use qvt_run_data::local::Local;
 use qvt_value::value::{Value, Values};
 use std::mem;
 
 /// Its init section with the shared result: whether a `return` ended it, and the variables after it.
-#[tactic(auto, unfolding(qvt_run_rules::specs::Locals::in_own, crate::specs::Stage::rule_in), using(crate::proofs::Under::own_ok, crate::proofs::Under::own_err))]
+#[tactic(auto, unfolding(qvt_run_rules::specs::Locals::in_own, qvt_exec_candidates::specs::Stage::rule_in), using(qvt_exec_candidates::proofs::Under::own_ok, qvt_exec_candidates::proofs::Under::own_err))]
 fn begun<C: Nested>(
     run: &Run,
     units: &ReadyUnits<C>,

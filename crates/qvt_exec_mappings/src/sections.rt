@@ -4,19 +4,19 @@ ghost use Rattle.qvt_meaning.specs.Nodes.{mappings_named};
 ghost use Rattle.qvt_meaning.specs.Program.{numbers};
 ghost use Rattle.qvt_run_rules.specs.Mappings as rule;
 ghost use Rattle.qvt_exec_state.specs.Runs.{Runs, seen};
-ghost use Rattle.qvt_exec_mappings.specs.Framed.{sections_inside};
-ghost use Rattle.qvt_exec_mappings.specs.Stage.{mappings_of, rule_of};
+ghost use Rattle.qvt_exec_candidates.specs.Framed.{sections_inside};
+ghost use Rattle.qvt_exec_candidates.specs.Stage.{mappings_of, rule_of};
 
-use crate::mapping::MappingUnit;
 use crate::phrases::section_returns;
-use crate::run::Run;
 use qvt_base::copied::Copied;
 use qvt_base::numbers::{Oid, Place};
 use qvt_base::seq::Seq;
-use qvt_exec_calls::units::{ReadyUnits, UnitCalls};
-use qvt_exec_state::state::RunState;
 use qvt_exec_blocks::nested::Nested;
 use qvt_exec_blocks::units::named_by;
+use qvt_exec_calls::units::{ReadyUnits, UnitCalls};
+use qvt_exec_candidates::mapping::MappingUnit;
+use qvt_exec_candidates::run::Run;
+use qvt_exec_state::state::RunState;
 use qvt_run_data::callee::{Callee, Way};
 use qvt_run_data::exit::Halt;
 use qvt_run_data::local::Local;
@@ -25,7 +25,7 @@ use qvt_value::value::Values;
 use std::mem;
 
 /// Population and end, each up to a `return`.
-#[tactic(auto, unfolding(crate::specs::Stage::rule_in))]
+#[tactic(auto, unfolding(qvt_exec_candidates::specs::Stage::rule_in))]
 fn sections_inside<C: Nested>(
     run: &Run,
     units: &ReadyUnits<C>,
@@ -42,7 +42,7 @@ fn sections_inside<C: Nested>(
 }
 
 /// Population and end, over the variables of the init section.
-#[tactic(auto, unfolding(qvt_run_rules::specs::Mappings::sections, qvt_run_rules::specs::Locals::in_frame), using(crate::proofs::Under::under_runs))]
+#[tactic(auto, unfolding(qvt_run_rules::specs::Mappings::sections, qvt_run_rules::specs::Locals::in_frame), using(qvt_exec_candidates::proofs::Under::under_runs))]
 fn sections<C: Nested>(
     run: &Run,
     units: &ReadyUnits<C>,
@@ -108,7 +108,7 @@ fn reuse_named<C: UnitCalls>(
 }
 
 /// The mappings that are inherited, population and end, and the mappings that are merged.
-#[tactic(auto, unfolding(qvt_run_rules::specs::Mappings::body, crate::specs::Stage::rule_in))]
+#[tactic(auto, unfolding(qvt_run_rules::specs::Mappings::body, qvt_exec_candidates::specs::Stage::rule_in))]
 pub fn body<C: Nested>(
     run: &Run,
     units: &ReadyUnits<C>,

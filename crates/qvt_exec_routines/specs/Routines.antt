@@ -4,7 +4,7 @@ use Rattle.qvt_run_data.specs.declared.late.LateWrite.{LateWrite}
 use Rattle.qvt_run_rules.specs.Calls.{Calls, Routine}
 use Rattle.qvt_meaning.specs.Readings.{Setting}
 use Rattle.qvt_meaning.specs.Units as of_units
-use Rattle.qvt_exec_mappings.specs.Stage.{Stage, setting_in}
+use Rattle.qvt_exec_candidates.specs.Stage.{Stage, setting_in}
 use Rattle.qvt_exec_routines.specs.declared.routine_at.RoutineUnit.{RoutineUnit}
 
 unfoldable pub routine_in : Setting LateWrite → Calls LateWrite → RoutineUnit → Routine LateWrite

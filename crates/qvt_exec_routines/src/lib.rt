@@ -1,8 +1,7 @@
-//! The units of a run that are called: helpers, queries and constructors with their bodies, each unit by its callee; the body of
-//! `main`.
+//! The units of a run that are called but mappings: helpers, queries and constructors with their bodies; the body of `main`.
 #![tactic(auto)]
 
-pub mod called;
+pub mod bodies;
 pub mod main_body;
 pub mod routine_at;
 pub mod routines;

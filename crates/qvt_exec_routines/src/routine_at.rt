@@ -8,8 +8,8 @@ ghost use Rattle.qvt_run_data.specs.declared.late.LateWrite.{LateWrite};
 ghost use Rattle.qvt_run_rules.specs.Calls.{Calls};
 ghost use Rattle.qvt_meaning.specs.Readings.{Setting};
 ghost use Rattle.qvt_meaning.specs.Units as of_units;
-ghost use Rattle.qvt_exec_mappings.specs.Stage.{setting_in};
-ghost use Rattle.qvt_exec_mappings.specs.declared.run.Run.{Run};
+ghost use Rattle.qvt_exec_candidates.specs.Stage.{setting_in};
+ghost use Rattle.qvt_exec_candidates.specs.declared.run.Run.{Run};
 ghost use Rattle.qvt_exec_routines.specs.Routines.{routine_in, routine_of};
 
 use qvt_exec_calls::numbers::{signature_of, unit_of};

@@ -8,6 +8,7 @@ ghost use Rattle.qvt_run_rules.specs.Locals.{fixed, in_frame, result_name, self_
 ghost use Rattle.qvt_exec_state.specs.Runs.{Runs, seen};
 ghost use Rattle.qvt_exec_routines.specs.Routines.{routine_of};
 
+use crate::bodies::body;
 use crate::routine_at::RoutineUnit;
 use qvt_base::list_fault::ListFault;
 use qvt_base::numbers::{ClassNo, Oid, Place};
@@ -16,8 +17,7 @@ use qvt_base::text::Text;
 use qvt_exec_calls::frames::{bound, frame};
 use qvt_exec_calls::given::{caught, given};
 use qvt_exec_calls::units::ReadyUnits;
-use qvt_exec_mappings::phrases::body;
-use qvt_exec_mappings::run::Run;
+use qvt_exec_candidates::run::Run;
 use qvt_exec_moves::objects::new_object;
 use qvt_exec_phrases::nested::Nested;
 use qvt_exec_state::names::{RESULT_NAME, SELF_NAME};
@@ -30,7 +30,7 @@ use std::alloc::Global;
 use std::mem;
 
 /// The body over variables of its own.
-#[tactic(auto, unfolding(qvt_run_rules::specs::Locals::in_frame, crate::specs::Routines::routine_in), using(qvt_exec_mappings::proofs::Under::under_runs))]
+#[tactic(auto, unfolding(qvt_run_rules::specs::Locals::in_frame, crate::specs::Routines::routine_in), using(qvt_exec_candidates::proofs::Under::under_runs))]
 fn framed<C: Nested>(
     run: &Run,
     units: &ReadyUnits<C>,

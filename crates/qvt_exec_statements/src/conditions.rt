@@ -9,10 +9,10 @@ ghost use Rattle.qvt_exec_statements.specs.Arms.{arm_turn};
 
 use qvt_exec_leaves::nodes::place_of;
 use qvt_exec_moves::values::truth;
-use qvt_exec_state::state::RunState;
 use qvt_exec_phrases::engine::Engine;
 use qvt_exec_phrases::nested::{Nested, block, expr};
 use qvt_exec_phrases::units::ReadyUnits;
+use qvt_exec_state::state::RunState;
 use qvt_run_data::exit::Halt;
 use qvt_types_nodes::tree::{TypedArm, TypedExpr, TypedStmts};
 

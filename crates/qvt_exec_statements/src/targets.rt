@@ -8,10 +8,10 @@ ghost use Rattle.qvt_exec_phrases.specs.Means.{expr_of};
 use qvt_base::numbers::{FeatureNo, Oid, Place};
 use qvt_base::text::Text;
 use qvt_exec_moves::targets::{inner_target, member_target, source_target};
-use qvt_exec_state::state::RunState;
 use qvt_exec_phrases::engine::Engine;
 use qvt_exec_phrases::nested::{Nested, expr};
 use qvt_exec_phrases::units::ReadyUnits;
+use qvt_exec_state::state::RunState;
 use qvt_run_data::exit::Halt;
 use qvt_types_nodes::tree::TypedExpr;
 

@@ -1,7 +1,7 @@
 use Rattle.std.proofs.Common.{◌≡◌, drop}
 use Rattle.qvt_run_rules.specs.Mappings.{reuse}
 use Rattle.qvt_exec_state.specs.Runs.{seen}
-use Rattle.qvt_exec_mappings.specs.Stage.{mappings_of}
+use Rattle.qvt_exec_candidates.specs.Stage.{mappings_of}
 use Rattle.qvt_exec_mappings.proofs.sections.reuse.Given as goal
 
 abbrev pub invariant-loop-number : goal.invariant-loop-number

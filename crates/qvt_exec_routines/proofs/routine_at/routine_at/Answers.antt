@@ -1,5 +1,5 @@
 use Rattle.qvt_exec_calls.specs.Program.{program_view}
-use Rattle.qvt_exec_mappings.specs.Stage.{setting_in}
+use Rattle.qvt_exec_candidates.specs.Stage.{setting_in}
 use Rattle.qvt_exec_routines.proofs.Found.{found}
 use Rattle.qvt_exec_routines.proofs.routine_at.routine_at.Goals as goal
 

@@ -1,9 +1,9 @@
 use Rattle.std.proofs.Common.{◌≡◌, Some}
 use Rattle.qvt_meaning.specs.Program.{mapping_unit}
 use Rattle.qvt_exec_calls.specs.Program.{program_view}
-use Rattle.qvt_exec_mappings.specs.Stage.{setting_in}
-use Rattle.qvt_exec_mappings.proofs.Found.{found}
-use Rattle.qvt_exec_mappings.proofs.mapping.mapping_at.Goals as goal
+use Rattle.qvt_exec_candidates.specs.Stage.{setting_in}
+use Rattle.qvt_exec_candidates.proofs.Found.{found}
+use Rattle.qvt_exec_candidates.proofs.mapping.mapping_at.Goals as goal
 
 pub returns-in-Some : goal.returns-in-Some
 returns-in-Some g c =

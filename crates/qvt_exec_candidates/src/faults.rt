@@ -7,7 +7,7 @@ use qvt_run_data::exit::{End, Exit, Halt};
 use qvt_run_data::fault::RunFault;
 
 /// The run ends with this fault.
-pub(crate) fn faulted<A>(fault: RunFault, place: Place) -> Result<A, Halt>
+pub fn faulted<A>(fault: RunFault, place: Place) -> Result<A, Halt>
     ensures { result ≡ Err (Halt.Exits (Exit.Ends (End.Fault fault place))) }
 {
     Err(Halt::Exits(Exit::Ends(End::Fault(fault, place))))

@@ -5,8 +5,8 @@ ghost use Rattle.qvt_meaning.specs.Units as of_units;
 ghost use Rattle.qvt_run_rules.specs.Mappings as rule;
 ghost use Rattle.qvt_exec_state.specs.Runs.{Runs, seen};
 ghost use Rattle.qvt_exec_state.specs.declared.state.RunState.{RunState};
-ghost use Rattle.qvt_exec_mappings.specs.Begun.{RunsTo, made_view, making_view};
-ghost use Rattle.qvt_exec_mappings.specs.Stage.{rule_of};
+ghost use Rattle.qvt_exec_candidates.specs.Begun.{RunsTo, made_view, making_view};
+ghost use Rattle.qvt_exec_candidates.specs.Stage.{rule_of};
 
 use crate::begun::Made;
 use crate::faults::faulted;

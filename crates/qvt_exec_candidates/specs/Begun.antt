@@ -7,10 +7,10 @@ use Rattle.qvt_run_rules.specs.State.{Done}
 use Rattle.qvt_run_rules.specs.Mappings as rule
 use Rattle.qvt_exec_state.specs.Runs.{seen}
 use Rattle.qvt_exec_state.specs.declared.state.RunState.{RunState}
-use Rattle.qvt_exec_mappings.specs.declared.begun.Begun as code
-use Rattle.qvt_exec_mappings.specs.declared.begun.Made.{Made}
-use Rattle.qvt_exec_mappings.specs.declared.begun.Made.TheVariants as made
-use Rattle.qvt_exec_mappings.specs.declared.results.Making.{Making}
+use Rattle.qvt_exec_candidates.specs.declared.begun.Begun as code
+use Rattle.qvt_exec_candidates.specs.declared.begun.Made.{Made}
+use Rattle.qvt_exec_candidates.specs.declared.begun.Made.TheVariants as made
+use Rattle.qvt_exec_candidates.specs.declared.results.Making.{Making}
 
 abbrev pub made_view : Made → rule.Made
 made_view (made.Known r) = rule.Known r

@@ -1,8 +1,8 @@
 use Rattle.std.proofs.Common.{◌≡◌, drop}
 use Rattle.qvt_run_rules.specs.Mappings.{dispatch}
 use Rattle.qvt_exec_state.specs.Runs.{seen}
-use Rattle.qvt_exec_mappings.specs.Stage.{mappings_of}
-use Rattle.qvt_exec_mappings.proofs.candidates.dispatch.Given as goal
+use Rattle.qvt_exec_candidates.specs.Stage.{mappings_of}
+use Rattle.qvt_exec_candidates.proofs.candidates.dispatch.Given as goal
 
 abbrev pub invariant-loop-number : goal.invariant-loop-number
 invariant-loop-number g l =

@@ -13,9 +13,9 @@ use Rattle.qvt_run_rules.specs.Mappings.{MappingRule}
 use Rattle.qvt_meaning.specs.Readings.{Setting}
 use Rattle.qvt_meaning.specs.Units as of_units
 use Rattle.qvt_exec_calls.specs.Units.{Units}
-use Rattle.qvt_exec_blocks.specs.Means.{barred_in, enters_in}
-use Rattle.qvt_exec_mappings.specs.declared.mapping.MappingUnit.{MappingUnit}
-use Rattle.qvt_exec_mappings.specs.declared.run.Run.{Run}
+use Rattle.qvt_exec_phrases.specs.Means.{barred_in, enters_in}
+use Rattle.qvt_exec_candidates.specs.declared.mapping.MappingUnit.{MappingUnit}
+use Rattle.qvt_exec_candidates.specs.declared.run.Run.{Run}
 
 -- a run as its units read it, and what stands behind them
 abbrev pub Stage : Type 0

@@ -9,9 +9,9 @@ use Rattle.qvt_run_rules.specs.Mappings as rule
 use Rattle.qvt_run_rules.specs.Mappings.{shut}
 use Rattle.qvt_exec_state.specs.Runs.{Runs}
 use Rattle.qvt_exec_state.specs.declared.state.RunState.{RunState}
-use Rattle.qvt_exec_mappings.specs.declared.begun.Begun as code
-use Rattle.qvt_exec_mappings.specs.declared.begun.Made.{Made}
-use Rattle.qvt_exec_mappings.specs.Begun.{RunsTo, begun_view, made_view}
+use Rattle.qvt_exec_candidates.specs.declared.begun.Begun as code
+use Rattle.qvt_exec_candidates.specs.declared.begun.Made.{Made}
+use Rattle.qvt_exec_candidates.specs.Begun.{RunsTo, begun_view, made_view}
 
 pub under_runs : {A : Type 0} (d : Done LateWrite A) (r : Result A Halt) (t : RunState) (outer : State LateWrite) → Runs d r t → Runs (under outer d) r (record t { locals = outer.locals; inner = outer.inner })
 under_runs d (Ok a) t outer h = ap (under outer) h

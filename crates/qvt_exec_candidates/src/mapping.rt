@@ -8,12 +8,12 @@ ghost use Rattle.qvt_run_data.specs.declared.late.LateWrite.{LateWrite};
 ghost use Rattle.qvt_run_rules.specs.Calls.{Calls};
 ghost use Rattle.qvt_meaning.specs.Readings.{Setting};
 ghost use Rattle.qvt_meaning.specs.Units as of_units;
-ghost use Rattle.qvt_exec_mappings.specs.Stage.{mappings_of, rule_in, rule_of};
-ghost use Rattle.qvt_exec_mappings.specs.declared.run.Run.{Run};
+ghost use Rattle.qvt_exec_candidates.specs.Stage.{mappings_of, rule_in, rule_of};
+ghost use Rattle.qvt_exec_candidates.specs.declared.run.Run.{Run};
 
 use qvt_exec_calls::numbers::{mapping_unit, signature_of, unit_of};
 use qvt_exec_calls::units::ReadyUnits;
-use qvt_exec_blocks::nested::{Nested, program};
+use qvt_exec_phrases::nested::{Nested, program};
 use qvt_types_nodes::module::{TypedMapping, TypedUnit};
 use qvt_types_units::signature::Signature;
 
