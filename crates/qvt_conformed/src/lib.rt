@@ -1,5 +1,4 @@
-//! Models without a fault, and what is asked before a model is loaded.
+//! That a model without a fault can be loaded.
 #![tactic(auto)]
 
 pub mod laws;
-pub mod loading;

@@ -7,5 +7,5 @@ pub mod meta;
 mod own_names;
 mod same_feature;
 
-pub use qvt_metamodel::{copied, declared, fault, info};
+pub use qvt_metamodel::{copied, declared, fault, given, info};
 pub use qvt_metas::metas;

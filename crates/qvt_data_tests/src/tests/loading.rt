@@ -5,7 +5,7 @@ use qvt_base::numbers::Oid;
 use qvt_base::seq::Seq;
 use qvt_base::text::Text;
 use qvt_checks::conditions::{are_named, can_assign};
-use qvt_conformed::loading::{empty_store, load_text};
+use qvt_loading::loading::{empty_store, load_text};
 use qvt_model::id_table::IdTable;
 use qvt_store::extent::{Extent, ExtentList};
 use qvt_store::store::Store;

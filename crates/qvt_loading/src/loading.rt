@@ -9,9 +9,9 @@ ghost use Rattle.qvt_model.specs.Written.{model_text};
 ghost use Rattle.qvt_model.specs.Conforming.{Conforms};
 ghost use Rattle.qvt_model.specs.Loaded.{IsLoadable};
 
-use crate::laws::faultless_conforms;
 use qvt_base::lists::Bytes;
 use qvt_conform::conform::conform;
+use qvt_conformed::laws::faultless_conforms;
 use qvt_metas::metas::Metas;
 use qvt_model::data::ModelData;
 use qvt_model::id_table::IdTable;
