@@ -5,7 +5,7 @@ use Rattle.qvt_run_rules.specs.Calls.{Calls}
 use Rattle.qvt_meaning.specs.Readings.{Setting}
 use Rattle.qvt_meaning.specs.Units as of_units
 use Rattle.qvt_exec_calls.specs.Units.{Units}
-use Rattle.qvt_exec_candidates.specs.Stage.{setting_by}
+use Rattle.qvt_exec_called.specs.Stage.{setting_by}
 use Rattle.qvt_exec_answers.specs.Answering.{program_of, resolves_of}
 use Rattle.qvt_exec_answers.specs.declared.answering.Answering.{Answering}
 

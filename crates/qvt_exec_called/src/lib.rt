@@ -2,3 +2,6 @@
 #![tactic(auto)]
 
 pub mod called;
+
+pub use qvt_exec_mappings::{run, statements};
+pub use qvt_exec_routines::main_body;

@@ -8,3 +8,6 @@ mod once;
 mod phrases;
 mod reused;
 mod sections;
+
+pub use qvt_exec_blocks::statements;
+pub use qvt_exec_candidates::{mapping, run};

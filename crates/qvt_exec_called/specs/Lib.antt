@@ -1,0 +1,1 @@
+pub use Rattle.qvt_exec_mappings.specs.Stage
