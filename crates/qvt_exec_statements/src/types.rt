@@ -11,7 +11,7 @@ use qvt_base::copied::Copied;
 use qvt_base::list_fault::ListFault;
 use qvt_base::numbers::Place;
 use qvt_exec_leaves::nodes::place_of;
-use qvt_exec_resolves::nodes::{note_of, written_type};
+use qvt_exec_types::nodes::{note_of, written_type};
 use qvt_types_data::ty::Ty;
 use qvt_types_nodes::tree::TypedExpr;
 use qvt_types_nodes::types::TypedTypeTree;
