@@ -1,5 +1,5 @@
 -- What is told of the classes above each class is so.
-use Rattle.std.proofs.Common.{◌≡◌, ◌∙◌, ℕ, zero, suc, ◌+◌, ◌<◌, ◌==◌, List, [], ◌∷◌, ◌++◌, length, set, get_or, replicate, Bool, true, false, not, ◌&&◌, ◌||◌, ◌⊎◌, Option, Some, None, inl, inr, refl, sym, ap, subst, arith}
+use Rattle.std.proofs.Common.{◌≡◌, ◌∙◌, ℕ, zero, suc, ◌+◌, ◌<◌, ◌==◌, List, [], ◌∷◌, ◌++◌, length, set, get_or, replicate, Bool, true, false, not, ◌&&◌, ◌||◌, ◌⊎◌, Option, Some, None, inl, inr, refl, sym, ap, subst, arith, length-append}
 use Rattle.std.specs.Prelude.{if◌then◌else◌, IsTrue}
 use Rattle.std.specs.List.{list_any}
 use Rattle.std.proofs.lemmas.Bool.{eq-eqb, eqb-true}
@@ -25,7 +25,7 @@ use Rattle.qvt_types_lists.specs.Above.{combined, above_at, own_more, own_row, t
 use Rattle.qvt_types_lists.proofs.SameShapes.{Law}
 use Rattle.qvt_types_lists.proofs.Covered.{asks}
 
-known : ℕ → HeadClass
+abbrev known : ℕ → HeadClass
 known c = Known (record { 0 = c })
 
 -- of two classes that are above all one is the other
@@ -92,62 +92,66 @@ module _ (m : Metamodels) (us : List Signature) (ns : List ℕ) where
     abbrev IsTop : List ℕ → ℕ → Type 0
     IsTop ks x = In x ks × (is_top m (context_at us x) ≡ true)
 
-    tops_tell : (ks : List ℕ) → ((x : ℕ) → In x ks → In x ns) → (P : ℕ → Type 0) (s : Above) → Told P s → Told (λ x. P x ⊎ IsTop ks x) (top_units m us s ks)
-    tops_tell [] into P s h = fewer P (λ x. P x ⊎ IsTop [] x) s (λ x r. elim r [ inl p ↦ p | inr q ↦ absurd q.0 ]) h
-    tops_tell (k ∷ ks) into P s h = by (is_top m (context_at us k)) refl
-      where
-        rest : (x : ℕ) → In x ks → In x ns
-        rest x i = into x (inr i)
+    -- where it is told of those that come after one
+    abbrev TopsTold : List ℕ → Type 1
+    TopsTold ks = (P : ℕ → Type 0) (s : Above) → Told P s → Told (λ x. P x ⊎ IsTop ks x) (top_units m us s ks)
 
-        by : (b : Bool) → is_top m (context_at us k) ≡ b → Told (λ x. P x ⊎ IsTop (k ∷ ks) x) (top_units m us (if b then combined m us s (Least k) else s) ks)
-        by true e = fewer (λ x. (P x ⊎ (x ≡ k)) ⊎ IsTop ks x) (λ x. P x ⊎ IsTop (k ∷ ks) x) (top_units m us (combined m us s (Least k)) ks)
-            (λ x r. elim r [ inl p ↦ inl (inl p) | inr q ↦ elim q.0 [ inl same ↦ inl (inr same) | inr i ↦ inr (i, q.1) ] ])
-            (tops_tell ks rest (λ x. P x ⊎ (x ≡ k)) (combined m us s (Least k)) (both_tell P (λ x. x ≡ k) s (Least k) h (one_tells k (into k (inl refl)))))
-        by false e = fewer (λ x. P x ⊎ IsTop ks x) (λ x. P x ⊎ IsTop (k ∷ ks) x) (top_units m us s ks)
-            (λ x r. elim r [ inl p ↦ inl p | inr q ↦ elim q.0 [ inl same ↦ clash q.1 (ap (λ n. is_top m (context_at us n)) same ∙ e) | inr i ↦ inr (i, q.1) ] ])
-            (tops_tell ks rest P s h)
+    top_more_tells : (k : ℕ) (ks : List ℕ) → In k ns → TopsTold ks → (P : ℕ → Type 0) (s : Above) → Told P s → (b : Bool) → is_top m (context_at us k) ≡ b
+        → Told (λ x. P x ⊎ IsTop (k ∷ ks) x) (top_units m us (if b then combined m us s (Least k) else s) ks)
+    top_more_tells k ks there go P s h true e = fewer (λ x. (P x ⊎ (x ≡ k)) ⊎ IsTop ks x) (λ x. P x ⊎ IsTop (k ∷ ks) x) (top_units m us (combined m us s (Least k)) ks)
+        (λ x r. elim r [ inl p ↦ inl (inl p) | inr q ↦ elim q.0 [ inl same ↦ inl (inr same) | inr i ↦ inr (i, q.1) ] ])
+        (go (λ x. P x ⊎ (x ≡ k)) (combined m us s (Least k)) (both_tell P (λ x. x ≡ k) s (Least k) h (one_tells k there)))
+    top_more_tells k ks there go P s h false e = fewer (λ x. P x ⊎ IsTop ks x) (λ x. P x ⊎ IsTop (k ∷ ks) x) (top_units m us s ks)
+        (λ x r. elim r [ inl p ↦ inl p | inr q ↦ elim q.0 [ inl same ↦ clash q.1 (ap (λ n. is_top m (context_at us n)) same ∙ e) | inr i ↦ inr (i, q.1) ] ])
+        (go P s h)
+
+    tops_tell : (ks : List ℕ) → ((x : ℕ) → In x ks → In x ns) → TopsTold ks
+    tops_tell [] into P s h = fewer P (λ x. P x ⊎ IsTop [] x) s (λ x r. elim r [ inl p ↦ p | inr q ↦ absurd q.0 ]) h
+    tops_tell (k ∷ ks) into P s h = top_more_tells k ks (into k (inl refl)) (tops_tell ks (λ x i. into x (inr i))) P s h (is_top m (context_at us k)) refl
 
     -- The units of each class.
 
     abbrev Own : List ℕ → ℕ → ℕ → Type 0
     Own ks c x = In x ks × (is_context (context_at us x) c ≡ true)
 
-    own_tell : (ks : List ℕ) → ((x : ℕ) → In x ks → In x ns) → (P : ℕ → ℕ → Type 0) (row : List Above) → ((c : ℕ) → Told (P c) (above_at row c))
-        → (c : ℕ) → Told (λ x. P c x ⊎ Own ks c x) (above_at (own_row m us row ks) c)
+    -- and the one that is next, of class d
+    abbrev More : (ℕ → ℕ → Type 0) → ℕ → ℕ → ℕ → ℕ → Type 0
+    More P k d c x = P c x ⊎ ((x ≡ k) × (d ≡ c))
+
+    abbrev more : List Above → ℕ → ℕ → List Above
+    more row k d = set row d (combined m us (above_at row d) (Least k))
+
+    abbrev OwnTold : List ℕ → Type 1
+    OwnTold ks = (P : ℕ → ℕ → Type 0) (row : List Above) → ((c : ℕ) → Told (P c) (above_at row c)) → (c : ℕ) → Told (λ x. P c x ⊎ Own ks c x) (above_at (own_row m us row ks) c)
+
+    none_more : (k : ℕ) (ks : List ℕ) → OwnTold ks → (P : ℕ → ℕ → Type 0) (row : List Above) → ((c : ℕ) → Told (P c) (above_at row c)) → (g : HeadClass) → context_at us k ≡ g
+        → ((d : ℕ) → is_context g d ≡ false) → (c : ℕ) → Told (λ x. P c x ⊎ Own (k ∷ ks) c x) (above_at (own_row m us row ks) c)
+    none_more k ks go P row h g e fails c = fewer (λ x. P c x ⊎ Own ks c x) (λ x. P c x ⊎ Own (k ∷ ks) c x) (above_at (own_row m us row ks) c)
+        (λ x r. elim r [ inl p ↦ inl p | inr q ↦ elim q.0 [ inl same ↦ clash q.1 (ap (λ n. is_context (context_at us n) c) same ∙ ap (λ y. is_context y c) e ∙ fails c) | inr i ↦ inr (i, q.1) ] ])
+        (go P row h c)
+
+    own_more_tells : (k : ℕ) (ks : List ℕ) → In k ns → OwnTold ks → (P : ℕ → ℕ → Type 0) (row : List Above) → ((c : ℕ) → Told (P c) (above_at row c)) → (g : HeadClass) → context_at us k ≡ g
+        → (c : ℕ) → Told (λ x. P c x ⊎ Own (k ∷ ks) c x) (above_at (own_row m us (own_more m us row g k) ks) c)
+    own_more_tells k ks there go P row h Missing e c = none_more k ks go P row h Missing e (λ d. refl) c
+    own_more_tells k ks there go P row h Unknown e c = none_more k ks go P row h Unknown e (λ d. refl) c
+    own_more_tells k ks there go P row h (Known d) e c = fewer (λ x. More P k d.0 c x ⊎ Own ks c x) (λ x. P c x ⊎ Own (k ∷ ks) c x) (above_at (own_row m us (more row k d.0) ks) c)
+        (λ x r. elim r [
+          | inl p ↦ inl (inl p)
+          | inr q ↦ elim q.0 [
+            | inl same ↦ inl (inr (same, eqb-true d.0 c (sym (ap (λ n. is_context (context_at us n) c) same ∙ ap (λ y. is_context y c) e) ∙ q.1)))
+            | inr i ↦ inr (i, q.1)
+          ]
+        ])
+        (go (More P k d.0) (more row k d.0)
+          (told_set (More P k d.0) row d.0 (combined m us (above_at row d.0) (Least k))
+            (λ b other. fewer (P b) (More P k d.0 b) (above_at row b) (λ x r. elim r [ inl p ↦ p | inr q ↦ absurd (other q.1) ]) (h b))
+            (fewer (λ x. P d.0 x ⊎ (x ≡ k)) (More P k d.0 d.0) (combined m us (above_at row d.0) (Least k)) (λ x r. elim r [ inl p ↦ inl p | inr q ↦ inr q.0 ])
+              (both_tell (P d.0) (λ x. x ≡ k) (above_at row d.0) (Least k) (h d.0) (one_tells k there))))
+          c)
+
+    own_tell : (ks : List ℕ) → ((x : ℕ) → In x ks → In x ns) → OwnTold ks
     own_tell [] into P row h c = fewer (P c) (λ x. P c x ⊎ Own [] c x) (above_at row c) (λ x r. elim r [ inl p ↦ p | inr q ↦ absurd q.0 ]) (h c)
-    own_tell (k ∷ ks) into P row h c = by (context_at us k) refl
-      where
-        rest : (x : ℕ) → In x ks → In x ns
-        rest x i = into x (inr i)
-
-        none : (g : HeadClass) → context_at us k ≡ g → ((d : ℕ) → is_context g d ≡ false) → Told (λ x. P c x ⊎ Own (k ∷ ks) c x) (above_at (own_row m us row ks) c)
-        none g e fails = fewer (λ x. P c x ⊎ Own ks c x) (λ x. P c x ⊎ Own (k ∷ ks) c x) (above_at (own_row m us row ks) c)
-            (λ x r. elim r [ inl p ↦ inl p | inr q ↦ elim q.0 [ inl same ↦ clash q.1 (ap (λ n. is_context (context_at us n) c) same ∙ ap (λ y. is_context y c) e ∙ fails c) | inr i ↦ inr (i, q.1) ] ])
-            (own_tell ks rest P row h c)
-
-        by : (g : HeadClass) → context_at us k ≡ g → Told (λ x. P c x ⊎ Own (k ∷ ks) c x) (above_at (own_row m us (own_more m us row g k) ks) c)
-        by Missing e = none Missing e (λ d. refl)
-        by Unknown e = none Unknown e (λ d. refl)
-        by (Known d) e = fewer (λ x. More c x ⊎ Own ks c x) (λ x. P c x ⊎ Own (k ∷ ks) c x) (above_at (own_row m us more ks) c)
-            (λ x r. elim r [
-              | inl p ↦ inl (inl p)
-              | inr q ↦ elim q.0 [
-                | inl same ↦ inl (inr (same, eqb-true d.0 c (sym (ap (λ n. is_context (context_at us n) c) same ∙ ap (λ y. is_context y c) e) ∙ q.1)))
-                | inr i ↦ inr (i, q.1)
-              ]
-            ])
-            (own_tell ks rest More more
-              (told_set More row d.0 (combined m us (above_at row d.0) (Least k))
-                (λ b other. fewer (P b) (More b) (above_at row b) (λ x r. elim r [ inl p ↦ p | inr q ↦ absurd (other q.1) ]) (h b))
-                (fewer (λ x. P d.0 x ⊎ (x ≡ k)) (More d.0) (combined m us (above_at row d.0) (Least k)) (λ x r. elim r [ inl p ↦ inl p | inr q ↦ inr q.0 ])
-                  (both_tell (P d.0) (λ x. x ≡ k) (above_at row d.0) (Least k) (h d.0) (one_tells k (into k (inl refl))))))
-              c)
-          where
-            abbrev More : ℕ → ℕ → Type 0
-            More b x = P b x ⊎ ((x ≡ k) × (d.0 ≡ b))
-
-            abbrev more : List Above
-            more = set row d.0 (combined m us (above_at row d.0) (Least k))
+    own_tell (k ∷ ks) into P row h c = own_more_tells k ks (into k (inl refl)) (own_tell ks (λ x i. into x (inr i))) P row h (context_at us k) refl c
 
     -- The units of classes above.
 
@@ -229,33 +233,47 @@ module _ (m : Metamodels) (us : List Signature) (ns : List ℕ) where
       along_tells (c ∷ cs) row h = along_tells cs (set row c (over_class m us own top row c))
           (told_set (λ d. IsOver m us ns (known d)) row c (over_class m us own top row c) (λ d other. h d) (over_tells row h c))
 
-    pub row_is : AreLeast m → (count : ℕ) (order : List ℕ) → AllOver m us ns (row_along m us (own_row m us (replicate count Nothing) ns) (top_units m us Nothing ns) (replicate count Untold) order)
-    row_is least count order = along_tells least own top owns tops order (replicate count Untold) (λ c. of_each (Told (IsOver m us ns (known c))) Untold count c tt tt)
-      where
-        abbrev own : List Above
-        own = own_row m us (replicate count Nothing) ns
+    -- The row of all classes.
 
-        abbrev top : Above
-        top = top_units m us Nothing ns
+    abbrev all_own : ℕ → List Above
+    all_own count = own_row m us (replicate count Nothing) ns
 
-        owns : (c : ℕ) → Told (IsOwn us ns c) (above_at own c)
-        owns c = fewer (λ x. ⊥ ⊎ Own ns c x) (IsOwn us ns c) (above_at own c) (λ x q. inr q)
-            (own_tell ns (λ x i. i) (λ b x. ⊥) (replicate count Nothing) (λ b. of_each (Told (λ x. ⊥)) Nothing count b (λ n never. never) tt) c)
+    abbrev all_tops : Above
+    all_tops = top_units m us Nothing ns
 
-        tops : Told (IsTop ns) top
-        tops = fewer (λ x. ⊥ ⊎ IsTop ns x) (IsTop ns) top (λ x q. inr q) (tops_tell ns (λ x i. i) (λ x. ⊥) Nothing (λ n never. never))
+    owns_told : (count c : ℕ) → Told (IsOwn us ns c) (above_at (all_own count) c)
+    owns_told count c = fewer (λ x. ⊥ ⊎ Own ns c x) (IsOwn us ns c) (above_at (all_own count) c) (λ x q. inr q)
+        (own_tell ns (λ x i. i) (λ b x. ⊥) (replicate count Nothing) (λ b. of_each (Told (λ x. ⊥)) Nothing count b (λ n never. never) tt) c)
+
+    tops_told : Told (IsTop ns) all_tops
+    tops_told = fewer (λ x. ⊥ ⊎ IsTop ns x) (IsTop ns) all_tops (λ x q. inr q) (tops_tell ns (λ x i. i) (λ x. ⊥) Nothing (λ n never. never))
+
+    pub row_is : AreLeast m → (count : ℕ) (order : List ℕ) → AllOver m us ns (row_along m us (all_own count) all_tops (replicate count Untold) order)
+    row_is least count order = along_tells least (all_own count) all_tops (owns_told count) tops_told order (replicate count Untold)
+        (λ c. of_each (Told (IsOver m us ns (known c))) Untold count c tt tt)
 
 -- no list: nothing is told
 pub nothing_over : (m : Metamodels) (us : List Signature) (ns : List ℕ) → AllOver m us ns []
 nothing_over m us ns c = tt
 
+either_default : (xs : List (List ℕ)) (n : ℕ) (a b : List ℕ) → n < length xs → get_or xs n a ≡ get_or xs n b
+either_default [] n a b low = absurd (omega (arith, low))
+either_default (x ∷ xs) zero a b low = refl
+either_default (x ∷ xs) (suc n) a b low = either_default xs n a b (omega (arith, low))
+
 -- the row of a name more
 pub next_row : (m : Metamodels) (us : List Signature) (lists : List (List ℕ)) (rows : List (List Above)) (n : ℕ) (ns : List ℕ) (row : List Above)
-    → length rows ≡ n → ns ≡ get_or lists n [] → EachOver m us lists rows → AllOver m us ns row → EachOver m us lists (rows ++ row ∷ [])
-next_row m us lists rows n ns row long at each this s = by s (half (length rows) s)
+    → length rows ≡ n → n < length lists → ns ≡ get_or lists n ns → EachOver m us lists rows → AllOver m us ns row → EachOver m us lists (rows ++ row ∷ [])
+next_row m us lists rows n ns row long there item each this s = by s (half (length rows) s)
   where
+    at : ns ≡ get_or lists n []
+    at = item ∙ either_default lists n ns [] there
+
     by : (s : ℕ) → Half (length rows) s → AllOver m us (get_or lists s []) (get_or (rows ++ row ∷ []) s [])
     by _ (old s low) = subst (AllOver m us (get_or lists s [])) (sym (old-at rows (row ∷ []) s [] low)) (each s)
     by _ (new zero) = subst (AllOver m us (get_or lists (length rows + 0) [])) (sym (new-at rows (row ∷ []) 0 []))
         (subst (λ xs. AllOver m us xs row) (at ∙ ap (λ k. get_or lists k []) (let same : n ≡ length rows + 0 = omega (arith, long) in same)) this)
     by _ (new (suc k)) = subst (AllOver m us (get_or lists (length rows + suc k) [])) (sym (new-at rows (row ∷ []) (suc k) [])) (nothing_over m us (get_or lists (length rows + suc k) []))
+
+pub one_longer : (had has : List (List Above)) (row : List Above) (n : ℕ) → length had ≡ n → has ≡ had ++ row ∷ [] → length has ≡ n + 1
+one_longer had has row n long e = omega (arith, long, ap length e, length-append had (row ∷ []))

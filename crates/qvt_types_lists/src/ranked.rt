@@ -81,7 +81,8 @@ fn rows_along(
     for list in named.all.lists() {
         let group = list.as_slice();
         let is_wide = is_wide(count, units, named, group);
-        rows.push(row_where(alloc, metas, units, is_wide, group, order)?)?;
+        let row = row_where(alloc, metas, units, is_wide, group, order)?;
+        rows.push(row)?;
     }
     Ok(rows)
 }
