@@ -1,6 +1,6 @@
 -- What is told of the classes above each class is so.
-use Rattle.std.proofs.Common.{◌≡◌, ◌∙◌, ℕ, zero, suc, ◌+◌, ◌<◌, ◌==◌, List, [], ◌∷◌, ◌++◌, length, set, get_or, replicate, Bool, true, false, not, ◌&&◌, ◌||◌, ◌⊎◌, Option, Some, None, inl, inr, refl, sym, ap, subst, arith, length-append}
-use Rattle.std.specs.Prelude.{if◌then◌else◌, IsTrue}
+use Rattle.std.proofs.Common.{◌≡◌, ◌∙◌, ℕ, zero, suc, ◌+◌, ◌<◌, ◌==◌, List, [], ◌∷◌, ◌++◌, length, set, get_or, replicate, Bool, true, false, not, ◌⊎◌, Option, Some, None, inl, inr, refl, sym, ap, subst, arith, length-append}
+use Rattle.std.specs.Prelude.{if◌then◌else◌}
 use Rattle.std.specs.List.{list_any}
 use Rattle.std.proofs.lemmas.Bool.{eq-eqb, eqb-true}
 use Rattle.std.proofs.lemmas.List.{length-set, get_or-set_same, get_or-set_other, get_or_past}
@@ -21,7 +21,7 @@ use Rattle.qvt_types_groups.proofs.Lowest.{Transitive}
 use Rattle.qvt_types_lists.specs.declared.above.Above.{Above}
 use Rattle.qvt_types_lists.specs.declared.above.Above.TheVariants.{Untold, Nothing, Least, Several}
 use Rattle.qvt_types_lists.specs.Covers.{covers_at}
-use Rattle.qvt_types_lists.specs.Above.{combined, above_at, own_more, own_row, top_more, top_units, from_class, from_all, over_class, row_along, In, Tells, IsOwn, IsOver, AllOver, EachOver}
+use Rattle.qvt_types_lists.specs.Above.{combined, above_at, own_more, own_row, top_units, from_class, from_all, over_class, row_along, In, Tells, IsOwn, IsOver, AllOver, EachOver}
 use Rattle.qvt_types_lists.proofs.SameShapes.{Law}
 use Rattle.qvt_types_lists.proofs.Covered.{asks}
 
@@ -143,11 +143,11 @@ module _ (m : Metamodels) (us : List Signature) (ns : List ℕ) where
           ]
         ])
         (go (More P k d.0) (more row k d.0)
-          (told_set (More P k d.0) row d.0 (combined m us (above_at row d.0) (Least k))
-            (λ b other. fewer (P b) (More P k d.0 b) (above_at row b) (λ x r. elim r [ inl p ↦ p | inr q ↦ absurd (other q.1) ]) (h b))
-            (fewer (λ x. P d.0 x ⊎ (x ≡ k)) (More P k d.0 d.0) (combined m us (above_at row d.0) (Least k)) (λ x r. elim r [ inl p ↦ inl p | inr q ↦ inr q.0 ])
-              (both_tell (P d.0) (λ x. x ≡ k) (above_at row d.0) (Least k) (h d.0) (one_tells k there))))
-          c)
+        (told_set (More P k d.0) row d.0 (combined m us (above_at row d.0) (Least k))
+        (λ b other. fewer (P b) (More P k d.0 b) (above_at row b) (λ x r. elim r [ inl p ↦ p | inr q ↦ absurd (other q.1) ]) (h b))
+        (fewer (λ x. P d.0 x ⊎ (x ≡ k)) (More P k d.0 d.0) (combined m us (above_at row d.0) (Least k)) (λ x r. elim r [ inl p ↦ inl p | inr q ↦ inr q.0 ])
+        (both_tell (P d.0) (λ x. x ≡ k) (above_at row d.0) (Least k) (h d.0) (one_tells k there))))
+        c)
 
     own_tell : (ks : List ℕ) → ((x : ℕ) → In x ks → In x ns) → OwnTold ks
     own_tell [] into P row h c = fewer (P c) (λ x. P c x ⊎ Own [] c x) (above_at row c) (λ x r. elim r [ inl p ↦ p | inr q ↦ absurd q.0 ]) (h c)
@@ -169,8 +169,8 @@ module _ (m : Metamodels) (us : List Signature) (ns : List ℕ) where
       from_tell row h (c ∷ cs) P s told = fewer (λ x. (P x ⊎ From c.0 x) ⊎ FromSome x cs) (λ x. P x ⊎ FromSome x (c ∷ cs)) (from_all m us own row (combined m us s (from_class m us own row c.0)) cs)
           (λ x r. elim r [ inl p ↦ inl (inl p) | inr q ↦ elim q [ inl f ↦ inl (inr f) | inr g ↦ inr g ] ])
           (from_tell row h cs (λ x. P x ⊎ From c.0 x) (combined m us s (from_class m us own row c.0))
-            (both_tell P (From c.0) s (from_class m us own row c.0) told
-              (both_tell (IsOwn us ns c.0) (IsOver m us ns (known c.0)) (above_at own c.0) (above_at row c.0) (owns c.0) (h c.0))))
+          (both_tell P (From c.0) s (from_class m us own row c.0) told
+          (both_tell (IsOwn us ns c.0) (IsOver m us ns (known c.0)) (above_at own c.0) (above_at row c.0) (owns c.0) (h c.0))))
 
       from_some : (x k : ℕ) (cs : List ClassNo) → list_any (λ s. s.0 == k) cs ≡ true → From k x → FromSome x cs
       from_some x k [] e f = absurd (cc)

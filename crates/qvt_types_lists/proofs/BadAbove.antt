@@ -16,7 +16,7 @@ use Rattle.qvt_types_lists.specs.declared.above.Above.{Above}
 use Rattle.qvt_types_lists.specs.declared.above.Above.TheVariants.{Untold, Nothing, Least, Several}
 use Rattle.qvt_types_lists.specs.declared.odd.Named.{Named}
 use Rattle.qvt_types_lists.specs.declared.ranked.Ranked.{Ranked}
-use Rattle.qvt_types_lists.specs.Odd.{AreNamed, clashes_at, clashes_among}
+use Rattle.qvt_types_lists.specs.Odd.{clashes_at, clashes_among}
 use Rattle.qvt_types_lists.specs.Above.{In, Tells, IsOver, EachOver, AreRanked, row_under, over_unit, clashes_over}
 use Rattle.qvt_types_lists.proofs.SameShapes.{Law, among_is, bad_is}
 

@@ -1,6 +1,6 @@
 -- A unit that does not fit another does not fit one that asks all that this one asks.
 use Rattle.std.proofs.Common.{◌≡◌, ◌∙◌, ℕ, List, [], ◌∷◌, length, Bool, true, false, not, ◌&&◌, ◌||◌, Option, Some, None, inl, inr, refl, sym, ap, subst, arith}
-use Rattle.std.specs.Prelude.{◌==◌, nat_lt, IsTrue}
+use Rattle.std.specs.Prelude.{◌==◌, nat_lt}
 use Rattle.std.proofs.lemmas.Bool.{eqb-true}
 use Rattle.qvt_value.specs.declared.value.Kind.{Kind}
 use Rattle.qvt_value.specs.declared.value.Kind.TheVariants.{Set, Bag, Sequence, OrderedSet}
@@ -84,7 +84,7 @@ module _ (law : Law) where
       elim (or_cases (not (length us == length ws)) (any_differ us ws) d) [
         | inl here ↦ or_left (not (length us == length vs)) (any_differ us vs) (ap (λ n. not (length us == n)) long ∙ here)
         | inr rest ↦ or_right (not (length us == length vs)) (any_differ us vs) (some_differ us vs ws long (and_right (length vs == length ws) (all_known vs ws) k)
-          (neither (not (length vs == length ws)) (any_differ vs ws) f).1 rest)
+            (neither (not (length vs == length ws)) (any_differ vs ws) f).1 rest)
       ]
 
   module _ (m : Metamodels) (t : Transitive m) where
@@ -100,9 +100,9 @@ module _ (law : Law) where
     asks_all u v w c d =
         let sorts : same_sort v.sort w.sort ≡ true = and_left (same_sort v.sort w.sort) _ c in
         let others : (not (params_differ v.params w.params || (is_wider m v.answer w.answer || are_unlike v.sort w.sort)) && (know_all v.params w.params && knows v.answer w.answer)) ≡ true
-            = and_right (same_sort v.sort w.sort) _ c in
+        = and_right (same_sort v.sort w.sort) _ c in
         let fits : (params_differ v.params w.params || (is_wider m v.answer w.answer || are_unlike v.sort w.sort)) ≡ false
-            = is_not (params_differ v.params w.params || (is_wider m v.answer w.answer || are_unlike v.sort w.sort)) (and_left _ (know_all v.params w.params && knows v.answer w.answer) others) in
+        = is_not (params_differ v.params w.params || (is_wider m v.answer w.answer || are_unlike v.sort w.sort)) (and_left _ (know_all v.params w.params && knows v.answer w.answer) others) in
         let known : (know_all v.params w.params && knows v.answer w.answer) ≡ true = and_right (not (params_differ v.params w.params || (is_wider m v.answer w.answer || are_unlike v.sort w.sort))) _ others in
         let rest : (is_wider m v.answer w.answer || are_unlike v.sort w.sort) ≡ false = (neither (params_differ v.params w.params) _ fits).1 in
         elim (or_cases (params_differ u.params w.params) (is_wider m u.answer w.answer || are_unlike u.sort w.sort) d) [

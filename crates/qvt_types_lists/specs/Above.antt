@@ -8,7 +8,7 @@ use Rattle.qvt_types_groups.specs.declared.signature.HeadClass.TheVariants.{Miss
 use Rattle.qvt_types_groups.specs.declared.signature.Signature.{Signature}
 use Rattle.qvt_types_groups.specs.ByClass.{is_top}
 use Rattle.qvt_types_units.specs.Choice.{context_at}
-use Rattle.qvt_types_groups.specs.Lists.{NamedLists, numbers_under}
+use Rattle.qvt_types_groups.specs.Lists.{numbers_under}
 use Rattle.qvt_types_groups.specs.Numbers.{unit_at, is_context}
 use Rattle.qvt_types_groups.specs.Overrides.{is_misfit, is_strictly_below}
 use Rattle.qvt_types_lists.specs.declared.above.Above.{Above}

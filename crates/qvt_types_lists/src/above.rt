@@ -69,7 +69,11 @@ pub fn above_at(row: &[Above], class: u32) -> Above
     ensures { result ≡ above.above_at row.now class }
 {
     let at = class as usize;
-    if at < row.len() { row[at] } else { Above::Untold }
+    if at < row.len() {
+        row[at]
+    } else {
+        Above::Untold
+    }
 }
 
 /// Tells it of a class, where it is there.
@@ -94,13 +98,7 @@ fn same_of_each(alloc: Global, above: Above, count: u32) -> Result<AboveRow, Lis
 }
 
 /// Tells of one unit more at its own class.
-fn tell_own(
-    metas: &Metas,
-    units: &[Signature],
-    row: &mut AboveRow,
-    context: HeadClass,
-    number: u32,
-)
+fn tell_own(metas: &Metas, units: &[Signature], row: &mut AboveRow, context: HeadClass, number: u32)
     ensures { row.new ≡ above.own_more metas.now units.now row.old context number }
 {
     if let HeadClass::Known(class) = context {
@@ -122,13 +120,7 @@ fn own_row(
 {
     let mut row = same_of_each(alloc, Above::Nothing, count)?;
     for number in group {
-        tell_own(
-            metas,
-            units,
-            &mut row,
-            context_at(units, *number),
-            *number,
-        );
+        tell_own(metas, units, &mut row, context_at(units, *number), *number);
     }
     Ok(row)
 }
@@ -178,13 +170,7 @@ fn top_units(metas: &Metas, units: &[Signature], group: &[u32]) -> Above
 }
 
 /// The units of a class and of those above it.
-fn from_class(
-    metas: &Metas,
-    units: &[Signature],
-    own: &[Above],
-    row: &[Above],
-    class: u32,
-) -> Above
+fn from_class(metas: &Metas, units: &[Signature], own: &[Above], row: &[Above], class: u32) -> Above
     ensures { result ≡ above.from_class metas.now units.now own.now row.now class }
 {
     combined(metas, units, above_at(own, class), above_at(row, class))
@@ -203,7 +189,12 @@ fn from_all(
 {
     let mut all = told;
     for class in classes {
-        all = combined(metas, units, all, from_class(metas, units, own, row, class.0));
+        all = combined(
+            metas,
+            units,
+            all,
+            from_class(metas, units, own, row, class.0),
+        );
     }
     all
 }

@@ -42,7 +42,11 @@ fn is_wide(count: u32, units: &[Signature], named: &Named, group: &[u32]) -> boo
         [first, ..] => {
             let at = *first as usize;
             at < units.len()
-                && is_worth(count, group.len(), named.odd.find(units[at].name.as_str()).len())
+                && is_worth(
+                    count,
+                    group.len(),
+                    named.odd.find(units[at].name.as_str()).len(),
+                )
         }
     }
 }
