@@ -51,7 +51,7 @@ unlike_mappings sort.Query n k = refl
 unlike_mappings sort.Constructor n k = refl
 unlike_mappings (sort.Mapping m) n k = refl
 
-unlike_is : (w s r : UnitSort) → same_sort s r ≡ true → are_unlike w s ≡ are_unlike w r
+pub unlike_is : (w s r : UnitSort) → same_sort s r ≡ true → are_unlike w s ≡ are_unlike w r
 unlike_is w sort.Class r e = absurd (cc)
 unlike_is w sort.Main r e = absurd (cc)
 unlike_is w sort.Constructor r e = absurd (cc)
@@ -116,15 +116,24 @@ like_is law m us u v (n ∷ ns) like e =
     (shape_is law m u (unit_at us n) v (and_right (nat_lt n (length us)) (same_shape (unit_at us n) v) like)
     ∙ and_right (is_strictly_below m u.context v.context) (is_misfit m u v) e)
 
--- a unit that overrides others of its kind
-pub bad_is : Law → (m : Metamodels) (us : List Signature) (maps : Bool) (t : Named) (u : Signature) → AreNamed maps us t
-    → ((v : Signature) → is_called maps v.sort ≡ are_alike u.sort v.sort) → clashes_among m us t u ≡ is_bad_override m us u
-bad_is law m us maps t u are alike =
+-- where those that are unlike the first are looked at, and all where the unit does not fit the first, all are
+pub among_is : Law → (m : Metamodels) (us : List Signature) (maps : Bool) (t : Named) (u : Signature) → AreNamed maps us t
+    → clashes_among m us t u ≡ list_any (clashes_at m us u) (numbers_under t.all u.name)
+among_is law m us maps t u are =
     (λ i. list_any (clashes_at m us u) (are.odd u.name i) || (misfits_first m us (numbers_under t.all u.name) u && list_any (clashes_at m us u) (are.all u.name i)))
     ∙ (λ i. any_where (is_odd maps us (numbers_under t.all u.name) u.name) (clashes m u) us i
     || (misfits_first m us (numbers_under t.all u.name) u && any_where (is_in_group maps u.name) (clashes m u) us i))
     ∙ parted (is_in_group maps u.name) (is_like_first us (numbers_under t.all u.name)) (clashes m u) us (misfits_first m us (numbers_under t.all u.name) u)
     (λ v. like_is law m us u v (numbers_under t.all u.name))
+    ∙ sym (any_where (is_in_group maps u.name) (clashes m u) us)
+    ∙ ap (list_any (clashes_at m us u)) (sym (are.all u.name))
+
+-- a unit that overrides others of its kind
+pub bad_is : (m : Metamodels) (us : List Signature) (maps : Bool) (t : Named) (u : Signature) → AreNamed maps us t
+    → ((v : Signature) → is_called maps v.sort ≡ are_alike u.sort v.sort) → list_any (clashes_at m us u) (numbers_under t.all u.name) ≡ is_bad_override m us u
+bad_is m us maps t u are alike =
+    ap (list_any (clashes_at m us u)) (are.all u.name)
+    ∙ any_where (is_in_group maps u.name) (clashes m u) us
     ∙ (λ i. list_any (λ v. each_is m maps u v (alike v) i) us)
 
 none : (p : Signature → Bool) (us : List Signature) → ((v : Signature) → p v ≡ false) → false ≡ list_any p us

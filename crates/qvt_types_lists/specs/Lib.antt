@@ -7,3 +7,5 @@ pub mod Shapes
 pub mod Same
 pub mod Lists
 pub mod Odd
+pub mod Covers
+pub mod Above

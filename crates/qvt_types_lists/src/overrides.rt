@@ -6,11 +6,15 @@ ghost use Rattle.qvt_types_groups.specs.Numbers.{unit_at};
 ghost use Rattle.qvt_types_groups.specs.Overrides as overrides;
 ghost use Rattle.qvt_types_groups.specs.Units as units_told;
 ghost use Rattle.qvt_types_lists.specs.Odd as odd_words;
-ghost use Rattle.qvt_types_lists.specs.Odd.{AreNamed};
+ghost use Rattle.qvt_types_lists.specs.Above as above;
+ghost use Rattle.qvt_types_lists.specs.Above.{AreRanked};
 
-use crate::odd::{Named, by_name};
+use crate::above::Above;
+use crate::odd::Named;
+use crate::ranked::{Ranked, over_unit, rank_by_name};
 use qvt_base::list_fault::ListFault;
 use qvt_types_data::refusal::RefusalKind;
+use qvt_types_groups::choice::context_at;
 use qvt_types_groups::overrides::{is_misfit, is_strictly_below};
 use qvt_types_groups::signature::{Signature, UnitSort};
 use qvt_types_laws::laws::same_means_equal;
@@ -67,26 +71,61 @@ fn clashes_among(metas: &Metas, units: &[Signature], named: &Named, unit: &Signa
         || (misfits_first(metas, units, all, unit) && clashes_with(metas, units, unit, all))
 }
 
+/// Whether the unit does not fit one of its name that is above it, where this stands above it. Two units of which none asks all that the
+/// other asks are looked at before all of them are.
+fn clashes_over(
+    metas: &Metas,
+    units: &[Signature],
+    named: &Named,
+    unit: &Signature,
+    over: Above,
+) -> bool
+    ensures { result ≡ above.clashes_over metas.now units.now named.now unit.now over }
+{
+    match over {
+        Above::Untold => clashes_among(metas, units, named, unit),
+        Above::Nothing => false,
+        Above::Least(number) => {
+            clashes_at(metas, units, unit, number)
+                || (!is_strictly_below(metas, unit.context, context_at(units, number))
+                    && clashes_among(metas, units, named, unit))
+        }
+        Above::Several(first, second) => {
+            clashes_at(metas, units, unit, first)
+                || clashes_at(metas, units, unit, second)
+                || clashes_among(metas, units, named, unit)
+        }
+    }
+}
+
+/// Whether the unit does not fit one of its name that is above it.
+fn clashes(metas: &Metas, units: &[Signature], ranked: &Ranked, unit: &Signature) -> bool
+    ensures { result ≡ above.clashes_over metas.now units.now ranked.now.named unit.now (above.over_unit ranked.now unit.now.name unit.now.context) }
+{
+    let over = over_unit(ranked, unit.name.as_str(), unit.context);
+    clashes_over(metas, units, &ranked.named, unit, over)
+}
+
 /// Whether the unit overrides another and does not fit it: BadOverride.
 fn is_bad(
     metas: &Metas,
     units: &[Signature],
-    mappings: &Named,
-    helpers: &Named,
+    mappings: &Ranked,
+    helpers: &Ranked,
     unit: &Signature,
 ) -> bool
-    requires mappings { AreNamed true units.now mappings.now }
-    requires helpers { AreNamed false units.now helpers.now }
+    requires mappings { AreRanked metas.now true units.now mappings.now }
+    requires helpers { AreRanked metas.now false units.now helpers.now }
     ensures { result ≡ overrides.is_bad_override metas.now units.now unit.now }
 {
     same_means_equal();
     match unit.sort {
         UnitSort::Class => false,
         UnitSort::Main => false,
-        UnitSort::Helper => clashes_among(metas, units, helpers, unit),
-        UnitSort::Query => clashes_among(metas, units, helpers, unit),
+        UnitSort::Helper => clashes(metas, units, helpers, unit),
+        UnitSort::Query => clashes(metas, units, helpers, unit),
         UnitSort::Constructor => false,
-        UnitSort::Mapping(_) => clashes_among(metas, units, mappings, unit),
+        UnitSort::Mapping(_) => clashes(metas, units, mappings, unit),
     }
 }
 
@@ -100,8 +139,8 @@ pub fn tell_overrides(
 ) -> Result<(), ListFault>
     ensures { OnOk result (log.new ≡ log.old ++ units_told.overrides_told metas.now units.now units.now) }
 {
-    let mappings = by_name(alloc, true, units)?;
-    let helpers = by_name(alloc, false, units)?;
+    let mappings = rank_by_name(alloc, metas, true, units)?;
+    let helpers = rank_by_name(alloc, metas, false, units)?;
     for unit in units {
         let bad = is_bad(metas, units, &mappings, &helpers, unit);
         tell_if(log, bad, RefusalKind::BadOverride, unit.place)?;

@@ -6,7 +6,7 @@ ghost use Rattle.qvt_types_lists.specs.Shapes as shapes;
 use qvt_types_data::ty::{Ty, same};
 use qvt_types_groups::signature::{Signature, UnitSort};
 
-fn same_sort(one: UnitSort, other: UnitSort) -> bool
+pub fn same_sort(one: UnitSort, other: UnitSort) -> bool
     ensures { result ≡ shapes.same_sort one other }
 {
     match (one, other) {
