@@ -1,5 +1,5 @@
--- What statements that begin with an expression keep, and blocks.
-use Rattle.std.proofs.Common.{◌≡◌, sym, ℕ, zero, suc, List, [], ◌∷◌, ◌++◌, Bool, true, false, ◌⊎◌, inl, inr, refl, Option, Some, None, subst}
+-- What is kept holds of statements that begin with an expression, and of blocks.
+use Rattle.std.proofs.Common.{◌≡◌, ◌<◌, arith, ap, ◌∙◌, sym, ℕ, zero, suc, List, [], ◌∷◌, ◌++◌, Bool, true, false, ◌⊎◌, inl, inr, refl, Option, Some, None, subst}
 use Rattle.qvt_base.specs.declared.numbers.Place.{Place}
 use Rattle.qvt_grammar.specs.Language.{Language, then, made}
 use Rattle.qvt_grammar.proofs.Firsts.{Within}
@@ -21,13 +21,10 @@ use Rattle.qvt_language.specs.Statements.{semicolon, lead_tail, lead_stmt, state
 use Rattle.qvt_language.specs.ReadingStatements.{semicolon_at, lead_tail_at, lead_stmt_at, statement_at, statements_at, block_at}
 use Rattle.qvt_grammar.specs.Reader.{then_at, made_at}
 use Rattle.qvt_language.proofs.Sets.{all_in, none_in, within, within_left, within_right, within_both}
-use Rattle.qvt_language.proofs.Forms.{Loose, Good, good_the, good_made, good_placed, good_sets, loose_sets, loose_made, good_then, good_after, loose_maybe, loose_empty}
-use Rattle.qvt_language.proofs.ValuedForms.{LooseV, GoodV, loosev_of, goodv_of, loosev_sets, goodv_sets, loose_all, loosev_made, goodv_made, goodv_placed, goodv_follow, loosev_then, goodv_either, optional_next, loosev_maybe, turn_next, ended_next, loosev_series, ended_all}
-use Rattle.qvt_language.proofs.GoodExprs.{GoodNested, good_other_primary, good_dot_step}
-use Rattle.qvt_language.proofs.GoodSteps.{good_arrow_rest, good_each_tail, good_signs, good_post, good_pre}
-use Rattle.qvt_language.proofs.GoodTower.{apart_operators, good_links, good_chain}
-use Rattle.qvt_language.proofs.GoodIfs.{opens, step_next, goodv_lead_step, item_next, good_if_stmt}
-use Rattle.qvt_language.proofs.GoodStmts.{good_while_stmt, good_var_stmt, good_return_stmt, good_assignment}
+use Rattle.qvt_language.proofs.Every.{optional_next, ended_next, turn_next, Said, by, solid, loose, later, fits, Keeping, Valuing, Forms, Inside}
+use Rattle.qvt_language.proofs.EveryExprs.{k_other_primary, k_signs, k_post, k_pre}
+use Rattle.qvt_language.proofs.EveryTower.{apart_operators, KeptAt, k_operator, k_links, k_chain}
+use Rattle.qvt_language.proofs.EveryStmts.{opens, step_next, v_lead_step, item_next, k_if_stmt, k_while_stmt, k_var_stmt, k_return_stmt, k_assignment}
 
 -- with what a statement begins that begins with an expression
 abbrev lead_first : List ℕ
@@ -55,23 +52,28 @@ over_steps p (steps, (Some part)) = λ t h. h
 signed_sides : (x : Place × ((Sign × List Sign) × Lead)) → Within (of post_next) (of (lead_next zero (prefix_lead x)))
 signed_sides (place, ((s, more), x)) t h = h
 
-module _ {n : ℕ} {i j : Nested} {r : NestedAt} (h : GoodNested n i j r) where
-  no_steps : (p : ExprTerm × Bool) (b : List StepTerm × Option EachPart) → (series (lead_step i)).reads [] b → Within (of (code_of OpenRound ∷ 10 ∷ [])) (of (steps_next (p, b)))
-  no_steps p (steps, None) rd = within (code_of OpenRound ∷ 10 ∷ []) post_next refl
-  no_steps p (steps, (Some part)) rd = absurd ((goodv_lead_step h).solid (inr part) (subst (λ z. (lead_step i).reads z (inr part)) (nil_right rd.0 rd.1 rd.2) rd.4))
+no_last : (i : Nested) (part : EachPart) → (lead_step i).reads [] (inr part) → ⊥
+unfolding lead_step
+no_last i part (inl rd) = let k = rd.2 in cc
+no_last i part (inr (x, (u, v, e, a, rd), q)) = let k : [] ≡ x.0 ∷ v = e ∙ ap (λ z. z ++ v) a.0 in cc
 
-  pub goodv_lead_post : GoodV n true primary_first (lead_next zero) (lead_post i) (lead_post j) (lead_post_at r)
+no_steps : (i : Nested) (p : ExprTerm × Bool) (b : List StepTerm × Option EachPart) → (series (lead_step i)).reads [] b → Within (of (code_of OpenRound ∷ 10 ∷ [])) (of (steps_next (p, b)))
+no_steps i p (steps, None) rd = within (code_of OpenRound ∷ 10 ∷ []) post_next refl
+no_steps i p (steps, (Some part)) rd = absurd (no_last i part (subst (λ z. (lead_step i).reads z (inr part)) (nil_right rd.0 rd.1 rd.2) rd.4))
+
+module _ {K KB : Keeping} {KV : Valuing} {F : Forms K KB KV} {i j : Nested} {r : NestedAt} (h : Inside F i j r) where
+  pub v_lead_post : KV _ (solid primary_first (lead_next zero)) (lead_post i) (lead_post j) (lead_post_at r)
   unfolding lead_post lead_post_at
-  goodv_lead_post = goodv_made each_lead (lead_next zero) post_sides (goodv_placed (goodv_follow steps_next (goodv_of (good_sets primary_first (code_of OpenRound ∷ 10 ∷ []) refl refl (good_other_primary h)))
-      (λ _. loosev_series step_first opens [] refl refl (goodv_lead_step h)) (λ _. refl) no_steps over_steps))
+  v_lead_post = F.value_gives each_lead (lead_next zero) post_sides (F.value_at (F.value_depending steps_next (F.valued (F.wider {t = solid primary_first (code_of OpenRound ∷ 10 ∷ [])} (fits refl) (k_other_primary h)))
+      (λ _. F.turns_of step_first opens [] refl refl (v_lead_step h)) (λ _. refl) (no_steps i) over_steps))
 
-  goodv_signed : GoodV n true (25 ∷ 62 ∷ []) (lead_next zero) (signed_post i) (signed_post j) (signed_post_at r)
+  v_signed : KV _ (solid (25 ∷ 62 ∷ []) (lead_next zero)) (signed_post i) (signed_post j) (signed_post_at r)
   unfolding signed_post signed_post_at
-  goodv_signed = goodv_made prefix_lead (lead_next zero) signed_sides (goodv_of (good_placed (good_then good_signs (good_sets (42 ∷ primary_first) post_next refl refl (good_post h)) refl)))
+  v_signed = F.value_gives prefix_lead (lead_next zero) signed_sides (F.valued (F.at (F.both (k_signs F) (F.wider {t = solid (42 ∷ primary_first) post_next} (fits refl) (k_post h)) refl)))
 
-  pub goodv_lead_pre : GoodV n true lead_first (lead_next zero) (lead_pre i) (lead_pre j) (lead_pre_at r)
+  pub v_lead_pre : KV _ (solid lead_first (lead_next zero)) (lead_pre i) (lead_pre j) (lead_pre_at r)
   unfolding lead_pre lead_pre_at
-  goodv_lead_pre = goodv_sets lead_first refl (goodv_either sign_first goodv_signed goodv_lead_post refl refl)
+  v_lead_pre = F.value_wider lead_first refl (F.value_one_of sign_first v_signed v_lead_post refl refl)
 
 -- chains
 
@@ -97,22 +99,24 @@ over_links k (Plain e target) = within_right (operators k) (next_at k)
 over_links k (Bracketed e) = within_right (operators k) (next_at k)
 over_links k (Each e part) = λ t h. h
 
-loosev_links : {n : ℕ} (k : ℕ) {l l2 : Language Tok Lead} {f : Reader Lead} → Good n true expr_first (next_at k) l l2 f → (x : Lead) → LooseV n true (operators k) (links_next k x) (links k l x) (links k l2 x) (links_at k f x)
-loosev_links k h (Plain e target) = loosev_of (good_links k h (Plain e target))
-loosev_links k h (Bracketed e) = loosev_of (good_links k h (Bracketed e))
-loosev_links k h (Each e part) = loosev_of (loose_sets (operators k) [] refl refl (loose_made nothing loose_empty))
+module _ {K KB : Keeping} {KV : Valuing} (F : Forms K KB KV) where
+  v_links : (k : ℕ) → KeptAt F k → {l l2 : Language Tok Lead} {f : Reader Lead} → K _ (solid expr_first (next_at k)) l l2 f → (x : Lead) → KV _ (loose (operators k) (links_next k x)) (links k l x) (links k l2 x) (links_at k f x)
+  v_links k o h (Plain e target) = F.valued (k_links F k o h (Plain e target))
+  v_links k o h (Bracketed e) = F.valued (k_links F k o h (Bracketed e))
+  v_links k o h (Each e part) = F.valued (F.wider {t = loose (operators k) []} (fits refl) (F.gives nothing F.no_token))
 
-pub goodv_chain : {n : ℕ} (k : ℕ) (first : List ℕ) {p p2 q q2 : Language Tok Lead} {f g : Reader Lead} → GoodV n true first (lead_next zero) p p2 f → Good n true expr_first post_next q q2 g
-    → GoodV n true first (lead_next k) (chain k p q) (chain k p2 q2) (chain_at k f g)
-unfolding chain chain_at
-goodv_chain zero first hp hq = hp
-goodv_chain (suc k) first hp hq =
-    goodv_made (chain_of (level_of k)) (lead_next (suc k)) (chain_sides k) (goodv_placed (goodv_follow (pair_next k) (goodv_chain k first hp hq) (loosev_links k (good_chain k expr_first hq hq)) (apart_links k)
-    (λ x ls rd. over_links k x) (λ x ls t q. q)))
+  v_chain : (k : ℕ) → ((n : ℕ) → n < k → KeptAt F n) → (first : List ℕ) {p p2 q q2 : Language Tok Lead} {f g : Reader Lead} → KV _ (solid first (lead_next zero)) p p2 f → K _ (solid expr_first post_next) q q2 g
+      → KV _ (solid first (lead_next k)) (chain k p q) (chain k p2 q2) (chain_at k f g)
+  unfolding chain chain_at
+  v_chain zero o first hp hq = hp
+  v_chain (suc k) o first hp hq =
+      let lower : (n : ℕ) → n < k → KeptAt F n = λ n lt. o n (omega (arith, lt)) in
+      F.value_gives (chain_of (level_of k)) (lead_next (suc k)) (chain_sides k) (F.value_at (F.value_depending (pair_next k) (v_chain k lower first hp hq) (v_links k (o k (omega arith)) (k_chain F k lower expr_first hq hq)) (apart_links k)
+      (λ x ls rd. over_links k x) (λ x ls t q. q)))
 
-pub goodv_lead : {n : ℕ} {i j : Nested} {r : NestedAt} → GoodNested n i j r → GoodV n true lead_first (lead_next 8) (lead i) (lead j) (lead_at r)
+pub v_lead : {K KB : Keeping} {KV : Valuing} {F : Forms K KB KV} {i j : Nested} {r : NestedAt} → Inside F i j r → KV _ (solid lead_first (lead_next 8)) (lead i) (lead j) (lead_at r)
 unfolding lead lead_at
-goodv_lead h = goodv_chain 8 lead_first (goodv_lead_pre h) (good_sets expr_first post_next refl refl (good_pre h))
+v_lead {F = F} h = v_chain F 8 (k_operator F) lead_first (v_lead_pre h) (F.wider {t = solid expr_first post_next} (fits refl) (k_pre h))
 
 -- statements
 
@@ -122,9 +126,9 @@ semi = code_of Semicolon ∷ []
 abbrev semi_next : Option Tok → List ℕ
 semi_next = optional_next semi []
 
-loosev_semicolon : {n : ℕ} → LooseV n true semi semi_next semicolon semicolon semicolon_at
+v_semicolon : {K KB : Keeping} {KV : Valuing} (F : Forms K KB KV) → KV _ (loose semi semi_next) semicolon semicolon semicolon_at
 unfolding semicolon semicolon_at
-loosev_semicolon = loosev_maybe semi refl (good_the Semicolon)
+v_semicolon F = F.value_perhaps semi refl (F.token Semicolon)
 
 no_semicolon : (t : Tok) → semicolon.reads [] (Some t) → ⊥
 unfolding semicolon
@@ -162,12 +166,12 @@ assigned_sides a (Some t) = λ x h. h
 abbrev tail_first : List ℕ
 tail_first = code_of Becomes ∷ code_of PlusEqual ∷ code_of Semicolon ∷ []
 
-loosev_tail : {n : ℕ} {i j : Nested} {r : NestedAt} → GoodNested n i j r → (x : Lead) → LooseV n true tail_first (lead_tail_next x) (lead_tail i x) (lead_tail j x) (lead_tail_at r x)
-loosev_tail h (Plain e None) = loosev_sets tail_first refl (loosev_made plain_tail tail_next plain_sides loosev_semicolon)
-loosev_tail h (Bracketed e) = loosev_sets tail_first refl (loosev_made plain_tail tail_next plain_sides loosev_semicolon)
-loosev_tail h (Plain e (Some target)) = loosev_sets tail_first refl (loosev_then tail_next
-    (loosev_of (loose_sets (code_of Becomes ∷ code_of PlusEqual ∷ []) (code_of Becomes ∷ code_of PlusEqual ∷ expr_next) refl refl (loose_maybe assign_first refl (good_assignment h)))) loosev_semicolon (λ _. refl) assigned_over assigned_sides)
-loosev_tail h (Each e part) = loosev_sets tail_first refl (loosev_made no_tail (lead_tail_next (Each e part)) (no_sides e part) (loosev_of loose_empty))
+v_tail : {K KB : Keeping} {KV : Valuing} {F : Forms K KB KV} {i j : Nested} {r : NestedAt} → Inside F i j r → (x : Lead) → KV _ (loose tail_first (lead_tail_next x)) (lead_tail i x) (lead_tail j x) (lead_tail_at r x)
+v_tail {F = F} h (Plain e None) = F.value_wider tail_first refl (F.value_gives plain_tail tail_next plain_sides (v_semicolon F))
+v_tail {F = F} h (Bracketed e) = F.value_wider tail_first refl (F.value_gives plain_tail tail_next plain_sides (v_semicolon F))
+v_tail {F = F} h (Plain e (Some target)) = F.value_wider tail_first refl (F.value_both tail_next
+    (F.valued (F.wider {t = loose (code_of Becomes ∷ code_of PlusEqual ∷ []) (code_of Becomes ∷ code_of PlusEqual ∷ expr_next)} (fits refl) (F.perhaps assign_first refl (k_assignment h)))) (v_semicolon F) (λ _. refl) assigned_over assigned_sides)
+v_tail {F = F} h (Each e part) = F.value_wider tail_first refl (F.value_gives no_tail (lead_tail_next (Each e part)) (no_sides e part) (F.valued F.no_token))
 
 -- statements without `;` go on with much more than items of a block
 abbrev last_next : List ℕ
@@ -200,12 +204,12 @@ lead_apart (Plain e target) = refl
 lead_apart (Bracketed e) = refl
 lead_apart (Each e part) = refl
 
-pub goodv_lead_stmt : {n : ℕ} {i j : Nested} {r : NestedAt} → GoodNested n i j r → GoodV n true lead_first stmt_next (lead_stmt i) (lead_stmt j) (lead_stmt_at r)
+pub v_lead_stmt : {K KB : Keeping} {KV : Valuing} {F : Forms K KB KV} {i j : Nested} {r : NestedAt} → Inside F i j r → KV _ (solid lead_first stmt_next) (lead_stmt i) (lead_stmt j) (lead_stmt_at r)
 unfolding lead_stmt lead_stmt_at
-goodv_lead_stmt {i = i} h = goodv_made lead_turn stmt_next turn_sides (goodv_placed (goodv_follow lead_next_of (goodv_lead h) (loosev_tail h) lead_apart (lead_over i) (λ _ _ t q. q)))
+v_lead_stmt {F = F} {i = i} h = F.value_gives lead_turn stmt_next turn_sides (F.value_at (F.value_depending lead_next_of (v_lead h) (v_tail h) lead_apart (lead_over i) (λ _ _ t q. q)))
 
 -- a statement that may have a `;`
-module _ {n : ℕ} (first next : List ℕ) {l l2 : Language Tok StmtTerm} {f : Reader StmtTerm} (k : Good n true first next l l2 f) (w : all_in next last_next ≡ true) (a : none_in next semi ≡ true) where
+module _ {K KB : Keeping} {KV : Valuing} (F : Forms K KB KV) (first next : List ℕ) {l l2 : Language Tok StmtTerm} {f : Reader StmtTerm} (k : K _ (solid first next) l l2 f) (w : all_in next last_next ≡ true) (a : none_in next semi ≡ true) where
   abbrev simple_next : StmtTerm × Option Tok → List ℕ
   simple_next (s, t) = optional_next (next ++ semi) [] t
 
@@ -221,8 +225,8 @@ module _ {n : ℕ} (first next : List ℕ) {l l2 : Language Tok StmtTerm} {f : R
   simple_sides (s, None) = within_both next semi last_next (within next last_next w) (within semi last_next refl)
   simple_sides (s, (Some t)) = λ x h. absurd cc
 
-  goodv_simple : GoodV n true first stmt_next (made simple_turn (then l semicolon)) (made simple_turn (then l2 semicolon)) (made_at simple_turn (then_at f semicolon_at))
-  goodv_simple = goodv_made simple_turn stmt_next simple_sides (goodv_follow simple_next (goodv_of k) (λ _. loosev_semicolon) (λ _. a) simple_over simple_more)
+  v_simple : KV _ (solid first stmt_next) (made simple_turn (then l semicolon)) (made simple_turn (then l2 semicolon)) (made_at simple_turn (then_at f semicolon_at))
+  v_simple = F.value_gives simple_turn stmt_next simple_sides (F.value_depending simple_next (F.valued k) (λ _. v_semicolon F) (λ _. a) simple_over simple_more)
 
 closed_sides : (s : StmtTerm) → Within (of item_next) (of (stmt_next (closed_turn s)))
 closed_sides s t h = h
@@ -230,23 +234,27 @@ closed_sides s t h = h
 empty_sides : (x : Tok) → Within (of []) (of (stmt_next (empty_turn x)))
 empty_sides x t h = absurd cc
 
-pub goodv_statement : {n : ℕ} {i j : Nested} {r : NestedAt} → GoodNested n i j r → GoodV n true stmt_first stmt_next (statement i) (statement j) (statement_at r)
+pub v_statement : {K KB : Keeping} {KV : Valuing} {F : Forms K KB KV} {i j : Nested} {r : NestedAt} → Inside F i j r → KV _ (solid stmt_first stmt_next) (statement i) (statement j) (statement_at r)
 unfolding statement statement_at
-goodv_statement h = goodv_sets stmt_first refl (goodv_either semi (goodv_made empty_turn stmt_next empty_sides (goodv_of (good_the Semicolon)))
-    (goodv_either (code_of IfWord ∷ []) (goodv_made closed_turn stmt_next closed_sides (goodv_of (good_if_stmt h)))
-    (goodv_either (code_of WhileWord ∷ []) (goodv_made closed_turn stmt_next closed_sides (goodv_of (good_sets (code_of WhileWord ∷ []) item_next refl refl (good_while_stmt h))))
-    (goodv_either (code_of VarWord ∷ []) (goodv_simple (code_of VarWord ∷ []) (code_of Becomes ∷ code_of Colon ∷ expr_next) (good_sets (code_of VarWord ∷ []) (code_of Becomes ∷ code_of Colon ∷ expr_next) refl refl (good_var_stmt h)) refl refl)
-    (goodv_either (code_of ReturnWord ∷ []) (goodv_simple (code_of ReturnWord ∷ []) (expr_next ++ expr_first) (good_sets (code_of ReturnWord ∷ []) (expr_next ++ expr_first) refl refl (good_return_stmt h)) refl refl)
-    (goodv_lead_stmt h) refl refl) refl refl) refl refl) refl refl) refl refl)
+v_statement {F = F} h = F.value_wider stmt_first refl (F.value_one_of semi (F.value_gives empty_turn stmt_next empty_sides (F.valued (F.token Semicolon)))
+    (F.value_one_of (code_of IfWord ∷ []) (F.value_gives closed_turn stmt_next closed_sides (F.valued (k_if_stmt h)))
+    (F.value_one_of (code_of WhileWord ∷ []) (F.value_gives closed_turn stmt_next closed_sides (F.valued (F.wider {t = solid (code_of WhileWord ∷ []) item_next} (fits refl) (k_while_stmt h))))
+    (F.value_one_of (code_of VarWord ∷ []) (v_simple F (code_of VarWord ∷ []) (code_of Becomes ∷ code_of Colon ∷ expr_next) (F.wider (fits refl) (k_var_stmt h)) refl refl)
+    (F.value_one_of (code_of ReturnWord ∷ []) (v_simple F (code_of ReturnWord ∷ []) (expr_next ++ expr_first) (F.wider (fits refl) (k_return_stmt h)) refl refl)
+    (v_lead_stmt h) refl refl) refl refl) refl refl) refl refl) refl refl)
 
 -- what may go on after the statements of a block
 abbrev pub stmts_next : List ℕ
 stmts_next = stmt_first ++ (item_next ++ last_next)
 
-pub loose_statements : {n : ℕ} {i j : Nested} {r : NestedAt} → GoodNested n i j r → Loose n true stmt_first stmts_next (statements i) (statements j) (statements_at r)
-unfolding statements statements_at
-loose_statements h = loose_made ended_of (loose_sets stmt_first stmts_next refl refl (loose_all ((stmt_first ++ item_next) ++ last_next) (ended_all (stmt_first ++ item_next) last_next) (loosev_series stmt_first item_next last_next refl refl (goodv_statement h))))
+ended_all : {A B : Type 0} (x y : List ℕ) (all : List A × Option B) → Within (of (ended_next x y all)) (of (x ++ y))
+ended_all x y (got, None) = within_left x y
+ended_all x y (got, (Some b)) = within_right x y
 
-pub good_block : {n : ℕ} {i j : Nested} {r : NestedAt} → GoodNested n i j r → Good n true (code_of OpenBrace ∷ []) [] (block i) (block j) (block_at r)
+pub k_statements : {K KB : Keeping} {KV : Valuing} {F : Forms K KB KV} {i j : Nested} {r : NestedAt} → Inside F i j r → K _ (loose stmt_first stmts_next) (statements i) (statements j) (statements_at r)
+unfolding statements statements_at
+k_statements {F = F} h = F.gives ended_of (F.wider {t = loose stmt_first stmts_next} (fits refl) (F.alike ((stmt_first ++ item_next) ++ last_next) (ended_all (stmt_first ++ item_next) last_next) (F.turns_of stmt_first item_next last_next refl refl (v_statement h))))
+
+pub k_block : {K KB : Keeping} {KV : Valuing} {F : Forms K KB KV} {i j : Nested} {r : NestedAt} → Inside F i j r → K _ (solid (code_of OpenBrace ∷ []) []) (block i) (block j) (block_at r)
 unfolding block block_at
-good_block h = good_made block_of (good_then (good_the OpenBrace) (good_sets (code_of CloseBrace ∷ stmt_first) [] refl refl (good_after (loose_statements h) (good_the CloseBrace) refl)) refl)
+k_block {F = F} h = F.gives block_of (F.both (F.token OpenBrace) (F.wider {t = solid (code_of CloseBrace ∷ stmt_first) []} (fits refl) (F.both (k_statements h) (F.token CloseBrace) refl)) refl)
