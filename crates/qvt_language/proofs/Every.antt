@@ -1,8 +1,8 @@
 -- What is kept by the forms of the grammar holds of every production that the parser follows, with its reader.
-use Rattle.std.proofs.Common.{◌≡◌, ℕ, List, [], ◌∷◌, ◌++◌, Bool, true, false, ◌&&◌, ◌||◌, not, cond, ◌⊎◌, inl, inr, Option, Some, None, refl, Err}
+use Rattle.std.proofs.Common.{◌≡◌, ℕ, List, [], ◌∷◌, ◌++◌, Bool, true, false, ◌&&◌, ◌||◌, not, cond, ◌⊎◌, inl, inr, Option, Some, None, refl}
 use Rattle.qvt_base.specs.declared.numbers.Place.{Place}
-use Rattle.qvt_grammar.specs.Language.{Language, follow, then, either, many, made, never, empty, maybe}
-use Rattle.qvt_grammar.specs.Reader.{At, follow_at, then_at, made_at, choose_at, many_at, empty_at, maybe_at, ended_at}
+use Rattle.qvt_grammar.specs.Language.{Language, follow, then, either, many, made, empty, maybe}
+use Rattle.qvt_grammar.specs.Reader.{follow_at, then_at, made_at, choose_at, many_at, empty_at, maybe_at, ended_at}
 use Rattle.qvt_grammar.proofs.Firsts.{Within}
 use Rattle.qvt_tree_types.specs.Tree.{TypeTerm, StmtTerm}
 use Rattle.qvt_words.specs.declared.class.Class.{Class}

@@ -1,30 +1,30 @@
 -- What is kept holds of statements that begin with an expression, and of blocks.
-use Rattle.std.proofs.Common.{◌≡◌, ◌<◌, arith, ap, ◌∙◌, sym, ℕ, zero, suc, List, [], ◌∷◌, ◌++◌, Bool, true, false, ◌⊎◌, inl, inr, refl, Option, Some, None, subst}
+use Rattle.std.proofs.Common.{◌≡◌, ◌<◌, arith, ap, ◌∙◌, sym, ℕ, zero, suc, List, [], ◌∷◌, ◌++◌, Bool, true, false, inl, inr, refl, Option, Some, None, subst}
 use Rattle.qvt_base.specs.declared.numbers.Place.{Place}
 use Rattle.qvt_grammar.specs.Language.{Language, then, made}
 use Rattle.qvt_grammar.proofs.Firsts.{Within}
 use Rattle.qvt_grammar.proofs.Lists.{nil_right}
-use Rattle.qvt_tree_types.specs.Tree.{ExprTerm, StepTerm, LinkTerm, StmtTerm, TargetTerm}
+use Rattle.qvt_tree_types.specs.Tree.{ExprTerm, StepTerm, LinkTerm, StmtTerm}
 use Rattle.qvt_tree_types.specs.declared.words.Sign.{Sign}
 use Rattle.qvt_language.specs.Tokens.{Tok, of, code_of}
-use Rattle.qvt_words.specs.declared.class.Class.TheVariants.{NotWord, MinusSign, Dot, Arrow, OpenRound, ForEachWord, Becomes, PlusEqual, Semicolon, Colon, OpenBrace, CloseBrace, IfWord, WhileWord, VarWord, ReturnWord, ElifWord, ElseWord, EndifWord}
+use Rattle.qvt_words.specs.declared.class.Class.TheVariants.{NotWord, MinusSign, OpenRound, Becomes, PlusEqual, Semicolon, Colon, OpenBrace, CloseBrace, IfWord, WhileWord, VarWord, ReturnWord}
 use Rattle.qvt_language.specs.Readers.{Reader}
 use Rattle.qvt_language.specs.Series.{series}
-use Rattle.qvt_language.specs.Firsts.{expr_first, expr_next, post_next, primary_first, resolve_first, step_first, sign_first, stmt_first, assign_first}
+use Rattle.qvt_language.specs.Firsts.{expr_first, expr_next, post_next, primary_first, step_first, sign_first, stmt_first, assign_first}
 use Rattle.qvt_language.specs.Levels.{next_at}
 use Rattle.qvt_language.specs.Leads.{Lead, Plain, Bracketed, Each, EachPart}
-use Rattle.qvt_language.specs.Trees.{second, nothing, each_lead, prefix_lead, chain_of}
+use Rattle.qvt_language.specs.Trees.{nothing, each_lead, prefix_lead, chain_of}
 use Rattle.qvt_language.specs.StmtTrees.{Turn, Tail, empty_turn, closed_turn, simple_turn, no_tail, plain_tail, lead_turn, ended_of, block_of}
 use Rattle.qvt_language.specs.Grammar.{Nested, signed_post, lead_step, lead_post, lead_pre, lead, level_of, links, chain}
-use Rattle.qvt_language.specs.Reading.{NestedAt, signed_post_at, lead_step_at, lead_post_at, lead_pre_at, lead_at, operators, links_at, chain_at}
+use Rattle.qvt_language.specs.Reading.{NestedAt, signed_post_at, lead_post_at, lead_pre_at, lead_at, operators, links_at, chain_at}
 use Rattle.qvt_language.specs.Statements.{semicolon, lead_tail, lead_stmt, statement, statements, block}
 use Rattle.qvt_language.specs.ReadingStatements.{semicolon_at, lead_tail_at, lead_stmt_at, statement_at, statements_at, block_at}
 use Rattle.qvt_grammar.specs.Reader.{then_at, made_at}
 use Rattle.qvt_language.proofs.Sets.{all_in, none_in, within, within_left, within_right, within_both}
-use Rattle.qvt_language.proofs.Every.{optional_next, ended_next, turn_next, Said, by, solid, loose, later, fits, Keeping, Valuing, Forms, Inside}
+use Rattle.qvt_language.proofs.Every.{optional_next, ended_next, turn_next, solid, loose, fits, Keeping, Valuing, Forms, Inside}
 use Rattle.qvt_language.proofs.EveryExprs.{k_other_primary, k_signs, k_post, k_pre}
 use Rattle.qvt_language.proofs.EveryTower.{apart_operators, KeptAt, k_operator, k_links, k_chain}
-use Rattle.qvt_language.proofs.EveryStmts.{opens, step_next, v_lead_step, item_next, k_if_stmt, k_while_stmt, k_var_stmt, k_return_stmt, k_assignment}
+use Rattle.qvt_language.proofs.EveryStmts.{opens, v_lead_step, item_next, k_if_stmt, k_while_stmt, k_var_stmt, k_return_stmt, k_assignment}
 
 -- with what a statement begins that begins with an expression
 abbrev lead_first : List ℕ

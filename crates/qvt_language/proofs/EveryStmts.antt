@@ -1,21 +1,21 @@
 -- What is kept holds of the productions of statements, but for those that begin with an expression.
 use Rattle.std.specs.Prelude.{ℕ, [], ◌∷◌}
-use Rattle.std.proofs.Common.{true, refl, ap, ◌≡◌, ℕ, List, [], ◌∷◌, Bool, false, ◌⊎◌, inl, inr}
+use Rattle.std.proofs.Common.{refl, ap, ℕ, List, [], ◌∷◌, ◌⊎◌, inl, inr}
 use Rattle.qvt_language.specs.Tokens.{code_of, Tok, of}
 use Rattle.qvt_language.specs.Firsts.{expr_first, expr_next, resolve_first, step_first}
 use Rattle.qvt_language.specs.Trees.{second, inner}
 use Rattle.qvt_language.specs.Grammar.{Nested, lead_step}
 use Rattle.qvt_language.specs.Reading.{NestedAt, lead_step_at}
-use Rattle.qvt_language.specs.Statements.{condition, var_stmt, return_stmt, arm, else_part, while_stmt, assignment, semicolon, branches, choice, if_rest, if_stmt}
-use Rattle.qvt_language.specs.ReadingStatements.{condition_at, var_stmt_at, return_stmt_at, arm_at, else_part_at, while_stmt_at, assignment_at, semicolon_at, branches_at, choice_at, if_rest_at, if_stmt_at}
+use Rattle.qvt_language.specs.Statements.{condition, var_stmt, return_stmt, arm, else_part, while_stmt, assignment, branches, choice, if_rest, if_stmt}
+use Rattle.qvt_language.specs.ReadingStatements.{condition_at, var_stmt_at, return_stmt_at, arm_at, else_part_at, while_stmt_at, assignment_at, branches_at, choice_at, if_rest_at, if_stmt_at}
 use Rattle.qvt_language.specs.StmtTrees.{var_of, return_of, arm_of, while_of, if_stmt_of}
-use Rattle.qvt_words.specs.declared.class.Class.TheVariants.{OpenRound, CloseRound, Semicolon, Colon, Becomes, PlusEqual, ElifWord, ElseWord, ReturnWord, ThenWord, VarWord, WhileWord, Dot, Arrow, OpenBrace, ForEachWord, IfWord, EndifWord}
+use Rattle.qvt_words.specs.declared.class.Class.TheVariants.{OpenRound, CloseRound, Colon, Becomes, PlusEqual, ElifWord, ElseWord, ReturnWord, ThenWord, VarWord, WhileWord, Dot, Arrow, OpenBrace, ForEachWord, IfWord, EndifWord}
 use Rattle.qvt_grammar.proofs.Firsts.{Within}
 use Rattle.qvt_tree_types.specs.Tree.{StepTerm}
 use Rattle.qvt_language.specs.Leads.{Lead, Bracketed, EachPart}
 use Rattle.qvt_grammar.specs.Language.{then, made}
 use Rattle.qvt_language.specs.Readers.{the}
-use Rattle.qvt_language.proofs.Every.{turn_next, Said, by, solid, loose, later, fits, Keeping, Valuing, Forms, Inside}
+use Rattle.qvt_language.proofs.Every.{turn_next, solid, later, fits, Keeping, Valuing, Forms, Inside}
 use Rattle.qvt_language.specs.Grammar.{each_tail}
 use Rattle.qvt_language.proofs.EveryExprs.{k_name, k_expr, k_colon_type, k_dot_step, k_arrow_rest, k_each_tail}
 

@@ -12,7 +12,7 @@ use Rattle.qvt_language.specs.Trees.{link_of, chain_of, nothing}
 use Rattle.qvt_language.specs.Grammar.{Nested, level_of, operator, link, links, chain, flagged}
 use Rattle.qvt_language.specs.Reading.{NestedAt, operator_at, operators, link_at, links_at, chain_at, flagged_at}
 use Rattle.qvt_language.proofs.Sets.{all_in, none_in, within_both, within_right, none_in_nothing}
-use Rattle.qvt_language.proofs.Every.{Said, by, solid, loose, later, fits, Keeping, Valuing, Forms, Inside}
+use Rattle.qvt_language.proofs.Every.{solid, loose, fits, Keeping, Valuing, Forms, Inside}
 use Rattle.qvt_language.proofs.EveryExprs.{k_pre}
 
 pub same_operators : (k : ℕ) → all_in (operators k) (operators k) ≡ true

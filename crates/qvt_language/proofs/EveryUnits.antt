@@ -1,20 +1,20 @@
 -- What is kept holds of the productions of units and of the module.
-use Rattle.std.specs.Prelude.{ℕ, zero, suc, Bool, true, false, ◌&&◌}
-use Rattle.std.proofs.Common.{◌≡◌, refl, [], ◌∷◌, ◌++◌}
+use Rattle.std.specs.Prelude.{ℕ, zero, suc, Bool, true, false}
+use Rattle.std.proofs.Common.{refl, [], ◌∷◌, ◌++◌}
 use Rattle.qvt_grammar.specs.Language.{follow}
 use Rattle.qvt_grammar.specs.Reader.{follow_at}
-use Rattle.qvt_language.specs.Tokens.{of, is, code_of}
+use Rattle.qvt_language.specs.Tokens.{of, code_of}
 use Rattle.qvt_language.specs.Firsts.{stmt_first, clause_first, unit_first}
 use Rattle.qvt_language.specs.Trees.{first, second, inner, nothing, cons_of, text_of}
 use Rattle.qvt_language.specs.Grammar.{Nested}
 use Rattle.qvt_language.specs.Reading.{NestedAt}
 use Rattle.qvt_language.specs.Statements.{statements}
 use Rattle.qvt_language.specs.ReadingStatements.{statements_at}
-use Rattle.qvt_language.specs.Units.{param, params, feature, features, class_unit, main_unit, helper_body, helper_unit, constructor_unit, result_decl, when_clause, clause, init_part, end_part, sections, body, mapping_unit, unit, uri, model_type, model_param, header, transformation, end_unless, end_after, fresh, clauses, is_strictness, strictness}
-use Rattle.qvt_language.specs.ReadingUnits.{param_at, params_at, feature_at, features_at, class_unit_at, main_unit_at, helper_body_at, helper_unit_at, constructor_unit_at, result_decl_at, when_clause_at, clause_at, init_part_at, end_part_at, sections_at, body_at, mapping_unit_at, unit_at, uri_at, model_type_at, model_param_at, header_at, transformation_at, end_unless_at, end_after_at, fresh_at, clauses_at, strictness_at}
+use Rattle.qvt_language.specs.Units.{param, params, feature, features, class_unit, main_unit, helper_body, helper_unit, constructor_unit, result_decl, when_clause, clause, init_part, end_part, sections, body, mapping_unit, unit, uri, model_type, model_param, header, transformation, end_unless, end_after, fresh, clauses}
+use Rattle.qvt_language.specs.ReadingUnits.{param_at, params_at, feature_at, features_at, class_unit_at, main_unit_at, helper_body_at, helper_unit_at, constructor_unit_at, result_decl_at, when_clause_at, clause_at, init_part_at, end_part_at, sections_at, body_at, mapping_unit_at, unit_at, uri_at, model_type_at, model_param_at, header_at, transformation_at, end_unless_at, end_after_at, fresh_at, clauses_at}
 use Rattle.qvt_language.specs.UnitTrees.{typed_name_of, param_of, class_of, main_of, return_body, helper_of, constructor_of, result_decl_of, Clauses, no_clauses, InheritsClause, MergesClause, DisjunctsClause, WhenClause, with_clause, read_words, or_same, empty_body, body_of, sections_of, open_sections_of, mapping_of, some_unit, model_type_of, model_param_of, module_of, kept, no_end}
 use Rattle.qvt_words.specs.declared.class.Class.TheVariants.{Name, Str, OpenRound, CloseRound, OpenBrace, CloseBrace, Comma, Semicolon, Colon, EqualSign, ClassWord, ConstructorWord, DisjunctsWord, EndWord, ExtendsWord, HelperWord, InWord, InheritsWord, InitWord, InoutWord, IntermediateWord, MainWord, MappingWord, MergesWord, ModelTypeWord, OutWord, PopulationWord, QueryWord, TransformationWord, UsesWord, WhenWord}
-use Rattle.qvt_language.proofs.Every.{Said, by, solid, loose, later, fits, Keeping, Valuing, Forms, Inside}
+use Rattle.qvt_language.proofs.Every.{solid, loose, later, fits, Keeping, Valuing, Forms, Inside}
 use Rattle.qvt_language.proofs.EveryExprs.{k_name, k_path, k_paths, k_unit_path, k_extent, k_colon_type, k_expr}
 use Rattle.qvt_language.proofs.EveryBlocks.{stmts_next, k_statements}
 

@@ -3,10 +3,10 @@ use Rattle.std.proofs.Common.{◌≡◌, ℕ, suc, ◌≤◌, ◌<◌, List, [],
 use Rattle.qvt_grammar.specs.Language.{Language, token, follow, then, either, many, turns, made, never, empty, maybe, marked, lastly}
 use Rattle.qvt_grammar.specs.Reader.{At, Answer, Exact, token_at, starts, follow_at, then_at, made_at, choose_at, many_at, empty_at, maybe_at}
 use Rattle.qvt_grammar.proofs.Firsts.{Within, Firsts, Solid, firsts_within, exact_within, firsts_token, solid_token, token_exact, firsts_made, solid_made, made_exact, firsts_marked, solid_marked, marked_exact, firsts_empty, empty_exact, firsts_never}
-use Rattle.qvt_grammar.proofs.Sequences.{follow_exact, then_exact, firsts_follow, firsts_then, solid_first, solid_second, firsts_then_over}
+use Rattle.qvt_grammar.proofs.Sequences.{follow_exact, firsts_follow, solid_first, solid_second}
 use Rattle.qvt_grammar.proofs.Choices.{firsts_either, solid_either, either_exact, firsts_maybe, maybe_exact}
 use Rattle.qvt_grammar.proofs.Repeats.{firsts_many, many_exact, read_less}
-use Rattle.qvt_grammar.proofs.Wider.{Sub, sub_same, sub_follow, sub_then, sub_either, sub_many, sub_made, sub_marked, sub_maybe}
+use Rattle.qvt_grammar.proofs.Wider.{Sub, sub_same, sub_follow, sub_either, sub_many, sub_made, sub_marked, sub_maybe}
 use Rattle.qvt_language.specs.Tokens.{Tok, of, is, code_of}
 use Rattle.qvt_language.specs.Readers.{Reader, nowhere, the, the_at, placed, placed_at}
 use Rattle.qvt_language.specs.Series.{left, right, series, barring, barring_at}

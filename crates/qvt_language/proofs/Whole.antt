@@ -1,7 +1,7 @@
 -- Start symbols: a transformation, and one of its units.
 use Rattle.std.proofs.Common.{◌≡◌, ℕ, ◌≤◌, List, [], ◌∷◌, length, true, false, Ok, Err}
 use Rattle.qvt_grammar.specs.Reader.{At}
-use Rattle.qvt_tree_types.specs.Module.{UnitTerm, ModuleTerm}
+use Rattle.qvt_tree_types.specs.Module.{ModuleTerm}
 use Rattle.qvt_language.specs.Tokens.{Tok, is_nil}
 use Rattle.qvt_language.specs.Firsts.{unit_first}
 use Rattle.qvt_language.specs.Nesting.{nested_at}
