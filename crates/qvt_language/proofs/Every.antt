@@ -32,15 +32,14 @@ by early full first next = record { early = early; full = full; first = first; n
 abbrev pub solid : {N : Type 0} → List ℕ → N → Said N
 solid first next = by true true first next
 
--- what may read the empty list, and what may begin with what stands nested inside
+-- what may read the empty list; what may begin with what stands nested inside
 abbrev pub loose : {N : Type 0} → List ℕ → N → Said N
 loose first next = by true false first next
 
 abbrev pub later : {N : Type 0} → List ℕ → N → Said N
 later first next = by false true first next
 
--- what is said of two parts, the one after the other; of a choice, where p has the classes that the reader asks for; of what
--- may be missing
+-- what is said of two parts, the one after the other; of a choice, where p has the classes that the reader asks for
 abbrev pub in_turn : Said (List ℕ) → Said (List ℕ) → Said (List ℕ)
 in_turn s t = by (cond s.full s.early (s.early && t.early)) (s.full || t.full) (cond s.full s.first (s.first ++ t.first)) (cond t.full t.next (s.next ++ t.next))
 
@@ -85,8 +84,8 @@ Keeping = (A : Type 0) → Said (List ℕ) → Language Tok A → Language Tok A
 abbrev pub Valuing : Type 1
 Valuing = (A : Type 0) → Said (A → List ℕ) → Language Tok A → Language Tok A → Reader A → Type 0
 
--- The forms of the grammar: K is what is kept of a production at a nesting and at one more, with its reader; KB, of one that
--- is barred; KV, of one whose next tokens depend on its value.
+-- The forms of the grammar: K is what is kept of a production at a nesting and at one more, with its reader, where so much is
+-- said of it; KB, of one that is barred; KV, of one whose next tokens depend on its value.
 pub record Forms (K KB : Keeping) (KV : Valuing) : Type 1 where
   pub token : (c : Class) → K Tok (solid (code_of c ∷ []) []) (the c) (the c) (the_at c)
   pub strict : K Tok (solid (code_of Str ∷ []) []) strictness strictness strictness_at
