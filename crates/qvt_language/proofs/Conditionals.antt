@@ -17,8 +17,7 @@ use Rattle.qvt_language.specs.Grammar.{Nested, level_of, links, chain, brackets,
 use Rattle.qvt_language.specs.Statements.{condition, branches, choice, if_rest, if_stmt}
 use Rattle.qvt_language.specs.Conditionals.{block_form, each_form, if_forms}
 use Rattle.qvt_language.specs.Nesting.{nested}
-use Rattle.qvt_language.proofs.GoodStmts.{good_condition}
-use Rattle.qvt_language.proofs.GoodIfs.{good_branches, good_choice}
+use Rattle.qvt_language.proofs.EveryStmts.{k_condition, k_branches, k_choice}
 use Rattle.qvt_language.proofs.GoodNesting.{good_nested}
 
 no_links : (k : ℕ) (place : Place) (x : Lead) (ls : List LinkTerm) (e : ExprTerm) → Bracketed e ≡ chain_of (level_of k) (place, (x, ls)) → (x ≡ Bracketed e) × (ls ≡ [])
@@ -124,7 +123,7 @@ module _ (n : ℕ) (ts : List Tok) (s : StmtTerm) (place : Place) (w : Tok) (c :
   as_blocks : HasBlocks (nested (suc n)) c y rest → (block_form (nested (suc n))).reads ts s
   as_blocks b = (
     (place, (w, (b.0, (b.1, b.2)))),
-    ((u, v, e, tk, (x, y, d, (good_condition (good_nested n)).loose.sub.reads x b.0 (of_bracketed (nested n) x b.0 (subst (λ z. (flagged (nested n)).reads x z) b.3 rd)), b.5)), at),
+    ((u, v, e, tk, (x, y, d, (k_condition (good_nested n)).loose.sub.reads x b.0 (of_bracketed (nested n) x b.0 (subst (λ z. (flagged (nested n)).reads x z) b.3 rd)), b.5)), at),
     is ∙ ap (λ z. if_made place (expr_of c) z) b.4 ∙ ap (λ z. branched place (expr_of z) b.2) b.3,
   )
 
@@ -170,7 +169,7 @@ block_stmt : (n : ℕ) (ts : List Tok) (s : StmtTerm) → (block_form (nested n)
 unfolding if_stmt nested
 block_stmt n ts s rd =
     let k = rd.1.0 in let m = k.4 in let c = rd.0.1.1.0 in let b = rd.0.1.1.1 in
-    let rest = (sub_then (maybe (the ThenWord)) (maybe (the ThenWord)) (branches (nested n)) (branches (nested (suc n))) (sub_same (maybe (the ThenWord))) (good_branches (good_nested n)).loose.sub).reads m.1 b m.4 in
+    let rest = (sub_then (maybe (the ThenWord)) (maybe (the ThenWord)) (branches (nested n)) (branches (nested (suc n))) (sub_same (maybe (the ThenWord))) (k_branches (good_nested n)).loose.sub).reads m.1 b m.4 in
     ((rd.0.0, (rd.0.1.0, (Bracketed c, inl b.1))), ((k.0, k.1, k.2, k.3, (m.0, m.1, m.2, to_bracketed (nested n) m.0 c m.3, blocks_rest (nested (suc n)) c m.1 b.0 b.1 rest)), rd.1.1), rd.2)
 
 module _ (n : ℕ) (ts : List Tok) (s : StmtTerm) (place at : Place) (w : Tok) (one other cond value : ExprTerm) (lead : Lead) (t : Tok) (more : List StepTerm × EachPart)
@@ -189,7 +188,7 @@ module _ (n : ℕ) (ts : List Tok) (s : StmtTerm) (place at : Place) (w : Tok) (
 
   rest : (if_rest (nested (suc n)) lead).reads (y ++ b) (inr ((one, other), more))
   rest = choice_rest (nested (suc n)) lead (y ++ b) t ((one, other), more)
-      ((sub_then (the ThenWord) (the ThenWord) (choice (nested n)) (choice (nested (suc n))) (sub_same (the ThenWord)) (good_choice (good_nested n)).loose.sub).reads (y ++ b) (t, ((one, other), more))
+      ((sub_then (the ThenWord) (the ThenWord) (choice (nested n)) (choice (nested (suc n))) (sub_same (the ThenWord)) (k_choice (good_nested n)).loose.sub).reads (y ++ b) (t, ((one, other), more))
       (p, (a ++ z) ++ b, regroup (y ++ b) y b p (a ++ z) refl e3, th, values))
 
   each_parts : (if_stmt (nested (suc n))).reads ts s

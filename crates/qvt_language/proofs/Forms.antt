@@ -1,17 +1,21 @@
 -- What each production keeps, form by form. A production is given at a nesting (l) and at one more (m), with its reader (f).
-use Rattle.std.proofs.Common.{◌≡◌, ℕ, suc, ◌≤◌, ◌<◌, List, [], ◌∷◌, ◌++◌, length, Bool, true, false, ◌&&◌, IsTrue, ◌⊎◌, inl, inr, refl, sym, ap, ◌∙◌, subst, arith, length-append, Ok, Err, cond, Option, Some, None}
-use Rattle.qvt_grammar.specs.Language.{Language, follow, then, either, many, turns, made, never, empty, maybe, marked, lastly}
-use Rattle.qvt_grammar.specs.Reader.{At, Answer, Exact, starts, follow_at, then_at, made_at, choose_at, many_at, empty_at, maybe_at}
+use Rattle.std.proofs.Common.{◌≡◌, ℕ, suc, ◌≤◌, ◌<◌, List, [], ◌∷◌, ◌++◌, length, Bool, true, false, ◌&&◌, ◌||◌, IsTrue, ◌⊎◌, inl, inr, refl, sym, ap, ◌∙◌, subst, arith, length-append, Ok, Err, cond, Option, Some, None}
+use Rattle.qvt_grammar.specs.Language.{Language, token, follow, then, either, many, turns, made, never, empty, maybe, marked, lastly}
+use Rattle.qvt_grammar.specs.Reader.{At, Answer, Exact, token_at, starts, follow_at, then_at, made_at, choose_at, many_at, empty_at, maybe_at}
 use Rattle.qvt_grammar.proofs.Firsts.{Within, Firsts, Solid, firsts_within, exact_within, firsts_token, solid_token, token_exact, firsts_made, solid_made, made_exact, firsts_marked, solid_marked, marked_exact, firsts_empty, empty_exact, firsts_never}
-use Rattle.qvt_grammar.proofs.Sequences.{follow_exact, then_exact, firsts_follow, firsts_then, solid_first, solid_second, firsts_then_over}
+use Rattle.qvt_grammar.proofs.Sequences.{follow_exact, firsts_follow, solid_first, solid_second}
 use Rattle.qvt_grammar.proofs.Choices.{firsts_either, solid_either, either_exact, firsts_maybe, maybe_exact}
 use Rattle.qvt_grammar.proofs.Repeats.{firsts_many, many_exact, read_less}
-use Rattle.qvt_grammar.proofs.Wider.{Sub, sub_same, sub_follow, sub_then, sub_either, sub_many, sub_made, sub_marked, sub_maybe}
+use Rattle.qvt_grammar.proofs.Wider.{Sub, sub_same, sub_follow, sub_either, sub_many, sub_made, sub_marked, sub_maybe}
 use Rattle.qvt_language.specs.Tokens.{Tok, of, is, code_of}
 use Rattle.qvt_language.specs.Readers.{Reader, nowhere, the, the_at, placed, placed_at}
 use Rattle.qvt_language.specs.Series.{left, right, series, barring, barring_at}
 use Rattle.qvt_words.specs.declared.class.Class.{Class}
-use Rattle.qvt_language.proofs.Sets.{all_in, none_in, within, apart, within_left, within_right}
+use Rattle.qvt_words.specs.declared.class.Class.TheVariants.{Str}
+use Rattle.qvt_language.specs.Units.{is_strictness, strictness}
+use Rattle.qvt_language.specs.ReadingUnits.{strictness_at}
+use Rattle.qvt_language.proofs.Sets.{all_in, none_in, and_parts, within, apart, within_left, within_right}
+use Rattle.qvt_language.proofs.Every.{Said, by, loose, in_turn, chosen, IsWithin}
 
 -- on lists of fewer than k tokens m has no more than l
 pub record IsLow {A : Type 0} (k : ℕ) (l m : Language Tok A) : Type 0 where
@@ -29,11 +33,27 @@ pub record Loose {A : Type 0} (n : ℕ) (early : Bool) (first next : List ℕ) (
   pub sub : Sub l m
   pub low : IsLow (bound early n) l m
 
--- the same of what reads something
-pub record Good {A : Type 0} (n : ℕ) (early : Bool) (first next : List ℕ) (l m : Language Tok A) (f : Reader A) : Type 0 where
-  pub loose : Loose n early first next l m f
-  pub solid : Solid l
-  pub solid_more : Solid m
+abbrev pub Only : Bool → Type 0 → Type 0
+Only true P = P
+Only false P = Unit {0}
+
+-- exactness with what is said; where that says that no empty list is read, none is
+pub record Kept (n : ℕ) (A : Type 0) (s : Said (List ℕ)) (l m : Language Tok A) (f : Reader A) : Type 0 where
+  pub loose : Loose n s.early s.first s.next l m f
+  pub solid : Only s.full (Solid l)
+  pub solid_more : Only s.full (Solid m)
+
+abbrev pub Good : {A : Type 0} → ℕ → Bool → List ℕ → List ℕ → Language Tok A → Language Tok A → Reader A → Type 0
+Good {A} n early first next l m f = Kept n A (by early true first next) l m f
+
+pub only : {P Q : Type 0} (b : Bool) → (P → Q) → Only b P → Only b Q
+only true g p = g p
+only false g p = tt
+
+only_less : (P : Type 0) (b c : Bool) → (c ≡ true → b ≡ true) → Only b P → Only c P
+only_less P true true g p = p
+only_less P false true g p = absurd (let z = g refl in cc)
+only_less P b false g p = tt
 
 -- bounds
 
@@ -76,12 +96,12 @@ low_follow n b1 b2 {l2 = l2} k s j = record {
   ];
 }
 
-pub low_over : {A B : Type 0} (n : ℕ) (b1 b2 : Bool) {l l2 : Language Tok A} {m m2 : Language Tok B} → IsLow (bound b1 n) l l2 → IsLow (bound b2 n) m m2 → IsLow (bound (b1 && b2) n) (then l m) (then l2 m2)
-low_over n b1 b2 k j = record {
-  reads = λ ts ab lt h. (h.0, h.1, h.2, k.reads h.0 ab.0 (left_bound b1 b2 n _ _ (first_part ts h.0 h.1 h.2) lt) h.3, j.reads h.1 ab.1 (right_bound b1 b2 n _ _ (second_part ts h.0 h.1 h.2) lt) h.4);
+pub low_follow_over : {A B : Type 0} (n : ℕ) (b1 b2 : Bool) {l l2 : Language Tok A} {m m2 : A → Language Tok B} → IsLow (bound b1 n) l l2 → ((a : A) → IsLow (bound b2 n) (m a) (m2 a)) → IsLow (bound (b1 && b2) n) (follow l m) (follow l2 m2)
+low_follow_over n b1 b2 k j = record {
+  reads = λ ts ab lt h. (h.0, h.1, h.2, k.reads h.0 ab.0 (left_bound b1 b2 n _ _ (first_part ts h.0 h.1 h.2) lt) h.3, (j ab.0).reads h.1 ab.1 (right_bound b1 b2 n _ _ (second_part ts h.0 h.1 h.2) lt) h.4);
   front = λ ts lt h. elim h [
     | inl q ↦ inl (k.front ts (left_bound b1 b2 n _ _ (omega arith) lt) q)
-    | inr w ↦ inr (w.0, w.1, w.2, w.3, k.reads w.0 w.2 (left_bound b1 b2 n _ _ (first_part ts w.0 w.1 w.3) lt) w.4, j.front w.1 (right_bound b1 b2 n _ _ (second_part ts w.0 w.1 w.3) lt) w.5)
+    | inr w ↦ inr (w.0, w.1, w.2, w.3, k.reads w.0 w.2 (left_bound b1 b2 n _ _ (first_part ts w.0 w.1 w.3) lt) w.4, (j w.2).front w.1 (right_bound b1 b2 n _ _ (second_part ts w.0 w.1 w.3) lt) w.5)
   ];
 }
 
@@ -137,153 +157,6 @@ low_series {k = k} {l = l} {l2 = l2} s = record {
   );
 }
 
--- the forms
-
-pub good_the : {n : ℕ} (c : Class) → Good n true (code_of c ∷ []) [] (the c) (the c) (the_at c)
-good_the c = record {
-  loose = record {
-    firsts = firsts_token (is c);
-    exact = λ ts. exact_within (λ _. false) (of []) (the c) ts (the_at c ts) (λ t h. absurd cc) (token_exact (is c) ts);
-    sub = sub_same (the c);
-    low = low_same;
-  };
-  solid = solid_token (is c);
-  solid_more = solid_token (is c);
-}
-
-module _ {n : ℕ} {A : Type 0} {b1 : Bool} {f1 x1 : List ℕ} {l l2 : Language Tok A} {f : Reader A} where
-  pub good_made : {B : Type 0} (h : A → B) → Good n b1 f1 x1 l l2 f → Good n b1 f1 x1 (made h l) (made h l2) (made_at h f)
-  good_made h k = record {
-    loose = record {
-      firsts = firsts_made h l (of f1) k.loose.firsts;
-      exact = λ ts. made_exact h l (of x1) f ts (k.loose.exact ts);
-      sub = sub_made h l l2 k.loose.sub;
-      low = low_made h k.loose.low;
-    };
-    solid = solid_made h l k.solid;
-    solid_more = solid_made h l2 k.solid_more;
-  }
-
-  pub loose_made : {B : Type 0} (h : A → B) → Loose n b1 f1 x1 l l2 f → Loose n b1 f1 x1 (made h l) (made h l2) (made_at h f)
-  loose_made h k = record {
-    firsts = firsts_made h l (of f1) k.firsts;
-    exact = λ ts. made_exact h l (of x1) f ts (k.exact ts);
-    sub = sub_made h l l2 k.sub;
-    low = low_made h k.low;
-  }
-
-  pub good_placed : Good n b1 f1 x1 l l2 f → Good n b1 f1 x1 (placed l) (placed l2) (placed_at f)
-  good_placed k = record {
-    loose = record {
-      firsts = firsts_marked (λ t. t.place) nowhere l (of f1) k.loose.firsts;
-      exact = λ ts. marked_exact (λ t. t.place) nowhere l k.solid (of x1) f ts (k.loose.exact ts);
-      sub = sub_marked (λ t. t.place) nowhere l l2 k.loose.sub;
-      low = low_marked (λ t. t.place) nowhere k.loose.low;
-    };
-    solid = solid_marked (λ t. t.place) nowhere l k.solid;
-    solid_more = solid_marked (λ t. t.place) nowhere l2 k.solid_more;
-  }
-
-  -- larger sets
-  pub loose_sets : (first next : List ℕ) → all_in f1 first ≡ true → all_in x1 next ≡ true → Loose n b1 f1 x1 l l2 f → Loose n b1 first next l l2 f
-  loose_sets first next w1 w2 k = record {
-    firsts = firsts_within (of f1) (of first) l (within f1 first w1) k.firsts;
-    exact = λ ts. exact_within (of x1) (of next) l ts (f ts) (within x1 next w2) (k.exact ts);
-    sub = k.sub;
-    low = k.low;
-  }
-
-  pub loose_within : (first next : List ℕ) → Within (of f1) (of first) → Within (of x1) (of next) → Loose n b1 f1 x1 l l2 f → Loose n b1 first next l l2 f
-  loose_within first next w1 w2 k = record {
-    firsts = firsts_within (of f1) (of first) l w1 k.firsts;
-    exact = λ ts. exact_within (of x1) (of next) l ts (f ts) w2 (k.exact ts);
-    sub = k.sub;
-    low = k.low;
-  }
-
-  pub good_within : (first next : List ℕ) → Within (of f1) (of first) → Within (of x1) (of next) → Good n b1 f1 x1 l l2 f → Good n b1 first next l l2 f
-  good_within first next w1 w2 k = record { loose = loose_within first next w1 w2 k.loose; solid = k.solid; solid_more = k.solid_more }
-
-  pub good_sets : (first next : List ℕ) → all_in f1 first ≡ true → all_in x1 next ≡ true → Good n b1 f1 x1 l l2 f → Good n b1 first next l l2 f
-  good_sets first next w1 w2 k = record { loose = loose_sets first next w1 w2 k.loose; solid = k.solid; solid_more = k.solid_more }
-
-  -- p has the classes that the reader asks for
-  pub loose_maybe : (p : List ℕ) → all_in f1 p ≡ true → Good n b1 f1 x1 l l2 f → Loose n b1 f1 (p ++ x1) (maybe l) (maybe l2) (maybe_at (of p) f)
-  loose_maybe p w k = record {
-    firsts = firsts_maybe (of p) (of (p ++ x1)) (of f1) l k.loose.firsts;
-    exact = λ ts. maybe_exact (of p) (of (p ++ x1)) (of f1) l k.loose.firsts k.solid (within f1 p w) (within_left p x1) f ts (exact_within (of x1) (of (p ++ x1)) l ts (f ts) (within_right p x1) (k.loose.exact ts));
-    sub = sub_maybe l l2 k.loose.sub;
-    low = low_maybe k.loose.low;
-  }
-
-  pub loose_many : (p : List ℕ) → all_in f1 p ≡ true → none_in x1 f1 ≡ true → Good n b1 f1 x1 l l2 f → Loose n b1 f1 (p ++ x1) (many l) (many l2) (many_at (of p) f)
-  loose_many p w a k = record {
-    firsts = firsts_many (of f1) l k.loose.firsts k.solid;
-    exact = λ ts. many_exact (of p) (of x1) (of (p ++ x1)) (of f1) l k.loose.firsts k.solid (within f1 p w) (apart x1 f1 a) (within_right p x1) (within_left p x1) f k.loose.exact ts;
-    sub = sub_many l l2 k.loose.sub;
-    low = low_many k.loose.low;
-  }
-
--- a token of its own may go uncounted
-pub good_late : {n : ℕ} {A : Type 0} {first next : List ℕ} {l m : Language Tok A} {f : Reader A} → Good n true first next l m f → Good n false first next l m f
-good_late k = record {
-  loose = record {
-    firsts = k.loose.firsts;
-    exact = k.loose.exact;
-    sub = k.loose.sub;
-    low = record { reads = λ ts a lt rd. k.loose.low.reads ts a (omega (arith, lt)) rd; front = λ ts lt fr. k.loose.low.front ts (omega (arith, lt)) fr };
-  };
-  solid = k.solid;
-  solid_more = k.solid_more;
-}
-
-module _ {n : ℕ} {A B : Type 0} {b1 b2 : Bool} {f1 x1 f2 x2 : List ℕ} {l l2 : Language Tok A} {m m2 : Language Tok B} {f : Reader A} {g : Reader B} where
-  pub good_then : Good n b1 f1 x1 l l2 f → Good n b2 f2 x2 m m2 g → none_in x1 f2 ≡ true → Good n b1 f1 x2 (then l m) (then l2 m2) (then_at f g)
-  good_then k j a = record {
-    loose = record {
-      firsts = firsts_then (of f1) (of f2) l m k.loose.firsts j.loose.firsts k.solid;
-      exact = λ ts. then_exact (of x1) (of x2) (of x2) (of f2) l m k.loose.firsts.whole j.loose.firsts (apart x1 f2 a) (λ b rd. absurd (j.solid b rd)) (λ t h. h) f g ts (k.loose.exact ts) j.loose.exact;
-      sub = sub_then l l2 m m2 k.loose.sub j.loose.sub;
-      low = low_follow n b1 b2 k.loose.low k.solid_more (λ _. j.loose.low);
-    };
-    solid = solid_first l (λ _. m) k.solid;
-    solid_more = solid_first l2 (λ _. m2) k.solid_more;
-  }
-
-  -- what may be empty after it
-  pub good_rest : Good n b1 f1 x1 l l2 f → Loose n b2 f2 x2 m m2 g → none_in x1 f2 ≡ true → Good n b1 f1 (x1 ++ x2) (then l m) (then l2 m2) (then_at f g)
-  good_rest k j a = record {
-    loose = record {
-      firsts = firsts_then (of f1) (of f2) l m k.loose.firsts j.firsts k.solid;
-      exact = λ ts. then_exact (of x1) (of x2) (of (x1 ++ x2)) (of f2) l m k.loose.firsts.whole j.firsts (apart x1 f2 a) (λ b rd. within_left x1 x2) (within_right x1 x2) f g ts (k.loose.exact ts) j.exact;
-      sub = sub_then l l2 m m2 k.loose.sub j.sub;
-      low = low_follow n b1 b2 k.loose.low k.solid_more (λ _. j.low);
-    };
-    solid = solid_first l (λ _. m) k.solid;
-    solid_more = solid_first l2 (λ _. m2) k.solid_more;
-  }
-
-  -- after what may be empty
-  pub good_after : Loose n b1 f1 x1 l l2 f → Good n b2 f2 x2 m m2 g → none_in x1 f2 ≡ true → Good n (b1 && b2) (f1 ++ f2) x2 (then l m) (then l2 m2) (then_at f g)
-  good_after k j a = record {
-    loose = record {
-      firsts = firsts_then_over (of f1) (of f2) (of (f1 ++ f2)) l m k.firsts j.loose.firsts (within_left f1 f2) (within_right f1 f2);
-      exact = λ ts. then_exact (of x1) (of x2) (of x2) (of f2) l m k.firsts.whole j.loose.firsts (apart x1 f2 a) (λ b rd. absurd (j.solid b rd)) (λ t h. h) f g ts (k.exact ts) j.loose.exact;
-      sub = sub_then l l2 m m2 k.sub j.loose.sub;
-      low = low_over n b1 b2 k.low j.loose.low;
-    };
-    solid = solid_second l (λ _. m) (λ _. j.solid);
-    solid_more = solid_second l2 (λ _. m2) (λ _. j.solid_more);
-  }
-
-  pub loose_then : Loose n b1 f1 x1 l l2 f → Loose n b2 f2 x2 m m2 g → none_in x1 f2 ≡ true → Loose n (b1 && b2) (f1 ++ f2) (x1 ++ x2) (then l m) (then l2 m2) (then_at f g)
-  loose_then k j a = record {
-    firsts = firsts_then_over (of f1) (of f2) (of (f1 ++ f2)) l m k.firsts j.firsts (within_left f1 f2) (within_right f1 f2);
-    exact = λ ts. then_exact (of x1) (of x2) (of (x1 ++ x2)) (of f2) l m k.firsts.whole j.firsts (apart x1 f2 a) (λ b rd. within_left x1 x2) (within_right x1 x2) f g ts (k.exact ts) j.exact;
-    sub = sub_then l l2 m m2 k.sub j.sub;
-    low = low_over n b1 b2 k.low j.low;
-  }
-
 -- the last of the turns may be of the other kind
 module _ {A B : Type 0} {l : Language Tok (A ⊎ B)} where
   pub firsts_left : (p f1 : List ℕ) → all_in f1 p ≡ true → Firsts (of f1) l → Firsts (of p) (left l)
@@ -299,61 +172,103 @@ module _ {A B : Type 0} {l l2 : Language Tok (A ⊎ B)} where
   pub sub_right : Sub l l2 → Sub (right l) (right l2)
   sub_right s = record { reads = λ ts a h. s.reads ts (inr a) h; front = s.front }
 
-module _ {n : ℕ} {A : Type 0} {b1 b2 : Bool} {f1 x1 f2 x2 : List ℕ} {l l2 m m2 : Language Tok A} {f g : Reader A} where
-  pub good_either : (p : List ℕ) → Good n b1 f1 x1 l l2 f → Good n b2 f2 x2 m m2 g → all_in f1 p ≡ true → none_in p f2 ≡ true → Good n (b1 && b2) (f1 ++ f2) (x1 ++ x2) (either l m) (either l2 m2) (choose_at (of p) f g)
-  good_either p k j w a = record {
+-- the forms
+
+-- a token of its own may go uncounted
+low_early : (n : ℕ) {A : Type 0} {l m : Language Tok A} (b c : Bool) → (c ≡ true → b ≡ true) → IsLow (bound b n) l m → IsLow (bound c n) l m
+low_early n true true w k = k
+low_early n true false w k = record { reads = λ ts a lt rd. k.reads ts a (omega (arith, lt)) rd; front = λ ts lt fr. k.front ts (omega (arith, lt)) fr }
+low_early n false true w k = absurd (let z = w refl in cc)
+low_early n false false w k = k
+
+good_token : {n : ℕ} (q : Tok → Bool) (first : List ℕ) → Within q (of first) → Good n true first [] (token q) (token q) (token_at q)
+good_token q first w = record {
+  loose = record {
+    firsts = firsts_within q (of first) (token q) w (firsts_token q);
+    exact = λ ts. exact_within (λ _. false) (of []) (token q) ts (token_at q ts) (λ t h. absurd cc) (token_exact q ts);
+    sub = sub_same (token q);
+    low = low_same;
+  };
+  solid = solid_token q;
+  solid_more = solid_token q;
+}
+
+pub good_the : {n : ℕ} (c : Class) → Good n true (code_of c ∷ []) [] (the c) (the c) (the_at c)
+good_the c = good_token (is c) (code_of c ∷ []) (λ t h. h)
+
+pub good_strictness : {n : ℕ} → Good n true (code_of Str ∷ []) [] strictness strictness strictness_at
+good_strictness = good_token is_strictness (code_of Str ∷ []) (λ t h. (and_parts (is Str t) _ h).0)
+
+pub good_empty : {n : ℕ} → Kept n (Unit {0}) (loose [] []) empty empty empty_at
+good_empty = record { loose = record { firsts = firsts_empty (of []); exact = empty_exact (of []); sub = sub_same empty; low = low_same }; solid = tt; solid_more = tt }
+
+module _ {n : ℕ} {A : Type 0} {l l2 : Language Tok A} {f : Reader A} where
+  pub good_made : {B : Type 0} {s : Said (List ℕ)} (h : A → B) → Kept n A s l l2 f → Kept n B s (made h l) (made h l2) (made_at h f)
+  good_made {s = s} h k = record {
     loose = record {
-      firsts = firsts_either (of f1) (of f2) (of (f1 ++ f2)) l m k.loose.firsts j.loose.firsts (within_left f1 f2) (within_right f1 f2);
-      exact = λ ts. either_exact (of p) (of (x1 ++ x2)) (of f1) (of f2) l m k.loose.firsts j.loose.firsts k.solid (within f1 p w) (apart p f2 a) (λ b rd. absurd (j.solid b rd)) f g ts
-          (exact_within (of x1) (of (x1 ++ x2)) l ts (f ts) (within_left x1 x2) (k.loose.exact ts)) (exact_within (of x2) (of (x1 ++ x2)) m ts (g ts) (within_right x1 x2) (j.loose.exact ts));
-      sub = sub_either l l2 m m2 k.loose.sub j.loose.sub;
-      low = low_either n b1 b2 k.loose.low j.loose.low;
+      firsts = firsts_made h l (of s.first) k.loose.firsts;
+      exact = λ ts. made_exact h l (of s.next) f ts (k.loose.exact ts);
+      sub = sub_made h l l2 k.loose.sub;
+      low = low_made h k.loose.low;
     };
-    solid = solid_either l m k.solid j.solid;
-    solid_more = solid_either l2 m2 k.solid_more j.solid_more;
+    solid = only s.full (solid_made h l) k.solid;
+    solid_more = only s.full (solid_made h l2) k.solid_more;
   }
 
-  -- the second side may be empty
-  pub loose_either : (p : List ℕ) → Good n b1 f1 x1 l l2 f → Loose n b2 f2 x2 m m2 g → all_in f1 p ≡ true → none_in p f2 ≡ true → Loose n (b1 && b2) (f1 ++ f2) (p ++ (x1 ++ x2)) (either l m) (either l2 m2) (choose_at (of p) f g)
-  loose_either p k j w a = record {
-    firsts = firsts_either (of f1) (of f2) (of (f1 ++ f2)) l m k.loose.firsts j.firsts (within_left f1 f2) (within_right f1 f2);
-    exact = λ ts. either_exact (of p) (of (p ++ (x1 ++ x2))) (of f1) (of f2) l m k.loose.firsts j.firsts k.solid (within f1 p w) (apart p f2 a) (λ b rd. within_left p (x1 ++ x2)) f g ts
-        (exact_within (of x1) (of (p ++ (x1 ++ x2))) l ts (f ts) (λ t h. within_right p (x1 ++ x2) t (within_left x1 x2 t h)) (k.loose.exact ts)) (exact_within (of x2) (of (p ++ (x1 ++ x2))) m ts (g ts) (λ t h. within_right p (x1 ++ x2) t (within_right x1 x2 t h)) (j.exact ts));
-    sub = sub_either l l2 m m2 k.loose.sub j.sub;
-    low = low_either n b1 b2 k.loose.low j.low;
-  }
-
-pub loose_empty : {n : ℕ} → Loose n true [] [] (empty {T = Tok}) empty empty_at
-loose_empty = record { firsts = firsts_empty (of []); exact = empty_exact (of []); sub = sub_same empty; low = low_same }
-
--- the second part depends on the first
-module _ {n : ℕ} {A B : Type 0} {b1 b2 : Bool} {f1 x1 f2 x2 : List ℕ} {l l2 : Language Tok A} {m m2 : A → Language Tok B} {f : Reader A} {g : A → Reader B} where
-  pub good_follow : Good n b1 f1 x1 l l2 f → ((a : A) → Loose n b2 f2 x2 (m a) (m2 a) (g a)) → none_in x1 f2 ≡ true → Good n b1 f1 (x1 ++ x2) (follow l m) (follow l2 m2) (follow_at f g)
-  good_follow k j a = record {
+  pub good_wider : {s t : Said (List ℕ)} → IsWithin s t → Kept n A s l l2 f → Kept n A t l l2 f
+  good_wider {s = s} {t = t} w k = record {
     loose = record {
-      firsts = firsts_follow (of f1) (λ _. of f2) l m k.loose.firsts (λ z. (j z).firsts) k.solid;
-      exact = λ ts. follow_exact (of x1) (of x2) (of (x1 ++ x2)) (λ _. of f2) l m k.loose.firsts.whole (λ z. (j z).firsts) (λ _. apart x1 f2 a) (λ z b rd. within_left x1 x2) (within_right x1 x2) f g ts (k.loose.exact ts) (λ u r z e rd. (j z).exact r);
-      sub = sub_follow l l2 m m2 k.loose.sub (λ z. (j z).sub);
-      low = low_follow n b1 b2 k.loose.low k.solid_more (λ z. (j z).low);
+      firsts = firsts_within (of s.first) (of t.first) l w.first k.loose.firsts;
+      exact = λ ts. exact_within (of s.next) (of t.next) l ts (f ts) w.next (k.loose.exact ts);
+      sub = k.loose.sub;
+      low = low_early n s.early t.early w.early k.loose.low;
     };
-    solid = solid_first l m k.solid;
-    solid_more = solid_first l2 m2 k.solid_more;
+    solid = only_less _ s.full t.full w.full k.solid;
+    solid_more = only_less _ s.full t.full w.full k.solid_more;
   }
 
-  -- the same where the second part is never empty
-  pub good_pick : Good n b1 f1 x1 l l2 f → ((a : A) → Good n b2 f2 x2 (m a) (m2 a) (g a)) → none_in x1 f2 ≡ true → Good n b1 f1 x2 (follow l m) (follow l2 m2) (follow_at f g)
-  good_pick k j a = record {
+module _ {n : ℕ} {A : Type 0} {b1 : Bool} {f1 x1 : List ℕ} {l l2 : Language Tok A} {f : Reader A} where
+  pub good_placed : Good n b1 f1 x1 l l2 f → Good n b1 f1 x1 (placed l) (placed l2) (placed_at f)
+  good_placed k = record {
     loose = record {
-      firsts = firsts_follow (of f1) (λ _. of f2) l m k.loose.firsts (λ z. (j z).loose.firsts) k.solid;
-      exact = λ ts. follow_exact (of x1) (of x2) (of x2) (λ _. of f2) l m k.loose.firsts.whole (λ z. (j z).loose.firsts) (λ _. apart x1 f2 a) (λ z b rd. absurd ((j z).solid b rd)) (λ t h. h) f g ts (k.loose.exact ts) (λ u r z e rd. (j z).loose.exact r);
-      sub = sub_follow l l2 m m2 k.loose.sub (λ z. (j z).loose.sub);
-      low = low_follow n b1 b2 k.loose.low k.solid_more (λ z. (j z).loose.low);
+      firsts = firsts_marked (λ t. t.place) nowhere l (of f1) k.loose.firsts;
+      exact = λ ts. marked_exact (λ t. t.place) nowhere l k.solid (of x1) f ts (k.loose.exact ts);
+      sub = sub_marked (λ t. t.place) nowhere l l2 k.loose.sub;
+      low = low_marked (λ t. t.place) nowhere k.loose.low;
     };
-    solid = solid_first l m k.solid;
-    solid_more = solid_first l2 m2 k.solid_more;
+    solid = solid_marked (λ t. t.place) nowhere l k.solid;
+    solid_more = solid_marked (λ t. t.place) nowhere l2 k.solid_more;
   }
 
--- the same where the first part may be empty
+  pub good_sets : (first next : List ℕ) → all_in f1 first ≡ true → all_in x1 next ≡ true → Good n b1 f1 x1 l l2 f → Good n b1 first next l l2 f
+  good_sets first next w1 w2 k = good_wider (record { early = λ e. e; full = λ e. e; first = within f1 first w1; next = within x1 next w2 }) k
+
+  -- p has the classes that the reader asks for
+  pub good_maybe : (p : List ℕ) → all_in f1 p ≡ true → Good n b1 f1 x1 l l2 f → Kept n (Option A) (by b1 false f1 (p ++ x1)) (maybe l) (maybe l2) (maybe_at (of p) f)
+  good_maybe p w k = record {
+    loose = record {
+      firsts = firsts_maybe (of p) (of (p ++ x1)) (of f1) l k.loose.firsts;
+      exact = λ ts. maybe_exact (of p) (of (p ++ x1)) (of f1) l k.loose.firsts k.solid (within f1 p w) (within_left p x1) f ts (exact_within (of x1) (of (p ++ x1)) l ts (f ts) (within_right p x1) (k.loose.exact ts));
+      sub = sub_maybe l l2 k.loose.sub;
+      low = low_maybe k.loose.low;
+    };
+    solid = tt;
+    solid_more = tt;
+  }
+
+  pub good_many : (p : List ℕ) → all_in f1 p ≡ true → none_in x1 f1 ≡ true → Good n b1 f1 x1 l l2 f → Kept n (List A) (by b1 false f1 (p ++ x1)) (many l) (many l2) (many_at (of p) f)
+  good_many p w a k = record {
+    loose = record {
+      firsts = firsts_many (of f1) l k.loose.firsts k.solid;
+      exact = λ ts. many_exact (of p) (of x1) (of (p ++ x1)) (of f1) l k.loose.firsts k.solid (within f1 p w) (apart x1 f1 a) (within_right p x1) (within_left p x1) f k.loose.exact ts;
+      sub = sub_many l l2 k.loose.sub;
+      low = low_many k.loose.low;
+    };
+    solid = tt;
+    solid_more = tt;
+  }
+
+-- the first part may be empty
 module _ {A B : Type 0} (f1 f2 : List ℕ) (l : Language Tok A) (m : A → Language Tok B) (w1 : Firsts (of f1) l) (w2 : (a : A) → Firsts (of f2) (m a)) where
   either_begins : (t : Tok) (ts u v : List Tok) (a : A) → t ∷ ts ≡ u ++ v → l.reads u a → (m a).front v → IsTrue (of (f1 ++ f2) t)
   either_begins t ts [] v a e rd fr = within_right f1 f2 t ((w2 a).begins t ts (subst (λ z. (m a).front z) (sym e) fr))
@@ -366,23 +281,64 @@ module _ {A B : Type 0} (f1 f2 : List ℕ) (l : Language Tok A) (m : A → Langu
     begins = λ t ts fr. elim fr [ inl q ↦ within_left f1 f2 t (w1.begins t ts q) | inr w ↦ either_begins t ts w.0 w.1 w.2 w.3 w.4 w.5 ];
   }
 
-low_follow_over : {A B : Type 0} (n : ℕ) (b1 b2 : Bool) {l l2 : Language Tok A} {m m2 : A → Language Tok B} → IsLow (bound b1 n) l l2 → ((a : A) → IsLow (bound b2 n) (m a) (m2 a)) → IsLow (bound (b1 && b2) n) (follow l m) (follow l2 m2)
-low_follow_over n b1 b2 k j = record {
-  reads = λ ts ab lt h. (h.0, h.1, h.2, k.reads h.0 ab.0 (left_bound b1 b2 n _ _ (first_part ts h.0 h.1 h.2) lt) h.3, (j ab.0).reads h.1 ab.1 (right_bound b1 b2 n _ _ (second_part ts h.0 h.1 h.2) lt) h.4);
-  front = λ ts lt h. elim h [
-    | inl q ↦ inl (k.front ts (left_bound b1 b2 n _ _ (omega arith) lt) q)
-    | inr w ↦ inr (w.0, w.1, w.2, w.3, k.reads w.0 w.2 (left_bound b1 b2 n _ _ (first_part ts w.0 w.1 w.3) lt) w.4, (j w.2).front w.1 (right_bound b1 b2 n _ _ (second_part ts w.0 w.1 w.3) lt) w.5)
-  ];
+-- what is so by whether the parts may be empty
+second_over : {B : Type 0} (c : Bool) (x1 x2 : List ℕ) (m : Language Tok B) (b : B) → Only c (Solid m) → m.reads [] b → Within (of x1) (of (cond c x2 (x1 ++ x2)))
+second_over true x1 x2 m b s rd = absurd (s b rd)
+second_over false x1 x2 m b s rd = within_left x1 x2
+
+second_next : (c : Bool) (x1 x2 : List ℕ) → Within (of x2) (of (cond c x2 (x1 ++ x2)))
+second_next true x1 x2 t h = h
+second_next false x1 x2 t h = within_right x1 x2 t h
+
+module _ {A B : Type 0} (l : Language Tok A) (m : A → Language Tok B) where
+  follow_solid : (b c : Bool) → Only b (Solid l) → ((a : A) → Only c (Solid (m a))) → Only (b || c) (Solid (follow l m))
+  follow_solid true c s j = solid_first l m s
+  follow_solid false true s j = solid_second l m j
+  follow_solid false false s j = tt
+
+  follow_firsts : (b : Bool) (f1 f2 : List ℕ) → Only b (Solid l) → Firsts (of f1) l → ((a : A) → Firsts (of f2) (m a)) → Firsts (of (cond b f1 (f1 ++ f2))) (follow l m)
+  follow_firsts true f1 f2 s w j = firsts_follow (of f1) (λ _. of f2) l m w j s
+  follow_firsts false f1 f2 s w j = firsts_over f1 f2 l m w j
+
+follow_low : {A B : Type 0} (n : ℕ) (b b1 b2 : Bool) {l l2 : Language Tok A} {m m2 : A → Language Tok B} → IsLow (bound b1 n) l l2 → Only b (Solid l2) → ((a : A) → IsLow (bound b2 n) (m a) (m2 a)) → IsLow (bound (cond b b1 (b1 && b2)) n) (follow l m) (follow l2 m2)
+follow_low n true b1 b2 k s j = low_follow n b1 b2 k s j
+follow_low n false b1 b2 k s j = low_follow_over n b1 b2 k j
+
+-- the second part may depend on the first
+pub good_follow : {n : ℕ} {A B : Type 0} {s t : Said (List ℕ)} {l l2 : Language Tok A} {m m2 : A → Language Tok B} {f : Reader A} {g : A → Reader B} → Kept n A s l l2 f → ((a : A) → Kept n B t (m a) (m2 a) (g a)) → none_in s.next t.first ≡ true
+    → Kept n (A × B) (in_turn s t) (follow l m) (follow l2 m2) (follow_at f g)
+good_follow {n = n} {s = s} {t = t} {l = l} {l2 = l2} {m = m} {m2 = m2} {f = f} {g = g} k j a = record {
+  loose = record {
+    firsts = follow_firsts l m s.full s.first t.first k.solid k.loose.firsts (λ z. (j z).loose.firsts);
+    exact = λ ts. follow_exact (of s.next) (of t.next) (of (cond t.full t.next (s.next ++ t.next))) (λ _. of t.first) l m k.loose.firsts.whole (λ z. (j z).loose.firsts) (λ _. apart s.next t.first a)
+        (λ z b rd. second_over t.full s.next t.next (m z) b (j z).solid rd) (second_next t.full s.next t.next) f g ts (k.loose.exact ts) (λ u r z e rd. (j z).loose.exact r);
+    sub = sub_follow l l2 m m2 k.loose.sub (λ z. (j z).loose.sub);
+    low = follow_low n s.full s.early t.early k.loose.low k.solid_more (λ z. (j z).loose.low);
+  };
+  solid = follow_solid l m s.full t.full k.solid (λ z. (j z).solid);
+  solid_more = follow_solid l2 m2 s.full t.full k.solid_more (λ z. (j z).solid_more);
 }
 
-module _ {n : ℕ} {A B : Type 0} {b1 b2 : Bool} {f1 x1 f2 x2 : List ℕ} {l l2 : Language Tok A} {m m2 : A → Language Tok B} {f : Reader A} {g : A → Reader B} where
-  pub loose_follow : Loose n b1 f1 x1 l l2 f → ((a : A) → Loose n b2 f2 x2 (m a) (m2 a) (g a)) → none_in x1 f2 ≡ true → Loose n (b1 && b2) (f1 ++ f2) (x1 ++ x2) (follow l m) (follow l2 m2) (follow_at f g)
-  loose_follow k j a = record {
-    firsts = firsts_over f1 f2 l m k.firsts (λ z. (j z).firsts);
-    exact = λ ts. follow_exact (of x1) (of x2) (of (x1 ++ x2)) (λ _. of f2) l m k.firsts.whole (λ z. (j z).firsts) (λ _. apart x1 f2 a) (λ z b rd. within_left x1 x2) (within_right x1 x2) f g ts (k.exact ts) (λ u r z e rd. (j z).exact r);
-    sub = sub_follow l l2 m m2 k.sub (λ z. (j z).sub);
-    low = low_follow_over n b1 b2 k.low (λ z. (j z).low);
-  }
+pub good_then : {n : ℕ} {A B : Type 0} {s t : Said (List ℕ)} {l l2 : Language Tok A} {m m2 : Language Tok B} {f : Reader A} {g : Reader B} → Kept n A s l l2 f → Kept n B t m m2 g → none_in s.next t.first ≡ true
+    → Kept n (A × B) (in_turn s t) (then l m) (then l2 m2) (then_at f g)
+good_then k j a = good_follow k (λ _. j) a
+
+-- the second side may be empty
+pub good_either : {n : ℕ} {A : Type 0} {b : Bool} {f1 x1 : List ℕ} {t : Said (List ℕ)} {l l2 m m2 : Language Tok A} {f g : Reader A} (p : List ℕ) → Good n b f1 x1 l l2 f → Kept n A t m m2 g → all_in f1 p ≡ true → none_in p t.first ≡ true
+    → Kept n A (chosen p (by b true f1 x1) t) (either l m) (either l2 m2) (choose_at (of p) f g)
+good_either {n = n} {b = b} {f1 = f1} {x1 = x1} {t = t} {l = l} {l2 = l2} {m = m} {m2 = m2} {f = f} {g = g} p k j w a =
+    let next = cond t.full (x1 ++ t.next) (p ++ (x1 ++ t.next)) in
+    let more = second_next t.full p (x1 ++ t.next) in record {
+      loose = record {
+        firsts = firsts_either (of f1) (of t.first) (of (f1 ++ t.first)) l m k.loose.firsts j.loose.firsts (within_left f1 t.first) (within_right f1 t.first);
+        exact = λ ts. either_exact (of p) (of next) (of f1) (of t.first) l m k.loose.firsts j.loose.firsts k.solid (within f1 p w) (apart p t.first a) (λ z rd. second_over t.full p (x1 ++ t.next) m z j.solid rd) f g ts
+            (exact_within (of x1) (of next) l ts (f ts) (λ z h. more z (within_left x1 t.next z h)) (k.loose.exact ts)) (exact_within (of t.next) (of next) m ts (g ts) (λ z h. more z (within_right x1 t.next z h)) (j.loose.exact ts));
+        sub = sub_either l l2 m m2 k.loose.sub j.loose.sub;
+        low = low_either n b t.early k.loose.low j.loose.low;
+      };
+      solid = only t.full (solid_either l m k.solid) j.solid;
+      solid_more = only t.full (solid_either l2 m2 k.solid_more) j.solid_more;
+    }
 
 -- lists that do not begin with a token of p
 starts_front : (p : Tok → Bool) (ts u s : List Tok) → ts ≡ u ++ s → starts p ts ≡ false → starts p u ≡ false

@@ -8,9 +8,10 @@ use Rattle.qvt_language.specs.Tokens.{Tok, of}
 use Rattle.qvt_language.specs.Readers.{Reader}
 use Rattle.qvt_language.specs.Nesting.{nested, nested_at}
 use Rattle.qvt_language.proofs.Forms.{Good, good_never}
-use Rattle.qvt_language.proofs.GoodExprs.{GoodNested, good_typed}
-use Rattle.qvt_language.proofs.GoodTower.{good_flagged}
-use Rattle.qvt_language.proofs.GoodBlocks.{good_block}
+use Rattle.qvt_language.proofs.Good.{GoodNested}
+use Rattle.qvt_language.proofs.EveryExprs.{k_typed}
+use Rattle.qvt_language.proofs.EveryTower.{k_flagged}
+use Rattle.qvt_language.proofs.EveryBlocks.{k_block}
 
 pub consumes : {A : Type 0} {n : ℕ} {early : _} {first next : List ℕ} {l m : Language Tok A} {f : Reader A} → Good n early first next l m f → Consumes f
 consumes {next = next} {l = l} {f = f} k = consumes_of (of next) l f k.solid k.loose.exact
@@ -35,13 +36,13 @@ lowest {first = first} {next = next} {m = m} e s = let k = good_never {n = zero}
 pub good_same : (n : ℕ) → GoodNested n (nested n) (nested n) (nested_at n)
 unfolding nested nested_at
 good_same zero = record { flagged = good_never _ _; block = good_never _ _; kind = good_never _ _ }
-good_same (suc n) = record { flagged = raised (good_flagged (good_same n)); block = raised (good_block (good_same n)); kind = raised (good_typed (good_same n)) }
+good_same (suc n) = record { flagged = raised (k_flagged (good_same n)); block = raised (k_block (good_same n)); kind = raised (k_typed (good_same n)) }
 
 pub good_nested : (n : ℕ) → GoodNested n (nested n) (nested (suc n)) (nested_at n)
 unfolding nested nested_at
 good_nested zero = record {
-  flagged = (let k = good_flagged (good_same zero) in lowest k.loose.firsts.empty k.solid);
-  block = (let k = good_block (good_same zero) in lowest k.loose.firsts.empty k.solid);
-  kind = (let k = good_typed (good_same zero) in lowest k.loose.firsts.empty k.solid);
+  flagged = (let k = k_flagged (good_same zero) in lowest k.loose.firsts.empty k.solid);
+  block = (let k = k_block (good_same zero) in lowest k.loose.firsts.empty k.solid);
+  kind = (let k = k_typed (good_same zero) in lowest k.loose.firsts.empty k.solid);
 }
-good_nested (suc n) = record { flagged = raised (good_flagged (good_nested n)); block = raised (good_block (good_nested n)); kind = raised (good_typed (good_nested n)) }
+good_nested (suc n) = record { flagged = raised (k_flagged (good_nested n)); block = raised (k_block (good_nested n)); kind = raised (k_typed (good_nested n)) }

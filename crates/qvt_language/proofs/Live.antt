@@ -1,5 +1,5 @@
 -- A front is what begins a read list, form by form: l at a nesting, m at one more.
-use Rattle.std.proofs.Common.{◌≡◌, ℕ, codes, List, [], ◌∷◌, ◌++◌, Bool, false, ◌⊎◌, inl, inr, refl, sym, ap, ◌∙◌, append-nil, append_assoc, eq-eqb, Option, Some, None, pos}
+use Rattle.std.proofs.Common.{◌≡◌, ℕ, codes, List, [], ◌∷◌, ◌++◌, Bool, true, false, ◌⊎◌, inl, inr, refl, sym, ap, ◌∙◌, append-nil, append_assoc, eq-eqb, Option, Some, None, pos}
 use Rattle.qvt_grammar.specs.Language.{Language, follow, then, either, many, turns, made, empty, maybe}
 use Rattle.qvt_grammar.specs.Reader.{starts}
 use Rattle.qvt_grammar.proofs.Wider.{Sub, sub_ended, sub_turns, sub_follow, sub_made, sub_maybe}
@@ -8,6 +8,10 @@ use Rattle.qvt_language.specs.Tokens.{Tok, is, code_of}
 use Rattle.qvt_language.specs.Readers.{nowhere, the, placed}
 use Rattle.qvt_language.specs.Series.{left, right, series, finished, barring}
 use Rattle.qvt_language.specs.Same.{SimpleText, IsSimple}
+use Rattle.qvt_language.specs.Grammar.{Nested}
+use Rattle.qvt_language.specs.Reading.{NestedAt}
+use Rattle.qvt_language.specs.Units.{is_strictness, strictness}
+use Rattle.qvt_language.proofs.Every.{Keeping, Valuing, Forms, Inside}
 use Rattle.qvt_words.specs.declared.class.Class.{Class}
 use Rattle.qvt_words.specs.declared.class.Class.TheVariants.{Name, Str}
 
@@ -154,3 +158,58 @@ live_maybe_more {l = l} {l2 = l2} k = record {
   closed = closed_maybe l k.closed;
   completes = record { within = sub_maybe l l2 k.within; some = ([], None, inr (tt, refl, refl), tt); whole = maybe_whole l l2 k };
 }
+
+-- the forms of the grammar
+
+strict_sample : Tok
+strict_sample = record { class = Str; text = codes "strict"; number = pos 0; place = nowhere }
+
+strict_passes : is_strictness strict_sample ≡ true
+unfolding strict_sample
+strict_passes = refl
+
+pub live_strictness : Live strictness strictness
+unfolding strict_sample
+live_strictness = record { closed = closed_token is_strictness; completes = completes_token is_strictness IsSimple strict_sample (record { number = refl; text = inr refl }) strict_passes }
+
+abbrev pub Lives : Keeping
+Lives = λ A s l m f. Live l m
+
+abbrev pub LivesBarred : Keeping
+LivesBarred = λ A s l m f. LiveMore l m
+
+abbrev pub LivesValued : Valuing
+LivesValued = λ A s l m f. Live l m
+
+abbrev pub live_forms : Forms Lives LivesBarred LivesValued
+live_forms = record {
+  token = live_the;
+  strict = live_strictness;
+  no_token = live_empty;
+  wider = λ w k. k;
+  gives = live_made;
+  at = live_placed;
+  perhaps = λ p w k. live_maybe k;
+  turns = λ p w a k. live_many k;
+  both = λ k j a. live_then k j;
+  depending = λ k j a. live_follow k j;
+  one_of = λ p k j w a. live_either k j;
+  barred = more_barring;
+  barred_gives = more_made;
+  barred_depending = λ k j a. more_follow k j;
+  barred_perhaps = λ p w k. live_maybe_more k;
+  valued = λ k. k;
+  alike = λ next w k. k;
+  value_wider = λ first w k. k;
+  value_gives = λ h next w k. live_made h k;
+  value_at = live_placed;
+  value_perhaps = λ p w k. live_maybe k;
+  value_one_of = λ p k j w a. live_either k j;
+  value_depending = λ next k j a over more. live_follow k j;
+  value_both = λ next k j a over more. live_then k j;
+  turns_of = λ p c1 c2 w a k. live_series k;
+  last_of = λ p c1 c2 w a k q h. (let v = q.completes.some in live_finished k v.0 v.1 (h v.0 v.1 v.2) v.3);
+}
+
+abbrev pub LiveNested : Nested → Nested → NestedAt → Type 0
+LiveNested i j r = Inside live_forms i j r

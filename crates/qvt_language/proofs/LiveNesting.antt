@@ -16,12 +16,10 @@ use Rattle.qvt_language.specs.Statements.{block}
 use Rattle.qvt_language.specs.ReadingStatements.{block_at, statements_at}
 use Rattle.qvt_language.specs.Nesting.{nested, nested_at}
 use Rattle.qvt_language.specs.Same.{IsSimple}
-use Rattle.qvt_language.proofs.Live.{Live, sample, simple_sample}
-use Rattle.qvt_language.proofs.LiveExprs.{LiveNested, live_typed}
-use Rattle.qvt_language.proofs.LiveBlocks.{live_flagged, live_block}
-use Rattle.qvt_language.proofs.GoodExprs.{good_typed}
-use Rattle.qvt_language.proofs.GoodTower.{good_flagged}
-use Rattle.qvt_language.proofs.GoodBlocks.{good_block}
+use Rattle.qvt_language.proofs.Live.{Live, LiveNested, sample, simple_sample}
+use Rattle.qvt_language.proofs.EveryExprs.{k_typed}
+use Rattle.qvt_language.proofs.EveryTower.{k_flagged}
+use Rattle.qvt_language.proofs.EveryBlocks.{k_block}
 use Rattle.qvt_language.proofs.GoodNesting.{good_same, good_nested}
 
 -- nothing is read at no nesting, and its one front is completed by any list that m reads
@@ -48,19 +46,19 @@ all_of : {A : Type 0} (l : Language Tok A) (ts u : List Tok) (a : A) → ts ≡ 
 all_of l ts u a e rd told = (ts, a, subst (λ z. l.reads z a) (sym (e ∙ append-nil u)) rd, told)
 
 some_flagged : (ts : List Tok) × (a : Lead) × (flagged (nested zero)).reads ts a × Each IsSimple ts
-some_flagged = let k = subst (Exact (of expr_next) (flagged (nested zero)) (sample Integer ∷ [])) one_number ((good_flagged (good_same zero)).loose.exact (sample Integer ∷ [])) in all_of (flagged (nested zero)) (sample Integer ∷ []) k.found.0 (Plain (IntExpr (pos 0) nowhere) None) k.found.1 k.found.2 (simple_sample Integer, tt)
+some_flagged = let k = subst (Exact (of expr_next) (flagged (nested zero)) (sample Integer ∷ [])) one_number ((k_flagged (good_same zero)).loose.exact (sample Integer ∷ [])) in all_of (flagged (nested zero)) (sample Integer ∷ []) k.found.0 (Plain (IntExpr (pos 0) nowhere) None) k.found.1 k.found.2 (simple_sample Integer, tt)
 
 some_typed : (ts : List Tok) × (a : TypeTerm) × (typed (nested zero)).reads ts a × Each IsSimple ts
-some_typed = let k = subst (Exact (of (10 ∷ [])) (typed (nested zero)) (sample Name ∷ [])) one_name ((good_typed (good_same zero)).loose.exact (sample Name ∷ [])) in all_of (typed (nested zero)) (sample Name ∷ []) k.found.0 (PathType (record { names = codes "a" ∷ []; place = nowhere })) k.found.1 k.found.2 (simple_sample Name, tt)
+some_typed = let k = subst (Exact (of (10 ∷ [])) (typed (nested zero)) (sample Name ∷ [])) one_name ((k_typed (good_same zero)).loose.exact (sample Name ∷ [])) in all_of (typed (nested zero)) (sample Name ∷ []) k.found.0 (PathType (record { names = codes "a" ∷ []; place = nowhere })) k.found.1 k.found.2 (simple_sample Name, tt)
 
 some_block : (ts : List Tok) × (a : List StmtTerm) × (block (nested zero)).reads ts a × Each IsSimple ts
-some_block = let k = subst (Exact (of []) (block (nested zero)) (sample OpenBrace ∷ sample CloseBrace ∷ [])) no_statements ((good_block (good_same zero)).loose.exact (sample OpenBrace ∷ sample CloseBrace ∷ [])) in all_of (block (nested zero)) (sample OpenBrace ∷ sample CloseBrace ∷ []) k.found.0 [] k.found.1 k.found.2 (simple_sample OpenBrace, (simple_sample CloseBrace, tt))
+some_block = let k = subst (Exact (of []) (block (nested zero)) (sample OpenBrace ∷ sample CloseBrace ∷ [])) no_statements ((k_block (good_same zero)).loose.exact (sample OpenBrace ∷ sample CloseBrace ∷ [])) in all_of (block (nested zero)) (sample OpenBrace ∷ sample CloseBrace ∷ []) k.found.0 [] k.found.1 k.found.2 (simple_sample OpenBrace, (simple_sample CloseBrace, tt))
 
-pub live_nested : (n : ℕ) → LiveNested (nested n) (nested (suc n))
-unfolding nested
+pub live_nested : (n : ℕ) → LiveNested (nested n) (nested (suc n)) (nested_at n)
+unfolding nested nested_at
 live_nested zero = record {
   flagged = from_nothing (good_nested zero).flagged.loose.sub some_flagged;
   block = from_nothing (good_nested zero).block.loose.sub some_block;
   kind = from_nothing (good_nested zero).kind.loose.sub some_typed;
 }
-live_nested (suc n) = record { flagged = live_flagged (live_nested n); block = live_block (live_nested n); kind = live_typed (live_nested n) }
+live_nested (suc n) = record { flagged = k_flagged (live_nested n); block = k_block (live_nested n); kind = k_typed (live_nested n) }

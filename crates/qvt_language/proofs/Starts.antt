@@ -12,16 +12,15 @@ use Rattle.qvt_language.specs.Nesting.{nested, nested_at}
 use Rattle.qvt_language.specs.Module.{Start, ReadsFrom, FrontFrom, FaultFrom}
 use Rattle.qvt_language.specs.Laws.{Beginnings, AtMostOne, IsFirstFault, Faults}
 use Rattle.qvt_language.proofs.Forms.{Good}
-use Rattle.qvt_language.proofs.Live.{Live}
-use Rattle.qvt_language.proofs.GoodExprs.{GoodNested}
+use Rattle.qvt_language.proofs.Live.{Live, LiveNested}
+use Rattle.qvt_language.proofs.Good.{GoodNested}
 use Rattle.qvt_language.proofs.GoodNesting.{good_same, good_nested}
-use Rattle.qvt_language.proofs.LiveExprs.{LiveNested}
 use Rattle.qvt_language.proofs.LiveNesting.{live_nested}
 
 -- what a start symbol needs: an exact reader, which begins with a token of its own, and fronts that are completed
 pub record IsStart {A : Type 0} (first after : List ℕ) (start : Start A) (start_at : NestedAt → Reader A) : Type 1 where
   pub good : (n : ℕ) (i j : Nested) (r : NestedAt) → GoodNested n i j r → Good n true first after (start i) (start j) (start_at r)
-  pub live : (i j : Nested) → LiveNested i j → Live (start i) (start j)
+  pub live : (i j : Nested) (r : NestedAt) → LiveNested i j r → Live (start i) (start j)
 
 all_simple : (ts : List Tok) → Each IsSimple ts → AllSimple ts
 all_simple [] h = tt
@@ -127,12 +126,12 @@ module _ {A : Type 0} {first after : List ℕ} {start : Start A} {start_at : Nes
 
   -- what begins a list that is read is a front
   front_of_read : (ts v : List Tok) (a : A) → ReadsFrom start (ts ++ v) a → FrontFrom start ts
-  front_of_read ts v a rd = record { nesting = rd.nesting; front = (is.live (nested rd.nesting) (nested (suc rd.nesting)) (live_nested rd.nesting)).closed.front ts v a rd.reads }
+  front_of_read ts v a rd = record { nesting = rd.nesting; front = (is.live (nested rd.nesting) (nested (suc rd.nesting)) (nested_at rd.nesting) (live_nested rd.nesting)).closed.front ts v a rd.reads }
 
   -- a front begins a list that is read
   read_of_front : (ts : List Tok) → FrontFrom start ts → (v : List Tok) × (a : A) × ReadsFrom start (ts ++ v) a × AllSimple v
   read_of_front ts fr =
-      let w = (is.live (nested fr.nesting) (nested (suc fr.nesting)) (live_nested fr.nesting)).completes.whole ts fr.front in
+      let w = (is.live (nested fr.nesting) (nested (suc fr.nesting)) (nested_at fr.nesting) (live_nested fr.nesting)).completes.whole ts fr.front in
       (w.0, w.1, record { nesting = suc fr.nesting; reads = w.2 }, all_simple w.0 w.3)
 
   pub beginnings : Beginnings start

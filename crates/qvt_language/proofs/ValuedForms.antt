@@ -13,7 +13,8 @@ use Rattle.qvt_language.specs.Tokens.{Tok, of}
 use Rattle.qvt_language.specs.Readers.{Reader, nowhere, placed, placed_at}
 use Rattle.qvt_language.specs.Series.{left, right, series, finished, finish, finished_at}
 use Rattle.qvt_language.proofs.Sets.{all_in, none_in, within, apart, within_left, within_right}
-use Rattle.qvt_language.proofs.Forms.{IsLow, bound, Loose, Good, loose_maybe, low_follow, low_over, low_either, low_made, low_marked, low_series, sub_left, sub_right, firsts_left, firsts_right}
+use Rattle.qvt_language.proofs.Every.{Said, by, optional_next, turn_next, ended_next}
+use Rattle.qvt_language.proofs.Forms.{IsLow, bound, Only, only, Kept, Good, good_maybe, low_follow, low_follow_over, low_either, low_made, low_marked, low_series, sub_left, sub_right, firsts_left, firsts_right}
 
 pub record LooseV {A : Type 0} (n : ℕ) (early : Bool) (first : List ℕ) (next : A → List ℕ) (l m : Language Tok A) (f : Reader A) : Type 0 where
   pub firsts : Firsts (of first) l
@@ -21,39 +22,38 @@ pub record LooseV {A : Type 0} (n : ℕ) (early : Bool) (first : List ℕ) (next
   pub sub : Sub l m
   pub low : IsLow (bound early n) l m
 
-pub record GoodV {A : Type 0} (n : ℕ) (early : Bool) (first : List ℕ) (next : A → List ℕ) (l m : Language Tok A) (f : Reader A) : Type 0 where
-  pub loose : LooseV n early first next l m f
-  pub solid : Solid l
-  pub solid_more : Solid m
+-- the same of what is kept, where the next tokens depend on the value
+pub record KeptV (n : ℕ) (A : Type 0) (s : Said (A → List ℕ)) (l m : Language Tok A) (f : Reader A) : Type 0 where
+  pub loose : LooseV n s.early s.first s.next l m f
+  pub solid : Only s.full (Solid l)
+  pub solid_more : Only s.full (Solid m)
 
-module _ {n : ℕ} {A : Type 0} {b1 : Bool} {f1 x1 : List ℕ} {l l2 : Language Tok A} {f : Reader A} where
-  pub loosev_of : Loose n b1 f1 x1 l l2 f → LooseV n b1 f1 (λ _. x1) l l2 f
-  loosev_of k = record { firsts = k.firsts; exact = λ ts. valued (of x1) l ts (f ts) (k.exact ts); sub = k.sub; low = k.low }
+abbrev pub GoodV : {A : Type 0} → ℕ → Bool → List ℕ → (A → List ℕ) → Language Tok A → Language Tok A → Reader A → Type 0
+GoodV {A} n early first next l m f = KeptV n A (by early true first next) l m f
 
-  pub goodv_of : Good n b1 f1 x1 l l2 f → GoodV n b1 f1 (λ _. x1) l l2 f
-  goodv_of k = record { loose = loosev_of k.loose; solid = k.solid; solid_more = k.solid_more }
+module _ {n : ℕ} {A : Type 0} {l l2 : Language Tok A} {f : Reader A} where
+  pub goodv_of : {s : Said (List ℕ)} → Kept n A s l l2 f → KeptV n A (by s.early s.full s.first (λ _. s.next)) l l2 f
+  goodv_of {s = s} k = record { loose = record { firsts = k.loose.firsts; exact = λ ts. valued (of s.next) l ts (f ts) (k.loose.exact ts); sub = k.loose.sub; low = k.loose.low }; solid = k.solid; solid_more = k.solid_more }
 
-module _ {n : ℕ} {A : Type 0} {b1 : Bool} {f1 : List ℕ} {next1 : A → List ℕ} {l l2 : Language Tok A} {f : Reader A} where
-  pub loosev_sets : (first : List ℕ) → all_in f1 first ≡ true → LooseV n b1 f1 next1 l l2 f → LooseV n b1 first next1 l l2 f
-  loosev_sets first w k = record { firsts = firsts_within (of f1) (of first) l (within f1 first w) k.firsts; exact = k.exact; sub = k.sub; low = k.low }
+  pub good_all : {s : Said (A → List ℕ)} (next : List ℕ) → ((a : A) → Within (of (s.next a)) (of next)) → KeptV n A s l l2 f → Kept n A (by s.early s.full s.first next) l l2 f
+  good_all {s = s} next w k = record { loose = record { firsts = k.loose.firsts; exact = λ ts. unvalued (λ a. of (s.next a)) (of next) l ts (f ts) w (k.loose.exact ts); sub = k.loose.sub; low = k.loose.low }; solid = k.solid; solid_more = k.solid_more }
 
-  pub goodv_sets : (first : List ℕ) → all_in f1 first ≡ true → GoodV n b1 f1 next1 l l2 f → GoodV n b1 first next1 l l2 f
-  goodv_sets first w k = record { loose = loosev_sets first w k.loose; solid = k.solid; solid_more = k.solid_more }
+  pub goodv_sets : {s : Said (A → List ℕ)} (first : List ℕ) → all_in s.first first ≡ true → KeptV n A s l l2 f → KeptV n A (by s.early s.full first s.next) l l2 f
+  goodv_sets {s = s} first w k = record { loose = record { firsts = firsts_within (of s.first) (of first) l (within s.first first w) k.loose.firsts; exact = k.loose.exact; sub = k.loose.sub; low = k.loose.low }; solid = k.solid; solid_more = k.solid_more }
 
-  pub loose_all : (next : List ℕ) → ((a : A) → Within (of (next1 a)) (of next)) → LooseV n b1 f1 next1 l l2 f → Loose n b1 f1 next l l2 f
-  loose_all next w k = record { firsts = k.firsts; exact = λ ts. unvalued (λ a. of (next1 a)) (of next) l ts (f ts) w (k.exact ts); sub = k.sub; low = k.low }
-
-  pub loosev_made : {B : Type 0} (h : A → B) (next : B → List ℕ) → ((a : A) → Within (of (next1 a)) (of (next (h a)))) → LooseV n b1 f1 next1 l l2 f → LooseV n b1 f1 next (made h l) (made h l2) (made_at h f)
-  loosev_made h next w k = record {
-    firsts = firsts_made h l (of f1) k.firsts;
-    exact = λ ts. valued_made h l (λ a. of (next1 a)) (λ b. of (next b)) w f ts (k.exact ts);
-    sub = sub_made h l l2 k.sub;
-    low = low_made h k.low;
+  pub goodv_made : {B : Type 0} {s : Said (A → List ℕ)} (h : A → B) (next : B → List ℕ) → ((a : A) → Within (of (s.next a)) (of (next (h a)))) → KeptV n A s l l2 f → KeptV n B (by s.early s.full s.first next) (made h l) (made h l2) (made_at h f)
+  goodv_made {s = s} h next w k = record {
+    loose = record {
+      firsts = firsts_made h l (of s.first) k.loose.firsts;
+      exact = λ ts. valued_made h l (λ a. of (s.next a)) (λ b. of (next b)) w f ts (k.loose.exact ts);
+      sub = sub_made h l l2 k.loose.sub;
+      low = low_made h k.loose.low;
+    };
+    solid = only s.full (solid_made h l) k.solid;
+    solid_more = only s.full (solid_made h l2) k.solid_more;
   }
 
-  pub goodv_made : {B : Type 0} (h : A → B) (next : B → List ℕ) → ((a : A) → Within (of (next1 a)) (of (next (h a)))) → GoodV n b1 f1 next1 l l2 f → GoodV n b1 f1 next (made h l) (made h l2) (made_at h f)
-  goodv_made h next w k = record { loose = loosev_made h next w k.loose; solid = solid_made h l k.solid; solid_more = solid_made h l2 k.solid_more }
-
+module _ {n : ℕ} {A : Type 0} {b1 : Bool} {f1 : List ℕ} {next1 : A → List ℕ} {l l2 : Language Tok A} {f : Reader A} where
   pub goodv_placed : GoodV n b1 f1 next1 l l2 f → GoodV n b1 f1 (λ pa. next1 pa.1) (placed l) (placed l2) (placed_at f)
   goodv_placed k = record {
     loose = record {
@@ -66,30 +66,34 @@ module _ {n : ℕ} {A : Type 0} {b1 : Bool} {f1 : List ℕ} {next1 : A → List 
     solid_more = solid_marked (λ t. t.place) nowhere l2 k.solid_more;
   }
 
-module _ {n : ℕ} {A B : Type 0} {b1 b2 : Bool} {f1 f2 : List ℕ} {next1 : A → List ℕ} {next2 : A → B → List ℕ} {l l2 : Language Tok A} {m m2 : A → Language Tok B} {f : Reader A} {g : A → Reader B} where
-  pub goodv_follow : (next : A × B → List ℕ) → GoodV n b1 f1 next1 l l2 f → ((a : A) → LooseV n b2 f2 (next2 a) (m a) (m2 a) (g a)) → ((a : A) → none_in (next1 a) f2 ≡ true)
+module _ {n : ℕ} {A B : Type 0} {b1 b2 w2 : Bool} {f1 f2 : List ℕ} {next1 : A → List ℕ} {next2 : A → B → List ℕ} {l l2 : Language Tok A} {m m2 : A → Language Tok B} {f : Reader A} {g : A → Reader B} where
+  pub goodv_follow : (next : A × B → List ℕ) → GoodV n b1 f1 next1 l l2 f → ((a : A) → KeptV n B (by b2 w2 f2 (next2 a)) (m a) (m2 a) (g a)) → ((a : A) → none_in (next1 a) f2 ≡ true)
       → ((a : A) (b : B) → (m a).reads [] b → Within (of (next1 a)) (of (next (a, b)))) → ((a : A) (b : B) → Within (of (next2 a b)) (of (next (a, b))))
       → GoodV n b1 f1 next (follow l m) (follow l2 m2) (follow_at f g)
   goodv_follow next k j a over sub_next = record {
     loose = record {
-      firsts = firsts_follow (of f1) (λ _. of f2) l m k.loose.firsts (λ z. (j z).firsts) k.solid;
-      exact = λ ts. valued_follow (λ z. of (next1 z)) (λ z b. of (next2 z b)) (λ p. of (next p)) (λ _. of f2) l m k.loose.firsts.whole (λ z. (j z).firsts) (λ z. apart (next1 z) f2 (a z)) over sub_next f g ts (k.loose.exact ts) (λ z r. (j z).exact r);
-      sub = sub_follow l l2 m m2 k.loose.sub (λ z. (j z).sub);
-      low = low_follow n b1 b2 k.loose.low k.solid_more (λ z. (j z).low);
+      firsts = firsts_follow (of f1) (λ _. of f2) l m k.loose.firsts (λ z. (j z).loose.firsts) k.solid;
+      exact = λ ts. valued_follow (λ z. of (next1 z)) (λ z b. of (next2 z b)) (λ p. of (next p)) (λ _. of f2) l m k.loose.firsts.whole (λ z. (j z).loose.firsts) (λ z. apart (next1 z) f2 (a z)) over sub_next f g ts (k.loose.exact ts) (λ z r. (j z).loose.exact r);
+      sub = sub_follow l l2 m m2 k.loose.sub (λ z. (j z).loose.sub);
+      low = low_follow n b1 b2 k.loose.low k.solid_more (λ z. (j z).loose.low);
     };
     solid = solid_first l m k.solid;
     solid_more = solid_first l2 m2 k.solid_more;
   }
 
 module _ {n : ℕ} {A B : Type 0} {b1 b2 : Bool} {f1 f2 : List ℕ} {next1 : A → List ℕ} {next2 : B → List ℕ} {l l2 : Language Tok A} {m m2 : Language Tok B} {f : Reader A} {g : Reader B} where
-  pub loosev_then : (next : A × B → List ℕ) → LooseV n b1 f1 next1 l l2 f → LooseV n b2 f2 next2 m m2 g → ((a : A) → none_in (next1 a) f2 ≡ true)
+  pub goodv_then : (next : A × B → List ℕ) → KeptV n A (by b1 false f1 next1) l l2 f → KeptV n B (by b2 false f2 next2) m m2 g → ((a : A) → none_in (next1 a) f2 ≡ true)
       → ((a : A) (b : B) → m.reads [] b → Within (of (next1 a)) (of (next (a, b)))) → ((a : A) (b : B) → Within (of (next2 b)) (of (next (a, b))))
-      → LooseV n (b1 && b2) (f1 ++ f2) next (then l m) (then l2 m2) (then_at f g)
-  loosev_then next k j a over sub_next = record {
-    firsts = firsts_then_over (of f1) (of f2) (of (f1 ++ f2)) l m k.firsts j.firsts (within_left f1 f2) (within_right f1 f2);
-    exact = λ ts. valued_follow (λ z. of (next1 z)) (λ _ b. of (next2 b)) (λ p. of (next p)) (λ _. of f2) l (λ _. m) k.firsts.whole (λ _. j.firsts) (λ z. apart (next1 z) f2 (a z)) over sub_next f (λ _. g) ts (k.exact ts) (λ _ r. j.exact r);
-    sub = sub_then l l2 m m2 k.sub j.sub;
-    low = low_over n b1 b2 k.low j.low;
+      → KeptV n (A × B) (by (b1 && b2) false (f1 ++ f2) next) (then l m) (then l2 m2) (then_at f g)
+  goodv_then next k j a over sub_next = record {
+    loose = record {
+      firsts = firsts_then_over (of f1) (of f2) (of (f1 ++ f2)) l m k.loose.firsts j.loose.firsts (within_left f1 f2) (within_right f1 f2);
+      exact = λ ts. valued_follow (λ z. of (next1 z)) (λ _ b. of (next2 b)) (λ p. of (next p)) (λ _. of f2) l (λ _. m) k.loose.firsts.whole (λ _. j.loose.firsts) (λ z. apart (next1 z) f2 (a z)) over sub_next f (λ _. g) ts (k.loose.exact ts) (λ _ r. j.loose.exact r);
+      sub = sub_then l l2 m m2 k.loose.sub j.loose.sub;
+      low = low_follow_over n b1 b2 k.loose.low (λ _. j.loose.low);
+    };
+    solid = tt;
+    solid_more = tt;
   }
 
 module _ {n : ℕ} {A : Type 0} {b1 b2 : Bool} {f1 f2 : List ℕ} {next : A → List ℕ} {l l2 m m2 : Language Tok A} {f g : Reader A} where
@@ -104,11 +108,6 @@ module _ {n : ℕ} {A : Type 0} {b1 b2 : Bool} {f1 f2 : List ℕ} {next : A → 
     solid = solid_either l m k.solid j.solid;
     solid_more = solid_either l2 m2 k.solid_more j.solid_more;
   }
-
--- what may go on after a part that may be missing
-abbrev pub optional_next : {A : Type 0} → List ℕ → List ℕ → Option A → List ℕ
-optional_next p x None = p
-optional_next p x (Some a) = x
 
 module _ {A : Type 0} (p x : List ℕ) (l : Language Tok A) (w : Firsts (of p) l) (solid : Solid l) where
   none_read : (t : Tok) (ts u s : List Tok) (o : Option A) → IsTrue (of p t) → t ∷ ts ≡ u ++ s → u ≡ [] → o ≡ None → Begins (of (optional_next p x o)) s
@@ -151,23 +150,19 @@ module _ {A : Type 0} (p x : List ℕ) (l : Language Tok A) (w : Firsts (of p) l
   maybe_cases f (t ∷ ts) true h k = some_cases t ts (f (t ∷ ts)) h k
   maybe_cases f ts false h k = none_cases ts h
 
-pub loosev_maybe : {n : ℕ} {A : Type 0} {b1 : Bool} {f1 x1 : List ℕ} {l l2 : Language Tok A} {f : Reader A} (p : List ℕ) → all_in f1 p ≡ true → Good n b1 f1 x1 l l2 f → LooseV n b1 f1 (optional_next p x1) (maybe l) (maybe l2) (maybe_at (of p) f)
-loosev_maybe {f1 = f1} {x1 = x1} {l = l} {f = f} p w k = record {
-  firsts = (loose_maybe p w k).firsts;
-  exact = λ ts. maybe_cases p x1 l (firsts_within (of f1) (of p) l (within f1 p w) k.loose.firsts) k.solid f ts (starts (of p) ts) refl (k.loose.exact ts);
-  sub = (loose_maybe p w k).sub;
-  low = (loose_maybe p w k).low;
+pub goodv_maybe : {n : ℕ} {A : Type 0} {b1 : Bool} {f1 x1 : List ℕ} {l l2 : Language Tok A} {f : Reader A} (p : List ℕ) → all_in f1 p ≡ true → Good n b1 f1 x1 l l2 f → KeptV n (Option A) (by b1 false f1 (optional_next p x1)) (maybe l) (maybe l2) (maybe_at (of p) f)
+goodv_maybe {f1 = f1} {x1 = x1} {l = l} {f = f} p w k = let all = good_maybe p w k in record {
+  loose = record {
+    firsts = all.loose.firsts;
+    exact = λ ts. maybe_cases p x1 l (firsts_within (of f1) (of p) l (within f1 p w) k.loose.firsts) k.solid f ts (starts (of p) ts) refl (k.loose.exact ts);
+    sub = all.loose.sub;
+    low = all.loose.low;
+  };
+  solid = tt;
+  solid_more = tt;
 }
 
 -- turns
-
-abbrev pub turn_next : {A B : Type 0} → List ℕ → List ℕ → A ⊎ B → List ℕ
-turn_next c1 c2 (inl a) = c1
-turn_next c1 c2 (inr b) = c2
-
-abbrev pub ended_next : {A B : Type 0} → List ℕ → List ℕ → List A × Option B → List ℕ
-ended_next x y (got, None) = x
-ended_next x y (got, (Some b)) = y
 
 turned : {X : Type 0} {a b : X} {s r : List Tok} {E : Type 0} → ((b ≡ a) × (s ≡ r)) ⊎ E → ((a ≡ b) × (s ≡ r)) ⊎ E
 turned (inl q) = inl (sym q.0, q.1)
@@ -183,14 +178,18 @@ chosen_next : {A B : Type 0} (x y : List ℕ) (all : List A × Option B) → Wit
 chosen_next x y (got, None) t h = h
 chosen_next x y (got, (Some b)) t h = h
 
-pub loosev_series : {n : ℕ} {A B : Type 0} {b1 : Bool} {f1 : List ℕ} {l l2 : Language Tok (A ⊎ B)} {f : Reader (A ⊎ B)} (p c1 c2 : List ℕ) → all_in f1 p ≡ true → none_in c1 p ≡ true
-    → GoodV n b1 f1 (turn_next c1 c2) l l2 f → LooseV n b1 p (ended_next (p ++ c1) c2) (series l) (series l2) (ended_at (of p) f)
-loosev_series {A = A} {B = B} {f1 = f1} {l = l} {l2 = l2} {f = f} p c1 c2 w a k = record {
-  firsts = firsts_ended (of p) (of c1) (of c2) (of (p ++ c1)) (left l) (right l) (firsts_left p f1 w k.loose.firsts) (firsts_right p f1 w k.loose.firsts) (λ b. k.solid (inl b)) (λ b. k.solid (inr b)) (apart c1 p a) (within_right p c1) (within_left p c1);
-  exact = λ ts. valued_within (λ all. chosen (of (p ++ c1)) (of c2) all.1) (λ all. of (ended_next (p ++ c1) c2 all)) (series l) ts (ended_at (of p) f ts) (chosen_next (p ++ c1) c2)
-      (valued_ended (of p) (of c1) (of c2) (of (p ++ c1)) (left l) (right l) (firsts_left p f1 w k.loose.firsts) (firsts_right p f1 w k.loose.firsts) (λ b. k.solid (inl b)) (λ b. k.solid (inr b)) (apart c1 p a) (within_right p c1) (within_left p c1) f (λ r. turn_of c1 c2 l r (f r) (k.loose.exact r)) ts);
-  sub = sub_ended (left l) (left l2) (right l) (right l2) (sub_left k.loose.sub) (sub_right k.loose.sub);
-  low = low_series k.loose.low;
+pub goodv_series : {n : ℕ} {A B : Type 0} {b1 : Bool} {f1 : List ℕ} {l l2 : Language Tok (A ⊎ B)} {f : Reader (A ⊎ B)} (p c1 c2 : List ℕ) → all_in f1 p ≡ true → none_in c1 p ≡ true
+    → GoodV n b1 f1 (turn_next c1 c2) l l2 f → KeptV n (List A × Option B) (by b1 false p (ended_next (p ++ c1) c2)) (series l) (series l2) (ended_at (of p) f)
+goodv_series {A = A} {B = B} {f1 = f1} {l = l} {l2 = l2} {f = f} p c1 c2 w a k = record {
+  loose = record {
+    firsts = firsts_ended (of p) (of c1) (of c2) (of (p ++ c1)) (left l) (right l) (firsts_left p f1 w k.loose.firsts) (firsts_right p f1 w k.loose.firsts) (λ b. k.solid (inl b)) (λ b. k.solid (inr b)) (apart c1 p a) (within_right p c1) (within_left p c1);
+    exact = λ ts. valued_within (λ all. chosen (of (p ++ c1)) (of c2) all.1) (λ all. of (ended_next (p ++ c1) c2 all)) (series l) ts (ended_at (of p) f ts) (chosen_next (p ++ c1) c2)
+        (valued_ended (of p) (of c1) (of c2) (of (p ++ c1)) (left l) (right l) (firsts_left p f1 w k.loose.firsts) (firsts_right p f1 w k.loose.firsts) (λ b. k.solid (inl b)) (λ b. k.solid (inr b)) (apart c1 p a) (within_right p c1) (within_left p c1) f (λ r. turn_of c1 c2 l r (f r) (k.loose.exact r)) ts);
+    sub = sub_ended (left l) (left l2) (right l) (right l2) (sub_left k.loose.sub) (sub_right k.loose.sub);
+    low = low_series k.loose.low;
+  };
+  solid = tt;
+  solid_more = tt;
 }
 
 -- the last turn is of the other kind
@@ -214,7 +213,7 @@ module _ {A B : Type 0} (c1 c2 : List ℕ) (l : Language Tok (A ⊎ B)) (whole :
 
 pub good_finished : {n : ℕ} {A B : Type 0} {b1 : Bool} {f1 : List ℕ} {l l2 : Language Tok (A ⊎ B)} {f : Reader (A ⊎ B)} (p c1 c2 : List ℕ) → all_in f1 p ≡ true → none_in c1 p ≡ true
     → GoodV n b1 f1 (turn_next c1 c2) l l2 f → Good n b1 p c2 (finished l) (finished l2) (finished_at (of p) f)
-good_finished {l = l} {l2 = l2} {f = f} p c1 c2 w a k = let s = loosev_series p c1 c2 w a k in record {
+good_finished {l = l} {l2 = l2} {f = f} p c1 c2 w a k = let s = (goodv_series p c1 c2 w a k).loose in record {
   loose = record {
     firsts = record { empty = s.firsts.empty; whole = λ ts all rd. s.firsts.whole ts (all.0, Some all.1) rd; begins = s.firsts.begins };
     exact = λ ts. finished_cases (p ++ c1) c2 l s.firsts.whole ts (ended_at (of p) f ts) (s.exact ts);
@@ -224,7 +223,3 @@ good_finished {l = l} {l2 = l2} {f = f} p c1 c2 w a k = let s = loosev_series p 
   solid = λ all rd. k.solid (inr all.1) (subst (λ z. l.reads z (inr all.1)) (nil_right rd.0 rd.1 rd.2) rd.4);
   solid_more = λ all rd. k.solid_more (inr all.1) (subst (λ z. l2.reads z (inr all.1)) (nil_right rd.0 rd.1 rd.2) rd.4);
 }
-
-pub ended_all : {A B : Type 0} (x y : List ℕ) (all : List A × Option B) → Within (of (ended_next x y all)) (of (x ++ y))
-ended_all x y (got, None) = within_left x y
-ended_all x y (got, (Some b)) = within_right x y

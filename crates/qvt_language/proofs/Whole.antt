@@ -1,23 +1,22 @@
 -- Start symbols: a transformation, and one of its units.
 use Rattle.std.proofs.Common.{◌≡◌, ℕ, ◌≤◌, List, [], ◌∷◌, length, true, false, Ok, Err}
 use Rattle.qvt_grammar.specs.Reader.{At}
-use Rattle.qvt_tree_types.specs.Module.{UnitTerm, ModuleTerm}
+use Rattle.qvt_tree_types.specs.Module.{ModuleTerm}
 use Rattle.qvt_language.specs.Tokens.{Tok, is_nil}
 use Rattle.qvt_language.specs.Firsts.{unit_first}
 use Rattle.qvt_language.specs.Nesting.{nested_at}
 use Rattle.qvt_language.specs.Units.{transformation, unit}
 use Rattle.qvt_language.specs.ReadingUnits.{transformation_at, unit_at}
 use Rattle.qvt_language.specs.Module.{Reads, IsFault}
-use Rattle.qvt_language.proofs.GoodUnits.{good_transformation, good_unit}
-use Rattle.qvt_language.proofs.LiveUnits.{live_transformation, live_unit}
+use Rattle.qvt_language.proofs.EveryUnits.{k_transformation, k_unit}
 use Rattle.qvt_language.proofs.Starts as starts
 use Rattle.qvt_language.proofs.Starts.{IsStart, at_most_one}
 
 pub whole : IsStart (60 ∷ 80 ∷ []) unit_first transformation transformation_at
-whole = record { good = λ n i j r h. good_transformation h; live = λ i j h. live_transformation h }
+whole = record { good = λ n i j r h. k_transformation h; live = λ i j r h. k_transformation h }
 
 pub part : IsStart (32 ∷ 41 ∷ 49 ∷ 56 ∷ 58 ∷ 69 ∷ []) [] unit unit_at
-part = record { good = λ n i j r h. good_unit h; live = λ i j h. live_unit h }
+part = record { good = λ n i j r h. k_unit h; live = λ i j r h. k_unit h }
 
 pub answer_reads : (n : ℕ) (ts : List Tok) → length ts ≤ n → (m : ModuleTerm) (r : List Tok) → transformation_at (nested_at n) ts ≡ Ok (m, r) → is_nil r ≡ true → Reads ts m
 answer_reads = starts.answer_reads whole

@@ -19,9 +19,9 @@ use Rattle.qvt_language.specs.Grammar.{primary, lead}
 use Rattle.qvt_language.specs.Statements.{condition, var_stmt, return_stmt, arm, else_part, branches, if_stmt, while_stmt, assignment, semicolon, lead_tail, lead_stmt, statement, statements, block}
 use Rattle.qvt_language.specs.Nesting.{nested}
 use Rattle.qvt_language.proofs.Sets.{none_in, apart}
-use Rattle.qvt_language.proofs.GoodExprs.{good_primary}
-use Rattle.qvt_language.proofs.GoodStmts.{good_var_stmt, good_return_stmt}
-use Rattle.qvt_language.proofs.GoodBlocks.{goodv_lead, goodv_statement}
+use Rattle.qvt_language.proofs.EveryExprs.{k_primary as good_primary}
+use Rattle.qvt_language.proofs.EveryStmts.{k_var_stmt as good_var_stmt, k_return_stmt as good_return_stmt}
+use Rattle.qvt_language.proofs.EveryBlocks.{v_lead as goodv_lead, v_statement as goodv_statement}
 use Rattle.qvt_language.proofs.GoodNesting.{good_same, good_nested}
 use Rattle.qvt_language.proofs.Conditionals.{forms_of, stmt_of}
 use Rattle.qvt_language_rows.specs.Phrase.{Phrase, ◌or◌, ◌gives◌, ◌then◌, the, many, maybe, placed, after, before, between}

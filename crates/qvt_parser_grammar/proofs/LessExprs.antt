@@ -5,7 +5,10 @@ use Rattle.qvt_grammar.proofs.Repeats.{read_less}
 use Rattle.qvt_language.specs.Tokens.{Tok, of}
 use Rattle.qvt_grammar.proofs.Valued.{ExactV}
 use Rattle.qvt_language.proofs.ValuedForms.{GoodV}
-use Rattle.qvt_language.proofs.GoodBlocks.{goodv_statement}
+use Rattle.qvt_language.proofs.EveryBlocks.{v_statement as goodv_statement}
+use Rattle.qvt_language.proofs.EveryExprs.{k_expr as good_expr, k_item as good_item, k_step as good_step, k_pre as good_pre}
+use Rattle.qvt_language.proofs.Good.{good_sign, good_link, good_chain}
+use Rattle.qvt_language.proofs.EveryStmts.{k_lead_step as good_lead_step, k_arm as good_arm}
 use Rattle.qvt_grammar.specs.Reader.{Consumes, made_at, then_at}
 use Rattle.qvt_language.specs.declared.class.Class.TheVariants.{Comma}
 use Rattle.qvt_language.specs.Readers.{Reader, the_at}
@@ -15,10 +18,6 @@ use Rattle.qvt_language.specs.Reading.{expr_at, item_at, step_at, sign_at, link_
 use Rattle.qvt_language.specs.ReadingStatements.{arm_at, statement_at}
 use Rattle.qvt_language.specs.Nesting.{nested_at}
 use Rattle.qvt_language.proofs.Forms.{good_the, good_made, good_then, good_sets}
-use Rattle.qvt_language.proofs.GoodExprs.{good_expr, good_item}
-use Rattle.qvt_language.proofs.GoodSteps.{good_step, good_sign, good_pre, good_lead_step}
-use Rattle.qvt_language.proofs.GoodTower.{good_link, good_chain}
-use Rattle.qvt_language.proofs.GoodStmts.{good_arm}
 use Rattle.qvt_language.proofs.GoodNesting.{consumes, good_same}
 
 pub less_expr : (n : ℕ) → Consumes (made_at second (then_at (the_at Comma) (expr_at (nested_at n))))

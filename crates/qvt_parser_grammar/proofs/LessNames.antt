@@ -6,7 +6,7 @@ use Rattle.qvt_language.specs.Readers.{the_at}
 use Rattle.qvt_language.specs.Trees.{second}
 use Rattle.qvt_language.specs.Reading.{name_at, path_at}
 use Rattle.qvt_language.proofs.Forms.{good_the, good_made, good_then}
-use Rattle.qvt_language.proofs.GoodExprs.{good_name, good_path}
+use Rattle.qvt_language.proofs.Good.{good_name, good_path}
 use Rattle.qvt_language.proofs.GoodNesting.{consumes}
 
 pub less_name : Consumes (made_at second (then_at (the_at DoubleColon) name_at))

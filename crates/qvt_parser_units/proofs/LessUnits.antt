@@ -9,7 +9,8 @@ use Rattle.qvt_language.specs.UnitTrees.{some_unit}
 use Rattle.qvt_language.specs.ReadingUnits.{param_at, feature_at, model_type_at, model_param_at, unit_at}
 use Rattle.qvt_language.specs.Nesting.{nested_at}
 use Rattle.qvt_language.proofs.Forms.{good_the, good_made, good_then, good_either}
-use Rattle.qvt_language.proofs.GoodUnits.{good_param, good_feature, good_model_type, good_model_param, good_unit}
+use Rattle.qvt_language.proofs.EveryUnits.{k_param as good_param, k_feature as good_feature, k_unit as good_unit}
+use Rattle.qvt_language.proofs.Good.{good_model_type, good_model_param}
 use Rattle.qvt_language.proofs.GoodNesting.{consumes, good_same}
 
 pub less_param : (n : ℕ) → Consumes (made_at second (then_at (the_at Comma) (param_at (nested_at n))))

@@ -10,9 +10,8 @@ use Rattle.qvt_language.specs.Trees.{expr_of}
 use Rattle.qvt_language.specs.Grammar.{Nested, name, more_names, named_expr, bare_expr, other_primary, primary, post, pre, chain, flagged}
 use Rattle.qvt_language.specs.Nesting.{nested}
 use Rattle.qvt_language.proofs.Forms.{good_sets}
-use Rattle.qvt_language.proofs.GoodExprs.{good_bare_expr, good_if_expr}
-use Rattle.qvt_language.proofs.GoodSteps.{good_step, good_pre}
-use Rattle.qvt_language.proofs.GoodTower.{good_link, good_chain}
+use Rattle.qvt_language.proofs.EveryExprs.{k_bare_expr as good_bare_expr, k_if_expr as good_if_expr, k_step as good_step, k_pre as good_pre}
+use Rattle.qvt_language.proofs.Good.{good_link, good_chain}
 use Rattle.qvt_language.proofs.GoodNesting.{good_nested}
 use Rattle.qvt_readback_trees.proofs.Spelling.{plain_name}
 use Rattle.qvt_readback_trees.proofs.AgainNames.{again_typed}

@@ -10,8 +10,8 @@ use Rattle.qvt_language.specs.Leads.{Ended}
 use Rattle.qvt_language.specs.Grammar.{Nested, expr, colon_type}
 use Rattle.qvt_language.specs.Statements.{statements, return_stmt}
 use Rattle.qvt_language.specs.Nesting.{nested}
-use Rattle.qvt_language.proofs.GoodExprs.{good_expr, good_colon_type}
-use Rattle.qvt_language.proofs.GoodBlocks.{loose_statements}
+use Rattle.qvt_language.proofs.EveryExprs.{k_expr as good_expr, k_colon_type as good_colon_type}
+use Rattle.qvt_language.proofs.Good.{loose_statements}
 use Rattle.qvt_language.proofs.GoodNesting.{good_nested}
 use Rattle.qvt_printer.specs.Expressions as print
 use Rattle.qvt_readback_tokens.specs.Spelled.{all_spelled}
