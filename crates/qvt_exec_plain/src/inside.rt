@@ -3,12 +3,12 @@
 ghost use Rattle.qvt_exec_exprs.specs.Means.{block_of, expr_of};
 ghost use Rattle.qvt_exec_state.specs.Runs.{Runs, seen};
 
+use qvt_exec_blocks::statements::in_scope;
 use qvt_exec_exprs::engine::Engine;
 use qvt_exec_exprs::exprs::expression;
 use qvt_exec_exprs::nested::Nested;
 use qvt_exec_exprs::units::ReadyUnits;
 use qvt_exec_state::state::RunState;
-use qvt_exec_blocks::statements::in_scope;
 use qvt_run_data::exit::Halt;
 use qvt_types_nodes::tree::{TypedExpr, TypedStmt};
 use qvt_value::value::Value;

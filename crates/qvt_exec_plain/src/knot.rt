@@ -7,10 +7,10 @@ ghost use Rattle.qvt_exec_plain.specs.Alone.{alone_in};
 
 use crate::alone::Alone;
 use crate::inside::{block_inside, expr_inside};
+use qvt_exec_blocks::statements::bytes_of_block;
 use qvt_exec_exprs::engine::Engine;
 use qvt_exec_exprs::exprs::{bytes_of, left_behind};
 use qvt_exec_state::state::RunState;
-use qvt_exec_blocks::statements::bytes_of_block;
 use qvt_program_exprs::program::Program;
 use qvt_run_data::exit::Halt;
 use qvt_types_nodes::tree::{TypedExpr, TypedStmts};
