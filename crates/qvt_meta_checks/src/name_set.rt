@@ -1,4 +1,4 @@
-ghost use Rattle.std.specs.Prelude.{◌≡◌, ◌∷◌, ◌++◌, ◌<◌, [], false, length, position, IfSome, OnOk};
+ghost use Rattle.std.specs.Prelude.{◌≡◌, ◌∷◌, ◌++◌, ◌<◌, [], false, length, position, IfSome, OnErr, OnOk};
 ghost use Rattle.std.specs.Str.{bytes_eq};
 ghost use Rattle.qvt_metamodel.specs.Names.{is_among};
 
@@ -52,10 +52,11 @@ impl NameSet {
         self.names.get_index_of(name)
     }
 
-    /// Puts a new name last.
+    /// Puts a new name last. A refused call changes nothing.
     pub fn add(&mut self, alloc: Global, name: &str) -> Result<(), ListFault>
         requires { is_among name.now self.old ≡ false }
-        ensures { OnOk result (self.new ≡ self.old ++ name.now ∷ []) }
+        ensures ok { OnOk result (self.new ≡ self.old ++ name.now ∷ []) }
+        ensures err { OnErr result (self.new ≡ self.old) }
     {
         match self.names.insert(Text::from_str(alloc, name)?) {
             Ok(_) => Ok(()),

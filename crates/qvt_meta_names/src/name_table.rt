@@ -1,4 +1,4 @@
-ghost use Rattle.std.specs.Prelude.{◌≡◌, [], ◌∷◌, ◌++◌, None, OnOk};
+ghost use Rattle.std.specs.Prelude.{◌≡◌, [], ◌∷◌, ◌++◌, None, OnErr, OnOk};
 ghost use Rattle.std.specs.Str.{bytes_eq};
 ghost use Rattle.std.specs.Map.{lookup};
 
@@ -44,10 +44,11 @@ impl NameTable {
         self.numbers.get(name).copied()
     }
 
-    /// Puts a new name last.
+    /// Puts a new name last. A refused call changes nothing.
     pub fn add(&mut self, alloc: Global, name: &str, number: u32) -> Result<(), ListFault>
         requires { lookup (bytes_eq name.now) self.old ≡ None }
-        ensures { OnOk result (self.new ≡ self.old ++ (name.now, number) ∷ []) }
+        ensures ok { OnOk result (self.new ≡ self.old ++ (name.now, number) ∷ []) }
+        ensures err { OnErr result (self.new ≡ self.old) }
     {
         let Ok(key) = String::from_str(alloc, name) else {
             return Err(ListFault::NoMemory);

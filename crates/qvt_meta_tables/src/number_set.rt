@@ -1,4 +1,4 @@
-ghost use Rattle.std.specs.Prelude.{◌≡◌, ◌<◌, ℕ, false, ◌==◌, ◌||◌, length, slice_index_or, OnOk};
+ghost use Rattle.std.specs.Prelude.{◌≡◌, ◌<◌, ℕ, false, ◌==◌, ◌||◌, length, slice_index_or, OnErr, OnOk};
 ghost use Rattle.qvt_meta_tables.specs.NumberSets.{has_number};
 
 use qvt_base::list_fault::ListFault;
@@ -43,9 +43,11 @@ impl NumberSet {
         at < self.marks.len() && self.marks.as_slice()[at] == self.turn
     }
 
-    /// Puts a number there. It takes memory for each number up to this one.
+    /// Puts a number there. It takes memory for each number up to this one. A refused call takes no
+    /// number away and puts none there.
     pub fn put(&mut self, number: u32) -> Result<(), ListFault>
-        ensures { OnOk result ((n : ℕ) → has_number self.new n ≡ (has_number self.old n || (number == n))) }
+        ensures ok { OnOk result ((n : ℕ) → has_number self.new n ≡ (has_number self.old n || (number == n))) }
+        ensures err { OnErr result ((n : ℕ) → has_number self.new n ≡ has_number self.old n) }
     {
         self.reach(number)?;
         self.marks.set(number as usize, self.turn);
@@ -55,8 +57,8 @@ impl NumberSet {
     /// Has a mark for each number up to this one.
     fn reach(&mut self, number: u32) -> Result<(), ListFault>
         ensures marks { OnOk result (number < length self.new.0) }
-        ensures same { OnOk result ((n : ℕ) → slice_index_or self.new.0 n 0 ≡ slice_index_or self.old.0 n 0) }
-        ensures turn { OnOk result (self.new.1 ≡ self.old.1) }
+        ensures same { (n : ℕ) → slice_index_or self.new.0 n 0 ≡ slice_index_or self.old.0 n 0 }
+        ensures turn { self.new.1 ≡ self.old.1 }
     {
         for at in self.marks.len()..number as usize + 1 {
             self.marks.push(0)?;

@@ -6,6 +6,6 @@ use Rattle.qvt_meta.proofs.own_names.add_feature.Goals as goal
 
 pub returns : goal.returns
 returns c = λ name.
-    ap (lookup (bytes_eq name)) c.in_ok-add.ensures
+    ap (lookup (bytes_eq name)) c.in_ok-add.ensures.ok
     ∙ ap (λ key. lookup (bytes_eq name) (c.args.table.now ++ (key, c.args.place) ∷ [])) c.as_str-2.ensures
     ∙ lookup-last (bytes_eq name) c.args.table.now c.args.feature.now.name c.args.place

@@ -38,7 +38,7 @@ loop-feature-preserved c = record {
   left = turn_next c.args.features.now c.args.numbers.now c.requires.numbers c.args.list.now c.loop-feature.feature-index first _ c.requires.live c.loop-feature-test.true
       (sym (c.loop-feature.invariant.taken _) ∙ sym c.has.ensures ∙ c.if-has.false) c.loop-feature.invariant.left;
   taken = λ n.
-      c.in_ok-put.ensures n
+      c.in_ok-put.ensures.ok n
       ∙ ap (λ b. b || (number_at c.args.numbers.now (get_or c.args.list.now c.loop-feature.feature-index first) == n)) (c.loop-feature.invariant.taken n)
       ∙ sym (taken_next c.args.numbers.now c.args.list.now c.loop-feature.feature-index n first c.loop-feature-test.true);
 }

@@ -6,6 +6,6 @@ use Rattle.qvt_meta_names.proofs.adding.add_text.Goals as goal
 
 pub returns : goal.returns
 returns c = λ name.
-    ap (lookup (bytes_eq name)) c.in_ok-add.ensures
+    ap (lookup (bytes_eq name)) c.in_ok-add.ensures.ok
     ∙ ap (λ key. lookup (bytes_eq name) (c.args.table.now ++ (key, c.args.number) ∷ [])) c.as_str-2.ensures
     ∙ lookup-last (bytes_eq name) c.args.table.now c.args.text.now c.args.number

@@ -29,4 +29,4 @@ returns-clause-seen c = λ names seen.
     let absent = sym (seen_at all c.args.seen.now names p.name (known_at all c.args.feature) seen) ∙ sym (ap (has_number c.args.seen.now) c.key_at-key.ensures) ∙ sym c.has.ensures ∙ c.if-has.false in
     subst (λ b. AreSeen all c.put.new.self (names ++ names_of (if b then [] else p ∷ []))) (sym absent)
     (seen_more all c.args.seen.now c.put.new.self names p.name (known_at all c.args.feature)
-    (λ n. c.in_ok-put.ensures n ∙ ap (λ k. has_number c.args.seen.now n || (k == n)) c.key_at-key.ensures) seen)
+    (λ n. c.in_ok-put.ensures.ok n ∙ ap (λ k. has_number c.args.seen.now n || (k == n)) c.key_at-key.ensures) seen)

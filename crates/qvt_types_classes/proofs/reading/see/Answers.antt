@@ -17,4 +17,4 @@ returns-clause-seen c = λ names seen.
     let all = c.args.all.now in
     let f = c.args.feature in
     seen_more all c.args.seen.now c.put.new.self names (property_at all f).name (known_at all f)
-    (λ n. c.in_ok-put.ensures n ∙ ap (λ k. has_number c.args.seen.now n || (k == n)) c.key_at-key.ensures) seen
+    (λ n. c.in_ok-put.ensures.ok n ∙ ap (λ k. has_number c.args.seen.now n || (k == n)) c.key_at-key.ensures) seen

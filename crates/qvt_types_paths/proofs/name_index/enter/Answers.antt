@@ -6,5 +6,5 @@ use Rattle.qvt_types_paths.proofs.name_index.enter.Goals as goal
 
 pub returns : goal.returns
 returns c = λ other.
-    ap (lookup (bytes_eq other)) c.in_ok-add.ensures
+    ap (lookup (bytes_eq other)) c.in_ok-add.ensures.ok
     ∙ lookup-last (bytes_eq other) c.args.table.now c.args.name.now c.args.place

@@ -6,8 +6,8 @@ use Rattle.qvt_meta_names.specs.Named.{named}
 use Rattle.qvt_meta_names.proofs.Tables.{lookup-named, named-last}
 use Rattle.qvt_meta_names.proofs.name_table.NameTable.add.Goals as goal
 
-pub returns : goal.returns
-returns c =
+pub returns-clause-ok : goal.returns-clause-ok
+returns-clause-ok c =
     let entries = c.self.inside.numbers.entries in
     let key = c.in-Ok.key in
     let same : string_bytes key ≡ c.args.name.now = c.in-Ok.ensures.ok in
