@@ -1,4 +1,4 @@
-ghost use Rattle.std.specs.Prelude.{◌≡◌, ◌==◌, ℕ, [], option_map, Some, if◌then◌else◌, OnOk};
+ghost use Rattle.std.specs.Prelude.{◌≡◌, ◌==◌, ℕ, [], option_map, Some, if◌then◌else◌, OnOk, OnErr};
 ghost use Rattle.qvt_model.specs.IdTables.{id_in, with_id, IsReached};
 
 use qvt_base::list_fault::ListFault;
@@ -51,10 +51,11 @@ impl IdTable {
         }
     }
 
-    /// Tells the id of an object in its file.
+    /// Tells the id of an object in its file. A refused call changes nothing.
     pub(crate) fn set(&mut self, object: Oid, id: Text) -> Result<(), ListFault>
         ensures ok { OnOk result ((x : ℕ) → id_in self.new x ≡ (if x == object.0 then Some id else id_in self.old x)) }
         ensures exact { OnOk result (self.new ≡ with_id self.old object.0 id) }
+        ensures err { OnErr result (self.new ≡ self.old) }
     {
         let at = object.0 as usize;
         reach(&mut self.ids, at + 1)?;
@@ -63,12 +64,15 @@ impl IdTable {
     }
 }
 
-/// Makes room for so many ids.
+/// Makes room for so many ids. A refused call changes nothing.
 fn reach(ids: &mut Vec<Option<Text>>, count: usize) -> Result<(), ListFault>
-    ensures { OnOk result (IsReached ids.old.items ids.new.items count) }
+    ensures ok { OnOk result (IsReached ids.old.items ids.new.items count) }
+    ensures err { OnErr result (ids.new.items ≡ ids.old.items) }
 {
-    for _place in ids.len()..count {
+    let before = ids.len();
+    for _place in before..count {
         let Ok(()) = ids.push(None) else {
+            ids.truncate(before);
             return Err(ListFault::NoMemory);
         };
     }

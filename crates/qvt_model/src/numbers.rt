@@ -1,4 +1,4 @@
-ghost use Rattle.std.specs.Prelude.{◌≡◌, ◌==◌, [], ◌∷◌, ◌++◌, length, false, position, OnOk};
+ghost use Rattle.std.specs.Prelude.{◌≡◌, ◌==◌, [], ◌∷◌, ◌++◌, length, false, position, OnOk, OnErr};
 ghost use Rattle.std.specs.List.{list_any};
 
 use indexmap::IndexSet;
@@ -42,10 +42,11 @@ impl NumberSet {
         self.keys.get_index_of(&number)
     }
 
-    /// Puts a new number last.
+    /// Puts a new number last. A refused call changes nothing.
     pub fn add(&mut self, number: u32) -> Result<(), ListFault>
         requires { list_any (λ x. number == x) self.old ≡ false }
-        ensures { OnOk result (self.new ≡ self.old ++ number ∷ []) }
+        ensures ok { OnOk result (self.new ≡ self.old ++ number ∷ []) }
+        ensures err { OnErr result (self.new ≡ self.old) }
     {
         let Ok(_) = self.keys.insert(number) else {
             return Err(ListFault::NoMemory);

@@ -16,6 +16,7 @@ use Rattle.qvt_slots.specs.declared.cell.Marks.{Marks}
 use Rattle.qvt_slots.specs.declared.extent.Extent.{Extent}
 use Rattle.qvt_slots.specs.Slots.{Slots, has, Contains, Inside, directly, through}
 use Rattle.qvt_slots.specs.Contents.{Instance, AreNamed, HoldOwn, no_instance, is_live, class_of, slot_in, with_new}
+use Rattle.qvt_slots.specs.Limits.{most_objects}
 use Rattle.qvt_slots.specs.Types.{is_of_type}
 use Rattle.qvt_slots.specs.Repeats.{repeats, AreUnique}
 use Rattle.qvt_slots.specs.Cells.{instance_of, instances, contents_of, holder_at, AreWhole, IsKept}
@@ -46,7 +47,7 @@ holder-push [] k (suc y) e = refl
 holder-push (cell ∷ cells) k zero e = refl
 holder-push (cell ∷ cells) k (suc y) e = holder-push cells k y e
 
-module _ (m : Metamodels) (cells : List Cell) (k : Cell) (kept : AreWhole m cells) (room : length cells < 1000000) (no_holder : k.holder ≡ None)
+module _ (m : Metamodels) (cells : List Cell) (k : Cell) (kept : AreWhole m cells) (room : length cells < most_objects) (no_holder : k.holder ≡ None)
     (no_slots : k.slots.items ≡ map (λ _. []) (features_of m k.class.0)) where
   pub same_slots : (x f : ℕ) → slot_in m (instances (cells ++ k ∷ [])) x f ≡ slot_in m (instances cells) x f
   same_slots x f = ap (λ (l : List Instance). slot_in m l x f) (instances-push cells k) ∙ slot-push m (instances cells) (instance_of k) no_slots x f
@@ -65,7 +66,7 @@ module _ (m : Metamodels) (cells : List Cell) (k : Cell) (kept : AreWhole m cell
   added_whole : AreWhole m (cells ++ k ∷ [])
   added_whole = record {
     well_formed = kept.well_formed;
-    few = subst (λ n. n ≤ 1000000) (sym (length-push cells k)) (omega arith);
+    few = subst (λ n. n ≤ most_objects) (sym (length-push cells k)) (omega arith);
     have_slots = record {
       slots = λ x h. ap (λ (l : List Instance). length (slice_index_or l x no_instance).slots) (instances-push cells k)
           ∙ full x (subst (λ n. x < n) (length-push cells k) h)

@@ -1,5 +1,5 @@
 -- Values of slots noted in a set, and what a list of them repeats.
-use Rattle.std.proofs.Common.{◌≡◌, ◌∙◌, ℕ, ◌+◌, ◌<◌, Bool, true, false, ◌||◌, not, cond, refl, sym, ap, subst, List, [], ◌∷◌, ◌++◌, length, map, take, drop, get_or, Bor}
+use Rattle.std.proofs.Common.{◌≡◌, ◌∙◌, ℕ, ◌+◌, ◌<◌, Bool, true, false, ◌||◌, ◌&&◌, not, cond, refl, sym, ap, subst, List, [], ◌∷◌, ◌++◌, length, map, take, drop, get_or, Bor}
 use Rattle.std.specs.List.{list_any}
 use Rattle.std.specs.Cmp.{booleans_Decides}
 use Rattle.std.specs.Ordering.{is_eq}
@@ -16,7 +16,7 @@ use Rattle.qvt_value.specs.Order.{order_of}
 use Rattle.qvt_value.proofs.OrderOfValues.{exact, itself, alike}
 use Rattle.qvt_relation.proofs.Bools.{and_both, or_left, or_right, or_none, or_false, same_test}
 use Rattle.qvt_slots.specs.Repeats.{same_value, repeats, without_repeats}
-use Rattle.qvt_slots.specs.Noted.{is_of_slots, Notes}
+use Rattle.qvt_slots.specs.Noted.{is_of_slots, with_noted, Notes}
 use Rattle.qvt_slots.proofs.Repeating.{same_true, any-without}
 
 -- ---- equality of values
@@ -97,6 +97,19 @@ notes_key v keys h = go (list_any (λ k. ghosts.eq v.now k.now) keys) refl
     go : (b : Bool) → list_any (λ k. ghosts.eq v.now k.now) keys ≡ b → Notes (map (λ k. k.now) keys) (map (λ k. k.now) (cond b keys (keys ++ v ∷ []))) v.now
     go true e = notes_again v.now (map (λ k. k.now) keys) (sym (found v keys h) ∙ e)
     go false e = λ u. ap (list_any (same_value u)) (map-last keys v) ∙ any-last u (map (λ k. k.now) keys) v.now
+
+pub key_noted : (v : Bor Value) (keys : List (Bor Value)) → is_of_slots v.now ≡ true → map (λ k. k.now) (insert_key (λ a b. ghosts.eq a.now b.now) keys v) ≡ with_noted (map (λ k. k.now) keys) v.now
+key_noted v keys h = go (list_any (λ k. ghosts.eq v.now k.now) keys) refl
+  where
+    vs : List Value
+    vs = map (λ k. k.now) keys
+
+    test : (b : Bool) → list_any (λ k. ghosts.eq v.now k.now) keys ≡ b → (is_of_slots v.now && not (list_any (same_value v.now) vs)) ≡ not b
+    test b e = ap (λ a. a && not (list_any (same_value v.now) vs)) h ∙ ap not (sym (found v keys h) ∙ e)
+
+    go : (b : Bool) → list_any (λ k. ghosts.eq v.now k.now) keys ≡ b → map (λ k. k.now) (cond b keys (keys ++ v ∷ [])) ≡ with_noted vs v.now
+    go true e = sym (ap (λ a. cond a (vs ++ v.now ∷ []) vs) (test true e))
+    go false e = map-last keys v ∙ sym (ap (λ a. cond a (vs ++ v.now ∷ []) vs) (test false e))
 
 -- ---- what a list repeats, from its front
 

@@ -12,6 +12,7 @@ use Rattle.qvt_slots.specs.declared.cell.Cell.{Cell}
 use Rattle.qvt_slots.specs.declared.cell.Marks.{Marks}
 use Rattle.qvt_slots.specs.Slots.{Slots, has, Inside}
 use Rattle.qvt_slots.specs.Contents.{Instance, Contents, AreNamed, HoldOwn, no_instance, slot_in, members_from, set_slot}
+use Rattle.qvt_slots.specs.Limits.{most_objects}
 use Rattle.qvt_slots.specs.Types.{AreTyped}
 use Rattle.qvt_slots.specs.Repeats.{AreUnique}
 
@@ -45,7 +46,7 @@ pub record HaveSlots (m : Metamodels) (cells : List Cell) : Type 0 where
 -- what stands in the cells
 pub record AreWhole (m : Metamodels) (cells : List Cell) : Type 0 where
   pub well_formed : IsWellFormed m
-  pub few : length cells ≤ 1000000
+  pub few : length cells ≤ most_objects
   pub have_slots : HaveSlots m cells
   pub holders : AreHolders m cells
   pub acyclic : (x : ℕ) → Inside m (slot_in m (instances cells)) x x → ⊥

@@ -1,6 +1,7 @@
 pub mod Slots
 pub mod Change
 pub mod Contents
+pub mod Limits
 pub mod Types
 pub mod Repeats
 pub mod Cells

@@ -10,6 +10,10 @@ is_write_of x f w = (x == w.object.0) && (f == w.feature.0)
 abbrev pub listed : List Write → ℕ → ℕ → Bool
 listed ws x f = list_any (is_write_of x f) ws
 
+-- the slot of a write
+abbrev pub key_of : Write → SlotKey
+key_of w = record { object = w.object.0; feature = w.feature.0 }
+
 abbrev pub is_key_of : ℕ → ℕ → SlotKey → Bool
 is_key_of x f k = (x == k.object) && (f == k.feature)
 

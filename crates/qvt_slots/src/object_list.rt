@@ -1,6 +1,6 @@
 //! Lists of objects that are looked up by hash.
 
-ghost use Rattle.std.specs.Prelude.{◌≡◌, ◌++◌, ◌∷◌, [], IfOk, OnOk};
+ghost use Rattle.std.specs.Prelude.{◌≡◌, ◌++◌, ◌∷◌, [], length, take, IfOk, OnOk, OnErr};
 ghost use Rattle.qvt_slots.specs.Change.{among, objects_beyond};
 ghost use Rattle.qvt_slots.specs.Numbers.{AreNumbersOf, objects_past};
 
@@ -99,6 +99,7 @@ fn numbers_of(alloc: Global, objects: &[Oid]) -> Result<IndexSet<u32>, ListFault
 /// Puts the value last, if it is an object that is none of these.
 fn push_value_past(list: &mut OidList, held: &Objects, value: &Value) -> Result<(), ListFault>
     ensures ok { OnOk result (list.new ≡ list.old ++ objects_past held.now (value.now ∷ [])) }
+    ensures err { OnErr result (list.new ≡ list.old) }
 {
     match value {
         Value::Obj(object) => {
@@ -114,6 +115,7 @@ fn push_value_past(list: &mut OidList, held: &Objects, value: &Value) -> Result<
 /// Puts the objects of the list last that are none of these.
 fn push_past(list: &mut OidList, held: &Objects, values: &[Value]) -> Result<(), ListFault>
     ensures ok { OnOk result (list.new ≡ list.old ++ objects_past held.now values.now) }
+    ensures err { OnErr result (take (length list.old) list.new ≡ list.old) }
 {
     for value in values {
         push_value_past(list, held, value)?;
@@ -132,7 +134,8 @@ fn objects_in(alloc: Global, values: &[Value]) -> Result<Objects, ListFault>
     Ok(objects)
 }
 
-/// Puts the objects of the list last that the other list does not hold.
+/// Puts the objects of the list last that the other list does not hold. A refused call changes
+/// nothing.
 pub fn push_beyond(
     alloc: Global,
     list: &mut OidList,
@@ -140,9 +143,14 @@ pub fn push_beyond(
     values: &[Value],
 ) -> Result<(), ListFault>
     ensures ok { OnOk result (list.new ≡ list.old ++ objects_beyond others.now values.now) }
+    ensures err { OnErr result (list.new ≡ list.old) }
 {
+    let count = list.len();
     let held = objects_in(alloc, others)?;
-    push_past(list, &held, values)?;
+    let Ok(()) = push_past(list, &held, values) else {
+        list.truncate(count);
+        return Err(ListFault::NoMemory);
+    };
     Ok(())
 }
 

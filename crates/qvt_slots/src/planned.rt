@@ -2,7 +2,7 @@
 
 ghost use Rattle.std.specs.Prelude.{◌≡◌, ◌++◌, ◌∷◌, [], List, length, drop, OnOk, OnErr};
 ghost use Rattle.qvt_slots.specs.declared.commit.Write.{Write};
-ghost use Rattle.qvt_slots.specs.Listed.{listed, AreKeysOf};
+ghost use Rattle.qvt_slots.specs.Listed.{listed, key_of, AreKeysOf};
 
 use crate::commit::Write;
 use indexmap::IndexSet;
@@ -75,15 +75,21 @@ impl Planned {
             })
     }
 
-    /// Puts a write last.
+    /// Puts a write last. A refused call changes nothing.
     pub fn push(&mut self, write: Write) -> Result<(), ListFault>
-        ensures { OnOk result (self.new ≡ self.old ++ write ∷ []) }
+        ensures ok { OnOk result (self.new ≡ self.old ++ write ∷ []) }
+        ensures err { OnErr result (self.new ≡ self.old) }
     {
         let count = self.writes.len();
-        note_later(&mut self.later, count, &write)?;
+        let key = SlotKey {
+            object: write.object.0,
+            feature: write.feature.0,
+        };
         let Ok(()) = self.writes.push(write) else {
-            self.writes.clear();
-            self.later.clear();
+            return Err(ListFault::NoMemory);
+        };
+        let Ok(()) = note_later(&mut self.later, count, key) else {
+            self.writes.truncate(count);
             return Err(ListFault::NoMemory);
         };
         Ok(())
@@ -105,17 +111,13 @@ fn is_listed(writes: &[Write], object: Oid, feature: FeatureNo) -> bool
 }
 
 /// Notes the slot of a write that is put after so many.
-fn note_later(later: &mut IndexSet<SlotKey>, count: usize, write: &Write) -> Result<(), ListFault>
-    ensures ok { (ws : List Write) → length ws ≡ count → AreKeysOf later.old.keys (drop 8 ws) → OnOk result (AreKeysOf later.new.keys (drop 8 (ws ++ write.now ∷ []))) }
+fn note_later(later: &mut IndexSet<SlotKey>, count: usize, key: SlotKey) -> Result<(), ListFault>
+    ensures ok { (ws : List Write) (w : Write) → length ws ≡ count → key ≡ key_of w → AreKeysOf later.old.keys (drop 8 ws) → OnOk result (AreKeysOf later.new.keys (drop 8 (ws ++ w ∷ []))) }
     ensures err { OnErr result (later.new.keys ≡ later.old.keys) }
 {
     if count < FEW {
         return Ok(());
     }
-    let key = SlotKey {
-        object: write.object.0,
-        feature: write.feature.0,
-    };
     match later.insert(key) {
         Ok(_) => Ok(()),
         Err(_) => Err(ListFault::NoMemory),

@@ -1,9 +1,9 @@
 //! Values of slots that were noted.
 
-ghost use Rattle.std.specs.Prelude.{◌≡◌, [], IfOk, OnOk};
+ghost use Rattle.std.specs.Prelude.{◌≡◌, [], IfOk, OnOk, OnErr};
 ghost use Rattle.std.specs.List.{list_any};
 ghost use Rattle.qvt_slots.specs.Repeats.{same_value};
-ghost use Rattle.qvt_slots.specs.Noted.{is_of_slots, Notes};
+ghost use Rattle.qvt_slots.specs.Noted.{is_of_slots, with_noted, Notes};
 
 use indexmap::IndexSet;
 use qvt_base::list_fault::ListFault;
@@ -46,10 +46,12 @@ impl<'a> Seen<'a> {
     }
 
     /// Notes a value, and tells whether an equal one was noted before. Values that stand in no slot
-    /// equal none.
+    /// equal none. A refused call changes nothing.
     pub fn note(&mut self, value: &'a Value) -> Result<bool, ListFault>
         ensures before { IfOk result (λ before. before ≡ list_any (same_value value.now) self.old) }
         ensures noted { OnOk result (Notes self.old self.new value.now) }
+        ensures exact { OnOk result (self.new ≡ with_noted self.old value.now) }
+        ensures err { OnErr result (self.new ≡ self.old) }
     {
         if !is_of_slots(value) {
             return Ok(false);

@@ -7,7 +7,7 @@ use Rattle.qvt_model.proofs.id_table.reach.Goals as goal
 
 pub loop-place-init : goal.loop-place-init
 loop-place-init c =
-    let before : length c.args.ids.now.items ≡ c.len-place.result = search rules in
+    let before : length c.args.ids.now.items ≡ c.len-before.result = search rules in
     record {
       room = before;
       same = λ x. refl;
@@ -19,11 +19,11 @@ loop-place-preserved c = record {
   room = ap length c.in-Ok.ensures.items ∙ length_push c.loop-place.ids.items None ∙ ap (λ n. n + 1) c.loop-place.invariant.room;
   same = λ x. ap (λ (t : List (Option (List ℕ))). id_in t x) c.in-Ok.ensures.items ∙ no_id_pushed c.loop-place.ids.items x ∙ c.loop-place.invariant.same x;
   exact = c.in-Ok.ensures.items ∙ ap (λ (t : List (Option (List ℕ))). t ++ None ∷ []) c.loop-place.invariant.exact
-      ∙ room_more c.args.ids.now.items c.loop-place._place c.args.count (let before : length c.args.ids.now.items ≡ c.len-place.result = search rules in omega (arith, before, c.loop-place.auto._place)) c.loop-place-test.true;
+      ∙ room_more c.args.ids.now.items c.loop-place._place c.args.count (let before : length c.args.ids.now.items ≡ c.len-before.result = search rules in omega (arith, before, c.loop-place.auto._place)) c.loop-place-test.true;
 }
 
-pub returns : goal.returns
-returns c = record {
+pub returns-clause-ok : goal.returns-clause-ok
+returns-clause-ok c = record {
   room = omega (arith, c.loop-place.invariant.room, c.loop-place-test.false);
   same = c.loop-place.invariant.same;
   exact = c.loop-place.invariant.exact ∙ room_enough c.args.ids.now.items c.loop-place._place c.args.count c.loop-place-test.false;

@@ -2,8 +2,8 @@ use Rattle.std.proofs.Common.{◌≡◌, ◌∙◌, ◌==◌, [], ◌∷◌, ◌
 use Rattle.std.specs.List.{list_any}
 use Rattle.qvt_model.proofs.numbers.NumberSet.add.Goals as goal
 
-pub returns : goal.returns
-returns c =
+pub returns-clause-ok : goal.returns-clause-ok
+returns-clause-ok c =
     let keys = c.self.inside.keys.keys in
     let n = c.args.number in
     let absent : list_any (λ x. n == x) keys ≡ false = ap (list_any (λ x. n == x)) c.self.view_is ∙ c.requires in

@@ -2,8 +2,8 @@ use Rattle.std.proofs.Common.{◌≡◌, ◌∙◌, ◌||◌, ap, sym, subst, ma
 use Rattle.std.specs.List.{list_any}
 use Rattle.qvt_value.specs.declared.value.Value.{Value}
 use Rattle.qvt_slots.specs.Repeats.{same_value}
-use Rattle.qvt_slots.specs.Noted.{Notes}
-use Rattle.qvt_slots.proofs.Noting.{found, none_noted, notes_key, denied}
+use Rattle.qvt_slots.specs.Noted.{with_noted, Notes}
+use Rattle.qvt_slots.proofs.Noting.{found, none_noted, notes_key, key_noted, denied}
 use Rattle.qvt_slots.proofs.seen.Seen.note.Goals as goal
 use Rattle.qvt_slots.proofs.seen.Seen.note.Goals.{in-Ok, in-Err}
 
@@ -24,4 +24,13 @@ returns-clause-noted c = elim c.match-insert.branch [
       ∙ notes_key c.args.value c.self.inside.keys.keys (sym c.is_of_slots.ensures ∙ c.if-not-is_of_slots.false) u
       ∙ ap (λ l. list_any (same_value u) l || same_value u c.args.value.now) c.self.view_is)
   | in-Err w ↦ subst (λ r. OnOk r (Notes c.args.self.now (map (λ (k : Bor Value). k.now) c.insert.new.self.keys) c.args.value.now)) (sym w.result-is) tt
+]
+
+pub returns-clause-exact : goal.returns-clause-exact
+returns-clause-exact c = elim c.match-insert.branch [
+  | in-Ok w ↦ subst (λ r. OnOk r (map (λ (k : Bor Value). k.now) c.insert.new.self.keys ≡ with_noted c.args.self.now c.args.value.now)) (sym w.result-is)
+      (ap (map (λ (k : Bor Value). k.now)) w.in-Ok.ensures.keys
+      ∙ key_noted c.args.value c.self.inside.keys.keys (sym c.is_of_slots.ensures ∙ c.if-not-is_of_slots.false)
+      ∙ ap (λ l. with_noted l c.args.value.now) c.self.view_is)
+  | in-Err w ↦ subst (λ r. OnOk r (map (λ (k : Bor Value). k.now) c.insert.new.self.keys ≡ with_noted c.args.self.now c.args.value.now)) (sym w.result-is) tt
 ]
