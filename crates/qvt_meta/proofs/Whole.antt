@@ -26,7 +26,7 @@ use Rattle.qvt_metamodel.specs.declared.declared.MetaData.{MetaData}
 use Rattle.qvt_metamodel.specs.MetaData.{enum_names, class_names, feature_names}
 use Rattle.qvt_json.specs.Repeated.{repeated}
 use Rattle.qvt_metamodel.specs.Names.{primitive_names, is_among}
-use Rattle.qvt_metamodel.specs.Checks.{same_feature, repeated_feature, bad_opposite, is_bad_opposite, is_mutual, is_contained_wrong, is_one_at_most, type_features, is_name as is_named}
+use Rattle.qvt_metamodel.specs.Checks.{same_feature, repeated_feature, bad_opposite, is_bad_opposite, is_mutual, is_one_at_most, type_features, is_name as is_named}
 use Rattle.qvt_metamodel.specs.Checked.{has_text, has_texts, are_texts, IsChecked}
 use Rattle.qvt_metamodel.specs.Added.{declared_at, names_of, feature_count, feature_info, feature_infos, feature_number, numbers_from, class_info, class_infos, numbered, first_begin, HasRoom, kind_of, enum_or_class, nothing_declared, place_in}
 use Rattle.qvt_meta.specs.Numbers.{has_few_literals}
@@ -37,6 +37,7 @@ use Rattle.qvt_metamodel.proofs.Infos.{featured_at, nothing_featured, all-at, ma
 use Rattle.qvt_metamodel.proofs.Lookups.{position-first, bytes_eq-refl, differ-before, some-within, untaken}
 use Rattle.qvt_metamodel.proofs.FeatureNames.{distinct as distinct_features, found_feature as named_feature}
 use Rattle.qvt_metamodel.proofs.Owners.{Declared, declared, includes}
+use Rattle.qvt_metamodel.proofs.Opposites.{is_contained_wrong, typed_by_class, linked_once, declared_opposite, other_opposite, contained_right}
 use Rattle.qvt_metamodel.proofs.Order.{acyclic, antisymmetric, transitive, inherited}
 use Rattle.qvt_metamodel.proofs.Regular.{regular}
 use Rattle.qvt_meta_checks.proofs.Passing.{map_none, first_from-none, no_fault, repeated-append, repeated-alone, enums_alone, literals_alone, classes_differ}
@@ -368,14 +369,13 @@ module _ (d : MetaData) (ok : IsChecked d) (ranks : List ℕ) (ranked : AreRanks
 
   linked : (c j : ℕ) → c < length ls → j < many d c → ((F c j).containment || is_some (F c j).opposite) ≡ true → Linked c j
   linked c j l h some =
-      let a : (((F c j).containment || is_some (F c j).opposite) && (not (is_among (F c j).kind (class_names d)) || not (F c j).unique)) ≡ false = none_left _ _ (allowed c j l h) in
-      let a2 : (not (is_among (F c j).kind (class_names d)) || not (F c j).unique) ≡ false = and_false_right _ _ some a in
-      let there : is_among (F c j).kind (class_names d) ≡ true = not_false _ (none_left _ _ a2) in
+      let fine : is_bad_opposite d (K c) (F c j) ≡ false = allowed c j l h in
+      let there : is_among (F c j).kind (class_names d) ≡ true = typed_by_class d (K c) (F c j) fine some in
       let place : ((E c j) < length (names_of ls)) × (bytes_eq (F c j).kind (get_or (names_of ls) (E c j) []) ≡ true) = place-found (names_of ls) (F c j).kind there in
       record {
         live = omega (arith, place.0, name_total d);
         kind = same_bytes (F c j).kind (get_or (names_of ls) (E c j) []) place.1 ∙ class_name_is d (E c j);
-        unique = not_false _ (none_right (not (is_among (F c j).kind (class_names d))) _ a2);
+        unique = linked_once d (K c) (F c j) fine some;
       }
 
   some_same : (x y : List ℕ) → Some x ≡ Some y → x ≡ y
@@ -387,12 +387,8 @@ module _ (d : MetaData) (ok : IsChecked d) (ranks : List ℕ) (ranked : AreRanks
       let some : is_some (F c j).opposite ≡ true = ap is_some at in
       let fine : is_bad_opposite d (K c) (F c j) ≡ false = allowed c j l h in
       let o : Linked c j = linked c j l h (or_right (F c j).containment (is_some (F c j).opposite) some) in
-      let v : (not (list_any (is_mutual (K c) (F c j)) (type_features d (F c j))) || list_any (λ g. is_mutual (K c) (F c j) g && is_contained_wrong (F c j) g) (type_features d (F c j)) || (bytes_eq (F c j).kind (K c).name && is_named (F c j).opposite (F c j).name)) ≡ false =
-      and_false_right _ _ some (none_right (((F c j).containment || is_some (F c j).opposite) && (not (is_among (F c j).kind (class_names d)) || not (F c j).unique)) _ fine) in
-      let v2 : (not (list_any (is_mutual (K c) (F c j)) (type_features d (F c j))) || list_any (λ g. is_mutual (K c) (F c j) g && is_contained_wrong (F c j) g) (type_features d (F c j))) ≡ false = none_left _ _ v in
-      let z : (bytes_eq (F c j).kind (K c).name && is_named (F c j).opposite (F c j).name) ≡ false = none_right (not (list_any (is_mutual (K c) (F c j)) (type_features d (F c j))) || list_any (λ g. is_mutual (K c) (F c j) g && is_contained_wrong (F c j) g) (type_features d (F c j))) _ v in
-      let some_mutual : list_any (is_mutual (K c) (F c j)) (type_features d (F c j)) ≡ true = not_false _ (none_left _ _ v2) in
-      let none_wrong : list_any (λ g. is_mutual (K c) (F c j) g && is_contained_wrong (F c j) g) (type_features d (F c j)) ≡ false = none_right (not (list_any (is_mutual (K c) (F c j)) (type_features d (F c j)))) _ v2 in
+      let some_mutual : list_any (is_mutual (K c) (F c j)) (type_features d (F c j)) ≡ true = declared_opposite d (K c) (F c j) fine some in
+      let none_wrong : list_any (λ g. is_mutual (K c) (F c j) g && is_contained_wrong (F c j) g) (type_features d (F c j)) ≡ false = contained_right d (K c) (F c j) fine in
       let i : ℕ = position_or_len (is_mutual (K c) (F c j)) (type_features d (F c j)) in
       let within : i < many d (E c j) = any-within (is_mutual (K c) (F c j)) (type_features d (F c j)) some_mutual in
       let paired : is_mutual (K c) (F c j) (featured_at (declared_at ls (E c j)) i) ≡ true = any-passes (is_mutual (K c) (F c j)) (type_features d (F c j)) nothing_featured some_mutual in
@@ -421,7 +417,7 @@ module _ (d : MetaData) (ok : IsChecked d) (ranks : List ℕ) (ranked : AreRanks
         opposite_q = name_is g.opposite (F c j).name (and_right (is_named (F c j).opposite g.name && bytes_eq g.kind (K c).name) _ paired);
         contained = and_false_right _ _ paired wrong;
         unique = o.unique;
-        other = z;
+        other = other_opposite d (K c) (F c j) fine;
       }
 
   pair_at : (c j q : ℕ) → c < length ls → j < many d c → is_feature_number (option_map (feature_number first_begin ls (E c j)) (F c j).opposite) q ≡ true → Pair (before d c + j) q

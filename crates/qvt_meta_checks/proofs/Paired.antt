@@ -1,19 +1,20 @@
 -- Ends of opposites that are put into sets, and looked up there.
-use Rattle.std.proofs.Common.{◌≡◌, ◌∙◌, ℕ, zero, suc, ◌+◌, ◌<◌, ◌≤◌, List, [], ◌∷◌, ◌++◌, length, drop, take, get_or, Bool, true, false, cond, ◌||◌, ◌&&◌, not, Option, Some, None, refl, sym, ap, subst, arith}
+use Rattle.std.proofs.Common.{◌≡◌, ◌∙◌, ℕ, zero, suc, ◌+◌, ◌<◌, ◌≤◌, List, [], ◌∷◌, ◌++◌, length, drop, get_or, Bool, true, false, cond, ◌||◌, ◌&&◌, not, Some, None, is_some, refl, sym, ap, subst, arith}
 use Rattle.std.proofs.lemmas.List.{at_drop_more, get_or_past}
 use Rattle.std.proofs.lemmas.Slice.Eq.{bytes_eq-Decides}
 use Rattle.std.specs.List.{list_any}
 use Rattle.std.specs.Str.{bytes_eq}
 use Rattle.qvt_metamodel.specs.declared.declared.DeclaredFeature.{DeclaredFeature}
 use Rattle.qvt_metamodel.specs.declared.declared.DeclaredClass.{DeclaredClass}
-use Rattle.qvt_metamodel.specs.Checks.{is_name, is_mutual, is_contained_wrong}
+use Rattle.qvt_metamodel.specs.declared.declared.MetaData.{MetaData}
+use Rattle.qvt_metamodel.specs.Checks.{is_name, is_one_at_most, is_mutual, type_features, is_contained, has_no_class, may_repeat, is_undeclared, is_own_opposite, are_both_containments, has_many_containers, is_bad_opposite}
 use Rattle.qvt_metamodel.specs.Added.{declared_at, nothing_declared}
-use Rattle.qvt_metamodel.proofs.Bools.{not_true, clash, ap2}
+use Rattle.qvt_metamodel.proofs.Bools.{not_true, clash}
 use Rattle.qvt_metamodel.proofs.Halves.{Half, old, new, half, old-at, new-at}
-use Rattle.qvt_metamodel.proofs.Lists.{list_any-cong, all-every}
+use Rattle.qvt_metamodel.proofs.Lists.{list_any-cong, list_any-none, all-every}
 use Rattle.qvt_meta_checks.specs.declared.ends.End.{End}
 use Rattle.qvt_meta_checks.specs.declared.ends.Ends.{Ends}
-use Rattle.qvt_meta_checks.specs.Ends.{same_end, is_end, is_end_of, Joined, AreEnds, AreEndsOf, AreAllEnds, no_ends, may_not_be_contained}
+use Rattle.qvt_meta_checks.specs.Ends.{same_end, is_end, Joined, AreEnds, AreEndsOf, AreAllEnds, no_ends, may_not_be_contained}
 
 or_or : (a b c : Bool) → ((a || b) || c) ≡ (a || (b || c))
 or_or true b c = refl
@@ -165,34 +166,76 @@ mutual_is k f name e g =
 pub has_mutual : (k : DeclaredClass) (f : DeclaredFeature) (name : List ℕ) (gs : List DeclaredFeature) → f.opposite ≡ Some name → list_any (is_end (wanted k f name)) gs ≡ list_any (is_mutual k f) gs
 has_mutual k f name gs e = list_any-cong _ _ gs (all-every (λ g. is_end (wanted k f name) g ≡ is_mutual k f g) gs (mutual_is k f name e))
 
-pub has_wrong : (k : DeclaredClass) (f : DeclaredFeature) (name : List ℕ) (gs : List DeclaredFeature) → f.opposite ≡ Some name
-    → (may_not_be_contained f && list_any (λ g. g.containment && is_end (wanted k f name) g) gs) ≡ list_any (λ g. is_mutual k f g && is_contained_wrong f g) gs
-has_wrong k f name [] e = by (may_not_be_contained f)
+contained_is : (k : DeclaredClass) (f : DeclaredFeature) (name : List ℕ) → f.opposite ≡ Some name → (g : DeclaredFeature) → (g.containment && is_end (wanted k f name) g) ≡ (is_mutual k f g && g.containment)
+contained_is k f name e g = by g.containment (is_end (wanted k f name) g) ∙ ap (λ t. t && g.containment) (mutual_is k f name e g)
   where
-    by : (t : Bool) → (t && false) ≡ false
-    by true = refl
-    by false = refl
-has_wrong k f name (g ∷ gs) e =
-    by (may_not_be_contained f) g.containment (is_end (wanted k f name) g) (list_any (λ g. g.containment && is_end (wanted k f name) g) gs)
-    ∙ ap2 (λ x y. (x && (g.containment && may_not_be_contained f)) || y) (mutual_is k f name e g) (has_wrong k f name gs e)
-  where
-    by : (w c m r : Bool) → (w && ((c && m) || r)) ≡ ((m && (c && w)) || (w && r))
-    by true true true r = refl
-    by true true false r = refl
-    by true false true r = refl
-    by true false false r = refl
-    by false true true r = refl
-    by false true false r = refl
-    by false false true r = refl
-    by false false false r = refl
+    by : (a b : Bool) → (a && b) ≡ (b && a)
+    by true true = refl
+    by true false = refl
+    by false true = refl
+    by false false = refl
 
-pub unpaired : (k : DeclaredClass) (f : DeclaredFeature) (name : List ℕ) (gs : List DeclaredFeature) (d c i : Bool) → f.opposite ≡ Some name
-    → d ≡ list_any (is_end (wanted k f name)) gs
-    → c ≡ (may_not_be_contained f && list_any (λ g. g.containment && is_end (wanted k f name) g) gs)
+pub has_container : (k : DeclaredClass) (f : DeclaredFeature) (name : List ℕ) (gs : List DeclaredFeature) → f.opposite ≡ Some name
+    → list_any (λ g. g.containment && is_end (wanted k f name) g) gs ≡ list_any (λ g. is_mutual k f g && g.containment) gs
+has_container k f name gs e = list_any-cong _ _ gs (all-every (λ g. (g.containment && is_end (wanted k f name) g) ≡ (is_mutual k f g && g.containment)) gs (contained_is k f name e))
+
+pub unpaired : (m : MetaData) (k : DeclaredClass) (f : DeclaredFeature) (name : List ℕ) (d c i : Bool) → f.opposite ≡ Some name
+    → d ≡ list_any (is_end (wanted k f name)) (type_features m f)
+    → c ≡ (may_not_be_contained f && list_any (λ g. g.containment && is_end (wanted k f name) g) (type_features m f))
     → i ≡ (bytes_eq f.kind k.name && bytes_eq f.name name)
-    → (not d || c || i) ≡ (not (list_any (is_mutual k f) gs) || list_any (λ g. is_mutual k f g && is_contained_wrong f g) gs || (bytes_eq f.kind k.name && is_name f.opposite f.name))
-unpaired k f name gs d c i e ed ec ei =
+    → (not d || c || i) ≡ (is_undeclared m k f || is_own_opposite k f || are_both_containments m k f || has_many_containers m k f)
+unpaired m k f name d c i e ed ec ei =
+    let gs : List DeclaredFeature = type_features m f in
     let one : d ≡ list_any (is_mutual k f) gs = ed ∙ has_mutual k f name gs e in
-    let two : c ≡ list_any (λ g. is_mutual k f g && is_contained_wrong f g) gs = ec ∙ has_wrong k f name gs e in
-    let three : i ≡ (bytes_eq f.kind k.name && is_name f.opposite f.name) = ei ∙ ap (λ o. bytes_eq f.kind k.name && is_name o f.name) (sym e) in
-    λ t. not (one t) || two t || three t
+    let two : c ≡ (may_not_be_contained f && is_contained m k f) = ec ∙ ap (λ t. may_not_be_contained f && t) (has_container k f name gs e) in
+    let three : i ≡ is_own_opposite k f = ei ∙ ap (λ o. bytes_eq f.kind k.name && is_name o f.name) (sym e) in
+    (λ t. not (one t) || two t || three t)
+    ∙ by (list_any (is_mutual k f) gs) f.containment (not (is_one_at_most f.upper)) (is_contained m k f) (is_own_opposite k f)
+    ∙ ap (λ o. (is_some o && not (list_any (is_mutual k f) gs)) || is_own_opposite k f || are_both_containments m k f || has_many_containers m k f) (sym e)
+  where
+    by : (d h w c i : Bool) → (not d || ((h || w) && c) || i) ≡ ((true && not d) || i || (h && c) || (w && c))
+    by false h w c i = refl
+    by true true true true true = refl
+    by true true true true false = refl
+    by true true true false true = refl
+    by true true true false false = refl
+    by true true false true true = refl
+    by true true false true false = refl
+    by true true false false true = refl
+    by true true false false false = refl
+    by true false true true true = refl
+    by true false true true false = refl
+    by true false true false true = refl
+    by true false true false false = refl
+    by true false false c true = refl
+    by true false false c false = refl
+
+-- a feature without an opposite has none that is wrong
+pub alone : (m : MetaData) (k : DeclaredClass) (f : DeclaredFeature) → f.opposite ≡ None → (is_undeclared m k f || is_own_opposite k f || are_both_containments m k f || has_many_containers m k f) ≡ false
+alone m k f e =
+    (λ i. (is_some (e i) && not (list_any (is_mutual k f) (type_features m f))) || (bytes_eq f.kind k.name && is_name (e i) f.name) || (f.containment && none i) || (not (is_one_at_most f.upper) && none i))
+    ∙ by (bytes_eq f.kind k.name) f.containment (not (is_one_at_most f.upper))
+  where
+    no_mutual : (g : DeclaredFeature) → (is_mutual k f g && g.containment) ≡ false
+    no_mutual g = ap (λ o. is_name o g.name && bytes_eq g.kind k.name && is_name g.opposite f.name && g.containment) e
+
+    none : is_contained m k f ≡ false
+    none = list_any-none _ (type_features m f) (all-every (λ g. (is_mutual k f g && g.containment) ≡ false) (type_features m f) no_mutual)
+
+    by : (a h w : Bool) → ((a && false) || (h && false) || (w && false)) ≡ false
+    by true true true = refl
+    by true true false = refl
+    by true false true = refl
+    by true false false = refl
+    by false true true = refl
+    by false true false = refl
+    by false false true = refl
+    by false false false = refl
+
+-- a feature fails by its type or its uniqueness, or by its opposite alone
+pub misplaced : (m : MetaData) (k : DeclaredClass) (f : DeclaredFeature) → (has_no_class m f || may_repeat f) ≡ true → is_bad_opposite m k f ≡ true
+misplaced m k f h = ap (λ t. t || is_undeclared m k f || is_own_opposite k f || are_both_containments m k f || has_many_containers m k f) h
+
+pub placed : (m : MetaData) (k : DeclaredClass) (f : DeclaredFeature) → (has_no_class m f || may_repeat f) ≡ false
+    → is_bad_opposite m k f ≡ (is_undeclared m k f || is_own_opposite k f || are_both_containments m k f || has_many_containers m k f)
+placed m k f h = ap (λ t. t || is_undeclared m k f || is_own_opposite k f || are_both_containments m k f || has_many_containers m k f) h

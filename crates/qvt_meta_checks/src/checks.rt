@@ -7,7 +7,7 @@ ghost use Rattle.qvt_json.specs.Steps.{or_next};
 ghost use Rattle.qvt_metamodel.specs.MetaData.{class_names};
 ghost use Rattle.qvt_json.specs.Repeated.{repeated};
 ghost use Rattle.qvt_metamodel.specs.Names.{primitive_names, is_among};
-ghost use Rattle.qvt_metamodel.specs.Checks.{same_enum, same_name, unknown, unknown_in, unknown_type, type_names, first_in, is_below, bad_bounds, feature_fault, is_name, is_one_at_most, is_mutual, is_contained_wrong, type_features, is_bad_opposite, bad_opposite};
+ghost use Rattle.qvt_metamodel.specs.Checks.{same_enum, same_name, unknown, unknown_in, unknown_type, type_names, first_in, is_below, bad_bounds, feature_fault};
 ghost use Rattle.qvt_metamodel.specs.declared.declared.DeclaredClass.{DeclaredClass};
 ghost use Rattle.qvt_metamodel.specs.declared.declared.DeclaredFeature.{DeclaredFeature};
 

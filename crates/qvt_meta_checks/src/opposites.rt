@@ -5,7 +5,7 @@ ghost use Rattle.std.specs.List.{list_any};
 ghost use Rattle.std.specs.Str.{bytes_eq};
 ghost use Rattle.qvt_metamodel.specs.MetaData.{class_names};
 ghost use Rattle.qvt_metamodel.specs.Names.{is_among};
-ghost use Rattle.qvt_metamodel.specs.Checks.{is_name, is_one_at_most, is_mutual, is_contained_wrong, type_features, is_bad_opposite, bad_opposite};
+ghost use Rattle.qvt_metamodel.specs.Checks.{is_name, is_one_at_most, is_mutual, type_features, is_linked, is_contained, has_no_class, may_repeat, is_undeclared, is_own_opposite, are_both_containments, has_many_containers, is_bad_opposite, bad_opposite};
 ghost use Rattle.qvt_meta_checks.specs.Ends.{is_end, same_end, no_ends, may_not_be_contained, AreAllEnds};
 
 use crate::checks::{FeatureTest, first_fault};
@@ -68,7 +68,7 @@ impl<'a> OppositeTest<'a> {
 
     /// Whether the feature has a type or a uniqueness that no containment and no end may have.
     fn is_misplaced(&self, feature: &DeclaredFeature) -> bool
-        ensures { result ≡ ((feature.now.containment || is_some feature.now.opposite) && (not (is_among feature.now.kind (class_names self.now.meta.now)) || not feature.now.unique)) }
+        ensures { result ≡ (has_no_class self.now.meta.now feature.now || may_repeat feature.now) }
     {
         (feature.containment || feature.opposite.is_some())
             && (!self.classes.contains(&feature.kind) || !feature.unique)
@@ -83,7 +83,7 @@ impl<'a> OppositeTest<'a> {
         opposite: &Text,
     ) -> Result<bool, ListFault>
         requires { feature.now.opposite ≡ Some opposite.now }
-        ensures { IfOk result (λ b. b ≡ (not (list_any (is_mutual class.now feature.now) (type_features self.now.meta.now feature.now)) || list_any (λ g. is_mutual class.now feature.now g && is_contained_wrong feature.now g) (type_features self.now.meta.now feature.now) || (bytes_eq feature.now.kind class.now.name && is_name feature.now.opposite feature.now.name))) }
+        ensures { IfOk result (λ b. b ≡ (is_undeclared self.now.meta.now class.now feature.now || is_own_opposite class.now feature.now || are_both_containments self.now.meta.now class.now feature.now || has_many_containers self.now.meta.now class.now feature.now)) }
     {
         let end = End {
             name: opposite.copy(alloc)?,
@@ -135,6 +135,7 @@ fn is_bad(declared: bool, contained: bool, itself: bool) -> bool
 impl<'a> FeatureTest for OppositeTest<'a> {
     ghost fails = { λ t k f. is_bad_opposite t.meta.now k f };
 
+    #[tactic(auto, using(crate::proofs::Paired::alone, crate::proofs::Paired::misplaced, crate::proofs::Paired::placed))]
     fn fails(
         &self,
         alloc: Global,

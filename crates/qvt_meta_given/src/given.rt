@@ -30,7 +30,7 @@ fn all_classes(
     requires { IsTrue (has_room_for metas.now classes.now) }
     ensures { IfOk result (λ v. v.items ≡ (extended metas.now classes.now).classes) }
 {
-    let _before = metas.class_count();
+    metas.are_well_formed();
     let first = metas.feature_infos().len() as u32;
     let given = given_classes(alloc, metas.metamodel_count(), first, classes)?;
     joined(alloc, metas.class_infos(), given)

@@ -12,3 +12,4 @@ pub mod Owners
 pub mod FeatureNames
 pub mod Positions
 pub mod Order
+pub mod Opposites

@@ -78,20 +78,45 @@ is_one_at_most o = option_map_or (λ n. n == 1) o false
 abbrev pub is_mutual : DeclaredClass → DeclaredFeature → DeclaredFeature → Bool
 is_mutual k f g = is_name f.opposite g.name && bytes_eq g.kind k.name && is_name g.opposite f.name
 
--- both ends are containments, or one is and the other has another upper bound than 1
-abbrev pub is_contained_wrong : DeclaredFeature → DeclaredFeature → Bool
-is_contained_wrong f g = g.containment && (f.containment || not (is_one_at_most f.upper))
-
+-- the features that the type class of a feature declares itself
 abbrev pub type_features : MetaData → DeclaredFeature → List DeclaredFeature
 type_features d f = (declared_at d.classes (place_in (class_names d) f.kind)).features
 
+-- the feature is a containment or has an opposite
+abbrev pub is_linked : DeclaredFeature → Bool
+is_linked f = f.containment || is_some f.opposite
+
+-- the opposite is a containment
+abbrev pub is_contained : MetaData → DeclaredClass → DeclaredFeature → Bool
+is_contained d k f = list_any (λ g. is_mutual k f g && g.containment) (type_features d f)
+
+-- a containment or an opposite on a type that is no class
+abbrev pub has_no_class : MetaData → DeclaredFeature → Bool
+has_no_class d f = is_linked f && not (is_among f.kind (class_names d))
+
+-- a containment or an opposite that is not unique
+abbrev pub may_repeat : DeclaredFeature → Bool
+may_repeat f = is_linked f && not f.unique
+
+-- an opposite that the type class itself does not declare with this class as type and this feature as its opposite
+abbrev pub is_undeclared : MetaData → DeclaredClass → DeclaredFeature → Bool
+is_undeclared d k f = is_some f.opposite && not (list_any (is_mutual k f) (type_features d f))
+
+-- an opposite that is the feature itself
+abbrev pub is_own_opposite : DeclaredClass → DeclaredFeature → Bool
+is_own_opposite k f = bytes_eq f.kind k.name && is_name f.opposite f.name
+
+-- both ends are containments
+abbrev pub are_both_containments : MetaData → DeclaredClass → DeclaredFeature → Bool
+are_both_containments d k f = f.containment && is_contained d k f
+
+-- the opposite of a containment with another upper bound than 1
+abbrev pub has_many_containers : MetaData → DeclaredClass → DeclaredFeature → Bool
+has_many_containers d k f = not (is_one_at_most f.upper) && is_contained d k f
+
+-- a containment or an opposite that may not be, in the order of the parts above
 abbrev pub is_bad_opposite : MetaData → DeclaredClass → DeclaredFeature → Bool
-is_bad_opposite d k f =
-    ((f.containment || is_some f.opposite) && (not (is_among f.kind (class_names d)) || not f.unique))
-    || (is_some f.opposite && (
-    not (list_any (is_mutual k f) (type_features d f))
-    || list_any (λ g. is_mutual k f g && is_contained_wrong f g) (type_features d f)
-    || (bytes_eq f.kind k.name && is_name f.opposite f.name)))
+is_bad_opposite d k f = has_no_class d f || may_repeat f || is_undeclared d k f || is_own_opposite k f || are_both_containments d k f || has_many_containers d k f
 
 unfoldable pub bad_opposite : MetaData → Option Told
 bad_opposite d = first_in (feature_fault (is_bad_opposite d)) d.classes

@@ -78,7 +78,7 @@ fn declared(
     ensures heads { IfOk result (λ d. heads_words.heads_over given.now d ≡ accepts.heads_of given.now (module_view «module».now)) }
     ensures told { OnOk result (log.new ≡ log.old ++ heads_words.types_told given.now (accepts.heads_of given.now (module_view «module».now)).types (module_view «module».now)) }
 {
-    let _classes = given.class_count();
+    given.are_well_formed();
     let first = given.feature_infos().len() as u32;
     let written = module.units.as_slice();
     let types = type_names(alloc, given, module.model_types.as_slice(), written)?;

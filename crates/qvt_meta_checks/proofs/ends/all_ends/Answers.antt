@@ -1,4 +1,4 @@
-use Rattle.std.proofs.Common.{◌≡◌, ◌∙◌, ◌+◌, ◌<◌, [], ◌∷◌, List, ℕ, length, ap, subst, sym, arith, slice_index_or}
+use Rattle.std.proofs.Common.{◌∙◌, ◌+◌, ◌<◌, [], ◌∷◌, List, ℕ, length, ap, subst, sym, arith, slice_index_or}
 use Rattle.std.proofs.lemmas.List.{length-append, get_or_read}
 use Rattle.qvt_metamodel.specs.declared.declared.DeclaredClass.{DeclaredClass}
 use Rattle.qvt_metamodel.specs.Added.{declared_at, nothing_declared}

@@ -13,7 +13,7 @@ returns c =
     λ i. record { name = c.in_ok-copy.ensures i; kind = c.in_ok-copy-2.ensures i; opposite = c.in_ok-copy-3.ensures i } in
     let gs : List DeclaredFeature = type_features c.args.self.now.meta.now c.args.feature.now in
     c.is_bad.ensures
-    ∙ unpaired c.args.class.now c.args.feature.now c.args.opposite.now gs _ _ _ c.requires
+    ∙ unpaired c.args.self.now.meta.now c.args.class.now c.args.feature.now c.args.opposite.now _ _ _ c.requires
     (c.is_declared-declared.ensures ∙ ap (λ (e : End). list_any (is_end e) gs) same)
     (c.is_contained-contained.ensures ∙ ap (λ (e : End). may_not_be_contained c.args.feature.now && list_any (λ g. g.containment && is_end e g) gs) same)
     c.is_itself-itself.ensures
