@@ -1,6 +1,6 @@
 //! Items that were seen.
 
-ghost use Rattle.std.specs.Prelude.{◌≡◌, [], ◌∷◌, ◌++◌, not, true, IfOk, OnOk};
+ghost use Rattle.std.specs.Prelude.{◌≡◌, [], ◌∷◌, ◌++◌, not, true, false, IfOk, OnOk, OnErr};
 ghost use Rattle.std.specs.List.{list_any};
 ghost use Rattle.qvt_conform.specs.Items.{same_item};
 
@@ -40,10 +40,13 @@ impl<'a> Seen<'a> {
         }
     }
 
-    /// Puts an item last that was not seen. It tells whether it was not.
+    /// Puts an item last that was not seen. It tells whether it was not. One that was seen, and a refused
+    /// call, change nothing.
     pub fn add(&mut self, item: &'a Datum) -> Result<bool, ListFault>
         ensures new { IfOk result (λ b. b ≡ not (list_any (same_item item.now) self.old)) }
         ensures added { IfOk result (λ b. b ≡ true → self.new ≡ self.old ++ item.now ∷ []) }
+        ensures same { IfOk result (λ b. b ≡ false → self.new ≡ self.old) }
+        ensures err { OnErr result (self.new ≡ self.old) }
     {
         match self.keys.insert(item) {
             Ok(new) => Ok(new),

@@ -1,4 +1,4 @@
-ghost use Rattle.std.specs.Prelude.{◌≡◌, [], ◌∷◌, ◌++◌, length, false, position, OnOk};
+ghost use Rattle.std.specs.Prelude.{◌≡◌, [], ◌∷◌, ◌++◌, length, false, position, OnOk, OnErr};
 ghost use Rattle.std.specs.List.{list_any};
 ghost use Rattle.std.specs.Str.{bytes_eq};
 
@@ -56,10 +56,11 @@ impl TextSet {
         self.keys.get_index_of(text)
     }
 
-    /// Puts a new text last.
+    /// Puts a new text last. A refused call changes nothing.
     pub fn add(&mut self, alloc: Global, text: &str) -> Result<(), ListFault>
         requires { list_any (bytes_eq text.now) self.old ≡ false }
-        ensures { OnOk result (self.new ≡ self.old ++ text.now ∷ []) }
+        ensures ok { OnOk result (self.new ≡ self.old ++ text.now ∷ []) }
+        ensures err { OnErr result (self.new ≡ self.old) }
     {
         let Ok(key) = String::from_str(alloc, text) else {
             return Err(ListFault::NoMemory);

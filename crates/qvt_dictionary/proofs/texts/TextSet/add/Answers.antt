@@ -4,8 +4,8 @@ use Rattle.std.specs.Str.{bytes_eq}
 use Rattle.qvt_dictionary.proofs.TextSets.{any-texts, texts-push}
 use Rattle.qvt_dictionary.proofs.texts.TextSet.add.Goals as goal
 
-pub returns : goal.returns
-returns c =
+pub returns-clause-ok : goal.returns-clause-ok
+returns-clause-ok c =
     let keys = c.self.inside.keys.keys in
     let key = c.in-Ok.key in
     let named : string_bytes key ≡ c.args.text.now = c.in-Ok.ensures.ok in
