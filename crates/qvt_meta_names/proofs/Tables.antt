@@ -88,18 +88,23 @@ first-next p n xs d a b r l before is =
 pub first-all : {X : Type 0} (p : X → Bool) (n : ℕ) (xs : List X) (o : Option ℕ) → length xs ≤ n → option_or o (first_at p n (drop n xs)) ≡ first_at p 0 xs → o ≡ position p xs
 first-all p n xs o l is = sym (or_none o) ∙ ap (λ ys. option_or o (first_at p n ys)) (sym (drop_of_length-le xs l)) ∙ is ∙ first-position p xs
 
--- a fact of each table, when one more is put last
-pub each-next : {K : Type 0} (P : ℕ → List (K × ℕ) → Type 0) (ts : List (List (K × ℕ))) (n : ℕ) (t : List (K × ℕ)) → length ts ≡ n → ((k : ℕ) → k < n → P k (get_or ts k [])) → P n t
-    → (k : ℕ) → k < n + 1 → P k (get_or (ts ++ t ∷ []) k [])
-each-next P ts n t each all here k h = by k (half n k) h
+-- a fact of each item, when one more is put last
+pub each-last : {X : Type 0} (P : ℕ → X → Type 0) (d : X) (ts : List X) (n : ℕ) (t : X) → length ts ≡ n → ((k : ℕ) → k < n → P k (get_or ts k d)) → P n t
+    → (k : ℕ) → k < n + 1 → P k (get_or (ts ++ t ∷ []) k d)
+each-last P d ts n t each all here k h = by k (half n k) h
   where
-    place : (i : ℕ) → get_or (ts ++ t ∷ []) (n + i) [] ≡ get_or (t ∷ []) i []
-    place i = ap (λ x. get_or (ts ++ t ∷ []) (x + i) []) (sym each) ∙ new-at ts (t ∷ []) i []
+    place : (i : ℕ) → get_or (ts ++ t ∷ []) (n + i) d ≡ get_or (t ∷ []) i d
+    place i = ap (λ x. get_or (ts ++ t ∷ []) (x + i) d) (sym each) ∙ new-at ts (t ∷ []) i d
 
-    last : (i : ℕ) → n + i < n + 1 → P (n + i) (get_or (ts ++ t ∷ []) (n + i) [])
+    last : (i : ℕ) → n + i < n + 1 → P (n + i) (get_or (ts ++ t ∷ []) (n + i) d)
     last zero l = subst (P (n + 0)) (sym (place 0)) (subst (λ x. P x t) (let same : n ≡ n + 0 = omega arith in same) here)
     last (suc i) l = absurd (omega (arith, l))
 
-    by : (k : ℕ) → Half n k → k < n + 1 → P k (get_or (ts ++ t ∷ []) k [])
-    by _ (old k l) h = subst (P k) (sym (old-at ts (t ∷ []) k [] (omega (arith, l, each)))) (all k l)
+    by : (k : ℕ) → Half n k → k < n + 1 → P k (get_or (ts ++ t ∷ []) k d)
+    by _ (old k l) h = subst (P k) (sym (old-at ts (t ∷ []) k d (omega (arith, l, each)))) (all k l)
     by _ (new i) h = last i h
+
+-- a fact of each table, when one more is put last
+pub each-next : {K : Type 0} (P : ℕ → List (K × ℕ) → Type 0) (ts : List (List (K × ℕ))) (n : ℕ) (t : List (K × ℕ)) → length ts ≡ n → ((k : ℕ) → k < n → P k (get_or ts k [])) → P n t
+    → (k : ℕ) → k < n + 1 → P k (get_or (ts ++ t ∷ []) k [])
+each-next P ts n t each all here = each-last P [] ts n t each all here

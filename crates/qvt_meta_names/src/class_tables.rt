@@ -3,6 +3,7 @@ ghost use Rattle.std.specs.Option.{option_or};
 ghost use Rattle.std.specs.Str.{bytes_eq};
 ghost use Rattle.std.specs.Map.{lookup};
 
+use crate::adding::add_text;
 use crate::name_table::NameTable;
 use qvt_base::list_fault::ListFault;
 use qvt_base::seq::Seq;
@@ -22,10 +23,7 @@ fn add_class(
     if class.metamodel != metamodel {
         return Ok(());
     }
-    if table.find(class.name.as_str()).is_some() {
-        return Ok(());
-    }
-    table.add(alloc, class.name.as_str(), number)?;
+    add_text(alloc, table, &class.name, number)?;
     Ok(())
 }
 

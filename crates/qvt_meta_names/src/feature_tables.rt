@@ -1,30 +1,14 @@
-ghost use Rattle.std.specs.Prelude.{◌≡◌, ℕ, List, Some, None, length, position, if◌then◌else◌, IfOk, OnOk};
-ghost use Rattle.std.specs.Option.{option_or};
+ghost use Rattle.std.specs.Prelude.{◌≡◌, ℕ, List, length, position, IfOk};
 ghost use Rattle.std.specs.Str.{bytes_eq};
 ghost use Rattle.std.specs.Map.{lookup};
 ghost use Rattle.qvt_meta_names.specs.Named.{number_in, numbers_of};
 
+use crate::adding::add_text;
 use crate::name_table::NameTable;
 use qvt_base::list_fault::ListFault;
 use qvt_base::seq::Seq;
 use qvt_metamodel::info::FeatureInfo;
 use std::alloc::Global;
-
-/// Puts a feature last, unless one of its name is there.
-fn add_feature(
-    alloc: Global,
-    table: &mut NameTable,
-    feature: &FeatureInfo,
-    number: u32,
-) -> Result<(), ListFault>
-    ensures { OnOk result ((name : List ℕ) → lookup (bytes_eq name) table.new ≡ option_or (lookup (bytes_eq name) table.old) (if bytes_eq name feature.now.name then Some number else None)) }
-{
-    if table.find(feature.name.as_str()).is_some() {
-        return Ok(());
-    }
-    table.add(alloc, feature.name.as_str(), number)?;
-    Ok(())
-}
 
 /// The features by name, of several of one name the first: its number stands for the name.
 pub fn feature_table(
@@ -37,7 +21,7 @@ pub fn feature_table(
 {
     let mut table = NameTable::new(alloc);
     for number in 0..count {
-        add_feature(alloc, &mut table, &features[number as usize], number)?;
+        add_text(alloc, &mut table, &features[number as usize].name, number)?;
     }
     Ok(table)
 }

@@ -1,7 +1,9 @@
 //! The classes and features of metamodels by name.
 #![tactic(auto)]
 
+mod adding;
 pub mod class_tables;
+pub mod enum_tables;
 pub mod feature_tables;
 pub mod name_table;
 pub mod place_orders;

@@ -1,5 +1,6 @@
--- What is held beside the list of metamodels: the tables of classes, for each metamodel its classes by name, the features by
--- name, and for each class the order in which its features are searched by the numbers of their names.
+-- What is held beside the list of metamodels: the tables of classes, for each metamodel its classes by name and its enumerations
+-- with their literals, the features by name, and for each class the order in which its features are searched by the numbers of
+-- their names.
 use Rattle.std.specs.Prelude.{◌≡◌, ℕ, ◌<◌, List, [], Option, None, length, position, slice_index_or}
 use Rattle.std.specs.Map.{lookup}
 use Rattle.std.specs.Str.{bytes_eq}
@@ -10,6 +11,8 @@ use Rattle.qvt_metamodel.specs.Metamodels.{Metamodels}
 use Rattle.qvt_metamodel.specs.Named.{class_named}
 use Rattle.qvt_metamodel.specs.Kept.{IsKept}
 use Rattle.qvt_meta_names.specs.Named.{numbers_of}
+use Rattle.qvt_meta_names.specs.declared.enum_tables.EnumTable.{EnumTable}
+use Rattle.qvt_meta_names.specs.Enumerated.{AreTabled}
 use Rattle.qvt_meta_names.specs.Ordered.{IsOrdered}
 
 -- a number stands for each name of a feature: that of the first feature that has it
@@ -22,9 +25,10 @@ pub record ArePlaced (numbers : List ℕ) (lists : List (List FeatureNo)) (order
   pub each : length orders ≡ length lists
   pub at : (c : ℕ) → c < length lists → IsOrdered numbers (slice_index_or lists c []) (slice_index_or orders c None)
 
-pub record IsHeld (m : Metamodels) (lists : List (List FeatureNo)) (rows : List Row) (ranks : List ℕ) (names : List (List (List ℕ × ℕ))) (table : List (List ℕ × ℕ)) (numbers : List ℕ) (orders : List (Option (List ℕ))) : Type 0 where
+pub record IsHeld (m : Metamodels) (lists : List (List FeatureNo)) (rows : List Row) (ranks : List ℕ) (names : List (List (List ℕ × ℕ))) (table : List (List ℕ × ℕ)) (numbers : List ℕ) (orders : List (Option (List ℕ))) (enumerations : List EnumTable) : Type 0 where
   pub kept : IsKept m lists rows ranks
   pub each : length names ≡ length m.metamodels
   pub named : (k : ℕ) → k < length m.metamodels → (name : List ℕ) → lookup (bytes_eq name) (slice_index_or names k []) ≡ class_named m k name
   pub numbered : AreNumbered m.features table numbers
   pub placed : ArePlaced numbers lists orders
+  pub enumerated : AreTabled m.metamodels enumerations

@@ -16,6 +16,7 @@ use qvt_base::lists::FeatureNoList;
 use qvt_base::numbers::{ClassNo, FeatureNo};
 use qvt_base::text::Text;
 use qvt_meta_names::class_tables::class_tables;
+use qvt_meta_names::enum_tables::{EnumTable, enum_tables};
 use qvt_meta_names::feature_tables::{feature_table, name_numbers};
 use qvt_meta_names::name_table::NameTable;
 use qvt_meta_names::place_orders::{PlaceOrder, place_named, place_orders};
@@ -46,6 +47,7 @@ pub struct Metas {
     feature_names: NameTable,
     numbers: Vec<u32>,
     orders: Vec<PlaceOrder>,
+    enum_tables: Vec<EnumTable>,
 }
 
 impl Drop for Metas {
@@ -62,6 +64,7 @@ impl Drop for Metas {
             feature_names,
             numbers,
             orders,
+            enum_tables,
         } = self;
     }
 }
@@ -74,7 +77,7 @@ impl Model for Metas {
 
     ghost view = { λ m. record { metamodels = m.metamodels.items; classes = m.classes.items; features = m.features.items; element = m.element } };
 
-    ghost invariant = { λ m. IsHeld (record { metamodels = m.metamodels.items; classes = m.classes.items; features = m.features.items; element = m.element }) m.lists.items m.rows.items m.ranks.items m.names.items m.feature_names m.numbers.items m.orders.items };
+    ghost invariant = { λ m. IsHeld (record { metamodels = m.metamodels.items; classes = m.classes.items; features = m.features.items; element = m.element }) m.lists.items m.rows.items m.ranks.items m.names.items m.feature_names m.numbers.items m.orders.items m.enum_tables.items };
 }
 
 impl Metas {
@@ -96,6 +99,7 @@ impl Metas {
             feature_names: NameTable::new(alloc),
             numbers: Vec::new(alloc),
             orders: Vec::new(alloc),
+            enum_tables: Vec::new(alloc),
         }
     }
 
@@ -118,6 +122,7 @@ impl Metas {
         let feature_names = feature_table(alloc, features.as_slice(), features.len() as u32)?;
         let numbers = name_numbers(alloc, &feature_names, features.as_slice())?;
         let orders = place_orders(alloc, numbers.as_slice(), lists.as_slice())?;
+        let enumerations = enum_tables(alloc, metamodels.as_slice())?;
         Ok(Metas {
             metamodels,
             classes,
@@ -130,6 +135,7 @@ impl Metas {
             feature_names,
             numbers,
             orders,
+            enum_tables: enumerations,
         })
     }
 
@@ -356,20 +362,27 @@ impl Metas {
     pub fn enumeration(&self, metamodel: u32, name: &str) -> Option<u32>
         ensures { result ≡ enumeration_named self.now metamodel name.now }
     {
-        match find_enumeration(self.enumerations(metamodel), name) {
-            Some(place) => Some(place as u32),
-            None => None,
+        let at = metamodel as usize;
+        if at >= self.enum_tables.len() {
+            return None;
         }
+        self.enum_tables[at].enumerations.find(name)
     }
 
     /// The literal of this name in an enumeration.
     pub fn literal(&self, metamodel: u32, enumeration: u32, name: &str) -> Option<u32>
         ensures { result ≡ literal_named self.now metamodel enumeration name.now }
     {
-        match find_text(self.literals(metamodel, enumeration), name) {
-            Some(place) => Some(place as u32),
-            None => None,
+        let at = metamodel as usize;
+        if at >= self.enum_tables.len() {
+            return None;
         }
+        let literals = self.enum_tables[at].literals.as_slice();
+        let place = enumeration as usize;
+        if place >= literals.len() {
+            return None;
+        }
+        literals[place].find(name)
     }
 
     pub fn enumeration_name(&self, metamodel: u32, enumeration: u32) -> &str
@@ -629,18 +642,4 @@ fn find_metamodel(metamodels: &[MetamodelInfo], name: &str) -> Option<usize>
     metamodels
         .iter()
         .position(|m| name == m.name.as_str() || is_text(&m.uri, name))
-}
-
-fn find_enumeration(enums: &[EnumInfo], name: &str) -> Option<usize>
-    ensures value { result ≡ position (λ e. bytes_eq name.now e.name) enums.now }
-    ensures bound { IfSome result (λ i. i < length enums.now) }
-{
-    enums.iter().position(|e| name == e.name.as_str())
-}
-
-fn find_text(texts: &[Text], name: &str) -> Option<usize>
-    ensures value { result ≡ position (bytes_eq name.now) texts.now }
-    ensures bound { IfSome result (λ i. i < length texts.now) }
-{
-    texts.iter().position(|text| name == text.as_str())
 }

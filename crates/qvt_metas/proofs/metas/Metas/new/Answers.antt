@@ -25,4 +25,8 @@ invariant_of-result c = record {
   named = λ k h. absurd (omega (arith, h, ap length c.new.ensures.items));
   numbered = none_numbered _ _ _ c.new-3.ensures.items c.new-8.ensures c.new-9.ensures.items;
   placed = none_placed _ _ _ c.new-4.ensures.items c.new-10.ensures.items;
+  enumerated = record {
+    each = ap length c.new-11.ensures.items ∙ sym (ap length c.new.ensures.items);
+    at = λ k h. absurd (omega (arith, h, ap length c.new.ensures.items));
+  };
 }

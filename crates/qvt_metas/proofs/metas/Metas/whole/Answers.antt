@@ -1,8 +1,10 @@
-use Rattle.std.proofs.Common.{◌≡◌, ◌∙◌, ℕ, ◌==◌, ◌&&◌, List, [], None, length, ap, subst, arith, position, slice_index_or}
+use Rattle.std.proofs.Common.{◌≡◌, ◌∙◌, ℕ, ◌==◌, ◌&&◌, List, [], None, length, ap, subst, sym, arith, position, slice_index_or}
 use Rattle.std.specs.Str.{bytes_eq}
 use Rattle.qvt_base.specs.declared.numbers.FeatureNo.{FeatureNo}
 use Rattle.qvt_metamodel.specs.declared.info.ClassInfo.{ClassInfo}
 use Rattle.qvt_metamodel.specs.declared.info.FeatureInfo.{FeatureInfo}
+use Rattle.qvt_metamodel.specs.declared.info.MetamodelInfo.{MetamodelInfo}
+use Rattle.qvt_meta_names.specs.Enumerated.{AreEachFew, AreTabled}
 use Rattle.qvt_meta_names.specs.Named.{numbers_of}
 use Rattle.qvt_meta_names.specs.Ordered.{IsOrdered}
 use Rattle.qvt_metas.proofs.metas.Metas.whole.Goals as goal
@@ -22,4 +24,8 @@ invariant_of-result c = let many : c.len.result ≡ length c.args.metamodels.ite
         (subst (λ (ls : List (List FeatureNo)). IsOrdered c.as_slice-4.result.now (slice_index_or ls k []) (slice_index_or c.in_ok-orders.orders.items k None)) c.as_slice-5.ensures.value
         (c.in_ok-orders.ensures.ordered k (omega (arith, h, ap length c.as_slice-5.ensures.value))));
   };
+  enumerated = subst (λ (ms : List MetamodelInfo). AreTabled ms c.in_ok-enumerations.enumerations.items) c.as_slice-6.ensures.value c.in_ok-enumerations.ensures;
 }
+
+pub enum_tables-requires : goal.enum_tables-requires
+enum_tables-requires c = subst AreEachFew (sym c.as_slice-6.ensures.value) (λ k. record { enumerations = c.requires.well_formed.few_enumerations k; literals = c.requires.well_formed.few_literals k })

@@ -1,0 +1,9 @@
+use Rattle.std.proofs.Common.{arith}
+use Rattle.std.specs.Str.{bytes_eq}
+use Rattle.qvt_metamodel.specs.declared.info.EnumInfo.{EnumInfo}
+use Rattle.qvt_meta_names.proofs.Tables.{first-all}
+use Rattle.qvt_meta_names.proofs.enum_tables.enumeration_table.Goals as goal
+
+pub returns : goal.returns
+returns c = λ name.
+    first-all (λ (e : EnumInfo). bytes_eq name e.name) c.loop-number.number c.args.enums.now _ (omega (arith, c.loop-number-test.false, c.requires)) (c.loop-number.invariant name)
