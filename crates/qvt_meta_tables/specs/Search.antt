@@ -9,9 +9,9 @@ use Rattle.qvt_meta_tables.specs.declared.visit.Visit.{Visit}
 use Rattle.qvt_meta_tables.specs.declared.visit.Visit.TheVariants.{Enter, Leave}
 use Rattle.qvt_meta_tables.specs.Tables.{of_classes}
 
-abbrev pub class_of : Visit → ℕ
-class_of (Enter c) = c
-class_of (Leave c) = c
+abbrev pub visited_class : Visit → ℕ
+visited_class (Enter c) = c
+visited_class (Leave c) = c
 
 abbrev pub is_leave : ℕ → Visit → Bool
 is_leave c (Enter d) = false
@@ -19,7 +19,7 @@ is_leave c (Leave d) = d == c
 
 -- the class is to be entered or left
 abbrev pub is_waiting : ℕ → List Visit → Bool
-is_waiting c vs = list_any (λ v. class_of v == c) vs
+is_waiting c vs = list_any (λ v. visited_class v == c) vs
 
 -- the class is to be left
 abbrev pub is_open : ℕ → List Visit → Bool
