@@ -17,7 +17,7 @@ use Rattle.qvt_metamodel.proofs.Lists.{list_any-map, all-found}
 use Rattle.qvt_meta_tables.specs.declared.visit.Visit.{Visit}
 use Rattle.qvt_meta_tables.specs.declared.visit.Visit.TheVariants.{Enter, Leave}
 use Rattle.qvt_meta_tables.specs.Tables.{of_classes, IsOrder}
-use Rattle.qvt_meta_tables.specs.Search.{visited_class, is_leave, is_waiting, is_open, opens, stands_in, flag, unmarked, work, IsSuper, AreLive, IsAcyclic, Rise, Owe, IsClosed, IsSearch, place_of}
+use Rattle.qvt_meta_tables.specs.Search.{visited_class, is_leave, is_waiting, is_open, opens, stands_in, flag, unmarked_count, work, IsSuper, AreLive, IsAcyclic, Rise, Owe, IsClosed, IsSearch, place_of}
 use Rattle.qvt_meta_tables.proofs.Filling.{replicate-at}
 
 any_append : {X : Type 0} (p : X → Bool) (xs ys : List X) → list_any p (xs ++ ys) ≡ (list_any p xs || list_any p ys)
@@ -71,7 +71,7 @@ opens_enters : (ss : List ClassNo) → opens (enters ss) ≡ 0
 opens_enters [] = refl
 opens_enters (s ∷ ss) = opens_enters ss
 
-pub fewer_set : (marks : List Bool) (i : ℕ) → i < length marks → get_or marks i false ≡ false → unmarked marks ≡ 1 + unmarked (set marks i true)
+pub fewer_set : (marks : List Bool) (i : ℕ) → i < length marks → get_or marks i false ≡ false → unmarked_count marks ≡ 1 + unmarked_count (set marks i true)
 fewer_set [] i l h = absurd (omega arith)
 fewer_set (true ∷ marks) zero l h = absurd (cc)
 fewer_set (false ∷ marks) zero l h = refl
@@ -88,14 +88,14 @@ work_set (true ∷ marks) (k ∷ ks) (suc i) e l h = work_set marks ks i (omega 
 work_set (false ∷ marks) (k ∷ ks) (suc i) e l h =
     (let rest : work marks ks ≡ 1 + length (get_or ks i nowhere_class).supers + work (set marks i true) ks = work_set marks ks i (omega (arith, e)) (omega arith) h in omega (arith, rest))
 
-none_unmarked : (marks : List Bool) → ((c : ℕ) → c < length marks → get_or marks c false ≡ true) → unmarked marks ≡ 0
+none_unmarked : (marks : List Bool) → ((c : ℕ) → c < length marks → get_or marks c false ≡ true) → unmarked_count marks ≡ 0
 none_unmarked [] h = refl
 none_unmarked (true ∷ marks) h = none_unmarked marks (λ c l. h (suc c) (omega (arith, l)))
 none_unmarked (false ∷ marks) h = clash (h 0 (omega arith)) refl
 
-unmarked_all : (n : ℕ) → unmarked (replicate n false) ≡ n
+unmarked_all : (n : ℕ) → unmarked_count (replicate n false) ≡ n
 unmarked_all zero = refl
-unmarked_all (suc n) = (let rest : unmarked (replicate n false) ≡ n = unmarked_all n in omega (arith, rest))
+unmarked_all (suc n) = (let rest : unmarked_count (replicate n false) ≡ n = unmarked_all n in omega (arith, rest))
 
 module _ (ks : List ClassInfo) where
   rise_next : (vs : List Visit) (v : Visit) (tail : List Visit) → Rise ks (vs ++ v ∷ []) → Rise ks tail
@@ -283,7 +283,7 @@ module _ (ks : List ClassInfo) where
 
   pub all_placed : (met : List Bool) (placed : List ℕ) (vs : List Visit) → IsSearch ks met placed vs → vs ≡ [] → ((c : ℕ) → c < length ks → flag met c ≡ true) → length placed ≡ length ks
   all_placed met placed vs s e all =
-      (let none : unmarked met ≡ 0 = none_unmarked met (λ c l. all c (omega (arith, l, s.each))) in let shut : opens vs ≡ 0 = ap opens e in omega (arith, s.count, none, shut))
+      (let none : unmarked_count met ≡ 0 = none_unmarked met (λ c l. all c (omega (arith, l, s.each))) in let shut : opens vs ≡ 0 = ap opens e in omega (arith, s.count, none, shut))
 
   pub each_placed : (met : List Bool) (placed : List ℕ) (vs : List Visit) → IsSearch ks met placed vs → vs ≡ [] → (c : ℕ) → flag met c ≡ true → stands_in c placed ≡ true
   each_placed met placed vs s e c f = elim (s.seen c f) [ inl p ↦ p | inr o ↦ clash (subst (λ v. is_open c v ≡ true) e o) refl ]

@@ -68,13 +68,13 @@ impl Drop for Metas {
 
 impl Model for Metas {
     ghost use Rattle.qvt_metamodel.specs.Metamodels.{Metamodels};
-    ghost use Rattle.qvt_metas.specs.Held.{IsHeld};
+    ghost use Rattle.qvt_metas.specs.Held.{IsMetasKept};
 
     ghost Value = { Metamodels };
 
     ghost view = { λ m. record { metamodels = m.metamodels.items; classes = m.classes.items; features = m.features.items; element = m.element } };
 
-    ghost invariant = { λ m. IsHeld (record { metamodels = m.metamodels.items; classes = m.classes.items; features = m.features.items; element = m.element }) m.lists.items m.rows.items m.ranks.items m.names.items m.feature_names m.numbers.items m.orders.items };
+    ghost invariant = { λ m. IsMetasKept (record { metamodels = m.metamodels.items; classes = m.classes.items; features = m.features.items; element = m.element }) m.lists.items m.rows.items m.ranks.items m.names.items m.feature_names m.numbers.items m.orders.items };
 }
 
 impl Metas {
