@@ -10,10 +10,10 @@ ghost use Rattle.qvt_store.specs.Place.{IsPlaceable};
 ghost use Rattle.qvt_store.specs.Types.{is_bool, is_int, is_text, is_literal, is_instance, is_of_type, IsAssignable};
 
 use qvt_base::numbers::{ClassNo, FeatureNo, Oid};
-use qvt_metamodel::info::TypeKind;
-use qvt_slots::metas::Metas;
-use qvt_slots::put::find_place;
+use qvt_metas::info::TypeKind;
 use qvt_store::extent::{Extent, ExtentList};
+use qvt_store::metas::Metas;
+use qvt_store::put::find_place;
 use qvt_store::store::Store;
 use qvt_value::value::Value;
 

@@ -25,7 +25,7 @@ use Rattle.qvt_job.specs.declared.job.Job.{Job}
 use Rattle.qvt_meaning_report.specs.Meaning as means
 use Rattle.qvt_outcome.specs.Outcome.{Outcome}
 use Rattle.qvt_outcome.specs.Plans.{outcome_of}
-use Rattle.qvt_outcome.specs.Steps.{Gives, Stops}
+use Rattle.qvt_outcome.specs.Steps.{GivesOrStops, Stops}
 use Rattle.qvt_outcome.specs.declared.plan.Plan.{Plan}
 use Rattle.qvt_outcome.specs.declared.stop.Stop.{Stop}
 use Rattle.qvt_outputs.specs.Conforming.{AreConforming, LeavesConforming}
@@ -89,12 +89,12 @@ values_same (e ∷ es) = λ i. value_of e ∷ values_same es i
 module _ (job : Job) (p : ProgramTerm) (ids : List (Option (List ℕ))) (store : Contents) (x : Result Finished RunStop) where
   -- a run has ended well
   pub well_ended : (f : Finished) (plan : Result Plan Stop) → x ≡ Ok f → Comes (run.finished p store job.fuel) x
-      → ((before : Contents) → run.patched before (map value_of f.entries) ≡ Ok (contents_of f.state.store) → Gives outcome_of plan (left job p ids (means.outcome_of (Ok (finished_view before f)))))
-      → Gives outcome_of plan (left_over job p ids store)
+      → ((before : Contents) → run.patched before (map value_of f.entries) ≡ Ok (contents_of f.state.store) → GivesOrStops outcome_of plan (left job p ids (means.outcome_of (Ok (finished_view before f)))))
+      → GivesOrStops outcome_of plan (left_over job p ids store)
   unfolding means.meaning
   well_ended f plan is comes gives =
       let known : Comes (run.finished p store job.fuel) (Ok f) = subst (Comes (run.finished p store job.fuel)) is comes in
-      subst (λ r. Gives outcome_of plan (left job p ids (means.outcome_of r))) (sym known.1)
+      subst (λ r. GivesOrStops outcome_of plan (left job p ids (means.outcome_of r))) (sym known.1)
       (gives known.0 (ap (run.patched known.0) (values_same f.entries) ∙ entries_are_written p store job.fuel (finished_view known.0 f) known.1))
 
   -- and the models that it leaves conform

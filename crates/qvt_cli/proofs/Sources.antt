@@ -7,7 +7,7 @@ use Rattle.qvt_tree_types.specs.declared.module.Module.{Module}
 use Rattle.qvt_parsed.specs.Parsed.{parsed}
 use Rattle.qvt_outcome.specs.Outcome.{Outcome, refused}
 use Rattle.qvt_work.specs.Source.{tree_in}
-use Rattle.qvt_outcome.specs.Steps.{Stops, Gives, RefusedOrNoMemory, or_refused}
+use Rattle.qvt_outcome.specs.Steps.{Stops, GivesOrStops, RefusedOrNoMemory, or_refused}
 use Rattle.qvt_outcome.specs.declared.refusal.Refusal.{Refusal}
 use Rattle.qvt_outcome.specs.declared.refusal.Refusal.TheVariants as refusal
 use Rattle.qvt_outcome.specs.declared.stop.Stop.{Stop}
@@ -31,9 +31,9 @@ unfolding tree_in
 no_text name bytes e isnt h = refused_stops name refusal.Utf8 e _
     (ap (λ b. cond b (or_refused refusal.Parse name (parsed bytes)) (Err (refused name refusal.Utf8))) (not_utf8 bytes (is_utf8 bytes) isnt refl)) h
 
-pub tree_of_bytes : (name bytes text : List ℕ) (r : Result Module Stop) → IsUtf8 bytes → text ≡ bytes → Gives module_view r (or_refused refusal.Parse name (parsed text))
-    → Gives module_view r (tree_in name bytes)
+pub tree_of_bytes : (name bytes text : List ℕ) (r : Result Module Stop) → IsUtf8 bytes → text ≡ bytes → GivesOrStops module_view r (or_refused refusal.Parse name (parsed text))
+    → GivesOrStops module_view r (tree_in name bytes)
 unfolding tree_in
-tree_of_bytes name bytes text r valid same h = subst (λ (x : Result ModuleTerm Outcome). Gives module_view r x)
+tree_of_bytes name bytes text r valid same h = subst (λ (x : Result ModuleTerm Outcome). GivesOrStops module_view r x)
     (ap (λ t. or_refused refusal.Parse name (parsed t)) same
     ∙ sym (ap (λ b. cond b (or_refused refusal.Parse name (parsed bytes)) (Err (refused name refusal.Utf8))) (is_utf8-from_IsUtf8 bytes valid))) h

@@ -8,7 +8,7 @@ ghost use Rattle.qvt_meaning.specs.Run as rules;
 ghost use Rattle.qvt_meaning_report.specs.Meaning as meaning;
 ghost use Rattle.qvt_outcome.specs.Outcome.{Outcome};
 ghost use Rattle.qvt_outcome.specs.Plans.{IsReady, outcome_of};
-ghost use Rattle.qvt_outcome.specs.Steps.{Gives, IfFaultOf, IsFaultWith, Stops};
+ghost use Rattle.qvt_outcome.specs.Steps.{GivesOrStops, IfFaultOf, IsFaultWith, Stops};
 ghost use Rattle.qvt_types_program.specs.Program.{program_view};
 ghost use Rattle.qvt_exec.specs.Comes.{Comes};
 ghost use Rattle.qvt_live_store.specs.Held.{contents_of};
@@ -43,7 +43,7 @@ fn finished_left(
     ids: &IdTable,
     finished: Finished<'_>,
 ) -> Result<Plan, Stop>
-    ensures gives { (before : Contents) → rules.patched before (map value_of finished.entry.entries) ≡ Ok (contents_of finished.entry.state.store) → Gives outcome_of result (left job.now (program_view program.now) ids.now (meaning.outcome_of (Ok (finished_view before finished.entry)))) }
+    ensures gives { (before : Contents) → rules.patched before (map value_of finished.entry.entries) ≡ Ok (contents_of finished.entry.state.store) → GivesOrStops outcome_of result (left job.now (program_view program.now) ids.now (meaning.outcome_of (Ok (finished_view before finished.entry)))) }
     ensures ready { IfOk result (λ plan. IsReady plan.outputs) }
     ensures no_reads { IfFaultOf result (λ file. ⊥) }
     ensures conform { IfOk result (λ plan. AreConforming (contents_of finished.entry.state.store) job.now.outputs) }
@@ -85,7 +85,7 @@ pub fn ended(
     ids: &IdTable,
     run: Result<Finished<'_>, RunStop>,
 ) -> Result<Plan, Stop>
-    ensures gives { (store : Contents) → Comes (rules.finished (program_view program.now) store job.now.fuel) run.entry → Gives outcome_of result (left_over job.now (program_view program.now) ids.now store) }
+    ensures gives { (store : Contents) → Comes (rules.finished (program_view program.now) store job.now.fuel) run.entry → GivesOrStops outcome_of result (left_over job.now (program_view program.now) ids.now store) }
     ensures ready { IfOk result (λ plan. IsReady plan.outputs) }
     ensures no_reads { IfFaultOf result (λ file. ⊥) }
     ensures conform { (store : Contents) → Comes (rules.finished (program_view program.now) store job.now.fuel) run.entry → IfOk result (λ plan. EndConforms job.now (program_view program.now) store) }

@@ -2,7 +2,7 @@
 
 ghost use Rattle.std.specs.Prelude.{◌≡◌, ◌≢◌, ◌<◌, [], None, IfOk, OnOk, length};
 ghost use Rattle.qvt_outcome.specs.Follows.{Follows};
-ghost use Rattle.qvt_outcome.specs.Steps.{Gives, IfFaultOf, IsFaultWith, StopsBy, or_refused};
+ghost use Rattle.qvt_outcome.specs.Steps.{GivesOrStops, IfFaultOf, IsFaultWith, StopsBy, or_refused};
 ghost use Rattle.qvt_work.specs.Metas.{with_metamodel, metas_in, metamodel_read, metamodels_read};
 ghost use Rattle.qvt_program_inputs.specs.Law.{AreAllNamed};
 
@@ -10,7 +10,7 @@ use qvt_base::outside::Files;
 use qvt_base::text::Text;
 use qvt_meta::law::meta_has_name;
 use qvt_meta::meta::{Meta, read_meta};
-use qvt_metamodel::fault::{MetaFault, MetasFault};
+use qvt_metas::fault::{MetaFault, MetasFault};
 use qvt_metas::metas::Metas;
 use qvt_outcome::fetch::{fetch, refused};
 use qvt_outcome::refusal::Refusal;
@@ -43,7 +43,7 @@ fn metas_stop(alloc: Global, name: &Text, why: MetasFault) -> Stop
 /// it, is want of memory.
 fn add_metamodel(alloc: Global, metas: &mut Metas, name: &Text, meta: Meta) -> Result<(), Stop>
     ensures no_reads { IfFaultOf result (λ file. ⊥) }
-    ensures gives { Gives (λ _. metas.new) result (or_refused Refusal.Metamodels name.now (with_metamodel metas.old meta)) }
+    ensures gives { GivesOrStops (λ _. metas.new) result (or_refused Refusal.Metamodels name.now (with_metamodel metas.old meta)) }
     ensures some { OnOk result (0 < length metas.new.metamodels) }
     ensures element { OnOk result (metas.new.element ≡ metas.old.element) }
     ensures named { meta.name ≢ [] → AreAllNamed metas.old → OnOk result (AreAllNamed metas.new) }
@@ -61,7 +61,7 @@ fn add_metamodel(alloc: Global, metas: &mut Metas, name: &Text, meta: Meta) -> R
 #[tactic(auto, unfolding(qvt_work::specs::Metas::metas_in))]
 fn add_bytes(alloc: Global, metas: &mut Metas, name: &Text, bytes: &[u8]) -> Result<(), Stop>
     ensures no_reads { IfFaultOf result (λ file. ⊥) }
-    ensures gives { Gives (λ _. metas.new) result (metas_in metas.old name.now bytes.now) }
+    ensures gives { GivesOrStops (λ _. metas.new) result (metas_in metas.old name.now bytes.now) }
     ensures some { OnOk result (0 < length metas.new.metamodels) }
     ensures element { OnOk result (metas.new.element ≡ metas.old.element) }
     ensures named { AreAllNamed metas.old → OnOk result (AreAllNamed metas.new) }

@@ -6,7 +6,7 @@ ghost use Rattle.qvt_store.specs.Sound.{Sound};
 ghost use Rattle.qvt_types_program.specs.Program.{program_view};
 ghost use Rattle.qvt_outcome.specs.Follows.{Follows};
 ghost use Rattle.qvt_outcome.specs.Plans.{outcome_of, IsReady};
-ghost use Rattle.qvt_outcome.specs.Steps.{Gives, IfFaultOf};
+ghost use Rattle.qvt_outcome.specs.Steps.{GivesOrStops, IfFaultOf};
 ghost use Rattle.qvt_program_inputs.specs.Start.{CanLoad};
 ghost use Rattle.qvt_work.specs.Conforming.{EndConforms, PerformedConforms};
 ghost use Rattle.qvt_work.specs.Ends.{left_over};
@@ -30,7 +30,7 @@ use std::alloc::Global;
 /// to its metamodel.
 fn run_loaded(alloc: Global, job: &Job, program: &Program, loaded: Loaded) -> Result<Plan, Stop>
     requires { Sound loaded.store }
-    ensures gives { Gives outcome_of result (left_over job.now (program_view program.now) loaded.ids loaded.store) }
+    ensures gives { GivesOrStops outcome_of result (left_over job.now (program_view program.now) loaded.ids loaded.store) }
     ensures ready { IfOk result (λ p. IsReady p.outputs) }
     ensures no_reads { IfFaultOf result (λ file. ⊥) }
     ensures conform { IfOk result (λ plan. EndConforms job.now (program_view program.now) loaded.store) }

@@ -3,7 +3,7 @@
 ghost use Rattle.std.specs.Prelude.{◌≡◌, ◌≤◌, length, None, Some, IfOk};
 ghost use Rattle.qvt_base.specs.Outside.{Held};
 ghost use Rattle.qvt_outcome.specs.Follows.{Follows};
-ghost use Rattle.qvt_outcome.specs.Steps.{Gives, IfFaultOf, IsFaultWith, RefusedOrNoMemory, StopsBy};
+ghost use Rattle.qvt_outcome.specs.Steps.{GivesOrStops, IfFaultOf, IsFaultWith, RefusedOrNoMemory, StopsBy};
 ghost use Rattle.qvt_outcome.specs.Plans.{outcome_of, IsReady};
 ghost use Rattle.qvt_work.specs.Conforming.{AfterJobConforms, AfterMetasConforms, RunConforms};
 ghost use Rattle.qvt_work.specs.Run.{job_in, job_read, program_in, text_in, text_read, after_metas, after_job, run_of};
@@ -49,7 +49,7 @@ fn job_stop(alloc: Global, name: &Text, why: JobFault) -> Stop
 #[tactic(auto, unfolding(qvt_work::specs::Run::job_in))]
 fn job_in(alloc: Global, name: &Text, bytes: &[u8]) -> Result<Job, Stop>
     ensures no_reads { IfFaultOf result (λ file. ⊥) }
-    ensures gives { Gives (λ job. job) result (job_in name.now bytes.now) }
+    ensures gives { GivesOrStops (λ job. job) result (job_in name.now bytes.now) }
     ensures named { IfOk result (λ job. HaveNames job.inputs × HaveNames job.outputs) }
 {
     models_have_names();
@@ -94,7 +94,7 @@ fn program_in(
     requires metamodels { AreAllNamed metas.now }
     requires named { HaveNames job.now.inputs × HaveNames job.now.outputs }
     ensures no_reads { IfFaultOf result (λ file. ⊥) }
-    ensures gives { Gives program_view result (program_in name.now job.now metas.now (module_view tree.now)) }
+    ensures gives { GivesOrStops program_view result (program_in name.now job.now metas.now (module_view tree.now)) }
     ensures loads { IfOk result (λ p. CanLoad (program_view p) job.now.inputs) }
 {
     job_can_load();
@@ -121,7 +121,7 @@ fn text_in(
     requires metamodels { AreAllNamed metas.now }
     requires named { HaveNames job.now.inputs × HaveNames job.now.outputs }
     ensures no_reads { IfFaultOf result (λ file. ⊥) }
-    ensures gives { Gives program_view result (text_in name.now job.now metas.now bytes.now) }
+    ensures gives { GivesOrStops program_view result (text_in name.now job.now metas.now bytes.now) }
     ensures loads { IfOk result (λ p. CanLoad (program_view p) job.now.inputs) }
 {
     match tree_in(alloc, &job.text, bytes) {

@@ -4,7 +4,7 @@ ghost use Rattle.std.specs.Prelude.{◌≡◌, ◌≤◌, ◌+◌, ◌<◌, ◌^
 ghost use Rattle.qvt_tree_types.specs.Module.{module_view};
 ghost use Rattle.qvt_parsed.specs.Parsed.{parsed};
 ghost use Rattle.qvt_work.specs.Source.{tree_in};
-ghost use Rattle.qvt_outcome.specs.Steps.{Gives, IfFaultOf, IsFaultWith, StopsBy, or_refused};
+ghost use Rattle.qvt_outcome.specs.Steps.{GivesOrStops, IfFaultOf, IsFaultWith, StopsBy, or_refused};
 
 use qvt_base::text::Text;
 use qvt_outcome::fetch::refused;
@@ -31,7 +31,7 @@ fn parse_stop(alloc: Global, name: &Text, why: ParseFault) -> Stop
 fn tree_of(alloc: Global, name: &Text, text: &str) -> Result<Module, Stop>
     requires { length text.now + 1 < 2 ^ 32 }
     ensures no_reads { IfFaultOf result (λ file. ⊥) }
-    ensures gives { Gives module_view result (or_refused Refusal.Parse name.now (parsed text.now)) }
+    ensures gives { GivesOrStops module_view result (or_refused Refusal.Parse name.now (parsed text.now)) }
 {
     match parse(alloc, text) {
         Err(why) => Err(parse_stop(alloc, name, why)),
@@ -44,7 +44,7 @@ fn tree_of(alloc: Global, name: &Text, text: &str) -> Result<Module, Stop>
 pub fn tree_in(alloc: Global, name: &Text, bytes: &[u8]) -> Result<Module, Stop>
     requires { length bytes.now ≤ 262144 }
     ensures no_reads { IfFaultOf result (λ file. ⊥) }
-    ensures gives { Gives module_view result (tree_in name.now bytes.now) }
+    ensures gives { GivesOrStops module_view result (tree_in name.now bytes.now) }
 {
     match str::from_utf8(bytes) {
         Err(_) => Err(refused(alloc, name, Refusal::Utf8)),

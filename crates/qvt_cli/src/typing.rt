@@ -3,7 +3,7 @@
 ghost use Rattle.std.specs.Prelude.{◌≡◌, None, MatchOption};
 ghost use Rattle.qvt_tree_types.specs.Module.{module_view};
 ghost use Rattle.qvt_types.specs.Program.{program_view};
-ghost use Rattle.qvt_outcome.specs.Steps.{Gives, IfFaultOf, IsFaultWith, RefusedOrNoMemory};
+ghost use Rattle.qvt_outcome.specs.Steps.{GivesOrStops, IfFaultOf, IsFaultWith, RefusedOrNoMemory};
 ghost use Rattle.qvt_cli.specs.Typing.{refusal_in};
 ghost use Rattle.qvt_work.specs.Typing.{typed_in};
 
@@ -67,7 +67,7 @@ fn typing_stop(alloc: Global, name: &Text, fault: TypingFault) -> Stop
 pub fn typed_in(alloc: Global, metas: &Metas, file: &Text, tree: &Module) -> Result<Program, Stop>
     requires { metas.now.element ≡ None }
     ensures no_reads { IfFaultOf result (λ file. ⊥) }
-    ensures gives { Gives program_view result (typed_in metas.now file.now (module_view tree.now)) }
+    ensures gives { GivesOrStops program_view result (typed_in metas.now file.now (module_view tree.now)) }
 {
     match accept(alloc, tree, metas) {
         Ok(program) => Ok(program),

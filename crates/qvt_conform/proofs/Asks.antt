@@ -12,7 +12,7 @@ use Rattle.indexmap.specs.IndexMap.{IndexMap, get, IsEmpty, Updates}
 use Rattle.qvt_base.specs.declared.numbers.FeatureNo.{FeatureNo}
 use Rattle.qvt_metamodel.specs.Metamodels.{Metamodels, among_features, features_of}
 use Rattle.qvt_model.specs.declared.data.SlotData.{SlotData}
-use Rattle.qvt_conform.specs.Asked.{asks, asking, has_slot, HasAsked, HaveSlots, AreMet, IfListed, AreListed}
+use Rattle.qvt_conform.specs.Asked.{asks, asking, has_slot, HasAsked, HaveAsked, AreMet, IfListed, AreListed}
 
 -- those that ask are among them
 asking_has : (m : Metamodels) (fs : List FeatureNo) (f : ℕ) → among_features f fs ≡ true → asks m f ≡ true → among_features f (asking m fs) ≡ true
@@ -35,20 +35,20 @@ slot_there [] j d f lt e = absurd (omega (arith, lt))
 slot_there (t ∷ ts) zero d f lt e = or_left (t.feature.0 == f) (has_slot ts f) (eq-eqb t.feature.0 f e)
 slot_there (t ∷ ts) (suc j) d f lt e = or_right (t.feature.0 == f) (has_slot ts f) (slot_there ts j d f (omega (arith, lt)) e)
 
-pub none_yet : (asked : List FeatureNo) (ts : List SlotData) → HaveSlots (take 0 asked) ts
+pub none_yet : (asked : List FeatureNo) (ts : List SlotData) → HaveAsked (take 0 asked) ts
 none_yet asked ts = record { each = λ f h. cc }
 
 -- the next of them has the slot that stands here
 pub next_met : (asked : List FeatureNo) (ts : List SlotData) (n j : ℕ) (g : FeatureNo) (t : SlotData) → n < length asked → g ≡ get_or asked n g → j < length ts → t ≡ get_or ts j t
-    → g.0 ≡ t.feature.0 → HaveSlots (take n asked) ts → HaveSlots (take (n + 1) asked) ts
+    → g.0 ≡ t.feature.0 → HaveAsked (take n asked) ts → HaveAsked (take (n + 1) asked) ts
 next_met asked ts n j g t lt is below at same have = record { each = λ f h. either f (among_features f (take n asked)) refl (sym (list_any_more (λ k. k.0 == f) asked n g lt) ∙ h) }
   where
     either : (f : ℕ) (b : Bool) → among_features f (take n asked) ≡ b → (b || ((get_or asked n g).0 == f)) ≡ true → has_slot ts f ≡ true
     either f true e k = have.each f e
     either f false e k = slot_there ts j t f below (ap (λ (s : SlotData). s.feature.0) (sym at) ∙ sym same ∙ ap (λ (x : FeatureNo). x.0) is ∙ eqb-true (get_or asked n g).0 f k)
 
-pub all_met : (asked : List FeatureNo) (ts : List SlotData) (n : ℕ) → n ≡ length asked → HaveSlots (take n asked) ts → HaveSlots asked ts
-all_met asked ts n e have = subst (λ fs. HaveSlots fs ts) (take_all n asked (omega (arith, e))) have
+pub all_met : (asked : List FeatureNo) (ts : List SlotData) (n : ℕ) → n ≡ length asked → HaveAsked (take n asked) ts → HaveAsked asked ts
+all_met asked ts n e have = subst (λ fs. HaveAsked fs ts) (take_all n asked (omega (arith, e))) have
 
 -- no class is listed
 pub nothing_listed : {S : Type 0} (m : Metamodels) (lists : IndexMap ℕ (List FeatureNo) S) → IsEmpty lists → AreListed m lists
@@ -65,7 +65,7 @@ one_listed m lists next c asked has new old = record { each = λ q. subst (IfLis
 
 -- the slots that meet a list meet the class
 pub class_met : {S : Type 0} (m : Metamodels) (lists : IndexMap ℕ (List FeatureNo) S) (c : ℕ) (asked : List FeatureNo) (ts : List SlotData) → AreListed m lists
-    → get nat_eq lists c ≡ Some asked → HaveSlots asked ts → AreMet m (features_of m c) ts
+    → get nat_eq lists c ≡ Some asked → HaveAsked asked ts → AreMet m (features_of m c) ts
 class_met m lists c asked ts old is have =
     let has : HasAsked m (features_of m c) asked = subst (IfListed m c) is (old.each c) in
     record { each = λ f h a. have.each f (has.each f h a) }

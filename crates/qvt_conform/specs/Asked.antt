@@ -23,7 +23,7 @@ pub record HasAsked (m : Metamodels) (fs asked : List FeatureNo) : Type 0 where
   pub each : (f : ℕ) → IsTrue (among_features f fs) → IsTrue (asks m f) → IsTrue (among_features f asked)
 
 -- each of these features has a slot
-pub record HaveSlots (asked : List FeatureNo) (ts : List SlotData) : Type 0 where
+pub record HaveAsked (asked : List FeatureNo) (ts : List SlotData) : Type 0 where
   pub each : (f : ℕ) → IsTrue (among_features f asked) → IsTrue (has_slot ts f)
 
 -- each of these features that asks for an item has a slot

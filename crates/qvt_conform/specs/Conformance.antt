@@ -14,7 +14,7 @@ use Rattle.qvt_conform.specs.declared.fault.ConformFault.{ConformFault}
 use Rattle.qvt_conform.specs.declared.fault.ConformFault.TheVariants.{Abstract, Bounds, NotUnique, Opposite, TwoContainers, ContainmentCycle}
 
 -- well formed data of a model of some metamodel
-pub record IsWellFormed (m : Metamodels) (os : List ObjectData) : Type 0 where
+pub record IsSomeModel (m : Metamodels) (os : List ObjectData) : Type 0 where
   pub metamodel : ℕ
   pub model : IsModel m metamodel os
 

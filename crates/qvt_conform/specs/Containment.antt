@@ -26,9 +26,9 @@ contents_of_slots m [] = []
 contents_of_slots m (s ∷ ss) = contents_of_slot m s ++ contents_of_slots m ss
 
 -- what stands in the containment slots of an object
-abbrev pub contents_of : Metamodels → ObjectData → List ℕ
-contents_of m o = contents_of_slots m o.slots
+abbrev pub contents_of_object : Metamodels → ObjectData → List ℕ
+contents_of_object m o = contents_of_slots m o.slots
 
 -- of each object of a model
 abbrev pub contents : Metamodels → List ObjectData → List (List ℕ)
-contents m os = map (contents_of m) os
+contents m os = map (contents_of_object m) os

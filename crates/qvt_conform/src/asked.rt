@@ -2,7 +2,7 @@
 
 ghost use Rattle.std.specs.Prelude.{◌≡◌, IfOk, IsTrue};
 ghost use Rattle.qvt_metamodel.specs.Metamodels.{features_of};
-ghost use Rattle.qvt_conform.specs.Asked.{asking, HasAsked, HaveSlots, AreMet};
+ghost use Rattle.qvt_conform.specs.Asked.{asking, HasAsked, HaveAsked, AreMet};
 
 use indexmap::IndexMap;
 use qvt_base::list_fault::ListFault;
@@ -44,7 +44,7 @@ fn asking_by_name(
 /// Whether each of the features has a slot, where both are in one order. Where they are not, it may say that one has none.
 #[tactic(auto, using(crate::proofs::Asks::none_yet, crate::proofs::Asks::next_met, crate::proofs::Asks::all_met))]
 fn have_slots(asked: &[FeatureNo], slots: &[SlotData]) -> bool
-    ensures { IsTrue result → HaveSlots asked.now slots.now }
+    ensures { IsTrue result → HaveAsked asked.now slots.now }
 {
     let mut met = 0;
     for slot in slots {

@@ -4,7 +4,7 @@ ghost use Rattle.std.specs.Prelude.{◌≡◌, ◌<◌, ◌^◌, length, IfOk};
 ghost use Rattle.qvt_metamodel.specs.Metamodels.{feature_at, features_of};
 ghost use Rattle.qvt_conform.specs.declared.fault.ConformFault.TheVariants.{NoMemory};
 ghost use Rattle.qvt_conform.specs.Breaches.{fault_of};
-ghost use Rattle.qvt_conform.specs.Conformance.{IsWellFormed, conform_fault};
+ghost use Rattle.qvt_conform.specs.Conformance.{IsSomeModel, conform_fault};
 ghost use Rattle.qvt_conform.specs.Contained.{IsContainment};
 ghost use Rattle.qvt_conform.specs.Items.{items_of};
 ghost use Rattle.qvt_conform.specs.Lacking.{feature_fault_by, features_fault_by, object_fault_by, faults_by};
@@ -159,7 +159,7 @@ fn faults(
 /// each feature of the class in order the bounds, the repeats and the opposite, then that the object stands in containment
 /// slots more than once over the model, then that it is inside itself. The data are those of a model that was read.
 pub fn conform(alloc: Global, model: &ModelData, metas: &Metas) -> Result<(), ConformFault>
-    requires { IsWellFormed metas.now model.now.objects }
+    requires { IsSomeModel metas.now model.now.objects }
     ensures { Tells NoMemory result (conform_fault metas.now model.now.objects) }
 {
     let objects = model.objects.as_slice();

@@ -1,7 +1,7 @@
 //! What each object holds in its containment slots.
 
 ghost use Rattle.std.specs.Prelude.{◌≡◌, ◌++◌, IfOk, OnOk};
-ghost use Rattle.qvt_conform.specs.Containment.{refs_of, refs, contents_of_slot, contents_of_slots, contents_of, contents};
+ghost use Rattle.qvt_conform.specs.Containment.{refs_of, refs, contents_of_slot, contents_of_slots, contents_of_object, contents};
 
 use qvt_base::list_fault::ListFault;
 use qvt_base::seq::Seq;
@@ -42,7 +42,11 @@ fn push_slot(metas: &Metas, contents: &mut Positions, slot: &SlotData) -> Result
     }
 }
 
-fn contents_of(alloc: Global, metas: &Metas, slots: &[SlotData]) -> Result<Positions, ListFault>
+fn contents_of_object(
+    alloc: Global,
+    metas: &Metas,
+    slots: &[SlotData],
+) -> Result<Positions, ListFault>
     ensures { IfOk result (λ xs. xs ≡ contents_of_slots metas.now slots.now) }
 {
     let mut contents = Seq::new(alloc);
@@ -62,7 +66,7 @@ pub fn contents(
 {
     let mut all = Seq::new(alloc);
     for object in objects {
-        all.push(contents_of(alloc, metas, object.slots.as_slice())?)?;
+        all.push(contents_of_object(alloc, metas, object.slots.as_slice())?)?;
     }
     Ok(all)
 }

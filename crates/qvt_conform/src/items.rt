@@ -5,7 +5,7 @@ ghost use Rattle.qvt_conform.specs.Items.{is_at_most, is_within, repeats};
 
 use crate::seen::Seen;
 use qvt_base::list_fault::ListFault;
-use qvt_metamodel::info::FeatureShape;
+use qvt_metas::info::FeatureShape;
 use qvt_model::data::Datum;
 use std::alloc::Global;
 

@@ -29,7 +29,7 @@ use Rattle.qvt_conform.specs.declared.fault.ConformFault.{ConformFault}
 use Rattle.qvt_conform.specs.declared.fault.ConformFault.TheVariants.{Bounds, NotUnique, Opposite, Abstract, TwoContainers, ContainmentCycle}
 use Rattle.qvt_conform.specs.Items.{is_at_most, is_within, same_literal, same_item, repeats_after, is_ref, lacks, lack_opposite}
 use Rattle.qvt_conform.specs.Items as item
-use Rattle.qvt_conform.specs.Containment.{contents_of_slots, contents_of, contents}
+use Rattle.qvt_conform.specs.Containment.{contents_of_slots, contents_of_object, contents}
 use Rattle.qvt_conform.specs.Conformance.{fault_if, feature_fault, features_fault, containment_fault, object_fault, faults_from, conform_fault}
 use Rattle.qvt_model.specs.Items.{items_in}
 use Rattle.qvt_model.specs.Loaded.{value_at}
@@ -262,8 +262,8 @@ module _ (m : Metamodels) (k : ℕ) (os : List ObjectData) (model : IsModel m k 
       (λ i f l h held. let o : IsObject m k os (object_at os i) = is i l in
       ref_below m os (shape_of m f).kind j (items_in f (object_at os i).slots) (item_types m os (object_at os i).class.0 f (object_at os i).slots o.slots) held)
 
-  lists_at : (i : ℕ) → slice_index_or (contents m os) i [] ≡ contents_of m (object_at os i)
-  lists_at i = index-map (contents_of m) os i no_object
+  lists_at : (i : ℕ) → slice_index_or (contents m os) i [] ≡ contents_of_object m (object_at os i)
+  lists_at i = index-map (contents_of_object m) os i no_object
 
   few : (j : ℕ) → j < length os → how_often_in (contents m os) j ≤ 1
   few j l = ltb-false 1 (how_often_in (contents m os) j) (fine j l).alone

@@ -7,25 +7,25 @@ use Rattle.qvt_relation.specs.Closure.{directly, through}
 use Rattle.qvt_relation.proofs.Bools.{or_cases, refuted, and_both}
 use Rattle.qvt_cycle.specs.Successors.{among, leads, is_on_cycle, how_often, how_often_in}
 use Rattle.qvt_cycle.specs.Counts.{counted, counted_all, zeros}
-use Rattle.qvt_cycle.specs.Search.{class_of, are_below, fall_from, fall, is_alone}
+use Rattle.qvt_cycle.specs.Search.{component_of, are_below, fall_from, fall, is_alone}
 use Rattle.qvt_cycle.proofs.Searched.{Way, begins, on_cycle-way}
 
-below_at : (classes : List ℕ) (n y : ℕ) (ys : List ℕ) → are_below classes n ys ≡ true → among ys y ≡ true → class_of classes y ≤ n
+below_at : (classes : List ℕ) (n y : ℕ) (ys : List ℕ) → are_below classes n ys ≡ true → among ys y ≡ true → component_of classes y ≤ n
 below_at classes n y [] a h = cc
 below_at classes n y (x ∷ ys) a h =
-    let p = and_parts (nat_le (class_of classes x) n) (are_below classes n ys) a in
+    let p = and_parts (nat_le (component_of classes x) n) (are_below classes n ys) a in
     elim (or_cases (x == y) _ h) [
-      | inl same ↦ subst (λ k. class_of classes k ≤ n) (eqb-true x y same) (leb-true _ _ p.0)
+      | inl same ↦ subst (λ k. component_of classes k ≤ n) (eqb-true x y same) (leb-true _ _ p.0)
       | inr later ↦ below_at classes n y ys p.1 later
     ]
 
-falls_at : (classes ns : List ℕ) (lists : List (List ℕ)) (x y : ℕ) → fall_from classes ns lists ≡ true → leads lists x y ≡ true → class_of classes y ≤ slice_index_or ns x 0
+falls_at : (classes ns : List ℕ) (lists : List (List ℕ)) (x y : ℕ) → fall_from classes ns lists ≡ true → leads lists x y ≡ true → component_of classes y ≤ slice_index_or ns x 0
 falls_at classes ns [] x y a h = cc
 falls_at classes [] (ys ∷ lists) x y a h = cc
 falls_at classes (n ∷ ns) (ys ∷ lists) zero y a h = below_at classes n y ys (and_parts (are_below classes n ys) _ a).0 h
 falls_at classes (n ∷ ns) (ys ∷ lists) (suc x) y a h = falls_at classes ns lists x y (and_parts (are_below classes n ys) _ a).1 h
 
-falls_along : (classes : List ℕ) (lists : List (List ℕ)) {x y : ℕ} → fall classes lists ≡ true → Way lists x y → class_of classes y ≤ class_of classes x
+falls_along : (classes : List ℕ) (lists : List (List ℕ)) {x y : ℕ} → fall classes lists ≡ true → Way lists x y → component_of classes y ≤ component_of classes x
 falls_along classes lists {x} {y} a (directly step) = falls_at classes classes lists x y a step
 falls_along classes lists {x} {y} a (through {y = z} step rest) =
     let first = falls_at classes classes lists x z a step in
@@ -126,20 +126,20 @@ folded-long (xs ∷ lists) counts = folded-long lists (counted_all counts xs) �
 pub lists-long : (lists : List (List ℕ)) → length (fold counted_all (zeros lists) lists) ≡ length lists
 lists-long lists = folded-long lists (zeros lists) ∙ zeros-long lists
 
-used_once : {X : Type 0} (items : List X) (classes : List ℕ) (x : ℕ) → is_alone classes (counted_all (zeros items) classes) x ≡ true → how_often (class_of classes x) classes ≡ 1
+used_once : {X : Type 0} (items : List X) (classes : List ℕ) (x : ℕ) → is_alone classes (counted_all (zeros items) classes) x ≡ true → how_often (component_of classes x) classes ≡ 1
 used_once items classes x h =
-    let one : slice_index_or (counted_all (zeros items) classes) (class_of classes x) 0 ≡ 1 = eqb-true _ _ h in
-    let at = past_none (counted_all (zeros items) classes) (class_of classes x) (λ none. (let e : 1 ≡ 0 = sym one ∙ none in absurd (omega (arith, e)))) in
+    let one : slice_index_or (counted_all (zeros items) classes) (component_of classes x) 0 ≡ 1 = eqb-true _ _ h in
+    let at = past_none (counted_all (zeros items) classes) (component_of classes x) (λ none. (let e : 1 ≡ 0 = sym one ∙ none in absurd (omega (arith, e)))) in
     let long = counted-long classes (zeros items) in
     let long' = zeros-long items in
-    let told = counts_tell items (class_of classes x) classes (omega (arith, at, long, long')) in
+    let told = counts_tell items (component_of classes x) classes (omega (arith, at, long, long')) in
     omega (arith, one, told)
 
 pub alone_off_cycle : (lists : List (List ℕ)) (classes uses : List ℕ) (x : ℕ) → fall classes lists ≡ true → uses ≡ counted_all (zeros lists) classes
     → x < length lists → is_alone classes uses x ≡ true → leads lists x x ≡ false → is_on_cycle lists x ≡ false
 alone_off_cycle lists classes uses x falls same lt alone single = refuted _ (λ c. none (on_cycle-way lists x c))
   where
-    used : how_often (class_of classes x) classes ≡ 1
+    used : how_often (component_of classes x) classes ≡ 1
     used = used_once lists classes x (subst (λ u. is_alone classes u x ≡ true) same alone)
 
     meet : (z : ℕ) → leads lists x z ≡ true → Way lists z x → ⊥
@@ -150,7 +150,7 @@ alone_off_cycle lists classes uses x falls same lt alone single = refuted _ (λ 
           let up = falls_along classes lists falls rest in
           let long = long_enough classes classes lists falls in
           let there = begins lists rest in
-          let two = twice (class_of classes x) classes x z other (omega (arith, lt, long)) (omega (arith, there, long)) refl (omega (arith, down, up)) in
+          let two = twice (component_of classes x) classes x z other (omega (arith, lt, long)) (omega (arith, there, long)) refl (omega (arith, down, up)) in
           absurd (omega (arith, two, used)))
     ]
 
@@ -162,7 +162,7 @@ zeros_below : {X : Type 0} (items : List X) (ys : List ℕ) → are_below (zeros
 zeros_below items [] = refl
 zeros_below items (y ∷ ys) = and_both _ _ (small y) (zeros_below items ys)
   where
-    small : (y : ℕ) → nat_le (class_of (zeros items) y) 0 ≡ true
+    small : (y : ℕ) → nat_le (component_of (zeros items) y) 0 ≡ true
     small y = subst (λ k. nat_le k 0 ≡ true) (sym (zeros-none items y)) refl
 
 zeros_fall_from : {X : Type 0} (items : List X) (lists : List (List ℕ)) → fall_from (zeros items) (zeros lists) lists ≡ true

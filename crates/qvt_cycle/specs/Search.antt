@@ -26,12 +26,12 @@ missing [] = 0
 missing (b ∷ bs) = (if b then 0 else 1) + missing bs
 
 -- the class of a number
-abbrev pub class_of : List ℕ → ℕ → ℕ
-class_of classes x = slice_index_or classes x 0
+abbrev pub component_of : List ℕ → ℕ → ℕ
+component_of classes x = slice_index_or classes x 0
 
 -- no class of these is above n
 abbrev pub are_below : List ℕ → ℕ → List ℕ → Bool
-are_below classes n ys = list_all (λ y. nat_le (class_of classes y) n) ys
+are_below classes n ys = list_all (λ y. nat_le (component_of classes y) n) ys
 
 abbrev pub fall_from : List ℕ → List ℕ → List (List ℕ) → Bool
 fall_from classes ns [] = true
@@ -44,4 +44,4 @@ fall classes lists = fall_from classes classes lists
 
 -- the class of x stands once
 abbrev pub is_alone : List ℕ → List ℕ → ℕ → Bool
-is_alone classes uses x = slice_index_or uses (class_of classes x) 0 == 1
+is_alone classes uses x = slice_index_or uses (component_of classes x) 0 == 1

@@ -2,7 +2,7 @@
 
 ghost use Rattle.std.specs.Prelude.{◌≡◌, ◌<◌, ◌==◌, false, length, IfOk, IsTrue, slice_index_or};
 ghost use Rattle.qvt_cycle.specs.Successors.{among, is_on_cycle, leads};
-ghost use Rattle.qvt_cycle.specs.Search.{class_of, are_below, fall, is_alone};
+ghost use Rattle.qvt_cycle.specs.Search.{component_of, are_below, fall, is_alone};
 
 use crate::classes::classes;
 use crate::counts::{count_all, zeros};
@@ -19,8 +19,8 @@ pub struct Cycles {
     uses: Vec<u32>,
 }
 
-fn class_of(classes: &[u32], number: u32) -> u32
-    ensures { result ≡ class_of classes.now number }
+fn component_of(classes: &[u32], number: u32) -> u32
+    ensures { result ≡ component_of classes.now number }
 {
     let at = number as usize;
     if at < classes.len() { classes[at] } else { 0 }
@@ -30,7 +30,7 @@ fn are_below(classes: &[u32], class: u32, list: &[u32]) -> bool
     ensures { result ≡ are_below classes.now class list.now }
 {
     for number in list {
-        if class_of(classes, *number) > class {
+        if component_of(classes, *number) > class {
             return false;
         }
     }
@@ -79,11 +79,11 @@ fn leads_to_itself(lists: &[Positions], number: u32) -> bool
 }
 
 impl Cycles {
-    ghost use Rattle.qvt_cycle.specs.Ready.{IsReady};
+    ghost use Rattle.qvt_cycle.specs.Ready.{AreCyclesOf};
 
     /// Looks through a relation, in time linear in its lists.
     pub fn new(alloc: Global, lists: &[Positions]) -> Result<Cycles, ListFault>
-        ensures { IfOk result (IsReady lists.now) }
+        ensures { IfOk result (AreCyclesOf lists.now) }
     {
         let classes = falling_classes(alloc, lists)?;
         let mut uses = zeros(alloc, lists)?;
@@ -95,7 +95,7 @@ impl Cycles {
     fn is_alone(&self, number: u32) -> bool
         ensures { result ≡ is_alone self.now.classes.items self.now.uses.items number }
     {
-        let class = class_of(self.classes.as_slice(), number) as usize;
+        let class = component_of(self.classes.as_slice(), number) as usize;
         class < self.uses.len() && self.uses[class] == 1
     }
 
@@ -106,7 +106,7 @@ impl Cycles {
         lists: &[Positions],
         number: u32,
     ) -> Result<bool, ListFault>
-        requires ready { IsReady lists.now self.now }
+        requires ready { AreCyclesOf lists.now self.now }
         requires there { number < length lists.now }
         ensures { IfOk result (λ b. b ≡ is_on_cycle lists.now number) }
     {

@@ -19,7 +19,7 @@ use qvt_live_store::held::Held;
 use qvt_run_data::exit::End;
 use qvt_run_data::fault::RunFault;
 use qvt_run_data::late::LateWrite;
-use qvt_slots::fault::StoreFault;
+use qvt_store::fault::StoreFault;
 use qvt_value::value::{Value, Values};
 use std::alloc::Global;
 

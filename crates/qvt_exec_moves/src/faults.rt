@@ -6,7 +6,7 @@ ghost use Rattle.qvt_run_rules.specs.Store.{fault_of};
 use qvt_base::numbers::Place;
 use qvt_run_data::exit::{End, Exit, Halt};
 use qvt_run_data::fault::RunFault;
-use qvt_slots::fault::StoreFault;
+use qvt_store::fault::StoreFault;
 
 /// The run ends with this fault.
 pub(crate) fn faulted<A>(fault: RunFault, place: Place) -> Result<A, Halt>

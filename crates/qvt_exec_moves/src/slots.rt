@@ -8,7 +8,7 @@ use qvt_base::copied::Copied;
 use qvt_base::list_fault::ListFault;
 use qvt_base::seq::Seq;
 use qvt_ocl_lists::items::is_null;
-use qvt_slots::op::SetOp;
+use qvt_store::op::SetOp;
 use qvt_value::value::{Value, Values};
 use std::alloc::Global;
 use std::slice;

@@ -15,13 +15,13 @@ use qvt_base::numbers::{ClassNo, FeatureNo, Oid, Place};
 use qvt_base::seq::Seq;
 use qvt_exec_state::state::RunState;
 use qvt_exec_state::steps::misfit;
-use qvt_metamodel::info::TypeKind;
+use qvt_metas::info::TypeKind;
 use qvt_metas::metas::Metas;
 use qvt_run_data::exit::Halt;
 use qvt_run_data::late::LateWrite;
 use qvt_run_data::local::Local;
 use qvt_run_data::request::{Query, Request};
-use qvt_slots::op::SetOp;
+use qvt_store::op::SetOp;
 use qvt_value::value::{Var, Vars};
 use std::alloc::Global;
 

@@ -5,7 +5,7 @@ use Rattle.qvt_json.specs.Steps.{◌>>=◌}
 use Rattle.qvt_metamodel.specs.Metamodels.{Metamodels}
 use Rattle.qvt_model.specs.declared.data.ObjectData.{ObjectData}
 use Rattle.qvt_model.specs.WellFormed.{IsModel}
-use Rattle.qvt_conform.specs.Conformance.{IsWellFormed, conform_fault}
+use Rattle.qvt_conform.specs.Conformance.{IsSomeModel, conform_fault}
 use Rattle.qvt_conform.specs.declared.fault.ConformFault.{ConformFault}
 use Rattle.qvt_conform.specs.declared.fault.ConformFault.TheVariants as conform
 use Rattle.qvt_outcome.specs.Outcome.{refused}
@@ -15,7 +15,7 @@ use Rattle.qvt_outcome.specs.declared.stop.Stop.{Stop}
 use Rattle.qvt_outcome.proofs.Refused.{stops_at}
 use Rattle.qvt_inputs.specs.Conforming.{most_objects, few_objects, without_fault, conforming}
 
-pub well_formed_of : (m : Metamodels) (k : ℕ) (os : List ObjectData) → IsModel m k os → IsWellFormed m os
+pub well_formed_of : (m : Metamodels) (k : ℕ) (os : List ObjectData) → IsModel m k os → IsSomeModel m os
 well_formed_of m k os h = record { metamodel = k; model = h }
 
 few : (name : List ℕ) (n : ℕ) → nat_lt most_objects n ≡ false → few_objects name n ≡ Ok tt

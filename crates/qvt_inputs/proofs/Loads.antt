@@ -11,7 +11,7 @@ use Rattle.qvt_store.specs.Stay.{StaysIn}
 use Rattle.qvt_model.specs.IdTables.{id_in}
 use Rattle.qvt_model.specs.Loaded.{MembersStay}
 use Rattle.qvt_job.specs.declared.job.JobModel.{JobModel}
-use Rattle.qvt_outcome.specs.Steps.{Stops, Gives, IsFaultWith, IfFaultOf}
+use Rattle.qvt_outcome.specs.Steps.{Stops, GivesOrStops, IsFaultWith, IfFaultOf}
 use Rattle.qvt_outcome.specs.declared.stop.Stop.{Stop}
 use Rattle.qvt_outcome.specs.declared.stop.Stop.TheVariants as stop
 use Rattle.qvt_inputs.specs.declared.loaded.Loaded.{Loaded}
@@ -63,7 +63,7 @@ begins s ids none empty sound stays = record {
 }
 
 -- an input that was loaded, or for which there was no memory
-pub loaded_gives : (r : Result (Unit {0}) Stop) (new x : Loaded) → OnOk r (new ≡ x) → IfErr r (λ e. e ≡ stop.NoMemory) → Gives (λ _. new) r (Ok x)
+pub loaded_gives : (r : Result (Unit {0}) Stop) (new x : Loaded) → OnOk r (new ≡ x) → IfErr r (λ e. e ≡ stop.NoMemory) → GivesOrStops (λ _. new) r (Ok x)
 loaded_gives (Ok u) new x h k = ap Ok (sym h)
 loaded_gives (Err e) new x h k = subst (λ s. Stops s (Ok x)) (sym k) tt
 

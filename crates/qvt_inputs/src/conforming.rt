@@ -4,7 +4,7 @@ ghost use Rattle.std.specs.Prelude.{◌≡◌, ◌+◌, ◌<◌, ◌≤◌, leng
 ghost use Rattle.qvt_model.specs.WellFormed.{IsModel};
 ghost use Rattle.qvt_model.specs.Conforming.{Conforms};
 ghost use Rattle.qvt_outcome.specs.Follows.{Follows};
-ghost use Rattle.qvt_outcome.specs.Steps.{Gives, IfFaultOf, IsFaultWith, StopsBy};
+ghost use Rattle.qvt_outcome.specs.Steps.{GivesOrStops, IfFaultOf, IsFaultWith, StopsBy};
 ghost use Rattle.qvt_inputs.specs.Conforming.{most_objects, conforming, model_in, model_read};
 
 use qvt_base::outside::Files;
@@ -66,7 +66,7 @@ fn conforming(
     requires few { before ≤ 1000000 }
     requires model { IsModel metas.now metamodel model.objects }
     ensures no_reads { IfFaultOf result (λ file. ⊥) }
-    ensures gives { Gives (λ m. m.objects) result (conforming metas.now before name.now model.objects) }
+    ensures gives { GivesOrStops (λ m. m.objects) result (conforming metas.now before name.now model.objects) }
     ensures same { IfOk result (λ m. m.objects ≡ model.objects) }
     ensures room { IfOk result (λ m. before + length m.objects ≤ 1000000) }
     ensures conforms { IfOk result (λ m. Conforms metas.now m.objects) }
@@ -96,7 +96,7 @@ fn model_in(
     requires few { before ≤ 1000000 }
     requires live { metamodel < length metas.now.metamodels }
     ensures no_reads { IfFaultOf result (λ file. ⊥) }
-    ensures gives { Gives (λ m. m.objects) result (model_in metas.now metamodel before name.now bytes.now) }
+    ensures gives { GivesOrStops (λ m. m.objects) result (model_in metas.now metamodel before name.now bytes.now) }
     ensures model { IfOk result (λ m. IsModel metas.now metamodel m.objects) }
     ensures room { IfOk result (λ m. before + length m.objects ≤ 1000000) }
     ensures conforms { IfOk result (λ m. Conforms metas.now m.objects) }

@@ -10,9 +10,9 @@ use Rattle.serde_json.specs.Data.{Num, unsigned, negative, float, Data, null, bo
 use Rattle.serde_json.specs.Read.{of_json, of_items, of_members, number_of}
 use Rattle.serde_json.specs.Written.{outline, items_outline, members_outline, number_text}
 use Rattle.serde_json.proofs.Numbers.{number_of-decimal, number_of-negative}
-use Rattle.qvt_json.specs.Plain.{IsWhole, KeysAfter, IsPlain, ItemsPlain, MembersPlain}
+use Rattle.qvt_json.specs.Plain.{IsInteger, KeysAfter, IsPlain, ItemsPlain, MembersPlain}
 
-number_back : (n : Num) → IsWhole n → number_of (number_text n) ≡ Some n
+number_back : (n : Num) → IsInteger n → number_of (number_text n) ≡ Some n
 number_back (unsigned n) h = number_of-decimal n h
 number_back (negative (pos n)) h = absurd h
 number_back (negative (negsuc n)) h = number_of-negative n h
@@ -92,7 +92,7 @@ mutual
   members_depth-outline no_members = refl
   members_depth-outline (member k d ms) = λ i. max (depth-outline d i) (members_depth-outline ms i)
 
-is_number : (n : Num) → IsWhole n → tree.HasNumbers (json.number (number_text n))
+is_number : (n : Num) → IsInteger n → tree.HasNumbers (json.number (number_text n))
 is_number (unsigned n) h = IsNumber-decimal n h
 is_number (negative (pos n)) h = absurd h
 is_number (negative (negsuc n)) h = IsNumber-signed_decimal (negsuc n) (omega arith)

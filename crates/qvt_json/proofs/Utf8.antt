@@ -6,13 +6,13 @@ use Rattle.json.proofs.Printed.Utf8.{IsUtf8-quoted, IsUtf8-boolean, IsUtf8-are_a
 use Rattle.serde_json.specs.Data.{Num, unsigned, negative, float, Data, null, boolean, number, string, array, object, Items, no_items, item, Members, no_members, member}
 use Rattle.serde_json.specs.Find.{is_float}
 use Rattle.serde_json.specs.Written.{compact_text, items_text, members_text, number_text, comma_if, has_float, items_have_float, members_have_float}
-use Rattle.qvt_json.specs.Plain.{IsWhole, IsPlain, ItemsPlain, MembersPlain}
+use Rattle.qvt_json.specs.Plain.{IsInteger, IsPlain, ItemsPlain, MembersPlain}
 
 comma_is_utf8 : (b : Bool) → IsUtf8 (comma_if b)
 comma_is_utf8 true = IsUtf8-are_ascii (44 ∷ []) refl
 comma_is_utf8 false = IsUtf8-nil
 
-number_is_utf8 : (n : Num) → IsWhole n → IsUtf8 (number_text n)
+number_is_utf8 : (n : Num) → IsInteger n → IsUtf8 (number_text n)
 number_is_utf8 (unsigned n) h = IsUtf8-from_ascii _ (IsAscii-decimal n h)
 number_is_utf8 (negative (pos n)) h = absurd h
 number_is_utf8 (negative (negsuc n)) h = IsUtf8-from_ascii _ (IsAscii-signed (negsuc n) (omega arith))
@@ -40,7 +40,7 @@ mutual
       IsUtf8-append _ _ (comma_is_utf8 b) (IsUtf8-append _ _ (IsUtf8-quoted k h.0)
       (after_sign 58 _ (IsUtf8-are_ascii (58 ∷ []) refl) (IsUtf8-append _ _ (IsUtf8-compact_text d h.1) (members_are_utf8 true ms h.3))))
 
-is_whole : (n : Num) → IsWhole n → is_float n ≡ false
+is_whole : (n : Num) → IsInteger n → is_float n ≡ false
 is_whole (unsigned n) h = refl
 is_whole (negative z) h = refl
 is_whole (float x) h = absurd h

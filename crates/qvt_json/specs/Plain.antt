@@ -10,11 +10,11 @@ use Rattle.serde_json.specs.Written.{compact_text}
 use Rattle.qvt_json.specs.Json.{json}
 
 -- a whole number that fits 64 bits
-abbrev pub IsWhole : Num → Type 0
-IsWhole (unsigned n) = n < 2 ^ 64
-IsWhole (negative (pos n)) = ⊥
-IsWhole (negative (negsuc n)) = n < 2 ^ 63
-IsWhole (float x) = ⊥
+abbrev pub IsInteger : Num → Type 0
+IsInteger (unsigned n) = n < 2 ^ 64
+IsInteger (negative (pos n)) = ⊥
+IsInteger (negative (negsuc n)) = n < 2 ^ 63
+IsInteger (float x) = ⊥
 
 -- each key comes after this one in byte order
 abbrev pub KeysAfter : List ℕ → Members → Type 0
@@ -25,7 +25,7 @@ abbrev mutual
   pub IsPlain : Data → Type 0
   IsPlain null = ⊤
   IsPlain (boolean b) = ⊤
-  IsPlain (number n) = IsWhole n
+  IsPlain (number n) = IsInteger n
   IsPlain (string s) = IsUtf8 s
   IsPlain (array ds) = ItemsPlain ds
   IsPlain (object ms) = MembersPlain ms

@@ -8,9 +8,9 @@ use Rattle.qvt_metamodel.specs.declared.fault.MetaFault.TheVariants.{Json, Shape
 use Rattle.qvt_metamodel.specs.declared.declared.MetaData.{MetaData}
 use Rattle.qvt_meta_read.specs.MetaForm.{meta_form}
 use Rattle.qvt_meta_read.specs.DataOf.{meta_data}
-use Rattle.qvt_metamodel.specs.Checks.{Told, same_name, unknown_type, inheritance_cycle, bad_bounds, bad_opposite, same_feature}
+use Rattle.qvt_metamodel.specs.Checks.{ClassAndName, same_name, unknown_type, inheritance_cycle, bad_bounds, bad_opposite, same_feature}
 
-abbrev pub tell : (List ℕ → List ℕ → MetaFault) → Told → MetaFault
+abbrev pub tell : (List ℕ → List ℕ → MetaFault) → ClassAndName → MetaFault
 tell fault t = fault t.0 t.1
 
 -- the data, or the first of these checks that fails: of the features, after these of the classes, of the types, and all

@@ -1,19 +1,13 @@
 -- The data of a JSON value that has the form of a metamodel: what is missing has its default.
-use Rattle.std.specs.Prelude.{ℕ, List, [], ◌∷◌, Bool, true, false, Option, Some, None, unwrap_or, option_map, min, codes}
-use Rattle.serde_json.specs.Data.{Data, Items, no_items, item}
-use Rattle.serde_json.specs.Find.{get, as_str}
+use Rattle.std.specs.Prelude.{ℕ, List, Bool, true, false, Option, Some, None, unwrap_or, option_map, min, codes}
+use Rattle.serde_json.specs.Data.{Data, Items}
+use Rattle.serde_json.specs.Find.{get}
 use Rattle.qvt_json.specs.Json.{text_at, text_or, as_count, number_at, flag_at, items_or}
+pub use Rattle.qvt_json.specs.Json.{map_items, text_of}
 use Rattle.qvt_metamodel.specs.declared.info.EnumInfo.{EnumInfo}
 use Rattle.qvt_metamodel.specs.declared.declared.DeclaredFeature.{DeclaredFeature}
 use Rattle.qvt_metamodel.specs.declared.declared.DeclaredClass.{DeclaredClass}
 use Rattle.qvt_metamodel.specs.declared.declared.MetaData.{MetaData}
-
-abbrev pub map_items : {Y : Type 0} → (Data → Y) → Items → List Y
-map_items f no_items = []
-map_items f (item d ds) = f d ∷ map_items f ds
-
-abbrev pub text_of : Data → List ℕ
-text_of d = unwrap_or (as_str d) []
 
 -- bounds are at most 1,000,000, as their form asks
 abbrev pub bound : ℕ → ℕ

@@ -11,7 +11,7 @@ use Rattle.qvt_metamodel.specs.declared.info.ClassInfo.{ClassInfo}
 use Rattle.qvt_metamodel.specs.Metamodels.{class_at}
 use Rattle.qvt_metamodel.specs.Descends.{reaches}
 use Rattle.qvt_metamodel.specs.Kept.{is_marked, no_row}
-use Rattle.qvt_meta_tables.specs.Tables.{of_classes, IsOrder, IsWithin}
+use Rattle.qvt_meta_tables.specs.Tables.{of_classes, IsOrder, EndsWithin}
 use Rattle.qvt_metamodel.proofs.Ancestors.{one_more}
 use Rattle.qvt_metamodel.proofs.Bools.{and_left, and_right}
 use Rattle.qvt_metamodel.proofs.Rows.{no_mark}
@@ -38,16 +38,16 @@ live_at n [] i e h l = absurd (omega arith)
 live_at n (s ∷ ss) zero e h l = ltb-true s.0 n (and_left (nat_lt s.0 n) (list_all (λ s. nat_lt s.0 n) ss) h)
 live_at n (s ∷ ss) (suc i) e h l = live_at n ss i e (and_right (nat_lt s.0 n) (list_all (λ s. nat_lt s.0 n) ss) h) (omega arith)
 
-pub within_next : (n : ℕ) (rows : List Row) (place : ℕ) (row : Row) → ((c : ℕ) → IsWithin n (get_or rows c no_row)) → IsWithin n row → length rows ≡ n → (c : ℕ) → IsWithin n (get_or (set rows place row) c no_row)
+pub within_next : (n : ℕ) (rows : List Row) (place : ℕ) (row : Row) → ((c : ℕ) → EndsWithin n (get_or rows c no_row)) → EndsWithin n row → length rows ≡ n → (c : ℕ) → EndsWithin n (get_or (set rows place row) c no_row)
 within_next n rows place row all here each c = elim (cases_eq c place) [
   | inl same ↦ elim (leb_tells (suc place) n) [
-    | inl t ↦ subst (λ i. IsWithin n (get_or (set rows place row) i no_row)) (sym same) (subst (IsWithin n) (sym (get_or-set_same rows place row no_row (omega (arith, t.1, each)))) here)
-    | inr f ↦ subst (IsWithin n) (sym (get_or_past (set rows place row) c no_row (omega (arith, f.1, each, same, length_set rows place row)))) nothing
+    | inl t ↦ subst (λ i. EndsWithin n (get_or (set rows place row) i no_row)) (sym same) (subst (EndsWithin n) (sym (get_or-set_same rows place row no_row (omega (arith, t.1, each)))) here)
+    | inr f ↦ subst (EndsWithin n) (sym (get_or_past (set rows place row) c no_row (omega (arith, f.1, each, same, length_set rows place row)))) nothing
   ]
-  | inr other ↦ subst (IsWithin n) (sym (get_or-set_other rows place c row no_row other)) (all c)
+  | inr other ↦ subst (EndsWithin n) (sym (get_or-set_other rows place c row no_row other)) (all c)
 ]
   where
-    nothing : IsWithin n no_row
+    nothing : EndsWithin n no_row
     nothing = record { start = refl; words = omega arith }
 
     length_set : (rows : List Row) (place : ℕ) (row : Row) → length (set rows place row) ≡ length rows

@@ -17,7 +17,7 @@ use Rattle.qvt_metamodel.proofs.Lists.{list_any-map, all-found}
 use Rattle.qvt_meta_tables.specs.declared.visit.Visit.{Visit}
 use Rattle.qvt_meta_tables.specs.declared.visit.Visit.TheVariants.{Enter, Leave}
 use Rattle.qvt_meta_tables.specs.Tables.{of_classes, IsOrder}
-use Rattle.qvt_meta_tables.specs.Search.{class_of, is_leave, is_waiting, is_open, opens, stands_in, flag, unmarked, work, IsSuper, AreLive, IsAcyclic, Rise, Owe, IsClosed, IsSearch, place_of}
+use Rattle.qvt_meta_tables.specs.Search.{visited_class, is_leave, is_waiting, is_open, opens, stands_in, flag, unmarked_count, work, IsSuper, AreLive, IsAcyclic, Rise, Owe, IsClosed, IsSearch, place_of}
 use Rattle.qvt_meta_tables.proofs.Filling.{replicate-at}
 
 any_append : {X : Type 0} (p : X → Bool) (xs ys : List X) → list_any p (xs ++ ys) ≡ (list_any p xs || list_any p ys)
@@ -44,7 +44,7 @@ one_any : {X : Type 0} (p : X → Bool) (x : X) → p x ≡ true → list_any p 
 one_any p x h = or_left (p x) false h
 
 abbrev waits : ℕ → Visit → Bool
-waits c v = class_of v == c
+waits c v = visited_class v == c
 
 abbrev is_number : ℕ → ℕ → Bool
 is_number c d = d == c
@@ -52,8 +52,8 @@ is_number c d = d == c
 abbrev pub enters : List ClassNo → List Visit
 enters ss = map (λ s. Enter s.0) ss
 
-itself : (v : Visit) → is_waiting (class_of v) (v ∷ []) ≡ true
-itself v = one_any (waits (class_of v)) v (eq-eqb (class_of v) (class_of v) refl)
+itself : (v : Visit) → is_waiting (visited_class v) (v ∷ []) ≡ true
+itself v = one_any (waits (visited_class v)) v (eq-eqb (visited_class v) (visited_class v) refl)
 
 waiting_enters : (d : ℕ) (ss : List ClassNo) → is_waiting d (enters ss) ≡ list_any (λ s. s.0 == d) ss
 waiting_enters d ss = list_any-map (waits d) (λ (s : ClassNo). Enter s.0) ss
@@ -71,7 +71,7 @@ opens_enters : (ss : List ClassNo) → opens (enters ss) ≡ 0
 opens_enters [] = refl
 opens_enters (s ∷ ss) = opens_enters ss
 
-pub fewer_set : (marks : List Bool) (i : ℕ) → i < length marks → get_or marks i false ≡ false → unmarked marks ≡ 1 + unmarked (set marks i true)
+pub fewer_set : (marks : List Bool) (i : ℕ) → i < length marks → get_or marks i false ≡ false → unmarked_count marks ≡ 1 + unmarked_count (set marks i true)
 fewer_set [] i l h = absurd (omega arith)
 fewer_set (true ∷ marks) zero l h = absurd (cc)
 fewer_set (false ∷ marks) zero l h = refl
@@ -88,24 +88,24 @@ work_set (true ∷ marks) (k ∷ ks) (suc i) e l h = work_set marks ks i (omega 
 work_set (false ∷ marks) (k ∷ ks) (suc i) e l h =
     (let rest : work marks ks ≡ 1 + length (get_or ks i nowhere_class).supers + work (set marks i true) ks = work_set marks ks i (omega (arith, e)) (omega arith) h in omega (arith, rest))
 
-none_unmarked : (marks : List Bool) → ((c : ℕ) → c < length marks → get_or marks c false ≡ true) → unmarked marks ≡ 0
+none_unmarked : (marks : List Bool) → ((c : ℕ) → c < length marks → get_or marks c false ≡ true) → unmarked_count marks ≡ 0
 none_unmarked [] h = refl
 none_unmarked (true ∷ marks) h = none_unmarked marks (λ c l. h (suc c) (omega (arith, l)))
 none_unmarked (false ∷ marks) h = clash (h 0 (omega arith)) refl
 
-unmarked_all : (n : ℕ) → unmarked (replicate n false) ≡ n
+unmarked_all : (n : ℕ) → unmarked_count (replicate n false) ≡ n
 unmarked_all zero = refl
-unmarked_all (suc n) = (let rest : unmarked (replicate n false) ≡ n = unmarked_all n in omega (arith, rest))
+unmarked_all (suc n) = (let rest : unmarked_count (replicate n false) ≡ n = unmarked_all n in omega (arith, rest))
 
 module _ (ks : List ClassInfo) where
   rise_next : (vs : List Visit) (v : Visit) (tail : List Visit) → Rise ks (vs ++ v ∷ []) → Rise ks tail
-      → ((d : ℕ) → is_waiting d tail ≡ true → (class_of v ≡ d) ⊎ Closure (IsSuper ks) (class_of v) d) → Rise ks (vs ++ tail)
+      → ((d : ℕ) → is_waiting d tail ≡ true → (visited_class v ≡ d) ⊎ Closure (IsSuper ks) (visited_class v) d) → Rise ks (vs ++ tail)
   rise_next [] v tail r t from = t
   rise_next (Enter c ∷ vs) v tail r t from = rise_next vs v tail r t from
   rise_next (Leave c ∷ vs) v tail r t from = (after, rise_next vs v tail r.1 t from)
     where
-      last : Closure (IsSuper ks) c (class_of v)
-      last = r.0 (class_of v) (any_right (waits (class_of v)) vs (v ∷ []) (itself v))
+      last : Closure (IsSuper ks) c (visited_class v)
+      last = r.0 (visited_class v) (any_right (waits (visited_class v)) vs (v ∷ []) (itself v))
 
       after : (d : ℕ) → is_waiting d (vs ++ tail) ≡ true → Closure (IsSuper ks) c d
       after d h = elim (any_either (waits d) vs tail h) [
@@ -117,12 +117,12 @@ module _ (ks : List ClassInfo) where
       ]
 
   owe_next : (placed after : List ℕ) (vs : List Visit) (v : Visit) (tail : List Visit) → ((d : ℕ) → stands_in d placed ≡ true → stands_in d after ≡ true)
-      → Owe ks placed (vs ++ v ∷ []) → Owe ks after tail → (stands_in (class_of v) after ≡ true) ⊎ (is_waiting (class_of v) tail ≡ true) → Owe ks after (vs ++ tail)
+      → Owe ks placed (vs ++ v ∷ []) → Owe ks after tail → (stands_in (visited_class v) after ≡ true) ⊎ (is_waiting (visited_class v) tail ≡ true) → Owe ks after (vs ++ tail)
   owe_next placed after [] v tail more o t there = t
   owe_next placed after (Enter c ∷ vs) v tail more o t there = owe_next placed after vs v tail more o t there
   owe_next placed after (Leave c ∷ vs) v tail more o t there = (owes, owe_next placed after vs v tail more o.1 t there)
     where
-      last : (d : ℕ) → class_of v ≡ d → (stands_in d after ≡ true) ⊎ (is_waiting d (vs ++ tail) ≡ true)
+      last : (d : ℕ) → visited_class v ≡ d → (stands_in d after ≡ true) ⊎ (is_waiting d (vs ++ tail) ≡ true)
       last d same = elim there [
         | inl p ↦ inl (subst (λ x. stands_in x after ≡ true) same p)
         | inr w ↦ inr (any_right (waits d) vs tail (subst (λ x. is_waiting x tail ≡ true) same w))
@@ -133,7 +133,7 @@ module _ (ks : List ClassInfo) where
         | inl p ↦ inl (more d p)
         | inr w ↦ elim (any_either (waits d) vs (v ∷ []) w) [
           | inl old ↦ inr (any_left (waits d) vs tail old)
-          | inr new ↦ last d (eqb-true (class_of v) d (any_one (waits d) v new))
+          | inr new ↦ last d (eqb-true (visited_class v) d (any_one (waits d) v new))
         ]
       ]
 
@@ -142,11 +142,11 @@ module _ (ks : List ClassInfo) where
   owe_last placed (Enter x ∷ vs) c o d up = owe_last placed vs c o d up
   owe_last placed (Leave x ∷ vs) c o d up = owe_last placed vs c o.1 d up
 
-  rise_last : (vs : List Visit) (v : Visit) → Rise ks (vs ++ v ∷ []) → (c : ℕ) → is_open c vs ≡ true → Closure (IsSuper ks) c (class_of v)
+  rise_last : (vs : List Visit) (v : Visit) → Rise ks (vs ++ v ∷ []) → (c : ℕ) → is_open c vs ≡ true → Closure (IsSuper ks) c (visited_class v)
   rise_last [] v r c h = absurd (cc)
   rise_last (Enter d ∷ vs) v r c h = rise_last vs v r c h
   rise_last (Leave d ∷ vs) v r c h = elim (or_cases (d == c) (is_open c vs) h) [
-    | inl same ↦ subst (λ x. Closure (IsSuper ks) x (class_of v)) (eqb-true d c same) (r.0 (class_of v) (any_right (waits (class_of v)) vs (v ∷ []) (itself v)))
+    | inl same ↦ subst (λ x. Closure (IsSuper ks) x (visited_class v)) (eqb-true d c same) (r.0 (visited_class v) (any_right (waits (visited_class v)) vs (v ∷ []) (itself v)))
     | inr more ↦ rise_last vs v r.1 c more
   ]
 
@@ -283,7 +283,7 @@ module _ (ks : List ClassInfo) where
 
   pub all_placed : (met : List Bool) (placed : List ℕ) (vs : List Visit) → IsSearch ks met placed vs → vs ≡ [] → ((c : ℕ) → c < length ks → flag met c ≡ true) → length placed ≡ length ks
   all_placed met placed vs s e all =
-      (let none : unmarked met ≡ 0 = none_unmarked met (λ c l. all c (omega (arith, l, s.each))) in let shut : opens vs ≡ 0 = ap opens e in omega (arith, s.count, none, shut))
+      (let none : unmarked_count met ≡ 0 = none_unmarked met (λ c l. all c (omega (arith, l, s.each))) in let shut : opens vs ≡ 0 = ap opens e in omega (arith, s.count, none, shut))
 
   pub each_placed : (met : List Bool) (placed : List ℕ) (vs : List Visit) → IsSearch ks met placed vs → vs ≡ [] → (c : ℕ) → flag met c ≡ true → stands_in c placed ≡ true
   each_placed met placed vs s e c f = elim (s.seen c f) [ inl p ↦ p | inr o ↦ clash (subst (λ v. is_open c v ≡ true) e o) refl ]

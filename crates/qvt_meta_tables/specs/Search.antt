@@ -9,9 +9,9 @@ use Rattle.qvt_meta_tables.specs.declared.visit.Visit.{Visit}
 use Rattle.qvt_meta_tables.specs.declared.visit.Visit.TheVariants.{Enter, Leave}
 use Rattle.qvt_meta_tables.specs.Tables.{of_classes}
 
-abbrev pub class_of : Visit → ℕ
-class_of (Enter c) = c
-class_of (Leave c) = c
+abbrev pub visited_class : Visit → ℕ
+visited_class (Enter c) = c
+visited_class (Leave c) = c
 
 abbrev pub is_leave : ℕ → Visit → Bool
 is_leave c (Enter d) = false
@@ -19,7 +19,7 @@ is_leave c (Leave d) = d == c
 
 -- the class is to be entered or left
 abbrev pub is_waiting : ℕ → List Visit → Bool
-is_waiting c vs = list_any (λ v. class_of v == c) vs
+is_waiting c vs = list_any (λ v. visited_class v == c) vs
 
 -- the class is to be left
 abbrev pub is_open : ℕ → List Visit → Bool
@@ -38,10 +38,10 @@ abbrev pub flag : List Bool → ℕ → Bool
 flag marks c = slice_index_or marks c false
 
 -- how many are not marked
-abbrev pub unmarked : List Bool → ℕ
-unmarked [] = 0
-unmarked (true ∷ marks) = unmarked marks
-unmarked (false ∷ marks) = 1 + unmarked marks
+abbrev pub unmarked_count : List Bool → ℕ
+unmarked_count [] = 0
+unmarked_count (true ∷ marks) = unmarked_count marks
+unmarked_count (false ∷ marks) = 1 + unmarked_count marks
 
 -- how many visits the classes that are not marked still take: one to leave each, and one to enter each of its superclasses
 abbrev pub work : List Bool → List ClassInfo → ℕ
@@ -86,7 +86,7 @@ pub record IsSearch (ks : List ClassInfo) (met : List Bool) (placed : List ℕ) 
   pub owe : Owe ks placed visits
   pub seen : (c : ℕ) → IsTrue (flag met c) → IsTrue (stands_in c placed) ⊎ IsTrue (is_open c visits)
   pub closed : IsClosed ks placed
-  pub count : unmarked met + (length placed + opens visits) ≡ length ks
+  pub count : unmarked_count met + (length placed + opens visits) ≡ length ks
 
 -- the first place of a class in an order
 abbrev pub place_of : ℕ → List ℕ → ℕ

@@ -28,7 +28,7 @@ pub record IsOrder (m : Metamodels) (order ranks : List ℕ) : Type 0 where
   pub live : (c : ℕ) → IsTrue (list_all (λ s. nat_lt s.0 (length m.classes)) (class_at m c).supers)
 
 -- a row that is made here starts at the first class, and has no more words than there are classes
-pub record IsWithin (n : ℕ) (r : Row) : Type 0 where
+pub record EndsWithin (n : ℕ) (r : Row) : Type 0 where
   pub start : r.start ≡ 0
   pub words : r.skipped + length r.words ≤ n
 

@@ -4,7 +4,7 @@ ghost use Rattle.std.specs.Prelude.{replicate, nat_lt, IsTrue, ◌≡◌, ◌<�
 ghost use Rattle.std.specs.List.{list_any, list_all};
 ghost use Rattle.qvt_metamodel.specs.Descends.{reaches};
 ghost use Rattle.qvt_metamodel.specs.Kept.{no_row, is_marked};
-ghost use Rattle.qvt_meta_tables.specs.Tables.{of_classes, IsOrder, IsWithin, mark_of};
+ghost use Rattle.qvt_meta_tables.specs.Tables.{of_classes, IsOrder, EndsWithin, mark_of};
 
 use crate::order::Order;
 use crate::tables::{put, supers_at};
@@ -17,7 +17,7 @@ use std::alloc::Global;
 
 /// Where the words of a row end. Every class has a number below the bound.
 fn end_of(row: &Row, bound: u32) -> u32
-    requires { IsWithin bound row.now }
+    requires { EndsWithin bound row.now }
     ensures { result ≡ row.now.skipped + length row.now.words }
 {
     let _ = bound;
@@ -50,10 +50,10 @@ fn mark_of(class: u32, number: u32) -> u64
 /// A row with the marks of both and one for this class.
 fn with_row(alloc: Global, bound: u32, row: &Row, class: u32, other: &Row) -> Result<Row, ListFault>
     requires class { class < bound }
-    requires row { IsWithin bound row.now }
-    requires other { IsWithin bound other.now }
+    requires row { EndsWithin bound row.now }
+    requires other { EndsWithin bound other.now }
     ensures marks { IfOk result (λ r. (d : ℕ) → is_marked r d ≡ (is_marked row.now d || (class == d) || is_marked other.now d)) }
-    ensures within { IfOk result (λ r. IsWithin bound r) }
+    ensures within { IfOk result (λ r. EndsWithin bound r) }
 {
     let first = first_of(first_of(class / 64, row), other);
     let end = (class / 64 + 1)
@@ -74,9 +74,9 @@ fn with_row(alloc: Global, bound: u32, row: &Row, class: u32, other: &Row) -> Re
 fn row_at(alloc: Global, bound: u32, rows: &Vec<Row>, supers: &[ClassNo]) -> Result<Row, ListFault>
     requires count { length rows.now.items ≡ bound }
     requires live { IsTrue (list_all (λ s. nat_lt s.0 bound) supers.now) }
-    requires rows { (c : ℕ) → IsWithin bound (slice_index_or rows.now.items c no_row) }
+    requires rows { (c : ℕ) → EndsWithin bound (slice_index_or rows.now.items c no_row) }
     ensures marks { IfOk result (λ r. (d : ℕ) → is_marked r d ≡ list_any (λ s. (s.0 == d) || is_marked (slice_index_or rows.now.items s.0 no_row) d) supers.now) }
-    ensures within { IfOk result (λ r. IsWithin bound r) }
+    ensures within { IfOk result (λ r. EndsWithin bound r) }
 {
     let mut row = Row {
         start: 0,

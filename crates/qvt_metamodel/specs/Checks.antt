@@ -24,8 +24,8 @@ first_from f n [] = None
 first_from f n (x ∷ xs) = or_next (f n x) (first_from f (suc n) xs)
 
 -- a class and a name, as faults tell them
-abbrev pub Told : Type 0
-Told = List ℕ × List ℕ
+abbrev pub ClassAndName : Type 0
+ClassAndName = List ℕ × List ℕ
 
 -- of the enumerations, each its name and then its literals; then the classes
 abbrev pub same_enum : List (List ℕ) → List EnumInfo → Option (List ℕ)
@@ -43,10 +43,10 @@ abbrev pub type_names : MetaData → List (List ℕ)
 type_names d = primitive_names ++ enum_names d ++ class_names d
 
 -- a superclass that is no class, then a feature's type that is neither a primitive one, an enumeration nor a class
-abbrev pub unknown_in : MetaData → DeclaredClass → Option Told
+abbrev pub unknown_in : MetaData → DeclaredClass → Option ClassAndName
 unknown_in d k = option_map (λ name. (k.name, name)) (or_next (unknown (class_names d) k.supers) (unknown (type_names d) (map (λ f. f.kind) k.features)))
 
-unfoldable pub unknown_type : MetaData → Option Told
+unfoldable pub unknown_type : MetaData → Option ClassAndName
 unknown_type d = first_in (unknown_in d) d.classes
 
 -- class j is a superclass of class i
@@ -58,14 +58,14 @@ unfoldable pub inheritance_cycle : MetaData → Option (List ℕ)
 inheritance_cycle d = first_from (λ i k. if reaches (is_super d) (length d.classes) i i then Some k.name else None) zero d.classes
 
 -- a fault of a feature, told with its class
-abbrev pub feature_fault : (DeclaredClass → DeclaredFeature → Bool) → DeclaredClass → Option Told
+abbrev pub feature_fault : (DeclaredClass → DeclaredFeature → Bool) → DeclaredClass → Option ClassAndName
 feature_fault is k = first_in (λ f. if is k f then Some (k.name, f.name) else None) k.features
 
 abbrev pub is_below : ℕ → Option ℕ → Bool
 is_below lower None = false
 is_below lower (Some upper) = nat_lt upper lower
 
-unfoldable pub bad_bounds : MetaData → Option Told
+unfoldable pub bad_bounds : MetaData → Option ClassAndName
 bad_bounds d = first_in (feature_fault (λ k f. is_below f.lower f.upper)) d.classes
 
 abbrev pub is_name : Option (List ℕ) → List ℕ → Bool
@@ -118,12 +118,12 @@ has_many_containers d k f = not (is_one_at_most f.upper) && is_contained d k f
 abbrev pub is_bad_opposite : MetaData → DeclaredClass → DeclaredFeature → Bool
 is_bad_opposite d k f = has_no_class d f || may_repeat f || is_undeclared d k f || is_own_opposite k f || are_both_containments d k f || has_many_containers d k f
 
-unfoldable pub bad_opposite : MetaData → Option Told
+unfoldable pub bad_opposite : MetaData → Option ClassAndName
 bad_opposite d = first_in (feature_fault (is_bad_opposite d)) d.classes
 
 -- the first feature of a class whose name an earlier one has
 abbrev pub repeated_feature : Metamodels → ℕ → Option (List ℕ)
 repeated_feature m c = repeated [] (map (λ f. (feature_at m f.0).name) (features_of m c))
 
-unfoldable pub same_feature : MetaData → Option Told
+unfoldable pub same_feature : MetaData → Option ClassAndName
 same_feature d = first_from (λ i k. option_map (λ name. (k.name, name)) (repeated_feature (numbered d) i)) zero d.classes

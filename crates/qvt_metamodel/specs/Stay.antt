@@ -4,7 +4,7 @@ use Rattle.qvt_metamodel.specs.Metamodels.{Metamodels, class_at, feature_at, fea
 use Rattle.qvt_metamodel.specs.Descends.{descends}
 use Rattle.qvt_metamodel.specs.Named.{metamodel_at, metamodel_named, class_named, feature_named, enumeration_named, literal_named}
 
-pub record StaysIn (m w : Metamodels) : Type 0 where
+pub record NumbersStay (m w : Metamodels) : Type 0 where
   -- a number is that of the same metamodel, with its enumerations and their literals, of the same class, of the same feature
   pub metamodel : (k : ℕ) → k < length m.metamodels → metamodel_at w k ≡ metamodel_at m k
   pub class : (c : ℕ) → c < length m.classes → class_at w c ≡ class_at m c

@@ -34,7 +34,7 @@ use Rattle.qvt_metamodel.proofs.Order.{acyclic, antisymmetric, transitive, inher
 use Rattle.qvt_metamodel.proofs.Regular.{regular, regular_of}
 use Rattle.qvt_metamodel.proofs.Stable.{no-features-past}
 use Rattle.qvt_metamodel.proofs.FeatureNames.{distinct, found_feature}
-use Rattle.qvt_metamodel.specs.Stay.{StaysIn}
+use Rattle.qvt_metamodel.specs.Stay.{NumbersStay}
 use Rattle.qvt_metas.proofs.GoesOn.{stays_in, GoesOn, metamodel_old, class_old, feature_old, features_old, reaches_old, class_named_old, feature_named_old}
 
 no_text : is_utf8 [] ≡ true
@@ -596,5 +596,5 @@ module _ (m : Metamodels) (cs : List ClassData) where
       ancestors = t.ancestors;
     })
 
-pub extended_stays : (m : Metamodels) (cs : List ClassData) (ranks : List ℕ) → IsWellFormed m → AreRanks m ranks → m.element ≡ None → StaysIn m (extended m cs)
-extended_stays m cs ranks wm am alone = subst (StaysIn m) (sym (is_extended m cs)) (stays_in m (W m cs) ranks wm am (goes_on m cs alone))
+pub extended_stays : (m : Metamodels) (cs : List ClassData) (ranks : List ℕ) → IsWellFormed m → AreRanks m ranks → m.element ≡ None → NumbersStay m (extended m cs)
+extended_stays m cs ranks wm am alone = subst (NumbersStay m) (sym (is_extended m cs)) (stays_in m (W m cs) ranks wm am (goes_on m cs alone))

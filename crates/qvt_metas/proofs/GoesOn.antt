@@ -14,7 +14,7 @@ use Rattle.qvt_metamodel.specs.Descends.{reaches, is_above}
 use Rattle.qvt_metamodel.specs.Named.{metamodel_at, nowhere_metamodel, nowhere_enumeration, is_text, class_named, feature_named}
 use Rattle.qvt_metamodel.specs.WellFormed.{IsWellFormed}
 use Rattle.qvt_metamodel.specs.Kept.{AreRanks}
-use Rattle.qvt_metamodel.specs.Stay.{StaysIn}
+use Rattle.qvt_metamodel.specs.Stay.{NumbersStay}
 use Rattle.qvt_metamodel.specs.declared.begin.Begin.{Begin}
 use Rattle.qvt_metamodel.specs.declared.declared.MetaData.{MetaData}
 use Rattle.qvt_metamodel.specs.Joined.{joined, first_some, begin_after, class_info_on, feature_info_on}
@@ -95,7 +95,7 @@ module _ (m w : Metamodels) (ranks : List ℕ) (wm : IsWellFormed m) (am : AreRa
       (all-imply (λ (g : FeatureNo). g.0 < length m.features) (λ (g : FeatureNo). bytes_eq name (feature_at w g.0).name ≡ bytes_eq name (feature_at m g.0).name) (features_of m c)
       (λ g live. ap (λ (x : FeatureInfo). bytes_eq name x.name) (feature_old g.0 live)) (all-among (λ x. x < length m.features) (features_of m c) (wm.live_feature c)))
 
-  pub stays_in : StaysIn m w
+  pub stays_in : NumbersStay m w
   stays_in = record {
     metamodel = metamodel_old;
     class = class_old;
@@ -128,5 +128,5 @@ added_goes_on m d = record {
   element = λ c l. ap (λ o. is_class_number o c) (first_none m.element);
 }
 
-pub added_stays : (m : Metamodels) (ranks : List ℕ) → IsWellFormed m → AreRanks m ranks → (d : MetaData) → StaysIn m (added m d)
+pub added_stays : (m : Metamodels) (ranks : List ℕ) → IsWellFormed m → AreRanks m ranks → (d : MetaData) → NumbersStay m (added m d)
 added_stays m ranks wm am d = stays_in m (added m d) ranks wm am (added_goes_on m d)

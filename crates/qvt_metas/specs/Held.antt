@@ -25,7 +25,7 @@ pub record ArePlaced (numbers : List ℕ) (lists : List (List FeatureNo)) (order
   pub each : length orders ≡ length lists
   pub at : (c : ℕ) → c < length lists → IsOrdered numbers (slice_index_or lists c []) (slice_index_or orders c None)
 
-pub record IsHeld (m : Metamodels) (lists : List (List FeatureNo)) (rows : List Row) (ranks : List ℕ) (names : List (List (List ℕ × ℕ))) (table : List (List ℕ × ℕ)) (numbers : List ℕ) (orders : List (Option (List ℕ))) (enumerations : List EnumTable) : Type 0 where
+pub record IsMetasKept (m : Metamodels) (lists : List (List FeatureNo)) (rows : List Row) (ranks : List ℕ) (names : List (List (List ℕ × ℕ))) (table : List (List ℕ × ℕ)) (numbers : List ℕ) (orders : List (Option (List ℕ))) (enumerations : List EnumTable) : Type 0 where
   pub kept : IsKept m lists rows ranks
   pub each : length names ≡ length m.metamodels
   pub named : (k : ℕ) → k < length m.metamodels → (name : List ℕ) → lookup (bytes_eq name) (slice_index_or names k []) ≡ class_named m k name

@@ -7,5 +7,6 @@ pub mod meta;
 pub mod metas;
 pub mod numbered;
 
-pub use qvt_meta_tables::{number_set, tables};
-pub use qvt_metamodel::info;
+pub use qvt_meta_names::name_table;
+pub use qvt_meta_tables::{number_set, order, tables};
+pub use qvt_metamodel::{fault, given, info, numbering};

@@ -71,13 +71,13 @@ impl Drop for Metas {
 
 impl Model for Metas {
     ghost use Rattle.qvt_metamodel.specs.Metamodels.{Metamodels};
-    ghost use Rattle.qvt_metas.specs.Held.{IsHeld};
+    ghost use Rattle.qvt_metas.specs.Held.{IsMetasKept};
 
     ghost Value = { Metamodels };
 
     ghost view = { λ m. record { metamodels = m.metamodels.items; classes = m.classes.items; features = m.features.items; element = m.element } };
 
-    ghost invariant = { λ m. IsHeld (record { metamodels = m.metamodels.items; classes = m.classes.items; features = m.features.items; element = m.element }) m.lists.items m.rows.items m.ranks.items m.names.items m.feature_names m.numbers.items m.orders.items m.enum_tables.items };
+    ghost invariant = { λ m. IsMetasKept (record { metamodels = m.metamodels.items; classes = m.classes.items; features = m.features.items; element = m.element }) m.lists.items m.rows.items m.ranks.items m.names.items m.feature_names m.numbers.items m.orders.items m.enum_tables.items };
 }
 
 impl Metas {
@@ -533,13 +533,13 @@ impl Metas {
     /// A law: when a metamodel is added, and when Element and given classes are, the numbers that
     /// were there stay, and each look-up says of them what it said.
     pub fn numbers_stay(&self)
-        ensures added { (d : MetaData) → StaysIn self.now (added self.now d) }
-        ensures extended { self.now.element ≡ None → (classes : List ClassData) → StaysIn self.now (extended self.now classes) }
+        ensures added { (d : MetaData) → NumbersStay self.now (added self.now d) }
+        ensures extended { self.now.element ≡ None → (classes : List ClassData) → NumbersStay self.now (extended self.now classes) }
     {
         let _ = &self.classes;
     }
 
-    ghost use Rattle.qvt_metamodel.specs.Stay.{StaysIn};
+    ghost use Rattle.qvt_metamodel.specs.Stay.{NumbersStay};
     ghost use Rattle.qvt_metamodel.specs.declared.declared.MetaData.{MetaData};
     ghost use Rattle.qvt_metamodel.specs.declared.given.ClassData.{ClassData};
     ghost use Rattle.qvt_metamodel.specs.Metamodels.{is_element};

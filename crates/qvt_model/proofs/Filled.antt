@@ -24,7 +24,7 @@ use Rattle.qvt_model.specs.declared.data.ObjectData.{ObjectData}
 use Rattle.qvt_model.specs.WellFormed.{IsSlot, ComeAfter, AreInOrder, IsObject}
 use Rattle.qvt_model.specs.Items.{items_in}
 use Rattle.qvt_model.specs.Loaded.{value_at, list_in, instance_at}
-use Rattle.qvt_model.specs.Steps.{added, put_slot, slot_values, put_slots, put_objects}
+use Rattle.qvt_model.specs.Steps.{objects_added, put_slot, slot_values, put_slots, put_objects}
 
 -- ---- slots without repeats
 
@@ -154,7 +154,7 @@ all_filled m well k e n all [] h = refl
 all_filled m well k e n all (o ∷ os) h = λ i. filled m well k e n all o h.0 i ∷ all_filled m well k e n all os h.1 i
 
 -- the store with the objects added
-pub added_is : (s : Contents) (e : ℕ) (os : List ObjectData) → added s e os ≡ record s { objects = s.objects ++ map (empty_of s.metas e) os }
+pub added_is : (s : Contents) (e : ℕ) (os : List ObjectData) → objects_added s e os ≡ record s { objects = s.objects ++ map (empty_of s.metas e) os }
 added_is s e [] = ap (λ (l : List Instance). record s { objects = l }) (sym (app_none s.objects))
 added_is s e (o ∷ os) = added_is (with_new s o.class.0 e) e os ∙ ap (λ (l : List Instance). record s { objects = l }) (push_app s.objects (empty_of s.metas e o) (map (empty_of s.metas e) os))
 

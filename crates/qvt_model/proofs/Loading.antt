@@ -16,7 +16,7 @@ use Rattle.qvt_model.specs.WellFormed as parts
 use Rattle.qvt_model.specs.Items.{items_in}
 use Rattle.qvt_model.specs.Loaded.{loaded, IsLoadable}
 use Rattle.qvt_model.specs.Conforming.{slots_at, Conforms}
-use Rattle.qvt_model.specs.Steps.{added, CanAdd, put_objects, with_objects, CanPutObjects}
+use Rattle.qvt_model.specs.Steps.{objects_added, CanAdd, put_objects, with_objects, CanPutObjects}
 use Rattle.qvt_model.proofs.Shift.{HeldItem, has-shift}
 use Rattle.qvt_model.proofs.Final.{final, slot-old, slot-new, new_held, old_held, beyond}
 use Rattle.qvt_model.proofs.Filled.{empty_of, added_is, put_is}
@@ -40,7 +40,7 @@ module _ (s : Contents) (e k : ℕ) (all : List ObjectData) (load : IsLoadable s
       here : IsObject s.metas (extent_at s e).metamodel all o
       here = h.0
 
-add_loading : (s : Contents) (e : ℕ) (os : List ObjectData) → CanAdd s e os → SoundButOpposites s → SoundButOpposites (added s e os)
+add_loading : (s : Contents) (e : ℕ) (os : List ObjectData) → CanAdd s e os → SoundButOpposites s → SoundButOpposites (objects_added s e os)
 add_loading s e [] can sound = sound
 add_loading s e (o ∷ os) can sound = add_loading (with_new s o.class.0 e) e os can.1 (add_keeps_loading s o.class.0 e can.0 sound)
 
@@ -64,10 +64,10 @@ module _ (s : Contents) (e : ℕ) (os : List ObjectData) (load : IsLoadable s e 
   put = all_put s e k os load.model typed acyclic conforms
 
   -- in the store with the objects added
-  pub puts : CanPutObjects (added s e os).metas (added s e os).extents n n (added s e os).objects os
+  pub puts : CanPutObjects (objects_added s e os).metas (objects_added s e os).extents n n (objects_added s e os).objects os
   puts = subst (λ (t : Contents). CanPutObjects t.metas t.extents n n t.objects os) (sym (added_is s e os)) put.can
 
-  pub gives : with_objects (added s e os) (put_objects (added s e os).metas n n (added s e os).objects os) ≡ loaded s e os
+  pub gives : with_objects (objects_added s e os) (put_objects (objects_added s e os).metas n n (objects_added s e os).objects os) ≡ loaded s e os
   unfolding loaded
   gives = ap (λ (t : Contents). with_objects t (put_objects t.metas n n t.objects os)) (added_is s e os) ∙ ap (λ (l : List Instance). with_objects s l) (put_is m well k e s.objects os load.model.objects)
 

@@ -18,7 +18,7 @@ use Rattle.qvt_metamodel.specs.Named.{metamodel_at, class_named, literal_named, 
 use Rattle.qvt_metamodel.specs.WellFormed.{IsWellFormed}
 use Rattle.qvt_json.specs.Json.{map_items}
 use Rattle.qvt_json.specs.Leaves.{is_id}
-use Rattle.qvt_model.specs.Reading.{id_of, class_of, feature_of, features_known, object_known, distinct_ids, class_at_place, ref_at, ref_of, literal_in, datum_of, one_item, items_of as slot_items_of, slot_of, slots_of, object_of, is_dangling, slots_dangling, dangling, model_from, numbered_class}
+use Rattle.qvt_model.specs.Reading.{id_of, class_read, feature_of, features_known, object_known, distinct_ids, class_at_place, ref_at, ref_of, literal_in, datum_of, one_item, items_read, slot_read, slots_of, object_read, is_dangling, slots_dangling, dangling, model_from, numbered_class}
 use Rattle.qvt_model.specs.WellFormed.{object_at, no_object, ids, differ, IsItem, IsSlot, IsObject, IsModel, HoldsOne, IsStorable}
 use Rattle.qvt_model.specs.Written.{datum_value, first_value, slot_value, slot_members, object_value, object_values}
 use Rattle.qvt_model.specs.declared.places.Places.{Places}
@@ -37,8 +37,8 @@ integer-back (pos n) h = let lt : n < 2 ^ 63 = h.sfits in rw (lt-ltb n (2 ^ 63) 
 integer-back (negsuc n) h = refl
 
 module _ (m : Metamodels) (k : ℕ) (os : List ObjectData) (named : IsWellFormed m) (name : (metamodel_at m k).name ≢ []) (model : IsModel m k os) (storable : IsStorable m os) where
-  class-back : (o : ObjectData) → IsObject m k os o → class_of m k (object_value m os o) ≡ Ok o.class
-  unfolding class_of
+  class-back : (o : ObjectData) → IsObject m k os o → class_read m k (object_value m os o) ≡ Ok o.class
+  unfolding class_read
   class-back o h =
       let there : (metamodel_at m (class_at m o.class.0).metamodel).name ≢ [] = λ e. name (ap (λ n. (metamodel_at m n).name) (sym h.metamodel) ∙ e) in
       let found : class_named m k (class_at m o.class.0).name ≡ Some o.class.0 =
@@ -115,23 +115,23 @@ module _ (m : Metamodels) (k : ℕ) (os : List ObjectData) (named : IsWellFormed
       let kind = (shape_of m s.feature.0).kind in
       All-weaken (IsItem m os kind) (λ x. datum_of m (places_of os) kind (datum_value m os x) ≡ Some x) (λ x i. datum-back kind x i) s.items h.items
 
-  items-back : (c : ℕ) (s : SlotData) → IsSlot m os c s → HoldsOne m s → slot_items_of m (places_of os) s.feature (slot_value m os s) ≡ Some s.items
-  unfolding slot_items_of
+  items-back : (c : ℕ) (s : SlotData) → IsSlot m os c s → HoldsOne m s → items_read m (places_of os) s.feature (slot_value m os s) ≡ Some s.items
+  unfolding items_read
   items-back c s h holds = by (is_single m s.feature.0) refl
     where
-      by : (b : Bool) → is_single m s.feature.0 ≡ b → slot_items_of m (places_of os) s.feature (slot_value m os s) ≡ Some s.items
+      by : (b : Bool) → is_single m s.feature.0 ≡ b → items_read m (places_of os) s.feature (slot_value m os s) ≡ Some s.items
       by true is = rw is (first-back (datum_of m (places_of os) (shape_of m s.feature.0).kind) s.items h.some (holds.one is) (items-of-type c s h))
       by false is = rw is (all_items-back (datum_of m (places_of os) (shape_of m s.feature.0).kind) (datum_value m os) s.items (items-of-type c s h))
 
   slots-back : (c : ClassNo) (id : List ℕ) (ss : List SlotData) → AllByRecursion (IsSlot m os c.0) ss → AllByRecursion (HoldsOne m) ss → slots_of m (places_of os) c id (slot_members m os ss) ≡ Ok ss
-  unfolding slot_of feature_of
+  unfolding slot_read feature_of
   slots-back c id [] a b = refl
   slots-back c id (s ∷ ss) a b =
       let some : nat_lt 0 (length s.items) ≡ true = lt-ltb 0 (length s.items) a.0.some in
       rw (named.feature_found c.0 s.feature.0 a.0.own, items-back c.0 s a.0 b.0, slots-back c id ss a.1 b.1, some)
 
-  object-back : (o : ObjectData) → IsObject m k os o → AllByRecursion (HoldsOne m) o.slots → object_of m k (places_of os) (object_value m os o) ≡ Ok o
-  unfolding object_of
+  object-back : (o : ObjectData) → IsObject m k os o → AllByRecursion (HoldsOne m) o.slots → object_read m k (places_of os) (object_value m os o) ≡ Ok o
+  unfolding object_read
   object-back o h ones = rw (class-back o h, slots-back o.class o.id o.slots h.slots ones)
 
   not-dangling : (kind : TypeKind) (x : Datum) → IsItem m os kind x → is_dangling (length os) x ≡ false
@@ -178,8 +178,8 @@ module _ (m : Metamodels) (k : ℕ) (os : List ObjectData) (named : IsWellFormed
   pub model_from-object_values : model_from m k (object_values m os) ≡ Ok os
   unfolding model_from distinct_ids
   model_from-object_values =
-      let classes = each_item-is (class_of m k) (object_value m os) (λ o. o.class) os (All-weaken (IsObject m k os) (λ o. class_of m k (object_value m os o) ≡ Ok o.class) (λ o h. class-back o h) os model.objects) in
+      let classes = each_item-is (class_read m k) (object_value m os) (λ o. o.class) os (All-weaken (IsObject m k os) (λ o. class_read m k (object_value m os o) ≡ Ok o.class) (λ o h. class-back o h) os model.objects) in
       let features = walk_items-ok (object_known m k) (object_value m os) os (All-weaken (IsObject m k os) (λ o. object_known m k (object_value m os o) ≡ Ok tt) (λ o h. object-known o h) os model.objects) in
-      let objects = each_item-back (object_of m k (places_of os)) (object_value m os) os
-      (All-both (IsObject m k os) (λ o. AllByRecursion (HoldsOne m) o.slots) (λ o. object_of m k (places_of os) (object_value m os o) ≡ Ok o) (λ o h ones. object-back o h ones) os model.objects storable.ones) in
+      let objects = each_item-back (object_read m k (places_of os)) (object_value m os) os
+      (All-both (IsObject m k os) (λ o. AllByRecursion (HoldsOne m) o.slots) (λ o. object_read m k (places_of os) (object_value m os o) ≡ Ok o) (λ o h ones. object-back o h ones) os model.objects storable.ones) in
       rw (ids-back os, repeated-differ (ids os) model.ids, classes, features, objects, none-dangling os model.objects)

@@ -26,7 +26,7 @@ use Rattle.qvt_json.specs.Plain.{KeysAfter}
 use Rattle.qvt_json.specs.Repeated.{repeated}
 use Rattle.qvt_json.specs.Steps.{◌>>=◌, or_fault, none_of, or_next, each_item, walk_items, all_items}
 use Rattle.qvt_json.proofs.Ordered.{some-injective, both-some, map-some, IsOrdered, ItemsOrdered, MembersOrdered, members_or-ordered}
-use Rattle.qvt_model.specs.Reading.{id_of, slots_in, numbered_class, distinct_ids, class_of, feature_of, object_known, class_at_place, ref_at, ref_of, literal_in, datum_of, one_item, items_of, slot_of, has_items, with_slot, slots_of, object_of, is_dangling, slots_dangling, dangling, model_from}
+use Rattle.qvt_model.specs.Reading.{id_of, slots_in, numbered_class, distinct_ids, class_read, feature_of, object_known, class_at_place, ref_at, ref_of, literal_in, datum_of, one_item, items_read, slot_read, has_items, with_filled_slot, slots_of, object_read, is_dangling, slots_dangling, dangling, model_from}
 use Rattle.qvt_model.specs.WellFormed.{object_at, no_object, ids, differ, IsItem, IsPlainDatum, IsPlainSlot, IsPlainObject, IsSlot, ComeAfter, AreInOrder, IsObject, IsModel}
 use Rattle.qvt_model.specs.declared.places.Places.{Places}
 use Rattle.qvt_model.specs.declared.data.Datum.{Datum}
@@ -44,8 +44,8 @@ not-false false e = cc
 
 -- ---- classes and features
 
-class-parts : (m : Metamodels) (k : ℕ) (d : Data) (c : ClassNo) → class_of m k d ≡ Ok c → (c.0 < length m.classes) × ((class_at m c.0).metamodel ≡ k)
-unfolding class_of
+class-parts : (m : Metamodels) (k : ℕ) (d : Data) (c : ClassNo) → class_read m k d ≡ Ok c → (c.0 < length m.classes) × ((class_at m c.0).metamodel ≡ k)
+unfolding class_read
 class-parts m k d c e =
     let name = text_or (codes "class") d in
     let found = map-some numbered_class (class_named m k name) c (ok-or_fault (UnknownClass (id_of d)) (option_map numbered_class (class_named m k name)) c e) in
@@ -137,8 +137,8 @@ module _ (m : Metamodels) (places : Places) (os : List ObjectData) (classes : pl
       let q = both-some (all_items (datum_of m places kind)) (as_array v) xs e in
       all_items-all (datum_of m places kind) Fine (IsItem m os kind) (λ d x is fine. datum-item kind d x is fine.0 fine.1) q.0 xs q.2 a
 
-  slot-items : (f : FeatureNo) (v : Data) (xs : List Datum) → items_of m places f v ≡ Some xs → AllByRecursion Fine xs → AllByRecursion (IsItem m os (shape_of m f.0).kind) xs
-  unfolding items_of
+  slot-items : (f : FeatureNo) (v : Data) (xs : List Datum) → items_read m places f v ≡ Some xs → AllByRecursion Fine xs → AllByRecursion (IsItem m os (shape_of m f.0).kind) xs
+  unfolding items_read
   slot-items f v xs e a = by (is_single m f.0) e
     where
       by : (b : Bool) → cond b (one_item (datum_of m places (shape_of m f.0).kind) v) (option_and_then (all_items (datum_of m places (shape_of m f.0).kind)) (as_array v)) ≡ Some xs
@@ -151,16 +151,16 @@ module _ (m : Metamodels) (places : Places) (os : List ObjectData) (classes : pl
   pub record HasParts (c : ClassNo) (name : List ℕ) (v : Data) (s : SlotData) : Type 0 where
     pub own : IsTrue (has_feature m c.0 s.feature.0)
     pub named : (feature_at m s.feature.0).name ≡ name
-    pub items : items_of m places s.feature v ≡ Some s.items
+    pub items : items_read m places s.feature v ≡ Some s.items
 
-  slot-parts : (c : ClassNo) (id name : List ℕ) (v : Data) (s : SlotData) → slot_of m places c id name v ≡ Ok s → HasParts c name v s
-  unfolding slot_of
+  slot-parts : (c : ClassNo) (id name : List ℕ) (v : Data) (s : SlotData) → slot_read m places c id name v ≡ Ok s → HasParts c name v s
+  unfolding slot_read
   slot-parts c id name v s e =
-      let f = ok-bind (feature_of m c id name) (λ f. or_fault (WrongValue id name) (items_of m places f v) >>= λ xs. Ok (record { feature = f; items = xs })) s e in
-      let xs = ok-bind (or_fault (WrongValue id name) (items_of m places f.0 v)) (λ xs. Ok (record { feature = f.0; items = xs })) s f.2 in
+      let f = ok-bind (feature_of m c id name) (λ f. or_fault (WrongValue id name) (items_read m places f v) >>= λ xs. Ok (record { feature = f; items = xs })) s e in
+      let xs = ok-bind (or_fault (WrongValue id name) (items_read m places f.0 v)) (λ xs. Ok (record { feature = f.0; items = xs })) s f.2 in
       let same = ok-injective (record { feature = f.0; items = xs.0 }) s xs.2 in
       let parts = feature-parts m c id name f.0 f.1 in
-      subst (HasParts c name v) same (record { own = parts.0; named = parts.1; items = ok-or_fault (WrongValue id name) (items_of m places f.0 v) xs.0 xs.1 })
+      subst (HasParts c name v) same (record { own = parts.0; named = parts.1; items = ok-or_fault (WrongValue id name) (items_read m places f.0 v) xs.0 xs.1 })
 
   dangling-parts : (id : List ℕ) (s : SlotData) (ss : List SlotData) → slots_dangling m (length os) id (s ∷ ss) ≡ None → (list_any (is_dangling (length os)) s.items ≡ false) × (slots_dangling m (length os) id ss ≡ None)
   dangling-parts id s ss e = by (list_any (is_dangling (length os)) s.items) refl e
@@ -180,12 +180,12 @@ module _ (m : Metamodels) (places : Places) (os : List ObjectData) (classes : pl
   slots-after : (c : ClassNo) (id name : List ℕ) (ms : Members) (ss : List SlotData) → slots_of m places c id ms ≡ Ok ss → KeysAfter name ms → ComeAfter m name ss
   slots-after c id name no_members ss e a = subst (ComeAfter m name) (ok-injective [] ss e) tt
   slots-after c id name (member key v ms) ss e a =
-      let s = ok-bind (slot_of m places c id key v) (λ s. slots_of m places c id ms >>= λ ts. Ok (with_slot s ts)) ss e in
-      let ts = ok-bind (slots_of m places c id ms) (λ ts. Ok (with_slot s.0 ts)) ss s.2 in
+      let s = ok-bind (slot_read m places c id key v) (λ s. slots_of m places c id ms >>= λ ts. Ok (with_filled_slot s ts)) ss e in
+      let ts = ok-bind (slots_of m places c id ms) (λ ts. Ok (with_filled_slot s.0 ts)) ss s.2 in
       let parts = slot-parts c id key v s.0 s.1 in
       let above : slice_cmp nat_cmp (feature_at m s.0.feature.0).name name ≡ Greater = ap (λ n. slice_cmp nat_cmp n name) parts.named ∙ a.0 in
       let rest : ComeAfter m name ts.0 = slots-after c id name ms ts.0 ts.1 a.1 in
-      subst (ComeAfter m name) (ok-injective (with_slot s.0 ts.0) ss ts.2) (joined (has_items s.0) s.0 ts.0 name above rest)
+      subst (ComeAfter m name) (ok-injective (with_filled_slot s.0 ts.0) ss ts.2) (joined (has_items s.0) s.0 ts.0 name above rest)
     where
       joined : (b : Bool) (s : SlotData) (ts : List SlotData) (name : List ℕ) → slice_cmp nat_cmp (feature_at m s.feature.0).name name ≡ Greater → ComeAfter m name ts → ComeAfter m name (cond b (s ∷ ts) ts)
       joined true s ts name above rest = (above, rest)
@@ -198,13 +198,13 @@ module _ (m : Metamodels) (places : Places) (os : List ObjectData) (classes : pl
       → SlotsSound c ss
   slots-sound c id no_members ss o e plain none = subst (SlotsSound c) (ok-injective [] ss e) (tt, tt)
   slots-sound c id (member key v ms) ss o e plain none =
-      let s = ok-bind (slot_of m places c id key v) (λ s. slots_of m places c id ms >>= λ ts. Ok (with_slot s ts)) ss e in
-      let ts = ok-bind (slots_of m places c id ms) (λ ts. Ok (with_slot s.0 ts)) ss s.2 in
-      let same = ok-injective (with_slot s.0 ts.0) ss ts.2 in
+      let s = ok-bind (slot_read m places c id key v) (λ s. slots_of m places c id ms >>= λ ts. Ok (with_filled_slot s ts)) ss e in
+      let ts = ok-bind (slots_of m places c id ms) (λ ts. Ok (with_filled_slot s.0 ts)) ss s.2 in
+      let same = ok-injective (with_filled_slot s.0 ts.0) ss ts.2 in
       let parts = slot-parts c id key v s.0 s.1 in
       let after : ComeAfter m (feature_at m s.0.feature.0).name ts.0 = subst (λ n. ComeAfter m n ts.0) (sym parts.named) (slots-after c id key ms ts.0 ts.1 o.0) in
-      let plain' : AllByRecursion IsPlainSlot (with_slot s.0 ts.0) = subst (AllByRecursion IsPlainSlot) (sym same) plain in
-      let none' : slots_dangling m (length os) id (with_slot s.0 ts.0) ≡ None = ap (slots_dangling m (length os) id) same ∙ none in
+      let plain' : AllByRecursion IsPlainSlot (with_filled_slot s.0 ts.0) = subst (AllByRecursion IsPlainSlot) (sym same) plain in
+      let none' : slots_dangling m (length os) id (with_filled_slot s.0 ts.0) ≡ None = ap (slots_dangling m (length os) id) same ∙ none in
       subst (SlotsSound c) same (joined c id key v (has_items s.0) s.0 ts.0 refl parts after (slots-sound c id ms ts.0 o.2 ts.1) plain' none')
     where
       joined : (c : ClassNo) (id key : List ℕ) (v : Data) (b : Bool) (s : SlotData) (ts : List SlotData) → has_items s ≡ b → HasParts c key v s → ComeAfter m (feature_at m s.feature.0).name ts
@@ -219,14 +219,14 @@ module _ (m : Metamodels) (places : Places) (os : List ObjectData) (classes : pl
 -- ---- objects
 
 pub record HasSource (m : Metamodels) (k : ℕ) (places : Places) (d : Data) (o : ObjectData) : Type 0 where
-  pub class : class_of m k d ≡ Ok o.class
+  pub class : class_read m k d ≡ Ok o.class
   pub id : o.id ≡ id_of d
   pub slots : slots_of m places o.class (id_of d) (slots_in d) ≡ Ok o.slots
 
-object-parts : (m : Metamodels) (k : ℕ) (places : Places) (d : Data) (o : ObjectData) → object_of m k places d ≡ Ok o → HasSource m k places d o
-unfolding object_of
+object-parts : (m : Metamodels) (k : ℕ) (places : Places) (d : Data) (o : ObjectData) → object_read m k places d ≡ Ok o → HasSource m k places d o
+unfolding object_read
 object-parts m k places d o e =
-    let c = ok-bind (class_of m k d) (λ c. slots_of m places c (id_of d) (slots_in d) >>= λ ss. Ok (record { class = c; id = id_of d; slots = ss })) o e in
+    let c = ok-bind (class_read m k d) (λ c. slots_of m places c (id_of d) (slots_in d) >>= λ ss. Ok (record { class = c; id = id_of d; slots = ss })) o e in
     let ss = ok-bind (slots_of m places c.0 (id_of d) (slots_in d)) (λ ss. Ok (record { class = c.0; id = id_of d; slots = ss })) o c.2 in
     let same = ok-injective (record { class = c.0; id = id_of d; slots = ss.0 }) o ss.2 in
     subst (HasSource m k places d) same (record { class = c.1; id = refl; slots = ss.1 })
@@ -243,16 +243,16 @@ map-none f None e = refl
 map-none f (Some x) e = absurd (cc)
 
 sound : (m : Metamodels) (k : ℕ) (ds : Items) (places : Places) (os : List ObjectData) → ItemsOrdered ds → map_items id_of ds ≡ places.ids → repeated [] (map_items id_of ds) ≡ None
-    → each_item (class_of m k) ds ≡ Ok places.classes → each_item (object_of m k places) ds ≡ Ok os → dangling m (length os) os ≡ None → AllByRecursion IsPlainObject os → IsModel m k os
+    → each_item (class_read m k) ds ≡ Ok places.classes → each_item (object_read m k places) ds ≡ Ok os → dangling m (length os) os ≡ None → AllByRecursion IsPlainObject os → IsModel m k os
 sound m k ds places os ordered same_ids none classes_are objects_are clear plain =
     let classes : places.classes ≡ map (λ o. o.class) os =
     ok-injective places.classes (map (λ o. o.class) os)
-    (sym classes_are ∙ each_item-through (class_of m k) (object_of m k places) (λ o. o.class) (λ d o e. (object-parts m k places d o e).class) ds os objects_are) in
-    let named : map_items id_of ds ≡ ids os = sym (each_item-map id_of (object_of m k places) (λ o. o.id) (λ d o e. (object-parts m k places d o e).id) ds os objects_are) in
+    (sym classes_are ∙ each_item-through (class_read m k) (object_read m k places) (λ o. o.class) (λ d o e. (object-parts m k places d o e).class) ds os objects_are) in
+    let named : map_items id_of ds ≡ ids os = sym (each_item-map id_of (object_read m k places) (λ o. o.id) (λ d o e. (object-parts m k places d o e).id) ds os objects_are) in
     let count : length places.ids ≡ length os = ap length (sym same_ids ∙ named) ∙ length-map os (λ o. o.id) in
     record {
       ids = ap differ (sym named) ∙ differ-repeated (map_items id_of ds) none;
-      objects = each_item-all (object_of m k places) (IsClear m (length os)) (IsObject m k os)
+      objects = each_item-all (object_read m k places) (IsClear m (length os)) (IsObject m k os)
           (λ d o in_order e c.
           let h = object-parts m k places d o e in
           let class = class-parts m k d o.class h.class in
@@ -267,14 +267,14 @@ IsModel-model_from m k ds os ordered e plain =
     let all = map_items id_of ds in
     let places = λ (is : List (List ℕ)) (cs : List ClassNo). let p : Places = record { ids = is; classes = cs } in p in
     let checked = λ (ys : List ObjectData). none_of (dangling m (length ys) ys) >>= λ _. Ok ys in
-    let read = λ (is : List (List ℕ)) (cs : List ClassNo). each_item (object_of m k (places is cs)) ds >>= checked in
+    let read = λ (is : List (List ℕ)) (cs : List ClassNo). each_item (object_read m k (places is cs)) ds >>= checked in
     let known = λ (is : List (List ℕ)) (cs : List ClassNo). walk_items (object_known m k) ds >>= λ _. read is cs in
-    let ids_step = ok-bind (distinct_ids ds) (λ is. each_item (class_of m k) ds >>= known is) os e in
+    let ids_step = ok-bind (distinct_ids ds) (λ is. each_item (class_read m k) ds >>= known is) os e in
     let id_parts = ok-bind (none_of (option_map SameId (repeated [] all))) (λ _. Ok all) ids_step.0 ids_step.1 in
     let none = map-none SameId (repeated [] all) (ok-none_of (option_map SameId (repeated [] all)) id_parts.0 id_parts.1) in
-    let class_step = ok-bind (each_item (class_of m k) ds) (known ids_step.0) os ids_step.2 in
+    let class_step = ok-bind (each_item (class_read m k) ds) (known ids_step.0) os ids_step.2 in
     let known_step = ok-bind (walk_items (object_known m k) ds) (λ _. read ids_step.0 class_step.0) os class_step.2 in
-    let object_step = ok-bind (each_item (object_of m k (places ids_step.0 class_step.0)) ds) checked os known_step.2 in
+    let object_step = ok-bind (each_item (object_read m k (places ids_step.0 class_step.0)) ds) checked os known_step.2 in
     let last_step = ok-bind (none_of (dangling m (length object_step.0) object_step.0)) (λ _. Ok object_step.0) os object_step.2 in
     let same = ok-injective object_step.0 os last_step.2 in
     let clear = ok-none_of (dangling m (length object_step.0) object_step.0) last_step.0 last_step.1 in

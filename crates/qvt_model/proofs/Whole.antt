@@ -15,7 +15,7 @@ use Rattle.qvt_metamodel.specs.Metamodels.{Metamodels, class_at, feature_at, sha
 use Rattle.qvt_metamodel.specs.Named.{metamodel_at}
 use Rattle.qvt_metamodel.specs.WellFormed.{IsWellFormed}
 use Rattle.qvt_json.specs.Json.{json}
-use Rattle.qvt_json.specs.Plain.{IsWhole, KeysAfter, IsPlain, ItemsPlain, MembersPlain}
+use Rattle.qvt_json.specs.Plain.{IsInteger, KeysAfter, IsPlain, ItemsPlain, MembersPlain}
 use Rattle.qvt_json.specs.Shape.{items_fault}
 use Rattle.qvt_json.specs.Leaves.{is_id}
 use Rattle.qvt_json.proofs.Back.{json-file_text}
@@ -46,7 +46,7 @@ model-shape m os a = rw (objects-shape m os os 0 a)
 
 -- ---- it is plain
 
-whole : (z : ℤ) → FitsSigned w64 z → IsWhole (of_integer z)
+whole : (z : ℤ) → FitsSigned w64 z → IsInteger (of_integer z)
 whole (pos n) h = let lt : n < 2 ^ 63 = h.sfits in omega arith
 whole (negsuc n) h = h.sfits
 

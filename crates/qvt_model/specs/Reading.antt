@@ -43,8 +43,8 @@ abbrev pub numbered_class : ℕ → ClassNo
 numbered_class c = record { 0 = c }
 
 -- the class of metamodel k that an object names
-unfoldable pub class_of : Metamodels → ℕ → Data → Result ClassNo ModelFault
-class_of m k d = or_fault (UnknownClass (id_of d)) (option_map numbered_class (class_named m k (text_or (codes "class") d)))
+unfoldable pub class_read : Metamodels → ℕ → Data → Result ClassNo ModelFault
+class_read m k d = or_fault (UnknownClass (id_of d)) (option_map numbered_class (class_named m k (text_or (codes "class") d)))
 
 -- the feature of the class that a slot names
 unfoldable pub feature_of : Metamodels → ClassNo → List ℕ → List ℕ → Result FeatureNo ModelFault
@@ -58,7 +58,7 @@ features_known m c id (member name d ms) = do
 
 unfoldable pub object_known : Metamodels → ℕ → Data → Result ⊤ ModelFault
 object_known m k d = do
-  c ← class_of m k d
+  c ← class_read m k d
   features_known m c (id_of d) (slots_in d)
 
 abbrev pub class_at_place : Places → ℕ → ClassNo
@@ -88,34 +88,34 @@ abbrev pub one_item : (Data → Option Datum) → Data → Option (List Datum)
 one_item f d = if is_some (as_null d) then Some [] else option_map (λ x. x ∷ []) (f d)
 
 -- the items of a slot: a list, but for an upper bound of 1
-unfoldable pub items_of : Metamodels → Places → FeatureNo → Data → Option (List Datum)
-items_of m places f d =
+unfoldable pub items_read : Metamodels → Places → FeatureNo → Data → Option (List Datum)
+items_read m places f d =
     if is_single m f.0 then one_item (datum_of m places (shape_of m f.0).kind) d
     else option_and_then (all_items (datum_of m places (shape_of m f.0).kind)) (as_array d)
 
-unfoldable pub slot_of : Metamodels → Places → ClassNo → List ℕ → List ℕ → Data → Result SlotData ModelFault
-slot_of m places c id name d = do
+unfoldable pub slot_read : Metamodels → Places → ClassNo → List ℕ → List ℕ → Data → Result SlotData ModelFault
+slot_read m places c id name d = do
   f ← feature_of m c id name
-  items ← or_fault (WrongValue id name) (items_of m places f d)
+  items ← or_fault (WrongValue id name) (items_read m places f d)
   Ok (record { feature = f; items = items })
 
 abbrev pub has_items : SlotData → Bool
 has_items s = nat_lt 0 (length s.items)
 
 -- with this slot before the others, if it is not empty
-abbrev pub with_slot : SlotData → List SlotData → List SlotData
-with_slot s ss = if has_items s then s ∷ ss else ss
+abbrev pub with_filled_slot : SlotData → List SlotData → List SlotData
+with_filled_slot s ss = if has_items s then s ∷ ss else ss
 
 abbrev pub slots_of : Metamodels → Places → ClassNo → List ℕ → Members → Result (List SlotData) ModelFault
 slots_of m places c id no_members = Ok []
 slots_of m places c id (member name d ms) = do
-  s ← slot_of m places c id name d
+  s ← slot_read m places c id name d
   ss ← slots_of m places c id ms
-  Ok (with_slot s ss)
+  Ok (with_filled_slot s ss)
 
-unfoldable pub object_of : Metamodels → ℕ → Places → Data → Result ObjectData ModelFault
-object_of m k places d = do
-  c ← class_of m k d
+unfoldable pub object_read : Metamodels → ℕ → Places → Data → Result ObjectData ModelFault
+object_read m k places d = do
+  c ← class_read m k d
   ss ← slots_of m places c (id_of d) (slots_in d)
   Ok (record { class = c; id = id_of d; slots = ss })
 
@@ -139,9 +139,9 @@ dangling m n (o ∷ os) = or_next (slots_dangling m n o.id o.slots) (dangling m 
 unfoldable pub model_from : Metamodels → ℕ → Items → Result (List ObjectData) ModelFault
 model_from m k ds = do
   ids ← distinct_ids ds
-  classes ← each_item (class_of m k) ds
+  classes ← each_item (class_read m k) ds
   _ ← walk_items (object_known m k) ds
-  os ← each_item (object_of m k (record { ids = ids; classes = classes })) ds
+  os ← each_item (object_read m k (record { ids = ids; classes = classes })) ds
   _ ← none_of (dangling m (length os) os)
   Ok os
 

@@ -11,9 +11,9 @@ use Rattle.qvt_slots.specs.declared.extent.Extent.{Extent}
 use Rattle.qvt_model.specs.IdTables.{id_in}
 use Rattle.qvt_model.specs.Loaded.{value_at, id_told, all_told}
 
-abbrev pub added : Contents → ℕ → List ObjectData → Contents
-added s e [] = s
-added s e (o ∷ os) = added (with_new s o.class.0 e) e os
+abbrev pub objects_added : Contents → ℕ → List ObjectData → Contents
+objects_added s e [] = s
+objects_added s e (o ∷ os) = objects_added (with_new s o.class.0 e) e os
 
 abbrev pub CanAdd : Contents → ℕ → List ObjectData → Type 0
 CanAdd s e [] = ⊤
@@ -50,7 +50,7 @@ CanPutObjects m es n x obs (o ∷ os) = CanPutSlots m es n x obs o.slots × CanP
 -- On the way: what is left can be done, and then leaves what all of it leaves from the beginning.
 pub record IsAdding (old now : Contents) (e : ℕ) (all rest : List ObjectData) : Type 0 where
   pub can : CanAdd now e rest
-  pub same : added now e rest ≡ added old e all
+  pub same : objects_added now e rest ≡ objects_added old e all
 
 pub record ArePutting (old now : Contents) (n x : ℕ) (all rest : List SlotData) : Type 0 where
   pub can : CanPutSlots now.metas now.extents n x now.objects rest

@@ -4,7 +4,7 @@ ghost use Rattle.serde_json.specs.Find.{as_str};
 ghost use Rattle.serde_json.specs.View.{view, items_view};
 ghost use Rattle.qvt_metamodel.specs.Named.{literal_named};
 ghost use Rattle.qvt_json.specs.Steps.{all_items};
-ghost use Rattle.qvt_model.specs.Reading.{class_at_place, ref_of, literal_in, datum_of, one_item, items_of};
+ghost use Rattle.qvt_model.specs.Reading.{class_at_place, ref_of, literal_in, datum_of, one_item, items_read};
 ghost use Rattle.qvt_model.specs.WellFormed.{IsPlainDatum};
 
 use crate::data::{Datum, DatumList};
@@ -14,7 +14,7 @@ use qvt_base::numbers::{ClassNo, FeatureNo};
 use qvt_base::text::Text;
 use qvt_dictionary::dictionary::Dictionary;
 use qvt_json::leaves::is_id;
-use qvt_metamodel::info::TypeKind;
+use qvt_metas::info::TypeKind;
 use qvt_metas::metas::Metas;
 use qvt_value::value::LiteralRef;
 use serde_json::Value;
@@ -158,8 +158,8 @@ fn one_item(
 }
 
 /// The items of a slot, None where the value is not of the feature's type.
-#[tactic(auto, unfolding(crate::specs::Reading::items_of))]
-pub fn items_of(
+#[tactic(auto, unfolding(crate::specs::Reading::items_read))]
+pub fn items_read(
     alloc: Global,
     dictionary: &Dictionary,
     places: &Places,
@@ -167,7 +167,7 @@ pub fn items_of(
     value: &Value,
 ) -> Result<Option<DatumList>, ListFault>
     requires few { length places.now.ids < 2 ^ 32 }
-    ensures value { IfOk result (λ o. o ≡ items_of dictionary.now places.now feature (view value.now)) }
+    ensures value { IfOk result (λ o. o ≡ items_read dictionary.now places.now feature (view value.now)) }
     ensures plain { IfOk result (λ o. IfSome o (AllByRecursion IsPlainDatum)) }
 {
     let shape = dictionary.metas().shape(feature);

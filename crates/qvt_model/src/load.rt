@@ -8,7 +8,7 @@ ghost use Rattle.qvt_model.specs.IdTables.{id_in};
 ghost use Rattle.qvt_store.specs.Stay.{InputsStay, StaysIn};
 ghost use Rattle.qvt_model.specs.Loaded.{loaded, id_told, all_told, AreTold, IsLoadable, MembersStay, TellsAll, TellsNoOther};
 ghost use Rattle.qvt_model.specs.Conforming.{Conforms};
-ghost use Rattle.qvt_model.specs.Steps.{added, CanAdd, slot_values, put_slots, put_objects, with_objects, CanPutSlots, CanPutObjects};
+ghost use Rattle.qvt_model.specs.Steps.{objects_added, CanAdd, slot_values, put_slots, put_objects, with_objects, CanPutSlots, CanPutObjects};
 
 use crate::data::{ModelData, ModelFault, ObjectData, SlotData};
 use crate::id_table::IdTable;
@@ -33,7 +33,7 @@ fn add_object(store: &mut Store, class: ClassNo, extent: u32) -> Result<(), List
 /// Adds the objects, in order.
 fn add_objects(store: &mut Store, objects: &[ObjectData], extent: u32) -> Result<(), ListFault>
     requires { CanAdd store.old extent objects.now }
-    ensures { OnOk result (store.new ≡ added store.old extent objects.now) }
+    ensures { OnOk result (store.new ≡ objects_added store.old extent objects.now) }
 {
     for object in objects {
         add_object(store, object.class, extent)?;

@@ -2,7 +2,7 @@ ghost use Rattle.std.specs.Prelude.{◌≡◌, ◌<◌, ◌^◌, length, IfOk};
 ghost use Rattle.std.specs.List.{AllByRecursion};
 ghost use Rattle.serde_json.specs.View.{view, items_view};
 ghost use Rattle.qvt_json.specs.Steps.{Gives, each_item, walk_items};
-ghost use Rattle.qvt_model.specs.Reading.{id_of, slots_in, distinct_ids, class_of, object_known, slots_of, object_of};
+ghost use Rattle.qvt_model.specs.Reading.{id_of, slots_in, distinct_ids, class_read, object_known, slots_of, object_read};
 ghost use Rattle.qvt_model.specs.WellFormed.{IsPlainSlot, IsPlainObject};
 
 use crate::data::{ModelFault, ObjectData, ObjectList, SlotList};
@@ -35,14 +35,14 @@ pub fn distinct_ids(alloc: Global, items: &Vec<Value>) -> Result<TextSet, ModelF
 }
 
 /// The class of the metamodel that the object names.
-#[tactic(auto, unfolding(crate::specs::Reading::class_of))]
-fn class_of(
+#[tactic(auto, unfolding(crate::specs::Reading::class_read))]
+fn class_read(
     alloc: Global,
     metas: &Metas,
     metamodel: u32,
     item: &Value,
 ) -> Result<ClassNo, ModelFault>
-    ensures { Gives ModelFault.NoMemory (λ c. c) result (class_of metas.now metamodel (view item.now)) }
+    ensures { Gives ModelFault.NoMemory (λ c. c) result (class_read metas.now metamodel (view item.now)) }
 {
     match metas.class(metamodel, text_or(item, "class")) {
         Some(class) => Ok(class),
@@ -57,11 +57,11 @@ pub fn classes_of(
     metamodel: u32,
     items: &Vec<Value>,
 ) -> Result<ClassNoList, ModelFault>
-    ensures { Gives ModelFault.NoMemory (λ cs. cs) result (each_item (class_of metas.now metamodel) (items_view items.now.items)) }
+    ensures { Gives ModelFault.NoMemory (λ cs. cs) result (each_item (class_read metas.now metamodel) (items_view items.now.items)) }
 {
     let mut classes = ClassNoList::new(alloc);
     for item in items {
-        classes.push(class_of(alloc, metas, metamodel, item)?)?;
+        classes.push(class_read(alloc, metas, metamodel, item)?)?;
     }
     Ok(classes)
 }
@@ -76,7 +76,7 @@ fn object_known(
 ) -> Result<(), ModelFault>
     ensures { Gives ModelFault.NoMemory (λ _. tt) result (object_known metas.now metamodel (view item.now)) }
 {
-    let class = class_of(alloc, metas, metamodel, item)?;
+    let class = class_read(alloc, metas, metamodel, item)?;
     match members_at(item, "slots") {
         Some(members) => features_known(alloc, metas, class, text_or(item, "id"), members),
         None => Ok(()),
@@ -124,8 +124,8 @@ fn object_slots(
 }
 
 /// An object, whose references are not checked yet.
-#[tactic(auto, unfolding(crate::specs::Reading::object_of))]
-fn object_of(
+#[tactic(auto, unfolding(crate::specs::Reading::object_read))]
+fn object_read(
     alloc: Global,
     dictionary: &Dictionary,
     metamodel: u32,
@@ -133,10 +133,10 @@ fn object_of(
     item: &Value,
 ) -> Result<ObjectData, ModelFault>
     requires few { length places.now.ids < 2 ^ 32 }
-    ensures value { Gives ModelFault.NoMemory (λ o. o) result (object_of dictionary.now metamodel places.now (view item.now)) }
+    ensures value { Gives ModelFault.NoMemory (λ o. o) result (object_read dictionary.now metamodel places.now (view item.now)) }
     ensures plain { IfOk result IsPlainObject }
 {
-    let class = class_of(alloc, dictionary.metas(), metamodel, item)?;
+    let class = class_read(alloc, dictionary.metas(), metamodel, item)?;
     let slots = object_slots(alloc, dictionary, places, class, item)?;
     let id = Text::from_str(alloc, text_or(item, "id"))?;
     Ok(ObjectData { class, id, slots })
@@ -151,12 +151,12 @@ pub fn objects_of(
     items: &Vec<Value>,
 ) -> Result<ObjectList, ModelFault>
     requires few { length places.now.ids < 2 ^ 32 }
-    ensures value { Gives ModelFault.NoMemory (λ os. os) result (each_item (object_of dictionary.now metamodel places.now) (items_view items.now.items)) }
+    ensures value { Gives ModelFault.NoMemory (λ os. os) result (each_item (object_read dictionary.now metamodel places.now) (items_view items.now.items)) }
     ensures plain { IfOk result (AllByRecursion IsPlainObject) }
 {
     let mut objects = ObjectList::new(alloc);
     for item in items {
-        objects.push(object_of(alloc, dictionary, metamodel, places, item)?)?;
+        objects.push(object_read(alloc, dictionary, metamodel, places, item)?)?;
     }
     Ok(objects)
 }

@@ -2,11 +2,11 @@ ghost use Rattle.std.specs.Prelude.{◌≡◌, ◌<◌, ◌^◌, length, IfOk};
 ghost use Rattle.std.specs.List.{AllByRecursion};
 ghost use Rattle.serde_json.specs.View.{view, members_view};
 ghost use Rattle.qvt_json.specs.Steps.{Gives};
-ghost use Rattle.qvt_model.specs.Reading.{feature_of, features_known, slot_of, slots_of};
+ghost use Rattle.qvt_model.specs.Reading.{feature_of, features_known, slot_read, slots_of};
 ghost use Rattle.qvt_model.specs.WellFormed.{IsPlainDatum, IsPlainSlot};
 
 use crate::data::{ModelFault, SlotData, SlotList};
-use crate::items::items_of;
+use crate::items::items_read;
 use crate::places::Places;
 use qvt_base::numbers::{ClassNo, FeatureNo};
 use qvt_base::text::Text;
@@ -49,8 +49,8 @@ pub fn features_known(
 }
 
 /// A slot of the object, which may be empty.
-#[tactic(auto, unfolding(crate::specs::Reading::slot_of))]
-fn slot_of(
+#[tactic(auto, unfolding(crate::specs::Reading::slot_read))]
+fn slot_read(
     alloc: Global,
     dictionary: &Dictionary,
     places: &Places,
@@ -60,11 +60,11 @@ fn slot_of(
     value: &Value,
 ) -> Result<SlotData, ModelFault>
     requires few { length places.now.ids < 2 ^ 32 }
-    ensures value { Gives ModelFault.NoMemory (λ s. s) result (slot_of dictionary.now places.now class id.now name.now (view value.now)) }
+    ensures value { Gives ModelFault.NoMemory (λ s. s) result (slot_read dictionary.now places.now class id.now name.now (view value.now)) }
     ensures plain { IfOk result IsPlainSlot }
 {
     let feature = feature_of(alloc, dictionary.metas(), class, id, name)?;
-    let Some(items) = items_of(alloc, dictionary, places, feature, value)? else {
+    let Some(items) = items_read(alloc, dictionary, places, feature, value)? else {
         let id = Text::from_str(alloc, id)?;
         return Err(ModelFault::WrongValue(id, Text::from_str(alloc, name)?));
     };
@@ -86,7 +86,7 @@ pub fn slots_of(
 {
     let mut slots = SlotList::new(alloc);
     for (name, value) in members.iter() {
-        let slot = slot_of(alloc, dictionary, places, class, id, name.as_str(), value)?;
+        let slot = slot_read(alloc, dictionary, places, class, id, name.as_str(), value)?;
         if !slot.items.is_empty() {
             slots.push(slot)?;
         }

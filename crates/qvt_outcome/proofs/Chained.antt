@@ -5,8 +5,8 @@ use Rattle.qvt_base.specs.Outside.{FilesSeen, Rose, IsRead, found, missing, too_
 use Rattle.qvt_base.specs.declared.outside.ReadAnswer.TheVariants as read
 use Rattle.qvt_outcome.specs.Outcome.{Outcome, refused}
 use Rattle.qvt_outcome.specs.Chain.{Reading, Chain, step, on_ok, ◌>=>◌, read_of, read_step}
-use Rattle.qvt_outcome.specs.Follows.{IsAmong, joined, NoneFailed, OneFailed, FailedAt, FailedBy, Follows}
-use Rattle.qvt_outcome.specs.Steps.{Stops, Gives, IsFaultWith, IfFaultOf, RefusedOrNoMemory, ReadFaultOrNoMemory}
+use Rattle.qvt_outcome.specs.Follows.{IsAmong, with_failed_name, NoneFailed, OneFailed, FailedAt, FailedBy, Follows}
+use Rattle.qvt_outcome.specs.Steps.{Stops, GivesOrStops, IsFaultWith, IfFaultOf, RefusedOrNoMemory, ReadFaultOrNoMemory}
 use Rattle.qvt_outcome.specs.declared.refusal.Refusal.{Refusal}
 use Rattle.qvt_outcome.specs.declared.refusal.Refusal.TheVariants as refusal
 use Rattle.qvt_outcome.specs.declared.stop.Stop.{Stop}
@@ -20,9 +20,9 @@ ended (stop.Low model id feature) answer f h = ap (λ r. (on_ok r f).answer) h
 ended (stop.ReadFault file) answer f h = h
 ended stop.NoMemory answer f h = h
 
-goes_on : {X A B : Type 0} (view : X → B) (r : Result X Stop) (answer : Result A Outcome) (a : A) (f : A → Reading B) → answer ≡ Ok a → Gives view r (f a).answer
-    → Gives view r (on_ok answer f).answer
-goes_on view r answer a f is h = subst (λ s. Gives view r (on_ok s f).answer) (sym is) h
+goes_on : {X A B : Type 0} (view : X → B) (r : Result X Stop) (answer : Result A Outcome) (a : A) (f : A → Reading B) → answer ≡ Ok a → GivesOrStops view r (f a).answer
+    → GivesOrStops view r (on_ok answer f).answer
+goes_on view r answer a f is h = subst (λ s. GivesOrStops view r (on_ok s f).answer) (sym is) h
 
 wider_stop : (e : Stop) (P Q : List ℕ → Type 0) → IsFaultWith e P → ((file : List ℕ) → P file → Q file) → IsFaultWith e Q
 wider_stop (stop.Refused file why) P Q h f = h
@@ -52,7 +52,7 @@ one_then : (file : List ℕ) (old mid new : FilesSeen) → NoneFailed old mid �
 one_then file old mid new h k = record {
   rose = subst (λ n. Rose n new.reads) h.reads k.rose;
   one = subst (λ n. new.reads ≤ n + 1) h.reads k.one;
-  failed = subst (λ told. new.failed ≡ joined file told) h.failed k.failed;
+  failed = subst (λ told. new.failed ≡ with_failed_name file told) h.failed k.failed;
 }
 
 stop_then : (e : Stop) (old mid new : FilesSeen) → NoneFailed old mid → FailedAt e mid new → FailedAt e old new
@@ -109,7 +109,7 @@ chained view seen c f old mid new x r h k = record {
 }
 
 -- a step that reads nothing
-pub unread : {X A : Type 0} (view : X → A) (answer : Result A Outcome) (s : FilesSeen) (r : Result X Stop) → Gives view r answer → IfFaultOf r (λ file. ⊥)
+pub unread : {X A : Type 0} (view : X → A) (answer : Result A Outcome) (s : FilesSeen) (r : Result X Stop) → GivesOrStops view r answer → IfFaultOf r (λ file. ⊥)
     → Follows view (step answer) s r s
 unread view answer s r h none = record {
   gives = λ held is. h;
@@ -121,7 +121,7 @@ unread view answer s r h none = record {
 
 -- the first gave a value, and a step that reads nothing went on with it
 pub stepped : {X Y A B : Type 0} (view : X → A) (seen : Y → B) (c : Chain A) (p : A → Result B Outcome) (old new : FilesSeen) (x : X) (r : Result Y Stop)
-    → Follows view c old (Ok x) new → Gives seen r (p (view x)) → IfFaultOf r (λ file. ⊥) → Follows seen (c >=> (λ a. step (p a))) old r new
+    → Follows view c old (Ok x) new → GivesOrStops seen r (p (view x)) → IfFaultOf r (λ file. ⊥) → Follows seen (c >=> (λ a. step (p a))) old r new
 stepped view seen c p old new x r h k none = chained view seen c (λ a. step (p a)) old new new x r h (unread seen (p (view x)) new r k none)
 
 -- One file that is read

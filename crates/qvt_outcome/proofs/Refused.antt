@@ -3,7 +3,7 @@ use Rattle.std.proofs.Common.{◌≡◌, ◌≢◌, ◌∙◌, ap, sym, subst, L
 use Rattle.qvt_json.specs.Steps.{◌>>=◌}
 use Rattle.qvt_outcome.specs.Outcome.{Outcome, refused}
 use Rattle.qvt_outcome.specs.Plans.{outcome_of}
-use Rattle.qvt_outcome.specs.Steps.{Stops, Gives, IsFaultWith, IfFaultOf, StopsBy, or_refused}
+use Rattle.qvt_outcome.specs.Steps.{Stops, GivesOrStops, IsFaultWith, IfFaultOf, StopsBy, or_refused}
 use Rattle.qvt_outcome.specs.declared.plan.Plan.{Plan}
 use Rattle.qvt_outcome.specs.declared.refusal.Refusal.{Refusal}
 use Rattle.qvt_outcome.specs.declared.stop.Stop.{Stop}
@@ -34,7 +34,7 @@ pub stops_by : {A B F : Type 0} (free : F) (say : F → Refusal) (name : List �
 stops_by free say name why e r f h is = stops_at free say name why e (or_refused say name r >>= f) h (λ other. ap (λ s. or_refused say name s >>= f) (is other))
 
 -- a plan that was made, or want of memory
-pub planned : (r : Result Plan Stop) (o : Outcome) → IfOk r (λ p. outcome_of p ≡ o) → IfErr r (λ e. e ≡ stop.NoMemory) → Gives outcome_of r (Ok o)
+pub planned : (r : Result Plan Stop) (o : Outcome) → IfOk r (λ p. outcome_of p ≡ o) → IfErr r (λ e. e ≡ stop.NoMemory) → GivesOrStops outcome_of r (Ok o)
 planned (Ok p) o is none = ap Ok (sym is)
 planned (Err e) o is none = subst (λ s. Stops s (Ok o)) (sym none) tt
 

@@ -2,7 +2,7 @@
 use Rattle.std.specs.Prelude.{ℕ, ◌≡◌, ◌+◌, ◌≤◌, ◌⊎◌, List, [], ◌∷◌, ◌++◌, Result, Ok, Err, Option, Some, option_map}
 use Rattle.qvt_base.specs.Outside.{Held, FilesSeen, Rose}
 use Rattle.qvt_outcome.specs.Chain.{Chain}
-use Rattle.qvt_outcome.specs.Steps.{Gives, IfFaultOf}
+use Rattle.qvt_outcome.specs.Steps.{GivesOrStops, IfFaultOf}
 use Rattle.qvt_outcome.specs.declared.stop.Stop.{Stop}
 use Rattle.qvt_outcome.specs.declared.stop.Stop.TheVariants as stop
 
@@ -11,8 +11,8 @@ abbrev pub IsAmong : List ℕ → List (List ℕ) → Type 0
 IsAmong name [] = ⊥
 IsAmong name (other ∷ names) = (name ≡ other) ⊎ IsAmong name names
 
-abbrev pub joined : List ℕ → Option (List (List ℕ)) → Option (List (List ℕ))
-joined file told = option_map (λ names. names ++ file ∷ []) told
+abbrev pub with_failed_name : List ℕ → Option (List (List ℕ)) → Option (List (List ℕ))
+with_failed_name file told = option_map (λ names. names ++ file ∷ []) told
 
 -- no read failed
 pub record NoneFailed (old new : FilesSeen) : Type 0 where
@@ -23,7 +23,7 @@ pub record NoneFailed (old new : FilesSeen) : Type 0 where
 pub record OneFailed (file : List ℕ) (old new : FilesSeen) : Type 0 where
   pub rose : Rose old.reads new.reads
   pub one : new.reads ≤ old.reads + 1
-  pub failed : new.failed ≡ joined file old.failed
+  pub failed : new.failed ≡ with_failed_name file old.failed
 
 -- no read failed, or one did
 abbrev pub AtMostOneFailed : FilesSeen → FilesSeen → Type 0
@@ -44,7 +44,7 @@ FailedBy (Err e) old new = FailedAt e old new
 
 -- the answer is the chain's, a file whose read failed is one that it reads, and no bytes change
 pub record Follows {X A : Type 0} (view : X → A) (chain : Chain A) (old : FilesSeen) (result : Result X Stop) (new : FilesSeen) : Type 0 where
-  pub gives : (held : Held) → old.held ≡ Some held → Gives view result (chain held).answer
+  pub gives : (held : Held) → old.held ≡ Some held → GivesOrStops view result (chain held).answer
   pub named : (held : Held) → old.held ≡ Some held → IfFaultOf result (λ file. IsAmong file (chain held).names)
   pub reads : FailedBy result old new
   pub held : new.held ≡ old.held

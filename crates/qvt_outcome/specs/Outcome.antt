@@ -122,15 +122,15 @@ abbrev pub metamodels_text : MetasFault → List ℕ
 metamodels_text metas.NoMemory = codes "no memory"
 metamodels_text (metas.SameMetamodel name) = with_one (codes "SameMetamodel") name
 
-abbrev pub model_text : ModelFault → List ℕ
-model_text model.NoMemory = codes "no memory"
-model_text model.Json = codes "Json"
-model_text (model.Shape path) = with_one (codes "Shape") path
-model_text (model.SameId id) = with_one (codes "SameId") id
-model_text (model.UnknownClass id) = with_one (codes "UnknownClass") id
-model_text (model.UnknownFeature id) = with_one (codes "UnknownFeature") id
-model_text (model.WrongValue id feature) = with_two (codes "WrongValue") id feature
-model_text (model.DanglingId id feature) = with_two (codes "DanglingId") id feature
+abbrev pub model_fault_text : ModelFault → List ℕ
+model_fault_text model.NoMemory = codes "no memory"
+model_fault_text model.Json = codes "Json"
+model_fault_text (model.Shape path) = with_one (codes "Shape") path
+model_fault_text (model.SameId id) = with_one (codes "SameId") id
+model_fault_text (model.UnknownClass id) = with_one (codes "UnknownClass") id
+model_fault_text (model.UnknownFeature id) = with_one (codes "UnknownFeature") id
+model_fault_text (model.WrongValue id feature) = with_two (codes "WrongValue") id feature
+model_fault_text (model.DanglingId id feature) = with_two (codes "DanglingId") id feature
 
 abbrev pub conform_text : ConformFault → List ℕ
 conform_text conform.NoMemory = codes "no memory"
@@ -148,7 +148,7 @@ refusal_text refusal.TooLarge = codes "TooLarge"
 refusal_text (refusal.Job why) = job_text why
 refusal_text (refusal.Metamodel why) = metamodel_text why
 refusal_text (refusal.Metamodels why) = metamodels_text why
-refusal_text (refusal.Model why) = model_text why
+refusal_text (refusal.Model why) = model_fault_text why
 refusal_text refusal.TooManyObjects = codes "TooManyObjects"
 refusal_text (refusal.Conform why) = conform_text why
 refusal_text refusal.Utf8 = codes "Utf8"

@@ -72,7 +72,7 @@ pub record NoneRose (old new : OutsideSeen) : Type 0 where
   pub sinks : ¬ Rose old.sink.faults new.sink.faults
 
 -- the answer is the outcome's own: the files and the sink are as it says
-pub record Told (o : Outcome) (before : Held) (old new : OutsideSeen) (answer : Status) : Type 0 where
+pub record TellsOutcome (o : Outcome) (before : Held) (old new : OutsideSeen) (answer : Status) : Type 0 where
   pub status : answer ≡ status_of o
   pub held : new.files.held ≡ Some (files_after o before)
   pub sink : IsWhole (report o) old.sink new.sink
@@ -135,12 +135,12 @@ Answers o names before old new status.ReadFault = TellsReadFault names before ol
 Answers o names before old new status.WriteFault =
     FileFailed o before old new ⊎ (ReportFailed o before old new ⊎ (ReadLineFailed names before old new ⊎ MemoryLineFailed before old new))
 Answers o names before old new status.NoMemory = TellsNoMemory before old new
-Answers o names before old new status.Done = Told o before old new status.Done
-Answers o names before old new status.Refused = Told o before old new status.Refused
-Answers o names before old new status.Usage = Told o before old new status.Usage
-Answers o names before old new status.Fault = Told o before old new status.Fault
-Answers o names before old new status.OutOfFuel = Told o before old new status.OutOfFuel
-Answers o names before old new status.Low = Told o before old new status.Low
+Answers o names before old new status.Done = TellsOutcome o before old new status.Done
+Answers o names before old new status.Refused = TellsOutcome o before old new status.Refused
+Answers o names before old new status.Usage = TellsOutcome o before old new status.Usage
+Answers o names before old new status.Fault = TellsOutcome o before old new status.Fault
+Answers o names before old new status.OutOfFuel = TellsOutcome o before old new status.OutOfFuel
+Answers o names before old new status.Low = TellsOutcome o before old new status.Low
 
 -- what fails shows in the answer: where it tells of no read, no write, no sink and no want of memory, none failed
 abbrev pub Fails : OutsideSeen → OutsideSeen → Status → Type 0

@@ -22,9 +22,9 @@ Stops (stop.ReadFault file) stated = ⊤
 Stops stop.NoMemory stated = ⊤
 
 -- what the code gave, seen by view, is what is stated
-abbrev pub Gives : {X A : Type 0} → (X → A) → Result X Stop → Result A Outcome → Type 0
-Gives view (Ok x) stated = stated ≡ Ok (view x)
-Gives view (Err e) stated = Stops e stated
+abbrev pub GivesOrStops : {X A : Type 0} → (X → A) → Result X Stop → Result A Outcome → Type 0
+GivesOrStops view (Ok x) stated = stated ≡ Ok (view x)
+GivesOrStops view (Err e) stated = Stops e stated
 
 -- of a failed read, its file
 abbrev pub IsFaultWith : Stop → (List ℕ → Type 0) → Type 0

@@ -1,7 +1,7 @@
 use qvt_base::text::Text;
 use qvt_conform::fault::ConformFault;
 use qvt_job::job::JobFault;
-use qvt_metamodel::fault::{MetaFault, MetasFault};
+use qvt_metas::fault::{MetaFault, MetasFault};
 use qvt_model::data::ModelFault;
 use qvt_parsed::fault::ParseFault;
 use qvt_types_data::refusal::Refusal as TypingRefusal;

@@ -1,14 +1,14 @@
 //! The names of refusals with what they carry.
 
 ghost use Rattle.std.specs.Prelude.{◌≡◌, IfOk, string_bytes};
-ghost use Rattle.qvt_outcome.specs.Outcome.{with_one, with_two, with_place, lex_name, job_text, parse_text, typing_name, typing_text, metamodel_text, metamodels_text, model_text, conform_text};
+ghost use Rattle.qvt_outcome.specs.Outcome.{with_one, with_two, with_place, lex_name, job_text, parse_text, typing_name, typing_text, metamodel_text, metamodels_text, model_fault_text, conform_text};
 
 use qvt_base::numbers::Place;
 use qvt_base::text::Text;
 use qvt_conform::fault::ConformFault;
 use qvt_job::job::JobFault;
 use qvt_lexer::token::LexKind;
-use qvt_metamodel::fault::{MetaFault, MetasFault};
+use qvt_metas::fault::{MetaFault, MetasFault};
 use qvt_model::data::ModelFault;
 use qvt_parsed::fault::ParseFault;
 use qvt_types_data::refusal::{Refusal, RefusalKind};
@@ -139,8 +139,8 @@ pub fn metamodels_text(alloc: Global, why: &MetasFault) -> Result<String, AllocE
 }
 
 /// The refusal of a model.
-pub fn model_text(alloc: Global, why: &ModelFault) -> Result<String, AllocError>
-    ensures { IfOk result (λ text. string_bytes text ≡ model_text why.now) }
+pub fn model_fault_text(alloc: Global, why: &ModelFault) -> Result<String, AllocError>
+    ensures { IfOk result (λ text. string_bytes text ≡ model_fault_text why.now) }
 {
     match why {
         ModelFault::NoMemory => String::from_str(alloc, "no memory"),

@@ -5,8 +5,8 @@ ghost use Rattle.qvt_outcome.specs.Reported.{IsWhole, IsCut, Reports};
 
 use crate::refusal::Refusal;
 use crate::refusal_text::{
-    conform_text, job_text, metamodel_text, metamodels_text, model_text, parse_text, typing_text,
-    with_one,
+    conform_text, job_text, metamodel_text, metamodels_text, model_fault_text, parse_text,
+    typing_text, with_one,
 };
 use crate::status::Status;
 use crate::stop::Stop;
@@ -79,7 +79,7 @@ fn refusal_text(alloc: Global, why: &Refusal) -> Result<String, AllocError>
         Refusal::Job(why) => job_text(alloc, why),
         Refusal::Metamodel(why) => metamodel_text(alloc, why),
         Refusal::Metamodels(why) => metamodels_text(alloc, why),
-        Refusal::Model(why) => model_text(alloc, why),
+        Refusal::Model(why) => model_fault_text(alloc, why),
         Refusal::TooManyObjects => String::from_str(alloc, "TooManyObjects"),
         Refusal::Conform(why) => conform_text(alloc, why),
         Refusal::Utf8 => String::from_str(alloc, "Utf8"),

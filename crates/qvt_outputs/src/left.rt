@@ -7,7 +7,7 @@ ghost use Rattle.qvt_meaning_report.specs.Lines as lines;
 ghost use Rattle.qvt_meaning_report.specs.Meaning as meaning;
 ghost use Rattle.qvt_outcome.specs.Outcome.{Outcome, done};
 ghost use Rattle.qvt_outcome.specs.Plans.{IsReady, files_in, outcome_of};
-ghost use Rattle.qvt_outcome.specs.Steps.{Gives, IfFaultOf, IsFaultWith, Stops};
+ghost use Rattle.qvt_outcome.specs.Steps.{GivesOrStops, IfFaultOf, IsFaultWith, Stops};
 ghost use Rattle.qvt_store.specs.Sound.{Sound};
 ghost use Rattle.qvt_types_program.specs.Program.{program_view};
 ghost use Rattle.std.specs.List.{AllByRecursion};
@@ -84,7 +84,7 @@ pub fn left_by(
     end: &RunEnd<'_>,
 ) -> Result<Plan, Stop>
     requires { Sound end.now.store.now }
-    ensures gives { (f : Finished) → IsEnd f end.now → Gives outcome_of result (left job.now (program_view program.now) ids.now (meaning.outcome_of (Ok f))) }
+    ensures gives { (f : Finished) → IsEnd f end.now → GivesOrStops outcome_of result (left job.now (program_view program.now) ids.now (meaning.outcome_of (Ok f))) }
     ensures ready { IfOk result (λ plan. IsReady plan.outputs) }
     ensures no_reads { IfFaultOf result (λ file. ⊥) }
     ensures conform { IfOk result (λ plan. AreConforming end.now.store.now job.now.outputs) }

@@ -4,7 +4,7 @@ ghost use Rattle.std.specs.Prelude.{Err, IfOk, option_map};
 ghost use Rattle.qvt_json.specs.Steps.{none_of};
 ghost use Rattle.qvt_meaning_report.specs.Meaning as meaning;
 ghost use Rattle.qvt_outcome.specs.Outcome.{Outcome};
-ghost use Rattle.qvt_outcome.specs.Steps.{Gives, IfFaultOf, IsFaultWith, Stops};
+ghost use Rattle.qvt_outcome.specs.Steps.{GivesOrStops, IfFaultOf, IsFaultWith, Stops};
 ghost use Rattle.qvt_outputs.specs.Left.{low_outcome};
 
 use qvt_base::list_fault::ListFault;
@@ -31,7 +31,7 @@ fn low_stop(alloc: Global, store: &Store, ids: &IdTable, low: LowFault) -> Resul
 
 /// The first slot of what is written that is under its lower bound ends the run.
 pub fn within_bounds(alloc: Global, store: &Store, ids: &IdTable) -> Result<(), Stop>
-    ensures gives { Gives (λ u. u) result (none_of (option_map (low_outcome store.now ids.now) (meaning.low_in store.now))) }
+    ensures gives { GivesOrStops (λ u. u) result (none_of (option_map (low_outcome store.now ids.now) (meaning.low_in store.now))) }
     ensures no_reads { IfFaultOf result (λ file. ⊥) }
 {
     match low_in(alloc, store)? {

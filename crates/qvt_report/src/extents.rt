@@ -13,7 +13,7 @@ use qvt_base::lists::ExtentNumberList;
 use qvt_base::seq::Seq;
 use qvt_conform::fault::LowFault;
 use qvt_conform::low::lower_bounds;
-use qvt_slots::extent::Extent;
+use qvt_store::extent::Extent;
 use qvt_store::store::Store;
 use std::alloc::Global;
 

@@ -6,7 +6,7 @@ ghost use Rattle.qvt_run_ids.specs.Places.{count_at, no_counts, places_of, raise
 use qvt_base::list_fault::ListFault;
 use qvt_base::numbers::Oid;
 use qvt_base::seq::Seq;
-use qvt_slots::extent::Extent;
+use qvt_store::extent::Extent;
 use qvt_store::store::Store;
 use std::alloc::Global;
 

@@ -20,7 +20,7 @@ use Rattle.qvt_slots.specs.Assign.{crosses, change_to, change_of, is_too_many, i
 use Rattle.qvt_slots.proofs.Lists.{length-map}
 use Rattle.qvt_slots.proofs.Typed.{all_kept}
 use Rattle.qvt_slots.proofs.Instances as objects
-use Rattle.qvt_store_laws.specs.Law.{IsMade, IsFit}
+use Rattle.qvt_store_laws.specs.Law.{HasDifferences, IsFit}
 use Rattle.qvt_store_laws.specs.Sound.{IsClassFor, Sound}
 use Rattle.qvt_store_laws.specs.Stay.{StaysIn, IsStore, InputsStay}
 use Rattle.qvt_store_laws.proofs.Held.{added_new, removed_old}
@@ -89,7 +89,7 @@ module _ (s : Contents) (o p : ℕ) (ws : List Value) (fit : IsFit s o p ws) (ap
   abbrev well : IsWellFormed s.metas
   well = apart.well_formed
 
-  made : IsMade c
+  made : HasDifferences c
   made = record { adds = refl; removes = refl }
 
   added_here : is_model s (extent_of s o) ≡ true → (y : ℕ) → is_added c y ≡ true → extent_of s y ≡ extent_of s o

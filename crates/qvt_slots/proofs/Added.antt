@@ -19,7 +19,7 @@ use Rattle.qvt_slots.specs.Contents.{Instance, AreNamed, HoldOwn, no_instance, i
 use Rattle.qvt_slots.specs.Limits.{most_objects}
 use Rattle.qvt_slots.specs.Types.{is_of_type}
 use Rattle.qvt_slots.specs.Repeats.{repeats, AreUnique}
-use Rattle.qvt_slots.specs.Cells.{instance_of, instances, contents_of, holder_at, AreWhole, IsKept}
+use Rattle.qvt_slots.specs.Cells.{instance_of, instances, contents_of, holder_at, AreWhole, IsStoreKept}
 use Rattle.qvt_slots.specs.Members.{AreEmpty}
 use Rattle.qvt_slots.proofs.Lists.{length-push, below_end, at_end, length-map}
 use Rattle.qvt_slots.proofs.Places.{list_of-nil}
@@ -87,9 +87,9 @@ module _ (m : Metamodels) (cells : List Cell) (k : Cell) (kept : AreWhole m cell
           sym (ap (λ (l : List Instance). (slice_index_or l y no_instance).class) (instances-push cells k) ∙ ap (λ (ob : Instance). ob.class) (below_end (instances cells) (instance_of k) y no_instance h)),
         )
 
-    pub added_kept : (members lists : List (List Oid)) (marks : Marks) → IsKept m extents cells members marks → k.extent < length members →
+    pub added_kept : (members lists : List (List Oid)) (marks : Marks) → IsStoreKept m extents cells members marks → k.extent < length members →
         lists ≡ set members k.extent (slice_index_or members k.extent [] ++ record { 0 = length cells } ∷ []) →
-        (HoldOwn (contents_of m extents cells) → HoldOwn (contents_of m extents (cells ++ k ∷ []))) → IsKept m extents (cells ++ k ∷ []) lists marks
+        (HoldOwn (contents_of m extents cells) → HoldOwn (contents_of m extents (cells ++ k ∷ []))) → IsStoreKept m extents (cells ++ k ∷ []) lists marks
     added_kept members lists marks store live is own = record {
       whole = added_whole;
       typed = record {
@@ -113,7 +113,7 @@ empties_more gs i d h = ap (λ (l : List FeatureNo). map (λ (g : FeatureNo). le
 pub no_slots : (m : Metamodels) (x f : ℕ) → slot_in m [] x f ≡ []
 no_slots m x f = list_of-nil (features_of m 0) f
 
-pub empty_kept : (m : Metamodels) (extents : List Extent) (lists : List (List Oid)) → IsWellFormed m → AreNamed m extents → AreEmpty (length extents) lists → IsKept m extents [] lists (record { distinct = true; own = true })
+pub empty_kept : (m : Metamodels) (extents : List Extent) (lists : List (List Oid)) → IsWellFormed m → AreNamed m extents → AreEmpty (length extents) lists → IsStoreKept m extents [] lists (record { distinct = true; own = true })
 empty_kept m extents lists well named are = record {
   whole = record {
     well_formed = well;

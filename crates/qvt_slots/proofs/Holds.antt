@@ -15,7 +15,7 @@ use Rattle.qvt_slots.specs.Slots.{Slots, has, is_object}
 use Rattle.qvt_slots.specs.Change.{among}
 use Rattle.qvt_slots.specs.Contents.{Instance, no_instance, slot_in}
 use Rattle.qvt_slots.specs.Cells.{instance_of, instances, holder_at, holder_in, HaveSlots, SameObjects, IsPut, with_list}
-use Rattle.qvt_slots.specs.Writes.{IsWrite, written, IsWritten, IsHeld, AllLive, AreHeld, or_else, held_by, held_of, AreHeldBy, held_here, AreHeldHere, IsSettled}
+use Rattle.qvt_slots.specs.Writes.{IsWrite, written, AreWritten, IsHeld, AllLive, AreHeld, or_else, held_by, held_of, AreHeldBy, held_here, AreHeldHere, IsSettled}
 use Rattle.qvt_slots.proofs.Objects.{has-push}
 use Rattle.qvt_slots.proofs.Cells.{length-instances, length-holders, cell-instance, instances-set, holders-set}
 
@@ -149,14 +149,14 @@ pub written-push : (ws : List Write) (w : Write) (s : Slots) → written (ws ++ 
 written-push [] w s = refl
 written-push (v ∷ ws) w s = written-push ws w (with_list s v.object.0 v.feature.0 v.items)
 
-pub written_none : (m : Metamodels) (cells : List Cell) → HaveSlots m cells → IsWritten m cells cells []
+pub written_none : (m : Metamodels) (cells : List Cell) → HaveSlots m cells → AreWritten m cells cells []
 written_none m cells have' = record {
   objects = record { same_length = refl; classes = λ x. refl; extents = λ x. refl; have_slots = have' };
   holders = λ y. refl;
   slots = λ x f. refl;
 }
 
-pub written_more : (m : Metamodels) (old now next : List Cell) (ws : List Write) (w : Write) → IsWritten m old now ws → IsPut m now next w.object.0 w.feature.0 w.items → IsWritten m old next (ws ++ w ∷ [])
+pub written_more : (m : Metamodels) (old now next : List Cell) (ws : List Write) (w : Write) → AreWritten m old now ws → IsPut m now next w.object.0 w.feature.0 w.items → AreWritten m old next (ws ++ w ∷ [])
 written_more m old now next ws w so step =
     let a : SameObjects m old now = so.objects in
     let b : SameObjects m now next = step.objects in
@@ -199,7 +199,7 @@ here_contained m d old new k is = record {
     go false h o = refl
 
 pub settled : (m : Metamodels) (d : Draft) (old one two three new : List Cell) (ws : List Write) (released : List Oid) →
-    AreHeld old one (among released) None → AreHeldHere m d one two → AreHeldBy m two three ws → IsWritten m three new ws → IsSettled m d old new ws released
+    AreHeld old one (among released) None → AreHeldHere m d one two → AreHeldBy m two three ws → AreWritten m three new ws → IsSettled m d old new ws released
 settled m d old one two three new ws released a h b w =
     let e : instances three ≡ instances old = b.objects ∙ h.objects ∙ a.objects in
     let o : SameObjects m three new = w.objects in

@@ -57,7 +57,7 @@ pub record AreMembers (extents : List Extent) (cells : List Cell) (members : Lis
   pub lists : (e : ℕ) → e < length members → slice_index_or members e [] ≡ members_from 0 (instances cells) e
 
 -- each mark is set only where it holds
-pub record IsKept (m : Metamodels) (extents : List Extent) (cells : List Cell) (members : List (List Oid)) (marks : Marks) : Type 0 where
+pub record IsStoreKept (m : Metamodels) (extents : List Extent) (cells : List Cell) (members : List (List Oid)) (marks : Marks) : Type 0 where
   pub whole : AreWhole m cells
   pub named : AreNamed m extents
   pub typed : AreTyped (contents_of m extents cells)

@@ -21,7 +21,7 @@ abbrev pub written : List Write → Slots → Slots
 written [] s = s
 written (w ∷ ws) s = written ws (with_list s w.object.0 w.feature.0 w.items)
 
-pub record IsWritten (m : Metamodels) (old new : List Cell) (writes : List Write) : Type 0 where
+pub record AreWritten (m : Metamodels) (old new : List Cell) (writes : List Write) : Type 0 where
   pub objects : SameObjects m old new
   pub holders : (y : ℕ) → holder_at new y ≡ holder_at old y
   pub slots : (x f : ℕ) → slot_in m (instances new) x f ≡ written writes (slot_in m (instances old)) x f

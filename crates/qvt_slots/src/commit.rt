@@ -5,7 +5,7 @@ ghost use Rattle.qvt_metamodel.specs.Metamodels.{has_feature, is_containment};
 ghost use Rattle.qvt_slots.specs.Slots.{has, is_object};
 ghost use Rattle.qvt_slots.specs.Change.{among};
 ghost use Rattle.qvt_slots.specs.Cells.{HaveSlots, IsPut, instance_in, instances};
-ghost use Rattle.qvt_slots.specs.Writes.{IsWrite, IsWritten, IsHeld, AllLive, AreHeld, AreHeldBy, AreHeldHere, IsSettled};
+ghost use Rattle.qvt_slots.specs.Writes.{IsWrite, AreWritten, IsHeld, AllLive, AreHeld, AreHeldBy, AreHeldHere, IsSettled};
 
 use crate::cell::{Cell, Holder};
 use crate::draft::Draft;
@@ -27,7 +27,7 @@ pub struct Write {
 pub fn put_all(metas: &Metas, cells: &mut Vec<Cell>, writes: Vec<Write>)
     requires have_slots { HaveSlots metas.now cells.old.items }
     requires writes { All (IsWrite metas.now cells.old.items) writes.items }
-    ensures { IsWritten metas.now cells.old.items cells.new.items writes.items }
+    ensures { AreWritten metas.now cells.old.items cells.new.items writes.items }
 {
     for write in writes {
         put(metas, cells, write.object, write.feature, write.items);

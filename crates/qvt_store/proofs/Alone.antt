@@ -17,7 +17,7 @@ use Rattle.qvt_slots.specs.Contents.{Contents, extent_of, is_model, is_writable,
 use Rattle.qvt_slots.specs.Types.{IsAssignable}
 use Rattle.qvt_slots.specs.Repeats.{new_list}
 use Rattle.qvt_slots.specs.Assign.{is_beyond, crosses, change_to, store_after, assign}
-use Rattle.qvt_slots.specs.Cells.{instances, contents_of, holder_at, holder_in, AreWhole, IsKept, IsPut}
+use Rattle.qvt_slots.specs.Cells.{instances, contents_of, holder_at, holder_in, AreWhole, IsStoreKept, IsPut}
 use Rattle.qvt_slots.specs.Walk.{ClosesCycle, by_items, by_end}
 use Rattle.qvt_slots.specs.Writes.{or_else, IsSettled}
 use Rattle.qvt_store.specs.Draft.{drafted, overfills_elsewhere, is_overfilling, IsAllowed}
@@ -122,7 +122,7 @@ module _ (m : Metamodels) (extents : List Extent) (old mid : List Cell) (o : Oid
   is_done : IsSettled m d mid mid [] []
   is_done = settled m d old mid o.0 p.0 list (no_containment m p.0 is.alone) put
 
-  pub lone_kept : (members : List (List Oid)) (marks : Marks) → IsKept m extents old members marks → IsKept m extents mid members marks
+  pub lone_kept : (members : List (List Oid)) (marks : Marks) → IsStoreKept m extents old members marks → IsStoreKept m extents mid members marks
   lone_kept members marks kept' = kept_whole m extents old d list [] [] store is_ready mid mid put is_done members marks marks kept' refl
       (λ t. (t, or_right (is_model s (extent_of s o.0)) _ (not_of_false _ is.alone)))
 

@@ -8,7 +8,7 @@ use Rattle.qvt_metamodel.specs.WellFormed.{IsWellFormed}
 use Rattle.qvt_relation.proofs.Bools.{and_left, and_right, and_both, and_false, and_false_left, or_none, either, refuted, clash, none_of}
 use Rattle.qvt_slots.specs.Slots.{Slots, has, Contains, Inside, directly, through}
 use Rattle.qvt_slots.specs.Change.{Change, is_some_object, is_here, is_added, names_containment, is_container, gains, is_taken, is_replaced, is_moved_in, is_moved, leaves, is_left, slot_after}
-use Rattle.qvt_store_laws.specs.Law.{IsMade, FitsSingle}
+use Rattle.qvt_store_laws.specs.Law.{HasDifferences, FitsSingle}
 use Rattle.qvt_slots.specs.Walk.{IsOver, SomeOver, IsOverSome, ClosesCycle, by_items, by_end, IsCyclic}
 use Rattle.qvt_slots.proofs.Objects.{one_object}
 use Rattle.qvt_store_laws.proofs.Held.{given, kept, gained, held_after, after_held, added_new, adds}
@@ -53,7 +53,7 @@ not_container m well p k = go (opposite m p) refl
     go None e = refl
     go (Some q) e = well.one_containment p q.0 (ap (λ r. is_feature_number r q.0) e ∙ (Decides-eqb q.0 q.0).1 refl) k
 
-module _ (c : Change) (made : IsMade c) (well : IsWellFormed c.metas) (fits : FitsSingle c) (acyclic : (x : ℕ) → Inside c.metas c.slots x x → ⊥) where
+module _ (c : Change) (made : HasDifferences c) (well : IsWellFormed c.metas) (fits : FitsSingle c) (acyclic : (x : ℕ) → Inside c.metas c.slots x x → ⊥) where
   abbrev m : Metamodels
   m = c.metas
 

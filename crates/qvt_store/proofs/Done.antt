@@ -24,9 +24,9 @@ use Rattle.qvt_slots.specs.Contents.{Contents, Instance, HoldOwn, no_instance, i
 use Rattle.qvt_slots.specs.Types.{is_of_type}
 use Rattle.qvt_slots.specs.Repeats.{repeats}
 use Rattle.qvt_slots.specs.Assign.{change_to, instance_after, instances_after, store_after}
-use Rattle.qvt_store_laws.specs.Law.{IsMade}
+use Rattle.qvt_store_laws.specs.Law.{HasDifferences}
 use Rattle.qvt_store.specs.Draft.{change_with, drafted, IsDraft}
-use Rattle.qvt_slots.specs.Cells.{instances, instance_in, contents_of, holder_at, holder_in, AreWhole, IsKept, IsPlaceOf, SameObjects, IsPut, with_list}
+use Rattle.qvt_slots.specs.Cells.{instances, instance_in, contents_of, holder_at, holder_in, AreWhole, IsStoreKept, IsPlaceOf, SameObjects, IsPut, with_list}
 use Rattle.qvt_slots.specs.Writes.{IsWrite, AllLive, written, or_else, held_by, held_of, held_here, holder_after, IsSettled, released_by, released_here}
 use Rattle.qvt_store.specs.Plan.{is_write_of, listed, IsRight, IsPlan}
 use Rattle.qvt_slots.proofs.Places.{list_of-place}
@@ -226,7 +226,7 @@ module _ (m : Metamodels) (extents : List Extent) (old : List Cell) (d : Draft) 
   abbrev c : Change
   c = change_to s o p items
 
-  made : IsMade c
+  made : HasDifferences c
   made = record { adds = refl; removes = refl }
 
   plan : IsPlan s c ws
@@ -477,8 +477,8 @@ module _ (m : Metamodels) (extents : List Extent) (old : List Cell) (d : Draft) 
           ∙ sym (same.extents x);
     }
 
-    pub kept_whole : (members : List (List Oid)) (marks marks' : Marks) → IsKept m extents old members marks → marks'.distinct ≡ marks.distinct →
-        (marks'.own ≡ true → (marks.own ≡ true) × ((is_model s (extent_of s o) || not (is_linked m p)) ≡ true)) → IsKept m extents new members marks'
+    pub kept_whole : (members : List (List Oid)) (marks marks' : Marks) → IsStoreKept m extents old members marks → marks'.distinct ≡ marks.distinct →
+        (marks'.own ≡ true → (marks.own ≡ true) × ((is_model s (extent_of s o) || not (is_linked m p)) ≡ true)) → IsStoreKept m extents new members marks'
     kept_whole members marks marks' kept' same_mark only = record {
       whole = whole_after;
       typed = record {

@@ -17,7 +17,7 @@ use Rattle.qvt_slots.specs.Slots.{Slots, has, Contains, Inside, directly, throug
 use Rattle.qvt_slots.specs.Contents.{Contents, Instance, HoldOwn, no_instance, extent_of, is_model, is_live, slot_in, slot_of, set_slot, with_slot}
 use Rattle.qvt_slots.specs.Types.{is_of_type}
 use Rattle.qvt_slots.specs.Repeats.{repeats, AreUnique}
-use Rattle.qvt_slots.specs.Cells.{instances, instance_in, contents_of, holder_at, holder_in, AreWhole, IsKept, SameObjects, IsPut, with_list}
+use Rattle.qvt_slots.specs.Cells.{instances, instance_in, contents_of, holder_at, holder_in, AreWhole, IsStoreKept, SameObjects, IsPut, with_list}
 use Rattle.qvt_slots.specs.Writes.{AllLive, or_else, held_by, AreHeldBy}
 use Rattle.qvt_store_laws.specs.Place.{IsPlaceable}
 use Rattle.qvt_store_laws.proofs.Attributes.{stays_live, listed_same, each_put}
@@ -145,9 +145,9 @@ module _ (m : Metamodels) (extents : List Extent) (old mid new : List Cell) (w :
           ∙ sym (same.extents x);
     }
 
-    pub placed_kept : (members : List (List Oid)) (marks marks' : Marks) → IsKept m extents old members marks →
+    pub placed_kept : (members : List (List Oid)) (marks marks' : Marks) → IsStoreKept m extents old members marks →
         (marks'.distinct ≡ true → (marks.distinct ≡ true) × ((shape_of m p).unique ≡ true → repeats vs ≡ false)) →
-        (marks'.own ≡ true → (marks.own ≡ true) × (crosses s o vs ≡ false)) → IsKept m extents new members marks'
+        (marks'.own ≡ true → (marks.own ≡ true) × (crosses s o vs ≡ false)) → IsStoreKept m extents new members marks'
     placed_kept members marks marks' kept' only stay = record {
       whole = whole_new;
       typed = record {

@@ -18,7 +18,7 @@ use Rattle.qvt_slots.specs.Change.{Change, is_here, is_added, gains, slot_elsewh
 use Rattle.qvt_slots.specs.Contents.{Contents, is_live, slot_of}
 use Rattle.qvt_slots.specs.Repeats.{new_list}
 use Rattle.qvt_slots.specs.Assign.{change_to, is_beyond, overfills_end, is_too_many, is_cyclic, is_read_only, crosses, refusal_of, store_after, ok_unless, assign}
-use Rattle.qvt_store_laws.specs.Law.{IsMade, FitsSingle, IsFit}
+use Rattle.qvt_store_laws.specs.Law.{HasDifferences, FitsSingle, IsFit}
 use Rattle.qvt_store.specs.Draft.{change_with, drafted, IsDraft, overfills_elsewhere, is_overfilling, AddsLive, IsAllowed, IsEarlyFault}
 use Rattle.qvt_slots.specs.Walk.{ClosesCycle, by_items, by_end, IsCyclic}
 use Rattle.qvt_store_laws.proofs.Held.{given, kept, gained, held_after, added_new}
@@ -61,7 +61,7 @@ module _ (s : Contents) (d : Draft) (ws : List Value) (well : IsWellFormed s.met
   abbrev c : Change
   c = change_to s d.object.0 d.feature.0 ws
 
-  made : IsMade c
+  made : HasDifferences c
   made = record { adds = refl; removes = refl }
 
   count_is : is_overfilling (drafted s d) (length ws) ≡ is_too_many c

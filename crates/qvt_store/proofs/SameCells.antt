@@ -9,10 +9,10 @@ use Rattle.qvt_slots.specs.Slots.{has, Inside}
 use Rattle.qvt_slots.specs.Contents.{Instance, HoldOwn, slot_in, members_from}
 use Rattle.qvt_slots.specs.Types.{AreTyped}
 use Rattle.qvt_slots.specs.Repeats.{AreUnique}
-use Rattle.qvt_slots.specs.Cells.{contents_of, IsKept, IsSameCells}
+use Rattle.qvt_slots.specs.Cells.{contents_of, IsStoreKept, IsSameCells}
 use Rattle.qvt_slots.proofs.Holds.{same_count, have_same}
 
-pub same_kept : (m : Metamodels) (extents : List Extent) (old new : List Cell) (members : List (List Oid)) (marks : Marks) → IsSameCells old new → IsKept m extents old members marks → IsKept m extents new members marks
+pub same_kept : (m : Metamodels) (extents : List Extent) (old new : List Cell) (members : List (List Oid)) (marks : Marks) → IsSameCells old new → IsStoreKept m extents old members marks → IsStoreKept m extents new members marks
 same_kept m extents old new members marks same kept' = record {
   whole = record {
     well_formed = kept'.whole.well_formed;

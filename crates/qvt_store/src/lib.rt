@@ -3,5 +3,7 @@
 
 pub mod store;
 
-pub use qvt_slots::{extent as extent, fault as fault, op as op};
+pub use qvt_slots::{
+    extent as extent, fault as fault, features as features, metas as metas, op as op, put as put,
+};
 pub use qvt_store_laws::law as law;

@@ -69,11 +69,11 @@ impl Model for Store {
 
     ghost coded = { Prim.hlevel (codes, value.the_row.coded) };
 
-    ghost use Rattle.qvt_slots.specs.Cells.{contents_of, IsKept};
+    ghost use Rattle.qvt_slots.specs.Cells.{contents_of, IsStoreKept};
 
     ghost view = { λ s. contents_of s.metas s.extents s.cells.items };
 
-    ghost invariant = { λ s. IsKept s.metas s.extents s.cells.items s.members.items s.marks };
+    ghost invariant = { λ s. IsStoreKept s.metas s.extents s.cells.items s.members.items s.marks };
 }
 
 impl Store {

@@ -18,7 +18,7 @@ use Rattle.qvt_slots.specs.Contents.{Contents, Instance, no_instance, object_at,
 use Rattle.qvt_slots.specs.Types.{is_of_kind, is_of_type, IsAssignable}
 use Rattle.qvt_slots.specs.Repeats.{new_list, without_repeats, same_value}
 use Rattle.qvt_slots.specs.Assign.{instance_after, instances_after, store_after, change_to}
-use Rattle.qvt_store_laws.specs.Law.{IsMade}
+use Rattle.qvt_store_laws.specs.Law.{HasDifferences}
 use Rattle.qvt_store_laws.specs.Law.{IsFit}
 use Rattle.qvt_slots.proofs.Lists.{past_end, length-map}
 use Rattle.qvt_slots.proofs.Places.{list_of-absent, list_of-nil}
@@ -115,7 +115,7 @@ module _ (s : Contents) (o p : ℕ) (ws : List Value) (well : IsWellFormed s.met
   abbrev c : Change
   c = change_to s o p ws
 
-  made : IsMade c
+  made : HasDifferences c
   made = record { adds = refl; removes = refl }
 
   pub added_object : (x : ℕ) → is_added c x ≡ true → (is_live s x && is_class_kind s.metas (class_of s x) (shape_of s.metas p).kind) ≡ true

@@ -6,12 +6,12 @@ use Rattle.qvt_metamodel.specs.WellFormed.{IsWellFormed}
 use Rattle.qvt_relation.proofs.Bools.{and_left, and_right, and_both, or_left, not_of_false, either, clash, third_of_4, fourth_of_4}
 use Rattle.qvt_slots.specs.Slots.{has, OneContainer}
 use Rattle.qvt_slots.specs.Change.{Change, is_here, is_container, gains, is_taken, is_replaced, is_moved_in, is_moved, leaves, loses, slot_after}
-use Rattle.qvt_store_laws.specs.Law.{IsMade, FitsSingle}
+use Rattle.qvt_store_laws.specs.Law.{HasDifferences, FitsSingle}
 use Rattle.qvt_slots.proofs.Objects.{one_object, some_among}
 use Rattle.qvt_store_laws.proofs.Held.{given, kept, gained, held_after, added_new, adds}
 use Rattle.qvt_store_laws.proofs.Opposites.{same_number, container-of, here}
 
-module _ (c : Change) (made : IsMade c) (well : IsWellFormed c.metas) (fits : FitsSingle c) (old : OneContainer c.metas c.slots) where
+module _ (c : Change) (made : HasDifferences c) (well : IsWellFormed c.metas) (fits : FitsSingle c) (old : OneContainer c.metas c.slots) where
   abbrev Same : ℕ → ℕ → ℕ → ℕ → Type 0
   Same x f x' f' = (x ≡ x') × (f ≡ f')
 

@@ -8,7 +8,7 @@ use Rattle.qvt_metamodel.specs.WellFormed.{IsWellFormed}
 use Rattle.qvt_relation.proofs.Bools.{and_left, and_right, and_both, and_false, and_false_left, or_none, none_left, none_right, not_of_true, either, refuted, clash, none_of, first_of_4}
 use Rattle.qvt_slots.specs.Slots.{has, OppositesAgree}
 use Rattle.qvt_slots.specs.Change.{Change, is_some_object, is_here, is_added, names_containment, is_container, gains, is_taken, is_replaced, is_moved_in, is_moved, leaves, is_left, loses, slot_after}
-use Rattle.qvt_store_laws.specs.Law.{IsMade, FitsSingle}
+use Rattle.qvt_store_laws.specs.Law.{HasDifferences, FitsSingle}
 use Rattle.qvt_slots.proofs.Objects.{none_beyond}
 use Rattle.qvt_store_laws.proofs.Held.{HeldAfter, given, kept, gained, held_after, after_held, added_new, adds, not_added, removes, not_removed}
 
@@ -32,7 +32,7 @@ here c x f h = ((Decides-eqb x c.object).0 (and_left _ _ h), (Decides-eqb f c.fe
 pub here_again : (c : Change) → is_here c c.object c.feature ≡ true
 here_again c = and_both _ _ ((Decides-eqb c.object c.object).1 refl) ((Decides-eqb c.feature c.feature).1 refl)
 
-module _ (c : Change) (made : IsMade c) (well : IsWellFormed c.metas) (fits : FitsSingle c) (old : OppositesAgree c.metas c.slots) where
+module _ (c : Change) (made : HasDifferences c) (well : IsWellFormed c.metas) (fits : FitsSingle c) (old : OppositesAgree c.metas c.slots) where
   not_itself : (g : ℕ) → is_opposite c.metas c.feature g ≡ true → g ≡ c.feature → ⊥
   not_itself g e same = clash _ e (subst (λ k. is_opposite c.metas c.feature k ≡ false) (sym same) (well.other_feature c.feature))
 

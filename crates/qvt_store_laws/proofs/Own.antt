@@ -12,7 +12,7 @@ use Rattle.qvt_slots.specs.Change.{Change, is_some_feature, is_linked, slot_afte
 use Rattle.qvt_slots.specs.Contents.{Contents, Instance, HoldOwn, extent_of, is_live, is_model, slot_of, with_new}
 use Rattle.qvt_slots.specs.Types.{AreTyped}
 use Rattle.qvt_slots.specs.Assign.{is_elsewhere, crosses, change_to}
-use Rattle.qvt_store_laws.specs.Law.{IsMade}
+use Rattle.qvt_store_laws.specs.Law.{HasDifferences}
 use Rattle.qvt_slots.proofs.Objects.{not_any}
 use Rattle.qvt_slots.proofs.Instances as objects
 use Rattle.qvt_store_laws.proofs.Held.{given, kept, gained, held_after, added_new}
@@ -74,7 +74,7 @@ module _ (s : Contents) (o p : ℕ) (ws : List Value) where
   abbrev c : Change
   c = change_to s o p ws
 
-  made : IsMade c
+  made : HasDifferences c
   made = record { adds = refl; removes = refl }
 
   pub own_after : HoldOwn s → crosses s o ws ≡ false → ((f : ℕ) → is_opposite s.metas p f ≡ true → is_model s (extent_of s o) ≡ true) →

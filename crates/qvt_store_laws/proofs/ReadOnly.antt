@@ -16,7 +16,7 @@ use Rattle.qvt_slots.specs.Types.{is_of_type, IsAssignable}
 use Rattle.qvt_slots.specs.Repeats.{new_list}
 use Rattle.qvt_slots.specs.Assign.{crosses, change_to, change_of, instances_after, is_too_many, is_cyclic, is_read_only, refusal_of, store_after, assign}
 use Rattle.qvt_slots.proofs.Lists.{past_end}
-use Rattle.qvt_store_laws.specs.Law.{IsMade}
+use Rattle.qvt_store_laws.specs.Law.{HasDifferences}
 use Rattle.qvt_store_laws.specs.Law.{IsFit}
 use Rattle.qvt_store_laws.specs.Sound.{IsClassFor, Sound}
 use Rattle.qvt_store_laws.specs.Stay.{StaysIn, IsStore, ReadOnlyStays, InputsStay, InputsStayIsReflexive, InputsStayIsTransitive, AddLeavesInputs, WriteLeavesInputs}
@@ -33,7 +33,7 @@ module _ (s : Contents) (o p : ℕ) (ws : List Value) (well : IsWellFormed s.met
   abbrev c : Change
   c = change_to s o p ws
 
-  made : IsMade c
+  made : HasDifferences c
   made = record { adds = refl; removes = refl }
 
   -- an extent that is no model's has objects of a metamodel without a name

@@ -21,7 +21,7 @@ use Rattle.qvt_slots.specs.Contents.{Contents, AreNamed, class_of, extent_of, ex
 use Rattle.qvt_slots.specs.Types.{is_of_type, AreTyped, IsPlain, IsAssignable}
 use Rattle.qvt_slots.specs.Repeats.{repeats, same_value, without_repeats, new_list, AreUnique}
 use Rattle.qvt_slots.specs.Assign.{change_to, change_of, is_beyond, is_overfull, overfills_end, is_too_many, is_cyclic, is_read_only, crosses, refusal_of, store_after, ok_unless, assign}
-use Rattle.qvt_store_laws.specs.Law.{IsMade, FitsSingle}
+use Rattle.qvt_store_laws.specs.Law.{HasDifferences, FitsSingle}
 use Rattle.qvt_store_laws.specs.Sound.{IsClassFor, Sound, AssignKeepsSound, AppendKeepsSound, WriteKeepsSound}
 use Rattle.qvt_store_laws.proofs.Opposites.{here, keeps_opposites}
 use Rattle.qvt_store_laws.proofs.Containers.{keeps_one_container}
@@ -139,7 +139,7 @@ module _ (s : Contents) (o p : ℕ) (ws : List Value) (well : IsWellFormed s.met
   abbrev s' : Contents
   s' = store_after s c
 
-  made : IsMade c
+  made : HasDifferences c
   made = record { adds = refl; removes = refl }
 
   causes : (is_too_many c ≡ false) × (is_cyclic s.metas (slot_after c) (length s.objects) ≡ false) × (is_read_only s o ≡ false) × (crosses s o ws ≡ false)

@@ -10,7 +10,7 @@ use Rattle.qvt_slots.specs.Contents.{Contents, is_slot}
 use Rattle.qvt_slots.specs.Types.{is_of_type}
 
 -- what is added and removed is told by the old list and the new one
-pub record IsMade (c : Change) : Type 0 where
+pub record HasDifferences (c : Change) : Type 0 where
   pub adds : c.added ≡ objects_beyond (c.slots c.object c.feature) c.items
   pub removes : c.removed ≡ objects_beyond c.items (c.slots c.object c.feature)
 
@@ -24,7 +24,7 @@ pub record IsFit (s : Contents) (o p : ℕ) (ws : List Value) : Type 0 where
   pub types : IsTrue (list_all (is_of_type s p) ws)
 
 abbrev pub KeepsOpposites : Type 0
-KeepsOpposites = (c : Change) → IsMade c → IsWellFormed c.metas → FitsSingle c → OppositesAgree c.metas c.slots → OppositesAgree c.metas (slot_after c)
+KeepsOpposites = (c : Change) → HasDifferences c → IsWellFormed c.metas → FitsSingle c → OppositesAgree c.metas c.slots → OppositesAgree c.metas (slot_after c)
 
 abbrev pub KeepsOneContainer : Type 0
-KeepsOneContainer = (c : Change) → IsMade c → IsWellFormed c.metas → FitsSingle c → OneContainer c.metas c.slots → OneContainer c.metas (slot_after c)
+KeepsOneContainer = (c : Change) → HasDifferences c → IsWellFormed c.metas → FitsSingle c → OneContainer c.metas c.slots → OneContainer c.metas (slot_after c)

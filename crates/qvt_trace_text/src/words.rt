@@ -5,7 +5,7 @@ ghost use Rattle.qvt_meaning_report.specs.TraceText as report;
 ghost use Rattle.qvt_trace_text.specs.Words.{form_word, op_word};
 
 use qvt_run_data::request::Request;
-use qvt_slots::op::SetOp;
+use qvt_store::op::SetOp;
 use qvt_value::value::Kind;
 
 pub fn kind_name(kind: Kind) -> &'static str

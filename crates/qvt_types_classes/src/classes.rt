@@ -21,7 +21,7 @@ use qvt_base::lists::ClassNoList;
 use qvt_base::numbers::{ClassNo, FeatureNo};
 use qvt_base::seq::Seq;
 use qvt_meta_given::room::has_room_for;
-use qvt_metamodel::given::{ClassData, ClassDataList, FeatureData, FeatureDataList};
+use qvt_metas::given::{ClassData, ClassDataList, FeatureData, FeatureDataList};
 use qvt_metas::metas::Metas;
 use qvt_tree_types::module::Unit;
 use qvt_types_paths::model_types::TypeNames;

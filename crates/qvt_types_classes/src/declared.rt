@@ -12,7 +12,7 @@ use qvt_base::numbers::{ClassNo, Place};
 use qvt_base::seq::Seq;
 use qvt_base::text::Text;
 use qvt_cycle::lists::Positions;
-use qvt_metamodel::info::{FeatureShape, TypeKind};
+use qvt_metas::info::{FeatureShape, TypeKind};
 use qvt_metas::metas::Metas;
 use qvt_tree_types::module::{ClassDecl, Field, Unit};
 use qvt_tree_types::types::PathTree;

@@ -13,8 +13,8 @@ use qvt_base::numbers::{ClassNo, FeatureNo, Place};
 use qvt_base::seq::Seq;
 use qvt_base::text::Text;
 use qvt_cycle::lists::Positions;
-use qvt_metamodel::info::ClassInfo;
-use qvt_metamodel::numbering::numbers_from;
+use qvt_metas::info::ClassInfo;
+use qvt_metas::numbering::numbers_from;
 use qvt_metas::tables::tables_of;
 use std::alloc::Global;
 

@@ -8,7 +8,7 @@ ghost use Rattle.qvt_types_classes.specs.Written as declared;
 
 use qvt_base::list_fault::ListFault;
 use qvt_base::numbers::Place;
-use qvt_metamodel::info::{FeatureShape, TypeKind};
+use qvt_metas::info::{FeatureShape, TypeKind};
 use qvt_metas::metas::Metas;
 use qvt_tree_types::module::Field;
 use qvt_tree_types::types::TypeTree;

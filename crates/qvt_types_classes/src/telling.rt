@@ -9,7 +9,7 @@ use crate::declared::super_place;
 use crate::shapes::property_shape;
 use qvt_base::list_fault::ListFault;
 use qvt_base::numbers::Place;
-use qvt_metamodel::info::FeatureShape;
+use qvt_metas::info::FeatureShape;
 use qvt_metas::metas::Metas;
 use qvt_tree_types::module::{ClassDecl, Field, Unit};
 use qvt_tree_types::types::PathTree;

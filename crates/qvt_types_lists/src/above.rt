@@ -11,7 +11,7 @@ use crate::covers::covers_at;
 use qvt_base::list_fault::ListFault;
 use qvt_base::numbers::ClassNo;
 use qvt_base::seq::Seq;
-use qvt_meta_tables::tables::supers_at;
+use qvt_metas::tables::supers_at;
 use qvt_types_groups::choice::context_at;
 use qvt_types_groups::class_choices::class_order;
 use qvt_types_groups::signature::{HeadClass, Signature};

@@ -2,7 +2,7 @@
 
 ghost use Rattle.std.specs.Prelude.{◌≡◌, ◌++◌, ◌<◌, length, map, OnOk};
 ghost use Rattle.std.specs.List.{flat_map};
-ghost use Rattle.qvt_cycle.specs.Ready.{IsReady};
+ghost use Rattle.qvt_cycle.specs.Ready.{AreCyclesOf};
 ghost use Rattle.qvt_tree_types.specs.Module.{mapping_view, unit_view};
 ghost use Rattle.qvt_tree_types.specs.View.{block_view};
 ghost use Rattle.qvt_types_groups.specs.Numbers as numbers;
@@ -221,7 +221,7 @@ fn tell_unit(
     unit: &Unit,
     log: &mut RefusalList,
 ) -> Result<(), ListFault>
-    requires ready { IsReady lists.now cycles.now }
+    requires ready { AreCyclesOf lists.now cycles.now }
     requires there { number < length lists.now }
     ensures { OnOk result (log.new ≡ log.old ++ lists_of.unit_told listing.now.given.now listing.now.metas.now listing.now.names.now listing.now.units.now lists.now number (unit_view unit.now)) }
 {

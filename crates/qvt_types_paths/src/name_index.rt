@@ -10,7 +10,7 @@ use qvt_base::list_fault::ListFault;
 use qvt_base::lists::NameList;
 use qvt_base::seq::Seq;
 use qvt_base::text::Text;
-use qvt_meta_names::name_table::NameTable;
+use qvt_metas::name_table::NameTable;
 use std::alloc::Global;
 use std::marker::Model;
 

@@ -20,7 +20,7 @@ use Rattle.qvt_model.specs.declared.data.SlotData.{SlotData}
 use Rattle.qvt_model.specs.declared.data.ObjectData.{ObjectData}
 use Rattle.qvt_model.specs.WellFormed.{object_at, no_object, ComeAfter, AreInOrder}
 use Rattle.qvt_model.proofs.Lists.{All-both, index-map}
-use Rattle.qvt_conform.specs.Containment.{refs, contents_of_slot, contents_of_slots, contents_of, contents}
+use Rattle.qvt_conform.specs.Containment.{refs, contents_of_slot, contents_of_slots, contents_of_object, contents}
 use Rattle.qvt_written.proofs.Datums.{back, count-app, absent, held_there, once}
 
 -- ---- lists of numbers
@@ -123,13 +123,13 @@ module _ (m : Metamodels) (held : Slots) (at : ℕ → ℕ) (unique : (x f : ℕ
 
   module _ (os : List ObjectData) (all : (i : ℕ) → i < length os → AllByRecursion (IsOf (at i)) (object_at os i).slots) (order : (i : ℕ) → i < length os → AreInOrder m (object_at os i).slots)
       (apart : (i k : ℕ) → i < length os → k < length os → at i ≡ at k → i ≡ k) where
-    lists_at : (i : ℕ) → slice_index_or (contents m os) i [] ≡ contents_of m (object_at os i)
-    lists_at i = index-map (contents_of m) os i no_object
+    lists_at : (i : ℕ) → slice_index_or (contents m os) i [] ≡ contents_of_object m (object_at os i)
+    lists_at i = index-map (contents_of_object m) os i no_object
 
     below : (i j : ℕ) → among (slice_index_or (contents m os) i []) j ≡ true → i < length os
     below i j h = elim (cases_lt i (length os)) [
       | inl l ↦ l
-      | inr l ↦ clash (among (slice_index_or (contents m os) i []) j) h (ap (λ l. among l j) (lists_at i) ∙ ap (λ (o : ObjectData). among (contents_of m o) j) (past_end os i no_object l))
+      | inr l ↦ clash (among (slice_index_or (contents m os) i []) j) h (ap (λ l. among l j) (lists_at i) ∙ ap (λ (o : ObjectData). among (contents_of_object m o) j) (past_end os i no_object l))
     ]
 
     holder : (i j : ℕ) → among (slice_index_or (contents m os) i []) j ≡ true → Found m (IsOf (at i)) j
@@ -138,7 +138,7 @@ module _ (m : Metamodels) (held : Slots) (at : ℕ → ℕ) (unique : (x f : ℕ
     few : (j i : ℕ) → how_often j (slice_index_or (contents m os) i []) ≤ 1
     few j i = subst (λ l. how_often j l ≤ 1) (sym (lists_at i)) (elim (cases_lt i (length os)) [
       | inl l ↦ once_slots (at i) (object_at os i).slots j (all i l) (order i l)
-      | inr l ↦ subst (λ (o : ObjectData). how_often j (contents_of m o) ≤ 1) (sym (past_end os i no_object l)) (let q : 0 ≤ 1 = omega arith in q)
+      | inr l ↦ subst (λ (o : ObjectData). how_often j (contents_of_object m o) ≤ 1) (sym (past_end os i no_object l)) (let q : 0 ≤ 1 = omega arith in q)
     ])
 
     one : (j i k : ℕ) → among (slice_index_or (contents m os) i []) j ≡ true → among (slice_index_or (contents m os) k []) j ≡ true → i ≡ k

@@ -3,7 +3,7 @@
 use super::ground::{arguments, before, known, metas, parts_of, type_of, types_of};
 use super::shown::{ruling_shown, type_shown, wrong_shown};
 use qvt_base::list_fault::ListFault;
-use qvt_metamodel::info::{FeatureShape, TypeKind};
+use qvt_metas::info::{FeatureShape, TypeKind};
 use qvt_metas::metas::Metas;
 use qvt_ocl_words::op::Op;
 use qvt_tree_types::words::{BinaryOp, CollKind, PrefixOp};

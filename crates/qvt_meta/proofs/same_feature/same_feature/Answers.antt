@@ -1,13 +1,13 @@
 use Rattle.std.proofs.Common.{◌≡◌, ◌∙◌, ap, sym, get_or, option_map, Some, length, arith, ℕ, Option}
 use Rattle.qvt_metamodel.specs.Added.{numbered}
 use Rattle.qvt_metamodel.specs.declared.declared.MetaData.{MetaData}
-use Rattle.qvt_metamodel.specs.Checks.{same_feature, repeated_feature, Told}
+use Rattle.qvt_metamodel.specs.Checks.{same_feature, repeated_feature, ClassAndName}
 use Rattle.qvt_metamodel.specs.declared.declared.DeclaredClass.{DeclaredClass}
 use Rattle.qvt_meta_checks.proofs.Passing.{from_next, from_found}
 use Rattle.qvt_meta.proofs.Made.{few_features}
 use Rattle.qvt_meta.proofs.same_feature.same_feature.Goals as goal
 
-abbrev told : MetaData → ℕ → DeclaredClass → Option Told
+abbrev told : MetaData → ℕ → DeclaredClass → Option ClassAndName
 told d i k = option_map (λ name. (k.name, name)) (repeated_feature (numbered d) i)
 
 pub numbers_of_names-requires : goal.numbers_of_names-requires

@@ -3,14 +3,14 @@ use Rattle.std.specs.Prelude.{slice_index}
 use Rattle.std.specs.List.{list_any}
 use Rattle.std.proofs.lemmas.List.{length-set}
 use Rattle.qvt_metamodel.specs.Kept.{is_marked, no_row}
-use Rattle.qvt_meta_tables.specs.Tables.{IsWithin}
+use Rattle.qvt_meta_tables.specs.Tables.{EndsWithin}
 use Rattle.qvt_meta_tables.proofs.Marks.{rows_next, rows_all, within_next}
 use Rattle.qvt_meta_tables.proofs.rows.rows_of.Goals as goal
 
 pub loop-class-preserved : goal.loop-class-preserved
 loop-class-preserved c = record {
   each = ap length c.put.ensures ∙ length-set c.loop-class.rows.items _ _ ∙ c.loop-class.invariant.each;
-  within = λ x. subst (λ rs. IsWithin c.args.count (get_or rs x no_row)) (sym c.put.ensures)
+  within = λ x. subst (λ rs. EndsWithin c.args.count (get_or rs x no_row)) (sym c.put.ensures)
       (within_next c.args.count c.loop-class.rows.items _ c.in_ok-row.row c.loop-class.invariant.within c.in_ok-row.ensures.within c.loop-class.invariant.each x);
   done = λ x live low d.
       ap (λ rs. is_marked (get_or rs x no_row) d) c.put.ensures

@@ -5,7 +5,7 @@ use Rattle.qvt_store.specs.Stay.{InputsStay, StaysIn}
 use Rattle.qvt_model.specs.declared.data.ObjectData.{ObjectData}
 use Rattle.qvt_model.specs.IdTables.{id_in}
 use Rattle.qvt_model.specs.Loaded.{id_told, all_told, MembersStay, TellsAll, TellsNoOther}
-use Rattle.qvt_model.specs.Steps.{added, CanAdd, put_objects, with_objects, CanPutObjects}
+use Rattle.qvt_model.specs.Steps.{objects_added, CanAdd, put_objects, with_objects, CanPutObjects}
 use Rattle.qvt_model.proofs.Loading.{adds, puts, gives, stays_sound}
 use Rattle.qvt_model.proofs.Loads.{load_leaves}
 use Rattle.qvt_model.proofs.load.load.Goals as goal
@@ -21,10 +21,10 @@ place_objects-requires c =
     let well = c.is_whole.ensures.well_formed in
     let e = c.args.extent in
     let os = c.args.model.now.objects in
-    let is : c.add_objects.new.store ≡ added c.args.store.now e os = c.in_ok-add_objects.ensures ∙ ap (added c.args.store.now e) c.as_slice-objects.ensures in
+    let is : c.add_objects.new.store ≡ objects_added c.args.store.now e os = c.in_ok-add_objects.ensures ∙ ap (objects_added c.args.store.now e) c.as_slice-objects.ensures in
     subst (λ (s : Contents). CanPutObjects s.metas s.extents c.len-first.result c.len-first.result s.objects c.as_slice-objects.result.now) (sym is)
-    (subst (λ (xs : List ObjectData). CanPutObjects (added c.args.store.now e os).metas (added c.args.store.now e os).extents c.len-first.result c.len-first.result (added c.args.store.now e os).objects xs) (sym c.as_slice-objects.ensures)
-    (subst (λ n. CanPutObjects (added c.args.store.now e os).metas (added c.args.store.now e os).extents n n (added c.args.store.now e os).objects os) (sym c.len-first.ensures)
+    (subst (λ (xs : List ObjectData). CanPutObjects (objects_added c.args.store.now e os).metas (objects_added c.args.store.now e os).extents c.len-first.result c.len-first.result (objects_added c.args.store.now e os).objects xs) (sym c.as_slice-objects.ensures)
+    (subst (λ n. CanPutObjects (objects_added c.args.store.now e os).metas (objects_added c.args.store.now e os).extents n n (objects_added c.args.store.now e os).objects os) (sym c.len-first.ensures)
     (puts c.args.store.now e os c.requires.loadable well c.is_whole.ensures.typed c.is_whole.ensures.outside_itself c.requires.conforms)))
 
 pub returns-clause-store : goal.returns-clause-store
@@ -33,7 +33,7 @@ returns-clause-store c =
     let s = c.args.store.now in
     let e = c.args.extent in
     let os = c.args.model.now.objects in
-    let is : c.add_objects.new.store ≡ added s e os = c.in_ok-add_objects.ensures ∙ ap (added s e) c.as_slice-objects.ensures in
+    let is : c.add_objects.new.store ≡ objects_added s e os = c.in_ok-add_objects.ensures ∙ ap (objects_added s e) c.as_slice-objects.ensures in
     c.in_ok-place_objects.ensures
     ∙ (λ i. with_objects (is i) (put_objects (is i).metas (c.len-first.ensures i) (c.len-first.ensures i) (is i).objects (c.as_slice-objects.ensures i)))
     ∙ gives s e os c.requires.loadable well c.is_whole.ensures.typed c.is_whole.ensures.outside_itself c.requires.conforms
@@ -50,7 +50,7 @@ returns-clause-sound c sound =
     let s = c.args.store.now in
     let e = c.args.extent in
     let os = c.args.model.now.objects in
-    let is : c.add_objects.new.store ≡ added s e os = c.in_ok-add_objects.ensures ∙ ap (added s e) c.as_slice-objects.ensures in
+    let is : c.add_objects.new.store ≡ objects_added s e os = c.in_ok-add_objects.ensures ∙ ap (objects_added s e) c.as_slice-objects.ensures in
     subst Sound (sym (c.in_ok-place_objects.ensures
     ∙ (λ i. with_objects (is i) (put_objects (is i).metas (c.len-first.ensures i) (c.len-first.ensures i) (is i).objects (c.as_slice-objects.ensures i)))
     ∙ gives s e os c.requires.loadable well c.is_whole.ensures.typed c.is_whole.ensures.outside_itself c.requires.conforms))

@@ -1,5 +1,5 @@
-use Rattle.qvt_slots.specs.Writes.{IsWritten}
+use Rattle.qvt_slots.specs.Writes.{AreWritten}
 use Rattle.qvt_slots.proofs.commit.put_all.Given as goal
 
 abbrev pub invariant-loop-write : goal.invariant-loop-write
-invariant-loop-write l = IsWritten l.metas l.fn.cells.items l.cells.items l.yielded
+invariant-loop-write l = AreWritten l.metas l.fn.cells.items l.cells.items l.yielded
