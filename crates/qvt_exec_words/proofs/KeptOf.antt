@@ -13,7 +13,7 @@ use Rattle.qvt_value.specs.declared.value.Kind.{Kind}
 use Rattle.qvt_value.specs.declared.value.Kind.TheVariants.{Set, Bag, Sequence, OrderedSet}
 use Rattle.qvt_value.specs.declared.value.Reason.TheVariants.{TooLarge}
 use Rattle.qvt_value.specs.Kept.{is_same, firsts, sorted, without, put_in}
-use Rattle.qvt_value.specs.Limits.{most, is_too_large, limited, built}
+use Rattle.qvt_value.specs.Limits.{most, is_beyond, limited, built}
 use Rattle.qvt_value.specs.Make.{is_invalid, made}
 use Rattle.qvt_value.specs.Order.{order_of}
 use Rattle.qvt_value.proofs.KeptItems as items
@@ -128,7 +128,7 @@ same_made OrderedSet xs ys h = h
 same_made Bag xs ys h = ap (sorted order_of) h
 same_made Sequence xs ys h = h
 
-beyond : (k : Kind) (xs : List Value) → is_too_large (Coll k xs) ≡ nat_lt most (length xs)
+beyond : (k : Kind) (xs : List Value) → is_beyond (Coll k xs) ≡ nat_lt most (length xs)
 beyond k xs = ap (λ l. nat_lt most (length l)) (items_hidden-the_row-Value-0 xs)
 
 too_large : (at : Place) (k : Kind) (xs : List Value) → most < length (kept_of k xs) → built at k xs ≡ Invalid TooLarge at

@@ -11,7 +11,7 @@ use Rattle.qvt_value.specs.declared.value.Value.TheViews.{Coll}
 use Rattle.qvt_value.specs.declared.value.Kind.{Kind}
 use Rattle.qvt_value.specs.declared.value.Kind.TheVariants.{Set, Bag, Sequence, OrderedSet}
 use Rattle.qvt_value.specs.declared.value.Reason.TheVariants.{Overflow, ZeroDivide, BadIndex, BadNumber, NullSource, NullValue, EmptySource, TooLarge}
-use Rattle.qvt_value.specs.Limits.{is_too_large, limited}
+use Rattle.qvt_value.specs.Limits.{is_beyond, limited}
 use Rattle.qvt_value.specs.Make.{is_invalid}
 use Rattle.qvt_ocl_words.specs.declared.op.Op.{Op}
 use Rattle.qvt_ocl_words.specs.declared.op.Op.TheVariants.{Equal, NotEqual, IsUndefined, IsInvalid, Plus, Minus, Times, Negate, Less, LessEqual, Greater, GreaterEqual, Abs, Min, Max, Div, Mod, ToString, Concat, Size, Substring, At, Characters, IndexOf, StartsWith, EndsWith, ToUpper, ToLower, FirstToUpper, FirstToLower, ToInteger, IsEmpty, NotEmpty, Includes, Excludes, Count, IncludesAll, ExcludesAll, Including, Excluding, Union, Flatten, AsSet, AsBag, AsSequence, AsOrderedSet, Sum, Intersection, First, Last, Append, Prepend, InsertAt, Reverse, SubSequence, SubOrderedSet}
@@ -308,7 +308,7 @@ from_operands op at v vs p a =
 
 limited_is : (at : Place) (v : Value) → IsAsMade v → IsAsMade (limited at v)
 unfolding limited
-limited_is at v p = either (is_too_large v) (Invalid TooLarge at) v tt p
+limited_is at v p = either (is_beyond v) (Invalid TooLarge at) v tt p
 
 within : (at : Place) (o : Option Value) → Gives o → Gives (option_map (limited at) o)
 within at None g = tt

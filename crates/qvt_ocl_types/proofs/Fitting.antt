@@ -17,7 +17,7 @@ use Rattle.qvt_value.specs.declared.value.Reason.TheVariants.{Overflow, ZeroDivi
 use Rattle.qvt_value.specs.Kept.{put_in, sorted, firsts, without, is_same}
 use Rattle.qvt_value.specs.Make.{made, is_invalid}
 use Rattle.qvt_value.specs.Order.{order_of}
-use Rattle.qvt_value.specs.Limits.{is_too_large, limited}
+use Rattle.qvt_value.specs.Limits.{is_beyond, limited}
 use Rattle.qvt_ocl_words.specs.Integers.{fits_64, whole, is_zero, quotient, remainder}
 use Rattle.qvt_ocl_words.specs.Strings.{is_span, natural, substring, if_whole, integer_in, is_number, number_after}
 use Rattle.qvt_ocl_words.specs.Lists as lists
@@ -182,7 +182,7 @@ module _ (literals : ℕ → ℕ → LiteralRef → Bool) (objects : ℕ → Oid
   -- an answer beyond the limits is invalid, which fits every type
   pub limited_fits : (T : TyTerm) (at : Place) (v : Value) → In T v → In T (limited at v)
   unfolding limited
-  limited_fits T at v h = elim (is_too_large v) as (λ b. In T (cond b (Invalid TooLarge at) v)) [ true ↦ invalid_fits T TooLarge at | false ↦ h ]
+  limited_fits T at v h = elim (is_beyond v) as (λ b. In T (cond b (Invalid TooLarge at) v)) [ true ↦ invalid_fits T TooLarge at | false ↦ h ]
 
   pub null_fits : (T : TyTerm) → In T Null
   null_fits Void = tt

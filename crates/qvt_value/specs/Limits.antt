@@ -13,14 +13,14 @@ abbrev pub most : ℕ
 most = 1000000
 
 -- a value with more than that
-abbrev pub is_too_large : Value → Bool
-is_too_large (Str s) = nat_lt most (length (chars s))
-is_too_large (Coll' k s r) = nat_lt most (length (items-the_row-Value _ r))
-is_too_large v = false
+abbrev pub is_beyond : Value → Bool
+is_beyond (Str s) = nat_lt most (length (chars s))
+is_beyond (Coll' k s r) = nat_lt most (length (items-the_row-Value _ r))
+is_beyond v = false
 
 -- the value, or TooLarge
 unfoldable pub limited : Place → Value → Value
-limited at v = if is_too_large v then Invalid TooLarge at else v
+limited at v = if is_beyond v then Invalid TooLarge at else v
 
 -- a collection of the kind, made of these items: TooLarge is judged on what it keeps
 unfoldable pub built : Place → Kind → List Value → Value

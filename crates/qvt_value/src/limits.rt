@@ -1,7 +1,7 @@
 //! The limits of values.
 
 ghost use Rattle.std.specs.Prelude.{◌≡◌};
-ghost use Rattle.qvt_value.specs.Limits.{is_too_large, limited};
+ghost use Rattle.qvt_value.specs.Limits.{is_beyond, limited};
 
 use crate::value::{Reason, Value};
 use qvt_base::names::count_chars;
@@ -11,8 +11,8 @@ use qvt_base::numbers::Place;
 pub const MOST: usize = 1_000_000;
 
 /// Whether a String has too many characters, or a collection too many items.
-pub fn is_too_large(value: &Value) -> bool
-    ensures { result ≡ is_too_large value.now }
+pub fn is_beyond(value: &Value) -> bool
+    ensures { result ≡ is_beyond value.now }
 {
     match value {
         Value::Str(text) => count_chars(text.as_str()) > MOST,
@@ -26,7 +26,7 @@ pub fn is_too_large(value: &Value) -> bool
 pub fn limited(place: Place, value: Value) -> Value
     ensures { result ≡ limited place value }
 {
-    if is_too_large(&value) {
+    if is_beyond(&value) {
         return Value::Invalid(Reason::TooLarge, place);
     }
     value
