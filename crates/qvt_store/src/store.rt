@@ -86,7 +86,7 @@ impl Store {
     {
         new_is_sound();
         let metas = metas.copy(alloc)?;
-        let _count = metas.class_count();
+        metas.are_well_formed();
         let extents = extents.copy(alloc)?;
         let members = empty_lists(alloc, extents.as_slice())?;
         Ok(Store {
