@@ -1,10 +1,14 @@
 -- Equality of items, by cases.
-use Rattle.std.proofs.Common.{◌≡◌, ◌∙◌, List, [], ◌∷◌, map, ◌||◌, refl, ap, Bor}
+use Rattle.std.proofs.Common.{◌≡◌, ◌∙◌, ◌==◌, Bool, true, false, List, [], ◌∷◌, map, ◌||◌, ◌&&◌, refl, ap, Bor}
 use Rattle.std.specs.List.{list_any}
 use Rattle.qvt_model.specs.declared.data.Datum.{Datum}
 use Rattle.qvt_model.specs.declared.data.Datum.TheVariants.{Bool as BoolDatum, Int, Str, Literal, Ref}
 use Rattle.qvt_model.specs.contracts.data.DatumPartialEq.TheImpl.{ghosts}
 use Rattle.qvt_conform.specs.Items.{same_item}
+
+grouped : (a b c : Bool) → (a && (b && c)) ≡ ((a && b) && c)
+grouped true b c = refl
+grouped false b c = refl
 
 pub same : (x y : Datum) → ghosts.eq x y ≡ same_item x y
 same (BoolDatum a) (BoolDatum b) = refl
@@ -25,7 +29,7 @@ same (Str a) (Ref b) = refl
 same (Literal a) (BoolDatum b) = refl
 same (Literal a) (Int b) = refl
 same (Literal a) (Str b) = refl
-same (Literal a) (Literal b) = refl
+same (Literal a) (Literal b) = grouped (a.metamodel == b.metamodel) (a.enumeration == b.enumeration) (a.literal == b.literal)
 same (Literal a) (Ref b) = refl
 same (Ref a) (BoolDatum b) = refl
 same (Ref a) (Int b) = refl

@@ -5,8 +5,8 @@ use Rattle.std.specs.Str.{bytes_eq}
 use Rattle.std.specs.Ordering.{int_eq}
 use Rattle.std.proofs.Math.Bool.{beq}
 use Rattle.qvt_base.specs.declared.numbers.FeatureNo.{FeatureNo}
-use Rattle.qvt_value.specs.declared.value.LiteralRef.{LiteralRef}
 use Rattle.qvt_metamodel.specs.declared.info.FeatureShape.{FeatureShape}
+use Rattle.qvt_store.specs.Repeats.{same_literal}
 use Rattle.qvt_model.specs.declared.data.Datum.{Datum}
 use Rattle.qvt_model.specs.declared.data.Datum.TheVariants.{Bool as BoolDatum, Int, Str, Literal, Ref}
 use Rattle.qvt_model.specs.declared.data.ObjectData.{ObjectData}
@@ -24,9 +24,6 @@ is_at_most n (Some most) = nat_le n most
 -- not fewer than the lower bound and not more than the upper
 abbrev pub is_within : FeatureShape → ℕ → Bool
 is_within shape n = nat_le shape.lower n && is_at_most n shape.upper
-
-abbrev pub same_literal : LiteralRef → LiteralRef → Bool
-same_literal a b = (a.metamodel == b.metamodel) && ((a.enumeration == b.enumeration) && (a.literal == b.literal))
 
 -- items are equal where they are of one sort and the same
 abbrev pub same_item : Datum → Datum → Bool

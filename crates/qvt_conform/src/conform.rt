@@ -166,7 +166,7 @@ pub fn conform(alloc: Global, model: &ModelData, metas: &Metas) -> Result<(), Co
     if objects.len() > u32::MAX as usize {
         return Err(ConformFault::NoMemory);
     }
-    let _count = metas.class_count();
+    metas.are_well_formed();
     let links = Links::of(alloc, metas, objects)?;
     let containment = Containment::of(alloc, metas, objects)?;
     faults(alloc, metas, &links, &containment, objects)

@@ -16,7 +16,7 @@ use Rattle.qvt_relation.proofs.Closures.{closure-reaches}
 use Rattle.qvt_json.specs.Steps.{or_next}
 use Rattle.qvt_model.proofs.Steps.{neither}
 use Rattle.qvt_slots.specs.Slots.{is_object, has, Inside, directly, through}
-use Rattle.qvt_slots.specs.Repeats.{same_value, repeats}
+use Rattle.qvt_slots.specs.Repeats.{same_literal, same_value, repeats}
 use Rattle.qvt_slots.specs.Assign.{is_beyond}
 use Rattle.qvt_slots.proofs.Lists.{length-map, past_end}
 use Rattle.qvt_model.specs.declared.data.Datum.{Datum}
@@ -27,7 +27,7 @@ use Rattle.qvt_model.specs.WellFormed.{object_at, no_object, IsItem, IsSlot, IsO
 use Rattle.qvt_cycle.specs.Successors.{among, leads, is_on_cycle, how_often, how_often_in}
 use Rattle.qvt_conform.specs.declared.fault.ConformFault.{ConformFault}
 use Rattle.qvt_conform.specs.declared.fault.ConformFault.TheVariants.{Bounds, NotUnique, Opposite, Abstract, TwoContainers, ContainmentCycle}
-use Rattle.qvt_conform.specs.Items.{is_at_most, is_within, same_literal, same_item, repeats_after, is_ref, lacks, lack_opposite}
+use Rattle.qvt_conform.specs.Items.{is_at_most, is_within, same_item, repeats_after, is_ref, lacks, lack_opposite}
 use Rattle.qvt_conform.specs.Items as item
 use Rattle.qvt_conform.specs.Containment.{contents_of_slots, contents_of_object, contents}
 use Rattle.qvt_conform.specs.Conformance.{fault_if, feature_fault, features_fault, containment_fault, object_fault, faults_from, conform_fault}
@@ -115,9 +115,9 @@ same_bool false false h = h
 same_literal_back : (a b : LiteralRef) → same_value (value_at 0 (Literal b)) (value_at 0 (Literal a)) ≡ true → same_literal a b ≡ true
 same_literal_back a b h =
     let l = and_left _ (b.literal == a.literal) h in
-    and_both _ _ ((Decides-eqb a.metamodel b.metamodel).1 (sym ((Decides-eqb b.metamodel a.metamodel).0 (and_left _ _ l))))
-    (and_both _ _ ((Decides-eqb a.enumeration b.enumeration).1 (sym ((Decides-eqb b.enumeration a.enumeration).0 (and_right (b.metamodel == a.metamodel) _ l))))
-    ((Decides-eqb a.literal b.literal).1 (sym ((Decides-eqb b.literal a.literal).0 (and_right ((b.metamodel == a.metamodel) && (b.enumeration == a.enumeration)) _ h)))))
+    and_both _ _ (and_both _ _ ((Decides-eqb a.metamodel b.metamodel).1 (sym ((Decides-eqb b.metamodel a.metamodel).0 (and_left _ _ l))))
+    ((Decides-eqb a.enumeration b.enumeration).1 (sym ((Decides-eqb b.enumeration a.enumeration).0 (and_right (b.metamodel == a.metamodel) _ l)))))
+    ((Decides-eqb a.literal b.literal).1 (sym ((Decides-eqb b.literal a.literal).0 (and_right ((b.metamodel == a.metamodel) && (b.enumeration == a.enumeration)) _ h))))
 
 same_back : (a b : Datum) → same_value (value_at 0 b) (value_at 0 a) ≡ true → same_item a b ≡ true
 same_back (BoolDatum a) (BoolDatum b) h = same_bool b a h

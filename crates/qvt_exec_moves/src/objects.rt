@@ -9,6 +9,7 @@ ghost use Rattle.qvt_run_rules.specs.Statements.{object_or_new, set_object};
 ghost use Rattle.qvt_run_rules.specs.Store.{changed, made_one, new_object, put, slot_items, written};
 ghost use Rattle.qvt_slots.specs.Assign.{write};
 ghost use Rattle.qvt_slots.specs.Types.{IsAssignable};
+ghost use Rattle.qvt_slots.specs.Limits.{most_objects};
 ghost use Rattle.qvt_store_laws.specs.Sound.{IsClassFor};
 ghost use Rattle.qvt_exec_state.specs.Runs.{Runs, seen};
 ghost use Rattle.qvt_exec_moves.specs.Moves.{taken_from, variable_object};
@@ -134,7 +135,7 @@ fn made_one(
     state: &mut RunState<'_>,
 ) -> Result<Oid, Halt>
     requires { IsClassFor (contents_of state.old.store) class.0 extent }
-    ensures { Runs (made_one true (nat_lt (length (contents_of state.old.store).objects) 1000000) class.0 extent place (seen state.old)) result state.new }
+    ensures { Runs (made_one true (nat_lt (length (contents_of state.old.store).objects) most_objects) class.0 extent place (seen state.old)) result state.new }
 {
     match state.store.add_object(class, extent) {
         Ok(object) => Ok(object),

@@ -13,7 +13,8 @@ use Rattle.qvt_outcome.specs.Steps.{Stops, StopsBy}
 use Rattle.qvt_outcome.specs.declared.refusal.Refusal.TheVariants as refusal
 use Rattle.qvt_outcome.specs.declared.stop.Stop.{Stop}
 use Rattle.qvt_outcome.proofs.Refused.{stops_at}
-use Rattle.qvt_inputs.specs.Conforming.{most_objects, few_objects, without_fault, conforming}
+use Rattle.qvt_store.specs.Limits.{most_objects}
+use Rattle.qvt_inputs.specs.Conforming.{few_objects, without_fault, conforming}
 
 pub well_formed_of : (m : Metamodels) (k : ℕ) (os : List ObjectData) → IsModel m k os → IsSomeModel m os
 well_formed_of m k os h = record { metamodel = k; model = h }

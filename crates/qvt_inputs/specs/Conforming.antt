@@ -3,6 +3,7 @@
 use Rattle.std.specs.Prelude.{ℕ, ◌+◌, List, length, nat_lt, Option, option_map, Result, Ok, Err, if◌then◌else◌, ⊤}
 use Rattle.qvt_json.specs.Steps.{◌>>=◌, none_of}
 use Rattle.qvt_metamodel.specs.Metamodels.{Metamodels}
+use Rattle.qvt_store.specs.Limits.{most_objects}
 use Rattle.qvt_model.specs.Reading.{model_of}
 use Rattle.qvt_model.specs.declared.data.ObjectData.{ObjectData}
 use Rattle.qvt_conform.specs.Conformance.{conform_fault}
@@ -11,9 +12,6 @@ use Rattle.qvt_outcome.specs.Outcome.{Outcome, refused}
 use Rattle.qvt_outcome.specs.Steps.{or_refused}
 use Rattle.qvt_outcome.specs.Chain.{Chain, step, ◌>=>◌, read_step}
 use Rattle.qvt_outcome.specs.declared.refusal.Refusal.TheVariants as refusal
-
-abbrev pub most_objects : ℕ
-most_objects = 1000000
 
 abbrev pub few_objects : List ℕ → ℕ → Result ⊤ Outcome
 few_objects name n = if nat_lt most_objects n then Err (refused name refusal.TooManyObjects) else Ok tt

@@ -5,7 +5,8 @@ ghost use Rattle.qvt_model.specs.WellFormed.{IsModel};
 ghost use Rattle.qvt_model.specs.Conforming.{Conforms};
 ghost use Rattle.qvt_outcome.specs.Follows.{Follows};
 ghost use Rattle.qvt_outcome.specs.Steps.{GivesOrStops, IfFaultOf, IsFaultWith, StopsBy};
-ghost use Rattle.qvt_inputs.specs.Conforming.{most_objects, conforming, model_in, model_read};
+ghost use Rattle.qvt_store.specs.Limits.{most_objects};
+ghost use Rattle.qvt_inputs.specs.Conforming.{conforming, model_in, model_read};
 
 use qvt_base::outside::Files;
 use qvt_base::text::Text;
@@ -18,10 +19,8 @@ use qvt_model::read::read_model;
 use qvt_outcome::fetch::{fetch, refused};
 use qvt_outcome::refusal::Refusal;
 use qvt_outcome::stop::Stop;
+use qvt_store::limits::MOST_OBJECTS;
 use std::alloc::Global;
-
-/// How many objects a store holds at most.
-const MOST_OBJECTS: usize = 1_000_000;
 
 /// The refusal of a model's file.
 fn model_stop(alloc: Global, name: &Text, why: ModelFault) -> Stop
@@ -47,7 +46,7 @@ fn conform_stop(alloc: Global, name: &Text, why: ConformFault) -> Stop
 
 /// Whether these objects, after so many others, are more than a store holds.
 fn are_too_many(before: u32, count: usize) -> bool
-    requires { before ≤ 1000000 }
+    requires { before ≤ most_objects }
     ensures { result ≡ nat_lt most_objects (before + count) }
 {
     count > MOST_OBJECTS - before as usize
@@ -63,12 +62,12 @@ fn conforming(
     name: &Text,
     model: ModelData,
 ) -> Result<ModelData, Stop>
-    requires few { before ≤ 1000000 }
+    requires few { before ≤ most_objects }
     requires model { IsModel metas.now metamodel model.objects }
     ensures no_reads { IfFaultOf result (λ file. ⊥) }
     ensures gives { GivesOrStops (λ m. m.objects) result (conforming metas.now before name.now model.objects) }
     ensures same { IfOk result (λ m. m.objects ≡ model.objects) }
-    ensures room { IfOk result (λ m. before + length m.objects ≤ 1000000) }
+    ensures room { IfOk result (λ m. before + length m.objects ≤ most_objects) }
     ensures conforms { IfOk result (λ m. Conforms metas.now m.objects) }
 {
     faultless_conforms();
@@ -93,12 +92,12 @@ fn model_in(
     name: &Text,
     bytes: &[u8],
 ) -> Result<ModelData, Stop>
-    requires few { before ≤ 1000000 }
+    requires few { before ≤ most_objects }
     requires live { metamodel < length metas.now.metamodels }
     ensures no_reads { IfFaultOf result (λ file. ⊥) }
     ensures gives { GivesOrStops (λ m. m.objects) result (model_in metas.now metamodel before name.now bytes.now) }
     ensures model { IfOk result (λ m. IsModel metas.now metamodel m.objects) }
-    ensures room { IfOk result (λ m. before + length m.objects ≤ 1000000) }
+    ensures room { IfOk result (λ m. before + length m.objects ≤ most_objects) }
     ensures conforms { IfOk result (λ m. Conforms metas.now m.objects) }
 {
     match read_model(alloc, bytes, metas, metamodel) {
@@ -116,11 +115,11 @@ pub fn read_conforming<F: Files>(
     before: u32,
     name: &Text,
 ) -> Result<ModelData, Stop>
-    requires few { before ≤ 1000000 }
+    requires few { before ≤ most_objects }
     requires live { metamodel < length metas.now.metamodels }
     ensures follows { Follows (λ m. m.objects) (model_read metas.now metamodel before name.now) (F.seen files.old) result (F.seen files.new) }
     ensures model { IfOk result (λ m. IsModel metas.now metamodel m.objects) }
-    ensures room { IfOk result (λ m. before + length m.objects ≤ 1000000) }
+    ensures room { IfOk result (λ m. before + length m.objects ≤ most_objects) }
     ensures conforms { IfOk result (λ m. Conforms metas.now m.objects) }
 {
     match fetch(alloc, files, name, 16_777_216) {

@@ -2,6 +2,7 @@
 
 ghost use Rattle.std.specs.Prelude.{◌≡◌, ◌≢◌, ◌<◌, length, Ok, Err, IfOk, IfErr, OnOk, OnErr};
 ghost use Rattle.qvt_store.specs.Contents.{with_new};
+ghost use Rattle.qvt_store.specs.Limits.{most_objects};
 ghost use Rattle.qvt_store.specs.Types.{IsAssignable};
 ghost use Rattle.qvt_store.specs.Assign.{write};
 ghost use Rattle.qvt_store.specs.Fault.{IsAddFault};
@@ -66,7 +67,7 @@ impl Held<'_> {
         requires { IsClassFor (contents_of self.old) class.0 extent }
         ensures number { IfOk result (λ object. object.0 ≡ length (contents_of self.old).objects) }
         ensures ok { OnOk result (contents_of self.new ≡ with_new (contents_of self.old) class.0 extent) }
-        ensures room { OnOk result (length (contents_of self.old).objects < 1000000) }
+        ensures room { OnOk result (length (contents_of self.old).objects < most_objects) }
         ensures refused { IfErr result (λ fault. IsAddFault (length (contents_of self.old).objects) fault) }
         ensures err { OnErr result (self.new ≡ self.old) }
     {

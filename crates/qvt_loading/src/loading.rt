@@ -3,6 +3,7 @@
 ghost use Rattle.std.specs.Prelude.{◌≡◌, ◌<◌, ◌≤◌, ◌+◌, [], length, IsTrue, IfSome};
 ghost use Rattle.qvt_slots.specs.Contents.{AreNamed, extent_at, is_extent, is_model, members_of};
 ghost use Rattle.qvt_store.specs.Sound.{Sound};
+ghost use Rattle.qvt_store.specs.Limits.{most_objects};
 ghost use Rattle.qvt_model.specs.Extents.{data_of};
 ghost use Rattle.qvt_model.specs.WellFormed.{IsModel};
 ghost use Rattle.qvt_model.specs.Written.{model_text};
@@ -19,11 +20,9 @@ use qvt_model::load::load;
 use qvt_model::read::read_model;
 use qvt_model::write::write_model;
 use qvt_store::extent::ExtentList;
+use qvt_store::limits::MOST_OBJECTS;
 use qvt_store::store::Store;
 use std::alloc::Global;
-
-/// The greatest number of objects that a store holds.
-const MOST_OBJECTS: usize = 1_000_000;
 
 /// A store without objects.
 pub fn empty_store(alloc: Global, metas: &Metas, extents: &ExtentList) -> Option<Store>
@@ -93,8 +92,8 @@ fn has_no_objects(store: &Store, extent: u32) -> bool
 
 /// Whether the store has room for the objects of the model.
 fn has_room(store: &Store, model: &ModelData) -> bool
-    ensures room { IsTrue result → length store.now.objects + length model.now.objects ≤ 1000000 }
-    ensures full { length store.now.objects + length model.now.objects ≤ 1000000 → IsTrue result }
+    ensures room { IsTrue result → length store.now.objects + length model.now.objects ≤ most_objects }
+    ensures full { length store.now.objects + length model.now.objects ≤ most_objects → IsTrue result }
 {
     let count = model.objects.len();
     if count > MOST_OBJECTS {

@@ -9,6 +9,7 @@ use Rattle.qvt_slots.specs.declared.fault.StoreFault.{StoreFault}
 use Rattle.qvt_slots.specs.declared.op.SetOp.{SetOp}
 use Rattle.qvt_slots.specs.Assign.{write}
 use Rattle.qvt_slots.specs.Contents.{Contents}
+use Rattle.qvt_slots.specs.Limits.{most_objects}
 use Rattle.qvt_typing.specs.Accepts.{ProgramTerm}
 use Rattle.qvt_value.specs.declared.value.Value.{Value, Null, Bool as Truth, Invalid}
 use Rattle.qvt_value.specs.declared.value.Kind.{Kind}
@@ -77,7 +78,7 @@ module _ {E F : Type 0} (g : E → F) where
 
   makes : (c e : ℕ) (at : Place) → Alike Oid (new_object c e at) (new_object c e at)
   unfolding new_object
-  makes c e at = λ s. makes_one (is_class_for s.store c e) (nat_lt (length s.store.objects) 1000000) c e at s
+  makes c e at = λ s. makes_one (is_class_for s.store c e) (nat_lt (length s.store.objects) most_objects) c e at s
 
   changes : (r : Result Contents StoreFault) (at : Place) → Alike (Unit {0}) (changed r at) (changed r at)
   changes (Ok store) at = λ s. refl

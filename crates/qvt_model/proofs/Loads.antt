@@ -7,6 +7,7 @@ use Rattle.std.proofs.lemmas.List.{get_or-map}
 use Rattle.qvt_base.specs.declared.numbers.Oid.{Oid}
 use Rattle.qvt_metamodel.specs.Metamodels.{Metamodels}
 use Rattle.qvt_slots.specs.Contents.{Contents, Instance, no_instance, extent_at, extent_of, is_live, is_writable, members_from, members_of}
+use Rattle.qvt_slots.specs.Limits.{most_objects}
 use Rattle.qvt_slots.proofs.Lists.{length-map}
 use Rattle.qvt_store_laws.proofs.Stays.{members-append, stays_more}
 use Rattle.qvt_store_laws.proofs.ReadOnly.{more_leaves_inputs}
@@ -129,7 +130,7 @@ load_leaves s e os = record {
     extent = can.extent;
     empty = others s e os f d ∙ can.empty;
     model = can.model;
-    room = subst (λ k. k + length more ≤ 1000000) (sym (count s e os)) room;
+    room = subst (λ k. k + length more ≤ most_objects) (sym (count s e os)) room;
   };
 }
 
@@ -138,17 +139,17 @@ load_each s [] h = tt
 load_each s (l ∷ ls) h = (
   h.each.0,
   load_each (loaded s l.0 l.1) ls (record {
-    each = still ls h.each.1 h.apart.0 (let r : length s.objects + (length l.1 + object_count ls) ≤ 1000000 = h.room in omega arith);
+    each = still ls h.each.1 h.apart.0 (let r : length s.objects + (length l.1 + object_count ls) ≤ most_objects = h.room in omega arith);
     apart = h.apart.1;
-    room = subst (λ k. k + object_count ls ≤ 1000000) (sym leaves.count) (let r : length s.objects + (length l.1 + object_count ls) ≤ 1000000 = h.room in omega arith);
+    room = subst (λ k. k + object_count ls ≤ most_objects) (sym leaves.count) (let r : length s.objects + (length l.1 + object_count ls) ≤ most_objects = h.room in omega arith);
   }),
 )
   where
     leaves : LoadLeaves s l.0 l.1
     leaves = load_leaves s l.0 l.1
 
-    still : (rest : List (ℕ × List ObjectData)) → AllByRecursion (λ k. IsLoadable s k.0 k.1) rest → ElsewhereThan l.0 rest → length s.objects + length l.1 + object_count rest ≤ 1000000 → AllByRecursion (λ k. IsLoadable (loaded s l.0 l.1) k.0 k.1) rest
+    still : (rest : List (ℕ × List ObjectData)) → AllByRecursion (λ k. IsLoadable s k.0 k.1) rest → ElsewhereThan l.0 rest → length s.objects + length l.1 + object_count rest ≤ most_objects → AllByRecursion (λ k. IsLoadable (loaded s l.0 l.1) k.0 k.1) rest
     still [] all away room = tt
     still (k ∷ rest) all away room =
-        let r : length s.objects + length l.1 + (length k.1 + object_count rest) ≤ 1000000 = room in
+        let r : length s.objects + length l.1 + (length k.1 + object_count rest) ≤ most_objects = room in
         (leaves.next k.0 k.1 away.0 all.0 (omega arith), still rest all.1 away.1 (omega arith))

@@ -6,6 +6,7 @@ use Rattle.qvt_value.specs.declared.value.Value.{Value}
 use Rattle.qvt_value.specs.declared.value.Value.TheVariants.{Bool as BoolValue, Int as IntValue, Str as StrValue, Enum as EnumValue, Obj}
 use Rattle.qvt_metamodel.specs.Metamodels.{Metamodels, features_of}
 use Rattle.qvt_slots.specs.Contents.{Contents, Instance, is_extent, is_live, extent_at, members_of}
+use Rattle.qvt_slots.specs.Limits.{most_objects}
 use Rattle.qvt_store.specs.Stay.{InputsStay, StaysIn}
 use Rattle.qvt_model.specs.declared.data.Datum.{Datum}
 use Rattle.qvt_model.specs.declared.data.Datum.TheVariants.{Bool as BoolDatum, Int, Str, Literal, Ref}
@@ -49,7 +50,7 @@ pub record IsLoadable (s : Contents) (e : ℕ) (os : List ObjectData) : Type 0 w
   pub extent : IsTrue (is_extent s e)
   pub empty : members_of s e ≡ []
   pub model : IsModel s.metas (extent_at s e).metamodel os
-  pub room : length s.objects + length os ≤ 1000000
+  pub room : length s.objects + length os ≤ most_objects
 
 -- the members of every extent but e are as before
 pub record MembersStay (s s' : Contents) (e : ℕ) : Type 0 where
@@ -87,7 +88,7 @@ pub record LoadLeaves (s : Contents) (e : ℕ) (os : List ObjectData) : Type 0 w
   pub no_other : (old new : List (Option (List ℕ))) → AreTold s os old new → TellsNoOther s old → TellsNoOther (loaded s e os) new
   pub run_ids : (old new : List (Option (List ℕ))) → AreTold s os old new → HaveRunIds s e os old new
   -- what can be loaded into another extent still can, if there is room
-  pub next : (f : ℕ) (more : List ObjectData) → f ≢ e → IsLoadable s f more → length s.objects + length os + length more ≤ 1000000 → IsLoadable (loaded s e os) f more
+  pub next : (f : ℕ) (more : List ObjectData) → f ≢ e → IsLoadable s f more → length s.objects + length os + length more ≤ most_objects → IsLoadable (loaded s e os) f more
 
 abbrev pub EachLoadLeaves : Type 0
 EachLoadLeaves = (s : Contents) (e : ℕ) (os : List ObjectData) → LoadLeaves s e os
@@ -114,7 +115,7 @@ AreApart (l ∷ ls) = ElsewhereThan l.0 ls × AreApart ls
 pub record AreLoadable (s : Contents) (ls : List (ℕ × List ObjectData)) : Type 0 where
   pub each : AllByRecursion (λ l. IsLoadable s l.0 l.1) ls
   pub apart : AreApart ls
-  pub room : length s.objects + object_count ls ≤ 1000000
+  pub room : length s.objects + object_count ls ≤ most_objects
 
 -- what is known before the first is known of each
 abbrev pub LoadEach : Type 0

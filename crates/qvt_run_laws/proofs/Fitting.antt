@@ -8,6 +8,7 @@ use Rattle.qvt_slots.specs.declared.fault.StoreFault.{StoreFault}
 use Rattle.qvt_slots.specs.declared.op.SetOp.{SetOp}
 use Rattle.qvt_slots.specs.Assign.{write}
 use Rattle.qvt_slots.specs.Contents.{Contents, class_of, is_live, is_slot, with_new}
+use Rattle.qvt_slots.specs.Limits.{most_objects}
 use Rattle.qvt_store_laws.specs.Stay.{StaysIn}
 use Rattle.qvt_store_laws.proofs.Stays.{stays_is_reflexive, stays_is_transitive, add_stays, write_stays}
 use Rattle.qvt_typing.specs.Accepts.{ProgramTerm}
@@ -157,7 +158,7 @@ makes_one true true c e at = λ s h. grown s (with_new s.store c e) (add_stays s
 
 makes : (c e : ℕ) (at : Place) → Fits Oid (new_object c e at) (new_object c e at)
 unfolding new_object
-makes c e at = λ s h. makes_one (is_class_for s.store c e) (nat_lt (length s.store.objects) 1000000) c e at s h
+makes c e at = λ s h. makes_one (is_class_for s.store c e) (nat_lt (length s.store.objects) most_objects) c e at s h
 
 changes : (r : Result Contents StoreFault) (at : Place) (s : State E) → ((store : Contents) → r ≡ Ok store → StaysIn s.store store) → AllFit s → Leaves s (changed r at s).1
 changes (Ok store) at s w h = grown s store (w store refl) h

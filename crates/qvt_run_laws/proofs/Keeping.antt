@@ -8,6 +8,7 @@ use Rattle.qvt_metamodel.specs.Metamodels.{is_single}
 use Rattle.qvt_slots.specs.declared.fault.StoreFault.{StoreFault}
 use Rattle.qvt_slots.specs.Assign.{write}
 use Rattle.qvt_slots.specs.Contents.{Contents}
+use Rattle.qvt_slots.specs.Limits.{most_objects}
 use Rattle.qvt_typing.specs.Accepts.{ProgramTerm}
 use Rattle.qvt_value.specs.declared.value.Value.{Value, Null, Bool as Truth, Invalid}
 use Rattle.qvt_value.specs.declared.value.Kind.{Kind}
@@ -121,7 +122,7 @@ module _ {E : Type 0} where
 
   makes : (c e : ℕ) (at : Place) → Kept Oid (new_object c e at) (new_object c e at)
   unfolding new_object
-  makes c e at = λ s h. makes_one (is_class_for s.store c e) (nat_lt (length s.store.objects) 1000000) c e at s h
+  makes c e at = λ s h. makes_one (is_class_for s.store c e) (nat_lt (length s.store.objects) most_objects) c e at s h
 
   changes : (r : Result Contents StoreFault) (at : Place) → Kept (Unit {0}) (changed r at) (changed r at)
   changes (Ok store) at = λ s h. same s (record s { store = store }) refl refl h

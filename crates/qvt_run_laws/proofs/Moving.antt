@@ -8,6 +8,7 @@ use Rattle.qvt_slots.specs.declared.fault.StoreFault.{StoreFault}
 use Rattle.qvt_slots.specs.declared.op.SetOp.{SetOp}
 use Rattle.qvt_slots.specs.Assign.{write}
 use Rattle.qvt_slots.specs.Contents.{Contents, with_new}
+use Rattle.qvt_slots.specs.Limits.{most_objects}
 use Rattle.qvt_typing.specs.Accepts.{ProgramTerm}
 use Rattle.qvt_value.specs.declared.value.Value.{Value, Null, Bool as Truth, Invalid}
 use Rattle.qvt_value.specs.declared.value.Kind.{Kind}
@@ -98,7 +99,7 @@ module _ (M : Contents → Contents → Type 0) (follows : Follows M) where
 
   makes : (c e : ℕ) (at : Place) → Moves Oid (new_object c e at) (new_object c e at)
   unfolding new_object
-  makes c e at = λ s. makes_one (is_class_for s.store c e) (nat_lt (length s.store.objects) 1000000) c e at s refl
+  makes c e at = λ s. makes_one (is_class_for s.store c e) (nat_lt (length s.store.objects) most_objects) c e at s refl
 
   changes : (r : Result Contents StoreFault) (at : Place) (s : State E) → ((store : Contents) → r ≡ Ok store → M s.store store) → M s.store (changed r at s).1.store
   changes (Ok store) at s w = w store refl

@@ -5,6 +5,7 @@ use Rattle.qvt_metamodel.specs.Metamodels.{is_single}
 use Rattle.qvt_slots.specs.declared.fault.StoreFault.{StoreFault}
 use Rattle.qvt_slots.specs.Assign.{write}
 use Rattle.qvt_slots.specs.Contents.{Contents}
+use Rattle.qvt_slots.specs.Limits.{most_objects}
 use Rattle.qvt_value.specs.declared.value.Value.{Value}
 use Rattle.qvt_run_data.specs.declared.exit.Exit.{Exit}
 use Rattle.qvt_run_data.specs.declared.exit.Exit.TheVariants.{Returned, Ends}
@@ -21,7 +22,7 @@ module _ {E : Type 0} where
 
   pub made_cost : (c e : ℕ) (at : Place) (s : State E) → (new_object c e at s).1.cost ≡ s.cost
   unfolding new_object
-  made_cost c e at s = one_cost (is_class_for s.store c e) (nat_lt (length s.store.objects) 1000000) c e at s
+  made_cost c e at s = one_cost (is_class_for s.store c e) (nat_lt (length s.store.objects) most_objects) c e at s
 
   changed_cost : (r : Result Contents StoreFault) (at : Place) (s : State E) → (changed r at s).1.cost ≡ s.cost
   changed_cost (Ok store) at s = refl

@@ -18,6 +18,7 @@ use Rattle.qvt_slots.specs.declared.op.SetOp.TheVariants.{Put, Add}
 use Rattle.qvt_slots.specs.declared.fault.StoreFault.{StoreFault}
 use Rattle.qvt_slots.specs.declared.fault.StoreFault.TheVariants as refused
 use Rattle.qvt_slots.specs.Contents.{Contents, extent_at, is_extent, is_slot, slot_of, members_of, with_new}
+use Rattle.qvt_slots.specs.Limits.{most_objects}
 use Rattle.qvt_slots.specs.Types.{is_of_type}
 use Rattle.qvt_slots.specs.Assign.{is_in, write}
 use Rattle.qvt_run_data.specs.declared.fault.RunFault.{RunFault}
@@ -114,7 +115,7 @@ module _ {E : Type 0} where
   made_one true true c e at = λ s. (Ok (record { 0 = length s.store.objects }), record s { store = with_new s.store c e })
 
   unfoldable pub new_object : ℕ → ℕ → Place → Does E Oid
-  new_object c e at = λ s. made_one (is_class_for s.store c e) (nat_lt (length s.store.objects) 1000000) c e at s
+  new_object c e at = λ s. made_one (is_class_for s.store c e) (nat_lt (length s.store.objects) most_objects) c e at s
 
   abbrev pub changed : Result Contents StoreFault → Place → Does E (Unit {0})
   changed (Ok store) at = λ s. (Ok tt, record s { store = store })

@@ -21,6 +21,7 @@ use Rattle.qvt_slots.specs.declared.extent.Extent.{Extent}
 use Rattle.qvt_slots.specs.Slots.{Slots, has, OneContainer, Inside}
 use Rattle.qvt_slots.specs.Change.{Change, is_linked, among, objects_beyond, is_here, is_added, slot_elsewhere, slot_after}
 use Rattle.qvt_slots.specs.Contents.{Contents, Instance, HoldOwn, no_instance, is_live, is_model, extent_of, is_slot, list_of, slot_in, slot_of, with_slot}
+use Rattle.qvt_slots.specs.Limits.{most_objects}
 use Rattle.qvt_slots.specs.Types.{is_of_type}
 use Rattle.qvt_slots.specs.Repeats.{repeats}
 use Rattle.qvt_slots.specs.Assign.{change_to, instance_after, instances_after, store_after}
@@ -458,7 +459,7 @@ module _ (m : Metamodels) (extents : List Extent) (old : List Cell) (d : Draft) 
     whole_after : AreWhole m new
     whole_after = record {
       well_formed = store.well_formed;
-      few = subst (λ n. n ≤ 1000000) (sym same.same_length) store.few;
+      few = subst (λ n. n ≤ most_objects) (sym same.same_length) store.few;
       have_slots = same.have_slots;
       holders = record {
         held = λ x f y k h. new_holder y ∙ find x f y k (subst (λ l. has l y ≡ true) (slots_are x f) h) (held_now y) refl;

@@ -15,6 +15,7 @@ use Rattle.qvt_slots.specs.declared.commit.Write.{Write}
 use Rattle.qvt_slots.specs.declared.extent.Extent.{Extent}
 use Rattle.qvt_slots.specs.Slots.{Slots, has, Contains, Inside, directly, through}
 use Rattle.qvt_slots.specs.Contents.{Contents, Instance, HoldOwn, no_instance, extent_of, is_model, is_live, slot_in, slot_of, set_slot, with_slot}
+use Rattle.qvt_slots.specs.Limits.{most_objects}
 use Rattle.qvt_slots.specs.Types.{is_of_type}
 use Rattle.qvt_slots.specs.Repeats.{repeats, AreUnique}
 use Rattle.qvt_slots.specs.Cells.{instances, instance_in, contents_of, holder_at, holder_in, AreWhole, IsStoreKept, SameObjects, IsPut, with_list}
@@ -131,7 +132,7 @@ module _ (m : Metamodels) (extents : List Extent) (old mid new : List Cell) (w :
     whole_new : AreWhole m new
     whole_new = record {
       well_formed = store.well_formed;
-      few = subst (λ n. n ≤ 1000000) (sym same.same_length) store.few;
+      few = subst (λ n. n ≤ most_objects) (sym same.same_length) store.few;
       have_slots = same.have_slots;
       holders = record { held = held_new; contains = held_back };
       acyclic = acyclic_new;

@@ -7,6 +7,7 @@ use Rattle.qvt_slots.specs.declared.cell.Marks.{Marks}
 use Rattle.qvt_slots.specs.declared.extent.Extent.{Extent}
 use Rattle.qvt_slots.specs.Slots.{has, Inside}
 use Rattle.qvt_slots.specs.Contents.{Instance, HoldOwn, slot_in, members_from}
+use Rattle.qvt_slots.specs.Limits.{most_objects}
 use Rattle.qvt_slots.specs.Types.{AreTyped}
 use Rattle.qvt_slots.specs.Repeats.{AreUnique}
 use Rattle.qvt_slots.specs.Cells.{contents_of, IsStoreKept, IsSameCells}
@@ -16,7 +17,7 @@ pub same_kept : (m : Metamodels) (extents : List Extent) (old new : List Cell) (
 same_kept m extents old new members marks same kept' = record {
   whole = record {
     well_formed = kept'.whole.well_formed;
-    few = subst (λ n. n ≤ 1000000) (sym (same_count old new same.objects)) kept'.whole.few;
+    few = subst (λ n. n ≤ most_objects) (sym (same_count old new same.objects)) kept'.whole.few;
     have_slots = have_same m old new same.objects kept'.whole.have_slots;
     holders = record {
       held = λ x f y k h. same.holders y ∙ kept'.whole.holders.held x f y k (ap (λ (l : List Instance). has (slot_in m l x f) y) (sym same.objects) ∙ h);

@@ -1,6 +1,7 @@
 pub use Rattle.qvt_slots.specs.Slots
 pub use Rattle.qvt_slots.specs.Change
 pub use Rattle.qvt_slots.specs.Contents
+pub use Rattle.qvt_slots.specs.Limits
 pub use Rattle.qvt_slots.specs.Types
 pub use Rattle.qvt_slots.specs.Repeats
 pub use Rattle.qvt_slots.specs.Assign

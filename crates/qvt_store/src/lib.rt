@@ -1,6 +1,7 @@
 //! Objects with slots, opposites and containers, in numbered extents.
 #![tactic(auto)]
 
+pub mod limits;
 pub mod store;
 
 pub use qvt_slots::{

@@ -3,6 +3,7 @@ ghost use Rattle.qvt_slots.specs.Slots.{Contains, has};
 ghost use Rattle.qvt_slots.specs.Cells.{holder_in};
 ghost use Rattle.qvt_metamodel.specs.Metamodels.{has_feature, is_containment};
 ghost use Rattle.qvt_slots.specs.Contents.{AreNamed, is_live, is_extent, class_of, extent_of, slot_of, members_of, with_new};
+ghost use Rattle.qvt_slots.specs.Limits.{most_objects};
 ghost use Rattle.qvt_slots.specs.Members.{AreEmpty};
 ghost use Rattle.qvt_store.specs.Fault.{IsAddFault};
 ghost use Rattle.qvt_store_laws.specs.Sound.{IsClassFor, Sound};
@@ -17,6 +18,7 @@ mod place;
 mod plan;
 mod write;
 
+use crate::limits::MOST_OBJECTS;
 use qvt_base::copied::Copied;
 use qvt_base::list_fault::ListFault;
 use qvt_base::lists::OidList;
@@ -86,7 +88,7 @@ impl Store {
     {
         new_is_sound();
         let metas = metas.copy(alloc)?;
-        let _count = metas.class_count();
+        metas.are_well_formed();
         let extents = extents.copy(alloc)?;
         let members = empty_lists(alloc, extents.as_slice())?;
         Ok(Store {
@@ -207,7 +209,7 @@ impl Store {
         requires { IsClassFor self.old class.0 extent }
         ensures number { IfOk result (λ object. object.0 ≡ length self.old.objects) }
         ensures ok { OnOk result (self.new ≡ with_new self.old class.0 extent) }
-        ensures room { OnOk result (length self.old.objects < 1000000) }
+        ensures room { OnOk result (length self.old.objects < most_objects) }
         ensures refused { IfErr result (λ fault. IsAddFault (length self.old.objects) fault) }
         ensures err { OnErr result (self.new ≡ self.old) }
         ensures stays { StaysIn self.old self.new }
@@ -220,7 +222,7 @@ impl Store {
         add_leaves_inputs();
         add_keeps_sound();
         let count = self.cells.len();
-        if count >= 1_000_000 {
+        if count >= MOST_OBJECTS {
             return Err(StoreFault::TooManyObjects);
         }
         let object = Oid(count as u32);

@@ -6,6 +6,7 @@ use Rattle.qvt_metamodel.specs.WellFormed.{IsWellFormed}
 use Rattle.qvt_slots.specs.declared.op.SetOp.{SetOp}
 use Rattle.qvt_slots.specs.Slots.{Inside}
 use Rattle.qvt_slots.specs.Contents.{Contents, AreNamed, object_at, class_of, extent_of, is_live, is_writable, members_of, slot_of, with_new}
+use Rattle.qvt_slots.specs.Limits.{most_objects}
 use Rattle.qvt_slots.specs.Types.{AreTyped, IsAssignable}
 use Rattle.qvt_slots.specs.Assign.{assign, append, write}
 use Rattle.qvt_store_laws.specs.Sound.{Sound}
@@ -15,7 +16,7 @@ pub record IsStore (s : Contents) : Type 0 where
   pub well_formed : IsWellFormed s.metas
   -- an extent has a name exactly where its metamodel has one
   pub named : AreNamed s.metas s.extents
-  pub few : length s.objects ≤ 1000000
+  pub few : length s.objects ≤ most_objects
   pub typed : AreTyped s
   pub outside_itself : (x : ℕ) → Inside s.metas (slot_of s) x x → ⊥
 

@@ -13,13 +13,13 @@ use Rattle.qvt_relation.proofs.Bools.{and_left, and_right, and_both, or_cases, o
 use Rattle.qvt_cycle.specs.Successors.{among, how_often}
 use Rattle.qvt_cycle.proofs.Visits.{among-joined}
 use Rattle.qvt_slots.specs.Slots.{is_object, has}
-use Rattle.qvt_slots.specs.Repeats.{same_value, repeats}
+use Rattle.qvt_slots.specs.Repeats.{same_literal, same_value, repeats}
 use Rattle.qvt_model.specs.declared.data.Datum.{Datum}
 use Rattle.qvt_model.specs.declared.data.Datum.TheVariants.{Bool as BoolDatum, Int, Str, Literal, Ref}
 use Rattle.qvt_model.specs.Extents.{place_of, datum_in}
 use Rattle.qvt_model.proofs.Lists.{All-push}
 use Rattle.qvt_json.proofs.Ordered.{some-injective}
-use Rattle.qvt_conform.specs.Items.{same_literal, same_item, repeats_after, is_ref}
+use Rattle.qvt_conform.specs.Items.{same_item, repeats_after, is_ref}
 use Rattle.qvt_conform.specs.Containment.{refs_of, refs}
 
 abbrev pub back : (ℕ → ℕ) → Datum → Value
@@ -48,12 +48,12 @@ turned x y h = (Decides-eqb y x).1 (sym ((Decides-eqb x y).0 h))
 
 same_literals : (a b : LiteralRef) → same_literal a b ≡ true → same_value (EnumValue b) (EnumValue a) ≡ true
 same_literals a b h =
-    let rest = and_right (a.metamodel == b.metamodel) ((a.enumeration == b.enumeration) && (a.literal == b.literal)) h in
+    let first = and_left ((a.metamodel == b.metamodel) && (a.enumeration == b.enumeration)) (a.literal == b.literal) h in
     and_both ((b.metamodel == a.metamodel) && (b.enumeration == a.enumeration)) (b.literal == a.literal)
     (and_both (b.metamodel == a.metamodel) (b.enumeration == a.enumeration)
-    (turned a.metamodel b.metamodel (and_left (a.metamodel == b.metamodel) ((a.enumeration == b.enumeration) && (a.literal == b.literal)) h))
-    (turned a.enumeration b.enumeration (and_left (a.enumeration == b.enumeration) (a.literal == b.literal) rest)))
-    (turned a.literal b.literal (and_right (a.enumeration == b.enumeration) (a.literal == b.literal) rest))
+    (turned a.metamodel b.metamodel (and_left (a.metamodel == b.metamodel) (a.enumeration == b.enumeration) first))
+    (turned a.enumeration b.enumeration (and_right (a.metamodel == b.metamodel) (a.enumeration == b.enumeration) first)))
+    (turned a.literal b.literal (and_right ((a.metamodel == b.metamodel) && (a.enumeration == b.enumeration)) (a.literal == b.literal) h))
 
 pub count-app : (y : ℕ) (xs ys : List ℕ) → how_often y (xs ++ ys) ≡ how_often y xs + how_often y ys
 count-app y [] ys = let q : how_often y ys ≡ 0 + how_often y ys = omega arith in q

@@ -15,7 +15,7 @@ returns c =
     let ls = c.in_ok-links.links in
     let shown : c.as_slice-objects.result.now ≡ os = c.as_slice-objects.ensures in
     let linked : IsLinked m os ls = record {
-      mutual_opposites = c.class_count-count.ensures.well_formed.mutual_opposites;
+      mutual_opposites = c.are_well_formed.ensures.well_formed.mutual_opposites;
       ordered = ordered m c.requires.metamodel os c.requires.model;
       joined = subst (λ xs. Joined [] (links_from m 0 xs) ls) shown c.in_ok-links.ensures;
     } in

@@ -1,5 +1,5 @@
 use Rattle.std.proofs.Common.{◌≡◌, ◌∙◌, ◌+◌, sym, ap, length, nat_lt, false}
-use Rattle.qvt_inputs.specs.Conforming.{most_objects}
+use Rattle.qvt_store.specs.Limits.{most_objects}
 use Rattle.qvt_inputs.proofs.Faults.{conform_stops}
 use Rattle.qvt_inputs.proofs.conforming.conforming.Goals as goal
 

@@ -3,6 +3,7 @@ use Rattle.serde_json.specs.View.{view}
 use Rattle.qvt_metamodel.specs.WellFormed.{IsWellFormed}
 use Rattle.qvt_json.specs.Plain.{IsPlain, file_text}
 use Rattle.qvt_store.specs.Contents.{is_live, members_of}
+use Rattle.qvt_store.specs.Limits.{most_objects}
 use Rattle.std.specs.List.{AllByRecursion}
 use Rattle.std.specs.Prelude.{IsTrue}
 use Rattle.qvt_model.specs.Extents.{numbers, data_of}
@@ -21,7 +22,7 @@ pub write_value-requires : goal.write_value-requires
 write_value-requires c =
     let s = c.args.store.now in
     let named : IsWellFormed s.metas = c.is_whole.ensures.well_formed in
-    let few : length s.objects < 2 ^ 32 = let h : length s.objects ≤ 1000000 = c.is_whole.ensures.few in omega arith in
+    let few : length s.objects < 2 ^ 32 = let h : length s.objects ≤ most_objects = c.is_whole.ensures.few in omega arith in
     let same : view c.in_ok-value.value ≡ model_written s (numbers (members_of s c.args.extent)) = c.in_ok-value.ensures ∙ ap (λ ms. model_written s (numbers ms)) c.extent.ensures in
     subst IsPlain (sym same) (IsPlain-model_written s c.args.extent named c.requires.sound few)
 

@@ -4,6 +4,7 @@ use Rattle.std.proofs.lemmas.Bool.{ltb-true}
 use Rattle.qvt_base.specs.declared.numbers.FeatureNo.{FeatureNo}
 use Rattle.qvt_slots.specs.declared.cell.Cell.{Cell}
 use Rattle.qvt_slots.specs.Contents.{Contents, HoldOwn, with_new}
+use Rattle.qvt_slots.specs.Limits.{most_objects}
 use Rattle.qvt_slots.specs.Cells.{contents_of, IsStoreKept}
 use Rattle.qvt_slots.proofs.Added.{cells_new, added_kept}
 use Rattle.qvt_store_laws.specs.Stay.{InputsStay, StaysIn}
@@ -16,7 +17,7 @@ invariant_of-self-2 c =
     let live : c.args.extent < length c.self.inside.members.items =
     subst (λ n. c.args.extent < n) (ap (λ (s : Contents). length s.extents) (sym c.self.view_is) ∙ sym c.self.invariant.listed.count) (ltb-true c.args.extent (length c.args.self.now.extents) c.requires.extent) in
     let count : c.len-count.result ≡ length c.self.inside.cells.items = omega arith in
-    let few : length c.self.inside.cells.items < 1000000 = omega arith in
+    let few : length c.self.inside.cells.items < most_objects = omega arith in
     subst (λ (l : List Cell). IsStoreKept c.self.inside.metas c.self.inside.extents l c.add_cell.new.members.items c.self.inside.marks) (sym c.in_ok-add_cell.ensures.cells)
     (added_kept c.self.inside.metas c.self.inside.cells.items k c.self.invariant.whole few refl
     (c.in_ok-slots.ensures ∙ ap (λ (gs : List FeatureNo). map (λ _. []) gs) c.features.ensures)

@@ -11,7 +11,7 @@ use Rattle.qvt_store.proofs.store.Store.new.Goals as goal
 
 pub invariant_of-result : goal.invariant_of-result
 invariant_of-result c = subst (λ (l : List Cell). IsStoreKept c.in_ok-metas.metas c.in_ok-extents.extents l c.in_ok-members.members.items (record { distinct = true; own = true })) (sym c.new.ensures.items)
-    (empty_kept c.in_ok-metas.metas c.in_ok-extents.extents c.in_ok-members.members.items c.class_count-count.ensures.well_formed
+    (empty_kept c.in_ok-metas.metas c.in_ok-extents.extents c.in_ok-members.members.items c.are_well_formed.ensures.well_formed
     (subst (λ (m : Metamodels). AreNamed m c.in_ok-extents.extents) (sym c.in_ok-metas.ensures) (subst (λ (l : List Extent). AreNamed c.args.metas.now l) (sym c.in_ok-extents.ensures) c.requires))
     (subst (λ (l : List Extent). AreEmpty (length l) c.in_ok-members.members.items) c.as_slice.ensures c.in_ok-members.ensures))
 
