@@ -41,13 +41,13 @@ impl Drop for Ty {
 }
 
 impl Copied for Ty {
-    fn copy(&self, alloc: Global) -> Result<Ty, ListFault> {
-        copy_of(alloc, self)
+    fn copy(&self, _alloc: Global) -> Result<Ty, ListFault> {
+        copy_of(self)
     }
 }
 
-/// The same type again.
-fn copy_of(alloc: Global, of: &Ty) -> Result<Ty, ListFault>
+/// The same type again. Types share the types of their items, so it takes no memory.
+fn copy_of(of: &Ty) -> Result<Ty, ListFault>
     ensures { IfOk result (λ copy. copy ≡ of.now) }
 {
     match of {
@@ -57,20 +57,17 @@ fn copy_of(alloc: Global, of: &Ty) -> Result<Ty, ListFault>
         Ty::Str => Ok(Ty::Str),
         Ty::Enum(metamodel, enumeration) => Ok(Ty::Enum(*metamodel, *enumeration)),
         Ty::Class(class) => Ok(Ty::Class(*class)),
-        Ty::Coll(kind, item) => Ok(Ty::Coll(
-            *kind,
-            Boxed::new(alloc, copy_of(alloc, item.get())?)?,
-        )),
+        Ty::Coll(kind, item) => Ok(Ty::Coll(*kind, item.again()?)),
     }
 }
 
 /// The same type again, if there is one.
-pub fn copied(alloc: Global, of: &Option<Ty>) -> Result<Option<Ty>, ListFault>
+pub fn copied(_alloc: Global, of: &Option<Ty>) -> Result<Option<Ty>, ListFault>
     ensures { IfOk result (λ copy. copy ≡ of.now) }
 {
     match of {
         None => Ok(None),
-        Some(of) => Ok(Some(copy_of(alloc, of)?)),
+        Some(of) => Ok(Some(copy_of(of)?)),
     }
 }
 

@@ -1,4 +1,4 @@
--- How a box stores its value, so that a type may hold itself through `Boxed`.
+-- How a shared value is stored, so that a type may hold itself through `Boxed`.
 use mathlib.Core.Path.{refl}
 use mathlib.Core.Former.{Former, this, const, pair, via}
 use base.Stored.{gnil}
@@ -12,8 +12,8 @@ use denote.HolePlaces.{Recodes, struct_places, laid, one_value}
 use denote.Hole.Fix.{over}
 use denote.Param.Weighed.{Weighed}
 use denote.Model.Placed.{view_places}
-use Rattle.std.specs.declared.boxed.Box.{Box}
-use Rattle.std.specs.contracts.boxed.Box as row_of_box
+use Rattle.std.specs.declared.rc.Rc.{Rc}
+use Rattle.std.specs.contracts.rc.Rc as row_of_rc
 use Rattle.std.specs.declared.alloc.Global.{Global}
 use Rattle.std.specs.contracts.alloc.Global as heap
 use Rattle.std.specs.contracts.impls.GlobalAllocator.TheImpl.{ghosts}
@@ -22,33 +22,33 @@ use Rattle.qvt_types_data.specs.declared.boxed.Boxed.TheView.{view, invariant}
 use Rattle.qvt_types_data.specs.contracts.boxed.Boxed as row_of_boxed
 use Rattle.qvt_types_data.specs.contracts.boxed.Boxed.TheInside as row_of_fields
 
--- a box is seen as its value alone
+-- it is seen as its value alone
 abbrev pub the_former : Former {0} → Former {0}
 the_former inner = inner
 
 abbrev pub the_weighed : {inner : Former {0}} → Weighed inner → Weighed (the_former inner)
 the_weighed weight = weight
 
--- its one field is a pointer with an allocator, and the value
+-- its one field is a pointer, and the value
 abbrev field : Former {0}
-field = via (pair (const (Ptr × Global)) this) Inside
-    (λ X fields. ((fields.inner.ptr, fields.inner.alloc), fields.inner.value))
-    (λ X parts. record { inner = record { ptr = parts.0.0; alloc = parts.0.1; value = parts.1 } })
+field = via (pair (const Ptr) this) Inside
+    (λ X fields. (fields.inner.ptr, fields.inner.value))
+    (λ X parts. record { inner = record { ptr = parts.0; value = parts.1 } })
     (λ X fields. refl) (λ X parts. refl)
 
-abbrev holding : {X Y : Type 0} → Box X Global → Y → Box Y Global
-holding b y = record { ptr = b.ptr; alloc = b.alloc; value = y }
+abbrev holding : {X Y : Type 0} → Rc X Global → Y → Rc Y Global
+holding r y = record { ptr = r.ptr; value = y }
 
-abbrev boxed_in : RattleType → RattleType
-boxed_in R = row_of_box.the_row R heap.the_row ghosts
+abbrev shared_in : RattleType → RattleType
+shared_in R = row_of_rc.the_row R heap.the_row ghosts
 
 module _ (R S : RattleType) (along : R.Denot → S.Denot) where
-  box_places : Alike R S along → Alike (boxed_in R) (boxed_in S) (λ b. holding b (along b.value))
+  shared_places : Alike R S along → Alike (shared_in R) (shared_in S) (λ b. holding b (along b.value))
   unfolding part_of
-  box_places alike = record {
-    mir_same = λ i. (boxed_in (one_value R (alike.mir_same i) (λ _. ftrue) (λ _ _. nothing) gnil)).mir;
-    own_same = λ b i. (boxed_in (one_value R (alike.mir_same i) (alike.own_same b.value i) (alike.shr_same b.value i) gnil)).own_val (holding b tt);
-    shr_same = λ b i. (boxed_in (one_value R (alike.mir_same i) (alike.own_same b.value i) (alike.shr_same b.value i) gnil)).shr_at (holding b tt);
+  shared_places alike = record {
+    mir_same = λ i. (shared_in (one_value R (alike.mir_same i) (λ _. ftrue) (λ _ _. nothing) gnil)).mir;
+    own_same = λ b i. (shared_in (one_value R (alike.mir_same i) (alike.own_same b.value i) (alike.shr_same b.value i) gnil)).own_val (holding b tt);
+    shr_same = λ b i. (shared_in (one_value R (alike.mir_same i) (alike.own_same b.value i) (alike.shr_same b.value i) gnil)).shr_at (holding b tt);
   }
 
   pub the_places : Alike R S along → Alike (row_of_boxed.the_row R) (row_of_boxed.the_row S) ((the_former this).map R.Denot S.Denot along)
@@ -57,7 +57,7 @@ module _ (R S : RattleType) (along : R.Denot → S.Denot) where
       (invariant R.Denot) (invariant S.Denot) (λ u p q. refl) (λ u p q. refl) (λ u e. tt) (λ u e. tt)
       (over (row_of_fields.the_row R)) (over (row_of_fields.the_row S))
       (struct_places (row_of_fields.the_type R) (row_of_fields.the_type S) ((λ b. holding b (along b.value)), tt) _ (λ fields. refl) refl
-      (laid _ _ _ (box_places alike), tt))
+      (laid _ _ _ (shared_places alike), tt))
 
   pub the_codes_placed : Recodes R S along → Recodes (row_of_boxed.the_row R) (row_of_boxed.the_row S) ((the_former this).map R.Denot S.Denot along)
   the_codes_placed recodes b = recodes b
