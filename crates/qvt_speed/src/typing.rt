@@ -45,9 +45,9 @@ fn taken<R: Clock>(rt: &R, alloc: Global, text: &str, metas: &Metas) -> Option<(
     let module = parse(alloc, text).ok()?;
     let read = reading.elapsed(rt).ok()?;
     let typing = Instant::now(rt).ok()?;
-    let is_good = accept(alloc, &module, metas).is_ok();
+    let program = accept(alloc, &module, metas);
     let typed = typing.elapsed(rt).ok()?;
-    if !is_good {
+    if program.is_err() {
         return None;
     }
     Some((read.as_micros(), typed.as_micros()))
