@@ -49,12 +49,15 @@ impl NumberSet {
         ensures ok { OnOk result ((n : ℕ) → has_number self.new n ≡ (has_number self.old n || (number == n))) }
         ensures err { OnErr result ((n : ℕ) → has_number self.new n ≡ has_number self.old n) }
     {
-        self.reach(number)?;
+        if number as usize >= self.marks.len() {
+            self.reach(number)?;
+        }
         self.marks.set(number as usize, self.turn);
         Ok(())
     }
 
     /// Has a mark for each number up to this one.
+    #[inline(never)]
     fn reach(&mut self, number: u32) -> Result<(), ListFault>
         ensures marks { OnOk result (number < length self.new.0) }
         ensures same { (n : ℕ) → slice_index_or self.new.0 n 0 ≡ slice_index_or self.old.0 n 0 }

@@ -96,19 +96,36 @@ fn joined(
     Ok(list)
 }
 
-/// The features of these classes, each once: a copy where there is one class and nothing to take out.
+/// A copy of the list, with room for so many features more.
+fn copy_with_room(
+    alloc: Global,
+    list: &[FeatureNo],
+    more: usize,
+) -> Result<FeatureNoList, ListFault>
+    ensures { IfOk result (λ s. s ≡ list.now) }
+{
+    let Ok(items) = Vec::with_capacity(alloc, list.len().saturating_add(more)) else {
+        return Err(ListFault::NoMemory);
+    };
+    let mut copy = Seq::from_vec(items);
+    copy.extend(list)?;
+    Ok(copy)
+}
+
+/// The features of these classes, each once, with room for so many more: a copy where there is one class and nothing to take out.
 fn inherited(
     alloc: Global,
     seen: &mut NumberSet,
     lists: &Vec<FeatureNoList>,
     supers: &[ClassNo],
+    more: usize,
 ) -> Result<FeatureNoList, ListFault>
     ensures { IfOk result (λ s. s ≡ each_once [] (flat_map (λ s. slice_index_or lists.now.items s.0 []) supers.now)) }
 {
     if supers.len() == 1 {
         let list = list_at(lists, supers[0]);
         if is_rising(list) {
-            return Seq::from_slice(alloc, list);
+            return copy_with_room(alloc, list, more);
         }
     }
     joined(alloc, seen, lists, supers)
@@ -124,7 +141,7 @@ fn features_at(
 ) -> Result<FeatureNoList, ListFault>
     ensures { IfOk result (λ s. s ≡ each_once [] (flat_map (λ s. slice_index_or lists.now.items s.0 []) supers.now) ++ own.now) }
 {
-    let mut list = inherited(alloc, seen, lists, supers)?;
+    let mut list = inherited(alloc, seen, lists, supers, own.len())?;
     list.extend(own)?;
     Ok(list)
 }

@@ -13,7 +13,7 @@ use crate::cycles::{cycle_flags, tell_cycles, uncycled_all};
 use crate::declared::{Declared, Property, all_declared};
 use crate::keyed::KeyedProperties;
 use crate::numbered::{all_properties, numbered, property_lists};
-use crate::reading::{read_all, tell_all_same};
+use crate::reading::read_all;
 use crate::telling::tell_classes;
 use qvt_base::copied::Copied;
 use qvt_base::list_fault::ListFault;
@@ -44,8 +44,7 @@ fn read_classes(
     let infos = numbered(alloc, classes)?;
     let all = KeyedProperties::new(alloc, all_properties(alloc, classes)?)?;
     let lists = property_lists(alloc, infos.as_slice())?;
-    tell_all_same(alloc, &all, lists.as_slice(), classes, log)?;
-    read_all(alloc, &all, lists.as_slice(), classes)
+    read_all(alloc, &all, lists.as_slice(), classes, log)
 }
 
 /// The classes as they are read, and what is told of them by what stands above them.

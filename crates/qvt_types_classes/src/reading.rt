@@ -89,24 +89,6 @@ fn parted(list: &[FeatureNo], own: usize) -> (&[FeatureNo], &[FeatureNo])
 
 ghost use Rattle.std.specs.Prelude.{◌-◌};
 
-/// Tells what properties of one name the class has: at the class where both are inherited, else at its own.
-fn tell_same(
-    alloc: Global,
-    all: &KeyedProperties,
-    seen: &mut NumberSet,
-    list: &[FeatureNo],
-    class: &Declared,
-    log: &mut RefusalList,
-) -> Result<(), ListFault>
-    ensures { OnOk result (log.new ≡ log.old ++ inherited.same_told (map (inherited.property_at all.now) list.now) class.now) }
-{
-    let (above, _) = parted(list, class.properties.len());
-    let twice = see_all(all, seen, above)?;
-    tell_if(log, twice, RefusalKind::SameName, class.place)?;
-    tell_own(alloc, all, seen, class.properties.as_slice(), log)?;
-    Ok(())
-}
-
 /// The first property of each name.
 fn firsts(alloc: Global, properties: &[Property]) -> Result<Seq<Property>, ListFault>
     ensures { IfOk result (λ ps. ps ≡ inherited.firsts [] properties.now) }
@@ -176,18 +158,24 @@ fn read_apart(
     })
 }
 
-/// The class as its name is read: of properties of one name it has the first.
+/// The class as its name is read: of properties of one name it has the first. It tells them: at the class where both are inherited,
+/// else at its own.
 fn read_class(
     alloc: Global,
     all: &KeyedProperties,
     seen: &mut NumberSet,
     list: &[FeatureNo],
     class: &Declared,
+    log: &mut RefusalList,
 ) -> Result<Declared, ListFault>
-    ensures { IfOk result (λ d. d ≡ inherited.read_class (map (inherited.property_at all.now) list.now) class.now) }
+    ensures read { IfOk result (λ d. d ≡ inherited.read_class (map (inherited.property_at all.now) list.now) class.now) }
+    ensures told { OnOk result (log.new ≡ log.old ++ inherited.same_told (map (inherited.property_at all.now) list.now) class.now) }
 {
     let (above, own) = parted(list, class.properties.len());
-    if see_all(all, seen, above)? {
+    let twice = see_all(all, seen, above)?;
+    tell_if(log, twice, RefusalKind::SameName, class.place)?;
+    tell_own(alloc, all, seen, class.properties.as_slice(), log)?;
+    if twice {
         let read = read_apart(alloc, all, list, class)?;
         return Ok(read);
     }
@@ -210,37 +198,23 @@ fn list_at(lists: &[FeatureNoList], place: usize) -> &[FeatureNo]
     }
 }
 
-/// All classes as they are read, by the properties of all and the numbers of those of each.
+/// All classes as they are read, by the properties of all and the numbers of those of each, and what is told of their properties of
+/// one name.
 pub fn read_all(
     alloc: Global,
     all: &KeyedProperties,
     lists: &[FeatureNoList],
     classes: &[Declared],
+    log: &mut RefusalList,
 ) -> Result<Seq<Declared>, ListFault>
-    ensures { IfOk result (λ ds. ds ≡ inherited.read_from all.now lists.now 0 classes.now) }
+    ensures read { IfOk result (λ ds. ds ≡ inherited.read_from all.now lists.now 0 classes.now) }
+    ensures told { OnOk result (log.new ≡ log.old ++ inherited.same_told_from all.now lists.now 0 classes.now) }
 {
     let mut seen = NumberSet::new(alloc);
     let mut read = Seq::new(alloc);
     for (place, class) in classes.iter().enumerate() {
         let list = list_at(lists, place);
-        read.push(read_class(alloc, all, &mut seen, list, class)?)?;
+        read.push(read_class(alloc, all, &mut seen, list, class, log)?)?;
     }
     Ok(read)
-}
-
-/// Tells what properties of one name the classes have.
-pub fn tell_all_same(
-    alloc: Global,
-    all: &KeyedProperties,
-    lists: &[FeatureNoList],
-    classes: &[Declared],
-    log: &mut RefusalList,
-) -> Result<(), ListFault>
-    ensures { OnOk result (log.new ≡ log.old ++ inherited.same_told_from all.now lists.now 0 classes.now) }
-{
-    let mut seen = NumberSet::new(alloc);
-    for (place, class) in classes.iter().enumerate() {
-        tell_same(alloc, all, &mut seen, list_at(lists, place), class, log)?;
-    }
-    Ok(())
 }

@@ -6,7 +6,7 @@ use Rattle.qvt_meta_tables.proofs.tables.inherited.Goals as goal
 
 pub returns-then-is_rising : goal.returns-then-is_rising
 returns-then-is_rising c =
-    subst (λ l. IfOk c.from_slice.result (λ s. s ≡ l))
+    subst (λ l. IfOk c.copy_with_room.result (λ s. s ≡ l))
     (c.list_at-list.ensures ∙ once-only (λ s. slice_index_or c.args.lists.now.items s.0 []) c.args.supers.now _ c.if-supers-eq1.true
     (ap is_rising (sym c.list_at-list.ensures) ∙ sym c.is_rising.ensures ∙ c.if-is_rising.true))
-    c.from_slice.ensures
+    c.copy_with_room.ensures
