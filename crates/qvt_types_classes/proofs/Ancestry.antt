@@ -1,5 +1,5 @@
 -- Which properties a class inherits, and the class as its name is read.
-use Rattle.std.proofs.Common.{◌≡◌, ◌∙◌, ℕ, zero, suc, ◌+◌, ◌-◌, ◌<◌, List, [], ◌∷◌, ◌++◌, length, map, get_or, take, drop, true, false, Option, Some, None, refl, ap, sym, subst, arith, ◌==◌, ◌||◌, inl, inr}
+use Rattle.std.proofs.Common.{◌≡◌, ◌∙◌, ℕ, zero, suc, ◌+◌, ◌-◌, ◌<◌, List, [], ◌∷◌, ◌++◌, length, map, get_or, take, drop, Bool, true, false, Option, Some, None, refl, ap, sym, subst, arith, ◌==◌, ◌||◌, inl, inr}
 use Rattle.std.specs.Prelude.{if◌then◌else◌, is_some, slice_index}
 use Rattle.std.specs.List.{AllByRecursion, flat_map}
 use Rattle.std.proofs.Math.Seq.{take-append_seam, drop-append_seam}
@@ -19,12 +19,15 @@ use Rattle.qvt_metamodel.proofs.Ancestors.{Found, found, passing, ancestor}
 use Rattle.qvt_metamodel.proofs.Bools.{ap2, or_cases, clash}
 use Rattle.qvt_metamodel.proofs.Halves.{Half, old, new, half}
 use Rattle.qvt_metamodel.proofs.Infos.{among_numbers, length-numbers_from}
-use Rattle.qvt_metamodel.proofs.Lookups.{repeated-fewer}
+use Rattle.qvt_metamodel.proofs.Lookups.{none_repeated, repeated-fewer}
 use Rattle.qvt_metamodel.proofs.Owners.{Declared as Owner, declared as owner, among-flat, once-from, once-has, includes, all-there}
 use Rattle.qvt_metas.specs.Tables.{of_classes}
+use Rattle.qvt_types_data.specs.declared.refusal.Refusal.{Refusal}
+use Rattle.qvt_types_data.specs.declared.refusal.RefusalKind.TheVariants.{SameName}
+use Rattle.qvt_types_paths.specs.Told.{told_if}
 use Rattle.qvt_types_classes.specs.declared.declared.Property.{Property}
 use Rattle.qvt_types_classes.specs.declared.declared.Declared.{Declared}
-use Rattle.qvt_types_classes.specs.Inherited.{all_properties, firsts, inherits_twice, names_of, no_property, numbered_from, properties_at, property_at, property_lists, read_class, read_from}
+use Rattle.qvt_types_classes.specs.Inherited.{all_properties, firsts, inherits_twice, names_of, no_property, numbered_from, own_told, properties_at, property_at, property_lists, read_class, read_from, same_told}
 use Rattle.qvt_types_classes.proofs.Once.{all_map, all_among, firsts_after, firsts_all, firsts_new, firsts_once, fresh_names, names_apart, once_fresh}
 use Rattle.qvt_types_classes.proofs.Cut.{at, Over, from_there, is_over, numbered_count}
 use Rattle.qvt_types_classes.proofs.Numbering.{before, width, IsOf, all_numbers, numbered_at, numbers_have, of_there, property_is}
@@ -55,11 +58,26 @@ module _ (xs ys : List Property) (d : Declared) (same : length ys ≡ length d.p
       ap2 (λ n ps. drop n ps) inherited_part (firsts_after [] xs ys fresh)
       ∙ drop-append_seam xs (firsts (names_of xs) ys))
 
+own_silent : (earlier : List (List ℕ)) (ps : List Property) → repeated earlier (names_of ps) ≡ None → own_told earlier ps ≡ []
+own_silent earlier [] fresh = refl
+own_silent earlier (p ∷ ps) fresh =
+    let two : (is_among p.name earlier ≡ false) × (repeated (earlier ++ p.name ∷ []) (names_of ps) ≡ None) =
+    none_repeated (is_among p.name earlier) p.name (repeated (earlier ++ p.name ∷ []) (names_of ps)) fresh in
+    ap2 (λ (b : Bool) (rs : List Refusal). told_if b SameName p.place ++ rs) two.0 (own_silent (earlier ++ p.name ∷ []) ps two.1)
+
+-- nothing is told of a class whose properties all differ in their names
+pub silent : (xs ys : List Property) (d : Declared) → length ys ≡ length d.properties → repeated [] (names_of xs) ≡ None → repeated (names_of xs) (names_of d.properties) ≡ None → same_told (xs ++ ys) d ≡ []
+unfolding same_told
+silent xs ys d same fresh own = ap2 (λ (b : Bool) (rs : List Refusal). told_if b SameName d.place ++ rs) (twice_is xs ys d same ∙ ap is_some fresh)
+    (ap (λ n. own_told (names_of (take n (xs ++ ys))) d.properties) (inherited_part xs ys d same)
+    ∙ ap (λ (ps : List Property). own_told (names_of ps) d.properties) (take-append_seam xs ys)
+    ∙ own_silent (names_of xs) d.properties own)
+
 none_some : (o : Option (List ℕ)) → is_some o ≡ false → o ≡ None
 none_some None h = refl
 none_some (Some x) h = absurd (cc)
 
-names_of_map : (p : FeatureNo → Property) (gs : List FeatureNo) → names_of (map p gs) ≡ map (λ g. (p g).name) gs
+pub names_of_map : (p : FeatureNo → Property) (gs : List FeatureNo) → names_of (map p gs) ≡ map (λ g. (p g).name) gs
 names_of_map p [] = refl
 names_of_map p (g ∷ gs) = ap (λ l. (p g).name ∷ l) (names_of_map p gs)
 
@@ -192,16 +210,16 @@ module _ (ds : List Declared) where
     abbrev all : List Property
     all = all_properties ds
 
-    abbrev xs : List Property
+    abbrev pub xs : List Property
     xs = map (property_at all) (inherited i)
 
-    abbrev ys : List Property
+    abbrev pub ys : List Property
     ys = map (property_at all) (numbers_from (before ds i) (width ds i))
 
-    own_width : length ys ≡ width ds i
+    pub own_width : length ys ≡ width ds i
     own_width = length-map (numbers_from (before ds i) (width ds i)) (property_at all) ∙ length-numbers_from (before ds i) (width ds i)
 
-    parts : properties_at all (property_lists (numbered_from 0 ds)) i ≡ xs ++ ys
+    pub parts : properties_at all (property_lists (numbered_from 0 ds)) i ≡ xs ++ ys
     parts =
         ap (map (property_at all)) (
         get_or-map-range_with_len (features_of M) 0 (length (numbered_from 0 ds)) i i [] (omega (arith, low, numbered_count 0 ds)) (let same : 0 + i ≡ i = omega arith in same)

@@ -1,6 +1,6 @@
 -- The properties of intermediate classes with those that they inherit (EMOF 12.4, inherited features), numbered from 0 over all
 -- classes, and properties of one name.
-use Rattle.std.specs.Prelude.{ℕ, ◌+◌, ◌-◌, Bool, false, List, [], ◌∷◌, ◌++◌, length, map, take, drop, slice_index_or, is_some, if◌then◌else◌}
+use Rattle.std.specs.Prelude.{ℕ, ◌+◌, ◌-◌, Bool, false, not, List, [], ◌∷◌, ◌++◌, length, map, take, drop, slice_index_or, is_some, if◌then◌else◌}
 use Rattle.std.specs.List.{flat_map, range_with_len}
 use Rattle.qvt_base.specs.declared.numbers.ClassNo.{ClassNo}
 use Rattle.qvt_base.specs.declared.numbers.FeatureNo.{FeatureNo}
@@ -45,6 +45,10 @@ properties_at all lists i = map (property_at all) (slice_index_or lists i [])
 
 abbrev pub names_of : List Property → List (List ℕ)
 names_of ps = map (λ p. p.name) ps
+
+-- no two of the properties have one name
+abbrev pub are_apart : List Property → Bool
+are_apart ps = not (is_some (repeated [] (names_of ps)))
 
 -- how many of so many properties are inherited, where these are the class's own
 abbrev pub inherited_count : List Property → List Property → ℕ

@@ -12,8 +12,8 @@ ghost use Rattle.qvt_types_classes.specs.Classes as words;
 use crate::cycles::{cycle_flags, tell_cycles, uncycled_all};
 use crate::declared::{Declared, Property, all_declared};
 use crate::keyed::KeyedProperties;
-use crate::numbered::{all_properties, numbered, property_lists};
-use crate::reading::read_all;
+use crate::numbered::{all_properties, are_ranked, numbered, property_lists};
+use crate::reading::{are_apart, read_all};
 use crate::telling::tell_classes;
 use qvt_base::copied::Copied;
 use qvt_base::list_fault::ListFault;
@@ -28,23 +28,31 @@ use qvt_types_paths::model_types::TypeNames;
 use qvt_types_paths::told::RefusalList;
 use std::alloc::Global;
 
-/// Classes, none of which is above itself, as they are read; and what is told of their properties of one name.
+/// Classes, none of which is above itself, as they are read; and what is told of their properties of one name. Where there are no such
+/// properties the classes are read as they are, and none is asked what it inherits.
 #[tactic(auto, unfolding(crate::specs::Classes::read_classes, crate::specs::Classes::all_same_told))]
 fn read_classes(
     alloc: Global,
-    classes: &[Declared],
+    classes: Seq<Declared>,
     log: &mut RefusalList,
 ) -> Result<Seq<Declared>, ListFault>
-    requires live { AreLive (numbered_from 0 classes.now) }
-    requires acyclic { IsAcyclic (numbered_from 0 classes.now) }
-    ensures read { IfOk result (λ ds. ds ≡ words.read_classes classes.now) }
-    ensures ranked { IfOk result (λ ds. words.HaveRanks (numbered_from 0 classes.now)) }
-    ensures told { OnOk result (log.new ≡ log.old ++ words.all_same_told classes.now) }
+    requires live { AreLive (numbered_from 0 classes) }
+    requires acyclic { IsAcyclic (numbered_from 0 classes) }
+    ensures read { IfOk result (λ ds. ds ≡ words.read_classes classes) }
+    ensures ranked { IfOk result (λ ds. words.HaveRanks (numbered_from 0 classes)) }
+    ensures told { OnOk result (log.new ≡ log.old ++ words.all_same_told classes) }
 {
-    let infos = numbered(alloc, classes)?;
-    let all = KeyedProperties::new(alloc, all_properties(alloc, classes)?)?;
+    let infos = numbered(alloc, classes.as_slice())?;
+    let properties = all_properties(alloc, classes.as_slice())?;
+    let apart = are_apart(alloc, properties.as_slice())?;
+    if apart {
+        are_ranked(alloc, infos.as_slice())?;
+        return Ok(classes);
+    }
+    let all = KeyedProperties::new(alloc, properties)?;
     let lists = property_lists(alloc, infos.as_slice())?;
-    read_all(alloc, &all, lists.as_slice(), classes, log)
+    let read = read_all(alloc, &all, lists.as_slice(), classes.as_slice(), log)?;
+    Ok(read)
 }
 
 /// The classes as they are read, and what is told of them by what stands above them.
@@ -62,7 +70,7 @@ fn classes_above(
     let flags = cycle_flags(alloc, written)?;
     tell_cycles(flags.as_slice(), written, log)?;
     let own = uncycled_all(alloc, flags.as_slice(), written)?;
-    read_classes(alloc, own.as_slice(), log)
+    read_classes(alloc, own, log)
 }
 
 fn feature_data(alloc: Global, properties: &[Property]) -> Result<FeatureDataList, ListFault>

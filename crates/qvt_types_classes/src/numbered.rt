@@ -15,6 +15,7 @@ use qvt_base::text::Text;
 use qvt_cycle::lists::Positions;
 use qvt_metas::info::ClassInfo;
 use qvt_metas::numbering::numbers_from;
+use qvt_metas::order::order_of;
 use qvt_metas::tables::tables_of;
 use std::alloc::Global;
 
@@ -109,6 +110,19 @@ pub fn property_lists(alloc: Global, classes: &[ClassInfo]) -> Result<Vec<Featur
     };
     let tables = tables_of(alloc, classes, count)?;
     Ok(tables.lists)
+}
+
+/// The classes have ranks above those of their superclasses. It is refused as out of memory where their numbers do not fit 32 bits.
+pub fn are_ranked(alloc: Global, classes: &[ClassInfo]) -> Result<(), ListFault>
+    requires live { AreLive classes.now }
+    requires acyclic { IsAcyclic classes.now }
+    ensures { OnOk result (HaveRanks classes.now) }
+{
+    let Ok(count) = u32::try_from(classes.len()) else {
+        return Err(ListFault::NoMemory);
+    };
+    order_of(alloc, classes, count)?;
+    Ok(())
 }
 
 /// What stands past the end.

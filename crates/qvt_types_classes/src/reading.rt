@@ -89,6 +89,20 @@ fn parted(list: &[FeatureNo], own: usize) -> (&[FeatureNo], &[FeatureNo])
 
 ghost use Rattle.std.specs.Prelude.{◌-◌};
 
+/// Whether no two of the properties have one name.
+pub fn are_apart(alloc: Global, properties: &[Property]) -> Result<bool, ListFault>
+    ensures { IfOk result (λ b. b ≡ inherited.are_apart properties.now) }
+{
+    let mut earlier = NameIndex::new(alloc);
+    for property in properties {
+        if earlier.has(property.name.as_str()) {
+            return Ok(false);
+        }
+        earlier = earlier.with(alloc, property.name.as_str())?;
+    }
+    Ok(true)
+}
+
 /// The first property of each name.
 fn firsts(alloc: Global, properties: &[Property]) -> Result<Seq<Property>, ListFault>
     ensures { IfOk result (λ ps. ps ≡ inherited.firsts [] properties.now) }
