@@ -1,9 +1,9 @@
 -- Classes whose properties all differ in their names are read as they are, and nothing is told of them.
-use Rattle.std.proofs.Common.{◌≡◌, ◌∙◌, ℕ, zero, suc, ◌+◌, ◌-◌, ◌<◌, ◌≤◌, List, [], ◌∷◌, ◌++◌, length, map, get_or, None, refl, ap, sym, subst, arith, true}
+use Rattle.std.proofs.Common.{◌≡◌, ◌∙◌, ℕ, zero, suc, ◌+◌, ◌-◌, ◌<◌, ◌≤◌, List, [], ◌∷◌, ◌++◌, length, map, get_or, true, not, Option, Some, None, refl, ap, sym, subst, arith}
+use Rattle.std.specs.Prelude.{is_some}
 use Rattle.std.specs.List.{AllByRecursion, flat_map}
 use Rattle.std.proofs.lemmas.List.{append-nil, length-append, length-map}
 use Rattle.qvt_relation.specs.Closure.{Closure}
-use Rattle.qvt_relation.proofs.Closures.{closure_map}
 use Rattle.qvt_metamodel.specs.Added.{numbers_from}
 use Rattle.qvt_metamodel.specs.Metamodels.{among_features, class_at, features_in}
 use Rattle.qvt_metamodel.specs.Names.{repeated}
@@ -14,12 +14,19 @@ use Rattle.qvt_types_data.specs.declared.refusal.Refusal.{Refusal}
 use Rattle.qvt_base.specs.declared.numbers.FeatureNo.{FeatureNo}
 use Rattle.qvt_types_classes.specs.declared.declared.Property.{Property}
 use Rattle.qvt_types_classes.specs.declared.declared.Declared.{Declared}
-use Rattle.qvt_types_classes.specs.Inherited.{all_properties, firsts, names_of, no_property, numbered_from, properties_at, property_at, property_lists, read_class, read_from, same_told, same_told_from}
+use Rattle.qvt_types_classes.specs.Inherited.{all_properties, are_apart, firsts, names_of, no_property, numbered_from, properties_at, property_at, property_lists, read_class, read_from, same_told, same_told_from}
 use Rattle.qvt_types_classes.specs.Classes.{all_same_told, read_classes}
 use Rattle.qvt_types_classes.proofs.Ancestry.{M, Source, inherited, name_of, names_of_map, own_width, parts, read_kept, silent, source, xs, ys}
-use Rattle.qvt_types_classes.proofs.Cut.{at, Over, is_over}
+use Rattle.qvt_types_classes.proofs.Cut.{at, closure_map, Over, is_over}
 use Rattle.qvt_types_classes.proofs.Numbering.{before, width, IsOf, all_numbers, one_class, property_is}
 use Rattle.qvt_types_classes.proofs.Once.{all_among, firsts_after, fresh_names, names_differ, numbers_fresh, once_fresh}
+
+none_there : (o : Option (List ℕ)) → not (is_some o) ≡ true → o ≡ None
+none_there None h = refl
+none_there (Some x) h = absurd (cc)
+
+pub apart_fresh : (ps : List Property) → are_apart ps ≡ true → repeated [] (names_of ps) ≡ None
+apart_fresh ps h = none_there (repeated [] (names_of ps)) h
 
 -- classes that are each read as it is
 same_from : (all : List Property) (lists : List (List FeatureNo)) (k : ℕ) (ds : List Declared) → ((i : ℕ) → i < length ds → read_class (properties_at all lists (k + i)) (at ds i) ≡ at ds i) → read_from all lists k ds ≡ ds
