@@ -71,8 +71,16 @@ fn clashes_among(metas: &Metas, units: &[Signature], named: &Named, unit: &Signa
         || (misfits_first(metas, units, all, unit) && clashes_with(metas, units, unit, all))
 }
 
-/// Whether the unit does not fit one of its name that is above it, where this stands above it. Two units of which none asks all that the
-/// other asks are looked at before all of them are.
+/// Whether both units are above the unit.
+fn are_over(metas: &Metas, units: &[Signature], unit: &Signature, one: u32, other: u32) -> bool
+    ensures { result ≡ above.are_over metas.now units.now unit.now one other }
+{
+    is_strictly_below(metas, unit.context, context_at(units, one))
+        && is_strictly_below(metas, unit.context, context_at(units, other))
+}
+
+/// Whether the unit does not fit one of its name that is above it, where this stands above it. Where two
+/// stand there beside others, of which none asks all that the other asks, these are looked at before all of them are.
 fn clashes_over(
     metas: &Metas,
     units: &[Signature],
@@ -88,6 +96,12 @@ fn clashes_over(
         Above::Least(number) => {
             clashes_at(metas, units, unit, number)
                 || (!is_strictly_below(metas, unit.context, context_at(units, number))
+                    && clashes_among(metas, units, named, unit))
+        }
+        Above::Both(first, second) => {
+            clashes_at(metas, units, unit, first)
+                || clashes_at(metas, units, unit, second)
+                || (!are_over(metas, units, unit, first, second)
                     && clashes_among(metas, units, named, unit))
         }
         Above::Several(first, second) => {
