@@ -11,6 +11,7 @@ use Rattle.qvt_types_units.specs.Choice.{context_at}
 use Rattle.qvt_types_groups.specs.Numbers.{unit_at, is_called}
 use Rattle.qvt_types_groups.specs.Overrides.{are_alike, is_misfit, is_strictly_below, is_bad_override}
 use Rattle.qvt_types_groups.specs.Lists.{list_at, numbers_under}
+use Rattle.qvt_types_groups.proofs.ByClass.{AreLeast}
 use Rattle.qvt_types_groups.proofs.Lowest.{same_test}
 use Rattle.qvt_types_lists.specs.declared.above.Above.{Above}
 use Rattle.qvt_types_lists.specs.declared.above.Above.TheVariants.{Untold, Nothing, Least, Both, Several}
@@ -104,8 +105,8 @@ over_tells m us t name (Known c) each = by (position (bytes_eq name) t.named.all
     by (Some s) = each s c.0
 
 -- a unit that overrides others of its kind is bad where it does not fit what stands above it
-pub bad_by : Law → (m : Metamodels) (us : List Signature) (maps : Bool) (t : Ranked) (u : Signature) → AreRanked m maps us t
+pub bad_by : Law → (m : Metamodels) → AreLeast m → (us : List Signature) (maps : Bool) (t : Ranked) (u : Signature) → AreRanked m maps us t
     → ((v : Signature) → is_called maps v.sort ≡ are_alike u.sort v.sort) → clashes_over m us t.named u (over_unit t u.name u.context) ≡ is_bad_override m us u
-bad_by law m us maps t u are alike =
-    over_is m us t.named u (numbers_under t.named.all u.name) (among_is law m us maps t.named u are.named) (over_unit t u.name u.context) (over_tells m us t u.name u.context are.rows)
+bad_by law m least us maps t u are alike =
+    over_is m us t.named u (numbers_under t.named.all u.name) (among_is law m least us maps t.named u are.named) (over_unit t u.name u.context) (over_tells m us t u.name u.context are.rows)
     ∙ bad_is m us maps t.named u are.named alike

@@ -120,7 +120,7 @@ abbrev pub EachOver : Metamodels → List Signature → List (List ℕ) → List
 EachOver m us lists rows = (s : ℕ) → AllOver m us (slice_index_or lists s []) (slice_index_or rows s [])
 
 pub record AreRanked (m : Metamodels) (maps : Bool) (us : List Signature) (t : Ranked) : Type 0 where
-  pub named : AreNamed maps us t.named
+  pub named : AreNamed m maps us t.named
   pub rows : EachOver m us t.named.all.lists t.rows
 
 -- a list of a name is worth a telling: to compare each with those that are unlike the first takes longer than there are classes

@@ -159,7 +159,7 @@ fn own_row(
 }
 
 /// Whether the class is the one above all.
-fn is_element(metas: &Metas, class: ClassNo) -> bool
+pub fn is_element(metas: &Metas, class: ClassNo) -> bool
     ensures { result ≡ is_element metas.now class.0 }
 {
     metas.are_well_formed();
