@@ -1,5 +1,5 @@
 -- What is told of the classes above each class is so.
-use Rattle.std.proofs.Common.{◌≡◌, ◌∙◌, ℕ, zero, suc, ◌+◌, ◌<◌, ◌==◌, List, [], ◌∷◌, ◌++◌, length, set, get_or, replicate, Bool, true, false, not, ◌⊎◌, Option, Some, None, inl, inr, refl, sym, ap, subst, arith, length-append}
+use Rattle.std.proofs.Common.{◌≡◌, ◌∙◌, ℕ, zero, suc, ◌+◌, ◌<◌, ◌==◌, List, [], ◌∷◌, ◌++◌, length, set, get_or, replicate, Bool, true, false, not, ◌||◌, ◌⊎◌, Option, Some, None, inl, inr, refl, sym, ap, subst, arith, length-append}
 use Rattle.std.specs.Prelude.{if◌then◌else◌}
 use Rattle.std.specs.List.{list_any}
 use Rattle.std.proofs.lemmas.Bool.{eq-eqb, eqb-true}
@@ -19,9 +19,9 @@ use Rattle.qvt_types_groups.specs.Overrides.{is_misfit, is_strictly_below}
 use Rattle.qvt_types_groups.proofs.ByClass.{AreLeast}
 use Rattle.qvt_types_groups.proofs.Lowest.{Transitive}
 use Rattle.qvt_types_lists.specs.declared.above.Above.{Above}
-use Rattle.qvt_types_lists.specs.declared.above.Above.TheVariants.{Untold, Nothing, Least, Several}
+use Rattle.qvt_types_lists.specs.declared.above.Above.TheVariants.{Untold, Nothing, Least, Both, Several}
 use Rattle.qvt_types_lists.specs.Covers.{covers_at}
-use Rattle.qvt_types_lists.specs.Above.{combined, above_at, own_more, own_row, top_units, from_class, from_all, over_class, row_along, In, Tells, IsOwn, IsOver, AllOver, EachOver}
+use Rattle.qvt_types_lists.specs.Above.{with_one, combined, above_at, own_more, own_row, top_units, from_class, from_all, over_class, row_along, In, Asks, Tells, IsOwn, IsOver, AllOver, EachOver}
 use Rattle.qvt_types_lists.proofs.SameShapes.{Law}
 use Rattle.qvt_types_lists.proofs.Covered.{asks}
 
@@ -48,6 +48,7 @@ module _ (m : Metamodels) (us : List Signature) (ns : List ℕ) where
   fewer P Q Untold f h = tt
   fewer P Q Nothing f h = λ n q. h n (f n q)
   fewer P Q (Least k) f h = (h.0, λ n q. h.1 n (f n q))
+  fewer P Q (Both i k) f h = (h.0, (h.1.0, λ n q. h.1.1 n (f n q)))
   fewer P Q (Several i k) f h = h
 
   -- one class is told of
@@ -67,22 +68,48 @@ module _ (m : Metamodels) (us : List Signature) (ns : List ℕ) where
           (others c (λ same. clash (eq-eqb d c same) e))
 
   module _ (law : Law) (t : Transitive m) where
-    both_tell : (P Q : ℕ → Type 0) (a b : Above) → Told P a → Told Q b → Told (λ n. P n ⊎ Q n) (combined m us a b)
-    both_tell P Q Untold b g h = tt
-    both_tell P Q Nothing Untold g h = tt
-    both_tell P Q Nothing Nothing g h = λ n e. elim e [ inl p ↦ g n p | inr q ↦ h n q ]
-    both_tell P Q Nothing (Least k) g h = (h.0, λ n e. elim e [ inl p ↦ absurd (g n p) | inr q ↦ h.1 n q ])
-    both_tell P Q Nothing (Several i k) g h = h
-    both_tell P Q (Several i k) b g h = g
-    both_tell P Q (Least n) Untold g h = tt
-    both_tell P Q (Least n) Nothing g h = (g.0, λ k e. elim e [ inl p ↦ g.1 k p | inr q ↦ absurd (h k q) ])
-    both_tell P Q (Least n) (Several i k) g h = h
-    both_tell P Q (Least n) (Least k) g h = by (covers_at m us n k) refl (covers_at m us k n) refl
+    -- what asks all that a unit asks that asks all that another asks
+    through : (n k x : ℕ) → covers_at m us n k ≡ true → Asks m us k x → Asks m us n x
+    through n k x e a = λ u w. asks law m t us n k e u (a u w)
+
+    one_more : (P Q : ℕ → Type 0) (s : Above) (n : ℕ) → Told P s → In n ns → ((x : ℕ) → Q x → Asks m us n x) → Told (λ x. P x ⊎ Q x) (with_one m us s n)
+    one_more P Q Untold n g i h = tt
+    one_more P Q Nothing n g i h = (i, λ x r. elim r [ inl p ↦ absurd (g x p) | inr q ↦ h x q ])
+    one_more P Q (Several j k) n g i h = g
+    one_more P Q (Least k) n g i h = by (covers_at m us k n) refl (covers_at m us n k) refl
       where
-        by : (b : Bool) → covers_at m us n k ≡ b → (c : Bool) → covers_at m us k n ≡ c → Told (λ x. P x ⊎ Q x) (if b then Least n else if c then Least k else Several n k)
-        by true e c f = (g.0, λ x r. elim r [ inl p ↦ g.1 x p | inr q ↦ (λ u w. asks law m t us n k e u (h.1 x q u w)) ])
-        by false e true f = (h.0, λ x r. elim r [ inl p ↦ (λ u w. asks law m t us k n f u (g.1 x p u w)) | inr q ↦ h.1 x q ])
-        by false e false f = (g.0, h.0)
+        by : (b : Bool) → covers_at m us k n ≡ b → (c : Bool) → covers_at m us n k ≡ c → Told (λ x. P x ⊎ Q x) (if b then Least k else if c then Least n else Both k n)
+        by true e c f = (g.0, λ x r. elim r [ inl p ↦ g.1 x p | inr q ↦ through k n x e (h x q) ])
+        by false e true f = (i, λ x r. elim r [ inl p ↦ through n k x f (g.1 x p) | inr q ↦ h x q ])
+        by false e false f = (g.0, (i, λ x r. elim r [ inl p ↦ inl (g.1 x p) | inr q ↦ inr (h x q) ]))
+    one_more P Q (Both j k) n g i h = by (covers_at m us j n || covers_at m us k n) refl (covers_at m us n j) refl (covers_at m us n k) refl
+      where
+        by : (b : Bool) → (covers_at m us j n || covers_at m us k n) ≡ b → (c : Bool) → covers_at m us n j ≡ c → (d : Bool) → covers_at m us n k ≡ d
+            → Told (λ x. P x ⊎ Q x) (if b then Both j k else if c then (if d then Least n else Both n k) else if d then Both j n else Several j k)
+        by true e c f d z = (
+          g.0,
+          (
+            g.1.0,
+            λ x r. elim r [
+              | inl p ↦ g.1.1 x p
+              | inr q ↦ elim (or_cases (covers_at m us j n) (covers_at m us k n) e) [ inl a ↦ inl (through j n x a (h x q)) | inr o ↦ inr (through k n x o (h x q)) ]
+            ],
+          ),
+        )
+        by false e true f true z = (i, λ x r. elim r [ inl p ↦ elim (g.1.1 x p) [ inl a ↦ through n j x f a | inr o ↦ through n k x z o ] | inr q ↦ h x q ])
+        by false e true f false z = (i, (g.1.0, λ x r. elim r [ inl p ↦ elim (g.1.1 x p) [ inl a ↦ inl (through n j x f a) | inr o ↦ inr o ] | inr q ↦ inl (h x q) ]))
+        by false e false f true z = (g.0, (i, λ x r. elim r [ inl p ↦ elim (g.1.1 x p) [ inl a ↦ inl a | inr o ↦ inr (through n k x z o) ] | inr q ↦ inr (h x q) ]))
+        by false e false f false z = (g.0, g.1.0)
+
+    both_tell : (P Q : ℕ → Type 0) (a b : Above) → Told P a → Told Q b → Told (λ n. P n ⊎ Q n) (combined m us a b)
+    both_tell P Q a Untold g h = tt
+    both_tell P Q a Nothing g h = fewer P (λ n. P n ⊎ Q n) a (λ n r. elim r [ inl p ↦ p | inr q ↦ absurd (h n q) ]) g
+    both_tell P Q a (Least n) g h = one_more P Q a n g h.0 h.1
+    both_tell P Q a (Several i k) g h = h
+    both_tell P Q a (Both i k) g h = fewer (λ n. (P n ⊎ Asks m us i n) ⊎ Asks m us k n) (λ n. P n ⊎ Q n) (with_one m us (with_one m us a i) k)
+        (λ n r. elim r [ inl p ↦ inl (inl p) | inr q ↦ elim (h.1.1 n q) [ inl x ↦ inl (inr x) | inr y ↦ inr y ] ])
+        (one_more (λ n. P n ⊎ Asks m us i n) (λ n. Asks m us k n) (with_one m us a i) k
+        (one_more P (λ n. Asks m us i n) a i g h.0 (λ n x. x)) h.1.0 (λ n x. x))
 
     one_tells : (n : ℕ) → In n ns → Told (λ k. k ≡ n) (Least n)
     one_tells n i = (i, λ k e u w. ap (λ x. is_misfit m u (unit_at us x)) (sym e) ∙ w)

@@ -1,5 +1,5 @@
 -- What stands above a unit tells whether the unit does not fit one of its name that is above it.
-use Rattle.std.proofs.Common.{◌≡◌, ◌∙◌, ℕ, List, [], ◌∷◌, Bool, true, false, not, ◌&&◌, ◌||◌, Option, Some, None, position, inl, inr, refl, sym, ap}
+use Rattle.std.proofs.Common.{◌≡◌, ◌∙◌, ℕ, List, [], ◌∷◌, Bool, true, false, not, ◌&&◌, ◌||◌, ◌⊎◌, Option, Some, None, position, inl, inr, refl, sym, ap}
 use Rattle.std.specs.List.{list_any}
 use Rattle.std.specs.Str.{bytes_eq}
 use Rattle.qvt_metamodel.specs.Metamodels.{Metamodels}
@@ -11,13 +11,14 @@ use Rattle.qvt_types_units.specs.Choice.{context_at}
 use Rattle.qvt_types_groups.specs.Numbers.{unit_at, is_called}
 use Rattle.qvt_types_groups.specs.Overrides.{are_alike, is_misfit, is_strictly_below, is_bad_override}
 use Rattle.qvt_types_groups.specs.Lists.{list_at, numbers_under}
+use Rattle.qvt_types_groups.proofs.ByClass.{AreLeast}
 use Rattle.qvt_types_groups.proofs.Lowest.{same_test}
 use Rattle.qvt_types_lists.specs.declared.above.Above.{Above}
-use Rattle.qvt_types_lists.specs.declared.above.Above.TheVariants.{Untold, Nothing, Least, Several}
+use Rattle.qvt_types_lists.specs.declared.above.Above.TheVariants.{Untold, Nothing, Least, Both, Several}
 use Rattle.qvt_types_lists.specs.declared.odd.Named.{Named}
 use Rattle.qvt_types_lists.specs.declared.ranked.Ranked.{Ranked}
 use Rattle.qvt_types_lists.specs.Odd.{clashes_at, clashes_among}
-use Rattle.qvt_types_lists.specs.Above.{In, Tells, IsOver, EachOver, AreRanked, row_under, over_unit, clashes_over}
+use Rattle.qvt_types_lists.specs.Above.{In, Asks, Tells, IsOver, EachOver, AreRanked, row_under, over_unit, are_over, clashes_over}
 use Rattle.qvt_types_lists.proofs.SameShapes.{Law, among_is, bad_is}
 
 some_in : {A : Type 0} (p : ℕ → Bool) (ns : List ℕ) → list_any p ns ≡ true → ((n : ℕ) → In n ns → p n ≡ true → A) → A
@@ -57,6 +58,28 @@ module _ (m : Metamodels) (us : List Signature) (t : Named) (u : Signature) (ns 
         ]
       ])
       (λ h. or_right (clashes_at m us u i) (clashes_at m us u k || clashes_among m us t u) (or_right (clashes_at m us u k) (clashes_among m us t u) (among ∙ h)))
+  over_is (Both i k) told = same_test (clashes_at m us u i || (clashes_at m us u k || (not (are_over m us u i k) && clashes_among m us t u))) (list_any (clashes_at m us u) ns)
+      (λ h. elim (or_cases (clashes_at m us u i) (clashes_at m us u k || (not (are_over m us u i k) && clashes_among m us t u)) h) [
+        | inl one ↦ any_in (clashes_at m us u) i ns told.0 one
+        | inr rest ↦ elim (or_cases (clashes_at m us u k) (not (are_over m us u i k) && clashes_among m us t u) rest) [
+          | inl other ↦ any_in (clashes_at m us u) k ns told.1.0 other
+          | inr all ↦ sym among ∙ and_right (not (are_over m us u i k)) (clashes_among m us t u) all
+        ]
+      ])
+      (λ h. some_in (clashes_at m us u) ns h (λ n there is. by n (misfit n is) (told.1.1 n (there, over n is)) (is_strictly_below m u.context (context_at us i)) refl
+      (is_strictly_below m u.context (context_at us k)) refl (among ∙ h)))
+    where
+      by : (n : ℕ) → is_misfit m u (unit_at us n) ≡ true → Asks m us i n ⊎ Asks m us k n
+          → (b : Bool) → is_strictly_below m u.context (context_at us i) ≡ b → (c : Bool) → is_strictly_below m u.context (context_at us k) ≡ c
+          → clashes_among m us t u ≡ true → (clashes_at m us u i || (clashes_at m us u k || (not (are_over m us u i k) && clashes_among m us t u))) ≡ true
+      by n unfit asks true e true f all = elim asks [
+        | inl one ↦ or_left (clashes_at m us u i) _ (and_both (is_strictly_below m u.context (context_at us i)) (is_misfit m u (unit_at us i)) e (one u unfit))
+        | inr other ↦ or_right (clashes_at m us u i) _ (or_left (clashes_at m us u k) _ (and_both (is_strictly_below m u.context (context_at us k)) (is_misfit m u (unit_at us k)) f (other u unfit)))
+      ]
+      by n unfit asks true e false f all = or_right (clashes_at m us u i) _ (or_right (clashes_at m us u k) _ (and_both (not (are_over m us u i k)) (clashes_among m us t u)
+          (ap (λ x. not (x && is_strictly_below m u.context (context_at us k))) e ∙ ap not f) all))
+      by n unfit asks false e c f all = or_right (clashes_at m us u i) _ (or_right (clashes_at m us u k) _ (and_both (not (are_over m us u i k)) (clashes_among m us t u)
+          (ap (λ x. not (x && is_strictly_below m u.context (context_at us k))) e) all))
   over_is (Least k) told = same_test (clashes_at m us u k || (not (is_strictly_below m u.context (context_at us k)) && clashes_among m us t u)) (list_any (clashes_at m us u) ns)
       (λ h. elim (or_cases (clashes_at m us u k) (not (is_strictly_below m u.context (context_at us k)) && clashes_among m us t u) h) [
         | inl one ↦ any_in (clashes_at m us u) k ns told.0 one
@@ -82,8 +105,8 @@ over_tells m us t name (Known c) each = by (position (bytes_eq name) t.named.all
     by (Some s) = each s c.0
 
 -- a unit that overrides others of its kind is bad where it does not fit what stands above it
-pub bad_by : Law → (m : Metamodels) (us : List Signature) (maps : Bool) (t : Ranked) (u : Signature) → AreRanked m maps us t
+pub bad_by : Law → (m : Metamodels) → AreLeast m → (us : List Signature) (maps : Bool) (t : Ranked) (u : Signature) → AreRanked m maps us t
     → ((v : Signature) → is_called maps v.sort ≡ are_alike u.sort v.sort) → clashes_over m us t.named u (over_unit t u.name u.context) ≡ is_bad_override m us u
-bad_by law m us maps t u are alike =
-    over_is m us t.named u (numbers_under t.named.all u.name) (among_is law m us maps t.named u are.named) (over_unit t u.name u.context) (over_tells m us t u.name u.context are.rows)
+bad_by law m least us maps t u are alike =
+    over_is m us t.named u (numbers_under t.named.all u.name) (among_is law m least us maps t.named u are.named) (over_unit t u.name u.context) (over_tells m us t u.name u.context are.rows)
     ∙ bad_is m us maps t.named u are.named alike

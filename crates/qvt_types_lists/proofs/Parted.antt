@@ -6,10 +6,9 @@ use Rattle.std.specs.Str.{bytes_eq}
 use Rattle.std.proofs.lemmas.List.{append-nil}
 use Rattle.qvt_metamodel.proofs.Bools.{or_left, or_right, or_cases}
 use Rattle.qvt_types_groups.specs.declared.signature.Signature.{Signature}
-use Rattle.qvt_types_groups.specs.Numbers.{no_unit, unit_at, numbers_where, is_called, has_context}
+use Rattle.qvt_types_groups.specs.Numbers.{no_unit, unit_at, numbers_where, is_called, is_in_group, has_context}
 use Rattle.qvt_types_groups.specs.Lists.{is_one}
 use Rattle.qvt_types_groups.proofs.Lists.{same_bytes}
-use Rattle.qvt_types_lists.specs.Odd.{is_like_first, is_odd}
 
 any_from : (q p : Signature → Bool) (r : ℕ → Bool) (n : ℕ) (us : List Signature) → ((k : ℕ) → r (n + k) ≡ p (get_or us k no_unit)) → list_any r (numbers_where q n us) ≡ list_any (λ v. q v && p v) us
 any_from q p r n [] same = refl
@@ -64,15 +63,15 @@ nowhere : (a h o : Bool) → false ≡ ((a && (false && h)) && o)
 nowhere true h o = refl
 nowhere false h o = refl
 
--- which units are unlike the first is told of each under its own name
-odd_is : (maps : Bool) (us : List Signature) (u : Signature) (under : List ℕ → List ℕ) (name : List ℕ)
-    → (bytes_eq name u.name && (is_one maps true u && not (is_like_first us (under u.name) u))) ≡ is_odd maps us (under name) name u
-odd_is maps us u under name = by (bytes_eq name u.name) refl
+-- what is asked of a unit of a name is told of each under its own name
+pub asked_is : (maps : Bool) (u : Signature) (rest : List ℕ → Bool) (name : List ℕ)
+    → (bytes_eq name u.name && (is_one maps true u && rest u.name)) ≡ (is_in_group maps name u && rest name)
+asked_is maps u rest name = by (bytes_eq name u.name) refl
   where
     by : (b : Bool) → bytes_eq name u.name ≡ b
-        → (b && (is_one maps true u && not (is_like_first us (under u.name) u))) ≡ ((is_called maps u.sort && (b && has_context u.context)) && not (is_like_first us (under name) u))
-    by true e = ap (λ x. is_one maps true u && not (is_like_first us (under x) u)) (sym (same_bytes name u.name e))
-    by false e = nowhere (is_called maps u.sort) (has_context u.context) (not (is_like_first us (under name) u))
+        → (b && (is_one maps true u && rest u.name)) ≡ ((is_called maps u.sort && (b && has_context u.context)) && rest name)
+    by true e = ap (λ x. is_one maps true u && rest x) (sym (same_bytes name u.name e))
+    by false e = nowhere (is_called maps u.sort) (has_context u.context) (rest name)
 
 and_true : (a b : Bool) → b ≡ true → a ≡ (a && b)
 and_true true b e = sym e
@@ -82,15 +81,24 @@ and_false : (a b : Bool) → b ≡ false → false ≡ (a && b)
 and_false true b e = sym e
 and_false false b e = refl
 
--- one that is unlike the first is put there
-pub put_there : (maps : Bool) (us : List Signature) (u : Signature) (under : List ℕ → List ℕ) (name ns : List ℕ) (n : ℕ) → (is_one maps true u && not (is_like_first us (under u.name) u)) ≡ true
-    → ns ++ (if bytes_eq name u.name then n ∷ [] else []) ≡ ns ++ (if is_odd maps us (under name) name u then n ∷ [] else [])
-put_there maps us u under name ns n is =
-    ap (λ b. ns ++ (if b then n ∷ [] else [])) (and_true (bytes_eq name u.name) (is_one maps true u && not (is_like_first us (under u.name) u)) is ∙ odd_is maps us u under name)
+-- one of them is put there
+pub put_there : (a b : Bool) (ns : List ℕ) (n : ℕ) → b ≡ true → ns ++ (if a then n ∷ [] else []) ≡ ns ++ (if a && b then n ∷ [] else [])
+put_there a b ns n is = ap (λ x. ns ++ (if x then n ∷ [] else [])) (and_true a b is)
 
 -- another is not
-pub left_out : (maps : Bool) (us : List Signature) (u : Signature) (under : List ℕ → List ℕ) (name ns : List ℕ) (n : ℕ) → (is_one maps true u && not (is_like_first us (under u.name) u)) ≡ false
-    → ns ≡ ns ++ (if is_odd maps us (under name) name u then n ∷ [] else [])
-left_out maps us u under name ns n is =
-    sym (append-nil ns)
-    ∙ ap (λ b. ns ++ (if b then n ∷ [] else [])) (and_false (bytes_eq name u.name) (is_one maps true u && not (is_like_first us (under u.name) u)) is ∙ odd_is maps us u under name)
+pub left_out : (a b : Bool) (ns : List ℕ) (n : ℕ) → b ≡ false → ns ≡ ns ++ (if a && b then n ∷ [] else [])
+left_out a b ns n is = sym (append-nil ns) ∙ ap (λ x. ns ++ (if x then n ∷ [] else [])) (and_false a b is)
+
+-- tests that only those pass that pass another one
+pub asked_first : (g p c : Bool) → (c ≡ true → p ≡ true) → ((g && p) && c) ≡ (g && c)
+asked_first false p c f = refl
+asked_first true true c f = refl
+asked_first true false false f = refl
+asked_first true false true f = absurd (let wrong : false ≡ true = f refl in cc)
+
+pub asked_between : (g p l c : Bool) → (c ≡ true → p ≡ true) → ((g && (p && l)) && c) ≡ ((g && l) && c)
+asked_between false p l c f = refl
+asked_between true true l c f = refl
+asked_between true false true false f = refl
+asked_between true false false false f = refl
+asked_between true false l true f = absurd (let wrong : false ≡ true = f refl in cc)

@@ -1,5 +1,5 @@
 -- Units that take and answer the same: an override fits both or none.
-use Rattle.std.proofs.Common.{◌≡◌, ◌∙◌, ℕ, List, [], ◌∷◌, length, Bool, true, false, ◌&&◌, ◌||◌, Option, Some, None, refl, sym, ap, arith}
+use Rattle.std.proofs.Common.{◌≡◌, ◌∙◌, ℕ, List, [], ◌∷◌, length, Bool, true, false, not, ◌&&◌, ◌||◌, Option, Some, None, refl, sym, ap, arith}
 use Rattle.std.specs.Prelude.{◌==◌, nat_lt}
 use Rattle.std.specs.List.{list_any}
 use Rattle.std.specs.Str.{bytes_eq}
@@ -19,8 +19,11 @@ use Rattle.qvt_types_groups.specs.Overrides.{are_unlike, are_alike, is_strictly_
 use Rattle.qvt_types_groups.specs.Lists.{numbers_under}
 use Rattle.qvt_types_lists.specs.declared.odd.Named.{Named}
 use Rattle.qvt_types_lists.specs.Shapes.{same_sort, same_answer, all_same, same_types, same_shape}
-use Rattle.qvt_types_lists.specs.Odd.{is_like_first, is_odd, AreNamed, clashes, clashes_at, misfits_first, clashes_among}
-use Rattle.qvt_types_lists.proofs.Parted.{any_where, parted}
+use Rattle.qvt_types_groups.proofs.ByClass.{AreLeast}
+use Rattle.qvt_types_lists.specs.Odd.{is_like_first, is_odd, is_upper_unit, AreNamed, clashes, clashes_at, misfits_first, clashes_among}
+use Rattle.qvt_types_lists.specs.Upper.{is_upper}
+use Rattle.qvt_types_lists.proofs.Parted.{any_where, asked_between, asked_first, parted}
+use Rattle.qvt_types_lists.proofs.Uppers.{below_upper}
 
 -- types that are told to be the same are
 abbrev pub Law : Type 0
@@ -116,20 +119,27 @@ like_is law m us u v (n ∷ ns) like e =
     (shape_is law m u (unit_at us n) v (and_right (nat_lt n (length us)) (same_shape (unit_at us n) v) like)
     ∙ and_right (is_strictly_below m u.context v.context) (is_misfit m u v) e)
 
+-- a unit that one does not fit that is below it is of a class that others are below
+clash_upper : (m : Metamodels) → AreLeast m → (u v : Signature) → clashes m u v ≡ true → is_upper m v.context ≡ true
+clash_upper m least u v e = below_upper m least u.context v.context (and_left (is_strictly_below m u.context v.context) (is_misfit m u v) e)
+
 -- where those that are unlike the first are looked at, and all where the unit does not fit the first, all are
-pub among_is : Law → (m : Metamodels) (us : List Signature) (maps : Bool) (t : Named) (u : Signature) → AreNamed maps us t
+pub among_is : Law → (m : Metamodels) → AreLeast m → (us : List Signature) (maps : Bool) (t : Named) (u : Signature) → AreNamed m maps us t
     → clashes_among m us t u ≡ list_any (clashes_at m us u) (numbers_under t.all u.name)
-among_is law m us maps t u are =
-    (λ i. list_any (clashes_at m us u) (are.odd u.name i) || (misfits_first m us (numbers_under t.all u.name) u && list_any (clashes_at m us u) (are.all u.name i)))
-    ∙ (λ i. any_where (is_odd maps us (numbers_under t.all u.name) u.name) (clashes m u) us i
-    || (misfits_first m us (numbers_under t.all u.name) u && any_where (is_in_group maps u.name) (clashes m u) us i))
+among_is law m least us maps t u are =
+    (λ i. list_any (clashes_at m us u) (are.odd u.name i) || (misfits_first m us (numbers_under t.all u.name) u && list_any (clashes_at m us u) (are.upper u.name i)))
+    ∙ (λ i. any_where (is_odd m maps us (numbers_under t.all u.name) u.name) (clashes m u) us i
+    || (misfits_first m us (numbers_under t.all u.name) u && any_where (is_upper_unit m maps u.name) (clashes m u) us i))
+    ∙ (λ i. list_any (λ v. asked_between (is_in_group maps u.name v) (is_upper m v.context) (not (is_like_first us (numbers_under t.all u.name) v)) (clashes m u v) (clash_upper m least u v) i) us
+    || (misfits_first m us (numbers_under t.all u.name) u
+    && list_any (λ v. asked_first (is_in_group maps u.name v) (is_upper m v.context) (clashes m u v) (clash_upper m least u v) i) us))
     ∙ parted (is_in_group maps u.name) (is_like_first us (numbers_under t.all u.name)) (clashes m u) us (misfits_first m us (numbers_under t.all u.name) u)
     (λ v. like_is law m us u v (numbers_under t.all u.name))
     ∙ sym (any_where (is_in_group maps u.name) (clashes m u) us)
     ∙ ap (list_any (clashes_at m us u)) (sym (are.all u.name))
 
 -- a unit that overrides others of its kind
-pub bad_is : (m : Metamodels) (us : List Signature) (maps : Bool) (t : Named) (u : Signature) → AreNamed maps us t
+pub bad_is : (m : Metamodels) (us : List Signature) (maps : Bool) (t : Named) (u : Signature) → AreNamed m maps us t
     → ((v : Signature) → is_called maps v.sort ≡ are_alike u.sort v.sort) → list_any (clashes_at m us u) (numbers_under t.all u.name) ≡ is_bad_override m us u
 bad_is m us maps t u are alike =
     ap (list_any (clashes_at m us u)) (are.all u.name)

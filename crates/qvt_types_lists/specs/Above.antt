@@ -12,25 +12,39 @@ use Rattle.qvt_types_groups.specs.Lists.{numbers_under}
 use Rattle.qvt_types_groups.specs.Numbers.{unit_at, is_context}
 use Rattle.qvt_types_groups.specs.Overrides.{is_misfit, is_strictly_below}
 use Rattle.qvt_types_lists.specs.declared.above.Above.{Above}
-use Rattle.qvt_types_lists.specs.declared.above.Above.TheVariants.{Untold, Nothing, Least, Several}
+use Rattle.qvt_types_lists.specs.declared.above.Above.TheVariants.{Untold, Nothing, Least, Both, Several}
 use Rattle.qvt_types_lists.specs.declared.ranked.Ranked.{Ranked}
 use Rattle.qvt_types_lists.specs.declared.odd.Named.{Named}
 use Rattle.qvt_types_lists.specs.Covers.{covers_at}
 use Rattle.qvt_types_lists.specs.Odd.{AreNamed, clashes_at, clashes_among}
 
--- of two units the one that asks all that the other asks
+-- of two units the one that asks all that the other asks, or both
 abbrev pub lower_of : Metamodels → List Signature → ℕ → ℕ → Above
-lower_of m us n k = if covers_at m us n k then Least n else if covers_at m us k n then Least k else Several n k
+lower_of m us n k = if covers_at m us n k then Least n else if covers_at m us k n then Least k else Both n k
+
+-- of a unit more and two others, of which none asks all that the other asks
+abbrev pub beside_two : Metamodels → List Signature → ℕ → ℕ → ℕ → Above
+beside_two m us i k n =
+    if covers_at m us i n || covers_at m us k n then Both i k
+    else if covers_at m us n i then (if covers_at m us n k then Least n else Both n k)
+    else if covers_at m us n k then Both i n
+    else Several i k
+
+-- a unit more beside what is told
+abbrev pub with_one : Metamodels → List Signature → Above → ℕ → Above
+with_one m us Untold n = Untold
+with_one m us Nothing n = Least n
+with_one m us (Least k) n = lower_of m us k n
+with_one m us (Both i k) n = beside_two m us i k n
+with_one m us (Several i k) n = Several i k
 
 -- of what stands above by two tellings
 abbrev pub combined : Metamodels → List Signature → Above → Above → Above
-combined m us Untold b = Untold
-combined m us Nothing b = b
-combined m us (Several n k) b = Several n k
-combined m us (Least n) Untold = Untold
-combined m us (Least n) Nothing = Least n
-combined m us (Least n) (Several i k) = Several i k
-combined m us (Least n) (Least k) = lower_of m us n k
+combined m us a Untold = Untold
+combined m us a Nothing = a
+combined m us a (Least n) = with_one m us a n
+combined m us a (Both i k) = with_one m us (with_one m us a i) k
+combined m us a (Several i k) = Several i k
 
 -- what is told of a class, in a list by the numbers of classes
 abbrev pub above_at : List Above → ℕ → Above
@@ -86,6 +100,7 @@ abbrev pub Tells : Metamodels → List Signature → List ℕ → (ℕ → Type 
 Tells m us ns P Untold = Unit {0}
 Tells m us ns P Nothing = (n : ℕ) → P n → ⊥
 Tells m us ns P (Least k) = In k ns × ((n : ℕ) → P n → Asks m us k n)
+Tells m us ns P (Both i k) = In i ns × (In k ns × ((n : ℕ) → P n → Asks m us i n ⊎ Asks m us k n))
 Tells m us ns P (Several i k) = In i ns × In k ns
 
 -- unit n is one of the class
@@ -105,7 +120,7 @@ abbrev pub EachOver : Metamodels → List Signature → List (List ℕ) → List
 EachOver m us lists rows = (s : ℕ) → AllOver m us (slice_index_or lists s []) (slice_index_or rows s [])
 
 pub record AreRanked (m : Metamodels) (maps : Bool) (us : List Signature) (t : Ranked) : Type 0 where
-  pub named : AreNamed maps us t.named
+  pub named : AreNamed m maps us t.named
   pub rows : EachOver m us t.named.all.lists t.rows
 
 -- a list of a name is worth a telling: to compare each with those that are unlike the first takes longer than there are classes
@@ -128,8 +143,13 @@ over_unit t name Missing = Nothing
 over_unit t name Unknown = Nothing
 over_unit t name (Known c) = row_under t.rows (position (bytes_eq name) t.named.all.names) c.0
 
+-- both units are above the unit
+abbrev pub are_over : Metamodels → List Signature → Signature → ℕ → ℕ → Bool
+are_over m us u n k = is_strictly_below m u.context (context_at us n) && is_strictly_below m u.context (context_at us k)
+
 abbrev pub clashes_over : Metamodels → List Signature → Named → Signature → Above → Bool
 clashes_over m us t u Untold = clashes_among m us t u
 clashes_over m us t u Nothing = false
 clashes_over m us t u (Least n) = clashes_at m us u n || (not (is_strictly_below m u.context (context_at us n)) && clashes_among m us t u)
+clashes_over m us t u (Both n k) = clashes_at m us u n || (clashes_at m us u k || (not (are_over m us u n k) && clashes_among m us t u))
 clashes_over m us t u (Several n k) = clashes_at m us u n || (clashes_at m us u k || clashes_among m us t u)

@@ -6,6 +6,7 @@ pub use Rattle.qvt_types_groups.specs.Classes
 pub mod Shapes
 pub mod Same
 pub mod Lists
+pub mod Upper
 pub mod Odd
 pub mod Covers
 pub mod Above

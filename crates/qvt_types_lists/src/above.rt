@@ -27,14 +27,16 @@ pub enum Above {
     Nothing,
     /// This unit asks of those that override it all that the others ask that stand there.
     Least(u32),
-    /// Two units, of which none asks all that the other asks.
+    /// Of these two units one or the other asks all that any asks that stands there.
+    Both(u32, u32),
+    /// Two units of which none asks all that the other asks, beside others.
     Several(u32, u32),
 }
 
 /// What is told of each class by its number.
 pub type AboveRow = Seq<Above>;
 
-/// Of two units the one that asks all that the other asks.
+/// Of two units the one that asks all that the other asks, or both.
 fn lower_of(metas: &Metas, units: &[Signature], one: u32, other: u32) -> Above
     ensures { result ≡ above.lower_of metas.now units.now one other }
 {
@@ -43,7 +45,39 @@ fn lower_of(metas: &Metas, units: &[Signature], one: u32, other: u32) -> Above
     } else if covers_at(metas, units, other, one) {
         Above::Least(other)
     } else {
-        Above::Several(one, other)
+        Above::Both(one, other)
+    }
+}
+
+/// Of a unit more and two others, of which none asks all that the other asks.
+fn beside_two(metas: &Metas, units: &[Signature], first: u32, second: u32, number: u32) -> Above
+    ensures { result ≡ above.beside_two metas.now units.now first second number }
+{
+    if covers_at(metas, units, first, number) || covers_at(metas, units, second, number) {
+        Above::Both(first, second)
+    } else if covers_at(metas, units, number, first) {
+        if covers_at(metas, units, number, second) {
+            Above::Least(number)
+        } else {
+            Above::Both(number, second)
+        }
+    } else if covers_at(metas, units, number, second) {
+        Above::Both(first, number)
+    } else {
+        Above::Several(first, second)
+    }
+}
+
+/// A unit more beside what is told.
+fn with_one(metas: &Metas, units: &[Signature], told: Above, number: u32) -> Above
+    ensures { result ≡ above.with_one metas.now units.now told number }
+{
+    match told {
+        Above::Untold => Above::Untold,
+        Above::Nothing => Above::Least(number),
+        Above::Least(least) => lower_of(metas, units, least, number),
+        Above::Both(first, second) => beside_two(metas, units, first, second, number),
+        Above::Several(first, second) => Above::Several(first, second),
     }
 }
 
@@ -51,16 +85,15 @@ fn lower_of(metas: &Metas, units: &[Signature], one: u32, other: u32) -> Above
 fn combined(metas: &Metas, units: &[Signature], one: Above, other: Above) -> Above
     ensures { result ≡ above.combined metas.now units.now one other }
 {
-    match one {
+    match other {
         Above::Untold => Above::Untold,
-        Above::Nothing => other,
+        Above::Nothing => one,
+        Above::Least(number) => with_one(metas, units, one, number),
+        Above::Both(first, second) => {
+            let told = with_one(metas, units, one, first);
+            with_one(metas, units, told, second)
+        }
         Above::Several(first, second) => Above::Several(first, second),
-        Above::Least(number) => match other {
-            Above::Untold => Above::Untold,
-            Above::Nothing => Above::Least(number),
-            Above::Several(first, second) => Above::Several(first, second),
-            Above::Least(beside) => lower_of(metas, units, number, beside),
-        },
     }
 }
 
@@ -126,7 +159,7 @@ fn own_row(
 }
 
 /// Whether the class is the one above all.
-fn is_element(metas: &Metas, class: ClassNo) -> bool
+pub fn is_element(metas: &Metas, class: ClassNo) -> bool
     ensures { result ≡ is_element metas.now class.0 }
 {
     metas.are_well_formed();

@@ -12,5 +12,6 @@ pub mod same;
 pub mod shapes;
 pub mod telling;
 pub mod traced;
+pub mod upper;
 
 pub use qvt_types_groups::{classes, signature, signatures, unit_names, units};

@@ -12,6 +12,7 @@ ghost use Rattle.qvt_types_lists.specs.Above.{AreRanked};
 use crate::above::Above;
 use crate::odd::Named;
 use crate::ranked::{Ranked, over_unit, rank_by_name};
+use crate::upper::supers_of;
 use qvt_base::list_fault::ListFault;
 use qvt_types_data::refusal::RefusalKind;
 use qvt_types_groups::choice::context_at;
@@ -60,19 +61,28 @@ fn misfits_first(metas: &Metas, units: &[Signature], group: &[u32], unit: &Signa
     }
 }
 
-/// Whether the unit does not fit one of its name that is above it. Where all of the name are alike and it fits the first, none of them
-/// is looked at.
+/// Whether the unit does not fit one of its name that is above it. Those of classes that no other is below are not looked at, and where
+/// all of the name are alike and it fits the first, none is.
 fn clashes_among(metas: &Metas, units: &[Signature], named: &Named, unit: &Signature) -> bool
     ensures { result ≡ odd_words.clashes_among metas.now units.now named.now unit.now }
 {
     let name = unit.name.as_str();
-    let all = named.all.find(name);
+    let first = named.all.find(name);
     clashes_with(metas, units, unit, named.odd.find(name))
-        || (misfits_first(metas, units, all, unit) && clashes_with(metas, units, unit, all))
+        || (misfits_first(metas, units, first, unit)
+            && clashes_with(metas, units, unit, named.upper.find(name)))
 }
 
-/// Whether the unit does not fit one of its name that is above it, where this stands above it. Two units of which none asks all that the
-/// other asks are looked at before all of them are.
+/// Whether both units are above the unit.
+fn are_over(metas: &Metas, units: &[Signature], unit: &Signature, one: u32, other: u32) -> bool
+    ensures { result ≡ above.are_over metas.now units.now unit.now one other }
+{
+    is_strictly_below(metas, unit.context, context_at(units, one))
+        && is_strictly_below(metas, unit.context, context_at(units, other))
+}
+
+/// Whether the unit does not fit one of its name that is above it, where this stands above it. Where two
+/// stand there beside others, of which none asks all that the other asks, these are looked at before all of them are.
 fn clashes_over(
     metas: &Metas,
     units: &[Signature],
@@ -88,6 +98,12 @@ fn clashes_over(
         Above::Least(number) => {
             clashes_at(metas, units, unit, number)
                 || (!is_strictly_below(metas, unit.context, context_at(units, number))
+                    && clashes_among(metas, units, named, unit))
+        }
+        Above::Both(first, second) => {
+            clashes_at(metas, units, unit, first)
+                || clashes_at(metas, units, unit, second)
+                || (!are_over(metas, units, unit, first, second)
                     && clashes_among(metas, units, named, unit))
         }
         Above::Several(first, second) => {
@@ -119,6 +135,8 @@ fn is_bad(
     ensures { result ≡ overrides.is_bad_override metas.now units.now unit.now }
 {
     same_means_equal();
+    metas.are_well_formed();
+    metas.ancestors_are_least();
     match unit.sort {
         UnitSort::Class => false,
         UnitSort::Main => false,
@@ -139,8 +157,9 @@ pub fn tell_overrides(
 ) -> Result<(), ListFault>
     ensures { OnOk result (log.new ≡ log.old ++ units_told.overrides_told metas.now units.now units.now) }
 {
-    let mappings = rank_by_name(alloc, metas, true, units)?;
-    let helpers = rank_by_name(alloc, metas, false, units)?;
+    let supers = supers_of(alloc, metas.class_infos())?;
+    let mappings = rank_by_name(alloc, metas, &supers, true, units)?;
+    let helpers = rank_by_name(alloc, metas, &supers, false, units)?;
     for unit in units {
         let bad = is_bad(metas, units, &mappings, &helpers, unit);
         tell_if(log, bad, RefusalKind::BadOverride, unit.place)?;

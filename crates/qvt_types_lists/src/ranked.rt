@@ -3,11 +3,13 @@
 ghost use Rattle.std.specs.Prelude.{◌≡◌, IfOk};
 ghost use Rattle.qvt_types_lists.specs.Above as above;
 ghost use Rattle.qvt_types_lists.specs.Above.{AllOver, EachOver, AreRanked};
+ghost use Rattle.qvt_types_lists.specs.Upper.{AreSupers};
 
 use crate::above::{Above, AboveRow, above_at, row_of};
 use crate::odd::{Named, by_name};
 use qvt_base::list_fault::ListFault;
 use qvt_base::seq::Seq;
+use qvt_metas::number_set::NumberSet;
 use qvt_types_groups::class_choices::class_order;
 use qvt_types_groups::signature::{HeadClass, Signature};
 use qvt_types_paths::metas::Metas;
@@ -122,17 +124,19 @@ fn rows_of(
     }
 }
 
-/// The mappings with a context, or the helpers and queries, by their names. It is refused as out of memory where their numbers do not
-/// fit 32 bits.
+/// The mappings with a context, or the helpers and queries, by their names, where the set has the superclasses of all classes. It is
+/// refused as out of memory where their numbers do not fit 32 bits.
 pub fn rank_by_name(
     alloc: Global,
     metas: &Metas,
+    supers: &NumberSet,
     maps: bool,
     units: &[Signature],
 ) -> Result<Ranked, ListFault>
+    requires { AreSupers metas.now.classes supers.now }
     ensures { IfOk result (AreRanked metas.now maps units.now) }
 {
-    let named = by_name(alloc, maps, units)?;
+    let named = by_name(alloc, metas, supers, maps, units)?;
     let rows = rows_of(alloc, metas, units, &named)?;
     Ok(Ranked { named, rows })
 }

@@ -14,12 +14,12 @@ returns-in-Constructor c = good_is c.args.metas.now c.args.units.now c.args.unit
 
 pub returns-in-Helper : goal.returns-in-Helper
 returns-in-Helper c = c.clashes.ensures
-    ∙ bad_by (λ t u. (c.same_means_equal.ensures t u).0) c.args.metas.now c.args.units.now false c.args.helpers.now c.args.unit.now c.requires.helpers (helper_alike c.args.unit.now.sort c.in-Helper.is)
+    ∙ bad_by (λ t u. (c.same_means_equal.ensures t u).0) c.args.metas.now c.ancestors_are_least.ensures c.args.units.now false c.args.helpers.now c.args.unit.now c.requires.helpers (helper_alike c.args.unit.now.sort c.in-Helper.is)
 
 pub returns-in-Query : goal.returns-in-Query
 returns-in-Query c = c.clashes-in-Query.ensures
-    ∙ bad_by (λ t u. (c.same_means_equal.ensures t u).0) c.args.metas.now c.args.units.now false c.args.helpers.now c.args.unit.now c.requires.helpers (query_alike c.args.unit.now.sort c.in-Query.is)
+    ∙ bad_by (λ t u. (c.same_means_equal.ensures t u).0) c.args.metas.now c.ancestors_are_least.ensures c.args.units.now false c.args.helpers.now c.args.unit.now c.requires.helpers (query_alike c.args.unit.now.sort c.in-Query.is)
 
 pub returns-in-Mapping : goal.returns-in-Mapping
 returns-in-Mapping c = c.clashes-in-Mapping.ensures
-    ∙ bad_by (λ t u. (c.same_means_equal.ensures t u).0) c.args.metas.now c.args.units.now true c.args.mappings.now c.args.unit.now c.requires.mappings (mapping_alike c.args.unit.now.sort _ c.in-Mapping.is)
+    ∙ bad_by (λ t u. (c.same_means_equal.ensures t u).0) c.args.metas.now c.ancestors_are_least.ensures c.args.units.now true c.args.mappings.now c.args.unit.now c.requires.mappings (mapping_alike c.args.unit.now.sort _ c.in-Mapping.is)
