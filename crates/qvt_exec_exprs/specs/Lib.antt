@@ -4,3 +4,4 @@ pub use Rattle.qvt_exec_steps.specs.Means
 pub use Rattle.qvt_exec_steps.specs.Units
 pub mod Charged
 pub mod Gathering
+pub mod Numbers

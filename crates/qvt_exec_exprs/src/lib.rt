@@ -6,6 +6,7 @@ pub mod exprs;
 mod items;
 mod leaves;
 mod literals;
+mod numbers;
 mod operands;
 mod stack;
 

@@ -9,6 +9,7 @@ ghost use Rattle.qvt_exec_leaves.specs.Signs.{signed_by};
 ghost use Rattle.qvt_exec_steps.specs.Means.{expr_of, link_of, links_of, setting_of};
 ghost use Rattle.qvt_exec_exprs.specs.Charged.{charged_first};
 
+use crate::numbers::in_numbers;
 use qvt_exec_leaves::applied::{applied_to, operation_of, signs_on, worded};
 use qvt_exec_leaves::names::ticks;
 use qvt_exec_state::state::RunState;
@@ -97,10 +98,10 @@ fn links<C: Nested>(
     Ok(value)
 }
 
-/// A chain of operands.
-#[inline(never)]
+/// A chain of operands, each of which is a phrase of its own.
+#[inline(always)]
 #[tactic(auto, unfolding(qvt_run_rules::specs::Expressions::on_first))]
-pub fn chain<C: Nested>(
+fn chain_of_phrases<C: Nested>(
     x: &Engine<'_>,
     units: &ReadyUnits<C>,
     first: &TypedExpr,
@@ -111,6 +112,23 @@ pub fn chain<C: Nested>(
 {
     let value = expr(x, units, first, state)?;
     links(x, units, rest, value, state)
+}
+
+/// A chain of operands.
+#[inline(never)]
+pub fn chain<C: Nested>(
+    x: &Engine<'_>,
+    units: &ReadyUnits<C>,
+    first: &TypedExpr,
+    rest: &[TypedLink],
+    state: &mut RunState<'_>,
+) -> Result<Value, Halt>
+    ensures { Runs (rule.on_first (expr_of (x.now, C.means units.now) first.now) (links_of (x.now, C.means units.now) rest.now) (seen state.old)) result state.new }
+{
+    match in_numbers(x, first, rest, state) {
+        Some(value) => Ok(value),
+        None => chain_of_phrases(x, units, first, rest, state),
+    }
 }
 
 /// An operand with signs before it: the outer sign is met first, and so all are charged before the operand.

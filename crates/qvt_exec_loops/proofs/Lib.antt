@@ -1,2 +1,5 @@
+pub mod Flat
+pub mod Scopes
+pub mod Stays
 pub mod TurnLaw
 pub mod TurnLoop

@@ -27,6 +27,7 @@ pub fn without_truth(place: Place, given: &Value) -> Result<Option<Value>, Halt>
 }
 
 /// A turn of `any`: the first item for which the condition is true.
+#[inline(never)]
 pub fn take_any(
     alloc: Global,
     place: Place,
@@ -45,6 +46,7 @@ pub fn take_any(
 }
 
 /// A turn of `one`: the items are counted for which the condition is true.
+#[inline(never)]
 pub fn take_one(count: &mut usize, place: Place, given: &Value) -> Result<Option<Value>, Halt>
     ensures { (f : Value → Does LateWrite Value) (x : Value) (xs : List Value) → Takes (after_of place f (turn.One count.old) x xs given.now) result (rest_of place f (turn.One count.new) xs) }
 {
@@ -60,10 +62,15 @@ pub fn take_one(count: &mut usize, place: Place, given: &Value) -> Result<Option
     Ok(None)
 }
 
-/// A turn of `exists`: the bodies are joined by `or`.
+/// A turn of `exists`: the bodies are joined by `or`. After false, false changes nothing.
+#[inline(never)]
+#[tactic(auto, using(crate::proofs::Stays::stays_false))]
 pub fn take_exists(so_far: &mut Value, place: Place, given: Value) -> Result<Option<Value>, Halt>
     ensures { (f : Value → Does LateWrite Value) (x : Value) (xs : List Value) → Takes (after_of place f (turn.Exists so_far.old) x xs given) result (rest_of place f (turn.Exists so_far.new) xs) }
 {
+    if is_false(&given) && is_false(so_far) {
+        return Ok(None);
+    }
     if !is_logical(&given) {
         return misfit(place);
     }
@@ -75,10 +82,15 @@ pub fn take_exists(so_far: &mut Value, place: Place, given: Value) -> Result<Opt
     Ok(None)
 }
 
-/// A turn of `forAll`: the bodies are joined by `and`.
+/// A turn of `forAll`: the bodies are joined by `and`. After true, true changes nothing.
+#[inline(never)]
+#[tactic(auto, using(crate::proofs::Stays::stays_true))]
 pub fn take_for_all(so_far: &mut Value, place: Place, given: Value) -> Result<Option<Value>, Halt>
     ensures { (f : Value → Does LateWrite Value) (x : Value) (xs : List Value) → Takes (after_of place f (turn.ForAll so_far.old) x xs given) result (rest_of place f (turn.ForAll so_far.new) xs) }
 {
+    if is_true(&given) && is_true(so_far) {
+        return Ok(None);
+    }
     if !is_logical(&given) {
         return misfit(place);
     }

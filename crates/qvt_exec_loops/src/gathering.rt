@@ -1,11 +1,16 @@
 //! `collect`, `collectNested` and `isUnique` (OCL 2.4, 7.6.2 and 11.9).
 
-ghost use Rattle.std.specs.Prelude.{◌≡◌, List, []};
+ghost use Rattle.std.specs.Prelude.{◌≡◌, List, [], IfOk};
+ghost use Rattle.std.specs.List.{list_all};
+ghost use Rattle.qvt_value.specs.Limits.{built};
+ghost use Rattle.qvt_ocl_words.specs.Lists.{flattened};
 ghost use Rattle.qvt_run_data.specs.declared.late.LateWrite.{LateWrite};
 ghost use Rattle.qvt_run_rules.specs.State.{Does};
 ghost use Rattle.qvt_exec_loops.specs.Turns.{after_of, rest_of, Finds, Takes};
+ghost use Rattle.qvt_exec_loops.specs.Singles.{is_single};
 ghost use Rattle.qvt_exec_loops.specs.declared.turns.Turns.TheVariants as turn;
 
+use qvt_base::list_fault::ListFault;
 use qvt_base::numbers::Place;
 use qvt_base::seq::Seq;
 use qvt_exec_words::iterators::all_differ;
@@ -34,6 +39,31 @@ pub struct Gathered {
     pub done: Values,
 }
 
+/// Whether it is no collection.
+fn is_single(value: &Value) -> bool
+    ensures { result ≡ is_single value.now }
+{
+    !matches!(value, Value::Coll(_, _))
+}
+
+/// Whether none of them is.
+fn are_single(values: &[Value]) -> bool
+    ensures { result ≡ list_all is_single values.now }
+{
+    values.iter().all(|value| is_single(value))
+}
+
+/// The collection of the innermost items. Values that are no collections are taken as they are.
+#[tactic(auto, using(crate::proofs::Flat::flat_already))]
+fn made_flat(alloc: Global, place: Place, kind: Kind, values: Values) -> Result<Value, ListFault>
+    ensures { IfOk result (λ collection. collection ≡ built place kind (flattened values)) }
+{
+    if are_single(values.as_slice()) {
+        return built(alloc, place, kind, values);
+    }
+    built_flat(alloc, place, kind, values.as_slice())
+}
+
 impl Gathered {
     /// None so far. It takes no memory.
     pub fn new(alloc: Global, finish: Finish, kind: Kind) -> Gathered
@@ -47,6 +77,7 @@ impl Gathered {
     }
 
     /// A body that is invalid ends it.
+    #[inline(never)]
     pub fn take(&mut self, given: Value) -> Result<Option<Value>, Halt>
         ensures { (at : Place) (f : Value → Does LateWrite Value) (x : Value) (xs : List Value) → Takes (after_of at f (turn.Gathered self.old) x xs given) result (rest_of at f (turn.Gathered self.new) xs) }
     {
@@ -64,7 +95,7 @@ impl Gathered {
         let Gathered { finish, kind, done } = self;
         match finish {
             Finish::Nested => Ok(built(alloc, place, collected_kind(kind), done)?),
-            Finish::Flat => Ok(built_flat(alloc, place, collected_kind(kind), done.as_slice())?),
+            Finish::Flat => Ok(made_flat(alloc, place, collected_kind(kind), done)?),
             Finish::Unique => Ok(Value::Bool(all_differ(alloc, done.as_slice())?)),
         }
     }

@@ -3,6 +3,7 @@
 
 pub mod conditions;
 pub mod gathering;
+pub mod handed;
 pub mod laws;
 pub mod selection;
 pub mod sorting;

@@ -36,6 +36,7 @@ impl Kept {
     }
 
     /// The item is kept if its condition is as it is wanted.
+    #[inline(never)]
     pub fn take(
         &mut self,
         alloc: Global,

@@ -35,6 +35,7 @@ impl Sorted {
     }
 
     /// A key that is null or invalid ends it.
+    #[inline(never)]
     pub fn take(
         &mut self,
         alloc: Global,

@@ -2,6 +2,7 @@ pub mod Args
 pub mod ArrowArms
 pub mod BeforeLast
 pub mod BeforeResolve
+pub mod Begun
 pub mod Behind
 pub mod Heads
 pub mod Loops

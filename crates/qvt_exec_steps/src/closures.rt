@@ -45,11 +45,12 @@ fn visit_all<C: Nested>(
 {
     let mut visits = first;
     let mut more = turns_within(x.limit);
+    let mut handed = None;
     loop {
         let Some(item) = visits.next() else {
             return visits.finish(x.alloc, it.place);
         };
-        let given = for_item(x, units, body, it, &item, state)?;
+        let given = for_item(x, units, body, it, &item, &mut handed, state)?;
         if let Some(value) = visits.take(item, given)? {
             return Ok(value);
         }

@@ -16,7 +16,8 @@ use qvt_exec_invocations::engine::Engine;
 use qvt_exec_invocations::nested::{Nested, expr};
 use qvt_exec_invocations::units::ReadyUnits;
 use qvt_exec_leaves::state::RunState;
-use qvt_exec_loops::steps::{bind, bind_named, misfit, tick};
+use qvt_exec_loops::handed::{bind_handed, end_scope};
+use qvt_exec_loops::steps::{misfit, tick};
 use qvt_exec_loops::turns::Turns;
 use qvt_ocl::operands::is_invalid;
 use qvt_run_data::exit::Halt;
@@ -24,7 +25,7 @@ use qvt_types_nodes::tree::TypedExpr;
 use qvt_types_steps::iterators::IteratorKind;
 use qvt_value::value::Value;
 
-/// The body for an item.
+/// The body for an item. The name of its variable is handed on.
 #[inline(never)]
 #[tactic(auto, unfolding(qvt_run_rules::specs::Iterators::for_item, qvt_run_rules::specs::Locals::with_locals))]
 pub fn for_item<C: Nested>(
@@ -33,15 +34,16 @@ pub fn for_item<C: Nested>(
     body: &TypedExpr,
     it: Iteration<'_>,
     item: &Value,
+    handed: &mut Option<Text>,
     state: &mut RunState<'_>,
 ) -> Result<Value, Halt>
     ensures { Runs (each.for_item (option_copied it.entry.name) (expr_of (x.now, C.means units.now) body.now) item.now (seen state.old)) result state.new }
 {
     let depth = state.locals.len();
     let value = item.copy(x.alloc)?;
-    bind(x.alloc, state, it.name, value)?;
+    bind_handed(x.alloc, state, it.name, handed, value)?;
     let given = expr(x, units, body, state);
-    state.locals.truncate(depth);
+    *handed = end_scope(x.alloc, state, depth);
     given
 }
 
@@ -58,8 +60,9 @@ fn each_of<C: Nested>(
     ensures { Runs (rest_of it.entry.place (each.for_item (option_copied it.entry.name) (expr_of (x.now, C.means units.now) body.now)) first items.now (seen state.old)) result state.new }
 {
     let mut turns = first;
+    let mut handed = None;
     for item in items {
-        let given = for_item(x, units, body, it, item, state)?;
+        let given = for_item(x, units, body, it, item, &mut handed, state)?;
         if let Some(value) = turns.take(x.alloc, it.place, item, given)? {
             return Ok(value);
         }
@@ -67,9 +70,21 @@ fn each_of<C: Nested>(
     turns.finish(x.alloc, it.place)
 }
 
-/// The body of `iterate` for an item and what there is so far.
+/// The names of the variables of `iterate`, which are handed on.
+struct Handed {
+    item: Option<Text>,
+    so_far: Option<Text>,
+}
+
+impl Drop for Handed {
+    fn drop(self) {
+        let Handed { item, so_far } = self;
+    }
+}
+
+/// The body of `iterate` for an item and what there is so far. The names of its variables are handed on.
 #[inline(never)]
-#[tactic(auto, unfolding(qvt_run_rules::specs::Locals::with_locals))]
+#[tactic(auto, unfolding(qvt_run_rules::specs::Locals::with_locals), using(qvt_exec_loops::proofs::Scopes::cut_twice))]
 fn iterate_item<C: Nested>(
     x: &Engine<'_>,
     units: &ReadyUnits<C>,
@@ -78,16 +93,25 @@ fn iterate_item<C: Nested>(
     accumulator: &Text,
     so_far: Value,
     item: &Value,
+    handed: &mut Handed,
     state: &mut RunState<'_>,
 ) -> Result<Value, Halt>
     ensures { Runs (iterate_once (option_copied it.entry.name) accumulator.now (expr_of (x.now, C.means units.now) body.now) so_far item.now (seen state.old)) result state.new }
 {
-    let depth = state.locals.len();
+    let outer = state.locals.len();
     let value = item.copy(x.alloc)?;
-    bind(x.alloc, state, it.name, value)?;
-    bind_named(x.alloc, state, accumulator, so_far)?;
+    bind_handed(x.alloc, state, it.name, &mut handed.item, value)?;
+    let inner = state.locals.len();
+    bind_handed(
+        x.alloc,
+        state,
+        Some(accumulator),
+        &mut handed.so_far,
+        so_far,
+    )?;
     let given = expr(x, units, body, state);
-    state.locals.truncate(depth);
+    handed.so_far = end_scope(x.alloc, state, inner);
+    handed.item = end_scope(x.alloc, state, outer);
     given
 }
 
@@ -104,9 +128,23 @@ fn iterate_from<C: Nested>(
 ) -> Result<Value, Halt>
     ensures { Runs (each.iterate_from (option_copied it.entry.name) accumulator.now (expr_of (x.now, C.means units.now) body.now) first items.now (seen state.old)) result state.new }
 {
+    let mut handed = Handed {
+        item: None,
+        so_far: None,
+    };
     let mut so_far = first;
     for item in items {
-        so_far = iterate_item(x, units, body, it, accumulator, so_far, item, state)?;
+        so_far = iterate_item(
+            x,
+            units,
+            body,
+            it,
+            accumulator,
+            so_far,
+            item,
+            &mut handed,
+            state,
+        )?;
         if is_invalid(&so_far) {
             return Ok(so_far);
         }

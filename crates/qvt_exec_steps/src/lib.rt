@@ -5,6 +5,7 @@ mod arrows;
 mod closures;
 mod iterators;
 pub mod late;
+mod lent;
 mod operations;
 pub mod posts;
 mod sources;
