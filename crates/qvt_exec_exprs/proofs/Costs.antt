@@ -17,11 +17,11 @@ use Rattle.qvt_run_data.specs.declared.local.Local.{Local}
 use Rattle.qvt_run_rules.specs.Cost.{charge, count, spend_of}
 use Rattle.qvt_run_rules.specs.Expressions as rule
 use Rattle.qvt_run_rules.specs.State.{State, Done, Does, on_outcome, ◌>>=◌, pure, found}
-use Rattle.qvt_meaning.specs.Phrases as phrase
 use Rattle.qvt_meaning.specs.Readings as by
-use Rattle.qvt_exec_steps.specs.Means.{Scene, expr_of, link_of, links_of, setting_of}
+use Rattle.qvt_exec_steps.specs.Means.{Scene, expr_of, links_of, setting_of}
 use Rattle.qvt_exec_exprs.specs.Numbers.{counted, number_in, of_numbers, Costs, IsGiven, IsNumber}
 use Rattle.qvt_exec_exprs.specs.declared.numbers.Counted.{Counted}
+use Rattle.qvt_exec_exprs.proofs.Chains.{of_link}
 use Rattle.qvt_exec_exprs.proofs.Integers.{of_both}
 use Rattle.qvt_exec_exprs.proofs.Read.{number_is}
 
@@ -90,8 +90,9 @@ by_operation x p q sign (Some op) at vs a b m n v left right is = operated x.0.l
 pub chain_costs : (x : Scene) (first : TypedExpr) (node : TypedLink) (vs : List Local) (a b : ℤ) (m n : ℕ) (v : Value) →
     Costs x.0.limit (expr_of x first) vs (Int a) m → Costs x.0.limit (expr_of x node.operand) vs (Int b) n → of_numbers (rulings.operation_of node.op) node.place a b ≡ Some v →
     Costs x.0.limit (rule.on_first (expr_of x first) (links_of x (node ∷ []))) vs v (m + n + 1)
-unfolding expr_of links_of phrase.link phrase.links
-chain_costs x first node vs a b m n v left right is = by_operation x (expr_of x first) (expr_of x node.operand) node.op (rulings.operation_of node.op) node.place vs a b m n v left right is
+chain_costs x first node vs a b m n v left right is s t same pays =
+    ap (λ (fs : List (Value → Does LateWrite Value)). rule.on_first (expr_of x first) fs s) (of_link x node)
+    ∙ by_operation x (expr_of x first) (expr_of x node.operand) node.op (rulings.operation_of node.op) node.place vs a b m n v left right is s t same pays
 
 -- a number alone
 pub number_costs : (x : Scene) (node : TypedExpr) (n : ℤ) (vs : List Local) → Some n ≡ number_in (typed_expr_view node) vs → Costs x.0.limit (expr_of x node) vs (Int n) 1
