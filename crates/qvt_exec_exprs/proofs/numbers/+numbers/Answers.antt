@@ -9,8 +9,8 @@ linked-returns t c = given_by_one c.args.first.now (c.args.node.now ∷ []) c.ar
 pub number-returns-in-Some : goal.number-returns-in-Some
 number-returns-in-Some t c = number_alone c.args.node.now c.args.state.now.locals c.in-Some.number c.in-Some.ensures
 
-pub number-returns-in_ok-number-in-Chain : goal.number-returns-in-Chain
+pub number-returns-in_ok-number-in-Chain : goal.number-returns-in_ok-number-in-Chain
 number-returns-in_ok-number-in-Chain t c =
     number_of_chain c.args.node.now c.deref.result.now c.as_slice.result.now c.args.state.now.locals c.in_ok-given-in-Chain.given c.in_ok-number-in-Chain.number
-    (chain_is c.args.node.now c.deref.result.now c.as_slice.result.now c.in-Chain.level c.in-Chain.first c.in-Chain.rest c.in-Chain.place c.in-Chain.note c.in-Chain.is c.deref.ensures.value c.as_slice.ensures)
+    (chain_is c.args.node.now c.deref.result.now c.as_slice.result.now c.in-Chain.level c.in-Chain.first c.in-Chain.rest c.in-Chain.place c.in-Chain.note c.in-Chain.is c.deref.ensures c.as_slice.ensures)
     c.in_ok-given-in-Chain.ensures c.in_ok-number-in-Chain.ensures.0 c.in_ok-number-in-Chain.ensures.1
