@@ -1,5 +1,5 @@
 -- What phrases cost that are numbers, and operators between them.
-use Rattle.std.proofs.Common.{◌≡◌, ◌∙◌, ℕ, ◌+◌, nat_lt, Bool, true, false, if◌then◌else◌, ℤ, refl, sym, ap, List, [], ◌∷◌, Option, Some, None, Result, Ok, Err, arith}
+use Rattle.std.proofs.Common.{◌≡◌, ◌∙◌, ℕ, ◌+◌, nat_lt, Bool, true, false, if◌then◌else◌, ℤ, refl, sym, ap, List, [], ◌∷◌, Option, Some, None, Ok, Err, arith}
 use Rattle.qvt_base.specs.declared.numbers.Place.{Place}
 use Rattle.qvt_value.specs.declared.value.Value.{Value, Int}
 use Rattle.qvt_tree_types.specs.declared.words.BinaryOp.{BinaryOp}

@@ -1,11 +1,11 @@
 -- What an operator gives of two Integers is within the limits.
-use Rattle.std.proofs.Common.{◌≡◌, ◌∙◌, refl, sym, ap, ℤ, Bool, true, false, if◌then◌else◌, List, [], ◌∷◌, Option, Some, None, Ok}
+use Rattle.std.proofs.Common.{◌≡◌, ◌∙◌, refl, sym, ap, ℤ, Bool, true, false, if◌then◌else◌, [], ◌∷◌, Some}
 use Rattle.std.specs.Prelude.{◌+ℤ◌, ◌-ℤ◌, ◌*ℤ◌, int_div, int_rem}
 use Rattle.qvt_base.specs.declared.numbers.Place.{Place}
 use Rattle.qvt_value.specs.declared.value.Value.{Value, Int, Invalid}
 use Rattle.qvt_value.specs.declared.value.Reason.TheVariants.{Overflow, ZeroDivide}
 use Rattle.qvt_value.specs.Limits.{limited}
-use Rattle.qvt_ocl_words.specs.Integers.{fits_64, is_zero, whole, of_integers}
+use Rattle.qvt_ocl_words.specs.Integers.{fits_64, is_zero, of_integers}
 use Rattle.qvt_ocl_words.specs.Operation.{operation, answered, on_valid, unless_null, on_present, on_integer}
 use Rattle.qvt_ocl_words.specs.declared.op.Op.{Op}
 use Rattle.qvt_ocl_words.specs.declared.op.Op.TheVariants.{Plus, Minus, Times, Div, Mod, Min, Max, Less, LessEqual, Greater, GreaterEqual}
