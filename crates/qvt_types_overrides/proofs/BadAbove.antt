@@ -14,15 +14,16 @@ use Rattle.qvt_types_groups.specs.Numbers.{no_unit, unit_at, is_called}
 use Rattle.qvt_types_groups.specs.Overrides.{are_alike, overrides, is_misfit, is_strictly_below, is_bad_override}
 use Rattle.qvt_types_groups.specs.Lists.{list_at, numbers_under}
 use Rattle.qvt_types_groups.proofs.ByClass.{AreLeast}
-use Rattle.qvt_types_overrides.specs.declared.above.Above.{Above}
-use Rattle.qvt_types_overrides.specs.declared.above.Above.TheVariants.{Untold, Nothing, Least, Both, Listed}
+use Rattle.qvt_types_above.specs.declared.above.Above.{Above}
+use Rattle.qvt_types_above.specs.declared.above.Above.TheVariants.{Untold, Nothing, Least, Both, Listed}
 use Rattle.qvt_types_overrides.specs.declared.ranked.Ranked.{Ranked}
 use Rattle.qvt_types_overrides.specs.Odd.{clashes_at, clashes_among}
 use Rattle.qvt_types_overrides.specs.Ranked.{told_under, told_at, lists_under, table_at, EachFrom, AreRanked}
 use Rattle.qvt_types_overrides.specs.Clashes.{fits_at, fits_told, is_bad_at, is_bad_by, clashes_ranked}
-use Rattle.qvt_types_overrides.specs.Tells.{In, Asks, SomeAsks, Tells, IsOver, IsFrom}
-use Rattle.qvt_types_overrides.proofs.SameShapes.{Law, among_is, bad_is}
-use Rattle.qvt_types_overrides.proofs.Tellings.{fewer}
+use Rattle.qvt_types_above.specs.Tells.{In, Asks, SomeAsks, Tells, IsOver, IsFrom}
+use Rattle.qvt_types_above.proofs.SameShapes.{Law}
+use Rattle.qvt_types_overrides.proofs.Overriding.{among_is, bad_is}
+use Rattle.qvt_types_above.proofs.Tellings.{fewer}
 
 none_in : (p : ℕ → Bool) (ns : List ℕ) → ((n : ℕ) → In n ns → p n ≡ true → ⊥) → list_any p ns ≡ false
 none_in p [] never = refl

@@ -1,11 +1,5 @@
 pub mod Parted
 pub mod Uppers
-pub mod SameShapes
-pub mod Covered
-pub mod Tellings
-pub mod OwnTold
-pub mod BoundsAsk
-pub mod AsksTold
-pub mod GatheredTold
-pub mod TableTold
+pub mod Overriding
+pub mod NextTable
 pub mod BadAbove

@@ -6,8 +6,8 @@ use Rattle.qvt_metamodel.specs.Metamodels.{Metamodels}
 use Rattle.qvt_types_groups.specs.declared.signature.Signature.{Signature}
 use Rattle.qvt_types_groups.specs.Numbers.{unit_at}
 use Rattle.qvt_types_groups.specs.Overrides.{overrides, is_misfit}
-use Rattle.qvt_types_overrides.specs.declared.above.Above.{Above}
-use Rattle.qvt_types_overrides.specs.declared.above.Above.TheVariants.{Untold, Nothing, Least, Both, Listed}
+use Rattle.qvt_types_above.specs.declared.above.Above.{Above}
+use Rattle.qvt_types_above.specs.declared.above.Above.TheVariants.{Untold, Nothing, Least, Both, Listed}
 use Rattle.qvt_types_overrides.specs.declared.odd.Named.{Named}
 use Rattle.qvt_types_overrides.specs.declared.ranked.Ranked.{Ranked}
 use Rattle.qvt_types_overrides.specs.Odd.{clashes_among}

@@ -1,13 +1,4 @@
-pub mod Shapes
 pub mod Upper
 pub mod Odd
-pub mod Covers
-pub mod Above
-pub mod Own
-pub mod Gathered
-pub mod Bounds
-pub mod Asks
-pub mod Tells
-pub mod Table
 pub mod Ranked
 pub mod Clashes

@@ -9,7 +9,7 @@ use Rattle.qvt_types_groups.specs.Overrides.{is_strictly_below, is_misfit}
 use Rattle.qvt_types_groups.specs.Lists.{numbers_under}
 use Rattle.qvt_types_overrides.specs.declared.odd.Named.{Named}
 use Rattle.qvt_types_overrides.specs.Upper.{is_upper}
-use Rattle.qvt_types_overrides.specs.Shapes.{same_shape}
+use Rattle.qvt_types_above.specs.Shapes.{same_shape}
 
 -- the unit takes and answers what the first of these does
 abbrev pub is_like_first : List Signature → List ℕ → Signature → Bool

@@ -6,14 +6,14 @@ use Rattle.qvt_types_groups.specs.declared.signature.HeadClass.TheVariants.{Miss
 use Rattle.qvt_types_groups.specs.declared.signature.Signature.{Signature}
 use Rattle.qvt_types_groups.specs.Lists.{numbers_under}
 use Rattle.qvt_types_groups.specs.Numbers.{unit_at}
-use Rattle.qvt_types_overrides.specs.declared.above.Above.{Above}
-use Rattle.qvt_types_overrides.specs.declared.above.Above.TheVariants.{Untold, Nothing}
+use Rattle.qvt_types_above.specs.declared.above.Above.{Above}
+use Rattle.qvt_types_above.specs.declared.above.Above.TheVariants.{Untold, Nothing}
 use Rattle.qvt_types_overrides.specs.declared.odd.Named.{Named}
 use Rattle.qvt_types_overrides.specs.declared.ranked.Ranked.{Ranked}
-use Rattle.qvt_types_overrides.specs.declared.table.AboveTable.{AboveTable}
+use Rattle.qvt_types_above.specs.declared.table.AboveTable.{AboveTable}
 use Rattle.qvt_types_overrides.specs.Odd.{AreNamed}
-use Rattle.qvt_types_overrides.specs.Above.{above_at}
-use Rattle.qvt_types_overrides.specs.Tells.{AllFrom}
+use Rattle.qvt_types_above.specs.Above.{above_at}
+use Rattle.qvt_types_above.specs.Tells.{AllFrom}
 
 -- a list of a name is worth a table: to compare each with those that are unlike the first takes longer than there are classes
 abbrev pub is_worth : ℕ → ℕ → ℕ → Bool

@@ -7,13 +7,13 @@ ghost use Rattle.qvt_types_groups.specs.Numbers.{unit_at, numbers_where};
 ghost use Rattle.qvt_types_groups.specs.Lists.{is_one, numbers_under};
 ghost use Rattle.qvt_types_overrides.specs.Odd as odd_words;
 ghost use Rattle.qvt_types_overrides.specs.Odd.{AreNamed};
-ghost use Rattle.qvt_types_overrides.specs.Shapes as shapes;
+ghost use Rattle.qvt_types_above.specs.Shapes as shapes;
 ghost use Rattle.qvt_types_overrides.specs.Upper.{is_upper, AreSupers};
 
-use crate::shapes::same_shape;
 use crate::upper::is_upper;
 use qvt_base::list_fault::ListFault;
 use qvt_metas::number_set::NumberSet;
+use qvt_types_above::shapes::same_shape;
 use qvt_types_groups::class_keys::is_called;
 use qvt_types_groups::number_lists::NumberLists;
 use qvt_types_groups::numbers::has_context;

@@ -9,12 +9,12 @@ ghost use Rattle.qvt_types_overrides.specs.Odd as odd_words;
 ghost use Rattle.qvt_types_overrides.specs.Clashes as clash_words;
 ghost use Rattle.qvt_types_overrides.specs.Ranked.{AreRanked};
 
-use crate::above::{Above, list_at};
 use crate::odd::Named;
 use crate::ranked::{Ranked, lists_under, rank_by_name, told_at};
 use crate::upper::supers_of;
 use qvt_base::list_fault::ListFault;
 use qvt_base::seq::Seq;
+use qvt_types_above::above::{Above, list_at};
 use qvt_types_data::refusal::RefusalKind;
 use qvt_types_groups::overrides::{is_misfit, is_override, is_strictly_below};
 use qvt_types_groups::signature::{Signature, UnitSort};

@@ -3,15 +3,15 @@
 ghost use Rattle.std.specs.Prelude.{◌≡◌, IfOk};
 ghost use Rattle.qvt_types_overrides.specs.Ranked as ranked;
 ghost use Rattle.qvt_types_overrides.specs.Ranked.{EachFrom, AreRanked};
-ghost use Rattle.qvt_types_overrides.specs.Tells.{AllFrom};
+ghost use Rattle.qvt_types_above.specs.Tells.{AllFrom};
 ghost use Rattle.qvt_types_overrides.specs.Upper.{AreSupers};
 
-use crate::above::{Above, above_at};
 use crate::odd::{Named, by_name};
-use crate::table::{AboveTable, table_of, untold};
 use qvt_base::list_fault::ListFault;
 use qvt_base::seq::Seq;
 use qvt_metas::number_set::NumberSet;
+use qvt_types_above::above::{Above, above_at};
+use qvt_types_above::table::{AboveTable, table_of, untold};
 use qvt_types_groups::class_choices::class_order;
 use qvt_types_groups::signature::{HeadClass, Signature};
 use qvt_types_paths::metas::Metas;

@@ -10,21 +10,10 @@ use qvt_base::list_fault::ListFault;
 use qvt_base::numbers::ClassNo;
 use qvt_metas::info::ClassInfo;
 use qvt_metas::number_set::NumberSet;
+use qvt_types_above::own::is_element;
 use qvt_types_groups::signature::HeadClass;
 use qvt_types_paths::metas::Metas;
 use std::alloc::Global;
-
-/// Whether the class is the one above all.
-pub fn is_element(metas: &Metas, class: ClassNo) -> bool
-    ensures { result ≡ is_element metas.now class.0 }
-{
-    metas.are_well_formed();
-    metas.ancestors_are_least();
-    let nowhere = metas.class_count();
-    class.0 != nowhere && metas.descends(ClassNo(nowhere), class)
-}
-
-ghost use Rattle.qvt_metamodel.specs.Metamodels.{is_element};
 
 /// Puts the numbers of these classes there.
 fn put_all(set: &mut NumberSet, supers: &[ClassNo]) -> Result<(), ListFault>

@@ -1,5 +1,5 @@
 use Rattle.std.proofs.Common.{◌∙◌, true, false}
-use Rattle.qvt_types_overrides.proofs.SameShapes.{good_is, mapping_alike, helper_alike, query_alike, class_alone, main_alone, constructor_alone}
+use Rattle.qvt_types_overrides.proofs.Overriding.{good_is, mapping_alike, helper_alike, query_alike, class_alone, main_alone, constructor_alone}
 use Rattle.qvt_types_overrides.proofs.BadAbove.{bad_by}
 use Rattle.qvt_types_overrides.proofs.overrides.is_bad.Goals as goal
 

@@ -1,7 +1,7 @@
 use Rattle.std.proofs.Common.{◌∙◌, ◌<◌, length, get_or, arith, sym, ap, subst}
 use Rattle.qvt_types_overrides.specs.Ranked.{EachFrom}
-use Rattle.qvt_types_overrides.specs.Tells.{AllFrom}
-use Rattle.qvt_types_overrides.proofs.TableTold.{next_table, one_longer}
+use Rattle.qvt_types_above.specs.Tells.{AllFrom}
+use Rattle.qvt_types_overrides.proofs.NextTable.{next_table, one_longer}
 use Rattle.qvt_types_overrides.proofs.ranked.tables_along.Goals as goal
 
 pub loop-list-preserved : goal.loop-list-preserved

@@ -1,5 +1,0 @@
-use Rattle.qvt_types_overrides.specs.Tells.{IsTable}
-use Rattle.qvt_types_overrides.proofs.table.tell_along.Given as goal
-
-abbrev pub invariant-loop-class : goal.invariant-loop-class
-invariant-loop-class l = IsTable l.making.metas.now l.making.units.now l.making.group.now l.table
