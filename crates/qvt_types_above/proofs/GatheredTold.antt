@@ -11,8 +11,12 @@ use Rattle.qvt_types_above.specs.declared.above.Above.{Above}
 use Rattle.qvt_types_above.specs.declared.above.Above.TheVariants.{Untold, Nothing, Least, Both, Listed}
 use Rattle.qvt_types_above.specs.Above.{above_at}
 use Rattle.qvt_types_above.specs.Gathered.{put, put_all, numbers_of, put_classes, gathered, is_told, are_told}
-use Rattle.qvt_types_above.specs.Tells.{Asks, SomeAsks, Tells}
-use Rattle.qvt_types_above.proofs.AsksTold.{OfSome}
+use Rattle.qvt_types_above.specs.Tells.{Asks, SomeAsks, AsksTold, AsksClasses, IsAskedBy, Tells}
+
+-- of some of these classes P holds
+abbrev pub OfSome : (ℕ → ℕ → Type 0) → List ClassNo → ℕ → Type 0
+OfSome P [] x = ⊥
+OfSome P (c ∷ cs) x = P c.0 x ⊎ OfSome P cs x
 
 module _ (m : Metamodels) (us : List Signature) where
   front : (ks ns : List ℕ) (x : ℕ) → SomeAsks m us ks x → SomeAsks m us (ks ++ ns) x
@@ -81,3 +85,23 @@ module _ (m : Metamodels) (us : List Signature) where
               (all_placed (numbers_of ls a) [] x (by_numbers Q a h (and_left (is_told a) (list_all (λ c. is_told (above_at row c.0)) cs) e) x q))
           | inr f ↦ classes_placed cs (put_all [] (numbers_of ls a)) (and_right (is_told a) (list_all (λ c. is_told (above_at row c.0)) cs) e) x f
         ]
+
+      -- What asks all that is told of units asks all that they ask.
+
+      told_asks : (n : ℕ) (P : ℕ → Type 0) (a : Above) → Tells m us ls P a → AsksTold m us ls n a → (x : ℕ) → P x → Asks m us n x
+      told_asks n P a told asks x p = asks.1 x (by_numbers P a told asks.0 x p)
+
+      module _ (P : ℕ → ℕ → Type 0) (told : (c : ℕ) → Tells m us ls (P c) (above_at row c)) where
+        classes_ask : (n : ℕ) (cs : List ClassNo) → AsksClasses m us ls row n cs → (x : ℕ) → OfSome P cs x → Asks m us n x
+        classes_ask n [] asks x f = absurd f
+        classes_ask n (c ∷ cs) asks x f = elim f [
+          | inl here ↦ told_asks n (P c.0) (above_at row c.0) (told c.0) asks.0 x here
+          | inr rest ↦ classes_ask n cs asks.1 x rest
+        ]
+
+        pub asked_tells : (Q : ℕ → Type 0) (a : Above) → Tells m us ls Q a → (cs : List ClassNo) → IsAskedBy m us ls row a cs → Tells m us ls (λ x. Q x ⊎ OfSome P cs x) a
+        asked_tells Q Untold h cs asks = tt
+        asked_tells Q Nothing h cs asks = absurd asks
+        asked_tells Q (Least n) h cs asks = λ x r. elim r [ inl q ↦ h x q | inr f ↦ classes_ask n cs asks x f ]
+        asked_tells Q (Both i k) h cs asks = absurd asks
+        asked_tells Q (Listed s) h cs asks = absurd asks

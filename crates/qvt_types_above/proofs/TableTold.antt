@@ -1,6 +1,5 @@
 -- What is told of the units of each class and those above it is so.
 use Rattle.std.proofs.Common.{◌≡◌, ◌∙◌, ℕ, zero, suc, ◌+◌, ◌<◌, ◌==◌, List, [], ◌∷◌, ◌++◌, length, set, get_or, Bool, true, false, not, ◌⊎◌, Option, Some, None, inl, inr, refl, sym, ap, subst, arith, length-append}
-use Rattle.std.specs.Prelude.{if◌then◌else◌}
 use Rattle.std.specs.List.{list_any}
 use Rattle.std.proofs.lemmas.Bool.{eq-eqb, eqb-true}
 use Rattle.std.proofs.lemmas.List.{get_or_past}
@@ -20,20 +19,18 @@ use Rattle.qvt_types_groups.proofs.ByClass.{AreLeast}
 use Rattle.qvt_types_groups.proofs.Lowest.{Transitive}
 use Rattle.qvt_types_above.specs.declared.above.Above.{Above}
 use Rattle.qvt_types_above.specs.declared.above.Above.TheVariants.{Untold, Nothing, Least, Both, Listed}
-use Rattle.qvt_types_above.specs.declared.asks.Guard.{Guard}
 use Rattle.qvt_types_above.specs.declared.table.AboveTable.{AboveTable}
 use Rattle.qvt_types_above.specs.Above.{combined, above_at, from_all}
-use Rattle.qvt_types_above.specs.Asks.{Guards, no_guard, guard_at, is_asked_by, guards_by, told_by}
-use Rattle.qvt_types_above.specs.Bounds.{are_bounded}
+use Rattle.qvt_types_above.specs.Asks.{Guards, no_guard, guard_at}
 use Rattle.qvt_types_above.specs.Gathered.{gathered, are_told}
 use Rattle.qvt_types_above.specs.Own.{base_of}
-use Rattle.qvt_types_above.specs.Table.{with_guards, first_guard, with_more, IsWhole, untold}
-use Rattle.qvt_types_above.specs.Tells.{In, Asks, SomeAsks, Tells, AreGuarded, IsFrom, AreOwn, IsTable}
+use Rattle.qvt_types_above.specs.Table.{AreAlike, IsShort, IsWhole, with_more, untold}
+use Rattle.qvt_types_above.specs.Tells.{In, SomeAsks, Tells, IsGuard, AreGuarded, IsFrom, AreOwn, IsTable}
+use Rattle.qvt_types_above.proofs.AsksTold.{none_guards}
+use Rattle.qvt_types_above.proofs.GatheredTold.{OfSome, gathered_tell, asked_tells}
 use Rattle.qvt_types_above.proofs.SameShapes.{Law}
 use Rattle.qvt_types_above.proofs.Tellings.{of_each, fewer, told_set, grown, both_tell}
 use Rattle.qvt_types_above.proofs.OwnTold.{IsBase, base_tells}
-use Rattle.qvt_types_above.proofs.AsksTold.{OfSome, no_unit, no_class, by_stay, by_long, asked_tells}
-use Rattle.qvt_types_above.proofs.GatheredTold.{gathered_tell}
 
 abbrev known : ℕ → HeadClass
 known c = Known (record { 0 = c })
@@ -42,9 +39,6 @@ known c = Known (record { 0 = c })
 one_element : (o : Option ClassNo) (c d : ℕ) → is_class_number o c ≡ true → is_class_number o d ≡ true → c ≡ d
 one_element None c d p q = absurd (cc)
 one_element (Some e) c d p q = sym (eqb-true e.0 c p) ∙ eqb-true e.0 d q
-
-same_class : (d e : ClassNo) → Some d ≡ Some e → d ≡ e
-same_class d e f = cc
 
 module _ (m : Metamodels) (us : List Signature) (ns : List ℕ) where
   abbrev From : ℕ → ℕ → Type 0
@@ -110,87 +104,52 @@ module _ (m : Metamodels) (us : List Signature) (ns : List ℕ) where
         (λ x r. elim r [ inl p ↦ inl (inl p) | inr q ↦ elim q [ inl f ↦ inl (inr f) | inr g ↦ inr g ] ])
         (from_tell ls row told cs (λ x. P x ⊎ From c.0 x) (combined m us a (above_at row c.0)) (both_tell m us law t ls P (From c.0) a (above_at row c.0) h (told c.0)))
 
-    module _ (had : AboveTable) (is : IsTable m us ns had) (P : ℕ → Type 0) (a : Above) (h : Tells m us had.lists P a) (cs : List ClassNo) where
-      short_tells : Tells m us had.lists (λ x. P x ⊎ OfSome From cs x) (told_by m us had.lists had.row had.guards a cs)
-      short_tells = by (is_asked_by m us had.lists had.row had.guards a cs) refl
-        where
-          by : (b : Bool) → is_asked_by m us had.lists had.row had.guards a cs ≡ b → Tells m us had.lists (λ x. P x ⊎ OfSome From cs x) (if b then a else from_all m us had.row a cs)
-          by true e = asked_tells m us law t had.lists had.row had.guards cs From is.row is.guards P a h e
-          by false e = from_tell had.lists had.row is.row cs P a h
+    short_tells : (had : AboveTable) → IsTable m us ns had → (P : ℕ → Type 0) (a : Above) → Tells m us had.lists P a → (cs : List ClassNo) (short : Above)
+        → IsShort m us had.lists had.row a cs short → Tells m us had.lists (λ x. P x ⊎ OfSome From cs x) short
+    short_tells had is P a h cs short tells = elim tells [
+      | inl one ↦ subst (λ x. Tells m us had.lists (λ x. P x ⊎ OfSome From cs x) x) (sym one.0) (asked_tells m us had.lists had.row From is.row P a h cs one.1)
+      | inr all ↦ subst (λ x. Tells m us had.lists (λ x. P x ⊎ OfSome From cs x) x) (sym all) (from_tell had.lists had.row is.row cs P a h)
+    ]
 
-      guarded_table : IsTable m us ns (with_guards had (guards_by m us had.lists had.row had.guards a cs))
-      guarded_table = record {
-        row = is.row;
-        each = by_long m us law t had.lists had.row had.guards cs a ∙ is.each;
-        guards = by_stay m us law t had.lists had.row had.guards cs a is.guards;
-      }
+  alike_table : (had mid : AboveTable) → IsTable m us ns had → AreAlike m us had mid → IsTable m us ns mid
+  alike_table had mid is alike = record {
+    row = λ c. subst (λ ls. Tells m us ls (From c) (above_at mid.row c)) (sym alike.lists)
+        (subst (λ row. Tells m us had.lists (From c) (above_at row c)) (sym alike.row) (is.row c));
+    each = alike.each ∙ is.each ∙ ap length (sym alike.lists);
+    guards = subst (λ ls. AreGuarded m us ls mid.guards) (sym alike.lists) alike.guards;
+  }
 
-  -- A list more has a guard of its class alone.
+  -- A list more has no guard.
 
-  module _ (ls : List (List ℕ)) (l : List ℕ) (e : ClassNo) (guards : Guards) (long : length guards ≡ length ls) (are : AreGuarded m us ls guards) where
-    abbrev more_lists : List (List ℕ)
-    more_lists = ls ++ l ∷ []
+  more_guarded : (ls : List (List ℕ)) (l : List ℕ) (guards : Guards) → length guards ≡ length ls → AreGuarded m us ls guards → AreGuarded m us (ls ++ l ∷ []) (guards ++ no_guard ∷ [])
+  more_guarded ls l guards long are s = by s (half (length guards) s)
+    where
+      by : (s : ℕ) → Half (length guards) s → IsGuard m us (get_or (ls ++ l ∷ []) s []) (guard_at (guards ++ no_guard ∷ []) s)
+      by _ (old s low) = subst (IsGuard m us (get_or (ls ++ l ∷ []) s [])) (sym (old-at guards (no_guard ∷ []) s no_guard low))
+          (subst (λ ks. IsGuard m us ks (guard_at guards s)) (sym (old-at ls (l ∷ []) s [] (let less : s < length ls = omega (arith, long, low) in less))) (are s))
+      by _ (new zero) = subst (IsGuard m us (get_or (ls ++ l ∷ []) (length guards + 0) [])) (sym (new-at guards (no_guard ∷ []) zero no_guard)) (none_guards m us (get_or (ls ++ l ∷ []) (length guards + 0) []))
+      by _ (new (suc k)) = subst (IsGuard m us (get_or (ls ++ l ∷ []) (length guards + suc k) [])) (sym (new-at guards (no_guard ∷ []) (suc k) no_guard))
+          (none_guards m us (get_or (ls ++ l ∷ []) (length guards + suc k) []))
 
-    abbrev more_guards : Guards
-    more_guards = guards ++ first_guard m us l e ∷ []
-
-    old_list : (s : ℕ) → s < length guards → get_or more_lists s [] ≡ get_or ls s []
-    old_list s low = old-at ls (l ∷ []) s [] (let less : s < length ls = omega (arith, long, low) in less)
-
-    next_list : get_or more_lists (length guards + 0) [] ≡ l
-    next_list = ap (λ k. get_or more_lists k []) (let same : length guards + 0 ≡ length ls + 0 = omega (arith, long) in same) ∙ new-at ls (l ∷ []) 0 []
-
-    units_more : (s g x : ℕ) → (guard_at more_guards s).unit ≡ Some g → SomeAsks m us (get_or more_lists s []) x → Asks m us g x
-    units_more s g x = by s (half (length guards) s)
-      where
-        by : (s : ℕ) → Half (length guards) s → (guard_at more_guards s).unit ≡ Some g → SomeAsks m us (get_or more_lists s []) x → Asks m us g x
-        by _ (old s low) is some = are.units s g x (ap (λ (h : Guard). h.unit) (sym (old-at guards (first_guard m us l e ∷ []) s no_guard low)) ∙ is)
-            (subst (λ ks. SomeAsks m us ks x) (old_list s low) some)
-        by _ (new zero) is some = no_unit g (ap (λ (h : Guard). h.unit) (sym (new-at guards (first_guard m us l e ∷ []) zero no_guard)) ∙ is)
-        by _ (new (suc k)) is some = no_unit g (ap (λ (h : Guard). h.unit) (sym (new-at guards (first_guard m us l e ∷ []) (suc k) no_guard)) ∙ is)
-
-    first_class : (c : ClassNo) → (first_guard m us l e).class ≡ Some c → are_bounded m us l c.0 ≡ true
-    first_class c = by (are_bounded m us l e.0) refl
-      where
-        by : (b : Bool) → are_bounded m us l e.0 ≡ b → (if b then Some e else None) ≡ Some c → are_bounded m us l c.0 ≡ true
-        by true bounded is = subst (λ (d : ClassNo). are_bounded m us l d.0 ≡ true) (same_class e c is) bounded
-        by false bounded is = no_class c is
-
-    classes_more : (s : ℕ) (c : ClassNo) → (guard_at more_guards s).class ≡ Some c → are_bounded m us (get_or more_lists s []) c.0 ≡ true
-    classes_more s c = by s (half (length guards) s)
-      where
-        by : (s : ℕ) → Half (length guards) s → (guard_at more_guards s).class ≡ Some c → are_bounded m us (get_or more_lists s []) c.0 ≡ true
-        by _ (old s low) is = subst (λ ks. are_bounded m us ks c.0 ≡ true) (sym (old_list s low))
-            (are.classes s c (ap (λ (h : Guard). h.class) (sym (old-at guards (first_guard m us l e ∷ []) s no_guard low)) ∙ is))
-        by _ (new zero) is = subst (λ ks. are_bounded m us ks c.0 ≡ true) (sym next_list)
-            (first_class c (ap (λ (h : Guard). h.class) (sym (new-at guards (first_guard m us l e ∷ []) zero no_guard)) ∙ is))
-        by _ (new (suc k)) is = no_class c (ap (λ (h : Guard). h.class) (sym (new-at guards (first_guard m us l e ∷ []) (suc k) no_guard)) ∙ is)
-
-    guards_more : AreGuarded m us more_lists more_guards
-    guards_more = record { units = units_more; classes = classes_more }
-
-  module _ (had : AboveTable) (is : IsTable m us ns had) (e : ClassNo) (P : ℕ → Type 0) (a : Above) (h : Tells m us had.lists P a) where
-    abbrev supers : List ClassNo
-    supers = (class_at m e.0).supers
-
+  module _ (had : AboveTable) (is : IsTable m us ns had) (P : ℕ → Type 0) (a : Above) (h : Tells m us had.lists P a) (cs : List ClassNo) where
     abbrev Whole : ℕ → Type 0
-    Whole x = P x ⊎ OfSome From supers x
+    Whole x = P x ⊎ OfSome From cs x
 
     abbrev list : List ℕ
-    list = gathered had.lists had.row a supers
+    list = gathered had.lists had.row a cs
 
-    more_table : IsTable m us ns (with_more m us had list e)
+    more_table : IsTable m us ns (with_more had list)
     more_table = record {
       row = λ c. grown m us had.lists list (From c) (above_at had.row c) (is.row c);
-      each = longer (length had.guards) (length had.lists) is.each (length-append had.guards (first_guard m us list e ∷ [])) (length-append had.lists (list ∷ []));
-      guards = guards_more had.lists list e had.guards is.each is.guards;
+      each = longer (length had.guards) (length had.lists) is.each (length-append had.guards (no_guard ∷ [])) (length-append had.lists (list ∷ []));
+      guards = more_guarded had.lists list had.guards is.each is.guards;
     }
       where
         longer : (n k : ℕ) {p q : ℕ} → n ≡ k → p ≡ n + 1 → q ≡ k + 1 → p ≡ q
         longer n k e f g = omega (arith, e, f, g)
 
-    list_tells : are_told had.row a supers ≡ true → Tells m us (had.lists ++ list ∷ []) Whole (Listed (length had.lists))
-    list_tells told = λ x r. subst (λ ks. SomeAsks m us ks x) (sym at) (gathered_tell m us had.lists had.row From is.row P a h supers told x r)
+    list_tells : are_told had.row a cs ≡ true → Tells m us (had.lists ++ list ∷ []) Whole (Listed (length had.lists))
+    list_tells told = λ x r. subst (λ ks. SomeAsks m us ks x) (sym at) (gathered_tell m us had.lists had.row From is.row P a h cs told x r)
       where
         at : get_or (had.lists ++ list ∷ []) (length had.lists) [] ≡ list
         at = ap (λ k. get_or (had.lists ++ list ∷ []) k []) (let same : length had.lists ≡ length had.lists + 0 = omega arith in same) ∙ new-at had.lists (list ∷ []) 0 []
@@ -201,7 +160,7 @@ module _ (m : Metamodels) (us : List Signature) (ns : List ℕ) where
     as_it_was : (has : AboveTable) (short told : Above) → Tells m us had.lists Whole short → (told ≡ short) × (has ≡ had) → Told has told
     as_it_was has short told k same = subst (λ x. Told x told) (sym same.1) (is, subst (λ x. Tells m us had.lists Whole x) (sym same.0) k)
 
-    whole_tells : (has : AboveTable) (short told : Above) → Tells m us had.lists Whole short → IsWhole m us had has e short a told → Told has told
+    whole_tells : (has : AboveTable) (short told : Above) → Tells m us had.lists Whole short → IsWhole had has short a cs told → Told has told
     whole_tells has Nothing told k w = as_it_was has Nothing told k w
     whole_tells has (Least n) told k w = as_it_was has (Least n) told k w
     whole_tells has (Both i n) told k w = as_it_was has (Both i n) told k w
@@ -216,24 +175,20 @@ module _ (m : Metamodels) (us : List Signature) (ns : List ℕ) where
   abbrev with_class : AboveTable → ℕ → Above → AboveTable
   with_class t c a = record { row = set t.row c a; lists = t.lists; guards = t.guards }
 
-  module _ (law : Law) (t : Transitive m) (least : AreLeast m) (own : List Above) (top : Above) (are : AreOwn m us ns own top) (had has : AboveTable) (c : ℕ) (short told : Above)
-      (is : IsTable m us ns had) where
+  module _ (law : Law) (t : Transitive m) (least : AreLeast m) (own : List Above) (top : Above) (are : AreOwn m us ns own top) (had mid has : AboveTable) (c : ℕ) (short told : Above)
+      (is : IsTable m us ns had) (alike : AreAlike m us had mid) where
     abbrev base : Above
     base = base_of m us own top c
 
     abbrev its : List ClassNo
     its = (class_at m c).supers
 
-    abbrev half_way : AboveTable
-    half_way = with_guards had (guards_by m us had.lists had.row had.guards base its)
+    based : (ls : List (List ℕ)) → Tells m us ls (IsBase m us ns c) base
+    based ls = base_tells m us law t ns own top are ls c
 
-    tells : short ≡ told_by m us had.lists had.row had.guards base its → IsWhole m us half_way has (record { 0 = c }) short base told
-        → IsTable m us ns has × Tells m us has.lists (Reached c its) told
-    tells shorts whole = whole_tells half_way (guarded_table law t had is (IsBase m us ns c) base based its) (record { 0 = c }) (IsBase m us ns c) base based has short told
-        (subst (λ x. Tells m us had.lists (Reached c its) x) (sym shorts) (short_tells law t had is (IsBase m us ns c) base based its)) whole
-      where
-        based : Tells m us had.lists (IsBase m us ns c) base
-        based = base_tells m us law t ns own top are had.lists c
+    tells : IsShort m us had.lists had.row base its short → IsWhole mid has short base its told → IsTable m us ns has × Tells m us has.lists (Reached c its) told
+    tells shorts whole = whole_tells mid (alike_table had mid is alike) (IsBase m us ns c) base (based mid.lists) its has short told
+        (subst (λ ls. Tells m us ls (Reached c its) short) (sym alike.lists) (short_tells law t had is (IsBase m us ns c) base (based had.lists) its short shorts)) whole
 
     one_told : IsTable m us ns has × Tells m us has.lists (Reached c its) told → IsTable m us ns (with_class has c told)
     one_told both = record {
@@ -242,19 +197,14 @@ module _ (m : Metamodels) (us : List Signature) (ns : List ℕ) where
       guards = both.0.guards;
     }
 
-    pub class_tells : (mid : AboveTable) (a : Above) (cs : List ClassNo) → cs ≡ its → a ≡ base → short ≡ told_by m us had.lists had.row had.guards a cs
-        → mid ≡ with_guards had (guards_by m us had.lists had.row had.guards a cs) → IsWhole m us mid has (record { 0 = c }) short a told → IsTable m us ns (with_class has c told)
-    class_tells mid a cs supers bases shorts mids whole = one_told (tells
-        (shorts ∙ (λ i. told_by m us had.lists had.row had.guards (bases i) (supers i)))
-        (subst (λ x. IsWhole m us x has (record { 0 = c }) short base told) (mids ∙ (λ i. with_guards had (guards_by m us had.lists had.row had.guards (bases i) (supers i))))
-        (subst (λ x. IsWhole m us mid has (record { 0 = c }) short x told) bases whole)))
+    pub class_tells : (a : Above) (cs : List ClassNo) → cs ≡ its → a ≡ base → IsShort m us had.lists had.row a cs short → IsWhole mid has short a cs told → IsTable m us ns (with_class has c told)
+    class_tells a cs supers bases shorts whole = one_told (tells
+        (subst (λ x. IsShort m us had.lists had.row x its short) bases (subst (λ xs. IsShort m us had.lists had.row a xs short) supers shorts))
+        (subst (λ x. IsWhole mid has short x its told) bases (subst (λ xs. IsWhole mid has short a xs told) supers whole)))
 
   pub untold_is : (count : ℕ) → IsTable m us ns (untold count)
   untold_is count = record {
     row = λ c. of_each (Tells m us [] (From c)) Untold count c tt tt;
     each = refl;
-    guards = record {
-      units = λ s g x is some. absurd (subst (λ ks. SomeAsks m us ks x) (get_or_past [] s [] (omega arith)) some);
-      classes = λ s e is. no_class e (ap (λ (h : Guard). h.class) (sym (get_or_past [] s no_guard (omega arith))) ∙ is);
-    };
+    guards = λ s. subst (IsGuard m us (get_or [] s [])) (sym (get_or_past [] s no_guard (omega arith))) (none_guards m us (get_or [] s []));
   }

@@ -1,5 +1,5 @@
 -- What the tellings mean.
-use Rattle.std.specs.Prelude.{◌≡◌, ℕ, ◌⊎◌, true, List, [], ◌∷◌, length, Some, slice_index_or}
+use Rattle.std.specs.Prelude.{◌≡◌, ℕ, ◌⊎◌, true, List, [], ◌∷◌, length, IfSome, slice_index_or}
 use Rattle.qvt_base.specs.declared.numbers.ClassNo.{ClassNo}
 use Rattle.qvt_metamodel.specs.Metamodels.{Metamodels}
 use Rattle.qvt_types_groups.specs.declared.signature.HeadClass.{HeadClass}
@@ -11,10 +11,12 @@ use Rattle.qvt_types_groups.specs.Numbers.{unit_at, is_context}
 use Rattle.qvt_types_groups.specs.Overrides.{is_misfit, is_strictly_below}
 use Rattle.qvt_types_above.specs.declared.above.Above.{Above}
 use Rattle.qvt_types_above.specs.declared.above.Above.TheVariants.{Untold, Nothing, Least, Both, Listed}
+use Rattle.qvt_types_above.specs.declared.asks.Guard.{Guard}
 use Rattle.qvt_types_above.specs.declared.table.AboveTable.{AboveTable}
 use Rattle.qvt_types_above.specs.Above.{above_at}
 use Rattle.qvt_types_above.specs.Asks.{Guards, guard_at}
 use Rattle.qvt_types_above.specs.Bounds.{are_bounded}
+use Rattle.qvt_types_above.specs.Gathered.{is_told, numbers_of}
 
 abbrev pub In : ℕ → List ℕ → Type 0
 In n [] = ⊥
@@ -37,10 +39,34 @@ Tells m us lists P (Least k) = (n : ℕ) → P n → Asks m us k n
 Tells m us lists P (Both i k) = (n : ℕ) → P n → Asks m us i n ⊎ Asks m us k n
 Tells m us lists P (Listed s) = (n : ℕ) → P n → SomeAsks m us (slice_index_or lists s []) n
 
+-- unit n asks all that one of these asks
+abbrev pub AsksAll : Metamodels → List Signature → ℕ → List ℕ → Type 0
+AsksAll m us n ks = (x : ℕ) → SomeAsks m us ks x → Asks m us n x
+
+-- all by which something is told
+abbrev pub AsksTold : Metamodels → List Signature → List (List ℕ) → ℕ → Above → Type 0
+AsksTold m us lists n a = (is_told a ≡ true) × AsksAll m us n (numbers_of lists a)
+
+-- and of each of these classes
+abbrev pub AsksClasses : Metamodels → List Signature → List (List ℕ) → List Above → ℕ → List ClassNo → Type 0
+AsksClasses m us lists row n [] = Unit {0}
+AsksClasses m us lists row n (c ∷ cs) = AsksTold m us lists n (above_at row c.0) × AsksClasses m us lists row n cs
+
+-- something is told by one unit, which asks all that is told of these classes
+abbrev pub IsAskedBy : Metamodels → List Signature → List (List ℕ) → List Above → Above → List ClassNo → Type 0
+IsAskedBy m us lists row Untold cs = ⊥
+IsAskedBy m us lists row Nothing cs = ⊥
+IsAskedBy m us lists row (Least n) cs = AsksClasses m us lists row n cs
+IsAskedBy m us lists row (Both i k) cs = ⊥
+IsAskedBy m us lists row (Listed s) cs = ⊥
+
 -- the unit of a guard asks all that one of its list asks, and its class bounds the list
-pub record AreGuarded (m : Metamodels) (us : List Signature) (lists : List (List ℕ)) (guards : Guards) : Type 0 where
-  pub units : (s g n : ℕ) → (guard_at guards s).unit ≡ Some g → SomeAsks m us (slice_index_or lists s []) n → Asks m us g n
-  pub classes : (s : ℕ) (e : ClassNo) → (guard_at guards s).class ≡ Some e → are_bounded m us (slice_index_or lists s []) e.0 ≡ true
+pub record IsGuard (m : Metamodels) (us : List Signature) (ks : List ℕ) (g : Guard) : Type 0 where
+  pub unit : IfSome g.unit (λ n. AsksAll m us n ks)
+  pub class : IfSome g.class (λ e. are_bounded m us ks e.0 ≡ true)
+
+abbrev pub AreGuarded : Metamodels → List Signature → List (List ℕ) → Guards → Type 0
+AreGuarded m us lists guards = (s : ℕ) → IsGuard m us (slice_index_or lists s []) (guard_at guards s)
 
 -- where ns are all units of the name, unit n is one of the class
 abbrev pub IsOwn : List Signature → List ℕ → ℕ → ℕ → Type 0

@@ -1,14 +1,16 @@
 //! Whether a unit asks all that is told of others. Most units need not be compared with each of a list, since the list has a guard.
 
-ghost use Rattle.std.specs.Prelude.{◌≡◌};
+ghost use Rattle.std.specs.Prelude.{◌≡◌, [], length, slice_index_or, IsTrue};
 ghost use Rattle.qvt_types_above.specs.Asks as asks;
+ghost use Rattle.qvt_types_above.specs.Tells.{AsksAll, AsksTold, AsksClasses, IsGuard, AreGuarded};
 
 use crate::above::{Above, above_at, list_at};
-use crate::bounds::asks_bounded;
+use crate::bounds::{asks_bounded, bound_for};
 use crate::covers::covers_at;
 use qvt_base::numbers::ClassNo;
 use qvt_base::seq::Seq;
 use qvt_types_groups::signature::Signature;
+use qvt_types_laws::laws::same_means_equal;
 use qvt_types_paths::metas::Metas;
 
 /// Of a list a unit that asks all that its units ask, and a class by which they are bounded, where they are known.
@@ -35,20 +37,13 @@ fn guard_at(guards: &[Guard], place: u32) -> Guard
     }
 }
 
-/// Makes the unit that of the guard of a list, where the list is there.
-fn put_guard(guards: &mut Guards, place: u32, number: u32)
-    ensures { guards.new ≡ slice_set guards.old place (asks.with_unit (asks.guard_at guards.old place) number) }
+/// Makes it the guard of a list, where the list is there.
+fn put_guard(guards: &mut Guards, place: u32, guard: Guard)
+    ensures { guards.new ≡ slice_set guards.old place guard }
 {
     let at = place as usize;
     if at < guards.len() {
-        let class = guard_at(guards.as_slice(), place).class;
-        guards.set(
-            at,
-            Guard {
-                unit: Some(number),
-                class,
-            },
-        );
+        guards.set(at, guard);
     }
 }
 
@@ -92,7 +87,23 @@ fn asks_each(metas: &Metas, units: &[Signature], number: u32, list: &[u32]) -> b
         .all(|other| covers_at(metas, units, number, *other))
 }
 
-/// Whether it asks all that those of a list ask. The guard has it then, unless that told it.
+/// The guard that a list has once a unit was compared with each of it and asks all that they ask.
+fn guard_by(metas: &Metas, units: &[Signature], list: &[u32], guard: Guard, number: u32) -> Guard
+    requires asks { AsksAll metas.now units.now number list.now }
+    requires guard { IsGuard metas.now units.now list.now guard }
+    ensures { IsGuard metas.now units.now list.now result }
+{
+    let class = match guard.class {
+        None => bound_for(metas, units, list, number),
+        Some(class) => Some(class),
+    };
+    Guard {
+        unit: Some(number),
+        class,
+    }
+}
+
+/// Whether it asks all that those of a list ask.
 fn asks_listed(
     metas: &Metas,
     units: &[Signature],
@@ -101,22 +112,26 @@ fn asks_listed(
     number: u32,
     place: u32,
 ) -> bool
-    ensures asks { result ≡ asks.asks_listed metas.now units.now lists.now guards.old number place }
-    ensures guards { guards.new ≡ asks.guarded metas.now units.now lists.now guards.old number place }
+    requires { AreGuarded metas.now units.now lists.now guards.old }
+    ensures asks { IsTrue result → AsksAll metas.now units.now number (slice_index_or lists.now place []) }
+    ensures guards { AreGuarded metas.now units.now lists.now guards.new }
+    ensures each { length guards.new ≡ length guards.old }
 {
+    same_means_equal();
+    metas.are_well_formed();
     let list = list_at(lists, place);
     let guard = guard_at(guards.as_slice(), place);
     if asks_guard(metas, units, number, list, guard) {
         return true;
     }
     if asks_each(metas, units, number, list) {
-        put_guard(guards, place, number);
+        put_guard(guards, place, guard_by(metas, units, list, guard, number));
         return true;
     }
     false
 }
 
-/// Whether it asks all that those ask of which this is told.
+/// Whether it asks all that those ask by which something is told.
 fn asks_told(
     metas: &Metas,
     units: &[Signature],
@@ -125,9 +140,13 @@ fn asks_told(
     number: u32,
     told: Above,
 ) -> bool
-    ensures asks { result ≡ asks.asks_told metas.now units.now lists.now guards.old number told }
-    ensures guards { guards.new ≡ asks.guards_told metas.now units.now lists.now guards.old number told }
+    requires { AreGuarded metas.now units.now lists.now guards.old }
+    ensures asks { IsTrue result → AsksTold metas.now units.now lists.now number told }
+    ensures guards { AreGuarded metas.now units.now lists.now guards.new }
+    ensures each { length guards.new ≡ length guards.old }
 {
+    same_means_equal();
+    metas.are_well_formed();
     match told {
         Above::Untold => false,
         Above::Nothing => true,
@@ -149,8 +168,10 @@ pub fn asks_classes(
     number: u32,
     classes: &[ClassNo],
 ) -> bool
-    ensures asks { result ≡ asks.asks_classes metas.now units.now lists.now row.now guards.old number classes.now }
-    ensures guards { guards.new ≡ asks.guards_classes metas.now units.now lists.now row.now guards.old number classes.now }
+    requires { AreGuarded metas.now units.now lists.now guards.old }
+    ensures asks { IsTrue result → AsksClasses metas.now units.now lists.now row.now number classes.now }
+    ensures guards { AreGuarded metas.now units.now lists.now guards.new }
+    ensures each { length guards.new ≡ length guards.old }
 {
     for class in classes {
         let told = above_at(row, class.0);

@@ -9,6 +9,7 @@ ghost use Rattle.qvt_types_above.specs.Bounds as bounds;
 use crate::covers::covers_at;
 use crate::shapes::{same_sort, same_types};
 use qvt_base::numbers::ClassNo;
+use qvt_metas::tables::supers_at;
 use qvt_types_data::ty::Ty;
 use qvt_types_groups::signature::Signature;
 use qvt_types_paths::metas::Metas;
@@ -105,5 +106,83 @@ pub fn asks_bounded(
         [first, ..] => {
             covers_at(metas, units, number, *first) && answers_below_at(metas, units, number, class)
         }
+    }
+}
+
+/// How many superclasses a class may have at most, and how many steps up are made at most, where a bound is looked for: with more it
+/// would take longer than it spares.
+const MOST_SUPERS: usize = 8;
+
+const MOST_STEPS: u32 = 16;
+
+/// A superclass by which the list is bounded too.
+fn higher_bound(
+    metas: &Metas,
+    units: &[Signature],
+    list: &[u32],
+    supers: &[ClassNo],
+) -> Option<ClassNo>
+    ensures { IfSome result (λ e. bounds.are_bounded metas.now units.now list.now e.0 ≡ true) }
+{
+    if supers.len() > MOST_SUPERS {
+        return None;
+    }
+    for class in supers {
+        if are_bounded(metas, units, list, *class) {
+            return Some(*class);
+        }
+    }
+    None
+}
+
+/// Above a class by which the list is bounded another one, so that more units answer what is below it.
+fn highest_bound(metas: &Metas, units: &[Signature], list: &[u32], class: ClassNo) -> ClassNo
+    requires { bounds.are_bounded metas.now units.now list.now class.0 ≡ true }
+    ensures { bounds.are_bounded metas.now units.now list.now result.0 ≡ true }
+{
+    let mut bound = class;
+    for step in 0..MOST_STEPS {
+        let supers = supers_at(metas.class_infos(), bound.0);
+        match higher_bound(metas, units, list, supers) {
+            None => return bound,
+            Some(higher) => bound = higher,
+        }
+    }
+    bound
+}
+
+ghost use Rattle.std.specs.Prelude.{true, IfSome};
+
+/// A class by which the list is bounded, at the class of which the unit answers objects or above it.
+fn bound_from(
+    metas: &Metas,
+    units: &[Signature],
+    list: &[u32],
+    answer: &Option<Ty>,
+) -> Option<ClassNo>
+    ensures { IfSome result (λ e. bounds.are_bounded metas.now units.now list.now e.0 ≡ true) }
+{
+    match answer {
+        None => None,
+        Some(Ty::Class(class)) => {
+            if are_bounded(metas, units, list, *class) {
+                Some(highest_bound(metas, units, list, *class))
+            } else {
+                None
+            }
+        }
+        Some(_) => None,
+    }
+}
+
+/// The same of a unit by its number.
+pub fn bound_for(metas: &Metas, units: &[Signature], list: &[u32], number: u32) -> Option<ClassNo>
+    ensures { IfSome result (λ e. bounds.are_bounded metas.now units.now list.now e.0 ≡ true) }
+{
+    let at = number as usize;
+    if at < units.len() {
+        bound_from(metas, units, list, &units[at].answer)
+    } else {
+        None
     }
 }

@@ -1,15 +1,14 @@
 //! What is told of the units of a name at each class and above it, once for each class by its superclasses.
 
-ghost use Rattle.std.specs.Prelude.{◌≡◌, IfOk, OnOk};
+ghost use Rattle.std.specs.Prelude.{◌≡◌, IsTrue, IfOk, OnOk};
 ghost use Rattle.qvt_metamodel.specs.Metamodels.{class_at};
 ghost use Rattle.qvt_types_above.specs.Own as own_words;
-ghost use Rattle.qvt_types_above.specs.Asks as asks;
-ghost use Rattle.qvt_types_above.specs.Tells.{AreOwn, AllFrom, IsTable};
 ghost use Rattle.qvt_types_above.specs.Table as table_words;
+ghost use Rattle.qvt_types_above.specs.Table.{AreAlike, IsShort};
+ghost use Rattle.qvt_types_above.specs.Tells.{AreGuarded, IsAskedBy, AreOwn, AllFrom, IsTable};
 
 use crate::above::{Above, AboveRow, above_at, combined, from_all};
 use crate::asks::{Guard, Guards, asks_classes};
-use crate::bounds::are_bounded;
 use crate::gathered::{are_told, gathered};
 use crate::own::{is_element, own_row, same_of_each, tell, top_units};
 use qvt_base::list_fault::ListFault;
@@ -60,8 +59,9 @@ fn is_asked_by(
     told: Above,
     classes: &[ClassNo],
 ) -> bool
-    ensures asks { result ≡ asks.is_asked_by metas.now units.now table.old.lists table.old.row table.old.guards told classes.now }
-    ensures table { table.new ≡ table_words.with_guards table.old (asks.guards_by metas.now units.now table.old.lists table.old.row table.old.guards told classes.now) }
+    requires { AreGuarded metas.now units.now table.old.lists table.old.guards }
+    ensures asks { IsTrue result → IsAskedBy metas.now units.now table.old.lists table.old.row told classes.now }
+    ensures table { AreAlike metas.now units.now table.old table.new }
 {
     match told {
         Above::Untold => false,
@@ -88,8 +88,9 @@ fn told_by(
     told: Above,
     supers: &[ClassNo],
 ) -> Above
-    ensures told { result ≡ asks.told_by metas.now units.now table.old.lists table.old.row table.old.guards told supers.now }
-    ensures table { table.new ≡ table_words.with_guards table.old (asks.guards_by metas.now units.now table.old.lists table.old.row table.old.guards told supers.now) }
+    requires { AreGuarded metas.now units.now table.old.lists table.old.guards }
+    ensures told { IsShort metas.now units.now table.old.lists table.old.row told supers.now result }
+    ensures table { AreAlike metas.now units.now table.old table.new }
 {
     if is_asked_by(metas, units, table, told, supers) {
         told
@@ -98,30 +99,16 @@ fn told_by(
     }
 }
 
-/// The guard of a list that was made for the class.
-fn first_guard(metas: &Metas, units: &[Signature], list: &[u32], class: ClassNo) -> Guard
-    ensures { result ≡ table_words.first_guard metas.now units.now list.now class }
-{
-    let class = if are_bounded(metas, units, list, class) {
-        Some(class)
-    } else {
-        None
-    };
-    Guard { unit: None, class }
-}
-
 /// The same by a list of all units that are told of, while there is room for lists.
 fn listed(
     alloc: Global,
-    making: &Making<'_>,
     room: &mut Room,
     table: &mut AboveTable,
-    class: ClassNo,
     told: Above,
+    supers: &[ClassNo],
 ) -> Result<Above, ListFault>
-    ensures { IfOk result (λ listed. table_words.IsListed making.now.metas.now making.now.units.now table.old table.new class told listed) }
+    ensures { IfOk result (λ listed. table_words.IsListed table.old table.new told supers.now listed) }
 {
-    let supers = supers_at(making.metas.class_infos(), class.0);
     if room.left == 0 || !are_told(table.row.as_slice(), told, supers) {
         return Ok(Above::Untold);
     }
@@ -137,26 +124,27 @@ fn listed(
         supers,
     )?;
     room.left = room.left.saturating_sub(list.len());
-    let guard = first_guard(making.metas, making.units, list.as_slice(), class);
     table.lists.push(list)?;
-    table.guards.push(guard)?;
+    table.guards.push(Guard {
+        unit: None,
+        class: None,
+    })?;
     Ok(Above::Listed(place))
 }
 
 /// What is told by little, or else by a list.
 fn or_listed(
     alloc: Global,
-    making: &Making<'_>,
     room: &mut Room,
     table: &mut AboveTable,
-    class: ClassNo,
     short: Above,
     told: Above,
+    supers: &[ClassNo],
 ) -> Result<Above, ListFault>
-    ensures { IfOk result (λ all. table_words.IsWhole making.now.metas.now making.now.units.now table.old table.new class short told all) }
+    ensures { IfOk result (λ all. table_words.IsWhole table.old table.new short told supers.now all) }
 {
     match short {
-        Above::Untold => listed(alloc, making, room, table, class, told),
+        Above::Untold => listed(alloc, room, table, told, supers),
         Above::Nothing => Ok(Above::Nothing),
         Above::Least(least) => Ok(Above::Least(least)),
         Above::Both(first, second) => Ok(Above::Both(first, second)),
@@ -194,7 +182,7 @@ fn tell_class(
     let base = base_of(making, class);
     let supers = supers_at(making.metas.class_infos(), class);
     let short = told_by(making.metas, making.units, table, base, supers);
-    let told = or_listed(alloc, making, room, table, ClassNo(class), short, base)?;
+    let told = or_listed(alloc, room, table, short, base, supers)?;
     tell(&mut table.row, class, told);
     Ok(())
 }

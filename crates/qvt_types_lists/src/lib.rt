@@ -1,4 +1,4 @@
-//! What is told of units by the units beside them: names that stand twice, overrides, and the lists of mappings.
+//! What is told of units by the units beside them: names that stand twice, and the lists of mappings.
 #![tactic(auto)]
 
 pub mod listed;

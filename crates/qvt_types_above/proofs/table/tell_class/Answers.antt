@@ -10,7 +10,7 @@ returns c =
     let has = c.or_listed.new.table in
     subst (λ row. IsTable making.metas.now making.units.now making.group.now (record { row = row; lists = has.lists; guards = has.guards })) (sym c.tell.ensures)
     (class_tells making.metas.now making.units.now making.group.now (λ t u. (c.same_means_equal.ensures t u).0) c.are_well_formed.ensures.regular.transitive c.ancestors_are_least.ensures
-    making.own.now making.top c.requires.own c.args.table.now has c.args.class c.told_by-short.result c.in_ok-told.told c.requires.table
-    c.told_by-short.new.table c.base_of-base.result c.supers_at-supers.result.now
+    making.own.now making.top c.requires.own c.args.table.now c.told_by-short.new.table has c.args.class c.told_by-short.result c.in_ok-told.told c.requires.table
+    c.told_by-short.ensures.table c.base_of-base.result c.supers_at-supers.result.now
     (c.supers_at-supers.ensures ∙ ap (λ ks. (slice_index_or ks c.args.class nowhere_class).supers) c.class_infos.ensures)
-    c.base_of-base.ensures c.told_by-short.ensures.told c.told_by-short.ensures.table c.in_ok-told.ensures)
+    c.base_of-base.ensures c.told_by-short.ensures.told c.in_ok-told.ensures)
