@@ -1,9 +1,3 @@
 pub mod Before
 pub mod SameUnits
-pub mod SameShapes
-pub mod Parted
-pub mod Uppers
 pub mod Told
-pub mod Covered
-pub mod AboveEach
-pub mod BadAbove

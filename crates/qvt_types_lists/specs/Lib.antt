@@ -3,10 +3,5 @@ pub use Rattle.qvt_types_groups.specs.Signatures
 pub use Rattle.qvt_types_groups.specs.Numbers
 pub use Rattle.qvt_types_groups.specs.Written
 pub use Rattle.qvt_types_groups.specs.Classes
-pub mod Shapes
 pub mod Same
 pub mod Lists
-pub mod Upper
-pub mod Odd
-pub mod Covers
-pub mod Above

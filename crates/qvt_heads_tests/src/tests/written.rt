@@ -12,7 +12,7 @@ use qvt_parser::parse::parse;
 use qvt_tree_types::module::{Module, Unit};
 use qvt_types_classes::classes::{Extended, is_typed, with_classes};
 use qvt_types_groups::unit_names::UnitNames;
-use qvt_types_lists::overrides::tell_overrides;
+use qvt_types_overrides::overrides::tell_overrides;
 use qvt_types_lists::same::{tell_main, tell_same};
 use qvt_types_lists::telling::{Listing, tell_lists};
 use qvt_types_paths::extents::extent;

@@ -1,0 +1,9 @@
+pub mod Shapes
+pub mod Covers
+pub mod Above
+pub mod Own
+pub mod Bounds
+pub mod Asks
+pub mod Gathered
+pub mod Tells
+pub mod Table

@@ -1,0 +1,5 @@
+pub mod Parted
+pub mod Uppers
+pub mod Overriding
+pub mod NextTable
+pub mod BadAbove

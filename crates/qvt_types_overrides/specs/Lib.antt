@@ -1,0 +1,4 @@
+pub mod Upper
+pub mod Odd
+pub mod Ranked
+pub mod Clashes
