@@ -2,7 +2,7 @@
 # Typing transformations of up to 262,144 bytes against parsing them. Prints the least time by the clock of parsing, from the
 # text at hand to the tree, and of typing, from the tree to the program; what typing a byte takes; how many times the parsing the
 # typing takes; and of the whole texts how many times the typing of a tenth it takes, where 10 is linear. Each text is accepted. The
-# last families are typed over 16,003 classes, the others over three.
+# last families are typed over 14,500 to 16,003 classes, a tenth of the text over 1,000 to 16,003, the others over three.
 # Wants the program of crates/qvt_speed, and makes it where it is missing.
 #   bench/typing.sh [RUNS [BYTES]]     of how many runs the least time is taken (15), and the size of the texts
 set -u
@@ -44,6 +44,7 @@ texts() { # name, front, piece, end
   local size
   tenth=0
   for size in $((most / 10)) "$most"; do
+    remade "$size"
     awk -v most="$size" -v front="$2" -v piece="$3" -v end="$4" 'BEGIN{
       room = most - length(front) - length(end)
       while (1) {
@@ -61,6 +62,7 @@ texts() { # name, front, piece, end
     tell "$1" "$tenth"
   done
 }
+remade() { :; } # makes another metamodel for a text of so many bytes
 repeat() { # text, times
   local all=""
   for _ in $(seq "$2"); do all+=$1; done
@@ -115,4 +117,24 @@ texts "queries of one name that answer each its class, of a chain" "$main" 'quer
 texts "queries of one name that answer each its class, side by side" "$main" 'query D#::q() : D# = self; ' ''
 texts "queries of one name with parameters, of a chain" "$main" 'query C#::q(a : Integer, b : String, c : Boolean, d : Set(Book)) : C# = self; ' ''
 texts "constructors" "$main" 'constructor D#::D#(p : Integer) { pages := p; } ' ''
+# queries of one name, each of a class that is below several with a query of that name, and has a class below it
+fronts() { # what stands before them: the queries of so many classes
+  front=$main
+  for i in $(seq 0 $(($1 - 1))); do front+="query S$i::q() : S$i = self; "; done
+}
+overriding() { # a metamodel: so many classes S with nothing above them, X below all of these, and so many classes M below the named ones, each with one below it
+  awk -v count="$1" -v supers="$2" -v most="$3" 'BEGIN{
+    printf "{\"classes\":["
+    for (i = 0; i < count; i++) { printf "{\"name\":\"S%d\"},", i; all = all (i ? "," : "") "\"S" i "\"" }
+    printf "{\"name\":\"X\",\"supers\":[%s]}", all
+    for (i = 0; i < most; i++) printf ",{\"name\":\"M%d\",\"supers\":[%s]},{\"name\":\"L%d\",\"supers\":[\"M%d\"]}", i, supers, i, i
+    printf "],\"name\":\"M\"}"
+  }' >m.json
+}
+fronts 3
+remade() { overriding 3 '"S0","S1","S2"' $((($1 - ${#front}) / 35)); }
+texts "queries of one name that answer each its class, each below three" "$front" 'query M#::q() : M# = self; ' ''
+fronts 500
+remade() { overriding 500 '"X"' $((($1 - ${#front}) / 35)); }
+texts "queries of one name that answer each its class, all below five hundred" "$front" 'query M#::q() : M# = self; ' ''
 exit "$status"

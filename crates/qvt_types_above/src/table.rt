@@ -21,6 +21,9 @@ use qvt_types_laws::laws::same_means_equal;
 use qvt_types_paths::metas::Metas;
 use std::alloc::Global;
 
+/// How many numbers the lists of a name may have, for each of its units. A class is not told of where there is no room for its list.
+const NUMBERS_EACH: usize = 128;
+
 /// What is told of each class by its number, the lists by which it is told, and their guards.
 pub struct AboveTable {
     pub row: AboveRow,
@@ -224,7 +227,7 @@ fn made(alloc: Global, making: &Making<'_>, order: &[u32]) -> Result<AboveTable,
 {
     let mut room = Room {
         seen: NumberSet::new(alloc),
-        left: making.group.len().saturating_mul(128),
+        left: making.group.len().saturating_mul(NUMBERS_EACH),
     };
     let mut table = untold(alloc, making.metas.class_count())?;
     tell_along(alloc, making, &mut room, &mut table, order)?;
