@@ -58,6 +58,9 @@ enum Expr {
     Collect(Box<Expr>, Box<Expr>),
     Select(Box<Expr>, Box<Expr>),
     ForAll(Box<Expr>, Box<Expr>),
+    Exists(Box<Expr>, Box<Expr>),
+    Any(Box<Expr>, Box<Expr>),
+    One(Box<Expr>, Box<Expr>),
     Iterate(Box<Expr>, Box<Expr>),
     Sum(Box<Expr>),
     Size(Box<Expr>),
@@ -180,6 +183,37 @@ impl Run {
                 }
                 Ok(Value::Bool(true))
             }
+            Exists(source, body) => {
+                let source = items(self.value(source)?);
+                self.spend()?;
+                for item in source {
+                    if self.under(item, body)? == Value::Bool(true) {
+                        return Ok(Value::Bool(true));
+                    }
+                }
+                Ok(Value::Bool(false))
+            }
+            Any(source, body) => {
+                let source = items(self.value(source)?);
+                self.spend()?;
+                for item in source {
+                    if self.under(item.clone(), body)? == Value::Bool(true) {
+                        return Ok(item);
+                    }
+                }
+                Ok(Value::Null)
+            }
+            One(source, body) => {
+                let source = items(self.value(source)?);
+                self.spend()?;
+                let mut found = 0;
+                for item in source {
+                    if self.under(item, body)? == Value::Bool(true) {
+                        found += 1;
+                    }
+                }
+                Ok(Value::Bool(found == 1))
+            }
             Iterate(source, body) => {
                 let source = items(self.value(source)?);
                 self.spend()?;
@@ -262,6 +296,9 @@ fn main() {
         )))),
         "iterate" => Some(Iterate(range(), boxed(Plus(boxed(Name(1)), twice(0))))),
         "forAll" => Some(ForAll(range(), boxed(Greater(twice(0), boxed(Int(1)))))),
+        "exists" => Some(Exists(range(), boxed(Less(twice(0), boxed(Int(1)))))),
+        "any" => Some(Any(range(), boxed(Less(twice(0), boxed(Int(1)))))),
+        "one" => Some(One(range(), boxed(Less(twice(0), boxed(Int(3)))))),
         "while" => Some(While(
             boxed(Less(boxed(Name(0)), boxed(Int(count)))),
             boxed(Plus(boxed(Name(0)), boxed(Int(1)))),
