@@ -1,5 +1,5 @@
 -- Values that are no collections are flat already.
-use Rattle.std.proofs.Common.{◌≡◌, ◌∙◌, refl, sym, ap, Bool, true, false, not, ◌&&◌, List, [], ◌∷◌, ◌++◌}
+use Rattle.std.proofs.Common.{◌≡◌, ◌∙◌, refl, sym, ap, true, List, [], ◌∷◌, ◌++◌}
 use Rattle.std.specs.List.{list_all}
 use Rattle.qvt_relation.proofs.Bools.{and_left, and_right}
 use Rattle.qvt_value.specs.declared.value.Value.{Value, Coll'}

@@ -1,5 +1,5 @@
 -- False after false in `exists`, and true after true in `forAll`, change nothing.
-use Rattle.std.proofs.Common.{◌≡◌, refl, Bool, true, false, List}
+use Rattle.std.proofs.Common.{◌≡◌, refl, true, false, List}
 use Rattle.qvt_base.specs.declared.numbers.Place.{Place}
 use Rattle.qvt_value.specs.declared.value.Value.{Value, Bool as Truth}
 use Rattle.qvt_run_data.specs.declared.late.LateWrite.{LateWrite}

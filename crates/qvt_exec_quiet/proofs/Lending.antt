@@ -27,7 +27,7 @@ use Rattle.qvt_meaning.specs.Readings as by
 use Rattle.qvt_meaning.specs.Readings.{Setting, HeadDoes}
 use Rattle.qvt_meaning.specs.StepTypes.{step_type, kind_before}
 use Rattle.qvt_exec_quiet.specs.Leaves.{IsQuiet, are_quiet}
-use Rattle.qvt_exec_quiet.specs.Lent.{SourceTerm, OfVariable, OfImplicit, OfSlot, LentTerm, steps_before, source_in, source_named, slot_in, slot_named, lent_slot, lent_by, lent_first, lent_with, lent_from, type_before, kind_for, reading_of, there, given_of, with_done, or_first, along_rest, charged, args_of, lent_operation, begun_of, LentFirst}
+use Rattle.qvt_exec_quiet.specs.Lent.{SourceTerm, OfVariable, OfImplicit, OfSlot, LentTerm, steps_before, source_in, source_named, slot_in, slot_named, lent_slot, lent_by, lent_first, lent_with, lent_from, type_before, kind_for, reading_of, there, given_of, with_done, or_first, along_rest, charged, lent_operation, begun_of, LentFirst}
 use Rattle.qvt_exec_quiet.specs.Operations.{unless_iterator, operation_alone}
 use Rattle.qvt_exec_quiet.proofs.Leaving.{follows, quiet_leave}
 
