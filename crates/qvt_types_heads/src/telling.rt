@@ -11,9 +11,9 @@ use qvt_base::list_fault::ListFault;
 use qvt_tree_types::module::{Module, Unit};
 use qvt_types_context::context::Heads;
 use qvt_types_context::telling::{Heads as UnitHeads, tell_head};
-use qvt_types_overrides::overrides::tell_overrides;
 use qvt_types_lists::same::{tell_main, tell_same};
 use qvt_types_lists::telling::{Listing, tell_lists};
+use qvt_types_overrides::overrides::tell_overrides;
 use qvt_types_paths::told::RefusalList;
 use std::alloc::Global;
 
