@@ -19,7 +19,7 @@ use Rattle.qvt_run_rules.specs.Expressions as rule
 use Rattle.qvt_run_rules.specs.State.{State, Done, Does, on_outcome, ◌>>=◌, pure, found}
 use Rattle.qvt_meaning.specs.Readings as by
 use Rattle.qvt_exec_steps.specs.Means.{Scene, expr_of, links_of, setting_of}
-use Rattle.qvt_exec_exprs.specs.Numbers.{counted, number_in, of_numbers, Costs, IsGiven, IsNumber}
+use Rattle.qvt_exec_exprs.specs.Numbers.{counted, number_in, of_numbers, Costs, IsGiven, IsCountedNumber}
 use Rattle.qvt_exec_exprs.specs.declared.numbers.Counted.{Counted}
 use Rattle.qvt_exec_exprs.proofs.Chains.{of_link}
 use Rattle.qvt_exec_exprs.proofs.Integers.{of_both}
@@ -109,18 +109,18 @@ counted_is (Some n) c h =
     (ap (λ (d : Counted). Some d.number) is, ap (λ (d : Counted). d.units) is)
 counted_is None c h = absurd (cc)
 
-pub number_alone : (node : TypedExpr) (vs : List Local) (c : Counted) → Some c ≡ counted (number_in (typed_expr_view node) vs) → IsNumber node vs c
+pub number_alone : (node : TypedExpr) (vs : List Local) (c : Counted) → Some c ≡ counted (number_in (typed_expr_view node) vs) → IsCountedNumber node vs c
 number_alone node vs c h x s t same pays =
     let is : (Some c.number ≡ number_in (typed_expr_view node) vs) × (c.units ≡ 1) = counted_is (number_in (typed_expr_view node) vs) c h in
     number_costs x node c.number vs is.0 s t same (ap (λ k. spend_of x.0.limit k s) (sym is.1) ∙ pays)
 
-pub given_by_one : (first : TypedExpr) (rest : List TypedLink) (node : TypedLink) (vs : List Local) (l r : Counted) (d : Value × ℕ) → rest ≡ node ∷ [] → IsNumber first vs l → IsNumber node.operand vs r →
+pub given_by_one : (first : TypedExpr) (rest : List TypedLink) (node : TypedLink) (vs : List Local) (l r : Counted) (d : Value × ℕ) → rest ≡ node ∷ [] → IsCountedNumber first vs l → IsCountedNumber node.operand vs r →
     of_numbers (rulings.operation_of node.op) node.place l.number r.number ≡ Some d.0 → d.1 ≡ l.units + r.units + 1 → IsGiven first rest vs d
 given_by_one first rest node vs l r d one left right is units x s t same pays =
     ap (λ (ls : List TypedLink). rule.on_first (expr_of x first) (links_of x ls) s) one
     ∙ chain_costs x first node vs l.number r.number l.units r.units d.0 (left x) (right x) is s t same (ap (λ k. spend_of x.0.limit k s) (sym units) ∙ pays)
 
 pub number_of_chain : (node first : TypedExpr) (rest : List TypedLink) (vs : List Local) (d : Value × ℕ) (c : Counted) → ((x : Scene) → expr_of x node ≡ rule.on_first (expr_of x first) (links_of x rest)) → IsGiven first rest vs d →
-    d.0 ≡ Int c.number → c.units ≡ d.1 → IsNumber node vs c
+    d.0 ≡ Int c.number → c.units ≡ d.1 → IsCountedNumber node vs c
 number_of_chain node first rest vs d c is given number units x s t same pays =
     ap (λ (p : Does LateWrite Value). p s) (is x) ∙ given x s t same (ap (λ k. spend_of x.0.limit k s) (sym units) ∙ pays) ∙ ap (λ (v : Value). (Ok v, t)) number

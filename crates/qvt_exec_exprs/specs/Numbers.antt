@@ -49,13 +49,13 @@ abbrev pub Costs : Option ℕ → Does LateWrite Value → List Local → Value 
 Costs limit p vs v n = (s t : State LateWrite) → s.locals ≡ vs → spend_of limit n s ≡ (Ok tt, t) → p s ≡ (Ok v, t)
 
 -- whatever stands behind calls, the phrase is the number
-abbrev pub IsNumber : TypedExpr → List Local → Counted → Type 0
-IsNumber e vs c = (x : Scene) → Costs x.0.limit (expr_of x e) vs (Int c.number) c.units
+abbrev pub IsCountedNumber : TypedExpr → List Local → Counted → Type 0
+IsCountedNumber e vs c = (x : Scene) → Costs x.0.limit (expr_of x e) vs (Int c.number) c.units
 
 -- and the chain gives the value for so many units
 abbrev pub IsGiven : TypedExpr → List TypedLink → List Local → Value × ℕ → Type 0
 IsGiven first rest vs d = (x : Scene) → Costs x.0.limit (rule.on_first (expr_of x first) (links_of x rest)) vs d.0 d.1
 
 -- the chain gives the value, and leaves this state
-abbrev pub Gives : Engine → TypedExpr → List TypedLink → Value → State LateWrite → State LateWrite → Type 0
-Gives x first rest v s t = (u : Units) → rule.on_first (expr_of (x, u) first) (links_of (x, u) rest) s ≡ (Ok v, t)
+abbrev pub ChainGives : Engine → TypedExpr → List TypedLink → Value → State LateWrite → State LateWrite → Type 0
+ChainGives x first rest v s t = (u : Units) → rule.on_first (expr_of (x, u) first) (links_of (x, u) rest) s ≡ (Ok v, t)

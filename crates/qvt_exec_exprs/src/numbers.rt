@@ -6,7 +6,7 @@ ghost use Rattle.qvt_types_steps.specs.Rulings as rulings;
 ghost use Rattle.qvt_run_rules.specs.Cost.{spend_of};
 ghost use Rattle.qvt_run_rules.specs.Locals.{local_named, value_in};
 ghost use Rattle.qvt_exec_state.specs.Runs.{seen};
-ghost use Rattle.qvt_exec_exprs.specs.Numbers.{counted, integer_in, number_in, of_numbers, Gives, IsGiven, IsNumber};
+ghost use Rattle.qvt_exec_exprs.specs.Numbers.{counted, integer_in, number_in, of_numbers, ChainGives, IsGiven, IsCountedNumber};
 ghost use Rattle.qvt_value.specs.declared.value.Value.TheVariants.{Int};
 
 use qvt_base::numbers::Place;
@@ -129,7 +129,7 @@ fn operated(
 #[inline(always)]
 #[cycle(numbers)]
 fn number(depth: u32, node: &TypedExpr, state: &RunState<'_>) -> Option<Counted>
-    ensures { IfSome result (IsNumber node.now state.now.locals) }
+    ensures { IfSome result (IsCountedNumber node.now state.now.locals) }
 {
     if let Some(number) = alone(node, state) {
         return Some(number);
@@ -170,7 +170,7 @@ pub fn in_numbers(
     rest: &[TypedLink],
     state: &mut RunState<'_>,
 ) -> Option<Value>
-    ensures { MatchOption result (seen state.new ≡ seen state.old) (λ value. Gives x.now first.now rest.now value (seen state.old) (seen state.new)) }
+    ensures { MatchOption result (seen state.new ≡ seen state.old) (λ value. ChainGives x.now first.now rest.now value (seen state.old) (seen state.new)) }
 {
     let (value, units) = operated(NESTED, first, rest, state)?;
     if charged(x.limit, units, state) {

@@ -17,7 +17,7 @@ use Rattle.qvt_types_groups.specs.Overrides.{params_differ, is_wider, are_unlike
 use Rattle.qvt_types_groups.proofs.Lowest.{Transitive}
 use Rattle.qvt_types_above.specs.Shapes.{same_sort, same_types}
 use Rattle.qvt_types_above.specs.Covers.{knows, know_all, covers, covers_at}
-use Rattle.qvt_types_above.specs.Bounds.{is_below, answers_below, is_above, answers_above, is_like, is_like_at, are_bounded, asks_bounded}
+use Rattle.qvt_types_above.specs.Bounds.{is_class_below, answers_below, is_class_above, answers_above, is_like, is_like_at, are_bounded, asks_bounded}
 use Rattle.qvt_types_above.specs.Tells.{Asks, SomeAsks}
 use Rattle.qvt_types_above.proofs.SameShapes.{Law, types_are, unlike_is}
 use Rattle.qvt_types_above.proofs.Covered.{is_not, neither}
@@ -33,7 +33,7 @@ sorts (sort.Mapping n) (sort.Mapping k) (sort.Mapping j) e f = refl
 sorts s r q e f = cc
 
 -- objects of a class below one conform to those of a class above it
-between : (m : Metamodels) → Transitive m → (T U : TyTerm) (e : ℕ) → is_below m T e ≡ true → is_above m U e ≡ true → types.conforms (descends m) T U ≡ true
+between : (m : Metamodels) → Transitive m → (T U : TyTerm) (e : ℕ) → is_class_below m T e ≡ true → is_class_above m U e ≡ true → types.conforms (descends m) T U ≡ true
 between m t (Class c) (Class d) e p q = t c e d p q
 between m t T U e p q = cc
 

@@ -11,22 +11,22 @@ use Rattle.qvt_types_above.specs.Covers.{covers_at}
 use Rattle.qvt_types_above.specs.Shapes.{same_sort, same_types}
 
 -- objects of the class or of one below it
-abbrev pub is_below : Metamodels → TyTerm → ℕ → Bool
-is_below m (Class c) e = descends m c e
-is_below m T e = false
+abbrev pub is_class_below : Metamodels → TyTerm → ℕ → Bool
+is_class_below m (Class c) e = descends m c e
+is_class_below m T e = false
 
 abbrev pub answers_below : Metamodels → Option Ty → ℕ → Bool
 answers_below m None e = false
-answers_below m (Some T) e = is_below m (ty_view T) e
+answers_below m (Some T) e = is_class_below m (ty_view T) e
 
 -- of the class or of one above it
-abbrev pub is_above : Metamodels → TyTerm → ℕ → Bool
-is_above m (Class c) e = descends m e c
-is_above m T e = false
+abbrev pub is_class_above : Metamodels → TyTerm → ℕ → Bool
+is_class_above m (Class c) e = descends m e c
+is_class_above m T e = false
 
 abbrev pub answers_above : Metamodels → Option Ty → ℕ → Bool
 answers_above m None e = false
-answers_above m (Some T) e = is_above m (ty_view T) e
+answers_above m (Some T) e = is_class_above m (ty_view T) e
 
 -- the second unit takes what the first does, and answers objects of the class or of one above it
 abbrev pub is_like : Metamodels → Signature → Signature → ℕ → Bool
