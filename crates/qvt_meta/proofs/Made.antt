@@ -51,9 +51,6 @@ pub lists_numbered : (d : MetaData) (n : Numbers) (lists : List (List FeatureNo)
 lists_numbered d n lists rows ranks ok tables c =
     (tables_same (M d) lists rows ranks (subst (λ ks. AreTables (of_classes ks) lists rows ranks) ok.classes tables)).features c ∙ ap (λ m. features_of m c) (sym (is_numbered d))
 
-pub lists_total : (d : MetaData) (n : Numbers) (lists : List (List FeatureNo)) (rows : List Row) (ranks : List ℕ) → AreNumbers d n → AreTables (of_classes n.classes.items) lists rows ranks → length lists ≡ length d.classes
-lists_total d n lists rows ranks ok tables = tables.each ∙ ap length ok.classes ∙ length-class_infos first_begin (names_of d.classes) 0 d.classes
-
 pub live_same : (d : MetaData) (n : Numbers) (c : ℕ) (fs : List FeatureInfo) (gs : List FeatureNo) → AreNumbers d n → fs ≡ n.features.items → gs ≡ features_of (numbered d) c
     → (f : ℕ) → among_features f gs ≡ true → f < length fs
 live_same d n c fs gs ok e is f h =

@@ -6,6 +6,7 @@ ghost use Rattle.qvt_metamodel.specs.Checks.{same_name, unknown_type, inheritanc
 ghost use Rattle.qvt_metamodel.specs.MetaData.{class_names};
 ghost use Rattle.qvt_meta.specs.MetaOf.{features_checked, classes_checked, types_checked, checked, meta_of};
 ghost use Rattle.qvt_meta.specs.Numbers.{AreNumbers};
+ghost use Rattle.qvt_meta_lists.specs.Lists.{all_lists};
 ghost use Rattle.qvt_meta_tables.specs.Tables.{of_classes, AreTables};
 ghost use Rattle.qvt_meta_tables.specs.Search.{IsAcyclic};
 
@@ -24,11 +25,10 @@ use qvt_meta_checks::texts::have_texts;
 use qvt_meta_read::forms::MetaForm;
 use qvt_meta_read::reading::meta_data;
 use qvt_meta_tables::cycle::first_cycle;
-use qvt_meta_tables::tables::tables_of;
+use qvt_meta_tables::tables::{Tables, tables_of};
 use qvt_metamodel::declared::{DeclaredClass, MetaData};
 use qvt_metamodel::fault::MetaFault;
 use qvt_metamodel::info::ClassInfo;
-use qvt_metamodel::tables::Tables;
 pub use qvt_metas::meta::Meta;
 use qvt_metas::numbered::Numbered;
 use std::alloc::Global;
@@ -38,7 +38,7 @@ fn made(meta: MetaData, numbers: Numbers, tables: Tables) -> Meta
     requires passes { Passes meta }
     requires named { meta.name ≢ [] }
     requires numbers { AreNumbers meta numbers }
-    requires tables { AreTables (of_classes numbers.classes.items) tables.lists.items tables.rows.items tables.ranks.items }
+    requires tables { AreTables (of_classes numbers.classes.items) (all_lists tables.lists) tables.rows.items tables.ranks.items }
     ensures { result ≡ meta }
 {
     have_texts(&meta);
@@ -95,7 +95,7 @@ fn features_checked(
     requires unknown_type { unknown_type meta ≡ None }
     requires cycle { inheritance_cycle meta ≡ None }
     requires numbers { AreNumbers meta numbers }
-    requires tables { AreTables (of_classes numbers.classes.items) tables.lists.items tables.rows.items tables.ranks.items }
+    requires tables { AreTables (of_classes numbers.classes.items) (all_lists tables.lists) tables.rows.items tables.ranks.items }
     ensures { Gives MetaFault.NoMemory (λ read. read) result (features_checked meta) }
 {
     if let Some((class, feature)) = bad_bounds(alloc, &meta)? {

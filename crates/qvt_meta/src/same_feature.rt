@@ -4,15 +4,16 @@ ghost use Rattle.std.specs.Prelude.{◌≡◌, ◌<◌, ◌^◌, ℕ, [], map, l
 ghost use Rattle.qvt_json.specs.Repeated.{repeated};
 ghost use Rattle.qvt_metamodel.specs.Metamodels.{among_features, nowhere_feature, features_of};
 ghost use Rattle.qvt_metamodel.specs.Added.{numbered};
+ghost use Rattle.qvt_meta_lists.specs.Lists.{all_lists};
 ghost use Rattle.qvt_meta.specs.Numbers.{AreNumbers, StandForNames, names_rise_from};
 ghost use Rattle.qvt_metamodel.specs.Checks.{repeated_feature, same_feature};
 
 use crate::adding::Numbers;
 use qvt_base::copied::Copied;
 use qvt_base::list_fault::ListFault;
-use qvt_base::lists::FeatureNoList;
 use qvt_base::numbers::FeatureNo;
 use qvt_base::text::Text;
+use qvt_meta_lists::lists::FeatureLists;
 use qvt_meta_names::feature_tables::{feature_table, name_numbers};
 use qvt_meta_tables::number_set::NumberSet;
 use qvt_metamodel::declared::MetaData;
@@ -79,24 +80,17 @@ fn repeated_feature(
     numbers: &Numbers,
     name_numbers: &[u32],
     taken: &mut NumberSet,
-    lists: &Vec<FeatureNoList>,
+    lists: &FeatureLists,
     class: usize,
 ) -> Result<Option<Text>, ListFault>
     requires numbers { AreNumbers meta.now numbers.now }
     requires names { StandForNames numbers.now.features.items name_numbers.now }
-    requires class { class < length lists.now.items }
-    requires lists { (c : ℕ) → slice_index_or lists.now.items c [] ≡ features_of (numbered meta.now) c }
+    requires lists { (c : ℕ) → slice_index_or (all_lists lists.now) c [] ≡ features_of (numbered meta.now) c }
     ensures { IfOk result (λ o. o ≡ repeated_feature (numbered meta.now) class) }
 {
     let _classes = &meta.classes;
     let features = numbers.features.as_slice();
-    repeated_name(
-        alloc,
-        features,
-        name_numbers,
-        taken,
-        lists[class].as_slice(),
-    )
+    repeated_name(alloc, features, name_numbers, taken, lists.at(class))
 }
 
 /// The class and the name that SameFeature tells.
@@ -105,11 +99,10 @@ pub fn same_feature(
     alloc: Global,
     meta: &MetaData,
     numbers: &Numbers,
-    lists: &Vec<FeatureNoList>,
+    lists: &FeatureLists,
 ) -> Result<Option<(Text, Text)>, ListFault>
     requires numbers { AreNumbers meta.now numbers.now }
-    requires each { length lists.now.items ≡ length meta.now.classes }
-    requires lists { (c : ℕ) → slice_index_or lists.now.items c [] ≡ features_of (numbered meta.now) c }
+    requires lists { (c : ℕ) → slice_index_or (all_lists lists.now) c [] ≡ features_of (numbered meta.now) c }
     ensures { IfOk result (λ o. o ≡ same_feature meta.now) }
 {
     let name_numbers = numbers_of_names(alloc, numbers.features.as_slice())?;

@@ -65,8 +65,13 @@ fn are_sound(alloc: Global, metas: &Metas, classes: &[ClassData]) -> Result<bool
     }
     let features = all_features(alloc, metas, classes)?;
     let tables = tables_of(alloc, infos.as_slice(), count)?;
-    let (_, given) = tables.lists.as_slice().split_at(before + 1);
-    let differ = all_differ(alloc, features.as_slice(), given)?;
+    let differ = all_differ(
+        alloc,
+        features.as_slice(),
+        &tables.lists,
+        before + 1,
+        infos.len(),
+    )?;
     Ok(differ)
 }
 

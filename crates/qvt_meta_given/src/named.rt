@@ -1,17 +1,19 @@
 //! Whether the features of classes have different names.
 
-ghost use Rattle.std.specs.Prelude.{◌≡◌, map, IfOk};
+ghost use Rattle.std.specs.Prelude.{◌≡◌, ◌≤◌, drop, length, map, IfOk};
 ghost use Rattle.std.specs.List.{list_all};
+ghost use Rattle.qvt_meta_lists.specs.Lists.{all_lists};
 ghost use Rattle.qvt_meta_given.specs.Given.{name_in, differ};
 
 use qvt_base::copied::Copied;
 use qvt_base::list_fault::ListFault;
-use qvt_base::lists::{FeatureNoList, NameList};
+use qvt_base::lists::NameList;
 use qvt_base::numbers::FeatureNo;
 use qvt_base::seq::Seq;
 use qvt_base::text::Text;
 use qvt_meta_checks::name_set::NameSet;
 use qvt_meta_checks::names::repeated;
+use qvt_meta_lists::lists::FeatureLists;
 use qvt_metamodel::info::FeatureInfo;
 use std::alloc::Global;
 
@@ -50,16 +52,20 @@ fn differ(alloc: Global, features: &[FeatureInfo], list: &[FeatureNo]) -> Result
     Ok(twice.is_none())
 }
 
-/// Whether in none of the lists two features have one name.
+/// Whether in none of the lists from the first on two features have one name.
 pub fn all_differ(
     alloc: Global,
     features: &[FeatureInfo],
-    lists: &[FeatureNoList],
+    lists: &FeatureLists,
+    first: usize,
+    count: usize,
 ) -> Result<bool, ListFault>
-    ensures { IfOk result (λ b. b ≡ list_all (differ features.now) lists.now) }
+    requires first { first ≤ count }
+    requires count { length (all_lists lists.now) ≡ count }
+    ensures { IfOk result (λ b. b ≡ list_all (differ features.now) (drop first (all_lists lists.now))) }
 {
-    for list in lists {
-        if !differ(alloc, features, list.as_slice())? {
+    for class in first..count {
+        if !differ(alloc, features, lists.at(class))? {
             return Ok(false);
         }
     }

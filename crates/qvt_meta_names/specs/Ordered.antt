@@ -1,5 +1,5 @@
 -- The places of features in a list, in the order of the numbers of their names.
-use Rattle.std.specs.Prelude.{◌≡◌, ℕ, ◌<◌, ◌≤◌, ◌⊎◌, List, Option, Some, None, length, slice_index, slice_index_or}
+use Rattle.std.specs.Prelude.{◌≡◌, ℕ, ◌<◌, ◌≤◌, ◌⊎◌, List, [], Option, Some, None, length, slice_index, slice_index_or}
 use Rattle.std.specs.List.{Contains}
 use Rattle.qvt_base.specs.declared.numbers.FeatureNo.{FeatureNo}
 use Rattle.qvt_meta_names.specs.Named.{number_at}
@@ -30,3 +30,8 @@ pub record AreInOrder (numbers : List ℕ) (list : List FeatureNo) (places : Lis
 abbrev pub IsOrdered : List ℕ → List FeatureNo → Option (List ℕ) → Type 0
 IsOrdered numbers list None = IsRising numbers list
 IsOrdered numbers list (Some places) = AreInOrder numbers list places
+
+-- each list has an order in which it is searched
+pub record ArePlaced (numbers : List ℕ) (lists : List (List FeatureNo)) (orders : List (Option (List ℕ))) : Type 0 where
+  pub each : length orders ≡ length lists
+  pub at : (l : ℕ) → l < length lists → IsOrdered numbers (slice_index_or lists l []) (slice_index_or orders l None)

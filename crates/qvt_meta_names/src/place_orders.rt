@@ -1,12 +1,14 @@
-ghost use Rattle.std.specs.Prelude.{◌≡◌, ◌<◌, ◌↔◌, ◌==◌, ℕ, None, length, position, slice_index_or, [], IfOk, IsTrue};
+ghost use Rattle.std.specs.Prelude.{◌≡◌, ◌↔◌, ◌==◌, length, position, slice_index_or, [], IfOk, IsTrue};
 ghost use Rattle.std.specs.List.{range_with_len};
 ghost use Rattle.qvt_meta_names.specs.Named.{number_at};
-ghost use Rattle.qvt_meta_names.specs.Ordered.{key_at, IsRising, AreInOrder, IsOrdered};
+ghost use Rattle.qvt_meta_lists.specs.Lists.{all_lists};
+ghost use Rattle.qvt_meta_names.specs.Ordered.{key_at, IsRising, AreInOrder, IsOrdered, ArePlaced};
 
 use qvt_base::list_fault::ListFault;
 use qvt_base::lists::FeatureNoList;
 use qvt_base::numbers::FeatureNo;
 use qvt_base::seq::Seq;
+use qvt_meta_lists::lists::FeatureLists;
 use std::alloc::Global;
 
 /// The order in which a list of features is searched by the numbers of their names: None is the
@@ -96,12 +98,11 @@ pub fn place_orders(
     numbers: &[u32],
     lists: &[FeatureNoList],
 ) -> Result<Vec<PlaceOrder>, ListFault>
-    ensures each { IfOk result (λ v. length v.items ≡ length lists.now) }
-    ensures ordered { IfOk result (λ v. (c : ℕ) → c < length lists.now → IsOrdered numbers.now (slice_index_or lists.now c []) (slice_index_or v.items c None)) }
+    ensures { IfOk result (λ v. ArePlaced numbers.now lists.now v.items) }
 {
     let mut orders = Seq::new(alloc);
-    for class in 0..lists.len() {
-        orders.push(place_order(alloc, numbers, lists[class].as_slice())?)?;
+    for at in 0..lists.len() {
+        orders.push(place_order(alloc, numbers, lists[at].as_slice())?)?;
     }
     Ok(orders.into_vec())
 }
@@ -136,7 +137,7 @@ fn place_among(
 }
 
 /// The place of the first feature whose name has this number.
-pub fn place_named(
+fn place_named(
     numbers: &[u32],
     features: &[FeatureNo],
     order: &PlaceOrder,
@@ -148,5 +149,33 @@ pub fn place_named(
     match order {
         None => place_in_list(numbers, features, number),
         Some(places) => place_among(numbers, features, places.as_slice(), number),
+    }
+}
+
+/// The place of the first feature of a class whose name has this number. The first such place of
+/// the line is the class's own where the class has as many of the line.
+pub fn place_in(
+    numbers: &[u32],
+    lists: &FeatureLists,
+    orders: &[PlaceOrder],
+    class: usize,
+    number: u32,
+) -> Option<usize>
+    requires { ArePlaced numbers.now lists.now.lines orders.now }
+    ensures { result ≡ position (λ f. number == number_at numbers.now f) (slice_index_or (all_lists lists.now) class []) }
+{
+    let Some(front) = lists.front(class) else {
+        return None;
+    };
+    let line = lists.lines()[front.line].as_slice();
+    match place_named(numbers, line, &orders[front.line], number) {
+        None => None,
+        Some(place) => {
+            if place < front.count {
+                Some(place)
+            } else {
+                None
+            }
+        }
     }
 }

@@ -1,5 +1,5 @@
 -- The tables of a list of classes, and an order in which they are made.
-use Rattle.std.specs.Prelude.{◌≡◌, ℕ, ◌<◌, ◌≤◌, nat_lt, nat_le, ◌+◌, ◌/◌, ◌%◌, ◌^◌, ◌==◌, Bool, true, ◌&&◌, if◌then◌else◌, List, [], ◌∷◌, length, slice_index, slice_index_or, None, IsTrue}
+use Rattle.std.specs.Prelude.{◌≡◌, ℕ, ◌<◌, ◌≤◌, nat_lt, ◌+◌, ◌/◌, ◌%◌, ◌^◌, ◌==◌, if◌then◌else◌, List, [], length, slice_index, slice_index_or, None, IsTrue}
 use Rattle.std.specs.List.{list_all}
 use Rattle.qvt_base.specs.declared.numbers.FeatureNo.{FeatureNo}
 use Rattle.qvt_metamodel.specs.declared.row.Row.{Row}
@@ -7,15 +7,6 @@ use Rattle.qvt_metamodel.specs.declared.info.ClassInfo.{ClassInfo}
 use Rattle.qvt_metamodel.specs.Metamodels.{Metamodels, class_at, features_of}
 use Rattle.qvt_metamodel.specs.Descends.{reaches}
 use Rattle.qvt_metamodel.specs.Kept.{AreRanks, no_row, is_marked}
-
--- each number is at least this one, and greater than those before it
-abbrev pub rises_from : ℕ → List FeatureNo → Bool
-rises_from least [] = true
-rises_from least (g ∷ gs) = nat_le least g.0 && rises_from (g.0 + 1) gs
-
--- each number is greater than those before it
-abbrev pub is_rising : List FeatureNo → Bool
-is_rising gs = rises_from 0 gs
 
 -- these classes and nothing else
 abbrev pub of_classes : List ClassInfo → Metamodels

@@ -1,10 +1,12 @@
 //! The tables of classes: for each its features in order, and which classes are above it.
 
-ghost use Rattle.std.specs.Prelude.{◌≡◌, ◌++◌, ◌∷◌, ℕ, [], length, IfOk, OnOk, slice_index_or, slice_set, replicate};
+ghost use Rattle.std.specs.Prelude.{◌≡◌, ◌++◌, ◌∷◌, ℕ, [], length, IfOk, IsTrue, OnOk, slice_index_or, slice_set};
 ghost use Rattle.std.specs.List.{flat_map};
 ghost use Rattle.qvt_metamodel.specs.Metamodels.{among_features, each_once, features_of, nowhere_class};
 ghost use Rattle.qvt_meta_tables.specs.NumberSets.{has_number};
-ghost use Rattle.qvt_meta_tables.specs.Tables.{of_classes, is_rising, IsOrder, AreTables};
+ghost use Rattle.qvt_meta_lists.specs.Lists.{all_lists};
+ghost use Rattle.qvt_meta_tables.specs.Placed.{IsOnce, AreNew};
+ghost use Rattle.qvt_meta_tables.specs.Tables.{of_classes, IsOrder, AreTables};
 ghost use Rattle.qvt_meta_tables.specs.Search.{AreLive, IsAcyclic};
 
 use crate::number_set::NumberSet;
@@ -14,10 +16,26 @@ use qvt_base::list_fault::ListFault;
 use qvt_base::lists::FeatureNoList;
 use qvt_base::numbers::{ClassNo, FeatureNo};
 use qvt_base::seq::Seq;
+use qvt_meta_lists::lists::FeatureLists;
 use qvt_metamodel::info::ClassInfo;
 use qvt_metamodel::row::Row;
-use qvt_metamodel::tables::Tables;
 use std::alloc::Global;
+
+/// For each class its features in order, and which classes are above it; and ranks of the classes
+/// that lie above those of their superclasses.
+#[derive(Drop)]
+pub struct Tables {
+    pub lists: FeatureLists,
+    pub rows: Vec<Row>,
+    pub ranks: Vec<u32>,
+}
+
+/// The features that stand in lists, and whether no list has a feature twice.
+#[derive(Drop)]
+pub struct Placed {
+    pub features: NumberSet,
+    pub once: bool,
+}
 
 /// Puts a feature last that is not there.
 fn add_one(
@@ -52,98 +70,68 @@ fn add_new(
     Ok(())
 }
 
-/// The list of a class, empty where there is none.
-fn list_at(lists: &Vec<FeatureNoList>, class: ClassNo) -> &[FeatureNo]
-    ensures { result.now ≡ slice_index_or lists.now.items class.0 [] }
-{
-    let at = class.0 as usize;
-    if at < lists.len() {
-        lists[at].as_slice()
-    } else {
-        &[]
-    }
-}
-
-/// Whether each number is greater than the one before, so that no feature is there twice.
-fn is_rising(list: &[FeatureNo]) -> bool
-    ensures { result ≡ is_rising list.now }
-{
-    let mut least: u64 = 0;
-    for feature in list {
-        let number = u64::from(feature.0);
-        if number < least {
-            return false;
-        }
-        least = number + 1;
-    }
-    true
-}
-
 /// The features of these classes, each once, whatever the set held before.
 fn joined(
     alloc: Global,
     seen: &mut NumberSet,
-    lists: &Vec<FeatureNoList>,
+    lists: &FeatureLists,
     supers: &[ClassNo],
 ) -> Result<FeatureNoList, ListFault>
-    ensures { IfOk result (λ s. s ≡ each_once [] (flat_map (λ s. slice_index_or lists.now.items s.0 []) supers.now)) }
+    ensures { IfOk result (λ s. s ≡ each_once [] (flat_map (λ s. slice_index_or (all_lists lists.now) s.0 []) supers.now)) }
 {
     seen.clear();
     let mut list = Seq::new(alloc);
     for superclass in supers {
-        add_new(seen, &mut list, list_at(lists, *superclass))?;
+        add_new(seen, &mut list, lists.at(superclass.0 as usize))?;
     }
     Ok(list)
 }
 
-/// A copy of the list, with room for so many features more.
-fn copy_with_room(
-    alloc: Global,
-    list: &[FeatureNo],
-    more: usize,
-) -> Result<FeatureNoList, ListFault>
-    ensures { IfOk result (λ s. s ≡ list.now) }
-{
-    let Ok(items) = Vec::with_capacity(alloc, list.len().saturating_add(more)) else {
-        return Err(ListFault::NoMemory);
-    };
-    let mut copy = Seq::from_vec(items);
-    copy.extend(list)?;
-    Ok(copy)
-}
-
-/// The features of these classes, each once, with room for so many more: a copy where there is one class and nothing to take out.
-fn inherited(
+/// Puts the list of a class there, by those of its superclasses and its own features. Where no list
+/// has a feature twice, nothing is to be taken out of that of the only superclass.
+fn put_list(
     alloc: Global,
     seen: &mut NumberSet,
-    lists: &Vec<FeatureNoList>,
-    supers: &[ClassNo],
-    more: usize,
-) -> Result<FeatureNoList, ListFault>
-    ensures { IfOk result (λ s. s ≡ each_once [] (flat_map (λ s. slice_index_or lists.now.items s.0 []) supers.now)) }
-{
-    if supers.len() == 1 {
-        let list = list_at(lists, supers[0]);
-        if is_rising(list) {
-            return copy_with_room(alloc, list, more);
-        }
-    }
-    joined(alloc, seen, lists, supers)
-}
-
-/// The features of a class, by those of its superclasses and its own.
-fn features_at(
-    alloc: Global,
-    seen: &mut NumberSet,
-    lists: &Vec<FeatureNoList>,
+    once: bool,
+    lists: &mut FeatureLists,
+    class: u32,
     supers: &[ClassNo],
     own: &[FeatureNo],
-) -> Result<FeatureNoList, ListFault>
-    ensures { IfOk result (λ s. s ≡ each_once [] (flat_map (λ s. slice_index_or lists.now.items s.0 []) supers.now) ++ own.now) }
+) -> Result<(), ListFault>
+    requires { IsTrue once → (c : ℕ) → IsOnce (slice_index_or (all_lists lists.old) c []) }
+    ensures { OnOk result (all_lists lists.new ≡ slice_set (all_lists lists.old) class (each_once [] (flat_map (λ s. slice_index_or (all_lists lists.old) s.0 []) supers.now) ++ own.now)) }
 {
-    let mut list = inherited(alloc, seen, lists, supers, own.len())?;
+    if once && supers.len() == 1 {
+        return lists.go_on(alloc, class as usize, supers[0].0 as usize, own);
+    }
+    let mut list = joined(alloc, seen, lists, supers)?;
     list.extend(own)?;
-    Ok(list)
+    lists.put(class as usize, list)
+}
+
+/// Puts these features there, and tells whether none of them was. Where one was, the others may not
+/// all be put there.
+fn put_new(placed: &mut NumberSet, own: &[FeatureNo]) -> Result<bool, ListFault>
+    ensures { IfOk result (λ new. IsTrue new → AreNew placed.old own.now placed.new) }
+{
+    for feature in own {
+        if placed.has(feature.0) {
+            return Ok(false);
+        }
+        placed.put(feature.0)?;
+    }
+    Ok(true)
+}
+
+/// Notes the features of one more class.
+fn note(placed: &mut Placed, own: &[FeatureNo]) -> Result<(), ListFault>
+    ensures once { OnOk result (IsTrue placed.new.once → IsTrue placed.old.once) }
+    ensures new { OnOk result (IsTrue placed.new.once → AreNew placed.old.features own.now placed.new.features) }
+{
+    if placed.once {
+        placed.once = put_new(&mut placed.features, own)?;
+    }
+    Ok(())
 }
 
 /// Puts an item at a place, if there is such a place.
@@ -179,34 +167,31 @@ fn own_at(classes: &[ClassInfo], class: u32) -> &[FeatureNo]
     }
 }
 
-/// An empty list for each of as many classes.
-fn empty_lists(alloc: Global, count: usize) -> Result<Vec<FeatureNoList>, ListFault>
-    ensures { IfOk result (λ v. v.items ≡ replicate count []) }
-{
-    let mut lists = Seq::new(alloc);
-    for at in 0..count {
-        lists.push(Seq::new(alloc))?;
-    }
-    Ok(lists.into_vec())
-}
-
 /// The features of each class.
-fn lists_of(
-    alloc: Global,
-    order: &Order,
-    classes: &[ClassInfo],
-) -> Result<Vec<FeatureNoList>, ListFault>
+fn lists_of(alloc: Global, order: &Order, classes: &[ClassInfo]) -> Result<FeatureLists, ListFault>
     requires { IsOrder (of_classes classes.now) order.now.classes order.now.ranks }
-    ensures each { IfOk result (λ v. length v.items ≡ length classes.now) }
-    ensures features { IfOk result (λ v. (c : ℕ) → slice_index_or v.items c [] ≡ features_of (of_classes classes.now) c) }
+    ensures each { IfOk result (λ ls. length (all_lists ls) ≡ length classes.now) }
+    ensures features { IfOk result (λ ls. (c : ℕ) → slice_index_or (all_lists ls) c [] ≡ features_of (of_classes classes.now) c) }
 {
     let mut seen = NumberSet::new(alloc);
-    let mut lists = empty_lists(alloc, classes.len())?;
+    let mut placed = Placed {
+        features: NumberSet::new(alloc),
+        once: true,
+    };
+    let mut lists = FeatureLists::empty(alloc, classes.len())?;
     for class in order.classes.as_slice() {
         let supers = supers_at(classes, *class);
         let own = own_at(classes, *class);
-        let list = features_at(alloc, &mut seen, &lists, supers, own)?;
-        put(&mut lists, *class as usize, list);
+        put_list(
+            alloc,
+            &mut seen,
+            placed.once,
+            &mut lists,
+            *class,
+            supers,
+            own,
+        )?;
+        note(&mut placed, own)?;
     }
     Ok(lists)
 }
@@ -216,7 +201,7 @@ pub fn tables_of(alloc: Global, classes: &[ClassInfo], count: u32) -> Result<Tab
     requires live { AreLive classes.now }
     requires acyclic { IsAcyclic classes.now }
     requires count { length classes.now ≡ count }
-    ensures { IfOk result (λ t. AreTables (of_classes classes.now) t.lists.items t.rows.items t.ranks.items) }
+    ensures { IfOk result (λ t. AreTables (of_classes classes.now) (all_lists t.lists) t.rows.items t.ranks.items) }
 {
     let order = order_of(alloc, classes, count)?;
     let lists = lists_of(alloc, &order, classes)?;

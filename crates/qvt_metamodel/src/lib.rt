@@ -10,4 +10,3 @@ pub mod info;
 pub mod numbering;
 pub mod room;
 pub mod row;
-pub mod tables;

@@ -1,10 +1,10 @@
 -- The features of a class by name, and their places.
 use Rattle.std.proofs.Common.{◌≡◌, ◌∙◌, ℕ, zero, suc, ◌<◌, ◌≤◌, ◌==◌, List, [], ◌∷◌, length, get_or, Bool, true, false, Option, Some, None, refl, ap, sym, arith, position, find, cond}
 use Rattle.std.specs.Prelude.{unwrap_or}
-use Rattle.std.specs.List.{list_any, position_or_len}
+use Rattle.std.specs.List.{position_or_len}
 use Rattle.std.specs.Map.{lookup}
 use Rattle.std.specs.Str.{bytes_eq}
-use Rattle.std.proofs.lemmas.Bool.{eq-eqb, eqb-true, lt-ltb}
+use Rattle.std.proofs.lemmas.Bool.{eq-eqb, eqb-true}
 use Rattle.std.proofs.lemmas.List.{get_or-map, length-map}
 use Rattle.std.proofs.lemmas.Option.{get_or_from_slice_get, slice_get_read}
 use Rattle.std.proofs.lemmas.List.Quantifiers.{position-Some}
@@ -19,7 +19,9 @@ use Rattle.qvt_metamodel.proofs.Lookups.{position-first, bytes_eq-refl}
 use Rattle.qvt_metamodel.proofs.Positions.{any-within, any-passes, no-position}
 use Rattle.qvt_meta_names.specs.Named.{number_in, numbers_of, number_at}
 use Rattle.qvt_meta_names.specs.Ordered.{no_number}
-use Rattle.qvt_metas.specs.Held.{AreNumbered, ArePlaced}
+use Rattle.qvt_meta_names.specs.Ordered.{ArePlaced}
+use Rattle.qvt_meta_names.proofs.Fronts.{position-none}
+use Rattle.qvt_metas.specs.Held.{AreNumbered}
 
 -- a feature stands at a place of the list
 among-at : (gs : List FeatureNo) (p : ℕ) → p < length gs → among_features (get_or gs p no_number).0 gs ≡ true
@@ -31,17 +33,6 @@ among-at (g ∷ gs) (suc p) l = or_right (g.0 == (get_or gs p no_number).0) (amo
 none-found : {X : Type 0} (p : X → Bool) (xs : List X) (d : X) → ((i : ℕ) → i < length xs → p (get_or xs i d) ≡ false) → find p xs ≡ None
 none-found p [] d none = refl
 none-found p (x ∷ xs) d none = ap (λ b. cond b (Some x) (find p xs)) (none 0 (omega arith)) ∙ none-found p xs d (λ i l. none (suc i) (omega (arith, l)))
-
-any-at : {X : Type 0} (p : X → Bool) (xs : List X) (i : ℕ) (d : X) → i < length xs → p (get_or xs i d) ≡ true → list_any p xs ≡ true
-any-at p [] i d l h = absurd (omega arith)
-any-at p (x ∷ xs) zero d l h = or_left (p x) (list_any p xs) h
-any-at p (x ∷ xs) (suc i) d l h = or_right (p x) (list_any p xs) (any-at p xs i d (omega (arith, l)) h)
-
-position-none : {X : Type 0} (p : X → Bool) (xs : List X) (i : ℕ) (d : X) → position p xs ≡ None → i < length xs → p (get_or xs i d) ≡ false
-position-none p xs i d none l = not_true (p (get_or xs i d)) (λ h.
-    (let within : position_or_len p xs < length xs = any-within p xs (any-at p xs i d l h) in
-    let some : position p xs ≡ Some (position_or_len p xs) = ap (λ b. cond b (Some (position_or_len p xs)) None) (lt-ltb (position_or_len p xs) (length xs) within) in
-    let no : Some (position_or_len p xs) ≡ None = sym some ∙ none in absurd (cc)))
 
 -- the name of a feature by its number
 abbrev name_at : Metamodels → FeatureNo → List ℕ

@@ -1,5 +1,5 @@
 -- A list of metamodels that goes on from another: what the other had stays.
-use Rattle.std.proofs.Common.{◌≡◌, ◌∙◌, ℕ, zero, suc, ◌<◌, ◌≤◌, List, [], ◌∷◌, ◌++◌, length, map, get_or, false, Option, Some, None, refl, ap, arith, ◌==◌, ◌&&◌, ◌||◌, eqb, position, find}
+use Rattle.std.proofs.Common.{◌≡◌, ◌∙◌, ℕ, zero, suc, ◌<◌, ◌≤◌, List, [], ◌∷◌, ◌++◌, length, map, get_or, false, refl, ap, arith, ◌==◌, ◌&&◌, ◌||◌, eqb, position, find}
 use Rattle.std.specs.List.{list_any, flat_map, AllByRecursion}
 use Rattle.std.specs.Str.{bytes_eq}
 use Rattle.std.proofs.lemmas.List.{length-append}
@@ -17,7 +17,7 @@ use Rattle.qvt_metamodel.specs.Kept.{AreRanks}
 use Rattle.qvt_metamodel.specs.Stay.{NumbersStay}
 use Rattle.qvt_metamodel.specs.declared.begin.Begin.{Begin}
 use Rattle.qvt_metamodel.specs.declared.declared.MetaData.{MetaData}
-use Rattle.qvt_metamodel.specs.Joined.{joined, first_some, begin_after, class_info_on, feature_info_on}
+use Rattle.qvt_metamodel.specs.Joined.{joined, begin_after, class_info_on, feature_info_on}
 use Rattle.qvt_metamodel.specs.Added.{added, numbered}
 use Rattle.qvt_metamodel.proofs.Bools.{ap2, not_true, no-and}
 use Rattle.qvt_metamodel.proofs.Halves.{old-at}

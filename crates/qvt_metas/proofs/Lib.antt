@@ -8,4 +8,5 @@ pub mod Rooms
 pub mod Extends
 pub mod ClassNames
 pub mod FeaturePlaces
+pub mod Lines
 pub mod GivenOrder

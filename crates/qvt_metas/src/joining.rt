@@ -3,6 +3,7 @@
 ghost use Rattle.std.specs.Prelude.{◌≡◌, ◌+◌, ◌<◌, ◌^◌, map, option_map, IfOk};
 ghost use Rattle.std.specs.List.{AllByRecursion};
 ghost use Rattle.qvt_metamodel.specs.Joined.{class_on, feature_on, kind_on, class_info_on, feature_info_on, row_on, ClassesFit, FeaturesFit, KindFits, OppositeFits, ClassFits, FeatureFits};
+ghost use Rattle.qvt_metas.specs.Held.{capped_on};
 
 use qvt_base::copied::Copied;
 use qvt_base::list_fault::ListFault;
@@ -136,18 +137,34 @@ pub fn feature_infos_on(
     Ok(infos.into_vec())
 }
 
-/// The lists of features, with numbers that go on from these.
-pub fn lists_on(
+fn capped_on(begin: Begin, feature: FeatureNo) -> FeatureNo
+    ensures { result ≡ capped_on begin feature }
+{
+    FeatureNo(begin.feature.saturating_add(feature.0))
+}
+
+fn line_on(alloc: Global, begin: Begin, line: &[FeatureNo]) -> Result<FeatureNoList, ListFault>
+    ensures { IfOk result (λ s. s ≡ map (capped_on begin) line.now) }
+{
+    let mut numbers = Seq::new(alloc);
+    for feature in line {
+        numbers.push(capped_on(begin, *feature))?;
+    }
+    Ok(numbers)
+}
+
+/// The lines of features, with numbers that go on from these. A line may end in numbers that no list
+/// has, so they are not known to fit.
+pub fn lines_on(
     alloc: Global,
     begin: Begin,
-    lists: &[FeatureNoList],
+    lines: &[FeatureNoList],
 ) -> Result<Vec<FeatureNoList>, ListFault>
-    requires { AllByRecursion (FeaturesFit begin) lists.now }
-    ensures { IfOk result (λ v. v.items ≡ map (map (feature_on begin)) lists.now) }
+    ensures { IfOk result (λ v. v.items ≡ map (map (capped_on begin)) lines.now) }
 {
     let mut all = Seq::new(alloc);
-    for list in lists {
-        all.push(features_on(alloc, begin, list.as_slice())?)?;
+    for line in lines {
+        all.push(line_on(alloc, begin, line.as_slice())?)?;
     }
     Ok(all.into_vec())
 }

@@ -7,19 +7,19 @@ ghost use Rattle.qvt_metamodel.specs.WellFormed.{IsWellFormed, IsRegular};
 ghost use Rattle.qvt_metamodel.specs.Named.{is_text};
 
 use crate::extending::{given_classes, given_features, have_texts, one_unnamed};
-use crate::joining::{class_infos_on, feature_infos_on, lists_on, ranks_on, rows_on};
+use crate::joining::{class_infos_on, feature_infos_on, lines_on, ranks_on, rows_on};
 use crate::meta::Meta;
 use crate::numbered::Numbered;
 use qvt_base::copied::Copied;
 use qvt_base::list_fault::ListFault;
-use qvt_base::lists::FeatureNoList;
 use qvt_base::numbers::{ClassNo, FeatureNo};
 use qvt_base::text::Text;
+use qvt_meta_lists::lists::FeatureLists;
 use qvt_meta_names::class_tables::class_tables;
 use qvt_meta_names::enum_tables::{EnumTable, enum_tables};
 use qvt_meta_names::feature_tables::{feature_table, name_numbers};
 use qvt_meta_names::name_table::NameTable;
-use qvt_meta_names::place_orders::{PlaceOrder, place_named, place_orders};
+use qvt_meta_names::place_orders::{PlaceOrder, place_in, place_orders};
 use qvt_meta_tables::tables::tables_of;
 use qvt_metamodel::begin::Begin;
 use qvt_metamodel::copied::{copies, joined};
@@ -40,7 +40,7 @@ pub struct Metas {
     classes: Vec<ClassInfo>,
     features: Vec<FeatureInfo>,
     element: Option<ClassNo>,
-    lists: Vec<FeatureNoList>,
+    lists: FeatureLists,
     rows: Vec<Row>,
     ranks: Vec<u32>,
     names: Vec<NameTable>,
@@ -77,7 +77,7 @@ impl Model for Metas {
 
     ghost view = { λ m. record { metamodels = m.metamodels.items; classes = m.classes.items; features = m.features.items; element = m.element } };
 
-    ghost invariant = { λ m. IsMetasKept (record { metamodels = m.metamodels.items; classes = m.classes.items; features = m.features.items; element = m.element }) m.lists.items m.rows.items m.ranks.items m.names.items m.feature_names m.numbers.items m.orders.items m.enum_tables.items };
+    ghost invariant = { λ m. IsMetasKept (record { metamodels = m.metamodels.items; classes = m.classes.items; features = m.features.items; element = m.element }) m.lists m.rows.items m.ranks.items m.names.items m.feature_names m.numbers.items m.orders.items m.enum_tables.items };
 }
 
 impl Metas {
@@ -92,7 +92,7 @@ impl Metas {
             classes: Vec::new(alloc),
             features: Vec::new(alloc),
             element: None,
-            lists: Vec::new(alloc),
+            lists: FeatureLists::new(alloc),
             rows: Vec::new(alloc),
             ranks: Vec::new(alloc),
             names: Vec::new(alloc),
@@ -110,18 +110,18 @@ impl Metas {
         classes: Vec<ClassInfo>,
         features: Vec<FeatureInfo>,
         element: Option<ClassNo>,
-        lists: Vec<FeatureNoList>,
+        lists: FeatureLists,
         rows: Vec<Row>,
         ranks: Vec<u32>,
     ) -> Result<Metas, ListFault>
-        requires { IsKept (record { metamodels = metamodels.items; classes = classes.items; features = features.items; element = element }) lists.items rows.items ranks.items }
+        requires { IsKept (record { metamodels = metamodels.items; classes = classes.items; features = features.items; element = element }) (all_lists lists) rows.items ranks.items }
         ensures { IfOk result (λ m. m ≡ record { metamodels = metamodels.items; classes = classes.items; features = features.items; element = element }) }
     {
         let count = classes.len() as u32;
         let names = class_tables(alloc, metamodels.len() as u32, classes.as_slice(), count)?;
         let feature_names = feature_table(alloc, features.as_slice(), features.len() as u32)?;
         let numbers = name_numbers(alloc, &feature_names, features.as_slice())?;
-        let orders = place_orders(alloc, numbers.as_slice(), lists.as_slice())?;
+        let orders = place_orders(alloc, numbers.as_slice(), lists.lines())?;
         let enumerations = enum_tables(alloc, metamodels.as_slice())?;
         Ok(Metas {
             metamodels,
@@ -140,6 +140,7 @@ impl Metas {
     }
 
     ghost use Rattle.qvt_metamodel.specs.Kept.{IsKept};
+    ghost use Rattle.qvt_meta_lists.specs.Lists.{all_lists};
 
     /// Adds a metamodel: its numbers go on from those that are there, which stay. It is refused
     /// where a metamodel of its name is there. A refused call changes nothing. Where the class
@@ -214,7 +215,7 @@ impl Metas {
         let metamodels = copies(alloc, others.metamodels.as_slice())?;
         let classes = class_infos_on(alloc, begin, others.classes.as_slice())?;
         let features = feature_infos_on(alloc, begin, others.features.as_slice())?;
-        let lists = lists_on(alloc, begin, others.lists.as_slice())?;
+        let lines = lines_on(alloc, begin, others.lists.lines())?;
         let rows = rows_on(alloc, begin, others.rows.as_slice())?;
         let ranks = ranks_on(alloc, begin, others.ranks.as_slice())?;
         let next = Metas::whole(
@@ -223,7 +224,7 @@ impl Metas {
             joined(alloc, self.classes.as_slice(), classes)?,
             joined(alloc, self.features.as_slice(), features)?,
             self.element,
-            joined(alloc, self.lists.as_slice(), lists)?,
+            self.lists.joined(alloc, &others.lists, lines)?,
             joined(alloc, self.rows.as_slice(), rows)?,
             joined(alloc, self.ranks.as_slice(), ranks)?,
         )?;
@@ -431,11 +432,10 @@ impl Metas {
             return None;
         };
         let at = class.0 as usize;
-        if at >= self.orders.len() {
-            return None;
-        }
-        let features = self.features(class);
-        match place_named(self.numbers.as_slice(), features, &self.orders[at], number) {
+        let features = self.lists.at(at);
+        let numbers = self.numbers.as_slice();
+        let orders = self.orders.as_slice();
+        match place_in(numbers, &self.lists, orders, at, number) {
             Some(place) => Some(features[place]),
             None => None,
         }
@@ -447,16 +447,14 @@ impl Metas {
     {
         let at = class.0 as usize;
         let named = feature.0 as usize;
-        if at >= self.orders.len() {
-            return None;
-        }
         if named >= self.numbers.len() {
             return None;
         }
-        let features = self.features(class);
+        let features = self.lists.at(at);
         let number = self.numbers[named];
-        let Some(place) = place_named(self.numbers.as_slice(), features, &self.orders[at], number)
-        else {
+        let numbers = self.numbers.as_slice();
+        let orders = self.orders.as_slice();
+        let Some(place) = place_in(numbers, &self.lists, orders, at, number) else {
             return None;
         };
         if features[place].0 == feature.0 {
@@ -499,12 +497,7 @@ impl Metas {
     pub fn features(&self, class: ClassNo) -> &[FeatureNo]
         ensures { result.now ≡ features_of self.now class.0 }
     {
-        let at = class.0 as usize;
-        if at < self.lists.len() {
-            self.lists[at].as_slice()
-        } else {
-            &[]
-        }
+        self.lists.at(class.0 as usize)
     }
 
     /// Whether the first class is the second, or the second is above it.
@@ -618,7 +611,7 @@ impl Copied for Metas {
             copies(alloc, self.classes.as_slice())?,
             copies(alloc, self.features.as_slice())?,
             self.element,
-            copies(alloc, self.lists.as_slice())?,
+            self.lists.copy(alloc)?,
             copies(alloc, self.rows.as_slice())?,
             copies(alloc, self.ranks.as_slice())?,
         )?;

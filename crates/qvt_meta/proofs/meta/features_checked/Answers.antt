@@ -1,8 +1,5 @@
-use Rattle.qvt_meta.proofs.Made.{lists_numbered, lists_total}
+use Rattle.qvt_meta.proofs.Made.{lists_numbered}
 use Rattle.qvt_meta.proofs.meta.features_checked.Goals as goal
-
-pub same_feature-requires-clause-each : goal.same_feature-requires-clause-each
-same_feature-requires-clause-each c = lists_total c.args.meta c.args.numbers _ _ _ c.requires.numbers c.requires.tables
 
 pub same_feature-requires-clause-lists : goal.same_feature-requires-clause-lists
 same_feature-requires-clause-lists c = lists_numbered c.args.meta c.args.numbers _ _ _ c.requires.numbers c.requires.tables

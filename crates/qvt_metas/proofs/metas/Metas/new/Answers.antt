@@ -7,6 +7,7 @@ use Rattle.qvt_metamodel.specs.Kept.{IsKept}
 use Rattle.qvt_metamodel.specs.Metamodels.{Metamodels}
 use Rattle.qvt_metamodel.specs.declared.row.Row.{Row}
 use Rattle.qvt_metamodel.proofs.Empty.{kept, no_metamodels}
+use Rattle.qvt_meta_lists.specs.Lists.{Lists, all_lists}
 use Rattle.qvt_metas.proofs.FeaturePlaces.{none_numbered, none_placed}
 use Rattle.qvt_metas.proofs.metas.Metas.new.Goals as goal
 
@@ -20,11 +21,11 @@ at_nothing ms cs fs lists rows ranks e1 e2 e3 e4 e5 e6 =
 
 pub invariant_of-result : goal.invariant_of-result
 invariant_of-result c = record {
-  kept = at_nothing _ _ _ _ _ _ c.new.ensures.items c.new-2.ensures.items c.new-3.ensures.items c.new-4.ensures.items c.new-5.ensures.items c.new-6.ensures.items;
+  kept = at_nothing _ _ _ _ _ _ c.new.ensures.items c.new-2.ensures.items c.new-3.ensures.items (ap all_lists c.new-4.ensures) c.new-5.ensures.items c.new-6.ensures.items;
   each = ap length c.new-7.ensures.items ∙ sym (ap length c.new.ensures.items);
   named = λ k h. absurd (omega (arith, h, ap length c.new.ensures.items));
   numbered = none_numbered _ _ _ c.new-3.ensures.items c.new-8.ensures c.new-9.ensures.items;
-  placed = none_placed _ _ _ c.new-4.ensures.items c.new-10.ensures.items;
+  placed = none_placed _ _ _ (ap (λ (ls : Lists). ls.lines) c.new-4.ensures) c.new-10.ensures.items;
   enumerated = record {
     each = ap length c.new-11.ensures.items ∙ sym (ap length c.new.ensures.items);
     at = λ k h. absurd (omega (arith, h, ap length c.new.ensures.items));

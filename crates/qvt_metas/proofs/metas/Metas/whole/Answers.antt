@@ -1,4 +1,4 @@
-use Rattle.std.proofs.Common.{◌≡◌, ◌∙◌, ℕ, ◌==◌, ◌&&◌, List, [], None, length, ap, subst, sym, arith, position, slice_index_or}
+use Rattle.std.proofs.Common.{◌≡◌, ◌∙◌, ℕ, ◌==◌, ◌&&◌, List, length, ap, subst, sym, arith, position}
 use Rattle.std.specs.Str.{bytes_eq}
 use Rattle.qvt_base.specs.declared.numbers.FeatureNo.{FeatureNo}
 use Rattle.qvt_metamodel.specs.declared.info.ClassInfo.{ClassInfo}
@@ -6,7 +6,7 @@ use Rattle.qvt_metamodel.specs.declared.info.FeatureInfo.{FeatureInfo}
 use Rattle.qvt_metamodel.specs.declared.info.MetamodelInfo.{MetamodelInfo}
 use Rattle.qvt_meta_names.specs.Enumerated.{AreEachFew, AreTabled}
 use Rattle.qvt_meta_names.specs.Named.{numbers_of}
-use Rattle.qvt_meta_names.specs.Ordered.{IsOrdered}
+use Rattle.qvt_meta_names.specs.Ordered.{ArePlaced}
 use Rattle.qvt_metas.proofs.metas.Metas.whole.Goals as goal
 
 pub invariant_of-result : goal.invariant_of-result
@@ -18,14 +18,10 @@ invariant_of-result c = let many : c.len.result ≡ length c.args.metamodels.ite
     first = λ name. c.in_ok-feature_names.ensures name ∙ ap (λ (fs : List FeatureInfo). position (λ (x : FeatureInfo). bytes_eq name x.name) fs) c.as_slice-2.ensures.value;
     each = c.in_ok-numbers.ensures ∙ ap (λ (fs : List FeatureInfo). numbers_of c.in_ok-feature_names.feature_names fs) c.as_slice-3.ensures.value;
   };
-  placed = record {
-    each = c.in_ok-orders.ensures.each ∙ ap length c.as_slice-5.ensures.value;
-    at = λ k h. subst (λ (ns : List ℕ). IsOrdered ns (slice_index_or c.args.lists.items k []) (slice_index_or c.in_ok-orders.orders.items k None)) c.as_slice-4.ensures.value
-        (subst (λ (ls : List (List FeatureNo)). IsOrdered c.as_slice-4.result.now (slice_index_or ls k []) (slice_index_or c.in_ok-orders.orders.items k None)) c.as_slice-5.ensures.value
-        (c.in_ok-orders.ensures.ordered k (omega (arith, h, ap length c.as_slice-5.ensures.value))));
-  };
-  enumerated = subst (λ (ms : List MetamodelInfo). AreTabled ms c.in_ok-enumerations.enumerations.items) c.as_slice-6.ensures.value c.in_ok-enumerations.ensures;
+  placed = subst (λ (ns : List ℕ). ArePlaced ns c.args.lists.lines c.in_ok-orders.orders.items) c.as_slice-4.ensures.value
+      (subst (λ (ls : List (List FeatureNo)). ArePlaced c.as_slice-4.result.now ls c.in_ok-orders.orders.items) c.lines.ensures c.in_ok-orders.ensures);
+  enumerated = subst (λ (ms : List MetamodelInfo). AreTabled ms c.in_ok-enumerations.enumerations.items) c.as_slice-5.ensures.value c.in_ok-enumerations.ensures;
 }
 
 pub enum_tables-requires : goal.enum_tables-requires
-enum_tables-requires c = subst AreEachFew (sym c.as_slice-6.ensures.value) (λ k. record { enumerations = c.requires.well_formed.few_enumerations k; literals = c.requires.well_formed.few_literals k })
+enum_tables-requires c = subst AreEachFew (sym c.as_slice-5.ensures.value) (λ k. record { enumerations = c.requires.well_formed.few_enumerations k; literals = c.requires.well_formed.few_literals k })

@@ -1,9 +1,10 @@
-use Rattle.std.proofs.Common.{◌≡◌, ◌∙◌, ◌+◌, ◌++◌, ◌∷◌, ℕ, List, length, None, Some, ap, sym, subst, arith}
+use Rattle.std.proofs.Common.{◌≡◌, ◌∙◌, ◌+◌, ◌++◌, ◌∷◌, List, length, None, Some, ap, sym, subst, arith}
 use Rattle.qvt_metamodel.specs.declared.info.ClassInfo.{ClassInfo}
 use Rattle.qvt_metamodel.specs.Metamodels.{Metamodels}
 use Rattle.qvt_metamodel.specs.Kept.{IsKept}
 use Rattle.qvt_metamodel.specs.Extended.{extended, AreGiven, HasRoomFor, element_class, given_classes, given_features}
 use Rattle.qvt_metamodel.proofs.Bools.{ap2}
+use Rattle.qvt_meta_lists.specs.Lists.{all_lists}
 use Rattle.qvt_meta_tables.specs.Search.{AreLive, IsAcyclic}
 use Rattle.qvt_meta_tables.specs.Tables.{of_classes, AreTables}
 use Rattle.qvt_metas.proofs.Extends.{W, kept, live_superclass, is_extended, class_total}
@@ -63,9 +64,9 @@ whole-requires c =
     c.in_ok-joined-2.ensures ∙ ap2 (λ a b. a ++ b) c.as_slice-4.ensures.value (c.in_ok-features.ensures ∙ ap (λ n. given_features (n + 1) c.args.classes.now) element) in
     let same : record { metamodels = c.in_ok-joined.field-0.items; classes = c.in_ok-infos.infos.items; features = c.in_ok-joined-2.field-0.items; element = Some (record { 0 = c.len-element.result }) } ≡ W m c.args.classes.now =
     λ i. record { metamodels = metamodels i; classes = classes i; features = features i; element = Some (record { 0 = element i }) } in
-    subst (λ (w : Metamodels). IsKept w c.in_ok-tables.tables.lists.items c.in_ok-tables.tables.rows.items c.in_ok-tables.tables.ranks.items) (sym same)
+    subst (λ (w : Metamodels). IsKept w (all_lists c.in_ok-tables.tables.lists) c.in_ok-tables.tables.rows.items c.in_ok-tables.tables.ranks.items) (sym same)
     (kept m c.args.classes.now _ c.self.invariant.kept.well_formed c.self.invariant.kept.ranked alone given c.have_texts.ensures room _ _ _
-    (subst (λ (ks : List ClassInfo). AreTables (of_classes ks) c.in_ok-tables.tables.lists.items c.in_ok-tables.tables.rows.items c.in_ok-tables.tables.ranks.items) (c.as_slice-2.ensures.value ∙ classes) c.in_ok-tables.ensures))
+    (subst (λ (ks : List ClassInfo). AreTables (of_classes ks) (all_lists c.in_ok-tables.tables.lists) c.in_ok-tables.tables.rows.items c.in_ok-tables.tables.ranks.items) (c.as_slice-2.ensures.value ∙ classes) c.in_ok-tables.ensures))
 
 pub returns : goal.returns
 returns c =

@@ -1,0 +1,257 @@
+//! The lists of features of classes: each is the first ones of a line.
+
+ghost use Rattle.std.specs.Prelude.{◌≡◌, ◌<◌, ◌+◌, ◌^◌, ◌∷◌, ◌++◌, [], length, map, replicate, slice_get, slice_index_or, slice_set, IfOk, IfSome, OnErr, OnOk};
+ghost use Rattle.std.specs.List.{All};
+ghost use Rattle.qvt_meta_lists.specs.Lists.{all_lists, front_of, IsFront};
+
+use crate::front::Front;
+use qvt_base::copied::Copied;
+use qvt_base::list_fault::ListFault;
+use qvt_base::lists::FeatureNoList;
+use qvt_base::numbers::FeatureNo;
+use qvt_base::seq::Seq;
+use qvt_metamodel::copied::{copies, joined};
+use std::alloc::Global;
+use std::marker::Model;
+
+/// Lists of features by the numbers of their classes. A list that goes on from another takes memory
+/// only for what it has more, if no other list went on from there before.
+#[derive(Drop)]
+pub struct FeatureLists {
+    lines: Vec<FeatureNoList>,
+    fronts: Seq<Front>,
+}
+
+impl Model for FeatureLists {
+    ghost use Rattle.std.specs.List.{All};
+    ghost use Rattle.qvt_meta_lists.specs.Lists.{IsFront, Lists};
+
+    ghost Value = { Lists };
+
+    ghost view = { λ ls. record { lines = ls.lines.items; fronts = ls.fronts } };
+
+    ghost invariant = { λ ls. All (IsFront ls.lines.items) ls.fronts };
+}
+
+/// One line without features.
+fn one_line(alloc: Global) -> Result<Vec<FeatureNoList>, ListFault>
+    ensures { IfOk result (λ v. v.items ≡ replicate 1 []) }
+{
+    let mut lines = Seq::new(alloc);
+    lines.push(Seq::new(alloc))?;
+    Ok(lines.into_vec())
+}
+
+/// As many empty lists.
+fn empty_fronts(alloc: Global, count: usize) -> Result<Seq<Front>, ListFault>
+    ensures { IfOk result (λ s. s ≡ replicate count (record { line = 0; count = 0 })) }
+{
+    let mut fronts = Seq::new(alloc);
+    for at in 0..count {
+        fronts.push(Front { line: 0, count: 0 })?;
+    }
+    Ok(fronts)
+}
+
+/// Puts a line last.
+fn push_line(lines: &mut Vec<FeatureNoList>, line: FeatureNoList) -> Result<(), ListFault>
+    ensures ok { OnOk result (lines.new.items ≡ lines.old.items ++ line ∷ []) }
+    ensures err { OnErr result (lines.new.items ≡ lines.old.items) }
+{
+    match lines.push(line) {
+        Ok(()) => Ok(()),
+        Err(_) => Err(ListFault::NoMemory),
+    }
+}
+
+/// Puts these features last in a line, and gives its length.
+fn extend_line(
+    lines: &mut Vec<FeatureNoList>,
+    at: usize,
+    features: &[FeatureNo],
+) -> Result<usize, ListFault>
+    requires { at < length lines.old.items }
+    ensures ok { OnOk result (lines.new.items ≡ slice_set lines.old.items at (slice_index_or lines.old.items at [] ++ features.now)) }
+    ensures length { IfOk result (λ n. n ≡ length (slice_index_or lines.old.items at [] ++ features.now)) }
+    ensures err { OnErr result (lines.new.items ≡ lines.old.items) }
+{
+    lines[at].extend(features)?;
+    Ok(lines[at].len())
+}
+
+/// Puts a list at a place, if there is such a place.
+fn put_front(fronts: &mut Seq<Front>, place: usize, front: Front)
+    ensures { fronts.new ≡ slice_set fronts.old place front }
+{
+    if place < fronts.len() {
+        fronts.set(place, front);
+    }
+}
+
+/// A list and then these features.
+fn followed(
+    alloc: Global,
+    list: &[FeatureNo],
+    features: &[FeatureNo],
+) -> Result<FeatureNoList, ListFault>
+    ensures { IfOk result (λ s. s ≡ list.now ++ features.now) }
+{
+    let Ok(items) = Vec::with_capacity(alloc, list.len().saturating_add(features.len())) else {
+        return Err(ListFault::NoMemory);
+    };
+    let mut all = Seq::from_vec(items);
+    all.extend(list)?;
+    all.extend(features)?;
+    Ok(all)
+}
+
+/// Puts lists last whose lines come after as many others.
+fn add_fronts(fronts: &mut Seq<Front>, start: usize, others: &[Front]) -> Result<(), ListFault>
+    requires { All (λ f. start + f.line < 2 ^ 64) others.now }
+    ensures { OnOk result (fronts.new ≡ fronts.old ++ map (λ f. record { line = start + f.line; count = f.count }) others.now) }
+{
+    for front in others {
+        fronts.push(Front {
+            line: start + front.line,
+            count: front.count,
+        })?;
+    }
+    Ok(())
+}
+
+impl FeatureLists {
+    /// No lists. It takes no memory.
+    pub fn new(alloc: Global) -> FeatureLists
+        ensures { result ≡ record { lines = []; fronts = [] } }
+    {
+        FeatureLists {
+            lines: Vec::new(alloc),
+            fronts: Seq::new(alloc),
+        }
+    }
+
+    /// As many empty lists.
+    pub fn empty(alloc: Global, count: usize) -> Result<FeatureLists, ListFault>
+        ensures { IfOk result (λ ls. all_lists ls ≡ replicate count []) }
+    {
+        Ok(FeatureLists {
+            lines: one_line(alloc)?,
+            fronts: empty_fronts(alloc, count)?,
+        })
+    }
+
+    /// The lines, in order.
+    pub fn lines(&self) -> &[FeatureNoList]
+        ensures { result.now ≡ self.now.lines }
+    {
+        self.lines.as_slice()
+    }
+
+    /// The line of a list, and how many of it the list has.
+    pub fn front(&self, class: usize) -> Option<Front>
+        ensures value { result ≡ slice_get self.now.fronts class }
+        ensures within { IfSome result (λ f. IsFront self.now.lines f) }
+    {
+        if class < self.fronts.len() {
+            Some(self.fronts.as_slice()[class])
+        } else {
+            None
+        }
+    }
+
+    /// The list of a class, empty where there is none.
+    pub fn at(&self, class: usize) -> &[FeatureNo]
+        ensures { result.now ≡ slice_index_or (all_lists self.now) class [] }
+    {
+        match self.front(class) {
+            None => &[],
+            Some(front) => {
+                let (list, _) = self.lines[front.line].as_slice().split_at(front.count);
+                list
+            }
+        }
+    }
+
+    /// Puts another list at a place, if there is such a place.
+    pub fn put(&mut self, class: usize, list: FeatureNoList) -> Result<(), ListFault>
+        ensures { OnOk result (all_lists self.new ≡ slice_set (all_lists self.old) class list) }
+    {
+        let front = Front {
+            line: self.lines.len(),
+            count: list.len(),
+        };
+        push_line(&mut self.lines, list)?;
+        put_front(&mut self.fronts, class, front);
+        Ok(())
+    }
+
+    /// Puts a list at a place that is the whole line of this front and then these features.
+    fn put_after(
+        &mut self,
+        class: usize,
+        front: Front,
+        features: &[FeatureNo],
+    ) -> Result<(), ListFault>
+        requires front { IsFront self.old.lines front }
+        requires whole { front.count ≡ length (slice_index_or self.old.lines front.line []) }
+        ensures { OnOk result (all_lists self.new ≡ slice_set (all_lists self.old) class (front_of self.old.lines front ++ features.now)) }
+    {
+        let count = extend_line(&mut self.lines, front.line, features)?;
+        let longer = Front {
+            line: front.line,
+            count,
+        };
+        put_front(&mut self.fronts, class, longer);
+        Ok(())
+    }
+
+    /// Puts the list of another class and then these features at a place, if there is such a place.
+    pub fn go_on(
+        &mut self,
+        alloc: Global,
+        class: usize,
+        superclass: usize,
+        own: &[FeatureNo],
+    ) -> Result<(), ListFault>
+        ensures { OnOk result (all_lists self.new ≡ slice_set (all_lists self.old) class (slice_index_or (all_lists self.old) superclass [] ++ own.now)) }
+    {
+        if let Some(front) = self.front(superclass) {
+            if own.is_empty() {
+                put_front(&mut self.fronts, class, front);
+                return Ok(());
+            }
+            if front.count == self.lines[front.line].len() {
+                return self.put_after(class, front, own);
+            }
+        }
+        let list = followed(alloc, self.at(superclass), own)?;
+        self.put(class, list)
+    }
+
+    /// These lists, and then the others with these lines in place of theirs.
+    pub fn joined(
+        &self,
+        alloc: Global,
+        others: &FeatureLists,
+        lines: Vec<FeatureNoList>,
+    ) -> Result<FeatureLists, ListFault>
+        requires { map (λ l. length l) lines.items ≡ map (λ l. length l) others.now.lines }
+        ensures { IfOk result (λ ls. all_lists ls ≡ all_lists self.now ++ all_lists (record { lines = lines.items; fronts = others.now.fronts })) }
+    {
+        let start = self.lines.len();
+        let all = joined(alloc, self.lines.as_slice(), lines)?;
+        let _total = all.len();
+        let mut fronts = Seq::from_slice(alloc, self.fronts.as_slice())?;
+        add_fronts(&mut fronts, start, others.fronts.as_slice())?;
+        Ok(FeatureLists { lines: all, fronts })
+    }
+}
+
+impl Copied for FeatureLists {
+    fn copy(&self, alloc: Global) -> Result<FeatureLists, ListFault> {
+        Ok(FeatureLists {
+            lines: copies(alloc, self.lines.as_slice())?,
+            fronts: Seq::from_slice(alloc, self.fronts.as_slice())?,
+        })
+    }
+}
