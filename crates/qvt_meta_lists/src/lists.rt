@@ -1,8 +1,8 @@
 //! The lists of features of classes: each is the first ones of a line.
 
-ghost use Rattle.std.specs.Prelude.{◌≡◌, ◌<◌, ◌+◌, ◌^◌, ◌∷◌, ◌++◌, [], length, map, replicate, slice_get, slice_index_or, slice_set, IfOk, IfSome, OnErr, OnOk};
+ghost use Rattle.std.specs.Prelude.{◌≡◌, ◌<◌, ◌+◌, ◌^◌, ◌∷◌, ◌++◌, [], length, map, option_map, replicate, slice_get, slice_index_or, slice_set, IfOk, IfSome, None, OnErr, OnOk};
 ghost use Rattle.std.specs.List.{All};
-ghost use Rattle.qvt_meta_lists.specs.Lists.{all_lists, front_of, IsFront};
+ghost use Rattle.qvt_meta_lists.specs.Lists.{all_lists, front_of, AreMapped, BeginsWith, HasFront, IsFront};
 
 use crate::front::Front;
 use qvt_base::copied::Copied;
@@ -19,18 +19,21 @@ use std::marker::Model;
 #[derive(Drop)]
 pub struct FeatureLists {
     lines: Vec<FeatureNoList>,
+    begins: Begins,
     fronts: Seq<Front>,
 }
 
+/// For each line the front of a line before it that it begins with, where that is known.
+type Begins = Seq<Option<Front>>;
+
 impl Model for FeatureLists {
-    ghost use Rattle.std.specs.List.{All};
-    ghost use Rattle.qvt_meta_lists.specs.Lists.{IsFront, Lists};
+    ghost use Rattle.qvt_meta_lists.specs.Lists.{AreLined, Lists};
 
     ghost Value = { Lists };
 
     ghost view = { λ ls. record { lines = ls.lines.items; fronts = ls.fronts } };
 
-    ghost invariant = { λ ls. All (IsFront ls.lines.items) ls.fronts };
+    ghost invariant = { λ ls. AreLined ls.lines.items ls.begins ls.fronts };
 }
 
 /// One line without features.
@@ -105,16 +108,48 @@ fn followed(
     Ok(all)
 }
 
+/// One line that is not known to begin with another.
+fn one_begin(alloc: Global) -> Result<Begins, ListFault>
+    ensures { IfOk result (λ s. s ≡ replicate 1 None) }
+{
+    let mut begins = Seq::new(alloc);
+    begins.push(None)?;
+    Ok(begins)
+}
+
+/// A front of a line that comes after as many others.
+fn front_after(start: usize, front: Front) -> Front
+    requires { start + front.line < 2 ^ 64 }
+    ensures { result ≡ record { line = start + front.line; count = front.count } }
+{
+    Front {
+        line: start + front.line,
+        count: front.count,
+    }
+}
+
+/// Puts what lines begin with last, where these come after as many others.
+fn add_begins(begins: &mut Begins, start: usize, others: &[Option<Front>]) -> Result<(), ListFault>
+    requires { All (λ b. IfSome b (λ f. start + f.line < 2 ^ 64)) others.now }
+    ensures { OnOk result (begins.new ≡ begins.old ++ map (option_map (λ f. record { line = start + f.line; count = f.count })) others.now) }
+{
+    for begin in others {
+        let after = match begin {
+            None => None,
+            Some(front) => Some(front_after(start, *front)),
+        };
+        begins.push(after)?;
+    }
+    Ok(())
+}
+
 /// Puts lists last whose lines come after as many others.
 fn add_fronts(fronts: &mut Seq<Front>, start: usize, others: &[Front]) -> Result<(), ListFault>
     requires { All (λ f. start + f.line < 2 ^ 64) others.now }
     ensures { OnOk result (fronts.new ≡ fronts.old ++ map (λ f. record { line = start + f.line; count = f.count }) others.now) }
 {
     for front in others {
-        fronts.push(Front {
-            line: start + front.line,
-            count: front.count,
-        })?;
+        fronts.push(front_after(start, *front))?;
     }
     Ok(())
 }
@@ -126,6 +161,7 @@ impl FeatureLists {
     {
         FeatureLists {
             lines: Vec::new(alloc),
+            begins: Seq::new(alloc),
             fronts: Seq::new(alloc),
         }
     }
@@ -136,6 +172,7 @@ impl FeatureLists {
     {
         Ok(FeatureLists {
             lines: one_line(alloc)?,
+            begins: one_begin(alloc)?,
             fronts: empty_fronts(alloc, count)?,
         })
     }
@@ -159,6 +196,17 @@ impl FeatureLists {
         }
     }
 
+    /// The front of a line before this one that this one begins with, where one is known.
+    pub fn begin(&self, line: usize) -> Option<Front>
+        ensures { IfSome result (λ f. BeginsWith self.now.lines line f) }
+    {
+        if line < self.begins.len() {
+            self.begins.as_slice()[line]
+        } else {
+            None
+        }
+    }
+
     /// The list of a class, empty where there is none.
     pub fn at(&self, class: usize) -> &[FeatureNo]
         ensures { result.now ≡ slice_index_or (all_lists self.now) class [] }
@@ -172,17 +220,34 @@ impl FeatureLists {
         }
     }
 
-    /// Puts another list at a place, if there is such a place.
-    pub fn put(&mut self, class: usize, list: FeatureNoList) -> Result<(), ListFault>
+    /// Puts another list at a place, if there is such a place. It begins with this front, where there is one.
+    fn put_begun(
+        &mut self,
+        class: usize,
+        list: FeatureNoList,
+        begin: Option<Front>,
+    ) -> Result<(), ListFault>
+        requires { IfSome begin (λ f. IsFront self.old.lines f × HasFront list f (front_of self.old.lines f)) }
         ensures { OnOk result (all_lists self.new ≡ slice_set (all_lists self.old) class list) }
     {
         let front = Front {
             line: self.lines.len(),
             count: list.len(),
         };
-        push_line(&mut self.lines, list)?;
+        self.begins.push(begin)?;
+        if let Err(fault) = push_line(&mut self.lines, list) {
+            self.begins.truncate(front.line);
+            return Err(fault);
+        }
         put_front(&mut self.fronts, class, front);
         Ok(())
+    }
+
+    /// Puts another list at a place, if there is such a place.
+    pub fn put(&mut self, class: usize, list: FeatureNoList) -> Result<(), ListFault>
+        ensures { OnOk result (all_lists self.new ≡ slice_set (all_lists self.old) class list) }
+    {
+        self.put_begun(class, list, None)
     }
 
     /// Puts a list at a place that is the whole line of this front and then these features.
@@ -225,25 +290,32 @@ impl FeatureLists {
             }
         }
         let list = followed(alloc, self.at(superclass), own)?;
-        self.put(class, list)
+        let begin = self.front(superclass);
+        self.put_begun(class, list, begin)
     }
 
-    /// These lists, and then the others with these lines in place of theirs.
+    /// These lists, and then the others with these lines in place of theirs, in which each feature stands for one of the other's.
     pub fn joined(
         &self,
         alloc: Global,
         others: &FeatureLists,
         lines: Vec<FeatureNoList>,
     ) -> Result<FeatureLists, ListFault>
-        requires { map (λ l. length l) lines.items ≡ map (λ l. length l) others.now.lines }
+        requires { AreMapped others.now.lines lines.items }
         ensures { IfOk result (λ ls. all_lists ls ≡ all_lists self.now ++ all_lists (record { lines = lines.items; fronts = others.now.fronts })) }
     {
         let start = self.lines.len();
         let all = joined(alloc, self.lines.as_slice(), lines)?;
         let _total = all.len();
+        let mut begins = Seq::from_slice(alloc, self.begins.as_slice())?;
+        add_begins(&mut begins, start, others.begins.as_slice())?;
         let mut fronts = Seq::from_slice(alloc, self.fronts.as_slice())?;
         add_fronts(&mut fronts, start, others.fronts.as_slice())?;
-        Ok(FeatureLists { lines: all, fronts })
+        Ok(FeatureLists {
+            lines: all,
+            begins,
+            fronts,
+        })
     }
 }
 
@@ -251,6 +323,7 @@ impl Copied for FeatureLists {
     fn copy(&self, alloc: Global) -> Result<FeatureLists, ListFault> {
         Ok(FeatureLists {
             lines: copies(alloc, self.lines.as_slice())?,
+            begins: Seq::from_slice(alloc, self.begins.as_slice())?,
             fronts: Seq::from_slice(alloc, self.fronts.as_slice())?,
         })
     }

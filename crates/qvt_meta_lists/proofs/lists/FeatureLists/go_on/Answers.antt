@@ -1,9 +1,10 @@
-use Rattle.std.proofs.Common.{◌≡◌, ◌∙◌, [], ◌++◌, ap, map, length, sym, subst, slice_index_or}
-use Rattle.std.specs.Prelude.{OnOk, slice_set, slice_get}
+use Rattle.std.proofs.Common.{◌≡◌, ◌∙◌, [], ◌++◌, Option, Some, None, refl, ap, map, length, sym, subst, slice_index_or}
+use Rattle.std.specs.Prelude.{IfSome, OnOk, slice_set, slice_get}
 use Rattle.std.proofs.lemmas.List.{nil_from_length}
 use Rattle.std.proofs.lemmas.Bool.{eqb-true}
-use Rattle.qvt_meta_lists.specs.Lists.{all_lists, front_of}
-use Rattle.qvt_meta_lists.proofs.Fronts.{list_at, put_same}
+use Rattle.qvt_meta_lists.specs.Lists.{all_lists, front_of, HasFront, IsFront}
+use Rattle.qvt_meta_lists.proofs.Fronts.{followed_has, list_at, put_same}
+use Rattle.qvt_meta_lists.specs.declared.front.Front.{Front}
 use Rattle.qvt_meta_lists.proofs.lists.FeatureLists.go_on.Goals as goal
 
 pub returns-then-is_empty : goal.returns-then-is_empty
@@ -19,3 +20,15 @@ returns-then-front-len c =
     subst (λ l. OnOk c.put_after.result (all_lists c.put_after.new.self ≡ slice_set (all_lists c.args.self.now) c.args.class (l ++ c.args.own.now)))
     (sym (list_at c.args.self.now.lines c.args.self.now.fronts c.args.superclass c.in-Some.front (sym c.in-Some.ensures.value)))
     c.put_after.ensures
+
+pub put_begun-requires : goal.put_begun-requires
+put_begun-requires c = by c.front-begin.result (λ f e. subst (λ (o : Option Front). IfSome o (IsFront c.args.self.now.lines)) e c.front-begin.ensures.within) (λ f e. sym c.front-begin.ensures.value ∙ e)
+  where
+    by : (o : Option Front) → ((f : Front) → o ≡ Some f → IsFront c.args.self.now.lines f) → ((f : Front) → o ≡ Some f → slice_get c.args.self.now.fronts c.args.superclass ≡ Some f)
+        → IfSome o (λ f. IsFront c.args.self.now.lines f × HasFront c.in_ok-list.list f (front_of c.args.self.now.lines f))
+    by None is at = tt
+    by (Some f) is at = (
+      is f refl,
+      followed_has c.args.self.now.lines f c.args.own.now c.in_ok-list.list (is f refl)
+          (c.in_ok-list.ensures ∙ ap (λ l. l ++ c.args.own.now) (c.at.ensures ∙ list_at c.args.self.now.lines c.args.self.now.fronts c.args.superclass f (at f refl))),
+    )
