@@ -16,6 +16,15 @@ key_at numbers list p = number_at numbers (slice_index_or list p no_number)
 pub record IsRising (numbers : List ℕ) (list : List FeatureNo) : Type 0 where
   pub at : (i j : ℕ) → i < j → j < length list → key_at numbers list i ≤ key_at numbers list j
 
+-- they do not fall along its first n
+abbrev pub RisesTo : List ℕ → List FeatureNo → ℕ → Type 0
+RisesTo numbers list n = (i j : ℕ) → i < j → j < n → key_at numbers list i ≤ key_at numbers list j
+
+-- nor along the first ones of each of the first lines, as many as are told
+pub record AreRising (numbers : List ℕ) (lines : List (List FeatureNo)) (counts : List ℕ) : Type 0 where
+  pub within : (l : ℕ) → l < length counts → slice_index_or counts l 0 ≤ length (slice_index_or lines l [])
+  pub rises : (l : ℕ) → l < length counts → RisesTo numbers (slice_index_or lines l []) (slice_index_or counts l 0)
+
 -- of two features the one with the lower number is first, of two of one name the one that the list has first
 abbrev pub ComesBefore : List ℕ → List FeatureNo → ℕ → ℕ → Type 0
 ComesBefore numbers list p q = (key_at numbers list p < key_at numbers list q) ⊎ ((key_at numbers list p ≡ key_at numbers list q) × (p < q))

@@ -1,8 +1,8 @@
-ghost use Rattle.std.specs.Prelude.{◌≡◌, ◌↔◌, ◌==◌, length, position, slice_index_or, [], IfOk, IsTrue};
+ghost use Rattle.std.specs.Prelude.{◌≡◌, ◌<◌, ◌≤◌, ◌==◌, ℕ, length, position, slice_index_or, [], IfOk};
 ghost use Rattle.std.specs.List.{range_with_len};
 ghost use Rattle.qvt_meta_names.specs.Named.{number_at};
 ghost use Rattle.qvt_meta_lists.specs.Lists.{all_lists};
-ghost use Rattle.qvt_meta_names.specs.Ordered.{key_at, IsRising, AreInOrder, IsOrdered, ArePlaced};
+ghost use Rattle.qvt_meta_names.specs.Ordered.{key_at, IsRising, RisesTo, AreRising, AreInOrder, IsOrdered, ArePlaced};
 
 use qvt_base::list_fault::ListFault;
 use qvt_base::lists::FeatureNoList;
@@ -34,18 +34,48 @@ fn key_at(numbers: &[u32], features: &[FeatureNo], place: u32) -> u32
     number_at(numbers, feature)
 }
 
-fn is_in_order(numbers: &[u32], features: &[FeatureNo]) -> bool
-    ensures { IsTrue result ↔ IsRising numbers.now features.now }
+/// The number of the name of the last of the first features, where there are so many.
+fn last_number(numbers: &[u32], features: &[FeatureNo], count: usize) -> u32
+    requires { count ≤ length features.now }
+    ensures { RisesTo numbers.now features.now count → (i : ℕ) → i < count → key_at numbers.now features.now i ≤ result }
 {
-    let mut last = 0;
-    for feature in features {
-        let number = number_at(numbers, *feature);
+    if count == 0 {
+        0
+    } else {
+        number_at(numbers, features[count - 1])
+    }
+}
+
+/// How many of the first features are in order, where so many are known to be.
+fn rising_count(numbers: &[u32], features: &[FeatureNo], known: usize) -> usize
+    requires within { known ≤ length features.now }
+    requires known { RisesTo numbers.now features.now known }
+    ensures within { result ≤ length features.now }
+    ensures rising { RisesTo numbers.now features.now result }
+{
+    let mut last = last_number(numbers, features, known);
+    for place in known..features.len() {
+        let number = number_at(numbers, features[place]);
         if number < last {
-            return false;
+            return place;
         }
         last = number;
     }
-    true
+    features.len()
+}
+
+/// How many of the first features of a line are known to be in order by the line that it begins with.
+fn known_count(numbers: &[u32], lists: &FeatureLists, counts: &[usize], line: usize) -> usize
+    requires counts { AreRising numbers.now lists.now.lines counts.now }
+    requires next { length counts.now ≡ line }
+    ensures within { result ≤ length (slice_index_or lists.now.lines line []) }
+    ensures rising { RisesTo numbers.now (slice_index_or lists.now.lines line []) result }
+{
+    let _ = numbers;
+    match lists.begin(line) {
+        None => 0,
+        Some(front) => front.count.min(counts[front.line]),
+    }
 }
 
 fn places_below(alloc: Global, count: u32) -> Result<Vec<u32>, ListFault>
@@ -78,10 +108,12 @@ fn place_order(
     alloc: Global,
     numbers: &[u32],
     features: &[FeatureNo],
+    rising: usize,
 ) -> Result<PlaceOrder, ListFault>
+    requires { RisesTo numbers.now features.now rising }
     ensures { IfOk result (λ order. IsOrdered numbers.now features.now order) }
 {
-    if is_in_order(numbers, features) {
+    if rising >= features.len() {
         return Ok(None);
     }
     let Ok(count) = u32::try_from(features.len()) else {
@@ -91,18 +123,24 @@ fn place_order(
     Ok(Some(places))
 }
 
-/// For each list the order in which it is searched. It is refused as out of memory where the length
-/// of a list that is not in order itself does not fit 32 bits.
+/// For each line the order in which it is searched. What a line begins with is not looked at again to tell whether it is in order.
+/// It is refused as out of memory where the length of a line that is not in order itself does not fit 32 bits.
 pub fn place_orders(
     alloc: Global,
     numbers: &[u32],
-    lists: &[FeatureNoList],
+    lists: &FeatureLists,
 ) -> Result<Vec<PlaceOrder>, ListFault>
-    ensures { IfOk result (λ v. ArePlaced numbers.now lists.now v.items) }
+    ensures { IfOk result (λ v. ArePlaced numbers.now lists.now.lines v.items) }
 {
+    let lines = lists.lines();
     let mut orders = Seq::new(alloc);
-    for at in 0..lists.len() {
-        orders.push(place_order(alloc, numbers, lists[at].as_slice())?)?;
+    let mut counts = Seq::new(alloc);
+    for at in 0..lines.len() {
+        let line = lines[at].as_slice();
+        let known = known_count(numbers, lists, counts.as_slice(), at);
+        let rising = rising_count(numbers, line, known);
+        orders.push(place_order(alloc, numbers, line, rising)?)?;
+        counts.push(rising)?;
     }
     Ok(orders.into_vec())
 }

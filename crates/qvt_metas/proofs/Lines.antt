@@ -28,7 +28,3 @@ lists_of b lines (f ∷ fronts) fit = λ i.
 pub lists_capped : (b : Begin) (lines : List (List FeatureNo)) (fronts : List Front) (next : List (List FeatureNo)) → next ≡ map (map (capped_on b)) lines
     → AllByRecursion (FeaturesFit b) (map (front_of lines) fronts) → map (front_of next) fronts ≡ map (map (feature_on b)) (map (front_of lines) fronts)
 lists_capped b lines fronts next same fit = ap (λ ls. map (front_of ls) fronts) same ∙ lists_of b lines fronts fit
-
-pub same_lengths : (b : Begin) (lines : List (List FeatureNo)) → map (λ l. length l) (map (map (capped_on b)) lines) ≡ map (λ l. length l) lines
-same_lengths b [] = refl
-same_lengths b (l ∷ lines) = λ i. length-map l (capped_on b) i ∷ same_lengths b lines i

@@ -121,7 +121,7 @@ impl Metas {
         let names = class_tables(alloc, metamodels.len() as u32, classes.as_slice(), count)?;
         let feature_names = feature_table(alloc, features.as_slice(), features.len() as u32)?;
         let numbers = name_numbers(alloc, &feature_names, features.as_slice())?;
-        let orders = place_orders(alloc, numbers.as_slice(), lists.lines())?;
+        let orders = place_orders(alloc, numbers.as_slice(), &lists)?;
         let enumerations = enum_tables(alloc, metamodels.as_slice())?;
         Ok(Metas {
             metamodels,

@@ -7,7 +7,7 @@ use Rattle.qvt_metamodel.specs.Joined.{ClassFits, FeatureFits, class_info_on, fe
 use Rattle.qvt_metamodel.proofs.Bools.{ap2}
 use Rattle.qvt_meta_lists.specs.Lists.{all_lists}
 use Rattle.qvt_metas.specs.Held.{capped_on}
-use Rattle.qvt_metas.proofs.Lines.{lists_capped, same_lengths}
+use Rattle.qvt_metas.proofs.Lines.{lists_capped}
 use Rattle.qvt_metas.proofs.Withs.{Both, both_of, classes_go_on, features_go_on, lists_go_on, rows_go_on, ranks_go_on, same, tables}
 use Rattle.qvt_metas.proofs.metas.Metas.with.Goals as goal
 
@@ -58,7 +58,7 @@ ranks_on-requires c =
 pub joined-requires-4 : goal.joined-requires-4
 joined-requires-4 c =
     let b : Begin = record { metamodel = c.len.result; class = c.len-2.result; feature = c.len-3.result } in
-    ap (map (λ l. length l)) (c.in_ok-lines.ensures ∙ ap (map (map (capped_on b))) c.lines.ensures) ∙ same_lengths b c.others.inside.lists.lines
+    (capped_on b, c.in_ok-lines.ensures ∙ ap (map (map (capped_on b))) c.lines.ensures)
 
 pub whole-requires : goal.whole-requires
 whole-requires c =
