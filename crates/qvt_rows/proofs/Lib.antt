@@ -1,0 +1,3 @@
+pub mod SetWords
+pub mod Pushed
+pub mod Handed
