@@ -18,7 +18,6 @@ use Rattle.qvt_run_rules.specs.Store.{new_object, put}
 use Rattle.qvt_run_rules.specs.Expressions.{literal, variable, on_first, conditional, operated, logical, called}
 use Rattle.qvt_run_rules.specs.Statements.{statement, discard, object, on_object, inner_target, member_target, assign_property, block, loop, turn}
 use Rattle.qvt_metamodel.specs.Metamodels.{features_of}
-use Rattle.qvt_metamodel.specs.Descends.{reaches as above}
 use Rattle.qvt_relation.specs.Closure.{reaches}
 use Rattle.qvt_types_units.specs.Choice.{chosen as choice}
 use Rattle.qvt_ocl_words.specs.Operation.{operation, answered, on_valid, unless_null, on_present, on_integer, compared}
@@ -60,15 +59,15 @@ unfolding finished main_run setting expr stmt stmts target late_source charge sc
 no_end = refl
 
 pub a_mapping : AMapping
-unfolding finished main_run setting expr stmt stmts target late_source charge scoped inside new_object put literal statement discard object on_object inner_target assign_property block features_of reaches on_first steps step map_step exprs variable read call_step chosen_for mapping_unit choice calls_to mapping_at mapping frame called_by once first first_inside caught with_key note in_own in_frame sections body made_by chosen_on member_target above same_key
+unfolding finished main_run setting expr stmt stmts target late_source charge scoped inside new_object put literal statement discard object on_object inner_target assign_property block features_of reaches on_first steps step map_step exprs variable read call_step chosen_for mapping_unit choice calls_to mapping_at mapping frame called_by once first first_inside caught with_key note in_own in_frame sections body made_by chosen_on member_target same_key
 a_mapping = refl
 
 pub late_slot : ALateResolve
-unfolding finished main_run setting expr stmt stmts target late_source charge scoped inside new_object put literal statement discard object on_object inner_target assign_property block features_of reaches on_first steps step map_step exprs variable read call_step chosen_for mapping_unit choice calls_to mapping_at mapping frame called_by once first first_inside caught with_key note in_own in_frame sections body made_by chosen_on member_target above same_key late answer candidates form_of
+unfolding finished main_run setting expr stmt stmts target late_source charge scoped inside new_object put literal statement discard object on_object inner_target assign_property block features_of reaches on_first steps step map_step exprs variable read call_step chosen_for mapping_unit choice calls_to mapping_at mapping frame called_by once first first_inside caught with_key note in_own in_frame sections body made_by chosen_on member_target same_key late answer candidates form_of
 late_slot = refl
 
 pub late_cost : ALateCost
-unfolding finished main_run setting expr stmt stmts target late_source charge scoped inside new_object put literal statement discard object on_object inner_target assign_property block features_of reaches on_first steps step map_step exprs variable read call_step chosen_for mapping_unit choice calls_to mapping_at mapping frame called_by once first first_inside caught with_key note in_own in_frame sections body made_by chosen_on member_target above same_key late answer candidates form_of
+unfolding finished main_run setting expr stmt stmts target late_source charge scoped inside new_object put literal statement discard object on_object inner_target assign_property block features_of reaches on_first steps step map_step exprs variable read call_step chosen_for mapping_unit choice calls_to mapping_at mapping frame called_by once first first_inside caught with_key note in_own in_frame sections body made_by chosen_on member_target same_key late answer candidates form_of
 late_cost = refl
 
 pub dot_on_null : ADotOnNull

@@ -18,7 +18,7 @@ use Rattle.qvt_metamodel.specs.declared.info.EnumInfo.{EnumInfo}
 use Rattle.qvt_metamodel.specs.declared.declared.DeclaredFeature.{DeclaredFeature}
 use Rattle.qvt_metamodel.specs.declared.declared.DeclaredClass.{DeclaredClass}
 use Rattle.qvt_metamodel.specs.Metamodels.{Metamodels, class_at, feature_at, shape_of, is_opposite, is_feature_number, features_of, features_in, each_once, has_feature, among_features, nowhere_class, nowhere_feature, is_single, is_one, is_containment, is_element}
-use Rattle.qvt_metamodel.specs.Descends.{is_superclass, reaches, is_above, descends, is_class_kind, is_class_type}
+use Rattle.qvt_metamodel.specs.Descends.{is_superclass, Inherits, reaches, descends, is_class_kind, is_class_type}
 use Rattle.qvt_metamodel.specs.Named.{metamodel_at, enumeration_at, literal_at, nowhere_enumeration, class_named, feature_named, enumeration_named, literal_named}
 use Rattle.qvt_metamodel.specs.WellFormed.{IsWellFormed, IsRegular, IsLiveKind}
 use Rattle.qvt_metamodel.specs.Kept.{AreRanks}
@@ -36,13 +36,14 @@ use Rattle.qvt_metamodel.proofs.Empty.{no_metamodels}
 use Rattle.qvt_metamodel.proofs.Infos.{featured_at, nothing_featured, all-at, map-at, map-at_all, length-class_infos, class_infos-at, length-feature_infos, feature_infos-at, FeatureAt, feature_at_place, length-numbers_from, numbers_from-at, among_numbers}
 use Rattle.qvt_metamodel.proofs.Lookups.{position-first, bytes_eq-refl, differ-before, some-within, untaken}
 use Rattle.qvt_metamodel.proofs.FeatureNames.{distinct as distinct_features, found_feature as named_feature}
+use Rattle.qvt_metamodel.proofs.Ancestors.{live as live_sub, path, reached, begins}
 use Rattle.qvt_metamodel.proofs.Owners.{Declared, declared, includes}
 use Rattle.qvt_metamodel.proofs.Opposites.{is_contained_wrong, typed_by_class, linked_once, declared_opposite, other_opposite, contained_right}
 use Rattle.qvt_metamodel.proofs.Order.{acyclic, antisymmetric, transitive, inherited}
 use Rattle.qvt_metamodel.proofs.Regular.{regular}
 use Rattle.qvt_meta_checks.proofs.Passing.{map_none, first_from-none, no_fault, repeated-append, repeated-alone, enums_alone, literals_alone, classes_differ}
 use Rattle.qvt_metamodel.proofs.Positions.{any-within, any-passes, none-at, no-position, place-below, place-found, place-is}
-use Rattle.qvt_metamodel.proofs.Stable.{no-features-past, none-above-past}
+use Rattle.qvt_metamodel.proofs.Stable.{no-features-past}
 
 no_text : is_utf8 [] ≡ true
 no_text = is_utf8-from_IsUtf8 [] IsUtf8-nil
@@ -185,7 +186,7 @@ module _ (d : MetaData) where
   class_name_is : (c : ℕ) → get_or names c [] ≡ (declared_at ks c).name
   class_name_is c = map-at_all (λ (k : DeclaredClass). k.name) ks c nothing_declared
 
-  declares : (c f : ℕ) → has_feature m c f ≡ true → Declared m (length infos) c f
+  declares : (c f : ℕ) → has_feature m c f ≡ true → Declared m c f
   unfolding features_of
   declares c f h = declared m (length infos) c f h
 
@@ -546,21 +547,19 @@ module _ (d : MetaData) (ok : IsChecked d) (ranks : List ℕ) (ranked : AreRanks
           clash (and_both _ _ type_is names_it) o.other
 
   -- the class that declares a feature is the one of its owner
-  declarer : (c f : ℕ) → (t : Declared w (length (infos d)) c f) → (feature_at w f).owner.0 ≡ t.class
+  declarer : (c f : ℕ) → (t : Declared w c f) → (feature_at w f).owner.0 ≡ t.class
   declarer c f t =
       let o : Own d t.class f = owns d t.class f t.own in
       ap (λ n. (feature_at w n).owner.0) o.is ∙ owner_is d t.class o.place o.live o.within
 
-  descends_to : (c e : ℕ) → (e ≡ c) ⊎ (is_above (length (infos d)) w e c ≡ true) → descends w c e ≡ true
-  unfolding reaches
-  descends_to c e (inl same) = or_left ((c == e) || false) (reaches w c e) (or_left (c == e) false (eq-eqb c e (sym same)))
-  descends_to c e (inr up) = or_right ((c == e) || false) (reaches w c e) up
+  descends_to : (c e : ℕ) → (c ≡ e) ⊎ Inherits w c e → descends w c e ≡ true
+  descends_to c e (inl same) = or_left ((c == e) || false) (reaches w c e) (or_left (c == e) false (eq-eqb c e same))
+  descends_to c e (inr up) = or_right ((c == e) || false) (reaches w c e) (reached w up)
 
-  descends_from : (c e : ℕ) → descends w c e ≡ true → (c ≡ e) ⊎ (is_above (length (infos d)) w e c ≡ true)
-  unfolding reaches
+  descends_from : (c e : ℕ) → descends w c e ≡ true → (c ≡ e) ⊎ Inherits w c e
   descends_from c e h = elim (or_cases ((c == e) || false) (reaches w c e) h) [
     | inl l ↦ elim (or_cases (c == e) false l) [ inl same ↦ inl (eqb-true c e same) | inr never ↦ absurd (cc) ]
-    | inr up ↦ inr up
+    | inr up ↦ inr (path w c e up)
   ]
 
   opposite_has_type_at : (p q c : ℕ) → is_opposite w p q ≡ true → has_feature w c p ≡ true → is_class_kind w c (shape_of w q).kind ≡ true
@@ -568,7 +567,7 @@ module _ (d : MetaData) (ok : IsChecked d) (ranks : List ℕ) (ranked : AreRanks
     where
       by : Pair p q → is_class_kind w c (shape_of w q).kind ≡ true
       by o =
-          let t : Declared w (length (infos d)) c p = declares d c p has in
+          let t : Declared w c p = declares d c p has in
           let same : t.class ≡ o.c = sym (declarer c p t) ∙ ap (λ n. (feature_at w n).owner.0) o.is_p ∙ owner_is d o.c o.j o.live_p o.within_p in
           let kind : (shape_of w q).kind ≡ Class (record { 0 = o.c }) =
           ap (λ n. (shape_of w n).kind) o.is_q ∙ kind_at o.e o.i o.live_q o.within_q ∙ ap (kind_of first_begin (enum_names d) (names_of ls)) o.type_q ∙ class_kind o.c o.live_p in
@@ -577,16 +576,13 @@ module _ (d : MetaData) (ok : IsChecked d) (ranks : List ℕ) (ranked : AreRanks
   low_rank : (c f : ℕ) → among_features f (class_at w c).own ≡ true → slice_index ranks c < length (infos d)
   low_rank c f h = ranked.bounded c (omega (arith, (owns d c f h).live, class_total d))
 
-  live_above : (k i c : ℕ) → is_above k w i c ≡ true → c < length (infos d)
-  live_above k i c h = elim (leb_tells (suc c) (length (infos d))) [
-    | inl t ↦ omega (arith, t.1)
-    | inr p ↦ absurd (clash h (none-above-past w k i c (get_or_past (infos d) c nowhere_class (omega (arith, p.1)))))
-  ]
+  live_above : (c e : ℕ) → Inherits w c e → c < length (infos d)
+  live_above c e up = (let s : (s : ℕ) × (is_superclass w c s ≡ true) × ((s ≡ e) ⊎ Inherits w s e) = begins w c e up in live_sub w c s.0 s.1)
 
-  inherits : (c e f : ℕ) → (c ≡ e) ⊎ (is_above (length (infos d)) w e c ≡ true) → among_features f (class_at w e).own ≡ true → has_feature w c f ≡ true
+  inherits : (c e f : ℕ) → (c ≡ e) ⊎ Inherits w c e → among_features f (class_at w e).own ≡ true → has_feature w c f ≡ true
   unfolding features_of
   inherits c e f (inl same) own = includes w ranks ranked (length (infos d)) e c f (subst (λ x. slice_index ranks x < length (infos d)) (sym same) (low_rank e f own)) (inl same) own
-  inherits c e f (inr up) own = includes w ranks ranked (length (infos d)) e c f (ranked.bounded c (live_above (length (infos d)) e c up)) (inr up) own
+  inherits c e f (inr up) own = includes w ranks ranked (length (infos d)) e c f (ranked.bounded c (live_above c e up)) (inr up) own
 
   type_has_opposite_at : (p q c : ℕ) → is_opposite w p q ≡ true → is_class_kind w c (shape_of w p).kind ≡ true → has_feature w c q ≡ true
   type_has_opposite_at p q c h is = by (pair p q h)

@@ -6,7 +6,6 @@ use Rattle.std.proofs.lemmas.List.{length-append, get_or_past, get_or-drop, leng
 use Rattle.std.proofs.lemmas.Bool.{ltb-true, lt-ltb, eqb-true, eq-eqb}
 use Rattle.qvt_base.specs.declared.numbers.ClassNo.{ClassNo}
 use Rattle.qvt_base.specs.declared.numbers.FeatureNo.{FeatureNo}
-use Rattle.qvt_relation.proofs.Closures.{reaches-closure}
 use Rattle.qvt_metamodel.specs.declared.given.ClassData.{ClassData}
 use Rattle.qvt_metamodel.specs.declared.given.FeatureData.{FeatureData}
 use Rattle.qvt_metamodel.specs.declared.info.ClassInfo.{ClassInfo}
@@ -20,11 +19,12 @@ use Rattle.qvt_metamodel.specs.Named.{metamodel_at, nowhere_metamodel}
 use Rattle.qvt_metamodel.specs.WellFormed.{IsWellFormed, IsLiveKind}
 use Rattle.qvt_metamodel.specs.Checks.{repeated_feature}
 use Rattle.qvt_metamodel.specs.Extended.{extended, unnamed, element_class, given_classes, given_count, IsGivenNumber, IsLoose, AreGiven}
+use Rattle.qvt_metamodel.proofs.Ancestors.{path}
 use Rattle.qvt_metamodel.proofs.Bools.{clash, and_both, and_left, and_right}
 use Rattle.qvt_metamodel.proofs.Halves.{Half, old, new, half, old-at, new-at}
 use Rattle.qvt_metamodel.proofs.Lookups.{none_from}
 use Rattle.qvt_meta_tables.specs.Tables.{of_classes, AreTables}
-use Rattle.qvt_meta_tables.specs.Search.{IsSuper, AreLive, IsAcyclic}
+use Rattle.qvt_meta_tables.specs.Search.{AreLive, IsAcyclic}
 use Rattle.qvt_meta_tables.specs.Cycles.{is_own_ancestor, cycle_from, first_cycle}
 use Rattle.qvt_meta_tables.proofs.Cyclic.{acyclic_of}
 use Rattle.qvt_meta_tables.proofs.Same.{features_of_same}
@@ -169,7 +169,7 @@ module _ (m : Metamodels) (cs : List ClassData) where
     where
       by : (o : Option ℕ) → first_cycle ks ≡ o → is_some o ≡ false
       by None e = refl
-      by (Some x) e = absurd (alone x (reaches-closure (is_superclass (of_classes ks)) (IsSuper ks) (record { sound = λ x y h. h; complete = λ x y h. h }) (length ks) x x (found_at ks 0 (length ks) x e)))
+      by (Some x) e = absurd (alone x (path (of_classes ks) x x (found_at ks 0 (length ks) x e)))
 
   acyclic_in : (ks : List ClassInfo) → ks ≡ (extended m cs).classes → IsWellFormed m → are_live m cs ≡ true → AreSound m cs → IsAcyclic ks
   acyclic_in ks e wm h sound = subst IsAcyclic (sym (e ∙ ap (λ (w : Metamodels). w.classes) (is_extended m cs)))

@@ -2,15 +2,14 @@
 use Rattle.std.proofs.Common.{◌≡◌, ◌∙◌, ℕ, zero, suc, ◌+◌, ◌<◌, ◌≤◌, ◌-◌, List, length, map, get_or, Bool, true, false, refl, ap, sym, arith, ◌==◌, inl, inr, Option, Some, None}
 use Rattle.std.specs.List.{list_any}
 use Rattle.std.specs.Prelude.{if◌then◌else◌}
-use Rattle.std.proofs.lemmas.List.{get_or_past, length-map}
-use Rattle.std.proofs.lemmas.Bool.Decides.{leb_tells}
+use Rattle.std.proofs.lemmas.List.{length-map}
 use Rattle.qvt_base.specs.declared.numbers.ClassNo.{ClassNo}
 use Rattle.qvt_relation.specs.Closure.{Closure, directly, through, reaches}
-use Rattle.qvt_relation.proofs.Closures.{closure-reaches}
 use Rattle.qvt_cycle.specs.Successors.{leads, is_on_cycle}
 use Rattle.qvt_metamodel.specs.declared.info.ClassInfo.{ClassInfo}
 use Rattle.qvt_metamodel.specs.Metamodels.{nowhere_class}
 use Rattle.qvt_metamodel.specs.Descends.{is_superclass}
+use Rattle.qvt_metamodel.proofs.Ancestors.{live, reached}
 use Rattle.qvt_metamodel.proofs.Bools.{clash}
 use Rattle.qvt_metamodel.proofs.Infos.{map-at_all}
 use Rattle.qvt_metamodel.proofs.Lists.{list_any-map}
@@ -25,12 +24,6 @@ leads_is ks c d =
 
 pub on_cycle_is : (ks : List ClassInfo) (c : ℕ) → is_on_cycle (map super_numbers ks) c ≡ is_own_ancestor ks c
 on_cycle_is ks c = (λ t. reaches (λ x y. leads_is ks x y t) (length-map ks super_numbers t) c c)
-
-starts_below : (ks : List ClassInfo) (x y : ℕ) → is_superclass (of_classes ks) x y ≡ true → x < length ks
-starts_below ks x y h = elim (leb_tells (suc x) (length ks)) [
-  | inl t ↦ omega (arith, t.1)
-  | inr f ↦ clash h (ap (λ (k : ClassInfo). list_any (λ s. s.0 == y) k.supers) (get_or_past ks x nowhere_class (omega (arith, f.1))))
-]
 
 pub cycle_next : (ks : List ClassInfo) (c n : ℕ) (all : Option ℕ) → c < n → is_own_ancestor ks c ≡ false → cycle_from ks c (n - c) ≡ all → cycle_from ks (c + 1) (n - (c + 1)) ≡ all
 cycle_next ks c n all l other e =
@@ -60,11 +53,8 @@ none_at ks c (suc n) e i l = by (is_own_ancestor ks c) refl e i l (none_at ks (s
 
 -- where no class is found, none is above itself
 pub acyclic_of : (ks : List ClassInfo) → first_cycle ks ≡ None → IsAcyclic ks
-acyclic_of ks e c way = clash up (ap (is_own_ancestor ks) (let same : c ≡ 0 + c = omega arith in same) ∙ none_at ks 0 (length ks) e c (start way))
+acyclic_of ks e c way = clash (reached (of_classes ks) way) (ap (is_own_ancestor ks) (let same : c ≡ 0 + c = omega arith in same) ∙ none_at ks 0 (length ks) e c (start way))
   where
     start : {x y : ℕ} → Closure (IsSuper ks) x y → x < length ks
-    start (directly {x} {y} h) = starts_below ks x y h
-    start (through {x} {y} {z} h p) = starts_below ks x y h
-
-    up : is_own_ancestor ks c ≡ true
-    up = closure-reaches (is_superclass (of_classes ks)) (IsSuper ks) (record { sound = λ x y h. h; complete = λ x y h. h }) (length ks) (record { starts = starts_below ks }) way
+    start (directly {x} {y} h) = live (of_classes ks) x y h
+    start (through {x} {y} {z} h p) = live (of_classes ks) x y h

@@ -1,5 +1,5 @@
 -- A table of classes that is made in an order.
-use Rattle.std.proofs.Common.{◌≡◌, ◌≢◌, ◌∙◌, ℕ, zero, suc, ◌+◌, ◌<◌, ◌≤◌, List, [], ◌∷◌, ◌++◌, length, get_or, set, false, refl, ap, sym, subst, arith, ◌⊎◌, inl, inr, replicate}
+use Rattle.std.proofs.Common.{◌≡◌, ◌≢◌, ◌∙◌, ℕ, zero, suc, ◌+◌, ◌<◌, ◌≤◌, List, [], ◌∷◌, ◌++◌, length, get_or, set, refl, ap, sym, subst, arith, ◌⊎◌, inl, inr, replicate}
 use Rattle.std.specs.Prelude.{slice_index}
 use Rattle.std.specs.List.{flat_map}
 use Rattle.std.proofs.lemmas.List.{get_or_past, get_or-set_same, get_or-set_other}
@@ -9,11 +9,10 @@ use Rattle.qvt_base.specs.declared.numbers.ClassNo.{ClassNo}
 use Rattle.qvt_base.specs.declared.numbers.FeatureNo.{FeatureNo}
 use Rattle.qvt_metamodel.specs.declared.info.ClassInfo.{ClassInfo}
 use Rattle.qvt_metamodel.specs.Metamodels.{Metamodels, class_at, features_in, features_of, each_once, nowhere_class}
-use Rattle.qvt_metamodel.specs.Descends.{reaches}
 use Rattle.qvt_metamodel.specs.Kept.{AreRanks}
 use Rattle.qvt_meta_tables.specs.Tables.{of_classes, IsOrder}
 use Rattle.qvt_metamodel.proofs.Lists.{all-imply, flat_map-cong}
-use Rattle.qvt_metamodel.proofs.Stable.{features-stable, no-features-past, none-above-past}
+use Rattle.qvt_metamodel.proofs.Stable.{features-stable, no-features-past}
 
 set_past : {X : Type 0} (xs : List X) (i : ℕ) (x : X) → length xs ≤ i → set xs i x ≡ xs
 set_past [] i x h = refl
@@ -65,10 +64,6 @@ module _ (ks : List ClassInfo) (order ranks : List ℕ) (ok : IsOrder (of_classe
   pub no_features : (c : ℕ) → length ks ≤ c → features_of m c ≡ []
   unfolding features_of
   no_features c h = no-features-past m (length ks) c (no_class c h)
-
-  pub no_ancestor : (c d : ℕ) → length ks ≤ c → reaches m c d ≡ false
-  unfolding reaches
-  no_ancestor c d h = none-above-past m (length ks) d c (no_class c h)
 
   -- a table that is right for the superclasses of a class gives what is right for the class
   list_right : (lists : List (List FeatureNo)) (k c : ℕ) → length lists ≡ length ks

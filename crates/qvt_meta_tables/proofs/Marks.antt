@@ -12,10 +12,10 @@ use Rattle.qvt_metamodel.specs.Metamodels.{class_at}
 use Rattle.qvt_metamodel.specs.Descends.{reaches}
 use Rattle.qvt_metamodel.specs.Kept.{is_marked, no_row}
 use Rattle.qvt_meta_tables.specs.Tables.{of_classes, IsOrder, EndsWithin}
-use Rattle.qvt_metamodel.proofs.Ancestors.{one_more}
+use Rattle.qvt_metamodel.proofs.Ancestors.{one_more, none_past}
 use Rattle.qvt_metamodel.proofs.Bools.{and_left, and_right}
 use Rattle.qvt_metamodel.proofs.Rows.{no_mark}
-use Rattle.qvt_meta_tables.proofs.Filling.{done_next, no_ancestor}
+use Rattle.qvt_meta_tables.proofs.Filling.{done_next}
 use Rattle.qvt_metamodel.proofs.Lists.{all-imply, list_any-cong}
 
 or_assoc : (a b c r : Bool) → ((a || b || c) || r) ≡ (a || ((b || c) || r))
@@ -63,12 +63,12 @@ module _ (ks : List ClassInfo) (order ranks : List ℕ) (ok : IsOrder (of_classe
       list_any-cong _ _ (class_at (of_classes ks) c).supers
       (all-imply (λ (s : ClassNo). slice_index ranks s.0 < slice_index ranks c) (λ (s : ClassNo). ((s.0 == d) || is_marked (get_or rows s.0 no_row) d) ≡ ((s.0 == d) || reaches (of_classes ks) s.0 d)) (class_at (of_classes ks) c).supers
       (λ s less. ap (λ t. (s.0 == d) || t) (at s.0 (omega (arith, less, low)))) (ok.ranked.rise c))
-      ∙ sym (one_more (of_classes ks) ranks ok.ranked (length ks) c d refl live)
+      ∙ sym (one_more (of_classes ks) c d)
     where
       at : (s : ℕ) → slice_index ranks s < k → is_marked (get_or rows s no_row) d ≡ reaches (of_classes ks) s d
       at s l = elim (leb_tells (suc s) (length ks)) [
         | inl t ↦ done s (omega (arith, t.1)) l d
-        | inr f ↦ ap (λ r. is_marked r d) (get_or_past rows s no_row (omega (arith, each, f.1))) ∙ no_mark d ∙ sym (no_ancestor ks order ranks ok s d (omega (arith, f.1)))
+        | inr f ↦ ap (λ r. is_marked r d) (get_or_past rows s no_row (omega (arith, each, f.1))) ∙ no_mark d ∙ sym (none_past (of_classes ks) s d (omega (arith, f.1)))
       ]
 
   pub rows_next : (rows : List Row) (k place : ℕ) (row : Row) → length rows ≡ length ks → slice_index order k ≡ place
@@ -83,5 +83,5 @@ module _ (ks : List ClassInfo) (order ranks : List ℕ) (ok : IsOrder (of_classe
       → (c d : ℕ) → is_marked (get_or rows c no_row) d ≡ reaches (of_classes ks) c d
   rows_all rows each done c d = elim (leb_tells (suc c) (length ks)) [
     | inl t ↦ done c (omega (arith, t.1)) (omega (arith, ok.ranked.bounded c (omega (arith, t.1)), ok.all)) d
-    | inr f ↦ ap (λ r. is_marked r d) (get_or_past rows c no_row (omega (arith, each, f.1))) ∙ no_mark d ∙ sym (no_ancestor ks order ranks ok c d (omega (arith, f.1)))
+    | inr f ↦ ap (λ r. is_marked r d) (get_or_past rows c no_row (omega (arith, each, f.1))) ∙ no_mark d ∙ sym (none_past (of_classes ks) c d (omega (arith, f.1)))
   ]

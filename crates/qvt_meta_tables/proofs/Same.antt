@@ -1,12 +1,11 @@
 -- The tables of a list of metamodels are those of its classes alone.
-use Rattle.std.proofs.Common.{◌≡◌, ◌∙◌, ℕ, zero, suc, List, [], ◌++◌, length, refl, ap, ◌==◌, ◌||◌}
+use Rattle.std.proofs.Common.{◌≡◌, ◌∙◌, ℕ, zero, suc, List, [], ◌++◌, length, refl, ap}
 use Rattle.qvt_base.specs.declared.numbers.ClassNo.{ClassNo}
 use Rattle.qvt_base.specs.declared.numbers.FeatureNo.{FeatureNo}
 use Rattle.qvt_metamodel.specs.declared.row.Row.{Row}
 use Rattle.qvt_metamodel.specs.Metamodels.{Metamodels, class_at, features_in, features_of, each_once}
-use Rattle.qvt_metamodel.specs.Descends.{reaches, is_above}
 use Rattle.qvt_metamodel.specs.Kept.{AreRanks}
-use Rattle.qvt_metamodel.proofs.Lists.{all-every, list_any-cong, flat_map-cong}
+use Rattle.qvt_metamodel.proofs.Lists.{all-every, flat_map-cong}
 use Rattle.qvt_meta_tables.specs.Tables.{of_classes, AreTables}
 
 -- what the tables hold depends on the classes alone
@@ -16,19 +15,9 @@ features_same m (suc k) c =
     ap (λ l. each_once [] l ++ (class_at m c).own)
     (flat_map-cong _ _ (class_at m c).supers (all-every (λ (s : ClassNo). features_in k (of_classes m.classes) s.0 ≡ features_in k m s.0) (class_at m c).supers (λ s. features_same m k s.0)))
 
-pub above_same : (m : Metamodels) (k d c : ℕ) → is_above k (of_classes m.classes) d c ≡ is_above k m d c
-above_same m zero d c = refl
-above_same m (suc k) d c =
-    list_any-cong _ _ (class_at m c).supers
-    (all-every (λ (s : ClassNo). ((s.0 == d) || is_above k (of_classes m.classes) d s.0) ≡ ((s.0 == d) || is_above k m d s.0)) (class_at m c).supers (λ s. ap (λ t. (s.0 == d) || t) (above_same m k d s.0)))
-
 pub features_of_same : (m : Metamodels) (c : ℕ) → features_of (of_classes m.classes) c ≡ features_of m c
 unfolding features_of
 features_of_same m c = features_same m (length m.classes) c
-
-pub reaches_same : (m : Metamodels) (c d : ℕ) → reaches (of_classes m.classes) c d ≡ reaches m c d
-unfolding reaches
-reaches_same m c d = above_same m (length m.classes) d c
 
 pub ranks_same : (m : Metamodels) (ranks : List ℕ) → AreRanks (of_classes m.classes) ranks → AreRanks m ranks
 ranks_same m ranks ok = record { each = ok.each; bounded = ok.bounded; rise = ok.rise }
@@ -40,5 +29,5 @@ tables_same m lists rows ranks ok = record {
   each_row = ok.each_row;
   starts = ok.starts;
   features = λ c. ok.features c ∙ features_of_same m c;
-  ancestors = λ c d. ok.ancestors c d ∙ reaches_same m c d;
+  ancestors = ok.ancestors;
 }

@@ -1,8 +1,7 @@
 -- Classes that are above themselves.
 use Rattle.std.specs.Prelude.{ℕ, zero, suc, Bool, List, map, length, Option, Some, None, if◌then◌else◌}
-use Rattle.qvt_relation.specs.Closure.{reaches}
 use Rattle.qvt_metamodel.specs.declared.info.ClassInfo.{ClassInfo}
-use Rattle.qvt_metamodel.specs.Descends.{is_superclass}
+use Rattle.qvt_metamodel.specs.Descends.{reaches}
 use Rattle.qvt_meta_tables.specs.Tables.{of_classes}
 
 -- the numbers of the superclasses
@@ -10,7 +9,7 @@ abbrev pub super_numbers : ClassInfo → List ℕ
 super_numbers k = map (λ s. s.0) k.supers
 
 abbrev pub is_own_ancestor : List ClassInfo → ℕ → Bool
-is_own_ancestor ks c = reaches (is_superclass (of_classes ks)) (length ks) c c
+is_own_ancestor ks c = reaches (of_classes ks) c c
 
 abbrev pub cycle_from : List ClassInfo → ℕ → ℕ → Option ℕ
 cycle_from ks c zero = None

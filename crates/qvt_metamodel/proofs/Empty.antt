@@ -4,8 +4,8 @@ use Rattle.std.specs.Str.{is_utf8}
 use Rattle.std.proofs.lemmas.Str.{is_utf8-from_IsUtf8, IsUtf8-nil}
 use Rattle.qvt_metamodel.specs.Metamodels.{Metamodels, features_of}
 use Rattle.std.proofs.lemmas.Bool.{eqb-true}
-use Rattle.qvt_relation.specs.Closure.{Closure, directly, through}
-use Rattle.qvt_metamodel.specs.Descends.{is_superclass, reaches, descends}
+use Rattle.qvt_relation.specs.Closure.{directly, through, reaches as reaches_by}
+use Rattle.qvt_metamodel.specs.Descends.{Inherits, reaches, descends}
 use Rattle.qvt_metamodel.specs.WellFormed.{IsWellFormed, IsRegular}
 use Rattle.qvt_metamodel.specs.Kept.{IsKept}
 use Rattle.qvt_metamodel.proofs.Bools.{or_cases, clash}
@@ -20,10 +20,10 @@ unfolding features_of
 no_features c = refl
 
 no_ancestor : (c d : ℕ) → reaches no_metamodels c d ≡ false
-unfolding reaches
+unfolding reaches_by
 no_ancestor c d = refl
 
-no_path : {c d : ℕ} → Closure (λ x y. is_superclass no_metamodels x y ≡ true) c d → ⊥
+no_path : {c d : ℕ} → Inherits no_metamodels c d → ⊥
 no_path (directly {x} {y} h) = cc
 no_path (through {x} {y} {z} h p) = cc
 

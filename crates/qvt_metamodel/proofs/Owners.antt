@@ -2,14 +2,14 @@
 use Rattle.std.proofs.Common.{◌≡◌, ◌∙◌, ℕ, zero, suc, ◌<◌, List, [], ◌∷◌, ◌++◌, Bool, true, false, refl, ap, sym, subst, arith, ◌==◌, ◌||◌, ◌⊎◌, inl, inr}
 use Rattle.std.specs.Prelude.{slice_index, if◌then◌else◌}
 use Rattle.std.specs.List.{list_any, flat_map, AllByRecursion}
-use Rattle.std.proofs.lemmas.Bool.{eqb-true, eq-eqb}
+use Rattle.std.proofs.lemmas.Bool.{eqb-true}
 use Rattle.qvt_base.specs.declared.numbers.ClassNo.{ClassNo}
 use Rattle.qvt_base.specs.declared.numbers.FeatureNo.{FeatureNo}
 use Rattle.qvt_metamodel.specs.Metamodels.{Metamodels, class_at, features_in, among_features, each_once}
-use Rattle.qvt_metamodel.specs.Descends.{is_above}
+use Rattle.qvt_metamodel.specs.Descends.{is_superclass, Inherits}
 use Rattle.qvt_metamodel.specs.Kept.{AreRanks}
 use Rattle.qvt_metamodel.proofs.Bools.{or_cases, or_left, or_right}
-use Rattle.qvt_metamodel.proofs.Ancestors.{Found, found, passing}
+use Rattle.qvt_metamodel.proofs.Ancestors.{Found, found, passing, begins, over}
 
 pub among-append : (f : ℕ) (xs ys : List FeatureNo) → among_features f (xs ++ ys) ≡ (among_features f xs || among_features f ys)
 among-append f [] ys = refl
@@ -72,44 +72,37 @@ all-there P (x ∷ xs) d all h = elim (or_cases (x.0 == d) (list_any (λ s. s.0 
   | inr later ↦ all-there P xs d all.1 later
 ]
 
--- the class that declares f is c, or above it in at most k steps
-pub record Declared (m : Metamodels) (k c f : ℕ) : Type 0 where
+-- the class that declares f is c, or above it
+pub record Declared (m : Metamodels) (c f : ℕ) : Type 0 where
   pub class : ℕ
   pub own : among_features f (class_at m class).own ≡ true
-  pub up : (class ≡ c) ⊎ (is_above k m class c ≡ true)
+  pub up : (c ≡ class) ⊎ Inherits m c class
 
 module _ (m : Metamodels) where
   abbrev flat : ℕ → ℕ → List FeatureNo
   flat k c = flat_map (λ s. features_in k m s.0) (class_at m c).supers
 
-  pub declared : (k c f : ℕ) → among_features f (features_in k m c) ≡ true → Declared m k c f
+  pub declared : (k c f : ℕ) → among_features f (features_in k m c) ≡ true → Declared m c f
   declared zero c f h = absurd (cc)
   declared (suc k) c f h =
       elim (or_cases (among_features f (each_once [] (flat k c))) (among_features f (class_at m c).own) (sym (among-append f (each_once [] (flat k c)) (class_at m c).own) ∙ h)) [
         | inl i ↦ (let g : Found (λ s. among_features f (features_in k m s)) (class_at m c).supers =
             found (λ s. among_features f (features_in k m s)) (class_at m c).supers (sym (among-flat (λ s. features_in k m s) (class_at m c).supers f) ∙ once-from [] (flat k c) f i) in
-            let r : Declared m k g.class f = declared k g.class f g.passes in
-            record { class = r.class; own = r.own; up = inr (passing (λ s. (s == r.class) || is_above k m r.class s) (class_at m c).supers g.class g.there (one_step k r.class g.class r.up)) })
+            let r : Declared m g.class f = declared k g.class f g.passes in
+            record { class = r.class; own = r.own; up = inr (over m c g.class r.class g.there r.up) })
         | inr o ↦ record { class = c; own = o; up = inl refl }
       ]
-    where
-      one_step : (k e s : ℕ) → (e ≡ s) ⊎ (is_above k m e s ≡ true) → ((s == e) || is_above k m e s) ≡ true
-      one_step k e s (inl same) = or_left (s == e) (is_above k m e s) (eq-eqb s e (sym same))
-      one_step k e s (inr up) = or_right (s == e) (is_above k m e s) up
 
   module _ (ranks : List ℕ) (ok : AreRanks m ranks) where
-    pub includes : (k i c f : ℕ) → slice_index ranks c < k → (c ≡ i) ⊎ (is_above k m i c ≡ true) → among_features f (class_at m i).own ≡ true → among_features f (features_in k m c) ≡ true
+    pub includes : (k i c f : ℕ) → slice_index ranks c < k → (c ≡ i) ⊎ Inherits m c i → among_features f (class_at m i).own ≡ true → among_features f (features_in k m c) ≡ true
     includes zero i c f low up own = absurd (omega arith)
     includes (suc k) i c f low (inl same) own =
         among-append f (each_once [] (flat k c)) (class_at m c).own
         ∙ or_right (among_features f (each_once [] (flat k c))) (among_features f (class_at m c).own) (subst (λ x. among_features f (class_at m x).own ≡ true) (sym same) own)
     includes (suc k) i c f low (inr up) own =
-        let g : Found (λ s. (s == i) || is_above k m i s) (class_at m c).supers = found (λ s. (s == i) || is_above k m i s) (class_at m c).supers up in
-        let less : slice_index ranks g.class < slice_index ranks c = all-there (λ s. slice_index ranks s < slice_index ranks c) (class_at m c).supers g.class (ok.rise c) g.there in
-        let there : among_features f (features_in k m g.class) ≡ true = elim (or_cases (g.class == i) (is_above k m i g.class) g.passes) [
-          | inl e ↦ includes k i g.class f (omega (arith, less, low)) (inl (eqb-true g.class i e)) own
-          | inr a ↦ includes k i g.class f (omega (arith, less, low)) (inr a) own
-        ] in
-        let flat_has : among_features f (flat k c) ≡ true = among-flat (λ s. features_in k m s) (class_at m c).supers f ∙ passing (λ s. among_features f (features_in k m s)) (class_at m c).supers g.class g.there there in
+        let s : (s : ℕ) × (is_superclass m c s ≡ true) × ((s ≡ i) ⊎ Inherits m s i) = begins m c i up in
+        let less : slice_index ranks s.0 < slice_index ranks c = all-there (λ s. slice_index ranks s < slice_index ranks c) (class_at m c).supers s.0 (ok.rise c) s.1 in
+        let there : among_features f (features_in k m s.0) ≡ true = includes k i s.0 f (omega (arith, less, low)) s.2 own in
+        let flat_has : among_features f (flat k c) ≡ true = among-flat (λ s. features_in k m s) (class_at m c).supers f ∙ passing (λ s. among_features f (features_in k m s)) (class_at m c).supers s.0 s.1 there in
         among-append f (each_once [] (flat k c)) (class_at m c).own
         ∙ or_left (among_features f (each_once [] (flat k c))) (among_features f (class_at m c).own) (elim (once-has [] (flat k c) f flat_has) [ inl never ↦ absurd (cc) | inr after ↦ after ])

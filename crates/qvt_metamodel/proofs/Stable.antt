@@ -1,23 +1,14 @@
 -- With ranks that rise towards the subclasses, more steps than a class's rank change nothing.
-use Rattle.std.proofs.Common.{◌≡◌, ℕ, zero, suc, ◌<◌, List, [], ◌++◌, false, refl, ap, arith, ◌==◌, ◌||◌}
+use Rattle.std.proofs.Common.{◌≡◌, ℕ, zero, suc, ◌<◌, List, [], ◌++◌, refl, ap, arith}
 use Rattle.std.specs.Prelude.{slice_index}
-use Rattle.std.specs.List.{list_any, flat_map}
+use Rattle.std.specs.List.{flat_map}
 use Rattle.qvt_base.specs.declared.numbers.ClassNo.{ClassNo}
 use Rattle.qvt_metamodel.specs.declared.info.ClassInfo.{ClassInfo}
 use Rattle.qvt_metamodel.specs.Metamodels.{Metamodels, class_at, nowhere_class, features_in, each_once}
-use Rattle.qvt_metamodel.specs.Descends.{is_above}
 use Rattle.qvt_metamodel.specs.Kept.{AreRanks}
-use Rattle.qvt_metamodel.proofs.Lists.{all-imply, list_any-cong, flat_map-cong}
+use Rattle.qvt_metamodel.proofs.Lists.{all-imply, flat_map-cong}
 
 module _ (m : Metamodels) (ranks : List ℕ) (ok : AreRanks m ranks) where
-  pub above-stable : (j k d c : ℕ) → slice_index ranks c < j → slice_index ranks c < k → is_above j m d c ≡ is_above k m d c
-  above-stable zero k d c h i = absurd (omega arith)
-  above-stable (suc j) zero d c h i = absurd (omega arith)
-  above-stable (suc j) (suc k) d c h i =
-      list_any-cong _ _ (class_at m c).supers
-      (all-imply (λ (s : ClassNo). slice_index ranks s.0 < slice_index ranks c) (λ (s : ClassNo). ((s.0 == d) || is_above j m d s.0) ≡ ((s.0 == d) || is_above k m d s.0)) (class_at m c).supers
-      (λ s less. ap (λ t. (s.0 == d) || t) (above-stable j k d s.0 (omega (arith, less, h)) (omega (arith, less, i)))) (ok.rise c))
-
   pub features-stable : (j k c : ℕ) → slice_index ranks c < j → slice_index ranks c < k → features_in j m c ≡ features_in k m c
   features-stable zero k c h i = absurd (omega arith)
   features-stable (suc j) zero c h i = absurd (omega arith)
@@ -30,7 +21,3 @@ module _ (m : Metamodels) (ranks : List ℕ) (ok : AreRanks m ranks) where
 pub no-features-past : (m : Metamodels) (k c : ℕ) → class_at m c ≡ nowhere_class → features_in k m c ≡ []
 no-features-past m zero c e = refl
 no-features-past m (suc k) c e = ap (λ (x : ClassInfo). each_once [] (flat_map (λ s. features_in k m s.0) x.supers) ++ x.own) e
-
-pub none-above-past : (m : Metamodels) (k d c : ℕ) → class_at m c ≡ nowhere_class → is_above k m d c ≡ false
-none-above-past m zero d c e = refl
-none-above-past m (suc k) d c e = ap (λ (x : ClassInfo). list_any (λ s. (s.0 == d) || is_above k m d s.0) x.supers) e

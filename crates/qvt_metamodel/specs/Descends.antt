@@ -1,7 +1,8 @@
 -- Which classes are above a class (EMOF 12.4.1, Class::superClass): the least set that has its superclasses and what is
--- above these. The class Element, where there is one, is above every class.
-use Rattle.std.specs.Prelude.{◌≡◌, ℕ, Bool, true, false, ◌==◌, ◌||◌, ◌⊎◌, length, IsTrue, zero, suc}
+-- above these. The class Element, where there is one, is above every class. The subclass stands first.
+use Rattle.std.specs.Prelude.{◌≡◌, ℕ, Bool, true, false, ◌==◌, ◌||◌, ◌⊎◌, length, IsTrue}
 use Rattle.std.specs.List.{list_any}
+use Rattle.qvt_relation.specs.Closure.{Closure, reaches as reaches_by}
 use Rattle.qvt_metamodel.specs.declared.info.TypeKind.{TypeKind}
 use Rattle.qvt_metamodel.specs.declared.info.TypeKind.TheVariants.{Bool as BoolKind, Int, Str, Enum, Class}
 use Rattle.qvt_metamodel.specs.Metamodels.{Metamodels, class_at, is_element}
@@ -10,19 +11,17 @@ use Rattle.qvt_metamodel.specs.Metamodels.{Metamodels, class_at, is_element}
 abbrev pub is_superclass : Metamodels → ℕ → ℕ → Bool
 is_superclass m sub sup = list_any (λ s. s.0 == sup) (class_at m sub).supers
 
+-- superclasses lead from sub up to sup
+abbrev pub Inherits : Metamodels → ℕ → ℕ → Type 0
+Inherits m = Closure (λ c d. IsTrue (is_superclass m c d))
+
+-- the same as a word that computes
+abbrev pub reaches : Metamodels → ℕ → ℕ → Bool
+reaches m = reaches_by (is_superclass m) (length m.classes)
+
 -- sup is above sub
-pub data IsAncestor (m : Metamodels) (sup : ℕ) : ℕ → Type 0 where
-  superclass : (sub : ℕ) → IsTrue (is_superclass m sub sup) → IsAncestor m sup sub
-  above : (sub c : ℕ) → IsTrue (is_superclass m sub c) → IsAncestor m sup c → IsAncestor m sup sub
-  element : (sub : ℕ) → IsTrue (is_element m sup) → IsAncestor m sup sub
-
--- the same as a word that computes: sup is above sub in at most n steps
-abbrev pub is_above : ℕ → Metamodels → ℕ → ℕ → Bool
-is_above zero m sup sub = false
-is_above (suc n) m sup sub = list_any (λ s. (s.0 == sup) || is_above n m sup s.0) (class_at m sub).supers
-
-unfoldable pub reaches : Metamodels → ℕ → ℕ → Bool
-reaches m sub sup = is_above (length m.classes) m sup sub
+abbrev pub IsAncestor : Metamodels → ℕ → ℕ → Type 0
+IsAncestor m sub sup = Inherits m sub sup ⊎ IsTrue (is_element m sup)
 
 -- sub is sup, or sup is above it
 abbrev pub descends : Metamodels → ℕ → ℕ → Bool
@@ -46,4 +45,4 @@ is_class_type (Class d) = true
 
 -- sub is sup, or sup is among the classes above it
 abbrev pub Descends : Metamodels → ℕ → ℕ → Type 0
-Descends m sub sup = (sub ≡ sup) ⊎ IsAncestor m sup sub
+Descends m sub sup = (sub ≡ sup) ⊎ IsAncestor m sub sup

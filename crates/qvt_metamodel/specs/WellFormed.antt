@@ -1,11 +1,10 @@
 -- What every list of metamodels keeps, since each of its metamodels passed the checks (EMOF 12.5).
 use Rattle.std.specs.Prelude.{◌≡◌, ◌≢◌, ℕ, ◌<◌, ◌^◌, length, slice_index_or, IsTrue, IsFalse, Some, []}
 use Rattle.std.specs.Str.{is_utf8}
-use Rattle.qvt_relation.specs.Closure.{Closure}
 use Rattle.qvt_metamodel.specs.declared.info.TypeKind.{TypeKind}
 use Rattle.qvt_metamodel.specs.declared.info.TypeKind.TheVariants.{Bool as BoolKind, Int, Str, Enum, Class}
 use Rattle.qvt_metamodel.specs.Metamodels.{Metamodels, class_at, feature_at, shape_of, is_opposite, is_containment, is_single, features_of, has_feature, is_element}
-use Rattle.qvt_metamodel.specs.Descends.{is_class_kind, is_class_type, is_superclass, descends}
+use Rattle.qvt_metamodel.specs.Descends.{is_class_kind, is_class_type, is_superclass, Inherits, descends}
 use Rattle.qvt_metamodel.specs.Named.{metamodel_at, enumeration_at, literal_at, class_named, feature_named, enumeration_named, literal_named}
 
 -- the numbers inside a type are those of a metamodel, an enumeration and a class that are there
@@ -19,7 +18,7 @@ IsLiveKind m (Class c) = c.0 < length m.classes
 -- descent is an order that hands features down; the class above all is apart; a containment holds objects, each once
 pub record IsRegular (m : Metamodels) : Type 0 where
   -- no class is above itself
-  pub acyclic : (c : ℕ) → Closure (λ x y. IsTrue (is_superclass m x y)) c c → ⊥
+  pub acyclic : (c : ℕ) → Inherits m c c → ⊥
   pub antisymmetric : (c d : ℕ) → IsTrue (descends m c d) → IsTrue (descends m d c) → c ≡ d
   pub transitive : (c d e : ℕ) → IsTrue (descends m c d) → IsTrue (descends m d e) → IsTrue (descends m c e)
   -- who descends from a class has its features

@@ -8,6 +8,7 @@ use Rattle.std.proofs.lemmas.Bool.{eqb-true, ltb-true}
 use Rattle.qvt_base.specs.declared.numbers.ClassNo.{ClassNo}
 use Rattle.qvt_base.specs.declared.numbers.FeatureNo.{FeatureNo}
 use Rattle.qvt_json.specs.Repeated.{repeated}
+use Rattle.qvt_relation.specs.Closure.{directly, through}
 use Rattle.qvt_metamodel.specs.declared.given.ClassData.{ClassData}
 use Rattle.qvt_metamodel.specs.declared.given.FeatureData.{FeatureData}
 use Rattle.qvt_metamodel.specs.declared.info.TypeKind.{TypeKind}
@@ -16,7 +17,7 @@ use Rattle.qvt_metamodel.specs.declared.info.MetamodelInfo.{MetamodelInfo}
 use Rattle.qvt_metamodel.specs.declared.info.ClassInfo.{ClassInfo}
 use Rattle.qvt_metamodel.specs.declared.info.FeatureInfo.{FeatureInfo}
 use Rattle.qvt_metamodel.specs.Metamodels.{Metamodels, class_at, feature_at, shape_of, is_opposite, is_feature_number, is_class_number, features_of, features_in, has_feature, among_features, each_once, nowhere_class, nowhere_feature, is_single, is_containment, is_one, is_element}
-use Rattle.qvt_metamodel.specs.Descends.{is_superclass, reaches, is_above, is_class_kind, is_class_type}
+use Rattle.qvt_metamodel.specs.Descends.{is_superclass, Inherits, reaches, is_class_kind, is_class_type}
 use Rattle.qvt_metamodel.specs.Named.{metamodel_at, nowhere_metamodel, nowhere_enumeration, class_named, feature_named}
 use Rattle.qvt_metamodel.specs.WellFormed.{IsWellFormed, IsRegular, IsLiveKind}
 use Rattle.qvt_metamodel.specs.Kept.{AreRanks, IsKept}
@@ -27,7 +28,7 @@ use Rattle.qvt_metamodel.specs.Extended.{unnamed, element_class, given_class, gi
 use Rattle.std.proofs.lemmas.Str.{is_utf8-from_IsUtf8, IsUtf8-nil, IsUtf8-from_ascii}
 use Rattle.qvt_metamodel.proofs.Bools.{ap2, clash, not_true, or_cases, and_left, and_right}
 use Rattle.qvt_metamodel.proofs.Halves.{Half, old, new, half, new-at}
-use Rattle.qvt_metamodel.proofs.Ancestors.{Found, found}
+use Rattle.qvt_metamodel.proofs.Ancestors.{path}
 use Rattle.qvt_metamodel.proofs.Infos.{among_numbers}
 use Rattle.qvt_metamodel.proofs.Owners.{Declared, declared}
 use Rattle.qvt_metamodel.proofs.Order.{acyclic, antisymmetric, transitive, inherited}
@@ -208,19 +209,13 @@ module _ (m : Metamodels) (cs : List ClassData) where
             (given_supers (IsGivenNumber m cs) K F cs given.supers i) h
 
     -- what is above a class that comes comes too
-    above_any : (k x : ℕ) → ((i : ℕ) → is_above k W x (B + i) ≡ true → B ≤ x) → (y : ℕ) → Half B y → B < y → is_above k W x y ≡ true → B ≤ x
-    above_any k x more _ (old _ l) low up = absurd (omega (arith, l, low))
-    above_any k x more _ (new i) low up = more i up
+    super_any : (y x : ℕ) → Half B y → B ≤ y → is_superclass W y x ≡ true → B ≤ x
+    super_any _ x (old _ l) low h = absurd (omega (arith, l, low))
+    super_any _ x (new i) low h = (let s : (B < x) × (x < B + (1 + length cs)) = super_new i x h in omega (arith, s.0))
 
-    above_new : (k x i : ℕ) → is_above k W x (B + i) ≡ true → B ≤ x
-    above_new zero x i h = absurd (cc)
-    above_new (suc k) x i h =
-        let s : Found (λ y. (y == x) || is_above k W x y) (class_at W (B + i)).supers = found (λ y. (y == x) || is_above k W x y) (class_at W (B + i)).supers h in
-        let low : B < s.class = (super_new i s.class s.there).0 in
-        elim (or_cases (s.class == x) (is_above k W x s.class) s.passes) [
-          | inl same ↦ (let e : s.class ≡ x = eqb-true s.class x same in omega (arith, e, low))
-          | inr up ↦ above_any k x (λ i h. above_new k x i h) s.class (half B s.class) low up
-        ]
+    above_new : {x y : ℕ} → Inherits W x y → B ≤ x → B ≤ y
+    above_new (directly {x} {y} h) low = super_any x y (half B x) low h
+    above_new (through {x} {y} {z} h p) low = above_new p (super_any x y (half B x) low h)
 
     own_new : (i f : ℕ) → among_features f (class_at W (B + i)).own ≡ true → (F ≤ f) × (f < F + given_count cs)
     own_new i f h = by i (subst (λ (k : ClassInfo). among_features f k.own ≡ true) (class_new i) h)
@@ -237,8 +232,8 @@ module _ (m : Metamodels) (cs : List ClassData) where
     has_new : (i f : ℕ) → has_feature W (B + i) f ≡ true → (F ≤ f) × (f < F + given_count cs)
     unfolding features_of
     has_new i f h =
-        let t : Declared W (length W.classes) (B + i) f = declared W (length W.classes) (B + i) f h in
-        let low : B ≤ t.class = elim t.up [ inl same ↦ omega (arith, same) | inr up ↦ above_new (length W.classes) t.class i up ] in
+        let t : Declared W (B + i) f = declared W (length W.classes) (B + i) f h in
+        let low : B ≤ t.class = elim t.up [ inl same ↦ omega (arith, same) | inr up ↦ above_new up (omega arith) ] in
         own_any f t.class (half B t.class) low t.own
 
     past_class : (i : ℕ) → 1 + length cs ≤ i → class_at W (B + i) ≡ nowhere_class
@@ -277,7 +272,6 @@ module _ (m : Metamodels) (cs : List ClassData) where
     kind_old c (Class d) l live = ap2 (λ x y. ((c == d.0) || x) || y) (on.element d.0 live) (reaches_old m W rm wm am on c d.0 l)
 
     kind_new : (i : ℕ) (kind : TypeKind) → IsLiveKind m kind → is_class_kind W (B + i) kind ≡ false
-    unfolding reaches
     kind_new i BoolKind live = refl
     kind_new i Int live = refl
     kind_new i Str live = refl
@@ -285,7 +279,7 @@ module _ (m : Metamodels) (cs : List ClassData) where
     kind_new i (Class d) live =
         ap2 (λ x y. x || y) (ap2 (λ x y. x || y) (not_true (eqb (B + i) d.0) (λ e. (let same : B + i ≡ d.0 = eqb-true (B + i) d.0 e in omega (arith, same, live))))
         (not_true (eqb B d.0) (λ e. (let same : B ≡ d.0 = eqb-true B d.0 e in omega (arith, same, live)))))
-        (not_true (is_above (length W.classes) W d.0 (B + i)) (λ up. (let low : B ≤ d.0 = above_new (length W.classes) d.0 i up in omega (arith, low, live))))
+        (not_true (reaches W (B + i) d.0) (λ up. (let low : B ≤ d.0 = above_new (path W (B + i) d.0 up) (omega arith) in omega (arith, low, live))))
 
     live_old : (kind : TypeKind) → IsLiveKind m kind → IsLiveKind W kind
     live_old BoolKind live = live

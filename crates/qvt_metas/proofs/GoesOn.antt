@@ -10,7 +10,7 @@ use Rattle.qvt_metamodel.specs.declared.info.ClassInfo.{ClassInfo}
 use Rattle.qvt_metamodel.specs.declared.info.FeatureInfo.{FeatureInfo}
 use Rattle.qvt_metamodel.specs.declared.info.MetamodelInfo.{MetamodelInfo}
 use Rattle.qvt_metamodel.specs.Metamodels.{Metamodels, class_at, feature_at, features_of, features_in, each_once, nowhere_class, nowhere_feature, is_element, is_class_number}
-use Rattle.qvt_metamodel.specs.Descends.{reaches, is_above}
+use Rattle.qvt_metamodel.specs.Descends.{reaches}
 use Rattle.qvt_metamodel.specs.Named.{metamodel_at, nowhere_metamodel, nowhere_enumeration, is_text, class_named, feature_named}
 use Rattle.qvt_metamodel.specs.WellFormed.{IsWellFormed}
 use Rattle.qvt_metamodel.specs.Kept.{AreRanks}
@@ -19,11 +19,12 @@ use Rattle.qvt_metamodel.specs.declared.begin.Begin.{Begin}
 use Rattle.qvt_metamodel.specs.declared.declared.MetaData.{MetaData}
 use Rattle.qvt_metamodel.specs.Joined.{joined, begin_after, class_info_on, feature_info_on}
 use Rattle.qvt_metamodel.specs.Added.{added, numbered}
+use Rattle.qvt_metamodel.proofs.Ancestors.{reaches_kept}
 use Rattle.qvt_metamodel.proofs.Bools.{ap2, not_true, no-and}
 use Rattle.qvt_metamodel.proofs.Halves.{old-at}
-use Rattle.qvt_metamodel.proofs.Lists.{all-imply, all-found, list_any-cong, flat_map-cong}
+use Rattle.qvt_metamodel.proofs.Lists.{all-imply, all-found, flat_map-cong}
 use Rattle.qvt_metamodel.proofs.Lookups.{position-left, position-none_past, find-cong}
-use Rattle.qvt_metamodel.proofs.Stable.{above-stable, features-stable}
+use Rattle.qvt_metamodel.proofs.Stable.{features-stable}
 use Rattle.qvt_metas.proofs.JoinsKept.{all-among, first_none}
 
 pub record GoesOn (m w : Metamodels) : Type 0 where
@@ -60,23 +61,13 @@ module _ (m w : Metamodels) (ranks : List ℕ) (wm : IsWellFormed m) (am : AreRa
       ∙ ap (λ l. each_once [] l ++ (class_at m c).own) (flat_map-cong _ _ (class_at m c).supers
       (all-imply (λ (s : ClassNo). s.0 < length m.classes) (λ (s : ClassNo). features_in k w s.0 ≡ features_in k m s.0) (class_at m c).supers (λ s live. features_in_old k s.0 live) (supers_live c)))
 
-  above_old : (k d c : ℕ) → c < length m.classes → is_above k w d c ≡ is_above k m d c
-  above_old zero d c h = refl
-  above_old (suc k) d c h =
-      ap (λ (x : ClassInfo). list_any (λ s. (s.0 == d) || is_above k w d s.0) x.supers) (class_old c h)
-      ∙ list_any-cong _ _ (class_at m c).supers
-      (all-imply (λ (s : ClassNo). s.0 < length m.classes) (λ (s : ClassNo). ((s.0 == d) || is_above k w d s.0) ≡ ((s.0 == d) || is_above k m d s.0)) (class_at m c).supers
-      (λ s live. ap (λ t. (s.0 == d) || t) (above_old k d s.0 live)) (supers_live c))
-
   pub features_old : (c : ℕ) → c < length m.classes → features_of w c ≡ features_of m c
   unfolding features_of
   features_old c h = features_in_old (length w.classes) c h
       ∙ features-stable m ranks am (length w.classes) (length m.classes) c (omega (arith, am.bounded c h, more)) (am.bounded c h)
 
   pub reaches_old : (c d : ℕ) → c < length m.classes → reaches w c d ≡ reaches m c d
-  unfolding reaches
-  reaches_old c d h = above_old (length w.classes) d c h
-      ∙ above-stable m ranks am (length w.classes) (length m.classes) d c (omega (arith, am.bounded c h, more)) (am.bounded c h)
+  reaches_old = reaches_kept m w wm.live_superclass class_old
 
   none_named : (k : ℕ) (name : List ℕ) → k < length m.metamodels → (ks : List ClassInfo) → AllByRecursion (λ (x : ClassInfo). length m.metamodels ≤ x.metamodel) ks
       → AllByRecursion (λ (x : ClassInfo). ((x.metamodel == k) && bytes_eq name x.name) ≡ false) ks

@@ -1,22 +1,25 @@
 -- Two lists of metamodels as one: what the first had stays, and what the second had goes on from there.
-use Rattle.std.proofs.Common.{◌≡◌, ◌∙◌, ℕ, zero, suc, ◌+◌, ◌<◌, List, [], ◌++◌, length, map, false, option_map, refl, ap, sym, subst, arith, ◌==◌, ◌||◌, eqb}
+use Rattle.std.proofs.Common.{◌≡◌, ◌∙◌, ℕ, zero, suc, ◌+◌, ◌<◌, List, [], ◌++◌, length, map, true, false, option_map, refl, ap, sym, subst, arith, ◌==◌, ◌||◌, eqb}
 use Rattle.std.specs.List.{list_any, flat_map, AllByRecursion}
 use Rattle.std.proofs.lemmas.List.{length-map, length-append, map-append, get_or_past}
 use Rattle.std.proofs.lemmas.Bool.{eqb-true}
 use Rattle.qvt_base.specs.declared.numbers.ClassNo.{ClassNo}
+use Rattle.qvt_relation.specs.Closure.{directly, through}
+use Rattle.qvt_relation.proofs.Bools.{same_test}
 use Rattle.qvt_metamodel.specs.declared.info.ClassInfo.{ClassInfo}
 use Rattle.qvt_metamodel.specs.declared.info.FeatureInfo.{FeatureInfo}
 use Rattle.qvt_metamodel.specs.declared.begin.Begin.{Begin}
 use Rattle.qvt_metamodel.specs.Metamodels.{Metamodels, class_at, feature_at, features_of, features_in, each_once, nowhere_class, nowhere_feature}
-use Rattle.qvt_metamodel.specs.Descends.{reaches, is_above}
+use Rattle.qvt_metamodel.specs.Descends.{is_superclass, Inherits, reaches}
 use Rattle.qvt_metamodel.specs.WellFormed.{IsWellFormed}
 use Rattle.qvt_metamodel.specs.Kept.{AreRanks}
 use Rattle.qvt_metamodel.specs.Joined.{class_on, feature_on, class_info_on, feature_info_on, begin_after, first_some, joined}
+use Rattle.qvt_metamodel.proofs.Ancestors.{Found, found, path, reached, reaches_kept}
 use Rattle.qvt_metamodel.proofs.Bools.{ap2, not_true}
 use Rattle.qvt_metamodel.proofs.Halves.{Half, old, new, half, old-at, new-at}
 use Rattle.qvt_metamodel.proofs.Infos.{map-at}
-use Rattle.qvt_metamodel.proofs.Lists.{all-imply, all-every, all-found, list_any-cong, list_any-map, list_any-none, flat_map-cong, flat_map-map, map-flat_map, eqb-add, each_once-on}
-use Rattle.qvt_metamodel.proofs.Stable.{above-stable, features-stable, no-features-past, none-above-past}
+use Rattle.qvt_metamodel.proofs.Lists.{all-imply, all-every, all-found, list_any-cong, list_any-map, flat_map-cong, flat_map-map, map-flat_map, eqb-add, each_once-on}
+use Rattle.qvt_metamodel.proofs.Stable.{features-stable, no-features-past}
 
 module _ (m n : Metamodels) (rm rn : List ℕ) (wm : IsWellFormed m) (wn : IsWellFormed n) (am : AreRanks m rm) (an : AreRanks n rn) where
   abbrev pub b : Begin
@@ -92,14 +95,6 @@ module _ (m n : Metamodels) (rm rn : List ℕ) (wm : IsWellFormed m) (wn : IsWel
       ∙ ap (λ l. each_once [] l ++ (class_at m c).own) (flat_map-cong _ _ (class_at m c).supers
       (all-imply (λ (s : ClassNo). s.0 < length m.classes) (λ (s : ClassNo). features_in k J s.0 ≡ features_in k m s.0) (class_at m c).supers (λ s live. features_old_in k s.0 live) (supers_live c)))
 
-  above_old_in : (k d c : ℕ) → c < length m.classes → is_above k J d c ≡ is_above k m d c
-  above_old_in zero d c h = refl
-  above_old_in (suc k) d c h =
-      ap (λ (x : ClassInfo). list_any (λ s. (s.0 == d) || is_above k J d s.0) x.supers) (class_old c h)
-      ∙ list_any-cong _ _ (class_at m c).supers
-      (all-imply (λ (s : ClassNo). s.0 < length m.classes) (λ (s : ClassNo). ((s.0 == d) || is_above k J d s.0) ≡ ((s.0 == d) || is_above k m d s.0)) (class_at m c).supers
-      (λ s live. ap (λ t. (s.0 == d) || t) (above_old_in k d s.0 live)) (supers_live c))
-
   features_new_in : (k c : ℕ) → features_in k J (length m.classes + c) ≡ map (feature_on b) (features_in k n c)
   features_new_in zero c = refl
   features_new_in (suc k) c =
@@ -111,24 +106,32 @@ module _ (m n : Metamodels) (rm rn : List ℕ) (wm : IsWellFormed m) (wn : IsWel
       ∙ ap (λ l. l ++ map (feature_on b) (class_at n c).own) (each_once-on b [] (flat_map (λ (s : ClassNo). features_in k n s.0) (class_at n c).supers))
       ∙ sym (map-append (feature_on b) (each_once [] (flat_map (λ (s : ClassNo). features_in k n s.0) (class_at n c).supers)) (class_at n c).own)
 
-  above_new_in : (k d c : ℕ) → is_above k J (length m.classes + d) (length m.classes + c) ≡ is_above k n d c
-  above_new_in zero d c = refl
-  above_new_in (suc k) d c =
-      ap (list_any (λ (s : ClassNo). (s.0 == (length m.classes + d)) || is_above k J (length m.classes + d) s.0)) (supers_new c)
-      ∙ list_any-map (λ (s : ClassNo). (s.0 == (length m.classes + d)) || is_above k J (length m.classes + d) s.0) (class_on b) (class_at n c).supers
-      ∙ list_any-cong _ _ (class_at n c).supers (all-every (λ (s : ClassNo). (((length m.classes + s.0) == (length m.classes + d)) || is_above k J (length m.classes + d) (length m.classes + s.0)) ≡ ((s.0 == d) || is_above k n d s.0)) (class_at n c).supers
-      (λ s. ap2 (λ x y. x || y) (eqb-add (length m.classes) s.0 d) (above_new_in k d s.0)))
+  -- the superclasses of a class of the second are those it had
+  super_new : (c d : ℕ) → is_superclass J (length m.classes + c) (length m.classes + d) ≡ is_superclass n c d
+  super_new c d =
+      ap (list_any (λ (s : ClassNo). s.0 == (length m.classes + d))) (supers_new c)
+      ∙ list_any-map (λ (s : ClassNo). s.0 == (length m.classes + d)) (class_on b) (class_at n c).supers
+      ∙ list_any-cong _ _ (class_at n c).supers
+      (all-every (λ (s : ClassNo). ((length m.classes + s.0) == (length m.classes + d)) ≡ (s.0 == d)) (class_at n c).supers (λ s. eqb-add (length m.classes) s.0 d))
 
-  apart : (d c : ℕ) → d < length m.classes → eqb (length m.classes + c) d ≡ false
-  apart d c h = not_true (eqb (length m.classes + c) d) (λ e. (let same : length m.classes + c ≡ d = eqb-true (length m.classes + c) d e in omega (arith, same, h)))
+  super_from : (c y : ℕ) → is_superclass J (length m.classes + c) y ≡ true → (e : ℕ) × (y ≡ length m.classes + e) × (is_superclass n c e ≡ true)
+  super_from c y h =
+      let f : Found (λ s. (length m.classes + s) == y) (class_at n c).supers = found (λ s. (length m.classes + s) == y) (class_at n c).supers
+      (sym (ap (list_any (λ (s : ClassNo). s.0 == y)) (supers_new c) ∙ list_any-map (λ (s : ClassNo). s.0 == y) (class_on b) (class_at n c).supers) ∙ h) in
+      (f.class, sym (eqb-true (length m.classes + f.class) y f.passes), f.there)
 
-  above_new_old : (k d c : ℕ) → d < length m.classes → is_above k J d (length m.classes + c) ≡ false
-  above_new_old zero d c h = refl
-  above_new_old (suc k) d c h =
-      ap (list_any (λ (s : ClassNo). (s.0 == d) || is_above k J d s.0)) (supers_new c)
-      ∙ list_any-map (λ (s : ClassNo). (s.0 == d) || is_above k J d s.0) (class_on b) (class_at n c).supers
-      ∙ list_any-none _ (class_at n c).supers (all-every (λ (s : ClassNo). (((length m.classes + s.0) == d) || is_above k J d (length m.classes + s.0)) ≡ false) (class_at n c).supers
-      (λ s. ap2 (λ x y. x || y) (apart d s.0 h) (above_new_old k d s.0 h)))
+  inherits_new : {c d : ℕ} → Inherits n c d → Inherits J (length m.classes + c) (length m.classes + d)
+  inherits_new (directly {x} {y} h) = directly (super_new x y ∙ h)
+  inherits_new (through {x} {y} {z} h p) = through (super_new x y ∙ h) (inherits_new p)
+
+  inherits_from : {x y : ℕ} → Inherits J x y → (c : ℕ) → x ≡ length m.classes + c → (e : ℕ) × (y ≡ length m.classes + e) × Inherits n c e
+  inherits_from (directly {x} {y} h) c at =
+      let s : (e : ℕ) × (y ≡ length m.classes + e) × (is_superclass n c e ≡ true) = super_from c y (subst (λ k. is_superclass J k y ≡ true) at h) in
+      (s.0, s.1, directly s.2)
+  inherits_from (through {x} {y} {z} h p) c at =
+      let s : (e : ℕ) × (y ≡ length m.classes + e) × (is_superclass n c e ≡ true) = super_from c y (subst (λ k. is_superclass J k y ≡ true) at h) in
+      let more : (e : ℕ) × (z ≡ length m.classes + e) × Inherits n s.0 e = inherits_from p s.0 s.1 in
+      (more.0, more.1, through {z = more.0} s.2 more.2)
 
   pub features_old : (c : ℕ) → c < length m.classes → features_of J c ≡ features_of m c
   unfolding features_of
@@ -145,19 +148,14 @@ module _ (m n : Metamodels) (rm rn : List ℕ) (wm : IsWellFormed m) (wn : IsWel
           no-features-past n (length J.classes) (length n.classes + k) past ∙ sym (no-features-past n (length n.classes) (length n.classes + k) past))
 
   pub reaches_old : (c d : ℕ) → c < length m.classes → reaches J c d ≡ reaches m c d
-  unfolding reaches
-  reaches_old c d h = above_old_in (length J.classes) d c h
-      ∙ above-stable m rm am (length J.classes) (length m.classes) d c (omega (arith, am.bounded c h, class_count)) (am.bounded c h)
+  reaches_old = reaches_kept m J wm.live_superclass class_old
 
   pub reaches_new : (c d : ℕ) → reaches J (length m.classes + c) (length m.classes + d) ≡ reaches n c d
-  unfolding reaches
-  reaches_new c d = above_new_in (length J.classes) d c ∙ by c (half (length n.classes) c)
-    where
-      by : (c : ℕ) → Half (length n.classes) c → is_above (length J.classes) n d c ≡ is_above (length n.classes) n d c
-      by _ (old c h) = above-stable n rn an (length J.classes) (length n.classes) d c (omega (arith, an.bounded c h, class_count)) (an.bounded c h)
-      by _ (new k) = (let past = get_or_past n.classes (length n.classes + k) nowhere_class (omega arith) in
-          none-above-past n (length J.classes) d (length n.classes + k) past ∙ sym (none-above-past n (length n.classes) d (length n.classes + k) past))
+  reaches_new c d = same_test (reaches J (length m.classes + c) (length m.classes + d)) (reaches n c d)
+      (λ h. (let r : (e : ℕ) × (length m.classes + d ≡ length m.classes + e) × Inherits n c e = inherits_from (path J (length m.classes + c) (length m.classes + d) h) c refl in
+        reached n (subst (λ e. Inherits n c e) (let same : r.0 ≡ d = omega (arith, r.1) in same) r.2)))
+      (λ h. reached J (inherits_new (path n c d h)))
 
   pub reaches_new_old : (c d : ℕ) → d < length m.classes → reaches J (length m.classes + c) d ≡ false
-  unfolding reaches
-  reaches_new_old c d h = above_new_old (length J.classes) d c h
+  reaches_new_old c d h = not_true (reaches J (length m.classes + c) d) (λ up.
+      (let r : (e : ℕ) × (d ≡ length m.classes + e) × Inherits n c e = inherits_from (path J (length m.classes + c) d up) c refl in omega (arith, r.1, h)))

@@ -12,7 +12,7 @@ use Rattle.qvt_metamodel.specs.declared.info.TypeKind.TheVariants.{Bool as BoolK
 use Rattle.qvt_metamodel.specs.declared.info.MetamodelInfo.{MetamodelInfo}
 use Rattle.qvt_metamodel.specs.declared.info.ClassInfo.{ClassInfo}
 use Rattle.qvt_metamodel.specs.Metamodels.{Metamodels, class_at, feature_at, shape_of, opposite, is_opposite, is_feature_number, is_element, is_class_number, features_of, has_feature, among_features, nowhere_class, is_single, is_containment, is_one}
-use Rattle.qvt_metamodel.specs.Descends.{is_superclass, reaches, is_above, descends, is_class_kind, is_class_type}
+use Rattle.qvt_metamodel.specs.Descends.{is_superclass, reaches, descends, is_class_kind, is_class_type}
 use Rattle.qvt_metamodel.specs.Named.{metamodel_at, nowhere_metamodel, nowhere_enumeration, enumeration_at, literal_at, class_named, feature_named, enumeration_named, literal_named}
 use Rattle.qvt_metamodel.specs.WellFormed.{IsWellFormed, IsRegular, IsLiveKind}
 use Rattle.qvt_metamodel.specs.Kept.{AreRanks}
@@ -22,6 +22,7 @@ use Rattle.qvt_metamodel.proofs.Halves.{Half, old, new, half, old-at, new-at}
 use Rattle.qvt_metamodel.proofs.Infos.{map-at}
 use Rattle.qvt_metamodel.proofs.Lists.{all-imply, all-every, all-found, list_any-cong, list_any-map, list_any-none, eqb-add, among-on}
 use Rattle.qvt_metamodel.proofs.Lookups.{position-left, position-right, position-cong, position-map, find-cong, find-map}
+use Rattle.qvt_metamodel.proofs.Ancestors.{path, ends}
 use Rattle.qvt_metamodel.proofs.Order.{acyclic, antisymmetric, transitive, inherited}
 use Rattle.qvt_metamodel.proofs.Regular.{regular, regular_of}
 use Rattle.qvt_metas.proofs.Joins.{J, class_count, feature_count, metamodel_count, class_old, class_new, either_class, feature_old, feature_new, either_feature, features_old, features_new, reaches_old, reaches_new, reaches_new_old}
@@ -166,17 +167,12 @@ module _ (m n : Metamodels) (rm rn : List ℕ) (wm : IsWellFormed m) (wn : IsWel
   descends_new_old : (c d : ℕ) → d < B → descends W (B + c) d ≡ is_element m d
   descends_new_old c d h = (λ i. (apart B d c h i || element_is d i) || reaches_new_old m n rm rn wm wn am an c d h i) ∙ or-false (is_element m d)
 
-  above_past : (k d c : ℕ) → B ≤ d → is_above k m d c ≡ false
-  above_past zero d c h = refl
-  above_past (suc k) d c h = list_any-none _ (class_at m c).supers
-      (all-imply (λ (s : ClassNo). s.0 < B) (λ (s : ClassNo). ((s.0 == d) || is_above k m d s.0) ≡ false) (class_at m c).supers
-      (λ s live. ap2 (λ x y. x || y) (not_true (eqb s.0 d) (λ e. (let same : s.0 ≡ d = eqb-true s.0 d e in omega (arith, same, live, h)))) (above_past k d s.0 h))
-      (all-found (λ d. d < B) (class_at m c).supers (wm.live_superclass c)))
+  none_to_past : (c d : ℕ) → B ≤ d → reaches m c d ≡ false
+  none_to_past c d h = not_true (reaches m c d) (λ up. (let low : d < B = ends m wm.live_superclass (path m c d up) in omega (arith, low, h)))
 
   descends_old_new : (c d : ℕ) → c < B → descends W c (B + d) ≡ false
-  unfolding reaches
   descends_old_new c d h =
-      λ i. (not_true (eqb c (B + d)) (λ e. (let same : c ≡ B + d = eqb-true c (B + d) e in omega (arith, same, h))) i || element_new d i) || (reaches_old m n rm rn wm wn am an c (B + d) h ∙ above_past B (B + d) c (omega arith)) i
+      λ i. (not_true (eqb c (B + d)) (λ e. (let same : c ≡ B + d = eqb-true c (B + d) e in omega (arith, same, h))) i || element_new d i) || (reaches_old m n rm rn wm wn am an c (B + d) h ∙ none_to_past c (B + d) (omega arith)) i
 
   kind_old : (c : ℕ) (k : TypeKind) → c < B → IsLiveKind m k → is_class_kind W c k ≡ is_class_kind m c k
   kind_old c BoolKind h live = refl

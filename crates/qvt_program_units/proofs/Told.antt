@@ -11,7 +11,7 @@ use Rattle.qvt_types_units.specs.declared.choice.Found.TheVariants.{NoUnit, Unty
 use Rattle.qvt_types_units.specs.declared.signature.HeadClass.{HeadClass}
 use Rattle.qvt_types_units.specs.declared.signature.HeadClass.TheVariants.{Missing, Unknown, Known}
 use Rattle.qvt_types_units.specs.declared.signature.Signature.{Signature}
-use Rattle.qvt_types_units.specs.Choice.{candidates, chosen, chosen_of, context_at, is_above, is_ambiguous, is_below, is_empty, is_unsure, looked_up, lowest, single}
+use Rattle.qvt_types_units.specs.Choice.{candidates, chosen, chosen_of, context_at, is_context_above, is_ambiguous, is_below, is_empty, is_unsure, looked_up, lowest, single}
 use Rattle.qvt_program_units.specs.Chosen.{alone, told}
 
 abbrev inner : Option (Option ℕ) → Option ℕ
@@ -42,7 +42,7 @@ module _ (m : Metamodels) (us : List Signature) where
   itself : (d : ℕ) → descends m d d ≡ true
   itself d = ap (λ b. b || is_element m d || reaches m d d) (eq-eqb d d refl)
 
-  with_context : (n c : ℕ) (h : HeadClass) → h ≡ context_at us n → alone m h n c ≡ single (lowest m us (if is_above m h c then n ∷ [] else []))
+  with_context : (n c : ℕ) (h : HeadClass) → h ≡ context_at us n → alone m h n c ≡ single (lowest m us (if is_context_above m h c then n ∷ [] else []))
   with_context n c Missing is = refl
   with_context n c Unknown is = refl
   with_context n c (Known d) is = from (descends m c d.0)

@@ -5,7 +5,8 @@ use Rattle.std.proofs.lemmas.Bool.{eq-eqb, eqb-true}
 use Rattle.std.proofs.lemmas.List.{get_or_past}
 use Rattle.qvt_base.specs.declared.numbers.ClassNo.{ClassNo}
 use Rattle.qvt_metamodel.specs.Metamodels.{Metamodels, class_at, is_class_number, is_element}
-use Rattle.qvt_metamodel.specs.Descends.{IsAncestor, superclass, above, element, descends}
+use Rattle.qvt_metamodel.specs.Descends.{is_superclass, Inherits, IsAncestor, descends, Descends}
+use Rattle.qvt_metamodel.proofs.Ancestors.{begins}
 use Rattle.qvt_metamodel.proofs.Bools.{and_both, and_left, and_right, or_cases, clash}
 use Rattle.qvt_metamodel.proofs.Halves.{Half, old, new, half, old-at, new-at}
 use Rattle.qvt_types_groups.specs.declared.signature.HeadClass.{HeadClass}
@@ -72,13 +73,18 @@ module _ (m : Metamodels) (us : List Signature) (ns : List ℕ) where
           by true e = own_of k (eq-eqb d.0 k (sym (eqb-true k d.0 e)))
           by false e = over_of k e up
 
-      reached : (e c : ℕ) → IsAncestor m e c → e ≡ d.0 → (c ≡ d.0 → ⊥) → Reached c (class_at m c).supers x
-      reached e _ (superclass c up) same other = inr (of_one x e (class_at m c).supers up (own_of e (eq-eqb d.0 e (sym same))))
-      reached e _ (above c k up rest) same other = inr (of_one x k (class_at m c).supers up (from k ((least k d.0).1 (inr (subst (λ y. IsAncestor m y k) same rest)))))
-      reached e _ (element c over) same other = inl (inr (by (is_element m c) refl, (there, ap (is_top m) is ∙ ap (is_element m) (sym same) ∙ over)))
+      reached : (c : ℕ) → IsAncestor m c d.0 → (c ≡ d.0 → ⊥) → Reached c (class_at m c).supers x
+      reached c (inl up) other =
+          (let s : (s : ℕ) × (is_superclass m c s ≡ true) × ((s ≡ d.0) ⊎ Inherits m s d.0) = begins m c d.0 up in
+          inr (of_one x s.0 (class_at m c).supers s.1 (from s.0 ((least s.0 d.0).1 (onward s.0 s.2)))))
+        where
+          onward : (s : ℕ) → (s ≡ d.0) ⊎ Inherits m s d.0 → Descends m s d.0
+          onward s (inl same) = inl same
+          onward s (inr more) = inr (inl more)
+      reached c (inr over) other = inl (inr (by (is_element m c) refl, (there, ap (is_top m) is ∙ over)))
         where
           by : (b : Bool) → is_element m c ≡ b → b ≡ false
-          by true f = absurd (other (one_element m.element c e f over ∙ same))
+          by true f = absurd (other (one_element m.element c d.0 f over))
           by false f = refl
 
     reaches : (c x : ℕ) → From c x → Reached c (class_at m c).supers x
@@ -92,7 +98,7 @@ module _ (m : Metamodels) (us : List Signature) (ns : List ℕ) where
         by there Unknown e below = absurd (cc)
         by there (Known d) e below = elim ((least c d.0).0 (and_right (not (c == d.0)) (descends m c d.0) below)) [
           | inl same ↦ clash (and_left (not (c == d.0)) (descends m c d.0) below) (ap not (eq-eqb c d.0 same))
-          | inr up ↦ reached x there d e d.0 c up refl (λ same. clash (and_left (not (c == d.0)) (descends m c d.0) below) (ap not (eq-eqb c d.0 same)))
+          | inr up ↦ reached x there d e c up (λ same. clash (and_left (not (c == d.0)) (descends m c d.0) below) (ap not (eq-eqb c d.0 same)))
         ]
 
   module _ (law : Law) (t : Transitive m) where

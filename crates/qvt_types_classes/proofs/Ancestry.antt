@@ -1,22 +1,21 @@
 -- Which properties a class inherits, and the class as its name is read.
-use Rattle.std.proofs.Common.{◌≡◌, ◌∙◌, ℕ, zero, suc, ◌+◌, ◌-◌, ◌<◌, List, [], ◌∷◌, ◌++◌, length, map, get_or, take, drop, Bool, true, false, Option, Some, None, refl, ap, sym, subst, arith, ◌==◌, ◌||◌, inl, inr}
+use Rattle.std.proofs.Common.{◌≡◌, ◌∙◌, ℕ, zero, suc, ◌+◌, ◌-◌, ◌<◌, List, [], ◌∷◌, ◌++◌, length, map, get_or, take, drop, Bool, true, false, Option, Some, None, refl, ap, sym, subst, arith, ◌⊎◌, inl, inr}
 use Rattle.std.specs.Prelude.{if◌then◌else◌, is_some, slice_index}
 use Rattle.std.specs.List.{AllByRecursion, flat_map}
 use Rattle.std.proofs.Math.Seq.{take-append_seam, drop-append_seam}
-use Rattle.std.proofs.lemmas.Bool.{eqb-true}
 use Rattle.std.proofs.lemmas.List.{length-append, length-map, map-append, get_or_past}
 use Rattle.std.proofs.lemmas.List.FromFn.{get_or-map-range_with_len}
 use Rattle.qvt_base.specs.declared.numbers.FeatureNo.{FeatureNo}
 use Rattle.qvt_relation.specs.Closure.{Closure, directly, through}
 use Rattle.qvt_relation.proofs.Closures.{join}
 use Rattle.qvt_metamodel.specs.Added.{numbers_from}
-use Rattle.qvt_metamodel.specs.Descends.{IsAncestor, superclass, above, is_above, reaches}
+use Rattle.qvt_metamodel.specs.Descends.{is_superclass, Inherits}
 use Rattle.qvt_metamodel.specs.Kept.{AreRanks}
 use Rattle.qvt_metamodel.specs.Metamodels.{Metamodels, among_features, class_at, each_once, features_in, features_of, nowhere_class}
 use Rattle.qvt_metamodel.specs.Names.{is_among, repeated}
 use Rattle.qvt_metamodel.specs.declared.info.ClassInfo.{ClassInfo}
-use Rattle.qvt_metamodel.proofs.Ancestors.{Found, found, passing, ancestor}
-use Rattle.qvt_metamodel.proofs.Bools.{ap2, or_cases, clash}
+use Rattle.qvt_metamodel.proofs.Ancestors.{Found, found, passing, begins}
+use Rattle.qvt_metamodel.proofs.Bools.{ap2, clash}
 use Rattle.qvt_metamodel.proofs.Halves.{Half, old, new, half}
 use Rattle.qvt_metamodel.proofs.Infos.{among_numbers, length-numbers_from}
 use Rattle.qvt_metamodel.proofs.Lookups.{none_repeated, repeated-fewer}
@@ -29,7 +28,7 @@ use Rattle.qvt_types_classes.specs.declared.declared.Property.{Property}
 use Rattle.qvt_types_classes.specs.declared.declared.Declared.{Declared}
 use Rattle.qvt_types_classes.specs.Inherited.{all_properties, firsts, inherits_twice, names_of, no_property, numbered_from, own_told, properties_at, property_at, property_lists, read_class, read_from, same_told}
 use Rattle.qvt_types_classes.proofs.Once.{all_map, all_among, firsts_after, firsts_all, firsts_new, firsts_once, fresh_names, names_apart, once_fresh}
-use Rattle.qvt_types_classes.proofs.Cut.{at, Over, from_there, is_over, numbered_count}
+use Rattle.qvt_types_classes.proofs.Cut.{at, closure_map, Over, from_there, is_over, numbered_count}
 use Rattle.qvt_types_classes.proofs.Numbering.{before, width, IsOf, all_numbers, numbered_at, numbers_have, of_there, property_is}
 
 -- lists whose first part is inherited
@@ -121,15 +120,11 @@ module _ (ds : List Declared) where
       by _ (old i l) h = among_numbers (before ds i) (width ds i) x (ap (among_features x) (sym (own_is i l)) ∙ h)
       by _ (new k) h = clash h (ap (λ (c : ClassInfo). among_features x c.own) (get_or_past (numbered_from 0 ds) (length ds + k) nowhere_class (omega (arith, numbered_count 0 ds))))
 
-  above_path : (k j i : ℕ) → is_above k M j i ≡ true → Closure (Over ds) i j
-  above_path zero j i h = absurd (cc)
-  above_path (suc k) j i h =
-      let f : Found (λ s. (s == j) || is_above k M j s) (class_at M i).supers = found (λ s. (s == j) || is_above k M j s) (class_at M i).supers h in
-      let step : Over ds i f.class = sym (is_over ds i f.class) ∙ f.there in
-      elim (or_cases (f.class == j) (is_above k M j f.class) f.passes) [
-        | inl e ↦ directly (subst (λ n. Over ds i n) (eqb-true f.class j e) step)
-        | inr up ↦ through step (above_path k j f.class up)
-      ]
+  over_of : {i j : ℕ} → Inherits M i j → Closure (Over ds) i j
+  over_of p = closure_map (λ x y. is_superclass M x y ≡ true) (Over ds) (λ x y h. sym (is_over ds x y) ∙ h) p
+
+  inherits_of : {i j : ℕ} → Closure (Over ds) i j → Inherits M i j
+  inherits_of p = closure_map (Over ds) (λ x y. is_superclass M x y ≡ true) (λ x y h. is_over ds x y ∙ h) p
 
   -- where an inherited property comes from
   pub record Source (i x : ℕ) : Type 0 where
@@ -143,47 +138,32 @@ module _ (ds : List Declared) where
       let n = length ds - 1 in
       let f : Found (λ s. among_features x (features_in n M s)) ss =
       found (λ s. among_features x (features_in n M s)) ss (sym (among-flat (λ s. features_in n M s) ss x) ∙ once-from [] (flat_map (λ s. features_in n M s.0) ss) x h) in
-      let o : Owner M n f.class x = owner M n f.class x f.passes in
+      let o : Owner M f.class x = owner M n f.class x f.passes in
       let step : Over ds i f.class = sym (is_over ds i f.class) ∙ f.there in
       record {
         class = o.class;
         own = own_of o.class x o.own;
         path = elim o.up [
-          | inl same ↦ directly (subst (λ c. Over ds i c) (sym same) step)
-          | inr up ↦ through step (above_path n o.class f.class up)
+          | inl same ↦ directly (subst (λ c. Over ds i c) same step)
+          | inr up ↦ through step (over_of up)
         ];
       }
 
   module _ (ranks : List ℕ) (ranked : AreRanks M ranks) where
-    ancestor_of : {i j : ℕ} → Closure (Over ds) i j → IsAncestor M j i
-    ancestor_of (directly {x} {y} h) = superclass x (is_over ds x y ∙ h)
-    ancestor_of (through {x} {y} {z} h p) = above x y (is_over ds x y ∙ h) (ancestor_of p)
-
-    -- what is above a class is so in fewer steps than there are classes
-    above_in : (n i j : ℕ) → length ds ≡ n → Closure (Over ds) i j → is_above n M j i ≡ true
-    unfolding reaches
-    above_in n i j e p = elim (ancestor M ranks ranked j i (ancestor_of p)) [
-      | inl never ↦ absurd (cc)
-      | inr up ↦ ap (λ k. is_above k M j i) (let same : n ≡ length (numbered_from 0 ds) = omega (arith, e, numbered_count 0 ds) in same) ∙ up
-    ]
-
     -- a class inherits the properties of those above it
     pub inherits : (i j x : ℕ) → Closure (Over ds) i j → IsOf ds j x → among_features x (inherited i) ≡ true
     inherits i j x p own =
         let n = length ds - 1 in
         let ss = (class_at M i).supers in
         let low : i < length ds = from_there ds p in
-        let f : Found (λ s. (s == j) || is_above n M j s) ss = found (λ s. (s == j) || is_above n M j s) ss (above_in (suc n) i j (let same : length ds ≡ suc n = omega (arith, low) in same) p) in
-        let less : slice_index ranks f.class < slice_index ranks i = all-there (λ s. slice_index ranks s < slice_index ranks i) ss f.class (ranked.rise i) f.there in
+        let s : (s : ℕ) × (is_superclass M i s ≡ true) × ((s ≡ j) ⊎ Inherits M s j) = begins M i j (inherits_of p) in
+        let less : slice_index ranks s.0 < slice_index ranks i = all-there (λ s. slice_index ranks s < slice_index ranks i) ss s.0 (ranked.rise i) s.1 in
         let bound : slice_index ranks i < length (numbered_from 0 ds) = ranked.bounded i (omega (arith, low, numbered_count 0 ds)) in
-        let rank : slice_index ranks f.class < n = omega (arith, less, bound, numbered_count 0 ds) in
+        let rank : slice_index ranks s.0 < n = omega (arith, less, bound, numbered_count 0 ds) in
         let there : among_features x (class_at M j).own ≡ true = ap (among_features x) (own_is j (of_there ds j x own)) ∙ numbers_have (before ds j) (width ds j) x own.0 own.1 in
-        let has : among_features x (features_in n M f.class) ≡ true = elim (or_cases (f.class == j) (is_above n M j f.class) f.passes) [
-          | inl e ↦ includes M ranks ranked n j f.class x rank (inl (eqb-true f.class j e)) there
-          | inr up ↦ includes M ranks ranked n j f.class x rank (inr up) there
-        ] in
+        let has : among_features x (features_in n M s.0) ≡ true = includes M ranks ranked n j s.0 x rank s.2 there in
         let flat : among_features x (flat_map (λ s. features_in n M s.0) ss) ≡ true =
-        among-flat (λ s. features_in n M s) ss x ∙ passing (λ s. among_features x (features_in n M s)) ss f.class f.there has in
+        among-flat (λ s. features_in n M s) ss x ∙ passing (λ s. among_features x (features_in n M s)) ss s.0 s.1 has in
         elim (once-has [] (flat_map (λ s. features_in n M s.0) ss) x flat) [ inl never ↦ absurd (cc) | inr after ↦ after ]
 
     -- what is above a class that inherits no two properties of one name does not do so either

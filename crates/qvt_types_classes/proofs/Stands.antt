@@ -1,5 +1,5 @@
 -- No name stands twice among the properties of a class as it is read, and those that it inherits.
-use Rattle.std.proofs.Common.{◌≡◌, ◌∙◌, ℕ, zero, suc, ◌+◌, ◌-◌, ◌<◌, ◌≤◌, List, [], ◌∷◌, ◌++◌, length, map, get_or, true, false, None, refl, ap, sym, subst, arith, ◌==◌, ◌||◌, ◌⊎◌, inl, inr}
+use Rattle.std.proofs.Common.{◌≡◌, ◌∙◌, ℕ, suc, ◌+◌, ◌-◌, ◌<◌, ◌≤◌, List, [], ◌∷◌, ◌++◌, length, map, get_or, true, false, None, refl, ap, sym, subst, arith, ◌==◌, ◌⊎◌, inl, inr}
 use Rattle.std.specs.Prelude.{is_some}
 use Rattle.std.specs.List.{AllByRecursion, flat_map, list_any}
 use Rattle.std.proofs.lemmas.Bool.{eqb-true, eq-eqb}
@@ -10,7 +10,7 @@ use Rattle.qvt_cycle.specs.Successors.{among}
 use Rattle.qvt_relation.specs.Closure.{Closure, directly, through}
 use Rattle.qvt_metamodel.specs.Added.{numbers_from}
 use Rattle.qvt_metamodel.specs.Checks.{repeated_feature}
-use Rattle.qvt_metamodel.specs.Descends.{is_above}
+use Rattle.qvt_metamodel.specs.Descends.{is_superclass, Inherits}
 use Rattle.qvt_metamodel.specs.Extended.{given_classes, given_features, is_given_superclass}
 use Rattle.qvt_metamodel.specs.Kept.{AreRanks}
 use Rattle.qvt_metamodel.specs.Metamodels.{Metamodels, among_features, class_at, each_once, feature_at, features_in, features_of, nowhere_class, nowhere_feature}
@@ -149,18 +149,14 @@ module _ (ds rs : List Declared) (alone : (i : ℕ) → Closure (Over ds) i i �
     super_of : (i y : ℕ) → list_any (λ s. s.0 == y) (class_at V (B + suc i)).supers ≡ true → (x : ℕ) × (y ≡ B + suc x) × Over rs i x
     super_of i y h = super_in B y (at rs i).supers (ap (λ (ss : List ClassNo). list_any (λ s. s.0 == y) ss) (sym (supers_are i)) ∙ h)
 
-    above_at : (n d c y : ℕ) → c ≡ y → is_above n V d c ≡ true → is_above n V d y ≡ true
-    above_at n d c y same up = subst (λ x. is_above n V d x ≡ true) same up
-
-    above_new : (n d i : ℕ) → is_above n V d (B + suc i) ≡ true → (j : ℕ) × (d ≡ B + suc j) × Closure (Over rs) i j
-    above_new zero d i h = absurd (cc)
-    above_new (suc n) d i h =
-        let f : Found (λ s. (s == d) || is_above n V d s) (class_at V (B + suc i)).supers = found (λ s. (s == d) || is_above n V d s) (class_at V (B + suc i)).supers h in
-        let s : (x : ℕ) × (f.class ≡ B + suc x) × Over rs i x = super_of i f.class f.there in
-        elim (or_cases (f.class == d) (is_above n V d f.class) f.passes) [
-          | inl e ↦ (s.0, sym (eqb-true f.class d e) ∙ s.1, directly s.2)
-          | inr up ↦ (let more : (j : ℕ) × (d ≡ B + suc j) × Closure (Over rs) s.0 j = above_new n d s.0 (above_at n d f.class (B + suc s.0) s.1 up) in (more.0, more.1, through {z = more.0} s.2 more.2))
-        ]
+    above_new : {c d : ℕ} → Inherits V c d → (i : ℕ) → c ≡ B + suc i → (j : ℕ) × (d ≡ B + suc j) × Closure (Over rs) i j
+    above_new (directly {x} {y} h) i at =
+        let s : (j : ℕ) × (y ≡ B + suc j) × Over rs i j = super_of i y (subst (λ c. is_superclass V c y ≡ true) at h) in
+        (s.0, s.1, directly s.2)
+    above_new (through {x} {y} {z} h p) i at =
+        let s : (j : ℕ) × (y ≡ B + suc j) × Over rs i j = super_of i y (subst (λ c. is_superclass V c y ≡ true) at h) in
+        let more : (j : ℕ) × (z ≡ B + suc j) × Closure (Over rs) s.0 j = above_new p s.0 s.1 in
+        (more.0, more.1, through {z = more.0} s.2 more.2)
 
     -- the number is that of a property of the class at j
     abbrev IsNew : ℕ → ℕ → Type 0
@@ -192,11 +188,11 @@ module _ (ds rs : List Declared) (alone : (i : ℕ) → Closure (Over ds) i i �
         let n = B + length cs in
         let f : Found (λ s. among_features x (features_in n V s)) ss =
         found (λ s. among_features x (features_in n V s)) ss (sym (among-flat (λ s. features_in n V s) ss x) ∙ once-from [] (flat_map (λ s. features_in n V s.0) ss) x h) in
-        let o : Owner V n f.class x = owner V n f.class x f.passes in
+        let o : Owner V f.class x = owner V n f.class x f.passes in
         let s : (y : ℕ) × (f.class ≡ B + suc y) × Over rs i y = super_of i f.class f.there in
         let at : (j : ℕ) × (o.class ≡ B + suc j) × Closure (Over rs) i j = elim o.up [
-          | inl same ↦ (s.0, same ∙ s.1, directly s.2)
-          | inr up ↦ (let more : (j : ℕ) × (o.class ≡ B + suc j) × Closure (Over rs) s.0 j = above_new n o.class s.0 (above_at n o.class f.class (B + suc s.0) s.1 up) in (more.0, more.1, through {z = more.0} s.2 more.2))
+          | inl same ↦ (s.0, sym same ∙ s.1, directly s.2)
+          | inr up ↦ (let more : (j : ℕ) × (o.class ≡ B + suc j) × Closure (Over rs) s.0 j = above_new up s.0 s.1 in (more.0, more.1, through {z = more.0} s.2 more.2))
         ] in
         (at.0, own_new at.0 x (own_at x o.class (B + suc at.0) at.1 o.own), at.2)
 

@@ -1,5 +1,5 @@
 -- The choice for a class, by its own units and by its superclasses.
-use Rattle.std.proofs.Common.{◌≡◌, ◌∙◌, ◌≢◌, ℕ, ◌+◌, ◌<◌, ◌==◌, List, [], ◌∷◌, length, set, Bool, true, false, ◌&&◌, Option, Some, None, inl, inr, refl, sym, ap, subst, arith}
+use Rattle.std.proofs.Common.{◌≡◌, ◌∙◌, ◌≢◌, ℕ, ◌+◌, ◌<◌, ◌==◌, List, [], ◌∷◌, length, set, Bool, true, false, ◌&&◌, ◌⊎◌, Option, Some, None, inl, inr, refl, sym, ap, subst, arith}
 use Rattle.std.specs.Prelude.{if◌then◌else◌, filter, IsTrue, ◌↔◌}
 use Rattle.std.specs.List.{list_any, list_all}
 use Rattle.std.proofs.lemmas.Bool.{eq-eqb, eqb-true}
@@ -7,7 +7,8 @@ use Rattle.std.proofs.lemmas.List.{length-set, get_or-set_same, get_or-set_other
 use Rattle.qvt_base.specs.declared.numbers.ClassNo.{ClassNo}
 use Rattle.qvt_metamodel.specs.declared.info.ClassInfo.{ClassInfo}
 use Rattle.qvt_metamodel.specs.Metamodels.{Metamodels, class_at, nowhere_class, is_element}
-use Rattle.qvt_metamodel.specs.Descends.{IsAncestor, superclass, above, element, descends, Descends}
+use Rattle.qvt_metamodel.specs.Descends.{is_superclass, Inherits, IsAncestor, descends, Descends}
+use Rattle.qvt_metamodel.proofs.Ancestors.{begins}
 use Rattle.qvt_metamodel.proofs.Bools.{not_true, clash}
 use Rattle.qvt_metamodel.proofs.Halves.{Half, old, new, half}
 use Rattle.qvt_types_units.specs.declared.choice.Found.{Found}
@@ -15,7 +16,7 @@ use Rattle.qvt_types_units.specs.declared.choice.Found.TheVariants.{NoUnit, Uncl
 use Rattle.qvt_types_units.specs.declared.signature.HeadClass.{HeadClass}
 use Rattle.qvt_types_units.specs.declared.signature.HeadClass.TheVariants.{Missing, Unknown, Known}
 use Rattle.qvt_types_units.specs.declared.signature.Signature.{Signature}
-use Rattle.qvt_types_units.specs.Choice.{is_above, is_below, context_at, candidates, is_lowest, lowest, single, is_empty, chosen_of}
+use Rattle.qvt_types_units.specs.Choice.{is_context_above, is_below, context_at, candidates, is_lowest, lowest, single, is_empty, chosen_of}
 use Rattle.qvt_types_units.specs.Numbers.{is_context}
 use Rattle.qvt_types_groups.specs.ByClass.{choice_among, choice_for, own, one_more, all_more, known_at, told_more, is_top, top_choice, AreKnown}
 use Rattle.qvt_types_groups.proofs.Lowest.{Transitive, In, all_at, same_test}
@@ -98,35 +99,35 @@ known_context (Known d) c e = ap (λ x. Known (record { 0 = x })) (eqb-true d.0 
 -- What is above a class by its superclasses.
 
 module _ (m : Metamodels) where
-  none_above : (d c : ℕ) → IsAncestor m d c → (class_at m c).supers ≡ [] → is_element m d ≡ true
-  none_above d _ (superclass c is) e = clash is (ap (list_any (λ (x : ClassNo). x.0 == d)) e)
-  none_above d _ (above c k is up) e = clash is (ap (list_any (λ (x : ClassNo). x.0 == k)) e)
-  none_above d _ (element c top) e = top
+  none_above : (c d : ℕ) → IsAncestor m c d → (class_at m c).supers ≡ [] → is_element m d ≡ true
+  none_above c d (inl up) e =
+      (let s : (s : ℕ) × (is_superclass m c s ≡ true) × ((s ≡ d) ⊎ Inherits m s d) = begins m c d up in clash s.1 (ap (list_any (λ (x : ClassNo). x.0 == s.0)) e))
+  none_above c d (inr top) e = top
 
   -- above a class that is not there the class above all alone is, and this one itself
   pub above_nowhere : AreLeast m → (n c : ℕ) (b : Bool) → n ≡ length m.classes → n ≢ c → b ≡ descends m n c → b ≡ is_element m c
   above_nowhere least n c b there other e = e ∙ same_test (descends m n c) (is_element m c)
       (λ h. elim ((least n c).0 h) [
         | inl same ↦ absurd (other same)
-        | inr up ↦ none_above c n up (ap (λ (k : ClassInfo). k.supers) (get_or_past m.classes n nowhere_class (omega (arith, there))))
+        | inr up ↦ none_above n c up (ap (λ (k : ClassInfo). k.supers) (get_or_past m.classes n nowhere_class (omega (arith, there))))
       ])
-      (λ h. (least n c).1 (inr (element n h)))
+      (λ h. (least n c).1 (inr (inr h)))
 
 module _ (m : Metamodels) (us : List Signature) where
   module _ (t : Transitive m) (least : AreLeast m) where
-    above_top : (h : HeadClass) (c : ℕ) → is_context h c ≡ false → (class_at m c).supers ≡ [] → is_above m h c ≡ is_top m h
+    above_top : (h : HeadClass) (c : ℕ) → is_context h c ≡ false → (class_at m c).supers ≡ [] → is_context_above m h c ≡ is_top m h
     above_top Missing c other e = refl
     above_top Unknown c other e = refl
     above_top (Known d) c other e = same_test (descends m c d.0) (is_element m d.0)
         (λ h. elim ((least c d.0).0 h) [
           | inl same ↦ clash (eq-eqb d.0 c (sym same)) other
-          | inr up ↦ none_above m d.0 c up e
+          | inr up ↦ none_above m c d.0 up e
         ])
-        (λ h. (least c d.0).1 (inr (element c h)))
+        (λ h. (least c d.0).1 (inr (inr h)))
 
     pub by_top : (ns : List ℕ) (c : ℕ) → own us ns c ≡ [] → (class_at m c).supers ≡ [] → choice_for m us ns c ≡ top_choice m us ns
     unfolding choice_for
-    by_top ns c none e = ap (choice_among m us) (filter_same (λ n. is_above m (context_at us n) c) (λ n. is_top m (context_at us n)) ns
+    by_top ns c none e = ap (choice_among m us) (filter_same (λ n. is_context_above m (context_at us n) c) (λ n. is_top m (context_at us n)) ns
         (λ n i. above_top (context_at us n) c (none_passes (λ k. is_context (context_at us k) c) ns none n i) e))
 
   -- The units of the class itself.
@@ -135,10 +136,10 @@ module _ (m : Metamodels) (us : List Signature) where
     itself : (c : ℕ) → descends m c c ≡ true
     itself c = (least c c).1 (inl refl)
 
-    above_own : (h : HeadClass) (c : ℕ) → is_context h c ≡ true → is_above m h c ≡ true
-    above_own h c e = ap (λ k. is_above m k c) (known_context h c e) ∙ itself c
+    above_own : (h : HeadClass) (c : ℕ) → is_context h c ≡ true → is_context_above m h c ≡ true
+    above_own h c e = ap (λ k. is_context_above m k c) (known_context h c e) ∙ itself c
 
-    lowest_own : (h : HeadClass) (c : ℕ) → is_above m h c ≡ true → is_below m h (Known (record { 0 = c })) ≡ true → is_context h c ≡ true
+    lowest_own : (h : HeadClass) (c : ℕ) → is_context_above m h c ≡ true → is_below m h (Known (record { 0 = c })) ≡ true → is_context h c ≡ true
     lowest_own Missing c up down = absurd (cc)
     lowest_own Unknown c up down = absurd (cc)
     lowest_own (Known d) c up down = eq-eqb d.0 c (a d.0 c down up)
@@ -151,20 +152,20 @@ module _ (m : Metamodels) (us : List Signature) where
       first_own = in_filter is_own first ns (subst (In first) (sym are) (inl refl))
 
       first_there : In first (candidates m us ns c)
-      first_there = into_filter (λ n. is_above m (context_at us n) c) first ns first_own.0 (above_own (context_at us first) c first_own.1)
+      first_there = into_filter (λ n. is_context_above m (context_at us n) c) first ns first_own.0 (above_own (context_at us first) c first_own.1)
 
       is_lowest_own : (n : ℕ) → In n (candidates m us ns c) → is_lowest m us (candidates m us ns c) n ≡ is_own n
       is_lowest_own n i = same_test (is_lowest m us (candidates m us ns c) n) (is_own n)
-          (λ h. lowest_own (context_at us n) c (in_filter (λ k. is_above m (context_at us k) c) n ns i).1
+          (λ h. lowest_own (context_at us n) c (in_filter (λ k. is_context_above m (context_at us k) c) n ns i).1
           (sym (ap (is_below m (context_at us n)) (known_context (context_at us first) c first_own.1))
           ∙ all_at (λ k. is_below m (context_at us n) (context_at us k)) first (candidates m us ns c) first_there h))
           (λ h. ap (λ k. list_all (λ x. is_below m k (context_at us x)) (candidates m us ns c)) (known_context (context_at us n) c h)
-          ∙ all_pass (λ k. is_above m (context_at us k) c) ns)
+          ∙ all_pass (λ k. is_context_above m (context_at us k) c) ns)
 
       lowest_are : lowest m us (candidates m us ns c) ≡ first ∷ others
       lowest_are =
           filter_same (is_lowest m us (candidates m us ns c)) is_own (candidates m us ns c) is_lowest_own
-          ∙ kept_both is_own (λ n. is_above m (context_at us n) c) ns (λ n h. above_own (context_at us n) c h)
+          ∙ kept_both is_own (λ n. is_context_above m (context_at us n) c) ns (λ n h. above_own (context_at us n) c h)
           ∙ are
 
       by_own : choice_for m us ns c ≡ chosen_of false (single (first ∷ others))

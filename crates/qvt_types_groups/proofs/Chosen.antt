@@ -19,7 +19,7 @@ use Rattle.qvt_types_units.specs.declared.signature.HeadClass.TheVariants.{Missi
 use Rattle.qvt_types_units.specs.declared.signature.UnitSort.{UnitSort}
 use Rattle.qvt_types_units.specs.declared.signature.UnitSort.TheVariants as sort
 use Rattle.qvt_types_units.specs.declared.signature.Signature.{Signature}
-use Rattle.qvt_types_units.specs.Choice.{is_above, is_below, context_at, candidates, lowest, single, chosen, is_concrete_below, lacks_choice, is_ambiguous, is_unknown, is_unsure, is_empty, chosen_of, looked_up}
+use Rattle.qvt_types_units.specs.Choice.{is_context_above, is_below, context_at, candidates, lowest, single, chosen, is_concrete_below, lacks_choice, is_ambiguous, is_unknown, is_unsure, is_empty, chosen_of, looked_up}
 use Rattle.qvt_types_units.specs.Numbers.{unit_at, no_unit, is_mapping, is_helper, is_called, has_context, is_in_group, group}
 use Rattle.qvt_types_groups.specs.Choices.{is_stuck, stuck_among, all_stuck, lacks_one, found_alone, are_several, row, group_of, is_first, unit_row, unit_rows, row_at}
 use Rattle.qvt_types_groups.specs.ByClass.{choice_among, choice_for, choices, choice_at, is_unclear, is_stuck_by, settled}
@@ -78,14 +78,14 @@ some_left p q (x ∷ xs) implies some = by (q x) (p x) refl refl some (some_left
     by false true e f some rest = clash (implies x f) e
     by false false e f some rest = rest some
 
-above_also : (m : Metamodels) → Transitive m → (h : HeadClass) (c d : ℕ) → descends m d c ≡ true → is_above m h c ≡ true → is_above m h d ≡ true
+above_also : (m : Metamodels) → Transitive m → (h : HeadClass) (c d : ℕ) → descends m d c ≡ true → is_context_above m h c ≡ true → is_context_above m h d ≡ true
 above_also m t Missing c d down h = absurd (cc)
 above_also m t Unknown c d down h = absurd (cc)
 above_also m t (Known e) c d down h = t d c e.0 down h
 
 module _ (m : Metamodels) (us : List Signature) (t : Transitive m) where
   still_there : (ns : List ℕ) (c d : ℕ) → descends m d c ≡ true → is_empty (candidates m us ns c) ≡ false → is_empty (candidates m us ns d) ≡ false
-  still_there ns c d down some = some_left (λ n. is_above m (context_at us n) c) (λ n. is_above m (context_at us n) d) ns (λ n h. above_also m t (context_at us n) c d down h) some
+  still_there ns c d down some = some_left (λ n. is_context_above m (context_at us n) c) (λ n. is_context_above m (context_at us n) d) ns (λ n h. above_also m t (context_at us n) c d down h) some
 
   -- below a class that some units are above, a class that lacks a choice is one of those that are told
   stuck_is : (ns : List ℕ) (c d : ℕ) → is_empty (candidates m us ns c) ≡ false → (is_stuck m us ns d && descends m d c) ≡ lacks_choice m us ns c d
@@ -169,7 +169,7 @@ module _ (m : Metamodels) (us : List Signature) (t : Transitive m) where
     alone_chosen : (c : ℕ) → descends m c d ≡ true → chosen m us (n ∷ []) c ≡ Some n
     unfolding chosen
     alone_chosen c up =
-        ap (λ b. single (lowest m us (if b then n ∷ [] else []))) (ap (λ k. is_above m k c) h ∙ up)
+        ap (λ b. single (lowest m us (if b then n ∷ [] else []))) (ap (λ k. is_context_above m k c) h ∙ up)
         ∙ ap (λ b. single (if b && true then n ∷ [] else [])) ((λ i. is_below m (h i) (h i)) ∙ itself d)
 
     alone_clear : (c : ℕ) → descends m c d ≡ true → is_ambiguous m us (n ∷ []) c ≡ false
@@ -185,7 +185,7 @@ module _ (m : Metamodels) (us : List Signature) (t : Transitive m) where
     alone_known c = by (descends m c d) refl
       where
         start : looked_up m us (n ∷ []) c ≡ (if is_empty (kept_if n (descends m c d)) then NoUnit else chosen_of (is_ambiguous m us (n ∷ []) c) (chosen m us (n ∷ []) c))
-        start = λ i. if (is_unknown (h i) || false) then Untyped else if is_empty (kept_if n (is_above m (h i) c)) then NoUnit else chosen_of (is_ambiguous m us (n ∷ []) c) (chosen m us (n ∷ []) c)
+        start = λ i. if (is_unknown (h i) || false) then Untyped else if is_empty (kept_if n (is_context_above m (h i) c)) then NoUnit else chosen_of (is_ambiguous m us (n ∷ []) c) (chosen m us (n ∷ []) c)
 
         by : (b : Bool) → descends m c d ≡ b → looked_up m us (n ∷ []) c ≡ (if b then Chosen n else NoUnit)
         by true e = start ∙ ap (λ b. if is_empty (kept_if n b) then NoUnit else chosen_of (is_ambiguous m us (n ∷ []) c) (chosen m us (n ∷ []) c)) e
@@ -196,8 +196,8 @@ module _ (m : Metamodels) (us : List Signature) (t : Transitive m) where
   alone_found n c h d is known up = sym (alone_known n d (sym is ∙ known) c ∙ ap (λ b. if b then Chosen n else NoUnit) up)
 
   alone_by : (n c : ℕ) (h : HeadClass) → context_at us n ≡ h → looked_up m us (n ∷ []) c ≡ found_alone m n h c
-  alone_by n c Missing h = λ i. if (is_unknown (h i) || false) then Untyped else if is_empty (if is_above m (h i) c then n ∷ [] else []) then NoUnit else chosen_of (is_ambiguous m us (n ∷ []) c) (chosen m us (n ∷ []) c)
-  alone_by n c Unknown h = λ i. if (is_unknown (h i) || false) then Untyped else if is_empty (if is_above m (h i) c then n ∷ [] else []) then NoUnit else chosen_of (is_ambiguous m us (n ∷ []) c) (chosen m us (n ∷ []) c)
+  alone_by n c Missing h = λ i. if (is_unknown (h i) || false) then Untyped else if is_empty (if is_context_above m (h i) c then n ∷ [] else []) then NoUnit else chosen_of (is_ambiguous m us (n ∷ []) c) (chosen m us (n ∷ []) c)
+  alone_by n c Unknown h = λ i. if (is_unknown (h i) || false) then Untyped else if is_empty (if is_context_above m (h i) c then n ∷ [] else []) then NoUnit else chosen_of (is_ambiguous m us (n ∷ []) c) (chosen m us (n ∷ []) c)
   alone_by n c (Known d) h = alone_known n d.0 h c
 
   pub alone_is : (n c : ℕ) → found_alone m n (context_at us n) c ≡ looked_up m us (n ∷ []) c

@@ -1,18 +1,19 @@
 -- The choice for a class without units of its own, by those of its superclasses.
-use Rattle.std.proofs.Common.{◌≡◌, ◌∙◌, ℕ, ◌==◌, List, [], ◌∷◌, Bool, true, false, ◌&&◌, ◌||◌, Option, Some, None, inl, inr, refl, sym, ap, subst}
+use Rattle.std.proofs.Common.{◌≡◌, ◌∙◌, ℕ, ◌==◌, List, [], ◌∷◌, Bool, true, false, ◌&&◌, ◌||◌, ◌⊎◌, Option, Some, None, inl, inr, refl, sym, ap, subst}
 use Rattle.std.specs.Prelude.{if◌then◌else◌, filter}
 use Rattle.std.specs.List.{list_any, list_all}
 use Rattle.std.proofs.lemmas.Bool.{eq-eqb, eqb-true}
 use Rattle.qvt_base.specs.declared.numbers.ClassNo.{ClassNo}
 use Rattle.qvt_metamodel.specs.Metamodels.{Metamodels, class_at}
-use Rattle.qvt_metamodel.specs.Descends.{IsAncestor, superclass, above, element, descends}
+use Rattle.qvt_metamodel.specs.Descends.{is_superclass, Inherits, IsAncestor, descends, Descends}
+use Rattle.qvt_metamodel.proofs.Ancestors.{begins, over}
 use Rattle.qvt_metamodel.proofs.Bools.{and_both, and_left, and_right, or_left, or_right, or_cases, clash}
 use Rattle.qvt_types_units.specs.declared.choice.Found.{Found}
 use Rattle.qvt_types_units.specs.declared.choice.Found.TheVariants.{NoUnit, Untyped, Unclear, Chosen}
 use Rattle.qvt_types_units.specs.declared.signature.HeadClass.{HeadClass}
 use Rattle.qvt_types_units.specs.declared.signature.HeadClass.TheVariants.{Missing, Unknown, Known}
 use Rattle.qvt_types_units.specs.declared.signature.Signature.{Signature}
-use Rattle.qvt_types_units.specs.Choice.{is_above, is_below, context_at, is_lowest, lowest, single, chosen_of}
+use Rattle.qvt_types_units.specs.Choice.{is_context_above, is_below, context_at, is_lowest, lowest, single, chosen_of}
 use Rattle.qvt_types_units.specs.Numbers.{is_context}
 use Rattle.qvt_types_groups.specs.ByClass.{choice_among, choice_for, own, known_at, top_choice, joined_found, joined, all_joined, inherited, AreKnown}
 use Rattle.qvt_types_groups.proofs.ByClass.{AreLeast, filter_same, in_filter, into_filter, none_passes, some_none, same_some, by_top}
@@ -68,7 +69,7 @@ or_false false = refl
 module _ (m : Metamodels) (us : List Signature) where
   -- one of the classes is at or below the unit's
   abbrev above_some : List ClassNo → ℕ → Bool
-  above_some cs n = list_any (λ s. is_above m (context_at us n) s.0) cs
+  above_some cs n = list_any (λ s. is_context_above m (context_at us n) s.0) cs
 
   abbrev Tells : List ℕ → Option Found → (ℕ → Bool) → Type 0
   Tells ns o p = (f : Found) → o ≡ Some f → f ≡ choice_among m us (filter p ns)
@@ -170,7 +171,7 @@ module _ (m : Metamodels) (us : List Signature) where
     joined_tells (Some f) None left right h e = absurd (some_none h (sym e))
     joined_tells (Some f) (Some g) left right h e = found_is f g h (left f refl) (right g refl) e
 
-  known_tells : (ns : List ℕ) (known : List (Option Found)) (c : ℕ) → AreKnown m us ns known → Tells ns (known_at known c) (λ n. is_above m (context_at us n) c)
+  known_tells : (ns : List ℕ) (known : List (Option Found)) (c : ℕ) → AreKnown m us ns known → Tells ns (known_at known c) (λ n. is_context_above m (context_at us n) c)
   unfolding choice_for
   known_tells ns known c are f e = are.told c f e
 
@@ -178,37 +179,41 @@ module _ (m : Metamodels) (us : List Signature) where
       → Tells ns (all_joined known o cs) (λ n. p n || above_some cs n)
   all_tell ns known o p [] are tells f e = tells f e ∙ ap (choice_among m us) (λ i. filter (λ n. sym (or_false (p n)) i) ns)
   all_tell ns known o p (c ∷ cs) are tells f e =
-      all_tell ns known (joined o (known_at known c.0)) (λ n. p n || is_above m (context_at us n) c.0) cs are
-      (joined_tells ns p (λ n. is_above m (context_at us n) c.0) o (known_at known c.0) tells (known_tells ns known c.0 are)) f e
-      ∙ ap (choice_among m us) (λ i. filter (λ n. or_or (p n) (is_above m (context_at us n) c.0) (above_some cs n) i) ns)
+      all_tell ns known (joined o (known_at known c.0)) (λ n. p n || is_context_above m (context_at us n) c.0) cs are
+      (joined_tells ns p (λ n. is_context_above m (context_at us n) c.0) o (known_at known c.0) tells (known_tells ns known c.0 are)) f e
+      ∙ ap (choice_among m us) (λ i. filter (λ n. or_or (p n) (is_context_above m (context_at us n) c.0) (above_some cs n) i) ns)
 
   module _ (t : Transitive m) (least : AreLeast m) where
-    below_super : (s : ClassNo) (cs : List ClassNo) (d c : ℕ) → IsAncestor m d c → (class_at m c).supers ≡ s ∷ cs → list_any (λ x. descends m x.0 d) (s ∷ cs) ≡ true
-    below_super s cs d _ (superclass c is) e = any_class (λ x. x.0 == d) (λ x. descends m x.0 d) (s ∷ cs) (λ x h. (least x.0 d).1 (inl (eqb-true x.0 d h)))
-        (sym (ap (list_any (λ (x : ClassNo). x.0 == d)) e) ∙ is)
-    below_super s cs d _ (above c k is up) e = any_class (λ x. x.0 == k) (λ x. descends m x.0 d) (s ∷ cs) (λ x h. (least x.0 d).1 (inr (subst (IsAncestor m d) (sym (eqb-true x.0 k h)) up)))
-        (sym (ap (list_any (λ (x : ClassNo). x.0 == k)) e) ∙ is)
-    below_super s cs d _ (element c top) e = or_left (descends m s.0 d) (list_any (λ x. descends m x.0 d) cs) ((least s.0 d).1 (inr (element s.0 top)))
+    below_super : (s : ClassNo) (cs : List ClassNo) (c d : ℕ) → IsAncestor m c d → (class_at m c).supers ≡ s ∷ cs → list_any (λ x. descends m x.0 d) (s ∷ cs) ≡ true
+    below_super s cs c d (inl up) e =
+        let first : (k : ℕ) × (is_superclass m c k ≡ true) × ((k ≡ d) ⊎ Inherits m k d) = begins m c d up in
+        any_class (λ x. x.0 == first.0) (λ x. descends m x.0 d) (s ∷ cs) (λ x h. (least x.0 d).1 (subst (λ y. Descends m y d) (sym (eqb-true x.0 first.0 h)) (onward first.0 first.2)))
+        (sym (ap (list_any (λ (x : ClassNo). x.0 == first.0)) e) ∙ first.1)
+      where
+        onward : (k : ℕ) → (k ≡ d) ⊎ Inherits m k d → Descends m k d
+        onward k (inl same) = inl same
+        onward k (inr more) = inr (inl more)
+    below_super s cs c d (inr top) e = or_left (descends m s.0 d) (list_any (λ x. descends m x.0 d) cs) ((least s.0 d).1 (inr (inr top)))
 
     none_above_some : (cs : List ClassNo) → false ≡ list_any (λ (x : ClassNo). false) cs
     none_above_some [] = refl
     none_above_some (c ∷ cs) = none_above_some cs
 
-    above_supers : (h : HeadClass) (c : ℕ) (s : ClassNo) (cs : List ClassNo) → is_context h c ≡ false → (class_at m c).supers ≡ s ∷ cs → is_above m h c ≡ list_any (λ x. is_above m h x.0) (s ∷ cs)
+    above_supers : (h : HeadClass) (c : ℕ) (s : ClassNo) (cs : List ClassNo) → is_context h c ≡ false → (class_at m c).supers ≡ s ∷ cs → is_context_above m h c ≡ list_any (λ x. is_context_above m h x.0) (s ∷ cs)
     above_supers Missing c s cs other e = none_above_some (s ∷ cs)
     above_supers Unknown c s cs other e = none_above_some (s ∷ cs)
     above_supers (Known d) c s cs other e = same_test (descends m c d.0) (list_any (λ x. descends m x.0 d.0) (s ∷ cs))
         (λ h. elim ((least c d.0).0 h) [
           | inl same ↦ clash (eq-eqb d.0 c (sym same)) other
-          | inr up ↦ below_super s cs d.0 c up e
+          | inr up ↦ below_super s cs c d.0 up e
         ])
         (λ h. some_of (λ x. descends m x.0 d.0) (s ∷ cs) h
-        (λ x there is. t c x.0 d.0 ((least c x.0).1 (inr (superclass c (ap (list_any (λ (y : ClassNo). y.0 == x.0)) e ∙ there)))) is))
+        (λ x there is. t c x.0 d.0 ((least c x.0).1 (inr (inl (over m c x.0 x.0 (ap (list_any (λ (y : ClassNo). y.0 == x.0)) e ∙ there) (inl refl))))) is))
 
     by_supers : (ns : List ℕ) (c : ℕ) (s : ClassNo) (cs : List ClassNo) → own us ns c ≡ [] → (class_at m c).supers ≡ s ∷ cs
         → choice_for m us ns c ≡ choice_among m us (filter (above_some (s ∷ cs)) ns)
     unfolding choice_for
-    by_supers ns c s cs none e = ap (choice_among m us) (filter_same (λ n. is_above m (context_at us n) c) (above_some (s ∷ cs)) ns
+    by_supers ns c s cs none e = ap (choice_among m us) (filter_same (λ n. is_context_above m (context_at us n) c) (above_some (s ∷ cs)) ns
         (λ n i. above_supers (context_at us n) c s cs (none_passes (λ k. is_context (context_at us k) c) ns none n i) e))
 
     -- what the superclasses tell of a class without units of its own is its choice
@@ -219,5 +224,5 @@ module _ (m : Metamodels) (us : List Signature) where
         by : (ks : List ClassNo) → (class_at m c).supers ≡ ks → inherited known top ks ≡ Some f → f ≡ choice_for m us ns c
         by [] e tells = same_some top f tells ∙ is ∙ sym (by_top m us t least ns c none e)
         by (s ∷ cs) e tells =
-            all_tell ns known (known_at known s.0) (λ n. is_above m (context_at us n) s.0) cs are (known_tells ns known s.0 are) f tells
+            all_tell ns known (known_at known s.0) (λ n. is_context_above m (context_at us n) s.0) cs are (known_tells ns known s.0 are) f tells
             ∙ sym (by_supers ns c s cs none e)

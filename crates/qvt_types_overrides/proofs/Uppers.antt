@@ -3,8 +3,9 @@ use Rattle.std.proofs.Common.{◌≡◌, ◌∙◌, ℕ, zero, suc, ◌+◌, ◌
 use Rattle.std.specs.List.{list_any}
 use Rattle.std.proofs.lemmas.Bool.{eq-eqb}
 use Rattle.std.proofs.lemmas.List.{at_drop_more}
+use Rattle.qvt_relation.specs.Closure.{directly, through}
 use Rattle.qvt_metamodel.specs.Metamodels.{Metamodels, is_element, nowhere_class}
-use Rattle.qvt_metamodel.specs.Descends.{IsAncestor, superclass, above, element, descends}
+use Rattle.qvt_metamodel.specs.Descends.{Inherits, IsAncestor, descends}
 use Rattle.qvt_metamodel.specs.declared.info.ClassInfo.{ClassInfo}
 use Rattle.qvt_metamodel.proofs.Bools.{and_left, and_right, or_left, or_right, clash}
 use Rattle.qvt_types_groups.specs.declared.signature.HeadClass.{HeadClass}
@@ -18,10 +19,13 @@ super_there [] i c h = absurd (cc)
 super_there (k ∷ ks) zero c h = or_left (list_any (λ s. s.0 == c) k.supers) (is_super ks c) h
 super_there (k ∷ ks) (suc i) c h = or_right (list_any (λ s. s.0 == c) k.supers) (is_super ks c) (super_there ks i c h)
 
-ancestor_upper : (m : Metamodels) (d e : ℕ) → IsAncestor m d e → (is_element m d || is_super m.classes d) ≡ true
-ancestor_upper m d _ (superclass e up) = or_right (is_element m d) (is_super m.classes d) (super_there m.classes e d up)
-ancestor_upper m d _ (above e k up rest) = ancestor_upper m d k rest
-ancestor_upper m d _ (element e over) = or_left (is_element m d) (is_super m.classes d) over
+inherits_super : (m : Metamodels) {c d : ℕ} → Inherits m c d → is_super m.classes d ≡ true
+inherits_super m (directly {x} {y} up) = super_there m.classes x y up
+inherits_super m (through {x} {y} {z} up rest) = inherits_super m rest
+
+ancestor_upper : (m : Metamodels) (c d : ℕ) → IsAncestor m c d → (is_element m d || is_super m.classes d) ≡ true
+ancestor_upper m c d (inl up) = or_right (is_element m d) (is_super m.classes d) (inherits_super m up)
+ancestor_upper m c d (inr over) = or_left (is_element m d) (is_super m.classes d) over
 
 pub below_upper : (m : Metamodels) → AreLeast m → (h i : HeadClass) → is_strictly_below m h i ≡ true → is_upper m i ≡ true
 below_upper m least Missing i e = absurd (cc)
@@ -30,7 +34,7 @@ below_upper m least (Known c) Missing e = absurd (cc)
 below_upper m least (Known c) Unknown e = absurd (cc)
 below_upper m least (Known c) (Known d) e = elim ((least c.0 d.0).0 (and_right (not (c.0 == d.0)) (descends m c.0 d.0) e)) [
   | inl same ↦ clash (and_left (not (c.0 == d.0)) (descends m c.0 d.0) e) (ap not (eq-eqb c.0 d.0 same))
-  | inr up ↦ ancestor_upper m d.0 c.0 up
+  | inr up ↦ ancestor_upper m c.0 d.0 up
 ]
 
 -- The walk over items, where a test of them is joined to what it was of others.

@@ -12,14 +12,14 @@ use Rattle.qvt_types_units.specs.declared.choice.Found.TheVariants.{NoUnit, Unty
 use Rattle.qvt_types_units.specs.Numbers.{unit_at, group}
 
 -- the unit's context class is this class or above it
-abbrev pub is_above : Metamodels → HeadClass → ℕ → Bool
-is_above m Missing c = false
-is_above m Unknown c = false
-is_above m (Known d) c = descends m c d.0
+abbrev pub is_context_above : Metamodels → HeadClass → ℕ → Bool
+is_context_above m Missing c = false
+is_context_above m Unknown c = false
+is_context_above m (Known d) c = descends m c d.0
 
 -- the context class of the first is that of the second or below it
 abbrev pub is_below : Metamodels → HeadClass → HeadClass → Bool
-is_below m (Known c) h = is_above m h c.0
+is_below m (Known c) h = is_context_above m h c.0
 is_below m Missing h = false
 is_below m Unknown h = false
 
@@ -28,7 +28,7 @@ context_at us n = (unit_at us n).context
 
 -- those of the units that an object of class c may be handed to
 abbrev pub candidates : Metamodels → List Signature → List ℕ → ℕ → List ℕ
-candidates m us ns c = filter (λ n. is_above m (context_at us n) c) ns
+candidates m us ns c = filter (λ n. is_context_above m (context_at us n) c) ns
 
 abbrev pub is_lowest : Metamodels → List Signature → List ℕ → ℕ → Bool
 is_lowest m us ns n = list_all (λ k. is_below m (context_at us n) (context_at us k)) ns

@@ -25,8 +25,8 @@ pub enum Found {
 }
 
 /// Whether the context class is this class or above it.
-fn is_above(metas: &Metas, context: HeadClass, class: ClassNo) -> bool
-    ensures { result ≡ choice.is_above metas.now context class.0 }
+fn is_context_above(metas: &Metas, context: HeadClass, class: ClassNo) -> bool
+    ensures { result ≡ choice.is_context_above metas.now context class.0 }
 {
     match context {
         HeadClass::Missing => false,
@@ -42,7 +42,7 @@ pub fn is_below(metas: &Metas, one: HeadClass, other: HeadClass) -> bool
     match one {
         HeadClass::Missing => false,
         HeadClass::Unknown => false,
-        HeadClass::Known(class) => is_above(metas, other, class),
+        HeadClass::Known(class) => is_context_above(metas, other, class),
     }
 }
 
@@ -81,7 +81,7 @@ pub fn candidates(
 {
     let mut numbers = Seq::new(alloc);
     for number in group {
-        if is_above(metas, context_at(units, *number), class) {
+        if is_context_above(metas, context_at(units, *number), class) {
             numbers.push(*number)?;
         }
     }
