@@ -199,12 +199,14 @@ module _ (ds : List Declared) where
     pub own_width : length ys ≡ width ds i
     own_width = length-map (numbers_from (before ds i) (width ds i)) (property_at all) ∙ length-numbers_from (before ds i) (width ds i)
 
-    pub parts : properties_at all (property_lists (numbered_from 0 ds)) i ≡ xs ++ ys
-    parts =
-        ap (map (property_at all)) (
+    -- the numbers of its properties: its own are the last
+    pub list_is : get_or (property_lists (numbered_from 0 ds)) i [] ≡ inherited i ++ numbers_from (before ds i) (width ds i)
+    list_is =
         get_or-map-range_with_len (features_of M) 0 (length (numbered_from 0 ds)) i i [] (omega (arith, low, numbered_count 0 ds)) (let same : 0 + i ≡ i = omega arith in same)
-        ∙ features_are i low)
-        ∙ map-append (property_at all) (inherited i) (numbers_from (before ds i) (width ds i))
+        ∙ features_are i low
+
+    pub parts : properties_at all (property_lists (numbered_from 0 ds)) i ≡ xs ++ ys
+    parts = ap (map (property_at all)) list_is ∙ map-append (property_at all) (inherited i) (numbers_from (before ds i) (width ds i))
 
     names_are : names_of xs ≡ map (λ g. name_of g.0) (inherited i)
     names_are = names_of_map (property_at all) (inherited i)

@@ -1,23 +1,24 @@
 -- Classes whose properties all differ in their names are read as they are, and nothing is told of them.
-use Rattle.std.proofs.Common.{◌≡◌, ◌∙◌, ℕ, zero, suc, ◌+◌, ◌-◌, ◌<◌, ◌≤◌, List, [], ◌∷◌, ◌++◌, length, map, get_or, true, not, Option, Some, None, refl, ap, sym, subst, arith}
+use Rattle.std.proofs.Common.{◌≡◌, ◌∙◌, ℕ, zero, suc, ◌+◌, ◌-◌, ◌<◌, ◌≤◌, List, [], ◌∷◌, ◌++◌, length, map, get_or, drop, true, not, Option, Some, None, refl, ap, sym, subst, arith}
 use Rattle.std.specs.Prelude.{is_some}
 use Rattle.std.specs.List.{AllByRecursion, flat_map}
-use Rattle.std.proofs.lemmas.List.{append-nil, length-append, length-map}
+use Rattle.std.proofs.lemmas.List.{append-nil, get_or_default, length-append, length-map}
+use Rattle.std.proofs.Math.Seq.{drop-append_seam}
 use Rattle.qvt_relation.specs.Closure.{Closure}
 use Rattle.qvt_metamodel.specs.Added.{numbers_from}
 use Rattle.qvt_metamodel.specs.Metamodels.{among_features, class_at, features_in}
 use Rattle.qvt_metamodel.specs.Names.{repeated}
 use Rattle.qvt_metamodel.proofs.Bools.{ap2}
-use Rattle.qvt_metamodel.proofs.Infos.{map-at}
+use Rattle.qvt_metamodel.proofs.Infos.{map-at, length-numbers_from}
 use Rattle.qvt_metas.specs.Search.{IsAcyclic}
 use Rattle.qvt_types_data.specs.declared.refusal.Refusal.{Refusal}
 use Rattle.qvt_base.specs.declared.numbers.FeatureNo.{FeatureNo}
 use Rattle.qvt_types_classes.specs.declared.declared.Property.{Property}
 use Rattle.qvt_types_classes.specs.declared.declared.Declared.{Declared}
-use Rattle.qvt_types_classes.specs.Inherited.{all_properties, are_apart, firsts, names_of, no_property, numbered_from, properties_at, property_at, property_lists, read_class, read_from, same_told, same_told_from}
+use Rattle.qvt_types_classes.specs.Inherited.{IsOwnLast, all_properties, are_apart, firsts, names_of, no_property, numbered_from, properties_at, property_at, property_lists, read_class, read_from, same_told, same_told_from}
 use Rattle.qvt_types_classes.specs.Classes.{all_same_told, read_classes}
-use Rattle.qvt_types_classes.proofs.Ancestry.{M, Source, inherited, name_of, names_of_map, own_width, parts, read_kept, silent, source, xs, ys}
-use Rattle.qvt_types_classes.proofs.Cut.{at, closure_map, Over, is_over}
+use Rattle.qvt_types_classes.proofs.Ancestry.{M, Source, inherited, list_is, name_of, names_of_map, own_width, parts, read_kept, silent, source, xs, ys}
+use Rattle.qvt_types_classes.proofs.Cut.{at, nothing, closure_map, Over, is_over}
 use Rattle.qvt_types_classes.proofs.Numbering.{before, width, IsOf, all_numbers, one_class, property_is}
 use Rattle.qvt_types_classes.proofs.Once.{all_among, firsts_after, fresh_names, names_differ, numbers_fresh, once_fresh}
 
@@ -123,3 +124,27 @@ module _ (ds : List Declared) (acyclic : IsAcyclic (numbered_from 0 ds)) (fresh 
   pub apart_told : all_same_told ds ≡ []
   unfolding all_same_told
   apart_told = none_from all lists 0 ds (λ i l. ap (λ n. same_told (properties_at all lists n) (at ds i)) (let same : 0 + i ≡ i = omega arith in same) ∙ is_silent i l)
+
+-- the last properties of each class are its own
+own_properties : (all : List Property) (f : ℕ) (ps : List Property) → ((k : ℕ) → k < length ps → get_or all (f + k) no_property ≡ get_or ps k no_property) → map (property_at all) (numbers_from f (length ps)) ≡ ps
+own_properties all f [] is = refl
+own_properties all f (p ∷ ps) is =
+    let first : property_at all (record { 0 = f }) ≡ p = ap (λ n. get_or all n no_property) (let same : f ≡ f + 0 = omega arith in same) ∙ is 0 (omega arith) in
+    let others : map (property_at all) (numbers_from (f + 1) (length ps)) ≡ ps =
+    own_properties all (f + 1) ps (λ k l. ap (λ n. get_or all n no_property) (let same : f + 1 + k ≡ f + suc k = omega arith in same) ∙ is (suc k) (omega (arith, l))) in
+    (λ t. first t ∷ others t)
+
+pub own_last : (ds : List Declared) (i : ℕ) (e : Declared) → i < length ds → IsOwnLast (all_properties ds) (get_or (property_lists (numbered_from 0 ds)) i []) (get_or ds i e)
+own_last ds i e low = subst (λ d. IsOwnLast (all_properties ds) (get_or (property_lists (numbered_from 0 ds)) i []) d) (get_or_default ds i nothing e low)
+    ((λ t. map (property_at (all_properties ds)) (drop (length (list_is ds i low t) - width ds i) (list_is ds i low t)))
+    ∙ ap (map (property_at (all_properties ds))) last
+    ∙ own_properties (all_properties ds) (before ds i) (at ds i).properties (λ k l. property_is ds i k l))
+  where
+    own : List FeatureNo
+    own = numbers_from (before ds i) (width ds i)
+
+    last : drop (length (inherited ds i ++ own) - width ds i) (inherited ds i ++ own) ≡ own
+    last =
+        ap (λ n. drop n (inherited ds i ++ own))
+        (let same : length (inherited ds i ++ own) - width ds i ≡ length (inherited ds i) = omega (arith, length-append (inherited ds i) own, length-numbers_from (before ds i) (width ds i)) in same)
+        ∙ drop-append_seam (inherited ds i) own

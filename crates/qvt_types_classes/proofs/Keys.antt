@@ -1,119 +1,34 @@
--- The numbers of names: two names have one number exactly where they are one, and sets of numbers tell which names were seen.
-use Rattle.std.proofs.Common.{◌≡◌, ◌∙◌, ℕ, zero, suc, ◌+◌, ◌-◌, ◌<◌, ◌≤◌, List, [], ◌∷◌, ◌++◌, length, map, take, drop, get_or, Bool, true, false, ◌&&◌, ◌||◌, ◌==◌, inl, inr, Some, None, position, is_some, refl, ap, sym, subst, arith, append_assoc, append-nil}
-use Rattle.std.specs.Prelude.{if◌then◌else◌, unwrap_or}
+-- The numbers of names: two names have one number exactly where they are one; and the flags of names that were there before.
+use Rattle.std.proofs.Common.{◌≡◌, ◌∙◌, ℕ, ◌+◌, ◌-◌, ◌<◌, ◌≤◌, List, [], ◌∷◌, ◌++◌, length, map, take, drop, get_or, Bool, true, false, ◌||◌, Some, is_some, refl, ap, sym, arith, append_assoc, append-nil}
+use Rattle.std.specs.Prelude.{if◌then◌else◌}
 use Rattle.std.specs.List.{drop-map}
 use Rattle.std.specs.Str.{bytes_eq}
-use Rattle.std.proofs.lemmas.Bool.{eqb-true, eq-eqb}
-use Rattle.std.proofs.lemmas.List.{length-map, length-take-le, take-append-drop, take-map, map-append, map_more, drop_more}
+use Rattle.std.proofs.Math.Bool.{or-false}
+use Rattle.std.proofs.lemmas.List.{length-map, length-take-le, take-append-drop, take-map, map_more, drop_more, get_or-map}
 use Rattle.std.proofs.lemmas.List.Folds.{list_any-append}
 use Rattle.std.proofs.lemmas.Slice.Eq.{bytes_eq-Decides}
 use Rattle.std.proofs.Math.Seq.{drop-append_seam}
 use Rattle.qvt_base.specs.declared.numbers.FeatureNo.{FeatureNo}
 use Rattle.qvt_base.specs.declared.numbers.Place.{Place}
-use Rattle.qvt_metamodel.specs.Added.{place_in}
 use Rattle.qvt_metamodel.specs.Names.{is_among, repeated}
-use Rattle.qvt_metamodel.proofs.Bools.{ap2, clash, not_true, no-and, and_no, or_cases, or_left, or_right}
+use Rattle.qvt_metamodel.proofs.Bools.{ap2, clash, or_left}
 use Rattle.qvt_metamodel.proofs.Infos.{map-at_all}
-use Rattle.qvt_metamodel.proofs.Lookups.{bytes_eq-refl}
-use Rattle.qvt_metamodel.proofs.Positions.{place-found, place-is}
-use Rattle.qvt_metas.specs.NumberSets.{has_number}
-use Rattle.qvt_types_paths.proofs.Places.{some_position}
+use Rattle.qvt_meta_repeats.specs.Flags.{name_flags, number_flags, repeat_flags}
+use Rattle.qvt_meta_repeats.proofs.Flags.{flag_at, flags_count, flags_drop}
+use Rattle.qvt_meta_repeats.proofs.Names.{first_empty, flags_of_places}
 use Rattle.qvt_types_classes.specs.declared.declared.Declared.{Declared}
 use Rattle.qvt_types_classes.specs.declared.declared.Property.{Property}
 use Rattle.qvt_types_data.specs.declared.refusal.Refusal.{Refusal}
 use Rattle.qvt_types_data.specs.declared.refusal.RefusalKind.TheVariants.{SameName}
 use Rattle.qvt_types_paths.specs.Told.{told_if}
-use Rattle.qvt_types_classes.specs.Inherited.{names_of, no_property, property_at, firsts, own_told, same_told, inherits_twice, read_class}
-use Rattle.qvt_types_classes.specs.Keys.{known, key_of, names_at, is_seen, AreSeen}
-
--- two known names have one number exactly where they are one
-same-place : (names : List (List ℕ)) (a b : List ℕ) → is_among a names ≡ true → is_among b names ≡ true → (place_in names b == place_in names a) ≡ bytes_eq a b
-same-place names a b ha hb = by (bytes_eq a b) refl
-  where
-    by : (t : Bool) → bytes_eq a b ≡ t → (place_in names b == place_in names a) ≡ t
-    by true e = eq-eqb (place_in names b) (place_in names a) (ap (place_in names) (sym ((bytes_eq-Decides a b).0 e)))
-    by false e = not_true (place_in names b == place_in names a) (λ h.
-        let one : place_in names b ≡ place_in names a = eqb-true (place_in names b) (place_in names a) h in
-        let of-a : a ≡ get_or names (place_in names a) [] = (bytes_eq-Decides a (get_or names (place_in names a) [])).0 (place-found names a ha).1 in
-        let of-b : b ≡ get_or names (place_in names b) [] = (bytes_eq-Decides b (get_or names (place_in names b) [])).0 (place-found names b hb).1 in
-        clash ((bytes_eq-Decides a b).1 (of-a ∙ ap (λ i. get_or names i []) (sym one) ∙ sym of-b)) e)
-
-known_from : (ps : List Property) (i : ℕ) → is_among (get_or ps i no_property).name ([] ∷ names_of ps) ≡ true
-known_from [] i = or_left (bytes_eq [] []) false (bytes_eq-refl [])
-known_from (p ∷ ps) zero = or_right (bytes_eq p.name []) (bytes_eq p.name p.name || is_among p.name (names_of ps)) (or_left (bytes_eq p.name p.name) (is_among p.name (names_of ps)) (bytes_eq-refl p.name))
-known_from (p ∷ ps) (suc i) = elim (or_cases (bytes_eq (get_or ps i no_property).name []) (is_among (get_or ps i no_property).name (names_of ps)) (known_from ps i)) [
-  | inl e ↦ or_left (bytes_eq (get_or ps i no_property).name []) (bytes_eq (get_or ps i no_property).name p.name || is_among (get_or ps i no_property).name (names_of ps)) e
-  | inr r ↦ or_right (bytes_eq (get_or ps i no_property).name []) (bytes_eq (get_or ps i no_property).name p.name || is_among (get_or ps i no_property).name (names_of ps)) (or_right (bytes_eq (get_or ps i no_property).name p.name) (is_among (get_or ps i no_property).name (names_of ps)) r)
-]
-
--- the name of every property is known, and that of what stands past the end
-pub known_at : (all : List Property) (f : FeatureNo) → is_among (property_at all f).name (known all) ≡ true
-known_at all f = known_from all f.0
+use Rattle.qvt_types_classes.specs.Inherited.{names_of, no_property, property_at, firsts, own_told, same_told, inherits_twice, read_class, IsOwnLast}
+use Rattle.qvt_types_classes.specs.Keys.{key_of, keys_of, names_at}
 
 -- its number stands among the numbers of the properties
-pub key_stands : (all : List Property) (f : FeatureNo) → get_or (map (λ p. key_of all p.name) all) f.0 0 ≡ key_of all (property_at all f).name
+key_stands : (all : List Property) (f : FeatureNo) → get_or (keys_of all) f.0 0 ≡ key_of all (property_at all f).name
 key_stands all f =
-    ap (λ d. get_or (map (λ (p : Property). key_of all p.name) all) f.0 d) (sym zero)
+    ap (get_or (keys_of all) f.0) (sym (first_empty (names_of all)))
     ∙ map-at_all (λ (p : Property). key_of all p.name) all f.0 no_property
-  where
-    zero : key_of all no_property.name ≡ 0
-    zero = place-is (known all) 0 (omega arith) (λ j l. absurd (omega arith))
-
-pub unknown_unseen : (all : List Property) (s : List ℕ × ℕ) (name : List ℕ) → position (bytes_eq name) (known all) ≡ None → is_seen all s name ≡ false
-unknown_unseen all s name none = no-and (is_among name (known all)) (has_number s (key_of all name)) (sym (some_position (bytes_eq name) (known all)) ∙ ap is_some none)
-
-pub known_seen : (all : List Property) (s : List ℕ × ℕ) (name : List ℕ) (i : ℕ) → position (bytes_eq name) (known all) ≡ Some i → is_seen all s name ≡ has_number s i
-known_seen all s name i at = ap2 (λ a k. a && has_number s k) (sym (some_position (bytes_eq name) (known all)) ∙ ap is_some at) (ap (λ o. unwrap_or o 0) at)
-
--- the number of a known name is in the set exactly where the name was seen
-pub seen_at : (all : List Property) (s : List ℕ × ℕ) (names : List (List ℕ)) (x : List ℕ) → is_among x (known all) ≡ true → AreSeen all s names → has_number s (key_of all x) ≡ is_among x names
-seen_at all s names x here seen = ap (λ b. b && has_number s (key_of all x)) (sym here) ∙ seen x
-
-pub none_seen : (all : List Property) (s : List ℕ × ℕ) → ((n : ℕ) → has_number s n ≡ false) → AreSeen all s []
-none_seen all s none = λ name. and_no (is_among name (known all)) (has_number s (key_of all name)) (none (key_of all name))
-
--- one more name is seen
-pub seen_more : (all : List Property) (s t : List ℕ × ℕ) (names : List (List ℕ)) (x : List ℕ) → is_among x (known all) ≡ true → ((n : ℕ) → has_number t n ≡ (has_number s n || (key_of all x == n))) → AreSeen all s names → AreSeen all t (names ++ x ∷ [])
-seen_more all s t names x here more seen = λ name. by name (is_among name (known all)) refl ∙ sym (list_any-append (bytes_eq name) names (x ∷ []))
-  where
-    or_no : (b : Bool) → b ≡ (b || false)
-    or_no true = refl
-    or_no false = refl
-
-    by : (name : List ℕ) (k : Bool) → is_among name (known all) ≡ k → is_seen all t name ≡ (is_among name names || (bytes_eq name x || false))
-    by name true e =
-        ap (λ b. b && has_number t (key_of all name)) e
-        ∙ more (key_of all name)
-        ∙ ap2 (λ a b. a || b) (seen_at all s names name e seen) (same-place (known all) name x e here ∙ or_no (bytes_eq name x))
-    by name false e =
-        no-and (is_among name (known all)) (has_number t (key_of all name)) e
-        ∙ ap2 (λ a b. a || b) (sym (no-and (is_among name (known all)) (has_number s (key_of all name)) e) ∙ seen name) (sym unlike ∙ or_no (bytes_eq name x))
-      where
-        unlike : bytes_eq name x ≡ false
-        unlike = not_true (bytes_eq name x) (λ h. clash (ap (λ n. is_among n (known all)) ((bytes_eq-Decides name x).0 h) ∙ here) e)
-
--- the names seen of one more property, and whether two have one name
-pub twice_more : (was twice : Bool) (earlier : List (List ℕ)) (x : List ℕ) (xs names : List (List ℕ)) → was ≡ is_among x earlier → (twice || is_some (repeated earlier (x ∷ xs))) ≡ is_some (repeated [] names) → ((was || twice) || is_some (repeated (earlier ++ x ∷ []) xs)) ≡ is_some (repeated [] names)
-twice_more true twice earlier x xs names was all = sym (or_right twice (is_some (repeated earlier (x ∷ xs))) there) ∙ all
-  where
-    there : is_some (repeated earlier (x ∷ xs)) ≡ true
-    there = ap (λ b. is_some (if b then Some x else repeated (earlier ++ x ∷ []) xs)) (sym was)
-twice_more false twice earlier x xs names was all = ap (λ b. twice || is_some (if b then Some x else repeated (earlier ++ x ∷ []) xs)) was ∙ all
-
--- the first of each name, one property after another
-pub firsts_more : (earlier : List (List ℕ)) (p : Property) (ps : List Property) → firsts earlier (p ∷ ps) ≡ firsts earlier (p ∷ []) ++ firsts (earlier ++ names_of (firsts earlier (p ∷ []))) ps
-firsts_more earlier p ps = by (is_among p.name earlier) refl
-  where
-    by : (b : Bool) → is_among p.name earlier ≡ b → firsts earlier (p ∷ ps) ≡ firsts earlier (p ∷ []) ++ firsts (earlier ++ names_of (firsts earlier (p ∷ []))) ps
-    by true e =
-        let one : firsts earlier (p ∷ []) ≡ [] = ap (λ b. if b then [] else p ∷ []) e in
-        ap (λ b. if b then firsts earlier ps else p ∷ firsts (earlier ++ p.name ∷ []) ps) e
-        ∙ ap (λ (l : List (List ℕ)). firsts l ps) (sym (append-nil earlier))
-        ∙ ap (λ (l : List Property). l ++ firsts (earlier ++ names_of l) ps) (sym one)
-    by false e =
-        let one : firsts earlier (p ∷ []) ≡ p ∷ [] = ap (λ b. if b then [] else p ∷ []) e in
-        ap (λ b. if b then firsts earlier ps else p ∷ firsts (earlier ++ p.name ∷ []) ps) e
-        ∙ ap (λ (l : List Property). l ++ firsts (earlier ++ names_of l) ps) (sym one)
 
 -- properties that differ in their names from each other and from earlier ones are all first
 firsts_differ : (earlier : List (List ℕ)) (ps qs : List Property) → is_some (repeated earlier (names_of ps)) ≡ false → firsts earlier (ps ++ qs) ≡ ps ++ firsts (earlier ++ names_of ps) qs
@@ -137,20 +52,6 @@ firsts_after ps k le h =
     ∙ ap (λ n. drop n (take k ps ++ firsts (names_of (take k ps)) (drop k ps))) (sym (length-take-le k ps le))
     ∙ drop-append_seam (take k ps) (firsts (names_of (take k ps)) (drop k ps))
 
--- the loops over the properties of a list and over those of a class, one step
-pub see_next : (all : List Property) (fs : List FeatureNo) (i : ℕ) (d : FeatureNo) (was twice : Bool) (names : List (List ℕ)) → i < length fs
-    → was ≡ is_among (property_at all (get_or fs i d)).name (names_at all (take i fs))
-    → (twice || is_some (repeated (names_at all (take i fs)) (names_at all (drop i fs)))) ≡ is_some (repeated [] names)
-    → ((was || twice) || is_some (repeated (names_at all (take (i + 1) fs)) (names_at all (drop (i + 1) fs)))) ≡ is_some (repeated [] names)
-see_next all fs i d was twice names l w h =
-    ap (λ (e : List (List ℕ)). (was || twice) || is_some (repeated e (names_at all (drop (i + 1) fs)))) (map_more (λ f. (property_at all f).name) fs i d l)
-    ∙ twice_more was twice (names_at all (take i fs)) (property_at all (get_or fs i d)).name (names_at all (drop (i + 1) fs)) names w
-    (ap (λ (xs : List FeatureNo). twice || is_some (repeated (names_at all (take i fs)) (names_at all xs))) (sym (drop_more fs i d l)) ∙ h)
-
-pub seen_next : (all : List Property) (fs : List FeatureNo) (i : ℕ) (d : FeatureNo) (t : List ℕ × ℕ) → i < length fs
-    → AreSeen all t (names_at all (take i fs) ++ (property_at all (get_or fs i d)).name ∷ []) → AreSeen all t (names_at all (take (i + 1) fs))
-seen_next all fs i d t l h = subst (AreSeen all t) (sym (map_more (λ f. (property_at all f).name) fs i d l)) h
-
 pub own_next : (names earlier : List (List ℕ)) (log next whole : List Refusal) (ps : List Property) (i : ℕ) (d : Property) (b : Bool) → i < length ps
     → b ≡ is_among (get_or ps i d).name (names ++ earlier)
     → log ++ own_told (names ++ earlier) (drop i ps) ≡ whole
@@ -163,37 +64,78 @@ own_next names earlier log next whole ps i d b l is h told =
     ∙ ap (λ (qs : List Property). log ++ own_told (names ++ earlier) qs) (sym (drop_more ps i d l))
     ∙ h
 
-pub seen_or : (all : List Property) (s : List ℕ × ℕ) (names earlier : List (List ℕ)) (x : List ℕ) → AreSeen all s names → (is_seen all s x || is_among x earlier) ≡ is_among x (names ++ earlier)
-seen_or all s names earlier x seen = ap (λ b. b || is_among x earlier) (seen x) ∙ sym (list_any-append (bytes_eq x) names earlier)
+-- names among others of which one is there twice
+again : (names : List (List ℕ)) (n x : List ℕ) → is_among n names ≡ true → is_among x (names ++ n ∷ []) ≡ is_among x names
+again names n x here = list_any-append (bytes_eq x) names (n ∷ []) ∙ by (bytes_eq x n) refl
+  where
+    by : (b : Bool) → bytes_eq x n ≡ b → (is_among x names || (bytes_eq x n || false)) ≡ is_among x names
+    by true e = (let there : is_among x names ≡ true = ap (λ y. is_among y names) ((bytes_eq-Decides x n).0 e) ∙ here in or_left (is_among x names) (bytes_eq x n || false) there ∙ sym there)
+    by false e = ap (λ b. is_among x names || (b || false)) e ∙ or-false (is_among x names)
 
-pub names_more : (names : List (List ℕ)) (kept one : List Property) → names ++ names_of (kept ++ one) ≡ (names ++ names_of kept) ++ names_of one
-names_more names kept one = ap (λ (n : List (List ℕ)). names ++ n) (map-append (λ (p : Property). p.name) kept one) ∙ sym (append_assoc names (names_of kept) (names_of one))
+-- the first of each name, after the same names
+firsts_same : (names others : List (List ℕ)) (ps : List Property) → ((x : List ℕ) → is_among x names ≡ is_among x others) → firsts names ps ≡ firsts others ps
+firsts_same names others [] same = refl
+firsts_same names others (p ∷ ps) same =
+    (λ t. if same p.name t then firsts_same names others ps same t else p ∷ firsts_same (names ++ p.name ∷ []) (others ++ p.name ∷ []) ps grown t)
+  where
+    grown : (x : List ℕ) → is_among x (names ++ p.name ∷ []) ≡ is_among x (others ++ p.name ∷ [])
+    grown x = list_any-append (bytes_eq x) names (p.name ∷ []) ∙ ap (λ b. b || (bytes_eq x p.name || false)) (same x) ∙ sym (list_any-append (bytes_eq x) others (p.name ∷ []))
 
-pub first_next : (all : List Property) (names : List (List ℕ)) (kept next : List Property) (fs : List FeatureNo) (i : ℕ) (d : FeatureNo) (whole : List Property) → i < length fs
-    → kept ++ firsts (names ++ names_of kept) (map (property_at all) (drop i fs)) ≡ whole
-    → next ≡ kept ++ firsts (names ++ names_of kept) (property_at all (get_or fs i d) ∷ [])
-    → next ++ firsts (names ++ names_of next) (map (property_at all) (drop (i + 1) fs)) ≡ whole
-first_next all names kept next fs i d whole l h more =
-    let p = property_at all (get_or fs i d) in
-    let e = names ++ names_of kept in
-    let one = firsts e (p ∷ []) in
-    ap (λ (n : List Property). n ++ firsts (names ++ names_of n) (map (property_at all) (drop (i + 1) fs))) more
-    ∙ ap (λ (m : List (List ℕ)). (kept ++ one) ++ firsts m (map (property_at all) (drop (i + 1) fs))) (names_more names kept one)
-    ∙ append_assoc kept one (firsts (e ++ names_of one) (map (property_at all) (drop (i + 1) fs)))
-    ∙ ap (λ (qs : List Property). kept ++ qs) (sym (firsts_more e p (map (property_at all) (drop (i + 1) fs))))
-    ∙ ap (λ (gs : List FeatureNo). kept ++ firsts e (map (property_at all) gs)) (sym (drop_more fs i d l))
+-- one property more, where it is told whether its name was there
+one_more : (b : Bool) (names : List (List ℕ)) (p : Property) (ps : List Property) → b ≡ is_among p.name names → (if b then [] else p ∷ []) ++ firsts (names ++ p.name ∷ []) ps ≡ firsts names (p ∷ ps)
+one_more true names p ps is =
+    firsts_same (names ++ p.name ∷ []) names ps (λ x. again names p.name x (sym is))
+    ∙ ap (λ b. if b then firsts names ps else p ∷ firsts (names ++ p.name ∷ []) ps) is
+one_more false names p ps is = ap (λ b. if b then firsts names ps else p ∷ firsts (names ++ p.name ∷ []) ps) is
+
+abbrev name_of : Property → List ℕ
+name_of p = p.name
+
+-- the flag of a property tells whether its name is an earlier one
+pub flag_is : (names : List (List ℕ)) (ps : List Property) (flags : List Bool) (i : ℕ) (d : Property) → i < length ps → flags ≡ repeat_flags bytes_eq names (names_of ps)
+    → get_or flags i false ≡ is_among (get_or ps i d).name (names ++ names_of (take i ps))
+flag_is names ps flags i d l is =
+    ap (λ (fs : List Bool). get_or fs i false) is
+    ∙ flag_at bytes_eq names (names_of ps) i [] (omega (arith, l, length-map ps name_of))
+    ∙ (λ t. is_among (get_or-map name_of ps i d [] l t) (names ++ take-map name_of i ps t))
+
+names_next : (names : List (List ℕ)) (ps : List Property) (i : ℕ) (d : Property) → i < length ps → names ++ names_of (take (i + 1) ps) ≡ (names ++ names_of (take i ps)) ++ (get_or ps i d).name ∷ []
+names_next names ps i d l = ap (λ (n : List (List ℕ)). names ++ n) (map_more name_of ps i d l) ∙ sym (append_assoc names (names_of (take i ps)) ((get_or ps i d).name ∷ []))
+
+-- the loops over the properties of a class, one step
+pub told_next : (names : List (List ℕ)) (log next whole : List Refusal) (ps : List Property) (i : ℕ) (d : Property) (b : Bool) → i < length ps
+    → b ≡ is_among (get_or ps i d).name (names ++ names_of (take i ps))
+    → log ++ own_told (names ++ names_of (take i ps)) (drop i ps) ≡ whole
+    → next ≡ log ++ told_if b SameName (get_or ps i d).place
+    → next ++ own_told (names ++ names_of (take (i + 1) ps)) (drop (i + 1) ps) ≡ whole
+told_next names log next whole ps i d b l is h told =
+    ap (λ (n : List (List ℕ)). next ++ own_told (names ++ n) (drop (i + 1) ps)) (map_more name_of ps i d l)
+    ∙ own_next names (names_of (take i ps)) log next whole ps i d b l is h told
+
+pub kept_next : (names : List (List ℕ)) (kept next whole : List Property) (ps : List Property) (i : ℕ) (d : Property) (b : Bool) → i < length ps
+    → b ≡ is_among (get_or ps i d).name (names ++ names_of (take i ps))
+    → kept ++ firsts (names ++ names_of (take i ps)) (drop i ps) ≡ whole
+    → next ≡ kept ++ (if b then [] else get_or ps i d ∷ [])
+    → next ++ firsts (names ++ names_of (take (i + 1) ps)) (drop (i + 1) ps) ≡ whole
+kept_next names kept next whole ps i d b l is h more =
+    let p = get_or ps i d in
+    let e = names ++ names_of (take i ps) in
+    let one : List Property = if b then [] else p ∷ [] in
+    ap2 (λ (ks : List Property) (n : List (List ℕ)). ks ++ firsts n (drop (i + 1) ps)) more (names_next names ps i d l)
+    ∙ append_assoc kept one (firsts (e ++ p.name ∷ []) (drop (i + 1) ps))
+    ∙ ap (λ (qs : List Property). kept ++ qs) (one_more b e p (drop (i + 1) ps) is ∙ ap (firsts e) (sym (drop_more ps i d l)))
     ∙ h
 
 -- what a class is told and read from, by the numbers of its properties
+pub names_are : (all : List Property) (fs : List FeatureNo) → names_of (map (property_at all) fs) ≡ names_at all fs
+names_are all [] = refl
+names_are all (f ∷ fs) = ap (λ (n : List (List ℕ)). (property_at all f).name ∷ n) (names_are all fs)
+
 pub above_are : (all : List Property) (list : List FeatureNo) (own : List Property) → names_at all (take (length list - length own) list) ≡ names_of (take (length (map (property_at all) list) - length own) (map (property_at all) list))
 above_are all list own =
-    sym (map_map (take (length list - length own) list))
+    sym (names_are all (take (length list - length own) list))
     ∙ ap names_of (sym (take-map (property_at all) (length list - length own) list))
     ∙ ap (λ n. names_of (take (n - length own) (map (property_at all) list))) (sym (length-map list (property_at all)))
-  where
-    map_map : (fs : List FeatureNo) → names_of (map (property_at all) fs) ≡ names_at all fs
-    map_map [] = refl
-    map_map (f ∷ fs) = ap (λ (n : List (List ℕ)). (property_at all f).name ∷ n) (map_map fs)
 
 pub twice_is : (all : List Property) (list : List FeatureNo) (own : List Property) → is_some (repeated [] (names_at all (take (length list - length own) list))) ≡ is_some (repeated [] (names_of (take (length (map (property_at all) list) - length own) (map (property_at all) list))))
 twice_is all list own = ap (λ (n : List (List ℕ)). is_some (repeated [] n)) (above_are all list own)
@@ -243,3 +185,31 @@ pub apart_is : (all : List Property) (list : List FeatureNo) (d : Declared)
     → apart all list d ≡ read_class (map (property_at all) list) d
 unfolding read_class inherits_twice
 apart_is all list d twice = ap (λ t. if t then apart all list d else whole all list d) (twice ∙ twice_is all list d.properties)
+
+flags_are_count : (all : List Property) (list : List FeatureNo) (flags : List Bool) → flags ≡ name_flags (names_at all list) → length flags ≡ length list
+flags_are_count all list flags is = ap length is ∙ flags_count bytes_eq [] (names_at all list) ∙ length-map list (λ (f : FeatureNo). (property_at all f).name)
+
+-- the flags of the class's own properties, among the names that it inherits
+pub own_flags : (all : List Property) (list : List FeatureNo) (d : Declared) (flags own : List Bool) → flags ≡ name_flags (names_at all list) → own ≡ drop (length flags - length d.properties) flags → IsOwnLast all list d
+    → own ≡ repeat_flags bytes_eq (names_at all (take (length list - length d.properties) list)) (names_of d.properties)
+own_flags all list d flags own is part last =
+    let k = length list - length d.properties in
+    part
+    ∙ (λ t. drop (flags_are_count all list flags is t - length d.properties) (is t))
+    ∙ flags_drop bytes_eq k [] (names_at all list)
+    ∙ ap2 (λ (a b : List (List ℕ)). repeat_flags bytes_eq a b) (take-map (λ (f : FeatureNo). (property_at all f).name) k list)
+    (drop-map (λ (f : FeatureNo). (property_at all f).name) k list ∙ sym (names_are all (drop k list)) ∙ ap names_of last)
+
+-- whether two of those that it inherits have one name
+pub above_twice : (all : List Property) (list : List FeatureNo) (d : Declared) (flags : List Bool) (n : ℕ) (twice : Bool) → flags ≡ name_flags (names_at all list) → n ≡ length flags - length d.properties
+    → twice ≡ is_some (repeated [] (take n (names_at all list))) → twice ≡ is_some (repeated [] (names_at all (take (length list - length d.properties) list)))
+above_twice all list d flags n twice is count told =
+    told
+    ∙ ap (λ k. is_some (repeated [] (take k (names_at all list)))) (count ∙ ap (λ k. k - length d.properties) (flags_are_count all list flags is))
+    ∙ ap (λ (ns : List (List ℕ)). is_some (repeated [] ns)) (take-map (λ (f : FeatureNo). (property_at all f).name) (length list - length d.properties) list)
+
+-- the flags of lists by the numbers of names
+pub same_flags : (all : List Property) (lists : List (List FeatureNo)) → map (number_flags (keys_of all)) lists ≡ map (λ list. name_flags (names_at all list)) lists
+same_flags all [] = refl
+same_flags all (list ∷ lists) =
+    (λ t. flags_of_places (λ f. (property_at all f).name) (names_of all) (keys_of all) (λ f. sym (map-at_all name_of all f.0 no_property)) (key_stands all) list t ∷ same_flags all lists t)

@@ -1,6 +1,6 @@
 -- The properties of intermediate classes with those that they inherit (EMOF 12.4, inherited features), numbered from 0 over all
 -- classes, and properties of one name.
-use Rattle.std.specs.Prelude.{ℕ, ◌+◌, ◌-◌, Bool, false, not, List, [], ◌∷◌, ◌++◌, length, map, take, drop, slice_index_or, is_some, if◌then◌else◌}
+use Rattle.std.specs.Prelude.{◌≡◌, ℕ, ◌+◌, ◌-◌, Bool, false, not, List, [], ◌∷◌, ◌++◌, length, map, take, drop, slice_index_or, is_some, if◌then◌else◌}
 use Rattle.std.specs.List.{flat_map, range_with_len}
 use Rattle.qvt_base.specs.declared.numbers.ClassNo.{ClassNo}
 use Rattle.qvt_base.specs.declared.numbers.FeatureNo.{FeatureNo}
@@ -42,6 +42,10 @@ property_at all f = slice_index_or all f.0 no_property
 -- the properties of the class at a place
 abbrev pub properties_at : List Property → List (List FeatureNo) → ℕ → List Property
 properties_at all lists i = map (property_at all) (slice_index_or lists i [])
+
+-- the last properties of the list are the class's own
+abbrev pub IsOwnLast : List Property → List FeatureNo → Declared → Type 0
+IsOwnLast all list d = map (property_at all) (drop (length list - length d.properties) list) ≡ d.properties
 
 abbrev pub names_of : List Property → List (List ℕ)
 names_of ps = map (λ p. p.name) ps

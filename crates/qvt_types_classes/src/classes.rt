@@ -11,7 +11,6 @@ ghost use Rattle.qvt_types_classes.specs.Classes as words;
 
 use crate::cycles::{cycle_flags, tell_cycles, uncycled_all};
 use crate::declared::{Declared, Property, all_declared};
-use crate::keyed::KeyedProperties;
 use crate::numbered::{all_properties, are_ranked, numbered, property_lists};
 use crate::reading::{are_apart, read_all};
 use crate::telling::tell_classes;
@@ -49,9 +48,14 @@ fn read_classes(
         are_ranked(alloc, infos.as_slice())?;
         return Ok(classes);
     }
-    let all = KeyedProperties::new(alloc, properties)?;
     let lists = property_lists(alloc, infos.as_slice())?;
-    let read = read_all(alloc, &all, lists.as_slice(), classes.as_slice(), log)?;
+    let read = read_all(
+        alloc,
+        properties.as_slice(),
+        &lists,
+        classes.as_slice(),
+        log,
+    )?;
     Ok(read)
 }
 

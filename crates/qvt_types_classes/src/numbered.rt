@@ -1,6 +1,7 @@
 //! Intermediate classes by number, and the properties of each with those that it inherits.
 
 ghost use Rattle.std.specs.Prelude.{◌≡◌, ◌+◌, ◌<◌, ◌^◌, [], length, map, slice_index_or, IfOk, IfSome, OnOk};
+ghost use Rattle.qvt_meta_lists.specs.Lists.{all_lists};
 ghost use Rattle.qvt_metas.specs.Search.{AreLive, IsAcyclic};
 ghost use Rattle.qvt_types_classes.specs.Classes.{HaveRanks};
 ghost use Rattle.qvt_types_classes.specs.Inherited as inherited;
@@ -8,11 +9,12 @@ ghost use Rattle.qvt_types_classes.specs.Inherited as inherited;
 use crate::declared::{Declared, Property, nowhere_shape};
 use qvt_base::copied::Copied;
 use qvt_base::list_fault::ListFault;
-use qvt_base::lists::{ClassNoList, FeatureNoList};
+use qvt_base::lists::ClassNoList;
 use qvt_base::numbers::{ClassNo, FeatureNo, Place};
 use qvt_base::seq::Seq;
 use qvt_base::text::Text;
 use qvt_cycle::lists::Positions;
+use qvt_meta_lists::lists::FeatureLists;
 use qvt_metas::info::ClassInfo;
 use qvt_metas::numbering::numbers_from;
 use qvt_metas::order::order_of;
@@ -99,11 +101,11 @@ pub fn all_properties(alloc: Global, classes: &[Declared]) -> Result<Seq<Propert
 
 /// The numbers of the properties of each class, those that it inherits before its own. It is refused as out of memory where the
 /// numbers of the classes do not fit 32 bits.
-pub fn property_lists(alloc: Global, classes: &[ClassInfo]) -> Result<Vec<FeatureNoList>, ListFault>
+pub fn property_lists(alloc: Global, classes: &[ClassInfo]) -> Result<FeatureLists, ListFault>
     requires live { AreLive classes.now }
     requires acyclic { IsAcyclic classes.now }
-    ensures lists { IfOk result (λ v. v.items ≡ inherited.property_lists classes.now) }
-    ensures ranked { IfOk result (λ v. HaveRanks classes.now) }
+    ensures lists { IfOk result (λ ls. all_lists ls ≡ inherited.property_lists classes.now) }
+    ensures ranked { IfOk result (λ ls. HaveRanks classes.now) }
 {
     let Ok(count) = u32::try_from(classes.len()) else {
         return Err(ListFault::NoMemory);
@@ -142,11 +144,7 @@ fn no_property(alloc: Global) -> Property
 }
 
 /// The property with this number.
-pub fn property_at(
-    alloc: Global,
-    all: &[Property],
-    feature: FeatureNo,
-) -> Result<Property, ListFault>
+fn property_at(alloc: Global, all: &[Property], feature: FeatureNo) -> Result<Property, ListFault>
     ensures { IfOk result (λ p. p ≡ inherited.property_at all.now feature) }
 {
     let at = feature.0 as usize;

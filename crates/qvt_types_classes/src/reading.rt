@@ -1,90 +1,57 @@
 //! Properties of one name, and intermediate classes as they are read.
 
-ghost use Rattle.std.specs.Prelude.{◌≡◌, ◌++◌, ◌∷◌, ℕ, List, [], drop, length, map, take, is_some, slice_index_or, IfOk, OnOk};
-ghost use Rattle.qvt_metamodel.specs.Names.{is_among, repeated};
+ghost use Rattle.std.specs.Prelude.{◌≡◌, ◌<◌, ◌++◌, ◌∷◌, ℕ, List, [], drop, length, map, take, is_some, position, slice_index_or, if◌then◌else◌, IfOk, OnOk};
+ghost use Rattle.std.specs.Str.{bytes_eq};
+ghost use Rattle.qvt_metamodel.specs.Names.{repeated};
+ghost use Rattle.qvt_meta_lists.specs.Lists.{all_lists};
+ghost use Rattle.qvt_meta_repeats.specs.Flags.{name_flags, repeat_flags};
+ghost use Rattle.qvt_types_classes.specs.declared.declared.Declared.{Declared};
 ghost use Rattle.qvt_types_classes.specs.Inherited as inherited;
 ghost use Rattle.qvt_types_classes.specs.Keys as keys;
 
 use crate::declared::{Declared, Property};
-use crate::keyed::KeyedProperties;
-use crate::numbered::{properties_at, property_at};
+use crate::keyed::name_repeats;
+use crate::numbered::properties_at;
 use qvt_base::copied::Copied;
 use qvt_base::list_fault::ListFault;
-use qvt_base::lists::FeatureNoList;
 use qvt_base::numbers::FeatureNo;
 use qvt_base::seq::Seq;
-use qvt_metas::number_set::NumberSet;
+use qvt_meta_lists::lists::FeatureLists;
 use qvt_types_data::refusal::RefusalKind;
 use qvt_types_paths::name_index::NameIndex;
 use qvt_types_paths::told::{RefusalList, tell_if};
 use std::alloc::Global;
 
-/// Whether the name is one of those whose numbers are in the set.
-#[tactic(auto, using(crate::proofs::Keys::unknown_unseen, crate::proofs::Keys::known_seen))]
-fn is_seen(all: &KeyedProperties, seen: &NumberSet, name: &str) -> bool
-    ensures { result ≡ keys.is_seen all.now seen.now name.now }
+/// Whether two of the inherited features have one name, where the first feature that has the name of an
+/// earlier one stands here.
+fn inherits_twice(first: Option<usize>, inherited: usize) -> bool
+    ensures { (names : List (List ℕ)) → first ≡ position (λ b. b) (name_flags names) → result ≡ is_some (repeated [] (take inherited names)) }
 {
-    match all.key(name) {
+    match first {
         None => false,
-        Some(key) => seen.has(key),
+        Some(place) => place < inherited,
     }
 }
 
-/// Puts the name of a property there, and tells whether it was there.
-fn see(all: &KeyedProperties, seen: &mut NumberSet, feature: FeatureNo) -> Result<bool, ListFault>
-    ensures was { IfOk result (λ b. (names : List (List ℕ)) → keys.AreSeen all.now seen.old names → b ≡ is_among (inherited.property_at all.now feature).name names) }
-    ensures seen { OnOk result ((names : List (List ℕ)) → keys.AreSeen all.now seen.old names → keys.AreSeen all.now seen.new (names ++ (inherited.property_at all.now feature).name ∷ [])) }
+/// Tells each property that has a flag: SameName, at the property.
+fn tell_own(flags: &[bool], properties: &[Property], log: &mut RefusalList) -> Result<(), ListFault>
+    requires { length flags.now ≡ length properties.now }
+    ensures { OnOk result ((names : List (List ℕ)) → flags.now ≡ repeat_flags bytes_eq names (inherited.names_of properties.now) → log.new ≡ log.old ++ inherited.own_told names properties.now) }
 {
-    let key = all.key_at(feature);
-    let was = seen.has(key);
-    seen.put(key)?;
-    Ok(was)
-}
-
-/// Has the names of these properties there and no others, and tells whether two of them have one name.
-fn see_all(
-    all: &KeyedProperties,
-    seen: &mut NumberSet,
-    list: &[FeatureNo],
-) -> Result<bool, ListFault>
-    ensures twice { IfOk result (λ b. b ≡ is_some (repeated [] (keys.names_at all.now list.now))) }
-    ensures seen { OnOk result (keys.AreSeen all.now seen.new (keys.names_at all.now list.now)) }
-{
-    seen.clear();
-    let mut twice = false;
-    for feature in list {
-        let was = see(all, seen, *feature)?;
-        twice = was || twice;
-    }
-    Ok(twice)
-}
-
-/// Tells each property whose name an earlier one has, or was seen: SameName, at the property.
-fn tell_own(
-    alloc: Global,
-    all: &KeyedProperties,
-    seen: &NumberSet,
-    properties: &[Property],
-    log: &mut RefusalList,
-) -> Result<(), ListFault>
-    ensures { OnOk result ((names : List (List ℕ)) → keys.AreSeen all.now seen.now names → log.new ≡ log.old ++ inherited.own_told names properties.now) }
-{
-    let mut earlier = NameIndex::new(alloc);
-    for property in properties {
-        let name = property.name.as_str();
-        let repeated = is_seen(all, seen, name) || earlier.has(name);
-        tell_if(log, repeated, RefusalKind::SameName, property.place)?;
-        earlier = earlier.with(alloc, name)?;
+    for (place, property) in properties.iter().enumerate() {
+        tell_if(log, flags[place], RefusalKind::SameName, property.place)?;
     }
     Ok(())
 }
 
-/// The numbers of the properties that a class inherits, and those of its own, of which there are so many.
-fn parted(list: &[FeatureNo], own: usize) -> (&[FeatureNo], &[FeatureNo])
-    ensures inherited { result.0.now ≡ take (length list.now - own) list.now }
-    ensures own { result.1.now ≡ drop (length list.now - own) list.now }
+/// How many features are inherited, and the flags of the class's own, of which there are so many.
+fn parted(flags: &[bool], own: usize) -> (usize, &[bool])
+    ensures inherited { result.0 ≡ length flags.now - own }
+    ensures own { result.1.now ≡ drop (length flags.now - own) flags.now }
 {
-    list.split_at(list.len().saturating_sub(own))
+    let inherited = flags.len().saturating_sub(own);
+    let (_, own) = flags.split_at(inherited);
+    (inherited, own)
 }
 
 ghost use Rattle.std.specs.Prelude.{◌-◌};
@@ -118,38 +85,33 @@ fn firsts(alloc: Global, properties: &[Property]) -> Result<Seq<Property>, ListF
     Ok(kept)
 }
 
-/// Puts a property last, unless its name was seen.
-fn add_first(
+/// Puts a property last, unless it has a flag.
+fn add_unflagged(
     alloc: Global,
-    all: &KeyedProperties,
-    seen: &mut NumberSet,
     kept: &mut Seq<Property>,
-    feature: FeatureNo,
+    flag: bool,
+    property: &Property,
 ) -> Result<(), ListFault>
-    ensures kept { OnOk result ((names : List (List ℕ)) → keys.AreSeen all.now seen.old names → kept.new ≡ kept.old ++ inherited.firsts names (inherited.property_at all.now feature ∷ [])) }
-    ensures seen { OnOk result ((names : List (List ℕ)) → keys.AreSeen all.now seen.old names → keys.AreSeen all.now seen.new (names ++ inherited.names_of (inherited.firsts names (inherited.property_at all.now feature ∷ [])))) }
+    ensures { OnOk result (kept.new ≡ kept.old ++ (if flag then [] else property.now ∷ [])) }
 {
-    let key = all.key_at(feature);
-    if seen.has(key) {
+    if flag {
         return Ok(());
     }
-    kept.push(property_at(alloc, all.properties(), feature)?)?;
-    seen.put(key)?;
-    Ok(())
+    kept.push(property.copy(alloc)?)
 }
 
-/// The first property of each name that was not seen.
-fn firsts_after(
+/// The properties that have no flag.
+fn unflagged(
     alloc: Global,
-    all: &KeyedProperties,
-    seen: &mut NumberSet,
-    list: &[FeatureNo],
+    flags: &[bool],
+    properties: &[Property],
 ) -> Result<Seq<Property>, ListFault>
-    ensures { IfOk result (λ ps. (names : List (List ℕ)) → keys.AreSeen all.now seen.old names → ps ≡ inherited.firsts names (map (inherited.property_at all.now) list.now)) }
+    requires { length flags.now ≡ length properties.now }
+    ensures { IfOk result (λ ps. (names : List (List ℕ)) → flags.now ≡ repeat_flags bytes_eq names (inherited.names_of properties.now) → ps ≡ inherited.firsts names properties.now) }
 {
     let mut kept = Seq::new(alloc);
-    for feature in list {
-        add_first(alloc, all, seen, &mut kept, *feature)?;
+    for (place, property) in properties.iter().enumerate() {
+        add_unflagged(alloc, &mut kept, flags[place], property)?;
     }
     Ok(kept)
 }
@@ -157,13 +119,13 @@ fn firsts_after(
 /// The class as its name is read, where two properties that it inherits have one name.
 fn read_apart(
     alloc: Global,
-    all: &KeyedProperties,
+    all: &[Property],
     list: &[FeatureNo],
     class: &Declared,
 ) -> Result<Declared, ListFault>
     ensures { IfOk result (λ d. d ≡ record { name = class.now.name; supers = []; properties = inherited.firsts [] (map (inherited.property_at all.now) list.now); place = class.now.place }) }
 {
-    let properties = properties_at(alloc, all.properties(), list)?;
+    let properties = properties_at(alloc, all, list)?;
     Ok(Declared {
         name: class.name.copy(alloc)?,
         supers: Seq::new(alloc),
@@ -173,22 +135,26 @@ fn read_apart(
 }
 
 /// The class as its name is read: of properties of one name it has the first. It tells them: at the class where both are inherited,
-/// else at its own.
+/// else at its own. Where no two of the inherited have one name, only its own are looked at.
 fn read_class(
     alloc: Global,
-    all: &KeyedProperties,
-    seen: &mut NumberSet,
+    all: &[Property],
     list: &[FeatureNo],
+    flags: &[bool],
+    first: Option<usize>,
     class: &Declared,
     log: &mut RefusalList,
 ) -> Result<Declared, ListFault>
+    requires own { inherited.IsOwnLast all.now list.now class.now }
+    requires flags { flags.now ≡ name_flags (keys.names_at all.now list.now) }
+    requires first { first ≡ position (λ b. b) (name_flags (keys.names_at all.now list.now)) }
     ensures read { IfOk result (λ d. d ≡ inherited.read_class (map (inherited.property_at all.now) list.now) class.now) }
     ensures told { OnOk result (log.new ≡ log.old ++ inherited.same_told (map (inherited.property_at all.now) list.now) class.now) }
 {
-    let (above, own) = parted(list, class.properties.len());
-    let twice = see_all(all, seen, above)?;
+    let (inherited, own) = parted(flags, class.properties.len());
+    let twice = inherits_twice(first, inherited);
     tell_if(log, twice, RefusalKind::SameName, class.place)?;
-    tell_own(alloc, all, seen, class.properties.as_slice(), log)?;
+    tell_own(own, class.properties.as_slice(), log)?;
     if twice {
         let read = read_apart(alloc, all, list, class)?;
         return Ok(read);
@@ -196,39 +162,31 @@ fn read_class(
     Ok(Declared {
         name: class.name.copy(alloc)?,
         supers: class.supers.copy(alloc)?,
-        properties: firsts_after(alloc, all, seen, own)?,
+        properties: unflagged(alloc, own, class.properties.as_slice())?,
         place: class.place,
     })
 }
 
-/// The list at a place, empty past the end.
-fn list_at(lists: &[FeatureNoList], place: usize) -> &[FeatureNo]
-    ensures { result.now ≡ slice_index_or lists.now place [] }
-{
-    if place < lists.len() {
-        lists[place].as_slice()
-    } else {
-        &[]
-    }
-}
-
 /// All classes as they are read, by the properties of all and the numbers of those of each, and what is told of their properties of
-/// one name.
+/// one name. The last properties of a class are its own.
 pub fn read_all(
     alloc: Global,
-    all: &KeyedProperties,
-    lists: &[FeatureNoList],
+    all: &[Property],
+    lists: &FeatureLists,
     classes: &[Declared],
     log: &mut RefusalList,
 ) -> Result<Seq<Declared>, ListFault>
-    ensures read { IfOk result (λ ds. ds ≡ inherited.read_from all.now lists.now 0 classes.now) }
-    ensures told { OnOk result (log.new ≡ log.old ++ inherited.same_told_from all.now lists.now 0 classes.now) }
+    requires { (i : ℕ) (d : Declared) → i < length classes.now → inherited.IsOwnLast all.now (slice_index_or (all_lists lists.now) i []) (slice_index_or classes.now i d) }
+    ensures read { IfOk result (λ ds. ds ≡ inherited.read_from all.now (all_lists lists.now) 0 classes.now) }
+    ensures told { OnOk result (log.new ≡ log.old ++ inherited.same_told_from all.now (all_lists lists.now) 0 classes.now) }
 {
-    let mut seen = NumberSet::new(alloc);
+    let repeats = name_repeats(alloc, all, lists)?;
     let mut read = Seq::new(alloc);
     for (place, class) in classes.iter().enumerate() {
-        let list = list_at(lists, place);
-        read.push(read_class(alloc, all, &mut seen, list, class, log)?)?;
+        let list = lists.at(place);
+        let flags = repeats.flags(place);
+        let first = repeats.first(place);
+        read.push(read_class(alloc, all, list, flags, first, class, log)?)?;
     }
     Ok(read)
 }

@@ -1,7 +1,9 @@
-use Rattle.std.proofs.Common.{◌≡◌, ◌++◌, ℕ, List, drop}
-use Rattle.qvt_types_classes.specs.Inherited.{own_told}
-use Rattle.qvt_types_classes.specs.Keys.{AreSeen}
+use Rattle.std.proofs.Common.{◌≡◌, ◌++◌, ℕ, List, drop, take}
+use Rattle.std.specs.Str.{bytes_eq}
+use Rattle.qvt_meta_repeats.specs.Flags.{repeat_flags}
+use Rattle.qvt_types_classes.specs.Inherited.{names_of, own_told}
 use Rattle.qvt_types_classes.proofs.reading.tell_own.Given as goal
 
-abbrev pub invariant-loop-property : goal.invariant-loop-property
-invariant-loop-property l = (names : List (List ℕ)) → AreSeen l.all l.seen names → l.log ++ own_told (names ++ l.earlier) (drop l.property-index l.properties) ≡ l.initial.log ++ own_told names l.properties
+abbrev pub invariant-loop-place : goal.invariant-loop-place
+invariant-loop-place l = (names : List (List ℕ)) → l.flags ≡ repeat_flags bytes_eq names (names_of l.properties)
+    → l.log ++ own_told (names ++ names_of (take l.place l.properties)) (drop l.place l.properties) ≡ l.initial.log ++ own_told names l.properties
