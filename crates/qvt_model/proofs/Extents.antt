@@ -1,34 +1,35 @@
 -- The data of an extent are a model that a file can hold.
-use Rattle.std.proofs.Common.{◌≡◌, ◌≢◌, ◌∙◌, ℕ, zero, suc, ◌+◌, ◌<◌, ◌≤◌, ◌^◌, ◌==◌, ◌&&◌, ◌||◌, List, [], ◌∷◌, length, map, Bool, true, false, cond, not, nat_lt, IsTrue, IsUtf8, Option, Some, None, option_map, Ordering, Less, Equal, Greater, Ok, position, slice_index_or, refl, sym, ap, subst, arith, ltb-true, lt-ltb}
-use Rattle.std.specs.Prelude.{⊤, All, IsFalse, FitsSigned}
-use Rattle.std.specs.Int.{w64}
-use Rattle.std.specs.List.{list_any, list_all, filter_map, cons_option, AllByRecursion}
-use Rattle.std.specs.Ordering.{nat_cmp, match_ordering, ordering_reverse}
+use Rattle.std.proofs.Common.{◌≡◌, ◌≢◌, ◌∙◌, ℕ, zero, suc, ◌+◌, ◌<◌, ◌≤◌, ◌^◌, ◌==◌, ◌&&◌, ◌||◌, List, [], ◌∷◌, length, map, Bool, true, false, cond, nat_lt, IsTrue, IsUtf8, Option, Some, None, option_map, Ordering, Less, Equal, Greater, Ok, slice_index_or, refl, sym, ap, subst, arith, ltb-true, lt-ltb}
+use Rattle.std.specs.Prelude.{All}
+use Rattle.std.specs.Cmp.{IsTotalOrder, on_total}
+use Rattle.std.specs.List.{list_any, list_all, filter, filter_map, cons_option, AllByRecursion}
+use Rattle.std.specs.Ordering.{nat_cmp, is_eq, is_lt, ordering_reverse}
 use Rattle.std.specs.Cmp.Lexicographic.{slice_cmp}
 use Rattle.std.specs.Str.{bytes_eq}
-use Rattle.std.proofs.lemmas.Bool.{and_parts, or_parts, eqb-true, eq-eqb, ltb-false}
+use Rattle.std.proofs.lemmas.Bool.{and_parts, eqb-true, eq-eqb, ltb-false}
 use Rattle.std.proofs.lemmas.Cmp.{nat_list_cmp_total}
-use Rattle.std.proofs.lemmas.List.{length-map}
 use Rattle.std.proofs.lemmas.List.Quantifiers.{position-Some}
+use Rattle.std.proofs.lemmas.Map.Text.{is_eq-slice_cmp}
+use Rattle.std.proofs.lemmas.Slice.Eq.{bytes_eq-Decides}
 use Rattle.qvt_base.specs.declared.numbers.FeatureNo.{FeatureNo}
-use Rattle.qvt_base.specs.declared.numbers.Oid.{Oid}
 use Rattle.qvt_value.specs.declared.value.Value.{Value}
 use Rattle.qvt_value.specs.declared.value.Value.TheVariants.{Bool as BoolValue, Int as IntValue, Str as StrValue, Enum as EnumValue, Obj}
+use Rattle.qvt_value.specs.Kept.{put_in, sorted}
 use Rattle.qvt_metamodel.specs.declared.info.TypeKind.{TypeKind}
 use Rattle.qvt_metamodel.specs.declared.info.TypeKind.TheVariants.{Bool as BoolKind, Int as IntKind, Str as StrKind, Enum as EnumKind, Class as ClassKind}
-use Rattle.qvt_metamodel.specs.Metamodels.{Metamodels, class_at, feature_at, shape_of, is_one, is_single, features_of, has_feature, among_features}
+use Rattle.qvt_metamodel.specs.Metamodels.{Metamodels, feature_at, shape_of, is_one, features_of, has_feature, among_features}
 use Rattle.qvt_metamodel.specs.Descends.{descends}
-use Rattle.qvt_metamodel.specs.Named.{metamodel_at, enumeration_at}
+use Rattle.qvt_metamodel.specs.Named.{metamodel_at, enumeration_at, feature_named}
+use Rattle.qvt_metamodel.specs.WellFormed.{IsWellFormed}
 use Rattle.qvt_json.specs.Leaves.{is_id}
-use Rattle.qvt_store.specs.Slots.{is_object_with}
 use Rattle.qvt_store.specs.Contents.{Instance, Contents, no_instance, class_of, extent_of, extent_at, is_extent, is_live, is_model, is_named, slot_of, members_from, members_of}
 use Rattle.qvt_store.specs.Types.{is_of_kind, is_of_type, IsPlain}
 use Rattle.qvt_store.specs.Assign.{is_beyond}
 use Rattle.qvt_store.specs.Sound.{Sound}
-use Rattle.qvt_model.specs.Extents.{own_id, numbers, place_of, datum_in, slot_in, name_of, insert_slot, slots_onto, object_in, objects_from, data_of}
+use Rattle.qvt_model.specs.Extents.{own_id, numbers, place_of, datum_in, slot_in, name_of, by_name, filled_slots, object_in, objects_from, data_of}
 use Rattle.qvt_store.specs.Stay.{IsStore}
 use Rattle.qvt_model.specs.Reading.{model_of, has_items}
-use Rattle.qvt_model.specs.WellFormed.{object_at, no_object, ids, differ, IsItem, IsSlot, ComeAfter, AreInOrder, IsObject, IsModel, HoldsOne, IsStorable}
+use Rattle.qvt_model.specs.WellFormed.{object_at, ids, differ, IsItem, IsSlot, ComeAfter, AreInOrder, IsObject, IsModel, HoldsOne, IsStorable}
 use Rattle.qvt_model.specs.Written.{model_text}
 use Rattle.qvt_model.specs.declared.data.Datum.{Datum}
 use Rattle.qvt_model.specs.declared.data.Datum.TheVariants.{Bool as BoolDatum, Int, Str, Literal, Ref}
@@ -37,18 +38,16 @@ use Rattle.qvt_model.specs.declared.data.ObjectData.{ObjectData}
 use Rattle.qvt_json.proofs.Ordered.{some-injective}
 use Rattle.qvt_model.proofs.Lists.{All-weaken}
 use Rattle.qvt_model.proofs.OwnIds.{own_id-apart, is_id-own_id, IsUtf8-own_id}
+use Rattle.qvt_model.proofs.Sorting.{IsLevelWithNone, NoneAreLevel, all-sorted, apart-filter, apart-map, above, below}
 use Rattle.qvt_model.proofs.Whole.{model_of-model_text}
 
--- ---- slots put in order
+-- ---- slots in order
 
-insert-all : (m : Metamodels) (P : SlotData → Type 0) (t : SlotData) (us : List SlotData) → P t → AllByRecursion P us → AllByRecursion P (insert_slot m t us)
-insert-all m P t [] p a = (p, tt)
-insert-all m P t (u ∷ us) p a = by (insert-all m P t us p a.1) (slice_cmp nat_cmp (name_of m t) (name_of m u))
-  where
-    by : AllByRecursion P (insert_slot m t us) → (o : Ordering) → AllByRecursion P (match_ordering o (t ∷ u ∷ us) (t ∷ us) (u ∷ insert_slot m t us))
-    by rest Less = (p, a)
-    by rest Equal = (p, a.1)
-    by rest Greater = (a.0, rest)
+pub same-text : (a b : List ℕ) → slice_cmp nat_cmp a b ≡ Equal → a ≡ b
+same-text a b e = (bytes_eq-Decides a b).0 (sym (is_eq-slice_cmp a b) ∙ ap is_eq e)
+
+pub by_name-total : (m : Metamodels) → IsTotalOrder (by_name m)
+by_name-total m = on_total (name_of m) nat_list_cmp_total
 
 turned : (a b : List ℕ) (o : Ordering) → slice_cmp nat_cmp a b ≡ o → slice_cmp nat_cmp b a ≡ ordering_reverse o
 turned a b o e = nat_list_cmp_total.antisymm b a ∙ ap ordering_reverse e
@@ -56,61 +55,94 @@ turned a b o e = nat_list_cmp_total.antisymm b a ∙ ap ordering_reverse e
 greater_trans : (a b c : List ℕ) → slice_cmp nat_cmp a b ≡ Greater → slice_cmp nat_cmp b c ≡ Greater → slice_cmp nat_cmp a c ≡ Greater
 greater_trans a b c g h = turned c a Less (nat_list_cmp_total.trans c b a (turned b c Greater h) (turned a b Greater g))
 
--- what comes after a name comes after a lower one, and after an equal one
-after-lower : (m : Metamodels) (l k : List ℕ) (ts : List SlotData) → slice_cmp nat_cmp l k ≡ Greater → ComeAfter m l ts → ComeAfter m k ts
-after-lower m l k [] g a = tt
-after-lower m l k (t ∷ ts) g a = (greater_trans (name_of m t) l k a.0 g, after-lower m l k ts g a.1)
+module _ (m : Metamodels) where
+  -- what comes after a name comes after a lower one
+  after-lower : (l k : List ℕ) (ts : List SlotData) → slice_cmp nat_cmp l k ≡ Greater → ComeAfter m l ts → ComeAfter m k ts
+  after-lower l k [] g a = tt
+  after-lower l k (t ∷ ts) g a = (greater_trans (name_of m t) l k a.0 g, after-lower l k ts g a.1)
 
-after-equal : (m : Metamodels) (l k : List ℕ) (ts : List SlotData) → slice_cmp nat_cmp l k ≡ Equal → ComeAfter m l ts → ComeAfter m k ts
-after-equal m l k [] g a = tt
-after-equal m l k (t ∷ ts) g a =
-    let name = name_of m t in
-    (turned k name Less (sym (nat_list_cmp_total.congr l k name g) ∙ turned name l Greater a.0), after-equal m l k ts g a.1)
-
-after-insert : (m : Metamodels) (l : List ℕ) (t : SlotData) (us : List SlotData) → slice_cmp nat_cmp (name_of m t) l ≡ Greater → ComeAfter m l us → ComeAfter m l (insert_slot m t us)
-after-insert m l t [] g a = (g, tt)
-after-insert m l t (u ∷ us) g a = by (after-insert m l t us g a.1) (slice_cmp nat_cmp (name_of m t) (name_of m u))
-  where
-    by : ComeAfter m l (insert_slot m t us) → (o : Ordering) → ComeAfter m l (match_ordering o (t ∷ u ∷ us) (t ∷ us) (u ∷ insert_slot m t us))
-    by rest Less = (g, a)
-    by rest Equal = (g, a.1)
-    by rest Greater = (a.0, rest)
-
-order-insert : (m : Metamodels) (t : SlotData) (us : List SlotData) → AreInOrder m us → AreInOrder m (insert_slot m t us)
-order-insert m t [] a = (tt, tt)
-order-insert m t (u ∷ us) a = by (order-insert m t us a.1) (slice_cmp nat_cmp (name_of m t) (name_of m u)) refl
-  where
-    by : AreInOrder m (insert_slot m t us) → (o : Ordering) → slice_cmp nat_cmp (name_of m t) (name_of m u) ≡ o → AreInOrder m (match_ordering o (t ∷ u ∷ us) (t ∷ us) (u ∷ insert_slot m t us))
-    by rest Less e = let g = turned (name_of m t) (name_of m u) Less e in ((g, after-lower m (name_of m u) (name_of m t) us g a.0), a)
-    by rest Equal e = (after-equal m (name_of m u) (name_of m t) us (turned (name_of m t) (name_of m u) Equal e) a.0, a.1)
-    by rest Greater e = (after-insert m (name_of m u) t us e a.0, rest)
-
-module _ (s : Contents) (xs : List ℕ) (x : ℕ) where
-  pub onto-all : (P : SlotData → Type 0) (ts : List SlotData) (fs : List FeatureNo) → AllByRecursion (λ f. has_items (slot_in s xs x f) ≡ true → P (slot_in s xs x f)) fs → AllByRecursion P ts → AllByRecursion P (slots_onto s xs x ts fs)
-  onto-all P ts [] h a = a
-  onto-all P ts (f ∷ fs) h a = onto-all P (cond (has_items (slot_in s xs x f)) (insert_slot s.metas (slot_in s xs x f) ts) ts) fs h.1 (by (has_items (slot_in s xs x f)) refl)
+  after-put : (l : List ℕ) (t : SlotData) (us : List SlotData) → slice_cmp nat_cmp (name_of m t) l ≡ Greater → ComeAfter m l us → ComeAfter m l (put_in (by_name m) t us)
+  after-put l t [] g a = (g, tt)
+  after-put l t (u ∷ us) g a = by (after-put l t us g a.1) (is_lt (by_name m u t))
     where
-      by : (b : Bool) → has_items (slot_in s xs x f) ≡ b → AllByRecursion P (cond b (insert_slot s.metas (slot_in s xs x f) ts) ts)
-      by true e = insert-all s.metas P (slot_in s xs x f) ts (h.0 e) a
-      by false e = a
+      by : ComeAfter m l (put_in (by_name m) t us) → (b : Bool) → ComeAfter m l (cond b (u ∷ put_in (by_name m) t us) (t ∷ u ∷ us))
+      by rest true = (a.0, rest)
+      by rest false = (g, a)
 
-  pub onto-order : (ts : List SlotData) (fs : List FeatureNo) → AreInOrder s.metas ts → AreInOrder s.metas (slots_onto s xs x ts fs)
-  onto-order ts [] a = a
-  onto-order ts (f ∷ fs) a = onto-order (cond (has_items (slot_in s xs x f)) (insert_slot s.metas (slot_in s xs x f) ts) ts) fs (by (has_items (slot_in s xs x f)))
+  order-put : (t : SlotData) (us : List SlotData) → IsLevelWithNone (by_name m) us t → AreInOrder m us → AreInOrder m (put_in (by_name m) t us)
+  order-put t [] h a = (tt, tt)
+  order-put t (u ∷ us) h a = by (order-put t us h.1 a.1) (is_lt (by_name m u t)) refl
     where
-      by : (b : Bool) → AreInOrder s.metas (cond b (insert_slot s.metas (slot_in s xs x f) ts) ts)
-      by true = order-insert s.metas (slot_in s xs x f) ts a
-      by false = a
+      by : AreInOrder m (put_in (by_name m) t us) → (b : Bool) → is_lt (by_name m u t) ≡ b → AreInOrder m (cond b (u ∷ put_in (by_name m) t us) (t ∷ u ∷ us))
+      by rest true e = (after-put (name_of m u) t us (above (by_name m) (by_name-total m) t u e) a.0, rest)
+      by rest false e =
+          let g : slice_cmp nat_cmp (name_of m u) (name_of m t) ≡ Greater = turned (name_of m t) (name_of m u) Less (below (by_name m) (by_name-total m) t u e h.0) in
+          ((g, after-lower (name_of m u) (name_of m t) us g a.0), a)
 
--- ---- lists
+  order-sorted : (ts : List SlotData) → NoneAreLevel (by_name m) ts → AreInOrder m (sorted (by_name m) ts)
+  order-sorted [] h = tt
+  order-sorted (t ∷ ts) h = order-put t (sorted (by_name m) ts) (all-sorted (by_name m) (λ u. by_name m t u ≢ Equal) ts h.0) (order-sorted ts h.1)
 
 or-right : (a b : Bool) → b ≡ true → (a || b) ≡ true
 or-right true b e = refl
 or-right false b e = e
 
-each-among : (fs : List FeatureNo) → AllByRecursion (λ f. among_features f.0 fs ≡ true) fs
+pub each-among : (fs : List FeatureNo) → AllByRecursion (λ f. among_features f.0 fs ≡ true) fs
 each-among [] = tt
 each-among (g ∷ fs) = (rw (eq-eqb g.0 g.0 refl) refl, All-weaken (λ f. among_features f.0 fs ≡ true) (λ f. among_features f.0 (g ∷ fs) ≡ true) (λ f h. or-right (g.0 == f.0) (among_features f.0 fs) h) fs (each-among fs))
+
+-- ---- the names of the features of a class differ
+
+abbrev first_feature : FeatureNo
+first_feature = record { 0 = 0 }
+
+abbrev by_feature_name : Metamodels → FeatureNo → FeatureNo → Ordering
+by_feature_name m f g = slice_cmp nat_cmp (feature_at m f.0).name (feature_at m g.0).name
+
+module _ (m : Metamodels) (known : IsWellFormed m) (c : ℕ) where
+  same_feature : (f g : FeatureNo) → has_feature m c f.0 ≡ true → has_feature m c g.0 ≡ true → (feature_at m f.0).name ≡ (feature_at m g.0).name → f.0 ≡ g.0
+  same_feature f g h k e = ap (λ (n : FeatureNo). n.0) (some-injective f g (sym (known.feature_found c f.0 h) ∙ ap (feature_named m c) e ∙ known.feature_found c g.0 k))
+
+  name-apart : (f : FeatureNo) (gs : List FeatureNo) → has_feature m c f.0 ≡ true → AllByRecursion (λ g. has_feature m c g.0 ≡ true) gs
+      → ((j : ℕ) → j < length gs → f.0 ≢ (slice_index_or gs j first_feature).0) → IsLevelWithNone (by_feature_name m) gs f
+  name-apart f [] h a d = tt
+  name-apart f (g ∷ gs) h a d = (
+    (λ e. d zero (omega arith) (same_feature f g h a.0 (same-text (feature_at m f.0).name (feature_at m g.0).name e))),
+    name-apart f gs h a.1 (λ j l. d (suc j) (omega arith)),
+  )
+
+  names-apart : (fs : List FeatureNo) → AllByRecursion (λ f. has_feature m c f.0 ≡ true) fs
+      → ((i j : ℕ) → i < j → j < length fs → (slice_index_or fs i first_feature).0 ≢ (slice_index_or fs j first_feature).0) → NoneAreLevel (by_feature_name m) fs
+  names-apart [] a d = tt
+  names-apart (f ∷ fs) a d = (name-apart f fs a.0 a.1 (λ j l. d zero (suc j) (omega arith) (omega arith)), names-apart fs a.1 (λ i j l l'. d (suc i) (suc j) (omega arith) (omega arith)))
+
+  pub features-apart : NoneAreLevel (by_feature_name m) (features_of m c)
+  features-apart = names-apart (features_of m c) (each-among (features_of m c)) (known.distinct_features c)
+
+-- ---- the slots of an object
+
+module _ (s : Contents) (xs : List ℕ) (x : ℕ) where
+  pub slots-apart : IsWellFormed s.metas → NoneAreLevel (by_name s.metas) (map (slot_in s xs x) (features_of s.metas (class_of s x)))
+  slots-apart known = apart-map (slot_in s xs x) (by_name s.metas) (features_of s.metas (class_of s x)) (features-apart s.metas known (class_of s x))
+
+  pub filled-order : IsWellFormed s.metas → AreInOrder s.metas (filled_slots s xs x)
+  filled-order known =
+      let slots = map (slot_in s xs x) (features_of s.metas (class_of s x)) in
+      order-sorted s.metas (filter has_items slots) (apart-filter (by_name s.metas) has_items slots (slots-apart known))
+
+  each-filled : (P : SlotData → Type 0) (fs : List FeatureNo) → AllByRecursion (λ f. has_items (slot_in s xs x f) ≡ true → P (slot_in s xs x f)) fs → AllByRecursion P (filter has_items (map (slot_in s xs x) fs))
+  each-filled P [] h = tt
+  each-filled P (f ∷ fs) h = by (has_items (slot_in s xs x f)) refl (each-filled P fs h.1)
+    where
+      by : (b : Bool) → has_items (slot_in s xs x f) ≡ b → AllByRecursion P (filter has_items (map (slot_in s xs x) fs))
+          → AllByRecursion P (cond b (slot_in s xs x f ∷ filter has_items (map (slot_in s xs x) fs)) (filter has_items (map (slot_in s xs x) fs)))
+      by true e rest = (h.0 e, rest)
+      by false e rest = rest
+
+  pub filled-all : (P : SlotData → Type 0) → AllByRecursion (λ f. has_items (slot_in s xs x f) ≡ true → P (slot_in s xs x f)) (features_of s.metas (class_of s x)) → AllByRecursion P (filled_slots s xs x)
+  filled-all P h = all-sorted (by_name s.metas) P (filter has_items (map (slot_in s xs x) (features_of s.metas (class_of s x)))) (each-filled P (features_of s.metas (class_of s x)) h)
+
+-- ---- lists
 
 pub by_recursion : {X : Type 0} (P : X → Type 0) (ys : List X) → All P ys → AllByRecursion P ys
 by_recursion P [] h = tt
@@ -259,9 +291,9 @@ module _ (s : Contents) (e : ℕ) (store : IsStore s) (sound : Sound s) where
       record {
         class = (sound.parts.classes x live).live;
         metamodel = (sound.parts.classes x live).metamodel ∙ ap (λ k. (extent_at s k).metamodel) h.1;
-        slots = onto-all s xs x (IsSlot s.metas os (class_of s x)) [] features
-            (All-weaken (λ f. among_features f.0 features ≡ true) (λ f. has_items (slot_in s xs x f) ≡ true → IsSlot s.metas os (class_of s x) (slot_in s xs x f)) (λ f own some. is-slot x f own some) features (each-among features)) tt;
-        order = onto-order s xs x [] features tt;
+        slots = filled-all s xs x (IsSlot s.metas os (class_of s x))
+            (All-weaken (λ f. among_features f.0 features ≡ true) (λ f. has_items (slot_in s xs x f) ≡ true → IsSlot s.metas os (class_of s x) (slot_in s xs x f)) (λ f own some. is-slot x f own some) features (each-among features));
+        order = filled-order s xs x store.well_formed;
       }
 
   holds-one : (x : ℕ) (f : FeatureNo) → HoldsOne s.metas (slot_in s xs x f)
@@ -277,7 +309,7 @@ module _ (s : Contents) (e : ℕ) (store : IsStore s) (sound : Sound s) where
 
   object-ones : (n x : ℕ) → IsMember s e x → AllByRecursion (HoldsOne s.metas) (object_in s xs n x).slots
   unfolding object_in
-  object-ones n x h = onto-all s xs x (HoldsOne s.metas) [] (features_of s.metas (class_of s x)) (every (features_of s.metas (class_of s x)) x) tt
+  object-ones n x h = filled-all s xs x (HoldsOne s.metas) (every (features_of s.metas (class_of s x)) x)
 
   few : 1 + length xs < 2 ^ 64
   few = omega (arith, members-few e 0 s.objects, store.few)

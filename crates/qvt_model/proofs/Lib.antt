@@ -15,3 +15,4 @@ pub mod Loading
 pub mod Told
 pub mod Loads
 pub mod RunIds
+pub mod Sorting

@@ -1,36 +1,35 @@
 -- What is written for the objects of an extent is what is written for its data.
-use Rattle.std.proofs.Common.{◌≡◌, ◌∙◌, ℕ, zero, suc, ◌+◌, ◌<◌, ◌≤◌, ◌^◌, ◌==◌, ◌&&◌, List, [], ◌∷◌, ◌++◌, length, map, Bool, true, false, cond, not, nat_lt, Option, Some, None, option_map, Ordering, Less, Equal, Greater, slice_index_or, refl, sym, ap, subst, arith, lt-ltb, ne_eqb, IsUtf8, IsTrue}
+use Rattle.std.proofs.Common.{◌≡◌, ◌∙◌, ℕ, zero, suc, ◌+◌, ◌<◌, ◌^◌, ◌==◌, List, [], ◌∷◌, ◌++◌, length, map, Bool, true, false, cond, nat_lt, Option, Some, None, option_map, Ordering, Less, Greater, slice_index_or, refl, sym, ap, subst, arith, lt-ltb, ne_eqb, IsTrue}
 use Rattle.std.specs.Prelude.{⊤, codes}
-use Rattle.std.specs.List.{list_any, filter_map, cons_option, AllByRecursion}
-use Rattle.std.specs.Ordering.{nat_cmp, match_ordering, is_eq}
-use Rattle.std.specs.Cmp.Lexicographic.{slice_cmp}
-use Rattle.std.proofs.lemmas.Map.Text.{is_eq-slice_cmp}
-use Rattle.std.proofs.lemmas.Slice.Eq.{bytes_eq-Decides}
+use Rattle.std.specs.List.{list_any, filter, filter_map, cons_option, AllByRecursion}
+use Rattle.std.specs.Ordering.{match_ordering, is_lt}
 use Rattle.std.proofs.lemmas.List.Quantifiers.{position-Some}
-use Rattle.serde_json.specs.Data.{Data, string, array, object, Members, no_members, member, put}
+use Rattle.serde_json.specs.Data.{string, array, object, no_members, member, put}
 use Rattle.serde_json.specs.View.{items_of}
 use Rattle.qvt_base.specs.declared.numbers.FeatureNo.{FeatureNo}
 use Rattle.qvt_base.specs.declared.numbers.Oid.{Oid}
 use Rattle.qvt_value.specs.declared.value.Value.{Value}
 use Rattle.qvt_value.specs.declared.value.Value.TheVariants.{Bool as BoolValue, Int as IntValue, Str as StrValue, Enum as EnumValue, Obj}
-use Rattle.qvt_metamodel.specs.Metamodels.{Metamodels, class_at, feature_at, features_of, is_single}
+use Rattle.qvt_value.specs.Kept.{put_in}
+use Rattle.qvt_metamodel.specs.Metamodels.{class_at, feature_at, features_of, is_single}
 use Rattle.qvt_metamodel.specs.WellFormed.{IsWellFormed}
 use Rattle.qvt_json.specs.Plain as written
 use Rattle.qvt_json.proofs.Ordered.{some-injective, map-some}
 use Rattle.qvt_store.specs.Contents.{Instance, Contents, no_instance, class_of, is_live, slot_of, members_from, members_of}
 use Rattle.qvt_store.specs.Types.{IsPlain}
 use Rattle.qvt_store.specs.Sound.{Sound}
-use Rattle.qvt_model.specs.Extents.{own_id, numbers, place_of, datum_in, slot_in, name_of, insert_slot, slots_onto, object_in, objects_from, data_of}
+use Rattle.qvt_model.specs.Extents.{own_id, numbers, place_of, datum_in, slot_in, name_of, by_name, filled_slots, object_in, objects_from, data_of}
 use Rattle.qvt_model.specs.Reading.{has_items}
-use Rattle.qvt_model.specs.WellFormed.{object_at, IsPlainDatum, IsPlainSlot, IsPlainObject, AreInOrder}
-use Rattle.qvt_model.specs.Written.{datum_value, first_value, slot_value, slot_members, object_value, model_value}
-use Rattle.qvt_model.specs.Writing.{id_at, value_written, values_written, head_of, list_value, slot_written, put_some, members_onto, object_written, objects_written, model_written, are_new}
+use Rattle.qvt_model.specs.WellFormed.{object_at, IsPlainDatum, IsPlainSlot}
+use Rattle.qvt_model.specs.Written.{datum_value, slot_value, slot_members, object_value, model_value}
+use Rattle.qvt_model.specs.Writing.{id_at, value_written, slot_written, put_some, members_onto, object_written, objects_written, model_written, are_new}
 use Rattle.qvt_model.specs.declared.data.Datum.{Datum}
 use Rattle.qvt_model.specs.declared.data.Datum.TheVariants.{Bool as BoolDatum, Int, Str, Literal, Ref}
 use Rattle.qvt_model.specs.declared.data.SlotData.{SlotData}
 use Rattle.qvt_model.specs.declared.data.ObjectData.{ObjectData}
-use Rattle.qvt_model.proofs.Extents.{IsMember, members-are, onto-all, onto-order, given-all, by_recursion, ids-texts, all-objects, members-few}
+use Rattle.qvt_model.proofs.Extents.{IsMember, members-are, by_name-total, slots-apart, filled-all, filled-order, given-all, by_recursion, ids-texts, all-objects, members-few}
 use Rattle.qvt_model.proofs.Lists.{All-weaken}
+use Rattle.qvt_model.proofs.Sorting.{IsLevelWithNone, NoneAreLevel, apart-filter, above, below, put_each, put_each-sorted, still-apart}
 use Rattle.qvt_model.proofs.Whole.{IsWrittenObject, IsPlain-model_value}
 
 -- ---- the numbers of an extent are new, one after the other
@@ -70,9 +69,6 @@ members-live s e =
 
 -- ---- values
 
-same-text : (a b : List ℕ) → slice_cmp nat_cmp a b ≡ Equal → a ≡ b
-same-text a b e = (bytes_eq-Decides a b).0 (sym (is_eq-slice_cmp a b) ∙ ap is_eq e)
-
 cons-map : {X Y : Type 0} (g : X → Y) (o : Option X) (xs : List X) → cons_option (option_map g o) (map g xs) ≡ map g (cons_option o xs)
 cons-map g None xs = refl
 cons-map g (Some x) xs = refl
@@ -105,58 +101,78 @@ module _ (s : Contents) (xs : List ℕ) where
 
   -- ---- slots
 
-  members-insert : (t : SlotData) (us : List SlotData) → slot_members s.metas os (insert_slot s.metas t us) ≡ put (name_of s.metas t) (slot_value s.metas os t) (slot_members s.metas os us)
-  members-insert t [] = refl
-  members-insert t (u ∷ us) = by (members-insert t us) (slice_cmp nat_cmp (name_of s.metas t) (name_of s.metas u)) refl
+  members-put : (t : SlotData) (us : List SlotData) → IsLevelWithNone (by_name s.metas) us t → slot_members s.metas os (put_in (by_name s.metas) t us) ≡ put (name_of s.metas t) (slot_value s.metas os t) (slot_members s.metas os us)
+  members-put t [] a = refl
+  members-put t (u ∷ us) a = by (is_lt (by_name s.metas u t)) refl (members-put t us a.1)
     where
-      by : slot_members s.metas os (insert_slot s.metas t us) ≡ put (name_of s.metas t) (slot_value s.metas os t) (slot_members s.metas os us) → (o : Ordering) → slice_cmp nat_cmp (name_of s.metas t) (name_of s.metas u) ≡ o
-          → slot_members s.metas os (match_ordering o (t ∷ u ∷ us) (t ∷ us) (u ∷ insert_slot s.metas t us))
+      -- where the slot is put by how the two names compare
+      chosen : (o : Ordering) → by_name s.metas t u ≡ o → put (name_of s.metas t) (slot_value s.metas os t) (slot_members s.metas os (u ∷ us))
           ≡ match_ordering o (member (name_of s.metas t) (slot_value s.metas os t) (slot_members s.metas os (u ∷ us))) (member (name_of s.metas u) (slot_value s.metas os t) (slot_members s.metas os us))
           (member (name_of s.metas u) (slot_value s.metas os u) (put (name_of s.metas t) (slot_value s.metas os t) (slot_members s.metas os us)))
-      by rest Less e = refl
-      by rest Equal e = ap (λ name. member name (slot_value s.metas os t) (slot_members s.metas os us)) (same-text (name_of s.metas t) (name_of s.metas u) e)
-      by rest Greater e = ap (member (name_of s.metas u) (slot_value s.metas os u)) rest
+      chosen o e = ap (λ r. match_ordering r (member (name_of s.metas t) (slot_value s.metas os t) (slot_members s.metas os (u ∷ us))) (member (name_of s.metas u) (slot_value s.metas os t) (slot_members s.metas os us))
+          (member (name_of s.metas u) (slot_value s.metas os u) (put (name_of s.metas t) (slot_value s.metas os t) (slot_members s.metas os us)))) e
 
-  slot-same : (f : FeatureNo) (ds : List Datum) (us : List SlotData)
+      by : (b : Bool) → is_lt (by_name s.metas u t) ≡ b → slot_members s.metas os (put_in (by_name s.metas) t us) ≡ put (name_of s.metas t) (slot_value s.metas os t) (slot_members s.metas os us)
+          → slot_members s.metas os (cond b (u ∷ put_in (by_name s.metas) t us) (t ∷ u ∷ us)) ≡ put (name_of s.metas t) (slot_value s.metas os t) (slot_members s.metas os (u ∷ us))
+      by true e rest = ap (member (name_of s.metas u) (slot_value s.metas os u)) rest ∙ sym (chosen Greater (above (by_name s.metas) (by_name-total s.metas) t u e))
+      by false e rest = sym (chosen Less (below (by_name s.metas) (by_name-total s.metas) t u e a.0))
+
+  slot-same : (f : FeatureNo) (ds : List Datum) (us : List SlotData) → IsLevelWithNone (by_name s.metas) us (record { feature = f; items = ds })
       → put_some (feature_at s.metas f.0).name (slot_written s.metas f (map (datum_value s.metas os) ds)) (slot_members s.metas os us)
-      ≡ slot_members s.metas os (cond (has_items (record { feature = f; items = ds })) (insert_slot s.metas (record { feature = f; items = ds }) us) us)
-  slot-same f [] us = by (is_single s.metas f.0)
+      ≡ slot_members s.metas os (cond (has_items (record { feature = f; items = ds })) (put_in (by_name s.metas) (record { feature = f; items = ds }) us) us)
+  slot-same f [] us a = by (is_single s.metas f.0)
     where
       by : (b : Bool) → put_some (feature_at s.metas f.0).name (cond b None None) (slot_members s.metas os us) ≡ slot_members s.metas os us
       by true = refl
       by false = refl
-  slot-same f (d ∷ ds) us = by (is_single s.metas f.0) refl
+  slot-same f (d ∷ ds) us a = by (is_single s.metas f.0) refl
     where
-      t : SlotData
-      t = record { feature = f; items = d ∷ ds }
-
-      some : nat_lt 0 (suc (length ds)) ≡ true
-      some = lt-ltb 0 (suc (length ds)) (omega arith)
-
       by : (b : Bool) → is_single s.metas f.0 ≡ b
           → put_some (feature_at s.metas f.0).name (slot_written s.metas f (map (datum_value s.metas os) (d ∷ ds))) (slot_members s.metas os us)
-          ≡ slot_members s.metas os (cond (nat_lt 0 (suc (length ds))) (insert_slot s.metas (record { feature = f; items = d ∷ ds }) us) us)
-      by true is = rw (is, lt-ltb 0 (suc (length ds)) (omega arith)) (sym (members-insert (record { feature = f; items = d ∷ ds }) us ∙ rw is refl))
-      by false is = rw (is, lt-ltb 0 (suc (length ds)) (omega arith)) (sym (members-insert (record { feature = f; items = d ∷ ds }) us ∙ rw is refl))
+          ≡ slot_members s.metas os (cond (nat_lt 0 (suc (length ds))) (put_in (by_name s.metas) (record { feature = f; items = d ∷ ds }) us) us)
+      by true is = rw (is, lt-ltb 0 (suc (length ds)) (omega arith)) (sym (members-put (record { feature = f; items = d ∷ ds }) us a ∙ rw is refl))
+      by false is = rw (is, lt-ltb 0 (suc (length ds)) (omega arith)) (sym (members-put (record { feature = f; items = d ∷ ds }) us a ∙ rw is refl))
 
-  members-same : (x : ℕ) (ts : List SlotData) (fs : List FeatureNo) → members_onto s xs x (slot_members s.metas os ts) fs ≡ slot_members s.metas os (slots_onto s xs x ts fs)
-  members-same x ts [] = refl
-  members-same x ts (f ∷ fs) =
+  -- the slots put among others, which are level with none of them
+  members-same : (x : ℕ) (ts : List SlotData) (fs : List FeatureNo) → NoneAreLevel (by_name s.metas) (map (slot_in s xs x) fs) → AllByRecursion (IsLevelWithNone (by_name s.metas) ts) (map (slot_in s xs x) fs)
+      → members_onto s xs x (slot_members s.metas os ts) fs ≡ slot_members s.metas os (put_each (by_name s.metas) ts (filter has_items (map (slot_in s xs x) fs)))
+  members-same x ts [] a l = refl
+  members-same x ts (f ∷ fs) a l =
       ap (λ ds. members_onto s xs x (put_some (feature_at s.metas f.0).name (slot_written s.metas f ds) (slot_members s.metas os ts)) fs) (values-same (slot_of s x f.0))
-      ∙ ap (λ ms. members_onto s xs x ms fs) (slot-same f (slot_in s xs x f).items ts)
-      ∙ members-same x (cond (has_items (slot_in s xs x f)) (insert_slot s.metas (slot_in s xs x f) ts) ts) fs
+      ∙ ap (λ ms. members_onto s xs x ms fs) (slot-same f (slot_in s xs x f).items ts l.0)
+      ∙ members-same x (cond (has_items (slot_in s xs x f)) (put_in (by_name s.metas) (slot_in s xs x f) ts) ts) fs a.1 (level (has_items (slot_in s xs x f)))
+      ∙ ap (slot_members s.metas os) (each (has_items (slot_in s xs x f)) (filter has_items (map (slot_in s xs x) fs)))
+    where
+      level : (b : Bool) → AllByRecursion (IsLevelWithNone (by_name s.metas) (cond b (put_in (by_name s.metas) (slot_in s xs x f) ts) ts)) (map (slot_in s xs x) fs)
+      level true = still-apart (by_name s.metas) (by_name-total s.metas) (slot_in s xs x f) ts (map (slot_in s xs x) fs) a.0 l.1
+      level false = l.1
+
+      each : (b : Bool) (us : List SlotData) → put_each (by_name s.metas) (cond b (put_in (by_name s.metas) (slot_in s xs x f) ts) ts) us ≡ put_each (by_name s.metas) ts (cond b (slot_in s xs x f ∷ us) us)
+      each true us = refl
+      each false us = refl
+
+  from_none : (us : List SlotData) → AllByRecursion (IsLevelWithNone (by_name s.metas) []) us
+  from_none [] = tt
+  from_none (u ∷ us) = (tt, from_none us)
+
+  filled-same : (x : ℕ) → IsWellFormed s.metas → members_onto s xs x no_members (features_of s.metas (class_of s x)) ≡ slot_members s.metas os (filled_slots s xs x)
+  filled-same x known =
+      let slots = map (slot_in s xs x) (features_of s.metas (class_of s x)) in
+      let apart = slots-apart s xs x known in
+      members-same x [] (features_of s.metas (class_of s x)) apart (from_none slots)
+      ∙ ap (slot_members s.metas os) (put_each-sorted (by_name s.metas) (by_name-total s.metas) (filter has_items slots) (apart-filter (by_name s.metas) has_items slots apart))
 
   -- ---- objects
 
-  object-same : (n x : ℕ) → object_written s xs n x ≡ object_value s.metas os (object_in s xs n x)
+  object-same : (n x : ℕ) → IsWellFormed s.metas → object_written s xs n x ≡ object_value s.metas os (object_in s xs n x)
   unfolding object_in
-  object-same n x =
+  object-same n x known =
       ap (λ ms. object (member (codes "class") (string (class_at s.metas (class_of s x)).name) (member (codes "id") (string (own_id n)) (member (codes "slots") (object ms) no_members))))
-      (members-same x [] (features_of s.metas (class_of s x)))
+      (filled-same x known)
 
-  objects-same : (n : ℕ) (ys : List ℕ) → objects_written s xs n ys ≡ map (object_value s.metas os) (objects_from s xs n ys)
-  objects-same n [] = refl
-  objects-same n (y ∷ ys) = λ i. object-same n y i ∷ objects-same (suc n) ys i
+  objects-same : (n : ℕ) (ys : List ℕ) → IsWellFormed s.metas → objects_written s xs n ys ≡ map (object_value s.metas os) (objects_from s xs n ys)
+  objects-same n [] known = refl
+  objects-same n (y ∷ ys) known = λ i. object-same n y known i ∷ objects-same (suc n) ys known i
 
   -- ---- what is written is plain
 
@@ -176,18 +192,18 @@ module _ (s : Contents) (xs : List ℕ) where
     slots-plain sound x fs,
   )
 
-  object-plain : Sound s → (n x : ℕ) → IsWrittenObject s.metas (object_in s xs n x)
+  object-plain : IsWellFormed s.metas → Sound s → (n x : ℕ) → IsWrittenObject s.metas (object_in s xs n x)
   unfolding object_in
-  object-plain sound n x =
-      (onto-all s xs x IsPlainSlot [] (features_of s.metas (class_of s x)) (slots-plain sound x (features_of s.metas (class_of s x))) tt, onto-order s xs x [] (features_of s.metas (class_of s x)) tt)
+  object-plain known sound n x =
+      (filled-all s xs x IsPlainSlot (slots-plain sound x (features_of s.metas (class_of s x))), filled-order s xs x known)
 
   any : (ys : List ℕ) → AllByRecursion (λ _. ⊤) ys
   any [] = tt
   any (y ∷ ys) = (tt, any ys)
 
-pub model_written-is : (s : Contents) (e : ℕ) → model_written s (numbers (members_of s e)) ≡ model_value s.metas (data_of s e)
+pub model_written-is : (s : Contents) (e : ℕ) → IsWellFormed s.metas → model_written s (numbers (members_of s e)) ≡ model_value s.metas (data_of s e)
 unfolding data_of
-model_written-is s e = ap (λ ds. object (member (codes "objects") (array (items_of ds)) no_members)) (objects-same s (numbers (members_of s e)) 1 (numbers (members_of s e)))
+model_written-is s e known = ap (λ ds. object (member (codes "objects") (array (items_of ds)) no_members)) (objects-same s (numbers (members_of s e)) 1 (numbers (members_of s e)) known)
 
 pub IsPlain-model_written : (s : Contents) (e : ℕ) → IsWellFormed s.metas → Sound s → length s.objects < 2 ^ 32 → written.IsPlain (model_written s (numbers (members_of s e)))
 unfolding data_of
@@ -195,5 +211,5 @@ IsPlain-model_written s e named sound few =
     let xs = numbers (members_of s e) in
     let fits : 1 + length xs < 2 ^ 64 = omega (arith, members-few e 0 s.objects, few) in
     let texts = ids-texts s xs 1 xs fits in
-    let objects = all-objects s xs (λ _. ⊤) (IsWrittenObject s.metas) (λ n x _. object-plain s xs sound n x) 1 xs (any s xs xs) in
-    subst written.IsPlain (sym (model_written-is s e)) (IsPlain-model_value s.metas (data_of s e) named texts objects)
+    let objects = all-objects s xs (λ _. ⊤) (IsWrittenObject s.metas) (λ n x _. object-plain s xs named sound n x) 1 xs (any s xs xs) in
+    subst written.IsPlain (sym (model_written-is s e named)) (IsPlain-model_value s.metas (data_of s e) named texts objects)

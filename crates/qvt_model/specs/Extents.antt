@@ -1,12 +1,14 @@
 -- The data of a writable extent of a store: its objects in order, each under an id of its own, with its slots that are not empty.
-use Rattle.std.specs.Prelude.{◌≡◌, ℕ, suc, ◌++◌, Bool, List, [], ◌∷◌, map, filter, length, position, Option, Some, None, option_map, if◌then◌else◌, codes, decimal, ◌==◌}
+use Rattle.std.specs.Prelude.{ℕ, suc, ◌++◌, List, [], ◌∷◌, map, filter, position, Option, Some, None, option_map, codes, decimal, ◌==◌}
 use Rattle.std.specs.List.{filter_map}
-use Rattle.std.specs.Ordering.{nat_cmp, match_ordering}
+use Rattle.std.specs.Ordering.{nat_cmp}
 use Rattle.std.specs.Cmp.Lexicographic.{slice_cmp}
+use Rattle.std.specs.declared.cmp.Ordering.{Ordering}
 use Rattle.qvt_base.specs.declared.numbers.FeatureNo.{FeatureNo}
 use Rattle.qvt_base.specs.declared.numbers.Oid.{Oid}
 use Rattle.qvt_value.specs.declared.value.Value.{Value}
 use Rattle.qvt_value.specs.declared.value.Value.TheVariants.{Bool as BoolValue, Int as IntValue, Str as StrValue, Enum as EnumValue, Obj}
+use Rattle.qvt_value.specs.Kept.{sorted}
 use Rattle.qvt_metamodel.specs.Metamodels.{Metamodels, feature_at, features_of}
 use Rattle.qvt_store.specs.Contents.{Contents, class_of, slot_of, members_of}
 use Rattle.qvt_model.specs.Reading.{has_items, numbered_class}
@@ -41,18 +43,16 @@ slot_in s xs x f = record { feature = f; items = filter_map (datum_in xs) (slot_
 abbrev pub name_of : Metamodels → SlotData → List ℕ
 name_of m t = (feature_at m t.feature.0).name
 
--- the slot put in its place by byte order of the names
-abbrev pub insert_slot : Metamodels → SlotData → List SlotData → List SlotData
-insert_slot m t [] = t ∷ []
-insert_slot m t (u ∷ us) = match_ordering (slice_cmp nat_cmp (name_of m t) (name_of m u)) (t ∷ u ∷ us) (t ∷ us) (u ∷ insert_slot m t us)
+-- by byte order of the names of the features
+abbrev pub by_name : Metamodels → SlotData → SlotData → Ordering
+by_name m t u = slice_cmp nat_cmp (name_of m t) (name_of m u)
 
--- the slots of these features that are not empty, put among the others one by one
-abbrev pub slots_onto : Contents → List ℕ → ℕ → List SlotData → List FeatureNo → List SlotData
-slots_onto s xs x ts [] = ts
-slots_onto s xs x ts (f ∷ fs) = slots_onto s xs x (if has_items (slot_in s xs x f) then insert_slot s.metas (slot_in s xs x f) ts else ts) fs
+-- the slots of an object that are not empty, by the names of the features
+abbrev pub filled_slots : Contents → List ℕ → ℕ → List SlotData
+filled_slots s xs x = sorted (by_name s.metas) (filter has_items (map (slot_in s xs x) (features_of s.metas (class_of s x))))
 
 unfoldable pub object_in : Contents → List ℕ → ℕ → ℕ → ObjectData
-object_in s xs n x = record { class = numbered_class (class_of s x); id = own_id n; slots = slots_onto s xs x [] (features_of s.metas (class_of s x)) }
+object_in s xs n x = record { class = numbered_class (class_of s x); id = own_id n; slots = filled_slots s xs x }
 
 -- the objects of these numbers, the first of which stands n-th
 abbrev pub objects_from : Contents → List ℕ → ℕ → List ℕ → List ObjectData

@@ -26,10 +26,10 @@ use Rattle.qvt_model.specs.declared.data.Datum.{Datum}
 use Rattle.qvt_model.specs.declared.data.Datum.TheVariants.{Bool as BoolDatum, Int, Str, Literal, Ref}
 use Rattle.qvt_model.specs.declared.data.SlotData.{SlotData}
 use Rattle.qvt_model.specs.declared.data.ObjectData.{ObjectData}
-use Rattle.qvt_model.specs.Extents.{place_of, datum_in, object_in, objects_from, data_of}
+use Rattle.qvt_model.specs.Extents.{place_of, datum_in, filled_slots, object_in, objects_from, data_of}
 use Rattle.qvt_model.specs.Items.{items_in}
 use Rattle.qvt_model.specs.WellFormed.{object_at, AreInOrder, IsObject, IsModel}
-use Rattle.qvt_model.proofs.Extents.{IsModel-data_of}
+use Rattle.qvt_model.proofs.Extents.{each-among, IsModel-data_of}
 use Rattle.qvt_model.proofs.Final.{not_own, all_at}
 use Rattle.qvt_model.proofs.Lists.{All-weaken}
 use Rattle.qvt_model.proofs.RunIds.{none}
@@ -44,7 +44,7 @@ use Rattle.qvt_conform.specs.LowerBounds.{is_low, low_feature, low_object, low_o
 use Rattle.qvt_cycle.specs.Successors.{how_often_in, is_on_cycle}
 use Rattle.qvt_written.specs.Law.{WrittenConforms}
 use Rattle.qvt_written.proofs.Datums.{back, IsWithin, no_repeat, refers, all_stand}
-use Rattle.qvt_written.proofs.Slots.{each-among, IsHeld, all_slots, are_held, items_are}
+use Rattle.qvt_written.proofs.Slots.{IsHeld, are_held, items_are}
 use Rattle.qvt_written.proofs.Members.{members, object, count, number, member, apart, placed, count-objects, object-there}
 use Rattle.qvt_written.proofs.Containments.{alone, no_cycle}
 
@@ -162,7 +162,7 @@ module _ (s : Contents) (e : ℕ) (store : IsStore s) (sound : Sound s) (model :
   items : (i f : ℕ) → i < length os → items_in f (object_at os i).slots ≡ filter_map (datum_in xs) (slot_of s (at i) f)
   unfolding object_in
   items i f l = elim (either (has_feature m (class_of s (at i)) f)) [
-    | inl h ↦ ap (λ (o : ObjectData). items_in f o.slots) (there i (inner i l)) ∙ items_are s store.well_formed xs (at i) (class_of s (at i)) f h
+    | inl h ↦ ap (λ (o : ObjectData). items_in f o.slots) (there i (inner i l)) ∙ items_are s xs (at i) f h
     | inr n ↦
         let o : IsObject m (extent_at s e).metamodel os (object_at os i) = is i l in
         not_own m os (object_at os i).class.0 f (object_at os i).slots o.slots (ap (λ c. has_feature m c f) (class i (inner i l)) ∙ n)
@@ -178,8 +178,8 @@ module _ (s : Contents) (e : ℕ) (store : IsStore s) (sound : Sound s) (model :
   slots_show : (i : ℕ) → i < length os → AllByRecursion (λ (t : SlotData). map (back at) t.items ≡ slot_of s (at i) t.feature.0) (object_at os i).slots
   unfolding object_in
   slots_show i l = subst (λ (o : ObjectData). AllByRecursion (λ (t : SlotData). map (back at) t.items ≡ slot_of s (at i) t.feature.0) o.slots) (sym (there i (inner i l)))
-      (All-weaken (IsHeld s store.well_formed xs (at i) (class_of s (at i))) (λ (t : SlotData). map (back at) t.items ≡ slot_of s (at i) t.feature.0)
-      (λ t h. ap (map (back at)) h ∙ (held i t.feature.0 (inner i l)).0) (all_slots s store.well_formed xs (at i) (class_of s (at i))) (are_held s store.well_formed xs (at i) (class_of s (at i))))
+      (All-weaken (IsHeld s xs (at i)) (λ (t : SlotData). map (back at) t.items ≡ slot_of s (at i) t.feature.0)
+      (λ t h. ap (map (back at)) h ∙ (held i t.feature.0 (inner i l)).0) (filled_slots s xs (at i)) (are_held s xs (at i)))
 
   -- ---- a feature of an object
 

@@ -31,5 +31,5 @@ unfolding model_text
 returns-clause-text c =
     let s = c.args.store.now in
     let same : view c.in_ok-value.value ≡ model_value s.metas (data_of s c.args.extent) =
-    c.in_ok-value.ensures ∙ ap (λ ms. model_written s (numbers ms)) c.extent.ensures ∙ model_written-is s c.args.extent in
+    c.in_ok-value.ensures ∙ ap (λ ms. model_written s (numbers ms)) c.extent.ensures ∙ model_written-is s c.args.extent c.is_whole.ensures.well_formed in
     c.in_ok-write_value.ensures ∙ ap file_text same
