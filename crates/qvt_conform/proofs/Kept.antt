@@ -13,7 +13,8 @@ use Rattle.qvt_model.specs.declared.data.ObjectData.{ObjectData}
 use Rattle.qvt_conform.specs.declared.links.Link.{Link}
 use Rattle.qvt_conform.specs.declared.breach.Breach.{Breach}
 use Rattle.qvt_conform.specs.declared.breach.Breach.TheVariants.{Bounds as BoundsBroken, NotUnique as UniqueBroken, Opposite as OppositeBroken}
-use Rattle.qvt_conform.specs.Items.{is_at_most, is_within, repeats}
+use Rattle.qvt_repeats.specs.Repeats.{repeats_by}
+use Rattle.qvt_conform.specs.Items.{is_at_most, is_within, same_item}
 use Rattle.qvt_conform.specs.Breaches.{lack_links, breach_of, fault_of, are_kept}
 use Rattle.qvt_conform.specs.Asked.{asks, has_slot, AreMet}
 use Rattle.qvt_conform.specs.Lacking.{feature_fault_by, features_fault_by}
@@ -58,7 +59,7 @@ within_nothing shape h = λ k. unasked shape.lower h k && most shape.upper k
     most None = refl
     most (Some n) = le-leb 0 n (omega arith)
 
-nothing_twice : (b : Bool) → (b && repeats []) ≡ false
+nothing_twice : (b : Bool) → (b && repeats_by same_item []) ≡ false
 nothing_twice true = refl
 nothing_twice false = refl
 

@@ -17,7 +17,8 @@ use Rattle.qvt_model.specs.WellFormed.{IsModel, IsObject, AreInOrder, ComeAfter,
 use Rattle.qvt_conform.specs.declared.links.Link.{Link}
 use Rattle.qvt_conform.specs.declared.fault.ConformFault.TheVariants.{Abstract, Bounds, NotUnique, Opposite}
 use Rattle.qvt_model.specs.Items.{items_in}
-use Rattle.qvt_conform.specs.Items.{items_of, is_within, repeats, is_ref, lacks, lack_opposite}
+use Rattle.qvt_repeats.specs.Repeats.{repeats_by}
+use Rattle.qvt_conform.specs.Items.{items_of, is_within, same_item, is_ref, lacks, lack_opposite}
 use Rattle.qvt_conform.specs.Links.{link, same_link, links_of_item, links_of_items, links_of_slot, links_of_slots, links_from}
 use Rattle.qvt_conform.specs.Joined.{Joined}
 use Rattle.qvt_conform.specs.Breaches.{lacks_link, lack_links, breach_of, fault_named}
@@ -203,9 +204,9 @@ told id name true false false = refl
 
 feature_same : (m : Metamodels) (os : List ObjectData) (ls : List Link) (i : ℕ) (o : ObjectData) (f : FeatureNo) → IsLinked m os ls → feature_fault_by m ls i o f ≡ feature_fault m os i o f
 unfolding feature_fault_by feature_fault breach_of
-feature_same m os ls i o f h = told o.id (feature_at m f.0).name (is_within (shape_of m f.0) (length (items_of o f.0))) ((shape_of m f.0).unique && repeats (items_of o f.0)) (lack_links ls (opposite m f.0) i (items_of o f.0))
+feature_same m os ls i o f h = told o.id (feature_at m f.0).name (is_within (shape_of m f.0) (length (items_of o f.0))) ((shape_of m f.0).unique && repeats_by same_item (items_of o f.0)) (lack_links ls (opposite m f.0) i (items_of o f.0))
     ∙ ap (λ b. or_next (fault_if (not (is_within (shape_of m f.0) (length (items_of o f.0)))) (Bounds o.id (feature_at m f.0).name))
-    (or_next (fault_if ((shape_of m f.0).unique && repeats (items_of o f.0)) (NotUnique o.id (feature_at m f.0).name)) (fault_if b (Opposite o.id (feature_at m f.0).name))))
+    (or_next (fault_if ((shape_of m f.0).unique && repeats_by same_item (items_of o f.0)) (NotUnique o.id (feature_at m f.0).name)) (fault_if b (Opposite o.id (feature_at m f.0).name))))
     (slot_lacks m os ls f.0 i h (items_of o f.0))
 
 features_same : (m : Metamodels) (os : List ObjectData) (ls : List Link) (i : ℕ) (o : ObjectData) (fs : List FeatureNo) → IsLinked m os ls → features_fault_by m ls i o fs ≡ features_fault m os i o fs

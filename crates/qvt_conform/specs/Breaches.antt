@@ -7,7 +7,8 @@ use Rattle.qvt_model.specs.declared.data.Datum.{Datum}
 use Rattle.qvt_model.specs.declared.data.Datum.TheVariants.{Bool as BoolDatum, Int, Str, Literal, Ref}
 use Rattle.qvt_model.specs.declared.data.SlotData.{SlotData}
 use Rattle.qvt_model.specs.declared.data.ObjectData.{ObjectData}
-use Rattle.qvt_conform.specs.Items.{is_within, repeats}
+use Rattle.qvt_repeats.specs.Repeats.{repeats_by}
+use Rattle.qvt_conform.specs.Items.{is_within, same_item}
 use Rattle.qvt_conform.specs.Links.{link, same_link}
 use Rattle.qvt_conform.specs.declared.links.Link.{Link}
 use Rattle.qvt_conform.specs.declared.breach.Breach.{Breach}
@@ -30,7 +31,7 @@ lack_links ls (Some q) i xs = list_any (lacks_link ls q.0 i) xs
 unfoldable pub breach_of : Metamodels → List Link → ℕ → ℕ → List Datum → Option Breach
 breach_of m ls i f xs =
     if not (is_within (shape_of m f) (length xs)) then Some BoundsBroken
-    else (if (shape_of m f).unique && repeats xs then Some UniqueBroken
+    else (if (shape_of m f).unique && repeats_by same_item xs then Some UniqueBroken
     else (if lack_links ls (opposite m f) i xs then Some OppositeBroken
     else None))
 

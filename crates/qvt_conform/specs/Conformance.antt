@@ -7,7 +7,8 @@ use Rattle.qvt_json.specs.Steps.{or_next}
 use Rattle.qvt_metamodel.specs.Metamodels.{Metamodels, class_at, feature_at, shape_of, opposite, features_of}
 use Rattle.qvt_model.specs.declared.data.ObjectData.{ObjectData}
 use Rattle.qvt_model.specs.WellFormed.{IsModel}
-use Rattle.qvt_conform.specs.Items.{items_of, is_within, repeats, lack_opposite}
+use Rattle.qvt_repeats.specs.Repeats.{repeats_by}
+use Rattle.qvt_conform.specs.Items.{items_of, is_within, same_item, lack_opposite}
 use Rattle.qvt_cycle.specs.Successors.{is_on_cycle, how_often_in}
 use Rattle.qvt_conform.specs.Containment.{contents}
 use Rattle.qvt_conform.specs.declared.fault.ConformFault.{ConformFault}
@@ -25,7 +26,7 @@ fault_if b fault = if b then Some fault else None
 unfoldable pub feature_fault : Metamodels → List ObjectData → ℕ → ObjectData → FeatureNo → Option ConformFault
 feature_fault m os i o f =
     or_next (fault_if (not (is_within (shape_of m f.0) (length (items_of o f.0)))) (Bounds o.id (feature_at m f.0).name))
-    (or_next (fault_if ((shape_of m f.0).unique && repeats (items_of o f.0)) (NotUnique o.id (feature_at m f.0).name))
+    (or_next (fault_if ((shape_of m f.0).unique && repeats_by same_item (items_of o f.0)) (NotUnique o.id (feature_at m f.0).name))
     (fault_if (lack_opposite (opposite m f.0) os i (items_of o f.0)) (Opposite o.id (feature_at m f.0).name)))
 
 abbrev pub features_fault : Metamodels → List ObjectData → ℕ → ObjectData → List FeatureNo → Option ConformFault

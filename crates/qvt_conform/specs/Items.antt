@@ -1,12 +1,12 @@
 -- The checks of one slot (EMOF 12.4).
-use Rattle.std.specs.Prelude.{ℕ, Bool, true, false, not, ◌==◌, ◌&&◌, ◌||◌, nat_le, List, [], ◌∷◌, ◌++◌, Option, Some, None, if◌then◌else◌}
+use Rattle.std.specs.Prelude.{ℕ, Bool, true, false, not, ◌==◌, ◌&&◌, nat_le, List, Option, Some, None, if◌then◌else◌}
 use Rattle.std.specs.List.{list_any}
 use Rattle.std.specs.Str.{bytes_eq}
 use Rattle.std.specs.Ordering.{int_eq}
 use Rattle.std.proofs.Math.Bool.{beq}
 use Rattle.qvt_base.specs.declared.numbers.FeatureNo.{FeatureNo}
 use Rattle.qvt_metamodel.specs.declared.info.FeatureShape.{FeatureShape}
-use Rattle.qvt_store.specs.Repeats.{same_literal}
+use Rattle.qvt_value.specs.declared.value.LiteralRef.{LiteralRef}
 use Rattle.qvt_model.specs.declared.data.Datum.{Datum}
 use Rattle.qvt_model.specs.declared.data.Datum.TheVariants.{Bool as BoolDatum, Int, Str, Literal, Ref}
 use Rattle.qvt_model.specs.declared.data.ObjectData.{ObjectData}
@@ -25,6 +25,9 @@ is_at_most n (Some most) = nat_le n most
 abbrev pub is_within : FeatureShape → ℕ → Bool
 is_within shape n = nat_le shape.lower n && is_at_most n shape.upper
 
+abbrev pub same_literal : LiteralRef → LiteralRef → Bool
+same_literal a b = (a.metamodel == b.metamodel) && (a.enumeration == b.enumeration) && (a.literal == b.literal)
+
 -- items are equal where they are of one sort and the same
 abbrev pub same_item : Datum → Datum → Bool
 same_item (BoolDatum a) (BoolDatum b) = beq a b
@@ -33,14 +36,6 @@ same_item (Str a) (Str b) = bytes_eq a b
 same_item (Literal a) (Literal b) = same_literal a b
 same_item (Ref a) (Ref b) = a == b
 same_item _ _ = false
-
--- an item is one of those before it
-abbrev pub repeats_after : List Datum → List Datum → Bool
-repeats_after before [] = false
-repeats_after before (x ∷ xs) = list_any (same_item x) before || repeats_after (before ++ x ∷ []) xs
-
-abbrev pub repeats : List Datum → Bool
-repeats xs = repeats_after [] xs
 
 abbrev pub is_ref : ℕ → Datum → Bool
 is_ref i (BoolDatum b) = false

@@ -1,7 +1,8 @@
 //! The checks of one slot.
 
 ghost use Rattle.std.specs.Prelude.{◌≡◌, IfOk};
-ghost use Rattle.qvt_conform.specs.Items.{is_at_most, is_within, repeats};
+ghost use Rattle.qvt_conform.specs.Items.{is_at_most, is_within, same_item};
+ghost use Rattle.qvt_repeats.specs.Repeats.{repeats_by};
 
 use crate::seen::Seen;
 use qvt_base::list_fault::ListFault;
@@ -27,7 +28,7 @@ pub fn is_within(shape: FeatureShape, count: usize) -> bool
 
 /// Whether an item stands twice.
 pub fn repeats(alloc: Global, items: &[Datum]) -> Result<bool, ListFault>
-    ensures { IfOk result (λ b. b ≡ repeats items.now) }
+    ensures { IfOk result (λ b. b ≡ repeats_by same_item items.now) }
 {
     let mut seen = Seen::new(alloc);
     for item in items {

@@ -7,7 +7,10 @@ use Rattle.std.proofs.lemmas.Bool.Decides.{Decides-eqb}
 use Rattle.qvt_relation.proofs.Bools.{or_left, or_right, or_cases, clash}
 use Rattle.qvt_metamodel.specs.Metamodels.{Metamodels, is_containment}
 use Rattle.qvt_slots.specs.Slots.{is_object, has}
-use Rattle.qvt_slots.specs.Repeats.{same_value, repeats}
+use Rattle.qvt_value.specs.Kept.{is_same}
+use Rattle.qvt_value.specs.Order.{order_of}
+use Rattle.qvt_slots.specs.Repeats.{repeats}
+use Rattle.qvt_slots.proofs.Repeating.{any_same_object}
 use Rattle.qvt_model.specs.declared.data.Datum.{Datum}
 use Rattle.qvt_model.specs.declared.data.Datum.TheVariants.{Bool as BoolDatum, Int, Str, Literal, Ref}
 use Rattle.qvt_model.specs.declared.data.SlotData.{SlotData}
@@ -148,16 +151,15 @@ pub record Twice (xs : List Datum) : Type 0 where
 AreRefs : List Datum → Type 0
 AreRefs xs = AllByRecursion (λ x. (i : ℕ) × (x ≡ Ref i)) xs
 
-same_has : (i : ℕ) (xs : List Datum) → list_any (same_value (value_at 0 (Ref i))) (map (value_at 0) xs) ≡ has (map (value_at 0) xs) i
-same_has i [] = refl
-same_has i (x ∷ xs) = ap (λ k. is_object k (value_at 0 x) || list_any (same_value (value_at 0 (Ref i))) (map (value_at 0) xs)) (let q : 0 + i ≡ i = omega arith in q) ∙ ap (λ b. is_object i (value_at 0 x) || b) (same_has i xs)
+same_has : (i : ℕ) (xs : List Datum) → list_any (is_same order_of (value_at 0 (Ref i))) (map (value_at 0) xs) ≡ has (map (value_at 0) xs) i
+same_has i xs = any_same_object (record { 0 = 0 + i }) (map (value_at 0) xs) ∙ ap (has (map (value_at 0) xs)) (let q : 0 + i ≡ i = omega arith in q)
 
 pub repeated_twice : (xs : List Datum) → AllByRecursion (λ x. (i : ℕ) × (x ≡ Ref i)) xs → repeats (map (value_at 0) xs) ≡ true → Twice xs
 repeated_twice [] a h = clash false h refl
-repeated_twice (x ∷ xs) a h = elim (or_cases (list_any (same_value (value_at 0 x)) (map (value_at 0) xs)) (repeats (map (value_at 0) xs)) h) [
+repeated_twice (x ∷ xs) a h = elim (or_cases (list_any (is_same order_of (value_at 0 x)) (map (value_at 0) xs)) (repeats (map (value_at 0) xs)) h) [
   | inl here ↦
       let i : ℕ = a.0.0 in
-      let again : has (map (value_at 0) xs) i ≡ true = sym (same_has i xs) ∙ subst (λ y. list_any (same_value (value_at 0 y)) (map (value_at 0) xs) ≡ true) a.0.1 here in
+      let again : has (map (value_at 0) xs) i ≡ true = sym (same_has i xs) ∙ subst (λ y. list_any (is_same order_of (value_at 0 y)) (map (value_at 0) xs) ≡ true) a.0.1 here in
       let more : 1 ≤ how_often i (refs xs) = counted (refs xs) i (held_among xs i again) in
       record {
         place = i;

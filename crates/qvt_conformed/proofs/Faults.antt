@@ -2,12 +2,15 @@
 use Rattle.std.proofs.Common.{◌≡◌, ℕ, zero, suc, ◌+◌, ◌<◌, ◌≤◌, Bool, true, false, ◌==◌, ◌||◌, ◌&&◌, not, cond, inl, inr, refl, sym, ap, ◌∙◌, subst, List, [], ◌∷◌, ◌++◌, map, length, nat_lt, arith}
 use Rattle.std.specs.Prelude.{Option, Some, None, slice_index_or}
 use Rattle.std.specs.List.{list_any, AllByRecursion}
-use Rattle.std.proofs.Math.Bool.{beq}
 use Rattle.std.proofs.lemmas.Bool.{cases_lt, cases_eq, eq-eqb, ne_eqb, le-ltb, leb-true, ltb-false}
-use Rattle.std.proofs.lemmas.Bool.Decides.{Decides-eqb, Decides-int_eq}
-use Rattle.std.proofs.lemmas.Slice.Eq.{bytes_eq-Decides}
+use Rattle.std.proofs.lemmas.Bool.Decides.{Decides-eqb}
 use Rattle.qvt_base.specs.declared.numbers.FeatureNo.{FeatureNo}
-use Rattle.qvt_value.specs.declared.value.LiteralRef.{LiteralRef}
+use Rattle.qvt_repeats.specs.Repeats.{repeats_by}
+use Rattle.qvt_repeats.proofs.Repeating.{repeats-map, repeats-fewer}
+use Rattle.qvt_value.specs.declared.value.Value.{Value}
+use Rattle.qvt_value.specs.declared.value.Value.TheVariants.{Bool as BoolValue, Int as IntValue, Str as StrValue, Enum as EnumValue, Obj}
+use Rattle.qvt_value.specs.Kept.{is_same}
+use Rattle.qvt_value.specs.Order.{order_of}
 use Rattle.qvt_metamodel.specs.Metamodels.{Metamodels, class_at, feature_at, features_of, among_features, has_feature, shape_of, opposite, is_opposite, is_feature_number, is_containment}
 use Rattle.qvt_relation.specs.Closure.{Closure}
 use Rattle.qvt_relation.specs.Closure.Closure.{directly as one_step, through as more_steps}
@@ -16,7 +19,8 @@ use Rattle.qvt_relation.proofs.Closures.{closure-reaches}
 use Rattle.qvt_json.specs.Steps.{or_next}
 use Rattle.qvt_model.proofs.Steps.{neither}
 use Rattle.qvt_slots.specs.Slots.{is_object, has, Inside, directly, through}
-use Rattle.qvt_slots.specs.Repeats.{same_literal, same_value, repeats}
+use Rattle.qvt_slots.specs.Repeats.{repeats}
+use Rattle.qvt_slots.proofs.Repeating.{same_true}
 use Rattle.qvt_slots.specs.Assign.{is_beyond}
 use Rattle.qvt_slots.proofs.Lists.{length-map, past_end}
 use Rattle.qvt_model.specs.declared.data.Datum.{Datum}
@@ -27,8 +31,8 @@ use Rattle.qvt_model.specs.WellFormed.{object_at, no_object, IsItem, IsSlot, IsO
 use Rattle.qvt_cycle.specs.Successors.{among, leads, is_on_cycle, how_often, how_often_in}
 use Rattle.qvt_conform.specs.declared.fault.ConformFault.{ConformFault}
 use Rattle.qvt_conform.specs.declared.fault.ConformFault.TheVariants.{Bounds, NotUnique, Opposite, Abstract, TwoContainers, ContainmentCycle}
-use Rattle.qvt_conform.specs.Items.{is_at_most, is_within, same_item, repeats_after, is_ref, lacks, lack_opposite}
-use Rattle.qvt_conform.specs.Items as item
+use Rattle.qvt_conform.specs.Items.{is_at_most, is_within, same_item, is_ref, lacks, lack_opposite}
+use Rattle.qvt_conform.proofs.SameItems.{same_itself}
 use Rattle.qvt_conform.specs.Containment.{contents_of_slots, contents_of_object, contents}
 use Rattle.qvt_conform.specs.Conformance.{fault_if, feature_fault, features_fault, containment_fault, object_fault, faults_from, conform_fault}
 use Rattle.qvt_model.specs.Items.{items_in}
@@ -62,7 +66,7 @@ features_none m os i o (g ∷ gs) f e h = elim (or_cases (g.0 == f) (among_featu
 
 record SlotFine (m : Metamodels) (os : List ObjectData) (i f : ℕ) (xs : List Datum) : Type 0 where
   bound : is_at_most (length xs) (shape_of m f).upper ≡ true
-  unique : ((shape_of m f).unique && item.repeats xs) ≡ false
+  unique : ((shape_of m f).unique && repeats_by same_item xs) ≡ false
   linked : lack_opposite (opposite m f) os i xs ≡ false
 
 not_out : (b : Bool) → not b ≡ false → b ≡ true
@@ -73,11 +77,11 @@ slot_fine : (m : Metamodels) (os : List ObjectData) (i f : ℕ) (o : ObjectData)
 unfolding feature_fault
 slot_fine m os i f o e =
     let xs : List Datum = items_in f o.slots in
-    let a = neither (fault_if (not (is_within (shape_of m f) (length xs))) (Bounds o.id (feature_at m f).name)) (or_next (fault_if ((shape_of m f).unique && item.repeats xs) (NotUnique o.id (feature_at m f).name)) (fault_if (lack_opposite (opposite m f) os i xs) (Opposite o.id (feature_at m f).name))) e in
-    let b = neither (fault_if ((shape_of m f).unique && item.repeats xs) (NotUnique o.id (feature_at m f).name)) (fault_if (lack_opposite (opposite m f) os i xs) (Opposite o.id (feature_at m f).name)) a.1 in
+    let a = neither (fault_if (not (is_within (shape_of m f) (length xs))) (Bounds o.id (feature_at m f).name)) (or_next (fault_if ((shape_of m f).unique && repeats_by same_item xs) (NotUnique o.id (feature_at m f).name)) (fault_if (lack_opposite (opposite m f) os i xs) (Opposite o.id (feature_at m f).name))) e in
+    let b = neither (fault_if ((shape_of m f).unique && repeats_by same_item xs) (NotUnique o.id (feature_at m f).name)) (fault_if (lack_opposite (opposite m f) os i xs) (Opposite o.id (feature_at m f).name)) a.1 in
     record {
       bound = and_right _ _ (not_out (is_within (shape_of m f) (length xs)) (no_fault (not (is_within (shape_of m f) (length xs))) (Bounds o.id (feature_at m f).name) a.0));
-      unique = no_fault ((shape_of m f).unique && item.repeats xs) (NotUnique o.id (feature_at m f).name) b.0;
+      unique = no_fault ((shape_of m f).unique && repeats_by same_item xs) (NotUnique o.id (feature_at m f).name) b.0;
       linked = no_fault (lack_opposite (opposite m f) os i xs) (Opposite o.id (feature_at m f).name) b.1;
     }
 
@@ -106,76 +110,27 @@ within_bound : (n : ℕ) (u : Option ℕ) → is_at_most n u ≡ true → is_bey
 within_bound n None h = refl
 within_bound n (Some most) h = le-ltb most n (leb-true n most h)
 
-same_bool : (a b : Bool) → beq a b ≡ true → beq b a ≡ true
-same_bool true true h = h
-same_bool true false h = h
-same_bool false true h = h
-same_bool false false h = h
+-- the item that a value stands for
+item_of : Value → Datum
+item_of (BoolValue b) = BoolDatum b
+item_of (IntValue n) = Int n
+item_of (StrValue t) = Str t
+item_of (EnumValue l) = Literal l
+item_of (Obj o) = Ref o.0
+item_of v = BoolDatum false
 
-same_literal_back : (a b : LiteralRef) → same_value (value_at 0 (Literal b)) (value_at 0 (Literal a)) ≡ true → same_literal a b ≡ true
-same_literal_back a b h =
-    let l = and_left _ (b.literal == a.literal) h in
-    and_both _ _ (and_both _ _ ((Decides-eqb a.metamodel b.metamodel).1 (sym ((Decides-eqb b.metamodel a.metamodel).0 (and_left _ _ l))))
-    ((Decides-eqb a.enumeration b.enumeration).1 (sym ((Decides-eqb b.enumeration a.enumeration).0 (and_right (b.metamodel == a.metamodel) _ l)))))
-    ((Decides-eqb a.literal b.literal).1 (sym ((Decides-eqb b.literal a.literal).0 (and_right ((b.metamodel == a.metamodel) && (b.enumeration == a.enumeration)) _ h))))
+item_back : (d : Datum) → item_of (value_at 0 d) ≡ d
+item_back (BoolDatum b) = refl
+item_back (Int n) = refl
+item_back (Str t) = refl
+item_back (Literal l) = refl
+item_back (Ref i) = ap Ref (let q : 0 + i ≡ i = omega arith in q)
 
-same_back : (a b : Datum) → same_value (value_at 0 b) (value_at 0 a) ≡ true → same_item a b ≡ true
-same_back (BoolDatum a) (BoolDatum b) h = same_bool b a h
-same_back (BoolDatum a) (Int b) h = h
-same_back (BoolDatum a) (Str b) h = h
-same_back (BoolDatum a) (Literal b) h = h
-same_back (BoolDatum a) (Ref b) h = h
-same_back (Int a) (BoolDatum b) h = h
-same_back (Int a) (Int b) h = (Decides-int_eq a b).1 (sym ((Decides-int_eq b a).0 h))
-same_back (Int a) (Str b) h = h
-same_back (Int a) (Literal b) h = h
-same_back (Int a) (Ref b) h = h
-same_back (Str a) (BoolDatum b) h = h
-same_back (Str a) (Int b) h = h
-same_back (Str a) (Str b) h = (bytes_eq-Decides a b).1 (sym ((bytes_eq-Decides b a).0 h))
-same_back (Str a) (Literal b) h = h
-same_back (Str a) (Ref b) h = h
-same_back (Literal a) (BoolDatum b) h = h
-same_back (Literal a) (Int b) h = h
-same_back (Literal a) (Str b) h = h
-same_back (Literal a) (Literal b) h = same_literal_back a b h
-same_back (Literal a) (Ref b) h = h
-same_back (Ref a) (BoolDatum b) h = h
-same_back (Ref a) (Int b) h = h
-same_back (Ref a) (Str b) h = h
-same_back (Ref a) (Literal b) h = h
-same_back (Ref a) (Ref b) h = (Decides-eqb a b).1 (let q : 0 + a ≡ 0 + b = (Decides-eqb (0 + a) (0 + b)).0 h in omega arith)
+same_back : (a b : Datum) → is_same order_of (value_at 0 a) (value_at 0 b) ≡ true → same_item a b ≡ true
+same_back a b h = subst (λ d. same_item a d ≡ true) (sym (item_back a) ∙ ap item_of (same_true (value_at 0 a) (value_at 0 b) h) ∙ item_back b) (same_itself a)
 
-any_one : (x : Datum) (before : List Datum) → list_any (same_item x) before ≡ false → AllByRecursion (λ b. same_value (value_at 0 b) (value_at 0 x) ≡ false) before
-any_one x [] n = tt
-any_one x (b ∷ before) n = (refuted _ (λ t. clash _ (same_back x b t) (none_left (same_item x b) (list_any (same_item x) before) n)), any_one x before (none_right (same_item x b) (list_any (same_item x) before) n))
-
-record NoRepeat (before xs : List Datum) : Type 0 where
-  alone : repeats (map (value_at 0) xs) ≡ false
-  apart : AllByRecursion (λ b. list_any (same_value (value_at 0 b)) (map (value_at 0) xs) ≡ false) before
-
-last_of : (P : Datum → Type 0) (xs : List Datum) (x : Datum) → AllByRecursion P (xs ++ x ∷ []) → AllByRecursion P xs × P x
-last_of P [] x h = (tt, h.0)
-last_of P (y ∷ xs) x h = let r : AllByRecursion P xs × P x = last_of P xs x h.1 in ((h.0, r.0), r.1)
-
-both_none : (before : List Datum) (x : Datum) (xs : List Datum) → AllByRecursion (λ b. same_value (value_at 0 b) (value_at 0 x) ≡ false) before →
-    AllByRecursion (λ b. list_any (same_value (value_at 0 b)) (map (value_at 0) xs) ≡ false) before → AllByRecursion (λ b. list_any (same_value (value_at 0 b)) (map (value_at 0) (x ∷ xs)) ≡ false) before
-both_none [] x xs h k = tt
-both_none (b ∷ before) x xs h k = (or_none _ _ h.0 k.0, both_none before x xs h.1 k.1)
-
-no_values : (xs : List Datum) → AllByRecursion (λ (b : Datum). list_any (same_value (value_at 0 b)) [] ≡ false) xs
-no_values [] = tt
-no_values (x ∷ xs) = (refl, no_values xs)
-
-no_repeat : (before xs : List Datum) → repeats_after before xs ≡ false → NoRepeat before xs
-no_repeat before [] n = record { alone = refl; apart = no_values before }
-no_repeat before (x ∷ xs) n =
-    let r : NoRepeat (before ++ x ∷ []) xs = no_repeat (before ++ x ∷ []) xs (none_right (list_any (same_item x) before) (repeats_after (before ++ x ∷ []) xs) n) in
-    let s = last_of (λ b. list_any (same_value (value_at 0 b)) (map (value_at 0) xs) ≡ false) before x r.apart in
-    record {
-      alone = or_none _ _ s.1 r.alone;
-      apart = both_none before x xs (any_one x before (none_left (list_any (same_item x) before) (repeats_after (before ++ x ∷ []) xs) n)) s.0;
-    }
+no_repeat : (xs : List Datum) → repeats_by same_item xs ≡ false → repeats (map (value_at 0) xs) ≡ false
+no_repeat xs n = repeats-map (is_same order_of) (value_at 0) xs ∙ repeats-fewer (λ a b. is_same order_of (value_at 0 a) (value_at 0 b)) same_item same_back xs n
 
 eq_turned : (i j : ℕ) → (i == j) ≡ (j == i)
 eq_turned i j = elim (cases_eq i j) [ inl e ↦ eq-eqb i j e ∙ sym (eq-eqb j i (sym e)) | inr n ↦ ne_eqb i j n ∙ sym (ne_eqb j i (λ q. n (sym q))) ]
@@ -250,7 +205,7 @@ module _ (m : Metamodels) (k : ℕ) (os : List ObjectData) (model : IsModel m k 
   unique : (i f : ℕ) → (shape_of m f).unique ≡ true → repeats (slots_at os i f) ≡ false
   unique = each_slot (λ i f xs. (shape_of m f).unique ≡ true → repeats (map (value_at 0) xs) ≡ false) (λ i f u. refl)
       (λ i f l h u. let s : SlotFine m os i f (items_in f (object_at os i).slots) = (fine i l).slots f h in
-      (no_repeat [] (items_in f (object_at os i).slots) (refuted _ (λ t. clash _ (and_both _ _ u t) s.unique))).alone)
+      (no_repeat (items_in f (object_at os i).slots) (refuted _ (λ t. clash _ (and_both _ _ u t) s.unique))))
 
   linked : (g j i f : ℕ) → is_opposite m f g ≡ true → has (slots_at os i f) j ≡ true → has (slots_at os j g) i ≡ true
   linked g j = each_slot (λ i f xs. is_opposite m f g ≡ true → has (map (value_at 0) xs) j ≡ true → has (slots_at os j g) i ≡ true) (λ i f o h. clash false h refl)

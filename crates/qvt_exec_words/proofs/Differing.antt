@@ -11,6 +11,7 @@ use Rattle.qvt_value.specs.Order.{order_of}
 use Rattle.qvt_value.proofs.KeptItems as items
 use Rattle.qvt_value.proofs.OrderOfValues.{total, exact, itself}
 use Rattle.qvt_ocl_words.specs.Lists.{same, has, count}
+use Rattle.qvt_repeats.specs.Repeats.{repeats_by}
 use Rattle.qvt_run_rules.specs.Iterators.{all_differ}
 
 abbrev one : Value → Value → ℕ
@@ -76,7 +77,7 @@ pub each_once : (vs : List Value) → all_differ vs ≡ list_all (λ v. count v 
 each_once [] = refl
 each_once (v ∷ vs) = by (has vs v) refl (each_once vs)
   where
-    by : (b : Bool) → has vs v ≡ b → all_differ vs ≡ list_all (Once vs) vs → (not b && all_differ vs) ≡ list_all (Once (v ∷ vs)) (v ∷ vs)
+    by : (b : Bool) → has vs v ≡ b → all_differ vs ≡ list_all (Once vs) vs → not (b || repeats_by same vs) ≡ list_all (Once (v ∷ vs)) (v ∷ vs)
     by true e k = sym (ap (λ b. b && list_all (Once (v ∷ vs)) vs) (not_one (count v (v ∷ vs)) (omega (arith, counted v v vs, one_itself v, some_of v vs e))))
     by false e k =
         k ∙ sym (passed v vs vs e)

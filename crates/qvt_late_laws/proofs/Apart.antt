@@ -5,7 +5,10 @@ use Rattle.qvt_base.specs.declared.numbers.Oid.{Oid}
 use Rattle.qvt_metamodel.specs.Metamodels.{Metamodels, shape_of}
 use Rattle.qvt_relation.proofs.Bools.{clash, none_left, none_right, or_none, refuted}
 use Rattle.qvt_slots.specs.Contents.{Contents}
-use Rattle.qvt_slots.specs.Repeats.{new_list, same_value, without_repeats}
+use Rattle.qvt_slots.specs.Repeats.{new_list}
+use Rattle.qvt_slots.proofs.Repeating.{same_as_object}
+use Rattle.qvt_value.specs.Kept.{is_same, firsts}
+use Rattle.qvt_value.specs.Order.{order_of}
 use Rattle.qvt_typing.specs.Accepts.{ProgramTerm}
 use Rattle.qvt_value.specs.declared.value.Value.{Obj}
 use Rattle.qvt_run_data.specs.declared.late.LateWrite.{LateWrite}
@@ -85,22 +88,22 @@ answers_are_apart p f w = sifts (weighed p f.store (map local_of w.vars) w.place
 
 -- such a list is without repeats
 
-kept_all : (o : Oid) (os : List Oid) → has_object os o ≡ false → filter (λ w. not (same_value (Obj o) w)) (map Obj os) ≡ map Obj os
+kept_all : (o : Oid) (os : List Oid) → has_object os o ≡ false → filter (λ w. not (is_same order_of (Obj o) w)) (map Obj os) ≡ map Obj os
 kept_all o [] h = refl
-kept_all o (x ∷ os) h = go (x.0 == o.0) (none_left (x.0 == o.0) _ h) (kept_all o os (none_right (x.0 == o.0) _ h))
+kept_all o (x ∷ os) h = go (is_same order_of (Obj o) (Obj x)) (same_as_object o (Obj x) ∙ none_left (x.0 == o.0) _ h) (kept_all o os (none_right (x.0 == o.0) _ h))
   where
-    go : (b : Bool) → b ≡ false → filter (λ w. not (same_value (Obj o) w)) (map Obj os) ≡ map Obj os →
-        cond (not b) (Obj x ∷ filter (λ w. not (same_value (Obj o) w)) (map Obj os)) (filter (λ w. not (same_value (Obj o) w)) (map Obj os)) ≡ Obj x ∷ map Obj os
+    go : (b : Bool) → b ≡ false → filter (λ w. not (is_same order_of (Obj o) w)) (map Obj os) ≡ map Obj os →
+        cond (not b) (Obj x ∷ filter (λ w. not (is_same order_of (Obj o) w)) (map Obj os)) (filter (λ w. not (is_same order_of (Obj o) w)) (map Obj os)) ≡ Obj x ∷ map Obj os
     go true e ih = cc
     go false e ih = ap (λ l. Obj x ∷ l) ih
 
-no_repeats : (os : List Oid) → AreApart os → without_repeats (map Obj os) ≡ map Obj os
+no_repeats : (os : List Oid) → AreApart os → firsts order_of (map Obj os) ≡ map Obj os
 no_repeats [] h = refl
-no_repeats (o ∷ os) h = ap (λ l. Obj o ∷ filter (λ w. not (same_value (Obj o) w)) l) (no_repeats os h.1) ∙ ap (λ l. Obj o ∷ l) (kept_all o os h.0)
+no_repeats (o ∷ os) h = ap (λ l. Obj o ∷ filter (λ w. not (is_same order_of (Obj o) w)) l) (no_repeats os h.1) ∙ ap (λ l. Obj o ∷ l) (kept_all o os h.0)
 
 pub as_it_is : (m : Metamodels) (f : ℕ) (os : List Oid) → AreApart os → new_list m f (map Obj os) ≡ map Obj os
 as_it_is m f os h = go (shape_of m f).unique
   where
-    go : (b : Bool) → cond b (without_repeats (map Obj os)) (map Obj os) ≡ map Obj os
+    go : (b : Bool) → cond b (firsts order_of (map Obj os)) (map Obj os) ≡ map Obj os
     go true = no_repeats os h
     go false = refl

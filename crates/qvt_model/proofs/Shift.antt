@@ -9,7 +9,11 @@ use Rattle.qvt_value.specs.declared.value.Value.{Value}
 use Rattle.qvt_relation.proofs.Bools.{or_left, or_right, or_cases, and_both, clash}
 use Rattle.qvt_slots.specs.Slots.{is_object, has}
 use Rattle.qvt_slots.specs.Types.{IsPlain}
-use Rattle.qvt_slots.specs.Repeats.{same_value, repeats}
+use Rattle.qvt_value.specs.Kept.{is_same}
+use Rattle.qvt_value.specs.Order.{order_of}
+use Rattle.qvt_repeats.proofs.Repeating.{repeats-map, repeats-alike}
+use Rattle.qvt_slots.specs.Repeats.{repeats}
+use Rattle.qvt_slots.proofs.Repeating.{same_as_object}
 use Rattle.qvt_metamodel.specs.declared.info.TypeKind.{TypeKind}
 use Rattle.qvt_metamodel.specs.declared.info.TypeKind.TheVariants.{Bool as BoolKind, Int as IntKind, Str as StrKind, Enum as EnumKind, Class as ClassKind}
 use Rattle.qvt_metamodel.specs.Metamodels.{Metamodels}
@@ -62,7 +66,7 @@ length-shift n [] = refl
 length-shift n (x ∷ xs) = ap suc (length-shift n xs)
 
 -- equal items stay equal, and others differ
-same-shift : (n : ℕ) (a b : Datum) → same_value (value_at n a) (value_at n b) ≡ same_value (value_at 0 a) (value_at 0 b)
+same-shift : (n : ℕ) (a b : Datum) → is_same order_of (value_at n a) (value_at n b) ≡ is_same order_of (value_at 0 a) (value_at 0 b)
 same-shift n (BoolDatum a) (BoolDatum b) = refl
 same-shift n (BoolDatum a) (Int b) = refl
 same-shift n (BoolDatum a) (Str b) = refl
@@ -87,15 +91,13 @@ same-shift n (Ref a) (BoolDatum b) = refl
 same-shift n (Ref a) (Int b) = refl
 same-shift n (Ref a) (Str b) = refl
 same-shift n (Ref a) (Literal b) = refl
-same-shift n (Ref a) (Ref b) = eq-shift n b a ∙ sym (eq-shift 0 b a)
-
-any-shift : (n : ℕ) (a : Datum) (xs : List Datum) → list_any (same_value (value_at n a)) (map (value_at n) xs) ≡ list_any (same_value (value_at 0 a)) (map (value_at 0) xs)
-any-shift n a [] = refl
-any-shift n a (x ∷ xs) = ap (λ b. b || list_any (same_value (value_at n a)) (map (value_at n) xs)) (same-shift n a x) ∙ ap (λ b. same_value (value_at 0 a) (value_at 0 x) || b) (any-shift n a xs)
+same-shift n (Ref a) (Ref b) = same_as_object (record { 0 = n + a }) (value_at n (Ref b)) ∙ eq-shift n b a ∙ sym (same_as_object (record { 0 = 0 + a }) (value_at 0 (Ref b)) ∙ eq-shift 0 b a)
 
 pub repeats-shift : (n : ℕ) (xs : List Datum) → repeats (map (value_at n) xs) ≡ repeats (map (value_at 0) xs)
-repeats-shift n [] = refl
-repeats-shift n (x ∷ xs) = ap (λ b. b || repeats (map (value_at n) xs)) (any-shift n x xs) ∙ ap (λ b. list_any (same_value (value_at 0 x)) (map (value_at 0) xs) || b) (repeats-shift n xs)
+repeats-shift n xs =
+    repeats-map (is_same order_of) (value_at n) xs
+    ∙ repeats-alike (λ a b. is_same order_of (value_at n a) (value_at n b)) (λ a b. is_same order_of (value_at 0 a) (value_at 0 b)) (same-shift n) xs
+    ∙ sym (repeats-map (is_same order_of) (value_at 0) xs)
 
 -- items of a type are plain values
 plain_item : (m : Metamodels) (os : List ObjectData) (n : ℕ) (k : TypeKind) (d : Datum) → IsItem m os k d → IsPlain (value_at n d)

@@ -1,7 +1,8 @@
 -- Lists of which each item is kept where it first stands, and what joins them.
-use Rattle.std.proofs.Common.{◌≡◌, ◌∙◌, ℕ, ◌+◌, ◌<◌, ◌≤◌, Bool, true, false, not, ◌||◌, cond, refl, sym, ap, List, [], ◌∷◌, ◌++◌, append-nil, append_assoc, length, take, take_all, drop, get_or}
-use Rattle.std.proofs.lemmas.List.{take_more, at_drop_more, drop_all}
+use Rattle.std.proofs.Common.{◌≡◌, ◌∙◌, ℕ, ◌+◌, ◌<◌, ◌≤◌, Bool, true, false, not, ◌||◌, cond, refl, sym, ap, List, [], ◌∷◌, ◌++◌, append-nil, append_assoc, length, take, take_all, get_or}
+use Rattle.std.proofs.lemmas.List.{take_more}
 use Rattle.std.proofs.lemmas.List.Elements.{filter-append}
+use Rattle.std.specs.List.{list_any}
 use Rattle.std.specs.Ordering.{is_eq, ordering_reverse}
 use Rattle.std.specs.declared.cmp.Ordering.{Ordering}
 use Rattle.std.specs.declared.cmp.Ordering.TheVariants.{Less, Equal, Greater}
@@ -10,7 +11,8 @@ use Rattle.qvt_value.specs.Kept.{firsts, without}
 use Rattle.qvt_value.specs.Order.{order_of}
 use Rattle.qvt_value.proofs.OrderOfValues.{total}
 use Rattle.qvt_ocl_words.specs.Lists.{same, has, lacking}
-use Rattle.qvt_ocl_lists.specs.Once.{repeats_after, repeats}
+use Rattle.qvt_repeats.specs.Repeats.{repeats_by}
+use Rattle.qvt_repeats.proofs.Repeating as general
 use Rattle.qvt_ocl_lists.proofs.ItemLists.{lacking_same}
 
 pub same_flip : (v w : Value) → same v w ≡ same w v
@@ -42,22 +44,25 @@ taken xs i x l e = take_more xs i x l ∙ ap (λ y. take i xs ++ y ∷ []) (sym 
 
 -- ---- lists in which no item equals an earlier one
 
-dropped : (xs : List Value) (i : ℕ) (x : Value) → i < length xs → x ≡ get_or xs i x → drop i xs ≡ x ∷ drop (i + 1) xs
-dropped xs i x l e = at_drop_more (λ zs. zs) xs i x l ∙ ap (λ y. y ∷ drop (i + 1) xs) (sym e)
+here : (xs : List Value) (i : ℕ) (x : Value) → x ≡ get_or xs i x → has (take i xs) x ≡ list_any (same (get_or xs i x)) (take i xs)
+here xs i x e = ap (λ y. list_any (same y) (take i xs)) e
 
-pub repeated : (xs : List Value) (i : ℕ) (x : Value) → i < length xs → x ≡ get_or xs i x → has (take i xs) x ≡ true → repeats_after (take i xs) (drop i xs) ≡ repeats xs → repeats xs ≡ true
-repeated xs i x l e h k =
-    sym k ∙ ap (repeats_after (take i xs)) (dropped xs i x l e)
-    ∙ ap (λ b. b || repeats_after (take i xs ++ x ∷ []) (drop (i + 1) xs)) h
+pub repeats_more : (xs : List Value) (i : ℕ) (x : Value) → i < length xs → x ≡ get_or xs i x → has (take i xs) x ≡ false → repeats_by same (take i xs) ≡ false → repeats_by same (take (i + 1) xs) ≡ false
+repeats_more xs i x l e h k = general.repeats_next same same_flip xs i x l k ∙ sym (here xs i x e) ∙ h
 
-pub repeats_more : (xs : List Value) (i : ℕ) (x : Value) → i < length xs → x ≡ get_or xs i x → has (take i xs) x ≡ false → repeats_after (take i xs) (drop i xs) ≡ repeats xs → repeats_after (take (i + 1) xs) (drop (i + 1) xs) ≡ repeats xs
-repeats_more xs i x l e h k =
-    ap (λ ys. repeats_after ys (drop (i + 1) xs)) (taken xs i x l e)
-    ∙ sym (ap (λ b. b || repeats_after (take i xs ++ x ∷ []) (drop (i + 1) xs)) h)
-    ∙ sym (ap (repeats_after (take i xs)) (dropped xs i x l e)) ∙ k
+pub repeated : (xs : List Value) (i : ℕ) (x : Value) → i < length xs → x ≡ get_or xs i x → has (take i xs) x ≡ true → repeats_by same (take i xs) ≡ false → repeats_by same xs ≡ true
+repeated xs i x l e h k = general.repeats_found same xs (i + 1) (general.repeats_next same same_flip xs i x l k ∙ sym (here xs i x e) ∙ h)
 
-pub none_repeated : (xs : List Value) (i : ℕ) → length xs ≤ i → repeats_after (take i xs) (drop i xs) ≡ repeats xs → repeats xs ≡ false
-none_repeated xs i l k = sym k ∙ ap (repeats_after (take i xs)) (drop_all i xs l)
+pub none_repeated : (xs : List Value) (i : ℕ) → length xs ≤ i → repeats_by same (take i xs) ≡ false → repeats_by same xs ≡ false
+none_repeated xs i l k = ap (repeats_by same) (sym (take_all i xs l)) ∙ k
+
+none_without : (x : Value) (xs : List Value) → has xs x ≡ false → without order_of x xs ≡ xs
+none_without x [] h = refl
+none_without x (y ∷ xs) h = go (same x y) h (none_without x xs)
+  where
+    go : (b : Bool) → (b || has xs x) ≡ false → (has xs x ≡ false → without order_of x xs ≡ xs) → cond (not b) (y ∷ without order_of x xs) (without order_of x xs) ≡ y ∷ xs
+    go true e ih = cc
+    go false e ih = ap (λ ys. y ∷ ys) (ih e)
 
 either_first : (a b : Bool) → (a || b) ≡ false → a ≡ false
 either_first true b h = cc
@@ -67,20 +72,12 @@ either_second : (a b : Bool) → (a || b) ≡ false → b ≡ false
 either_second true b h = cc
 either_second false b h = h
 
-kept_after : (before xs : List Value) → repeats_after before xs ≡ false → firsts order_of before ≡ before → firsts order_of (before ++ xs) ≡ before ++ xs
-kept_after before [] h k = ap (firsts order_of) (append-nil before) ∙ k ∙ sym (append-nil before)
-kept_after before (x ∷ xs) h k =
-    let one : firsts order_of (before ++ x ∷ []) ≡ before ++ x ∷ [] =
-    firsts_more before x
-    ∙ ap (λ b. cond b (firsts order_of before) (firsts order_of before ++ x ∷ [])) (either_first (has before x) (repeats_after (before ++ x ∷ []) xs) h)
-    ∙ ap (λ ys. ys ++ x ∷ []) k in
-    ap (firsts order_of) (sym (append_assoc before (x ∷ []) xs))
-    ∙ kept_after (before ++ x ∷ []) xs (either_second (has before x) (repeats_after (before ++ x ∷ []) xs) h) one
-    ∙ append_assoc before (x ∷ []) xs
-
 -- such a list keeps all
-pub different_kept : (xs : List Value) → repeats xs ≡ false → firsts order_of xs ≡ xs
-different_kept xs h = kept_after [] xs h refl
+pub different_kept : (xs : List Value) → repeats_by same xs ≡ false → firsts order_of xs ≡ xs
+different_kept [] h = refl
+different_kept (x ∷ xs) h =
+    ap (λ ys. x ∷ without order_of x ys) (different_kept xs (either_second (has xs x) (repeats_by same xs) h))
+    ∙ ap (λ ys. x ∷ ys) (none_without x xs (either_first (has xs x) (repeats_by same xs) h))
 
 -- ---- what joins a list
 
@@ -155,7 +152,7 @@ firsts_joined (x ∷ xs) ys =
     )
 
 -- what joins a list in which no item equals an earlier one
-pub joined : (known xs ys new : List Value) → repeats xs ≡ false → ((x : Value) → has known x ≡ has xs x) → new ≡ lacking known (firsts order_of ys) → xs ++ new ≡ firsts order_of (xs ++ ys)
+pub joined : (known xs ys new : List Value) → repeats_by same xs ≡ false → ((x : Value) → has known x ≡ has xs x) → new ≡ lacking known (firsts order_of ys) → xs ++ new ≡ firsts order_of (xs ++ ys)
 joined known xs ys new d h n =
     ap (λ zs. xs ++ zs) (n ∙ lacking_same known xs (firsts order_of ys) h)
     ∙ ap (λ zs. zs ++ lacking xs (firsts order_of ys)) (sym (different_kept xs d))

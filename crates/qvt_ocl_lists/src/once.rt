@@ -4,8 +4,8 @@ ghost use Rattle.std.specs.Prelude.{◌≡◌, ◌++◌, true, false, IfOk, Matc
 ghost use Rattle.qvt_value.specs.declared.value.Value.{Value};
 ghost use Rattle.qvt_value.specs.Kept.{firsts};
 ghost use Rattle.qvt_value.specs.Order.{order_of};
-ghost use Rattle.qvt_ocl_words.specs.Lists.{has, lacking};
-ghost use Rattle.qvt_ocl_lists.specs.Once.{repeats};
+ghost use Rattle.qvt_ocl_words.specs.Lists.{same, has, lacking};
+ghost use Rattle.qvt_repeats.specs.Repeats.{repeats_by};
 
 use crate::items::with_last_if;
 use crate::lookup::Lookup;
@@ -20,7 +20,7 @@ fn of_different<'a>(
     room: usize,
     items: &'a [Value],
 ) -> Result<Option<Lookup<'a>>, ListFault>
-    ensures { IfOk result (λ o. MatchOption o (repeats items.now ≡ true) (λ all. (repeats items.now ≡ false) × ((x : Value) → has all x ≡ has items.now x))) }
+    ensures { IfOk result (λ o. MatchOption o (repeats_by same items.now ≡ true) (λ all. (repeats_by same items.now ≡ false) × ((x : Value) → has all x ≡ has items.now x))) }
 {
     let mut all = Lookup::with_room(alloc, room)?;
     for item in items {
@@ -56,7 +56,7 @@ pub fn joining(
     items: &[Value],
     values: &[Value],
 ) -> Result<Option<Values>, ListFault>
-    ensures { IfOk result (λ o. MatchOption o (repeats items.now ≡ true) (λ fresh. items.now ++ fresh ≡ firsts order_of (items.now ++ values.now))) }
+    ensures { IfOk result (λ o. MatchOption o (repeats_by same items.now ≡ true) (λ fresh. items.now ++ fresh ≡ firsts order_of (items.now ++ values.now))) }
 {
     let room = items.len().saturating_add(values.len());
     match of_different(alloc, room, items)? {

@@ -10,7 +10,8 @@ use Rattle.qvt_value.specs.declared.value.Reason.TheVariants.{NullValue}
 use Rattle.qvt_value.specs.Kept.{sorted}
 use Rattle.qvt_value.specs.Limits.{built}
 use Rattle.qvt_value.specs.Order.{order_of}
-use Rattle.qvt_ocl_words.specs.Lists.{has, is_integer, is_string}
+use Rattle.qvt_repeats.specs.Repeats.{repeats_by}
+use Rattle.qvt_ocl_words.specs.Lists.{same, has, is_integer, is_string}
 use Rattle.qvt_run_data.specs.declared.exit.End.TheVariants.{OutOfFuel}
 use Rattle.qvt_run_data.specs.declared.keyed.Keyed.{Keyed}
 use Rattle.qvt_run_rules.specs.State.{Does, ◌>>=◌, ◌>>◌, pure, stop, misfit, found}
@@ -20,8 +21,7 @@ use Rattle.qvt_run_rules.specs.Sources.{items_of, present_items, collected_kind,
 
 -- no value stands in the list twice
 abbrev pub all_differ : List Value → Bool
-all_differ [] = true
-all_differ (v ∷ vs) = not (has vs v) && all_differ vs
+all_differ vs = not (repeats_by same vs)
 
 -- items by their sort keys
 abbrev pub key_order : Keyed → Keyed → Ordering

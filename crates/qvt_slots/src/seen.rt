@@ -1,9 +1,10 @@
-//! Values of slots that were noted.
+//! Values that were noted.
 
 ghost use Rattle.std.specs.Prelude.{◌≡◌, [], IfOk, OnOk, OnErr};
 ghost use Rattle.std.specs.List.{list_any};
-ghost use Rattle.qvt_slots.specs.Repeats.{same_value};
-ghost use Rattle.qvt_slots.specs.Noted.{is_of_slots, with_noted, Notes};
+ghost use Rattle.qvt_value.specs.Kept.{is_same};
+ghost use Rattle.qvt_value.specs.Order.{order_of};
+ghost use Rattle.qvt_slots.specs.Noted.{with_noted, Notes};
 
 use indexmap::IndexSet;
 use qvt_base::list_fault::ListFault;
@@ -11,7 +12,7 @@ use qvt_value::value::Value;
 use std::alloc::Global;
 use std::marker::Model;
 
-/// Values of slots that were noted, looked up by hash.
+/// Values that were noted, looked up by hash.
 pub struct Seen<'a> {
     keys: IndexSet<&'a Value>,
 }
@@ -45,34 +46,17 @@ impl<'a> Seen<'a> {
         }
     }
 
-    /// Notes a value, and tells whether an equal one was noted before. Values that stand in no slot
-    /// equal none. A refused call changes nothing.
+    /// Notes a value, and tells whether an equal one was noted before. A refused call
+    /// changes nothing.
     pub fn note(&mut self, value: &'a Value) -> Result<bool, ListFault>
-        ensures before { IfOk result (λ before. before ≡ list_any (same_value value.now) self.old) }
+        ensures before { IfOk result (λ before. before ≡ list_any (is_same order_of value.now) self.old) }
         ensures noted { OnOk result (Notes self.old self.new value.now) }
         ensures exact { OnOk result (self.new ≡ with_noted self.old value.now) }
         ensures err { OnErr result (self.new ≡ self.old) }
     {
-        if !is_of_slots(value) {
-            return Ok(false);
-        }
         match self.keys.insert(value) {
             Ok(new) => Ok(!new),
             Err(_) => Err(ListFault::NoMemory),
         }
-    }
-}
-
-/// Whether the value may stand in a slot.
-fn is_of_slots(value: &Value) -> bool
-    ensures { result ≡ is_of_slots value.now }
-{
-    match value {
-        Value::Bool(_) => true,
-        Value::Int(_) => true,
-        Value::Str(_) => true,
-        Value::Enum(_) => true,
-        Value::Obj(_) => true,
-        _ => false,
     }
 }

@@ -5,14 +5,16 @@ ghost use Rattle.std.specs.List.{list_any};
 ghost use Rattle.qvt_slots.specs.Slots.{has, is_object};
 ghost use Rattle.qvt_slots.specs.Change.{among};
 ghost use Rattle.qvt_slots.specs.Types.{IsPlain};
-ghost use Rattle.qvt_slots.specs.Repeats.{same_literal, is_bool_of, is_int_of, is_text_of, is_literal_of, same_value, repeats, without_repeats};
+ghost use Rattle.qvt_slots.specs.Repeats.{repeats};
+ghost use Rattle.qvt_value.specs.Kept.{is_same, firsts};
+ghost use Rattle.qvt_value.specs.Order.{order_of};
 
 use crate::seen::Seen;
 use qvt_base::copied::Copied;
 use qvt_base::list_fault::ListFault;
 use qvt_base::numbers::Oid;
 use qvt_base::seq::Seq;
-use qvt_value::value::{LiteralRef, Value, Values};
+use qvt_value::value::{Value, Values};
 use std::alloc::Global;
 
 /// Whether the list holds the object.
@@ -29,48 +31,6 @@ pub fn is_among(objects: &[Oid], object: Oid) -> bool
     objects.iter().any(|other| other.0 == object.0)
 }
 
-fn same_literal(a: LiteralRef, b: LiteralRef) -> bool
-    ensures { result ≡ same_literal a b }
-{
-    a.metamodel == b.metamodel && a.enumeration == b.enumeration && a.literal == b.literal
-}
-
-fn is_bool_of(truth: bool, value: &Value) -> bool
-    ensures { result ≡ is_bool_of truth value.now }
-{
-    match value {
-        Value::Bool(other) => truth == *other,
-        _ => false,
-    }
-}
-
-fn is_int_of(number: i64, value: &Value) -> bool
-    ensures { result ≡ is_int_of number value.now }
-{
-    match value {
-        Value::Int(other) => number == *other,
-        _ => false,
-    }
-}
-
-fn is_text_of(text: &str, value: &Value) -> bool
-    ensures { result ≡ is_text_of text.now value.now }
-{
-    match value {
-        Value::Str(other) => text == other.as_str(),
-        _ => false,
-    }
-}
-
-fn is_literal_of(literal: LiteralRef, value: &Value) -> bool
-    ensures { result ≡ is_literal_of literal value.now }
-{
-    match value {
-        Value::Enum(other) => same_literal(literal, *other),
-        _ => false,
-    }
-}
-
 pub fn is_object_of(object: Oid, value: &Value) -> bool
     ensures { result ≡ is_object object.0 value.now }
 {
@@ -80,31 +40,25 @@ pub fn is_object_of(object: Oid, value: &Value) -> bool
     }
 }
 
-/// Whether the values are equal, of values that stand in slots.
-pub fn same_value(a: &Value, b: &Value) -> bool
-    ensures { result ≡ same_value a.now b.now }
+/// Whether the values are equal.
+#[tactic(auto, using(qvt_value::proofs::OrderOfValues::alike))]
+fn is_same(a: &Value, b: &Value) -> bool
+    ensures { result ≡ is_same order_of a.now b.now }
 {
-    match a {
-        Value::Bool(truth) => is_bool_of(*truth, b),
-        Value::Int(number) => is_int_of(*number, b),
-        Value::Str(text) => is_text_of(text.as_str(), b),
-        Value::Enum(literal) => is_literal_of(*literal, b),
-        Value::Obj(object) => is_object_of(*object, b),
-        _ => false,
-    }
+    a == b
 }
 
 /// Whether a value of the list equals this one.
 pub fn holds_value(values: &[Value], value: &Value) -> bool
-    ensures { result ≡ list_any (λ other. same_value other value.now) values.now }
+    ensures { result ≡ list_any (λ other. is_same order_of other value.now) values.now }
 {
-    values.iter().any(|other| same_value(other, value))
+    values.iter().any(|other| is_same(other, value))
 }
 
 fn stands_in(value: &Value, values: &[Value]) -> bool
-    ensures { result ≡ list_any (same_value value.now) values.now }
+    ensures { result ≡ list_any (is_same order_of value.now) values.now }
 {
-    values.iter().any(|other| same_value(value, other))
+    values.iter().any(|other| is_same(value, other))
 }
 
 /// How many values are looked at pair by pair. More are noted by hash.
@@ -182,7 +136,7 @@ pub fn copied(alloc: Global, values: &[Value]) -> Result<Values, ListFault>
 }
 
 fn few_without_repeats(alloc: Global, values: &[Value]) -> Result<Values, ListFault>
-    ensures list { IfOk result (λ list. list ≡ without_repeats values.now) }
+    ensures list { IfOk result (λ list. list ≡ firsts order_of values.now) }
     ensures plain { IfOk result (All IsPlain) }
 {
     let mut list = Seq::new(alloc);
@@ -195,7 +149,7 @@ fn few_without_repeats(alloc: Global, values: &[Value]) -> Result<Values, ListFa
 }
 
 fn many_without_repeats(alloc: Global, values: &[Value]) -> Result<Values, ListFault>
-    ensures list { IfOk result (λ list. list ≡ without_repeats values.now) }
+    ensures list { IfOk result (λ list. list ≡ firsts order_of values.now) }
     ensures plain { IfOk result (All IsPlain) }
 {
     let mut seen = Seen::new(alloc);
@@ -210,7 +164,7 @@ fn many_without_repeats(alloc: Global, values: &[Value]) -> Result<Values, ListF
 
 /// Copies of the values, with the first of equal values kept.
 pub fn without_repeats(alloc: Global, values: &[Value]) -> Result<Values, ListFault>
-    ensures list { IfOk result (λ list. list ≡ without_repeats values.now) }
+    ensures list { IfOk result (λ list. list ≡ firsts order_of values.now) }
     ensures plain { IfOk result (All IsPlain) }
 {
     if values.len() <= FEW {
@@ -221,7 +175,7 @@ pub fn without_repeats(alloc: Global, values: &[Value]) -> Result<Values, ListFa
 
 /// The new list of a slot: in a unique one the first of equal values is kept.
 pub fn new_list(alloc: Global, unique: bool, values: &[Value]) -> Result<Values, ListFault>
-    ensures list { IfOk result (λ list. list ≡ (if unique then without_repeats values.now else values.now)) }
+    ensures list { IfOk result (λ list. list ≡ (if unique then firsts order_of values.now else values.now)) }
     ensures plain { IfOk result (All IsPlain) }
 {
     if unique {

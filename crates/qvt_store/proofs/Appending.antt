@@ -9,7 +9,9 @@ use Rattle.qvt_relation.proofs.Bools.{or_left}
 use Rattle.qvt_slots.specs.Change.{oid_of, is_new_object, objects_beyond, is_here, slot_elsewhere}
 use Rattle.qvt_slots.specs.Contents.{Contents, slot_of, extent_of, is_model}
 use Rattle.qvt_slots.specs.Types.{is_of_type, IsAssignable}
-use Rattle.qvt_slots.specs.Repeats.{same_value, repeats, without_repeats, new_list}
+use Rattle.qvt_value.specs.Kept.{is_same, firsts}
+use Rattle.qvt_value.specs.Order.{order_of}
+use Rattle.qvt_slots.specs.Repeats.{repeats, new_list}
 use Rattle.qvt_slots.specs.Assign.{is_elsewhere, crosses, change_to, store_after}
 use Rattle.qvt_store.specs.Ready.{IsKnown}
 use Rattle.qvt_slots.proofs.Objects.{none_beyond_all, has-append}
@@ -47,24 +49,24 @@ list_assignable s o p us known can = record {
 
 -- the new list, by the value's place
 pub plain_last : (m : Metamodels) (p : ℕ) (vs : List Value) → (shape_of m p).unique ≡ false → new_list m p vs ≡ vs
-plain_last m p vs u = ap (λ b. cond b (without_repeats vs) vs) u
+plain_last m p vs u = ap (λ b. cond b (firsts order_of vs) vs) u
 
-pub new_last : (m : Metamodels) (p : ℕ) (old : List Value) (v : Value) → (shape_of m p).unique ≡ true → repeats old ≡ false → list_any (λ w. same_value w v) old ≡ false → new_list m p (old ++ v ∷ []) ≡ old ++ v ∷ []
-new_last m p old v u distinct absent = ap (λ b. cond b (without_repeats (old ++ v ∷ [])) (old ++ v ∷ [])) u ∙ without-push old v
-    ∙ ap (λ b. cond b (without_repeats old) (without_repeats old ++ v ∷ [])) absent ∙ ap (λ l. l ++ v ∷ []) (without_same old distinct)
+pub new_last : (m : Metamodels) (p : ℕ) (old : List Value) (v : Value) → (shape_of m p).unique ≡ true → repeats old ≡ false → list_any (λ w. is_same order_of w v) old ≡ false → new_list m p (old ++ v ∷ []) ≡ old ++ v ∷ []
+new_last m p old v u distinct absent = ap (λ b. cond b (firsts order_of (old ++ v ∷ [])) (old ++ v ∷ [])) u ∙ without-push old v
+    ∙ ap (λ b. cond b (firsts order_of old) (firsts order_of old ++ v ∷ [])) absent ∙ ap (λ l. l ++ v ∷ []) (without_same old distinct)
 
-pub new_none : (m : Metamodels) (p : ℕ) (old : List Value) (v : Value) → (shape_of m p).unique ≡ true → repeats old ≡ false → list_any (λ w. same_value w v) old ≡ true → new_list m p (old ++ v ∷ []) ≡ old
-new_none m p old v u distinct there = ap (λ b. cond b (without_repeats (old ++ v ∷ [])) (old ++ v ∷ [])) u ∙ without-push old v
-    ∙ ap (λ b. cond b (without_repeats old) (without_repeats old ++ v ∷ [])) there ∙ without_same old distinct
+pub new_none : (m : Metamodels) (p : ℕ) (old : List Value) (v : Value) → (shape_of m p).unique ≡ true → repeats old ≡ false → list_any (λ w. is_same order_of w v) old ≡ true → new_list m p (old ++ v ∷ []) ≡ old
+new_none m p old v u distinct there = ap (λ b. cond b (firsts order_of (old ++ v ∷ [])) (old ++ v ∷ [])) u ∙ without-push old v
+    ∙ ap (λ b. cond b (firsts order_of old) (firsts order_of old ++ v ∷ [])) there ∙ without_same old distinct
 
 pub crosses-push : (s : Contents) (o : ℕ) (vs : List Value) (v : Value) → (is_model s (extent_of s o) && (list_any (is_elsewhere s o) vs || is_elsewhere s o v)) ≡ crosses s o (vs ++ v ∷ [])
 crosses-push s o vs v = ap (λ b. is_model s (extent_of s o) && b) (sym (any-push (is_elsewhere s o) vs v))
 
 -- the new list, by those of the values that the slot does not hold
-pub new_more : (m : Metamodels) (p : ℕ) (old us news fresh : List Value) → (shape_of m p).unique ≡ true → repeats old ≡ false → news ≡ without_repeats us →
-    fresh ≡ filter (λ v. not (list_any (λ w. same_value w v) old)) news → new_list m p (old ++ us) ≡ old ++ fresh
-new_more m p old us news fresh u distinct first rest = ap (λ b. cond b (without_repeats (old ++ us)) (old ++ us)) u ∙ without-append old us distinct
-    ∙ ap (λ l. old ++ filter (λ v. not (list_any (λ w. same_value w v) old)) l) (sym first) ∙ ap (λ l. old ++ l) (sym rest)
+pub new_more : (m : Metamodels) (p : ℕ) (old us news fresh : List Value) → (shape_of m p).unique ≡ true → repeats old ≡ false → news ≡ firsts order_of us →
+    fresh ≡ filter (λ v. not (list_any (λ w. is_same order_of w v) old)) news → new_list m p (old ++ us) ≡ old ++ fresh
+new_more m p old us news fresh u distinct first rest = ap (λ b. cond b (firsts order_of (old ++ us)) (old ++ us)) u ∙ without-append old us distinct
+    ∙ ap (λ l. old ++ filter (λ v. not (list_any (λ w. is_same order_of w v) old)) l) (sym first) ∙ ap (λ l. old ++ l) (sym rest)
 
 pub crosses-append : (s : Contents) (o : ℕ) (vs us : List Value) → (is_model s (extent_of s o) && (list_any (is_elsewhere s o) vs || list_any (is_elsewhere s o) us)) ≡ crosses s o (vs ++ us)
 crosses-append s o vs us = ap (λ b. is_model s (extent_of s o) && b) (sym (any-append (is_elsewhere s o) vs us))

@@ -17,7 +17,9 @@ use Rattle.qvt_slots.specs.Change.{Change, objects_beyond, among}
 use Rattle.qvt_slots.specs.Slots.{object_in, passes, is_object, has}
 use Rattle.qvt_slots.specs.Contents.{Contents, slot_of, extent_of, is_model}
 use Rattle.qvt_slots.specs.Types.{IsAssignable, IsAttributeChange}
-use Rattle.qvt_slots.specs.Repeats.{without_repeats, repeats, new_list}
+use Rattle.qvt_value.specs.Kept.{firsts}
+use Rattle.qvt_value.specs.Order.{order_of}
+use Rattle.qvt_slots.specs.Repeats.{repeats, new_list}
 use Rattle.qvt_slots.specs.Assign.{change_to, is_beyond, is_elsewhere, crosses, store_after, assign}
 use Rattle.qvt_store.specs.Draft.{drafted, IsDraft, overfills_elsewhere, is_overfilling, AddsLive, RemovesHeld, IsAllowed, IsEarlyFault}
 use Rattle.qvt_slots.specs.Walk.{ClosesCycle, by_items, by_end}
@@ -83,7 +85,7 @@ module _ (s : Contents) (o : Oid) (p : FeatureNo) (vs items : List Value) (added
     pub items_same : items ≡ vs
     items_same = new ∙ go (shape_of s.metas p.0).unique vs plain.few
       where
-        go : (b : Bool) (l : List Value) → length l ≤ 1 → cond b (without_repeats l) l ≡ l
+        go : (b : Bool) (l : List Value) → length l ≤ 1 → cond b (firsts order_of l) l ≡ l
         go true [] h = refl
         go true (v ∷ []) h = refl
         go true (v ∷ w ∷ l) h = absurd (omega arith)

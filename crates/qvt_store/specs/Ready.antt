@@ -11,7 +11,9 @@ use Rattle.qvt_slots.specs.Contents.{Contents, is_slot, is_writable, slot_of}
 use Rattle.qvt_slots.specs.Types.{is_of_type, AreTyped, IsAssignable}
 use Rattle.qvt_slots.specs.Slots.{Inside}
 use Rattle.qvt_metamodel.specs.WellFormed.{IsWellFormed}
-use Rattle.qvt_slots.specs.Repeats.{repeats, same_value, new_list}
+use Rattle.qvt_value.specs.Kept.{is_same}
+use Rattle.qvt_value.specs.Order.{order_of}
+use Rattle.qvt_slots.specs.Repeats.{repeats, new_list}
 use Rattle.qvt_slots.specs.Assign.{is_beyond, crosses, change_to, store_after}
 use Rattle.qvt_store_laws.specs.Law.{IsFit, FitsSingle}
 use Rattle.qvt_store.specs.Draft.{drafted, IsDraft}
@@ -31,7 +33,7 @@ pub record Ready (s : Contents) (d : Draft) (items : List Value) (ws : List Writ
 
 -- no value of the list equals this one
 abbrev pub is_absent : List Value → Value → Bool
-is_absent vs v = not (list_any (λ w. same_value w v) vs)
+is_absent vs v = not (list_any (λ w. is_same order_of w v) vs)
 
 -- what every store keeps, and a change relies on
 pub record IsKnown (s : Contents) : Type 0 where

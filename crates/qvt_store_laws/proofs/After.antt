@@ -16,7 +16,9 @@ use Rattle.qvt_slots.specs.Slots.{has, object_in, passes}
 use Rattle.qvt_slots.specs.Change.{Change, object_value, is_here, is_added, gains, keeps, with_end, slot_after}
 use Rattle.qvt_slots.specs.Contents.{Contents, Instance, no_instance, object_at, class_of, extent_of, is_live, is_slot, list_of, slot_of}
 use Rattle.qvt_slots.specs.Types.{is_of_kind, is_of_type, IsAssignable}
-use Rattle.qvt_slots.specs.Repeats.{new_list, without_repeats, same_value}
+use Rattle.qvt_value.specs.Kept.{is_same, firsts}
+use Rattle.qvt_value.specs.Order.{order_of}
+use Rattle.qvt_slots.specs.Repeats.{new_list}
 use Rattle.qvt_slots.specs.Assign.{instance_after, instances_after, store_after, change_to}
 use Rattle.qvt_store_laws.specs.Law.{HasDifferences}
 use Rattle.qvt_store_laws.specs.Law.{IsFit}
@@ -54,14 +56,14 @@ all-filter test keep (v ∷ vs) all = go (keep v) (all-filter test keep vs (and_
     go true ih = and_both _ _ (and_left _ _ all) ih
     go false ih = ih
 
-all-without : (test : Value → Bool) (vs : List Value) → list_all test vs ≡ true → list_all test (without_repeats vs) ≡ true
+all-without : (test : Value → Bool) (vs : List Value) → list_all test vs ≡ true → list_all test (firsts order_of vs) ≡ true
 all-without test [] all = refl
-all-without test (v ∷ vs) all = and_both _ _ (and_left _ _ all) (all-filter test (λ w. not (same_value v w)) (without_repeats vs) (all-without test vs (and_right (test v) _ all)))
+all-without test (v ∷ vs) all = and_both _ _ (and_left _ _ all) (all-filter test (λ w. not (is_same order_of v w)) (firsts order_of vs) (all-without test vs (and_right (test v) _ all)))
 
 pub all-new_list : (m : Metamodels) (p : ℕ) (test : Value → Bool) (vs : List Value) → list_all test vs ≡ true → list_all test (new_list m p vs) ≡ true
 all-new_list m p test vs all = go (shape_of m p).unique
   where
-    go : (b : Bool) → list_all test (cond b (without_repeats vs) vs) ≡ true
+    go : (b : Bool) → list_all test (cond b (firsts order_of vs) vs) ≡ true
     go true = all-without test vs all
     go false = all
 

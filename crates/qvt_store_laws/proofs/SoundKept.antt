@@ -19,7 +19,9 @@ use Rattle.qvt_slots.specs.Slots.{Slots, has, OppositesAgree, OneContainer, Insi
 use Rattle.qvt_slots.specs.Change.{Change, object_value, is_here, among, gains, keeps, with_object, with_end, slot_after}
 use Rattle.qvt_slots.specs.Contents.{Contents, AreNamed, class_of, extent_of, extent_at, is_extent, is_live, is_model, is_named, slot_of}
 use Rattle.qvt_slots.specs.Types.{is_of_type, AreTyped, IsPlain, IsAssignable}
-use Rattle.qvt_slots.specs.Repeats.{repeats, same_value, without_repeats, new_list, AreUnique}
+use Rattle.qvt_value.specs.Kept.{is_same, firsts}
+use Rattle.qvt_value.specs.Order.{order_of}
+use Rattle.qvt_slots.specs.Repeats.{repeats, new_list, AreUnique}
 use Rattle.qvt_slots.specs.Assign.{change_to, change_of, is_beyond, is_overfull, overfills_end, is_too_many, is_cyclic, is_read_only, crosses, refusal_of, store_after, ok_unless, assign}
 use Rattle.qvt_store_laws.specs.Law.{HasDifferences, FitsSingle}
 use Rattle.qvt_store_laws.specs.Sound.{IsClassFor, Sound, AssignKeepsSound, AppendKeepsSound, WriteKeepsSound}
@@ -91,11 +93,11 @@ end_fits c (Some q) x f e h = subst (λ k. is_overfull c x k ≡ false) ((Decide
 plain-new_list : (m : Metamodels) (p : ℕ) (vs : List Value) → All IsPlain vs → All IsPlain (new_list m p vs)
 plain-new_list m p vs all = go (shape_of m p).unique
   where
-    without : (vs : List Value) → All IsPlain vs → All IsPlain (without_repeats vs)
+    without : (vs : List Value) → All IsPlain vs → All IsPlain (firsts order_of vs)
     without [] all = all
-    without (v ∷ vs) all = All-cons IsPlain v _ (All-head IsPlain v vs all) (All-filter (λ w. not (same_value v w)) IsPlain (without_repeats vs) (without vs (All-tail IsPlain v vs all)))
+    without (v ∷ vs) all = All-cons IsPlain v _ (All-head IsPlain v vs all) (All-filter (λ w. not (is_same order_of v w)) IsPlain (firsts order_of vs) (without vs (All-tail IsPlain v vs all)))
 
-    go : (b : Bool) → All IsPlain (cond b (without_repeats vs) vs)
+    go : (b : Bool) → All IsPlain (cond b (firsts order_of vs) vs)
     go true = without vs all
     go false = all
 

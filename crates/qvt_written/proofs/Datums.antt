@@ -2,24 +2,26 @@
 use Rattle.std.proofs.Common.{◌≡◌, ℕ, ◌+◌, ◌<◌, ◌≤◌, Bool, true, false, ◌==◌, ◌&&◌, cond, inl, inr, refl, sym, ap, ◌∙◌, subst, List, [], ◌∷◌, ◌++◌, map, length, arith}
 use Rattle.std.specs.Prelude.{⊤, Option, Some, None, option_map, slice_index_or}
 use Rattle.std.specs.List.{list_any, filter_map, cons_option, AllByRecursion}
-use Rattle.std.proofs.Math.Bool.{beq}
-use Rattle.std.proofs.lemmas.Bool.Decides.{Decides-eqb, Decides-int_eq}
-use Rattle.std.proofs.lemmas.Slice.Eq.{bytes_eq-Decides}
+use Rattle.std.proofs.lemmas.Bool.Decides.{Decides-eqb}
 use Rattle.std.proofs.lemmas.List.Quantifiers.{position-Some}
-use Rattle.qvt_value.specs.declared.value.LiteralRef.{LiteralRef}
+use Rattle.qvt_repeats.specs.Repeats.{repeats_by}
+use Rattle.qvt_repeats.proofs.Repeating.{repeats-map, repeats-fewer}
+use Rattle.qvt_value.specs.Kept.{is_same}
+use Rattle.qvt_value.specs.Order.{order_of}
 use Rattle.qvt_value.specs.declared.value.Value.{Value}
 use Rattle.qvt_value.specs.declared.value.Value.TheVariants.{Bool as BoolValue, Int as IntValue, Str as StrValue, Enum as EnumValue, Obj}
-use Rattle.qvt_relation.proofs.Bools.{and_left, and_right, and_both, or_cases, or_left, or_right, or_none, or_false, none_left, none_right, clash, refuted}
+use Rattle.qvt_relation.proofs.Bools.{or_cases, or_left, or_right, or_false, none_left, none_right, clash, refuted}
 use Rattle.qvt_cycle.specs.Successors.{among, how_often}
 use Rattle.qvt_cycle.proofs.Visits.{among-joined}
 use Rattle.qvt_slots.specs.Slots.{is_object, has}
-use Rattle.qvt_slots.specs.Repeats.{same_literal, same_value, repeats}
+use Rattle.qvt_slots.specs.Repeats.{repeats}
+use Rattle.qvt_slots.proofs.Repeating.{same_itself, any_same_object}
 use Rattle.qvt_model.specs.declared.data.Datum.{Datum}
 use Rattle.qvt_model.specs.declared.data.Datum.TheVariants.{Bool as BoolDatum, Int, Str, Literal, Ref}
 use Rattle.qvt_model.specs.Extents.{place_of, datum_in}
-use Rattle.qvt_model.proofs.Lists.{All-push}
 use Rattle.qvt_json.proofs.Ordered.{some-injective}
-use Rattle.qvt_conform.specs.Items.{same_item, repeats_after, is_ref}
+use Rattle.qvt_conform.specs.Items.{same_item, is_ref}
+use Rattle.qvt_conform.proofs.SameItems.{same_is}
 use Rattle.qvt_conform.specs.Containment.{refs_of, refs}
 
 abbrev pub back : (ℕ → ℕ) → Datum → Value
@@ -37,24 +39,6 @@ IsWithin n (Str t) = ⊤
 IsWithin n (Literal l) = ⊤
 IsWithin n (Ref i) = i < n
 
-same_bool : (a b : Bool) → beq a b ≡ true → beq b a ≡ true
-same_bool true true h = h
-same_bool true false h = h
-same_bool false true h = h
-same_bool false false h = h
-
-turned : (x y : ℕ) → (x == y) ≡ true → (y == x) ≡ true
-turned x y h = (Decides-eqb y x).1 (sym ((Decides-eqb x y).0 h))
-
-same_literals : (a b : LiteralRef) → same_literal a b ≡ true → same_value (EnumValue b) (EnumValue a) ≡ true
-same_literals a b h =
-    let first = and_left ((a.metamodel == b.metamodel) && (a.enumeration == b.enumeration)) (a.literal == b.literal) h in
-    and_both ((b.metamodel == a.metamodel) && (b.enumeration == a.enumeration)) (b.literal == a.literal)
-    (and_both (b.metamodel == a.metamodel) (b.enumeration == a.enumeration)
-    (turned a.metamodel b.metamodel (and_left (a.metamodel == b.metamodel) (a.enumeration == b.enumeration) first))
-    (turned a.enumeration b.enumeration (and_right (a.metamodel == b.metamodel) (a.enumeration == b.enumeration) first)))
-    (turned a.literal b.literal (and_right ((a.metamodel == b.metamodel) && (a.enumeration == b.enumeration)) (a.literal == b.literal) h))
-
 pub count-app : (y : ℕ) (xs ys : List ℕ) → how_often y (xs ++ ys) ≡ how_often y xs + how_often y ys
 count-app y [] ys = let q : how_often y ys ≡ 0 + how_often y ys = omega arith in q
 count-app y (x ∷ xs) ys = let r : how_often y (xs ++ ys) ≡ how_often y xs + how_often y ys = count-app y xs ys in go (cond (x == y) 1 0) r
@@ -69,56 +53,13 @@ absent (x ∷ xs) y n =
     subst (λ b. cond b 1 0 + how_often y xs ≡ 0) (sym (none_left (x == y) (among xs y) n)) (let q : 0 + how_often y xs ≡ 0 = omega (arith, r) in q)
 
 module _ (at : ℕ → ℕ) where
-  same_values : (a b : Datum) → same_item a b ≡ true → same_value (back at b) (back at a) ≡ true
-  same_values (BoolDatum a) (BoolDatum b) h = same_bool a b h
-  same_values (BoolDatum a) (Int b) h = h
-  same_values (BoolDatum a) (Str b) h = h
-  same_values (BoolDatum a) (Literal b) h = h
-  same_values (BoolDatum a) (Ref b) h = h
-  same_values (Int a) (BoolDatum b) h = h
-  same_values (Int a) (Int b) h = (Decides-int_eq b a).1 (sym ((Decides-int_eq a b).0 h))
-  same_values (Int a) (Str b) h = h
-  same_values (Int a) (Literal b) h = h
-  same_values (Int a) (Ref b) h = h
-  same_values (Str a) (BoolDatum b) h = h
-  same_values (Str a) (Int b) h = h
-  same_values (Str a) (Str b) h = (bytes_eq-Decides b a).1 (sym ((bytes_eq-Decides a b).0 h))
-  same_values (Str a) (Literal b) h = h
-  same_values (Str a) (Ref b) h = h
-  same_values (Literal a) (BoolDatum b) h = h
-  same_values (Literal a) (Int b) h = h
-  same_values (Literal a) (Str b) h = h
-  same_values (Literal a) (Literal b) h = same_literals a b h
-  same_values (Literal a) (Ref b) h = h
-  same_values (Ref a) (BoolDatum b) h = h
-  same_values (Ref a) (Int b) h = h
-  same_values (Ref a) (Str b) h = h
-  same_values (Ref a) (Literal b) h = h
-  same_values (Ref a) (Ref b) h = (Decides-eqb (at a) (at b)).1 (ap at ((Decides-eqb a b).0 h))
-
   -- ---- repeats
 
-  unlike : (before : List Datum) (d : Datum) (ds : List Datum) → AllByRecursion (λ b. list_any (same_value (back at b)) (map (back at) (d ∷ ds)) ≡ false) before → list_any (same_item d) before ≡ false
-  unlike [] d ds h = refl
-  unlike (b ∷ before) d ds h =
-      or_none (same_item d b) (list_any (same_item d) before)
-      (refuted (same_item d b) (λ t. clash (same_value (back at b) (back at d)) (same_values d b t) (none_left (same_value (back at b) (back at d)) (list_any (same_value (back at b)) (map (back at) ds)) h.0)))
-      (unlike before d ds h.1)
+  same_values : (a b : Datum) → same_item a b ≡ true → is_same order_of (back at a) (back at b) ≡ true
+  same_values a b h = subst (λ d. is_same order_of (back at a) (back at d) ≡ true) (same_is a b h) (same_itself (back at a))
 
-  behind : (before : List Datum) (d : Datum) (ds : List Datum) → AllByRecursion (λ b. list_any (same_value (back at b)) (map (back at) (d ∷ ds)) ≡ false) before → AllByRecursion (λ b. list_any (same_value (back at b)) (map (back at) ds) ≡ false) before
-  behind [] d ds h = tt
-  behind (b ∷ before) d ds h = (none_right (same_value (back at b) (back at d)) (list_any (same_value (back at b)) (map (back at) ds)) h.0, behind before d ds h.1)
-
-  no_repeat_after : (before ds : List Datum) → AllByRecursion (λ b. list_any (same_value (back at b)) (map (back at) ds) ≡ false) before → repeats (map (back at) ds) ≡ false → repeats_after before ds ≡ false
-  no_repeat_after before [] h r = refl
-  no_repeat_after before (d ∷ ds) h r =
-      let alone = none_left (list_any (same_value (back at d)) (map (back at) ds)) (repeats (map (back at) ds)) r in
-      or_none (list_any (same_item d) before) (repeats_after (before ++ d ∷ []) ds) (unlike before d ds h)
-      (no_repeat_after (before ++ d ∷ []) ds (All-push (λ b. list_any (same_value (back at b)) (map (back at) ds) ≡ false) before d (behind before d ds h) alone)
-      (none_right (list_any (same_value (back at d)) (map (back at) ds)) (repeats (map (back at) ds)) r))
-
-  pub no_repeat : (ds : List Datum) → repeats (map (back at) ds) ≡ false → repeats_after [] ds ≡ false
-  no_repeat ds r = no_repeat_after [] ds tt r
+  pub no_repeat : (ds : List Datum) → repeats (map (back at) ds) ≡ false → repeats_by same_item ds ≡ false
+  no_repeat ds r = repeats-fewer same_item (λ a b. is_same order_of (back at a) (back at b)) same_values ds (sym (repeats-map (is_same order_of) (back at) ds) ∙ r)
 
   -- ---- references
 
@@ -140,8 +81,8 @@ module _ (at : ℕ → ℕ) where
   pub once : (ds : List Datum) (j : ℕ) → repeats (map (back at) ds) ≡ false → how_often j (refs ds) ≤ 1
   once [] j r = omega arith
   once (d ∷ ds) j r =
-      by d (none_left (list_any (same_value (back at d)) (map (back at) ds)) (repeats (map (back at) ds)) r)
-      (once ds j (none_right (list_any (same_value (back at d)) (map (back at) ds)) (repeats (map (back at) ds)) r))
+      by d (none_left (list_any (is_same order_of (back at d)) (map (back at) ds)) (repeats (map (back at) ds)) r)
+      (once ds j (none_right (list_any (is_same order_of (back at d)) (map (back at) ds)) (repeats (map (back at) ds)) r))
     where
       at_ref : (i : ℕ) → has (map (back at) ds) (at i) ≡ false → how_often j (refs ds) ≤ 1 → (b : Bool) → (i == j) ≡ b → cond b 1 0 + how_often j (refs ds) ≤ 1
       at_ref i n rest true e =
@@ -149,12 +90,12 @@ module _ (at : ℕ → ℕ) where
           let q : 1 + how_often j (refs ds) ≤ 1 = omega (arith, none) in q
       at_ref i n rest false e = let q : 0 + how_often j (refs ds) ≤ 1 = omega (arith, rest) in q
 
-      by : (d : Datum) → list_any (same_value (back at d)) (map (back at) ds) ≡ false → how_often j (refs ds) ≤ 1 → how_often j (refs (d ∷ ds)) ≤ 1
+      by : (d : Datum) → list_any (is_same order_of (back at d)) (map (back at) ds) ≡ false → how_often j (refs ds) ≤ 1 → how_often j (refs (d ∷ ds)) ≤ 1
       by (BoolDatum b) n rest = rest
       by (Int z) n rest = rest
       by (Str t) n rest = rest
       by (Literal l) n rest = rest
-      by (Ref i) n rest = at_ref i n rest (i == j) refl
+      by (Ref i) n rest = at_ref i (sym (any_same_object (record { 0 = at i }) (map (back at) ds)) ∙ n) rest (i == j) refl
 
   module _ (n : ℕ) (apart : (i k : ℕ) → i < n → k < n → at i ≡ at k → i ≡ k) where
     ref_there : (i : ℕ) → i < n → (d : Datum) → IsWithin n d → is_object (at i) (back at d) ≡ true → is_ref i d ≡ true

@@ -36,8 +36,8 @@ use Rattle.qvt_model.proofs.RunIds.{none}
 use Rattle.qvt_conform.specs.declared.fault.ConformFault.{ConformFault}
 use Rattle.qvt_conform.specs.declared.fault.ConformFault.TheVariants.{Abstract, Bounds, NotUnique, Opposite, TwoContainers, ContainmentCycle}
 use Rattle.qvt_conform.specs.declared.fault.LowFault.{LowFault}
-use Rattle.qvt_conform.specs.Items.{is_at_most, is_within, is_ref, lacks, lack_opposite}
-use Rattle.qvt_conform.specs.Items as item
+use Rattle.qvt_conform.specs.Items.{same_item, is_at_most, is_within, is_ref, lacks, lack_opposite}
+use Rattle.qvt_repeats.specs.Repeats.{repeats_by}
 use Rattle.qvt_conform.specs.Containment.{contents}
 use Rattle.qvt_conform.specs.Conformance.{fault_if, feature_fault, features_fault, containment_fault, object_fault, faults_from, conform_fault}
 use Rattle.qvt_conform.specs.LowerBounds.{is_low, low_feature, low_object, low_of}
@@ -198,8 +198,8 @@ module _ (s : Contents) (e : ℕ) (store : IsStore s) (sound : Sound s) (model :
       (le-leb (shape_of m f).lower (length (slot_of s (at i) f)) (ltb-false (length (slot_of s (at i) f)) (shape_of m f).lower (lower i f l h)))
       (at_most (length (slot_of s (at i) f)) (shape_of m f).upper (sound.parts.bounds (at i) f)))
 
-  is_unique : (i f : ℕ) → i < length os → ((shape_of m f).unique && item.repeats (items_in f (object_at os i).slots)) ≡ false
-  is_unique i f l = and_false (shape_of m f).unique (item.repeats (items_in f (object_at os i).slots)) (λ u.
+  is_unique : (i f : ℕ) → i < length os → ((shape_of m f).unique && repeats_by same_item (items_in f (object_at os i).slots)) ≡ false
+  is_unique i f l = and_false (shape_of m f).unique (repeats_by same_item (items_in f (object_at os i).slots)) (λ u.
       no_repeat at (items_in f (object_at os i).slots) (ap repeats (shows i f l) ∙ sound.parts.unique.unique (at i) f u))
 
   -- each object that it holds holds it
@@ -233,10 +233,10 @@ module _ (s : Contents) (e : ℕ) (store : IsStore s) (sound : Sound s) (model :
       let o : ObjectData = object_at os i in
       let ds : List Datum = items_in f.0 o.slots in
       both_none (fault_if (not (is_within (shape_of m f.0) (length ds))) (Bounds o.id (feature_at m f.0).name))
-      (or_next (fault_if ((shape_of m f.0).unique && item.repeats ds) (NotUnique o.id (feature_at m f.0).name)) (fault_if (lack_opposite (opposite m f.0) os i ds) (Opposite o.id (feature_at m f.0).name)))
+      (or_next (fault_if ((shape_of m f.0).unique && repeats_by same_item ds) (NotUnique o.id (feature_at m f.0).name)) (fault_if (lack_opposite (opposite m f.0) os i ds) (Opposite o.id (feature_at m f.0).name)))
       (unless (not (is_within (shape_of m f.0) (length ds))) (Bounds o.id (feature_at m f.0).name) (not_of_true (is_within (shape_of m f.0) (length ds)) (is_bounded i f.0 l h)))
-      (both_none (fault_if ((shape_of m f.0).unique && item.repeats ds) (NotUnique o.id (feature_at m f.0).name)) (fault_if (lack_opposite (opposite m f.0) os i ds) (Opposite o.id (feature_at m f.0).name))
-      (unless ((shape_of m f.0).unique && item.repeats ds) (NotUnique o.id (feature_at m f.0).name) (is_unique i f.0 l))
+      (both_none (fault_if ((shape_of m f.0).unique && repeats_by same_item ds) (NotUnique o.id (feature_at m f.0).name)) (fault_if (lack_opposite (opposite m f.0) os i ds) (Opposite o.id (feature_at m f.0).name))
+      (unless ((shape_of m f.0).unique && repeats_by same_item ds) (NotUnique o.id (feature_at m f.0).name) (is_unique i f.0 l))
       (unless (lack_opposite (opposite m f.0) os i ds) (Opposite o.id (feature_at m f.0).name) (opposites i f.0 l (opposite m f.0) refl)))
 
   no_features_fault : (i : ℕ) → i < length os → (fs : List FeatureNo) → AllByRecursion (λ (f : FeatureNo). has_feature m (class_of s (at i)) f.0 ≡ true) fs → features_fault m os i (object_at os i) fs ≡ None

@@ -3,7 +3,9 @@
 ghost use Rattle.std.specs.Prelude.{◌≡◌, ◌≢◌, ◌++◌, ◌∷◌, [], Ok, Err, IsTrue, IsFalse, IfOk, IfErr, OnOk, OnErr};
 ghost use Rattle.qvt_slots.specs.Contents.{slot_of};
 ghost use Rattle.std.specs.List.{list_any};
-ghost use Rattle.qvt_slots.specs.Repeats.{new_list, same_value, AreUnique};
+ghost use Rattle.qvt_value.specs.Kept.{is_same};
+ghost use Rattle.qvt_value.specs.Order.{order_of};
+ghost use Rattle.qvt_slots.specs.Repeats.{new_list, AreUnique};
 ghost use Rattle.qvt_slots.specs.Assign.{append, crosses, change_to, store_after};
 ghost use Rattle.qvt_slots.specs.Types.{IsAssignable};
 ghost use Rattle.qvt_slots.specs.Change.{is_linked, objects_beyond};
@@ -221,8 +223,9 @@ impl Store {
     }
 
     /// Whether the slot holds a value equal to this one.
+    #[tactic(auto, using(qvt_slots::proofs::Repeating::has_equal))]
     pub(super) fn has_value(&self, object: Oid, feature: FeatureNo, value: &Value) -> bool
-        ensures { result ≡ list_any (λ other. same_value other value.now) (slot_of self.now object.0 feature.0) }
+        ensures { result ≡ list_any (λ other. is_same order_of other value.now) (slot_of self.now object.0 feature.0) }
     {
         match value {
             Value::Obj(item) => self.holds_item(object, feature, *item),

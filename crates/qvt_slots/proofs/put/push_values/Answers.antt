@@ -1,4 +1,4 @@
-use Rattle.std.proofs.Common.{◌∙◌, ◌++◌, ◌∷◌, [], refl, sym, ap, List}
+use Rattle.std.proofs.Common.{◌∙◌, ◌++◌, refl, sym, ap, List}
 use Rattle.std.specs.Prelude.{slice_index_or}
 use Rattle.qvt_value.specs.declared.value.Value.{Value}
 use Rattle.qvt_slots.proofs.Cells.{put_is, slot-cell}

@@ -4,7 +4,8 @@ use Rattle.std.specs.List.{list_any}
 use Rattle.std.proofs.lemmas.List.Elements.{All-push}
 use Rattle.qvt_value.specs.declared.value.Value.{Value}
 use Rattle.qvt_slots.specs.Types.{IsPlain}
-use Rattle.qvt_slots.specs.Repeats.{same_value}
+use Rattle.qvt_value.specs.Kept.{is_same}
+use Rattle.qvt_value.specs.Order.{order_of}
 use Rattle.qvt_slots.proofs.Repeating.{without_step}
 use Rattle.qvt_slots.proofs.values.few_without_repeats.Goals as goal
 use Rattle.qvt_slots.proofs.values.few_without_repeats.Goals.{then-not-holds_value+in_ok-plain_copy+in_ok-push, else-not-holds_value}
@@ -12,7 +13,7 @@ use Rattle.qvt_slots.proofs.values.few_without_repeats.Goals.{then-not-holds_val
 pub loop-value-preserved : goal.loop-value-preserved
 loop-value-preserved c = record {
   kept = without_step c.args.values.now c.loop-value.value-index c.value-item.result c.loop-value.list c.if-not-holds_value.list c.holds_value.result c.loop-value-test.true c.loop-value.invariant.kept
-      (c.holds_value.ensures ∙ ap (λ l. list_any (λ w. same_value w c.value-item.result) l) c.as_slice.ensures ∙ ap (λ v. list_any (λ w. same_value w v) c.loop-value.list) c.value-item.is)
+      (c.holds_value.ensures ∙ ap (λ l. list_any (λ w. is_same order_of w c.value-item.result) l) c.as_slice.ensures ∙ ap (λ v. list_any (λ w. is_same order_of w v) c.loop-value.list) c.value-item.is)
       (elim c.if-not-holds_value.branch [
         | then-not-holds_value+in_ok-plain_copy+in_ok-push w ↦
             w.list-is ∙ w.in_ok-push.ensures.ok

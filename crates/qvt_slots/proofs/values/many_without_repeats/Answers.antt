@@ -4,7 +4,8 @@ use Rattle.std.specs.List.{list_any}
 use Rattle.std.proofs.lemmas.List.Elements.{All-push}
 use Rattle.qvt_value.specs.declared.value.Value.{Value}
 use Rattle.qvt_slots.specs.Types.{IsPlain}
-use Rattle.qvt_slots.specs.Repeats.{same_value}
+use Rattle.qvt_value.specs.Kept.{is_same}
+use Rattle.qvt_value.specs.Order.{order_of}
 use Rattle.qvt_slots.specs.Noted.{Notes}
 use Rattle.qvt_slots.proofs.Repeating.{without_step}
 use Rattle.qvt_slots.proofs.Noting.{noted_next, kept_before}
@@ -17,7 +18,7 @@ loop-value-preserved c = record {
       (subst (λ (v : Value). Notes c.loop-value.seen c.note.new.self v) c.value-item.is c.in_ok-note.ensures.noted);
   kept = without_step c.args.values.now c.loop-value.value-index c.value-item.result c.loop-value.list c.if-not-branch.list c.in_ok-note.field-0 c.loop-value-test.true c.loop-value.invariant.kept
       (kept_before c.args.values.now c.loop-value.value-index c.loop-value.seen c.loop-value.list (get_or c.args.values.now c.loop-value.value-index c.value-item.result) c.in_ok-note.field-0
-      c.loop-value.invariant.seen c.loop-value.invariant.kept (c.in_ok-note.ensures.before ∙ ap (λ v. list_any (same_value v) c.loop-value.seen) c.value-item.is))
+      c.loop-value.invariant.seen c.loop-value.invariant.kept (c.in_ok-note.ensures.before ∙ ap (λ v. list_any (is_same order_of v) c.loop-value.seen) c.value-item.is))
       (elim c.if-not-branch.branch [
         | then-not-branch+in_ok-plain_copy+in_ok-push w ↦
             w.list-is ∙ w.in_ok-push.ensures.ok

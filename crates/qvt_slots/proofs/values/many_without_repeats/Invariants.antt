@@ -1,13 +1,14 @@
 use Rattle.std.proofs.Common.{◌≡◌, take}
 use Rattle.std.specs.Prelude.{All}
 use Rattle.qvt_slots.specs.Types.{IsPlain}
-use Rattle.qvt_slots.specs.Repeats.{without_repeats}
+use Rattle.qvt_value.specs.Kept.{firsts}
+use Rattle.qvt_value.specs.Order.{order_of}
 use Rattle.qvt_slots.proofs.Noting.{Noted}
 use Rattle.qvt_slots.proofs.values.many_without_repeats.Given as goal
 
 abbrev pub invariant-loop-value : goal.invariant-loop-value
 invariant-loop-value l = record {
   seen : Noted l.seen (take l.value-index l.values);
-  kept : l.list ≡ without_repeats (take l.value-index l.values);
+  kept : l.list ≡ firsts order_of (take l.value-index l.values);
   plain : All IsPlain l.list;
 }
