@@ -3,6 +3,7 @@ use Rattle.std.specs.Prelude.{ℕ, List, [], ◌∷◌, ◌++◌, length, Option
 use Rattle.std.specs.List.{flat_map}
 use Rattle.qvt_base.specs.declared.numbers.Place.{Place}
 use Rattle.qvt_conform.specs.declared.fault.LowFault.{LowFault}
+use Rattle.qvt_lines.specs.Lines.{out_of_fuel_line, low_line}
 use Rattle.qvt_metamodel.specs.Metamodels.{feature_at}
 use Rattle.qvt_model.specs.RunIds.{run_id}
 use Rattle.qvt_slots.specs.Contents.{Contents, extent_at, extent_of, members_of}
@@ -42,13 +43,9 @@ abbrev pub fault_line : List ℕ → RunFault → Place → List ℕ
 fault_line file k at =
     codes "fault: " ++ (file ++ (codes ": " ++ (fault_name k ++ (codes " at " ++ (decimal at.line ++ (codes ":" ++ (decimal at.column ++ 10 ∷ [])))))))
 
-abbrev pub out_of_fuel_line : ℕ → List ℕ
-out_of_fuel_line fuel = codes "out of fuel: " ++ (decimal fuel ++ 10 ∷ [])
-
 -- an object by its model and its id, and the feature
-abbrev pub low_line : Contents → List (Option (List ℕ)) → LowFault → List ℕ
-low_line s ids l =
-    codes "low: " ++ ((extent_at s (extent_of s l.object.0)).name ++ (codes ":" ++ (run_id s ids l.object.0 ++ (codes " " ++ ((feature_at s.metas l.feature.0).name ++ 10 ∷ [])))))
+abbrev pub low_fault_line : Contents → List (Option (List ℕ)) → LowFault → List ℕ
+low_fault_line s ids l = low_line (extent_at s (extent_of s l.object.0)).name (run_id s ids l.object.0) (feature_at s.metas l.feature.0).name
 
 -- how many objects the written models have
 abbrev pub written_count : Contents → ℕ
@@ -63,5 +60,5 @@ done_line f =
 abbrev pub line_of : List ℕ → ℕ → List (Option (List ℕ)) → Outcome → List ℕ
 line_of file fuel ids (Fault k at) = fault_line file k at
 line_of file fuel ids OutOfFuel = out_of_fuel_line fuel
-line_of file fuel ids (Low s l) = low_line s ids l
+line_of file fuel ids (Low s l) = low_fault_line s ids l
 line_of file fuel ids (Done f) = done_line f

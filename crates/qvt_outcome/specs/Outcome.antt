@@ -20,6 +20,7 @@ use Rattle.qvt_conform.specs.declared.fault.ConformFault.{ConformFault}
 use Rattle.qvt_conform.specs.declared.fault.ConformFault.TheVariants as conform
 use Rattle.qvt_job.specs.declared.job.JobFault.{JobFault}
 use Rattle.qvt_job.specs.declared.job.JobFault.TheVariants as job
+use Rattle.qvt_lines.specs.Lines.{out_of_fuel_line, low_line}
 use Rattle.qvt_outcome.specs.declared.status.Status.{Status}
 use Rattle.qvt_outcome.specs.declared.status.Status.TheVariants as status
 use Rattle.qvt_outcome.specs.declared.refusal.Refusal.{Refusal}
@@ -164,13 +165,6 @@ no_memory_line = codes "no memory" ++ 10 ∷ []
 
 abbrev pub refused_line : List ℕ → Refusal → List ℕ
 refused_line file why = codes "refused: " ++ (file ++ (codes ": " ++ (refusal_text why ++ 10 ∷ [])))
-
-abbrev pub out_of_fuel_line : ℕ → List ℕ
-out_of_fuel_line fuel = codes "out of fuel: " ++ (decimal fuel ++ 10 ∷ [])
-
--- the model, the id of the object, and the feature
-abbrev pub low_line : List ℕ → List ℕ → List ℕ → List ℕ
-low_line model id feature = codes "low: " ++ (model ++ (codes ":" ++ (id ++ (codes " " ++ (feature ++ 10 ∷ [])))))
 
 abbrev pub conforms_line : ℕ → List ℕ
 conforms_line objects = codes "conforms: " ++ (decimal objects ++ (codes " objects" ++ 10 ∷ []))

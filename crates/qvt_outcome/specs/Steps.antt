@@ -1,6 +1,7 @@
 -- The code's early ends, and what they say of what is stated.
 use Rattle.std.specs.Prelude.{ℕ, ◌≡◌, ◌≢◌, ⊤, List, Result, Ok, Err}
-use Rattle.qvt_outcome.specs.Outcome.{Outcome, refused, fault, out_of_fuel, low, refused_line, out_of_fuel_line, low_line, read_fault_line, no_memory_line}
+use Rattle.qvt_lines.specs.Lines.{out_of_fuel_line, low_line}
+use Rattle.qvt_outcome.specs.Outcome.{Outcome, refused, fault, out_of_fuel, low, refused_line, read_fault_line, no_memory_line}
 use Rattle.qvt_outcome.specs.declared.stop.Stop.{Stop}
 use Rattle.qvt_outcome.specs.declared.stop.Stop.TheVariants as stop
 use Rattle.qvt_outcome.specs.declared.refusal.Refusal.{Refusal}

@@ -1,5 +1,6 @@
 ghost use Rattle.std.specs.Prelude.{◌≡◌, ◌⊎◌, MatchBool, IfOk, string_bytes};
-ghost use Rattle.qvt_outcome.specs.Outcome.{refusal_text, refused_line, out_of_fuel_line, read_fault_line, write_fault_line, no_memory_line, low_line, conforms_line};
+ghost use Rattle.qvt_outcome.specs.Outcome.{refusal_text, refused_line, read_fault_line, write_fault_line, no_memory_line, conforms_line};
+ghost use Rattle.qvt_lines.specs.Lines.{out_of_fuel_line, low_line};
 ghost use Rattle.qvt_outcome.specs.Steps.{stop_line, stop_status};
 ghost use Rattle.qvt_outcome.specs.Reported.{IsWhole, IsCut, Reports};
 

@@ -3,7 +3,7 @@ use Rattle.std.specs.Prelude.{◌≡◌, ℕ, List, [], ◌∷◌, ◌++◌, cod
 use Rattle.qvt_conform.specs.declared.fault.LowFault.{LowFault}
 use Rattle.qvt_slots.specs.Contents.{Contents}
 use Rattle.qvt_meaning.specs.Run.{Finished}
-use Rattle.qvt_meaning_report.specs.Lines.{low_line, written_count}
+use Rattle.qvt_meaning_report.specs.Lines.{low_fault_line, written_count}
 
 -- the store, how many records and entries there are, and the cost
 pub record IsDone (f : Finished) (s : Contents) (calls lates spent : ℕ) : Type 0 where
@@ -17,5 +17,5 @@ done_text objects records entries cost =
     codes "done: " ++ (decimal objects ++ (codes " objects, " ++ (decimal records ++ (codes " records, " ++ (decimal entries ++ (codes " late, cost " ++ (decimal cost ++ 10 ∷ [])))))))
 
 abbrev pub line_for : Contents → List (Option (List ℕ)) → ℕ → ℕ → ℕ → Option LowFault → List ℕ
-line_for s ids records entries cost (Some low) = low_line s ids low
+line_for s ids records entries cost (Some low) = low_fault_line s ids low
 line_for s ids records entries cost None = done_text (written_count s) records entries cost

@@ -3,6 +3,7 @@
 ghost use Rattle.std.specs.Prelude.{◌≡◌, ℕ, List, Err, IfOk, Ok, Option, string_bytes};
 ghost use Rattle.qvt_meaning.specs.Run.{Finished};
 ghost use Rattle.qvt_meaning_report.specs.Lines as lines;
+ghost use Rattle.qvt_lines.specs.Lines.{out_of_fuel_line};
 ghost use Rattle.qvt_meaning_report.specs.Meaning.{outcome_of};
 ghost use Rattle.qvt_report.specs.Lines.{IsDone, done_text, line_for};
 
@@ -41,7 +42,7 @@ fn fault_line(alloc: Global, file: &str, fault: RunFault, place: Place) -> Resul
 
 /// The line that a charge would have passed the fuel.
 fn out_of_fuel_line(alloc: Global, fuel: u64) -> Result<Bytes, ListFault>
-    ensures { IfOk result (λ line. line ≡ lines.out_of_fuel_line fuel) }
+    ensures { IfOk result (λ line. line ≡ out_of_fuel_line fuel) }
 {
     let Ok(line) = format!(in alloc; "out of fuel: {fuel}\n") else {
         return Err(ListFault::NoMemory);
@@ -61,7 +62,7 @@ pub fn end_line(alloc: Global, file: &str, fuel: u64, end: End) -> Result<Bytes,
 
 /// The line that an object has too few items for a feature.
 fn low_line(alloc: Global, store: &Store, ids: &IdTable, low: LowFault) -> Result<Bytes, ListFault>
-    ensures { IfOk result (λ line. line ≡ lines.low_line store.now ids.now low) }
+    ensures { IfOk result (λ line. line ≡ lines.low_fault_line store.now ids.now low) }
 {
     let all = RunIds::new(alloc, store, ids)?;
     let id = all.id(alloc, low.object)?;
