@@ -1,5 +1,5 @@
 -- Two lists of metamodels as one: what the first had stays, and what the second had goes on from there.
-use Rattle.std.proofs.Common.{◌≡◌, ◌∙◌, ℕ, zero, suc, ◌+◌, ◌<◌, List, [], ◌++◌, length, map, true, false, option_map, refl, ap, sym, subst, arith, ◌==◌, ◌||◌, eqb}
+use Rattle.std.proofs.Common.{◌≡◌, ◌∙◌, ℕ, zero, suc, ◌+◌, ◌<◌, List, [], ◌++◌, length, map, true, false, option_map, refl, ap, sym, subst, arith, ◌==◌}
 use Rattle.std.specs.List.{list_any, flat_map, AllByRecursion}
 use Rattle.std.proofs.lemmas.List.{length-map, length-append, map-append, get_or_past}
 use Rattle.std.proofs.lemmas.Bool.{eqb-true}
