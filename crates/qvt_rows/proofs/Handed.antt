@@ -1,21 +1,22 @@
 -- Sets of classes that are put into those of their superclasses.
-use Rattle.std.proofs.Common.{◌≡◌, ◌∙◌, ℕ, zero, suc, ◌+◌, ◌<◌, ◌≤◌, List, length, get_or, set, take, Bool, true, false, refl, ap, sym, subst, arith, ◌==◌, ◌||◌, ◌&&◌, ◌⊎◌, inl, inr}
+use Rattle.std.proofs.Common.{◌≡◌, ◌∙◌, ℕ, ◌+◌, ◌<◌, ◌≤◌, List, length, get_or, set, take, Bool, true, false, refl, ap, sym, subst, arith, ◌==◌, ◌||◌, ◌&&◌, ◌⊎◌, inl, inr}
 use Rattle.std.specs.Prelude.{slice_index, nat_lt}
 use Rattle.std.specs.List.{list_any, list_all}
 use Rattle.std.proofs.lemmas.List.{get_or_past, get_or-set_same, get_or-set_other}
 use Rattle.std.proofs.lemmas.List.Folds.{list_any_more}
 use Rattle.std.proofs.lemmas.Bool.{cases_eq, cases_lt, eqb-true, eq-eqb, ne_eqb}
 use Rattle.qvt_base.specs.declared.numbers.ClassNo.{ClassNo}
+use Rattle.qvt_relation.specs.Closure.{directly, through}
 use Rattle.qvt_relation.proofs.Bools.{or_false, same_test}
 use Rattle.qvt_metamodel.specs.declared.row.Row.{Row}
 use Rattle.qvt_metamodel.specs.declared.info.ClassInfo.{ClassInfo}
 use Rattle.qvt_metamodel.specs.Metamodels.{Metamodels, class_at, nowhere_class, is_element}
-use Rattle.qvt_metamodel.specs.Descends.{is_superclass, superclass, is_above, reaches, descends}
+use Rattle.qvt_metamodel.specs.Descends.{is_superclass, Inherits, reaches, descends}
 use Rattle.qvt_metamodel.specs.Kept.{is_marked, no_row}
 use Rattle.qvt_meta_tables.specs.Tables.{of_classes, IsOrder}
 use Rattle.qvt_rows.specs.Sets.{handed_on}
 use Rattle.qvt_meta_tables.proofs.Marks.{live_at}
-use Rattle.qvt_metamodel.proofs.Ancestors.{Found, found, live, complete}
+use Rattle.qvt_metamodel.proofs.Ancestors.{live, path, begins, complete}
 use Rattle.qvt_metamodel.proofs.Bools.{ap2, and_both, and_left, and_right, or_cases, or_left, or_right}
 use Rattle.qvt_metamodel.proofs.Order.{transitive}
 use Rattle.qvt_metamodel.proofs.Owners.{all-there}
@@ -91,7 +92,7 @@ module _ (ks : List ClassInfo) (order ranks : List ℕ) (ok : IsOrder (of_classe
     pub sound_next : ((c d : ℕ) → c < length ks → has old c d → descends m d c ≡ true) → (c d : ℕ) → c < length ks → has new c d → descends m d c ≡ true
     sound_next before c d l h = elim (from c d h) [
       | inl old_one ↦ before c d l old_one
-      | inr more ↦ transitive m ranks ok.ranked (λ x y over. absurd (cc)) d class c (before class d (live m ranks ok.ranked class c more.0) more.1) (complete m ranks ok.ranked class c (inr (superclass class more.0)))
+      | inr more ↦ transitive m ranks ok.ranked (λ x y over. absurd (cc)) d class c (before class d (live m class c more.0) more.1) (complete m class c (inr (inl (directly more.0))))
     ]
 
     pub done_before : (k : ℕ) → slice_index order k ≡ class → AreDone ks ranks (k + 1) old → AreDone ks ranks k new
@@ -109,25 +110,18 @@ module _ (ks : List ClassInfo) (order ranks : List ℕ) (ok : IsOrder (of_classe
         low (inl old_one) other = old_one
         low (inr more) other =
             (let less : slice_index ranks s < slice_index ranks class = all-there (λ x. slice_index ranks x < slice_index ranks class) (class_at m class).supers s (ok.ranked.rise class) more.0 in
-            before class s d (live m ranks ok.ranked class s more.0) (omega (arith, less, rank)) more.0 more.1)
+            before class s d (live m class s more.0) (omega (arith, less, rank)) more.0 more.1)
 
   pub none_done : (rows : List Row) → AreDone ks ranks (length ks) rows
   none_done rows s c d l rank there h = absurd (let low : slice_index ranks s < length ks = ok.ranked.bounded s l in omega (arith, low, rank))
 
   -- once all are done
-  reached : (rows : List Row) → AreDone ks ranks 0 rows → (k s c d : ℕ) → is_above k m c s ≡ true → has rows s d → has rows c d
-  reached rows done zero s c d h t = absurd (cc)
-  reached rows done (suc k) s c d h t =
-      let f : Found (λ x. (x == c) || is_above k m c x) (class_at m s).supers = found (λ x. (x == c) || is_above k m c x) (class_at m s).supers h in
-      let up : has rows f.class d = done s f.class d (live m ranks ok.ranked s f.class f.there) (omega arith) f.there t in
-      elim (or_cases (f.class == c) (is_above k m c f.class) f.passes) [
-        | inl same ↦ subst (λ x. has rows x d) (eqb-true f.class c same) up
-        | inr more ↦ reached rows done k f.class c d more up
-      ]
+  reached : (rows : List Row) → AreDone ks ranks 0 rows → {s c : ℕ} → Inherits m s c → (d : ℕ) → has rows s d → has rows c d
+  reached rows done (directly {x} {y} h) d t = done x y d (live m x y h) (omega arith) h t
+  reached rows done (through {x} {y} {z} h p) d t = reached rows done p d (done x y d (live m x y h) (omega arith) h t)
 
   pub below_all : (rows : List Row) → ((c : ℕ) → c < length ks → has rows c c) → ((c d : ℕ) → c < length ks → has rows c d → descends m d c ≡ true) → AreDone ks ranks 0 rows
       → (c d : ℕ) → c < length ks → is_marked (get_or rows c no_row) d ≡ ((c == d) || reaches m d c)
-  unfolding reaches
   below_all rows own sound done c d l = same_test (is_marked (get_or rows c no_row) d) ((c == d) || reaches m d c)
       (λ h. elim (or_cases ((d == c) || is_element m c) (reaches m d c) (sound c d l h)) [
         | inl here ↦ elim (or_cases (d == c) (is_element m c) here) [
@@ -138,12 +132,8 @@ module _ (ks : List ClassInfo) (order ranks : List ℕ) (ok : IsOrder (of_classe
       ])
       (λ h. elim (or_cases (c == d) (reaches m d c) h) [
         | inl same ↦ subst (has rows c) (eqb-true c d same) (own c l)
-        | inr up ↦ reached rows done (length ks) d c d up (own d (there up))
+        | inr up ↦ reached rows done (path m d c up) d (own d (there up))
       ])
     where
-      there : is_above (length ks) m c d ≡ true → d < length ks
-      there up = first (length ks) up
-        where
-          first : (k : ℕ) → is_above k m c d ≡ true → d < length ks
-          first zero h = absurd (cc)
-          first (suc k) h = (let f : Found (λ x. (x == c) || is_above k m c x) (class_at m d).supers = found (λ x. (x == c) || is_above k m c x) (class_at m d).supers h in live m ranks ok.ranked d f.class f.there)
+      there : reaches m d c ≡ true → d < length ks
+      there up = (let s = begins m d c (path m d c up) in live m d s.0 s.1)
