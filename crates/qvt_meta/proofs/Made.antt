@@ -10,11 +10,11 @@ use Rattle.qvt_metamodel.specs.declared.declared.MetaData.{MetaData}
 use Rattle.qvt_metamodel.specs.Checked.{IsChecked}
 use Rattle.qvt_metamodel.specs.MetaData.{enum_names}
 use Rattle.qvt_meta.specs.Numbers.{AreNumbers}
-use Rattle.qvt_metamodel.specs.Added.{numbered, first_begin, names_of}
+use Rattle.qvt_metamodel.specs.Added.{numbered, first_begin}
 use Rattle.qvt_meta_tables.specs.Tables.{of_classes, AreTables}
 use Rattle.qvt_json.specs.Repeated.{repeated}
 use Rattle.qvt_metamodel.specs.Checks.{repeated_feature}
-use Rattle.qvt_metamodel.proofs.Infos.{length-class_infos, length-feature_infos}
+use Rattle.qvt_metamodel.proofs.Infos.{length-feature_infos}
 use Rattle.qvt_meta.proofs.Whole.{M, is_numbered, live_feature_of, well_formed}
 use Rattle.qvt_meta_tables.proofs.Same.{tables_same}
 

@@ -1,5 +1,5 @@
 -- The numbered parts of a metamodel that is read.
-use Rattle.std.specs.Prelude.{◌≡◌, ◌↔◌, ◌<◌, ◌+◌, ◌&&◌, nat_le, Bool, true, List, ℕ, [], ◌∷◌, length, slice_index_or, IsTrue, None}
+use Rattle.std.specs.Prelude.{◌≡◌, ◌↔◌, ◌<◌, nat_le, Bool, List, ℕ, [], ◌∷◌, length, slice_index_or, IsTrue, None}
 use Rattle.std.specs.List.{list_all}
 use Rattle.qvt_base.specs.declared.numbers.FeatureNo.{FeatureNo}
 use Rattle.qvt_metamodel.specs.declared.info.FeatureInfo.{FeatureInfo}
@@ -28,8 +28,3 @@ pub record StandForNames (features : List FeatureInfo) (numbers : List ℕ) : Ty
   pub each : length numbers ≡ length features
   pub same : (f g : FeatureNo) → f.0 < length features → g.0 < length features
       → (number_at numbers f ≡ number_at numbers g) ↔ ((slice_index_or features f.0 nowhere_feature).name ≡ (slice_index_or features g.0 nowhere_feature).name)
-
--- the number of each feature's name is at least this one, and greater than those before it
-abbrev pub names_rise_from : ℕ → List ℕ → List FeatureNo → Bool
-names_rise_from least numbers [] = true
-names_rise_from least numbers (f ∷ fs) = nat_le least (number_at numbers f) && names_rise_from (number_at numbers f + 1) numbers fs

@@ -1,11 +1,11 @@
 //! The check of the names among all features of a class.
 
 ghost use Rattle.std.specs.Prelude.{◌≡◌, ◌<◌, ◌^◌, ℕ, [], map, length, IsTrue, IfOk, slice_index_or};
-ghost use Rattle.qvt_json.specs.Repeated.{repeated};
 ghost use Rattle.qvt_metamodel.specs.Metamodels.{among_features, nowhere_feature, features_of};
 ghost use Rattle.qvt_metamodel.specs.Added.{numbered};
 ghost use Rattle.qvt_meta_lists.specs.Lists.{all_lists};
-ghost use Rattle.qvt_meta.specs.Numbers.{AreNumbers, StandForNames, names_rise_from};
+ghost use Rattle.qvt_meta_repeats.specs.Flags.{name_flags};
+ghost use Rattle.qvt_meta.specs.Numbers.{AreNumbers, StandForNames};
 ghost use Rattle.qvt_metamodel.specs.Checks.{repeated_feature, same_feature};
 
 use crate::adding::Numbers;
@@ -15,7 +15,7 @@ use qvt_base::numbers::FeatureNo;
 use qvt_base::text::Text;
 use qvt_meta_lists::lists::FeatureLists;
 use qvt_meta_names::feature_tables::{feature_table, name_numbers};
-use qvt_meta_tables::number_set::NumberSet;
+use qvt_meta_repeats::repeats::Repeats;
 use qvt_metamodel::declared::MetaData;
 use qvt_metamodel::info::FeatureInfo;
 use std::alloc::Global;
@@ -30,47 +30,35 @@ fn numbers_of_names(alloc: Global, features: &[FeatureInfo]) -> Result<Vec<u32>,
     Ok(numbers)
 }
 
-/// Whether the number of each feature's name is greater than the one before, so that no name is there twice.
-fn rises(numbers: &[u32], list: &[FeatureNo]) -> bool
-    requires { (f : ℕ) → IsTrue (among_features f list.now) → f < length numbers.now }
-    ensures { result ≡ names_rise_from 0 numbers.now list.now }
+/// Which features of the classes have a name that an earlier one of the class has.
+fn name_repeats<'a>(
+    alloc: Global,
+    meta: &MetaData,
+    numbers: &Numbers,
+    lists: &'a FeatureLists,
+) -> Result<Repeats<'a>, ListFault>
+    requires numbers { AreNumbers meta.now numbers.now }
+    requires lists { (c : ℕ) → slice_index_or (all_lists lists.now) c [] ≡ features_of (numbered meta.now) c }
+    ensures { IfOk result (λ r. (c : ℕ) → slice_index_or r c [] ≡ name_flags (map (λ f. (slice_index_or numbers.now.features.items f.0 nowhere_feature).name) (slice_index_or (all_lists lists.now) c []))) }
 {
-    let mut least: u64 = 0;
-    for feature in list {
-        let number = u64::from(numbers[feature.0 as usize]);
-        if number < least {
-            return false;
-        }
-        least = number + 1;
-    }
-    true
+    let name_numbers = numbers_of_names(alloc, numbers.features.as_slice())?;
+    let repeats = Repeats::new(alloc, name_numbers.as_slice(), lists)?;
+    Ok(repeats)
 }
 
-/// The first name of these features that an earlier one has. What was taken before does not count.
-fn repeated_name(
+/// The name of the feature at a place of a list.
+fn name_at(
     alloc: Global,
     features: &[FeatureInfo],
-    numbers: &[u32],
-    taken: &mut NumberSet,
     list: &[FeatureNo],
-) -> Result<Option<Text>, ListFault>
-    requires numbers { StandForNames features.now numbers.now }
+    place: usize,
+) -> Result<Text, ListFault>
+    requires place { place < length list.now }
     requires live { (f : ℕ) → IsTrue (among_features f list.now) → f < length features.now }
-    ensures { IfOk result (λ o. o ≡ repeated [] (map (λ f. (slice_index_or features.now f.0 nowhere_feature).name) list.now)) }
+    ensures { IfOk result (λ name. name ≡ slice_index_or (map (λ f. (slice_index_or features.now f.0 nowhere_feature).name) list.now) place []) }
 {
-    if rises(numbers, list) {
-        return Ok(None);
-    }
-    taken.clear();
-    for feature in list {
-        let at = feature.0 as usize;
-        let number = numbers[at];
-        if taken.has(number) {
-            return Ok(Some(features[at].name.copy(alloc)?));
-        }
-        taken.put(number)?;
-    }
-    Ok(None)
+    let feature = list[place];
+    features[feature.0 as usize].name.copy(alloc)
 }
 
 /// A name that two different features of a class have.
@@ -78,19 +66,22 @@ fn repeated_feature(
     alloc: Global,
     meta: &MetaData,
     numbers: &Numbers,
-    name_numbers: &[u32],
-    taken: &mut NumberSet,
     lists: &FeatureLists,
+    repeats: &Repeats,
     class: usize,
 ) -> Result<Option<Text>, ListFault>
     requires numbers { AreNumbers meta.now numbers.now }
-    requires names { StandForNames numbers.now.features.items name_numbers.now }
     requires lists { (c : ℕ) → slice_index_or (all_lists lists.now) c [] ≡ features_of (numbered meta.now) c }
+    requires repeats { (c : ℕ) → slice_index_or repeats.now c [] ≡ name_flags (map (λ f. (slice_index_or numbers.now.features.items f.0 nowhere_feature).name) (slice_index_or (all_lists lists.now) c [])) }
     ensures { IfOk result (λ o. o ≡ repeated_feature (numbered meta.now) class) }
 {
     let _classes = &meta.classes;
+    let Some(place) = repeats.first(class) else {
+        return Ok(None);
+    };
     let features = numbers.features.as_slice();
-    repeated_name(alloc, features, name_numbers, taken, lists.at(class))
+    let name = name_at(alloc, features, lists.at(class), place)?;
+    Ok(Some(name))
 }
 
 /// The class and the name that SameFeature tells.
@@ -105,18 +96,9 @@ pub fn same_feature(
     requires lists { (c : ℕ) → slice_index_or (all_lists lists.now) c [] ≡ features_of (numbered meta.now) c }
     ensures { IfOk result (λ o. o ≡ same_feature meta.now) }
 {
-    let name_numbers = numbers_of_names(alloc, numbers.features.as_slice())?;
-    let mut taken = NumberSet::new(alloc);
+    let repeats = name_repeats(alloc, meta, numbers, lists)?;
     for (at, class) in meta.classes.as_slice().iter().enumerate() {
-        let name = repeated_feature(
-            alloc,
-            meta,
-            numbers,
-            name_numbers.as_slice(),
-            &mut taken,
-            lists,
-            at,
-        )?;
+        let name = repeated_feature(alloc, meta, numbers, lists, &repeats, at)?;
         if let Some(name) = name {
             return Ok(Some((class.name.copy(alloc)?, name)));
         }

@@ -1,5 +1,5 @@
 -- The conditions on classes that are declared beside metamodels (QVT 8.2.1.1, intermediate classes) as tests.
-use Rattle.std.specs.Prelude.{◌≡◌, ℕ, Bool, true, not, ◌&&◌, ◌==◌, ◌+◌, ◌<◌, ◌^◌, nat_lt, List, [], length, map, None, is_none, slice_index_or, IsTrue}
+use Rattle.std.specs.Prelude.{◌≡◌, ℕ, Bool, true, not, ◌&&◌, ◌==◌, ◌+◌, ◌<◌, ◌^◌, nat_lt, List, [], ◌∷◌, length, map, None, is_none, slice_index_or, IsTrue}
 use Rattle.std.specs.List.{list_all}
 use Rattle.qvt_base.specs.declared.numbers.ClassNo.{ClassNo}
 use Rattle.qvt_base.specs.declared.numbers.FeatureNo.{FeatureNo}
@@ -49,6 +49,10 @@ are_live m cs = list_all (has_given_supers m cs) cs && list_all (has_live_kinds 
 
 abbrev pub name_in : List FeatureInfo → FeatureNo → List ℕ
 name_in fs f = (slice_index_or fs f.0 nowhere_feature).name
+
+-- the name of what stands past the end, and those of the features
+abbrev pub known_names : List FeatureInfo → List (List ℕ)
+known_names fs = [] ∷ map (λ f. f.name) fs
 
 -- no two of the features have one name
 abbrev pub differ : List FeatureInfo → List FeatureNo → Bool

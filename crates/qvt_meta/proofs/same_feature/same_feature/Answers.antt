@@ -4,14 +4,10 @@ use Rattle.qvt_metamodel.specs.declared.declared.MetaData.{MetaData}
 use Rattle.qvt_metamodel.specs.Checks.{same_feature, repeated_feature, ClassAndName}
 use Rattle.qvt_metamodel.specs.declared.declared.DeclaredClass.{DeclaredClass}
 use Rattle.qvt_meta_checks.proofs.Passing.{from_next, from_found}
-use Rattle.qvt_meta.proofs.Made.{few_features}
 use Rattle.qvt_meta.proofs.same_feature.same_feature.Goals as goal
 
 abbrev told : MetaData → ℕ → DeclaredClass → Option ClassAndName
 told d i k = option_map (λ name. (k.name, name)) (repeated_feature (numbered d) i)
-
-pub numbers_of_names-requires : goal.numbers_of_names-requires
-numbers_of_names-requires c = omega (arith, ap length c.as_slice.ensures.value, few_features c.args.meta.now c.args.numbers.now c.requires.numbers)
 
 pub returns-in-Some : goal.returns-in-Some
 unfolding same_feature
