@@ -1,6 +1,6 @@
 //! Properties of one name, and intermediate classes as they are read.
 
-ghost use Rattle.std.specs.Prelude.{◌≡◌, ◌<◌, ◌++◌, ◌∷◌, ℕ, List, [], drop, length, map, take, is_some, position, slice_index_or, if◌then◌else◌, IfOk, OnOk};
+ghost use Rattle.std.specs.Prelude.{◌≡◌, ◌<◌, ◌+◌, ◌++◌, ◌∷◌, ℕ, List, [], drop, length, map, take, is_some, position, slice_index_or, if◌then◌else◌, IfOk, OnOk};
 ghost use Rattle.std.specs.Str.{bytes_eq};
 ghost use Rattle.qvt_metamodel.specs.Names.{repeated};
 ghost use Rattle.qvt_meta_lists.specs.Lists.{all_lists};
@@ -116,15 +116,32 @@ fn unflagged(
     Ok(kept)
 }
 
+/// How many properties all classes together may get as their own because two that they inherit have one name. A text with more is
+/// refused as out of memory: the copies grow with the classes times what each inherits, and nothing of such a text is run.
+const MOST_COPIES: usize = 1 << 20;
+
+/// Takes so many copies, where so many are left.
+fn take_copies(left: &mut usize, count: usize) -> Result<(), ListFault>
+    ensures { OnOk result (left.new + count ≡ left.old) }
+{
+    let Some(rest) = left.checked_sub(count) else {
+        return Err(ListFault::NoMemory);
+    };
+    *left = rest;
+    Ok(())
+}
+
 /// The class as its name is read, where two properties that it inherits have one name.
 fn read_apart(
     alloc: Global,
     all: &[Property],
     list: &[FeatureNo],
     class: &Declared,
+    copies: &mut usize,
 ) -> Result<Declared, ListFault>
     ensures { IfOk result (λ d. d ≡ record { name = class.now.name; supers = []; properties = inherited.firsts [] (map (inherited.property_at all.now) list.now); place = class.now.place }) }
 {
+    take_copies(copies, list.len())?;
     let properties = properties_at(alloc, all, list)?;
     Ok(Declared {
         name: class.name.copy(alloc)?,
@@ -143,6 +160,7 @@ fn read_class(
     flags: &[bool],
     first: Option<usize>,
     class: &Declared,
+    copies: &mut usize,
     log: &mut RefusalList,
 ) -> Result<Declared, ListFault>
     requires own { inherited.IsOwnLast all.now list.now class.now }
@@ -156,7 +174,7 @@ fn read_class(
     tell_if(log, twice, RefusalKind::SameName, class.place)?;
     tell_own(own, class.properties.as_slice(), log)?;
     if twice {
-        let read = read_apart(alloc, all, list, class)?;
+        let read = read_apart(alloc, all, list, class, copies)?;
         return Ok(read);
     }
     Ok(Declared {
@@ -181,12 +199,22 @@ pub fn read_all(
     ensures told { OnOk result (log.new ≡ log.old ++ inherited.same_told_from all.now (all_lists lists.now) 0 classes.now) }
 {
     let repeats = name_repeats(alloc, all, lists)?;
+    let mut copies = MOST_COPIES;
     let mut read = Seq::new(alloc);
     for (place, class) in classes.iter().enumerate() {
         let list = lists.at(place);
         let flags = repeats.flags(place);
         let first = repeats.first(place);
-        read.push(read_class(alloc, all, list, flags, first, class, log)?)?;
+        read.push(read_class(
+            alloc,
+            all,
+            list,
+            flags,
+            first,
+            class,
+            &mut copies,
+            log,
+        )?)?;
     }
     Ok(read)
 }
