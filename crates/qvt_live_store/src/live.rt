@@ -49,14 +49,6 @@ impl LiveStore {
         LiveStore { store }
     }
 
-    pub fn into_store(self) -> Store
-        ensures value { result ≡ self }
-        ensures sound { Sound result }
-    {
-        let LiveStore { store } = self;
-        store
-    }
-
     pub fn as_store(&self) -> &Store
         ensures { result.now ≡ self.now }
     {
