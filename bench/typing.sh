@@ -40,12 +40,12 @@ tell() { # what the text is, and what the typing of a tenth of it took, or 0
 }
 # a text of so many bytes at most: what stands before, a piece again and again, what stands after; in a piece # is its number, ~ the
 # number after that, and % the number of the next piece, which for the last is the first
-texts() { # name, front, piece, end
+texts() { # name, front (where it is empty, the one that is made for a text of so many bytes), piece, end
   local size
   tenth=0
   for size in $((most / 10)) "$most"; do
     remade "$size"
-    awk -v most="$size" -v front="$2" -v piece="$3" -v end="$4" 'BEGIN{
+    awk -v most="$size" -v front="${2:-$front}" -v piece="$3" -v end="$4" 'BEGIN{
       room = most - length(front) - length(end)
       while (1) {
         long = piece; gsub(/[#%~]/, 1000 * 10, long)
@@ -62,7 +62,7 @@ texts() { # name, front, piece, end
     tell "$1" "$tenth"
   done
 }
-remade() { :; } # makes another metamodel for a text of so many bytes
+remade() { :; } # makes another metamodel or front for a text of so many bytes
 repeat() { # text, times
   local all=""
   for _ in $(seq "$2"); do all+=$1; done
@@ -91,6 +91,16 @@ texts "one list of mappings" "$main mapping Book::m0() : Book { } mapping Book::
 texts "one disjunction" "$main mapping Book::m0() : Book { } mapping Book::m() : Book disjuncts Book::m0" ', Book::m0' ';'
 texts "intermediate classes" "$main" 'intermediate class K# { a : Integer; b : Set(Book); c : K%; } ' ''
 texts "a chain of intermediate classes" "$main intermediate class K0 { } " 'intermediate class K~ extends K# { a# : Integer; } ' ''
+texts "a chain of intermediate classes after one with a name of theirs" "$main intermediate class X { a1 : Integer; } intermediate class K0 { } " 'intermediate class K~ extends K# { a# : Integer; } ' ''
+properties() { # a class with so many properties, in the order of their numbers or against it
+  front="${main}intermediate class $1 { $(seq -f "a%.0f : Integer;" -s ' ' "$2" "$3" "$4") } "
+}
+remade() { properties X $(($1 / 75)) -1 0; front+='intermediate class K0 { } '; }
+texts "a chain of intermediate classes after one with their names, the last first" "" 'intermediate class K~ extends K# { a# : Integer; } ' ''
+remade() { properties K 1 1 $(($1 / 35)); }
+texts "intermediate classes below one with many properties, each with one more" "" 'intermediate class L# extends K { b# : Integer; } ' ''
+texts "intermediate classes below one with many properties" "" 'intermediate class L# extends K { } ' ''
+remade() { :; }
 texts "variables of one block" "${begin}main() { var first : Integer := 1; " 'var x# : Integer := first + #; if (x# = null) { first := x#; } ' '}'
 texts "variables of many blocks" "${begin}main() { var first : Integer := 1; " 'while (first < #) { var x := first; first := x + 1; } ' '}'
 texts "late resolves" "${begin}main() { var b := object Book { }; " 'b.authors += s.objectsOfType(Book).late resolve(a : Author | a.born = #); ' '}'
@@ -116,6 +126,8 @@ texts "queries of one name that are unlike each other" "$main" 'query D#::q() : 
 texts "queries of one name that answer each its class, of a chain" "$main" 'query C#::q() : C# = self; ' ''
 texts "queries of one name that answer each its class, side by side" "$main" 'query D#::q() : D# = self; ' ''
 texts "queries of one name with parameters, of a chain" "$main" 'query C#::q(a : Integer, b : String, c : Boolean, d : Set(Book)) : C# = self; ' ''
+texts "two queries of each of many names" "$main" 'query Book::q#() : Integer = #; query C0::q#() : Integer = #; ' ''
+texts "a hundred queries of each of many names" "$main" "$(for i in $(seq 0 99); do printf 'query D%d::q#() : Integer = #; ' "$i"; done)" ''
 texts "constructors" "$main" 'constructor D#::D#(p : Integer) { pages := p; } ' ''
 # queries of one name, each of a class that is below several with a query of that name, and has a class below it
 fronts() { # what stands before them: the queries of so many classes
@@ -131,6 +143,15 @@ overriding() { # a metamodel: so many classes S with nothing above them, X below
     printf "],\"name\":\"M\"}"
   }' >m.json
 }
+besides() { # so many classes side by side, and below each two neighbours one more
+  awk -v count="$1" 'BEGIN{
+    printf "{\"classes\":["
+    for (i = 0; i < count; i++) printf "{\"name\":\"S%d\"},{\"name\":\"M%d\",\"supers\":[\"S%d\",\"S%d\"]},", i, i, i, (i + 1) % count
+    printf "{\"name\":\"S\"}],\"name\":\"M\"}"
+  }' >m.json
+}
+remade() { besides $(($1 / 33)); }
+texts "queries of one name, and classes below two of theirs" "$main" 'query S#::q() : Integer = #; ' ''
 fronts 3
 remade() { overriding 3 '"S0","S1","S2"' $((($1 - ${#front}) / 35)); }
 texts "queries of one name that answer each its class, each below three" "$front" 'query M#::q() : M# = self; ' ''
