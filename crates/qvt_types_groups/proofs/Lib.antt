@@ -1,7 +1,6 @@
+pub use Rattle.qvt_types_choices.proofs.Lowest
+pub use Rattle.qvt_types_choices.proofs.ByClass
 pub mod Lists
 pub mod Firsts
 pub mod Keys
-pub mod Lowest
-pub mod ByClass
-pub mod Joined
-pub mod Chosen
+pub mod Tables

@@ -8,6 +8,4 @@ pub use Rattle.qvt_types_units.specs.Classes
 pub mod Lists
 pub mod Keys
 pub mod Indexed
-pub mod Least
 pub mod Choices
-pub mod ByClass

@@ -1,16 +1,19 @@
 //! The units of a transformation: by their names, and which of those of a name is called on objects of a class.
 
-ghost use Rattle.std.specs.Prelude.{◌≡◌, length, slice_get, IfOk};
-ghost use Rattle.std.specs.Option.{option_copied};
+ghost use Rattle.std.specs.Prelude.{◌≡◌, IfOk, IfSome};
 ghost use Rattle.qvt_types_units.specs.Choice as choice;
+ghost use Rattle.qvt_types_choices.specs.Sets.{AreSets};
+ghost use Rattle.qvt_types_choices.specs.Tables.{TellsOf};
 ghost use Rattle.qvt_types_groups.specs.Choices as choices_of;
 
-use crate::choices::{FoundRow, look_up, row_along};
 use crate::class_choices::class_order;
 use crate::unit_names::UnitNames;
 use qvt_base::list_fault::ListFault;
 use qvt_base::numbers::ClassNo;
 use qvt_base::seq::Seq;
+use qvt_types_choices::choices::look_up;
+use qvt_types_choices::class_sets::{ClassSets, class_sets};
+use qvt_types_choices::tables::{GroupTable, found_in, group_table};
 use qvt_types_paths::metas::Metas;
 use qvt_types_units::choice::Found;
 use qvt_types_units::numbers::is_mapping;
@@ -18,73 +21,73 @@ use qvt_types_units::signature::Signature;
 use std::alloc::Global;
 use std::marker::Model;
 
-/// The row of the units that are called like this one, where it is the first of them.
-#[tactic(auto, unfolding(crate::specs::Choices::unit_row))]
-fn unit_row(
+/// What is told of the units that are called like this one, where it is the first of them.
+fn unit_table(
     alloc: Global,
     metas: &Metas,
     names: &UnitNames,
+    sets: &ClassSets,
     order: &[u32],
     number: u32,
     unit: &Signature,
-) -> Result<FoundRow, ListFault>
-    requires { unit.now ≡ unit_at names.now number }
-    ensures { IfOk result (λ fs. fs ≡ choices_of.unit_row metas.now names.now number) }
+) -> Result<GroupTable, ListFault>
+    requires sets { AreSets metas.now sets.now }
+    requires unit { unit.now ≡ unit_at names.now number }
+    ensures { IfOk result (TellsOf metas.now names.now (choices_of.group_of names.now number)) }
 {
     match names.group(is_mapping(unit.sort), unit.name.as_str()) {
-        [] => Ok(Seq::new(alloc)),
-        [first, ..] if *first != number => Ok(Seq::new(alloc)),
-        group => row_along(alloc, metas, names.signatures(), group, order),
+        [] => Ok(GroupTable::Untold),
+        [first, ..] if *first != number => Ok(GroupTable::Untold),
+        group => group_table(alloc, metas, names.signatures(), sets, group, order),
     }
 }
 
 ghost use Rattle.qvt_types_units.specs.Numbers.{unit_at};
 
-/// The rows of all units.
-fn unit_rows(alloc: Global, metas: &Metas, names: &UnitNames) -> Result<Seq<FoundRow>, ListFault>
-    ensures { IfOk result (λ rs. rs ≡ choices_of.unit_rows metas.now names.now (length names.now)) }
+/// What is told of each name, at its first unit.
+fn unit_tables(
+    alloc: Global,
+    metas: &Metas,
+    names: &UnitNames,
+    sets: &ClassSets,
+    order: &[u32],
+) -> Result<Seq<GroupTable>, ListFault>
+    requires { AreSets metas.now sets.now }
+    ensures { IfOk result (choices_of.EachTells metas.now names.now) }
 {
-    let order = class_order(alloc, metas)?;
-    let order = order.classes.as_slice();
     let units = names.signatures();
-    let mut rows = Seq::new(alloc);
+    let mut tables = Seq::new(alloc);
     for number in 0..names.count() {
         let unit = &units[number as usize];
-        rows.push(unit_row(alloc, metas, names, order, number, unit)?)?;
+        tables.push(unit_table(alloc, metas, names, sets, order, number, unit)?)?;
     }
-    Ok(rows)
+    Ok(tables)
 }
 
-fn row_at(rows: &[FoundRow], number: u32, class: ClassNo) -> Option<Found>
-    ensures { result ≡ choices_of.row_at rows.now number class.0 }
-{
-    let at = number as usize;
-    if at < rows.len() {
-        rows[at].get(class.0 as usize).copied()
-    } else {
-        None
-    }
-}
-
-/// Metamodels with Element and the intermediate classes of a transformation, and its units. Which unit a call finds is told once for
-/// each class and each name that several units have.
+/// Metamodels with Element and the intermediate classes of a transformation, and its units. Of each name that several units have it is
+/// told once which classes have no single choice, and for many units what is found for each class.
 pub struct Units {
     metas: Metas,
     names: UnitNames,
-    rows: Seq<FoundRow>,
+    sets: ClassSets,
+    tables: Seq<GroupTable>,
 }
 
 impl Drop for Units {
     fn drop(self) {
-        let Units { metas, names, rows } = self;
+        let Units {
+            metas,
+            names,
+            sets,
+            tables,
+        } = self;
     }
 }
 
 impl Model for Units {
-    ghost use Rattle.std.specs.Prelude.{◌≡◌, length};
     ghost use Rattle.std.specs.Coded.{codes};
     ghost use Rattle.qvt_types_data.specs.contracts.ty.Ty as ty_row;
-    ghost use Rattle.qvt_types_groups.specs.Choices.{ChosenUnits, unit_rows};
+    ghost use Rattle.qvt_types_groups.specs.Choices.{ChosenUnits, HaveTables};
 
     ghost Value = { ChosenUnits };
 
@@ -92,7 +95,7 @@ impl Model for Units {
 
     ghost view = { λ t. record { metas = t.metas; units = t.names } };
 
-    ghost invariant = { λ t. t.rows ≡ unit_rows t.metas t.names (length t.names) };
+    ghost invariant = { λ t. HaveTables t.metas t.names t.sets t.tables };
 }
 
 impl Units {
@@ -100,8 +103,15 @@ impl Units {
     pub fn new(alloc: Global, metas: Metas, names: UnitNames) -> Result<Units, ListFault>
         ensures { IfOk result (λ t. t ≡ record { metas = metas; units = names }) }
     {
-        let rows = unit_rows(alloc, &metas, &names)?;
-        Ok(Units { metas, names, rows })
+        let order = class_order(alloc, &metas)?;
+        let sets = class_sets(alloc, &metas, &order)?;
+        let tables = unit_tables(alloc, &metas, &names, &sets, order.classes.as_slice())?;
+        Ok(Units {
+            metas,
+            names,
+            sets,
+            tables,
+        })
     }
 
     /// The metamodels with Element and the intermediate classes.
@@ -116,6 +126,22 @@ impl Units {
         ensures { result.now ≡ self.now.units }
     {
         &self.names
+    }
+
+    /// What is found for the class by what is told of the units that are called like this one.
+    fn told(&self, first: u32, group: &[u32], class: ClassNo) -> Option<Found>
+        requires { group.now ≡ choices_of.group_of self.now.units first }
+        ensures { IfSome result (λ f. f ≡ choice.looked_up self.now.metas self.now.units group.now class.0) }
+    {
+        let table = self.tables.get(first as usize)?;
+        found_in(
+            &self.metas,
+            self.names.signatures(),
+            &self.sets,
+            group,
+            table,
+            class,
+        )
     }
 
     /// What a call of a unit with a context by its name finds for objects of the class. Where the class is one of the metamodels' it
@@ -133,9 +159,12 @@ impl Units {
         let group = self.names.group(maps, name);
         match group {
             [] => Ok(Found::NoUnit),
-            [first, ..] => match row_at(self.rows.as_slice(), *first, class) {
+            [first, ..] => match self.told(*first, group, class) {
                 Some(found) => Ok(found),
-                None => look_up(alloc, &self.metas, self.names.signatures(), group, class),
+                None => {
+                    let units = self.names.signatures();
+                    look_up(alloc, &self.metas, units, &self.sets, group, class)
+                }
             },
         }
     }

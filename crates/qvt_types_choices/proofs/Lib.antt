@@ -1,0 +1,9 @@
+pub mod Lowest
+pub mod ByClass
+pub mod Joined
+pub mod Somewhere
+pub mod Singly
+pub mod Sets
+pub mod Marked
+pub mod Below
+pub mod Chosen

@@ -1,0 +1,20 @@
+use Rattle.std.proofs.Common.{◌∙◌, ◌++◌, ◌∷◌, [], ap}
+use Rattle.qvt_types_paths.proofs.Places.{map_range_more}
+use Rattle.qvt_types_choices.specs.Sets.{bits}
+use Rattle.qvt_types_choices.specs.Stuck.{is_stuck}
+use Rattle.qvt_types_choices.specs.ByClass.{choice_for, is_stuck_by}
+use Rattle.qvt_types_choices.proofs.Chosen.{stuck_by}
+use Rattle.qvt_types_choices.proofs.Sets.{marks_next}
+use Rattle.qvt_types_choices.proofs.class_choices.choices_by.Goals as goal
+
+pub loop-class-preserved : goal.loop-class-preserved
+loop-class-preserved c = record {
+  each =
+      c.in_ok-push.ensures.ok
+      ∙ (λ t. c.loop-class.invariant.each t ++ c.in_ok-choice.ensures t ∷ [])
+      ∙ map_range_more (choice_for c.args.metas.now c.args.units.now c.args.group.now) c.loop-class.class;
+  words = c.mark_if.ensures.each ∙ c.loop-class.invariant.words;
+  marks = marks_next (is_stuck c.args.metas.now c.args.units.now c.args.group.now) c.loop-class.class (bits c.loop-class.stuck) (bits c.mark_if.new.words) c.is_stuck.result c.loop-class.invariant.marks
+      (c.is_stuck.ensures ∙ ap (is_stuck_by c.args.metas.now c.loop-class.class) c.in_ok-choice.ensures ∙ stuck_by c.args.metas.now c.args.units.now c.args.group.now c.loop-class.class)
+      c.mark_if.ensures.marks;
+}

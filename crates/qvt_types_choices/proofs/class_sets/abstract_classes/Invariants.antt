@@ -1,0 +1,13 @@
+use Rattle.std.proofs.Common.{◌≡◌, ℕ, ◌&&◌, length}
+use Rattle.std.specs.Prelude.{nat_lt}
+use Rattle.qvt_metamodel.specs.Metamodels.{class_at}
+use Rattle.qvt_metamodel.specs.Kept.{is_marked}
+use Rattle.qvt_types_choices.specs.Sets.{bits}
+use Rattle.qvt_types_choices.proofs.Marked.{word_count}
+use Rattle.qvt_types_choices.proofs.class_sets.abstract_classes.Given as goal
+
+abbrev pub invariant-loop-class : goal.invariant-loop-class
+invariant-loop-class l = record {
+  each : length l.words ≡ word_count l.count;
+  marks : (d : ℕ) → is_marked (bits l.words) d ≡ (nat_lt d l.class && (class_at l.metas d).is_abstract);
+}

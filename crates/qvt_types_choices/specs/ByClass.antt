@@ -1,0 +1,123 @@
+-- The choice for each class by itself, whatever is below it: that of its own units, or else what its superclasses have.
+use Rattle.std.specs.Prelude.{◌≡◌, ◌<◌, ℕ, ◌==◌, ◌&&◌, not, Bool, true, false, List, [], ◌∷◌, length, map, filter, Option, Some, None, if◌then◌else◌, slice_index_or, slice_set}
+use Rattle.std.specs.List.{list_any, range_with_len}
+use Rattle.qvt_base.specs.declared.numbers.ClassNo.{ClassNo}
+use Rattle.qvt_metamodel.specs.Metamodels.{Metamodels, class_at, is_element}
+use Rattle.qvt_metamodel.specs.Descends.{descends}
+use Rattle.qvt_metamodel.specs.Kept.{is_marked}
+use Rattle.qvt_metamodel.specs.declared.row.Row.{Row}
+use Rattle.qvt_types_units.specs.declared.choice.Found.{Found}
+use Rattle.qvt_types_units.specs.declared.choice.Found.TheVariants.{NoUnit, Untyped, Unclear, Chosen}
+use Rattle.qvt_types_units.specs.declared.signature.HeadClass.{HeadClass}
+use Rattle.qvt_types_units.specs.declared.signature.HeadClass.TheVariants.{Missing, Unknown, Known}
+use Rattle.qvt_types_units.specs.declared.signature.Signature.{Signature}
+use Rattle.qvt_types_units.specs.Choice.{candidates, chosen_of, context_at, is_empty, lowest, single}
+use Rattle.qvt_types_units.specs.Numbers.{is_context}
+use Rattle.qvt_types_choices.specs.Stuck.{is_stuck}
+use Rattle.qvt_types_choices.specs.Sets.{IsSetOf}
+use Rattle.qvt_types_choices.specs.declared.class_choices.ClassChoices.{ClassChoices}
+
+-- the choice where these are the units that an object may be handed to
+abbrev pub choice_among : Metamodels → List Signature → List ℕ → Found
+choice_among m us ns = if is_empty ns then NoUnit else chosen_of false (single (lowest m us ns))
+
+unfoldable pub choice_for : Metamodels → List Signature → List ℕ → ℕ → Found
+choice_for m us ns c = choice_among m us (candidates m us ns c)
+
+-- for each of the first n classes
+abbrev pub choices : Metamodels → List Signature → List ℕ → ℕ → List Found
+choices m us ns n = map (choice_for m us ns) (range_with_len 0 n)
+
+abbrev pub choice_at : List Found → ℕ → Found
+choice_at choices c = slice_index_or choices c NoUnit
+
+abbrev pub is_unclear : Found → Bool
+is_unclear Unclear = true
+is_unclear NoUnit = false
+is_unclear Untyped = false
+is_unclear (Chosen n) = false
+
+-- a concrete class without a single choice
+abbrev pub is_stuck_by : Metamodels → ℕ → Found → Bool
+is_stuck_by m c f = not (class_at m c).is_abstract && is_unclear f
+
+-- what is found for a class with this choice: none is told where a context is unknown, nor where a class at or below it lacks one
+abbrev pub settled : Bool → Bool → Found → Found
+settled true lacking f = Untyped
+settled false lacking (Chosen n) = if lacking then Unclear else Chosen n
+settled false lacking NoUnit = NoUnit
+settled false lacking Untyped = Untyped
+settled false lacking Unclear = Unclear
+
+-- one of the classes that are marked descends from this one
+abbrev pub some_below : Metamodels → Row → ℕ → Bool
+some_below m r c = list_any (λ d. is_marked r d && descends m d c) (range_with_len 0 (length m.classes))
+
+-- the units of exactly this class
+abbrev pub own : List Signature → List ℕ → ℕ → List ℕ
+own us ns c = filter (λ n. is_context (context_at us n) c) ns
+
+-- a class has one unit more: of several none is chosen
+abbrev pub one_more : Option Found → ℕ → Option Found
+one_more None n = Some (Chosen n)
+one_more (Some f) n = Some Unclear
+
+abbrev pub all_more : Option Found → List ℕ → Option Found
+all_more o [] = o
+all_more o (n ∷ ns) = all_more (one_more o n) ns
+
+-- what is known of a class, in a list by the numbers of classes
+abbrev pub known_at : List (Option Found) → ℕ → Option Found
+known_at known c = slice_index_or known c None
+
+-- the class of a unit has one more
+abbrev pub told_more : List (Option Found) → HeadClass → ℕ → List (Option Found)
+told_more known (Known c) n = slice_set known c.0 (one_more (known_at known c.0) n)
+told_more known Missing n = known
+told_more known Unknown n = known
+
+-- the unit's class is the one above all
+abbrev pub is_top : Metamodels → HeadClass → Bool
+is_top m (Known c) = is_element m c.0
+is_top m Missing = false
+is_top m Unknown = false
+
+abbrev pub tops : Metamodels → List Signature → List ℕ → List ℕ
+tops m us ns = filter (λ n. is_top m (context_at us n)) ns
+
+-- the choice for a class without superclasses and without units of its own
+abbrev pub top_choice : Metamodels → List Signature → List ℕ → Found
+top_choice m us ns = choice_among m us (tops m us ns)
+
+-- what two classes tell of one below both, where no other is above it
+abbrev pub joined_found : Found → Found → Option Found
+joined_found NoUnit g = Some g
+joined_found Untyped g = None
+joined_found Unclear g = None
+joined_found (Chosen n) NoUnit = Some (Chosen n)
+joined_found (Chosen n) Untyped = None
+joined_found (Chosen n) Unclear = None
+joined_found (Chosen n) (Chosen k) = if n == k then Some (Chosen n) else None
+
+abbrev pub joined : Option Found → Option Found → Option Found
+joined None o = None
+joined (Some f) None = None
+joined (Some f) (Some g) = joined_found f g
+
+abbrev pub all_joined : List (Option Found) → Option Found → List ClassNo → Option Found
+all_joined known o [] = o
+all_joined known o (c ∷ cs) = all_joined known (joined o (known_at known c.0)) cs
+
+-- the choice for a class without units of its own, by its superclasses
+abbrev pub inherited : List (Option Found) → Found → List ClassNo → Option Found
+inherited known top [] = Some top
+inherited known top (c ∷ cs) = all_joined known (known_at known c.0) cs
+
+-- what is known of a class is its choice; one of which nothing is known has no units of its own
+pub record AreKnown (m : Metamodels) (us : List Signature) (ns : List ℕ) (known : List (Option Found)) : Type 0 where
+  pub told : (c : ℕ) (f : Found) → known_at known c ≡ Some f → f ≡ choice_for m us ns c
+  pub untold : (c : ℕ) → c < length known → known_at known c ≡ None → own us ns c ≡ []
+
+pub record AreChosen (m : Metamodels) (us : List Signature) (ns : List ℕ) (t : ClassChoices) : Type 0 where
+  pub each : t.each ≡ choices m us ns (length m.classes)
+  pub stuck : IsSetOf m (is_stuck m us ns) t.stuck

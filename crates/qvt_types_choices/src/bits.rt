@@ -1,0 +1,52 @@
+//! Sets of numbers that are made in place.
+
+ghost use Rattle.std.specs.Prelude.{◌≡◌, ◌<◌, ◌/◌, ◌%◌, ◌^◌, ◌+◌, ◌||◌, ◌&&◌, ◌==◌, ℕ, min, replicate, length, IfOk};
+ghost use Rattle.qvt_metamodel.specs.Kept.{is_marked};
+ghost use Rattle.qvt_types_choices.specs.Sets.{bits};
+
+use qvt_base::list_fault::ListFault;
+use qvt_base::seq::Seq;
+use qvt_metamodel::row::Row;
+use std::alloc::Global;
+
+/// As many words without bits as a set of numbers below the bound has.
+pub fn no_bits(alloc: Global, bound: u32) -> Result<Seq<u64>, ListFault>
+    ensures { IfOk result (λ ws. ws ≡ replicate (min bound (bound / 64 + 1)) 0) }
+{
+    let mut words = Seq::new(alloc);
+    for place in 0..bound.min(bound / 64 + 1) {
+        words.push(0)?;
+    }
+    Ok(words)
+}
+
+/// The word where the bit of the number alone is.
+fn bit_of(number: u32) -> u64
+    ensures { result ≡ 2 ^ (number % 64) }
+{
+    1 << (number % 64)
+}
+
+/// Puts the number into a set, if it is to be there.
+pub fn mark_if(words: &mut Seq<u64>, is_one: bool, number: u32)
+    requires { number / 64 < length words.old }
+    ensures each { length words.new ≡ length words.old }
+    ensures marks { (d : ℕ) → is_marked (bits words.new) d ≡ (is_marked (bits words.old) d || (is_one && (number == d))) }
+{
+    if is_one {
+        let at = (number / 64) as usize;
+        let word = words.as_slice()[at];
+        words.set(at, word | bit_of(number));
+    }
+}
+
+/// The set with these words.
+pub fn row_of(words: Seq<u64>) -> Row
+    ensures { result ≡ bits words }
+{
+    Row {
+        start: 0,
+        skipped: 0,
+        words,
+    }
+}

@@ -1,0 +1,148 @@
+//! What calls by a name find for objects of each class.
+
+ghost use Rattle.std.specs.Prelude.{◌≡◌, ◌∷◌, [], length, map, IfOk};
+ghost use Rattle.std.specs.List.{range_with_len};
+ghost use Rattle.qvt_meta_tables.specs.Tables.{EndsWithin};
+ghost use Rattle.qvt_types_units.specs.Choice as choice;
+ghost use Rattle.qvt_types_choices.specs.Sets.{AreSets};
+ghost use Rattle.qvt_types_choices.specs.ByClass as by_class;
+
+use crate::class_choices::{ClassChoices, all_choices, choice_for, class_order};
+use crate::class_sets::{ClassSets, set_below};
+use qvt_base::list_fault::ListFault;
+use qvt_base::numbers::ClassNo;
+use qvt_base::seq::Seq;
+use qvt_metamodel::row::Row;
+use qvt_rows::sets::overlap;
+use qvt_types_paths::metas::Metas;
+use qvt_types_units::choice::{Found, context_at, is_unknown};
+use qvt_types_units::signature::{HeadClass, Signature};
+use std::alloc::Global;
+
+/// What is found for each class.
+pub type FoundRow = Seq<Found>;
+
+/// Whether the context of one of the units is unknown.
+pub fn is_unsure(units: &[Signature], group: &[u32]) -> bool
+    ensures { result ≡ choice.is_unsure units.now group.now }
+{
+    group
+        .iter()
+        .any(|number| is_unknown(context_at(units, *number)))
+}
+
+/// Whether one of these classes is the class or below it.
+fn are_some_below(metas: &Metas, sets: &ClassSets, marked: &Row, class: ClassNo) -> bool
+    requires sets { AreSets metas.now sets.now }
+    requires within { EndsWithin (length metas.now.classes) marked.now }
+    ensures { result ≡ by_class.some_below metas.now marked.now class.0 }
+{
+    overlap(metas.class_count(), marked, set_below(metas, sets, class))
+}
+
+/// What is found for the class with this choice, where these are the classes without a single one.
+pub fn found(
+    metas: &Metas,
+    sets: &ClassSets,
+    is_unsure: bool,
+    stuck: &Row,
+    class: ClassNo,
+    choice: Found,
+) -> Found
+    requires sets { AreSets metas.now sets.now }
+    requires within { EndsWithin (length metas.now.classes) stuck.now }
+    ensures { result ≡ by_class.settled is_unsure (by_class.some_below metas.now stuck.now class.0) choice }
+{
+    if is_unsure {
+        return Found::Untyped;
+    }
+    match choice {
+        Found::Chosen(_) if are_some_below(metas, sets, stuck, class) => Found::Unclear,
+        _ => choice,
+    }
+}
+
+/// What is found where there is one unit alone.
+fn found_alone(metas: &Metas, units: &[Signature], number: u32, class: ClassNo) -> Found
+    ensures { result ≡ choice.looked_up metas.now units.now (number ∷ []) class.0 }
+{
+    metas.are_well_formed();
+    match context_at(units, number) {
+        HeadClass::Missing => Found::NoUnit,
+        HeadClass::Unknown => Found::Untyped,
+        HeadClass::Known(above) => {
+            if metas.descends(class, above) {
+                Found::Chosen(number)
+            } else {
+                Found::NoUnit
+            }
+        }
+    }
+}
+
+/// What is found for the class.
+pub fn look_up(
+    alloc: Global,
+    metas: &Metas,
+    units: &[Signature],
+    sets: &ClassSets,
+    group: &[u32],
+    class: ClassNo,
+) -> Result<Found, ListFault>
+    requires { AreSets metas.now sets.now }
+    ensures { IfOk result (λ f. f ≡ choice.looked_up metas.now units.now group.now class.0) }
+{
+    match group {
+        [] => Ok(Found::NoUnit),
+        [number] => Ok(found_alone(metas, units, *number, class)),
+        several => {
+            metas.are_well_formed();
+            let order = class_order(alloc, metas)?;
+            let ClassChoices { stuck, .. } = all_choices(
+                alloc,
+                metas,
+                units,
+                several,
+                order.classes.as_slice(),
+            )?;
+            let choice = choice_for(alloc, metas, units, several, class)?;
+            let is_unsure = is_unsure(units, several);
+            Ok(found(metas, sets, is_unsure, &stuck, class, choice))
+        }
+    }
+}
+
+fn choice_at(choices: &[Found], class: u32) -> Found
+    ensures { result ≡ by_class.choice_at choices.now class }
+{
+    let at = class as usize;
+    if at < choices.len() {
+        choices[at]
+    } else {
+        Found::NoUnit
+    }
+}
+
+/// What is found for each class. It is the same along each order of the classes, and soon told where each comes after its
+/// superclasses.
+pub fn full_row(
+    alloc: Global,
+    metas: &Metas,
+    units: &[Signature],
+    sets: &ClassSets,
+    group: &[u32],
+    order: &[u32],
+) -> Result<FoundRow, ListFault>
+    requires { AreSets metas.now sets.now }
+    ensures { IfOk result (λ fs. fs ≡ map (choice.looked_up metas.now units.now group.now) (range_with_len 0 (length metas.now.classes))) }
+{
+    metas.are_well_formed();
+    let ClassChoices { each, stuck } = all_choices(alloc, metas, units, group, order)?;
+    let is_unsure = is_unsure(units, group);
+    let mut row = Seq::new(alloc);
+    for class in 0..metas.class_count() {
+        let choice = choice_at(each.as_slice(), class);
+        row.push(found(metas, sets, is_unsure, &stuck, ClassNo(class), choice))?;
+    }
+    Ok(row)
+}

@@ -1,0 +1,368 @@
+//! The choice of a unit for each class by itself, whatever is below it: that of its own units, or else what its superclasses have.
+
+ghost use Rattle.std.specs.Prelude.{◌≡◌, ◌<◌, ℕ, length, replicate, false, None, IfOk, OnOk};
+ghost use Rattle.qvt_metamodel.specs.Metamodels.{class_at};
+ghost use Rattle.qvt_types_units.specs.Choice as choice;
+ghost use Rattle.qvt_types_choices.specs.ByClass as by_class;
+ghost use Rattle.qvt_types_choices.specs.ByClass.{AreKnown, AreChosen};
+
+use crate::bits::{mark_if, no_bits, row_of};
+use crate::candidates::lowest;
+use qvt_base::list_fault::ListFault;
+use qvt_base::numbers::ClassNo;
+use qvt_base::seq::Seq;
+use qvt_metamodel::row::Row;
+use qvt_metas::order::{Order, order_of};
+use qvt_metas::tables::supers_at;
+use qvt_types_paths::metas::Metas;
+use qvt_types_units::choice::{Found, candidates, context_at};
+use qvt_types_units::signature::{HeadClass, Signature};
+use std::alloc::Global;
+
+/// What is known of each class by its number: its choice, or nothing.
+type KnownChoices = Seq<Option<Found>>;
+
+/// For each class its choice, and the concrete classes without a single one, though some units are above them.
+#[derive(Drop)]
+pub struct ClassChoices {
+    pub each: Seq<Found>,
+    pub stuck: Row,
+}
+
+fn chosen_of(chosen: Option<u32>) -> Found
+    ensures { result ≡ choice.chosen_of false chosen }
+{
+    match chosen {
+        None => Found::Unclear,
+        Some(number) => Found::Chosen(number),
+    }
+}
+
+/// The choice where these are the units that an object may be handed to.
+fn choice_among(
+    alloc: Global,
+    metas: &Metas,
+    units: &[Signature],
+    among: &[u32],
+) -> Result<Found, ListFault>
+    ensures { IfOk result (λ f. f ≡ by_class.choice_among metas.now units.now among.now) }
+{
+    match among {
+        [] => Ok(Found::NoUnit),
+        some => Ok(chosen_of(lowest(alloc, metas, units, some)?)),
+    }
+}
+
+/// The choice for the class, in time linear in the number of the units.
+#[tactic(auto, unfolding(crate::specs::ByClass::choice_for))]
+pub fn choice_for(
+    alloc: Global,
+    metas: &Metas,
+    units: &[Signature],
+    group: &[u32],
+    class: ClassNo,
+) -> Result<Found, ListFault>
+    ensures { IfOk result (λ f. f ≡ by_class.choice_for metas.now units.now group.now class.0) }
+{
+    let among = candidates(alloc, metas, units, group, class)?;
+    choice_among(alloc, metas, units, among.as_slice())
+}
+
+/// Nothing of each of as many classes.
+fn nothing_known(alloc: Global, count: u32) -> Result<KnownChoices, ListFault>
+    ensures { IfOk result (λ known. known ≡ replicate count None) }
+{
+    let mut known = Seq::new(alloc);
+    for class in 0..count {
+        known.push(None)?;
+    }
+    Ok(known)
+}
+
+fn known_at(known: &[Option<Found>], class: u32) -> Option<Found>
+    ensures { result ≡ by_class.known_at known.now class }
+{
+    let at = class as usize;
+    if at < known.len() { known[at] } else { None }
+}
+
+/// What is known of a class that has one unit more.
+fn one_more(known: Option<Found>, number: u32) -> Option<Found>
+    ensures { result ≡ by_class.one_more known number }
+{
+    match known {
+        None => Some(Found::Chosen(number)),
+        Some(_) => Some(Found::Unclear),
+    }
+}
+
+/// Tells what is known of a class, where it is there.
+fn tell(known: &mut KnownChoices, class: u32, choice: Option<Found>)
+    ensures { known.new ≡ slice_set known.old class choice }
+{
+    let at = class as usize;
+    if at < known.len() {
+        known.set(at, choice);
+    }
+}
+
+ghost use Rattle.std.specs.Prelude.{slice_set};
+
+/// Tells that the class of a unit has one more.
+fn tell_more(known: &mut KnownChoices, context: HeadClass, number: u32)
+    ensures { known.new ≡ by_class.told_more known.old context number }
+{
+    if let HeadClass::Known(class) = context {
+        let more = one_more(known_at(known.as_slice(), class.0), number);
+        tell(known, class.0, more);
+    }
+}
+
+/// What is known of each class by its own units.
+fn own_choices(
+    alloc: Global,
+    units: &[Signature],
+    group: &[u32],
+    count: u32,
+) -> Result<KnownChoices, ListFault>
+    ensures each { IfOk result (λ known. length known ≡ count) }
+    ensures own { IfOk result (λ known. (c : ℕ) → c < count → by_class.known_at known c ≡ by_class.all_more None (by_class.own units.now group.now c)) }
+{
+    let mut known = nothing_known(alloc, count)?;
+    for number in group {
+        tell_more(&mut known, context_at(units, *number), *number);
+    }
+    Ok(known)
+}
+
+/// Whether the class is the one above all.
+pub fn is_element(metas: &Metas, class: ClassNo) -> bool
+    ensures { result ≡ is_element metas.now class.0 }
+{
+    metas.are_well_formed();
+    metas.ancestors_are_least();
+    let nowhere = metas.class_count();
+    class.0 != nowhere && metas.descends(ClassNo(nowhere), class)
+}
+
+ghost use Rattle.qvt_metamodel.specs.Metamodels.{is_element};
+
+fn is_top(metas: &Metas, context: HeadClass) -> bool
+    ensures { result ≡ by_class.is_top metas.now context }
+{
+    match context {
+        HeadClass::Missing => false,
+        HeadClass::Unknown => false,
+        HeadClass::Known(class) => is_element(metas, class),
+    }
+}
+
+/// The units of the class above all.
+fn tops(
+    alloc: Global,
+    metas: &Metas,
+    units: &[Signature],
+    group: &[u32],
+) -> Result<Seq<u32>, ListFault>
+    ensures { IfOk result (λ ns. ns ≡ by_class.tops metas.now units.now group.now) }
+{
+    let mut numbers = Seq::new(alloc);
+    for number in group {
+        if is_top(metas, context_at(units, *number)) {
+            numbers.push(*number)?;
+        }
+    }
+    Ok(numbers)
+}
+
+/// The choice for classes without superclasses and without units of their own.
+fn top_choice(
+    alloc: Global,
+    metas: &Metas,
+    units: &[Signature],
+    group: &[u32],
+) -> Result<Found, ListFault>
+    ensures { IfOk result (λ f. f ≡ by_class.top_choice metas.now units.now group.now) }
+{
+    let tops = tops(alloc, metas, units, group)?;
+    choice_among(alloc, metas, units, tops.as_slice())
+}
+
+/// What two classes tell of one below both, where no other is above it: one that has no units tells nothing, and two that have the
+/// same unit tell of that.
+fn joined_found(one: Found, other: Found) -> Option<Found>
+    ensures { result ≡ by_class.joined_found one other }
+{
+    match one {
+        Found::NoUnit => Some(other),
+        Found::Untyped => None,
+        Found::Unclear => None,
+        Found::Chosen(number) => match other {
+            Found::NoUnit => Some(Found::Chosen(number)),
+            Found::Untyped => None,
+            Found::Unclear => None,
+            Found::Chosen(same) => {
+                if number == same {
+                    Some(Found::Chosen(number))
+                } else {
+                    None
+                }
+            }
+        },
+    }
+}
+
+fn joined(one: Option<Found>, other: Option<Found>) -> Option<Found>
+    ensures { result ≡ by_class.joined one other }
+{
+    match one {
+        None => None,
+        Some(one) => match other {
+            None => None,
+            Some(other) => joined_found(one, other),
+        },
+    }
+}
+
+/// What is told by one superclass and these others.
+fn all_joined(known: &[Option<Found>], first: Option<Found>, others: &[ClassNo]) -> Option<Found>
+    ensures { result ≡ by_class.all_joined known.now first others.now }
+{
+    let mut found = first;
+    for above in others {
+        found = joined(found, known_at(known, above.0));
+    }
+    found
+}
+
+/// The choice for a class without units of its own, where its superclasses tell it.
+fn inherited(metas: &Metas, known: &[Option<Found>], top: Found, class: u32) -> Option<Found>
+    ensures { result ≡ by_class.inherited known.now top (class_at metas.now class).supers }
+{
+    match supers_at(metas.class_infos(), class) {
+        [] => Some(top),
+        [above, others @ ..] => all_joined(known, known_at(known, above.0), others),
+    }
+}
+
+/// The choice for a class by what is known, in time linear in the number of the units where that does not tell it.
+fn choice_by(
+    alloc: Global,
+    metas: &Metas,
+    units: &[Signature],
+    group: &[u32],
+    top: Found,
+    known: &[Option<Found>],
+    class: u32,
+) -> Result<Found, ListFault>
+    requires there { class < length known.now }
+    requires top { top ≡ by_class.top_choice metas.now units.now group.now }
+    requires known { AreKnown metas.now units.now group.now known.now }
+    ensures { IfOk result (λ f. f ≡ by_class.choice_for metas.now units.now group.now class) }
+{
+    metas.are_well_formed();
+    metas.ancestors_are_least();
+    if let Some(choice) = known_at(known, class) {
+        return Ok(choice);
+    }
+    if let Some(choice) = inherited(metas, known, top, class) {
+        return Ok(choice);
+    }
+    choice_for(alloc, metas, units, group, ClassNo(class))
+}
+
+/// Tells the choice for each class of an order. Where each comes after its superclasses, most are told by these.
+fn tell_all(
+    alloc: Global,
+    metas: &Metas,
+    units: &[Signature],
+    group: &[u32],
+    top: Found,
+    order: &[u32],
+    known: &mut KnownChoices,
+) -> Result<(), ListFault>
+    requires top { top ≡ by_class.top_choice metas.now units.now group.now }
+    requires known { AreKnown metas.now units.now group.now known.old }
+    ensures each { OnOk result (length known.new ≡ length known.old) }
+    ensures known { OnOk result (AreKnown metas.now units.now group.now known.new) }
+{
+    for class in order {
+        if (*class as usize) < known.len() {
+            let choice = choice_by(alloc, metas, units, group, top, known.as_slice(), *class)?;
+            tell(known, *class, Some(choice));
+        }
+    }
+    Ok(())
+}
+
+/// Whether the class is concrete and has no single choice.
+fn is_stuck(metas: &Metas, class: ClassNo, choice: Found) -> bool
+    ensures { result ≡ by_class.is_stuck_by metas.now class.0 choice }
+{
+    if metas.is_abstract(class) {
+        return false;
+    }
+    match choice {
+        Found::Unclear => true,
+        _ => false,
+    }
+}
+
+/// The choices of all classes, by what is known.
+fn choices_by(
+    alloc: Global,
+    metas: &Metas,
+    units: &[Signature],
+    group: &[u32],
+    top: Found,
+    known: &[Option<Found>],
+) -> Result<ClassChoices, ListFault>
+    requires each { length known.now ≡ length metas.now.classes }
+    requires top { top ≡ by_class.top_choice metas.now units.now group.now }
+    requires known { AreKnown metas.now units.now group.now known.now }
+    ensures { IfOk result (AreChosen metas.now units.now group.now) }
+{
+    let count = metas.class_count();
+    let mut each = Seq::new(alloc);
+    let mut stuck = no_bits(alloc, count)?;
+    for class in 0..count {
+        let choice = choice_by(alloc, metas, units, group, top, known, class)?;
+        each.push(choice)?;
+        mark_if(&mut stuck, is_stuck(metas, ClassNo(class), choice), class);
+    }
+    Ok(ClassChoices {
+        each,
+        stuck: row_of(stuck),
+    })
+}
+
+/// The classes, each after its superclasses.
+pub fn class_order(alloc: Global, metas: &Metas) -> Result<Order, ListFault>
+    ensures { IfOk result (λ order. IsOrder (of_classes metas.now.classes) order.classes order.ranks) }
+{
+    metas.are_well_formed();
+    let order = order_of(alloc, metas.class_infos(), metas.class_count())?;
+    Ok(order)
+}
+
+ghost use Rattle.qvt_meta_tables.specs.Tables.{IsOrder, of_classes};
+
+/// The choice for each class, from what its own units tell and then along an order. It is the same along each, and soon told where each
+/// class comes after its superclasses.
+pub fn all_choices(
+    alloc: Global,
+    metas: &Metas,
+    units: &[Signature],
+    group: &[u32],
+    order: &[u32],
+) -> Result<ClassChoices, ListFault>
+    ensures { IfOk result (AreChosen metas.now units.now group.now) }
+{
+    metas.are_well_formed();
+    metas.ancestors_are_least();
+    let top = top_choice(alloc, metas, units, group)?;
+    let mut known = own_choices(alloc, units, group, metas.class_count())?;
+    tell_all(alloc, metas, units, group, top, order, &mut known)?;
+    let choices = choices_by(alloc, metas, units, group, top, known.as_slice())?;
+    Ok(choices)
+}

@@ -1,0 +1,147 @@
+//! The classes without a single choice among a few units of a name, by sets of classes.
+
+ghost use Rattle.std.specs.Prelude.{◌≡◌, ◌<◌, ◌&&◌, not, eqb, length, IfOk};
+ghost use Rattle.std.specs.List.{list_any, IsDistinct};
+ghost use Rattle.qvt_types_units.specs.Choice as choice;
+ghost use Rattle.qvt_types_choices.specs.Only as only;
+ghost use Rattle.qvt_types_choices.specs.Sets.{IsSetOf, AreSets};
+ghost use Rattle.qvt_types_choices.specs.Stuck.{is_stuck};
+
+use crate::class_sets::{ClassSets, set_below};
+use crate::only::is_rival;
+use qvt_base::list_fault::ListFault;
+use qvt_metamodel::row::Row;
+use qvt_rows::sets::{empty_row, united, without};
+use qvt_types_paths::metas::Metas;
+use qvt_types_units::choice::context_at;
+use qvt_types_units::signature::{HeadClass, Signature};
+use std::alloc::Global;
+
+/// The set of the classes that the unit is above.
+fn set_of<'a>(metas: &Metas, units: &[Signature], sets: &'a ClassSets, number: u32) -> &'a Row
+    requires { AreSets metas.now sets.now }
+    ensures { IsSetOf metas.now (choice.is_context_above metas.now (choice.context_at units.now number)) result.now }
+{
+    match context_at(units, number) {
+        HeadClass::Missing => &sets.none,
+        HeadClass::Unknown => &sets.none,
+        HeadClass::Known(class) => set_below(metas, sets, class),
+    }
+}
+
+/// The same of the other unit, where it is a rival of this one.
+fn set_of_rival<'a>(
+    metas: &Metas,
+    units: &[Signature],
+    sets: &'a ClassSets,
+    number: u32,
+    other: u32,
+) -> &'a Row
+    requires { AreSets metas.now sets.now }
+    ensures { IsSetOf metas.now (λ d. only.is_rival metas.now units.now number other && choice.is_context_above metas.now (choice.context_at units.now other) d) result.now }
+{
+    if is_rival(metas, units, number, other) {
+        set_of(metas, units, sets, other)
+    } else {
+        &sets.none
+    }
+}
+
+/// The set of the classes that some of the units are above.
+fn set_of_any(
+    alloc: Global,
+    metas: &Metas,
+    units: &[Signature],
+    sets: &ClassSets,
+    group: &[u32],
+) -> Result<Row, ListFault>
+    requires { AreSets metas.now sets.now }
+    ensures { IfOk result (IsSetOf metas.now (λ d. list_any (λ n. choice.is_context_above metas.now (choice.context_at units.now n) d) group.now)) }
+{
+    let count = metas.class_count();
+    let mut row = empty_row(alloc);
+    for number in group {
+        row = united(alloc, count, &row, set_of(metas, units, sets, *number))?;
+    }
+    Ok(row)
+}
+
+/// The set of the classes that the rivals of the unit are above.
+fn set_of_rivals(
+    alloc: Global,
+    metas: &Metas,
+    units: &[Signature],
+    sets: &ClassSets,
+    group: &[u32],
+    number: u32,
+) -> Result<Row, ListFault>
+    requires { AreSets metas.now sets.now }
+    ensures { IfOk result (IsSetOf metas.now (λ d. list_any (λ k. only.is_rival metas.now units.now number k && choice.is_context_above metas.now (choice.context_at units.now k) d) group.now)) }
+{
+    let count = metas.class_count();
+    let mut row = empty_row(alloc);
+    for other in group {
+        let rival = set_of_rival(metas, units, sets, number, *other);
+        row = united(alloc, count, &row, rival)?;
+    }
+    Ok(row)
+}
+
+/// The set of the classes whose single choice the unit is.
+fn set_of_single(
+    alloc: Global,
+    metas: &Metas,
+    units: &[Signature],
+    sets: &ClassSets,
+    group: &[u32],
+    number: u32,
+) -> Result<Row, ListFault>
+    requires { AreSets metas.now sets.now }
+    ensures { IfOk result (IsSetOf metas.now (only.is_only metas.now units.now group.now number)) }
+{
+    let rivals = set_of_rivals(alloc, metas, units, sets, group, number)?;
+    let own = set_of(metas, units, sets, number);
+    let single = without(alloc, metas.class_count(), own, &rivals)?;
+    Ok(single)
+}
+
+/// The set of the classes that have a single choice.
+fn set_of_singles(
+    alloc: Global,
+    metas: &Metas,
+    units: &[Signature],
+    sets: &ClassSets,
+    group: &[u32],
+) -> Result<Row, ListFault>
+    requires { AreSets metas.now sets.now }
+    ensures { IfOk result (IsSetOf metas.now (λ d. list_any (λ n. only.is_only metas.now units.now group.now n d) group.now)) }
+{
+    let count = metas.class_count();
+    let mut row = empty_row(alloc);
+    for number in group {
+        let single = set_of_single(alloc, metas, units, sets, group, *number)?;
+        row = united(alloc, count, &row, &single)?;
+    }
+    Ok(row)
+}
+
+/// The set of the concrete classes that some of the units are above and that have no single choice.
+pub fn set_of_stuck(
+    alloc: Global,
+    metas: &Metas,
+    units: &[Signature],
+    sets: &ClassSets,
+    group: &[u32],
+) -> Result<Row, ListFault>
+    requires sets { AreSets metas.now sets.now }
+    requires distinct { IsDistinct eqb group.now }
+    ensures { IfOk result (IsSetOf metas.now (is_stuck metas.now units.now group.now)) }
+{
+    metas.are_well_formed();
+    let count = metas.class_count();
+    let any = set_of_any(alloc, metas, units, sets, group)?;
+    let concrete = without(alloc, count, &any, &sets.abstracts)?;
+    let singles = set_of_singles(alloc, metas, units, sets, group)?;
+    let stuck = without(alloc, count, &concrete, &singles)?;
+    Ok(stuck)
+}
