@@ -3,15 +3,14 @@ use Rattle.std.proofs.Common.{◌≡◌, ◌∙◌, ℕ, ◌<◌, ◌≤◌, ◌
 use Rattle.std.specs.Prelude.{nat_lt}
 use Rattle.std.proofs.lemmas.Bool.{eq-eqb, eqb-true, lt-ltb, le-ltb}
 use Rattle.std.proofs.lemmas.Bool.Decides.{leb_tells}
-use Rattle.std.proofs.lemmas.List.{get_or_past}
 use Rattle.qvt_metamodel.specs.declared.info.ClassInfo.{ClassInfo}
 use Rattle.qvt_metamodel.specs.declared.row.Row.{Row}
-use Rattle.qvt_metamodel.specs.Metamodels.{Metamodels, is_element, nowhere_class}
-use Rattle.qvt_metamodel.specs.Descends.{IsAncestor, superclass, above, element, descends, reaches}
+use Rattle.qvt_metamodel.specs.Metamodels.{Metamodels, is_element}
+use Rattle.qvt_metamodel.specs.Descends.{IsAncestor, descends, reaches}
 use Rattle.qvt_metamodel.specs.Kept.{no_row, is_marked}
 use Rattle.qvt_metamodel.specs.WellFormed.{IsWellFormed}
 use Rattle.qvt_metamodel.proofs.Bools.{not_true, clash, ap2}
-use Rattle.qvt_metamodel.proofs.Stable.{none-above-past}
+use Rattle.qvt_metamodel.proofs.Ancestors.{none_past, ends}
 use Rattle.qvt_meta_tables.specs.Tables.{of_classes, EndsWithin}
 use Rattle.qvt_meta_tables.proofs.Same.{reaches_same}
 use Rattle.qvt_types_choices.specs.Sets.{IsSetOf}
@@ -27,10 +26,6 @@ or_false true = refl
 or_false false = refl
 
 module _ (m : Metamodels) where
-  reaches_none : (d c : ℕ) → length m.classes ≤ d → reaches m d c ≡ false
-  unfolding reaches
-  reaches_none d c past = none-above-past m (length m.classes) c d (get_or_past m.classes d nowhere_class past)
-
   -- the sets that are made of the classes alone
   pub below_set : (ks : List ClassInfo) (rows : List Row) (k : ℕ) → ks ≡ m.classes → k ≡ length m.classes → ((c : ℕ) → EndsWithin k (get_or rows c no_row))
       → ((c : ℕ) → c < k → (d : ℕ) → is_marked (get_or rows c no_row) d ≡ ((c == d) || reaches (of_classes ks) d c))
@@ -45,7 +40,7 @@ module _ (m : Metamodels) where
       there : (d : ℕ) → ((leb (length m.classes) d ≡ true) × (length m.classes ≤ d)) ⊎ ((leb (length m.classes) d ≡ false) × (d < length m.classes))
           → ((d == c) || reaches m d c) ≡ (nat_lt d (length m.classes) && ((d == c) || reaches m d c))
       there d (inl t) =
-          ap2 (λ a b. a || b) (not_true (d == c) (λ h. (let same : d ≡ c = eqb-true d c h in absurd (omega (arith, same, low, t.1))))) (reaches_none d c t.1)
+          ap2 (λ a b. a || b) (not_true (d == c) (λ h. (let same : d ≡ c = eqb-true d c h in absurd (omega (arith, same, low, t.1))))) (none_past m d c t.1)
           ∙ sym (ap (λ b. b && ((d == c) || reaches m d c)) (le-ltb d (length m.classes) t.1))
       there d (inr f) = sym (ap (λ b. b && ((d == c) || reaches m d c)) (lt-ltb d (length m.classes) f.1))
 
@@ -64,14 +59,13 @@ module _ (m : Metamodels) where
       or_true false = refl
 
   module _ (fine : IsWellFormed m) (least : AreLeast m) where
-    ancestor_there : (c d : ℕ) → is_element m c ≡ false → IsAncestor m c d → c < length m.classes
-    ancestor_there c _ e (superclass d is) = fine.live_superclass d c is
-    ancestor_there c _ e (above d k is up) = ancestor_there c k e up
-    ancestor_there c _ e (element d top) = clash top e
+    ancestor_there : (d c : ℕ) → is_element m c ≡ false → IsAncestor m d c → c < length m.classes
+    ancestor_there d c e (inl up) = ends m fine.live_superclass up
+    ancestor_there d c e (inr top) = clash top e
 
     pub set_none : (c : ℕ) (r : Row) → is_element m c ≡ false → length m.classes ≤ c → IsSetOf m (λ d. false) r → IsSetOf m (λ d. descends m d c) r
     set_none c r e past is = set_same m (λ d. false) (λ d. descends m d c) r is
         (λ d low. sym (not_true (descends m d c) (λ h. elim ((least d c).0 h) [
           | inl same ↦ absurd (omega (arith, same, low, past))
-          | inr up ↦ (let there : c < length m.classes = ancestor_there c d e up in absurd (omega (arith, there, past)))
+          | inr up ↦ (let there : c < length m.classes = ancestor_there d c e up in absurd (omega (arith, there, past)))
         ])))

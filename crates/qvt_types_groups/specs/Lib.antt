@@ -5,6 +5,7 @@ pub use Rattle.qvt_types_units.specs.Overrides
 pub use Rattle.qvt_types_units.specs.Numbers
 pub use Rattle.qvt_types_units.specs.Written
 pub use Rattle.qvt_types_units.specs.Classes
+pub use Rattle.qvt_types_choices.specs.ByClass
 pub mod Lists
 pub mod Keys
 pub mod Indexed
