@@ -153,7 +153,7 @@ module _ (m n : Metamodels) (rm rn : List ℕ) (wm : IsWellFormed m) (wn : IsWel
   pub reaches_new : (c d : ℕ) → reaches J (length m.classes + c) (length m.classes + d) ≡ reaches n c d
   reaches_new c d = same_test (reaches J (length m.classes + c) (length m.classes + d)) (reaches n c d)
       (λ h. (let r : (e : ℕ) × (length m.classes + d ≡ length m.classes + e) × Inherits n c e = inherits_from (path J (length m.classes + c) (length m.classes + d) h) c refl in
-        reached n (subst (λ e. Inherits n c e) (let same : r.0 ≡ d = omega (arith, r.1) in same) r.2)))
+      reached n (subst (λ e. Inherits n c e) (let same : r.0 ≡ d = omega (arith, r.1) in same) r.2)))
       (λ h. reached J (inherits_new (path n c d h)))
 
   pub reaches_new_old : (c d : ℕ) → d < length m.classes → reaches J (length m.classes + c) d ≡ false

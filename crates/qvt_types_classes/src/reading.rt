@@ -205,16 +205,7 @@ pub fn read_all(
         let list = lists.at(place);
         let flags = repeats.flags(place);
         let first = repeats.first(place);
-        read.push(read_class(
-            alloc,
-            all,
-            list,
-            flags,
-            first,
-            class,
-            &mut copies,
-            log,
-        )?)?;
+        read.push(read_class(alloc, all, list, flags, first, class, &mut copies, log)?)?;
     }
     Ok(read)
 }
