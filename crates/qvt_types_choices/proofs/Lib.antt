@@ -1,8 +1,9 @@
 pub mod Lowest
 pub mod ByClass
-pub mod Joined
+pub mod Filtered
 pub mod Somewhere
 pub mod Singly
+pub mod Joined
 pub mod Sets
 pub mod Marked
 pub mod Below

@@ -18,7 +18,7 @@ use Rattle.qvt_types_choices.specs.Stuck.{is_stuck}
 use Rattle.qvt_types_choices.specs.ByClass.{choice_among, choice_for}
 use Rattle.qvt_types_choices.specs.Only.{is_rival, is_only, least, least_above}
 use Rattle.qvt_types_choices.proofs.ByClass.{Antisymmetric, in_filter, into_filter, some_in}
-use Rattle.qvt_types_choices.proofs.Joined.{passes_both, all_told, only_one, single_is, chosen_by}
+use Rattle.qvt_types_choices.proofs.Filtered.{passes_both, all_told, only_one, single_is, chosen_by}
 use Rattle.qvt_types_choices.proofs.Somewhere.{some_is, is_some_of}
 use Rattle.qvt_types_choices.proofs.Lowest.{Transitive, In, all_at, none_kept, same_test, least_in, single_lowest}
 
@@ -47,11 +47,11 @@ single_kept p n (x ∷ xs) d i h one = by (p x) refl (λ r. single_kept p n xs (
       | inr r ↦ rest r
     ]
 
-untrue : (b : Bool) → not b ≡ true → b ≡ false
+pub untrue : (b : Bool) → not b ≡ true → b ≡ false
 untrue true e = sym e
 untrue false e = refl
 
-is_not : (b : Bool) → b ≡ false → not b ≡ true
+pub is_not : (b : Bool) → b ≡ false → not b ≡ true
 is_not b e = ap not e
 
 -- Contexts.
@@ -67,7 +67,7 @@ module _ (m : Metamodels) where
   strict_below (Known c) Unknown e = absurd (cc)
   strict_below (Known c) (Known d) e = and_right (not (c.0 == d.0)) (descends m c.0 d.0) e
 
-  strict_apart : Antisymmetric m → (h i : HeadClass) → is_strictly_below m h i ≡ true → is_below m i h ≡ true → ⊥
+  pub strict_apart : Antisymmetric m → (h i : HeadClass) → is_strictly_below m h i ≡ true → is_below m i h ≡ true → ⊥
   strict_apart a Missing i e f = absurd (cc)
   strict_apart a Unknown i e f = absurd (cc)
   strict_apart a (Known c) Missing e f = absurd (cc)
@@ -101,11 +101,11 @@ module _ (m : Metamodels) (us : List Signature) (a : Antisymmetric m) (ns : List
   abbrev rival_above : ℕ → ℕ → Bool
   rival_above n k = is_rival m us n k && above_it k
 
-  no_rival : (n : ℕ) → is_only m us ns n c ≡ true → (k : ℕ) → In k ns → above_it k ≡ true → is_rival m us n k ≡ false
+  pub no_rival : (n : ℕ) → is_only m us ns n c ≡ true → (k : ℕ) → In k ns → above_it k ≡ true → is_rival m us n k ≡ false
   no_rival n only k i up = not_true (is_rival m us n k)
       (λ r. clash (is_some_of (rival_above n) k ns i (and_both (is_rival m us n k) (above_it k) r up)) (untrue (list_any (rival_above n) ns) (and_right (above_it n) (not (list_any (rival_above n) ns)) only)))
 
-  below_by : (n k : ℕ) → is_rival m us n k ≡ false → above_it k ≡ true → is_below m (context_at us n) (context_at us k) ≡ true
+  pub below_by : (n k : ℕ) → is_rival m us n k ≡ false → above_it k ≡ true → is_below m (context_at us n) (context_at us k) ≡ true
   below_by n k none up = by (eqb n k) (is_strictly_below m (context_at us n) (context_at us k)) refl refl none
     where
       by : (x y : Bool) → eqb n k ≡ x → is_strictly_below m (context_at us n) (context_at us k) ≡ y → (not x && not y) ≡ false → is_below m (context_at us n) (context_at us k) ≡ true
@@ -113,7 +113,7 @@ module _ (m : Metamodels) (us : List Signature) (a : Antisymmetric m) (ns : List
       by false true e f r = strict_below m (context_at us n) (context_at us k) f
       by false false e f r = absurd (cc)
 
-  strict_by : (n k : ℕ) → is_rival m us n k ≡ false → eqb n k ≡ false → is_strictly_below m (context_at us n) (context_at us k) ≡ true
+  pub strict_by : (n k : ℕ) → is_rival m us n k ≡ false → eqb n k ≡ false → is_strictly_below m (context_at us n) (context_at us k) ≡ true
   strict_by n k none other = by (is_strictly_below m (context_at us n) (context_at us k)) refl (ap (λ x. not x && not (is_strictly_below m (context_at us n) (context_at us k))) (sym other) ∙ none)
     where
       by : (y : Bool) → is_strictly_below m (context_at us n) (context_at us k) ≡ y → (not false && not y) ≡ false → y ≡ true
@@ -205,7 +205,7 @@ module _ (m : Metamodels) (us : List Signature) (a : Antisymmetric m) (ns : List
       by (x ∷ xs) e = absurd (cc)
 
   module _ (t : Transitive m) where
-    least_there : (xs : List ℕ) (n : ℕ) → least m us xs ≡ Some n → In n xs
+    pub least_there : (xs : List ℕ) (n : ℕ) → least m us xs ≡ Some n → In n xs
     least_there [] n e = absurd (cc)
     least_there (x ∷ xs) n e = (let same : least_of m us x xs ≡ n = cc in subst (λ k. In k (x ∷ xs)) same (least_in m us t x xs))
 

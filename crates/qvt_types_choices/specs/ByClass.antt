@@ -1,6 +1,6 @@
 -- The choice for each class by itself, whatever is below it: that of its own units, or else what its superclasses have.
-use Rattle.std.specs.Prelude.{◌≡◌, ◌<◌, ℕ, ◌==◌, ◌&&◌, not, Bool, true, false, List, [], ◌∷◌, length, map, filter, Option, Some, None, if◌then◌else◌, slice_index_or, slice_set}
-use Rattle.std.specs.List.{list_any, range_with_len}
+use Rattle.std.specs.Prelude.{◌≡◌, ◌<◌, ℕ, ◌&&◌, not, Bool, true, false, List, [], ◌∷◌, length, map, filter, Option, Some, None, is_some, if◌then◌else◌, slice_index_or, slice_set}
+use Rattle.std.specs.List.{list_any, list_all, range_with_len}
 use Rattle.qvt_base.specs.declared.numbers.ClassNo.{ClassNo}
 use Rattle.qvt_metamodel.specs.Metamodels.{Metamodels, class_at, is_element}
 use Rattle.qvt_metamodel.specs.Descends.{descends}
@@ -13,6 +13,7 @@ use Rattle.qvt_types_units.specs.declared.signature.HeadClass.TheVariants.{Missi
 use Rattle.qvt_types_units.specs.declared.signature.Signature.{Signature}
 use Rattle.qvt_types_units.specs.Choice.{candidates, chosen_of, context_at, is_empty, lowest, single}
 use Rattle.qvt_types_units.specs.Numbers.{is_context}
+use Rattle.qvt_types_choices.specs.Only.{is_rival, least}
 use Rattle.qvt_types_choices.specs.Stuck.{is_stuck}
 use Rattle.qvt_types_choices.specs.Sets.{IsSetOf}
 use Rattle.qvt_types_choices.specs.declared.class_choices.ClassChoices.{ClassChoices}
@@ -89,29 +90,54 @@ tops m us ns = filter (λ n. is_top m (context_at us n)) ns
 abbrev pub top_choice : Metamodels → List Signature → List ℕ → Found
 top_choice m us ns = choice_among m us (tops m us ns)
 
--- what two classes tell of one below both, where no other is above it
-abbrev pub joined_found : Found → Found → Option Found
-joined_found NoUnit g = Some g
-joined_found Untyped g = None
-joined_found Unclear g = None
-joined_found (Chosen n) NoUnit = Some (Chosen n)
-joined_found (Chosen n) Untyped = None
-joined_found (Chosen n) Unclear = None
-joined_found (Chosen n) (Chosen k) = if n == k then Some (Chosen n) else None
+abbrev pub is_unclear_in : Option Found → Bool
+is_unclear_in None = false
+is_unclear_in (Some f) = is_unclear f
 
-abbrev pub joined : Option Found → Option Found → Option Found
-joined None o = None
-joined (Some f) None = None
-joined (Some f) (Some g) = joined_found f g
+-- a unit that is a rival of unit n is chosen
+abbrev pub is_rival_in : Metamodels → List Signature → ℕ → Option Found → Bool
+is_rival_in m us n None = false
+is_rival_in m us n (Some NoUnit) = false
+is_rival_in m us n (Some Untyped) = false
+is_rival_in m us n (Some Unclear) = false
+is_rival_in m us n (Some (Chosen k)) = is_rival m us n k
 
-abbrev pub all_joined : List (Option Found) → Option Found → List ClassNo → Option Found
-all_joined known o [] = o
-all_joined known o (c ∷ cs) = all_joined known (joined o (known_at known c.0)) cs
+abbrev pub with_chosen : Option Found → List ℕ → List ℕ
+with_chosen None ns = ns
+with_chosen (Some NoUnit) ns = ns
+with_chosen (Some Untyped) ns = ns
+with_chosen (Some Unclear) ns = ns
+with_chosen (Some (Chosen n)) ns = n ∷ ns
+
+-- the units that are chosen for the classes
+abbrev pub chosens : List (Option Found) → List ClassNo → List ℕ
+chosens known [] = []
+chosens known (c ∷ cs) = with_chosen (known_at known c.0) (chosens known cs)
+
+abbrev pub are_known : List (Option Found) → List ClassNo → Bool
+are_known known cs = list_all (λ c. is_some (known_at known c.0)) cs
+
+abbrev pub some_unclear : List (Option Found) → List ClassNo → Bool
+some_unclear known cs = list_any (λ c. is_unclear_in (known_at known c.0)) cs
+
+abbrev pub some_rival : Metamodels → List Signature → List (Option Found) → List ClassNo → ℕ → Bool
+some_rival m us known cs n = list_any (λ c. is_rival_in m us n (known_at known c.0)) cs
+
+-- what classes tell of one below them all, where no other is above it, by the lowest of the units that are chosen for them
+abbrev pub joined_by : Metamodels → List Signature → List (Option Found) → List ClassNo → Option ℕ → Option Found
+joined_by m us known cs None = Some (if some_unclear known cs then Unclear else NoUnit)
+joined_by m us known cs (Some n) =
+    if some_rival m us known cs n then Some Unclear
+    else if some_unclear known cs then None
+    else Some (Chosen n)
+
+abbrev pub joined : Metamodels → List Signature → List (Option Found) → List ClassNo → Option Found
+joined m us known cs = if are_known known cs then joined_by m us known cs (least m us (chosens known cs)) else None
 
 -- the choice for a class without units of its own, by its superclasses
-abbrev pub inherited : List (Option Found) → Found → List ClassNo → Option Found
-inherited known top [] = Some top
-inherited known top (c ∷ cs) = all_joined known (known_at known c.0) cs
+abbrev pub inherited : Metamodels → List Signature → List (Option Found) → Found → List ClassNo → Option Found
+inherited m us known top [] = Some top
+inherited m us known top (c ∷ cs) = joined m us known (c ∷ cs)
 
 -- what is known of a class is its choice; one of which nothing is known has no units of its own
 pub record AreKnown (m : Metamodels) (us : List Signature) (ns : List ℕ) (known : List (Option Found)) : Type 0 where

@@ -1,14 +1,15 @@
 //! What calls by a name find for objects of each class.
 
-ghost use Rattle.std.specs.Prelude.{◌≡◌, ◌∷◌, [], length, map, IfOk};
-ghost use Rattle.std.specs.List.{range_with_len};
+ghost use Rattle.std.specs.Prelude.{◌≡◌, ◌∷◌, [], eqb, length, map, IfOk};
+ghost use Rattle.std.specs.List.{IsDistinct, range_with_len};
 ghost use Rattle.qvt_meta_tables.specs.Tables.{EndsWithin};
 ghost use Rattle.qvt_types_units.specs.Choice as choice;
 ghost use Rattle.qvt_types_choices.specs.Sets.{AreSets};
 ghost use Rattle.qvt_types_choices.specs.ByClass as by_class;
 
-use crate::class_choices::{ClassChoices, all_choices, choice_for, class_order};
+use crate::class_choices::{ClassChoices, all_choices, class_order};
 use crate::class_sets::{ClassSets, set_below};
+use crate::only::choice_of;
 use qvt_base::list_fault::ListFault;
 use qvt_base::numbers::ClassNo;
 use qvt_base::seq::Seq;
@@ -89,7 +90,8 @@ pub fn look_up(
     group: &[u32],
     class: ClassNo,
 ) -> Result<Found, ListFault>
-    requires { AreSets metas.now sets.now }
+    requires sets { AreSets metas.now sets.now }
+    requires distinct { IsDistinct eqb group.now }
     ensures { IfOk result (λ f. f ≡ choice.looked_up metas.now units.now group.now class.0) }
 {
     match group {
@@ -105,7 +107,7 @@ pub fn look_up(
                 several,
                 order.classes.as_slice(),
             )?;
-            let choice = choice_for(alloc, metas, units, several, class)?;
+            let choice = choice_of(metas, units, several, class);
             let is_unsure = is_unsure(units, several);
             Ok(found(metas, sets, is_unsure, &stuck, class, choice))
         }
@@ -133,7 +135,8 @@ pub fn full_row(
     group: &[u32],
     order: &[u32],
 ) -> Result<FoundRow, ListFault>
-    requires { AreSets metas.now sets.now }
+    requires sets { AreSets metas.now sets.now }
+    requires distinct { IsDistinct eqb group.now }
     ensures { IfOk result (λ fs. fs ≡ map (choice.looked_up metas.now units.now group.now) (range_with_len 0 (length metas.now.classes))) }
 {
     metas.are_well_formed();

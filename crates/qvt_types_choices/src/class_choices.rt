@@ -1,13 +1,16 @@
 //! The choice of a unit for each class by itself, whatever is below it: that of its own units, or else what its superclasses have.
 
-ghost use Rattle.std.specs.Prelude.{◌≡◌, ◌<◌, ℕ, length, replicate, false, None, IfOk, OnOk};
+ghost use Rattle.std.specs.Prelude.{◌≡◌, ◌<◌, ℕ, eqb, length, replicate, false, None, is_some, IfOk};
+ghost use Rattle.std.specs.List.{IsDistinct};
 ghost use Rattle.qvt_metamodel.specs.Metamodels.{class_at};
 ghost use Rattle.qvt_types_units.specs.Choice as choice;
 ghost use Rattle.qvt_types_choices.specs.ByClass as by_class;
 ghost use Rattle.qvt_types_choices.specs.ByClass.{AreKnown, AreChosen};
+ghost use Rattle.qvt_types_choices.specs.Only as only;
 
 use crate::bits::{mark_if, no_bits, row_of};
 use crate::candidates::lowest;
+use crate::only::{choice_of, is_rival, lower_of};
 use qvt_base::list_fault::ListFault;
 use qvt_base::numbers::ClassNo;
 use qvt_base::seq::Seq;
@@ -15,7 +18,7 @@ use qvt_metamodel::row::Row;
 use qvt_metas::order::{Order, order_of};
 use qvt_metas::tables::supers_at;
 use qvt_types_paths::metas::Metas;
-use qvt_types_units::choice::{Found, candidates, context_at};
+use qvt_types_units::choice::{Found, context_at};
 use qvt_types_units::signature::{HeadClass, Signature};
 use std::alloc::Global;
 
@@ -51,21 +54,6 @@ fn choice_among(
         [] => Ok(Found::NoUnit),
         some => Ok(chosen_of(lowest(alloc, metas, units, some)?)),
     }
-}
-
-/// The choice for the class, in time linear in the number of the units.
-#[tactic(auto, unfolding(crate::specs::ByClass::choice_for))]
-pub fn choice_for(
-    alloc: Global,
-    metas: &Metas,
-    units: &[Signature],
-    group: &[u32],
-    class: ClassNo,
-) -> Result<Found, ListFault>
-    ensures { IfOk result (λ f. f ≡ by_class.choice_for metas.now units.now group.now class.0) }
-{
-    let among = candidates(alloc, metas, units, group, class)?;
-    choice_among(alloc, metas, units, among.as_slice())
 }
 
 /// Nothing of each of as many classes.
@@ -188,111 +176,194 @@ fn top_choice(
     choice_among(alloc, metas, units, tops.as_slice())
 }
 
-/// What two classes tell of one below both, where no other is above it: one that has no units tells nothing, and two that have the
-/// same unit tell of that.
-fn joined_found(one: Found, other: Found) -> Option<Found>
-    ensures { result ≡ by_class.joined_found one other }
+fn is_told(known: &[Option<Found>], class: u32) -> bool
+    ensures { result ≡ is_some (by_class.known_at known.now class) }
 {
-    match one {
-        Found::NoUnit => Some(other),
-        Found::Untyped => None,
-        Found::Unclear => None,
-        Found::Chosen(number) => match other {
-            Found::NoUnit => Some(Found::Chosen(number)),
-            Found::Untyped => None,
-            Found::Unclear => None,
-            Found::Chosen(same) => {
-                if number == same {
-                    Some(Found::Chosen(number))
-                } else {
-                    None
-                }
+    known_at(known, class).is_some()
+}
+
+fn are_told(known: &[Option<Found>], classes: &[ClassNo]) -> bool
+    ensures { result ≡ by_class.are_known known.now classes.now }
+{
+    classes.iter().all(|class| is_told(known, class.0))
+}
+
+fn is_unclear(known: &[Option<Found>], class: u32) -> bool
+    ensures { result ≡ by_class.is_unclear_in (by_class.known_at known.now class) }
+{
+    match known_at(known, class) {
+        Some(Found::Unclear) => true,
+        _ => false,
+    }
+}
+
+fn are_some_unclear(known: &[Option<Found>], classes: &[ClassNo]) -> bool
+    ensures { result ≡ by_class.some_unclear known.now classes.now }
+{
+    classes.iter().any(|class| is_unclear(known, class.0))
+}
+
+/// Whether a unit is chosen for the class that is a rival of this one.
+fn has_rival(
+    metas: &Metas,
+    units: &[Signature],
+    known: &[Option<Found>],
+    number: u32,
+    class: u32,
+) -> bool
+    ensures { result ≡ by_class.is_rival_in metas.now units.now number (by_class.known_at known.now class) }
+{
+    match known_at(known, class) {
+        Some(Found::Chosen(other)) => is_rival(metas, units, number, other),
+        _ => false,
+    }
+}
+
+fn have_rivals(
+    metas: &Metas,
+    units: &[Signature],
+    known: &[Option<Found>],
+    classes: &[ClassNo],
+    number: u32,
+) -> bool
+    ensures { result ≡ by_class.some_rival metas.now units.now known.now classes.now number }
+{
+    classes
+        .iter()
+        .any(|class| has_rival(metas, units, known, number, class.0))
+}
+
+/// The lowest of the units that are chosen for the classes, where one is below each.
+fn least_chosen(
+    metas: &Metas,
+    units: &[Signature],
+    known: &[Option<Found>],
+    classes: &[ClassNo],
+) -> Option<u32>
+    ensures { result ≡ only.least metas.now units.now (by_class.chosens known.now classes.now) }
+{
+    let mut least = None;
+    for class in classes {
+        if let Some(Found::Chosen(number)) = known_at(known, class.0) {
+            least = Some(lower_of(metas, units, least, number));
+        }
+    }
+    least
+}
+
+/// What classes tell of one below them all, where no other is above it. It is not told where one of them has no single choice, and the
+/// lowest of the units that are chosen for the others is the choice for these.
+fn joined(
+    metas: &Metas,
+    units: &[Signature],
+    known: &[Option<Found>],
+    classes: &[ClassNo],
+) -> Option<Found>
+    ensures { result ≡ by_class.joined metas.now units.now known.now classes.now }
+{
+    if !are_told(known, classes) {
+        return None;
+    }
+    let is_unclear = are_some_unclear(known, classes);
+    match least_chosen(metas, units, known, classes) {
+        None => Some(if is_unclear {
+            Found::Unclear
+        } else {
+            Found::NoUnit
+        }),
+        Some(number) => {
+            if have_rivals(metas, units, known, classes, number) {
+                Some(Found::Unclear)
+            } else if is_unclear {
+                None
+            } else {
+                Some(Found::Chosen(number))
             }
-        },
+        }
     }
-}
-
-fn joined(one: Option<Found>, other: Option<Found>) -> Option<Found>
-    ensures { result ≡ by_class.joined one other }
-{
-    match one {
-        None => None,
-        Some(one) => match other {
-            None => None,
-            Some(other) => joined_found(one, other),
-        },
-    }
-}
-
-/// What is told by one superclass and these others.
-fn all_joined(known: &[Option<Found>], first: Option<Found>, others: &[ClassNo]) -> Option<Found>
-    ensures { result ≡ by_class.all_joined known.now first others.now }
-{
-    let mut found = first;
-    for above in others {
-        found = joined(found, known_at(known, above.0));
-    }
-    found
 }
 
 /// The choice for a class without units of its own, where its superclasses tell it.
-fn inherited(metas: &Metas, known: &[Option<Found>], top: Found, class: u32) -> Option<Found>
-    ensures { result ≡ by_class.inherited known.now top (class_at metas.now class).supers }
+fn inherited(
+    metas: &Metas,
+    units: &[Signature],
+    known: &[Option<Found>],
+    top: Found,
+    class: u32,
+) -> Option<Found>
+    ensures { result ≡ by_class.inherited metas.now units.now known.now top (class_at metas.now class).supers }
 {
     match supers_at(metas.class_infos(), class) {
         [] => Some(top),
-        [above, others @ ..] => all_joined(known, known_at(known, above.0), others),
+        supers => joined(metas, units, known, supers),
     }
 }
 
 /// The choice for a class by what is known, in time linear in the number of the units where that does not tell it.
 fn choice_by(
-    alloc: Global,
     metas: &Metas,
     units: &[Signature],
     group: &[u32],
     top: Found,
     known: &[Option<Found>],
     class: u32,
-) -> Result<Found, ListFault>
+) -> Found
     requires there { class < length known.now }
     requires top { top ≡ by_class.top_choice metas.now units.now group.now }
     requires known { AreKnown metas.now units.now group.now known.now }
-    ensures { IfOk result (λ f. f ≡ by_class.choice_for metas.now units.now group.now class) }
+    requires distinct { IsDistinct eqb group.now }
+    ensures { result ≡ by_class.choice_for metas.now units.now group.now class }
 {
     metas.are_well_formed();
     metas.ancestors_are_least();
     if let Some(choice) = known_at(known, class) {
-        return Ok(choice);
+        return choice;
     }
-    if let Some(choice) = inherited(metas, known, top, class) {
-        return Ok(choice);
+    if let Some(choice) = inherited(metas, units, known, top, class) {
+        return choice;
     }
-    choice_for(alloc, metas, units, group, ClassNo(class))
+    choice_of(metas, units, group, ClassNo(class))
+}
+
+/// Tells the choice for a class, if there is such a class.
+fn tell_choice(
+    metas: &Metas,
+    units: &[Signature],
+    group: &[u32],
+    top: Found,
+    class: u32,
+    known: &mut KnownChoices,
+)
+    requires top { top ≡ by_class.top_choice metas.now units.now group.now }
+    requires known { AreKnown metas.now units.now group.now known.old }
+    requires distinct { IsDistinct eqb group.now }
+    ensures each { length known.new ≡ length known.old }
+    ensures known { AreKnown metas.now units.now group.now known.new }
+{
+    if (class as usize) < known.len() {
+        let choice = choice_by(metas, units, group, top, known.as_slice(), class);
+        tell(known, class, Some(choice));
+    }
 }
 
 /// Tells the choice for each class of an order. Where each comes after its superclasses, most are told by these.
 fn tell_all(
-    alloc: Global,
     metas: &Metas,
     units: &[Signature],
     group: &[u32],
     top: Found,
     order: &[u32],
     known: &mut KnownChoices,
-) -> Result<(), ListFault>
+)
     requires top { top ≡ by_class.top_choice metas.now units.now group.now }
     requires known { AreKnown metas.now units.now group.now known.old }
-    ensures each { OnOk result (length known.new ≡ length known.old) }
-    ensures known { OnOk result (AreKnown metas.now units.now group.now known.new) }
+    requires distinct { IsDistinct eqb group.now }
+    ensures each { length known.new ≡ length known.old }
+    ensures known { AreKnown metas.now units.now group.now known.new }
 {
     for class in order {
-        if (*class as usize) < known.len() {
-            let choice = choice_by(alloc, metas, units, group, top, known.as_slice(), *class)?;
-            tell(known, *class, Some(choice));
-        }
+        tell_choice(metas, units, group, top, *class, known);
     }
-    Ok(())
 }
 
 /// Whether the class is concrete and has no single choice.
@@ -320,13 +391,14 @@ fn choices_by(
     requires each { length known.now ≡ length metas.now.classes }
     requires top { top ≡ by_class.top_choice metas.now units.now group.now }
     requires known { AreKnown metas.now units.now group.now known.now }
+    requires distinct { IsDistinct eqb group.now }
     ensures { IfOk result (AreChosen metas.now units.now group.now) }
 {
     let count = metas.class_count();
     let mut each = Seq::new(alloc);
     let mut stuck = no_bits(alloc, count)?;
     for class in 0..count {
-        let choice = choice_by(alloc, metas, units, group, top, known, class)?;
+        let choice = choice_by(metas, units, group, top, known, class);
         each.push(choice)?;
         mark_if(&mut stuck, is_stuck(metas, ClassNo(class), choice), class);
     }
@@ -356,13 +428,14 @@ pub fn all_choices(
     group: &[u32],
     order: &[u32],
 ) -> Result<ClassChoices, ListFault>
+    requires { IsDistinct eqb group.now }
     ensures { IfOk result (AreChosen metas.now units.now group.now) }
 {
     metas.are_well_formed();
     metas.ancestors_are_least();
     let top = top_choice(alloc, metas, units, group)?;
     let mut known = own_choices(alloc, units, group, metas.class_count())?;
-    tell_all(alloc, metas, units, group, top, order, &mut known)?;
+    tell_all(metas, units, group, top, order, &mut known);
     let choices = choices_by(alloc, metas, units, group, top, known.as_slice())?;
     Ok(choices)
 }

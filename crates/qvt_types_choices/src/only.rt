@@ -64,7 +64,7 @@ fn is_only(metas: &Metas, units: &[Signature], group: &[u32], number: u32, class
 }
 
 /// Of a unit that may be there and this one the lower.
-fn lower_of(metas: &Metas, units: &[Signature], one: Option<u32>, other: u32) -> u32
+pub fn lower_of(metas: &Metas, units: &[Signature], one: Option<u32>, other: u32) -> u32
     ensures { result ≡ only.lower_of metas.now units.now one other }
 {
     match one {

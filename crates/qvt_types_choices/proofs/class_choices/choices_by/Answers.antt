@@ -11,10 +11,10 @@ pub loop-class-preserved : goal.loop-class-preserved
 loop-class-preserved c = record {
   each =
       c.in_ok-push.ensures.ok
-      ∙ (λ t. c.loop-class.invariant.each t ++ c.in_ok-choice.ensures t ∷ [])
+      ∙ (λ t. c.loop-class.invariant.each t ++ c.choice_by-choice.ensures t ∷ [])
       ∙ map_range_more (choice_for c.args.metas.now c.args.units.now c.args.group.now) c.loop-class.class;
   words = c.mark_if.ensures.each ∙ c.loop-class.invariant.words;
   marks = marks_next (is_stuck c.args.metas.now c.args.units.now c.args.group.now) c.loop-class.class (bits c.loop-class.stuck) (bits c.mark_if.new.words) c.is_stuck.result c.loop-class.invariant.marks
-      (c.is_stuck.ensures ∙ ap (is_stuck_by c.args.metas.now c.loop-class.class) c.in_ok-choice.ensures ∙ stuck_by c.args.metas.now c.args.units.now c.args.group.now c.loop-class.class)
+      (c.is_stuck.ensures ∙ ap (is_stuck_by c.args.metas.now c.loop-class.class) c.choice_by-choice.ensures ∙ stuck_by c.args.metas.now c.args.units.now c.args.group.now c.loop-class.class)
       c.mark_if.ensures.marks;
 }

@@ -1,10 +1,11 @@
-use Rattle.std.proofs.Common.{◌∙◌, get_or, ap, sym}
+use Rattle.std.proofs.Common.{◌∙◌, eqb, get_or, ap, subst, sym}
+use Rattle.std.specs.List.{IsDistinct}
 use Rattle.qvt_types_units.specs.Choice.{called_on, looked_up}
 use Rattle.qvt_types_units.specs.Numbers.{group}
 use Rattle.qvt_types_groups.specs.Choices.{ChosenUnits, group_of}
 use Rattle.qvt_types_groups.specs.Lists.{first_of}
 use Rattle.qvt_types_groups.proofs.Firsts.{first_is, none_is}
-use Rattle.qvt_types_groups.proofs.Tables.{same_group}
+use Rattle.qvt_types_groups.proofs.Tables.{same_group, group_distinct}
 use Rattle.qvt_types_groups.proofs.units.Units.called_on.Goals as goal
 
 pub returns-in-empty : goal.returns-in-empty
@@ -19,3 +20,6 @@ told-requires c =
     ∙ sym (same_group c.self.inside.names c.args.maps c.args.name.now (get_or c.group-group.result.now 0 0)
     (ap first_of (sym c.group-group.ensures) ∙ first_is c.group-group.result.now c.in-len1-up.len_at_least))
     ∙ ap (λ (t : ChosenUnits). group_of t.units (get_or c.group-group.result.now 0 0)) c.self.view_is
+
+pub look_up-requires-clause-distinct : goal.look_up-requires-clause-distinct
+look_up-requires-clause-distinct c = subst (IsDistinct eqb) (sym c.group-group.ensures) (group_distinct c.args.maps c.args.name.now c.self.inside.names)
