@@ -8,3 +8,4 @@ pub mod Sets
 pub mod Marked
 pub mod Below
 pub mod Chosen
+pub mod Contested

@@ -20,6 +20,9 @@ use Rattle.qvt_types_choices.specs.Sets.{IsSetOf, bits}
 abbrev pub word_count : ℕ → ℕ
 word_count n = min n (n / 64 + 1)
 
+pub word_few : (n : ℕ) → word_count n ≤ n
+word_few n = omega arith
+
 pub word_there : (k n : ℕ) → k < n → k / 64 < word_count n
 word_there k n low =
     let one : k / 64 ≤ k = div-le_self k 64 in

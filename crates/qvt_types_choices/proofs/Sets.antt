@@ -6,10 +6,11 @@ use Rattle.std.proofs.lemmas.List.{take_all}
 use Rattle.std.proofs.lemmas.Bool.{eq-eqb, eqb-true, lt-ltb, ltb-true, le-ltb}
 use Rattle.qvt_metamodel.specs.declared.row.Row.{Row}
 use Rattle.qvt_metamodel.specs.Metamodels.{Metamodels}
-use Rattle.qvt_metamodel.specs.Kept.{is_marked}
-use Rattle.qvt_metamodel.proofs.Bools.{and_both, and_left, and_right, clash, ap2}
+use Rattle.qvt_metamodel.specs.Kept.{is_marked, no_row}
+use Rattle.qvt_metamodel.proofs.Bools.{and_both, and_left, and_right, clash, not_true, ap2}
+use Rattle.qvt_metamodel.proofs.Rows.{no_mark}
 use Rattle.qvt_meta_tables.specs.Tables.{EndsWithin}
-use Rattle.qvt_rows.specs.Sets.{Overlap}
+use Rattle.qvt_rows.specs.Sets.{Overlap, IsSubset}
 use Rattle.qvt_types_choices.specs.Sets.{IsSetOf}
 use Rattle.qvt_types_choices.proofs.Lowest.{In, same_test}
 use Rattle.qvt_types_choices.proofs.Somewhere.{some_is, is_some_of}
@@ -100,6 +101,20 @@ module _ (m : Metamodels) where
         first = and_left (is_marked r d) (q d) t;
         second = is.marks d ∙ and_both (nat_lt d n) (q d) (lt-ltb d n (in_range_below n d i)) (and_right (is_marked r d) (q d) t);
       })))
+
+  -- a set in which no class is has no marks
+  pub set_emptied : (p : ℕ → Bool) (r : Row) → IsSubset r no_row → IsSetOf m p r → IsSetOf m p no_row
+  set_emptied p r none is = record {
+    within = record { start = refl; words = omega arith };
+    marks = λ d. no_mark d ∙ sym (not_true (is_marked r d) (λ h. clash (none d h) (no_mark d))) ∙ is.marks d;
+  }
+
+  pub set_of_none : (p : ℕ → Bool) → ((d : ℕ) → d < length m.classes → p d ≡ false) → IsSetOf m p no_row
+  set_of_none p none = record { within = record { start = refl; words = omega arith }; marks = λ d. no_mark d ∙ by d (nat_lt d n) refl }
+    where
+      by : (d : ℕ) (b : Bool) → nat_lt d n ≡ b → false ≡ (b && p d)
+      by d true e = sym (none d (ltb-true d n e))
+      by d false e = refl
 
   pub set_if : (b : Bool) (p : ℕ → Bool) (r : Row) → b ≡ true → IsSetOf m p r → IsSetOf m (λ d. b && p d) r
   set_if b p r e is = set_same p (λ d. b && p d) r is (λ d low. ap (λ t. t && p d) (sym e))

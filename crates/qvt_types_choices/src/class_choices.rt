@@ -11,6 +11,7 @@ ghost use Rattle.qvt_types_choices.specs.Only as only;
 use crate::bits::{mark_if, no_bits, row_of};
 use crate::candidates::lowest;
 use crate::only::{choice_of, is_rival, lower_of};
+use crate::stuck::emptied;
 use qvt_base::list_fault::ListFault;
 use qvt_base::numbers::ClassNo;
 use qvt_base::seq::Seq;
@@ -404,7 +405,7 @@ fn choices_by(
     }
     Ok(ClassChoices {
         each,
-        stuck: row_of(stuck),
+        stuck: emptied(alloc, metas, row_of(stuck)),
     })
 }
 

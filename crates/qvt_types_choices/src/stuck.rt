@@ -11,7 +11,7 @@ use crate::class_sets::{ClassSets, set_below};
 use crate::only::is_rival;
 use qvt_base::list_fault::ListFault;
 use qvt_metamodel::row::Row;
-use qvt_rows::sets::{empty_row, united, without};
+use qvt_rows::sets::{empty_row, is_subset, overlap, united, without};
 use qvt_types_paths::metas::Metas;
 use qvt_types_units::choice::context_at;
 use qvt_types_units::signature::{HeadClass, Signature};
@@ -125,7 +125,67 @@ fn set_of_singles(
     Ok(row)
 }
 
-/// The set of the concrete classes that some of the units are above and that have no single choice.
+/// Whether the other is a rival of the unit, and a class is below both.
+fn is_contested(
+    metas: &Metas,
+    units: &[Signature],
+    sets: &ClassSets,
+    number: u32,
+    other: u32,
+) -> bool
+    requires { AreSets metas.now sets.now }
+    ensures { result ≡ only.is_contested metas.now units.now number other }
+{
+    is_rival(metas, units, number, other)
+        && overlap(
+            metas.class_count(),
+            set_of(metas, units, sets, number),
+            set_of(metas, units, sets, other),
+        )
+}
+
+/// Whether one of the others is such a rival.
+fn is_contested_by_any(
+    metas: &Metas,
+    units: &[Signature],
+    sets: &ClassSets,
+    group: &[u32],
+    number: u32,
+) -> bool
+    requires { AreSets metas.now sets.now }
+    ensures { result ≡ list_any (only.is_contested metas.now units.now number) group.now }
+{
+    group
+        .iter()
+        .any(|other| is_contested(metas, units, sets, number, *other))
+}
+
+/// Whether one of the units has such a rival.
+fn are_contested(metas: &Metas, units: &[Signature], sets: &ClassSets, group: &[u32]) -> bool
+    requires { AreSets metas.now sets.now }
+    ensures { result ≡ list_any (λ n. list_any (only.is_contested metas.now units.now n) group.now) group.now }
+{
+    group.iter().any(|number| is_contested_by_any(metas, units, sets, group, *number))
+}
+
+/// The set, without words if no class is in it.
+pub fn emptied(alloc: Global, metas: &Metas, set: Row) -> Row
+    requires { EndsWithin (length metas.now.classes) set }
+    ensures { (p : ℕ → Bool) → IsSetOf metas.now p set → IsSetOf metas.now p result }
+{
+    let none = empty_row(alloc);
+    if is_subset(metas.class_count(), &set, &none) {
+        none
+    } else {
+        set
+    }
+}
+
+ghost use Rattle.std.specs.Prelude.{ℕ, Bool};
+ghost use Rattle.qvt_meta_tables.specs.Tables.{EndsWithin};
+
+/// The set of the concrete classes that some of the units are above and that have no single choice. Where no unit has a rival with a
+/// class below both, there is none.
 pub fn set_of_stuck(
     alloc: Global,
     metas: &Metas,
@@ -138,10 +198,13 @@ pub fn set_of_stuck(
     ensures { IfOk result (IsSetOf metas.now (is_stuck metas.now units.now group.now)) }
 {
     metas.are_well_formed();
+    if !are_contested(metas, units, sets, group) {
+        return Ok(empty_row(alloc));
+    }
     let count = metas.class_count();
     let any = set_of_any(alloc, metas, units, sets, group)?;
     let concrete = without(alloc, count, &any, &sets.abstracts)?;
     let singles = set_of_singles(alloc, metas, units, sets, group)?;
     let stuck = without(alloc, count, &concrete, &singles)?;
-    Ok(stuck)
+    Ok(emptied(alloc, metas, stuck))
 }

@@ -19,7 +19,7 @@ use qvt_types_units::signature::Signature;
 use std::alloc::Global;
 
 /// So many units of a name are few: to compare each with each by sets of classes takes no longer than to look at each class.
-const MOST_FEW: usize = 32;
+const MOST_FEW: usize = 16;
 
 /// What is told once of the units of a name.
 #[derive(Drop)]

@@ -1,8 +1,10 @@
-use Rattle.std.proofs.Common.{◌∙◌, ◌++◌, ◌∷◌, [], ap}
+use Rattle.std.proofs.Common.{◌≡◌, ◌∙◌, ◌++◌, ◌∷◌, ◌&&◌, [], length, ap, refl, sym, subst, arith}
+use Rattle.std.specs.Prelude.{nat_lt}
 use Rattle.qvt_types_paths.proofs.Places.{map_range_more}
-use Rattle.qvt_types_choices.specs.Sets.{bits}
+use Rattle.qvt_types_choices.specs.Sets.{bits, IsSetOf}
 use Rattle.qvt_types_choices.specs.Stuck.{is_stuck}
-use Rattle.qvt_types_choices.specs.ByClass.{choice_for, is_stuck_by}
+use Rattle.qvt_types_choices.specs.ByClass.{choice_for, choices, is_stuck_by}
+use Rattle.qvt_types_choices.proofs.Marked.{word_few}
 use Rattle.qvt_types_choices.proofs.Chosen.{stuck_by}
 use Rattle.qvt_types_choices.proofs.Sets.{marks_next}
 use Rattle.qvt_types_choices.proofs.class_choices.choices_by.Goals as goal
@@ -18,3 +20,17 @@ loop-class-preserved c = record {
       (c.is_stuck.ensures ∙ ap (is_stuck_by c.args.metas.now c.loop-class.class) c.choice_by-choice.ensures ∙ stuck_by c.args.metas.now c.args.units.now c.args.group.now c.loop-class.class)
       c.mark_if.ensures.marks;
 }
+
+pub returns : goal.returns
+returns c =
+    let m = c.args.metas.now in
+    let us = c.args.units.now in
+    let ns = c.args.group.now in
+    let all : c.loop-class.class ≡ length m.classes = omega (arith, c.loop-class-test.false, c.loop-class.auto.class-end, c.class_count-count.ensures.count) in
+    record {
+      each = c.loop-class.invariant.each ∙ ap (choices m us ns) all;
+      stuck = c.emptied.ensures (is_stuck m us ns) (subst (IsSetOf m (is_stuck m us ns)) (sym c.row_of.ensures) (record {
+        within = record { start = refl; words = omega (arith, c.loop-class.invariant.words, word_few c.class_count-count.result, c.class_count-count.ensures.count) };
+        marks = λ d. c.loop-class.invariant.marks d ∙ ap (λ k. nat_lt d k && is_stuck m us ns d) all;
+      }));
+    }
