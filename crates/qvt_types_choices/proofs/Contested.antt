@@ -4,7 +4,7 @@ use Rattle.std.specs.List.{list_any, range_with_len, IsDistinct}
 use Rattle.qvt_metamodel.specs.Metamodels.{Metamodels, class_at}
 use Rattle.qvt_metamodel.proofs.Bools.{and_both, and_left, and_right, and_no, not_true, clash}
 use Rattle.qvt_types_units.specs.declared.signature.Signature.{Signature}
-use Rattle.qvt_types_units.specs.Choice.{is_above, context_at}
+use Rattle.qvt_types_units.specs.Choice.{is_context_above, context_at}
 use Rattle.qvt_types_choices.specs.Only.{is_rival, is_only, is_contested}
 use Rattle.qvt_types_choices.specs.Stuck.{is_stuck}
 use Rattle.qvt_types_choices.proofs.ByClass.{Antisymmetric}
@@ -15,7 +15,7 @@ use Rattle.qvt_types_choices.proofs.Somewhere.{some_is, is_some_of}
 
 module _ (m : Metamodels) (us : List Signature) (ns : List ℕ) (none : list_any (λ n. list_any (is_contested m us n) ns) ns ≡ false) where
   abbrev over : ℕ → ℕ → Bool
-  over n d = is_above m (context_at us n) d
+  over n d = is_context_above m (context_at us n) d
 
   only_there : (d n : ℕ) → d < length m.classes → In n ns → over n d ≡ true → is_only m us ns n d ≡ true
   only_there d n low i up = and_both (over n d) (not (list_any (λ k. is_rival m us n k && over k d) ns)) up

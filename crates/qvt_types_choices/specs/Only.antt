@@ -21,7 +21,7 @@ is_only m us ns n c =
 abbrev pub is_contested : Metamodels → List Signature → ℕ → ℕ → Bool
 is_contested m us n k =
     is_rival m us n k
-    && list_any (λ d. is_above m (context_at us n) d && is_above m (context_at us k) d) (range_with_len 0 (length m.classes))
+    && list_any (λ d. is_context_above m (context_at us n) d && is_context_above m (context_at us k) d) (range_with_len 0 (length m.classes))
 
 -- of the units the lowest one, from the first to the last
 abbrev pub least : Metamodels → List Signature → List ℕ → Option ℕ

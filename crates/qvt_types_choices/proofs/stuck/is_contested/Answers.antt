@@ -3,7 +3,7 @@ use Rattle.std.specs.List.{list_any, range_with_len}
 use Rattle.std.proofs.lemmas.Bool.{lt-ltb}
 use Rattle.qvt_metamodel.specs.Kept.{is_marked}
 use Rattle.qvt_metamodel.specs.Metamodels.{Metamodels}
-use Rattle.qvt_types_units.specs.Choice.{is_above, context_at}
+use Rattle.qvt_types_units.specs.Choice.{is_context_above, context_at}
 use Rattle.qvt_types_choices.proofs.Sets.{any_same, in_range_below, some_in_both}
 use Rattle.qvt_types_choices.proofs.stuck.is_contested.Goals as goal
 
@@ -18,4 +18,4 @@ returns-then-is_rival c =
     m = c.args.metas.now
 
     over : ℕ → ℕ → Bool
-    over n d = is_above m (context_at c.args.units.now n) d
+    over n d = is_context_above m (context_at c.args.units.now n) d
