@@ -12,7 +12,6 @@ use Rattle.qvt_metamodel.specs.WellFormed.{IsWellFormed}
 use Rattle.qvt_metamodel.proofs.Bools.{not_true, clash, ap2}
 use Rattle.qvt_metamodel.proofs.Ancestors.{none_past, ends}
 use Rattle.qvt_meta_tables.specs.Tables.{of_classes, EndsWithin}
-use Rattle.qvt_meta_tables.proofs.Same.{reaches_same}
 use Rattle.qvt_types_choices.specs.Sets.{IsSetOf}
 use Rattle.qvt_types_choices.proofs.ByClass.{AreLeast}
 use Rattle.qvt_types_choices.proofs.Lowest.{same_test}
@@ -33,7 +32,7 @@ module _ (m : Metamodels) where
   below_set ks rows k are all within marks c low = record {
     within = subst (λ x. EndsWithin x (get_or rows c no_row)) all (within c);
     marks = λ d. marks c (omega (arith, low, all)) d
-        ∙ ap2 (λ a b. a || b) (flipped c d) ((λ i. reaches (of_classes (are i)) d c) ∙ reaches_same m d c)
+        ∙ ap2 (λ a b. a || b) (flipped c d) (λ i. reaches (of_classes (are i)) d c)
         ∙ there d (leb_tells (length m.classes) d);
   }
     where
