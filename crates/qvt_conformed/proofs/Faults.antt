@@ -120,6 +120,7 @@ item_of (Obj o) = Ref o.0
 item_of v = BoolDatum false
 
 item_back : (d : Datum) → item_of (value_at 0 d) ≡ d
+unfolding item_of
 item_back (BoolDatum b) = refl
 item_back (Int n) = refl
 item_back (Str t) = refl
