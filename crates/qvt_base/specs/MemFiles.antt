@@ -3,7 +3,7 @@ use Rattle.std.specs.Prelude.{ℕ, ◌+◌, ◌-◌, ◌^◌, ◌==◌, ◌≢�
 use Rattle.std.specs.List.{list_any}
 use Rattle.std.specs.FinMap as finite
 use Rattle.qvt_base.specs.Outside.{Held, FilesSeen}
-use Rattle.qvt_base.specs.declared.mem_files.Entry.{Entry}
+use Rattle.qvt_base.specs.declared.mem_files.HeldFile.{HeldFile}
 use Rattle.qvt_base.specs.declared.outside.ReadAnswer.{ReadAnswer}
 use Rattle.qvt_base.specs.declared.outside.ReadAnswer.TheVariants as read
 use Rattle.qvt_base.specs.declared.outside.WriteAnswer.{WriteAnswer}
@@ -17,7 +17,7 @@ Log = List (List ℕ × List ℕ)
 abbrev pub held_of : Log → Held
 held_of log = finite.from_entries log
 
-abbrev pub pairs : List Entry → Log
+abbrev pub pairs : List HeldFile → Log
 pairs entries = map (λ e. (e.name, e.bytes)) entries
 
 -- files in memory: what was written, the numbers of the calls that are to fail, how many calls there were, the names of the failed reads,

@@ -26,9 +26,9 @@ abbrev pub after_call : SinkInMemory → SinkInMemory
 after_call s = record s { calls = next_call s.calls }
 
 -- a write that is to fail fails
-abbrev pub FailsWhereListed : Bool → SinkAnswer → Type 0
-FailsWhereListed true answer = answer ≡ sink.Failed
-FailsWhereListed false answer = ⊤
+abbrev pub SinkFailsWhereListed : Bool → SinkAnswer → Type 0
+SinkFailsWhereListed true answer = answer ≡ sink.Failed
+SinkFailsWhereListed false answer = ⊤
 
 -- what is taken is all of the piece, or as much as is taken at once
 abbrev pub TakesMost : ℕ → List ℕ → SinkAnswer → Type 0

@@ -50,12 +50,12 @@ abbrev pub look : Held → List ℕ → ℕ → Look
 look held name limit = within limit (map.get held name)
 
 -- where the files tell what they hold, an answer that is no failure is what stands under the name
-abbrev pub Reads : Option Held → List ℕ → ℕ → ReadAnswer → Type 0
-Reads told name limit (read.Found bytes) = IfSome told (λ held. look held name limit ≡ found bytes)
-Reads told name limit read.Missing = IfSome told (λ held. look held name limit ≡ missing)
-Reads told name limit read.TooLarge = IfSome told (λ held. look held name limit ≡ too_large)
-Reads told name limit read.Failed = ⊤
-Reads told name limit read.NoMemory = ⊤
+abbrev pub AnswersRead : Option Held → List ℕ → ℕ → ReadAnswer → Type 0
+AnswersRead told name limit (read.Found bytes) = IfSome told (λ held. look held name limit ≡ found bytes)
+AnswersRead told name limit read.Missing = IfSome told (λ held. look held name limit ≡ missing)
+AnswersRead told name limit read.TooLarge = IfSome told (λ held. look held name limit ≡ too_large)
+AnswersRead told name limit read.Failed = ⊤
+AnswersRead told name limit read.NoMemory = ⊤
 
 -- never more bytes than the limit, whether told or not
 abbrev pub IsWithin : ℕ → ReadAnswer → Type 0
@@ -105,7 +105,7 @@ pub record ReadCause (before now : ℕ) (answer : ReadAnswer) : Type 0 where
 
 -- a read of a name within a limit: no bytes change
 pub record IsRead (old : FilesSeen) (name : List ℕ) (limit : ℕ) (answer : ReadAnswer) (new : FilesSeen) : Type 0 where
-  pub found : Reads old.held name limit answer
+  pub found : AnswersRead old.held name limit answer
   pub within : IsWithin limit answer
   pub held : new.held ≡ old.held
   pub failed : new.failed ≡ failed_after old.failed name answer

@@ -1,7 +1,7 @@
 ghost use Rattle.std.specs.Prelude.{◌≡◌, ◌≢◌, OnOk, OnErr, Some, [], ◌∷◌};
 ghost use Rattle.std.specs.Option.{option_copied};
 ghost use Rattle.std.specs.FinMap as map;
-ghost use Rattle.qvt_base.specs.Outside.{Reads, IsWithin, failed_after, ReadCause, IsRead, IsWritten, WriteCause, IfWriteFailed};
+ghost use Rattle.qvt_base.specs.Outside.{AnswersRead, IsWithin, failed_after, ReadCause, IsRead, IsWritten, WriteCause, IfWriteFailed};
 ghost use Rattle.qvt_base.specs.MemFiles.{pairs, held_of, held_in, files_seen, IsUnread, after_call, is_to_fail, FailsAsListed, FailsWhereListed};
 
 use crate::copied::Copied;
@@ -21,7 +21,7 @@ pub enum FilesFault {
 
 /// A name and the bytes that it holds.
 #[derive(Debug, Drop)]
-pub struct Entry {
+pub struct HeldFile {
     name: Text,
     bytes: Bytes,
 }
@@ -31,7 +31,7 @@ pub struct Entry {
 #[derive(Debug, Drop)]
 pub struct MemFiles {
     /// The newest write first.
-    log: VecDeque<Entry>,
+    log: VecDeque<HeldFile>,
     failing: CallList,
     calls: u64,
     failed: NameList,
@@ -48,7 +48,7 @@ impl Model for MemFiles {
 }
 
 /// The newest bytes under the name.
-fn find<'a>(log: &'a VecDeque<Entry>, name: &str) -> Option<&'a Bytes>
+fn find<'a>(log: &'a VecDeque<HeldFile>, name: &str) -> Option<&'a Bytes>
     ensures { option_copied result ≡ map.get (held_of (pairs log.now.items)) name.now }
 {
     for entry in log {
@@ -60,7 +60,12 @@ fn find<'a>(log: &'a VecDeque<Entry>, name: &str) -> Option<&'a Bytes>
 }
 
 /// Puts a write in front.
-fn put(alloc: Global, log: &mut VecDeque<Entry>, name: &str, bytes: &[u8]) -> Result<(), FilesFault>
+fn put(
+    alloc: Global,
+    log: &mut VecDeque<HeldFile>,
+    name: &str,
+    bytes: &[u8],
+) -> Result<(), FilesFault>
     ensures ok { OnOk result (pairs log.new.items ≡ (name.now, bytes.now) ∷ pairs log.old.items) }
     ensures err { OnErr result (log.new.items ≡ log.old.items) }
 {
@@ -70,7 +75,7 @@ fn put(alloc: Global, log: &mut VecDeque<Entry>, name: &str, bytes: &[u8]) -> Re
     let Ok(bytes) = Seq::from_slice(alloc, bytes) else {
         return Err(FilesFault::NoMemory);
     };
-    let Ok(()) = log.push_front(Entry { name, bytes }) else {
+    let Ok(()) = log.push_front(HeldFile { name, bytes }) else {
         return Err(FilesFault::NoMemory);
     };
     Ok(())
@@ -152,8 +157,8 @@ impl MemFiles {
 }
 
 /// What stands under the name, copied.
-fn read_from(alloc: Global, log: &VecDeque<Entry>, name: &str, limit: u32) -> ReadAnswer
-    ensures answer { Reads (Some (held_of (pairs log.now.items))) name.now limit result }
+fn read_from(alloc: Global, log: &VecDeque<HeldFile>, name: &str, limit: u32) -> ReadAnswer
+    ensures answer { AnswersRead (Some (held_of (pairs log.now.items))) name.now limit result }
     ensures within { IsWithin limit result }
     ensures never_failed { result ≢ ReadAnswer.Failed }
 {

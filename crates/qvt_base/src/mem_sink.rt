@@ -73,7 +73,7 @@ impl MemSink {
 }
 
 impl Sink for MemSink {
-    ghost use Rattle.qvt_base.specs.MemSink.{sink_seen, is_to_fail, after_call, FailsWhereListed, TakesMost};
+    ghost use Rattle.qvt_base.specs.MemSink.{sink_seen, is_to_fail, after_call, SinkFailsWhereListed, TakesMost};
 
     ghost seen = { sink_seen };
 
@@ -81,7 +81,7 @@ impl Sink for MemSink {
     /// otherwise it takes as many as it may in one call.
     fn write(&mut self, piece: &[u8]) -> SinkAnswer
         ensures sent { IsSent (sink_seen self.old) piece.now result (sink_seen self.new) }
-        ensures listed { FailsWhereListed (is_to_fail self.old) result }
+        ensures listed { SinkFailsWhereListed (is_to_fail self.old) result }
         ensures most { TakesMost self.old.most piece.now result }
         ensures calls { self.new.calls ≡ (after_call self.old).calls }
         ensures failing { self.new.failing ≡ self.old.failing }

@@ -19,8 +19,8 @@ use Rattle.qvt_exec.specs.declared.entries.Entry.{Entry}
 use Rattle.qvt_exec.specs.Comes.{Comes}
 use Rattle.qvt_exec.specs.Finish.{finished_view}
 use Rattle.qvt_exec.specs.declared.finish.Finished.{Finished}
-use Rattle.qvt_exec.specs.declared.stop.Stop.{Stop as RunStop}
-use Rattle.qvt_exec.specs.declared.stop.Stop.TheVariants as end
+use Rattle.qvt_exec.specs.declared.stop.RunStop.{RunStop}
+use Rattle.qvt_exec.specs.declared.stop.RunStop.TheVariants as end
 use Rattle.qvt_job.specs.declared.job.Job.{Job}
 use Rattle.qvt_meaning_report.specs.Meaning as means
 use Rattle.qvt_outcome.specs.Outcome.{Outcome}
@@ -34,26 +34,26 @@ use Rattle.qvt_work.specs.Conforming.{EndConforms}
 use Rattle.qvt_work.specs.Ends.{left_over}
 use Rattle.qvt_cli.specs.Entries.{EntriesAreWritten, entry_with}
 
-abbrev HasWritten : run.Finished → Type 0
+abbrev HasWritten : run.FinishedRun → Type 0
 HasWritten f = run.patched f.finish.store (map run.late_value f.entries) ≡ Ok f.after
 
-as_patched : (f : run.Finish) (es : List run.Entry) (cost : ℕ) (r : Result Contents End) (g : run.Finished) → run.patched f.store (map run.late_value es) ≡ r
+as_patched : (f : run.Finish) (es : List run.AnsweredWrite) (cost : ℕ) (r : Result Contents End) (g : run.FinishedRun) → run.patched f.store (map run.late_value es) ≡ r
     → run.finished_as f es cost r ≡ Ok g → HasWritten g
 as_patched f es cost (Ok store) g is e =
     let same : record { finish = f; after = store; entries = es; cost = cost } ≡ g = cc in
     subst HasWritten same is
 as_patched f es cost (Err x) g is e = absurd (cc)
 
-as_carried : (f : run.Finish) (es : List run.Entry) (w : Result ℕ End) (g : run.Finished) → run.carried_out f es w ≡ Ok g → HasWritten g
+as_carried : (f : run.Finish) (es : List run.AnsweredWrite) (w : Result ℕ End) (g : run.FinishedRun) → run.carried_out f es w ≡ Ok g → HasWritten g
 as_carried f es (Ok cost) g e = as_patched f es cost (run.patched f.store (map run.late_value es)) g refl e
 as_carried f es (Err x) g e = absurd (cc)
 
-after_main : (p : ProgramTerm) (fuel : ℕ) (store : Contents) (s : State run.Entry) (g : run.Finished) → run.after_main p fuel store s ≡ Ok g → HasWritten g
+after_main : (p : ProgramTerm) (fuel : ℕ) (store : Contents) (s : State run.AnsweredWrite) (g : run.FinishedRun) → run.after_main p fuel store s ≡ Ok g → HasWritten g
 after_main p fuel store s g e =
-    let es : List run.Entry = run.second_entries p fuel store (run.finish_of s) in
+    let es : List run.AnsweredWrite = run.second_entries p fuel store (run.finish_of s) in
     as_carried (run.finish_of s) es (run.walk fuel s.cost es) g e
 
-after_first : (p : ProgramTerm) (fuel : ℕ) (store : Contents) (r : Result (Unit {0}) Exit) (s : State run.Entry) (g : run.Finished) → run.after_first p fuel store r s ≡ Ok g → HasWritten g
+after_first : (p : ProgramTerm) (fuel : ℕ) (store : Contents) (r : Result (Unit {0}) Exit) (s : State run.AnsweredWrite) (g : run.FinishedRun) → run.after_first p fuel store r s ≡ Ok g → HasWritten g
 after_first p fuel store (Ok u) s g e = after_main p fuel store s g e
 after_first p fuel store (Err (Returned v)) s g e = after_main p fuel store s g e
 after_first p fuel store (Err (Ends x)) s g e = absurd (cc)
@@ -107,13 +107,13 @@ module _ (job : Job) (p : ProgramTerm) (ids : List (Option (List ℕ))) (store :
 
   -- it is not finished
   pub ended_early : (why : RunStop) (stop : Stop) → x ≡ Err why → Comes (run.finished p store job.fuel) x
-      → ((p : ProgramTerm) (ids : List (Option (List ℕ))) (r : Result run.Finished End) → Comes r (Err why) → Stops {A = Outcome} stop (left job p ids (means.outcome_of r)))
+      → ((p : ProgramTerm) (ids : List (Option (List ℕ))) (r : Result run.FinishedRun End) → Comes r (Err why) → Stops {A = Outcome} stop (left job p ids (means.outcome_of r)))
       → Stops {A = Outcome} stop (left_over job p ids store)
   unfolding means.meaning
   ended_early why stop is comes stops = stops p ids (run.finished p store job.fuel) (subst (Comes (run.finished p store job.fuel)) is comes)
 
 -- a fault has ended it, or the end of the fuel
-pub ended_by : (job : Job) (p : ProgramTerm) (ids : List (Option (List ℕ))) (r : Result run.Finished End) (why : RunStop) (e : End) (stop : Stop) → why ≡ end.Ends e → Comes r (Err why)
+pub ended_by : (job : Job) (p : ProgramTerm) (ids : List (Option (List ℕ))) (r : Result run.FinishedRun End) (why : RunStop) (e : End) (stop : Stop) → why ≡ end.Ends e → Comes r (Err why)
     → Stops {A = Outcome} stop (left job p ids (means.outcome_of (Err e))) → Stops {A = Outcome} stop (left job p ids (means.outcome_of r))
 ended_by job p ids r why e stop is comes stops =
     let known : Comes r (Err (end.Ends e)) = subst (λ w. Comes r (Err w)) is comes in

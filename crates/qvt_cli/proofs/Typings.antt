@@ -2,7 +2,7 @@
 use Rattle.std.proofs.Common.{◌≡◌, ◌≢◌, ◌∙◌, ap, sym, subst, refl, ℕ, List, Option, Some, None, Result, Ok, Err}
 use Rattle.std.specs.Prelude.{MatchOption}
 use Rattle.qvt_base.specs.declared.numbers.Place.{Place}
-use Rattle.qvt_types_data.specs.declared.refusal.Refusal.{Refusal}
+use Rattle.qvt_types_data.specs.declared.refusal.TypingRefusal.{TypingRefusal}
 use Rattle.qvt_types_data.specs.declared.refusal.RefusalKind.{RefusalKind}
 use Rattle.qvt_types_data.specs.declared.refusal.RefusalKind.TheVariants as kind
 use Rattle.qvt_typing.specs.Accepts.{ProgramTerm}
@@ -16,7 +16,7 @@ use Rattle.qvt_outcome.specs.declared.stop.Stop.TheVariants as stop
 use Rattle.qvt_cli.specs.Typing.{refusal_in}
 use Rattle.qvt_cli.proofs.Sources.{refused_stops}
 
-abbrev at : RefusalKind → Place → Refusal
+abbrev at : RefusalKind → Place → TypingRefusal
 at k p = record { kind = k; place = p }
 
 -- a refusal is told by its fault
@@ -44,25 +44,25 @@ told kind.BadDisjunct p = refl
 told kind.ModelUse p = refl
 told kind.NoMain p = refl
 
-the_refusal : (f : TypingFault) (why : Refusal) (r : Result ProgramTerm Refusal) → refusal_in f ≡ Some why → answered r ≡ Err f → r ≡ Err why
+the_refusal : (f : TypingFault) (why : TypingRefusal) (r : Result ProgramTerm TypingRefusal) → refusal_in f ≡ Some why → answered r ≡ Err f → r ≡ Err why
 the_refusal f why (Ok p) is e = cc
 the_refusal f why (Err q) is e =
     let same : fault_of q ≡ f = cc in
     let both : Some q ≡ Some why = sym (told q.kind q.place) ∙ ap refusal_in same ∙ is in
     cc
 
-pub typing_stops : (name : List ℕ) (f : TypingFault) (e : Stop) (r : Result ProgramTerm Refusal)
+pub typing_stops : (name : List ℕ) (f : TypingFault) (e : Stop) (r : Result ProgramTerm TypingRefusal)
     → MatchOption (refusal_in f) (e ≡ stop.NoMemory) (λ why. RefusedOrNoMemory name (refusal.Typing why) e) → (f ≢ fault.NoMemory → answered r ≡ Err f)
     → Stops e (or_refused refusal.Typing name r)
 typing_stops name f e r h is = go (refusal_in f) refl h
   where
-    go : (o : Option Refusal) → refusal_in f ≡ o → MatchOption o (e ≡ stop.NoMemory) (λ why. RefusedOrNoMemory name (refusal.Typing why) e) → Stops e (or_refused refusal.Typing name r)
+    go : (o : Option TypingRefusal) → refusal_in f ≡ o → MatchOption o (e ≡ stop.NoMemory) (λ why. RefusedOrNoMemory name (refusal.Typing why) e) → Stops e (or_refused refusal.Typing name r)
     go None nothing end = subst (λ (s : Stop). Stops s (or_refused refusal.Typing name r)) (sym end) tt
     go (Some why) one end =
         let other : f ≢ fault.NoMemory = λ none. (let q : Some why ≡ None = sym one ∙ ap refusal_in none in absurd cc) in
         refused_stops name (refusal.Typing why) e (or_refused refusal.Typing name r) (ap (or_refused refusal.Typing name) (the_refusal f why r one (is other))) end
 
 -- a program that is given is that of the tree
-pub not_refused : (name : List ℕ) (r : Result ProgramTerm Refusal) (p : ProgramTerm) → or_refused refusal.Typing name r ≡ Ok p → r ≡ Ok p
+pub not_refused : (name : List ℕ) (r : Result ProgramTerm TypingRefusal) (p : ProgramTerm) → or_refused refusal.Typing name r ≡ Ok p → r ≡ Ok p
 not_refused name (Ok q) p e = cc
 not_refused name (Err why) p e = absurd (cc)

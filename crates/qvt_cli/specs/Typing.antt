@@ -1,12 +1,12 @@
 -- The refusal that a fault of typing tells.
 use Rattle.std.specs.Prelude.{Option, Some, None}
-use Rattle.qvt_types_data.specs.declared.refusal.Refusal.{Refusal}
+use Rattle.qvt_types_data.specs.declared.refusal.TypingRefusal.{TypingRefusal}
 use Rattle.qvt_types_data.specs.declared.refusal.RefusalKind.TheVariants as kind
 use Rattle.qvt_types.specs.declared.fault.TypingFault.{TypingFault}
 use Rattle.qvt_types.specs.declared.fault.TypingFault.TheVariants as fault
 
 -- none where there was no memory
-abbrev pub refusal_in : TypingFault → Option Refusal
+abbrev pub refusal_in : TypingFault → Option TypingRefusal
 refusal_in fault.NoMemory = None
 refusal_in (fault.UnknownMetamodel place) = Some (record { kind = kind.UnknownMetamodel; place = place })
 refusal_in (fault.UnknownName place) = Some (record { kind = kind.UnknownName; place = place })

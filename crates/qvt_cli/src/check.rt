@@ -3,7 +3,7 @@
 ghost use Rattle.std.specs.Prelude.{◌≡◌, ◌<◌, [], IfOk, IfErr, length};
 ghost use Rattle.qvt_work.specs.Check.{after_metamodel, check_of};
 ghost use Rattle.qvt_outcome.specs.Outcome.{done, conforms_line};
-ghost use Rattle.qvt_outcome.specs.Plans.{outcome_of, IsReady};
+ghost use Rattle.qvt_outcome.specs.Plans.{outcome_of, HaveFaultLines};
 ghost use Rattle.qvt_outcome.specs.Follows.{Follows};
 
 use crate::metas::read_metamodel;
@@ -20,7 +20,7 @@ use std::alloc::Global;
 /// The plan of a model that conforms.
 fn plan_of(alloc: Global, objects: usize) -> Result<Plan, Stop>
     ensures plan { IfOk result (λ p. outcome_of p ≡ done [] (conforms_line objects)) }
-    ensures ready { IfOk result (λ p. IsReady p.outputs) }
+    ensures ready { IfOk result (λ p. HaveFaultLines p.outputs) }
     ensures memory { IfErr result (λ stop. stop ≡ Stop.NoMemory) }
 {
     match conforms_line(alloc, objects) {
@@ -41,7 +41,7 @@ fn check_model<F: Files>(
 ) -> Result<Plan, Stop>
     requires one { 0 < length metas.now.metamodels }
     ensures follows { Follows outcome_of (after_metamodel model.now metas.now) (F.seen files.old) result (F.seen files.new) }
-    ensures ready { IfOk result (λ p. IsReady p.outputs) }
+    ensures ready { IfOk result (λ p. HaveFaultLines p.outputs) }
 {
     match read_conforming(alloc, files, metas, 0, 0, model) {
         Err(stop) => Err(stop),
@@ -57,7 +57,7 @@ pub fn perform_check<F: Files>(
     model: &Text,
 ) -> Result<Plan, Stop>
     ensures follows { Follows outcome_of (check_of metamodel.now model.now) (F.seen files.old) result (F.seen files.new) }
-    ensures ready { IfOk result (λ p. IsReady p.outputs) }
+    ensures ready { IfOk result (λ p. HaveFaultLines p.outputs) }
 {
     let mut metas = Metas::new(alloc);
     match read_metamodel(alloc, files, &mut metas, metamodel) {

@@ -7,7 +7,7 @@ ghost use Rattle.qvt_meaning.specs.Accepts.{ProgramTerm};
 ghost use Rattle.qvt_meaning.specs.Run as rules;
 ghost use Rattle.qvt_meaning_report.specs.Meaning as meaning;
 ghost use Rattle.qvt_outcome.specs.Outcome.{Outcome};
-ghost use Rattle.qvt_outcome.specs.Plans.{IsReady, outcome_of};
+ghost use Rattle.qvt_outcome.specs.Plans.{HaveFaultLines, outcome_of};
 ghost use Rattle.qvt_outcome.specs.Steps.{GivesOrStops, IfFaultOf, IsFaultWith, Stops};
 ghost use Rattle.qvt_types_program.specs.Program.{program_view};
 ghost use Rattle.qvt_exec.specs.Comes.{Comes};
@@ -23,9 +23,9 @@ use crate::entries::written_entries;
 use qvt_base::seq::Seq;
 use qvt_exec::finish::Finished;
 use qvt_exec::laws::candidates_stay;
-use qvt_exec::stop::Stop as RunStop;
+use qvt_exec::stop::RunStop;
 use qvt_job::job::Job;
-use qvt_live_store::held::Held;
+use qvt_live_store::held::HeldStore;
 use qvt_model::id_table::IdTable;
 use qvt_outcome::plan::Plan;
 use qvt_outcome::stop::Stop;
@@ -44,14 +44,14 @@ fn finished_left(
     finished: Finished<'_>,
 ) -> Result<Plan, Stop>
     ensures gives { (before : Contents) → rules.patched before (map value_of finished.entry.entries) ≡ Ok (contents_of finished.entry.state.store) → GivesOrStops outcome_of result (left job.now (program_view program.now) ids.now (meaning.outcome_of (Ok (finished_view before finished.entry)))) }
-    ensures ready { IfOk result (λ plan. IsReady plan.outputs) }
+    ensures ready { IfOk result (λ plan. HaveFaultLines plan.outputs) }
     ensures no_reads { IfFaultOf result (λ file. ⊥) }
     ensures conform { IfOk result (λ plan. AreConforming (contents_of finished.entry.state.store) job.now.outputs) }
 {
     candidates_stay();
     let mut finished = finished;
     let kept = mem::replace(&mut finished.entries, Seq::new(alloc));
-    let Held::Own(store) = &finished.state.store else {
+    let HeldStore::Own(store) = &finished.state.store else {
         return Err(Stop::NoMemory);
     };
     let trace = &finished.state.trace;
@@ -68,7 +68,7 @@ fn finished_left(
 
 /// The end of a run that is not finished.
 fn unfinished(alloc: Global, job: &Job, why: RunStop) -> Stop
-    ensures stops { (p : ProgramTerm) (ids : List (Option (List ℕ))) (r : Result rules.Finished End) → Comes r (Err why) → Stops {A = Outcome} result (left job.now p ids (meaning.outcome_of r)) }
+    ensures stops { (p : ProgramTerm) (ids : List (Option (List ℕ))) (r : Result rules.FinishedRun End) → Comes r (Err why) → Stops {A = Outcome} result (left job.now p ids (meaning.outcome_of r)) }
     ensures no_reads { IsFaultWith result (λ file. ⊥) }
 {
     match why {
@@ -86,7 +86,7 @@ pub fn ended(
     run: Result<Finished<'_>, RunStop>,
 ) -> Result<Plan, Stop>
     ensures gives { (store : Contents) → Comes (rules.finished (program_view program.now) store job.now.fuel) run.entry → GivesOrStops outcome_of result (left_over job.now (program_view program.now) ids.now store) }
-    ensures ready { IfOk result (λ plan. IsReady plan.outputs) }
+    ensures ready { IfOk result (λ plan. HaveFaultLines plan.outputs) }
     ensures no_reads { IfFaultOf result (λ file. ⊥) }
     ensures conform { (store : Contents) → Comes (rules.finished (program_view program.now) store job.now.fuel) run.entry → IfOk result (λ plan. EndConforms job.now (program_view program.now) store) }
 {

@@ -4,7 +4,7 @@ ghost use Rattle.std.specs.Prelude.{◌≡◌, [], IfOk, IfErr};
 ghost use Rattle.qvt_tree_types.specs.Module.{module_view};
 ghost use Rattle.qvt_printer.specs.PrintText.{print_text};
 ghost use Rattle.qvt_outcome.specs.Outcome.{done};
-ghost use Rattle.qvt_outcome.specs.Plans.{outcome_of, IsReady};
+ghost use Rattle.qvt_outcome.specs.Plans.{outcome_of, HaveFaultLines};
 ghost use Rattle.qvt_work.specs.Printing.{tree_read, print_of};
 ghost use Rattle.qvt_outcome.specs.Follows.{Follows};
 
@@ -32,7 +32,7 @@ fn read_tree<F: Files>(alloc: Global, files: &mut F, name: &Text) -> Result<Modu
 /// The plan of a printed text.
 fn plan_of(alloc: Global, tree: &Module) -> Result<Plan, Stop>
     ensures plan { IfOk result (λ p. outcome_of p ≡ done [] (print_text (module_view tree.now))) }
-    ensures ready { IfOk result (λ p. IsReady p.outputs) }
+    ensures ready { IfOk result (λ p. HaveFaultLines p.outputs) }
     ensures memory { IfErr result (λ stop. stop ≡ Stop.NoMemory) }
 {
     let Ok(text) = print(alloc, tree) else {
@@ -50,7 +50,7 @@ fn plan_of(alloc: Global, tree: &Module) -> Result<Plan, Stop>
 /// Reads a text, and prints it.
 pub fn perform_print<F: Files>(alloc: Global, files: &mut F, name: &Text) -> Result<Plan, Stop>
     ensures follows { Follows outcome_of (print_of name.now) (F.seen files.old) result (F.seen files.new) }
-    ensures ready { IfOk result (λ p. IsReady p.outputs) }
+    ensures ready { IfOk result (λ p. HaveFaultLines p.outputs) }
 {
     match read_tree(alloc, files, name) {
         Err(stop) => Err(stop),

@@ -5,7 +5,7 @@ ghost use Rattle.qvt_base.specs.Outside.{Held};
 ghost use Rattle.qvt_store.specs.Sound.{Sound};
 ghost use Rattle.qvt_types_program.specs.Program.{program_view};
 ghost use Rattle.qvt_outcome.specs.Follows.{Follows};
-ghost use Rattle.qvt_outcome.specs.Plans.{outcome_of, IsReady};
+ghost use Rattle.qvt_outcome.specs.Plans.{outcome_of, HaveFaultLines};
 ghost use Rattle.qvt_outcome.specs.Steps.{GivesOrStops, IfFaultOf};
 ghost use Rattle.qvt_program_inputs.specs.Start.{CanLoad};
 ghost use Rattle.qvt_work.specs.Conforming.{EndConforms, PerformedConforms};
@@ -31,7 +31,7 @@ use std::alloc::Global;
 fn run_loaded(alloc: Global, job: &Job, program: &Program, loaded: Loaded) -> Result<Plan, Stop>
     requires { Sound loaded.store }
     ensures gives { GivesOrStops outcome_of result (left_over job.now (program_view program.now) loaded.ids loaded.store) }
-    ensures ready { IfOk result (λ p. IsReady p.outputs) }
+    ensures ready { IfOk result (λ p. HaveFaultLines p.outputs) }
     ensures no_reads { IfFaultOf result (λ file. ⊥) }
     ensures conform { IfOk result (λ plan. EndConforms job.now (program_view program.now) loaded.store) }
 {
@@ -56,7 +56,7 @@ pub fn perform<F: Files>(
 ) -> Result<Plan, Stop>
     requires { CanLoad (program_view program.now) job.now.inputs }
     ensures follows { Follows outcome_of (performed job.now (program_view program.now)) (F.seen files.old) result (F.seen files.new) }
-    ensures ready { IfOk result (λ p. IsReady p.outputs) }
+    ensures ready { IfOk result (λ p. HaveFaultLines p.outputs) }
     ensures conform { (held : Held) → (F.seen files.old).held ≡ Some held → IfOk result (λ plan. PerformedConforms job.now (program_view program.now) held) }
 {
     match read_program_inputs(alloc, files, program, job.inputs.as_slice()) {

@@ -4,7 +4,7 @@ ghost use Rattle.std.specs.Prelude.{◌≡◌, ◌≤◌, length, None, Some, If
 ghost use Rattle.qvt_base.specs.Outside.{Held};
 ghost use Rattle.qvt_outcome.specs.Follows.{Follows};
 ghost use Rattle.qvt_outcome.specs.Steps.{GivesOrStops, IfFaultOf, IsFaultWith, RefusedOrNoMemory, StopsBy};
-ghost use Rattle.qvt_outcome.specs.Plans.{outcome_of, IsReady};
+ghost use Rattle.qvt_outcome.specs.Plans.{outcome_of, HaveFaultLines};
 ghost use Rattle.qvt_work.specs.Conforming.{AfterJobConforms, AfterMetasConforms, RunConforms};
 ghost use Rattle.qvt_work.specs.Run.{job_in, job_read, program_in, text_in, text_read, after_metas, after_job, run_of};
 ghost use Rattle.qvt_job.specs.Names.{HaveNames};
@@ -162,7 +162,7 @@ fn perform_with_metas<F: Files>(
     requires metamodels { AreAllNamed metas.now }
     requires named { HaveNames job.now.inputs × HaveNames job.now.outputs }
     ensures follows { Follows outcome_of (after_metas name.now job.now metas.now) (F.seen files.old) result (F.seen files.new) }
-    ensures ready { IfOk result (λ p. IsReady p.outputs) }
+    ensures ready { IfOk result (λ p. HaveFaultLines p.outputs) }
     ensures conform { (held : Held) → (F.seen files.old).held ≡ Some held → IfOk result (λ plan. AfterMetasConforms name.now job.now metas.now held) }
 {
     match read_text(alloc, files, name, job, metas) {
@@ -175,7 +175,7 @@ fn perform_with_metas<F: Files>(
 fn perform_job<F: Files>(alloc: Global, files: &mut F, name: &Text, job: &Job) -> Result<Plan, Stop>
     requires { HaveNames job.now.inputs × HaveNames job.now.outputs }
     ensures follows { Follows outcome_of (after_job name.now job.now) (F.seen files.old) result (F.seen files.new) }
-    ensures ready { IfOk result (λ p. IsReady p.outputs) }
+    ensures ready { IfOk result (λ p. HaveFaultLines p.outputs) }
     ensures conform { (held : Held) → (F.seen files.old).held ≡ Some held → IfOk result (λ plan. AfterJobConforms name.now job.now held) }
 {
     match read_metamodels(alloc, files, job.metamodels.as_slice()) {
@@ -187,7 +187,7 @@ fn perform_job<F: Files>(alloc: Global, files: &mut F, name: &Text, job: &Job) -
 /// Reads a job and all that it names, and runs it. Every model that is to be written conforms to its metamodel.
 pub fn perform_run<F: Files>(alloc: Global, files: &mut F, name: &Text) -> Result<Plan, Stop>
     ensures follows { Follows outcome_of (run_of name.now) (F.seen files.old) result (F.seen files.new) }
-    ensures ready { IfOk result (λ p. IsReady p.outputs) }
+    ensures ready { IfOk result (λ p. HaveFaultLines p.outputs) }
     ensures conform { (held : Held) → (F.seen files.old).held ≡ Some held → IfOk result (λ plan. RunConforms name.now held) }
 {
     match read_named_job(alloc, files, name) {

@@ -16,7 +16,7 @@ use qvt_tree_types::module::Module;
 use qvt_types::accepting::accept;
 use qvt_types::fault::TypingFault;
 use qvt_types::program::Program;
-use qvt_types_data::refusal::{Refusal as TypingRefusal, RefusalKind};
+use qvt_types_data::refusal::{RefusalKind, TypingRefusal};
 use std::alloc::Global;
 
 /// The refusal that a fault tells, none where there was no memory.

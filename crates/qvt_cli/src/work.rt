@@ -1,7 +1,7 @@
 ghost use Rattle.std.specs.Prelude.{◌≡◌, IfOk, Some};
 ghost use Rattle.qvt_base.specs.Outside.{Held};
 ghost use Rattle.qvt_cli.specs.Commands.{command_view};
-ghost use Rattle.qvt_outcome.specs.Plans.{outcome_of, IsReady};
+ghost use Rattle.qvt_outcome.specs.Plans.{outcome_of, HaveFaultLines};
 ghost use Rattle.qvt_outcome.specs.Follows.{Follows};
 ghost use Rattle.qvt_work.specs.Conforming.{CommandConforms};
 ghost use Rattle.qvt_work.specs.Work.{work_of};
@@ -19,7 +19,7 @@ use std::alloc::Global;
 /// metamodel.
 pub fn perform<F: Files>(alloc: Global, files: &mut F, command: Command<'_>) -> Result<Plan, Stop>
     ensures follows { Follows outcome_of (work_of (command_view command.entry)) (F.seen files.old) result (F.seen files.new) }
-    ensures ready { IfOk result (λ p. IsReady p.outputs) }
+    ensures ready { IfOk result (λ p. HaveFaultLines p.outputs) }
     ensures conform { (held : Held) → (F.seen files.old).held ≡ Some held → IfOk result (λ plan. CommandConforms (command_view command.entry) held) }
 {
     match command {

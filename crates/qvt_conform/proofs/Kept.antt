@@ -10,7 +10,7 @@ use Rattle.qvt_metamodel.specs.Metamodels.{Metamodels, shape_of, opposite, among
 use Rattle.qvt_model.specs.Items.{items_in}
 use Rattle.qvt_model.specs.declared.data.SlotData.{SlotData}
 use Rattle.qvt_model.specs.declared.data.ObjectData.{ObjectData}
-use Rattle.qvt_conform.specs.declared.links.Link.{Link}
+use Rattle.qvt_conform.specs.declared.links.ObjectLink.{ObjectLink}
 use Rattle.qvt_conform.specs.declared.breach.Breach.{Breach}
 use Rattle.qvt_conform.specs.declared.breach.Breach.TheVariants.{Bounds as BoundsBroken, NotUnique as UniqueBroken, Opposite as OppositeBroken}
 use Rattle.qvt_repeats.specs.Repeats.{repeats_by}
@@ -39,7 +39,7 @@ second_true : (a b : Bool) → (a && b) ≡ true → b ≡ true
 second_true true b h = h
 second_true false b h = cc
 
-kept_at : (m : Metamodels) (ls : List Link) (i f : ℕ) (ts : List SlotData) → are_kept m ls i ts ≡ true → has_slot ts f ≡ true → breach_of m ls i f (items_in f ts) ≡ None
+kept_at : (m : Metamodels) (ls : List ObjectLink) (i f : ℕ) (ts : List SlotData) → are_kept m ls i ts ≡ true → has_slot ts f ≡ true → breach_of m ls i f (items_in f ts) ≡ None
 kept_at m ls i f [] k h = cc
 kept_at m ls i f (t ∷ ts) k h = by (t.feature.0 == f) refl h (kept_at m ls i f ts (second_true (not (is_some (breach_of m ls i t.feature.0 t.items))) (are_kept m ls i ts) k))
   where
@@ -63,11 +63,11 @@ nothing_twice : (b : Bool) → (b && repeats_by same_item []) ≡ false
 nothing_twice true = refl
 nothing_twice false = refl
 
-nothing_lacks : (ls : List Link) (o : Option FeatureNo) (i : ℕ) → lack_links ls o i [] ≡ false
+nothing_lacks : (ls : List ObjectLink) (o : Option FeatureNo) (i : ℕ) → lack_links ls o i [] ≡ false
 nothing_lacks ls None i = refl
 nothing_lacks ls (Some q) i = refl
 
-nothing_broken : (m : Metamodels) (ls : List Link) (i f : ℕ) → asks m f ≡ false → breach_of m ls i f [] ≡ None
+nothing_broken : (m : Metamodels) (ls : List ObjectLink) (i f : ℕ) → asks m f ≡ false → breach_of m ls i f [] ≡ None
 unfolding breach_of
 nothing_broken m ls i f h = λ k.
     if not (within_nothing (shape_of m f) h k) then Some BoundsBroken
@@ -75,7 +75,7 @@ nothing_broken m ls i f h = λ k.
     else (if nothing_lacks ls (opposite m f) i k then Some OppositeBroken
     else None))
 
-feature_kept : (m : Metamodels) (ls : List Link) (i : ℕ) (o : ObjectData) (f : FeatureNo) → are_kept m ls i o.slots ≡ true
+feature_kept : (m : Metamodels) (ls : List ObjectLink) (i : ℕ) (o : ObjectData) (f : FeatureNo) → are_kept m ls i o.slots ≡ true
     → (asks m f.0 ≡ true → has_slot o.slots f.0 ≡ true) → feature_fault_by m ls i o f ≡ None
 unfolding feature_fault_by
 feature_kept m ls i o f kept met = ap (option_map (fault_of m o f.0)) (by (has_slot o.slots f.0) refl (asks m f.0) refl)
@@ -85,14 +85,14 @@ feature_kept m ls i o f kept met = ap (option_map (fault_of m o f.0)) (by (has_s
     by false there false e = subst (λ xs. breach_of m ls i f.0 xs ≡ None) (sym (no_items f.0 o.slots there)) (nothing_broken m ls i f.0 e)
     by false there true e = (let d : true ≡ false = sym (met e) ∙ there in absurd cc)
 
-features_kept : (m : Metamodels) (ls : List Link) (i : ℕ) (o : ObjectData) (fs : List FeatureNo) → are_kept m ls i o.slots ≡ true
+features_kept : (m : Metamodels) (ls : List ObjectLink) (i : ℕ) (o : ObjectData) (fs : List FeatureNo) → are_kept m ls i o.slots ≡ true
     → ((f : ℕ) → among_features f fs ≡ true → asks m f ≡ true → has_slot o.slots f ≡ true) → features_fault_by m ls i o fs ≡ None
 features_kept m ls i o [] kept met = refl
 features_kept m ls i o (f ∷ fs) kept met = λ k. or_next
     (feature_kept m ls i o f kept (met f.0 (or_left (f.0 == f.0) (among_features f.0 fs) (eq-eqb f.0 f.0 refl))) k)
     (features_kept m ls i o fs kept (λ g h. met g (or_right (f.0 == g) (among_features g fs) h)) k)
 
-pub nothing_told : (m n : Metamodels) (ls : List Link) (i : ℕ) (o : ObjectData) (ts : List SlotData) → ts ≡ o.slots → n ≡ m → are_kept m ls i ts ≡ true → AreMet n (features_of n o.class.0) ts
+pub nothing_told : (m n : Metamodels) (ls : List ObjectLink) (i : ℕ) (o : ObjectData) (ts : List SlotData) → ts ≡ o.slots → n ≡ m → are_kept m ls i ts ≡ true → AreMet n (features_of n o.class.0) ts
     → features_fault_by m ls i o (features_of m o.class.0) ≡ None
 nothing_told m n ls i o ts is same kept met =
     features_kept m ls i o (features_of m o.class.0) (subst (λ us. are_kept m ls i us ≡ true) is kept)

@@ -13,8 +13,8 @@ use Rattle.qvt_model.specs.declared.data.Datum.{Datum}
 use Rattle.qvt_model.specs.declared.data.Datum.TheVariants.{Bool as BoolDatum, Int, Str, Literal, Ref}
 use Rattle.qvt_model.specs.declared.data.SlotData.{SlotData}
 use Rattle.qvt_model.specs.declared.data.ObjectData.{ObjectData}
-use Rattle.qvt_model.specs.WellFormed.{IsModel, IsObject, AreInOrder, ComeAfter, object_at}
-use Rattle.qvt_conform.specs.declared.links.Link.{Link}
+use Rattle.qvt_model.specs.WellFormed.{IsModel, IsObjectIn, AreInNameOrder, ComeAfter, object_at}
+use Rattle.qvt_conform.specs.declared.links.ObjectLink.{ObjectLink}
 use Rattle.qvt_conform.specs.declared.fault.ConformFault.TheVariants.{Abstract, Bounds, NotUnique, Opposite}
 use Rattle.qvt_model.specs.Items.{items_in}
 use Rattle.qvt_repeats.specs.Repeats.{repeats_by}
@@ -28,7 +28,7 @@ use Rattle.qvt_conform.specs.Containment.{contents}
 use Rattle.qvt_conform.specs.Conformance.{fault_if, feature_fault, features_fault, containment_fault, object_fault, faults_from, conform_fault}
 use Rattle.qvt_conform.proofs.Orders.{not_after_itself}
 
-any-append : (p : Link → Bool) (xs ys : List Link) → list_any p (xs ++ ys) ≡ (list_any p xs || list_any p ys)
+any-append : (p : ObjectLink → Bool) (xs ys : List ObjectLink) → list_any p (xs ++ ys) ≡ (list_any p xs || list_any p ys)
 any-append p [] ys = refl
 any-append p (x ∷ xs) ys = ap (λ b. p x || b) (any-append p xs ys) ∙ sym (or_or (p x) (list_any p xs) (list_any p ys))
   where
@@ -123,7 +123,7 @@ absent m x q i y (s ∷ ss) h = any-append (same_link (link x q i)) (links_of_sl
     other : q ≢ s.feature.0
     other e = not_after_itself (feature_at m q).name (subst (λ f. slice_cmp nat_cmp (feature_at m f).name (feature_at m q).name ≡ Greater) (sym e) h.0)
 
-own_slots : (m : Metamodels) (x q i : ℕ) (ss : List SlotData) → is_some (opposite m q) ≡ true → AreInOrder m ss
+own_slots : (m : Metamodels) (x q i : ℕ) (ss : List SlotData) → is_some (opposite m q) ≡ true → AreInNameOrder m ss
     → list_any (same_link (link x q i)) (links_of_slots m x ss) ≡ list_any (is_ref i) (items_in q ss)
 own_slots m x q i [] there h = refl
 own_slots m x q i (s ∷ ss) there h = any-append (same_link (link x q i)) (links_of_slot m x s) (links_of_slots m x ss) ∙ by (s.feature.0 == q) refl (own_slots m x q i ss there h.1)
@@ -140,7 +140,7 @@ own_slots m x q i (s ∷ ss) there h = any-append (same_link (link x q i)) (link
     by false e ih = both _ _ _ _ (slot_else m x q i x s (λ i j. feature_else x q i x s.feature.0 j (λ is. (let d : true ≡ false = sym (eq-eqb s.feature.0 q (sym is)) ∙ e in absurd cc)))) ih
 
 abbrev AreOrdered : Metamodels → List ObjectData → Type 0
-AreOrdered m os = AllByRecursion (λ o. AreInOrder m o.slots) os
+AreOrdered m os = AllByRecursion (λ o. AreInNameOrder m o.slots) os
 
 linked : (m : Metamodels) (q i k j : ℕ) (os : List ObjectData) → is_some (opposite m q) ≡ true → AreOrdered m os
     → list_any (same_link (link (k + j) q i)) (links_from m k os) ≡ list_any (is_ref i) (items_of (object_at os j) q)
@@ -161,7 +161,7 @@ linked m q i k (suc j) (o ∷ os) there h =
     same = omega arith
 
 -- what the checks by references need of a model
-pub record IsLinked (m : Metamodels) (os : List ObjectData) (ls : List Link) : Type 0 where
+pub record IsLinked (m : Metamodels) (os : List ObjectData) (ls : List ObjectLink) : Type 0 where
   pub mutual_opposites : (p q : ℕ) → is_opposite m p q ≡ true → is_opposite m q p ≡ true
   pub ordered : AreOrdered m os
   pub joined : Joined [] (links_from m 0 os) ls
@@ -170,7 +170,7 @@ some_opposite : (o : Option FeatureNo) (p : ℕ) → is_feature_number o p ≡ t
 some_opposite None p h = cc
 some_opposite (Some f) p h = refl
 
-item_lacks : (m : Metamodels) (os : List ObjectData) (ls : List Link) (q i : ℕ) → IsLinked m os ls → is_some (opposite m q) ≡ true → (d : Datum) → lacks_link ls q i d ≡ lacks os q i d
+item_lacks : (m : Metamodels) (os : List ObjectData) (ls : List ObjectLink) (q i : ℕ) → IsLinked m os ls → is_some (opposite m q) ≡ true → (d : Datum) → lacks_link ls q i d ≡ lacks os q i d
 item_lacks m os ls q i h there (BoolDatum b) = refl
 item_lacks m os ls q i h there (Int z) = refl
 item_lacks m os ls q i h there (Str s) = refl
@@ -180,11 +180,11 @@ item_lacks m os ls q i h there (Ref j) = ap not (h.joined.holds (link j q i) ∙
     same : 0 + j ≡ j
     same = omega arith
 
-items_lack : (m : Metamodels) (os : List ObjectData) (ls : List Link) (q i : ℕ) → IsLinked m os ls → is_some (opposite m q) ≡ true → (ds : List Datum) → list_any (lacks_link ls q i) ds ≡ list_any (lacks os q i) ds
+items_lack : (m : Metamodels) (os : List ObjectData) (ls : List ObjectLink) (q i : ℕ) → IsLinked m os ls → is_some (opposite m q) ≡ true → (ds : List Datum) → list_any (lacks_link ls q i) ds ≡ list_any (lacks os q i) ds
 items_lack m os ls q i h there [] = refl
 items_lack m os ls q i h there (d ∷ ds) = both _ _ _ _ (item_lacks m os ls q i h there d) (items_lack m os ls q i h there ds)
 
-slot_lacks : (m : Metamodels) (os : List ObjectData) (ls : List Link) (f i : ℕ) → IsLinked m os ls → (ds : List Datum) → lack_links ls (opposite m f) i ds ≡ lack_opposite (opposite m f) os i ds
+slot_lacks : (m : Metamodels) (os : List ObjectData) (ls : List ObjectLink) (f i : ℕ) → IsLinked m os ls → (ds : List Datum) → lack_links ls (opposite m f) i ds ≡ lack_opposite (opposite m f) os i ds
 slot_lacks m os ls f i h ds = by (opposite m f) refl
   where
     by : (o : Option FeatureNo) → opposite m f ≡ o → lack_links ls o i ds ≡ lack_opposite o os i ds
@@ -202,31 +202,31 @@ told id name true true l = refl
 told id name true false true = refl
 told id name true false false = refl
 
-feature_same : (m : Metamodels) (os : List ObjectData) (ls : List Link) (i : ℕ) (o : ObjectData) (f : FeatureNo) → IsLinked m os ls → feature_fault_by m ls i o f ≡ feature_fault m os i o f
+feature_same : (m : Metamodels) (os : List ObjectData) (ls : List ObjectLink) (i : ℕ) (o : ObjectData) (f : FeatureNo) → IsLinked m os ls → feature_fault_by m ls i o f ≡ feature_fault m os i o f
 unfolding feature_fault_by feature_fault breach_of
 feature_same m os ls i o f h = told o.id (feature_at m f.0).name (is_within (shape_of m f.0) (length (items_of o f.0))) ((shape_of m f.0).unique && repeats_by same_item (items_of o f.0)) (lack_links ls (opposite m f.0) i (items_of o f.0))
     ∙ ap (λ b. or_next (fault_if (not (is_within (shape_of m f.0) (length (items_of o f.0)))) (Bounds o.id (feature_at m f.0).name))
     (or_next (fault_if ((shape_of m f.0).unique && repeats_by same_item (items_of o f.0)) (NotUnique o.id (feature_at m f.0).name)) (fault_if b (Opposite o.id (feature_at m f.0).name))))
     (slot_lacks m os ls f.0 i h (items_of o f.0))
 
-features_same : (m : Metamodels) (os : List ObjectData) (ls : List Link) (i : ℕ) (o : ObjectData) (fs : List FeatureNo) → IsLinked m os ls → features_fault_by m ls i o fs ≡ features_fault m os i o fs
+features_same : (m : Metamodels) (os : List ObjectData) (ls : List ObjectLink) (i : ℕ) (o : ObjectData) (fs : List FeatureNo) → IsLinked m os ls → features_fault_by m ls i o fs ≡ features_fault m os i o fs
 features_same m os ls i o [] h = refl
 features_same m os ls i o (f ∷ fs) h = λ k. or_next (feature_same m os ls i o f h k) (features_same m os ls i o fs h k)
 
-object_same : (m : Metamodels) (os : List ObjectData) (ls : List Link) (i : ℕ) (o : ObjectData) → IsLinked m os ls → object_fault_by m ls (contents m os) i o ≡ object_fault m os i o
+object_same : (m : Metamodels) (os : List ObjectData) (ls : List ObjectLink) (i : ℕ) (o : ObjectData) → IsLinked m os ls → object_fault_by m ls (contents m os) i o ≡ object_fault m os i o
 unfolding object_fault_by object_fault
 object_same m os ls i o h = ap (λ x. or_next (fault_if (class_at m o.class.0).is_abstract (Abstract o.id)) (or_next x (containment_fault (contents m os) i o)))
     (features_same m os ls i o (features_of m o.class.0) h)
 
-faults_same : (m : Metamodels) (all : List ObjectData) (ls : List Link) (i : ℕ) (os : List ObjectData) → IsLinked m all ls → faults_by m ls (contents m all) i os ≡ faults_from m all i os
+faults_same : (m : Metamodels) (all : List ObjectData) (ls : List ObjectLink) (i : ℕ) (os : List ObjectData) → IsLinked m all ls → faults_by m ls (contents m all) i os ≡ faults_from m all i os
 faults_same m all ls i [] h = refl
 faults_same m all ls i (o ∷ os) h = λ k. or_next (object_same m all ls i o h k) (faults_same m all ls (suc i) os h k)
 
-pub conform_same : (m : Metamodels) (os : List ObjectData) (ls : List Link) → IsLinked m os ls → faults_by m ls (contents m os) 0 os ≡ conform_fault m os
+pub conform_same : (m : Metamodels) (os : List ObjectData) (ls : List ObjectLink) → IsLinked m os ls → faults_by m ls (contents m os) 0 os ≡ conform_fault m os
 unfolding conform_fault
 conform_same m os ls h = faults_same m os ls 0 os h
 
-in_order : (m : Metamodels) (k : ℕ) (all os : List ObjectData) → AllByRecursion (IsObject m k all) os → AreOrdered m os
+in_order : (m : Metamodels) (k : ℕ) (all os : List ObjectData) → AllByRecursion (IsObjectIn m k all) os → AreOrdered m os
 in_order m k all [] h = tt
 in_order m k all (o ∷ os) h = (h.0.order, in_order m k all os h.1)
 

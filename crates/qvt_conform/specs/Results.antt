@@ -6,6 +6,6 @@ err_of (Ok x) = None
 err_of (Err e) = Some e
 
 -- the fault is the one that is stated, but for want of memory, which is free
-abbrev pub Tells : {A F : Type 0} → F → Result A F → Option F → Type 0
-Tells free (Ok x) stated = stated ≡ None
-Tells free (Err e) stated = e ≢ free → stated ≡ Some e
+abbrev pub TellsFault : {A F : Type 0} → F → Result A F → Option F → Type 0
+TellsFault free (Ok x) stated = stated ≡ None
+TellsFault free (Err e) stated = e ≢ free → stated ≡ Some e

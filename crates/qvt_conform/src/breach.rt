@@ -5,7 +5,7 @@ ghost use Rattle.std.specs.List.{list_any};
 ghost use Rattle.qvt_conform.specs.Breaches.{lacks_link, lack_links, breach_of, are_kept};
 
 use crate::items::{is_within, repeats};
-use crate::links::{Link, Links};
+use crate::links::{Links, ObjectLink};
 use qvt_base::list_fault::ListFault;
 use qvt_base::numbers::FeatureNo;
 use qvt_metas::metas::Metas;
@@ -28,7 +28,7 @@ fn lacks(links: &Links, feature: FeatureNo, place: u32, item: &Datum) -> bool
     ensures { result ≡ lacks_link links.now feature.0 place item.now }
 {
     match item {
-        Datum::Ref(other) => !links.holds(Link {
+        Datum::Ref(other) => !links.holds(ObjectLink {
             object: *other,
             feature: feature.0,
             target: place,

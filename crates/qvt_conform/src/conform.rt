@@ -8,7 +8,7 @@ ghost use Rattle.qvt_conform.specs.Conformance.{IsSomeModel, conform_fault};
 ghost use Rattle.qvt_conform.specs.Contained.{IsContainment};
 ghost use Rattle.qvt_conform.specs.Items.{items_of};
 ghost use Rattle.qvt_conform.specs.Lacking.{feature_fault_by, features_fault_by, object_fault_by, faults_by};
-ghost use Rattle.qvt_conform.specs.Results.{Tells};
+ghost use Rattle.qvt_conform.specs.Results.{TellsFault};
 
 use crate::asked::Asked;
 use crate::breach::{Breach, are_kept, breach_of};
@@ -63,7 +63,7 @@ fn feature_fault(
     items: &[Datum],
 ) -> Result<(), ConformFault>
     requires { items.now ≡ items_of object.now feature.0 }
-    ensures { Tells NoMemory result (feature_fault_by metas.now links.now place object.now feature) }
+    ensures { TellsFault NoMemory result (feature_fault_by metas.now links.now place object.now feature) }
 {
     match breach_of(alloc, metas, links, place, feature, items)? {
         None => Ok(()),
@@ -79,7 +79,7 @@ fn first_fault(
     place: u32,
     object: &ObjectData,
 ) -> Result<(), ConformFault>
-    ensures { Tells NoMemory result (features_fault_by metas.now links.now place object.now (features_of metas.now object.now.class.0)) }
+    ensures { TellsFault NoMemory result (features_fault_by metas.now links.now place object.now (features_of metas.now object.now.class.0)) }
 {
     let slots = object.slots.as_slice();
     let table = SlotTable::of(alloc, slots)?;
@@ -102,7 +102,7 @@ fn features_fault(
     object: &ObjectData,
 ) -> Result<(), ConformFault>
     requires { asked.now ≡ metas.now }
-    ensures { Tells NoMemory result (features_fault_by metas.now links.now place object.now (features_of metas.now object.now.class.0)) }
+    ensures { TellsFault NoMemory result (features_fault_by metas.now links.now place object.now (features_of metas.now object.now.class.0)) }
 {
     let slots = object.slots.as_slice();
     if are_kept(alloc, metas, links, place, slots)? && asked.are_met(object.class, slots) {
@@ -125,7 +125,7 @@ fn object_fault(
     requires asked { asked.now ≡ metas.now }
     requires containment { IsContainment containment.now.contents containment.now }
     requires there { place < length containment.now.contents }
-    ensures { Tells NoMemory result (object_fault_by metas.now links.now containment.now.contents place object.now) }
+    ensures { TellsFault NoMemory result (object_fault_by metas.now links.now containment.now.contents place object.now) }
 {
     if metas.is_abstract(object.class) {
         return Err(ConformFault::Abstract(object.id.copy(alloc)?));
@@ -145,7 +145,7 @@ fn faults(
     requires containment { IsContainment containment.now.contents containment.now }
     requires there { length objects.now ≡ length containment.now.contents }
     requires few { length objects.now < 2 ^ 32 }
-    ensures { Tells NoMemory result (faults_by metas.now links.now containment.now.contents 0 objects.now) }
+    ensures { TellsFault NoMemory result (faults_by metas.now links.now containment.now.contents 0 objects.now) }
 {
     let mut asked = Asked::new(alloc, metas);
     for (i, object) in objects.iter().enumerate() {
@@ -160,7 +160,7 @@ fn faults(
 /// slots more than once over the model, then that it is inside itself. The data are those of a model that was read.
 pub fn conform(alloc: Global, model: &ModelData, metas: &Metas) -> Result<(), ConformFault>
     requires { IsSomeModel metas.now model.now.objects }
-    ensures { Tells NoMemory result (conform_fault metas.now model.now.objects) }
+    ensures { TellsFault NoMemory result (conform_fault metas.now model.now.objects) }
 {
     let objects = model.objects.as_slice();
     if objects.len() > u32::MAX as usize {

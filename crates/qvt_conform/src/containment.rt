@@ -4,7 +4,7 @@ ghost use Rattle.std.specs.Prelude.{◌≡◌, ◌<◌, length, IfOk};
 ghost use Rattle.qvt_conform.specs.declared.fault.ConformFault.TheVariants.{NoMemory};
 ghost use Rattle.qvt_conform.specs.Conformance.{containment_fault};
 ghost use Rattle.qvt_conform.specs.Containment.{contents};
-ghost use Rattle.qvt_conform.specs.Results.{Tells};
+ghost use Rattle.qvt_conform.specs.Results.{TellsFault};
 
 use crate::contents::contents;
 use crate::fault::ConformFault;
@@ -74,7 +74,7 @@ impl Containment {
     pub fn fault(&self, alloc: Global, place: u32, object: &ObjectData) -> Result<(), ConformFault>
         requires containment { IsContainment self.now.contents self.now }
         requires there { place < length self.now.contents }
-        ensures { Tells NoMemory result (containment_fault self.now.contents place object.now) }
+        ensures { TellsFault NoMemory result (containment_fault self.now.contents place object.now) }
     {
         if self.is_twice(place) {
             return Err(ConformFault::TwoContainers(object.id.copy(alloc)?));

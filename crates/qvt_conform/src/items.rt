@@ -4,7 +4,7 @@ ghost use Rattle.std.specs.Prelude.{◌≡◌, IfOk};
 ghost use Rattle.qvt_conform.specs.Items.{is_at_most, is_within, same_item};
 ghost use Rattle.qvt_repeats.specs.Repeats.{repeats_by};
 
-use crate::seen::Seen;
+use crate::seen::SeenItems;
 use qvt_base::list_fault::ListFault;
 use qvt_metas::info::FeatureShape;
 use qvt_model::data::Datum;
@@ -30,7 +30,7 @@ pub fn is_within(shape: FeatureShape, count: usize) -> bool
 pub fn repeats(alloc: Global, items: &[Datum]) -> Result<bool, ListFault>
     ensures { IfOk result (λ b. b ≡ repeats_by same_item items.now) }
 {
-    let mut seen = Seen::new(alloc);
+    let mut seen = SeenItems::new(alloc);
     for item in items {
         if !seen.add(item)? {
             return Ok(true);

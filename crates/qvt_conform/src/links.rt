@@ -13,7 +13,7 @@ use std::marker::Model;
 
 /// An object, a feature of its class, and an object that it holds for it.
 #[derive(Clone, Copy, PartialEq, Eq, Hash)]
-pub struct Link {
+pub struct ObjectLink {
     pub object: u32,
     pub feature: u32,
     pub target: u32,
@@ -21,7 +21,7 @@ pub struct Link {
 
 /// References, looked up by hash.
 pub struct Links {
-    keys: IndexSet<Link>,
+    keys: IndexSet<ObjectLink>,
 }
 
 impl Drop for Links {
@@ -32,9 +32,9 @@ impl Drop for Links {
 
 impl Model for Links {
     ghost use Rattle.std.specs.Prelude.{List};
-    ghost use Rattle.qvt_conform.specs.declared.links.Link.{Link};
+    ghost use Rattle.qvt_conform.specs.declared.links.ObjectLink.{ObjectLink};
 
-    ghost Value = { List Link };
+    ghost Value = { List ObjectLink };
 
     ghost view = { λ s. s.keys.keys };
 }
@@ -53,13 +53,13 @@ impl Links {
     }
 
     /// Whether the reference is one of these.
-    pub fn holds(&self, link: Link) -> bool
+    pub fn holds(&self, link: ObjectLink) -> bool
         ensures { result ≡ list_any (same_link link) self.now }
     {
         self.keys.contains(&link)
     }
 
-    fn add(&mut self, link: Link) -> Result<(), ListFault>
+    fn add(&mut self, link: ObjectLink) -> Result<(), ListFault>
         ensures { OnOk result (Joined self.old (link ∷ []) self.new) }
     {
         match self.keys.insert(link) {
@@ -75,7 +75,7 @@ impl Links {
         ensures { OnOk result (Joined self.old (links_of_item object feature.0 item.now) self.new) }
     {
         match item {
-            Datum::Ref(target) => self.add(Link {
+            Datum::Ref(target) => self.add(ObjectLink {
                 object,
                 feature: feature.0,
                 target: *target,

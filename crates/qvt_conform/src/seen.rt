@@ -11,17 +11,17 @@ use std::alloc::Global;
 use std::marker::Model;
 
 /// Items that were seen, looked up by hash.
-pub struct Seen<'a> {
+pub struct SeenItems<'a> {
     keys: IndexSet<&'a Datum>,
 }
 
-impl Drop for Seen<'_> {
+impl Drop for SeenItems<'_> {
     fn drop(self) {
-        let Seen { keys } = self;
+        let SeenItems { keys } = self;
     }
 }
 
-impl<'a> Model for Seen<'a> {
+impl<'a> Model for SeenItems<'a> {
     ghost use Rattle.std.specs.Prelude.{List, map};
     ghost use Rattle.qvt_model.specs.declared.data.Datum.{Datum};
 
@@ -30,12 +30,12 @@ impl<'a> Model for Seen<'a> {
     ghost view = { λ s. map (λ item. item.now) s.keys.keys };
 }
 
-impl<'a> Seen<'a> {
+impl<'a> SeenItems<'a> {
     /// None yet. It takes no memory.
-    pub fn new(alloc: Global) -> Seen<'a>
+    pub fn new(alloc: Global) -> SeenItems<'a>
         ensures { result ≡ [] }
     {
-        Seen {
+        SeenItems {
             keys: IndexSet::new(alloc),
         }
     }

@@ -21,13 +21,13 @@ use Rattle.qvt_model.proofs.Steps.{neither}
 use Rattle.qvt_slots.specs.Slots.{is_object, has, Inside, directly, through}
 use Rattle.qvt_slots.specs.Repeats.{repeats}
 use Rattle.qvt_slots.proofs.Repeating.{same_true}
-use Rattle.qvt_slots.specs.Assign.{is_beyond}
+use Rattle.qvt_slots.specs.Assign.{exceeds_bound}
 use Rattle.qvt_slots.proofs.Lists.{length-map, past_end}
 use Rattle.qvt_model.specs.declared.data.Datum.{Datum}
 use Rattle.qvt_model.specs.declared.data.Datum.TheVariants.{Bool as BoolDatum, Int, Str, Literal, Ref}
 use Rattle.qvt_model.specs.declared.data.SlotData.{SlotData}
 use Rattle.qvt_model.specs.declared.data.ObjectData.{ObjectData}
-use Rattle.qvt_model.specs.WellFormed.{object_at, no_object, IsItem, IsSlot, IsObject, IsModel}
+use Rattle.qvt_model.specs.WellFormed.{object_at, no_object, IsItem, IsSlot, IsObjectIn, IsModel}
 use Rattle.qvt_cycle.specs.Successors.{among, leads, is_on_cycle, how_often, how_often_in}
 use Rattle.qvt_conform.specs.declared.fault.ConformFault.{ConformFault}
 use Rattle.qvt_conform.specs.declared.fault.ConformFault.TheVariants.{Bounds, NotUnique, Opposite, Abstract, TwoContainers, ContainmentCycle}
@@ -106,7 +106,7 @@ object_fine m os i o e =
 
 -- ---- items as values
 
-within_bound : (n : ℕ) (u : Option ℕ) → is_at_most n u ≡ true → is_beyond n u ≡ false
+within_bound : (n : ℕ) (u : Option ℕ) → is_at_most n u ≡ true → exceeds_bound n u ≡ false
 within_bound n None h = refl
 within_bound n (Some most) h = le-ltb most n (leb-true n most h)
 
@@ -169,7 +169,7 @@ linked_back m os (Some q) g i j xs o n h = subst (λ z. has (slots_at os j z) i 
 
 -- ---- the model
 
-no_bound : (u : Option ℕ) → is_beyond 0 u ≡ false
+no_bound : (u : Option ℕ) → exceeds_bound 0 u ≡ false
 no_bound None = refl
 no_bound (Some n) = le-ltb n 0 (omega arith)
 
@@ -182,7 +182,7 @@ item_types m os c f (t ∷ ts) h = go (t.feature.0 == f) refl (item_types m os c
     go false e rest = rest
 
 module _ (m : Metamodels) (k : ℕ) (os : List ObjectData) (model : IsModel m k os) (none : faults_from m os 0 os ≡ None) where
-  is : (i : ℕ) → i < length os → IsObject m k os (object_at os i)
+  is : (i : ℕ) → i < length os → IsObjectIn m k os (object_at os i)
   is i l = all_at m k os os i model.objects l
 
   fine : (i : ℕ) → i < length os → ObjectFine m os i (object_at os i)
@@ -193,15 +193,15 @@ module _ (m : Metamodels) (k : ℕ) (os : List ObjectData) (model : IsModel m k 
   each_slot P empty some i f = elim (cases_lt i (length os)) [
     | inl l ↦ elim (either (has_feature m (object_at os i).class.0 f)) [
       | inl h ↦ some i f l h
-      | inr n ↦ let o : IsObject m k os (object_at os i) = is i l in subst (P i f) (sym (not_own m os (object_at os i).class.0 f (object_at os i).slots o.slots n)) (empty i f)
+      | inr n ↦ let o : IsObjectIn m k os (object_at os i) = is i l in subst (P i f) (sym (not_own m os (object_at os i).class.0 f (object_at os i).slots o.slots n)) (empty i f)
     ]
     | inr l ↦ subst (P i f) (sym (ap (λ (o : ObjectData). items_in f o.slots) (past_end os i no_object l))) (empty i f)
   ]
 
-  bounds : (i f : ℕ) → is_beyond (length (slots_at os i f)) (shape_of m f).upper ≡ false
-  bounds = each_slot (λ i f xs. is_beyond (length (map (value_at 0) xs)) (shape_of m f).upper ≡ false) (λ i f. no_bound (shape_of m f).upper)
+  bounds : (i f : ℕ) → exceeds_bound (length (slots_at os i f)) (shape_of m f).upper ≡ false
+  bounds = each_slot (λ i f xs. exceeds_bound (length (map (value_at 0) xs)) (shape_of m f).upper ≡ false) (λ i f. no_bound (shape_of m f).upper)
       (λ i f l h. let s : SlotFine m os i f (items_in f (object_at os i).slots) = (fine i l).slots f h in
-      ap (λ n. is_beyond n (shape_of m f).upper) (length-map (value_at 0) (items_in f (object_at os i).slots)) ∙ within_bound (length (items_in f (object_at os i).slots)) (shape_of m f).upper s.bound)
+      ap (λ n. exceeds_bound n (shape_of m f).upper) (length-map (value_at 0) (items_in f (object_at os i).slots)) ∙ within_bound (length (items_in f (object_at os i).slots)) (shape_of m f).upper s.bound)
 
   unique : (i f : ℕ) → (shape_of m f).unique ≡ true → repeats (slots_at os i f) ≡ false
   unique = each_slot (λ i f xs. (shape_of m f).unique ≡ true → repeats (map (value_at 0) xs) ≡ false) (λ i f u. refl)
@@ -215,7 +215,7 @@ module _ (m : Metamodels) (k : ℕ) (os : List ObjectData) (model : IsModel m k 
 
   below : (j i f : ℕ) → has (slots_at os i f) j ≡ true → j < length os
   below j = each_slot (λ i f xs. has (map (value_at 0) xs) j ≡ true → j < length os) (λ i f h. clash false h refl)
-      (λ i f l h held. let o : IsObject m k os (object_at os i) = is i l in
+      (λ i f l h held. let o : IsObjectIn m k os (object_at os i) = is i l in
       ref_below m os (shape_of m f).kind j (items_in f (object_at os i).slots) (item_types m os (object_at os i).class.0 f (object_at os i).slots o.slots) held)
 
   lists_at : (i : ℕ) → slice_index_or (contents m os) i [] ≡ contents_of_object m (object_at os i)

@@ -6,7 +6,7 @@ use Rattle.qvt_relation.specs.Closure.{Closure, directly, through, Decides, IsBe
 use Rattle.qvt_relation.proofs.Bools.{or_cases, or_left, same_test}
 use Rattle.qvt_relation.proofs.Closures.{join, reaches-closure, closure-reaches}
 use Rattle.qvt_cycle.specs.Successors.{among, leads, is_on_cycle}
-use Rattle.qvt_cycle.specs.Search.{Found, is_marked, visit_all, unmarked, missing}
+use Rattle.qvt_cycle.specs.Search.{SearchState, is_marked, visit_all, unmarked, missing}
 use Rattle.qvt_cycle.proofs.Visits.{Visited, all_visited, among-here, among-joined, among-first, length-pushed}
 
 abbrev pub Step : List (List ℕ) → ℕ → ℕ → Type 0
@@ -21,10 +21,10 @@ starts_below (c ∷ lists) zero y h = omega arith
 starts_below (c ∷ lists) (suc x) y h = let ih = starts_below lists x y h in omega (arith, ih)
 
 -- the start, or what was found
-abbrev pub IsSeen : List (List ℕ) → ℕ → Found → ℕ → Type 0
+abbrev pub IsSeen : List (List ℕ) → ℕ → SearchState → ℕ → Type 0
 IsSeen lists start s x = (x ≡ start) ⊎ ((x < length lists) × (is_marked s.marks x ≡ true))
 
-pub record IsSearch (lists : List (List ℕ)) (start : ℕ) (s : Found) : Type 0 where
+pub record IsSearch (lists : List (List ℕ)) (start : ℕ) (s : SearchState) : Type 0 where
   pub sizes : length s.marks ≡ length lists
   pub found : (y : ℕ) → y < length lists → is_marked s.marks y ≡ true → Way lists start y
   pub waits : (x : ℕ) → among s.pending x ≡ true → (x ≡ start) ⊎ Way lists start x
@@ -47,7 +47,7 @@ looked lists start x marks rest h = record {
   closed = λ z y seen step. closed z y seen step;
 }
   where
-    old_state : Found
+    old_state : SearchState
     old_state = record { marks = marks; pending = rest }
 
     v : Visited (slice_index_or lists x []) old_state (visit_all old_state (slice_index_or lists x []))
@@ -133,14 +133,14 @@ tells lists start marks lt h = same_test _ _
     (λ m. way-on_cycle lists start (h.found start lt m))
     (λ c. ended lists start marks h start start (inl refl) (on_cycle-way lists start c))
 
-pub goes_on : (lists : List (List ℕ)) (start x : ℕ) (before rest : Found) → IsSearch lists start before → before.pending ≡ rest.pending ++ x ∷ [] → rest.marks ≡ before.marks
+pub goes_on : (lists : List (List ℕ)) (start x : ℕ) (before rest : SearchState) → IsSearch lists start before → before.pending ≡ rest.pending ++ x ∷ [] → rest.marks ≡ before.marks
     → IsSearch lists start (visit_all rest (slice_index_or lists x []))
 goes_on lists start x before rest h pending marks = looked lists start x rest.marks rest.pending (subst (IsSearch lists start) same h)
   where
     same : before ≡ record { marks = rest.marks; pending = rest.pending ++ x ∷ [] }
     same = λ i. record { marks = sym marks i; pending = pending i }
 
-pub fewer_left : (lists : List (List ℕ)) (x : ℕ) (before rest : Found) → before.pending ≡ rest.pending ++ x ∷ [] → rest.marks ≡ before.marks
+pub fewer_left : (lists : List (List ℕ)) (x : ℕ) (before rest : SearchState) → before.pending ≡ rest.pending ++ x ∷ [] → rest.marks ≡ before.marks
     → missing (visit_all rest (slice_index_or lists x [])).marks + length (visit_all rest (slice_index_or lists x [])).pending < missing before.marks + length before.pending
 fewer_left lists x before rest pending marks =
     let v = (all_visited (slice_index_or lists x []) rest).fewer in
@@ -148,7 +148,7 @@ fewer_left lists x before rest pending marks =
     let same = ap missing marks in
     omega (arith, v, long, same)
 
-pub tells_at : (lists : List (List ℕ)) (start : ℕ) (s : Found) → start < length lists → IsSearch lists start s → s.pending ≡ [] → is_marked s.marks start ≡ is_on_cycle lists start
+pub tells_at : (lists : List (List ℕ)) (start : ℕ) (s : SearchState) → start < length lists → IsSearch lists start s → s.pending ≡ [] → is_marked s.marks start ≡ is_on_cycle lists start
 tells_at lists start s lt h none = tells lists start s.marks lt (subst (IsSearch lists start) same h)
   where
     same : s ≡ record { marks = s.marks; pending = [] }

@@ -5,7 +5,7 @@ use Rattle.std.proofs.lemmas.Bool.{eqb-true, eq-eqb, cases_eq}
 use Rattle.std.proofs.lemmas.List.{get_or-set_same, get_or-set_other, length-set}
 use Rattle.qvt_relation.proofs.Bools.{or_cases, or_left, or_right}
 use Rattle.qvt_cycle.specs.Successors.{among}
-use Rattle.qvt_cycle.specs.Search.{Found, is_marked, visit, visit_all, missing}
+use Rattle.qvt_cycle.specs.Search.{SearchState, is_marked, visit, visit_all, missing}
 
 pub among-here : (y : ℕ) (xs : List ℕ) → among (y ∷ xs) y ≡ true
 among-here y xs = or_left (y == y) _ (eq-eqb y y refl)
@@ -32,7 +32,7 @@ among-second [] ys y h = h
 among-second (x ∷ xs) ys y h = or_right (x == y) _ (among-second xs ys y h)
 
 -- visits of ys led from old to new
-pub record Visited (ys : List ℕ) (old new : Found) : Type 0 where
+pub record Visited (ys : List ℕ) (old new : SearchState) : Type 0 where
   pub sizes : length new.marks ≡ length old.marks
   pub kept : (y : ℕ) → is_marked old.marks y ≡ true → is_marked new.marks y ≡ true
   pub stays : (x : ℕ) → among old.pending x ≡ true → among new.pending x ≡ true
@@ -41,7 +41,7 @@ pub record Visited (ys : List ℕ) (old new : Found) : Type 0 where
   pub from : (x : ℕ) → among new.pending x ≡ true → (among old.pending x ≡ true) ⊎ (among ys x ≡ true)
   pub fewer : missing new.marks + length new.pending ≡ missing old.marks + length old.pending
 
-pub none_visited : (s : Found) → Visited [] s s
+pub none_visited : (s : SearchState) → Visited [] s s
 none_visited s = record {
   sizes = refl;
   kept = λ y h. h;
@@ -69,7 +69,7 @@ pub length-pushed : (xs : List ℕ) (y : ℕ) → length (xs ++ y ∷ []) ≡ le
 length-pushed [] y = refl
 length-pushed (x ∷ xs) y = let ih = length-pushed xs y in omega (arith, ih)
 
-newly : (y : ℕ) (s : Found) → is_marked s.marks y ≡ false → Visited (y ∷ []) s (record { marks = slice_set s.marks y true; pending = s.pending ++ y ∷ [] })
+newly : (y : ℕ) (s : SearchState) → is_marked s.marks y ≡ false → Visited (y ∷ []) s (record { marks = slice_set s.marks y true; pending = s.pending ++ y ∷ [] })
 newly y s h = record {
   sizes = length-set s.marks y true;
   kept = λ z m. kept z m;
@@ -95,7 +95,7 @@ newly y s h = record {
       | inr other ↦ inl (sym (get_or-set_other s.marks y z true true other) ∙ m)
     ]
 
-pub one_visited : (y : ℕ) (s : Found) → Visited (y ∷ []) s (visit s y)
+pub one_visited : (y : ℕ) (s : SearchState) → Visited (y ∷ []) s (visit s y)
 one_visited y s = by (is_marked s.marks y) refl
   where
     by : (b : Bool) → is_marked s.marks y ≡ b → Visited (y ∷ []) s (if b then s else record { marks = slice_set s.marks y true; pending = s.pending ++ y ∷ [] })
@@ -110,7 +110,7 @@ one_visited y s = by (is_marked s.marks y) refl
     }
     by false h = newly y s h
 
-pub both_visited : (y : ℕ) (ys : List ℕ) (a b c : Found) → Visited (y ∷ []) a b → Visited ys b c → Visited (y ∷ ys) a c
+pub both_visited : (y : ℕ) (ys : List ℕ) (a b c : SearchState) → Visited (y ∷ []) a b → Visited ys b c → Visited (y ∷ ys) a c
 both_visited y ys a b c p q = record {
   sizes = q.sizes ∙ p.sizes;
   kept = λ z m. q.kept z (p.kept z m);
@@ -130,6 +130,6 @@ both_visited y ys a b c p q = record {
     single : (z : ℕ) → among (y ∷ []) z ≡ true → among (y ∷ ys) z ≡ true
     single z m = elim (or_cases (y == z) _ m) [ inl same ↦ or_left (y == z) _ same | inr none ↦ cc ]
 
-pub all_visited : (ys : List ℕ) (s : Found) → Visited ys s (visit_all s ys)
+pub all_visited : (ys : List ℕ) (s : SearchState) → Visited ys s (visit_all s ys)
 all_visited [] s = none_visited s
 all_visited (y ∷ ys) s = both_visited y ys s (visit s y) _ (one_visited y s) (all_visited ys (visit s y))

@@ -3,7 +3,7 @@
 use Rattle.std.specs.Prelude.{ℕ, ◌+◌, ◌==◌, nat_le, Bool, true, false, ◌&&◌, List, [], ◌∷◌, ◌++◌, map, fold, slice_index_or, slice_set, if◌then◌else◌}
 use Rattle.std.specs.List.{list_all}
 
-pub record Found : Type 0 where
+pub record SearchState : Type 0 where
   pub marks : List Bool
   pub pending : List ℕ
 
@@ -11,10 +11,10 @@ pub record Found : Type 0 where
 abbrev pub is_marked : List Bool → ℕ → Bool
 is_marked marks y = slice_index_or marks y true
 
-abbrev pub visit : Found → ℕ → Found
+abbrev pub visit : SearchState → ℕ → SearchState
 visit found y = if is_marked found.marks y then found else record { marks = slice_set found.marks y true; pending = found.pending ++ y ∷ [] }
 
-abbrev pub visit_all : Found → List ℕ → Found
+abbrev pub visit_all : SearchState → List ℕ → SearchState
 visit_all found ys = fold visit found ys
 
 abbrev pub unmarked : {X : Type 0} → List X → List Bool

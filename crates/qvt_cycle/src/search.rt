@@ -2,7 +2,7 @@
 
 ghost use Rattle.std.specs.Prelude.{◌≡◌, ◌<◌, length, IfOk, OnOk};
 ghost use Rattle.qvt_cycle.specs.Successors.{is_on_cycle};
-ghost use Rattle.qvt_cycle.specs.Search.{Found, visit, visit_all, unmarked, is_marked};
+ghost use Rattle.qvt_cycle.specs.Search.{SearchState, visit, visit_all, unmarked, is_marked};
 
 use crate::lists::Positions;
 use qvt_base::list_fault::ListFault;
@@ -19,9 +19,9 @@ struct Search {
 }
 
 impl Model for Search {
-    ghost use Rattle.qvt_cycle.specs.Search.{Found};
+    ghost use Rattle.qvt_cycle.specs.Search.{SearchState};
 
-    ghost Value = { Found };
+    ghost Value = { SearchState };
 
     ghost view = { λ s. record { marks = s.marks.items; pending = s.pending } };
 }

@@ -20,7 +20,7 @@ use qvt_base::seq::Seq;
 use qvt_exec_answers::answering::Answering;
 use qvt_exec_called::main_body::main_body;
 use qvt_exec_finish::finish::{Finished, behind_main};
-use qvt_exec_finish::stop::Stop;
+use qvt_exec_finish::stop::RunStop;
 use qvt_exec_phrases::engine::Engine;
 use qvt_exec_state::state::RunState;
 use qvt_live_store::live::LiveStore;
@@ -63,7 +63,7 @@ fn run_main(a: &Answering<'_, '_>, state: &mut RunState<'_>) -> Result<(), Halt>
 /// The run of a program over a loaded store: what it leaves, or what ends it. Its trace has at most one record for each
 /// mapping, context and argument list, and exactly one where a call has come to the step that writes the record, or its
 /// init section returned with a result. A cost that 64 bits do not hold is told as want of memory.
-pub fn run<'s>(a: &Answering<'_, '_>, store: LiveStore) -> Result<Finished<'s>, Stop>
+pub fn run<'s>(a: &Answering<'_, '_>, store: LiveStore) -> Result<Finished<'s>, RunStop>
     requires { IsTable a.now.expressions.now }
     ensures comes { Comes (finished (program_of a.now) store a.now.fuel) result }
     ensures keys { IfOk result (λ f. IsTrue (keys_differ f.state.trace)) }

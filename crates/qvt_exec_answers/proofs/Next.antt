@@ -11,11 +11,11 @@ at_place xs n x within is =
     drop-cons xs n x within ∙ ap (λ y. y ∷ drop (suc n) xs) (sym is) ∙ ap (λ m. x ∷ drop m xs) e
 
 -- The cost of an answer is not less than what was spent on the way.
-taken_more : (one : Bool) (done : List Oid) (c : ℕ) (o : Oid) (on : List Oid → rule.Answer) → ((more : List Oid) → c ≤ (on more).cost) → c ≤ (rule.sifted_by rule.Passes one done c o on).cost
+taken_more : (one : Bool) (done : List Oid) (c : ℕ) (o : Oid) (on : List Oid → rule.ResolveAnswer) → ((more : List Oid) → c ≤ (on more).cost) → c ≤ (rule.sifted_by rule.Passes one done c o on).cost
 taken_more true done c o on k = omega arith
 taken_more false done c o on k = k (done ++ o ∷ [])
 
-pub by_more : (v : rule.Verdict) (one : Bool) (done : List Oid) (c : ℕ) (o : Oid) (on : List Oid → rule.Answer) → ((more : List Oid) → c ≤ (on more).cost) → c ≤ (rule.sifted_by v one done c o on).cost
+pub by_more : (v : rule.ConditionVerdict) (one : Bool) (done : List Oid) (c : ℕ) (o : Oid) (on : List Oid → rule.ResolveAnswer) → ((more : List Oid) → c ≤ (on more).cost) → c ≤ (rule.sifted_by v one done c o on).cost
 by_more rule.Passes one done c o on k = taken_more one done c o on k
 by_more rule.Fails one done c o on k = k done
 by_more (rule.Invalid r p) one done c o on k = omega arith
@@ -28,7 +28,7 @@ sifted_more test one done c (o ∷ os) =
     omega (arith, below)
 
 module _ (test : Oid → rule.Weighed) (one : Bool) (done : List Oid) (cost : ℕ) (o : Oid) (os : List Oid) where
-  abbrev pub on : List Oid → rule.Answer
+  abbrev pub on : List Oid → rule.ResolveAnswer
   on more = rule.sifted test one more (cost + (test o).cost) os
 
   -- where the cost of the candidate passes the fuel, that of the answer does
@@ -42,8 +42,8 @@ above_none : (fuel spent n : ℕ) (r : Option ℕ) → IsSum fuel spent n r → 
 above_none fuel spent n None above none = above
 above_none fuel spent n (Some m) sum none = absurd (cc)
 
-pub past_at : (test : Oid → rule.Weighed) (one : Bool) (done : List Oid) (cost : ℕ) (list : List Oid) (i : ℕ) (o : Oid) (fuel spent : ℕ) (a : rule.Answer) (r : Option ℕ) → i < length list → o ≡ get_or list i o
+pub past_at : (test : Oid → rule.Weighed) (one : Bool) (done : List Oid) (cost : ℕ) (list : List Oid) (i : ℕ) (o : Oid) (fuel spent : ℕ) (a : rule.ResolveAnswer) (r : Option ℕ) → i < length list → o ≡ get_or list i o
     → rule.sifted test one done cost (drop i list) ≡ a → IsSum fuel spent (cost + (test o).cost) r → r ≡ None → nat_lt fuel (spent + a.cost) ≡ true
 past_at test one done cost list i o fuel spent a r within is rest sum none =
     let all : rule.sifted test one done cost (o ∷ drop (i + 1) list) ≡ a = ap (rule.sifted test one done cost) (sym (at_place list i o within is)) ∙ rest in
-    subst (λ (x : rule.Answer). nat_lt fuel (spent + x.cost) ≡ true) all (past test one done cost o (drop (i + 1) list) fuel spent (above_none fuel spent (cost + (test o).cost) r sum none))
+    subst (λ (x : rule.ResolveAnswer). nat_lt fuel (spent + x.cost) ≡ true) all (past test one done cost o (drop (i + 1) list) fuel spent (above_none fuel spent (cost + (test o).cost) r sum none))

@@ -7,7 +7,7 @@ use Rattle.qvt_run_data.specs.declared.late.LateWrite.{LateWrite}
 use Rattle.qvt_run_data.specs.declared.record.Record.{Record}
 use Rattle.qvt_run_data.specs.declared.request.Query.{Query}
 use Rattle.qvt_run_rules.specs.Cost.{spend_of}
-use Rattle.qvt_run_rules.specs.Resolve.{Answer, answered_now}
+use Rattle.qvt_run_rules.specs.Resolve.{ResolveAnswer, answered_now}
 use Rattle.qvt_run_rules.specs.State.{State, Does}
 use Rattle.qvt_meaning.specs.Plain.{answer}
 use Rattle.qvt_typing.specs.Accepts.{ProgramTerm}
@@ -22,11 +22,11 @@ program_of a = program_view a.expressions.now.program.now
 abbrev pub query_view : Question → Query
 query_view q = record { request = q.request.now; one = q.one; condition = q.condition }
 
-abbrev pub answer_of : Answering → List Record → Contents → Question → Answer
+abbrev pub answer_of : Answering → List Record → Contents → Question → ResolveAnswer
 answer_of a records s q = answer (program_of a) records s q.locals.now q.place (query_view q)
 
 -- over what a state has
-abbrev pub answer_in : Answering → Place → Query → State LateWrite → Answer
+abbrev pub answer_in : Answering → Place → Query → State LateWrite → ResolveAnswer
 answer_in a at q s = answer (program_of a) s.trace s.store s.locals at q
 
 -- of a resolve that is not late: over the state's own trace and store, with the cost of the conditions

@@ -17,15 +17,15 @@ abbrev pub IsSum : ℕ → ℕ → ℕ → Option ℕ → Type 0
 IsSum fuel spent n None = nat_lt fuel (spent + n) ≡ true
 IsSum fuel spent n (Some m) = m ≡ n
 
-pub record Gives (a : rule.Answer) (s : Sum) : Type 0 where
+pub record GivesAnswer (a : rule.ResolveAnswer) (s : Sum) : Type 0 where
   pub found : found_view s.found ≡ a.found
   pub cost : s.cost ≡ a.cost
 
 -- the answer, or none where its cost is above the fuel
-abbrev pub IsAnswer : ℕ → ℕ → rule.Answer → Option Sum → Type 0
+abbrev pub IsAnswer : ℕ → ℕ → rule.ResolveAnswer → Option Sum → Type 0
 IsAnswer fuel spent a None = nat_lt fuel (spent + a.cost) ≡ true
-IsAnswer fuel spent a (Some s) = Gives a s
+IsAnswer fuel spent a (Some s) = GivesAnswer a s
 
 -- so much cost, and then the value
-abbrev pub charged_of : ℕ → Bool → ℕ → rule.Found → Does LateWrite Value
+abbrev pub charged_of : ℕ → Bool → ℕ → rule.FoundOrEnded → Does LateWrite Value
 charged_of fuel one n f = spend_of (Some fuel) n >> rule.answer_value one f

@@ -22,7 +22,7 @@ use qvt_exec_state::steps::{misfit, tick};
 use qvt_exec_statements::targets::{bare_target, owner};
 use qvt_exec_steps::late::late_source;
 use qvt_run_data::exit::Halt;
-use qvt_run_data::request::Form;
+use qvt_run_data::request::RequestForm;
 use qvt_types_data::note::{Note, Reading};
 use qvt_types_nodes::tree::{TypedExpr, TypedResolveCall, TypedTarget};
 
@@ -31,7 +31,7 @@ fn late_form<C: Nested>(
     x: &Engine<'_>,
     units: &ReadyUnits<C>,
     resolve: &TypedResolveCall,
-) -> Result<Option<Form>, ListFault>
+) -> Result<Option<RequestForm>, ListFault>
     ensures { IfOk result (λ form. form ≡ form_of (program_of (x.now, C.means units.now)) (typed_resolve_view resolve.now)) }
 {
     form_of(x.alloc, program(units), resolve)
@@ -46,7 +46,7 @@ fn late_on<C: Nested>(
     feature: FeatureNo,
     adds: bool,
     node: &TypedExpr,
-    form: Form,
+    form: RequestForm,
     sign: Place,
     place: Place,
     state: &mut RunState<'_>,

@@ -11,7 +11,7 @@ use Rattle.qvt_run_data.specs.declared.local.Local.{Local}
 use Rattle.qvt_run_rules.specs.State.{State, Done, Does, ◌>>=◌, on_outcome, pure}
 use Rattle.qvt_run_rules.specs.Locals.{fixed}
 use Rattle.qvt_run_rules.specs.Typed.{asked}
-use Rattle.qvt_run_rules.specs.Calls.{Param, bound}
+use Rattle.qvt_run_rules.specs.Calls.{UnitParam, bound}
 use Rattle.qvt_program_units.specs.Units.{params_of}
 use Rattle.qvt_exec_calls.specs.Frames.{bound_after, first_type, other_types}
 
@@ -35,7 +35,7 @@ one_after : (ls : List Local) (v : Local) (r : Result (List Local) Exit) (s : St
 one_after ls v (Ok ms) s = ap (λ xs. (Ok xs, s)) (append_assoc ls (v ∷ []) ms)
 one_after ls v (Err e) s = refl
 
-pub bound_is : (ls : List Local) (ps : List Param) (vs : List Value) (at : Place) (s : State LateWrite) → bound_after ls ps vs at s ≡ after ls (bound ps vs at) s
+pub bound_is : (ls : List Local) (ps : List UnitParam) (vs : List Value) (at : Place) (s : State LateWrite) → bound_after ls ps vs at s ≡ after ls (bound ps vs at) s
 bound_is ls [] [] at s = ap (λ xs. (Ok xs, s)) (sym (append-nil ls))
 bound_is ls [] (v ∷ vs) at s = refl
 bound_is ls (p ∷ ps) [] at s = refl
@@ -51,5 +51,5 @@ all_of : (d : Done LateWrite (List Local)) → on_outcome d.0 d.1 (λ ms. pure (
 all_of (Ok ms, s) = refl
 all_of (Err e, s) = refl
 
-pub after_none : (ps : List Param) (vs : List Value) (at : Place) (s : State LateWrite) → bound_after [] ps vs at s ≡ bound ps vs at s
+pub after_none : (ps : List UnitParam) (vs : List Value) (at : Place) (s : State LateWrite) → bound_after [] ps vs at s ≡ bound ps vs at s
 after_none ps vs at s = bound_is [] ps vs at s ∙ all_of (bound ps vs at s)

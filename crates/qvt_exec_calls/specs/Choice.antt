@@ -11,7 +11,7 @@ use Rattle.qvt_run_rules.specs.State.{Does, ◌>>=◌, found}
 use Rattle.qvt_run_rules.specs.Typed.{object_of}
 use Rattle.qvt_run_rules.specs.Sources.{as_flat, collected_kind, collecting, for_items, in_turn, objects_in}
 use Rattle.qvt_run_rules.specs.Calls as rule
-use Rattle.qvt_run_rules.specs.Calls.{Calls}
+use Rattle.qvt_run_rules.specs.Calls.{CallRule}
 use Rattle.qvt_program_units.specs.Program.{program_view}
 use Rattle.qvt_program_units.specs.Readings.{choose}
 use Rattle.qvt_exec_calls.specs.declared.choice.Choosing.{Choosing}
@@ -21,7 +21,7 @@ abbrev pub callee_by : Choosing → Oid → Does LateWrite Callee
 callee_by h = choose (program_view h.program.now) h.reading.now h.strict h.place
 
 -- the call for an item of a collection
-abbrev pub item_by : Calls LateWrite → Choosing → List Value → Value → Does LateWrite Value
+abbrev pub item_by : CallRule LateWrite → Choosing → List Value → Value → Does LateWrite Value
 item_by calls h vs v = object_of h.place v >>= rule.call_on calls (callee_by h) vs h.place
 
 -- what is done for an item, on each value of a list
@@ -30,11 +30,11 @@ for_list at f [] = []
 for_list at f (v ∷ vs) = for_items at f v ∷ for_list at f vs
 
 -- for the items of a collection of a kind
-abbrev pub items_by : Calls LateWrite → Choosing → List Value → Kind → List Value → Does LateWrite Value
+abbrev pub items_by : CallRule LateWrite → Choosing → List Value → Kind → List Value → Does LateWrite Value
 items_by calls h vs k xs = in_turn (as_flat h.place (collected_kind k)) [] (for_list h.place (item_by calls h vs) xs)
 
 -- for the items of a value that is a collection
-abbrev pub each_by : Calls LateWrite → (Oid → Does LateWrite Callee) → List Value → Place → Value → Does LateWrite Value
+abbrev pub each_by : CallRule LateWrite → (Oid → Does LateWrite Callee) → List Value → Place → Value → Does LateWrite Value
 each_by calls chosen vs at v = collecting at [] (λ x. object_of at x >>= rule.call_on calls chosen vs at) v
 
 -- the results but for nulls
@@ -42,5 +42,5 @@ abbrev pub with_result : Value → List Value → List Value
 with_result v done = if is_null v then done else done ++ v ∷ []
 
 -- of a mapping, for the objects of a value
-abbrev pub mapped_by : Calls LateWrite → (Oid → Does LateWrite Callee) → List Value → Place → Value → Does LateWrite Value
+abbrev pub mapped_by : CallRule LateWrite → (Oid → Does LateWrite Callee) → List Value → Place → Value → Does LateWrite Value
 mapped_by calls chosen vs at v = found (objects_in v) at >>= rule.mapped_onto calls at [] (rule.call_on calls chosen vs at)

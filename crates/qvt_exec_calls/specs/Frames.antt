@@ -8,9 +8,9 @@ use Rattle.qvt_run_data.specs.declared.local.Local.{Local}
 use Rattle.qvt_run_rules.specs.State.{Does, ◌>>=◌, pure, misfit}
 use Rattle.qvt_run_rules.specs.Typed.{asked}
 use Rattle.qvt_run_rules.specs.Locals.{fixed}
-use Rattle.qvt_run_rules.specs.Calls.{Param}
+use Rattle.qvt_run_rules.specs.Calls.{UnitParam}
 
-abbrev pub bound_after : List Local → List Param → List Value → Place → Does LateWrite (List Local)
+abbrev pub bound_after : List Local → List UnitParam → List Value → Place → Does LateWrite (List Local)
 bound_after ls [] [] at = pure ls
 bound_after ls (p ∷ ps) (v ∷ vs) at = asked p.type at v >>= (λ w. bound_after (ls ++ fixed p.name w ∷ []) ps vs at)
 bound_after ls ps vs at = misfit at

@@ -4,11 +4,11 @@ use Rattle.qvt_base.specs.declared.numbers.Place.{Place}
 use Rattle.qvt_value.specs.declared.value.Value.{Value}
 use Rattle.qvt_run_data.specs.declared.late.LateWrite.{LateWrite}
 use Rattle.qvt_run_data.specs.declared.request.Query.{Query}
-use Rattle.qvt_run_rules.specs.Calls.{Calls}
+use Rattle.qvt_run_rules.specs.Calls.{CallRule}
 use Rattle.qvt_run_rules.specs.State.{Does}
 use Rattle.qvt_program_units.specs.Accepts.{ProgramTerm}
 
-pub record Units : Type 0 where
+pub record UnitMeanings : Type 0 where
   pub program : ProgramTerm
-  pub calls : Calls LateWrite
+  pub calls : CallRule LateWrite
   pub resolves : Place → Query → Does LateWrite Value

@@ -1,7 +1,7 @@
 //! What stands behind a call or a resolve.
 
 ghost use Rattle.qvt_exec_state.specs.Runs.{Runs, seen};
-ghost use Rattle.qvt_exec_calls.specs.Units.{Units};
+ghost use Rattle.qvt_exec_calls.specs.Units.{UnitMeanings};
 
 use qvt_base::numbers::Place;
 use qvt_exec_state::state::RunState;
@@ -15,7 +15,7 @@ use std::marker::Model;
 pub trait UnitCalls {
     ghost ready: { Self → Type 0 };
 
-    ghost means: { Self → Units };
+    ghost means: { Self → UnitMeanings };
 
     /// The call of a unit with these arguments, at its place.
     fn call(

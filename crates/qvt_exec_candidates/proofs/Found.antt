@@ -4,14 +4,14 @@ use Rattle.qvt_types_nodes.specs.Module.{TypedUnitTerm}
 use Rattle.qvt_types_units.specs.declared.signature.Signature.{Signature}
 use Rattle.qvt_typing.specs.Accepts.{ProgramTerm}
 use Rattle.qvt_run_data.specs.declared.late.LateWrite.{LateWrite}
-use Rattle.qvt_run_rules.specs.Calls.{Calls}
+use Rattle.qvt_run_rules.specs.Calls.{CallRule}
 use Rattle.qvt_meaning.specs.Program.{mapping_unit, signature_of, unit_term}
 use Rattle.qvt_meaning.specs.Readings.{Setting}
 use Rattle.qvt_meaning.specs.Units.{mapping_at, mapping_in, mapping_of}
 use Rattle.qvt_exec_candidates.specs.Stage.{rule_in}
 use Rattle.qvt_exec_candidates.specs.declared.mapping.MappingUnit.{MappingUnit}
 
-pub found : (x : Setting LateWrite) (calls : Calls LateWrite) (k n : ℕ) (p : ProgramTerm) (u : Signature) (t : Option TypedUnitTerm) (r : Option MappingUnit)
+pub found : (x : Setting LateWrite) (calls : CallRule LateWrite) (k n : ℕ) (p : ProgramTerm) (u : Signature) (t : Option TypedUnitTerm) (r : Option MappingUnit)
     → p ≡ x.program → Some n ≡ mapping_unit p k → u ≡ signature_of p n → t ≡ unit_term p n
     → option_map (rule_in x calls) r ≡ mapping_in x calls k u t → option_map (rule_in x calls) r ≡ mapping_at x calls k
 unfolding mapping_at

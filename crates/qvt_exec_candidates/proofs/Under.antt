@@ -27,16 +27,16 @@ pub own_err : {A : Type 0} (d : Done LateWrite A) (e : Halt) (t : RunState) (out
 own_err d NoMemory t outer h = tt
 own_err {A} d (Exits e) t outer h = ap (λ (x : Done LateWrite A). own_in x.0 x.1 outer) h
 
-pub begun_ok : (d : Done LateWrite rule.Made) (a : Made) (t : RunState) (outer : State LateWrite) → RunsTo made_view d (Ok a) t
+pub begun_ok : (d : Done LateWrite rule.MadeResult) (a : Made) (t : RunState) (outer : State LateWrite) → RunsTo made_view d (Ok a) t
     → RunsTo begun_view (own_in d.0 d.1 outer) (Ok (record { made = a; locals = t.locals })) (record t { locals = outer.locals; inner = outer.inner })
-begun_ok d a t outer h = ap (λ (x : Done LateWrite rule.Made). own_in x.0 x.1 outer) h
+begun_ok d a t outer h = ap (λ (x : Done LateWrite rule.MadeResult). own_in x.0 x.1 outer) h
 
-pub begun_err : (d : Done LateWrite rule.Made) (e : Halt) (t : RunState) (outer : State LateWrite) → RunsTo made_view d (Err e) t
+pub begun_err : (d : Done LateWrite rule.MadeResult) (e : Halt) (t : RunState) (outer : State LateWrite) → RunsTo made_view d (Err e) t
     → RunsTo begun_view (own_in d.0 d.1 outer) (Err e) (record t { locals = outer.locals; inner = outer.inner })
 begun_err d NoMemory t outer h = tt
-begun_err d (Exits e) t outer h = ap (λ (x : Done LateWrite rule.Made). own_in x.0 x.1 outer) h
+begun_err d (Exits e) t outer h = ap (λ (x : Done LateWrite rule.MadeResult). own_in x.0 x.1 outer) h
 
-pub shut_runs : (d : Done LateWrite rule.Begun) (r : Result code.Begun Halt) (t : RunState) (n : ℕ) → RunsTo begun_view d r t → RunsTo begun_view (shut n d) r (record t { keys = take n t.keys })
+pub shut_runs : (d : Done LateWrite rule.BegunCall) (r : Result code.Begun Halt) (t : RunState) (n : ℕ) → RunsTo begun_view d r t → RunsTo begun_view (shut n d) r (record t { keys = take n t.keys })
 shut_runs d (Ok a) t n h = ap (shut n) h
 shut_runs d (Err NoMemory) t n h = tt
 shut_runs d (Err (Exits e)) t n h = ap (shut n) h

@@ -12,15 +12,15 @@ use Rattle.qvt_exec_candidates.specs.declared.begun.Made.{Made}
 use Rattle.qvt_exec_candidates.specs.declared.begun.Made.TheVariants as made
 use Rattle.qvt_exec_candidates.specs.declared.results.Making.{Making}
 
-abbrev pub made_view : Made → rule.Made
+abbrev pub made_view : Made → rule.MadeResult
 made_view (made.Known r) = rule.Known r
 made_view (made.Ended r) = rule.Ended r
 made_view (made.New r) = rule.New r
 
-abbrev pub begun_view : code.Begun → rule.Begun
+abbrev pub begun_view : code.Begun → rule.BegunCall
 begun_view b = (made_view b.made, b.locals)
 
-abbrev pub making_view : Making → rule.Making
+abbrev pub making_view : Making → rule.ResultClass
 making_view c = record { class = c.class; extent = c.extent }
 
 -- the call gives what the phrase gives, as it is seen, and leaves the state that it leaves, or there was no memory

@@ -6,13 +6,13 @@ use Rattle.qvt_value.specs.declared.value.Value.{Value}
 use Rattle.qvt_run_data.specs.declared.late.LateWrite.{LateWrite}
 use Rattle.qvt_run_data.specs.declared.local.Local.{Local}
 use Rattle.qvt_run_data.specs.declared.record.Key.{Key}
-use Rattle.qvt_run_rules.specs.Calls.{Calls}
+use Rattle.qvt_run_rules.specs.Calls.{CallRule}
 use Rattle.qvt_run_rules.specs.State.{Does, ◌>>=◌, ◌>>◌, pure, caught}
 use Rattle.qvt_run_rules.specs.Mappings as rule
 use Rattle.qvt_run_rules.specs.Mappings.{MappingRule}
 
 -- the init section and the result, and the record
-abbrev pub first_noted : MappingRule LateWrite → Key → List Local → Does LateWrite rule.Begun
+abbrev pub first_noted : MappingRule LateWrite → Key → List Local → Does LateWrite rule.BegunCall
 first_noted m k ls = rule.first m ls >>= rule.noted k
 
 -- population and end
@@ -20,5 +20,5 @@ abbrev pub sections_inside : MappingRule LateWrite → Does LateWrite (Unit {0})
 sections_inside m = caught m.population >> (caught m.finish >> pure tt)
 
 -- whether `when` is true over the variables of a call
-abbrev pub framed_holds : (ℕ → Option (MappingRule LateWrite)) → Calls LateWrite → MappingRule LateWrite → Option Oid → List Value → Place → Does LateWrite Bool
+abbrev pub framed_holds : (ℕ → Option (MappingRule LateWrite)) → CallRule LateWrite → MappingRule LateWrite → Option Oid → List Value → Place → Does LateWrite Bool
 framed_holds mappings calls m o vs at = rule.frame_of mappings calls m o vs at >>= rule.when_holds m.when

@@ -7,19 +7,19 @@ use Rattle.qvt_typing.specs.Accepts.{ProgramTerm}
 use Rattle.qvt_run_data.specs.declared.late.LateWrite.{LateWrite}
 use Rattle.qvt_run_data.specs.declared.request.Query.{Query}
 use Rattle.qvt_run_rules.specs.State.{Does}
-use Rattle.qvt_run_rules.specs.Calls.{Calls}
+use Rattle.qvt_run_rules.specs.Calls.{CallRule}
 use Rattle.qvt_run_rules.specs.Cost.{spend_of}
 use Rattle.qvt_run_rules.specs.Mappings.{MappingRule}
 use Rattle.qvt_meaning.specs.Readings.{Setting}
 use Rattle.qvt_meaning.specs.Units as of_units
-use Rattle.qvt_exec_calls.specs.Units.{Units}
+use Rattle.qvt_exec_calls.specs.Units.{UnitMeanings}
 use Rattle.qvt_exec_phrases.specs.Means.{barred_in, enters_in}
 use Rattle.qvt_exec_candidates.specs.declared.mapping.MappingUnit.{MappingUnit}
 use Rattle.qvt_exec_candidates.specs.declared.run.Run.{Run}
 
 -- a run as its units read it, and what stands behind them
 abbrev pub Stage : Type 0
-Stage = Run × Units
+Stage = Run × UnitMeanings
 
 -- the rules of a run of a program with so much fuel and these answers of resolves
 abbrev pub setting_by : ProgramTerm → ℕ → (Place → Query → Does LateWrite Value) → Setting LateWrite
@@ -29,7 +29,7 @@ abbrev pub setting_in : Stage → Setting LateWrite
 setting_in x = setting_by x.1.program x.0.fuel x.1.resolves
 
 -- a mapping
-unfoldable pub rule_in : Setting LateWrite → Calls LateWrite → MappingUnit → MappingRule LateWrite
+unfoldable pub rule_in : Setting LateWrite → CallRule LateWrite → MappingUnit → MappingRule LateWrite
 rule_in x calls m = of_units.mapping_rule x calls m.number m.head.now (typed_mapping_view m.node.now)
 
 abbrev pub rule_of : Stage → MappingUnit → MappingRule LateWrite

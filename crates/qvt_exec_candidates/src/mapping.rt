@@ -5,7 +5,7 @@ ghost use Rattle.std.specs.Option.{option_copied};
 ghost use Rattle.qvt_types_nodes.specs.Module.{typed_unit_view};
 ghost use Rattle.qvt_types_units.specs.Numbers.{no_unit};
 ghost use Rattle.qvt_run_data.specs.declared.late.LateWrite.{LateWrite};
-ghost use Rattle.qvt_run_rules.specs.Calls.{Calls};
+ghost use Rattle.qvt_run_rules.specs.Calls.{CallRule};
 ghost use Rattle.qvt_meaning.specs.Readings.{Setting};
 ghost use Rattle.qvt_meaning.specs.Units as of_units;
 ghost use Rattle.qvt_exec_candidates.specs.Stage.{mappings_of, rule_in, rule_of};
@@ -32,7 +32,7 @@ fn mapping_in<'a>(
     head: &'a Signature,
     unit: Option<&'a TypedUnit>,
 ) -> Option<MappingUnit<'a>>
-    ensures { (x : Setting LateWrite) (calls : Calls LateWrite) → option_map (rule_in x calls) result ≡ of_units.mapping_in x calls number head.now (option_map typed_unit_view (option_copied unit.entry)) }
+    ensures { (x : Setting LateWrite) (calls : CallRule LateWrite) → option_map (rule_in x calls) result ≡ of_units.mapping_in x calls number head.now (option_map typed_unit_view (option_copied unit.entry)) }
 {
     match unit {
         Some(TypedUnit::Mapping(node)) => Some(MappingUnit { number, head, node }),

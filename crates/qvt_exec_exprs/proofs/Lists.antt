@@ -19,7 +19,7 @@ use Rattle.qvt_meaning.specs.Phrases as phrase
 use Rattle.qvt_exec_state.specs.Runs.{Runs, seen}
 use Rattle.qvt_exec_state.specs.declared.state.RunState.{RunState}
 use Rattle.qvt_exec_steps.specs.Means.{Scene, item_of, items_of}
-use Rattle.qvt_exec_exprs.specs.Gathering.{Gathers, Gives, IsGathering}
+use Rattle.qvt_exec_exprs.specs.Gathering.{Gathers, GivesItems, IsGathering}
 
 abbrev Only : Bool → Type 0
 Only true = Unit {0}
@@ -31,7 +31,7 @@ onwards done ps d = on_outcome d.0 d.1 (λ vs. rule.lists_onto (done ++ vs) ps)
 
 -- the first gives its items
 pub gathered_on : (kind : Kind) (d : Done LateWrite (List Value)) (p : Does LateWrite (List Value)) (ps : List (Does LateWrite (List Value))) (g h : Gathered) (s : State LateWrite) (t : RunState) →
-    IsGathering kind d (p ∷ ps) g s → Gives (p s) g h t → IsGathering kind d ps h (seen t)
+    IsGathering kind d (p ∷ ps) g s → GivesItems (p s) g h t → IsGathering kind d ps h (seen t)
 gathered_on kind d p ps g h s t i e = record {
   done = i.done ++ e.items;
   gathered = e.more kind i.done i.gathered;
@@ -55,12 +55,12 @@ next_items x is n i within at =
     ∙ ap (λ m. item_of x i ∷ items_of x (drop m is)) next_is
 
 -- an item alone
-pub one_gives : (g h : Gathered) (t : RunState) (v : Value) → HasMore (v ∷ []) g h → Gives (Ok (v ∷ []), seen t) g h t
+pub one_gives : (g h : Gathered) (t : RunState) (v : Value) → HasMore (v ∷ []) g h → GivesItems (Ok (v ∷ []), seen t) g h t
 one_gives g h t v m = record { items = v ∷ []; given = refl; more = m }
 
 -- a range that is put
 pub range_gives : (o : Option (List Value)) (at : Place) (g h : Gathered) (t : RunState) (put : Bool) →
-    MatchOption o (put ≡ false) (λ items. (put ≡ true) × HasMore items g h) → put ≡ true → Gives (found o at (seen t)) g h t
+    MatchOption o (put ≡ false) (λ items. (put ≡ true) × HasMore items g h) → put ≡ true → GivesItems (found o at (seen t)) g h t
 range_gives None at g h t put m is = absurd (subst Only (sym is ∙ m) tt)
 range_gives (Some items) at g h t put m is = record { items = items; given = refl; more = m.1 }
 
@@ -76,7 +76,7 @@ gathering_none kind ps g s none = record { done = []; gathered = none; rest = re
 
 -- one more of them
 pub gathering_on : (x : Scene) (is : List TypedItem) (n : ℕ) (i : TypedItem) (kind : Kind) (d : Done LateWrite (List Value)) (g h : Gathered) (s : State LateWrite) (t : RunState) → n < length is → i ≡ get_or is n i →
-    IsGathering kind d (items_of x (drop n is)) g s → Gives (item_of x i s) g h t → IsGathering kind d (items_of x (drop (n + 1) is)) h (seen t)
+    IsGathering kind d (items_of x (drop n is)) g s → GivesItems (item_of x i s) g h t → IsGathering kind d (items_of x (drop (n + 1) is)) h (seen t)
 gathering_on x is n i kind d g h s t within at so_far gives =
     gathered_on kind d (item_of x i) (items_of x (drop (n + 1) is)) g h s t (subst (λ ps. IsGathering kind d ps g s) (next_items x is n i within at) so_far) gives
 

@@ -10,7 +10,7 @@ use Rattle.qvt_types_nodes.specs.declared.tree.TypedExpr.{TypedExpr}
 use Rattle.qvt_value.specs.declared.value.Value.{Value, Int}
 use Rattle.qvt_run_data.specs.declared.exit.Exit.{Exit}
 use Rattle.qvt_run_data.specs.declared.late.LateWrite.{LateWrite}
-use Rattle.qvt_run_rules.specs.Calls.{Calls}
+use Rattle.qvt_run_rules.specs.Calls.{CallRule}
 use Rattle.qvt_run_rules.specs.Cost.{spend_of}
 use Rattle.qvt_run_rules.specs.Expressions as rule
 use Rattle.qvt_run_rules.specs.Locals.{local_named, value_in, read}
@@ -31,7 +31,7 @@ held_is n (Some (Int m)) h = ap (λ (k : ℤ). Some (Int k)) (sym (same_number n
 held_is n (Some v) h = absurd (cc)
 held_is n None h = absurd (cc)
 
-module _ (x : Setting LateWrite) (calls : Calls LateWrite) (answer : Option Ty) (charges : IsQuiet (x.spend 1)) where
+module _ (x : Setting LateWrite) (calls : CallRule LateWrite) (answer : Option Ty) (charges : IsQuiet (x.spend 1)) where
   -- what is read behind a charge stands there before it
   after : (name : List ℕ) (at : Place) (n : ℤ) (s t : State LateWrite) (o : Result (Unit {0}) Exit) → value_in (local_named name s.locals) ≡ Some (Int n) → t ≡ record s { cost = t.cost } →
       on_outcome o t (λ u. pure (Int n)) ≡ on_outcome o t (λ u. read name at)

@@ -14,13 +14,13 @@ use Rattle.qvt_exec_words.specs.Gathered.{AreGathered, HasMore}
 use Rattle.qvt_exec_words.specs.declared.literals.Gathered.{Gathered}
 
 -- the items that a phrase gives were gathered besides
-pub record Gives (d : Done LateWrite (List Value)) (before after : Gathered) (s : RunState) : Type 0 where
+pub record GivesItems (d : Done LateWrite (List Value)) (before after : Gathered) (s : RunState) : Type 0 where
   pub items : List Value
   pub given : d ≡ (Ok items, seen s)
   pub more : HasMore items before after
 
 abbrev pub Gathers : Done LateWrite (List Value) → Gathered → Gathered → Result (Unit {0}) Halt → RunState → Type 0
-Gathers d before after (Ok u) s = Gives d before after s
+Gathers d before after (Ok u) s = GivesItems d before after s
 Gathers d before after (Err NoMemory) s = Unit {0}
 Gathers d before after (Err (Exits e)) s = d ≡ (Err e, seen s)
 

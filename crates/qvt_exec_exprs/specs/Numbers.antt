@@ -17,7 +17,7 @@ use Rattle.qvt_types_nodes.specs.declared.tree.TypedExpr.{TypedExpr}
 use Rattle.qvt_types_nodes.specs.declared.tree.TypedLink.{TypedLink}
 use Rattle.qvt_exec_phrases.specs.declared.engine.Engine.{Engine}
 use Rattle.qvt_exec_steps.specs.Means.{Scene, expr_of, links_of}
-use Rattle.qvt_exec_phrases.specs.Units.{Units}
+use Rattle.qvt_exec_phrases.specs.Units.{UnitMeanings}
 use Rattle.qvt_exec_exprs.specs.declared.numbers.Counted.{Counted}
 
 abbrev pub integer_in : Option Value → Option ℤ
@@ -58,4 +58,4 @@ IsGiven first rest vs d = (x : Scene) → Costs x.0.limit (rule.on_first (expr_o
 
 -- the chain gives the value, and leaves this state
 abbrev pub ChainGives : Engine → TypedExpr → List TypedLink → Value → State LateWrite → State LateWrite → Type 0
-ChainGives x first rest v s t = (u : Units) → rule.on_first (expr_of (x, u) first) (links_of (x, u) rest) s ≡ (Ok v, t)
+ChainGives x first rest v s t = (u : UnitMeanings) → rule.on_first (expr_of (x, u) first) (links_of (x, u) rest) s ≡ (Ok v, t)

@@ -13,8 +13,8 @@ use Rattle.qvt_exec_finish.specs.Finish.{Finishes}
 use Rattle.qvt_exec_finish.specs.Patches.{PatchesAll, value_of}
 use Rattle.qvt_exec_finish.specs.declared.entries.Entry.{Entry}
 use Rattle.qvt_exec_finish.specs.declared.finish.Finished.{Finished}
-use Rattle.qvt_exec_finish.specs.declared.stop.Stop.{Stop}
-use Rattle.qvt_exec_finish.specs.declared.stop.Stop.TheVariants.{Ends, NoMemory}
+use Rattle.qvt_exec_finish.specs.declared.stop.RunStop.{RunStop}
+use Rattle.qvt_exec_finish.specs.declared.stop.RunStop.TheVariants.{Ends, NoMemory}
 
 -- a cost that is not told as the greatest number of 64 bits
 pub as_told : (n m : ℕ) → m ≡ min n (2 ^ 64 - 1) → m ≢ 2 ^ 64 - 1 → m ≡ n
@@ -29,7 +29,7 @@ module _ (p : ProgramTerm) (fuel : ℕ) (z : State LateWrite) (s : Contents) (t 
   abbrev pub finish : run.Finish
   finish = record { trace = z.trace; store = z.store }
 
-  abbrev pub es : Contents → List Record → List LateWrite → List run.Entry
+  abbrev pub es : Contents → List Record → List LateWrite → List run.AnsweredWrite
   es store trace writes = map (run.answered p (record { trace = trace; store = store })) writes
 
   -- the changes decide
@@ -41,7 +41,7 @@ module _ (p : ProgramTerm) (fuel : ℕ) (z : State LateWrite) (s : Contents) (t 
       ∙ (λ i. run.finished_as finish (sym entries i) (sym told i) (run.patched z.store (map run.late_value (sym entries i))))
       ∙ ap (run.finished_as finish (map entry_view xs) n) (ap (run.patched z.store) (sym (values_same xs)) ∙ patched)
 
-  pub stopped : (x : Stop) (new : Contents) → map entry_view xs ≡ es s t ws → run.walk fuel k (es s t ws) ≡ Ok behind → PatchesAll z.store xs (Err x) new
+  pub stopped : (x : RunStop) (new : Contents) → map entry_view xs ≡ es s t ws → run.walk fuel k (es s t ws) ≡ Ok behind → PatchesAll z.store xs (Err x) new
       → Finishes z.store (after_requests p fuel z) (Err x)
   stopped (Ends e) new entries walked patched = carried entries walked (Err e) patched
   stopped NoMemory new entries walked patched = tt
@@ -49,17 +49,17 @@ module _ (p : ProgramTerm) (fuel : ℕ) (z : State LateWrite) (s : Contents) (t 
 -- an entry ends the walk
 module _ (p : ProgramTerm) (fuel : ℕ) (z : State LateWrite) (s : Contents) (t : List Record) (ws : List LateWrite) (k after : ℕ)
     (same_trace : t ≡ z.trace) (same_store : s ≡ z.store) (same_writes : ws ≡ z.entries) (same_cost : k ≡ z.cost) where
-  answers : Contents → List Record → List LateWrite → List run.Entry
+  answers : Contents → List Record → List LateWrite → List run.AnsweredWrite
   answers store trace writes = map (run.answered p (record { trace = trace; store = store })) writes
 
-  broken : (x : Stop) → Walks fuel k (map (run.answered p (record { trace = t; store = s })) ws) (Err x) after → Finishes z.store (after_requests p fuel z) (Err x)
+  broken : (x : RunStop) → Walks fuel k (map (run.answered p (record { trace = t; store = s })) ws) (Err x) after → Finishes z.store (after_requests p fuel z) (Err x)
   unfolding answers
   broken (Ends e) walked =
       (λ i. run.carried_out (record { trace = z.trace; store = z.store }) (answers (sym same_store i) (sym same_trace i) (sym same_writes i)) (run.walk fuel (sym same_cost i) (answers (sym same_store i) (sym same_trace i) (sym same_writes i))))
       ∙ ap (run.carried_out (record { trace = z.trace; store = z.store }) (answers s t ws)) walked
   broken NoMemory walked = tt
 
-  pub broken_off : (x : Stop) (r : Result Finished Stop) → Walks fuel k (map (run.answered p (record { trace = t; store = s })) ws) (Err x) after → IsErrAnd r (λ e. e ≡ x)
+  pub broken_off : (x : RunStop) (r : Result Finished RunStop) → Walks fuel k (map (run.answered p (record { trace = t; store = s })) ws) (Err x) after → IsErrAnd r (λ e. e ≡ x)
       → Finishes z.store (after_requests p fuel z) r
   broken_off x (Ok f) walked err = absurd err
-  broken_off x (Err e) walked err = subst (λ (y : Stop). Finishes z.store (after_requests p fuel z) (Err y)) (sym err) (broken x walked)
+  broken_off x (Err e) walked err = subst (λ (y : RunStop). Finishes z.store (after_requests p fuel z) (Err y)) (sym err) (broken x walked)

@@ -19,29 +19,29 @@ use Rattle.qvt_exec_state.specs.declared.state.RunState.{RunState}
 use Rattle.qvt_exec_finish.specs.Comes.{Comes, ending}
 use Rattle.qvt_exec_finish.specs.Finish.{Finishes}
 use Rattle.qvt_exec_finish.specs.declared.finish.Finished.{Finished}
-use Rattle.qvt_exec_finish.specs.declared.stop.Stop.{Stop}
-use Rattle.qvt_exec_finish.specs.declared.stop.Stop.TheVariants as stop
+use Rattle.qvt_exec_finish.specs.declared.stop.RunStop.{RunStop}
+use Rattle.qvt_exec_finish.specs.declared.stop.RunStop.TheVariants as stop
 
 -- a run that gives the same
-pub same : (r q : Result run.Finished End) (x : Result Finished Stop) → r ≡ q → Comes q x → Comes r x
-same r q x is comes = subst (λ (f : Result run.Finished End). Comes f x) (sym is) comes
+pub same : (r q : Result run.FinishedRun End) (x : Result Finished RunStop) → r ≡ q → Comes q x → Comes r x
+same r q x is comes = subst (λ (f : Result run.FinishedRun End). Comes f x) (sym is) comes
 
 module _ (p : ProgramTerm) (fuel : ℕ) (z : RunState) (d : Done LateWrite (Unit {0})) where
   -- what `main` left, with its end
-  by_end : (x : Result Finished Stop) (r : Result (Unit {0}) Exit) → d ≡ (r, seen z) → Finishes (contents_of z.store) (from_requests p fuel r (seen z)) x → Comes (from_requests p fuel d.0 d.1) x
+  by_end : (x : Result Finished RunStop) (r : Result (Unit {0}) Exit) → d ≡ (r, seen z) → Finishes (contents_of z.store) (from_requests p fuel r (seen z)) x → Comes (from_requests p fuel d.0 d.1) x
   by_end x r left ends = (contents_of z.store, subst (λ (m : Done LateWrite (Unit {0})). Finishes (contents_of z.store) (from_requests p fuel m.0 m.1) x) (sym left) ends)
 
-  pub goes_on : (o : Result (Unit {0}) Halt) (x : Result Finished Stop) (u : Unit {0}) → Runs d o z → ending o ≡ Ok u → Finishes (contents_of z.store) (after_requests p fuel (seen z)) x → Comes (from_requests p fuel d.0 d.1) x
+  pub goes_on : (o : Result (Unit {0}) Halt) (x : Result Finished RunStop) (u : Unit {0}) → Runs d o z → ending o ≡ Ok u → Finishes (contents_of z.store) (after_requests p fuel (seen z)) x → Comes (from_requests p fuel d.0 d.1) x
   goes_on (Ok v) x u runs is ends = by_end x (Ok v) runs ends
   goes_on (Err (Exits (Returned v))) x u runs is ends = by_end x (Err (Returned v)) runs ends
   goes_on (Err (Exits (Ends e))) x u runs is ends = absurd (cc)
   goes_on (Err NoMemory) x u runs is ends = absurd (cc)
 
-  pub stops : (o : Result (Unit {0}) Halt) (s : Stop) → Runs d o z → ending o ≡ Err s → Comes (from_requests p fuel d.0 d.1) (Err s)
+  pub stops : (o : Result (Unit {0}) Halt) (s : RunStop) → Runs d o z → ending o ≡ Err s → Comes (from_requests p fuel d.0 d.1) (Err s)
   stops (Ok v) s runs is = absurd (cc)
   stops (Err (Exits (Returned v))) s runs is = absurd (cc)
-  stops (Err (Exits (Ends e))) s runs is = let same_end : stop.Ends e ≡ s = cc in subst (λ (t : Stop). Comes (from_requests p fuel d.0 d.1) (Err t)) same_end (by_end (Err (stop.Ends e)) (Err (Ends e)) runs refl)
-  stops (Err NoMemory) s runs is = let same_end : stop.NoMemory ≡ s = cc in subst (λ (t : Stop). Comes (from_requests p fuel d.0 d.1) (Err t)) same_end (contents_of z.store, tt)
+  stops (Err (Exits (Ends e))) s runs is = let same_end : stop.Ends e ≡ s = cc in subst (λ (t : RunStop). Comes (from_requests p fuel d.0 d.1) (Err t)) same_end (by_end (Err (stop.Ends e)) (Err (Ends e)) runs refl)
+  stops (Err NoMemory) s runs is = let same_end : stop.NoMemory ≡ s = cc in subst (λ (t : RunStop). Comes (from_requests p fuel d.0 d.1) (Err t)) same_end (contents_of z.store, tt)
 
 -- where `main` does not end the run, what late assignments have kept fits as `main` left it
 abbrev Fit : State LateWrite → Type 0

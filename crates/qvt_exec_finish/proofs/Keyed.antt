@@ -8,12 +8,12 @@ use Rattle.qvt_run_laws.specs.Records.{HasOneForEach, OneIsLeft}
 use Rattle.qvt_exec_finish.specs.Comes.{Comes}
 use Rattle.qvt_exec_finish.specs.Finish.{finished_view}
 use Rattle.qvt_exec_finish.specs.declared.finish.Finished.{Finished}
-use Rattle.qvt_exec_finish.specs.declared.stop.Stop.{Stop}
+use Rattle.qvt_exec_finish.specs.declared.stop.RunStop.{RunStop}
 
-pub keyed : OneRecord → (p : ProgramTerm) (store : Contents) (fuel : ℕ) (x : Result Finished Stop) → Comes (run.finished p store fuel) x → IfOk x (λ f. IsTrue (keys_differ f.state.trace))
+pub keyed : OneRecord → (p : ProgramTerm) (store : Contents) (fuel : ℕ) (x : Result Finished RunStop) → Comes (run.finished p store fuel) x → IfOk x (λ f. IsTrue (keys_differ f.state.trace))
 keyed one p store fuel (Ok f) c = one p store fuel (finished_view c.0 f) c.1
 keyed one p store fuel (Err e) c = tt
 
-pub recorded : OneIsLeft → (p : ProgramTerm) (store : Contents) (fuel : ℕ) (x : Result Finished Stop) → Comes (run.finished p store fuel) x → IfOk x (λ f. HasOneForEach p fuel f.state.trace)
+pub recorded : OneIsLeft → (p : ProgramTerm) (store : Contents) (fuel : ℕ) (x : Result Finished RunStop) → Comes (run.finished p store fuel) x → IfOk x (λ f. HasOneForEach p fuel f.state.trace)
 recorded left p store fuel (Ok f) c = left p store fuel (finished_view c.0 f) c.1
 recorded left p store fuel (Err e) c = tt

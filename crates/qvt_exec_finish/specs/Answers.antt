@@ -4,11 +4,11 @@ use Rattle.qvt_run_rules.specs.Resolve as rule
 use Rattle.qvt_exec_resolves.specs.Verdicts.{found_view}
 use Rattle.qvt_exec_finish.specs.declared.answers.LateAnswer.{LateAnswer}
 
-pub record Gives (a : rule.Answer) (x : LateAnswer) : Type 0 where
+pub record GivesLateAnswer (a : rule.ResolveAnswer) (x : LateAnswer) : Type 0 where
   pub found : found_view x.found ≡ a.found
   pub cost : x.cost ≡ a.cost
 
 -- the answer, or none where its cost is above the fuel, over what was spent before
-abbrev pub IsAnswer : ℕ → ℕ → rule.Answer → Option LateAnswer → Type 0
-IsAnswer fuel spent a None = nat_lt fuel (spent + a.cost) ≡ true
-IsAnswer fuel spent a (Some x) = Gives a x
+abbrev pub IsLateAnswer : ℕ → ℕ → rule.ResolveAnswer → Option LateAnswer → Type 0
+IsLateAnswer fuel spent a None = nat_lt fuel (spent + a.cost) ≡ true
+IsLateAnswer fuel spent a (Some x) = GivesLateAnswer a x

@@ -2,7 +2,7 @@
 
 ghost use Rattle.std.specs.Prelude.{IfOk};
 ghost use Rattle.qvt_typing.specs.Accepts.{ProgramTerm};
-ghost use Rattle.qvt_exec_finish.specs.Answers.{IsAnswer};
+ghost use Rattle.qvt_exec_finish.specs.Answers.{IsLateAnswer};
 ghost use Rattle.qvt_exec_finish.specs.Entries.{answer_over};
 
 use qvt_base::list_fault::ListFault;
@@ -47,5 +47,5 @@ pub trait LateAnswers {
         fuel: u64,
     ) -> Result<Option<LateAnswer>, ListFault>
         requires { ready self.now }
-        ensures { IfOk result (IsAnswer fuel spent.now (answer_over (program self.now) ended.now write.now)) };
+        ensures { IfOk result (IsLateAnswer fuel spent.now (answer_over (program self.now) ended.now write.now)) };
 }

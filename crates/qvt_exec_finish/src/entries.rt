@@ -5,7 +5,7 @@ ghost use Rattle.qvt_exec_resolves.specs.Verdicts.{found_view};
 ghost use Rattle.qvt_exec_finish.specs.Entries.{IsFound, Steps, entry_over};
 
 use crate::answers::{Ended, LateAnswers};
-use crate::stop::Stop;
+use crate::stop::RunStop;
 use qvt_base::lists::OidList;
 use qvt_base::seq::Seq;
 use qvt_exec_resolves::verdicts::Found;
@@ -49,17 +49,17 @@ impl Entry {
 }
 
 /// The objects that were found. An invalid condition of a late entry is a fault.
-fn found_objects(alloc: Global, found: Found) -> Result<OidList, Stop>
+fn found_objects(alloc: Global, found: Found) -> Result<OidList, RunStop>
     ensures { IsFound (found_view found) result }
 {
     let mut found = found;
     match &mut found {
         Found::Objects(objects) => Ok(mem::replace(objects, Seq::new(alloc))),
-        Found::Undefined(reason, place) => Err(Stop::Ends(End::Fault(
+        Found::Undefined(reason, place) => Err(RunStop::Ends(End::Fault(
             RunFault::InvalidValue(*reason),
             *place,
         ))),
-        Found::Stopped(end) => Err(Stop::Ends(*end)),
+        Found::Stopped(end) => Err(RunStop::Ends(*end)),
     }
 }
 
@@ -71,17 +71,17 @@ pub fn step<A: LateAnswers>(
     ended: &Ended<'_>,
     write: LateWrite,
     cost: &mut Cost,
-) -> Result<Entry, Stop>
+) -> Result<Entry, RunStop>
     requires { A.ready answers.now }
     ensures { Steps fuel cost.old (entry_over (A.program answers.now) ended.now write) result cost.new }
 {
     cost.add(1)?;
     let Some(answer) = answers.answer(ended, &write, cost, fuel)? else {
-        return Err(Stop::Ends(End::OutOfFuel));
+        return Err(RunStop::Ends(End::OutOfFuel));
     };
     let mut answer = answer;
     if cost.passes(answer.cost, fuel) {
-        return Err(Stop::Ends(End::OutOfFuel));
+        return Err(RunStop::Ends(End::OutOfFuel));
     }
     cost.add(answer.cost)?;
     let found = mem::replace(&mut answer.found, Found::Stopped(End::OutOfFuel));

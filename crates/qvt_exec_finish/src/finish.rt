@@ -13,7 +13,7 @@ ghost use Rattle.qvt_exec_finish.specs.Finish.{Finishes};
 use crate::answers::{Ended, LateAnswers};
 use crate::entries::Entry;
 use crate::patches::patch_all;
-use crate::stop::Stop;
+use crate::stop::RunStop;
 use crate::walk::walk;
 use qvt_base::seq::Seq;
 use qvt_exec_state::cost::Cost;
@@ -48,7 +48,7 @@ fn finish<'s, A: LateAnswers>(
     fuel: u64,
     answers: &A,
     state: RunState<'s>,
-) -> Result<Finished<'s>, Stop>
+) -> Result<Finished<'s>, RunStop>
     requires ready { A.ready answers.now }
     requires entries { All (IsFor (contents_of state.store)) state.entries }
     ensures { Finishes (contents_of state.entry.store) (after_requests (A.program answers.now) fuel (seen state.entry)) result }
@@ -65,7 +65,7 @@ fn finish<'s, A: LateAnswers>(
     let entries = walk(alloc, fuel, answers, &ended, writes, &mut cost)?;
     let cost = cost.told();
     if cost == u64::MAX {
-        return Err(Stop::NoMemory);
+        return Err(RunStop::NoMemory);
     }
     match patch_all(alloc, entries.as_slice(), &mut state.store) {
         Ok(()) => Ok(Finished {
@@ -79,14 +79,14 @@ fn finish<'s, A: LateAnswers>(
 
 /// What ends a run before its late entries are answered, if anything does: a `return` ends `main` as its last statement
 /// does.
-fn ending(outcome: &Result<(), Halt>) -> Result<(), Stop>
+fn ending(outcome: &Result<(), Halt>) -> Result<(), RunStop>
     ensures { result ≡ ending outcome.now }
 {
     match outcome {
         Ok(()) => Ok(()),
         Err(Halt::Exits(Exit::Returned(_))) => Ok(()),
-        Err(Halt::Exits(Exit::Ends(end))) => Err(Stop::Ends(*end)),
-        Err(Halt::NoMemory) => Err(Stop::NoMemory),
+        Err(Halt::Exits(Exit::Ends(end))) => Err(RunStop::Ends(*end)),
+        Err(Halt::NoMemory) => Err(RunStop::NoMemory),
     }
 }
 
@@ -97,7 +97,7 @@ pub fn behind_main<'s, A: LateAnswers>(
     answers: &A,
     outcome: &Result<(), Halt>,
     state: RunState<'s>,
-) -> Result<Finished<'s>, Stop>
+) -> Result<Finished<'s>, RunStop>
     requires ready { A.ready answers.now }
     requires entries { IfOk (ending outcome.now) (λ _. All (IsFor (contents_of state.store)) state.entries) }
     ensures { (main : Done LateWrite (Unit {0})) → Runs main outcome.now state.entry → Comes (from_requests (A.program answers.now) fuel main.0 main.1) result }

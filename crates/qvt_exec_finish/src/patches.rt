@@ -8,14 +8,14 @@ ghost use Rattle.qvt_slots.specs.Types.{IsAssignable};
 ghost use Rattle.qvt_live_store.specs.Held.{contents_of};
 ghost use Rattle.qvt_run_laws.specs.Entries.{CanBeWritten};
 ghost use Rattle.qvt_exec_finish.specs.Entries.{entry_view};
-ghost use Rattle.qvt_exec_finish.specs.Patches.{Patches, PatchesAll, Writes};
+ghost use Rattle.qvt_exec_finish.specs.Patches.{Patches, PatchesAll, WritesPatch};
 
 use crate::entries::Entry;
-use crate::stop::Stop;
+use crate::stop::RunStop;
 use qvt_base::list_fault::ListFault;
 use qvt_base::numbers::Oid;
 use qvt_base::seq::Seq;
-use qvt_live_store::held::Held;
+use qvt_live_store::held::HeldStore;
 use qvt_run_data::exit::End;
 use qvt_run_data::fault::RunFault;
 use qvt_run_data::late::LateWrite;
@@ -49,19 +49,19 @@ fn fault_of(refusal: StoreFault) -> RunFault
 }
 
 /// Writes values that fit into the slot, or the fault of the refusal, at the sign of the assignment.
-fn write_fit(late: &LateWrite, values: &[Value], store: &mut Held<'_>) -> Result<(), Stop>
+fn write_fit(late: &LateWrite, values: &[Value], store: &mut HeldStore<'_>) -> Result<(), RunStop>
     requires { IsAssignable (contents_of store.old) late.now.object.0 late.now.feature.0 values.now }
-    ensures { Writes (write (contents_of store.old) late.now.object.0 late.now.feature.0 late.now.op values.now) late.now.place result (contents_of store.new) }
+    ensures { WritesPatch (write (contents_of store.old) late.now.object.0 late.now.feature.0 late.now.op values.now) late.now.place result (contents_of store.new) }
 {
     match store.write(late.object, late.feature, late.op, values) {
         Ok(()) => Ok(()),
-        Err(StoreFault::NoMemory) => Err(Stop::NoMemory),
-        Err(refusal) => Err(Stop::Ends(End::Fault(fault_of(refusal), late.place))),
+        Err(StoreFault::NoMemory) => Err(RunStop::NoMemory),
+        Err(refusal) => Err(RunStop::Ends(End::Fault(fault_of(refusal), late.place))),
     }
 }
 
 /// Writes the objects of an entry into its slot, in one change with one refusal.
-fn patch(alloc: Global, entry: &Entry, store: &mut Held<'_>) -> Result<(), Stop>
+fn patch(alloc: Global, entry: &Entry, store: &mut HeldStore<'_>) -> Result<(), RunStop>
     requires { CanBeWritten (contents_of store.old) (entry_view entry.now) }
     ensures { Patches (contents_of store.old) entry.now result (contents_of store.new) }
 {
@@ -71,7 +71,7 @@ fn patch(alloc: Global, entry: &Entry, store: &mut Held<'_>) -> Result<(), Stop>
 }
 
 /// Writes all entries in order, up to the first that is refused.
-pub fn patch_all(alloc: Global, entries: &[Entry], store: &mut Held<'_>) -> Result<(), Stop>
+pub fn patch_all(alloc: Global, entries: &[Entry], store: &mut HeldStore<'_>) -> Result<(), RunStop>
     requires { All (CanBeWritten (contents_of store.old)) (map entry_view entries.now) }
     ensures { PatchesAll (contents_of store.old) entries.now result (contents_of store.new) }
 {

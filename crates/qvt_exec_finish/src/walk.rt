@@ -4,7 +4,7 @@ ghost use Rattle.qvt_exec_finish.specs.Entries.{Walks, entries_over};
 
 use crate::answers::{Ended, LateAnswers};
 use crate::entries::{Entry, step};
-use crate::stop::Stop;
+use crate::stop::RunStop;
 use qvt_base::seq::Seq;
 use qvt_exec_state::cost::Cost;
 use qvt_run_data::late::LateWrite;
@@ -19,7 +19,7 @@ pub fn walk<A: LateAnswers>(
     ended: &Ended<'_>,
     writes: Seq<LateWrite>,
     cost: &mut Cost,
-) -> Result<Seq<Entry>, Stop>
+) -> Result<Seq<Entry>, RunStop>
     requires { A.ready answers.now }
     ensures { Walks fuel cost.old (entries_over (A.program answers.now) ended.now writes) result cost.new }
 {

@@ -19,7 +19,7 @@ use qvt_exec_resolves::sources::sources_of;
 use qvt_exec_state::state::RunState;
 use qvt_exec_state::steps::{misfit, tick};
 use qvt_run_data::exit::Halt;
-use qvt_run_data::request::Form;
+use qvt_run_data::request::RequestForm;
 use qvt_types_nodes::tree::TypedResolveCall;
 use qvt_value::value::Value;
 
@@ -28,7 +28,7 @@ fn written<C: Nested>(
     x: &Engine<'_>,
     units: &ReadyUnits<C>,
     node: &TypedResolveCall,
-) -> Result<Option<Form>, ListFault>
+) -> Result<Option<RequestForm>, ListFault>
     ensures { IfOk result (λ form. form ≡ form_of (C.means units.now).program (typed_resolve_view node.now)) }
 {
     form_of(x.alloc, program(units), node)

@@ -7,7 +7,7 @@ use Rattle.qvt_run_data.specs.declared.exit.Halt.{Halt}
 use Rattle.qvt_run_data.specs.declared.late.LateWrite.{LateWrite}
 use Rattle.qvt_run_rules.specs.State.{Does, ◌>>=◌}
 use Rattle.qvt_run_rules.specs.Iterators as each
-use Rattle.qvt_exec_loops.specs.Laws.{AreTurns}
+use Rattle.qvt_exec_loops.specs.Laws.{IteratorsGoByTurns}
 use Rattle.qvt_exec_loops.specs.Turns.{after_kept, after_of, rest_of, Takes}
 use Rattle.qvt_exec_loops.specs.declared.turns.Turns.{Turns}
 use Rattle.qvt_exec_loops.specs.declared.turns.Turns.TheVariants as turn
@@ -30,7 +30,7 @@ pub taken_as : (at : Place) (f : Value → Does LateWrite Value) (t u : Turns) (
     Takes (after_of at f u x xs w) r q → Takes (after_of at f t x xs w) r q
 taken_as at f t u x xs w r q e h = subst (λ (m : Turns). Takes (after_of at f m x xs w) r q) (sym e) h
 
-pub all_turns : AreTurns
+pub all_turns : IteratorsGoByTurns
 unfolding each.select each.reject each.collect each.collect_nested each.exists_ each.for_all each.any each.one each.is_unique each.sorted_by
 all_turns = record {
   select = λ spend at name body v. refl;

@@ -30,7 +30,7 @@ GoesBy which rule = (spend : ℕ → Does LateWrite (Unit {0})) (at : Place) (na
     rule spend at name body v ≡ each.iterated spend at name body (by_turns which at (each.for_item name body)) v
 
 -- all iterators of the rules but `iterate` and `closure`
-pub record AreTurns : Type 0 where
+pub record IteratorsGoByTurns : Type 0 where
   pub select : GoesBy iterator.Select each.select
   pub reject : GoesBy iterator.Reject each.reject
   pub collect : GoesBy iterator.Collect each.collect

@@ -3,5 +3,5 @@ use Rattle.std.specs.Prelude.{Bool, not}
 use Rattle.qvt_value.specs.Make.{is_collection}
 use Rattle.qvt_value.specs.declared.value.Value.{Value}
 
-abbrev pub is_single : Value → Bool
-is_single v = not (is_collection v)
+abbrev pub is_single_value : Value → Bool
+is_single_value v = not (is_collection v)

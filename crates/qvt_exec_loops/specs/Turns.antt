@@ -17,13 +17,13 @@ use Rattle.qvt_run_rules.specs.State.{State, Does, ◌>>=◌, pure, found}
 use Rattle.qvt_run_rules.specs.Logic.{is_true, conjunction, disjunction, if_logical}
 use Rattle.qvt_run_rules.specs.Sources.{as_flat, as_kind, collected_kind, gathered, unless_invalid}
 use Rattle.qvt_run_rules.specs.Iterators.{all_differ, judged, kept_if, select_from, exists_from, is_falsity, for_all_from, any_from, one_from, keyed, sort_from}
-use Rattle.qvt_exec_loops.specs.declared.gathering.Finish.{Finish}
-use Rattle.qvt_exec_loops.specs.declared.gathering.Finish.TheVariants.{Nested, Flat, Unique}
+use Rattle.qvt_exec_loops.specs.declared.gathering.GatheringMode.{GatheringMode}
+use Rattle.qvt_exec_loops.specs.declared.gathering.GatheringMode.TheVariants.{Nested, Flat, Unique}
 use Rattle.qvt_exec_loops.specs.declared.turns.Turns.{Turns}
 use Rattle.qvt_exec_loops.specs.declared.turns.Turns.TheVariants as turn
 
 -- what becomes of the values of the bodies
-abbrev pub finish_of : Finish → Place → Kind → List Value → Does LateWrite Value
+abbrev pub finish_of : GatheringMode → Place → Kind → List Value → Does LateWrite Value
 finish_of Nested at k = as_kind at (collected_kind k)
 finish_of Flat at k = as_flat at (collected_kind k)
 finish_of Unique at k = λ vs. pure (Truth (all_differ vs))

@@ -7,7 +7,7 @@ ghost use Rattle.qvt_ocl_words.specs.Lists.{flattened};
 ghost use Rattle.qvt_run_data.specs.declared.late.LateWrite.{LateWrite};
 ghost use Rattle.qvt_run_rules.specs.State.{Does};
 ghost use Rattle.qvt_exec_loops.specs.Turns.{after_of, rest_of, Finds, Takes};
-ghost use Rattle.qvt_exec_loops.specs.Singles.{is_single};
+ghost use Rattle.qvt_exec_loops.specs.Singles.{is_single_value};
 ghost use Rattle.qvt_exec_loops.specs.declared.turns.Turns.TheVariants as turn;
 
 use qvt_base::list_fault::ListFault;
@@ -22,7 +22,7 @@ use std::alloc::Global;
 
 /// What becomes of the values of the bodies.
 #[derive(Clone, Copy, Debug, PartialEq, Eq)]
-pub enum Finish {
+pub enum GatheringMode {
     /// A collection of them.
     Nested,
     /// The same of their innermost items.
@@ -33,24 +33,24 @@ pub enum Finish {
 
 /// The values of the bodies so far, for items of a collection of the kind.
 #[derive(Drop)]
-pub struct Gathered {
-    pub finish: Finish,
+pub struct GatheredBodies {
+    pub finish: GatheringMode,
     pub kind: Kind,
     pub done: Values,
 }
 
 /// Whether it is no collection.
-fn is_single(value: &Value) -> bool
-    ensures { result ≡ is_single value.now }
+fn is_single_value(value: &Value) -> bool
+    ensures { result ≡ is_single_value value.now }
 {
     !matches!(value, Value::Coll(_, _))
 }
 
 /// Whether none of them is.
 fn are_single(values: &[Value]) -> bool
-    ensures { result ≡ list_all is_single values.now }
+    ensures { result ≡ list_all is_single_value values.now }
 {
-    values.iter().all(|value| is_single(value))
+    values.iter().all(|value| is_single_value(value))
 }
 
 /// The collection of the innermost items. Values that are no collections are taken as they are.
@@ -64,12 +64,12 @@ fn made_flat(alloc: Global, place: Place, kind: Kind, values: Values) -> Result<
     built_flat(alloc, place, kind, values.as_slice())
 }
 
-impl Gathered {
+impl GatheredBodies {
     /// None so far. It takes no memory.
-    pub fn new(alloc: Global, finish: Finish, kind: Kind) -> Gathered
+    pub fn new(alloc: Global, finish: GatheringMode, kind: Kind) -> GatheredBodies
         ensures { result ≡ record { finish = finish; kind = kind; done = [] } }
     {
-        Gathered {
+        GatheredBodies {
             finish,
             kind,
             done: Seq::new(alloc),
@@ -92,11 +92,11 @@ impl Gathered {
     pub fn finish(self, alloc: Global, place: Place) -> Result<Value, Halt>
         ensures { (f : Value → Does LateWrite Value) → Finds (rest_of place f (turn.Gathered self) []) result }
     {
-        let Gathered { finish, kind, done } = self;
+        let GatheredBodies { finish, kind, done } = self;
         match finish {
-            Finish::Nested => Ok(built(alloc, place, collected_kind(kind), done)?),
-            Finish::Flat => Ok(made_flat(alloc, place, collected_kind(kind), done)?),
-            Finish::Unique => Ok(Value::Bool(all_differ(alloc, done.as_slice())?)),
+            GatheringMode::Nested => Ok(built(alloc, place, collected_kind(kind), done)?),
+            GatheringMode::Flat => Ok(made_flat(alloc, place, collected_kind(kind), done)?),
+            GatheringMode::Unique => Ok(Value::Bool(all_differ(alloc, done.as_slice())?)),
         }
     }
 }

@@ -6,7 +6,7 @@ ghost use Rattle.qvt_run_rules.specs.State.{Does};
 ghost use Rattle.qvt_exec_loops.specs.Turns.{after_of, rest_of, turns_of, Finds, Takes};
 
 use crate::conditions::{take_any, take_exists, take_for_all, take_one};
-use crate::gathering::{Finish, Gathered};
+use crate::gathering::{GatheredBodies, GatheringMode};
 use crate::selection::Kept;
 use crate::sorting::Sorted;
 use qvt_base::numbers::Place;
@@ -20,7 +20,7 @@ pub enum Turns {
     /// `select` and `reject`.
     Kept(Kept),
     /// `collect`, `collectNested` and `isUnique`.
-    Gathered(Gathered),
+    Gathered(GatheredBodies),
     /// `any`.
     Any,
     /// `one`: for how many items the condition was true.
@@ -56,17 +56,25 @@ impl Turns {
         let turns = match which {
             IteratorKind::Select => Turns::Kept(Kept::new(alloc, true, kind)),
             IteratorKind::Reject => Turns::Kept(Kept::new(alloc, false, kind)),
-            IteratorKind::Collect => Turns::Gathered(Gathered::new(alloc, Finish::Flat, kind)),
-            IteratorKind::CollectNested => Turns::Gathered(Gathered::new(
+            IteratorKind::Collect => Turns::Gathered(GatheredBodies::new(
                 alloc,
-                Finish::Nested,
+                GatheringMode::Flat,
+                kind,
+            )),
+            IteratorKind::CollectNested => Turns::Gathered(GatheredBodies::new(
+                alloc,
+                GatheringMode::Nested,
                 kind,
             )),
             IteratorKind::Exists => Turns::Exists(Value::Bool(false)),
             IteratorKind::ForAll => Turns::ForAll(Value::Bool(true)),
             IteratorKind::Any => Turns::Any,
             IteratorKind::One => Turns::One(0),
-            IteratorKind::IsUnique => Turns::Gathered(Gathered::new(alloc, Finish::Unique, kind)),
+            IteratorKind::IsUnique => Turns::Gathered(GatheredBodies::new(
+                alloc,
+                GatheringMode::Unique,
+                kind,
+            )),
             IteratorKind::SortedBy => Turns::Sorted(Sorted::new(alloc, kind)),
             IteratorKind::Iterate | IteratorKind::Closure => return None,
         };

@@ -31,12 +31,12 @@ use Rattle.qvt_run_rules.specs.Cost.{spend_of}
 use Rattle.qvt_exec_calls.specs.Plain.{no_entry, nothing_beyond}
 use Rattle.qvt_exec_calls.specs.Readings as by
 use Rattle.qvt_exec_calls.specs.Readings.{Setting, HeadDoes, TargetDoes}
-use Rattle.qvt_exec_calls.specs.Units.{Units}
+use Rattle.qvt_exec_calls.specs.Units.{UnitMeanings}
 use Rattle.qvt_exec_phrases.specs.declared.engine.Engine.{Engine}
 
 -- what the interpreter reads, and the units that stand behind calls
 abbrev pub Scene : Type 0
-Scene = Engine × Units
+Scene = Engine × UnitMeanings
 
 abbrev pub program_of : Scene → ProgramTerm
 program_of x = x.1.program

@@ -8,7 +8,7 @@ use Rattle.qvt_exec_exprs.specs.Plain.{Evaluated, ended}
 use Rattle.qvt_exec_plain.specs.declared.told.Told.{Told}
 
 -- it tells what the expression gives, and what that cost, a cost beyond 64 bits as the greatest number of 64 bits
-pub record Tells (e : Evaluated) (t : Told) : Type 0 where
+pub record TellsEvaluated (e : Evaluated) (t : Told) : Type 0 where
   pub outcome : t.outcome ≡ e.outcome
   pub cost : t.cost ≡ min e.cost (2 ^ 64 - 1)
 

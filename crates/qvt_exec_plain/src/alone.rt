@@ -1,7 +1,7 @@
 //! What stands inside phrases that stand alone: no unit is behind their calls, and no trace behind their resolves.
 
 ghost use Rattle.qvt_program_exprs.specs.Program.{program_view};
-ghost use Rattle.qvt_exec_plain.specs.Alone.{GivesBlock, GivesExpr, alone_in};
+ghost use Rattle.qvt_exec_plain.specs.Alone.{GivesBlockAlone, GivesExprAlone, alone_in};
 
 use qvt_base::numbers::Place;
 use qvt_exec_exprs::engine::Engine;
@@ -30,7 +30,7 @@ impl<
     E: Fn(&Program, u32, &Engine<'_>, &TypedExpr, &mut RunState<'_>) -> Result<Value, Halt>,
     B: Fn(&Program, u32, &Engine<'_>, &TypedStmts, &mut RunState<'_>) -> Result<(), Halt>,
 > UnitCalls for Alone<'p, E, B> {
-    ghost ready = { λ a. GivesExpr a.program.now a.left (E.pre a.expr_at) (E.post a.expr_at) × GivesBlock a.program.now a.left (B.pre a.block_at) (B.post a.block_at) };
+    ghost ready = { λ a. GivesExprAlone a.program.now a.left (E.pre a.expr_at) (E.post a.expr_at) × GivesBlockAlone a.program.now a.left (B.pre a.block_at) (B.post a.block_at) };
 
     ghost means = { λ a. alone_in (program_view a.program.now) };
 

@@ -5,7 +5,7 @@ ghost use Rattle.qvt_types_nodes.specs.View.{typed_expr_view};
 ghost use Rattle.qvt_program_exprs.specs.Program.{program_view};
 ghost use Rattle.qvt_exec_exprs.specs.Plain.{no_expression, plain, plain_at};
 ghost use Rattle.qvt_program_exprs.specs.Table.{IsTable};
-ghost use Rattle.qvt_exec_plain.specs.Told.{Tells};
+ghost use Rattle.qvt_exec_plain.specs.Told.{TellsEvaluated};
 
 use crate::knot::value_alone;
 use crate::told::{Told, outcome_of};
@@ -34,7 +34,7 @@ pub fn evaluate(
     store: &Store,
     locals: Seq<Local>,
 ) -> Result<Told, ListFault>
-    ensures { IfOk result (Tells (plain (program_view program.now) store.now locals (typed_expr_view node.now))) }
+    ensures { IfOk result (TellsEvaluated (plain (program_view program.now) store.now locals (typed_expr_view node.now))) }
 {
     let x = Engine {
         alloc,
@@ -53,7 +53,7 @@ pub fn evaluate(
 
 /// What is told where there is no such expression.
 fn no_expression() -> Told
-    ensures { Tells no_expression result }
+    ensures { TellsEvaluated no_expression result }
 {
     let nowhere = Place {
         line: 1,
@@ -77,7 +77,7 @@ pub fn eval_plain(
     number: ExprNo,
 ) -> Result<Told, ListFault>
     requires { IsTable expressions.now }
-    ensures { IfOk result (Tells (plain_at (program_view expressions.now.program.now) store.now vars.now number)) }
+    ensures { IfOk result (TellsEvaluated (plain_at (program_view expressions.now.program.now) store.now vars.now number)) }
 {
     match expressions.expr(number) {
         None => Ok(no_expression()),

@@ -21,7 +21,7 @@ use Rattle.qvt_run_data.specs.declared.exit.Exit.{Exit}
 use Rattle.qvt_run_data.specs.declared.exit.Exit.TheVariants.{Ends}
 use Rattle.qvt_run_data.specs.declared.exit.End.TheVariants.{OutOfFuel}
 use Rattle.qvt_run_rules.specs.State.{State, Done, Does, on_outcome, ◌>>=◌, ◌>>◌, pure, misfit, found, look}
-use Rattle.qvt_run_rules.specs.Calls.{Calls}
+use Rattle.qvt_run_rules.specs.Calls.{CallRule}
 use Rattle.qvt_run_rules.specs.Cost.{charge, count, spend_of}
 use Rattle.qvt_run_rules.specs.Locals.{self_name, result_name, local_named, value_in, read}
 use Rattle.qvt_run_rules.specs.Logic.{by_left, logic}
@@ -99,7 +99,7 @@ module _ {E : Type 0} where
 
 -- ---- expressions
 
-module _ {E : Type 0} (x : Setting E) (calls : Calls E) (answer : Option Ty) (charges : (n : ℕ) → IsQuiet (x.spend n)) where
+module _ {E : Type 0} (x : Setting E) (calls : CallRule E) (answer : Option Ty) (charges : (n : ℕ) → IsQuiet (x.spend n)) where
   literal : (v : Value) → IsQuiet (rule.literal x.spend v)
   unfolding rule.literal
   literal v = follows (x.spend 1) (λ _. pure v) (charges 1) (λ _. gives v)

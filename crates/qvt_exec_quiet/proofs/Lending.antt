@@ -15,7 +15,7 @@ use Rattle.qvt_value.specs.declared.value.Value.{Value, Null, Obj, Invalid}
 use Rattle.qvt_ocl_words.specs.declared.op.Op.{Op}
 use Rattle.qvt_run_data.specs.declared.exit.Exit.{Exit}
 use Rattle.qvt_run_rules.specs.State.{State, Done, Does, on_outcome, ◌>>=◌, ◌>>◌, pure, misfit, found}
-use Rattle.qvt_run_rules.specs.Calls.{Calls}
+use Rattle.qvt_run_rules.specs.Calls.{CallRule}
 use Rattle.qvt_run_rules.specs.Locals.{local_named, value_in, read}
 use Rattle.qvt_run_rules.specs.Sources.{before_arrow}
 use Rattle.qvt_run_rules.specs.Store as store
@@ -133,7 +133,7 @@ module _ {E : Type 0} where
 
 -- ---- the operation, with its source lent
 
-module _ {E : Type 0} (x : Setting E) (calls : Calls E) (answer : Option Ty) (charges : (n : ℕ) → IsQuiet (x.spend n)) where
+module _ {E : Type 0} (x : Setting E) (calls : CallRule E) (answer : Option Ty) (charges : (n : ℕ) → IsQuiet (x.spend n)) where
   abbrev tick : Does E (Unit {0})
   tick = rule.tick x.spend
 

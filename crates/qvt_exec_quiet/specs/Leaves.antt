@@ -6,7 +6,7 @@ use Rattle.qvt_types_data.specs.declared.note.Reading.TheVariants as reading
 use Rattle.qvt_types_data.specs.declared.ty.Ty.{Ty}
 use Rattle.qvt_types_nodes.specs.Tree.{TypedExprTerm, TypedIntExpr, TypedStrExpr, TypedBoolExpr, TypedNullExpr, TypedSelfExpr, TypedResultExpr, TypedPathExpr, TypedChainExpr, TypedPrefixExpr, TypedPostExpr, TypedExprTerms, TypedNoExprs, TypedMoreExprs, TypedLinkTerm, TypedLinkOf, TypedLinkTerms, TypedNoLinks, TypedMoreLinks, TypedOptionalArgs, TypedNoArgs, TypedSomeArgs, TypedStepTerm, TypedDotStep, TypedArrowStep, TypedStepTerms, TypedNoSteps, TypedMoreSteps}
 use Rattle.qvt_run_rules.specs.State.{State, Does}
-use Rattle.qvt_run_rules.specs.Calls.{Calls}
+use Rattle.qvt_run_rules.specs.Calls.{CallRule}
 use Rattle.qvt_run_rules.specs.Expressions.{values}
 use Rattle.qvt_meaning.specs.Nodes.{model_named}
 use Rattle.qvt_meaning.specs.Phrases.{exprs}
@@ -65,4 +65,4 @@ abbrev mutual
 
 -- where a charge leaves all but the cost, so do these expressions, one after another
 abbrev pub QuietLeave : Type 0 → Type 0
-QuietLeave E = (x : Setting E) (calls : Calls E) (answer : Option Ty) → ((n : ℕ) → IsQuiet (x.spend n)) → (es : TypedExprTerms) → IsTrue (are_quiet es) → IsQuiet (values (exprs x calls answer es))
+QuietLeave E = (x : Setting E) (calls : CallRule E) (answer : Option Ty) → ((n : ℕ) → IsQuiet (x.spend n)) → (es : TypedExprTerms) → IsTrue (are_quiet es) → IsQuiet (values (exprs x calls answer es))

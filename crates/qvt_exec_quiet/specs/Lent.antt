@@ -16,7 +16,7 @@ use Rattle.qvt_run_rules.specs.State.{State, Does, ◌>>=◌, ◌>>◌, pure}
 use Rattle.qvt_run_rules.specs.Cost.{count}
 use Rattle.qvt_run_rules.specs.Locals.{self_name, result_name, read}
 use Rattle.qvt_run_rules.specs.Sources.{before_arrow}
-use Rattle.qvt_run_rules.specs.Calls.{Calls}
+use Rattle.qvt_run_rules.specs.Calls.{CallRule}
 use Rattle.qvt_run_rules.specs.Expressions as rule
 use Rattle.qvt_meaning.specs.Nodes.{type_of}
 use Rattle.qvt_meaning.specs.Phrases.{expr, exprs, steps}
@@ -154,7 +154,7 @@ module _ {E : Type 0} (spend : ℕ → Does E (Unit {0})) where
   charged (OfImplicit name f at) = rule.tick spend
   charged (OfSlot name at f dot) = rule.tick spend >> (there (read name at) >> rule.tick spend)
 
-module _ {E : Type 0} (x : Setting E) (calls : Calls E) (answer : Option Ty) where
+module _ {E : Type 0} (x : Setting E) (calls : CallRule E) (answer : Option Ty) where
   -- the arguments: the source has its units before them, and has to be there, and the step has its unit
   abbrev pub args_of : LentTerm → Does E (List Value)
   args_of l = charged x.spend l.source >> (there (reading_of l.source) >> (rule.tick x.spend >> rule.values (exprs x calls answer l.args)))
@@ -174,5 +174,5 @@ module _ {E : Type 0} (x : Setting E) (calls : Calls E) (answer : Option Ty) whe
 
 -- where a charge leaves all but the cost, an expression with steps does what it does with such a source lent
 abbrev pub LentFirst : Type 0 → Type 0
-LentFirst E = (x : Setting E) (calls : Calls E) (answer : Option Ty) → ((n : ℕ) → IsQuiet (x.spend n)) → (e : TypedExprTerm) (ss : TypedStepTerms) (s : State E) →
+LentFirst E = (x : Setting E) (calls : CallRule E) (answer : Option Ty) → ((n : ℕ) → IsQuiet (x.spend n)) → (e : TypedExprTerm) (ss : TypedStepTerms) (s : State E) →
     rule.on_first (expr x calls answer e) (steps x calls answer (type_of e) ss) s ≡ (begun_of x calls answer (type_of e) ss (lent_of e ss) (expr x calls answer e) >>= along_rest (steps x calls answer (type_of e) ss)) s

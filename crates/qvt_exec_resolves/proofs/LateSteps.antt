@@ -9,7 +9,7 @@ use Rattle.qvt_types_nodes.specs.declared.types.TypedPathTree.{TypedPathTree}
 use Rattle.qvt_types_nodes.specs.declared.tree.TypedStep.{TypedStep}
 use Rattle.qvt_types_nodes.specs.View.{typed_step_view, typed_steps_of}
 use Rattle.qvt_run_data.specs.declared.late.LateWrite.{LateWrite}
-use Rattle.qvt_run_rules.specs.Calls.{Calls}
+use Rattle.qvt_run_rules.specs.Calls.{CallRule}
 use Rattle.qvt_meaning.specs.Nodes as nodes
 use Rattle.qvt_meaning.specs.Phrases.{but_last, steps}
 use Rattle.qvt_meaning.specs.Readings.{Setting}
@@ -62,7 +62,7 @@ at_last ss s there is =
 
 -- the steps before it
 
-module _ (x : Setting LateWrite) (calls : Calls LateWrite) (answer : Option Ty) where
+module _ (x : Setting LateWrite) (calls : CallRule LateWrite) (answer : Option Ty) where
   taken : (n : ℕ) (o : Option Ty) (ss : List TypedStep) → steps x calls answer o (typed_steps_of (map typed_step_view (take n ss))) ≡ take n (steps x calls answer o (typed_steps_of (map typed_step_view ss)))
   unfolding steps
   taken zero o ss = refl

@@ -42,5 +42,5 @@ abbrev pub is_number_in : Option (List ℕ) → ℕ → Bool
 is_number_in None k = true
 is_number_in (Some ks) k = has ks k
 
-abbrev pub AreNumbersOf : Option (List ℕ) → Option (List MappingNo) → Type 0
-AreNumbersOf ks ms = (m : MappingNo) → is_number_in ks m.0 ≡ is_listed ms m
+abbrev pub AreMappingNumbers : Option (List ℕ) → Option (List MappingNo) → Type 0
+AreMappingNumbers ks ms = (m : MappingNo) → is_number_in ks m.0 ≡ is_listed ms m

@@ -4,7 +4,7 @@ ghost use Rattle.std.specs.Prelude.{◌≡◌, ◌==◌, ◌<◌, ◌∷◌, [],
 ghost use Rattle.std.specs.List.{filter_map, list_any};
 ghost use Rattle.qvt_run_rules.specs.Trace as rule;
 ghost use Rattle.qvt_trace.specs.Numbers.{numbers};
-ghost use Rattle.qvt_exec_resolves.specs.Candidates.{AreNumbersOf, ends_from, ends_of, ends_within, is_near, is_number_in, oids, with_end};
+ghost use Rattle.qvt_exec_resolves.specs.Candidates.{AreMappingNumbers, ends_from, ends_of, ends_within, is_near, is_number_in, oids, with_end};
 ghost use Rattle.qvt_exec_resolves.specs.Numbers.{has};
 
 use crate::number_set::NumberSet;
@@ -23,7 +23,7 @@ pub struct Sieve<'a> {
     pub store: &'a Store,
     pub request: &'a Request,
     within: Option<NumberSet>,
-    ghost within_are: { AreNumbersOf within request.now.within },
+    ghost within_are: { AreMappingNumbers within request.now.within },
 }
 
 impl Drop for Sieve<'_> {
@@ -49,7 +49,7 @@ fn numbers_of(alloc: Global, mappings: &[MappingNo]) -> Result<NumberSet, ListFa
 
 /// The same, if not all mappings are looked at.
 fn within_of(alloc: Global, within: &Option<MappingList>) -> Result<Option<NumberSet>, ListFault>
-    ensures { IfOk result (λ numbers. AreNumbersOf numbers within.now) }
+    ensures { IfOk result (λ numbers. AreMappingNumbers numbers within.now) }
 {
     match within {
         None => Ok(None),

@@ -16,7 +16,7 @@ use qvt_base::numbers::{ClassNo, ExprNo, MappingNo};
 use qvt_exec_types::nodes::{note_of, written_type};
 use qvt_exec_types::program::Program;
 use qvt_meaning::signature::{HeadClass, Signature};
-use qvt_run_data::request::{Form, Query, Request};
+use qvt_run_data::request::{Query, Request, RequestForm};
 use qvt_tree_types::words::ResolveWord;
 use qvt_types_data::note::Reading;
 use qvt_types_data::ty::Ty;
@@ -149,14 +149,14 @@ fn form_with(
     named: Option<u32>,
     filter: &Option<TypedFilter>,
     class: Option<u32>,
-) -> Result<Option<Form>, ListFault>
+) -> Result<Option<RequestForm>, ListFault>
     ensures { IfOk result (λ form. form ≡ meaning.form_with (program_view program.now) word named (typed_optional_filter (option_map typed_filter_view filter.now)) class) }
 {
     let Some(class) = class else {
         return Ok(None);
     };
     let within = all_within(alloc, program, named)?;
-    Ok(Some(Form {
+    Ok(Some(RequestForm {
         inverse: word.is_inverse(),
         within,
         class,
@@ -171,7 +171,7 @@ pub fn form_of(
     alloc: Global,
     program: &Program,
     node: &TypedResolveCall,
-) -> Result<Option<Form>, ListFault>
+) -> Result<Option<RequestForm>, ListFault>
     ensures { IfOk result (λ form. form ≡ meaning.form_of (program_view program.now) (typed_resolve_view node.now)) }
 {
     let named = within_named(&node.within);
@@ -180,7 +180,7 @@ pub fn form_of(
 }
 
 /// What a resolve of this form asks from these sources. It takes no memory.
-pub fn query_of(form: Form, sources: Option<OidList>) -> Query
+pub fn query_of(form: RequestForm, sources: Option<OidList>) -> Query
     ensures { result ≡ rule.query_of form sources }
 {
     let mut form = form;

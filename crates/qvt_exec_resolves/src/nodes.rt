@@ -3,7 +3,7 @@
 ghost use Rattle.std.specs.Prelude.{◌≡◌, map, option_map, Option};
 ghost use Rattle.std.specs.Option.{option_copied};
 ghost use Rattle.qvt_run_data.specs.declared.late.LateWrite.{LateWrite};
-ghost use Rattle.qvt_run_rules.specs.Calls.{Calls};
+ghost use Rattle.qvt_run_rules.specs.Calls.{CallRule};
 ghost use Rattle.qvt_types_data.specs.declared.ty.Ty.{Ty};
 ghost use Rattle.qvt_types_nodes.specs.View.{typed_expr_view, typed_resolve_view, typed_step_view, typed_steps_of};
 ghost use Rattle.qvt_meaning.specs.Nodes as nodes;
@@ -58,7 +58,7 @@ pub fn late_of(node: &TypedExpr) -> Option<&TypedResolveCall>
 #[tactic(auto, using(crate::proofs::LateSteps::steps_before))]
 pub fn before_last(steps: &[TypedStep]) -> &[TypedStep]
     ensures steps { result.now ≡ but_last steps.now }
-    ensures does { (x : Setting LateWrite) (calls : Calls LateWrite) (answer o : Option Ty) → steps_mean x calls answer o (typed_steps_of (map typed_step_view result.now)) ≡ but_last (steps_mean x calls answer o (typed_steps_of (map typed_step_view steps.now))) }
+    ensures does { (x : Setting LateWrite) (calls : CallRule LateWrite) (answer o : Option Ty) → steps_mean x calls answer o (typed_steps_of (map typed_step_view result.now)) ≡ but_last (steps_mean x calls answer o (typed_steps_of (map typed_step_view steps.now))) }
 {
     let (before, _) = steps.split_at(steps.len().saturating_sub(1));
     before

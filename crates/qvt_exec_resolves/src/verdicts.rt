@@ -82,7 +82,7 @@ pub fn sifted_by(
     done: OidList,
     object: Oid,
 ) -> Result<Sifted, ListFault>
-    ensures { IfOk result (λ sifted. (cost : ℕ) (on : List Oid → rule.Answer) → rule.sifted_by (verdict_view verdict) one done cost object on ≡ answer_by sifted cost on) }
+    ensures { IfOk result (λ sifted. (cost : ℕ) (on : List Oid → rule.ResolveAnswer) → rule.sifted_by (verdict_view verdict) one done cost object on ≡ answer_by sifted cost on) }
 {
     match verdict {
         Verdict::Fails => Ok(Sifted::GoesOn(done)),

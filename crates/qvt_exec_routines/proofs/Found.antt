@@ -4,7 +4,7 @@ use Rattle.qvt_types_nodes.specs.Module.{TypedUnitTerm}
 use Rattle.qvt_types_units.specs.declared.signature.Signature.{Signature}
 use Rattle.qvt_typing.specs.Accepts.{ProgramTerm}
 use Rattle.qvt_run_data.specs.declared.late.LateWrite.{LateWrite}
-use Rattle.qvt_run_rules.specs.Calls.{Calls}
+use Rattle.qvt_run_rules.specs.Calls.{CallRule}
 use Rattle.qvt_meaning.specs.Program.{signature_of, unit_term}
 use Rattle.qvt_meaning.specs.Readings.{Setting}
 use Rattle.qvt_meaning.specs.Units as of_units
@@ -12,7 +12,7 @@ use Rattle.qvt_meaning.specs.Units.{routine_at}
 use Rattle.qvt_exec_routines.specs.Routines.{routine_in}
 use Rattle.qvt_exec_routines.specs.declared.routine_at.RoutineUnit.{RoutineUnit}
 
-pub found : (x : Setting LateWrite) (calls : Calls LateWrite) (n : ℕ) (p : ProgramTerm) (u : Signature) (t : Option TypedUnitTerm) (r : Option RoutineUnit)
+pub found : (x : Setting LateWrite) (calls : CallRule LateWrite) (n : ℕ) (p : ProgramTerm) (u : Signature) (t : Option TypedUnitTerm) (r : Option RoutineUnit)
     → p ≡ x.program → u ≡ signature_of p n → t ≡ unit_term p n
     → option_map (routine_in x calls) r ≡ of_units.routine_in x calls u t → option_map (routine_in x calls) r ≡ routine_at x calls n
 unfolding routine_at

@@ -5,7 +5,7 @@ ghost use Rattle.std.specs.Option.{option_copied};
 ghost use Rattle.qvt_types_nodes.specs.Module.{typed_unit_view};
 ghost use Rattle.qvt_types_units.specs.Numbers.{no_unit};
 ghost use Rattle.qvt_run_data.specs.declared.late.LateWrite.{LateWrite};
-ghost use Rattle.qvt_run_rules.specs.Calls.{Calls};
+ghost use Rattle.qvt_run_rules.specs.Calls.{CallRule};
 ghost use Rattle.qvt_meaning.specs.Readings.{Setting};
 ghost use Rattle.qvt_meaning.specs.Units as of_units;
 ghost use Rattle.qvt_exec_candidates.specs.Stage.{setting_in};
@@ -28,7 +28,7 @@ pub struct RoutineUnit<'a> {
 /// What is called that a unit is.
 #[tactic(auto, unfolding(crate::specs::Routines::routine_in))]
 fn routine_in<'a>(head: &'a Signature, unit: Option<&'a TypedUnit>) -> Option<RoutineUnit<'a>>
-    ensures { (x : Setting LateWrite) (calls : Calls LateWrite) → option_map (routine_in x calls) result ≡ of_units.routine_in x calls head.now (option_map typed_unit_view (option_copied unit.entry)) }
+    ensures { (x : Setting LateWrite) (calls : CallRule LateWrite) → option_map (routine_in x calls) result ≡ of_units.routine_in x calls head.now (option_map typed_unit_view (option_copied unit.entry)) }
 {
     match unit {
         Some(TypedUnit::Helper(node)) => Some(RoutineUnit { head, node }),

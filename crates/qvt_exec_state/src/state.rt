@@ -7,7 +7,7 @@ ghost use Rattle.qvt_exec_state.specs.Runs.{seen};
 use crate::cost::Cost;
 use qvt_base::numbers::Oid;
 use qvt_base::seq::Seq;
-use qvt_live_store::held::Held;
+use qvt_live_store::held::HeldStore;
 use qvt_live_store::live::LiveStore;
 use qvt_live_store::store::Store;
 use qvt_run_rules::late::LateWrite;
@@ -20,7 +20,7 @@ use std::alloc::Global;
 /// the trace; the keys of the mapping calls that are open; what late assignments keep; and the cost so
 /// far. A scope ends where `locals` are cut to those from before it.
 pub struct RunState<'s> {
-    pub store: Held<'s>,
+    pub store: HeldStore<'s>,
     pub locals: Seq<Local>,
     pub inner: Option<Oid>,
     pub trace: Trace,
@@ -44,7 +44,7 @@ impl Drop for RunState<'_> {
 }
 
 /// Nothing is done yet, over this store, with these variables in scope. It takes no memory.
-fn begun<'s>(alloc: Global, store: Held<'s>, locals: Seq<Local>) -> RunState<'s>
+fn begun<'s>(alloc: Global, store: HeldStore<'s>, locals: Seq<Local>) -> RunState<'s>
     ensures { seen result ≡ record { locals = locals; inner = None; store = contents_of store.entry; trace = []; keys = []; entries = []; cost = 0 } }
 {
     RunState {
@@ -63,13 +63,13 @@ impl<'s> RunState<'s> {
     pub fn new(alloc: Global, store: &'s Store, locals: Seq<Local>) -> RunState<'s>
         ensures { seen result ≡ record { locals = locals; inner = None; store = store.now; trace = []; keys = []; entries = []; cost = 0 } }
     {
-        begun(alloc, Held::Lent(store), locals)
+        begun(alloc, HeldStore::Lent(store), locals)
     }
 
     /// Before a run, which changes the store. It takes no memory.
     pub fn of_run(alloc: Global, store: LiveStore) -> RunState<'s>
         ensures { seen result ≡ record { locals = []; inner = None; store = store; trace = []; keys = []; entries = []; cost = 0 } }
     {
-        begun(alloc, Held::Own(store), Seq::new(alloc))
+        begun(alloc, HeldStore::Own(store), Seq::new(alloc))
     }
 }

@@ -3,7 +3,7 @@ use Rattle.std.proofs.Common.{◌≡◌, sym, ap, List, map, Option}
 use Rattle.qvt_base.specs.declared.numbers.Place.{Place}
 use Rattle.qvt_value.specs.declared.value.Value.{Value}
 use Rattle.qvt_run_data.specs.declared.late.LateWrite.{LateWrite}
-use Rattle.qvt_run_rules.specs.Calls.{Calls}
+use Rattle.qvt_run_rules.specs.Calls.{CallRule}
 use Rattle.qvt_run_rules.specs.State.{Does}
 use Rattle.qvt_types_data.specs.declared.ty.Ty.{Ty}
 use Rattle.qvt_types_nodes.specs.declared.tree.TypedExpr.{TypedExpr}
@@ -17,7 +17,7 @@ use Rattle.qvt_exec_invocations.specs.Means.{Scene, all_steps, expr_of, setting_
 
 -- the steps before the last do what they do before it
 abbrev AreBefore : List TypedStep → List TypedStep → Type 0
-AreBefore ss all = (x : Setting LateWrite) (calls : Calls LateWrite) (answer o : Option Ty) → phrase.steps x calls answer o (typed_steps_of (map typed_step_view ss)) ≡ phrase.but_last (phrase.steps x calls answer o (typed_steps_of (map typed_step_view all)))
+AreBefore ss all = (x : Setting LateWrite) (calls : CallRule LateWrite) (answer o : Option Ty) → phrase.steps x calls answer o (typed_steps_of (map typed_step_view ss)) ≡ phrase.but_last (phrase.steps x calls answer o (typed_steps_of (map typed_step_view all)))
 
 before_is : (x : Scene) (o : Option Ty) (ss all : List TypedStep) → AreBefore ss all → steps_of x o ss ≡ phrase.but_last (steps_of x o all)
 unfolding steps_of

@@ -12,7 +12,7 @@ use Rattle.qvt_run_rules.specs.Sources.{items_of, present_items, reached_kind, u
 use Rattle.qvt_run_rules.specs.Iterators.{closure_from, unvisited}
 use Rattle.qvt_run_rules.specs.Iterators as each
 use Rattle.qvt_exec_visits.specs.Laws.{ClosureIsItsVisits, EachItemIsAVisit, NoItemIsTheEnd}
-use Rattle.qvt_exec_visits.specs.Visited.{Visited, with_item, IsNext}
+use Rattle.qvt_exec_visits.specs.Visited.{Visited, with_item, IsNextItem}
 
 -- the next item was not visited
 fresh : (done xs : List Value) (x : Value) (ws : List Value) → unvisited done xs ≡ x ∷ ws → has done x ≡ false
@@ -24,7 +24,7 @@ fresh done (v ∷ vs) x ws e = by (has done v) refl (fresh done vs x ws) e
     by false h rest e = let same : v ≡ x = cc in subst (λ y. has done y ≡ false) same h
 
 -- so it comes last
-added : (v w : Visited) (x : Value) → IsNext v (Some x) w → v.done ++ x ∷ [] ≡ with_item w.done x
+added : (v w : Visited) (x : Value) → IsNextItem v (Some x) w → v.done ++ x ∷ [] ≡ with_item w.done x
 added v w x next =
     sym (ap (λ ys. with_item ys x) next.done ∙ ap (λ b. if b then v.done else v.done ++ x ∷ []) (fresh v.done v.left x w.left next.left))
 

@@ -13,7 +13,7 @@ use Rattle.qvt_run_rules.specs.State.{State, Done, Does, pure, on_outcome}
 use Rattle.qvt_run_rules.specs.Sources.{reached_kind, unless_invalid}
 use Rattle.qvt_exec_state.specs.Runs.{Runs, seen}
 use Rattle.qvt_exec_state.specs.declared.state.RunState.{RunState}
-use Rattle.qvt_exec_visits.specs.Visited.{Visited, visited, Gives, IsNext, Takes, rest_of}
+use Rattle.qvt_exec_visits.specs.Visited.{Visited, visited, GivesVisited, IsNextItem, TakesBodyValue, rest_of}
 use Rattle.qvt_exec_visits.proofs.VisitLaw.{visit, at_end}
 
 valid_goes : (g : Value) (q : Does LateWrite Value) → is_invalid g ≡ false → unless_invalid g q ≡ q
@@ -33,12 +33,12 @@ module _ (at : Place) (f : Value → Does LateWrite Value) where
   pub record IsAt (d : Done LateWrite Value) (n m : ℕ) (v w : Visited) (o : Option Value) (x : Value) (s : State LateWrite) : Type 0 where
     pub same : rest_of at f n v s ≡ d
     pub more : n ≡ suc m
-    pub next : IsNext v o w
+    pub next : IsNextItem v o w
     pub item : o ≡ Some x
 
   opened : (d : Done LateWrite Value) (n m : ℕ) (v w : Visited) (o : Option Value) (x : Value) (s : State LateWrite) → IsAt d n m v w o x s → d ≡ onward m w x (f x s)
   opened d n m v w o x s is =
-      let next : IsNext v (Some x) w = subst (λ (z : Option Value). IsNext v z w) is.item is.next in
+      let next : IsNextItem v (Some x) w = subst (λ (z : Option Value). IsNextItem v z w) is.item is.next in
       sym is.same ∙ ap (λ k. rest_of at f k v s) is.more ∙ ap (λ (p : Does LateWrite Value). p s) (visit at f m v w x next)
 
   behind : (d : Done LateWrite Value) (n m : ℕ) (v w : Visited) (o : Option Value) (x g : Value) (s : State LateWrite) (u : RunState) → IsAt d n m v w o x s → Runs (f x s) (Ok g) u →
@@ -54,31 +54,31 @@ module _ (at : Place) (f : Value → Does LateWrite Value) where
 
   -- the visit ends it
   pub visit_ends : (d : Done LateWrite Value) (n m : ℕ) (v w t : Visited) (o e : Option Value) (x g a : Value) (s : State LateWrite) (u : RunState) → IsAt d n m v w o x s → Runs (f x s) (Ok g) u →
-      Takes w x g e t → e ≡ Some a → d ≡ (Ok a, seen u)
+      TakesBodyValue w x g e t → e ≡ Some a → d ≡ (Ok a, seen u)
   visit_ends d n m v w t o e x g a s u is ran took ended =
-      let given : Takes w x g (Some a) t = subst (λ (z : Option Value). Takes w x g z t) ended took in
+      let given : TakesBodyValue w x g (Some a) t = subst (λ (z : Option Value). TakesBodyValue w x g z t) ended took in
       behind d n m v w o x g s u is ran ∙ ap (λ (p : Does LateWrite Value). p (seen u)) (invalid_ends g (rest_of at f m (visited w x g)) given.0)
       ∙ ap (λ (z : Value). (Ok z, seen u)) (sym given.1)
 
   -- it goes on
   pub visit_goes_on : (d : Done LateWrite Value) (n m : ℕ) (v w t : Visited) (o e : Option Value) (x g : Value) (s : State LateWrite) (u : RunState) → IsAt d n m v w o x s → Runs (f x s) (Ok g) u →
-      Takes w x g e t → e ≡ None → rest_of at f m t (seen u) ≡ d
+      TakesBodyValue w x g e t → e ≡ None → rest_of at f m t (seen u) ≡ d
   visit_goes_on d n m v w t o e x g s u is ran took on =
-      let given : Takes w x g None t = subst (λ (z : Option Value). Takes w x g z t) on took in
+      let given : TakesBodyValue w x g None t = subst (λ (z : Option Value). TakesBodyValue w x g z t) on took in
       ap (λ (z : Visited). rest_of at f m z (seen u)) given.1
       ∙ sym (behind d n m v w o x g s u is ran ∙ ap (λ (p : Does LateWrite Value). p (seen u)) (valid_goes g (rest_of at f m (visited w x g)) given.0))
 
   -- it would go on, and no body more may be evaluated
   pub last_visit : (d : Done LateWrite Value) (n : ℕ) (v w t : Visited) (o e : Option Value) (x g : Value) (s : State LateWrite) (u : RunState) → IsAt d n 0 v w o x s → Runs (f x s) (Ok g) u →
-      Takes w x g e t → e ≡ None → d ≡ (Err (Ends OutOfFuel), seen u)
+      TakesBodyValue w x g e t → e ≡ None → d ≡ (Err (Ends OutOfFuel), seen u)
   last_visit d n v w t o e x g s u is ran took on = sym (visit_goes_on d n 0 v w t o e x g s u is ran took on)
 
   -- no item is left that was not visited
   pub all_visited : (d : Done LateWrite Value) (n m : ℕ) (v w : Visited) (o : Option Value) (r : Result Value Halt) (u : RunState) → rest_of at f n v (seen u) ≡ d → n ≡ suc m →
-      IsNext v o w → o ≡ None → Gives (built at (reached_kind w.kind) w.done) r → Runs d r u
+      IsNextItem v o w → o ≡ None → GivesVisited (built at (reached_kind w.kind) w.done) r → Runs d r u
   all_visited d n m v w o (Ok a) u same more next none gives =
       sym same ∙ ap (λ k. rest_of at f k v (seen u)) more
-      ∙ ap (λ (p : Does LateWrite Value). p (seen u)) (at_end at f m v w (subst (λ (z : Option Value). IsNext v z w) none next))
+      ∙ ap (λ (p : Does LateWrite Value). p (seen u)) (at_end at f m v w (subst (λ (z : Option Value). IsNextItem v z w) none next))
       ∙ ap (λ (z : Value). (Ok z, seen u)) (sym gives)
   all_visited d n m v w o (Err NoMemory) u same more next none gives = tt
   all_visited d n m v w o (Err (Exits q)) u same more next none gives = absurd gives

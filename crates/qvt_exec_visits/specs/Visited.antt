@@ -36,21 +36,21 @@ before_rest None xs = []
 before_rest (Some x) xs = x ∷ xs
 
 -- the next item that was not visited is taken off, with those before it; or there is none
-pub record IsNext (v : Visited) (o : Option Value) (w : Visited) : Type 0 where
+pub record IsNextItem (v : Visited) (o : Option Value) (w : Visited) : Type 0 where
   pub kind : w.kind ≡ v.kind
   pub done : w.done ≡ v.done
   pub left : unvisited v.done v.left ≡ before_rest o w.left
 
 -- what becomes of an item with the value of the body for it: a value that is invalid ends the closure, and else the item is visited
-abbrev pub Takes : Visited → Value → Value → Option Value → Visited → Type 0
-Takes v x w None t = (is_invalid w ≡ false) × (t ≡ visited v x w)
-Takes v x w (Some u) t = (is_invalid w ≡ true) × (u ≡ w)
+abbrev pub TakesBodyValue : Visited → Value → Value → Option Value → Visited → Type 0
+TakesBodyValue v x w None t = (is_invalid w ≡ false) × (t ≡ visited v x w)
+TakesBodyValue v x w (Some u) t = (is_invalid w ≡ true) × (u ≡ w)
 
 -- the call gives this, or there was no memory
-abbrev pub Gives : {A : Type 0} → A → Result A Halt → Type 0
-Gives a (Ok b) = b ≡ a
-Gives a (Err NoMemory) = Unit {0}
-Gives a (Err (Exits e)) = ⊥
+abbrev pub GivesVisited : {A : Type 0} → A → Result A Halt → Type 0
+GivesVisited a (Ok b) = b ≡ a
+GivesVisited a (Err NoMemory) = Unit {0}
+GivesVisited a (Err (Exits e)) = ⊥
 
 -- what a closure that has come so far does from there on, where at most so many bodies are evaluated
 abbrev pub rest_of : {E : Type 0} → Place → (Value → Does E Value) → ℕ → Visited → Does E Value

@@ -4,7 +4,7 @@
 ghost use Rattle.std.specs.Prelude.{◌≡◌, [], IfOk};
 ghost use Rattle.qvt_value.specs.Limits.{built};
 ghost use Rattle.qvt_run_rules.specs.Sources.{reached_kind};
-ghost use Rattle.qvt_exec_visits.specs.Visited.{begun, Gives, IsNext, Takes};
+ghost use Rattle.qvt_exec_visits.specs.Visited.{begun, GivesVisited, IsNextItem, TakesBodyValue};
 
 use crate::reached::Reached;
 use crate::waiting::Waiting;
@@ -64,7 +64,7 @@ impl Visits {
 
     /// Takes off the next item that was not visited. None where no such item is left. It takes no memory.
     pub fn next(&mut self) -> Option<Value>
-        ensures { IsNext self.old result self.new }
+        ensures { IsNextItem self.old result self.new }
     {
         next_of(&self.reached, &mut self.waiting)
     }
@@ -72,7 +72,7 @@ impl Visits {
     /// Visits an item, with the value of the body for it: the objects of that come before the items that
     /// were waiting. None where the closure goes on. A body that is invalid ends it, and is given back.
     pub fn take(&mut self, item: Value, given: Value) -> Result<Option<Value>, ListFault>
-        ensures { IfOk result (λ ended. Takes self.old item given ended self.new) }
+        ensures { IfOk result (λ ended. TakesBodyValue self.old item given ended self.new) }
     {
         if is_invalid(&given) {
             return Ok(Some(given));
@@ -84,7 +84,7 @@ impl Visits {
 
     /// The collection of the items that were visited.
     pub fn finish(self, alloc: Global, place: Place) -> Result<Value, Halt>
-        ensures { Gives (built place (reached_kind self.kind) self.done) result }
+        ensures { GivesVisited (built place (reached_kind self.kind) self.done) result }
     {
         let Visits {
             kind,

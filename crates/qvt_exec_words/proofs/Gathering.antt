@@ -17,7 +17,7 @@ use Rattle.qvt_ocl_words.specs.Collections.{is_once}
 use Rattle.qvt_run_rules.specs.Expressions.{collection}
 use Rattle.qvt_run_rules.specs.Logic.{value_or}
 use Rattle.qvt_exec_words.specs.declared.literals.Gathered.{Gathered}
-use Rattle.qvt_exec_words.specs.Gathered.{kept_of, IsKept, AreGathered, AreHeld, HasMore}
+use Rattle.qvt_exec_words.specs.Gathered.{kept_of, IsKeptOf, AreGathered, AreAllHeld, HasMore}
 use Rattle.qvt_exec_words.proofs.KeptOf.{kept_onto, kept_longer, kept_of_firsts, kept_of_list, kept_of_set, find_firsts, same_collection, large_collection}
 
 pub none_yet : (k : Kind) → AreGathered k [] (record { kind = k; items = []; is_full = false })
@@ -39,20 +39,20 @@ found_first xs zs h =
 abbrev with_items : Gathered → List Value → Gathered
 with_items g xs = record g { items = xs }
 
-kept_few : (b : Bool) (k : Kind) (xs all : List Value) → b ≡ false → IsKept b k xs all → kept_of k xs ≡ kept_of k all
+kept_few : (b : Bool) (k : Kind) (xs all : List Value) → b ≡ false → IsKeptOf b k xs all → kept_of k xs ≡ kept_of k all
 kept_few true k xs all e h = cc
 kept_few false k xs all e h = h.0
 
-kept_many : (b : Bool) (k : Kind) (xs all : List Value) → b ≡ true → IsKept b k xs all → most < length (kept_of k all)
+kept_many : (b : Bool) (k : Kind) (xs all : List Value) → b ≡ true → IsKeptOf b k xs all → most < length (kept_of k all)
 kept_many true k xs all e h = h
 kept_many false k xs all e h = cc
 
-is_many : (b : Bool) (k : Kind) (xs all : List Value) → b ≡ true → most < length (kept_of k all) → IsKept b k xs all
+is_many : (b : Bool) (k : Kind) (xs all : List Value) → b ≡ true → most < length (kept_of k all) → IsKeptOf b k xs all
 is_many true k xs all e h = h
 is_many false k xs all e h = cc
 
 -- one more, where there is room
-pub put : (g : Gathered) (k : Kind) (all : List Value) (v : Value) → AreGathered k all g → g.is_full ≡ false → AreHeld k (all ++ v ∷ []) (with_items g (g.items ++ v ∷ []))
+pub put : (g : Gathered) (k : Kind) (all : List Value) (v : Value) → AreGathered k all g → g.is_full ≡ false → AreAllHeld k (all ++ v ∷ []) (with_items g (g.items ++ v ∷ []))
 put g k all v a e = record {
   same_kind = a.same_kind;
   not_full = e;
@@ -84,18 +84,18 @@ put_behind g k all v a e = record {
 abbrev seen_full : Gathered → Gathered
 seen_full g = record g { is_full = nat_lt most (length g.items) }
 
-counted : (b : Bool) (k : Kind) (xs all : List Value) → nat_lt most (length xs) ≡ b → kept_of k xs ≡ kept_of k all → kept_of k xs ≡ xs → IsKept b k xs all
+counted : (b : Bool) (k : Kind) (xs all : List Value) → nat_lt most (length xs) ≡ b → kept_of k xs ≡ kept_of k all → kept_of k xs ≡ xs → IsKeptOf b k xs all
 counted true k xs all t h e = let many : most < length xs = ltb-true most (length xs) t in omega (arith, many, ap length h, ap length e)
 counted false k xs all t h e = let few : length xs ≤ most = ltb-false most (length xs) t in (h, omega (arith, few))
 
-pub seen_list : (g : Gathered) (k : Kind) (all : List Value) → is_once g.kind ≡ false → AreHeld k all g → AreGathered k all (seen_full g)
+pub seen_list : (g : Gathered) (k : Kind) (all : List Value) → is_once g.kind ≡ false → AreAllHeld k all g → AreGathered k all (seen_full g)
 seen_list g k all o a = record {
   same_kind = a.same_kind;
   invalid = a.invalid;
   kept = counted (nat_lt most (length g.items)) k g.items all refl a.kept (kept_of_list k g.items (ap is_once (sym a.same_kind) ∙ o));
 }
 
-pub seen_firsts : (g : Gathered) (k : Kind) (all : List Value) → is_once g.kind ≡ true → AreHeld k all g → AreGathered k all (seen_full (with_items g (firsts order_of g.items)))
+pub seen_firsts : (g : Gathered) (k : Kind) (all : List Value) → is_once g.kind ≡ true → AreAllHeld k all g → AreGathered k all (seen_full (with_items g (firsts order_of g.items)))
 seen_firsts g k all o a =
     let once : is_once k ≡ true = ap is_once (sym a.same_kind) ∙ o in
     record {
@@ -106,11 +106,11 @@ seen_firsts g k all o a =
           (kept_of_firsts k g.items once ∙ a.kept) (kept_of_firsts k g.items once ∙ kept_of_set k g.items once);
     }
 
-pub few_held : (g : Gathered) (k : Kind) (all : List Value) → length g.items ≤ 2 * most → AreHeld k all g → AreGathered k all g
+pub few_held : (g : Gathered) (k : Kind) (all : List Value) → length g.items ≤ 2 * most → AreAllHeld k all g → AreGathered k all g
 few_held g k all l a = record {
   same_kind = a.same_kind;
   invalid = a.invalid;
-  kept = subst (λ b. IsKept b k g.items all) (sym a.not_full) (a.kept, l);
+  kept = subst (λ b. IsKeptOf b k g.items all) (sym a.not_full) (a.kept, l);
 }
 
 -- ---- the collection
@@ -127,15 +127,15 @@ too_many at g k all a e =
 
 -- ---- at the returns
 
-pub settled_firsts : (g h : Gathered) (n : ℕ) (k : Kind) (all : List Value) → is_once g.kind ≡ true → h ≡ with_items g (firsts order_of g.items) → n ≡ length h.items → AreHeld k all g
+pub settled_firsts : (g h : Gathered) (n : ℕ) (k : Kind) (all : List Value) → is_once g.kind ≡ true → h ≡ with_items g (firsts order_of g.items) → n ≡ length h.items → AreAllHeld k all g
     → AreGathered k all (record { kind = h.kind; items = h.items; is_full = nat_lt most n })
 settled_firsts g h n k all o e l a =
     let m : nat_lt most (length (firsts order_of g.items)) ≡ nat_lt most n = ap (nat_lt most) (ap (λ (f : Gathered). length f.items) (sym e) ∙ sym l) in
     subst (λ (f : Gathered). AreGathered k all f) (λ i. record { kind = (sym e i).kind; items = (sym e i).items; is_full = m i }) (seen_firsts g k all o a)
 
-pub pushed : {A E : Type 0} (r : Result A E) (g p h : Gathered) (v : Value) → g.is_full ≡ false → p ≡ with_items g (g.items ++ v ∷ []) → OnOk r ((k : Kind) (all : List Value) → AreHeld k all p → AreGathered k all h)
+pub pushed : {A E : Type 0} (r : Result A E) (g p h : Gathered) (v : Value) → g.is_full ≡ false → p ≡ with_items g (g.items ++ v ∷ []) → OnOk r ((k : Kind) (all : List Value) → AreAllHeld k all p → AreGathered k all h)
     → OnOk r (HasMore (v ∷ []) g h)
-pushed (Ok x) g p h v e q s = λ k all a. s k (all ++ v ∷ []) (subst (λ (f : Gathered). AreHeld k (all ++ v ∷ []) f) (sym q) (put g k all v a e))
+pushed (Ok x) g p h v e q s = λ k all a. s k (all ++ v ∷ []) (subst (λ (f : Gathered). AreAllHeld k (all ++ v ∷ []) f) (sym q) (put g k all v a e))
 pushed (Err x) g p h v e q s = tt
 
 pub pushed_behind : {A E : Type 0} (r : Result A E) (g h : Gathered) (v : Value) → g.is_full ≡ true → OnOk r (h ≡ with_items g (g.items ++ v ∷ [])) → OnOk r (HasMore (v ∷ []) g h)

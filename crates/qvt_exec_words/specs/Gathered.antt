@@ -26,18 +26,18 @@ kept_of Bag xs = xs
 kept_of Sequence xs = xs
 
 -- more of the list is kept than a collection may hold; or what is kept of the list is kept of these items, which are not many more
-abbrev pub IsKept : Bool → Kind → List Value → List Value → Type 0
-IsKept true k items all = most < length (kept_of k all)
-IsKept false k items all = (kept_of k items ≡ kept_of k all) × (length items ≤ 2 * most)
+abbrev pub IsKeptOf : Bool → Kind → List Value → List Value → Type 0
+IsKeptOf true k items all = most < length (kept_of k all)
+IsKeptOf false k items all = (kept_of k items ≡ kept_of k all) × (length items ≤ 2 * most)
 
 -- The items of a literal of the kind that were gathered are these: the first invalid one is among those that are held
 pub record AreGathered (kind : Kind) (all : List Value) (g : Gathered) : Type 0 where
   pub same_kind : g.kind ≡ kind
   pub invalid : find is_invalid g.items ≡ find is_invalid all
-  pub kept : IsKept g.is_full kind g.items all
+  pub kept : IsKeptOf g.is_full kind g.items all
 
 -- the same before it is seen how many are held
-pub record AreHeld (kind : Kind) (all : List Value) (g : Gathered) : Type 0 where
+pub record AreAllHeld (kind : Kind) (all : List Value) (g : Gathered) : Type 0 where
   pub same_kind : g.kind ≡ kind
   pub not_full : g.is_full ≡ false
   pub invalid : find is_invalid g.items ≡ find is_invalid all

@@ -3,7 +3,7 @@
 ghost use Rattle.std.specs.Prelude.{◌≡◌, ◌∷◌, ◌++◌, [], List, IfOk, OnOk, MatchOption, true, false};
 ghost use Rattle.std.specs.List.{find};
 ghost use Rattle.std.specs.Option.{option_map};
-ghost use Rattle.qvt_exec_words.specs.Gathered.{items_between, AreGathered, AreHeld, HasMore};
+ghost use Rattle.qvt_exec_words.specs.Gathered.{items_between, AreGathered, AreAllHeld, HasMore};
 ghost use Rattle.qvt_value.specs.declared.value.Value.{Null, Int};
 ghost use Rattle.qvt_run_rules.specs.Expressions.{integers_to, range_of, collection};
 ghost use Rattle.qvt_value.specs.Kept.{firsts};
@@ -154,7 +154,7 @@ impl Gathered {
 
     /// Sees to it that few are held.
     fn settle(&mut self, alloc: Global) -> Result<(), ListFault>
-        ensures { OnOk result ((kind : Kind) (all : List Value) → AreHeld kind all self.old → AreGathered kind all self.new) }
+        ensures { OnOk result ((kind : Kind) (all : List Value) → AreAllHeld kind all self.old → AreGathered kind all self.new) }
     {
         if !is_once(self.kind) {
             self.is_full = self.items.len() > MOST;

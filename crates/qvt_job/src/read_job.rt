@@ -5,7 +5,7 @@ ghost use Rattle.std.specs.Str.{bytes_eq};
 ghost use Rattle.serde_json.specs.View.{view, items_view};
 ghost use Rattle.qvt_json.specs.Json.{map_items};
 ghost use Rattle.qvt_json.specs.Repeated.{repeated};
-ghost use Rattle.qvt_json.specs.Steps.{Gives};
+ghost use Rattle.qvt_json.specs.Steps.{GivesStated};
 ghost use Rattle.qvt_job.specs.Job.{job_model_in, job_models_at, job_in, file_count, same_file, job_of};
 
 use crate::job::{Job, JobFault, JobModel, JobModelList};
@@ -127,7 +127,7 @@ fn same_file(job: &Job) -> Option<&Text>
 /// too many files, or two files to be written are the same.
 #[tactic(auto, unfolding(crate::specs::Job::job_of))]
 pub fn read_job(alloc: Global, bytes: &[u8]) -> Result<Job, JobFault>
-    ensures { Gives JobFault.NoMemory (λ job. job) result (job_of bytes.now) }
+    ensures { GivesStated JobFault.NoMemory (λ job. job) result (job_of bytes.now) }
 {
     let Some(value) = read_value(alloc, bytes)? else {
         return Err(JobFault::Json);

@@ -30,28 +30,28 @@ abbrev pub list_of : Form → Form
 list_of f d = list_fault f (as_array d)
 
 -- a key of an object, whether it is required, and the form of its value
-pub record Key : Type 0 where
+pub record KeyForm : Type 0 where
   pub name : List ℕ
   pub required : Bool
   pub form : Form
 
-abbrev pub required : List ℕ → Form → Key
+abbrev pub required : List ℕ → Form → KeyForm
 required name f = record { name = name; required = true; form = f }
 
-abbrev pub optional : List ℕ → Form → Key
+abbrev pub optional : List ℕ → Form → KeyForm
 optional name f = record { name = name; required = false; form = f }
 
 abbrev pub key_fault : List ℕ → Bool → Form → Option Data → Option (List ℕ)
 key_fault name is_required f None = if is_required then under name (Some []) else None
 key_fault name is_required f (Some d) = under name (f d)
 
-abbrev pub keys_fault : List Key → Data → Option (List ℕ)
+abbrev pub keys_fault : List KeyForm → Data → Option (List ℕ)
 keys_fault [] d = None
 keys_fault (k ∷ ks) d = or_next (key_fault k.name k.required k.form (get k.name d)) (keys_fault ks d)
 
 -- an object with no keys but these, which stand in byte order: its own path where it is no object or has another key,
 -- then the first key that is missing or whose value is at fault
-abbrev pub object_of : List Key → Form
+abbrev pub object_of : List KeyForm → Form
 object_of keys d = if has_only (map (λ k. k.name) keys) d then keys_fault keys d else Some []
 
 -- the path from the root, which itself is `/`

@@ -51,6 +51,6 @@ all_items f no_items = Some []
 all_items f (item d ds) = option_and_then (λ y. option_map (λ ys. y ∷ ys) (all_items f ds)) (f d)
 
 -- what was read is what is stated, but for one fault that is free: want of memory
-abbrev pub Gives : {X Y F : Type 0} → F → (X → Y) → Result X F → Result Y F → Type 0
-Gives free seen (Ok x) stated = stated ≡ Ok (seen x)
-Gives free seen (Err e) stated = e ≢ free → stated ≡ Err e
+abbrev pub GivesStated : {X Y F : Type 0} → F → (X → Y) → Result X F → Result Y F → Type 0
+GivesStated free seen (Ok x) stated = stated ≡ Ok (seen x)
+GivesStated free seen (Err e) stated = e ≢ free → stated ≡ Err e

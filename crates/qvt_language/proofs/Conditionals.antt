@@ -13,7 +13,7 @@ use Rattle.qvt_language.specs.Series.{finished}
 use Rattle.qvt_language.specs.Leads.{Lead, Plain, Bracketed, Each, EachPart}
 use Rattle.qvt_language.specs.Trees.{inner, expr_of, post_lead, prefix_lead, chain_of}
 use Rattle.qvt_language.specs.StmtTrees.{Branches, Choice, branched, each_over, choice_expr, if_made}
-use Rattle.qvt_language.specs.Grammar.{Nested, level_of, links, chain, brackets, other_primary, primary, step, post, signed_post, pre, flagged, expr, if_expr, lead_step}
+use Rattle.qvt_language.specs.Grammar.{NestedLanguages, level_of, links, chain, brackets, other_primary, primary, step, post, signed_post, pre, flagged, expr, if_expr, lead_step}
 use Rattle.qvt_language.specs.Statements.{condition, branches, choice, if_rest, if_stmt}
 use Rattle.qvt_language.specs.Conditionals.{block_form, each_form, if_forms}
 use Rattle.qvt_language.specs.Nesting.{nested}
@@ -54,7 +54,7 @@ alone (place, ((d, true), [])) e h = absurd cc
 alone (place, ((d, false), [])) e h = (let k : d ≡ e = cc in λ i. (k i, false), refl)
 alone (place, (x, (s ∷ ss))) e h = absurd cc
 
-module _ (i : Nested) where
+module _ (i : NestedLanguages) where
   of_primary : (ts : List Tok) (x : ExprTerm × Bool) (e : ExprTerm) → x ≡ (e, false) → (primary i).reads ts x → (brackets i).reads ts e
   unfolding primary other_primary
   of_primary ts x e h (inl (a, rd, d)) = absurd (let k : true ≡ false = ap (λ z. z.1) (sym d ∙ h) in cc)

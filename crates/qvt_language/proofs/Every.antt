@@ -12,7 +12,7 @@ use Rattle.qvt_language.specs.Readers.{Reader, the, the_at, placed, placed_at}
 use Rattle.qvt_language.specs.Series.{series, finished, finished_at, barring, barring_at}
 use Rattle.qvt_language.specs.Firsts.{expr_first, expr_next}
 use Rattle.qvt_language.specs.Leads.{Lead}
-use Rattle.qvt_language.specs.Grammar.{Nested}
+use Rattle.qvt_language.specs.Grammar.{NestedLanguages}
 use Rattle.qvt_language.specs.Reading.{NestedAt}
 use Rattle.qvt_language.specs.Units.{strictness}
 use Rattle.qvt_language.specs.ReadingUnits.{strictness_at}
@@ -134,7 +134,7 @@ pub record Forms (K KB : Keeping) (KV : Valuing) : Type 1 where
       → KV (A ⊎ B) (by b true f1 (turn_next c1 c2)) l l2 f → K B t m m2 g → ((ts : List Tok) (b : B) → m2.reads ts b → l2.reads ts (inr b)) → K (List A × B) (by b true p c2) (finished l) (finished l2) (finished_at (of p) f)
 
 -- what is kept of what stands nested inside
-pub record Inside {K KB : Keeping} {KV : Valuing} (F : Forms K KB KV) (i j : Nested) (r : NestedAt) : Type 0 where
+pub record Inside {K KB : Keeping} {KV : Valuing} (F : Forms K KB KV) (i j : NestedLanguages) (r : NestedAt) : Type 0 where
   pub flagged : K Lead (later expr_first expr_next) i.flagged j.flagged r.flagged
   pub block : K (List StmtTerm) (later (5 ∷ []) []) i.block j.block r.block
   pub kind : K TypeTerm (later (0 ∷ 30 ∷ 66 ∷ 77 ∷ 78 ∷ []) (10 ∷ [])) i.kind j.kind r.kind

@@ -14,8 +14,8 @@ use Rattle.qvt_language.specs.Firsts.{expr_first, expr_next, post_next, primary_
 use Rattle.qvt_language.specs.Levels.{next_at}
 use Rattle.qvt_language.specs.Leads.{Lead, Plain, Bracketed, Each, EachPart}
 use Rattle.qvt_language.specs.Trees.{nothing, each_lead, prefix_lead, chain_of}
-use Rattle.qvt_language.specs.StmtTrees.{Turn, Tail, empty_turn, closed_turn, simple_turn, no_tail, plain_tail, lead_turn, ended_of, block_of}
-use Rattle.qvt_language.specs.Grammar.{Nested, signed_post, lead_step, lead_post, lead_pre, lead, level_of, links, chain}
+use Rattle.qvt_language.specs.StmtTrees.{TurnTree, Tail, empty_turn, closed_turn, simple_turn, no_tail, plain_tail, lead_turn, ended_of, block_of}
+use Rattle.qvt_language.specs.Grammar.{NestedLanguages, signed_post, lead_step, lead_post, lead_pre, lead, level_of, links, chain}
 use Rattle.qvt_language.specs.Reading.{NestedAt, signed_post_at, lead_post_at, lead_pre_at, lead_at, operators, links_at, chain_at}
 use Rattle.qvt_language.specs.Statements.{semicolon, lead_tail, lead_stmt, statement, statements, block}
 use Rattle.qvt_language.specs.ReadingStatements.{semicolon_at, lead_tail_at, lead_stmt_at, statement_at, statements_at, block_at}
@@ -52,16 +52,16 @@ over_steps p (steps, (Some part)) = λ t h. h
 signed_sides : (x : Place × ((Sign × List Sign) × Lead)) → Within (of post_next) (of (lead_next zero (prefix_lead x)))
 signed_sides (place, ((s, more), x)) t h = h
 
-no_last : (i : Nested) (part : EachPart) → (lead_step i).reads [] (inr part) → ⊥
+no_last : (i : NestedLanguages) (part : EachPart) → (lead_step i).reads [] (inr part) → ⊥
 unfolding lead_step
 no_last i part (inl rd) = let k = rd.2 in cc
 no_last i part (inr (x, (u, v, e, a, rd), q)) = let k : [] ≡ x.0 ∷ v = e ∙ ap (λ z. z ++ v) a.0 in cc
 
-no_steps : (i : Nested) (p : ExprTerm × Bool) (b : List StepTerm × Option EachPart) → (series (lead_step i)).reads [] b → Within (of (code_of OpenRound ∷ 10 ∷ [])) (of (steps_next (p, b)))
+no_steps : (i : NestedLanguages) (p : ExprTerm × Bool) (b : List StepTerm × Option EachPart) → (series (lead_step i)).reads [] b → Within (of (code_of OpenRound ∷ 10 ∷ [])) (of (steps_next (p, b)))
 no_steps i p (steps, None) rd = within (code_of OpenRound ∷ 10 ∷ []) post_next refl
 no_steps i p (steps, (Some part)) rd = absurd (no_last i part (subst (λ z. (lead_step i).reads z (inr part)) (nil_right rd.0 rd.1 rd.2) rd.4))
 
-module _ {K KB : Keeping} {KV : Valuing} {F : Forms K KB KV} {i j : Nested} {r : NestedAt} (h : Inside F i j r) where
+module _ {K KB : Keeping} {KV : Valuing} {F : Forms K KB KV} {i j : NestedLanguages} {r : NestedAt} (h : Inside F i j r) where
   pub v_lead_post : KV _ (solid primary_first (lead_next zero)) (lead_post i) (lead_post j) (lead_post_at r)
   unfolding lead_post lead_post_at
   v_lead_post = F.value_gives each_lead (lead_next zero) post_sides (F.value_at (F.value_depending steps_next (F.valued (F.wider {t = solid primary_first (code_of OpenRound ∷ 10 ∷ [])} (fits refl) (k_other_primary h)))
@@ -114,7 +114,7 @@ module _ {K KB : Keeping} {KV : Valuing} (F : Forms K KB KV) where
       F.value_gives (chain_of (level_of k)) (lead_next (suc k)) (chain_sides k) (F.value_at (F.value_depending (pair_next k) (v_chain k lower first hp hq) (v_links k (o k (omega arith)) (k_chain F k lower expr_first hq hq)) (apart_links k)
       (λ x ls rd. over_links k x) (λ x ls t q. q)))
 
-pub v_lead : {K KB : Keeping} {KV : Valuing} {F : Forms K KB KV} {i j : Nested} {r : NestedAt} → Inside F i j r → KV _ (solid lead_first (lead_next 8)) (lead i) (lead j) (lead_at r)
+pub v_lead : {K KB : Keeping} {KV : Valuing} {F : Forms K KB KV} {i j : NestedLanguages} {r : NestedAt} → Inside F i j r → KV _ (solid lead_first (lead_next 8)) (lead i) (lead j) (lead_at r)
 unfolding lead lead_at
 v_lead {F = F} h = v_chain F 8 (k_operator F) lead_first (v_lead_pre h) (F.wider {t = solid expr_first post_next} (fits refl) (k_pre h))
 
@@ -166,7 +166,7 @@ assigned_sides a (Some t) = λ x h. h
 abbrev tail_first : List ℕ
 tail_first = code_of Becomes ∷ code_of PlusEqual ∷ code_of Semicolon ∷ []
 
-v_tail : {K KB : Keeping} {KV : Valuing} {F : Forms K KB KV} {i j : Nested} {r : NestedAt} → Inside F i j r → (x : Lead) → KV _ (loose tail_first (lead_tail_next x)) (lead_tail i x) (lead_tail j x) (lead_tail_at r x)
+v_tail : {K KB : Keeping} {KV : Valuing} {F : Forms K KB KV} {i j : NestedLanguages} {r : NestedAt} → Inside F i j r → (x : Lead) → KV _ (loose tail_first (lead_tail_next x)) (lead_tail i x) (lead_tail j x) (lead_tail_at r x)
 v_tail {F = F} h (Plain e None) = F.value_wider tail_first refl (F.value_gives plain_tail tail_next plain_sides (v_semicolon F))
 v_tail {F = F} h (Bracketed e) = F.value_wider tail_first refl (F.value_gives plain_tail tail_next plain_sides (v_semicolon F))
 v_tail {F = F} h (Plain e (Some target)) = F.value_wider tail_first refl (F.value_both tail_next
@@ -177,7 +177,7 @@ v_tail {F = F} h (Each e part) = F.value_wider tail_first refl (F.value_gives no
 abbrev last_next : List ℕ
 last_next = code_of Becomes ∷ code_of PlusEqual ∷ code_of Semicolon ∷ code_of Colon ∷ (expr_next ++ expr_first)
 
-abbrev stmt_next : Turn → List ℕ
+abbrev stmt_next : TurnTree → List ℕ
 stmt_next = turn_next item_next last_next
 
 abbrev lead_next_of : Lead × Tail → List ℕ
@@ -190,7 +190,7 @@ turn_sides (place, ((Bracketed e), (a, None))) = within tail_more last_next refl
 turn_sides (place, ((Bracketed e), (a, (Some t)))) = λ x h. absurd cc
 turn_sides (place, ((Each e part), tail)) = λ x h. absurd cc
 
-lead_over : (i : Nested) (x : Lead) (tail : Tail) → (lead_tail i x).reads [] tail → Within (of (lead_next 8 x)) (of (lead_tail_next x tail))
+lead_over : (i : NestedLanguages) (x : Lead) (tail : Tail) → (lead_tail i x).reads [] tail → Within (of (lead_next 8 x)) (of (lead_tail_next x tail))
 lead_over i (Plain e None) (a, None) rd = within (next_at 8) tail_more refl
 lead_over i (Plain e (Some target)) (a, None) rd = within (next_at 8) tail_more refl
 lead_over i (Bracketed e) (a, None) rd = within (next_at 8) tail_more refl
@@ -204,7 +204,7 @@ lead_apart (Plain e target) = refl
 lead_apart (Bracketed e) = refl
 lead_apart (Each e part) = refl
 
-pub v_lead_stmt : {K KB : Keeping} {KV : Valuing} {F : Forms K KB KV} {i j : Nested} {r : NestedAt} → Inside F i j r → KV _ (solid lead_first stmt_next) (lead_stmt i) (lead_stmt j) (lead_stmt_at r)
+pub v_lead_stmt : {K KB : Keeping} {KV : Valuing} {F : Forms K KB KV} {i j : NestedLanguages} {r : NestedAt} → Inside F i j r → KV _ (solid lead_first stmt_next) (lead_stmt i) (lead_stmt j) (lead_stmt_at r)
 unfolding lead_stmt lead_stmt_at
 v_lead_stmt {F = F} {i = i} h = F.value_gives lead_turn stmt_next turn_sides (F.value_at (F.value_depending lead_next_of (v_lead h) (v_tail h) lead_apart (lead_over i) (λ _ _ t q. q)))
 
@@ -234,7 +234,7 @@ closed_sides s t h = h
 empty_sides : (x : Tok) → Within (of []) (of (stmt_next (empty_turn x)))
 empty_sides x t h = absurd cc
 
-pub v_statement : {K KB : Keeping} {KV : Valuing} {F : Forms K KB KV} {i j : Nested} {r : NestedAt} → Inside F i j r → KV _ (solid stmt_first stmt_next) (statement i) (statement j) (statement_at r)
+pub v_statement : {K KB : Keeping} {KV : Valuing} {F : Forms K KB KV} {i j : NestedLanguages} {r : NestedAt} → Inside F i j r → KV _ (solid stmt_first stmt_next) (statement i) (statement j) (statement_at r)
 unfolding statement statement_at
 v_statement {F = F} h = F.value_wider stmt_first refl (F.value_one_of semi (F.value_gives empty_turn stmt_next empty_sides (F.valued (F.token Semicolon)))
     (F.value_one_of (code_of IfWord ∷ []) (F.value_gives closed_turn stmt_next closed_sides (F.valued (k_if_stmt h)))
@@ -251,10 +251,10 @@ ended_all : {A B : Type 0} (x y : List ℕ) (all : List A × Option B) → Withi
 ended_all x y (got, None) = within_left x y
 ended_all x y (got, (Some b)) = within_right x y
 
-pub k_statements : {K KB : Keeping} {KV : Valuing} {F : Forms K KB KV} {i j : Nested} {r : NestedAt} → Inside F i j r → K _ (loose stmt_first stmts_next) (statements i) (statements j) (statements_at r)
+pub k_statements : {K KB : Keeping} {KV : Valuing} {F : Forms K KB KV} {i j : NestedLanguages} {r : NestedAt} → Inside F i j r → K _ (loose stmt_first stmts_next) (statements i) (statements j) (statements_at r)
 unfolding statements statements_at
 k_statements {F = F} h = F.gives ended_of (F.wider {t = loose stmt_first stmts_next} (fits refl) (F.alike ((stmt_first ++ item_next) ++ last_next) (ended_all (stmt_first ++ item_next) last_next) (F.turns_of stmt_first item_next last_next refl refl (v_statement h))))
 
-pub k_block : {K KB : Keeping} {KV : Valuing} {F : Forms K KB KV} {i j : Nested} {r : NestedAt} → Inside F i j r → K _ (solid (code_of OpenBrace ∷ []) []) (block i) (block j) (block_at r)
+pub k_block : {K KB : Keeping} {KV : Valuing} {F : Forms K KB KV} {i j : NestedLanguages} {r : NestedAt} → Inside F i j r → K _ (solid (code_of OpenBrace ∷ []) []) (block i) (block j) (block_at r)
 unfolding block block_at
 k_block {F = F} h = F.gives block_of (F.both (F.token OpenBrace) (F.wider {t = solid (code_of CloseBrace ∷ stmt_first) []} (fits refl) (F.both (k_statements h) (F.token CloseBrace) refl)) refl)

@@ -4,7 +4,7 @@ use Rattle.std.proofs.Common.{inl, inr, refl}
 use Rattle.qvt_tree_types.specs.Tree.{PathType, MapExpr, ResolveExpr, DotMapStep, DotResolveStep, ArrowMapStep, ArrowResolveStep, BareTarget}
 use Rattle.qvt_language.specs.Tokens.{code_of}
 use Rattle.qvt_language.specs.Firsts.{kind_first, map_first, all_first, resolve_first, literal_first, word_first, primary_first, expr_first, expr_next, head_first, step_first, sign_first}
-use Rattle.qvt_language.specs.Grammar.{Nested, name, more_names, path, paths, unit_path, extent, kind_word, coll_type, typed, colon_type, expr, exprs, args, literal, word, named_expr, item, coll, if_expr, colon_path, object_head, object, new_expr, map_call, filter_head, bar_expr, filter, all_word, in_word, all_form, in_form, resolve, brackets, longer, bare_expr, other_primary, primary, dot_rest, dot_step, accumulator, head_rest, more_exprs, arrow_body, arrow_args, arrow_rest, step, post, sign, more_signs, signs, signed_post, pre, each_tail, after_first}
+use Rattle.qvt_language.specs.Grammar.{NestedLanguages, name, more_names, path, paths, unit_path, extent, kind_word, coll_type, typed, colon_type, expr, exprs, args, literal, word, named_expr, item, coll, if_expr, colon_path, object_head, object, new_expr, map_call, filter_head, bar_expr, filter, all_word, in_word, all_form, in_form, resolve, brackets, longer, bare_expr, other_primary, primary, dot_rest, dot_step, accumulator, head_rest, more_exprs, arrow_body, arrow_args, arrow_rest, step, post, sign, more_signs, signs, signed_post, pre, each_tail, after_first}
 use Rattle.qvt_language.specs.Reading.{NestedAt, name_at, more_names_at, path_at, paths_at, unit_path_at, extent_at, kind_word_at, coll_type_at, typed_at, colon_type_at, expr_at, exprs_at, args_at, literal_at, word_at, named_expr_at, item_at, coll_at, if_expr_at, colon_path_at, object_head_at, object_at, new_expr_at, map_call_at, filter_head_at, bar_expr_at, filter_at, all_word_at, in_word_at, all_form_at, in_form_at, resolve_at, brackets_at, longer_at, bare_expr_at, other_primary_at, primary_at, dot_rest_at, dot_step_at, accumulator_at, head_rest_at, more_exprs_at, arrow_body_at, arrow_args_at, arrow_rest_at, step_at, post_at, sign_at, more_signs_at, signs_at, signed_post_at, pre_at, each_tail_at, after_first_at}
 use Rattle.qvt_language.specs.Trees.{second, first, cons_of, nothing, inner, text_of, named_of, path_of, unit_path_of, coll_type_of, int_of, str_of, true_of, false_of, null_of, self_of, result_of, named_expr_of, coll_of, range_of, item_of, if_of, result_head, named_head, object_of, new_of, map_of, all_of, in_of, resolve_of, no_name, named_type, filter_of, bare, bracketed, dot_of, accumulator_of, expr_of, no_args, arrow_of, headed, with_first, post_lead, not_of, minus_of, prefix_lead, each_of}
 use Rattle.qvt_words.specs.declared.class.Class.TheVariants.{Name, Integer, Str, OpenRound, CloseRound, OpenBrace, CloseBrace, Comma, Semicolon, Colon, DoubleColon, Dot, DotDot, Bar, AtSign, EqualSign, BagWord, ElseWord, EndifWord, FalseWord, IfWord, InvResolveWord, InvResolveInWord, InvResolveOneWord, InvResolveOneInWord, LateWord, MapWord, NewWord, NullWord, ObjectWord, OrderedSetWord, ResolveAllWord, ResolveInWord, ResolveOneWord, ResolveOneInWord, ResultWord, SelfWord, SequenceWord, SetWord, ThenWord, TrueWord, XmapWord, Arrow, MinusSign, ForEachWord, NotWord}
@@ -68,7 +68,7 @@ module _ {K KB : Keeping} {KV : Valuing} (F : Forms K KB KV) where
   unfolding signs signs_at
   k_signs = F.wider (fits refl) (F.both k_sign k_more_signs refl)
 
-module _ {K KB : Keeping} {KV : Valuing} {F : Forms K KB KV} {i j : Nested} {r : NestedAt} (h : Inside F i j r) where
+module _ {K KB : Keeping} {KV : Valuing} {F : Forms K KB KV} {i j : NestedLanguages} {r : NestedAt} (h : Inside F i j r) where
   pub k_coll_type : K _ (solid (30 ∷ 66 ∷ 77 ∷ 78 ∷ []) []) (coll_type i) (coll_type j) (coll_type_at r)
   unfolding coll_type coll_type_at
   k_coll_type = F.wider (fits refl) (F.gives coll_type_of (F.both (k_kind_word F) (F.gives inner (F.both (F.token OpenRound) (F.both h.kind (F.token CloseRound) refl) refl)) refl))

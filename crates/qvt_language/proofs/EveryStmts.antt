@@ -4,7 +4,7 @@ use Rattle.std.proofs.Common.{refl, ap, ℕ, List, [], ◌∷◌, ◌⊎◌, inl
 use Rattle.qvt_language.specs.Tokens.{code_of, Tok, of}
 use Rattle.qvt_language.specs.Firsts.{expr_first, expr_next, resolve_first, step_first}
 use Rattle.qvt_language.specs.Trees.{second, inner}
-use Rattle.qvt_language.specs.Grammar.{Nested, lead_step}
+use Rattle.qvt_language.specs.Grammar.{NestedLanguages, lead_step}
 use Rattle.qvt_language.specs.Reading.{NestedAt, lead_step_at}
 use Rattle.qvt_language.specs.Statements.{condition, var_stmt, return_stmt, arm, else_part, while_stmt, assignment, branches, choice, if_rest, if_stmt}
 use Rattle.qvt_language.specs.ReadingStatements.{condition_at, var_stmt_at, return_stmt_at, arm_at, else_part_at, while_stmt_at, assignment_at, branches_at, choice_at, if_rest_at, if_stmt_at}
@@ -40,7 +40,7 @@ item_next = code_of ElifWord ∷ code_of ElseWord ∷ code_of EndifWord ∷ []
 abbrev body_first : List ℕ
 body_first = code_of OpenBrace ∷ code_of ThenWord ∷ []
 
-module _ {K KB : Keeping} {KV : Valuing} {F : Forms K KB KV} {i j : Nested} {r : NestedAt} (h : Inside F i j r) where
+module _ {K KB : Keeping} {KV : Valuing} {F : Forms K KB KV} {i j : NestedLanguages} {r : NestedAt} (h : Inside F i j r) where
   pub k_condition : K _ (solid (3 ∷ []) []) (condition i) (condition j) (condition_at r)
   unfolding condition condition_at
   k_condition = F.wider (fits refl) (F.gives inner (F.both (F.token OpenRound) (F.both (k_expr h) (F.token CloseRound) refl) refl))

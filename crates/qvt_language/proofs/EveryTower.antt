@@ -9,7 +9,7 @@ use Rattle.qvt_language.specs.Firsts.{expr_first, expr_next, post_next}
 use Rattle.qvt_language.specs.Levels.{next_at}
 use Rattle.qvt_language.specs.Leads.{Lead, Plain, Bracketed, Each}
 use Rattle.qvt_language.specs.Trees.{link_of, chain_of, nothing}
-use Rattle.qvt_language.specs.Grammar.{Nested, level_of, operator, link, links, chain, flagged}
+use Rattle.qvt_language.specs.Grammar.{NestedLanguages, level_of, operator, link, links, chain, flagged}
 use Rattle.qvt_language.specs.Reading.{NestedAt, operator_at, operators, link_at, links_at, chain_at, flagged_at}
 use Rattle.qvt_language.proofs.Sets.{all_in, none_in, within_both, within_right, none_in_nothing}
 use Rattle.qvt_language.proofs.Every.{solid, loose, fits, Keeping, Valuing, Forms, Inside}
@@ -74,6 +74,6 @@ module _ {K KB : Keeping} {KV : Valuing} (F : Forms K KB KV) where
       (record { early = λ e. e; full = λ e. e; first = λ t q. q; next = within_both (next_at k) (next_at (suc k)) (next_at (suc k)) (within_right (operators k) (next_at k)) (λ t q. q) })
       (F.depending (k_chain k lower first hp hq) (k_links k (o k (omega arith)) (k_chain k lower expr_first hq hq)) (apart_operators k))))
 
-pub k_flagged : {K KB : Keeping} {KV : Valuing} {F : Forms K KB KV} {i j : Nested} {r : NestedAt} → Inside F i j r → K _ (solid expr_first expr_next) (flagged i) (flagged j) (flagged_at r)
+pub k_flagged : {K KB : Keeping} {KV : Valuing} {F : Forms K KB KV} {i j : NestedLanguages} {r : NestedAt} → Inside F i j r → K _ (solid expr_first expr_next) (flagged i) (flagged j) (flagged_at r)
 unfolding flagged flagged_at
 k_flagged {F = F} h = F.wider (fits refl) (k_chain F 8 (k_operator F) expr_first (k_pre h) (k_pre h))

@@ -6,13 +6,13 @@ use Rattle.qvt_grammar.specs.Reader.{follow_at}
 use Rattle.qvt_language.specs.Tokens.{of, code_of}
 use Rattle.qvt_language.specs.Firsts.{stmt_first, clause_first, unit_first}
 use Rattle.qvt_language.specs.Trees.{first, second, inner, nothing, cons_of, text_of}
-use Rattle.qvt_language.specs.Grammar.{Nested}
+use Rattle.qvt_language.specs.Grammar.{NestedLanguages}
 use Rattle.qvt_language.specs.Reading.{NestedAt}
 use Rattle.qvt_language.specs.Statements.{statements}
 use Rattle.qvt_language.specs.ReadingStatements.{statements_at}
 use Rattle.qvt_language.specs.Units.{param, params, feature, features, class_unit, main_unit, helper_body, helper_unit, constructor_unit, result_decl, when_clause, clause, init_part, end_part, sections, body, mapping_unit, unit, uri, model_type, model_param, header, transformation, end_unless, end_after, fresh, clauses}
 use Rattle.qvt_language.specs.ReadingUnits.{param_at, params_at, feature_at, features_at, class_unit_at, main_unit_at, helper_body_at, helper_unit_at, constructor_unit_at, result_decl_at, when_clause_at, clause_at, init_part_at, end_part_at, sections_at, body_at, mapping_unit_at, unit_at, uri_at, model_type_at, model_param_at, header_at, transformation_at, end_unless_at, end_after_at, fresh_at, clauses_at}
-use Rattle.qvt_language.specs.UnitTrees.{typed_name_of, param_of, class_of, main_of, return_body, helper_of, constructor_of, result_decl_of, Clauses, no_clauses, InheritsClause, MergesClause, DisjunctsClause, WhenClause, with_clause, read_words, or_same, empty_body, body_of, sections_of, open_sections_of, mapping_of, some_unit, model_type_of, model_param_of, module_of, kept, no_end}
+use Rattle.qvt_language.specs.UnitTrees.{typed_name_of, param_of, class_unit_of, main_of, return_body, helper_of, constructor_of, result_decl_of, ClausesTree, no_clauses, InheritsClause, MergesClause, DisjunctsClause, WhenClause, with_clause, read_words, or_same, empty_body, body_of, sections_of, open_sections_of, mapping_of, some_unit, model_type_of, model_param_of, module_of, kept, no_end}
 use Rattle.qvt_words.specs.declared.class.Class.TheVariants.{Name, Str, OpenRound, CloseRound, OpenBrace, CloseBrace, Comma, Semicolon, Colon, EqualSign, ClassWord, ConstructorWord, DisjunctsWord, EndWord, ExtendsWord, HelperWord, InWord, InheritsWord, InitWord, InoutWord, IntermediateWord, MainWord, MappingWord, MergesWord, ModelTypeWord, OutWord, PopulationWord, QueryWord, TransformationWord, UsesWord, WhenWord}
 use Rattle.qvt_language.proofs.Every.{solid, loose, later, fits, Keeping, Valuing, Forms, Inside}
 use Rattle.qvt_language.proofs.EveryExprs.{k_name, k_path, k_paths, k_unit_path, k_extent, k_colon_type, k_expr}
@@ -39,7 +39,7 @@ module _ {K KB : Keeping} {KV : Valuing} (F : Forms K KB KV) where
   unfolding header header_at
   k_header = F.wider (fits refl) (F.gives second (F.both (F.token TransformationWord) (F.both (F.gives text_of (F.token Name)) (F.gives inner (F.both (F.token OpenRound) (F.both (F.gives cons_of (F.both k_model_param (F.turns (code_of Comma ∷ []) refl refl (F.gives second (F.both (F.token Comma) k_model_param refl))) refl)) (F.gives first (F.both (F.token CloseRound) (F.token Semicolon) refl)) refl) refl)) refl) refl))
 
-module _ {K KB : Keeping} {KV : Valuing} {F : Forms K KB KV} {i j : Nested} {r : NestedAt} (h : Inside F i j r) where
+module _ {K KB : Keeping} {KV : Valuing} {F : Forms K KB KV} {i j : NestedLanguages} {r : NestedAt} (h : Inside F i j r) where
   pub k_param : K _ (solid (0 ∷ 45 ∷ []) (10 ∷ [])) (param i) (param j) (param_at r)
   unfolding param param_at
   k_param = F.wider (fits refl) (F.gives param_of (F.at (F.both (F.perhaps (code_of InWord ∷ []) refl (F.token InWord)) (F.both (k_name F) (k_colon_type h) refl) refl)))
@@ -58,7 +58,7 @@ module _ {K KB : Keeping} {KV : Valuing} {F : Forms K KB KV} {i j : Nested} {r :
 
   pub k_class_unit : K _ (solid (49 ∷ []) []) (class_unit i) (class_unit j) (class_unit_at r)
   unfolding class_unit class_unit_at
-  k_class_unit = F.wider (fits refl) (F.gives class_of (F.at (F.gives second (F.both (F.token IntermediateWord) (F.gives second (F.both (F.token ClassWord) (F.both (k_name F) (F.both (F.perhaps (code_of ExtendsWord ∷ []) refl (F.gives second (F.both (F.token ExtendsWord) (k_paths F) refl))) k_features refl) refl) refl)) refl))))
+  k_class_unit = F.wider (fits refl) (F.gives class_unit_of (F.at (F.gives second (F.both (F.token IntermediateWord) (F.gives second (F.both (F.token ClassWord) (F.both (k_name F) (F.both (F.perhaps (code_of ExtendsWord ∷ []) refl (F.gives second (F.both (F.token ExtendsWord) (k_paths F) refl))) k_features refl) refl) refl)) refl))))
 
   pub k_main_unit : K _ (solid (56 ∷ []) []) (main_unit i) (main_unit j) (main_unit_at r)
   unfolding main_unit main_unit_at
@@ -107,10 +107,10 @@ module _ {K KB : Keeping} {KV : Valuing} {F : Forms K KB KV} {i j : Nested} {r :
   unfolding body body_at
   k_body = F.wider (fits refl) (F.one_of (code_of Semicolon ∷ []) (F.gives empty_body (F.token Semicolon)) (F.gives body_of (F.both (F.token OpenBrace) (F.both (F.perhaps (code_of InitWord ∷ []) refl k_init_part) (F.both k_sections (F.token CloseBrace) refl) refl) refl)) refl refl)
 
-  k_fresh : (x : Clauses) → KB _ (solid (33 ∷ 46 ∷ 59 ∷ 84 ∷ []) (7 ∷ 10 ∷ [])) (fresh i x) (fresh j x) (fresh_at r x)
+  k_fresh : (x : ClausesTree) → KB _ (solid (33 ∷ 46 ∷ 59 ∷ 84 ∷ []) (7 ∷ 10 ∷ [])) (fresh i x) (fresh j x) (fresh_at r x)
   k_fresh x = F.barred_gives (with_clause x) (F.barred (of (read_words x)) k_clause)
 
-  k_clauses : (k : ℕ) (x : Clauses) → K _ (loose (33 ∷ 46 ∷ 59 ∷ 84 ∷ []) (7 ∷ 10 ∷ 33 ∷ 46 ∷ 59 ∷ 84 ∷ [])) (clauses i k x) (clauses j k x) (clauses_at r k x)
+  k_clauses : (k : ℕ) (x : ClausesTree) → K _ (loose (33 ∷ 46 ∷ 59 ∷ 84 ∷ []) (7 ∷ 10 ∷ 33 ∷ 46 ∷ 59 ∷ 84 ∷ [])) (clauses i k x) (clauses j k x) (clauses_at r k x)
   k_clauses zero x = F.wider (fits refl) (F.gives (kept x) F.no_token)
   k_clauses (suc k) x = F.wider (fits refl) (F.gives (or_same x) (F.barred_perhaps clause_first refl (F.barred_gives second (F.barred_depending (k_fresh x) (k_clauses k) refl))))
 

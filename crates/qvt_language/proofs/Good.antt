@@ -6,7 +6,7 @@ use Rattle.qvt_language.specs.Readers.{Reader}
 use Rattle.qvt_language.specs.Firsts.{stmt_first, expr_first, post_next}
 use Rattle.qvt_language.specs.Levels.{next_at}
 use Rattle.qvt_language.specs.Leads.{Lead}
-use Rattle.qvt_language.specs.Grammar.{Nested, name, path, sign, operator, link, chain}
+use Rattle.qvt_language.specs.Grammar.{NestedLanguages, name, path, sign, operator, link, chain}
 use Rattle.qvt_language.specs.Reading.{NestedAt, name_at, path_at, sign_at, operators, operator_at, link_at, chain_at}
 use Rattle.qvt_language.specs.Statements.{statements}
 use Rattle.qvt_language.specs.ReadingStatements.{statements_at}
@@ -51,7 +51,7 @@ good_forms n = record {
   last_of = λ p c1 c2 w a k q h. good_finished p c1 c2 w a k;
 }
 
-abbrev pub GoodNested : ℕ → Nested → Nested → NestedAt → Type 0
+abbrev pub GoodNested : ℕ → NestedLanguages → NestedLanguages → NestedAt → Type 0
 GoodNested n i j r = Inside (good_forms n) i j r
 
 -- what holds with nothing nested inside, and of chains at any level
@@ -89,5 +89,5 @@ pub good_chain : {n : ℕ} (k : ℕ) (first : List ℕ) {p p2 q q2 : Language To
     → Good n true first (next_at k) (chain k p q) (chain k p2 q2) (chain_at k f g)
 good_chain {n = n} k first hp hq = k_chain (good_forms n) k (λ m lt. good_operator m) first hp hq
 
-pub loose_statements : {n : ℕ} {i j : Nested} {r : NestedAt} → GoodNested n i j r → Loose n true stmt_first stmts_next (statements i) (statements j) (statements_at r)
+pub loose_statements : {n : ℕ} {i j : NestedLanguages} {r : NestedAt} → GoodNested n i j r → Loose n true stmt_first stmts_next (statements i) (statements j) (statements_at r)
 loose_statements h = (k_statements h).loose

@@ -8,7 +8,7 @@ use Rattle.qvt_language.specs.Tokens.{Tok, is, code_of}
 use Rattle.qvt_language.specs.Readers.{nowhere, the, placed}
 use Rattle.qvt_language.specs.Series.{left, right, series, finished, barring}
 use Rattle.qvt_language.specs.Same.{SimpleText, IsSimple}
-use Rattle.qvt_language.specs.Grammar.{Nested}
+use Rattle.qvt_language.specs.Grammar.{NestedLanguages}
 use Rattle.qvt_language.specs.Reading.{NestedAt}
 use Rattle.qvt_language.specs.Units.{is_strictness, strictness}
 use Rattle.qvt_language.proofs.Every.{Keeping, Valuing, Forms, Inside}
@@ -211,5 +211,5 @@ live_forms = record {
   last_of = λ p c1 c2 w a k q h. (let v = q.completes.some in live_finished k v.0 v.1 (h v.0 v.1 v.2) v.3);
 }
 
-abbrev pub LiveNested : Nested → Nested → NestedAt → Type 0
+abbrev pub LiveNested : NestedLanguages → NestedLanguages → NestedAt → Type 0
 LiveNested i j r = Inside live_forms i j r

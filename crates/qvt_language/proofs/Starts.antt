@@ -6,7 +6,7 @@ use Rattle.qvt_grammar.proofs.Fronts.{Each}
 use Rattle.qvt_language.specs.Tokens.{Tok, of, is_nil}
 use Rattle.qvt_language.specs.Same.{IsSimple, AllSimple}
 use Rattle.qvt_language.specs.Readers.{Reader}
-use Rattle.qvt_language.specs.Grammar.{Nested}
+use Rattle.qvt_language.specs.Grammar.{NestedLanguages}
 use Rattle.qvt_language.specs.Reading.{NestedAt}
 use Rattle.qvt_language.specs.Nesting.{nested, nested_at}
 use Rattle.qvt_language.specs.Module.{Start, ReadsFrom, FrontFrom, FaultFrom}
@@ -19,8 +19,8 @@ use Rattle.qvt_language.proofs.LiveNesting.{live_nested}
 
 -- what a start symbol needs: an exact reader, which begins with a token of its own, and fronts that are completed
 pub record IsStart {A : Type 0} (first after : List ℕ) (start : Start A) (start_at : NestedAt → Reader A) : Type 1 where
-  pub good : (n : ℕ) (i j : Nested) (r : NestedAt) → GoodNested n i j r → Good n true first after (start i) (start j) (start_at r)
-  pub live : (i j : Nested) (r : NestedAt) → LiveNested i j r → Live (start i) (start j)
+  pub good : (n : ℕ) (i j : NestedLanguages) (r : NestedAt) → GoodNested n i j r → Good n true first after (start i) (start j) (start_at r)
+  pub live : (i j : NestedLanguages) (r : NestedAt) → LiveNested i j r → Live (start i) (start j)
 
 all_simple : (ts : List Tok) → Each IsSimple ts → AllSimple ts
 all_simple [] h = tt

@@ -17,6 +17,6 @@ pub data Lead : Type 0 where
   Each : ExprTerm → EachPart → Lead
 
 -- the statements of a block, and whether the last one has no `;`
-pub record Ended : Type 0 where
+pub record EndedBlock : Type 0 where
   pub stmts : List StmtTerm
   pub open_end : Bool

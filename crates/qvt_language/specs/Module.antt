@@ -5,13 +5,13 @@ use Rattle.qvt_base.specs.declared.numbers.Place.{Place}
 use Rattle.qvt_grammar.specs.Language.{Language}
 use Rattle.qvt_tree_types.specs.Module.{ModuleTerm}
 use Rattle.qvt_language.specs.Tokens.{Tok}
-use Rattle.qvt_language.specs.Grammar.{Nested}
+use Rattle.qvt_language.specs.Grammar.{NestedLanguages}
 use Rattle.qvt_language.specs.Units.{transformation}
 use Rattle.qvt_language.specs.Nesting.{nested}
 
 -- a start symbol: what whole lists are read as, given what stands nested inside
 abbrev pub Start : Type 0 → Type 1
-Start A = Nested → Language Tok A
+Start A = NestedLanguages → Language Tok A
 
 pub record ReadsFrom {A : Type 0} (start : Start A) (ts : List Tok) (a : A) : Type 0 where
   pub nesting : ℕ
@@ -27,8 +27,8 @@ pub record FaultFrom {A : Type 0} (start : Start A) (ts rest : List Tok) : Type 
   pub longest : (u s : List Tok) → ts ≡ u ++ s → FrontFrom start u → length rest ≤ length s
   pub unread : (a : A) → ReadsFrom start ts a → ⊥
 
-abbrev pub Reads : List Tok → ModuleTerm → Type 0
-Reads = ReadsFrom transformation
+abbrev pub ReadsModule : List Tok → ModuleTerm → Type 0
+ReadsModule = ReadsFrom transformation
 
 abbrev pub IsFront : List Tok → Type 0
 IsFront = FrontFrom transformation

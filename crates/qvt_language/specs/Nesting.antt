@@ -2,13 +2,13 @@
 use Rattle.std.specs.Prelude.{ℕ, zero, suc, Err}
 use Rattle.qvt_grammar.specs.Language.{never}
 use Rattle.qvt_grammar.specs.Reader.{At}
-use Rattle.qvt_language.specs.Grammar.{Nested, flagged, typed}
+use Rattle.qvt_language.specs.Grammar.{NestedLanguages, flagged, typed}
 use Rattle.qvt_language.specs.Reading.{NestedAt, flagged_at, typed_at}
 use Rattle.qvt_language.specs.Statements.{block}
 use Rattle.qvt_language.specs.ReadingStatements.{block_at}
 
 -- expressions, blocks and types with fewer than n of them inside each other
-unfoldable pub nested : ℕ → Nested
+unfoldable pub nested : ℕ → NestedLanguages
 nested zero = record { flagged = never; block = never; kind = never }
 nested (suc n) = record { flagged = flagged (nested n); block = block (nested n); kind = typed (nested n) }
 

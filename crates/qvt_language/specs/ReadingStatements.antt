@@ -8,10 +8,10 @@ use Rattle.qvt_language.specs.Tokens.{Tok, of, is}
 use Rattle.qvt_language.specs.Readers.{Reader, the_at, placed_at}
 use Rattle.qvt_language.specs.Firsts.{expr_first, step_first, stmt_first, assign_first}
 use Rattle.qvt_language.specs.Series.{finished_at}
-use Rattle.qvt_language.specs.Leads.{Lead, Plain, Bracketed, Each, Ended}
+use Rattle.qvt_language.specs.Leads.{Lead, Plain, Bracketed, Each, EndedBlock}
 use Rattle.qvt_language.specs.Trees.{second, inner}
 use Rattle.qvt_language.specs.Reading.{NestedAt, name_at, expr_at, colon_type_at, lead_step_at, lead_at}
-use Rattle.qvt_language.specs.StmtTrees.{var_of, return_of, arm_of, Branches, Choice, if_stmt_of, while_of, Turn, empty_turn, closed_turn, simple_turn, Tail, no_tail, plain_tail, lead_turn, ended_of, block_of}
+use Rattle.qvt_language.specs.StmtTrees.{var_of, return_of, arm_of, Branches, Choice, if_stmt_of, while_of, TurnTree, empty_turn, closed_turn, simple_turn, Tail, no_tail, plain_tail, lead_turn, ended_of, block_of}
 
 unfoldable pub condition_at : NestedAt → Reader ExprTerm
 condition_at r = made_at inner (then_at (the_at OpenRound) (then_at (expr_at r) (the_at CloseRound)))
@@ -56,13 +56,13 @@ lead_tail_at r (Plain e (Some target)) = then_at (maybe_at (of assign_first) (as
 lead_tail_at r (Bracketed e) = made_at plain_tail semicolon_at
 lead_tail_at r (Each e part) = made_at no_tail empty_at
 
-unfoldable pub lead_stmt_at : NestedAt → Reader Turn
+unfoldable pub lead_stmt_at : NestedAt → Reader TurnTree
 lead_stmt_at r = made_at lead_turn (placed_at (follow_at (lead_at r) (lead_tail_at r)))
 
-unfoldable pub statement_at : NestedAt → Reader Turn
+unfoldable pub statement_at : NestedAt → Reader TurnTree
 statement_at r = choose_at (is Semicolon) (made_at empty_turn (the_at Semicolon)) (choose_at (is IfWord) (made_at closed_turn (if_stmt_at r)) (choose_at (is WhileWord) (made_at closed_turn (while_stmt_at r)) (choose_at (is VarWord) (made_at simple_turn (then_at (var_stmt_at r) semicolon_at)) (choose_at (is ReturnWord) (made_at simple_turn (then_at (return_stmt_at r) semicolon_at)) (lead_stmt_at r)))))
 
-unfoldable pub statements_at : NestedAt → Reader Ended
+unfoldable pub statements_at : NestedAt → Reader EndedBlock
 statements_at r = made_at ended_of (ended_at (of stmt_first) (statement_at r))
 
 unfoldable pub block_at : NestedAt → Reader (List StmtTerm)

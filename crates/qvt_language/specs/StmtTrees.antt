@@ -8,7 +8,7 @@ use Rattle.qvt_language.specs.declared.named.Named.{Named}
 use Rattle.qvt_words.specs.declared.class.Class.{Class}
 use Rattle.qvt_words.specs.declared.class.Class.TheVariants.{PlusEqual}
 use Rattle.qvt_language.specs.Tokens.{Tok}
-use Rattle.qvt_language.specs.Leads.{Lead, Plain, Bracketed, Each, EachPart, Ended}
+use Rattle.qvt_language.specs.Leads.{Lead, Plain, Bracketed, Each, EachPart, EndedBlock}
 use Rattle.qvt_language.specs.Trees.{is_there, expr_of, post_of}
 
 abbrev pub var_of : Place × (Tok × (Named × (Option TypeTerm × Option ExprTerm))) → StmtTerm
@@ -55,16 +55,16 @@ abbrev pub while_of : Place × (Tok × (ExprTerm × List StmtTerm)) → StmtTerm
 while_of (place, (w, (c, body))) = WhileStmt c (stmts_of body) place
 
 -- The left are items of a block: no statement, or one that stands by itself. The right are statements without their `;`.
-abbrev pub Turn : Type 0
-Turn = List StmtTerm ⊎ StmtTerm
+abbrev pub TurnTree : Type 0
+TurnTree = List StmtTerm ⊎ StmtTerm
 
-abbrev pub empty_turn : Tok → Turn
+abbrev pub empty_turn : Tok → TurnTree
 empty_turn t = inl []
 
-abbrev pub closed_turn : StmtTerm → Turn
+abbrev pub closed_turn : StmtTerm → TurnTree
 closed_turn s = inl (s ∷ [])
 
-abbrev pub simple_turn : StmtTerm × Option Tok → Turn
+abbrev pub simple_turn : StmtTerm × Option Tok → TurnTree
 simple_turn (s, None) = inr s
 simple_turn (s, (Some t)) = inl (s ∷ [])
 
@@ -88,7 +88,7 @@ no_tail x = (None, None)
 abbrev pub plain_tail : Option Tok → Tail
 plain_tail t = (None, t)
 
-abbrev pub lead_turn : Place × (Lead × Tail) → Turn
+abbrev pub lead_turn : Place × (Lead × Tail) → TurnTree
 lead_turn (place, ((Plain e target), (assignment, t))) = simple_turn (written place e target assignment, t)
 lead_turn (place, ((Bracketed e), (assignment, t))) = simple_turn (ValueStmt e place, t)
 lead_turn (place, ((Each e part), tail)) = inl (for_each_of e part place ∷ [])
@@ -101,20 +101,20 @@ abbrev pub last_of : {A : Type 0} → Option A → List A
 last_of None = []
 last_of (Some a) = a ∷ []
 
-abbrev pub ended_of : List (List StmtTerm) × Option StmtTerm → Ended
+abbrev pub ended_of : List (List StmtTerm) × Option StmtTerm → EndedBlock
 ended_of (all, last) = record { stmts = concat all ++ last_of last; open_end = is_there last }
 
-abbrev pub block_of : Tok × (Ended × Tok) → List StmtTerm
+abbrev pub block_of : Tok × (EndedBlock × Tok) → List StmtTerm
 block_of (b1, (ended, b2)) = ended.stmts
 
-abbrev pub written_turn : Place → Lead → Tail → Turn
+abbrev pub written_turn : Place → Lead → Tail → TurnTree
 written_turn place x tail = lead_turn (place, (x, tail))
 
 -- it is no `forEach`
-abbrev pub IsPlain : Lead → Type 0
-IsPlain (Plain e target) = Unit {0}
-IsPlain (Bracketed e) = Unit {0}
-IsPlain (Each e part) = ⊥
+abbrev pub IsPlainLead : Lead → Type 0
+IsPlainLead (Plain e target) = Unit {0}
+IsPlainLead (Bracketed e) = Unit {0}
+IsPlainLead (Each e part) = ⊥
 
 abbrev pub target_in : Lead → Option TargetTerm
 target_in (Plain e target) = target

@@ -3,7 +3,7 @@ use Rattle.std.specs.Prelude.{ℕ, ℤ, Bool, true, false, ◌||◌, nat_eq, Lis
 use Rattle.qvt_base.specs.declared.numbers.Place.{Place}
 use Rattle.qvt_words.specs.declared.class.Class.{Class}
 use Rattle.qvt_words.specs.declared.class.Class.TheVariants.{Name, Integer, Str, OpenRound, CloseRound, OpenBrace, CloseBrace, Comma, Semicolon, Colon, DoubleColon, Dot, DotDot, Arrow, Bar, AtSign, EqualSign, DoubleEqual, Diamond, BangEqual, LessSign, AtMost, GreaterSign, AtLeast, PlusSign, MinusSign, Star, Becomes, PlusEqual, AndWord, BagWord, ClassWord, ConstructorWord, DisjunctsWord, ElifWord, ElseWord, EndWord, EndifWord, ExtendsWord, FalseWord, ForEachWord, HelperWord, IfWord, ImpliesWord, ImportWord, InWord, InheritsWord, InitWord, InoutWord, IntermediateWord, InvResolveWord, InvResolveInWord, InvResolveOneWord, InvResolveOneInWord, LateWord, LibraryWord, MainWord, MapWord, MappingWord, MergesWord, ModelTypeWord, NewWord, NotWord, NullWord, ObjectWord, OrWord, OrderedSetWord, OutWord, PopulationWord, QueryWord, ResolveAllWord, ResolveInWord, ResolveOneWord, ResolveOneInWord, ResultWord, ReturnWord, SelfWord, SequenceWord, SetWord, ThenWord, TransformationWord, TrueWord, UsesWord, VarWord, WhenWord, WhileWord, XmapWord, XorWord}
-use Rattle.qvt_language.specs.declared.token.Token.{Token}
+use Rattle.qvt_language.specs.declared.token.SyntaxToken.{SyntaxToken}
 
 pub record Tok : Type 0 where
   pub class : Class
@@ -11,10 +11,10 @@ pub record Tok : Type 0 where
   pub number : ℤ
   pub place : Place
 
-abbrev pub tok_of : Token → Tok
+abbrev pub tok_of : SyntaxToken → Tok
 tok_of t = record { class = t.class; text = t.text.now; number = t.number; place = t.place }
 
-abbrev pub toks_of : List Token → List Tok
+abbrev pub toks_of : List SyntaxToken → List Tok
 toks_of = map tok_of
 
 abbrev pub code_of : Class → ℕ

@@ -16,7 +16,7 @@ use Rattle.qvt_words.specs.declared.class.Class.{Class}
 use Rattle.qvt_words.specs.declared.class.Class.TheVariants.{InWord, OutWord, QueryWord, InheritsWord, MergesWord, DisjunctsWord, WhenWord}
 use Rattle.qvt_language.specs.Tokens.{Tok, code_of}
 use Rattle.qvt_language.specs.Readers.{nowhere}
-use Rattle.qvt_language.specs.Leads.{Ended}
+use Rattle.qvt_language.specs.Leads.{EndedBlock}
 
 abbrev pub typed_name_of : Named × TypeTerm → TypedName
 typed_name_of (n, kind) = record { name = n.text; kind = kind; place = n.place }
@@ -28,8 +28,8 @@ abbrev pub paths_or_none : Option (List PathTree) → List PathTree
 paths_or_none None = []
 paths_or_none (Some paths) = paths
 
-abbrev pub class_of : Place × (Named × (Option (List PathTree) × List TypedName)) → UnitTerm
-class_of (place, (n, (supers, features))) = ClassOf (record { name = n.text; supers = paths_or_none supers; features = features; place = place })
+abbrev pub class_unit_of : Place × (Named × (Option (List PathTree) × List TypedName)) → UnitTerm
+class_unit_of (place, (n, (supers, features))) = ClassOf (record { name = n.text; supers = paths_or_none supers; features = features; place = place })
 
 abbrev pub main_of : Place × List StmtTerm → UnitTerm
 main_of (place, body) = MainOf (stmts_of body) place
@@ -54,22 +54,22 @@ abbrev pub result_decl_of : PathTree × Option (List ℕ) → ResultDecl
 result_decl_of (path, extent) = record { path = path; extent = extent; place = path.place }
 
 -- the clauses of a mapping, as far as they were read
-pub record Clauses : Type 0 where
+pub record ClausesTree : Type 0 where
   pub inherits : Option (List PathTree)
   pub merges : Option (List PathTree)
   pub disjuncts : Option (List PathTree)
   pub condition : Option ExprTerm
 
-abbrev pub no_clauses : Clauses
+abbrev pub no_clauses : ClausesTree
 no_clauses = record { inherits = None; merges = None; disjuncts = None; condition = None }
 
-pub data Clause : Type 0 where
-  InheritsClause : List PathTree → Clause
-  MergesClause : List PathTree → Clause
-  DisjunctsClause : List PathTree → Clause
-  WhenClause : ExprTerm → Clause
+pub data ClauseTree : Type 0 where
+  InheritsClause : List PathTree → ClauseTree
+  MergesClause : List PathTree → ClauseTree
+  DisjunctsClause : List PathTree → ClauseTree
+  WhenClause : ExprTerm → ClauseTree
 
-abbrev pub with_clause : Clauses → Clause → Clauses
+abbrev pub with_clause : ClausesTree → ClauseTree → ClausesTree
 with_clause x (InheritsClause paths) = record x { inherits = Some paths }
 with_clause x (MergesClause paths) = record x { merges = Some paths }
 with_clause x (DisjunctsClause paths) = record x { disjuncts = Some paths }
@@ -80,14 +80,14 @@ where_there None c = []
 where_there (Some a) c = c ∷ []
 
 -- the first words of the clauses that were read
-abbrev pub read_words : Clauses → List ℕ
+abbrev pub read_words : ClausesTree → List ℕ
 read_words x = where_there x.inherits (code_of InheritsWord) ++ (where_there x.merges (code_of MergesWord) ++ (where_there x.disjuncts (code_of DisjunctsWord) ++ where_there x.condition (code_of WhenWord)))
 
-abbrev pub or_same : Clauses → Option Clauses → Clauses
+abbrev pub or_same : ClausesTree → Option ClausesTree → ClausesTree
 or_same x None = x
 or_same x (Some y) = y
 
-pub record Body : Type 0 where
+pub record BodyTree : Type 0 where
   pub init : List StmtTerm
   pub population : List StmtTerm
   pub finish : List StmtTerm
@@ -96,19 +96,19 @@ abbrev pub stmts_or_none : Option (List StmtTerm) → List StmtTerm
 stmts_or_none None = []
 stmts_or_none (Some ss) = ss
 
-abbrev pub empty_body : Tok → Body
+abbrev pub empty_body : Tok → BodyTree
 empty_body t = record { init = []; population = []; finish = [] }
 
-abbrev pub body_of : Tok × (Option (List StmtTerm) × ((List StmtTerm × List StmtTerm) × Tok)) → Body
+abbrev pub body_of : Tok × (Option (List StmtTerm) × ((List StmtTerm × List StmtTerm) × Tok)) → BodyTree
 body_of (b1, (init, (sections, b2))) = record { init = stmts_or_none init; population = sections.0; finish = sections.1 }
 
 abbrev pub sections_of : List StmtTerm × Option (List StmtTerm) → List StmtTerm × List StmtTerm
 sections_of (population, finish) = (population, stmts_or_none finish)
 
-abbrev pub open_sections_of : Ended × Option (List StmtTerm) → List StmtTerm × List StmtTerm
+abbrev pub open_sections_of : EndedBlock × Option (List StmtTerm) → List StmtTerm × List StmtTerm
 open_sections_of (ended, finish) = (ended.stmts, stmts_or_none finish)
 
-abbrev pub mapping_of : UnitPath × (List TypedName × (Option ResultDecl × (Clauses × Body))) → UnitTerm
+abbrev pub mapping_of : UnitPath × (List TypedName × (Option ResultDecl × (ClausesTree × BodyTree))) → UnitTerm
 mapping_of (path, (params, (answer, (clauses, body)))) = MappingOf (record {
   path = path.names;
   params = params;
@@ -145,7 +145,7 @@ units_of (us ∷ more) = us ++ units_of more
 abbrev pub module_of : List ModelType × ((List ℕ × List ModelParam) × List (List UnitTerm)) → ModuleTerm
 module_of (model_types, (header, units)) = record { model_types = model_types; name = header.0; params = header.1; units = units_of units; end = nowhere }
 
-abbrev pub kept : Clauses → Unit {0} → Clauses
+abbrev pub kept : ClausesTree → Unit {0} → ClausesTree
 kept x u = x
 
 abbrev pub no_end : Unit {0} → Option (List StmtTerm)

@@ -8,7 +8,7 @@ ghost use Rattle.qvt_language.specs.Conditionals.{if_forms};
 ghost use Rattle.qvt_language.specs.Nesting.{nested, nested_at};
 ghost use Rattle.qvt_language.specs.ReadingUnits.{transformation_at};
 ghost use Rattle.qvt_language.specs.Units.{transformation, unit};
-ghost use Rattle.qvt_language.specs.Module.{Reads, IsFault};
+ghost use Rattle.qvt_language.specs.Module.{ReadsModule, IsFault};
 ghost use Rattle.qvt_language.specs.Laws.{Beginnings, AtMostOne, Faults};
 
 /// Its clauses are the law of beginnings, for a transformation and for one of its units: a list of
@@ -38,8 +38,8 @@ pub fn faults()
 /// the list's length: a tree with nothing left is the one tree that the list is read as, and what
 /// else is left is the list from its first fault on. It does nothing.
 pub fn answers()
-    ensures reads { (n : ℕ) (ts : List Tok) → length ts ≤ n → (m : ModuleTerm) (r : List Tok) → transformation_at (nested_at n) ts ≡ Ok (m, r) → is_nil r ≡ true → Reads ts m }
-    ensures one { (n : ℕ) (ts : List Tok) → length ts ≤ n → (m : ModuleTerm) (r : List Tok) → transformation_at (nested_at n) ts ≡ Ok (m, r) → is_nil r ≡ true → (other : ModuleTerm) → Reads ts other → other ≡ m }
+    ensures reads { (n : ℕ) (ts : List Tok) → length ts ≤ n → (m : ModuleTerm) (r : List Tok) → transformation_at (nested_at n) ts ≡ Ok (m, r) → is_nil r ≡ true → ReadsModule ts m }
+    ensures one { (n : ℕ) (ts : List Tok) → length ts ≤ n → (m : ModuleTerm) (r : List Tok) → transformation_at (nested_at n) ts ≡ Ok (m, r) → is_nil r ≡ true → (other : ModuleTerm) → ReadsModule ts other → other ≡ m }
     ensures rest { (n : ℕ) (ts : List Tok) → length ts ≤ n → (m : ModuleTerm) (r : List Tok) → transformation_at (nested_at n) ts ≡ Ok (m, r) → is_nil r ≡ false → IsFault ts r }
     ensures fault { (n : ℕ) (ts : List Tok) → length ts ≤ n → (r : List Tok) → transformation_at (nested_at n) ts ≡ Err (At r) → IsFault ts r }
 {}

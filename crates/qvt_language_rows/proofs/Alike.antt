@@ -8,12 +8,12 @@ use Rattle.qvt_language.specs.Same.{unplaced, SameTokens}
 use Rattle.qvt_language.specs.Readers.{nowhere}
 use Rattle.qvt_language.specs.Units.{is_strictness}
 use Rattle.qvt_tree_types.specs.Module.{UnitTerm, ModuleTerm}
-use Rattle.qvt_language.specs.UnitTrees.{Clause}
+use Rattle.qvt_language.specs.UnitTrees.{ClauseTree}
 use Rattle.qvt_language.specs.declared.class.Class.{Class}
 use Rattle.qvt_language.specs.declared.class.Class.TheVariants as class
 use Rattle.qvt_language_rows.specs.Phrase.{Phrase, ◌or◌, ◌gives◌, ◌then◌, the, many, maybe, placed, commas, listed, or_none, barring, such_that}
 use Rattle.qvt_language_rows.specs.Values.{kind_of, IsOther, AreOnce}
-use Rattle.qvt_language_rows.specs.Units.{«Unit», Module}
+use Rattle.qvt_language_rows.specs.Units.{UnitRow, ModuleRow}
 use Rattle.qvt_language_rows.specs.Language.{Is}
 use Rattle.qvt_language_rows.proofs.Every.{any_of, Forms, Said, Makers, every_unit, every_module}
 
@@ -186,16 +186,16 @@ forms = record {
 
 -- an Extra is read as one of the same kind
 
-abbrev SameKind : Relation Clause
+abbrev SameKind : Relation ClauseTree
 SameKind x y = kind_of x ≡ kind_of y
 
-other_too : (a b : Clause) (all more : List Clause) → SameKind a b → Each SameKind all more → IsOther a all → IsOther b more
+other_too : (a b : ClauseTree) (all more : List ClauseTree) → SameKind a b → Each SameKind all more → IsOther a all → IsOther b more
 other_too a b [] [] q k o = tt
 other_too a b [] (d ∷ more) q k o = absurd k
 other_too a b (c ∷ all) [] q k o = absurd k
 other_too a b (c ∷ all) (d ∷ more) q k o = ((λ e. o.0 (q ∙ e ∙ sym k.0)), other_too a b all more q k.1 o.1)
 
-once_too : (all more : List Clause) → Each SameKind all more → AreOnce all → AreOnce more
+once_too : (all more : List ClauseTree) → Each SameKind all more → AreOnce all → AreOnce more
 once_too [] [] k o = tt
 once_too [] (d ∷ more) k o = absurd k
 once_too (c ∷ all) [] k o = absurd k
@@ -368,8 +368,8 @@ makers = record {
 }
 
 -- the same tokens at other places are a unit and a transformation too
-pub unit_alike : (ts us : List Tok) (a : UnitTerm) → SameTokens ts us → Is «Unit» ts a → (b : UnitTerm) × Is «Unit» us b
+pub unit_alike : (ts us : List Tok) (a : UnitTerm) → SameTokens ts us → Is UnitRow ts a → (b : UnitTerm) × Is UnitRow us b
 unit_alike ts us a e rd = let every = every_unit makers rd.nesting in let w = every.all ts us a e rd.is in (w.0, record { nesting = rd.nesting; is = w.1 })
 
-pub module_alike : (ts us : List Tok) (a : ModuleTerm) → SameTokens ts us → Is Module ts a → (b : ModuleTerm) × Is Module us b
+pub module_alike : (ts us : List Tok) (a : ModuleTerm) → SameTokens ts us → Is ModuleRow ts a → (b : ModuleTerm) × Is ModuleRow us b
 module_alike ts us a e rd = let every = every_module makers rd.nesting in let w = every.all ts us a e rd.is in (w.0, record { nesting = rd.nesting; is = w.1 })

@@ -22,11 +22,11 @@ use Rattle.qvt_language.specs.Trees.{second, inner, named_of, path_of, unit_path
 use Rattle.qvt_language.specs.StmtTrees.{var_of, return_of, arm_of, while_of, concat}
 use Rattle.qvt_language.specs.Conditionals.{block_form_of}
 use Rattle.qvt_language.specs.Units.{is_strictness}
-use Rattle.qvt_language.specs.UnitTrees.{typed_name_of, param_of, class_of, main_of, return_body, helper_of, constructor_of, result_decl_of, Clause, Clauses, InheritsClause, MergesClause, DisjunctsClause, WhenClause, Body as BodyParts, empty_body, body_of, sections_of, mapping_of, some_unit, model_type_of, model_param_of, module_of}
+use Rattle.qvt_language.specs.UnitTrees.{typed_name_of, param_of, class_unit_of, main_of, return_body, helper_of, constructor_of, result_decl_of, ClauseTree, ClausesTree, InheritsClause, MergesClause, DisjunctsClause, WhenClause, BodyTree as BodyParts, empty_body, body_of, sections_of, mapping_of, some_unit, model_type_of, model_param_of, module_of}
 use Rattle.qvt_language_rows.specs.Phrase.{Phrase, ◌or◌, ◌gives◌, ◌then◌, nothing, the, many, maybe, placed, after, before, between, commas, listed, barring, such_that}
 use Rattle.qvt_language_rows.specs.Values.{call_of, named_var, result_var, object_of, filter_of, headed_body, without_head, or_no_args, stepped_of, signed_of, linked, chained, named_target, result_target, feature_target, assign_of, value_of, loop_of, no_stmts, single, with_last, open_sections, no_units, AreOnce, clauses_of}
-use Rattle.qvt_language_rows.specs.Rows.{Inside, Name, Path, Paths, Extent, Kind, All, In, chain, «Type», Exprs, Item, Filter, Resolve, Head, Map, Step, Primary, Post, Pre, Mul, Add, Rel, Eq, And, Or, Xor, Expr, Target, Simple, Compound, Items, Block}
-use Rattle.qvt_language_rows.specs.Units.{UnitPath, ModelType, ModelParam, Header, Param, Params, Extra, Body, «Unit», Module}
+use Rattle.qvt_language_rows.specs.Rows.{NestedRows, NameRow, PathRow, PathsRow, ExtentRow, KindRow, AllRow, InRow, chain, TypeRow, ExprsRow, ItemRow, FilterRow, ResolveRow, HeadRow, MapRow, StepRow, PrimaryRow, PostRow, PreRow, MulRow, AddRow, RelRow, EqRow, AndRow, OrRow, XorRow, ExprRow, TargetRow, SimpleRow, CompoundRow, ItemsRow, BlockRow}
+use Rattle.qvt_language_rows.specs.Units.{UnitPathRow, ModelTypeRow, ModelParamRow, HeaderRow, ParamRow, ParamsRow, ExtraRow, BodyRow, UnitRow, ModuleRow}
 use Rattle.qvt_language_rows.specs.Language.{inside}
 
 -- a token of one of the classes
@@ -130,8 +130,8 @@ pub record Said {ℓ} (I : Type 0 → Type ℓ) : Type ℓ where
   pub result : I ResultDecl
   pub guard_end : I Tok
   pub guard : I ExprTerm
-  pub clause : I Clause
-  pub clauses : I Clauses
+  pub clause : I ClauseTree
+  pub clauses : I ClausesTree
   pub ending : I (Option StmtTerm ⊎ List StmtTerm)
   pub sections : I (List StmtTerm × List StmtTerm)
   pub body : I BodyParts
@@ -165,7 +165,7 @@ module _ {ℓ} {I : Type 0 → Type ℓ} {K : (A : Type 0) → I A → Phrase A 
     pub link : Level → I LinkTerm
     pub read : I UnitTerm
     pub climbs : (level : Level) {p : Phrase ExprTerm} → K ExprTerm (chain level) p → K ExprTerm (loosened operand S.expr level) p
-    pub reads : (n : ℕ) → K UnitTerm S.unit («Unit» (inside n)) → K UnitTerm read («Unit» (inside n))
+    pub reads : (n : ℕ) → K UnitTerm S.unit (UnitRow (inside n)) → K UnitTerm read (UnitRow (inside n))
 
   pub same_climbs : (level : Level) {p : Phrase ExprTerm} → K ExprTerm S.expr p → K ExprTerm (loosened (λ l. S.expr) S.expr level) p
   same_climbs levels.Product h = h
@@ -293,7 +293,7 @@ module _ {ℓ} {I : Type 0 → Type ℓ} {K : (A : Type 0) → I A → Phrase A 
     -- units
     pub param_of : F.Makes (F.marked (F.pair (F.option (one class.InWord)) (F.pair S.named after_colon))) S.typed param_of
     pub typed_name_of : F.Makes (F.pair S.named after_colon) S.feature typed_name_of
-    pub class_of : F.Makes (F.marked (F.after_a class.IntermediateWord (F.after_a class.ClassWord (F.pair S.named (F.pair (F.option (F.after_a class.ExtendsWord paths)) features))))) S.unit class_of
+    pub class_of : F.Makes (F.marked (F.after_a class.IntermediateWord (F.after_a class.ClassWord (F.pair S.named (F.pair (F.option (F.after_a class.ExtendsWord paths)) features))))) S.unit class_unit_of
     pub main_of : F.Makes (F.marked (F.after_a class.MainWord (F.after_a class.OpenRound (F.after_a class.CloseRound S.block)))) S.unit main_of
     pub return_body : F.Makes (F.before_a (F.pair (one class.EqualSign) S.expr) class.Semicolon) S.helper_body return_body
     pub block_body : F.Makes S.block S.helper_body (λ x. x)
@@ -325,7 +325,7 @@ module _ {ℓ} {I : Type 0 → Type ℓ} {K : (A : Type 0) → I A → Phrase A 
     pub module_of : F.Makes (F.pair (F.list S.model_type) (F.pair (F.after_a class.TransformationWord (F.pair S.name S.model_params)) (F.list S.turn_units))) S.whole module_of
     -- the two that look at the value
     pub strict : K Tok (one class.Str) (such_that (λ t. IsTrue (is_strictness t)) (the class.Str))
-    pub once : (j : Inside) → K Clause S.clause (Extra j) → K (List Clause) (F.list S.clause) (such_that AreOnce (many (Extra j)))
+    pub once : (j : NestedRows) → K ClauseTree S.clause (ExtraRow j) → K (List ClauseTree) (F.list S.clause) (such_that AreOnce (many (ExtraRow j)))
 
   abbrev pub Makers : Type 1
   Makers = MakersBy alike
@@ -337,92 +337,92 @@ module _ {ℓ} {I : Type 0 → Type ℓ} {K : (A : Type 0) → I A → Phrase A 
   k_chain : {p : Phrase ExprTerm} (level : Level) → K ExprTerm (R.operand level) p → K ExprTerm (loosened R.operand S.expr level) (chain level (any_of (operators level)) p)
   k_chain level h = R.climbs level (F.made (m.chained level) (F.at (F.both h (F.turns (F.made (m.linked level) (F.both (F.choice (operators level)) h))))))
 
-  k_name : K _ S.named Name
-  unfolding Name
+  k_name : K _ S.named NameRow
+  unfolding NameRow
   k_name = F.made m.named_of (k_one class.Name)
 
-  k_path : K _ S.path Path
-  unfolding Path
+  k_path : K _ S.path PathRow
+  unfolding PathRow
   k_path = F.made m.path_of (F.both k_name (F.turns (F.behind class.DoubleColon k_name)))
 
-  k_unit_path : K _ S.unit_path UnitPath
-  unfolding UnitPath
+  k_unit_path : K _ S.unit_path UnitPathRow
+  unfolding UnitPathRow
   k_unit_path = F.made m.unit_path_of (F.both k_name (F.turns (F.behind class.DoubleColon k_name)))
 
-  k_paths : K _ (paths F S) Paths
-  unfolding Paths
+  k_paths : K _ (paths F S) PathsRow
+  unfolding PathsRow
   k_paths = F.series k_path
 
-  k_extent : K _ (F.after_a class.AtSign S.name) Extent
-  unfolding Extent
+  k_extent : K _ (F.after_a class.AtSign S.name) ExtentRow
+  unfolding ExtentRow
   k_extent = F.behind class.AtSign (F.made m.name_of (k_one class.Name))
 
-  k_kind : K _ (F.token kinds) Kind
-  unfolding Kind
+  k_kind : K _ (F.token kinds) KindRow
+  unfolding KindRow
   k_kind = F.choice kinds
 
-  k_all : K _ (F.token alls) All
-  unfolding All
+  k_all : K _ (F.token alls) AllRow
+  unfolding AllRow
   k_all = F.choice alls
 
-  k_in : K _ (F.token ins) In
-  unfolding In
+  k_in : K _ (F.token ins) InRow
+  unfolding InRow
   k_in = F.choice ins
 
-  record KInside (j : Inside) : Type 0 where
+  record KInside (j : NestedRows) : Type 0 where
     kind : K TypeTerm S.kind j.type
     expr : K ExprTerm S.expr j.expr
     block : K (List StmtTerm) S.block j.block
 
-  module _ {j : Inside} (h : KInside j) where
-    k_type : K _ S.kind («Type» j)
-    unfolding «Type»
+  module _ {j : NestedRows} (h : KInside j) where
+    k_type : K _ S.kind (TypeRow j)
+    unfolding TypeRow
     k_type = F.one_of (F.made m.coll_type_of (F.both k_kind (F.round class.OpenRound h.kind class.CloseRound))) (F.made m.path_type k_path)
 
-    k_colon : K _ (after_colon F S) (after class.Colon («Type» j))
+    k_colon : K _ (after_colon F S) (after class.Colon (TypeRow j))
     k_colon = F.behind class.Colon k_type
 
-    k_exprs : K _ (F.in_commas S.expr) (Exprs j)
-    unfolding Exprs
+    k_exprs : K _ (F.in_commas S.expr) (ExprsRow j)
+    unfolding ExprsRow
     k_exprs = F.series h.expr
 
-    k_args : K _ (args F S) (listed class.OpenRound (Exprs j) class.CloseRound)
-    unfolding Exprs
+    k_args : K _ (args F S) (listed class.OpenRound (ExprsRow j) class.CloseRound)
+    unfolding ExprsRow
     k_args = F.lists class.OpenRound h.expr class.CloseRound
 
-    k_item : K _ S.item (Item j)
-    unfolding Item
+    k_item : K _ S.item (ItemRow j)
+    unfolding ItemRow
     k_item = F.made m.item_of (F.at (F.both h.expr (F.perhaps (F.made m.range_of (F.both (k_one class.DotDot) h.expr)))))
 
-    k_filter : K _ S.filter (Filter j)
-    unfolding Filter
+    k_filter : K _ S.filter (FilterRow j)
+    unfolding FilterRow
     k_filter = F.made m.filter_of (F.at (F.both (F.perhaps (F.ahead k_name class.Colon)) (F.both k_type (F.perhaps (F.behind class.Bar h.expr)))))
 
-    k_resolve : K _ S.resolve (Resolve j)
-    unfolding Resolve
+    k_resolve : K _ S.resolve (ResolveRow j)
+    unfolding ResolveRow
     k_resolve = F.made m.resolve_of (F.at (F.both (F.perhaps (k_one class.LateWord)) (F.one_of (F.made m.all_of (F.both k_all (F.round class.OpenRound k_filter class.CloseRound)))
         (F.made m.in_of (F.both k_in (F.both (k_one class.OpenRound) (F.both k_path (F.both (F.perhaps (F.behind class.Comma k_filter)) (k_one class.CloseRound)))))))))
 
-    k_head : K _ (F.pair S.named (F.pair (colon_type F S) (F.option S.accumulator))) (Head j)
-    unfolding Head
+    k_head : K _ (F.pair S.named (F.pair (colon_type F S) (F.option S.accumulator))) (HeadRow j)
+    unfolding HeadRow
     k_head = F.both k_name (F.both (F.perhaps k_colon) (F.perhaps (F.made m.accumulator_of (F.behind class.Semicolon (F.both k_name (F.both k_colon (F.behind class.EqualSign h.expr)))))))
 
-    k_map : K _ S.map (Map j)
-    unfolding Map
+    k_map : K _ S.map (MapRow j)
+    unfolding MapRow
     k_map = F.made m.map_of (F.both (F.choice (class.MapWord ∷ class.XmapWord ∷ [])) (F.both k_name k_args))
 
-    k_arguments : K _ S.args (maybe (Head j then after class.Bar j.expr gives headed_body or Exprs j gives without_head) gives or_no_args)
+    k_arguments : K _ S.args (maybe (HeadRow j then after class.Bar j.expr gives headed_body or ExprsRow j gives without_head) gives or_no_args)
     k_arguments = F.made m.or_no_args (F.perhaps (F.one_of (F.made m.headed_body (F.both k_head (F.behind class.Bar h.expr))) (F.made m.without_head k_exprs)))
 
-    k_step : K _ S.step (Step j)
-    unfolding Step
+    k_step : K _ S.step (StepRow j)
+    unfolding StepRow
     k_step = F.one_of (F.also m.after_dot (F.behind class.Dot (F.made m.dot_of (F.both k_name (F.perhaps k_args)))))
         (F.one_of (F.also m.after_arrow (F.behind class.Arrow (F.made m.arrow_of (F.both k_name (F.round class.OpenRound k_arguments class.CloseRound)))))
         (F.one_of (F.also m.call_after_dot (F.behind class.Dot (F.one_of (F.made m.dot_map k_map) (F.made m.dot_resolve k_resolve))))
         (F.also m.call_after_arrow (F.behind class.Arrow (F.one_of (F.made m.arrow_map k_map) (F.made m.arrow_resolve k_resolve))))))
 
-    k_primary : K _ R.primary (Primary j)
-    unfolding Primary
+    k_primary : K _ R.primary (PrimaryRow j)
+    unfolding PrimaryRow
     k_primary = F.one_of (F.made m.int_of (k_one class.Integer)) (F.one_of (F.made m.str_of (k_one class.Str)) (F.one_of (F.made m.true_of (k_one class.TrueWord)) (F.one_of (F.made m.false_of (k_one class.FalseWord))
         (F.one_of (F.made m.null_of (k_one class.NullWord)) (F.one_of (F.made m.self_of (k_one class.SelfWord)) (F.one_of (F.made m.result_of (k_one class.ResultWord)) (F.one_of (F.made m.path_expr k_path)
         (F.one_of (F.made m.call_of (F.both k_name k_args)) (F.one_of (F.made m.coll_of (F.both k_kind (F.lists class.OpenBrace k_item class.CloseBrace)))
@@ -431,24 +431,24 @@ module _ {ℓ} {I : Type 0 → Type ℓ} {K : (A : Type 0) → I A → Phrase A 
         (F.one_of (F.made m.new_of (F.both (k_one class.NewWord) (F.both k_path (F.both (F.perhaps k_extent) k_args))))
         (F.one_of (F.made m.map_expr k_map) (F.one_of (F.made m.resolve_expr k_resolve) (F.also m.brackets (F.round class.OpenRound h.expr class.CloseRound))))))))))))))))
 
-    k_post : K _ R.post (Post j)
-    unfolding Post
+    k_post : K _ R.post (PostRow j)
+    unfolding PostRow
     k_post = F.made m.stepped_of (F.at (F.both k_primary (F.turns k_step)))
 
-    k_pre : K _ (R.operand levels.Product) (Pre j)
-    unfolding Pre
+    k_pre : K _ (R.operand levels.Product) (PreRow j)
+    unfolding PreRow
     k_pre = F.made m.signed_of (F.at (F.both (F.turns (F.one_of (F.made m.not_of (k_one class.NotWord)) (F.made m.minus_of (k_one class.MinusSign)))) k_post))
 
-    k_expr : K _ S.expr (Expr j)
-    unfolding Mul Add Rel Eq And Or Xor Expr
+    k_expr : K _ S.expr (ExprRow j)
+    unfolding MulRow AddRow RelRow EqRow AndRow OrRow XorRow ExprRow
     k_expr = k_chain levels.Implies (k_chain levels.Xor (k_chain levels.Or (k_chain levels.And (k_chain levels.Equality (k_chain levels.Relation (k_chain levels.Sum (k_chain levels.Product k_pre)))))))
 
-    k_target : K _ S.target (Target j)
-    unfolding Target
+    k_target : K _ S.target (TargetRow j)
+    unfolding TargetRow
     k_target = F.one_of (F.made m.named_target k_name) (F.one_of (F.made m.result_target (k_one class.ResultWord)) (F.made m.feature_target (F.both k_post (F.behind class.Dot k_name))))
 
-    k_simple : K _ S.stmt (Simple j)
-    unfolding Simple
+    k_simple : K _ S.stmt (SimpleRow j)
+    unfolding SimpleRow
     k_simple = F.barred class.IfWord (F.one_of (F.made m.var_of (F.at (F.both (k_one class.VarWord) (F.both k_name (F.both (F.perhaps k_colon) (F.perhaps (F.behind class.Becomes h.expr)))))))
         (F.one_of (F.made m.assign_of (F.both k_target (F.both (F.choice (class.Becomes ∷ class.PlusEqual ∷ [])) h.expr)))
         (F.one_of (F.made m.return_of (F.at (F.both (k_one class.ReturnWord) (F.perhaps h.expr)))) (F.made m.value_of (F.at k_expr)))))
@@ -459,45 +459,45 @@ module _ {ℓ} {I : Type 0 → Type ℓ} {K : (A : Type 0) → I A → Phrase A 
     k_arm : K _ S.arm (the class.ElifWord then between class.OpenRound j.expr class.CloseRound then maybe (the class.ThenWord) then j.block gives arm_of)
     k_arm = F.made m.arm_of (F.both (k_one class.ElifWord) (F.both k_condition (F.both (F.perhaps (k_one class.ThenWord)) h.block)))
 
-    k_each : K _ S.each (the class.ForEachWord then the class.OpenRound then Name then maybe (after class.Colon («Type» j)) then maybe (after class.Bar j.expr) then the class.CloseRound then j.block gives each_of)
+    k_each : K _ S.each (the class.ForEachWord then the class.OpenRound then NameRow then maybe (after class.Colon (TypeRow j)) then maybe (after class.Bar j.expr) then the class.CloseRound then j.block gives each_of)
     k_each = F.made m.each_of (F.both (k_one class.ForEachWord) (F.both (k_one class.OpenRound) (F.both k_name (F.both (F.perhaps k_colon) (F.both (F.perhaps (F.behind class.Bar h.expr)) (F.both (k_one class.CloseRound) h.block))))))
 
-    k_compound : K _ S.compound (Compound j)
-    unfolding Compound
+    k_compound : K _ S.compound (CompoundRow j)
+    unfolding CompoundRow
     k_compound = F.one_of (F.made m.block_form_of (F.at (F.both (k_one class.IfWord) (F.both k_condition (F.both (F.perhaps (k_one class.ThenWord)) (F.both h.block
         (F.both (F.turns k_arm) (F.both (F.perhaps (F.behind class.ElseWord h.block)) (F.perhaps (k_one class.EndifWord))))))))))
         (F.one_of (F.made m.while_of (F.at (F.both (k_one class.WhileWord) (F.both k_condition h.block)))) (F.made m.loop_of (F.at (F.both k_post (F.behind class.Arrow k_each)))))
 
-    k_items : K _ S.items (Items j)
-    unfolding Items
+    k_items : K _ S.items (ItemsRow j)
+    unfolding ItemsRow
     k_items = F.made m.concat (F.turns (F.one_of (F.made m.no_stmts (k_one class.Semicolon)) (F.one_of (F.made m.simple_turn (F.ahead k_simple class.Semicolon)) (F.made m.compound_turn k_compound))))
 
-    k_block : K _ S.block (Block j)
-    unfolding Block
+    k_block : K _ S.block (BlockRow j)
+    unfolding BlockRow
     k_block = F.also m.braces (F.round class.OpenBrace (F.made m.with_last (F.both k_items (F.perhaps k_simple))) class.CloseBrace)
 
-    k_params : K _ (params F S) (listed class.OpenRound (Params j) class.CloseRound)
-    unfolding Params Param
+    k_params : K _ (params F S) (listed class.OpenRound (ParamsRow j) class.CloseRound)
+    unfolding ParamsRow ParamRow
     k_params = F.lists class.OpenRound (F.made m.param_of (F.at (F.both (F.perhaps (k_one class.InWord)) (F.both k_name k_colon)))) class.CloseRound
 
-    k_extra : K _ S.clause (Extra j)
-    unfolding Extra
+    k_extra : K _ S.clause (ExtraRow j)
+    unfolding ExtraRow
     k_extra = F.one_of (F.made m.inherits (F.behind class.InheritsWord k_paths)) (F.one_of (F.made m.merges (F.behind class.MergesWord k_paths)) (F.one_of (F.made m.disjuncts (F.behind class.DisjunctsWord k_paths))
         (F.made m.condition (F.behind class.WhenWord (F.made m.guard (F.both (k_one class.OpenBrace) (F.both h.expr (F.made m.guard_end (F.both (F.perhaps (k_one class.Semicolon)) (k_one class.CloseBrace))))))))))
 
-    k_body : K _ S.body (Body j)
-    unfolding Body
+    k_body : K _ S.body (BodyRow j)
+    unfolding BodyRow
     k_body = F.made m.body_of (F.both (k_one class.OpenBrace) (F.both (F.perhaps (F.behind class.InitWord h.block)) (F.both (F.one_of
         (F.made m.sections_of (F.behind class.PopulationWord (F.both h.block (F.perhaps (F.behind class.EndWord h.block)))))
         (F.made m.open_sections (F.both k_items (F.one_of (F.made m.ends_in_simple (F.perhaps k_simple)) (F.made m.ends_in_block (F.behind class.EndWord h.block)))))) (k_one class.CloseBrace))))
 
-    k_class : K _ S.unit (placed (after class.IntermediateWord (after class.ClassWord (Name then maybe (after class.ExtendsWord Paths) then
-        (the class.OpenBrace then many (before (Name then after class.Colon («Type» j) gives typed_name_of) class.Semicolon) then the class.CloseBrace gives inner)))) gives class_of)
+    k_class : K _ S.unit (placed (after class.IntermediateWord (after class.ClassWord (NameRow then maybe (after class.ExtendsWord PathsRow) then
+        (the class.OpenBrace then many (before (NameRow then after class.Colon (TypeRow j) gives typed_name_of) class.Semicolon) then the class.CloseBrace gives inner)))) gives class_unit_of)
     k_class = F.made m.class_of (F.at (F.behind class.IntermediateWord (F.behind class.ClassWord (F.both k_name (F.both (F.perhaps (F.behind class.ExtendsWord k_paths))
         (F.round class.OpenBrace (F.turns (F.ahead (F.made m.typed_name_of (F.both k_name k_colon)) class.Semicolon)) class.CloseBrace))))))
 
-    k_unit : K _ S.unit («Unit» j)
-    unfolding «Unit»
+    k_unit : K _ S.unit (UnitRow j)
+    unfolding UnitRow
     k_unit = F.one_of k_class
         (F.one_of (F.made m.main_of (F.at (F.behind class.MainWord (F.behind class.OpenRound (F.behind class.CloseRound h.block)))))
         (F.one_of (F.made m.helper_of (F.both (F.choice (class.HelperWord ∷ class.QueryWord ∷ [])) (F.both k_unit_path (F.both k_params (F.both (F.perhaps k_colon) (F.one_of (F.also m.block_body h.block) (F.made m.return_body (F.ahead (F.both (k_one class.EqualSign) h.expr) class.Semicolon))))))))
@@ -505,13 +505,13 @@ module _ {ℓ} {I : Type 0 → Type ℓ} {K : (A : Type 0) → I A → Phrase A 
         (F.made m.mapping_of (F.behind class.MappingWord (F.both k_unit_path (F.both k_params (F.both (F.perhaps (F.behind class.Colon (F.made m.result_decl_of (F.both k_path (F.perhaps k_extent)))))
         (F.both (F.made m.clauses_of (m.once j k_extra)) (F.one_of k_body (F.made m.empty_body (k_one class.Semicolon))))))))))))
 
-  k_model_type : K _ S.model_type ModelType
-  unfolding ModelType
+  k_model_type : K _ S.model_type ModelTypeRow
+  unfolding ModelTypeRow
   k_model_type = F.made m.model_type_of (F.at (F.behind class.ModelTypeWord (F.both k_name (F.made m.source (F.both (F.perhaps m.strict)
       (F.round class.UsesWord (F.one_of (F.also m.uri_text (F.made m.string_of (k_one class.Str))) (F.also m.uri_named (F.behind class.Name (F.round class.OpenRound (F.made m.string_of (k_one class.Str)) class.CloseRound)))) class.Semicolon))))))
 
-  k_header : K _ (F.after_a class.TransformationWord (F.pair S.name S.model_params)) Header
-  unfolding Header ModelParam
+  k_header : K _ (F.after_a class.TransformationWord (F.pair S.name S.model_params)) HeaderRow
+  unfolding HeaderRow ModelParamRow
   k_header = F.behind class.TransformationWord (F.both (F.made m.name_of (k_one class.Name)) (F.made m.model_params (F.both (k_one class.OpenRound) (F.both
       (F.series (F.made m.model_param_of (F.both (F.choice (class.InWord ∷ class.OutWord ∷ class.InoutWord ∷ [])) (F.both k_name (F.behind class.Colon k_name)))))
       (F.ahead (k_one class.CloseRound) class.Semicolon)))))
@@ -521,9 +521,9 @@ module _ {ℓ} {I : Type 0 → Type ℓ} {K : (A : Type 0) → I A → Phrase A 
   k_inside zero = record { kind = F.no_list; expr = F.no_list; block = F.no_list }
   k_inside (suc n) = let h = k_inside n in record { kind = k_type h; expr = k_expr h; block = k_block h }
 
-  pub every_unit : (n : ℕ) → K UnitTerm S.unit («Unit» (inside n))
+  pub every_unit : (n : ℕ) → K UnitTerm S.unit (UnitRow (inside n))
   every_unit n = k_unit (k_inside n)
 
-  pub every_module : (n : ℕ) → K ModuleTerm S.whole (Module (inside n))
-  unfolding Module
+  pub every_module : (n : ℕ) → K ModuleTerm S.whole (ModuleRow (inside n))
+  unfolding ModuleRow
   every_module n = F.made m.module_of (F.both (F.turns k_model_type) (F.both k_header (F.turns (F.one_of (F.made m.some_unit (R.reads n (every_unit n))) (F.made m.no_units (k_one class.Semicolon))))))

@@ -5,9 +5,9 @@ use Rattle.qvt_language.specs.Same.{unplaced, SameTokens}
 use Rattle.qvt_language.specs.Units.{transformation, unit}
 use Rattle.qvt_language.specs.Module.{Start, FrontFrom}
 use Rattle.qvt_language_rows.specs.Phrase.{Phrase}
-use Rattle.qvt_language_rows.specs.Rows.{Inside}
-use Rattle.qvt_language_rows.specs.Units.{«Unit», Module}
-use Rattle.qvt_language_rows.specs.Language.{Is, Begins}
+use Rattle.qvt_language_rows.specs.Rows.{NestedRows}
+use Rattle.qvt_language_rows.specs.Units.{UnitRow, ModuleRow}
+use Rattle.qvt_language_rows.specs.Language.{Is, BeginsRow}
 use Rattle.qvt_language_rows.specs.Law.{AreOne, LooksAtNoPlace}
 use Rattle.qvt_language_rows.proofs.Alike.{unit_alike, module_alike}
 use Rattle.qvt_language_rows.proofs.Whole as rows
@@ -22,8 +22,8 @@ same_more (t ∷ ts) (s ∷ us) more e =
     let head : unplaced t ≡ unplaced s = cc in
     λ i. head i ∷ same_more ts us more tail i
 
-module _ {A : Type 0} (row : Inside → Phrase A) (start : Start A) (one : AreOne row start) (alike : (ts us : List Tok) (a : A) → SameTokens ts us → Is row ts a → (b : A) × Is row us b) where
-  front_too : (ts us : List Tok) → SameTokens ts us → Begins row ts → FrontFrom start us
+module _ {A : Type 0} (row : NestedRows → Phrase A) (start : Start A) (one : AreOne row start) (alike : (ts us : List Tok) (a : A) → SameTokens ts us → Is row ts a → (b : A) × Is row us b) where
+  front_too : (ts us : List Tok) → SameTokens ts us → BeginsRow row ts → FrontFrom start us
   front_too ts us e b =
       let w = alike (ts ++ b.more) (us ++ b.more) b.value (same_more ts us b.more e) b.whole in
       (one.begun us).0 (record { more = b.more; value = w.0; whole = w.1 })
@@ -35,7 +35,7 @@ module _ {A : Type 0} (row : Inside → Phrase A) (start : Start A) (one : AreOn
   }
 
 pub whole : LooksAtNoPlace transformation
-whole = no_place Module transformation rows.whole module_alike
+whole = no_place ModuleRow transformation rows.whole module_alike
 
 pub part : LooksAtNoPlace unit
-part = no_place «Unit» unit rows.part unit_alike
+part = no_place UnitRow unit rows.part unit_alike

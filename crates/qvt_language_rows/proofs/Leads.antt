@@ -10,7 +10,7 @@ use Rattle.qvt_language.specs.Tokens.{Tok}
 use Rattle.qvt_language.specs.Readers.{nowhere}
 use Rattle.qvt_language.specs.Leads.{Lead, Plain, Bracketed, Each, EachPart}
 use Rattle.qvt_language.specs.Trees.{expr_of, chain_of, binary_op}
-use Rattle.qvt_language.specs.StmtTrees.{IsPlain}
+use Rattle.qvt_language.specs.StmtTrees.{IsPlainLead}
 use Rattle.qvt_language.specs.Grammar.{level_of, operator, link, links, chain as chain_production}
 use Rattle.qvt_language_rows.specs.Phrase.{Phrase, ◌gives◌, ◌then◌, nothing, many}
 use Rattle.qvt_language_rows.specs.Values.{linked, chained}
@@ -29,7 +29,7 @@ module _ (T : Phrase TargetTerm) where
   means_plain F P ts e None rd k = rd
   means_plain F P ts e (Some t) rd k = (rd, k t refl)
 
-  pub plain_of : (F : Phrase (ExprTerm × EachPart)) (P : Phrase ExprTerm) (ts : List Tok) (x : Lead) → IsPlain x → Means T F P ts x → P ts (expr_of x)
+  pub plain_of : (F : Phrase (ExprTerm × EachPart)) (P : Phrase ExprTerm) (ts : List Tok) (x : Lead) → IsPlainLead x → Means T F P ts x → P ts (expr_of x)
   plain_of F P ts (Plain e None) p m = m
   plain_of F P ts (Plain e (Some t)) p m = m.0
   plain_of F P ts (Bracketed e) p m = m
@@ -85,7 +85,7 @@ module _ (T : Phrase TargetTerm) (F : Phrase (ExprTerm × EachPart)) (P : Phrase
 
 -- an expression of the parser that this one is
 abbrev pub HasLead : Language Tok Lead → List Tok → ExprTerm → Type 0
-HasLead l ts e = (x : Lead) × l.reads ts x × (e ≡ expr_of x) × IsPlain x
+HasLead l ts e = (x : Lead) × l.reads ts x × (e ≡ expr_of x) × IsPlainLead x
 
 -- to the parser's chain; G tells which lists the first operand may begin
 module _ (G : List Tok → Type 0) (parts : (u v : List Tok) → G (u ++ v) → G u) (P : Phrase ExprTerm) (k : ℕ) (p q : Language Tok Lead)
@@ -98,7 +98,7 @@ module _ (G : List Tok → Type 0) (parts : (u v : List Tok) → G (u ++ v) → 
       let w = other b x.1 operand in
       (u, v, e, ((x.0, w.0), (a, b, e1, sign, w.1), d ∙ ap (λ z. LinkOf (binary_op x.0.class) z x.0.place) w.2), links_of_rows ls v more)
 
-  all_links : (z : Lead) (ls : List LinkTerm) (v : List Tok) → IsPlain z → language.turns (link k (chain_production k q q)) v ls → (links k (chain_production k q q) z).reads v ls
+  all_links : (z : Lead) (ls : List LinkTerm) (v : List Tok) → IsPlainLead z → language.turns (link k (chain_production k q q)) v ls → (links k (chain_production k q q) z).reads v ls
   all_links (Plain e o) ls v is rd = rd
   all_links (Bracketed e) ls v is rd = rd
   all_links (Each e part) ls v is rd = absurd is
@@ -107,7 +107,7 @@ module _ (G : List Tok → Type 0) (parts : (u v : List Tok) → G (u ++ v) → 
   chain_expr place z [] e d = d
   chain_expr place z (l ∷ ls) e d = ap (λ y. ChainExpr (level_of k) y (links_of (l ∷ ls)) place) d
 
-  chain_plain : (place : Place) (z : Lead) (ls : List LinkTerm) → IsPlain z → IsPlain (chain_of (level_of k) (place, (z, ls)))
+  chain_plain : (place : Place) (z : Lead) (ls : List LinkTerm) → IsPlainLead z → IsPlainLead (chain_of (level_of k) (place, (z, ls)))
   chain_plain place z [] is = is
   chain_plain place z (l ∷ ls) is = tt
 

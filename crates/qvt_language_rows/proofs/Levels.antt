@@ -6,9 +6,9 @@ use Rattle.qvt_tree_types.specs.Tree.{ExprTerm, TargetTerm}
 use Rattle.qvt_language.specs.Tokens.{Tok}
 use Rattle.qvt_language.specs.Leads.{Lead, EachPart}
 use Rattle.qvt_language.specs.Trees.{expr_of}
-use Rattle.qvt_language.specs.Grammar.{Nested, primary, pre, lead_pre, flagged, lead, chain as chain_production}
+use Rattle.qvt_language.specs.Grammar.{NestedLanguages, primary, pre, lead_pre, flagged, lead, chain as chain_production}
 use Rattle.qvt_language_rows.specs.Phrase.{Phrase, nothing}
-use Rattle.qvt_language_rows.specs.Rows.{Inside, Pre, Mul, Add, Rel, Eq, And, Or, Xor, Expr, Target}
+use Rattle.qvt_language_rows.specs.Rows.{NestedRows, PreRow, MulRow, AddRow, RelRow, EqRow, AndRow, OrRow, XorRow, ExprRow, TargetRow}
 use Rattle.qvt_language_rows.proofs.Ties.{Ties}
 use Rattle.qvt_language_rows.proofs.Plain.{TiesInside}
 use Rattle.qvt_language_rows.proofs.Leads.{Means, never_each, chain_to, HasLead, chain_row_of}
@@ -23,105 +23,105 @@ HasAll G P l = (ts : List Tok) (e : ExprTerm) → G ts → P ts e → HasLead l 
 abbrev any : List Tok → Type 0
 any ts = Unit {0}
 
-module _ {i : Nested} {j : Inside} {k : Nested} (h : TiesInside i j k) (solid_i : (x : ExprTerm × Bool) → (primary i).reads [] x → ⊥) (solid_k : (x : ExprTerm × Bool) → (primary k).reads [] x → ⊥) where
-  others : MeansAll (Target j) nothing (Pre j) (chain_production 0 (pre i) (pre i))
+module _ {i : NestedLanguages} {j : NestedRows} {k : NestedLanguages} (h : TiesInside i j k) (solid_i : (x : ExprTerm × Bool) → (primary i).reads [] x → ⊥) (solid_k : (x : ExprTerm × Bool) → (primary k).reads [] x → ⊥) where
+  others : MeansAll (TargetRow j) nothing (PreRow j) (chain_production 0 (pre i) (pre i))
   unfolding chain_production
   others = pre_to h solid_i solid_k
 
-  mul_to : (F : Phrase (ExprTerm × EachPart)) (p : Language Tok Lead) → MeansAll (Target j) F (Pre j) (chain_production 0 p (pre i)) → MeansAll (Target j) F (Mul j) (chain_production 1 p (pre i))
-  unfolding Mul
-  mul_to F p b = chain_to (Target j) F (Pre j) 0 p (pre i) b others
+  mul_to : (F : Phrase (ExprTerm × EachPart)) (p : Language Tok Lead) → MeansAll (TargetRow j) F (PreRow j) (chain_production 0 p (pre i)) → MeansAll (TargetRow j) F (MulRow j) (chain_production 1 p (pre i))
+  unfolding MulRow
+  mul_to F p b = chain_to (TargetRow j) F (PreRow j) 0 p (pre i) b others
 
-  add_to : (F : Phrase (ExprTerm × EachPart)) (p : Language Tok Lead) → MeansAll (Target j) F (Pre j) (chain_production 0 p (pre i)) → MeansAll (Target j) F (Add j) (chain_production 2 p (pre i))
-  unfolding Add
-  add_to F p b = chain_to (Target j) F (Mul j) 1 p (pre i) (mul_to F p b) (mul_to nothing (pre i) others)
+  add_to : (F : Phrase (ExprTerm × EachPart)) (p : Language Tok Lead) → MeansAll (TargetRow j) F (PreRow j) (chain_production 0 p (pre i)) → MeansAll (TargetRow j) F (AddRow j) (chain_production 2 p (pre i))
+  unfolding AddRow
+  add_to F p b = chain_to (TargetRow j) F (MulRow j) 1 p (pre i) (mul_to F p b) (mul_to nothing (pre i) others)
 
-  rel_to : (F : Phrase (ExprTerm × EachPart)) (p : Language Tok Lead) → MeansAll (Target j) F (Pre j) (chain_production 0 p (pre i)) → MeansAll (Target j) F (Rel j) (chain_production 3 p (pre i))
-  unfolding Rel
-  rel_to F p b = chain_to (Target j) F (Add j) 2 p (pre i) (add_to F p b) (add_to nothing (pre i) others)
+  rel_to : (F : Phrase (ExprTerm × EachPart)) (p : Language Tok Lead) → MeansAll (TargetRow j) F (PreRow j) (chain_production 0 p (pre i)) → MeansAll (TargetRow j) F (RelRow j) (chain_production 3 p (pre i))
+  unfolding RelRow
+  rel_to F p b = chain_to (TargetRow j) F (AddRow j) 2 p (pre i) (add_to F p b) (add_to nothing (pre i) others)
 
-  eq_to : (F : Phrase (ExprTerm × EachPart)) (p : Language Tok Lead) → MeansAll (Target j) F (Pre j) (chain_production 0 p (pre i)) → MeansAll (Target j) F (Eq j) (chain_production 4 p (pre i))
-  unfolding Eq
-  eq_to F p b = chain_to (Target j) F (Rel j) 3 p (pre i) (rel_to F p b) (rel_to nothing (pre i) others)
+  eq_to : (F : Phrase (ExprTerm × EachPart)) (p : Language Tok Lead) → MeansAll (TargetRow j) F (PreRow j) (chain_production 0 p (pre i)) → MeansAll (TargetRow j) F (EqRow j) (chain_production 4 p (pre i))
+  unfolding EqRow
+  eq_to F p b = chain_to (TargetRow j) F (RelRow j) 3 p (pre i) (rel_to F p b) (rel_to nothing (pre i) others)
 
-  and_to : (F : Phrase (ExprTerm × EachPart)) (p : Language Tok Lead) → MeansAll (Target j) F (Pre j) (chain_production 0 p (pre i)) → MeansAll (Target j) F (And j) (chain_production 5 p (pre i))
-  unfolding And
-  and_to F p b = chain_to (Target j) F (Eq j) 4 p (pre i) (eq_to F p b) (eq_to nothing (pre i) others)
+  and_to : (F : Phrase (ExprTerm × EachPart)) (p : Language Tok Lead) → MeansAll (TargetRow j) F (PreRow j) (chain_production 0 p (pre i)) → MeansAll (TargetRow j) F (AndRow j) (chain_production 5 p (pre i))
+  unfolding AndRow
+  and_to F p b = chain_to (TargetRow j) F (EqRow j) 4 p (pre i) (eq_to F p b) (eq_to nothing (pre i) others)
 
-  or_to : (F : Phrase (ExprTerm × EachPart)) (p : Language Tok Lead) → MeansAll (Target j) F (Pre j) (chain_production 0 p (pre i)) → MeansAll (Target j) F (Or j) (chain_production 6 p (pre i))
-  unfolding Or
-  or_to F p b = chain_to (Target j) F (And j) 5 p (pre i) (and_to F p b) (and_to nothing (pre i) others)
+  or_to : (F : Phrase (ExprTerm × EachPart)) (p : Language Tok Lead) → MeansAll (TargetRow j) F (PreRow j) (chain_production 0 p (pre i)) → MeansAll (TargetRow j) F (OrRow j) (chain_production 6 p (pre i))
+  unfolding OrRow
+  or_to F p b = chain_to (TargetRow j) F (AndRow j) 5 p (pre i) (and_to F p b) (and_to nothing (pre i) others)
 
-  xor_to : (F : Phrase (ExprTerm × EachPart)) (p : Language Tok Lead) → MeansAll (Target j) F (Pre j) (chain_production 0 p (pre i)) → MeansAll (Target j) F (Xor j) (chain_production 7 p (pre i))
-  unfolding Xor
-  xor_to F p b = chain_to (Target j) F (Or j) 6 p (pre i) (or_to F p b) (or_to nothing (pre i) others)
+  xor_to : (F : Phrase (ExprTerm × EachPart)) (p : Language Tok Lead) → MeansAll (TargetRow j) F (PreRow j) (chain_production 0 p (pre i)) → MeansAll (TargetRow j) F (XorRow j) (chain_production 7 p (pre i))
+  unfolding XorRow
+  xor_to F p b = chain_to (TargetRow j) F (OrRow j) 6 p (pre i) (or_to F p b) (or_to nothing (pre i) others)
 
-  expr_to : (F : Phrase (ExprTerm × EachPart)) (p : Language Tok Lead) → MeansAll (Target j) F (Pre j) (chain_production 0 p (pre i)) → MeansAll (Target j) F (Expr j) (chain_production 8 p (pre i))
-  unfolding Expr
-  expr_to F p b = chain_to (Target j) F (Xor j) 7 p (pre i) (xor_to F p b) (xor_to nothing (pre i) others)
+  expr_to : (F : Phrase (ExprTerm × EachPart)) (p : Language Tok Lead) → MeansAll (TargetRow j) F (PreRow j) (chain_production 0 p (pre i)) → MeansAll (TargetRow j) F (ExprRow j) (chain_production 8 p (pre i))
+  unfolding ExprRow
+  expr_to F p b = chain_to (TargetRow j) F (XorRow j) 7 p (pre i) (xor_to F p b) (xor_to nothing (pre i) others)
 
-  pub flagged_to : MeansAll (Target j) nothing (Expr j) (flagged i)
+  pub flagged_to : MeansAll (TargetRow j) nothing (ExprRow j) (flagged i)
   unfolding flagged
   flagged_to = expr_to nothing (pre i) others
 
-  lead_first : MeansAll (Target j) (loop_row j) (Pre j) (chain_production 0 (lead_pre i) (pre i))
+  lead_first : MeansAll (TargetRow j) (loop_row j) (PreRow j) (chain_production 0 (lead_pre i) (pre i))
   unfolding chain_production
   lead_first = lead_pre_to h solid_i solid_k
 
-  pub lead_to : MeansAll (Target j) (loop_row j) (Expr j) (lead i)
+  pub lead_to : MeansAll (TargetRow j) (loop_row j) (ExprRow j) (lead i)
   unfolding lead
   lead_to = expr_to (loop_row j) (lead_pre i) lead_first
 
-  others_of : HasAll any (Pre j) (chain_production 0 (pre k) (pre k))
+  others_of : HasAll any (PreRow j) (chain_production 0 (pre k) (pre k))
   unfolding chain_production
   others_of ts e g rd = pre_of h solid_i solid_k ts e rd
 
-  mul_of_row : (G : List Tok → Type 0) (parts : (u v : List Tok) → G (u ++ v) → G u) (p : Language Tok Lead) → HasAll G (Pre j) (chain_production 0 p (pre k)) → HasAll G (Mul j) (chain_production 1 p (pre k))
-  unfolding Mul
-  mul_of_row G parts p b = chain_row_of G parts (Pre j) 0 p (pre k) b (λ ts e rd. others_of ts e tt rd)
+  mul_of_row : (G : List Tok → Type 0) (parts : (u v : List Tok) → G (u ++ v) → G u) (p : Language Tok Lead) → HasAll G (PreRow j) (chain_production 0 p (pre k)) → HasAll G (MulRow j) (chain_production 1 p (pre k))
+  unfolding MulRow
+  mul_of_row G parts p b = chain_row_of G parts (PreRow j) 0 p (pre k) b (λ ts e rd. others_of ts e tt rd)
 
-  add_of_row : (G : List Tok → Type 0) (parts : (u v : List Tok) → G (u ++ v) → G u) (p : Language Tok Lead) → HasAll G (Pre j) (chain_production 0 p (pre k)) → HasAll G (Add j) (chain_production 2 p (pre k))
-  unfolding Add
-  add_of_row G parts p b = chain_row_of G parts (Mul j) 1 p (pre k) (mul_of_row G parts p b) (λ ts e rd. mul_of_row any (λ u v g. tt) (pre k) others_of ts e tt rd)
+  add_of_row : (G : List Tok → Type 0) (parts : (u v : List Tok) → G (u ++ v) → G u) (p : Language Tok Lead) → HasAll G (PreRow j) (chain_production 0 p (pre k)) → HasAll G (AddRow j) (chain_production 2 p (pre k))
+  unfolding AddRow
+  add_of_row G parts p b = chain_row_of G parts (MulRow j) 1 p (pre k) (mul_of_row G parts p b) (λ ts e rd. mul_of_row any (λ u v g. tt) (pre k) others_of ts e tt rd)
 
-  rel_of_row : (G : List Tok → Type 0) (parts : (u v : List Tok) → G (u ++ v) → G u) (p : Language Tok Lead) → HasAll G (Pre j) (chain_production 0 p (pre k)) → HasAll G (Rel j) (chain_production 3 p (pre k))
-  unfolding Rel
-  rel_of_row G parts p b = chain_row_of G parts (Add j) 2 p (pre k) (add_of_row G parts p b) (λ ts e rd. add_of_row any (λ u v g. tt) (pre k) others_of ts e tt rd)
+  rel_of_row : (G : List Tok → Type 0) (parts : (u v : List Tok) → G (u ++ v) → G u) (p : Language Tok Lead) → HasAll G (PreRow j) (chain_production 0 p (pre k)) → HasAll G (RelRow j) (chain_production 3 p (pre k))
+  unfolding RelRow
+  rel_of_row G parts p b = chain_row_of G parts (AddRow j) 2 p (pre k) (add_of_row G parts p b) (λ ts e rd. add_of_row any (λ u v g. tt) (pre k) others_of ts e tt rd)
 
-  eq_of_row : (G : List Tok → Type 0) (parts : (u v : List Tok) → G (u ++ v) → G u) (p : Language Tok Lead) → HasAll G (Pre j) (chain_production 0 p (pre k)) → HasAll G (Eq j) (chain_production 4 p (pre k))
-  unfolding Eq
-  eq_of_row G parts p b = chain_row_of G parts (Rel j) 3 p (pre k) (rel_of_row G parts p b) (λ ts e rd. rel_of_row any (λ u v g. tt) (pre k) others_of ts e tt rd)
+  eq_of_row : (G : List Tok → Type 0) (parts : (u v : List Tok) → G (u ++ v) → G u) (p : Language Tok Lead) → HasAll G (PreRow j) (chain_production 0 p (pre k)) → HasAll G (EqRow j) (chain_production 4 p (pre k))
+  unfolding EqRow
+  eq_of_row G parts p b = chain_row_of G parts (RelRow j) 3 p (pre k) (rel_of_row G parts p b) (λ ts e rd. rel_of_row any (λ u v g. tt) (pre k) others_of ts e tt rd)
 
-  and_of_row : (G : List Tok → Type 0) (parts : (u v : List Tok) → G (u ++ v) → G u) (p : Language Tok Lead) → HasAll G (Pre j) (chain_production 0 p (pre k)) → HasAll G (And j) (chain_production 5 p (pre k))
-  unfolding And
-  and_of_row G parts p b = chain_row_of G parts (Eq j) 4 p (pre k) (eq_of_row G parts p b) (λ ts e rd. eq_of_row any (λ u v g. tt) (pre k) others_of ts e tt rd)
+  and_of_row : (G : List Tok → Type 0) (parts : (u v : List Tok) → G (u ++ v) → G u) (p : Language Tok Lead) → HasAll G (PreRow j) (chain_production 0 p (pre k)) → HasAll G (AndRow j) (chain_production 5 p (pre k))
+  unfolding AndRow
+  and_of_row G parts p b = chain_row_of G parts (EqRow j) 4 p (pre k) (eq_of_row G parts p b) (λ ts e rd. eq_of_row any (λ u v g. tt) (pre k) others_of ts e tt rd)
 
-  or_of_row : (G : List Tok → Type 0) (parts : (u v : List Tok) → G (u ++ v) → G u) (p : Language Tok Lead) → HasAll G (Pre j) (chain_production 0 p (pre k)) → HasAll G (Or j) (chain_production 6 p (pre k))
-  unfolding Or
-  or_of_row G parts p b = chain_row_of G parts (And j) 5 p (pre k) (and_of_row G parts p b) (λ ts e rd. and_of_row any (λ u v g. tt) (pre k) others_of ts e tt rd)
+  or_of_row : (G : List Tok → Type 0) (parts : (u v : List Tok) → G (u ++ v) → G u) (p : Language Tok Lead) → HasAll G (PreRow j) (chain_production 0 p (pre k)) → HasAll G (OrRow j) (chain_production 6 p (pre k))
+  unfolding OrRow
+  or_of_row G parts p b = chain_row_of G parts (AndRow j) 5 p (pre k) (and_of_row G parts p b) (λ ts e rd. and_of_row any (λ u v g. tt) (pre k) others_of ts e tt rd)
 
-  xor_of_row : (G : List Tok → Type 0) (parts : (u v : List Tok) → G (u ++ v) → G u) (p : Language Tok Lead) → HasAll G (Pre j) (chain_production 0 p (pre k)) → HasAll G (Xor j) (chain_production 7 p (pre k))
-  unfolding Xor
-  xor_of_row G parts p b = chain_row_of G parts (Or j) 6 p (pre k) (or_of_row G parts p b) (λ ts e rd. or_of_row any (λ u v g. tt) (pre k) others_of ts e tt rd)
+  xor_of_row : (G : List Tok → Type 0) (parts : (u v : List Tok) → G (u ++ v) → G u) (p : Language Tok Lead) → HasAll G (PreRow j) (chain_production 0 p (pre k)) → HasAll G (XorRow j) (chain_production 7 p (pre k))
+  unfolding XorRow
+  xor_of_row G parts p b = chain_row_of G parts (OrRow j) 6 p (pre k) (or_of_row G parts p b) (λ ts e rd. or_of_row any (λ u v g. tt) (pre k) others_of ts e tt rd)
 
-  expr_of_row : (G : List Tok → Type 0) (parts : (u v : List Tok) → G (u ++ v) → G u) (p : Language Tok Lead) → HasAll G (Pre j) (chain_production 0 p (pre k)) → HasAll G (Expr j) (chain_production 8 p (pre k))
-  unfolding Expr
-  expr_of_row G parts p b = chain_row_of G parts (Xor j) 7 p (pre k) (xor_of_row G parts p b) (λ ts e rd. xor_of_row any (λ u v g. tt) (pre k) others_of ts e tt rd)
+  expr_of_row : (G : List Tok → Type 0) (parts : (u v : List Tok) → G (u ++ v) → G u) (p : Language Tok Lead) → HasAll G (PreRow j) (chain_production 0 p (pre k)) → HasAll G (ExprRow j) (chain_production 8 p (pre k))
+  unfolding ExprRow
+  expr_of_row G parts p b = chain_row_of G parts (XorRow j) 7 p (pre k) (xor_of_row G parts p b) (λ ts e rd. xor_of_row any (λ u v g. tt) (pre k) others_of ts e tt rd)
 
-  pub flagged_of : (ts : List Tok) (e : ExprTerm) → Expr j ts e → HasLead (flagged k) ts e
+  pub flagged_of : (ts : List Tok) (e : ExprTerm) → ExprRow j ts e → HasLead (flagged k) ts e
   unfolding flagged
   flagged_of ts e rd = expr_of_row any (λ u v g. tt) (pre k) others_of ts e tt rd
 
-  lead_first_of : HasAll NoIf (Pre j) (chain_production 0 (lead_pre k) (pre k))
+  lead_first_of : HasAll NoIf (PreRow j) (chain_production 0 (lead_pre k) (pre k))
   unfolding chain_production
   lead_first_of = lead_pre_of h solid_i solid_k
 
-  pub lead_of : (ts : List Tok) (e : ExprTerm) → NoIf ts → Expr j ts e → HasLead (lead k) ts e
+  pub lead_of : (ts : List Tok) (e : ExprTerm) → NoIf ts → ExprRow j ts e → HasLead (lead k) ts e
   unfolding lead
   lead_of = expr_of_row NoIf no_if_first (lead_pre k) lead_first_of
 
-  pub ties_flagged : Ties (language.made expr_of (flagged i)) (Expr j) (language.made expr_of (flagged k))
+  pub ties_flagged : Ties (language.made expr_of (flagged i)) (ExprRow j) (language.made expr_of (flagged k))
   ties_flagged = record {
-    to = λ ts e rd. subst (λ z. Expr j ts z) (sym rd.2) (never_each (Target j) (Expr j) ts rd.0 (flagged_to ts rd.0 rd.1));
+    to = λ ts e rd. subst (λ z. ExprRow j ts z) (sym rd.2) (never_each (TargetRow j) (ExprRow j) ts rd.0 (flagged_to ts rd.0 rd.1));
     of = λ ts e rd. (let w = flagged_of ts e rd in (w.0, w.1, w.2));
   }

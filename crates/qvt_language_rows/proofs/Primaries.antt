@@ -7,9 +7,9 @@ use Rattle.qvt_language.specs.Tokens.{Tok, is}
 use Rattle.qvt_language.specs.declared.named.Named.{Named}
 use Rattle.qvt_language.specs.declared.class.Class.TheVariants as class
 use Rattle.qvt_language.specs.Trees.{path_of, named_expr_of, bare_target, if_of, new_of}
-use Rattle.qvt_language.specs.Grammar.{Nested, name, more_names, path, literal, word, named_expr, coll, object, new_expr, if_expr, longer, brackets, bare_expr, other_primary, primary}
+use Rattle.qvt_language.specs.Grammar.{NestedLanguages, name, more_names, path, literal, word, named_expr, coll, object, new_expr, if_expr, longer, brackets, bare_expr, other_primary, primary}
 use Rattle.qvt_language_rows.specs.Phrase.{◌gives◌, ◌then◌, the, maybe, placed, after, between, listed}
-use Rattle.qvt_language_rows.specs.Rows.{Inside, Name, Path, Extent, Exprs, Primary, Target}
+use Rattle.qvt_language_rows.specs.Rows.{NestedRows, NameRow, PathRow, ExtentRow, ExprsRow, PrimaryRow, TargetRow}
 use Rattle.qvt_language_rows.proofs.Ties.{Ties, ties_the, ties_then, ties_gives, ties_placed, ties_after, ties_between}
 use Rattle.qvt_language_rows.proofs.Plain.{TiesInside, ties_name, ties_path, ties_extent, ties_args, ties_map, ties_coll}
 use Rattle.qvt_language_rows.proofs.Steps.{path_row, ties_object, ties_resolve}
@@ -23,12 +23,12 @@ no_target e f t q n h = let k : None ≡ Some t = sym n ∙ sym (ap bare_target 
 some_inj : (s t : TargetTerm) → Some s ≡ Some t → t ≡ s
 some_inj s t h = let k : s ≡ t = cc in sym k
 
-module _ {i : Nested} {j : Inside} {k : Nested} (h : TiesInside i j k) where
+module _ {i : NestedLanguages} {j : NestedRows} {k : NestedLanguages} (h : TiesInside i j k) where
   pub ties_if : Ties (if_expr i) (placed (the class.IfWord then j.expr then after class.ThenWord j.expr then between class.ElseWord j.expr class.EndifWord) gives if_of) (if_expr k)
   unfolding if_expr
   ties_if = ties_gives if_of (ties_placed (ties_then (ties_the class.IfWord) (ties_then h.expr (ties_then (ties_after class.ThenWord h.expr) (ties_between class.ElseWord class.EndifWord h.expr)))))
 
-  ties_new : Ties (new_expr i) (the class.NewWord then Path then maybe Extent then listed class.OpenRound (Exprs j) class.CloseRound gives new_of) (new_expr k)
+  ties_new : Ties (new_expr i) (the class.NewWord then PathRow then maybe ExtentRow then listed class.OpenRound (ExprsRow j) class.CloseRound gives new_of) (new_expr k)
   unfolding new_expr
   ties_new = ties_gives new_of (ties_then (ties_the class.NewWord) (ties_then ties_path (ties_then ties_extent (ties_args h))))
 
@@ -38,8 +38,8 @@ module _ {i : Nested} {j : Inside} {k : Nested} (h : TiesInside i j k) where
 
   -- from the parser's productions
 
-  bare_to : (ts : List Tok) (e : ExprTerm) → (bare_expr i).reads ts e → Primary j ts e
-  unfolding bare_expr literal word named_expr longer Primary
+  bare_to : (ts : List Tok) (e : ExprTerm) → (bare_expr i).reads ts e → PrimaryRow j ts e
+  unfolding bare_expr literal word named_expr longer PrimaryRow
   bare_to ts e (inl (inl rd)) = inl rd
   bare_to ts e (inl (inr (inl rd))) = inr (inl rd)
   bare_to ts e (inl (inr (inr (inl rd)))) = inr (inr (inl rd))
@@ -55,31 +55,31 @@ module _ {i : Nested} {j : Inside} {k : Nested} (h : TiesInside i j k) where
   bare_to ts e (inr (inr (inr (inr (inr (inr (inl (m, rd, q)))))))) = inr (inr (inr (inr (inr (inr (inr (inr (inr (inr (inr (inr (inr (inl (m, (ties_map h).to ts m rd, q))))))))))))))
   bare_to ts e (inr (inr (inr (inr (inr (inr (inr (m, rd, q)))))))) = inr (inr (inr (inr (inr (inr (inr (inr (inr (inr (inr (inr (inr (inr (inl (m, (ties_resolve h).to ts m rd, q)))))))))))))))
 
-  pub at_if : (ts : List Tok) (e : ExprTerm) → (placed (the class.IfWord then j.expr then after class.ThenWord j.expr then between class.ElseWord j.expr class.EndifWord) gives if_of) ts e → Primary j ts e
-  unfolding Primary
+  pub at_if : (ts : List Tok) (e : ExprTerm) → (placed (the class.IfWord then j.expr then after class.ThenWord j.expr then between class.ElseWord j.expr class.EndifWord) gives if_of) ts e → PrimaryRow j ts e
+  unfolding PrimaryRow
   at_if ts e rd = inr (inr (inr (inr (inr (inr (inr (inr (inr (inr (inl rd))))))))))
 
-  at_brackets : (ts : List Tok) (e : ExprTerm) → between class.OpenRound j.expr class.CloseRound ts e → Primary j ts e
-  unfolding Primary
+  at_brackets : (ts : List Tok) (e : ExprTerm) → between class.OpenRound j.expr class.CloseRound ts e → PrimaryRow j ts e
+  unfolding PrimaryRow
   at_brackets ts e rd = inr (inr (inr (inr (inr (inr (inr (inr (inr (inr (inr (inr (inr (inr (inr (rd)))))))))))))))
 
-  pub primary_to : (ts : List Tok) (x : ExprTerm × Bool) → (primary i).reads ts x → Primary j ts x.0
+  pub primary_to : (ts : List Tok) (x : ExprTerm × Bool) → (primary i).reads ts x → PrimaryRow j ts x.0
   unfolding primary other_primary
-  primary_to ts x (inl (e, rd, q)) = subst (λ z. Primary j ts z) (sym (ap (λ z. z.0) q)) (at_if ts e (ties_if.to ts e rd))
-  primary_to ts x (inr (inl (e, rd, q))) = subst (λ z. Primary j ts z) (sym (ap (λ z. z.0) q)) (at_brackets ts e (ties_brackets.to ts e rd))
-  primary_to ts x (inr (inr (e, rd, q))) = subst (λ z. Primary j ts z) (sym (ap (λ z. z.0) q)) (bare_to ts e rd)
+  primary_to ts x (inl (e, rd, q)) = subst (λ z. PrimaryRow j ts z) (sym (ap (λ z. z.0) q)) (at_if ts e (ties_if.to ts e rd))
+  primary_to ts x (inr (inl (e, rd, q))) = subst (λ z. PrimaryRow j ts z) (sym (ap (λ z. z.0) q)) (at_brackets ts e (ties_brackets.to ts e rd))
+  primary_to ts x (inr (inr (e, rd, q))) = subst (λ z. PrimaryRow j ts z) (sym (ap (λ z. z.0) q)) (bare_to ts e rd)
 
   -- an expression of one name, or of the word `result`, is a target too
-  names_target : (ts u v : List Tok) (n : Named) (ns : List Named) (t : TargetTerm) → ts ≡ u ++ v → name.reads u n → more_names.reads v ns → bare_target (PathExpr (path_of (n, ns))) ≡ Some t → Target j ts t
-  unfolding more_names Target
-  names_target ts u v n [] t cut nm rd q = inl (n, subst (λ z. Name z n) (sym (cut ∙ ap (λ z. u ++ z) rd ∙ append-nil u)) (ties_name.to u n nm), some_inj (BareTarget n.text n.place) t q)
+  names_target : (ts u v : List Tok) (n : Named) (ns : List Named) (t : TargetTerm) → ts ≡ u ++ v → name.reads u n → more_names.reads v ns → bare_target (PathExpr (path_of (n, ns))) ≡ Some t → TargetRow j ts t
+  unfolding more_names TargetRow
+  names_target ts u v n [] t cut nm rd q = inl (n, subst (λ z. NameRow z n) (sym (cut ∙ ap (λ z. u ++ z) rd ∙ append-nil u)) (ties_name.to u n nm), some_inj (BareTarget n.text n.place) t q)
   names_target ts u v n (m ∷ ms) t cut nm rd q = absurd cc
 
-  result_row : (ts : List Tok) (x : Tok) (t : TargetTerm) → the class.ResultWord ts x → t ≡ ResultTarget x.place → Target j ts t
-  unfolding Target
+  result_row : (ts : List Tok) (x : Tok) (t : TargetTerm) → the class.ResultWord ts x → t ≡ ResultTarget x.place → TargetRow j ts t
+  unfolding TargetRow
   result_row ts x t rd q = inr (inl (x, rd, q))
 
-  bare_target_to : (ts : List Tok) (e : ExprTerm) (t : TargetTerm) → (bare_expr i).reads ts e → bare_target e ≡ Some t → Target j ts t
+  bare_target_to : (ts : List Tok) (e : ExprTerm) (t : TargetTerm) → (bare_expr i).reads ts e → bare_target e ≡ Some t → TargetRow j ts t
   unfolding bare_expr literal word named_expr longer coll object new_expr
   bare_target_to ts e t (inl (inl (x, rd, q))) w = absurd (no_target e _ t q refl w)
   bare_target_to ts e t (inl (inr (inl (x, rd, q)))) w = absurd (no_target e _ t q refl w)
@@ -96,7 +96,7 @@ module _ {i : Nested} {j : Inside} {k : Nested} (h : TiesInside i j k) where
   bare_target_to ts e t (inr (inr (inr (inr (inr (inr (inl (x, rd, q)))))))) w = absurd (no_target e _ t q refl w)
   bare_target_to ts e t (inr (inr (inr (inr (inr (inr (inr (x, rd, q)))))))) w = absurd (no_target e _ t q refl w)
 
-  pub primary_target : (ts : List Tok) (x : ExprTerm × Bool) (t : TargetTerm) → (primary i).reads ts x → x.1 ≡ true → bare_target x.0 ≡ Some t → Target j ts t
+  pub primary_target : (ts : List Tok) (x : ExprTerm × Bool) (t : TargetTerm) → (primary i).reads ts x → x.1 ≡ true → bare_target x.0 ≡ Some t → TargetRow j ts t
   unfolding primary other_primary if_expr
   primary_target ts x t (inl (e, (y, rd, d), q)) b w = absurd (no_target x.0 (if_of y) t (ap (λ z. z.0) q ∙ d) refl w)
   primary_target ts x t (inr (inl (e, rd, q))) b w = absurd (let z : true ≡ false = sym b ∙ ap (λ z. z.1) q in cc)
@@ -104,8 +104,8 @@ module _ {i : Nested} {j : Inside} {k : Nested} (h : TiesInside i j k) where
 
   -- and to them
 
-  pub other_of : (ts : List Tok) (e : ExprTerm) → Primary j ts e → ((b : Bool) × (other_primary k).reads ts (e, b)) ⊎ (if_expr k).reads ts e
-  unfolding other_primary bare_expr literal word named_expr longer path Primary
+  pub other_of : (ts : List Tok) (e : ExprTerm) → PrimaryRow j ts e → ((b : Bool) × (other_primary k).reads ts (e, b)) ⊎ (if_expr k).reads ts e
+  unfolding other_primary bare_expr literal word named_expr longer path PrimaryRow
   other_of ts e (inl rd) = inl (true, inr (e, inl (inl rd), refl))
   other_of ts e (inr (inl rd)) = inl (true, inr (e, inl (inr (inl rd)), refl))
   other_of ts e (inr (inr (inl rd))) = inl (true, inr (e, inl (inr (inr (inl rd))), refl))
@@ -123,7 +123,7 @@ module _ {i : Nested} {j : Inside} {k : Nested} (h : TiesInside i j k) where
   other_of ts e (inr (inr (inr (inr (inr (inr (inr (inr (inr (inr (inr (inr (inr (inr (inl (m, rd, q)))))))))))))))) = inl (true, inr (e, inr (inr (inr (inr (inr (inr (inr (m, (ties_resolve h).of ts m rd, q))))))), refl))
   other_of ts e (inr (inr (inr (inr (inr (inr (inr (inr (inr (inr (inr (inr (inr (inr (inr (rd)))))))))))))))) = inl (false, inl (e, ties_brackets.of ts e rd, refl))
 
-  pub primary_of : (ts : List Tok) (e : ExprTerm) → Primary j ts e → (b : Bool) × (primary k).reads ts (e, b)
+  pub primary_of : (ts : List Tok) (e : ExprTerm) → PrimaryRow j ts e → (b : Bool) × (primary k).reads ts (e, b)
   unfolding primary
   primary_of ts e rd = elim (other_of ts e rd) [ inl x ↦ (x.0, inr x.1) | inr x ↦ (true, inl (e, x, refl)) ]
 
@@ -132,5 +132,5 @@ module _ {i : Nested} {j : Inside} {k : Nested} (h : TiesInside i j k) where
   begins_if ts e (x, ((u, v, cut, t, rest), at), q) = begins class.IfWord ts u v x.1.0 cut t
 
   -- where no `if` stands first
-  pub other_primary_of : (ts : List Tok) (e : ExprTerm) → starts (is class.IfWord) ts ≡ false → Primary j ts e → (b : Bool) × (other_primary k).reads ts (e, b)
+  pub other_primary_of : (ts : List Tok) (e : ExprTerm) → starts (is class.IfWord) ts ≡ false → PrimaryRow j ts e → (b : Bool) × (other_primary k).reads ts (e, b)
   other_primary_of ts e g rd = elim (other_of ts e rd) [ inl x ↦ x | inr x ↦ absurd (let z : true ≡ false = sym (begins_if ts e x) ∙ g in cc) ]

@@ -11,23 +11,23 @@ use Rattle.qvt_language.specs.declared.named.Named.{Named}
 use Rattle.qvt_language.specs.declared.class.Class.TheVariants as class
 use Rattle.qvt_language.specs.Leads.{Lead, Plain, Bracketed, Each}
 use Rattle.qvt_language.specs.Trees.{path_of, all_of, in_of, resolve_of, result_head, named_head, named_type, accumulator_of, dot_of, arrow_of, no_args, headed, expr_of}
-use Rattle.qvt_language.specs.Grammar.{Nested, name, more_names, path, colon_path, object_head, object, coll_type, typed, colon_type, filter_head, filter, all_form, in_form, resolve, dot_rest, dot_step, accumulator, head_rest, more_exprs, after_first, arrow_body, arrow_args, arrow_rest, step, expr}
+use Rattle.qvt_language.specs.Grammar.{NestedLanguages, name, more_names, path, colon_path, object_head, object, coll_type, typed, colon_type, filter_head, filter, all_form, in_form, resolve, dot_rest, dot_step, accumulator, head_rest, more_exprs, after_first, arrow_body, arrow_args, arrow_rest, step, expr}
 use Rattle.qvt_language_rows.specs.Phrase.{Phrase, ◌or◌, ◌gives◌, ◌then◌, the, maybe, after, before, between, listed}
 use Rattle.qvt_language_rows.specs.Values.{named_var, result_var, object_of, name_text, headed_body, without_head, or_no_args}
-use Rattle.qvt_language_rows.specs.Rows.{Inside, Name, Path, Extent, «Type», Exprs, Filter, Resolve, Head, Map, Step}
+use Rattle.qvt_language_rows.specs.Rows.{NestedRows, NameRow, PathRow, ExtentRow, TypeRow, ExprsRow, FilterRow, ResolveRow, HeadRow, MapRow, StepRow}
 use Rattle.qvt_language_rows.proofs.Ties.{Ties, ties_the, ties_then, ties_or, ties_gives, ties_many, ties_maybe, ties_placed, ties_after, ties_between, ties_optional, right_of, left_of}
 use Rattle.qvt_language_rows.proofs.Plain.{TiesInside, ties_name, ties_more_names, ties_path, ties_extent, ties_all, ties_in, ties_coll_type, ties_type, ties_colon_type, ties_args, ties_map, ties_bar}
 
 -- [(Name | "result") ":"] Path
 
 abbrev variable : Phrase ObjectVar
-variable = Name gives named_var or the class.ResultWord gives result_var
+variable = NameRow gives named_var or the class.ResultWord gives result_var
 
 abbrev head_row : Phrase (Option ObjectVar × PathTree)
-head_row = maybe (before variable class.Colon) then Path
+head_row = maybe (before variable class.Colon) then PathRow
 
-pub path_row : (ts : List Tok) (n : Named) (ns : List Named) (a b : List Tok) → ts ≡ a ++ b → name.reads a n → more_names.reads b ns → Path ts (path_of (n, ns))
-unfolding Path
+pub path_row : (ts : List Tok) (n : Named) (ns : List Named) (a b : List Tok) → ts ≡ a ++ b → name.reads a n → more_names.reads b ns → PathRow ts (path_of (n, ns))
+unfolding PathRow
 path_row ts n ns a b e nm rd = ((n, ns), (a, b, e, ties_name.to a n nm, ties_more_names.to b ns rd), refl)
 
 head_to : (ts : List Tok) (y : Option ObjectVar × PathTree) → object_head.reads ts y → head_row ts y
@@ -43,7 +43,7 @@ head_to ts y (inr (x, (a, b, e, nm, (inr (ns, rd, r))), q)) =
     ([], ts, refl, inr (tt, refl, refl), path_row ts x.0 ns a b e nm rd)
 
 head_of : (ts : List Tok) (y : Option ObjectVar × PathTree) → head_row ts y → object_head.reads ts y
-unfolding object_head colon_path Path
+unfolding object_head colon_path PathRow
 head_of ts (o, p) (u, v, e, (inl (x, (z, (a, b, e2, (inl (n, nm, r)), col), d), q)), pth) =
     inr ((n, inl p), (a, b ++ v, regroup ts u v a b e e2, ties_name.of a n nm, inl (p, ((z.1, p), (b, v, refl, col, ties_path.of v p pth), refl), refl)), λ i. ((q ∙ ap Some (d ∙ r)) i, p))
 head_of ts (o, p) (u, v, e, (inl (x, (z, (a, b, e2, (inr (t, rd, r)), col), d), q)), pth) =
@@ -56,28 +56,28 @@ ties_head = record { to = head_to; of = head_of }
 
 -- [Name ":"] Type
 
-abbrev IsFilterHead : Inside → List Tok → Option (List ℕ) × TypeTerm → Type 0
-IsFilterHead j ts y = (o : Option Named) × (y.0 ≡ name_text o) × (maybe (before Name class.Colon) then «Type» j) ts (o, y.1)
+abbrev IsFilterHead : NestedRows → List Tok → Option (List ℕ) × TypeTerm → Type 0
+IsFilterHead j ts y = (o : Option Named) × (y.0 ≡ name_text o) × (maybe (before NameRow class.Colon) then TypeRow j) ts (o, y.1)
 
-module _ {i : Nested} {j : Inside} {k : Nested} (h : TiesInside i j k) where
-  pub ties_object : Ties (object i) (the class.ObjectWord then maybe (before variable class.Colon) then Path then maybe Extent then j.block gives object_of) (object k)
+module _ {i : NestedLanguages} {j : NestedRows} {k : NestedLanguages} (h : TiesInside i j k) where
+  pub ties_object : Ties (object i) (the class.ObjectWord then maybe (before variable class.Colon) then PathRow then maybe ExtentRow then j.block gives object_of) (object k)
   unfolding object
   ties_object = record {
     to = λ ts a (x, (u, v, e, w, (v1, v2, e2, hd, (v3, v4, e4, ext, body))), q). (
       (x.0, (x.1.0.0, (x.1.0.1, x.1.1))),
-      (u, v, e, w, right_of (maybe (before variable class.Colon)) Path (maybe Extent then j.block) v v1 v2 x.1.0.0 x.1.0.1 x.1.1 e2 (head_to v1 x.1.0 hd) (v3, v4, e4, ties_extent.to v3 x.1.1.0 ext, h.block.to v4 x.1.1.1 body)),
+      (u, v, e, w, right_of (maybe (before variable class.Colon)) PathRow (maybe ExtentRow then j.block) v v1 v2 x.1.0.0 x.1.0.1 x.1.1 e2 (head_to v1 x.1.0 hd) (v3, v4, e4, ties_extent.to v3 x.1.1.0 ext, h.block.to v4 x.1.1.1 body)),
       q,
     );
-    of = λ ts a (x, (u, v, e, w, rest), q). (let l = left_of (maybe (before variable class.Colon)) Path (maybe Extent then j.block) v x.1.0 x.1.1.0 x.1.1.1 rest in
+    of = λ ts a (x, (u, v, e, w, rest), q). (let l = left_of (maybe (before variable class.Colon)) PathRow (maybe ExtentRow then j.block) v x.1.0 x.1.1.0 x.1.1.1 rest in
         ((x.0, ((x.1.0, x.1.1.0), x.1.1.1)), (u, v, e, w, (l.0, l.1, l.2, head_of l.0 (x.1.0, x.1.1.0) l.3, (l.4.0, l.4.1, l.4.2, ties_extent.of l.4.0 x.1.1.1.0 l.4.3, h.block.of l.4.1 x.1.1.1.1 l.4.4))), q));
   }
 
-  first_type : (ts : List Tok) (t : TypeTerm) → (coll_type i).reads ts t → «Type» j ts t
-  unfolding «Type»
+  first_type : (ts : List Tok) (t : TypeTerm) → (coll_type i).reads ts t → TypeRow j ts t
+  unfolding TypeRow
   first_type ts t rd = inl ((ties_coll_type h).to ts t rd)
 
-  path_type : (ts : List Tok) (n : Named) (ns : List Named) (a b : List Tok) → ts ≡ a ++ b → name.reads a n → more_names.reads b ns → «Type» j ts (PathType (path_of (n, ns)))
-  unfolding «Type»
+  path_type : (ts : List Tok) (n : Named) (ns : List Named) (a b : List Tok) → ts ≡ a ++ b → name.reads a n → more_names.reads b ns → TypeRow j ts (PathType (path_of (n, ns)))
+  unfolding TypeRow
   path_type ts n ns a b e nm rd = inr (path_of (n, ns), path_row ts n ns a b e nm rd, refl)
 
   without : (ts v : List Tok) (o : Option Named) (t : TypeTerm) → ts ≡ v → o ≡ None → (typed k).reads v t → (filter_head k).reads ts (name_text o, t)
@@ -94,7 +94,7 @@ module _ {i : Nested} {j : Inside} {k : Nested} (h : TiesInside i j k) where
   filter_head_to ts y (inr (x, (a, b, e, nm, (inr (ns, rd, r))), q)) =
       subst (λ z. IsFilterHead j ts z) (sym (q ∙ ap (λ z. named_type (x.0, z)) r)) (None, refl, ([], ts, refl, inr (tt, refl, refl), path_type ts x.0 ns a b e nm rd))
 
-  filter_head_of : (ts : List Tok) (o : Option Named) (t : TypeTerm) → (maybe (before Name class.Colon) then «Type» j) ts (o, t) → (filter_head k).reads ts (name_text o, t)
+  filter_head_of : (ts : List Tok) (o : Option Named) (t : TypeTerm) → (maybe (before NameRow class.Colon) then TypeRow j) ts (o, t) → (filter_head k).reads ts (name_text o, t)
   unfolding filter_head colon_type typed path
   filter_head_of ts o t (u, v, e, (inl (x, (z, (a, b, e2, nm, col), d), q)), ty) =
       inr ((z.0, inl t), (a, b ++ v, regroup ts u v a b e e2, ties_name.of a z.0 nm, inl (t, ((z.1, t), (b, v, refl, col, (ties_type h).of v t ty), refl), refl)), λ y. (name_text ((q ∙ ap Some d) y), t))
@@ -103,39 +103,39 @@ module _ {i : Nested} {j : Inside} {k : Nested} (h : TiesInside i j k) where
   abbrev from_text : Place → Option (List ℕ) → TypeTerm → Option ExprTerm → FilterTerm
   from_text place text kind condition = FilterOf text kind (optional_expr condition) place
 
-  pub ties_filter : Ties (filter i) (Filter j) (filter k)
-  unfolding filter Filter
+  pub ties_filter : Ties (filter i) (FilterRow j) (filter k)
+  unfolding filter FilterRow
   ties_filter = record {
     to = λ ts a (x, ((u, v, e, hd, br), pl), q). (let y = filter_head_to u x.1.0 hd in (
       (x.0, (y.0, (x.1.0.1, x.1.1))),
-      (right_of (maybe (before Name class.Colon)) («Type» j) (maybe (after class.Bar j.expr)) ts u v y.0 x.1.0.1 x.1.1 e y.2 ((ties_maybe (ties_bar h)).to v x.1.1 br), pl),
+      (right_of (maybe (before NameRow class.Colon)) (TypeRow j) (maybe (after class.Bar j.expr)) ts u v y.0 x.1.0.1 x.1.1 e y.2 ((ties_maybe (ties_bar h)).to v x.1.1 br), pl),
       q ∙ ap (λ z. from_text x.0 z x.1.0.1 x.1.1) y.1,
     ));
-    of = λ ts a (x, (rest, pl), q). (let l = left_of (maybe (before Name class.Colon)) («Type» j) (maybe (after class.Bar j.expr)) ts x.1.0 x.1.1.0 x.1.1.1 rest in
+    of = λ ts a (x, (rest, pl), q). (let l = left_of (maybe (before NameRow class.Colon)) (TypeRow j) (maybe (after class.Bar j.expr)) ts x.1.0 x.1.1.0 x.1.1.1 rest in
         ((x.0, ((name_text x.1.0, x.1.1.0), x.1.1.1)), ((l.0, l.1, l.2, filter_head_of l.0 x.1.0 x.1.1.0 l.3, (ties_maybe (ties_bar h)).of l.1 x.1.1.1 l.4), pl), q));
   }
 
-  pub ties_resolve : Ties (resolve i) (Resolve j) (resolve k)
-  unfolding resolve all_form in_form Resolve
+  pub ties_resolve : Ties (resolve i) (ResolveRow j) (resolve k)
+  unfolding resolve all_form in_form ResolveRow
   ties_resolve = ties_gives resolve_of (ties_placed (ties_then (ties_maybe (ties_the class.LateWord)) (ties_or
       (ties_gives all_of (ties_then ties_all (ties_between class.OpenRound class.CloseRound ties_filter)))
       (ties_gives in_of (ties_then ties_in (ties_then (ties_the class.OpenRound) (ties_then ties_path (ties_then (ties_maybe (ties_after class.Comma ties_filter)) (ties_the class.CloseRound)))))))))
 
   -- Head "|" Expr | Exprs
 
-  ties_accumulator : Ties (accumulator i) (after class.Semicolon (Name then after class.Colon («Type» j) then after class.EqualSign j.expr) gives accumulator_of) (accumulator k)
+  ties_accumulator : Ties (accumulator i) (after class.Semicolon (NameRow then after class.Colon (TypeRow j) then after class.EqualSign j.expr) gives accumulator_of) (accumulator k)
   unfolding accumulator
   ties_accumulator = ties_gives accumulator_of (ties_after class.Semicolon (ties_then ties_name (ties_then (ties_colon_type h) (ties_after class.EqualSign h.expr))))
 
   abbrev body_row : Phrase (HeadTerm × List ExprTerm)
-  body_row = Head j then after class.Bar j.expr gives headed_body or Exprs j gives without_head
+  body_row = HeadRow j then after class.Bar j.expr gives headed_body or ExprsRow j gives without_head
 
   some_exprs : (ts u v : List Tok) (x : Lead) (es : List ExprTerm) → ts ≡ u ++ v → i.flagged.reads u x → (more_exprs i).reads v es → body_row ts (NoHead, expr_of x ∷ es)
-  unfolding more_exprs Exprs expr
+  unfolding more_exprs ExprsRow expr
   some_exprs ts u v x es e fl rd = inr (expr_of x ∷ es, ((expr_of x, es), (u, v, e, h.expr.to u (expr_of x) (x, fl, refl), (ties_many (ties_after class.Comma h.expr)).to v es rd), refl), refl)
 
   body_to : (ts u v : List Tok) (x : Lead) (b : HeadTerm × List ExprTerm) → ts ≡ u ++ v → i.flagged.reads u x → (after_first i x).reads v b → body_row ts b
-  unfolding head_rest Head
+  unfolding head_rest HeadRow
   body_to ts u v (Plain e (Some (BareTarget text place))) b cut fl (inl (y, (v1, v2, e1, mk, (v3, v4, e2, ma, br)), q)) =
       inl (
         ((record { text = text; place = place }, (y.0, y.1.0)), y.1.1),
@@ -164,7 +164,7 @@ module _ {i : Nested} {j : Inside} {k : Nested} (h : TiesInside i j k) where
   after_exprs v (Each e part) es rd = (es, rd, refl)
 
   body_of : (ts : List Tok) (b : HeadTerm × List ExprTerm) → body_row ts b → (arrow_body k).reads ts b
-  unfolding arrow_body head_rest Head Exprs expr more_exprs
+  unfolding arrow_body head_rest HeadRow ExprsRow expr more_exprs
   body_of ts b (inl (((n, (kind, acc)), body), (u, v, e, (a, c, e1, nm, (c1, c2, e2, mk, ma)), br), q)) = (
     (Plain (PathExpr (path_of (n, []))) (Some (BareTarget n.text n.place)), headed n.text n.place (kind, (acc, body))),
     (a, c ++ v, regroup ts u v a c e e1, h.bare_of a n nm, inl ((kind, (acc, body)), (c1, c2 ++ v, regroup (c ++ v) c v c1 c2 refl e2, (ties_maybe (ties_colon_type h)).of c1 kind mk, (c2, v, refl, (ties_maybe ties_accumulator).of c2 acc ma, (ties_bar h).of v body br)), refl)),
@@ -188,34 +188,34 @@ module _ {i : Nested} {j : Inside} {k : Nested} (h : TiesInside i j k) where
   -- steps
 
   abbrev dot_named : Phrase StepTerm
-  dot_named = Name then maybe (listed class.OpenRound (Exprs j) class.CloseRound) gives dot_of
+  dot_named = NameRow then maybe (listed class.OpenRound (ExprsRow j) class.CloseRound) gives dot_of
 
   abbrev arrow_named : Phrase StepTerm
-  arrow_named = Name then between class.OpenRound (maybe body_row gives or_no_args) class.CloseRound gives arrow_of
+  arrow_named = NameRow then between class.OpenRound (maybe body_row gives or_no_args) class.CloseRound gives arrow_of
 
-  pub ties_dot_rest : Ties (dot_rest i) (dot_named or Map j gives DotMapStep or Resolve j gives DotResolveStep) (dot_rest k)
+  pub ties_dot_rest : Ties (dot_rest i) (dot_named or MapRow j gives DotMapStep or ResolveRow j gives DotResolveStep) (dot_rest k)
   unfolding dot_rest
   ties_dot_rest = ties_or (ties_gives dot_of (ties_then ties_name (ties_maybe (ties_args h)))) (ties_or (ties_gives DotMapStep (ties_map h)) (ties_gives DotResolveStep ties_resolve))
 
-  pub ties_arrow_rest : Ties (arrow_rest i) (arrow_named or Map j gives ArrowMapStep or Resolve j gives ArrowResolveStep) (arrow_rest k)
+  pub ties_arrow_rest : Ties (arrow_rest i) (arrow_named or MapRow j gives ArrowMapStep or ResolveRow j gives ArrowResolveStep) (arrow_rest k)
   unfolding arrow_rest
   ties_arrow_rest = ties_or (ties_gives arrow_of (ties_then ties_name ties_arrow_args)) (ties_or (ties_gives ArrowMapStep (ties_map h)) (ties_gives ArrowResolveStep ties_resolve))
 
-  step_row : (ts : List Tok) (s : StepTerm) → (after class.Dot (dot_named or Map j gives DotMapStep or Resolve j gives DotResolveStep) or after class.Arrow (arrow_named or Map j gives ArrowMapStep or Resolve j gives ArrowResolveStep)) ts s → Step j ts s
-  unfolding Step
+  step_row : (ts : List Tok) (s : StepTerm) → (after class.Dot (dot_named or MapRow j gives DotMapStep or ResolveRow j gives DotResolveStep) or after class.Arrow (arrow_named or MapRow j gives ArrowMapStep or ResolveRow j gives ArrowResolveStep)) ts s → StepRow j ts s
+  unfolding StepRow
   step_row ts s (inl (x, (u, v, e, t, (inl rd)), q)) = inl (x, (u, v, e, t, rd), q)
   step_row ts s (inl (x, (u, v, e, t, (inr rd)), q)) = inr (inr (inl (x, (u, v, e, t, rd), q)))
   step_row ts s (inr (x, (u, v, e, t, (inl rd)), q)) = inr (inl (x, (u, v, e, t, rd), q))
   step_row ts s (inr (x, (u, v, e, t, (inr rd)), q)) = inr (inr (inr (x, (u, v, e, t, rd), q)))
 
-  row_step : (ts : List Tok) (s : StepTerm) → Step j ts s → (after class.Dot (dot_named or Map j gives DotMapStep or Resolve j gives DotResolveStep) or after class.Arrow (arrow_named or Map j gives ArrowMapStep or Resolve j gives ArrowResolveStep)) ts s
-  unfolding Step
+  row_step : (ts : List Tok) (s : StepTerm) → StepRow j ts s → (after class.Dot (dot_named or MapRow j gives DotMapStep or ResolveRow j gives DotResolveStep) or after class.Arrow (arrow_named or MapRow j gives ArrowMapStep or ResolveRow j gives ArrowResolveStep)) ts s
+  unfolding StepRow
   row_step ts s (inl (x, (u, v, e, t, rd), q)) = inl (x, (u, v, e, t, inl rd), q)
   row_step ts s (inr (inl (x, (u, v, e, t, rd), q))) = inr (x, (u, v, e, t, inl rd), q)
   row_step ts s (inr (inr (inl (x, (u, v, e, t, rd), q)))) = inl (x, (u, v, e, t, inr rd), q)
   row_step ts s (inr (inr (inr (x, (u, v, e, t, rd), q)))) = inr (x, (u, v, e, t, inr rd), q)
 
-  pub ties_step : Ties (step i) (Step j) (step k)
+  pub ties_step : Ties (step i) (StepRow j) (step k)
   unfolding step dot_step
   ties_step = record {
     to = λ ts s rd. step_row ts s (elim rd [ inl x ↦ inl ((ties_after class.Dot ties_dot_rest).to ts s x) | inr x ↦ inr ((ties_after class.Arrow ties_arrow_rest).to ts s x) ]);

@@ -11,7 +11,7 @@ use Rattle.qvt_language.specs.declared.class.Class.{Class}
 use Rattle.qvt_language.specs.declared.class.Class.TheVariants as class
 use Rattle.qvt_language.specs.Trees.{second, inner, text_of, is_there}
 use Rattle.qvt_language.specs.StmtTrees.{last_of}
-use Rattle.qvt_language.specs.UnitTrees.{typed_name_of, param_of, class_of, main_of, return_body, helper_of, constructor_of, result_decl_of, Clauses, no_clauses, Clause, InheritsClause, MergesClause, DisjunctsClause, WhenClause, with_clause, where_there, read_words, or_same, stmts_or_none, empty_body, body_of, sections_of, open_sections_of, mapping_of, some_unit, model_type_of, model_param_of, module_of}
+use Rattle.qvt_language.specs.UnitTrees.{typed_name_of, param_of, class_unit_of, main_of, return_body, helper_of, constructor_of, result_decl_of, ClausesTree, no_clauses, ClauseTree, InheritsClause, MergesClause, DisjunctsClause, WhenClause, with_clause, where_there, read_words, or_same, stmts_or_none, empty_body, body_of, sections_of, open_sections_of, mapping_of, some_unit, model_type_of, model_param_of, module_of}
 use Rattle.qvt_language.specs.Grammar.{expr}
 use Rattle.qvt_language.specs.Statements.{statements}
 use Rattle.qvt_language.specs.Units.{param, params, feature, features, class_unit, main_unit, helper_body, helper_unit, constructor_unit, result_decl, when_clause, clause, init_part, end_part, end_unless, end_after, sections, body, clauses, mapping_unit, unit, is_strictness, strictness, uri, model_type, model_param, header, transformation}
@@ -20,8 +20,8 @@ use Rattle.qvt_language.proofs.Sets.{has}
 use Rattle.qvt_language.proofs.GoodNesting.{good_nested}
 use Rattle.qvt_language_rows.specs.Phrase.{Phrase, ◌or◌, ◌gives◌, ◌then◌, the, many, maybe, placed, after, before, between, listed, such_that}
 use Rattle.qvt_language_rows.specs.Values.{open_sections, no_units, kind_of, IsOther, AreOnce, with_clauses, clauses_of}
-use Rattle.qvt_language_rows.specs.Rows.{Inside, Name, Path, Paths, Extent, «Type», Simple, Items}
-use Rattle.qvt_language_rows.specs.Units.{UnitPath, ModelType, ModelParam, Header, Param, Params, Extra, Body, «Unit», Module}
+use Rattle.qvt_language_rows.specs.Rows.{NestedRows, NameRow, PathRow, PathsRow, ExtentRow, TypeRow, SimpleRow, ItemsRow}
+use Rattle.qvt_language_rows.specs.Units.{UnitPathRow, ModelTypeRow, ModelParamRow, HeaderRow, ParamRow, ParamsRow, ExtraRow, BodyRow, UnitRow, ModuleRow}
 use Rattle.qvt_language_rows.proofs.Ties.{Ties, ties_the, ties_then, ties_or, ties_swap, ties_gives, ties_many, ties_maybe, ties_placed, ties_after, ties_before, ties_between, ties_commas}
 use Rattle.qvt_language_rows.proofs.Plain.{TiesInside, ties_listed, ties_name, ties_path, ties_paths, ties_unit_path, ties_extent, ties_colon_type}
 use Rattle.qvt_language_rows.proofs.Statements.{ended_from, statements_to, statements_of}
@@ -42,19 +42,19 @@ ties_uri : Ties uri (the class.Str gives text_of or after class.Name (between cl
 unfolding uri
 ties_uri = ties_or (ties_gives text_of (ties_the class.Str)) (ties_after class.Name (ties_between class.OpenRound class.CloseRound (ties_gives text_of (ties_the class.Str))))
 
-ties_model_type : Ties model_type ModelType model_type
-unfolding model_type ModelType
+ties_model_type : Ties model_type ModelTypeRow model_type
+unfolding model_type ModelTypeRow
 ties_model_type = ties_gives model_type_of (ties_placed (ties_after class.ModelTypeWord (ties_then ties_name (ties_gives second (ties_then (ties_maybe ties_strictness) (ties_between class.UsesWord class.Semicolon ties_uri))))))
 
-ties_model_param : Ties model_param ModelParam model_param
-unfolding model_param ModelParam
+ties_model_param : Ties model_param ModelParamRow model_param
+unfolding model_param ModelParamRow
 ties_model_param = ties_gives model_param_of (ties_then (ties_or (ties_the class.InWord) (ties_or (ties_the class.OutWord) (ties_the class.InoutWord))) (ties_then ties_name (ties_after class.Colon ties_name)))
 
-ties_header : Ties header Header header
-unfolding header Header
+ties_header : Ties header HeaderRow header
+unfolding header HeaderRow
 ties_header = ties_after class.TransformationWord (ties_then (ties_gives text_of (ties_the class.Name)) (ties_gives inner (ties_then (ties_the class.OpenRound) (ties_then (ties_commas ties_model_param) (ties_before (ties_the class.CloseRound) class.Semicolon)))))
 
-ties_result : Ties result_decl (after class.Colon (Path then maybe Extent gives result_decl_of)) result_decl
+ties_result : Ties result_decl (after class.Colon (PathRow then maybe ExtentRow gives result_decl_of)) result_decl
 unfolding result_decl
 ties_result = ties_after class.Colon (ties_gives result_decl_of (ties_then ties_path ties_extent))
 
@@ -84,7 +84,7 @@ has_last k c None e = refl
 has_last k c (Some a) e = e
 
 -- whether a clause of this one's kind was read
-abbrev read_of : Clauses → Clause → Bool
+abbrev read_of : ClausesTree → ClauseTree → Bool
 read_of x (InheritsClause paths) = is_there x.inherits
 read_of x (MergesClause paths) = is_there x.merges
 read_of x (DisjunctsClause paths) = is_there x.disjuncts
@@ -119,40 +119,40 @@ has_when : (a : Option (List PathTree)) (b : Option (List PathTree)) (c : Option
 has_when a b c (Some x) = has_past (code_of class.WhenWord) (code_of class.InheritsWord) a (last_three b c (Some x)) refl ∙ has_past (code_of class.WhenWord) (code_of class.MergesWord) b (last_two c (Some x)) refl ∙ has_past (code_of class.WhenWord) (code_of class.DisjunctsWord) c (last_word (Some x)) refl
 has_when a b c None = has_past (code_of class.WhenWord) (code_of class.InheritsWord) a (last_three b c None) refl ∙ has_past (code_of class.WhenWord) (code_of class.MergesWord) b (last_two c None) refl ∙ has_past (code_of class.WhenWord) (code_of class.DisjunctsWord) c (last_word None) refl
 
-has_read : (x : Clauses) (c : Clause) → has (kind_of c) (read_words x) ≡ read_of x c
+has_read : (x : ClausesTree) (c : ClauseTree) → has (kind_of c) (read_words x) ≡ read_of x c
 has_read x (InheritsClause paths) = has_inherits x.inherits x.merges x.disjuncts x.condition
 has_read x (MergesClause paths) = has_merges x.inherits x.merges x.disjuncts x.condition
 has_read x (DisjunctsClause paths) = has_disjuncts x.inherits x.merges x.disjuncts x.condition
 has_read x (WhenClause e) = has_when x.inherits x.merges x.disjuncts x.condition
 
 -- what was not read after c was neither before it, and is of another kind
-later : (x : Clauses) (c d : Clause) → read_of (with_clause x c) d ≡ false → (kind_of c ≡ kind_of d → ⊥) × (read_of x d ≡ false)
+later : (x : ClausesTree) (c d : ClauseTree) → read_of (with_clause x c) d ≡ false → (kind_of c ≡ kind_of d → ⊥) × (read_of x d ≡ false)
 later x (InheritsClause p) (InheritsClause q) h = absurd cc
 later x (MergesClause p) (MergesClause q) h = absurd cc
 later x (DisjunctsClause p) (DisjunctsClause q) h = absurd cc
 later x (WhenClause p) (WhenClause q) h = absurd cc
 later x c d h = (λ e. absurd (omega (arith, e)), h)
 
-sooner : (x : Clauses) (c d : Clause) → (kind_of c ≡ kind_of d → ⊥) → read_of x d ≡ false → read_of (with_clause x c) d ≡ false
+sooner : (x : ClausesTree) (c d : ClauseTree) → (kind_of c ≡ kind_of d → ⊥) → read_of x d ≡ false → read_of (with_clause x c) d ≡ false
 sooner x (InheritsClause p) (InheritsClause q) n h = absurd (n refl)
 sooner x (MergesClause p) (MergesClause q) n h = absurd (n refl)
 sooner x (DisjunctsClause p) (DisjunctsClause q) n h = absurd (n refl)
 sooner x (WhenClause p) (WhenClause q) n h = absurd (n refl)
 sooner x c d n h = h
 
-abbrev AllUnread : Clauses → List Clause → Type 0
+abbrev AllUnread : ClausesTree → List ClauseTree → Type 0
 AllUnread x [] = Prim.Unit {0}
 AllUnread x (c ∷ cs) = (read_of x c ≡ false) × AllUnread x cs
 
-all_later : (x : Clauses) (c : Clause) (cs : List Clause) → AllUnread (with_clause x c) cs → IsOther c cs × AllUnread x cs
+all_later : (x : ClausesTree) (c : ClauseTree) (cs : List ClauseTree) → AllUnread (with_clause x c) cs → IsOther c cs × AllUnread x cs
 all_later x c [] h = (tt, tt)
 all_later x c (d ∷ cs) h = let w = all_later x c cs h.1 in let l = later x c d h.0 in ((l.0, w.0), (l.1, w.1))
 
-all_sooner : (x : Clauses) (c : Clause) (cs : List Clause) → IsOther c cs → AllUnread x cs → AllUnread (with_clause x c) cs
+all_sooner : (x : ClausesTree) (c : ClauseTree) (cs : List ClauseTree) → IsOther c cs → AllUnread x cs → AllUnread (with_clause x c) cs
 all_sooner x c [] o h = tt
 all_sooner x c (d ∷ cs) o h = (sooner x c d o.0 h.0, all_sooner x c cs o.1 h.1)
 
-none_read : (cs : List Clause) → AllUnread no_clauses cs
+none_read : (cs : List ClauseTree) → AllUnread no_clauses cs
 none_read [] = tt
 none_read ((InheritsClause p) ∷ cs) = (refl, none_read cs)
 none_read ((MergesClause p) ∷ cs) = (refl, none_read cs)
@@ -164,14 +164,14 @@ abbrev missing : {A : Type 0} → Option A → ℕ
 missing None = 1
 missing (Some a) = 0
 
-abbrev left_kinds : Clauses → ℕ
+abbrev left_kinds : ClausesTree → ℕ
 left_kinds x = missing x.inherits + (missing x.merges + (missing x.disjuncts + missing x.condition))
 
 is_missing : {A : Type 0} (o : Option A) → is_there o ≡ false → missing o ≡ 1
 is_missing None h = refl
 is_missing (Some a) h = absurd cc
 
-fewer : (x : Clauses) (c : Clause) → read_of x c ≡ false → left_kinds x ≡ suc (left_kinds (with_clause x c))
+fewer : (x : ClausesTree) (c : ClauseTree) → read_of x c ≡ false → left_kinds x ≡ suc (left_kinds (with_clause x c))
 fewer x (InheritsClause p) h = let m = is_missing x.inherits h in omega (arith, m)
 fewer x (MergesClause p) h = let m = is_missing x.merges h in omega (arith, m)
 fewer x (DisjunctsClause p) h = let m = is_missing x.disjuncts h in omega (arith, m)
@@ -181,7 +181,7 @@ fewer x (WhenClause e) h = let m = is_missing x.condition h in omega (arith, m)
 first_token : (s : List ℕ) (c : Class) (ts u v : List Tok) (t : Tok) → ts ≡ u ++ v → the c u t → starts (of s) ts ≡ has (code_of c) s
 first_token s c ts u v t e h = ap (starts (of s)) (e ∙ ap (λ z. z ++ v) h.0) ∙ of_has s t ∙ ap (λ z. has z s) (eqb-true (code_of t.class) (code_of c) h.1)
 
-module _ (n m : ℕ) {j : Inside} (h : TiesInside (nested n) j (nested m)) where
+module _ (n m : ℕ) {j : NestedRows} (h : TiesInside (nested n) j (nested m)) where
   -- at one nesting more
   pub g : TiesInside (nested n) j (nested (suc m))
   unfolding expr
@@ -193,26 +193,26 @@ module _ (n m : ℕ) {j : Inside} (h : TiesInside (nested n) j (nested m)) where
     bare_of = λ ts a rd. (good_nested m).flagged.loose.sub.reads ts _ (h.bare_of ts a rd);
   }
 
-  ties_param : Ties (param (nested n)) (Param j) (param (nested (suc m)))
-  unfolding param Param
+  ties_param : Ties (param (nested n)) (ParamRow j) (param (nested (suc m)))
+  unfolding param ParamRow
   ties_param = ties_gives param_of (ties_placed (ties_then (ties_maybe (ties_the class.InWord)) (ties_then ties_name (ties_colon_type g))))
 
-  ties_params : Ties (params (nested n)) (listed class.OpenRound (Params j) class.CloseRound) (params (nested (suc m)))
-  unfolding params Params
+  ties_params : Ties (params (nested n)) (listed class.OpenRound (ParamsRow j) class.CloseRound) (params (nested (suc m)))
+  unfolding params ParamsRow
   ties_params = ties_listed (ties_commas ties_param) class.OpenRound class.CloseRound
 
-  ties_feature : Ties (feature (nested n)) (before (Name then after class.Colon («Type» j) gives typed_name_of) class.Semicolon) (feature (nested (suc m)))
+  ties_feature : Ties (feature (nested n)) (before (NameRow then after class.Colon (TypeRow j) gives typed_name_of) class.Semicolon) (feature (nested (suc m)))
   unfolding feature
   ties_feature = ties_before (ties_gives typed_name_of (ties_then ties_name (ties_colon_type g))) class.Semicolon
 
-  ties_features : Ties (features (nested n)) (the class.OpenBrace then many (before (Name then after class.Colon («Type» j) gives typed_name_of) class.Semicolon) then the class.CloseBrace gives inner) (features (nested (suc m)))
+  ties_features : Ties (features (nested n)) (the class.OpenBrace then many (before (NameRow then after class.Colon (TypeRow j) gives typed_name_of) class.Semicolon) then the class.CloseBrace gives inner) (features (nested (suc m)))
   unfolding features
   ties_features = ties_gives inner (ties_then (ties_the class.OpenBrace) (ties_then (ties_many ties_feature) (ties_the class.CloseBrace)))
 
-  ties_class : Ties (class_unit (nested n)) (placed (after class.IntermediateWord (after class.ClassWord (Name then maybe (after class.ExtendsWord Paths) then
-      (the class.OpenBrace then many (before (Name then after class.Colon («Type» j) gives typed_name_of) class.Semicolon) then the class.CloseBrace gives inner)))) gives class_of) (class_unit (nested (suc m)))
+  ties_class : Ties (class_unit (nested n)) (placed (after class.IntermediateWord (after class.ClassWord (NameRow then maybe (after class.ExtendsWord PathsRow) then
+      (the class.OpenBrace then many (before (NameRow then after class.Colon (TypeRow j) gives typed_name_of) class.Semicolon) then the class.CloseBrace gives inner)))) gives class_unit_of) (class_unit (nested (suc m)))
   unfolding class_unit
-  ties_class = ties_gives class_of (ties_placed (ties_after class.IntermediateWord (ties_after class.ClassWord (ties_then ties_name (ties_then (ties_maybe (ties_after class.ExtendsWord ties_paths)) ties_features)))))
+  ties_class = ties_gives class_unit_of (ties_placed (ties_after class.IntermediateWord (ties_after class.ClassWord (ties_then ties_name (ties_then (ties_maybe (ties_after class.ExtendsWord ties_paths)) ties_features)))))
 
   ties_main : Ties (main_unit (nested n)) (placed (after class.MainWord (after class.OpenRound (after class.CloseRound j.block))) gives main_of) (main_unit (nested (suc m)))
   unfolding main_unit
@@ -222,44 +222,44 @@ module _ (n m : ℕ) {j : Inside} (h : TiesInside (nested n) j (nested m)) where
   unfolding helper_body
   ties_helper_body = ties_swap g.block (ties_gives return_body (ties_before (ties_then (ties_the class.EqualSign) g.expr) class.Semicolon))
 
-  ties_helper : Ties (helper_unit (nested n)) ((the class.HelperWord or the class.QueryWord) then UnitPath then listed class.OpenRound (Params j) class.CloseRound then maybe (after class.Colon («Type» j)) then
+  ties_helper : Ties (helper_unit (nested n)) ((the class.HelperWord or the class.QueryWord) then UnitPathRow then listed class.OpenRound (ParamsRow j) class.CloseRound then maybe (after class.Colon (TypeRow j)) then
       (j.block or before (the class.EqualSign then j.expr) class.Semicolon gives return_body) gives helper_of) (helper_unit (nested (suc m)))
   unfolding helper_unit
   ties_helper = ties_gives helper_of (ties_then (ties_or (ties_the class.HelperWord) (ties_the class.QueryWord)) (ties_then ties_unit_path (ties_then ties_params (ties_then (ties_maybe (ties_colon_type g)) ties_helper_body))))
 
-  ties_constructor : Ties (constructor_unit (nested n)) (after class.ConstructorWord (UnitPath then listed class.OpenRound (Params j) class.CloseRound then j.block) gives constructor_of) (constructor_unit (nested (suc m)))
+  ties_constructor : Ties (constructor_unit (nested n)) (after class.ConstructorWord (UnitPathRow then listed class.OpenRound (ParamsRow j) class.CloseRound then j.block) gives constructor_of) (constructor_unit (nested (suc m)))
   unfolding constructor_unit
   ties_constructor = ties_gives constructor_of (ties_after class.ConstructorWord (ties_then ties_unit_path (ties_then ties_params g.block)))
 
-  ties_extra : Ties (clause (nested n)) (Extra j) (clause (nested (suc m)))
-  unfolding clause when_clause Extra
+  ties_extra : Ties (clause (nested n)) (ExtraRow j) (clause (nested (suc m)))
+  unfolding clause when_clause ExtraRow
   ties_extra = ties_or (ties_gives InheritsClause (ties_after class.InheritsWord ties_paths)) (ties_or (ties_gives MergesClause (ties_after class.MergesWord ties_paths)) (ties_or (ties_gives DisjunctsClause (ties_after class.DisjunctsWord ties_paths))
       (ties_gives WhenClause (ties_after class.WhenWord (ties_gives inner (ties_then (ties_the class.OpenBrace) (ties_then g.expr (ties_gives second (ties_then (ties_maybe (ties_the class.Semicolon)) (ties_the class.CloseBrace))))))))))
 
   -- which words stand first in a clause
-  extra_first : (s : List ℕ) (ts : List Tok) (c : Clause) → Extra j ts c → starts (of s) ts ≡ has (kind_of c) s
-  unfolding Extra
+  extra_first : (s : List ℕ) (ts : List Tok) (c : ClauseTree) → ExtraRow j ts c → starts (of s) ts ≡ has (kind_of c) s
+  unfolding ExtraRow
   extra_first s ts c (inl (x, (y, (u, v, e, t, rd), d), q)) = first_token s class.InheritsWord ts u v y.0 e t ∙ ap (λ z. has (kind_of z) s) (sym q)
   extra_first s ts c (inr (inl (x, (y, (u, v, e, t, rd), d), q))) = first_token s class.MergesWord ts u v y.0 e t ∙ ap (λ z. has (kind_of z) s) (sym q)
   extra_first s ts c (inr (inr (inl (x, (y, (u, v, e, t, rd), d), q)))) = first_token s class.DisjunctsWord ts u v y.0 e t ∙ ap (λ z. has (kind_of z) s) (sym q)
   extra_first s ts c (inr (inr (inr (x, (y, (u, v, e, t, rd), d), q)))) = first_token s class.WhenWord ts u v y.0 e t ∙ ap (λ z. has (kind_of z) s) (sym q)
 
-  abbrev IsAfter : Clauses → List Tok → Clauses → Type 0
-  IsAfter x ts y = (cs : List Clause) × many (Extra j) ts cs × AreOnce cs × AllUnread x cs × (y ≡ with_clauses x cs)
+  abbrev IsAfter : ClausesTree → List Tok → ClausesTree → Type 0
+  IsAfter x ts y = (cs : List ClauseTree) × many (ExtraRow j) ts cs × AreOnce cs × AllUnread x cs × (y ≡ with_clauses x cs)
 
-  one_more : (x : Clauses) (c : Clause) (ts u v : List Tok) (y : Clauses) → ts ≡ u ++ v → Extra j u c → starts (of (read_words x)) u ≡ false → IsAfter (with_clause x c) v y → IsAfter x ts y
+  one_more : (x : ClausesTree) (c : ClauseTree) (ts u v : List Tok) (y : ClausesTree) → ts ≡ u ++ v → ExtraRow j u c → starts (of (read_words x)) u ≡ false → IsAfter (with_clause x c) v y → IsAfter x ts y
   one_more x c ts u v y cut rd bar (cs, all, once, unread, q) =
       let l = all_later x c cs unread in
       (c ∷ cs, (u, v, cut, rd, all), (l.0, once), (sym (has_read x c) ∙ sym (extra_first (read_words x) u c rd) ∙ bar, l.1), q)
 
-  clauses_to : (k : ℕ) (x : Clauses) (ts : List Tok) (y : Clauses) → (clauses (nested n) k x).reads ts y → IsAfter x ts y
+  clauses_to : (k : ℕ) (x : ClausesTree) (ts : List Tok) (y : ClausesTree) → (clauses (nested n) k x).reads ts y → IsAfter x ts y
   clauses_to zero x ts y (a, none, q) = ([], none, tt, tt, q)
   clauses_to (suc k) x ts y (o, (inl (z, (w, (u, v, cut, (c, (rd, bar), r), rest), d), p)), q) =
       subst (λ b. IsAfter x ts b) (sym (q ∙ ap (or_same x) (p ∙ ap Some d)))
       (one_more x c ts u v w.1 cut (ties_extra.to u c rd) bar (clauses_to k (with_clause x c) v w.1 (subst (λ b. (clauses (nested n) k b).reads v w.1) r rest)))
   clauses_to (suc k) x ts y (o, (inr (z, none, p)), q) = ([], none, tt, tt, q ∙ ap (or_same x) p)
 
-  clauses_from : (k : ℕ) (x : Clauses) (cs : List Clause) (ts : List Tok) → many (Extra j) ts cs → AreOnce cs → AllUnread x cs → left_kinds x ≤ k → (clauses (nested (suc m)) k x).reads ts (with_clauses x cs)
+  clauses_from : (k : ℕ) (x : ClausesTree) (cs : List ClauseTree) (ts : List Tok) → many (ExtraRow j) ts cs → AreOnce cs → AllUnread x cs → left_kinds x ≤ k → (clauses (nested (suc m)) k x).reads ts (with_clauses x cs)
   clauses_from zero x [] ts rd once unread le = (tt, rd, refl)
   clauses_from (suc k) x [] ts rd once unread le = (None, inr (tt, rd, refl), refl)
   clauses_from zero x (c ∷ cs) ts rd once unread le = absurd (let f = fewer x c unread.0 in omega (arith, f, le))
@@ -269,7 +269,7 @@ module _ (n m : ℕ) {j : Inside} (h : TiesInside (nested n) j (nested m)) where
       let rest = clauses_from k (with_clause x c) cs v all once.1 (all_sooner x c cs once.0 unread.1) (omega (arith, f, le)) in
       (Some (with_clauses x (c ∷ cs)), inl (with_clauses x (c ∷ cs), ((with_clause x c, with_clauses x (c ∷ cs)), (u, v, cut, (c, (ties_extra.of u c rd, bar), refl), rest), refl), refl), refl)
 
-  ties_clauses : Ties (clauses (nested n) 4 no_clauses) (such_that AreOnce (many (Extra j)) gives clauses_of) (clauses (nested (suc m)) 4 no_clauses)
+  ties_clauses : Ties (clauses (nested n) 4 no_clauses) (such_that AreOnce (many (ExtraRow j)) gives clauses_of) (clauses (nested (suc m)) 4 no_clauses)
   ties_clauses = record {
     to = λ ts y rd. (let w = clauses_to 4 no_clauses ts y rd in (w.0, (w.1, w.2), w.4));
     of = λ ts y rd. subst (λ z. (clauses (nested (suc m)) 4 no_clauses).reads ts z) (sym rd.2) (clauses_from 4 no_clauses rd.0 ts rd.1.0 rd.1.1 (none_read rd.0) (omega arith));
@@ -282,9 +282,9 @@ module _ (n m : ℕ) {j : Inside} (h : TiesInside (nested n) j (nested m)) where
   ties_end = ties_after class.EndWord g.block
 
   abbrev open_row : Phrase (List StmtTerm × List StmtTerm)
-  open_row = Items j then (maybe (Simple j) gives inl or after class.EndWord j.block gives inr) gives open_sections
+  open_row = ItemsRow j then (maybe (SimpleRow j) gives inl or after class.EndWord j.block gives inr) gives open_sections
 
-  open_to : (ts u v : List Tok) (all : List StmtTerm) (last : Option StmtTerm) (finish : Option (List StmtTerm)) → ts ≡ u ++ v → (Items j then maybe (Simple j)) u (all, last) → (end_unless (nested n) (is_there last)).reads v finish → open_row ts (all ++ last_of last, stmts_or_none finish)
+  open_to : (ts u v : List Tok) (all : List StmtTerm) (last : Option StmtTerm) (finish : Option (List StmtTerm)) → ts ≡ u ++ v → (ItemsRow j then maybe (SimpleRow j)) u (all, last) → (end_unless (nested n) (is_there last)).reads v finish → open_row ts (all ++ last_of last, stmts_or_none finish)
   open_to ts u v all (Some s) finish cut (a, b, e, items, simple) (x, none, q) =
       ((all, inl (Some s)), (a, b, cut ∙ ap (λ z. u ++ z) none ∙ append-nil u ∙ e, items, inl (Some s, simple, refl)), λ i. (all ++ last_of (Some s), stmts_or_none (q i)))
   open_to ts u v all None finish cut (a, b, e, items, (inl (x, rd, p))) fin = absurd cc
@@ -317,34 +317,34 @@ module _ (n m : ℕ) {j : Inside} (h : TiesInside (nested n) j (nested m)) where
   unfolding sections
   ties_sections = ties_or (ties_gives sections_of (ties_after class.PopulationWord (ties_then g.block (ties_maybe ties_end)))) ties_open
 
-  ties_body : Ties (body (nested n)) (Body j or the class.Semicolon gives empty_body) (body (nested (suc m)))
-  unfolding body init_part Body
+  ties_body : Ties (body (nested n)) (BodyRow j or the class.Semicolon gives empty_body) (body (nested (suc m)))
+  unfolding body init_part BodyRow
   ties_body = ties_swap (ties_gives body_of (ties_then (ties_the class.OpenBrace) (ties_then (ties_maybe (ties_after class.InitWord g.block)) (ties_then ties_sections (ties_the class.CloseBrace))))) (ties_gives empty_body (ties_the class.Semicolon))
 
-  ties_mapping : Ties (mapping_unit (nested n)) (after class.MappingWord (UnitPath then listed class.OpenRound (Params j) class.CloseRound then maybe (after class.Colon (Path then maybe Extent gives result_decl_of)) then
-      (such_that AreOnce (many (Extra j)) gives clauses_of) then (Body j or the class.Semicolon gives empty_body)) gives mapping_of) (mapping_unit (nested (suc m)))
+  ties_mapping : Ties (mapping_unit (nested n)) (after class.MappingWord (UnitPathRow then listed class.OpenRound (ParamsRow j) class.CloseRound then maybe (after class.Colon (PathRow then maybe ExtentRow gives result_decl_of)) then
+      (such_that AreOnce (many (ExtraRow j)) gives clauses_of) then (BodyRow j or the class.Semicolon gives empty_body)) gives mapping_of) (mapping_unit (nested (suc m)))
   unfolding mapping_unit
   ties_mapping = ties_gives mapping_of (ties_after class.MappingWord (ties_then ties_unit_path (ties_then ties_params (ties_then (ties_maybe ties_result) (ties_then ties_clauses ties_body)))))
 
-  unit_to : (ts : List Tok) (a : UnitTerm) → (unit (nested n)).reads ts a → «Unit» j ts a
-  unfolding unit «Unit»
+  unit_to : (ts : List Tok) (a : UnitTerm) → (unit (nested n)).reads ts a → UnitRow j ts a
+  unfolding unit UnitRow
   unit_to ts a (inl rd) = inl (ties_class.to ts a rd)
   unit_to ts a (inr (inl rd)) = inr (inl (ties_main.to ts a rd))
   unit_to ts a (inr (inr (inl rd))) = inr (inr (inr (inl (ties_constructor.to ts a rd))))
   unit_to ts a (inr (inr (inr (inl rd)))) = inr (inr (inr (inr (ties_mapping.to ts a rd))))
   unit_to ts a (inr (inr (inr (inr rd)))) = inr (inr (inl (ties_helper.to ts a rd)))
 
-  unit_of : (ts : List Tok) (a : UnitTerm) → «Unit» j ts a → (unit (nested (suc m))).reads ts a
-  unfolding unit «Unit»
+  unit_of : (ts : List Tok) (a : UnitTerm) → UnitRow j ts a → (unit (nested (suc m))).reads ts a
+  unfolding unit UnitRow
   unit_of ts a (inl rd) = inl (ties_class.of ts a rd)
   unit_of ts a (inr (inl rd)) = inr (inl (ties_main.of ts a rd))
   unit_of ts a (inr (inr (inl rd))) = inr (inr (inr (inr (ties_helper.of ts a rd))))
   unit_of ts a (inr (inr (inr (inl rd)))) = inr (inr (inl (ties_constructor.of ts a rd)))
   unit_of ts a (inr (inr (inr (inr rd)))) = inr (inr (inr (inl (ties_mapping.of ts a rd))))
 
-  pub ties_unit : Ties (unit (nested n)) («Unit» j) (unit (nested (suc m)))
+  pub ties_unit : Ties (unit (nested n)) (UnitRow j) (unit (nested (suc m)))
   ties_unit = record { to = unit_to; of = unit_of }
 
-  pub ties_module : Ties (transformation (nested n)) (Module j) (transformation (nested (suc m)))
-  unfolding transformation Module
+  pub ties_module : Ties (transformation (nested n)) (ModuleRow j) (transformation (nested (suc m)))
+  unfolding transformation ModuleRow
   ties_module = ties_gives module_of (ties_then (ties_many ties_model_type) (ties_then ties_header (ties_many (ties_swap (ties_gives some_unit ties_unit) (ties_gives no_units (ties_the class.Semicolon))))))

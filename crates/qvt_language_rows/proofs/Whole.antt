@@ -7,7 +7,7 @@ use Rattle.qvt_language.specs.declared.named.Named.{Named}
 use Rattle.qvt_language.specs.Readers.{nowhere}
 use Rattle.qvt_language.specs.Leads.{Plain}
 use Rattle.qvt_language.specs.Trees.{path_of}
-use Rattle.qvt_language.specs.Grammar.{Nested, more_names, bare_expr, named_expr, other_primary, primary, post, pre, expr, flagged}
+use Rattle.qvt_language.specs.Grammar.{NestedLanguages, more_names, bare_expr, named_expr, other_primary, primary, post, pre, expr, flagged}
 use Rattle.qvt_language.specs.Units.{transformation, unit}
 use Rattle.qvt_language.specs.Module.{Start, ReadsFrom, FrontFrom}
 use Rattle.qvt_language.specs.Laws.{Beginnings}
@@ -15,9 +15,9 @@ use Rattle.qvt_language.specs.Nesting.{nested}
 use Rattle.qvt_language.proofs.Starts.{beginnings}
 use Rattle.qvt_language.proofs.Whole as grammar
 use Rattle.qvt_language_rows.specs.Phrase.{Phrase}
-use Rattle.qvt_language_rows.specs.Rows.{Inside, Name, Target}
-use Rattle.qvt_language_rows.specs.Units.{«Unit», Module}
-use Rattle.qvt_language_rows.specs.Language.{inside, Is, Begins}
+use Rattle.qvt_language_rows.specs.Rows.{NestedRows, NameRow, TargetRow}
+use Rattle.qvt_language_rows.specs.Units.{UnitRow, ModuleRow}
+use Rattle.qvt_language_rows.specs.Language.{inside, Is, BeginsRow}
 use Rattle.qvt_language_rows.specs.Law.{AreOne}
 use Rattle.qvt_language_rows.proofs.Ties.{Ties, ties_none}
 use Rattle.qvt_language_rows.proofs.Plain.{TiesInside, ties_name, ties_type}
@@ -27,7 +27,7 @@ use Rattle.qvt_language_rows.proofs.Statements.{solid_i, solid_k, ties_block}
 use Rattle.qvt_language_rows.proofs.Units.{g, ties_unit, ties_module}
 
 -- a name is read as an expression at any nesting
-name_flagged : (k : Nested) (ts : List Tok) (a : Named) → Name ts a → (flagged k).reads ts (Plain (PathExpr (path_of (a, []))) (Some (BareTarget a.text a.place)))
+name_flagged : (k : NestedLanguages) (ts : List Tok) (a : Named) → NameRow ts a → (flagged k).reads ts (Plain (PathExpr (path_of (a, []))) (Some (BareTarget a.text a.place)))
 unfolding flagged pre post primary other_primary bare_expr named_expr more_names
 name_flagged k ts a rd = raise (pre k) (pre k) 8 ts (Plain (PathExpr (path_of (a, []))) (Some (BareTarget a.text a.place)))
     (inr (
@@ -37,9 +37,9 @@ name_flagged k ts a rd = raise (pre k) (pre k) 8 ts (Plain (PathExpr (path_of (a
     ))
 
 -- a target of one name is one
-target_name : (j : Inside) (ts : List Tok) (text : List ℕ) (place : _) → Target j ts (BareTarget text place) → Name ts (record { text = text; place = place })
-unfolding Target
-target_name j ts text place (inl (a, rd, q)) = (let one : text ≡ a.text = cc in let two : place ≡ a.place = cc in subst (λ z. Name ts z) (λ i. record { text = sym one i; place = sym two i }) rd)
+target_name : (j : NestedRows) (ts : List Tok) (text : List ℕ) (place : _) → TargetRow j ts (BareTarget text place) → NameRow ts (record { text = text; place = place })
+unfolding TargetRow
+target_name j ts text place (inl (a, rd, q)) = (let one : text ≡ a.text = cc in let two : place ≡ a.place = cc in subst (λ z. NameRow ts z) (λ i. record { text = sym one i; place = sym two i }) rd)
 target_name j ts text place (inr (inl (t, rd, q))) = absurd cc
 target_name j ts text place (inr (inr (x, rd, q))) = absurd cc
 
@@ -48,8 +48,8 @@ abbrev above : ℕ → ℕ
 above zero = suc zero
 above (suc n) = suc (suc (above n))
 
-module _ (n m : ℕ) {j : Inside} (h : TiesInside (nested n) j (nested m)) where
-  name_of : (ts : List Tok) (e : ExprTerm) (text : List ℕ) (place : _) → (flagged (nested n)).reads ts (Plain e (Some (BareTarget text place))) → Name ts (record { text = text; place = place })
+module _ (n m : ℕ) {j : NestedRows} (h : TiesInside (nested n) j (nested m)) where
+  name_of : (ts : List Tok) (e : ExprTerm) (text : List ℕ) (place : _) → (flagged (nested n)).reads ts (Plain e (Some (BareTarget text place))) → NameRow ts (record { text = text; place = place })
   name_of ts e text place rd = target_name j ts text place (flagged_to h (solid_i n m h) (solid_k n m h) ts (Plain e (Some (BareTarget text place))) rd).1
 
 pub ties_inside : (n : ℕ) → TiesInside (nested n) (inside n) (nested (above n))
@@ -69,17 +69,17 @@ ties_inside (suc n) = let h = ties_inside n in let more = g n (above n) h in rec
   bare_of = λ ts a rd. name_flagged (nested (suc (above n))) ts a rd;
 }
 
-module _ {A : Type 0} (row : Inside → Phrase A) (start : Start A) (ties : (n : ℕ) → Ties (start (nested n)) (row (inside n)) (start (nested (suc (above n))))) (law : Beginnings start) where
+module _ {A : Type 0} (row : NestedRows → Phrase A) (start : Start A) (ties : (n : ℕ) → Ties (start (nested n)) (row (inside n)) (start (nested (suc (above n))))) (law : Beginnings start) where
   is_of : (ts : List Tok) (a : A) → ReadsFrom start ts a → Is row ts a
   is_of ts a r = record { nesting = r.nesting; is = (ties r.nesting).to ts a r.reads }
 
   reads_of : (ts : List Tok) (a : A) → Is row ts a → ReadsFrom start ts a
   reads_of ts a r = record { nesting = suc (above r.nesting); reads = (ties r.nesting).of ts a r.is }
 
-  front_of : (ts : List Tok) → Begins row ts → FrontFrom start ts
+  front_of : (ts : List Tok) → BeginsRow row ts → FrontFrom start ts
   front_of ts b = law.begins ts b.more b.value (reads_of (ts ++ b.more) b.value b.whole)
 
-  begins_of : (ts : List Tok) → FrontFrom start ts → Begins row ts
+  begins_of : (ts : List Tok) → FrontFrom start ts → BeginsRow row ts
   begins_of ts f = let w = law.completed ts f in record { more = w.0; value = w.1; whole = is_of (ts ++ w.0) w.1 w.2 }
 
   pub are_one : AreOne row start
@@ -92,8 +92,8 @@ module _ {A : Type 0} (row : Inside → Phrase A) (start : Start A) (ties : (n :
     );
   }
 
-pub whole : AreOne Module transformation
-whole = are_one Module transformation (λ n. ties_module n (above n) (ties_inside n)) (beginnings grammar.whole)
+pub whole : AreOne ModuleRow transformation
+whole = are_one ModuleRow transformation (λ n. ties_module n (above n) (ties_inside n)) (beginnings grammar.whole)
 
-pub part : AreOne «Unit» unit
-part = are_one «Unit» unit (λ n. ties_unit n (above n) (ties_inside n)) (beginnings grammar.part)
+pub part : AreOne UnitRow unit
+part = are_one UnitRow unit (λ n. ties_unit n (above n) (ties_inside n)) (beginnings grammar.part)

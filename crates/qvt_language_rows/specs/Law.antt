@@ -4,14 +4,14 @@ use Rattle.qvt_language.specs.Tokens.{Tok}
 use Rattle.qvt_language.specs.Same.{SameTokens}
 use Rattle.qvt_language.specs.Module.{Start, ReadsFrom, FrontFrom, FaultFrom}
 use Rattle.qvt_language_rows.specs.Phrase.{Phrase}
-use Rattle.qvt_language_rows.specs.Rows.{Inside}
-use Rattle.qvt_language_rows.specs.Language.{Is, Begins, HasFault}
+use Rattle.qvt_language_rows.specs.Rows.{NestedRows}
+use Rattle.qvt_language_rows.specs.Language.{Is, BeginsRow, HasFault}
 
 -- a row and a start symbol of the parser's grammar have the same lists, as the same values, the same beginnings and the same
 -- faults
-pub record AreOne {A : Type 0} (row : Inside → Phrase A) (start : Start A) : Type 0 where
+pub record AreOne {A : Type 0} (row : NestedRows → Phrase A) (start : Start A) : Type 0 where
   pub read : (ts : List Tok) (a : A) → Is row ts a ↔ ReadsFrom start ts a
-  pub begun : (ts : List Tok) → Begins row ts ↔ FrontFrom start ts
+  pub begun : (ts : List Tok) → BeginsRow row ts ↔ FrontFrom start ts
   pub faulty : (ts rest : List Tok) → HasFault row ts rest ↔ FaultFrom start ts rest
 
 pub record LooksAtNoPlace {A : Type 0} (start : Start A) : Type 0 where

@@ -17,7 +17,7 @@ use Rattle.qvt_language.specs.Tokens.{Tok, code_of}
 use Rattle.qvt_language.specs.Leads.{EachPart}
 use Rattle.qvt_language.specs.Trees.{binary_op, headed, signed, post_of}
 use Rattle.qvt_language.specs.StmtTrees.{for_each_of, is_adding, last_of}
-use Rattle.qvt_language.specs.UnitTrees.{Clause, Clauses, InheritsClause, MergesClause, DisjunctsClause, WhenClause, with_clause, no_clauses}
+use Rattle.qvt_language.specs.UnitTrees.{ClauseTree, ClausesTree, InheritsClause, MergesClause, DisjunctsClause, WhenClause, with_clause, no_clauses}
 
 -- expressions
 
@@ -106,24 +106,24 @@ open_sections (all, (inl last)) = (all ++ last_of last, [])
 open_sections (all, (inr finish)) = (all, finish)
 
 -- which of the four kinds of Extra it is, by its word
-abbrev pub kind_of : Clause → ℕ
+abbrev pub kind_of : ClauseTree → ℕ
 kind_of (InheritsClause paths) = code_of InheritsWord
 kind_of (MergesClause paths) = code_of MergesWord
 kind_of (DisjunctsClause paths) = code_of DisjunctsWord
 kind_of (WhenClause e) = code_of WhenWord
 
-abbrev pub IsOther : Clause → List Clause → Type 0
+abbrev pub IsOther : ClauseTree → List ClauseTree → Type 0
 IsOther c [] = Unit {0}
 IsOther c (d ∷ more) = (kind_of c ≡ kind_of d → ⊥) × IsOther c more
 
 -- each kind at most once
-abbrev pub AreOnce : List Clause → Type 0
+abbrev pub AreOnce : List ClauseTree → Type 0
 AreOnce [] = Unit {0}
 AreOnce (c ∷ more) = IsOther c more × AreOnce more
 
-abbrev pub with_clauses : Clauses → List Clause → Clauses
+abbrev pub with_clauses : ClausesTree → List ClauseTree → ClausesTree
 with_clauses x [] = x
 with_clauses x (c ∷ more) = with_clauses (with_clause x c) more
 
-abbrev pub clauses_of : List Clause → Clauses
+abbrev pub clauses_of : List ClauseTree → ClausesTree
 clauses_of = with_clauses no_clauses

@@ -15,7 +15,7 @@ use Rattle.qvt_run_data.specs.declared.late.LateWrite.{LateWrite}
 use Rattle.qvt_run_data.specs.declared.record.Record.{Record}
 use Rattle.qvt_run_data.specs.declared.request.Request.{Request}
 use Rattle.qvt_run_rules.specs.Locals.{local_of}
-use Rattle.qvt_run_rules.specs.Resolve.{Answer, Fails, Invalid, Passes, Stops, Verdict, Weighed, sifted, sifted_by}
+use Rattle.qvt_run_rules.specs.Resolve.{ResolveAnswer, Fails, Invalid, Passes, Stops, ConditionVerdict, Weighed, sifted, sifted_by}
 use Rattle.qvt_run_rules.specs.Trace.{candidates, far_end, has_object, is_object_of, matched_by, with_new}
 use Rattle.qvt_meaning.specs.Plain.{answer, weighed}
 use Rattle.qvt_meaning.specs.Run.{Finish, answered, objects_in}
@@ -69,7 +69,7 @@ without_one (d ∷ done) o os h = (not_without done o os d h.0, without_one done
 moved_over : (done : List Oid) (o : Oid) (os : List Oid) → AreApart (done ++ o ∷ os) → AreApart ((done ++ o ∷ []) ++ os)
 moved_over done o os h = subst AreApart (sym (append_assoc done (o ∷ []) os)) h
 
-by_verdict : (v : Verdict) (one : Bool) (done : List Oid) (cost : ℕ) (o : Oid) (os : List Oid) (on : List Oid → Answer) → AreApart (done ++ o ∷ os)
+by_verdict : (v : ConditionVerdict) (one : Bool) (done : List Oid) (cost : ℕ) (o : Oid) (os : List Oid) (on : List Oid → ResolveAnswer) → AreApart (done ++ o ∷ os)
     → ((more : List Oid) → AreApart (more ++ os) → AreApart (objects_in (on more).found)) → AreApart (objects_in (sifted_by v one done cost o on).found)
 by_verdict Passes true done cost o os on h k = front_is (done ++ o ∷ []) os (moved_over done o os h)
 by_verdict Passes false done cost o os on h k = k (done ++ o ∷ []) (moved_over done o os h)

@@ -1,21 +1,21 @@
 -- What stands between two quotes.
 use Rattle.std.proofs.Common.{◌≡◌, ℕ, zero, suc, ◌+◌, ◌*◌, ◌≤◌, ◌<◌, List, [], ◌∷◌, ◌++◌, length, Bool, true, false, ◌||◌, ◌==◌, refl, sym, ap, ◌∙◌, subst, arith, append_assoc, length-append, cond, Option, Some, None}
 use Rattle.qvt_lexer.specs.Characters.{is_hex, hex_value}
-use Rattle.qvt_lexer.specs.Literals.{Taken, hex_at, is_surrogate, no_surrogate, simple_escape, simple_at, escape_at, item_at, Content}
+use Rattle.qvt_lexer.specs.Literals.{TakenCodePoint, hex_at, is_surrogate, no_surrogate, simple_escape, simple_at, escape_at, item_at, Content}
 use Rattle.qvt_lexer.specs.Scan.{items_end, content_end}
 
 -- f takes v from a front u of cs that leaves s, and takes it in whatever stands after u
-pub record Takes (f : List ℕ → Taken) (cs : List ℕ) (v : ℕ) (s : List ℕ) : Type 0 where
+pub record Takes (f : List ℕ → TakenCodePoint) (cs : List ℕ) (v : ℕ) (s : List ℕ) : Type 0 where
   pub front : List ℕ
   pub cut : cs ≡ front ++ s
   pub again : (t : List ℕ) → f (front ++ t) ≡ Some (v, t)
 
-same_taken : (v w : ℕ) (s t : List ℕ) → ◌≡◌ {A = Taken} (Some (v, s)) (Some (w, t)) → (v ≡ w) × (s ≡ t)
+same_taken : (v w : ℕ) (s t : List ℕ) → ◌≡◌ {A = TakenCodePoint} (Some (v, s)) (Some (w, t)) → (v ≡ w) × (s ≡ t)
 same_taken v w s t e =
     let pairs : ◌≡◌ {A = ℕ × List ℕ} (v, s) (w, t) = cc in ((λ i. (pairs i).0), (λ i. (pairs i).1))
 
 -- one more character before
-module _ (f g : List ℕ → Taken) (c : ℕ) (cs : List ℕ) (v : ℕ) (s : List ℕ) (same : (t : List ℕ) → g (c ∷ t) ≡ f t) where
+module _ (f g : List ℕ → TakenCodePoint) (c : ℕ) (cs : List ℕ) (v : ℕ) (s : List ℕ) (same : (t : List ℕ) → g (c ∷ t) ≡ f t) where
   takes_more : Takes f cs v s → Takes g (c ∷ cs) v s
   takes_more k = record { front = c ∷ k.front; cut = ap (λ z. c ∷ z) k.cut; again = λ t. same (k.front ++ t) ∙ k.again t }
 
@@ -32,10 +32,10 @@ hex_takes zero a cs v s e =
 hex_takes (suc n) a [] v s e = absurd cc
 hex_takes (suc n) a (c ∷ cs) v s e = hex_cases n a c cs v s (is_hex c) refl (hex_takes n (16 * a + hex_value c) cs v s) e
 
-unicode_takes : (f : List ℕ → Taken) (cs : List ℕ) (x : Taken) → f cs ≡ x → ((w : ℕ) (t : List ℕ) → f cs ≡ Some (w, t) → Takes f cs w t) → (v : ℕ) (s : List ℕ) → no_surrogate x ≡ Some (v, s) → Takes (λ z. no_surrogate (f z)) cs v s
+unicode_takes : (f : List ℕ → TakenCodePoint) (cs : List ℕ) (x : TakenCodePoint) → f cs ≡ x → ((w : ℕ) (t : List ℕ) → f cs ≡ Some (w, t) → Takes f cs w t) → (v : ℕ) (s : List ℕ) → no_surrogate x ≡ Some (v, s) → Takes (λ z. no_surrogate (f z)) cs v s
 unicode_takes f cs None h k v s e = absurd cc
 unicode_takes f cs (Some (w, r)) h k v s e = cases (is_surrogate w) refl e where
-  cases : (b : Bool) → is_surrogate w ≡ b → ◌≡◌ {A = Taken} (cond b None (Some (w, r))) (Some (v, s)) → Takes (λ z. no_surrogate (f z)) cs v s
+  cases : (b : Bool) → is_surrogate w ≡ b → ◌≡◌ {A = TakenCodePoint} (cond b None (Some (w, r))) (Some (v, s)) → Takes (λ z. no_surrogate (f z)) cs v s
   cases true g e = absurd cc
   cases false g e =
       let same = same_taken w v r s e in
@@ -53,7 +53,7 @@ simple_takes c cs (Some w) h v s e =
     record { front = []; cut = same.1; again = λ t. ap (λ z. simple_at z t) h ∙ ap (λ z. Some (z, t)) same.0 }
 
 -- the three kinds of escape, by the character after the backslash
-abbrev escape_by : Bool → Bool → ℕ → List ℕ → Taken
+abbrev escape_by : Bool → Bool → ℕ → List ℕ → TakenCodePoint
 escape_by x u c cs = cond x (hex_at 2 0 cs) (cond u (no_surrogate (hex_at 4 0 cs)) (simple_at (simple_escape c) cs))
 
 kinds_take : (x u : Bool) (c : ℕ) (cs : List ℕ) (v : ℕ) (s : List ℕ) → escape_by x u c cs ≡ Some (v, s) → Takes (escape_by x u c) cs v s
@@ -65,7 +65,7 @@ escape_takes : (cs : List ℕ) (v : ℕ) (s : List ℕ) → escape_at cs ≡ Som
 escape_takes [] v s e = absurd cc
 escape_takes (c ∷ cs) v s e = takes_more (escape_by (c == 120) (c == 117) c) escape_at c cs v s (λ t. refl) (kinds_take (c == 120) (c == 117) c cs v s e)
 
-abbrev item_by : Bool → Bool → ℕ → List ℕ → Taken
+abbrev item_by : Bool → Bool → ℕ → List ℕ → TakenCodePoint
 item_by stop slash c cs = cond stop None (cond slash (escape_at cs) (Some (c, cs)))
 
 items_take : (stop slash : Bool) (c : ℕ) (cs : List ℕ) (v : ℕ) (s : List ℕ) → item_by stop slash c cs ≡ Some (v, s) → Takes (item_by stop slash c) cs v s
@@ -119,7 +119,7 @@ pub record Ends (q : ℕ) (cs s : List ℕ) : Type 0 where
   pub content : Content q cs values s
   pub stops : item_at q s ≡ None
 
-ends_cases : (n q : ℕ) (cs : List ℕ) (x : Taken) → item_at q cs ≡ x → ((v : ℕ) (s : List ℕ) → item_at q cs ≡ Some (v, s) → Ends q s (items_end n q s))
+ends_cases : (n q : ℕ) (cs : List ℕ) (x : TakenCodePoint) → item_at q cs ≡ x → ((v : ℕ) (s : List ℕ) → item_at q cs ≡ Some (v, s) → Ends q s (items_end n q s))
     → Ends q cs (elim x [ None ↦ cs | Some y ↦ items_end n q y.1 ])
 ends_cases n q cs None h ih = record { values = []; content = refl; stops = h }
 ends_cases n q cs (Some (v, s)) h ih =

@@ -2,7 +2,7 @@
 use Rattle.std.proofs.Common.{◌≡◌, ℕ, ◌+◌, ◌≤◌, List, [], ◌∷◌, ◌++◌, length, Bool, true, false, ◌&&◌, ◌==◌, not, ◌⊎◌, inl, inr, refl, sym, ap, ◌∙◌, arith, length-append, Ok, Err, cond, Option, Some, None}
 use Rattle.std.proofs.lemmas.Bool.Decides.{nat_tests}
 use Rattle.qvt_lexer.specs.Characters.{is_blank, is_start, is_digit, is_quote, is_in_line, is_line_comment, is_block_comment}
-use Rattle.qvt_words.specs.Words.{is_single, is_double}
+use Rattle.qvt_words.specs.Words.{is_single_sign, is_double_sign}
 use Rattle.qvt_words.proofs.Rows.{of_double}
 use Rattle.qvt_lexer.specs.Literals.{run, skip, after_close}
 use Rattle.qvt_lexer.specs.Pieces.{IsLineComment, IsBlockComment, IsSymbol, IsPiece, NoPiece, OpensEscape, OpensComment}
@@ -103,15 +103,15 @@ module _ (c d : ℕ) (cs v s : List ℕ) (e : c ∷ d ∷ cs ≡ v ++ s) where
   block_is : IsBlockComment v → is_block_comment c d ≡ true
   block_is (w, h, k) = let t = two_are c d 47 42 cs w v s e h in ap (λ z. is_block_comment z d) (sym t.0) ∙ ap (is_block_comment 47) (sym t.1)
 
-  double_is : (x y : ℕ) → v ≡ x ∷ y ∷ [] → is_double x y ≡ true → is_double c d ≡ true
-  double_is x y h k = let t = two_are c d x y cs [] v s e h in ap (λ z. is_double z d) (sym t.0) ∙ ap (is_double x) (sym t.1) ∙ k
+  double_is : (x y : ℕ) → v ≡ x ∷ y ∷ [] → is_double_sign x y ≡ true → is_double_sign c d ≡ true
+  double_is x y h k = let t = two_are c d x y cs [] v s e h in ap (λ z. is_double_sign z d) (sym t.0) ∙ ap (is_double_sign x) (sym t.1) ∙ k
 
   -- a piece is longer than one character only in these ways
-  at_most_one : is_line_comment c d ≡ false → is_block_comment c d ≡ false → is_double c d ≡ false → (IsLineComment v ⊎ IsBlockComment v) ⊎ IsSymbol v → (x : ℕ) × (v ≡ x ∷ []) × (is_single x ≡ true)
+  at_most_one : is_line_comment c d ≡ false → is_block_comment c d ≡ false → is_double_sign c d ≡ false → (IsLineComment v ⊎ IsBlockComment v) ⊎ IsSymbol v → (x : ℕ) × (v ≡ x ∷ []) × (is_single_sign x ≡ true)
   at_most_one l b o (inl (inl w)) = absurd (no_both (is_line_comment c d) (line_is w) l)
   at_most_one l b o (inl (inr w)) = absurd (no_both (is_block_comment c d) (block_is w) b)
   at_most_one l b o (inr (inl w)) = w
-  at_most_one l b o (inr (inr w)) = absurd (no_both (is_double c d) (double_is w.0 w.1 w.2 w.3) o)
+  at_most_one l b o (inr (inr w)) = absurd (no_both (is_double_sign c d) (double_is w.0 w.1 w.2 w.3) o)
 
   at_most_two : is_line_comment c d ≡ false → is_block_comment c d ≡ false → (IsLineComment v ⊎ IsBlockComment v) ⊎ IsSymbol v → length v ≤ 2
   at_most_two l b (inl (inl w)) = absurd (no_both (is_line_comment c d) (line_is w) l)
@@ -127,11 +127,11 @@ module _ (c d : ℕ) (cs v s : List ℕ) (e : c ∷ d ∷ cs ≡ v ++ s) where
   line_length b (inr (inr w)) = omega (arith, ap length w.2)
 
   -- a piece of a text that opens a block comment
-  block_close : is_line_comment c d ≡ false → is_double c d ≡ false → is_single c ≡ false → (IsLineComment v ⊎ IsBlockComment v) ⊎ IsSymbol v → after_close cs ≡ Some s
+  block_close : is_line_comment c d ≡ false → is_double_sign c d ≡ false → is_single_sign c ≡ false → (IsLineComment v ⊎ IsBlockComment v) ⊎ IsSymbol v → after_close cs ≡ Some s
   block_close l o n (inl (inl w)) = absurd (no_both (is_line_comment c d) (line_is w) l)
   block_close l o n (inl (inr (w, h, k))) = let t = two_are c d 47 42 cs w v s e h in ap after_close t.2 ∙ close_more w [] s k
-  block_close l o n (inr (inl (x, h, k))) = absurd (no_both (is_single x) k (ap is_single (one_is c x (d ∷ cs) v s e h) ∙ n))
-  block_close l o n (inr (inr w)) = absurd (no_both (is_double c d) (double_is w.0 w.1 w.2 w.3) o)
+  block_close l o n (inr (inl (x, h, k))) = absurd (no_both (is_single_sign x) k (ap is_single_sign (one_is c x (d ∷ cs) v s e h) ∙ n))
+  block_close l o n (inr (inr w)) = absurd (no_both (is_double_sign c d) (double_is w.0 w.1 w.2 w.3) o)
 
 -- no sign of two characters opens a comment
 abbrev opens_none : List ℕ → Bool
@@ -139,10 +139,10 @@ opens_none [] = true
 opens_none (c ∷ []) = true
 opens_none (c ∷ d ∷ u) = not (is_line_comment c d) && not (is_block_comment c d)
 
-pub double_line : (c d : ℕ) → is_double c d ≡ true → is_line_comment c d ≡ false
+pub double_line : (c d : ℕ) → is_double_sign c d ≡ true → is_line_comment c d ≡ false
 double_line c d h = let k = of_double opens_none c d refl h in grind (arith, nat_tests)
 
-double_block : (c d : ℕ) → is_double c d ≡ true → is_block_comment c d ≡ false
+double_block : (c d : ℕ) → is_double_sign c d ≡ true → is_block_comment c d ≡ false
 double_block c d h = let k = of_double opens_none c d refl h in grind (arith, nat_tests)
 
 line_block : (c d : ℕ) → is_line_comment c d ≡ true → is_block_comment c d ≡ false
@@ -154,9 +154,9 @@ block_line c d h = grind (arith, nat_tests)
 block_first : (c d : ℕ) → is_block_comment c d ≡ true → c ≡ 47
 block_first c d h = grind (arith, nat_tests)
 
-block_single : (c d : ℕ) → is_block_comment c d ≡ true → is_single c ≡ false
-unfolding is_single
-block_single c d h = ap is_single (block_first c d h)
+block_single : (c d : ℕ) → is_block_comment c d ≡ true → is_single_sign c ≡ false
+unfolding is_single_sign
+block_single c d h = ap is_single_sign (block_first c d h)
 
 block_second : (c d : ℕ) → is_block_comment c d ≡ true → d ≡ 42
 block_second c d h = grind (arith, nat_tests)
@@ -166,28 +166,28 @@ module _ (c : ℕ) (blank : is_blank c ≡ false) (start : is_start c ≡ false)
   last_short : (v s : List ℕ) → c ∷ [] ≡ v ++ s → length v ≤ 1
   last_short v s e = omega (arith, ap length e, length-append v s)
 
-  last_single : (v s : List ℕ) → c ∷ [] ≡ v ++ s → (IsLineComment v ⊎ IsBlockComment v) ⊎ IsSymbol v → is_single c ≡ true
+  last_single : (v s : List ℕ) → c ∷ [] ≡ v ++ s → (IsLineComment v ⊎ IsBlockComment v) ⊎ IsSymbol v → is_single_sign c ≡ true
   last_single v s e (inl (inl w)) = absurd (let z = last_short v s e in omega (arith, ap length w.3))
   last_single v s e (inl (inr w)) = absurd (let z = last_short v s e in omega (arith, ap length w.1))
-  last_single v s e (inr (inl w)) = ap is_single (sym (one_is c w.0 [] v s e w.1)) ∙ w.2
+  last_single v s e (inr (inl w)) = ap is_single_sign (sym (one_is c w.0 [] v s e w.1)) ∙ w.2
   last_single v s e (inr (inr w)) = absurd (let z = last_short v s e in omega (arith, ap length w.2))
 
-  last_cases : (b : Bool) → is_single c ≡ b → IsScanOf (c ∷ []) (cond b (Ok (Token Symbol, [])) (Err (BadChar, c ∷ [])))
+  last_cases : (b : Bool) → is_single_sign c ≡ b → IsScanOf (c ∷ []) (cond b (Ok (Token Symbol, [])) (Err (BadChar, c ∷ [])))
   last_cases true h = symbol_of c [] blank start digit quote (c ∷ []) [] refl (inl (c, refl, h)) (λ v s e k. last_short v s e)
-  last_cases false h = bad_char c [] blank start digit quote (λ p v s k. no_both (is_single c) (last_single v s k.cut (mark_piece c [] blank start digit quote p v s k)) h) (λ w. let z = w.1 in absurd cc)
+  last_cases false h = bad_char c [] blank start digit quote (λ p v s k. no_both (is_single_sign c) (last_single v s k.cut (mark_piece c [] blank start digit quote p v s k)) h) (λ w. let z = w.1 in absurd cc)
 
   module _ (d : ℕ) (cs : List ℕ) where
-    single_cases : is_double c d ≡ false → is_line_comment c d ≡ false → is_block_comment c d ≡ false → (b : Bool) → is_single c ≡ b → IsScanOf (c ∷ d ∷ cs) (cond b (Ok (Token Symbol, d ∷ cs)) (Err (BadChar, c ∷ d ∷ cs)))
+    single_cases : is_double_sign c d ≡ false → is_line_comment c d ≡ false → is_block_comment c d ≡ false → (b : Bool) → is_single_sign c ≡ b → IsScanOf (c ∷ d ∷ cs) (cond b (Ok (Token Symbol, d ∷ cs)) (Err (BadChar, c ∷ d ∷ cs)))
     single_cases o l b true h =
         symbol_of c (d ∷ cs) blank start digit quote (c ∷ []) (d ∷ cs) refl (inl (c, refl, h)) (λ v s e k. let w = at_most_one c d cs v s e l b o k in omega (arith, ap length w.1))
     single_cases o l b false h =
         bad_char c (d ∷ cs) blank start digit quote
         (λ p v s k. let w = at_most_one c d cs v s k.cut l b o (mark_piece c (d ∷ cs) blank start digit quote p v s k) in
-        no_both (is_single c) (ap is_single (sym (one_is c w.0 (d ∷ cs) v s k.cut w.1)) ∙ w.2) h)
+        no_both (is_single_sign c) (ap is_single_sign (sym (one_is c w.0 (d ∷ cs) v s k.cut w.1)) ∙ w.2) h)
         (λ w. let e = w.1 in let x : c ≡ 47 = cc in let y : d ≡ 42 = cc in
         no_both (is_block_comment 47 42) refl (ap (λ z. is_block_comment z 42) (sym x) ∙ ap (is_block_comment c) (sym y) ∙ b))
 
-    block_cases : is_double c d ≡ false → is_block_comment c d ≡ true → (o : Option (List ℕ)) → after_close cs ≡ o → IsScanOf (c ∷ d ∷ cs) (block_at (c ∷ d ∷ cs) o)
+    block_cases : is_double_sign c d ≡ false → is_block_comment c d ≡ true → (o : Option (List ℕ)) → after_close cs ≡ o → IsScanOf (c ∷ d ∷ cs) (block_at (c ∷ d ∷ cs) o)
     block_cases o b None h = (
       (λ p v s k. let z = block_close c d cs v s k.cut (block_line c d b) o (block_single c d b) (mark_piece c (d ∷ cs) blank start digit quote p v s k) in
           let y : None ≡ Some s = sym h ∙ z in cc),
@@ -206,21 +206,21 @@ module _ (c : ℕ) (blank : is_blank c ≡ false) (start : is_start c ≡ false)
           let same : r ≡ s = same_rest r s (sym h ∙ z) in
           omega (arith, ap length same, ap length e, length-append v s, ap length k.cut, length-append k.front r))
 
-    line_cases : is_double c d ≡ false → (l b : Bool) → is_line_comment c d ≡ l → is_block_comment c d ≡ b
+    line_cases : is_double_sign c d ≡ false → (l b : Bool) → is_line_comment c d ≡ l → is_block_comment c d ≡ b
         → IsScanOf (c ∷ d ∷ cs) (cond l (Ok (Comment, skip is_in_line cs)) (cond b (block_at (c ∷ d ∷ cs) (after_close cs)) (single_at c (d ∷ cs))))
     line_cases o true b h k =
         comment_of c (d ∷ cs) blank start digit quote (c ∷ d ∷ run is_in_line cs) (skip is_in_line cs) (ap (λ z. c ∷ d ∷ z) (run_skip is_in_line cs))
         (inl (c, d, run is_in_line cs, refl, h, every_run is_in_line cs))
         (λ v s e q. let z = line_length c d cs v s e (line_block c d h) q in omega arith)
     line_cases o false true h k = block_cases o k (after_close cs) refl
-    line_cases o false false h k = single_cases o h k (is_single c) refl
+    line_cases o false false h k = single_cases o h k (is_single_sign c) refl
 
-    double_cases : (o : Bool) → is_double c d ≡ o
+    double_cases : (o : Bool) → is_double_sign c d ≡ o
         → IsScanOf (c ∷ d ∷ cs) (cond o (Ok (Token Symbol, cs)) (cond (is_line_comment c d) (Ok (Comment, skip is_in_line cs)) (cond (is_block_comment c d) (block_at (c ∷ d ∷ cs) (after_close cs)) (single_at c (d ∷ cs)))))
     double_cases true h =
         symbol_of c (d ∷ cs) blank start digit quote (c ∷ d ∷ []) cs refl (inr (c, d, refl, h)) (λ v s e k. let z = at_most_two c d cs v s e (double_line c d h) (double_block c d h) k in omega arith)
     double_cases false h = line_cases h (is_line_comment c d) (is_block_comment c d) refl refl
 
   pub mark_next : (cs : List ℕ) → IsScanOf (c ∷ cs) (mark_at c cs)
-  mark_next [] = last_cases (is_single c) refl
-  mark_next (d ∷ cs) = double_cases d cs (is_double c d) refl
+  mark_next [] = last_cases (is_single_sign c) refl
+  mark_next (d ∷ cs) = double_cases d cs (is_double_sign c d) refl

@@ -3,7 +3,7 @@ use Rattle.std.proofs.Common.{◌≡◌, ℕ, ◌+◌, ◌*◌, ◌-◌, ◌≤�
 use Rattle.std.proofs.lemmas.Bool.Decides.{nat_tests}
 use Rattle.qvt_lexer.specs.Characters.{is_digit}
 use Rattle.std.specs.Char.{InScalarRange, OutOfScalarRange}
-use Rattle.qvt_lexer.specs.Literals.{every, number_after, greatest_number, after_close, Taken, is_surrogate, no_surrogate}
+use Rattle.qvt_lexer.specs.Literals.{every, number_after, greatest_number, after_close, TakenCodePoint, is_surrogate, no_surrogate}
 use Rattle.qvt_lexer.specs.Scan.{closes_at}
 use Rattle.qvt_lexer.proofs.Runs.{and_right}
 
@@ -41,14 +41,14 @@ pub more_digits : (text more : List ℕ) (c : ℕ) → text ≡ c ∷ more → e
 more_digits text more c e h = and_right (is_digit c) (every is_digit more) (sym (ap (every is_digit) e) ∙ h)
 
 -- a code point of four hexadecimal digits is a character exactly where it is no surrogate
-pub whole_character : (x : Taken) (v w : ℕ) (s : List ℕ) → x ≡ Some (v, s) → InScalarRange v → w ≡ v → no_surrogate x ≡ Some (w, s)
+pub whole_character : (x : TakenCodePoint) (v w : ℕ) (s : List ℕ) → x ≡ Some (v, s) → InScalarRange v → w ≡ v → no_surrogate x ≡ Some (w, s)
 whole_character x v w s e range same =
     ap no_surrogate e ∙ ap (λ b. cond b None (Some (v, s))) (not_between v range) ∙ ap (λ z. Some (z, s)) (sym same) where
       not_between : (v : ℕ) → InScalarRange v → is_surrogate v ≡ false
       not_between v (inl h) = grind (arith, nat_tests)
       not_between v (inr h) = grind (arith, nat_tests)
 
-pub no_character : (x : Taken) (v : ℕ) (s : List ℕ) → x ≡ Some (v, s) → OutOfScalarRange v → v < 65536 → no_surrogate x ≡ None
+pub no_character : (x : TakenCodePoint) (v : ℕ) (s : List ℕ) → x ≡ Some (v, s) → OutOfScalarRange v → v < 65536 → no_surrogate x ≡ None
 no_character x v s e range small = ap no_surrogate e ∙ ap (λ b. cond b None (Some (v, s))) (between v range small) where
   between : (v : ℕ) → OutOfScalarRange v → v < 65536 → is_surrogate v ≡ true
   between v (inl h) lt = grind (arith, nat_tests)

@@ -5,7 +5,7 @@ use Rattle.std.specs.Char.{is_ascii_alphabetic}
 use Rattle.unicode_ident.specs.Ident.{is_xid_start}
 use Rattle.unicode_ident.proofs.IdentLemmas.{is_xid_start-ascii, is_xid_continue-ascii}
 use Rattle.qvt_lexer.specs.Characters.{is_blank, is_start, is_continue, is_digit, is_quote, is_line_comment}
-use Rattle.qvt_words.specs.Words.{is_single, is_double}
+use Rattle.qvt_words.specs.Words.{is_single_sign, is_double_sign}
 use Rattle.qvt_words.proofs.Rows.{of_single, of_double}
 use Rattle.qvt_lexer.specs.Pieces.{IsPiece}
 use Rattle.qvt_lexer.specs.declared.token.TokenKind.TheVariants.{Name, Integer, Str, Word, Symbol, End}
@@ -15,7 +15,7 @@ use Rattle.qvt_lexer.proofs.Runs.{no_both}
 
 -- what begins a symbol or a comment
 abbrev pub is_mark : ℕ → Bool
-is_mark c = is_single c || (c == 33) || (c == 47)
+is_mark c = is_single_sign c || (c == 33) || (c == 47)
 
 pub data Sort : Type 0 where
   AtBlank : Sort
@@ -64,12 +64,12 @@ plain_as : (c d : ℕ) → (c == d) ≡ true → is_plain (d ∷ []) ≡ true �
 plain_as c d e h = ap (λ z. is_plain (z ∷ [])) (eqb-true c d e) ∙ h
 
 pub plain_mark : (c : ℕ) → is_mark c ≡ true → is_plain (c ∷ []) ≡ true
-plain_mark c h = single (is_single c) refl h where
+plain_mark c h = single (is_single_sign c) refl h where
   slash : (b : Bool) → (c == 33) ≡ b → (b || (c == 47)) ≡ true → is_plain (c ∷ []) ≡ true
   slash true e k = plain_as c 33 e refl
   slash false e k = plain_as c 47 k refl
 
-  single : (b : Bool) → is_single c ≡ b → (b || (c == 33) || (c == 47)) ≡ true → is_plain (c ∷ []) ≡ true
+  single : (b : Bool) → is_single_sign c ≡ b → (b || (c == 33) || (c == 47)) ≡ true → is_plain (c ∷ []) ≡ true
   single true e k = of_single is_plain c refl e
   single false e k = slash (c == 33) refl k
 
@@ -140,23 +140,23 @@ same_sort AtMark AtDigit c h k = absurd (digit_mark c k h)
 same_sort AtMark AtQuote c h k = absurd (quote_mark c k h)
 same_sort AtMark AtMark c h k = refl
 
-single_mark : (c : ℕ) → is_single c ≡ true → is_mark c ≡ true
+single_mark : (c : ℕ) → is_single_sign c ≡ true → is_mark c ≡ true
 single_mark c h = ap (λ b. b || (c == 33) || (c == 47)) h
 
 abbrev begins_mark : List ℕ → Bool
 begins_mark [] = true
 begins_mark (c ∷ u) = is_mark c
 
-pub double_mark : (c d : ℕ) → is_double c d ≡ true → is_mark c ≡ true
-unfolding is_single
+pub double_mark : (c d : ℕ) → is_double_sign c d ≡ true → is_mark c ≡ true
+unfolding is_single_sign
 double_mark c d h = of_double begins_mark c d refl h
 
 slash_mark : is_mark 47 ≡ true
-unfolding is_single
+unfolding is_single_sign
 slash_mark = refl
 
 dash_mark : is_mark 45 ≡ true
-unfolding is_single
+unfolding is_single_sign
 dash_mark = refl
 
 mark_as : (c d : ℕ) → (c == d) ≡ true → is_mark d ≡ true → is_mark c ≡ true

@@ -4,7 +4,7 @@ use Rattle.std.proofs.lemmas.List.{append_cancel_left, take_at}
 use Rattle.std.proofs.lemmas.Bool.Decides.{nat_tests}
 use Rattle.std.specs.Str.{encode_utf8_all}
 use Rattle.qvt_lexer.specs.Characters.{is_continue, is_digit, is_quote, is_line_comment}
-use Rattle.qvt_words.specs.Words.{is_double, is_reserved}
+use Rattle.qvt_words.specs.Words.{is_double_sign, is_reserved}
 use Rattle.qvt_lexer.specs.Literals.{every, begins, Content, item_at}
 use Rattle.qvt_lexer.specs.Pieces.{Spells, IsPlainName, IsLineComment, IsBlockComment, IsSymbol, IsPiece, IsNext, NoPiece, EndsLine, OpensText, OpensEscape, OpensComment}
 use Rattle.qvt_lexer.specs.Division.{Written, Divides}
@@ -32,11 +32,11 @@ word_not_name u n w (inr k) =
     let tail : n.1 ≡ 39 ∷ (k.0 ++ 39 ∷ []) = cc in
     quote_continues (and_left (is_continue 39) (every is_continue (k.0 ++ 39 ∷ [])) (subst (λ z. every is_continue z ≡ true) tail n.4))
 
-line_not_double : (c d : ℕ) → is_line_comment c d ≡ true → is_double c d ≡ true → ⊥
+line_not_double : (c d : ℕ) → is_line_comment c d ≡ true → is_double_sign c d ≡ true → ⊥
 line_not_double c d h k = no_both (is_line_comment c d) h (double_line c d k)
 
-block_not_double : is_double 47 42 ≡ false
-unfolding is_double
+block_not_double : is_double_sign 47 42 ≡ false
+unfolding is_double_sign
 block_not_double = refl
 
 two_same : (c d x y : ℕ) (w z : List ℕ) → c ∷ d ∷ w ≡ x ∷ y ∷ z → (c ≡ x) × (d ≡ y)
@@ -50,7 +50,7 @@ comment_not_symbol u (inl (c, d, w, e, h, k)) (inr (x, y, f, g)) =
 comment_not_symbol u (inr (w, e, h)) (inl (x, f, g)) = absurd (omega (arith, ap length e, ap length f))
 comment_not_symbol u (inr (w, e, h)) (inr (x, y, f, g)) =
     let t = two_same 47 42 x y w [] (sym e ∙ f) in
-    no_both (is_double 47 42) (ap (λ z. is_double z 42) t.0 ∙ ap (is_double x) t.1 ∙ g) block_not_double
+    no_both (is_double_sign 47 42) (ap (λ z. is_double_sign z 42) t.0 ∙ ap (is_double_sign x) t.1 ∙ g) block_not_double
 
 -- one spelling is of one piece
 same_piece : (p q : Piece) (u : List ℕ) → sort_of p ≡ sort_of q → Spells p u → Spells q u → p ≡ q

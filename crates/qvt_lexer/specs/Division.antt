@@ -4,7 +4,7 @@ use Rattle.std.specs.Prelude.{◌≡◌, ◌≢◌, ℕ, ◌+◌, ◌==◌, List
 use Rattle.std.specs.Char.{len_utf8}
 use Rattle.std.specs.Str.{encode_utf8_all}
 use Rattle.qvt_base.specs.declared.numbers.Place.{Place}
-use Rattle.qvt_lexer.specs.Pieces.{IsNext, NoPiece, IsFaultOf}
+use Rattle.qvt_lexer.specs.Pieces.{IsNext, NoPiece, IsLexFaultOf}
 use Rattle.qvt_lexer.specs.declared.token.TokenKind.{TokenKind}
 use Rattle.qvt_lexer.specs.declared.token.TokenKind.TheVariants.{End}
 use Rattle.qvt_lexer.specs.declared.token.Token as code
@@ -58,7 +58,7 @@ past at [] = at
 past at (p ∷ ps) = past (place_after at p.text) ps
 
 -- between the two positions there are these tokens, and else blanks and comments alone
-pub record Reads (from to : Position) (ts : List TokenData) : Type 0 where
+pub record ReadsTokens (from to : Position) (ts : List TokenData) : Type 0 where
   pub pieces : List Written
   pub divides : Divides from.rest pieces to.rest
   pub tokens : tokens_of from.place pieces ≡ ts
@@ -68,20 +68,20 @@ abbrev pub data_of : code.Token → TokenData
 data_of t = record { kind = t.kind; place = t.place; text = t.text.now }
 
 -- t is the next token after the first position, and ends at the second; where no token is left it is the end
-pub record IsRead (from : Position) (t : code.Token) (to : Position) : Type 0 where
-  pub token : t.kind ≢ End → Reads from to (data_of t ∷ [])
-  pub nothing : t.kind ≡ End → Reads from to [] × (to.rest ≡ []) × (t.place ≡ to.place) × (t.text.now ≡ [])
+pub record IsNextToken (from : Position) (t : code.Token) (to : Position) : Type 0 where
+  pub token : t.kind ≢ End → ReadsTokens from to (data_of t ∷ [])
+  pub nothing : t.kind ≡ End → ReadsTokens from to [] × (to.rest ≡ []) × (t.place ≡ to.place) × (t.text.now ≡ [])
 
 -- after blanks and comments no piece begins, though characters are left, and f is the fault there
 pub record IsFaulty (from : Position) (f : LexFault) : Type 0 where
   pub at : Position
-  pub reads : Reads from at []
+  pub reads : ReadsTokens from at []
   pub more : at.rest ≢ []
   pub none : NoPiece at.rest
   pub before : List ℕ
   pub left : List ℕ
   pub cut : at.rest ≡ before ++ left
-  pub fault : IsFaultOf at.rest f.kind left
+  pub fault : IsLexFaultOf at.rest f.kind left
   pub place : f.place ≡ place_after at.place before
 
 abbrev pub first_place : Place

@@ -2,7 +2,7 @@
 use Rattle.std.specs.Prelude.{◌≡◌, ℕ, zero, suc, ◌-◌, List, [], ◌∷◌, ◌++◌, length, take, Result, Ok, Err}
 use Rattle.std.specs.Str.{chars}
 use Rattle.qvt_base.specs.declared.numbers.Place.{Place}
-use Rattle.qvt_lexer.specs.Division.{Position, Written, TokenData, token_of, place_after, Reads, IsFaulty, start_at}
+use Rattle.qvt_lexer.specs.Division.{Position, Written, TokenData, token_of, place_after, ReadsTokens, IsFaulty, start_at}
 use Rattle.qvt_lexer.specs.Scan.{Scan, scan_at}
 use Rattle.qvt_lexer.specs.declared.token.LexFault.{LexFault}
 
@@ -38,8 +38,8 @@ lexed text = lexed_from (length (chars text)) [] (start_at (chars text))
 
 -- the tokens up to the end of the text, or those before the fault
 abbrev pub LexesFrom : Position → Lexed → Type 0
-LexesFrom from (Ok (ts, end)) = (last : Position) × Reads from last ts × (last.rest ≡ []) × (last.place ≡ end)
-LexesFrom from (Err fault) = (ts : List TokenData) × (last : Position) × Reads from last ts × IsFaulty last fault
+LexesFrom from (Ok (ts, end)) = (last : Position) × ReadsTokens from last ts × (last.rest ≡ []) × (last.place ≡ end)
+LexesFrom from (Err fault) = (ts : List TokenData) × (last : Position) × ReadsTokens from last ts × IsFaulty last fault
 
 -- every text is lexed: it has tokens to its end, or a fault
 abbrev pub EveryTextIsLexed : Type 0

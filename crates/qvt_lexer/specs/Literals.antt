@@ -39,11 +39,11 @@ after_close (c ∷ []) = None
 after_close (c ∷ d ∷ cs) = if c == 42 && d == 47 then Some cs else after_close (d ∷ cs)
 
 -- a code point with what is left
-abbrev pub Taken : Type 0
-Taken = Option (ℕ × List ℕ)
+abbrev pub TakenCodePoint : Type 0
+TakenCodePoint = Option (ℕ × List ℕ)
 
 -- n hexadecimal digits, after those of value v
-abbrev pub hex_at : ℕ → ℕ → List ℕ → Taken
+abbrev pub hex_at : ℕ → ℕ → List ℕ → TakenCodePoint
 hex_at zero v cs = Some (v, cs)
 hex_at (suc n) v [] = None
 hex_at (suc n) v (c ∷ cs) = if is_hex c then hex_at n (16 * v + hex_value c) cs else None
@@ -52,7 +52,7 @@ hex_at (suc n) v (c ∷ cs) = if is_hex c then hex_at n (16 * v + hex_value c) c
 abbrev pub is_surrogate : ℕ → Bool
 is_surrogate v = nat_le 55296 v && nat_le v 57343
 
-abbrev pub no_surrogate : Taken → Taken
+abbrev pub no_surrogate : TakenCodePoint → TakenCodePoint
 no_surrogate None = None
 no_surrogate (Some (v, cs)) = if is_surrogate v then None else Some (v, cs)
 
@@ -62,19 +62,19 @@ simple_escape c =
     if c == 98 then Some 8 else if c == 116 then Some 9 else if c == 110 then Some 10 else if c == 102 then Some 12 else if c == 114 then Some 13
     else if c == 34 || c == 39 || c == 92 then Some c else None
 
-abbrev pub simple_at : Option ℕ → List ℕ → Taken
+abbrev pub simple_at : Option ℕ → List ℕ → TakenCodePoint
 simple_at None cs = None
 simple_at (Some v) cs = Some (v, cs)
 
 -- the character that an escape stands for, by what comes after its backslash: x and two hexadecimal digits, u and four, or
 -- one character
-abbrev pub escape_at : List ℕ → Taken
+abbrev pub escape_at : List ℕ → TakenCodePoint
 escape_at [] = None
 escape_at (c ∷ cs) = if c == 120 then hex_at 2 0 cs else if c == 117 then no_surrogate (hex_at 4 0 cs) else simple_at (simple_escape c) cs
 
 -- a character between two quotes q, escaped or not; at a quote, a line feed and a backslash that begins no escape there is
 -- none
-abbrev pub item_at : ℕ → List ℕ → Taken
+abbrev pub item_at : ℕ → List ℕ → TakenCodePoint
 item_at q [] = None
 item_at q (c ∷ cs) = if c == q || c == 10 then None else if c == 92 then escape_at cs else Some (c, cs)
 

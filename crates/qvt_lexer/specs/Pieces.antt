@@ -2,7 +2,7 @@
 use Rattle.std.specs.Prelude.{◌≡◌, ℕ, ◌≤◌, true, false, IsTrue, List, [], ◌∷◌, ◌++◌, length, Some, None, ◌⊎◌}
 use Rattle.std.specs.Str.{encode_utf8_all}
 use Rattle.qvt_lexer.specs.Characters.{is_blank, is_start, is_continue, is_digit, is_quote, is_in_line, is_line_comment}
-use Rattle.qvt_words.specs.Words.{is_single, is_double, is_reserved}
+use Rattle.qvt_words.specs.Words.{is_single_sign, is_double_sign, is_reserved}
 use Rattle.qvt_lexer.specs.Literals.{every, begins, number_of, greatest_number, after_close, item_at, Content}
 use Rattle.qvt_lexer.specs.declared.token.TokenKind.TheVariants.{Name, Integer, Str, Word, Symbol, End}
 use Rattle.qvt_lexer.specs.declared.token.LexKind.{LexKind}
@@ -34,7 +34,7 @@ abbrev pub IsString : List ℕ → Type 0
 IsString u = (q : ℕ) × (w : List ℕ) × (vs : List ℕ) × (u ≡ q ∷ w) × IsTrue (is_quote q) × Content q w vs (q ∷ [])
 
 abbrev pub IsSymbol : List ℕ → Type 0
-IsSymbol u = ((c : ℕ) × (u ≡ c ∷ []) × IsTrue (is_single c)) ⊎ ((c : ℕ) × (d : ℕ) × (u ≡ c ∷ d ∷ []) × IsTrue (is_double c d))
+IsSymbol u = ((c : ℕ) × (u ≡ c ∷ []) × IsTrue (is_single_sign c)) ⊎ ((c : ℕ) × (d : ℕ) × (u ≡ c ∷ d ∷ []) × IsTrue (is_double_sign c d))
 
 -- how the characters of a piece are written
 abbrev pub Spells : Piece → List ℕ → Type 0
@@ -80,9 +80,9 @@ abbrev pub OpensComment : List ℕ → Type 0
 OpensComment text = (w : List ℕ) × (text ≡ 47 ∷ 42 ∷ w)
 
 -- the fault of a text at the front of which no piece begins, with what is left from its place on
-abbrev pub IsFaultOf : List ℕ → LexKind → List ℕ → Type 0
-IsFaultOf text OpenText r = (r ≡ text) × (s : List ℕ) × OpensText text s × EndsLine s
-IsFaultOf text BadEscape r = (OpensText text r × ((s : List ℕ) × (r ≡ 92 ∷ s))) ⊎ ((r ≡ text) × OpensEscape text)
-IsFaultOf text OpenComment r = (r ≡ text) × OpensComment text
-IsFaultOf text NumberTooLarge r = (r ≡ text) × (begins is_digit text ≡ true)
-IsFaultOf text BadChar r = (r ≡ text) × (begins is_quote text ≡ false) × (begins is_digit text ≡ false) × (OpensEscape text → ⊥) × (OpensComment text → ⊥)
+abbrev pub IsLexFaultOf : List ℕ → LexKind → List ℕ → Type 0
+IsLexFaultOf text OpenText r = (r ≡ text) × (s : List ℕ) × OpensText text s × EndsLine s
+IsLexFaultOf text BadEscape r = (OpensText text r × ((s : List ℕ) × (r ≡ 92 ∷ s))) ⊎ ((r ≡ text) × OpensEscape text)
+IsLexFaultOf text OpenComment r = (r ≡ text) × OpensComment text
+IsLexFaultOf text NumberTooLarge r = (r ≡ text) × (begins is_digit text ≡ true)
+IsLexFaultOf text BadChar r = (r ≡ text) × (begins is_quote text ≡ false) × (begins is_digit text ≡ false) × (OpensEscape text → ⊥) × (OpensComment text → ⊥)

@@ -2,8 +2,8 @@
 use Rattle.std.specs.Prelude.{ℕ, zero, suc, Bool, ◌&&◌, ◌==◌, nat_le, List, [], ◌∷◌, length, drop, Option, Some, None, Result, Ok, Err, if◌then◌else◌}
 use Rattle.std.specs.Str.{encode_utf8_all}
 use Rattle.qvt_lexer.specs.Characters.{is_blank, is_start, is_continue, is_digit, is_quote, is_in_line, is_line_comment, is_block_comment}
-use Rattle.qvt_words.specs.Words.{is_single, is_double, is_reserved}
-use Rattle.qvt_lexer.specs.Pieces.{IsNext, NoPiece, IsFaultOf}
+use Rattle.qvt_words.specs.Words.{is_single_sign, is_double_sign, is_reserved}
+use Rattle.qvt_lexer.specs.Pieces.{IsNext, NoPiece, IsLexFaultOf}
 use Rattle.qvt_lexer.specs.Literals.{run, skip, begins, number_of, greatest_number, after_close, item_at}
 use Rattle.qvt_lexer.specs.declared.token.TokenKind.{TokenKind}
 use Rattle.qvt_lexer.specs.declared.token.TokenKind.TheVariants.{Name, Integer, Str, Word, Symbol}
@@ -65,13 +65,13 @@ block_at text None = Err (OpenComment, text)
 block_at text (Some r) = Ok (Comment, r)
 
 abbrev pub single_at : ℕ → List ℕ → Scan
-single_at c cs = if is_single c then Ok (Token Symbol, cs) else Err (BadChar, c ∷ cs)
+single_at c cs = if is_single_sign c then Ok (Token Symbol, cs) else Err (BadChar, c ∷ cs)
 
 -- a symbol or a comment
 abbrev pub mark_at : ℕ → List ℕ → Scan
 mark_at c [] = single_at c []
 mark_at c (d ∷ cs) =
-    if is_double c d then Ok (Token Symbol, cs)
+    if is_double_sign c d then Ok (Token Symbol, cs)
     else if is_line_comment c d then Ok (Comment, skip is_in_line cs)
     else if is_block_comment c d then block_at (c ∷ d ∷ cs) (after_close cs)
     else single_at c (d ∷ cs)
@@ -89,4 +89,4 @@ scan_at c cs =
 -- the scan is right: it gives the next piece, or the fault where no piece begins
 abbrev pub IsScanOf : List ℕ → Scan → Type 0
 IsScanOf text (Ok (p, r)) = (u : List ℕ) × IsNext text p u r
-IsScanOf text (Err (k, r)) = NoPiece text × IsFaultOf text k r
+IsScanOf text (Err (k, r)) = NoPiece text × IsLexFaultOf text k r

@@ -7,11 +7,11 @@ use Rattle.qvt_lexer.specs.declared.scan.Scan as code
 use Rattle.qvt_lexer.specs.declared.scan.Scan.TheVariants.{Found, Fault}
 
 -- the scan is this one of the characters
-abbrev pub Gives : code.Scan → reader.Scan → Type 0
-Gives (Found piece rest) scan = scan ≡ Ok (piece, chars rest.now)
-Gives (Fault kind rest) scan = scan ≡ Err (kind, chars rest.now)
+abbrev pub GivesScan : code.Scan → reader.Scan → Type 0
+GivesScan (Found piece rest) scan = scan ≡ Ok (piece, chars rest.now)
+GivesScan (Fault kind rest) scan = scan ≡ Err (kind, chars rest.now)
 
 -- what it leaves is an end of the text
-abbrev pub StaysIn : List ℕ → code.Scan → Type 0
-StaysIn text (Found piece rest) = IsEndOf text rest.now
-StaysIn text (Fault kind rest) = IsEndOf text rest.now
+abbrev pub StaysInText : List ℕ → code.Scan → Type 0
+StaysInText text (Found piece rest) = IsEndOf text rest.now
+StaysInText text (Fault kind rest) = IsEndOf text rest.now

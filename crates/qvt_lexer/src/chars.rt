@@ -8,7 +8,7 @@ ghost use Rattle.qvt_lexer.specs.Ends.{IsEndOf};
 
 /// The classes of characters of which a run is skipped.
 #[derive(Clone, Copy)]
-pub enum Class {
+pub enum CharacterClass {
     /// What continues a name.
     Continue,
     /// Decimal digits.
@@ -81,18 +81,18 @@ pub fn is_block_comment(c: char, d: char) -> bool
     (c == '/') & (d == '*')
 }
 
-fn is_in(class: Class, c: char) -> bool
+fn is_in(class: CharacterClass, c: char) -> bool
     ensures { result ≡ in_class class c }
 {
     match class {
-        Class::Continue => unicode_ident::is_xid_continue(c),
-        Class::Digit => is_digit(c),
-        Class::Line => c != '\n',
+        CharacterClass::Continue => unicode_ident::is_xid_continue(c),
+        CharacterClass::Digit => is_digit(c),
+        CharacterClass::Line => c != '\n',
     }
 }
 
 /// The text after the longest run of the class.
-pub fn skip(class: Class, text: &str) -> &str
+pub fn skip(class: CharacterClass, text: &str) -> &str
     ensures characters { chars result.now ≡ literal.skip (in_class class) (chars text.now) }
     ensures end { IsEndOf text.now result.now }
 {

@@ -3,7 +3,7 @@ ghost use Rattle.std.specs.Char.{len_utf8};
 ghost use Rattle.std.specs.Str.{chars, IsUtf8};
 ghost use Rattle.qvt_lexer.specs.Division as division;
 ghost use Rattle.qvt_lexer.specs.Cursors.{position_of, Spans};
-ghost use Rattle.qvt_lexer.specs.Rooms.{HasRoom};
+ghost use Rattle.qvt_lexer.specs.Rooms.{HasPlaceRoom};
 ghost use Rattle.qvt_lexer.specs.Ends.{IsEndOf};
 
 use crate::chars::{before, split_char};
@@ -46,7 +46,7 @@ fn next_place(at: Place, c: char) -> Place
 
 /// The place after a text.
 fn place_after(at: Place, text: &str) -> Place
-    requires { HasRoom at text.now }
+    requires { HasPlaceRoom at text.now }
     ensures value { result ≡ division.place_after at (chars text.now) }
     ensures offset { result.offset ≡ at.offset + length text.now }
     ensures line { result.line ≤ result.offset + 1 }
@@ -64,11 +64,11 @@ fn place_after(at: Place, text: &str) -> Place
 /// The cursor at an end of the text that is left.
 fn advance<'a>(at: Cursor<'a>, rest: &'a str) -> Cursor<'a>
     requires end { IsEndOf at.rest.now rest.now }
-    requires room { HasRoom at.place at.rest.now }
+    requires room { HasPlaceRoom at.place at.rest.now }
     ensures rest { result.rest.now ≡ rest.entry.now }
     ensures place { (u : List ℕ) → chars at.entry.rest.now ≡ u ++ chars rest.entry.now → result.place ≡ division.place_after at.entry.place u }
     ensures offset { result.place.offset + length rest.entry.now ≡ at.entry.place.offset + length at.entry.rest.now }
-    ensures room { HasRoom result.place rest.entry.now }
+    ensures room { HasPlaceRoom result.place rest.entry.now }
 {
     let passed = before(at.rest, rest);
     Cursor {
@@ -80,11 +80,11 @@ fn advance<'a>(at: Cursor<'a>, rest: &'a str) -> Cursor<'a>
 /// The next token from a cursor on and the cursor after it, or the fault at the first place where no
 /// piece begins.
 pub fn next_token<'a>(start: Cursor<'a>) -> Result<(Token<'a>, Cursor<'a>), LexFault>
-    requires { HasRoom start.place start.rest.now }
-    ensures read { IfOk result (λ x. division.IsRead (position_of start.entry) x.0 (position_of x.1)) }
+    requires { HasPlaceRoom start.place start.rest.now }
+    ensures read { IfOk result (λ x. division.IsNextToken (position_of start.entry) x.0 (position_of x.1)) }
     ensures fault { IfErr result (division.IsFaulty (position_of start.entry)) }
     ensures spans { IfOk result (λ x. Spans start.entry x.0 x.1) }
-    ensures room { IfOk result (λ x. HasRoom x.1.place x.1.rest.now) }
+    ensures room { IfOk result (λ x. HasPlaceRoom x.1.place x.1.rest.now) }
 {
     let mut at = start;
     while let Some((c, more)) = split_char(at.rest) {

@@ -16,18 +16,18 @@ pub struct Lexer<'a> {
 }
 
 impl<'a> Model for Lexer<'a> {
-    ghost use Rattle.qvt_lexer.specs.State.{State, seen, IsWithin};
+    ghost use Rattle.qvt_lexer.specs.State.{LexerState, seen, IsInText};
 
-    ghost Value = { State };
+    ghost Value = { LexerState };
 
     ghost view = { seen };
 
-    ghost invariant = { IsWithin };
+    ghost invariant = { IsInText };
 }
 
 impl<'a> Lexer<'a> {
     ghost use Rattle.qvt_lexer.specs.State.{start, standing_at};
-    ghost use Rattle.qvt_lexer.specs.Rooms.{HasRoom};
+    ghost use Rattle.qvt_lexer.specs.Rooms.{HasPlaceRoom};
     ghost use Rattle.qvt_lexer.specs.Division as division;
 
     /// A lexer at the front of a text. A U+FEFF there is a blank. The text has fewer than 2^32 - 1
@@ -62,7 +62,7 @@ impl<'a> Lexer<'a> {
     fn standing(source: &'a str, rest: &'a str, place: Place) -> Lexer<'a>
         requires left { drop place.offset source.now ≡ rest.now }
         requires offset { place.offset + length rest.now ≡ length source.now }
-        requires room { HasRoom place rest.now }
+        requires room { HasPlaceRoom place rest.now }
         ensures { result ≡ standing_at source.entry.now place rest.entry.now }
     {
         Lexer {
@@ -75,7 +75,7 @@ impl<'a> Lexer<'a> {
     /// The next token, or at the end again and again the kind `End` with the end's place. After a
     /// fault the lexer stays where it is, and gives the fault again.
     pub fn next(&mut self) -> Result<Token<'a>, LexFault>
-        ensures read { IfOk result (λ t. division.IsRead self.old.at t self.new.at) }
+        ensures read { IfOk result (λ t. division.IsNextToken self.old.at t self.new.at) }
         ensures fault { IfErr result (division.IsFaulty self.old.at) }
         ensures stays { OnErr result (self.new ≡ self.old) }
         ensures source { self.new.source ≡ self.old.source }

@@ -3,16 +3,16 @@ ghost use Rattle.std.specs.Str.{chars, IsUtf8};
 ghost use Rattle.qvt_lexer.specs.Characters as class;
 ghost use Rattle.qvt_lexer.specs.Literals as literal;
 ghost use Rattle.qvt_lexer.specs.Scan as reader;
-ghost use Rattle.qvt_lexer.specs.Scanned.{Gives, StaysIn};
+ghost use Rattle.qvt_lexer.specs.Scanned.{GivesScan, StaysInText};
 ghost use Rattle.qvt_lexer.specs.Ends.{IsEndOf};
 
 use crate::chars::{
-    Class, before, is_blank, is_block_comment, is_digit, is_line_comment, is_quote, is_start, skip,
-    split_char,
+    CharacterClass, before, is_blank, is_block_comment, is_digit, is_line_comment, is_quote,
+    is_start, skip, split_char,
 };
 use crate::literals::{after_close, content_end, is_within};
 use crate::token::{LexKind, TokenKind};
-use qvt_words::words::{is_double, is_reserved, is_single};
+use qvt_words::words::{is_double_sign, is_reserved, is_single_sign};
 
 /// What stands at the front of a text.
 #[derive(Clone, Copy, Debug, PartialEq, Eq)]
@@ -34,10 +34,10 @@ pub enum Scan<'a> {
 fn scan_word<'a>(text: &'a str, c: char, more: &'a str) -> Scan<'a>
     requires first { chars text.now ≡ c ∷ chars more.now }
     requires end { IsEndOf text.now more.now }
-    ensures gives { Gives result (reader.word_at c (chars more.now)) }
-    ensures end { StaysIn text.entry.now result }
+    ensures gives { GivesScan result (reader.word_at c (chars more.now)) }
+    ensures end { StaysInText text.entry.now result }
 {
-    let rest = skip(Class::Continue, more);
+    let rest = skip(CharacterClass::Continue, more);
     let word = before(text, rest);
     if is_reserved(word) {
         Scan::Found(Piece::Token(TokenKind::Word), rest)
@@ -49,8 +49,8 @@ fn scan_word<'a>(text: &'a str, c: char, more: &'a str) -> Scan<'a>
 /// The end of an escaped name.
 fn scan_closed<'a>(text: &'a str, rest: &'a str) -> Scan<'a>
     requires { IsEndOf text.now rest.now }
-    ensures gives { Gives result (reader.closed_at (chars text.now) (chars rest.now)) }
-    ensures end { StaysIn text.entry.now result }
+    ensures gives { GivesScan result (reader.closed_at (chars text.now) (chars rest.now)) }
+    ensures end { StaysInText text.entry.now result }
 {
     match split_char(rest) {
         Some(('\'', end)) => Scan::Found(Piece::Token(TokenKind::Name), end),
@@ -61,8 +61,8 @@ fn scan_closed<'a>(text: &'a str, rest: &'a str) -> Scan<'a>
 /// An escaped name, of which `more` comes after `_'`.
 fn scan_escaped<'a>(text: &'a str, more: &'a str) -> Scan<'a>
     requires { IsEndOf text.now more.now }
-    ensures gives { Gives result (reader.escaped_at (chars text.now) (chars more.now)) }
-    ensures end { StaysIn text.entry.now result }
+    ensures gives { GivesScan result (reader.escaped_at (chars text.now) (chars more.now)) }
+    ensures end { StaysInText text.entry.now result }
 {
     let Some((c, after)) = split_char(more) else {
         return Scan::Fault(LexKind::BadEscape, text);
@@ -70,15 +70,15 @@ fn scan_escaped<'a>(text: &'a str, more: &'a str) -> Scan<'a>
     if !is_start(c) {
         return Scan::Fault(LexKind::BadEscape, text);
     }
-    let rest = skip(Class::Continue, after);
+    let rest = skip(CharacterClass::Continue, after);
     scan_closed(text, rest)
 }
 
 fn scan_number<'a>(text: &'a str) -> Scan<'a>
-    ensures gives { Gives result (reader.number_at (chars text.now)) }
-    ensures end { StaysIn text.entry.now result }
+    ensures gives { GivesScan result (reader.number_at (chars text.now)) }
+    ensures end { StaysInText text.entry.now result }
 {
-    let rest = skip(Class::Digit, text);
+    let rest = skip(CharacterClass::Digit, text);
     let digits = before(text, rest);
     if is_within(digits) {
         Scan::Found(Piece::Token(TokenKind::Integer), rest)
@@ -91,8 +91,8 @@ fn scan_number<'a>(text: &'a str) -> Scan<'a>
 fn scan_string<'a>(text: &'a str, quote: char, more: &'a str) -> Scan<'a>
     requires first { chars text.now ≡ quote ∷ chars more.now }
     requires end { IsEndOf text.now more.now }
-    ensures gives { Gives result (reader.string_at quote (chars more.now)) }
-    ensures end { StaysIn text.entry.now result }
+    ensures gives { GivesScan result (reader.string_at quote (chars more.now)) }
+    ensures end { StaysInText text.entry.now result }
 {
     let end = content_end(quote, more);
     match split_char(end) {
@@ -113,10 +113,10 @@ fn scan_string<'a>(text: &'a str, quote: char, more: &'a str) -> Scan<'a>
 fn scan_single<'a>(text: &'a str, c: char, more: &'a str) -> Scan<'a>
     requires first { chars text.now ≡ c ∷ chars more.now }
     requires end { IsEndOf text.now more.now }
-    ensures gives { Gives result (reader.single_at c (chars more.now)) }
-    ensures end { StaysIn text.entry.now result }
+    ensures gives { GivesScan result (reader.single_at c (chars more.now)) }
+    ensures end { StaysInText text.entry.now result }
 {
-    if is_single(c) {
+    if is_single_sign(c) {
         Scan::Found(Piece::Token(TokenKind::Symbol), more)
     } else {
         Scan::Fault(LexKind::BadChar, text)
@@ -126,8 +126,8 @@ fn scan_single<'a>(text: &'a str, c: char, more: &'a str) -> Scan<'a>
 /// A comment that is opened by `/*`, after which `more` comes.
 fn scan_block<'a>(text: &'a str, more: &'a str) -> Scan<'a>
     requires { IsEndOf text.now more.now }
-    ensures gives { Gives result (reader.block_at (chars text.now) (literal.after_close (chars more.now))) }
-    ensures end { StaysIn text.entry.now result }
+    ensures gives { GivesScan result (reader.block_at (chars text.now) (literal.after_close (chars more.now))) }
+    ensures end { StaysInText text.entry.now result }
 {
     match after_close(more) {
         Some(rest) => Scan::Found(Piece::Comment, rest),
@@ -139,17 +139,17 @@ fn scan_block<'a>(text: &'a str, more: &'a str) -> Scan<'a>
 fn scan_mark<'a>(text: &'a str, c: char, more: &'a str) -> Scan<'a>
     requires first { chars text.now ≡ c ∷ chars more.now }
     requires end { IsEndOf text.now more.now }
-    ensures gives { Gives result (reader.mark_at c (chars more.now)) }
-    ensures end { StaysIn text.entry.now result }
+    ensures gives { GivesScan result (reader.mark_at c (chars more.now)) }
+    ensures end { StaysInText text.entry.now result }
 {
     let Some((d, after)) = split_char(more) else {
         return scan_single(text, c, more);
     };
-    if is_double(c, d) {
+    if is_double_sign(c, d) {
         return Scan::Found(Piece::Token(TokenKind::Symbol), after);
     }
     if is_line_comment(c, d) {
-        return Scan::Found(Piece::Comment, skip(Class::Line, after));
+        return Scan::Found(Piece::Comment, skip(CharacterClass::Line, after));
     }
     if is_block_comment(c, d) {
         return scan_block(text, after);
@@ -172,8 +172,8 @@ fn after_apostrophe<'a>(text: &'a str) -> Option<&'a str>
 pub fn scan_piece<'a>(text: &'a str, c: char, more: &'a str) -> Scan<'a>
     requires first { chars text.now ≡ c ∷ chars more.now }
     requires end { IsEndOf text.now more.now }
-    ensures gives { Gives result (reader.scan_at c (chars more.now)) }
-    ensures end { StaysIn text.entry.now result }
+    ensures gives { GivesScan result (reader.scan_at c (chars more.now)) }
+    ensures end { StaysInText text.entry.now result }
 {
     if is_blank(c) {
         return Scan::Found(Piece::Blank, more);

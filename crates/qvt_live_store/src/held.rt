@@ -17,29 +17,29 @@ use qvt_store::store::Store;
 use qvt_value::value::Value;
 
 /// The store that an evaluation reads, and that a run changes.
-pub enum Held<'s> {
+pub enum HeldStore<'s> {
     /// It is lent, to be read alone. There is no room to change it in, so a change is told as want of
     /// memory.
     Lent(&'s Store),
     Own(LiveStore),
 }
 
-impl Drop for Held<'_> {
+impl Drop for HeldStore<'_> {
     fn drop(self) {
         match self {
-            Held::Lent(_) => {}
-            Held::Own(store) => {}
+            HeldStore::Lent(_) => {}
+            HeldStore::Own(store) => {}
         }
     }
 }
 
-impl Held<'_> {
+impl HeldStore<'_> {
     pub fn as_store(&self) -> &Store
         ensures { result.now ≡ contents_of self.now }
     {
         match self {
-            Held::Lent(store) => store,
-            Held::Own(store) => store.as_store(),
+            HeldStore::Lent(store) => store,
+            HeldStore::Own(store) => store.as_store(),
         }
     }
 
@@ -57,8 +57,8 @@ impl Held<'_> {
         ensures err { OnErr result (self.new ≡ self.old) }
     {
         match self {
-            Held::Lent(_) => Err(StoreFault::NoMemory),
-            Held::Own(store) => store.write(object, feature, op, values),
+            HeldStore::Lent(_) => Err(StoreFault::NoMemory),
+            HeldStore::Own(store) => store.write(object, feature, op, values),
         }
     }
 
@@ -72,8 +72,8 @@ impl Held<'_> {
         ensures err { OnErr result (self.new ≡ self.old) }
     {
         match self {
-            Held::Lent(_) => Err(StoreFault::NoMemory),
-            Held::Own(store) => store.add_object(class, extent),
+            HeldStore::Lent(_) => Err(StoreFault::NoMemory),
+            HeldStore::Own(store) => store.add_object(class, extent),
         }
     }
 }

@@ -28,13 +28,13 @@ use Rattle.qvt_types_nodes.specs.Tree.{TypedExprTerm, TypedStmtTerms}
 use Rattle.qvt_meaning.specs.Phrases.{expr, stmts}
 use Rattle.qvt_meaning.specs.Readings.{Setting}
 use Rattle.qvt_meaning.specs.Units.{calls_to}
-use Rattle.qvt_meaning.specs.Run.{Finish, Entry, Finished, empty_finish, answered, setting, main_run, finish_of, walk, carried_out, finished, patched}
+use Rattle.qvt_meaning.specs.Run.{Finish, AnsweredWrite, FinishedRun, empty_finish, answered, setting, main_run, finish_of, walk, carried_out, finished, patched}
 
 -- an outcome and a state, without the answers of the entries
-abbrev pub bare_state : State Entry → State LateWrite
-bare_state s = record { locals = s.locals; inner = s.inner; store = s.store; trace = s.trace; keys = s.keys; entries = map (λ (e : Entry). e.write) s.entries; cost = s.cost }
+abbrev pub bare_state : State AnsweredWrite → State LateWrite
+bare_state s = record { locals = s.locals; inner = s.inner; store = s.store; trace = s.trace; keys = s.keys; entries = map (λ (e : AnsweredWrite). e.write) s.entries; cost = s.cost }
 
-abbrev pub bare : {A : Type 0} → Done Entry A → Done LateWrite A
+abbrev pub bare : {A : Type 0} → Done AnsweredWrite A → Done LateWrite A
 bare d = (d.0, bare_state d.1)
 
 -- the finish changes nothing but the answers of the entries
@@ -42,26 +42,26 @@ abbrev pub Independent : Type 0
 Independent = (p : ProgramTerm) (f g : Finish) (fuel : ℕ) (store : Contents) → bare (main_run (answered p f) p fuel store) ≡ bare (main_run (answered p g) p fuel store)
 
 -- the rules with the answers over this finish
-abbrev pub with_finish : ProgramTerm → Finish → ℕ → Setting Entry
+abbrev pub with_finish : ProgramTerm → Finish → ℕ → Setting AnsweredWrite
 with_finish p f fuel = setting (answered p f) p fuel
 
 -- the same of a call while so many more may be open, of an expression, and of statements, from states that differ in answers alone
 abbrev pub CallsIndependent : Type 0
-CallsIndependent = (p : ProgramTerm) (f g : Finish) (fuel left : ℕ) (c : Callee) (vs : List Value) (at : Place) (s t : State Entry) → bare_state s ≡ bare_state t →
+CallsIndependent = (p : ProgramTerm) (f g : Finish) (fuel left : ℕ) (c : Callee) (vs : List Value) (at : Place) (s t : State AnsweredWrite) → bare_state s ≡ bare_state t →
     bare (calls_to (with_finish p f fuel) left c vs at s) ≡ bare (calls_to (with_finish p g fuel) left c vs at t)
 
-abbrev pub expr_with : ProgramTerm → Finish → ℕ → ℕ → Option Ty → TypedExprTerm → Does Entry Value
+abbrev pub expr_with : ProgramTerm → Finish → ℕ → ℕ → Option Ty → TypedExprTerm → Does AnsweredWrite Value
 expr_with p f fuel left answer e = expr (with_finish p f fuel) (calls_to (with_finish p f fuel) left) answer e
 
 abbrev pub ExpressionsIndependent : Type 0
-ExpressionsIndependent = (p : ProgramTerm) (f g : Finish) (fuel left : ℕ) (answer : Option Ty) (e : TypedExprTerm) (s t : State Entry) → bare_state s ≡ bare_state t →
+ExpressionsIndependent = (p : ProgramTerm) (f g : Finish) (fuel left : ℕ) (answer : Option Ty) (e : TypedExprTerm) (s t : State AnsweredWrite) → bare_state s ≡ bare_state t →
     bare (expr_with p f fuel left answer e s) ≡ bare (expr_with p g fuel left answer e t)
 
-abbrev pub stmts_with : ProgramTerm → Finish → ℕ → ℕ → Option Ty → TypedStmtTerms → Does Entry (Unit {0})
+abbrev pub stmts_with : ProgramTerm → Finish → ℕ → ℕ → Option Ty → TypedStmtTerms → Does AnsweredWrite (Unit {0})
 stmts_with p f fuel left answer ss = in_order (stmts (with_finish p f fuel) (calls_to (with_finish p f fuel) left) answer ss)
 
 abbrev pub StatementsIndependent : Type 0
-StatementsIndependent = (p : ProgramTerm) (f g : Finish) (fuel left : ℕ) (answer : Option Ty) (ss : TypedStmtTerms) (s t : State Entry) → bare_state s ≡ bare_state t →
+StatementsIndependent = (p : ProgramTerm) (f g : Finish) (fuel left : ℕ) (answer : Option Ty) (ss : TypedStmtTerms) (s t : State AnsweredWrite) → bare_state s ≡ bare_state t →
     bare (stmts_with p f fuel left answer ss s) ≡ bare (stmts_with p g fuel left answer ss t)
 
 -- what a run with this finish leaves
@@ -77,7 +77,7 @@ OnlyFinish = (p : ProgramTerm) (fuel : ℕ) (store : Contents) (f : Finish) → 
 
 -- The cost is exact: fuel for it is enough, and one unit less is not.
 abbrev pub ExactCost : Type 0
-ExactCost = (p : ProgramTerm) (store : Contents) (fuel : ℕ) (f : Finished) → finished p store fuel ≡ Ok f →
+ExactCost = (p : ProgramTerm) (store : Contents) (fuel : ℕ) (f : FinishedRun) → finished p store fuel ≡ Ok f →
     (finished p store f.cost ≡ Ok f) × ((n : ℕ) → f.cost ≡ suc n → finished p store n ≡ Err OutOfFuel)
 
 -- Each key has one record at most.
@@ -86,20 +86,20 @@ keys_differ [] = true
 keys_differ (r ∷ rs) = not (is_some (result_for (key_of r) rs)) && keys_differ rs
 
 abbrev pub OneRecord : Type 0
-OneRecord = (p : ProgramTerm) (store : Contents) (fuel : ℕ) (f : Finished) → finished p store fuel ≡ Ok f → IsTrue (keys_differ f.finish.trace)
+OneRecord = (p : ProgramTerm) (store : Contents) (fuel : ℕ) (f : FinishedRun) → finished p store fuel ≡ Ok f → IsTrue (keys_differ f.finish.trace)
 
 -- a run that keeps requests alone
 abbrev pub request_run : ProgramTerm → ℕ → Contents → Done LateWrite (Unit {0})
 request_run p fuel store = main_run (λ (w : LateWrite). w) p fuel store
 
 -- the requests of a run, answered over what it left
-abbrev pub answered_from : ProgramTerm → State LateWrite → List Entry
+abbrev pub answered_from : ProgramTerm → State LateWrite → List AnsweredWrite
 answered_from p s = map (answered p (finish_of s)) s.entries
 
-abbrev pub after_requests : ProgramTerm → ℕ → State LateWrite → Result Finished End
+abbrev pub after_requests : ProgramTerm → ℕ → State LateWrite → Result FinishedRun End
 after_requests p fuel s = carried_out (finish_of s) (answered_from p s) (walk fuel s.cost (answered_from p s))
 
-abbrev pub from_requests : ProgramTerm → ℕ → Result (Unit {0}) Exit → State LateWrite → Result Finished End
+abbrev pub from_requests : ProgramTerm → ℕ → Result (Unit {0}) Exit → State LateWrite → Result FinishedRun End
 from_requests p fuel (Ok u) s = after_requests p fuel s
 from_requests p fuel (Err (Returned v)) s = after_requests p fuel s
 from_requests p fuel (Err (Ends e)) s = Err e

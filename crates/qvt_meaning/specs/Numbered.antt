@@ -152,18 +152,18 @@ unfoldable pub expr_at : ProgramTerm → ExprNo → Option TypedExprTerm
 expr_at p n = expr_in (find (has_number n) (all_listed p))
 
 -- a condition: the name of the filter's variable, if it has one, and the expression
-pub record Condition : Type 0 where
+pub record ConditionTerm : Type 0 where
   pub variable : Option (List ℕ)
   pub expr : TypedExprTerm
 
-abbrev pub condition_of : TypedExprTerm → Option (Option (List ℕ)) → Option Condition
+abbrev pub condition_of : TypedExprTerm → Option (Option (List ℕ)) → Option ConditionTerm
 condition_of e None = None
 condition_of e (Some name) = Some (record { variable = name; expr = e })
 
-abbrev pub condition_in : Option Listed → Option Condition
+abbrev pub condition_in : Option Listed → Option ConditionTerm
 condition_in None = None
 condition_in (Some l) = condition_of l.expr l.filter
 
 -- the condition with this number
-unfoldable pub condition_at : ProgramTerm → ExprNo → Option Condition
+unfoldable pub condition_at : ProgramTerm → ExprNo → Option ConditionTerm
 condition_at p n = condition_in (find (has_number n) (all_listed p))

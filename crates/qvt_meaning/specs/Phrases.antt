@@ -12,7 +12,7 @@ use Rattle.qvt_run_rules.specs.State.{Does, ◌>>=◌, pure}
 use Rattle.qvt_run_rules.specs.Locals.{self_name, result_name}
 use Rattle.qvt_run_rules.specs.Expressions as rule
 use Rattle.qvt_run_rules.specs.Statements as statement
-use Rattle.qvt_run_rules.specs.Calls.{Calls}
+use Rattle.qvt_run_rules.specs.Calls.{CallRule}
 use Rattle.qvt_meaning.specs.Nodes.{resolve_mark, place_of, type_of, optional_type, optional_place, written_type, class_argument, model_named, late_of}
 use Rattle.qvt_meaning.specs.Program.{form_of}
 use Rattle.qvt_meaning.specs.StepTypes.{step_type, kind_before}
@@ -40,7 +40,7 @@ abbrev pub some_value : {E : Type 0} → Does E Value → Does E (Option Value)
 some_value p = p >>= (λ v. pure (Some v))
 
 -- Phrases of a unit whose `return` has to have a value of the type `answer`.
-module _ {E : Type 0} (x : Setting E) (calls : Calls E) (answer : Option Ty) where
+module _ {E : Type 0} (x : Setting E) (calls : CallRule E) (answer : Option Ty) where
   abbrev resolve_step : TypedResolveTerm → Value → Does E Value
   resolve_step r v = x.beyond (resolve_mark r).place (by.resolve_step x (form_of x.program r) (resolve_mark r).place v)
 

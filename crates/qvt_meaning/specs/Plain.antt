@@ -21,11 +21,11 @@ use Rattle.qvt_run_rules.specs.State.{State, Done, Does, misfit}
 use Rattle.qvt_run_rules.specs.Cost.{count}
 use Rattle.qvt_run_rules.specs.Locals.{fixed, local_of, name_in}
 use Rattle.qvt_run_rules.specs.Trace.{candidates}
-use Rattle.qvt_run_rules.specs.Calls.{Calls}
+use Rattle.qvt_run_rules.specs.Calls.{CallRule}
 use Rattle.qvt_run_data.specs.declared.request.Query.{Query}
-use Rattle.qvt_run_rules.specs.Resolve.{Answer, Weighed, Passes, Stops, verdict_of, sifted}
+use Rattle.qvt_run_rules.specs.Resolve.{ResolveAnswer, Weighed, Passes, Stops, verdict_of, sifted}
 use Rattle.qvt_meaning.specs.Nodes.{place_of}
-use Rattle.qvt_meaning.specs.Numbered.{Condition, condition_at, expr_at}
+use Rattle.qvt_meaning.specs.Numbered.{ConditionTerm, condition_at, expr_at}
 use Rattle.qvt_meaning.specs.Phrases.{expr}
 use Rattle.qvt_meaning.specs.Readings.{Setting}
 
@@ -51,7 +51,7 @@ abbrev pub evaluated : {E : Type 0} → Done E Value → Evaluated
 evaluated d = record { outcome = ended d.0; cost = d.1.cost }
 
 -- a plain expression calls no unit, resolves nothing, and has nothing beyond it
-abbrev pub no_calls : Calls LateWrite
+abbrev pub no_calls : CallRule LateWrite
 no_calls c vs at = misfit at
 
 abbrev pub no_resolve : Place → Query → Does LateWrite Value
@@ -79,7 +79,7 @@ candidate ls name o = ls ++ fixed (name_in ls name) (Obj o) ∷ []
 abbrev pub weighed_as : Place → Evaluated → Weighed
 weighed_as at e = record { verdict = verdict_of at e.outcome; cost = e.cost }
 
-abbrev pub weighed_by : ProgramTerm → Contents → List Local → Place → Option Condition → Oid → Weighed
+abbrev pub weighed_by : ProgramTerm → Contents → List Local → Place → Option ConditionTerm → Oid → Weighed
 weighed_by p s ls at None o = record { verdict = Stops (Fault fault.TypeFault at); cost = 0 }
 weighed_by p s ls at (Some c) o = weighed_as (place_of c.expr) (plain p s (candidate ls c.variable o) c.expr)
 
@@ -89,7 +89,7 @@ weighed p s ls at None o = record { verdict = Passes; cost = 0 }
 weighed p s ls at (Some n) o = weighed_by p s ls at (condition_at p n) o
 
 -- the answer of a request over a trace and a store, with the variables that are in scope in its condition
-unfoldable pub answer : ProgramTerm → List Record → Contents → List Local → Place → Query → Answer
+unfoldable pub answer : ProgramTerm → List Record → Contents → List Local → Place → Query → ResolveAnswer
 answer p trace s ls at q = sifted (weighed p s ls at q.condition) q.one [] 0 (candidates trace s q.request)
 
 -- Expressions by their numbers.

@@ -24,7 +24,7 @@ use Rattle.qvt_slots.specs.Contents.{Contents, class_of, is_live}
 use Rattle.qvt_run_data.specs.declared.callee.Callee.{Callee}
 use Rattle.qvt_run_data.specs.declared.callee.Callee.TheVariants.{HelperCall, MappingCall}
 use Rattle.qvt_run_data.specs.declared.callee.Way.TheVariants.{Called}
-use Rattle.qvt_run_data.specs.declared.request.Form.{Form}
+use Rattle.qvt_run_data.specs.declared.request.RequestForm.{RequestForm}
 use Rattle.qvt_meaning.specs.Nodes.{mark_of, class_in, written_type, mappings_in, mappings_named}
 
 -- Units.
@@ -158,10 +158,10 @@ abbrev pub condition_in : TypedFilterTerm → Option ExprNo
 condition_in (TypedFilterOf name t c at n) = number_of c
 condition_in TypedNoFilter = None
 
-abbrev pub form_with : ProgramTerm → ResolveWord → Option ℕ → TypedFilterTerm → Option ℕ → Option Form
+abbrev pub form_with : ProgramTerm → ResolveWord → Option ℕ → TypedFilterTerm → Option ℕ → Option RequestForm
 form_with p w k f None = None
 form_with p w k f (Some c) = Some (record { inverse = is_inverse w; within = all_within p k; class = c; one = is_one w; condition = condition_in f })
 
 -- a resolve as it is written
-unfoldable pub form_of : ProgramTerm → TypedResolveTerm → Option Form
+unfoldable pub form_of : ProgramTerm → TypedResolveTerm → Option RequestForm
 form_of p (TypedResolveOf late w within f at n) = form_with p w (within_named within) f (class_for p w (within_named within) f)

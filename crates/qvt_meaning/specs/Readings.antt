@@ -37,10 +37,10 @@ use Rattle.qvt_run_rules.specs.Questions.{object_test, named_query}
 use Rattle.qvt_run_rules.specs.Statements as statement
 use Rattle.qvt_run_rules.specs.Calls as call
 use Rattle.qvt_run_data.specs.declared.callee.Callee.{Callee}
-use Rattle.qvt_run_rules.specs.Calls.{Calls}
+use Rattle.qvt_run_rules.specs.Calls.{CallRule}
 use Rattle.qvt_run_rules.specs.Resolve as resolving
 use Rattle.qvt_run_data.specs.declared.request.Query.{Query}
-use Rattle.qvt_run_data.specs.declared.request.Form.{Form}
+use Rattle.qvt_run_data.specs.declared.request.RequestForm.{RequestForm}
 use Rattle.qvt_meaning.specs.Nodes.{resolve_mark, class_argument}
 use Rattle.qvt_meaning.specs.Program.{chosen_for, free_callee, form_of}
 
@@ -138,25 +138,25 @@ module _ {E : Type 0} (x : Setting E) where
 
   -- Calls of units.
 
-  abbrev pub call_free : Calls E → Option Callee → List (Does E Value) → Place → Does E Value
+  abbrev pub call_free : CallRule E → Option Callee → List (Does E Value) → Place → Does E Value
   call_free calls (Some c) ps at = call.call_free x.spend calls c ps at
   call_free calls None ps at = misfit at
 
   -- without a step: on the implicit source, or without a context
-  abbrev pub call_alone : Calls E → Reading → Option (List ℕ) → Bool → List (Does E Value) → Place → Does E Value
+  abbrev pub call_alone : CallRule E → Reading → Option (List ℕ) → Bool → List (Does E Value) → Place → Does E Value
   call_alone calls r (Some source) strict ps at = call.call_implicit x.spend calls (choose x.program r strict at) source ps at
   call_alone calls r None strict ps at = call_free calls (free_callee x.program r strict) ps at
 
-  abbrev pub unit_step : Calls E → Reading → Bool → List (Does E Value) → Place → Value → Does E Value
+  abbrev pub unit_step : CallRule E → Reading → Bool → List (Does E Value) → Place → Value → Does E Value
   unit_step calls r true ps at v = call.call_each x.spend calls (choose x.program r false at) ps at v
   unit_step calls r false ps at v = call.call_step x.spend calls (choose x.program r false at) ps at v
 
-  abbrev pub map_step : Calls E → Reading → Bool → Bool → List (Does E Value) → Place → Value → Does E Value
+  abbrev pub map_step : CallRule E → Reading → Bool → Bool → List (Does E Value) → Place → Value → Does E Value
   map_step calls r true strict ps at v = call.map_all x.spend calls (choose x.program r strict at) ps at v
   map_step calls r false strict ps at v = call.call_step x.spend calls (choose x.program r strict at) ps at v
 
   -- a step with arguments behind a dot
-  abbrev pub dot_by : Calls E → List ℕ → Reading → Bool → List (Does E Value) → Option ℕ → Place → Value → Does E Value
+  abbrev pub dot_by : CallRule E → List ℕ → Reading → Bool → List (Does E Value) → Option ℕ → Place → Value → Does E Value
   dot_by calls name (reading.Operation o) collect ps c at v = operation_step name ps c collect at v
   dot_by calls name (reading.Units ns) collect ps c at v = x.beyond at (unit_step calls (reading.Units ns) collect ps at v)
   dot_by calls name r collect ps c at v = misfit at
@@ -221,22 +221,22 @@ module _ {E : Type 0} (x : Setting E) where
   variable_of (Some (variable.ResultVar at n)) = Some result_name
 
   -- the constructor of the class with so many parameters; without arguments there may be none
-  abbrev pub new_with : Calls E → ℕ → ℕ → Option ℕ → List (Does E Value) → Place → Does E Value
+  abbrev pub new_with : CallRule E → ℕ → ℕ → Option ℕ → List (Does E Value) → Place → Does E Value
   new_with calls c e (Some n) ps at = call.new_by x.spend calls n c e ps at
   new_with calls c e None [] at = call.new_alone x.spend calls c e at
   new_with calls c e None (p ∷ ps) at = misfit at
 
-  abbrev pub new_by : Calls E → Reading → List (Does E Value) → Place → Does E Value
+  abbrev pub new_by : CallRule E → Reading → List (Does E Value) → Place → Does E Value
   new_by calls (reading.Make c e) ps at = new_with calls c.0 e (constructor_of c.0 (length ps) x.program.heads.units) ps at
   new_by calls r ps at = misfit at
 
   -- Resolves that are not late.
 
-  abbrev pub resolve_alone : Option Form → Place → Does E Value
+  abbrev pub resolve_alone : Option RequestForm → Place → Does E Value
   resolve_alone (Some f) at = resolving.resolve_alone x.spend (x.resolve at) f
   resolve_alone None at = misfit at
 
-  abbrev pub resolve_step : Option Form → Place → Value → Does E Value
+  abbrev pub resolve_step : Option RequestForm → Place → Value → Does E Value
   resolve_step (Some f) at v = resolving.resolve_step x.spend (x.resolve at) f at v
   resolve_step None at v = misfit at
 
@@ -260,19 +260,19 @@ module _ {E : Type 0} (x : Setting E) where
   assign_value ResultTarget adds t p at = assign_variable result_name adds t p at
   assign_value (MemberTarget r object) adds t p at = member_assign r object adds p at
 
-  abbrev pub late_with : Option Form → Does E Oid → ℕ → Bool → Does E (Option Value) → Place → Place → Does E (Unit {0})
+  abbrev pub late_with : Option RequestForm → Does E Oid → ℕ → Bool → Does E (Option Value) → Place → Place → Does E (Unit {0})
   late_with (Some form) object f adds source sign at = resolving.late x.spend x.enter object f adds source form sign at
   late_with None object f adds source sign at = misfit at
 
-  abbrev pub bare_late : Reading → Option (List ℕ) → Bool → Does E (Option Value) → Option Form → Place → Place → Does E (Unit {0})
+  abbrev pub bare_late : Reading → Option (List ℕ) → Bool → Does E (Option Value) → Option RequestForm → Place → Place → Does E (Unit {0})
   bare_late (reading.Feature f) implicit adds source form sign at = late_with form (bare_target implicit f.0 sign) f.0 adds source sign at
   bare_late r implicit adds source form sign at = misfit sign
 
-  abbrev pub member_late : Reading → Does E Value → Bool → Does E (Option Value) → Option Form → Place → Place → Does E (Unit {0})
+  abbrev pub member_late : Reading → Does E Value → Bool → Does E (Option Value) → Option RequestForm → Place → Place → Does E (Unit {0})
   member_late (reading.Feature f) object adds source form sign at = late_with form (statement.member_target object f.0 sign) f.0 adds source sign at
   member_late r object adds source form sign at = misfit sign
 
-  abbrev pub assign_late : TargetDoes E → Bool → Does E (Option Value) → Option Form → Place → Place → Does E (Unit {0})
+  abbrev pub assign_late : TargetDoes E → Bool → Does E (Option Value) → Option RequestForm → Place → Place → Does E (Unit {0})
   assign_late (BareTarget r implicit) adds source form sign at = bare_late r implicit adds source form sign at
   assign_late ResultTarget adds source form sign at = misfit sign
   assign_late (MemberTarget r object) adds source form sign at = member_late r object adds source form sign at

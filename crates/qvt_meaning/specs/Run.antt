@@ -26,7 +26,7 @@ use Rattle.qvt_run_rules.specs.Locals.{local_of}
 use Rattle.qvt_run_rules.specs.Statements as statement
 use Rattle.qvt_run_rules.specs.Store.{fault_of}
 use Rattle.qvt_run_data.specs.declared.request.Query.{Query}
-use Rattle.qvt_run_rules.specs.Resolve.{Answer, Found, Objects, Undefined, Stopped, answered_now}
+use Rattle.qvt_run_rules.specs.Resolve.{ResolveAnswer, FoundOrEnded, Objects, Undefined, Stopped, answered_now}
 use Rattle.qvt_meaning.specs.Numbered.{expr_at}
 use Rattle.qvt_meaning.specs.Phrases.{expr, stmts}
 use Rattle.qvt_meaning.specs.Plain.{Evaluated, state_of, evaluated, no_expression, answer}
@@ -45,15 +45,15 @@ abbrev pub empty_finish : Finish
 empty_finish = record { trace = []; store = empty_store }
 
 -- an entry: a late write with its answer
-pub record Entry : Type 0 where
+pub record AnsweredWrite : Type 0 where
   pub write : LateWrite
-  pub answer : Answer
+  pub answer : ResolveAnswer
 
 abbrev pub late_query : LateWrite → Query
 late_query w = record { request = w.request; one = w.one; condition = w.condition }
 
 -- a late write with its answer over a finish
-abbrev pub answered : ProgramTerm → Finish → LateWrite → Entry
+abbrev pub answered : ProgramTerm → Finish → LateWrite → AnsweredWrite
 answered p f w = record { write = w; answer = answer p f.trace f.store (map local_of w.vars) w.place (late_query w) }
 
 -- the body of `main`
@@ -102,24 +102,24 @@ finish_of s = record { trace = s.trace; store = s.store }
 
 -- The answers of the entries in order, the cost going on: an entry costs one and its answer. The first that passes the fuel, is invalid, or
 -- is a fault of types ends the run.
-abbrev pub walk_on : Found → Result ℕ End → Result ℕ End
+abbrev pub walk_on : FoundOrEnded → Result ℕ End → Result ℕ End
 walk_on (Objects os) rest = rest
 walk_on (Undefined r at) rest = Err (Fault (fault.InvalidValue r) at)
 walk_on (Stopped e) rest = Err e
 
-abbrev pub walk : ℕ → ℕ → List Entry → Result ℕ End
+abbrev pub walk : ℕ → ℕ → List AnsweredWrite → Result ℕ End
 walk fuel cost [] = Ok cost
 walk fuel cost (e ∷ es) =
     if nat_lt fuel (cost + (1 + e.answer.cost)) then Err OutOfFuel
     else walk_on e.answer.found (walk fuel (cost + (1 + e.answer.cost)) es)
 
-abbrev pub objects_in : Found → List Oid
+abbrev pub objects_in : FoundOrEnded → List Oid
 objects_in (Objects os) = os
 objects_in (Undefined r at) = []
 objects_in (Stopped e) = []
 
 -- what an entry writes into its slot
-abbrev pub late_value : Entry → LateValue
+abbrev pub late_value : AnsweredWrite → LateValue
 late_value e = record { object = e.write.object; feature = e.write.feature; op = e.write.op; values = objects_in e.answer.found; place = e.write.place }
 
 abbrev pub written : Contents → LateValue → Result Contents StoreFault
@@ -136,33 +136,33 @@ patched s (v ∷ vs) = patch_on (written s v) v.place (λ t. patched t vs)
 
 -- a run that has ended well: the store as the last statement left it, the store with the entries carried out, the trace, the entries, and
 -- the cost
-pub record Finished : Type 0 where
+pub record FinishedRun : Type 0 where
   pub finish : Finish
   pub after : Contents
-  pub entries : List Entry
+  pub entries : List AnsweredWrite
   pub cost : ℕ
 
-abbrev pub finished_as : Finish → List Entry → ℕ → Result Contents End → Result Finished End
+abbrev pub finished_as : Finish → List AnsweredWrite → ℕ → Result Contents End → Result FinishedRun End
 finished_as f es cost (Ok store) = Ok (record { finish = f; after = store; entries = es; cost = cost })
 finished_as f es cost (Err e) = Err e
 
-abbrev pub carried_out : Finish → List Entry → Result ℕ End → Result Finished End
+abbrev pub carried_out : Finish → List AnsweredWrite → Result ℕ End → Result FinishedRun End
 carried_out f es (Ok cost) = finished_as f es cost (patched f.store (map late_value es))
 carried_out f es (Err e) = Err e
 
 -- the entries of the run with the finish that the first run left
-abbrev pub second_entries : ProgramTerm → ℕ → Contents → Finish → List Entry
+abbrev pub second_entries : ProgramTerm → ℕ → Contents → Finish → List AnsweredWrite
 second_entries p fuel store f = (main_run (answered p f) p fuel store).1.entries
 
-abbrev pub after_main : ProgramTerm → ℕ → Contents → State Entry → Result Finished End
-after_main p fuel store s = let es : List Entry = second_entries p fuel store (finish_of s) in carried_out (finish_of s) es (walk fuel s.cost es)
+abbrev pub after_main : ProgramTerm → ℕ → Contents → State AnsweredWrite → Result FinishedRun End
+after_main p fuel store s = let es : List AnsweredWrite = second_entries p fuel store (finish_of s) in carried_out (finish_of s) es (walk fuel s.cost es)
 
 -- a `return` ends `main` as its last statement does
-abbrev pub after_first : ProgramTerm → ℕ → Contents → Result (Unit {0}) Exit → State Entry → Result Finished End
+abbrev pub after_first : ProgramTerm → ℕ → Contents → Result (Unit {0}) Exit → State AnsweredWrite → Result FinishedRun End
 after_first p fuel store (Ok u) s = after_main p fuel store s
 after_first p fuel store (Err (Returned v)) s = after_main p fuel store s
 after_first p fuel store (Err (Ends e)) s = Err e
 
 -- a run of a program over a loaded store
-unfoldable pub finished : ProgramTerm → Contents → ℕ → Result Finished End
-finished p store fuel = let first : Done Entry (Unit {0}) = main_run (answered p empty_finish) p fuel store in after_first p fuel store first.0 first.1
+unfoldable pub finished : ProgramTerm → Contents → ℕ → Result FinishedRun End
+finished p store fuel = let first : Done AnsweredWrite (Unit {0}) = main_run (answered p empty_finish) p fuel store in after_first p fuel store first.0 first.1

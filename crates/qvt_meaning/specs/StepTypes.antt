@@ -22,11 +22,11 @@ use Rattle.qvt_types_steps.specs.declared.heads.Heading.{Heading}
 use Rattle.qvt_types_steps.specs.declared.heads.Heading.TheVariants as heading
 use Rattle.qvt_tree_types.specs.declared.words.ResolveWord.{ResolveWord}
 use Rattle.qvt_typing.specs.Accepts.{ProgramTerm}
-use Rattle.qvt_typing.specs.Context.{Heads}
+use Rattle.qvt_typing.specs.Context.{DeclaredHeads}
 use Rattle.qvt_typing.specs.Calls.{called_behind, unit_ruled, map_ruled}
 use Rattle.qvt_value.specs.declared.value.Kind.{Kind}
 use Rattle.qvt_value.specs.declared.value.Kind.TheVariants.{Set}
-use Rattle.qvt_run_data.specs.declared.request.Form.{Form}
+use Rattle.qvt_run_data.specs.declared.request.RequestForm.{RequestForm}
 use Rattle.qvt_meaning.specs.Nodes.{types_of, class_named, written_type}
 use Rattle.qvt_meaning.specs.Program.{form_of}
 
@@ -57,29 +57,29 @@ has_head TypedNoHead = false
 has_head (TypedHeadOf name t a at n) = true
 
 -- an operation of a model, which has no type before it
-abbrev pub model_type : Heads → List ℕ → TypedExprTerms → Option ModelCall → Option Ty
+abbrev pub model_type : DeclaredHeads → List ℕ → TypedExprTerms → Option ModelCall → Option Ty
 model_type h name es None = None
 model_type h name es (Some model_call.ObjectsOfType) = answer_of (by_class.model_objects_of name (class_parts es))
 model_type h name es (Some q) = answer_of (by_class.model_objects name (element_no h.types) (types_of es))
 
-abbrev pub tested_type : Heads → List ℕ → Option ClassTest → TypedExprTerms → Option Ty → Option Ty
+abbrev pub tested_type : DeclaredHeads → List ℕ → Option ClassTest → TypedExprTerms → Option Ty → Option Ty
 tested_type h name None es o = answer_of (dot_call h.metas name o (types_of es))
 tested_type h name (Some t) es o = answer_of (by_class.class_test name t o (class_parts es))
 
-abbrev pub dot_type : Heads → List ℕ → Reading → TypedExprTerms → Option Ty → Option Ty
+abbrev pub dot_type : DeclaredHeads → List ℕ → Reading → TypedExprTerms → Option Ty → Option Ty
 dot_type h name r es None = model_type h name es (by_class.model_call_named name)
 dot_type h name (reading.Units ns) es o = answer_of (unit_ruled h o (called_behind h false false name o) (types_of es))
 dot_type h name r es o = tested_type h name (by_class.class_test_named name) es o
 
-abbrev pub arrow_type : Heads → List ℕ → TypedHeadTerm → TypedExprTerms → Option Ty → Option Ty
+abbrev pub arrow_type : DeclaredHeads → List ℕ → TypedHeadTerm → TypedExprTerms → Option Ty → Option Ty
 arrow_type h name head es o =
     if by_class.is_selection name then answer_of (by_class.selection name (has_head head) o (class_parts es))
     else answer_of (arrow h.metas name (heading_of head) o (types_of es))
 
-abbrev pub map_type : Heads → Bool → TypedMapTerm → Option Ty → Option Ty
+abbrev pub map_type : DeclaredHeads → Bool → TypedMapTerm → Option Ty → Option Ty
 map_type h is_arrow (TypedMapOf strict name es at n) o = answer_of (map_ruled h is_arrow o (called_behind h true is_arrow name o) (types_of es))
 
-abbrev pub form_type : ResolveWord → Option Form → Option Ty
+abbrev pub form_type : ResolveWord → Option RequestForm → Option Ty
 form_type w None = None
 form_type w (Some f) = Some (resolve_type w (record { 0 = f.class }))
 

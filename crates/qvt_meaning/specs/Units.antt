@@ -13,29 +13,29 @@ use Rattle.qvt_run_data.specs.declared.exit.End.TheVariants.{Fault}
 use Rattle.qvt_run_rules.specs.State.{Does, ◌>>=◌, stop, found}
 use Rattle.qvt_run_rules.specs.Statements as statement
 use Rattle.qvt_run_data.specs.declared.callee.Callee.TheVariants.{HelperCall, ConstructorCall, MappingCall}
-use Rattle.qvt_run_rules.specs.Calls.{Calls, Param, Routine, helper, constructor_}
-use Rattle.qvt_run_rules.specs.Mappings.{Making, MappingRule, mapping}
+use Rattle.qvt_run_rules.specs.Calls.{CallRule, UnitParam, Routine, helper, constructor_}
+use Rattle.qvt_run_rules.specs.Mappings.{ResultClass, MappingRule, mapping}
 use Rattle.qvt_meaning.specs.Nodes.{place_of, mappings_named}
 use Rattle.qvt_meaning.specs.Program.{unit_term, signature_of, known_class, mapping_unit, numbers}
 use Rattle.qvt_meaning.specs.Phrases.{expr, stmts}
 use Rattle.qvt_meaning.specs.Readings.{Setting}
 
 -- the parameters by their names, with the types that the signature has
-abbrev pub params_of : List TypedMember → List (Option Ty) → List Param
+abbrev pub params_of : List TypedMember → List (Option Ty) → List UnitParam
 params_of [] ts = []
 params_of (m ∷ ms) [] = record { name = m.name; type = None } ∷ params_of ms []
 params_of (m ∷ ms) (t ∷ ts) = record { name = m.name; type = t } ∷ params_of ms ts
 
 -- the class of which a mapping makes its result, and the extent in which it makes it
-abbrev pub made_in : Reading → Option Making
+abbrev pub made_in : Reading → Option ResultClass
 made_in (reading.Make c e) = Some (record { class = c.0; extent = e })
 made_in r = None
 
-abbrev pub result_of : Option TypedResultDecl → Option Making
+abbrev pub result_of : Option TypedResultDecl → Option ResultClass
 result_of None = None
 result_of (Some d) = made_in d.note.reading
 
-module _ {E : Type 0} (x : Setting E) (calls : Calls E) where
+module _ {E : Type 0} (x : Setting E) (calls : CallRule E) where
   -- Helpers, queries and constructors.
 
   -- the body of a unit, with the type of its answer
@@ -92,16 +92,16 @@ module _ {E : Type 0} (x : Setting E) (calls : Calls E) where
 
   -- Calls.
 
-  abbrev pub called : Calls E
+  abbrev pub called : CallRule E
   called (HelperCall n o) vs at = found (routine_at n) at >>= (λ h. helper h o vs at)
   called (ConstructorCall n c e) vs at = found (routine_at n) at >>= (λ h. constructor_ h c e vs at)
   called (MappingCall k way o) vs at = found (mapping_at k) at >>= (λ m. mapping mapping_at calls m way o vs at)
 
 -- the calls, of which so many may be open inside one another
-unfoldable pub calls_to : {E : Type 0} → Setting E → ℕ → Calls E
+unfoldable pub calls_to : {E : Type 0} → Setting E → ℕ → CallRule E
 calls_to x zero c vs at = stop (Fault fault.CallDepth at)
 calls_to x (suc left) c vs at = called x (calls_to x left) c vs at
 
 -- 100 calls of units may be open; `main` is none
-abbrev pub all_calls : {E : Type 0} → Setting E → Calls E
+abbrev pub all_calls : {E : Type 0} → Setting E → CallRule E
 all_calls x = calls_to x 100

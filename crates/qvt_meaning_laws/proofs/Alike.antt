@@ -28,8 +28,8 @@ use Rattle.qvt_run_rules.specs.Iterators.{unvisited, for_item, closure_from}
 use Rattle.qvt_run_rules.specs.Statements.{statement, loop, turn, holds, truth}
 use Rattle.qvt_run_rules.specs.Calls.{given_in, given}
 use Rattle.qvt_run_rules.specs.Mappings as of
-use Rattle.qvt_run_rules.specs.Mappings.{Begun, Known, Ended, New, note, once, with_key}
-use Rattle.qvt_run_rules.specs.Resolve.{Answer, Found, Objects, Undefined, Stopped, answer_value, answered_now, late_write}
+use Rattle.qvt_run_rules.specs.Mappings.{BegunCall, Known, Ended, New, note, once, with_key}
+use Rattle.qvt_run_rules.specs.Resolve.{ResolveAnswer, FoundOrEnded, Objects, Undefined, Stopped, answer_value, answered_now, late_write}
 use Rattle.qvt_meaning.specs.Plain.{answer, state_of}
 use Rattle.qvt_meaning.specs.Run.{entered, setting, main_in, main_run}
 use Rattle.qvt_meaning_laws.proofs.Closed.{Closed}
@@ -152,30 +152,30 @@ module _ {E F : Type 0} (g : E → F) where
   unfolding note
   notes k o = λ s. refl
 
-  noted : (k : Key) (m : of.Made) (z : Begun) → Alike Begun (of.noted_on k m z) (of.noted_on k m z)
+  noted : (k : Key) (m : of.MadeResult) (z : BegunCall) → Alike BegunCall (of.noted_on k m z) (of.noted_on k m z)
   noted k (Known r) z = λ s. refl
   noted k (Ended None) z = λ s. refl
-  noted k (Ended (Some o)) z = binds (Unit {0}) Begun (note k (Some o)) (note k (Some o)) (λ _. pure z) (λ _. pure z) (notes k (Some o)) (λ _ s. refl)
-  noted k (New r) z = binds (Unit {0}) Begun (note k r) (note k r) (λ _. pure z) (λ _. pure z) (notes k r) (λ _ s. refl)
+  noted k (Ended (Some o)) z = binds (Unit {0}) BegunCall (note k (Some o)) (note k (Some o)) (λ _. pure z) (λ _. pure z) (notes k (Some o)) (λ _ s. refl)
+  noted k (New r) z = binds (Unit {0}) BegunCall (note k r) (note k r) (λ _. pure z) (λ _. pure z) (notes k r) (λ _ s. refl)
 
   keys : (A : Type 0) (k : Key) (p : Does E A) (q : Does F A) → Alike A p q → Alike A (with_key k p) (with_key k q)
   unfolding with_key
   keys A k p q e = λ s. ap (λ (d : Done F A). of.shut (length s.keys) d) (e (record s { keys = s.keys ++ k ∷ [] }))
 
-  unless_open : (b : Bool) (at : Place) (p : Does E Begun) (q : Does F Begun) → Alike Begun p q → Alike Begun (of.unless_open b at p) (of.unless_open b at q)
+  unless_open : (b : Bool) (at : Place) (p : Does E BegunCall) (q : Does F BegunCall) → Alike BegunCall p q → Alike BegunCall (of.unless_open b at p) (of.unless_open b at q)
   unless_open true at p q e = λ s. refl
   unless_open false at p q e = e
 
-  unless_known : (o : Option (Option Oid)) (p : Does E Begun) (q : Does F Begun) → Alike Begun p q → Alike Begun (of.unless_known o p) (of.unless_known o q)
+  unless_known : (o : Option (Option Oid)) (p : Does E BegunCall) (q : Does F BegunCall) → Alike BegunCall p q → Alike BegunCall (of.unless_known o p) (of.unless_known o q)
   unless_known (Some r) p q e = λ s. refl
   unless_known None p q e = e
 
-  onces : (k : Key) (at : Place) (p : Does E Begun) (q : Does F Begun) → Alike Begun p q → Alike Begun (once k at p) (once k at q)
+  onces : (k : Key) (at : Place) (p : Does E BegunCall) (q : Does F BegunCall) → Alike BegunCall p q → Alike BegunCall (once k at p) (once k at q)
   unfolding once
   onces k at p q e =
-      let inner : Alike Begun (with_key k (p >>= of.noted k)) (with_key k (q >>= of.noted k))
-      = keys Begun k (p >>= of.noted k) (q >>= of.noted k) (binds Begun Begun p q (of.noted k) (of.noted k) e (λ z. noted k z.0 z)) in
-      let free : Alike Begun (ask (λ s. has_key s.keys k) >>= (λ b. of.unless_open b at (with_key k (p >>= of.noted k)))) (ask (λ s. has_key s.keys k) >>= (λ b. of.unless_open b at (with_key k (q >>= of.noted k))))
+      let inner : Alike BegunCall (with_key k (p >>= of.noted k)) (with_key k (q >>= of.noted k))
+      = keys BegunCall k (p >>= of.noted k) (q >>= of.noted k) (binds BegunCall BegunCall p q (of.noted k) (of.noted k) e (λ z. noted k z.0 z)) in
+      let free : Alike BegunCall (ask (λ s. has_key s.keys k) >>= (λ b. of.unless_open b at (with_key k (p >>= of.noted k)))) (ask (λ s. has_key s.keys k) >>= (λ b. of.unless_open b at (with_key k (q >>= of.noted k))))
       = λ s. unless_open (has_key s.keys k) at _ _ inner s in
       λ s. unless_known (result_for k s.trace) _ _ free s
 
@@ -221,12 +221,12 @@ module _ {E F : Type 0} (g : E → F) where
 
   -- Resolves.
 
-  values : (one : Bool) (a : Found) → Alike Value (answer_value one a) (answer_value one a)
+  values : (one : Bool) (a : FoundOrEnded) → Alike Value (answer_value one a) (answer_value one a)
   values one (Objects os) = λ s. refl
   values one (Undefined r i) = λ s. refl
   values one (Stopped e) = λ s. refl
 
-  answers : (fuel : ℕ) (one : Bool) (a : Answer) → Alike Value (answered_now (charge fuel) one a) (answered_now (charge fuel) one a)
+  answers : (fuel : ℕ) (one : Bool) (a : ResolveAnswer) → Alike Value (answered_now (charge fuel) one a) (answered_now (charge fuel) one a)
   answers fuel one a = binds (Unit {0}) Value (charge fuel a.cost) (charge fuel a.cost) (λ _. answer_value one a.found) (λ _. answer_value one a.found) (charges fuel a.cost) (λ _. values one a.found)
 
   -- Two ways to keep a late write of which the one gives what the other one's entry is mapped to.

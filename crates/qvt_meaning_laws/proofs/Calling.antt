@@ -10,7 +10,7 @@ use Rattle.qvt_run_rules.specs.State.{Does}
 use Rattle.qvt_run_rules.specs.Locals.{self_name, result_name, fixed}
 use Rattle.qvt_run_rules.specs.Sources.{objects_in}
 use Rattle.qvt_run_rules.specs.Calls as call
-use Rattle.qvt_run_rules.specs.Calls.{Calls, Param, Routine}
+use Rattle.qvt_run_rules.specs.Calls.{CallRule, UnitParam, Routine}
 use Rattle.qvt_meaning.specs.Readings.{Setting}
 use Rattle.qvt_meaning_laws.proofs.Closed.{Relation, Repeated, Closed, Each, none, more}
 use Rattle.qvt_meaning_laws.proofs.Parts.{on, after, ticks, misfits, finds, valids, presents, objects, askeds, reads, collects}
@@ -18,7 +18,7 @@ use Rattle.qvt_meaning_laws.proofs.Parts.{on, after, ticks, misfits, finds, vali
 module _ {E F : Type 0} {R : Relation E F} {T : Repeated E F} {x : Setting E} {y : Setting F} (c : Closed E F R T x y) where
   -- What a unit begins with.
 
-  pub bound : (ps : List Param) (vs : List Value) (at : Place) → R (List Local) (call.bound ps vs at) (call.bound ps vs at)
+  pub bound : (ps : List UnitParam) (vs : List Value) (at : Place) → R (List Local) (call.bound ps vs at) (call.bound ps vs at)
   bound [] [] at = c.gives (List Local) []
   bound (p ∷ ps) (v ∷ vs) at = on c (askeds c p.type at v) (λ w. on c (bound ps vs at) (λ ls. c.gives (List Local) (fixed p.name w ∷ ls)))
   bound ps vs at = misfits c (List Local) at
@@ -28,13 +28,13 @@ module _ {E F : Type 0} {R : Relation E F} {T : Repeated E F} {x : Setting E} {y
   self_of true (Some o) at = c.gives (List Local) _
   self_of true None at = misfits c (List Local) at
 
-  pub frame : (b : Bool) (ps : List Param) (o : Option Oid) (vs : List Value) (at : Place) → R (List Local) (call.frame b ps o vs at) (call.frame b ps o vs at)
+  pub frame : (b : Bool) (ps : List UnitParam) (o : Option Oid) (vs : List Value) (at : Place) → R (List Local) (call.frame b ps o vs at) (call.frame b ps o vs at)
   unfolding call.frame
   frame b ps o vs at = on c (self_of b o at) (λ me. on c (bound ps vs at) (λ ls. c.gives (List Local) (me ++ ls)))
 
   -- two routines that differ in their bodies alone, which are alike
   pub data Routines : Routine E → Routine F → Type 0 where
-    routines : (b : Bool) (ps : List Param) {p : Does E (Unit {0})} {q : Does F (Unit {0})} → R (Unit {0}) p q → Routines (record { has_context = b; params = ps; body = p }) (record { has_context = b; params = ps; body = q })
+    routines : (b : Bool) (ps : List UnitParam) {p : Does E (Unit {0})} {q : Does F (Unit {0})} → R (Unit {0}) p q → Routines (record { has_context = b; params = ps; body = p }) (record { has_context = b; params = ps; body = q })
 
   pub helper : {h : Routine E} {j : Routine F} (o : Option Oid) (vs : List Value) (at : Place) → Routines h j → R Value (call.helper h o vs at) (call.helper j o vs at)
   unfolding call.helper
@@ -54,10 +54,10 @@ module _ {E F : Type 0} {R : Relation E F} {T : Repeated E F} {x : Setting E} {y
   arguments e = arguments_onto [] e
 
   -- calls that are alike
-  abbrev pub AlikeCalls : Calls E → Calls F → Type 0
+  abbrev pub AlikeCalls : CallRule E → CallRule F → Type 0
   AlikeCalls d d' = (n : Callee) (vs : List Value) (at : Place) → R Value (d n vs at) (d' n vs at)
 
-  module _ {d : Calls E} {d' : Calls F} (k : AlikeCalls d d') where
+  module _ {d : CallRule E} {d' : CallRule F} (k : AlikeCalls d d') where
     pub call_free : (n : Callee) {ps : List (Does E Value)} {qs : List (Does F Value)} (at : Place) → Each (R Value) ps qs → R Value (call.call_free x.spend d n ps at) (call.call_free y.spend d' n qs at)
     unfolding call.call_free
     call_free n at e = ticks c (on c (arguments e) (λ vs. k n vs at))

@@ -8,7 +8,7 @@ use Rattle.qvt_types_units.specs.Numbers.{has_context}
 use Rattle.qvt_typing.specs.Accepts.{ProgramTerm}
 use Rattle.qvt_value.specs.declared.value.Value.{Value}
 use Rattle.qvt_run_data.specs.declared.callee.Callee.TheVariants.{HelperCall, ConstructorCall, MappingCall}
-use Rattle.qvt_run_rules.specs.Calls.{Calls}
+use Rattle.qvt_run_rules.specs.Calls.{CallRule}
 use Rattle.qvt_meaning.specs.Nodes.{place_of, mappings_named}
 use Rattle.qvt_meaning.specs.Program.{unit_term, signature_of, known_class, mapping_unit, numbers}
 use Rattle.qvt_meaning.specs.Phrases.{expr}
@@ -30,10 +30,10 @@ module _ {E F : Type 0} {R : Relation E F} {T : Repeated E F} {x : Setting E} {y
   Right = naming.Right c program
 
   -- what is known of an expression that is the condition of a loop or the body of a closure, where calls do this
-  abbrev pub RepeatsOf : Calls E → Calls F → Type 0
+  abbrev pub RepeatsOf : CallRule E → CallRule F → Type 0
   RepeatsOf d d' = (answer : Option Ty) (e : TypedExprTerm) → T (expr Left d answer e) (expr Right d' answer e)
 
-  module _ {d : Calls E} {d' : Calls F} (k : AlikeCalls c d d') (repeats : RepeatsOf d d') where
+  module _ {d : CallRule E} {d' : CallRule F} (k : AlikeCalls c d d') (repeats : RepeatsOf d d') where
     body_of : (answer : Option Ty) (ss : TypedStmtTerms) → R (Unit {0}) (of.body_of Left d answer ss) (of.body_of Right d' answer ss)
     body_of answer ss = block c (of_stmts c program k repeats answer ss)
 

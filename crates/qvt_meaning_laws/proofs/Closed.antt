@@ -8,7 +8,7 @@ use Rattle.qvt_value.specs.declared.value.Kind.{Kind}
 use Rattle.qvt_run_data.specs.declared.exit.Exit.{Exit}
 use Rattle.qvt_run_data.specs.declared.local.Local.{Local}
 use Rattle.qvt_run_data.specs.declared.record.Key.{Key}
-use Rattle.qvt_run_data.specs.declared.request.Form.{Form}
+use Rattle.qvt_run_data.specs.declared.request.RequestForm.{RequestForm}
 use Rattle.qvt_run_data.specs.declared.request.Query.{Query}
 use Rattle.qvt_run_rules.specs.State.{Does, ◌>>=◌, pure, exits, ask, caught}
 use Rattle.qvt_run_rules.specs.Locals.{push, replace, scoped, with_locals, inside, in_frame, in_own}
@@ -16,7 +16,7 @@ use Rattle.qvt_run_rules.specs.Store.{new_object, put}
 use Rattle.qvt_run_rules.specs.Iterators.{for_item, closure_from}
 use Rattle.qvt_run_rules.specs.Statements.{statement, loop, with_slot}
 use Rattle.qvt_run_rules.specs.Calls.{given}
-use Rattle.qvt_run_rules.specs.Mappings.{Begun, once}
+use Rattle.qvt_run_rules.specs.Mappings.{BegunCall, once}
 use Rattle.qvt_run_rules.specs.Resolve.{late}
 use Rattle.qvt_meaning.specs.Readings.{Setting}
 
@@ -52,7 +52,7 @@ pub record Closed (E F : Type 0) (R : Relation E F) (T : Repeated E F) (x : Sett
   pub catches : (p : Does E (Unit {0})) (q : Does F (Unit {0})) → R (Unit {0}) p q → R Bool (caught p) (caught q)
   pub gives_back : (p : Does E (Unit {0})) (q : Does F (Unit {0})) → R (Unit {0}) p q → R Value (given p) (given q)
   -- the trace
-  pub onces : (k : Key) (at : Place) (p : Does E Begun) (q : Does F Begun) → R Begun p q → R Begun (once k at p) (once k at q)
+  pub onces : (k : Key) (at : Place) (p : Does E BegunCall) (q : Does F BegunCall) → R BegunCall p q → R BegunCall (once k at p) (once k at q)
   -- loops, of at most so many turns
   pub loops : (t : Does E Value) (u : Does F Value) (at : Place) (p : Does E (Unit {0})) (q : Does F (Unit {0})) → T t u → R Value t u → R (Unit {0}) p q
       → R (Unit {0}) (statement x.spend (loop x.turns t at p)) (statement y.spend (loop y.turns u at q))
@@ -60,7 +60,7 @@ pub record Closed (E F : Type 0) (R : Relation E F) (T : Repeated E F) (x : Sett
       → R Value (closure_from at (for_item name p) (suc x.turns) k done vs) (closure_from at (for_item name q) (suc y.turns) k done vs)
   -- what the settings tell
   pub resolves : (at : Place) (q : Query) → R Value (x.resolve at q) (y.resolve at q)
-  pub lates : (f : ℕ) (adds : Bool) (form : Form) (sign at : Place) (t : Does E Oid) (u : Does F Oid) (p : Does E (Option Value)) (q : Does F (Option Value)) → R Oid t u → R (Option Value) p q
+  pub lates : (f : ℕ) (adds : Bool) (form : RequestForm) (sign at : Place) (t : Does E Oid) (u : Does F Oid) (p : Does E (Option Value)) (q : Does F (Option Value)) → R Oid t u → R (Option Value) p q
       → R (Unit {0}) (late x.spend x.enter (t >>= with_slot f sign) f adds p form sign at) (late y.spend y.enter (u >>= with_slot f sign) f adds q form sign at)
   pub beyonds : (at : Place) (p : Does E Value) (q : Does F Value) → R Value p q → R Value (x.beyond at p) (y.beyond at q)
 

@@ -7,7 +7,7 @@ use Rattle.qvt_metamodel.specs.Descends.{is_class_kind}
 use Rattle.qvt_slots.specs.Contents.{Contents, is_slot}
 use Rattle.qvt_value.specs.declared.value.Value.{Value, Invalid}
 use Rattle.qvt_run_data.specs.declared.exit.Exit.{Exit}
-use Rattle.qvt_run_data.specs.declared.request.Form.{Form}
+use Rattle.qvt_run_data.specs.declared.request.RequestForm.{RequestForm}
 use Rattle.qvt_run_data.specs.declared.request.Query.{Query}
 use Rattle.qvt_run_rules.specs.State.{Does, ◌>>=◌, ◌>>◌, pure, exits, found, look, ask}
 use Rattle.qvt_run_rules.specs.Typed.{valid}
@@ -48,7 +48,7 @@ module _ {E F : Type 0} (R : Relation E F) (x : Setting E) (y : Setting F)
   slots : (f : ℕ) (at : Place) (o : Oid) → R Oid (with_slot f at o) (with_slot f at o)
   slots f at o = looks Oid (λ st. if is_slot st o.0 f then Some o else None) at
 
-  module _ (f : ℕ) (adds : Bool) (form : Form) (sign at : Place) where
+  module _ (f : ℕ) (adds : Bool) (form : RequestForm) (sign at : Place) where
     abbrev entry : {G : Type 0} → Setting G → Oid → Option (List Oid) → Does G (Unit {0})
     entry z o os = look (by.if_fits f form.class) sign >> by.entered z.enter o f adds (by.query_of form os) sign
 

@@ -12,9 +12,9 @@ use Rattle.qvt_run_data.specs.declared.callee.Way.TheVariants.{Called, Chosen, R
 use Rattle.qvt_run_data.specs.declared.local.Local.{Local}
 use Rattle.qvt_run_rules.specs.State.{Does, ◌>>◌, pure, ask, caught}
 use Rattle.qvt_run_rules.specs.Locals.{result_name}
-use Rattle.qvt_run_rules.specs.Calls.{Calls, Param}
+use Rattle.qvt_run_rules.specs.Calls.{CallRule, UnitParam}
 use Rattle.qvt_run_rules.specs.Mappings as of
-use Rattle.qvt_run_rules.specs.Mappings.{Making, MappingRule, Made, Known, Ended, New, Begun}
+use Rattle.qvt_run_rules.specs.Mappings.{ResultClass, MappingRule, MadeResult, Known, Ended, New, BegunCall}
 use Rattle.qvt_meaning.specs.Readings.{Setting}
 use Rattle.qvt_meaning_laws.proofs.Closed.{Relation, Repeated, Closed, Held, held_none, held_some}
 use Rattle.qvt_meaning_laws.proofs.Parts.{on, after, picks, stops, misfits, founds, reads, sets}
@@ -24,8 +24,8 @@ use Rattle.qvt_meaning_laws.proofs.Calling.{frame, AlikeCalls}
 pub record Frame : Type 0 where
   pub number : ℕ
   pub context : Option ℕ
-  pub params : List Param
-  pub result : Option Making
+  pub params : List UnitParam
+  pub result : Option ResultClass
   pub inherits : List ℕ
   pub merges : List ℕ
   pub disjuncts : List ℕ
@@ -59,7 +59,7 @@ module _ {E F : Type 0} {R : Relation E F} {T : Repeated E F} {x : Setting E} {y
   object_in at (Obj o) = c.gives (Option Oid) (Some o)
   object_in at v = misfits c (Option Oid) at
 
-  result_read : (r : Option Making) (at : Place) → R (Option Oid) (of.result_read r at) (of.result_read r at)
+  result_read : (r : Option ResultClass) (at : Place) → R (Option Oid) (of.result_read r at) (of.result_read r at)
   result_read None at = c.gives (Option Oid) None
   result_read (Some m) at = on c (reads c result_name at) (λ v. object_in at v)
 
@@ -70,9 +70,9 @@ module _ {E F : Type 0} {R : Relation E F} {T : Repeated E F} {x : Setting E} {y
   made_of : (n m : ℕ) (at : Place) → R Oid (of.made_of n m at) (of.made_of n m at)
   made_of n m at = on c (c.stores Bool (λ st. (class_at st.metas n).is_abstract)) (λ b. made_unless b n m at)
 
-  completed_as : (r : Option Making) (at : Place) → R Made (of.completed_as r at) (of.completed_as r at)
-  completed_as None at = c.gives Made (New None)
-  completed_as (Some m) at = on c (made_of m.class m.extent at) (λ o. after c (sets c result_name (Obj o) at) (c.gives Made (New (Some o))))
+  completed_as : (r : Option ResultClass) (at : Place) → R MadeResult (of.completed_as r at) (of.completed_as r at)
+  completed_as None at = c.gives MadeResult (New None)
+  completed_as (Some m) at = on c (made_of m.class m.extent at) (λ o. after c (sets c result_name (Obj o) at) (c.gives MadeResult (New (Some o))))
 
   of_class_in : (n : Option ℕ) (o : Option Oid) → R Bool (ask (of.of_class_in n o)) (ask (of.of_class_in n o))
   of_class_in None o = c.gives Bool true
@@ -88,7 +88,7 @@ module _ {E F : Type 0} {R : Relation E F} {T : Repeated E F} {x : Setting E} {y
     mappings : (a : Frame) {w : Option (Does E Bool)} {w' : Option (Does F Bool)} {i p e : Does E (Unit {0})} {i' p' e' : Does F (Unit {0})} →
         Held (R Bool) w w' → R (Unit {0}) i i' → R (Unit {0}) p p' → R (Unit {0}) e e' → Mappings (mapping_with a w i p e) (mapping_with a w' i' p' e')
 
-  module _ {ms : ℕ → Option (MappingRule E)} {ms' : ℕ → Option (MappingRule F)} (same : (n : ℕ) → Held Mappings (ms n) (ms' n)) {d : Calls E} {d' : Calls F} (k : AlikeCalls c d d') where
+  module _ {ms : ℕ → Option (MappingRule E)} {ms' : ℕ → Option (MappingRule F)} (same : (n : ℕ) → Held Mappings (ms n) (ms' n)) {d : CallRule E} {d' : CallRule F} (k : AlikeCalls c d d') where
     reuse : (ns : List ℕ) (shared o : Option Oid) (vs : List Value) (at : Place) → R (Unit {0}) (of.reuse ms d ns shared o vs at) (of.reuse ms' d' ns shared o vs at)
     reuse [] shared o vs at = c.gives (Unit {0}) tt
     reuse (n ∷ ns) shared o vs at = after c (k (MappingCall n (Reused shared) o) vs at) (reuse ns shared o vs at)
@@ -109,17 +109,17 @@ module _ {E F : Type 0} {R : Relation E F} {T : Repeated E F} {x : Setting E} {y
       abbrev other : MappingRule F
       other = mapping_with a w' i' p' e'
 
-      completed : (o : Option Oid) → R Made (of.completed one o) (of.completed other o)
-      completed (Some o) = c.gives Made (New (Some o))
+      completed : (o : Option Oid) → R MadeResult (of.completed one o) (of.completed other o)
+      completed (Some o) = c.gives MadeResult (New (Some o))
       completed None = completed_as a.result a.place
 
-      first_inside : R Made (of.first_inside one) (of.first_inside other)
+      first_inside : R MadeResult (of.first_inside one) (of.first_inside other)
       unfolding of.first_inside
-      first_inside = on c (c.catches i i' ei) (λ b. on c (result_read a.result a.place) (λ r. picks c b (c.gives Made (Ended r)) (completed r)))
+      first_inside = on c (c.catches i i' ei) (λ b. on c (result_read a.result a.place) (λ r. picks c b (c.gives MadeResult (Ended r)) (completed r)))
 
-      first : (ls : List Local) → R Begun (of.first one ls) (of.first other ls)
+      first : (ls : List Local) → R BegunCall (of.first one ls) (of.first other ls)
       unfolding of.first
-      first ls = c.owns Made (ls ++ of.result_local a.result Null) (of.first_inside one) (of.first_inside other) first_inside
+      first ls = c.owns MadeResult (ls ++ of.result_local a.result Null) (of.first_inside one) (of.first_inside other) first_inside
 
       sections : (ls : List Local) → R (Unit {0}) (of.sections one ls) (of.sections other ls)
       unfolding of.sections
@@ -129,7 +129,7 @@ module _ {E F : Type 0} {R : Relation E F} {T : Repeated E F} {x : Setting E} {y
       unfolding of.body
       body shared ls o vs at = after c (reuse a.inherits shared o vs at) (after c (sections ls) (reuse a.merges shared o vs at))
 
-      goes_by : (o : Option Oid) (vs : List Value) (at : Place) (ls : List Local) (m : Made) → R Value (of.goes_by ms d one o vs at ls m) (of.goes_by ms' d' other o vs at ls m)
+      goes_by : (o : Option Oid) (vs : List Value) (at : Place) (ls : List Local) (m : MadeResult) → R Value (of.goes_by ms d one o vs at ls m) (of.goes_by ms' d' other o vs at ls m)
       goes_by o vs at ls (Known r) = c.gives Value _
       goes_by o vs at ls (Ended r) = c.gives Value _
       goes_by o vs at ls (New r) = after c (body r ls o vs at) (c.gives Value (of.value_of r))
@@ -168,7 +168,7 @@ module _ {E F : Type 0} {R : Relation E F} {T : Repeated E F} {x : Setting E} {y
       by_mapping way o vs at = on c (frame c (of.is_there a.context) a.params o vs at) (λ ls. by_way way o vs at ls)
 
     -- the init section and the result
-    pub begins : {m : MappingRule E} {m' : MappingRule F} (ls : List Local) → Mappings m m' → R Begun (of.first m ls) (of.first m' ls)
+    pub begins : {m : MappingRule E} {m' : MappingRule F} (ls : List Local) → Mappings m m' → R BegunCall (of.first m ls) (of.first m' ls)
     begins ls (mappings a ew ei ep ee) = first a ew ei ep ee ls
 
     pub mapping : {m : MappingRule E} {m' : MappingRule F} (way : Way) (o : Option Oid) (vs : List Value) (at : Place) → Mappings m m' → R Value (of.mapping ms d m way o vs at) (of.mapping ms' d' m' way o vs at)

@@ -25,12 +25,12 @@ use Rattle.qvt_value.specs.declared.value.Value.{Value, Enum}
 use Rattle.qvt_value.specs.declared.value.Kind.{Kind}
 use Rattle.qvt_run_data.specs.declared.callee.Callee.{Callee}
 use Rattle.qvt_run_data.specs.declared.questions.ModelQuery.{ModelQuery}
-use Rattle.qvt_run_data.specs.declared.request.Form.{Form}
+use Rattle.qvt_run_data.specs.declared.request.RequestForm.{RequestForm}
 use Rattle.qvt_run_rules.specs.State.{Does}
 use Rattle.qvt_run_rules.specs.Locals.{result_name}
 use Rattle.qvt_run_rules.specs.Sources.{before_arrow}
 use Rattle.qvt_run_rules.specs.Questions.{named_query}
-use Rattle.qvt_run_rules.specs.Calls.{Calls}
+use Rattle.qvt_run_rules.specs.Calls.{CallRule}
 use Rattle.qvt_meaning.specs.Nodes.{resolve_mark, class_argument}
 use Rattle.qvt_meaning.specs.Program.{chosen_for, free_callee, form_of}
 use Rattle.qvt_meaning.specs.Readings as by
@@ -97,7 +97,7 @@ module _ {E F : Type 0} {R : Relation E F} {T : Repeated E F} {x : Setting E} {y
   choose : (r : Reading) (strict : Bool) (at : Place) (o : Oid) → R Callee (by.choose program r strict at o) (by.choose program r strict at o)
   choose r strict at o = looks c Callee (λ st. chosen_for program r strict o st) at
 
-  module _ {d : Calls E} {d' : Calls F} (k : AlikeCalls c d d') where
+  module _ {d : CallRule E} {d' : CallRule F} (k : AlikeCalls c d d') where
     call_free : (n : Option Callee) {ps : List (Does E Value)} {qs : List (Does F Value)} (at : Place) → Each (R Value) ps qs → R Value (by.call_free Left d n ps at) (by.call_free Right d' n qs at)
     call_free (Some n) at e = calling.call_free c k n at e
     call_free None at e = misfits c Value at
@@ -217,11 +217,11 @@ module _ {E F : Type 0} {R : Relation E F} {T : Repeated E F} {x : Setting E} {y
 
   -- Resolves that are not late.
 
-  pub resolve_alone : (f : Option Form) (at : Place) → R Value (by.resolve_alone Left f at) (by.resolve_alone Right f at)
+  pub resolve_alone : (f : Option RequestForm) (at : Place) → R Value (by.resolve_alone Left f at) (by.resolve_alone Right f at)
   resolve_alone (Some f) at = resolving.resolve_alone c f at
   resolve_alone None at = misfits c Value at
 
-  pub resolve_step : (f : Option Form) (at : Place) (v : Value) → R Value (by.resolve_step Left f at v) (by.resolve_step Right f at v)
+  pub resolve_step : (f : Option RequestForm) (at : Place) (v : Value) → R Value (by.resolve_step Left f at v) (by.resolve_step Right f at v)
   resolve_step (Some f) at v = resolving.resolve_step c f at v
   resolve_step None at v = misfits c Value at
 
@@ -244,7 +244,7 @@ module _ {E F : Type 0} {R : Relation E F} {T : Repeated E F} {x : Setting E} {y
   member_assign (reading.Feature f) adds at e k = action.assign_property c f.0 adds at (action.member_target c f.0 at e) k
   member_assign r adds at e k = misfits c (Unit {0}) at
 
-  late_with : (form : Option Form) (f : ℕ) (sign : Place) {h : Does E Oid} {j : Does F Oid} (adds : Bool) {p : Does E (Option Value)} {q : Does F (Option Value)} (at : Place) → action.Aims c f sign h j → R (Option Value) p q →
+  late_with : (form : Option RequestForm) (f : ℕ) (sign : Place) {h : Does E Oid} {j : Does F Oid} (adds : Bool) {p : Does E (Option Value)} {q : Does F (Option Value)} (at : Place) → action.Aims c f sign h j → R (Option Value) p q →
       R (Unit {0}) (by.late_with Left form h f adds p sign at) (by.late_with Right form j f adds q sign at)
   late_with (Some form) f sign adds {p} {q} at (action.aims {t} {u} e) k = c.lates f adds form sign at t u p q e k
   late_with None f sign adds at e k = misfits c (Unit {0}) at
@@ -253,12 +253,12 @@ module _ {E F : Type 0} {R : Relation E F} {T : Repeated E F} {x : Setting E} {y
   bare_aims None f at = action.inner_aims c f at
   bare_aims (Some source) f at = action.source_aims c source f at
 
-  bare_late : (r : Reading) (implicit : Option (List ℕ)) (adds : Bool) {p : Does E (Option Value)} {q : Does F (Option Value)} (form : Option Form) (sign at : Place) → R (Option Value) p q →
+  bare_late : (r : Reading) (implicit : Option (List ℕ)) (adds : Bool) {p : Does E (Option Value)} {q : Does F (Option Value)} (form : Option RequestForm) (sign at : Place) → R (Option Value) p q →
       R (Unit {0}) (by.bare_late Left r implicit adds p form sign at) (by.bare_late Right r implicit adds q form sign at)
   bare_late (reading.Feature f) implicit adds form sign at e = late_with form f.0 sign adds at (bare_aims implicit f.0 sign) e
   bare_late r implicit adds form sign at e = misfits c (Unit {0}) sign
 
-  member_late : (r : Reading) {h : Does E Value} {j : Does F Value} (adds : Bool) {p : Does E (Option Value)} {q : Does F (Option Value)} (form : Option Form) (sign at : Place) → R Value h j → R (Option Value) p q →
+  member_late : (r : Reading) {h : Does E Value} {j : Does F Value} (adds : Bool) {p : Does E (Option Value)} {q : Does F (Option Value)} (form : Option RequestForm) (sign at : Place) → R Value h j → R (Option Value) p q →
       R (Unit {0}) (by.member_late Left r h adds p form sign at) (by.member_late Right r j adds q form sign at)
   member_late (reading.Feature f) adds form sign at e k = late_with form f.0 sign adds at (action.member_aims c f.0 sign e) k
   member_late r adds form sign at e k = misfits c (Unit {0}) sign
@@ -274,7 +274,7 @@ module _ {E F : Type 0} {R : Relation E F} {T : Repeated E F} {x : Setting E} {y
   assign_value adds t at result_targets e = assign_variable result_name adds t at e
   assign_value adds t at (member_targets r k) e = member_assign r adds at k e
 
-  assign_late : {a : TargetDoes E} {b : TargetDoes F} (adds : Bool) {p : Does E (Option Value)} {q : Does F (Option Value)} (form : Option Form) (sign at : Place) → Targets a b → R (Option Value) p q →
+  assign_late : {a : TargetDoes E} {b : TargetDoes F} (adds : Bool) {p : Does E (Option Value)} {q : Does F (Option Value)} (form : Option RequestForm) (sign at : Place) → Targets a b → R (Option Value) p q →
       R (Unit {0}) (by.assign_late Left a adds p form sign at) (by.assign_late Right b adds q form sign at)
   assign_late adds form sign at (bare_targets r source) e = bare_late r source adds form sign at e
   assign_late adds form sign at result_targets e = misfits c (Unit {0}) sign

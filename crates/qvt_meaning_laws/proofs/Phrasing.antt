@@ -9,7 +9,7 @@ use Rattle.qvt_typing.specs.Accepts.{ProgramTerm}
 use Rattle.qvt_value.specs.declared.value.Value.{Value, Null, Bool as Truth, Int, Str}
 use Rattle.qvt_run_rules.specs.State.{Does}
 use Rattle.qvt_run_rules.specs.Locals.{self_name, result_name}
-use Rattle.qvt_run_rules.specs.Calls.{Calls}
+use Rattle.qvt_run_rules.specs.Calls.{CallRule}
 use Rattle.qvt_meaning.specs.Nodes.{resolve_mark, place_of, type_of, optional_place, class_argument, model_named, late_of}
 use Rattle.qvt_meaning.specs.Program.{form_of}
 use Rattle.qvt_meaning.specs.StepTypes.{step_type, kind_before}
@@ -28,7 +28,7 @@ use Rattle.qvt_meaning_laws.proofs.Naming.{Bodies, Firsts, firsts, Heads, heads,
 but_last : {A B : Type 0} {P : A → B → Type 0} {xs : List A} {ys : List B} → Each P xs ys → Each P (of.but_last xs) (of.but_last ys)
 but_last {xs} {ys} e = rw (lengths e) (takes (length ys - 1) e)
 
-module _ {E F : Type 0} {R : Relation E F} {T : Repeated E F} {x : Setting E} {y : Setting F} (c : Closed E F R T x y) (program : ProgramTerm) {d : Calls E} {d' : Calls F} (k : AlikeCalls c d d')
+module _ {E F : Type 0} {R : Relation E F} {T : Repeated E F} {x : Setting E} {y : Setting F} (c : Closed E F R T x y) (program : ProgramTerm) {d : CallRule E} {d' : CallRule F} (k : AlikeCalls c d d')
     (repeats : (answer : Option Ty) (e : TypedExprTerm) → T (of.expr (naming.Left c program) d answer e) (of.expr (naming.Right c program) d' answer e)) (answer : Option Ty) where
   abbrev Left : Setting E
   Left = naming.Left c program

@@ -16,14 +16,14 @@ use Rattle.qvt_meaning.specs.Laws.{bare_state, bare, Independent, with_finish, C
 use Rattle.qvt_meaning.specs.Phrases as phrase
 use Rattle.qvt_meaning.specs.Readings.{Setting}
 use Rattle.qvt_meaning.specs.Units as unit
-use Rattle.qvt_meaning.specs.Run.{Finish, Entry, empty_finish, answered, setting, main_run, finish_of, walk, carried_out, after_first, finished}
+use Rattle.qvt_meaning.specs.Run.{Finish, AnsweredWrite, empty_finish, answered, setting, main_run, finish_of, walk, carried_out, after_first, finished}
 use Rattle.qvt_meaning_laws.proofs.Closed.{Closed}
 use Rattle.qvt_meaning_laws.proofs.Actions as action
 use Rattle.qvt_meaning_laws.proofs.Phrasing.{of_expr, of_stmts}
 use Rattle.qvt_meaning_laws.proofs.Calls as calls
 use Rattle.qvt_meaning_laws.proofs.Alike.{image, image_of, Alike, alike, runs}
 
-abbrev request : Entry → LateWrite
+abbrev request : AnsweredWrite → LateWrite
 request e = e.write
 
 abbrev kept : LateWrite → LateWrite
@@ -35,7 +35,7 @@ module _ (p : ProgramTerm) (fuel : ℕ) where
   abbrev requests : Setting LateWrite
   requests = setting kept p fuel
 
-  closed : (f : Finish) → Closed Entry LateWrite (Alike request) (λ p q. Unit {0}) (with_finish p f fuel) requests
+  closed : (f : Finish) → Closed AnsweredWrite LateWrite (Alike request) (λ p q. Unit {0}) (with_finish p f fuel) requests
   closed f = alike request (answered p f) kept (λ w. refl) p fuel
 
   bare_run : (f : Finish) (store : Contents) → main_run kept p fuel store ≡ bare (main_run (answered p f) p fuel store)
@@ -46,15 +46,15 @@ module _ (p : ProgramTerm) (fuel : ℕ) where
   free left answer e = tt
 
   module _ (left : ℕ) where
-    bare_call : (f : Finish) (c : Callee) (vs : List Value) (at : Place) (s : State Entry) → unit.calls_to requests left c vs at (bare_state s) ≡ bare (unit.calls_to (with_finish p f fuel) left c vs at s)
+    bare_call : (f : Finish) (c : Callee) (vs : List Value) (at : Place) (s : State AnsweredWrite) → unit.calls_to requests left c vs at (bare_state s) ≡ bare (unit.calls_to (with_finish p f fuel) left c vs at s)
     unfolding setting
     bare_call f c vs at s = calls.calls_to (closed f) p free left c vs at s
 
-    bare_expr : (f : Finish) (answer : Option Ty) (e : TypedExprTerm) (s : State Entry) → phrase.expr requests (unit.calls_to requests left) answer e (bare_state s) ≡ bare (expr_with p f fuel left answer e s)
+    bare_expr : (f : Finish) (answer : Option Ty) (e : TypedExprTerm) (s : State AnsweredWrite) → phrase.expr requests (unit.calls_to requests left) answer e (bare_state s) ≡ bare (expr_with p f fuel left answer e s)
     unfolding setting
     bare_expr f answer e s = of_expr (closed f) p (calls.calls_to (closed f) p free left) (free left) answer e s
 
-    bare_stmts : (f : Finish) (answer : Option Ty) (ss : TypedStmtTerms) (s : State Entry) → in_order (phrase.stmts requests (unit.calls_to requests left) answer ss) (bare_state s) ≡ bare (stmts_with p f fuel left answer ss s)
+    bare_stmts : (f : Finish) (answer : Option Ty) (ss : TypedStmtTerms) (s : State AnsweredWrite) → in_order (phrase.stmts requests (unit.calls_to requests left) answer ss) (bare_state s) ≡ bare (stmts_with p f fuel left answer ss s)
     unfolding setting
     bare_stmts f answer ss s = action.in_order (closed f) (of_stmts (closed f) p (calls.calls_to (closed f) p free left) (free left) answer ss) s
 
@@ -78,14 +78,14 @@ module _ (p : ProgramTerm) (fuel : ℕ) (store : Contents) where
   answered_run f = runs (answered p f) kept (answered p f) (λ w. refl) p fuel store
 
   leaves : (f : Finish) → left_with p fuel store f ≡ finish_of (request_run p fuel store).1
-  leaves f = ap (λ (d : Done Entry (Unit {0})). finish_of d.1) (answered_run f)
+  leaves f = ap (λ (d : Done AnsweredWrite (Unit {0})). finish_of d.1) (answered_run f)
 
   -- all runs with a finish have answers to these requests
   abbrev Answered : State LateWrite → Type 0
   Answered s = (f : Finish) → (main_run (answered p f) p fuel store).1.entries ≡ map (answered p f) s.entries
 
   after : (s : State LateWrite) → Answered s → after_first p fuel store (Ok tt) (image (answered p empty_finish) s) ≡ from_requests p fuel (Ok tt) s
-  after s h = ap (λ (es : List Entry). carried_out (finish_of s) es (walk fuel s.cost es)) (h (finish_of s))
+  after s h = ap (λ (es : List AnsweredWrite). carried_out (finish_of s) es (walk fuel s.cost es)) (h (finish_of s))
 
   passes : (r : Result (Unit {0}) Exit) (s : State LateWrite) → Answered s → after_first p fuel store r (image (answered p empty_finish) s) ≡ from_requests p fuel r s
   passes (Ok u) s h = after s h
@@ -100,5 +100,5 @@ only_finish p fuel store f e = sym e ∙ leaves p fuel store f ∙ sym (leaves p
 
 pub one_pass : OnePass
 unfolding finished
-one_pass p fuel store = ap (λ (d : Done Entry (Unit {0})). after_first p fuel store d.0 d.1) (answered_run p fuel store empty_finish)
-    ∙ passes p fuel store (request_run p fuel store).0 (request_run p fuel store).1 (λ f. ap (λ (d : Done Entry (Unit {0})). d.1.entries) (answered_run p fuel store f))
+one_pass p fuel store = ap (λ (d : Done AnsweredWrite (Unit {0})). after_first p fuel store d.0 d.1) (answered_run p fuel store empty_finish)
+    ∙ passes p fuel store (request_run p fuel store).0 (request_run p fuel store).1 (λ f. ap (λ (d : Done AnsweredWrite (Unit {0})). d.1.entries) (answered_run p fuel store f))

@@ -11,8 +11,8 @@ use Rattle.qvt_value.specs.declared.value.Reason.{Reason}
 use Rattle.qvt_value.specs.declared.value.Reason.TheVariants as reason
 use Rattle.qvt_run_data.specs.declared.fault.RunFault.{RunFault}
 use Rattle.qvt_run_data.specs.declared.fault.RunFault.TheVariants as fault
-use Rattle.qvt_meaning.specs.Run.{Finished}
-use Rattle.qvt_meaning_report.specs.Meaning.{Outcome, Fault, OutOfFuel, Low, Done, written_extents}
+use Rattle.qvt_meaning.specs.Run.{FinishedRun}
+use Rattle.qvt_meaning_report.specs.Meaning.{RunOutcome, Fault, OutOfFuel, Low, Done, written_extents}
 
 abbrev pub reason_name : Reason → List ℕ
 reason_name reason.Overflow = codes "Overflow"
@@ -51,13 +51,13 @@ low_fault_line s ids l = low_line (extent_at s (extent_of s l.object.0)).name (r
 abbrev pub written_count : Contents → ℕ
 written_count s = length (flat_map (members_of s) (written_extents s))
 
-abbrev pub done_line : Finished → List ℕ
+abbrev pub done_line : FinishedRun → List ℕ
 done_line f =
     codes "done: " ++ (decimal (written_count f.after) ++ (codes " objects, " ++ (decimal (length f.finish.trace) ++ (codes " records, "
     ++ (decimal (length f.entries) ++ (codes " late, cost " ++ (decimal f.cost ++ 10 ∷ [])))))))
 
 -- the line of what a program means, by the name of its file, its fuel and the ids of the files
-abbrev pub line_of : List ℕ → ℕ → List (Option (List ℕ)) → Outcome → List ℕ
+abbrev pub line_of : List ℕ → ℕ → List (Option (List ℕ)) → RunOutcome → List ℕ
 line_of file fuel ids (Fault k at) = fault_line file k at
 line_of file fuel ids OutOfFuel = out_of_fuel_line fuel
 line_of file fuel ids (Low s l) = low_fault_line s ids l

@@ -11,13 +11,13 @@ use Rattle.qvt_meaning.specs.Accepts.{ProgramTerm}
 use Rattle.qvt_run_data.specs.declared.fault.RunFault.{RunFault}
 use Rattle.qvt_run_data.specs.declared.exit.End.{End}
 use Rattle.qvt_run_data.specs.declared.exit.End.TheVariants as run
-use Rattle.qvt_meaning.specs.Run.{Finished, finished}
+use Rattle.qvt_meaning.specs.Run.{FinishedRun, finished}
 
-pub data Outcome : Type 0 where
-  Fault : RunFault → Place → Outcome
-  OutOfFuel : Outcome
-  Low : Contents → LowFault → Outcome
-  Done : Finished → Outcome
+pub data RunOutcome : Type 0 where
+  Fault : RunFault → Place → RunOutcome
+  OutOfFuel : RunOutcome
+  Low : Contents → LowFault → RunOutcome
+  Done : FinishedRun → RunOutcome
 
 -- The extents that are written: those of models that can be changed.
 abbrev pub is_written : Contents → ℕ → Bool
@@ -34,15 +34,15 @@ low_among s (e ∷ es) = or_next (low_of s e) (low_among s es)
 unfoldable pub low_in : Contents → Option LowFault
 low_in s = low_among s (written_extents s)
 
-abbrev pub unless_low : Option LowFault → Finished → Outcome
+abbrev pub unless_low : Option LowFault → FinishedRun → RunOutcome
 unless_low (Some fault) f = Low f.after fault
 unless_low None f = Done f
 
-abbrev pub outcome_of : Result Finished End → Outcome
+abbrev pub outcome_of : Result FinishedRun End → RunOutcome
 outcome_of (Err (run.Fault k at)) = Fault k at
 outcome_of (Err run.OutOfFuel) = OutOfFuel
 outcome_of (Ok f) = unless_low (low_in f.after) f
 
 -- the meaning of a program
-unfoldable pub meaning : ProgramTerm → Contents → ℕ → Outcome
+unfoldable pub meaning : ProgramTerm → Contents → ℕ → RunOutcome
 meaning p store fuel = outcome_of (finished p store fuel)

@@ -25,7 +25,7 @@ use Rattle.qvt_run_data.specs.declared.record.Record.{Record}
 use Rattle.qvt_run_data.specs.declared.request.Request.{Request}
 use Rattle.qvt_run_rules.specs.Trace.{candidates}
 use Rattle.qvt_meaning.specs.Program.{signature_of, mapping_unit}
-use Rattle.qvt_meaning.specs.Run.{Finish, Entry, Finished, late_value}
+use Rattle.qvt_meaning.specs.Run.{Finish, AnsweredWrite, FinishedRun, late_value}
 
 abbrev pub with_colons : List ℕ → List ℕ → List ℕ
 with_colons a b = a ++ (codes "::" ++ b)
@@ -121,7 +121,7 @@ module _ (s : Contents) (ids : List (Option (List ℕ))) where
     op_name op.Put = codes ":="
     op_name op.Add = codes "+="
 
-    unfoldable pub entry_data : Finish → Entry → Data
+    unfoldable pub entry_data : Finish → AnsweredWrite → Data
     entry_data f e = object (
         member (codes "candidates") (objects_data (candidates f.trace f.store e.write.request))
         (member (codes "condition") (boolean (is_some e.write.condition))
@@ -134,11 +134,11 @@ module _ (s : Contents) (ids : List (Option (List ℕ))) where
         (member (codes "type") (string (class_path s.metas e.write.request.class.0))
         (member (codes "values") (objects_data (late_value e).values) no_members))))))))))
 
-    abbrev pub trace_data : Finish → List Entry → Data
+    abbrev pub trace_data : Finish → List AnsweredWrite → Data
     trace_data f es = object (
         member (codes "late") (array (items_of (map (entry_data f) es)))
         (member (codes "records") (array (items_of (map record_data f.trace))) no_members))
 
 -- the text of the trace file
-unfoldable pub trace_text : ProgramTerm → List (Option (List ℕ)) → Finished → List ℕ
+unfoldable pub trace_text : ProgramTerm → List (Option (List ℕ)) → FinishedRun → List ℕ
 trace_text p ids f = file_text (trace_data f.after ids p f.finish f.entries)

@@ -4,7 +4,7 @@ use Rattle.std.specs.Map.{lookup}
 use Rattle.std.specs.Str.{bytes_eq}
 use Rattle.qvt_metamodel.specs.declared.declared.DeclaredClass.{DeclaredClass}
 use Rattle.qvt_metamodel.specs.declared.begin.Begin.{Begin}
-use Rattle.qvt_meta.specs.declared.adding.Places.{Places}
+use Rattle.qvt_meta.specs.declared.adding.NamePlaces.{NamePlaces}
 use Rattle.qvt_metamodel.specs.Added.{names_of, feature_count, declared_at}
 
 -- how many features stand before those of each of these classes, and before the end, where n stand before the first
@@ -17,7 +17,7 @@ pub record AreOwnNames (ks : List DeclaredClass) (tables : List (List (List ℕ 
   pub each : length tables ≡ length ks
   pub at : (c : ℕ) → c < length ks → (name : List ℕ) → lookup (bytes_eq name) (slice_index_or tables c []) ≡ position (λ f. bytes_eq name f.name) (declared_at ks c).features
 
-pub record ArePlaces (b : Begin) (p : Places) (ks : List DeclaredClass) : Type 0 where
+pub record ArePlaces (b : Begin) (p : NamePlaces) (ks : List DeclaredClass) : Type 0 where
   pub names : p.classes ≡ names_of ks
   pub firsts : p.firsts.items ≡ firsts_of 0 ks
   pub own : AreOwnNames ks p.own

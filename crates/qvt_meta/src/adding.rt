@@ -33,7 +33,7 @@ use std::alloc::Global;
 /// Where the names of a metamodel that is added are: its enumerations, its classes, how many features
 /// stand before those of each class, and before the end, and the features of each class.
 #[derive(Drop)]
-pub struct Places {
+pub struct NamePlaces {
     pub enums: NameSet,
     pub classes: NameSet,
     pub firsts: Vec<u32>,
@@ -148,7 +148,7 @@ fn own_place(own: &Seq<NameTable>, classes: &[DeclaredClass], class: usize, name
 #[tactic(auto, using(crate::proofs::Firsts::firsts_length))]
 fn feature_number(
     begin: Begin,
-    places: &Places,
+    places: &NamePlaces,
     classes: &[DeclaredClass],
     class: usize,
     name: &Text,
@@ -164,7 +164,7 @@ fn feature_number(
 /// The number of the opposite that a feature names.
 fn opposite_of(
     begin: Begin,
-    places: &Places,
+    places: &NamePlaces,
     classes: &[DeclaredClass],
     feature: &DeclaredFeature,
 ) -> Option<FeatureNo>
@@ -184,7 +184,7 @@ fn opposite_of(
 fn feature_info(
     alloc: Global,
     begin: Begin,
-    places: &Places,
+    places: &NamePlaces,
     classes: &[DeclaredClass],
     owner: u32,
     feature: &DeclaredFeature,
@@ -211,7 +211,7 @@ fn feature_info(
 fn add_features(
     alloc: Global,
     begin: Begin,
-    places: &Places,
+    places: &NamePlaces,
     classes: &[DeclaredClass],
     owner: u32,
     infos: &mut Seq<FeatureInfo>,
@@ -230,7 +230,7 @@ fn add_features(
 pub fn feature_infos(
     alloc: Global,
     begin: Begin,
-    places: &Places,
+    places: &NamePlaces,
     classes: &[DeclaredClass],
 ) -> Result<Vec<FeatureInfo>, ListFault>
     requires { ArePlaces begin places.now classes.now }
@@ -273,7 +273,7 @@ pub fn places_of(
     alloc: Global,
     enums: &[EnumInfo],
     classes: &[DeclaredClass],
-) -> Result<Places, ListFault>
+) -> Result<NamePlaces, ListFault>
     requires enums { repeated [] (map (λ e. e.name) enums.now) ≡ None }
     requires classes { repeated [] (names_of classes.now) ≡ None }
     requires few { feature_count classes.now < 2 ^ 32 }
@@ -282,7 +282,7 @@ pub fn places_of(
     ensures firsts { IfOk result (λ p. p.firsts.items ≡ firsts_of 0 classes.now) }
     ensures own { IfOk result (λ p. AreOwnNames classes.now p.own) }
 {
-    Ok(Places {
+    Ok(NamePlaces {
         enums: distinct_names(alloc, enums)?,
         classes: distinct_names(alloc, classes)?,
         firsts: firsts(alloc, classes)?,

@@ -1,5 +1,5 @@
 ghost use Rattle.std.specs.Prelude.{◌≡◌, ◌≢◌, ◌<◌, ◌^◌, [], None, Some, length, IfOk, IfErr, OnOk, IsTrue, option_map};
-ghost use Rattle.qvt_json.specs.Steps.{Gives};
+ghost use Rattle.qvt_json.specs.Steps.{GivesStated};
 ghost use Rattle.qvt_metamodel.specs.Added.{declared_at, first_begin, names_of, class_infos};
 ghost use Rattle.qvt_metamodel.specs.Checked.{Passes};
 ghost use Rattle.qvt_metamodel.specs.Checks.{same_name, unknown_type, inheritance_cycle};
@@ -96,7 +96,7 @@ fn features_checked(
     requires cycle { inheritance_cycle meta ≡ None }
     requires numbers { AreNumbers meta numbers }
     requires tables { AreTables (of_classes numbers.classes.items) (all_lists tables.lists) tables.rows.items tables.ranks.items }
-    ensures { Gives MetaFault.NoMemory (λ read. read) result (features_checked meta) }
+    ensures { GivesStated MetaFault.NoMemory (λ read. read) result (features_checked meta) }
 {
     if let Some((class, feature)) = bad_bounds(alloc, &meta)? {
         return Err(MetaFault::BadBounds(class, feature));
@@ -117,7 +117,7 @@ fn classes_checked(alloc: Global, meta: MetaData, names: &NameSet) -> Result<Met
     requires names { names.now ≡ class_names meta }
     requires same_name { same_name meta ≡ None }
     requires unknown_type { unknown_type meta ≡ None }
-    ensures { Gives MetaFault.NoMemory (λ read. read) result (classes_checked meta) }
+    ensures { GivesStated MetaFault.NoMemory (λ read. read) result (classes_checked meta) }
 {
     let numbers = numbers_of(alloc, &meta)?;
     let count = numbers.classes.len() as u32;
@@ -133,7 +133,7 @@ fn classes_checked(alloc: Global, meta: MetaData, names: &NameSet) -> Result<Met
 fn types_checked(alloc: Global, meta: MetaData) -> Result<Meta, MetaFault>
     requires named { meta.name ≢ [] }
     requires same_name { same_name meta ≡ None }
-    ensures { Gives MetaFault.NoMemory (λ read. read) result (types_checked meta) }
+    ensures { GivesStated MetaFault.NoMemory (λ read. read) result (types_checked meta) }
 {
     let names = names_of(alloc, meta.classes.as_slice())?;
     let types = type_names(alloc, &meta)?;
@@ -147,7 +147,7 @@ fn types_checked(alloc: Global, meta: MetaData) -> Result<Meta, MetaFault>
 #[tactic(auto, unfolding(crate::specs::MetaOf::checked))]
 fn checked(alloc: Global, meta: MetaData) -> Result<Meta, MetaFault>
     requires { meta.name ≢ [] }
-    ensures { Gives MetaFault.NoMemory (λ read. read) result (checked meta) }
+    ensures { GivesStated MetaFault.NoMemory (λ read. read) result (checked meta) }
 {
     if let Some(name) = same_name(alloc, &meta)? {
         return Err(MetaFault::SameName(name));
@@ -159,7 +159,7 @@ fn checked(alloc: Global, meta: MetaData) -> Result<Meta, MetaFault>
 /// the form of a metamodel, or the first check that fails (EMOF 12.5).
 #[tactic(auto, unfolding(crate::specs::MetaOf::meta_of))]
 pub fn read_meta(alloc: Global, bytes: &[u8]) -> Result<Meta, MetaFault>
-    ensures { Gives MetaFault.NoMemory (λ read. read) result (meta_of bytes.now) }
+    ensures { GivesStated MetaFault.NoMemory (λ read. read) result (meta_of bytes.now) }
 {
     let Some(value) = read_value(alloc, bytes)? else {
         return Err(MetaFault::Json);

@@ -12,9 +12,9 @@ use Rattle.qvt_metamodel.specs.Added.{declared_at, nothing_declared}
 use Rattle.qvt_metamodel.proofs.Bools.{not_true, clash}
 use Rattle.qvt_metamodel.proofs.Halves.{Half, old, new, half, old-at, new-at}
 use Rattle.qvt_metamodel.proofs.Lists.{list_any-cong, list_any-none, all-every}
-use Rattle.qvt_meta_checks.specs.declared.ends.End.{End}
+use Rattle.qvt_meta_checks.specs.declared.ends.OppositeEnd.{OppositeEnd}
 use Rattle.qvt_meta_checks.specs.declared.ends.Ends.{Ends}
-use Rattle.qvt_meta_checks.specs.Ends.{same_end, is_end, Joined, AreEnds, AreEndsOf, AreAllEnds, no_ends, may_not_be_contained}
+use Rattle.qvt_meta_checks.specs.Ends.{same_end, is_end, JoinedEnd, AreEnds, AreEndsOf, AreAllEnds, no_ends, may_not_be_contained}
 
 or_or : (a b c : Bool) → ((a || b) || c) ≡ (a || (b || c))
 or_or true b c = refl
@@ -36,11 +36,11 @@ flip x y = by (bytes_eq x y) refl
     by false e = e ∙ sym (not_true (bytes_eq y x) (λ h. clash ((bytes_eq-Decides x y).1 (sym ((bytes_eq-Decides y x).0 h))) e))
 
 -- one end more
-same_flip : (a b : End) → same_end a b ≡ same_end b a
+same_flip : (a b : OppositeEnd) → same_end a b ≡ same_end b a
 same_flip a b = λ i. flip a.name b.name i && (flip a.kind b.kind i && flip a.opposite b.opposite i)
 
-pub end_joined : (had has : List End) (k : End) → ((q : End) → list_any (same_end q) has ≡ cond (same_end k q) true (list_any (same_end q) had))
-    → (e : End) → list_any (same_end e) has ≡ (list_any (same_end e) had || same_end e k)
+pub end_joined : (had has : List OppositeEnd) (k : OppositeEnd) → ((q : OppositeEnd) → list_any (same_end q) has ≡ cond (same_end k q) true (list_any (same_end q) had))
+    → (e : OppositeEnd) → list_any (same_end e) has ≡ (list_any (same_end e) had || same_end e k)
 end_joined had has k is e = is e ∙ ap (λ t. cond t true (list_any (same_end e) had)) (same_flip k e) ∙ by (same_end e k) (list_any (same_end e) had)
   where
     by : (t a : Bool) → cond t true a ≡ (a || t)
@@ -49,13 +49,13 @@ end_joined had has k is e = is e ∙ ap (λ t. cond t true (list_any (same_end e
     by false true = refl
     by false false = refl
 
-pub one_joined : (had has : List End) (g : DeclaredFeature) (k : End) → k.name ≡ g.name → k.kind ≡ g.kind → g.opposite ≡ Some k.opposite
-    → ((e : End) → list_any (same_end e) has ≡ (list_any (same_end e) had || same_end e k)) → Joined false had g has
+pub one_joined : (had has : List OppositeEnd) (g : DeclaredFeature) (k : OppositeEnd) → k.name ≡ g.name → k.kind ≡ g.kind → g.opposite ≡ Some k.opposite
+    → ((e : OppositeEnd) → list_any (same_end e) has ≡ (list_any (same_end e) had || same_end e k)) → JoinedEnd false had g has
 one_joined had has g k en ek eo is = record {
   holds = λ e. is e ∙ (λ i. list_any (same_end e) had || (bytes_eq e.name (en i) && (bytes_eq e.kind (ek i) && is_name (sym eo i) e.opposite)));
 }
 
-pub none_joined : (only : Bool) (had : List End) (g : DeclaredFeature) → g.opposite ≡ None → Joined only had g had
+pub none_joined : (only : Bool) (had : List OppositeEnd) (g : DeclaredFeature) → g.opposite ≡ None → JoinedEnd only had g had
 none_joined only had g e = record {
   holds = λ x. none only (list_any (same_end x) had) (bytes_eq x.name g.name) (bytes_eq x.kind g.kind) g.containment
       ∙ ap (λ o. list_any (same_end x) had || ((not only || g.containment) && (bytes_eq x.name g.name && (bytes_eq x.kind g.kind && is_name o x.opposite)))) (sym e);
@@ -75,7 +75,7 @@ none_joined only had g e = record {
     none false false false c d = refl
 
 -- a feature that does not count, and one that does
-pub uncounted : (only : Bool) (had : List End) (g : DeclaredFeature) → (only && not g.containment) ≡ true → Joined only had g had
+pub uncounted : (only : Bool) (had : List OppositeEnd) (g : DeclaredFeature) → (only && not g.containment) ≡ true → JoinedEnd only had g had
 uncounted only had g h = record { holds = λ e. by only g.containment (is_end e g) (list_any (same_end e) had) h }
   where
     by : (o c i a : Bool) → (o && not c) ≡ true → a ≡ (a || ((not o || c) && i))
@@ -84,7 +84,7 @@ uncounted only had g h = record { holds = λ e. by only g.containment (is_end e 
     by true false i true h = refl
     by true false i false h = refl
 
-pub counted : (only : Bool) (had has : List End) (g : DeclaredFeature) → (only && not g.containment) ≡ false → Joined false had g has → Joined only had g has
+pub counted : (only : Bool) (had has : List OppositeEnd) (g : DeclaredFeature) → (only && not g.containment) ≡ false → JoinedEnd false had g has → JoinedEnd only had g has
 counted only had has g h is = record { holds = λ e. is.holds e ∙ ap (λ t. list_any (same_end e) had || t) (by only g.containment (is_end e g) h) }
   where
     by : (o c i : Bool) → (o && not c) ≡ false → ((not false || c) && i) ≡ ((not o || c) && i)
@@ -93,13 +93,13 @@ counted only had has g h is = record { holds = λ e. is.holds e ∙ ap (λ t. li
     by false c i h = refl
 
 -- the ends of the class at a place
-pub declared_there : (ks : List DeclaredClass) (ends : List Ends) (c : ℕ) (e : End) → AreAllEnds ks ends → list_any (same_end e) (get_or ends c no_ends).all ≡ list_any (is_end e) (declared_at ks c).features
+pub declared_there : (ks : List DeclaredClass) (ends : List Ends) (c : ℕ) (e : OppositeEnd) → AreAllEnds ks ends → list_any (same_end e) (get_or ends c no_ends).all ≡ list_any (is_end e) (declared_at ks c).features
 declared_there ks ends c e are = (are.at c).all e
 
 pub same_ends : (ks ls : List DeclaredClass) (es fs : List Ends) → ls ≡ ks → fs ≡ es → AreAllEnds ls es → AreAllEnds ks fs
 same_ends ks ls es fs ek ef are = subst (λ (xs : List DeclaredClass). AreAllEnds xs fs) ek (subst (AreAllEnds ls) (sym ef) are)
 
-pub contained_there : (ks : List DeclaredClass) (ends : List Ends) (c : ℕ) (e : End) → AreAllEnds ks ends
+pub contained_there : (ks : List DeclaredClass) (ends : List Ends) (c : ℕ) (e : OppositeEnd) → AreAllEnds ks ends
     → list_any (same_end e) (get_or ends c no_ends).containers ≡ list_any (λ g. g.containment && is_end e g) (declared_at ks c).features
 contained_there ks ends c e are = (are.at c).containers e
 
@@ -120,7 +120,7 @@ ended p gs k a l h = sym (or_false a) ∙ ap (λ fs. a || list_any p fs) (sym (n
     none_left (g ∷ gs) zero l = absurd (omega (arith, l))
     none_left (g ∷ gs) (suc k) l = none_left gs k (omega (arith, l))
 
-pub both_ends : (gs fs : List DeclaredFeature) (all containers : List End) → fs ≡ gs → AreEnds false fs all → AreEnds true fs containers → AreEndsOf gs (record { all = all; containers = containers })
+pub both_ends : (gs fs : List DeclaredFeature) (all containers : List OppositeEnd) → fs ≡ gs → AreEnds false fs all → AreEnds true fs containers → AreEndsOf gs (record { all = all; containers = containers })
 both_ends gs fs all containers e x y = record {
   all = λ n. x.holds n ∙ ap (list_any (is_end n)) e;
   containers = λ n. y.holds n ∙ ap (list_any (λ (g : DeclaredFeature). g.containment && is_end n g)) e;
@@ -154,7 +154,7 @@ all_of ks k es l total before = record { at = λ c. by c (half k c) }
         (subst (AreEndsOf []) (sym (get_or_past es (k + i) no_ends (omega (arith, total)))) (record { all = λ e. refl; containers = λ e. refl }))
 
 -- what the test asks of the features of the type, as a question to the sets
-abbrev pub wanted : DeclaredClass → DeclaredFeature → List ℕ → End
+abbrev pub wanted : DeclaredClass → DeclaredFeature → List ℕ → OppositeEnd
 wanted k f name = record { name = name; kind = k.name; opposite = f.name }
 
 mutual_is : (k : DeclaredClass) (f : DeclaredFeature) (name : List ℕ) → f.opposite ≡ Some name → (g : DeclaredFeature) → is_end (wanted k f name) g ≡ is_mutual k f g

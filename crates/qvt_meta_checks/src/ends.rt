@@ -14,15 +14,15 @@ use std::marker::Model;
 
 /// An end of a pair of opposites: its name, the name of its type, and the name of the other end.
 #[derive(PartialEq, Eq, Hash)]
-pub struct End {
+pub struct OppositeEnd {
     pub name: Text,
     pub kind: Text,
     pub opposite: Text,
 }
 
-impl Drop for End {
+impl Drop for OppositeEnd {
     fn drop(self) {
-        let End {
+        let OppositeEnd {
             name,
             kind,
             opposite,
@@ -32,7 +32,7 @@ impl Drop for End {
 
 /// Ends, looked up by hash.
 pub struct EndSet {
-    ends: IndexSet<End>,
+    ends: IndexSet<OppositeEnd>,
 }
 
 impl Drop for EndSet {
@@ -43,16 +43,16 @@ impl Drop for EndSet {
 
 impl Model for EndSet {
     ghost use Rattle.std.specs.Prelude.{List};
-    ghost use Rattle.qvt_meta_checks.specs.declared.ends.End.{End};
+    ghost use Rattle.qvt_meta_checks.specs.declared.ends.OppositeEnd.{OppositeEnd};
 
-    ghost Value = { List End };
+    ghost Value = { List OppositeEnd };
 
     ghost view = { λ s. s.ends.keys };
 }
 
 impl EndSet {
-    ghost use Rattle.qvt_meta_checks.specs.declared.ends.End.{End};
-    ghost use Rattle.qvt_meta_checks.specs.Ends.{same_end, is_end, Joined, AreEnds};
+    ghost use Rattle.qvt_meta_checks.specs.declared.ends.OppositeEnd.{OppositeEnd};
+    ghost use Rattle.qvt_meta_checks.specs.Ends.{same_end, is_end, JoinedEnd, AreEnds};
 
     /// None yet. It takes no memory.
     fn new(alloc: Global) -> EndSet
@@ -64,14 +64,14 @@ impl EndSet {
     }
 
     /// Whether the end is one of these.
-    pub fn holds(&self, end: &End) -> bool
+    pub fn holds(&self, end: &OppositeEnd) -> bool
         ensures { result ≡ list_any (same_end end.now) self.now }
     {
         self.ends.contains(end)
     }
 
-    fn add(&mut self, end: End) -> Result<(), ListFault>
-        ensures { OnOk result ((e : End) → list_any (same_end e) self.new ≡ (list_any (same_end e) self.old || same_end e end)) }
+    fn add(&mut self, end: OppositeEnd) -> Result<(), ListFault>
+        ensures { OnOk result ((e : OppositeEnd) → list_any (same_end e) self.new ≡ (list_any (same_end e) self.old || same_end e end)) }
     {
         let Ok(_) = self.ends.insert(end) else {
             return Err(ListFault::NoMemory);
@@ -82,11 +82,11 @@ impl EndSet {
     /// Puts the end there that the feature is.
     #[tactic(auto, using(crate::proofs::Paired::none_joined, crate::proofs::Paired::one_joined))]
     fn add_feature(&mut self, alloc: Global, feature: &DeclaredFeature) -> Result<(), ListFault>
-        ensures { OnOk result (Joined false self.old feature.now self.new) }
+        ensures { OnOk result (JoinedEnd false self.old feature.now self.new) }
     {
         match &feature.opposite {
             None => Ok(()),
-            Some(opposite) => self.add(End {
+            Some(opposite) => self.add(OppositeEnd {
                 name: feature.name.copy(alloc)?,
                 kind: feature.kind.copy(alloc)?,
                 opposite: opposite.copy(alloc)?,
@@ -104,7 +104,7 @@ impl EndSet {
         only: bool,
         feature: &DeclaredFeature,
     ) -> Result<(), ListFault>
-        ensures { OnOk result (Joined only self.old feature.now self.new) }
+        ensures { OnOk result (JoinedEnd only self.old feature.now self.new) }
     {
         if only && !feature.containment {
             return Ok(());

@@ -13,14 +13,14 @@ use qvt_metamodel::info::EnumInfo;
 use std::alloc::Global;
 
 /// What has a name.
-pub trait Named {
+pub trait WithName {
     ghost name_of: { Self → List ℕ };
 
     fn name(&self) -> &Text
         ensures { result.now ≡ name_of self.now };
 }
 
-impl Named for Text {
+impl WithName for Text {
     ghost name_of = { λ t. t };
 
     fn name(&self) -> &Text {
@@ -28,7 +28,7 @@ impl Named for Text {
     }
 }
 
-impl Named for DeclaredClass {
+impl WithName for DeclaredClass {
     ghost name_of = { λ c. c.name };
 
     fn name(&self) -> &Text {
@@ -36,7 +36,7 @@ impl Named for DeclaredClass {
     }
 }
 
-impl Named for DeclaredFeature {
+impl WithName for DeclaredFeature {
     ghost name_of = { λ f. f.name };
 
     fn name(&self) -> &Text {
@@ -56,7 +56,7 @@ pub fn primitive_names(alloc: Global) -> Result<NameSet, ListFault>
 }
 
 /// The first of the names that is taken, or stands before.
-pub fn repeated<T: Named>(
+pub fn repeated<T: WithName>(
     alloc: Global,
     mut taken: NameSet,
     items: &[T],
@@ -73,7 +73,7 @@ pub fn repeated<T: Named>(
     Ok(None)
 }
 
-impl Named for EnumInfo {
+impl WithName for EnumInfo {
     ghost name_of = { λ e. e.name };
 
     fn name(&self) -> &Text {
@@ -82,7 +82,7 @@ impl Named for EnumInfo {
 }
 
 /// These names, and then those of the items, none of which is taken or stands twice.
-pub fn names_with<T: Named>(
+pub fn names_with<T: WithName>(
     alloc: Global,
     mut names: NameSet,
     items: &[T],
@@ -107,7 +107,7 @@ pub fn type_names(alloc: Global, meta: &MetaData) -> Result<NameSet, ListFault>
 }
 
 /// The names of these, no two of which are the same.
-pub fn names_of<T: Named>(alloc: Global, items: &[T]) -> Result<NameSet, ListFault>
+pub fn names_of<T: WithName>(alloc: Global, items: &[T]) -> Result<NameSet, ListFault>
     requires { repeated [] (map T.name_of items.now) ≡ None }
     ensures { IfOk result (λ names. names ≡ map T.name_of items.now) }
 {

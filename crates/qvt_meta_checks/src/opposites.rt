@@ -9,7 +9,7 @@ ghost use Rattle.qvt_metamodel.specs.Checks.{is_name, is_one_at_most, is_mutual,
 ghost use Rattle.qvt_meta_checks.specs.Ends.{is_end, same_end, no_ends, may_not_be_contained, AreAllEnds};
 
 use crate::checks::{FeatureTest, first_fault};
-use crate::ends::{End, Ends, all_ends};
+use crate::ends::{Ends, OppositeEnd, all_ends};
 use crate::name_set::NameSet;
 use crate::names::place_in;
 use qvt_base::copied::Copied;
@@ -50,7 +50,7 @@ struct OppositeTest<'a> {
 impl<'a> OppositeTest<'a> {
     /// Whether the class that is the feature's type declares this end.
     #[tactic(auto, using(crate::proofs::Paired::declared_there))]
-    fn is_declared(&self, feature: &DeclaredFeature, end: &End) -> bool
+    fn is_declared(&self, feature: &DeclaredFeature, end: &OppositeEnd) -> bool
         ensures { result ≡ list_any (is_end end.now) (type_features self.now.meta.now feature.now) }
     {
         let place = place_in(self.classes, &feature.kind);
@@ -59,7 +59,7 @@ impl<'a> OppositeTest<'a> {
 
     /// Whether it declares it as a containment, and the feature may not be contained by it.
     #[tactic(auto, using(crate::proofs::Paired::contained_there))]
-    fn is_contained(&self, feature: &DeclaredFeature, end: &End) -> bool
+    fn is_contained(&self, feature: &DeclaredFeature, end: &OppositeEnd) -> bool
         ensures { result ≡ (may_not_be_contained feature.now && list_any (λ g. g.containment && is_end end.now g) (type_features self.now.meta.now feature.now)) }
     {
         let place = place_in(self.classes, &feature.kind);
@@ -85,7 +85,7 @@ impl<'a> OppositeTest<'a> {
         requires { feature.now.opposite ≡ Some opposite.now }
         ensures { IfOk result (λ b. b ≡ (is_undeclared self.now.meta.now class.now feature.now || is_own_opposite class.now feature.now || are_both_containments self.now.meta.now class.now feature.now || has_many_containers self.now.meta.now class.now feature.now)) }
     {
-        let end = End {
+        let end = OppositeEnd {
             name: opposite.copy(alloc)?,
             kind: class.name.copy(alloc)?,
             opposite: feature.name.copy(alloc)?,
@@ -98,7 +98,7 @@ impl<'a> OppositeTest<'a> {
 }
 
 /// Whether the class at a place declares the end.
-fn holds_at(ends: &[Ends], place: usize, end: &End) -> bool
+fn holds_at(ends: &[Ends], place: usize, end: &OppositeEnd) -> bool
     ensures { result ≡ list_any (same_end end.now) (slice_index_or ends.now place no_ends).all }
 {
     if place < ends.len() {
@@ -109,7 +109,7 @@ fn holds_at(ends: &[Ends], place: usize, end: &End) -> bool
 }
 
 /// Whether it declares it as a containment.
-fn contains_at(ends: &[Ends], place: usize, end: &End) -> bool
+fn contains_at(ends: &[Ends], place: usize, end: &OppositeEnd) -> bool
     ensures { result ≡ list_any (same_end end.now) (slice_index_or ends.now place no_ends).containers }
 {
     if place < ends.len() {

@@ -9,7 +9,7 @@ use Rattle.std.proofs.lemmas.List.Elements.{All-head, All-tail, All-weaker, All-
 use Rattle.std.proofs.lemmas.Option.{slice_get_within, get_or_from_slice_get}
 use Rattle.qvt_base.specs.declared.numbers.FeatureNo.{FeatureNo}
 use Rattle.qvt_meta_lists.specs.declared.front.Front.{Front}
-use Rattle.qvt_meta_lists.specs.Lists.{front_of, HasFront, BeginsWith, AreLined, AreMapped, IsFront}
+use Rattle.qvt_meta_lists.specs.Lists.{front_of, HasFront, BeginsWith, AreLined, AreMapped, IsLineFront}
 
 abbrev pub Lines : Type 0
 Lines = List (List FeatureNo)
@@ -51,30 +51,30 @@ grows_longer lines at own = record {
     here l h e = ap (λ k. line_at (set lines at (line_at lines at ++ own)) k) e ∙ get_or-set_same lines at (line_at lines at ++ own) [] (omega (arith, h, e))
 
 module _ (lines more : Lines) (g : Grows lines more) where
-  pub front_stays : (f : Front) → IsFront lines f → IsFront more f
+  pub front_stays : (f : Front) → IsLineFront lines f → IsLineFront more f
   front_stays f k =
       let longer : length (line_at lines f.line) ≤ length (line_at more f.line) = g.longer f.line k.line in
       record { line = omega (arith, k.line, g.count); count = omega (arith, k.count, longer) }
 
-  pub lists_stay : (fronts : List Front) → All (IsFront lines) fronts → map (front_of more) fronts ≡ map (front_of lines) fronts
+  pub lists_stay : (fronts : List Front) → All (IsLineFront lines) fronts → map (front_of more) fronts ≡ map (front_of lines) fronts
   lists_stay fronts all = same_map (front_of more) (front_of lines) fronts
-      (All-weaker (IsFront lines) (λ f. front_of more f ≡ front_of lines f) (λ f k. g.begins f.line f.count k.line k.count) fronts all)
+      (All-weaker (IsLineFront lines) (λ f. front_of more f ≡ front_of lines f) (λ f k. g.begins f.line f.count k.line k.count) fronts all)
 
-  pub fronts_stay : (fronts : List Front) → All (IsFront lines) fronts → All (IsFront more) fronts
-  fronts_stay fronts all = All-weaker (IsFront lines) (IsFront more) front_stays fronts all
+  pub fronts_stay : (fronts : List Front) → All (IsLineFront lines) fronts → All (IsLineFront more) fronts
+  fronts_stay fronts all = All-weaker (IsLineFront lines) (IsLineFront more) front_stays fronts all
 
-  put : (fronts : List Front) (place : ℕ) (f : Front) (list : List FeatureNo) → All (IsFront lines) fronts → front_of more f ≡ list
+  put : (fronts : List Front) (place : ℕ) (f : Front) (list : List FeatureNo) → All (IsLineFront lines) fronts → front_of more f ≡ list
       → map (front_of more) (set fronts place f) ≡ set (map (front_of lines) fronts) place list
   put fronts place f list all e = map-set (front_of more) fronts place f ∙ (λ i. set (lists_stay fronts all i) place (e i))
 
 -- a list that is a line of its own
-pub front_last : (lines : Lines) (list : List FeatureNo) (n k : ℕ) → n ≡ length lines → k ≡ length list → IsFront (lines ++ list ∷ []) (record { line = n; count = k })
+pub front_last : (lines : Lines) (list : List FeatureNo) (n k : ℕ) → n ≡ length lines → k ≡ length list → IsLineFront (lines ++ list ∷ []) (record { line = n; count = k })
 front_last lines list n k en ek = record {
   line = omega (arith, en, length-append lines (list ∷ []));
   count = omega (arith, ek, ap (λ x. length x) (get_or_push lines list [] n (sym en)));
 }
 
-pub put_last : (lines : Lines) (fronts : List Front) (place : ℕ) (list : List FeatureNo) (n k : ℕ) → n ≡ length lines → k ≡ length list → All (IsFront lines) fronts
+pub put_last : (lines : Lines) (fronts : List Front) (place : ℕ) (list : List FeatureNo) (n k : ℕ) → n ≡ length lines → k ≡ length list → All (IsLineFront lines) fronts
     → map (front_of (lines ++ list ∷ [])) (set fronts place (record { line = n; count = k })) ≡ set (map (front_of lines) fronts) place list
 put_last lines fronts place list n k en ek all =
     put lines (lines ++ list ∷ []) (grows_append lines (list ∷ [])) fronts place (record { line = n; count = k }) list all
@@ -82,14 +82,14 @@ put_last lines fronts place list n k en ek all =
 
 -- a list that goes on from a whole line
 pub front_longer : (lines : Lines) (l k : ℕ) (own : List FeatureNo) → l < length lines → k ≡ length (line_at lines l ++ own)
-    → IsFront (set lines l (line_at lines l ++ own)) (record { line = l; count = k })
+    → IsLineFront (set lines l (line_at lines l ++ own)) (record { line = l; count = k })
 front_longer lines l k own h ek = record {
   line = omega (arith, h, length-set lines l (line_at lines l ++ own));
   count = omega (arith, ek, ap (λ x. length x) (get_or-set_same lines l (line_at lines l ++ own) [] h));
 }
 
-pub put_longer : (lines : Lines) (fronts : List Front) (place : ℕ) (f : Front) (own : List FeatureNo) (k : ℕ) → IsFront lines f → f.count ≡ length (line_at lines f.line)
-    → k ≡ length (line_at lines f.line ++ own) → All (IsFront lines) fronts
+pub put_longer : (lines : Lines) (fronts : List Front) (place : ℕ) (f : Front) (own : List FeatureNo) (k : ℕ) → IsLineFront lines f → f.count ≡ length (line_at lines f.line)
+    → k ≡ length (line_at lines f.line ++ own) → All (IsLineFront lines) fronts
     → map (front_of (set lines f.line (line_at lines f.line ++ own))) (set fronts place (record { line = f.line; count = k })) ≡ set (map (front_of lines) fronts) place (front_of lines f ++ own)
 put_longer lines fronts place f own k is whole ek all =
     let line : List FeatureNo = line_at lines f.line in
@@ -126,7 +126,7 @@ lists_after : (lines others : Lines) (fronts : List Front) → map (front_of (li
 lists_after lines others [] = refl
 lists_after lines others (f ∷ fronts) = λ i. take f.count (get_or-append-add lines others f.line [] i) ∷ lists_after lines others fronts i
 
-pub both_lists : (lines others : Lines) (fronts more : List Front) → All (IsFront lines) fronts
+pub both_lists : (lines others : Lines) (fronts more : List Front) → All (IsLineFront lines) fronts
     → map (front_of (lines ++ others)) (fronts ++ map (after (length lines)) more) ≡ map (front_of lines) fronts ++ map (front_of others) more
 both_lists lines others fronts more all =
     map-append (front_of (lines ++ others)) fronts (map (after (length lines)) more)
@@ -138,17 +138,17 @@ lengths_at (x ∷ lines) zero = refl
 lengths_at (x ∷ lines) (suc l) = lengths_at lines l
 
 -- lines of the same lengths have the same fronts
-pub same_fronts : (lines others : Lines) → map (λ x. length x) lines ≡ map (λ x. length x) others → (fronts : List Front) → All (IsFront others) fronts → All (IsFront lines) fronts
-same_fronts lines others e fronts all = All-weaker (IsFront others) (IsFront lines) (λ f k. record {
+pub same_fronts : (lines others : Lines) → map (λ x. length x) lines ≡ map (λ x. length x) others → (fronts : List Front) → All (IsLineFront others) fronts → All (IsLineFront lines) fronts
+same_fronts lines others e fronts all = All-weaker (IsLineFront others) (IsLineFront lines) (λ f k. record {
   line = omega (arith, k.line, ap (λ x. length x) e, length-map lines (λ x. length x), length-map others (λ x. length x));
   count = omega (arith, k.count, ap (λ x. get_or x f.line 0) e, lengths_at lines f.line, lengths_at others f.line);
 }) fronts all
 
-pub both_fronts : (lines others : Lines) (fronts more : List Front) → All (IsFront lines) fronts → All (IsFront others) more → All (IsFront (lines ++ others)) (fronts ++ map (after (length lines)) more)
+pub both_fronts : (lines others : Lines) (fronts more : List Front) → All (IsLineFront lines) fronts → All (IsLineFront others) more → All (IsLineFront (lines ++ others)) (fronts ++ map (after (length lines)) more)
 both_fronts lines others fronts more all too =
-    All-append (IsFront (lines ++ others)) fronts (map (after (length lines)) more) (fronts_stay lines (lines ++ others) (grows_append lines others) fronts all)
-    (All-map (IsFront (lines ++ others)) (after (length lines)) more
-    (All-weaker (IsFront others) (λ f. IsFront (lines ++ others) (after (length lines) f)) (λ f k. record {
+    All-append (IsLineFront (lines ++ others)) fronts (map (after (length lines)) more) (fronts_stay lines (lines ++ others) (grows_append lines others) fronts all)
+    (All-map (IsLineFront (lines ++ others)) (after (length lines)) more
+    (All-weaker (IsLineFront others) (λ f. IsLineFront (lines ++ others) (after (length lines) f)) (λ f k. record {
       line = omega (arith, k.line, length-append lines others);
       count = omega (arith, k.count, ap (λ x. length x) (get_or-append-add lines others f.line []));
     }) more too))
@@ -176,7 +176,7 @@ module _ (lines more : Lines) (g : Grows lines more) where
 
 -- the lines grow, and as many are told of
 pub lined_longer : (lines : Lines) (begins : Begins) (fronts next : List Front) (l : ℕ) (own : List FeatureNo) → AreLined lines begins fronts
-    → All (IsFront (set lines l (line_at lines l ++ own))) next → AreLined (set lines l (line_at lines l ++ own)) begins next
+    → All (IsLineFront (set lines l (line_at lines l ++ own))) next → AreLined (set lines l (line_at lines l ++ own)) begins next
 lined_longer lines begins fronts next l own k all = record {
   within = all;
   each = k.each ∙ sym (length-set lines l (line_at lines l ++ own));
@@ -185,7 +185,7 @@ lined_longer lines begins fronts next l own k all = record {
 
 -- a line more
 pub lined_more : (lines : Lines) (begins : Begins) (fronts next : List Front) (list : List FeatureNo) (b : Option Front) → AreLined lines begins fronts
-    → ((f : Front) → b ≡ Some f → IsFront lines f × HasFront list f (front_of lines f)) → All (IsFront (lines ++ list ∷ [])) next → AreLined (lines ++ list ∷ []) (begins ++ b ∷ []) next
+    → ((f : Front) → b ≡ Some f → IsLineFront lines f × HasFront list f (front_of lines f)) → All (IsLineFront (lines ++ list ∷ [])) next → AreLined (lines ++ list ∷ []) (begins ++ b ∷ []) next
 lined_more lines begins fronts next list b k new all = record {
   within = all;
   each = length-append begins (b ∷ []) ∙ ap (λ n. n + 1) k.each ∙ sym (length-append lines (list ∷ []));
@@ -224,7 +224,7 @@ lined_as_before lines begins fronts b n k last =
     subst (λ (bs : Begins). AreLined lines bs fronts) (sym (take-append-le n begins (b ∷ []) (omega (arith, last, k.each)) ∙ take_all n begins (omega (arith, last, k.each)))) k
 
 -- a list that goes on from a front
-pub followed_has : (lines : Lines) (f : Front) (own list : List FeatureNo) → IsFront lines f → list ≡ front_of lines f ++ own → HasFront list f (front_of lines f)
+pub followed_has : (lines : Lines) (f : Front) (own list : List FeatureNo) → IsLineFront lines f → list ≡ front_of lines f ++ own → HasFront list f (front_of lines f)
 followed_has lines f own list is e = record {
   within = omega (arith, ap (λ x. length x) e, length-append (front_of lines f) own, long);
   same = ap (take f.count) e ∙ take-append-le f.count (front_of lines f) own (omega (arith, long)) ∙ take_all f.count (front_of lines f) (omega (arith, long));

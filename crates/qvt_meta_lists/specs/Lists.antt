@@ -16,7 +16,7 @@ abbrev pub all_lists : Lists → List (List FeatureNo)
 all_lists ls = map (front_of ls.lines) ls.fronts
 
 -- the line is there, and has as many
-pub record IsFront (lines : List (List FeatureNo)) (f : Front) : Type 0 where
+pub record IsLineFront (lines : List (List FeatureNo)) (f : Front) : Type 0 where
   pub line : f.line < length lines
   pub count : f.count ≤ length (slice_index_or lines f.line [])
 
@@ -28,12 +28,12 @@ pub record HasFront (list : List FeatureNo) (f : Front) (first : List FeatureNo)
 -- a line begins with a front of a line before it
 pub record BeginsWith (lines : List (List FeatureNo)) (l : ℕ) (f : Front) : Type 0 where
   pub before : f.line < l
-  pub front : IsFront lines f
+  pub front : IsLineFront lines f
   pub has : HasFront (slice_index_or lines l []) f (front_of lines f)
 
 -- the lists are fronts of the lines, and of each line is told what it begins with, or nothing
 pub record AreLined (lines : List (List FeatureNo)) (begins : List (Option Front)) (fronts : List Front) : Type 0 where
-  pub within : All (IsFront lines) fronts
+  pub within : All (IsLineFront lines) fronts
   pub each : length begins ≡ length lines
   pub begun : (l : ℕ) (f : Front) → slice_index_or begins l None ≡ Some f → BeginsWith lines l f
 

@@ -2,7 +2,7 @@
 
 ghost use Rattle.std.specs.Prelude.{◌≡◌, ◌<◌, ◌+◌, ◌^◌, ◌∷◌, ◌++◌, [], length, map, option_map, replicate, slice_get, slice_index_or, slice_set, IfOk, IfSome, None, OnErr, OnOk};
 ghost use Rattle.std.specs.List.{All};
-ghost use Rattle.qvt_meta_lists.specs.Lists.{all_lists, front_of, AreMapped, BeginsWith, HasFront, IsFront};
+ghost use Rattle.qvt_meta_lists.specs.Lists.{all_lists, front_of, AreMapped, BeginsWith, HasFront, IsLineFront};
 
 use crate::front::Front;
 use qvt_base::copied::Copied;
@@ -187,7 +187,7 @@ impl FeatureLists {
     /// The line of a list, and how many of it the list has.
     pub fn front(&self, class: usize) -> Option<Front>
         ensures value { result ≡ slice_get self.now.fronts class }
-        ensures within { IfSome result (λ f. IsFront self.now.lines f) }
+        ensures within { IfSome result (λ f. IsLineFront self.now.lines f) }
     {
         if class < self.fronts.len() {
             Some(self.fronts.as_slice()[class])
@@ -227,7 +227,7 @@ impl FeatureLists {
         list: FeatureNoList,
         begin: Option<Front>,
     ) -> Result<(), ListFault>
-        requires { IfSome begin (λ f. IsFront self.old.lines f × HasFront list f (front_of self.old.lines f)) }
+        requires { IfSome begin (λ f. IsLineFront self.old.lines f × HasFront list f (front_of self.old.lines f)) }
         ensures { OnOk result (all_lists self.new ≡ slice_set (all_lists self.old) class list) }
     {
         let front = Front {
@@ -257,7 +257,7 @@ impl FeatureLists {
         front: Front,
         features: &[FeatureNo],
     ) -> Result<(), ListFault>
-        requires front { IsFront self.old.lines front }
+        requires front { IsLineFront self.old.lines front }
         requires whole { front.count ≡ length (slice_index_or self.old.lines front.line []) }
         ensures { OnOk result (all_lists self.new ≡ slice_set (all_lists self.old) class (front_of self.old.lines front ++ features.now)) }
     {

@@ -15,9 +15,9 @@ use serde_json::Value;
 use std::alloc::Global;
 
 /// A name.
-pub struct NameForm {}
+pub struct MetaNameForm {}
 
-impl Form for NameForm {
+impl Form for MetaNameForm {
     ghost form = { λ f. name_form };
 
     fn fault(&self, alloc: Global, value: &Value) -> Result<Option<Text>, ListFault> {
@@ -94,16 +94,16 @@ impl Form for FeatureForm {
         )? {
             return Ok(Some(path));
         }
-        if let Some(path) = required_fault(alloc, value, "name", &NameForm {})? {
+        if let Some(path) = required_fault(alloc, value, "name", &MetaNameForm {})? {
             return Ok(Some(path));
         }
-        if let Some(path) = optional_fault(alloc, value, "opposite", &NameForm {})? {
+        if let Some(path) = optional_fault(alloc, value, "opposite", &MetaNameForm {})? {
             return Ok(Some(path));
         }
         if let Some(path) = optional_fault(alloc, value, "ordered", &FlagForm {})? {
             return Ok(Some(path));
         }
-        if let Some(path) = required_fault(alloc, value, "type", &NameForm {})? {
+        if let Some(path) = required_fault(alloc, value, "type", &MetaNameForm {})? {
             return Ok(Some(path));
         }
         if let Some(path) = optional_fault(alloc, value, "unique", &FlagForm {})? {
@@ -137,10 +137,17 @@ impl Form for ClassForm {
         )? {
             return Ok(Some(path));
         }
-        if let Some(path) = required_fault(alloc, value, "name", &NameForm {})? {
+        if let Some(path) = required_fault(alloc, value, "name", &MetaNameForm {})? {
             return Ok(Some(path));
         }
-        optional_fault(alloc, value, "supers", &ListOf { item: NameForm {} })
+        optional_fault(
+            alloc,
+            value,
+            "supers",
+            &ListOf {
+                item: MetaNameForm {},
+            },
+        )
     }
 }
 
@@ -159,11 +166,13 @@ impl Form for EnumForm {
             alloc,
             value,
             "literals",
-            &ListOf { item: NameForm {} },
+            &ListOf {
+                item: MetaNameForm {},
+            },
         )? {
             return Ok(Some(path));
         }
-        required_fault(alloc, value, "name", &NameForm {})
+        required_fault(alloc, value, "name", &MetaNameForm {})
     }
 }
 
@@ -189,7 +198,7 @@ impl Form for MetaForm {
         if let Some(path) = optional_fault(alloc, value, "enums", &ListOf { item: EnumForm {} })? {
             return Ok(Some(path));
         }
-        if let Some(path) = required_fault(alloc, value, "name", &NameForm {})? {
+        if let Some(path) = required_fault(alloc, value, "name", &MetaNameForm {})? {
             return Ok(Some(path));
         }
         optional_fault(alloc, value, "uri", &FileForm {})

@@ -6,7 +6,7 @@ use qvt_base::list_fault::ListFault;
 use qvt_base::lists::FeatureNoList;
 use qvt_base::numbers::FeatureNo;
 use qvt_base::seq::Seq;
-use qvt_meta_tables::number_set::NumberSet;
+use qvt_meta_tables::number_set::MarkedNumbers;
 use std::alloc::Global;
 use std::marker::Model;
 
@@ -32,7 +32,7 @@ impl LineFlags {
     fn new(
         alloc: Global,
         numbers: &[u32],
-        seen: &mut NumberSet,
+        seen: &mut MarkedNumbers,
         line: &[FeatureNo],
     ) -> Result<LineFlags, ListFault>
         ensures { IfOk result (λ l. l ≡ number_flags numbers.now line.now) }
@@ -76,7 +76,7 @@ fn number_at(numbers: &[u32], feature: FeatureNo) -> u32
 fn flags_of(
     alloc: Global,
     numbers: &[u32],
-    seen: &mut NumberSet,
+    seen: &mut MarkedNumbers,
     line: &[FeatureNo],
 ) -> Result<Seq<bool>, ListFault>
     ensures { IfOk result (λ flags. flags ≡ number_flags numbers.now line.now) }
@@ -101,7 +101,7 @@ pub fn all_line_flags(
 ) -> Result<Vec<LineFlags>, ListFault>
     ensures { IfOk result (λ v. v.items ≡ map (number_flags numbers.now) lines.now) }
 {
-    let mut seen = NumberSet::new(alloc);
+    let mut seen = MarkedNumbers::new(alloc);
     let mut all = Seq::new(alloc);
     for line in lines {
         all.push(LineFlags::new(alloc, numbers, &mut seen, line.as_slice())?)?;

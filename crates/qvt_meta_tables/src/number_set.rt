@@ -8,12 +8,12 @@ use std::marker::Model;
 
 /// A set of numbers that is emptied at once: a number is there where it has the mark of this turn.
 #[derive(Drop)]
-pub struct NumberSet {
+pub struct MarkedNumbers {
     marks: Seq<u32>,
     turn: u32,
 }
 
-impl Model for NumberSet {
+impl Model for MarkedNumbers {
     ghost use Rattle.std.specs.Prelude.{List, ℕ};
     ghost use Rattle.qvt_meta_tables.specs.NumberSets.{AreTurns};
 
@@ -24,12 +24,12 @@ impl Model for NumberSet {
     ghost invariant = { λ s. AreTurns s.marks s.turn };
 }
 
-impl NumberSet {
+impl MarkedNumbers {
     /// No numbers. It takes no memory.
-    pub fn new(alloc: Global) -> NumberSet
+    pub fn new(alloc: Global) -> MarkedNumbers
         ensures { (n : ℕ) → has_number result n ≡ false }
     {
-        NumberSet {
+        MarkedNumbers {
             marks: Seq::new(alloc),
             turn: 1,
         }

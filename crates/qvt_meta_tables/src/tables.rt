@@ -9,7 +9,7 @@ ghost use Rattle.qvt_meta_tables.specs.Placed.{IsOnce, AreNew};
 ghost use Rattle.qvt_meta_tables.specs.Tables.{of_classes, IsOrder, AreTables};
 ghost use Rattle.qvt_meta_tables.specs.Search.{AreLive, IsAcyclic};
 
-use crate::number_set::NumberSet;
+use crate::number_set::MarkedNumbers;
 use crate::order::{Order, order_of};
 use crate::rows::rows_of;
 use qvt_base::list_fault::ListFault;
@@ -33,13 +33,13 @@ pub struct Tables {
 /// The features that stand in lists, and whether no list has a feature twice.
 #[derive(Drop)]
 pub struct Placed {
-    pub features: NumberSet,
+    pub features: MarkedNumbers,
     pub once: bool,
 }
 
 /// Puts a feature last that is not there.
 fn add_one(
-    seen: &mut NumberSet,
+    seen: &mut MarkedNumbers,
     list: &mut FeatureNoList,
     feature: FeatureNo,
 ) -> Result<(), ListFault>
@@ -56,7 +56,7 @@ fn add_one(
 
 /// Puts those of the features last that are not there.
 fn add_new(
-    seen: &mut NumberSet,
+    seen: &mut MarkedNumbers,
     list: &mut FeatureNoList,
     features: &[FeatureNo],
 ) -> Result<(), ListFault>
@@ -73,7 +73,7 @@ fn add_new(
 /// The features of these classes, each once, whatever the set held before.
 fn joined(
     alloc: Global,
-    seen: &mut NumberSet,
+    seen: &mut MarkedNumbers,
     lists: &FeatureLists,
     supers: &[ClassNo],
 ) -> Result<FeatureNoList, ListFault>
@@ -91,7 +91,7 @@ fn joined(
 /// has a feature twice, nothing is to be taken out of that of the only superclass.
 fn put_list(
     alloc: Global,
-    seen: &mut NumberSet,
+    seen: &mut MarkedNumbers,
     once: bool,
     lists: &mut FeatureLists,
     class: u32,
@@ -111,7 +111,7 @@ fn put_list(
 
 /// Puts these features there, and tells whether none of them was. Where one was, the others may not
 /// all be put there.
-fn put_new(placed: &mut NumberSet, own: &[FeatureNo]) -> Result<bool, ListFault>
+fn put_new(placed: &mut MarkedNumbers, own: &[FeatureNo]) -> Result<bool, ListFault>
     ensures { IfOk result (λ new. IsTrue new → AreNew placed.old own.now placed.new) }
 {
     for feature in own {
@@ -173,9 +173,9 @@ fn lists_of(alloc: Global, order: &Order, classes: &[ClassInfo]) -> Result<Featu
     ensures each { IfOk result (λ ls. length (all_lists ls) ≡ length classes.now) }
     ensures features { IfOk result (λ ls. (c : ℕ) → slice_index_or (all_lists ls) c [] ≡ features_of (of_classes classes.now) c) }
 {
-    let mut seen = NumberSet::new(alloc);
+    let mut seen = MarkedNumbers::new(alloc);
     let mut placed = Placed {
-        features: NumberSet::new(alloc),
+        features: MarkedNumbers::new(alloc),
         once: true,
     };
     let mut lists = FeatureLists::empty(alloc, classes.len())?;

@@ -21,7 +21,7 @@ use Rattle.qvt_meta_names.specs.Named.{number_in, numbers_of, number_at}
 use Rattle.qvt_meta_names.specs.Ordered.{no_number}
 use Rattle.qvt_meta_names.specs.Ordered.{ArePlaced}
 use Rattle.qvt_meta_names.proofs.Fronts.{position-none}
-use Rattle.qvt_metas.specs.Held.{AreNumbered}
+use Rattle.qvt_metas.specs.Held.{AreNameNumbers}
 
 -- a feature stands at a place of the list
 among-at : (gs : List FeatureNo) (p : ℕ) → p < length gs → among_features (get_or gs p no_number).0 gs ≡ true
@@ -39,14 +39,14 @@ abbrev name_at : Metamodels → FeatureNo → List ℕ
 name_at m f = (feature_at m f.0).name
 
 -- a name and the number that stands for it
-named_number : (m : Metamodels) (table : List (List ℕ × ℕ)) (numbers : List ℕ) → AreNumbered m.features table numbers → (name : List ℕ) (k : ℕ) → lookup (bytes_eq name) table ≡ Some k
+named_number : (m : Metamodels) (table : List (List ℕ × ℕ)) (numbers : List ℕ) → AreNameNumbers m.features table numbers → (name : List ℕ) (k : ℕ) → lookup (bytes_eq name) table ≡ Some k
     → name ≡ (feature_at m k).name
 named_number m table numbers n name k e =
     let at = position-Some (λ (f : FeatureInfo). bytes_eq name f.name) m.features k nowhere_feature (sym (n.first name) ∙ e) in
     (bytes_eq-Decides name (feature_at m k).name).0 at.1
 
 -- the number that stands for the name of a feature
-number_named : (m : Metamodels) (table : List (List ℕ × ℕ)) (numbers : List ℕ) → AreNumbered m.features table numbers → (f : FeatureNo) → f.0 < length m.features
+number_named : (m : Metamodels) (table : List (List ℕ × ℕ)) (numbers : List ℕ) → AreNameNumbers m.features table numbers → (f : FeatureNo) → f.0 < length m.features
     → lookup (bytes_eq (name_at m f)) table ≡ Some (number_at numbers f)
 number_named m table numbers n f l = by (lookup (bytes_eq (name_at m f)) table) refl
   where
@@ -57,7 +57,7 @@ number_named m table numbers n f l = by (lookup (bytes_eq (name_at m f)) table) 
     by (Some k) e = e ∙ ap Some (sym (own ∙ ap (λ (o : Option ℕ). unwrap_or o 0) e))
     by None e = clash (bytes_eq-refl (name_at m f)) (position-none (λ (g : FeatureInfo). bytes_eq (name_at m f) g.name) m.features f.0 nowhere_feature (sym (n.first (name_at m f)) ∙ e) l)
 
-same_name : (m : Metamodels) (table : List (List ℕ × ℕ)) (numbers : List ℕ) → AreNumbered m.features table numbers → (f g : FeatureNo) → f.0 < length m.features → g.0 < length m.features
+same_name : (m : Metamodels) (table : List (List ℕ × ℕ)) (numbers : List ℕ) → AreNameNumbers m.features table numbers → (f g : FeatureNo) → f.0 < length m.features → g.0 < length m.features
     → number_at numbers f ≡ number_at numbers g → name_at m f ≡ name_at m g
 same_name m table numbers n f g l k e =
     named_number m table numbers n (name_at m f) (number_at numbers f) (number_named m table numbers n f l)
@@ -68,12 +68,12 @@ same_name m table numbers n f g l k e =
 live_at : (m : Metamodels) (c p : ℕ) → IsWellFormed m → p < length (features_of m c) → (get_or (features_of m c) p no_number).0 < length m.features
 live_at m c p wm l = wm.live_feature c (get_or (features_of m c) p no_number).0 (among-at (features_of m c) p l)
 
-pub no_name : (m : Metamodels) (c : ℕ) (table : List (List ℕ × ℕ)) (numbers : List ℕ) (name : List ℕ) → IsWellFormed m → AreNumbered m.features table numbers
+pub no_name : (m : Metamodels) (c : ℕ) (table : List (List ℕ × ℕ)) (numbers : List ℕ) (name : List ℕ) → IsWellFormed m → AreNameNumbers m.features table numbers
     → lookup (bytes_eq name) table ≡ None → feature_named m c name ≡ None
 no_name m c table numbers name wm n e = none-found (λ (f : FeatureNo). bytes_eq name (name_at m f)) (features_of m c) no_number (λ i l.
     position-none (λ (g : FeatureInfo). bytes_eq name g.name) m.features (get_or (features_of m c) i no_number).0 nowhere_feature (sym (n.first name) ∙ e) (live_at m c i wm l))
 
-pub no_feature : (m : Metamodels) (c : ℕ) (table : List (List ℕ × ℕ)) (numbers : List ℕ) (name : List ℕ) (k : ℕ) → IsWellFormed m → AreNumbered m.features table numbers
+pub no_feature : (m : Metamodels) (c : ℕ) (table : List (List ℕ × ℕ)) (numbers : List ℕ) (name : List ℕ) (k : ℕ) → IsWellFormed m → AreNameNumbers m.features table numbers
     → lookup (bytes_eq name) table ≡ Some k → position (λ f. k == number_at numbers f) (features_of m c) ≡ None → feature_named m c name ≡ None
 no_feature m c table numbers name k wm n e none = none-found (λ (f : FeatureNo). bytes_eq name (name_at m f)) (features_of m c) no_number (λ i l.
     not_true (bytes_eq name (name_at m (get_or (features_of m c) i no_number))) (λ h.
@@ -82,7 +82,7 @@ no_feature m c table numbers name k wm n e none = none-found (λ (f : FeatureNo)
     let number : Some k ≡ Some (number_at numbers f) = sym e ∙ ap (λ x. lookup (bytes_eq x) table) same ∙ number_named m table numbers n f (live_at m c i wm l) in
     clash (eq-eqb k (number_at numbers f) (cc)) (position-none (λ (g : FeatureNo). k == number_at numbers g) (features_of m c) i no_number none l))))
 
-pub feature_at_place : (m : Metamodels) (c : ℕ) (table : List (List ℕ × ℕ)) (numbers : List ℕ) (name : List ℕ) (k p : ℕ) → IsWellFormed m → AreNumbered m.features table numbers
+pub feature_at_place : (m : Metamodels) (c : ℕ) (table : List (List ℕ × ℕ)) (numbers : List ℕ) (name : List ℕ) (k p : ℕ) → IsWellFormed m → AreNameNumbers m.features table numbers
     → lookup (bytes_eq name) table ≡ Some k → position (λ f. k == number_at numbers f) (features_of m c) ≡ Some p → feature_named m c name ≡ Some (get_or (features_of m c) p no_number)
 feature_at_place m c table numbers name k p wm n e there =
     let f : FeatureNo = get_or (features_of m c) p no_number in
@@ -118,7 +118,7 @@ place_is m c f numbers p there here =
     (let same : (get_or (features_of m c) j no_number).0 ≡ f.0 = eqb-true (get_or (features_of m c) j no_number).0 f.0 h in
     clash (eq-eqb (number_at numbers f) (number_at numbers (get_or (features_of m c) j no_number)) (ap (λ i. number_at numbers (record { 0 = i })) (sym same))) (at.2 j l))))
 
-pub place_of_another : (m : Metamodels) (c : ℕ) (f : FeatureNo) (table : List (List ℕ × ℕ)) (numbers : List ℕ) (p : ℕ) → IsWellFormed m → AreNumbered m.features table numbers
+pub place_of_another : (m : Metamodels) (c : ℕ) (f : FeatureNo) (table : List (List ℕ × ℕ)) (numbers : List ℕ) (p : ℕ) → IsWellFormed m → AreNameNumbers m.features table numbers
     → position (λ g. number_at numbers f == number_at numbers g) (features_of m c) ≡ Some p → ((get_or (features_of m c) p no_number).0 == f.0) ≡ false
     → position (λ (g : FeatureNo). g.0 == f.0) (features_of m c) ≡ None
 place_of_another m c f table numbers p wm n there other = absent m c f.0 (λ h.
@@ -139,12 +139,12 @@ pub placed : (m : Metamodels) (numbers seen : List ℕ) (c n k : ℕ) (fs : List
     → r ≡ position (λ (f : FeatureNo). n == number_at seen f) fs → r ≡ o → position (λ (f : FeatureNo). k == number_at numbers f) (features_of m c) ≡ o
 placed m numbers seen c n k fs r o same list number e there = (λ i. position (λ (f : FeatureNo). sym number i == number_at (sym same i) f) (sym list i)) ∙ sym e ∙ there
 
-pub as_many : (features : List FeatureInfo) (table : List (List ℕ × ℕ)) (numbers : List ℕ) → AreNumbered features table numbers → length numbers ≡ length features
+pub as_many : (features : List FeatureInfo) (table : List (List ℕ × ℕ)) (numbers : List ℕ) → AreNameNumbers features table numbers → length numbers ≡ length features
 as_many features table numbers n = ap length n.each ∙ length-map features (λ (f : FeatureInfo). number_in table f.name)
 
 -- nothing is held of no metamodels
 
-pub none_numbered : (features : List FeatureInfo) (table : List (List ℕ × ℕ)) (numbers : List ℕ) → features ≡ [] → table ≡ [] → numbers ≡ [] → AreNumbered features table numbers
+pub none_numbered : (features : List FeatureInfo) (table : List (List ℕ × ℕ)) (numbers : List ℕ) → features ≡ [] → table ≡ [] → numbers ≡ [] → AreNameNumbers features table numbers
 none_numbered features table numbers f t n = record {
   first = λ name. ap (lookup (bytes_eq name)) t ∙ sym (ap (position (λ (x : FeatureInfo). bytes_eq name x.name)) f);
   each = n ∙ sym (ap (numbers_of table) f);

@@ -18,7 +18,7 @@ use Rattle.qvt_meta_names.specs.Enumerated.{AreTabled}
 use Rattle.qvt_meta_names.specs.Ordered.{ArePlaced}
 
 -- a number stands for each name of a feature: that of the first feature that has it
-pub record AreNumbered (features : List FeatureInfo) (table : List (List ℕ × ℕ)) (numbers : List ℕ) : Type 0 where
+pub record AreNameNumbers (features : List FeatureInfo) (table : List (List ℕ × ℕ)) (numbers : List ℕ) : Type 0 where
   pub first : (name : List ℕ) → lookup (bytes_eq name) table ≡ position (λ f. bytes_eq name f.name) features
   pub each : numbers ≡ numbers_of table features
 
@@ -30,6 +30,6 @@ pub record IsMetasKept (m : Metamodels) (lists : Lists) (rows : List Row) (ranks
   pub kept : IsKept m (all_lists lists) rows ranks
   pub each : length names ≡ length m.metamodels
   pub named : (k : ℕ) → k < length m.metamodels → (name : List ℕ) → lookup (bytes_eq name) (slice_index_or names k []) ≡ class_named m k name
-  pub numbered : AreNumbered m.features table numbers
+  pub numbered : AreNameNumbers m.features table numbers
   pub placed : ArePlaced numbers lists.lines orders
   pub enumerated : AreTabled m.metamodels enumerations

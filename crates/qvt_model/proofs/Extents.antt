@@ -23,13 +23,13 @@ use Rattle.qvt_metamodel.specs.Named.{metamodel_at, enumeration_at, feature_name
 use Rattle.qvt_metamodel.specs.WellFormed.{IsWellFormed}
 use Rattle.qvt_json.specs.Leaves.{is_id}
 use Rattle.qvt_store.specs.Contents.{Instance, Contents, no_instance, class_of, extent_of, extent_at, is_extent, is_live, is_model, is_named, slot_of, members_from, members_of}
-use Rattle.qvt_store.specs.Types.{is_of_kind, is_of_type, IsPlain}
-use Rattle.qvt_store.specs.Assign.{is_beyond}
+use Rattle.qvt_store.specs.Types.{is_of_kind, is_of_type, HasCodeType}
+use Rattle.qvt_store.specs.Assign.{exceeds_bound}
 use Rattle.qvt_store.specs.Sound.{Sound}
 use Rattle.qvt_model.specs.Extents.{own_id, numbers, place_of, datum_in, slot_in, name_of, by_name, filled_slots, object_in, objects_from, data_of}
 use Rattle.qvt_store.specs.Stay.{IsStore}
 use Rattle.qvt_model.specs.Reading.{model_of, has_items}
-use Rattle.qvt_model.specs.WellFormed.{object_at, ids, differ, IsItem, IsSlot, ComeAfter, AreInOrder, IsObject, IsModel, HoldsOne, IsStorable}
+use Rattle.qvt_model.specs.WellFormed.{object_at, ids, differ, IsItem, IsSlot, ComeAfter, AreInNameOrder, IsObjectIn, IsModel, HoldsOne, IsStorable}
 use Rattle.qvt_model.specs.Written.{model_text}
 use Rattle.qvt_model.specs.declared.data.Datum.{Datum}
 use Rattle.qvt_model.specs.declared.data.Datum.TheVariants.{Bool as BoolDatum, Int, Str, Literal, Ref}
@@ -69,17 +69,17 @@ module _ (m : Metamodels) where
       by rest true = (a.0, rest)
       by rest false = (g, a)
 
-  order-put : (t : SlotData) (us : List SlotData) → IsLevelWithNone (by_name m) us t → AreInOrder m us → AreInOrder m (put_in (by_name m) t us)
+  order-put : (t : SlotData) (us : List SlotData) → IsLevelWithNone (by_name m) us t → AreInNameOrder m us → AreInNameOrder m (put_in (by_name m) t us)
   order-put t [] h a = (tt, tt)
   order-put t (u ∷ us) h a = by (order-put t us h.1 a.1) (is_lt (by_name m u t)) refl
     where
-      by : AreInOrder m (put_in (by_name m) t us) → (b : Bool) → is_lt (by_name m u t) ≡ b → AreInOrder m (cond b (u ∷ put_in (by_name m) t us) (t ∷ u ∷ us))
+      by : AreInNameOrder m (put_in (by_name m) t us) → (b : Bool) → is_lt (by_name m u t) ≡ b → AreInNameOrder m (cond b (u ∷ put_in (by_name m) t us) (t ∷ u ∷ us))
       by rest true e = (after-put (name_of m u) t us (above (by_name m) (by_name-total m) t u e) a.0, rest)
       by rest false e =
           let g : slice_cmp nat_cmp (name_of m u) (name_of m t) ≡ Greater = turned (name_of m t) (name_of m u) Less (below (by_name m) (by_name-total m) t u e h.0) in
           ((g, after-lower (name_of m u) (name_of m t) us g a.0), a)
 
-  order-sorted : (ts : List SlotData) → NoneAreLevel (by_name m) ts → AreInOrder m (sorted (by_name m) ts)
+  order-sorted : (ts : List SlotData) → NoneAreLevel (by_name m) ts → AreInNameOrder m (sorted (by_name m) ts)
   order-sorted [] h = tt
   order-sorted (t ∷ ts) h = order-put t (sorted (by_name m) ts) (all-sorted (by_name m) (λ u. by_name m t u ≢ Equal) ts h.0) (order-sorted ts h.1)
 
@@ -125,7 +125,7 @@ module _ (s : Contents) (xs : List ℕ) (x : ℕ) where
   pub slots-apart : IsWellFormed s.metas → NoneAreLevel (by_name s.metas) (map (slot_in s xs x) (features_of s.metas (class_of s x)))
   slots-apart known = apart-map (slot_in s xs x) (by_name s.metas) (features_of s.metas (class_of s x)) (features-apart s.metas known (class_of s x))
 
-  pub filled-order : IsWellFormed s.metas → AreInOrder s.metas (filled_slots s xs x)
+  pub filled-order : IsWellFormed s.metas → AreInNameOrder s.metas (filled_slots s xs x)
   filled-order known =
       let slots = map (slot_in s xs x) (features_of s.metas (class_of s x)) in
       order-sorted s.metas (filter has_items slots) (apart-filter (by_name s.metas) has_items slots (slots-apart known))
@@ -245,7 +245,7 @@ module _ (s : Contents) (xs : List ℕ) (os : List ObjectData) (count : length o
           let conforms : descends s.metas (object_at os i).class.0 c ≡ true = ap (λ a. descends s.metas a c) class ∙ h in
           subst (IsItem s.metas os (ClassKind (record { 0 = c }))) (some-injective (Ref i) x e) (omega (arith, at.0, count), conforms)
 
-  value-item : (kind : TypeKind) (v : Value) (x : Datum) → datum_in xs v ≡ Some x → is_of_kind s kind v ≡ true → IsPlain v → IsItem s.metas os kind x
+  value-item : (kind : TypeKind) (v : Value) (x : Datum) → datum_in xs v ≡ Some x → is_of_kind s kind v ≡ true → HasCodeType v → IsItem s.metas os kind x
   value-item BoolKind (BoolValue b) x e t p = subst (IsItem s.metas os BoolKind) (some-injective (BoolDatum b) x e) tt
   value-item BoolKind _ x e t p = absurd (cc)
   value-item IntKind (IntValue z) x e t p = subst (IsItem s.metas os IntKind) (some-injective (Int z) x e) p
@@ -261,7 +261,7 @@ module _ (s : Contents) (xs : List ℕ) (os : List ObjectData) (count : length o
   value-item (ClassKind c) (Obj o) x e t p = ref-item c.0 o.0 x e (and_parts (is_live s o.0) (descends s.metas (class_of s o.0) c.0) t).1
   value-item (ClassKind c) _ x e t p = absurd (cc)
 
-one-bound : (n : ℕ) (upper : Option ℕ) → is_one upper ≡ true → is_beyond n upper ≡ false → n ≤ 1
+one-bound : (n : ℕ) (upper : Option ℕ) → is_one upper ≡ true → exceeds_bound n upper ≡ false → n ≤ 1
 one-bound n None single within = absurd (cc)
 one-bound n (Some k) single within = omega (arith, eqb-true k 1 single, ltb-false k n within)
 
@@ -278,12 +278,12 @@ module _ (s : Contents) (e : ℕ) (store : IsStore s) (sound : Sound s) where
   is-slot x f own some = record {
     own = own;
     some = ltb-true 0 (length (slot_in s xs x f).items) some;
-    items = given-all (datum_in xs) (λ v. is_of_type s f.0 v ≡ true) IsPlain (IsItem s.metas os (shape_of s.metas f.0).kind)
+    items = given-all (datum_in xs) (λ v. is_of_type s f.0 v ≡ true) HasCodeType (IsItem s.metas os (shape_of s.metas f.0).kind)
         (λ v y e t p. value-item s xs os (count-objects s xs 1 xs) (λ i lt. class-there s xs 1 xs i lt) (shape_of s.metas f.0).kind v y e t p)
-        (slot_of s x f.0) (all-passing (is_of_type s f.0) (slot_of s x f.0) (sound.parts.typed.types x f.0)) (by_recursion IsPlain (slot_of s x f.0) (sound.parts.plain x f.0));
+        (slot_of s x f.0) (all-passing (is_of_type s f.0) (slot_of s x f.0) (sound.parts.typed.types x f.0)) (by_recursion HasCodeType (slot_of s x f.0) (sound.parts.plain x f.0));
   }
 
-  is-object : (n x : ℕ) → IsMember s e x → IsObject s.metas (extent_at s e).metamodel os (object_in s xs n x)
+  is-object : (n x : ℕ) → IsMember s e x → IsObjectIn s.metas (extent_at s e).metamodel os (object_in s xs n x)
   unfolding object_in
   is-object n x h =
       let live : is_live s x ≡ true = lt-ltb x (length s.objects) h.0 in
@@ -321,7 +321,7 @@ module _ (s : Contents) (e : ℕ) (store : IsStore s) (sound : Sound s) where
   unfolding data_of
   IsModel-data_of = record {
     ids = ids-differ s xs 1 xs few;
-    objects = all-objects s xs (IsMember s e) (IsObject s.metas (extent_at s e).metamodel os) (λ n x h. is-object n x h) 1 xs members;
+    objects = all-objects s xs (IsMember s e) (IsObjectIn s.metas (extent_at s e).metamodel os) (λ n x h. is-object n x h) 1 xs members;
   }
 
   pub IsStorable-data_of : IsStorable s.metas (data_of s e)

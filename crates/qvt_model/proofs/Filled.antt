@@ -21,7 +21,7 @@ use Rattle.qvt_slots.proofs.Instances.{length-set_list, list-set}
 use Rattle.qvt_store_laws.proofs.Told.{lists_told}
 use Rattle.qvt_model.specs.declared.data.SlotData.{SlotData}
 use Rattle.qvt_model.specs.declared.data.ObjectData.{ObjectData}
-use Rattle.qvt_model.specs.WellFormed.{IsSlot, ComeAfter, AreInOrder, IsObject}
+use Rattle.qvt_model.specs.WellFormed.{IsSlot, ComeAfter, AreInNameOrder, IsObjectIn}
 use Rattle.qvt_model.specs.Items.{items_in}
 use Rattle.qvt_model.specs.Loaded.{value_at, list_in, instance_at}
 use Rattle.qvt_model.specs.Steps.{objects_added, put_slot, slot_values, put_slots, put_objects}
@@ -45,7 +45,7 @@ after_unlisted m f (t ∷ ts) h = or_none (t.feature.0 == f) (listed f ts)
     (refuted _ (λ e. not_greater (feature_at m t.feature.0).name (feature_at m f).name (ap (λ n. (feature_at m n).name) ((Decides-eqb t.feature.0 f).0 e)) h.0))
     (after_unlisted m f ts h.1)
 
-pub distinct_slots : (m : Metamodels) (ts : List SlotData) → AreInOrder m ts → AreDistinct ts
+pub distinct_slots : (m : Metamodels) (ts : List SlotData) → AreInNameOrder m ts → AreDistinct ts
 distinct_slots m [] h = tt
 distinct_slots m (t ∷ ts) h = (after_unlisted m t.feature.0 ts h.0, distinct_slots m ts h.1)
 
@@ -89,7 +89,7 @@ list-sets m all c n lists (t ∷ ts) f l own distinct =
 abbrev pub empty_of : Metamodels → ℕ → ObjectData → Instance
 empty_of m e o = record { class = o.class.0; extent = e; slots = map (λ _. []) (features_of m o.class.0) }
 
-filled : (m : Metamodels) (well : IsWellFormed m) (k e n : ℕ) (all : List ObjectData) (o : ObjectData) → IsObject m k all o → set_slots m n (empty_of m e o) o.slots ≡ instance_at m e n o
+filled : (m : Metamodels) (well : IsWellFormed m) (k e n : ℕ) (all : List ObjectData) (o : ObjectData) → IsObjectIn m k all o → set_slots m n (empty_of m e o) o.slots ≡ instance_at m e n o
 filled m well k e n all o is = ap (λ (l : List (List Value)). record { class = o.class.0; extent = e; slots = l })
     (lists_told m well o.class.0 (set_lists (features_of m o.class.0) n none o.slots) (list_in n o) (length-set_lists (features_of m o.class.0) n none o.slots count) told)
   where
@@ -148,7 +148,7 @@ put_all m n e obs (o ∷ os) =
     new : Instance
     new = set_slots m n (empty_of m e o) o.slots
 
-all_filled : (m : Metamodels) (well : IsWellFormed m) (k e n : ℕ) (all os : List ObjectData) → AllByRecursion (IsObject m k all) os →
+all_filled : (m : Metamodels) (well : IsWellFormed m) (k e n : ℕ) (all os : List ObjectData) → AllByRecursion (IsObjectIn m k all) os →
     map (λ (o : ObjectData). set_slots m n (empty_of m e o) o.slots) os ≡ map (instance_at m e n) os
 all_filled m well k e n all [] h = refl
 all_filled m well k e n all (o ∷ os) h = λ i. filled m well k e n all o h.0 i ∷ all_filled m well k e n all os h.1 i
@@ -158,6 +158,6 @@ pub added_is : (s : Contents) (e : ℕ) (os : List ObjectData) → objects_added
 added_is s e [] = ap (λ (l : List Instance). record s { objects = l }) (sym (app_none s.objects))
 added_is s e (o ∷ os) = added_is (with_new s o.class.0 e) e os ∙ ap (λ (l : List Instance). record s { objects = l }) (push_app s.objects (empty_of s.metas e o) (map (empty_of s.metas e) os))
 
-pub put_is : (m : Metamodels) (well : IsWellFormed m) (k e : ℕ) (obs : List Instance) (os : List ObjectData) → AllByRecursion (IsObject m k os) os →
+pub put_is : (m : Metamodels) (well : IsWellFormed m) (k e : ℕ) (obs : List Instance) (os : List ObjectData) → AllByRecursion (IsObjectIn m k os) os →
     put_objects m (length obs) (length obs) (obs ++ map (empty_of m e) os) os ≡ obs ++ map (instance_at m e (length obs)) os
 put_is m well k e obs os h = put_all m (length obs) e obs os ∙ ap (λ l. obs ++ l) (all_filled m well k e (length obs) os os h)

@@ -17,7 +17,7 @@ use Rattle.qvt_slots.proofs.Lists.{length-map, past_end}
 use Rattle.qvt_store_laws.proofs.After.{item_object}
 use Rattle.qvt_model.specs.declared.data.SlotData.{SlotData}
 use Rattle.qvt_model.specs.declared.data.ObjectData.{ObjectData}
-use Rattle.qvt_model.specs.WellFormed.{object_at, no_object, IsSlot, IsObject, IsModel}
+use Rattle.qvt_model.specs.WellFormed.{object_at, no_object, IsSlot, IsObjectIn, IsModel}
 use Rattle.qvt_model.specs.Items.{items_in}
 use Rattle.qvt_model.specs.Loaded.{value_at, list_in, instance_at}
 use Rattle.qvt_model.specs.Conforming.{slots_at, Conforms}
@@ -59,7 +59,7 @@ not_own m all c f (t ∷ ts) h n = go (t.feature.0 == f) refl (not_own m all c f
     go true e rest = let is : IsSlot m all c t = h.0 in clash _ (subst (λ g. has_feature m c g ≡ true) ((Decides-eqb t.feature.0 f).0 e) is.own) n
     go false e rest = rest
 
-pub all_at : (m : Metamodels) (k : ℕ) (all os : List ObjectData) (i : ℕ) → AllByRecursion (IsObject m k all) os → i < length os → IsObject m k all (object_at os i)
+pub all_at : (m : Metamodels) (k : ℕ) (all os : List ObjectData) (i : ℕ) → AllByRecursion (IsObjectIn m k all) os → i < length os → IsObjectIn m k all (object_at os i)
 all_at m k all [] i h l = absurd (omega arith)
 all_at m k all (o ∷ os) zero h l = h.0
 all_at m k all (o ∷ os) (suc i) h l = all_at m k all os i h.1 (omega arith)
@@ -74,7 +74,7 @@ module _ (s : Contents) (e k : ℕ) (os : List ObjectData) (model : IsModel s.me
   abbrev pub final : List Instance
   final = s.objects ++ map (instance_at m e n) os
 
-  pub object : (i : ℕ) → i < length os → IsObject m k os (object_at os i)
+  pub object : (i : ℕ) → i < length os → IsObjectIn m k os (object_at os i)
   object i h = all_at m k os os i model.objects h
 
   pub at_old : (x : ℕ) → x < n → slice_index_or final x no_instance ≡ slice_index_or s.objects x no_instance
@@ -101,7 +101,7 @@ module _ (s : Contents) (e k : ℕ) (os : List ObjectData) (model : IsModel s.me
     where
       known : (i : ℕ) → i < length os → (b : Bool) → has_feature m (object_at os i).class.0 f ≡ b → cond b (list_in n (object_at os i) f) [] ≡ list_in n (object_at os i) f
       known i l true e = refl
-      known i l false e = sym (ap (map (value_at n)) (let is : IsObject m k os (object_at os i) = object i l in not_own m os (object_at os i).class.0 f (object_at os i).slots is.slots e))
+      known i l false e = sym (ap (map (value_at n)) (let is : IsObjectIn m k os (object_at os i) = object i l in not_own m os (object_at os i).class.0 f (object_at os i).slots is.slots e))
 
   -- a new object holds new objects alone
   pub new_held : (i f y : ℕ) → has (slot_in m final (n + i) f) y ≡ true → HeldItem n y (items_in f (object_at os i).slots)

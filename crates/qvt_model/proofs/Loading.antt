@@ -11,7 +11,7 @@ use Rattle.qvt_slots.specs.Types.{AreTyped}
 use Rattle.qvt_store.specs.Sound.{IsClassFor, Sound, SoundButOpposites}
 use Rattle.qvt_store_laws.proofs.SoundGrown.{add_keeps_loading}
 use Rattle.qvt_model.specs.declared.data.ObjectData.{ObjectData}
-use Rattle.qvt_model.specs.WellFormed.{IsObject, IsModel}
+use Rattle.qvt_model.specs.WellFormed.{IsObjectIn, IsModel}
 use Rattle.qvt_model.specs.WellFormed as parts
 use Rattle.qvt_model.specs.Items.{items_in}
 use Rattle.qvt_model.specs.Loaded.{loaded, IsLoadable}
@@ -33,11 +33,11 @@ each_concrete m (o ∷ os) h = (h 0 (omega arith), each_concrete m os (λ i l. h
 
 -- the store with objects added has the same metamodels and extents
 module _ (s : Contents) (e k : ℕ) (all : List ObjectData) (load : IsLoadable s e all) where
-  can_add : (obs : List Instance) (os : List ObjectData) → AllByRecursion (IsObject s.metas (extent_at s e).metamodel all) os → AreConcrete s.metas os → CanAdd (with_objects s obs) e os
+  can_add : (obs : List Instance) (os : List ObjectData) → AllByRecursion (IsObjectIn s.metas (extent_at s e).metamodel all) os → AreConcrete s.metas os → CanAdd (with_objects s obs) e os
   can_add obs [] h c = tt
   can_add obs (o ∷ os) h c = (record { extent = load.extent; live = here.class; metamodel = here.metamodel; concrete = c.0 }, can_add (with_new (with_objects s obs) o.class.0 e).objects os h.1 c.1)
     where
-      here : IsObject s.metas (extent_at s e).metamodel all o
+      here : IsObjectIn s.metas (extent_at s e).metamodel all o
       here = h.0
 
 add_loading : (s : Contents) (e : ℕ) (os : List ObjectData) → CanAdd s e os → SoundButOpposites s → SoundButOpposites (objects_added s e os)

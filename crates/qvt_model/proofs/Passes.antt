@@ -19,7 +19,7 @@ use Rattle.qvt_metamodel.specs.WellFormed.{IsWellFormed}
 use Rattle.qvt_json.specs.Json.{map_items}
 use Rattle.qvt_json.specs.Leaves.{is_id}
 use Rattle.qvt_model.specs.Reading.{id_of, class_read, feature_of, features_known, object_known, distinct_ids, class_at_place, ref_at, ref_of, literal_in, datum_of, one_item, items_read, slot_read, slots_of, object_read, is_dangling, slots_dangling, dangling, model_from, numbered_class}
-use Rattle.qvt_model.specs.WellFormed.{object_at, no_object, ids, differ, IsItem, IsSlot, IsObject, IsModel, HoldsOne, IsStorable}
+use Rattle.qvt_model.specs.WellFormed.{object_at, no_object, ids, differ, IsItem, IsSlot, IsObjectIn, IsModel, HoldsOne, IsStorable}
 use Rattle.qvt_model.specs.Written.{datum_value, first_value, slot_value, slot_members, object_value, object_values}
 use Rattle.qvt_model.specs.declared.places.Places.{Places}
 use Rattle.qvt_model.specs.declared.data.Datum.{Datum}
@@ -37,7 +37,7 @@ integer-back (pos n) h = let lt : n < 2 ^ 63 = h.sfits in rw (lt-ltb n (2 ^ 63) 
 integer-back (negsuc n) h = refl
 
 module _ (m : Metamodels) (k : ℕ) (os : List ObjectData) (named : IsWellFormed m) (name : (metamodel_at m k).name ≢ []) (model : IsModel m k os) (storable : IsStorable m os) where
-  class-back : (o : ObjectData) → IsObject m k os o → class_read m k (object_value m os o) ≡ Ok o.class
+  class-back : (o : ObjectData) → IsObjectIn m k os o → class_read m k (object_value m os o) ≡ Ok o.class
   unfolding class_read
   class-back o h =
       let there : (metamodel_at m (class_at m o.class.0).metamodel).name ≢ [] = λ e. name (ap (λ n. (metamodel_at m n).name) (sym h.metamodel) ∙ e) in
@@ -50,7 +50,7 @@ module _ (m : Metamodels) (k : ℕ) (os : List ObjectData) (named : IsWellFormed
   features-known c id [] a = refl
   features-known c id (s ∷ ss) a = rw (named.feature_found c.0 s.feature.0 a.0.own) (features-known c id ss a.1)
 
-  object-known : (o : ObjectData) → IsObject m k os o → object_known m k (object_value m os o) ≡ Ok tt
+  object-known : (o : ObjectData) → IsObjectIn m k os o → object_known m k (object_value m os o) ≡ Ok tt
   unfolding object_known
   object-known o h = rw (class-back o h) (features-known o.class o.id o.slots h.slots)
 
@@ -130,7 +130,7 @@ module _ (m : Metamodels) (k : ℕ) (os : List ObjectData) (named : IsWellFormed
       let some : nat_lt 0 (length s.items) ≡ true = lt-ltb 0 (length s.items) a.0.some in
       rw (named.feature_found c.0 s.feature.0 a.0.own, items-back c.0 s a.0 b.0, slots-back c id ss a.1 b.1, some)
 
-  object-back : (o : ObjectData) → IsObject m k os o → AllByRecursion (HoldsOne m) o.slots → object_read m k (places_of os) (object_value m os o) ≡ Ok o
+  object-back : (o : ObjectData) → IsObjectIn m k os o → AllByRecursion (HoldsOne m) o.slots → object_read m k (places_of os) (object_value m os o) ≡ Ok o
   unfolding object_read
   object-back o h ones = rw (class-back o h, slots-back o.class o.id o.slots h.slots ones)
 
@@ -167,7 +167,7 @@ module _ (m : Metamodels) (k : ℕ) (os : List ObjectData) (named : IsWellFormed
       let kind = (shape_of m s.feature.0).kind in
       rw (list_any-none (is_dangling (length os)) s.items (All-weaken (IsItem m os kind) (λ x. is_dangling (length os) x ≡ false) (λ x i. not-dangling kind x i) s.items a.0.items)) (slots-not-dangling c id ss a.1)
 
-  none-dangling : (ws : List ObjectData) → AllByRecursion (IsObject m k os) ws → dangling m (length os) ws ≡ None
+  none-dangling : (ws : List ObjectData) → AllByRecursion (IsObjectIn m k os) ws → dangling m (length os) ws ≡ None
   none-dangling [] a = refl
   none-dangling (w ∷ ws) a = rw (slots-not-dangling w.class.0 w.id w.slots a.0.slots) (none-dangling ws a.1)
 
@@ -178,8 +178,8 @@ module _ (m : Metamodels) (k : ℕ) (os : List ObjectData) (named : IsWellFormed
   pub model_from-object_values : model_from m k (object_values m os) ≡ Ok os
   unfolding model_from distinct_ids
   model_from-object_values =
-      let classes = each_item-is (class_read m k) (object_value m os) (λ o. o.class) os (All-weaken (IsObject m k os) (λ o. class_read m k (object_value m os o) ≡ Ok o.class) (λ o h. class-back o h) os model.objects) in
-      let features = walk_items-ok (object_known m k) (object_value m os) os (All-weaken (IsObject m k os) (λ o. object_known m k (object_value m os o) ≡ Ok tt) (λ o h. object-known o h) os model.objects) in
+      let classes = each_item-is (class_read m k) (object_value m os) (λ o. o.class) os (All-weaken (IsObjectIn m k os) (λ o. class_read m k (object_value m os o) ≡ Ok o.class) (λ o h. class-back o h) os model.objects) in
+      let features = walk_items-ok (object_known m k) (object_value m os) os (All-weaken (IsObjectIn m k os) (λ o. object_known m k (object_value m os o) ≡ Ok tt) (λ o h. object-known o h) os model.objects) in
       let objects = each_item-back (object_read m k (places_of os)) (object_value m os) os
-      (All-both (IsObject m k os) (λ o. AllByRecursion (HoldsOne m) o.slots) (λ o. object_read m k (places_of os) (object_value m os o) ≡ Ok o) (λ o h ones. object-back o h ones) os model.objects storable.ones) in
+      (All-both (IsObjectIn m k os) (λ o. AllByRecursion (HoldsOne m) o.slots) (λ o. object_read m k (places_of os) (object_value m os o) ≡ Ok o) (λ o h ones. object-back o h ones) os model.objects storable.ones) in
       rw (ids-back os, repeated-differ (ids os) model.ids, classes, features, objects, none-dangling os model.objects)

@@ -14,9 +14,9 @@ use Rattle.qvt_metamodel.specs.Named.{enumeration_at}
 use Rattle.qvt_relation.proofs.Bools.{and_left, and_right, and_both, and_false, or_left, or_right, or_cases, none_left, none_right, either, clash, refuted}
 use Rattle.qvt_slots.specs.Slots.{Slots, has, is_object, Contains, Inside, directly, through}
 use Rattle.qvt_slots.specs.Contents.{Contents, Instance, no_instance, object_at, is_live, is_model, class_of, extent_of, extent_at, list_of, slot_in, slot_of, with_slot}
-use Rattle.qvt_slots.specs.Types.{is_of_kind, is_of_type, AreTyped, IsPlain}
+use Rattle.qvt_slots.specs.Types.{is_of_kind, is_of_type, AreTyped, HasCodeType}
 use Rattle.qvt_slots.specs.Repeats.{repeats}
-use Rattle.qvt_slots.specs.Assign.{is_beyond, crosses}
+use Rattle.qvt_slots.specs.Assign.{exceeds_bound, crosses}
 use Rattle.qvt_slots.specs.Cells.{with_list}
 use Rattle.qvt_slots.proofs.Places.{no_lists, list_of-nil}
 use Rattle.qvt_slots.proofs.Lists.{length-map, past_end}
@@ -29,7 +29,7 @@ use Rattle.qvt_model.specs.declared.data.Datum.{Datum}
 use Rattle.qvt_model.specs.declared.data.Datum.TheVariants.{Bool as BoolDatum, Int, Str, Literal, Ref}
 use Rattle.qvt_model.specs.declared.data.SlotData.{SlotData}
 use Rattle.qvt_model.specs.declared.data.ObjectData.{ObjectData}
-use Rattle.qvt_model.specs.WellFormed.{no_object, IsItem, IsSlot, IsObject, IsModel}
+use Rattle.qvt_model.specs.WellFormed.{no_object, IsItem, IsSlot, IsObjectIn, IsModel}
 use Rattle.qvt_model.specs.WellFormed as parts
 use Rattle.qvt_model.specs.Items.{items_in}
 use Rattle.qvt_model.specs.Loaded.{value_at, list_in, instance_at}
@@ -169,12 +169,12 @@ module _ (s : Contents) (e k : ℕ) (os : List ObjectData) (model : IsModel s.me
           let l : r.place < length os = ref_below m os (shape_of m p).kind r.place t.items for.is.items r.held in
           ap (λ z. (slice_index_or obs z no_instance).extent) r.number ∙ extent_new r.place l ∙ sym (extent_new i below)
 
-      pub plain_list : All IsPlain vs
+      pub plain_list : All HasCodeType vs
       plain_list = all_plain m os n (shape_of m p).kind t.items for.is.items
 
       pub sound_list : IsSoundList (with_objects s obs) (n + i) p vs
       sound_list = record {
-        bound = ap (λ z. is_beyond z (shape_of m p).upper) (length-shift n t.items ∙ ap (λ (xs : _). length (map (value_at 0) xs)) (sym for.list)) ∙ conforms.bounds i p;
+        bound = ap (λ z. exceeds_bound z (shape_of m p).upper) (length-shift n t.items ∙ ap (λ (xs : _). length (map (value_at 0) xs)) (sym for.list)) ∙ conforms.bounds i p;
         unique = λ u. no_repeat (conforms.unique i p u);
         own_objects = and_false (is_model (with_objects s obs) (extent_of (with_objects s obs) (n + i))) _ (λ _. nowhere (with_objects s obs) (n + i) vs own_extent);
       }
@@ -285,7 +285,7 @@ module _ (s : Contents) (e k : ℕ) (os : List ObjectData) (model : IsModel s.me
       below : i < length os
       below = omega arith
 
-      is : IsObject m k os (parts.object_at os i)
+      is : IsObjectIn m k os (parts.object_at os i)
       is = object s e k os model i below
 
       slots_same : o.slots ≡ (parts.object_at os i).slots

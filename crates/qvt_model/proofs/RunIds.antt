@@ -6,7 +6,7 @@ use Rattle.std.proofs.lemmas.Bool.{eq-eqb, ne_eqb, lt-ltb, ltb-true}
 use Rattle.qvt_base.specs.declared.numbers.Oid.{Oid}
 use Rattle.qvt_slots.proofs.Lists.{length-map}
 use Rattle.qvt_store.specs.Contents.{Contents, Instance, no_instance, no_extent, extent_at, extent_of, is_writable, members_from, members_of}
-use Rattle.qvt_store.specs.Stay.{IsFront}
+use Rattle.qvt_store.specs.Stay.{IsBeginningOf}
 use Rattle.qvt_store_laws.proofs.Stays.{get-left}
 use Rattle.qvt_model.specs.Extents.{own_id, numbers, place_of, data_of}
 use Rattle.qvt_model.specs.IdTables.{id_in}
@@ -107,7 +107,7 @@ run_ids_stay s s' old new x stays live told =
     at : MemberAt (members_of s e) x
     at = member_at e 0 s.objects x x (omega arith) (ltb-true x (length s.objects) live) refl
 
-    front : IsFront (members_of s e) (members_of s' e)
+    front : IsBeginningOf (members_of s e) (members_of s' e)
     front = stays.members e
 
     within : at.place < length (members_of s' e)

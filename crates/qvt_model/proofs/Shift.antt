@@ -8,7 +8,7 @@ use Rattle.std.proofs.lemmas.List.Elements.{All-nil, All-cons}
 use Rattle.qvt_value.specs.declared.value.Value.{Value}
 use Rattle.qvt_relation.proofs.Bools.{or_left, or_right, or_cases, and_both, clash}
 use Rattle.qvt_slots.specs.Slots.{is_object, has}
-use Rattle.qvt_slots.specs.Types.{IsPlain}
+use Rattle.qvt_slots.specs.Types.{HasCodeType}
 use Rattle.qvt_value.specs.Kept.{is_same}
 use Rattle.qvt_value.specs.Order.{order_of}
 use Rattle.qvt_repeats.proofs.Repeating.{repeats-map, repeats-alike}
@@ -100,7 +100,7 @@ repeats-shift n xs =
     ∙ sym (repeats-map (is_same order_of) (value_at 0) xs)
 
 -- items of a type are plain values
-plain_item : (m : Metamodels) (os : List ObjectData) (n : ℕ) (k : TypeKind) (d : Datum) → IsItem m os k d → IsPlain (value_at n d)
+plain_item : (m : Metamodels) (os : List ObjectData) (n : ℕ) (k : TypeKind) (d : Datum) → IsItem m os k d → HasCodeType (value_at n d)
 plain_item m os n BoolKind (BoolDatum b) h = tt
 plain_item m os n IntKind (Int z) h = h
 plain_item m os n StrKind (Str t) h = h
@@ -127,6 +127,6 @@ plain_item m os n (ClassKind c) (Int x) h = absurd h
 plain_item m os n (ClassKind c) (Str x) h = absurd h
 plain_item m os n (ClassKind c) (Literal x) h = absurd h
 
-pub all_plain : (m : Metamodels) (os : List ObjectData) (n : ℕ) (k : TypeKind) (xs : List Datum) → AllByRecursion (IsItem m os k) xs → All IsPlain (map (value_at n) xs)
-all_plain m os n k [] h = All-nil IsPlain
-all_plain m os n k (x ∷ xs) h = All-cons IsPlain (value_at n x) (map (value_at n) xs) (plain_item m os n k x h.0) (all_plain m os n k xs h.1)
+pub all_plain : (m : Metamodels) (os : List ObjectData) (n : ℕ) (k : TypeKind) (xs : List Datum) → AllByRecursion (IsItem m os k) xs → All HasCodeType (map (value_at n) xs)
+all_plain m os n k [] h = All-nil HasCodeType
+all_plain m os n k (x ∷ xs) h = All-cons HasCodeType (value_at n x) (map (value_at n) xs) (plain_item m os n k x h.0) (all_plain m os n k xs h.1)

@@ -27,7 +27,7 @@ use Rattle.qvt_json.specs.Repeated.{repeated}
 use Rattle.qvt_json.specs.Steps.{◌>>=◌, or_fault, none_of, or_next, each_item, walk_items, all_items}
 use Rattle.qvt_json.proofs.Ordered.{some-injective, both-some, map-some, IsOrdered, ItemsOrdered, MembersOrdered, members_or-ordered}
 use Rattle.qvt_model.specs.Reading.{id_of, slots_in, numbered_class, distinct_ids, class_read, feature_of, object_known, class_at_place, ref_at, ref_of, literal_in, datum_of, one_item, items_read, slot_read, has_items, with_filled_slot, slots_of, object_read, is_dangling, slots_dangling, dangling, model_from}
-use Rattle.qvt_model.specs.WellFormed.{object_at, no_object, ids, differ, IsItem, IsPlainDatum, IsPlainSlot, IsPlainObject, IsSlot, ComeAfter, AreInOrder, IsObject, IsModel}
+use Rattle.qvt_model.specs.WellFormed.{object_at, no_object, ids, differ, IsItem, IsPlainDatum, IsPlainSlot, IsPlainObject, IsSlot, ComeAfter, AreInNameOrder, IsObjectIn, IsModel}
 use Rattle.qvt_model.specs.declared.places.Places.{Places}
 use Rattle.qvt_model.specs.declared.data.Datum.{Datum}
 use Rattle.qvt_model.specs.declared.data.Datum.TheVariants.{Bool as BoolDatum, Int, Str, Literal, Ref}
@@ -192,7 +192,7 @@ module _ (m : Metamodels) (places : Places) (os : List ObjectData) (classes : pl
       joined false s ts name above rest = rest
 
   abbrev SlotsSound : ClassNo → List SlotData → Type 0
-  SlotsSound c ss = AllByRecursion (IsSlot m os c.0) ss × AreInOrder m ss
+  SlotsSound c ss = AllByRecursion (IsSlot m os c.0) ss × AreInNameOrder m ss
 
   slots-sound : (c : ClassNo) (id : List ℕ) (ms : Members) (ss : List SlotData) → MembersOrdered ms → slots_of m places c id ms ≡ Ok ss → AllByRecursion IsPlainSlot ss → slots_dangling m (length os) id ss ≡ None
       → SlotsSound c ss
@@ -252,7 +252,7 @@ sound m k ds places os ordered same_ids none classes_are objects_are clear plain
     let count : length places.ids ≡ length os = ap length (sym same_ids ∙ named) ∙ length-map os (λ o. o.id) in
     record {
       ids = ap differ (sym named) ∙ differ-repeated (map_items id_of ds) none;
-      objects = each_item-all (object_read m k places) (IsClear m (length os)) (IsObject m k os)
+      objects = each_item-all (object_read m k places) (IsClear m (length os)) (IsObjectIn m k os)
           (λ d o in_order e c.
           let h = object-parts m k places d o e in
           let class = class-parts m k d o.class h.class in

@@ -21,7 +21,7 @@ use Rattle.qvt_json.specs.Leaves.{is_id}
 use Rattle.qvt_json.proofs.Back.{json-file_text}
 use Rattle.qvt_model.specs.Forms.{object_form, model_form}
 use Rattle.qvt_model.specs.Reading.{model_of}
-use Rattle.qvt_model.specs.WellFormed.{object_at, no_object, IsItem, IsPlainDatum, IsPlainSlot, IsPlainObject, IsSlot, ComeAfter, AreInOrder, IsObject, IsModel, IsStorable}
+use Rattle.qvt_model.specs.WellFormed.{object_at, no_object, IsItem, IsPlainDatum, IsPlainSlot, IsPlainObject, IsSlot, ComeAfter, AreInNameOrder, IsObjectIn, IsModel, IsStorable}
 use Rattle.qvt_model.specs.Written.{datum_value, first_value, slot_value, slot_members, object_value, model_value, model_text}
 use Rattle.qvt_model.specs.declared.data.Datum.{Datum}
 use Rattle.qvt_model.specs.declared.data.Datum.TheVariants.{Bool as BoolDatum, Int, Str, Literal, Ref}
@@ -57,7 +57,7 @@ id_text (o ∷ os) (suc i) a = id_text os i a.1
 
 -- an object with plain items and its slots in order
 abbrev pub IsWrittenObject : Metamodels → ObjectData → Type 0
-IsWrittenObject m o = IsPlainObject o × AreInOrder m o.slots
+IsWrittenObject m o = IsPlainObject o × AreInNameOrder m o.slots
 
 -- an item of a type is plain
 plain-item : (m : Metamodels) (os : List ObjectData) (kind : TypeKind) (x : Datum) → IsItem m os kind x → IsPlainDatum x
@@ -87,7 +87,7 @@ plain-item m os (ClassKind c) (Str s) h = absurd h
 plain-item m os (ClassKind c) (Literal l) h = absurd h
 plain-item m os (ClassKind c) (Ref i) h = tt
 
-pub plain-model : (m : Metamodels) (k : ℕ) (os ws : List ObjectData) → AllByRecursion (IsObject m k os) ws → AllByRecursion (IsWrittenObject m) ws
+pub plain-model : (m : Metamodels) (k : ℕ) (os ws : List ObjectData) → AllByRecursion (IsObjectIn m k os) ws → AllByRecursion (IsWrittenObject m) ws
 plain-model m k os [] a = tt
 plain-model m k os (w ∷ ws) a = (
   (All-weaken (IsSlot m os w.class.0) IsPlainSlot (λ s h. All-weaken (IsItem m os (shape_of m s.feature.0).kind) IsPlainDatum (λ x i. plain-item m os (shape_of m s.feature.0).kind x i) s.items h.items) w.slots a.0.slots, a.0.order),
@@ -121,7 +121,7 @@ module _ (m : Metamodels) (os : List ObjectData) (named : IsWellFormed m) (texts
   keys_after name [] h = tt
   keys_after name (s ∷ ss) h = (h.0, keys_after name ss h.1)
 
-  plain_slots : (ss : List SlotData) → AllByRecursion IsPlainSlot ss → AreInOrder m ss → MembersPlain (slot_members m os ss)
+  plain_slots : (ss : List SlotData) → AllByRecursion IsPlainSlot ss → AreInNameOrder m ss → MembersPlain (slot_members m os ss)
   plain_slots [] h a = tt
   plain_slots (s ∷ ss) h a =
       (IsUtf8-from_is_utf8 _ (named.text_feature s.feature.0), plain_slot s h.0, keys_after (feature_at m s.feature.0).name ss a.0, plain_slots ss h.1 a.1)

@@ -16,7 +16,7 @@ use Rattle.qvt_metamodel.specs.WellFormed.{IsWellFormed}
 use Rattle.qvt_json.specs.Plain as written
 use Rattle.qvt_json.proofs.Ordered.{some-injective, map-some}
 use Rattle.qvt_store.specs.Contents.{Instance, Contents, no_instance, class_of, is_live, slot_of, members_from, members_of}
-use Rattle.qvt_store.specs.Types.{IsPlain}
+use Rattle.qvt_store.specs.Types.{HasCodeType}
 use Rattle.qvt_store.specs.Sound.{Sound}
 use Rattle.qvt_model.specs.Extents.{own_id, numbers, place_of, datum_in, slot_in, name_of, by_name, filled_slots, object_in, objects_from, data_of}
 use Rattle.qvt_model.specs.Reading.{has_items}
@@ -176,7 +176,7 @@ module _ (s : Contents) (xs : List ℕ) where
 
   -- ---- what is written is plain
 
-  value-plain : (v : Value) (x : Datum) → datum_in xs v ≡ Some x → IsPlain v → IsPlainDatum x
+  value-plain : (v : Value) (x : Datum) → datum_in xs v ≡ Some x → HasCodeType v → IsPlainDatum x
   value-plain (BoolValue b) x e p = subst IsPlainDatum (some-injective (BoolDatum b) x e) tt
   value-plain (IntValue z) x e p = subst IsPlainDatum (some-injective (Int z) x e) p
   value-plain (StrValue t) x e p = subst IsPlainDatum (some-injective (Str t) x e) p
@@ -187,8 +187,8 @@ module _ (s : Contents) (xs : List ℕ) where
   slots-plain : Sound s → (x : ℕ) (fs : List FeatureNo) → AllByRecursion (λ f. has_items (slot_in s xs x f) ≡ true → IsPlainSlot (slot_in s xs x f)) fs
   slots-plain sound x [] = tt
   slots-plain sound x (f ∷ fs) = (
-    (λ some. let plain = by_recursion IsPlain (slot_of s x f.0) (sound.parts.plain x f.0) in
-        given-all (datum_in xs) IsPlain IsPlain IsPlainDatum (λ v y e p q. value-plain v y e p) (slot_of s x f.0) plain plain),
+    (λ some. let plain = by_recursion HasCodeType (slot_of s x f.0) (sound.parts.plain x f.0) in
+        given-all (datum_in xs) HasCodeType HasCodeType IsPlainDatum (λ v y e p q. value-plain v y e p) (slot_of s x f.0) plain plain),
     slots-plain sound x fs,
   )
 

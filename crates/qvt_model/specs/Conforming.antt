@@ -3,7 +3,7 @@ use Rattle.std.specs.Prelude.{◌≡◌, ℕ, ◌<◌, List, map, length, IsTrue
 use Rattle.qvt_metamodel.specs.Metamodels.{Metamodels, class_at, shape_of, is_containment}
 use Rattle.qvt_slots.specs.Slots.{Slots, OppositesAgree, OneContainer, Inside}
 use Rattle.qvt_slots.specs.Repeats.{repeats}
-use Rattle.qvt_slots.specs.Assign.{is_beyond}
+use Rattle.qvt_slots.specs.Assign.{exceeds_bound}
 use Rattle.qvt_model.specs.declared.data.ObjectData.{ObjectData}
 use Rattle.qvt_model.specs.WellFormed.{object_at}
 use Rattle.qvt_model.specs.Loaded.{list_in}
@@ -14,7 +14,7 @@ slots_at os i f = list_in 0 (object_at os i) f
 
 pub record Conforms (m : Metamodels) (os : List ObjectData) : Type 0 where
   pub concrete : (i : ℕ) → i < length os → IsFalse (class_at m (object_at os i).class.0).is_abstract
-  pub bounds : (i f : ℕ) → IsFalse (is_beyond (length (slots_at os i f)) (shape_of m f).upper)
+  pub bounds : (i f : ℕ) → IsFalse (exceeds_bound (length (slots_at os i f)) (shape_of m f).upper)
   pub unique : (i f : ℕ) → IsTrue (shape_of m f).unique → IsFalse (repeats (slots_at os i f))
   pub opposites : OppositesAgree m (slots_at os)
   pub containers : OneContainer m (slots_at os)

@@ -12,8 +12,8 @@ use Rattle.qvt_model.specs.Reading.{model_of}
 use Rattle.qvt_model.specs.Written.{model_text}
 use Rattle.qvt_model.specs.declared.data.ObjectData.{ObjectData}
 
-abbrev pub WrittenIsRead : Type 0
-WrittenIsRead = (m : Metamodels) (k : ℕ) (os : List ObjectData) → IsWellFormed m → (metamodel_at m k).name ≢ [] → IsModel m k os → IsStorable m os → model_of m k (model_text m os) ≡ Ok os
+abbrev pub WrittenModelIsRead : Type 0
+WrittenModelIsRead = (m : Metamodels) (k : ℕ) (os : List ObjectData) → IsWellFormed m → (metamodel_at m k).name ≢ [] → IsModel m k os → IsStorable m os → model_of m k (model_text m os) ≡ Ok os
 
 -- the text of a model of a sound store is read as the data of its extent
 abbrev pub ExtentIsRead : Type 0

@@ -66,20 +66,20 @@ ComeAfter m name [] = ⊤
 ComeAfter m name (s ∷ ss) = (slice_cmp nat_cmp (feature_at m s.feature.0).name name ≡ Greater) × ComeAfter m name ss
 
 -- slots in byte order of the names, none twice
-abbrev pub AreInOrder : Metamodels → List SlotData → Type 0
-AreInOrder m [] = ⊤
-AreInOrder m (s ∷ ss) = ComeAfter m (feature_at m s.feature.0).name ss × AreInOrder m ss
+abbrev pub AreInNameOrder : Metamodels → List SlotData → Type 0
+AreInNameOrder m [] = ⊤
+AreInNameOrder m (s ∷ ss) = ComeAfter m (feature_at m s.feature.0).name ss × AreInNameOrder m ss
 
-pub record IsObject (m : Metamodels) (k : ℕ) (os : List ObjectData) (o : ObjectData) : Type 0 where
+pub record IsObjectIn (m : Metamodels) (k : ℕ) (os : List ObjectData) (o : ObjectData) : Type 0 where
   pub class : o.class.0 < length m.classes
   pub metamodel : (class_at m o.class.0).metamodel ≡ k
   pub slots : AllByRecursion (IsSlot m os o.class.0) o.slots
-  pub order : AreInOrder m o.slots
+  pub order : AreInNameOrder m o.slots
 
 -- the data of a model of metamodel k
 pub record IsModel (m : Metamodels) (k : ℕ) (os : List ObjectData) : Type 0 where
   pub ids : IsTrue (differ (ids os))
-  pub objects : AllByRecursion (IsObject m k os) os
+  pub objects : AllByRecursion (IsObjectIn m k os) os
 
 -- a slot of upper bound 1 holds at most one item
 pub record HoldsOne (m : Metamodels) (s : SlotData) : Type 0 where

@@ -1,10 +1,10 @@
-ghost use Rattle.qvt_model.specs.Laws.{WrittenIsRead, ExtentIsRead};
+ghost use Rattle.qvt_model.specs.Laws.{WrittenModelIsRead, ExtentIsRead};
 ghost use Rattle.qvt_model.specs.Loaded.{EachLoadLeaves, LoadEach};
 ghost use Rattle.qvt_model.specs.RunIds.{DataHaveRunIds, RunIdsStay};
 
 /// The text that is written for a model is read as the same model.
 pub fn written_is_read()
-    ensures { WrittenIsRead }
+    ensures { WrittenModelIsRead }
 {}
 
 /// The text that is written for a model of a sound store is read as the data of its extent.

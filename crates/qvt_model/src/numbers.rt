@@ -7,17 +7,17 @@ use std::alloc::Global;
 use std::marker::Model;
 
 /// Numbers in an order of their own, each once, looked up by hash.
-pub struct NumberSet {
+pub struct NumberIndex {
     keys: IndexSet<u32>,
 }
 
-impl Drop for NumberSet {
+impl Drop for NumberIndex {
     fn drop(self) {
-        let NumberSet { keys } = self;
+        let NumberIndex { keys } = self;
     }
 }
 
-impl Model for NumberSet {
+impl Model for NumberIndex {
     ghost use Rattle.std.specs.Prelude.{List, ℕ};
 
     ghost Value = { List ℕ };
@@ -25,12 +25,12 @@ impl Model for NumberSet {
     ghost view = { λ s. s.keys.keys };
 }
 
-impl NumberSet {
+impl NumberIndex {
     /// No numbers. It takes no memory.
-    pub fn new(alloc: Global) -> NumberSet
+    pub fn new(alloc: Global) -> NumberIndex
         ensures { result ≡ [] }
     {
-        NumberSet {
+        NumberIndex {
             keys: IndexSet::new(alloc),
         }
     }

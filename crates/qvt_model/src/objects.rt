@@ -1,7 +1,7 @@
 ghost use Rattle.std.specs.Prelude.{◌≡◌, ◌<◌, ◌^◌, length, IfOk};
 ghost use Rattle.std.specs.List.{AllByRecursion};
 ghost use Rattle.serde_json.specs.View.{view, items_view};
-ghost use Rattle.qvt_json.specs.Steps.{Gives, each_item, walk_items};
+ghost use Rattle.qvt_json.specs.Steps.{GivesStated, each_item, walk_items};
 ghost use Rattle.qvt_model.specs.Reading.{id_of, slots_in, distinct_ids, class_read, object_known, slots_of, object_read};
 ghost use Rattle.qvt_model.specs.WellFormed.{IsPlainSlot, IsPlainObject};
 
@@ -21,7 +21,7 @@ use std::alloc::Global;
 /// The ids of the objects, which differ.
 #[tactic(auto, unfolding(crate::specs::Reading::distinct_ids))]
 pub fn distinct_ids(alloc: Global, items: &Vec<Value>) -> Result<TextSet, ModelFault>
-    ensures { Gives ModelFault.NoMemory (λ ids. ids) result (distinct_ids (items_view items.now.items)) }
+    ensures { GivesStated ModelFault.NoMemory (λ ids. ids) result (distinct_ids (items_view items.now.items)) }
 {
     let mut ids = TextSet::new(alloc);
     for item in items {
@@ -42,7 +42,7 @@ fn class_read(
     metamodel: u32,
     item: &Value,
 ) -> Result<ClassNo, ModelFault>
-    ensures { Gives ModelFault.NoMemory (λ c. c) result (class_read metas.now metamodel (view item.now)) }
+    ensures { GivesStated ModelFault.NoMemory (λ c. c) result (class_read metas.now metamodel (view item.now)) }
 {
     match metas.class(metamodel, text_or(item, "class")) {
         Some(class) => Ok(class),
@@ -57,7 +57,7 @@ pub fn classes_of(
     metamodel: u32,
     items: &Vec<Value>,
 ) -> Result<ClassNoList, ModelFault>
-    ensures { Gives ModelFault.NoMemory (λ cs. cs) result (each_item (class_read metas.now metamodel) (items_view items.now.items)) }
+    ensures { GivesStated ModelFault.NoMemory (λ cs. cs) result (each_item (class_read metas.now metamodel) (items_view items.now.items)) }
 {
     let mut classes = ClassNoList::new(alloc);
     for item in items {
@@ -74,7 +74,7 @@ fn object_known(
     metamodel: u32,
     item: &Value,
 ) -> Result<(), ModelFault>
-    ensures { Gives ModelFault.NoMemory (λ _. tt) result (object_known metas.now metamodel (view item.now)) }
+    ensures { GivesStated ModelFault.NoMemory (λ _. tt) result (object_known metas.now metamodel (view item.now)) }
 {
     let class = class_read(alloc, metas, metamodel, item)?;
     match members_at(item, "slots") {
@@ -90,7 +90,7 @@ pub fn objects_known(
     metamodel: u32,
     items: &Vec<Value>,
 ) -> Result<(), ModelFault>
-    ensures { Gives ModelFault.NoMemory (λ _. tt) result (walk_items (object_known metas.now metamodel) (items_view items.now.items)) }
+    ensures { GivesStated ModelFault.NoMemory (λ _. tt) result (walk_items (object_known metas.now metamodel) (items_view items.now.items)) }
 {
     for item in items {
         object_known(alloc, metas, metamodel, item)?;
@@ -107,7 +107,7 @@ fn object_slots(
     item: &Value,
 ) -> Result<SlotList, ModelFault>
     requires few { length places.now.ids < 2 ^ 32 }
-    ensures value { Gives ModelFault.NoMemory (λ ss. ss) result (slots_of dictionary.now places.now class (id_of (view item.now)) (slots_in (view item.now))) }
+    ensures value { GivesStated ModelFault.NoMemory (λ ss. ss) result (slots_of dictionary.now places.now class (id_of (view item.now)) (slots_in (view item.now))) }
     ensures plain { IfOk result (AllByRecursion IsPlainSlot) }
 {
     match members_at(item, "slots") {
@@ -133,7 +133,7 @@ fn object_read(
     item: &Value,
 ) -> Result<ObjectData, ModelFault>
     requires few { length places.now.ids < 2 ^ 32 }
-    ensures value { Gives ModelFault.NoMemory (λ o. o) result (object_read dictionary.now metamodel places.now (view item.now)) }
+    ensures value { GivesStated ModelFault.NoMemory (λ o. o) result (object_read dictionary.now metamodel places.now (view item.now)) }
     ensures plain { IfOk result IsPlainObject }
 {
     let class = class_read(alloc, dictionary.metas(), metamodel, item)?;
@@ -151,7 +151,7 @@ pub fn objects_of(
     items: &Vec<Value>,
 ) -> Result<ObjectList, ModelFault>
     requires few { length places.now.ids < 2 ^ 32 }
-    ensures value { Gives ModelFault.NoMemory (λ os. os) result (each_item (object_read dictionary.now metamodel places.now) (items_view items.now.items)) }
+    ensures value { GivesStated ModelFault.NoMemory (λ os. os) result (each_item (object_read dictionary.now metamodel places.now) (items_view items.now.items)) }
     ensures plain { IfOk result (AllByRecursion IsPlainObject) }
 {
     let mut objects = ObjectList::new(alloc);

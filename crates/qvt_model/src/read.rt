@@ -1,7 +1,7 @@
 ghost use Rattle.std.specs.Prelude.{◌≡◌, ◌<◌, length, IfOk};
 ghost use Rattle.std.specs.List.{AllByRecursion};
 ghost use Rattle.serde_json.specs.View.{items_view};
-ghost use Rattle.qvt_json.specs.Steps.{Gives};
+ghost use Rattle.qvt_json.specs.Steps.{GivesStated};
 ghost use Rattle.qvt_model.specs.Reading.{model_from, model_of};
 ghost use Rattle.qvt_model.specs.WellFormed.{IsModel, IsPlainObject};
 
@@ -25,7 +25,7 @@ fn model_from(
     metamodel: u32,
     items: &Vec<Value>,
 ) -> Result<ObjectList, ModelFault>
-    ensures value { Gives ModelFault.NoMemory (λ os. os) result (model_from metas.now metamodel (items_view items.now.items)) }
+    ensures value { GivesStated ModelFault.NoMemory (λ os. os) result (model_from metas.now metamodel (items_view items.now.items)) }
     ensures plain { IfOk result (AllByRecursion IsPlainObject) }
 {
     let ids = distinct_ids(alloc, items)?;
@@ -54,7 +54,7 @@ pub fn read_model(
     metamodel: u32,
 ) -> Result<ModelData, ModelFault>
     requires live { metamodel < length metas.now.metamodels }
-    ensures data { Gives ModelFault.NoMemory (λ model. model.objects) result (model_of metas.now metamodel bytes.now) }
+    ensures data { GivesStated ModelFault.NoMemory (λ model. model.objects) result (model_of metas.now metamodel bytes.now) }
     ensures well_formed { IfOk result (λ model. IsModel metas.now metamodel model.objects) }
 {
     let Some(value) = read_value(alloc, bytes)? else {

@@ -1,7 +1,7 @@
 ghost use Rattle.std.specs.Prelude.{◌≡◌, ◌<◌, ◌^◌, length, IfOk};
 ghost use Rattle.std.specs.List.{AllByRecursion};
 ghost use Rattle.serde_json.specs.View.{view, members_view};
-ghost use Rattle.qvt_json.specs.Steps.{Gives};
+ghost use Rattle.qvt_json.specs.Steps.{GivesStated};
 ghost use Rattle.qvt_model.specs.Reading.{feature_of, features_known, slot_read, slots_of};
 ghost use Rattle.qvt_model.specs.WellFormed.{IsPlainDatum, IsPlainSlot};
 
@@ -24,7 +24,7 @@ fn feature_of(
     id: &str,
     name: &str,
 ) -> Result<FeatureNo, ModelFault>
-    ensures { Gives ModelFault.NoMemory (λ f. f) result (feature_of metas.now class id.now name.now) }
+    ensures { GivesStated ModelFault.NoMemory (λ f. f) result (feature_of metas.now class id.now name.now) }
 {
     match metas.feature(class, name) {
         Some(feature) => Ok(feature),
@@ -40,7 +40,7 @@ pub fn features_known(
     id: &str,
     members: &Map<String, Value>,
 ) -> Result<(), ModelFault>
-    ensures { Gives ModelFault.NoMemory (λ _. tt) result (features_known metas.now class id.now (members_view members.now.entries)) }
+    ensures { GivesStated ModelFault.NoMemory (λ _. tt) result (features_known metas.now class id.now (members_view members.now.entries)) }
 {
     for (name, _) in members.iter() {
         feature_of(alloc, metas, class, id, name.as_str())?;
@@ -60,7 +60,7 @@ fn slot_read(
     value: &Value,
 ) -> Result<SlotData, ModelFault>
     requires few { length places.now.ids < 2 ^ 32 }
-    ensures value { Gives ModelFault.NoMemory (λ s. s) result (slot_read dictionary.now places.now class id.now name.now (view value.now)) }
+    ensures value { GivesStated ModelFault.NoMemory (λ s. s) result (slot_read dictionary.now places.now class id.now name.now (view value.now)) }
     ensures plain { IfOk result IsPlainSlot }
 {
     let feature = feature_of(alloc, dictionary.metas(), class, id, name)?;
@@ -81,7 +81,7 @@ pub fn slots_of(
     members: &Map<String, Value>,
 ) -> Result<SlotList, ModelFault>
     requires few { length places.now.ids < 2 ^ 32 }
-    ensures value { Gives ModelFault.NoMemory (λ ss. ss) result (slots_of dictionary.now places.now class id.now (members_view members.now.entries)) }
+    ensures value { GivesStated ModelFault.NoMemory (λ ss. ss) result (slots_of dictionary.now places.now class id.now (members_view members.now.entries)) }
     ensures plain { IfOk result (AllByRecursion IsPlainSlot) }
 {
     let mut slots = SlotList::new(alloc);

@@ -10,7 +10,7 @@ ghost use Rattle.qvt_model.specs.Written.{model_text};
 ghost use Rattle.qvt_model.specs.Writing.{value_written, values_written, head_of, list_value, slot_written, put_some, members_onto, object_written, objects_written, model_written, are_new};
 
 use crate::data::ModelFault;
-use crate::numbers::NumberSet;
+use crate::numbers::NumberIndex;
 use qvt_base::list_fault::ListFault;
 use qvt_base::lists::Bytes;
 use qvt_base::numbers::{FeatureNo, Oid};
@@ -22,11 +22,11 @@ use serde_json::{Map, Value, json};
 use std::alloc::Global;
 
 /// The numbers of the objects, in order.
-fn numbers_of(alloc: Global, members: &[Oid]) -> Result<NumberSet, ListFault>
+fn numbers_of(alloc: Global, members: &[Oid]) -> Result<NumberIndex, ListFault>
     requires { IsTrue (are_new [] (numbers members.now)) }
     ensures { IfOk result (λ xs. xs ≡ numbers members.now) }
 {
-    let mut places = NumberSet::new(alloc);
+    let mut places = NumberIndex::new(alloc);
     for member in members {
         places.add(member.0)?;
     }
@@ -59,7 +59,7 @@ fn id_text(alloc: Global, place: usize) -> Result<String, ListFault>
 fn value_written(
     alloc: Global,
     metas: &Metas,
-    places: &NumberSet,
+    places: &NumberIndex,
     value: &Item,
 ) -> Result<Option<Value>, ListFault>
     ensures { IfOk result (λ o. option_map view o ≡ value_written metas.now places.now value.now) }
@@ -86,7 +86,7 @@ fn value_written(
 fn values_written(
     alloc: Global,
     metas: &Metas,
-    places: &NumberSet,
+    places: &NumberIndex,
     values: &[Item],
 ) -> Result<Vec<Value>, ListFault>
     ensures { IfOk result (λ vs. map view vs.items ≡ filter_map (value_written metas.now places.now) values.now) }
@@ -106,7 +106,7 @@ fn values_written(
 fn first_written(
     alloc: Global,
     metas: &Metas,
-    places: &NumberSet,
+    places: &NumberIndex,
     values: &[Item],
 ) -> Result<Option<Value>, ListFault>
     ensures { IfOk result (λ o. option_map view o ≡ head_of (filter_map (value_written metas.now places.now) values.now)) }
@@ -123,7 +123,7 @@ fn first_written(
 fn list_written(
     alloc: Global,
     metas: &Metas,
-    places: &NumberSet,
+    places: &NumberIndex,
     values: &[Item],
 ) -> Result<Option<Value>, ListFault>
     ensures { IfOk result (λ o. option_map view o ≡ list_value (filter_map (value_written metas.now places.now) values.now)) }
@@ -139,7 +139,7 @@ fn list_written(
 fn slot_written(
     alloc: Global,
     metas: &Metas,
-    places: &NumberSet,
+    places: &NumberIndex,
     feature: FeatureNo,
     values: &[Item],
 ) -> Result<Option<Value>, ListFault>
@@ -211,7 +211,7 @@ fn feature_name_of(store: &Store, feature: FeatureNo) -> &str
 fn feature_written(
     alloc: Global,
     store: &Store,
-    places: &NumberSet,
+    places: &NumberIndex,
     owner: Oid,
     feature: FeatureNo,
 ) -> Result<Option<Value>, ListFault>
@@ -232,7 +232,7 @@ fn feature_written(
 fn members_written(
     alloc: Global,
     store: &Store,
-    places: &NumberSet,
+    places: &NumberIndex,
     owner: Oid,
 ) -> Result<Map<String, Value>, ListFault>
     requires { IsTrue (is_live store.now owner.0) }
@@ -250,7 +250,7 @@ fn members_written(
 fn slots_written(
     alloc: Global,
     store: &Store,
-    places: &NumberSet,
+    places: &NumberIndex,
     owner: Oid,
 ) -> Result<Value, ListFault>
     requires { IsTrue (is_live store.now owner.0) }
@@ -263,7 +263,7 @@ fn slots_written(
 fn object_written(
     alloc: Global,
     store: &Store,
-    places: &NumberSet,
+    places: &NumberIndex,
     place: usize,
     owner: Oid,
 ) -> Result<Value, ListFault>
@@ -283,7 +283,7 @@ fn object_written(
 fn objects_written(
     alloc: Global,
     store: &Store,
-    places: &NumberSet,
+    places: &NumberIndex,
     members: &[Oid],
 ) -> Result<Vec<Value>, ListFault>
     requires { AllByRecursion (λ o. IsTrue (is_live store.now o.0)) members.now }

@@ -22,7 +22,7 @@ use Rattle.qvt_ocl_types.specs.declared.signature.Kinds.TheVariants.{SetOrBag}
 use Rattle.qvt_ocl_types.specs.Table.{signature, listed, allows}
 use Rattle.qvt_ocl_types.specs.Fits.{Each, Sure, IsNothing, IsNumber, IsText, IsCollection, Fits}
 use Rattle.qvt_ocl_types.specs.Rows as rows
-use Rattle.qvt_ocl_types.specs.Rows.{Within, Holds, AreOrdered, numbers, texts, nothing, AreIntegers, numbers', nothing'}
+use Rattle.qvt_ocl_types.specs.Rows.{FitsWithin, Holds, AreOrdered, numbers, texts, nothing, AreIntegers, numbers', nothing'}
 use Rattle.qvt_ocl_types.proofs.Fitting as fit
 
 module _ (literals : ℕ → ℕ → LiteralRef → Bool) (objects : ℕ → Oid → Bool) where
@@ -78,7 +78,7 @@ module _ (literals : ℕ → ℕ → LiteralRef → Bool) (objects : ℕ → Oid
   on_string op = tt
 
   -- items of the source fit the join too
-  wider : (I K : TyTerm) → Within literals objects I K → (xs : List Value) → Each (Sure (In I)) xs → Each (Sure (In K)) xs
+  wider : (I K : TyTerm) → FitsWithin literals objects I K → (xs : List Value) → Each (Sure (In I)) xs → Each (Sure (In K)) xs
   wider I K w xs a = fit.each_map (Sure (In I)) (Sure (In K)) (λ v h. (w.fits v h.0, h.1)) xs a
 
   sums : (I : TyTerm) → AreIntegers I → (xs : List Value) → Each (Sure (In I)) xs → Each (Sure IsNumber) xs

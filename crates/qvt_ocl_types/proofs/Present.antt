@@ -16,12 +16,12 @@ use Rattle.qvt_ocl_words.specs.Collections.{same_kind}
 use Rattle.qvt_ocl_words.specs.Operation.{besides_items, takes_item}
 use Rattle.qvt_types_data.specs.Term.{TyTerm, Void, Boolean, Integer, Text, Literals, Class, Collection}
 use Rattle.qvt_ocl_types.specs.Types.{conforms, join}
-use Rattle.qvt_ocl_types.specs.declared.signature.Param.{Param}
-use Rattle.qvt_ocl_types.specs.declared.signature.Param.TheVariants as param
+use Rattle.qvt_ocl_types.specs.declared.signature.ArgumentSort.{ArgumentSort}
+use Rattle.qvt_ocl_types.specs.declared.signature.ArgumentSort.TheVariants as param
 use Rattle.qvt_ocl_types.specs.declared.signature.Kinds.{Kinds}
 use Rattle.qvt_ocl_types.specs.Table.{listed, allows}
 use Rattle.qvt_ocl_types.specs.Fits.{Each, Sure, IsCollection, Fits}
-use Rattle.qvt_ocl_types.specs.Rows.{Within, Given}
+use Rattle.qvt_ocl_types.specs.Rows.{FitsWithin, GivenArguments}
 use Rattle.qvt_ocl_types.specs.Typing.{Taken, accepts, on_join, on_items}
 use Rattle.qvt_ocl_types.specs.Law.{AreBelow, AllFit}
 use Rattle.qvt_ocl_types.proofs.Fitting as fit
@@ -74,19 +74,19 @@ module _ (below : ℕ → ℕ → Bool) (literals : ℕ → ℕ → LiteralRef �
       let p = both (same_kind k l) (conforms below S U) e in each (In S) (In U) (wide S U p.1) k l (same k l p.0) v h
   wide S U e v h = cc
 
-  within_itself : (S : TyTerm) → Within literals objects S S
+  within_itself : (S : TyTerm) → FitsWithin literals objects S S
   within_itself S = record { fits = λ v h. h }
 
-  joined : (b c : Bool) (S U K : TyTerm) → conforms below S U ≡ b → conforms below U S ≡ c → cond b (Some U) (cond c (Some S) None) ≡ Some K → Within literals objects S K × Within literals objects U K
-  joined true c S U K e f h = let i : U ≡ K = some_same U K h in subst (λ X. Within literals objects S X × Within literals objects U X) i (record { fits = wide S U e }, within_itself U)
-  joined false true S U K e f h = let i : S ≡ K = some_same S K h in subst (λ X. Within literals objects S X × Within literals objects U X) i (within_itself S, record { fits = wide U S f })
+  joined : (b c : Bool) (S U K : TyTerm) → conforms below S U ≡ b → conforms below U S ≡ c → cond b (Some U) (cond c (Some S) None) ≡ Some K → FitsWithin literals objects S K × FitsWithin literals objects U K
+  joined true c S U K e f h = let i : U ≡ K = some_same U K h in subst (λ X. FitsWithin literals objects S X × FitsWithin literals objects U X) i (record { fits = wide S U e }, within_itself U)
+  joined false true S U K e f h = let i : S ≡ K = some_same S K h in subst (λ X. FitsWithin literals objects S X × FitsWithin literals objects U X) i (within_itself S, record { fits = wide U S f })
   joined false false S U K e f h = cc
 
-  joins : (S U K : TyTerm) → join below S U ≡ Some K → Within literals objects S K × Within literals objects U K
+  joins : (S U K : TyTerm) → join below S U ≡ Some K → FitsWithin literals objects S K × FitsWithin literals objects U K
   joins S U K h = joined (conforms below S U) (conforms below U S) S U K refl refl h
 
   -- the arguments that are no items are not null
-  abbrev pub Present : List Param → List Value → Type 0
+  abbrev pub Present : List ArgumentSort → List Value → Type 0
   Present (param.Item ∷ ps) (v ∷ vs) = Present ps vs
   Present (p ∷ ps) (v ∷ vs) = (is_null v ≡ false) × Present ps vs
   Present ps vs = ⊤
@@ -131,7 +131,7 @@ module _ (below : ℕ → ℕ → Bool) (literals : ℕ → ℕ → LiteralRef �
   items_on ok T U h t Q e f = cc
 
   -- what holds of arguments of these sorts holds of these
-  pub apply_given : (ps : List Param) (k : Kind) (T : TyTerm) (P : Kind → TyTerm → List Value → Type 0) → Given literals objects ps k T P → (Us : List TyTerm) (vs : List Value) → AllFit literals objects Us vs → Valid vs → Present ps vs
+  pub apply_given : (ps : List ArgumentSort) (k : Kind) (T : TyTerm) (P : Kind → TyTerm → List Value → Type 0) → GivenArguments literals objects ps k T P → (Us : List TyTerm) (vs : List Value) → AllFit literals objects Us vs → Valid vs → Present ps vs
       → (t : Taken) → accepts below ps k T Us ≡ Some t → P t.kind t.joined vs
   apply_given [] k T P g [] [] f i n t e = subst (λ x. P x.kind x.joined []) (some_same (record { kind = k; joined = T }) t e) g
   apply_given [] k T P g (U ∷ Us) vs f i n t e = cc
@@ -154,7 +154,7 @@ module _ (below : ℕ → ℕ → Bool) (literals : ℕ → ℕ → LiteralRef �
       items_on ok T U (λ l K. accepts below ps l K Us) t (P t.kind t.joined (v ∷ vs)) e (λ l V K is o j d.
       as_items l V v (λ w. P t.kind t.joined (w ∷ vs)) (subst (λ X. In X v) is f.0) i.0 n.0 (λ m s r q a.
       apply_given ps l K (λ y L ws. P y L (Coll' m s r ∷ ws))
-      (subst (λ z. Given literals objects ps z K (λ y L ws. P y L (Coll' m s r ∷ ws))) q
+      (subst (λ z. GivenArguments literals objects ps z K (λ y L ws. P y L (Coll' m s r ∷ ws))) q
       (g K (joins T V K j).0 m (ap (allows ok) q ∙ o) s r (fit.each_map (Sure (In V)) (Sure (In K)) (λ u w. ((joins T V K j).1.fits u w.0, w.1)) (items-the_row-Value _ r) a)))
       Us vs f.1 i.1 n.1 t d))
   apply_given ps k T P g (U ∷ Us) [] f i n t e = absurd f
@@ -171,13 +171,13 @@ module _ (below : ℕ → ℕ → Bool) (literals : ℕ → ℕ → LiteralRef �
   none_right true b h = cc
 
   -- all parameters are no items
-  abbrev pub NoItem : List Param → Type 0
+  abbrev pub NoItem : List ArgumentSort → Type 0
   NoItem [] = ⊤
   NoItem (param.Item ∷ ps) = ⊥
   NoItem (p ∷ ps) = NoItem ps
 
   -- where no argument is null
-  pub all_present : (ps : List Param) (vs : List Value) → list_any is_null vs ≡ false → Present ps vs
+  pub all_present : (ps : List ArgumentSort) (vs : List Value) → list_any is_null vs ≡ false → Present ps vs
   all_present [] vs h = tt
   all_present (param.Integer ∷ ps) [] h = tt
   all_present (param.Text ∷ ps) [] h = tt

@@ -21,11 +21,11 @@ use Rattle.qvt_types_data.specs.Term.{TyTerm, Void, Boolean, Integer, Text, Lite
 use Rattle.qvt_ocl_types.specs.Types.{join}
 use Rattle.qvt_ocl_types.specs.declared.signature.Sort.{Sort}
 use Rattle.qvt_ocl_types.specs.declared.signature.Sort.TheVariants as sort
-use Rattle.qvt_ocl_types.specs.declared.signature.Param.{Param}
-use Rattle.qvt_ocl_types.specs.declared.signature.Param.TheVariants as param
+use Rattle.qvt_ocl_types.specs.declared.signature.ArgumentSort.{ArgumentSort}
+use Rattle.qvt_ocl_types.specs.declared.signature.ArgumentSort.TheVariants as param
 use Rattle.qvt_ocl_types.specs.declared.signature.Demand.{Demand}
 use Rattle.qvt_ocl_types.specs.declared.signature.Demand.TheVariants.{Any, Integers, Ordered}
-use Rattle.qvt_ocl_types.specs.declared.signature.Signature.{Signature}
+use Rattle.qvt_ocl_types.specs.declared.signature.OperationSignature.{OperationSignature}
 use Rattle.qvt_ocl_types.specs.declared.signature.Kinds.TheVariants.{Every, SetOrBag, Only}
 use Rattle.qvt_ocl_types.specs.Table.{signature, listed, allows}
 use Rattle.qvt_ocl_types.specs.Fits.{Each, Sure, IsNothing, Fits}
@@ -72,14 +72,14 @@ module _ (below : ℕ → ℕ → Bool) (literals : ℕ → ℕ → LiteralRef �
   abbrev In : TyTerm → Value → Type 0
   In T v = Fits literals objects T v
 
-  abbrev There : List Param → List Value → Type 0
+  abbrev There : List ArgumentSort → List Value → Type 0
   There ps vs = present.Present below literals objects ab ps vs
 
-  abbrev IsThere : Op → Option Signature → Type 0
+  abbrev IsThere : Op → Option OperationSignature → Type 0
   IsThere op None = ⊤
   IsThere op (Some s) = (vs : List Value) → list_any is_null (besides_items op vs) ≡ false → There (listed s.params) vs
 
-  all_there : (ps : List Param) (vs : List Value) → list_any is_null vs ≡ false → There ps vs
+  all_there : (ps : List ArgumentSort) (vs : List Value) → list_any is_null vs ≡ false → There ps vs
   all_there = present.all_present below literals objects ab
 
   item_there : (vs : List Value) → There (param.Item ∷ []) vs
@@ -88,7 +88,7 @@ module _ (below : ℕ → ℕ → Bool) (literals : ℕ → ℕ → LiteralRef �
   place_there : (vs : List Value) → list_any is_null (besides_items InsertAt vs) ≡ false → There (param.Integer ∷ param.Item ∷ []) vs
   place_there = present.place_present below literals objects ab
 
-  one_there : (op : Op) (p : Param) → ((v : Value) (vs : List Value) → besides_items op (v ∷ vs) ≡ v ∷ vs) → (ps : List Param) (vs : List Value) → list_any is_null (besides_items op vs) ≡ false → There (p ∷ ps) vs
+  one_there : (op : Op) (p : ArgumentSort) → ((v : Value) (vs : List Value) → besides_items op (v ∷ vs) ≡ v ∷ vs) → (ps : List ArgumentSort) (vs : List Value) → list_any is_null (besides_items op vs) ≡ false → There (p ∷ ps) vs
   one_there op param.Integer e ps [] h = tt
   one_there op param.Text e ps [] h = tt
   one_there op param.Item e ps [] h = tt
@@ -151,7 +151,7 @@ module _ (below : ℕ → ℕ → Bool) (literals : ℕ → ℕ → LiteralRef �
   any_invalid U v h = cc
 
   -- the type of a signature's answer
-  typed_as : (s : Signature) (I U : TyTerm) (o : Option Taken) (Q : Type 0) → answered below s I o ≡ Some U → ((t : Taken) → o ≡ Some t → type_of s.answer I t.kind t.joined ≡ U → Q) → Q
+  typed_as : (s : OperationSignature) (I U : TyTerm) (o : Option Taken) (Q : Type 0) → answered below s I o ≡ Some U → ((t : Taken) → o ≡ Some t → type_of s.answer I t.kind t.joined ≡ U → Q) → Q
   typed_as s I U (Some t) Q h f = f t refl (some_same (type_of s.answer I t.kind t.joined) U h)
   typed_as s I U None Q h f = cc
 
@@ -160,7 +160,7 @@ module _ (below : ℕ → ℕ → Bool) (literals : ℕ → ℕ → LiteralRef �
   tested_by false o x Q h f = cc
 
   -- a source that is there
-  on_boolean : (op : Op) (o : Option Signature) → Holds literals objects op sort.Boolean o → (U : TyTerm) (Us : List TyTerm) → by_signature below o Boolean Us ≡ Some U → (at : Place) (b : Bool) (vs : List Value) → AllFit literals objects Us vs → present.Valid below literals objects ab vs → list_any is_null vs ≡ false → Gives (on_present op at (Truth b) vs) U
+  on_boolean : (op : Op) (o : Option OperationSignature) → Holds literals objects op sort.Boolean o → (U : TyTerm) (Us : List TyTerm) → by_signature below o Boolean Us ≡ Some U → (at : Place) (b : Bool) (vs : List Value) → AllFit literals objects Us vs → present.Valid below literals objects ab vs → list_any is_null vs ≡ false → Gives (on_present op at (Truth b) vs) U
   on_boolean op None r U Us e at b vs f i n = cc
   on_boolean op (Some s) r U Us e at b vs f i n =
       tested_by (meets s.demand Void) (answered below s Void (accepts below (listed s.params) Set Void Us)) U (Gives (on_present op at (Truth b) vs) U) e (λ d k.
@@ -168,7 +168,7 @@ module _ (below : ℕ → ℕ → Bool) (literals : ℕ → ℕ → LiteralRef �
       subst (λ X. Gives (on_present op at (Truth b) vs) X) is
       (present.apply_given below literals objects ab (listed s.params) Set Void (Says literals objects op (Truth b) s.answer Void) (r b) Us vs f i (all_there (listed s.params) vs n) t a at)))
 
-  on_integer : (op : Op) (o : Option Signature) → Holds literals objects op sort.Integer o → (U : TyTerm) (Us : List TyTerm) → by_signature below o Integer Us ≡ Some U → (at : Place) (b : _) (vs : List Value) → AllFit literals objects Us vs → present.Valid below literals objects ab vs → list_any is_null vs ≡ false → Gives (on_present op at (Int b) vs) U
+  on_integer : (op : Op) (o : Option OperationSignature) → Holds literals objects op sort.Integer o → (U : TyTerm) (Us : List TyTerm) → by_signature below o Integer Us ≡ Some U → (at : Place) (b : _) (vs : List Value) → AllFit literals objects Us vs → present.Valid below literals objects ab vs → list_any is_null vs ≡ false → Gives (on_present op at (Int b) vs) U
   on_integer op None r U Us e at b vs f i n = cc
   on_integer op (Some s) r U Us e at b vs f i n =
       tested_by (meets s.demand Void) (answered below s Void (accepts below (listed s.params) Set Void Us)) U (Gives (on_present op at (Int b) vs) U) e (λ d k.
@@ -176,7 +176,7 @@ module _ (below : ℕ → ℕ → Bool) (literals : ℕ → ℕ → LiteralRef �
       subst (λ X. Gives (on_present op at (Int b) vs) X) is
       (present.apply_given below literals objects ab (listed s.params) Set Void (Says literals objects op (Int b) s.answer Void) (r b) Us vs f i (all_there (listed s.params) vs n) t a at)))
 
-  on_string : (op : Op) (o : Option Signature) → Holds literals objects op sort.Text o → (U : TyTerm) (Us : List TyTerm) → by_signature below o Text Us ≡ Some U → (at : Place) (b : _) (vs : List Value) → AllFit literals objects Us vs → present.Valid below literals objects ab vs → list_any is_null vs ≡ false → Gives (on_present op at (Str b) vs) U
+  on_string : (op : Op) (o : Option OperationSignature) → Holds literals objects op sort.Text o → (U : TyTerm) (Us : List TyTerm) → by_signature below o Text Us ≡ Some U → (at : Place) (b : _) (vs : List Value) → AllFit literals objects Us vs → present.Valid below literals objects ab vs → list_any is_null vs ≡ false → Gives (on_present op at (Str b) vs) U
   on_string op None r U Us e at b vs f i n = cc
   on_string op (Some s) r U Us e at b vs f i n =
       tested_by (meets s.demand Void) (answered below s Void (accepts below (listed s.params) Set Void Us)) U (Gives (on_present op at (Str b) vs) U) e (λ d k.
@@ -184,7 +184,7 @@ module _ (below : ℕ → ℕ → Bool) (literals : ℕ → ℕ → LiteralRef �
       subst (λ X. Gives (on_present op at (Str b) vs) X) is
       (present.apply_given below literals objects ab (listed s.params) Set Void (Says literals objects op (Str b) s.answer Void) (r b) Us vs f i (all_there (listed s.params) vs n) t a at)))
 
-  on_collection : (op : Op) (k : Kind) (o : Option Signature) → Holds literals objects op (sort.Collection k) o → IsThere op o → (I U : TyTerm) (Us : List TyTerm) → by_signature below o (Collection k I) Us ≡ Some U → (at : Place) (z : _) (r : _) (vs : List Value)
+  on_collection : (op : Op) (k : Kind) (o : Option OperationSignature) → Holds literals objects op (sort.Collection k) o → IsThere op o → (I U : TyTerm) (Us : List TyTerm) → by_signature below o (Collection k I) Us ≡ Some U → (at : Place) (z : _) (r : _) (vs : List Value)
       → Each (Sure (In I)) (items-the_row-Value _ r) → AllFit literals objects Us vs → present.Valid below literals objects ab vs → list_any is_null (besides_items op vs) ≡ false → Gives (on_present op at (Coll' k z r) vs) U
   on_collection op k None h th I U Us e at z r vs q f i n = cc
   on_collection op k (Some s) h th I U Us e at z r vs q f i n =

@@ -13,13 +13,13 @@ use Rattle.qvt_types_data.specs.Term.{TyTerm, Void, Boolean, Integer, Text, Coll
 use Rattle.qvt_ocl_types.specs.Types.{innermost}
 use Rattle.qvt_ocl_types.specs.declared.signature.Sort.{Sort}
 use Rattle.qvt_ocl_types.specs.declared.signature.Sort.TheVariants as sort
-use Rattle.qvt_ocl_types.specs.declared.signature.Param.{Param}
-use Rattle.qvt_ocl_types.specs.declared.signature.Param.TheVariants as param
+use Rattle.qvt_ocl_types.specs.declared.signature.ArgumentSort.{ArgumentSort}
+use Rattle.qvt_ocl_types.specs.declared.signature.ArgumentSort.TheVariants as param
 use Rattle.qvt_ocl_types.specs.declared.signature.Demand.{Demand}
 use Rattle.qvt_ocl_types.specs.declared.signature.Demand.TheVariants.{Any, Integers, Ordered}
-use Rattle.qvt_ocl_types.specs.declared.signature.Answer.{Answer}
-use Rattle.qvt_ocl_types.specs.declared.signature.Answer.TheVariants as answer
-use Rattle.qvt_ocl_types.specs.declared.signature.Signature.{Signature}
+use Rattle.qvt_ocl_types.specs.declared.signature.AnswerType.{AnswerType}
+use Rattle.qvt_ocl_types.specs.declared.signature.AnswerType.TheVariants as answer
+use Rattle.qvt_ocl_types.specs.declared.signature.OperationSignature.{OperationSignature}
 use Rattle.qvt_ocl_types.specs.Table.{signature, listed, allows}
 use Rattle.qvt_ocl_types.specs.Fits.{Each, Sure, Fits}
 
@@ -29,7 +29,7 @@ kind_in_common Bag Bag = Bag
 kind_in_common k l = Set
 
 -- of the item type I, the join T and the kind l of the argument
-abbrev pub type_of : Answer → TyTerm → Kind → TyTerm → TyTerm
+abbrev pub type_of : AnswerType → TyTerm → Kind → TyTerm → TyTerm
 type_of answer.Boolean I l T = Boolean
 type_of answer.Integer I l T = Integer
 type_of answer.Text I l T = Text
@@ -60,28 +60,28 @@ module _ (literals : ℕ → ℕ → LiteralRef → Bool) (objects : ℕ → Oid
   In S v = Fits literals objects S v
 
   -- what fits T fits U
-  pub record Within (S U : TyTerm) : Type 0 where
+  pub record FitsWithin (S U : TyTerm) : Type 0 where
     pub fits : (v : Value) → In S v → In U v
 
   -- arguments of these sorts, T being the join so far and k the kind of the last collection
-  abbrev pub Given : List Param → Kind → TyTerm → (Kind → TyTerm → List Value → Type 0) → Type 0
-  Given [] k T P = P k T []
-  Given (param.Integer ∷ ps) k T P = (n : ℤ) → Given ps k T (λ l K vs. P l K (Int n ∷ vs))
-  Given (param.Text ∷ ps) k T P = (s : List ℕ) → Given ps k T (λ l K vs. P l K (Str s ∷ vs))
-  Given (param.Item ∷ ps) k T P = (K : TyTerm) → Within T K → (x : Value) → Sure (In K) x → Given ps k K (λ l L vs. P l L (x ∷ vs))
-  Given (param.Items ok ∷ ps) k T P = (K : TyTerm) → Within T K → (l : Kind) → allows ok l ≡ true → (s : _) (r : _) → Each (Sure (In K)) (items-the_row-Value _ r) → Given ps l K (λ m L vs. P m L (Coll' l s r ∷ vs))
+  abbrev pub GivenArguments : List ArgumentSort → Kind → TyTerm → (Kind → TyTerm → List Value → Type 0) → Type 0
+  GivenArguments [] k T P = P k T []
+  GivenArguments (param.Integer ∷ ps) k T P = (n : ℤ) → GivenArguments ps k T (λ l K vs. P l K (Int n ∷ vs))
+  GivenArguments (param.Text ∷ ps) k T P = (s : List ℕ) → GivenArguments ps k T (λ l K vs. P l K (Str s ∷ vs))
+  GivenArguments (param.Item ∷ ps) k T P = (K : TyTerm) → FitsWithin T K → (x : Value) → Sure (In K) x → GivenArguments ps k K (λ l L vs. P l L (x ∷ vs))
+  GivenArguments (param.Items ok ∷ ps) k T P = (K : TyTerm) → FitsWithin T K → (l : Kind) → allows ok l ≡ true → (s : _) (r : _) → Each (Sure (In K)) (items-the_row-Value _ r) → GivenArguments ps l K (λ m L vs. P m L (Coll' l s r ∷ vs))
 
   -- the operation has a value, and it fits
-  abbrev pub Says : Op → Value → Answer → TyTerm → Kind → TyTerm → List Value → Type 0
+  abbrev pub Says : Op → Value → AnswerType → TyTerm → Kind → TyTerm → List Value → Type 0
   Says op v answer I l T vs = (at : Place) → IsSomeAnd (on_present op at v vs) (In (type_of answer I l T))
 
-  abbrev pub RowHolds : Op → Sort → Signature → Type 0
-  RowHolds op sort.Boolean s = (b : Bool) → Given (listed s.params) Set Void (Says op (Truth b) s.answer Void)
-  RowHolds op sort.Integer s = (n : ℤ) → Given (listed s.params) Set Void (Says op (Int n) s.answer Void)
-  RowHolds op sort.Text s = (t : List ℕ) → Given (listed s.params) Set Void (Says op (Str t) s.answer Void)
-  RowHolds op (sort.Collection k) s = (I : TyTerm) → Meets s.demand I → (z : _) (r : _) → Each (Sure (In I)) (items-the_row-Value _ r) → Given (listed s.params) k I (Says op (Coll' k z r) s.answer I)
+  abbrev pub RowHolds : Op → Sort → OperationSignature → Type 0
+  RowHolds op sort.Boolean s = (b : Bool) → GivenArguments (listed s.params) Set Void (Says op (Truth b) s.answer Void)
+  RowHolds op sort.Integer s = (n : ℤ) → GivenArguments (listed s.params) Set Void (Says op (Int n) s.answer Void)
+  RowHolds op sort.Text s = (t : List ℕ) → GivenArguments (listed s.params) Set Void (Says op (Str t) s.answer Void)
+  RowHolds op (sort.Collection k) s = (I : TyTerm) → Meets s.demand I → (z : _) (r : _) → Each (Sure (In I)) (items-the_row-Value _ r) → GivenArguments (listed s.params) k I (Says op (Coll' k z r) s.answer I)
 
-  abbrev pub Holds : Op → Sort → Option Signature → Type 0
+  abbrev pub Holds : Op → Sort → Option OperationSignature → Type 0
   Holds op sort None = ⊤
   Holds op sort (Some s) = RowHolds op sort s
 

@@ -10,18 +10,18 @@ use Rattle.qvt_ocl_types.specs.declared.signature.Sort.{Sort}
 use Rattle.qvt_ocl_types.specs.declared.signature.Sort.TheVariants as sort
 use Rattle.qvt_ocl_types.specs.declared.signature.Kinds.{Kinds}
 use Rattle.qvt_ocl_types.specs.declared.signature.Kinds.TheVariants.{Every, SetOrBag, Only}
-use Rattle.qvt_ocl_types.specs.declared.signature.Param.{Param}
-use Rattle.qvt_ocl_types.specs.declared.signature.Param.TheVariants as param
-use Rattle.qvt_ocl_types.specs.declared.signature.Params.{Params}
-use Rattle.qvt_ocl_types.specs.declared.signature.Params.TheVariants.{None as NoParams, One, Two}
+use Rattle.qvt_ocl_types.specs.declared.signature.ArgumentSort.{ArgumentSort}
+use Rattle.qvt_ocl_types.specs.declared.signature.ArgumentSort.TheVariants as param
+use Rattle.qvt_ocl_types.specs.declared.signature.ArgumentSorts.{ArgumentSorts}
+use Rattle.qvt_ocl_types.specs.declared.signature.ArgumentSorts.TheVariants.{None as NoParams, One, Two}
 use Rattle.qvt_ocl_types.specs.declared.signature.Demand.{Demand}
 use Rattle.qvt_ocl_types.specs.declared.signature.Demand.TheVariants.{Any, Integers, Ordered}
-use Rattle.qvt_ocl_types.specs.declared.signature.Answer.{Answer}
-use Rattle.qvt_ocl_types.specs.declared.signature.Answer.TheVariants as answer
-use Rattle.qvt_ocl_types.specs.declared.signature.Signature.{Signature}
+use Rattle.qvt_ocl_types.specs.declared.signature.AnswerType.{AnswerType}
+use Rattle.qvt_ocl_types.specs.declared.signature.AnswerType.TheVariants as answer
+use Rattle.qvt_ocl_types.specs.declared.signature.OperationSignature.{OperationSignature}
 
 -- the parameters as a list
-abbrev pub listed : Params → List Param
+abbrev pub listed : ArgumentSorts → List ArgumentSort
 listed NoParams = []
 listed (One p) = p ∷ []
 listed (Two p q) = p ∷ q ∷ []
@@ -34,20 +34,20 @@ allows SetOrBag Bag = true
 allows SetOrBag l = false
 allows (Only k) l = same_kind k l
 
-abbrev pub row : Params → Answer → Option Signature
+abbrev pub row : ArgumentSorts → AnswerType → Option OperationSignature
 row params answer = Some (record { demand = Any; params = params; answer = answer })
 
 -- of items that are as demanded, without arguments
-abbrev pub row_of : Demand → Answer → Option Signature
+abbrev pub row_of : Demand → AnswerType → Option OperationSignature
 row_of demand answer = Some (record { demand = demand; params = NoParams; answer = answer })
 
 -- on a Boolean
-abbrev pub on_boolean : Op → Option Signature
+abbrev pub on_boolean : Op → Option OperationSignature
 on_boolean ToString = row NoParams answer.Text
 on_boolean op = None
 
 -- on an Integer
-abbrev pub on_integer : Op → Option Signature
+abbrev pub on_integer : Op → Option OperationSignature
 on_integer Plus = row (One param.Integer) answer.Integer
 on_integer Minus = row (One param.Integer) answer.Integer
 on_integer Times = row (One param.Integer) answer.Integer
@@ -65,7 +65,7 @@ on_integer ToString = row NoParams answer.Text
 on_integer op = None
 
 -- on a String
-abbrev pub on_string : Op → Option Signature
+abbrev pub on_string : Op → Option OperationSignature
 on_string Plus = row (One param.Text) answer.Text
 on_string Concat = row (One param.Text) answer.Text
 on_string Size = row NoParams answer.Integer
@@ -87,7 +87,7 @@ on_string GreaterEqual = row (One param.Text) answer.Boolean
 on_string op = None
 
 -- on a Sequence or an OrderedSet
-abbrev pub on_ordered : Op → Kind → Option Signature
+abbrev pub on_ordered : Op → Kind → Option OperationSignature
 on_ordered First k = row NoParams answer.Item
 on_ordered Last k = row NoParams answer.Item
 on_ordered At k = row (One param.Integer) answer.Item
@@ -99,7 +99,7 @@ on_ordered Reverse k = row NoParams (answer.Items k)
 on_ordered op k = None
 
 -- on the kind alone
-abbrev pub on_kind : Op → Kind → Option Signature
+abbrev pub on_kind : Op → Kind → Option OperationSignature
 on_kind SubSequence Sequence = row (Two param.Integer param.Integer) (answer.Items Sequence)
 on_kind SubOrderedSet OrderedSet = row (Two param.Integer param.Integer) (answer.Items OrderedSet)
 on_kind Minus Set = row (One (param.Items Every)) (answer.Items Set)
@@ -111,7 +111,7 @@ on_kind op OrderedSet = on_ordered op OrderedSet
 on_kind op k = None
 
 -- on any collection
-abbrev pub on_collection : Op → Kind → Option Signature
+abbrev pub on_collection : Op → Kind → Option OperationSignature
 on_collection Size k = row NoParams answer.Integer
 on_collection IsEmpty k = row NoParams answer.Boolean
 on_collection NotEmpty k = row NoParams answer.Boolean
@@ -133,7 +133,7 @@ on_collection Min k = row_of Ordered answer.Item
 on_collection Max k = row_of Ordered answer.Item
 on_collection op k = on_kind op k
 
-abbrev pub signature : Op → Sort → Option Signature
+abbrev pub signature : Op → Sort → Option OperationSignature
 signature op sort.Boolean = on_boolean op
 signature op sort.Integer = on_integer op
 signature op sort.Text = on_string op

@@ -9,11 +9,11 @@ use Rattle.qvt_types_data.specs.Term.{TyTerm, Void, Boolean, Integer, Text, Coll
 use Rattle.qvt_ocl_types.specs.Types.{conforms, join}
 use Rattle.qvt_ocl_types.specs.declared.signature.Sort.{Sort}
 use Rattle.qvt_ocl_types.specs.declared.signature.Sort.TheVariants as sort
-use Rattle.qvt_ocl_types.specs.declared.signature.Param.{Param}
-use Rattle.qvt_ocl_types.specs.declared.signature.Param.TheVariants as param
+use Rattle.qvt_ocl_types.specs.declared.signature.ArgumentSort.{ArgumentSort}
+use Rattle.qvt_ocl_types.specs.declared.signature.ArgumentSort.TheVariants as param
 use Rattle.qvt_ocl_types.specs.declared.signature.Demand.{Demand}
 use Rattle.qvt_ocl_types.specs.declared.signature.Demand.TheVariants.{Any, Integers, Ordered}
-use Rattle.qvt_ocl_types.specs.declared.signature.Signature.{Signature}
+use Rattle.qvt_ocl_types.specs.declared.signature.OperationSignature.{OperationSignature}
 use Rattle.qvt_ocl_types.specs.Table.{signature, listed, allows}
 use Rattle.qvt_ocl_words.specs.Operation.{is_test, is_equality}
 use Rattle.qvt_ocl_types.specs.declared.signature.Kinds.{Kinds}
@@ -80,7 +80,7 @@ module _ (below : ℕ → ℕ → Bool) where
   on_items ok T (Collection l V) f = if allows ok l then on_join (join below T V) (f l) else None
   on_items ok T U f = None
 
-  abbrev pub accepts : List Param → Kind → TyTerm → List TyTerm → Option Taken
+  abbrev pub accepts : List ArgumentSort → Kind → TyTerm → List TyTerm → Option Taken
   accepts [] k T [] = Some (record { kind = k; joined = T })
   accepts (param.Integer ∷ ps) k T (U ∷ Us) = if conforms below U Integer then accepts ps k T Us else None
   accepts (param.Text ∷ ps) k T (U ∷ Us) = if conforms below U Text then accepts ps k T Us else None
@@ -88,11 +88,11 @@ module _ (below : ℕ → ℕ → Bool) where
   accepts (param.Items ok ∷ ps) k T (U ∷ Us) = on_items ok T U (λ l K. accepts ps l K Us)
   accepts ps k T Us = None
 
-  abbrev pub answered : Signature → TyTerm → Option Taken → Option TyTerm
+  abbrev pub answered : OperationSignature → TyTerm → Option Taken → Option TyTerm
   answered s I None = None
   answered s I (Some t) = Some (type_of s.answer I t.kind t.joined)
 
-  abbrev pub by_signature : Option Signature → TyTerm → List TyTerm → Option TyTerm
+  abbrev pub by_signature : Option OperationSignature → TyTerm → List TyTerm → Option TyTerm
   by_signature None T Us = None
   by_signature (Some s) T Us = if meets s.demand (item_in T) then answered s (item_in T) (accepts (listed s.params) (kind_in T) (item_in T) Us) else None
 

@@ -21,7 +21,7 @@ pub enum Kinds {
 
 /// What an argument has to be.
 #[derive(Clone, Copy, Debug, PartialEq, Eq)]
-pub enum Param {
+pub enum ArgumentSort {
     Integer,
     Text,
     /// A value whose type joins with the item type of the source.
@@ -32,10 +32,10 @@ pub enum Param {
 
 /// What the arguments have to be, in their order.
 #[derive(Clone, Copy, Debug, PartialEq, Eq)]
-pub enum Params {
+pub enum ArgumentSorts {
     None,
-    One(Param),
-    Two(Param, Param),
+    One(ArgumentSort),
+    Two(ArgumentSort, ArgumentSort),
 }
 
 /// What the items of the source have to be.
@@ -49,7 +49,7 @@ pub enum Demand {
 
 /// The type of the answer.
 #[derive(Clone, Copy, Debug, PartialEq, Eq)]
-pub enum Answer {
+pub enum AnswerType {
     Boolean,
     Integer,
     Text,
@@ -69,8 +69,8 @@ pub enum Answer {
 
 /// What an operation takes and what it answers.
 #[derive(Clone, Copy, Debug, PartialEq, Eq)]
-pub struct Signature {
+pub struct OperationSignature {
     pub demand: Demand,
-    pub params: Params,
-    pub answer: Answer,
+    pub params: ArgumentSorts,
+    pub answer: AnswerType,
 }

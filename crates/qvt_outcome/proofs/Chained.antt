@@ -4,7 +4,7 @@ use Rattle.std.specs.Option.{IfSome}
 use Rattle.qvt_base.specs.Outside.{FilesSeen, Rose, IsRead, found, missing, too_large, look}
 use Rattle.qvt_base.specs.declared.outside.ReadAnswer.TheVariants as read
 use Rattle.qvt_outcome.specs.Outcome.{Outcome, refused}
-use Rattle.qvt_outcome.specs.Chain.{Reading, Chain, step, on_ok, ◌>=>◌, read_of, read_step}
+use Rattle.qvt_outcome.specs.Chain.{FileReading, Chain, step, on_ok, ◌>=>◌, read_of, read_step}
 use Rattle.qvt_outcome.specs.Follows.{IsAmong, with_failed_name, NoneFailed, OneFailed, FailedAt, FailedBy, Follows}
 use Rattle.qvt_outcome.specs.Steps.{Stops, GivesOrStops, IsFaultWith, IfFaultOf, RefusedOrNoMemory, ReadFaultOrNoMemory}
 use Rattle.qvt_outcome.specs.declared.refusal.Refusal.{Refusal}
@@ -12,7 +12,7 @@ use Rattle.qvt_outcome.specs.declared.refusal.Refusal.TheVariants as refusal
 use Rattle.qvt_outcome.specs.declared.stop.Stop.{Stop}
 use Rattle.qvt_outcome.specs.declared.stop.Stop.TheVariants as stop
 
-ended : {A B : Type 0} (e : Stop) (answer : Result A Outcome) (f : A → Reading B) → Stops e answer → Stops e (on_ok answer f).answer
+ended : {A B : Type 0} (e : Stop) (answer : Result A Outcome) (f : A → FileReading B) → Stops e answer → Stops e (on_ok answer f).answer
 ended (stop.Refused file why) answer f h = ap (λ r. (on_ok r f).answer) h
 ended (stop.Fault line) answer f h = ap (λ r. (on_ok r f).answer) h
 ended (stop.OutOfFuel fuel) answer f h = ap (λ r. (on_ok r f).answer) h
@@ -20,7 +20,7 @@ ended (stop.Low model id feature) answer f h = ap (λ r. (on_ok r f).answer) h
 ended (stop.ReadFault file) answer f h = h
 ended stop.NoMemory answer f h = h
 
-goes_on : {X A B : Type 0} (view : X → B) (r : Result X Stop) (answer : Result A Outcome) (a : A) (f : A → Reading B) → answer ≡ Ok a → GivesOrStops view r (f a).answer
+goes_on : {X A B : Type 0} (view : X → B) (r : Result X Stop) (answer : Result A Outcome) (a : A) (f : A → FileReading B) → answer ≡ Ok a → GivesOrStops view r (f a).answer
     → GivesOrStops view r (on_ok answer f).answer
 goes_on view r answer a f is h = subst (λ s. GivesOrStops view r (on_ok s f).answer) (sym is) h
 

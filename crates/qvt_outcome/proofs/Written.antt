@@ -7,7 +7,7 @@ use Rattle.qvt_base.specs.Outside.{Held, FilesSeen, BothTold, SameBut, IsWritten
 use Rattle.qvt_base.specs.declared.outside.WriteAnswer.TheVariants as write
 use Rattle.qvt_outcome.specs.Outcome.{File, put_all, write_fault_line}
 use Rattle.qvt_outcome.specs.Reported.{name_at}
-use Rattle.qvt_outcome.specs.Plans.{file_of, files_in, IsReady, AllWritten, StoppedAt}
+use Rattle.qvt_outcome.specs.Plans.{file_of, files_in, HaveFaultLines, AllWritten, StoppedAt}
 use Rattle.qvt_outcome.specs.declared.plan.Output.{Output}
 
 put_all-append : (fs : List File) (f : File) (held : Held) → put_all (fs ++ f ∷ []) held ≡ finite.insert (put_all fs held) f.0 f.1
@@ -67,13 +67,13 @@ stopped_next old now new outputs i o file bytes within is file_is h k =
       one = subst (λ n. new.writes ≤ n + 1) h.writes k.cause.one;
     }
 
-ready_at : (outputs : List Output) (k : ℕ) (d : Output) → k < length outputs → IsReady outputs → (get_or outputs k d).fault_line ≡ write_fault_line (get_or outputs k d).file
+ready_at : (outputs : List Output) (k : ℕ) (d : Output) → k < length outputs → HaveFaultLines outputs → (get_or outputs k d).fault_line ≡ write_fault_line (get_or outputs k d).file
 ready_at [] k d within ready = absurd (omega arith)
 ready_at (o ∷ os) zero d within ready = ready.0
 ready_at (o ∷ os) (suc k) d within ready = ready_at os k d (omega arith) ready.1
 
 -- the line of a file that fails
-pub line_at : (outputs : List Output) (k : ℕ) (o : Output) → k < length outputs → o ≡ get_or outputs k o → IsReady outputs
+pub line_at : (outputs : List Output) (k : ℕ) (o : Output) → k < length outputs → o ≡ get_or outputs k o → HaveFaultLines outputs
     → o.fault_line ≡ write_fault_line (name_at (files_in outputs) k)
 line_at outputs k o within is ready = ap (λ x. x.fault_line) is ∙ ready_at outputs k o within ready
     ∙ ap write_fault_line (sym (ap (λ f. f.0) (get_or-map file_of outputs k o ([], []) within)))

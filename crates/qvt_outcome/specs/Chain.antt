@@ -5,28 +5,28 @@ use Rattle.qvt_base.specs.Outside.{Held, Look, found, missing, too_large, look}
 use Rattle.qvt_outcome.specs.Outcome.{Outcome, refused}
 use Rattle.qvt_outcome.specs.declared.refusal.Refusal.TheVariants as refusal
 
-pub record Reading (A : Type 0) : Type 0 where
+pub record FileReading (A : Type 0) : Type 0 where
   pub answer : Result A Outcome
   pub names : List (List ℕ)
 
-abbrev pub reading : {A : Type 0} → Result A Outcome → List (List ℕ) → Reading A
+abbrev pub reading : {A : Type 0} → Result A Outcome → List (List ℕ) → FileReading A
 reading answer names = record { answer = answer; names = names }
 
 -- over the bytes that the files hold
 abbrev pub Chain : Type 0 → Type 0
-Chain A = Held → Reading A
+Chain A = Held → FileReading A
 
 -- a step that reads nothing
 abbrev pub step : {A : Type 0} → Result A Outcome → Chain A
 step answer = λ held. reading answer []
 
 -- what follows a value; an end stays
-abbrev pub on_ok : {A B : Type 0} → Result A Outcome → (A → Reading B) → Reading B
+abbrev pub on_ok : {A B : Type 0} → Result A Outcome → (A → FileReading B) → FileReading B
 on_ok (Ok x) f = f x
 on_ok (Err o) f = reading (Err o) []
 
 -- more names, read before
-abbrev pub behind : {A : Type 0} → List (List ℕ) → Reading A → Reading A
+abbrev pub behind : {A : Type 0} → List (List ℕ) → FileReading A → FileReading A
 behind names r = reading r.answer (names ++ r.names)
 
 -- one chain, then another over its value

@@ -7,7 +7,7 @@ use Rattle.qvt_lexer.specs.declared.token.LexKind.{LexKind}
 use Rattle.qvt_lexer.specs.declared.token.LexKind.TheVariants as lex
 use Rattle.qvt_parsed.specs.declared.fault.ParseFault.{ParseFault}
 use Rattle.qvt_parsed.specs.declared.fault.ParseFault.TheVariants as parse
-use Rattle.qvt_types_data.specs.declared.refusal.Refusal.{Refusal as TypingRefusal}
+use Rattle.qvt_types_data.specs.declared.refusal.TypingRefusal.{TypingRefusal}
 use Rattle.qvt_types_data.specs.declared.refusal.RefusalKind.{RefusalKind}
 use Rattle.qvt_types_data.specs.declared.refusal.RefusalKind.TheVariants as typing
 use Rattle.qvt_metamodel.specs.declared.fault.MetaFault.{MetaFault}

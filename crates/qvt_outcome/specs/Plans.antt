@@ -20,8 +20,8 @@ abbrev pub outcome_of : Plan → Outcome
 outcome_of p = done (files_in p.outputs) p.line
 
 -- each file has the line that tells of its failure
-abbrev pub IsReady : List Output → Type 0
-IsReady outputs = AllByRecursion (λ o. o.fault_line ≡ write_fault_line o.file) outputs
+abbrev pub HaveFaultLines : List Output → Type 0
+HaveFaultLines outputs = AllByRecursion (λ o. o.fault_line ≡ write_fault_line o.file) outputs
 
 -- all were written
 pub record AllWritten (files : List File) (old new : FilesSeen) : Type 0 where

@@ -60,7 +60,7 @@ pub record IsSinkFault (old new : OutsideSeen) : Type 0 where
   pub one : new.sink.faults ≤ old.sink.faults + 1
 
 -- nothing failed
-pub record IsQuiet (old new : OutsideSeen) : Type 0 where
+pub record NothingFailed (old new : OutsideSeen) : Type 0 where
   pub reads : NoneFailed old.files new.files
   pub writes : new.files.writes ≡ old.files.writes
   pub faults : new.sink.faults ≡ old.sink.faults
@@ -147,9 +147,9 @@ abbrev pub Fails : OutsideSeen → OutsideSeen → Status → Type 0
 Fails old new status.ReadFault = IsReadFault old new
 Fails old new status.WriteFault = IsWriteFault old new ⊎ IsSinkFault old new
 Fails old new status.NoMemory = IsMemoryFault old new
-Fails old new status.Done = IsQuiet old new
-Fails old new status.Refused = IsQuiet old new
-Fails old new status.Usage = IsQuiet old new
-Fails old new status.Fault = IsQuiet old new
-Fails old new status.OutOfFuel = IsQuiet old new
-Fails old new status.Low = IsQuiet old new
+Fails old new status.Done = NothingFailed old new
+Fails old new status.Refused = NothingFailed old new
+Fails old new status.Usage = NothingFailed old new
+Fails old new status.Fault = NothingFailed old new
+Fails old new status.OutOfFuel = NothingFailed old new
+Fails old new status.Low = NothingFailed old new

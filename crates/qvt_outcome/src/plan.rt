@@ -1,5 +1,5 @@
 ghost use Rattle.std.specs.Prelude.{IfSome, IfNone};
-ghost use Rattle.qvt_outcome.specs.Plans.{files_in, IsReady, AllWritten, StoppedAt, CarriedOut};
+ghost use Rattle.qvt_outcome.specs.Plans.{files_in, HaveFaultLines, AllWritten, StoppedAt, CarriedOut};
 ghost use Rattle.qvt_outcome.specs.Reported.{outside};
 
 use crate::report::report;
@@ -46,7 +46,7 @@ fn write_all<F: Files>(files: &mut F, outputs: &[Output]) -> Option<usize>
 
 /// Writes the files, and then the line; where a file fails, its line alone.
 pub fn carry_out<F: Files, S: Sink>(files: &mut F, out: &mut S, plan: &Plan) -> Status
-    requires { IsReady plan.now.outputs }
+    requires { HaveFaultLines plan.now.outputs }
     ensures { CarriedOut plan.now (outside (F.seen files.old) (S.seen out.old)) (outside (F.seen files.new) (S.seen out.new)) result }
 {
     match write_all(files, plan.outputs.as_slice()) {

@@ -4,7 +4,7 @@ use qvt_job::job::JobFault;
 use qvt_metas::fault::{MetaFault, MetasFault};
 use qvt_model::data::ModelFault;
 use qvt_parsed::fault::ParseFault;
-use qvt_types_data::refusal::Refusal as TypingRefusal;
+use qvt_types_data::refusal::TypingRefusal;
 
 /// Why a file was refused.
 pub enum Refusal {

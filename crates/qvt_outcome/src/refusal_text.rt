@@ -11,7 +11,7 @@ use qvt_lexer::token::LexKind;
 use qvt_metas::fault::{MetaFault, MetasFault};
 use qvt_model::data::ModelFault;
 use qvt_parsed::fault::ParseFault;
-use qvt_types_data::refusal::{Refusal, RefusalKind};
+use qvt_types_data::refusal::{RefusalKind, TypingRefusal};
 use std::alloc::{AllocError, Global};
 
 /// A name and what it carries.
@@ -105,7 +105,7 @@ fn typing_name(kind: RefusalKind) -> &'static str
 }
 
 /// The refusal of a transformation by its types.
-pub fn typing_text(alloc: Global, why: Refusal) -> Result<String, AllocError>
+pub fn typing_text(alloc: Global, why: TypingRefusal) -> Result<String, AllocError>
     ensures { IfOk result (λ text. string_bytes text ≡ typing_text why) }
 {
     with_place(alloc, typing_name(why.kind), why.place)

@@ -6,7 +6,7 @@ use Rattle.qvt_conform.specs.declared.fault.LowFault.{LowFault}
 use Rattle.qvt_store.specs.Contents.{Contents}
 use Rattle.qvt_job.specs.declared.job.Job.{Job}
 use Rattle.qvt_meaning.specs.Accepts.{ProgramTerm}
-use Rattle.qvt_meaning.specs.Run.{Finished}
+use Rattle.qvt_meaning.specs.Run.{FinishedRun}
 use Rattle.qvt_meaning_report.specs.Lines.{done_line}
 use Rattle.qvt_meaning_report.specs.Meaning.{low_in, unless_low}
 use Rattle.qvt_outcome.specs.Outcome.{Outcome, done}
@@ -24,7 +24,7 @@ stops_on (stop.Low model id feature) r f h = ap (λ x. x >>= f) h
 stops_on (stop.ReadFault file) r f h = tt
 stops_on stop.NoMemory r f h = tt
 
-module _ (job : Job) (p : ProgramTerm) (ids : List (Option (List ℕ))) (f : Finished) where
+module _ (job : Job) (p : ProgramTerm) (ids : List (Option (List ℕ))) (f : FinishedRun) where
   abbrev bounded : Contents → Result (Unit {0}) Outcome
   bounded s = none_of (option_map (low_outcome s ids) (low_in s))
 

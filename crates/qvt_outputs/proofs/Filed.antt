@@ -4,7 +4,7 @@ use Rattle.std.specs.List.{AllByRecursion}
 use Rattle.std.proofs.lemmas.List.{map_more}
 use Rattle.qvt_store.specs.Contents.{Contents}
 use Rattle.qvt_outcome.specs.Outcome.{write_fault_line}
-use Rattle.qvt_outcome.specs.Plans.{file_of, files_in, IsReady}
+use Rattle.qvt_outcome.specs.Plans.{file_of, files_in, HaveFaultLines}
 use Rattle.qvt_outcome.specs.declared.plan.Output.{Output}
 use Rattle.qvt_job.specs.declared.job.JobModel.{JobModel}
 use Rattle.qvt_outputs.specs.Left.{model_file}
@@ -24,5 +24,5 @@ all_push : (P : Output → Type 0) (outputs : List Output) (o : Output) → AllB
 all_push P [] o h p = (p, tt)
 all_push P (x ∷ xs) o h p = (h.0, all_push P xs o h.1 p)
 
-pub one_ready : (outputs next : List Output) (o : Output) → next ≡ outputs ++ o ∷ [] → IsReady outputs → o.fault_line ≡ write_fault_line o.file → IsReady next
-one_ready outputs next o pushed ready line = subst IsReady (sym pushed) (all_push (λ o. o.fault_line ≡ write_fault_line o.file) outputs o ready line)
+pub one_ready : (outputs next : List Output) (o : Output) → next ≡ outputs ++ o ∷ [] → HaveFaultLines outputs → o.fault_line ≡ write_fault_line o.file → HaveFaultLines next
+one_ready outputs next o pushed ready line = subst HaveFaultLines (sym pushed) (all_push (λ o. o.fault_line ≡ write_fault_line o.file) outputs o ready line)

@@ -7,7 +7,7 @@ use Rattle.qvt_model.specs.Reading.{model_of}
 use Rattle.qvt_conform.specs.Conformance.{conform_fault}
 use Rattle.qvt_run_data.specs.declared.exit.End.{End}
 use Rattle.qvt_job.specs.declared.job.JobModel.{JobModel}
-use Rattle.qvt_meaning.specs.Run.{Finished}
+use Rattle.qvt_meaning.specs.Run.{FinishedRun}
 use Rattle.qvt_meaning_report.specs.Meaning.{is_written}
 use Rattle.qvt_outputs.specs.Left.{extent_named, model_file}
 
@@ -30,6 +30,6 @@ abbrev pub AreConforming : Contents → List JobModel → Type 0
 AreConforming s os = AllByRecursion (IsConforming s) os
 
 -- those of a run that has ended well
-abbrev pub LeavesConforming : Result Finished End → List JobModel → Type 0
+abbrev pub LeavesConforming : Result FinishedRun End → List JobModel → Type 0
 LeavesConforming (Ok f) os = AreConforming f.after os
 LeavesConforming (Err e) os = ⊤

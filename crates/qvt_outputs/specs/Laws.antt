@@ -10,14 +10,14 @@ use Rattle.qvt_outcome.specs.declared.status.Status.{Status}
 use Rattle.qvt_outcome.specs.declared.status.Status.TheVariants as status
 use Rattle.qvt_outputs.specs.Left.{left}
 
-abbrev pub meant_status : meaning.Outcome → Status
+abbrev pub meant_status : meaning.RunOutcome → Status
 meant_status (meaning.Fault k at) = status.Fault
 meant_status meaning.OutOfFuel = status.OutOfFuel
 meant_status (meaning.Low s l) = status.Low
 meant_status (meaning.Done f) = status.Done
 
 abbrev pub LinesAreMeant : Type 0
-LinesAreMeant = (job : Job) (p : ProgramTerm) (ids : List (Option (List ℕ))) (o : meaning.Outcome) → report (settled (left job p ids o)) ≡ line_of job.text job.fuel ids o
+LinesAreMeant = (job : Job) (p : ProgramTerm) (ids : List (Option (List ℕ))) (o : meaning.RunOutcome) → report (settled (left job p ids o)) ≡ line_of job.text job.fuel ids o
 
 abbrev pub StatusIsMeant : Type 0
-StatusIsMeant = (job : Job) (p : ProgramTerm) (ids : List (Option (List ℕ))) (o : meaning.Outcome) → status_of (settled (left job p ids o)) ≡ meant_status o
+StatusIsMeant = (job : Job) (p : ProgramTerm) (ids : List (Option (List ℕ))) (o : meaning.RunOutcome) → status_of (settled (left job p ids o)) ≡ meant_status o

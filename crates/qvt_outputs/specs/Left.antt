@@ -11,7 +11,7 @@ use Rattle.qvt_store.specs.Contents.{Contents, extent_at, extent_of}
 use Rattle.qvt_job.specs.declared.job.Job.{Job}
 use Rattle.qvt_job.specs.declared.job.JobModel.{JobModel}
 use Rattle.qvt_meaning.specs.Accepts.{ProgramTerm}
-use Rattle.qvt_meaning.specs.Run.{Finished}
+use Rattle.qvt_meaning.specs.Run.{FinishedRun}
 use Rattle.qvt_meaning_report.specs.Lines.{done_line, fault_line}
 use Rattle.qvt_meaning_report.specs.Meaning as meaning
 use Rattle.qvt_meaning_report.specs.TraceText.{trace_text}
@@ -41,10 +41,10 @@ low_outcome s ids l = low (extent_at s (extent_of s l.object.0)).name (run_id s 
 
 -- of a program and the ids of the files
 module _ (job : Job) (p : ProgramTerm) (ids : List (Option (List ℕ))) where
-  abbrev pub files_left : Finished → List File
+  abbrev pub files_left : FinishedRun → List File
   files_left f = map (model_file f.after) job.outputs ++ trace_files job.trace (trace_text p ids f)
 
-  unfoldable pub left : meaning.Outcome → Result Outcome Outcome
+  unfoldable pub left : meaning.RunOutcome → Result Outcome Outcome
   left (meaning.Fault k at) = Err (fault (fault_line job.text k at))
   left meaning.OutOfFuel = Err (out_of_fuel job.fuel)
   left (meaning.Low s l) = Err (low_outcome s ids l)

@@ -2,11 +2,11 @@
 
 ghost use Rattle.std.specs.Prelude.{◌≡◌, Err, IfOk, List, Ok, Option, ℕ};
 ghost use Rattle.qvt_meaning.specs.Accepts.{ProgramTerm};
-ghost use Rattle.qvt_meaning.specs.Run.{Finished};
+ghost use Rattle.qvt_meaning.specs.Run.{FinishedRun};
 ghost use Rattle.qvt_meaning_report.specs.Lines as lines;
 ghost use Rattle.qvt_meaning_report.specs.Meaning as meaning;
 ghost use Rattle.qvt_outcome.specs.Outcome.{Outcome, done};
-ghost use Rattle.qvt_outcome.specs.Plans.{IsReady, files_in, outcome_of};
+ghost use Rattle.qvt_outcome.specs.Plans.{HaveFaultLines, files_in, outcome_of};
 ghost use Rattle.qvt_outcome.specs.Steps.{GivesOrStops, IfFaultOf, IsFaultWith, Stops};
 ghost use Rattle.qvt_store.specs.Sound.{Sound};
 ghost use Rattle.qvt_types_program.specs.Program.{program_view};
@@ -41,8 +41,8 @@ fn outputs_of(
     end: &RunEnd<'_>,
 ) -> Result<Seq<Output>, ListFault>
     requires { Sound end.now.store.now }
-    ensures files { IfOk result (λ outputs. (f : Finished) → IsEnd f end.now → files_in outputs ≡ files_left job.now (program_view program.now) ids.now f) }
-    ensures ready { IfOk result (λ outputs. IsReady outputs) }
+    ensures files { IfOk result (λ outputs. (f : FinishedRun) → IsEnd f end.now → files_in outputs ≡ files_left job.now (program_view program.now) ids.now f) }
+    ensures ready { IfOk result (λ outputs. HaveFaultLines outputs) }
     ensures there { IfOk result (λ outputs. AllByRecursion (λ o. IsOutput end.now.store.now o.model) job.now.outputs) }
 {
     let mut outputs = model_outputs(alloc, end.store, job.outputs.as_slice())?;
@@ -59,8 +59,8 @@ fn plan_of(
     end: &RunEnd<'_>,
 ) -> Result<Plan, ListFault>
     requires { Sound end.now.store.now }
-    ensures done { IfOk result (λ plan. (f : Finished) → IsEnd f end.now → outcome_of plan ≡ done (files_left job.now (program_view program.now) ids.now f) (lines.done_line f)) }
-    ensures ready { IfOk result (λ plan. IsReady plan.outputs) }
+    ensures done { IfOk result (λ plan. (f : FinishedRun) → IsEnd f end.now → outcome_of plan ≡ done (files_left job.now (program_view program.now) ids.now f) (lines.done_line f)) }
+    ensures ready { IfOk result (λ plan. HaveFaultLines plan.outputs) }
     ensures there { IfOk result (λ plan. AllByRecursion (λ o. IsOutput end.now.store.now o.model) job.now.outputs) }
 {
     let outputs = outputs_of(alloc, job, program, ids, end)?;
@@ -84,8 +84,8 @@ pub fn left_by(
     end: &RunEnd<'_>,
 ) -> Result<Plan, Stop>
     requires { Sound end.now.store.now }
-    ensures gives { (f : Finished) → IsEnd f end.now → GivesOrStops outcome_of result (left job.now (program_view program.now) ids.now (meaning.outcome_of (Ok f))) }
-    ensures ready { IfOk result (λ plan. IsReady plan.outputs) }
+    ensures gives { (f : FinishedRun) → IsEnd f end.now → GivesOrStops outcome_of result (left job.now (program_view program.now) ids.now (meaning.outcome_of (Ok f))) }
+    ensures ready { IfOk result (λ plan. HaveFaultLines plan.outputs) }
     ensures no_reads { IfFaultOf result (λ file. ⊥) }
     ensures conform { IfOk result (λ plan. AreConforming end.now.store.now job.now.outputs) }
 {

@@ -3,7 +3,7 @@
 ghost use Rattle.std.specs.Prelude.{◌≡◌, IfOk, map, position};
 ghost use Rattle.std.specs.Str.{bytes_eq};
 ghost use Rattle.qvt_outcome.specs.Outcome.{write_fault_line};
-ghost use Rattle.qvt_outcome.specs.Plans.{IsReady, file_of, files_in};
+ghost use Rattle.qvt_outcome.specs.Plans.{HaveFaultLines, file_of, files_in};
 ghost use Rattle.qvt_store.specs.Sound.{Sound};
 ghost use Rattle.std.specs.List.{AllByRecursion};
 ghost use Rattle.qvt_outputs.specs.Left.{extent_named, model_file, text_in};
@@ -73,7 +73,7 @@ pub fn model_outputs(
 ) -> Result<Seq<Output>, ListFault>
     requires { Sound store.now }
     ensures files { IfOk result (λ outputs. files_in outputs ≡ map (model_file store.now) models.now) }
-    ensures ready { IfOk result (λ outputs. IsReady outputs) }
+    ensures ready { IfOk result (λ outputs. HaveFaultLines outputs) }
     ensures there { IfOk result (λ outputs. AllByRecursion (λ o. IsOutput store.now o.model) models.now) }
 {
     let mut outputs = Seq::new(alloc);

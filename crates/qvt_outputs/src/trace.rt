@@ -1,9 +1,9 @@
 //! The file of the trace of a run.
 
 ghost use Rattle.std.specs.Prelude.{◌++◌, ◌≡◌, OnOk};
-ghost use Rattle.qvt_meaning.specs.Run.{Finished};
+ghost use Rattle.qvt_meaning.specs.Run.{FinishedRun};
 ghost use Rattle.qvt_meaning_report.specs.TraceText.{trace_text};
-ghost use Rattle.qvt_outcome.specs.Plans.{IsReady, files_in};
+ghost use Rattle.qvt_outcome.specs.Plans.{HaveFaultLines, files_in};
 ghost use Rattle.qvt_types_program.specs.Program.{program_view};
 ghost use Rattle.qvt_outputs.specs.Left.{trace_files};
 ghost use Rattle.qvt_outputs.specs.RunEnd.{IsEnd};
@@ -28,8 +28,8 @@ pub fn put_trace(
     ids: &IdTable,
     end: &RunEnd<'_>,
 ) -> Result<(), ListFault>
-    ensures files { OnOk result ((f : Finished) → IsEnd f end.now → files_in outputs.new ≡ files_in outputs.old ++ trace_files file.now (trace_text (program_view program.now) ids.now f)) }
-    ensures ready { OnOk result (IsReady outputs.old → IsReady outputs.new) }
+    ensures files { OnOk result ((f : FinishedRun) → IsEnd f end.now → files_in outputs.new ≡ files_in outputs.old ++ trace_files file.now (trace_text (program_view program.now) ids.now f)) }
+    ensures ready { OnOk result (HaveFaultLines outputs.old → HaveFaultLines outputs.new) }
 {
     let Some(file) = file else {
         return Ok(());

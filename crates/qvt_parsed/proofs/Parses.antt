@@ -11,7 +11,7 @@ use Rattle.qvt_language.specs.Tokens.{Tok, place_of}
 use Rattle.qvt_language.specs.Nesting.{nested_at}
 use Rattle.qvt_language.specs.ReadingUnits.{transformation_at}
 use Rattle.qvt_language.specs.Module.{with_end}
-use Rattle.qvt_language_rows.specs.Language.{Reads, IsFault}
+use Rattle.qvt_language_rows.specs.Language.{Reads, HaveFirstFault}
 use Rattle.qvt_language.specs.Readers.{nowhere}
 use Rattle.qvt_parsed.proofs.Ends.{read_nowhere, same_tree}
 use Rattle.qvt_language_rows.proofs.Answers.{answer_reads, answer_rest, answer_fault, one_tree, one_fault}
@@ -33,7 +33,7 @@ Says text (Err (TooDeep p)) = IsTooDeep text p
 Says text (Err (Syntax p)) = HasSyntaxFault text p
 
 module _ (text : List ℕ) (ts : List Tok) (end : Place) (has : HasTokens text ts end) where
-  stuck : deep ts ≡ None → (rest : List Tok) → IsFault ts rest → HasSyntaxFault text (place_of end rest)
+  stuck : deep ts ≡ None → (rest : List Tok) → HaveFirstFault ts rest → HasSyntaxFault text (place_of end rest)
   stuck shallow rest fault = record { tokens = ts; end = end; has = has; shallow = shallow; rest = rest; fault = fault; at = refl }
 
   says_tree : deep ts ≡ None → (x : Answer Tok ModuleTerm) → transformation_at (nested_at (length ts)) ts ≡ x → Says text (tree_of end x)
@@ -78,7 +78,7 @@ module _ (text : List ℕ) where
   syntax_syntax : (p q : Place) → HasSyntaxFault text p → HasSyntaxFault text q → p ≡ q
   syntax_syntax p q h k =
       let lists = one_lexing.tokens text k.tokens h.tokens k.end h.end k.has h.has in
-      let rests = one_fault h.tokens h.rest k.rest h.fault (subst (λ z. IsFault z k.rest) lists.0 k.fault) in
+      let rests = one_fault h.tokens h.rest k.rest h.fault (subst (λ z. HaveFirstFault z k.rest) lists.0 k.fault) in
       h.at ∙ (λ i. place_of (sym lists.1 i) (rests i)) ∙ sym k.at
 
   tree_syntax : (m : ModuleTerm) (p : Place) → IsTransformation text m → HasSyntaxFault text p → ⊥

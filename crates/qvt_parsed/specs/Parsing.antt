@@ -6,7 +6,7 @@ use Rattle.qvt_tree_types.specs.declared.module.Module.{Module}
 use Rattle.qvt_language.specs.Tokens.{Tok, place_of}
 use Rattle.qvt_language.specs.Readers.{nowhere}
 use Rattle.qvt_language.specs.Module.{with_end}
-use Rattle.qvt_language_rows.specs.Language.{Reads, IsFault}
+use Rattle.qvt_language_rows.specs.Language.{Reads, HaveFirstFault}
 use Rattle.qvt_parser_tokens.specs.Depth.{deep}
 use Rattle.qvt_parser_tokens.specs.Text.{HasTokens, HasLexFault}
 use Rattle.qvt_parser_tokens.specs.declared.text.TextFault.{TextFault}
@@ -44,7 +44,7 @@ pub record HasSyntaxFault (text : List ℕ) (place : Place) : Type 0 where
   pub has : HasTokens text tokens end
   pub shallow : deep tokens ≡ None
   pub rest : List Tok
-  pub fault : IsFault tokens rest
+  pub fault : HaveFirstFault tokens rest
   pub at : place ≡ place_of end rest
 
 -- the first fault of a text: of its tokens, of what stands open in them, of its syntax
@@ -60,4 +60,4 @@ IsReadAs ts end (Ok m) = Reads ts (with_end nowhere (module_view m)) × (m.end �
 IsReadAs ts end (Err NoMemory) = Unit {0}
 IsReadAs ts end (Err (Lex fault)) = ⊥
 IsReadAs ts end (Err (TooDeep place)) = ⊥
-IsReadAs ts end (Err (Syntax place)) = (rest : List Tok) × IsFault ts rest × (place ≡ place_of end rest)
+IsReadAs ts end (Err (Syntax place)) = (rest : List Tok) × HaveFirstFault ts rest × (place ≡ place_of end rest)

@@ -7,7 +7,7 @@ use Rattle.std.proofs.lemmas.Str.{chars-encodes, length-encode, len_utf8_bounds,
 use Rattle.std.specs.Prelude.{encode_utf8}
 use lib.Utf8.{scalar, scalars}
 use Rattle.qvt_lexer.specs.Characters.{is_hex, hex_value}
-use Rattle.qvt_lexer.specs.Literals.{Taken, hex_at, is_surrogate, no_surrogate, simple_escape, simple_at, escape_at, item_at}
+use Rattle.qvt_lexer.specs.Literals.{TakenCodePoint, hex_at, is_surrogate, no_surrogate, simple_escape, simple_at, escape_at, item_at}
 use Rattle.qvt_lexer.specs.declared.token.TokenKind.{TokenKind}
 use Rattle.qvt_lexer.specs.declared.token.TokenKind.TheVariants as kinds
 use Rattle.qvt_parser_tokens.specs.Said.{is_quoted, items, string_of, text_of}
@@ -26,11 +26,11 @@ bytes_append [] v = omega arith
 bytes_append (c ∷ u) v = omega (arith, bytes_more c (u ++ v), bytes_more c u, bytes_append u v)
 
 -- an item takes as many bytes as its character has
-abbrev Takes : ℕ → List ℕ → Taken → Type 0
+abbrev Takes : ℕ → List ℕ → TakenCodePoint → Type 0
 Takes n cs None = Unit {0}
 Takes n cs (Some (v, s)) = n + bytes s ≤ bytes cs
 
-hex_step : (n : ℕ) (c : ℕ) (cs : List ℕ) (b : Bool) (x : Taken) → Takes n cs x → Takes (suc n) (c ∷ cs) (cond b x None)
+hex_step : (n : ℕ) (c : ℕ) (cs : List ℕ) (b : Bool) (x : TakenCodePoint) → Takes n cs x → Takes (suc n) (c ∷ cs) (cond b x None)
 hex_step n c cs false x h = tt
 hex_step n c cs true None h = tt
 hex_step n c cs true (Some (v, s)) h = omega (arith, h, one_byte c cs)
@@ -41,16 +41,16 @@ hex_takes (suc n) v [] = tt
 hex_takes (suc n) v (c ∷ cs) = hex_step n c cs (is_hex c) (hex_at n (16 * v + hex_value c) cs) (hex_takes n (16 * v + hex_value c) cs)
 
 -- the bytes of the character, and of what is left
-abbrev Fits : List ℕ → Taken → Type 0
+abbrev Fits : List ℕ → TakenCodePoint → Type 0
 Fits cs None = Unit {0}
 Fits cs (Some (v, s)) = len_utf8 v + bytes s ≤ bytes cs
 
 -- after a backslash and a letter there is room for two bytes more
-abbrev FitsEscape : List ℕ → Taken → Type 0
+abbrev FitsEscape : List ℕ → TakenCodePoint → Type 0
 FitsEscape cs None = Unit {0}
 FitsEscape cs (Some (v, s)) = len_utf8 v + bytes s ≤ suc (bytes cs)
 
-two_digits : (c : ℕ) (cs : List ℕ) (x : Taken) → Takes 2 cs x → FitsEscape (c ∷ cs) x
+two_digits : (c : ℕ) (cs : List ℕ) (x : TakenCodePoint) → Takes 2 cs x → FitsEscape (c ∷ cs) x
 two_digits c cs None h = tt
 two_digits c cs (Some (v, s)) h = omega (arith, h, one_byte c cs, (len_utf8_bounds v).1)
 
@@ -58,7 +58,7 @@ surrogate_step : (c : ℕ) (cs : List ℕ) (v : ℕ) (s : List ℕ) (b : Bool) �
 surrogate_step c cs v s true h = tt
 surrogate_step c cs v s false h = omega (arith, h, one_byte c cs, (len_utf8_bounds v).1)
 
-four_digits : (c : ℕ) (cs : List ℕ) (x : Taken) → Takes 4 cs x → FitsEscape (c ∷ cs) (no_surrogate x)
+four_digits : (c : ℕ) (cs : List ℕ) (x : TakenCodePoint) → Takes 4 cs x → FitsEscape (c ∷ cs) (no_surrogate x)
 four_digits c cs None h = tt
 four_digits c cs (Some (v, s)) h = surrogate_step c cs v s (is_surrogate v) h
 
@@ -93,7 +93,7 @@ escape_fits : (cs : List ℕ) → FitsEscape cs (escape_at cs)
 escape_fits [] = tt
 escape_fits (c ∷ cs) = escape_cases c cs (c == 120) (c == 117)
 
-after_backslash : (c : ℕ) (cs : List ℕ) (x : Taken) → FitsEscape cs x → Fits (c ∷ cs) x
+after_backslash : (c : ℕ) (cs : List ℕ) (x : TakenCodePoint) → FitsEscape cs x → Fits (c ∷ cs) x
 after_backslash c cs None h = tt
 after_backslash c cs (Some (v, s)) h = omega (arith, h, one_byte c cs)
 
@@ -106,7 +106,7 @@ item_fits : (q : ℕ) (cs : List ℕ) → Fits cs (item_at q cs)
 item_fits q [] = tt
 item_fits q (c ∷ cs) = item_cases c cs (c == q || c == 10) (c == 92)
 
-taken_short : (n q : ℕ) (cs : List ℕ) (x : Taken) → Fits cs x → ((s : List ℕ) → bytes (items n q s) ≤ bytes s) → bytes (elim x [ None ↦ [] | Some y ↦ y.0 ∷ items n q y.1 ]) ≤ bytes cs
+taken_short : (n q : ℕ) (cs : List ℕ) (x : TakenCodePoint) → Fits cs x → ((s : List ℕ) → bytes (items n q s) ≤ bytes s) → bytes (elim x [ None ↦ [] | Some y ↦ y.0 ∷ items n q y.1 ]) ≤ bytes cs
 taken_short n q cs None h k = omega arith
 taken_short n q cs (Some (v, s)) h k = omega (arith, h, k s, bytes_more v (items n q s))
 

@@ -19,9 +19,9 @@ use Rattle.qvt_parser_tokens.specs.Said.{said}
 use Rattle.qvt_parser_tokens.specs.Text.{HasTokens}
 use Rattle.qvt_parsed.specs.Parsing.{IsTransformation}
 use Rattle.qvt_parser_nodes.specs.Nodes.{nodes}
-use Rattle.qvt_parser_nodes.specs.Names.{Told, HasNames}
-use Rattle.qvt_parser_nodes.specs.Places.{Clause, places}
-use Rattle.qvt_parser_nodes.specs.Law.{of_tokens, IsAtMost, at_most, DoNotFall}
+use Rattle.qvt_parser_nodes.specs.Names.{NameConditions, HasNames}
+use Rattle.qvt_parser_nodes.specs.Places.{ClauseKind, places}
+use Rattle.qvt_parser_nodes.specs.Law.{of_tokens, HasAtMost, at_most, DoNotFall}
 use Rattle.qvt_parser_nodes.proofs.Along.{Along, along_both, along_order}
 use Rattle.qvt_parser_nodes.proofs.Whole.{at_most_two_each, names_are_tokens, none_is_longer, along}
 use Rattle.qvt_parsed_laws.specs.Tree.{LiesInText}
@@ -34,11 +34,11 @@ same_nodes : (end : Place) (m : ModuleTerm) → nodes (with_end end m) ≡ nodes
 unfolding nodes
 same_nodes end m = refl
 
-same_places : (c : MappingTerm → Clause) (end : Place) (m : ModuleTerm) → places c (with_end end m) ≡ places c m
+same_places : (c : MappingTerm → ClauseKind) (end : Place) (m : ModuleTerm) → places c (with_end end m) ≡ places c m
 unfolding places
 same_places c end m = refl
 
-same_names : (N : Told) (end : Place) (m : ModuleTerm) → HasNames N (with_end end m) → HasNames N m
+same_names : (N : NameConditions) (end : Place) (m : ModuleTerm) → HasNames N (with_end end m) → HasNames N m
 same_names N end m h = record { model_types = h.model_types; name = h.name; params = h.params; units = h.units }
 
 -- each piece has a character
@@ -77,7 +77,7 @@ start_scalars (c ∷ cs) s = marked_scalars (c == 65279) c cs s
 -- what tokens say is no longer than what is left of the text
 
 abbrev Short : ℕ → List Tok → Type 0
-Short n ts = AllOf {A = Tok} (λ t. IsAtMost n t.text) ts
+Short n ts = AllOf {A = Tok} (λ t. HasAtMost n t.text) ts
 
 short_step : (n : ℕ) (at : Place) (q : Piece) (u : List ℕ) (ds : List TokenData) → scalars u ≡ true → bytes u ≤ n → Short n (map said ds) → Short n (map said (token_of at (record { piece = q; text = u }) ++ ds))
 short_step n at Blank u ds s le h = h
@@ -121,7 +121,7 @@ module _ (text : List ℕ) (m : ModuleTerm) (t : IsTransformation text m) where
   few_nodes : IsUtf8 text → nodes m ≤ 2 * length text
   few_nodes utf = omega (arith, at_most_two_each t.tokens (with_end nowhere m) t.reads, same_nodes nowhere m, tokens_within text t.tokens t.end t.has utf)
 
-  in_order : (c : MappingTerm → Clause) → DoNotFall (places c m ++ m.end ∷ [])
+  in_order : (c : MappingTerm → ClauseKind) → DoNotFall (places c m ++ m.end ∷ [])
   in_order c =
       let nodes_along = subst (λ z. Along z t.tokens) (same_places c nowhere m) (along c t.tokens (with_end nowhere m) t.reads) in
       let all = along_both (places c m) (t.end ∷ []) t.tokens (last_token t.end ∷ []) nodes_along ([], last_token t.end, [], refl, refl, tt) in

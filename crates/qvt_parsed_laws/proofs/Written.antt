@@ -13,10 +13,10 @@ use Rattle.qvt_language.specs.Same.{unplaced, SameTokens, SimpleText, IsSimple, 
 use Rattle.qvt_language.specs.declared.class.Class.{Class}
 use Rattle.qvt_language.specs.declared.class.Class.TheVariants as classes
 use Rattle.qvt_parser_tokens.specs.Said.{said}
-use Rattle.qvt_printer_layout.specs.declared.piece.Piece.{Piece}
-use Rattle.qvt_printer_layout.specs.declared.piece.Piece.TheVariants.{Plain, Name, Integer, Quoted, Line}
+use Rattle.qvt_printer_layout.specs.declared.piece.PrintPiece.{PrintPiece}
+use Rattle.qvt_printer_layout.specs.declared.piece.PrintPiece.TheVariants.{Plain, Name, Integer, Quoted, Line}
 use Rattle.qvt_readback_tokens.specs.Spelled.{spelled, all_spelled}
-use Rattle.qvt_readback_tokens.specs.Told.{IsName, IsText, IsSmall, IsTold, AllTold}
+use Rattle.qvt_readback_tokens.specs.Told.{IsName, IsEncoded, IsSmall, IsTold, AllTold}
 use Rattle.qvt_readback_tokens.specs.Law.{HasSpelled}
 use Rattle.qvt_readback_tokens.proofs.Spelt.{Kind, Named, Number, Text, Reserved, One, Two, kind_of, Spelt, spelt}
 use Rattle.qvt_readback_tokens.proofs.Meets.{Free}
@@ -26,13 +26,13 @@ use Rattle.qvt_readback_tokens.proofs.Tails.{tail}
 use Rattle.qvt_readback_tokens.proofs.Told.{all_told}
 use Rattle.qvt_readback_tokens.proofs.Relexed.{relexed}
 use Rattle.qvt_readback_tokens.proofs.Printing.{has_spelled, letter_begins}
-use Rattle.qvt_parsed_laws.specs.Written.{IsWritten, SimpleGoOn}
+use Rattle.qvt_parsed_laws.specs.Written.{AreSpelled, SimpleGoOn}
 
 -- a token that can stand on a line of its own
 record Stands (t : Tok) : Type 0 where
-  piece : Piece
+  piece : PrintPiece
   says : spelled piece ≡ unplaced t ∷ []
-  sound : (ps : List Piece) → Sound Free ps → Sound Free (piece ∷ Line ∷ ps)
+  sound : (ps : List PrintPiece) → Sound Free ps → Sound Free (piece ∷ Line ∷ ps)
 
 module _ (t : Tok) where
   name_stands : t.class ≡ classes.Name → IsName t.text → t.number ≡ pos 0 → Stands t
@@ -49,7 +49,7 @@ module _ (t : Tok) where
     sound = λ ps h. (n, refl, h);
   }
 
-  text_stands : t.class ≡ classes.Str → IsText t.text → t.number ≡ pos 0 → Stands t
+  text_stands : t.class ≡ classes.Str → IsEncoded t.text → t.number ≡ pos 0 → Stands t
   text_stands s n z = record {
     piece = Quoted t.text;
     says = λ i. record { class = sym s i; text = t.text; number = sym z i; place = nowhere } ∷ [];
@@ -115,7 +115,7 @@ stand_both (t ∷ u) v h k = (h.0, stand_both u v h.1 k)
 a_name : IsName (codes "a")
 a_name = (97 ∷ [], sym (ap (λ z. z ++ []) (encode_ascii 97 (omega arith))), (97, [], refl, is_xid_start-ascii 97 (omega arith), refl))
 
-strict_text : IsText (codes "strict")
+strict_text : IsEncoded (codes "strict")
 unfolding is_low
 strict_text = (codes "strict", sym (low_bytes (codes "strict") refl))
 
@@ -132,7 +132,7 @@ simple_stands t h = by (kind_of t.class) refl (spelt t.class) where
   by : (k : Kind) → kind_of t.class ≡ k → Spelt k t.class → Stands t
   by Named e s = let says : t.text ≡ codes "a" = subst (λ c. SimpleText c t.text) s h.text in name_stands t s (subst IsName (sym says) a_name) h.number
   by Number e s = integer_stands t s (0, h.number, omega arith) (subst (λ c. SimpleText c t.text) s h.text)
-  by Text e s = text_stands t s (elim (subst (λ c. SimpleText c t.text) s h.text) [ inl q ↦ subst IsText (sym q) ([], refl) | inr q ↦ subst IsText (sym q) strict_text ]) h.number
+  by Text e s = text_stands t s (elim (subst (λ c. SimpleText c t.text) s h.text) [ inl q ↦ subst IsEncoded (sym q) ([], refl) | inr q ↦ subst IsEncoded (sym q) strict_text ]) h.number
   by Reserved e s = plain Reserved e refl
   by One e s = plain One e refl
   by Two e s = plain Two e refl
@@ -142,7 +142,7 @@ stand_simple [] h = tt
 stand_simple (t ∷ v) h = (simple_stands t h.0, stand_simple v h.1)
 
 -- each on a line of its own
-lines : (ts : List Tok) → AllStand ts → List Piece
+lines : (ts : List Tok) → AllStand ts → List PrintPiece
 lines [] h = []
 lines (t ∷ ts) h = h.0.piece ∷ Line ∷ lines ts h.1
 
@@ -156,9 +156,9 @@ unfolding lines
 lines_sound [] h = refl
 lines_sound (t ∷ ts) h = h.0.sound (lines ts h.1) (lines_sound ts h.1)
 
-written : (ts : List Tok) → AllStand ts → IsWritten ts
+written : (ts : List Tok) → AllStand ts → AreSpelled ts
 written ts h = record { text = text; has = subst (HasSpelled text) (lines_spelled ts h) (has_spelled text (all_spelled ps) (letter_begins 10 (tail 0 None ps) (omega arith)) (relexed (Line ∷ ps) Free 0 None (lines_sound ts h))) } where
-  ps : List Piece
+  ps : List PrintPiece
   ps = lines ts h
 
   text : List ℕ

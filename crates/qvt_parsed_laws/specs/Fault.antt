@@ -17,7 +17,7 @@ pub record IsOfLanguage (text : List ℕ) (ts : List Tok) : Type 0 where
   pub reads : Reads ts tree
 
 -- some text of the language has the same tokens, and then others or none
-pub record Begins (ts : List Tok) : Type 0 where
+pub record BeginsText (ts : List Tok) : Type 0 where
   pub text : List ℕ
   pub first : List Tok
   pub more : List Tok
@@ -30,8 +30,8 @@ pub record IsBefore (text : List ℕ) (place : Place) (f : HasSyntaxFault text p
 
 pub record FaultIsFirst : Type 0 where
   -- no text of the language has the same tokens up to and including the faulty one
-  pub none : (text : List ℕ) (place : Place) (f : HasSyntaxFault text place) (before : List Tok) → IsBefore text place f before → (t : Tok) (more : List Tok) → f.rest ≡ t ∷ more → Begins (before ++ t ∷ []) → ⊥
+  pub none : (text : List ℕ) (place : Place) (f : HasSyntaxFault text place) (before : List Tok) → IsBefore text place f before → (t : Tok) (more : List Tok) → f.rest ≡ t ∷ more → BeginsText (before ++ t ∷ []) → ⊥
   -- where it is the end, no text of the language has the same tokens
   pub end : (text : List ℕ) (place : Place) (f : HasSyntaxFault text place) → f.rest ≡ [] → (other : List ℕ) (us : List Tok) → SameTokens us f.tokens → IsOfLanguage other us → ⊥
   -- some text of the language has the same tokens before it
-  pub some : (text : List ℕ) (place : Place) (f : HasSyntaxFault text place) → (before : List Tok) × IsBefore text place f before × Begins before
+  pub some : (text : List ℕ) (place : Place) (f : HasSyntaxFault text place) → (before : List Tok) × IsBefore text place f before × BeginsText before

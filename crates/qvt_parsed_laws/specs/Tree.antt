@@ -4,7 +4,7 @@ use Rattle.std.specs.Str.{IsUtf8}
 use Rattle.qvt_tree_types.specs.Module.{MappingTerm, ModuleTerm}
 use Rattle.qvt_parser_nodes.specs.Nodes.{nodes}
 use Rattle.qvt_parser_nodes.specs.Names.{HasNames}
-use Rattle.qvt_parser_nodes.specs.Places.{Clause, places}
+use Rattle.qvt_parser_nodes.specs.Places.{ClauseKind, places}
 use Rattle.qvt_parser_nodes.specs.Law.{of_tokens, at_most, DoNotFall}
 use Rattle.qvt_parsed.specs.Parsing.{IsTransformation}
 
@@ -22,4 +22,4 @@ pub record LiesInText : Type 0 where
   -- no name and no text in quotes is longer than the text, in bytes
   pub longest : (text : List ℕ) (m : ModuleTerm) → IsUtf8 text → IsTransformation text m → HasNames (at_most (length text)) m
   -- the places of the nodes, in the order of the text, do not fall, and none is past the end
-  pub order : (c : MappingTerm → Clause) (text : List ℕ) (m : ModuleTerm) → IsTransformation text m → DoNotFall (places c m ++ m.end ∷ [])
+  pub order : (c : MappingTerm → ClauseKind) (text : List ℕ) (m : ModuleTerm) → IsTransformation text m → DoNotFall (places c m ++ m.end ∷ [])

@@ -9,7 +9,7 @@ ghost use Rattle.qvt_parsed.specs.Parsed.{parsed};
 ghost use Rattle.qvt_parsed.specs.declared.fault.ParseFault.TheVariants as faults;
 
 use qvt_base::numbers::Place;
-use qvt_language::token::Token;
+use qvt_language::token::SyntaxToken;
 use qvt_language_rows::law::answers;
 use qvt_parsed::fault::ParseFault;
 use qvt_parsed::law::parsing;
@@ -21,7 +21,11 @@ use qvt_tree_types::module::Module;
 use std::alloc::Global;
 
 /// The transformation of these tokens, after which `end` stands. They are not too deep.
-fn read_tokens<'a>(alloc: Global, tokens: &'a [Token<'a>], end: Place) -> Result<Module, ParseFault>
+fn read_tokens<'a>(
+    alloc: Global,
+    tokens: &'a [SyntaxToken<'a>],
+    end: Place,
+) -> Result<Module, ParseFault>
     ensures read { IsReadAs (toks_of tokens.entry.now) end result }
     ensures one { IfOk result (λ m. (other : ModuleTerm) → Reads (toks_of tokens.entry.now) other → other ≡ with_end nowhere (module_view m)) }
 {

@@ -13,7 +13,7 @@ use crate::made::{chained, each_lead, linked, post_lead, prefixed};
 use qvt_base::numbers::Place;
 use qvt_base::seq::Seq;
 use qvt_language::class::Class;
-use qvt_parser_exprs::inside::{Inside, Nest};
+use qvt_parser_exprs::inside::{Nest, NestedReader};
 use qvt_parser_exprs::leading::{EachTail, LeadStep, Leading};
 use qvt_parser_exprs::made::{finish, short_list};
 use qvt_parser_grammar::cursor::{ParseError, Parser};
@@ -22,7 +22,7 @@ use qvt_tree_types::tree::{Link, Step};
 /// The calls that read steps and chains of operands, over those that read the expressions in them.
 #[derive(Drop)]
 pub struct Chains<N> {
-    pub inside: Inside<N>,
+    pub inside: NestedReader<N>,
 }
 
 impl<N: Nest> Chains<N> {

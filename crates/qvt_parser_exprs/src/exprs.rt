@@ -12,7 +12,7 @@ ghost use Rattle.qvt_parser_grammar.specs.Options.{option_view};
 ghost use Rattle.qvt_parser_exprs.specs.Views.{boxed_view, first_view, lead_view, exprs_view, items_view, stmts_view, filter_head_view, form_view};
 ghost use Rattle.qvt_parser_grammar.specs.Gives.{Gives, toks};
 
-use crate::inside::{Inside, Nest};
+use crate::inside::{Nest, NestedReader};
 use crate::leading::{First, Leading};
 use crate::made::{bare, boxed, conditional, finish, is_strict, resolve_word, short_list};
 use qvt_base::seq::Seq;
@@ -24,7 +24,7 @@ use qvt_tree_types::tree::{Expr, Filter, Item, MapCall, RangeEnd, ResolveCall, S
 use qvt_tree_types::types::{PathTree, TypeTree};
 use qvt_tree_types::words::ResolveWord;
 
-impl<N: Nest> Inside<N> {
+impl<N: Nest> NestedReader<N> {
     /// An expression that may still become a target.
     pub fn flagged(&self, parser: &mut Parser<'_>) -> Result<Leading, ParseError>
         ensures gives { Gives lead_view result (toks parser.new) ((nested_at (N.room self.now.nest)).flagged (toks parser.old)) }

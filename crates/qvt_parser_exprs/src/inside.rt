@@ -29,6 +29,6 @@ pub trait Nest {
 
 /// What stands nested inside, for the calls that read what it stands in.
 #[derive(Drop)]
-pub struct Inside<N> {
+pub struct NestedReader<N> {
     pub nest: N,
 }

@@ -9,7 +9,7 @@ ghost use Rattle.qvt_parser_grammar.specs.Gives.{Gives, toks};
 use qvt_base::list_fault::ListFault;
 use qvt_base::numbers::Place;
 use qvt_language::class::Class;
-use qvt_language::token::Token;
+use qvt_language::token::SyntaxToken;
 use std::alloc::{AllocError, AllocFailed, Global};
 
 /// Why no tree is given.
@@ -57,7 +57,7 @@ impl<T: Drop> From<AllocFailed<T>> for ParseError {
 #[derive(Drop)]
 pub struct Parser<'a> {
     pub alloc: Global,
-    tokens: &'a [Token<'a>],
+    tokens: &'a [SyntaxToken<'a>],
     index: usize,
 }
 
@@ -71,7 +71,7 @@ impl<'a> Parser<'a> {
     ghost use Rattle.qvt_language.specs.Tokens.{toks_of};
 
     /// A parser at the first of the tokens.
-    pub fn new(alloc: Global, tokens: &'a [Token<'a>]) -> Parser<'a>
+    pub fn new(alloc: Global, tokens: &'a [SyntaxToken<'a>]) -> Parser<'a>
         ensures { toks result ≡ toks_of tokens.entry.now }
     {
         Parser {
@@ -137,7 +137,7 @@ impl<'a> Parser<'a> {
     }
 
     /// Takes the next token, if it is of the class.
-    pub fn take(&mut self, class: Class) -> Result<Token<'a>, ParseError>
+    pub fn take(&mut self, class: Class) -> Result<SyntaxToken<'a>, ParseError>
         ensures gives { Gives tok_of result (toks self.new) (the_at class (toks self.old)) }
         ensures fewer { length (toks self.new) ≤ length (toks self.old) }
         ensures less { OnOk result (length (toks self.new) < length (toks self.old)) }
@@ -154,7 +154,7 @@ impl<'a> Parser<'a> {
     }
 
     /// Takes the next token, if it is of the class.
-    pub fn skip(&mut self, class: Class) -> Option<Token<'a>>
+    pub fn skip(&mut self, class: Class) -> Option<SyntaxToken<'a>>
         ensures gives { maybe_at (is class) (the_at class) (toks self.old) ≡ Ok (option_view tok_of result, toks self.new) }
         ensures fewer { length (toks self.new) ≤ length (toks self.old) }
     {

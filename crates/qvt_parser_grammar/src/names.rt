@@ -16,7 +16,7 @@ use qvt_base::seq::Seq;
 use qvt_base::text::Text;
 use qvt_language::class::Class;
 use qvt_language::named::{Named, UnitPath};
-use qvt_language::token::Token;
+use qvt_language::token::SyntaxToken;
 use qvt_tree_types::types::{PathTree, TypeTree};
 use qvt_tree_types::words::CollKind;
 use std::alloc::Global;
@@ -183,7 +183,7 @@ impl<'a> Parser<'a> {
 
     /// The word of a kind of collection.
     #[tactic(auto, unfolding(qvt_language::specs::Reading::kind_word_at))]
-    pub fn kind_word(&mut self) -> Result<Token<'a>, ParseError>
+    pub fn kind_word(&mut self) -> Result<SyntaxToken<'a>, ParseError>
         ensures gives { Gives tok_of result (toks self.new) (kind_word_at (toks self.old)) }
         ensures fewer { length (toks self.new) ≤ length (toks self.old) }
         ensures less { OnOk result (length (toks self.new) < length (toks self.old)) }

@@ -12,7 +12,7 @@ use crate::names::path_of;
 use qvt_base::seq::Seq;
 use qvt_base::text::Text;
 use qvt_language::class::Class;
-use qvt_language::token::Token;
+use qvt_language::token::SyntaxToken;
 use qvt_tree_types::tree::Expr;
 use qvt_tree_types::types::{ObjectVar, PathTree};
 use qvt_tree_types::words::{PrefixOp, Sign};
@@ -165,7 +165,7 @@ impl<'a> Parser<'a> {
 
     /// The word of a resolve over all mappings.
     #[tactic(auto, unfolding(qvt_language::specs::Reading::all_word_at))]
-    pub fn all_word(&mut self) -> Result<Token<'a>, ParseError>
+    pub fn all_word(&mut self) -> Result<SyntaxToken<'a>, ParseError>
         ensures gives { Gives tok_of result (toks self.new) (all_word_at (toks self.old)) }
         ensures fewer { length (toks self.new) ≤ length (toks self.old) }
         ensures less { OnOk result (length (toks self.new) < length (toks self.old)) }
@@ -184,7 +184,7 @@ impl<'a> Parser<'a> {
 
     /// The word of a resolve in one mapping.
     #[tactic(auto, unfolding(qvt_language::specs::Reading::in_word_at))]
-    pub fn in_word(&mut self) -> Result<Token<'a>, ParseError>
+    pub fn in_word(&mut self) -> Result<SyntaxToken<'a>, ParseError>
         ensures gives { Gives tok_of result (toks self.new) (in_word_at (toks self.old)) }
         ensures fewer { length (toks self.new) ≤ length (toks self.old) }
         ensures less { OnOk result (length (toks self.new) < length (toks self.old)) }
@@ -202,7 +202,7 @@ impl<'a> Parser<'a> {
     }
 
     /// `map` or `xmap`.
-    pub fn map_word(&mut self) -> Result<Token<'a>, ParseError>
+    pub fn map_word(&mut self) -> Result<SyntaxToken<'a>, ParseError>
         ensures gives { Gives tok_of result (toks self.new) (choose_at (is Class.MapWord) (the_at Class.MapWord) (the_at Class.XmapWord) (toks self.old)) }
         ensures fewer { length (toks self.new) ≤ length (toks self.old) }
         ensures less { OnOk result (length (toks self.new) < length (toks self.old)) }
@@ -214,7 +214,7 @@ impl<'a> Parser<'a> {
     }
 
     /// `:=` or `+=`.
-    pub fn assign_sign(&mut self) -> Result<Token<'a>, ParseError>
+    pub fn assign_sign(&mut self) -> Result<SyntaxToken<'a>, ParseError>
         ensures gives { Gives tok_of result (toks self.new) (choose_at (is Class.Becomes) (the_at Class.Becomes) (the_at Class.PlusEqual) (toks self.old)) }
         ensures fewer { length (toks self.new) ≤ length (toks self.old) }
         ensures less { OnOk result (length (toks self.new) < length (toks self.old)) }
@@ -261,7 +261,7 @@ impl<'a> Parser<'a> {
     }
 
     /// `<`, `<=`, `>` or `>=`.
-    pub fn relation_operator(&mut self) -> Result<Token<'a>, ParseError>
+    pub fn relation_operator(&mut self) -> Result<SyntaxToken<'a>, ParseError>
         ensures gives { Gives tok_of result (toks self.new) (operator_at 2 (toks self.old)) }
         ensures fewer { length (toks self.new) ≤ length (toks self.old) }
         ensures less { OnOk result (length (toks self.new) < length (toks self.old)) }
@@ -279,7 +279,7 @@ impl<'a> Parser<'a> {
     }
 
     /// `=`, `==`, `<>` or `!=`.
-    pub fn equality_operator(&mut self) -> Result<Token<'a>, ParseError>
+    pub fn equality_operator(&mut self) -> Result<SyntaxToken<'a>, ParseError>
         ensures gives { Gives tok_of result (toks self.new) (operator_at 3 (toks self.old)) }
         ensures fewer { length (toks self.new) ≤ length (toks self.old) }
         ensures less { OnOk result (length (toks self.new) < length (toks self.old)) }
@@ -297,7 +297,7 @@ impl<'a> Parser<'a> {
     }
 
     /// An operator of the level, from 0 for `*` to 7.
-    pub fn operator(&mut self, level: usize) -> Result<Token<'a>, ParseError>
+    pub fn operator(&mut self, level: usize) -> Result<SyntaxToken<'a>, ParseError>
         requires { level < 8 }
         ensures gives { Gives tok_of result (toks self.new) (operator_at level (toks self.old)) }
         ensures fewer { length (toks self.new) ≤ length (toks self.old) }

@@ -4,7 +4,7 @@ use Rattle.qvt_base.specs.declared.numbers.Place.{Place}
 use Rattle.qvt_grammar.specs.Language.{head_of}
 use Rattle.qvt_language.specs.Tokens.{Tok}
 use Rattle.qvt_language.specs.Readers.{nowhere}
-use Rattle.qvt_parser_nodes.specs.Law.{NoneBefore, DoNotFall, IsPlaceOf, ArePlacesOf}
+use Rattle.qvt_parser_nodes.specs.Law.{NoneBefore, DoNotFall, IsTokenPlace, ArePlacesOf}
 
 -- each place is that of a token, which is no token before that of the place before
 abbrev pub Along : List Place → List Tok → Type 0
@@ -114,11 +114,11 @@ less_trans {ps} {qs} {rs} h k = record { thin = thin_trans ps qs rs h.thin k.thi
 abbrev spots : List Tok → List Place
 spots = map (λ t. t.place)
 
-one_of : (u v : List Tok) (t : Tok) (p : Place) → p ≡ t.place → IsPlaceOf (u ++ (t ∷ v)) p
+one_of : (u v : List Tok) (t : Tok) (p : Place) → p ≡ t.place → IsTokenPlace (u ++ (t ∷ v)) p
 one_of [] v t p e = inl e
 one_of (x ∷ u) v t p e = inr (one_of u v t p e)
 
-of_end : (u v : List Tok) (p : Place) → IsPlaceOf v p → IsPlaceOf (u ++ v) p
+of_end : (u v : List Tok) (p : Place) → IsTokenPlace v p → IsTokenPlace (u ++ v) p
 of_end [] v p h = h
 of_end (x ∷ u) v p h = inr (of_end u v p h)
 
@@ -131,7 +131,7 @@ along_tokens [] ts h = tt
 along_tokens (p ∷ ps) ts h =
     let one = one_of h.0 h.2 h.1 p h.4 in
     let rest = all_of_end ps h.0 (h.1 ∷ h.2) (along_tokens ps (h.1 ∷ h.2) h.5) in
-    (subst (λ z. IsPlaceOf z p) (sym h.3) one, subst (λ z. ArePlacesOf z ps) (sym h.3) rest)
+    (subst (λ z. IsTokenPlace z p) (sym h.3) one, subst (λ z. ArePlacesOf z ps) (sym h.3) rest)
 
 falls_no_end : (u v : List Tok) → DoNotFall (spots (u ++ v)) → DoNotFall (spots v)
 falls_no_end [] v h = h

@@ -9,47 +9,47 @@ use Rattle.qvt_language.specs.declared.class.Class.TheVariants.{Name, Str}
 use Rattle.qvt_language.specs.Tokens.{Tok, is}
 use Rattle.qvt_language.specs.Leads.{EachPart}
 use Rattle.qvt_language.specs.StmtTrees.{last_of}
-use Rattle.qvt_language.specs.UnitTrees.{Clause, Clauses, InheritsClause, MergesClause, DisjunctsClause, WhenClause, with_clause, no_clauses, Body}
+use Rattle.qvt_language.specs.UnitTrees.{ClauseTree, ClausesTree, InheritsClause, MergesClause, DisjunctsClause, WhenClause, with_clause, no_clauses, BodyTree}
 use Rattle.qvt_language_rows.specs.Lists.{AllOf, IfThere}
 use Rattle.qvt_language_rows.specs.Values.{name_text, signed_of, chained, or_no_args, with_clauses, open_sections}
 use Rattle.qvt_language_rows.proofs.Every.{Said, Makers}
 use Rattle.qvt_language_rows.proofs.Gives.{Predicate, Any, Both, forms, all_and, token_of, many_of, such}
-use Rattle.qvt_parser_nodes.specs.Names.{Told, NamesHold, PathHolds, VariableHolds, TypeHolds, ExprHolds, OptionalHolds, LinkHolds, ItemHolds, RangeHolds, MapHolds, ResolveHolds, FilterHolds, HeadHolds, AccumulatorHolds, StepHolds, TargetHolds, StmtHolds, ArmHolds, TypedHolds, ResultHolds, UnitHolds, ModelTypeHolds, ModelParamHolds, HasNames}
+use Rattle.qvt_parser_nodes.specs.Names.{NameConditions, NamesHold, PathHolds, VariableHolds, TypeHolds, ExprHolds, OptionalHolds, LinkHolds, ItemHolds, RangeHolds, MapHolds, ResolveHolds, FilterHolds, HeadHolds, AccumulatorHolds, StepHolds, TargetHolds, StmtHolds, ArmHolds, TypedHolds, ResultHolds, UnitHolds, ModelTypeHolds, ModelParamHolds, HasNames}
 use Rattle.qvt_parser_nodes.proofs.NameParts.{NamedP, texts, exprs_are, items_are, links_are, stmts_are, arms_are, optional_is, args_are, range_is, filter_is, accumulator_is, else_is, none_or, no_stmts_or, post_is, signed_is, all_in, the_last, all_units}
 
 -- what is told of names holds of a token that is a name, and what is told of texts of a token that is a text
-abbrev pub Tells : Told → Tok → Type 0
+abbrev pub Tells : NameConditions → Tok → Type 0
 Tells N t = (IsTrue (is Name t) → N.name t.text) × (IsTrue (is Str t) → N.text t.text)
 
 -- after a `forEach`
-abbrev PartP : Told → EachPart → Type 0
+abbrev PartP : NameConditions → EachPart → Type 0
 PartP N p = N.name p.name × IfThere (TypeHolds N) p.kind × OptionalHolds N p.condition × AllOf (StmtHolds N) p.body
 
-abbrev ArgsP : Told → HeadTerm × List ExprTerm → Type 0
+abbrev ArgsP : NameConditions → HeadTerm × List ExprTerm → Type 0
 ArgsP N x = HeadHolds N x.0 × AllOf (ExprHolds N) x.1
 
-abbrev ClauseP : Told → Clause → Type 0
+abbrev ClauseP : NameConditions → ClauseTree → Type 0
 ClauseP N (InheritsClause paths) = AllOf (PathHolds N) paths
 ClauseP N (MergesClause paths) = AllOf (PathHolds N) paths
 ClauseP N (DisjunctsClause paths) = AllOf (PathHolds N) paths
 ClauseP N (WhenClause e) = ExprHolds N e
 
-pub record ClausesP (N : Told) (x : Clauses) : Type 0 where
+pub record ClausesP (N : NameConditions) (x : ClausesTree) : Type 0 where
   inherits : IfThere (AllOf (PathHolds N)) x.inherits
   merges : IfThere (AllOf (PathHolds N)) x.merges
   disjuncts : IfThere (AllOf (PathHolds N)) x.disjuncts
   condition : IfThere (ExprHolds N) x.condition
 
-pub record BodyP (N : Told) (x : Body) : Type 0 where
+pub record BodyP (N : NameConditions) (x : BodyTree) : Type 0 where
   init : AllOf (StmtHolds N) x.init
   population : AllOf (StmtHolds N) x.population
   finish : AllOf (StmtHolds N) x.finish
 
-abbrev EndingP : Told → Option StmtTerm ⊎ List StmtTerm → Type 0
+abbrev EndingP : NameConditions → Option StmtTerm ⊎ List StmtTerm → Type 0
 EndingP N (inl last) = IfThere (StmtHolds N) last
 EndingP N (inr finish) = AllOf (StmtHolds N) finish
 
-abbrev said : Told → Said Predicate
+abbrev said : NameConditions → Said Predicate
 said N = record {
   named = NamedP N;
   name = N.name;
@@ -104,7 +104,7 @@ said N = record {
   whole = HasNames N;
 }
 
-module _ (N : Told) where
+module _ (N : NameConditions) where
   name_is : (n : Option Named) → IfThere (NamedP N) n → IfThere N.name (name_text n)
   name_is None h = tt
   name_is (Some n) h = h
@@ -121,13 +121,13 @@ module _ (N : Told) where
   chain_is level (place, (e, [])) h k = h
   chain_is level (place, (e, (l ∷ ls))) h k = (h, links_are N (l ∷ ls) k)
 
-  with_is : (x : Clauses) (c : Clause) → ClausesP N x → ClauseP N c → ClausesP N (with_clause x c)
+  with_is : (x : ClausesTree) (c : ClauseTree) → ClausesP N x → ClauseP N c → ClausesP N (with_clause x c)
   with_is x (InheritsClause paths) h k = record { inherits = k; merges = h.merges; disjuncts = h.disjuncts; condition = h.condition }
   with_is x (MergesClause paths) h k = record { inherits = h.inherits; merges = k; disjuncts = h.disjuncts; condition = h.condition }
   with_is x (DisjunctsClause paths) h k = record { inherits = h.inherits; merges = h.merges; disjuncts = k; condition = h.condition }
   with_is x (WhenClause e) h k = record { inherits = h.inherits; merges = h.merges; disjuncts = h.disjuncts; condition = k }
 
-  clauses_are : (x : Clauses) (cs : List Clause) → ClausesP N x → AllOf (ClauseP N) cs → ClausesP N (with_clauses x cs)
+  clauses_are : (x : ClausesTree) (cs : List ClauseTree) → ClausesP N x → AllOf (ClauseP N) cs → ClausesP N (with_clauses x cs)
   clauses_are x [] h k = h
   clauses_are x (c ∷ cs) h k = clauses_are (with_clause x c) cs (with_is x c h k.0) k.1
 

@@ -13,13 +13,13 @@ use Rattle.qvt_language.specs.StmtTrees.{concat, last_of}
 use Rattle.qvt_language.specs.UnitTrees.{paths_or_none, stmts_or_none, units_of}
 use Rattle.qvt_language_rows.specs.Lists.{AllOf, IfThere}
 use Rattle.qvt_language_rows.proofs.Gives.{all_and}
-use Rattle.qvt_parser_nodes.specs.Names.{Told, PathHolds, ExprHolds, ExprsHold, OptionalHolds, ArgsHold, LinkHolds, LinksHold, ItemHolds, ItemsHold, RangeHolds, FilterHolds, AccumulatorHolds, StepHolds, StepsHold, StmtHolds, StmtsHold, ElseHolds, ArmHolds, ArmsHold, UnitHolds}
+use Rattle.qvt_parser_nodes.specs.Names.{NameConditions, PathHolds, ExprHolds, ExprsHold, OptionalHolds, ArgsHold, LinkHolds, LinksHold, ItemHolds, ItemsHold, RangeHolds, FilterHolds, AccumulatorHolds, StepHolds, StepsHold, StmtHolds, StmtsHold, ElseHolds, ArmHolds, ArmsHold, UnitHolds}
 
 -- N of a name
-abbrev pub NamedP : Told → Named → Type 0
+abbrev pub NamedP : NameConditions → Named → Type 0
 NamedP N n = N.name n.text
 
-module _ (N : Told) where
+module _ (N : NameConditions) where
   pub texts : (ns : List Named) → AllOf (NamedP N) ns → AllOf N.name (map (λ m. m.text) ns)
   texts [] h = tt
   texts (n ∷ ns) h = (h.0, texts ns h.1)

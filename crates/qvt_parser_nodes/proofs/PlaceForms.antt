@@ -7,27 +7,27 @@ use Rattle.qvt_language.specs.declared.class.Class.{Class}
 use Rattle.qvt_language.specs.declared.class.Class.TheVariants.{Comma}
 use Rattle.qvt_language_rows.specs.Phrase.{Phrase, ◌or◌, ◌gives◌, ◌then◌, the, many, maybe, placed, commas, listed, or_none}
 use Rattle.qvt_language_rows.proofs.Every.{any_of, Forms}
-use Rattle.qvt_parser_nodes.specs.Places.{Clause, all_places, places_if}
+use Rattle.qvt_parser_nodes.specs.Places.{ClauseKind, all_places, places_if}
 use Rattle.qvt_parser_nodes.proofs.Along.{Along, Less, along_both, along_head, along_thin, same, over, front}
 
 -- the places of a value, with this clause of a mapping, and whether it is never read from no token
 pub record Spots (A : Type 0) : Type 0 where
-  pub of : Clause → A → List Place
+  pub of : ClauseKind → A → List Place
   pub solid : Bool
 
 pub record Follows (A : Type 0) (s : Spots A) (p : Phrase A) : Type 0 where
-  pub all : (c : Clause) (ts : List Tok) (a : A) → p ts a → Along (s.of c a) ts
+  pub all : (c : ClauseKind) (ts : List Tok) (a : A) → p ts a → Along (s.of c a) ts
   pub some : s.solid ≡ true → (a : A) → p [] a → ⊥
 
 -- what is made of a value has places of it, with the clauses that it is read with
 pub record Moves {A B : Type 0} (s : Spots A) (t : Spots B) (f : A → B) : Type 0 where
   pub solid : t.solid ≡ true → s.solid ≡ true
-  pub along : (c : Clause) (a : A) → (d : Clause) × ((ts : List Tok) → Along (s.of d a) ts → Along (t.of c (f a)) ts)
+  pub along : (c : ClauseKind) (a : A) → (d : ClauseKind) × ((ts : List Tok) → Along (s.of d a) ts → Along (t.of c (f a)) ts)
 
-pub firm : {A B : Type 0} {s : Spots A} {t : Spots B} {f : A → B} → s.solid ≡ true → ((c : Clause) (a : A) → Less (t.of c (f a)) (s.of c a)) → Moves s t f
+pub firm : {A B : Type 0} {s : Spots A} {t : Spots B} {f : A → B} → s.solid ≡ true → ((c : ClauseKind) (a : A) → Less (t.of c (f a)) (s.of c a)) → Moves s t f
 firm {s = s} {t = t} {f = f} e h = record { solid = λ d. e; along = λ c a. (c, λ ts k. along_thin (t.of c (f a)) (s.of c a) ts (h c a).thin k) }
 
-pub loose : {A B : Type 0} {s : Spots A} {t : Spots B} {f : A → B} → t.solid ≡ false → ((c : Clause) (a : A) → Less (t.of c (f a)) (s.of c a)) → Moves s t f
+pub loose : {A B : Type 0} {s : Spots A} {t : Spots B} {f : A → B} → t.solid ≡ false → ((c : ClauseKind) (a : A) → Less (t.of c (f a)) (s.of c a)) → Moves s t f
 loose {s = s} {t = t} {f = f} e h = record {
   solid = λ d. absurd (let no : true ≡ false = sym d ∙ e in cc);
   along = λ c a. (c, λ ts k. along_thin (t.of c (f a)) (s.of c a) ts (h c a).thin k);
@@ -119,7 +119,7 @@ of_made {t = t} m h = record {
 }
 
 module _ {A : Type 0} {s : Spots A} {p : Phrase A} (h : Follows A s p) where
-  pub either_cases : (q : Phrase A) → Follows A s q → (c : Clause) (ts : List Tok) (a : A) → (p or q) ts a → Along (s.of c a) ts
+  pub either_cases : (q : Phrase A) → Follows A s q → (c : ClauseKind) (ts : List Tok) (a : A) → (p or q) ts a → Along (s.of c a) ts
   either_cases q k c ts a (inl x) = h.all c ts a x
   either_cases q k c ts a (inr x) = k.all c ts a x
 
@@ -130,21 +130,21 @@ module _ {A : Type 0} {s : Spots A} {p : Phrase A} (h : Follows A s p) where
   pub either : {q : Phrase A} → Follows A s q → Follows A s (p or q)
   either {q = q} k = record { all = either_cases q k; some = either_none q k }
 
-  pub turns : (c : Clause) (as_ : List A) (ts : List Tok) → many p ts as_ → Along (all_places (s.of c) as_) ts
+  pub turns : (c : ClauseKind) (as_ : List A) (ts : List Tok) → many p ts as_ → Along (all_places (s.of c) as_) ts
   turns c [] ts rd = tt
   turns c (a ∷ more) ts (u, v, e, x, y) = subst (Along (s.of c a ++ all_places (s.of c) more)) (sym e) (along_both (s.of c a) (all_places (s.of c) more) u v (h.all c u a x) (turns c more v y))
 
   pub many_of : Follows (List A) (list_of s) (many p)
   many_of = record { all = λ c ts as_ rd. turns c as_ ts rd; some = λ e. absurd cc }
 
-  pub maybe_cases : (c : Clause) (ts : List Tok) (a : Option A) → maybe p ts a → Along (places_if (s.of c) a) ts
+  pub maybe_cases : (c : ClauseKind) (ts : List Tok) (a : Option A) → maybe p ts a → Along (places_if (s.of c) a) ts
   maybe_cases c ts a (inl (x, rd, e)) = subst (λ z. Along (places_if (s.of c) z) ts) (sym e) (h.all c ts x rd)
   maybe_cases c ts a (inr (x, rd, e)) = subst (λ z. Along (places_if (s.of c) z) ts) (sym e) tt
 
   pub perhaps : Follows (Option A) (option_of s) (maybe p)
   perhaps = record { all = maybe_cases; some = λ e. absurd cc }
 
-  pub begun_along : (b : Bool) → s.solid ≡ b → (c : Clause) (ts : List Tok) (pa : Place × A) → placed p ts pa → Along (begun b (s.of c) pa) ts
+  pub begun_along : (b : Bool) → s.solid ≡ b → (c : ClauseKind) (ts : List Tok) (pa : Place × A) → placed p ts pa → Along (begun b (s.of c) pa) ts
   begun_along true e c ts pa rd =
       let some : ts ≡ [] → ⊥ = λ n. h.some e pa.1 (subst (λ z. p z pa.1) n rd.0) in
       subst (λ z. Along (z ∷ s.of c pa.1) ts) (sym rd.1) (along_head (s.of c pa.1) ts some (h.all c ts pa.1 rd.0))

@@ -11,7 +11,7 @@ use Rattle.qvt_language.specs.declared.named.UnitPath.{UnitPath}
 use Rattle.qvt_language.specs.declared.class.Class.TheVariants.{Str}
 use Rattle.qvt_language.specs.Tokens.{Tok}
 use Rattle.qvt_language.specs.StmtTrees.{last_of}
-use Rattle.qvt_language.specs.UnitTrees.{Clause, Clauses, InheritsClause, MergesClause, DisjunctsClause, WhenClause, with_clause, no_clauses, paths_or_none, Body, mapping_of}
+use Rattle.qvt_language.specs.UnitTrees.{ClauseTree, ClausesTree, InheritsClause, MergesClause, DisjunctsClause, WhenClause, with_clause, no_clauses, paths_or_none, BodyTree, mapping_of}
 use Rattle.qvt_language_rows.specs.Values.{signed_of, chained, or_no_args, with_clauses, open_sections}
 use Rattle.qvt_language_rows.proofs.Every.{Said, Makers}
 use Rattle.qvt_parser_nodes.specs.Places as places_of
@@ -26,7 +26,7 @@ none a = []
 abbrev stmts_in : List StmtTerm → List Place
 stmts_in = all_places stmt_places
 
-abbrev body_places : Body → List Place
+abbrev body_places : BodyTree → List Place
 body_places x = stmts_in x.init ++ (stmts_in x.population ++ stmts_in x.finish)
 
 abbrev ending_places : Option StmtTerm ⊎ List StmtTerm → List Place
@@ -37,20 +37,20 @@ abbrev unit_path_places : UnitPath → List Place
 unit_path_places p = p.place ∷ []
 
 -- those of one clause, where it is there
-abbrev written_places : places_of.Clause → Clauses → List Place
+abbrev written_places : places_of.ClauseKind → ClausesTree → List Place
 written_places places_of.Inherits x = places_if (all_places path_places) x.inherits
 written_places places_of.Merges x = places_if (all_places path_places) x.merges
 written_places places_of.Disjuncts x = places_if (all_places path_places) x.disjuncts
 written_places places_of.When x = places_if expr_places x.condition
 
-abbrev one_places : Clause → List Place
+abbrev one_places : ClauseTree → List Place
 one_places (InheritsClause paths) = all_places path_places paths
 one_places (MergesClause paths) = all_places path_places paths
 one_places (DisjunctsClause paths) = all_places path_places paths
 one_places (WhenClause e) = expr_places e
 
 -- a clause that is read is the one that is asked for, or leaves that one as it was
-with_is : (c : places_of.Clause) (x : Clauses) (y : Clause) → (written_places c (with_clause x y) ≡ one_places y) ⊎ (written_places c (with_clause x y) ≡ written_places c x)
+with_is : (c : places_of.ClauseKind) (x : ClausesTree) (y : ClauseTree) → (written_places c (with_clause x y) ≡ one_places y) ⊎ (written_places c (with_clause x y) ≡ written_places c x)
 with_is places_of.Inherits x (InheritsClause ps) = inl refl
 with_is places_of.Merges x (MergesClause ps) = inl refl
 with_is places_of.Disjuncts x (DisjunctsClause ps) = inl refl
@@ -68,7 +68,7 @@ with_is places_of.When x (InheritsClause ps) = inr refl
 with_is places_of.When x (MergesClause ps) = inr refl
 with_is places_of.When x (DisjunctsClause ps) = inr refl
 
-clauses_less : (c : places_of.Clause) (x : Clauses) (ys : List Clause) → Less (written_places c (with_clauses x ys)) (written_places c x ++ all_places one_places ys)
+clauses_less : (c : places_of.ClauseKind) (x : ClausesTree) (ys : List ClauseTree) → Less (written_places c (with_clauses x ys)) (written_places c x ++ all_places one_places ys)
 clauses_less c x [] = front (written_places c x) []
 clauses_less c x (y ∷ ys) = by (with_is c x y) (clauses_less c (with_clause x y) ys) where
   by : (written_places c (with_clause x y) ≡ one_places y) ⊎ (written_places c (with_clause x y) ≡ written_places c x) → Less (written_places c (with_clauses (with_clause x y) ys)) (written_places c (with_clause x y) ++ all_places one_places ys)
@@ -78,7 +78,7 @@ clauses_less c x (y ∷ ys) = by (with_is c x y) (clauses_less c (with_clause x 
       less_trans (subst (λ z. Less (written_places c (with_clauses (with_clause x y) ys)) (z ++ all_places one_places ys)) e later)
       (parts {ps = written_places c x} {qs = written_places c x} {xs = all_places one_places ys} {ys = one_places y ++ all_places one_places ys} same (past (one_places y) same))
 
-none_written : (c : places_of.Clause) → written_places c no_clauses ≡ []
+none_written : (c : places_of.ClauseKind) → written_places c no_clauses ≡ []
 none_written places_of.Inherits = refl
 none_written places_of.Merges = refl
 none_written places_of.Disjuncts = refl
@@ -86,9 +86,9 @@ none_written places_of.When = refl
 
 -- the parts of a mapping as they are read, and the mapping
 abbrev Parts : Type 0
-Parts = UnitPath × (List TypedName × (Option ResultDecl × (Clauses × Body)))
+Parts = UnitPath × (List TypedName × (Option ResultDecl × (ClausesTree × BodyTree)))
 
-abbrev parts_places : places_of.Clause → Parts → List Place
+abbrev parts_places : places_of.ClauseKind → Parts → List Place
 parts_places c a = a.0.place ∷ (all_places typed_places a.1.0 ++ (places_if result_places a.1.1.0 ++ (written_places c a.1.1.1.0 ++ body_places a.1.1.1.1)))
 
 abbrev mapping_term : Parts → MappingTerm
@@ -106,13 +106,13 @@ mapping_term (path, (params, (answer, (clauses, body)))) = record {
   place = path.place;
 }
 
-clause_is : (c : places_of.Clause) (a : Parts) → clause_places c (mapping_term a) ≡ written_places c a.1.1.1.0
+clause_is : (c : places_of.ClauseKind) (a : Parts) → clause_places c (mapping_term a) ≡ written_places c a.1.1.1.0
 clause_is places_of.Inherits a = none_or a.1.1.1.0.inherits
 clause_is places_of.Merges a = none_or a.1.1.1.0.merges
 clause_is places_of.Disjuncts a = none_or a.1.1.1.0.disjuncts
 clause_is places_of.When a = optional_is a.1.1.1.0.condition
 
-mapping_is : (c : places_of.Clause) (a : Parts) → unit_places (λ m. c) (mapping_of a) ≡ parts_places c a
+mapping_is : (c : places_of.ClauseKind) (a : Parts) → unit_places (λ m. c) (mapping_of a) ≡ parts_places c a
 mapping_is c a =
     let body = a.1.1.1.1 in
     λ k. a.0.place ∷ (all_places typed_places a.1.0 ++ (places_if result_places a.1.1.0 ++ (clause_is c a k ++ (stmts_are body.init k ++ (stmts_are body.population k ++ stmts_are body.finish k)))))
@@ -136,7 +136,7 @@ sections_less (all, (inr finish)) = same
 twice : (p : Place) (qs : List Place) (ts : List Tok) → Along (p ∷ qs) ts → Along (p ∷ p ∷ []) ts
 twice p qs ts k = (k.0, k.1, k.2, k.3, k.4, ([], k.1, k.2, refl, k.4, tt))
 
-module _ (choice : MappingTerm → places_of.Clause) where
+module _ (choice : MappingTerm → places_of.ClauseKind) where
   abbrev said : Said Spots
   said = record {
     named = firmly named_places;

@@ -104,7 +104,7 @@ pub the_last : (s : Option StmtTerm) → all_places stmt_places (last_of s) ≡ 
 the_last None = refl
 the_last (Some s) = append-nil (stmt_places s)
 
-pub all_units : (choice : MappingTerm → places_of.Clause) (uss : List (List UnitTerm)) → all_places (unit_places choice) (units_of uss) ≡ all_places (all_places (unit_places choice)) uss
+pub all_units : (choice : MappingTerm → places_of.ClauseKind) (uss : List (List UnitTerm)) → all_places (unit_places choice) (units_of uss) ≡ all_places (all_places (unit_places choice)) uss
 all_units choice [] = refl
 all_units choice (us ∷ uss) = all_append (unit_places choice) us (units_of uss) ∙ ap (λ z. all_places (unit_places choice) us ++ z) (all_units choice uss)
 

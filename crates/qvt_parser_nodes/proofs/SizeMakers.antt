@@ -8,7 +8,7 @@ use Rattle.qvt_tree_types.specs.declared.words.Level.{Level}
 use Rattle.qvt_language.specs.declared.class.Class.TheVariants.{Str}
 use Rattle.qvt_language.specs.Leads.{EachPart}
 use Rattle.qvt_language.specs.StmtTrees.{last_of}
-use Rattle.qvt_language.specs.UnitTrees.{Clause, Clauses, InheritsClause, MergesClause, DisjunctsClause, WhenClause, with_clause, no_clauses, Body}
+use Rattle.qvt_language.specs.UnitTrees.{ClauseTree, ClausesTree, InheritsClause, MergesClause, DisjunctsClause, WhenClause, with_clause, no_clauses, BodyTree}
 use Rattle.qvt_language_rows.specs.Values.{signed_of, chained, or_no_args, with_clauses, open_sections}
 use Rattle.qvt_language_rows.proofs.Every.{Said, Makers}
 use Rattle.qvt_parser_nodes.specs.Nodes.{total, one_if, type_nodes_if, optional_nodes, range_nodes, item_nodes, map_nodes, resolve_nodes, filter_nodes, head_nodes, accumulator_nodes, target_nodes, stmt_nodes, arm_nodes, typed_nodes, unit_nodes, nodes}
@@ -28,16 +28,16 @@ ending_size (inr finish) = stmts_size finish
 abbrev sections_size : List StmtTerm × List StmtTerm → ℕ
 sections_size = sum stmts_size stmts_size
 
-abbrev body_size : Body → ℕ
+abbrev body_size : BodyTree → ℕ
 body_size b = stmts_size b.init + (stmts_size b.population + stmts_size b.finish)
 
-abbrev clause_size : Clause → ℕ
+abbrev clause_size : ClauseTree → ℕ
 clause_size (InheritsClause paths) = length paths
 clause_size (MergesClause paths) = length paths
 clause_size (DisjunctsClause paths) = length paths
 clause_size (WhenClause e) = expr_size e
 
-abbrev clauses_size : Clauses → ℕ
+abbrev clauses_size : ClausesTree → ℕ
 clauses_size x = if_there length x.inherits + (if_there length x.merges + (if_there length x.disjuncts + if_there expr_size x.condition))
 
 abbrev said : Said Size
@@ -115,13 +115,13 @@ paths_if_le : (ps : Option (List PathTree)) → if_there length ps ≤ if_there 
 paths_if_le None = omega arith
 paths_if_le (Some ps) = omega (arith, twice_length ps)
 
-with_le : (x : Clauses) (c : Clause) → clauses_size (with_clause x c) ≤ clauses_size x + clause_size c
+with_le : (x : ClausesTree) (c : ClauseTree) → clauses_size (with_clause x c) ≤ clauses_size x + clause_size c
 with_le x (InheritsClause paths) = omega arith
 with_le x (MergesClause paths) = omega arith
 with_le x (DisjunctsClause paths) = omega arith
 with_le x (WhenClause e) = omega arith
 
-clauses_le : (x : Clauses) (cs : List Clause) → clauses_size (with_clauses x cs) ≤ clauses_size x + total clause_size cs
+clauses_le : (x : ClausesTree) (cs : List ClauseTree) → clauses_size (with_clauses x cs) ≤ clauses_size x + total clause_size cs
 clauses_le x [] = omega arith
 clauses_le x (c ∷ cs) = omega (arith, clauses_le (with_clause x c) cs, with_le x c)
 

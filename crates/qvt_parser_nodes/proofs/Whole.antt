@@ -7,9 +7,9 @@ use Rattle.qvt_language.specs.declared.class.Class.TheVariants.{Name, Str}
 use Rattle.qvt_language_rows.specs.Lists.{AllOf}
 use Rattle.qvt_language_rows.specs.Language.{Reads}
 use Rattle.qvt_language_rows.proofs.Every.{every_module}
-use Rattle.qvt_parser_nodes.specs.Names.{Told, HasNames}
-use Rattle.qvt_parser_nodes.specs.Places.{Clause, Inherits, places}
-use Rattle.qvt_parser_nodes.specs.Law.{AtMostTwoEach, IsTextOf, of_tokens, NamesAreTokens, IsAtMost, at_most, NoneIsLonger, PlacesOfTree}
+use Rattle.qvt_parser_nodes.specs.Names.{NameConditions, HasNames}
+use Rattle.qvt_parser_nodes.specs.Places.{ClauseKind, Inherits, places}
+use Rattle.qvt_parser_nodes.specs.Law.{AtMostTwoEach, IsTextOf, of_tokens, NamesAreTokens, HasAtMost, at_most, NoneIsLonger, PlacesOfTree}
 use Rattle.qvt_parser_nodes.proofs.Along.{Along, along_tokens, along_order}
 use Rattle.qvt_parser_nodes.proofs.SizeMakers as size
 use Rattle.qvt_parser_nodes.proofs.NameMakers as name
@@ -20,11 +20,11 @@ at_most_two_each ts m rd = (let every = every_module size.makers rd.nesting in e
 
 -- its names and texts
 
-abbrev AllTell : Told → List Tok → Type 0
+abbrev AllTell : NameConditions → List Tok → Type 0
 AllTell N ts = AllOf {A = Tok} (name.Tells N) ts
 
 -- what the tokens tell holds of all names and texts
-holds : (N : Told) (ts : List Tok) (m : ModuleTerm) → AllTell N ts → Reads ts m → HasNames N m
+holds : (N : NameConditions) (ts : List Tok) (m : ModuleTerm) → AllTell N ts → Reads ts m → HasNames N m
 holds N ts m told rd = (let every = every_module (name.makers N) rd.nesting in every.all ts m told rd.is)
 
 told_self : (ts us : List Tok) → ((c : Class) (x : List ℕ) → IsTextOf c us x → IsTextOf c ts x) → AllTell (of_tokens ts) us
@@ -34,7 +34,7 @@ told_self ts (t ∷ us) h = ((λ k. h Name t.text (inl (k, refl)), λ k. h Str t
 pub names_are_tokens : NamesAreTokens
 names_are_tokens ts m rd = holds (of_tokens ts) ts m (told_self ts ts (λ c x k. k)) rd
 
-told_short : (n : ℕ) (ts : List Tok) → AllOf {A = Tok} (λ t. IsAtMost n t.text) ts → AllTell (at_most n) ts
+told_short : (n : ℕ) (ts : List Tok) → AllOf {A = Tok} (λ t. HasAtMost n t.text) ts → AllTell (at_most n) ts
 told_short n [] h = tt
 told_short n (t ∷ ts) h = ((λ k. h.0, λ k. h.0), told_short n ts h.1)
 
@@ -43,7 +43,7 @@ none_is_longer n ts m told rd = holds (at_most n) ts m (told_short n ts told) rd
 
 -- the places of its nodes
 
-pub along : (c : MappingTerm → Clause) (ts : List Tok) (m : ModuleTerm) → Reads ts m → Along (places c m) ts
+pub along : (c : MappingTerm → ClauseKind) (ts : List Tok) (m : ModuleTerm) → Reads ts m → Along (places c m) ts
 along c ts m rd = (let every = every_module (place.makers c) rd.nesting in every.all Inherits ts m rd.is)
 
 pub places_of_tree : PlacesOfTree

@@ -8,8 +8,8 @@ use Rattle.qvt_language.specs.declared.class.Class.TheVariants.{Name, Str}
 use Rattle.qvt_language_rows.specs.Lists.{AllOf}
 use Rattle.qvt_language_rows.specs.Language.{Reads}
 use Rattle.qvt_parser_nodes.specs.Nodes.{nodes}
-use Rattle.qvt_parser_nodes.specs.Names.{Told, HasNames}
-use Rattle.qvt_parser_nodes.specs.Places.{Clause, places}
+use Rattle.qvt_parser_nodes.specs.Names.{NameConditions, HasNames}
+use Rattle.qvt_parser_nodes.specs.Places.{ClauseKind, places}
 
 -- a tree has at most two nodes for each token that it is read from
 abbrev pub AtMostTwoEach : Type 0
@@ -21,22 +21,22 @@ IsTextOf c [] x = ⊥
 IsTextOf c (t ∷ ts) x = (IsTrue (is c t) × (t.text ≡ x)) ⊎ IsTextOf c ts x
 
 -- a name is one of the tokens, and a text in quotes is one of the tokens
-abbrev pub of_tokens : List Tok → Told
+abbrev pub of_tokens : List Tok → NameConditions
 of_tokens ts = record { name = IsTextOf Name ts; text = IsTextOf Str ts }
 
 -- each path of a tree has a name, each name is that of a token that is a name, and each text that of a token that is a text
 abbrev pub NamesAreTokens : Type 0
 NamesAreTokens = (ts : List Tok) (m : ModuleTerm) → Reads ts m → HasNames (of_tokens ts) m
 
-abbrev pub IsAtMost : ℕ → List ℕ → Type 0
-IsAtMost n x = length x ≤ n
+abbrev pub HasAtMost : ℕ → List ℕ → Type 0
+HasAtMost n x = length x ≤ n
 
-abbrev pub at_most : ℕ → Told
-at_most n = record { name = IsAtMost n; text = IsAtMost n }
+abbrev pub at_most : ℕ → NameConditions
+at_most n = record { name = HasAtMost n; text = HasAtMost n }
 
 -- no name or text is longer than the longest of a token
 abbrev pub NoneIsLonger : Type 0
-NoneIsLonger = (n : ℕ) (ts : List Tok) (m : ModuleTerm) → AllOf {A = Tok} (λ t. IsAtMost n t.text) ts → Reads ts m → HasNames (at_most n) m
+NoneIsLonger = (n : ℕ) (ts : List Tok) (m : ModuleTerm) → AllOf {A = Tok} (λ t. HasAtMost n t.text) ts → Reads ts m → HasNames (at_most n) m
 
 -- none of the places stands before the one
 abbrev pub NoneBefore : Place → List Place → Type 0
@@ -48,16 +48,16 @@ abbrev pub DoNotFall : List Place → Type 0
 DoNotFall [] = Unit {0}
 DoNotFall (p ∷ ps) = NoneBefore p ps × DoNotFall ps
 
-abbrev pub IsPlaceOf : List Tok → Place → Type 0
-IsPlaceOf [] p = ⊥
-IsPlaceOf (t ∷ ts) p = (p ≡ t.place) ⊎ IsPlaceOf ts p
+abbrev pub IsTokenPlace : List Tok → Place → Type 0
+IsTokenPlace [] p = ⊥
+IsTokenPlace (t ∷ ts) p = (p ≡ t.place) ⊎ IsTokenPlace ts p
 
 abbrev pub ArePlacesOf : List Tok → List Place → Type 0
 ArePlacesOf ts [] = Unit {0}
-ArePlacesOf ts (p ∷ ps) = IsPlaceOf ts p × ArePlacesOf ts ps
+ArePlacesOf ts (p ∷ ps) = IsTokenPlace ts p × ArePlacesOf ts ps
 
 pub record PlacesOfTree : Type 0 where
   -- each node stands at one of the tokens
-  pub tokens : (c : MappingTerm → Clause) (ts : List Tok) (m : ModuleTerm) → Reads ts m → ArePlacesOf ts (places c m)
+  pub tokens : (c : MappingTerm → ClauseKind) (ts : List Tok) (m : ModuleTerm) → Reads ts m → ArePlacesOf ts (places c m)
   -- where the places of the tokens do not fall, those of the nodes do not
-  pub order : (c : MappingTerm → Clause) (ts : List Tok) (m : ModuleTerm) → Reads ts m → DoNotFall (map (λ t. t.place) ts) → DoNotFall (places c m)
+  pub order : (c : MappingTerm → ClauseKind) (ts : List Tok) (m : ModuleTerm) → Reads ts m → DoNotFall (map (λ t. t.place) ts) → DoNotFall (places c m)

@@ -159,24 +159,24 @@ abbrev pub result_places : ResultDecl → List Place
 result_places r = r.place ∷ path_places r.path
 
 -- the clauses of a mapping
-pub data Clause : Type 0 where
-  Inherits : Clause
-  Merges : Clause
-  Disjuncts : Clause
-  When : Clause
+pub data ClauseKind : Type 0 where
+  Inherits : ClauseKind
+  Merges : ClauseKind
+  Disjuncts : ClauseKind
+  When : ClauseKind
 
-abbrev pub clause_places : Clause → MappingTerm → List Place
+abbrev pub clause_places : ClauseKind → MappingTerm → List Place
 clause_places Inherits m = all_places path_places m.inherits
 clause_places Merges m = all_places path_places m.merges
 clause_places Disjuncts m = all_places path_places m.disjuncts
 clause_places When m = optional_places m.condition
 
 -- those of a mapping with one of its clauses, since the text may have its clauses in any order
-abbrev pub mapping_places : Clause → MappingTerm → List Place
+abbrev pub mapping_places : ClauseKind → MappingTerm → List Place
 mapping_places c m = m.place ∷ (all_places typed_places m.params ++ (places_if result_places m.result_decl ++ (clause_places c m ++ (stmts_places m.init ++ (stmts_places m.population ++ stmts_places m.finish)))))
 
 -- with the clause that is chosen of each mapping
-abbrev pub unit_places : (MappingTerm → Clause) → UnitTerm → List Place
+abbrev pub unit_places : (MappingTerm → ClauseKind) → UnitTerm → List Place
 unit_places c (ClassOf k) = class_places k
 unit_places c (MainOf body place) = place ∷ stmts_places body
 unit_places c (HelperOf h) = helper_places h
@@ -190,5 +190,5 @@ abbrev pub param_place : ModelParam → List Place
 param_place p = p.place ∷ []
 
 -- with the clause that is chosen of each mapping
-unfoldable pub places : (MappingTerm → Clause) → ModuleTerm → List Place
+unfoldable pub places : (MappingTerm → ClauseKind) → ModuleTerm → List Place
 places c m = all_places type_place m.model_types ++ (all_places param_place m.params ++ all_places (unit_places c) m.units)

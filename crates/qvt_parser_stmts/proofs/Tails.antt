@@ -8,18 +8,18 @@ use Rattle.qvt_language.specs.Readers.{Reader}
 use Rattle.qvt_language.specs.Firsts.{assign_first}
 use Rattle.qvt_language.specs.Leads.{Lead, Plain, Bracketed, Each}
 use Rattle.qvt_language.specs.Trees.{is_there, expr_of}
-use Rattle.qvt_language.specs.StmtTrees.{Turn, Tail, plain_tail, simple_turn, is_adding, written_turn, target_in, IsPlain}
+use Rattle.qvt_language.specs.StmtTrees.{TurnTree, Tail, plain_tail, simple_turn, is_adding, written_turn, target_in, IsPlainLead}
 use Rattle.qvt_language.specs.Reading.{NestedAt}
 use Rattle.qvt_language.specs.ReadingStatements.{assignment_at, semicolon_at, lead_tail_at}
 
 -- a statement, and the `;` that may stand after it
-abbrev pub closing : StmtTerm → Reader Turn
+abbrev pub closing : StmtTerm → Reader TurnTree
 closing s = made_at (λ t. simple_turn (s, t)) semicolon_at
 
 abbrev tail_before : Option (Tok × ExprTerm) → List Tok → Answer Tok Tail
 tail_before a r = semicolon_at r >>= λ (t, s). Ok ((a, t), s)
 
-abbrev turned : Place → Lead → Answer Tok Tail → Answer Tok Turn
+abbrev turned : Place → Lead → Answer Tok Tail → Answer Tok TurnTree
 turned place x y = y >>= λ (tail, s). Ok (written_turn place x tail, s)
 
 abbrev some_sign : Answer Tok (Tok × ExprTerm) → Answer Tok (Option (Tok × ExprTerm))
@@ -61,7 +61,7 @@ module _ (place : Place) (r : NestedAt) where
   tail_assigned (Each e part) target ts sign value rest k h q = absurd cc
 
   -- else the expression is the statement
-  pub tail_plain : (x : Lead) (value : ExprTerm) (ts : List Tok) → value ≡ expr_of x → IsPlain x → (is_there (target_in x) && starts (of assign_first) ts) ≡ false → made_at (written_turn place x) (lead_tail_at r x) ts ≡ closing (ValueStmt value place) ts
+  pub tail_plain : (x : Lead) (value : ExprTerm) (ts : List Tok) → value ≡ expr_of x → IsPlainLead x → (is_there (target_in x) && starts (of assign_first) ts) ≡ false → made_at (written_turn place x) (lead_tail_at r x) ts ≡ closing (ValueStmt value place) ts
   tail_plain (Plain e (Some t)) value ts q k h = at_sign ts e t false h ∙ value_semicolon e t (semicolon_at ts) ∙ ap (λ z. closing (ValueStmt z place) ts) (sym q)
   tail_plain (Plain e None) value ts q k h = plain_semicolon e (semicolon_at ts) ∙ ap (λ z. closing (ValueStmt z place) ts) (sym q)
   tail_plain (Bracketed e) value ts q k h = bracketed_semicolon e (semicolon_at ts) ∙ ap (λ z. closing (ValueStmt z place) ts) (sym q)

@@ -14,7 +14,7 @@ use Rattle.qvt_parser_stmts.specs.declared.calls.CallPair.{CallPair}
 use Rattle.qvt_parser_exprs.specs.Views.{lead_view, stmts_view}
 
 -- a call that leaves these tokens of the old ones gives what the reader reads
-pub record Follows {X Y : Type 0} (view : X → Y) (reader : Reader Y) (old : List Tok) (result : Result X ParseError) (new : List Tok) : Type 0 where
+pub record FollowsReader {X Y : Type 0} (view : X → Y) (reader : Reader Y) (old : List Tok) (result : Result X ParseError) (new : List Tok) : Type 0 where
   pub gives : Gives view result new (reader old)
   pub fewer : length new ≤ length old
 
@@ -22,5 +22,5 @@ pub record Follows {X Y : Type 0} (view : X → Y) (reader : Reader Y) (old : Li
 pub record IsInside {F G : Type 0} (f : Shared F (MutBor Parser × Unit {0}) (Result Leading ParseError × (MutBor Parser × Unit {0}))) (g : Shared G (MutBor Parser × Unit {0}) (Result (List Stmt) ParseError × (MutBor Parser × Unit {0}))) (inside : CallPair F G) : Type 0 where
   pub lead_callable : always_fn f inside.lead
   pub block_callable : always_fn g inside.block
-  pub lead : (p q : MutBor Parser) (r : Result Leading ParseError) → f.post inside.lead (p, tt) (r, (q, tt)) → Follows lead_view (nested_at inside.room).flagged (toks p.now) r (toks q.now)
-  pub block : (p q : MutBor Parser) (r : Result (List Stmt) ParseError) → g.post inside.block (p, tt) (r, (q, tt)) → Follows stmts_view (nested_at inside.room).block (toks p.now) r (toks q.now)
+  pub lead : (p q : MutBor Parser) (r : Result Leading ParseError) → f.post inside.lead (p, tt) (r, (q, tt)) → FollowsReader lead_view (nested_at inside.room).flagged (toks p.now) r (toks q.now)
+  pub block : (p q : MutBor Parser) (r : Result (List Stmt) ParseError) → g.post inside.block (p, tt) (r, (q, tt)) → FollowsReader stmts_view (nested_at inside.room).block (toks p.now) r (toks q.now)

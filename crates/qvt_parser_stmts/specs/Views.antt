@@ -7,10 +7,10 @@ use Rattle.qvt_tree_types.specs.View.{expr_view, stmt_view, arm_view}
 use Rattle.qvt_tree_types.specs.declared.tree.Arm.{Arm}
 use Rattle.qvt_tree_types.specs.declared.tree.Expr.{Expr}
 use Rattle.qvt_tree_types.specs.declared.tree.Stmt.{Stmt}
-use Rattle.qvt_language.specs.declared.token.Token.{Token}
+use Rattle.qvt_language.specs.declared.token.SyntaxToken.{SyntaxToken}
 use Rattle.qvt_language.specs.Tokens.{Tok, tok_of}
-use Rattle.qvt_language.specs.Leads.{Ended}
-use Rattle.qvt_language.specs.StmtTrees.{Turn}
+use Rattle.qvt_language.specs.Leads.{EndedBlock}
+use Rattle.qvt_language.specs.StmtTrees.{TurnTree}
 use Rattle.qvt_parser_exprs.specs.Views.{stmts_view}
 use Rattle.qvt_parser_stmts.specs.declared.turns.Turn.{Turn as CodeTurn}
 use Rattle.qvt_parser_stmts.specs.declared.turns.Turn.TheVariants.{Empty, Closed, Last}
@@ -22,13 +22,13 @@ arms_view = map arm_view
 abbrev pub held_view : Box Stmt Global → StmtTerm
 held_view s = stmt_view s.value
 
-abbrev pub turn_view : CodeTurn → Turn
+abbrev pub turn_view : CodeTurn → TurnTree
 turn_view Empty = inl []
 turn_view (Closed s) = inl (held_view s ∷ [])
 turn_view (Last s) = inr (held_view s)
 
-abbrev pub ended_view : EndedStmts → Ended
+abbrev pub ended_view : EndedStmts → EndedBlock
 ended_view e = record { stmts = stmts_view e.stmts; open_end = e.open_end }
 
-abbrev pub assigned_view : Token × Box Expr Global → Tok × ExprTerm
+abbrev pub assigned_view : SyntaxToken × Box Expr Global → Tok × ExprTerm
 assigned_view (sign, value) = (tok_of sign, expr_view value.value)

@@ -11,7 +11,7 @@ use crate::calls::{CallPair, Calls, ReadyCalls};
 use crate::statements::Statements;
 use crate::turns::EndedStmts;
 use qvt_parser_chains::chains::Chains;
-use qvt_parser_exprs::inside::Inside;
+use qvt_parser_exprs::inside::NestedReader;
 use qvt_parser_exprs::leading::Leading;
 use qvt_parser_exprs::made::finish;
 use qvt_parser_grammar::cursor::{ParseError, Parser};
@@ -26,7 +26,7 @@ fn flagged_over<C: Calls + Drop>(calls: C, parser: &mut Parser<'_>) -> Result<Le
 {
     let nest = ReadyCalls { calls };
     let chains = Chains {
-        inside: Inside { nest },
+        inside: NestedReader { nest },
     };
     chains.chain(parser, 8)
 }
@@ -40,7 +40,7 @@ fn block_over<C: Calls + Drop>(calls: C, parser: &mut Parser<'_>) -> Result<Stmt
     let nest = ReadyCalls { calls };
     let statements = Statements {
         chains: Chains {
-            inside: Inside { nest },
+            inside: NestedReader { nest },
         },
     };
     statements.block_inside(parser)
@@ -58,7 +58,7 @@ fn statements_over<C: Calls + Drop>(
     let nest = ReadyCalls { calls };
     let statements = Statements {
         chains: Chains {
-            inside: Inside { nest },
+            inside: NestedReader { nest },
         },
     };
     statements.statements(parser)

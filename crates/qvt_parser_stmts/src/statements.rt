@@ -6,7 +6,7 @@ ghost use Rattle.qvt_language.specs.Tokens.{of, is};
 ghost use Rattle.qvt_language.specs.Readers.{the_at};
 ghost use Rattle.qvt_language.specs.Firsts.{expr_first, step_first, assign_first};
 ghost use Rattle.qvt_language.specs.Trees.{second, inner, expr_of, is_there};
-ghost use Rattle.qvt_language.specs.StmtTrees.{choice_expr, each_over, branched, chosen, if_made, closed_turn, simple_turn, written_turn, target_in, IsPlain};
+ghost use Rattle.qvt_language.specs.StmtTrees.{choice_expr, each_over, branched, chosen, if_made, closed_turn, simple_turn, written_turn, target_in, IsPlainLead};
 ghost use Rattle.qvt_language.specs.Reading.{expr_at, lead_step_at};
 ghost use Rattle.qvt_language.specs.ReadingStatements.{var_stmt_at, return_stmt_at, arm_at, else_part_at, branches_at, choice_at, if_rest_at, if_stmt_at, while_stmt_at, assignment_at, semicolon_at, lead_tail_at, lead_stmt_at, statement_at, statements_at, block_at};
 ghost use Rattle.qvt_language.specs.Leads.{Bracketed};
@@ -24,7 +24,7 @@ use crate::turns::{EndedStmts, Turn};
 use qvt_base::numbers::Place;
 use qvt_base::seq::Seq;
 use qvt_language::class::Class;
-use qvt_language::token::Token;
+use qvt_language::token::SyntaxToken;
 use qvt_parser_chains::chains::Chains;
 use qvt_parser_exprs::inside::Nest;
 use qvt_parser_exprs::leading::Leading;
@@ -336,7 +336,10 @@ impl<N: Nest> Statements<N> {
     }
 
     #[tactic(auto, unfolding(qvt_language::specs::ReadingStatements::assignment_at))]
-    fn assignment<'a>(&self, parser: &mut Parser<'a>) -> Result<(Token<'a>, Box<Expr>), ParseError>
+    fn assignment<'a>(
+        &self,
+        parser: &mut Parser<'a>,
+    ) -> Result<(SyntaxToken<'a>, Box<Expr>), ParseError>
         ensures gives { Gives assigned_view result (toks parser.new) (assignment_at (nested_at (N.room self.now.chains.inside.nest)) (toks parser.old)) }
         ensures fewer { length (toks parser.new) ≤ length (toks parser.old) }
         ensures less { OnOk result (length (toks parser.new) < length (toks parser.old)) }
@@ -372,7 +375,7 @@ impl<N: Nest> Statements<N> {
         lead: Leading,
         place: Place,
     ) -> Result<Turn, ParseError>
-        requires plain { IsPlain (lead_view lead) }
+        requires plain { IsPlainLead (lead_view lead) }
         ensures gives { Gives turn_view result (toks parser.new) (made_at (written_turn place (lead_view lead)) (lead_tail_at (nested_at (N.room self.now.chains.inside.nest)) (lead_view lead)) (toks parser.old)) }
         ensures fewer { length (toks parser.new) ≤ length (toks parser.old) }
     {

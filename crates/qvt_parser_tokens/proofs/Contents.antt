@@ -1,13 +1,13 @@
 -- What stands between two quotes.
 use Rattle.std.proofs.Common.{◌≡◌, ℕ, zero, suc, ◌≤◌, List, [], ◌∷◌, length, refl, ap, ◌∙◌, arith, Some, None}
-use Rattle.qvt_lexer.specs.Literals.{Taken, item_at}
+use Rattle.qvt_lexer.specs.Literals.{TakenCodePoint, item_at}
 use Rattle.qvt_lexer.proofs.Items.{item_shorter}
 use Rattle.qvt_parser_tokens.specs.Said.{items, content}
 
-abbrev step : ℕ → ℕ → Taken → List ℕ
+abbrev step : ℕ → ℕ → TakenCodePoint → List ℕ
 step n q t = elim t [ None ↦ [] | Some x ↦ x.0 ∷ items n q x.1 ]
 
-same_step : (n m q : ℕ) (cs : List ℕ) (t : Taken) → item_at q cs ≡ t → ((v : ℕ) (s : List ℕ) → item_at q cs ≡ Some (v, s) → items n q s ≡ items m q s) → step n q t ≡ step m q t
+same_step : (n m q : ℕ) (cs : List ℕ) (t : TakenCodePoint) → item_at q cs ≡ t → ((v : ℕ) (s : List ℕ) → item_at q cs ≡ Some (v, s) → items n q s ≡ items m q s) → step n q t ≡ step m q t
 same_step n m q cs None h ih = refl
 same_step n m q cs (Some (v, s)) h ih = ap (λ z. v ∷ z) (ih v s h)
 

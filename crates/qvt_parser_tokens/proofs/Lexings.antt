@@ -5,8 +5,8 @@ use Rattle.std.proofs.lemmas.List.{append_cancel_right}
 use Rattle.qvt_base.specs.declared.numbers.Place.{Place}
 use Rattle.qvt_lexer.specs.Characters.{is_digit}
 use Rattle.qvt_lexer.specs.Literals.{every, number_of, greatest_number}
-use Rattle.qvt_lexer.specs.Pieces.{Spells, NoPiece, IsFaultOf}
-use Rattle.qvt_lexer.specs.Division.{Position, Written, Divides, TokenData, token_of, tokens_of, place_after, past, Reads, IsRead, data_of, start_at}
+use Rattle.qvt_lexer.specs.Pieces.{Spells, NoPiece, IsLexFaultOf}
+use Rattle.qvt_lexer.specs.Division.{Position, Written, Divides, TokenData, token_of, tokens_of, place_after, past, ReadsTokens, IsNextToken, data_of, start_at}
 use Rattle.qvt_lexer.specs.declared.token.Token as code
 use Rattle.qvt_lexer.specs.declared.token.LexFault.{LexFault}
 use Rattle.qvt_lexer.specs.declared.token.TokenKind.TheVariants.{Integer, End}
@@ -17,7 +17,7 @@ use Rattle.qvt_lexer.proofs.Unique.{one_division, one_fault}
 use Rattle.qvt_language.specs.Tokens.{Tok}
 use Rattle.qvt_parser_tokens.specs.Said.{said}
 use Rattle.qvt_parser_tokens.specs.Text.{HasTokens, HasLexFault, OneLexing}
-use Rattle.qvt_parser_tokens.specs.Whole.{IsNumber}
+use Rattle.qvt_parser_tokens.specs.Whole.{IsNumeral}
 use Rattle.qvt_parser_tokens.proofs.Numerals.{digits_are}
 
 -- some pieces, and then more
@@ -33,7 +33,7 @@ past_then : (ps qs : List Written) (at : Place) → past at (ps ++ qs) ≡ past 
 past_then [] qs at = refl
 past_then (p ∷ ps) qs at = past_then ps qs (place_after at p.text)
 
-pub reads_then : (from to next : Position) (ts us : List TokenData) → Reads from to ts → Reads to next us → Reads from next (ts ++ us)
+pub reads_then : (from to next : Position) (ts us : List TokenData) → ReadsTokens from to ts → ReadsTokens to next us → ReadsTokens from next (ts ++ us)
 reads_then from to next ts us k j = record {
   pieces = k.pieces ++ j.pieces;
   divides = divides_then k.pieces j.pieces from.rest to.rest next.rest k.divides j.divides;
@@ -50,7 +50,7 @@ fewer_left : (ps : List Written) (text rest : List ℕ) (at : Place) (d : TokenD
 fewer_left [] text rest at d ds e h = absurd cc
 fewer_left (p ∷ ps) text rest at d ds (t, n, k) h = let some = spells_some p.piece p.text n.piece.spells in let le = no_more ps t rest k in omega (arith, ap length n.piece.cut, length-append p.text t)
 
-pub token_shorter : (from to : Position) (d : TokenData) → Reads from to (d ∷ []) → length to.rest < length from.rest
+pub token_shorter : (from to : Position) (d : TokenData) → ReadsTokens from to (d ∷ []) → length to.rest < length from.rest
 token_shorter from to d k = fewer_left k.pieces from.rest to.rest from.place d [] k.divides k.tokens
 
 -- a token is spelled as its kind is
@@ -71,13 +71,13 @@ spelled_in [] text rest at d ds e h = absurd cc
 spelled_in (p ∷ ps) text rest at d ds (t, n, k) h =
     spelled_by at p.piece p.text d ds (tokens_of (place_after at p.text) ps) n.piece.spells h (spelled_in ps t rest (place_after at p.text) d ds k)
 
-number_is : (text u : List ℕ) → text ≡ encode_utf8_all u → Spells (Token Integer) u → IsNumber text
+number_is : (text u : List ℕ) → text ≡ encode_utf8_all u → Spells (Token Integer) u → IsNumeral text
 number_is text u e ((c, cs, f, h, g), small) =
     let all : every is_digit u ≡ true = ap (every is_digit) f ∙ (λ i. h i && g i) in
     let same = digits_are text u e all in
     record { digits = ap (every is_digit) same ∙ all; small = subst (λ z. number_of z ≤ greatest_number) (sym same) small }
 
-pub integer_is : (from : Position) (t : code.Token) (to : Position) → IsRead from t to → t.kind ≡ Integer → IsNumber t.text.now
+pub integer_is : (from : Position) (t : code.Token) (to : Position) → IsNextToken from t to → t.kind ≡ Integer → IsNumeral t.text.now
 integer_is from t to k e =
     let reads = k.token (λ h. absurd (let z : Integer ≡ End = sym e ∙ h in cc)) in
     let found = spelled_in reads.pieces from.rest to.rest from.place (data_of t) [] reads.divides reads.tokens in
@@ -95,7 +95,7 @@ record Same (from a b : Position) (ts us : List TokenData) : Type 0 where
   place : a.place ≡ b.place
   rest : a.rest ≡ b.rest
 
-same_reads : (from a b : Position) (ts us : List TokenData) → Reads from a ts → NoPiece a.rest → Reads from b us → NoPiece b.rest → Same from a b ts us
+same_reads : (from a b : Position) (ts us : List TokenData) → ReadsTokens from a ts → NoPiece a.rest → ReadsTokens from b us → NoPiece b.rest → Same from a b ts us
 same_reads from a b ts us k h j g =
     let one = one_division from.rest k.pieces j.pieces a.rest b.rest k.divides h j.divides g in
     record {
@@ -104,7 +104,7 @@ same_reads from a b ts us k h j g =
       rest = one.1;
     }
 
-pub all_tokens : (text : List ℕ) (a b : Position) (ts us : List TokenData) → Reads (start_at (chars text)) a ts → a.rest ≡ [] → Reads (start_at (chars text)) b us → b.rest ≡ [] → ts ≡ us
+pub all_tokens : (text : List ℕ) (a b : Position) (ts us : List TokenData) → ReadsTokens (start_at (chars text)) a ts → a.rest ≡ [] → ReadsTokens (start_at (chars text)) b us → b.rest ≡ [] → ts ≡ us
 all_tokens text a b ts us k h j g = (same_reads (start_at (chars text)) a b ts us k (none_at_end a.rest h) j (none_at_end b.rest g)).tokens
 
 one_tokens : (text : List ℕ) (ts us : List Tok) (p q : Place) → HasTokens text ts p → HasTokens text us q → (ts ≡ us) × (p ≡ q)
@@ -119,10 +119,10 @@ no_fault text ts p f k j =
     let same = same_reads start k.last j.faulty.at k.tokens (j.tokens ++ []) k.reads (none_at_end k.last.rest k.nothing) whole j.faulty.none in
     j.faulty.more (sym same.rest ∙ k.nothing)
 
-fault_same : (at to : Position) (f g : LexFault) (b c l m : List ℕ) → at.place ≡ to.place → at.rest ≡ to.rest → at.rest ≡ b ++ l → to.rest ≡ c ++ m → IsFaultOf at.rest f.kind l → IsFaultOf to.rest g.kind m
+fault_same : (at to : Position) (f g : LexFault) (b c l m : List ℕ) → at.place ≡ to.place → at.rest ≡ to.rest → at.rest ≡ b ++ l → to.rest ≡ c ++ m → IsLexFaultOf at.rest f.kind l → IsLexFaultOf to.rest g.kind m
     → f.place ≡ place_after at.place b → g.place ≡ place_after to.place c → f ≡ g
 fault_same at to f g b c l m p r e d h k x y =
-    let one = one_fault to.rest f.kind g.kind l m (subst (λ z. IsFaultOf z f.kind l) r h) k in
+    let one = one_fault to.rest f.kind g.kind l m (subst (λ z. IsLexFaultOf z f.kind l) r h) k in
     let before : b ≡ c = append_cancel_right b c m (ap (λ z. b ++ z) (sym one.1) ∙ sym e ∙ r ∙ d) in
     let place : f.place ≡ g.place = x ∙ (λ i. place_after (p i) (before i)) ∙ sym y in
     (λ i. record { kind = one.0 i; place = place i })

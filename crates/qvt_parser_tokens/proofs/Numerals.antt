@@ -9,7 +9,7 @@ use Rattle.std.proofs.lemmas.Bool.Decides.{nat_tests}
 use Rattle.qvt_lexer.specs.Characters.{is_digit}
 use Rattle.qvt_lexer.specs.Literals.{every, number_after, number_of, greatest_number}
 use Rattle.qvt_lexer.proofs.Runs.{and_left, and_right}
-use Rattle.qvt_parser_tokens.specs.Whole.{IsNumber}
+use Rattle.qvt_parser_tokens.specs.Whole.{IsNumeral}
 
 abbrev Digits : List ℕ → Type 0
 Digits cs = every is_digit cs ≡ true
@@ -38,7 +38,7 @@ of_bytes {E} bs (Ok n) same all small h = (parse_signed_digits digits_model {E =
 of_bytes {E} [] (Err e) same all small h = ap number_of same
 of_bytes {E} (b ∷ bs) (Err e) same all small h = absurd (parse_signed_digits digits_model {E = E} w64 (b ∷ bs) (Err e) h all (omega arith, omega arith))
 
-pub parsed : {E : Type 0} (bs : List ℕ) (r : Result ℤ E) → IsUtf8 bs → IsNumber bs → ParsesSigned w64 10 bs r → Parsed bs r
+pub parsed : {E : Type 0} (bs : List ℕ) (r : Result ℤ E) → IsUtf8 bs → IsNumeral bs → ParsesSigned w64 10 bs r → Parsed bs r
 parsed bs r w k h =
     let ascii = digits_ascii (chars bs) k.digits in
     let bytes : chars bs ≡ bs = sym (sym (encodes-chars bs w) ∙ encodes-IsAscii (chars bs) ascii) in

@@ -5,9 +5,9 @@ use Rattle.qvt_lexer.specs.Division.{TokenData}
 use Rattle.qvt_lexer.specs.declared.token.TokenKind.{TokenKind}
 use Rattle.qvt_lexer.specs.declared.token.TokenKind.TheVariants.{Name, Integer, Str, Word, Symbol, End}
 use Rattle.qvt_language.specs.Tokens.{tok_of, toks_of}
-use Rattle.qvt_language.specs.declared.token.Token.{Token}
+use Rattle.qvt_language.specs.declared.token.SyntaxToken.{SyntaxToken}
 use Rattle.qvt_language.specs.declared.class.Class.TheVariants as classes
-use Rattle.qvt_parser_tokens.specs.Said.{said, text_of, class_of, number_in}
+use Rattle.qvt_parser_tokens.specs.Said.{said, text_of, token_class_of, number_in}
 use Rattle.qvt_parser_tokens.specs.Whole.{string_in, strings_of}
 
 strings_then : (ds es : List TokenData) → strings_of (ds ++ es) ≡ strings_of ds ++ strings_of es
@@ -43,10 +43,10 @@ other_then ds d other = strings_then ds (d ∷ []) ∙ ap (λ z. strings_of ds +
 pub string_said : (d : TokenData) (text : List ℕ) → d.kind ≡ Str → text ≡ text_of Str d.text → record { class = classes.Str; text = text; number = pos 0; place = d.place } ≡ said d
 string_said d text is e =
     ap (λ z. record { class = classes.Str; text = z; number = pos 0; place = d.place }) e
-    ∙ ap (λ (k : TokenKind). record { class = class_of k d.text; text = text_of k d.text; number = number_in k d.text; place = d.place }) (sym is)
+    ∙ ap (λ (k : TokenKind). record { class = token_class_of k d.text; text = text_of k d.text; number = number_in k d.text; place = d.place }) (sym is)
 
 -- one token more
-pub one_more : (ds : List TokenData) (ts new : List Token) (d : TokenData) (t : Token) → toks_of ts ≡ map said ds → tok_of t ≡ said d → new ≡ ts ++ t ∷ [] → toks_of new ≡ map said (ds ++ d ∷ [])
+pub one_more : (ds : List TokenData) (ts new : List SyntaxToken) (d : TokenData) (t : SyntaxToken) → toks_of ts ≡ map said ds → tok_of t ≡ said d → new ≡ ts ++ t ∷ [] → toks_of new ≡ map said (ds ++ d ∷ [])
 one_more ds ts new d t all one e =
     ap toks_of e ∙ map-append tok_of ts (t ∷ []) ∙ (λ i. all i ++ one i ∷ []) ∙ sym (map-append said ds (d ∷ []))
 

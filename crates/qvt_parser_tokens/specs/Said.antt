@@ -42,12 +42,12 @@ abbrev pub number_in : TokenKind → List ℕ → ℤ
 number_in Integer text = pos (number_of (chars text))
 number_in _ text = pos 0
 
-abbrev pub class_of : TokenKind → List ℕ → class.Class
-class_of Integer text = classes.Integer
-class_of Str text = classes.Str
-class_of Word text = unwrap_or (word_of text) classes.Name
-class_of Symbol text = unwrap_or (sign_of text) classes.Name
-class_of _ text = classes.Name
+abbrev pub token_class_of : TokenKind → List ℕ → class.Class
+token_class_of Integer text = classes.Integer
+token_class_of Str text = classes.Str
+token_class_of Word text = unwrap_or (word_of text) classes.Name
+token_class_of Symbol text = unwrap_or (sign_of text) classes.Name
+token_class_of _ text = classes.Name
 
 abbrev pub said : TokenData → Tok
-said d = record { class = class_of d.kind d.text; text = text_of d.kind d.text; number = number_in d.kind d.text; place = d.place }
+said d = record { class = token_class_of d.kind d.text; text = text_of d.kind d.text; number = number_in d.kind d.text; place = d.place }

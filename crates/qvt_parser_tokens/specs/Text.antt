@@ -2,7 +2,7 @@
 use Rattle.std.specs.Prelude.{◌≡◌, ℕ, List, [], map}
 use Rattle.std.specs.Str.{chars}
 use Rattle.qvt_base.specs.declared.numbers.Place.{Place}
-use Rattle.qvt_lexer.specs.Division.{Position, TokenData, Reads, IsFaulty, start_at}
+use Rattle.qvt_lexer.specs.Division.{Position, TokenData, ReadsTokens, IsFaulty, start_at}
 use Rattle.qvt_lexer.specs.declared.token.LexFault.{LexFault}
 use Rattle.qvt_language.specs.Tokens.{Tok}
 use Rattle.qvt_parser_tokens.specs.Said.{said}
@@ -11,7 +11,7 @@ use Rattle.qvt_parser_tokens.specs.Said.{said}
 pub record HasTokens (text : List ℕ) (ts : List Tok) (end : Place) : Type 0 where
   pub tokens : List TokenData
   pub last : Position
-  pub reads : Reads (start_at (chars text)) last tokens
+  pub reads : ReadsTokens (start_at (chars text)) last tokens
   pub nothing : last.rest ≡ []
   pub place : last.place ≡ end
   pub are : map said tokens ≡ ts
@@ -20,7 +20,7 @@ pub record HasTokens (text : List ℕ) (ts : List Tok) (end : Place) : Type 0 wh
 pub record HasLexFault (text : List ℕ) (f : LexFault) : Type 0 where
   pub tokens : List TokenData
   pub last : Position
-  pub reads : Reads (start_at (chars text)) last tokens
+  pub reads : ReadsTokens (start_at (chars text)) last tokens
   pub faulty : IsFaulty last f
 
 -- a text has at most one list of tokens, and none where it has a fault; and at most one fault

@@ -3,7 +3,7 @@ use Rattle.std.specs.Prelude.{◌≡◌, ℕ, List, [], ◌∷◌, ◌++◌, Res
 use Rattle.std.specs.Str.{chars}
 use Rattle.qvt_lexer.specs.Characters.{is_digit}
 use Rattle.qvt_lexer.specs.Literals.{every, number_of, greatest_number}
-use Rattle.qvt_lexer.specs.Division.{Position, TokenData, Reads, start_at}
+use Rattle.qvt_lexer.specs.Division.{Position, TokenData, ReadsTokens, start_at}
 use Rattle.qvt_lexer.specs.declared.token.TokenKind.{TokenKind}
 use Rattle.qvt_lexer.specs.declared.token.TokenKind.TheVariants.{Str}
 use Rattle.qvt_language.specs.Tokens.{toks_of}
@@ -27,7 +27,7 @@ strings_of (d ∷ ds) = string_in d.kind d.text ++ strings_of ds
 pub record HasStrings (text : List ℕ) (strings : List (List ℕ)) : Type 0 where
   pub tokens : List TokenData
   pub last : Position
-  pub reads : Reads (start_at (chars text)) last tokens
+  pub reads : ReadsTokens (start_at (chars text)) last tokens
   pub nothing : last.rest ≡ []
   pub are : strings_of tokens ≡ strings
 
@@ -44,6 +44,6 @@ Lexes text (Err (Lex f)) = HasLexFault text f
 Lexes text (Err NoMemory) = Unit {0}
 
 -- decimal digits that write a number that is not too large
-pub record IsNumber (text : List ℕ) : Type 0 where
+pub record IsNumeral (text : List ℕ) : Type 0 where
   pub digits : every is_digit (chars text) ≡ true
   pub small : number_of (chars text) ≤ greatest_number

@@ -6,7 +6,7 @@ use qvt_base::list_fault::ListFault;
 use qvt_base::numbers::Place;
 use qvt_base::seq::Seq;
 use qvt_language::class::Class;
-use qvt_language::token::Token;
+use qvt_language::token::SyntaxToken;
 use std::alloc::Global;
 
 /// What stands open at a place.
@@ -88,7 +88,7 @@ fn step(items: &mut Seq<Open>, fresh: bool, class: Class) -> Result<(), ListFaul
 }
 
 /// The place of the first token that leaves more items open than may be.
-pub fn deep(alloc: Global, tokens: &[Token<'_>]) -> Result<Option<Place>, ListFault>
+pub fn deep(alloc: Global, tokens: &[SyntaxToken<'_>]) -> Result<Option<Place>, ListFault>
     ensures { IfOk result (λ place. place ≡ depth.deep (toks_of tokens.now)) }
 {
     let mut items = Seq::new(alloc);

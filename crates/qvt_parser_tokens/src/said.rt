@@ -2,7 +2,7 @@ ghost use Rattle.std.specs.Prelude.{◌≡◌, pos, IfOk, OnOk};
 ghost use Rattle.std.specs.Str.{chars, encode_utf8_all};
 ghost use Rattle.qvt_lexer.specs.Literals.{number_of};
 ghost use Rattle.qvt_parser_tokens.specs.Said as said;
-ghost use Rattle.qvt_parser_tokens.specs.Whole.{IsNumber};
+ghost use Rattle.qvt_parser_tokens.specs.Whole.{IsNumeral};
 
 use qvt_base::list_fault::ListFault;
 use qvt_base::text::Text;
@@ -24,7 +24,7 @@ pub fn name_of(text: &str) -> &str
 
 /// The number that decimal digits write.
 pub fn number_of(digits: &str) -> i64
-    requires { IsNumber digits.now }
+    requires { IsNumeral digits.now }
     ensures { result ≡ pos (number_of (chars digits.now)) }
 {
     match digits.parse::<i64>() {

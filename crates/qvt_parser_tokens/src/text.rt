@@ -4,7 +4,7 @@ ghost use Rattle.qvt_lexer.specs.declared.token.TokenKind.TheVariants as kinds;
 ghost use Rattle.qvt_language.specs.Tokens.{tok_of};
 ghost use Rattle.qvt_parser_tokens.specs.Said as said;
 ghost use Rattle.qvt_parser_tokens.specs.Text.{OneLexing};
-ghost use Rattle.qvt_parser_tokens.specs.Whole.{HasStrings, ReadsStrings, Lexes, IsNumber};
+ghost use Rattle.qvt_parser_tokens.specs.Whole.{HasStrings, ReadsStrings, Lexes, IsNumeral};
 
 use crate::said::{name_of, number_of, string_of};
 use qvt_base::list_fault::ListFault;
@@ -12,7 +12,7 @@ use qvt_base::numbers::Place;
 use qvt_base::seq::Seq;
 use qvt_base::text::Text;
 use qvt_language::class::Class;
-use qvt_language::token::Token;
+use qvt_language::token::SyntaxToken;
 use qvt_lexer::lexer::Lexer;
 use qvt_lexer::token as lexed;
 use qvt_lexer::token::{LexFault, TokenKind};
@@ -22,7 +22,7 @@ use std::alloc::Global;
 /// The tokens of a whole text, with the place after its last character.
 #[derive(Drop)]
 pub struct TextTokens<'a> {
-    pub tokens: Seq<Token<'a>>,
+    pub tokens: Seq<SyntaxToken<'a>>,
     pub end: Place,
 }
 
@@ -46,8 +46,8 @@ impl From<ListFault> for TextFault {
     }
 }
 
-fn class_of(token: lexed::Token<'_>) -> Class
-    ensures { result ≡ said.class_of token.entry.kind token.entry.text.now }
+fn token_class_of(token: lexed::Token<'_>) -> Class
+    ensures { result ≡ said.token_class_of token.entry.kind token.entry.text.now }
 {
     match token.kind {
         TokenKind::Integer => Class::Integer,
@@ -70,7 +70,7 @@ fn text_of(token: lexed::Token<'_>) -> &str
 }
 
 fn number_in(token: lexed::Token<'_>) -> i64
-    requires { token.kind ≡ kinds.Integer → IsNumber token.text.now }
+    requires { token.kind ≡ kinds.Integer → IsNumeral token.text.now }
     ensures { result ≡ said.number_in token.entry.kind token.entry.text.now }
 {
     match token.kind {
@@ -80,13 +80,13 @@ fn number_in(token: lexed::Token<'_>) -> i64
 }
 
 /// What a token that is no string says to the grammar.
-fn plain(token: lexed::Token<'_>) -> Token<'_>
-    requires integer { token.kind ≡ kinds.Integer → IsNumber token.text.now }
+fn plain(token: lexed::Token<'_>) -> SyntaxToken<'_>
+    requires integer { token.kind ≡ kinds.Integer → IsNumeral token.text.now }
     requires other { token.kind ≢ kinds.Str }
     ensures { tok_of result ≡ said.said (data_of token.entry) }
 {
-    Token {
-        class: class_of(token),
+    SyntaxToken {
+        class: token_class_of(token),
         place: token.place,
         text: text_of(token),
         number: number_in(token),
@@ -152,7 +152,7 @@ pub fn read<'a>(
                 TokenKind::Str => {
                     let (string, more) = first_of(left);
                     left = more;
-                    tokens.push(Token {
+                    tokens.push(SyntaxToken {
                         class: Class::Str,
                         place: token.place,
                         text: string,

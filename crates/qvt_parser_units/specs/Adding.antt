@@ -11,7 +11,7 @@ turn_view None = []
 turn_view (Some u) = unit_view u ∷ []
 
 -- those of the turn stand after the old ones, unless memory ran out
-abbrev pub Joins : List UnitTerm → List UnitTerm → List UnitTerm → Result (Unit {0}) ParseError → Type 0
-Joins some old new (Ok u) = new ≡ old ++ some
-Joins some old new (Err NoMemory) = Unit {0}
-Joins some old new (Err Syntax) = ⊥
+abbrev pub AddsTurn : List UnitTerm → List UnitTerm → List UnitTerm → Result (Unit {0}) ParseError → Type 0
+AddsTurn some old new (Ok u) = new ≡ old ++ some
+AddsTurn some old new (Err NoMemory) = Unit {0}
+AddsTurn some old new (Err Syntax) = ⊥

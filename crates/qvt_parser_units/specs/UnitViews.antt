@@ -11,7 +11,7 @@ use Rattle.qvt_parser_units.specs.declared.clauses.Clause.{Clause as CodeClause}
 use Rattle.qvt_parser_units.specs.declared.clauses.Clause.TheVariants.{Inherits, Merges, Disjuncts, When}
 use Rattle.qvt_parser_units.specs.declared.clauses.Clauses.{Clauses as CodeClauses}
 use Rattle.qvt_parser_units.specs.declared.clauses.Body.{Body as CodeBody}
-use Rattle.qvt_language.specs.UnitTrees.{Clause, InheritsClause, MergesClause, DisjunctsClause, WhenClause, Clauses, Body}
+use Rattle.qvt_language.specs.UnitTrees.{ClauseTree, InheritsClause, MergesClause, DisjunctsClause, WhenClause, ClausesTree, BodyTree}
 use Rattle.qvt_parser_grammar.specs.Options.{option_view}
 use Rattle.qvt_parser_exprs.specs.Views.{stmts_view}
 
@@ -24,17 +24,17 @@ fields_view = map field_view
 abbrev pub units_view : List code.Unit → List UnitTerm
 units_view = map unit_view
 
-abbrev pub clause_view : CodeClause → Clause
+abbrev pub clause_view : CodeClause → ClauseTree
 clause_view (Inherits paths) = InheritsClause paths
 clause_view (Merges paths) = MergesClause paths
 clause_view (Disjuncts paths) = DisjunctsClause paths
 clause_view (When e) = WhenClause (expr_view e)
 
-abbrev pub clauses_view : CodeClauses → Clauses
+abbrev pub clauses_view : CodeClauses → ClausesTree
 clauses_view c = record { inherits = c.inherits; merges = c.merges; disjuncts = c.disjuncts; condition = option_view expr_view c.condition }
 
 abbrev pub sections_view : List Stmt × List Stmt → List StmtTerm × List StmtTerm
 sections_view (population, finish) = (stmts_view population, stmts_view finish)
 
-abbrev pub body_view : CodeBody → Body
+abbrev pub body_view : CodeBody → BodyTree
 body_view b = record { init = stmts_view b.init; population = stmts_view b.population; finish = stmts_view b.finish }

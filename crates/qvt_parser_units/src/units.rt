@@ -13,7 +13,7 @@ ghost use Rattle.qvt_language.specs.Nesting.{nested_at};
 ghost use Rattle.qvt_parser_grammar.specs.Options.{option_view};
 ghost use Rattle.qvt_parser_grammar.specs.Gives.{Gives, toks, same};
 ghost use Rattle.qvt_parser_exprs.specs.Views.{stmts_view};
-ghost use Rattle.qvt_parser_units.specs.Adding.{turn_view, Joins};
+ghost use Rattle.qvt_parser_units.specs.Adding.{turn_view, AddsTurn};
 ghost use Rattle.qvt_parser_units.specs.UnitViews.{params_view, fields_view, units_view, clause_view, clauses_view, sections_view, body_view};
 
 use crate::clauses::{
@@ -24,7 +24,7 @@ use qvt_base::numbers::Place;
 use qvt_base::seq::Seq;
 use qvt_base::text::Text;
 use qvt_language::class::Class;
-use qvt_language::token::Token;
+use qvt_language::token::SyntaxToken;
 use qvt_parser_grammar::cursor::{ParseError, Parser};
 use qvt_parser_stmts::nested::{block, expr, statements};
 use qvt_tree_types::module::{
@@ -199,7 +199,7 @@ fn helper_body(parser: &mut Parser<'_>, room: usize) -> Result<Seq<Stmt>, ParseE
     block(parser, room)
 }
 
-fn helper_word<'a>(parser: &mut Parser<'a>) -> Result<Token<'a>, ParseError>
+fn helper_word<'a>(parser: &mut Parser<'a>) -> Result<SyntaxToken<'a>, ParseError>
     ensures gives { Gives tok_of result (toks parser.new) (choose_at (is Class.HelperWord) (the_at Class.HelperWord) (the_at Class.QueryWord) (toks parser.old)) }
     ensures fewer { length (toks parser.new) ≤ length (toks parser.old) }
     ensures less { OnOk result (length (toks parser.new) < length (toks parser.old)) }
@@ -530,7 +530,7 @@ fn uri(parser: &mut Parser<'_>) -> Result<Text, ParseError>
 }
 
 /// A string before `uses` that is no strictness is a fault.
-fn strictness<'a>(parser: &mut Parser<'a>) -> Result<Option<Token<'a>>, ParseError>
+fn strictness<'a>(parser: &mut Parser<'a>) -> Result<Option<SyntaxToken<'a>>, ParseError>
     ensures gives { Gives (option_view tok_of) result (toks parser.new) (maybe_at (of (code_of Class.Str ∷ [])) strictness_at (toks parser.old)) }
     ensures fewer { length (toks parser.new) ≤ length (toks parser.old) }
 {
@@ -577,7 +577,7 @@ fn model_types(parser: &mut Parser<'_>) -> Result<Seq<ModelType>, ParseError>
     Ok(model_types)
 }
 
-fn direction_word<'a>(parser: &mut Parser<'a>) -> Result<Token<'a>, ParseError>
+fn direction_word<'a>(parser: &mut Parser<'a>) -> Result<SyntaxToken<'a>, ParseError>
     ensures gives { Gives tok_of result (toks parser.new) (choose_at (is Class.InWord) (the_at Class.InWord) (choose_at (is Class.OutWord) (the_at Class.OutWord) (the_at Class.InoutWord)) (toks parser.old)) }
     ensures fewer { length (toks parser.new) ≤ length (toks parser.old) }
     ensures less { OnOk result (length (toks parser.new) < length (toks parser.old)) }
@@ -664,7 +664,7 @@ fn turn(parser: &mut Parser<'_>, room: usize) -> Result<Option<Unit>, ParseError
 
 /// Puts the unit of a turn after the others.
 fn add(units: &mut Seq<Unit>, turn: Option<Unit>) -> Result<(), ParseError>
-    ensures { Joins (turn_view turn) (units_view units.old) (units_view units.new) result }
+    ensures { AddsTurn (turn_view turn) (units_view units.old) (units_view units.new) result }
 {
     match turn {
         None => Ok(()),

@@ -1,6 +1,6 @@
 ghost use Rattle.std.specs.Prelude.{◌≡◌, ◌++◌, ◌∷◌, [], OnOk};
 ghost use Rattle.qvt_tree_types.specs.View.{type_view, optional_type};
-ghost use Rattle.qvt_printer_layout.specs.declared.piece.Piece.TheVariants.{Plain, Name, Quoted, Tight, Line, Indent, Dedent};
+ghost use Rattle.qvt_printer_layout.specs.declared.piece.PrintPiece.TheVariants.{Plain, Name, Quoted, Tight, Line, Indent, Dedent};
 ghost use Rattle.qvt_language.specs.declared.class.Class.TheVariants as class;
 ghost use Rattle.qvt_printer.specs.Expressions as printed;
 
@@ -9,7 +9,7 @@ use qvt_base::list_fault::ListFault;
 use qvt_base::seq::Seq;
 use qvt_base::text::Text;
 use qvt_language::class::Class;
-use qvt_printer_layout::piece::Piece;
+use qvt_printer_layout::piece::PrintPiece;
 use qvt_printer_layout::words::{kind_word, prefix_sign};
 use qvt_tree_types::types::{ObjectVar, PathTree, TypeTree};
 use qvt_tree_types::words::Sign;
@@ -20,14 +20,14 @@ use std::marker::Model;
 #[derive(Drop)]
 pub struct Pieces {
     alloc: Global,
-    list: Seq<Piece>,
+    list: Seq<PrintPiece>,
 }
 
 impl Model for Pieces {
     ghost use Rattle.std.specs.Prelude.{List};
-    ghost use Rattle.qvt_printer_layout.specs.declared.piece.Piece.{Piece};
+    ghost use Rattle.qvt_printer_layout.specs.declared.piece.PrintPiece.{PrintPiece};
 
-    ghost Value = { List Piece };
+    ghost Value = { List PrintPiece };
 
     ghost view = { λ p. p.list };
 }
@@ -42,13 +42,13 @@ impl Pieces {
         }
     }
 
-    pub fn as_slice(&self) -> &[Piece]
+    pub fn as_slice(&self) -> &[PrintPiece]
         ensures { result.now ≡ self.now }
     {
         self.list.as_slice()
     }
 
-    pub fn put(&mut self, piece: Piece) -> Result<(), ListFault>
+    pub fn put(&mut self, piece: PrintPiece) -> Result<(), ListFault>
         ensures { OnOk result (self.new ≡ self.old ++ piece ∷ []) }
     {
         self.list.push(piece)
@@ -57,21 +57,21 @@ impl Pieces {
     pub fn word(&mut self, class: Class) -> Result<(), ListFault>
         ensures { OnOk result (self.new ≡ self.old ++ Plain class ∷ []) }
     {
-        self.put(Piece::Plain(class))
+        self.put(PrintPiece::Plain(class))
     }
 
     pub fn name(&mut self, name: &Text) -> Result<(), ListFault>
         ensures { OnOk result (self.new ≡ self.old ++ Name name.now ∷ []) }
     {
         let name = name.copy(self.alloc)?;
-        self.put(Piece::Name(name))
+        self.put(PrintPiece::Name(name))
     }
 
     pub fn quoted(&mut self, text: &Text) -> Result<(), ListFault>
         ensures { OnOk result (self.new ≡ self.old ++ Quoted text.now ∷ []) }
     {
         let text = text.copy(self.alloc)?;
-        self.put(Piece::Quoted(text))
+        self.put(PrintPiece::Quoted(text))
     }
 
     fn more_names(&mut self, names: &[Text]) -> Result<(), ListFault>
@@ -228,15 +228,15 @@ impl Pieces {
         ensures { OnOk result (self.new ≡ self.old ++ Plain class.OpenBrace ∷ Indent ∷ []) }
     {
         self.word(Class::OpenBrace)?;
-        self.put(Piece::Indent)
+        self.put(PrintPiece::Indent)
     }
 
     /// What stands after the last part of a block.
     pub fn close_block(&mut self) -> Result<(), ListFault>
         ensures { OnOk result (self.new ≡ self.old ++ Dedent ∷ Line ∷ Plain class.CloseBrace ∷ []) }
     {
-        self.put(Piece::Dedent)?;
-        self.put(Piece::Line)?;
+        self.put(PrintPiece::Dedent)?;
+        self.put(PrintPiece::Line)?;
         self.word(Class::CloseBrace)
     }
 
@@ -244,16 +244,16 @@ impl Pieces {
     pub fn open_items(&mut self) -> Result<(), ListFault>
         ensures { OnOk result (self.new ≡ self.old ++ Tight ∷ Plain class.OpenBrace ∷ Tight ∷ []) }
     {
-        self.put(Piece::Tight)?;
+        self.put(PrintPiece::Tight)?;
         self.word(Class::OpenBrace)?;
-        self.put(Piece::Tight)
+        self.put(PrintPiece::Tight)
     }
 
     /// What stands after the last item of a collection literal.
     pub fn close_items(&mut self) -> Result<(), ListFault>
         ensures { OnOk result (self.new ≡ self.old ++ Tight ∷ Plain class.CloseBrace ∷ []) }
     {
-        self.put(Piece::Tight)?;
+        self.put(PrintPiece::Tight)?;
         self.word(Class::CloseBrace)
     }
 }

@@ -1,7 +1,7 @@
 ghost use Rattle.std.specs.Prelude.{◌≡◌, ◌++◌, ◌∷◌, OnOk, map, option_map, false};
 ghost use Rattle.qvt_tree_types.specs.View as view;
 ghost use Rattle.qvt_tree_types.specs.Tree.{SomeExpr};
-ghost use Rattle.qvt_printer_layout.specs.declared.piece.Piece.TheVariants.{Line};
+ghost use Rattle.qvt_printer_layout.specs.declared.piece.PrintPiece.TheVariants.{Line};
 ghost use Rattle.qvt_printer.specs.Expressions as printed;
 
 use crate::levels::{is_as_loose, is_chain, is_chain_or_prefix};
@@ -9,7 +9,7 @@ use crate::pieces::Pieces;
 use qvt_base::list_fault::ListFault;
 use qvt_base::text::Text;
 use qvt_language::class::Class;
-use qvt_printer_layout::piece::Piece;
+use qvt_printer_layout::piece::PrintPiece;
 use qvt_printer_layout::words::{
     assign_sign, kind_word, map_word, operator_sign, resolve_word, truth_word,
 };
@@ -26,7 +26,7 @@ impl Pieces {
         ensures { OnOk result (self.new ≡ self.old ++ printed.expr (view.expr_view expr.now)) }
     {
         match expr {
-            Expr::Int { value, .. } => self.put(Piece::Integer(*value)),
+            Expr::Int { value, .. } => self.put(PrintPiece::Integer(*value)),
             Expr::Str { value, .. } => self.quoted(value),
             Expr::Bool { value, .. } => self.word(truth_word(*value)),
             Expr::Null { .. } => self.word(Class::NullWord),
@@ -564,7 +564,7 @@ impl Pieces {
     fn line_of(&mut self, stmt: &Stmt) -> Result<(), ListFault>
         ensures { OnOk result (self.new ≡ self.old ++ Line ∷ printed.stmt (view.stmt_view stmt.now)) }
     {
-        self.put(Piece::Line)?;
+        self.put(PrintPiece::Line)?;
         self.stmt(stmt)
     }
 }

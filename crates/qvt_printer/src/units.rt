@@ -3,7 +3,7 @@ ghost use Rattle.qvt_tree_types.specs.View.{block_view};
 ghost use Rattle.qvt_tree_types.specs.Module as tree;
 ghost use Rattle.qvt_tree_types.specs.Module.{MainOf};
 ghost use Rattle.qvt_language.specs.Readers.{nowhere};
-ghost use Rattle.qvt_printer_layout.specs.declared.piece.Piece.TheVariants.{Line};
+ghost use Rattle.qvt_printer_layout.specs.declared.piece.PrintPiece.TheVariants.{Line};
 ghost use Rattle.qvt_printer.specs.Expressions as expressions;
 ghost use Rattle.qvt_printer.specs.Units as printed;
 
@@ -11,7 +11,7 @@ use crate::pieces::Pieces;
 use qvt_base::list_fault::ListFault;
 use qvt_base::text::Text;
 use qvt_language::class::Class;
-use qvt_printer_layout::piece::Piece;
+use qvt_printer_layout::piece::PrintPiece;
 use qvt_printer_layout::words::{direction_word, helper_word};
 use qvt_tree_types::module::{
     ClassDecl, Field, Helper, Mapping, ModelParam, ModelType, Module, Param, ResultDecl, Unit,
@@ -59,7 +59,7 @@ impl Pieces {
     fn field(&mut self, field: &Field) -> Result<(), ListFault>
         ensures { OnOk result (self.new ≡ self.old ++ Line ∷ expressions.ended (printed.typed_name (tree.field_view field.now))) }
     {
-        self.put(Piece::Line)?;
+        self.put(PrintPiece::Line)?;
         self.name(&field.name)?;
         self.typed(&field.kind)?;
         self.word(Class::Semicolon)
@@ -155,7 +155,7 @@ impl Pieces {
         ensures { OnOk result (self.new ≡ self.old ++ printed.section word (block_view body.now)) }
     {
         if has_statements(body) {
-            self.put(Piece::Line)?;
+            self.put(PrintPiece::Line)?;
             self.word(word)?;
             self.block(body)
         } else {
@@ -228,7 +228,7 @@ impl Pieces {
     {
         for unit in units {
             self.unit(unit)?;
-            self.put(Piece::Line)?;
+            self.put(PrintPiece::Line)?;
         }
         Ok(())
     }
@@ -248,7 +248,7 @@ impl Pieces {
     {
         for kind in types {
             self.model_type(kind)?;
-            self.put(Piece::Line)?;
+            self.put(PrintPiece::Line)?;
         }
         Ok(())
     }
@@ -300,7 +300,7 @@ impl Pieces {
     {
         self.model_types(transformation.model_types.as_slice())?;
         self.header(transformation)?;
-        self.put(Piece::Line)?;
+        self.put(PrintPiece::Line)?;
         self.units(transformation.units.as_slice())
     }
 }

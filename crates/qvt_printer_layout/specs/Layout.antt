@@ -4,8 +4,8 @@ use Rattle.std.specs.Fmt.{signed_decimal}
 use Rattle.std.specs.Str.{chars}
 use Rattle.qvt_language.specs.declared.class.Class.{Class}
 use Rattle.qvt_language.specs.declared.class.Class.TheVariants as class
-use Rattle.qvt_printer_layout.specs.declared.piece.Piece.{Piece}
-use Rattle.qvt_printer_layout.specs.declared.piece.Piece.TheVariants.{Plain, Name, Integer, Quoted, Tight, Line, Indent, Dedent}
+use Rattle.qvt_printer_layout.specs.declared.piece.PrintPiece.{PrintPiece}
+use Rattle.qvt_printer_layout.specs.declared.piece.PrintPiece.TheVariants.{Plain, Name, Integer, Quoted, Tight, Line, Indent, Dedent}
 use Rattle.qvt_words.specs.Words.{is_reserved, spelling}
 
 -- a name, in the escaped form where it is a reserved word
@@ -111,7 +111,7 @@ indented s = record { text = s.text; margin = s.margin + 2; last = s.last }
 abbrev pub dedented : Sheet → Sheet
 dedented s = record { text = s.text; margin = s.margin - 2; last = s.last }
 
-abbrev pub laid : Sheet → Piece → Sheet
+abbrev pub laid : Sheet → PrintPiece → Sheet
 laid s (Plain c) = with_token s c (spelling c)
 laid s (Name n) = with_token s class.Name (name_text n)
 laid s (Integer v) = with_token s class.Integer (integer_text v)
@@ -124,5 +124,5 @@ laid s Dedent = dedented s
 abbrev pub blank_sheet : Sheet
 blank_sheet = record { text = []; margin = 0; last = None }
 
-unfoldable pub laid_out : List Piece → List ℕ
+unfoldable pub laid_out : List PrintPiece → List ℕ
 laid_out ps = (fold laid blank_sheet ps).text

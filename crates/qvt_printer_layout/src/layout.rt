@@ -4,7 +4,7 @@ ghost use Rattle.qvt_language.specs.declared.class.Class.TheVariants as class;
 ghost use Rattle.qvt_printer_layout.specs.Layout as layout;
 ghost use Rattle.qvt_words.specs.Words.{spelling};
 
-use crate::piece::Piece;
+use crate::piece::PrintPiece;
 use qvt_base::list_fault::ListFault;
 use qvt_base::seq::Seq;
 use qvt_base::text::Text;
@@ -262,21 +262,21 @@ impl Sheet {
         Ok(())
     }
 
-    fn put(&mut self, piece: &Piece) -> Result<(), ListFault>
+    fn put(&mut self, piece: &PrintPiece) -> Result<(), ListFault>
         ensures { OnOk result (self.new ≡ layout.laid self.old piece.now) }
     {
         match piece {
-            Piece::Plain(class) => self.plain(*class),
-            Piece::Name(name) => self.name(name),
-            Piece::Integer(value) => self.integer(*value),
-            Piece::Quoted(text) => self.quote(text),
-            Piece::Tight => {
+            PrintPiece::Plain(class) => self.plain(*class),
+            PrintPiece::Name(name) => self.name(name),
+            PrintPiece::Integer(value) => self.integer(*value),
+            PrintPiece::Quoted(text) => self.quote(text),
+            PrintPiece::Tight => {
                 self.last = None;
                 Ok(())
             }
-            Piece::Line => self.line(),
-            Piece::Indent => self.indent(),
-            Piece::Dedent => {
+            PrintPiece::Line => self.line(),
+            PrintPiece::Indent => self.indent(),
+            PrintPiece::Dedent => {
                 self.dedent();
                 Ok(())
             }
@@ -299,7 +299,7 @@ impl Sheet {
 
 /// The text that the pieces make.
 #[tactic(auto, unfolding(crate::specs::Layout::laid_out))]
-pub fn laid_out(alloc: Global, pieces: &[Piece]) -> Result<Text, ListFault>
+pub fn laid_out(alloc: Global, pieces: &[PrintPiece]) -> Result<Text, ListFault>
     ensures { IfOk result (λ text. text ≡ layout.laid_out pieces.now) }
 {
     let mut sheet = Sheet::new(alloc);

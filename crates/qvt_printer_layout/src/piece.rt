@@ -3,7 +3,7 @@ use qvt_language::class::Class;
 
 /// A part of the printed text, or how the parts after it stand.
 #[derive(Drop)]
-pub enum Piece {
+pub enum PrintPiece {
     /// A sign or a reserved word.
     Plain(Class),
     Name(Text),

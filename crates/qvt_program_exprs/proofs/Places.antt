@@ -5,7 +5,7 @@ use Rattle.std.specs.Option.{option_or}
 use Rattle.std.proofs.lemmas.List.{get_or-map, length-map}
 use Rattle.qvt_meta_names.proofs.Tables.{first_at, first-all, first-next}
 use Rattle.qvt_meaning.specs.Numbered.{Listed}
-use Rattle.qvt_program_exprs.specs.Index.{IsIndex, numbered_so, place_under}
+use Rattle.qvt_program_exprs.specs.Index.{IsExprIndex, numbered_so, place_under}
 use Rattle.qvt_program_exprs.specs.Listing.{listed_view, listing}
 use Rattle.qvt_program_exprs.specs.declared.listed.ListedExpr.{ListedExpr}
 
@@ -22,7 +22,7 @@ one_more all old new place e l at before now n =
     (before n)
     (now n ∙ ap (λ x. option_or (place_under old n) (if numbered_so n x then Some place else None)) (ap listed_view at ∙ sym (get_or-map listed_view all place e (listed_view e) l)))
 
-pub all_placed : (all : List ListedExpr) (places : List (Option ℕ)) (place : ℕ) → length all ≤ place → AreFirst (listing all) places place → IsIndex (listing all) places
+pub all_placed : (all : List ListedExpr) (places : List (Option ℕ)) (place : ℕ) → length all ≤ place → AreFirst (listing all) places place → IsExprIndex (listing all) places
 unfolding listing
 all_placed all places place l are n =
     first-all (numbered_so n) place (map listed_view all) (place_under places n) (subst (λ k. k ≤ place) (sym (length-map all listed_view)) l) (are n)

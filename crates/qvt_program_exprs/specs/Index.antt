@@ -9,5 +9,5 @@ abbrev pub numbered_so : ℕ → Listed → Bool
 numbered_so n l = has_number (record { 0 = n }) l
 
 -- what stands under each number is the place of the first expression that has it
-abbrev pub IsIndex : List Listed → List (Option ℕ) → Type 0
-IsIndex ls places = (n : ℕ) → place_under places n ≡ position (numbered_so n) ls
+abbrev pub IsExprIndex : List Listed → List (Option ℕ) → Type 0
+IsExprIndex ls places = (n : ℕ) → place_under places n ≡ position (numbered_so n) ls

@@ -5,7 +5,7 @@ ghost use Rattle.qvt_types_nodes.specs.View as view;
 ghost use Rattle.qvt_meaning.specs.Numbered as numbered;
 ghost use Rattle.qvt_program_exprs.specs.Listing.{filter_view, listing};
 
-use crate::listed::{ExprList, FilterName, add, filter_name};
+use crate::listed::{FilterName, ListedExprList, add, filter_name};
 use crate::statements::stmts;
 use qvt_base::list_fault::ListFault;
 use qvt_types_nodes::tree::{
@@ -19,7 +19,7 @@ use qvt_types_nodes::tree::{
 pub fn expr<'a>(
     filter: FilterName<'a>,
     node: &'a TypedExpr,
-    all: &mut ExprList<'a>,
+    all: &mut ListedExprList<'a>,
 ) -> Result<(), ListFault>
     ensures { OnOk result (listing all.new ≡ listing all.old ++ numbered.in_expr (filter_view filter.entry) (view.typed_expr_view node.now)) }
 {
@@ -62,7 +62,7 @@ pub fn expr<'a>(
 
 #[cycle(listing)]
 #[tactic(auto, unfolding(qvt_meaning::specs::Numbered::in_exprs))]
-pub fn exprs<'a>(nodes: &'a [TypedExpr], all: &mut ExprList<'a>) -> Result<(), ListFault>
+pub fn exprs<'a>(nodes: &'a [TypedExpr], all: &mut ListedExprList<'a>) -> Result<(), ListFault>
     ensures { OnOk result (listing all.new ≡ listing all.old ++ numbered.in_exprs (view.typed_exprs_of (map view.typed_expr_view nodes.now))) }
 {
     for node in nodes {
@@ -73,7 +73,10 @@ pub fn exprs<'a>(nodes: &'a [TypedExpr], all: &mut ExprList<'a>) -> Result<(), L
 
 #[cycle(listing)]
 #[tactic(auto, unfolding(qvt_meaning::specs::Numbered::in_optional))]
-pub fn optional<'a>(node: &'a Option<TypedExpr>, all: &mut ExprList<'a>) -> Result<(), ListFault>
+pub fn optional<'a>(
+    node: &'a Option<TypedExpr>,
+    all: &mut ListedExprList<'a>,
+) -> Result<(), ListFault>
     ensures { OnOk result (listing all.new ≡ listing all.old ++ numbered.in_optional None (view.typed_optional_expr (option_map view.typed_expr_view node.now))) }
 {
     match node {
@@ -84,7 +87,7 @@ pub fn optional<'a>(node: &'a Option<TypedExpr>, all: &mut ExprList<'a>) -> Resu
 
 #[cycle(listing)]
 #[tactic(auto, unfolding(qvt_meaning::specs::Numbered::in_links, qvt_meaning::specs::Numbered::in_link))]
-pub fn links<'a>(nodes: &'a [TypedLink], all: &mut ExprList<'a>) -> Result<(), ListFault>
+pub fn links<'a>(nodes: &'a [TypedLink], all: &mut ListedExprList<'a>) -> Result<(), ListFault>
     ensures { OnOk result (listing all.new ≡ listing all.old ++ numbered.in_links (view.typed_links_of (map view.typed_link_view nodes.now))) }
 {
     for node in nodes {
@@ -97,7 +100,7 @@ pub fn links<'a>(nodes: &'a [TypedLink], all: &mut ExprList<'a>) -> Result<(), L
 #[tactic(auto, unfolding(qvt_meaning::specs::Numbered::in_range))]
 pub fn optional_end<'a>(
     node: &'a Option<TypedRangeEnd>,
-    all: &mut ExprList<'a>,
+    all: &mut ListedExprList<'a>,
 ) -> Result<(), ListFault>
     ensures { OnOk result (listing all.new ≡ listing all.old ++ numbered.in_range (view.typed_optional_range (option_map view.typed_range_view node.now))) }
 {
@@ -109,7 +112,7 @@ pub fn optional_end<'a>(
 
 #[cycle(listing)]
 #[tactic(auto, unfolding(qvt_meaning::specs::Numbered::in_item))]
-pub fn item<'a>(node: &'a TypedItem, all: &mut ExprList<'a>) -> Result<(), ListFault>
+pub fn item<'a>(node: &'a TypedItem, all: &mut ListedExprList<'a>) -> Result<(), ListFault>
     ensures { OnOk result (listing all.new ≡ listing all.old ++ numbered.in_item (view.typed_item_view node.now)) }
 {
     expr(FilterName::NoFilter, &node.first, all)?;
@@ -118,7 +121,7 @@ pub fn item<'a>(node: &'a TypedItem, all: &mut ExprList<'a>) -> Result<(), ListF
 
 #[cycle(listing)]
 #[tactic(auto, unfolding(qvt_meaning::specs::Numbered::in_items))]
-pub fn all_items<'a>(nodes: &'a [TypedItem], all: &mut ExprList<'a>) -> Result<(), ListFault>
+pub fn all_items<'a>(nodes: &'a [TypedItem], all: &mut ListedExprList<'a>) -> Result<(), ListFault>
     ensures { OnOk result (listing all.new ≡ listing all.old ++ numbered.in_items (view.typed_items_of (map view.typed_item_view nodes.now))) }
 {
     for node in nodes {
@@ -130,7 +133,7 @@ pub fn all_items<'a>(nodes: &'a [TypedItem], all: &mut ExprList<'a>) -> Result<(
 /// The condition of a filter.
 #[cycle(listing)]
 #[tactic(auto, unfolding(qvt_meaning::specs::Numbered::in_filter, qvt_meaning::specs::Numbered::in_optional))]
-pub fn filter<'a>(node: &'a TypedFilter, all: &mut ExprList<'a>) -> Result<(), ListFault>
+pub fn filter<'a>(node: &'a TypedFilter, all: &mut ListedExprList<'a>) -> Result<(), ListFault>
     ensures { OnOk result (listing all.new ≡ listing all.old ++ numbered.in_filter (view.typed_filter_view node.now)) }
 {
     match &node.condition {
@@ -143,7 +146,7 @@ pub fn filter<'a>(node: &'a TypedFilter, all: &mut ExprList<'a>) -> Result<(), L
 #[tactic(auto, unfolding(qvt_meaning::specs::Numbered::in_filter))]
 pub fn optional_filter<'a>(
     node: &'a Option<TypedFilter>,
-    all: &mut ExprList<'a>,
+    all: &mut ListedExprList<'a>,
 ) -> Result<(), ListFault>
     ensures { OnOk result (listing all.new ≡ listing all.old ++ numbered.in_filter (view.typed_optional_filter (option_map view.typed_filter_view node.now))) }
 {
@@ -157,7 +160,7 @@ pub fn optional_filter<'a>(
 #[tactic(auto, unfolding(qvt_meaning::specs::Numbered::in_accumulator))]
 pub fn optional_accumulator<'a>(
     node: &'a Option<TypedAccumulator>,
-    all: &mut ExprList<'a>,
+    all: &mut ListedExprList<'a>,
 ) -> Result<(), ListFault>
     ensures { OnOk result (listing all.new ≡ listing all.old ++ numbered.in_accumulator (view.typed_optional_accumulator (option_map view.typed_accumulator_view node.now))) }
 {
@@ -171,7 +174,7 @@ pub fn optional_accumulator<'a>(
 #[tactic(auto, unfolding(qvt_meaning::specs::Numbered::in_head))]
 pub fn optional_head<'a>(
     node: &'a Option<TypedHead>,
-    all: &mut ExprList<'a>,
+    all: &mut ListedExprList<'a>,
 ) -> Result<(), ListFault>
     ensures { OnOk result (listing all.new ≡ listing all.old ++ numbered.in_head (view.typed_optional_head (option_map view.typed_head_view node.now))) }
 {
@@ -183,7 +186,7 @@ pub fn optional_head<'a>(
 
 #[cycle(listing)]
 #[tactic(auto, unfolding(qvt_meaning::specs::Numbered::in_step, qvt_meaning::specs::Numbered::in_args, qvt_meaning::specs::Numbered::in_map, qvt_meaning::specs::Numbered::in_resolve))]
-pub fn step<'a>(node: &'a TypedStep, all: &mut ExprList<'a>) -> Result<(), ListFault>
+pub fn step<'a>(node: &'a TypedStep, all: &mut ListedExprList<'a>) -> Result<(), ListFault>
     ensures { OnOk result (listing all.new ≡ listing all.old ++ numbered.in_step (view.typed_step_view node.now)) }
 {
     match node {
@@ -204,7 +207,7 @@ pub fn step<'a>(node: &'a TypedStep, all: &mut ExprList<'a>) -> Result<(), ListF
 
 #[cycle(listing)]
 #[tactic(auto, unfolding(qvt_meaning::specs::Numbered::in_steps))]
-pub fn all_steps<'a>(nodes: &'a [TypedStep], all: &mut ExprList<'a>) -> Result<(), ListFault>
+pub fn all_steps<'a>(nodes: &'a [TypedStep], all: &mut ListedExprList<'a>) -> Result<(), ListFault>
     ensures { OnOk result (listing all.new ≡ listing all.old ++ numbered.in_steps (view.typed_steps_of (map view.typed_step_view nodes.now))) }
 {
     for node in nodes {

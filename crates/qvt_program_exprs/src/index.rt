@@ -2,7 +2,7 @@
 
 ghost use Rattle.std.specs.Prelude.{◌≡◌, ◌==◌, ◌<◌, ℕ, Some, None, length, if◌then◌else◌, IfOk, OnOk};
 ghost use Rattle.std.specs.Option.{option_or};
-ghost use Rattle.qvt_program_exprs.specs.Index.{IsIndex, numbered_so, place_under};
+ghost use Rattle.qvt_program_exprs.specs.Index.{IsExprIndex, numbered_so, place_under};
 ghost use Rattle.qvt_program_exprs.specs.Listing.{listed_view, listing};
 
 use crate::listed::ListedExpr;
@@ -57,7 +57,7 @@ fn enter_expr(places: &mut PlaceList, place: u32, expr: &ListedExpr<'_>) -> Resu
 /// For each number the place of the first of as many expressions that has it.
 fn first_places(alloc: Global, all: &[ListedExpr<'_>], count: u32) -> Result<PlaceList, ListFault>
     requires { length all.now ≡ count }
-    ensures { IfOk result (λ ps. IsIndex (listing all.now) ps) }
+    ensures { IfOk result (λ ps. IsExprIndex (listing all.now) ps) }
 {
     let mut places = Seq::new(alloc);
     for place in 0..count {
@@ -68,7 +68,7 @@ fn first_places(alloc: Global, all: &[ListedExpr<'_>], count: u32) -> Result<Pla
 
 /// The same of any number of expressions. It is refused as out of memory where that does not fit 32 bits.
 pub fn places_of(alloc: Global, all: &[ListedExpr<'_>]) -> Result<PlaceList, ListFault>
-    ensures { IfOk result (λ ps. IsIndex (listing all.now) ps) }
+    ensures { IfOk result (λ ps. IsExprIndex (listing all.now) ps) }
 {
     let Ok(count) = u32::try_from(all.len()) else {
         return Err(ListFault::NoMemory);

@@ -28,14 +28,14 @@ pub struct ListedExpr<'a> {
 }
 
 /// Expressions, in the order of the text.
-pub type ExprList<'a> = Seq<ListedExpr<'a>>;
+pub type ListedExprList<'a> = Seq<ListedExpr<'a>>;
 
 /// Puts the expression last.
 #[tactic(auto, unfolding(crate::specs::Listing::listing))]
 pub fn add<'a>(
     filter: FilterName<'a>,
     expr: &'a TypedExpr,
-    all: &mut ExprList<'a>,
+    all: &mut ListedExprList<'a>,
 ) -> Result<(), ListFault>
     ensures { OnOk result (listing all.new ≡ listing all.old ++ numbered.listed (filter_view filter.entry) (typed_expr_view expr.now) ∷ []) }
 {

@@ -6,13 +6,13 @@ ghost use Rattle.qvt_meaning.specs.Numbered as numbered;
 ghost use Rattle.qvt_program_exprs.specs.Listing.{listing};
 
 use crate::expressions::{expr, optional};
-use crate::listed::{ExprList, FilterName};
+use crate::listed::{FilterName, ListedExprList};
 use qvt_base::list_fault::ListFault;
 use qvt_types_nodes::tree::{TypedArm, TypedStmt, TypedTarget};
 
 #[cycle(listing)]
 #[tactic(auto, unfolding(qvt_meaning::specs::Numbered::in_target))]
-pub fn target<'a>(node: &'a TypedTarget, all: &mut ExprList<'a>) -> Result<(), ListFault>
+pub fn target<'a>(node: &'a TypedTarget, all: &mut ListedExprList<'a>) -> Result<(), ListFault>
     ensures { OnOk result (listing all.new ≡ listing all.old ++ numbered.in_target (view.typed_target_view node.now)) }
 {
     match node {
@@ -24,7 +24,7 @@ pub fn target<'a>(node: &'a TypedTarget, all: &mut ExprList<'a>) -> Result<(), L
 
 #[cycle(listing)]
 #[tactic(auto, unfolding(qvt_meaning::specs::Numbered::in_stmt, qvt_meaning::specs::Numbered::in_else))]
-pub fn stmt<'a>(node: &'a TypedStmt, all: &mut ExprList<'a>) -> Result<(), ListFault>
+pub fn stmt<'a>(node: &'a TypedStmt, all: &mut ListedExprList<'a>) -> Result<(), ListFault>
     ensures { OnOk result (listing all.new ≡ listing all.old ++ numbered.in_stmt (view.typed_stmt_view node.now)) }
 {
     match node {
@@ -77,7 +77,7 @@ pub fn stmt<'a>(node: &'a TypedStmt, all: &mut ExprList<'a>) -> Result<(), ListF
 
 #[cycle(listing)]
 #[tactic(auto, unfolding(qvt_meaning::specs::Numbered::in_stmts))]
-pub fn stmts<'a>(nodes: &'a [TypedStmt], all: &mut ExprList<'a>) -> Result<(), ListFault>
+pub fn stmts<'a>(nodes: &'a [TypedStmt], all: &mut ListedExprList<'a>) -> Result<(), ListFault>
     ensures { OnOk result (listing all.new ≡ listing all.old ++ numbered.in_stmts (view.typed_block_view nodes.now)) }
 {
     for node in nodes {
@@ -88,7 +88,7 @@ pub fn stmts<'a>(nodes: &'a [TypedStmt], all: &mut ExprList<'a>) -> Result<(), L
 
 #[cycle(listing)]
 #[tactic(auto, unfolding(qvt_meaning::specs::Numbered::in_arm))]
-pub fn arm<'a>(node: &'a TypedArm, all: &mut ExprList<'a>) -> Result<(), ListFault>
+pub fn arm<'a>(node: &'a TypedArm, all: &mut ListedExprList<'a>) -> Result<(), ListFault>
     ensures { OnOk result (listing all.new ≡ listing all.old ++ numbered.in_arm (view.typed_arm_view node.now)) }
 {
     expr(FilterName::NoFilter, &node.condition, all)?;
@@ -97,7 +97,7 @@ pub fn arm<'a>(node: &'a TypedArm, all: &mut ExprList<'a>) -> Result<(), ListFau
 
 #[cycle(listing)]
 #[tactic(auto, unfolding(qvt_meaning::specs::Numbered::in_arms))]
-pub fn all_arms<'a>(nodes: &'a [TypedArm], all: &mut ExprList<'a>) -> Result<(), ListFault>
+pub fn all_arms<'a>(nodes: &'a [TypedArm], all: &mut ListedExprList<'a>) -> Result<(), ListFault>
     ensures { OnOk result (listing all.new ≡ listing all.old ++ numbered.in_arms (view.typed_arms_of (map view.typed_arm_view nodes.now))) }
 {
     for node in nodes {

@@ -10,7 +10,7 @@ ghost use Rattle.qvt_program_exprs.specs.Listing.{filter_view, listed_view};
 ghost use Rattle.qvt_program_exprs.specs.Table.{IsTable, condition_view};
 
 use crate::index::{PlaceList, place_under, places_of};
-use crate::listed::{ExprList, FilterName, ListedExpr};
+use crate::listed::{FilterName, ListedExpr, ListedExprList};
 use crate::units::all_exprs;
 use qvt_base::list_fault::ListFault;
 use qvt_base::numbers::ExprNo;
@@ -30,7 +30,7 @@ pub struct Condition<'a> {
 /// A program with its expressions, each found by its number in constant time.
 pub struct Expressions<'a> {
     program: &'a Program,
-    all: ExprList<'a>,
+    all: ListedExprList<'a>,
     places: PlaceList,
 }
 

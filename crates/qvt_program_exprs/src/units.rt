@@ -7,7 +7,7 @@ ghost use Rattle.qvt_types_program.specs.Program.{program_view};
 ghost use Rattle.qvt_program_exprs.specs.Listing.{listing};
 
 use crate::expressions::expr;
-use crate::listed::{ExprList, FilterName};
+use crate::listed::{FilterName, ListedExprList};
 use crate::statements::stmts;
 use qvt_base::list_fault::ListFault;
 use qvt_base::seq::Seq;
@@ -17,7 +17,7 @@ use qvt_types_program::program::Program;
 use std::alloc::Global;
 
 #[tactic(auto, unfolding(qvt_meaning::specs::Numbered::in_optional))]
-fn condition<'a>(node: &'a Option<TypedExpr>, all: &mut ExprList<'a>) -> Result<(), ListFault>
+fn condition<'a>(node: &'a Option<TypedExpr>, all: &mut ListedExprList<'a>) -> Result<(), ListFault>
     ensures { OnOk result (listing all.new ≡ listing all.old ++ numbered.in_optional None (typed_condition_view node.now)) }
 {
     match node {
@@ -26,7 +26,7 @@ fn condition<'a>(node: &'a Option<TypedExpr>, all: &mut ExprList<'a>) -> Result<
     }
 }
 
-fn mapping<'a>(node: &'a TypedMapping, all: &mut ExprList<'a>) -> Result<(), ListFault>
+fn mapping<'a>(node: &'a TypedMapping, all: &mut ListedExprList<'a>) -> Result<(), ListFault>
     ensures { OnOk result (listing all.new ≡ listing all.old ++ numbered.in_unit (typed_unit_view (units.Mapping node.now))) }
 {
     condition(&node.condition, all)?;
@@ -37,7 +37,7 @@ fn mapping<'a>(node: &'a TypedMapping, all: &mut ExprList<'a>) -> Result<(), Lis
 
 ghost use Rattle.qvt_types_nodes.specs.declared.module.TypedUnit.TheVariants as units;
 
-fn unit<'a>(node: &'a TypedUnit, all: &mut ExprList<'a>) -> Result<(), ListFault>
+fn unit<'a>(node: &'a TypedUnit, all: &mut ListedExprList<'a>) -> Result<(), ListFault>
     ensures { OnOk result (listing all.new ≡ listing all.old ++ numbered.in_unit (typed_unit_view node.now)) }
 {
     match node {
@@ -51,7 +51,7 @@ fn unit<'a>(node: &'a TypedUnit, all: &mut ExprList<'a>) -> Result<(), ListFault
 
 /// All expressions of a program, in the order of the text.
 #[tactic(auto, unfolding(crate::specs::Listing::listing, qvt_meaning::specs::Numbered::all_listed))]
-pub fn all_exprs<'a>(alloc: Global, program: &'a Program) -> Result<ExprList<'a>, ListFault>
+pub fn all_exprs<'a>(alloc: Global, program: &'a Program) -> Result<ListedExprList<'a>, ListFault>
     ensures { IfOk result (λ all. listing all ≡ numbered.all_listed (program_view program.now)) }
 {
     let mut all = Seq::new(alloc);

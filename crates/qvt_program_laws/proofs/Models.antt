@@ -22,7 +22,7 @@ use Rattle.qvt_types_paths.specs.ModelTypes.{type_names, meant, model_type_told,
 use Rattle.qvt_types_paths.specs.Models.{model_row, model_told, models, models_told}
 use Rattle.qvt_types_paths.specs.Told.{told_if}
 use Rattle.qvt_types_units.specs.Units.{head_told, same_told, overrides_told, lists_told, main_told}
-use Rattle.qvt_typing.specs.Context.{Heads}
+use Rattle.qvt_typing.specs.Context.{DeclaredHeads}
 use Rattle.qvt_typing.specs.Accepts.{ProgramTerm, heads_of, heads_told, reuse_lists}
 use Rattle.qvt_types_program.specs.Extents.{row_at}
 use Rattle.qvt_types_program.specs.Known.{known}
@@ -122,12 +122,12 @@ models_have_metamodels judged leaves m t p e i l =
 of_heads : (m : Metamodels) (t : ModuleTerm) (p : ProgramTerm) → p.heads ≡ heads_of m t → ((i : ℕ) → i < length t.params → HasMetamodel m p i) → HasModels m t p
 unfolding heads_of extended models
 of_heads m t p h k = record {
-  metamodels = ap (λ (x : Heads). x.metas.metamodels) h;
-  names = ap (λ (x : Heads). x.models.names) h;
+  metamodels = ap (λ (x : DeclaredHeads). x.metas.metamodels) h;
+  names = ap (λ (x : DeclaredHeads). x.models.names) h;
   known = k;
 }
 
 pub models_are_declared : AcceptedIsJudged → ((t : ModuleTerm) (ns : List Note) → strip (joined t ns) ≡ t) → ModelsAreDeclared
 models_are_declared judged leaves m t p e =
     let is = judged m t p e in
-    of_heads m t p is.heads (λ i l. has_metamodel m p i (subst (λ (h : Heads). Below (length m.metamodels) (row_at h.models.rows i).metamodel) (sym is.heads) (untold_known m t is.heads_untold i l)))
+    of_heads m t p is.heads (λ i l. has_metamodel m p i (subst (λ (h : DeclaredHeads). Below (length m.metamodels) (row_at h.models.rows i).metamodel) (sym is.heads) (untold_known m t is.heads_untold i l)))

@@ -6,8 +6,8 @@ use Rattle.std.proofs.lemmas.Bool.{eq-eqb}
 use Rattle.std.proofs.lemmas.Slice.Eq.{bytes_eq-Decides}
 use Rattle.qvt_metamodel.specs.Metamodels.{Metamodels, is_element}
 use Rattle.qvt_metamodel.specs.Descends.{descends, reaches}
-use Rattle.qvt_types_units.specs.declared.choice.Found.{Found}
-use Rattle.qvt_types_units.specs.declared.choice.Found.TheVariants.{NoUnit, Untyped}
+use Rattle.qvt_types_units.specs.declared.choice.FoundUnit.{FoundUnit}
+use Rattle.qvt_types_units.specs.declared.choice.FoundUnit.TheVariants.{NoUnit, Untyped}
 use Rattle.qvt_types_units.specs.declared.signature.HeadClass.{HeadClass}
 use Rattle.qvt_types_units.specs.declared.signature.HeadClass.TheVariants.{Missing, Unknown, Known}
 use Rattle.qvt_types_units.specs.declared.signature.Signature.{Signature}
@@ -35,7 +35,7 @@ module _ (m : Metamodels) (us : List Signature) where
   by ns c false true x none h = ap inner h ∙ sym (none_of (candidates m us ns c) none)
   by ns c false false x none h = where_clear (is_ambiguous m us ns c) (chosen m us ns c) x h
 
-  pub told_is : (ns : List ℕ) (c : ℕ) (f : Found) (x : Option ℕ) → f ≡ looked_up m us ns c → Some x ≡ told f → x ≡ chosen m us ns c
+  pub told_is : (ns : List ℕ) (c : ℕ) (f : FoundUnit) (x : Option ℕ) → f ≡ looked_up m us ns c → Some x ≡ told f → x ≡ chosen m us ns c
   told_is ns c f x is h = by ns c (is_unsure us ns) (is_empty (candidates m us ns c)) x refl (h ∙ ap told is)
 
   -- one unit alone

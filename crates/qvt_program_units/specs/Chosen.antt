@@ -4,8 +4,8 @@ use Rattle.std.specs.List.{filter_map}
 use Rattle.qvt_base.specs.declared.numbers.MappingNo.{MappingNo}
 use Rattle.qvt_metamodel.specs.Metamodels.{Metamodels}
 use Rattle.qvt_metamodel.specs.Descends.{descends}
-use Rattle.qvt_types_units.specs.declared.choice.Found.{Found}
-use Rattle.qvt_types_units.specs.declared.choice.Found.TheVariants.{NoUnit, Untyped, Unclear, Chosen}
+use Rattle.qvt_types_units.specs.declared.choice.FoundUnit.{FoundUnit}
+use Rattle.qvt_types_units.specs.declared.choice.FoundUnit.TheVariants.{NoUnit, Untyped, Unclear, Chosen}
 use Rattle.qvt_types_units.specs.declared.signature.HeadClass.{HeadClass}
 use Rattle.qvt_types_units.specs.declared.signature.HeadClass.TheVariants.{Missing, Unknown, Known}
 use Rattle.qvt_types_units.specs.Choice as units
@@ -28,11 +28,11 @@ abbrev pub units_like : ProgramTerm → ℕ → List ℕ
 units_like p n = group_of p.heads.units n
 
 -- what typing finds among these, for a class
-abbrev pub found_among : ProgramTerm → List ℕ → ℕ → Found
+abbrev pub found_among : ProgramTerm → List ℕ → ℕ → FoundUnit
 found_among p ns c = units.looked_up p.heads.metas p.heads.units ns c
 
 -- the choice that this tells, if it tells it
-abbrev pub told : Found → Option (Option ℕ)
+abbrev pub told : FoundUnit → Option (Option ℕ)
 told NoUnit = Some None
 told (Chosen n) = Some (Some n)
 told Untyped = None

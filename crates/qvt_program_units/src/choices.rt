@@ -12,7 +12,7 @@ use qvt_base::list_fault::ListFault;
 use qvt_base::numbers::ClassNo;
 use qvt_metas::metas::Metas;
 use qvt_types_program::program::Program;
-use qvt_types_units::choice::{Found, chosen, context_at};
+use qvt_types_units::choice::{FoundUnit, chosen, context_at};
 use qvt_types_units::numbers::is_mapping;
 use qvt_types_units::signature::HeadClass;
 use std::alloc::Global;
@@ -34,7 +34,7 @@ fn found_like(
     program: &Program,
     number: u32,
     class: ClassNo,
-) -> Result<Found, ListFault>
+) -> Result<FoundUnit, ListFault>
     ensures { IfOk result (λ f. f ≡ chosen.found_among (program_view program.now) (chosen.units_like (program_view program.now) number) class.0) }
 {
     let none = no_unit(alloc);
@@ -46,14 +46,14 @@ fn found_like(
 }
 
 /// The choice that what is found tells, if it tells it.
-fn told(found: Found) -> Option<Option<u32>>
+fn told(found: FoundUnit) -> Option<Option<u32>>
     ensures { result ≡ chosen.told found }
 {
     match found {
-        Found::NoUnit => Some(None),
-        Found::Untyped => None,
-        Found::Unclear => None,
-        Found::Chosen(number) => Some(Some(number)),
+        FoundUnit::NoUnit => Some(None),
+        FoundUnit::Untyped => None,
+        FoundUnit::Unclear => None,
+        FoundUnit::Chosen(number) => Some(Some(number)),
     }
 }
 

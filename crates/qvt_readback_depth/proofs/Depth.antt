@@ -9,8 +9,8 @@ use Rattle.qvt_language_rows.proofs.Every.{every_module}
 use Rattle.qvt_parser_tokens.specs.declared.depth.Open.{Open}
 use Rattle.qvt_parser_tokens.specs.Depth.{after, begins_statement, deep_from}
 use Rattle.qvt_printer.specs.Units.{module_pieces}
-use Rattle.qvt_printer_layout.specs.declared.piece.Piece.{Piece}
-use Rattle.qvt_printer_layout.specs.declared.piece.Piece.TheVariants.{Plain, Name, Integer, Quoted, Tight, Line, Indent, Dedent}
+use Rattle.qvt_printer_layout.specs.declared.piece.PrintPiece.{PrintPiece}
+use Rattle.qvt_printer_layout.specs.declared.piece.PrintPiece.TheVariants.{Plain, Name, Integer, Quoted, Tight, Line, Indent, Dedent}
 use Rattle.qvt_language.specs.Same.{unplaced}
 use Rattle.qvt_readback_tokens.specs.Spelled.{spelled, all_spelled}
 use Rattle.qvt_readback_depth.specs.Most.{greater, most_from, most}
@@ -46,7 +46,7 @@ unplaced_classes : (us : List Tok) → tc (map unplaced us) ≡ tc us
 unplaced_classes [] = refl
 unplaced_classes (u ∷ us) = ap (λ z. u.class ∷ z) (unplaced_classes us)
 
-spelled_class : (p : Piece) → tc (spelled p) ≡ piece_class p
+spelled_class : (p : PrintPiece) → tc (spelled p) ≡ piece_class p
 spelled_class (Plain c) = refl
 spelled_class (Name n) = refl
 spelled_class (Integer v) = refl
@@ -56,7 +56,7 @@ spelled_class Line = refl
 spelled_class Indent = refl
 spelled_class Dedent = refl
 
-spelled_classes : (ps : List Piece) → tc (all_spelled ps) ≡ pc ps
+spelled_classes : (ps : List PrintPiece) → tc (all_spelled ps) ≡ pc ps
 spelled_classes [] = refl
 spelled_classes (p ∷ ps) = tc_append (spelled p) (all_spelled ps) ∙ ap (λ z. z ++ tc (all_spelled ps)) (spelled_class p) ∙ ap (λ z. piece_class p ++ z) (spelled_classes ps)
 

@@ -27,8 +27,8 @@ use Rattle.qvt_language_rows.proofs.Every.{operators}
 use Rattle.qvt_printer.specs.Expressions as print
 use Rattle.qvt_printer.specs.Levels.{is_as_loose, is_chain, is_chain_or_prefix, tightness}
 use Rattle.qvt_printer_layout.specs.Words as words
-use Rattle.qvt_printer_layout.specs.declared.piece.Piece.{Piece}
-use Rattle.qvt_printer_layout.specs.declared.piece.Piece.TheVariants as piece
+use Rattle.qvt_printer_layout.specs.declared.piece.PrintPiece.{PrintPiece}
+use Rattle.qvt_printer_layout.specs.declared.piece.PrintPiece.TheVariants as piece
 use Rattle.qvt_readback_depth.proofs.Runs.{AllStill}
 use Rattle.qvt_readback_depth.proofs.Pieces.{pc, Cut, IsTok, same, both_cuts, first_two, PStrong, POver, strong_at, over_at, ender_at, as_over, is_still, is_word, Quiet, WordTok, quiet_nil, quiet_none, quiet_tok, quiet_at, quiet_of, pieces_of, no_pieces, keep, skip, word_tok, word_at, word_on, in_brackets, if_whole, ender_last, round_is}
 use Rattle.qvt_readback_depth.proofs.Claims.{After, Before, Between, Perhaps, Many, Series, OneOf, lacking_classes}
@@ -164,19 +164,19 @@ pub extent_is : (n : Option (List ℕ)) {ts : List Tok} → Perhaps (After class
 extent_is n h = quiet_of (print.extent n) (still_extent n) (after_if class.AtSign refl n h)
 
 -- pieces that open and close nothing, before the rest
-pub led : (ps : List Piece) {qs : List Piece} {ts : List Tok} → AllStill (pc ps) → PStrong qs ts → PStrong (ps ++ qs) ts
+pub led : (ps : List PrintPiece) {qs : List PrintPiece} {ts : List Tok} → AllStill (pc ps) → PStrong qs ts → PStrong (ps ++ qs) ts
 led ps h k = strong_at (same {u = []}) (quiet_of ps h quiet_nil) k
 
 pub only : {ts u v : List Tok} → Cut ts u v → v ≡ [] → u ≡ ts
 only {ts} {u} e g = sym (e.is ∙ ap (λ z. u ++ z) g ∙ append-nil u)
 
 -- parts one after the other, and with commas between them
-module _ {A : Type 0} (f : A → List Piece) (fs : List A → List Piece) (none : fs [] ≡ []) (more : (a : A) (as_ : List A) → fs (a ∷ as_) ≡ f a ++ fs as_) where
+module _ {A : Type 0} (f : A → List PrintPiece) (fs : List A → List PrintPiece) (none : fs [] ≡ []) (more : (a : A) (as_ : List A) → fs (a ∷ as_) ≡ f a ++ fs as_) where
   pub many_are : (as_ : List A) {ts : List Tok} → Many (λ us a. PStrong (f a) us) ts as_ → PStrong (fs as_) ts
   many_are [] {ts} h = subst (λ z. PStrong z ts) (sym none) (no_pieces h)
   many_are (a ∷ as_) {ts} h = subst (λ z. PStrong z ts) (sym (more a as_)) (strong_at h.2 h.3 (many_are as_ h.4))
 
-module _ {A : Type 0} (f : A → List Piece) (all later : List A → List Piece) (none : all [] ≡ []) (first : (a : A) (as_ : List A) → all (a ∷ as_) ≡ f a ++ later as_) (no_more : later [] ≡ [])
+module _ {A : Type 0} (f : A → List PrintPiece) (all later : List A → List PrintPiece) (none : all [] ≡ []) (first : (a : A) (as_ : List A) → all (a ∷ as_) ≡ f a ++ later as_) (no_more : later [] ≡ [])
     (more : (a : A) (as_ : List A) → later (a ∷ as_) ≡ piece.Plain class.Comma ∷ (f a ++ later as_)) where
   later_are : (as_ : List A) {ts : List Tok} → Many (After class.Comma (λ us a. POver (f a) us)) ts as_ → PStrong (later as_) ts
   later_are [] {ts} h = subst (λ z. PStrong z ts) (sym no_more) (no_pieces h)
@@ -186,10 +186,10 @@ module _ {A : Type 0} (f : A → List Piece) (all later : List A → List Piece)
   series_are {ts} [] h = subst (λ z. POver z ts) (sym none) (as_over (no_pieces h))
   series_are {ts} (a ∷ as_) h = subst (λ z. POver z ts) (sym (first a as_)) (over_at h.2 h.3 (later_are as_ h.4))
 
-abbrev pub Printed : {A : Type 0} → (A → List Piece) → List Tok → A → Type 0
+abbrev pub Printed : {A : Type 0} → (A → List PrintPiece) → List Tok → A → Type 0
 Printed f ts a = PStrong (f a) ts
 
-abbrev pub Opening : {A : Type 0} → (A → List Piece) → List Tok → A → Type 0
+abbrev pub Opening : {A : Type 0} → (A → List PrintPiece) → List Tok → A → Type 0
 Opening f ts a = POver (f a) ts
 
 -- types
@@ -258,19 +258,19 @@ in_is u v p (Some NoFilter) h k = subst (λ z. PStrong z (u ++ v)) (append-nil (
 in_is u v p (Some (FilterOf n t c place)) h k = strong_at same (path_is p h) (keep {c = class.Comma} refl k.2 k.3 k.4)
 
 -- the arguments of an arrow
-abbrev pub arrow_pieces : HeadTerm × List ExprTerm → List Piece
+abbrev pub arrow_pieces : HeadTerm × List ExprTerm → List PrintPiece
 arrow_pieces a = print.head a.0 ++ print.exprs false (exprs_of a.1)
 
 pub accumulator_if : {ts : List Tok} (a : Option AccumulatorTerm) → Perhaps (Printed print.accumulator) ts a → PStrong (print.accumulator (optional_accumulator a)) ts
 accumulator_if None h = no_pieces h
 accumulator_if (Some a) h = h
 
-after_name : (t a e : List Piece) → (t ++ a) ++ (piece.Plain class.Bar ∷ e) ≡ (t ++ (a ++ print.one class.Bar)) ++ (e ++ [])
+after_name : (t a e : List PrintPiece) → (t ++ a) ++ (piece.Plain class.Bar ∷ e) ≡ (t ++ (a ++ print.one class.Bar)) ++ (e ++ [])
 after_name t a e =
     append_assoc t a (piece.Plain class.Bar ∷ e) ∙ ap (λ z. t ++ (a ++ (piece.Plain class.Bar ∷ z))) (sym (append-nil e))
     ∙ ap (λ z. t ++ z) (sym (append_assoc a (print.one class.Bar) (e ++ []))) ∙ sym (append_assoc t (a ++ print.one class.Bar) (e ++ []))
 
-pub headed_is : {ts u v : List Tok} (n t a e : List Piece) → Cut ts u v → PStrong (n ++ (t ++ a)) u → PStrong (piece.Plain class.Bar ∷ e) v → POver ((n ++ (t ++ (a ++ print.one class.Bar))) ++ (e ++ [])) ts
+pub headed_is : {ts u v : List Tok} (n t a e : List PrintPiece) → Cut ts u v → PStrong (n ++ (t ++ a)) u → PStrong (piece.Plain class.Bar ∷ e) v → POver ((n ++ (t ++ (a ++ print.one class.Bar))) ++ (e ++ [])) ts
 headed_is {ts} n t a e g h k =
     as_over (subst (λ z. PStrong z ts) (append_assoc n (t ++ a) (piece.Plain class.Bar ∷ e) ∙ ap (λ z. n ++ z) (after_name t a e) ∙ sym (append_assoc n (t ++ (a ++ print.one class.Bar)) (e ++ []))) (strong_at g h k))
 
@@ -320,7 +320,7 @@ is_chain_or : (e : ExprTerm) → IsTrue (is_chain e) → IsTrue (is_chain_or_pre
 is_chain_or (ChainExpr l e ls p) h = refl
 is_chain_or _ h = clash h
 
-signs_before : (ss : List Sign) (ps : List Piece) {ts u v : List Tok} → Cut ts u v → Many (λ us s. WordTok us) u ss → POver ps v → POver (print.signs ss ++ ps) ts
+signs_before : (ss : List Sign) (ps : List PrintPiece) {ts u v : List Tok} → Cut ts u v → Many (λ us s. WordTok us) u ss → POver ps v → POver (print.signs ss ++ ps) ts
 signs_before [] ps {v = v} g k h = subst (λ z. POver ps z) (sym (g.is ∙ ap (λ z. z ++ v) k)) h
 signs_before (s ∷ ss) ps {v = v} g k h =
     as_over (word_at (words.prefix_sign s.op) (word_sign s.op) (record { is = g.is ∙ ap (λ z. z ++ v) k.2.is ∙ append_assoc k.0 k.1 v }) k.3 (signs_before ss ps same k.4 h))

@@ -8,19 +8,19 @@ use Rattle.qvt_tree_types.specs.declared.words.Level.TheVariants as levels
 use Rattle.qvt_language.specs.Tokens.{Tok}
 use Rattle.qvt_language.specs.StmtTrees.{is_adding}
 use Rattle.qvt_language.specs.Trees.{binary_op, coll_kind, is_strict, is_there}
-use Rattle.qvt_language.specs.UnitTrees.{model_type_of, class_of, main_of, constructor_of}
+use Rattle.qvt_language.specs.UnitTrees.{model_type_of, class_unit_of, main_of, constructor_of}
 use Rattle.qvt_language.specs.declared.class.Class.TheVariants as class
 use Rattle.qvt_language_rows.specs.Phrase.{Phrase}
 use Rattle.qvt_language_rows.specs.Language.{inside}
-use Rattle.qvt_language_rows.specs.Units.{«Unit»}
+use Rattle.qvt_language_rows.specs.Units.{UnitRow}
 use Rattle.qvt_language_rows.specs.Values.{name_text}
 use Rattle.qvt_language_rows.proofs.Every.{Said, ByRow, MakersBy, kinds, alls, ins, loosened}
 use Rattle.qvt_printer.specs.Expressions as print
 use Rattle.qvt_printer.specs.Units as printed
 use Rattle.qvt_printer.specs.Levels.{is_as_loose, is_chain_or_prefix, tightness}
 use Rattle.qvt_printer_layout.specs.Words as words
-use Rattle.qvt_printer_layout.specs.declared.piece.Piece.{Piece}
-use Rattle.qvt_printer_layout.specs.declared.piece.Piece.TheVariants as piece
+use Rattle.qvt_printer_layout.specs.declared.piece.PrintPiece.{PrintPiece}
+use Rattle.qvt_printer_layout.specs.declared.piece.PrintPiece.TheVariants as piece
 use Rattle.qvt_readback_depth.proofs.Turns.{Turns, turns_empty}
 use Rattle.qvt_readback_depth.proofs.Pieces.{Cut, IsTok, same, all_same, peel, both_cuts, last_two, strong_at, over_at, as_over, as_turns, ends_more, Quiet, WordTok, quiet_tok, quiet_at, quiet_word, quiet_of, pieces_of, none_of, no_pieces, keep, skip, word_tok, word_at, word_on, in_brackets, without_brackets, in_braces, in_item_braces, in_blocks, in_turns}
 use Rattle.qvt_readback_depth.proofs.Claims.{Claim, Has, such, lacks_at, lacks_tok, token_of, many_of, forms}
@@ -33,10 +33,10 @@ use Rattle.qvt_readback_depth.proofs.Modules.{ReadUnit, UnitsAre, no_units, one_
 abbrev plain : {A : Type 0} → (List Tok → A → Type 0) → Claim A
 plain p = record { says = p; lacks = true }
 
-abbrev prints : {A : Type 0} → (A → List Piece) → Claim A
+abbrev prints : {A : Type 0} → (A → List PrintPiece) → Claim A
 prints f = plain (Printed f)
 
-abbrev opens : {A : Type 0} → (A → List Piece) → Claim A
+abbrev opens : {A : Type 0} → (A → List PrintPiece) → Claim A
 opens f = plain (Opening f)
 
 abbrev quiet : {A : Type 0} → Claim A
@@ -49,10 +49,10 @@ idle = prints (λ a. [])
 abbrev any : {A : Type 0} → (List Tok → A → Type 0) → Claim A
 any p = record { says = p; lacks = false }
 
-abbrev block_of : List StmtTerm → List Piece
+abbrev block_of : List StmtTerm → List PrintPiece
 block_of ss = print.block (stmts_of ss)
 
-abbrev guarded : ExprTerm → List Piece
+abbrev guarded : ExprTerm → List PrintPiece
 guarded e = piece.Plain class.OpenBrace ∷ (print.expr e ++ print.one class.CloseBrace)
 
 -- a closing brace, with what may stand before it
@@ -131,7 +131,7 @@ climbs levels.Or h = next levels.Or levels.Xor refl h
 climbs levels.Xor h = next levels.Xor levels.Implies refl h
 climbs levels.Implies h = record { all = λ ts e rd. (h.all ts e rd).plain; lacks = h.lacks }
 
-pub read_unit : (n : ℕ) → Has UnitTerm (any UnitIs) («Unit» (inside n)) → Has UnitTerm (any ReadUnit) («Unit» (inside n))
+pub read_unit : (n : ℕ) → Has UnitTerm (any UnitIs) (UnitRow (inside n)) → Has UnitTerm (any ReadUnit) (UnitRow (inside n))
 read_unit n h = record { all = λ ts u rd. (h.all ts u rd, (n, rd)); lacks = h.lacks }
 
 abbrev by_row : ByRow forms said
@@ -265,7 +265,7 @@ makers = record {
   class_of = (
     (λ e. clash e),
     λ ts a h. (let x = h.4 in let y = x.4 in let z = y.4 in let b = z.4 in
-        unit_is (class_of a) (λ f s. refl) h.2 h.3 (keep {c = class.IntermediateWord} refl h.2 h.3 (keep {c = class.ClassWord} refl x.2 x.3 (strong_at y.2 (name_is a.1.0.text y.3)
+        unit_is (class_unit_of a) (λ f s. refl) h.2 h.3 (keep {c = class.IntermediateWord} refl h.2 h.3 (keep {c = class.ClassWord} refl x.2 x.3 (strong_at y.2 (name_is a.1.0.text y.3)
         (strong_at z.2 (supers_are a.1.1.0 z.3) (in_blocks b.3 b.4 (as_over (features_are a.1.1.1 b.5)) b.6)))))),
   );
   main_of = (

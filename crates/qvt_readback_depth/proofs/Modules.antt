@@ -8,11 +8,11 @@ use Rattle.qvt_language.specs.Tokens.{Tok}
 use Rattle.qvt_language.specs.UnitTrees.{units_of, module_of}
 use Rattle.qvt_readback_depth.proofs.Claims.{Many}
 use Rattle.qvt_language_rows.specs.Language.{inside, Is}
-use Rattle.qvt_language_rows.specs.Units.{«Unit»}
+use Rattle.qvt_language_rows.specs.Units.{UnitRow}
 use Rattle.qvt_printer.specs.Units as printed
 use Rattle.qvt_printer.specs.Units.{module_pieces}
-use Rattle.qvt_printer_layout.specs.declared.piece.Piece.{Piece}
-use Rattle.qvt_printer_layout.specs.declared.piece.Piece.TheVariants as piece
+use Rattle.qvt_printer_layout.specs.declared.piece.PrintPiece.{PrintPiece}
+use Rattle.qvt_printer_layout.specs.declared.piece.PrintPiece.TheVariants as piece
 use Rattle.qvt_readback_depth.specs.Most.{most}
 use Rattle.qvt_readback_depth.specs.Law.{gets_block, HasFullUnit}
 use Rattle.qvt_readback_depth.proofs.Runs.{items_after, fresh_after, Below, below_front, below_back, below_join}
@@ -23,20 +23,20 @@ use Rattle.qvt_readback_depth.proofs.Exprs.{Printed, many_are}
 use Rattle.qvt_readback_depth.proofs.Units.{PWide, slack, slack_one, wide_of, wide_more, wide_after, UnitIs, header_pieces}
 
 -- at most n items are open in these pieces, where none is before
-abbrev Fits : ℕ → List Piece → Type 0
+abbrev Fits : ℕ → List PrintPiece → Type 0
 Fits n ps = (f : Bool) → Below n f [] (pc ps)
 
-abbrev Closed : List Piece → Type 0
+abbrev Closed : List PrintPiece → Type 0
 Closed ps = (f : Bool) → items_after f [] (pc ps) ≡ []
 
-fits_more : (n : ℕ) (a b : List Piece) → Closed a → Fits n a → Fits n b → Fits n (a ++ b)
+fits_more : (n : ℕ) (a b : List PrintPiece) → Closed a → Fits n a → Fits n b → Fits n (a ++ b)
 fits_more n a b e h k f = subst (Below n f []) (sym (pc_append a b)) (below_join n f [] (pc a) (pc b) (h f) (subst (λ z. Below n (fresh_after f (pc a)) z (pc b)) (sym (e f)) (k (fresh_after f (pc a)))))
 
 -- what printing a part of the text with these units gives
-abbrev Fit : ℕ → List Piece → List Tok → List UnitTerm → Type 0
+abbrev Fit : ℕ → List PrintPiece → List Tok → List UnitTerm → Type 0
 Fit n ps ts us = Fits n ps ⊎ HasFullUnit n ts us
 
-abbrev Bounded : List Piece → List Tok → List UnitTerm → Type 0
+abbrev Bounded : List PrintPiece → List Tok → List UnitTerm → Type 0
 Bounded ps ts us = (n : ℕ) (f : Bool) → Below n f [] (tc ts) → Fit n ps ts us
 
 -- a full unit, with more around it
@@ -71,7 +71,7 @@ full_back n u v us vs h = record {
 }
 
 -- a part after the other
-bounded_more : (a b : List Piece) (u v : List Tok) (us vs : List UnitTerm) → PWide 1 a u → Bounded a u us → Bounded b v vs → Bounded (a ++ b) (u ++ v) (us ++ vs)
+bounded_more : (a b : List PrintPiece) (u v : List Tok) (us vs : List UnitTerm) → PWide 1 a u → Bounded a u us → Bounded b v vs → Bounded (a ++ b) (u ++ v) (us ++ vs)
 bounded_more a b u v us vs w h k n f l = both (h n f (below_front n f [] (tc u) (tc v) whole)) (k n (fresh_after f (tc u)) rest) where
   whole : Below n f [] (tc u ++ tc v)
   whole = subst (Below n f []) (tc_append u v) l
@@ -85,11 +85,11 @@ bounded_more a b u v us vs w h k n f l = both (h n f (below_front n f [] (tc u) 
   both (inr x) y = inr (full_front n u v us vs x)
 
 -- what is no unit
-bounded_strong : (a : List Piece) (u : List Tok) → PStrong a u → Bounded a u []
+bounded_strong : (a : List PrintPiece) (u : List Tok) → PStrong a u → Bounded a u []
 bounded_strong a u h n f l = inl (λ g. subst (λ z. Below z g [] (pc a)) (omega arith) (h.is.low 0 g f [] [] (omega arith) n l))
 
 -- one unit
-one_bounded : (own : List Tok) (u : UnitTerm) → Is «Unit» own u → UnitIs own u → Bounded (printed.unit u) own (u ∷ [])
+one_bounded : (own : List Tok) (u : UnitTerm) → Is UnitRow own u → UnitIs own u → Bounded (printed.unit u) own (u ∷ [])
 one_bounded own u reads h n f l = by (gets_block own u) refl where
   kept : gets_block own u ≡ false → Fits n (printed.unit u)
   kept e g =
@@ -129,7 +129,7 @@ one_bounded own u reads h n f l = by (gets_block own u) refl where
 
 -- the units of a text
 abbrev pub ReadUnit : List Tok → UnitTerm → Type 0
-ReadUnit ts u = UnitIs ts u × ((n : ℕ) × «Unit» (inside n) ts u)
+ReadUnit ts u = UnitIs ts u × ((n : ℕ) × UnitRow (inside n) ts u)
 
 pub record UnitsAre (ts : List Tok) (us : List UnitTerm) : Type 0 where
   pub wide : PWide 1 (printed.units us) ts
@@ -148,7 +148,7 @@ no_units {ts} q = record { wide = wide_of 1 (none_of q); bounded = bounded_stron
 pub one_unit : {ts : List Tok} (u : UnitTerm) → ReadUnit ts u → UnitsAre ts (u ∷ [])
 one_unit {ts} u (h, (n, rd)) =
     let wide : PWide 1 (printed.unit u) ts = wide_up (slack (gets_block ts u)) 1 (slack_one (gets_block ts u)) h.wide in
-    let reads : Is «Unit» ts u = record { nesting = n; is = rd } in
+    let reads : Is UnitRow ts u = record { nesting = n; is = rd } in
     record {
       wide = subst (PWide 1 (printed.units (u ∷ []))) (append-nil ts) (wide_more 1 (printed.unit u) (piece.Line ∷ []) ts [] wide (wide_of 1 line));
       bounded = subst (λ z. Bounded (printed.units (u ∷ [])) z (u ∷ [])) (append-nil ts) (bounded_more (printed.unit u) (piece.Line ∷ []) ts [] (u ∷ []) [] wide (one_bounded ts u reads h) (bounded_strong (piece.Line ∷ []) [] line));

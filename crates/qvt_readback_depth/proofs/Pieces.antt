@@ -4,13 +4,13 @@ use Rattle.qvt_language.specs.Tokens.{Tok}
 use Rattle.qvt_language.specs.declared.class.Class.{Class}
 use Rattle.qvt_language.specs.declared.class.Class.TheVariants as class
 use Rattle.qvt_language.specs.declared.class.Class.TheVariants.{OpenRound, CloseRound, OpenBrace, CloseBrace, Semicolon, IfWord, EndifWord}
-use Rattle.qvt_printer_layout.specs.declared.piece.Piece.{Piece}
-use Rattle.qvt_printer_layout.specs.declared.piece.Piece.TheVariants.{Plain, Name, Integer, Quoted, Tight, Line, Indent, Dedent}
+use Rattle.qvt_printer_layout.specs.declared.piece.PrintPiece.{PrintPiece}
+use Rattle.qvt_printer_layout.specs.declared.piece.PrintPiece.TheVariants.{Plain, Name, Integer, Quoted, Tight, Line, Indent, Dedent}
 use Rattle.qvt_printer.specs.Expressions.{in_round, in_block, in_items, round_if}
 use Rattle.qvt_readback_depth.proofs.Runs.{Still, AllStill, Word, Strong, Over, Inside, Ender, strong_then, strong_still, over_then, word_over, inside_over, round_inside, brace_inside, over_bare, over_strong, ender_then, ender_endif, if_over, all_still_append}
 use Rattle.qvt_readback_depth.proofs.Turns.{Turns, Ends, turns_over, turns_then, turns_inside, ends_append}
 
-abbrev pub piece_class : Piece → List Class
+abbrev pub piece_class : PrintPiece → List Class
 piece_class (Plain c) = c ∷ []
 piece_class (Name n) = class.Name ∷ []
 piece_class (Integer v) = class.Integer ∷ []
@@ -20,7 +20,7 @@ piece_class Line = []
 piece_class Indent = []
 piece_class Dedent = []
 
-abbrev pub pc : List Piece → List Class
+abbrev pub pc : List PrintPiece → List Class
 pc [] = []
 pc (p ∷ ps) = piece_class p ++ pc ps
 
@@ -28,7 +28,7 @@ abbrev pub tc : List Tok → List Class
 tc [] = []
 tc (t ∷ ts) = t.class ∷ tc ts
 
-pub pc_append : (a b : List Piece) → pc (a ++ b) ≡ pc a ++ pc b
+pub pc_append : (a b : List PrintPiece) → pc (a ++ b) ≡ pc a ++ pc b
 pc_append [] b = refl
 pc_append (p ∷ a) b = ap (λ z. piece_class p ++ z) (pc_append a b) ∙ sym (append_assoc (piece_class p) (pc a) (pc b))
 
@@ -42,7 +42,7 @@ tc_one u v e = tc_append u v ∙ ap (λ z. z ++ tc v) e
 pub tc_last : {c : Class} (v w : List Tok) → tc w ≡ c ∷ [] → tc (v ++ w) ≡ tc v ++ (c ∷ [])
 tc_last v w e = tc_append v w ∙ ap (λ z. tc v ++ z) e
 
-pub moved : (P : List Class → List Class → Type 0) (a b : List Piece) (x y : List Tok) → P (pc a ++ pc b) (tc x ++ tc y) → P (pc (a ++ b)) (tc (x ++ y))
+pub moved : (P : List Class → List Class → Type 0) (a b : List PrintPiece) (x y : List Tok) → P (pc a ++ pc b) (tc x ++ tc y) → P (pc (a ++ b)) (tc (x ++ y))
 moved P a b x y h = subst (λ z. P z (tc (x ++ y))) (sym (pc_append a b)) (subst (P (pc a ++ pc b)) (sym (tc_append x y)) h)
 
 -- tokens that are the one list and then the other, or three lists, and one token of the class
@@ -74,20 +74,20 @@ pub last_two : {ts u v w : List Tok} → Cuts ts u v w → Cut ts u (v ++ w)
 last_two e = record { is = e.is }
 
 -- what is printed and what is read, by the ways that they open and close items
-pub record PStrong (ps : List Piece) (ts : List Tok) : Type 0 where
+pub record PStrong (ps : List PrintPiece) (ts : List Tok) : Type 0 where
   pub is : Strong (pc ps) (tc ts)
 
-pub record POver (ps : List Piece) (ts : List Tok) : Type 0 where
+pub record POver (ps : List PrintPiece) (ts : List Tok) : Type 0 where
   pub is : Over (pc ps) (tc ts)
 
-pub record PEnder (ps : List Piece) (ts : List Tok) : Type 0 where
+pub record PEnder (ps : List PrintPiece) (ts : List Tok) : Type 0 where
   pub is : Ender (pc ps) (tc ts)
 
-pub record PTurns (ps : List Piece) (ts : List Tok) : Type 0 where
+pub record PTurns (ps : List PrintPiece) (ts : List Tok) : Type 0 where
   pub is : Turns (pc ps) (tc ts)
 
 -- the one, and then the other
-module _ {a b : List Piece} {ts u v : List Tok} (e : Cut ts u v) where
+module _ {a b : List PrintPiece} {ts u v : List Tok} (e : Cut ts u v) where
   pub strong_at : PStrong a u → PStrong b v → PStrong (a ++ b) ts
   strong_at h k = record { is = subst (λ z. Strong (pc (a ++ b)) (tc z)) (sym e.is) (moved Strong a b u v (strong_then h.is k.is)) }
 
@@ -100,13 +100,13 @@ module _ {a b : List Piece} {ts u v : List Tok} (e : Cut ts u v) where
   pub turns_at : PTurns a u → PTurns b v → PTurns (a ++ b) ts
   turns_at h k = record { is = subst (λ z. Turns (pc (a ++ b)) (tc z)) (sym e.is) (moved Turns a b u v (turns_then h.is k.is)) }
 
-pub as_over : {ps : List Piece} {ts : List Tok} → PStrong ps ts → POver ps ts
+pub as_over : {ps : List PrintPiece} {ts : List Tok} → PStrong ps ts → POver ps ts
 as_over h = record { is = over_strong h.is }
 
-pub ends_more : (a b : List Piece) → Ends (pc b) → Ends (pc (a ++ b))
+pub ends_more : (a b : List PrintPiece) → Ends (pc b) → Ends (pc (a ++ b))
 ends_more a b h = subst Ends (sym (pc_append a b)) (ends_append (pc a) (pc b) h)
 
-pub as_turns : {ps : List Piece} {ts : List Tok} → POver ps ts → Ends (pc ps) → PTurns ps ts
+pub as_turns : {ps : List PrintPiece} {ts : List Tok} → POver ps ts → Ends (pc ps) → PTurns ps ts
 as_turns h e = record { is = turns_over h.is e }
 
 -- what opens and closes nothing, and after which besides an `if` begins no statement
@@ -196,10 +196,10 @@ pub word_tok : {c : Class} {ts : List Tok} → IsTrue (is_word c) → IsTok c ts
 word_tok {c} h e = record { class = c; word = h; is = e.is }
 
 -- pieces that open and close nothing, for such tokens
-pub quiet_of : (ps : List Piece) {ts : List Tok} → AllStill (pc ps) → Quiet ts → PStrong ps ts
+pub quiet_of : (ps : List PrintPiece) {ts : List Tok} → AllStill (pc ps) → Quiet ts → PStrong ps ts
 quiet_of ps {ts} h k = record { is = strong_still (pc ps) (tc ts) h k.is }
 
-pub pieces_of : (ps : List Piece) {ts : List Tok} → IsTrue (are_still (pc ps)) → Quiet ts → PStrong ps ts
+pub pieces_of : (ps : List PrintPiece) {ts : List Tok} → IsTrue (are_still (pc ps)) → Quiet ts → PStrong ps ts
 pieces_of ps h k = quiet_of ps (all_still (pc ps) h) k
 
 pub none_of : {ts : List Tok} → Quiet ts → PStrong [] ts
@@ -209,7 +209,7 @@ pub no_pieces : {ts : List Tok} → ts ≡ [] → PStrong [] ts
 no_pieces e = none_of (quiet_none e)
 
 -- a token that is printed, or is not, before the rest
-module _ {ps : List Piece} {ts u v : List Tok} {c : Class} (h : IsTrue (is_still c)) (e : Cut ts u v) (x : IsTok c u) where
+module _ {ps : List PrintPiece} {ts u v : List Tok} {c : Class} (h : IsTrue (is_still c)) (e : Cut ts u v) (x : IsTok c u) where
   pub keep : PStrong ps v → PStrong (Plain c ∷ ps) ts
   keep k = strong_at {a = Plain c ∷ []} e (quiet_of (Plain c ∷ []) (still c h, tt) (quiet_tok h x)) k
 
@@ -217,31 +217,31 @@ module _ {ps : List Piece} {ts u v : List Tok} {c : Class} (h : IsTrue (is_still
   skip k = strong_at {a = []} e (none_of (quiet_tok h x)) k
 
 -- a word, and what may begin with `if`
-pub word_at : (c : Class) → IsTrue (is_word c) → {ps : List Piece} {ts u v : List Tok} → Cut ts u v → WordTok u → POver ps v → PStrong (Plain c ∷ ps) ts
+pub word_at : (c : Class) → IsTrue (is_word c) → {ps : List PrintPiece} {ts u v : List Tok} → Cut ts u v → WordTok u → POver ps v → PStrong (Plain c ∷ ps) ts
 word_at c w {ps} {ts} {u} {v} e x h = record { is = subst (Strong (c ∷ pc ps)) (sym (ap tc e.is ∙ tc_one u v x.is)) (word_over c x.class (word c w) (word x.class x.word) h.is) }
 
-pub word_on : {c : Class} → IsTrue (is_word c) → {ps : List Piece} {ts u v : List Tok} → Cut ts u v → IsTok c u → POver ps v → PStrong (Plain c ∷ ps) ts
+pub word_on : {c : Class} → IsTrue (is_word c) → {ps : List PrintPiece} {ts u v : List Tok} → Cut ts u v → IsTok c u → POver ps v → PStrong (Plain c ∷ ps) ts
 word_on {c} w e x h = word_at c w e (word_tok w x) h
 
 -- through the closing bracket
 between_toks : {c d : Class} {ts u v w : List Tok} → Cuts ts u v w → IsTok c u → IsTok d w → tc ts ≡ c ∷ (tc v ++ (d ∷ []))
 between_toks {c} {d} {ts} {u} {v} {w} e x z = ap tc e.is ∙ tc_one u (v ++ w) x.is ∙ ap (λ q. c ∷ q) (tc_append v w ∙ ap (λ q. tc v ++ q) z.is)
 
-pub in_brackets : {ps : List Piece} {ts u v w : List Tok} → Cuts ts u v w → IsTok class.OpenRound u → POver ps v → IsTok class.CloseRound w → PStrong (in_round ps) ts
+pub in_brackets : {ps : List PrintPiece} {ts u v w : List Tok} → Cuts ts u v w → IsTok class.OpenRound u → POver ps v → IsTok class.CloseRound w → PStrong (in_round ps) ts
 in_brackets {ps} {v = v} e x h z = record {
   is = subst (λ q. Strong (pc (in_round ps)) q) (sym (between_toks e x z))
       (subst (λ q. Strong (class.OpenRound ∷ q) (class.OpenRound ∷ (tc v ++ (class.CloseRound ∷ [])))) (sym (pc_append ps (Plain class.CloseRound ∷ []))) (round_inside (inside_over false class.CloseRound (λ f s. refl) h.is)));
 }
 
 -- brackets that are not printed
-pub without_brackets : {ps : List Piece} {ts u v w : List Tok} → Cuts ts u v w → IsTok class.OpenRound u → POver ps v → IsTok class.CloseRound w → POver ps ts
+pub without_brackets : {ps : List PrintPiece} {ts u v w : List Tok} → Cuts ts u v w → IsTok class.OpenRound u → POver ps v → IsTok class.CloseRound w → POver ps ts
 without_brackets {ps} e x h z = record { is = subst (Over (pc ps)) (sym (between_toks e x z)) (over_bare h.is) }
 
-braces : (ps qs : List Piece) {ts u v w : List Tok} → Cuts ts u v w → pc qs ≡ class.CloseBrace ∷ [] → IsTok class.OpenBrace u → Inside true (pc ps ++ (class.CloseBrace ∷ [])) (tc v ++ (class.CloseBrace ∷ [])) → IsTok class.CloseBrace w → Strong (class.OpenBrace ∷ pc (ps ++ qs)) (tc ts)
+braces : (ps qs : List PrintPiece) {ts u v w : List Tok} → Cuts ts u v w → pc qs ≡ class.CloseBrace ∷ [] → IsTok class.OpenBrace u → Inside true (pc ps ++ (class.CloseBrace ∷ [])) (tc v ++ (class.CloseBrace ∷ [])) → IsTok class.CloseBrace w → Strong (class.OpenBrace ∷ pc (ps ++ qs)) (tc ts)
 braces ps qs {v = v} e k x h z = subst (Strong (class.OpenBrace ∷ pc (ps ++ qs))) (sym (between_toks e x z))
     (subst (λ q. Strong (class.OpenBrace ∷ q) (class.OpenBrace ∷ (tc v ++ (class.CloseBrace ∷ [])))) (sym (pc_append ps qs ∙ ap (λ q. pc ps ++ q) k)) (brace_inside h))
 
-module _ {ps : List Piece} {ts u v w : List Tok} (e : Cuts ts u v w) (x : IsTok class.OpenBrace u) where
+module _ {ps : List PrintPiece} {ts u v w : List Tok} (e : Cuts ts u v w) (x : IsTok class.OpenBrace u) where
   pub in_braces : POver ps v → IsTok class.CloseBrace w → PStrong (Plain class.OpenBrace ∷ (ps ++ (Plain class.CloseBrace ∷ []))) ts
   in_braces h z = record { is = braces ps (Plain class.CloseBrace ∷ []) e refl x (inside_over true class.CloseBrace (λ f s. refl) h.is) z }
 
@@ -254,17 +254,17 @@ module _ {ps : List Piece} {ts u v w : List Tok} (e : Cuts ts u v w) (x : IsTok 
   pub in_turns : PTurns ps v → IsTok class.CloseBrace w → PStrong (in_block ps) ts
   in_turns h z = record { is = braces ps (Dedent ∷ Line ∷ Plain class.CloseBrace ∷ []) e refl x (turns_inside h.is) z }
 
-pub ends_block : (ps : List Piece) → Ends (pc (in_block ps))
+pub ends_block : (ps : List PrintPiece) → Ends (pc (in_block ps))
 ends_block ps f = ends_more ps (Dedent ∷ Line ∷ Plain class.CloseBrace ∷ []) (λ g. refl) true
 
 -- a conditional
-pub if_whole : {a b : List Piece} {ts u x y : List Tok} → Cuts ts u x y → IsTok class.IfWord u → POver a x → PEnder b y → POver (Plain class.IfWord ∷ (a ++ b)) ts
+pub if_whole : {a b : List PrintPiece} {ts u x y : List Tok} → Cuts ts u x y → IsTok class.IfWord u → POver a x → PEnder b y → POver (Plain class.IfWord ∷ (a ++ b)) ts
 if_whole {a} {b} {ts} {u} {x} {y} g e h k = record { is = subst (Over (class.IfWord ∷ pc (a ++ b))) (sym (ap tc g.is ∙ tc_one u (x ++ y) e.is)) (moved (λ us ws. Over (class.IfWord ∷ us) (class.IfWord ∷ ws)) a b x y (if_over h.is k.is)) }
 
 pub ender_last : {ts : List Tok} → IsTok class.EndifWord ts → PEnder (Plain class.EndifWord ∷ []) ts
 ender_last e = record { is = subst (Ender (class.EndifWord ∷ [])) (sym e.is) ender_endif }
 
 -- brackets where they have to be
-pub round_is : (b : Bool) {ps : List Piece} {ts : List Tok} → (IsTrue b → POver (in_round ps) ts) → POver ps ts → POver (round_if b ps) ts
+pub round_is : (b : Bool) {ps : List PrintPiece} {ts : List Tok} → (IsTrue b → POver (in_round ps) ts) → POver ps ts → POver (round_if b ps) ts
 round_is true h k = h refl
 round_is false h k = k

@@ -10,8 +10,8 @@ use Rattle.qvt_language.specs.declared.class.Class.TheVariants as class
 use Rattle.qvt_printer.specs.Expressions as print
 use Rattle.qvt_printer.specs.Levels.{is_chain_or_prefix}
 use Rattle.qvt_printer_layout.specs.Words as words
-use Rattle.qvt_printer_layout.specs.declared.piece.Piece.{Piece}
-use Rattle.qvt_printer_layout.specs.declared.piece.Piece.TheVariants as piece
+use Rattle.qvt_printer_layout.specs.declared.piece.PrintPiece.{PrintPiece}
+use Rattle.qvt_printer_layout.specs.declared.piece.PrintPiece.TheVariants as piece
 use Rattle.qvt_readback_depth.proofs.Runs.{fresh_after, fresh_append}
 use Rattle.qvt_readback_depth.proofs.Turns.{Turns, Ends, Leaves, leaves_none, leaves_endif, turns_nil, turns_if}
 use Rattle.qvt_readback_depth.proofs.Pieces.{pc, tc, pc_append, tc_append, tc_one, Cut, IsTok, PStrong, POver, PTurns, over_at, turns_at, as_turns, ends_more, is_word, quiet_nil, quiet_tok, pieces_of, no_pieces, keep, word_on, ends_block}
@@ -20,7 +20,7 @@ use Rattle.qvt_readback_depth.proofs.Exprs.{Opening, Printed, ExprIs, in_place}
 
 -- statements without the `;`
 pub record SimpleIs (ts : List Tok) (s : StmtTerm) : Type 0 where
-  pub pieces : List Piece
+  pub pieces : List PrintPiece
   pub same : print.stmt s ≡ print.ended pieces
   pub over : POver pieces ts
 
@@ -63,13 +63,13 @@ last_is None h = no_stmts h
 last_is (Some s) h = one_stmt s (open_is s h)
 
 -- after a block an `if` begins a statement
-abbrev Keeps : List Piece → Type 0
+abbrev Keeps : List PrintPiece → Type 0
 Keeps ps = fresh_after true (pc ps) ≡ true
 
-keeps_append : (a b : List Piece) → Keeps a → Keeps b → Keeps (a ++ b)
+keeps_append : (a b : List PrintPiece) → Keeps a → Keeps b → Keeps (a ++ b)
 keeps_append a b h k = ap (λ z. fresh_after true z) (pc_append a b) ∙ fresh_append true (pc a) (pc b) ∙ ap (λ z. fresh_after z (pc b)) h ∙ k
 
-ends_keeps : (a b : List Piece) → Ends (pc a) → Keeps b → Ends (pc (a ++ b))
+ends_keeps : (a b : List PrintPiece) → Ends (pc a) → Keeps b → Ends (pc (a ++ b))
 ends_keeps a b h k f = ap (λ z. fresh_after f z) (pc_append a b) ∙ fresh_append f (pc a) (pc b) ∙ ap (λ z. fresh_after z (pc b)) (h f) ∙ k
 
 pub ends_headed : (e : ExprTerm) (ss : List StmtTerm) → Ends (pc (print.in_round (print.expr e) ++ print.block (stmts_of ss)))
@@ -83,7 +83,7 @@ keeps_else : (ss : Option (List StmtTerm)) → Keeps (print.else_if (optional_el
 keeps_else None = refl
 keeps_else (Some ss) = ends_block (print.stmts (stmts_of ss)) false
 
-abbrev pub branch_pieces : Branches → List Piece
+abbrev pub branch_pieces : Branches → List PrintPiece
 branch_pieces b = print.block (stmts_of b.0) ++ (print.arms (arms_of b.1.0) ++ print.else_if (optional_else b.1.1.0))
 
 pub ends_branches : (b : Branches) → Ends (pc (branch_pieces b))
@@ -95,7 +95,7 @@ endif_leaves : (ts : List Tok) (t : Option Tok) → Perhaps (λ us t. IsTok clas
 endif_leaves ts None h = subst (λ z. Leaves (tc z)) (sym h) leaves_none
 endif_leaves ts (Some t) h = subst Leaves (sym h.is) leaves_endif
 
-pub if_is : {ts u v x y : List Tok} {ps : List Piece} (t : Option Tok) → Cut ts u v → IsTok class.IfWord u → Cut v x y → POver ps x → Ends (pc ps) → Perhaps (λ us t. IsTok class.EndifWord us) y t → PTurns (piece.Plain class.IfWord ∷ ps) ts
+pub if_is : {ts u v x y : List Tok} {ps : List PrintPiece} (t : Option Tok) → Cut ts u v → IsTok class.IfWord u → Cut v x y → POver ps x → Ends (pc ps) → Perhaps (λ us t. IsTok class.EndifWord us) y t → PTurns (piece.Plain class.IfWord ∷ ps) ts
 if_is {u = u} {v = v} {x = x} {y = y} {ps = ps} t e w g h k l =
     record { is = subst (Turns (class.IfWord ∷ pc ps)) (sym (ap tc e.is ∙ tc_one u v w.is ∙ ap (λ z. class.IfWord ∷ z) (ap tc g.is ∙ tc_append x y))) (turns_if (tc y) h.is k (endif_leaves y t l)) }
 
@@ -104,7 +104,7 @@ else_if None h = no_pieces h
 else_if (Some ss) h = keep {c = class.ElseWord} refl h.2 h.3 h.4
 
 -- a `forEach`
-abbrev pub each_rest : EachPart → List Piece
+abbrev pub each_rest : EachPart → List PrintPiece
 each_rest p = piece.Plain class.Arrow ∷ piece.Plain class.ForEachWord ∷ (print.iterator p.name p.kind (print.condition_if p.condition) ++ print.block (stmts_of p.body))
 
 ends_each : (p : EachPart) → Ends (pc (each_rest p))

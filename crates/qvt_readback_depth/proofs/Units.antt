@@ -10,7 +10,7 @@ use Rattle.qvt_tree_types.specs.declared.words.Direction.{Direction}
 use Rattle.qvt_tree_types.specs.declared.words.Direction.TheVariants as directions
 use Rattle.qvt_language.specs.Tokens.{Tok}
 use Rattle.qvt_language.specs.StmtTrees.{last_of}
-use Rattle.qvt_language.specs.UnitTrees.{return_body, is_query, helper_of, Clauses, no_clauses, Clause, InheritsClause, MergesClause, DisjunctsClause, WhenClause, with_clause, paths_or_none, stmts_or_none, Body, mapping_of, sections_of}
+use Rattle.qvt_language.specs.UnitTrees.{return_body, is_query, helper_of, ClausesTree, no_clauses, ClauseTree, InheritsClause, MergesClause, DisjunctsClause, WhenClause, with_clause, paths_or_none, stmts_or_none, BodyTree, mapping_of, sections_of}
 use Rattle.qvt_language.specs.declared.class.Class.{Class}
 use Rattle.qvt_language.specs.declared.class.Class.TheVariants as class
 use Rattle.qvt_language.specs.declared.named.UnitPath.{UnitPath}
@@ -21,8 +21,8 @@ use Rattle.qvt_printer.specs.Expressions as print
 use Rattle.qvt_printer.specs.Units as printed
 use Rattle.qvt_printer.specs.Units.{has_statements}
 use Rattle.qvt_printer_layout.specs.Words as words
-use Rattle.qvt_printer_layout.specs.declared.piece.Piece.{Piece}
-use Rattle.qvt_printer_layout.specs.declared.piece.Piece.TheVariants as piece
+use Rattle.qvt_printer_layout.specs.declared.piece.PrintPiece.{PrintPiece}
+use Rattle.qvt_printer_layout.specs.declared.piece.PrintPiece.TheVariants as piece
 use Rattle.qvt_readback_depth.specs.Law.{is_semicolon, ends_in_semicolon, has_population, gets_block}
 use Rattle.qvt_readback_depth.proofs.Runs.{Still, AllStill, Strong, Below}
 use Rattle.qvt_readback_depth.proofs.Wide.{Wide, Spare, wide_strong, wide_then, spare_wide, spare_then, Room, room_round, wide_room, spare_empty, strong_drop, wide_braces, strong_wrapped, Parts, parts_strong, parts_then, parts_turns, parts_none, turns_none, parts_braces}
@@ -31,38 +31,38 @@ use Rattle.qvt_readback_depth.proofs.Claims.{After, Before, Between, Perhaps, Ma
 use Rattle.qvt_readback_depth.proofs.Exprs.{Opening, Printed, Silent, still_names, still_extent, after_if, quiet_series, series_are, led}
 use Rattle.qvt_readback_depth.proofs.Stmts.{SimpleIs, StmtsAre, stmts_at, last_is}
 
-abbrev pub PWide : ℕ → List Piece → List Tok → Type 0
+abbrev pub PWide : ℕ → List PrintPiece → List Tok → Type 0
 PWide e ps ts = Wide e (pc ps) (tc ts)
 
-pub record PSpare (e : ℕ) (ps : List Piece) (ts : List Tok) : Type 0 where
+pub record PSpare (e : ℕ) (ps : List PrintPiece) (ts : List Tok) : Type 0 where
   pub is : Spare e (pc ps) (tc ts)
 
-abbrev PParts : ℕ → List Piece → List Tok → Type 0
+abbrev PParts : ℕ → List PrintPiece → List Tok → Type 0
 PParts e ps ts = Parts e (pc ps) (tc ts)
 
-pub wide_of : (e : ℕ) {ps : List Piece} {ts : List Tok} → PStrong ps ts → PWide e ps ts
+pub wide_of : (e : ℕ) {ps : List PrintPiece} {ts : List Tok} → PStrong ps ts → PWide e ps ts
 wide_of e h = wide_strong e h.is
 
-pub wide_more : (e : ℕ) (a b : List Piece) (x y : List Tok) → PWide e a x → PWide e b y → PWide e (a ++ b) (x ++ y)
+pub wide_more : (e : ℕ) (a b : List PrintPiece) (x y : List Tok) → PWide e a x → PWide e b y → PWide e (a ++ b) (x ++ y)
 wide_more e a b x y h k = moved (Wide e) a b x y (wide_then e h k)
 
-pub wide_after : (e : ℕ) (a b : List Piece) (x y : List Tok) → PStrong a x → PWide e b y → PWide e (a ++ b) (x ++ y)
+pub wide_after : (e : ℕ) (a b : List PrintPiece) (x y : List Tok) → PStrong a x → PWide e b y → PWide e (a ++ b) (x ++ y)
 wide_after e a b x y h k = wide_more e a b x y (wide_of e h) k
 
-spare_after : (e : ℕ) (a b : List Piece) (x y : List Tok) → PStrong a x → PSpare e b y → PSpare e (a ++ b) (x ++ y)
+spare_after : (e : ℕ) (a b : List PrintPiece) (x y : List Tok) → PStrong a x → PSpare e b y → PSpare e (a ++ b) (x ++ y)
 spare_after e a b x y h k = record { is = moved (Spare e) a b x y (spare_then e h.is k.is) }
 
-room_after : (e : ℕ) (a b : List Piece) (x y : List Tok) → PStrong a x → Room (tc x) → PSpare e b y → PWide e (a ++ b) (x ++ y)
+room_after : (e : ℕ) (a b : List PrintPiece) (x y : List Tok) → PStrong a x → Room (tc x) → PSpare e b y → PWide e (a ++ b) (x ++ y)
 room_after e a b x y h r k = moved (Wide e) a b x y (wide_room e h.is r k.is)
 
-parts_more : (e : ℕ) (a b : List Piece) (x y : List Tok) → PParts e a x → PParts e b y → PParts e (a ++ b) (x ++ y)
+parts_more : (e : ℕ) (a b : List PrintPiece) (x y : List Tok) → PParts e a x → PParts e b y → PParts e (a ++ b) (x ++ y)
 parts_more e a b x y h k = moved (Parts e) a b x y (parts_then e h k)
 
-dropped : {ps : List Piece} {ts : List Tok} → PStrong ps ts → PStrong [] ts
+dropped : {ps : List PrintPiece} {ts : List Tok} → PStrong ps ts → PStrong [] ts
 dropped h = record { is = strong_drop h.is }
 
 -- whatever opens and closes nothing, for what leaves all as it was
-pub idle_strong : (ps : List Piece) {ts : List Tok} → AllStill (pc ps) → PStrong [] ts → PStrong ps ts
+pub idle_strong : (ps : List PrintPiece) {ts : List Tok} → AllStill (pc ps) → PStrong [] ts → PStrong ps ts
 idle_strong ps {ts} h k = subst (λ z. PStrong z ts) (append-nil ps) (led ps h k)
 
 -- parameters and features
@@ -88,7 +88,7 @@ features_are (t ∷ fs) h = strong_at {a = piece.Line ∷ print.ended (printed.t
 still_paths : (ps : List PathTree) → AllStill (pc (print.paths ps))
 still_paths [] = tt
 still_paths (p ∷ ps) = both (print.path p) (print.more_paths ps) (still_names p.names) (more ps) where
-  both : (a b : List Piece) → AllStill (pc a) → AllStill (pc b) → AllStill (pc (a ++ b))
+  both : (a b : List PrintPiece) → AllStill (pc a) → AllStill (pc b) → AllStill (pc (a ++ b))
   both a b h k = subst AllStill (sym (pc_append a b)) (all_both (pc a) (pc b) h k) where
     all_both : (a b : List Class) → AllStill a → AllStill b → AllStill (a ++ b)
     all_both [] b h k = k
@@ -125,7 +125,7 @@ section_if word w (Some ss) h = section_is word w ss h
 abbrev any_section : List StmtTerm → List StmtTerm → Bool
 any_section init finish = has_statements (stmts_of init) || has_statements (stmts_of finish)
 
-abbrev body_pieces : Body → List Piece
+abbrev body_pieces : BodyTree → List PrintPiece
 body_pieces b = cond (any_section b.init b.finish)
     (print.in_block (printed.section class.InitWord (stmts_of b.init) ++ (printed.section class.PopulationWord (stmts_of b.population) ++ printed.section class.EndWord (stmts_of b.finish)))) (print.block (stmts_of b.population))
 
@@ -138,13 +138,13 @@ slack_one true = omega arith
 slack_one false = omega arith
 
 -- whether the statements of the body get a block, where the tokens have no word for it
-abbrev may : Body → Bool
+abbrev may : BodyTree → Bool
 may b = has_statements (stmts_of b.population) && any_section b.init b.finish
 
 abbrev block_slack : Bool → List Tok → ℕ
 block_slack b ts = slack (b && not (has_population ts))
 
-abbrev body_slack : Body → List Tok → ℕ
+abbrev body_slack : BodyTree → List Tok → ℕ
 body_slack b ts = block_slack (may b) ts
 
 -- statements in a block of their own, or not, where the whole has no word for it
@@ -169,7 +169,7 @@ pub open_are : {ts u v : List Tok} (a : List StmtTerm × (Option StmtTerm ⊎ Li
 open_are {ts} (all, (inl last)) e h k l = record { front = ts; back = []; same = sym (append-nil ts); population = inr (stmts_at all (last_of last) e h (last_is last k), l); finish = no_pieces refl }
 open_are {ts} {u} {v} (all, (inr finish)) e h k l = record { front = u; back = v; same = e.is; population = inr (h, l); finish = section_is class.EndWord refl finish k }
 
-block_pieces : (ps : List Piece) → pc (print.in_block ps) ≡ class.OpenBrace ∷ (pc ps ++ (class.CloseBrace ∷ []))
+block_pieces : (ps : List PrintPiece) → pc (print.in_block ps) ≡ class.OpenBrace ∷ (pc ps ++ (class.CloseBrace ∷ []))
 block_pieces ps = ap (λ z. class.OpenBrace ∷ z) (pc_append ps (piece.Dedent ∷ piece.Line ∷ piece.Plain class.CloseBrace ∷ []))
 
 braced_toks : (u v w : List Tok) → tc u ≡ class.OpenBrace ∷ [] → tc w ≡ class.CloseBrace ∷ [] → tc (u ++ (v ++ w)) ≡ class.OpenBrace ∷ (tc v ++ (class.CloseBrace ∷ []))
@@ -184,7 +184,7 @@ among e (s ∷ ss) whole v (inr h) k =
     subst (λ z. PParts z (printed.section class.PopulationWord (stmts_of (s ∷ ss))) v) (sym (k refl h.1))
     (subst (λ z. Parts 1 (class.PopulationWord ∷ z) (tc v)) (sym (block_pieces (print.stmts (stmts_of (s ∷ ss))))) (parts_turns h.0.is))
 
-among_all : (e : ℕ) (i p f : List Piece) (u v w x y : List Tok) → tc u ≡ class.OpenBrace ∷ [] → PStrong i v → PParts e p w → PStrong f x → tc y ≡ class.CloseBrace ∷ [] → PWide e (print.in_block (i ++ (p ++ f))) (u ++ (v ++ ((w ++ x) ++ y)))
+among_all : (e : ℕ) (i p f : List PrintPiece) (u v w x y : List Tok) → tc u ≡ class.OpenBrace ∷ [] → PStrong i v → PParts e p w → PStrong f x → tc y ≡ class.CloseBrace ∷ [] → PWide e (print.in_block (i ++ (p ++ f))) (u ++ (v ++ ((w ++ x) ++ y)))
 among_all e i p f u v w x y a h k j b =
     subst (λ z. Wide e z (tc (u ++ (v ++ ((w ++ x) ++ y))))) (sym (block_pieces (i ++ (p ++ f))))
     (subst (λ z. Wide e (class.OpenBrace ∷ (pc (i ++ (p ++ f)) ++ (class.CloseBrace ∷ []))) z) (sym (ap (λ z. tc (u ++ z)) (sym (append_assoc v (w ++ x) y)) ∙ braced_toks u (v ++ (w ++ x)) y a b))
@@ -213,7 +213,7 @@ body_is [] p (s ∷ f) u v w x y a h k j b =
     let e = body_slack (record { init = []; population = p; finish = s ∷ f }) ts in
     among_all e (printed.section class.InitWord (stmts_of [])) (printed.section class.PopulationWord (stmts_of p)) (printed.section class.EndWord (stmts_of (s ∷ f))) u v w x y a h (among e p ts w k (λ some lack. λ n. slack ((some n && true) && not (lack n)))) j b
 
-abbrev pub BodyIs : List Tok → Body → Type 0
+abbrev pub BodyIs : List Tok → BodyTree → Type 0
 BodyIs ts b = PSpare (body_slack b ts) (body_pieces b) ts
 
 pub empty_is : {ts : List Tok} → IsTok class.Semicolon ts → BodyIs ts (record { init = []; population = []; finish = [] })
@@ -226,7 +226,7 @@ population_in ss ts whole v k (inr h) = inr (h.0, k h.1)
 pub sections_in : {ts u v x y z w : List Tok} (init : Option (List StmtTerm)) (a : List StmtTerm × List StmtTerm) → Cut ts u v → IsTok class.OpenBrace u → Cut v x y → Perhaps (After class.InitWord BlockIs) x init → Cut y z w → SectionsAre z a → IsTok class.CloseBrace w
     → Lacking u → Lacking x → Lacking w → BodyIs ts (record { init = stmts_or_none init; population = a.0; finish = a.1 })
 sections_in {ts} {u} {v} {x} {y} {z} {w} init a e p f h g k q lu lx lw =
-    let b : Body = record { init = stmts_or_none init; population = a.0; finish = a.1 } in
+    let b : BodyTree = record { init = stmts_or_none init; population = a.0; finish = a.1 } in
     let whole = u ++ (x ++ ((k.front ++ k.back) ++ w)) in
     let equal : ts ≡ whole = e.is ∙ ap (λ m. u ++ m) (f.is ∙ ap (λ m. x ++ m) (g.is ∙ ap (λ m. m ++ w) k.same)) in
     let lacks : Lacking z → Lacking whole = λ l. subst Lacking equal (lacks_at e lu (lacks_at f lx (lacks_at g l lw))) in
@@ -240,7 +240,7 @@ guarded_is {u} {v} e h k = subst (λ z. POver z (u ++ v)) (append-nil (print.exp
 abbrev pub WhenIs : List Tok → Option ExprTerm → Type 0
 WhenIs ts e = PStrong (printed.when_if (optional_expr e)) ts
 
-abbrev pub ClauseIs : List Tok → Clause → Type 0
+abbrev pub ClauseIs : List Tok → ClauseTree → Type 0
 ClauseIs ts (InheritsClause ps) = Quiet ts
 ClauseIs ts (MergesClause ps) = Quiet ts
 ClauseIs ts (DisjunctsClause ps) = Quiet ts
@@ -249,23 +249,23 @@ ClauseIs ts (WhenClause e) = PStrong (printed.when_if (SomeExpr e)) ts
 same_when : {ts u v : List Tok} (e : Option ExprTerm) → Cut ts u v → WhenIs u e → Quiet v → WhenIs ts e
 same_when {ts} e g h k = subst (λ z. PStrong z ts) (append-nil (printed.when_if (optional_expr e))) (strong_at g h (none_of k))
 
-with_is : {ts u v : List Tok} (x : Clauses) (c : Clause) → Cut ts u v → WhenIs u x.condition → ClauseIs v c → WhenIs ts (with_clause x c).condition
+with_is : {ts u v : List Tok} (x : ClausesTree) (c : ClauseTree) → Cut ts u v → WhenIs u x.condition → ClauseIs v c → WhenIs ts (with_clause x c).condition
 with_is x (InheritsClause ps) g h k = same_when x.condition g h k
 with_is x (MergesClause ps) g h k = same_when x.condition g h k
 with_is x (DisjunctsClause ps) g h k = same_when x.condition g h k
 with_is x (WhenClause e) g h k = strong_at {a = []} g (dropped h) k
 
-clauses_after : (cs : List Clause) (x : Clauses) {ts u v : List Tok} → Cut ts u v → WhenIs u x.condition → Many ClauseIs v cs → WhenIs ts (with_clauses x cs).condition
+clauses_after : (cs : List ClauseTree) (x : ClausesTree) {ts u v : List Tok} → Cut ts u v → WhenIs u x.condition → Many ClauseIs v cs → WhenIs ts (with_clauses x cs).condition
 clauses_after [] x g h k = same_when x.condition g h (quiet_none k)
 clauses_after (c ∷ cs) x g h k = clauses_after cs (with_clause x c) (peel g k.2) (with_is x c same h k.3) k.4
 
-pub clauses_are : {ts : List Tok} (cs : List Clause) → Many ClauseIs ts cs → WhenIs ts (with_clauses no_clauses cs).condition
+pub clauses_are : {ts : List Tok} (cs : List ClauseTree) → Many ClauseIs ts cs → WhenIs ts (with_clauses no_clauses cs).condition
 clauses_are cs h = clauses_after cs no_clauses (same {u = []}) (no_pieces refl) h
 
-abbrev extra_pieces : Clauses → List Piece
+abbrev extra_pieces : ClausesTree → List PrintPiece
 extra_pieces c = printed.listed class.InheritsWord (paths_or_none c.inherits) ++ (printed.listed class.MergesWord (paths_or_none c.merges) ++ (printed.listed class.DisjunctsWord (paths_or_none c.disjuncts) ++ printed.when_if (optional_expr c.condition)))
 
-extras_are : {ts : List Tok} (c : Clauses) → WhenIs ts c.condition → PStrong (extra_pieces c) ts
+extras_are : {ts : List Tok} (c : ClausesTree) → WhenIs ts c.condition → PStrong (extra_pieces c) ts
 extras_are c k =
     led (printed.listed class.InheritsWord (paths_or_none c.inherits)) (still_listed class.InheritsWord (λ f s. refl) (paths_or_none c.inherits))
     (led (printed.listed class.MergesWord (paths_or_none c.merges)) (still_listed class.MergesWord (λ f s. refl) (paths_or_none c.merges))
@@ -307,10 +307,10 @@ last_ends b (t ∷ []) e = let same : t.class ≡ class.Semicolon = cc in ap is_
 last_ends b (t ∷ r ∷ ts) e = absurd cc
 
 -- the body of a helper, after whatever tokens
-pub record Ended (ps : List Piece) (ts : List Tok) : Type 0 where
+pub record Ended (ps : List PrintPiece) (ts : List Tok) : Type 0 where
   pub is : (b : Bool) → PWide (slack (ends_in_semicolon b ts)) ps ts
 
-ended_at : {ps qs : List Piece} {ts u v : List Tok} → Cut ts u v → PStrong ps u → Ended qs v → Ended (ps ++ qs) ts
+ended_at : {ps qs : List PrintPiece} {ts u v : List Tok} → Cut ts u v → PStrong ps u → Ended qs v → Ended (ps ++ qs) ts
 ended_at {ps} {qs} {ts} {u} {v} g h k = subst (Ended (ps ++ qs)) (sym g.is) (record {
   is = λ b. subst (λ z. PWide (slack z) (ps ++ qs) (u ++ v)) (sym (ends_append b u v)) (wide_after (slack (ends_in_semicolon (ends_in_semicolon b u) v)) ps qs u v h (k.is (ends_in_semicolon b u)));
 })
@@ -339,23 +339,23 @@ helper_is a g w e h f k m t b =
 open_same : (b : Bool) (x y : List Tok) → Lacking x → block_slack b (x ++ y) ≡ block_slack b y
 open_same b x y l = ap (λ z. slack (b && not z)) (lacks_front x y l)
 
-spare_open : (b : Bool) {ps qs : List Piece} {ts u v : List Tok} → Cut ts u v → PStrong ps u → Lacking u → PSpare (block_slack b v) qs v → PSpare (block_slack b ts) (ps ++ qs) ts
+spare_open : (b : Bool) {ps qs : List PrintPiece} {ts u v : List Tok} → Cut ts u v → PStrong ps u → Lacking u → PSpare (block_slack b v) qs v → PSpare (block_slack b ts) (ps ++ qs) ts
 spare_open b {ps} {qs} {ts} {u} {v} g h l k = subst (λ z. PSpare (block_slack b z) (ps ++ qs) z) (sym g.is) (subst (λ z. PSpare z (ps ++ qs) (u ++ v)) (sym (open_same b u v l)) (spare_after (block_slack b v) ps qs u v h k))
 
-wide_open : (b : Bool) {ps : List Piece} (qs : List Piece) {ts u v : List Tok} → Cut ts u v → PStrong ps u → Lacking u → PWide (block_slack b v) qs v → PWide (block_slack b ts) (ps ++ qs) ts
+wide_open : (b : Bool) {ps : List PrintPiece} (qs : List PrintPiece) {ts u v : List Tok} → Cut ts u v → PStrong ps u → Lacking u → PWide (block_slack b v) qs v → PWide (block_slack b ts) (ps ++ qs) ts
 wide_open b {ps} qs {ts} {u} {v} g h l k = subst (λ z. PWide (block_slack b z) (ps ++ qs) z) (sym g.is) (subst (λ z. PWide z (ps ++ qs) (u ++ v)) (sym (open_same b u v l)) (wide_after (block_slack b v) ps qs u v h k))
 
-room_open : (b : Bool) {ps qs : List Piece} {ts u v : List Tok} → Cut ts u v → PStrong ps u → Room (tc u) → Lacking u → PSpare (block_slack b v) qs v → PWide (block_slack b ts) (ps ++ qs) ts
+room_open : (b : Bool) {ps qs : List PrintPiece} {ts u v : List Tok} → Cut ts u v → PStrong ps u → Room (tc u) → Lacking u → PSpare (block_slack b v) qs v → PWide (block_slack b ts) (ps ++ qs) ts
 room_open b {ps} {qs} {ts} {u} {v} g h r l k = subst (λ z. PWide (block_slack b z) (ps ++ qs) z) (sym g.is) (subst (λ z. PWide z (ps ++ qs) (u ++ v)) (sym (open_same b u v l)) (room_after (block_slack b v) ps qs u v h r k))
 
-abbrev tail_pieces : Option ResultDecl × (Clauses × Body) → List Piece
+abbrev tail_pieces : Option ResultDecl × (ClausesTree × BodyTree) → List PrintPiece
 tail_pieces a = printed.result_if a.0 ++ (extra_pieces a.1.0 ++ body_pieces a.1.1)
 
 -- the parts of a mapping behind its word, each with what its tokens lack
 abbrev Part : (List Tok → Type 0) → (List Tok → Type 0) → List Tok → Type 0
 Part p q ts = (u : List Tok) × (v : List Tok) × Cut ts u v × p u × q v × (LackingIf true u × LackingIf false v)
 
-pub mapping_is : {ts u v : List Tok} (path : UnitPath) (params : List TypedName) (a : Option ResultDecl × (Clauses × Body)) → Cut ts u v → IsTok class.MappingWord u → Lacking u
+pub mapping_is : {ts u v : List Tok} (path : UnitPath) (params : List TypedName) (a : Option ResultDecl × (ClausesTree × BodyTree)) → Cut ts u v → IsTok class.MappingWord u → Lacking u
     → Part Quiet (Part (λ z. Params z params) (Part (λ z. Perhaps (After class.Colon Silent) z a.0) (Part (λ z. WhenIs z a.1.0.condition) (λ z. BodyIs z a.1.1)))) v → UnitIs ts (mapping_of (path, (params, a)))
 mapping_is {ts} {u} {v} path params a g w l (x, y, f, q, (p, r, e, j, (d, m, c, k, (n, b, o, t, body, ln), lm), lp), lx) =
     let may_be = may a.1.1 in
@@ -387,10 +387,10 @@ still_model_params (p ∷ ps) = (still_direction p.direction, ((λ f s. refl), (
   more (q ∷ qs) = ((λ f s. refl), (still_direction q.direction, ((λ f s. refl), ((λ f s. refl), ((λ f s. refl), more qs)))))
 
 -- the brackets of a header, and its end
-abbrev pub header_end : List ModelParam → List Piece
+abbrev pub header_end : List ModelParam → List PrintPiece
 header_end ps = print.in_round (printed.model_params ps) ++ print.one class.Semicolon
 
-abbrev pub header_pieces : List ℕ × List ModelParam → List Piece
+abbrev pub header_pieces : List ℕ × List ModelParam → List PrintPiece
 header_pieces a = piece.Plain class.TransformationWord ∷ piece.Name a.0 ∷ header_end a.1
 
 pub header_is : {ts u v x y z w : List Tok} (ps : List ModelParam) → Cut ts u v → IsTok class.OpenRound u → Cut v x y → Quiet x → Cut y z w → IsTok class.CloseRound z → IsTok class.Semicolon w → PStrong (header_end ps) ts

@@ -4,7 +4,7 @@ use Rattle.qvt_tree_types.specs.Module.{UnitTerm, HelperOf, MappingOf, ModuleTer
 use Rattle.qvt_language.specs.Tokens.{Tok}
 use Rattle.qvt_language.specs.declared.class.Class.{Class}
 use Rattle.qvt_language.specs.declared.class.Class.TheVariants.{Semicolon, PopulationWord}
-use Rattle.qvt_language_rows.specs.Units.{«Unit»}
+use Rattle.qvt_language_rows.specs.Units.{UnitRow}
 use Rattle.qvt_language_rows.specs.Language.{Is, Reads}
 use Rattle.qvt_parser_tokens.specs.Depth.{deep}
 use Rattle.qvt_printer.specs.Units.{module_pieces, has_statements}
@@ -48,7 +48,7 @@ pub record HasFullUnit (n : ℕ) (ts : List Tok) (us : List UnitTerm) : Type 0 w
   pub unit : UnitTerm
   pub later : List UnitTerm
   pub units : us ≡ earlier ++ (unit ∷ later)
-  pub reads : Is «Unit» own unit
+  pub reads : Is UnitRow own unit
   pub block : gets_block own unit ≡ true
   pub full : most own ≡ n
 

@@ -3,7 +3,7 @@ use Rattle.qvt_base.specs.declared.numbers.Place.{Place}
 use Rattle.qvt_language.specs.Leads.{EachPart}
 use Rattle.qvt_language.specs.StmtTrees.{concat, last_of}
 use Rattle.qvt_language.specs.Trees.{headed, more_steps as join_steps, stepped, post_of, signed, path_of}
-use Rattle.qvt_language.specs.UnitTrees.{paths_or_none, Clauses, Body, mapping_of, units_of}
+use Rattle.qvt_language.specs.UnitTrees.{paths_or_none, ClausesTree, BodyTree, mapping_of, units_of}
 use Rattle.qvt_language.specs.declared.class.Class.TheVariants as class
 use Rattle.qvt_language.specs.declared.class.Class.{Class}
 use Rattle.qvt_language.specs.declared.named.Named.{Named}
@@ -15,13 +15,13 @@ use Rattle.qvt_printer.specs.Levels.{is_chain, is_chain_or_prefix}
 use Rattle.qvt_printer.specs.Units as printed
 use Rattle.qvt_printer.specs.Units.{module_pieces}
 use Rattle.qvt_printer_layout.specs.Words as words
-use Rattle.qvt_printer_layout.specs.declared.piece.Piece.TheVariants as piece
-use Rattle.qvt_printer_layout.specs.declared.piece.Piece.{Piece}
+use Rattle.qvt_printer_layout.specs.declared.piece.PrintPiece.TheVariants as piece
+use Rattle.qvt_printer_layout.specs.declared.piece.PrintPiece.{PrintPiece}
 use Rattle.qvt_readback_tokens.proofs.Meets.{Opened}
 use Rattle.qvt_readback_tokens.proofs.Parts as sound
 use Rattle.qvt_readback_tokens.proofs.Parts.{Closed, Follows, PathP, TypeP, ExprP, TargetP, StepP, AccumulatorP, StmtP, VariableP, RangeP, FilterP, ArmP}
 use Rattle.qvt_readback_tokens.proofs.Sound.{held_free, free_opened, sound_append}
-use Rattle.qvt_readback_tokens.specs.Told.{IsName, IsText}
+use Rattle.qvt_readback_tokens.specs.Told.{IsName, IsEncoded}
 use Rattle.qvt_tree_types.specs.Module.{TypedName, ClassTerm, HelperTerm, MappingTerm, UnitTerm, MainOf, ConstructorOf, ModuleTerm}
 use Rattle.qvt_tree_types.specs.Tree.{ExprTerm, StmtTerm, TypeTerm, VarStmt, AssignStmt, ReturnStmt, ValueStmt, IfStmt, WhileStmt, ForEachStmt, ArmTerm, ArmOf, TargetTerm, PrefixExpr, PostExpr, HeadTerm, HeadOf, AccumulatorTerm, StepTerm, StepTerms, NoSteps, MoreSteps, RangeTerm, FilterTerm}
 use Rattle.qvt_tree_types.specs.View.{exprs_of, stmts_of, optional_expr, optional_range, optional_filter, steps_of, optional_args, optional_accumulator, arms_of, optional_else}
@@ -107,7 +107,7 @@ pub print_more : (old : StepTerms) (ss : List StepTerm) → print.steps (join_st
 print_more NoSteps ss = refl
 print_more (MoreSteps s old) ss = ap (λ z. print.step s ++ z) (print_more old ss) ∙ sym (append_assoc (print.step s) (print.steps old) (print.steps (steps_of ss)))
 
-pub joined_steps : (ps : List Piece) (old : StepTerms) (ss : List StepTerm) → Closed (ps ++ print.steps old) → AllOf StepP ss → Closed (ps ++ print.steps (join_steps old ss))
+pub joined_steps : (ps : List PrintPiece) (old : StepTerms) (ss : List StepTerm) → Closed (ps ++ print.steps old) → AllOf StepP ss → Closed (ps ++ print.steps (join_steps old ss))
 joined_steps ps old ss h k =
     subst Closed (append_assoc ps (print.steps old) (print.steps (steps_of ss)) ∙ ap (λ z. ps ++ z) (sym (print_more old ss)))
     (sound.then_more (ps ++ print.steps old) (print.steps (steps_of ss)) h (sound.steps ss k))
@@ -151,7 +151,7 @@ return_is e place h = sound.ended (piece.Plain class.ReturnWord ∷ print.option
 pub in_brackets : (e : ExprTerm) → ExprP e → Follows (print.in_round (print.expr e))
 in_brackets e h = held_free (print.in_round (print.expr e)) (sound.in_round (print.expr e) (held_free (print.expr e) h))
 
-pub headed_block : (e : ExprTerm) (ss : List StmtTerm) (more : List Piece) → ExprP e → AllOf StmtP ss → Follows more → Follows (print.in_round (print.expr e) ++ (print.block (stmts_of ss) ++ more))
+pub headed_block : (e : ExprTerm) (ss : List StmtTerm) (more : List PrintPiece) → ExprP e → AllOf StmtP ss → Follows more → Follows (print.in_round (print.expr e) ++ (print.block (stmts_of ss) ++ more))
 headed_block e ss more h k j =
     sound.and_more (print.in_round (print.expr e)) (print.block (stmts_of ss) ++ more) (in_brackets e h) (sound.and_more (print.block (stmts_of ss)) more (sound.block ss k) j)
 
@@ -213,7 +213,7 @@ fields_are [] h = refl
 fields_are (f ∷ fs) h = sound.and_more (print.ended (printed.typed_name f)) (printed.fields fs) (sound.ended (printed.typed_name f) (held_free (printed.typed_name f) h.0)) (fields_are fs h.1)
 
 -- a word with paths
-pub listed_are : (word : Class) → ((qs : List Piece) → Follows qs → Follows (piece.Plain word ∷ qs)) → (ps : List PathTree) → AllOf PathP ps → Follows (printed.listed word ps)
+pub listed_are : (word : Class) → ((qs : List PrintPiece) → Follows qs → Follows (piece.Plain word ∷ qs)) → (ps : List PathTree) → AllOf PathP ps → Follows (printed.listed word ps)
 listed_are word k [] h = refl
 listed_are word k (p ∷ ps) h = k (print.paths (p ∷ ps)) (sound.paths (p ∷ ps) h)
 
@@ -259,23 +259,23 @@ pub when_is : (e : Option ExprTerm) → IfThere ExprP e → Follows (printed.whe
 when_is None h = refl
 when_is (Some e) h = (refl, (refl, sound_append Opened (print.expr e) (print.one class.CloseBrace) (free_opened (print.expr e) (held_free (print.expr e) h)) (refl, refl)))
 
-pub section_is : (word : Class) → ((qs : List Piece) → Follows qs → Follows (piece.Plain word ∷ qs)) → (ss : List StmtTerm) → AllOf StmtP ss → Follows (printed.section word (stmts_of ss))
+pub section_is : (word : Class) → ((qs : List PrintPiece) → Follows qs → Follows (piece.Plain word ∷ qs)) → (ss : List StmtTerm) → AllOf StmtP ss → Follows (printed.section word (stmts_of ss))
 section_is word k [] h = refl
 section_is word k (s ∷ ss) h = k (print.block (stmts_of (s ∷ ss))) (sound.block (s ∷ ss) h)
 
 -- the clauses and the body of a mapping
-pub record ClausesP (x : Clauses) : Type 0 where
+pub record ClausesP (x : ClausesTree) : Type 0 where
   pub inherits : IfThere (AllOf PathP) x.inherits
   pub merges : IfThere (AllOf PathP) x.merges
   pub disjuncts : IfThere (AllOf PathP) x.disjuncts
   pub condition : IfThere ExprP x.condition
 
-pub record BodyP (b : Body) : Type 0 where
+pub record BodyP (b : BodyTree) : Type 0 where
   pub init : AllOf StmtP b.init
   pub population : AllOf StmtP b.population
   pub finish : AllOf StmtP b.finish
 
-pub body_is : (m : MappingTerm) (b : Body) → m.init ≡ stmts_of b.init → m.population ≡ stmts_of b.population → m.finish ≡ stmts_of b.finish → BodyP b → Follows (printed.mapping_body m)
+pub body_is : (m : MappingTerm) (b : BodyTree) → m.init ≡ stmts_of b.init → m.population ≡ stmts_of b.population → m.finish ≡ stmts_of b.finish → BodyP b → Follows (printed.mapping_body m)
 body_is m b d e f k = either_way (printed.has_statements m.init || printed.has_statements m.finish) where
   init : Follows (printed.section class.InitWord m.init)
   init = subst (λ z. Follows (printed.section class.InitWord z)) (sym d) (section_is class.InitWord (λ qs g. (refl, g)) b.init k.init)
@@ -286,7 +286,7 @@ body_is m b d e f k = either_way (printed.has_statements m.init || printed.has_s
   finish : Follows (printed.section class.EndWord m.finish)
   finish = subst (λ z. Follows (printed.section class.EndWord z)) (sym f) (section_is class.EndWord (λ qs g. (refl, g)) b.finish k.finish)
 
-  inside : List Piece
+  inside : List PrintPiece
   inside = printed.section class.InitWord m.init ++ (printed.section class.PopulationWord m.population ++ printed.section class.EndWord m.finish)
 
   either_way : (x : Bool) → Follows (cond x (printed.sections m) (print.block m.population))
@@ -295,7 +295,7 @@ body_is m b d e f k = either_way (printed.has_statements m.init || printed.has_s
       (sound.and_more (printed.section class.PopulationWord m.population) (printed.section class.EndWord m.finish) population finish)))
   either_way false = subst (λ z. Follows (print.block z)) (sym e) (sound.block b.population k.population)
 
-pub mapping_is : (p : UnitPath) (ps : List TypedName) (r : Option ResultDecl) (x : Clauses) (b : Body) → UnitPathP p → AllOf TypedP ps → IfThere ResultP r → ClausesP x → BodyP b → UnitP (mapping_of (p, (ps, (r, (x, b)))))
+pub mapping_is : (p : UnitPath) (ps : List TypedName) (r : Option ResultDecl) (x : ClausesTree) (b : BodyTree) → UnitPathP p → AllOf TypedP ps → IfThere ResultP r → ClausesP x → BodyP b → UnitP (mapping_of (p, (ps, (r, (x, b)))))
 mapping_is p ps r x b h k j g f =
     let m : MappingTerm = record { path = p.names; params = ps; result_decl = r; inherits = paths_or_none x.inherits; merges = paths_or_none x.merges; disjuncts = paths_or_none x.disjuncts; condition = optional_expr x.condition; init = stmts_of b.init; population = stmts_of b.population; finish = stmts_of b.finish; place = p.place } in
     let inherits = listed_are class.InheritsWord (λ qs g. (refl, g)) (paths_or_none x.inherits) (none_or x.inherits g.inherits) in
@@ -314,7 +314,7 @@ units_are (u ∷ us) h = sound.and_more (printed.unit u) (piece.Line ∷ printed
 
 -- the module
 abbrev pub ModelTypeP : ModelType → Type 0
-ModelTypeP t = IsName t.name × IsText t.uri
+ModelTypeP t = IsName t.name × IsEncoded t.uri
 
 abbrev pub ModelParamP : ModelParam → Type 0
 ModelParamP p = IsName p.name × IsName p.model_type

@@ -2,7 +2,7 @@
 use Rattle.qvt_base.specs.declared.numbers.Place.{Place}
 use Rattle.qvt_language.specs.StmtTrees.{is_adding, last_of}
 use Rattle.qvt_language.specs.Trees.{arrow_of, binary_op, coll_kind, is_strict, is_there}
-use Rattle.qvt_language.specs.UnitTrees.{paths_or_none, is_query, Clauses, no_clauses, Clause, InheritsClause, MergesClause, DisjunctsClause, WhenClause, with_clause, stmts_or_none}
+use Rattle.qvt_language.specs.UnitTrees.{paths_or_none, is_query, ClausesTree, no_clauses, ClauseTree, InheritsClause, MergesClause, DisjunctsClause, WhenClause, with_clause, stmts_or_none}
 use Rattle.qvt_language.specs.declared.class.Class.TheVariants as class
 use Rattle.qvt_language.specs.declared.class.Class.TheVariants.{Str}
 use Rattle.qvt_language.specs.declared.named.Named.{Named}
@@ -12,19 +12,19 @@ use Rattle.qvt_language_rows.specs.Lists.{AllOf, IfThere}
 use Rattle.qvt_language_rows.specs.Values.{name_text, signed_of, chained, feature_target, or_no_args, with_clauses, open_sections}
 use Rattle.qvt_printer.specs.Expressions as print
 use Rattle.qvt_printer.specs.Levels.{is_as_loose, is_chain_or_prefix}
-use Rattle.qvt_printer_layout.specs.declared.piece.Piece.TheVariants as piece
+use Rattle.qvt_printer_layout.specs.declared.piece.PrintPiece.TheVariants as piece
 use Rattle.qvt_readback_tokens.proofs.Made.{path_is, range_is, conditional_is, object_is, new_is, filter_condition, filter_is, args_if, headed_is, post_is, signed_is, var_is, return_is, arm_is, if_is, while_is, each_is, assign_is, value_stmt, all_in, the_last, none_or, class_is, main_is, helper_is, constructor_is, mapping_is, all_units, NamedP, UnitPathP, ArrowP, TypedP, UnitP, ResultP, ModelTypeP, ModelParamP, PartP, ClausesP, BodyP, ModuleP}
 use Rattle.qvt_readback_tokens.proofs.Parts as sound
 use Rattle.qvt_readback_tokens.proofs.Parts.{PathP, TypeP, ExprP, LinkP, MapP, ResolveP, TargetP, StepP, AccumulatorP, StmtP, VariableP, ItemP, RangeP, FilterP, ArmP}
 use Rattle.qvt_readback_tokens.proofs.Sound.{held_free}
-use Rattle.qvt_readback_tokens.specs.Told.{IsName, IsText, IsTold}
+use Rattle.qvt_readback_tokens.specs.Told.{IsName, IsEncoded, IsTold}
 use Rattle.qvt_tree_types.specs.Tree.{ExprTerm, StmtTerm, LinkTerm, HeadTerm}
 use Rattle.qvt_tree_types.specs.View.{exprs_of, items_of, stmts_of, optional_expr, optional_range, optional_filter, links_of}
 use Rattle.qvt_tree_types.specs.declared.words.Level.{Level}
 use Rattle.qvt_tree_types.specs.declared.words.Sign.{Sign}
 use Rattle.std.proofs.Common.{List, [], ◌∷◌, ◌++◌, false, ◌⊎◌, inl, inr, refl, Option, Some, None}
 
-abbrev ClauseP : Clause → Type 0
+abbrev ClauseP : ClauseTree → Type 0
 ClauseP (InheritsClause ps) = AllOf PathP ps
 ClauseP (MergesClause ps) = AllOf PathP ps
 ClauseP (DisjunctsClause ps) = AllOf PathP ps
@@ -41,9 +41,9 @@ abbrev said : Said Predicate
 said = record {
   named = NamedP;
   name = IsName;
-  string = IsText;
-  uri = IsText;
-  source = IsText;
+  string = IsEncoded;
+  uri = IsEncoded;
+  source = IsEncoded;
   path = PathP;
   kind = TypeP;
   expr = ExprP;
@@ -124,13 +124,13 @@ some_stmts : (ss : Option (List StmtTerm)) → IfThere (AllOf StmtP) ss → AllO
 some_stmts None k = tt
 some_stmts (Some ss) k = k
 
-with_is : (x : Clauses) (c : Clause) → ClausesP x → ClauseP c → ClausesP (with_clause x c)
+with_is : (x : ClausesTree) (c : ClauseTree) → ClausesP x → ClauseP c → ClausesP (with_clause x c)
 with_is x (InheritsClause ps) k j = record { inherits = j; merges = k.merges; disjuncts = k.disjuncts; condition = k.condition }
 with_is x (MergesClause ps) k j = record { inherits = k.inherits; merges = j; disjuncts = k.disjuncts; condition = k.condition }
 with_is x (DisjunctsClause ps) k j = record { inherits = k.inherits; merges = k.merges; disjuncts = j; condition = k.condition }
 with_is x (WhenClause e) k j = record { inherits = k.inherits; merges = k.merges; disjuncts = k.disjuncts; condition = j }
 
-clauses_are : (x : Clauses) (cs : List Clause) → ClausesP x → AllOf ClauseP cs → ClausesP (with_clauses x cs)
+clauses_are : (x : ClausesTree) (cs : List ClauseTree) → ClausesP x → AllOf ClauseP cs → ClausesP (with_clauses x cs)
 clauses_are x [] h k = h
 clauses_are x (c ∷ cs) h k = clauses_are (with_clause x c) cs (with_is x c h k.0) k.1
 

@@ -4,7 +4,7 @@ use Rattle.std.proofs.lemmas.Bool.Decides.{nat_tests}
 use Rattle.std.specs.Char.{is_ascii_alphanumeric}
 use Rattle.unicode_ident.proofs.IdentLemmas.{is_xid_continue-ascii}
 use Rattle.qvt_lexer.specs.Characters.{is_start, is_continue, is_digit}
-use Rattle.qvt_words.specs.Words.{is_single, is_double, spelling}
+use Rattle.qvt_words.specs.Words.{is_single_sign, is_double_sign, spelling}
 use Rattle.qvt_lexer.proofs.Sorts.{AtStart, AtMark, same_sort}
 use Rattle.qvt_language.specs.declared.class.Class.{Class}
 use Rattle.qvt_language.specs.declared.class.Class.TheVariants as class
@@ -98,31 +98,31 @@ fit_digit : (d : ℕ) → is_fit d ≡ true → not (is_digit d) ≡ true
 fit_digit d h = grind (arith, nat_tests)
 
 fit_equal : (d : ℕ) → is_fit d ≡ true → sign_ends (61 ∷ []) d ≡ true
-unfolding is_double
+unfolding is_double_sign
 fit_equal d h = grind (arith, nat_tests)
 
 fit_less : (d : ℕ) → is_fit d ≡ true → sign_ends (60 ∷ []) d ≡ true
-unfolding is_double
+unfolding is_double_sign
 fit_less d h = grind (arith, nat_tests)
 
 fit_greater : (d : ℕ) → is_fit d ≡ true → sign_ends (62 ∷ []) d ≡ true
-unfolding is_double
+unfolding is_double_sign
 fit_greater d h = grind (arith, nat_tests)
 
 fit_plus : (d : ℕ) → is_fit d ≡ true → sign_ends (43 ∷ []) d ≡ true
-unfolding is_double
+unfolding is_double_sign
 fit_plus d h = grind (arith, nat_tests)
 
 fit_colon : (d : ℕ) → is_held_fit d ≡ true → sign_ends (58 ∷ []) d ≡ true
-unfolding is_double
+unfolding is_double_sign
 fit_colon d h = grind (arith, nat_tests)
 
 fit_minus : (d : ℕ) → is_held_fit d ≡ true → sign_ends (45 ∷ []) d ≡ true
-unfolding is_double
+unfolding is_double_sign
 fit_minus d h = grind (arith, nat_tests)
 
 not_dot : (d : ℕ) → (d == 46) ≡ false → sign_ends (46 ∷ []) d ≡ true
-unfolding is_double
+unfolding is_double_sign
 not_dot d h = grind (arith, nat_tests)
 
 -- the signs that stand without a blank before them begin so
@@ -158,8 +158,8 @@ digit_dot : (d : ℕ) → is_digit d ≡ true → (d == 46) ≡ false
 digit_dot d h = grind (arith, nat_tests)
 
 start_dot : (d : ℕ) → is_start d ≡ true → (d == 46) ≡ false
-unfolding is_single
-start_dot d h = never_true (d == 46) (λ e. let k : d ≡ 46 = is_number d 46 e in let z = same_sort AtStart AtMark d h (ap (λ x. is_single x || (x == 33) || (x == 47)) k) in cc)
+unfolding is_single_sign
+start_dot d h = never_true (d == 46) (λ e. let k : d ≡ 46 = is_number d 46 e in let z = same_sort AtStart AtMark d h (ap (λ x. is_single_sign x || (x == 33) || (x == 47)) k) in cc)
 
 dot_first : (c : Class) (d : ℕ) → not (is_follower c) ≡ true → First c d → (d == 46) ≡ false
 dot_first class.Name d f k = start_dot d k
@@ -200,7 +200,7 @@ either_tight false y false h = absurd cc
 
 -- tokens side by side without a blank
 pub joined_ends : (a c : Class) (d : ℕ) → fits (after a) c ≡ true → is_joined a c ≡ true → First c d → ends a d ≡ true
-unfolding is_double
+unfolding is_double_sign
 joined_ends class.Integer c d f h k = fit_digit d (tight_first c d (either_tight (is_tight_before c) (is_open_round c) false h) k)
 joined_ends class.Str c d f h k = refl
 joined_ends class.Colon c d f h k = fit_colon d (held_first c d f (either_tight (is_tight_before c) (is_open_round c) false h) k)
@@ -254,7 +254,7 @@ apart_word : (d : ℕ) → is_apart d ≡ true → word_ends d ≡ true
 apart_word d h = no_continue d (grind (arith, nat_tests)) (grind (arith, nat_tests)) (grind (arith, nat_tests))
 
 pub apart_ends : (a : Class) (d : ℕ) → is_apart d ≡ true → ends a d ≡ true
-unfolding is_double
+unfolding is_double_sign
 apart_ends class.Integer d h = grind (arith, nat_tests)
 apart_ends class.Str d h = refl
 apart_ends class.OpenRound d h = refl

@@ -19,8 +19,8 @@ use Rattle.qvt_tree_types.specs.declared.words.ResolveWord.TheVariants as resolv
 use Rattle.qvt_tree_types.specs.declared.words.Level.{Level}
 use Rattle.qvt_tree_types.specs.declared.words.Sign.{Sign}
 use Rattle.qvt_language.specs.declared.class.Class.TheVariants as class
-use Rattle.qvt_printer_layout.specs.declared.piece.Piece.{Piece}
-use Rattle.qvt_printer_layout.specs.declared.piece.Piece.TheVariants.{Plain, Tight, Line, Dedent}
+use Rattle.qvt_printer_layout.specs.declared.piece.PrintPiece.{PrintPiece}
+use Rattle.qvt_printer_layout.specs.declared.piece.PrintPiece.TheVariants.{Plain, Tight, Line, Dedent}
 use Rattle.qvt_printer_layout.specs.Words as words
 use Rattle.qvt_printer.specs.Levels.{is_as_loose}
 use Rattle.qvt_printer.specs.Expressions as print
@@ -30,43 +30,43 @@ use Rattle.qvt_readback_tokens.specs.Told.{IsName}
 use Rattle.qvt_language_rows.specs.Lists.{AllOf, IfThere}
 
 -- what can stand anywhere, and what can stand after a token that holds nothing
-abbrev pub Closed : List Piece → Type 0
+abbrev pub Closed : List PrintPiece → Type 0
 Closed ps = Sound Held ps
 
-abbrev pub Follows : List Piece → Type 0
+abbrev pub Follows : List PrintPiece → Type 0
 Follows ps = Sound Free ps
 
-pub then_more : (ps qs : List Piece) → Closed ps → Follows qs → Closed (ps ++ qs)
+pub then_more : (ps qs : List PrintPiece) → Closed ps → Follows qs → Closed (ps ++ qs)
 then_more ps qs h k = sound_append Held ps qs h k
 
-pub and_more : (ps qs : List Piece) → Follows ps → Follows qs → Follows (ps ++ qs)
+pub and_more : (ps qs : List PrintPiece) → Follows ps → Follows qs → Follows (ps ++ qs)
 and_more ps qs h k = sound_append Free ps qs h k
 
 -- what is between brackets
-pub in_round : (ps : List Piece) → Follows ps → Closed (print.in_round ps)
+pub in_round : (ps : List PrintPiece) → Follows ps → Closed (print.in_round ps)
 in_round ps h = (refl, sound_append Free ps (print.one class.CloseRound) h (refl, refl))
 
-pub round_if : (b : Bool) (ps : List Piece) → Closed ps → Closed (print.round_if b ps)
+pub round_if : (b : Bool) (ps : List PrintPiece) → Closed ps → Closed (print.round_if b ps)
 round_if true ps h = in_round ps (held_free ps h)
 round_if false ps h = h
 
-pub in_block : (ps : List Piece) → Follows ps → Closed (print.in_block ps)
+pub in_block : (ps : List PrintPiece) → Follows ps → Closed (print.in_block ps)
 in_block ps h = (refl, sound_append Opened ps (Dedent ∷ Line ∷ Plain class.CloseBrace ∷ []) (free_opened ps h) (refl, refl))
 
-pub in_items : (ps : List Piece) → Follows ps → Follows (print.in_items ps)
+pub in_items : (ps : List PrintPiece) → Follows ps → Follows (print.in_items ps)
 in_items ps h = (refl, sound_append Free ps (Tight ∷ Plain class.CloseBrace ∷ []) h (refl, refl))
 
-pub ended : (ps : List Piece) → Follows ps → Follows (print.ended ps)
+pub ended : (ps : List PrintPiece) → Follows ps → Follows (print.ended ps)
 ended ps h = and_more ps (print.one class.Semicolon) h (refl, refl)
 
 -- words and signs
-pub kind_word : (k : CollKind) (ps : List Piece) → Follows ps → Closed (Plain (words.kind_word k) ∷ ps)
+pub kind_word : (k : CollKind) (ps : List PrintPiece) → Follows ps → Closed (Plain (words.kind_word k) ∷ ps)
 kind_word kind.Set ps h = (refl, h)
 kind_word kind.Bag ps h = (refl, h)
 kind_word kind.Sequence ps h = (refl, h)
 kind_word kind.OrderedSet ps h = (refl, h)
 
-pub operator_sign : (o : BinaryOp) (ps : List Piece) → Closed ps → Follows (Plain (words.operator_sign o) ∷ ps)
+pub operator_sign : (o : BinaryOp) (ps : List PrintPiece) → Closed ps → Follows (Plain (words.operator_sign o) ∷ ps)
 operator_sign op.Minus ps h = (refl, h)
 operator_sign op.Implies ps h = (refl, held_free ps h)
 operator_sign op.Xor ps h = (refl, held_free ps h)
@@ -81,20 +81,20 @@ operator_sign op.GreaterEqual ps h = (refl, held_free ps h)
 operator_sign op.Plus ps h = (refl, held_free ps h)
 operator_sign op.Times ps h = (refl, held_free ps h)
 
-prefix_sign : (o : PrefixOp) (ps : List Piece) → Closed ps → Closed (Plain (words.prefix_sign o) ∷ ps)
+prefix_sign : (o : PrefixOp) (ps : List PrintPiece) → Closed ps → Closed (Plain (words.prefix_sign o) ∷ ps)
 prefix_sign prefix.Not ps h = (refl, held_free ps h)
 prefix_sign prefix.Minus ps h = (refl, h)
 
-pub signs : (ss : List Sign) (ps : List Piece) → Closed ps → Closed (print.signs ss ++ ps)
+pub signs : (ss : List Sign) (ps : List PrintPiece) → Closed ps → Closed (print.signs ss ++ ps)
 signs [] ps h = h
 signs (s ∷ ss) ps h = prefix_sign s.op (print.signs ss ++ ps) (signs ss ps h)
 
 -- signs before signs
-pub more_signs : (ss old : List Sign) (ps : List Piece) → Closed (print.signs old ++ ps) → Closed (print.signs (ss ++ old) ++ ps)
+pub more_signs : (ss old : List Sign) (ps : List PrintPiece) → Closed (print.signs old ++ ps) → Closed (print.signs (ss ++ old) ++ ps)
 more_signs [] old ps h = h
 more_signs (s ∷ ss) old ps h = prefix_sign s.op (print.signs (ss ++ old) ++ ps) (more_signs ss old ps h)
 
-pub resolve_word : (w : ResolveWord) (ps : List Piece) → Follows ps → Closed (Plain (words.resolve_word w) ∷ ps)
+pub resolve_word : (w : ResolveWord) (ps : List PrintPiece) → Follows ps → Closed (Plain (words.resolve_word w) ∷ ps)
 resolve_word resolve.Resolve ps h = (refl, h)
 resolve_word resolve.ResolveOne ps h = (refl, h)
 resolve_word resolve.InvResolve ps h = (refl, h)
@@ -108,24 +108,24 @@ pub truth_word : (b : Bool) → Closed (print.one (words.truth_word b))
 truth_word true = (refl, refl)
 truth_word false = (refl, refl)
 
-pub map_word : (b : Bool) (ps : List Piece) → Follows ps → Closed (Plain (words.map_word b) ∷ ps)
+pub map_word : (b : Bool) (ps : List PrintPiece) → Follows ps → Closed (Plain (words.map_word b) ∷ ps)
 map_word true ps h = (refl, h)
 map_word false ps h = (refl, h)
 
-pub assign_sign : (b : Bool) (ps : List Piece) → Follows ps → Follows (Plain (words.assign_sign b) ∷ ps)
+pub assign_sign : (b : Bool) (ps : List PrintPiece) → Follows ps → Follows (Plain (words.assign_sign b) ∷ ps)
 assign_sign true ps h = (refl, h)
 assign_sign false ps h = (refl, h)
 
-pub helper_word : (b : Bool) (ps : List Piece) → Follows ps → Follows (Plain (words.helper_word b) ∷ ps)
+pub helper_word : (b : Bool) (ps : List PrintPiece) → Follows ps → Follows (Plain (words.helper_word b) ∷ ps)
 helper_word true ps h = (refl, h)
 helper_word false ps h = (refl, h)
 
-pub direction_word : (d : Direction) (ps : List Piece) → Follows ps → Closed (Plain (words.direction_word d) ∷ ps)
+pub direction_word : (d : Direction) (ps : List PrintPiece) → Follows ps → Closed (Plain (words.direction_word d) ∷ ps)
 direction_word direction.Input ps h = (refl, h)
 direction_word direction.Output ps h = (refl, h)
 direction_word direction.Both ps h = (refl, h)
 
-pub late_if : (b : Bool) (ps : List Piece) → Closed ps → Closed (print.late_if b ++ ps)
+pub late_if : (b : Bool) (ps : List PrintPiece) → Closed ps → Closed (print.late_if b ++ ps)
 late_if true ps h = (refl, held_free ps h)
 late_if false ps h = h
 
@@ -170,12 +170,12 @@ abbrev pub VariableP : ObjectVar → Type 0
 VariableP (variables.Named n place) = IsName n
 VariableP (variables.ResultVar place) = Unit {0}
 
-pub variable : (v : Option ObjectVar) (ps : List Piece) → IfThere VariableP v → Closed ps → Closed (print.variable v ++ ps)
+pub variable : (v : Option ObjectVar) (ps : List PrintPiece) → IfThere VariableP v → Closed ps → Closed (print.variable v ++ ps)
 variable None ps h k = k
 variable (Some (variables.Named n place)) ps h k = (h, refl, (refl, k))
 variable (Some (variables.ResultVar place)) ps h k = (refl, (refl, k))
 
-pub named_if : (n : Option (List ℕ)) (ps : List Piece) → IfThere IsName n → Closed ps → Closed (print.named_if n ++ ps)
+pub named_if : (n : Option (List ℕ)) (ps : List PrintPiece) → IfThere IsName n → Closed ps → Closed (print.named_if n ++ ps)
 named_if None ps h k = k
 named_if (Some n) ps h k = (h, refl, (refl, k))
 

@@ -10,8 +10,8 @@ use Rattle.qvt_language.specs.Tokens.{Tok}
 use Rattle.qvt_language.specs.declared.class.Class.TheVariants as class
 use Rattle.qvt_language_rows.specs.Language.{Reads}
 use Rattle.qvt_parser_tokens.specs.Said.{said}
-use Rattle.qvt_printer_layout.specs.declared.piece.Piece.{Piece}
-use Rattle.qvt_printer_layout.specs.declared.piece.Piece.TheVariants.{Plain}
+use Rattle.qvt_printer_layout.specs.declared.piece.PrintPiece.{PrintPiece}
+use Rattle.qvt_printer_layout.specs.declared.piece.PrintPiece.TheVariants.{Plain}
 use Rattle.qvt_printer.specs.Units.{model_types, module_pieces}
 use Rattle.qvt_printer.specs.PrintText.{print_text}
 use Rattle.qvt_language.specs.Same.{unplaced}
@@ -44,7 +44,7 @@ has_spelled text ts begins k = record {
   has = record {
     tokens = tokens_of first_place k.pieces;
     last = last;
-    reads = subst (λ z. division.Reads z last (tokens_of first_place k.pieces)) (sym begins) (record { pieces = k.pieces; divides = k.divides; tokens = refl; place = refl });
+    reads = subst (λ z. division.ReadsTokens z last (tokens_of first_place k.pieces)) (sym begins) (record { pieces = k.pieces; divides = k.divides; tokens = refl; place = refl });
     nothing = refl;
     place = refl;
     are = refl;
@@ -62,7 +62,7 @@ letter_begins c rest h =
     subst (λ z. start_at z ≡ record { place = first_place; rest = z }) (sym (one_byte c rest h))
     (ap (λ b. cond b (record { place = moved first_place c; rest = chars rest }) (record { place = first_place; rest = c ∷ chars rest })) (no_mark c h))
 
-module_begins : (ts : List ModelType) (ps : List Piece) → BeginsAt (tail 0 None (model_types ts ++ (Plain class.TransformationWord ∷ ps)))
+module_begins : (ts : List ModelType) (ps : List PrintPiece) → BeginsAt (tail 0 None (model_types ts ++ (Plain class.TransformationWord ∷ ps)))
 module_begins [] ps = letter_begins 116 _ (omega arith)
 module_begins (t ∷ ts) ps = letter_begins 109 _ (omega arith)
 

@@ -11,9 +11,9 @@ use Rattle.qvt_language.specs.Tokens.{Tok}
 use Rattle.qvt_language.specs.declared.class.Class.{Class}
 use Rattle.qvt_language.specs.declared.class.Class.TheVariants as class
 use Rattle.qvt_parser_tokens.specs.Said.{said}
-use Rattle.qvt_printer_layout.specs.declared.piece.Piece.{Piece}
-use Rattle.qvt_printer_layout.specs.declared.piece.Piece.TheVariants.{Plain, Name, Integer, Quoted, Tight, Line, Indent, Dedent}
-use Rattle.qvt_words.specs.Words.{is_double, spelling}
+use Rattle.qvt_printer_layout.specs.declared.piece.PrintPiece.{PrintPiece}
+use Rattle.qvt_printer_layout.specs.declared.piece.PrintPiece.TheVariants.{Plain, Name, Integer, Quoted, Tight, Line, Indent, Dedent}
+use Rattle.qvt_words.specs.Words.{is_double_sign, spelling}
 use Rattle.qvt_printer_layout.specs.Layout.{blank_before, is_joined, name_text, integer_text, quoted}
 use Rattle.qvt_language.specs.Same.{unplaced}
 use Rattle.qvt_readback_tokens.specs.Spelled.{all_spelled}
@@ -116,7 +116,7 @@ bare_first : (s : Gap) (a c : Class) → Bare s a → fits s c ≡ true → (d :
 bare_first s a c (inl e) f d k = apart_ends a d (brace_first c d (ap (λ z. fits z c) (sym e) ∙ f) k)
 bare_first s a c (inr h) f d k = h d
 
-ends_bare : (ps : List Piece) (s : Gap) (a : Class) (m : ℕ) → Bare s a → Sound s ps → EndsAt a (chars (tail m None ps))
+ends_bare : (ps : List PrintPiece) (s : Gap) (a : Class) (m : ℕ) → Bare s a → Sound s ps → EndsAt a (chars (tail m None ps))
 ends_bare [] s a m b h = ends_nothing a
 ends_bare (Plain c ∷ ps) s a m b h =
     let sp = stands_spelled s c h.0 in
@@ -131,7 +131,7 @@ ends_bare (Dedent ∷ ps) s a m b h = ends_bare ps s a (m - 2) b h
 
 -- after a token that has to be kept apart from the next
 bare_after : (a : Class) → Bare (tightly (after a)) a
-unfolding is_double
+unfolding is_double_sign
 bare_after class.OpenBrace = inr (λ d. refl)
 bare_after a = inl refl
 
@@ -139,7 +139,7 @@ ends_joined : (a c : Class) (b : Bool) → is_joined a c ≡ b → (text rest : 
 ends_joined a c true e text rest h = h e
 ends_joined a c false e text rest h = ends_space a (text ++ rest)
 
-ends_after : (ps : List Piece) (a : Class) (m : ℕ) → Sound (after a) ps → EndsAt a (chars (tail m (Some a) ps))
+ends_after : (ps : List PrintPiece) (a : Class) (m : ℕ) → Sound (after a) ps → EndsAt a (chars (tail m (Some a) ps))
 ends_after [] a m h = ends_nothing a
 ends_after (Plain c ∷ ps) a m h =
     let sp = stands_spelled (after a) c h.0 in
@@ -159,7 +159,7 @@ ends_after (Line ∷ ps) a m h = ends_line a (replicate m 32 ++ tail m None ps)
 ends_after (Indent ∷ ps) a m h = ends_after ps a (m + 2) h
 ends_after (Dedent ∷ ps) a m h = ends_after ps a (m - 2) h
 
-pub relexed : (ps : List Piece) (s : Gap) (m : ℕ) (l : Option Class) → Sound s ps → Lexed (chars (tail m l ps)) (all_spelled ps)
+pub relexed : (ps : List PrintPiece) (s : Gap) (m : ℕ) (l : Option Class) → Sound s ps → Lexed (chars (tail m l ps)) (all_spelled ps)
 relexed [] s m l h = lexed_nil (chars []) chars-nil
 relexed (Plain c ∷ ps) s m l h =
     let rest = tail m (Some c) ps in

@@ -10,7 +10,7 @@ use Rattle.std.proofs.lemmas.Str.Parse.{IsNumeralModel, numerals_by_fold}
 use Rattle.unicode_ident.specs.Ident.{is_xid_start}
 use Rattle.unicode_ident.proofs.IdentLemmas.{is_xid_start-ascii, is_xid_continue-ascii}
 use Rattle.qvt_lexer.specs.Characters.{is_start, is_continue, is_digit}
-use Rattle.qvt_words.specs.Words.{is_single, is_double, is_reserved, word_of, sign_of, spelling}
+use Rattle.qvt_words.specs.Words.{is_single_sign, is_double_sign, is_reserved, word_of, sign_of, spelling}
 use Rattle.qvt_lexer.specs.Literals.{every, begins, number_after, number_of, greatest_number, Content}
 use Rattle.qvt_lexer.specs.Scan.{scan_at}
 use Rattle.qvt_lexer.specs.declared.token.TokenKind.TheVariants as kinds
@@ -29,7 +29,7 @@ use Rattle.qvt_readback_tokens.proofs.Scans.{scan_escaped, scan_number, scan_str
 use Rattle.qvt_readback_tokens.proofs.Spelt.{Kind, Named, Number, Text, Reserved, One, Two, kind_of, is_letter, Spelt, spelt}
 use Rattle.qvt_readback_tokens.proofs.Quotes.{is_low, low_bytes, shown, all_shown_bytes, shown_content, content_is}
 use Rattle.qvt_readback_tokens.proofs.Sound.{is_spelled}
-use Rattle.qvt_readback_tokens.specs.Told.{IsName, IsText, IsSmall}
+use Rattle.qvt_readback_tokens.specs.Told.{IsName, IsEncoded, IsSmall}
 use Rattle.qvt_readback_tokens.proofs.Again.{EndsBy, Again, digits_not, plain_scan}
 use Rattle.qvt_readback_tokens.proofs.Names.{plain_name, held_name, held_bytes, some_name}
 
@@ -84,11 +84,11 @@ word_again c (x ∷ u) some all reserved same =
     }
 
 -- signs
-single_scan : (x : ℕ) → is_single x ≡ true → (rest : List ℕ) → EndsBy One (x ∷ []) rest → scan_at x rest ≡ Ok (Token kinds.Symbol, rest)
+single_scan : (x : ℕ) → is_single_sign x ≡ true → (rest : List ℕ) → EndsBy One (x ∷ []) rest → scan_at x rest ≡ Ok (Token kinds.Symbol, rest)
 single_scan x h [] e = scan_single_last x h
 single_scan x h (d ∷ rest) e = scan_single x h d rest e
 
-one_again : (c : Class) (x : ℕ) → is_single x ≡ true → unwrap_or (sign_of (x ∷ [])) class.Name ≡ c → Again One (x ∷ []) (x ∷ []) (token c [] (pos 0))
+one_again : (c : Class) (x : ℕ) → is_single_sign x ≡ true → unwrap_or (sign_of (x ∷ [])) class.Name ≡ c → Again One (x ∷ []) (x ∷ []) (token c [] (pos 0))
 one_again c x single same = record {
   first = x;
   more = [];
@@ -99,7 +99,7 @@ one_again c x single same = record {
   says = λ at i. token (same i) [] (pos 0);
 }
 
-two_again : (c : Class) (x y : ℕ) → is_double x y ≡ true → unwrap_or (sign_of (x ∷ y ∷ [])) class.Name ≡ c → Again Two (x ∷ y ∷ []) (x ∷ y ∷ []) (token c [] (pos 0))
+two_again : (c : Class) (x y : ℕ) → is_double_sign x y ≡ true → unwrap_or (sign_of (x ∷ y ∷ [])) class.Name ≡ c → Again Two (x ∷ y ∷ []) (x ∷ y ∷ []) (token c [] (pos 0))
 two_again c x y double same =
     let small = double_small x y double in
     record {
@@ -208,7 +208,7 @@ module _ (u : List ℕ) where
     inside : string_of (chars (39 ∷ (flat_map escaped u ++ 39 ∷ []))) ≡ u
     inside = ap string_of (ap chars (sym letters_bytes) ∙ chars_of (39 ∷ letters)) ∙ content_is u letters [] (shown_content u (39 ∷ []))
 
-pub quoted_again : (t : List ℕ) → IsText t → Again Text [] (quoted t) (token class.Str t (pos 0))
+pub quoted_again : (t : List ℕ) → IsEncoded t → Again Text [] (quoted t) (token class.Str t (pos 0))
 quoted_again t (u, e) =
     subst (λ z. Again Text [] (quoted z) (token class.Str z (pos 0))) (sym e)
     (subst (λ z. Again Text [] (39 ∷ (flat_map escaped z ++ 39 ∷ [])) (token class.Str (encode_utf8_all u) (pos 0))) (sym (chars_of u)) (text_again u))

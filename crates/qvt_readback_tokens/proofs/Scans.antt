@@ -3,7 +3,7 @@ use Rattle.std.proofs.Common.{◌≡◌, ℕ, ◌≤◌, List, [], ◌∷◌, �
 use Rattle.std.proofs.lemmas.Bool.Decides.{nat_tests}
 use Rattle.std.proofs.lemmas.List.{append_cancel_right}
 use Rattle.qvt_lexer.specs.Characters.{is_blank, is_start, is_continue, is_digit, is_quote, is_in_line, is_line_comment, is_block_comment}
-use Rattle.qvt_words.specs.Words.{is_single, is_double}
+use Rattle.qvt_words.specs.Words.{is_single_sign, is_double_sign}
 use Rattle.qvt_lexer.specs.Literals.{skip, every, begins, number_of, greatest_number, after_close, item_at, Content}
 use Rattle.qvt_lexer.specs.Pieces.{IsNext}
 use Rattle.qvt_lexer.specs.Scan.{Scan, IsScanOf, scan_at, is_apostrophe, word_kind, word_at, closed_at, escaped_at, number_at, content_end, quoted_at, string_at, block_at, single_at, mark_at}
@@ -116,7 +116,7 @@ scan_mark c cs mark =
       no_line : (c : ℕ) → is_mark c ≡ true → (c == 95 && begins is_apostrophe cs) ≡ false
       no_line c h = ap (λ b. b && begins is_apostrophe cs) (no_underscore c h)
 
-pub scan_double : (c d : ℕ) (rest : List ℕ) → is_double c d ≡ true → scan_at c (d ∷ rest) ≡ Ok (Token Symbol, rest)
+pub scan_double : (c d : ℕ) (rest : List ℕ) → is_double_sign c d ≡ true → scan_at c (d ∷ rest) ≡ Ok (Token Symbol, rest)
 scan_double c d rest h = scan_mark c (d ∷ rest) (double_mark c d h) ∙ ap (λ b. cond b (Ok (Token Symbol, rest)) (others c d)) h where
   others : ℕ → ℕ → Scan
   others c d = cond (is_line_comment c d) (Ok (Comment, skip is_in_line rest)) (cond (is_block_comment c d) (block_at (c ∷ d ∷ rest) (after_close rest)) (single_at c (d ∷ rest)))
@@ -124,14 +124,14 @@ scan_double c d rest h = scan_mark c (d ∷ rest) (double_mark c d h) ∙ ap (λ
 -- whether a sign ends before a character
 abbrev pub sign_ends : List ℕ → ℕ → Bool
 sign_ends [] d = true
-sign_ends (c ∷ []) d = not (is_double c d || is_line_comment c d)
+sign_ends (c ∷ []) d = not (is_double_sign c d || is_line_comment c d)
 sign_ends (c ∷ b ∷ cs) d = true
 
 abbrev no_slashes : List ℕ → Bool
 no_slashes [] = true
 no_slashes (c ∷ u) = not (c == 47)
 
-module _ (c : ℕ) (single : is_single c ≡ true) where
+module _ (c : ℕ) (single : is_single_sign c ≡ true) where
   singly : (rest : List ℕ) → single_at c rest ≡ Ok (Token Symbol, rest)
   singly rest = ap (λ b. cond b (Ok (Token Symbol, rest)) (Err (BadChar, c ∷ rest))) single
 
@@ -146,11 +146,11 @@ module _ (c : ℕ) (single : is_single c ≡ true) where
       scan_mark c (d ∷ rest) marked
       ∙ (λ i. cond (no_double.0 i) (Ok (Token Symbol, rest)) (cond (no_double.1 i) (Ok (Comment, skip is_in_line rest)) (cond (no_block c single i) (block_at (c ∷ d ∷ rest) (after_close rest)) (single_at c (d ∷ rest)))))
       ∙ singly (d ∷ rest) where
-        no_double : (is_double c d ≡ false) × (is_line_comment c d ≡ false)
-        no_double = neither (is_double c d) (is_line_comment c d) ends
+        no_double : (is_double_sign c d ≡ false) × (is_line_comment c d ≡ false)
+        no_double = neither (is_double_sign c d) (is_line_comment c d) ends
 
-        no_slash : (c : ℕ) → is_single c ≡ true → (c == 47) ≡ false
+        no_slash : (c : ℕ) → is_single_sign c ≡ true → (c == 47) ≡ false
         no_slash c h = let k = of_single no_slashes c refl h in grind (arith, nat_tests)
 
-        no_block : (c : ℕ) → is_single c ≡ true → is_block_comment c d ≡ false
+        no_block : (c : ℕ) → is_single_sign c ≡ true → is_block_comment c d ≡ false
         no_block c h = ap (λ b. b && (d == 42)) (no_slash c h)

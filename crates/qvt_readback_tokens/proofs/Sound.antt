@@ -3,9 +3,9 @@
 use Rattle.std.proofs.Common.{◌≡◌, List, [], ◌∷◌, ◌++◌, Bool, true, false, ◌&&◌, refl}
 use Rattle.qvt_language.specs.declared.class.Class.{Class}
 use Rattle.qvt_language.specs.declared.class.Class.TheVariants as class
-use Rattle.qvt_printer_layout.specs.declared.piece.Piece.{Piece}
-use Rattle.qvt_printer_layout.specs.declared.piece.Piece.TheVariants.{Plain, Name, Integer, Quoted, Tight, Line, Indent, Dedent}
-use Rattle.qvt_readback_tokens.specs.Told.{IsName, IsText, IsSmall}
+use Rattle.qvt_printer_layout.specs.declared.piece.PrintPiece.{PrintPiece}
+use Rattle.qvt_printer_layout.specs.declared.piece.PrintPiece.TheVariants.{Plain, Name, Integer, Quoted, Tight, Line, Indent, Dedent}
+use Rattle.qvt_readback_tokens.specs.Told.{IsName, IsEncoded, IsSmall}
 use Rattle.qvt_readback_tokens.proofs.Spelt.{Kind, Named, Number, Text, kind_of}
 use Rattle.qvt_readback_tokens.proofs.Meets.{Gap, Free, Held, Tied, Opened, after, fits, tightly}
 
@@ -24,12 +24,12 @@ is_loose Opened = true
 is_loose s = false
 
 -- after the gap these pieces can stand, and what they leave is loose
-abbrev pub Sound : Gap → List Piece → Type 0
+abbrev pub Sound : Gap → List PrintPiece → Type 0
 Sound s [] = is_loose s ≡ true
 Sound s (Plain c ∷ ps) = (stands s c ≡ true) × Sound (after c) ps
 Sound s (Name n ∷ ps) = IsName n × (fits s class.Name ≡ true) × Sound Free ps
 Sound s (Integer v ∷ ps) = IsSmall v × (fits s class.Integer ≡ true) × Sound Free ps
-Sound s (Quoted t ∷ ps) = IsText t × (fits s class.Str ≡ true) × Sound Free ps
+Sound s (Quoted t ∷ ps) = IsEncoded t × (fits s class.Str ≡ true) × Sound Free ps
 Sound s (Tight ∷ ps) = Sound (tightly s) ps
 Sound s (Line ∷ ps) = Sound Free ps
 Sound s (Indent ∷ ps) = Sound s ps
@@ -46,7 +46,7 @@ wider true c s t k h = k h
 wider false c s t k h = absurd cc
 
 -- the narrowest first
-pub tied_held : (ps : List Piece) → Sound Tied ps → Sound Held ps
+pub tied_held : (ps : List PrintPiece) → Sound Tied ps → Sound Held ps
 tied_held [] h = absurd cc
 tied_held (Plain c ∷ ps) h = (wider (is_spelled (kind_of c)) c Tied Held (tied_fits c) h.0, h.1)
 tied_held (Name n ∷ ps) h = absurd (let k = h.1 in cc)
@@ -57,7 +57,7 @@ tied_held (Line ∷ ps) h = h
 tied_held (Indent ∷ ps) h = tied_held ps h
 tied_held (Dedent ∷ ps) h = tied_held ps h
 
-pub held_free : (ps : List Piece) → Sound Held ps → Sound Free ps
+pub held_free : (ps : List PrintPiece) → Sound Held ps → Sound Free ps
 held_free [] h = absurd cc
 held_free (Plain c ∷ ps) h = (wider (is_spelled (kind_of c)) c Held Free (λ k. refl) h.0, h.1)
 held_free (Name n ∷ ps) h = h
@@ -68,7 +68,7 @@ held_free (Line ∷ ps) h = h
 held_free (Indent ∷ ps) h = held_free ps h
 held_free (Dedent ∷ ps) h = held_free ps h
 
-pub free_opened : (ps : List Piece) → Sound Free ps → Sound Opened ps
+pub free_opened : (ps : List PrintPiece) → Sound Free ps → Sound Opened ps
 free_opened [] h = refl
 free_opened (Plain c ∷ ps) h = h
 free_opened (Name n ∷ ps) h = h
@@ -79,14 +79,14 @@ free_opened (Line ∷ ps) h = h
 free_opened (Indent ∷ ps) h = free_opened ps h
 free_opened (Dedent ∷ ps) h = free_opened ps h
 
-loosely : (s : Gap) (ps : List Piece) → is_loose s ≡ true → Sound Free ps → Sound s ps
+loosely : (s : Gap) (ps : List PrintPiece) → is_loose s ≡ true → Sound Free ps → Sound s ps
 loosely Free ps h k = k
 loosely Opened ps h k = free_opened ps k
 loosely Held ps h k = absurd cc
 loosely Tied ps h k = absurd cc
 
 -- one after the other
-pub sound_append : (s : Gap) (ps qs : List Piece) → Sound s ps → Sound Free qs → Sound s (ps ++ qs)
+pub sound_append : (s : Gap) (ps qs : List PrintPiece) → Sound s ps → Sound Free qs → Sound s (ps ++ qs)
 sound_append s [] qs h k = loosely s qs h k
 sound_append s (Plain c ∷ ps) qs h k = (h.0, sound_append (after c) ps qs h.1 k)
 sound_append s (Name n ∷ ps) qs h k = (h.0, h.1, sound_append Free ps qs h.2 k)

@@ -1,6 +1,6 @@
 -- How each token is spelled: of letters, or by one or two signs; and which characters end it.
 use Rattle.std.proofs.Common.{◌≡◌, ℕ, [], ◌∷◌, Bool, true, ◌||◌, ◌&&◌, nat_le, refl, unwrap_or}
-use Rattle.qvt_words.specs.Words.{is_single, is_double, is_reserved, word_of, sign_of, spelling}
+use Rattle.qvt_words.specs.Words.{is_single_sign, is_double_sign, is_reserved, word_of, sign_of, spelling}
 use Rattle.qvt_lexer.specs.Literals.{every, begins}
 use Rattle.qvt_language.specs.declared.class.Class.{Class}
 use Rattle.qvt_language.specs.declared.class.Class.TheVariants as class
@@ -58,14 +58,14 @@ pub record IsWord (c : Class) : Type 0 where
 pub record IsOne (c : Class) : Type 0 where
   pub first : ℕ
   pub text : spelling c ≡ first ∷ []
-  pub single : is_single first ≡ true
+  pub single : is_single_sign first ≡ true
   pub same : unwrap_or (sign_of (spelling c)) class.Name ≡ c
 
 pub record IsTwo (c : Class) : Type 0 where
   pub first : ℕ
   pub second : ℕ
   pub text : spelling c ≡ first ∷ second ∷ []
-  pub double : is_double first second ≡ true
+  pub double : is_double_sign first second ≡ true
   pub same : unwrap_or (sign_of (spelling c)) class.Name ≡ c
 
 abbrev pub Spelt : Kind → Class → Type 0
@@ -77,7 +77,7 @@ Spelt One c = IsOne c
 Spelt Two c = IsTwo c
 
 pub spelt : (c : Class) → Spelt (kind_of c) c
-unfolding is_reserved word_of sign_of is_single is_double
+unfolding is_reserved word_of sign_of is_single_sign is_double_sign
 spelt class.Name = refl
 spelt class.Integer = refl
 spelt class.Str = refl

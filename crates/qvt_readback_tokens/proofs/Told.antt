@@ -4,7 +4,7 @@ use Rattle.std.proofs.lemmas.Bool.Decides.{nat_tests}
 use Rattle.std.specs.Str.{chars, encode_utf8_all}
 use Rattle.std.proofs.lemmas.Str.{encode_ascii}
 use Rattle.qvt_base.specs.declared.numbers.Place.{Place}
-use Rattle.qvt_words.specs.Words.{is_single, is_double, is_reserved, word_of, sign_of}
+use Rattle.qvt_words.specs.Words.{is_single_sign, is_double_sign, is_reserved, word_of, sign_of}
 use Rattle.qvt_lexer.specs.Literals.{number_of}
 use Rattle.qvt_lexer.specs.Pieces.{IsSymbol, Spells}
 use Rattle.qvt_lexer.specs.Division.{Written, Divides, TokenData, token_of, tokens_of, place_after, start_at}
@@ -60,11 +60,11 @@ reserved_word u h = of_word is_other_class u refl h
 abbrev is_sign : List ℕ → Bool
 is_sign u = is_other_class (unwrap_or (sign_of u) class.Name)
 
-single_sign : (c : ℕ) → is_single c ≡ true → is_sign (c ∷ []) ≡ true
+single_sign : (c : ℕ) → is_single_sign c ≡ true → is_sign (c ∷ []) ≡ true
 unfolding sign_of
 single_sign c h = of_single is_sign c refl h
 
-double_sign : (c d : ℕ) → is_double c d ≡ true → is_sign (c ∷ d ∷ []) ≡ true
+double_sign : (c d : ℕ) → is_double_sign c d ≡ true → is_sign (c ∷ d ∷ []) ≡ true
 unfolding sign_of
 double_sign c d h = of_double is_sign c d refl h
 

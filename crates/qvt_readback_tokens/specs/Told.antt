@@ -10,8 +10,8 @@ use Rattle.qvt_language.specs.declared.class.Class.TheVariants.{Name, Integer, S
 abbrev pub IsName : List ℕ → Type 0
 IsName n = (u : List ℕ) × (n ≡ encode_utf8_all u) × IsPlainName u
 
-abbrev pub IsText : List ℕ → Type 0
-IsText t = (u : List ℕ) × (t ≡ encode_utf8_all u)
+abbrev pub IsEncoded : List ℕ → Type 0
+IsEncoded t = (u : List ℕ) × (t ≡ encode_utf8_all u)
 
 abbrev pub IsSmall : ℤ → Type 0
 IsSmall v = (n : ℕ) × (v ≡ pos n) × (n ≤ greatest_number)
@@ -19,7 +19,7 @@ IsSmall v = (n : ℕ) × (v ≡ pos n) × (n ≤ greatest_number)
 pub record IsTold (t : Tok) : Type 0 where
   pub name : IsTrue (is Name t) → IsName t.text
   pub integer : IsTrue (is Integer t) → IsSmall t.number
-  pub text : IsTrue (is Str t) → IsText t.text
+  pub text : IsTrue (is Str t) → IsEncoded t.text
 
 abbrev pub AllTold : List Tok → Type 0
 AllTold [] = Unit {0}

@@ -12,11 +12,11 @@ use Rattle.qvt_language.specs.declared.class.Class.TheVariants as class
 use Rattle.qvt_language.specs.Readers.{the}
 use Rattle.qvt_language.specs.Tokens.{Tok, of}
 use Rattle.qvt_language.specs.Trees.{second, inner}
-use Rattle.qvt_language.specs.Grammar.{Nested, paths}
+use Rattle.qvt_language.specs.Grammar.{NestedLanguages, paths}
 use Rattle.qvt_language.specs.Units.{when_clause, clause, clauses}
-use Rattle.qvt_language.specs.UnitTrees.{Clauses, no_clauses, Clause, InheritsClause, MergesClause, DisjunctsClause, WhenClause, with_clause, read_words, or_same, paths_or_none}
-use Rattle.qvt_printer_layout.specs.declared.piece.Piece.{Piece}
-use Rattle.qvt_printer_layout.specs.declared.piece.Piece.TheVariants as piece
+use Rattle.qvt_language.specs.UnitTrees.{ClausesTree, no_clauses, ClauseTree, InheritsClause, MergesClause, DisjunctsClause, WhenClause, with_clause, read_words, or_same, paths_or_none}
+use Rattle.qvt_printer_layout.specs.declared.piece.PrintPiece.{PrintPiece}
+use Rattle.qvt_printer_layout.specs.declared.piece.PrintPiece.TheVariants as piece
 use Rattle.qvt_printer.specs.Expressions as print
 use Rattle.qvt_printer.specs.Units as printed
 use Rattle.qvt_readback_tokens.specs.Spelled.{all_spelled}
@@ -26,7 +26,7 @@ use Rattle.qvt_readback_trees.proofs.Again.{Again, any, again_the, again_then, a
 use Rattle.qvt_readback_trees.proofs.AgainUnits.{again_listed}
 use Rattle.qvt_readback_trees.proofs.UnitBase.{AgainUnits}
 
-abbrev when_pieces : ExprTerm → List Piece
+abbrev when_pieces : ExprTerm → List PrintPiece
 when_pieces e = piece.Plain class.WhenWord ∷ piece.Plain class.OpenBrace ∷ (print.expr e ++ print.one class.CloseBrace)
 
 abbrev Listed : Class → Language Tok (List PathTree)
@@ -38,17 +38,17 @@ abbrev PathsGood : Class → Option (List PathTree) → Type 0
 PathsGood word None = ⊤
 PathsGood word (Some ps) = (Listed word).reads (all_spelled (printed.listed word ps)) (map erase_path ps)
 
-abbrev WhenGood : Nested → Option ExprTerm → Type 0
+abbrev WhenGood : NestedLanguages → Option ExprTerm → Type 0
 WhenGood j None = ⊤
 WhenGood j (Some e) = IsPrintableExpr e → (when_clause j).reads (all_spelled (when_pieces e)) (erase_expr e)
 
-record GoodClauses (j : Nested) (x : Clauses) : Type 0 where
+record GoodClauses (j : NestedLanguages) (x : ClausesTree) : Type 0 where
   inherits : PathsGood class.InheritsWord x.inherits
   merges : PathsGood class.MergesWord x.merges
   disjuncts : PathsGood class.DisjunctsWord x.disjuncts
   condition : WhenGood j x.condition
 
-module _ {i j : Nested} (h : AgainUnits i j) where
+module _ {i j : NestedLanguages} (h : AgainUnits i j) where
   again_when : Again IsPrintableExpr when_pieces erase_expr (when_clause i) (when_clause j)
   unfolding when_clause
   again_when = again_made second (again_then (again_the class.WhenWord) (again_made {ok2 = IsPrintableExpr} {p2 = λ e. piece.Plain class.OpenBrace ∷ (print.expr e ++ print.one class.CloseBrace)} {b2 = erase_expr} inner (again_then (again_the class.OpenBrace) (again_then h.value
@@ -59,19 +59,19 @@ module _ {i j : Nested} (h : AgainUnits i j) where
   paths_good : (word : Class) (ts : List Tok) (ps : List PathTree) → (Listed word).reads ts ps → PathsGood word (Some ps)
   paths_good word ts ps rd = (again_listed word).again ts ps rd tt
 
-  inherits_good : (ts : List Tok) (x : Clauses) (ps : List PathTree) → GoodClauses j x → (Listed class.InheritsWord).reads ts ps → GoodClauses j (with_clause x (InheritsClause ps))
+  inherits_good : (ts : List Tok) (x : ClausesTree) (ps : List PathTree) → GoodClauses j x → (Listed class.InheritsWord).reads ts ps → GoodClauses j (with_clause x (InheritsClause ps))
   inherits_good ts x ps g rd = record { inherits = paths_good class.InheritsWord ts ps rd; merges = g.merges; disjuncts = g.disjuncts; condition = g.condition }
 
-  merges_good : (ts : List Tok) (x : Clauses) (ps : List PathTree) → GoodClauses j x → (Listed class.MergesWord).reads ts ps → GoodClauses j (with_clause x (MergesClause ps))
+  merges_good : (ts : List Tok) (x : ClausesTree) (ps : List PathTree) → GoodClauses j x → (Listed class.MergesWord).reads ts ps → GoodClauses j (with_clause x (MergesClause ps))
   merges_good ts x ps g rd = record { inherits = g.inherits; merges = paths_good class.MergesWord ts ps rd; disjuncts = g.disjuncts; condition = g.condition }
 
-  disjuncts_good : (ts : List Tok) (x : Clauses) (ps : List PathTree) → GoodClauses j x → (Listed class.DisjunctsWord).reads ts ps → GoodClauses j (with_clause x (DisjunctsClause ps))
+  disjuncts_good : (ts : List Tok) (x : ClausesTree) (ps : List PathTree) → GoodClauses j x → (Listed class.DisjunctsWord).reads ts ps → GoodClauses j (with_clause x (DisjunctsClause ps))
   disjuncts_good ts x ps g rd = record { inherits = g.inherits; merges = g.merges; disjuncts = paths_good class.DisjunctsWord ts ps rd; condition = g.condition }
 
-  when_good : (ts : List Tok) (x : Clauses) (e : ExprTerm) → GoodClauses j x → (when_clause i).reads ts e → GoodClauses j (with_clause x (WhenClause e))
+  when_good : (ts : List Tok) (x : ClausesTree) (e : ExprTerm) → GoodClauses j x → (when_clause i).reads ts e → GoodClauses j (with_clause x (WhenClause e))
   when_good ts x e g rd = record { inherits = g.inherits; merges = g.merges; disjuncts = g.disjuncts; condition = again_when.again ts e rd }
 
-  clause_good : (ts : List Tok) (x : Clauses) (c : Clause) → GoodClauses j x → (clause i).reads ts c → GoodClauses j (with_clause x c)
+  clause_good : (ts : List Tok) (x : ClausesTree) (c : ClauseTree) → GoodClauses j x → (clause i).reads ts c → GoodClauses j (with_clause x c)
   unfolding clause
   clause_good ts x c g rd = elim rd [
     | inl q ↦ subst (λ z. GoodClauses j (with_clause x z)) (sym q.2) (inherits_good ts x q.0 g q.1)
@@ -84,7 +84,7 @@ module _ {i j : Nested} (h : AgainUnits i j) where
     ]
   ]
 
-  clauses_good : (n : ℕ) (x y : Clauses) (ts : List Tok) → GoodClauses j x → (clauses i n x).reads ts y → GoodClauses j y
+  clauses_good : (n : ℕ) (x y : ClausesTree) (ts : List Tok) → GoodClauses j x → (clauses i n x).reads ts y → GoodClauses j y
   clauses_good zero x y ts g rd = subst (GoodClauses j) (sym rd.2) g
   clauses_good (suc n) x y ts g rd = elim rd.1 [
     | inl q ↦ (
@@ -99,27 +99,27 @@ module _ {i j : Nested} (h : AgainUnits i j) where
 
 -- one clause more, of a kind that was not there
 
-module _ (j : Nested) where
-  stop : (n : ℕ) (x : Clauses) → (clauses j n x).reads [] x
+module _ (j : NestedLanguages) where
+  stop : (n : ℕ) (x : ClausesTree) → (clauses j n x).reads [] x
   stop zero x = (tt, refl, refl)
   stop (suc n) x = (None, inr (tt, refl, refl), refl)
 
-  go_on : (n : ℕ) (x y : Clauses) (c : Clause) (us vs ts : List Tok) → ts ≡ us ++ vs → (clause j).reads us c → starts (of (read_words x)) us ≡ false → (clauses j n (with_clause x c)).reads vs y → (clauses j (suc n) x).reads ts y
+  go_on : (n : ℕ) (x y : ClausesTree) (c : ClauseTree) (us vs ts : List Tok) → ts ≡ us ++ vs → (clause j).reads us c → starts (of (read_words x)) us ≡ false → (clauses j n (with_clause x c)).reads vs y → (clauses j (suc n) x).reads ts y
   go_on n x y c us vs ts e rc bar rest = (Some y, inl (y, ((with_clause x c, y), (us, vs, e, (c, (rc, bar), refl), rest), refl), refl), refl)
 
 abbrev bare_paths : Option (List PathTree) → Option (List PathTree)
 bare_paths = option_map (map erase_path)
 
-abbrev pub bare_clauses : Clauses → Clauses
+abbrev pub bare_clauses : ClausesTree → ClausesTree
 bare_clauses x = record { inherits = bare_paths x.inherits; merges = bare_paths x.merges; disjuncts = bare_paths x.disjuncts; condition = option_map erase_expr x.condition }
 
-abbrev pub clause_pieces : Clauses → List Piece
+abbrev pub clause_pieces : ClausesTree → List PrintPiece
 clause_pieces x = printed.listed class.InheritsWord (paths_or_none x.inherits) ++ (printed.listed class.MergesWord (paths_or_none x.merges) ++ (printed.listed class.DisjunctsWord (paths_or_none x.disjuncts) ++ printed.when_if (optional_expr x.condition)))
 
 abbrev Four : Type 0
 Four = Option (List PathTree)
 
-abbrev some_of : Four → Four → Four → Clauses
+abbrev some_of : Four → Four → Four → ClausesTree
 some_of a b c = record { inherits = a; merges = b; disjuncts = c; condition = None }
 
 -- no word of a later kind was read
@@ -148,13 +148,13 @@ listed_start : (p : Tok → Bool) (word : Class) (ps : List PathTree) → (Liste
 listed_start p word [] rd f = absurd (let z : [] ≡ rd.0.0 ∷ rd.1.1 = rd.1.2 ∙ ap (λ u. u ++ rd.1.1) rd.1.3.0 in cc)
 listed_start p word (q ∷ ps) rd f = f (all_spelled (print.paths (q ∷ ps)))
 
-module _ (j : Nested) where
+module _ (j : NestedLanguages) where
   when_reads : (n : ℕ) (a b c : Four) (d : Option ExprTerm) → WhenGood j d → IsPrintableOptional (optional_expr d) → (clauses j (suc n) (some_of a b c)).reads (all_spelled (printed.when_if (optional_expr d))) (record { inherits = a; merges = b; disjuncts = c; condition = option_map erase_expr d })
   unfolding clause
   when_reads n a b c None g o = stop j (suc n) (some_of a b c)
   when_reads n a b c (Some e) g o =
       let ts = all_spelled (when_pieces e) in
-      let y : Clauses = record { inherits = a; merges = b; disjuncts = c; condition = Some (erase_expr e) } in
+      let y : ClausesTree = record { inherits = a; merges = b; disjuncts = c; condition = Some (erase_expr e) } in
       go_on j n (some_of a b c) y (WhenClause (erase_expr e)) ts [] ts (sym (append-nil ts)) (inr (inr (inr (erase_expr e, g o, refl)))) (fresh_when a b c (plain class.OpenBrace ∷ all_spelled (print.expr e ++ print.one class.CloseBrace))) (stop j n y)
 
   disjuncts_reads : (n : ℕ) (a b c : Four) (d : Option ExprTerm) → PathsGood class.DisjunctsWord c → WhenGood j d → IsPrintableOptional (optional_expr d) →
@@ -184,9 +184,9 @@ module _ (j : Nested) where
       let rest = printed.listed class.MergesWord (paths_or_none b) ++ (printed.listed class.DisjunctsWord (paths_or_none c) ++ printed.when_if (optional_expr d)) in
       go_on j 3 no_clauses _ (InheritsClause (map erase_path ps)) (all_spelled ws) (all_spelled rest) (all_spelled (ws ++ rest)) (spelled_append ws rest) (inl (map erase_path ps, ga, refl)) (listed_start _ class.InheritsWord ps ga (λ ts. refl)) (merges_reads 0 (Some (map erase_path ps)) b c d gb gc gd o)
 
-none_good : (j : Nested) → GoodClauses j no_clauses
+none_good : (j : NestedLanguages) → GoodClauses j no_clauses
 none_good j = record { inherits = tt; merges = tt; disjuncts = tt; condition = tt }
 
-module _ {i j : Nested} (h : AgainUnits i j) where
-  pub again_clauses : Again (λ (x : Clauses). IsPrintableOptional (optional_expr x.condition)) clause_pieces bare_clauses (clauses i 4 no_clauses) (clauses j 4 no_clauses)
+module _ {i j : NestedLanguages} (h : AgainUnits i j) where
+  pub again_clauses : Again (λ (x : ClausesTree). IsPrintableOptional (optional_expr x.condition)) clause_pieces bare_clauses (clauses i 4 no_clauses) (clauses j 4 no_clauses)
   again_clauses = record { again = λ ts x rd o. (let g = clauses_good h 4 no_clauses x ts (none_good j) rd in inherits_reads j x.inherits x.merges x.disjuncts x.condition g.inherits g.merges g.disjuncts g.condition o) }

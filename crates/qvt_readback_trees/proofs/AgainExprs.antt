@@ -14,10 +14,10 @@ use Rattle.qvt_language.specs.declared.class.Class.{Class}
 use Rattle.qvt_language.specs.declared.class.Class.TheVariants as class
 use Rattle.qvt_language.specs.Tokens.{Tok}
 use Rattle.qvt_language.specs.Leads.{Lead, Plain, Bracketed}
-use Rattle.qvt_language.specs.Grammar.{Nested, expr, exprs, args, literal, word, named_expr, item, coll, if_expr, object, new_expr, map_call, filter_head, bar_expr, filter, all_word, in_word, all_form, in_form, resolve, longer, bare_expr, accumulator, more_exprs}
+use Rattle.qvt_language.specs.Grammar.{NestedLanguages, expr, exprs, args, literal, word, named_expr, item, coll, if_expr, object, new_expr, map_call, filter_head, bar_expr, filter, all_word, in_word, all_form, in_form, resolve, longer, bare_expr, accumulator, more_exprs}
 use Rattle.qvt_language.specs.Trees.{second, first, cons_of, nothing, inner, int_of, str_of, true_of, false_of, null_of, self_of, result_of, named_expr_of, coll_of, range_of, item_of, if_of, object_of, new_of, map_of, is_strict, all_of, in_of, is_there, resolve_of, resolve_word, no_name, named_type, filter_of, accumulator_of, expr_of}
-use Rattle.qvt_printer_layout.specs.declared.piece.Piece.{Piece}
-use Rattle.qvt_printer_layout.specs.declared.piece.Piece.TheVariants as piece
+use Rattle.qvt_printer_layout.specs.declared.piece.PrintPiece.{PrintPiece}
+use Rattle.qvt_printer_layout.specs.declared.piece.PrintPiece.TheVariants as piece
 use Rattle.qvt_printer_layout.specs.Words as words
 use Rattle.qvt_printer.specs.Expressions as print
 use Rattle.qvt_readback_tokens.specs.Spelled.{all_spelled}
@@ -50,11 +50,11 @@ ok_optional None o = tt
 ok_optional (Some e) o = o
 
 -- what stands nested inside is read again, and has a form
-pub record Inside (i : Nested) (e : ExprTerm) : Type 0 where
+pub record Inside (i : NestedLanguages) (e : ExprTerm) : Type 0 where
   pub bracket : Bracket i e
   pub form : Form i e
 
-pub record AgainNested (i : Nested) : Type 0 where
+pub record AgainNested (i : NestedLanguages) : Type 0 where
   pub flagged : (ts : List Tok) (x : Lead) → i.flagged.reads ts x → IsPrintableExpr (expr_of x) → Inside i (expr_of x)
   -- an expression in brackets alone
   pub bracketed : (ts : List Tok) (e : ExprTerm) → i.flagged.reads ts (Bracketed e) → IsPrintableExpr e → i.flagged.reads (all_spelled (print.in_round (print.expr e))) (Bracketed (erase_expr e))
@@ -65,10 +65,10 @@ pub record AgainNested (i : Nested) : Type 0 where
 abbrev Items : List ItemTerm → Type 0
 Items is = ArePrintableItems (items_of is)
 
-abbrev item_pieces : List ItemTerm → List Piece
+abbrev item_pieces : List ItemTerm → List PrintPiece
 item_pieces is = print.all_items false (items_of is)
 
-abbrev call_pieces : List ExprTerm ⊎ List Named → List Piece
+abbrev call_pieces : List ExprTerm ⊎ List Named → List PrintPiece
 call_pieces (inl es) = print.in_round (print.exprs false (exprs_of es))
 call_pieces (inr ns) = print.more_names (texts ns)
 
@@ -113,13 +113,13 @@ condition_same (Some e) = refl
 abbrev pub FilterHead : Type 0
 FilterHead = Option (List ℕ) × TypeTerm
 
-abbrev filter_pieces : FilterHead → List Piece
+abbrev filter_pieces : FilterHead → List PrintPiece
 filter_pieces x = print.named_if x.0 ++ print.type_of x.1
 
 abbrev pub bare_filter : FilterHead → FilterHead
 bare_filter x = (x.0, erase_type x.1)
 
-abbrev named_pieces : TypeTerm ⊎ List Named → List Piece
+abbrev named_pieces : TypeTerm ⊎ List Named → List PrintPiece
 named_pieces (inl t) = print.typed t
 named_pieces (inr ns) = print.more_names (texts ns)
 
@@ -158,7 +158,7 @@ Resolved = ResolveWord × (Option PathTree × Option FilterTerm)
 abbrev resolved_ok : Resolved → Type 0
 resolved_ok x = IsPrintableFilter (optional_filter x.1.1)
 
-abbrev resolved_pieces : Resolved → List Piece
+abbrev resolved_pieces : Resolved → List PrintPiece
 resolved_pieces x = piece.Plain (words.resolve_word x.0) ∷ print.in_round (print.resolved x.1.0 (optional_filter x.1.1))
 
 abbrev pub bare_resolved : Resolved → Resolved
@@ -168,7 +168,7 @@ all_same : (f : FilterTerm) → print.resolved None f ≡ print.filter f
 all_same NoFilter = refl
 all_same (FilterOf name kind condition place) = refl
 
-abbrev comma_filter : FilterTerm → List Piece
+abbrev comma_filter : FilterTerm → List PrintPiece
 comma_filter NoFilter = []
 comma_filter (FilterOf name kind condition place) = piece.Plain class.Comma ∷ print.filter (FilterOf name kind condition place)
 
@@ -185,7 +185,7 @@ pub optional_any : {A : Type 0} (x : Option A) → optional_ok any x
 optional_any None = tt
 optional_any (Some a) = tt
 
-late_same : {X : Type 0} (late : Option X) (r : List Piece) → print.late_if (is_there late) ++ r ≡ if_there (λ _. print.one class.LateWord) late ++ r
+late_same : {X : Type 0} (late : Option X) (r : List PrintPiece) → print.late_if (is_there late) ++ r ≡ if_there (λ _. print.one class.LateWord) late ++ r
 late_same None r = refl
 late_same (Some t) r = refl
 
@@ -204,14 +204,14 @@ strict_kept : (b : Bool) → is_strict (words.map_word b) ≡ b
 strict_kept true = refl
 strict_kept false = refl
 
-abbrev FilterReads : Nested → List Tok → FilterTerm → Type 0
+abbrev FilterReads : NestedLanguages → List Tok → FilterTerm → Type 0
 FilterReads i ts f = (filter i).reads ts f
 
-comma_spelled : (i : Nested) (ts : List Tok) (f : FilterTerm) → FilterReads i ts f → all_spelled (comma_filter f) ≡ plain class.Comma ∷ all_spelled (print.filter f)
+comma_spelled : (i : NestedLanguages) (ts : List Tok) (f : FilterTerm) → FilterReads i ts f → all_spelled (comma_filter f) ≡ plain class.Comma ∷ all_spelled (print.filter f)
 unfolding filter
 comma_spelled i ts f rd = subst (λ z. all_spelled (comma_filter z) ≡ plain class.Comma ∷ all_spelled (print.filter z)) (sym rd.2) refl
 
-module _ {i : Nested} (h : AgainNested i) where
+module _ {i : NestedLanguages} (h : AgainNested i) where
   pub again_expr : Again IsPrintableExpr print.expr erase_expr (expr i) (expr i)
   unfolding expr
   again_expr = record {
@@ -366,7 +366,7 @@ named_basic : (n : Named) (x : List ExprTerm ⊎ List Named) → is_basic (named
 named_basic n (inl es) = refl
 named_basic n (inr ns) = refl
 
-pub bare_basic : (i : Nested) (ts : List Tok) (e : ExprTerm) → (bare_expr i).reads ts e → is_basic e ≡ true
+pub bare_basic : (i : NestedLanguages) (ts : List Tok) (e : ExprTerm) → (bare_expr i).reads ts e → is_basic e ≡ true
 unfolding bare_expr longer literal word named_expr coll object new_expr
 bare_basic i ts e rd = elim rd [
   | inl a ↦ elim a [ inl q ↦ ap is_basic q.2 | inr b ↦ elim b [ inl q ↦ ap is_basic q.2 | inr c ↦ elim c [ inl q ↦ ap is_basic q.2 | inr q ↦ ap is_basic q.2 ] ] ]

@@ -11,11 +11,11 @@ use Rattle.qvt_language.specs.declared.class.Class.TheVariants as class
 use Rattle.qvt_language.specs.Readers.{the}
 use Rattle.qvt_language.specs.Tokens.{Tok, is}
 use Rattle.qvt_language.specs.Trees.{second}
-use Rattle.qvt_language.specs.Grammar.{Nested}
+use Rattle.qvt_language.specs.Grammar.{NestedLanguages}
 use Rattle.qvt_language.specs.Units.{init_part, end_part, end_unless, sections, body, mapping_unit}
-use Rattle.qvt_language.specs.UnitTrees.{Body, sections_of, mapping_of, stmts_or_none}
-use Rattle.qvt_printer_layout.specs.declared.piece.Piece.{Piece}
-use Rattle.qvt_printer_layout.specs.declared.piece.Piece.TheVariants as piece
+use Rattle.qvt_language.specs.UnitTrees.{BodyTree, sections_of, mapping_of, stmts_or_none}
+use Rattle.qvt_printer_layout.specs.declared.piece.PrintPiece.{PrintPiece}
+use Rattle.qvt_printer_layout.specs.declared.piece.PrintPiece.TheVariants as piece
 use Rattle.qvt_printer.specs.Expressions as print
 use Rattle.qvt_printer.specs.Units as printed
 use Rattle.qvt_readback_tokens.specs.Spelled.{all_spelled}
@@ -31,30 +31,30 @@ use Rattle.qvt_readback_trees.proofs.AgainClauses.{bare_clauses, clause_pieces, 
 use Rattle.qvt_readback_trees.proofs.UnitBase.{Stmts, AgainBlock, AgainUnits}
 
 -- each part of a body is read again, in its own block or without one
-record GoodBody (j : Nested) (x : Body) : Type 0 where
+record GoodBody (j : NestedLanguages) (x : BodyTree) : Type 0 where
   init : AgainBlock j x.init
   population : AgainBlock j x.population
   finish : AgainBlock j x.finish
 
-abbrev pub bare_body : Body → Body
+abbrev pub bare_body : BodyTree → BodyTree
 bare_body x = record { init = map erase_stmt x.init; population = map erase_stmt x.population; finish = map erase_stmt x.finish }
 
-abbrev body_ok : Body → Type 0
+abbrev body_ok : BodyTree → Type 0
 body_ok x = Stmts x.init × Stmts x.population × Stmts x.finish
 
-abbrev section : Class → List StmtTerm → List Piece
+abbrev section : Class → List StmtTerm → List PrintPiece
 section word ss = printed.section word (stmts_of ss)
 
-abbrev all_sections : Body → List Piece
+abbrev all_sections : BodyTree → List PrintPiece
 all_sections x = section class.InitWord x.init ++ (section class.PopulationWord x.population ++ section class.EndWord x.finish)
 
-abbrev has_sections : Body → Bool
+abbrev has_sections : BodyTree → Bool
 has_sections x = printed.has_statements (stmts_of x.init) || printed.has_statements (stmts_of x.finish)
 
-abbrev pub body_pieces : Body → List Piece
+abbrev pub body_pieces : BodyTree → List PrintPiece
 body_pieces x = if has_sections x then print.in_block (all_sections x) else print.block (stmts_of x.population)
 
-module _ {i j : Nested} (h : AgainUnits i j) where
+module _ {i j : NestedLanguages} (h : AgainUnits i j) where
   -- what was read
 
   block_of : (word : Class) (ts : List Tok) (x : Option (List StmtTerm)) → (maybe (made second ((then) (the word) i.block))).reads ts x → AgainBlock j (stmts_or_none x)
@@ -88,7 +88,7 @@ module _ {i j : Nested} (h : AgainUnits i j) where
         subst Sections (sym q.2) (h.list w.0 q.0.0 w.3, end_good q.0.0.open_end w.1 q.0.1 w.4))
   ]
 
-  body_good : (ts : List Tok) (x : Body) → (body i).reads ts x → GoodBody j x
+  body_good : (ts : List Tok) (x : BodyTree) → (body i).reads ts x → GoodBody j x
   unfolding body init_part
   body_good ts x rd = elim rd [
     | inl q ↦ subst (GoodBody j) (sym q.2) (record { init = h.nothing; population = h.nothing; finish = h.nothing })
@@ -101,7 +101,7 @@ module _ {i j : Nested} (h : AgainUnits i j) where
 
 -- what is printed
 
-module _ (j : Nested) where
+module _ (j : NestedLanguages) where
   abbrev Worded : Class → Language Tok (List StmtTerm)
   Worded word = made second ((then) (the word) j.block)
 
@@ -133,7 +133,7 @@ module _ (j : Nested) where
       let ms = map erase_stmt (s ∷ ss) in
       inl ((ms, if_any finish), ((plain class.PopulationWord, (ms, if_any finish)), (plain class.PopulationWord ∷ [], us ++ vs, ap (λ z. plain class.PopulationWord ∷ z) (spelled_append b e), (refl, refl), (us, vs, refl, gp.block op, section_reads class.EndWord (is_itself class.EndWord) finish gf of_)), refl), ap (λ z. (ms, z)) (sym (any_same finish)))
 
-  sections_read : (x : Body) → GoodBody j x → body_ok x → (body j).reads (all_spelled (print.in_block (all_sections x))) (bare_body x)
+  sections_read : (x : BodyTree) → GoodBody j x → body_ok x → (body j).reads (all_spelled (print.in_block (all_sections x))) (bare_body x)
   unfolding body init_part
   sections_read x g o =
       let init = section class.InitWord x.init in
@@ -170,7 +170,7 @@ module _ (j : Nested) where
   body_reads [] population (s ∷ finish) g o = sections_read (record { init = []; population = population; finish = s ∷ finish }) g o
   body_reads (s ∷ init) population finish g o = sections_read (record { init = s ∷ init; population = population; finish = finish }) g o
 
-module _ {i j : Nested} (h : AgainUnits i j) where
+module _ {i j : NestedLanguages} (h : AgainUnits i j) where
   again_body : Again body_ok body_pieces bare_body (body i) (body j)
   again_body = record { again = λ ts x rd o. body_reads j x.init x.population x.finish (body_good h ts x rd) o }
 

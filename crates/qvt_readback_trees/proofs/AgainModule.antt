@@ -14,12 +14,12 @@ use Rattle.qvt_language.specs.declared.class.Class.TheVariants as class
 use Rattle.qvt_language.specs.Readers.{the}
 use Rattle.qvt_language.specs.Tokens.{Tok}
 use Rattle.qvt_language.specs.Trees.{second, first, inner, cons_of, nothing, text_of}
-use Rattle.qvt_language.specs.Grammar.{Nested}
+use Rattle.qvt_language.specs.Grammar.{NestedLanguages}
 use Rattle.qvt_language.specs.Units.{unit, uri, model_type, model_param, header, transformation, strictness}
 use Rattle.qvt_language.specs.UnitTrees.{some_unit, units_of, model_type_of, model_param_of, direction_of, module_of}
-use Rattle.qvt_language.specs.Module.{Reads}
-use Rattle.qvt_printer_layout.specs.declared.piece.Piece.{Piece}
-use Rattle.qvt_printer_layout.specs.declared.piece.Piece.TheVariants as piece
+use Rattle.qvt_language.specs.Module.{ReadsModule}
+use Rattle.qvt_printer_layout.specs.declared.piece.PrintPiece.{PrintPiece}
+use Rattle.qvt_printer_layout.specs.declared.piece.PrintPiece.TheVariants as piece
 use Rattle.qvt_printer_layout.specs.Words as words
 use Rattle.qvt_printer.specs.Expressions as print
 use Rattle.qvt_printer.specs.Units as printed
@@ -76,7 +76,7 @@ again_model_param = again_made model_param_of (again_then again_direction (again
 abbrev pub Header : Type 0
 Header = List ℕ × List ModelParam
 
-abbrev header_pieces : Header → List Piece
+abbrev header_pieces : Header → List PrintPiece
 header_pieces x = print.ended (piece.Plain class.TransformationWord ∷ piece.Name x.0 ∷ print.in_round (printed.model_params x.1))
 
 abbrev pub bare_header : Header → Header
@@ -97,7 +97,7 @@ again_header = again_made second (again_then (again_the class.TransformationWord
 
 -- units
 
-module _ {i j : Nested} (h : AgainUnits i j) where
+module _ {i j : NestedLanguages} (h : AgainUnits i j) where
   again_unit : Again IsPrintableUnit printed.unit erase_unit (unit i) (unit j)
   unfolding unit
   again_unit = again_either (again_class_unit h) (again_either (again_main_unit h) (again_either (again_constructor_unit h) (again_either (again_mapping_unit h) (again_helper_unit h))))
@@ -109,7 +109,7 @@ module _ {i j : Nested} (h : AgainUnits i j) where
   GoodUnits [] = ⊤
   GoodUnits (u ∷ us) = GoodUnit u × GoodUnits us
 
-  abbrev Item : Nested → Language Tok (List UnitTerm)
+  abbrev Item : NestedLanguages → Language Tok (List UnitTerm)
   Item n = either (made nothing (the class.Semicolon)) (made some_unit (unit n))
 
   append_good : (xs ys : List UnitTerm) → GoodUnits xs → GoodUnits ys → GoodUnits (xs ++ ys)
@@ -160,5 +160,5 @@ module _ {i j : Nested} (h : AgainUnits i j) where
       subst (λ z. (transformation j).reads (all_spelled (printed.module_pieces z)) (shape z)) (sym rd.2) all
 
 -- what is printed of what was read is read as the tree without places
-pub again_module : (ts : List Tok) (m : ModuleTerm) → Reads ts m → IsPrintable m → Reads (all_spelled (printed.module_pieces m)) (shape m)
+pub again_module : (ts : List Tok) (m : ModuleTerm) → ReadsModule ts m → IsPrintable m → ReadsModule (all_spelled (printed.module_pieces m)) (shape m)
 again_module ts m rd o = record { nesting = suc rd.nesting; reads = again_transformation (again_units rd.nesting) ts m rd.reads o }

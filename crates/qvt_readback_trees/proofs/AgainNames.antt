@@ -13,10 +13,10 @@ use Rattle.qvt_language.specs.declared.class.Class.TheVariants as class
 use Rattle.qvt_grammar.specs.Language.{made, then}
 use Rattle.qvt_language.specs.Readers.{the}
 use Rattle.qvt_language.specs.Tokens.{Tok}
-use Rattle.qvt_language.specs.Grammar.{Nested, name, more_names, path, paths, unit_path, extent, kind_word, coll_type, typed, colon_type, colon_path, object_head}
+use Rattle.qvt_language.specs.Grammar.{NestedLanguages, name, more_names, path, paths, unit_path, extent, kind_word, coll_type, typed, colon_type, colon_path, object_head}
 use Rattle.qvt_language.specs.Trees.{second, inner, text_of, named_of, path_of, unit_path_of, cons_of, coll_kind, coll_type_of, last_place, result_head, named_head}
-use Rattle.qvt_printer_layout.specs.declared.piece.Piece.{Piece}
-use Rattle.qvt_printer_layout.specs.declared.piece.Piece.TheVariants.{Name, Plain}
+use Rattle.qvt_printer_layout.specs.declared.piece.PrintPiece.{PrintPiece}
+use Rattle.qvt_printer_layout.specs.declared.piece.PrintPiece.TheVariants.{Name, Plain}
 use Rattle.qvt_printer_layout.specs.Words as words
 use Rattle.qvt_printer.specs.Expressions as print
 use Rattle.qvt_readback_tokens.specs.Spelled.{all_spelled}
@@ -102,7 +102,7 @@ kind_kept kinds.OrderedSet = refl
 pub kind_again : (c : Class) → coll_kind c ≡ coll_kind (kind_class c)
 kind_again c = sym (kind_kept (coll_kind c))
 
-module _ (i : Nested) (h : Again any print.type_of erase_type i.kind i.kind) where
+module _ (i : NestedLanguages) (h : Again any print.type_of erase_type i.kind i.kind) where
   pub again_coll_type : Again any print.type_of erase_type (coll_type i) (coll_type i)
   unfolding coll_type
   again_coll_type = again_made coll_type_of (again_then again_kind_word (again_made {ok2 = any} {p2 = λ t. print.in_round (print.type_of t)} {b2 = erase_type} inner (again_then (again_the class.OpenRound) (again_then h (again_the class.CloseRound))) (λ a o. (tt, (tt, tt))) (λ a. refl) (λ a. refl)))
@@ -121,13 +121,13 @@ unfolding colon_path
 again_colon_path = again_made second (again_then (again_the class.Colon) again_path) (λ a o. (tt, tt)) (λ a. refl) (λ a. refl)
 
 -- a variable of an object expression and its class
-abbrev pub head_pieces : Option ObjectVar × PathTree → List Piece
+abbrev pub head_pieces : Option ObjectVar × PathTree → List PrintPiece
 head_pieces x = print.variable x.0 ++ print.path x.1
 
 abbrev pub bare_head : Option ObjectVar × PathTree → Option ObjectVar × PathTree
 bare_head x = (erase_optional_variable x.0, erase_path x.1)
 
-abbrev either_pieces : PathTree ⊎ List Named → List Piece
+abbrev either_pieces : PathTree ⊎ List Named → List PrintPiece
 either_pieces (inl p) = Plain class.Colon ∷ print.path p
 either_pieces (inr ns) = print.more_names (texts ns)
 

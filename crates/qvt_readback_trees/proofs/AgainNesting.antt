@@ -7,7 +7,7 @@ use Rattle.qvt_grammar.proofs.Wider.{sub_turns}
 use Rattle.qvt_language.specs.Firsts.{expr_first, post_next}
 use Rattle.qvt_language.specs.Leads.{Plain}
 use Rattle.qvt_language.specs.Trees.{expr_of}
-use Rattle.qvt_language.specs.Grammar.{Nested, name, more_names, named_expr, bare_expr, other_primary, primary, post, pre, chain, flagged}
+use Rattle.qvt_language.specs.Grammar.{NestedLanguages, name, more_names, named_expr, bare_expr, other_primary, primary, post, pre, chain, flagged}
 use Rattle.qvt_language.specs.Nesting.{nested}
 use Rattle.qvt_language.proofs.Forms.{good_sets}
 use Rattle.qvt_language.proofs.EveryExprs.{k_bare_expr as good_bare_expr, k_if_expr as good_if_expr, k_step as good_step, k_pre as good_pre}
@@ -44,7 +44,7 @@ module _ (n : ℕ) where
   more_form _ f = (good_bare_expr (good_nested n)).loose.sub.reads _ _ f
 
 -- a name alone is an expression and a target
-name_flagged : (i : Nested) (n : List ℕ) → (flagged i).reads (plain_name n ∷ []) (Plain (PathExpr (record { names = n ∷ []; place = nowhere })) (Some (BareTarget n nowhere)))
+name_flagged : (i : NestedLanguages) (n : List ℕ) → (flagged i).reads (plain_name n ∷ []) (Plain (PathExpr (record { names = n ∷ []; place = nowhere })) (Some (BareTarget n nowhere)))
 unfolding flagged chain pre post primary other_primary bare_expr named_expr name more_names
 name_flagged i n =
     let e = PathExpr (record { names = n ∷ []; place = nowhere }) in

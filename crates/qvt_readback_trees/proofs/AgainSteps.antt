@@ -7,10 +7,10 @@ use Rattle.qvt_tree.specs.Shape.{nowhere, erase_type, erase_optional_type, erase
 use Rattle.qvt_language.specs.declared.class.Class.TheVariants as class
 use Rattle.qvt_language.specs.Tokens.{Tok}
 use Rattle.qvt_language.specs.Leads.{Lead, Plain, Bracketed, Each, EachPart}
-use Rattle.qvt_language.specs.Grammar.{Nested, dot_rest, dot_step, head_rest, more_exprs, after_first, arrow_body, arrow_args, arrow_rest, step, each_tail}
+use Rattle.qvt_language.specs.Grammar.{NestedLanguages, dot_rest, dot_step, head_rest, more_exprs, after_first, arrow_body, arrow_args, arrow_rest, step, each_tail}
 use Rattle.qvt_language.specs.Trees.{second, first, no_args, dot_of, arrow_of, expr_of, headed, each_of}
-use Rattle.qvt_printer_layout.specs.declared.piece.Piece.{Piece}
-use Rattle.qvt_printer_layout.specs.declared.piece.Piece.TheVariants as piece
+use Rattle.qvt_printer_layout.specs.declared.piece.PrintPiece.{PrintPiece}
+use Rattle.qvt_printer_layout.specs.declared.piece.PrintPiece.TheVariants as piece
 use Rattle.qvt_printer.specs.Expressions as print
 use Rattle.qvt_readback_tokens.specs.Spelled.{all_spelled}
 use Rattle.qvt_readback_trees.specs.Printable.{IsPrintableExpr, ArePrintableExprs, ArePrintableArgs, IsPrintableHead, IsPrintableAccumulator, IsPrintableStep, IsPrintableOptional, ArePrintableStmts}
@@ -58,7 +58,7 @@ Body = HeadTerm × List ExprTerm
 abbrev body_ok : Body → Type 0
 body_ok x = IsPrintableHead x.0 × ArePrintableExprs (exprs_of x.1)
 
-abbrev body_pieces : Body → List Piece
+abbrev body_pieces : Body → List PrintPiece
 body_pieces x = print.head x.0 ++ print.exprs false (exprs_of x.1)
 
 abbrev pub bare_body : Body → Body
@@ -70,7 +70,7 @@ HeadRest = Option TypeTerm × (Option AccumulatorTerm × ExprTerm)
 abbrev rest_ok : HeadRest → Type 0
 rest_ok x = IsPrintableAccumulator (optional_accumulator x.1.0) × IsPrintableExpr x.1.1
 
-abbrev rest_pieces : HeadRest → List Piece
+abbrev rest_pieces : HeadRest → List PrintPiece
 rest_pieces x = print.typed_if x.0 ++ (print.accumulator (optional_accumulator x.1.0) ++ (piece.Plain class.Bar ∷ print.expr x.1.1))
 
 abbrev pub bare_rest : HeadRest → HeadRest
@@ -85,11 +85,11 @@ headed_spelled n place x =
 pub headed_bare : (n : List ℕ) (place : Place) (x : HeadRest) → bare_body (headed n place x) ≡ headed n nowhere (bare_rest x)
 headed_bare n place x = λ j. (HeadOf n (type_bare x.0 j) (accumulator_bare x.1.0 j) nowhere, erase_expr x.1.1 ∷ [])
 
-pub same_front : (ps qs rs : List Piece) → all_spelled ps ≡ all_spelled qs → all_spelled (ps ++ rs) ≡ all_spelled (qs ++ rs)
+pub same_front : (ps qs rs : List PrintPiece) → all_spelled ps ≡ all_spelled qs → all_spelled (ps ++ rs) ≡ all_spelled (qs ++ rs)
 same_front ps qs rs e = spelled_append ps rs ∙ ap (λ ts. ts ++ all_spelled rs) e ∙ sym (spelled_append qs rs)
 
 -- a step without its sign
-abbrev step_rest : StepTerm → List Piece
+abbrev step_rest : StepTerm → List PrintPiece
 step_rest (DotStep name x place) = piece.Name name ∷ print.args_if x
 step_rest (ArrowStep name head x place) = piece.Name name ∷ print.in_round (print.head head ++ print.exprs false x)
 step_rest (DotMapStep call) = print.map_call call
@@ -97,7 +97,7 @@ step_rest (ArrowMapStep call) = print.map_call call
 step_rest (DotResolveStep call) = print.resolve call
 step_rest (ArrowResolveStep call) = print.resolve call
 
-module _ {i : Nested} (h : AgainNested i) where
+module _ {i : NestedLanguages} (h : AgainNested i) where
   pub again_dot_rest : Again IsPrintableStep step_rest erase_step (dot_rest i) (dot_rest i)
   unfolding dot_rest
   again_dot_rest = again_either
@@ -186,15 +186,15 @@ arrow_printed (ArrowStep name head x place) q = refl
 arrow_printed (ArrowMapStep call) q = refl
 arrow_printed (ArrowResolveStep call) q = refl
 
-dot_sign : (i : Nested) (ts : List Tok) (s : StepTerm) → (dot_rest i).reads ts s → is_dotted s ≡ true
+dot_sign : (i : NestedLanguages) (ts : List Tok) (s : StepTerm) → (dot_rest i).reads ts s → is_dotted s ≡ true
 unfolding dot_rest
 dot_sign i ts s rd = elim rd [ inl q ↦ ap is_dotted q.2 | inr r ↦ elim r [ inl q ↦ ap is_dotted q.2 | inr q ↦ ap is_dotted q.2 ] ]
 
-arrow_sign : (i : Nested) (ts : List Tok) (s : StepTerm) → (arrow_rest i).reads ts s → is_dotted s ≡ false
+arrow_sign : (i : NestedLanguages) (ts : List Tok) (s : StepTerm) → (arrow_rest i).reads ts s → is_dotted s ≡ false
 unfolding arrow_rest
 arrow_sign i ts s rd = elim rd [ inl q ↦ ap is_dotted q.2 | inr r ↦ elim r [ inl q ↦ ap is_dotted q.2 | inr q ↦ ap is_dotted q.2 ] ]
 
-module _ {i : Nested} (h : AgainNested i) where
+module _ {i : NestedLanguages} (h : AgainNested i) where
   abbrev StepReads : StepTerm → Type 0
   StepReads s = (step i).reads (all_spelled (print.step s)) (erase_step s)
 
@@ -222,13 +222,13 @@ module _ {i : Nested} (h : AgainNested i) where
 abbrev pub EachOk : EachPart → Type 0
 EachOk part = IsPrintableOptional part.condition × ArePrintableStmts (stmts_of part.body)
 
-abbrev pub each_pieces : EachPart → List Piece
+abbrev pub each_pieces : EachPart → List PrintPiece
 each_pieces part = piece.Plain class.ForEachWord ∷ (print.iterator part.name part.kind (print.condition_if part.condition) ++ print.block (stmts_of part.body))
 
 abbrev pub bare_part : EachPart → EachPart
 bare_part part = record { name = part.name; kind = erase_optional_type part.kind; condition = erase_optional_expr part.condition; body = map erase_stmt part.body }
 
-each_same : (n : List ℕ) (kind : Option TypeTerm) (x : Option ExprTerm) (r : List Piece) →
+each_same : (n : List ℕ) (kind : Option TypeTerm) (x : Option ExprTerm) (r : List PrintPiece) →
     all_spelled (piece.Plain class.ForEachWord ∷ (print.iterator n kind (print.condition_if (optional_expr x)) ++ r))
     ≡ all_spelled (piece.Plain class.ForEachWord ∷ piece.Plain class.OpenRound ∷ piece.Name n ∷ (if_there print.typed kind ++ (if_there (λ (e : ExprTerm). piece.Plain class.Bar ∷ print.expr e) x ++ (piece.Plain class.CloseRound ∷ r))))
 each_same n kind x r =
@@ -240,7 +240,7 @@ each_same n kind x r =
     let e3 = same_front k (if_there print.typed kind) (c2 ++ (piece.Plain class.CloseRound ∷ r)) (type_same kind) in
     ap (λ z. plain class.ForEachWord ∷ plain class.OpenRound ∷ plain_name n ∷ z) (ap all_spelled e1 ∙ e2 ∙ e3)
 
-module _ {i : Nested} (h : AgainNested i) where
+module _ {i : NestedLanguages} (h : AgainNested i) where
   pub again_each_tail : Again EachOk each_pieces bare_part (each_tail i) (each_tail i)
   unfolding each_tail
   again_each_tail = again_made each_of (again_then (again_the class.ForEachWord) (again_then (again_the class.OpenRound) (again_then again_name (again_then (again_maybe (again_colon_type i h.kind)) (again_then (again_maybe (again_bar_expr h)) (again_then (again_the class.CloseRound) h.block))))))

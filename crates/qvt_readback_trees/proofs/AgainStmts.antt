@@ -6,11 +6,11 @@ use Rattle.qvt_tree.specs.Shape.{nowhere, erase_expr, erase_stmt, erase_arm, era
 use Rattle.qvt_language.specs.declared.class.Class.TheVariants as class
 use Rattle.qvt_language.specs.Readers.{the}
 use Rattle.qvt_language.specs.Trees.{second, inner}
-use Rattle.qvt_language.specs.Grammar.{Nested}
+use Rattle.qvt_language.specs.Grammar.{NestedLanguages}
 use Rattle.qvt_language.specs.Statements.{branches, condition, var_stmt, return_stmt, arm, else_part, while_stmt}
 use Rattle.qvt_language.specs.StmtTrees.{Branches, var_of, return_of, arm_of, while_of}
-use Rattle.qvt_printer_layout.specs.declared.piece.Piece.{Piece}
-use Rattle.qvt_printer_layout.specs.declared.piece.Piece.TheVariants as piece
+use Rattle.qvt_printer_layout.specs.declared.piece.PrintPiece.{PrintPiece}
+use Rattle.qvt_printer_layout.specs.declared.piece.PrintPiece.TheVariants as piece
 use Rattle.qvt_printer.specs.Expressions as print
 use Rattle.qvt_readback_tokens.specs.Spelled.{all_spelled}
 use Rattle.qvt_readback_trees.specs.Printable.{IsPrintableExpr, IsPrintableStmt, ArePrintableStmts, IsPrintableArm, ArePrintableArms, IsPrintableElse}
@@ -21,7 +21,7 @@ use Rattle.qvt_readback_trees.proofs.AgainExprs.{AgainNested, bare_stmts, bare_o
 use Rattle.qvt_readback_trees.proofs.AgainSteps.{type_same, type_bare, same_front}
 
 -- a simple statement without its `;`
-abbrev pub unended : StmtTerm → List Piece
+abbrev pub unended : StmtTerm → List PrintPiece
 unended (VarStmt name kind value place) = piece.Plain class.VarWord ∷ piece.Name name ∷ (print.typed_if kind ++ print.first_value value)
 unended (ReturnStmt value place) = piece.Plain class.ReturnWord ∷ print.optional value
 unended s = []
@@ -41,7 +41,7 @@ bare_arms (a ∷ arms) = ap (MoreArms (erase_arm a)) (bare_arms arms)
 abbrev Stmts : List StmtTerm → Type 0
 Stmts ss = ArePrintableStmts (stmts_of ss)
 
-abbrev else_pieces : List StmtTerm → List Piece
+abbrev else_pieces : List StmtTerm → List PrintPiece
 else_pieces ss = piece.Plain class.ElseWord ∷ print.block (stmts_of ss)
 
 else_ok : (x : Option (List StmtTerm)) → IsPrintableElse (optional_else x) → optional_ok Stmts x
@@ -61,16 +61,16 @@ else_bare (Some ss) = ap ElseOf (bare_stmts ss)
 abbrev pub branch_ok : Branches → Type 0
 branch_ok x = ArePrintableStmts (stmts_of x.0) × ArePrintableArms (arms_of x.1.0) × IsPrintableElse (optional_else x.1.1.0)
 
-abbrev pub branch_pieces : Branches → List Piece
+abbrev pub branch_pieces : Branches → List PrintPiece
 branch_pieces x = print.block (stmts_of x.0) ++ (print.arms (arms_of x.1.0) ++ print.else_if (optional_else x.1.1.0))
 
 abbrev pub bare_branches : Branches → Branches
 bare_branches x = (map erase_stmt x.0, (map erase_arm x.1.0, (option_map (map erase_stmt) x.1.1.0, None)))
 
-branch_same : (b arms e e2 : List Piece) → e ≡ e2 → all_spelled (b ++ (arms ++ e)) ≡ all_spelled (b ++ (arms ++ (e2 ++ [])))
+branch_same : (b arms e e2 : List PrintPiece) → e ≡ e2 → all_spelled (b ++ (arms ++ e)) ≡ all_spelled (b ++ (arms ++ (e2 ++ [])))
 branch_same b arms e e2 q = ap (λ z. all_spelled (b ++ (arms ++ z))) (q ∙ sym (append-nil e2))
 
-module _ {i : Nested} (h : AgainNested i) where
+module _ {i : NestedLanguages} (h : AgainNested i) where
   pub again_condition : Again IsPrintableExpr (λ e. print.in_round (print.expr e)) erase_expr (condition i) (condition i)
   unfolding condition
   again_condition = again_made inner (again_then (again_the class.OpenRound) (again_then (again_expr h) (again_the class.CloseRound))) (λ a o. (tt, (o, tt))) (λ a. refl) (λ a. refl)

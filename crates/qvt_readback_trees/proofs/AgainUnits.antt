@@ -13,11 +13,11 @@ use Rattle.qvt_language.specs.declared.class.Class.TheVariants as class
 use Rattle.qvt_language.specs.Readers.{the}
 use Rattle.qvt_language.specs.Tokens.{Tok}
 use Rattle.qvt_language.specs.Trees.{second, first, inner, cons_of, nothing}
-use Rattle.qvt_language.specs.Grammar.{Nested, paths}
+use Rattle.qvt_language.specs.Grammar.{NestedLanguages, paths}
 use Rattle.qvt_language.specs.Units.{param, params, feature, features, class_unit, main_unit, helper_body, helper_unit, constructor_unit, result_decl}
-use Rattle.qvt_language.specs.UnitTrees.{typed_name_of, param_of, paths_or_none, class_of, main_of, is_query, return_body, helper_of, constructor_of, result_decl_of}
-use Rattle.qvt_printer_layout.specs.declared.piece.Piece.{Piece}
-use Rattle.qvt_printer_layout.specs.declared.piece.Piece.TheVariants as piece
+use Rattle.qvt_language.specs.UnitTrees.{typed_name_of, param_of, paths_or_none, class_unit_of, main_of, is_query, return_body, helper_of, constructor_of, result_decl_of}
+use Rattle.qvt_printer_layout.specs.declared.piece.PrintPiece.{PrintPiece}
+use Rattle.qvt_printer_layout.specs.declared.piece.PrintPiece.TheVariants as piece
 use Rattle.qvt_printer_layout.specs.Words as words
 use Rattle.qvt_printer.specs.Expressions as print
 use Rattle.qvt_printer.specs.Units as printed
@@ -77,10 +77,10 @@ query_kept : (b : Bool) → is_query (words.helper_word b) ≡ b
 query_kept true = refl
 query_kept false = refl
 
-helper_same : (n p : List Piece) (x : Option TypeTerm) (r : List Piece) → all_spelled ((n ++ p) ++ (print.typed_if x ++ r)) ≡ all_spelled (n ++ (p ++ (if_there print.typed x ++ r)))
+helper_same : (n p : List PrintPiece) (x : Option TypeTerm) (r : List PrintPiece) → all_spelled ((n ++ p) ++ (print.typed_if x ++ r)) ≡ all_spelled (n ++ (p ++ (if_there print.typed x ++ r)))
 helper_same n p x r = ap all_spelled (append_assoc n p (print.typed_if x ++ r)) ∙ rest_spelled n (p ++ (print.typed_if x ++ r)) (p ++ (if_there print.typed x ++ r)) (rest_spelled p (print.typed_if x ++ r) (if_there print.typed x ++ r) (same_front (print.typed_if x) (if_there print.typed x) r (type_same x)))
 
-module _ {i j : Nested} (h : AgainUnits i j) where
+module _ {i j : NestedLanguages} (h : AgainUnits i j) where
   again_param : Again any printed.typed_name erase_typed (param i) (param j)
   unfolding param
   again_param = again_made param_of (again_placed (again_then (again_left_out {l = the class.InWord} {m = the class.InWord}) (again_then again_name h.kind))) (λ a o. (tt, (tt, tt))) (λ a. refl) (λ a. refl)
@@ -108,7 +108,7 @@ module _ {i j : Nested} (h : AgainUnits i j) where
 
   pub again_class_unit : Again IsPrintableUnit printed.unit erase_unit (class_unit i) (class_unit j)
   unfolding class_unit
-  again_class_unit = again_made class_of (again_placed (again_made {ok2 = any} {p2 = λ x. piece.Plain class.IntermediateWord ∷ piece.Plain class.ClassWord ∷ piece.Name x.0.text ∷ (if_there (printed.listed class.ExtendsWord) x.1.0 ++ print.in_block (printed.fields x.1.1))} {b2 = λ x. (record { text = x.0.text; place = nowhere }, (option_map (map erase_path) x.1.0, map erase_typed x.1.1))} second (again_then (again_the class.IntermediateWord)
+  again_class_unit = again_made class_unit_of (again_placed (again_made {ok2 = any} {p2 = λ x. piece.Plain class.IntermediateWord ∷ piece.Plain class.ClassWord ∷ piece.Name x.0.text ∷ (if_there (printed.listed class.ExtendsWord) x.1.0 ++ print.in_block (printed.fields x.1.1))} {b2 = λ x. (record { text = x.0.text; place = nowhere }, (option_map (map erase_path) x.1.0, map erase_typed x.1.1))} second (again_then (again_the class.IntermediateWord)
       (again_made {ok2 = any} {p2 = λ x. piece.Plain class.ClassWord ∷ piece.Name x.0.text ∷ (if_there (printed.listed class.ExtendsWord) x.1.0 ++ print.in_block (printed.fields x.1.1))} {b2 = λ x. (record { text = x.0.text; place = nowhere }, (option_map (map erase_path) x.1.0, map erase_typed x.1.1))} second (again_then (again_the class.ClassWord) (again_then again_name (again_then (again_maybe (again_listed class.ExtendsWord)) again_features)))
       (λ a o. (tt, (tt, (optional_any a.1.1.0, tt)))) (λ a. refl) (λ a. refl)))
       (λ a o. (tt, tt)) (λ a. refl) (λ a. refl)))

@@ -8,7 +8,7 @@ use Rattle.qvt_grammar.specs.Language.{Language, head_of, turns}
 use Rattle.qvt_language.specs.Tokens.{Tok}
 use Rattle.qvt_language.specs.Leads.{Lead, Plain, Bracketed, Each}
 use Rattle.qvt_language.specs.Trees.{expr_of}
-use Rattle.qvt_language.specs.Grammar.{Nested, pre, link, links, chain, flagged}
+use Rattle.qvt_language.specs.Grammar.{NestedLanguages, pre, link, links, chain, flagged}
 use Rattle.qvt_printer.specs.Expressions as print
 use Rattle.qvt_printer.specs.Levels.{is_as_loose, is_chain}
 use Rattle.qvt_readback_tokens.specs.Spelled.{all_spelled}
@@ -59,12 +59,12 @@ shown_links k l d (Bracketed e) q ts ls rd = rd
 shown_links k l d (Each e part) q ts ls rd = absurd q
 
 -- the first operand of a chain: what it reads of expressions that are no chain, and of those in brackets
-pub record Opens (i : Nested) (p : Language Tok Lead) (opens : ExprTerm → Bool) : Type 0 where
+pub record Opens (i : NestedLanguages) (p : Language Tok Lead) (opens : ExprTerm → Bool) : Type 0 where
   pub form : (e : ExprTerm) → Form i e → is_chain e ≡ false → opens e ≡ false → (t : Option TargetTerm) × p.reads (all_spelled (print.expr e)) (Plain (erase_expr e) t)
   pub bracket : (e : ExprTerm) → Bracket i e → p.reads (all_spelled (print.in_round (print.expr e))) (Bracketed (erase_expr e))
   pub first : (level : Level) (e : ExprTerm) (rest : _) (place : Place) → opens (ChainExpr level e rest place) ≡ false → is_as_loose level e ≡ false → opens e ≡ false
 
-module _ (i : Nested) (p : Language Tok Lead) (opens : ExprTerm → Bool) (o : Opens i p opens) where
+module _ (i : NestedLanguages) (p : Language Tok Lead) (opens : ExprTerm → Bool) (o : Opens i p opens) where
   abbrev Chained : ExprTerm → Type 0
   Chained e = (t : Option TargetTerm) × (chain (rank e) p (pre i)).reads (all_spelled (print.expr e)) (Plain (erase_expr e) t)
 
@@ -109,7 +109,7 @@ module _ (i : Nested) (p : Language Tok Lead) (opens : ExprTerm → Bool) (o : O
 abbrev pub anyhow : ExprTerm → Bool
 anyhow e = false
 
-module _ (i : Nested) where
+module _ (i : NestedLanguages) where
   pre_form : (e : ExprTerm) → Form i e → is_chain e ≡ false → anyhow e ≡ false → (t : Option TargetTerm) × (pre i).reads (all_spelled (print.expr e)) (Plain (erase_expr e) t)
   unfolding pre
   pre_form (ChainExpr level first rest place) f q c = absurd cc

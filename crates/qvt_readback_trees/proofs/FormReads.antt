@@ -12,8 +12,8 @@ use Rattle.qvt_language.specs.Tokens.{Tok}
 use Rattle.qvt_language.specs.declared.class.Class.TheVariants as class
 use Rattle.qvt_language.specs.Leads.{Plain, Bracketed, Lead}
 use Rattle.qvt_language.specs.Trees.{stepped, post_of, post_lead, bare_target, member_of, split_last, signed, expr_of}
-use Rattle.qvt_language.specs.Grammar.{Nested, expr, brackets, bare_expr, other_primary, primary, step, post, sign, more_signs, signs, signed_post, if_expr}
-use Rattle.qvt_printer_layout.specs.declared.piece.Piece.{Piece}
+use Rattle.qvt_language.specs.Grammar.{NestedLanguages, expr, brackets, bare_expr, other_primary, primary, step, post, sign, more_signs, signs, signed_post, if_expr}
+use Rattle.qvt_printer_layout.specs.declared.piece.PrintPiece.{PrintPiece}
 use Rattle.qvt_printer_layout.specs.Words as words
 use Rattle.qvt_printer.specs.Expressions as print
 use Rattle.qvt_printer.specs.Levels.{is_chain, is_chain_or_prefix}
@@ -24,10 +24,10 @@ use Rattle.qvt_readback_trees.proofs.Forms.{is_post, is_prefix, Bracket, NeedsBr
 
 -- between round brackets
 
-round_spelled : (ps : List Piece) → all_spelled (print.in_round ps) ≡ plain class.OpenRound ∷ (all_spelled ps ++ plain class.CloseRound ∷ [])
+round_spelled : (ps : List PrintPiece) → all_spelled (print.in_round ps) ≡ plain class.OpenRound ∷ (all_spelled ps ++ plain class.CloseRound ∷ [])
 round_spelled ps = ap (λ ts. plain class.OpenRound ∷ ts) (spelled_append ps (print.one class.CloseRound))
 
-module _ (i : Nested) where
+module _ (i : NestedLanguages) where
   bracket_reads : (e : ExprTerm) → Bracket i e → (brackets i).reads (all_spelled (print.in_round (print.expr e))) (erase_expr e)
   unfolding brackets expr
   bracket_reads e w =
@@ -43,18 +43,18 @@ abbrev pub opens_with_if : ExprTerm → Bool
 opens_with_if e = if is_chain_or_prefix e then false else begins_with_if e
 
 -- it is a conditional, and read as one
-abbrev pub Conditional : Nested → List Tok → ExprTerm → Type 0
+abbrev pub Conditional : NestedLanguages → List Tok → ExprTerm → Type 0
 Conditional i ts e = (c : ExprTerm) × (one : ExprTerm) × (other : ExprTerm) × (e ≡ IfExpr c one other nowhere) × (if_expr i).reads ts (IfExpr c one other nowhere)
 
 -- a primary, and whether it has no brackets
-pub record PrimaryParts (i : Nested) (e : ExprTerm) : Type 0 where
+pub record PrimaryParts (i : NestedLanguages) (e : ExprTerm) : Type 0 where
   pub bare : Bool
   pub primary : (primary i).reads (all_spelled (print.post_first e)) (erase_expr e, bare)
   pub other : opens_with_if e ≡ false → (other_primary i).reads (all_spelled (print.post_first e)) (erase_expr e, bare)
   pub shown : is_chain_or_prefix e ≡ false → bare ≡ true
   pub conditional : opens_with_if e ≡ true → Conditional i (all_spelled (print.post_first e)) (erase_expr e)
 
-module _ (i : Nested) where
+module _ (i : NestedLanguages) where
   of_brackets : (e : ExprTerm) → Bracket i e → is_chain_or_prefix e ≡ true → print.post_first e ≡ print.in_round (print.expr e) → opens_with_if e ≡ false → PrimaryParts i e
   unfolding primary
   of_brackets e w q same c =
@@ -84,7 +84,7 @@ module _ (i : Nested) where
   primary_parts e f need p = bare_other e f refl
 
 -- a primary and its steps
-pub record PostParts (i : Nested) (e : ExprTerm) : Type 0 where
+pub record PostParts (i : NestedLanguages) (e : ExprTerm) : Type 0 where
   pub first : ExprTerm × Bool
   pub steps : List StepTerm
   pub front : List Tok
@@ -103,7 +103,7 @@ pub stepped_new : (place : Place) (e : ExprTerm) (ss : List StepTerm) → is_pos
 stepped_new place (PostExpr first steps p) ss q = absurd cc
 stepped_new place _ ss q = refl
 
-module _ (i : Nested) where
+module _ (i : NestedLanguages) where
   of_primary : (e : ExprTerm) → PrimaryParts i e → PostParts i e
   of_primary e w = record {
     first = (erase_expr e, w.bare);
@@ -173,7 +173,7 @@ signed_new place (PrefixExpr before operand p) ss q = absurd cc
 signed_new place _ ss q = refl
 
 -- what is read before a prefix: a post, in brackets where it is a chain
-module _ (i : Nested) where
+module _ (i : NestedLanguages) where
   pub bracket_post : (e : ExprTerm) → Bracket i e → (post i).reads (all_spelled (print.in_round (print.expr e))) (Bracketed (erase_expr e))
   unfolding post primary
   bracket_post e w =

@@ -9,7 +9,7 @@ use Rattle.qvt_tree_types.specs.declared.words.Sign.{Sign}
 use Rattle.qvt_tree.specs.Shape.{erase_expr, erase_links, erase_steps}
 use Rattle.qvt_grammar.specs.Language.{turns}
 use Rattle.qvt_language.specs.Leads.{Plain}
-use Rattle.qvt_language.specs.Grammar.{Nested, bare_expr, if_expr, step, pre, link, chain, level_of}
+use Rattle.qvt_language.specs.Grammar.{NestedLanguages, bare_expr, if_expr, step, pre, link, chain, level_of}
 use Rattle.qvt_printer.specs.Expressions as print
 use Rattle.qvt_printer.specs.Levels.{tightness, is_as_loose, is_chain, is_chain_or_prefix}
 use Rattle.qvt_readback_tokens.specs.Spelled.{all_spelled}
@@ -85,32 +85,32 @@ is_basic (IfExpr condition one_value other place) = false
 is_basic e = true
 
 -- the printed expression is read inside brackets
-abbrev pub Bracket : Nested → ExprTerm → Type 0
+abbrev pub Bracket : NestedLanguages → ExprTerm → Type 0
 Bracket i e = (t : Option TargetTerm) × i.flagged.reads (all_spelled (print.expr e)) (Plain (erase_expr e) t)
 
-abbrev pub NeedsBracket : Nested → Bool → ExprTerm → Type 0
+abbrev pub NeedsBracket : NestedLanguages → Bool → ExprTerm → Type 0
 NeedsBracket i b e = b ≡ true → Bracket i e
 
-abbrev pub LinksForm : Nested → Level → LinkTerms → Type 0
+abbrev pub LinksForm : NestedLanguages → Level → LinkTerms → Type 0
 LinksForm i level rest =
     (l : LinkTerm) × (more : List LinkTerm) × (MoreLinks l (links_of more) ≡ erase_links rest)
     × turns (link (index_of level) (chain (index_of level) (pre i) (pre i))) (all_spelled (print.links level rest)) (l ∷ more)
 
-abbrev pub StepsForm : Nested → StepTerms → Type 0
+abbrev pub StepsForm : NestedLanguages → StepTerms → Type 0
 StepsForm i ss =
     (s : StepTerm) × (more : List StepTerm) × (MoreSteps s (steps_of more) ≡ erase_steps ss) × turns (step i) (all_spelled (print.steps ss)) (s ∷ more)
 
 abbrev pub SignsForm : List Sign → Type 0
 SignsForm signs = (s : Sign) × (more : List Sign) × (signs ≡ s ∷ more)
 
-abbrev pub Form : Nested → ExprTerm → Type 0
+abbrev pub Form : NestedLanguages → ExprTerm → Type 0
 Form i (IfExpr condition one_value other place) = (if_expr i).reads (all_spelled (print.expr (IfExpr condition one_value other place))) (erase_expr (IfExpr condition one_value other place))
 Form i (ChainExpr level first rest place) = Form i first × NeedsBracket i (is_as_loose level first) first × LinksForm i level rest
 Form i (PrefixExpr signs e place) = Form i e × NeedsBracket i (is_chain e) e × (is_prefix e ≡ false) × SignsForm signs
 Form i (PostExpr first steps place) = Form i first × NeedsBracket i (is_chain_or_prefix first) first × (is_post first ≡ false) × StepsForm i steps
 Form i e = (bare_expr i).reads (all_spelled (print.expr e)) (erase_expr e)
 
-pub basic_form : (i : Nested) (e : ExprTerm) → is_basic e ≡ true → (bare_expr i).reads (all_spelled (print.expr e)) (erase_expr e) → Form i e
+pub basic_form : (i : NestedLanguages) (e : ExprTerm) → is_basic e ≡ true → (bare_expr i).reads (all_spelled (print.expr e)) (erase_expr e) → Form i e
 basic_form i (IfExpr condition one_value other place) b rd = absurd cc
 basic_form i (ChainExpr level first rest place) b rd = absurd cc
 basic_form i (PrefixExpr signs e place) b rd = absurd cc

@@ -10,7 +10,7 @@ use Rattle.qvt_grammar.specs.Language.{turns}
 use Rattle.qvt_language.specs.Leads.{Lead, Plain, Bracketed, Each}
 use Rattle.qvt_language.specs.StmtTrees.{target_in}
 use Rattle.qvt_language.specs.Trees.{more_steps, stepped, post_of, split_last, member_of, bare_target, signed, post_lead, expr_of}
-use Rattle.qvt_language.specs.Grammar.{Nested, step}
+use Rattle.qvt_language.specs.Grammar.{NestedLanguages, step}
 use Rattle.qvt_printer.specs.Expressions as print
 use Rattle.qvt_printer.specs.Levels.{is_chain_or_prefix}
 use Rattle.qvt_readback_tokens.specs.Spelled.{all_spelled}
@@ -21,10 +21,10 @@ use Rattle.qvt_readback_trees.proofs.LeadReads.{turns_append}
 
 -- steps
 
-abbrev pub GoodStep : Nested → StepTerm → Type 0
+abbrev pub GoodStep : NestedLanguages → StepTerm → Type 0
 GoodStep i s = IsPrintableStep s → (step i).reads (all_spelled (print.step s)) (erase_step s)
 
-abbrev pub GoodSteps : Nested → List StepTerm → Type 0
+abbrev pub GoodSteps : NestedLanguages → List StepTerm → Type 0
 GoodSteps i [] = ⊤
 GoodSteps i (s ∷ ss) = GoodStep i s × GoodSteps i ss
 
@@ -50,7 +50,7 @@ pub joined_bare : (old : StepTerms) (ss : List StepTerm) → more_steps (erase_s
 joined_bare NoSteps ss = bare_steps ss
 joined_bare (MoreSteps s old) ss = ap (MoreSteps (erase_step s)) (joined_bare old ss)
 
-module _ (i : Nested) where
+module _ (i : NestedLanguages) where
   steps_turns : (ss : List StepTerm) → GoodSteps i ss → ArePrintableSteps (steps_of ss) → turns (step i) (all_spelled (print.steps (steps_of ss))) (map erase_step ss)
   steps_turns [] g o = refl
   steps_turns (s ∷ ss) g o = (all_spelled (print.step s), all_spelled (print.steps (steps_of ss)), spelled_append (print.step s) (print.steps (steps_of ss)), g.0 o.0, steps_turns ss g.1 o.1)
@@ -69,16 +69,16 @@ module _ (i : Nested) where
 
 -- what is read as the first of steps or after signs, with brackets where it has to have them
 
-pub record GoodFirst (i : Nested) (e : ExprTerm) : Type 0 where
+pub record GoodFirst (i : NestedLanguages) (e : ExprTerm) : Type 0 where
   pub form : IsPrintableExpr e → Form i e
   pub bracket : IsPrintableExpr e → NeedsBracket i (is_chain_or_prefix e) e
 
-pub record GoodPrimary (i : Nested) (x : ExprTerm × Bool) : Type 0 where
+pub record GoodPrimary (i : NestedLanguages) (x : ExprTerm × Bool) : Type 0 where
   pub first : GoodFirst i x.0
   pub shown : x.1 ≡ true → is_primary x.0 ≡ true
   pub bracket : x.1 ≡ false → IsPrintableExpr x.0 → Bracket i x.0
 
-module _ (i : Nested) where
+module _ (i : NestedLanguages) where
   stepped_form : (place : Place) (e : ExprTerm) (s : StepTerm) (ss : List StepTerm) → GoodFirst i e → GoodSteps i (s ∷ ss) → IsPrintableExpr (stepped place e (s ∷ ss)) → Form i (stepped place e (s ∷ ss))
   stepped_form place (PostExpr e old p) s ss h g o =
       let w = joined_ok old (s ∷ ss) o.1 in
@@ -103,7 +103,7 @@ module _ (i : Nested) where
 
 -- the chains that have the expression as an operand
 
-pub record GoodOperand (i : Nested) (k : ℕ) (e : ExprTerm) : Type 0 where
+pub record GoodOperand (i : NestedLanguages) (k : ℕ) (e : ExprTerm) : Type 0 where
   pub form : IsPrintableExpr e → Form i e
   pub tight : (rank e ≤ k) ⊎ (IsPrintableExpr e → Bracket i e)
 
@@ -111,7 +111,7 @@ primary_rank : (e : ExprTerm) → is_primary e ≡ true → rank e ≡ 0
 primary_rank (ChainExpr level first rest place) q = absurd cc
 primary_rank _ q = refl
 
-module _ (i : Nested) where
+module _ (i : NestedLanguages) where
   bare_operand : (e : ExprTerm) (b : Bool) → GoodPrimary i (e, b) → GoodOperand i 0 e
   bare_operand e true h = record { form = h.first.form; tight = inl (let z = primary_rank e (h.shown refl) in omega arith) }
   bare_operand e false h = record { form = h.first.form; tight = inr (h.bracket refl) }
@@ -122,20 +122,20 @@ module _ (i : Nested) where
 
 -- what stands in brackets alone is read there
 
-abbrev pub BracketGood : Nested → Lead → Type 0
+abbrev pub BracketGood : NestedLanguages → Lead → Type 0
 BracketGood i (Plain e t) = ⊤
 BracketGood i (Bracketed e) = IsPrintableExpr e → Bracket i e
 BracketGood i (Each e part) = ⊤
 
 -- targets
 
-abbrev pub GoodTarget : Nested → Option TargetTerm → Type 0
+abbrev pub GoodTarget : NestedLanguages → Option TargetTerm → Type 0
 GoodTarget i None = ⊤
 GoodTarget i (Some (BareTarget name place)) = ⊤
 GoodTarget i (Some (ResultTarget place)) = ⊤
 GoodTarget i (Some (MemberTarget object name place)) = GoodFirst i object
 
-module _ (i : Nested) where
+module _ (i : NestedLanguages) where
   split_good : (s : StepTerm) (ss : List StepTerm) → GoodSteps i (s ∷ ss) → GoodSteps i (split_last s ss).0
   split_good s [] g = tt
   split_good s (t ∷ ts) g = (g.0, split_good t ts g.1)

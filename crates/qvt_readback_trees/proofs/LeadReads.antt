@@ -9,7 +9,7 @@ use Rattle.qvt_language.specs.declared.class.Class.TheVariants as class
 use Rattle.qvt_language.specs.Leads.{Lead, Plain, Bracketed, Each, EachPart}
 use Rattle.qvt_language.specs.Series.{left, right}
 use Rattle.qvt_language.specs.Trees.{post_of, each_lead, split_last, member_of}
-use Rattle.qvt_language.specs.Grammar.{Nested, name, more_names, named_expr, word, bare_expr, other_primary, pre, chain, lead_post, lead_pre, lead, lead_step, step, dot_step, dot_rest}
+use Rattle.qvt_language.specs.Grammar.{NestedLanguages, name, more_names, named_expr, word, bare_expr, other_primary, pre, chain, lead_post, lead_pre, lead, lead_step, step, dot_step, dot_rest}
 use Rattle.qvt_printer.specs.Expressions as print
 use Rattle.qvt_printer.specs.Levels.{is_as_loose, is_chain, is_chain_or_prefix}
 use Rattle.qvt_readback_tokens.specs.Spelled.{all_spelled}
@@ -30,7 +30,7 @@ pub turns_to : {T A : Type 0} (l m : Language T A) → ((ts : List T) (a : A) �
 turns_to l m w [] u h = h
 turns_to l m w (x ∷ xs) u h = (h.0, h.1, h.2, w h.0 x h.3, turns_to l m w xs h.1 h.4)
 
-module _ (i : Nested) where
+module _ (i : NestedLanguages) where
   pub step_lead : (ts : List Tok) (s : StepTerm) → (step i).reads ts s → (lead_step i).reads ts (inl s)
   unfolding step lead_step
   step_lead ts s rd = elim rd [
@@ -109,7 +109,7 @@ target_end : (x : ExprTerm × Bool) (ss : List StepTerm) (n : List ℕ) → each
 target_end x [] n = refl
 target_end x (s ∷ ss) n = ap (λ z. Plain (post_of nowhere x.0 (s ∷ (ss ++ DotStep n NoArgs nowhere ∷ []))) (member_of nowhere x.0 z)) (split_end s ss (DotStep n NoArgs nowhere))
 
-module _ (i : Nested) where
+module _ (i : NestedLanguages) where
   member_step : (n : List ℕ) → (step i).reads (plain class.Dot ∷ plain_name n ∷ []) (DotStep n NoArgs nowhere)
   unfolding step dot_step dot_rest name
   member_step n = inl (

@@ -5,7 +5,7 @@ use Rattle.qvt_language.specs.Same.{unplaced}
 use Rattle.qvt_language.specs.StmtTrees.{concat, last_of, for_each_of}
 use Rattle.qvt_language.specs.Tokens.{Tok}
 use Rattle.qvt_language.specs.Trees.{coll_kind, is_strict, stepped, post_of, signed}
-use Rattle.qvt_language.specs.UnitTrees.{is_query, Clauses, no_clauses, Clause, InheritsClause, MergesClause, DisjunctsClause, WhenClause, with_clause, stmts_or_none, units_of}
+use Rattle.qvt_language.specs.UnitTrees.{is_query, ClausesTree, no_clauses, ClauseTree, InheritsClause, MergesClause, DisjunctsClause, WhenClause, with_clause, stmts_or_none, units_of}
 use Rattle.qvt_language.specs.Units.{is_strictness}
 use Rattle.qvt_language.specs.declared.class.Class.TheVariants.{Str}
 use Rattle.qvt_language.specs.declared.named.Named.{Named}
@@ -76,13 +76,13 @@ stmts_bare : (x : Option (List StmtTerm)) → map erase_stmt (stmts_or_none x) �
 stmts_bare None = refl
 stmts_bare (Some ss) = refl
 
-abbrev bare_clause : Clause → Clause
+abbrev bare_clause : ClauseTree → ClauseTree
 bare_clause (InheritsClause ps) = InheritsClause (map erase_path ps)
 bare_clause (MergesClause ps) = MergesClause (map erase_path ps)
 bare_clause (DisjunctsClause ps) = DisjunctsClause (map erase_path ps)
 bare_clause (WhenClause e) = WhenClause (erase_expr e)
 
-clause_bare : (x : Clauses) (c : Clause) → bare_clauses (with_clause x c) ≡ with_clause (bare_clauses x) (bare_clause c)
+clause_bare : (x : ClausesTree) (c : ClauseTree) → bare_clauses (with_clause x c) ≡ with_clause (bare_clauses x) (bare_clause c)
 clause_bare x (InheritsClause ps) = refl
 clause_bare x (MergesClause ps) = refl
 clause_bare x (DisjunctsClause ps) = refl
@@ -116,7 +116,7 @@ chain_bare : (level : Level) (a : Place × (ExprTerm × List LinkTerm)) → eras
 chain_bare level (place, (e, [])) = refl
 chain_bare level (place, (e, (l ∷ ls))) = ap (λ z. ChainExpr level (erase_expr e) z nowhere) (sym (bare_links (l ∷ ls)))
 
-clauses_bare : (x : Clauses) (cs : List Clause) → bare_clauses (with_clauses x cs) ≡ with_clauses (bare_clauses x) (map bare_clause cs)
+clauses_bare : (x : ClausesTree) (cs : List ClauseTree) → bare_clauses (with_clauses x cs) ≡ with_clauses (bare_clauses x) (map bare_clause cs)
 clauses_bare x [] = refl
 clauses_bare x (c ∷ cs) = clauses_bare (with_clause x c) cs ∙ ap (λ z. with_clauses z (map bare_clause cs)) (clause_bare x c)
 
@@ -132,17 +132,17 @@ sections_bare (all, (inl last)) = λ i. ((map_joined all (last_of last) ∙ ap (
 sections_bare (all, (inr finish)) = refl
 
 -- an Extra without places is of the same kind
-same_kind : (c : Clause) → kind_of (bare_clause c) ≡ kind_of c
+same_kind : (c : ClauseTree) → kind_of (bare_clause c) ≡ kind_of c
 same_kind (InheritsClause ps) = refl
 same_kind (MergesClause ps) = refl
 same_kind (DisjunctsClause ps) = refl
 same_kind (WhenClause e) = refl
 
-other_too : (c : Clause) (cs : List Clause) → IsOther (bare_clause c) (map bare_clause cs) → IsOther c cs
+other_too : (c : ClauseTree) (cs : List ClauseTree) → IsOther (bare_clause c) (map bare_clause cs) → IsOther c cs
 other_too c [] h = tt
 other_too c (d ∷ cs) h = ((λ e. h.0 (same_kind c ∙ e ∙ sym (same_kind d))), other_too c cs h.1)
 
-once_too : (cs : List Clause) → AreOnce (map bare_clause cs) → AreOnce cs
+once_too : (cs : List ClauseTree) → AreOnce (map bare_clause cs) → AreOnce cs
 once_too [] h = tt
 once_too (c ∷ cs) h = (other_too c cs h.0, once_too cs h.1)
 

@@ -12,7 +12,7 @@ use Rattle.qvt_language.specs.declared.class.Class.{Class}
 use Rattle.qvt_language.specs.declared.class.Class.TheVariants as class
 use Rattle.qvt_language.specs.Leads.{Lead, Plain, Bracketed, Each}
 use Rattle.qvt_language.specs.Trees.{expr_of, link_of, chain_of, binary_op}
-use Rattle.qvt_language.specs.Grammar.{Nested, expr, brackets, bare_expr, if_expr, other_primary, primary, step, post, signed_post, pre, operator, link, links, chain, level_of, flagged}
+use Rattle.qvt_language.specs.Grammar.{NestedLanguages, expr, brackets, bare_expr, if_expr, other_primary, primary, step, post, signed_post, pre, operator, link, links, chain, level_of, flagged}
 use Rattle.qvt_printer_layout.specs.Words as words
 use Rattle.qvt_printer.specs.Expressions as print
 use Rattle.qvt_printer.specs.Levels.{is_as_loose, is_chain_or_prefix}
@@ -72,11 +72,11 @@ bare_links [] = refl
 bare_links (l ∷ ls) = ap (MoreLinks (erase_link l)) (bare_links ls)
 
 -- what is read of an operand that is no chain
-record GoodLead (i : Nested) (x : Lead) : Type 0 where
+record GoodLead (i : NestedLanguages) (x : Lead) : Type 0 where
   operand : GoodOperand i 0 (expr_of x)
   bracket : BracketGood i x
 
-module _ {i : Nested} (h : AgainNested i) where
+module _ {i : NestedLanguages} (h : AgainNested i) where
   -- primaries
 
   brackets_good : (ts : List Tok) (e : ExprTerm) → (brackets i).reads ts e → GoodPrimary i (e, false)
@@ -139,7 +139,7 @@ module _ {i : Nested} (h : AgainNested i) where
   pre_good ts x rd = elim rd [ inl q ↦ (let w = signed_good ts x q in subst (GoodLead i) (sym w.1) (record { operand = w.2; bracket = tt })) | inr q ↦ post_good ts x q ]
 
 -- links and chains
-module _ {i : Nested} (k : ℕ) (lt : k < 8) (hk : (ts : List Tok) (x : Lead) → (chain k (pre i) (pre i)).reads ts x → GoodOperand i k (expr_of x)) where
+module _ {i : NestedLanguages} (k : ℕ) (lt : k < 8) (hk : (ts : List Tok) (x : Lead) → (chain k (pre i) (pre i)).reads ts x → GoodOperand i k (expr_of x)) where
   need_bracket : (e : ExprTerm) → GoodOperand i k e → IsPrintableExpr e → NeedsBracket i (is_as_loose (level_of k) e) e
   need_bracket e g o q = elim g.tight [
     | inl le ↦ absurd (let z = tight_operand (level_of k) e (let y = index_back k lt in omega arith) in cc)
@@ -184,17 +184,17 @@ module _ {i : Nested} (k : ℕ) (lt : k < 8) (hk : (ts : List Tok) (x : Lead) �
         tight = inl (let z = index_back k lt in omega arith);
       }
 
-more_tight : (i : Nested) (k : ℕ) (e : ExprTerm) → GoodOperand i k e → GoodOperand i (suc k) e
+more_tight : (i : NestedLanguages) (k : ℕ) (e : ExprTerm) → GoodOperand i k e → GoodOperand i (suc k) e
 more_tight i k e g = record { form = g.form; tight = elim g.tight [ inl le ↦ inl (omega arith) | inr b ↦ inr b ] }
 
-all_tight : (i : Nested) (k : ℕ) (e : ExprTerm) → GoodOperand i 0 e → GoodOperand i k e
+all_tight : (i : NestedLanguages) (k : ℕ) (e : ExprTerm) → GoodOperand i 0 e → GoodOperand i k e
 all_tight i k e g = record { form = g.form; tight = elim g.tight [ inl le ↦ inl (omega arith) | inr b ↦ inr b ] }
 
 -- what a chain is read as: what its first operand is, or a chain
-abbrev pub Chained : Nested → (Lead → Type 0) → ℕ → Lead → Type 0
+abbrev pub Chained : NestedLanguages → (Lead → Type 0) → ℕ → Lead → Type 0
 Chained i first k x = first x ⊎ ((e : ExprTerm) × (x ≡ Plain e None) × GoodOperand i k e)
 
-module _ {i : Nested} (p : Language Tok Lead) (first : Lead → Type 0) (operand : (x : Lead) → first x → GoodOperand i 0 (expr_of x)) where
+module _ {i : NestedLanguages} (p : Language Tok Lead) (first : Lead → Type 0) (operand : (x : Lead) → first x → GoodOperand i 0 (expr_of x)) where
   pub chained_operand : (k : ℕ) (x : Lead) → Chained i first k x → GoodOperand i k (expr_of x)
   chained_operand k x c = elim c [ inl q ↦ all_tight i k (expr_of x) (operand x q) | inr q ↦ subst (λ z. GoodOperand i k (expr_of z)) (sym q.1) q.2 ]
 
@@ -215,7 +215,7 @@ module _ {i : Nested} (p : Language Tok Lead) (first : Lead → Type 0) (operand
       let w = rd.1.0 in
       subst (Chained i first (suc k)) (sym rd.2) (chained_links k (omega arith) (hq k (omega arith)) a.0 a.1.0 a.1.1 w.1 (chain_good hq hp k (omega arith) w.0 a.1.0 w.3) w.4)
 
-module _ {i : Nested} (h : AgainNested i) where
+module _ {i : NestedLanguages} (h : AgainNested i) where
   lead_operand : (x : Lead) → GoodLead i x → GoodOperand i 0 (expr_of x)
   lead_operand x g = g.operand
 

@@ -15,7 +15,7 @@ use Rattle.qvt_tree.specs.Shape as shape
 use Rattle.qvt_tree.specs.ModuleShape as whole
 use Rattle.qvt_language.specs.declared.class.Class.{Class}
 use Rattle.qvt_language.specs.declared.class.Class.TheVariants as class
-use Rattle.qvt_printer_layout.specs.declared.piece.Piece.TheVariants.{Plain, Name, Line}
+use Rattle.qvt_printer_layout.specs.declared.piece.PrintPiece.TheVariants.{Plain, Name, Line}
 use Rattle.qvt_printer_layout.specs.Words.{kind_word, operator_sign, prefix_sign, resolve_word, map_word, assign_sign, helper_word}
 use Rattle.qvt_printer_layout.specs.Layout.{laid_out}
 use Rattle.qvt_printer.specs.Levels.{is_as_loose, is_chain, is_chain_or_prefix}

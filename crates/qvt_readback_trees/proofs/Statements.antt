@@ -8,15 +8,15 @@ use Rattle.qvt_tree.specs.Shape.{nowhere, erase_expr, erase_target, erase_stmt}
 use Rattle.qvt_grammar.specs.Language.{either, maybe, turns, lastly, head_of}
 use Rattle.qvt_language.specs.Tokens.{Tok}
 use Rattle.qvt_language.specs.declared.class.Class.TheVariants as class
-use Rattle.qvt_language.specs.Leads.{Lead, Plain, Bracketed, Each, EachPart, Ended}
+use Rattle.qvt_language.specs.Leads.{Lead, Plain, Bracketed, Each, EachPart, EndedBlock}
 use Rattle.qvt_language.specs.Readers.{the}
 use Rattle.qvt_language.specs.Series.{left, right}
 use Rattle.qvt_language.specs.Trees.{expr_of, each_lead, post_lead, post_of}
-use Rattle.qvt_language.specs.Grammar.{Nested, expr, other_primary, step, lead_post, lead_pre, lead, lead_step, each_tail, if_expr}
+use Rattle.qvt_language.specs.Grammar.{NestedLanguages, expr, other_primary, step, lead_post, lead_pre, lead, lead_step, each_tail, if_expr}
 use Rattle.qvt_language.specs.Statements.{assignment, semicolon, lead_tail, lead_stmt, statement, statements, block, var_stmt, return_stmt, if_stmt, while_stmt, branches, choice, if_rest}
-use Rattle.qvt_language.specs.StmtTrees.{Branches, Choice, for_each_of, branched, choice_expr, chosen, if_made, if_stmt_of, Turn, Tail, simple_turn, is_adding, written, lead_turn, concat, last_of}
-use Rattle.qvt_printer_layout.specs.declared.piece.Piece.{Piece}
-use Rattle.qvt_printer_layout.specs.declared.piece.Piece.TheVariants as piece
+use Rattle.qvt_language.specs.StmtTrees.{Branches, Choice, for_each_of, branched, choice_expr, chosen, if_made, if_stmt_of, TurnTree, Tail, simple_turn, is_adding, written, lead_turn, concat, last_of}
+use Rattle.qvt_printer_layout.specs.declared.piece.PrintPiece.{PrintPiece}
+use Rattle.qvt_printer_layout.specs.declared.piece.PrintPiece.TheVariants as piece
 use Rattle.qvt_printer_layout.specs.Words as words
 use Rattle.qvt_printer.specs.Expressions as print
 use Rattle.qvt_readback_tokens.specs.Spelled.{all_spelled}
@@ -33,19 +33,19 @@ use Rattle.qvt_readback_trees.proofs.Read.{if_good, other_good, steps_good, sign
 
 -- what is read at the front of a statement
 
-abbrev GoodPart : Nested → EachPart → Type 0
+abbrev GoodPart : NestedLanguages → EachPart → Type 0
 GoodPart i part = EachOk part → (lead_step i).reads (all_spelled (piece.Plain class.Arrow ∷ each_pieces part)) (inr (bare_part part))
 
-abbrev GoodFront : Nested → Lead → Type 0
+abbrev GoodFront : NestedLanguages → Lead → Type 0
 GoodFront i (Plain e t) = (IsPrintableExpr e → Form i e) × GoodTarget i t
 GoodFront i (Bracketed e) = IsPrintableExpr e → Form i e
 GoodFront i (Each e part) = GoodFirst i e × GoodPart i part
 
-record GoodLead (i : Nested) (x : Lead) : Type 0 where
+record GoodLead (i : NestedLanguages) (x : Lead) : Type 0 where
   operand : GoodOperand i 0 (expr_of x)
   front : GoodFront i x
 
-module _ {i : Nested} (h : AgainNested i) where
+module _ {i : NestedLanguages} (h : AgainNested i) where
   part_good : (ts : List Tok) (part : EachPart) → (lead_step i).reads ts (inr part) → GoodPart i part
   unfolding lead_step
   part_good ts part rd o = elim rd [
@@ -98,10 +98,10 @@ module _ {i : Nested} (h : AgainNested i) where
 
 -- a statement of a block is read again as a turn of its own
 
-abbrev pub GoodStmt : Nested → StmtTerm → Type 0
+abbrev pub GoodStmt : NestedLanguages → StmtTerm → Type 0
 GoodStmt i s = IsPrintableStmt s → (statement i).reads (all_spelled (print.stmt s)) (inl (erase_stmt s ∷ []))
 
-abbrev pub GoodStmts : Nested → List StmtTerm → Type 0
+abbrev pub GoodStmts : NestedLanguages → List StmtTerm → Type 0
 GoodStmts i [] = ⊤
 GoodStmts i (s ∷ ss) = GoodStmt i s × GoodStmts i ss
 
@@ -123,8 +123,8 @@ same_conditional c one other place c2 one2 other2 c3 one3 e p q =
 abbrev semi : List Tok
 semi = plain class.Semicolon ∷ []
 
-module _ (i : Nested) where
-  of_lead : (ts : List Tok) (x : Turn) → (lead_stmt i).reads ts x → (statement i).reads ts x
+module _ (i : NestedLanguages) where
+  of_lead : (ts : List Tok) (x : TurnTree) → (lead_stmt i).reads ts x → (statement i).reads ts x
   unfolding statement
   of_lead ts x rd = inr (inr (inr (inr (inr rd))))
 
@@ -137,7 +137,7 @@ module _ (i : Nested) where
   value_turn e None = refl
   value_turn e (Some target) = refl
 
-  lead_statement : (ps : List Piece) (u v : List Tok) (x : Lead) (tail : Tail) → all_spelled ps ≡ u ++ v → (lead i).reads u x → (lead_tail i x).reads v tail → (statement i).reads (all_spelled ps) (lead_turn (nowhere, (x, tail)))
+  lead_statement : (ps : List PrintPiece) (u v : List Tok) (x : Lead) (tail : Tail) → all_spelled ps ≡ u ++ v → (lead i).reads u x → (lead_tail i x).reads v tail → (statement i).reads (all_spelled ps) (lead_turn (nowhere, (x, tail)))
   unfolding lead_stmt
   lead_statement ps u v x tail e rx rt = of_lead (all_spelled ps) _ ((nowhere, (x, tail)), ((u, v, e, rx, rt), sym (spelled_head ps)), refl)
 
@@ -235,11 +235,11 @@ module _ (i : Nested) where
   ended_good s e f o = f o (all_spelled (print.stmt s)) (ap all_spelled e ∙ spelled_append (unended s) (print.one class.Semicolon))
 
 -- what is read as a statement
-abbrev pub in_turn : Turn → List StmtTerm
+abbrev pub in_turn : TurnTree → List StmtTerm
 in_turn (inl ss) = ss
 in_turn (inr s) = s ∷ []
 
-module _ {i : Nested} (h : AgainNested i) where
+module _ {i : NestedLanguages} (h : AgainNested i) where
   simple_good : (s : StmtTerm) (t : Option Tok) → GoodStmt i s → GoodStmts i (in_turn (simple_turn (s, t)))
   simple_good s None g = (g, tt)
   simple_good s (Some t) g = (g, tt)
@@ -261,7 +261,7 @@ module _ {i : Nested} (h : AgainNested i) where
   front_good place (Bracketed e) v (a, t) g rd = simple_good (ValueStmt e place) t (value_good i e place g)
   front_good place (Each e part) v tail g rd = (each_stmt_good i e part place g.0 g.1, tt)
 
-  lead_stmt_good : (ts : List Tok) (x : Turn) → (lead_stmt i).reads ts x → GoodStmts i (in_turn x)
+  lead_stmt_good : (ts : List Tok) (x : TurnTree) → (lead_stmt i).reads ts x → GoodStmts i (in_turn x)
   unfolding lead_stmt
   lead_stmt_good ts x rd =
       let a = rd.0 in
@@ -341,7 +341,7 @@ module _ {i : Nested} (h : AgainNested i) where
   unfolding statement semicolon
   return_good ts s rd = ended_good i s (return_printed ts s rd) (λ o us e. inr (inr (inr (inr (inl ((erase_stmt s, Some (plain class.Semicolon)), (all_spelled (unended s), semi, e, (again_return_stmt h).again ts s rd o, inl (plain class.Semicolon, (refl, refl), refl)), refl))))))
 
-  statement_good : (ts : List Tok) (x : Turn) → (statement i).reads ts x → GoodStmts i (in_turn x)
+  statement_good : (ts : List Tok) (x : TurnTree) → (statement i).reads ts x → GoodStmts i (in_turn x)
   unfolding statement
   statement_good ts x rd = elim rd [
     | inl q ↦ subst (λ z. GoodStmts i (in_turn z)) (sym q.2) tt
@@ -374,12 +374,12 @@ module _ {i : Nested} (h : AgainNested i) where
   last_good None ts rd = tt
   last_good (Some s) ts rd = statement_good ts (inr s) rd
 
-  pub statements_good : (ts : List Tok) (x : Ended) → (statements i).reads ts x → GoodStmts i x.stmts
+  pub statements_good : (ts : List Tok) (x : EndedBlock) → (statements i).reads ts x → GoodStmts i x.stmts
   unfolding statements
   statements_good ts x rd =
       let a = rd.0 in
       let w = rd.1 in
-      subst (λ (z : Ended). GoodStmts i z.stmts) (sym rd.2) (append_good (concat a.0) (last_of a.1) (turns_good a.0 w.0 w.3) (last_good a.1 w.1 w.4))
+      subst (λ (z : EndedBlock). GoodStmts i z.stmts) (sym rd.2) (append_good (concat a.0) (last_of a.1) (turns_good a.0 w.0 w.3) (last_good a.1 w.1 w.4))
 
   pub block_good : (ts : List Tok) (ss : List StmtTerm) → (block i).reads ts ss → GoodStmts i ss
   unfolding block
@@ -395,10 +395,10 @@ joined_turns : (ss : List StmtTerm) → concat (bare_turns ss) ≡ map erase_stm
 joined_turns [] = refl
 joined_turns (s ∷ ss) = ap (λ z. erase_stmt s ∷ z) (joined_turns ss)
 
-abbrev pub bare_ended : List StmtTerm → Ended
+abbrev pub bare_ended : List StmtTerm → EndedBlock
 bare_ended ss = record { stmts = map erase_stmt ss; open_end = false }
 
-module _ (i : Nested) where
+module _ (i : NestedLanguages) where
   print_turns : (ss : List StmtTerm) → GoodStmts i ss → ArePrintableStmts (stmts_of ss) → turns (left (statement i)) (all_spelled (print.stmts (stmts_of ss))) (bare_turns ss)
   print_turns [] g o = refl
   print_turns (s ∷ ss) g o = (all_spelled (print.stmt s), all_spelled (print.stmts (stmts_of ss)), spelled_append (print.stmt s) (print.stmts (stmts_of ss)), g.0 o.0, print_turns ss g.1 o.1)

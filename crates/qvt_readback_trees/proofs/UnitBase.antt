@@ -6,8 +6,8 @@ use Rattle.qvt_tree_types.specs.View.{stmts_of}
 use Rattle.qvt_tree.specs.Shape.{nowhere, erase_expr, erase_type, erase_stmt}
 use Rattle.qvt_language.specs.Tokens.{Tok}
 use Rattle.qvt_language.specs.declared.class.Class.TheVariants as class
-use Rattle.qvt_language.specs.Leads.{Ended}
-use Rattle.qvt_language.specs.Grammar.{Nested, expr, colon_type}
+use Rattle.qvt_language.specs.Leads.{EndedBlock}
+use Rattle.qvt_language.specs.Grammar.{NestedLanguages, expr, colon_type}
 use Rattle.qvt_language.specs.Statements.{statements, return_stmt}
 use Rattle.qvt_language.specs.Nesting.{nested}
 use Rattle.qvt_language.proofs.EveryExprs.{k_expr as good_expr, k_colon_type as good_colon_type}
@@ -27,15 +27,15 @@ abbrev pub Stmts : List StmtTerm → Type 0
 Stmts ss = ArePrintableStmts (stmts_of ss)
 
 -- statements that are read again as a block, and without its braces
-pub record AgainBlock (j : Nested) (ss : List StmtTerm) : Type 0 where
+pub record AgainBlock (j : NestedLanguages) (ss : List StmtTerm) : Type 0 where
   pub block : Stmts ss → j.block.reads (all_spelled (print.block (stmts_of ss))) (map erase_stmt ss)
   pub list : Stmts ss → (statements j).reads (all_spelled (print.stmts (stmts_of ss))) (bare_ended ss)
 
-pub record AgainUnits (i j : Nested) : Type 0 where
+pub record AgainUnits (i j : NestedLanguages) : Type 0 where
   pub value : Again IsPrintableExpr print.expr erase_expr (expr i) (expr j)
   pub kind : Again any print.typed erase_type (colon_type i) (colon_type j)
   pub block : (ts : List Tok) (ss : List StmtTerm) → i.block.reads ts ss → AgainBlock j ss
-  pub list : (ts : List Tok) (x : Ended) → (statements i).reads ts x → AgainBlock j x.stmts
+  pub list : (ts : List Tok) (x : EndedBlock) → (statements i).reads ts x → AgainBlock j x.stmts
   pub nothing : AgainBlock j []
   -- the block of one return
   pub returned : (ts : List Tok) (e : ExprTerm) (place : Place) → (expr i).reads ts e → AgainBlock j (ReturnStmt (SomeExpr e) place ∷ [])

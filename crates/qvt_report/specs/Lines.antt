@@ -2,11 +2,11 @@
 use Rattle.std.specs.Prelude.{◌≡◌, ℕ, List, [], ◌∷◌, ◌++◌, codes, decimal, length, Option, Some, None}
 use Rattle.qvt_conform.specs.declared.fault.LowFault.{LowFault}
 use Rattle.qvt_slots.specs.Contents.{Contents}
-use Rattle.qvt_meaning.specs.Run.{Finished}
+use Rattle.qvt_meaning.specs.Run.{FinishedRun}
 use Rattle.qvt_meaning_report.specs.Lines.{low_fault_line, written_count}
 
 -- the store, how many records and entries there are, and the cost
-pub record IsDone (f : Finished) (s : Contents) (calls lates spent : ℕ) : Type 0 where
+pub record IsDone (f : FinishedRun) (s : Contents) (calls lates spent : ℕ) : Type 0 where
   pub store : f.after ≡ s
   pub records : length f.finish.trace ≡ calls
   pub entries : length f.entries ≡ lates

@@ -1,7 +1,7 @@
 //! The line of what a program means.
 
 ghost use Rattle.std.specs.Prelude.{◌≡◌, ℕ, List, Err, IfOk, Ok, Option, string_bytes};
-ghost use Rattle.qvt_meaning.specs.Run.{Finished};
+ghost use Rattle.qvt_meaning.specs.Run.{FinishedRun};
 ghost use Rattle.qvt_meaning_report.specs.Lines as lines;
 ghost use Rattle.qvt_lines.specs.Lines.{out_of_fuel_line};
 ghost use Rattle.qvt_meaning_report.specs.Meaning.{outcome_of};
@@ -122,7 +122,7 @@ pub fn finished_line(
     entries: usize,
     cost: u64,
 ) -> Result<Bytes, ListFault>
-    ensures { IfOk result (λ line. (f : Finished) → IsDone f store.now records entries cost → (file : List ℕ) (fuel : ℕ) → line ≡ lines.line_of file fuel ids.now (outcome_of (Ok f))) }
+    ensures { IfOk result (λ line. (f : FinishedRun) → IsDone f store.now records entries cost → (file : List ℕ) (fuel : ℕ) → line ≡ lines.line_of file fuel ids.now (outcome_of (Ok f))) }
 {
     let low = low_in(alloc, store)?;
     let line = line_for(alloc, store, ids, low, records, entries, cost)?;

@@ -42,7 +42,7 @@ impl Drop for Query {
 }
 
 /// A resolve as it is written. Its sources come with its run.
-pub struct Form {
+pub struct RequestForm {
     pub inverse: bool,
     pub within: Option<MappingList>,
     pub class: u32,
@@ -50,9 +50,9 @@ pub struct Form {
     pub condition: Option<ExprNo>,
 }
 
-impl Drop for Form {
+impl Drop for RequestForm {
     fn drop(self) {
-        let Form {
+        let RequestForm {
             inverse,
             within,
             class,

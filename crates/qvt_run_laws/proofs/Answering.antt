@@ -19,11 +19,11 @@ use Rattle.qvt_run_data.specs.declared.record.Record.{Record}
 use Rattle.qvt_run_data.specs.declared.request.Request.{Request}
 use Rattle.qvt_run_rules.specs.State.{State}
 use Rattle.qvt_run_rules.specs.Locals.{local_of}
-use Rattle.qvt_run_rules.specs.Resolve.{Verdict, Passes, Fails, Invalid, Stops, Weighed, Answer, sifted_by, sifted}
+use Rattle.qvt_run_rules.specs.Resolve.{ConditionVerdict, Passes, Fails, Invalid, Stops, Weighed, ResolveAnswer, sifted_by, sifted}
 use Rattle.qvt_run_rules.specs.Trace.{candidates, far_end, has_object, is_object_of, matched_by, with_new}
 use Rattle.qvt_meaning.specs.Laws.{request_run, answered_from, from_requests}
 use Rattle.qvt_meaning.specs.Plain.{answer, weighed}
-use Rattle.qvt_meaning.specs.Run.{Finish, Entry, Finished, answered, finish_of, walk, patched, objects_in, late_value, finished_as, carried_out}
+use Rattle.qvt_meaning.specs.Run.{Finish, AnsweredWrite, FinishedRun, answered, finish_of, walk, patched, objects_in, late_value, finished_as, carried_out}
 use Rattle.qvt_meaning_laws.proofs.Runs.{one_pass}
 use Rattle.qvt_run_laws.proofs.Every.{Every, every-append, all_of}
 use Rattle.qvt_run_laws.specs.Entries.{IsFor, CanBeWritten, AnswersFit, EntriesFit}
@@ -44,7 +44,7 @@ right_of false b h = absurd (cc)
 -- What is found is among the candidates.
 
 module _ (P : Oid → Type 0) where
-  by_verdict : (v : Verdict) (one : Bool) (done : List Oid) (cost : ℕ) (o : Oid) (on : List Oid → Answer) → Every P done → P o → ((more : List Oid) → Every P more → Every P (objects_in (on more).found))
+  by_verdict : (v : ConditionVerdict) (one : Bool) (done : List Oid) (cost : ℕ) (o : Oid) (on : List Oid → ResolveAnswer) → Every P done → P o → ((more : List Oid) → Every P more → Every P (objects_in (on more).found))
       → Every P (objects_in (sifted_by v one done cost o on).found)
   by_verdict Passes true done cost o on d h k = every-append P done (o ∷ []) d (h, tt)
   by_verdict Passes false done cost o on d h k = k (done ++ o ∷ []) (every-append P done (o ∷ []) d (h, tt))
@@ -117,18 +117,18 @@ pub all_answered : (p : ProgramTerm) (f : Finish) → IsWellFormed f.store.metas
 all_answered p f well [] h = tt
 all_answered p f well (w ∷ ws) h = (answers_fit p f w well h.0, all_answered p f well ws h.1)
 
-abbrev Fit : Finished → Type 0
+abbrev Fit : FinishedRun → Type 0
 Fit f = IsWellFormed f.finish.store.metas → Every (CanBeWritten f.finish.store) f.entries
 
-as_patched : (f : Finish) (es : List Entry) (cost : ℕ) (r : Result Contents End) (g : Finished) → (IsWellFormed f.store.metas → Every (CanBeWritten f.store) es) → finished_as f es cost r ≡ Ok g → Fit g
+as_patched : (f : Finish) (es : List AnsweredWrite) (cost : ℕ) (r : Result Contents End) (g : FinishedRun) → (IsWellFormed f.store.metas → Every (CanBeWritten f.store) es) → finished_as f es cost r ≡ Ok g → Fit g
 as_patched f es cost (Ok store) g h e = let same : record { finish = f; after = store; entries = es; cost = cost } ≡ g = cc in subst Fit same h
 as_patched f es cost (Err x) g h e = absurd (cc)
 
-as_carried : (f : Finish) (es : List Entry) (r : Result ℕ End) (g : Finished) → (IsWellFormed f.store.metas → Every (CanBeWritten f.store) es) → carried_out f es r ≡ Ok g → Fit g
+as_carried : (f : Finish) (es : List AnsweredWrite) (r : Result ℕ End) (g : FinishedRun) → (IsWellFormed f.store.metas → Every (CanBeWritten f.store) es) → carried_out f es r ≡ Ok g → Fit g
 as_carried f es (Ok cost) g h e = as_patched f es cost (patched f.store (map late_value es)) g h e
 as_carried f es (Err x) g h e = absurd (cc)
 
-as_ended : (p : ProgramTerm) (fuel : ℕ) (r : Result (Unit {0}) Exit) (s : State LateWrite) (g : Finished) → Every (IsFor s.store) s.entries → from_requests p fuel r s ≡ Ok g → Fit g
+as_ended : (p : ProgramTerm) (fuel : ℕ) (r : Result (Unit {0}) Exit) (s : State LateWrite) (g : FinishedRun) → Every (IsFor s.store) s.entries → from_requests p fuel r s ≡ Ok g → Fit g
 as_ended p fuel (Ok u) s g h e = as_carried (finish_of s) (answered_from p s) (walk fuel s.cost (answered_from p s)) g (λ well. all_answered p (finish_of s) well s.entries h) e
 as_ended p fuel (Err (Returned v)) s g h e = as_carried (finish_of s) (answered_from p s) (walk fuel s.cost (answered_from p s)) g (λ well. all_answered p (finish_of s) well s.entries h) e
 as_ended p fuel (Err (Ends x)) s g h e = absurd (cc)

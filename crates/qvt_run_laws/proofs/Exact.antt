@@ -10,10 +10,10 @@ use Rattle.qvt_run_data.specs.declared.exit.Exit.{Exit}
 use Rattle.qvt_run_data.specs.declared.exit.Exit.TheVariants.{Returned, Ends}
 use Rattle.qvt_run_data.specs.declared.late.LateWrite.{LateWrite}
 use Rattle.qvt_run_rules.specs.State.{State, Done}
-use Rattle.qvt_run_rules.specs.Resolve.{Found, Objects, Undefined, Stopped}
+use Rattle.qvt_run_rules.specs.Resolve.{FoundOrEnded, Objects, Undefined, Stopped}
 use Rattle.qvt_meaning.specs.Laws.{ExactCost, request_run, answered_from, after_requests, from_requests}
 use Rattle.qvt_meaning.specs.Plain.{state_of}
-use Rattle.qvt_meaning.specs.Run.{Finish, Entry, Finished, setting, main_in, main_run, finish_of, walk, walk_on, patched, late_value, finished_as, carried_out, finished}
+use Rattle.qvt_meaning.specs.Run.{Finish, AnsweredWrite, FinishedRun, setting, main_in, main_run, finish_of, walk, walk_on, patched, late_value, finished_as, carried_out, finished}
 use Rattle.qvt_meaning_laws.proofs.Actions as action
 use Rattle.qvt_meaning_laws.proofs.Calls as calls
 use Rattle.qvt_meaning_laws.proofs.Phrasing.{of_stmts}
@@ -83,12 +83,12 @@ main_is_exact p store fuel n runs = comes p store fuel n runs (either_way n fuel
 
 -- The walk of the late entries.
 
-on_rises : (f : Found) (here rest : ℕ) → here ≤ rest → here ≤ walked_on f here rest
+on_rises : (f : FoundOrEnded) (here rest : ℕ) → here ≤ rest → here ≤ walked_on f here rest
 on_rises (Objects os) here rest c = c
 on_rises (Undefined r at) here rest c = omega arith
 on_rises (Stopped e) here rest c = omega arith
 
-walk_rises : (cost : ℕ) (es : List Entry) → cost ≤ walked cost es
+walk_rises : (cost : ℕ) (es : List AnsweredWrite) → cost ≤ walked cost es
 walk_rises cost [] = omega arith
 walk_rises cost (e ∷ es) =
     let here : ℕ = cost + (1 + e.answer.cost) in
@@ -105,12 +105,12 @@ beyond : (n cost : ℕ) (r : Result ℕ End) → n < cost → limited n cost r �
 beyond n cost r c = ap (λ b. if b then Err OutOfFuel else r) (lt-ltb n cost c)
 
 -- behind an entry that both fuels allow
-on_entry : (n : ℕ) (f : Found) (here rest : ℕ) (x y : Result ℕ End) → here ≤ n → walk_on f y ≢ Err OutOfFuel → (y ≢ Err OutOfFuel → x ≡ limited n rest y) → walk_on f x ≡ limited n (walked_on f here rest) (walk_on f y)
+on_entry : (n : ℕ) (f : FoundOrEnded) (here rest : ℕ) (x y : Result ℕ End) → here ≤ n → walk_on f y ≢ Err OutOfFuel → (y ≢ Err OutOfFuel → x ≡ limited n rest y) → walk_on f x ≡ limited n (walked_on f here rest) (walk_on f y)
 on_entry n (Objects os) here rest x y c runs h = h runs
 on_entry n (Undefined r at) here rest x y c runs h = sym (unlimited n here _ c)
 on_entry n (Stopped e) here rest x y c runs h = sym (unlimited n here _ c)
 
-walk_by : (n fuel here : ℕ) (e : Entry) (es : List Entry) (b d : Bool) → nat_lt n here ≡ b → nat_lt fuel here ≡ d
+walk_by : (n fuel here : ℕ) (e : AnsweredWrite) (es : List AnsweredWrite) (b d : Bool) → nat_lt n here ≡ b → nat_lt fuel here ≡ d
     → (if d then Err OutOfFuel else walk_on e.answer.found (walk fuel here es)) ≢ Err OutOfFuel
     → (here ≤ n → walk fuel here es ≢ Err OutOfFuel → walk n here es ≡ limited n (walked here es) (walk fuel here es))
     → (if b then Err OutOfFuel else walk_on e.answer.found (walk n here es)) ≡ limited n (walked_on e.answer.found here (walked here es)) (if d then Err OutOfFuel else walk_on e.answer.found (walk fuel here es))
@@ -123,19 +123,19 @@ walk_by n fuel here e es false false x y runs h =
     let low : here ≤ n = ltb-false n here x in
     on_entry n e.answer.found here (walked here es) (walk n here es) (walk fuel here es) low runs (h low)
 
-walk_exact : (n fuel cost : ℕ) (es : List Entry) → cost ≤ n → walk fuel cost es ≢ Err OutOfFuel → walk n cost es ≡ limited n (walked cost es) (walk fuel cost es)
+walk_exact : (n fuel cost : ℕ) (es : List AnsweredWrite) → cost ≤ n → walk fuel cost es ≢ Err OutOfFuel → walk n cost es ≡ limited n (walked cost es) (walk fuel cost es)
 walk_exact n fuel cost [] c runs = sym (unlimited n cost (Ok cost) c)
 walk_exact n fuel cost (e ∷ es) c runs =
     let here : ℕ = cost + (1 + e.answer.cost) in
     walk_by n fuel here e es (nat_lt n here) (nat_lt fuel here) refl refl runs (λ low goes. walk_exact n fuel here es low goes)
 
 -- the cost that it tells
-told_on : (f : Found) (here rest k : ℕ) (r : Result ℕ End) → (r ≡ Ok k → rest ≡ k) → walk_on f r ≡ Ok k → walked_on f here rest ≡ k
+told_on : (f : FoundOrEnded) (here rest k : ℕ) (r : Result ℕ End) → (r ≡ Ok k → rest ≡ k) → walk_on f r ≡ Ok k → walked_on f here rest ≡ k
 told_on (Objects os) here rest k r h e = h e
 told_on (Undefined x at) here rest k r h e = absurd (cc)
 told_on (Stopped x) here rest k r h e = absurd (cc)
 
-told_by : (d : Bool) (f : Found) (here rest k : ℕ) (r : Result ℕ End) → (r ≡ Ok k → rest ≡ k) → (if d then Err OutOfFuel else walk_on f r) ≡ Ok k → walked_on f here rest ≡ k
+told_by : (d : Bool) (f : FoundOrEnded) (here rest k : ℕ) (r : Result ℕ End) → (r ≡ Ok k → rest ≡ k) → (if d then Err OutOfFuel else walk_on f r) ≡ Ok k → walked_on f here rest ≡ k
 told_by true f here rest k r h e = absurd (cc)
 told_by false f here rest k r h e = told_on f here rest k r h e
 
@@ -143,7 +143,7 @@ abbrev cost_in : ℕ → Result ℕ End → ℕ
 cost_in n (Ok k) = k
 cost_in n (Err e) = n
 
-walk_told : (fuel cost k : ℕ) (es : List Entry) → walk fuel cost es ≡ Ok k → walked cost es ≡ k
+walk_told : (fuel cost k : ℕ) (es : List AnsweredWrite) → walk fuel cost es ≡ Ok k → walked cost es ≡ k
 walk_told fuel cost k [] e = ap (cost_in cost) e
 walk_told fuel cost k (x ∷ es) e =
     let here : ℕ = cost + (1 + x.answer.cost) in
@@ -151,14 +151,14 @@ walk_told fuel cost k (x ∷ es) e =
 
 -- A whole run.
 
-carried_by : (n cost : ℕ) (f : Finish) (es : List Entry) (r : Result ℕ End) (b : Bool) → carried_out f es (if b then Err OutOfFuel else r) ≡ (if b then Err OutOfFuel else carried_out f es r)
+carried_by : (n cost : ℕ) (f : Finish) (es : List AnsweredWrite) (r : Result ℕ End) (b : Bool) → carried_out f es (if b then Err OutOfFuel else r) ≡ (if b then Err OutOfFuel else carried_out f es r)
 carried_by n cost f es r true = refl
 carried_by n cost f es r false = refl
 
 module _ (p : ProgramTerm) (n fuel : ℕ) where
   after_exact : (s : State LateWrite) → s.cost ≤ n → after_requests p fuel s ≢ Err OutOfFuel → after_requests p n s ≡ within n (walked s.cost (answered_from p s)) (after_requests p fuel s)
   after_exact s c runs =
-      let es : List Entry = answered_from p s in
+      let es : List AnsweredWrite = answered_from p s in
       ap (carried_out (finish_of s) es) (walk_exact n fuel s.cost es c (λ e. runs (ap (carried_out (finish_of s) es) e)))
       ∙ carried_by n (walked s.cost es) (finish_of s) es (walk fuel s.cost es) (nat_lt n (walked s.cost es))
 
@@ -175,7 +175,7 @@ module _ (p : ProgramTerm) (n fuel : ℕ) where
   out_of : (r : Result (Unit {0}) Exit) (s : State LateWrite) → IsOut r → from_requests p n r s ≡ Err OutOfFuel
   out_of r s o = ap (λ x. from_requests p n x s) o
 
-  cut_off : (cost : ℕ) (r : Result Finished End) → n < cost → within n cost r ≡ Err OutOfFuel
+  cut_off : (cost : ℕ) (r : Result FinishedRun End) → n < cost → within n cost r ≡ Err OutOfFuel
   cut_off cost r c = ap (λ b. if b then Err OutOfFuel else r) (lt-ltb n cost c)
 
   run_exact : (d e : Done LateWrite (Unit {0})) → (e.1.cost ≤ n → d ≡ e) → (n < e.1.cost → IsOut d.0) → from_requests p fuel e.0 e.1 ≢ Err OutOfFuel → (e.1.cost ≤ n) ⊎ (n < e.1.cost)
@@ -196,23 +196,23 @@ fuel_is_exact p store fuel n runs =
 
 -- A run that has ended well.
 
-as_patched : (f : Finish) (es : List Entry) (cost : ℕ) (r : Result Contents End) (g : Finished) → finished_as f es cost r ≡ Ok g → cost ≡ g.cost
+as_patched : (f : Finish) (es : List AnsweredWrite) (cost : ℕ) (r : Result Contents End) (g : FinishedRun) → finished_as f es cost r ≡ Ok g → cost ≡ g.cost
 as_patched f es cost (Ok store) g e = let same : record { finish = f; after = store; entries = es; cost = cost } ≡ g = cc in ap (λ x. x.cost) same
 as_patched f es cost (Err x) g e = absurd (cc)
 
-as_carried : (f : Finish) (es : List Entry) (w : Result ℕ End) (g : Finished) (cost : ℕ) → ((k : ℕ) → w ≡ Ok k → cost ≡ k) → carried_out f es w ≡ Ok g → cost ≡ g.cost
+as_carried : (f : Finish) (es : List AnsweredWrite) (w : Result ℕ End) (g : FinishedRun) (cost : ℕ) → ((k : ℕ) → w ≡ Ok k → cost ≡ k) → carried_out f es w ≡ Ok g → cost ≡ g.cost
 as_carried f es (Ok k) g cost h e = h k refl ∙ as_patched f es k (patched f.store (map late_value es)) g e
 as_carried f es (Err x) g cost h e = absurd (cc)
 
-as_ended : (p : ProgramTerm) (fuel : ℕ) (r : Result (Unit {0}) Exit) (s : State LateWrite) (g : Finished) → from_requests p fuel r s ≡ Ok g → spent_by p r s ≡ g.cost
-as_ended p fuel (Ok u) s g e = let es : List Entry = answered_from p s in as_carried (finish_of s) es (walk fuel s.cost es) g (walked s.cost es) (λ k z. walk_told fuel s.cost k es z) e
-as_ended p fuel (Err (Returned v)) s g e = let es : List Entry = answered_from p s in as_carried (finish_of s) es (walk fuel s.cost es) g (walked s.cost es) (λ k z. walk_told fuel s.cost k es z) e
+as_ended : (p : ProgramTerm) (fuel : ℕ) (r : Result (Unit {0}) Exit) (s : State LateWrite) (g : FinishedRun) → from_requests p fuel r s ≡ Ok g → spent_by p r s ≡ g.cost
+as_ended p fuel (Ok u) s g e = let es : List AnsweredWrite = answered_from p s in as_carried (finish_of s) es (walk fuel s.cost es) g (walked s.cost es) (λ k z. walk_told fuel s.cost k es z) e
+as_ended p fuel (Err (Returned v)) s g e = let es : List AnsweredWrite = answered_from p s in as_carried (finish_of s) es (walk fuel s.cost es) g (walked s.cost es) (λ k z. walk_told fuel s.cost k es z) e
 as_ended p fuel (Err (Ends x)) s g e = absurd (cc)
 
 pub cost_is_told : CostIsTold
 cost_is_told p store fuel f e = as_ended p fuel (request_run p fuel store).0 (request_run p fuel store).1 f (sym (one_pass p fuel store) ∙ e)
 
-ok_is_no_end : (r : Result Finished End) (f : Finished) → r ≡ Ok f → r ≢ Err OutOfFuel
+ok_is_no_end : (r : Result FinishedRun End) (f : FinishedRun) → r ≡ Ok f → r ≢ Err OutOfFuel
 ok_is_no_end r f e = λ x. let both : Ok f ≡ Err OutOfFuel = sym e ∙ x in absurd (cc)
 
 pub done_is_exact : DoneIsExact

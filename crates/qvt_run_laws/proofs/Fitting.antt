@@ -20,7 +20,7 @@ use Rattle.qvt_run_data.specs.declared.exit.Exit.TheVariants.{Returned, Ends}
 use Rattle.qvt_run_data.specs.declared.late.LateWrite.{LateWrite}
 use Rattle.qvt_run_data.specs.declared.local.Local.{Local}
 use Rattle.qvt_run_data.specs.declared.record.Key.{Key}
-use Rattle.qvt_run_data.specs.declared.request.Form.{Form}
+use Rattle.qvt_run_data.specs.declared.request.RequestForm.{RequestForm}
 use Rattle.qvt_run_rules.specs.State.{State, Done, Does, on_outcome, ◌>>=◌, ◌>>◌, pure, found, ask, look, misfit, caught_in, caught}
 use Rattle.qvt_run_rules.specs.Cost.{charge}
 use Rattle.qvt_run_rules.specs.Typed.{valid}
@@ -32,9 +32,9 @@ use Rattle.qvt_run_rules.specs.Iterators.{unvisited, for_item, closure_from}
 use Rattle.qvt_run_rules.specs.Statements.{statement, loop, turn, holds, truth, with_slot}
 use Rattle.qvt_run_rules.specs.Calls.{given_in, given}
 use Rattle.qvt_run_rules.specs.Mappings as of
-use Rattle.qvt_run_rules.specs.Mappings.{Made, Begun, Known, Ended, New, note, once, with_key}
+use Rattle.qvt_run_rules.specs.Mappings.{MadeResult, BegunCall, Known, Ended, New, note, once, with_key}
 use Rattle.qvt_run_rules.specs.Resolve as by
-use Rattle.qvt_run_rules.specs.Resolve.{Answer, Found, Objects, Undefined, Stopped, answer_value, answered_now, late, late_write, query_of}
+use Rattle.qvt_run_rules.specs.Resolve.{ResolveAnswer, FoundOrEnded, Objects, Undefined, Stopped, answer_value, answered_now, late, late_write, query_of}
 use Rattle.qvt_meaning.specs.Laws.{request_run}
 use Rattle.qvt_meaning.specs.Plain.{answer, state_of}
 use Rattle.qvt_meaning.specs.Run.{entered, setting, main_in, main_run}
@@ -172,12 +172,12 @@ puts : (o f : ℕ) (adds : Bool) (v : Value) (at : Place) → Fits (Unit {0}) (p
 unfolding put
 puts o f adds v at = λ s h. let vs : List Value = slot_items (is_single s.store.metas f) v in writes_if (are_fit s.store o f vs) o f (op_of adds) vs at s h
 
-values : (one : Bool) (a : Found) → Fits Value (answer_value one a) (answer_value one a)
+values : (one : Bool) (a : FoundOrEnded) → Fits Value (answer_value one a) (answer_value one a)
 values one (Objects os) = λ s h. same s s refl refl h
 values one (Undefined r i) = λ s h. same s s refl refl h
 values one (Stopped e) = λ s h. same s s refl refl h
 
-answers : (fuel : ℕ) (one : Bool) (a : Answer) → Fits Value (answered_now (charge fuel) one a) (answered_now (charge fuel) one a)
+answers : (fuel : ℕ) (one : Bool) (a : ResolveAnswer) → Fits Value (answered_now (charge fuel) one a) (answered_now (charge fuel) one a)
 answers fuel one a = binds (charge fuel a.cost) (λ _. answer_value one a.found) (spends fuel a.cost) (λ _. values one a.found)
 
 -- Scopes and returns.
@@ -246,7 +246,7 @@ gives_back p e = wraps (λ s r t. given_in r t) (λ s. s) (λ s r t. given_store
 
 -- The trace.
 
-noted : (k : Key) (m : Made) (x : Begun) → Fits Begun (of.noted_on k m x) (of.noted_on k m x)
+noted : (k : Key) (m : MadeResult) (x : BegunCall) → Fits BegunCall (of.noted_on k m x) (of.noted_on k m x)
 unfolding note
 noted k (Known r) x = pures x
 noted k (Ended None) x = pures x
@@ -257,20 +257,20 @@ with_keys : {A : Type 0} (k : Key) (p : Does E A) → Fits A p p → Fits A (wit
 unfolding with_key
 with_keys k p e = wraps (λ s r t. of.shut (length s.keys) (r, t)) (λ s. record s { keys = s.keys ++ k ∷ [] }) (λ s r t. refl) (λ s r t. refl) (λ s. refl) (λ s. refl) p e
 
-unless_open : (b : Bool) (at : Place) (p : Does E Begun) → Fits Begun p p → Fits Begun (of.unless_open b at p) (of.unless_open b at p)
+unless_open : (b : Bool) (at : Place) (p : Does E BegunCall) → Fits BegunCall p p → Fits BegunCall (of.unless_open b at p) (of.unless_open b at p)
 unless_open true at p e = steady (of.unless_open true at p) (λ s. refl) (λ s. refl)
 unless_open false at p e = e
 
-unless_known : (o : Option (Option Oid)) (p : Does E Begun) → Fits Begun p p → Fits Begun (of.unless_known o p) (of.unless_known o p)
-unless_known (Some r) p e = pures {A = Begun} (Known r, [])
+unless_known : (o : Option (Option Oid)) (p : Does E BegunCall) → Fits BegunCall p p → Fits BegunCall (of.unless_known o p) (of.unless_known o p)
+unless_known (Some r) p e = pures {A = BegunCall} (Known r, [])
 unless_known None p e = e
 
-onces : (k : Key) (at : Place) (p : Does E Begun) → Fits Begun p p → Fits Begun (once k at p) (once k at p)
+onces : (k : Key) (at : Place) (p : Does E BegunCall) → Fits BegunCall p p → Fits BegunCall (once k at p) (once k at p)
 unfolding once
 onces k at p e =
-    let inner : Fits Begun (with_key k (p >>= of.noted k)) (with_key k (p >>= of.noted k)) = with_keys k (p >>= of.noted k) (binds p (of.noted k) e (λ x. noted k x.0 x)) in
-    let rest : Does E Begun = ask (λ s. has_key s.keys k) >>= (λ b. of.unless_open b at (with_key k (p >>= of.noted k))) in
-    let free : Fits Begun rest rest = λ s. unless_open (has_key s.keys k) at (with_key k (p >>= of.noted k)) inner s in
+    let inner : Fits BegunCall (with_key k (p >>= of.noted k)) (with_key k (p >>= of.noted k)) = with_keys k (p >>= of.noted k) (binds p (of.noted k) e (λ x. noted k x.0 x)) in
+    let rest : Does E BegunCall = ask (λ s. has_key s.keys k) >>= (λ b. of.unless_open b at (with_key k (p >>= of.noted k))) in
+    let free : Fits BegunCall rest rest = λ s. unless_open (has_key s.keys k) at (with_key k (p >>= of.noted k)) inner s in
     λ s. unless_known (result_for k s.trace) rest free s
 
 -- Loops.
@@ -325,7 +325,7 @@ module _ (o : Oid) (f : ℕ) where
   on_binds : {A B : Type 0} (p : Does E A) (h : A → Does E B) → Fits A p p → ((a : A) → FitsOn B (h a)) → FitsOn B (p >>= h)
   on_binds p h e k = λ s a i. on_after h k s i (p s).0 (p s).1 (e s a)
 
-  module _ (adds : Bool) (form : Form) (sign at : Place) (program : ProgramTerm) (fuel : ℕ) where
+  module _ (adds : Bool) (form : RequestForm) (sign at : Place) (program : ProgramTerm) (fuel : ℕ) where
     abbrev enter : LateWrite → Does E (Unit {0})
     enter = entered (λ (w : LateWrite). w) program fuel
 
@@ -369,7 +369,7 @@ module _ (o : Oid) (f : ℕ) where
         (λ v. on_binds (charge fuel 1) (λ _. by.sources_of at v >>= (λ os. look (by.if_fits f form.class) sign >> by.entered enter o f adds (query_of form os) sign)) (spends fuel 1)
         (λ _. on_binds (by.sources_of at v) (λ os. look (by.if_fits f form.class) sign >> by.entered enter o f adds (query_of form os) sign) (sources v) entry))
 
-module _ (program : ProgramTerm) (fuel f : ℕ) (adds : Bool) (form : Form) (sign at : Place) (p : Does E (Option Value)) (k : Fits (Option Value) p p) where
+module _ (program : ProgramTerm) (fuel f : ℕ) (adds : Bool) (form : RequestForm) (sign at : Place) (p : Does E (Option Value)) (k : Fits (Option Value) p p) where
   abbrev rest : Oid → Does E (Unit {0})
   rest o = p >>= by.valid_source >>= behind_source o f adds form sign at program fuel
 

@@ -29,8 +29,8 @@ use Rattle.qvt_run_rules.specs.Iterators.{unvisited, for_item, closure_from}
 use Rattle.qvt_run_rules.specs.Statements.{statement, loop, turn, holds, truth}
 use Rattle.qvt_run_rules.specs.Calls.{given_in, given}
 use Rattle.qvt_run_rules.specs.Mappings as of
-use Rattle.qvt_run_rules.specs.Mappings.{Made, Begun, Known, Ended, New, note, once, with_key}
-use Rattle.qvt_run_rules.specs.Resolve.{Answer, Found, Objects, Undefined, Stopped, answer_value, answered_now, late_write}
+use Rattle.qvt_run_rules.specs.Mappings.{MadeResult, BegunCall, Known, Ended, New, note, once, with_key}
+use Rattle.qvt_run_rules.specs.Resolve.{ResolveAnswer, FoundOrEnded, Objects, Undefined, Stopped, answer_value, answered_now, late_write}
 use Rattle.qvt_meaning.specs.Laws.{keys_differ}
 use Rattle.qvt_meaning.specs.Plain.{answer}
 use Rattle.qvt_meaning.specs.Run.{entered, setting}
@@ -40,12 +40,12 @@ use Rattle.qvt_run_laws.specs.Records.{IsKeyed, Keeps, IsRecorded}
 use Rattle.qvt_run_laws.proofs.Keys.{key_same, key_last, key_before, key_itself, key_apart, result_more, differ_more, known, no_records, first_record}
 
 -- the steps under the key did not find it in the trace
-abbrev pub IsMade : Made → Type 0
+abbrev pub IsMade : MadeResult → Type 0
 IsMade (Known r) = ⊥
 IsMade (Ended r) = Unit {0}
 IsMade (New r) = Unit {0}
 
-abbrev pub Fresh : Result Begun Exit → Type 0
+abbrev pub Fresh : Result BegunCall Exit → Type 0
 Fresh (Ok x) = IsMade x.0
 Fresh (Err e) = Unit {0}
 
@@ -136,12 +136,12 @@ module _ {E : Type 0} where
   unfolding put
   puts o f adds v at = λ s h. let vs : List Value = slot_items (is_single s.store.metas f) v in writes_if (are_fit s.store o f vs) (write s.store o f (op_of adds) vs) at s h
 
-  values : (one : Bool) (a : Found) → Kept Value (answer_value one a) (answer_value one a)
+  values : (one : Bool) (a : FoundOrEnded) → Kept Value (answer_value one a) (answer_value one a)
   values one (Objects os) = λ s h. same s s refl refl h
   values one (Undefined r i) = λ s h. same s s refl refl h
   values one (Stopped e) = λ s h. same s s refl refl h
 
-  answers : (fuel : ℕ) (one : Bool) (a : Answer) → Kept Value (answered_now (charge fuel) one a) (answered_now (charge fuel) one a)
+  answers : (fuel : ℕ) (one : Bool) (a : ResolveAnswer) → Kept Value (answered_now (charge fuel) one a) (answered_now (charge fuel) one a)
   answers fuel one a = binds (charge fuel a.cost) (λ _. answer_value one a.found) (spends fuel a.cost) (λ _. values one a.found)
 
   catches_trace : (r : Result (Unit {0}) Exit) (t : State E) → (caught_in r t).1.trace ≡ t.trace
@@ -296,19 +296,19 @@ module _ {E : Type 0} where
         closes s t (record_of k v ∷ []) h (differ_more t.trace (record_of k v) h.keyed.differ (still_free s t h))
         (λ j q n. result_more j t.trace (record_of k v) n (key_apart s.keys k j (same_key k j) refl q f.1)) u a b
 
-    noted : (s t : State E) (m : Made) (x : Begun) → Free s → Keeps (opened s) t → Keeps s (of.shut (length s.keys) (of.noted_on k m x t)).1
+    noted : (s t : State E) (m : MadeResult) (x : BegunCall) → Free s → Keeps (opened s) t → Keeps s (of.shut (length s.keys) (of.noted_on k m x t)).1
     unfolding note
     noted s t (Known r) x f h = without s t h _ refl refl
     noted s t (Ended None) x f h = without s t h _ refl refl
     noted s t (Ended (Some o)) x f h = with_record s t (Some o) f h _ refl refl
     noted s t (New r) x f h = with_record s t r f h _ refl refl
 
-    noting : (s : State E) (r : Result Begun Exit) (t : State E) → Free s → Keeps (opened s) t → Keeps s (of.shut (length s.keys) (on_outcome r t (of.noted k))).1
+    noting : (s : State E) (r : Result BegunCall Exit) (t : State E) → Free s → Keeps (opened s) t → Keeps s (of.shut (length s.keys) (on_outcome r t (of.noted k))).1
     noting s (Ok x) t f h = noted s t x.0 x f h
     noting s (Err e) t f h = without s t h _ refl refl
 
-    module _ (at : Place) (p : Does E Begun) (e : Kept Begun p p) where
-      abbrev rest : Does E Begun
+    module _ (at : Place) (p : Does E BegunCall) (e : Kept BegunCall p p) where
+      abbrev rest : Does E BegunCall
       rest = ask (λ s. has_key s.keys k) >>= (λ is_open. of.unless_open is_open at (with_key k (p >>= of.noted k)))
 
       unless_open : (b : Bool) (s : State E) → has_key s.keys k ≡ b → result_for k s.trace ≡ None → IsKeyed s → Keeps s (of.unless_open b at (with_key k (p >>= of.noted k)) s).1
@@ -320,13 +320,13 @@ module _ {E : Type 0} where
       unless_known (Some r) s o h = same s s refl refl h
       unless_known None s o h = unless_open (has_key s.keys k) s refl o h
 
-      pub onces : Kept Begun (once k at p) (once k at p)
+      pub onces : Kept BegunCall (once k at p) (once k at p)
       unfolding once
       onces = λ s h. unless_known (result_for k s.trace) s refl h
 
       -- The record of the key, where what comes first does not find one itself.
 
-      record_stands : (s t : State E) (m : Made) (ls : List Local) → IsMade m → Keeps (opened s) t
+      record_stands : (s t : State E) (m : MadeResult) (ls : List Local) → IsMade m → Keeps (opened s) t
           → IsRecorded k (of.noted_on k m (m, ls) t).0 (of.noted_on k m (m, ls) t).1.trace
       unfolding note
       record_stands s t (Known r) ls n h = absurd n
@@ -334,7 +334,7 @@ module _ {E : Type 0} where
       record_stands s t (Ended (Some o)) ls n h = ap (map (λ (r : Record). r.result)) (first_record k t.trace (record_of k (Some o)) refl (still_free s t h))
       record_stands s t (New r) ls n h = ap (map (λ (r : Record). r.result)) (first_record k t.trace (record_of k r) refl (still_free s t h))
 
-      writing : (s : State E) (r : Result Begun Exit) (t : State E) → Fresh r → Keeps (opened s) t → IsRecorded k (on_outcome r t (of.noted k)).0 (on_outcome r t (of.noted k)).1.trace
+      writing : (s : State E) (r : Result BegunCall Exit) (t : State E) → Fresh r → Keeps (opened s) t → IsRecorded k (on_outcome r t (of.noted k)).0 (on_outcome r t (of.noted k)).1.trace
       writing s (Ok x) t n h = record_stands s t x.0 x.1 n h
       writing s (Err z) t n h = tt
 

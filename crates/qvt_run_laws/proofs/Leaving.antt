@@ -19,7 +19,7 @@ use Rattle.qvt_run_data.specs.declared.late.LateWrite.{LateWrite}
 use Rattle.qvt_run_rules.specs.State.{State}
 use Rattle.qvt_run_rules.specs.Store.{is_class_for, are_fit}
 use Rattle.qvt_meaning.specs.Laws.{request_run, answered_from, from_requests}
-use Rattle.qvt_meaning.specs.Run.{Finish, Entry, Finished, finish_of, walk, written, patch_on, patched, late_value, finished_as, carried_out}
+use Rattle.qvt_meaning.specs.Run.{Finish, AnsweredWrite, FinishedRun, finish_of, walk, written, patch_on, patched, late_value, finished_as, carried_out}
 use Rattle.qvt_meaning_laws.proofs.Runs.{one_pass}
 use Rattle.qvt_run_laws.specs.Entries.{IsFor, CanBeWritten}
 use Rattle.qvt_run_laws.specs.Inputs.{InputsAreKept, MainKeepsInputs, RunsKeepInputs}
@@ -63,41 +63,41 @@ main_leaves p fuel store apart = main_moves Leads follows p fuel store apart
 
 -- The late entries.
 
-still_fit : (s t : Contents) → StaysIn s t → (es : List Entry) → Every (CanBeWritten s) es → Every (CanBeWritten t) es
+still_fit : (s t : Contents) → StaysIn s t → (es : List AnsweredWrite) → Every (CanBeWritten s) es → Every (CanBeWritten t) es
 still_fit s t h [] k = tt
 still_fit s t h (e ∷ es) k = (h.assignable (late_value e).object.0 (late_value e).feature.0 (map Obj (late_value e).values) k.0, still_fit s t h es k.1)
 
 -- an entry, and those after it
-carries_on : (s t : Contents) (x : Entry) (es : List Entry) (r : Result Contents StoreFault) → CanBeWritten s x → Every (CanBeWritten s) es → written s (late_value x) ≡ r
+carries_on : (s t : Contents) (x : AnsweredWrite) (es : List AnsweredWrite) (r : Result Contents StoreFault) → CanBeWritten s x → Every (CanBeWritten s) es → written s (late_value x) ≡ r
     → patch_on r (late_value x).place (λ u. patched u (map late_value es)) ≡ Ok t → ((u : Contents) → Every (CanBeWritten u) es → patched u (map late_value es) ≡ Ok t → Apart u → Leaves u t) → Apart s → Leaves s t
 carries_on s t x es (Ok u) can h w e rest apart =
     let one : Leaves s u = leaves_written s u (late_value x).object.0 (late_value x).feature.0 (late_value x).op (map Obj (late_value x).values) can w apart in
     leaves_on s u t one (rest u (still_fit s u one.stays es h) e one.apart)
 carries_on s t x es (Err f) can h w e rest apart = absurd (cc)
 
-patches : (s t : Contents) (es : List Entry) → Every (CanBeWritten s) es → patched s (map late_value es) ≡ Ok t → Apart s → Leaves s t
+patches : (s t : Contents) (es : List AnsweredWrite) → Every (CanBeWritten s) es → patched s (map late_value es) ≡ Ok t → Apart s → Leaves s t
 patches s t [] h e apart = let same : s ≡ t = cc in subst (Leaves s) same (leaves_itself s apart)
 patches s t (x ∷ es) h e apart = carries_on s t x es (written s (late_value x)) h.0 h.1 refl e (λ u. patches u t es) apart
 
 -- A run that has ended well.
 
 module _ (store : Contents) where
-  abbrev Left : Finished → Type 0
+  abbrev Left : FinishedRun → Type 0
   Left f = Leaves store f.finish.store × Leaves store f.after
 
-  as_patched : (f : Finish) (es : List Entry) (cost : ℕ) (r : Result Contents End) (g : Finished) → Leaves store f.store → ((t : Contents) → r ≡ Ok t → Leaves store t) → finished_as f es cost r ≡ Ok g → Left g
+  as_patched : (f : Finish) (es : List AnsweredWrite) (cost : ℕ) (r : Result Contents End) (g : FinishedRun) → Leaves store f.store → ((t : Contents) → r ≡ Ok t → Leaves store t) → finished_as f es cost r ≡ Ok g → Left g
   as_patched f es cost (Ok t) g h k e = let same : record { finish = f; after = t; entries = es; cost = cost } ≡ g = cc in subst Left same (h, k t refl)
   as_patched f es cost (Err x) g h k e = absurd (cc)
 
-  as_carried : (f : Finish) (es : List Entry) (r : Result ℕ End) (g : Finished) → Leaves store f.store → Every (CanBeWritten f.store) es → carried_out f es r ≡ Ok g → Left g
+  as_carried : (f : Finish) (es : List AnsweredWrite) (r : Result ℕ End) (g : FinishedRun) → Leaves store f.store → Every (CanBeWritten f.store) es → carried_out f es r ≡ Ok g → Left g
   as_carried f es (Ok cost) g h k e = as_patched f es cost (patched f.store (map late_value es)) g h (λ t w. leaves_on store f.store t h (patches f.store t es k w h.apart)) e
   as_carried f es (Err x) g h k e = absurd (cc)
 
-  after_requests : (p : ProgramTerm) (fuel : ℕ) (s : State LateWrite) (g : Finished) → Leaves store s.store → Every (IsFor s.store) s.entries
+  after_requests : (p : ProgramTerm) (fuel : ℕ) (s : State LateWrite) (g : FinishedRun) → Leaves store s.store → Every (IsFor s.store) s.entries
       → carried_out (finish_of s) (answered_from p s) (walk fuel s.cost (answered_from p s)) ≡ Ok g → Left g
   after_requests p fuel s g h k e = as_carried (finish_of s) (answered_from p s) (walk fuel s.cost (answered_from p s)) g h (all_answered p (finish_of s) h.apart.well_formed s.entries k) e
 
-  as_ended : (p : ProgramTerm) (fuel : ℕ) (r : Result (Unit {0}) Exit) (s : State LateWrite) (g : Finished) → Leaves store s.store → Every (IsFor s.store) s.entries → from_requests p fuel r s ≡ Ok g → Left g
+  as_ended : (p : ProgramTerm) (fuel : ℕ) (r : Result (Unit {0}) Exit) (s : State LateWrite) (g : FinishedRun) → Leaves store s.store → Every (IsFor s.store) s.entries → from_requests p fuel r s ≡ Ok g → Left g
   as_ended p fuel (Ok u) s g h k e = after_requests p fuel s g h k e
   as_ended p fuel (Err (Returned v)) s g h k e = after_requests p fuel s g h k e
   as_ended p fuel (Err (Ends x)) s g h k e = absurd (cc)

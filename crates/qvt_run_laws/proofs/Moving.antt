@@ -28,8 +28,8 @@ use Rattle.qvt_run_rules.specs.Iterators.{unvisited, for_item, closure_from}
 use Rattle.qvt_run_rules.specs.Statements.{statement, loop, turn, holds, truth}
 use Rattle.qvt_run_rules.specs.Calls.{given_in, given}
 use Rattle.qvt_run_rules.specs.Mappings as of
-use Rattle.qvt_run_rules.specs.Mappings.{Made, Begun, Known, Ended, New, note, once, with_key}
-use Rattle.qvt_run_rules.specs.Resolve.{Answer, Found, Objects, Undefined, Stopped, answer_value, answered_now}
+use Rattle.qvt_run_rules.specs.Mappings.{MadeResult, BegunCall, Known, Ended, New, note, once, with_key}
+use Rattle.qvt_run_rules.specs.Resolve.{ResolveAnswer, FoundOrEnded, Objects, Undefined, Stopped, answer_value, answered_now}
 use Rattle.qvt_meaning.specs.Laws.{request_run}
 use Rattle.qvt_meaning.specs.Plain.{answer, state_of}
 use Rattle.qvt_meaning.specs.Run.{setting, main_in, main_run}
@@ -113,12 +113,12 @@ module _ (M : Contents → Contents → Type 0) (follows : Follows M) where
   unfolding put
   puts o f adds v at = λ s. let vs : List Value = slot_items (is_single s.store.metas f) v in writes_if (are_fit s.store o f vs) o f (op_of adds) vs at s refl
 
-  values : (one : Bool) (a : Found) → Moves Value (answer_value one a) (answer_value one a)
+  values : (one : Bool) (a : FoundOrEnded) → Moves Value (answer_value one a) (answer_value one a)
   values one (Objects os) = λ s. follows.itself s.store
   values one (Undefined r i) = λ s. follows.itself s.store
   values one (Stopped e) = λ s. follows.itself s.store
 
-  answers : (fuel : ℕ) (one : Bool) (a : Answer) → Moves Value (answered_now (charge fuel) one a) (answered_now (charge fuel) one a)
+  answers : (fuel : ℕ) (one : Bool) (a : ResolveAnswer) → Moves Value (answered_now (charge fuel) one a) (answered_now (charge fuel) one a)
   answers fuel one a = binds (charge fuel a.cost) (λ _. answer_value one a.found) (spends fuel a.cost) (λ _. values one a.found)
 
   -- Scopes and returns.
@@ -172,7 +172,7 @@ module _ (M : Contents → Contents → Type 0) (follows : Follows M) where
 
   -- The trace.
 
-  noted : (k : Key) (m : Made) (x : Begun) → Moves Begun (of.noted_on k m x) (of.noted_on k m x)
+  noted : (k : Key) (m : MadeResult) (x : BegunCall) → Moves BegunCall (of.noted_on k m x) (of.noted_on k m x)
   unfolding note
   noted k (Known r) x = pures x
   noted k (Ended None) x = pures x
@@ -183,20 +183,20 @@ module _ (M : Contents → Contents → Type 0) (follows : Follows M) where
   unfolding with_key
   with_keys k p e = wraps (λ s r t. of.shut (length s.keys) (r, t)) (λ s. record s { keys = s.keys ++ k ∷ [] }) (λ s r t. refl) (λ s. refl) p e
 
-  unless_open : (b : Bool) (at : Place) (p : Does E Begun) → Moves Begun p p → Moves Begun (of.unless_open b at p) (of.unless_open b at p)
+  unless_open : (b : Bool) (at : Place) (p : Does E BegunCall) → Moves BegunCall p p → Moves BegunCall (of.unless_open b at p) (of.unless_open b at p)
   unless_open true at p e = λ s. follows.itself s.store
   unless_open false at p e = e
 
-  unless_known : (o : Option (Option Oid)) (p : Does E Begun) → Moves Begun p p → Moves Begun (of.unless_known o p) (of.unless_known o p)
+  unless_known : (o : Option (Option Oid)) (p : Does E BegunCall) → Moves BegunCall p p → Moves BegunCall (of.unless_known o p) (of.unless_known o p)
   unless_known (Some r) p e = λ s. follows.itself s.store
   unless_known None p e = e
 
-  onces : (k : Key) (at : Place) (p : Does E Begun) → Moves Begun p p → Moves Begun (once k at p) (once k at p)
+  onces : (k : Key) (at : Place) (p : Does E BegunCall) → Moves BegunCall p p → Moves BegunCall (once k at p) (once k at p)
   unfolding once
   onces k at p e =
-      let inner : Moves Begun (with_key k (p >>= of.noted k)) (with_key k (p >>= of.noted k)) = with_keys k (p >>= of.noted k) (binds p (of.noted k) e (λ x. noted k x.0 x)) in
-      let rest : Does E Begun = ask (λ s. has_key s.keys k) >>= (λ b. of.unless_open b at (with_key k (p >>= of.noted k))) in
-      let free : Moves Begun rest rest = λ s. unless_open (has_key s.keys k) at (with_key k (p >>= of.noted k)) inner s in
+      let inner : Moves BegunCall (with_key k (p >>= of.noted k)) (with_key k (p >>= of.noted k)) = with_keys k (p >>= of.noted k) (binds p (of.noted k) e (λ x. noted k x.0 x)) in
+      let rest : Does E BegunCall = ask (λ s. has_key s.keys k) >>= (λ b. of.unless_open b at (with_key k (p >>= of.noted k))) in
+      let free : Moves BegunCall rest rest = λ s. unless_open (has_key s.keys k) at (with_key k (p >>= of.noted k)) inner s in
       λ s. unless_known (result_for k s.trace) rest free s
 
   -- Loops.

@@ -17,10 +17,10 @@ use Rattle.qvt_run_data.specs.declared.record.Record.{Record}
 use Rattle.qvt_run_rules.specs.State.{State, Done, Does, on_outcome, ◌>>=◌, pure, caught}
 use Rattle.qvt_run_rules.specs.Locals.{result_name, begun, own_in, in_own, set}
 use Rattle.qvt_run_rules.specs.Mappings as of
-use Rattle.qvt_run_rules.specs.Mappings.{MappingRule, Making, Made, Known, Ended, New, Begun, key}
+use Rattle.qvt_run_rules.specs.Mappings.{MappingRule, ResultClass, MadeResult, Known, Ended, New, BegunCall, key}
 use Rattle.qvt_meaning.specs.Laws.{keys_differ, OneRecord, request_run, answered_from, from_requests}
 use Rattle.qvt_meaning.specs.Plain.{state_of}
-use Rattle.qvt_meaning.specs.Run.{Finish, Entry, Finished, setting, main_in, main_run, finish_of, walk, patched, finished_as, carried_out, late_value}
+use Rattle.qvt_meaning.specs.Run.{Finish, AnsweredWrite, FinishedRun, setting, main_in, main_run, finish_of, walk, patched, finished_as, carried_out, late_value}
 use Rattle.qvt_meaning.specs.Units.{mapping_at}
 use Rattle.qvt_meaning_laws.proofs.Closed.{Closed, Held, held_some}
 use Rattle.qvt_meaning_laws.proofs.Actions as action
@@ -64,20 +64,20 @@ run_keeps p fuel store = action.block (closed p fuel) (of_stmts (closed p fuel) 
 pub runs_are_keyed : RunsAreKeyed
 runs_are_keyed p fuel store = let h : Keeps (state_of store [] []) (request_run p fuel store).1 = run_keeps p fuel store in (h.keyed, h.keys)
 
-abbrev Differ : Finished → Type 0
+abbrev Differ : FinishedRun → Type 0
 Differ f = keys_differ f.finish.trace ≡ true
 
-as_patched : (f : Finish) (es : List Entry) (cost : ℕ) (r : Result Contents End) (g : Finished) → keys_differ f.trace ≡ true → finished_as f es cost r ≡ Ok g → Differ g
+as_patched : (f : Finish) (es : List AnsweredWrite) (cost : ℕ) (r : Result Contents End) (g : FinishedRun) → keys_differ f.trace ≡ true → finished_as f es cost r ≡ Ok g → Differ g
 as_patched f es cost (Ok store) g d e =
     let same : record { finish = f; after = store; entries = es; cost = cost } ≡ g = cc in
     subst Differ same d
 as_patched f es cost (Err x) g d e = absurd (cc)
 
-as_carried : (f : Finish) (es : List Entry) (w : Result ℕ End) (g : Finished) → keys_differ f.trace ≡ true → carried_out f es w ≡ Ok g → Differ g
+as_carried : (f : Finish) (es : List AnsweredWrite) (w : Result ℕ End) (g : FinishedRun) → keys_differ f.trace ≡ true → carried_out f es w ≡ Ok g → Differ g
 as_carried f es (Ok cost) g d e = as_patched f es cost (patched f.store (map late_value es)) g d e
 as_carried f es (Err x) g d e = absurd (cc)
 
-as_ended : (p : ProgramTerm) (fuel : ℕ) (r : Result (Unit {0}) Exit) (s : State LateWrite) (g : Finished) → keys_differ s.trace ≡ true → from_requests p fuel r s ≡ Ok g → Differ g
+as_ended : (p : ProgramTerm) (fuel : ℕ) (r : Result (Unit {0}) Exit) (s : State LateWrite) (g : FinishedRun) → keys_differ s.trace ≡ true → from_requests p fuel r s ≡ Ok g → Differ g
 as_ended p fuel (Ok u) s g d e = as_carried (finish_of s) (answered_from p s) (walk fuel s.cost (answered_from p s)) g d e
 as_ended p fuel (Err (Returned v)) s g d e = as_carried (finish_of s) (answered_from p s) (walk fuel s.cost (answered_from p s)) g d e
 as_ended p fuel (Err (Ends x)) s g d e = absurd (cc)
@@ -88,22 +88,22 @@ one_record p store fuel f e =
 
 -- The steps of a call up to the record do not find the key themselves.
 
-abbrev MadeBy : Result Made Exit → Type 0
+abbrev MadeBy : Result MadeResult Exit → Type 0
 MadeBy (Ok m) = IsMade m
 MadeBy (Err e) = Unit {0}
 
 module _ {E : Type 0} where
-  abbrev Makes : Does E Made → Type 0
+  abbrev Makes : Does E MadeResult → Type 0
   Makes p = (s : State E) → MadeBy (p s).0
 
-  behind : {A : Type 0} (f : A → Does E Made) → ((a : A) → Makes (f a)) → (r : Result A Exit) (t : State E) → MadeBy (on_outcome r t f).0
+  behind : {A : Type 0} (f : A → Does E MadeResult) → ((a : A) → Makes (f a)) → (r : Result A Exit) (t : State E) → MadeBy (on_outcome r t f).0
   behind f k (Ok a) t = k a t
   behind f k (Err e) t = tt
 
-  then_makes : {A : Type 0} (p : Does E A) (f : A → Does E Made) → ((a : A) → Makes (f a)) → Makes (p >>= f)
+  then_makes : {A : Type 0} (p : Does E A) (f : A → Does E MadeResult) → ((a : A) → Makes (f a)) → Makes (p >>= f)
   then_makes p f k = λ s. behind f k (p s).0 (p s).1
 
-  completes_as : (r : Option Making) (at : Place) → Makes (of.completed_as r at)
+  completes_as : (r : Option ResultClass) (at : Place) → Makes (of.completed_as r at)
   completes_as None at = λ s. tt
   completes_as (Some c) at = then_makes (of.made_of c.class c.extent at) (of.kept_as at) (λ o. then_makes (set result_name (Obj o) at) (λ _. pure (New (Some o))) (λ _ s. tt))
 
@@ -120,7 +120,7 @@ module _ {E : Type 0} where
   inside_makes m = then_makes (caught m.init) (λ returned. of.result_read m.result m.place >>= (λ r. if returned then pure (Ended r) else of.completed m r))
       (λ b. then_makes (of.result_read m.result m.place) (λ r. if b then pure (Ended r) else of.completed m r) (λ r. ends_or b m r))
 
-  owned : (r : Result Made Exit) (t s : State E) → MadeBy r → Fresh (own_in r t s).0
+  owned : (r : Result MadeResult Exit) (t s : State E) → MadeBy r → Fresh (own_in r t s).0
   owned (Ok m) t s h = h
   owned (Err e) t s h = tt
 
@@ -141,7 +141,7 @@ module _ (p : ProgramTerm) (fuel left : ℕ) where
   unfolding setting
   all_mappings n = call.mapping_at (closed p fuel) p (call.calls_to (closed p fuel) p free left) (free left) n
 
-  first_keeps : (m : MappingRule LateWrite) (ls : List Local) → AlikeMappings m m → Kept Begun (of.first m ls) (of.first m ls)
+  first_keeps : (m : MappingRule LateWrite) (ls : List Local) → AlikeMappings m m → Kept BegunCall (of.first m ls) (of.first m ls)
   unfolding setting
   first_keeps m ls e = begins (closed p fuel) all_mappings {d = calls p fuel left} {d' = calls p fuel left} (call.calls_to (closed p fuel) p free left) ls e
 
@@ -152,14 +152,14 @@ one_is_written p fuel left n m is o vs ls at s h =
 
 -- In the trace that a run leaves.
 
-with_result : (k : Key) (v : Option Oid) (d : Result Begun Exit) (rs : List Record) → IsRecorded k d rs → IsRecordedWith v d → map (λ (r : Record). r.result) (records_of k rs) ≡ v ∷ []
+with_result : (k : Key) (v : Option Oid) (d : Result BegunCall Exit) (rs : List Record) → IsRecorded k d rs → IsRecordedWith v d → map (λ (r : Record). r.result) (records_of k rs) ≡ v ∷ []
 with_result k v (Ok x) rs w h = w ∙ h
 with_result k v (Err e) rs w h = absurd h
 
 pub one_is_left : OneIsLeft
 one_is_left p store fuel f e left n m is o vs ls at s h v recorded more front =
     let k : Key = key m.number o vs in
-    let d : Done LateWrite Begun = begun_by m o vs ls at s in
+    let d : Done LateWrite BegunCall = begun_by m o vs ls at s in
     subst (λ (rs : List Record). map (λ (r : Record). r.result) (records_of k rs) ≡ v ∷ []) (sym front)
     (result_stays d.1.trace more k v (with_result k v d.0 d.1.trace (one_is_written p fuel left n m is o vs ls at s h) recorded)
     (subst (λ (rs : List Record). keys_differ rs ≡ true) front (one_record p store fuel f e)))

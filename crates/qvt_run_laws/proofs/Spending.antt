@@ -14,11 +14,11 @@ use Rattle.qvt_run_data.specs.declared.exit.Exit.{Exit}
 use Rattle.qvt_run_data.specs.declared.exit.Exit.TheVariants.{Ends}
 use Rattle.qvt_run_data.specs.declared.late.LateWrite.{LateWrite}
 use Rattle.qvt_run_data.specs.declared.questions.ModelQuery.{ModelQuery}
-use Rattle.qvt_run_data.specs.declared.request.Form.{Form}
+use Rattle.qvt_run_data.specs.declared.request.RequestForm.{RequestForm}
 use Rattle.qvt_run_rules.specs.State.{State, Done, Does, on_outcome, ◌>>=◌, ◌>>◌, misfit}
 use Rattle.qvt_run_rules.specs.Cost.{charge}
 use Rattle.qvt_run_rules.specs.Calls as call
-use Rattle.qvt_run_rules.specs.Calls.{Calls}
+use Rattle.qvt_run_rules.specs.Calls.{CallRule}
 use Rattle.qvt_run_rules.specs.Expressions as rule
 use Rattle.qvt_run_rules.specs.Resolve as by_request
 use Rattle.qvt_run_rules.specs.Statements as statement
@@ -117,12 +117,12 @@ module _ {E : Type 0} (fuel : ℕ) where
     object_by name (reading.Make c e) body at = object_with name c.0 e body at
     object_by name r body at = misfits at
 
-    resolve_alone : (f : Option Form) (at : Place) → Bars Value (by.resolve_alone rules f at)
+    resolve_alone : (f : Option RequestForm) (at : Place) → Bars Value (by.resolve_alone rules f at)
     unfolding by_request.resolve_alone
     resolve_alone (Some f) at = bars _
     resolve_alone None at = misfits at
 
-    module _ (d : Calls E) where
+    module _ (d : CallRule E) where
       call_free : (n : Option Callee) (ps : List (Does E Value)) (at : Place) → Bars Value (by.call_free rules d n ps at)
       unfolding call.call_free
       call_free (Some n) ps at = bars _

@@ -21,8 +21,8 @@ use Rattle.qvt_run_rules.specs.Iterators.{unvisited, for_item, closure_from}
 use Rattle.qvt_run_rules.specs.Statements.{statement, loop, turn, holds, truth}
 use Rattle.qvt_run_rules.specs.Calls.{given_in, given}
 use Rattle.qvt_run_rules.specs.Mappings as of
-use Rattle.qvt_run_rules.specs.Mappings.{Made, Begun, Known, Ended, New, note, once, with_key}
-use Rattle.qvt_run_rules.specs.Resolve.{Answer, Found, Objects, Undefined, Stopped, answer_value, answered_now, late_write}
+use Rattle.qvt_run_rules.specs.Mappings.{MadeResult, BegunCall, Known, Ended, New, note, once, with_key}
+use Rattle.qvt_run_rules.specs.Resolve.{ResolveAnswer, FoundOrEnded, Objects, Undefined, Stopped, answer_value, answered_now, late_write}
 use Rattle.qvt_meaning.specs.Plain.{answer}
 use Rattle.qvt_meaning.specs.Run.{entered}
 use Rattle.qvt_meaning_laws.proofs.Closed.{Closed}
@@ -125,7 +125,7 @@ module _ {E : Type 0} (fuel : ℕ) where
 
   -- The trace.
 
-  noted : (k : Key) (m : Made) (x : Begun) → Meet Begun (of.noted_on k m x) (of.noted_on k m x)
+  noted : (k : Key) (m : MadeResult) (x : BegunCall) → Meet BegunCall (of.noted_on k m x) (of.noted_on k m x)
   unfolding note
   noted k (Known r) x = pures x
   noted k (Ended None) x = pures x
@@ -136,20 +136,20 @@ module _ {E : Type 0} (fuel : ℕ) where
   unfolding with_key
   with_keys k p q e = wraps (λ s r t. of.shut (length s.keys) (r, t)) (λ s. record s { keys = s.keys ++ k ∷ [] }) (λ s r t. refl) (λ s. refl) p q e
 
-  unless_open : (b : Bool) (at : Place) (p q : Does E Begun) → Meet Begun p q → Meet Begun (of.unless_open b at p) (of.unless_open b at q)
+  unless_open : (b : Bool) (at : Place) (p q : Does E BegunCall) → Meet BegunCall p q → Meet BegunCall (of.unless_open b at p) (of.unless_open b at q)
   unless_open true at p q e = steady (of.unless_open true at p) (λ s. refl)
   unless_open false at p q e = e
 
-  unless_known : (o : Option (Option Oid)) (p q : Does E Begun) → Meet Begun p q → Meet Begun (of.unless_known o p) (of.unless_known o q)
+  unless_known : (o : Option (Option Oid)) (p q : Does E BegunCall) → Meet BegunCall p q → Meet BegunCall (of.unless_known o p) (of.unless_known o q)
   unless_known (Some r) p q e = pures (Known r, [])
   unless_known None p q e = e
 
-  onces : (k : Key) (at : Place) (p q : Does E Begun) → Meet Begun p q → Meet Begun (once k at p) (once k at q)
+  onces : (k : Key) (at : Place) (p q : Does E BegunCall) → Meet BegunCall p q → Meet BegunCall (once k at p) (once k at q)
   unfolding once
   onces k at p q e =
-      let inner : Meet Begun (with_key k (p >>= of.noted k)) (with_key k (q >>= of.noted k))
+      let inner : Meet BegunCall (with_key k (p >>= of.noted k)) (with_key k (q >>= of.noted k))
       = with_keys k (p >>= of.noted k) (q >>= of.noted k) (binds p q (of.noted k) (of.noted k) e (λ x. noted k x.0 x)) in
-      let free : Meet Begun (ask (λ s. has_key s.keys k) >>= (λ b. of.unless_open b at (with_key k (p >>= of.noted k)))) (ask (λ s. has_key s.keys k) >>= (λ b. of.unless_open b at (with_key k (q >>= of.noted k))))
+      let free : Meet BegunCall (ask (λ s. has_key s.keys k) >>= (λ b. of.unless_open b at (with_key k (p >>= of.noted k)))) (ask (λ s. has_key s.keys k) >>= (λ b. of.unless_open b at (with_key k (q >>= of.noted k))))
       = λ s. unless_open (has_key s.keys k) at _ _ inner s in
       λ s. unless_known (result_for k s.trace) _ _ free s
 
@@ -265,12 +265,12 @@ module _ {E : Type 0} (fuel : ℕ) where
 
   -- Resolves.
 
-  values : (one : Bool) (a : Found) → Meet Value (answer_value one a) (answer_value one a)
+  values : (one : Bool) (a : FoundOrEnded) → Meet Value (answer_value one a) (answer_value one a)
   values one (Objects os) = steady (answer_value one (Objects os)) (λ s. refl)
   values one (Undefined r i) = steady (answer_value one (Undefined r i)) (λ s. refl)
   values one (Stopped e) = steady (answer_value one (Stopped e)) (λ s. refl)
 
-  answers : (one : Bool) (a : Answer) → Meet Value (answered_now (charge fuel) one a) (answered_now (charge fuel) one a)
+  answers : (one : Bool) (a : ResolveAnswer) → Meet Value (answered_now (charge fuel) one a) (answered_now (charge fuel) one a)
   answers one a = binds (charge fuel a.cost) (charge fuel a.cost) (λ _. answer_value one a.found) (λ _. answer_value one a.found) (spends a.cost) (λ _. values one a.found)
 
   -- over the rules of two runs with this fuel, in which a loop may have at least as many turns

@@ -11,7 +11,7 @@ use Rattle.qvt_typing.specs.Accepts.{ProgramTerm}
 use Rattle.qvt_value.specs.declared.value.Value.{Obj}
 use Rattle.qvt_run_data.specs.declared.late.LateWrite.{LateWrite}
 use Rattle.qvt_meaning.specs.Laws.{request_run}
-use Rattle.qvt_meaning.specs.Run.{Finish, Entry, Finished, answered, finished, late_value}
+use Rattle.qvt_meaning.specs.Run.{Finish, AnsweredWrite, FinishedRun, answered, finished, late_value}
 
 -- the slot is there, and objects of the class are of its type
 pub record IsFor (s : Contents) (w : LateWrite) : Type 0 where
@@ -23,7 +23,7 @@ abbrev pub RequestsFit : Type 0
 RequestsFit = (p : ProgramTerm) (fuel : ℕ) (store : Contents) → All (IsFor (request_run p fuel store).1.store) (request_run p fuel store).1.entries
 
 -- what answers it over a trace and a store can be assigned
-abbrev pub CanBeWritten : Contents → Entry → Type 0
+abbrev pub CanBeWritten : Contents → AnsweredWrite → Type 0
 CanBeWritten s e = IsAssignable s (late_value e).object.0 (late_value e).feature.0 (map Obj (late_value e).values)
 
 abbrev pub AnswersFit : Type 0
@@ -31,4 +31,4 @@ AnswersFit = (p : ProgramTerm) (f : Finish) (w : LateWrite) → IsWellFormed f.s
 
 -- so each entry of a run that has ended well can be written into the store that `main` left
 abbrev pub EntriesFit : Type 0
-EntriesFit = (p : ProgramTerm) (store : Contents) (fuel : ℕ) (f : Finished) → finished p store fuel ≡ Ok f → IsWellFormed f.finish.store.metas → All (CanBeWritten f.finish.store) f.entries
+EntriesFit = (p : ProgramTerm) (store : Contents) (fuel : ℕ) (f : FinishedRun) → finished p store fuel ≡ Ok f → IsWellFormed f.finish.store.metas → All (CanBeWritten f.finish.store) f.entries

@@ -10,24 +10,24 @@ use Rattle.qvt_run_data.specs.declared.exit.Exit.TheVariants.{Returned, Ends}
 use Rattle.qvt_run_data.specs.declared.late.LateWrite.{LateWrite}
 use Rattle.qvt_run_rules.specs.State.{State, Done}
 use Rattle.qvt_run_rules.specs.Cost.{charge}
-use Rattle.qvt_run_rules.specs.Resolve.{Found, Objects, Undefined, Stopped}
+use Rattle.qvt_run_rules.specs.Resolve.{FoundOrEnded, Objects, Undefined, Stopped}
 use Rattle.qvt_run_rules.specs.Statements.{block}
 use Rattle.qvt_meaning.specs.Laws.{request_run, answered_from}
 use Rattle.qvt_meaning.specs.Phrases.{stmts}
 use Rattle.qvt_meaning.specs.Plain.{state_of}
 use Rattle.qvt_meaning.specs.Readings.{Setting}
-use Rattle.qvt_meaning.specs.Run.{Entry, Finished, resolved, entered, nothing_barred, main_in, finished}
+use Rattle.qvt_meaning.specs.Run.{AnsweredWrite, FinishedRun, resolved, entered, nothing_barred, main_in, finished}
 use Rattle.qvt_meaning.specs.Units.{all_calls}
 
 -- The cost of a run, up to where it ended: that of `main`, and where `main` did not end the run, those of the late entries in order, up to
 -- the first that ended it. An entry costs one and its answer.
 
-abbrev pub walked_on : Found → ℕ → ℕ → ℕ
+abbrev pub walked_on : FoundOrEnded → ℕ → ℕ → ℕ
 walked_on (Objects os) here rest = rest
 walked_on (Undefined r at) here rest = here
 walked_on (Stopped e) here rest = here
 
-abbrev pub walked : ℕ → List Entry → ℕ
+abbrev pub walked : ℕ → List AnsweredWrite → ℕ
 walked cost [] = cost
 walked cost (e ∷ es) = walked_on e.answer.found (cost + (1 + e.answer.cost)) (walked (cost + (1 + e.answer.cost)) es)
 
@@ -41,7 +41,7 @@ abbrev pub cost_of : ProgramTerm → Contents → ℕ → ℕ
 cost_of p store fuel = spent_by p (request_run p fuel store).0 (request_run p fuel store).1
 
 -- what comes with n units of fuel of a run with this cost and this end
-abbrev pub within : ℕ → ℕ → Result Finished End → Result Finished End
+abbrev pub within : ℕ → ℕ → Result FinishedRun End → Result FinishedRun End
 within n cost r = if nat_lt n cost then Err OutOfFuel else r
 
 -- A run that has not ended for want of fuel ends so with exactly the fuels that its cost is above, and with each other fuel as it did: with
@@ -51,10 +51,10 @@ FuelIsExact = (p : ProgramTerm) (store : Contents) (fuel n : ℕ) → finished p
 
 -- where it has ended well that is the cost that it tells
 abbrev pub CostIsTold : Type 0
-CostIsTold = (p : ProgramTerm) (store : Contents) (fuel : ℕ) (f : Finished) → finished p store fuel ≡ Ok f → cost_of p store fuel ≡ f.cost
+CostIsTold = (p : ProgramTerm) (store : Contents) (fuel : ℕ) (f : FinishedRun) → finished p store fuel ≡ Ok f → cost_of p store fuel ≡ f.cost
 
 abbrev pub DoneIsExact : Type 0
-DoneIsExact = (p : ProgramTerm) (store : Contents) (fuel n : ℕ) (f : Finished) → finished p store fuel ≡ Ok f → finished p store n ≡ within n f.cost (Ok f)
+DoneIsExact = (p : ProgramTerm) (store : Contents) (fuel n : ℕ) (f : FinishedRun) → finished p store fuel ≡ Ok f → finished p store n ≡ within n f.cost (Ok f)
 
 -- `main` alone, whose state is told however it ends: it comes to the same state with each fuel that its cost is not above
 abbrev pub MainIsExact : Type 0

@@ -8,7 +8,7 @@ use Rattle.qvt_store_laws.specs.Sound.{Sound}
 use Rattle.qvt_store_laws.specs.Stay.{IsStore, InputsStay}
 use Rattle.qvt_typing.specs.Accepts.{ProgramTerm}
 use Rattle.qvt_meaning.specs.Laws.{request_run}
-use Rattle.qvt_meaning.specs.Run.{Finished, finished}
+use Rattle.qvt_meaning.specs.Run.{FinishedRun, finished}
 
 -- the models of direction in are those whose extents are not writable
 pub record InputsAreKept (s t : Contents) : Type 0 where
@@ -24,5 +24,5 @@ MainKeepsInputs = (p : ProgramTerm) (fuel : ℕ) (store : Contents) → IsStore 
 
 -- where a run has ended well, in the store that `main` left, and in the one with the late entries carried out
 abbrev pub RunsKeepInputs : Type 0
-RunsKeepInputs = (p : ProgramTerm) (store : Contents) (fuel : ℕ) (f : Finished) → IsStore store → Sound store → finished p store fuel ≡ Ok f →
+RunsKeepInputs = (p : ProgramTerm) (store : Contents) (fuel : ℕ) (f : FinishedRun) → IsStore store → Sound store → finished p store fuel ≡ Ok f →
     InputsAreKept store f.finish.store × InputsAreKept store f.after

@@ -16,14 +16,14 @@ use Rattle.qvt_run_data.specs.declared.local.Local.{Local}
 use Rattle.qvt_run_data.specs.declared.record.Key.{Key}
 use Rattle.qvt_run_data.specs.declared.record.Record.{Record}
 use Rattle.qvt_run_rules.specs.State.{State, Does}
-use Rattle.qvt_run_rules.specs.Calls.{Calls}
-use Rattle.qvt_run_rules.specs.Mappings.{MappingRule, Made, Known, Ended, New, Begun, key, once, first}
+use Rattle.qvt_run_rules.specs.Calls.{CallRule}
+use Rattle.qvt_run_rules.specs.Mappings.{MappingRule, MadeResult, Known, Ended, New, BegunCall, key, once, first}
 use Rattle.qvt_run_rules.specs.Statements.{in_order}
 use Rattle.qvt_run_rules.specs.Trace.{same_key, key_of, result_for, has_key}
 use Rattle.qvt_meaning.specs.Laws.{keys_differ, request_run}
 use Rattle.qvt_meaning.specs.Phrases.{expr, stmts}
 use Rattle.qvt_meaning.specs.Readings.{Setting}
-use Rattle.qvt_meaning.specs.Run.{Finished, finished, setting}
+use Rattle.qvt_meaning.specs.Run.{FinishedRun, finished, setting}
 use Rattle.qvt_meaning.specs.Units.{calls_to, mapping_at}
 
 -- the records of a key
@@ -46,7 +46,7 @@ module _ {E : Type 0} where
 abbrev pub rules : ProgramTerm → ℕ → Setting LateWrite
 rules p fuel = setting (λ (w : LateWrite). w) p fuel
 
-abbrev pub calls : ProgramTerm → ℕ → ℕ → Calls LateWrite
+abbrev pub calls : ProgramTerm → ℕ → ℕ → CallRule LateWrite
 calls p fuel left = calls_to (rules p fuel) left
 
 -- Calls keep the records however they end, while so many may be open; so do expressions, and statements in order.
@@ -67,19 +67,19 @@ RunsAreKeyed = (p : ProgramTerm) (fuel : ℕ) (store : Contents) → IsKeyed (re
 -- The record of a call.
 
 -- the results of the records that the key of a call has: of one, but of none where the init section returned without a result
-abbrev pub recorded : Made → List (Option Oid)
+abbrev pub recorded : MadeResult → List (Option Oid)
 recorded (Known r) = r ∷ []
 recorded (Ended None) = []
 recorded (Ended (Some o)) = Some o ∷ []
 recorded (New r) = r ∷ []
 
 -- where the call goes on or is answered; a call that ends the run is open
-abbrev pub IsRecorded : Key → Result Begun Exit → List Record → Type 0
+abbrev pub IsRecorded : Key → Result BegunCall Exit → List Record → Type 0
 IsRecorded k (Ok x) rs = map (λ (r : Record). r.result) (records_of k rs) ≡ recorded x.0
 IsRecorded k (Err e) rs = Unit {0}
 
 -- the steps of a call of a mapping up to the record: its look-up, the init section while the key is open, the result, and the record
-abbrev pub begun : MappingRule LateWrite → Option Oid → List Value → List Local → Place → Does LateWrite Begun
+abbrev pub begun : MappingRule LateWrite → Option Oid → List Value → List Local → Place → Does LateWrite BegunCall
 begun m o vs ls at = once (key m.number o vs) at (first m ls)
 
 -- with the variables of the mapping before its init section
@@ -93,7 +93,7 @@ abbrev pub OneStays : Type 0
 OneStays = (rs more : List Record) (k : Key) (r : Record) → IsTrue (keys_differ (rs ++ more)) → records_of k rs ≡ r ∷ [] → records_of k (rs ++ more) ≡ r ∷ []
 
 -- where a call has a record: with this result
-abbrev pub IsRecordedWith : Option Oid → Result Begun Exit → Type 0
+abbrev pub IsRecordedWith : Option Oid → Result BegunCall Exit → Type 0
 IsRecordedWith r (Ok x) = recorded x.0 ≡ r ∷ []
 IsRecordedWith r (Err e) = ⊥
 
@@ -106,4 +106,4 @@ HasOneForEach p fuel trace = (left n : ℕ) (m : MappingRule LateWrite) → mapp
 
 -- so does the trace of a run that has ended well
 abbrev pub OneIsLeft : Type 0
-OneIsLeft = (p : ProgramTerm) (store : Contents) (fuel : ℕ) (f : Finished) → finished p store fuel ≡ Ok f → HasOneForEach p fuel f.finish.trace
+OneIsLeft = (p : ProgramTerm) (store : Contents) (fuel : ℕ) (f : FinishedRun) → finished p store fuel ≡ Ok f → HasOneForEach p fuel f.finish.trace

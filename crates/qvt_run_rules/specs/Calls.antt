@@ -20,24 +20,24 @@ use Rattle.qvt_run_rules.specs.Sources.{objects_in, collecting}
 use Rattle.qvt_run_rules.specs.Store.{new_object}
 
 -- what a call does with its arguments, at its place
-abbrev pub Calls : Type 0 → Type 0
-Calls E = Callee → List Value → Place → Does E Value
+abbrev pub CallRule : Type 0 → Type 0
+CallRule E = Callee → List Value → Place → Does E Value
 
-pub record Param : Type 0 where
+pub record UnitParam : Type 0 where
   pub name : List ℕ
   pub type : Option Ty
 
 -- a helper, a query or a constructor: whether it has a context, its parameters, and what its body does
 pub record Routine (E : Type 0) : Type 0 where
   pub has_context : Bool
-  pub params : List Param
+  pub params : List UnitParam
   pub body : Does E (Unit {0})
 
 module _ {E : Type 0} where
   -- What a unit begins with.
 
   -- the parameters with the values of a call, which are of their types
-  abbrev pub bound : List Param → List Value → Place → Does E (List Local)
+  abbrev pub bound : List UnitParam → List Value → Place → Does E (List Local)
   bound [] [] at = pure []
   bound (p ∷ ps) (v ∷ vs) at = asked p.type at v >>= (λ w. bound ps vs at >>= (λ ls. pure (fixed p.name w ∷ ls)))
   bound ps vs at = misfit at
@@ -48,7 +48,7 @@ module _ {E : Type 0} where
   self_of true None at = misfit at
 
   -- `self`, if the unit has a context, and the parameters
-  unfoldable pub frame : Bool → List Param → Option Oid → List Value → Place → Does E (List Local)
+  unfoldable pub frame : Bool → List UnitParam → Option Oid → List Value → Place → Does E (List Local)
   frame has_context ps o vs at = self_of has_context o at >>= (λ me. bound ps vs at >>= (λ ls. pure (me ++ ls)))
 
   -- what a body gives back: null, where it ends without a value
@@ -81,7 +81,7 @@ module _ {E : Type 0} where
   abbrev pub arguments : List (Does E Value) → Does E (List Value)
   arguments ps = arguments_onto [] ps
 
-  module _ (calls : Calls E) where
+  module _ (calls : CallRule E) where
     -- a unit that is chosen by an object
     abbrev pub call_on : (Oid → Does E Callee) → List Value → Place → Oid → Does E Value
     call_on choose vs at o = choose o >>= (λ c. calls c vs at)
@@ -98,7 +98,7 @@ module _ {E : Type 0} where
     mapped_onto at done f [] = pure (built at Sequence done)
     mapped_onto at done f (o ∷ os) = f o >>= (λ v. mapped_onto at (with_result v done) f os)
 
-module _ {E : Type 0} (spend : ℕ → Does E (Unit {0})) (calls : Calls E) where
+module _ {E : Type 0} (spend : ℕ → Does E (Unit {0})) (calls : CallRule E) where
   -- a unit without a context
   unfoldable pub call_free : Callee → List (Does E Value) → Place → Does E Value
   call_free c ps at = spend 1 >> (arguments ps >>= (λ vs. calls c vs at))

@@ -19,10 +19,10 @@ use Rattle.qvt_run_rules.specs.State.{State, Done, Does, ◌>>=◌, ◌>>◌, pu
 use Rattle.qvt_run_rules.specs.Locals.{result_name, local, read, set, in_frame, in_own}
 use Rattle.qvt_run_rules.specs.Store.{new_object}
 use Rattle.qvt_run_rules.specs.Trace.{result_for, has_key, record_of}
-use Rattle.qvt_run_rules.specs.Calls.{Calls, Param, frame}
+use Rattle.qvt_run_rules.specs.Calls.{CallRule, UnitParam, frame}
 
 -- a class, and the extent in which its objects are made
-pub record Making : Type 0 where
+pub record ResultClass : Type 0 where
   pub class : ℕ
   pub extent : ℕ
 
@@ -31,8 +31,8 @@ pub record Making : Type 0 where
 pub record MappingRule (E : Type 0) : Type 0 where
   pub number : ℕ
   pub context : Option ℕ
-  pub params : List Param
-  pub result : Option Making
+  pub params : List UnitParam
+  pub result : Option ResultClass
   pub when : Option (Does E Bool)
   pub init : Does E (Unit {0})
   pub population : Does E (Unit {0})
@@ -44,14 +44,14 @@ pub record MappingRule (E : Type 0) : Type 0 where
 
 -- what comes of the steps up to the record: a result that the trace had, one with which the init section returned, or one with which
 -- the call goes on
-pub data Made : Type 0 where
-  Known : Option Oid → Made
-  Ended : Option Oid → Made
-  New : Option Oid → Made
+pub data MadeResult : Type 0 where
+  Known : Option Oid → MadeResult
+  Ended : Option Oid → MadeResult
+  New : Option Oid → MadeResult
 
 -- and the variables after the init section
-abbrev pub Begun : Type 0
-Begun = Made × List Local
+abbrev pub BegunCall : Type 0
+BegunCall = MadeResult × List Local
 
 abbrev pub is_there : {A : Type 0} → Option A → Bool
 is_there None = false
@@ -62,7 +62,7 @@ value_of None = Null
 value_of (Some o) = Obj o
 
 -- the variable `result`, in a mapping that has one
-abbrev pub result_local : Option Making → Value → List Local
+abbrev pub result_local : Option ResultClass → Value → List Local
 result_local None v = []
 result_local (Some c) v = local result_name (Some (ty.Class (record { 0 = c.class }))) v ∷ []
 
@@ -83,25 +83,25 @@ module _ {E : Type 0} where
   note k r = turn_to (λ s. record s { trace = s.trace ++ record_of k r ∷ [] })
 
   -- the record is written before the sections; where the init section returned, if `result` is not null
-  abbrev pub noted_on : Key → Made → Begun → Does E Begun
+  abbrev pub noted_on : Key → MadeResult → BegunCall → Does E BegunCall
   noted_on k (Known r) x = pure x
   noted_on k (Ended None) x = pure x
   noted_on k (Ended (Some o)) x = note k (Some o) >> pure x
   noted_on k (New r) x = note k r >> pure x
 
-  abbrev pub noted : Key → Begun → Does E Begun
+  abbrev pub noted : Key → BegunCall → Does E BegunCall
   noted k x = noted_on k x.0 x
 
-  abbrev pub unless_open : Bool → Place → Does E Begun → Does E Begun
+  abbrev pub unless_open : Bool → Place → Does E BegunCall → Does E BegunCall
   unless_open true at p = stop (Fault fault.MappingCycle at)
   unless_open false at p = p
 
-  abbrev pub unless_known : Option (Option Oid) → Does E Begun → Does E Begun
+  abbrev pub unless_known : Option (Option Oid) → Does E BegunCall → Does E BegunCall
   unless_known (Some r) p = pure (Known r, [])
   unless_known None p = p
 
   -- the result that the trace has for the key; else what comes first while the key is open, and its record
-  unfoldable pub once : Key → Place → Does E Begun → Does E Begun
+  unfoldable pub once : Key → Place → Does E BegunCall → Does E BegunCall
   once k at first = ask (λ s. result_for k s.trace) >>= (λ known. unless_known known
       (ask (λ s. has_key s.keys k) >>= (λ is_open. unless_open is_open at (with_key k (first >>= noted k)))))
 
@@ -117,7 +117,7 @@ module _ {E : Type 0} where
   object_in at (Obj o) = pure (Some o)
   object_in at v = misfit at
 
-  abbrev pub result_read : Option Making → Place → Does E (Option Oid)
+  abbrev pub result_read : Option ResultClass → Place → Does E (Option Oid)
   result_read None at = pure None
   result_read (Some c) at = read result_name at >>= object_in at
 
@@ -129,23 +129,23 @@ module _ {E : Type 0} where
   abbrev pub made_of : ℕ → ℕ → Place → Does E Oid
   made_of c e at = ask (λ s. (class_at s.store.metas c).is_abstract) >>= (λ b. made_unless b c e at)
 
-  abbrev pub kept_as : Place → Oid → Does E Made
+  abbrev pub kept_as : Place → Oid → Does E MadeResult
   kept_as at o = set result_name (Obj o) at >> pure (New (Some o))
 
-  abbrev pub completed_as : Option Making → Place → Does E Made
+  abbrev pub completed_as : Option ResultClass → Place → Does E MadeResult
   completed_as None at = pure (New None)
   completed_as (Some c) at = made_of c.class c.extent at >>= kept_as at
 
   -- the result that init has set, else a new object
-  abbrev pub completed : MappingRule E → Option Oid → Does E Made
+  abbrev pub completed : MappingRule E → Option Oid → Does E MadeResult
   completed m (Some o) = pure (New (Some o))
   completed m None = completed_as m.result m.place
 
   -- the init section, and the result
-  unfoldable pub first_inside : MappingRule E → Does E Made
+  unfoldable pub first_inside : MappingRule E → Does E MadeResult
   first_inside m = caught m.init >>= (λ returned. result_read m.result m.place >>= (λ r. if returned then pure (Ended r) else completed m r))
 
-  unfoldable pub first : MappingRule E → List Local → Does E Begun
+  unfoldable pub first : MappingRule E → List Local → Does E BegunCall
   first m ls = in_own (ls ++ result_local m.result Null) (first_inside m)
 
   -- The sections, which see the variables of the init section.
@@ -161,7 +161,7 @@ module _ {E : Type 0} where
   refused true at = stop (Fault fault.WhenFailed at)
   refused false at = pure Null
 
-module _ {E : Type 0} (mappings : ℕ → Option (MappingRule E)) (calls : Calls E) where
+module _ {E : Type 0} (mappings : ℕ → Option (MappingRule E)) (calls : CallRule E) where
   abbrev pub frame_of : MappingRule E → Option Oid → List Value → Place → Does E (List Local)
   frame_of m o vs at = frame (is_there m.context) m.params o vs at
 
@@ -184,12 +184,12 @@ module _ {E : Type 0} (mappings : ℕ → Option (MappingRule E)) (calls : Calls
   unfoldable pub body : MappingRule E → Option Oid → List Local → Option Oid → List Value → Place → Does E (Unit {0})
   body m shared ls o vs at = reuse m.inherits shared o vs at >> (sections m ls >> reuse m.merges shared o vs at)
 
-  abbrev pub goes_by : MappingRule E → Option Oid → List Value → Place → List Local → Made → Does E Value
+  abbrev pub goes_by : MappingRule E → Option Oid → List Value → Place → List Local → MadeResult → Does E Value
   goes_by m o vs at ls (Known r) = pure (value_of r)
   goes_by m o vs at ls (Ended r) = pure (value_of r)
   goes_by m o vs at ls (New r) = body m r ls o vs at >> pure (value_of r)
 
-  abbrev pub goes_on : MappingRule E → Option Oid → List Value → Place → Begun → Does E Value
+  abbrev pub goes_on : MappingRule E → Option Oid → List Value → Place → BegunCall → Does E Value
   goes_on m o vs at x = goes_by m o vs at x.1 x.0
 
   unfoldable pub made : MappingRule E → Option Oid → List Value → List Local → Place → Does E Value

@@ -14,7 +14,7 @@ use Rattle.qvt_value.specs.declared.value.Reason.{Reason}
 use Rattle.qvt_value.specs.declared.value.Reason.TheVariants.{NullValue}
 use Rattle.qvt_run_data.specs.declared.fault.RunFault.TheVariants as fault
 use Rattle.qvt_run_data.specs.declared.late.LateWrite.{LateWrite}
-use Rattle.qvt_run_data.specs.declared.request.Form.{Form}
+use Rattle.qvt_run_data.specs.declared.request.RequestForm.{RequestForm}
 use Rattle.qvt_run_data.specs.declared.request.Query.{Query}
 use Rattle.qvt_run_data.specs.declared.exit.End.{End}
 use Rattle.qvt_run_data.specs.declared.exit.End.TheVariants.{Fault}
@@ -25,30 +25,30 @@ use Rattle.qvt_run_rules.specs.Sources.{sources_in}
 use Rattle.qvt_run_rules.specs.Store.{op_of}
 
 -- what a condition says of a candidate
-pub data Verdict : Type 0 where
-  Passes : Verdict
-  Fails : Verdict
-  Invalid : Reason → Place → Verdict
-  Stops : End → Verdict
+pub data ConditionVerdict : Type 0 where
+  Passes : ConditionVerdict
+  Fails : ConditionVerdict
+  Invalid : Reason → Place → ConditionVerdict
+  Stops : End → ConditionVerdict
 
 -- with the cost of evaluating it
 pub record Weighed : Type 0 where
-  pub verdict : Verdict
+  pub verdict : ConditionVerdict
   pub cost : ℕ
 
 -- the objects, or what ended the answer
-pub data Found : Type 0 where
-  Objects : List Oid → Found
-  Undefined : Reason → Place → Found
-  Stopped : End → Found
+pub data FoundOrEnded : Type 0 where
+  Objects : List Oid → FoundOrEnded
+  Undefined : Reason → Place → FoundOrEnded
+  Stopped : End → FoundOrEnded
 
 -- with the cost of the conditions that were evaluated
-pub record Answer : Type 0 where
-  pub found : Found
+pub record ResolveAnswer : Type 0 where
+  pub found : FoundOrEnded
   pub cost : ℕ
 
 -- the value of a condition that stands at this place: null is NullValue there
-abbrev pub verdict_of : Place → Result Value End → Verdict
+abbrev pub verdict_of : Place → Result Value End → ConditionVerdict
 verdict_of at (Ok (Truth b)) = if b then Passes else Fails
 verdict_of at (Ok Null) = Invalid NullValue at
 verdict_of at (Ok (NotValid r p)) = Invalid r p
@@ -56,14 +56,14 @@ verdict_of at (Ok v) = Stops (Fault fault.TypeFault at)
 verdict_of at (Err e) = Stops e
 
 -- what comes of a candidate; `on` goes on with the rest
-abbrev pub sifted_by : Verdict → Bool → List Oid → ℕ → Oid → (List Oid → Answer) → Answer
+abbrev pub sifted_by : ConditionVerdict → Bool → List Oid → ℕ → Oid → (List Oid → ResolveAnswer) → ResolveAnswer
 sifted_by Passes one done cost o on = if one then record { found = Objects (done ++ o ∷ []); cost = cost } else on (done ++ o ∷ [])
 sifted_by Fails one done cost o on = on done
 sifted_by (Invalid r p) one done cost o on = record { found = Undefined r p; cost = cost }
 sifted_by (Stops e) one done cost o on = record { found = Stopped e; cost = cost }
 
 -- The candidates that pass, in order. Where one is wanted the first ends it; so does a condition that is neither true nor false.
-abbrev pub sifted : (Oid → Weighed) → Bool → List Oid → ℕ → List Oid → Answer
+abbrev pub sifted : (Oid → Weighed) → Bool → List Oid → ℕ → List Oid → ResolveAnswer
 sifted test one done cost [] = record { found = Objects done; cost = cost }
 sifted test one done cost (o ∷ os) = sifted_by (test o).verdict one done (cost + (test o).cost) o (λ more. sifted test one more (cost + (test o).cost) os)
 
@@ -76,7 +76,7 @@ abbrev pub objects_value : Bool → List Oid → Value
 objects_value true os = first_object os
 objects_value false os = Coll Sequence (map Obj os)
 
-abbrev pub query_of : Form → Option (List Oid) → Query
+abbrev pub query_of : RequestForm → Option (List Oid) → Query
 query_of f os = record { request = record { inverse = f.inverse; within = f.within; sources = os; class = record { 0 = f.class } }; one = f.one; condition = f.condition }
 
 -- objects all of which are there
@@ -88,13 +88,13 @@ all_live s None = None
 all_live s (Some os) = if_live s os
 
 module _ {E : Type 0} where
-  abbrev pub answer_value : Bool → Found → Does E Value
+  abbrev pub answer_value : Bool → FoundOrEnded → Does E Value
   answer_value one (Objects os) = pure (objects_value one os)
   answer_value one (Undefined r p) = pure (NotValid r p)
   answer_value one (Stopped e) = stop e
 
   -- the cost of the conditions, and then the answer
-  abbrev pub answered_now : (ℕ → Does E (Unit {0})) → Bool → Answer → Does E Value
+  abbrev pub answered_now : (ℕ → Does E (Unit {0})) → Bool → ResolveAnswer → Does E Value
   answered_now spend one a = spend a.cost >> answer_value one a.found
 
   -- the sources: none behind which a resolve stands is none at all, and null is no source
@@ -128,13 +128,13 @@ module _ {E : Type 0} where
 
 module _ {E : Type 0} (spend : ℕ → Does E (Unit {0})) where
   -- a resolve without a source, and behind one
-  unfoldable pub resolve_alone : (Query → Does E Value) → Form → Does E Value
+  unfoldable pub resolve_alone : (Query → Does E Value) → RequestForm → Does E Value
   resolve_alone answer f = spend 1 >> answer (query_of f None)
 
-  unfoldable pub resolve_step : (Query → Does E Value) → Form → Place → Value → Does E Value
+  unfoldable pub resolve_step : (Query → Does E Value) → RequestForm → Place → Value → Does E Value
   resolve_step answer f at v = valid v >>= (λ w. spend 1 >> (sources_of at (Some w) >>= (λ os. answer (query_of f os))))
 
   -- A late resolve, with the sign of its assignment at the first place: the target's object, the source, and one entry. The slot stays.
-  unfoldable pub late : (LateWrite → Does E (Unit {0})) → Does E Oid → ℕ → Bool → Does E (Option Value) → Form → Place → Place → Does E (Unit {0})
+  unfoldable pub late : (LateWrite → Does E (Unit {0})) → Does E Oid → ℕ → Bool → Does E (Option Value) → RequestForm → Place → Place → Does E (Unit {0})
   late enter object f adds source form sign at = object >>= (λ o. source >>= valid_source >>= (λ v. spend 1 >> (sources_of at v
       >>= (λ os. look (if_fits f form.class) sign >> entered enter o f adds (query_of form os) sign))))

@@ -12,7 +12,7 @@ use Rattle.qvt_value.specs.Order.{order_of}
 use Rattle.qvt_value.proofs.OrderOfValues.{alike}
 use Rattle.qvt_relation.proofs.Bools.{or_left, or_false}
 use Rattle.qvt_slots.specs.Repeats.{repeats}
-use Rattle.qvt_slots.specs.Noted.{with_noted, Notes}
+use Rattle.qvt_slots.specs.Noted.{with_noted, NotesValue}
 use Rattle.qvt_slots.proofs.Repeating.{same_true, same_flip, any-without}
 
 pub denied : {a b : Bool} → a ≡ not b → not a ≡ b
@@ -25,7 +25,7 @@ pub found : (v : Bor Value) (keys : List (Bor Value)) → list_any (λ k. ghosts
 found v [] = refl
 found v (k ∷ keys) = λ i. alike v.now k.now i || found v keys i
 
-notes_again : (v : Value) (vs : List Value) → list_any (is_same order_of v) vs ≡ true → Notes vs vs v
+notes_again : (v : Value) (vs : List Value) → list_any (is_same order_of v) vs ≡ true → NotesValue vs vs v
 notes_again v vs h = λ u. go u (is_same order_of u v) refl
   where
     go : (u : Value) (b : Bool) → is_same order_of u v ≡ b → list_any (is_same order_of u) vs ≡ (list_any (is_same order_of u) vs || is_same order_of u v)
@@ -36,10 +36,10 @@ map-last : (keys : List (Bor Value)) (v : Bor Value) → map (λ k. k.now) (keys
 map-last [] v = refl
 map-last (k ∷ keys) v = ap (λ vs. k.now ∷ vs) (map-last keys v)
 
-pub notes_key : (v : Bor Value) (keys : List (Bor Value)) → Notes (map (λ k. k.now) keys) (map (λ k. k.now) (insert_key (λ a b. ghosts.eq a.now b.now) keys v)) v.now
+pub notes_key : (v : Bor Value) (keys : List (Bor Value)) → NotesValue (map (λ k. k.now) keys) (map (λ k. k.now) (insert_key (λ a b. ghosts.eq a.now b.now) keys v)) v.now
 notes_key v keys = go (list_any (λ k. ghosts.eq v.now k.now) keys) refl
   where
-    go : (b : Bool) → list_any (λ k. ghosts.eq v.now k.now) keys ≡ b → Notes (map (λ k. k.now) keys) (map (λ k. k.now) (cond b keys (keys ++ v ∷ []))) v.now
+    go : (b : Bool) → list_any (λ k. ghosts.eq v.now k.now) keys ≡ b → NotesValue (map (λ k. k.now) keys) (map (λ k. k.now) (cond b keys (keys ++ v ∷ []))) v.now
     go true e = notes_again v.now (map (λ k. k.now) keys) (sym (found v keys) ∙ e)
     go false e = λ u. ap (list_any (is_same order_of u)) (map-last keys v) ∙ any-last (is_same order_of u) (map (λ k. k.now) keys) v.now
 
@@ -56,7 +56,7 @@ key_noted v keys = go (list_any (λ k. ghosts.eq v.now k.now) keys) ∙ ap (λ b
 abbrev pub Noted : List Value → List Value → Type 0
 Noted seen vs = (u : Value) → list_any (is_same order_of u) seen ≡ list_any (is_same order_of u) vs
 
-pub noted_next : (old new vs : List Value) (i : ℕ) (d : Value) → i < length vs → Noted old (take i vs) → Notes old new (get_or vs i d) → Noted new (take (i + 1) vs)
+pub noted_next : (old new vs : List Value) (i : ℕ) (d : Value) → i < length vs → Noted old (take i vs) → NotesValue old new (get_or vs i d) → Noted new (take (i + 1) vs)
 noted_next old new vs i d l so next = λ u. next u ∙ ap (λ b. b || is_same order_of u (get_or vs i d)) (so u)
     ∙ sym (ap (list_any (is_same order_of u)) (take_more vs i d l) ∙ any-last (is_same order_of u) (take i vs) (get_or vs i d))
 

@@ -21,7 +21,7 @@ use Rattle.qvt_base.specs.declared.numbers.Oid.{Oid}
 use Rattle.qvt_slots.specs.Slots.{is_object, has}
 use Rattle.qvt_slots.specs.Change.{object_value, with_object}
 use Rattle.qvt_slots.specs.Repeats.{repeats, new_list}
-use Rattle.qvt_slots.specs.Assign.{is_beyond}
+use Rattle.qvt_slots.specs.Assign.{exceeds_bound}
 
 pub length-filter : (keep : Value → Bool) (vs : List Value) → length (filter keep vs) ≤ length vs
 length-filter keep [] = omega arith
@@ -31,11 +31,11 @@ length-filter keep (v ∷ vs) = go (keep v) (length-filter keep vs)
     go true ih = omega arith
     go false ih = omega arith
 
-pub fewer_fit : (a b : ℕ) (upper : Option ℕ) → a ≤ b → is_beyond b upper ≡ false → is_beyond a upper ≡ false
+pub fewer_fit : (a b : ℕ) (upper : Option ℕ) → a ≤ b → exceeds_bound b upper ≡ false → exceeds_bound a upper ≡ false
 fewer_fit a b None l h = refl
 fewer_fit a b (Some n) l h = let k : b ≤ n = ltb-false n b h in le-ltb n a (omega arith)
 
-pub single_fits : (n : ℕ) (upper : Option ℕ) → is_one upper ≡ true → is_beyond n upper ≡ false → n ≤ 1
+pub single_fits : (n : ℕ) (upper : Option ℕ) → is_one upper ≡ true → exceeds_bound n upper ≡ false → n ≤ 1
 single_fits n None one h = cc
 single_fits n (Some u) one h = let e : u ≡ 1 = (Decides-eqb u 1).0 one in let k : n ≤ u = ltb-false u n h in omega arith
 

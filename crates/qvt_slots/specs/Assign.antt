@@ -31,20 +31,20 @@ abbrev pub change_of : Contents → ℕ → ℕ → List Value → Change
 change_of s o p vs = change_to s o p (new_list s.metas p vs)
 
 -- n items are more than the upper bound, if there is one
-abbrev pub is_beyond : ℕ → Option ℕ → Bool
-is_beyond n None = false
-is_beyond n (Some upper) = nat_lt upper n
+abbrev pub exceeds_bound : ℕ → Option ℕ → Bool
+exceeds_bound n None = false
+exceeds_bound n (Some upper) = nat_lt upper n
 
 -- TooMany: the new list, or an opposite slot that gets the changed object
 abbrev pub is_overfull : Change → ℕ → ℕ → Bool
-is_overfull c x f = is_beyond (length (slot_after c x f)) (shape_of c.metas f).upper
+is_overfull c x f = exceeds_bound (length (slot_after c x f)) (shape_of c.metas f).upper
 
 abbrev pub overfills_end : Change → Option FeatureNo → Oid → Bool
 overfills_end c None a = false
 overfills_end c (Some q) a = is_overfull c a.0 q.0
 
 abbrev pub is_too_many : Change → Bool
-is_too_many c = is_beyond (length c.items) (shape_of c.metas c.feature).upper || list_any (overfills_end c (opposite c.metas c.feature)) c.added
+is_too_many c = exceeds_bound (length c.items) (shape_of c.metas c.feature).upper || list_any (overfills_end c (opposite c.metas c.feature)) c.added
 
 -- ContainmentCycle: some object would be inside itself
 abbrev pub is_in : Metamodels → Slots → ℕ → ℕ → Bool

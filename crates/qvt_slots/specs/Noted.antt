@@ -6,8 +6,8 @@ use Rattle.qvt_value.specs.Kept.{is_same}
 use Rattle.qvt_value.specs.Order.{order_of}
 
 -- after v is noted, a value has an equal one among those noted where it had one, or where it equals v
-abbrev pub Notes : List Value → List Value → Value → Type 0
-Notes old new v = (u : Value) → list_any (is_same order_of u) new ≡ (list_any (is_same order_of u) old || is_same order_of u v)
+abbrev pub NotesValue : List Value → List Value → Value → Type 0
+NotesValue old new v = (u : Value) → list_any (is_same order_of u) new ≡ (list_any (is_same order_of u) old || is_same order_of u v)
 
 -- the values noted, and v last where it equals none of them
 abbrev pub with_noted : List Value → Value → List Value

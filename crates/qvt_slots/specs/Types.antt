@@ -49,10 +49,10 @@ pub record AreTyped (s : Contents) : Type 0 where
   pub types : (x f : ℕ) → IsTrue (list_all (is_of_type s f) (slot_of s x f))
 
 -- what a value has by the types that the code gives it: an Integer fits 64 bits, a String is UTF-8
-abbrev pub IsPlain : Value → Type 0
-IsPlain (IntValue n) = FitsSigned w64 n
-IsPlain (StrValue t) = IsUtf8 t
-IsPlain _ = Unit {0}
+abbrev pub HasCodeType : Value → Type 0
+HasCodeType (IntValue n) = FitsSigned w64 n
+HasCodeType (StrValue t) = IsUtf8 t
+HasCodeType _ = Unit {0}
 
 -- slot (o, p) is there, and the values are of its type
 pub record IsAssignable (s : Contents) (o p : ℕ) (vs : List Value) : Type 0 where

@@ -3,7 +3,7 @@
 ghost use Rattle.std.specs.Prelude.{◌≡◌};
 ghost use Rattle.qvt_metamodel.specs.Metamodels.{is_containment, is_single, is_opposite, opposite, shape_of};
 ghost use Rattle.qvt_slots.specs.Change.{is_container, is_linked, is_some_feature};
-ghost use Rattle.qvt_slots.specs.Assign.{is_beyond};
+ghost use Rattle.qvt_slots.specs.Assign.{exceeds_bound};
 
 use qvt_base::numbers::FeatureNo;
 use qvt_metas::metas::Metas;
@@ -70,8 +70,8 @@ pub fn is_linked(metas: &Metas, feature: FeatureNo) -> bool
 }
 
 /// Whether so many items pass the upper bound.
-pub fn is_beyond(count: usize, upper: Option<u32>) -> bool
-    ensures { result ≡ is_beyond count upper }
+pub fn exceeds_bound(count: usize, upper: Option<u32>) -> bool
+    ensures { result ≡ exceeds_bound count upper }
 {
     match upper {
         None => false,

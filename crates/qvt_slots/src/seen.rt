@@ -4,7 +4,7 @@ ghost use Rattle.std.specs.Prelude.{◌≡◌, [], IfOk, OnOk, OnErr};
 ghost use Rattle.std.specs.List.{list_any};
 ghost use Rattle.qvt_value.specs.Kept.{is_same};
 ghost use Rattle.qvt_value.specs.Order.{order_of};
-ghost use Rattle.qvt_slots.specs.Noted.{with_noted, Notes};
+ghost use Rattle.qvt_slots.specs.Noted.{with_noted, NotesValue};
 
 use indexmap::IndexSet;
 use qvt_base::list_fault::ListFault;
@@ -50,7 +50,7 @@ impl<'a> Seen<'a> {
     /// changes nothing.
     pub fn note(&mut self, value: &'a Value) -> Result<bool, ListFault>
         ensures before { IfOk result (λ before. before ≡ list_any (is_same order_of value.now) self.old) }
-        ensures noted { OnOk result (Notes self.old self.new value.now) }
+        ensures noted { OnOk result (NotesValue self.old self.new value.now) }
         ensures exact { OnOk result (self.new ≡ with_noted self.old value.now) }
         ensures err { OnErr result (self.new ≡ self.old) }
     {

@@ -4,7 +4,7 @@ ghost use Rattle.std.specs.Prelude.{◌≡◌, All, IfOk, if◌then◌else◌};
 ghost use Rattle.std.specs.List.{list_any};
 ghost use Rattle.qvt_slots.specs.Slots.{has, is_object};
 ghost use Rattle.qvt_slots.specs.Change.{among};
-ghost use Rattle.qvt_slots.specs.Types.{IsPlain};
+ghost use Rattle.qvt_slots.specs.Types.{HasCodeType};
 ghost use Rattle.qvt_slots.specs.Repeats.{repeats};
 ghost use Rattle.qvt_value.specs.Kept.{is_same, firsts};
 ghost use Rattle.qvt_value.specs.Order.{order_of};
@@ -100,7 +100,7 @@ pub fn repeats(alloc: Global, values: &[Value]) -> Result<bool, ListFault>
 
 /// A law: an Integer fits 64 bits, and a String is UTF-8.
 pub fn is_plain(value: &Value)
-    ensures { IsPlain value.now }
+    ensures { HasCodeType value.now }
 {
     match value {
         Value::Int(number) => {
@@ -116,7 +116,7 @@ pub fn is_plain(value: &Value)
 /// A copy of the value.
 fn plain_copy(alloc: Global, value: &Value) -> Result<Value, ListFault>
     ensures same { IfOk result (λ copy. copy ≡ value.now) }
-    ensures plain { IfOk result IsPlain }
+    ensures plain { IfOk result HasCodeType }
 {
     is_plain(value);
     let copy = value.copy(alloc)?;
@@ -126,7 +126,7 @@ fn plain_copy(alloc: Global, value: &Value) -> Result<Value, ListFault>
 /// Copies of the values, in order.
 pub fn copied(alloc: Global, values: &[Value]) -> Result<Values, ListFault>
     ensures same { IfOk result (λ copies. copies ≡ values.now) }
-    ensures plain { IfOk result (All IsPlain) }
+    ensures plain { IfOk result (All HasCodeType) }
 {
     let mut copies = Seq::new(alloc);
     for value in values {
@@ -137,7 +137,7 @@ pub fn copied(alloc: Global, values: &[Value]) -> Result<Values, ListFault>
 
 fn few_without_repeats(alloc: Global, values: &[Value]) -> Result<Values, ListFault>
     ensures list { IfOk result (λ list. list ≡ firsts order_of values.now) }
-    ensures plain { IfOk result (All IsPlain) }
+    ensures plain { IfOk result (All HasCodeType) }
 {
     let mut list = Seq::new(alloc);
     for value in values {
@@ -150,7 +150,7 @@ fn few_without_repeats(alloc: Global, values: &[Value]) -> Result<Values, ListFa
 
 fn many_without_repeats(alloc: Global, values: &[Value]) -> Result<Values, ListFault>
     ensures list { IfOk result (λ list. list ≡ firsts order_of values.now) }
-    ensures plain { IfOk result (All IsPlain) }
+    ensures plain { IfOk result (All HasCodeType) }
 {
     let mut seen = Seen::new(alloc);
     let mut list = Seq::new(alloc);
@@ -165,7 +165,7 @@ fn many_without_repeats(alloc: Global, values: &[Value]) -> Result<Values, ListF
 /// Copies of the values, with the first of equal values kept.
 pub fn without_repeats(alloc: Global, values: &[Value]) -> Result<Values, ListFault>
     ensures list { IfOk result (λ list. list ≡ firsts order_of values.now) }
-    ensures plain { IfOk result (All IsPlain) }
+    ensures plain { IfOk result (All HasCodeType) }
 {
     if values.len() <= FEW {
         return few_without_repeats(alloc, values);
@@ -176,7 +176,7 @@ pub fn without_repeats(alloc: Global, values: &[Value]) -> Result<Values, ListFa
 /// The new list of a slot: in a unique one the first of equal values is kept.
 pub fn new_list(alloc: Global, unique: bool, values: &[Value]) -> Result<Values, ListFault>
     ensures list { IfOk result (λ list. list ≡ (if unique then firsts order_of values.now else values.now)) }
-    ensures plain { IfOk result (All IsPlain) }
+    ensures plain { IfOk result (All HasCodeType) }
 {
     if unique {
         without_repeats(alloc, values)

@@ -16,7 +16,7 @@ use Rattle.qvt_slots.specs.Change.{objects_beyond, among, is_some_feature, is_li
 use Rattle.qvt_slots.specs.Contents.{Contents, extent_of, is_model, is_writable, slot_in, slot_of}
 use Rattle.qvt_slots.specs.Types.{IsAssignable}
 use Rattle.qvt_slots.specs.Repeats.{new_list}
-use Rattle.qvt_slots.specs.Assign.{is_beyond, crosses, change_to, store_after, assign}
+use Rattle.qvt_slots.specs.Assign.{exceeds_bound, crosses, change_to, store_after, assign}
 use Rattle.qvt_slots.specs.Cells.{instances, contents_of, holder_at, holder_in, AreWhole, IsStoreKept, IsPut}
 use Rattle.qvt_slots.specs.Walk.{ClosesCycle, by_items, by_end}
 use Rattle.qvt_slots.specs.Writes.{or_else, IsSettled}
@@ -61,25 +61,25 @@ module _ (s : Contents) (o : Oid) (p : FeatureNo) (given fresh : List Value) (kn
   acyclic (by_items c some) = clash _ c (no_containment s.metas p.0 alone)
   acyclic (by_end c some) = clash false (sym (ap (names_containment s.metas) (no_opposite s.metas p.0 alone)) ∙ c) refl
 
-  few_of : (n : ℕ) → is_beyond n (shape_of s.metas p.0).upper ≡ false → is_overfilling (drafted s lone) n ≡ false
+  few_of : (n : ℕ) → exceeds_bound n (shape_of s.metas p.0).upper ≡ false → is_overfilling (drafted s lone) n ≡ false
   few_of n few = or_none _ _ few (none_over lone.added (opposite s.metas p.0) (no_opposite s.metas p.0 alone))
 
-  allowed : (n : ℕ) → is_beyond n (shape_of s.metas p.0).upper ≡ false → is_writable s o.0 ≡ true → IsAllowed s (drafted s lone) n
+  allowed : (n : ℕ) → exceeds_bound n (shape_of s.metas p.0).upper ≡ false → is_writable s o.0 ≡ true → IsAllowed s (drafted s lone) n
   allowed n few writable = record { few = few_of n few; acyclic = acyclic; writable = ap not writable }
 
   all : IsAssignable s o.0 p.0 whole
   all = list_assignable s o.0 p.0 given known can
 
-  pub too_many : (n : ℕ) → n ≡ length items → is_beyond n (shape_of s.metas p.0).upper ≡ true → assign s o.0 p.0 whole ≡ Err TooMany
+  pub too_many : (n : ℕ) → n ≡ length items → exceeds_bound n (shape_of s.metas p.0).upper ≡ true → assign s o.0 p.0 whole ≡ Err TooMany
   too_many n e h = early s o p whole items lone.added lone.removed known all (sym last) refl refl TooMany n e (or_left _ _ h) (λ q. cc)
 
-  pub read_only : (n : ℕ) → n ≡ length items → is_beyond n (shape_of s.metas p.0).upper ≡ false → is_writable s o.0 ≡ false → assign s o.0 p.0 whole ≡ Err ReadOnly
+  pub read_only : (n : ℕ) → n ≡ length items → exceeds_bound n (shape_of s.metas p.0).upper ≡ false → is_writable s o.0 ≡ false → assign s o.0 p.0 whole ≡ Err ReadOnly
   read_only n e few h = early s o p whole items lone.added lone.removed known all (sym last) refl refl ReadOnly n e (record { few = few_of n few; acyclic = acyclic; read_only = not_of_false _ h }) (λ q. cc)
 
-  pub crossing : (n : ℕ) → n ≡ length items → is_beyond n (shape_of s.metas p.0).upper ≡ false → is_writable s o.0 ≡ true → crosses s o.0 items ≡ true → assign s o.0 p.0 whole ≡ Err CrossModel
+  pub crossing : (n : ℕ) → n ≡ length items → exceeds_bound n (shape_of s.metas p.0).upper ≡ false → is_writable s o.0 ≡ true → crosses s o.0 items ≡ true → assign s o.0 p.0 whole ≡ Err CrossModel
   crossing n e few writable h = cross s o p whole items lone.added lone.removed known all (sym last) refl refl n e (allowed n few writable) h
 
-  pub appended : (n : ℕ) → n ≡ length items → is_beyond n (shape_of s.metas p.0).upper ≡ false → is_writable s o.0 ≡ true → crosses s o.0 items ≡ false →
+  pub appended : (n : ℕ) → n ≡ length items → exceeds_bound n (shape_of s.metas p.0).upper ≡ false → is_writable s o.0 ≡ true → crosses s o.0 items ≡ false →
       assign s o.0 p.0 whole ≡ Ok (store_after s (change_to s o.0 p.0 items))
   appended n e few writable own = done s o p whole items lone.added lone.removed known all (sym last) refl refl n e (allowed n few writable) own
 
@@ -92,7 +92,7 @@ module _ (s : Contents) (o : Oid) (p : FeatureNo) (given fresh : List Value) (kn
   none_released : (b : Bool) → b ≡ false → ◌≡◌ {A = List Oid} [] (cond b lone.removed [] ++ [])
   none_released b e = ap (λ c. cond c lone.removed [] ++ []) (sym e)
 
-  pub ready_alone : is_beyond (length items) (shape_of s.metas p.0).upper ≡ false → is_writable s o.0 ≡ true → crosses s o.0 items ≡ false → Ready s lone items [] []
+  pub ready_alone : exceeds_bound (length items) (shape_of s.metas p.0).upper ≡ false → is_writable s o.0 ≡ true → crosses s o.0 items ≡ false → Ready s lone items [] []
   ready_alone few writable own = ready s o p whole items lone.added lone.removed known all (sym last) refl refl (length items) refl (allowed (length items) few writable) own [] [] plan
       (none_released (is_containment s.metas p.0) (no_containment s.metas p.0 alone))
 

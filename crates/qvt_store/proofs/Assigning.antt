@@ -20,7 +20,7 @@ use Rattle.qvt_slots.specs.Types.{IsAssignable, IsAttributeChange}
 use Rattle.qvt_value.specs.Kept.{firsts}
 use Rattle.qvt_value.specs.Order.{order_of}
 use Rattle.qvt_slots.specs.Repeats.{repeats, new_list}
-use Rattle.qvt_slots.specs.Assign.{change_to, is_beyond, is_elsewhere, crosses, store_after, assign}
+use Rattle.qvt_slots.specs.Assign.{change_to, exceeds_bound, is_elsewhere, crosses, store_after, assign}
 use Rattle.qvt_store.specs.Draft.{drafted, IsDraft, overfills_elsewhere, is_overfilling, AddsLive, RemovesHeld, IsAllowed, IsEarlyFault}
 use Rattle.qvt_slots.specs.Walk.{ClosesCycle, by_items, by_end}
 use Rattle.qvt_store_laws.specs.Law.{IsFit}
@@ -109,7 +109,7 @@ module _ (s : Contents) (o : Oid) (p : FeatureNo) (vs items : List Value) (added
     few_items : length items ≤ 1
     few_items = subst (λ (l : List Value). length l ≤ 1) (sym items_same) plain.few
 
-    within : (u : Option ℕ) → is_one u ≡ true → (n : ℕ) → n ≤ 1 → is_beyond n u ≡ false
+    within : (u : Option ℕ) → is_one u ≡ true → (n : ℕ) → n ≤ 1 → exceeds_bound n u ≡ false
     within None one n h = refl
     within (Some u) one n h = let e : u ≡ 1 = (Decides-eqb u 1).0 one in le-ltb u n (omega arith)
 

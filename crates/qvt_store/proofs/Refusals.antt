@@ -17,7 +17,7 @@ use Rattle.qvt_slots.specs.Slots.{Inside}
 use Rattle.qvt_slots.specs.Change.{Change, is_here, is_added, gains, slot_elsewhere, slot_after}
 use Rattle.qvt_slots.specs.Contents.{Contents, is_live, slot_of}
 use Rattle.qvt_slots.specs.Repeats.{new_list}
-use Rattle.qvt_slots.specs.Assign.{change_to, is_beyond, overfills_end, is_too_many, is_cyclic, is_read_only, crosses, refusal_of, store_after, ok_unless, assign}
+use Rattle.qvt_slots.specs.Assign.{change_to, exceeds_bound, overfills_end, is_too_many, is_cyclic, is_read_only, crosses, refusal_of, store_after, ok_unless, assign}
 use Rattle.qvt_store_laws.specs.Law.{HasDifferences, FitsSingle, IsFit}
 use Rattle.qvt_store.specs.Draft.{change_with, drafted, IsDraft, overfills_elsewhere, is_overfilling, AddsLive, IsAllowed, IsEarlyFault}
 use Rattle.qvt_slots.specs.Walk.{ClosesCycle, by_items, by_end, IsCyclic}
@@ -33,7 +33,7 @@ any_end : (c : Change) → IsWellFormed c.metas → (q : Option FeatureNo) → o
 any_end c well q e [] = refl
 any_end c well None e (a ∷ os) = any_end c well None e os
 any_end c well (Some q) e (a ∷ os) =
-    ap (λ l. is_beyond (length l) (shape_of c.metas q.0).upper || list_any (overfills_elsewhere c (Some q)) os) (sym after_is)
+    ap (λ l. exceeds_bound (length l) (shape_of c.metas q.0).upper || list_any (overfills_elsewhere c (Some q)) os) (sym after_is)
     ∙ ap (λ b. overfills_end c (Some q) a || b) (any_end c well (Some q) e os)
   where
     opp : is_opposite c.metas c.feature q.0 ≡ true
@@ -46,7 +46,7 @@ any_end c well (Some q) e (a ∷ os) =
     after_is = ap (λ b. cond b c.items (slot_elsewhere c a.0 q.0)) away
 
 too_many_is : (c : Change) → IsWellFormed c.metas → is_overfilling c (length c.items) ≡ is_too_many c
-too_many_is c well = ap (λ b. is_beyond (length c.items) (shape_of c.metas c.feature).upper || b) (any_end c well (opposite c.metas c.feature) refl c.added)
+too_many_is c well = ap (λ b. exceeds_bound (length c.items) (shape_of c.metas c.feature).upper || b) (any_end c well (opposite c.metas c.feature) refl c.added)
 
 closes_with : (s : Contents) (d : Draft) (ws : List Value) → ClosesCycle (change_with s d ws) → ClosesCycle (drafted s d)
 closes_with s d ws (by_items k some) = by_items k some

@@ -11,7 +11,7 @@ use Rattle.qvt_slots.specs.declared.draft.Draft.{Draft}
 use Rattle.qvt_slots.specs.Slots.{has}
 use Rattle.qvt_slots.specs.Change.{Change, among, objects_beyond, is_added, slot_elsewhere}
 use Rattle.qvt_slots.specs.Contents.{Contents, is_live, slot_of}
-use Rattle.qvt_slots.specs.Assign.{is_beyond, is_read_only}
+use Rattle.qvt_slots.specs.Assign.{exceeds_bound, is_read_only}
 use Rattle.qvt_slots.specs.Walk.{ClosesCycle}
 
 abbrev pub change_with : Contents → Draft → List Value → Change
@@ -36,11 +36,11 @@ pub record IsDraft (s : Contents) (d : Draft) (ws : List Value) : Type 0 where
 
 abbrev pub overfills_elsewhere : Change → Option FeatureNo → Oid → Bool
 overfills_elsewhere c None a = false
-overfills_elsewhere c (Some q) a = is_beyond (length (slot_elsewhere c a.0 q.0)) (shape_of c.metas q.0).upper
+overfills_elsewhere c (Some q) a = exceeds_bound (length (slot_elsewhere c a.0 q.0)) (shape_of c.metas q.0).upper
 
 -- a new list of n items, or an opposite slot, passes its upper bound
 abbrev pub is_overfilling : Change → ℕ → Bool
-is_overfilling c n = is_beyond n (shape_of c.metas c.feature).upper || list_any (overfills_elsewhere c (opposite c.metas c.feature)) c.added
+is_overfilling c n = exceeds_bound n (shape_of c.metas c.feature).upper || list_any (overfills_elsewhere c (opposite c.metas c.feature)) c.added
 
 -- the added objects are there
 pub record AddsLive (s : Contents) (c : Change) : Type 0 where

@@ -14,7 +14,7 @@ use Rattle.qvt_metamodel.specs.WellFormed.{IsWellFormed}
 use Rattle.qvt_value.specs.Kept.{is_same}
 use Rattle.qvt_value.specs.Order.{order_of}
 use Rattle.qvt_slots.specs.Repeats.{repeats, new_list}
-use Rattle.qvt_slots.specs.Assign.{is_beyond, crosses, change_to, store_after}
+use Rattle.qvt_slots.specs.Assign.{exceeds_bound, crosses, change_to, store_after}
 use Rattle.qvt_store_laws.specs.Law.{IsFit, FitsSingle}
 use Rattle.qvt_store.specs.Draft.{drafted, IsDraft}
 use Rattle.qvt_slots.specs.Walk.{IsCyclic}
@@ -50,7 +50,7 @@ pub record IsLone (s : Contents) (o p : ℕ) (fresh : List Value) : Type 0 where
   pub can : IsAssignable s o p given
   pub alone : IsFalse (is_linked s.metas p)
   pub last : new_list s.metas p (slot_of s o p ++ given) ≡ slot_of s o p ++ fresh
-  pub few : IsFalse (is_beyond (length (slot_of s o p ++ fresh)) (shape_of s.metas p).upper)
+  pub few : IsFalse (exceeds_bound (length (slot_of s o p ++ fresh)) (shape_of s.metas p).upper)
   pub writable : IsTrue (is_writable s o)
   pub own : IsFalse (crosses s o (slot_of s o p ++ fresh))
 

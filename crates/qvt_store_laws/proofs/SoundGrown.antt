@@ -14,11 +14,11 @@ use Rattle.qvt_slots.specs.declared.extent.Extent.{Extent}
 use Rattle.qvt_slots.specs.Slots.{Slots, has, OppositesAgree, OneContainer, Contains, Inside, directly, through}
 use Rattle.qvt_slots.specs.Change.{is_some_feature}
 use Rattle.qvt_slots.specs.Contents.{Contents, Instance, object_at, class_of, extent_of, extent_at, is_extent, is_live, is_model, slot_of, with_new, with_slot}
-use Rattle.qvt_slots.specs.Types.{is_of_type, IsPlain}
+use Rattle.qvt_slots.specs.Types.{is_of_type, HasCodeType}
 use Rattle.qvt_slots.specs.Repeats.{repeats}
 use Rattle.qvt_slots.specs.Cells.{with_list}
 use Rattle.qvt_store_laws.specs.Place.{IsPlaceable}
-use Rattle.qvt_slots.specs.Assign.{is_beyond}
+use Rattle.qvt_slots.specs.Assign.{exceeds_bound}
 use Rattle.qvt_store_laws.specs.Sound.{IsClassFor, Sound, SoundButOpposites, IsSoundList, NewIsSound, AddKeepsSound, AddKeepsLoading, PlaceKeepsLoading, PlaceKeepsSound}
 use Rattle.qvt_slots.proofs.Lists.{length-map}
 use Rattle.qvt_slots.proofs.Typed.{all_kept}
@@ -48,10 +48,10 @@ module _ (m : Metamodels) (extents : List Extent) where
   dead : (x : ℕ) → is_live s0 x ≡ true → ⊥
   dead x live = let h : x < length s0.objects = ltb-true x (length s0.objects) live in omega arith
 
-  no_bound : (f : ℕ) → is_beyond 0 (shape_of m f).upper ≡ false
+  no_bound : (f : ℕ) → exceeds_bound 0 (shape_of m f).upper ≡ false
   no_bound f = go (shape_of m f).upper
     where
-      go : (u : Option ℕ) → is_beyond 0 u ≡ false
+      go : (u : Option ℕ) → exceeds_bound 0 u ≡ false
       go None = refl
       go (Some n) = le-ltb n 0 (omega arith)
 
@@ -62,8 +62,8 @@ module _ (m : Metamodels) (extents : List Extent) where
       lists = λ x live. absurd (dead x live);
       features = features_always s0;
       typed = record { types = λ x f. ap (list_all (is_of_type s0 f)) (no_slots m x f) };
-      plain = λ x f. subst (λ (l : List Value). All IsPlain l) (sym (no_slots m x f)) (All-nil IsPlain);
-      bounds = λ x f. ap (λ (l : List Value). is_beyond (length l) (shape_of m f).upper) (no_slots m x f) ∙ no_bound f;
+      plain = λ x f. subst (λ (l : List Value). All HasCodeType l) (sym (no_slots m x f)) (All-nil HasCodeType);
+      bounds = λ x f. ap (λ (l : List Value). exceeds_bound (length l) (shape_of m f).upper) (no_slots m x f) ∙ no_bound f;
       unique = record { unique = λ x f t. ap repeats (no_slots m x f) };
       containers = record { one = λ x f x' f' y k k' h h'. absurd (holds_none x f y h) };
       outside_itself = λ x i. let r : (z : ℕ) × Contains m (slot_of s0) x z = first_contained m (slot_of s0) i in
@@ -109,8 +109,8 @@ module _ (s : Contents) (c e : ℕ) (own : IsClassFor s c e) (kept' : SoundButOp
     typed = record {
       types = λ x f. subst (λ (l : List Value). list_all (is_of_type grown f) l ≡ true) (sym (same x f)) (all_kept s grown refl stays f (slot_of s x f) (kept'.typed.types x f));
     };
-    plain = λ x f. subst (λ (l : List Value). All IsPlain l) (sym (same x f)) (kept'.plain x f);
-    bounds = λ x f. ap (λ (l : List Value). is_beyond (length l) (shape_of s.metas f).upper) (same x f) ∙ kept'.bounds x f;
+    plain = λ x f. subst (λ (l : List Value). All HasCodeType l) (sym (same x f)) (kept'.plain x f);
+    bounds = λ x f. ap (λ (l : List Value). exceeds_bound (length l) (shape_of s.metas f).upper) (same x f) ∙ kept'.bounds x f;
     unique = record { unique = λ x f t. ap repeats (same x f) ∙ kept'.unique.unique x f t };
     containers = subst (OneContainer s.metas) (sym (objects.slots-new s c e)) kept'.containers;
     outside_itself = λ x i. kept'.outside_itself x (subst (λ (t : Slots). Inside s.metas t x x) (objects.slots-new s c e) i);
@@ -126,7 +126,7 @@ add_keeps_sound s c e own sound = record {
   opposites = subst (OppositesAgree s.metas) (sym (objects.slots-new s c e)) sound.opposites;
 }
 
-module _ (s : Contents) (o p : ℕ) (vs : List Value) (can : IsPlaceable s o p vs) (plain : All IsPlain vs) (fits : IsSoundList s o p vs) (kept' : SoundButOpposites s) where
+module _ (s : Contents) (o p : ℕ) (vs : List Value) (can : IsPlaceable s o p vs) (plain : All HasCodeType vs) (fits : IsSoundList s o p vs) (kept' : SoundButOpposites s) where
   abbrev placed : Contents
   placed = with_slot s o p vs
 
@@ -200,9 +200,9 @@ module _ (s : Contents) (o p : ℕ) (vs : List Value) (can : IsPlaceable s o p v
           (all_kept s placed refl (λ y live. (live-same y ∙ live, sym (class-same y))) f (with_list (slot_of s) o p vs x f)
           (each_put (λ _ g l. list_all (is_of_type s g) l ≡ true) (slot_of s) o p vs can.assignable.types kept'.typed.types x f));
     };
-    plain = λ x f. subst (λ (l : List Value). All IsPlain l) (sym (slots x f)) (each_put (λ _ _ l. All IsPlain l) (slot_of s) o p vs plain kept'.plain x f);
-    bounds = λ x f. ap (λ (l : List Value). is_beyond (length l) (shape_of s.metas f).upper) (slots x f)
-        ∙ each_put (λ _ g l. is_beyond (length l) (shape_of s.metas g).upper ≡ false) (slot_of s) o p vs fits.bound kept'.bounds x f;
+    plain = λ x f. subst (λ (l : List Value). All HasCodeType l) (sym (slots x f)) (each_put (λ _ _ l. All HasCodeType l) (slot_of s) o p vs plain kept'.plain x f);
+    bounds = λ x f. ap (λ (l : List Value). exceeds_bound (length l) (shape_of s.metas f).upper) (slots x f)
+        ∙ each_put (λ _ g l. exceeds_bound (length l) (shape_of s.metas g).upper ≡ false) (slot_of s) o p vs fits.bound kept'.bounds x f;
     unique = record {
       unique = λ x f t. ap repeats (slots x f) ∙ each_put (λ _ g l. (shape_of s.metas g).unique ≡ true → repeats l ≡ false) (slot_of s) o p vs fits.unique kept'.unique.unique x f t;
     };

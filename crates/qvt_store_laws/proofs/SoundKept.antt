@@ -18,11 +18,11 @@ use Rattle.qvt_slots.specs.declared.op.SetOp.TheVariants.{Put, Add}
 use Rattle.qvt_slots.specs.Slots.{Slots, has, OppositesAgree, OneContainer, Inside}
 use Rattle.qvt_slots.specs.Change.{Change, object_value, is_here, among, gains, keeps, with_object, with_end, slot_after}
 use Rattle.qvt_slots.specs.Contents.{Contents, AreNamed, class_of, extent_of, extent_at, is_extent, is_live, is_model, is_named, slot_of}
-use Rattle.qvt_slots.specs.Types.{is_of_type, AreTyped, IsPlain, IsAssignable}
+use Rattle.qvt_slots.specs.Types.{is_of_type, AreTyped, HasCodeType, IsAssignable}
 use Rattle.qvt_value.specs.Kept.{is_same, firsts}
 use Rattle.qvt_value.specs.Order.{order_of}
 use Rattle.qvt_slots.specs.Repeats.{repeats, new_list, AreUnique}
-use Rattle.qvt_slots.specs.Assign.{change_to, change_of, is_beyond, is_overfull, overfills_end, is_too_many, is_cyclic, is_read_only, crosses, refusal_of, store_after, ok_unless, assign}
+use Rattle.qvt_slots.specs.Assign.{change_to, change_of, exceeds_bound, is_overfull, overfills_end, is_too_many, is_cyclic, is_read_only, crosses, refusal_of, store_after, ok_unless, assign}
 use Rattle.qvt_store_laws.specs.Law.{HasDifferences, FitsSingle}
 use Rattle.qvt_store_laws.specs.Sound.{IsClassFor, Sound, AssignKeepsSound, AppendKeepsSound, WriteKeepsSound}
 use Rattle.qvt_store_laws.proofs.Opposites.{here, keeps_opposites}
@@ -90,14 +90,14 @@ end_fits : (c : Change) (q : Option FeatureNo) (x f : ℕ) → is_feature_number
 end_fits c None x f e h = cc
 end_fits c (Some q) x f e h = subst (λ k. is_overfull c x k ≡ false) ((Decides-eqb q.0 f).0 e) h
 
-plain-new_list : (m : Metamodels) (p : ℕ) (vs : List Value) → All IsPlain vs → All IsPlain (new_list m p vs)
+plain-new_list : (m : Metamodels) (p : ℕ) (vs : List Value) → All HasCodeType vs → All HasCodeType (new_list m p vs)
 plain-new_list m p vs all = go (shape_of m p).unique
   where
-    without : (vs : List Value) → All IsPlain vs → All IsPlain (firsts order_of vs)
+    without : (vs : List Value) → All HasCodeType vs → All HasCodeType (firsts order_of vs)
     without [] all = all
-    without (v ∷ vs) all = All-cons IsPlain v _ (All-head IsPlain v vs all) (All-filter (λ w. not (is_same order_of v w)) IsPlain (firsts order_of vs) (without vs (All-tail IsPlain v vs all)))
+    without (v ∷ vs) all = All-cons HasCodeType v _ (All-head HasCodeType v vs all) (All-filter (λ w. not (is_same order_of v w)) HasCodeType (firsts order_of vs) (without vs (All-tail HasCodeType v vs all)))
 
-    go : (b : Bool) → All IsPlain (cond b (firsts order_of vs) vs)
+    go : (b : Bool) → All HasCodeType (cond b (firsts order_of vs) vs)
     go true = without vs all
     go false = all
 
@@ -133,7 +133,7 @@ module _ (s : Contents) (o p : ℕ) (ws : List Value) where
       own_type : gains k x f ≡ true → is_of_type s f (object_value o) ≡ true
       own_type g = kind_of_object s (shape_of s.metas f).kind o (and_left _ _ fit.slot) (well.opposite_has_type p f (class_of s o) (and_left _ _ g) (and_right (is_live s o) _ fit.slot))
 
-module _ (s : Contents) (o p : ℕ) (ws : List Value) (well : IsWellFormed s.metas) (named : AreNamed s.metas s.extents) (fit : IsFit s o p ws) (plain : All IsPlain ws)
+module _ (s : Contents) (o p : ℕ) (ws : List Value) (well : IsWellFormed s.metas) (named : AreNamed s.metas s.extents) (fit : IsFit s o p ws) (plain : All HasCodeType ws)
     (uniq : (shape_of s.metas p).unique ≡ true → repeats ws ≡ false) (sound : Sound s) (none : refusal_of s (change_to s o p ws) ≡ None) where
   abbrev c : Change
   c = change_to s o p ws
@@ -147,7 +147,7 @@ module _ (s : Contents) (o p : ℕ) (ws : List Value) (well : IsWellFormed s.met
   causes : (is_too_many c ≡ false) × (is_cyclic s.metas (slot_after c) (length s.objects) ≡ false) × (is_read_only s o ≡ false) × (crosses s o ws ≡ false)
   causes = no_refusal (is_too_many c) (is_cyclic s.metas (slot_after c) (length s.objects)) (is_read_only s o) (crosses s o ws) none
 
-  new_fits : is_beyond (length ws) (shape_of s.metas p).upper ≡ false
+  new_fits : exceeds_bound (length ws) (shape_of s.metas p).upper ≡ false
   new_fits = none_left _ _ causes.0
 
   fits : FitsSingle c
@@ -155,26 +155,26 @@ module _ (s : Contents) (o p : ℕ) (ws : List Value) (well : IsWellFormed s.met
 
   gained_fits : (x f : ℕ) → gains c x f ≡ true → is_overfull c x f ≡ false
   gained_fits x f g = end_fits c (opposite s.metas p) x f (and_left _ _ g)
-      (not_among (overfills_end c (opposite s.metas p)) c.added x (none_right (is_beyond (length ws) (shape_of s.metas p).upper) _ causes.0) (and_right (is_opposite s.metas p f) _ g))
+      (not_among (overfills_end c (opposite s.metas p)) c.added x (none_right (exceeds_bound (length ws) (shape_of s.metas p).upper) _ causes.0) (and_right (is_opposite s.metas p f) _ g))
 
-  bound : (x f : ℕ) → is_beyond (length (slot_after c x f)) (shape_of s.metas f).upper ≡ false
+  bound : (x f : ℕ) → exceeds_bound (length (slot_after c x f)) (shape_of s.metas f).upper ≡ false
   bound x f = elim (either (gains c x f)) [
     | inl g ↦ gained_fits x f g
-    | inr n ↦ each_list c (λ l. is_beyond (length l) (shape_of s.metas f).upper ≡ false) x f
-        (λ at. subst (λ k. is_beyond (length ws) (shape_of s.metas k).upper ≡ false) (sym (here c x f at).1) new_fits)
+    | inr n ↦ each_list c (λ l. exceeds_bound (length l) (shape_of s.metas f).upper ≡ false) x f
+        (λ at. subst (λ k. exceeds_bound (length ws) (shape_of s.metas k).upper ≡ false) (sym (here c x f at).1) new_fits)
         (λ g. clash _ g n)
         (fewer_fit _ _ (shape_of s.metas f).upper (length-filter (keeps c x f) (c.slots x f)) (sound.parts.bounds x f))
   ]
 
-  all_plain : (x f : ℕ) → All IsPlain (slot_after c x f)
-  all_plain x f = each_list c (λ l. All IsPlain l) x f
+  all_plain : (x f : ℕ) → All HasCodeType (slot_after c x f)
+  all_plain x f = each_list c (λ l. All HasCodeType l) x f
       (λ at. plain)
-      (λ g. end_list c f (λ l. All IsPlain l) (filter (keeps c x f) (c.slots x f)) (All-cons IsPlain (object_value o) [] tt (All-nil IsPlain))
-      (with_object_list o (λ l. All IsPlain l) (filter (keeps c x f) (c.slots x f)) rest (All-push IsPlain (filter (keeps c x f) (c.slots x f)) (object_value o) rest tt)))
+      (λ g. end_list c f (λ l. All HasCodeType l) (filter (keeps c x f) (c.slots x f)) (All-cons HasCodeType (object_value o) [] tt (All-nil HasCodeType))
+      (with_object_list o (λ l. All HasCodeType l) (filter (keeps c x f) (c.slots x f)) rest (All-push HasCodeType (filter (keeps c x f) (c.slots x f)) (object_value o) rest tt)))
       rest
     where
-      rest : All IsPlain (filter (keeps c x f) (c.slots x f))
-      rest = All-filter (keeps c x f) IsPlain (c.slots x f) (sound.parts.plain x f)
+      rest : All HasCodeType (filter (keeps c x f) (c.slots x f))
+      rest = All-filter (keeps c x f) HasCodeType (c.slots x f) (sound.parts.plain x f)
 
   stays_live : (y : ℕ) → is_live s y ≡ true → (is_live s' y ≡ true) × (class_of s y ≡ class_of s' y)
   stays_live y live = (live-after s o p ws well fit y ∙ live, sym (class-after s o p ws well fit y))
@@ -219,8 +219,8 @@ module _ (s : Contents) (o p : ℕ) (ws : List Value) (well : IsWellFormed s.met
         types = λ x f. subst (λ (l : List Value). list_all (is_of_type s' f) l ≡ true) (sym (slot-after s o p ws well fit x f))
             (all_kept s s' refl stays_live f (slot_after c x f) (types_after s o p ws well fit sound.parts.typed x f));
       };
-      plain = λ x f. subst (λ (l : List Value). All IsPlain l) (sym (slot-after s o p ws well fit x f)) (all_plain x f);
-      bounds = λ x f. subst (λ (l : List Value). is_beyond (length l) (shape_of s.metas f).upper ≡ false) (sym (slot-after s o p ws well fit x f)) (bound x f);
+      plain = λ x f. subst (λ (l : List Value). All HasCodeType l) (sym (slot-after s o p ws well fit x f)) (all_plain x f);
+      bounds = λ x f. subst (λ (l : List Value). exceeds_bound (length l) (shape_of s.metas f).upper ≡ false) (sym (slot-after s o p ws well fit x f)) (bound x f);
       unique = record { unique = λ x f u. subst (λ (l : List Value). repeats l ≡ false) (sym (slot-after s o p ws well fit x f)) (unique_after s o p ws uniq sound.parts.unique x f u) };
       containers = subst (OneContainer s.metas) (sym (slots-after s o p ws well fit)) (keeps_one_container c made well fits sound.parts.containers);
       outside_itself = λ x i. clash _ (inside-cyclic s.metas (slot_after c) (length s.objects) bounded x (subst (λ (t : Slots). Inside s.metas t x x) (slots-after s o p ws well fit) i)) causes.1;
@@ -233,7 +233,7 @@ module _ (s : Contents) (o p : ℕ) (ws : List Value) (well : IsWellFormed s.met
   }
 
 -- what is put in the slot is plain
-pub list_keeps_sound : (s s' : Contents) (o p : ℕ) (vs : List Value) → IsWellFormed s.metas → AreNamed s.metas s.extents → IsAssignable s o p vs → All IsPlain (new_list s.metas p vs) → Sound s → assign s o p vs ≡ Ok s' → Sound s'
+pub list_keeps_sound : (s s' : Contents) (o p : ℕ) (vs : List Value) → IsWellFormed s.metas → AreNamed s.metas s.extents → IsAssignable s o p vs → All HasCodeType (new_list s.metas p vs) → Sound s → assign s o p vs ≡ Ok s' → Sound s'
 list_keeps_sound s s' o p vs well named can plain sound e =
     let r : (refusal_of s (change_of s o p vs) ≡ None) × (store_after s (change_of s o p vs) ≡ s') = accepted (refusal_of s (change_of s o p vs)) (store_after s (change_of s o p vs)) s' e in
     subst Sound r.1 (keeps_sound s o p (new_list s.metas p vs) well named (fit_of s o p vs can) plain (new_no_repeats s.metas p vs) sound r.0)
@@ -246,7 +246,7 @@ write_keeps_sound s s' o p Put vs well named can plain sound e = assign_keeps_so
 write_keeps_sound s s' o p Add vs well named can plain sound e =
     assign_keeps_sound s s' o p (slot_of s o p ++ vs) well named
     (record { live = can.live; feature = can.feature; types = all-append (is_of_type s p) (slot_of s o p) vs (sound.parts.typed.types o p) can.types })
-    (All-append IsPlain (slot_of s o p) vs (sound.parts.plain o p) plain) sound e
+    (All-append HasCodeType (slot_of s o p) vs (sound.parts.plain o p) plain) sound e
 
 pub append_keeps_sound : AppendKeepsSound
 append_keeps_sound s s' o p v well named can plain sound e = write_keeps_sound s s' o p Add (v ∷ []) well named can plain sound e

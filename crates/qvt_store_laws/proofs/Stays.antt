@@ -11,7 +11,7 @@ use Rattle.qvt_slots.specs.Contents.{Contents, Instance, no_instance, object_at,
 use Rattle.qvt_slots.specs.Types.{IsAssignable}
 use Rattle.qvt_slots.specs.Change.{Change}
 use Rattle.qvt_slots.specs.Assign.{instances_after, instance_after, store_after, change_of, refusal_of, assign}
-use Rattle.qvt_store_laws.specs.Stay.{IsFront, StaysIn, StaysIsReflexive, StaysIsTransitive, AddStays, AssignStays, AppendStays, WriteStays}
+use Rattle.qvt_store_laws.specs.Stay.{IsBeginningOf, StaysIn, StaysIsReflexive, StaysIsTransitive, AddStays, AssignStays, AppendStays, WriteStays}
 use Rattle.qvt_slots.proofs.Typed.{all_kept}
 use Rattle.qvt_slots.proofs.Members.{members_same}
 use Rattle.qvt_store_laws.proofs.After.{length-after, instance-after}
@@ -34,12 +34,12 @@ members-append x (o ∷ xs) ys e = go (o.extent == e) (members-append (suc x) xs
     go true rest = ap (λ l. oid x ∷ l) rest
     go false rest = rest
 
-pub same_front : (xs ys : List Oid) → ys ≡ xs → IsFront xs ys
+pub same_front : (xs ys : List Oid) → ys ≡ xs → IsBeginningOf xs ys
 same_front xs ys e = record { rest = []; more = e ∙ sym (append-nil xs) }
 
 module _ (s s' : Contents) (metas : s'.metas ≡ s.metas) (extents : s'.extents ≡ s.extents) (live : (x : ℕ) → is_live s x ≡ true → is_live s' x ≡ true)
     (class : (x : ℕ) → is_live s x ≡ true → class_of s' x ≡ class_of s x) (extent : (x : ℕ) → is_live s x ≡ true → extent_of s' x ≡ extent_of s x)
-    (members : (e : ℕ) → IsFront (members_of s e) (members_of s' e)) where
+    (members : (e : ℕ) → IsBeginningOf (members_of s e) (members_of s' e)) where
   pub stays_of : StaysIn s s'
   stays_of = record {
     metas = metas;
@@ -78,7 +78,7 @@ stays_is_reflexive s = stays_same s s.objects refl (λ x d h. refl) (λ x d h. r
 pub stays_is_transitive : StaysIsTransitive
 stays_is_transitive s s' s'' a b = stays_of s s'' (b.metas ∙ a.metas) (b.extents ∙ a.extents)
     (λ x l. b.live x (a.live x l)) (λ x l. b.class x (a.live x l) ∙ a.class x l) (λ x l. b.extent x (a.live x l) ∙ a.extent x l)
-    (λ e. let first : IsFront (members_of s e) (members_of s' e) = a.members e in let second : IsFront (members_of s' e) (members_of s'' e) = b.members e in
+    (λ e. let first : IsBeginningOf (members_of s e) (members_of s' e) = a.members e in let second : IsBeginningOf (members_of s' e) (members_of s'' e) = b.members e in
     record { rest = first.rest ++ second.rest; more = second.more ∙ ap (λ l. l ++ second.rest) first.more ∙ append_assoc (members_of s e) first.rest second.rest })
 
 pub add_stays : AddStays

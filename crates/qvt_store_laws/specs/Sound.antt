@@ -9,10 +9,10 @@ use Rattle.qvt_slots.specs.declared.op.SetOp.{SetOp}
 use Rattle.qvt_slots.specs.Slots.{has, OppositesAgree, OneContainer, Inside}
 use Rattle.qvt_slots.specs.Change.{is_some_feature}
 use Rattle.qvt_slots.specs.Contents.{Contents, AreNamed, object_at, class_of, extent_of, extent_at, is_extent, is_live, is_model, is_slot, slot_of, with_new, with_slot}
-use Rattle.qvt_slots.specs.Types.{AreTyped, IsPlain, IsAssignable}
+use Rattle.qvt_slots.specs.Types.{AreTyped, HasCodeType, IsAssignable}
 use Rattle.qvt_slots.specs.Repeats.{AreUnique, repeats}
 use Rattle.qvt_store_laws.specs.Place.{IsPlaceable}
-use Rattle.qvt_slots.specs.Assign.{is_beyond, crosses, assign, append, write}
+use Rattle.qvt_slots.specs.Assign.{exceeds_bound, crosses, assign, append, write}
 
 -- class c is concrete and of the metamodel of extent e, and both are there
 pub record IsClassFor (s : Contents) (c e : ℕ) : Type 0 where
@@ -31,8 +31,8 @@ pub record SoundButOpposites (s : Contents) : Type 0 where
   pub features : (x f : ℕ) → IsTrue (is_slot s x f) ⊎ (slot_of s x f ≡ [])
   pub typed : AreTyped s
   -- Integers fit 64 bits, Strings are UTF-8
-  pub plain : (x f : ℕ) → All IsPlain (slot_of s x f)
-  pub bounds : (x f : ℕ) → IsFalse (is_beyond (length (slot_of s x f)) (shape_of s.metas f).upper)
+  pub plain : (x f : ℕ) → All HasCodeType (slot_of s x f)
+  pub bounds : (x f : ℕ) → IsFalse (exceeds_bound (length (slot_of s x f)) (shape_of s.metas f).upper)
   pub unique : AreUnique s
   pub containers : OneContainer s.metas (slot_of s)
   pub outside_itself : (x : ℕ) → Inside s.metas (slot_of s) x x → ⊥
@@ -46,7 +46,7 @@ pub record Sound (s : Contents) : Type 0 where
 
 -- a list that a sound store may hold in slot (o, p), if its values are plain
 pub record IsSoundList (s : Contents) (o p : ℕ) (vs : List Value) : Type 0 where
-  pub bound : IsFalse (is_beyond (length vs) (shape_of s.metas p).upper)
+  pub bound : IsFalse (exceeds_bound (length vs) (shape_of s.metas p).upper)
   pub unique : IsTrue (shape_of s.metas p).unique → IsFalse (repeats vs)
   pub own_objects : IsFalse (crosses s o vs)
 
@@ -60,17 +60,17 @@ AddKeepsSound = (s : Contents) (c e : ℕ) → IsClassFor s c e → Sound s → 
 
 -- an assignment that is not refused keeps a store sound
 abbrev pub AssignKeepsSound : Type 0
-AssignKeepsSound = (s s' : Contents) (o p : ℕ) (vs : List Value) → IsWellFormed s.metas → AreNamed s.metas s.extents → IsAssignable s o p vs → All IsPlain vs →
+AssignKeepsSound = (s s' : Contents) (o p : ℕ) (vs : List Value) → IsWellFormed s.metas → AreNamed s.metas s.extents → IsAssignable s o p vs → All HasCodeType vs →
     Sound s → assign s o p vs ≡ Ok s' → Sound s'
 
 -- so does an append
 abbrev pub AppendKeepsSound : Type 0
-AppendKeepsSound = (s s' : Contents) (o p : ℕ) (v : Value) → IsWellFormed s.metas → AreNamed s.metas s.extents → IsAssignable s o p (v ∷ []) → All IsPlain (v ∷ []) →
+AppendKeepsSound = (s s' : Contents) (o p : ℕ) (v : Value) → IsWellFormed s.metas → AreNamed s.metas s.extents → IsAssignable s o p (v ∷ []) → All HasCodeType (v ∷ []) →
     Sound s → append s o p v ≡ Ok s' → Sound s'
 
 -- and every write
 abbrev pub WriteKeepsSound : Type 0
-WriteKeepsSound = (s s' : Contents) (o p : ℕ) (op : SetOp) (vs : List Value) → IsWellFormed s.metas → AreNamed s.metas s.extents → IsAssignable s o p vs → All IsPlain vs →
+WriteKeepsSound = (s s' : Contents) (o p : ℕ) (op : SetOp) (vs : List Value) → IsWellFormed s.metas → AreNamed s.metas s.extents → IsAssignable s o p vs → All HasCodeType vs →
     Sound s → write s o p op vs ≡ Ok s' → Sound s'
 
 -- while a model is loaded, one more object keeps what a store then keeps
@@ -79,9 +79,9 @@ AddKeepsLoading = (s : Contents) (c e : ℕ) → IsClassFor s c e → SoundButOp
 
 -- and so does a slot that is placed
 abbrev pub PlaceKeepsLoading : Type 0
-PlaceKeepsLoading = (s : Contents) (o p : ℕ) (vs : List Value) → IsPlaceable s o p vs → All IsPlain vs → IsSoundList s o p vs → SoundButOpposites s → SoundButOpposites (with_slot s o p vs)
+PlaceKeepsLoading = (s : Contents) (o p : ℕ) (vs : List Value) → IsPlaceable s o p vs → All HasCodeType vs → IsSoundList s o p vs → SoundButOpposites s → SoundButOpposites (with_slot s o p vs)
 
 -- a slot that is placed keeps a store sound, where its feature has no opposite
 abbrev pub PlaceKeepsSound : Type 0
-PlaceKeepsSound = (s : Contents) (o p : ℕ) (vs : List Value) → IsWellFormed s.metas → IsPlaceable s o p vs → All IsPlain vs → IsSoundList s o p vs → IsFalse (is_some_feature (opposite s.metas p)) →
+PlaceKeepsSound = (s : Contents) (o p : ℕ) (vs : List Value) → IsWellFormed s.metas → IsPlaceable s o p vs → All HasCodeType vs → IsSoundList s o p vs → IsFalse (is_some_feature (opposite s.metas p)) →
     Sound s → Sound (with_slot s o p vs)

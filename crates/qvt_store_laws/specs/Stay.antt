@@ -21,7 +21,7 @@ pub record IsStore (s : Contents) : Type 0 where
   pub outside_itself : (x : ℕ) → Inside s.metas (slot_of s) x x → ⊥
 
 -- the old list begins the new one
-pub record IsFront (old new : List Oid) : Type 0 where
+pub record IsBeginningOf (old new : List Oid) : Type 0 where
   pub rest : List Oid
   pub more : new ≡ old ++ rest
 
@@ -33,7 +33,7 @@ pub record StaysIn (s s' : Contents) : Type 0 where
   pub class : (x : ℕ) → IsTrue (is_live s x) → class_of s' x ≡ class_of s x
   pub extent : (x : ℕ) → IsTrue (is_live s x) → extent_of s' x ≡ extent_of s x
   -- new objects of an extent come after those that are there
-  pub members : (e : ℕ) → IsFront (members_of s e) (members_of s' e)
+  pub members : (e : ℕ) → IsBeginningOf (members_of s e) (members_of s' e)
   pub assignable : (o p : ℕ) (vs : List Value) → IsAssignable s o p vs → IsAssignable s' o p vs
 
 abbrev pub StaysIsReflexive : Type 0

@@ -13,12 +13,12 @@ use Rattle.qvt_slots.specs.Contents.{Contents}
 use Rattle.qvt_slots.specs.declared.op.SetOp.{SetOp}
 use Rattle.qvt_slots.specs.declared.op.SetOp.TheVariants as op
 use Rattle.qvt_typing.specs.Accepts.{ProgramTerm}
-use Rattle.qvt_meaning.specs.Run.{Entry, Finish, Finished}
+use Rattle.qvt_meaning.specs.Run.{AnsweredWrite, Finish, FinishedRun}
 use Rattle.qvt_meaning_report.specs.TraceText as report
 use Rattle.qvt_trace_text.specs.declared.entry.WrittenEntry.{WrittenEntry}
 use Rattle.qvt_trace_text.specs.Parts.{entry_data, trace_parts}
 use Rattle.qvt_trace_text.specs.Words.{form_word, op_word, sources_data, within_data}
-use Rattle.qvt_trace_text.specs.Written.{IsWritten, written_entry}
+use Rattle.qvt_trace_text.specs.Written.{IsWrittenRun, written_entry}
 
 map_map : {X Y Z : Type 0} → (g : Y → Z) (f : X → Y) (h : X → Z) → ((x : X) → g (f x) ≡ h x) → (xs : List X) → map g (map f xs) ≡ map h xs
 map_map g f h same [] = refl
@@ -64,19 +64,19 @@ module _ (s : Contents) (ids : List (Option (List ℕ))) (p : ProgramTerm) where
   unfolding entry_data
   entry_built e = refl
 
-  entry_same : (f : Finish) (e : Entry) → entry_data s ids p (written_entry f e) ≡ report.entry_data s ids p f e
+  entry_same : (f : Finish) (e : AnsweredWrite) → entry_data s ids p (written_entry f e) ≡ report.entry_data s ids p f e
   unfolding report.entry_data
   entry_same f e =
       entry_built (written_entry f e)
       ∙ (λ i. built (written_entry f e) (form_same e.write.request.inverse e.write.one (is_some e.write.request.within) i) (within_same e.write.request.within i) (op_same e.write.op i) (sources_same e.write.request.sources i))
 
-  parts_same : (f : Finish) (es : List Entry) → trace_parts s ids p f.trace (map (written_entry f) es) ≡ report.trace_data s ids p f es
+  parts_same : (f : Finish) (es : List AnsweredWrite) → trace_parts s ids p f.trace (map (written_entry f) es) ≡ report.trace_data s ids p f es
   parts_same f es =
       ap (λ ds. object (member (codes "late") (array (items_of ds)) (member (codes "records") (array (items_of (map (report.record_data s ids p) f.trace))) no_members)))
       (map_map (entry_data s ids p) (written_entry f) (report.entry_data s ids p f) (entry_same f) es)
 
-pub text_same : (p : ProgramTerm) (ids : List (Option (List ℕ))) (f : Finished) (s : Contents) (rs : List Record) (es : List WrittenEntry)
-    → IsWritten f s rs es → file_text (trace_parts s ids p rs es) ≡ report.trace_text p ids f
+pub text_same : (p : ProgramTerm) (ids : List (Option (List ℕ))) (f : FinishedRun) (s : Contents) (rs : List Record) (es : List WrittenEntry)
+    → IsWrittenRun f s rs es → file_text (trace_parts s ids p rs es) ≡ report.trace_text p ids f
 unfolding report.trace_text
 text_same p ids f s rs es w =
     sym (λ i. file_text (trace_parts (w.store i) ids p (w.records i) (w.entries i)))

@@ -2,11 +2,11 @@
 
 ghost use Rattle.std.specs.Prelude.{◌≡◌, IfOk};
 ghost use Rattle.serde_json.specs.View.{view};
-ghost use Rattle.qvt_meaning.specs.Run.{Finished};
+ghost use Rattle.qvt_meaning.specs.Run.{FinishedRun};
 ghost use Rattle.qvt_meaning_report.specs.TraceText.{trace_text};
 ghost use Rattle.qvt_types_program.specs.Program.{program_view};
 ghost use Rattle.qvt_trace_text.specs.Parts.{trace_parts};
-ghost use Rattle.qvt_trace_text.specs.Written.{IsWritten};
+ghost use Rattle.qvt_trace_text.specs.Written.{IsWrittenRun};
 
 use crate::entries::entry_values;
 use crate::entry::WrittenEntry;
@@ -50,7 +50,7 @@ pub fn write_trace(
     records: &[Record],
     entries: &[WrittenEntry],
 ) -> Result<Bytes, ListFault>
-    ensures { IfOk result (λ bytes. (f : Finished) → IsWritten f store.now records.now entries.now → bytes ≡ trace_text (program_view program.now) ids.now f) }
+    ensures { IfOk result (λ bytes. (f : FinishedRun) → IsWrittenRun f store.now records.now entries.now → bytes ≡ trace_text (program_view program.now) ids.now f) }
 {
     let all = RunIds::new(alloc, store, ids)?;
     let value = trace_value(alloc, program, &all, records, entries)?;

@@ -14,7 +14,7 @@ use Rattle.qvt_types_data.specs.declared.ty.Ty.{Ty}
 use Rattle.qvt_types_data.specs.declared.variable.VariableSort.TheVariants as sort
 use Rattle.qvt_types_data.specs.declared.note.Note.{Note}
 use Rattle.qvt_types_laws.specs.Join as join
-use Rattle.qvt_types_laws.specs.Join.{Takes, next_note, join_sign, join_signs}
+use Rattle.qvt_types_laws.specs.Join.{NoteTaker, next_note, join_sign, join_signs}
 use Rattle.qvt_types_states.specs.Judge.{Judges, ◌>>=◌, gives, checked, writes_nothing}
 use Rattle.qvt_types_states.specs.Scopes.{found, is_known}
 use Rattle.qvt_types_states.specs.declared.scope.Known.{Known}
@@ -32,7 +32,7 @@ use Rattle.qvt_types_steps.specs.declared.resolves.Joint.{Joint}
 use Rattle.qvt_types_units.specs.Reuse.{listed}
 use Rattle.qvt_types_words.specs.Rulings as ruling
 use Rattle.qvt_typing.specs.Aims as aims
-use Rattle.qvt_typing.specs.Context.{Context}
+use Rattle.qvt_typing.specs.Context.{TypingContext}
 use Rattle.qvt_typing.specs.Names as names
 use Rattle.qvt_typing.specs.Rules as rule
 use Rattle.qvt_typing.specs.Statements as rule_of
@@ -71,7 +71,7 @@ without more b none a = record {
   numbers = λ s. none;
 }
 
-module _ (x : Context) where
+module _ (x : TypingContext) where
   plain_mark : (v : List ℕ) (k : Given) (at : Place) (items : Option Ty) → Marks (checked (iterators.iterator_wrong x.heads.metas k.is_given k.ty items) at
       >>= (λ _. rule.declare_head v (rule.iterator_known k items) at
       >>= (λ is_new. writes_nothing >>= (λ _. gives (rule.if_new is_new (iterators.plain_head x.heads.metas k.is_given k.ty items))))))
@@ -79,7 +79,7 @@ module _ (x : Context) where
       given (rule.if_new b (iterators.plain_head x.heads.metas k.is_given k.ty items)))))
 
   -- its Head without an accumulator
-  pub plain_heading : {B C : Type 0} {num : B → List ℕ} {q : Takes B} (v : List ℕ) {p : Judges Given} (at : Place) (more : C → List ℕ) (none : C) → more none ≡ [] → Follows p q num → (items : Option Ty) → Follows (rule.plain_heading x v p at items) (q & (join.gives none & next_note)) (λ y. num y.0 ++ more y.1.0)
+  pub plain_heading : {B C : Type 0} {num : B → List ℕ} {q : NoteTaker B} (v : List ℕ) {p : Judges Given} (at : Place) (more : C → List ℕ) (none : C) → more none ≡ [] → Follows p q num → (items : Option Ty) → Follows (rule.plain_heading x v p at items) (q & (join.gives none & next_note)) (λ y. num y.0 ++ more y.1.0)
   unfolding rule.plain_heading
   plain_heading v at more none e a items = both a (λ k. without more none e (plain_mark v k at items))
 
@@ -95,13 +95,13 @@ module _ (x : Context) where
   folded_last v k a t first accumulator_at at items = before_mark (declared_head v (rule.iterator_known k items) at) (λ b. before_mark (declared_head a (record { sort = sort.Iterator; ty = t }) accumulator_at) (λ c. after_mark blank (λ o.
       given (rule.if_new (b && c) (iterators.folding_head x.heads.metas (iterators.plain_head x.heads.metas k.is_given k.ty items) t first)))))
 
-  pub folding_heading : {B C D : Type 0} {num : B → List ℕ} {more : C → List ℕ} {most : D → List ℕ} {q : Takes B} {r : Takes C} {t : Takes D} (v : List ℕ) {p : Judges Given} (a : List ℕ) {b c : Judges (Option Ty)} (accumulator_at at : Place)
+  pub folding_heading : {B C D : Type 0} {num : B → List ℕ} {more : C → List ℕ} {most : D → List ℕ} {q : NoteTaker B} {r : NoteTaker C} {t : NoteTaker D} (v : List ℕ) {p : Judges Given} (a : List ℕ) {b c : Judges (Option Ty)} (accumulator_at at : Place)
       → Follows p q num → Follows b r more → Follows c t most → (items : Option Ty) → Follows (rule.folding_heading x v p a b c accumulator_at at items) (q & ((r & (t & next_note)) & next_note)) (λ y. num y.0 ++ (more y.1.0.0 ++ most y.1.0.1.0))
   unfolding rule.folding_heading rule.folded
   folding_heading v a accumulator_at at f g h items = both f (λ k. closed (both g (λ t. closed h (λ first. folded_first k t first accumulator_at at items))) (λ pair. folded_last v k a pair.0 pair.1 accumulator_at at items))
 
   -- the arrow
-  arrow_parts : {B : Type 0} {num : B → List ℕ} {q : Takes B} (name : List ℕ) (args : List (Judges (Option Ty))) (cs : List (Judges ClassPart)) (o : Option Ty) (h : Heading) → Follows (rule.all [] args) q num → Follows (rule.all [] cs) q num → Follows (rule.arrow_parts x name args cs o h) q num
+  arrow_parts : {B : Type 0} {num : B → List ℕ} {q : NoteTaker B} (name : List ℕ) (args : List (Judges (Option Ty))) (cs : List (Judges ClassPart)) (o : Option Ty) (h : Heading) → Follows (rule.all [] args) q num → Follows (rule.all [] cs) q num → Follows (rule.arrow_parts x name args cs o h) q num
   unfolding rule.arrow_parts
   arrow_parts {num = num} {q = q} name args cs o h a b = by (classes.is_selection name)
     where
@@ -109,7 +109,7 @@ module _ (x : Context) where
       by true = after b (λ ps. given (rule.selected_by name h o ps))
       by false = after a (λ os. given (iterators.arrow x.heads.metas name h o (rule.all_types os)))
 
-  pub arrowed : {B C : Type 0} {num : B → List ℕ} {more : C → List ℕ} {q : Takes B} {r : Takes C} (name : List ℕ) (f : Option Ty → Judges Heading) (args : List (Judges (Option Ty))) (cs : List (Judges ClassPart)) (at : Place)
+  pub arrowed : {B C : Type 0} {num : B → List ℕ} {more : C → List ℕ} {q : NoteTaker B} {r : NoteTaker C} (name : List ℕ) (f : Option Ty → Judges Heading) (args : List (Judges (Option Ty))) (cs : List (Judges ClassPart)) (at : Place)
       → ((o : Option Ty) → Follows (f o) q num) → Follows (rule.all [] args) r more → Follows (rule.all [] cs) r more → (o : Option Ty) → Follows (rule.arrowed x name f args cs at o) (q & r & next_note) (λ y. num y.0.0 ++ more y.0.1)
   unfolding rule.arrowed
   arrowed name f args cs at a b c o = closed (inside (both (a (iterators.item_type o)) (λ h. arrow_parts name args cs o h b c))) (λ w. stepped x w (rule.iterator_effect (iterator_named name)) at)
@@ -138,7 +138,7 @@ module _ (x : Context) where
   class_extent_told name part.Untyped at = given tt
   class_extent_told name part.Missing at = given tt
 
-  pub object : {B C : Type 0} {num : B → List ℕ} {more : C → List ℕ} {q : Takes B} {r : Takes C} {p : Judges ObjectVariable} (path : PathTree) (name : Option (List ℕ)) {body : ClassPart → Judges (Unit {0})} (at : Place)
+  pub object : {B C : Type 0} {num : B → List ℕ} {more : C → List ℕ} {q : NoteTaker B} {r : NoteTaker C} {p : Judges ObjectVariable} (path : PathTree) (name : Option (List ℕ)) {body : ClassPart → Judges (Unit {0})} (at : Place)
       → Follows p q num → ((c : ClassPart) → Follows (body c) r more) → Follows (rule.object x p path name body at) (q & (next_note & (r & next_note))) (λ y. number y.1.1.1 ++ (num y.0 ++ more y.1.1.0))
   unfolding rule.object
   object path name at a b = numbered (λ n. part a (λ v. part (one_mark (named_class x path)) (λ c. before_closing (abstract_told c path.place) (λ u. last (b c) (λ w.
@@ -149,7 +149,7 @@ module _ (x : Context) where
   constructed n c path_at name us at = before_answer (class_extent_told name (rule.class_with us c) at) (λ u. before_answer (settling (rule.new_ruled x name c us) (rule.new_place (rule.new_ruled x name c us) path_at at))
       (λ r. before_answer (effect x ImpureOne r at) (λ w. answering n r)))
 
-  pub new : {B : Type 0} {num : B → List ℕ} {q : Takes B} (path : PathTree) (name : Option (List ℕ)) (args : List (Judges (Option Ty))) (at : Place) → Follows (rule.all [] args) q num → Follows (rule.new x path name args at) (next_note & (q & next_note)) (λ y. number y.1.1 ++ num y.1.0)
+  pub new : {B : Type 0} {num : B → List ℕ} {q : NoteTaker B} (path : PathTree) (name : Option (List ℕ)) (args : List (Judges (Option Ty))) (at : Place) → Follows (rule.all [] args) q num → Follows (rule.new x path name args at) (next_note & (q & next_note)) (λ y. number y.1.1 ++ num y.1.0)
   unfolding rule.new
   new path name args at a = numbered (λ n. part (one_mark (named_class x path)) (λ c. before_closing (abstract_told c path.place) (λ u. last a (λ os. constructed n c path.place name (rule.all_types os) at))))
 
@@ -167,7 +167,7 @@ module _ (x : Context) where
   declare_filter None c at = quietly looked (λ s. sourced (names.source (names.unnamed s) (names.class_type c)))
   declare_filter (Some name) c at = declaring name (record { sort = sort.Iterator; ty = names.class_type c }) at
 
-  pub filter : {B C : Type 0} {num : B → List ℕ} {more : C → List ℕ} {q : Takes B} {r : Takes C} (name : Option (List ℕ)) {p : Judges ClassPart} {condition : Judges Given} (at : Place) → Follows p q num → Follows condition r more → Follows (rule.filter x name p condition at) (q & (r & next_note)) (λ y. num y.0 ++ more y.1.0)
+  pub filter : {B C : Type 0} {num : B → List ℕ} {more : C → List ℕ} {q : NoteTaker B} {r : NoteTaker C} (name : Option (List ℕ)) {p : Judges ClassPart} {condition : Judges Given} (at : Place) → Follows p q num → Follows condition r more → Follows (rule.filter x name p condition at) (q & (r & next_note)) (λ y. num y.0 ++ more y.1.0)
   unfolding rule.filter
   filter name at a b = both a (λ c. closed (inside (before (declare_filter name c at) (λ u. b))) (λ k. filter_settled c k at))
 
@@ -177,7 +177,7 @@ module _ (x : Context) where
   resolve_ruled : (allowed late : Bool) (j : Joint) (w : ResolveWord) (o : Option Ty) (c : ClassPart) (at : Place) → Quiet (rule.resolve_ruled x allowed late j w o c at)
   resolve_ruled allowed late j w o c at = quietly (settling (resolving.resolve j w o c) at) (λ r. quietly (effect x PureOne r at) (λ u. quietly (late_told allowed late r at) (λ v. given r)))
 
-  module _ {B C : Type 0} {num : B → List ℕ} {more : C → List ℕ} {q : Takes B} {r : Takes C} where
+  module _ {B C : Type 0} {num : B → List ℕ} {more : C → List ℕ} {q : NoteTaker B} {r : NoteTaker C} where
     pub resolve : (allowed late : Bool) (w : ResolveWord) {p : Judges Within} {f : Judges Filtered} (at : Place) → Follows p q num → Follows f r more → Follows (rule.resolve x allowed late w p f at) (q & (r & next_note)) (λ y. number y.1.1 ++ (num y.0 ++ more y.1.0))
     unfolding rule.resolve
     resolve allowed late w at a b = numbered (λ n. part a (λ i. last b (λ f. before_answer (resolve_ruled allowed late joint.Sourceless w None (rule.looked_for x w i f) at) (λ r. answering n r))))
@@ -191,7 +191,7 @@ module _ (x : Context) where
 aimed : (missing : RefusalKind) (at : Place) (a : Aim) → Marks (rule_of.aimed missing at a)
 aimed missing at a = before_mark (checking (aims.nowhere_told missing a) at) (λ u. after_mark (marking (aims.aim_read a)) (λ o. given a))
 
-module _ (x : Context) where
+module _ (x : TypingContext) where
   pub bare_target : (name : List ℕ) (at : Place) → Marks (rule_of.bare_target x name at)
   unfolding rule_of.bare_target
   bare_target name at = before_mark looked (λ s. aimed refusal.UnknownName at (aims.bare_aim x s name))
@@ -210,7 +210,7 @@ module _ (x : Context) where
   each_settled : (o : Option Ty) (k v : Given) (at : Place) → Marks (rule_of.for_each_settled x o k v at)
   each_settled o k v at = before_mark (checking (rule_of.for_each_told x (iterators.item_type o) k v) at) (λ u. after_mark (marking (rule_of.wraps o)) (λ w. given tt))
 
-  module _ {B : Type 0} {num : B → List ℕ} {q : Takes B} where
+  module _ {B : Type 0} {num : B → List ℕ} {q : NoteTaker B} where
     pub member_target : {p : Judges (Option Ty)} (name : List ℕ) (at : Place) → Follows p q num → Follows (rule_of.member_target x p name at) (q & next_note) (λ y. num y.0)
     unfolding rule_of.member_target
     member_target name at a = closed a (λ o. aimed refusal.UnknownName at (aims.member_aim x.heads name o))
@@ -231,7 +231,7 @@ module _ (x : Context) where
     unfolding rule_of.block
     block ps a = inside a
 
-  module _ {B C : Type 0} {num : B → List ℕ} {more : C → List ℕ} {q : Takes B} {r : Takes C} where
+  module _ {B C : Type 0} {num : B → List ℕ} {more : C → List ℕ} {q : NoteTaker B} {r : NoteTaker C} where
     pub variable : (name : List ℕ) {p v : Judges Given} (at : Place) → Follows p q num → Follows v r more → Follows (rule_of.variable x name p v at) (q & (r & next_note)) (λ y. num y.0 ++ more y.1.0)
     unfolding rule_of.variable
     variable name at a b = both a (λ k. closed b (λ v. declared name k v at))
@@ -248,7 +248,7 @@ module _ (x : Context) where
     unfolding rule_of.arm
     arm body a b = both a (λ c. after (block body b) (λ u. given c))
 
-  module _ {B C D E : Type 0} {num : B → List ℕ} {more : C → List ℕ} {most : D → List ℕ} {end : E → List ℕ} {q : Takes B} {r : Takes C} {t : Takes D} {v : Takes E} where
+  module _ {B C D E : Type 0} {num : B → List ℕ} {more : C → List ℕ} {most : D → List ℕ} {end : E → List ℕ} {q : NoteTaker B} {r : NoteTaker C} {t : NoteTaker D} {v : NoteTaker E} where
     pub if_ : {p : Judges (Option Ty)} (body : List (Judges (Unit {0}))) (arms : List (Judges (Option Ty))) (otherwise : List (Judges (Unit {0}))) (at : Place)
         → Follows p q num → Follows (rule_of.each body) r more → ((done : List (Option Ty)) → Follows (rule.all done arms) t most) → Follows (rule_of.each otherwise) v end
         → Follows (rule_of.if_ x p body arms otherwise at) (q & (r & (t & (v & next_note)))) (λ y. num y.0 ++ (more y.1.0 ++ (most y.1.1.0 ++ end y.1.1.1.0)))

@@ -4,7 +4,7 @@ use Rattle.qvt_types_classes.specs.Classes.{is_typed}
 use Rattle.qvt_types_units.specs.Choice.{is_unknown}
 use Rattle.qvt_types_units.specs.Numbers.{unit_at}
 use Rattle.qvt_types_units.specs.declared.signature.Signature.{Signature}
-use Rattle.qvt_typing.specs.Context.{Context, Heads}
+use Rattle.qvt_typing.specs.Context.{TypingContext, DeclaredHeads}
 use Rattle.qvt_typed_laws.proofs.Keeps.{SomeTy}
 use Rattle.qvt_typed_laws.proofs.Solid.{Typed}
 
@@ -13,11 +13,11 @@ pub record TypedUnit (u : Signature) : Type 0 where
   pub answer : SomeTy u.answer
   pub result : is_unknown u.result ≡ false
 
-pub record TypedHeads (h : Heads) : Type 0 where
+pub record TypedHeads (h : DeclaredHeads) : Type 0 where
   pub properties : (f : ℕ) → is_typed h.first h.flags f ≡ true
   pub units : (n : ℕ) → TypedUnit (unit_at h.units n)
 
-pub record TypedContext (x : Context) : Type 0 where
+pub record TypedContext (x : TypingContext) : Type 0 where
   pub heads : TypedHeads x.heads
   pub self : Typed x.self
   pub result : Typed x.result

@@ -12,55 +12,55 @@ use Rattle.qvt_types_data.specs.declared.refusal.RefusalKind.TheVariants as refu
 use Rattle.qvt_types_data.specs.declared.ruling.Read.{Read}
 use Rattle.qvt_types_data.specs.declared.ruling.Ruling.{Ruling}
 use Rattle.qvt_types_data.specs.declared.variable.Variable.{Variable}
-use Rattle.qvt_types_laws.specs.Join.{Takes, next_note}
+use Rattle.qvt_types_laws.specs.Join.{NoteTaker, next_note}
 use Rattle.qvt_types_laws.specs.Join as join
 use Rattle.qvt_types_states.specs.Judge.{Judges, ◌>>=◌, gives, fresh, scope, in_scope, add_source, scoped, tell, checked, declare, settled, answers, marks, writes_nothing}
 use Rattle.qvt_types_states.specs.Scopes.{ScopeTerm, is_known, with_named}
 use Rattle.qvt_types_states.specs.declared.scope.Known.{Known}
-use Rattle.qvt_types_states.specs.declared.state.State.{State}
+use Rattle.qvt_types_states.specs.declared.state.TypingState.{TypingState}
 use Rattle.qvt_typed_laws.specs.Numbers.{number, number_if}
 
 -- one after the other
 infixl 20 ◌&◌
-abbrev pub ◌&◌ : {B C : Type 0} → Takes B → Takes C → Takes (B × C)
+abbrev pub ◌&◌ : {B C : Type 0} → NoteTaker B → NoteTaker C → NoteTaker (B × C)
 (q & r) ns = (((q ns).0, (r (q ns).1).0), (r (q ns).1).1)
 
-abbrev pub changed : {B C : Type 0} → (B → C) → Takes B → Takes C
+abbrev pub changed : {B C : Type 0} → (B → C) → NoteTaker B → NoteTaker C
 changed f q ns = (f (q ns).0, (q ns).1)
 
 -- nothing is written or numbered
 pub record Quiet {A : Type 0} (p : Judges A) : Type 0 where
-  pub notes : (s : State) → (p s).1.notes ≡ s.notes
-  pub next : (s : State) → (p s).1.next ≡ s.next
+  pub notes : (s : TypingState) → (p s).1.notes ≡ s.notes
+  pub next : (s : TypingState) → (p s).1.next ≡ s.next
 
 -- one note is written, that has no number
 pub record Marks {A : Type 0} (p : Judges A) : Type 0 where
-  pub note : State → Note
-  pub notes : (s : State) → (p s).1.notes ≡ s.notes ++ note s ∷ []
-  pub next : (s : State) → (p s).1.next ≡ s.next
-  pub number : (s : State) → (note s).number ≡ None
+  pub note : TypingState → Note
+  pub notes : (s : TypingState) → (p s).1.notes ≡ s.notes ++ note s ∷ []
+  pub next : (s : TypingState) → (p s).1.next ≡ s.next
+  pub number : (s : TypingState) → (note s).number ≡ None
 
 -- one note is written, that has this number
 pub record Answers {A : Type 0} (n : ExprNo) (p : Judges A) : Type 0 where
-  pub note : State → Note
-  pub notes : (s : State) → (p s).1.notes ≡ s.notes ++ note s ∷ []
-  pub next : (s : State) → (p s).1.next ≡ s.next
-  pub number : (s : State) → (note s).number ≡ Some n
+  pub note : TypingState → Note
+  pub notes : (s : TypingState) → (p s).1.notes ≡ s.notes ++ note s ∷ []
+  pub next : (s : TypingState) → (p s).1.next ≡ s.next
+  pub number : (s : TypingState) → (note s).number ≡ Some n
 
 -- what is written is taken, and the numbers of what is taken are the next ones
-pub record Follows {A B : Type 0} (p : Judges A) (q : Takes B) (num : B → List ℕ) : Type 0 where
-  pub notes : State → List Note
-  pub node : State → B
-  pub count : State → ℕ
-  pub writes : (s : State) → (p s).1.notes ≡ s.notes ++ notes s
-  pub counts : (s : State) → (p s).1.next ≡ s.next + count s
-  pub takes : (s : State) (rest : List Note) → q (notes s ++ rest) ≡ (node s, rest)
-  pub numbers : (s : State) → num (node s) ≡ range_with_len s.next (count s)
+pub record Follows {A B : Type 0} (p : Judges A) (q : NoteTaker B) (num : B → List ℕ) : Type 0 where
+  pub notes : TypingState → List Note
+  pub node : TypingState → B
+  pub count : TypingState → ℕ
+  pub writes : (s : TypingState) → (p s).1.notes ≡ s.notes ++ notes s
+  pub counts : (s : TypingState) → (p s).1.next ≡ s.next + count s
+  pub takes : (s : TypingState) (rest : List Note) → q (notes s ++ rest) ≡ (node s, rest)
+  pub numbers : (s : TypingState) → num (node s) ≡ range_with_len s.next (count s)
 
 -- the same, where the last note has the number n
-pub record Closes {A B : Type 0} (n : ExprNo) (p : Judges A) (q : Takes B) (num : B → List ℕ) (own : B → Note) : Type 0 where
+pub record Closes {A B : Type 0} (n : ExprNo) (p : Judges A) (q : NoteTaker B) (num : B → List ℕ) (own : B → Note) : Type 0 where
   pub follows : Follows p q num
-  pub own_number : (s : State) → (own (follows.node s)).number ≡ Some n
+  pub own_number : (s : TypingState) → (own (follows.node s)).number ≡ Some n
 
 range_more : (a m n : ℕ) → range_with_len a (m + n) ≡ range_with_len a m ++ range_with_len (a + m) n
 range_more a zero n = ap (range_with_len a) (let z : 0 + n ≡ n = omega arith in z) ∙ ap (λ k. range_with_len k n) (let z : a ≡ a + 0 = omega arith in z)
@@ -178,7 +178,7 @@ one_mark a = record {
   numbers = λ s. refl;
 }
 
-pub both : {A B C D : Type 0} {num : C → List ℕ} {more : D → List ℕ} {p : Judges A} {f : A → Judges B} {q : Takes C} {r : Takes D}
+pub both : {A B C D : Type 0} {num : C → List ℕ} {more : D → List ℕ} {p : Judges A} {f : A → Judges B} {q : NoteTaker C} {r : NoteTaker D}
     → Follows p q num → ((a : A) → Follows (f a) r more) → Follows (p >>= f) (q & r) (λ (x : C × D). num x.0 ++ more x.1)
 both {C = C} {D = D} {more = more} {p = p} {q = q} {r = r} a b = record {
   notes = λ s. a.notes s ++ (b (p s).0).notes (p s).1;
@@ -196,7 +196,7 @@ both {C = C} {D = D} {more = more} {p = p} {q = q} {r = r} a b = record {
 }
 
 -- parts, and then the note of a node without a number
-pub closed : {A B C : Type 0} {num : C → List ℕ} {p : Judges A} {f : A → Judges B} {q : Takes C} → Follows p q num → ((a : A) → Marks (f a)) → Follows (p >>= f) (q & next_note) (λ (x : C × Note). num x.0)
+pub closed : {A B C : Type 0} {num : C → List ℕ} {p : Judges A} {f : A → Judges B} {q : NoteTaker C} → Follows p q num → ((a : A) → Marks (f a)) → Follows (p >>= f) (q & next_note) (λ (x : C × Note). num x.0)
 closed {C = C} {p = p} {q = q} a b = record {
   notes = λ s. a.notes s ++ (b (p s).0).note (p s).1 ∷ [];
   node = λ s. (a.node s, (b (p s).0).note (p s).1);
@@ -208,7 +208,7 @@ closed {C = C} {p = p} {q = q} a b = record {
 }
 
 -- the same, with the number of its note, which is none
-pub behind : {A B C : Type 0} {num : C → List ℕ} {p : Judges A} {f : A → Judges B} {q : Takes C} → Follows p q num → ((a : A) → Marks (f a)) → Follows (p >>= f) (q & next_note) (λ (x : C × Note). number x.1 ++ num x.0)
+pub behind : {A B C : Type 0} {num : C → List ℕ} {p : Judges A} {f : A → Judges B} {q : NoteTaker C} → Follows p q num → ((a : A) → Marks (f a)) → Follows (p >>= f) (q & next_note) (λ (x : C × Note). number x.1 ++ num x.0)
 unfolding closed
 behind {num = num} {p = p} a b = record {
   notes = (closed a b).notes;
@@ -221,7 +221,7 @@ behind {num = num} {p = p} a b = record {
 }
 
 -- the same, where the node has the number n
-pub last : {A B C : Type 0} {n : ExprNo} {num : C → List ℕ} {p : Judges A} {f : A → Judges B} {q : Takes C} → Follows p q num → ((a : A) → Answers n (f a)) → Closes n (p >>= f) (q & next_note) (λ (x : C × Note). num x.0) (λ (x : C × Note). x.1)
+pub last : {A B C : Type 0} {n : ExprNo} {num : C → List ℕ} {p : Judges A} {f : A → Judges B} {q : NoteTaker C} → Follows p q num → ((a : A) → Answers n (f a)) → Closes n (p >>= f) (q & next_note) (λ (x : C × Note). num x.0) (λ (x : C × Note). x.1)
 last {C = C} {p = p} {q = q} a b = record {
   follows = record {
     notes = λ s. a.notes s ++ (b (p s).0).note (p s).1 ∷ [];
@@ -236,7 +236,7 @@ last {C = C} {p = p} {q = q} a b = record {
 }
 
 -- a part before those of such a node
-pub part : {A B C D : Type 0} {n : ExprNo} {num : C → List ℕ} {more : D → List ℕ} {own : D → Note} {p : Judges A} {f : A → Judges B} {q : Takes C} {r : Takes D}
+pub part : {A B C D : Type 0} {n : ExprNo} {num : C → List ℕ} {more : D → List ℕ} {own : D → Note} {p : Judges A} {f : A → Judges B} {q : NoteTaker C} {r : NoteTaker D}
     → Follows p q num → ((a : A) → Closes n (f a) r more own) → Closes n (p >>= f) (q & r) (λ (x : C × D). num x.0 ++ more x.1) (λ (x : C × D). own x.1)
 unfolding both
 part {p = p} a b = record {
@@ -245,7 +245,7 @@ part {p = p} a b = record {
 }
 
 -- the number is taken before the parts
-pub numbered : {A B : Type 0} {num : B → List ℕ} {own : B → Note} {f : ExprNo → Judges A} {q : Takes B} → ((n : ExprNo) → Closes n (f n) q num own) → Follows (fresh >>= f) q (λ (b : B). number (own b) ++ num b)
+pub numbered : {A B : Type 0} {num : B → List ℕ} {own : B → Note} {f : ExprNo → Judges A} {q : NoteTaker B} → ((n : ExprNo) → Closes n (f n) q num own) → Follows (fresh >>= f) q (λ (b : B). number (own b) ++ num b)
 numbered {num = num} {own = own} b = record {
   notes = λ s. (b (fresh s).0).follows.notes (fresh s).1;
   node = λ s. (b (fresh s).0).follows.node (fresh s).1;
@@ -270,7 +270,7 @@ alone b = record {
   numbers = λ s. ap number_if ((b (fresh s).0).number (fresh s).1);
 }
 
-pub before : {A B C : Type 0} {num : C → List ℕ} {p : Judges A} {f : A → Judges B} {q : Takes C} → Quiet p → ((a : A) → Follows (f a) q num) → Follows (p >>= f) q num
+pub before : {A B C : Type 0} {num : C → List ℕ} {p : Judges A} {f : A → Judges B} {q : NoteTaker C} → Quiet p → ((a : A) → Follows (f a) q num) → Follows (p >>= f) q num
 before {p = p} a b = record {
   notes = λ s. (b (p s).0).notes (p s).1;
   node = λ s. (b (p s).0).node (p s).1;
@@ -281,7 +281,7 @@ before {p = p} a b = record {
   numbers = λ s. (b (p s).0).numbers (p s).1 ∙ ap (λ k. range_with_len k ((b (p s).0).count (p s).1)) (a.next s);
 }
 
-pub after : {A B C : Type 0} {num : C → List ℕ} {p : Judges A} {f : A → Judges B} {q : Takes C} → Follows p q num → ((a : A) → Quiet (f a)) → Follows (p >>= f) q num
+pub after : {A B C : Type 0} {num : C → List ℕ} {p : Judges A} {f : A → Judges B} {q : NoteTaker C} → Follows p q num → ((a : A) → Quiet (f a)) → Follows (p >>= f) q num
 after {p = p} a b = record {
   notes = a.notes;
   node = a.node;
@@ -292,15 +292,15 @@ after {p = p} a b = record {
   numbers = a.numbers;
 }
 
-pub before_closing : {A B C : Type 0} {n : ExprNo} {num : C → List ℕ} {own : C → Note} {p : Judges A} {f : A → Judges B} {q : Takes C} → Quiet p → ((a : A) → Closes n (f a) q num own) → Closes n (p >>= f) q num own
+pub before_closing : {A B C : Type 0} {n : ExprNo} {num : C → List ℕ} {own : C → Note} {p : Judges A} {f : A → Judges B} {q : NoteTaker C} → Quiet p → ((a : A) → Closes n (f a) q num own) → Closes n (p >>= f) q num own
 unfolding before
 before_closing {p = p} a b = record { follows = before a (λ x. (b x).follows); own_number = λ s. (b (p s).0).own_number (p s).1 }
 
-pub inside : {A B : Type 0} {num : B → List ℕ} {p : Judges A} {q : Takes B} → Follows p q num → Follows (scoped p) q num
+pub inside : {A B : Type 0} {num : B → List ℕ} {p : Judges A} {q : NoteTaker B} → Follows p q num → Follows (scoped p) q num
 inside a = record { notes = a.notes; node = a.node; count = a.count; writes = a.writes; counts = a.counts; takes = a.takes; numbers = a.numbers }
 
 -- the node is made of what is taken
-pub made : {A B C : Type 0} {num : B → List ℕ} {p : Judges A} {q : Takes B} (whole : C → List ℕ) → Follows p q num → (f : B → C) → ((b : B) → whole (f b) ≡ num b) → Follows p (changed f q) whole
+pub made : {A B C : Type 0} {num : B → List ℕ} {p : Judges A} {q : NoteTaker B} (whole : C → List ℕ) → Follows p q num → (f : B → C) → ((b : B) → whole (f b) ≡ num b) → Follows p (changed f q) whole
 made {B = B} whole a f same = record {
   notes = a.notes;
   node = λ s. f (a.node s);

@@ -9,7 +9,7 @@ use Rattle.qvt_metamodel.specs.Metamodels.{Metamodels}
 use Rattle.qvt_tree_types.specs.Tree.{TypeTerm}
 use Rattle.qvt_tree_types.specs.Module.{ModuleTerm, HelperTerm, MappingTerm, UnitTerm, ClassOf, MainOf, HelperOf, ConstructorOf, MappingOf}
 use Rattle.qvt_tree_types.specs.declared.module.ResultDecl.{ResultDecl}
-use Rattle.qvt_types_data.specs.declared.refusal.Refusal.{Refusal}
+use Rattle.qvt_types_data.specs.declared.refusal.TypingRefusal.{TypingRefusal}
 use Rattle.qvt_types_data.specs.declared.refusal.RefusalKind.{RefusalKind}
 use Rattle.qvt_types_data.specs.declared.ty.Ty.{Ty}
 use Rattle.qvt_types_paths.specs.ModelTypes.{NamedTypes, type_names, model_types_told}
@@ -47,7 +47,7 @@ context_known : (m : Metamodels) (t : NamedTypes) (at : Place) (path : List (Lis
 unfolding told.context_told signatures.context_of
 context_known m t at path e = front_known m t at (signatures.front_of path) e
 
-found_some : (r : Result Ty Refusal) → told.type_told r ≡ [] → SomeTy (signatures.found r)
+found_some : (r : Result Ty TypingRefusal) → told.type_told r ≡ [] → SomeTy (signatures.found r)
 found_some (Ok t) e = refl
 found_some (Err told) e = absurd (cc)
 

@@ -14,7 +14,7 @@ use Rattle.qvt_types_data.specs.declared.variable.Variable.{Variable}
 use Rattle.qvt_types_states.specs.Judge.{Judges, ◌>>=◌, gives, fresh, scope, in_scope, add_source, scoped, tell, checked, declare, settled, write, answers, marks, writes_nothing}
 use Rattle.qvt_types_states.specs.Scopes.{ScopeTerm, is_known, with_named}
 use Rattle.qvt_types_states.specs.declared.scope.Known.{Known}
-use Rattle.qvt_types_states.specs.declared.state.State.{State}
+use Rattle.qvt_types_states.specs.declared.state.TypingState.{TypingState}
 use Rattle.qvt_typed_laws.specs.Typed.{is_typed_note, is_model}
 use Rattle.qvt_typed_laws.proofs.Every.{Every, every_last, every_front}
 
@@ -37,14 +37,14 @@ pub record TypedScope (s : ScopeTerm) : Type 0 where
   pub named : Every TypedName s.named
   pub sources : Every TypedSource s.sources
 
-pub record Tidy (s : State) : Type 0 where
+pub record Tidy (s : TypingState) : Type 0 where
   pub scope : TypedScope s.scope
   pub notes : Every TypedNote s.notes
 
 -- where P holds and nothing is told in the end: what was tidy stays so, and Q holds of what is given; what is told stays told
 pub record Keeps (P : Type 0) {A : Type 0} (Q : A → Type 0) (p : Judges A) : Type 0 where
-  pub back : (s : State) → (p s).1.log ≡ [] → s.log ≡ []
-  pub on : P → (s : State) → Tidy s → (p s).1.log ≡ [] → Tidy (p s).1 × Q (p s).0
+  pub back : (s : TypingState) → (p s).1.log ≡ [] → s.log ≡ []
+  pub on : P → (s : TypingState) → Tidy s → (p s).1.log ≡ [] → Tidy (p s).1 × Q (p s).0
 
 pub weak : {P P' A : Type 0} {Q : A → Type 0} {p : Judges A} → (P' → P) → Keeps P Q p → Keeps P' Q p
 weak f a = record { back = a.back; on = λ h. a.on (f h) }

@@ -21,7 +21,7 @@ use Rattle.qvt_types_data.specs.declared.variable.VariableSort.TheVariants as so
 use Rattle.qvt_types_states.specs.Judge.{Judges, in_scope, tell, declare}
 use Rattle.qvt_types_states.specs.Scopes.{found, is_known, with_named}
 use Rattle.qvt_types_states.specs.declared.scope.Known.{Known}
-use Rattle.qvt_types_states.specs.declared.state.State.{State}
+use Rattle.qvt_types_states.specs.declared.state.TypingState.{TypingState}
 use Rattle.qvt_types_steps.specs.Classes as classes
 use Rattle.qvt_types_steps.specs.Iterators as iterators
 use Rattle.qvt_types_steps.specs.Resolving as resolving
@@ -37,7 +37,7 @@ use Rattle.qvt_types_units.specs.Numbers.{unit_at}
 use Rattle.qvt_types_units.specs.Reuse.{listed}
 use Rattle.qvt_types_words.specs.Rulings as ruling
 use Rattle.qvt_types_words.specs.Types.{conforms}
-use Rattle.qvt_typing.specs.Context.{Context}
+use Rattle.qvt_typing.specs.Context.{TypingContext}
 use Rattle.qvt_typing.specs.Names as names
 use Rattle.qvt_typing.specs.Rules as rule
 use Rattle.qvt_typing.specs.declared.parts.Effect.TheVariants.{PureOne, ImpureOne}
@@ -69,7 +69,7 @@ declared_new name k at f = record {
   on = λ h s t e. (((declaring name k at f).on h s t e).0, new_name name k at s e);
 }
   where
-    new_name : (name : List ℕ) (k : Known) (at : Place) (s : State) → (declare name k at s).1.log ≡ [] → not (is_known name s.scope) ≡ true
+    new_name : (name : List ℕ) (k : Known) (at : Place) (s : TypingState) → (declare name k at s).1.log ≡ [] → not (is_known name s.scope) ≡ true
     new_name name k at s e = by (is_known name s.scope) e
       where
         by : (b : Bool) → ((if b then tell refusal.SameName at else in_scope (with_named name k)) s).1.log ≡ [] → not b ≡ true
@@ -123,7 +123,7 @@ untold heading.Missing o k e = e
 untold heading.Plain o k e = e
 untold (heading.Folding t) o k e = e
 
-module _ (x : Context) where
+module _ (x : TypingContext) where
   pub plain_heading : {P : Type 0} (v : List ℕ) {p : Judges Given} (at : Place) → Keeps P HasType p → Heads P (rule.plain_heading x v p at)
   unfolding rule.plain_heading
   plain_heading v at a items = next (weak (λ h. h.0) a) (λ k. next (checking (iterators.iterator_wrong x.heads.metas k.is_given k.ty items) at) (λ u. next (declared_new v (rule.iterator_known k items) at (λ h. known_some k items h.0.1 h.0.0.1)) (λ b. next blank (λ w.
@@ -226,7 +226,7 @@ behind joint.Sourceless o h = tt
 behind joint.Dot o h = h
 behind joint.Arrow o h = h
 
-module _ (x : Context) where
+module _ (x : TypingContext) where
   pub named_variable : {P : Type 0} (name : List ℕ) (at : Place) → Keeps P TypedVariable (rule.named_variable x name at)
   unfolding rule.named_variable
   named_variable name at = next looked (λ s. next (settled_solid (rule.settable_ruled name (found name s)) at (λ h. rulings.settable_solid name (found name s) (λ k e. rulings.found_some name s h.1 k e)))

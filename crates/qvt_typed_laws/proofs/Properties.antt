@@ -12,7 +12,7 @@ use Rattle.qvt_metamodel.specs.declared.info.ClassInfo.{ClassInfo}
 use Rattle.qvt_metamodel.specs.declared.info.FeatureShape.{FeatureShape}
 use Rattle.qvt_meta_tables.specs.Tables.{of_classes}
 use Rattle.qvt_tree_types.specs.Module.{TypedName, ClassTerm, UnitTerm, ClassOf, MainOf, HelperOf, ConstructorOf, MappingOf}
-use Rattle.qvt_types_data.specs.declared.refusal.Refusal.{Refusal}
+use Rattle.qvt_types_data.specs.declared.refusal.TypingRefusal.{TypingRefusal}
 use Rattle.qvt_types_data.specs.declared.refusal.RefusalKind.TheVariants.{SameName}
 use Rattle.qvt_types_paths.specs.ModelTypes.{NamedTypes, class_name}
 use Rattle.qvt_types_paths.specs.Told.{told_if}
@@ -40,7 +40,7 @@ TypedClass d = Every TypedProperty d.properties
 
 -- As they are written.
 
-property_typed : (name : List ℕ) (at : Place) (r : Result FeatureShape Refusal) → written.property_told r ≡ [] → TypedProperty (written.property name at r)
+property_typed : (name : List ℕ) (at : Place) (r : Result FeatureShape TypingRefusal) → written.property_told r ≡ [] → TypedProperty (written.property name at r)
 property_typed name at (Ok s) e = refl
 property_typed name at (Err told) e = absurd (cc)
 

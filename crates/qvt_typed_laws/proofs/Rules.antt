@@ -29,7 +29,7 @@ use Rattle.qvt_types_steps.specs.declared.classes.ModelCall.{ModelCall}
 use Rattle.qvt_types_steps.specs.declared.classes.ModelCall.TheVariants as model_call
 use Rattle.qvt_types_words.specs.Rulings as ruling
 use Rattle.qvt_typing.specs.Calls as calls
-use Rattle.qvt_typing.specs.Context.{Context, unless_untyped}
+use Rattle.qvt_typing.specs.Context.{TypingContext, unless_untyped}
 use Rattle.qvt_typing.specs.Names as names
 use Rattle.qvt_typing.specs.Rules as rule
 use Rattle.qvt_typing.specs.Statements.{has_type}
@@ -64,16 +64,16 @@ marked_some r f = with (marking r) (λ o h e. subst SomeTy (sym e) (f h))
 pub marked_any : {P : Type 0} (r : Read) → Keeps P Anything (marks r)
 marked_any r = with (marking r) (λ o h e. tt)
 
-pub effect : {P : Type 0} (x : Context) (e : Effect) (r : Read) (at : Place) → Keeps P Anything (rule.effect_told x e r at)
+pub effect : {P : Type 0} (x : TypingContext) (e : Effect) (r : Read) (at : Place) → Keeps P Anything (rule.effect_told x e r at)
 effect x e r at = either (is_some r.answer) (next (checked_any (calls.not_pure x e) at) (λ u. checked_any (calls.not_plain x e) at)) (given tt (λ h. tt))
 
-pub ruled : {P : Type 0} (x : Context) (n : ExprNo) (w : Ruling) (e : Effect) (at : Place) → (P → Solid w) → Keeps P SomeTy (rule.ruled x n w e at)
+pub ruled : {P : Type 0} (x : TypingContext) (n : ExprNo) (w : Ruling) (e : Effect) (at : Place) → (P → Solid w) → Keeps P SomeTy (rule.ruled x n w e at)
 ruled x n w e at f = next (settled_solid w at f) (λ r. next (effect x e r at) (λ u. answered n r (λ h. h.0.1)))
 
-pub ruled_readable : {P : Type 0} (x : Context) (n : ExprNo) (w : Ruling) (e : Effect) (at : Place) → (P → Readable w) → Keeps P Anything (rule.ruled x n w e at)
+pub ruled_readable : {P : Type 0} (x : TypingContext) (n : ExprNo) (w : Ruling) (e : Effect) (at : Place) → (P → Readable w) → Keeps P Anything (rule.ruled x n w e at)
 ruled_readable x n w e at f = next (settled_readable w at f) (λ r. next (effect x e r at) (λ u. with (answering n r (λ h. h.0.1)) (λ o h e. tt)))
 
-pub stepped : {P : Type 0} (x : Context) (w : Ruling) (e : Effect) (at : Place) → (P → Solid w) → Keeps P SomeTy (rule.stepped x w e at)
+pub stepped : {P : Type 0} (x : TypingContext) (w : Ruling) (e : Effect) (at : Place) → (P → Solid w) → Keeps P SomeTy (rule.stepped x w e at)
 stepped x w e at f = next (settled_solid w at f) (λ r. next (effect x e r at) (λ u. marked_some r (λ h. h.0.1)))
 
 pub settled_bare : {P : Type 0} (w : Ruling) (at : Place) → (P → Solid w) → Keeps P SomeTy (rule.settled_bare w at)
@@ -137,7 +137,7 @@ single a = next a (λ o. next blank (λ u. given o (λ h. h.0.1)))
 pub constant : {P : Type 0} (t : Ty) → Keeps P SomeTy (rule.constant t)
 constant t = next numbered (λ n. answered n (plain reading.Nothing (Some t)) (λ h. refl))
 
-pub named_type : {P : Type 0} (x : Context) (p : PathTree) → Keeps P SomeTy (rule.named_type x p)
+pub named_type : {P : Type 0} (x : TypingContext) (p : PathTree) → Keeps P SomeTy (rule.named_type x p)
 unfolding rule.named_type
 named_type x p = next (settled_solid (names.type_ruled (path_type x.heads.given x.heads.types p.names)) p.place (λ h. rulings.type_solid (path_type x.heads.given x.heads.types p.names))) (λ r. marked_some r (λ h. h.1))
 
@@ -148,11 +148,11 @@ coll_some k (Some t) h = refl
 pub collection_type : {P : Type 0} (k : CollKind) {p : Judges (Option Ty)} → Keeps P SomeTy p → Keeps P SomeTy (rule.collection_type k p)
 collection_type k a = next a (λ o. marked_some (rule.coll_of k o) (λ h. coll_some k o h.1))
 
-pub named_class : {P : Type 0} (x : Context) (p : PathTree) → Keeps P IsClass (rule.named_class x p)
+pub named_class : {P : Type 0} (x : TypingContext) (p : PathTree) → Keeps P IsClass (rule.named_class x p)
 unfolding rule.named_class
 named_class x p = next (settling (names.class_ruled (path_class x.heads.given x.heads.types p.names)) p.place) (λ r. next (marking r) (λ o. given (names.class_found (path_class x.heads.given x.heads.types p.names)) (λ h. class_there (path_class x.heads.given x.heads.types p.names) h.0.1.untold)))
 
-pub class_given : {P : Type 0} (x : Context) (p : PathTree) → Keeps P IsClass (rule.class_given x p)
+pub class_given : {P : Type 0} (x : TypingContext) (p : PathTree) → Keeps P IsClass (rule.class_given x p)
 unfolding rule.class_given
 class_given x p = next numbered (λ n. next (settling (names.class_ruled (path_class x.heads.given x.heads.types p.names)) p.place) (λ r. next (answered n r (λ h. settled_some (names.class_ruled (path_class x.heads.given x.heads.types p.names)) r h.1 (rulings.class_solid (path_class x.heads.given x.heads.types p.names)))) (λ o. given (names.class_found (path_class x.heads.given x.heads.types p.names)) (λ h. class_there (path_class x.heads.given x.heads.types p.names) h.0.1.untold))))
   where
@@ -171,11 +171,11 @@ path_missing : (o : Option Ty) → SomeTy o → Typed (rule.no_path o)
 path_missing None h = absurd (false≢true h)
 path_missing (Some t) h = refl
 
-pub class_argument : {P : Type 0} (x : Context) (o : Option PathTree) {p : Judges (Option Ty)} → Keeps P SomeTy p → Keeps P Typed (rule.class_argument x o p)
+pub class_argument : {P : Type 0} (x : TypingContext) (o : Option PathTree) {p : Judges (Option Ty)} → Keeps P SomeTy p → Keeps P Typed (rule.class_argument x o p)
 class_argument x None a = next a (λ o. given (rule.no_path o) (λ h. path_missing o h.1))
 class_argument x (Some path) a = with (class_given x path) (λ c h k. class_typed c k)
 
-module _ {P : Type 0} (x : Context) (tx : P → TypedContext x) where
+module _ {P : Type 0} (x : TypingContext) (tx : P → TypedContext x) where
   -- Names, `self` and `result`.
 
   pub self_ref : (at : Place) → Keeps P SomeTy (rule.self_ref x at)

@@ -31,13 +31,13 @@ use Rattle.qvt_types_steps.specs.declared.classes.ClassPart.{ClassPart}
 use Rattle.qvt_types_steps.specs.declared.classes.ClassPart.TheVariants as part
 use Rattle.qvt_types_units.specs.Choice.{is_unknown, is_unsure, context_at, candidates, is_empty, is_ambiguous, chosen, chosen_of, looked_up, called_on}
 use Rattle.qvt_types_units.specs.Numbers.{unit_at, group, constructor_of}
-use Rattle.qvt_types_units.specs.declared.choice.Found.{Found}
-use Rattle.qvt_types_units.specs.declared.choice.Found.TheVariants.{NoUnit, Untyped, Unclear, Chosen}
+use Rattle.qvt_types_units.specs.declared.choice.FoundUnit.{FoundUnit}
+use Rattle.qvt_types_units.specs.declared.choice.FoundUnit.TheVariants.{NoUnit, Untyped, Unclear, Chosen}
 use Rattle.qvt_types_units.specs.declared.signature.HeadClass.{HeadClass}
 use Rattle.qvt_types_units.specs.declared.signature.HeadClass.TheVariants as head
 use Rattle.qvt_value.specs.declared.value.LiteralRef.{LiteralRef}
 use Rattle.qvt_typing.specs.Calls as calls
-use Rattle.qvt_typing.specs.Context.{Context, Heads, is_typed_reading, unless_untyped}
+use Rattle.qvt_typing.specs.Context.{TypingContext, DeclaredHeads, is_typed_reading, unless_untyped}
 use Rattle.qvt_typing.specs.Names as names
 use Rattle.qvt_typing.specs.Rules as rule
 use Rattle.qvt_typing.specs.declared.parts.Called.{Called}
@@ -114,7 +114,7 @@ held_solid name missing part.Missing h = refl
 pub found_some : (name : List ℕ) (s : ScopeTerm) → TypedScope s → (k : Known) → found name s ≡ Some k → SomeTy k.ty
 found_some name s t k e = every_found (bytes_eq name) TypedName (λ k. SomeTy k.ty) (λ e h. h) s.named t.named k e
 
-module _ (h : Heads) (th : TypedHeads h) where
+module _ (h : DeclaredHeads) (th : TypedHeads h) where
   property_solid : (source : List ℕ) (f : FeatureNo) → Solid (property_of h.metas h.first h.flags source f)
   property_solid source f = by (is_typed h.first h.flags f.0) (th.properties f.0) (feature_type (shape_of h.metas f.0))
     where
@@ -188,11 +188,11 @@ module _ (h : Heads) (th : TypedHeads h) where
 
   -- Calls.
 
-  abbrev pub is_untyped_found : Found → Bool
+  abbrev pub is_untyped_found : FoundUnit → Bool
   is_untyped_found Untyped = true
   is_untyped_found f = false
 
-  abbrev pub TypedFound : Found → Type 0
+  abbrev pub TypedFound : FoundUnit → Type 0
   TypedFound f = is_untyped_found f ≡ false
 
   known_each : (ns : List ℕ) → Every (λ n. is_unknown (context_at h.units n) ≡ false) ns
@@ -210,11 +210,11 @@ module _ (h : Heads) (th : TypedHeads h) where
       chosen_typed false None = refl
       chosen_typed false (Some n) = refl
 
-      inner : (b : Bool) (f : Found) → TypedFound f → TypedFound (if b then NoUnit else f)
+      inner : (b : Bool) (f : FoundUnit) → TypedFound f → TypedFound (if b then NoUnit else f)
       inner true f k = refl
       inner false f k = k
 
-      by : (b : Bool) → b ≡ false → (f : Found) → TypedFound f → TypedFound (if b then Untyped else f)
+      by : (b : Bool) → b ≡ false → (f : FoundUnit) → TypedFound f → TypedFound (if b then Untyped else f)
       by true e f k = absurd (false≢true (sym e))
       by false e f k = k
 
@@ -244,13 +244,13 @@ module _ (h : Heads) (th : TypedHeads h) where
   behind_typed maps arrow name o k = sure_typed (group maps name h.units) _ (on_class_typed maps name (static_class arrow o) (static_typed arrow o k))
 
   from_typed : (maps : Bool) (name : List ℕ) (v : Variable) → SomeTy v.ty → TypedFound (calls.called_from h maps name v).found
-  from_typed maps name v k = on_class_typed maps name (calls.class_of v.ty) (by v.ty k)
+  from_typed maps name v k = on_class_typed maps name (calls.class_part_of v.ty) (by v.ty k)
     where
-      by : (o : Option Ty) → SomeTy o → Typed (calls.class_of o)
+      by : (o : Option Ty) → SomeTy o → Typed (calls.class_part_of o)
       by None e = absurd (false≢true e)
       by (Some t) e = class_in_typed t
 
-  unless_none_typed : (f : Found) (c d : Called) → TypedFound c.found → TypedFound d.found → TypedFound (calls.unless_none f c d).found
+  unless_none_typed : (f : FoundUnit) (c d : Called) → TypedFound c.found → TypedFound d.found → TypedFound (calls.unless_none f c d).found
   unless_none_typed NoUnit c d k l = l
   unless_none_typed Untyped c d k l = k
   unless_none_typed Unclear c d k l = k
@@ -272,7 +272,7 @@ module _ (h : Heads) (th : TypedHeads h) where
   fits None n f k = k n
   fits (Some kind) n f k = refl
 
-  called_solid : (found : Found) (us : Option (List Ty)) (f : ℕ → Ruling) → TypedFound found → is_some us ≡ true → ((n : ℕ) → Solid (f n)) → Solid (calls.or_ruled (calls.unit_called h found us) f)
+  called_solid : (found : FoundUnit) (us : Option (List Ty)) (f : ℕ → Ruling) → TypedFound found → is_some us ≡ true → ((n : ℕ) → Solid (f n)) → Solid (calls.or_ruled (calls.unit_called h found us) f)
   called_solid found None f k l m = l
   called_solid NoUnit (Some us) f k l m = refl
   called_solid Untyped (Some us) f k l m = sym k
@@ -305,7 +305,7 @@ has_no_type OfNone = true
 has_no_type NoVariable = false
 has_no_type (OfType t) = false
 
-pub object_solid : (x : Context) (v : ObjectVariable) (name : Option (List ℕ)) (c : ClassPart) → has_no_type v ≡ false → IsClass c → Solid (rule.object_ruled x v name c)
+pub object_solid : (x : TypingContext) (v : ObjectVariable) (name : Option (List ℕ)) (c : ClassPart) → has_no_type v ≡ false → IsClass c → Solid (rule.object_ruled x v name c)
 object_solid x v name part.Untyped h k = k
 object_solid x v name part.Missing h k = k
 object_solid x OfNone name (part.Class c) h k = sym h
@@ -316,12 +316,12 @@ unless_wrong_solid : (o : Option RefusalKind) (w : Ruling) → Solid w → Solid
 unless_wrong_solid None w h = h
 unless_wrong_solid (Some kind) w h = refl
 
-constructed_solid : (x : Context) (c : ClassNo) (name : Option (List ℕ)) (k : Option ℕ) (us : List Ty) → Solid (rule.constructed_by x c name k us)
+constructed_solid : (x : TypingContext) (c : ClassNo) (name : Option (List ℕ)) (k : Option ℕ) (us : List Ty) → Solid (rule.constructed_by x c name k us)
 constructed_solid x c name (Some k) us = unless_wrong_solid (arguments_wrong x.heads.metas (unit_at x.heads.units k).params us) (rule.made_in c (rule.extent_of x name c)) (made_solid c (rule.extent_of x name c))
 constructed_solid x c name None [] = made_solid c (rule.extent_of x name c)
 constructed_solid x c name None (u ∷ us) = refl
 
-pub new_solid : (x : Context) (name : Option (List ℕ)) (c : ClassPart) (us : Option (List Ty)) → IsClass c → is_some us ≡ true → Solid (rule.new_ruled x name c us)
+pub new_solid : (x : TypingContext) (name : Option (List ℕ)) (c : ClassPart) (us : Option (List Ty)) → IsClass c → is_some us ≡ true → Solid (rule.new_ruled x name c us)
 new_solid x name (part.Class c) (Some us) h k = constructed_solid x c name (constructor_of c.0 (length us) x.heads.units) us
 new_solid x name (part.Class c) None h k = k
 new_solid x name part.Untyped us h k = h

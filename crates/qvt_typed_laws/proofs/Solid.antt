@@ -19,7 +19,7 @@ use Rattle.qvt_types_data.specs.declared.ruling.Ruling.{Ruling}
 use Rattle.qvt_types_data.specs.declared.ruling.Ruling.TheVariants.{Holds, Fails, Silent}
 use Rattle.qvt_types_data.specs.declared.ty.Ty.{Ty}
 use Rattle.qvt_types_data.specs.declared.ty.Ty.TheVariants as ty
-use Rattle.qvt_types_steps.specs.Calls.{flattened, collected_over, collected, operation_read, counted, applied, dot_call, named_arity, is_single, source_of}
+use Rattle.qvt_types_steps.specs.Calls.{flattened, collected_over, collected, operation_read, counted, applied, dot_call, named_arity, is_single_type, source_of}
 use Rattle.qvt_types_steps.specs.Classes as classes
 use Rattle.qvt_types_steps.specs.Iterators as iterators
 use Rattle.qvt_types_steps.specs.Properties.{feature_read, feature_in, property}
@@ -182,7 +182,7 @@ selected name s (p ∷ q ∷ ps) h = refl
 
 pub selection : (name : List ℕ) (b : Bool) (o : Option Ty) (ps : List ClassPart) → SomeTy o → list_any classes.is_untyped ps ≡ false → Solid (classes.selection name b o ps)
 selection name b None ps h k = h
-selection name b (Some t) ps h k = unless_any (list_any classes.is_untyped ps) _ k (wrapped (is_single t) _ (solid_if b _ _ refl (selected name (source_of t) ps k)))
+selection name b (Some t) ps h k = unless_any (list_any classes.is_untyped ps) _ k (wrapped (is_single_type t) _ (solid_if b _ _ refl (selected name (source_of t) ps k)))
 
 pub model_objects : (name : List ℕ) (element : ClassNo) (us : Option (List Ty)) → is_some us ≡ true → Solid (classes.model_objects name element us)
 model_objects name element None h = h
@@ -213,7 +213,7 @@ arrowed m name None h s us = solid_if (iterators.is_missing h) _ _ (apply m name
 pub arrow : (m : Metamodels) (name : List ℕ) (h : Heading) (o : Option Ty) (us : Option (List Ty)) → iterators.is_untyped h ≡ false → SomeTy o → is_some us ≡ true → Solid (iterators.arrow m name h o us)
 arrow m name h None us g k l = k
 arrow m name h (Some t) None g k l = l
-arrow m name h (Some t) (Some us) g k l = unless_any (iterators.is_untyped h) _ g (wrapped (is_single t) _ (arrowed m name (iterator_named name) h (source_of t) us))
+arrow m name h (Some t) (Some us) g k l = unless_any (iterators.is_untyped h) _ g (wrapped (is_single_type t) _ (arrowed m name (iterator_named name) h (source_of t) us))
 
 -- Resolves.
 
@@ -236,7 +236,7 @@ resolve joint.Sourceless w o c h k = looked_for w c k
 resolve joint.Dot w None c h k = h
 resolve joint.Dot w (Some t) c h k = resolve_over w t c k
 resolve joint.Arrow w None c h k = h
-resolve joint.Arrow w (Some t) c h k = wrapped (is_single t) _ (resolve_over w t c k)
+resolve joint.Arrow w (Some t) c h k = wrapped (is_single_type t) _ (resolve_over w t c k)
 
 -- Calls of units.
 
@@ -247,7 +247,7 @@ stepped_unit (Some t) r (Some a) h k = collect t (Holds (plain r (Some a))) refl
 
 mapped_solid : (arrow : Bool) (t : Ty) (r : Reading) (a : Ty) → Solid (mapped arrow t r a)
 mapped_solid true t r a = refl
-mapped_solid false t r a = solid_if (is_single t) _ _ refl refl
+mapped_solid false t r a = solid_if (is_single_type t) _ _ refl refl
 
 pub stepped_mapping : (arrow : Bool) (o : Option Ty) (r : Reading) (a : Option Ty) → SomeTy o → SomeTy a → Solid (mapping_step arrow o r a)
 stepped_mapping arrow None r a h k = h

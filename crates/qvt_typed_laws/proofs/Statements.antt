@@ -10,7 +10,7 @@ use Rattle.qvt_types_data.specs.declared.variable.VariableSort.TheVariants as so
 use Rattle.qvt_types_states.specs.Judge.{Judges, gives}
 use Rattle.qvt_types_steps.specs.Iterators as iterators
 use Rattle.qvt_types_words.specs.Rulings as ruling
-use Rattle.qvt_typing.specs.Context.{Context}
+use Rattle.qvt_typing.specs.Context.{TypingContext}
 use Rattle.qvt_typing.specs.Statements.{has_type}
 use Rattle.qvt_typing.specs.declared.parts.Given.{Given}
 use Rattle.qvt_typed_laws.proofs.Every.{Every, first, others}
@@ -54,7 +54,7 @@ items_some : (o : Option Ty) → SomeTy o → SomeTy (iterators.item_type o)
 items_some None h = h
 items_some (Some t) h = refl
 
-module _ (x : Context) where
+module _ (x : TypingContext) where
   pub block : {P : Type 0} {ps : List (Judges (Unit {0}))} → Every (Keeps P Anything) ps → Keeps P Anything (rule_of.block x ps)
   unfolding rule_of.block
   block {ps = ps} k = inside (each ps k)

@@ -3,9 +3,9 @@ use Rattle.std.proofs.Common.{◌≡◌, true, List, [], ◌∷◌}
 use Rattle.std.specs.List.{list_all}
 use Rattle.qvt_metamodel.specs.Metamodels.{Metamodels}
 use Rattle.qvt_tree_types.specs.Module.{ModuleTerm}
-use Rattle.qvt_types_data.specs.declared.refusal.Refusal.{Refusal}
+use Rattle.qvt_types_data.specs.declared.refusal.TypingRefusal.{TypingRefusal}
 use Rattle.qvt_typing.specs.Accepts.{heads_of, heads_told, bare_notes, whole, start, judged}
-use Rattle.qvt_typing.specs.Context.{Heads}
+use Rattle.qvt_typing.specs.Context.{DeclaredHeads}
 use Rattle.qvt_typed_laws.specs.Typed.{is_typed_note}
 use Rattle.qvt_typed_laws.proofs.Contexts.{TypedHeads}
 use Rattle.qvt_typed_laws.proofs.Every.{none, every_all}
@@ -17,10 +17,10 @@ blanks : {A P : Type 0} (all : List A) → Keeps P Anything (bare_notes all)
 blanks [] = given tt (λ h. tt)
 blanks (a ∷ all) = next blank (λ u. blanks all)
 
-kept : (h : Heads) (t : ModuleTerm) → Keeps (TypedHeads h) Anything (whole h t)
+kept : (h : DeclaredHeads) (t : ModuleTerm) → Keeps (TypedHeads h) Anything (whole h t)
 kept h t = next (blanks t.model_types) (λ u. next (blanks t.params) (λ v. weak (λ k. k.0.0) (units h 0 t.units)))
 
-at_the_start : (told : List Refusal) → Tidy (start told)
+at_the_start : (told : List TypingRefusal) → Tidy (start told)
 at_the_start told = record { scope = record { named = none; sources = none }; notes = none }
 
 -- what is told of the heads stays told

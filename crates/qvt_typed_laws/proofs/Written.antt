@@ -12,7 +12,7 @@ use Rattle.qvt_types_data.specs.declared.note.Reading.TheVariants as reading
 use Rattle.qvt_types_data.specs.declared.ruling.Read.{Read}
 use Rattle.qvt_types_data.specs.declared.ruling.Ruling.{Ruling}
 use Rattle.qvt_types_data.specs.declared.ty.Ty.{Ty}
-use Rattle.qvt_types_laws.specs.Join.{Takes, next_note, join_signs}
+use Rattle.qvt_types_laws.specs.Join.{NoteTaker, next_note, join_signs}
 use Rattle.qvt_types_paths.specs.Paths.{path_type, path_class, element_no}
 use Rattle.qvt_types_states.specs.Judge.{Judges}
 use Rattle.qvt_types_steps.specs.Calls.{dot_call}
@@ -25,7 +25,7 @@ use Rattle.qvt_types_steps.specs.declared.classes.ModelCall.TheVariants as model
 use Rattle.qvt_types_steps.specs.declared.classes.ModelCall.{ModelCall}
 use Rattle.qvt_types_words.specs.Rulings as ruling
 use Rattle.qvt_typing.specs.Calls as calls
-use Rattle.qvt_typing.specs.Context.{Context, unless_untyped}
+use Rattle.qvt_typing.specs.Context.{TypingContext, unless_untyped}
 use Rattle.qvt_typing.specs.Names as names
 use Rattle.qvt_typing.specs.Rules as rule
 use Rattle.qvt_typing.specs.declared.parts.Effect.TheVariants.{PlainOne, ImpureOne}
@@ -33,7 +33,7 @@ use Rattle.qvt_typing.specs.declared.parts.Effect.{Effect}
 use Rattle.std.proofs.Common.{refl, ℕ, Bool, true, false, List, [], ◌∷◌, ◌++◌, Option, Some, None}
 use Rattle.std.specs.Prelude.{is_some, if◌then◌else◌}
 
-module _ (x : Context) where
+module _ (x : TypingContext) where
   pub effect : (e : Effect) (r : Read) (at : Place) → Quiet (rule.effect_told x e r at)
   effect e r at = either (is_some r.answer) (quietly (checking (calls.not_pure x e) at) (λ u. checking (calls.not_plain x e) at)) (given tt)
 
@@ -53,7 +53,7 @@ settled_bare w at = before_mark (settling w at) (λ r. after_mark blank (λ u. g
 pub stands_as : (n : ExprNo) (o : Option Ty) → Answers n (rule.stands_as n o)
 stands_as n o = answering n (plain reading.Nothing o)
 
-pub is_written : {B : Type 0} {num : B → List ℕ} {p : Judges (Option Ty)} {q : Takes B} → Follows p q num → Follows (rule.is_written p) q num
+pub is_written : {B : Type 0} {num : B → List ℕ} {p : Judges (Option Ty)} {q : NoteTaker B} → Follows p q num → Follows (rule.is_written p) q num
 is_written a = after a (λ o. given (record { is_given = true; ty = o }))
 
 -- Types and classes.
@@ -61,32 +61,32 @@ is_written a = after a (λ o. given (record { is_given = true; ty = o }))
 pub constant : (t : Ty) → Follows (rule.constant t) next_note number
 constant t = alone (λ n. answering n (plain reading.Nothing (Some t)))
 
-pub named_type : (x : Context) (p : PathTree) → Marks (rule.named_type x p)
+pub named_type : (x : TypingContext) (p : PathTree) → Marks (rule.named_type x p)
 unfolding rule.named_type
 named_type x p = before_mark (settling (names.type_ruled (path_type x.heads.given x.heads.types p.names)) p.place) (λ r. marking r)
 
-pub collection_type : {B : Type 0} {num : B → List ℕ} (k : CollKind) {p : Judges (Option Ty)} {q : Takes B} → Follows p q num → Follows (rule.collection_type k p) (q & next_note) (λ b. num b.0)
+pub collection_type : {B : Type 0} {num : B → List ℕ} (k : CollKind) {p : Judges (Option Ty)} {q : NoteTaker B} → Follows p q num → Follows (rule.collection_type k p) (q & next_note) (λ b. num b.0)
 collection_type k a = closed a (λ o. marking (rule.coll_of k o))
 
-pub named_class : (x : Context) (p : PathTree) → Marks (rule.named_class x p)
+pub named_class : (x : TypingContext) (p : PathTree) → Marks (rule.named_class x p)
 unfolding rule.named_class
 named_class x p = before_mark (settling (names.class_ruled (path_class x.heads.given x.heads.types p.names)) p.place) (λ r. after_mark (marking r) (λ o. given (names.class_found (path_class x.heads.given x.heads.types p.names))))
 
-pub class_given : (x : Context) (p : PathTree) → Follows (rule.class_given x p) next_note number
+pub class_given : (x : TypingContext) (p : PathTree) → Follows (rule.class_given x p) next_note number
 unfolding rule.class_given
 class_given x p = alone (λ n. before_answer (settling (names.class_ruled (path_class x.heads.given x.heads.types p.names)) p.place) (λ r. after_answer (answering n r) (λ o. given (names.class_found (path_class x.heads.given x.heads.types p.names)))))
 
-pub no_class : {B : Type 0} {num : B → List ℕ} {p : Judges (Option Ty)} {q : Takes B} (at : Place) → Follows p q num → Follows (rule.no_class p at) q num
+pub no_class : {B : Type 0} {num : B → List ℕ} {p : Judges (Option Ty)} {q : NoteTaker B} (at : Place) → Follows p q num → Follows (rule.no_class p at) q num
 no_class at a = after a (λ o. quietly (checking (rule.no_class_told o) at) (λ u. given part.Untyped))
 
-pub class_missing : {B : Type 0} {num : B → List ℕ} {p : Judges (Option Ty)} {q : Takes B} → Follows p q num → Follows (rule.class_missing p) q num
+pub class_missing : {B : Type 0} {num : B → List ℕ} {p : Judges (Option Ty)} {q : NoteTaker B} → Follows p q num → Follows (rule.class_missing p) q num
 class_missing a = after a (λ o. given (rule.no_path o))
 
 pub sign_notes : (ss : List Sign) → Follows (rule.sign_notes ss) (join_signs ss) no_number
 sign_notes [] = nothing [] refl (given tt)
 sign_notes (s ∷ ss) = made no_number (both (one_mark blank) (λ u. sign_notes ss)) (λ b. record { op = s.op; place = s.place; note = b.0 } ∷ b.1) (λ b. refl)
 
-module _ (x : Context) where
+module _ (x : TypingContext) where
   pub self_ref : (at : Place) → Follows (rule.self_ref x at) next_note number
   unfolding rule.self_ref
   self_ref at = alone (λ n. ruled x n (names.self_ruled x.self) PlainOne at)
@@ -110,12 +110,12 @@ module _ (x : Context) where
   unfolding rule.property_step
   property_step name at o = stepped x (unless_untyped x.heads (property x.heads.metas name o)) PlainOne at
 
-  module _ {B C D : Type 0} {num : B → List ℕ} {more : C → List ℕ} {most : D → List ℕ} {q : Takes B} {r : Takes C} {t : Takes D} where
+  module _ {B C D : Type 0} {num : B → List ℕ} {more : C → List ℕ} {most : D → List ℕ} {q : NoteTaker B} {r : NoteTaker C} {t : NoteTaker D} where
     pub conditional : {a b c : Judges (Option Ty)} (at : Place) → Follows a q num → Follows b r more → Follows c t most → Follows (rule.conditional x a b c at) (q & (r & (t & next_note))) (λ y. number y.1.1.1 ++ (num y.0 ++ (more y.1.0 ++ most y.1.1.0)))
     unfolding rule.conditional
     conditional at a b c = numbered (λ n. part a (λ u. part b (λ v. last c (λ w. ruled x n (ruling.conditional x.heads.metas u v w) PlainOne at))))
 
-  module _ {B C : Type 0} {num : B → List ℕ} {more : C → List ℕ} {q : Takes B} {r : Takes C} where
+  module _ {B C : Type 0} {num : B → List ℕ} {more : C → List ℕ} {q : NoteTaker B} {r : NoteTaker C} where
     pub chain : {a : Judges (Option Ty)} (fs : List (Option Ty → Judges (Option Ty))) → Follows a q num → ((o : Option Ty) → Follows (rule.beside o fs) r more) → Follows (rule.chain x a fs) (q & (r & next_note)) (λ y. number y.1.1 ++ (num y.0 ++ more y.1.0))
     unfolding rule.chain
     chain fs a b = numbered (λ n. part a (λ o. last (b o) (λ t. stands_as n t)))
@@ -129,7 +129,7 @@ module _ (x : Context) where
     unfolding rule.range
     range at a b = closed (both a (λ u. closed b (λ v. settled_bare (ruling.range x.heads.metas u v) at))) (λ t. after_mark blank (λ u. given t))
 
-  module _ {B : Type 0} {num : B → List ℕ} {q : Takes B} where
+  module _ {B : Type 0} {num : B → List ℕ} {q : NoteTaker B} where
     pub link : (op : BinaryOp) {a : Judges (Option Ty)} (at : Place) → Follows a q num → (o : Option Ty) → Follows (rule.link x op a at o) (q & next_note) (λ y. num y.0)
     unfolding rule.link
     link op at a o = closed a (λ t. settled_bare (ruling.operator x.heads.metas op o t) at)

@@ -12,7 +12,7 @@ use Rattle.qvt_types_paths.specs.ModelTypes.{type_names}
 use Rattle.qvt_types_program.specs.declared.declarations.Declarations.{Declarations}
 use Rattle.qvt_types_program.specs.Heads.{heads_over}
 use Rattle.qvt_types_program.specs.Accepts.{heads_of}
-use Rattle.qvt_types_program.specs.Context.{Heads}
+use Rattle.qvt_types_program.specs.Context.{DeclaredHeads}
 use Rattle.qvt_types_program.specs.Program.{given_in}
 
 before : {A : Type 0} (xs ys : List A) → take (length xs) (xs ++ ys) ≡ xs
@@ -49,7 +49,7 @@ cut-extended m cs none =
     ∙ ap (with_features (with_element m None)) (before m.features (given_features (length m.classes + 1) cs))
     ∙ ap (with_element m) (sym none)
 
-abbrev cut_in : Heads → Metamodels
+abbrev cut_in : DeclaredHeads → Metamodels
 cut_in h = cut h.metas h.types.element h.first
 
 cut_again : (m : Metamodels) (t : ModuleTerm) → m.element ≡ None → cut_in (heads_of m t) ≡ m

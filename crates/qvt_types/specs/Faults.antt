@@ -1,7 +1,7 @@
 -- What is answered for a refusal.
 use Rattle.std.specs.Prelude.{Result, Ok, Err}
 use Rattle.qvt_base.specs.declared.numbers.Place.{Place}
-use Rattle.qvt_types_data.specs.declared.refusal.Refusal.{Refusal}
+use Rattle.qvt_types_data.specs.declared.refusal.TypingRefusal.{TypingRefusal}
 use Rattle.qvt_types_data.specs.declared.refusal.RefusalKind.{RefusalKind}
 use Rattle.qvt_types_data.specs.declared.refusal.RefusalKind.TheVariants as refusal
 use Rattle.qvt_types_program.specs.Accepts.{ProgramTerm}
@@ -32,10 +32,10 @@ fault_at refusal.BadDisjunct at = fault.BadDisjunct at
 fault_at refusal.ModelUse at = fault.ModelUse at
 fault_at refusal.NoMain at = fault.NoMain at
 
-abbrev pub fault_of : Refusal → TypingFault
+abbrev pub fault_of : TypingRefusal → TypingFault
 fault_of r = fault_at r.kind r.place
 
 -- a refusal as it is answered
-abbrev pub answered : Result ProgramTerm Refusal → Result ProgramTerm TypingFault
+abbrev pub answered : Result ProgramTerm TypingRefusal → Result ProgramTerm TypingFault
 answered (Ok p) = Ok p
 answered (Err r) = Err (fault_of r)

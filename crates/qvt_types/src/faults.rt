@@ -4,10 +4,10 @@ ghost use Rattle.std.specs.Prelude.{◌≡◌};
 ghost use Rattle.qvt_types.specs.Faults as faults;
 
 use crate::fault::TypingFault;
-use qvt_types_data::refusal::{Refusal, RefusalKind};
+use qvt_types_data::refusal::{RefusalKind, TypingRefusal};
 
 /// The fault of a refusal.
-pub fn fault_of(refusal: Refusal) -> TypingFault
+pub fn fault_of(refusal: TypingRefusal) -> TypingFault
     ensures { result ≡ faults.fault_of refusal }
 {
     let place = refusal.place;

@@ -25,8 +25,8 @@ use Rattle.qvt_types_above.specs.Above.{combined, above_at, from_all}
 use Rattle.qvt_types_above.specs.Asks.{Guards, no_guard, guard_at}
 use Rattle.qvt_types_above.specs.Gathered.{gathered, are_told}
 use Rattle.qvt_types_above.specs.Own.{base_of}
-use Rattle.qvt_types_above.specs.Table.{AreAlike, IsShort, IsWhole, with_more, untold}
-use Rattle.qvt_types_above.specs.Tells.{In, SomeAsks, Tells, IsGuard, AreGuarded, IsFrom, AreOwn, IsTable}
+use Rattle.qvt_types_above.specs.Table.{AreAlike, IsShort, IsToldOrListed, with_more, untold}
+use Rattle.qvt_types_above.specs.Tells.{IsNumberIn, SomeAsks, Tells, IsGuard, AreGuarded, IsFrom, AreOwn, IsAboveTable}
 use Rattle.qvt_types_above.proofs.AsksTold.{none_guards}
 use Rattle.qvt_types_above.proofs.GatheredTold.{OfSome, gathered_tell, asked_tells}
 use Rattle.qvt_types_above.proofs.SameShapes.{Law}
@@ -59,7 +59,7 @@ module _ (m : Metamodels) (us : List Signature) (ns : List ℕ) where
       | inr rest ↦ inr (of_one x k cs rest f)
     ]
 
-    module _ (x : ℕ) (there : In x ns) (d : ClassNo) (is : context_at us x ≡ Known d) where
+    module _ (x : ℕ) (there : IsNumberIn x ns) (d : ClassNo) (is : context_at us x ≡ Known d) where
       own_of : (k : ℕ) → (d.0 == k) ≡ true → From k x
       own_of k e = inl (there, ap (λ h. is_context h k) is ∙ e)
 
@@ -93,7 +93,7 @@ module _ (m : Metamodels) (us : List Signature) (ns : List ℕ) where
       | inr over ↦ by over.0 (context_at us x) refl over.1
     ]
       where
-        by : In x ns → (h : HeadClass) → context_at us x ≡ h → is_strictly_below m (known c) h ≡ true → Reached c (class_at m c).supers x
+        by : IsNumberIn x ns → (h : HeadClass) → context_at us x ≡ h → is_strictly_below m (known c) h ≡ true → Reached c (class_at m c).supers x
         by there Missing e below = absurd (cc)
         by there Unknown e below = absurd (cc)
         by there (Known d) e below = elim ((least c d.0).0 (and_right (not (c == d.0)) (descends m c d.0) below)) [
@@ -110,14 +110,14 @@ module _ (m : Metamodels) (us : List Signature) (ns : List ℕ) where
         (λ x r. elim r [ inl p ↦ inl (inl p) | inr q ↦ elim q [ inl f ↦ inl (inr f) | inr g ↦ inr g ] ])
         (from_tell ls row told cs (λ x. P x ⊎ From c.0 x) (combined m us a (above_at row c.0)) (both_tell m us law t ls P (From c.0) a (above_at row c.0) h (told c.0)))
 
-    short_tells : (had : AboveTable) → IsTable m us ns had → (P : ℕ → Type 0) (a : Above) → Tells m us had.lists P a → (cs : List ClassNo) (short : Above)
+    short_tells : (had : AboveTable) → IsAboveTable m us ns had → (P : ℕ → Type 0) (a : Above) → Tells m us had.lists P a → (cs : List ClassNo) (short : Above)
         → IsShort m us had.lists had.row a cs short → Tells m us had.lists (λ x. P x ⊎ OfSome From cs x) short
     short_tells had is P a h cs short tells = elim tells [
       | inl one ↦ subst (λ x. Tells m us had.lists (λ x. P x ⊎ OfSome From cs x) x) (sym one.0) (asked_tells m us had.lists had.row From is.row P a h cs one.1)
       | inr all ↦ subst (λ x. Tells m us had.lists (λ x. P x ⊎ OfSome From cs x) x) (sym all) (from_tell had.lists had.row is.row cs P a h)
     ]
 
-  alike_table : (had mid : AboveTable) → IsTable m us ns had → AreAlike m us had mid → IsTable m us ns mid
+  alike_table : (had mid : AboveTable) → IsAboveTable m us ns had → AreAlike m us had mid → IsAboveTable m us ns mid
   alike_table had mid is alike = record {
     row = λ c. subst (λ ls. Tells m us ls (From c) (above_at mid.row c)) (sym alike.lists)
         (subst (λ row. Tells m us had.lists (From c) (above_at row c)) (sym alike.row) (is.row c));
@@ -137,14 +137,14 @@ module _ (m : Metamodels) (us : List Signature) (ns : List ℕ) where
       by _ (new (suc k)) = subst (IsGuard m us (get_or (ls ++ l ∷ []) (length guards + suc k) [])) (sym (new-at guards (no_guard ∷ []) (suc k) no_guard))
           (none_guards m us (get_or (ls ++ l ∷ []) (length guards + suc k) []))
 
-  module _ (had : AboveTable) (is : IsTable m us ns had) (P : ℕ → Type 0) (a : Above) (h : Tells m us had.lists P a) (cs : List ClassNo) where
+  module _ (had : AboveTable) (is : IsAboveTable m us ns had) (P : ℕ → Type 0) (a : Above) (h : Tells m us had.lists P a) (cs : List ClassNo) where
     abbrev Whole : ℕ → Type 0
     Whole x = P x ⊎ OfSome From cs x
 
     abbrev list : List ℕ
     list = gathered had.lists had.row a cs
 
-    more_table : IsTable m us ns (with_more had list)
+    more_table : IsAboveTable m us ns (with_more had list)
     more_table = record {
       row = λ c. grown m us had.lists list (From c) (above_at had.row c) (is.row c);
       each = longer (length had.guards) (length had.lists) is.each (length-append had.guards (no_guard ∷ [])) (length-append had.lists (list ∷ []));
@@ -161,12 +161,12 @@ module _ (m : Metamodels) (us : List Signature) (ns : List ℕ) where
         at = ap (λ k. get_or (had.lists ++ list ∷ []) k []) (let same : length had.lists ≡ length had.lists + 0 = omega arith in same) ∙ new-at had.lists (list ∷ []) 0 []
 
     abbrev Told : AboveTable → Above → Type 0
-    Told has told = IsTable m us ns has × Tells m us has.lists Whole told
+    Told has told = IsAboveTable m us ns has × Tells m us has.lists Whole told
 
     as_it_was : (has : AboveTable) (short told : Above) → Tells m us had.lists Whole short → (told ≡ short) × (has ≡ had) → Told has told
     as_it_was has short told k same = subst (λ x. Told x told) (sym same.1) (is, subst (λ x. Tells m us had.lists Whole x) (sym same.0) k)
 
-    whole_tells : (has : AboveTable) (short told : Above) → Tells m us had.lists Whole short → IsWhole had has short a cs told → Told has told
+    whole_tells : (has : AboveTable) (short told : Above) → Tells m us had.lists Whole short → IsToldOrListed had has short a cs told → Told has told
     whole_tells has Nothing told k w = as_it_was has Nothing told k w
     whole_tells has (Least n) told k w = as_it_was has (Least n) told k w
     whole_tells has (Both i n) told k w = as_it_was has (Both i n) told k w
@@ -182,7 +182,7 @@ module _ (m : Metamodels) (us : List Signature) (ns : List ℕ) where
   with_class t c a = record { row = set t.row c a; lists = t.lists; guards = t.guards }
 
   module _ (law : Law) (t : Transitive m) (least : AreLeast m) (own : List Above) (top : Above) (are : AreOwn m us ns own top) (had mid has : AboveTable) (c : ℕ) (short told : Above)
-      (is : IsTable m us ns had) (alike : AreAlike m us had mid) where
+      (is : IsAboveTable m us ns had) (alike : AreAlike m us had mid) where
     abbrev base : Above
     base = base_of m us own top c
 
@@ -192,23 +192,23 @@ module _ (m : Metamodels) (us : List Signature) (ns : List ℕ) where
     based : (ls : List (List ℕ)) → Tells m us ls (IsBase m us ns c) base
     based ls = base_tells m us law t ns own top are ls c
 
-    tells : IsShort m us had.lists had.row base its short → IsWhole mid has short base its told → IsTable m us ns has × Tells m us has.lists (Reached c its) told
+    tells : IsShort m us had.lists had.row base its short → IsToldOrListed mid has short base its told → IsAboveTable m us ns has × Tells m us has.lists (Reached c its) told
     tells shorts whole = whole_tells mid (alike_table had mid is alike) (IsBase m us ns c) base (based mid.lists) its has short told
         (subst (λ ls. Tells m us ls (Reached c its) short) (sym alike.lists) (short_tells law t had is (IsBase m us ns c) base (based had.lists) its short shorts)) whole
 
-    one_told : IsTable m us ns has × Tells m us has.lists (Reached c its) told → IsTable m us ns (with_class has c told)
+    one_told : IsAboveTable m us ns has × Tells m us has.lists (Reached c its) told → IsAboveTable m us ns (with_class has c told)
     one_told both = record {
       row = told_set m us has.lists From has.row c told (λ d other. both.0.row d) (fewer m us has.lists (Reached c its) (From c) told (reaches least c) both.1);
       each = both.0.each;
       guards = both.0.guards;
     }
 
-    pub class_tells : (a : Above) (cs : List ClassNo) → cs ≡ its → a ≡ base → IsShort m us had.lists had.row a cs short → IsWhole mid has short a cs told → IsTable m us ns (with_class has c told)
+    pub class_tells : (a : Above) (cs : List ClassNo) → cs ≡ its → a ≡ base → IsShort m us had.lists had.row a cs short → IsToldOrListed mid has short a cs told → IsAboveTable m us ns (with_class has c told)
     class_tells a cs supers bases shorts whole = one_told (tells
         (subst (λ x. IsShort m us had.lists had.row x its short) bases (subst (λ xs. IsShort m us had.lists had.row a xs short) supers shorts))
-        (subst (λ x. IsWhole mid has short x its told) bases (subst (λ xs. IsWhole mid has short a xs told) supers whole)))
+        (subst (λ x. IsToldOrListed mid has short x its told) bases (subst (λ xs. IsToldOrListed mid has short a xs told) supers whole)))
 
-  pub untold_is : (count : ℕ) → IsTable m us ns (untold count)
+  pub untold_is : (count : ℕ) → IsAboveTable m us ns (untold count)
   untold_is count = record {
     row = λ c. of_each (Tells m us [] (From c)) Untold count c tt tt;
     each = refl;

@@ -32,12 +32,12 @@ IsListed had has a cs told = ((told ≡ Untold) × (has ≡ had))
     ⊎ ((told ≡ Listed (length had.lists)) × ((are_told had.row a cs ≡ true) × (has ≡ with_more had (gathered had.lists had.row a cs))))
 
 -- what is told by little, or else by a list
-abbrev pub IsWhole : AboveTable → AboveTable → Above → Above → List ClassNo → Above → Type 0
-IsWhole had has Untold a cs told = IsListed had has a cs told
-IsWhole had has Nothing a cs told = (told ≡ Nothing) × (has ≡ had)
-IsWhole had has (Least n) a cs told = (told ≡ Least n) × (has ≡ had)
-IsWhole had has (Both i k) a cs told = (told ≡ Both i k) × (has ≡ had)
-IsWhole had has (Listed s) a cs told = (told ≡ Listed s) × (has ≡ had)
+abbrev pub IsToldOrListed : AboveTable → AboveTable → Above → Above → List ClassNo → Above → Type 0
+IsToldOrListed had has Untold a cs told = IsListed had has a cs told
+IsToldOrListed had has Nothing a cs told = (told ≡ Nothing) × (has ≡ had)
+IsToldOrListed had has (Least n) a cs told = (told ≡ Least n) × (has ≡ had)
+IsToldOrListed had has (Both i k) a cs told = (told ≡ Both i k) × (has ≡ had)
+IsToldOrListed had has (Listed s) a cs told = (told ≡ Listed s) × (has ≡ had)
 
 -- a table that tells nothing
 abbrev pub untold : ℕ → AboveTable

@@ -18,9 +18,9 @@ use Rattle.qvt_types_above.specs.Asks.{Guards, guard_at}
 use Rattle.qvt_types_above.specs.Bounds.{are_bounded}
 use Rattle.qvt_types_above.specs.Gathered.{is_told, numbers_of}
 
-abbrev pub In : ℕ → List ℕ → Type 0
-In n [] = ⊥
-In n (k ∷ ks) = (n ≡ k) ⊎ In n ks
+abbrev pub IsNumberIn : ℕ → List ℕ → Type 0
+IsNumberIn n [] = ⊥
+IsNumberIn n (k ∷ ks) = (n ≡ k) ⊎ IsNumberIn n ks
 
 -- a unit that does not fit unit n does not fit unit k
 abbrev pub Asks : Metamodels → List Signature → ℕ → ℕ → Type 0
@@ -70,19 +70,19 @@ AreGuarded m us lists guards = (s : ℕ) → IsGuard m us (slice_index_or lists 
 
 -- where ns are all units of the name, unit n is one of the class
 abbrev pub IsOwn : List Signature → List ℕ → ℕ → ℕ → Type 0
-IsOwn us ns c n = In n ns × (is_context (context_at us n) c ≡ true)
+IsOwn us ns c n = IsNumberIn n ns × (is_context (context_at us n) c ≡ true)
 
 -- unit n is one of the class above all
 abbrev pub IsTop : Metamodels → List Signature → List ℕ → ℕ → Type 0
-IsTop m us ns n = In n ns × (is_top m (context_at us n) ≡ true)
+IsTop m us ns n = IsNumberIn n ns × (is_top m (context_at us n) ≡ true)
 
 -- unit n is one of a class above this one
-abbrev pub IsOver : Metamodels → List Signature → List ℕ → HeadClass → ℕ → Type 0
-IsOver m us ns h n = In n ns × (is_strictly_below m h (context_at us n) ≡ true)
+abbrev pub IsUnitAbove : Metamodels → List Signature → List ℕ → HeadClass → ℕ → Type 0
+IsUnitAbove m us ns h n = IsNumberIn n ns × (is_strictly_below m h (context_at us n) ≡ true)
 
 -- unit n is one of the class or of one above it
 abbrev pub IsFrom : Metamodels → List Signature → List ℕ → ℕ → ℕ → Type 0
-IsFrom m us ns c n = IsOwn us ns c n ⊎ IsOver m us ns (Known (record { 0 = c })) n
+IsFrom m us ns c n = IsOwn us ns c n ⊎ IsUnitAbove m us ns (Known (record { 0 = c })) n
 
 -- what a table is made of: what is told of each class by itself, and of the class above all
 pub record AreOwn (m : Metamodels) (us : List Signature) (ns : List ℕ) (own : List Above) (top : Above) : Type 0 where
@@ -93,7 +93,7 @@ pub record AreOwn (m : Metamodels) (us : List Signature) (ns : List ℕ) (own : 
 abbrev pub AllFrom : Metamodels → List Signature → List ℕ → AboveTable → Type 0
 AllFrom m us ns t = (c : ℕ) → Tells m us t.lists (IsFrom m us ns c) (above_at t.row c)
 
-pub record IsTable (m : Metamodels) (us : List Signature) (ns : List ℕ) (t : AboveTable) : Type 0 where
+pub record IsAboveTable (m : Metamodels) (us : List Signature) (ns : List ℕ) (t : AboveTable) : Type 0 where
   pub row : AllFrom m us ns t
   pub each : length t.guards ≡ length t.lists
   pub guards : AreGuarded m us t.lists t.guards

@@ -10,11 +10,11 @@ use crate::above::{Above, above_at, list_at};
 use qvt_base::list_fault::ListFault;
 use qvt_base::numbers::ClassNo;
 use qvt_base::seq::Seq;
-use qvt_metas::number_set::NumberSet;
+use qvt_metas::number_set::MarkedNumbers;
 use std::alloc::Global;
 
 /// Puts the number last, if it is not there.
-fn put(numbers: &mut Seq<u32>, seen: &mut NumberSet, number: u32) -> Result<(), ListFault>
+fn put(numbers: &mut Seq<u32>, seen: &mut MarkedNumbers, number: u32) -> Result<(), ListFault>
     requires { AreThere numbers.old seen.old }
     ensures numbers { OnOk result (numbers.new ≡ gathered.put numbers.old number) }
     ensures seen { OnOk result (AreThere numbers.new seen.new) }
@@ -27,7 +27,7 @@ fn put(numbers: &mut Seq<u32>, seen: &mut NumberSet, number: u32) -> Result<(), 
 }
 
 /// Puts those of these numbers last that are not there.
-fn put_all(numbers: &mut Seq<u32>, seen: &mut NumberSet, more: &[u32]) -> Result<(), ListFault>
+fn put_all(numbers: &mut Seq<u32>, seen: &mut MarkedNumbers, more: &[u32]) -> Result<(), ListFault>
     requires { AreThere numbers.old seen.old }
     ensures numbers { OnOk result (numbers.new ≡ gathered.put_all numbers.old more.now) }
     ensures seen { OnOk result (AreThere numbers.new seen.new) }
@@ -42,7 +42,7 @@ fn put_all(numbers: &mut Seq<u32>, seen: &mut NumberSet, more: &[u32]) -> Result
 fn put_told(
     lists: &[Seq<u32>],
     numbers: &mut Seq<u32>,
-    seen: &mut NumberSet,
+    seen: &mut MarkedNumbers,
     told: Above,
 ) -> Result<(), ListFault>
     requires { AreThere numbers.old seen.old }
@@ -66,7 +66,7 @@ fn put_classes(
     lists: &[Seq<u32>],
     row: &[Above],
     numbers: &mut Seq<u32>,
-    seen: &mut NumberSet,
+    seen: &mut MarkedNumbers,
     classes: &[ClassNo],
 ) -> Result<(), ListFault>
     requires { AreThere numbers.old seen.old }
@@ -83,7 +83,7 @@ pub fn gathered(
     alloc: Global,
     lists: &[Seq<u32>],
     row: &[Above],
-    seen: &mut NumberSet,
+    seen: &mut MarkedNumbers,
     told: Above,
     classes: &[ClassNo],
 ) -> Result<Seq<u32>, ListFault>

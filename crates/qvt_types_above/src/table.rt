@@ -5,7 +5,7 @@ ghost use Rattle.qvt_metamodel.specs.Metamodels.{class_at};
 ghost use Rattle.qvt_types_above.specs.Own as own_words;
 ghost use Rattle.qvt_types_above.specs.Table as table_words;
 ghost use Rattle.qvt_types_above.specs.Table.{AreAlike, IsShort};
-ghost use Rattle.qvt_types_above.specs.Tells.{AreGuarded, IsAskedBy, AreOwn, AllFrom, IsTable};
+ghost use Rattle.qvt_types_above.specs.Tells.{AreGuarded, IsAskedBy, AreOwn, AllFrom, IsAboveTable};
 
 use crate::above::{Above, AboveRow, above_at, combined, from_all};
 use crate::asks::{Guard, Guards, asks_classes};
@@ -14,7 +14,7 @@ use crate::own::{is_element, own_row, same_of_each, tell, top_units};
 use qvt_base::list_fault::ListFault;
 use qvt_base::numbers::ClassNo;
 use qvt_base::seq::Seq;
-use qvt_metas::number_set::NumberSet;
+use qvt_metas::number_set::MarkedNumbers;
 use qvt_metas::tables::supers_at;
 use qvt_types_groups::signature::Signature;
 use qvt_types_laws::laws::same_means_equal;
@@ -50,7 +50,7 @@ struct Making<'a> {
 /// What lists are made with: a set for the numbers of one list, and how many the lists to come may have.
 #[derive(Drop)]
 struct Room {
-    seen: NumberSet,
+    seen: MarkedNumbers,
     left: usize,
 }
 
@@ -144,7 +144,7 @@ fn or_listed(
     told: Above,
     supers: &[ClassNo],
 ) -> Result<Above, ListFault>
-    ensures { IfOk result (λ all. table_words.IsWhole table.old table.new short told supers.now all) }
+    ensures { IfOk result (λ all. table_words.IsToldOrListed table.old table.new short told supers.now all) }
 {
     match short {
         Above::Untold => listed(alloc, room, table, told, supers),
@@ -176,8 +176,8 @@ fn tell_class(
     class: u32,
 ) -> Result<(), ListFault>
     requires own { AreOwn making.now.metas.now making.now.units.now making.now.group.now making.now.own.now making.now.top }
-    requires table { IsTable making.now.metas.now making.now.units.now making.now.group.now table.old }
-    ensures { OnOk result (IsTable making.now.metas.now making.now.units.now making.now.group.now table.new) }
+    requires table { IsAboveTable making.now.metas.now making.now.units.now making.now.group.now table.old }
+    ensures { OnOk result (IsAboveTable making.now.metas.now making.now.units.now making.now.group.now table.new) }
 {
     same_means_equal();
     making.metas.are_well_formed();
@@ -199,8 +199,8 @@ fn tell_along(
     order: &[u32],
 ) -> Result<(), ListFault>
     requires own { AreOwn making.now.metas.now making.now.units.now making.now.group.now making.now.own.now making.now.top }
-    requires table { IsTable making.now.metas.now making.now.units.now making.now.group.now table.old }
-    ensures { OnOk result (IsTable making.now.metas.now making.now.units.now making.now.group.now table.new) }
+    requires table { IsAboveTable making.now.metas.now making.now.units.now making.now.group.now table.old }
+    ensures { OnOk result (IsAboveTable making.now.metas.now making.now.units.now making.now.group.now table.new) }
 {
     for class in order {
         tell_class(alloc, making, room, table, *class)?;
@@ -226,7 +226,7 @@ fn made(alloc: Global, making: &Making<'_>, order: &[u32]) -> Result<AboveTable,
     ensures { IfOk result (AllFrom making.now.metas.now making.now.units.now making.now.group.now) }
 {
     let mut room = Room {
-        seen: NumberSet::new(alloc),
+        seen: MarkedNumbers::new(alloc),
         left: making.group.len().saturating_mul(NUMBERS_EACH),
     };
     let mut table = untold(alloc, making.metas.class_count())?;

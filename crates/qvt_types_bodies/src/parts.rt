@@ -3,7 +3,7 @@
 ghost use Rattle.std.specs.Prelude.{◌≡◌, map};
 ghost use Rattle.qvt_tree_types.specs.Module.{field_view, param_view};
 ghost use Rattle.qvt_types_context.specs.Seen.{seen};
-ghost use Rattle.qvt_types_states.specs.Does.{Does};
+ghost use Rattle.qvt_types_states.specs.Does.{GivesAndLeaves};
 ghost use Rattle.qvt_types_context.specs.Units as units;
 
 use qvt_base::list_fault::ListFault;
@@ -19,13 +19,13 @@ use qvt_types_rules::leaves::{named_class, written_type};
 use qvt_types_rules::objects::extent_of;
 use qvt_types_rules::resolves::listed_path;
 use qvt_types_states::scope::Known;
-use qvt_types_states::state::State;
+use qvt_types_states::state::TypingState;
 use qvt_types_states::steps::{add_source, declare, marks, writes_nothing};
 use qvt_types_steps::classes::ClassPart;
 
 /// Makes `self` an implicit source, where there is one.
-pub fn add_self(x: &Context<'_>, class: ClassPart, state: &mut State) -> Result<(), ListFault>
-    ensures { Does (units.with_self class state.old) result state.new }
+pub fn add_self(x: &Context<'_>, class: ClassPart, state: &mut TypingState) -> Result<(), ListFault>
+    ensures { GivesAndLeaves (units.with_self class state.old) result state.new }
 {
     match class {
         ClassPart::Missing => Ok(()),
@@ -36,8 +36,8 @@ pub fn add_self(x: &Context<'_>, class: ClassPart, state: &mut State) -> Result<
     }
 }
 
-fn param(x: &Context<'_>, param: &Param, state: &mut State) -> Result<(), ListFault>
-    ensures { Does (units.param (seen x.now) (param_view param.now) state.old) result state.new }
+fn param(x: &Context<'_>, param: &Param, state: &mut TypingState) -> Result<(), ListFault>
+    ensures { GivesAndLeaves (units.param (seen x.now) (param_view param.now) state.old) result state.new }
 {
     let ty = written_type(x, &param.kind, state)?;
     let known = Known {
@@ -48,8 +48,8 @@ fn param(x: &Context<'_>, param: &Param, state: &mut State) -> Result<(), ListFa
     writes_nothing(state)
 }
 
-pub fn params(x: &Context<'_>, list: &[Param], state: &mut State) -> Result<(), ListFault>
-    ensures { Does (units.params (seen x.now) (map param_view list.now) state.old) result state.new }
+pub fn params(x: &Context<'_>, list: &[Param], state: &mut TypingState) -> Result<(), ListFault>
+    ensures { GivesAndLeaves (units.params (seen x.now) (map param_view list.now) state.old) result state.new }
 {
     for next in list {
         param(x, next, state)?;
@@ -58,8 +58,8 @@ pub fn params(x: &Context<'_>, list: &[Param], state: &mut State) -> Result<(), 
 }
 
 /// The classes above an intermediate class.
-pub fn supers(x: &Context<'_>, list: &[PathTree], state: &mut State) -> Result<(), ListFault>
-    ensures { Does (units.all_paths (units.super (seen x.now)) list.now state.old) result state.new }
+pub fn supers(x: &Context<'_>, list: &[PathTree], state: &mut TypingState) -> Result<(), ListFault>
+    ensures { GivesAndLeaves (units.all_paths (units.super (seen x.now)) list.now state.old) result state.new }
 {
     for path in list {
         named_class(x, path, state)?;
@@ -68,8 +68,12 @@ pub fn supers(x: &Context<'_>, list: &[PathTree], state: &mut State) -> Result<(
 }
 
 /// A list of mappings that a mapping reuses.
-pub fn all_reused(x: &Context<'_>, list: &[PathTree], state: &mut State) -> Result<(), ListFault>
-    ensures { Does (units.all_paths (units.reused (seen x.now)) list.now state.old) result state.new }
+pub fn all_reused(
+    x: &Context<'_>,
+    list: &[PathTree],
+    state: &mut TypingState,
+) -> Result<(), ListFault>
+    ensures { GivesAndLeaves (units.all_paths (units.reused (seen x.now)) list.now state.old) result state.new }
 {
     for path in list {
         listed_path(x, path, state)?;
@@ -77,15 +81,15 @@ pub fn all_reused(x: &Context<'_>, list: &[PathTree], state: &mut State) -> Resu
     Ok(())
 }
 
-fn field(x: &Context<'_>, field: &Field, state: &mut State) -> Result<(), ListFault>
-    ensures { Does (units.field (seen x.now) (field_view field.now) state.old) result state.new }
+fn field(x: &Context<'_>, field: &Field, state: &mut TypingState) -> Result<(), ListFault>
+    ensures { GivesAndLeaves (units.field (seen x.now) (field_view field.now) state.old) result state.new }
 {
     written_type(x, &field.kind, state)?;
     writes_nothing(state)
 }
 
-pub fn fields(x: &Context<'_>, list: &[Field], state: &mut State) -> Result<(), ListFault>
-    ensures { Does (units.fields (seen x.now) (map field_view list.now) state.old) result state.new }
+pub fn fields(x: &Context<'_>, list: &[Field], state: &mut TypingState) -> Result<(), ListFault>
+    ensures { GivesAndLeaves (units.fields (seen x.now) (map field_view list.now) state.old) result state.new }
 {
     for next in list {
         field(x, next, state)?;
@@ -107,9 +111,9 @@ fn result_read(x: &Context<'_>, name: &Option<Text>, class: ClassPart) -> Read
 pub fn result_head(
     x: &Context<'_>,
     declared: &Option<ResultDecl>,
-    state: &mut State,
+    state: &mut TypingState,
 ) -> Result<(), ListFault>
-    ensures { Does (units.result_head (seen x.now) declared.now state.old) result state.new }
+    ensures { GivesAndLeaves (units.result_head (seen x.now) declared.now state.old) result state.new }
 {
     match declared {
         None => Ok(()),

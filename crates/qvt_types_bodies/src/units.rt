@@ -4,7 +4,7 @@ ghost use Rattle.std.specs.Prelude.{◌≡◌, map};
 ghost use Rattle.qvt_tree_types.specs.Module.{class_view, condition_view, helper_view, mapping_view, unit_view};
 ghost use Rattle.qvt_tree_types.specs.View.{block_view};
 ghost use Rattle.qvt_types_context.specs.Seen.{heads_seen, seen};
-ghost use Rattle.qvt_types_states.specs.Does.{Does};
+ghost use Rattle.qvt_types_states.specs.Does.{GivesAndLeaves};
 ghost use Rattle.qvt_types_context.specs.Units as units;
 
 use crate::contexts::{
@@ -20,30 +20,30 @@ use qvt_types_context::context::{Context, Heads};
 use qvt_types_rules::leaves::type_if;
 use qvt_types_rules::resolves::head_part;
 use qvt_types_rules::statements::tell_condition;
-use qvt_types_states::state::State;
+use qvt_types_states::state::TypingState;
 use qvt_types_states::steps::writes_nothing;
 use qvt_types_units::signature::Signature;
 use qvt_types_walk::expressions::expr;
 use qvt_types_walk::statements::{block, stmts};
 use std::alloc::Global;
 
-fn class_unit(x: &Context<'_>, class: &ClassDecl, state: &mut State) -> Result<(), ListFault>
-    ensures { Does (units.class_unit (seen x.now) (class_view class.now) state.old) result state.new }
+fn class_unit(x: &Context<'_>, class: &ClassDecl, state: &mut TypingState) -> Result<(), ListFault>
+    ensures { GivesAndLeaves (units.class_unit (seen x.now) (class_view class.now) state.old) result state.new }
 {
     supers(x, class.supers.as_slice(), state)?;
     fields(x, class.features.as_slice(), state)?;
     writes_nothing(state)
 }
 
-fn main_unit(x: &Context<'_>, body: &[Stmt], state: &mut State) -> Result<(), ListFault>
-    ensures { Does (units.main_unit (seen x.now) (block_view body.now) state.old) result state.new }
+fn main_unit(x: &Context<'_>, body: &[Stmt], state: &mut TypingState) -> Result<(), ListFault>
+    ensures { GivesAndLeaves (units.main_unit (seen x.now) (block_view body.now) state.old) result state.new }
 {
     block(x, body, state)?;
     writes_nothing(state)
 }
 
-fn helper_unit(x: &Context<'_>, helper: &Helper, state: &mut State) -> Result<(), ListFault>
-    ensures { Does (units.helper_unit (seen x.now) (helper_view helper.now) state.old) result state.new }
+fn helper_unit(x: &Context<'_>, helper: &Helper, state: &mut TypingState) -> Result<(), ListFault>
+    ensures { GivesAndLeaves (units.helper_unit (seen x.now) (helper_view helper.now) state.old) result state.new }
 {
     let (named, sources) = state.scope.mark();
     add_self(x, x.itself, state)?;
@@ -59,9 +59,9 @@ fn when(
     x: &Context<'_>,
     condition: &Option<Expr>,
     place: Place,
-    state: &mut State,
+    state: &mut TypingState,
 ) -> Result<(), ListFault>
-    ensures { Does (units.when (seen x.now) (condition_view condition.now) place state.old) result state.new }
+    ensures { GivesAndLeaves (units.when (seen x.now) (condition_view condition.now) place state.old) result state.new }
 {
     match condition {
         None => Ok(()),
@@ -78,9 +78,9 @@ fn sections(
     heads: &Heads<'_>,
     mapping: &Mapping,
     signature: &Signature,
-    state: &mut State,
+    state: &mut TypingState,
 ) -> Result<(), ListFault>
-    ensures { Does (units.sections (heads_seen heads.now) (mapping_view mapping.now) signature.now state.old) result state.new }
+    ensures { GivesAndLeaves (units.sections (heads_seen heads.now) (mapping_view mapping.now) signature.now state.old) result state.new }
 {
     let init = init_context(alloc, heads, signature);
     stmts(&init, mapping.init.as_slice(), state)?;
@@ -94,9 +94,9 @@ fn mapping_head(
     x: &Context<'_>,
     mapping: &Mapping,
     signature: &Signature,
-    state: &mut State,
+    state: &mut TypingState,
 ) -> Result<(), ListFault>
-    ensures { Does (units.mapping_head (seen x.now) (mapping_view mapping.now) signature.now state.old) result state.new }
+    ensures { GivesAndLeaves (units.mapping_head (seen x.now) (mapping_view mapping.now) signature.now state.old) result state.new }
 {
     add_self(x, head_part(signature.context), state)?;
     params(x, mapping.params.as_slice(), state)?;
@@ -111,9 +111,9 @@ fn mapping_unit(
     heads: &Heads<'_>,
     mapping: &Mapping,
     signature: &Signature,
-    state: &mut State,
+    state: &mut TypingState,
 ) -> Result<(), ListFault>
-    ensures { Does (units.mapping_unit (heads_seen heads.now) (mapping_view mapping.now) signature.now state.old) result state.new }
+    ensures { GivesAndLeaves (units.mapping_unit (heads_seen heads.now) (mapping_view mapping.now) signature.now state.old) result state.new }
 {
     let (named, sources) = state.scope.mark();
     mapping_head(&outside(alloc, heads), mapping, signature, state)?;
@@ -131,9 +131,9 @@ fn unit(
     heads: &Heads<'_>,
     number: u32,
     unit: &Unit,
-    state: &mut State,
+    state: &mut TypingState,
 ) -> Result<(), ListFault>
-    ensures { Does (units.unit (heads_seen heads.now) number (unit_view unit.now) state.old) result state.new }
+    ensures { GivesAndLeaves (units.unit (heads_seen heads.now) number (unit_view unit.now) state.old) result state.new }
 {
     let none = no_unit(alloc);
     let signature = unit_at(heads.units, number, &none);
@@ -157,9 +157,9 @@ pub fn all_units(
     alloc: Global,
     heads: &Heads<'_>,
     list: &[Unit],
-    state: &mut State,
+    state: &mut TypingState,
 ) -> Result<(), ListFault>
-    ensures { Does (units.units (heads_seen heads.now) 0 (map unit_view list.now) state.old) result state.new }
+    ensures { GivesAndLeaves (units.units (heads_seen heads.now) 0 (map unit_view list.now) state.old) result state.new }
 {
     let mut number: u32 = 0;
     for next in list {

@@ -11,8 +11,8 @@ use Rattle.qvt_metamodel.specs.Descends.{is_superclass, Inherits, IsAncestor, de
 use Rattle.qvt_metamodel.proofs.Ancestors.{begins}
 use Rattle.qvt_metamodel.proofs.Bools.{not_true, clash}
 use Rattle.qvt_metamodel.proofs.Halves.{Half, old, new, half}
-use Rattle.qvt_types_units.specs.declared.choice.Found.{Found}
-use Rattle.qvt_types_units.specs.declared.choice.Found.TheVariants.{NoUnit, Unclear, Chosen}
+use Rattle.qvt_types_units.specs.declared.choice.FoundUnit.{FoundUnit}
+use Rattle.qvt_types_units.specs.declared.choice.FoundUnit.TheVariants.{NoUnit, Unclear, Chosen}
 use Rattle.qvt_types_units.specs.declared.signature.HeadClass.{HeadClass}
 use Rattle.qvt_types_units.specs.declared.signature.HeadClass.TheVariants.{Missing, Unknown, Known}
 use Rattle.qvt_types_units.specs.declared.signature.Signature.{Signature}
@@ -78,13 +78,13 @@ pub some_in : (x : ℕ) (xs : List ℕ) → In x xs → is_empty xs ≡ false
 some_in x [] i = absurd i
 some_in x (y ∷ ys) i = refl
 
-pub some_none : (f : Found) → Some f ≡ None → ⊥
+pub some_none : (f : FoundUnit) → Some f ≡ None → ⊥
 some_none f e = absurd (cc)
 
-pub same_some : (f g : Found) → Some f ≡ Some g → g ≡ f
+pub same_some : (f g : FoundUnit) → Some f ≡ Some g → g ≡ f
 same_some f g e = cc
 
-some_within : (known : List (Option Found)) (c : ℕ) (f : Found) → known_at known c ≡ Some f → c < length known
+some_within : (known : List (Option FoundUnit)) (c : ℕ) (f : FoundUnit) → known_at known c ≡ Some f → c < length known
 some_within known c f tells = by c (half (length known) c) tells
   where
     by : (c : ℕ) → Half (length known) c → known_at known c ≡ Some f → c < length known
@@ -178,12 +178,12 @@ module _ (m : Metamodels) (us : List Signature) where
     stays_unclear [] = refl
     stays_unclear (n ∷ ns) = stays_unclear ns
 
-    stays_told : (f : Found) (ns : List ℕ) → all_more (Some f) ns ≡ None → ⊥
+    stays_told : (f : FoundUnit) (ns : List ℕ) → all_more (Some f) ns ≡ None → ⊥
     stays_told f [] e = absurd (cc)
     stays_told f (n ∷ ns) e = stays_told Unclear ns e
 
     -- what the units of a class tell of it is its choice
-    own_is : (ns : List ℕ) (c : ℕ) (f : Found) → all_more None (own us ns c) ≡ Some f → f ≡ choice_for m us ns c
+    own_is : (ns : List ℕ) (c : ℕ) (f : FoundUnit) → all_more None (own us ns c) ≡ Some f → f ≡ choice_for m us ns c
     own_is ns c f tells = by (own us ns c) refl tells
       where
         by : (os : List ℕ) → own us ns c ≡ os → all_more None os ≡ Some f → f ≡ choice_for m us ns c
@@ -199,17 +199,17 @@ module _ (m : Metamodels) (us : List Signature) where
         by (n ∷ more) tells = absurd (stays_told (Chosen n) more tells)
 
     -- at first each class is known by its own units
-    pub own_known : (ns : List ℕ) (known : List (Option Found)) → ((c : ℕ) → c < length known → known_at known c ≡ all_more None (own us ns c)) → AreKnown m us ns known
+    pub own_known : (ns : List ℕ) (known : List (Option FoundUnit)) → ((c : ℕ) → c < length known → known_at known c ≡ all_more None (own us ns c)) → AreKnown m us ns known
     own_known ns known are = record {
       told = λ c f e. own_is ns c f (sym (are c (there c f e)) ∙ e);
       untold = λ c low e. none_own ns c (sym (are c low) ∙ e);
     }
       where
-        there : (c : ℕ) (f : Found) → known_at known c ≡ Some f → c < length known
+        there : (c : ℕ) (f : FoundUnit) → known_at known c ≡ Some f → c < length known
         there c f e = some_within known c f e
 
   -- a class more is known
-  pub more_known : (ns : List ℕ) (had has : List (Option Found)) (c : ℕ) (f : Found) → c < length had → AreKnown m us ns had → f ≡ choice_for m us ns c → has ≡ set had c (Some f)
+  pub more_known : (ns : List ℕ) (had has : List (Option FoundUnit)) (c : ℕ) (f : FoundUnit) → c < length had → AreKnown m us ns had → f ≡ choice_for m us ns c → has ≡ set had c (Some f)
       → AreKnown m us ns has
   more_known ns had has c f low are is e = record {
     told = λ d g tells. told d g (d == c) refl (ap (λ k. known_at k d) (sym e) ∙ tells);
@@ -222,7 +222,7 @@ module _ (m : Metamodels) (us : List Signature) where
       kept : (d : ℕ) → (d == c) ≡ false → known_at (set had c (Some f)) d ≡ known_at had d
       kept d other = get_or-set_other had c d (Some f) None (λ same. clash (eq-eqb d c same) other)
 
-      told : (d : ℕ) (g : Found) (b : Bool) → (d == c) ≡ b → known_at (set had c (Some f)) d ≡ Some g → g ≡ choice_for m us ns d
+      told : (d : ℕ) (g : FoundUnit) (b : Bool) → (d == c) ≡ b → known_at (set had c (Some f)) d ≡ Some g → g ≡ choice_for m us ns d
       told d g true same tells = same_some f g (sym (ap (known_at (set had c (Some f))) (eqb-true d c same) ∙ put) ∙ tells) ∙ is ∙ ap (choice_for m us ns) (sym (eqb-true d c same))
       told d g false other tells = are.told d g (sym (kept d other) ∙ tells)
 
@@ -231,7 +231,7 @@ module _ (m : Metamodels) (us : List Signature) where
       untold d long there false other tells = are.untold d (let shorter : length (set had c (Some f)) ≡ length had = length-set had c (Some f) in omega (arith, long, shorter, there)) (sym (kept d other) ∙ tells)
 
 -- one unit more tells of its class
-pub told_next : (us : List Signature) (known : List (Option Found)) (n c : ℕ) (r : List ℕ) → c < length known
+pub told_next : (us : List Signature) (known : List (Option FoundUnit)) (n c : ℕ) (r : List ℕ) → c < length known
     → all_more (known_at (told_more known (context_at us n) n) c) r ≡ all_more (known_at known c) (if is_context (context_at us n) c then n ∷ r else r)
 told_next us known n c r low = by (context_at us n)
   where

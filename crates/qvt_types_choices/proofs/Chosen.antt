@@ -10,8 +10,8 @@ use Rattle.qvt_metamodel.specs.Descends.{descends, reaches}
 use Rattle.qvt_metamodel.specs.Kept.{is_marked}
 use Rattle.qvt_metamodel.specs.declared.row.Row.{Row}
 use Rattle.qvt_metamodel.proofs.Bools.{and_left, and_right, not_true, clash}
-use Rattle.qvt_types_units.specs.declared.choice.Found.{Found}
-use Rattle.qvt_types_units.specs.declared.choice.Found.TheVariants.{NoUnit, Untyped, Unclear, Chosen}
+use Rattle.qvt_types_units.specs.declared.choice.FoundUnit.{FoundUnit}
+use Rattle.qvt_types_units.specs.declared.choice.FoundUnit.TheVariants.{NoUnit, Untyped, Unclear, Chosen}
 use Rattle.qvt_types_units.specs.declared.signature.HeadClass.{HeadClass}
 use Rattle.qvt_types_units.specs.declared.signature.HeadClass.TheVariants.{Missing, Unknown, Known}
 use Rattle.qvt_types_units.specs.declared.signature.Signature.{Signature}
@@ -38,7 +38,7 @@ stuck_by m us ns c = ap (λ b. not (class_at m c).is_abstract && b) (by (is_empt
     by false (Some n) = refl
 
 -- the choice for a class among those of all
-pub choice_there : (m : Metamodels) (us : List Signature) (ns : List ℕ) (all : List Found) (n c : ℕ) (f : Found) → all ≡ choices m us ns n → c < n → f ≡ choice_at all c → f ≡ choice_for m us ns c
+pub choice_there : (m : Metamodels) (us : List Signature) (ns : List ℕ) (all : List FoundUnit) (n c : ℕ) (f : FoundUnit) → all ≡ choices m us ns n → c < n → f ≡ choice_at all c → f ≡ choice_for m us ns c
 choice_there m us ns all n c f are low e = e ∙ ap (λ fs. choice_at fs c) are ∙ get_or-map-range_with_len (choice_for m us ns) 0 n c c NoUnit low (omega arith)
 
 abbrev kept_if : ℕ → Bool → List ℕ
@@ -140,7 +140,7 @@ module _ (m : Metamodels) (us : List Signature) (t : Transitive m) where
       by false e = among (is_empty several) e refl
 
   -- the same, where the choice and the set of the classes without one are told
-  pub settled_so : (ns : List ℕ) (stuck : Row) (c : ℕ) (b : Bool) (f x : Found) → b ≡ is_unsure us ns → IsSetOf m (is_stuck m us ns) stuck → f ≡ choice_for m us ns c
+  pub settled_so : (ns : List ℕ) (stuck : Row) (c : ℕ) (b : Bool) (f x : FoundUnit) → b ≡ is_unsure us ns → IsSetOf m (is_stuck m us ns) stuck → f ≡ choice_for m us ns c
       → x ≡ settled b (some_below m stuck c) f → x ≡ looked_up m us ns c
   settled_so ns stuck c b f x sure told is e =
       e ∙ (λ i. settled (sure i) (some_below m stuck c) (is i))
@@ -197,7 +197,7 @@ module _ (m : Metamodels) (us : List Signature) (t : Transitive m) where
   alone_is n c = sym (alone_by n c (context_at us n) refl)
 
 -- what stands in the row of all classes
-pub told_each : (m : Metamodels) (us : List Signature) (ns : List ℕ) (t : GroupTable) (fs : List Found) (c : ℕ) (o : Option Found) → TellsOf m us ns t → t ≡ Each fs → o ≡ slice_get fs c
+pub told_each : (m : Metamodels) (us : List Signature) (ns : List ℕ) (t : GroupTable) (fs : List FoundUnit) (c : ℕ) (o : Option FoundUnit) → TellsOf m us ns t → t ≡ Each fs → o ≡ slice_get fs c
     → IfSome o (λ f. f ≡ looked_up m us ns c)
 told_each m us ns t fs c o tells is at = by o at
   where
@@ -207,7 +207,7 @@ told_each m us ns t fs c o tells is at = by o at
     low : c < length fs → c < length m.classes
     low l = subst (λ k. c < k) (ap length are ∙ length-map-range_with_len (looked_up m us ns) 0 (length m.classes)) l
 
-    by : (o : Option Found) → o ≡ slice_get fs c → IfSome o (λ f. f ≡ looked_up m us ns c)
+    by : (o : Option FoundUnit) → o ≡ slice_get fs c → IfSome o (λ f. f ≡ looked_up m us ns c)
     by None e = tt
     by (Some f) e = sym (get_or_from_slice_get fs c f NoUnit (sym e))
         ∙ ap (λ xs. get_or xs c NoUnit) are

@@ -4,7 +4,7 @@ use Rattle.std.specs.Prelude.{if◌then◌else◌, filter}
 use Rattle.std.specs.List.{list_all}
 use Rattle.qvt_metamodel.specs.Metamodels.{Metamodels}
 use Rattle.qvt_metamodel.proofs.Bools.{and_both}
-use Rattle.qvt_types_units.specs.declared.choice.Found.TheVariants.{NoUnit, Chosen}
+use Rattle.qvt_types_units.specs.declared.choice.FoundUnit.TheVariants.{NoUnit, Chosen}
 use Rattle.qvt_types_units.specs.declared.signature.Signature.{Signature}
 use Rattle.qvt_types_units.specs.Choice.{lowest, single, chosen_of}
 use Rattle.qvt_types_choices.specs.ByClass.{choice_among}

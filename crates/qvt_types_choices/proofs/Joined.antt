@@ -8,8 +8,8 @@ use Rattle.qvt_metamodel.specs.Metamodels.{Metamodels, class_at}
 use Rattle.qvt_metamodel.specs.Descends.{is_superclass, Inherits, IsAncestor, descends, Descends}
 use Rattle.qvt_metamodel.proofs.Ancestors.{passing, begins, over as goes_over}
 use Rattle.qvt_metamodel.proofs.Bools.{and_both, and_left, and_right, and_no, or_left, or_right, or_cases, not_true, clash}
-use Rattle.qvt_types_units.specs.declared.choice.Found.{Found}
-use Rattle.qvt_types_units.specs.declared.choice.Found.TheVariants.{NoUnit, Untyped, Unclear, Chosen}
+use Rattle.qvt_types_units.specs.declared.choice.FoundUnit.{FoundUnit}
+use Rattle.qvt_types_units.specs.declared.choice.FoundUnit.TheVariants.{NoUnit, Untyped, Unclear, Chosen}
 use Rattle.qvt_types_units.specs.declared.signature.HeadClass.{HeadClass}
 use Rattle.qvt_types_units.specs.declared.signature.HeadClass.TheVariants.{Missing, Unknown, Known}
 use Rattle.qvt_types_units.specs.declared.signature.Signature.{Signature}
@@ -165,8 +165,8 @@ module _ (m : Metamodels) (us : List Signature) (t : Transitive m) (a : Antisymm
 
   -- The units that are chosen for some classes.
 
-  module _ (known : List (Option Found)) where
-    more_chosen : (o : Option Found) (n : ℕ) (xs : List ℕ) → In n xs → In n (with_chosen o xs)
+  module _ (known : List (Option FoundUnit)) where
+    more_chosen : (o : Option FoundUnit) (n : ℕ) (xs : List ℕ) → In n xs → In n (with_chosen o xs)
     more_chosen None n xs i = i
     more_chosen (Some NoUnit) n xs i = i
     more_chosen (Some Untyped) n xs i = i
@@ -184,7 +184,7 @@ module _ (m : Metamodels) (us : List Signature) (t : Transitive m) (a : Antisymm
     from_chosens [] n i go = absurd i
     from_chosens {A} (c ∷ cs) n i go = by (known_at known c.0) refl i (λ j. from_chosens cs n j (λ k there e. go k (or_right (c.0 == k) (list_any (λ s. s.0 == k) cs) there) e))
       where
-        by : (o : Option Found) → known_at known c.0 ≡ o → In n (with_chosen o (chosens known cs)) → (In n (chosens known cs) → A) → A
+        by : (o : Option FoundUnit) → known_at known c.0 ≡ o → In n (with_chosen o (chosens known cs)) → (In n (chosens known cs) → A) → A
         by None e i rest = rest i
         by (Some NoUnit) e i rest = rest i
         by (Some Untyped) e i rest = rest i
@@ -223,10 +223,10 @@ module _ (m : Metamodels) (us : List Signature) (t : Transitive m) (a : Antisymm
           (o.0, over_by n k o.0 th (and_left (over n k) (not (list_any (disputes n k) ns)) o.1))))
 
       module _ (told : are_known known ks ≡ true) where
-        known_one : {A : Type 0} (k : ℕ) → there k ≡ true → ((f : Found) → known_at known k ≡ Some f → f ≡ choice_for m us ns k → A) → A
+        known_one : {A : Type 0} (k : ℕ) → there k ≡ true → ((f : FoundUnit) → known_at known k ≡ Some f → f ≡ choice_for m us ns k → A) → A
         known_one {A} k th go = by (known_at known k) refl (all_class (λ x. is_some (known_at known x)) ks k told th)
           where
-            by : (o : Option Found) → known_at known k ≡ o → is_some o ≡ true → A
+            by : (o : Option FoundUnit) → known_at known k ≡ o → is_some o ≡ true → A
             by None f h = absurd (cc)
             by (Some g) f h = go g f (are.told k g f)
 
@@ -234,7 +234,7 @@ module _ (m : Metamodels) (us : List Signature) (t : Transitive m) (a : Antisymm
         only_in x i only = over_one x i (and_left (over x c) (not (list_any (disputes x c) ns)) only)
             (λ k th up. known_one k th (λ f g is. in_chosens ks k x th (g ∙ ap Some (is ∙ sym (to_chosen x k i (only_at x k th only up))))))
 
-        unclear_is : (f : Found) → is_unclear f ≡ true → Unclear ≡ f
+        unclear_is : (f : FoundUnit) → is_unclear f ≡ true → Unclear ≡ f
         unclear_is NoUnit h = absurd (cc)
         unclear_is Untyped h = absurd (cc)
         unclear_is Unclear h = refl
@@ -248,7 +248,7 @@ module _ (m : Metamodels) (us : List Signature) (t : Transitive m) (a : Antisymm
         none_none : least m us (chosens known ks) ≡ None → some_unclear known ks ≡ false → NoUnit ≡ choice_for m us ns c
         none_none nothing clear = to_none c (λ n i up. over_one n i up (λ k th upk. known_one k th (λ f g is. by n i k th upk f g is)))
           where
-            by : (n : ℕ) → In n ns → (k : ℕ) → there k ≡ true → over n k ≡ true → (f : Found) → known_at known k ≡ Some f → f ≡ choice_for m us ns k → ⊥
+            by : (n : ℕ) → In n ns → (k : ℕ) → there k ≡ true → over n k ≡ true → (f : FoundUnit) → known_at known k ≡ Some f → f ≡ choice_for m us ns k → ⊥
             by n i k th upk NoUnit g is = from_none k is n i upk
             by n i k th upk Untyped g is = never_untyped k is
             by n i k th upk Unclear g is = clash (passing (λ x. is_unclear_in (known_at known x)) ks k th (ap is_unclear_in g)) clear
@@ -276,7 +276,7 @@ module _ (m : Metamodels) (us : List Signature) (t : Transitive m) (a : Antisymm
           rival_unclear h = to_unclear c n (chosen_over n low_there).0 (chosen_over n low_there).1
               (λ x i only. some_class (λ k. is_rival_in m us n (known_at known k)) ks h (λ k th r. by x i only k th (known_at known k) refl r))
             where
-              by : (x : ℕ) → In x ns → is_only m us ns x c ≡ true → (k : ℕ) → there k ≡ true → (o : Option Found) → known_at known k ≡ o → is_rival_in m us n o ≡ true → ⊥
+              by : (x : ℕ) → In x ns → is_only m us ns x c ≡ true → (k : ℕ) → there k ≡ true → (o : Option FoundUnit) → known_at known k ≡ o → is_rival_in m us n o ≡ true → ⊥
               by x i only k th None g r = absurd (cc)
               by x i only k th (Some NoUnit) g r = absurd (cc)
               by x i only k th (Some Untyped) g r = absurd (cc)
@@ -291,7 +291,7 @@ module _ (m : Metamodels) (us : List Signature) (t : Transitive m) (a : Antisymm
               (is_not (list_any (disputes n c) ns) (not_true (list_any (disputes n c) ns) (λ h. some_is (disputes n c) ns h
               (λ k i r. over_one k i (and_right (is_rival m us n k) (over k c) r) (λ q th up. known_one q th (λ f g is. by k i (and_left (is_rival m us n k) (over k c) r) q th up f g is)))))))
             where
-              by : (k : ℕ) → In k ns → is_rival m us n k ≡ true → (q : ℕ) → there q ≡ true → over k q ≡ true → (f : Found) → known_at known q ≡ Some f → f ≡ choice_for m us ns q → ⊥
+              by : (k : ℕ) → In k ns → is_rival m us n k ≡ true → (q : ℕ) → there q ≡ true → over k q ≡ true → (f : FoundUnit) → known_at known q ≡ Some f → f ≡ choice_for m us ns q → ⊥
               by k i r q th up NoUnit g is = from_none q is k i up
               by k i r q th up Untyped g is = never_untyped q is
               by k i r q th up Unclear g is = clash (passing (λ x. is_unclear_in (known_at known x)) ks q th (ap is_unclear_in g)) clear
@@ -301,7 +301,7 @@ module _ (m : Metamodels) (us : List Signature) (t : Transitive m) (a : Antisymm
                   (no_rival m us a ns q j (from_chosen j q is).1 k i up))
 
         -- what they tell together
-        joined_is : (f : Found) → joined_by m us known ks (least m us (chosens known ks)) ≡ Some f → f ≡ choice_for m us ns c
+        joined_is : (f : FoundUnit) → joined_by m us known ks (least m us (chosens known ks)) ≡ Some f → f ≡ choice_for m us ns c
         joined_is f = by (least m us (chosens known ks)) refl
           where
             nothing : (b : Bool) → least m us (chosens known ks) ≡ None → some_unclear known ks ≡ b → Some (if b then Unclear else NoUnit) ≡ Some f → f ≡ choice_for m us ns c
@@ -319,7 +319,7 @@ module _ (m : Metamodels) (us : List Signature) (t : Transitive m) (a : Antisymm
             by (Some n) g h = one n g (some_rival m us known ks n) (some_unclear known ks) refl refl h
 
 -- what the superclasses tell of a class without units of its own is its choice
-pub inherited_is : (m : Metamodels) (us : List Signature) → Transitive m → Antisymmetric m → AreLeast m → (ns : List ℕ) → IsDistinct eqb ns → (known : List (Option Found)) (top : Found) (c : ℕ) (f : Found)
+pub inherited_is : (m : Metamodels) (us : List Signature) → Transitive m → Antisymmetric m → AreLeast m → (ns : List ℕ) → IsDistinct eqb ns → (known : List (Option FoundUnit)) (top : FoundUnit) (c : ℕ) (f : FoundUnit)
     → AreKnown m us ns known → top ≡ top_choice m us ns → own us ns c ≡ [] → inherited m us known top (class_at m c).supers ≡ Some f → f ≡ choice_for m us ns c
 inherited_is m us t a low ns d known top c f are is none tells = by (class_at m c).supers refl tells
   where

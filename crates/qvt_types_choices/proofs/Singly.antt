@@ -7,7 +7,7 @@ use Rattle.std.proofs.lemmas.Map.Keys.{IsDistinct-head, IsDistinct-tail}
 use Rattle.qvt_metamodel.specs.Metamodels.{Metamodels, class_at, is_element}
 use Rattle.qvt_metamodel.specs.Descends.{descends, reaches}
 use Rattle.qvt_metamodel.proofs.Bools.{and_both, and_left, and_right, not_true, clash, ap2}
-use Rattle.qvt_types_units.specs.declared.choice.Found.TheVariants.{NoUnit, Unclear, Chosen}
+use Rattle.qvt_types_units.specs.declared.choice.FoundUnit.TheVariants.{NoUnit, Unclear, Chosen}
 use Rattle.qvt_types_units.specs.declared.signature.HeadClass.{HeadClass}
 use Rattle.qvt_types_units.specs.declared.signature.HeadClass.TheVariants.{Missing, Unknown, Known}
 use Rattle.qvt_types_units.specs.declared.signature.Signature.{Signature}

@@ -3,8 +3,8 @@ use Rattle.std.specs.Prelude.{ℕ, ◌&&◌, ◌||◌, not, Bool, List, length, 
 use Rattle.std.specs.List.{list_any, range_with_len}
 use Rattle.qvt_metamodel.specs.Metamodels.{Metamodels, class_at}
 use Rattle.qvt_metamodel.specs.Descends.{descends}
-use Rattle.qvt_types_units.specs.declared.choice.Found.{Found}
-use Rattle.qvt_types_units.specs.declared.choice.Found.TheVariants.{NoUnit, Untyped, Chosen}
+use Rattle.qvt_types_units.specs.declared.choice.FoundUnit.{FoundUnit}
+use Rattle.qvt_types_units.specs.declared.choice.FoundUnit.TheVariants.{NoUnit, Untyped, Chosen}
 use Rattle.qvt_types_units.specs.declared.signature.HeadClass.{HeadClass}
 use Rattle.qvt_types_units.specs.declared.signature.HeadClass.TheVariants.{Missing, Unknown, Known}
 use Rattle.qvt_types_units.specs.declared.signature.Signature.{Signature}
@@ -26,7 +26,7 @@ abbrev pub lacks_one : Metamodels → List ℕ → ℕ → Option ℕ → Bool
 lacks_one m stuck c o = not (is_some o) || list_any (λ d. descends m d c) stuck
 
 -- one unit alone
-abbrev pub found_alone : Metamodels → ℕ → HeadClass → ℕ → Found
+abbrev pub found_alone : Metamodels → ℕ → HeadClass → ℕ → FoundUnit
 found_alone m n Missing c = NoUnit
 found_alone m n Unknown c = Untyped
 found_alone m n (Known d) c = if descends m c d.0 then Chosen n else NoUnit

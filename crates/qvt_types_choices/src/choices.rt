@@ -16,12 +16,12 @@ use qvt_base::seq::Seq;
 use qvt_metamodel::row::Row;
 use qvt_rows::sets::overlap;
 use qvt_types_paths::metas::Metas;
-use qvt_types_units::choice::{Found, context_at, is_unknown};
+use qvt_types_units::choice::{FoundUnit, context_at, is_unknown};
 use qvt_types_units::signature::{HeadClass, Signature};
 use std::alloc::Global;
 
 /// What is found for each class.
-pub type FoundRow = Seq<Found>;
+pub type FoundRow = Seq<FoundUnit>;
 
 /// Whether the context of one of the units is unknown.
 pub fn is_unsure(units: &[Signature], group: &[u32]) -> bool
@@ -48,34 +48,34 @@ pub fn found(
     is_unsure: bool,
     stuck: &Row,
     class: ClassNo,
-    choice: Found,
-) -> Found
+    choice: FoundUnit,
+) -> FoundUnit
     requires sets { AreSets metas.now sets.now }
     requires within { EndsWithin (length metas.now.classes) stuck.now }
     ensures { result ≡ by_class.settled is_unsure (by_class.some_below metas.now stuck.now class.0) choice }
 {
     if is_unsure {
-        return Found::Untyped;
+        return FoundUnit::Untyped;
     }
     match choice {
-        Found::Chosen(_) if are_some_below(metas, sets, stuck, class) => Found::Unclear,
+        FoundUnit::Chosen(_) if are_some_below(metas, sets, stuck, class) => FoundUnit::Unclear,
         _ => choice,
     }
 }
 
 /// What is found where there is one unit alone.
-fn found_alone(metas: &Metas, units: &[Signature], number: u32, class: ClassNo) -> Found
+fn found_alone(metas: &Metas, units: &[Signature], number: u32, class: ClassNo) -> FoundUnit
     ensures { result ≡ choice.looked_up metas.now units.now (number ∷ []) class.0 }
 {
     metas.are_well_formed();
     match context_at(units, number) {
-        HeadClass::Missing => Found::NoUnit,
-        HeadClass::Unknown => Found::Untyped,
+        HeadClass::Missing => FoundUnit::NoUnit,
+        HeadClass::Unknown => FoundUnit::Untyped,
         HeadClass::Known(above) => {
             if metas.descends(class, above) {
-                Found::Chosen(number)
+                FoundUnit::Chosen(number)
             } else {
-                Found::NoUnit
+                FoundUnit::NoUnit
             }
         }
     }
@@ -89,13 +89,13 @@ pub fn look_up(
     sets: &ClassSets,
     group: &[u32],
     class: ClassNo,
-) -> Result<Found, ListFault>
+) -> Result<FoundUnit, ListFault>
     requires sets { AreSets metas.now sets.now }
     requires distinct { IsDistinct eqb group.now }
     ensures { IfOk result (λ f. f ≡ choice.looked_up metas.now units.now group.now class.0) }
 {
     match group {
-        [] => Ok(Found::NoUnit),
+        [] => Ok(FoundUnit::NoUnit),
         [number] => Ok(found_alone(metas, units, *number, class)),
         several => {
             metas.are_well_formed();
@@ -114,14 +114,14 @@ pub fn look_up(
     }
 }
 
-fn choice_at(choices: &[Found], class: u32) -> Found
+fn choice_at(choices: &[FoundUnit], class: u32) -> FoundUnit
     ensures { result ≡ by_class.choice_at choices.now class }
 {
     let at = class as usize;
     if at < choices.len() {
         choices[at]
     } else {
-        Found::NoUnit
+        FoundUnit::NoUnit
     }
 }
 

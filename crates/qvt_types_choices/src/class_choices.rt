@@ -19,26 +19,26 @@ use qvt_metamodel::row::Row;
 use qvt_metas::order::{Order, order_of};
 use qvt_metas::tables::supers_at;
 use qvt_types_paths::metas::Metas;
-use qvt_types_units::choice::{Found, context_at};
+use qvt_types_units::choice::{FoundUnit, context_at};
 use qvt_types_units::signature::{HeadClass, Signature};
 use std::alloc::Global;
 
 /// What is known of each class by its number: its choice, or nothing.
-type KnownChoices = Seq<Option<Found>>;
+type KnownChoices = Seq<Option<FoundUnit>>;
 
 /// For each class its choice, and the concrete classes without a single one, though some units are above them.
 #[derive(Drop)]
 pub struct ClassChoices {
-    pub each: Seq<Found>,
+    pub each: Seq<FoundUnit>,
     pub stuck: Row,
 }
 
-fn chosen_of(chosen: Option<u32>) -> Found
+fn chosen_of(chosen: Option<u32>) -> FoundUnit
     ensures { result ≡ choice.chosen_of false chosen }
 {
     match chosen {
-        None => Found::Unclear,
-        Some(number) => Found::Chosen(number),
+        None => FoundUnit::Unclear,
+        Some(number) => FoundUnit::Chosen(number),
     }
 }
 
@@ -48,11 +48,11 @@ fn choice_among(
     metas: &Metas,
     units: &[Signature],
     among: &[u32],
-) -> Result<Found, ListFault>
+) -> Result<FoundUnit, ListFault>
     ensures { IfOk result (λ f. f ≡ by_class.choice_among metas.now units.now among.now) }
 {
     match among {
-        [] => Ok(Found::NoUnit),
+        [] => Ok(FoundUnit::NoUnit),
         some => Ok(chosen_of(lowest(alloc, metas, units, some)?)),
     }
 }
@@ -68,7 +68,7 @@ fn nothing_known(alloc: Global, count: u32) -> Result<KnownChoices, ListFault>
     Ok(known)
 }
 
-fn known_at(known: &[Option<Found>], class: u32) -> Option<Found>
+fn known_at(known: &[Option<FoundUnit>], class: u32) -> Option<FoundUnit>
     ensures { result ≡ by_class.known_at known.now class }
 {
     let at = class as usize;
@@ -76,17 +76,17 @@ fn known_at(known: &[Option<Found>], class: u32) -> Option<Found>
 }
 
 /// What is known of a class that has one unit more.
-fn one_more(known: Option<Found>, number: u32) -> Option<Found>
+fn one_more(known: Option<FoundUnit>, number: u32) -> Option<FoundUnit>
     ensures { result ≡ by_class.one_more known number }
 {
     match known {
-        None => Some(Found::Chosen(number)),
-        Some(_) => Some(Found::Unclear),
+        None => Some(FoundUnit::Chosen(number)),
+        Some(_) => Some(FoundUnit::Unclear),
     }
 }
 
 /// Tells what is known of a class, where it is there.
-fn tell(known: &mut KnownChoices, class: u32, choice: Option<Found>)
+fn tell(known: &mut KnownChoices, class: u32, choice: Option<FoundUnit>)
     ensures { known.new ≡ slice_set known.old class choice }
 {
     let at = class as usize;
@@ -170,35 +170,35 @@ fn top_choice(
     metas: &Metas,
     units: &[Signature],
     group: &[u32],
-) -> Result<Found, ListFault>
+) -> Result<FoundUnit, ListFault>
     ensures { IfOk result (λ f. f ≡ by_class.top_choice metas.now units.now group.now) }
 {
     let tops = tops(alloc, metas, units, group)?;
     choice_among(alloc, metas, units, tops.as_slice())
 }
 
-fn is_told(known: &[Option<Found>], class: u32) -> bool
+fn is_told(known: &[Option<FoundUnit>], class: u32) -> bool
     ensures { result ≡ is_some (by_class.known_at known.now class) }
 {
     known_at(known, class).is_some()
 }
 
-fn are_told(known: &[Option<Found>], classes: &[ClassNo]) -> bool
+fn are_told(known: &[Option<FoundUnit>], classes: &[ClassNo]) -> bool
     ensures { result ≡ by_class.are_known known.now classes.now }
 {
     classes.iter().all(|class| is_told(known, class.0))
 }
 
-fn is_unclear(known: &[Option<Found>], class: u32) -> bool
+fn is_unclear(known: &[Option<FoundUnit>], class: u32) -> bool
     ensures { result ≡ by_class.is_unclear_in (by_class.known_at known.now class) }
 {
     match known_at(known, class) {
-        Some(Found::Unclear) => true,
+        Some(FoundUnit::Unclear) => true,
         _ => false,
     }
 }
 
-fn are_some_unclear(known: &[Option<Found>], classes: &[ClassNo]) -> bool
+fn are_some_unclear(known: &[Option<FoundUnit>], classes: &[ClassNo]) -> bool
     ensures { result ≡ by_class.some_unclear known.now classes.now }
 {
     classes.iter().any(|class| is_unclear(known, class.0))
@@ -208,14 +208,14 @@ fn are_some_unclear(known: &[Option<Found>], classes: &[ClassNo]) -> bool
 fn has_rival(
     metas: &Metas,
     units: &[Signature],
-    known: &[Option<Found>],
+    known: &[Option<FoundUnit>],
     number: u32,
     class: u32,
 ) -> bool
     ensures { result ≡ by_class.is_rival_in metas.now units.now number (by_class.known_at known.now class) }
 {
     match known_at(known, class) {
-        Some(Found::Chosen(other)) => is_rival(metas, units, number, other),
+        Some(FoundUnit::Chosen(other)) => is_rival(metas, units, number, other),
         _ => false,
     }
 }
@@ -223,7 +223,7 @@ fn has_rival(
 fn have_rivals(
     metas: &Metas,
     units: &[Signature],
-    known: &[Option<Found>],
+    known: &[Option<FoundUnit>],
     classes: &[ClassNo],
     number: u32,
 ) -> bool
@@ -238,14 +238,14 @@ fn have_rivals(
 fn least_chosen(
     metas: &Metas,
     units: &[Signature],
-    known: &[Option<Found>],
+    known: &[Option<FoundUnit>],
     classes: &[ClassNo],
 ) -> Option<u32>
     ensures { result ≡ only.least metas.now units.now (by_class.chosens known.now classes.now) }
 {
     let mut least = None;
     for class in classes {
-        if let Some(Found::Chosen(number)) = known_at(known, class.0) {
+        if let Some(FoundUnit::Chosen(number)) = known_at(known, class.0) {
             least = Some(lower_of(metas, units, least, number));
         }
     }
@@ -257,9 +257,9 @@ fn least_chosen(
 fn joined(
     metas: &Metas,
     units: &[Signature],
-    known: &[Option<Found>],
+    known: &[Option<FoundUnit>],
     classes: &[ClassNo],
-) -> Option<Found>
+) -> Option<FoundUnit>
     ensures { result ≡ by_class.joined metas.now units.now known.now classes.now }
 {
     if !are_told(known, classes) {
@@ -268,17 +268,17 @@ fn joined(
     let is_unclear = are_some_unclear(known, classes);
     match least_chosen(metas, units, known, classes) {
         None => Some(if is_unclear {
-            Found::Unclear
+            FoundUnit::Unclear
         } else {
-            Found::NoUnit
+            FoundUnit::NoUnit
         }),
         Some(number) => {
             if have_rivals(metas, units, known, classes, number) {
-                Some(Found::Unclear)
+                Some(FoundUnit::Unclear)
             } else if is_unclear {
                 None
             } else {
-                Some(Found::Chosen(number))
+                Some(FoundUnit::Chosen(number))
             }
         }
     }
@@ -288,10 +288,10 @@ fn joined(
 fn inherited(
     metas: &Metas,
     units: &[Signature],
-    known: &[Option<Found>],
-    top: Found,
+    known: &[Option<FoundUnit>],
+    top: FoundUnit,
     class: u32,
-) -> Option<Found>
+) -> Option<FoundUnit>
     ensures { result ≡ by_class.inherited metas.now units.now known.now top (class_at metas.now class).supers }
 {
     match supers_at(metas.class_infos(), class) {
@@ -305,10 +305,10 @@ fn choice_by(
     metas: &Metas,
     units: &[Signature],
     group: &[u32],
-    top: Found,
-    known: &[Option<Found>],
+    top: FoundUnit,
+    known: &[Option<FoundUnit>],
     class: u32,
-) -> Found
+) -> FoundUnit
     requires there { class < length known.now }
     requires top { top ≡ by_class.top_choice metas.now units.now group.now }
     requires known { AreKnown metas.now units.now group.now known.now }
@@ -331,7 +331,7 @@ fn tell_choice(
     metas: &Metas,
     units: &[Signature],
     group: &[u32],
-    top: Found,
+    top: FoundUnit,
     class: u32,
     known: &mut KnownChoices,
 )
@@ -352,7 +352,7 @@ fn tell_all(
     metas: &Metas,
     units: &[Signature],
     group: &[u32],
-    top: Found,
+    top: FoundUnit,
     order: &[u32],
     known: &mut KnownChoices,
 )
@@ -368,14 +368,14 @@ fn tell_all(
 }
 
 /// Whether the class is concrete and has no single choice.
-fn is_stuck(metas: &Metas, class: ClassNo, choice: Found) -> bool
+fn is_stuck(metas: &Metas, class: ClassNo, choice: FoundUnit) -> bool
     ensures { result ≡ by_class.is_stuck_by metas.now class.0 choice }
 {
     if metas.is_abstract(class) {
         return false;
     }
     match choice {
-        Found::Unclear => true,
+        FoundUnit::Unclear => true,
         _ => false,
     }
 }
@@ -386,8 +386,8 @@ fn choices_by(
     metas: &Metas,
     units: &[Signature],
     group: &[u32],
-    top: Found,
-    known: &[Option<Found>],
+    top: FoundUnit,
+    known: &[Option<FoundUnit>],
 ) -> Result<ClassChoices, ListFault>
     requires each { length known.now ≡ length metas.now.classes }
     requires top { top ≡ by_class.top_choice metas.now units.now group.now }

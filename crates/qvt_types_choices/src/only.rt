@@ -9,7 +9,7 @@ ghost use Rattle.qvt_types_choices.specs.Only as only;
 use crate::candidates::lower;
 use qvt_base::numbers::ClassNo;
 use qvt_types_paths::metas::Metas;
-use qvt_types_units::choice::{Found, context_at, is_below};
+use qvt_types_units::choice::{FoundUnit, context_at, is_below};
 use qvt_types_units::overrides::is_strictly_below;
 use qvt_types_units::signature::{HeadClass, Signature};
 
@@ -87,18 +87,18 @@ fn least_above(metas: &Metas, units: &[Signature], group: &[u32], class: ClassNo
 }
 
 /// The choice for the class, in time linear in the number of the units.
-pub fn choice_of(metas: &Metas, units: &[Signature], group: &[u32], class: ClassNo) -> Found
+pub fn choice_of(metas: &Metas, units: &[Signature], group: &[u32], class: ClassNo) -> FoundUnit
     requires { IsDistinct eqb group.now }
     ensures { result ≡ by_class.choice_for metas.now units.now group.now class.0 }
 {
     metas.are_well_formed();
     match least_above(metas, units, group, class) {
-        None => Found::NoUnit,
+        None => FoundUnit::NoUnit,
         Some(number) => {
             if is_only(metas, units, group, number, class) {
-                Found::Chosen(number)
+                FoundUnit::Chosen(number)
             } else {
-                Found::Unclear
+                FoundUnit::Unclear
             }
         }
     }

@@ -14,7 +14,7 @@ use qvt_base::list_fault::ListFault;
 use qvt_base::numbers::ClassNo;
 use qvt_metamodel::row::Row;
 use qvt_types_paths::metas::Metas;
-use qvt_types_units::choice::Found;
+use qvt_types_units::choice::FoundUnit;
 use qvt_types_units::signature::Signature;
 use std::alloc::Global;
 
@@ -64,7 +64,7 @@ fn found_by_few(
     group: &[u32],
     stuck: &Row,
     class: ClassNo,
-) -> Found
+) -> FoundUnit
     requires sets { AreSets metas.now sets.now }
     requires distinct { IsDistinct eqb group.now }
     requires stuck { IsSetOf metas.now (is_stuck metas.now units.now group.now) stuck.now }
@@ -79,7 +79,7 @@ ghost use Rattle.qvt_types_choices.specs.Sets.{IsSetOf};
 ghost use Rattle.qvt_types_choices.specs.Stuck.{is_stuck};
 
 /// What stands in the row of a class, if it is that long.
-fn row_at(row: &[Found], class: ClassNo) -> Option<Found>
+fn row_at(row: &[FoundUnit], class: ClassNo) -> Option<FoundUnit>
     ensures { result ≡ slice_get row.now class.0 }
 {
     row.get(class.0 as usize).copied()
@@ -93,7 +93,7 @@ pub fn found_in(
     group: &[u32],
     table: &GroupTable,
     class: ClassNo,
-) -> Option<Found>
+) -> Option<FoundUnit>
     requires sets { AreSets metas.now sets.now }
     requires distinct { IsDistinct eqb group.now }
     requires told { TellsOf metas.now units.now group.now table.now }

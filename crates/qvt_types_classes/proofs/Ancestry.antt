@@ -21,7 +21,7 @@ use Rattle.qvt_metamodel.proofs.Infos.{among_numbers, length-numbers_from}
 use Rattle.qvt_metamodel.proofs.Lookups.{none_repeated, repeated-fewer}
 use Rattle.qvt_metamodel.proofs.Owners.{Declared as Owner, declared as owner, among-flat, once-from, once-has, includes, all-there}
 use Rattle.qvt_metas.specs.Tables.{of_classes}
-use Rattle.qvt_types_data.specs.declared.refusal.Refusal.{Refusal}
+use Rattle.qvt_types_data.specs.declared.refusal.TypingRefusal.{TypingRefusal}
 use Rattle.qvt_types_data.specs.declared.refusal.RefusalKind.TheVariants.{SameName}
 use Rattle.qvt_types_paths.specs.Told.{told_if}
 use Rattle.qvt_types_classes.specs.declared.declared.Property.{Property}
@@ -62,12 +62,12 @@ own_silent earlier [] fresh = refl
 own_silent earlier (p ∷ ps) fresh =
     let two : (is_among p.name earlier ≡ false) × (repeated (earlier ++ p.name ∷ []) (names_of ps) ≡ None) =
     none_repeated (is_among p.name earlier) p.name (repeated (earlier ++ p.name ∷ []) (names_of ps)) fresh in
-    ap2 (λ (b : Bool) (rs : List Refusal). told_if b SameName p.place ++ rs) two.0 (own_silent (earlier ++ p.name ∷ []) ps two.1)
+    ap2 (λ (b : Bool) (rs : List TypingRefusal). told_if b SameName p.place ++ rs) two.0 (own_silent (earlier ++ p.name ∷ []) ps two.1)
 
 -- nothing is told of a class whose properties all differ in their names
 pub silent : (xs ys : List Property) (d : Declared) → length ys ≡ length d.properties → repeated [] (names_of xs) ≡ None → repeated (names_of xs) (names_of d.properties) ≡ None → same_told (xs ++ ys) d ≡ []
 unfolding same_told
-silent xs ys d same fresh own = ap2 (λ (b : Bool) (rs : List Refusal). told_if b SameName d.place ++ rs) (twice_is xs ys d same ∙ ap is_some fresh)
+silent xs ys d same fresh own = ap2 (λ (b : Bool) (rs : List TypingRefusal). told_if b SameName d.place ++ rs) (twice_is xs ys d same ∙ ap is_some fresh)
     (ap (λ n. own_told (names_of (take n (xs ++ ys))) d.properties) (inherited_part xs ys d same)
     ∙ ap (λ (ps : List Property). own_told (names_of ps) d.properties) (take-append_seam xs ys)
     ∙ own_silent (names_of xs) d.properties own)

@@ -11,7 +11,7 @@ use Rattle.qvt_metamodel.specs.Names.{repeated}
 use Rattle.qvt_metamodel.proofs.Bools.{ap2}
 use Rattle.qvt_metamodel.proofs.Infos.{map-at, length-numbers_from}
 use Rattle.qvt_metas.specs.Search.{IsAcyclic}
-use Rattle.qvt_types_data.specs.declared.refusal.Refusal.{Refusal}
+use Rattle.qvt_types_data.specs.declared.refusal.TypingRefusal.{TypingRefusal}
 use Rattle.qvt_base.specs.declared.numbers.FeatureNo.{FeatureNo}
 use Rattle.qvt_types_classes.specs.declared.declared.Property.{Property}
 use Rattle.qvt_types_classes.specs.declared.declared.Declared.{Declared}
@@ -39,7 +39,7 @@ same_from all lists k (d ∷ ds) h = ap2 (λ (r : Declared) (rs : List Declared)
 -- classes of each of which nothing is told
 none_from : (all : List Property) (lists : List (List FeatureNo)) (k : ℕ) (ds : List Declared) → ((i : ℕ) → i < length ds → same_told (properties_at all lists (k + i)) (at ds i) ≡ []) → same_told_from all lists k ds ≡ []
 none_from all lists k [] h = refl
-none_from all lists k (d ∷ ds) h = ap2 (λ (r rs : List Refusal). r ++ rs)
+none_from all lists k (d ∷ ds) h = ap2 (λ (r rs : List TypingRefusal). r ++ rs)
     (ap (λ n. same_told (properties_at all lists n) d) (let same : k ≡ k + 0 = omega arith in same) ∙ h zero (omega arith))
     (none_from all lists (k + 1) ds (λ i l. ap (λ n. same_told (properties_at all lists n) (at ds i)) (let same : k + 1 + i ≡ k + suc i = omega arith in same) ∙ h (suc i) (omega (arith, l))))
 

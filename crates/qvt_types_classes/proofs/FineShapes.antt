@@ -18,7 +18,7 @@ use Rattle.qvt_tree_types.specs.Tree.{TypeTerm, CollType, PathType}
 use Rattle.qvt_tree_types.specs.Module.{TypedName, UnitTerm, ClassOf, MainOf, HelperOf, ConstructorOf, MappingOf}
 use Rattle.qvt_tree_types.specs.declared.types.PathTree.{PathTree}
 use Rattle.qvt_tree_types.specs.declared.words.CollKind.{CollKind}
-use Rattle.qvt_types_data.specs.declared.refusal.Refusal.{Refusal}
+use Rattle.qvt_types_data.specs.declared.refusal.TypingRefusal.{TypingRefusal}
 use Rattle.qvt_types_data.specs.declared.refusal.RefusalKind.{RefusalKind}
 use Rattle.qvt_types_data.specs.declared.refusal.RefusalKind.TheVariants.{UnknownType}
 use Rattle.qvt_types_data.specs.declared.ty.Ty.{Ty, out-Ty, out-roll-Ty}
@@ -209,7 +209,7 @@ module _ (m : Metamodels) (t : NamedTypes) where
         all_append (λ s. s < length t.classes) (list_of (super_place m t path)) (flat_map (λ path. list_of (super_place m t path)) paths) (super_there path) (supers_there paths)
 
     -- types as they are written
-    abbrev WrittenThere : Result Ty Refusal → Type 0
+    abbrev WrittenThere : Result Ty TypingRefusal → Type 0
     WrittenThere (Ok T) = TypeThere (out-Ty T)
     WrittenThere (Err e) = Unit {0}
 
@@ -237,7 +237,7 @@ module _ (m : Metamodels) (t : NamedTypes) where
     written_there : (w : TypeTerm) → WrittenThere (written_type m t w)
     written_there (CollType k item place) = by (written_type m t item) (written_there item)
       where
-        by : (r : Result Ty Refusal) → WrittenThere r → WrittenThere (collection k r)
+        by : (r : Result Ty TypingRefusal) → WrittenThere r → WrittenThere (collection k r)
         by (Ok T) a = collection_there k T (item_there (out-Ty T) a)
         by (Err e) a = tt
     written_there (PathType path) = by (path_type m t path.names) (path_there path.names)
@@ -263,7 +263,7 @@ module _ (m : Metamodels) (t : NamedTypes) where
     shape_fine (Ty-F.Enum k e) a = (refl, refl, a)
     shape_fine (Ty-F.Class c) a = (refl, refl, a)
 
-    abbrev FoundFine : Result FeatureShape Refusal → Type 0
+    abbrev FoundFine : Result FeatureShape TypingRefusal → Type 0
     FoundFine (Ok s) = IsFine s
     FoundFine (Err e) = Unit {0}
 
@@ -275,14 +275,14 @@ module _ (m : Metamodels) (t : NamedTypes) where
         or_fine None a = tt
         or_fine (Some s) a = a
 
-        by : (r : Result Ty Refusal) → WrittenThere r → FoundFine (shape_of_type (type_place f.kind) r)
+        by : (r : Result Ty TypingRefusal) → WrittenThere r → FoundFine (shape_of_type (type_place f.kind) r)
         by (Ok T) a = or_fine (shape_in (out-Ty T)) (shape_fine (out-Ty T) a)
         by (Err e) a = tt
 
     property_fine : (f : TypedName) → IsFine (property_of m t f).shape
     property_fine f = by (property_shape m t f) (property_shape_fine f)
       where
-        by : (r : Result FeatureShape Refusal) → FoundFine r → IsFine (property f.name f.place r).shape
+        by : (r : Result FeatureShape TypingRefusal) → FoundFine r → IsFine (property f.name f.place r).shape
         by (Ok s) a = a
         by (Err e) a = (refl, refl, tt)
 

@@ -18,7 +18,7 @@ use Rattle.qvt_meta_repeats.proofs.Flags.{flag_at, flags_count, flags_drop}
 use Rattle.qvt_meta_repeats.proofs.Names.{first_empty, flags_of_places}
 use Rattle.qvt_types_classes.specs.declared.declared.Declared.{Declared}
 use Rattle.qvt_types_classes.specs.declared.declared.Property.{Property}
-use Rattle.qvt_types_data.specs.declared.refusal.Refusal.{Refusal}
+use Rattle.qvt_types_data.specs.declared.refusal.TypingRefusal.{TypingRefusal}
 use Rattle.qvt_types_data.specs.declared.refusal.RefusalKind.TheVariants.{SameName}
 use Rattle.qvt_types_paths.specs.Told.{told_if}
 use Rattle.qvt_types_classes.specs.Inherited.{names_of, no_property, property_at, firsts, own_told, same_told, inherits_twice, read_class, IsOwnLast}
@@ -52,14 +52,14 @@ firsts_after ps k le h =
     ∙ ap (λ n. drop n (take k ps ++ firsts (names_of (take k ps)) (drop k ps))) (sym (length-take-le k ps le))
     ∙ drop-append_seam (take k ps) (firsts (names_of (take k ps)) (drop k ps))
 
-pub own_next : (names earlier : List (List ℕ)) (log next whole : List Refusal) (ps : List Property) (i : ℕ) (d : Property) (b : Bool) → i < length ps
+pub own_next : (names earlier : List (List ℕ)) (log next whole : List TypingRefusal) (ps : List Property) (i : ℕ) (d : Property) (b : Bool) → i < length ps
     → b ≡ is_among (get_or ps i d).name (names ++ earlier)
     → log ++ own_told (names ++ earlier) (drop i ps) ≡ whole
     → next ≡ log ++ told_if b SameName (get_or ps i d).place
     → next ++ own_told (names ++ (earlier ++ (get_or ps i d).name ∷ [])) (drop (i + 1) ps) ≡ whole
 own_next names earlier log next whole ps i d b l is h told =
     let p = get_or ps i d in
-    ap2 (λ (a : List Refusal) (e : List (List ℕ)). a ++ own_told e (drop (i + 1) ps)) (told ∙ ap (λ t. log ++ told_if t SameName p.place) is) (sym (append_assoc names earlier (p.name ∷ [])))
+    ap2 (λ (a : List TypingRefusal) (e : List (List ℕ)). a ++ own_told e (drop (i + 1) ps)) (told ∙ ap (λ t. log ++ told_if t SameName p.place) is) (sym (append_assoc names earlier (p.name ∷ [])))
     ∙ append_assoc log (told_if (is_among p.name (names ++ earlier)) SameName p.place) (own_told ((names ++ earlier) ++ p.name ∷ []) (drop (i + 1) ps))
     ∙ ap (λ (qs : List Property). log ++ own_told (names ++ earlier) qs) (sym (drop_more ps i d l))
     ∙ h
@@ -103,7 +103,7 @@ names_next : (names : List (List ℕ)) (ps : List Property) (i : ℕ) (d : Prope
 names_next names ps i d l = ap (λ (n : List (List ℕ)). names ++ n) (map_more name_of ps i d l) ∙ sym (append_assoc names (names_of (take i ps)) ((get_or ps i d).name ∷ []))
 
 -- the loops over the properties of a class, one step
-pub told_next : (names : List (List ℕ)) (log next whole : List Refusal) (ps : List Property) (i : ℕ) (d : Property) (b : Bool) → i < length ps
+pub told_next : (names : List (List ℕ)) (log next whole : List TypingRefusal) (ps : List Property) (i : ℕ) (d : Property) (b : Bool) → i < length ps
     → b ≡ is_among (get_or ps i d).name (names ++ names_of (take i ps))
     → log ++ own_told (names ++ names_of (take i ps)) (drop i ps) ≡ whole
     → next ≡ log ++ told_if b SameName (get_or ps i d).place
@@ -148,7 +148,7 @@ others_are all list own none =
     ap2 (λ (n : List (List ℕ)) (qs : List Property). firsts n qs) (above_are all list own) (sym (drop-map (property_at all) (length list - length own) list) ∙ ap (λ n. drop (n - length own) ps) (sym (length-map list (property_at all))))
     ∙ sym (firsts_after ps k (let le : length ps - length own ≤ length ps = omega arith in le) (sym (twice_is all list own) ∙ none))
 
-pub told_is : (all : List Property) (list : List FeatureNo) (d : Declared) (twice : Bool) (log middle end : List Refusal)
+pub told_is : (all : List Property) (list : List FeatureNo) (d : Declared) (twice : Bool) (log middle end : List TypingRefusal)
     → twice ≡ is_some (repeated [] (names_at all (take (length list - length d.properties) list)))
     → middle ≡ log ++ told_if twice SameName d.place
     → end ≡ middle ++ own_told (names_at all (take (length list - length d.properties) list)) d.properties
@@ -156,7 +156,7 @@ pub told_is : (all : List Property) (list : List FeatureNo) (d : Declared) (twic
 unfolding same_told inherits_twice
 told_is all list d twice log middle end is told own =
     own
-    ∙ ap2 (λ (m : List Refusal) (n : List (List ℕ)). m ++ own_told n d.properties) (told ∙ ap (λ t. log ++ told_if t SameName d.place) (is ∙ twice_is all list d.properties)) (above_are all list d.properties)
+    ∙ ap2 (λ (m : List TypingRefusal) (n : List (List ℕ)). m ++ own_told n d.properties) (told ∙ ap (λ t. log ++ told_if t SameName d.place) (is ∙ twice_is all list d.properties)) (above_are all list d.properties)
     ∙ append_assoc log _ _
 
 -- a class whose inherited properties differ in their names

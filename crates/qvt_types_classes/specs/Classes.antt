@@ -9,7 +9,7 @@ use Rattle.qvt_metamodel.specs.declared.given.ClassData.{ClassData}
 use Rattle.qvt_metamodel.specs.declared.given.FeatureData.{FeatureData}
 use Rattle.qvt_metamodel.specs.declared.info.ClassInfo.{ClassInfo}
 use Rattle.qvt_metas.specs.Tables.{of_classes}
-use Rattle.qvt_types_data.specs.declared.refusal.Refusal.{Refusal}
+use Rattle.qvt_types_data.specs.declared.refusal.TypingRefusal.{TypingRefusal}
 use Rattle.qvt_types_paths.specs.ModelTypes.{NamedTypes}
 use Rattle.qvt_types_classes.specs.declared.declared.Property.{Property}
 use Rattle.qvt_types_classes.specs.declared.declared.Declared.{Declared}
@@ -33,11 +33,11 @@ unfoldable pub read_classes : List Declared → List Declared
 read_classes ds = read_from (all_properties ds) (property_lists (numbered_from 0 ds)) 0 ds
 
 -- what is told of properties of one name
-unfoldable pub all_same_told : List Declared → List Refusal
+unfoldable pub all_same_told : List Declared → List TypingRefusal
 all_same_told ds = same_told_from (all_properties ds) (property_lists (numbered_from 0 ds)) 0 ds
 
 -- what is told of the classes by what stands above them
-abbrev pub above_told : List Declared → List Refusal
+abbrev pub above_told : List Declared → List TypingRefusal
 above_told ds = cycles_told (cycle_flags (super_lists ds)) 0 ds ++ all_same_told (own_classes ds)
 
 abbrev pub feature_data : Property → FeatureData

@@ -9,7 +9,7 @@ use Rattle.qvt_metamodel.specs.Added.{numbers_from}
 use Rattle.qvt_metamodel.specs.Names.{is_among, repeated}
 use Rattle.qvt_metamodel.specs.declared.info.ClassInfo.{ClassInfo}
 use Rattle.qvt_metas.specs.Tables.{of_classes}
-use Rattle.qvt_types_data.specs.declared.refusal.Refusal.{Refusal}
+use Rattle.qvt_types_data.specs.declared.refusal.TypingRefusal.{TypingRefusal}
 use Rattle.qvt_types_data.specs.declared.refusal.RefusalKind.TheVariants.{SameName}
 use Rattle.qvt_types_paths.specs.Told.{told_if}
 use Rattle.qvt_types_classes.specs.declared.declared.Property.{Property}
@@ -63,11 +63,11 @@ unfoldable pub inherits_twice : List Property → Declared → Bool
 inherits_twice ps d = is_some (repeated [] (names_of (take (inherited_count ps d.properties) ps)))
 
 -- each of the class's own properties whose name an earlier one or an inherited one has
-abbrev pub own_told : List (List ℕ) → List Property → List Refusal
+abbrev pub own_told : List (List ℕ) → List Property → List TypingRefusal
 own_told earlier [] = []
 own_told earlier (p ∷ ps) = told_if (is_among p.name earlier) SameName p.place ++ own_told (earlier ++ p.name ∷ []) ps
 
-unfoldable pub same_told : List Property → Declared → List Refusal
+unfoldable pub same_told : List Property → Declared → List TypingRefusal
 same_told ps d = told_if (inherits_twice ps d) SameName d.place ++ own_told (names_of (take (inherited_count ps d.properties) ps)) d.properties
 
 -- the first of each name
@@ -87,6 +87,6 @@ abbrev pub read_from : List Property → List (List FeatureNo) → ℕ → List 
 read_from all lists i [] = []
 read_from all lists i (d ∷ ds) = read_class (properties_at all lists i) d ∷ read_from all lists (i + 1) ds
 
-abbrev pub same_told_from : List Property → List (List FeatureNo) → ℕ → List Declared → List Refusal
+abbrev pub same_told_from : List Property → List (List FeatureNo) → ℕ → List Declared → List TypingRefusal
 same_told_from all lists i [] = []
 same_told_from all lists i (d ∷ ds) = same_told (properties_at all lists i) d ++ same_told_from all lists (i + 1) ds

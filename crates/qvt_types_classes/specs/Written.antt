@@ -15,7 +15,7 @@ use Rattle.qvt_tree_types.specs.Module.{TypedName, ClassTerm, UnitTerm, ClassOf,
 use Rattle.qvt_tree_types.specs.declared.types.PathTree.{PathTree}
 use Rattle.qvt_tree_types.specs.declared.words.CollKind.{CollKind}
 use Rattle.qvt_tree_types.specs.declared.words.CollKind.TheVariants as coll
-use Rattle.qvt_types_data.specs.declared.refusal.Refusal.{Refusal}
+use Rattle.qvt_types_data.specs.declared.refusal.TypingRefusal.{TypingRefusal}
 use Rattle.qvt_types_data.specs.declared.refusal.RefusalKind.{RefusalKind}
 use Rattle.qvt_types_data.specs.declared.refusal.RefusalKind.TheVariants.{UnknownType, SameName, WrongType, ReuseCycle}
 use Rattle.qvt_types_data.specs.declared.ty.Ty.{Ty, out-Ty}
@@ -38,11 +38,11 @@ abbrev pub list_of : {X E : Type 0} → Result X E → List X
 list_of (Ok x) = x ∷ []
 list_of (Err e) = []
 
-abbrev pub told_of : {X : Type 0} → Place → Result X RefusalKind → List Refusal
+abbrev pub told_of : {X : Type 0} → Place → Result X RefusalKind → List TypingRefusal
 told_of at (Ok x) = []
 told_of at (Err kind) = record { kind = kind; place = at } ∷ []
 
-abbrev pub super_told : Metamodels → NamedTypes → PathTree → List Refusal
+abbrev pub super_told : Metamodels → NamedTypes → PathTree → List TypingRefusal
 super_told m t path = told_of path.place (super_place m t path)
 
 -- the type of one value, where that is no collection
@@ -88,24 +88,24 @@ abbrev pub type_place : TypeTerm → Place
 type_place (CollType k item at) = at
 type_place (PathType path) = path.place
 
-abbrev pub shape_or : Place → Option FeatureShape → Result FeatureShape Refusal
+abbrev pub shape_or : Place → Option FeatureShape → Result FeatureShape TypingRefusal
 shape_or at None = Err (record { kind = WrongType; place = at })
 shape_or at (Some s) = Ok s
 
-abbrev pub shape_of_type : Place → Result Ty Refusal → Result FeatureShape Refusal
+abbrev pub shape_of_type : Place → Result Ty TypingRefusal → Result FeatureShape TypingRefusal
 shape_of_type at (Ok T) = shape_or at (shape_in (out-Ty T))
 shape_of_type at (Err told) = Err told
 
 -- what a property holds: a collection of collections is WrongType
-unfoldable pub property_shape : Metamodels → NamedTypes → TypedName → Result FeatureShape Refusal
+unfoldable pub property_shape : Metamodels → NamedTypes → TypedName → Result FeatureShape TypingRefusal
 property_shape m t f = shape_of_type (type_place f.kind) (written_type m t f.kind)
 
-abbrev pub property_told : Result FeatureShape Refusal → List Refusal
+abbrev pub property_told : Result FeatureShape TypingRefusal → List TypingRefusal
 property_told (Ok s) = []
 property_told (Err told) = told ∷ []
 
 -- a property whose type is unknown is known by its name alone
-abbrev pub property : List ℕ → Place → Result FeatureShape Refusal → Property
+abbrev pub property : List ℕ → Place → Result FeatureShape TypingRefusal → Property
 property name at (Ok s) = record { name = name; shape = s; typed = true; place = at }
 property name at (Err told) = record { name = name; shape = nowhere_shape; typed = false; place = at }
 
@@ -133,20 +133,20 @@ abbrev pub all_declared : Metamodels → NamedTypes → List UnitTerm → List D
 all_declared m t units = flat_map (declared_in m t) units
 
 -- an earlier class has the name; a superclass is no intermediate class; a type is unknown, or one of collections of collections
-unfoldable pub class_told : Metamodels → NamedTypes → List (List ℕ) → ClassTerm → List Refusal
+unfoldable pub class_told : Metamodels → NamedTypes → List (List ℕ) → ClassTerm → List TypingRefusal
 class_told m t earlier c =
     told_if (is_among c.name earlier) SameName c.place
     ++ flat_map (super_told m t) c.supers
     ++ flat_map (λ f. property_told (property_shape m t f)) c.features
 
-abbrev pub told_in : Metamodels → NamedTypes → List (List ℕ) → UnitTerm → List Refusal
+abbrev pub told_in : Metamodels → NamedTypes → List (List ℕ) → UnitTerm → List TypingRefusal
 told_in m t earlier (ClassOf c) = class_told m t earlier c
 told_in m t earlier (MainOf body at) = []
 told_in m t earlier (HelperOf h) = []
 told_in m t earlier (ConstructorOf h) = []
 told_in m t earlier (MappingOf u) = []
 
-abbrev pub classes_told : Metamodels → NamedTypes → List (List ℕ) → List UnitTerm → List Refusal
+abbrev pub classes_told : Metamodels → NamedTypes → List (List ℕ) → List UnitTerm → List TypingRefusal
 classes_told m t earlier [] = []
 classes_told m t earlier (u ∷ us) = told_in m t earlier u ++ classes_told m t (earlier ++ class_name u) us
 
@@ -169,6 +169,6 @@ abbrev pub uncycled_from : List Bool → ℕ → List Declared → List Declared
 uncycled_from flags i [] = []
 uncycled_from flags i (d ∷ ds) = uncycled (flag_at flags i) d ∷ uncycled_from flags (i + 1) ds
 
-abbrev pub cycles_told : List Bool → ℕ → List Declared → List Refusal
+abbrev pub cycles_told : List Bool → ℕ → List Declared → List TypingRefusal
 cycles_told flags i [] = []
 cycles_told flags i (d ∷ ds) = told_if (flag_at flags i) ReuseCycle d.place ++ cycles_told flags (i + 1) ds

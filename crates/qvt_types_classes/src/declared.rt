@@ -16,7 +16,7 @@ use qvt_metas::info::{FeatureShape, TypeKind};
 use qvt_metas::metas::Metas;
 use qvt_tree_types::module::{ClassDecl, Field, Unit};
 use qvt_tree_types::types::PathTree;
-use qvt_types_data::refusal::{Refusal, RefusalKind};
+use qvt_types_data::refusal::{RefusalKind, TypingRefusal};
 use qvt_types_paths::model_types::TypeNames;
 use qvt_types_paths::paths::path_class;
 use std::alloc::Global;
@@ -137,7 +137,7 @@ pub fn nowhere_shape() -> FeatureShape
 
 ghost use Rattle.qvt_metamodel.specs.Metamodels.{nowhere_shape};
 
-fn property_with(name: Text, place: Place, shape: Result<FeatureShape, Refusal>) -> Property
+fn property_with(name: Text, place: Place, shape: Result<FeatureShape, TypingRefusal>) -> Property
     ensures { result ≡ declared.property name place shape }
 {
     match shape {

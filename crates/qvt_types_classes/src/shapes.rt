@@ -13,7 +13,7 @@ use qvt_metas::metas::Metas;
 use qvt_tree_types::module::Field;
 use qvt_tree_types::types::TypeTree;
 use qvt_tree_types::words::CollKind;
-use qvt_types_data::refusal::{Refusal, RefusalKind};
+use qvt_types_data::refusal::{RefusalKind, TypingRefusal};
 use qvt_types_data::ty::Ty;
 use qvt_types_paths::model_types::TypeNames;
 use qvt_types_paths::paths::written_type;
@@ -116,11 +116,11 @@ fn type_place(written: &TypeTree) -> Place
     }
 }
 
-fn shape_or(place: Place, shape: Option<FeatureShape>) -> Result<FeatureShape, Refusal>
+fn shape_or(place: Place, shape: Option<FeatureShape>) -> Result<FeatureShape, TypingRefusal>
     ensures { result ≡ declared.shape_or place shape }
 {
     match shape {
-        None => Err(Refusal {
+        None => Err(TypingRefusal {
             kind: RefusalKind::WrongType,
             place,
         }),
@@ -128,7 +128,7 @@ fn shape_or(place: Place, shape: Option<FeatureShape>) -> Result<FeatureShape, R
     }
 }
 
-fn shape_of_type(place: Place, t: Result<Ty, Refusal>) -> Result<FeatureShape, Refusal>
+fn shape_of_type(place: Place, t: Result<Ty, TypingRefusal>) -> Result<FeatureShape, TypingRefusal>
     ensures { result ≡ declared.shape_of_type place t }
 {
     match t {
@@ -144,7 +144,7 @@ pub fn property_shape(
     metas: &Metas,
     names: &TypeNames,
     field: &Field,
-) -> Result<Result<FeatureShape, Refusal>, ListFault>
+) -> Result<Result<FeatureShape, TypingRefusal>, ListFault>
     ensures { IfOk result (λ s. s ≡ declared.property_shape metas.now names.now (field_view field.now)) }
 {
     let t = written_type(alloc, metas, names, &field.kind)?;

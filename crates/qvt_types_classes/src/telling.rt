@@ -13,7 +13,7 @@ use qvt_metas::info::FeatureShape;
 use qvt_metas::metas::Metas;
 use qvt_tree_types::module::{ClassDecl, Field, Unit};
 use qvt_tree_types::types::PathTree;
-use qvt_types_data::refusal::{Refusal, RefusalKind};
+use qvt_types_data::refusal::{RefusalKind, TypingRefusal};
 use qvt_types_paths::model_types::{TypeNames, with_class_name};
 use qvt_types_paths::name_index::NameIndex;
 use qvt_types_paths::told::{RefusalList, tell_if};
@@ -29,7 +29,7 @@ fn tell_of(
 {
     match number {
         Ok(_) => Ok(()),
-        Err(kind) => log.push(Refusal { kind, place }),
+        Err(kind) => log.push(TypingRefusal { kind, place }),
     }
 }
 
@@ -50,7 +50,7 @@ fn tell_supers(
 
 fn tell_property(
     log: &mut RefusalList,
-    shape: Result<FeatureShape, Refusal>,
+    shape: Result<FeatureShape, TypingRefusal>,
 ) -> Result<(), ListFault>
     ensures { OnOk result (log.new ≡ log.old ++ declared.property_told shape) }
 {

@@ -5,7 +5,7 @@ use Rattle.qvt_types_context.specs.declared.context.Context.{Context}
 use Rattle.qvt_types_context.specs.declared.context.Returns.{Returns}
 use Rattle.qvt_types_context.specs.declared.context.Returns.TheVariants as returns
 
-abbrev pub heads_seen : Heads → known.Heads
+abbrev pub heads_seen : Heads → known.DeclaredHeads
 heads_seen h = record {
   given = h.given.now;
   metas = h.units.now.metas;
@@ -16,12 +16,12 @@ heads_seen h = record {
   flags = h.typed.now;
 }
 
-abbrev pub returns_seen : Returns → known.Returns
+abbrev pub returns_seen : Returns → known.ReturnRule
 returns_seen returns.NoValue = known.NoValue
 returns_seen (returns.Value o) = known.Value o.now
 returns_seen returns.Never = known.Never
 
-abbrev pub seen : Context → known.Context
+abbrev pub seen : Context → known.TypingContext
 seen x = record {
   heads = heads_seen x.heads;
   pure = x.pure;

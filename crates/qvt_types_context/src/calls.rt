@@ -16,7 +16,7 @@ use qvt_types_data::refusal::RefusalKind;
 use qvt_types_data::ruling::{Read, Ruling};
 use qvt_types_data::ty::{Ty, copied};
 use qvt_types_data::variable::Variable;
-use qvt_types_groups::choice::{Found, is_unknown};
+use qvt_types_groups::choice::{FoundUnit, is_unknown};
 pub use qvt_types_groups::numbers::no_unit;
 use qvt_types_groups::units::Units;
 use qvt_typing::classes::ClassPart;
@@ -42,13 +42,13 @@ fn on_class(
     maps: bool,
     name: &str,
     class: ClassPart,
-) -> Result<Found, ListFault>
+) -> Result<FoundUnit, ListFault>
     ensures { IfOk result (λ f. f ≡ calls.on_class (heads_seen heads.now) maps name.now class) }
 {
     match class {
         ClassPart::Class(class) => heads.units.called_on(alloc, maps, name, class),
-        ClassPart::Untyped => Ok(Found::Untyped),
-        ClassPart::Missing => Ok(Found::NoUnit),
+        ClassPart::Untyped => Ok(FoundUnit::Untyped),
+        ClassPart::Missing => Ok(FoundUnit::NoUnit),
     }
 }
 
@@ -71,7 +71,7 @@ fn unless_unsure(alloc: Global, heads: &Heads<'_>, units: UnitNoList, called: Ca
 {
     if is_unsure(alloc, heads, units.as_slice()) {
         Called {
-            found: Found::Untyped,
+            found: FoundUnit::Untyped,
             units,
             source: None,
         }
@@ -102,8 +102,8 @@ pub fn called_behind(
     Ok(unless_unsure(alloc, heads, units, called))
 }
 
-fn class_of(ty: &Option<Ty>) -> ClassPart
-    ensures { result ≡ calls.class_of ty.now }
+fn class_part_of(ty: &Option<Ty>) -> ClassPart
+    ensures { result ≡ calls.class_part_of ty.now }
 {
     match ty {
         None => ClassPart::Untyped,
@@ -123,8 +123,8 @@ fn called_from(
 ) -> Result<Called, ListFault>
     ensures { IfOk result (λ c. c ≡ calls.unless_none (calls.called_from (heads_seen heads.now) maps name.now source.now).found (calls.called_from (heads_seen heads.now) maps name.now source.now) otherwise) }
 {
-    match on_class(alloc, heads, maps, name, class_of(&source.ty))? {
-        Found::NoUnit => Ok(otherwise),
+    match on_class(alloc, heads, maps, name, class_part_of(&source.ty))? {
+        FoundUnit::NoUnit => Ok(otherwise),
         found => Ok(Called {
             found,
             units: Seq::from_slice(alloc, heads.units.names().group(maps, name))?,
@@ -144,7 +144,7 @@ fn called_implicitly(
     ensures { IfOk result (λ c. c ≡ calls.called_implicitly (heads_seen heads.now) maps name.now calls.nothing_called sources.now) }
 {
     let mut called = Called {
-        found: Found::NoUnit,
+        found: FoundUnit::NoUnit,
         units: Seq::new(alloc),
         source: None,
     };
@@ -168,7 +168,7 @@ pub fn called_alone(
     let called = match heads.units.names().free_unit(maps, name) {
         None => called_implicitly(alloc, heads, maps, name, sources)?,
         Some(number) => Called {
-            found: Found::Chosen(number),
+            found: FoundUnit::Chosen(number),
             units: Seq::from_slice(alloc, &[number])?,
             source: None,
         },
@@ -210,7 +210,7 @@ fn reading_of(
 fn unit_called(
     alloc: Global,
     heads: &Heads<'_>,
-    found: Found,
+    found: FoundUnit,
     types: &Option<Seq<Ty>>,
 ) -> Result<u32, Ruling>
     ensures { result ≡ calls.unit_called (heads_seen heads.now) found types.now }
@@ -219,10 +219,10 @@ fn unit_called(
         return Err(Ruling::Silent);
     };
     match found {
-        Found::NoUnit => Err(Ruling::Fails(RefusalKind::UnknownName)),
-        Found::Untyped => Err(Ruling::Silent),
-        Found::Unclear => Err(Ruling::Fails(RefusalKind::Ambiguous)),
-        Found::Chosen(number) => {
+        FoundUnit::NoUnit => Err(Ruling::Fails(RefusalKind::UnknownName)),
+        FoundUnit::Untyped => Err(Ruling::Silent),
+        FoundUnit::Unclear => Err(Ruling::Fails(RefusalKind::Ambiguous)),
+        FoundUnit::Chosen(number) => {
             let none = no_unit(alloc);
             let unit = unit_at(heads.units, number, &none);
             match arguments_wrong(
@@ -321,7 +321,7 @@ pub fn map_ruled(
 pub fn effect_of(alloc: Global, heads: &Heads<'_>, called: &Called) -> Effect
     ensures { result ≡ calls.effect_of (heads_seen heads.now) called.now }
 {
-    let Found::Chosen(number) = called.found else {
+    let FoundUnit::Chosen(number) = called.found else {
         return Effect::PlainOne;
     };
     let none = no_unit(alloc);

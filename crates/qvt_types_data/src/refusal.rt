@@ -31,7 +31,7 @@ pub enum RefusalKind {
 
 /// A refusal, with the place where it is told.
 #[derive(Clone, Copy, Debug, PartialEq, Eq)]
-pub struct Refusal {
+pub struct TypingRefusal {
     pub kind: RefusalKind,
     pub place: Place,
 }

@@ -15,9 +15,9 @@ abbrev pub unboxed : {A : Type 0} → Option (Box A Global) → Option A
 unboxed o = option_map (λ b. b.value) o
 
 -- a node
-abbrev pub Makes : {A B : Type 0} → (A → B) → B → Result (Box A Global) ListFault → Type 0
-Makes view node (Ok b) = held view b ≡ node
-Makes view node (Err e) = Unit {0}
+abbrev pub MakesNode : {A B : Type 0} → (A → B) → B → Result (Box A Global) ListFault → Type 0
+MakesNode view node (Ok b) = held view b ≡ node
+MakesNode view node (Err e) = Unit {0}
 
 -- a node with the next note, and the notes after it
 abbrev pub Noted : {A B : Type 0} → (A → B) → (Note → B) → List Note → Result (Box A Global) ListFault → List Note → Type 0

@@ -4,7 +4,7 @@ ghost use Rattle.std.specs.Prelude.{◌≡◌, map};
 ghost use Rattle.qvt_tree_types.specs.Tree.{IntExpr, StrExpr, BoolExpr, NullExpr, SelfExpr, ResultExpr, PathExpr};
 ghost use Rattle.qvt_types_laws.specs.Join.{join_expr};
 ghost use Rattle.qvt_types_leaves.specs.Joins.{Joins};
-ghost use Rattle.qvt_types_exprs.specs.Made.{held, unboxed, Makes, Noted};
+ghost use Rattle.qvt_types_exprs.specs.Made.{held, unboxed, MakesNode, Noted};
 ghost use Rattle.qvt_types_nodes.specs.Tree.{TypedCallExpr, TypedCollExpr, TypedIfExpr, TypedObjectExpr, TypedNewExpr, TypedMapExpr, TypedResolveExpr, TypedChainExpr, TypedPrefixExpr, TypedPostExpr};
 ghost use Rattle.qvt_types_nodes.specs.View.{typed_expr_view, typed_exprs_of, typed_item_view, typed_items_of, typed_link_view, typed_links_of, typed_step_view, typed_steps_of, typed_map_view, typed_resolve_view, typed_block_view};
 
@@ -226,14 +226,14 @@ pub fn new_object(
 
 /// A call of a mapping.
 pub fn map_expr(alloc: Global, call: Box<TypedMapCall>) -> Result<Box<TypedExpr>, ListFault>
-    ensures { Makes typed_expr_view (TypedMapExpr (held typed_map_view call)) result }
+    ensures { MakesNode typed_expr_view (TypedMapExpr (held typed_map_view call)) result }
 {
     in_box(alloc, TypedExpr::Map(Box::into_inner(call)))
 }
 
 /// A resolve.
 pub fn resolve_expr(alloc: Global, call: Box<TypedResolveCall>) -> Result<Box<TypedExpr>, ListFault>
-    ensures { Makes typed_expr_view (TypedResolveExpr (held typed_resolve_view call)) result }
+    ensures { MakesNode typed_expr_view (TypedResolveExpr (held typed_resolve_view call)) result }
 {
     in_box(alloc, TypedExpr::Resolve(Box::into_inner(call)))
 }

@@ -3,7 +3,7 @@
 ghost use Rattle.std.specs.Prelude.{◌≡◌, map};
 ghost use Rattle.std.specs.Option.{option_map};
 ghost use Rattle.qvt_types_leaves.specs.Joins.{typed_boxed_view};
-ghost use Rattle.qvt_types_exprs.specs.Made.{held, unboxed, Makes, Noted};
+ghost use Rattle.qvt_types_exprs.specs.Made.{held, unboxed, MakesNode, Noted};
 ghost use Rattle.qvt_types_nodes.specs.Tree.{TypedLinkOf, TypedRangeTo, TypedItemOf, TypedMapOf, TypedResolveOf, TypedFilterOf, TypedHeadOf, TypedAccumulatorOf, TypedDotStep, TypedArrowStep, TypedDotMapStep, TypedArrowMapStep, TypedDotResolveStep, TypedArrowResolveStep};
 ghost use Rattle.qvt_types_nodes.specs.View.{typed_type_view, typed_optional_type, typed_expr_view, typed_exprs_of, typed_link_view, typed_range_view, typed_item_view, typed_map_view, typed_resolve_view, typed_filter_view, typed_head_view, typed_accumulator_view, typed_step_view, typed_optional_args, typed_optional_range, typed_optional_filter, typed_optional_head, typed_optional_accumulator};
 
@@ -261,21 +261,21 @@ pub fn arrow(
 
 /// A mapping call after a dot.
 pub fn dot_map(alloc: Global, call: Box<TypedMapCall>) -> Result<Box<TypedStep>, ListFault>
-    ensures { Makes typed_step_view (TypedDotMapStep (held typed_map_view call)) result }
+    ensures { MakesNode typed_step_view (TypedDotMapStep (held typed_map_view call)) result }
 {
     in_box(alloc, TypedStep::DotMap(Box::into_inner(call)))
 }
 
 /// A mapping call after an arrow.
 pub fn arrow_map(alloc: Global, call: Box<TypedMapCall>) -> Result<Box<TypedStep>, ListFault>
-    ensures { Makes typed_step_view (TypedArrowMapStep (held typed_map_view call)) result }
+    ensures { MakesNode typed_step_view (TypedArrowMapStep (held typed_map_view call)) result }
 {
     in_box(alloc, TypedStep::ArrowMap(Box::into_inner(call)))
 }
 
 /// A resolve after a dot.
 pub fn dot_resolve(alloc: Global, call: Box<TypedResolveCall>) -> Result<Box<TypedStep>, ListFault>
-    ensures { Makes typed_step_view (TypedDotResolveStep (held typed_resolve_view call)) result }
+    ensures { MakesNode typed_step_view (TypedDotResolveStep (held typed_resolve_view call)) result }
 {
     in_box(alloc, TypedStep::DotResolve(Box::into_inner(call)))
 }
@@ -285,7 +285,7 @@ pub fn arrow_resolve(
     alloc: Global,
     call: Box<TypedResolveCall>,
 ) -> Result<Box<TypedStep>, ListFault>
-    ensures { Makes typed_step_view (TypedArrowResolveStep (held typed_resolve_view call)) result }
+    ensures { MakesNode typed_step_view (TypedArrowResolveStep (held typed_resolve_view call)) result }
 {
     in_box(alloc, TypedStep::ArrowResolve(Box::into_inner(call)))
 }

@@ -18,7 +18,7 @@ use std::alloc::Global;
 use std::marker::Model;
 
 /// Units that are called alike: mappings, or helpers and queries.
-pub struct Called {
+pub struct UnitGroups {
     /// Those with a context, by name.
     pub groups: NumberLists,
     /// Those without, by name.
@@ -27,9 +27,9 @@ pub struct Called {
     pub named: ClassTable,
 }
 
-impl Drop for Called {
+impl Drop for UnitGroups {
     fn drop(self) {
-        let Called {
+        let UnitGroups {
             groups,
             free,
             named,
@@ -37,13 +37,13 @@ impl Drop for Called {
     }
 }
 
-fn tables_of(alloc: Global, maps: bool, units: &[Signature]) -> Result<Called, ListFault>
+fn tables_of(alloc: Global, maps: bool, units: &[Signature]) -> Result<UnitGroups, ListFault>
     ensures { IfOk result (AreCalled maps units.now) }
 {
     let groups = lists_of(alloc, maps, true, units)?;
     let free = lists_of(alloc, maps, false, units)?;
     let keys = named_keys(alloc, maps, &groups, units)?;
-    Ok(Called {
+    Ok(UnitGroups {
         named: ClassTable::of(alloc, keys.as_slice())?,
         groups,
         free,
@@ -72,8 +72,8 @@ fn first_main(units: &[Signature]) -> Result<Option<u32>, ListFault>
 /// The units of a transformation by their signatures, each list and first unit of a name looked up by hash.
 pub struct UnitNames {
     units: SignatureList,
-    mappings: Called,
-    helpers: Called,
+    mappings: UnitGroups,
+    helpers: UnitGroups,
     constructors: ClassTable,
     main: Option<u32>,
 }
@@ -143,7 +143,7 @@ impl UnitNames {
     }
 
     /// The tables of the mappings, or of the helpers and queries.
-    pub fn called(&self, maps: bool) -> &Called
+    pub fn called(&self, maps: bool) -> &UnitGroups
         ensures { AreCalled maps self.now result.now }
     {
         if maps { &self.mappings } else { &self.helpers }

@@ -15,7 +15,7 @@ use qvt_types_choices::choices::look_up;
 use qvt_types_choices::class_sets::{ClassSets, class_sets};
 use qvt_types_choices::tables::{GroupTable, found_in, group_table};
 use qvt_types_paths::metas::Metas;
-use qvt_types_units::choice::Found;
+use qvt_types_units::choice::FoundUnit;
 use qvt_types_units::numbers::is_mapping;
 use qvt_types_units::signature::Signature;
 use std::alloc::Global;
@@ -129,7 +129,7 @@ impl Units {
     }
 
     /// What is found for the class by what is told of the units that are called like this one.
-    fn told(&self, first: u32, group: &[u32], class: ClassNo) -> Option<Found>
+    fn told(&self, first: u32, group: &[u32], class: ClassNo) -> Option<FoundUnit>
         requires { group.now ≡ choices_of.group_of self.now.units first }
         ensures { IfSome result (λ f. f ≡ choice.looked_up self.now.metas self.now.units group.now class.0) }
     {
@@ -153,12 +153,12 @@ impl Units {
         maps: bool,
         name: &str,
         class: ClassNo,
-    ) -> Result<Found, ListFault>
+    ) -> Result<FoundUnit, ListFault>
         ensures { IfOk result (λ f. f ≡ choice.called_on self.now.metas self.now.units maps name.now class.0) }
     {
         let group = self.names.group(maps, name);
         match group {
-            [] => Ok(Found::NoUnit),
+            [] => Ok(FoundUnit::NoUnit),
             [first, ..] => match self.told(*first, group, class) {
                 Some(found) => Ok(found),
                 None => {

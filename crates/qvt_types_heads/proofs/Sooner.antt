@@ -4,7 +4,7 @@ use Rattle.std.specs.Prelude.{IsTrue, IsFalse}
 use Rattle.std.specs.List.{AllByRecursion}
 use Rattle.std.proofs.lemmas.Bool.{or_cases, or_parts, or_left, or_right, or_from, and_parts, and_cases, and_from, and_left, and_right, ltb-true, ltb-false, lt-ltb, le-ltb, eqb-true, eqb-false, eq-eqb, ne_eqb, cases_lt}
 use Rattle.std.proofs.lemmas.List.{append-nil}
-use Rattle.qvt_types_data.specs.declared.refusal.Refusal.{Refusal}
+use Rattle.qvt_types_data.specs.declared.refusal.TypingRefusal.{TypingRefusal}
 use Rattle.qvt_types_context.specs.Accepts.{comes_before, least_from, rank, sooner}
 use Rattle.qvt_types_heads.specs.Least.{IsLeast, LeastIsLeast, NoneOfNone}
 
@@ -39,7 +39,7 @@ other_parts o k p l h = elim (and_cases (o == p) (nat_lt k l) (or_parts (nat_lt 
 ]
 
 -- what is less than another is less than all that are not less than that
-below : (r s x : Refusal) → comes_before r s ≡ true → comes_before x s ≡ false → comes_before r x ≡ true
+below : (r s x : TypingRefusal) → comes_before r s ≡ true → comes_before x s ≡ false → comes_before r x ≡ true
 below r s x h g = by (parts r.place.offset (rank r.kind) s.place.offset (rank s.kind) h) (other_parts x.place.offset (rank x.kind) s.place.offset (rank s.kind) g)
   where
     by : ((r.place.offset < s.place.offset) ⊎ ((r.place.offset ≡ s.place.offset) × (rank r.kind < rank s.kind)))
@@ -62,21 +62,21 @@ apart o k p l h = or_from (nat_lt p o) ((p == o) && nat_lt l k) (by_offset (part
     by_rank (inl a) = and_left (p == o) (nat_lt l k) (ne_eqb p o (λ e. absurd (omega (arith, a, e))))
     by_rank (inr (e, f)) = and_right (p == o) (nat_lt l k) (le-ltb l k (omega (arith, f)))
 
-not_itself : (r : Refusal) → comes_before r r ≡ false
+not_itself : (r : TypingRefusal) → comes_before r r ≡ false
 not_itself r = or_from (nat_lt r.place.offset r.place.offset) ((r.place.offset == r.place.offset) && nat_lt (rank r.kind) (rank r.kind))
     (le-ltb r.place.offset r.place.offset (omega arith))
     (and_right (r.place.offset == r.place.offset) (nat_lt (rank r.kind) (rank r.kind)) (le-ltb (rank r.kind) (rank r.kind) (omega arith)))
 
-each : (P Q : Refusal → Type 0) → ((x : Refusal) → P x → Q x) → (xs : List Refusal) → AllByRecursion P xs → AllByRecursion Q xs
+each : (P Q : TypingRefusal → Type 0) → ((x : TypingRefusal) → P x → Q x) → (xs : List TypingRefusal) → AllByRecursion P xs → AllByRecursion Q xs
 each P Q f [] all = tt
 each P Q f (x ∷ xs) (p, all) = (f x p, each P Q f xs all)
 
-with_last : (P : Refusal → Type 0) (xs : List Refusal) (x : Refusal) → AllByRecursion P xs → P x → AllByRecursion P (xs ++ x ∷ [])
+with_last : (P : TypingRefusal → Type 0) (xs : List TypingRefusal) (x : TypingRefusal) → AllByRecursion P xs → P x → AllByRecursion P (xs ++ x ∷ [])
 with_last P [] x all p = (p, tt)
 with_last P (y ∷ ys) x (q, all) p = (q, with_last P ys x all p)
 
 -- a refusal that comes before the least so far
-sooner_next : (done : List Refusal) (s x : Refusal) → IsLeast done s → comes_before x s ≡ true → IsLeast (done ++ x ∷ []) x
+sooner_next : (done : List TypingRefusal) (s x : TypingRefusal) → IsLeast done s → comes_before x s ≡ true → IsLeast (done ++ x ∷ []) x
 sooner_next done s x kept h = record {
   left = done;
   right = [];
@@ -92,7 +92,7 @@ sooner_next done s x kept h = record {
     all_after = each (λ y. IsFalse (comes_before y s)) (λ y. IsTrue (comes_before x y)) (λ y a. below x s y h a) done kept.least
 
 -- one that does not
-later_next : (done : List Refusal) (s x : Refusal) → IsLeast done s → comes_before x s ≡ false → IsLeast (done ++ x ∷ []) s
+later_next : (done : List TypingRefusal) (s x : TypingRefusal) → IsLeast done s → comes_before x s ≡ false → IsLeast (done ++ x ∷ []) s
 later_next done s x kept h = record {
   left = kept.left;
   right = kept.right ++ x ∷ [];
@@ -101,33 +101,33 @@ later_next done s x kept h = record {
   leftmost = kept.leftmost;
 }
 
-next : (done : List Refusal) (s x : Refusal) → IsLeast done s → IsLeast (done ++ x ∷ []) (sooner (Some s) x)
+next : (done : List TypingRefusal) (s x : TypingRefusal) → IsLeast done s → IsLeast (done ++ x ∷ []) (sooner (Some s) x)
 next done s x kept = by (comes_before x s) refl
   where
     by : (b : Bool) → comes_before x s ≡ b → IsLeast (done ++ x ∷ []) (if b then x else s)
     by true h = sooner_next done s x kept h
     by false h = later_next done s x kept h
 
-some_of : Refusal → Option Refusal → Refusal
+some_of : TypingRefusal → Option TypingRefusal → TypingRefusal
 some_of r None = r
 some_of r (Some s) = s
 
-same_some : (r s : Refusal) → Option.Some r ≡ Some s → r ≡ s
+same_some : (r s : TypingRefusal) → Option.Some r ≡ Some s → r ≡ s
 unfolding some_of
 same_some r s e = ap (some_of r) e
 
-from : (done rs : List Refusal) (s r : Refusal) → IsLeast done s → least_from (Some s) rs ≡ Some r → IsLeast (done ++ rs) r
+from : (done rs : List TypingRefusal) (s r : TypingRefusal) → IsLeast done s → least_from (Some s) rs ≡ Some r → IsLeast (done ++ rs) r
 from done [] s r kept e = subst (λ ds. IsLeast ds r) (sym (append-nil done)) (subst (IsLeast done) (same_some s r e) kept)
 from done (x ∷ rs) s r kept e = subst (λ ds. IsLeast ds r) (append_assoc done (x ∷ []) rs) (from (done ++ x ∷ []) rs (sooner (Some s) x) r (next done s x kept) e)
 
-alone : (x : Refusal) → IsLeast (x ∷ []) x
+alone : (x : TypingRefusal) → IsLeast (x ∷ []) x
 alone x = record { left = []; right = []; listed = refl; least = (not_itself x, tt); leftmost = tt }
 
 pub some_least : LeastIsLeast
 some_least [] r e = absurd (cc)
 some_least (x ∷ rs) r e = from (x ∷ []) rs x r (alone x) e
 
-stays : (s : Refusal) (rs : List Refusal) → least_from (Some s) rs ≡ None → ⊥
+stays : (s : TypingRefusal) (rs : List TypingRefusal) → least_from (Some s) rs ≡ None → ⊥
 stays s [] e = cc
 stays s (r ∷ rs) e = stays (sooner (Some s) r) rs e
 

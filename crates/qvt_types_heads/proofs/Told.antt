@@ -3,13 +3,13 @@ use Rattle.std.proofs.Common.{◌≡◌, ◌∙◌, List, [], ◌++◌, sym, ap,
 use Rattle.std.specs.List.{flat_map}
 use Rattle.qvt_metamodel.specs.Metamodels.{Metamodels}
 use Rattle.qvt_tree_types.specs.Module.{ModuleTerm}
-use Rattle.qvt_types_data.specs.declared.refusal.Refusal.{Refusal}
+use Rattle.qvt_types_data.specs.declared.refusal.TypingRefusal.{TypingRefusal}
 use Rattle.qvt_types_lists.specs.Units.{head_told, same_told, overrides_told, lists_told, main_told}
 use Rattle.qvt_types_context.specs.Accepts.{heads_of, heads_told, reuse_lists}
-use Rattle.qvt_types_context.specs.Context.{Heads}
+use Rattle.qvt_types_context.specs.Context.{DeclaredHeads}
 use Rattle.qvt_types_heads.specs.Heads.{types_told, units_told}
 
-split : (p a b c d e : List Refusal) → p ++ a ++ b ++ c ++ d ++ e ≡ p ++ (a ++ b ++ c ++ d ++ e)
+split : (p a b c d e : List TypingRefusal) → p ++ a ++ b ++ c ++ d ++ e ≡ p ++ (a ++ b ++ c ++ d ++ e)
 split p a b c d e =
     ap (λ xs. xs ++ e) (ap (λ xs. xs ++ d) (ap (λ xs. xs ++ c) (append_assoc p a b) ∙ append_assoc p (a ++ b) c) ∙ append_assoc p (a ++ b ++ c) d)
     ∙ append_assoc p (a ++ b ++ c ++ d) e
@@ -27,7 +27,7 @@ all_told m t =
     (main_told (heads_of m t).units t.end)
 
 -- what is told in two steps
-pub read_so : (m : Metamodels) (t : ModuleTerm) (h : Heads) (l0 l1 l2 : List Refusal)
+pub read_so : (m : Metamodels) (t : ModuleTerm) (h : DeclaredHeads) (l0 l1 l2 : List TypingRefusal)
     → l1 ≡ l0 ++ types_told m (heads_of m t).types t → l2 ≡ l1 ++ units_told h t → h ≡ heads_of m t
     → l2 ≡ l0 ++ heads_told (heads_of m t) t
 read_so m t h l0 l1 l2 first second same =

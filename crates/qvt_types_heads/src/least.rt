@@ -4,7 +4,7 @@ ghost use Rattle.std.specs.Prelude.{◌≡◌};
 ghost use Rattle.qvt_types_context.specs.Accepts as accepts;
 ghost use Rattle.qvt_types_heads.specs.Least.{LeastIsLeast, NoneOfNone};
 
-use qvt_types_data::refusal::{Refusal, RefusalKind};
+use qvt_types_data::refusal::{RefusalKind, TypingRefusal};
 
 fn rank(kind: RefusalKind) -> u8
     ensures { result ≡ accepts.rank kind }
@@ -36,14 +36,14 @@ fn rank(kind: RefusalKind) -> u8
 }
 
 /// Whether the first stands before the second in the text, or at the same place and before it in the order of the refusals.
-fn comes_before(one: Refusal, other: Refusal) -> bool
+fn comes_before(one: TypingRefusal, other: TypingRefusal) -> bool
     ensures { result ≡ accepts.comes_before one other }
 {
     one.place.offset < other.place.offset
         || (one.place.offset == other.place.offset && rank(one.kind) < rank(other.kind))
 }
 
-fn sooner(first: Option<Refusal>, next: Refusal) -> Refusal
+fn sooner(first: Option<TypingRefusal>, next: TypingRefusal) -> TypingRefusal
     ensures { result ≡ accepts.sooner first next }
 {
     match first {
@@ -57,10 +57,10 @@ fn sooner(first: Option<Refusal>, next: Refusal) -> Refusal
 }
 
 /// The first refusal before which no other comes.
-pub fn least(refusals: &[Refusal]) -> Option<Refusal>
+pub fn least(refusals: &[TypingRefusal]) -> Option<TypingRefusal>
     ensures { result ≡ accepts.least refusals.now }
 {
-    let mut first: Option<Refusal> = None;
+    let mut first: Option<TypingRefusal> = None;
     for refusal in refusals {
         first = Some(sooner(first, *refusal));
     }

@@ -10,7 +10,7 @@ ghost use Rattle.qvt_types_heads.specs.Heads as heads_words;
 use qvt_base::list_fault::ListFault;
 use qvt_tree_types::module::{Module, Unit};
 use qvt_types_context::context::Heads;
-use qvt_types_context::telling::{Heads as UnitHeads, tell_head};
+use qvt_types_context::telling::{HeadScope as UnitHeads, tell_head};
 use qvt_types_lists::same::{tell_main, tell_same};
 use qvt_types_lists::telling::{Listing, tell_lists};
 use qvt_types_overrides::overrides::tell_overrides;

@@ -9,12 +9,12 @@ use Rattle.qvt_types_nodes.specs.Tree.{TypedTypeTerm, TypedExprTerm, TypedExprTe
 use Rattle.qvt_types_nodes.specs.Tree.{TypedCollType, TypedPathType, TypedIntExpr, TypedStrExpr, TypedBoolExpr, TypedNullExpr, TypedSelfExpr, TypedResultExpr, TypedPathExpr, TypedCallExpr, TypedCollExpr, TypedIfExpr, TypedObjectExpr, TypedNewExpr, TypedMapExpr, TypedResolveExpr, TypedChainExpr, TypedPrefixExpr, TypedPostExpr, TypedNoExprs, TypedMoreExprs, TypedNoExpr, TypedSomeExpr, TypedNoArgs, TypedSomeArgs, TypedLinkOf, TypedNoLinks, TypedMoreLinks, TypedItemOf, TypedNoRange, TypedRangeTo, TypedNoItems, TypedMoreItems, TypedMapOf, TypedResolveOf, TypedNoFilter, TypedFilterOf, TypedNoHead, TypedHeadOf, TypedNoAccumulator, TypedAccumulatorOf, TypedDotStep, TypedArrowStep, TypedDotMapStep, TypedArrowMapStep, TypedDotResolveStep, TypedArrowResolveStep, TypedNoSteps, TypedMoreSteps, TypedBareTarget, TypedResultTarget, TypedMemberTarget, TypedVarStmt, TypedAssignStmt, TypedReturnStmt, TypedValueStmt, TypedIfStmt, TypedWhileStmt, TypedForEachStmt, TypedNoStmts, TypedMoreStmts, TypedNoElse, TypedElseOf, TypedArmOf, TypedNoArms, TypedMoreArms}
 use Rattle.qvt_types_nodes.specs.Strip as strip
 use Rattle.qvt_types_laws.specs.Join as join
-use Rattle.qvt_types_laws.specs.Join.{Takes, gives, ◌>>=◌, next_note}
-use Rattle.qvt_types_laws.specs.NotesOf.{Notes, notes_path, notes_optional_path, notes_signs, notes_variable, notes_type, notes_optional_type}
+use Rattle.qvt_types_laws.specs.Join.{NoteTaker, gives, ◌>>=◌, next_note}
+use Rattle.qvt_types_laws.specs.NotesOf.{NoteGiver, notes_path, notes_optional_path, notes_signs, notes_variable, notes_type, notes_optional_type}
 use Rattle.qvt_types_laws.specs.NotesOf as notes
 
 -- what goes on with what a part gives
-pub then : {A B : Type 0} (f : A → Takes B) {q : A × List Note} {a : A} {ns : List Note} {z : B × List Note} → q ≡ (a, ns) → f a ns ≡ z → f q.0 q.1 ≡ z
+pub then : {A B : Type 0} (f : A → NoteTaker B) {q : A × List Note} {a : A} {ns : List Note} {z : B × List Note} → q ≡ (a, ns) → f a ns ≡ z → f q.0 q.1 ≡ z
 then f h k = (λ j. f (h j).0 (h j).1) ∙ k
 
 pub kept_path : (it : TypedPathTree) (ns : List Note) → join.join_path (strip.strip_path it) (notes.notes_path it ns) ≡ (it, ns)

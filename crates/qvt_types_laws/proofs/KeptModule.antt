@@ -10,17 +10,17 @@ use Rattle.qvt_types_nodes.specs.Module.{TypedMember, TypedClassTerm, TypedHelpe
 use Rattle.qvt_types_nodes.specs.Tree.{TypedOptionalExpr, TypedStmtTerms}
 use Rattle.qvt_types_nodes.specs.Strip.{strip_path, strip_optional_expr, strip_stmts}
 use Rattle.qvt_types_nodes.specs.StripModule.{strip_paths, strip_member, strip_class, strip_helper, strip_result, strip_mapping, strip_unit, strip_model_type, strip_model_param, strip}
-use Rattle.qvt_types_laws.specs.Join.{Takes, gives, ◌>>=◌, next_note, join_path, join_optional_type, join_optional_expr, join_stmts}
+use Rattle.qvt_types_laws.specs.Join.{NoteTaker, gives, ◌>>=◌, next_note, join_path, join_optional_type, join_optional_expr, join_stmts}
 use Rattle.qvt_types_laws.specs.JoinModule.{join_all, join_member, join_class, join_helper, join_result, join_mapping, join_unit, join_model_type, join_model_param, join_module, joined}
-use Rattle.qvt_types_laws.specs.NotesOf.{Notes, notes_path}
+use Rattle.qvt_types_laws.specs.NotesOf.{NoteGiver, notes_path}
 use Rattle.qvt_types_laws.specs.NotesOfModule.{notes_all, notes_member, notes_class, notes_helper, notes_result, notes_mapping, notes_unit, notes_model_type, notes_model_param, notes_of}
 use Rattle.qvt_types_laws.proofs.Kept.{then, kept_path, kept_type, kept_optional_type, kept_optional_expr, kept_stmts}
 
 -- what a part without its notes is joined to with its notes
-abbrev Kept : {A B : Type 0} → (A → Takes B) → (B → A) → Notes B → B → List Note → Type 0
+abbrev Kept : {A B : Type 0} → (A → NoteTaker B) → (B → A) → NoteGiver B → B → List Note → Type 0
 Kept p f notes it ns = p (f it) (notes it ns) ≡ (it, ns)
 
-kept_all : {A B : Type 0} (p : A → Takes B) (f : B → A) (notes : Notes B) → ((it : B) (ns : List Note) → Kept p f notes it ns) → (its : List B) (ns : List Note) → Kept (join_all p) (map f) (notes_all notes) its ns
+kept_all : {A B : Type 0} (p : A → NoteTaker B) (f : B → A) (notes : NoteGiver B) → ((it : B) (ns : List Note) → Kept p f notes it ns) → (its : List B) (ns : List Note) → Kept (join_all p) (map f) (notes_all notes) its ns
 kept_all p f notes each [] ns = refl
 kept_all p f notes each (it ∷ its) ns =
     then (λ x. join_all p (map f its) >>= (λ xs. gives (x ∷ xs))) (each it _)

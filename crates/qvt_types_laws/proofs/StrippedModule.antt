@@ -6,12 +6,12 @@ use Rattle.qvt_tree_types.specs.declared.module.ModelType.{ModelType}
 use Rattle.qvt_tree_types.specs.declared.module.ModelParam.{ModelParam}
 use Rattle.qvt_tree_types.specs.Module.{TypedName, ClassTerm, HelperTerm, MappingTerm, UnitTerm, ClassOf, MainOf, HelperOf, ConstructorOf, MappingOf, ModuleTerm}
 use Rattle.qvt_types_data.specs.declared.note.Note.{Note}
-use Rattle.qvt_types_laws.specs.Join.{Takes, join_path, join_optional_type, join_optional_expr, join_stmts}
+use Rattle.qvt_types_laws.specs.Join.{NoteTaker, join_path, join_optional_type, join_optional_expr, join_stmts}
 use Rattle.qvt_types_nodes.specs.StripModule.{strip_paths, strip_member, strip_class, strip_helper, strip_result, strip_mapping, strip_unit, strip_model_type, strip_model_param, strip}
 use Rattle.qvt_types_laws.specs.JoinModule.{join_all, join_member, join_class, join_helper, join_result, join_mapping, join_unit, join_model_type, join_model_param, joined}
 use Rattle.qvt_types_laws.proofs.Stripped.{same_path, same_type, same_optional_type, same_optional_expr, same_stmts}
 
-same_all : {A B : Type 0} (p : A → Takes B) (f : B → A) → ((x : A) (ns : List Note) → f (p x ns).0 ≡ x) → (xs : List A) (ns : List Note) → map f (join_all p xs ns).0 ≡ xs
+same_all : {A B : Type 0} (p : A → NoteTaker B) (f : B → A) → ((x : A) (ns : List Note) → f (p x ns).0 ≡ x) → (xs : List A) (ns : List Note) → map f (join_all p xs ns).0 ≡ xs
 same_all p f each [] ns = refl
 same_all p f each (x ∷ xs) ns = λ j. each x ns j ∷ same_all p f each xs (p x ns).1 j
 

@@ -7,7 +7,7 @@ use Rattle.qvt_tree_types.specs.View.{exprs_of, links_of, items_of, steps_of, st
 use Rattle.qvt_tree_types.specs.declared.words.Sign.{Sign}
 use Rattle.qvt_types_nodes.specs.Tree.{TypedMoreExprs, TypedMoreLinks, TypedMoreItems, TypedMoreSteps, TypedMoreStmts, TypedMoreArms}
 use Rattle.qvt_types_nodes.specs.View.{typed_exprs_of, typed_links_of, typed_items_of, typed_steps_of, typed_stmts_of, typed_arms_of}
-use Rattle.qvt_types_laws.specs.Join.{Takes, join_sign, join_signs, join_expr, join_exprs, join_link, join_links, join_item, join_items, join_step, join_steps, join_stmt, join_stmts, join_arm, join_arms}
+use Rattle.qvt_types_laws.specs.Join.{NoteTaker, join_sign, join_signs, join_expr, join_exprs, join_link, join_links, join_item, join_items, join_step, join_steps, join_stmt, join_stmts, join_arm, join_arms}
 use Rattle.qvt_types_laws.specs.JoinModule.{join_all}
 
 -- nodes that were joined before, and what is joined after them
@@ -30,23 +30,23 @@ map_one : {A B : Type 0} (view : A → B) (done : List A) (y : A) → map view d
 map_one view [] y = refl
 map_one view (x ∷ done) y = ap (λ l. view x ∷ l) (map_one view done y)
 
-next : {A B : Type 0} (p : A → Takes B) (whole : List B × List Note) (done : List B) (x : A) (rest : List A) (y : B) (old new : List Note) → whole ≡ after done (join_all p (x ∷ rest) old) → p x old ≡ (y, new) → whole ≡ after (done ++ y ∷ []) (join_all p rest new)
+next : {A B : Type 0} (p : A → NoteTaker B) (whole : List B × List Note) (done : List B) (x : A) (rest : List A) (y : B) (old new : List Note) → whole ≡ after done (join_all p (x ∷ rest) old) → p x old ≡ (y, new) → whole ≡ after (done ++ y ∷ []) (join_all p rest new)
 next p whole done x rest y old new w e =
     w ∙ ap (λ r. (done ++ r.0 ∷ (join_all p rest r.1).0, (join_all p rest r.1).1)) e
     ∙ ap (λ l. (l, (join_all p rest new).1)) (after_one done y (join_all p rest new).0)
 
 -- one more node of a list
-pub plain_next : {A B : Type 0} (p : A → Takes B) (whole : List B × List Note) (of : List A) (i : ℕ) (x : A) (done : List B) (y : B) (more : List B) (old new : List Note) → whole ≡ after done (join_all p (drop i of) old) → i < length of → x ≡ get_or of i x → p x old ≡ (y, new) → more ≡ done ++ y ∷ [] → whole ≡ after more (join_all p (drop (i + 1) of) new)
+pub plain_next : {A B : Type 0} (p : A → NoteTaker B) (whole : List B × List Note) (of : List A) (i : ℕ) (x : A) (done : List B) (y : B) (more : List B) (old new : List Note) → whole ≡ after done (join_all p (drop i of) old) → i < length of → x ≡ get_or of i x → p x old ≡ (y, new) → more ≡ done ++ y ∷ [] → whole ≡ after more (join_all p (drop (i + 1) of) new)
 plain_next p whole of i x done y more old new w h at e m =
     next p whole done (get_or of i x) (drop (i + 1) of) y old new (w ∙ ap (λ l. after done (join_all p l old)) (drop_more of i x h)) (ap (λ z. p z old) (sym at) ∙ e)
     ∙ ap (λ l. after l (join_all p (drop (i + 1) of) new)) (sym m)
 
-pub plain_end : {A B : Type 0} (p : A → Takes B) (whole : List B × List Note) (of : List A) (i : ℕ) (done : List B) (ns : List Note) → whole ≡ after done (join_all p (drop i of) ns) → length of ≤ i → whole ≡ (done, ns)
+pub plain_end : {A B : Type 0} (p : A → NoteTaker B) (whole : List B × List Note) (of : List A) (i : ℕ) (done : List B) (ns : List Note) → whole ≡ after done (join_all p (drop i of) ns) → length of ≤ i → whole ≡ (done, ns)
 plain_end p whole of i done ns w h =
     w ∙ ap (λ l. after done (join_all p l ns)) (drop_all i of h) ∙ ap (λ l. (l, ns)) (after_none done)
 
 -- the same of nodes that have a view
-module _ {A B C D : Type 0} (p : C → Takes D) (v : A → C) (tv : B → D) (whole : List D × List Note) (of : List A) (i : ℕ) where
+module _ {A B C D : Type 0} (p : C → NoteTaker D) (v : A → C) (tv : B → D) (whole : List D × List Note) (of : List A) (i : ℕ) where
   pub view_next : (x : A) (done : List B) (y : B) (more : List B) (old new : List Note) → whole ≡ after (map tv done) (join_all p (map v (drop i of)) old) → i < length of → x ≡ get_or of i x → p (v x) old ≡ (tv y, new) → more ≡ done ++ y ∷ [] → whole ≡ after (map tv more) (join_all p (map v (drop (i + 1) of)) new)
   view_next x done y more old new w h at e m =
       next p whole (map tv done) (v (get_or of i x)) (map v (drop (i + 1) of)) (tv y) old new (w ∙ ap (λ l. after (map tv done) (join_all p (map v l) old)) (drop_more of i x h)) (ap (λ z. p (v z) old) (sym at) ∙ e)

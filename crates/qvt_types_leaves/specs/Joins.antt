@@ -16,9 +16,9 @@ Joins view meant (Ok a) new = meant ≡ (view a, new)
 Joins view meant (Err e) new = Unit {0}
 
 -- the same of what has no view
-abbrev pub Gives : {A : Type 0} → A × List Note → Result A ListFault → List Note → Type 0
-Gives meant (Ok a) new = meant ≡ (a, new)
-Gives meant (Err e) new = Unit {0}
+abbrev pub JoinsAsIs : {A : Type 0} → A × List Note → Result A ListFault → List Note → Type 0
+JoinsAsIs meant (Ok a) new = meant ≡ (a, new)
+JoinsAsIs meant (Err e) new = Unit {0}
 
 abbrev pub boxed_view : Option (Box Expr Global) → OptionalExpr
 boxed_view None = NoExpr

@@ -4,7 +4,7 @@ ghost use Rattle.std.specs.Prelude.{◌≡◌, map};
 ghost use Rattle.qvt_tree_types.specs.Module.{field_view, param_view, class_view};
 ghost use Rattle.qvt_types_laws.specs.JoinModule.{join_all, join_member, join_class, join_result, join_model_type, join_model_param};
 ghost use Rattle.qvt_types_nodes.specs.Module.{typed_field_view, typed_param_view, typed_class_view};
-ghost use Rattle.qvt_types_leaves.specs.Joins.{Joins, Gives};
+ghost use Rattle.qvt_types_leaves.specs.Joins.{Joins, JoinsAsIs};
 
 use crate::leaves::{optional_text, path, paths, type_tree};
 use crate::notes::Notes;
@@ -84,7 +84,7 @@ pub fn result_decl(
     of: &Option<ResultDecl>,
     notes: &mut Notes,
 ) -> Result<Option<TypedResultDecl>, ListFault>
-    ensures { Gives (join_result of.now notes.old) result notes.new }
+    ensures { JoinsAsIs (join_result of.now notes.old) result notes.new }
 {
     match of {
         None => Ok(None),
@@ -106,7 +106,7 @@ pub fn model_type(
     of: &ModelType,
     notes: &mut Notes,
 ) -> Result<TypedModelType, ListFault>
-    ensures { Gives (join_model_type of.now notes.old) result notes.new }
+    ensures { JoinsAsIs (join_model_type of.now notes.old) result notes.new }
 {
     let name = of.name.copy(alloc)?;
     let uri = of.uri.copy(alloc)?;
@@ -123,7 +123,7 @@ pub fn model_types(
     of: &[ModelType],
     notes: &mut Notes,
 ) -> Result<TypedModelTypeList, ListFault>
-    ensures { Gives (join_all join_model_type of.now notes.old) result notes.new }
+    ensures { JoinsAsIs (join_all join_model_type of.now notes.old) result notes.new }
 {
     let mut done = Seq::new(alloc);
     for each in of {
@@ -137,7 +137,7 @@ pub fn model_param(
     of: &ModelParam,
     notes: &mut Notes,
 ) -> Result<TypedModelParam, ListFault>
-    ensures { Gives (join_model_param of.now notes.old) result notes.new }
+    ensures { JoinsAsIs (join_model_param of.now notes.old) result notes.new }
 {
     let name = of.name.copy(alloc)?;
     let model_type = of.model_type.copy(alloc)?;
@@ -155,7 +155,7 @@ pub fn model_params(
     of: &[ModelParam],
     notes: &mut Notes,
 ) -> Result<TypedModelParamList, ListFault>
-    ensures { Gives (join_all join_model_param of.now notes.old) result notes.new }
+    ensures { JoinsAsIs (join_all join_model_param of.now notes.old) result notes.new }
 {
     let mut done = Seq::new(alloc);
     for each in of {

@@ -5,7 +5,7 @@ ghost use Rattle.qvt_tree_types.specs.View.{type_view, optional_type};
 ghost use Rattle.qvt_types_laws.specs.Join.{join_path, join_optional_path, join_sign, join_signs, join_variable, join_type, join_optional_type};
 ghost use Rattle.qvt_types_laws.specs.JoinModule.{join_all};
 ghost use Rattle.qvt_types_nodes.specs.View.{typed_type_view, typed_optional_type};
-ghost use Rattle.qvt_types_leaves.specs.Joins.{Joins, Gives};
+ghost use Rattle.qvt_types_leaves.specs.Joins.{Joins, JoinsAsIs};
 
 use crate::notes::Notes;
 use qvt_base::copied::Copied;
@@ -63,7 +63,7 @@ pub fn optional_text(alloc: Global, text: &Option<Text>) -> Result<Option<Text>,
 }
 
 pub fn path(alloc: Global, path: &PathTree, notes: &mut Notes) -> Result<TypedPathTree, ListFault>
-    ensures { Gives (join_path path.now notes.old) result notes.new }
+    ensures { JoinsAsIs (join_path path.now notes.old) result notes.new }
 {
     let names = path.names.copy(alloc)?;
     let note = notes.take();
@@ -79,7 +79,7 @@ pub fn optional_path(
     of: &Option<PathTree>,
     notes: &mut Notes,
 ) -> Result<Option<TypedPathTree>, ListFault>
-    ensures { Gives (join_optional_path of.now notes.old) result notes.new }
+    ensures { JoinsAsIs (join_optional_path of.now notes.old) result notes.new }
 {
     match of {
         None => Ok(None),
@@ -88,7 +88,7 @@ pub fn optional_path(
 }
 
 pub fn paths(alloc: Global, of: &[PathTree], notes: &mut Notes) -> Result<TypedPathList, ListFault>
-    ensures { Gives (join_all join_path of.now notes.old) result notes.new }
+    ensures { JoinsAsIs (join_all join_path of.now notes.old) result notes.new }
 {
     let mut done = Seq::new(alloc);
     for each in of {
@@ -108,7 +108,7 @@ pub fn sign(sign: Sign, notes: &mut Notes) -> TypedSign
 }
 
 pub fn signs(alloc: Global, of: &[Sign], notes: &mut Notes) -> Result<TypedSignList, ListFault>
-    ensures { Gives (join_signs of.now notes.old) result notes.new }
+    ensures { JoinsAsIs (join_signs of.now notes.old) result notes.new }
 {
     let mut done = Seq::new(alloc);
     for each in of {
@@ -122,7 +122,7 @@ pub fn variable(
     of: &Option<ObjectVar>,
     notes: &mut Notes,
 ) -> Result<Option<TypedObjectVar>, ListFault>
-    ensures { Gives (join_variable of.now notes.old) result notes.new }
+    ensures { JoinsAsIs (join_variable of.now notes.old) result notes.new }
 {
     match of {
         None => Ok(None),

@@ -8,7 +8,7 @@ use Rattle.qvt_tree_types.specs.Module.{UnitTerm, ClassOf, MainOf, HelperOf, Con
 use Rattle.qvt_tree_types.specs.View.{block_view}
 use Rattle.qvt_tree_types.specs.declared.tree.Stmt.{Stmt}
 use Rattle.qvt_tree_types.specs.declared.module.Unit as code
-use Rattle.qvt_types_data.specs.declared.refusal.Refusal.{Refusal}
+use Rattle.qvt_types_data.specs.declared.refusal.TypingRefusal.{TypingRefusal}
 use Rattle.qvt_types_data.specs.declared.refusal.RefusalKind.TheVariants.{SameName}
 use Rattle.qvt_types_paths.specs.ModelTypes.{NamedTypes}
 use Rattle.qvt_types_paths.specs.Told.{told_if}
@@ -26,7 +26,7 @@ first_told m e t us lists n (ConstructorOf h) more = refl
 first_told m e t us lists n (MappingOf u) more = refl
 
 -- the unit at the next place is told of
-pub lists_next : (m e : Metamodels) (t : NamedTypes) (us : List Signature) (lists : List (List ℕ)) (written : List code.Unit) (n : ℕ) (u : code.Unit) (had has r : List Refusal)
+pub lists_next : (m e : Metamodels) (t : NamedTypes) (us : List Signature) (lists : List (List ℕ)) (written : List code.Unit) (n : ℕ) (u : code.Unit) (had has r : List TypingRefusal)
     → n < length written → u ≡ get_or written n u
     → had ++ lists_told m e t us lists n (map unit_view (drop n written)) ≡ r
     → has ≡ had ++ unit_told m e t us lists n (unit_view u)
@@ -39,7 +39,7 @@ lists_next m e t us lists written n u had has r l at before is =
     ∙ before
 
 -- the unit at the next place is compared with those before it
-pub same_next : (us : List Signature) (n : ℕ) (u : Signature) (had has r : List Refusal)
+pub same_next : (us : List Signature) (n : ℕ) (u : Signature) (had has r : List TypingRefusal)
     → n < length us → u ≡ get_or us n u
     → had ++ same_told (take n us) (drop n us) ≡ r
     → has ≡ had ++ told_if (list_any (are_same u) (take n us)) SameName u.place

@@ -2,7 +2,7 @@
 use Rattle.std.specs.Prelude.{ℕ, Bool, List, [], ◌++◌}
 use Rattle.qvt_metamodel.specs.Metamodels.{Metamodels}
 use Rattle.qvt_tree_types.specs.Module.{MappingTerm, UnitTerm, ClassOf, MainOf, HelperOf, ConstructorOf, MappingOf}
-use Rattle.qvt_types_data.specs.declared.refusal.Refusal.{Refusal}
+use Rattle.qvt_types_data.specs.declared.refusal.TypingRefusal.{TypingRefusal}
 use Rattle.qvt_types_data.specs.declared.refusal.RefusalKind.TheVariants.{ReuseCycle, BadDisjunct}
 use Rattle.qvt_types_paths.specs.ModelTypes.{NamedTypes}
 use Rattle.qvt_types_paths.specs.Told.{told_if}
@@ -11,7 +11,7 @@ use Rattle.qvt_types_groups.specs.declared.reuse.Reuse.TheVariants.{Shared, Disj
 use Rattle.qvt_types_groups.specs.Reuse.{paths_told, is_bad_disjunct, mapping_told}
 
 -- of mapping u with signature s
-abbrev pub told_of_lists : Metamodels → Metamodels → NamedTypes → List Signature → Signature → Bool → MappingTerm → List Refusal
+abbrev pub told_of_lists : Metamodels → Metamodels → NamedTypes → List Signature → Signature → Bool → MappingTerm → List TypingRefusal
 told_of_lists m e t us s on_cycle u =
     paths_told m e t us Shared s u.inherits
     ++ paths_told m e t us Shared s u.merges
@@ -19,7 +19,7 @@ told_of_lists m e t us s on_cycle u =
     ++ told_if on_cycle ReuseCycle u.place
     ++ told_if (is_bad_disjunct u) BadDisjunct u.place
 
-abbrev pub unit_told : Metamodels → Metamodels → NamedTypes → List Signature → List (List ℕ) → ℕ → UnitTerm → List Refusal
+abbrev pub unit_told : Metamodels → Metamodels → NamedTypes → List Signature → List (List ℕ) → ℕ → UnitTerm → List TypingRefusal
 unit_told m e t us lists n (MappingOf u) = mapping_told m e t us lists n u
 unit_told m e t us lists n (ClassOf c) = []
 unit_told m e t us lists n (MainOf body at) = []

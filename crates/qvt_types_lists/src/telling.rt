@@ -19,7 +19,7 @@ use qvt_cycle::lists::Positions;
 use qvt_tree_types::module::{Mapping, Unit};
 use qvt_tree_types::tree::Stmt;
 use qvt_tree_types::types::PathTree;
-use qvt_types_data::refusal::{Refusal, RefusalKind};
+use qvt_types_data::refusal::{RefusalKind, TypingRefusal};
 use qvt_types_groups::numbers::no_unit;
 use qvt_types_groups::reuse::{Reuse, is_bad_reuse};
 use qvt_types_groups::signature::Signature;
@@ -74,7 +74,7 @@ fn tell_reuse_of(
             let bad = is_bad_at(alloc, listing, how, unit, number);
             tell_if(log, bad, RefusalKind::BadReuse, place)
         }
-        Err(kind) => log.push(Refusal { kind, place }),
+        Err(kind) => log.push(TypingRefusal { kind, place }),
     }
 }
 

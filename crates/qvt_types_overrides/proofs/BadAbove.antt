@@ -20,12 +20,12 @@ use Rattle.qvt_types_overrides.specs.declared.ranked.Ranked.{Ranked}
 use Rattle.qvt_types_overrides.specs.Odd.{clashes_at, clashes_among}
 use Rattle.qvt_types_overrides.specs.Ranked.{told_under, told_at, lists_under, table_at, EachFrom, AreRanked}
 use Rattle.qvt_types_overrides.specs.Clashes.{fits_at, fits_told, is_bad_at, is_bad_by, clashes_ranked}
-use Rattle.qvt_types_above.specs.Tells.{In, Asks, SomeAsks, Tells, IsOver, IsFrom}
+use Rattle.qvt_types_above.specs.Tells.{IsNumberIn, Asks, SomeAsks, Tells, IsUnitAbove, IsFrom}
 use Rattle.qvt_types_above.proofs.SameShapes.{Law}
 use Rattle.qvt_types_overrides.proofs.Overriding.{among_is, bad_is}
 use Rattle.qvt_types_above.proofs.Tellings.{fewer}
 
-none_in : (p : ℕ → Bool) (ns : List ℕ) → ((n : ℕ) → In n ns → p n ≡ true → ⊥) → list_any p ns ≡ false
+none_in : (p : ℕ → Bool) (ns : List ℕ) → ((n : ℕ) → IsNumberIn n ns → p n ≡ true → ⊥) → list_any p ns ≡ false
 none_in p [] never = refl
 none_in p (n ∷ ns) never = ap (λ b. b || list_any p ns) (not_true (p n) (never n (inl refl))) ∙ none_in p ns (λ k i. never k (inr i))
 
@@ -84,9 +84,9 @@ module _ (m : Metamodels) (us : List Signature) (u : Signature) where
   ]
   bad_told lists (Listed s) bad = bad_one (get_or lists s []) bad
 
-  none_clashes : (lists : List (List ℕ)) (ns : List ℕ) (a : Above) → Tells m us lists (IsOver m us ns u.context) a → fits_told m us lists u a ≡ true → list_any (clashes_at m us u) ns ≡ false
+  none_clashes : (lists : List (List ℕ)) (ns : List ℕ) (a : Above) → Tells m us lists (IsUnitAbove m us ns u.context) a → fits_told m us lists u a ≡ true → list_any (clashes_at m us u) ns ≡ false
   none_clashes lists ns a told fit = none_in (clashes_at m us u) ns (λ n there is.
-      told_fits lists (IsOver m us ns u.context) a told fit n (there, and_left (is_strictly_below m u.context (context_at us n)) (is_misfit m u (unit_at us n)) is)
+      told_fits lists (IsUnitAbove m us ns u.context) a told fit n (there, and_left (is_strictly_below m u.context (context_at us n)) (is_misfit m u (unit_at us n)) is)
       (and_right (is_strictly_below m u.context (context_at us n)) (is_misfit m u (unit_at us n)) is))
 
 settled : (fit hit all bad : Bool) → all ≡ bad → (fit ≡ true → all ≡ false) → (hit ≡ true → bad ≡ true) → (not fit && (hit || all)) ≡ bad
@@ -96,14 +96,14 @@ settled false false all bad same good found = same
 
 -- what is told of a unit is told by its name
 over_tells : (m : Metamodels) (us : List Signature) (t : Ranked) (name : List ℕ) (h : HeadClass) → EachFrom m us t.named.all.lists t.tables
-    → Tells m us (lists_under t.tables (position (bytes_eq name) t.named.all.names)) (IsOver m us (numbers_under t.named.all name) h) (told_at t.tables (position (bytes_eq name) t.named.all.names) h)
+    → Tells m us (lists_under t.tables (position (bytes_eq name) t.named.all.names)) (IsUnitAbove m us (numbers_under t.named.all name) h) (told_at t.tables (position (bytes_eq name) t.named.all.names) h)
 over_tells m us t name Missing each = λ n over. clash over.1 refl
 over_tells m us t name Unknown each = λ n over. clash over.1 refl
 over_tells m us t name (Known c) each = by (position (bytes_eq name) t.named.all.names)
   where
-    by : (o : Option ℕ) → Tells m us (lists_under t.tables o) (IsOver m us (list_at t.named.all.lists o) (Known c)) (told_under t.tables o c.0)
+    by : (o : Option ℕ) → Tells m us (lists_under t.tables o) (IsUnitAbove m us (list_at t.named.all.lists o) (Known c)) (told_under t.tables o c.0)
     by None = tt
-    by (Some s) = fewer m us (table_at t.tables s).lists (IsFrom m us (list_at t.named.all.lists (Some s)) c.0) (IsOver m us (list_at t.named.all.lists (Some s)) (Known c))
+    by (Some s) = fewer m us (table_at t.tables s).lists (IsFrom m us (list_at t.named.all.lists (Some s)) c.0) (IsUnitAbove m us (list_at t.named.all.lists (Some s)) (Known c))
         (told_under t.tables (Some s) c.0) (λ n over. inr over) (each s c.0)
 
 -- a unit that overrides others of its kind is bad where it does not fit what is told of its class and those above it

@@ -14,10 +14,10 @@ use Rattle.qvt_types_groups.specs.declared.signature.Signature.{Signature}
 use Rattle.qvt_types_groups.specs.Numbers.{is_mapping, is_called, has_context, is_in_group, unit_at}
 use Rattle.qvt_types_groups.specs.Overrides.{are_alike, is_strictly_below, overrides, is_misfit, is_bad_override}
 use Rattle.qvt_types_groups.specs.Lists.{numbers_under}
-use Rattle.qvt_types_overrides.specs.declared.odd.Named.{Named}
+use Rattle.qvt_types_overrides.specs.declared.odd.UnitsByName.{UnitsByName}
 use Rattle.qvt_types_above.specs.Shapes.{same_shape}
 use Rattle.qvt_types_groups.proofs.ByClass.{AreLeast}
-use Rattle.qvt_types_overrides.specs.Odd.{is_like_first, is_odd, is_upper_unit, AreNamed, clashes, clashes_at, misfits_first, clashes_among}
+use Rattle.qvt_types_overrides.specs.Odd.{is_like_first, is_odd, is_upper_unit, AreByName, clashes, clashes_at, misfits_first, clashes_among}
 use Rattle.qvt_types_overrides.specs.Upper.{is_upper}
 use Rattle.qvt_types_overrides.proofs.Parted.{any_where, asked_between, asked_first, parted}
 use Rattle.qvt_types_overrides.proofs.Uppers.{below_upper}
@@ -60,7 +60,7 @@ clash_upper : (m : Metamodels) → AreLeast m → (u v : Signature) → clashes 
 clash_upper m least u v e = below_upper m least u.context v.context (and_left (is_strictly_below m u.context v.context) (is_misfit m u v) e)
 
 -- where those that are unlike the first are looked at, and all where the unit does not fit the first, all are
-pub among_is : Law → (m : Metamodels) → AreLeast m → (us : List Signature) (maps : Bool) (t : Named) (u : Signature) → AreNamed m maps us t
+pub among_is : Law → (m : Metamodels) → AreLeast m → (us : List Signature) (maps : Bool) (t : UnitsByName) (u : Signature) → AreByName m maps us t
     → clashes_among m us t u ≡ list_any (clashes_at m us u) (numbers_under t.all u.name)
 among_is law m least us maps t u are =
     (λ i. list_any (clashes_at m us u) (are.odd u.name i) || (misfits_first m us (numbers_under t.all u.name) u && list_any (clashes_at m us u) (are.upper u.name i)))
@@ -75,7 +75,7 @@ among_is law m least us maps t u are =
     ∙ ap (list_any (clashes_at m us u)) (sym (are.all u.name))
 
 -- a unit that overrides others of its kind
-pub bad_is : (m : Metamodels) (us : List Signature) (maps : Bool) (t : Named) (u : Signature) → AreNamed m maps us t
+pub bad_is : (m : Metamodels) (us : List Signature) (maps : Bool) (t : UnitsByName) (u : Signature) → AreByName m maps us t
     → ((v : Signature) → is_called maps v.sort ≡ are_alike u.sort v.sort) → list_any (clashes_at m us u) (numbers_under t.all u.name) ≡ is_bad_override m us u
 bad_is m us maps t u are alike =
     ap (list_any (clashes_at m us u)) (are.all u.name)

@@ -8,7 +8,7 @@ use Rattle.qvt_types_groups.specs.Numbers.{unit_at}
 use Rattle.qvt_types_groups.specs.Overrides.{overrides, is_misfit}
 use Rattle.qvt_types_above.specs.declared.above.Above.{Above}
 use Rattle.qvt_types_above.specs.declared.above.Above.TheVariants.{Untold, Nothing, Least, Both, Listed}
-use Rattle.qvt_types_overrides.specs.declared.odd.Named.{Named}
+use Rattle.qvt_types_overrides.specs.declared.odd.UnitsByName.{UnitsByName}
 use Rattle.qvt_types_overrides.specs.declared.ranked.Ranked.{Ranked}
 use Rattle.qvt_types_overrides.specs.Odd.{clashes_among}
 use Rattle.qvt_types_overrides.specs.Ranked.{told_at, lists_under}
@@ -36,7 +36,7 @@ is_bad_by m us lists u (Both n k) = is_bad_at m us u n || is_bad_at m us u k
 is_bad_by m us lists u (Listed s) = list_any (is_bad_at m us u) (slice_index_or lists s [])
 
 -- it does not fit one of its name that is above it
-abbrev pub clashes_by : Metamodels → List Signature → Named → List (List ℕ) → Signature → Above → Bool
+abbrev pub clashes_by : Metamodels → List Signature → UnitsByName → List (List ℕ) → Signature → Above → Bool
 clashes_by m us t lists u a = not (fits_told m us lists u a) && (is_bad_by m us lists u a || clashes_among m us t u)
 
 abbrev pub clashes_ranked : Metamodels → List Signature → Ranked → Signature → Bool

@@ -7,7 +7,7 @@ use Rattle.qvt_types_groups.specs.declared.signature.Signature.{Signature}
 use Rattle.qvt_types_groups.specs.Numbers.{unit_at, is_in_group, numbers_where}
 use Rattle.qvt_types_groups.specs.Overrides.{is_strictly_below, is_misfit}
 use Rattle.qvt_types_groups.specs.Lists.{numbers_under}
-use Rattle.qvt_types_overrides.specs.declared.odd.Named.{Named}
+use Rattle.qvt_types_overrides.specs.declared.odd.UnitsByName.{UnitsByName}
 use Rattle.qvt_types_overrides.specs.Upper.{is_upper}
 use Rattle.qvt_types_above.specs.Shapes.{same_shape}
 
@@ -25,7 +25,7 @@ abbrev pub is_odd : Metamodels → Bool → List Signature → List ℕ → List
 is_odd m maps us ns name u = is_in_group maps name u && (is_upper m u.context && not (is_like_first us ns u))
 
 -- mappings, or helpers and queries
-pub record AreNamed (m : Metamodels) (maps : Bool) (us : List Signature) (t : Named) : Type 0 where
+pub record AreByName (m : Metamodels) (maps : Bool) (us : List Signature) (t : UnitsByName) : Type 0 where
   pub all : (name : List ℕ) → numbers_under t.all name ≡ numbers_where (is_in_group maps name) 0 us
   pub upper : (name : List ℕ) → numbers_under t.upper name ≡ numbers_where (is_upper_unit m maps name) 0 us
   pub odd : (name : List ℕ) → numbers_under t.odd name ≡ numbers_where (is_odd m maps us (numbers_under t.all name) name) 0 us
@@ -44,7 +44,7 @@ misfits_first m us (n ∷ ns) u = nat_lt n (length us) && is_misfit m u (unit_at
 
 -- it does not fit one of its name that is above it: of classes that others may be below those that are unlike the first are asked, and
 -- all where it does not fit the first
-abbrev pub clashes_among : Metamodels → List Signature → Named → Signature → Bool
+abbrev pub clashes_among : Metamodels → List Signature → UnitsByName → Signature → Bool
 clashes_among m us t u =
     list_any (clashes_at m us u) (numbers_under t.odd u.name)
     || (misfits_first m us (numbers_under t.all u.name) u && list_any (clashes_at m us u) (numbers_under t.upper u.name))

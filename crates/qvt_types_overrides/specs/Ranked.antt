@@ -8,10 +8,10 @@ use Rattle.qvt_types_groups.specs.Lists.{numbers_under}
 use Rattle.qvt_types_groups.specs.Numbers.{unit_at}
 use Rattle.qvt_types_above.specs.declared.above.Above.{Above}
 use Rattle.qvt_types_above.specs.declared.above.Above.TheVariants.{Untold, Nothing}
-use Rattle.qvt_types_overrides.specs.declared.odd.Named.{Named}
+use Rattle.qvt_types_overrides.specs.declared.odd.UnitsByName.{UnitsByName}
 use Rattle.qvt_types_overrides.specs.declared.ranked.Ranked.{Ranked}
 use Rattle.qvt_types_above.specs.declared.table.AboveTable.{AboveTable}
-use Rattle.qvt_types_overrides.specs.Odd.{AreNamed}
+use Rattle.qvt_types_overrides.specs.Odd.{AreByName}
 use Rattle.qvt_types_above.specs.Above.{above_at}
 use Rattle.qvt_types_above.specs.Tells.{AllFrom}
 
@@ -19,7 +19,7 @@ use Rattle.qvt_types_above.specs.Tells.{AllFrom}
 abbrev pub is_worth : ℕ → ℕ → ℕ → Bool
 is_worth count all odd = nat_lt 0 all && nat_lt (count / all) odd
 
-abbrev pub is_wide : ℕ → List Signature → Named → List ℕ → Bool
+abbrev pub is_wide : ℕ → List Signature → UnitsByName → List ℕ → Bool
 is_wide count us t [] = false
 is_wide count us t (n ∷ ns) = nat_lt n (length us) && is_worth count (length (n ∷ ns)) (length (numbers_under t.odd (unit_at us n).name))
 
@@ -50,5 +50,5 @@ abbrev pub EachFrom : Metamodels → List Signature → List (List ℕ) → List
 EachFrom m us lists tables = (s : ℕ) → AllFrom m us (slice_index_or lists s []) (table_at tables s)
 
 pub record AreRanked (m : Metamodels) (maps : Bool) (us : List Signature) (t : Ranked) : Type 0 where
-  pub named : AreNamed m maps us t.named
+  pub named : AreByName m maps us t.named
   pub tables : EachFrom m us t.named.all.lists t.tables

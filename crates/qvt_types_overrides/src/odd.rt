@@ -6,13 +6,13 @@ ghost use Rattle.std.specs.Str.{bytes_eq};
 ghost use Rattle.qvt_types_groups.specs.Numbers.{unit_at, numbers_where};
 ghost use Rattle.qvt_types_groups.specs.Lists.{is_one, numbers_under};
 ghost use Rattle.qvt_types_overrides.specs.Odd as odd_words;
-ghost use Rattle.qvt_types_overrides.specs.Odd.{AreNamed};
+ghost use Rattle.qvt_types_overrides.specs.Odd.{AreByName};
 ghost use Rattle.qvt_types_above.specs.Shapes as shapes;
 ghost use Rattle.qvt_types_overrides.specs.Upper.{is_upper, AreSupers};
 
 use crate::upper::is_upper;
 use qvt_base::list_fault::ListFault;
-use qvt_metas::number_set::NumberSet;
+use qvt_metas::number_set::MarkedNumbers;
 use qvt_types_above::shapes::same_shape;
 use qvt_types_groups::class_keys::is_called;
 use qvt_types_groups::number_lists::NumberLists;
@@ -23,7 +23,7 @@ use qvt_types_paths::metas::Metas;
 use std::alloc::Global;
 
 /// Units that are called alike and have a context, by their names.
-pub struct Named {
+pub struct UnitsByName {
     pub all: NumberLists,
     /// Those of classes that others may be below.
     pub upper: NumberLists,
@@ -31,9 +31,9 @@ pub struct Named {
     pub odd: NumberLists,
 }
 
-impl Drop for Named {
+impl Drop for UnitsByName {
     fn drop(self) {
-        let Named { all, upper, odd } = self;
+        let UnitsByName { all, upper, odd } = self;
     }
 }
 
@@ -55,7 +55,7 @@ fn is_like_first(units: &[Signature], group: &[u32], unit: &Signature) -> bool
 }
 
 /// Whether the unit is one of these, of a class that others may be below.
-fn is_upper_unit(metas: &Metas, supers: &NumberSet, maps: bool, unit: &Signature) -> bool
+fn is_upper_unit(metas: &Metas, supers: &MarkedNumbers, maps: bool, unit: &Signature) -> bool
     requires { AreSupers metas.now.classes supers.now }
     ensures { result ≡ (is_one maps true unit.now && is_upper metas.now unit.now.context) }
 {
@@ -65,7 +65,7 @@ fn is_upper_unit(metas: &Metas, supers: &NumberSet, maps: bool, unit: &Signature
 /// Whether it is not like the first of its name either.
 fn is_odd(
     metas: &Metas,
-    supers: &NumberSet,
+    supers: &MarkedNumbers,
     maps: bool,
     units: &[Signature],
     all: &NumberLists,
@@ -102,7 +102,7 @@ fn with_unit(
 fn upper_ones(
     alloc: Global,
     metas: &Metas,
-    supers: &NumberSet,
+    supers: &MarkedNumbers,
     maps: bool,
     units: &[Signature],
 ) -> Result<NumberLists, ListFault>
@@ -126,7 +126,7 @@ fn upper_ones(
 fn odd_ones(
     alloc: Global,
     metas: &Metas,
-    supers: &NumberSet,
+    supers: &MarkedNumbers,
     maps: bool,
     units: &[Signature],
     all: &NumberLists,
@@ -151,15 +151,15 @@ fn odd_ones(
 pub fn by_name(
     alloc: Global,
     metas: &Metas,
-    supers: &NumberSet,
+    supers: &MarkedNumbers,
     maps: bool,
     units: &[Signature],
-) -> Result<Named, ListFault>
+) -> Result<UnitsByName, ListFault>
     requires { AreSupers metas.now.classes supers.now }
-    ensures { IfOk result (AreNamed metas.now maps units.now) }
+    ensures { IfOk result (AreByName metas.now maps units.now) }
 {
     let all = lists_of(alloc, maps, true, units)?;
     let upper = upper_ones(alloc, metas, supers, maps, units)?;
     let odd = odd_ones(alloc, metas, supers, maps, units, &all)?;
-    Ok(Named { all, upper, odd })
+    Ok(UnitsByName { all, upper, odd })
 }

@@ -9,7 +9,7 @@ ghost use Rattle.qvt_types_overrides.specs.Odd as odd_words;
 ghost use Rattle.qvt_types_overrides.specs.Clashes as clash_words;
 ghost use Rattle.qvt_types_overrides.specs.Ranked.{AreRanked};
 
-use crate::odd::Named;
+use crate::odd::UnitsByName;
 use crate::ranked::{Ranked, lists_under, rank_by_name, told_at};
 use crate::upper::supers_of;
 use qvt_base::list_fault::ListFault;
@@ -63,7 +63,7 @@ fn misfits_first(metas: &Metas, units: &[Signature], group: &[u32], unit: &Signa
 
 /// Whether the unit does not fit one of its name that is above it. Those of classes that no other is below are not looked at, and where
 /// all of the name are alike and it fits the first, none is.
-fn clashes_among(metas: &Metas, units: &[Signature], named: &Named, unit: &Signature) -> bool
+fn clashes_among(metas: &Metas, units: &[Signature], named: &UnitsByName, unit: &Signature) -> bool
     ensures { result ≡ odd_words.clashes_among metas.now units.now named.now unit.now }
 {
     let name = unit.name.as_str();
@@ -157,7 +157,7 @@ fn is_bad_by(
 fn clashes_by(
     metas: &Metas,
     units: &[Signature],
-    named: &Named,
+    named: &UnitsByName,
     lists: &[Seq<u32>],
     unit: &Signature,
     told: Above,

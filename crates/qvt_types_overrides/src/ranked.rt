@@ -6,10 +6,10 @@ ghost use Rattle.qvt_types_overrides.specs.Ranked.{EachFrom, AreRanked};
 ghost use Rattle.qvt_types_above.specs.Tells.{AllFrom};
 ghost use Rattle.qvt_types_overrides.specs.Upper.{AreSupers};
 
-use crate::odd::{Named, by_name};
+use crate::odd::{UnitsByName, by_name};
 use qvt_base::list_fault::ListFault;
 use qvt_base::seq::Seq;
-use qvt_metas::number_set::NumberSet;
+use qvt_metas::number_set::MarkedNumbers;
 use qvt_types_above::above::{Above, above_at};
 use qvt_types_above::table::{AboveTable, table_of, untold};
 use qvt_types_groups::class_choices::class_order;
@@ -19,7 +19,7 @@ use std::alloc::Global;
 
 /// Units that are called alike and have a context, and for each name what is told of them at each class and above it.
 pub struct Ranked {
-    pub named: Named,
+    pub named: UnitsByName,
     pub tables: Seq<AboveTable>,
 }
 
@@ -38,7 +38,7 @@ fn is_worth(count: u32, all: usize, odd: usize) -> bool
 }
 
 /// The same of the units of a name.
-fn is_wide(count: u32, units: &[Signature], named: &Named, group: &[u32]) -> bool
+fn is_wide(count: u32, units: &[Signature], named: &UnitsByName, group: &[u32]) -> bool
     ensures { result ≡ ranked.is_wide count units.now named.now group.now }
 {
     match group {
@@ -80,7 +80,7 @@ fn tables_along(
     alloc: Global,
     metas: &Metas,
     units: &[Signature],
-    named: &Named,
+    named: &UnitsByName,
     order: &[u32],
 ) -> Result<Seq<AboveTable>, ListFault>
     ensures { IfOk result (EachFrom metas.now units.now named.now.all.lists) }
@@ -97,7 +97,7 @@ fn tables_along(
 }
 
 /// Whether it is worth it for one of the names.
-fn is_some_wide(count: u32, units: &[Signature], named: &Named) -> bool
+fn is_some_wide(count: u32, units: &[Signature], named: &UnitsByName) -> bool
     ensures { result ≡ list_any (ranked.is_wide count units.now named.now) named.now.all.lists }
 {
     named
@@ -114,7 +114,7 @@ fn tables_of(
     alloc: Global,
     metas: &Metas,
     units: &[Signature],
-    named: &Named,
+    named: &UnitsByName,
 ) -> Result<Seq<AboveTable>, ListFault>
     ensures { IfOk result (EachFrom metas.now units.now named.now.all.lists) }
 {
@@ -132,7 +132,7 @@ fn tables_of(
 pub fn rank_by_name(
     alloc: Global,
     metas: &Metas,
-    supers: &NumberSet,
+    supers: &MarkedNumbers,
     maps: bool,
     units: &[Signature],
 ) -> Result<Ranked, ListFault>

@@ -9,14 +9,14 @@ ghost use Rattle.qvt_types_overrides.specs.Upper.{AreSupers};
 use qvt_base::list_fault::ListFault;
 use qvt_base::numbers::ClassNo;
 use qvt_metas::info::ClassInfo;
-use qvt_metas::number_set::NumberSet;
+use qvt_metas::number_set::MarkedNumbers;
 use qvt_types_above::own::is_element;
 use qvt_types_groups::signature::HeadClass;
 use qvt_types_paths::metas::Metas;
 use std::alloc::Global;
 
 /// Puts the numbers of these classes there.
-fn put_all(set: &mut NumberSet, supers: &[ClassNo]) -> Result<(), ListFault>
+fn put_all(set: &mut MarkedNumbers, supers: &[ClassNo]) -> Result<(), ListFault>
     ensures { OnOk result ((c : ℕ) → has_number set.new c ≡ (has_number set.old c || list_any (λ s. s.0 == c) supers.now)) }
 {
     for class in supers {
@@ -26,10 +26,10 @@ fn put_all(set: &mut NumberSet, supers: &[ClassNo]) -> Result<(), ListFault>
 }
 
 /// The superclasses of these classes.
-pub fn supers_of(alloc: Global, classes: &[ClassInfo]) -> Result<NumberSet, ListFault>
+pub fn supers_of(alloc: Global, classes: &[ClassInfo]) -> Result<MarkedNumbers, ListFault>
     ensures { IfOk result (λ set. AreSupers classes.now set) }
 {
-    let mut set = NumberSet::new(alloc);
+    let mut set = MarkedNumbers::new(alloc);
     for class in classes {
         put_all(&mut set, class.supers.as_slice())?;
     }
@@ -37,7 +37,7 @@ pub fn supers_of(alloc: Global, classes: &[ClassInfo]) -> Result<NumberSet, List
 }
 
 /// Whether the class is above all others, or a superclass of one.
-pub fn is_upper(metas: &Metas, supers: &NumberSet, context: HeadClass) -> bool
+pub fn is_upper(metas: &Metas, supers: &MarkedNumbers, context: HeadClass) -> bool
     requires { AreSupers metas.now.classes supers.now }
     ensures { result ≡ upper.is_upper metas.now context }
 {

@@ -8,7 +8,7 @@ use Rattle.qvt_metas.specs.Named.{metamodel_named}
 use Rattle.qvt_meta_names.specs.Names.{is_among}
 use Rattle.qvt_tree_types.specs.Module.{UnitTerm, ClassOf, MainOf, HelperOf, ConstructorOf, MappingOf}
 use Rattle.qvt_tree_types.specs.declared.module.ModelType.{ModelType}
-use Rattle.qvt_types_data.specs.declared.refusal.Refusal.{Refusal}
+use Rattle.qvt_types_data.specs.declared.refusal.TypingRefusal.{TypingRefusal}
 use Rattle.qvt_types_data.specs.declared.refusal.RefusalKind.TheVariants.{UnknownMetamodel, SameName}
 use Rattle.qvt_types_paths.specs.Told.{told_if}
 
@@ -29,10 +29,10 @@ abbrev pub meant : Metamodels → ModelType → Option ℕ
 meant m t = metamodel_named m t.uri
 
 -- no metamodel is meant; an earlier model type has the name
-unfoldable pub model_type_told : Metamodels → List (List ℕ) → ModelType → List Refusal
+unfoldable pub model_type_told : Metamodels → List (List ℕ) → ModelType → List TypingRefusal
 model_type_told m earlier t = told_if (is_none (meant m t)) UnknownMetamodel t.place ++ told_if (is_among t.name earlier) SameName t.place
 
-abbrev pub model_types_told : Metamodels → List (List ℕ) → List ModelType → List Refusal
+abbrev pub model_types_told : Metamodels → List (List ℕ) → List ModelType → List TypingRefusal
 model_types_told m earlier [] = []
 model_types_told m earlier (t ∷ ts) = model_type_told m earlier t ++ model_types_told m (earlier ++ t.name ∷ []) ts
 

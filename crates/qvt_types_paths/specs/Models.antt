@@ -7,7 +7,7 @@ use Rattle.qvt_meta_names.specs.Names.{is_among}
 use Rattle.qvt_tree_types.specs.declared.module.ModelParam.{ModelParam}
 use Rattle.qvt_tree_types.specs.declared.words.Direction.{Direction}
 use Rattle.qvt_tree_types.specs.declared.words.Direction.TheVariants.{Input, Output, Both}
-use Rattle.qvt_types_data.specs.declared.refusal.Refusal.{Refusal}
+use Rattle.qvt_types_data.specs.declared.refusal.TypingRefusal.{TypingRefusal}
 use Rattle.qvt_types_data.specs.declared.refusal.RefusalKind.TheVariants.{UnknownName, SameName}
 use Rattle.qvt_types_paths.specs.declared.models.ModelRow.{ModelRow}
 use Rattle.qvt_types_paths.specs.declared.models.Models.{Models}
@@ -15,10 +15,10 @@ use Rattle.qvt_types_paths.specs.ModelTypes.{NamedTypes, model_type_metamodel}
 use Rattle.qvt_types_paths.specs.Told.{told_if}
 
 -- no model type has the name; an earlier parameter has this one's
-unfoldable pub model_told : NamedTypes → List (List ℕ) → ModelParam → List Refusal
+unfoldable pub model_told : NamedTypes → List (List ℕ) → ModelParam → List TypingRefusal
 model_told t earlier p = told_if (not (is_some (position (bytes_eq p.model_type) t.model_types))) UnknownName p.place ++ told_if (is_among p.name earlier) SameName p.place
 
-abbrev pub models_told : NamedTypes → List (List ℕ) → List ModelParam → List Refusal
+abbrev pub models_told : NamedTypes → List (List ℕ) → List ModelParam → List TypingRefusal
 models_told t earlier [] = []
 models_told t earlier (p ∷ ps) = model_told t earlier p ++ models_told t (earlier ++ p.name ∷ []) ps
 

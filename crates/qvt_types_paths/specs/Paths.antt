@@ -7,7 +7,7 @@ use Rattle.qvt_metas.specs.Metamodels.{Metamodels}
 use Rattle.qvt_metas.specs.Named.{class_named, enumeration_named, literal_named}
 use Rattle.qvt_tree_types.specs.Tree.{TypeTerm, CollType, PathType}
 use Rattle.qvt_tree_types.specs.declared.words.CollKind.{CollKind}
-use Rattle.qvt_types_data.specs.declared.refusal.Refusal.{Refusal}
+use Rattle.qvt_types_data.specs.declared.refusal.TypingRefusal.{TypingRefusal}
 use Rattle.qvt_types_data.specs.declared.refusal.RefusalKind.{RefusalKind}
 use Rattle.qvt_types_data.specs.declared.refusal.RefusalKind.TheVariants.{UnknownName, UnknownType, Ambiguous}
 use Rattle.qvt_types_data.specs.declared.ty.Ty.{Ty, out-Ty}
@@ -88,16 +88,16 @@ path_type m t (a ∷ []) = one_name m t a
 path_type m t (a ∷ b ∷ []) = two_names m t a b
 path_type m t (a ∷ b ∷ c ∷ more) = Err UnknownType
 
-abbrev pub told_at : Place → Result Ty RefusalKind → Result Ty Refusal
+abbrev pub told_at : Place → Result Ty RefusalKind → Result Ty TypingRefusal
 told_at at (Ok T) = Ok T
 told_at at (Err kind) = Err (record { kind = kind; place = at })
 
-abbrev pub collection : CollKind → Result Ty Refusal → Result Ty Refusal
+abbrev pub collection : CollKind → Result Ty TypingRefusal → Result Ty TypingRefusal
 collection kind (Ok T) = Ok (ty.Coll kind T)
 collection kind (Err told) = Err told
 
 -- the type that is written, or what is told of its path
-abbrev pub written_type : Metamodels → NamedTypes → TypeTerm → Result Ty Refusal
+abbrev pub written_type : Metamodels → NamedTypes → TypeTerm → Result Ty TypingRefusal
 written_type m t (CollType kind item at) = collection kind (written_type m t item)
 written_type m t (PathType path) = told_at path.place (path_type m t path.names)
 

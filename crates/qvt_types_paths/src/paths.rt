@@ -13,7 +13,7 @@ use qvt_metas::metas::Metas;
 use qvt_tree_types::types::TypeTree;
 use qvt_tree_types::words::CollKind;
 use qvt_types_data::boxed::Boxed;
-use qvt_types_data::refusal::{Refusal, RefusalKind};
+use qvt_types_data::refusal::{RefusalKind, TypingRefusal};
 use qvt_types_data::ty::Ty;
 use qvt_value::value::LiteralRef;
 use std::alloc::Global;
@@ -156,12 +156,12 @@ pub fn path_type(metas: &Metas, names: &TypeNames, path: &[Text]) -> Result<Ty, 
     }
 }
 
-fn told_at(place: Place, t: Result<Ty, RefusalKind>) -> Result<Ty, Refusal>
+fn told_at(place: Place, t: Result<Ty, RefusalKind>) -> Result<Ty, TypingRefusal>
     ensures { result ≡ paths.told_at place t }
 {
     match t {
         Ok(t) => Ok(t),
-        Err(kind) => Err(Refusal { kind, place }),
+        Err(kind) => Err(TypingRefusal { kind, place }),
     }
 }
 
@@ -169,8 +169,8 @@ fn told_at(place: Place, t: Result<Ty, RefusalKind>) -> Result<Ty, Refusal>
 fn collection(
     alloc: Global,
     kind: CollKind,
-    item: Result<Ty, Refusal>,
-) -> Result<Result<Ty, Refusal>, ListFault>
+    item: Result<Ty, TypingRefusal>,
+) -> Result<Result<Ty, TypingRefusal>, ListFault>
     ensures { IfOk result (λ t. t ≡ paths.collection kind item) }
 {
     match item {
@@ -185,7 +185,7 @@ pub fn written_type(
     metas: &Metas,
     names: &TypeNames,
     written: &TypeTree,
-) -> Result<Result<Ty, Refusal>, ListFault>
+) -> Result<Result<Ty, TypingRefusal>, ListFault>
     ensures { IfOk result (λ t. t ≡ paths.written_type metas.now names.now (type_view written.now)) }
 {
     match written {

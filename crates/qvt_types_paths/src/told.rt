@@ -6,10 +6,10 @@ ghost use Rattle.qvt_types_paths.specs.Told as told;
 use qvt_base::list_fault::ListFault;
 use qvt_base::numbers::Place;
 use qvt_base::seq::Seq;
-use qvt_types_data::refusal::{Refusal, RefusalKind};
+use qvt_types_data::refusal::{RefusalKind, TypingRefusal};
 
 /// Refusals, in the order in which they were told.
-pub type RefusalList = Seq<Refusal>;
+pub type RefusalList = Seq<TypingRefusal>;
 
 /// Tells a refusal last, where something is wrong.
 pub fn tell_if(
@@ -21,7 +21,7 @@ pub fn tell_if(
     ensures { OnOk result (log.new ≡ log.old ++ told.told_if is_wrong kind place) }
 {
     if is_wrong {
-        return log.push(Refusal { kind, place });
+        return log.push(TypingRefusal { kind, place });
     }
     Ok(())
 }

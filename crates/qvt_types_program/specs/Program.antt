@@ -8,7 +8,7 @@ use Rattle.qvt_types_paths.specs.Models.{nowhere_row}
 use Rattle.qvt_types_heads.specs.declared.declarations.Declarations.{Declarations}
 use Rattle.qvt_types_heads.specs.Heads.{heads_over}
 use Rattle.qvt_types_heads.specs.Accepts.{ProgramTerm}
-use Rattle.qvt_types_heads.specs.Context.{Heads}
+use Rattle.qvt_types_heads.specs.Context.{DeclaredHeads}
 use Rattle.qvt_types_program.specs.Known.{known}
 use Rattle.qvt_types_program.specs.declared.program.Program.{Program}
 
@@ -39,5 +39,5 @@ abbrev pub unit_term : ProgramTerm → ℕ → Option TypedUnitTerm
 unit_term p n = slice_get p.module_.units n
 
 -- what the heads declare, as a ruling may be asked of it when the typing is done: the metamodels of the program stand for those of the job
-abbrev pub heads_in : ProgramTerm → Heads
+abbrev pub heads_in : ProgramTerm → DeclaredHeads
 heads_in p = record { given = p.heads.metas; metas = p.heads.metas; types = p.heads.types; models = p.heads.models; units = p.heads.units; first = p.heads.first; flags = p.heads.flags }

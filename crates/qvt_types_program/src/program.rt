@@ -7,7 +7,7 @@ ghost use Rattle.qvt_types_program.specs.Mappings.{AreNumbered};
 ghost use Rattle.qvt_types_program.specs.Tables.{tables_of};
 
 use crate::known::known;
-use crate::tables::Tables;
+use crate::tables::ProgramTables;
 use qvt_base::numbers::MappingNo;
 use qvt_tree_types::module::ModelParamList;
 use qvt_types_groups::signature::Signature;
@@ -22,7 +22,7 @@ use qvt_types_paths::models::Models;
 pub struct Program {
     pub module: TypedModule,
     declarations: Declarations,
-    tables: Tables,
+    tables: ProgramTables,
     ghost tables_are: { tables ≡ tables_of (strip (typed_module_view «module»)).params declarations },
     ghost numbered: { AreNumbered 0 declarations.units.units },
 }
@@ -46,7 +46,7 @@ impl Program {
     ghost use Rattle.qvt_types_heads.specs.Seen.{heads_seen};
 
     /// The program of a typed tree, with what its heads declare.
-    pub fn new(module: TypedModule, declarations: Declarations, tables: Tables) -> Program
+    pub fn new(module: TypedModule, declarations: Declarations, tables: ProgramTables) -> Program
         requires tables { tables ≡ tables_of (strip (typed_module_view «module»)).params declarations }
         requires numbered { AreNumbered 0 declarations.units.units }
         ensures { words.program_view result ≡ words.program_of (typed_module_view «module») declarations }

@@ -20,7 +20,7 @@ use qvt_types_paths::metas::Metas;
 use std::alloc::Global;
 
 /// What a program is asked by number.
-pub struct Tables {
+pub struct ProgramTables {
     /// The model parameters, in the order of the header.
     pub params: ModelParamList,
     /// For each mapping the number of its unit.
@@ -29,9 +29,9 @@ pub struct Tables {
     pub names: NameList,
 }
 
-impl Drop for Tables {
+impl Drop for ProgramTables {
     fn drop(self) {
-        let Tables {
+        let ProgramTables {
             params,
             mappings,
             names,
@@ -117,13 +117,13 @@ pub fn tables_of(
     alloc: Global,
     params: &[ModelParam],
     declarations: &Declarations,
-) -> Result<Tables, ListFault>
+) -> Result<ProgramTables, ListFault>
     ensures { IfOk result (λ t. t ≡ tables_of params.now declarations.now) }
 {
     let units = &declarations.units;
     let mappings = mapping_units(alloc, units)?;
     let names = mapping_names(alloc, units, mappings.as_slice())?;
-    Ok(Tables {
+    Ok(ProgramTables {
         params: copied_params(alloc, params)?,
         mappings,
         names,

@@ -3,7 +3,7 @@
 ghost use Rattle.std.specs.Prelude.{◌≡◌};
 ghost use Rattle.qvt_types_data.specs.declared.refusal.RefusalKind.TheVariants as refusal;
 ghost use Rattle.qvt_types_context.specs.Seen.{heads_seen, seen};
-ghost use Rattle.qvt_types_states.specs.Does.{Does};
+ghost use Rattle.qvt_types_states.specs.Does.{GivesAndLeaves};
 ghost use Rattle.qvt_types_context.specs.Aims as aims;
 ghost use Rattle.qvt_types_context.specs.Statements as rule_of;
 
@@ -16,7 +16,7 @@ use qvt_types_context::context::{Context, Heads};
 use qvt_types_context::parts::{Aim, Effect};
 use qvt_types_data::refusal::RefusalKind;
 use qvt_types_data::ty::Ty;
-use qvt_types_states::state::State;
+use qvt_types_states::state::TypingState;
 use qvt_types_states::steps::{checked, marks, writes_nothing};
 use qvt_types_words::rulings::{property_wrong, variable_wrong};
 use qvt_types_words::types::value_type;
@@ -37,9 +37,9 @@ fn aimed(
     missing: RefusalKind,
     place: Place,
     aim: Aim,
-    state: &mut State,
+    state: &mut TypingState,
 ) -> Result<Aim, ListFault>
-    ensures { Does (rule_of.aimed missing place aim state.old) result state.new }
+    ensures { GivesAndLeaves (rule_of.aimed missing place aim state.old) result state.new }
 {
     checked(nowhere_told(missing, &aim), place, state)?;
     marks(aim_read(x.alloc, &aim)?, state)?;
@@ -51,17 +51,21 @@ pub fn bare_target(
     x: &Context<'_>,
     name: &Text,
     place: Place,
-    state: &mut State,
+    state: &mut TypingState,
 ) -> Result<Aim, ListFault>
-    ensures { Does (rule_of.bare_target (seen x.now) name.now place state.old) result state.new }
+    ensures { GivesAndLeaves (rule_of.bare_target (seen x.now) name.now place state.old) result state.new }
 {
     let aim = bare_aim(x, &state.scope, name.as_str())?;
     aimed(x, RefusalKind::UnknownName, place, aim, state)
 }
 
 #[tactic(auto, unfolding(qvt_typing::specs::Statements::result_target))]
-pub fn result_target(x: &Context<'_>, place: Place, state: &mut State) -> Result<Aim, ListFault>
-    ensures { Does (rule_of.result_target (seen x.now) place state.old) result state.new }
+pub fn result_target(
+    x: &Context<'_>,
+    place: Place,
+    state: &mut TypingState,
+) -> Result<Aim, ListFault>
+    ensures { GivesAndLeaves (rule_of.result_target (seen x.now) place state.old) result state.new }
 {
     let aim = result_aim(x)?;
     aimed(x, RefusalKind::ResultPlace, place, aim, state)
@@ -73,9 +77,9 @@ pub fn member_aimed(
     object: &Option<Ty>,
     name: &Text,
     place: Place,
-    state: &mut State,
+    state: &mut TypingState,
 ) -> Result<Aim, ListFault>
-    ensures { Does (rule_of.aimed refusal.UnknownName place (aims.member_aim (heads_seen x.now.heads) name.now object.now) state.old) result state.new }
+    ensures { GivesAndLeaves (rule_of.aimed refusal.UnknownName place (aims.member_aim (heads_seen x.now.heads) name.now object.now) state.old) result state.new }
 {
     let aim = member_aim(&x.heads, name.as_str(), object);
     aimed(x, RefusalKind::UnknownName, place, aim, state)
@@ -113,9 +117,9 @@ pub fn assigned(
     adds: bool,
     value: &Option<Ty>,
     place: Place,
-    state: &mut State,
+    state: &mut TypingState,
 ) -> Result<(), ListFault>
-    ensures { Does (rule_of.assigned (seen x.now) aim.now adds value.now place state.old) result state.new }
+    ensures { GivesAndLeaves (rule_of.assigned (seen x.now) aim.now adds value.now place state.old) result state.new }
 {
     if let Some(ty) = value {
         if changes_property(aim) {

@@ -3,7 +3,7 @@
 ghost use Rattle.std.specs.Prelude.{◌≡◌, IfOk};
 ghost use Rattle.qvt_tree_types.specs.View.{optional_type};
 ghost use Rattle.qvt_types_context.specs.Seen.{seen};
-ghost use Rattle.qvt_types_states.specs.Does.{Does};
+ghost use Rattle.qvt_types_states.specs.Does.{GivesAndLeaves};
 ghost use Rattle.qvt_types_context.specs.Phrases as phrase;
 ghost use Rattle.qvt_types_context.specs.Rules as rule;
 
@@ -20,7 +20,7 @@ use qvt_types_data::refusal::RefusalKind;
 use qvt_types_data::ty::{Ty, copied};
 use qvt_types_data::variable::VariableSort;
 use qvt_types_states::scope::Known;
-use qvt_types_states::state::State;
+use qvt_types_states::state::TypingState;
 use qvt_types_states::steps::{add_source, checked, declare, writes_nothing};
 use qvt_types_steps::heads::{
     Heading, accumulator_wrong, folding_head, iterator_type, iterator_wrong, plain_head,
@@ -33,9 +33,9 @@ pub fn no_head(
     x: &Context<'_>,
     name: &Text,
     items: Option<Ty>,
-    state: &mut State,
+    state: &mut TypingState,
 ) -> Result<Heading, ListFault>
-    ensures { Does (rule.no_head name.now items state.old) result state.new }
+    ensures { GivesAndLeaves (rule.no_head name.now items state.old) result state.new }
 {
     if iterator_named(name.as_str()).is_some() {
         let name = unnamed(x.alloc, &state.scope)?;
@@ -60,9 +60,9 @@ fn declare_head(
     name: &Text,
     known: Known,
     place: Place,
-    state: &mut State,
+    state: &mut TypingState,
 ) -> Result<bool, ListFault>
-    ensures { Does (rule.declare_head name.now known place state.old) result state.new }
+    ensures { GivesAndLeaves (rule.declare_head name.now known place state.old) result state.new }
 {
     let is_new = state.scope.find(name.as_str()).is_none();
     declare(x.alloc, name.as_str(), known, place, state)?;
@@ -83,9 +83,9 @@ pub fn plain_heading(
     kind: &Option<TypeTree>,
     place: Place,
     items: &Option<Ty>,
-    state: &mut State,
+    state: &mut TypingState,
 ) -> Result<Heading, ListFault>
-    ensures { Does (rule.plain_heading (seen x.now) name.now (phrase.optional_type (seen x.now) (optional_type kind.now)) place items.now state.old) result state.new }
+    ensures { GivesAndLeaves (rule.plain_heading (seen x.now) name.now (phrase.optional_type (seen x.now) (optional_type kind.now)) place items.now state.old) result state.new }
 {
     let kind = type_if(x, kind, state)?;
     let wrong = iterator_wrong(x.heads.units.metas(), kind.is_given, &kind.ty, items);
@@ -142,9 +142,9 @@ pub fn folded(
     ty: &Option<Ty>,
     first: &Option<Ty>,
     items: &Option<Ty>,
-    state: &mut State,
+    state: &mut TypingState,
 ) -> Result<Heading, ListFault>
-    ensures { Does (rule.folded (seen x.now) names.now.iterator.now kind.now names.now.accumulator.now ty.now first.now names.now.accumulator_place names.now.place items.now state.old) result state.new }
+    ensures { GivesAndLeaves (rule.folded (seen x.now) names.now.iterator.now kind.now names.now.accumulator.now ty.now first.now names.now.accumulator_place names.now.place items.now state.old) result state.new }
 {
     let metas = x.heads.units.metas();
     checked(fold_wrong(x, kind, items, ty, first)?, names.place, state)?;

@@ -3,7 +3,7 @@
 ghost use Rattle.std.specs.Prelude.{◌≡◌, IfOk};
 ghost use Rattle.qvt_tree_types.specs.View.{optional_type, type_view};
 ghost use Rattle.qvt_types_context.specs.Seen.{seen};
-ghost use Rattle.qvt_types_states.specs.Does.{Does};
+ghost use Rattle.qvt_types_states.specs.Does.{GivesAndLeaves};
 ghost use Rattle.qvt_types_context.specs.Phrases as phrase;
 ghost use Rattle.qvt_types_context.specs.Rules as rule;
 
@@ -24,13 +24,17 @@ use qvt_types_data::refusal::RefusalKind;
 use qvt_types_data::ruling::Read;
 use qvt_types_data::ty::Ty;
 use qvt_types_paths::paths::{path_class, path_type};
-use qvt_types_states::state::State;
+use qvt_types_states::state::TypingState;
 use qvt_types_states::steps::{answers, fresh, marks, settled, tell};
 use qvt_types_steps::classes::ClassPart;
 
 #[tactic(auto, unfolding(qvt_typing::specs::Rules::self_ref))]
-pub fn self_ref(x: &Context<'_>, place: Place, state: &mut State) -> Result<Option<Ty>, ListFault>
-    ensures { Does (rule.self_ref (seen x.now) place state.old) result state.new }
+pub fn self_ref(
+    x: &Context<'_>,
+    place: Place,
+    state: &mut TypingState,
+) -> Result<Option<Ty>, ListFault>
+    ensures { GivesAndLeaves (rule.self_ref (seen x.now) place state.old) result state.new }
 {
     let number = fresh(state)?;
     let ruling = self_ruled(x.alloc, x.itself)?;
@@ -38,8 +42,12 @@ pub fn self_ref(x: &Context<'_>, place: Place, state: &mut State) -> Result<Opti
 }
 
 #[tactic(auto, unfolding(qvt_typing::specs::Rules::result_ref))]
-pub fn result_ref(x: &Context<'_>, place: Place, state: &mut State) -> Result<Option<Ty>, ListFault>
-    ensures { Does (rule.result_ref (seen x.now) place state.old) result state.new }
+pub fn result_ref(
+    x: &Context<'_>,
+    place: Place,
+    state: &mut TypingState,
+) -> Result<Option<Ty>, ListFault>
+    ensures { GivesAndLeaves (rule.result_ref (seen x.now) place state.old) result state.new }
 {
     let number = fresh(state)?;
     let ruling = result_ruled(x.alloc, x.result)?;
@@ -52,9 +60,9 @@ pub fn path(
     x: &Context<'_>,
     is_source: bool,
     path: &PathTree,
-    state: &mut State,
+    state: &mut TypingState,
 ) -> Result<Option<Ty>, ListFault>
-    ensures { Does (rule.path (seen x.now) is_source path.now state.old) result state.new }
+    ensures { GivesAndLeaves (rule.path (seen x.now) is_source path.now state.old) result state.new }
 {
     let number = fresh(state)?;
     let names = path.names.as_slice();
@@ -63,8 +71,12 @@ pub fn path(
 }
 
 #[tactic(auto, unfolding(qvt_typing::specs::Rules::named_type))]
-fn named_type(x: &Context<'_>, path: &PathTree, state: &mut State) -> Result<Option<Ty>, ListFault>
-    ensures { Does (rule.named_type (seen x.now) path.now state.old) result state.new }
+fn named_type(
+    x: &Context<'_>,
+    path: &PathTree,
+    state: &mut TypingState,
+) -> Result<Option<Ty>, ListFault>
+    ensures { GivesAndLeaves (rule.named_type (seen x.now) path.now state.old) result state.new }
 {
     let ty = path_type(x.heads.given, x.heads.types, path.names.as_slice());
     let ruling = type_ruled(x.alloc, ty)?;
@@ -88,9 +100,9 @@ fn collection_read(x: &Context<'_>, kind: CollKind, item: Option<Ty>) -> Result<
 pub fn written_type(
     x: &Context<'_>,
     written: &TypeTree,
-    state: &mut State,
+    state: &mut TypingState,
 ) -> Result<Option<Ty>, ListFault>
-    ensures { Does (phrase.type_term (seen x.now) (type_view written.now) state.old) result state.new }
+    ensures { GivesAndLeaves (phrase.type_term (seen x.now) (type_view written.now) state.old) result state.new }
 {
     match written {
         TypeTree::Path(path) => named_type(x, path, state),
@@ -105,9 +117,9 @@ pub fn written_type(
 pub fn type_if(
     x: &Context<'_>,
     written: &Option<TypeTree>,
-    state: &mut State,
+    state: &mut TypingState,
 ) -> Result<Given, ListFault>
-    ensures { Does (phrase.optional_type (seen x.now) (optional_type written.now) state.old) result state.new }
+    ensures { GivesAndLeaves (phrase.optional_type (seen x.now) (optional_type written.now) state.old) result state.new }
 {
     match written {
         None => Ok(Given {
@@ -125,9 +137,9 @@ pub fn type_if(
 pub fn named_class(
     x: &Context<'_>,
     path: &PathTree,
-    state: &mut State,
+    state: &mut TypingState,
 ) -> Result<ClassPart, ListFault>
-    ensures { Does (rule.named_class (seen x.now) path.now state.old) result state.new }
+    ensures { GivesAndLeaves (rule.named_class (seen x.now) path.now state.old) result state.new }
 {
     let class = path_class(x.heads.given, x.heads.types, path.names.as_slice());
     let read = settled(class_ruled(class), path.place, state)?;
@@ -140,9 +152,9 @@ pub fn named_class(
 pub fn class_given(
     x: &Context<'_>,
     path: &PathTree,
-    state: &mut State,
+    state: &mut TypingState,
 ) -> Result<ClassPart, ListFault>
-    ensures { Does (rule.class_given (seen x.now) path.now state.old) result state.new }
+    ensures { GivesAndLeaves (rule.class_given (seen x.now) path.now state.old) result state.new }
 {
     let number = fresh(state)?;
     let class = path_class(x.heads.given, x.heads.types, path.names.as_slice());
@@ -156,9 +168,9 @@ pub fn class_given(
 pub fn written_class(
     x: &Context<'_>,
     written: &TypeTree,
-    state: &mut State,
+    state: &mut TypingState,
 ) -> Result<ClassPart, ListFault>
-    ensures { Does (phrase.class_term (seen x.now) (type_view written.now) state.old) result state.new }
+    ensures { GivesAndLeaves (phrase.class_term (seen x.now) (type_view written.now) state.old) result state.new }
 {
     match written {
         TypeTree::Path(path) => named_class(x, path, state),

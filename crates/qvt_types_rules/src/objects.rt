@@ -2,7 +2,7 @@
 
 ghost use Rattle.std.specs.Prelude.{◌≡◌, IfOk, length};
 ghost use Rattle.qvt_types_context.specs.Seen.{seen};
-ghost use Rattle.qvt_types_states.specs.Does.{Does};
+ghost use Rattle.qvt_types_states.specs.Does.{GivesAndLeaves};
 ghost use Rattle.qvt_types_states.specs.Scopes.{found};
 ghost use Rattle.qvt_types_lists.specs.Numbers.{constructor_of};
 ghost use Rattle.qvt_types_context.specs.Phrases as phrase;
@@ -24,7 +24,7 @@ use qvt_types_data::ty::{Ty, same};
 use qvt_types_data::variable::VariableSort;
 use qvt_types_paths::extents::extent;
 use qvt_types_states::scope::Scope;
-use qvt_types_states::state::State;
+use qvt_types_states::state::TypingState;
 use qvt_types_states::steps::{answers, marks, settled, tell};
 use qvt_types_steps::classes::ClassPart;
 use qvt_types_steps::units::arguments_wrong;
@@ -56,9 +56,9 @@ fn settable_ruled(x: &Context<'_>, scope: &Scope, name: &str) -> Result<Ruling, 
 pub fn object_variable(
     x: &Context<'_>,
     variable: &Option<ObjectVar>,
-    state: &mut State,
+    state: &mut TypingState,
 ) -> Result<ObjectVariable, ListFault>
-    ensures { Does (phrase.object_variable (seen x.now) variable.now state.old) result state.new }
+    ensures { GivesAndLeaves (phrase.object_variable (seen x.now) variable.now state.old) result state.new }
 {
     match variable {
         None => Ok(ObjectVariable::NoVariable),
@@ -79,9 +79,9 @@ pub fn tell_abstract(
     x: &Context<'_>,
     class: ClassPart,
     place: Place,
-    state: &mut State,
+    state: &mut TypingState,
 ) -> Result<(), ListFault>
-    ensures { Does (rule.abstract_told (seen x.now) class place state.old) result state.new }
+    ensures { GivesAndLeaves (rule.abstract_told (seen x.now) class place state.old) result state.new }
 {
     match class {
         ClassPart::Class(class) if x.heads.units.metas().is_abstract(class) => {
@@ -106,9 +106,9 @@ pub fn tell_extent(
     name: &Option<Text>,
     class: ClassPart,
     place: Place,
-    state: &mut State,
+    state: &mut TypingState,
 ) -> Result<(), ListFault>
-    ensures { Does (rule.class_extent_told (seen x.now) name.now class place state.old) result state.new }
+    ensures { GivesAndLeaves (rule.class_extent_told (seen x.now) name.now class place state.old) result state.new }
 {
     let ClassPart::Class(class) = class else {
         return Ok(());
@@ -220,9 +220,9 @@ pub fn constructed(
     name: &Option<Text>,
     types: &Option<Seq<Ty>>,
     place: Place,
-    state: &mut State,
+    state: &mut TypingState,
 ) -> Result<Option<Ty>, ListFault>
-    ensures { Does (rule.constructed (seen x.now) number class.0 class.1 name.now types.now place state.old) result state.new }
+    ensures { GivesAndLeaves (rule.constructed (seen x.now) number class.0 class.1 name.now types.now place state.old) result state.new }
 {
     let beside = if types.is_some() {
         class.0

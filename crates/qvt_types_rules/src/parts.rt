@@ -4,7 +4,7 @@ ghost use Rattle.std.specs.Prelude.{◌≡◌, ◌+◌, ◌<◌, length, map, dr
 ghost use Rattle.std.specs.Option.{option_copied};
 ghost use Rattle.qvt_tree_types.specs.View.{expr_view, step_view, steps_of};
 ghost use Rattle.qvt_types_context.specs.Seen.{seen};
-ghost use Rattle.qvt_types_states.specs.Does.{Does};
+ghost use Rattle.qvt_types_states.specs.Does.{GivesAndLeaves};
 ghost use Rattle.qvt_types_context.specs.Phrases as phrase;
 ghost use Rattle.qvt_types_context.specs.Rules as rule;
 
@@ -21,7 +21,7 @@ use qvt_types_context::parts::Effect;
 use qvt_types_data::ruling::Ruling;
 use qvt_types_data::ty::Ty;
 use qvt_types_states::scope::Scope;
-use qvt_types_states::state::State;
+use qvt_types_states::state::TypingState;
 use qvt_types_states::steps::{settled, writes_nothing};
 use qvt_types_steps::calls::has_operation;
 use qvt_types_steps::classes::{ClassPart, model_call_named, selection};
@@ -143,8 +143,8 @@ pub fn iterator_effect(iterator: Option<IteratorKind>) -> Effect
 
 /// Writes the notes of signs before an operand.
 #[tactic(auto, using(crate::proofs::Signs::next_note))]
-pub fn sign_notes(signs: &[Sign], state: &mut State) -> Result<(), ListFault>
-    ensures { Does (rule.sign_notes signs.now state.old) result state.new }
+pub fn sign_notes(signs: &[Sign], state: &mut TypingState) -> Result<(), ListFault>
+    ensures { GivesAndLeaves (rule.sign_notes signs.now state.old) result state.new }
 {
     for sign in signs {
         writes_nothing(state)?;
@@ -156,9 +156,9 @@ fn sign(
     x: &Context<'_>,
     sign: &Sign,
     operand: &Option<Ty>,
-    state: &mut State,
+    state: &mut TypingState,
 ) -> Result<Option<Ty>, ListFault>
-    ensures { Does (rule.sign (seen x.now) sign.now operand.now state.old) result state.new }
+    ensures { GivesAndLeaves (rule.sign (seen x.now) sign.now operand.now state.old) result state.new }
 {
     let ruling = prefixed(x.alloc, x.heads.units.metas(), sign.op, operand)?;
     let read = settled(ruling, sign.place, state)?;
@@ -170,9 +170,9 @@ pub fn signed(
     x: &Context<'_>,
     signs: &[Sign],
     operand: Option<Ty>,
-    state: &mut State,
+    state: &mut TypingState,
 ) -> Result<Option<Ty>, ListFault>
-    ensures { Does (rule.signed (seen x.now) signs.now operand state.old) result state.new }
+    ensures { GivesAndLeaves (rule.signed (seen x.now) signs.now operand state.old) result state.new }
 {
     let mut ty = operand;
     let mut i = signs.len();

@@ -2,7 +2,7 @@
 
 ghost use Rattle.std.specs.Prelude.{◌≡◌, IfOk};
 ghost use Rattle.qvt_types_context.specs.Seen.{seen};
-ghost use Rattle.qvt_types_states.specs.Does.{Does};
+ghost use Rattle.qvt_types_states.specs.Does.{GivesAndLeaves};
 ghost use Rattle.qvt_types_context.specs.Phrases as phrase;
 ghost use Rattle.qvt_types_context.specs.Rules as rule;
 
@@ -24,7 +24,7 @@ use qvt_types_data::variable::VariableSort;
 use qvt_types_lists::listed::listed;
 use qvt_types_lists::signature::HeadClass;
 use qvt_types_states::scope::Known;
-use qvt_types_states::state::State;
+use qvt_types_states::state::TypingState;
 use qvt_types_states::steps::{add_source, declare, marks, settled, tell, writes_nothing};
 use qvt_types_steps::classes::ClassPart;
 use qvt_types_steps::resolves as ruling_of;
@@ -54,8 +54,12 @@ fn within_of(unit: Result<u32, RefusalKind>) -> Within
 
 /// A path that names a mapping.
 #[tactic(auto, unfolding(qvt_typing::specs::Rules::listed_path))]
-pub fn listed_path(x: &Context<'_>, path: &PathTree, state: &mut State) -> Result<Within, ListFault>
-    ensures { Does (rule.listed_path (seen x.now) path.now state.old) result state.new }
+pub fn listed_path(
+    x: &Context<'_>,
+    path: &PathTree,
+    state: &mut TypingState,
+) -> Result<Within, ListFault>
+    ensures { GivesAndLeaves (rule.listed_path (seen x.now) path.now state.old) result state.new }
 {
     let names = path.names.as_slice();
     let unit = listed(x.heads.given, x.heads.types, x.heads.units.names(), names);
@@ -69,9 +73,9 @@ pub fn listed_path(x: &Context<'_>, path: &PathTree, state: &mut State) -> Resul
 pub fn within(
     x: &Context<'_>,
     path: &Option<PathTree>,
-    state: &mut State,
+    state: &mut TypingState,
 ) -> Result<Within, ListFault>
-    ensures { Does (phrase.within (seen x.now) path.now state.old) result state.new }
+    ensures { GivesAndLeaves (phrase.within (seen x.now) path.now state.old) result state.new }
 {
     match path {
         None => Ok(Within::Everywhere),
@@ -85,9 +89,9 @@ pub fn declare_filter(
     name: &Option<Text>,
     class: ClassPart,
     place: Place,
-    state: &mut State,
+    state: &mut TypingState,
 ) -> Result<(), ListFault>
-    ensures { Does (rule.declare_filter name.now class place state.old) result state.new }
+    ensures { GivesAndLeaves (rule.declare_filter name.now class place state.old) result state.new }
 {
     match name {
         None => {
@@ -111,9 +115,9 @@ pub fn filter_settled(
     class: ClassPart,
     condition: &Given,
     place: Place,
-    state: &mut State,
+    state: &mut TypingState,
 ) -> Result<Filtered, ListFault>
-    ensures { Does (rule.filter_settled (seen x.now) class condition.now place state.old) result state.new }
+    ensures { GivesAndLeaves (rule.filter_settled (seen x.now) class condition.now place state.old) result state.new }
 {
     let kind = class_type(class);
     let ruling = ruling_of::filter(
@@ -165,9 +169,9 @@ fn tell_late(
     late: bool,
     read: &Read,
     place: Place,
-    state: &mut State,
+    state: &mut TypingState,
 ) -> Result<(), ListFault>
-    ensures { Does (rule.late_told allowed late read.now place state.old) result state.new }
+    ensures { GivesAndLeaves (rule.late_told allowed late read.now place state.old) result state.new }
 {
     if read.answer.is_some() && late && !allowed {
         tell(RefusalKind::LatePlace, place, state)
@@ -193,9 +197,9 @@ pub fn resolve_settled(
     within: Within,
     filter: Filtered,
     place: Place,
-    state: &mut State,
+    state: &mut TypingState,
 ) -> Result<Read, ListFault>
-    ensures { Does (rule.resolve_ruled (seen x.now) call.now.allowed call.now.late call.now.joint call.now.word call.now.source.now (rule.looked_for (seen x.now) call.now.word within filter) place state.old) result state.new }
+    ensures { GivesAndLeaves (rule.resolve_ruled (seen x.now) call.now.allowed call.now.late call.now.joint call.now.word call.now.source.now (rule.looked_for (seen x.now) call.now.word within filter) place state.old) result state.new }
 {
     let class = looked_for(x, call.word, within, filter);
     let ruling = ruling_of::resolve(x.alloc, call.joint, call.word, call.source, class)?;

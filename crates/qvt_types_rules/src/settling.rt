@@ -2,7 +2,7 @@
 
 ghost use Rattle.std.specs.Prelude.{◌≡◌};
 ghost use Rattle.qvt_types_context.specs.Seen.{seen};
-ghost use Rattle.qvt_types_states.specs.Does.{Does};
+ghost use Rattle.qvt_types_states.specs.Does.{GivesAndLeaves};
 ghost use Rattle.qvt_types_context.specs.Calls as calls;
 ghost use Rattle.qvt_types_context.specs.Rules as rule;
 
@@ -14,7 +14,7 @@ use qvt_types_data::note::Reading;
 use qvt_types_data::refusal::RefusalKind;
 use qvt_types_data::ruling::{Read, Ruling};
 use qvt_types_data::ty::Ty;
-use qvt_types_states::state::State;
+use qvt_types_states::state::TypingState;
 use qvt_types_states::steps::{answers, checked, fresh, marks, settled, writes_nothing};
 
 /// What is told of a node that does this where nothing may be made or changed.
@@ -49,9 +49,9 @@ pub fn tell_effect(
     effect: Effect,
     read: &Read,
     place: Place,
-    state: &mut State,
+    state: &mut TypingState,
 ) -> Result<(), ListFault>
-    ensures { Does (rule.effect_told (seen x.now) effect read.now place state.old) result state.new }
+    ensures { GivesAndLeaves (rule.effect_told (seen x.now) effect read.now place state.old) result state.new }
 {
     if read.answer.is_none() {
         return Ok(());
@@ -67,9 +67,9 @@ pub fn ruled(
     ruling: Ruling,
     effect: Effect,
     place: Place,
-    state: &mut State,
+    state: &mut TypingState,
 ) -> Result<Option<Ty>, ListFault>
-    ensures { Does (rule.ruled (seen x.now) number ruling effect place state.old) result state.new }
+    ensures { GivesAndLeaves (rule.ruled (seen x.now) number ruling effect place state.old) result state.new }
 {
     let read = settled(ruling, place, state)?;
     tell_effect(x, effect, &read, place, state)?;
@@ -82,9 +82,9 @@ pub fn stepped(
     ruling: Ruling,
     effect: Effect,
     place: Place,
-    state: &mut State,
+    state: &mut TypingState,
 ) -> Result<Option<Ty>, ListFault>
-    ensures { Does (rule.stepped (seen x.now) ruling effect place state.old) result state.new }
+    ensures { GivesAndLeaves (rule.stepped (seen x.now) ruling effect place state.old) result state.new }
 {
     let read = settled(ruling, place, state)?;
     tell_effect(x, effect, &read, place, state)?;
@@ -96,17 +96,17 @@ pub fn stands_as(
     x: &Context<'_>,
     number: ExprNo,
     ty: Option<Ty>,
-    state: &mut State,
+    state: &mut TypingState,
 ) -> Result<Option<Ty>, ListFault>
-    ensures { Does (rule.stands_as number ty state.old) result state.new }
+    ensures { GivesAndLeaves (rule.stands_as number ty state.old) result state.new }
 {
     answers(x.alloc, number, Read::plain(Reading::Nothing, ty), state)
 }
 
 /// A literal of this type.
 #[tactic(auto, unfolding(qvt_typing::specs::Rules::constant))]
-pub fn constant(x: &Context<'_>, ty: Ty, state: &mut State) -> Result<Option<Ty>, ListFault>
-    ensures { Does (rule.constant ty state.old) result state.new }
+pub fn constant(x: &Context<'_>, ty: Ty, state: &mut TypingState) -> Result<Option<Ty>, ListFault>
+    ensures { GivesAndLeaves (rule.constant ty state.old) result state.new }
 {
     let number = fresh(state)?;
     stands_as(x, number, Some(ty), state)
@@ -116,9 +116,9 @@ pub fn constant(x: &Context<'_>, ty: Ty, state: &mut State) -> Result<Option<Ty>
 pub fn settled_bare(
     ruling: Ruling,
     place: Place,
-    state: &mut State,
+    state: &mut TypingState,
 ) -> Result<Option<Ty>, ListFault>
-    ensures { Does (rule.settled_bare ruling place state.old) result state.new }
+    ensures { GivesAndLeaves (rule.settled_bare ruling place state.old) result state.new }
 {
     let read = settled(ruling, place, state)?;
     writes_nothing(state)?;

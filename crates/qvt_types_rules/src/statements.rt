@@ -2,7 +2,7 @@
 
 ghost use Rattle.std.specs.Prelude.{◌≡◌, IfOk};
 ghost use Rattle.qvt_types_context.specs.Seen.{seen};
-ghost use Rattle.qvt_types_states.specs.Does.{Does};
+ghost use Rattle.qvt_types_states.specs.Does.{GivesAndLeaves};
 ghost use Rattle.qvt_types_states.specs.Judge as checking;
 ghost use Rattle.std.specs.List.{list_all};
 ghost use Rattle.qvt_types_data.specs.declared.ty.Ty.TheVariants as booleans;
@@ -22,9 +22,9 @@ use qvt_types_data::ruling::Read;
 use qvt_types_data::ty::Ty;
 use qvt_types_data::variable::VariableSort;
 use qvt_types_states::scope::Known;
-use qvt_types_states::state::State;
+use qvt_types_states::state::TypingState;
 use qvt_types_states::steps::{checked, declare, marks, writes_nothing};
-use qvt_types_steps::calls::is_single;
+use qvt_types_steps::calls::is_single_type;
 use qvt_types_steps::heads::{item_type, iterator_type, iterator_wrong};
 use qvt_types_words::rulings::{var_type, var_wrong};
 use qvt_types_words::types::conforms;
@@ -37,9 +37,9 @@ pub fn declared(
     kind: &Given,
     value: &Given,
     place: Place,
-    state: &mut State,
+    state: &mut TypingState,
 ) -> Result<(), ListFault>
-    ensures { Does (rule_of.declared (seen x.now) name.now kind.now value.now place state.old) result state.new }
+    ensures { GivesAndLeaves (rule_of.declared (seen x.now) name.now kind.now value.now place state.old) result state.new }
 {
     let wrong = var_wrong(
         x.heads.units.metas(),
@@ -108,9 +108,9 @@ pub fn returned(
     x: &Context<'_>,
     value: &Given,
     place: Place,
-    state: &mut State,
+    state: &mut TypingState,
 ) -> Result<(), ListFault>
-    ensures { Does (rule_of.returned (seen x.now) value.now place state.old) result state.new }
+    ensures { GivesAndLeaves (rule_of.returned (seen x.now) value.now place state.old) result state.new }
 {
     checked(return_told(x, value), place, state)?;
     writes_nothing(state)
@@ -121,9 +121,9 @@ pub fn tell_condition(
     x: &Context<'_>,
     condition: &Option<Ty>,
     place: Place,
-    state: &mut State,
+    state: &mut TypingState,
 ) -> Result<(), ListFault>
-    ensures { Does (rule_of.condition_checked (seen x.now) condition.now place state.old) result state.new }
+    ensures { GivesAndLeaves (rule_of.condition_checked (seen x.now) condition.now place state.old) result state.new }
 {
     checked(
         conforms_told(x, &Some(Ty::Boolean), condition),
@@ -178,9 +178,9 @@ pub fn tell_conditions(
     x: &Context<'_>,
     types: &Option<Seq<Ty>>,
     place: Place,
-    state: &mut State,
+    state: &mut TypingState,
 ) -> Result<(), ListFault>
-    ensures { Does (checking.checked (ruling.wrong_unless (rule_of.are_conditions (seen x.now) types.now)) place state.old) result state.new }
+    ensures { GivesAndLeaves (checking.checked (ruling.wrong_unless (rule_of.are_conditions (seen x.now) types.now)) place state.old) result state.new }
 {
     checked(wrong_unless(are_conditions(x, types)), place, state)
 }
@@ -214,9 +214,9 @@ pub fn declare_iterator(
     name: &Text,
     kind: &Given,
     place: Place,
-    state: &mut State,
+    state: &mut TypingState,
 ) -> Result<(), ListFault>
-    ensures { Does (rule_of.for_each_declared (seen x.now) source.now name.now kind.now place state.old) result state.new }
+    ensures { GivesAndLeaves (rule_of.for_each_declared (seen x.now) source.now name.now kind.now place state.old) result state.new }
 {
     let items = item_type(x.alloc, source)?;
     let known = Known {
@@ -235,7 +235,7 @@ fn wraps(source: &Option<Ty>) -> Read
         Some(ty) => Read {
             reading: Reading::Nothing,
             source: None,
-            wrap: is_single(ty),
+            wrap: is_single_type(ty),
             collect: false,
             answer: None,
         },
@@ -249,9 +249,9 @@ pub fn for_each_settled(
     kind: &Given,
     condition: &Given,
     place: Place,
-    state: &mut State,
+    state: &mut TypingState,
 ) -> Result<(), ListFault>
-    ensures { Does (rule_of.for_each_settled (seen x.now) source.now kind.now condition.now place state.old) result state.new }
+    ensures { GivesAndLeaves (rule_of.for_each_settled (seen x.now) source.now kind.now condition.now place state.old) result state.new }
 {
     let items = item_type(x.alloc, source)?;
     checked(for_each_told(x, &items, kind, condition), place, state)?;

@@ -12,10 +12,10 @@ use Rattle.qvt_types_data.specs.declared.ruling.Ruling.{Ruling}
 use Rattle.qvt_types_data.specs.declared.variable.Variable.{Variable}
 use Rattle.qvt_types_states.specs.Scopes.{ScopeTerm, is_known, with_named, with_source, back_to}
 use Rattle.qvt_types_states.specs.declared.scope.Known.{Known}
-use Rattle.qvt_types_states.specs.declared.state.State.{State}
+use Rattle.qvt_types_states.specs.declared.state.TypingState.{TypingState}
 
 abbrev pub Judges : Type 0 → Type 0
-Judges A = State → A × State
+Judges A = TypingState → A × TypingState
 
 infixl 10 ◌>>=◌
 abbrev pub ◌>>=◌ : {A B : Type 0} → Judges A → (A → Judges B) → Judges B

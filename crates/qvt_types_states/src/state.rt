@@ -5,21 +5,21 @@ ghost use Rattle.std.specs.Prelude.{◌≡◌, []};
 use crate::scope::Scope;
 use qvt_base::seq::Seq;
 use qvt_types_data::note::Note;
-use qvt_types_data::refusal::Refusal;
+use qvt_types_data::refusal::TypingRefusal;
 use std::alloc::Global;
 
 /// What is in scope, the number of the next expression, and the refusals and notes so far.
-pub struct State {
+pub struct TypingState {
     pub scope: Scope,
     pub next: u32,
-    pub log: Seq<Refusal>,
+    pub log: Seq<TypingRefusal>,
     /// One for each node that is judged, those of its parts before its own.
     pub notes: Seq<Note>,
 }
 
-impl Drop for State {
+impl Drop for TypingState {
     fn drop(self) {
-        let State {
+        let TypingState {
             scope,
             next,
             log,
@@ -28,12 +28,12 @@ impl Drop for State {
     }
 }
 
-impl State {
+impl TypingState {
     /// Nothing is judged yet. It takes no memory.
-    pub fn new(alloc: Global) -> State
+    pub fn new(alloc: Global) -> TypingState
         ensures { result ≡ record { scope = record { named = []; sources = [] }; next = 0; log = []; notes = [] } }
     {
-        State {
+        TypingState {
             scope: Scope::new(alloc),
             next: 0,
             log: Seq::new(alloc),

@@ -3,22 +3,22 @@
 ghost use Rattle.std.specs.Prelude.{◌≡◌, length};
 ghost use Rattle.qvt_types_states.specs.Judge as judge;
 ghost use Rattle.qvt_types_states.specs.Scopes.{ScopeTerm};
-ghost use Rattle.qvt_types_states.specs.Does.{Does};
+ghost use Rattle.qvt_types_states.specs.Does.{GivesAndLeaves};
 
 use crate::scope::Known;
-use crate::state::State;
+use crate::state::TypingState;
 use qvt_base::list_fault::ListFault;
 use qvt_base::numbers::{ExprNo, Place};
 use qvt_types_data::note::Note;
-use qvt_types_data::refusal::{Refusal, RefusalKind};
+use qvt_types_data::refusal::{RefusalKind, TypingRefusal};
 use qvt_types_data::ruling::{Read, Ruling};
 use qvt_types_data::ty::{Ty, copied};
 use qvt_types_data::variable::Variable;
 use std::alloc::Global;
 
 /// The number of the next expression. More than 32 bits can count find no memory.
-pub fn fresh(state: &mut State) -> Result<ExprNo, ListFault>
-    ensures { Does (judge.fresh state.old) result state.new }
+pub fn fresh(state: &mut TypingState) -> Result<ExprNo, ListFault>
+    ensures { GivesAndLeaves (judge.fresh state.old) result state.new }
 {
     let number = state.next;
     let Some(next) = number.checked_add(1) else {
@@ -29,15 +29,19 @@ pub fn fresh(state: &mut State) -> Result<ExprNo, ListFault>
 }
 
 /// Tells a refusal.
-pub fn tell(kind: RefusalKind, place: Place, state: &mut State) -> Result<(), ListFault>
-    ensures { Does (judge.tell kind place state.old) result state.new }
+pub fn tell(kind: RefusalKind, place: Place, state: &mut TypingState) -> Result<(), ListFault>
+    ensures { GivesAndLeaves (judge.tell kind place state.old) result state.new }
 {
-    state.log.push(Refusal { kind, place })
+    state.log.push(TypingRefusal { kind, place })
 }
 
 /// Tells a refusal that leaves types standing, if there is one.
-pub fn checked(kind: Option<RefusalKind>, place: Place, state: &mut State) -> Result<(), ListFault>
-    ensures { Does (judge.checked kind place state.old) result state.new }
+pub fn checked(
+    kind: Option<RefusalKind>,
+    place: Place,
+    state: &mut TypingState,
+) -> Result<(), ListFault>
+    ensures { GivesAndLeaves (judge.checked kind place state.old) result state.new }
 {
     match kind {
         None => Ok(()),
@@ -51,9 +55,9 @@ pub fn declare(
     name: &str,
     known: Known,
     place: Place,
-    state: &mut State,
+    state: &mut TypingState,
 ) -> Result<(), ListFault>
-    ensures { Does (judge.declare name.now known place state.old) result state.new }
+    ensures { GivesAndLeaves (judge.declare name.now known place state.old) result state.new }
 {
     if state.scope.find(name).is_some() {
         return tell(RefusalKind::SameName, place, state);
@@ -62,15 +66,15 @@ pub fn declare(
 }
 
 /// Adds an implicit source.
-pub fn add_source(source: Variable, state: &mut State) -> Result<(), ListFault>
-    ensures { Does (judge.add_source source state.old) result state.new }
+pub fn add_source(source: Variable, state: &mut TypingState) -> Result<(), ListFault>
+    ensures { GivesAndLeaves (judge.add_source source state.old) result state.new }
 {
     state.scope.add_source(source)
 }
 
 /// How a node is read after its ruling.
-pub fn settled(ruling: Ruling, place: Place, state: &mut State) -> Result<Read, ListFault>
-    ensures { Does (judge.settled ruling place state.old) result state.new }
+pub fn settled(ruling: Ruling, place: Place, state: &mut TypingState) -> Result<Read, ListFault>
+    ensures { GivesAndLeaves (judge.settled ruling place state.old) result state.new }
 {
     let (refusal, read) = ruling.told();
     checked(refusal, place, state)?;
@@ -82,9 +86,9 @@ pub fn answers(
     alloc: Global,
     number: ExprNo,
     read: Read,
-    state: &mut State,
+    state: &mut TypingState,
 ) -> Result<Option<Ty>, ListFault>
-    ensures { Does (judge.answers number read state.old) result state.new }
+    ensures { GivesAndLeaves (judge.answers number read state.old) result state.new }
 {
     let answer = copied(alloc, &read.answer)?;
     state.notes.push(read.noted(number))?;
@@ -92,8 +96,8 @@ pub fn answers(
 }
 
 /// Writes the note of a node that is no expression, and gives the type that it stands for.
-pub fn marks(read: Read, state: &mut State) -> Result<Option<Ty>, ListFault>
-    ensures { Does (judge.marks read state.old) result state.new }
+pub fn marks(read: Read, state: &mut TypingState) -> Result<Option<Ty>, ListFault>
+    ensures { GivesAndLeaves (judge.marks read state.old) result state.new }
 {
     let (note, answer) = read.marked();
     state.notes.push(note)?;
@@ -101,8 +105,8 @@ pub fn marks(read: Read, state: &mut State) -> Result<Option<Ty>, ListFault>
 }
 
 /// Writes a note on which nothing is written.
-pub fn writes_nothing(state: &mut State) -> Result<(), ListFault>
-    ensures { Does (judge.writes_nothing state.old) result state.new }
+pub fn writes_nothing(state: &mut TypingState) -> Result<(), ListFault>
+    ensures { GivesAndLeaves (judge.writes_nothing state.old) result state.new }
 {
     state.notes.push(Note::bare())
 }

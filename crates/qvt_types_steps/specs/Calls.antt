@@ -46,8 +46,8 @@ source_in t (Some c) = c
 abbrev pub source_of : Ty → Collection
 source_of t = source_in t (collection_of t)
 
-abbrev pub is_single : Ty → Bool
-is_single t = not (is_some (collection_of t))
+abbrev pub is_single_type : Ty → Bool
+is_single_type t = not (is_some (collection_of t))
 
 -- Calls of operations.
 

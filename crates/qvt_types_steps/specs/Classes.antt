@@ -14,7 +14,7 @@ use Rattle.qvt_types_data.specs.declared.refusal.RefusalKind.TheVariants as refu
 use Rattle.qvt_types_data.specs.declared.ruling.Ruling.{Ruling}
 use Rattle.qvt_types_data.specs.declared.ruling.Ruling.TheVariants.{Holds, Fails, Silent}
 use Rattle.qvt_types_words.specs.Types.{innermost, Collection}
-use Rattle.qvt_types_steps.specs.Calls.{collected, source_of, is_single}
+use Rattle.qvt_types_steps.specs.Calls.{collected, source_of, is_single_type}
 use Rattle.qvt_types_steps.specs.Iterators.{is_object}
 use Rattle.qvt_types_steps.specs.declared.classes.ClassPart.{ClassPart}
 use Rattle.qvt_types_steps.specs.declared.classes.ClassPart.TheVariants as part
@@ -82,7 +82,7 @@ abbrev pub selection_over : List ℕ → Bool → Collection → List ClassPart 
 selection_over name has_head s ps = if has_head then Fails refusal.WrongCount else selected name s ps
 
 abbrev pub selection_on : List ℕ → Bool → Ty → List ClassPart → Ruling
-selection_on name has_head t ps = if list_any is_untyped ps then Silent else ruled_wrapped (is_single t) (selection_over name has_head (source_of t) ps)
+selection_on name has_head t ps = if list_any is_untyped ps then Silent else ruled_wrapped (is_single_type t) (selection_over name has_head (source_of t) ps)
 
 abbrev pub selection : List ℕ → Bool → Option Ty → List ClassPart → Ruling
 selection name has_head None ps = Silent

@@ -4,15 +4,15 @@ use Rattle.std.specs.Prelude.{ℕ, Bool, true, false, if◌then◌else◌, List,
 use Rattle.std.specs.Str.{bytes_eq}
 use Rattle.qvt_types_steps.specs.declared.iterators.IteratorKind.{IteratorKind}
 use Rattle.qvt_types_steps.specs.declared.iterators.IteratorKind.TheVariants.{Select, Reject, Collect, CollectNested, Exists, ForAll, Any, One, IsUnique, SortedBy, Iterate, Closure}
-use Rattle.qvt_types_steps.specs.declared.iterators.Items.{Items}
-use Rattle.qvt_types_steps.specs.declared.iterators.Items.TheVariants.{Every, Objects}
-use Rattle.qvt_types_steps.specs.declared.iterators.Body.{Body}
-use Rattle.qvt_types_steps.specs.declared.iterators.Body.TheVariants as body
-use Rattle.qvt_types_steps.specs.declared.iterators.Gives.{Gives}
-use Rattle.qvt_types_steps.specs.declared.iterators.Gives.TheVariants as gives
+use Rattle.qvt_types_steps.specs.declared.iterators.ItemDemand.{ItemDemand}
+use Rattle.qvt_types_steps.specs.declared.iterators.ItemDemand.TheVariants.{Every, Objects}
+use Rattle.qvt_types_steps.specs.declared.iterators.BodyDemand.{BodyDemand}
+use Rattle.qvt_types_steps.specs.declared.iterators.BodyDemand.TheVariants as body
+use Rattle.qvt_types_steps.specs.declared.iterators.IteratorAnswer.{IteratorAnswer}
+use Rattle.qvt_types_steps.specs.declared.iterators.IteratorAnswer.TheVariants as gives
 use Rattle.qvt_types_steps.specs.declared.iterators.IteratorRow.{IteratorRow}
 
-abbrev pub row : Items → Bool → Body → Gives → Bool → IteratorRow
+abbrev pub row : ItemDemand → Bool → BodyDemand → IteratorAnswer → Bool → IteratorRow
 row items folds b g pure = record { items = items; folds = folds; body = b; gives = g; is_pure = pure }
 
 abbrev pub row_of : IteratorKind → IteratorRow

@@ -14,16 +14,16 @@ use Rattle.qvt_types_data.specs.declared.ruling.Ruling.{Ruling}
 use Rattle.qvt_types_data.specs.declared.ruling.Ruling.TheVariants.{Holds, Fails, Silent}
 use Rattle.qvt_types_words.specs.Rulings.{wrong_unless, items_conform}
 use Rattle.qvt_types_words.specs.Types.{conforms, innermost, is_ordered, collected_kind, Collection, collection_of}
-use Rattle.qvt_types_steps.specs.Calls.{source_of, is_single, call, named_arity}
+use Rattle.qvt_types_steps.specs.Calls.{source_of, is_single_type, call, named_arity}
 use Rattle.qvt_types_steps.specs.IteratorTable.{row_of, iterator_named}
 use Rattle.qvt_types_steps.specs.declared.iterators.IteratorKind.{IteratorKind}
 use Rattle.qvt_types_steps.specs.declared.iterators.IteratorRow.{IteratorRow}
-use Rattle.qvt_types_steps.specs.declared.iterators.Items.{Items}
-use Rattle.qvt_types_steps.specs.declared.iterators.Items.TheVariants.{Every, Objects}
-use Rattle.qvt_types_steps.specs.declared.iterators.Body.{Body}
-use Rattle.qvt_types_steps.specs.declared.iterators.Body.TheVariants as body
-use Rattle.qvt_types_steps.specs.declared.iterators.Gives.{Gives}
-use Rattle.qvt_types_steps.specs.declared.iterators.Gives.TheVariants as gives
+use Rattle.qvt_types_steps.specs.declared.iterators.ItemDemand.{ItemDemand}
+use Rattle.qvt_types_steps.specs.declared.iterators.ItemDemand.TheVariants.{Every, Objects}
+use Rattle.qvt_types_steps.specs.declared.iterators.BodyDemand.{BodyDemand}
+use Rattle.qvt_types_steps.specs.declared.iterators.BodyDemand.TheVariants as body
+use Rattle.qvt_types_steps.specs.declared.iterators.IteratorAnswer.{IteratorAnswer}
+use Rattle.qvt_types_steps.specs.declared.iterators.IteratorAnswer.TheVariants as gives
 use Rattle.qvt_types_steps.specs.declared.heads.Heading.{Heading}
 use Rattle.qvt_types_steps.specs.declared.heads.Heading.TheVariants.{Missing, Plain, Folding, Untyped}
 
@@ -80,12 +80,12 @@ is_object (ty.Class c) = true
 is_object ty.Void = true
 is_object t = false
 
-abbrev pub are_items : Items → Ty → Bool
+abbrev pub are_items : ItemDemand → Ty → Bool
 are_items Every i = true
 are_items Objects i = is_object i
 
 -- of the item type i, the type a of the accumulator and the type b of the body
-abbrev pub body_fits : Metamodels → Body → Ty → Ty → Ty → Bool
+abbrev pub body_fits : Metamodels → BodyDemand → Ty → Ty → Ty → Bool
 body_fits m body.Every i a b = true
 body_fits m body.Boolean i a b = conforms m b ty.Boolean
 body_fits m body.Key i a b = conforms m b ty.Integer || conforms m b ty.Str
@@ -101,7 +101,7 @@ sorted_kind coll.Sequence = coll.Sequence
 abbrev pub reached_kind : CollKind → CollKind
 reached_kind k = if is_ordered k then coll.OrderedSet else coll.Set
 
-abbrev pub given : Gives → CollKind → Ty → Ty → Ty → Ty
+abbrev pub given : IteratorAnswer → CollKind → Ty → Ty → Ty → Ty
 given gives.Boolean k i a b = ty.Boolean
 given gives.Item k i a b = i
 given gives.Items k i a b = ty.Coll k i
@@ -155,7 +155,7 @@ is_untyped Untyped = true
 is_untyped h = false
 
 abbrev pub arrow_over : Metamodels → List ℕ → Heading → Ty → List Ty → Ruling
-arrow_over m name h t us = if is_untyped h then Silent else ruled_wrapped (is_single t) (arrowed m name (iterator_named name) h (source_of t) us)
+arrow_over m name h t us = if is_untyped h then Silent else ruled_wrapped (is_single_type t) (arrowed m name (iterator_named name) h (source_of t) us)
 
 -- an arrow with a name and arguments, of which an iterator has one, its body
 abbrev pub arrow : Metamodels → List ℕ → Heading → Option Ty → Option (List Ty) → Ruling

@@ -13,7 +13,7 @@ use Rattle.qvt_types_data.specs.declared.ruling.Ruling.TheVariants.{Holds, Fails
 use Rattle.qvt_types_data.specs.Notes.{ruled_wrapped}
 use Rattle.qvt_types_words.specs.Rulings.{typed, typed_if}
 use Rattle.qvt_types_words.specs.Types.{conforms}
-use Rattle.qvt_types_steps.specs.Calls.{source_of, is_single}
+use Rattle.qvt_types_steps.specs.Calls.{source_of, is_single_type}
 use Rattle.qvt_types_steps.specs.Classes.{is_untyped}
 use Rattle.qvt_types_steps.specs.Iterators.{is_object}
 use Rattle.qvt_types_steps.specs.declared.classes.ClassPart.{ClassPart}
@@ -52,7 +52,7 @@ resolve Sourceless w source p = looked_for w p
 resolve Dot w None p = Silent
 resolve Dot w (Some t) p = resolve_over w t p
 resolve Arrow w None p = Silent
-resolve Arrow w (Some t) p = ruled_wrapped (is_single t) (resolve_over w t p)
+resolve Arrow w (Some t) p = ruled_wrapped (is_single_type t) (resolve_over w t p)
 
 -- a filter: its class, and its condition if it has one
 abbrev pub filter_if : Metamodels → Ty → Option Ty → Ruling

@@ -12,7 +12,7 @@ use Rattle.qvt_types_data.specs.declared.refusal.RefusalKind.TheVariants as refu
 use Rattle.qvt_types_data.specs.declared.ruling.Ruling.{Ruling}
 use Rattle.qvt_types_data.specs.declared.ruling.Ruling.TheVariants.{Holds, Fails, Silent}
 use Rattle.qvt_types_words.specs.Types.{conforms, innermost}
-use Rattle.qvt_types_steps.specs.Calls.{source_of, is_single, collected}
+use Rattle.qvt_types_steps.specs.Calls.{source_of, is_single_type, collected}
 use Rattle.qvt_types_steps.specs.declared.classes.ClassPart.{ClassPart}
 use Rattle.qvt_types_steps.specs.declared.classes.ClassPart.TheVariants as part
 
@@ -53,8 +53,8 @@ abbrev pub sequence : Bool → Bool → Reading → Ty → Ruling
 sequence w c r a = Holds (record { reading = r; source = None; wrap = w; collect = c; answer = Some (ty.Coll coll.Sequence a) })
 
 abbrev pub mapped : Bool → Ty → Reading → Ty → Ruling
-mapped true t r a = sequence (is_single t) false r a
-mapped false t r a = if is_single t then Holds (plain r (Some a)) else sequence false true r a
+mapped true t r a = sequence (is_single_type t) false r a
+mapped false t r a = if is_single_type t then Holds (plain r (Some a)) else sequence false true r a
 
 -- a mapping behind an arrow, or behind a dot: over a collection it is called for each item, and the answer is the Sequence of
 -- the results

@@ -7,10 +7,12 @@ ghost use Rattle.qvt_types_steps.specs.IteratorTable.{iterator_named as iterator
 ghost use Rattle.qvt_types_steps.specs.Iterators as iterators;
 
 use crate::calls::{
-    call, flattened, is_single, named_arity, operation_read, source_item, source_kind,
+    call, flattened, is_single_type, named_arity, operation_read, source_item, source_kind,
 };
 use crate::heads::{Heading, is_untyped};
-use crate::iterators::{Body, Gives, Items, IteratorRow, iterator_named, row_of};
+use crate::iterators::{
+    BodyDemand, ItemDemand, IteratorAnswer, IteratorRow, iterator_named, row_of,
+};
 use qvt_base::copied::Copied;
 use qvt_base::list_fault::ListFault;
 use qvt_base::seq::Seq;
@@ -36,25 +38,25 @@ pub fn is_object(t: &Ty) -> bool
     }
 }
 
-fn are_items(items: Items, item: &Ty) -> bool
+fn are_items(items: ItemDemand, item: &Ty) -> bool
     ensures { result ≡ iterators.are_items items item.now }
 {
     match items {
-        Items::Every => true,
-        Items::Objects => is_object(item),
+        ItemDemand::Every => true,
+        ItemDemand::Objects => is_object(item),
     }
 }
 
 /// Whether the body is what the iterator takes.
-fn body_fits(metas: &Metas, body: Body, item: &Ty, accumulator: &Ty, t: &Ty) -> bool
+fn body_fits(metas: &Metas, body: BodyDemand, item: &Ty, accumulator: &Ty, t: &Ty) -> bool
     ensures { result ≡ iterators.body_fits metas.now body item.now accumulator.now t.now }
 {
     match body {
-        Body::Every => true,
-        Body::Boolean => conforms(metas, t, &Ty::Boolean),
-        Body::Key => conforms(metas, t, &Ty::Integer) || conforms(metas, t, &Ty::Str),
-        Body::SameObjects => conforms(metas, t, item) || items_conform(metas, t, item),
-        Body::Accumulated => conforms(metas, t, accumulator),
+        BodyDemand::Every => true,
+        BodyDemand::Boolean => conforms(metas, t, &Ty::Boolean),
+        BodyDemand::Key => conforms(metas, t, &Ty::Integer) || conforms(metas, t, &Ty::Str),
+        BodyDemand::SameObjects => conforms(metas, t, item) || items_conform(metas, t, item),
+        BodyDemand::Accumulated => conforms(metas, t, accumulator),
     }
 }
 
@@ -95,7 +97,7 @@ fn collection(alloc: Global, kind: CollKind, item: &Ty) -> Result<Ty, ListFault>
 /// What the iterator answers.
 fn given(
     alloc: Global,
-    gives: Gives,
+    gives: IteratorAnswer,
     kind: CollKind,
     item: &Ty,
     accumulator: &Ty,
@@ -104,14 +106,14 @@ fn given(
     ensures { IfOk result (λ t. t ≡ iterators.given gives kind item.now accumulator.now body.now) }
 {
     match gives {
-        Gives::Boolean => Ok(Ty::Boolean),
-        Gives::Item => item.copy(alloc),
-        Gives::Items => collection(alloc, kind, item),
-        Gives::Sorted => collection(alloc, sorted_kind(kind), item),
-        Gives::Reached => collection(alloc, reached_kind(kind), item),
-        Gives::Bodies => collection(alloc, collected_kind(kind), body),
-        Gives::Flattened => flattened(alloc, kind, body),
-        Gives::Accumulator => accumulator.copy(alloc),
+        IteratorAnswer::Boolean => Ok(Ty::Boolean),
+        IteratorAnswer::Item => item.copy(alloc),
+        IteratorAnswer::Items => collection(alloc, kind, item),
+        IteratorAnswer::Sorted => collection(alloc, sorted_kind(kind), item),
+        IteratorAnswer::Reached => collection(alloc, reached_kind(kind), item),
+        IteratorAnswer::Bodies => collection(alloc, collected_kind(kind), body),
+        IteratorAnswer::Flattened => flattened(alloc, kind, body),
+        IteratorAnswer::Accumulator => accumulator.copy(alloc),
     }
 }
 
@@ -282,5 +284,5 @@ pub fn arrow(
         return Ok(Ruling::Silent);
     }
     let ruling = arrowed(alloc, metas, name, heading, t, args.as_slice())?;
-    Ok(ruling.wrapped(is_single(t)))
+    Ok(ruling.wrapped(is_single_type(t)))
 }

@@ -56,8 +56,8 @@ pub fn collected(alloc: Global, t: &Ty, ruling: Ruling) -> Result<Ruling, ListFa
 }
 
 /// Whether the type is no collection.
-pub fn is_single(t: &Ty) -> bool
-    ensures { result ≡ calls.is_single t.now }
+pub fn is_single_type(t: &Ty) -> bool
+    ensures { result ≡ calls.is_single_type t.now }
 {
     match t {
         Ty::Coll(_, _) => false,

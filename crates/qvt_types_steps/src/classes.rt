@@ -6,7 +6,7 @@ ghost use Rattle.qvt_types_steps.specs.Calls.{source_of};
 ghost use Rattle.qvt_types_steps.specs.Classes as classes;
 
 use crate::arrows::is_object;
-use crate::calls::{collected, is_single, operation_read, source_item, source_kind};
+use crate::calls::{collected, is_single_type, operation_read, source_item, source_kind};
 use qvt_base::list_fault::ListFault;
 use qvt_base::numbers::ClassNo;
 use qvt_base::seq::Seq;
@@ -230,7 +230,7 @@ pub fn selection(
         return Ok(Ruling::Fails(RefusalKind::WrongCount));
     }
     let ruling = selected(alloc, name, t, parts)?;
-    Ok(ruling.wrapped(is_single(t)))
+    Ok(ruling.wrapped(is_single_type(t)))
 }
 
 /// The operation of models of this name, None where there is none.

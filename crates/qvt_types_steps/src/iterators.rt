@@ -22,14 +22,14 @@ pub enum IteratorKind {
 
 /// What the items of the source have to be.
 #[derive(Clone, Copy, Debug, PartialEq, Eq)]
-pub enum Items {
+pub enum ItemDemand {
     Every,
     Objects,
 }
 
 /// What the body has to be.
 #[derive(Clone, Copy, Debug, PartialEq, Eq)]
-pub enum Body {
+pub enum BodyDemand {
     Every,
     Boolean,
     /// An Integer or a String.
@@ -42,7 +42,7 @@ pub enum Body {
 
 /// What is answered.
 #[derive(Clone, Copy, Debug, PartialEq, Eq)]
-pub enum Gives {
+pub enum IteratorAnswer {
     Boolean,
     /// An item of the source.
     Item,
@@ -62,16 +62,22 @@ pub enum Gives {
 /// A line of the table.
 #[derive(Clone, Copy, Debug, PartialEq, Eq)]
 pub struct IteratorRow {
-    pub items: Items,
+    pub items: ItemDemand,
     /// Whether there is an accumulator.
     pub folds: bool,
-    pub body: Body,
-    pub gives: Gives,
+    pub body: BodyDemand,
+    pub gives: IteratorAnswer,
     /// Whether the body has to be pure.
     pub is_pure: bool,
 }
 
-fn row(items: Items, folds: bool, body: Body, gives: Gives, is_pure: bool) -> IteratorRow
+fn row(
+    items: ItemDemand,
+    folds: bool,
+    body: BodyDemand,
+    gives: IteratorAnswer,
+    is_pure: bool,
+) -> IteratorRow
     ensures { result ≡ table.row items folds body gives is_pure }
 {
     IteratorRow {
@@ -88,31 +94,91 @@ pub fn row_of(iterator: IteratorKind) -> IteratorRow
     ensures { result ≡ table.row_of iterator }
 {
     match iterator {
-        IteratorKind::Select => row(Items::Every, false, Body::Boolean, Gives::Items, true),
-        IteratorKind::Reject => row(Items::Every, false, Body::Boolean, Gives::Items, true),
-        IteratorKind::Collect => row(Items::Every, false, Body::Every, Gives::Flattened, false),
-        IteratorKind::CollectNested => row(Items::Every, false, Body::Every, Gives::Bodies, false),
-        IteratorKind::Exists => row(Items::Every, false, Body::Boolean, Gives::Boolean, true),
-        IteratorKind::ForAll => row(Items::Every, false, Body::Boolean, Gives::Boolean, true),
-        IteratorKind::Any => row(Items::Every, false, Body::Boolean, Gives::Item, true),
-        IteratorKind::One => row(Items::Every, false, Body::Boolean, Gives::Boolean, true),
-        IteratorKind::IsUnique => row(Items::Every, false, Body::Every, Gives::Boolean, true),
-        IteratorKind::SortedBy => row(Items::Every, false, Body::Key, Gives::Sorted, true),
+        IteratorKind::Select => row(
+            ItemDemand::Every,
+            false,
+            BodyDemand::Boolean,
+            IteratorAnswer::Items,
+            true,
+        ),
+        IteratorKind::Reject => row(
+            ItemDemand::Every,
+            false,
+            BodyDemand::Boolean,
+            IteratorAnswer::Items,
+            true,
+        ),
+        IteratorKind::Collect => row(
+            ItemDemand::Every,
+            false,
+            BodyDemand::Every,
+            IteratorAnswer::Flattened,
+            false,
+        ),
+        IteratorKind::CollectNested => row(
+            ItemDemand::Every,
+            false,
+            BodyDemand::Every,
+            IteratorAnswer::Bodies,
+            false,
+        ),
+        IteratorKind::Exists => row(
+            ItemDemand::Every,
+            false,
+            BodyDemand::Boolean,
+            IteratorAnswer::Boolean,
+            true,
+        ),
+        IteratorKind::ForAll => row(
+            ItemDemand::Every,
+            false,
+            BodyDemand::Boolean,
+            IteratorAnswer::Boolean,
+            true,
+        ),
+        IteratorKind::Any => row(
+            ItemDemand::Every,
+            false,
+            BodyDemand::Boolean,
+            IteratorAnswer::Item,
+            true,
+        ),
+        IteratorKind::One => row(
+            ItemDemand::Every,
+            false,
+            BodyDemand::Boolean,
+            IteratorAnswer::Boolean,
+            true,
+        ),
+        IteratorKind::IsUnique => row(
+            ItemDemand::Every,
+            false,
+            BodyDemand::Every,
+            IteratorAnswer::Boolean,
+            true,
+        ),
+        IteratorKind::SortedBy => row(
+            ItemDemand::Every,
+            false,
+            BodyDemand::Key,
+            IteratorAnswer::Sorted,
+            true,
+        ),
         IteratorKind::Iterate => {
             row(
-                Items::Every,
+                ItemDemand::Every,
                 true,
-                Body::Accumulated,
-                Gives::Accumulator,
+                BodyDemand::Accumulated,
+                IteratorAnswer::Accumulator,
                 true,
             )
         }
         IteratorKind::Closure => {
             row(
-                Items::Objects,
+                ItemDemand::Objects,
                 false,
-                Body::SameObjects,
-                Gives::Reached,
+                BodyDemand::SameObjects,
+                IteratorAnswer::Reached,
                 true,
             )
         }

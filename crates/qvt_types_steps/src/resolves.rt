@@ -5,7 +5,7 @@ ghost use Rattle.qvt_types_words.specs.Rulings as rulings;
 ghost use Rattle.qvt_types_steps.specs.Resolving as resolves;
 
 use crate::arrows::is_object;
-use crate::calls::{is_single, source_item};
+use crate::calls::{is_single_type, source_item};
 use crate::classes::{ClassPart, is_untyped};
 use qvt_base::copied::Copied;
 use qvt_base::list_fault::ListFault;
@@ -111,7 +111,7 @@ pub fn resolve(
             None => Ok(Ruling::Silent),
             Some(t) => {
                 let ruling = resolve_over(alloc, word, t, part)?;
-                Ok(ruling.wrapped(is_single(t)))
+                Ok(ruling.wrapped(is_single_type(t)))
             }
         },
     }

@@ -3,7 +3,7 @@
 ghost use Rattle.std.specs.Prelude.{◌≡◌, IfOk};
 ghost use Rattle.qvt_types_steps.specs.UnitCalls as units;
 
-use crate::calls::{collected, is_single, source_item};
+use crate::calls::{collected, is_single_type, source_item};
 use crate::classes::ClassPart;
 use qvt_base::copied::Copied;
 use qvt_base::list_fault::ListFault;
@@ -133,7 +133,7 @@ fn mapped(
 ) -> Result<Ruling, ListFault>
     ensures { IfOk result (λ r. r ≡ units.mapped arrow t.now reading answer.now) }
 {
-    let single = is_single(t);
+    let single = is_single_type(t);
     if arrow {
         return sequence(alloc, single, false, reading, answer);
     }

@@ -5,7 +5,7 @@ ghost use Rattle.std.specs.Option.{option_map};
 ghost use Rattle.qvt_tree_types.specs.Tree.{BareTarget, ResultTarget};
 ghost use Rattle.qvt_types_laws.specs.Join.{join_target};
 ghost use Rattle.qvt_types_leaves.specs.Joins.{Joins};
-ghost use Rattle.qvt_types_exprs.specs.Made.{held, unboxed, Makes, Noted};
+ghost use Rattle.qvt_types_exprs.specs.Made.{held, unboxed, MakesNode, Noted};
 ghost use Rattle.qvt_types_nodes.specs.Tree.{TypedMemberTarget, TypedVarStmt, TypedAssignStmt, TypedReturnStmt, TypedValueStmt, TypedIfStmt, TypedWhileStmt, TypedForEachStmt, TypedArmOf};
 ghost use Rattle.qvt_types_nodes.specs.View.{typed_optional_type, typed_expr_view, typed_stmt_view, typed_target_view, typed_arm_view, typed_arms_of, typed_optional_expr, typed_optional_else, typed_block_view};
 
@@ -165,7 +165,7 @@ pub fn arm(
     condition: Box<TypedExpr>,
     body: TypedStmts,
 ) -> Result<Box<TypedArm>, ListFault>
-    ensures { Makes typed_arm_view (TypedArmOf (held typed_expr_view condition) (typed_block_view body)) result }
+    ensures { MakesNode typed_arm_view (TypedArmOf (held typed_expr_view condition) (typed_block_view body)) result }
 {
     in_box(
         alloc,

@@ -7,8 +7,8 @@ use Rattle.qvt_metamodel.specs.Descends.{descends}
 use Rattle.qvt_types_units.specs.declared.signature.HeadClass.{HeadClass}
 use Rattle.qvt_types_units.specs.declared.signature.HeadClass.TheVariants.{Missing, Unknown, Known}
 use Rattle.qvt_types_units.specs.declared.signature.Signature.{Signature}
-use Rattle.qvt_types_units.specs.declared.choice.Found.{Found}
-use Rattle.qvt_types_units.specs.declared.choice.Found.TheVariants.{NoUnit, Untyped, Unclear, Chosen}
+use Rattle.qvt_types_units.specs.declared.choice.FoundUnit.{FoundUnit}
+use Rattle.qvt_types_units.specs.declared.choice.FoundUnit.TheVariants.{NoUnit, Untyped, Unclear, Chosen}
 use Rattle.qvt_types_units.specs.Numbers.{unit_at, group}
 
 -- the unit's context class is this class or above it
@@ -71,17 +71,17 @@ abbrev pub is_empty : List ℕ → Bool
 is_empty [] = true
 is_empty (n ∷ ns) = false
 
-abbrev pub chosen_of : Bool → Option ℕ → Found
+abbrev pub chosen_of : Bool → Option ℕ → FoundUnit
 chosen_of true o = Unclear
 chosen_of false None = Unclear
 chosen_of false (Some n) = Chosen n
 
-abbrev pub looked_up : Metamodels → List Signature → List ℕ → ℕ → Found
+abbrev pub looked_up : Metamodels → List Signature → List ℕ → ℕ → FoundUnit
 looked_up m us ns c =
     if is_unsure us ns then Untyped
     else if is_empty (candidates m us ns c) then NoUnit
     else chosen_of (is_ambiguous m us ns c) (chosen m us ns c)
 
 -- a call of a unit with a context by its name, on a class: Unclear is Ambiguous
-unfoldable pub called_on : Metamodels → List Signature → Bool → List ℕ → ℕ → Found
+unfoldable pub called_on : Metamodels → List Signature → Bool → List ℕ → ℕ → FoundUnit
 called_on m us maps name c = looked_up m us (group maps name us) c

@@ -10,7 +10,7 @@ use Rattle.qvt_metamodel.specs.Descends.{descends}
 use Rattle.qvt_tree_types.specs.Tree.{StmtTerms, NoStmts, MoreStmts}
 use Rattle.qvt_tree_types.specs.Module.{MappingTerm, UnitTerm, ClassOf, MainOf, HelperOf, ConstructorOf, MappingOf}
 use Rattle.qvt_tree_types.specs.declared.types.PathTree.{PathTree}
-use Rattle.qvt_types_data.specs.declared.refusal.Refusal.{Refusal}
+use Rattle.qvt_types_data.specs.declared.refusal.TypingRefusal.{TypingRefusal}
 use Rattle.qvt_types_data.specs.declared.refusal.RefusalKind.{RefusalKind}
 use Rattle.qvt_types_data.specs.declared.refusal.RefusalKind.TheVariants.{UnknownName, BadReuse, BadDisjunct, ReuseCycle}
 use Rattle.qvt_types_classes.specs.ModelTypes.{NamedTypes}
@@ -74,15 +74,15 @@ is_bad m Disjunct u v = are_unrelated m u.context v.context || is_other_result m
 unfoldable pub is_bad_reuse : Metamodels → Reuse → Signature → Signature → Bool
 is_bad_reuse m r u v = params_differ u.params v.params || is_bad m r u v
 
-abbrev pub reuse_of : Metamodels → Reuse → List Signature → Signature → Place → Result ℕ RefusalKind → List Refusal
+abbrev pub reuse_of : Metamodels → Reuse → List Signature → Signature → Place → Result ℕ RefusalKind → List TypingRefusal
 reuse_of e r us u at (Ok n) = told_if (is_bad_reuse e r u (unit_at us n)) BadReuse at
 reuse_of e r us u at (Err kind) = record { kind = kind; place = at } ∷ []
 
 -- of a path in a list of mapping u. Paths are looked up over the metamodels m that are given; e is those with the intermediate classes.
-unfoldable pub reuse_told : Metamodels → Metamodels → NamedTypes → List Signature → Reuse → Signature → PathTree → List Refusal
+unfoldable pub reuse_told : Metamodels → Metamodels → NamedTypes → List Signature → Reuse → Signature → PathTree → List TypingRefusal
 reuse_told m e t us r u path = reuse_of e r us u path.place (listed m t us path.names)
 
-abbrev pub paths_told : Metamodels → Metamodels → NamedTypes → List Signature → Reuse → Signature → List PathTree → List Refusal
+abbrev pub paths_told : Metamodels → Metamodels → NamedTypes → List Signature → Reuse → Signature → List PathTree → List TypingRefusal
 paths_told m e t us r u paths = flat_map (reuse_told m e t us r u) paths
 
 abbrev pub is_some_list : {X : Type 0} → List X → Bool
@@ -113,7 +113,7 @@ unit_reuses m t us (HelperOf h) = []
 unit_reuses m t us (ConstructorOf h) = []
 
 -- of unit n, a mapping that is called so: u; `lists` are what all units reuse
-unfoldable pub mapping_told : Metamodels → Metamodels → NamedTypes → List Signature → List (List ℕ) → ℕ → MappingTerm → List Refusal
+unfoldable pub mapping_told : Metamodels → Metamodels → NamedTypes → List Signature → List (List ℕ) → ℕ → MappingTerm → List TypingRefusal
 mapping_told m e t us lists n u =
     paths_told m e t us Shared (unit_at us n) u.inherits
     ++ paths_told m e t us Shared (unit_at us n) u.merges

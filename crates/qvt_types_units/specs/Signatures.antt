@@ -5,7 +5,7 @@ use Rattle.qvt_metamodel.specs.Metamodels.{Metamodels}
 use Rattle.qvt_tree_types.specs.Tree.{TypeTerm}
 use Rattle.qvt_tree_types.specs.Module.{TypedName, ClassTerm, HelperTerm, MappingTerm, UnitTerm, ClassOf, MainOf, HelperOf, ConstructorOf, MappingOf}
 use Rattle.qvt_tree_types.specs.declared.module.ResultDecl.{ResultDecl}
-use Rattle.qvt_types_data.specs.declared.refusal.Refusal.{Refusal}
+use Rattle.qvt_types_data.specs.declared.refusal.TypingRefusal.{TypingRefusal}
 use Rattle.qvt_types_data.specs.declared.refusal.RefusalKind.{RefusalKind}
 use Rattle.qvt_types_data.specs.declared.ty.Ty.{Ty}
 use Rattle.qvt_types_data.specs.declared.ty.Ty.TheVariants as ty
@@ -35,7 +35,7 @@ front_class m t front = if length front == 0 then Missing else head_class (path_
 unfoldable pub context_of : Metamodels → NamedTypes → List (List ℕ) → HeadClass
 context_of m t path = front_class m t (front_of path)
 
-abbrev pub found : Result Ty Refusal → Option Ty
+abbrev pub found : Result Ty TypingRefusal → Option Ty
 found (Ok T) = Some T
 found (Err told) = None
 

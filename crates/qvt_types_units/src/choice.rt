@@ -13,7 +13,7 @@ use std::alloc::Global;
 
 /// What a call by a name finds for objects of a static class.
 #[derive(Clone, Copy, Debug, PartialEq, Eq)]
-pub enum Found {
+pub enum FoundUnit {
     /// There is no unit of the name, or none whose context is above the class.
     NoUnit,
     /// The context of a unit of the name is unknown.

@@ -15,7 +15,7 @@ use qvt_tree_types::module::{ClassDecl, Helper, Mapping, Param, ResultDecl, Unit
 use qvt_tree_types::types::TypeTree;
 use qvt_types_classes::model_types::TypeNames;
 use qvt_types_classes::paths::{path_class, written_type};
-use qvt_types_data::refusal::{Refusal, RefusalKind};
+use qvt_types_data::refusal::{RefusalKind, TypingRefusal};
 use qvt_types_data::ty::Ty;
 use qvt_types_words::metas::Metas;
 use std::alloc::Global;
@@ -68,7 +68,7 @@ pub fn context_of(metas: &Metas, names: &TypeNames, path: &[Text]) -> HeadClass
     front_class(metas, names, front_of(path))
 }
 
-fn found(t: Result<Ty, Refusal>) -> Option<Ty>
+fn found(t: Result<Ty, TypingRefusal>) -> Option<Ty>
     ensures { result ≡ signatures.found t }
 {
     match t {

@@ -19,7 +19,7 @@ use qvt_types_classes::model_types::TypeNames;
 use qvt_types_classes::models::Models;
 use qvt_types_classes::paths::{path_class, written_type};
 use qvt_types_classes::told::{RefusalList, tell_if};
-use qvt_types_data::refusal::{Refusal, RefusalKind};
+use qvt_types_data::refusal::{RefusalKind, TypingRefusal};
 use qvt_types_data::ty::Ty;
 use qvt_types_words::metas::Metas;
 use std::alloc::Global;
@@ -27,7 +27,7 @@ use std::alloc::Global;
 /// What the heads of units are judged by: the metamodels that are given, those with the intermediate classes, the names of types
 /// and the model parameters.
 #[derive(Clone, Copy)]
-pub struct Heads<'a> {
+pub struct HeadScope<'a> {
     pub given: &'a Metas,
     pub metas: &'a Metas,
     pub names: &'a TypeNames,
@@ -44,14 +44,14 @@ fn tell_of(
 {
     match class {
         Ok(_) => Ok(()),
-        Err(kind) => log.push(Refusal { kind, place }),
+        Err(kind) => log.push(TypingRefusal { kind, place }),
     }
 }
 
 /// Tells of a context that names no class, at the unit.
 #[tactic(auto, unfolding(crate::specs::Units::context_told))]
 fn tell_context(
-    heads: &Heads<'_>,
+    heads: &HeadScope<'_>,
     place: Place,
     path: &[Text],
     log: &mut RefusalList,
@@ -65,7 +65,7 @@ fn tell_context(
     tell_of(log, place, path_class(heads.given, heads.names, front))
 }
 
-fn tell_type(log: &mut RefusalList, t: Result<Ty, Refusal>) -> Result<(), ListFault>
+fn tell_type(log: &mut RefusalList, t: Result<Ty, TypingRefusal>) -> Result<(), ListFault>
     ensures { OnOk result (log.new ≡ log.old ++ units.type_told t) }
 {
     match t {
@@ -76,7 +76,7 @@ fn tell_type(log: &mut RefusalList, t: Result<Ty, Refusal>) -> Result<(), ListFa
 
 fn tell_params(
     alloc: Global,
-    heads: &Heads<'_>,
+    heads: &HeadScope<'_>,
     params: &[Param],
     log: &mut RefusalList,
 ) -> Result<(), ListFault>
@@ -91,7 +91,7 @@ fn tell_params(
 
 fn tell_answer(
     alloc: Global,
-    heads: &Heads<'_>,
+    heads: &HeadScope<'_>,
     answer: &Option<TypeTree>,
     log: &mut RefusalList,
 ) -> Result<(), ListFault>
@@ -118,7 +118,7 @@ fn is_bad_context(metas: &Metas, context: HeadClass, name: &str) -> bool
 }
 
 /// Whether there is no extent for objects of a result class.
-fn lacks_extent(heads: &Heads<'_>, name: &Option<Text>, class: HeadClass) -> bool
+fn lacks_extent(heads: &HeadScope<'_>, name: &Option<Text>, class: HeadClass) -> bool
     ensures { result ≡ units.lacks_extent heads.now.metas.now heads.now.models.now (length heads.now.given.now.metamodels) name.now class }
 {
     match class {
@@ -133,7 +133,7 @@ fn lacks_extent(heads: &Heads<'_>, name: &Option<Text>, class: HeadClass) -> boo
 }
 
 fn tell_result(
-    heads: &Heads<'_>,
+    heads: &HeadScope<'_>,
     declared: &Option<ResultDecl>,
     log: &mut RefusalList,
 ) -> Result<(), ListFault>
@@ -152,7 +152,7 @@ fn tell_result(
 
 fn tell_helper(
     alloc: Global,
-    heads: &Heads<'_>,
+    heads: &HeadScope<'_>,
     helper: &Helper,
     log: &mut RefusalList,
 ) -> Result<(), ListFault>
@@ -165,7 +165,7 @@ fn tell_helper(
 
 fn tell_constructor(
     alloc: Global,
-    heads: &Heads<'_>,
+    heads: &HeadScope<'_>,
     helper: &Helper,
     log: &mut RefusalList,
 ) -> Result<(), ListFault>
@@ -180,7 +180,7 @@ fn tell_constructor(
 
 fn tell_mapping(
     alloc: Global,
-    heads: &Heads<'_>,
+    heads: &HeadScope<'_>,
     mapping: &Mapping,
     log: &mut RefusalList,
 ) -> Result<(), ListFault>
@@ -196,7 +196,7 @@ fn tell_mapping(
 #[tactic(auto, unfolding(crate::specs::Units::head_told))]
 pub fn tell_head(
     alloc: Global,
-    heads: &Heads<'_>,
+    heads: &HeadScope<'_>,
     unit: &Unit,
     log: &mut RefusalList,
 ) -> Result<(), ListFault>

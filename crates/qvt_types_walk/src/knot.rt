@@ -3,7 +3,7 @@
 ghost use Rattle.std.specs.Prelude.{map};
 ghost use Rattle.qvt_tree_types.specs.View as view;
 ghost use Rattle.qvt_types_rules.specs.Seen.{seen};
-ghost use Rattle.qvt_types_states.specs.Does.{Does};
+ghost use Rattle.qvt_types_states.specs.Does.{GivesAndLeaves};
 ghost use Rattle.qvt_typing.specs.Phrases as phrase;
 ghost use Rattle.qvt_typing.specs.Statements as rule_of;
 
@@ -13,7 +13,7 @@ use qvt_base::list_fault::ListFault;
 use qvt_tree_types::tree::{Expr, Stmts};
 use qvt_types_data::ty::Ty;
 use qvt_types_rules::context::Context;
-use qvt_types_states::state::State;
+use qvt_types_states::state::TypingState;
 
 /// How many phrases may stand within one another: ten times as many as in any text, whose brackets are at most 62 deep. Want of
 /// memory is told of a phrase that would stand deeper.
@@ -26,9 +26,9 @@ pub fn expr_at(
     x: &Context<'_>,
     late: bool,
     node: &Expr,
-    state: &mut State,
+    state: &mut TypingState,
 ) -> Result<Option<Ty>, ListFault>
-    ensures { Does (phrase.expr (seen x.now) late (view.expr_view node.now) state.old) result state.new }
+    ensures { GivesAndLeaves (phrase.expr (seen x.now) late (view.expr_view node.now) state.old) result state.new }
 {
     let Some(less) = left.checked_sub(1) else {
         return Err(ListFault::NoMemory);
@@ -47,9 +47,9 @@ pub fn block_at(
     left: u32,
     x: &Context<'_>,
     body: &Stmts,
-    state: &mut State,
+    state: &mut TypingState,
 ) -> Result<(), ListFault>
-    ensures { Does (rule_of.block (seen x.now) (phrase.stmts (seen x.now) (view.stmts_of (map view.stmt_view body.now))) state.old) result state.new }
+    ensures { GivesAndLeaves (rule_of.block (seen x.now) (phrase.stmts (seen x.now) (view.stmts_of (map view.stmt_view body.now))) state.old) result state.new }
 {
     let Some(less) = left.checked_sub(1) else {
         return Err(ListFault::NoMemory);

@@ -3,7 +3,7 @@
 ghost use Rattle.std.specs.Prelude.{map};
 ghost use Rattle.qvt_tree_types.specs.View as view;
 ghost use Rattle.qvt_types_rules.specs.Seen.{seen};
-ghost use Rattle.qvt_types_states.specs.Does.{Does};
+ghost use Rattle.qvt_types_states.specs.Does.{GivesAndLeaves};
 ghost use Rattle.qvt_typing.specs.Phrases as phrase;
 ghost use Rattle.qvt_typing.specs.Rules as rule;
 
@@ -16,23 +16,23 @@ use qvt_types_rules::calls::{call_ruled, called_alone, effect_of};
 use qvt_types_rules::context::Context;
 use qvt_types_rules::parts::all_types;
 use qvt_types_rules::settling::ruled;
-use qvt_types_states::state::State;
+use qvt_types_states::state::TypingState;
 use qvt_types_states::steps::fresh;
 use qvt_types_walk_steps::lists::exprs;
-use qvt_types_walk_steps::nested::Nested;
+use qvt_types_walk_steps::nested::NestedWalk;
 use qvt_typing::parts::Effect;
 
 #[tactic(auto, unfolding(qvt_typing::specs::Rules::call))]
-pub fn call<C: Nested>(
+pub fn call<C: NestedWalk>(
     x: &Context<'_>,
     inside: &C,
     name: &Text,
     args: &[Expr],
     place: Place,
-    state: &mut State,
+    state: &mut TypingState,
 ) -> Result<Option<Ty>, ListFault>
     requires { C.ready inside.now }
-    ensures { Does (rule.call (seen x.now) name.now (phrase.exprs (seen x.now) (view.exprs_of (map view.expr_view args.now))) place state.old) result state.new }
+    ensures { GivesAndLeaves (rule.call (seen x.now) name.now (phrase.exprs (seen x.now) (view.exprs_of (map view.expr_view args.now))) place state.old) result state.new }
 {
     let number = fresh(state)?;
     let types = all_types(x.alloc, exprs(x, inside, args, state)?.as_slice())?;
@@ -44,16 +44,16 @@ pub fn call<C: Nested>(
 }
 
 #[tactic(auto, unfolding(qvt_typing::specs::Rules::map))]
-fn mapped<C: Nested>(
+fn mapped<C: NestedWalk>(
     x: &Context<'_>,
     inside: &C,
     name: &Text,
     args: &[Expr],
     place: Place,
-    state: &mut State,
+    state: &mut TypingState,
 ) -> Result<Option<Ty>, ListFault>
     requires { C.ready inside.now }
-    ensures { Does (rule.map (seen x.now) name.now (phrase.exprs (seen x.now) (view.exprs_of (map view.expr_view args.now))) place state.old) result state.new }
+    ensures { GivesAndLeaves (rule.map (seen x.now) name.now (phrase.exprs (seen x.now) (view.exprs_of (map view.expr_view args.now))) place state.old) result state.new }
 {
     let number = fresh(state)?;
     let types = all_types(x.alloc, exprs(x, inside, args, state)?.as_slice())?;
@@ -64,14 +64,14 @@ fn mapped<C: Nested>(
 }
 
 #[tactic(auto, unfolding(qvt_typing::specs::Phrases::mapped))]
-pub fn map_call<C: Nested>(
+pub fn map_call<C: NestedWalk>(
     x: &Context<'_>,
     inside: &C,
     call: &MapCall,
-    state: &mut State,
+    state: &mut TypingState,
 ) -> Result<Option<Ty>, ListFault>
     requires { C.ready inside.now }
-    ensures { Does (phrase.mapped (seen x.now) (view.map_view call.now) state.old) result state.new }
+    ensures { GivesAndLeaves (phrase.mapped (seen x.now) (view.map_view call.now) state.old) result state.new }
 {
     mapped(
         x,

@@ -3,7 +3,7 @@
 ghost use Rattle.std.specs.Prelude.{false};
 ghost use Rattle.qvt_tree_types.specs.View as view;
 ghost use Rattle.qvt_types_rules.specs.Seen.{seen};
-ghost use Rattle.qvt_types_states.specs.Does.{Does};
+ghost use Rattle.qvt_types_states.specs.Does.{GivesAndLeaves};
 ghost use Rattle.qvt_types_words.specs.Rulings as rulings;
 ghost use Rattle.qvt_typing.specs.declared.parts.Effect.TheVariants as effects;
 ghost use Rattle.qvt_typing.specs.Phrases as phrase;
@@ -15,9 +15,9 @@ use qvt_tree_types::tree::Expr;
 use qvt_types_data::ty::Ty;
 use qvt_types_rules::context::Context;
 use qvt_types_rules::settling::ruled;
-use qvt_types_states::state::State;
+use qvt_types_states::state::TypingState;
 use qvt_types_states::steps::fresh;
-use qvt_types_walk_steps::nested::Nested;
+use qvt_types_walk_steps::nested::NestedWalk;
 use qvt_types_words::rulings::conditional as conditional_ruling;
 use qvt_typing::parts::Effect;
 
@@ -29,26 +29,26 @@ fn settled(
     yes: &Option<Ty>,
     no: &Option<Ty>,
     place: Place,
-    state: &mut State,
+    state: &mut TypingState,
 ) -> Result<Option<Ty>, ListFault>
-    ensures { Does (rule.ruled (seen x.now) number (rulings.conditional x.now.heads.units.now.metas condition.now yes.now no.now) effects.PlainOne place state.old) result state.new }
+    ensures { GivesAndLeaves (rule.ruled (seen x.now) number (rulings.conditional x.now.heads.units.now.metas condition.now yes.now no.now) effects.PlainOne place state.old) result state.new }
 {
     let ruling = conditional_ruling(x.alloc, x.heads.units.metas(), condition, yes, no)?;
     ruled(x, number, ruling, Effect::PlainOne, place, state)
 }
 
 #[tactic(auto, unfolding(qvt_typing::specs::Rules::conditional))]
-pub fn conditional<C: Nested>(
+pub fn conditional<C: NestedWalk>(
     x: &Context<'_>,
     inside: &C,
     condition: &Expr,
     yes: &Expr,
     no: &Expr,
     place: Place,
-    state: &mut State,
+    state: &mut TypingState,
 ) -> Result<Option<Ty>, ListFault>
     requires { C.ready inside.now }
-    ensures { Does (rule.conditional (seen x.now) (phrase.expr (seen x.now) false (view.expr_view condition.now)) (phrase.expr (seen x.now) false (view.expr_view yes.now)) (phrase.expr (seen x.now) false (view.expr_view no.now)) place state.old) result state.new }
+    ensures { GivesAndLeaves (rule.conditional (seen x.now) (phrase.expr (seen x.now) false (view.expr_view condition.now)) (phrase.expr (seen x.now) false (view.expr_view yes.now)) (phrase.expr (seen x.now) false (view.expr_view no.now)) place state.old) result state.new }
 {
     let number = fresh(state)?;
     let condition = inside.expr(x, false, condition, state)?;

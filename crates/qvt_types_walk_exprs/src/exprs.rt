@@ -2,7 +2,7 @@
 
 ghost use Rattle.qvt_tree_types.specs.View as view;
 ghost use Rattle.qvt_types_rules.specs.Seen.{seen};
-ghost use Rattle.qvt_types_states.specs.Does.{Does};
+ghost use Rattle.qvt_types_states.specs.Does.{GivesAndLeaves};
 ghost use Rattle.qvt_typing.specs.Phrases as phrase;
 
 use crate::calls::{call, map_call};
@@ -17,21 +17,21 @@ use qvt_types_data::ty::Ty;
 use qvt_types_rules::context::Context;
 use qvt_types_rules::leaves::{path, result_ref, self_ref};
 use qvt_types_rules::settling::constant;
-use qvt_types_states::state::State;
-use qvt_types_walk_steps::nested::Nested;
+use qvt_types_states::state::TypingState;
+use qvt_types_walk_steps::nested::NestedWalk;
 use qvt_types_walk_steps::resolves::resolve_call;
 
 /// An expression by its rule, over what stands inside it.
 #[tactic(auto, unfolding(qvt_typing::specs::Phrases::expr))]
-pub fn expression<C: Nested>(
+pub fn expression<C: NestedWalk>(
     x: &Context<'_>,
     inside: &C,
     late: bool,
     node: &Expr,
-    state: &mut State,
+    state: &mut TypingState,
 ) -> Result<Option<Ty>, ListFault>
     requires { C.ready inside.now }
-    ensures { Does (phrase.expr (seen x.now) late (view.expr_view node.now) state.old) result state.new }
+    ensures { GivesAndLeaves (phrase.expr (seen x.now) late (view.expr_view node.now) state.old) result state.new }
 {
     match node {
         Expr::Int { .. } => constant(x, Ty::Integer, state),

@@ -3,7 +3,7 @@
 ghost use Rattle.std.specs.Prelude.{map};
 ghost use Rattle.qvt_tree_types.specs.View as view;
 ghost use Rattle.qvt_types_rules.specs.Seen.{seen};
-ghost use Rattle.qvt_types_states.specs.Does.{Does};
+ghost use Rattle.qvt_types_states.specs.Does.{GivesAndLeaves};
 ghost use Rattle.qvt_typing.specs.Phrases as phrase;
 ghost use Rattle.qvt_typing.specs.Rules as rule;
 
@@ -16,22 +16,22 @@ use qvt_types_data::ty::Ty;
 use qvt_types_rules::context::Context;
 use qvt_types_rules::parts::all_types;
 use qvt_types_rules::settling::{ruled, settled_bare};
-use qvt_types_states::state::State;
+use qvt_types_states::state::TypingState;
 use qvt_types_states::steps::{fresh, writes_nothing};
-use qvt_types_walk_steps::nested::Nested;
+use qvt_types_walk_steps::nested::NestedWalk;
 use qvt_types_words::rulings::{literal as literal_ruling, range as range_ruling};
 use qvt_typing::parts::Effect;
 
 /// An item of a collection literal.
 #[tactic(auto, unfolding(qvt_typing::specs::Phrases::item, qvt_typing::specs::Rules::range))]
-fn item<C: Nested>(
+fn item<C: NestedWalk>(
     x: &Context<'_>,
     inside: &C,
     item: &Item,
-    state: &mut State,
+    state: &mut TypingState,
 ) -> Result<Option<Ty>, ListFault>
     requires { C.ready inside.now }
-    ensures { Does (phrase.item (seen x.now) (view.item_view item.now) state.old) result state.new }
+    ensures { GivesAndLeaves (phrase.item (seen x.now) (view.item_view item.now) state.old) result state.new }
 {
     let first = inside.expr(x, false, &item.first, state)?;
     match &item.last {
@@ -50,14 +50,14 @@ fn item<C: Nested>(
 }
 
 #[tactic(auto, unfolding(qvt_typing::specs::Phrases::all_items))]
-fn all_items<C: Nested>(
+fn all_items<C: NestedWalk>(
     x: &Context<'_>,
     inside: &C,
     items: &[Item],
-    state: &mut State,
+    state: &mut TypingState,
 ) -> Result<Seq<Option<Ty>>, ListFault>
     requires { C.ready inside.now }
-    ensures { Does (rule.in_order (phrase.all_items (seen x.now) (view.items_of (map view.item_view items.now))) state.old) result state.new }
+    ensures { GivesAndLeaves (rule.in_order (phrase.all_items (seen x.now) (view.items_of (map view.item_view items.now))) state.old) result state.new }
 {
     let mut types = Seq::new(x.alloc);
     for next in items {
@@ -68,16 +68,16 @@ fn all_items<C: Nested>(
 }
 
 #[tactic(auto, unfolding(qvt_typing::specs::Rules::literal))]
-pub fn literal<C: Nested>(
+pub fn literal<C: NestedWalk>(
     x: &Context<'_>,
     inside: &C,
     kind: CollKind,
     items: &[Item],
     place: Place,
-    state: &mut State,
+    state: &mut TypingState,
 ) -> Result<Option<Ty>, ListFault>
     requires { C.ready inside.now }
-    ensures { Does (rule.literal (seen x.now) kind (phrase.all_items (seen x.now) (view.items_of (map view.item_view items.now))) place state.old) result state.new }
+    ensures { GivesAndLeaves (rule.literal (seen x.now) kind (phrase.all_items (seen x.now) (view.items_of (map view.item_view items.now))) place state.old) result state.new }
 {
     let number = fresh(state)?;
     let types = all_types(x.alloc, all_items(x, inside, items, state)?.as_slice())?;

@@ -3,7 +3,7 @@
 ghost use Rattle.std.specs.Prelude.{map};
 ghost use Rattle.qvt_tree_types.specs.View as view;
 ghost use Rattle.qvt_types_rules.specs.Seen.{seen};
-ghost use Rattle.qvt_types_states.specs.Does.{Does};
+ghost use Rattle.qvt_types_states.specs.Does.{GivesAndLeaves};
 ghost use Rattle.qvt_typing.specs.Phrases as phrase;
 ghost use Rattle.qvt_typing.specs.Rules as rule;
 
@@ -20,14 +20,14 @@ use qvt_types_rules::objects::{
 };
 use qvt_types_rules::parts::all_types;
 use qvt_types_rules::settling::ruled;
-use qvt_types_states::state::State;
+use qvt_types_states::state::TypingState;
 use qvt_types_states::steps::fresh;
 use qvt_types_walk_steps::lists::exprs;
-use qvt_types_walk_steps::nested::Nested;
+use qvt_types_walk_steps::nested::NestedWalk;
 use qvt_typing::parts::Effect;
 
 #[tactic(auto, unfolding(qvt_typing::specs::Rules::object))]
-pub fn object<C: Nested>(
+pub fn object<C: NestedWalk>(
     x: &Context<'_>,
     inside: &C,
     variable: &Option<ObjectVar>,
@@ -35,10 +35,10 @@ pub fn object<C: Nested>(
     extent: &Option<Text>,
     body: &Stmts,
     place: Place,
-    state: &mut State,
+    state: &mut TypingState,
 ) -> Result<Option<Ty>, ListFault>
     requires { C.ready inside.now }
-    ensures { Does (rule.object (seen x.now) (phrase.object_variable (seen x.now) variable.now) path.now extent.now (phrase.object_body (seen x.now) (view.stmts_of (map view.stmt_view body.now))) place state.old) result state.new }
+    ensures { GivesAndLeaves (rule.object (seen x.now) (phrase.object_variable (seen x.now) variable.now) path.now extent.now (phrase.object_body (seen x.now) (view.stmts_of (map view.stmt_view body.now))) place state.old) result state.new }
 {
     let number = fresh(state)?;
     let variable = object_variable(x, variable, state)?;
@@ -55,17 +55,17 @@ pub fn object<C: Nested>(
 }
 
 #[tactic(auto, unfolding(qvt_typing::specs::Rules::new))]
-pub fn new<C: Nested>(
+pub fn new<C: NestedWalk>(
     x: &Context<'_>,
     inside: &C,
     path: &PathTree,
     extent: &Option<Text>,
     args: &[Expr],
     place: Place,
-    state: &mut State,
+    state: &mut TypingState,
 ) -> Result<Option<Ty>, ListFault>
     requires { C.ready inside.now }
-    ensures { Does (rule.new (seen x.now) path.now extent.now (phrase.exprs (seen x.now) (view.exprs_of (map view.expr_view args.now))) place state.old) result state.new }
+    ensures { GivesAndLeaves (rule.new (seen x.now) path.now extent.now (phrase.exprs (seen x.now) (view.exprs_of (map view.expr_view args.now))) place state.old) result state.new }
 {
     let number = fresh(state)?;
     let class = named_class(x, path, state)?;

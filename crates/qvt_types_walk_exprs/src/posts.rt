@@ -3,7 +3,7 @@
 ghost use Rattle.std.specs.Prelude.{map};
 ghost use Rattle.qvt_tree_types.specs.View as view;
 ghost use Rattle.qvt_types_rules.specs.Seen.{seen};
-ghost use Rattle.qvt_types_states.specs.Does.{Does};
+ghost use Rattle.qvt_types_states.specs.Does.{GivesAndLeaves};
 ghost use Rattle.qvt_typing.specs.Phrases as phrase;
 
 use qvt_base::list_fault::ListFault;
@@ -13,22 +13,22 @@ use qvt_types_rules::context::Context;
 use qvt_types_rules::leaves::path;
 use qvt_types_rules::parts::model_path;
 use qvt_types_rules::settling::stands_as;
-use qvt_types_states::state::State;
+use qvt_types_states::state::TypingState;
 use qvt_types_states::steps::fresh;
-use qvt_types_walk_steps::nested::Nested;
+use qvt_types_walk_steps::nested::NestedWalk;
 use qvt_types_walk_steps::steps::all_steps;
 
 #[tactic(auto, unfolding(qvt_typing::specs::Rules::post))]
-pub fn post<C: Nested>(
+pub fn post<C: NestedWalk>(
     x: &Context<'_>,
     inside: &C,
     late: bool,
     first: &Expr,
     list: &[Step],
-    state: &mut State,
+    state: &mut TypingState,
 ) -> Result<Option<Ty>, ListFault>
     requires { C.ready inside.now }
-    ensures { Does (phrase.posted (seen x.now) late (view.expr_view first.now) (view.steps_of (map view.step_view list.now)) state.old) result state.new }
+    ensures { GivesAndLeaves (phrase.posted (seen x.now) late (view.expr_view first.now) (view.steps_of (map view.step_view list.now)) state.old) result state.new }
 {
     let model = model_path(x, &state.scope, first, list);
     let number = fresh(state)?;

@@ -3,13 +3,13 @@
 ghost use Rattle.std.specs.Prelude.{map, option_map, false};
 ghost use Rattle.qvt_tree_types.specs.View as view;
 ghost use Rattle.qvt_types_rules.specs.Seen.{seen};
-ghost use Rattle.qvt_types_states.specs.Does.{Does};
+ghost use Rattle.qvt_types_states.specs.Does.{GivesAndLeaves};
 ghost use Rattle.qvt_types_steps.specs.IteratorTable.{iterator_named};
 ghost use Rattle.qvt_typing.specs.Phrases as phrase;
 ghost use Rattle.qvt_typing.specs.Rules as rule;
 
 use crate::lists::{classes, exprs};
-use crate::nested::Nested;
+use crate::nested::NestedWalk;
 use qvt_base::list_fault::ListFault;
 use qvt_base::numbers::Place;
 use qvt_base::text::Text;
@@ -22,7 +22,7 @@ use qvt_types_rules::heads::{FoldNames, folded, no_head, plain_heading};
 use qvt_types_rules::leaves::{type_if, written_type};
 use qvt_types_rules::parts::{all_types, iterator_effect, selected_by};
 use qvt_types_rules::settling::stepped;
-use qvt_types_states::state::State;
+use qvt_types_states::state::TypingState;
 use qvt_types_steps::arrows::arrow;
 use qvt_types_steps::classes::is_selection;
 use qvt_types_steps::heads::{Heading, item_type};
@@ -30,7 +30,7 @@ use qvt_types_steps::iterators::iterator_named;
 
 /// A Head with an accumulator.
 #[tactic(auto, unfolding(qvt_typing::specs::Rules::folding_heading))]
-fn folding<C: Nested>(
+fn folding<C: NestedWalk>(
     x: &Context<'_>,
     inside: &C,
     first: &Expr,
@@ -38,10 +38,10 @@ fn folding<C: Nested>(
     kind: &Option<TypeTree>,
     accumulator_kind: &TypeTree,
     items: &Option<Ty>,
-    state: &mut State,
+    state: &mut TypingState,
 ) -> Result<Heading, ListFault>
     requires { C.ready inside.now }
-    ensures { Does (rule.folding_heading (seen x.now) names.now.iterator.now (phrase.optional_type (seen x.now) (view.optional_type kind.now)) names.now.accumulator.now (phrase.type_term (seen x.now) (view.type_view accumulator_kind.now)) (phrase.expr (seen x.now) false (view.expr_view first.now)) names.now.accumulator_place names.now.place items.now state.old) result state.new }
+    ensures { GivesAndLeaves (rule.folding_heading (seen x.now) names.now.iterator.now (phrase.optional_type (seen x.now) (view.optional_type kind.now)) names.now.accumulator.now (phrase.type_term (seen x.now) (view.type_view accumulator_kind.now)) (phrase.expr (seen x.now) false (view.expr_view first.now)) names.now.accumulator_place names.now.place items.now state.old) result state.new }
 {
     let kind = type_if(x, kind, state)?;
     let ty = written_type(x, accumulator_kind, state)?;
@@ -50,16 +50,16 @@ fn folding<C: Nested>(
 }
 
 #[tactic(auto, unfolding(qvt_typing::specs::Phrases::heading))]
-fn heading<C: Nested>(
+fn heading<C: NestedWalk>(
     x: &Context<'_>,
     inside: &C,
     name: &Text,
     head: &Option<Head>,
     items: Option<Ty>,
-    state: &mut State,
+    state: &mut TypingState,
 ) -> Result<Heading, ListFault>
     requires { C.ready inside.now }
-    ensures { Does (phrase.heading (seen x.now) name.now (view.optional_head (option_map view.head_view head.now)) items state.old) result state.new }
+    ensures { GivesAndLeaves (phrase.heading (seen x.now) name.now (view.optional_head (option_map view.head_view head.now)) items state.old) result state.new }
 {
     let Some(head) = head else {
         return no_head(x, name, items, state);
@@ -89,17 +89,17 @@ fn heading<C: Nested>(
 
 /// What is ruled of a step behind an arrow, by its Head and its arguments.
 #[tactic(auto, unfolding(qvt_typing::specs::Rules::arrow_parts))]
-fn arrow_ruled<C: Nested>(
+fn arrow_ruled<C: NestedWalk>(
     x: &Context<'_>,
     inside: &C,
     name: &Text,
     heading: &Heading,
     args: &[Expr],
     source: &Option<Ty>,
-    state: &mut State,
+    state: &mut TypingState,
 ) -> Result<Ruling, ListFault>
     requires { C.ready inside.now }
-    ensures { Does (rule.arrow_parts (seen x.now) name.now (phrase.exprs (phrase.body_context (iterator_named name.now) (seen x.now)) (view.exprs_of (map view.expr_view args.now))) (phrase.classes (seen x.now) (view.exprs_of (map view.expr_view args.now))) source.now heading.now state.old) result state.new }
+    ensures { GivesAndLeaves (rule.arrow_parts (seen x.now) name.now (phrase.exprs (phrase.body_context (iterator_named name.now) (seen x.now)) (view.exprs_of (map view.expr_view args.now))) (phrase.classes (seen x.now) (view.exprs_of (map view.expr_view args.now))) source.now heading.now state.old) result state.new }
 {
     if is_selection(name.as_str()) {
         let parts = classes(x, inside, args, state)?;
@@ -119,7 +119,7 @@ fn arrow_ruled<C: Nested>(
 
 /// A step behind an arrow: what its Head declares is in scope in its arguments.
 #[tactic(auto, unfolding(qvt_typing::specs::Rules::arrowed))]
-pub fn arrowed<C: Nested>(
+pub fn arrowed<C: NestedWalk>(
     x: &Context<'_>,
     inside: &C,
     name: &Text,
@@ -127,10 +127,10 @@ pub fn arrowed<C: Nested>(
     args: &[Expr],
     place: Place,
     source: &Option<Ty>,
-    state: &mut State,
+    state: &mut TypingState,
 ) -> Result<Option<Ty>, ListFault>
     requires { C.ready inside.now }
-    ensures { Does (rule.arrowed (seen x.now) name.now (phrase.heading (seen x.now) name.now (view.optional_head (option_map view.head_view head.now))) (phrase.exprs (phrase.body_context (iterator_named name.now) (seen x.now)) (view.exprs_of (map view.expr_view args.now))) (phrase.classes (seen x.now) (view.exprs_of (map view.expr_view args.now))) place source.now state.old) result state.new }
+    ensures { GivesAndLeaves (rule.arrowed (seen x.now) name.now (phrase.heading (seen x.now) name.now (view.optional_head (option_map view.head_view head.now))) (phrase.exprs (phrase.body_context (iterator_named name.now) (seen x.now)) (view.exprs_of (map view.expr_view args.now))) (phrase.classes (seen x.now) (view.exprs_of (map view.expr_view args.now))) place source.now state.old) result state.new }
 {
     let (named, sources) = state.scope.mark();
     let items = item_type(x.alloc, source)?;

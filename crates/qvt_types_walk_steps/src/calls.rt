@@ -3,14 +3,14 @@
 ghost use Rattle.std.specs.Prelude.{map};
 ghost use Rattle.qvt_tree_types.specs.View as view;
 ghost use Rattle.qvt_types_rules.specs.Seen.{seen};
-ghost use Rattle.qvt_types_states.specs.Does.{Does};
+ghost use Rattle.qvt_types_states.specs.Does.{GivesAndLeaves};
 ghost use Rattle.qvt_types_steps.specs.Classes.{class_test_named, model_call_named};
 ghost use Rattle.qvt_typing.specs.Phrases as phrase;
 ghost use Rattle.qvt_typing.specs.Rules as rule;
 ghost use Rattle.qvt_types_walk_steps.specs.Parts as part;
 
 use crate::lists::{classes, exprs};
-use crate::nested::Nested;
+use crate::nested::NestedWalk;
 use qvt_base::list_fault::ListFault;
 use qvt_base::numbers::Place;
 use qvt_base::seq::Seq;
@@ -21,7 +21,7 @@ use qvt_types_rules::calls::{called_behind, effect_of, map_ruled, unit_ruled};
 use qvt_types_rules::context::{Context, unless_untyped};
 use qvt_types_rules::parts::{all_types, reads_operation};
 use qvt_types_rules::settling::stepped;
-use qvt_types_states::state::State;
+use qvt_types_states::state::TypingState;
 use qvt_types_steps::calls::dot_call;
 use qvt_types_steps::classes::{
     ClassTest, ModelCall, class_test, class_test_named, model_call_named, model_objects,
@@ -36,9 +36,9 @@ pub fn property_step(
     name: &Text,
     place: Place,
     source: &Option<Ty>,
-    state: &mut State,
+    state: &mut TypingState,
 ) -> Result<Option<Ty>, ListFault>
-    ensures { Does (rule.property_step (seen x.now) name.now place source.now state.old) result state.new }
+    ensures { GivesAndLeaves (rule.property_step (seen x.now) name.now place source.now state.old) result state.new }
 {
     let ruling = property(x.alloc, x.heads.units.metas(), name.as_str(), source)?;
     let ruling = unless_untyped(&x.heads, ruling);
@@ -47,16 +47,16 @@ pub fn property_step(
 
 /// An operation of a model.
 #[tactic(auto, unfolding(qvt_typing::specs::Rules::model_step, qvt_typing::specs::Rules::typed_model_step))]
-pub fn model_step<C: Nested>(
+pub fn model_step<C: NestedWalk>(
     x: &Context<'_>,
     inside: &C,
     name: &Text,
     args: &[Expr],
     place: Place,
-    state: &mut State,
+    state: &mut TypingState,
 ) -> Result<Option<Ty>, ListFault>
     requires { C.ready inside.now }
-    ensures { Does (rule.model_called_with (seen x.now) (model_call_named name.now) name.now (phrase.exprs (seen x.now) (view.exprs_of (map view.expr_view args.now))) (phrase.classes (seen x.now) (view.exprs_of (map view.expr_view args.now))) place state.old) result state.new }
+    ensures { GivesAndLeaves (rule.model_called_with (seen x.now) (model_call_named name.now) name.now (phrase.exprs (seen x.now) (view.exprs_of (map view.expr_view args.now))) (phrase.classes (seen x.now) (view.exprs_of (map view.expr_view args.now))) place state.old) result state.new }
 {
     if let Some(ModelCall::ObjectsOfType) = model_call_named(name.as_str()) {
         let parts = classes(x, inside, args, state)?;
@@ -69,7 +69,7 @@ pub fn model_step<C: Nested>(
 }
 
 #[tactic(auto, unfolding(qvt_typing::specs::Rules::test_step))]
-fn test_step<C: Nested>(
+fn test_step<C: NestedWalk>(
     x: &Context<'_>,
     inside: &C,
     name: &Text,
@@ -77,10 +77,10 @@ fn test_step<C: Nested>(
     args: &[Expr],
     place: Place,
     source: &Option<Ty>,
-    state: &mut State,
+    state: &mut TypingState,
 ) -> Result<Option<Ty>, ListFault>
     requires { C.ready inside.now }
-    ensures { Does (rule.test_step (seen x.now) name.now test (phrase.classes (seen x.now) (view.exprs_of (map view.expr_view args.now))) place source.now state.old) result state.new }
+    ensures { GivesAndLeaves (rule.test_step (seen x.now) name.now test (phrase.classes (seen x.now) (view.exprs_of (map view.expr_view args.now))) place source.now state.old) result state.new }
 {
     let parts = classes(x, inside, args, state)?;
     let ruling = class_test(x.alloc, name, test, source, parts.as_slice())?;
@@ -94,9 +94,9 @@ fn call_settled(
     types: &Option<Seq<Ty>>,
     place: Place,
     source: &Option<Ty>,
-    state: &mut State,
+    state: &mut TypingState,
 ) -> Result<Option<Ty>, ListFault>
-    ensures { Does (part.call_settled (seen x.now) name.now types.now place source.now state.old) result state.new }
+    ensures { GivesAndLeaves (part.call_settled (seen x.now) name.now types.now place source.now state.old) result state.new }
 {
     if reads_operation(name.as_str(), source) {
         let ruling = dot_call(x.alloc, x.heads.units.metas(), name, source, types)?;
@@ -109,34 +109,34 @@ fn call_settled(
 }
 
 #[tactic(auto, unfolding(qvt_typing::specs::Rules::call_step))]
-fn call_step<C: Nested>(
+fn call_step<C: NestedWalk>(
     x: &Context<'_>,
     inside: &C,
     name: &Text,
     args: &[Expr],
     place: Place,
     source: &Option<Ty>,
-    state: &mut State,
+    state: &mut TypingState,
 ) -> Result<Option<Ty>, ListFault>
     requires { C.ready inside.now }
-    ensures { Does (rule.call_step (seen x.now) name.now (phrase.exprs (seen x.now) (view.exprs_of (map view.expr_view args.now))) place source.now state.old) result state.new }
+    ensures { GivesAndLeaves (rule.call_step (seen x.now) name.now (phrase.exprs (seen x.now) (view.exprs_of (map view.expr_view args.now))) place source.now state.old) result state.new }
 {
     let types = all_types(x.alloc, exprs(x, inside, args, state)?.as_slice())?;
     call_settled(x, name, &types, place, source, state)
 }
 
 /// A step with arguments behind a dot.
-pub fn called<C: Nested>(
+pub fn called<C: NestedWalk>(
     x: &Context<'_>,
     inside: &C,
     name: &Text,
     args: &[Expr],
     place: Place,
     source: &Option<Ty>,
-    state: &mut State,
+    state: &mut TypingState,
 ) -> Result<Option<Ty>, ListFault>
     requires { C.ready inside.now }
-    ensures { Does (rule.called_with (seen x.now) (class_test_named name.now) name.now (phrase.exprs (seen x.now) (view.exprs_of (map view.expr_view args.now))) (phrase.classes (seen x.now) (view.exprs_of (map view.expr_view args.now))) place source.now state.old) result state.new }
+    ensures { GivesAndLeaves (rule.called_with (seen x.now) (class_test_named name.now) name.now (phrase.exprs (seen x.now) (view.exprs_of (map view.expr_view args.now))) (phrase.classes (seen x.now) (view.exprs_of (map view.expr_view args.now))) place source.now state.old) result state.new }
 {
     match class_test_named(name.as_str()) {
         Some(test) => test_step(x, inside, name, test, args, place, source, state),
@@ -145,7 +145,7 @@ pub fn called<C: Nested>(
 }
 
 #[tactic(auto, unfolding(qvt_typing::specs::Rules::map_step))]
-fn mapped_behind<C: Nested>(
+fn mapped_behind<C: NestedWalk>(
     x: &Context<'_>,
     inside: &C,
     is_arrow: bool,
@@ -153,10 +153,10 @@ fn mapped_behind<C: Nested>(
     args: &[Expr],
     place: Place,
     source: &Option<Ty>,
-    state: &mut State,
+    state: &mut TypingState,
 ) -> Result<Option<Ty>, ListFault>
     requires { C.ready inside.now }
-    ensures { Does (rule.map_step (seen x.now) is_arrow name.now (phrase.exprs (seen x.now) (view.exprs_of (map view.expr_view args.now))) place source.now state.old) result state.new }
+    ensures { GivesAndLeaves (rule.map_step (seen x.now) is_arrow name.now (phrase.exprs (seen x.now) (view.exprs_of (map view.expr_view args.now))) place source.now state.old) result state.new }
 {
     let types = all_types(x.alloc, exprs(x, inside, args, state)?.as_slice())?;
     let called = called_behind(x.alloc, &x.heads, true, is_arrow, name.as_str(), source)?;
@@ -165,16 +165,16 @@ fn mapped_behind<C: Nested>(
 }
 
 #[tactic(auto, unfolding(qvt_typing::specs::Phrases::mapped_behind))]
-pub fn map_step<C: Nested>(
+pub fn map_step<C: NestedWalk>(
     x: &Context<'_>,
     inside: &C,
     is_arrow: bool,
     call: &MapCall,
     source: &Option<Ty>,
-    state: &mut State,
+    state: &mut TypingState,
 ) -> Result<Option<Ty>, ListFault>
     requires { C.ready inside.now }
-    ensures { Does (phrase.mapped_behind (seen x.now) is_arrow (view.map_view call.now) source.now state.old) result state.new }
+    ensures { GivesAndLeaves (phrase.mapped_behind (seen x.now) is_arrow (view.map_view call.now) source.now state.old) result state.new }
 {
     let args = call.args.as_slice();
     mapped_behind(

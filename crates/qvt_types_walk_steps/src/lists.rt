@@ -3,11 +3,11 @@
 ghost use Rattle.std.specs.Prelude.{map, option_map, false};
 ghost use Rattle.qvt_tree_types.specs.View as view;
 ghost use Rattle.qvt_types_rules.specs.Seen.{seen};
-ghost use Rattle.qvt_types_states.specs.Does.{Does};
+ghost use Rattle.qvt_types_states.specs.Does.{GivesAndLeaves};
 ghost use Rattle.qvt_typing.specs.Phrases as phrase;
 ghost use Rattle.qvt_typing.specs.Rules as rule;
 
-use crate::nested::Nested;
+use crate::nested::NestedWalk;
 use qvt_base::list_fault::ListFault;
 use qvt_base::seq::Seq;
 use qvt_tree_types::tree::Expr;
@@ -15,19 +15,19 @@ use qvt_types_data::ty::Ty;
 use qvt_types_rules::context::Context;
 use qvt_types_rules::leaves::class_given;
 use qvt_types_rules::parts::no_path;
-use qvt_types_states::state::State;
+use qvt_types_states::state::TypingState;
 use qvt_types_steps::classes::ClassPart;
 use qvt_typing::parts::Given;
 
 #[tactic(auto, unfolding(qvt_typing::specs::Phrases::exprs))]
-pub fn exprs<C: Nested>(
+pub fn exprs<C: NestedWalk>(
     x: &Context<'_>,
     inside: &C,
     nodes: &[Expr],
-    state: &mut State,
+    state: &mut TypingState,
 ) -> Result<Seq<Option<Ty>>, ListFault>
     requires { C.ready inside.now }
-    ensures { Does (rule.in_order (phrase.exprs (seen x.now) (view.exprs_of (map view.expr_view nodes.now))) state.old) result state.new }
+    ensures { GivesAndLeaves (rule.in_order (phrase.exprs (seen x.now) (view.exprs_of (map view.expr_view nodes.now))) state.old) result state.new }
 {
     let mut types = Seq::new(x.alloc);
     for node in nodes {
@@ -38,14 +38,14 @@ pub fn exprs<C: Nested>(
 }
 
 /// An argument that is to be a class.
-fn class_argument<C: Nested>(
+fn class_argument<C: NestedWalk>(
     x: &Context<'_>,
     inside: &C,
     node: &Expr,
-    state: &mut State,
+    state: &mut TypingState,
 ) -> Result<ClassPart, ListFault>
     requires { C.ready inside.now }
-    ensures { Does (rule.class_argument (seen x.now) (phrase.class_path (view.expr_view node.now)) (phrase.expr (seen x.now) false (view.expr_view node.now)) state.old) result state.new }
+    ensures { GivesAndLeaves (rule.class_argument (seen x.now) (phrase.class_path (view.expr_view node.now)) (phrase.expr (seen x.now) false (view.expr_view node.now)) state.old) result state.new }
 {
     match node {
         Expr::Path(names) => class_given(x, names, state),
@@ -57,14 +57,14 @@ fn class_argument<C: Nested>(
 }
 
 #[tactic(auto, unfolding(qvt_typing::specs::Phrases::classes))]
-pub fn classes<C: Nested>(
+pub fn classes<C: NestedWalk>(
     x: &Context<'_>,
     inside: &C,
     nodes: &[Expr],
-    state: &mut State,
+    state: &mut TypingState,
 ) -> Result<Seq<ClassPart>, ListFault>
     requires { C.ready inside.now }
-    ensures { Does (rule.in_order (phrase.classes (seen x.now) (view.exprs_of (map view.expr_view nodes.now))) state.old) result state.new }
+    ensures { GivesAndLeaves (rule.in_order (phrase.classes (seen x.now) (view.exprs_of (map view.expr_view nodes.now))) state.old) result state.new }
 {
     let mut parts = Seq::new(x.alloc);
     for node in nodes {
@@ -74,28 +74,28 @@ pub fn classes<C: Nested>(
     Ok(parts)
 }
 
-fn written_expr<C: Nested>(
+fn written_expr<C: NestedWalk>(
     x: &Context<'_>,
     inside: &C,
     node: &Expr,
-    state: &mut State,
+    state: &mut TypingState,
 ) -> Result<Given, ListFault>
     requires { C.ready inside.now }
-    ensures { Does (rule.is_written (phrase.expr (seen x.now) false (view.expr_view node.now)) state.old) result state.new }
+    ensures { GivesAndLeaves (rule.is_written (phrase.expr (seen x.now) false (view.expr_view node.now)) state.old) result state.new }
 {
     let ty = inside.expr(x, false, node, state)?;
     Ok(Given { is_given: true, ty })
 }
 
 #[tactic(auto, unfolding(qvt_typing::specs::Phrases::given_expr))]
-pub fn given_expr<C: Nested>(
+pub fn given_expr<C: NestedWalk>(
     x: &Context<'_>,
     inside: &C,
     node: &Option<Expr>,
-    state: &mut State,
+    state: &mut TypingState,
 ) -> Result<Given, ListFault>
     requires { C.ready inside.now }
-    ensures { Does (phrase.given_expr (seen x.now) (view.optional_expr (option_map view.expr_view node.now)) state.old) result state.new }
+    ensures { GivesAndLeaves (phrase.given_expr (seen x.now) (view.optional_expr (option_map view.expr_view node.now)) state.old) result state.new }
 {
     match node {
         None => Ok(Given {
@@ -107,14 +107,14 @@ pub fn given_expr<C: Nested>(
 }
 
 #[tactic(auto, unfolding(qvt_typing::specs::Phrases::given_expr))]
-pub fn given_boxed<C: Nested>(
+pub fn given_boxed<C: NestedWalk>(
     x: &Context<'_>,
     inside: &C,
     node: &Option<Box<Expr>>,
-    state: &mut State,
+    state: &mut TypingState,
 ) -> Result<Given, ListFault>
     requires { C.ready inside.now }
-    ensures { Does (phrase.given_expr (seen x.now) (view.optional_expr (option_map (λ e. view.expr_view e.value) node.now)) state.old) result state.new }
+    ensures { GivesAndLeaves (phrase.given_expr (seen x.now) (view.optional_expr (option_map (λ e. view.expr_view e.value) node.now)) state.old) result state.new }
 {
     match node {
         None => Ok(Given {

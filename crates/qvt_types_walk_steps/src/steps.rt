@@ -3,34 +3,34 @@
 ghost use Rattle.std.specs.Prelude.{map};
 ghost use Rattle.qvt_tree_types.specs.View as view;
 ghost use Rattle.qvt_types_rules.specs.Seen.{seen};
-ghost use Rattle.qvt_types_states.specs.Does.{Does};
+ghost use Rattle.qvt_types_states.specs.Does.{GivesAndLeaves};
 ghost use Rattle.qvt_typing.specs.Phrases as phrase;
 ghost use Rattle.qvt_typing.specs.Rules as rule;
 
 use crate::arrows::arrowed;
 use crate::calls::{called, map_step, model_step, property_step};
-use crate::nested::Nested;
+use crate::nested::NestedWalk;
 use crate::resolves::resolve_step;
 use qvt_base::list_fault::ListFault;
 use qvt_tree_types::tree::Step;
 use qvt_types_data::ty::Ty;
 use qvt_types_rules::context::Context;
 use qvt_types_rules::parts::is_last;
-use qvt_types_states::state::State;
+use qvt_types_states::state::TypingState;
 use qvt_types_steps::resolves::Joint;
 
 #[tactic(auto, unfolding(qvt_typing::specs::Phrases::step))]
-fn step<C: Nested>(
+fn step<C: NestedWalk>(
     x: &Context<'_>,
     inside: &C,
     late: bool,
     is_model: bool,
     step: &Step,
     source: &Option<Ty>,
-    state: &mut State,
+    state: &mut TypingState,
 ) -> Result<Option<Ty>, ListFault>
     requires { C.ready inside.now }
-    ensures { Does (phrase.step (seen x.now) late is_model (view.step_view step.now) source.now state.old) result state.new }
+    ensures { GivesAndLeaves (phrase.step (seen x.now) late is_model (view.step_view step.now) source.now state.old) result state.new }
 {
     match step {
         Step::Dot { name, args, place } => match args {
@@ -69,17 +69,17 @@ fn step<C: Nested>(
 
 /// Steps, each on what is before it: a late resolve may be the last, an operation of a model the first.
 #[tactic(auto, unfolding(qvt_typing::specs::Phrases::steps))]
-pub fn all_steps<C: Nested>(
+pub fn all_steps<C: NestedWalk>(
     x: &Context<'_>,
     inside: &C,
     late: bool,
     is_model: bool,
     first: Option<Ty>,
     list: &[Step],
-    state: &mut State,
+    state: &mut TypingState,
 ) -> Result<Option<Ty>, ListFault>
     requires { C.ready inside.now }
-    ensures { Does (rule.beside first (phrase.steps (seen x.now) late is_model (view.steps_of (map view.step_view list.now))) state.old) result state.new }
+    ensures { GivesAndLeaves (rule.beside first (phrase.steps (seen x.now) late is_model (view.steps_of (map view.step_view list.now))) state.old) result state.new }
 {
     let mut ty = first;
     let mut is_first = is_model;

@@ -7,8 +7,8 @@ use Rattle.qvt_ocl_types.specs.declared.op.Op.{Op}
 use Rattle.qvt_ocl_types.specs.Operation.{is_test, is_equality}
 use Rattle.qvt_ocl_types.specs.Table.{signature, listed}
 use Rattle.qvt_ocl_types.specs.Typing.{Taken, sort_of, accepts, answer_type}
-use Rattle.qvt_ocl_types.specs.declared.signature.Param.{Param}
-use Rattle.qvt_ocl_types.specs.declared.signature.Signature.{Signature}
+use Rattle.qvt_ocl_types.specs.declared.signature.ArgumentSort.{ArgumentSort}
+use Rattle.qvt_ocl_types.specs.declared.signature.OperationSignature.{OperationSignature}
 use Rattle.qvt_ocl_types.specs.declared.signature.Sort.{Sort}
 use Rattle.qvt_types_data.specs.Term.{TyTerm, ty_view, ty_of}
 use Rattle.qvt_types_data.specs.declared.ty.Ty.{Ty}
@@ -22,11 +22,11 @@ plain_types ts = map ty_view ts
 unfoldable pub answer : Metamodels → Op → Ty → List Ty → Option Ty
 answer m op t us = option_map ty_of (answer_type (descends m) op (ty_view t) (plain_types us))
 
-abbrev pub signature_at : Op → Option Sort → Option Signature
+abbrev pub signature_at : Op → Option Sort → Option OperationSignature
 signature_at op None = None
 signature_at op (Some s) = signature op s
 
-abbrev pub params_of : Option Signature → Option ℕ
+abbrev pub params_of : Option OperationSignature → Option ℕ
 params_of None = None
 params_of (Some s) = Some (length (listed s.params))
 
@@ -42,6 +42,6 @@ abbrev pub accepted_view : Accepted → Taken
 accepted_view a = record { kind = a.kind; joined = ty_view a.joined }
 
 -- what is taken of the other arguments, after what was taken of those before them
-abbrev pub after : (ℕ → ℕ → Bool) → List Param → List TyTerm → Option Taken → Option Taken
+abbrev pub after : (ℕ → ℕ → Bool) → List ArgumentSort → List TyTerm → Option Taken → Option Taken
 after below ps Us None = None
 after below ps Us (Some t) = accepts below ps t.kind t.joined Us

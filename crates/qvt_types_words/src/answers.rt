@@ -17,7 +17,9 @@ use qvt_base::copied::Copied;
 use qvt_base::list_fault::ListFault;
 use qvt_metas::metas::Metas;
 use qvt_ocl_types::op::Op;
-use qvt_ocl_types::signature::{Answer, Demand, Kinds, Param, Params, Signature, Sort};
+use qvt_ocl_types::signature::{
+    AnswerType, ArgumentSort, ArgumentSorts, Demand, Kinds, OperationSignature, Sort,
+};
 use qvt_ocl_types::table::signature;
 use qvt_types_data::boxed::Boxed;
 use qvt_types_data::kinds::{kind_of, word_of};
@@ -92,7 +94,7 @@ fn accept_items(
     before: Accepted,
     given: &Ty,
 ) -> Result<Option<Accepted>, ListFault>
-    ensures { IfOk result (λ o. option_map accepted_view o ≡ typing.accepts (descends metas.now) (Param.Items kinds ∷ []) before.kind (ty_view before.joined) (ty_view given.now ∷ [])) }
+    ensures { IfOk result (λ o. option_map accepted_view o ≡ typing.accepts (descends metas.now) (ArgumentSort.Items kinds ∷ []) before.kind (ty_view before.joined) (ty_view given.now ∷ [])) }
 {
     let Ty::Coll(word, item) = given else {
         return Ok(None);
@@ -114,7 +116,7 @@ fn accept_item(
     before: Accepted,
     given: &Ty,
 ) -> Result<Option<Accepted>, ListFault>
-    ensures { IfOk result (λ o. option_map accepted_view o ≡ typing.accepts (descends metas.now) (Param.Item ∷ []) before.kind (ty_view before.joined) (ty_view given.now ∷ [])) }
+    ensures { IfOk result (λ o. option_map accepted_view o ≡ typing.accepts (descends metas.now) (ArgumentSort.Item ∷ []) before.kind (ty_view before.joined) (ty_view given.now ∷ [])) }
 {
     match joined(alloc, metas, &before.joined, given)? {
         None => Ok(None),
@@ -135,17 +137,17 @@ fn kept_if(conforms: bool, before: Accepted) -> Option<Accepted>
 fn accept_one(
     alloc: Global,
     metas: &Metas,
-    param: Param,
+    param: ArgumentSort,
     before: Accepted,
     given: &Ty,
 ) -> Result<Option<Accepted>, ListFault>
     ensures { IfOk result (λ o. option_map accepted_view o ≡ typing.accepts (descends metas.now) (param ∷ []) before.kind (ty_view before.joined) (ty_view given.now ∷ [])) }
 {
     match param {
-        Param::Integer => Ok(kept_if(conforms(metas, given, &Ty::Integer), before)),
-        Param::Text => Ok(kept_if(conforms(metas, given, &Ty::Str), before)),
-        Param::Item => accept_item(alloc, metas, before, given),
-        Param::Items(kinds) => accept_items(alloc, metas, kinds, before, given),
+        ArgumentSort::Integer => Ok(kept_if(conforms(metas, given, &Ty::Integer), before)),
+        ArgumentSort::Text => Ok(kept_if(conforms(metas, given, &Ty::Str), before)),
+        ArgumentSort::Item => accept_item(alloc, metas, before, given),
+        ArgumentSort::Items(kinds) => accept_items(alloc, metas, kinds, before, given),
     }
 }
 
@@ -154,7 +156,7 @@ fn accept_one(
 fn accept_last(
     alloc: Global,
     metas: &Metas,
-    param: Param,
+    param: ArgumentSort,
     before: Accepted,
     args: &[Ty],
 ) -> Result<Option<Accepted>, ListFault>
@@ -176,7 +178,7 @@ fn accept_last(
 fn accept_after(
     alloc: Global,
     metas: &Metas,
-    param: Param,
+    param: ArgumentSort,
     before: Option<Accepted>,
     args: &[Ty],
 ) -> Result<Option<Accepted>, ListFault>
@@ -193,8 +195,8 @@ fn accept_after(
 fn accept_pair(
     alloc: Global,
     metas: &Metas,
-    first: Param,
-    second: Param,
+    first: ArgumentSort,
+    second: ArgumentSort,
     before: Accepted,
     given: &Ty,
     others: &[Ty],
@@ -211,8 +213,8 @@ fn accept_pair(
 fn accept_two(
     alloc: Global,
     metas: &Metas,
-    first: Param,
-    second: Param,
+    first: ArgumentSort,
+    second: ArgumentSort,
     before: Accepted,
     args: &[Ty],
 ) -> Result<Option<Accepted>, ListFault>
@@ -231,19 +233,19 @@ fn accept_two(
 fn accept_all(
     alloc: Global,
     metas: &Metas,
-    params: Params,
+    params: ArgumentSorts,
     before: Accepted,
     args: &[Ty],
 ) -> Result<Option<Accepted>, ListFault>
     ensures { IfOk result (λ o. option_map accepted_view o ≡ typing.accepts (descends metas.now) (listed params) before.kind (ty_view before.joined) (answers.plain_types args.now)) }
 {
     match params {
-        Params::None => match args {
+        ArgumentSorts::None => match args {
             [] => Ok(Some(before)),
             [_, ..] => Ok(None),
         },
-        Params::One(param) => accept_last(alloc, metas, param, before, args),
-        Params::Two(first, second) => accept_two(alloc, metas, first, second, before, args),
+        ArgumentSorts::One(param) => accept_last(alloc, metas, param, before, args),
+        ArgumentSorts::Two(first, second) => accept_two(alloc, metas, first, second, before, args),
     }
 }
 
@@ -294,19 +296,19 @@ fn innermost_item(alloc: Global, t: &Ty) -> Result<Ty, ListFault>
 }
 
 /// The type of the answer, by the item type of the source and what the arguments came to.
-fn type_of(alloc: Global, answer: Answer, item: &Ty, taken: Accepted) -> Result<Ty, ListFault>
+fn type_of(alloc: Global, answer: AnswerType, item: &Ty, taken: Accepted) -> Result<Ty, ListFault>
     ensures { IfOk result (λ t. ty_view t ≡ type_of answer (ty_view item.now) taken.kind (ty_view taken.joined)) }
 {
     match answer {
-        Answer::Boolean => Ok(Ty::Boolean),
-        Answer::Integer => Ok(Ty::Integer),
-        Answer::Text => Ok(Ty::Str),
-        Answer::Texts => collection(alloc, Kind::Sequence, Ty::Str),
-        Answer::Item => item.copy(alloc),
-        Answer::Items(kind) => collection(alloc, kind, item.copy(alloc)?),
-        Answer::Innermost(kind) => collection(alloc, kind, innermost_item(alloc, item)?),
-        Answer::Joined(kind) => collection(alloc, kind, taken.into_joined()),
-        Answer::Common(kind) => {
+        AnswerType::Boolean => Ok(Ty::Boolean),
+        AnswerType::Integer => Ok(Ty::Integer),
+        AnswerType::Text => Ok(Ty::Str),
+        AnswerType::Texts => collection(alloc, Kind::Sequence, Ty::Str),
+        AnswerType::Item => item.copy(alloc),
+        AnswerType::Items(kind) => collection(alloc, kind, item.copy(alloc)?),
+        AnswerType::Innermost(kind) => collection(alloc, kind, innermost_item(alloc, item)?),
+        AnswerType::Joined(kind) => collection(alloc, kind, taken.into_joined()),
+        AnswerType::Common(kind) => {
             let common = common_kind(kind, taken.kind);
             collection(alloc, common, item.copy(alloc)?)
         }
@@ -317,7 +319,7 @@ fn type_of(alloc: Global, answer: Answer, item: &Ty, taken: Accepted) -> Result<
 fn signed(
     alloc: Global,
     metas: &Metas,
-    signature: Signature,
+    signature: OperationSignature,
     kind: Kind,
     item: &Ty,
     args: &[Ty],
@@ -341,7 +343,7 @@ fn signed(
 fn by_signature(
     alloc: Global,
     metas: &Metas,
-    signature: Signature,
+    signature: OperationSignature,
     source: &Ty,
     args: &[Ty],
 ) -> Result<Option<Ty>, ListFault>
@@ -506,13 +508,13 @@ pub fn answer(
 }
 
 /// How many arguments a row of the table takes.
-fn count(params: Params) -> usize
+fn count(params: ArgumentSorts) -> usize
     ensures { result ≡ length (listed params) }
 {
     match params {
-        Params::None => 0,
-        Params::One(_) => 1,
-        Params::Two(_, _) => 2,
+        ArgumentSorts::None => 0,
+        ArgumentSorts::One(_) => 1,
+        ArgumentSorts::Two(_, _) => 2,
     }
 }
 

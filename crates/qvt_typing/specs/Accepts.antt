@@ -6,7 +6,7 @@ use Rattle.qvt_metamodel.specs.Metamodels.{Metamodels}
 use Rattle.qvt_tree_types.specs.Module.{ModuleTerm, UnitTerm}
 use Rattle.qvt_types_units.specs.Classes.{own_classes, read_classes, above_told, extended_by, typed_flags}
 use Rattle.qvt_types_units.specs.Written.{all_declared, classes_told}
-use Rattle.qvt_types_data.specs.declared.refusal.Refusal.{Refusal}
+use Rattle.qvt_types_data.specs.declared.refusal.TypingRefusal.{TypingRefusal}
 use Rattle.qvt_types_data.specs.declared.refusal.RefusalKind.{RefusalKind}
 use Rattle.qvt_types_data.specs.declared.refusal.RefusalKind.TheVariants as refusal
 use Rattle.qvt_types_laws.specs.JoinModule.{joined}
@@ -14,15 +14,15 @@ use Rattle.qvt_types_nodes.specs.Module.{TypedModuleTerm}
 use Rattle.qvt_types_units.specs.ModelTypes.{NamedTypes, type_names, model_types_told}
 use Rattle.qvt_types_units.specs.Models.{models, models_told}
 use Rattle.qvt_types_states.specs.Judge.{Judges, ◌>>=◌, gives, writes_nothing}
-use Rattle.qvt_types_states.specs.declared.state.State.{State}
+use Rattle.qvt_types_states.specs.declared.state.TypingState.{TypingState}
 use Rattle.qvt_types_units.specs.Reuse.{unit_reuses}
 use Rattle.qvt_types_units.specs.Signatures.{signatures}
 use Rattle.qvt_types_units.specs.Units.{head_told, same_told, overrides_told, lists_told, main_told}
-use Rattle.qvt_typing.specs.Context.{Heads}
+use Rattle.qvt_typing.specs.Context.{DeclaredHeads}
 use Rattle.qvt_typing.specs.Units.{units}
 
 -- what the heads declare
-abbrev pub heads_with : Metamodels → ModuleTerm → NamedTypes → Heads
+abbrev pub heads_with : Metamodels → ModuleTerm → NamedTypes → DeclaredHeads
 heads_with m t names = record {
   given = m;
   metas = extended_by m names (read_classes (own_classes (all_declared m names t.units)));
@@ -33,14 +33,14 @@ heads_with m t names = record {
   flags = typed_flags (read_classes (own_classes (all_declared m names t.units)));
 }
 
-unfoldable pub heads_of : Metamodels → ModuleTerm → Heads
+unfoldable pub heads_of : Metamodels → ModuleTerm → DeclaredHeads
 heads_of m t = heads_with m t (type_names m t.model_types t.units)
 
-abbrev pub reuse_lists : Heads → List UnitTerm → List (List ℕ)
+abbrev pub reuse_lists : DeclaredHeads → List UnitTerm → List (List ℕ)
 reuse_lists h us = map (unit_reuses h.given h.types h.units) us
 
 -- what is told of the heads
-unfoldable pub heads_told : Heads → ModuleTerm → List Refusal
+unfoldable pub heads_told : DeclaredHeads → ModuleTerm → List TypingRefusal
 heads_told h t =
     model_types_told h.given [] t.model_types
     ++ models_told h.types [] t.params
@@ -57,14 +57,14 @@ bare_notes [] = gives tt
 bare_notes (x ∷ xs) = writes_nothing >>= (λ _. bare_notes xs)
 
 -- all nodes, in text order
-abbrev pub whole : Heads → ModuleTerm → Judges (Unit {0})
+abbrev pub whole : DeclaredHeads → ModuleTerm → Judges (Unit {0})
 whole h t = bare_notes t.model_types >>= (λ _. bare_notes t.params >>= (λ _. units h 0 t.units))
 
 -- after what is told of the heads
-abbrev pub start : List Refusal → State
+abbrev pub start : List TypingRefusal → TypingState
 start told = record { scope = record { named = []; sources = [] }; next = 0; log = told; notes = [] }
 
-unfoldable pub judged : Heads → ModuleTerm → State
+unfoldable pub judged : DeclaredHeads → ModuleTerm → TypingState
 judged h t = (whole h t (start (heads_told h t))).1
 
 -- the order of the refusals
@@ -92,32 +92,32 @@ rank refusal.BadDisjunct = 20
 rank refusal.ModelUse = 21
 rank refusal.NoMain = 22
 
-abbrev pub comes_before : Refusal → Refusal → Bool
+abbrev pub comes_before : TypingRefusal → TypingRefusal → Bool
 comes_before r s = nat_lt r.place.offset s.place.offset || ((r.place.offset == s.place.offset) && nat_lt (rank r.kind) (rank s.kind))
 
-abbrev pub sooner : Option Refusal → Refusal → Refusal
+abbrev pub sooner : Option TypingRefusal → TypingRefusal → TypingRefusal
 sooner None r = r
 sooner (Some s) r = if comes_before r s then r else s
 
-abbrev pub least_from : Option Refusal → List Refusal → Option Refusal
+abbrev pub least_from : Option TypingRefusal → List TypingRefusal → Option TypingRefusal
 least_from first [] = first
 least_from first (r ∷ rs) = least_from (Some (sooner first r)) rs
 
 -- the one before which no other comes
-abbrev pub least : List Refusal → Option Refusal
+abbrev pub least : List TypingRefusal → Option TypingRefusal
 least rs = least_from None rs
 
 pub record ProgramTerm : Type 0 where
   pub module_ : TypedModuleTerm
-  pub heads : Heads
+  pub heads : DeclaredHeads
 
-abbrev pub accepted : Heads → TypedModuleTerm → Option Refusal → Result ProgramTerm Refusal
+abbrev pub accepted : DeclaredHeads → TypedModuleTerm → Option TypingRefusal → Result ProgramTerm TypingRefusal
 accepted h t None = Ok (record { module_ = t; heads = h })
 accepted h t (Some r) = Err r
 
-abbrev pub accepted_by : Heads → ModuleTerm → State → Result ProgramTerm Refusal
+abbrev pub accepted_by : DeclaredHeads → ModuleTerm → TypingState → Result ProgramTerm TypingRefusal
 accepted_by h t s = accepted h (joined t s.notes) (least s.log)
 
 -- the program, or the refusal that is told
-unfoldable pub accepts : Metamodels → ModuleTerm → Result ProgramTerm Refusal
+unfoldable pub accepts : Metamodels → ModuleTerm → Result ProgramTerm TypingRefusal
 accepts m t = accepted_by (heads_of m t) t (judged (heads_of m t) t)

@@ -22,7 +22,7 @@ use Rattle.qvt_types_steps.specs.Rulings.{variable_wrong, property_wrong}
 use Rattle.qvt_types_steps.specs.Types.{value_type}
 use Rattle.qvt_typing.specs.declared.parts.Aim.{Aim}
 use Rattle.qvt_typing.specs.declared.parts.Aim.TheVariants.{Nowhere, UntypedProperty, UntypedVariable, Fixed, VariableOf, Property}
-use Rattle.qvt_typing.specs.Context.{Heads, Context}
+use Rattle.qvt_typing.specs.Context.{DeclaredHeads, TypingContext}
 use Rattle.qvt_typing.specs.Names.{result_name, model_named}
 
 abbrev pub variable_aim : List ℕ → VariableSort → Option Ty → Aim
@@ -32,15 +32,15 @@ variable_aim name sort.Parameter (Some t) = Fixed
 variable_aim name sort.Iterator (Some t) = Fixed
 variable_aim name sort.Implicit (Some t) = Fixed
 
-abbrev pub property_aim : Heads → Option (List ℕ) → FeatureNo → Aim
+abbrev pub property_aim : DeclaredHeads → Option (List ℕ) → FeatureNo → Aim
 property_aim h source f = if is_typed h.first h.flags f.0 then Property source f else UntypedProperty
 
-abbrev pub feature_aim : Heads → Option (List ℕ) → Option FeatureNo → Aim → Aim
+abbrev pub feature_aim : DeclaredHeads → Option (List ℕ) → Option FeatureNo → Aim → Aim
 feature_aim h source None otherwise = otherwise
 feature_aim h source (Some f) otherwise = property_aim h source f
 
 -- the property of an object of a class
-abbrev pub class_aim : Heads → Option (List ℕ) → List ℕ → ClassPart → Aim → Aim
+abbrev pub class_aim : DeclaredHeads → Option (List ℕ) → List ℕ → ClassPart → Aim → Aim
 class_aim h source name (part.Class c) otherwise = feature_aim h source (feature_named h.metas c.0 name) otherwise
 class_aim h source name part.Untyped otherwise = UntypedProperty
 class_aim h source name part.Missing otherwise = otherwise
@@ -55,7 +55,7 @@ known_aim name (Some k) otherwise = variable_aim name k.sort k.ty
 
 -- a bare name: a variable, else a property of the innermost object expression's object, else one of the object of `result`, which
 -- is written out as the implicit source
-unfoldable pub bare_aim : Context → ScopeTerm → List ℕ → Aim
+unfoldable pub bare_aim : TypingContext → ScopeTerm → List ℕ → Aim
 bare_aim x s name =
     known_aim name (found name s)
     (class_aim x.heads None name x.object
@@ -68,7 +68,7 @@ result_aim sets part.Untyped = UntypedVariable
 result_aim sets part.Missing = Nowhere
 
 -- a property of an object that an expression gives
-abbrev pub member_aim : Heads → List ℕ → Option Ty → Aim
+abbrev pub member_aim : DeclaredHeads → List ℕ → Option Ty → Aim
 member_aim h name None = UntypedProperty
 member_aim h name (Some t) = feature_aim h None (feature_in h.metas t name) Nowhere
 
@@ -82,7 +82,7 @@ aim_read (VariableOf name t) = plain (reading.Variable name) None
 aim_read (Property source f) = record { reading = reading.Feature f; source = source; wrap = false; collect = false; answer = None }
 aim_read _ = unread
 
-abbrev pub aimed_wrong : Heads → Bool → Aim → Ty → Option RefusalKind
+abbrev pub aimed_wrong : DeclaredHeads → Bool → Aim → Ty → Option RefusalKind
 aimed_wrong h adds Nowhere t = None
 aimed_wrong h adds UntypedProperty t = None
 aimed_wrong h adds UntypedVariable t = None
@@ -91,7 +91,7 @@ aimed_wrong h adds (VariableOf name u) t = variable_wrong h.metas adds u t
 aimed_wrong h adds (Property source f) t = property_wrong h.metas adds (is_single h.metas f.0) (value_type (shape_of h.metas f.0).kind) t
 
 -- what is told of an assignment of a value
-abbrev pub assign_wrong : Heads → Bool → Aim → Option Ty → Option RefusalKind
+abbrev pub assign_wrong : DeclaredHeads → Bool → Aim → Option Ty → Option RefusalKind
 assign_wrong h adds a None = None
 assign_wrong h adds a (Some t) = aimed_wrong h adds a t
 

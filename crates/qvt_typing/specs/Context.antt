@@ -13,7 +13,7 @@ use Rattle.qvt_types_steps.specs.declared.classes.ClassPart.{ClassPart}
 use Rattle.qvt_types_units.specs.declared.signature.Signature.{Signature}
 
 -- what the heads of a transformation declare
-pub record Heads : Type 0 where
+pub record DeclaredHeads : Type 0 where
   -- the metamodels of the job, and these with Element and the intermediate classes
   pub given : Metamodels
   pub metas : Metamodels
@@ -26,20 +26,20 @@ pub record Heads : Type 0 where
   pub flags : List Bool
 
 -- what a `return` may have
-pub data Returns : Type 0 where
-  NoValue : Returns
+pub data ReturnRule : Type 0 where
+  NoValue : ReturnRule
   -- a value of the answer type, if that is known
-  Value : Option Ty → Returns
+  Value : Option Ty → ReturnRule
   -- no `return` may stand there
-  Never : Returns
+  Never : ReturnRule
 
-pub record Context : Type 0 where
-  pub heads : Heads
+pub record TypingContext : Type 0 where
+  pub heads : DeclaredHeads
   -- in a query, a `when`, or the body of an iterator other than collect and collectNested: nothing is made or changed
   pub pure : Bool
   -- in the condition of a resolve
   pub plain : Bool
-  pub returns : Returns
+  pub returns : ReturnRule
   -- the classes of `self` and of `result`, Missing where there is none
   pub self : ClassPart
   pub result : ClassPart
@@ -49,12 +49,12 @@ pub record Context : Type 0 where
   pub object : ClassPart
   pub owner : ClassPart
 
-abbrev pub is_typed_reading : Heads → Reading → Bool
+abbrev pub is_typed_reading : DeclaredHeads → Reading → Bool
 is_typed_reading h (reading.Feature f) = is_typed h.first h.flags f.0
 is_typed_reading h r = true
 
 -- a property of an intermediate class whose type is unknown leaves what reads it without a type
-abbrev pub unless_untyped : Heads → Ruling → Ruling
+abbrev pub unless_untyped : DeclaredHeads → Ruling → Ruling
 unless_untyped h (Holds r) = if is_typed_reading h r.reading then Holds r else Silent
 unless_untyped h (Fails kind) = Fails kind
 unless_untyped h Silent = Silent

@@ -23,7 +23,7 @@ use Rattle.qvt_types_names.specs.Names.{model_or}
 use Rattle.qvt_types_steps.specs.declared.classes.ClassPart.{ClassPart}
 use Rattle.qvt_types_steps.specs.declared.classes.ClassPart.TheVariants as part
 use Rattle.qvt_value.specs.declared.value.LiteralRef.{LiteralRef}
-use Rattle.qvt_typing.specs.Context.{Heads}
+use Rattle.qvt_typing.specs.Context.{DeclaredHeads}
 
 -- The names of what has none in a text.
 
@@ -92,7 +92,7 @@ result_ruled c = held_ruled result_name refusal.ResultPlace c
 
 -- A name alone.
 
-abbrev pub model_named : Heads → List ℕ → Option ℕ
+abbrev pub model_named : DeclaredHeads → List ℕ → Option ℕ
 model_named h name = position (bytes_eq name) h.models.names
 
 abbrev pub known_or : List ℕ → Option Known → Ruling → Ruling
@@ -100,11 +100,11 @@ known_or name None otherwise = otherwise
 known_or name (Some k) otherwise = variable_ruled name k.ty
 
 -- a model stands as the source of a model's operation alone, and has no type
-unfoldable pub name_ruled : Heads → Bool → ScopeTerm → List ℕ → Ruling
+unfoldable pub name_ruled : DeclaredHeads → Bool → ScopeTerm → List ℕ → Ruling
 name_ruled h is_source s name = known_or name (found name s) (model_or h.metas h.first h.flags is_source s.sources name (model_named h name))
 
 -- a path of more names is a literal
-abbrev pub path_ruled : Heads → Bool → ScopeTerm → List (List ℕ) → Ruling
+abbrev pub path_ruled : DeclaredHeads → Bool → ScopeTerm → List (List ℕ) → Ruling
 path_ruled h is_source s (a ∷ []) = name_ruled h is_source s a
 path_ruled h is_source s path = literal_ruled (path_literal h.given h.types path)
 
@@ -114,6 +114,6 @@ is_model None None = false
 is_model (Some k) o = false
 
 -- the path is the name of a model, and of no variable
-abbrev pub names_model : Heads → ScopeTerm → List (List ℕ) → Bool
+abbrev pub names_model : DeclaredHeads → ScopeTerm → List (List ℕ) → Bool
 names_model h s (a ∷ []) = is_model (found a s) (model_named h a)
 names_model h s path = false

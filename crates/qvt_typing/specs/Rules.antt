@@ -51,7 +51,7 @@ use Rattle.qvt_types_units.specs.Reuse.{listed}
 use Rattle.qvt_types_units.specs.declared.signature.HeadClass.{HeadClass}
 use Rattle.qvt_types_units.specs.declared.signature.HeadClass.TheVariants as head
 use Rattle.qvt_types_steps.specs.Rulings as ruling
-use Rattle.qvt_typing.specs.Context.{Context, unless_untyped}
+use Rattle.qvt_typing.specs.Context.{TypingContext, unless_untyped}
 use Rattle.qvt_typing.specs.Names.{source, unnamed, class_type, made_read, variable_ruled, type_ruled, class_ruled, class_found, self_ruled, result_ruled, path_ruled}
 use Rattle.qvt_typing.specs.Calls.{called_alone, called_behind, call_ruled, unit_ruled, map_ruled, numbers_of, unless_wrong, effect_of, not_pure, not_plain}
 use Rattle.qvt_typing.specs.declared.parts.Given.{Given}
@@ -248,7 +248,7 @@ declare_filter (Some name) c at = declare name (record { sort = sort.Iterator; t
 abbrev pub late_told : Bool → Bool → Read → Place → Judges (Unit {0})
 late_told allowed late r at = if is_some r.answer && (late && not allowed) then tell refusal.LatePlace at else gives tt
 
-module _ (x : Context) where
+module _ (x : TypingContext) where
   -- what a node does to a run is told of it where it has a type, which it keeps
   abbrev pub effect_told : Effect → Read → Place → Judges (Unit {0})
   effect_told e r at = if is_some r.answer then checked (not_pure x e) at >>= (λ _. checked (not_plain x e) at) else gives tt

@@ -12,7 +12,7 @@ use Rattle.qvt_types_data.specs.declared.ty.Ty.{Ty}
 use Rattle.qvt_types_data.specs.declared.ty.Ty.TheVariants as ty
 use Rattle.qvt_types_data.specs.declared.variable.VariableSort.TheVariants as sort
 use Rattle.qvt_types_states.specs.Judge.{Judges, ◌>>=◌, gives, scope, scoped, checked, declare, marks, writes_nothing}
-use Rattle.qvt_types_steps.specs.Calls.{is_single}
+use Rattle.qvt_types_steps.specs.Calls.{is_single_type}
 use Rattle.qvt_types_states.specs.declared.scope.Known.{Known}
 use Rattle.qvt_types_steps.specs.Iterators.{item_type, iterator_type, iterator_wrong}
 use Rattle.qvt_types_steps.specs.Types.{conforms}
@@ -23,7 +23,7 @@ use Rattle.qvt_typing.specs.declared.parts.Aim.{Aim}
 use Rattle.qvt_typing.specs.declared.parts.Effect.TheVariants.{ImpureOne}
 use Rattle.qvt_typing.specs.declared.parts.Given.{Given}
 use Rattle.qvt_typing.specs.Rules.{all, all_types}
-use Rattle.qvt_typing.specs.Context.{Context, Returns, NoValue, Value, Never}
+use Rattle.qvt_typing.specs.Context.{TypingContext, ReturnRule, NoValue, Value, Never}
 
 -- each part in order
 abbrev pub each : List (Judges (Unit {0})) → Judges (Unit {0})
@@ -37,7 +37,7 @@ aimed missing at a = checked (nowhere_told missing a) at >>= (λ _. marks (aim_r
 -- a loop over a single value wraps it
 abbrev pub wraps : Option Ty → Read
 wraps None = unread
-wraps (Some t) = record { reading = reading.Nothing; source = None; wrap = is_single t; collect = false; answer = None }
+wraps (Some t) = record { reading = reading.Nothing; source = None; wrap = is_single_type t; collect = false; answer = None }
 
 abbrev pub has_type : Given → Bool
 has_type g = not g.is_given || is_some g.ty
@@ -45,7 +45,7 @@ has_type g = not g.is_given || is_some g.ty
 abbrev pub for_each_known : Option Ty → Given → Known
 for_each_known i k = record { sort = sort.Settable; ty = iterator_type k.is_given k.ty i }
 
-module _ (x : Context) where
+module _ (x : TypingContext) where
   -- what is declared in a block is in scope there
   unfoldable pub block : List (Judges (Unit {0})) → Judges (Unit {0})
   block ps = scoped (each ps)
@@ -86,7 +86,7 @@ module _ (x : Context) where
   conforms_told None v = None
   conforms_told (Some u) None = None
 
-  abbrev pub return_told : Returns → Bool → Option Ty → Option RefusalKind
+  abbrev pub return_told : ReturnRule → Bool → Option Ty → Option RefusalKind
   return_told (Value u) true v = conforms_told u v
   return_told (Value u) false v = Some refusal.BadReturn
   return_told NoValue false v = None

@@ -5,7 +5,7 @@ use qvt_base::text::Text;
 use qvt_types_data::note::UnitNoList;
 use qvt_types_data::ty::Ty;
 use qvt_types_steps::classes::ClassPart;
-use qvt_types_units::choice::Found;
+use qvt_types_units::choice::FoundUnit;
 
 /// What a node does to a run.
 #[derive(Clone, Copy, Debug, PartialEq, Eq)]
@@ -95,7 +95,7 @@ impl Drop for Aim {
 
 /// What a call by a name finds, the units that it then chooses among, and its implicit source.
 pub struct Called {
-    pub found: Found,
+    pub found: FoundUnit,
     pub units: UnitNoList,
     pub source: Option<Text>,
 }

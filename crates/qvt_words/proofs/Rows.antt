@@ -6,7 +6,7 @@ use Rattle.std.specs.Str.{bytes_eq}
 use Rattle.std.proofs.lemmas.Slice.Eq.{bytes_eq-Decides}
 use Rattle.qvt_words.specs.declared.class.Class.{Class}
 use Rattle.qvt_words.specs.declared.class.Class.TheVariants.{Name}
-use Rattle.qvt_words.specs.Words.{spelling, words, single_signs, double_signs, found, word_of, is_reserved, is_single, is_double}
+use Rattle.qvt_words.specs.Words.{spelling, words, single_signs, double_signs, found, word_of, is_reserved, is_single_sign, is_double_sign}
 
 both : (a b : Bool) → (a && b) ≡ true → (a ≡ true) × (b ≡ true)
 both true b h = (refl, h)
@@ -25,12 +25,12 @@ module _ (good : List ℕ → Bool) where
     by true e k more = ap good ((bytes_eq-Decides u (spelling c)).0 e) ∙ (both (good (spelling c)) (all_good cs) h).0
     by false e k more = more k
 
-  pub of_single : (c : ℕ) → all_good single_signs ≡ true → is_single c ≡ true → good (c ∷ []) ≡ true
-  unfolding is_single
+  pub of_single : (c : ℕ) → all_good single_signs ≡ true → is_single_sign c ≡ true → good (c ∷ []) ≡ true
+  unfolding is_single_sign
   of_single c h k = spelled single_signs (c ∷ []) h k
 
-  pub of_double : (c d : ℕ) → all_good double_signs ≡ true → is_double c d ≡ true → good (c ∷ d ∷ []) ≡ true
-  unfolding is_double
+  pub of_double : (c d : ℕ) → all_good double_signs ≡ true → is_double_sign c d ≡ true → good (c ∷ d ∷ []) ≡ true
+  unfolding is_double_sign
   of_double c d h k = spelled double_signs (c ∷ d ∷ []) h k
 
 -- the class that is found is one of the classes

@@ -123,8 +123,8 @@ unfoldable pub sign_of : List ℕ → Option Class
 sign_of text = option_or (found text single_signs) (found text double_signs)
 
 -- whether a character, or two, are a sign: their spellings are ASCII, where a byte is a character
-unfoldable pub is_single : ℕ → Bool
-is_single c = list_any (λ class. bytes_eq (c ∷ []) (spelling class)) single_signs
+unfoldable pub is_single_sign : ℕ → Bool
+is_single_sign c = list_any (λ class. bytes_eq (c ∷ []) (spelling class)) single_signs
 
-unfoldable pub is_double : ℕ → ℕ → Bool
-is_double c d = list_any (λ class. bytes_eq (c ∷ d ∷ []) (spelling class)) double_signs
+unfoldable pub is_double_sign : ℕ → ℕ → Bool
+is_double_sign c d = list_any (λ class. bytes_eq (c ∷ d ∷ []) (spelling class)) double_signs

@@ -251,17 +251,17 @@ fn is_two(text: &str, c: char, d: char) -> bool
 }
 
 /// Whether the character is a sign.
-#[tactic(auto, unfolding(crate::specs::Words::is_single))]
-pub fn is_single(c: char) -> bool
-    ensures { result ≡ table.is_single c }
+#[tactic(auto, unfolding(crate::specs::Words::is_single_sign))]
+pub fn is_single_sign(c: char) -> bool
+    ensures { result ≡ table.is_single_sign c }
 {
     SINGLE_SIGNS.iter().any(|class| is_one(spelling(*class), c))
 }
 
 /// Whether the two characters are a sign.
-#[tactic(auto, unfolding(crate::specs::Words::is_double))]
-pub fn is_double(c: char, d: char) -> bool
-    ensures { result ≡ table.is_double c d }
+#[tactic(auto, unfolding(crate::specs::Words::is_double_sign))]
+pub fn is_double_sign(c: char, d: char) -> bool
+    ensures { result ≡ table.is_double_sign c d }
 {
     DOUBLE_SIGNS
         .iter()

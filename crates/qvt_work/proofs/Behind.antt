@@ -6,7 +6,7 @@ use Rattle.qvt_metamodel.specs.Metamodels.{Metamodels}
 use Rattle.qvt_inputs.specs.declared.loaded.Loaded.{Loaded}
 use Rattle.qvt_job.specs.declared.job.Job.{Job}
 use Rattle.qvt_meaning.specs.Accepts.{ProgramTerm}
-use Rattle.qvt_meaning.specs.Run.{Finished}
+use Rattle.qvt_meaning.specs.Run.{FinishedRun}
 use Rattle.qvt_run_data.specs.declared.exit.End.{End}
 use Rattle.qvt_meaning_report.specs.Meaning as means
 use Rattle.qvt_outcome.specs.Chain.{step}
@@ -65,11 +65,11 @@ asked_run words held file o asked e =
       (record { command = asked; job = a.1.0; metas = b.1.0; program = c.1.0; loaded = d.1.0 }, d.1.1),
     )
 
-ended_run : (r : JobRun) (o : Outcome) → left_over r.job r.program r.loaded.ids r.loaded.store ≡ Ok o → (f : Finished) × ((meant r ≡ means.Done f) × (o ≡ written_by r f))
+ended_run : (r : JobRun) (o : Outcome) → left_over r.job r.program r.loaded.ids r.loaded.store ≡ Ok o → (f : FinishedRun) × ((meant r ≡ means.Done f) × (o ≡ written_by r f))
 unfolding meant written_by
 ended_run r o e = left_done r.job r.program r.loaded.ids (means.meaning r.program r.loaded.store r.job.fuel) o e
 
-pub behind : (words : List (List ℕ)) (held : Held) → IsOk (work words held).answer → (file : List ℕ) → command_of words ≡ Some (run file) → (r : JobRun) × ((f : Finished) × IsBehind words held r f)
+pub behind : (words : List (List ℕ)) (held : Held) → IsOk (work words held).answer → (file : List ℕ) → command_of words ≡ Some (run file) → (r : JobRun) × ((f : FinishedRun) × IsBehind words held r f)
 behind words held h file asked =
     let o = some_value (work words held).answer h in
     let a = asked_run words held file o.0 asked (given words held file o.0 asked o.1) in
@@ -77,14 +77,14 @@ behind words held h file asked =
     (a.0, (b.0, record { asked = a.1.0; done = b.1.0; written = ap settled o.1 ∙ b.1.1 }))
 
 -- what is so of each run that is behind an outcome
-of_run : (words : List (List ℕ)) (held : Held) (P : JobRun → Finished → Type 0) → IsOk (work words held).answer → ((r : JobRun) (f : Finished) → IsBehind words held r f → P r f) → IsOfRun words held P
+of_run : (words : List (List ℕ)) (held : Held) (P : JobRun → FinishedRun → Type 0) → IsOk (work words held).answer → ((r : JobRun) (f : FinishedRun) → IsBehind words held r f → P r f) → IsOfRun words held P
 of_run words held P h so file asked =
     let b = behind words held h file asked in
     (b.0, (b.1.0, (b.1.1, so b.0 b.1.0 b.1.1)))
 
 -- Its trace.
 
-recorded : (r : JobRun) (f : Finished) → meant r ≡ means.Done f → HasOneRecordEach r f
+recorded : (r : JobRun) (f : FinishedRun) → meant r ≡ means.Done f → HasOneRecordEach r f
 unfolding meant HasOneRecordEach
 recorded r f e = (keyed_run r.program r.loaded.store r.job.fuel f e, recorded_run r.program r.loaded.store r.job.fuel f e)
 
@@ -113,14 +113,14 @@ module _ (words : List (List ℕ)) (held : Held) (r : JobRun) (n : ℕ) (asked :
   unfolding run_with
   ran_with = goes_on (job_read r.file) (λ j. after_job r.file (with_fuel j n)) held r.job asked.job ∙ after_job_with
 
-left_with : (r : JobRun) (f : Finished) (n : ℕ) → meant r ≡ means.Done f
+left_with : (r : JobRun) (f : FinishedRun) (n : ℕ) → meant r ≡ means.Done f
     → left_over (with_fuel r.job n) r.program r.loaded.ids r.loaded.store ≡ (if nat_lt n f.cost then Err (out_of_fuel n) else Ok (written_by r f))
 unfolding meant written_by
 left_with r f n e =
     ap (left (with_fuel r.job n) r.program r.loaded.ids) (meaning_is_exact r.program r.loaded.store r.job.fuel n f e)
     ∙ left_by r.job n r.program r.loaded.ids (nat_lt n f.cost) f
 
-exact : (words : List (List ℕ)) (held : Held) (r : JobRun) (f : Finished) → IsAsked words held r → meant r ≡ means.Done f → HasExactCost held r f
+exact : (words : List (List ℕ)) (held : Held) (r : JobRun) (f : FinishedRun) → IsAsked words held r → meant r ≡ means.Done f → HasExactCost held r f
 unfolding HasExactCost outcome_with
 exact words held r f asked e = λ n. ap settled (ran_with words held r n asked ∙ left_with r f n e) ∙ settled_by (nat_lt n f.cost) (out_of_fuel n) (written_by r f)
 
@@ -149,9 +149,9 @@ module _ (words : List (List ℕ)) (held : Held) (r : JobRun) (asked : IsAsked w
   unfolding PerformedConforms
   of_inputs h = value_of (program_inputs r.program r.job.inputs held).answer r.loaded (λ l. EndConforms r.job r.program l.store) asked.loaded h
 
-leaves : (r : JobRun) (f : Finished) → meant r ≡ means.Done f → EndConforms r.job r.program r.loaded.store → ModelsConform r f
+leaves : (r : JobRun) (f : FinishedRun) → meant r ≡ means.Done f → EndConforms r.job r.program r.loaded.store → ModelsConform r f
 unfolding meant EndConforms ModelsConform
-leaves r f e h = subst (λ (x : Result Finished End). LeavesConforming x r.job.outputs) (done_run r.program r.loaded.store r.job.fuel f e).0 h
+leaves r f e h = subst (λ (x : Result FinishedRun End). LeavesConforming x r.job.outputs) (done_run r.program r.loaded.store r.job.fuel f e).0 h
 
 pub runs_conform : RunsConform
 runs_conform words held h conform = of_run words held ModelsConform h (λ r f b.

@@ -7,7 +7,7 @@ use Rattle.qvt_tree_types.specs.declared.module.ModelParam.{ModelParam}
 use Rattle.qvt_job.specs.Parameters.{mismatch, is_served}
 use Rattle.qvt_job.specs.declared.job.Job.{Job}
 use Rattle.qvt_meaning.specs.Accepts.{ProgramTerm}
-use Rattle.qvt_meaning.specs.Run.{Finished}
+use Rattle.qvt_meaning.specs.Run.{FinishedRun}
 use Rattle.qvt_meaning_report.specs.Lines.{done_line}
 use Rattle.qvt_meaning_report.specs.Meaning as means
 use Rattle.qvt_outcome.specs.Chain.{Chain, step, ◌>=>◌, read_step}
@@ -53,21 +53,21 @@ module _ (job : Job) (n : ℕ) where
     unfolding left
     out_of_fuel_left = refl
 
-    same_files : (f : Finished) → files_left (with_fuel job n) p ids f ≡ files_left job p ids f
+    same_files : (f : FinishedRun) → files_left (with_fuel job n) p ids f ≡ files_left job p ids f
     same_files f = refl
 
-    done_left : (f : Finished) → left (with_fuel job n) p ids (means.Done f) ≡ Ok (done (files_left job p ids f) (done_line f))
+    done_left : (f : FinishedRun) → left (with_fuel job n) p ids (means.Done f) ≡ Ok (done (files_left job p ids f) (done_line f))
     unfolding left
     done_left f = ap (λ files. Ok (done files (done_line f))) (same_files f)
 
     -- what is left by a meaning that hangs on a test
-    pub left_by : (b : Bool) (f : Finished) → left (with_fuel job n) p ids (if b then means.OutOfFuel else means.Done f) ≡ (if b then Err (out_of_fuel n) else Ok (done (files_left job p ids f) (done_line f)))
+    pub left_by : (b : Bool) (f : FinishedRun) → left (with_fuel job n) p ids (if b then means.OutOfFuel else means.Done f) ≡ (if b then Err (out_of_fuel n) else Ok (done (files_left job p ids f) (done_line f)))
     left_by true f = out_of_fuel_left
     left_by false f = done_left f
 
 -- where something is left to be written the meaning is done
-pub left_done : (job : Job) (p : ProgramTerm) (ids : List (Option (List ℕ))) (m : means.Outcome) (o : Outcome) → left job p ids m ≡ Ok o
-    → (f : Finished) × ((m ≡ means.Done f) × (o ≡ done (files_left job p ids f) (done_line f)))
+pub left_done : (job : Job) (p : ProgramTerm) (ids : List (Option (List ℕ))) (m : means.RunOutcome) (o : Outcome) → left job p ids m ≡ Ok o
+    → (f : FinishedRun) × ((m ≡ means.Done f) × (o ≡ done (files_left job p ids f) (done_line f)))
 unfolding left
 left_done job p ids (means.Fault k at) o e = absurd (no_value _ o e)
 left_done job p ids means.OutOfFuel o e = absurd (no_value _ o e)

@@ -2,7 +2,7 @@
 use Rattle.std.proofs.Common.{◌≡◌, refl, ap, Bool, true, false, if◌then◌else◌, Result, Ok, Err}
 use Rattle.std.specs.Prelude.{IsOk}
 use Rattle.qvt_base.specs.Outside.{Held}
-use Rattle.qvt_outcome.specs.Chain.{Reading, Chain, on_ok, ◌>=>◌}
+use Rattle.qvt_outcome.specs.Chain.{FileReading, Chain, on_ok, ◌>=>◌}
 use Rattle.qvt_outcome.specs.Outcome.{Outcome}
 use Rattle.qvt_outcome.specs.Steps.{settled}
 
@@ -18,7 +18,7 @@ module _ {A E : Type 0} where
   some_value (Err e) h = absurd (cc)
 
 module _ {A B : Type 0} where
-  first_value : (r : Result A Outcome) (f : A → Reading B) (y : B) → (on_ok r f).answer ≡ Ok y → (x : A) × ((r ≡ Ok x) × ((f x).answer ≡ Ok y))
+  first_value : (r : Result A Outcome) (f : A → FileReading B) (y : B) → (on_ok r f).answer ≡ Ok y → (x : A) × ((r ≡ Ok x) × ((f x).answer ≡ Ok y))
   first_value (Ok x) f y e = (x, (refl, e))
   first_value (Err o) f y e = absurd (no_value o y e)
 

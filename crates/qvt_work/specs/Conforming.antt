@@ -6,16 +6,16 @@ use Rattle.qvt_metamodel.specs.Metamodels.{Metamodels}
 use Rattle.qvt_slots.specs.Contents.{Contents}
 use Rattle.qvt_job.specs.declared.job.Job.{Job}
 use Rattle.qvt_meaning.specs.Accepts.{ProgramTerm}
-use Rattle.qvt_meaning.specs.Run.{Finished, finished}
+use Rattle.qvt_meaning.specs.Run.{FinishedRun, finished}
 use Rattle.qvt_outputs.specs.Conforming.{AreConforming, LeavesConforming}
 use Rattle.qvt_program_inputs.specs.Start.{program_inputs}
 use Rattle.qvt_work.specs.Metas.{metamodels_read}
 use Rattle.qvt_work.specs.Run.{job_read, text_read}
 use Rattle.qvt_work.specs.Runs.{JobRun}
-use Rattle.qvt_work.specs.Words.{Command, run, check, print}
+use Rattle.qvt_work.specs.Words.{CommandWords, run, check, print}
 
 -- the text of each output of the job is read as a model of its metamodel, and that has no fault
-unfoldable pub ModelsConform : JobRun → Finished → Type 0
+unfoldable pub ModelsConform : JobRun → FinishedRun → Type 0
 ModelsConform r f = AreConforming f.after r.job.outputs
 
 -- so are the outputs of a job where the run of its program over a loaded store ends well
@@ -39,7 +39,7 @@ unfoldable pub RunConforms : List ℕ → Held → Type 0
 RunConforms name held = IfOk (job_read name held).answer (λ job. AfterJobConforms name job held)
 
 -- `check` and `print` write no model
-abbrev pub CommandConforms : Command → Held → Type 0
+abbrev pub CommandConforms : CommandWords → Held → Type 0
 CommandConforms (run name) held = RunConforms name held
 CommandConforms (check metamodel model) held = ⊤
 CommandConforms (print name) held = ⊤

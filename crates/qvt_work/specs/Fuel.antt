@@ -5,7 +5,7 @@ use Rattle.qvt_base.specs.Outside.{Held}
 use Rattle.qvt_slots.specs.Contents.{Contents}
 use Rattle.qvt_job.specs.declared.job.Job.{Job}
 use Rattle.qvt_meaning.specs.Accepts.{ProgramTerm}
-use Rattle.qvt_meaning.specs.Run.{Finished}
+use Rattle.qvt_meaning.specs.Run.{FinishedRun}
 use Rattle.qvt_meaning_report.specs.Meaning as means
 use Rattle.qvt_outcome.specs.Chain.{Chain, ◌>=>◌}
 use Rattle.qvt_outcome.specs.Outcome.{Outcome, out_of_fuel}
@@ -26,10 +26,10 @@ unfoldable pub outcome_with : ℕ → List ℕ → Held → Outcome
 outcome_with n file held = settled (run_with n file held).answer
 
 -- with n in place of its fuel the run has the same files and the same line, or is out of fuel where n is less than the cost
-unfoldable pub HasExactCost : Held → JobRun → Finished → Type 0
+unfoldable pub HasExactCost : Held → JobRun → FinishedRun → Type 0
 HasExactCost held r f = (n : ℕ) → outcome_with n r.file held ≡ (if nat_lt n f.cost then out_of_fuel n else written_by r f)
 
 -- The same of what a program means.
 abbrev pub MeaningIsExact : Type 0
-MeaningIsExact = (p : ProgramTerm) (store : Contents) (fuel n : ℕ) (f : Finished) → means.meaning p store fuel ≡ means.Done f
+MeaningIsExact = (p : ProgramTerm) (store : Contents) (fuel n : ℕ) (f : FinishedRun) → means.meaning p store fuel ≡ means.Done f
     → means.meaning p store n ≡ (if nat_lt n f.cost then means.OutOfFuel else means.Done f)

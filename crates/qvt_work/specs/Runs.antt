@@ -5,7 +5,7 @@ use Rattle.qvt_metamodel.specs.Metamodels.{Metamodels}
 use Rattle.qvt_inputs.specs.declared.loaded.Loaded.{Loaded}
 use Rattle.qvt_job.specs.declared.job.Job.{Job}
 use Rattle.qvt_meaning.specs.Accepts.{ProgramTerm}
-use Rattle.qvt_meaning.specs.Run.{Finished}
+use Rattle.qvt_meaning.specs.Run.{FinishedRun}
 use Rattle.qvt_meaning_report.specs.Lines.{done_line}
 use Rattle.qvt_meaning_report.specs.Meaning as means
 use Rattle.qvt_outcome.specs.Outcome.{Outcome, done}
@@ -33,19 +33,19 @@ pub record IsAsked (words : List (List ℕ)) (held : Held) (r : JobRun) : Type 0
   pub loaded : (program_inputs r.program r.job.inputs held).answer ≡ Ok r.loaded
 
 -- what its program means over its inputs with the fuel of the job
-unfoldable pub meant : JobRun → means.Outcome
+unfoldable pub meant : JobRun → means.RunOutcome
 meant r = means.meaning r.program r.loaded.store r.job.fuel
 
 -- where it has ended so: the files of its models and of its trace, and the line
-unfoldable pub written_by : JobRun → Finished → Outcome
+unfoldable pub written_by : JobRun → FinishedRun → Outcome
 written_by r f = done (files_left r.job r.program r.loaded.ids f) (done_line f)
 
 -- the words ask for this run, it is done so, and their outcome is what it writes
-pub record IsBehind (words : List (List ℕ)) (held : Held) (r : JobRun) (f : Finished) : Type 0 where
+pub record IsBehind (words : List (List ℕ)) (held : Held) (r : JobRun) (f : FinishedRun) : Type 0 where
   pub asked : IsAsked words held r
   pub done : meant r ≡ means.Done f
   pub written : job words held ≡ written_by r f
 
 -- where the words ask for a run: one is behind their outcome, and this is so of it
-abbrev pub IsOfRun : List (List ℕ) → Held → (JobRun → Finished → Type 0) → Type 0
-IsOfRun words held P = (file : List ℕ) → command_of words ≡ Some (run file) → (r : JobRun) × ((f : Finished) × (IsBehind words held r f × P r f))
+abbrev pub IsOfRun : List (List ℕ) → Held → (JobRun → FinishedRun → Type 0) → Type 0
+IsOfRun words held P = (file : List ℕ) → command_of words ≡ Some (run file) → (r : JobRun) × ((f : FinishedRun) × (IsBehind words held r f × P r f))

@@ -2,13 +2,13 @@
 use Rattle.std.specs.Prelude.{ℕ, List, [], ◌∷◌, Option, Some, None, if◌then◌else◌, codes}
 use Rattle.std.specs.Str.{bytes_eq}
 
-pub data Command : Type 0 where
-  run : List ℕ → Command
-  check : List ℕ → List ℕ → Command
-  print : List ℕ → Command
+pub data CommandWords : Type 0 where
+  run : List ℕ → CommandWords
+  check : List ℕ → List ℕ → CommandWords
+  print : List ℕ → CommandWords
 
 -- `run JOB`, `check METAMODEL MODEL` and `print FILE`; every other list of words is no command
-unfoldable pub command_of : List (List ℕ) → Option Command
+unfoldable pub command_of : List (List ℕ) → Option CommandWords
 command_of [] = None
 command_of (word ∷ []) = None
 command_of (word ∷ file ∷ []) = if bytes_eq word (codes "run") then Some (run file) else if bytes_eq word (codes "print") then Some (print file) else None

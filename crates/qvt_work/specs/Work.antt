@@ -7,14 +7,14 @@ use Rattle.qvt_outcome.specs.Outcome.{Outcome, usage}
 use Rattle.qvt_work.specs.Printing.{print_of}
 use Rattle.qvt_work.specs.Run.{run_of}
 use Rattle.qvt_outcome.specs.Steps.{settled}
-use Rattle.qvt_work.specs.Words.{Command, run, check, print, command_of}
+use Rattle.qvt_work.specs.Words.{CommandWords, run, check, print, command_of}
 
-abbrev pub work_of : Command → Chain Outcome
+abbrev pub work_of : CommandWords → Chain Outcome
 work_of (run name) = run_of name
 work_of (check metamodel model) = check_of metamodel model
 work_of (print name) = print_of name
 
-abbrev pub work_or_usage : Option Command → Chain Outcome
+abbrev pub work_or_usage : Option CommandWords → Chain Outcome
 work_or_usage None = step (Ok usage)
 work_or_usage (Some command) = work_of command
 

@@ -18,7 +18,7 @@ use Rattle.qvt_slots.specs.Repeats.{repeats}
 use Rattle.qvt_slots.proofs.Lists.{past_end}
 use Rattle.qvt_model.specs.declared.data.SlotData.{SlotData}
 use Rattle.qvt_model.specs.declared.data.ObjectData.{ObjectData}
-use Rattle.qvt_model.specs.WellFormed.{object_at, no_object, ComeAfter, AreInOrder}
+use Rattle.qvt_model.specs.WellFormed.{object_at, no_object, ComeAfter, AreInNameOrder}
 use Rattle.qvt_model.proofs.Lists.{All-both, index-map}
 use Rattle.qvt_conform.specs.Containment.{refs, contents_of_slot, contents_of_slots, contents_of_object, contents}
 use Rattle.qvt_written.proofs.Datums.{back, count-app, absent, held_there, once}
@@ -104,7 +104,7 @@ module _ (m : Metamodels) (held : Slots) (at : ℕ → ℕ) (unique : (x f : ℕ
       let never : Equal ≡ Greater = sym (tied_itself nat_list_cmp_total name) ∙ greater in
       cc
 
-  once_slots : (x : ℕ) (ts : List SlotData) (j : ℕ) → AllByRecursion (IsOf x) ts → AreInOrder m ts → how_often j (contents_of_slots m ts) ≤ 1
+  once_slots : (x : ℕ) (ts : List SlotData) (j : ℕ) → AllByRecursion (IsOf x) ts → AreInNameOrder m ts → how_often j (contents_of_slots m ts) ≤ 1
   once_slots x [] j all order = omega arith
   once_slots x (t ∷ ts) j all order =
       let joined : how_often j (contents_of_slot m t ++ contents_of_slots m ts) ≡ how_often j (contents_of_slot m t) + how_often j (contents_of_slots m ts) = count-app j (contents_of_slot m t) (contents_of_slots m ts) in
@@ -121,7 +121,7 @@ module _ (m : Metamodels) (held : Slots) (at : ℕ → ℕ) (unique : (x f : ℕ
 
   -- ---- objects
 
-  module _ (os : List ObjectData) (all : (i : ℕ) → i < length os → AllByRecursion (IsOf (at i)) (object_at os i).slots) (order : (i : ℕ) → i < length os → AreInOrder m (object_at os i).slots)
+  module _ (os : List ObjectData) (all : (i : ℕ) → i < length os → AllByRecursion (IsOf (at i)) (object_at os i).slots) (order : (i : ℕ) → i < length os → AreInNameOrder m (object_at os i).slots)
       (apart : (i k : ℕ) → i < length os → k < length os → at i ≡ at k → i ≡ k) where
     lists_at : (i : ℕ) → slice_index_or (contents m os) i [] ≡ contents_of_object m (object_at os i)
     lists_at i = index-map (contents_of_object m) os i no_object

@@ -15,7 +15,7 @@ use Rattle.qvt_metamodel.proofs.Regular.{regular_of}
 use Rattle.qvt_relation.proofs.Bools.{and_left, and_right, and_both, and_false, or_cases, or_left, or_right, or_none, not_of_true, either, clash}
 use Rattle.qvt_slots.specs.Slots.{is_object, has}
 use Rattle.qvt_slots.specs.Repeats.{repeats}
-use Rattle.qvt_slots.specs.Assign.{is_beyond}
+use Rattle.qvt_slots.specs.Assign.{exceeds_bound}
 use Rattle.qvt_slots.proofs.Lists.{length-map}
 use Rattle.qvt_store.specs.Contents.{Contents, class_of, extent_at, is_live, is_model, slot_of, members_of}
 use Rattle.qvt_store.specs.Types.{is_of_kind}
@@ -28,7 +28,7 @@ use Rattle.qvt_model.specs.declared.data.SlotData.{SlotData}
 use Rattle.qvt_model.specs.declared.data.ObjectData.{ObjectData}
 use Rattle.qvt_model.specs.Extents.{place_of, datum_in, filled_slots, object_in, objects_from, data_of}
 use Rattle.qvt_model.specs.Items.{items_in}
-use Rattle.qvt_model.specs.WellFormed.{object_at, AreInOrder, IsObject, IsModel}
+use Rattle.qvt_model.specs.WellFormed.{object_at, AreInNameOrder, IsObjectIn, IsModel}
 use Rattle.qvt_model.proofs.Extents.{each-among, IsModel-data_of}
 use Rattle.qvt_model.proofs.Final.{not_own, all_at}
 use Rattle.qvt_model.proofs.Lists.{All-weaken}
@@ -56,7 +56,7 @@ unless b f n = ap (λ c. fault_if c f) n
 both_none : (a b : Option ConformFault) → a ≡ None → b ≡ None → or_next a b ≡ None
 both_none a b p q = ap (λ o. or_next o b) p ∙ q
 
-at_most : (n : ℕ) (u : Option ℕ) → is_beyond n u ≡ false → is_at_most n u ≡ true
+at_most : (n : ℕ) (u : Option ℕ) → exceeds_bound n u ≡ false → is_at_most n u ≡ true
 at_most n None h = refl
 at_most n (Some most) h = le-leb n most (ltb-false most n h)
 
@@ -117,7 +117,7 @@ module _ (s : Contents) (e : ℕ) (store : IsStore s) (sound : Sound s) (model :
   unfolding data_of
   is_data = IsModel-data_of s e store sound
 
-  is : (i : ℕ) → i < length os → IsObject m (extent_at s e).metamodel os (object_at os i)
+  is : (i : ℕ) → i < length os → IsObjectIn m (extent_at s e).metamodel os (object_at os i)
   is i l = all_at m (extent_at s e).metamodel os os i is_data.objects l
 
   live : (i : ℕ) → i < length xs → is_live s (at i) ≡ true
@@ -164,7 +164,7 @@ module _ (s : Contents) (e : ℕ) (store : IsStore s) (sound : Sound s) (model :
   items i f l = elim (either (has_feature m (class_of s (at i)) f)) [
     | inl h ↦ ap (λ (o : ObjectData). items_in f o.slots) (there i (inner i l)) ∙ items_are s xs (at i) f h
     | inr n ↦
-        let o : IsObject m (extent_at s e).metamodel os (object_at os i) = is i l in
+        let o : IsObjectIn m (extent_at s e).metamodel os (object_at os i) = is i l in
         not_own m os (object_at os i).class.0 f (object_at os i).slots o.slots (ap (λ c. has_feature m c f) (class i (inner i l)) ∙ n)
         ∙ sym (ap (filter_map (datum_in xs)) (no_slot i f n))
   ]
@@ -251,8 +251,8 @@ module _ (s : Contents) (e : ℕ) (store : IsStore s) (sound : Sound s) (model :
   far : (i k : ℕ) → i < length os → k < length os → at i ≡ at k → i ≡ k
   far i k l l' same = apart s e i k (inner i l) (inner k l') same
 
-  order : (i : ℕ) → i < length os → AreInOrder m (object_at os i).slots
-  order i l = let o : IsObject m (extent_at s e).metamodel os (object_at os i) = is i l in o.order
+  order : (i : ℕ) → i < length os → AreInNameOrder m (object_at os i).slots
+  order i l = let o : IsObjectIn m (extent_at s e).metamodel os (object_at os i) = is i l in o.order
 
   no_containment_fault : (i : ℕ) → i < length os → containment_fault (contents m os) i (object_at os i) ≡ None
   unfolding containment_fault

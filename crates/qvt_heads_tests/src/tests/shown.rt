@@ -4,7 +4,7 @@ use qvt_base::list_fault::ListFault;
 use qvt_base::text::Text;
 use qvt_metas::metas::Metas;
 use qvt_tree_types::words::CollKind;
-use qvt_types_data::refusal::{Refusal, RefusalKind};
+use qvt_types_data::refusal::{RefusalKind, TypingRefusal};
 use qvt_types_data::ty::Ty;
 use std::alloc::Global;
 use std::test::Fail;
@@ -57,7 +57,7 @@ pub fn kind_shown(alloc: Global, kind: RefusalKind) -> Result<Text, Fail> {
 }
 
 /// The refusals with their lines, in the order in which they were told.
-pub fn log_shown(alloc: Global, log: &[Refusal]) -> Result<Text, Fail> {
+pub fn log_shown(alloc: Global, log: &[TypingRefusal]) -> Result<Text, Fail> {
     let mut text = Text::new(alloc);
     if log.is_empty() {
         text.push_str("fine")?;

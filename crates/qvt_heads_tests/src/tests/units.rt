@@ -13,7 +13,7 @@ use qvt_types_lists::listed::listed;
 use qvt_types_lists::reuses::reuse_lists;
 use qvt_types_lists::traced::traced_name;
 use qvt_types_paths::model_types::{TypeNames, type_names};
-use qvt_types_units::choice::{Found, chosen};
+use qvt_types_units::choice::{FoundUnit, chosen};
 use qvt_types_units::overrides::is_bad_override;
 use qvt_types_units::reuse::{Reuse, is_bad_reuse};
 use qvt_types_units::signature::{HeadClass, Signature};
@@ -134,17 +134,17 @@ fn which_unit_is_chosen_for_a_class(rt: HostRuntime) -> Result<(), Fail> {
 
 /// Whether it is a mapping, its name, the static class, and what a call finds: where a class below that has objects has no single
 /// choice, the call has none.
-const CALLS: [(bool, &str, u32, Found); 10] = [
-    (false, "f", 0, Found::Unclear),
-    (false, "f", 1, Found::Unclear),
-    (false, "f", 3, Found::Unclear),
-    (false, "f", 4, Found::NoUnit),
-    (false, "g", 0, Found::Chosen(4)),
-    (false, "g", 3, Found::Chosen(4)),
-    (false, "u", 0, Found::Untyped),
-    (true, "m", 4, Found::Chosen(6)),
-    (true, "m", 2, Found::Chosen(7)),
-    (true, "absent", 2, Found::NoUnit),
+const CALLS: [(bool, &str, u32, FoundUnit); 10] = [
+    (false, "f", 0, FoundUnit::Unclear),
+    (false, "f", 1, FoundUnit::Unclear),
+    (false, "f", 3, FoundUnit::Unclear),
+    (false, "f", 4, FoundUnit::NoUnit),
+    (false, "g", 0, FoundUnit::Chosen(4)),
+    (false, "g", 3, FoundUnit::Chosen(4)),
+    (false, "u", 0, FoundUnit::Untyped),
+    (true, "m", 4, FoundUnit::Chosen(6)),
+    (true, "m", 2, FoundUnit::Chosen(7)),
+    (true, "absent", 2, FoundUnit::NoUnit),
 ];
 
 #[test]

@@ -21,7 +21,7 @@ use qvt_types_paths::models::{Models, all_models, tell_models};
 use qvt_types_paths::paths::{path_class, path_literal, path_type, written_type};
 use qvt_types_paths::told::RefusalList;
 use qvt_types_units::signatures::all_signatures;
-use qvt_types_units::telling::{Heads, tell_head};
+use qvt_types_units::telling::{HeadScope, tell_head};
 use std::alloc::Global;
 use std::test::Fail;
 
@@ -46,7 +46,7 @@ pub fn tree_of(alloc: Global, front: &str, units: &str) -> Result<Module, Fail> 
 /// Tells what is wrong with the units.
 fn tell_units(
     alloc: Global,
-    heads: &Heads<'_>,
+    heads: &HeadScope<'_>,
     tree: &Module,
     log: &mut RefusalList,
 ) -> Result<(), Fail> {
@@ -87,7 +87,7 @@ fn told(alloc: Global, given: &Metas, front: &str, units: &str) -> Result<Text, 
         tree.params.as_slice(),
     )?;
     let extended = with_classes(alloc, given, &types, units, &mut log)?;
-    let heads = Heads {
+    let heads = HeadScope {
         given,
         metas: &extended.metas,
         names: &types,

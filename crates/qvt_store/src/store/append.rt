@@ -24,7 +24,7 @@ use qvt_base::seq::Seq;
 use qvt_slots::commit::{Write, settle};
 use qvt_slots::draft::Draft;
 use qvt_slots::fault::StoreFault;
-use qvt_slots::features::{is_beyond, is_containment, is_linked, upper};
+use qvt_slots::features::{exceeds_bound, is_containment, is_linked, upper};
 use qvt_slots::object_list::Objects;
 use qvt_slots::put::push_value;
 use qvt_slots::values::{copied, holds, holds_value, is_plain};
@@ -289,7 +289,7 @@ impl Store {
         let Some(count) = self.list(object, feature).len().checked_add(1) else {
             return Err(StoreFault::NoMemory);
         };
-        if is_beyond(count, upper(&self.metas, feature)) {
+        if exceeds_bound(count, upper(&self.metas, feature)) {
             return Err(StoreFault::TooMany);
         }
         if !self.is_writable(object) {

@@ -5,7 +5,7 @@ ghost use Rattle.qvt_slots.specs.Change.{is_linked, objects_beyond};
 ghost use Rattle.qvt_slots.specs.Contents.{slot_of, with_slot};
 ghost use Rattle.qvt_metamodel.specs.Metamodels.{shape_of};
 ghost use Rattle.qvt_slots.specs.Assign.{assign, change_to, store_after};
-ghost use Rattle.qvt_slots.specs.Types.{IsAssignable, IsAttributeChange, IsPlain};
+ghost use Rattle.qvt_slots.specs.Types.{IsAssignable, IsAttributeChange, HasCodeType};
 ghost use Rattle.qvt_slots.specs.Repeats.{new_list};
 ghost use Rattle.qvt_slots.specs.Writes.{released_by, released_of};
 ghost use Rattle.qvt_store.specs.Ready.{IsKnown, Ready, StaysElsewhere};
@@ -94,7 +94,7 @@ impl Store {
     ) -> Result<(), StoreFault>
         requires { IsAssignable self.old object.0 feature.0 values.now }
         ensures ok { OnOk result (assign self.old object.0 feature.0 values.now ≡ Ok self.new) }
-        ensures plain { OnOk result (All IsPlain (new_list self.old.metas feature.0 values.now)) }
+        ensures plain { OnOk result (All HasCodeType (new_list self.old.metas feature.0 values.now)) }
         ensures refused { IfErr result (λ fault. fault ≢ StoreFault.NoMemory → assign self.old object.0 feature.0 values.now ≡ Err fault) }
         ensures err { OnErr result (self.new ≡ self.old) }
         ensures set { IsAttributeChange self.old object.0 feature.0 values.now → OnOk result (self.new ≡ with_slot self.old object.0 feature.0 values.now) }

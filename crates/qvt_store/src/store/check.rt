@@ -15,7 +15,7 @@ use qvt_base::list_fault::ListFault;
 use qvt_base::numbers::{FeatureNo, Oid};
 use qvt_slots::draft::Draft;
 use qvt_slots::fault::StoreFault;
-use qvt_slots::features::{is_beyond, is_container, is_containment, upper};
+use qvt_slots::features::{exceeds_bound, is_container, is_containment, upper};
 use qvt_slots::walk::is_under;
 use qvt_value::value::Value;
 use std::alloc::Global;
@@ -35,7 +35,7 @@ impl Store {
             None => Ok(false),
             Some(back) => {
                 let list = self.list_elsewhere(alloc, draft, added, back)?;
-                Ok(is_beyond(list.len(), upper(&self.metas, back)))
+                Ok(exceeds_bound(list.len(), upper(&self.metas, back)))
             }
         }
     }
@@ -59,7 +59,7 @@ impl Store {
         requires { RemovesHeld self.now draft.now }
         ensures { IfOk result (λ b. b ≡ is_overfilling (drafted self.now draft.now) count) }
     {
-        if is_beyond(count, upper(&self.metas, draft.feature)) {
+        if exceeds_bound(count, upper(&self.metas, draft.feature)) {
             return Ok(true);
         }
         let any = self.overfills_any(alloc, draft)?;

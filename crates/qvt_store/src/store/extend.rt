@@ -6,7 +6,7 @@ ghost use Rattle.qvt_slots.specs.declared.op.SetOp.{SetOp};
 ghost use Rattle.qvt_slots.specs.Contents.{slot_of};
 ghost use Rattle.qvt_slots.specs.Repeats.{new_list, AreUnique};
 ghost use Rattle.qvt_slots.specs.Assign.{change_to, store_after, write};
-ghost use Rattle.qvt_slots.specs.Types.{IsAssignable, IsPlain};
+ghost use Rattle.qvt_slots.specs.Types.{IsAssignable, HasCodeType};
 ghost use Rattle.qvt_slots.specs.Change.{is_linked, objects_beyond};
 ghost use Rattle.qvt_store.specs.Ready.{is_absent, IsKnown, IsLone, Ready};
 ghost use Rattle.qvt_store_laws.specs.Sound.{Sound};
@@ -22,7 +22,7 @@ use qvt_base::seq::Seq;
 use qvt_slots::commit::{Write, settle};
 use qvt_slots::draft::Draft;
 use qvt_slots::fault::StoreFault;
-use qvt_slots::features::{is_beyond, is_containment, upper};
+use qvt_slots::features::{exceeds_bound, is_containment, upper};
 use qvt_slots::object_list::Objects;
 use qvt_slots::put::push_values;
 use qvt_slots::values::{copied, new_list};
@@ -86,7 +86,7 @@ impl Store {
         ensures ok { OnOk result (write self.old object.0 feature.0 SetOp.Add values.now ≡ Ok self.new) }
         ensures refused { IfErr result (λ fault. fault ≢ StoreFault.NoMemory → write self.old object.0 feature.0 SetOp.Add values.now ≡ Err fault) }
         ensures err { OnErr result (self.new ≡ self.old) }
-        ensures plain { Sound self.old → OnOk result (All IsPlain (new_list self.old.metas feature.0 (slot_of self.old object.0 feature.0 ++ values.now))) }
+        ensures plain { Sound self.old → OnOk result (All HasCodeType (new_list self.old.metas feature.0 (slot_of self.old object.0 feature.0 ++ values.now))) }
     {
         let _unique = self.is_unique_feature(feature);
         if self.looks_through(feature, values) {
@@ -121,7 +121,7 @@ impl Store {
         ensures ok { OnOk result (write self.old object.0 feature.0 SetOp.Add values.now ≡ Ok self.new) }
         ensures refused { IfErr result (λ fault. fault ≢ StoreFault.NoMemory → write self.old object.0 feature.0 SetOp.Add values.now ≡ Err fault) }
         ensures err { OnErr result (self.new ≡ self.old) }
-        ensures plain { OnOk result (All IsPlain (new_list self.old.metas feature.0 (slot_of self.old object.0 feature.0 ++ values.now))) }
+        ensures plain { OnOk result (All HasCodeType (new_list self.old.metas feature.0 (slot_of self.old object.0 feature.0 ++ values.now))) }
     {
         let list = self.extended(alloc, object, feature, values)?;
         match self.assign_list(alloc, object, feature, list.as_slice()) {
@@ -184,7 +184,7 @@ impl Store {
     ) -> Result<Values, ListFault>
         requires { IsTrue (shape_of self.now.metas feature.0).unique → AreUnique self.now }
         ensures list { IfOk result (λ fresh. new_list self.now.metas feature.0 (slot_of self.now object.0 feature.0 ++ values.now) ≡ slot_of self.now object.0 feature.0 ++ fresh) }
-        ensures plain { IfOk result (All IsPlain) }
+        ensures plain { IfOk result (All HasCodeType) }
     {
         let unique = self.is_unique_feature(feature);
         let news = new_list(alloc, unique, values)?;
@@ -247,7 +247,7 @@ impl Store {
         let Some(count) = self.list(object, feature).len().checked_add(fresh.len()) else {
             return Err(StoreFault::NoMemory);
         };
-        if is_beyond(count, upper(&self.metas, feature)) {
+        if exceeds_bound(count, upper(&self.metas, feature)) {
             return Err(StoreFault::TooMany);
         }
         if !self.is_writable(object) {

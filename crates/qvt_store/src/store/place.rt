@@ -5,7 +5,7 @@ ghost use Rattle.qvt_metamodel.specs.Metamodels.{opposite};
 ghost use Rattle.qvt_slots.specs.Slots.{OppositesAgree};
 ghost use Rattle.qvt_slots.specs.Change.{is_some_feature};
 ghost use Rattle.qvt_slots.specs.Contents.{slot_of, with_slot};
-ghost use Rattle.qvt_slots.specs.Types.{IsPlain};
+ghost use Rattle.qvt_slots.specs.Types.{HasCodeType};
 ghost use Rattle.qvt_store_laws.specs.Place.{IsPlaceable, places_twice};
 ghost use Rattle.qvt_store_laws.specs.Sound.{Sound, SoundButOpposites, IsSoundList};
 ghost use Rattle.qvt_store_laws.specs.Stay.{StaysIn};
@@ -59,7 +59,7 @@ impl Store {
     ) -> Result<(), StoreFault>
         requires { IsPlaceable self.old object.0 feature.0 values.now }
         ensures ok { OnOk result (self.new ≡ with_slot self.old object.0 feature.0 values.now) }
-        ensures plain { OnOk result (All IsPlain values.now) }
+        ensures plain { OnOk result (All HasCodeType values.now) }
         ensures refused { IfErr result (λ fault. fault ≡ StoreFault.NoMemory) }
         ensures err { OnErr result (self.new ≡ self.old) }
     {

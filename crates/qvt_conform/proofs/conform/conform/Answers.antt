@@ -4,7 +4,7 @@ use Rattle.qvt_conform.specs.Containment.{contents}
 use Rattle.qvt_conform.specs.Joined.{Joined}
 use Rattle.qvt_conform.specs.Lacking.{faults_by}
 use Rattle.qvt_conform.specs.Links.{links_from}
-use Rattle.qvt_conform.specs.Results.{Tells}
+use Rattle.qvt_conform.specs.Results.{TellsFault}
 use Rattle.qvt_conform.proofs.Lackings.{IsLinked, conform_same, ordered}
 use Rattle.qvt_conform.proofs.conform.conform.Goals as goal
 
@@ -20,4 +20,4 @@ returns c =
       joined = subst (λ xs. Joined [] (links_from m 0 xs) ls) shown c.in_ok-links.ensures;
     } in
     let parts : c.in_ok-containment.containment.contents ≡ contents m os = c.in_ok-containment.ensures.contents ∙ ap (contents m) shown in
-    subst (Tells NoMemory c.faults.result) ((λ i. faults_by m ls (parts i) 0 (shown i)) ∙ conform_same m os ls linked) c.faults.ensures
+    subst (TellsFault NoMemory c.faults.result) ((λ i. faults_by m ls (parts i) 0 (shown i)) ∙ conform_same m os ls linked) c.faults.ensures

@@ -1,5 +1,5 @@
 use Rattle.std.proofs.Common.{◌∙◌, [], Option, ap, sym, subst, option_map}
-use Rattle.qvt_json.specs.Steps.{◌>>=◌, Gives, none_of}
+use Rattle.qvt_json.specs.Steps.{◌>>=◌, GivesStated, none_of}
 use Rattle.qvt_metamodel.specs.Checks.{ClassAndName}
 use Rattle.qvt_metamodel.specs.declared.fault.MetaFault.TheVariants.{NoMemory, UnknownType}
 use Rattle.qvt_meta.specs.MetaOf.{tell, classes_checked, types_checked}
@@ -19,5 +19,5 @@ returns-in-Some c = λ other.
 pub returns : goal.returns
 unfolding types_checked
 returns c = subst
-    (λ (o : Option ClassAndName). Gives NoMemory (λ read. read) c.classes_checked.result (none_of (option_map (tell UnknownType) o) >>= (λ passed. classes_checked c.args.meta)))
+    (λ (o : Option ClassAndName). GivesStated NoMemory (λ read. read) c.classes_checked.result (none_of (option_map (tell UnknownType) o) >>= (λ passed. classes_checked c.args.meta)))
     (sym c.in_default.is ∙ c.in_ok-class.ensures) c.classes_checked.ensures

@@ -4,6 +4,6 @@ use Rattle.qvt_meta_checks.proofs.names.names_with.Given as goal
 
 abbrev pub invariant-loop-item : goal.invariant-loop-item
 invariant-loop-item g l = record {
-  built : l.names ++ map g.T.Named.name_of (drop l.item-index l.items) ≡ l.initial.names ++ map g.T.Named.name_of l.items;
-  fresh : repeated l.names (map g.T.Named.name_of (drop l.item-index l.items)) ≡ None;
+  built : l.names ++ map g.T.WithName.name_of (drop l.item-index l.items) ≡ l.initial.names ++ map g.T.WithName.name_of l.items;
+  fresh : repeated l.names (map g.T.WithName.name_of (drop l.item-index l.items)) ≡ None;
 }

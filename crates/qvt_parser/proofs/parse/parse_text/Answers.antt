@@ -1,13 +1,13 @@
 use Rattle.std.proofs.Common.{◌≡◌, List, ℕ, sym, ◌∙◌, subst}
 use Rattle.qvt_base.specs.declared.numbers.Place.{Place}
 use Rattle.qvt_language.specs.Tokens.{toks_of}
-use Rattle.qvt_language.specs.declared.token.Token.{Token}
+use Rattle.qvt_language.specs.declared.token.SyntaxToken.{SyntaxToken}
 use Rattle.qvt_parser_tokens.specs.Text.{HasTokens}
 use Rattle.qvt_parser.proofs.Outcomes.{strings_fault, lexed_none, deep_none, one_of, none_of}
 use Rattle.qvt_parser.proofs.parse.parse_text.Goals as goal
 
 -- the slice has the tokens of the text
-has : (text : List ℕ) (end : Place) (slice all : List Token) → HasTokens text (toks_of all) end → slice ≡ all → HasTokens text (toks_of slice) end
+has : (text : List ℕ) (end : Place) (slice all : List SyntaxToken) → HasTokens text (toks_of all) end → slice ≡ all → HasTokens text (toks_of slice) end
 has text end slice all h e = subst (λ z. HasTokens text (toks_of z) end) (sym e) h
 
 pub returns-in_err-strings-clause-no_tree : goal.returns-in_err-strings-clause-no_tree

@@ -1,6 +1,6 @@
 use Rattle.std.proofs.Common.{◌≡◌, ◌++◌, ◌∷◌, [], map, refl, sym, ap, ◌∙◌, subst, append-nil}
 use Rattle.std.specs.Str.{chars}
-use Rattle.qvt_lexer.specs.Division.{Reads, data_of, start_at}
+use Rattle.qvt_lexer.specs.Division.{ReadsTokens, data_of, start_at}
 use Rattle.qvt_lexer.specs.declared.token.TokenKind.TheVariants.{Str}
 use Rattle.qvt_language.specs.Tokens.{toks_of}
 use Rattle.qvt_parser_tokens.specs.Said.{said, text_of}
@@ -12,7 +12,7 @@ use Rattle.qvt_parser_tokens.proofs.text.read.Goals as goal
 pub loop-token-init : goal.loop-token-init
 loop-token-init c = record {
   tokens = [];
-  reads = subst (λ z. Reads (start_at (chars c.args.text.now)) z []) (λ i. (sym c.new-lexer.ensures i).at) (record { pieces = []; divides = refl; tokens = refl; place = refl });
+  reads = subst (λ z. ReadsTokens (start_at (chars c.args.text.now)) z []) (λ i. (sym c.new-lexer.ensures i).at) (record { pieces = []; divides = refl; tokens = refl; place = refl });
   are = λ more e. (ap toks_of c.new-tokens.ensures, e);
 }
 

@@ -1,6 +1,6 @@
 use Rattle.std.proofs.Common.{◌≡◌, ◌++◌, ℕ, List, map, length}
 use Rattle.std.specs.Str.{chars}
-use Rattle.qvt_lexer.specs.Division.{TokenData, Reads, start_at}
+use Rattle.qvt_lexer.specs.Division.{TokenData, ReadsTokens, start_at}
 use Rattle.qvt_language.specs.Tokens.{toks_of}
 use Rattle.qvt_parser_tokens.specs.Said.{said}
 use Rattle.qvt_parser_tokens.specs.Whole.{strings_of}
@@ -10,7 +10,7 @@ use Rattle.qvt_parser_tokens.proofs.text.read.Given as goal
 abbrev pub invariant-loop-token : goal.invariant-loop-token
 invariant-loop-token l = record {
   tokens : List TokenData;
-  reads : Reads (start_at (chars l.fn.text)) l.lexer.at tokens;
+  reads : ReadsTokens (start_at (chars l.fn.text)) l.lexer.at tokens;
   are : (more : List (List ℕ)) → l.fn.strings ≡ strings_of tokens ++ more → (toks_of l.tokens ≡ map said tokens) × (l.left ≡ more);
 }
 

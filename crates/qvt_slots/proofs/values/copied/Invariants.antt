@@ -1,10 +1,10 @@
 use Rattle.std.proofs.Common.{◌≡◌, take}
 use Rattle.std.specs.Prelude.{All}
-use Rattle.qvt_slots.specs.Types.{IsPlain}
+use Rattle.qvt_slots.specs.Types.{HasCodeType}
 use Rattle.qvt_slots.proofs.values.copied.Given as goal
 
 abbrev pub invariant-loop-value : goal.invariant-loop-value
 invariant-loop-value l = record {
   same : l.copies ≡ take l.value-index l.values;
-  plain : All IsPlain l.copies;
+  plain : All HasCodeType l.copies;
 }

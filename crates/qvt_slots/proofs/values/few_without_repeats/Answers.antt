@@ -3,7 +3,7 @@ use Rattle.std.specs.Prelude.{All}
 use Rattle.std.specs.List.{list_any}
 use Rattle.std.proofs.lemmas.List.Elements.{All-push}
 use Rattle.qvt_value.specs.declared.value.Value.{Value}
-use Rattle.qvt_slots.specs.Types.{IsPlain}
+use Rattle.qvt_slots.specs.Types.{HasCodeType}
 use Rattle.qvt_value.specs.Kept.{is_same}
 use Rattle.qvt_value.specs.Order.{order_of}
 use Rattle.qvt_slots.proofs.Repeating.{without_step}
@@ -24,8 +24,8 @@ loop-value-preserved c = record {
             ∙ sym (ap (λ b. cond b c.loop-value.list (c.loop-value.list ++ get_or c.args.values.now c.loop-value.value-index c.value-item.result ∷ [])) w.if-not-holds_value.false)
       ]);
   plain = elim c.if-not-holds_value.branch [
-    | then-not-holds_value+in_ok-plain_copy+in_ok-push w ↦ subst (All IsPlain) (sym (w.list-is ∙ w.in_ok-push.ensures.ok))
-        (All-push IsPlain c.loop-value.list w.in_ok-plain_copy.field-0 c.loop-value.invariant.plain w.in_ok-plain_copy.ensures.plain)
-    | else-not-holds_value w ↦ subst (All IsPlain) (sym w.list-is) c.loop-value.invariant.plain
+    | then-not-holds_value+in_ok-plain_copy+in_ok-push w ↦ subst (All HasCodeType) (sym (w.list-is ∙ w.in_ok-push.ensures.ok))
+        (All-push HasCodeType c.loop-value.list w.in_ok-plain_copy.field-0 c.loop-value.invariant.plain w.in_ok-plain_copy.ensures.plain)
+    | else-not-holds_value w ↦ subst (All HasCodeType) (sym w.list-is) c.loop-value.invariant.plain
   ];
 }

@@ -3,7 +3,7 @@ use Rattle.std.proofs.lemmas.List.{append-nil}
 use Rattle.qvt_base.specs.declared.numbers.FeatureNo.{FeatureNo}
 use Rattle.qvt_metamodel.specs.Names.{repeated}
 use Rattle.qvt_meta_lists.specs.Lists.{all_lists}
-use Rattle.qvt_types_data.specs.declared.refusal.Refusal.{Refusal}
+use Rattle.qvt_types_data.specs.declared.refusal.TypingRefusal.{TypingRefusal}
 use Rattle.qvt_types_classes.specs.declared.declared.Declared.{Declared}
 use Rattle.qvt_types_classes.specs.declared.declared.Property.{Property}
 use Rattle.qvt_types_classes.specs.Inherited.{IsOwnLast, all_properties, are_apart, names_of, numbered_from, property_lists}
@@ -22,7 +22,7 @@ returns-then-apart-clause-told c =
     let properties = c.as_slice-3.ensures ∙ c.in_ok-properties.ensures ∙ ap all_properties c.as_slice-2.ensures in
     let fresh : repeated [] (names_of (all_properties c.args.classes)) ≡ None =
     apart_fresh (all_properties c.args.classes) (ap are_apart (sym properties) ∙ sym c.in_ok-apart.ensures ∙ c.if-apart.true) in
-    sym (ap (λ (rs : List Refusal). c.args.log.now ++ rs) (apart_told c.args.classes c.requires.acyclic fresh) ∙ append-nil c.args.log.now)
+    sym (ap (λ (rs : List TypingRefusal). c.args.log.now ++ rs) (apart_told c.args.classes c.requires.acyclic fresh) ∙ append-nil c.args.log.now)
 
 pub read_all-requires : goal.read_all-requires
 read_all-requires c = λ i d low.

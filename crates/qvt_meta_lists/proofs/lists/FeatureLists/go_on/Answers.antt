@@ -2,7 +2,7 @@ use Rattle.std.proofs.Common.{◌≡◌, ◌∙◌, [], ◌++◌, Option, Some, 
 use Rattle.std.specs.Prelude.{IfSome, OnOk, slice_set, slice_get}
 use Rattle.std.proofs.lemmas.List.{nil_from_length}
 use Rattle.std.proofs.lemmas.Bool.{eqb-true}
-use Rattle.qvt_meta_lists.specs.Lists.{all_lists, front_of, HasFront, IsFront}
+use Rattle.qvt_meta_lists.specs.Lists.{all_lists, front_of, HasFront, IsLineFront}
 use Rattle.qvt_meta_lists.proofs.Fronts.{followed_has, list_at, put_same}
 use Rattle.qvt_meta_lists.specs.declared.front.Front.{Front}
 use Rattle.qvt_meta_lists.proofs.lists.FeatureLists.go_on.Goals as goal
@@ -22,10 +22,10 @@ returns-then-front-len c =
     c.put_after.ensures
 
 pub put_begun-requires : goal.put_begun-requires
-put_begun-requires c = by c.front-begin.result (λ f e. subst (λ (o : Option Front). IfSome o (IsFront c.args.self.now.lines)) e c.front-begin.ensures.within) (λ f e. sym c.front-begin.ensures.value ∙ e)
+put_begun-requires c = by c.front-begin.result (λ f e. subst (λ (o : Option Front). IfSome o (IsLineFront c.args.self.now.lines)) e c.front-begin.ensures.within) (λ f e. sym c.front-begin.ensures.value ∙ e)
   where
-    by : (o : Option Front) → ((f : Front) → o ≡ Some f → IsFront c.args.self.now.lines f) → ((f : Front) → o ≡ Some f → slice_get c.args.self.now.fronts c.args.superclass ≡ Some f)
-        → IfSome o (λ f. IsFront c.args.self.now.lines f × HasFront c.in_ok-list.list f (front_of c.args.self.now.lines f))
+    by : (o : Option Front) → ((f : Front) → o ≡ Some f → IsLineFront c.args.self.now.lines f) → ((f : Front) → o ≡ Some f → slice_get c.args.self.now.fronts c.args.superclass ≡ Some f)
+        → IfSome o (λ f. IsLineFront c.args.self.now.lines f × HasFront c.in_ok-list.list f (front_of c.args.self.now.lines f))
     by None is at = tt
     by (Some f) is at = (
       is f refl,

@@ -3,7 +3,7 @@ use Rattle.std.specs.List.{list_any}
 use Rattle.qvt_value.specs.declared.value.Value.{Value}
 use Rattle.qvt_value.specs.Kept.{is_same}
 use Rattle.qvt_value.specs.Order.{order_of}
-use Rattle.qvt_slots.specs.Noted.{with_noted, Notes}
+use Rattle.qvt_slots.specs.Noted.{with_noted, NotesValue}
 use Rattle.qvt_slots.proofs.Noting.{found, notes_key, key_noted, denied}
 use Rattle.qvt_slots.proofs.seen.Seen.note.Goals as goal
 use Rattle.qvt_slots.proofs.seen.Seen.note.Goals.{in-Ok, in-Err}
@@ -17,11 +17,11 @@ returns-clause-before c = elim c.match-insert.branch [
 
 pub returns-clause-noted : goal.returns-clause-noted
 returns-clause-noted c = elim c.match-insert.branch [
-  | in-Ok w ↦ subst (λ r. OnOk r (Notes c.args.self.now (map (λ (k : Bor Value). k.now) c.insert.new.self.keys) c.args.value.now)) (sym w.result-is)
+  | in-Ok w ↦ subst (λ r. OnOk r (NotesValue c.args.self.now (map (λ (k : Bor Value). k.now) c.insert.new.self.keys) c.args.value.now)) (sym w.result-is)
       (λ u. ap (λ (l : List (Bor Value)). list_any (is_same order_of u) (map (λ k. k.now) l)) w.in-Ok.ensures.keys
       ∙ notes_key c.args.value c.self.inside.keys.keys u
       ∙ ap (λ l. list_any (is_same order_of u) l || is_same order_of u c.args.value.now) c.self.view_is)
-  | in-Err w ↦ subst (λ r. OnOk r (Notes c.args.self.now (map (λ (k : Bor Value). k.now) c.insert.new.self.keys) c.args.value.now)) (sym w.result-is) tt
+  | in-Err w ↦ subst (λ r. OnOk r (NotesValue c.args.self.now (map (λ (k : Bor Value). k.now) c.insert.new.self.keys) c.args.value.now)) (sym w.result-is) tt
 ]
 
 pub returns-clause-exact : goal.returns-clause-exact

@@ -1,6 +1,6 @@
 use Rattle.std.proofs.Common.{[], ◌∷◌, sym, subst}
 use Rattle.std.proofs.lemmas.List.Elements.{All-nil, All-cons}
-use Rattle.qvt_slots.specs.Types.{IsPlain}
+use Rattle.qvt_slots.specs.Types.{HasCodeType}
 use Rattle.qvt_slots.specs.declared.op.SetOp.TheVariants.{Add}
 use Rattle.qvt_store_laws.specs.Sound.{Sound}
 use Rattle.qvt_store_laws.specs.Stay.{InputsStay, StaysIn}
@@ -14,7 +14,7 @@ returns-in-Ok-clause-stays c = append_stays c.args.self.now c.append_value.new.s
 
 pub returns-in-Ok-clause-sound : goal.returns-in-Ok-clause-sound
 returns-in-Ok-clause-sound c sound = append_keeps_sound c.args.self.now c.append_value.new.self c.args.object.0 c.args.feature.0 c.args.value.now
-    c.is_whole.ensures.well_formed c.is_whole.ensures.named c.requires (All-cons IsPlain c.args.value.now [] c.is_plain.ensures (All-nil IsPlain)) sound c.in-Ok.ensures.ok
+    c.is_whole.ensures.well_formed c.is_whole.ensures.named c.requires (All-cons HasCodeType c.args.value.now [] c.is_plain.ensures (All-nil HasCodeType)) sound c.in-Ok.ensures.ok
 
 pub returns-in-Err-clause-stays : goal.returns-in-Err-clause-stays
 returns-in-Err-clause-stays c = subst (StaysIn c.args.self.now) (sym c.in-Err.ensures.err) (stays_is_reflexive c.args.self.now)

@@ -4,7 +4,7 @@ use Rattle.qvt_value.specs.declared.value.Value.{Value}
 use Rattle.qvt_slots.specs.declared.commit.Write.{Write}
 use Rattle.qvt_slots.specs.Change.{objects_beyond}
 use Rattle.qvt_slots.specs.Contents.{Contents, slot_of, with_slot}
-use Rattle.qvt_slots.specs.Types.{IsPlain}
+use Rattle.qvt_slots.specs.Types.{HasCodeType}
 use Rattle.qvt_value.specs.Kept.{firsts}
 use Rattle.qvt_value.specs.Order.{order_of}
 use Rattle.qvt_slots.specs.Assign.{crosses}
@@ -74,4 +74,4 @@ returns-then-crosses-clause-memory c plain = absurd (no_cross c.args.self.now c.
     plain (subst (λ (l : List Value). crosses c.args.self.now c.args.object.0 l ≡ true) c.as_slice-3.ensures (sym c.crosses.ensures ∙ c.if-crosses.true)))
 
 pub returns-clause-plain : goal.returns-clause-plain
-returns-clause-plain c = subst (All IsPlain) (c.in_ok-items.ensures.list ∙ ap (λ b. cond b (firsts order_of c.args.values.now) c.args.values.now) c.is_unique_feature-unique.ensures.value) c.in_ok-items.ensures.plain
+returns-clause-plain c = subst (All HasCodeType) (c.in_ok-items.ensures.list ∙ ap (λ b. cond b (firsts order_of c.args.values.now) c.args.values.now) c.is_unique_feature-unique.ensures.value) c.in_ok-items.ensures.plain

@@ -3,22 +3,22 @@ use Rattle.std.specs.Prelude.{Option, Ok}
 use Rattle.qvt_value.specs.declared.value.Value.{Value}
 use Rattle.qvt_metamodel.specs.Metamodels.{shape_of}
 use Rattle.qvt_slots.specs.Contents.{Contents, slot_of}
-use Rattle.qvt_slots.specs.Assign.{is_beyond, crosses}
+use Rattle.qvt_slots.specs.Assign.{exceeds_bound, crosses}
 use Rattle.qvt_store.proofs.Appending.{length-more, count_is}
 use Rattle.qvt_store.proofs.Alone.{read_only, crossing, appended}
 use Rattle.qvt_store.proofs.store.Store.extend_alone.Goals as goal
 
 pub returns-then-not-is_writable-clause-refused : goal.returns-then-not-is_writable-clause-refused
 returns-then-not-is_writable-clause-refused c _ = read_only c.args.self.now c.args.object c.args.feature c.args._values.now c.args.fresh c.requires.known c.requires.can c.requires.alone c.requires.last c.in-Some.count (length-more (slot_of c.args.self.now c.args.object.0 c.args.feature.0) c.args.fresh (length c.list.result.now) c.len.result c.in-Some.count (ap length c.list.ensures) c.len.ensures (count_is (length c.list.result.now) c.len.result c.checked_add.result c.in-Some.count c.checked_add.ensures c.in-Some.is))
-    (sym (c.is_beyond.ensures ∙ ap (λ (u : Option ℕ). is_beyond c.in-Some.count u) (c.upper.ensures ∙ ap (λ (s : Contents). (shape_of s.metas c.args.feature.0).upper) c.self.view_is)) ∙ c.if-is_beyond.false) (sym c.is_writable.ensures ∙ c.if-not-is_writable.true)
+    (sym (c.exceeds_bound.ensures ∙ ap (λ (u : Option ℕ). exceeds_bound c.in-Some.count u) (c.upper.ensures ∙ ap (λ (s : Contents). (shape_of s.metas c.args.feature.0).upper) c.self.view_is)) ∙ c.if-exceeds_bound.false) (sym c.is_writable.ensures ∙ c.if-not-is_writable.true)
 
 pub returns-then-crosses_more-clause-refused : goal.returns-then-crosses_more-clause-refused
 returns-then-crosses_more-clause-refused c _ = crossing c.args.self.now c.args.object c.args.feature c.args._values.now c.args.fresh c.requires.known c.requires.can c.requires.alone c.requires.last c.in-Some.count (length-more (slot_of c.args.self.now c.args.object.0 c.args.feature.0) c.args.fresh (length c.list.result.now) c.len.result c.in-Some.count (ap length c.list.ensures) c.len.ensures (count_is (length c.list.result.now) c.len.result c.checked_add.result c.in-Some.count c.checked_add.ensures c.in-Some.is))
-    (sym (c.is_beyond.ensures ∙ ap (λ (u : Option ℕ). is_beyond c.in-Some.count u) (c.upper.ensures ∙ ap (λ (s : Contents). (shape_of s.metas c.args.feature.0).upper) c.self.view_is)) ∙ c.if-is_beyond.false) (sym c.is_writable.ensures ∙ c.if-not-is_writable.false) (sym (c.crosses_more.ensures ∙ ap (λ (l : List Value). crosses c.args.self.now c.args.object.0 (slot_of c.args.self.now c.args.object.0 c.args.feature.0 ++ l)) c.as_slice.ensures) ∙ c.if-crosses_more.true)
+    (sym (c.exceeds_bound.ensures ∙ ap (λ (u : Option ℕ). exceeds_bound c.in-Some.count u) (c.upper.ensures ∙ ap (λ (s : Contents). (shape_of s.metas c.args.feature.0).upper) c.self.view_is)) ∙ c.if-exceeds_bound.false) (sym c.is_writable.ensures ∙ c.if-not-is_writable.false) (sym (c.crosses_more.ensures ∙ ap (λ (l : List Value). crosses c.args.self.now c.args.object.0 (slot_of c.args.self.now c.args.object.0 c.args.feature.0 ++ l)) c.as_slice.ensures) ∙ c.if-crosses_more.true)
 
 pub returns-in-Ok-clause-ok : goal.returns-in-Ok-clause-ok
 returns-in-Ok-clause-ok c = appended c.args.self.now c.args.object c.args.feature c.args._values.now c.args.fresh c.requires.known c.requires.can c.requires.alone c.requires.last c.in-Some.count (length-more (slot_of c.args.self.now c.args.object.0 c.args.feature.0) c.args.fresh (length c.list.result.now) c.len.result c.in-Some.count (ap length c.list.ensures) c.len.ensures (count_is (length c.list.result.now) c.len.result c.checked_add.result c.in-Some.count c.checked_add.ensures c.in-Some.is))
-    (sym (c.is_beyond.ensures ∙ ap (λ (u : Option ℕ). is_beyond c.in-Some.count u) (c.upper.ensures ∙ ap (λ (s : Contents). (shape_of s.metas c.args.feature.0).upper) c.self.view_is)) ∙ c.if-is_beyond.false) (sym c.is_writable.ensures ∙ c.if-not-is_writable.false) (sym (c.crosses_more.ensures ∙ ap (λ (l : List Value). crosses c.args.self.now c.args.object.0 (slot_of c.args.self.now c.args.object.0 c.args.feature.0 ++ l)) c.as_slice.ensures) ∙ c.if-crosses_more.false)
+    (sym (c.exceeds_bound.ensures ∙ ap (λ (u : Option ℕ). exceeds_bound c.in-Some.count u) (c.upper.ensures ∙ ap (λ (s : Contents). (shape_of s.metas c.args.feature.0).upper) c.self.view_is)) ∙ c.if-exceeds_bound.false) (sym c.is_writable.ensures ∙ c.if-not-is_writable.false) (sym (c.crosses_more.ensures ∙ ap (λ (l : List Value). crosses c.args.self.now c.args.object.0 (slot_of c.args.self.now c.args.object.0 c.args.feature.0 ++ l)) c.as_slice.ensures) ∙ c.if-crosses_more.false)
     ∙ ap (λ (s : Contents). Ok s) (sym c.in-Ok.ensures.ok)
 
 pub carry_fresh_alone-requires : goal.carry_fresh_alone-requires
@@ -28,9 +28,9 @@ carry_fresh_alone-requires c = record {
   can = c.requires.can;
   alone = c.requires.alone;
   last = c.requires.last;
-  few = subst (λ n. is_beyond n (shape_of c.args.self.now.metas c.args.feature.0).upper ≡ false)
+  few = subst (λ n. exceeds_bound n (shape_of c.args.self.now.metas c.args.feature.0).upper ≡ false)
       (length-more (slot_of c.args.self.now c.args.object.0 c.args.feature.0) c.args.fresh (length c.list.result.now) c.len.result c.in-Some.count (ap length c.list.ensures) c.len.ensures (count_is (length c.list.result.now) c.len.result c.checked_add.result c.in-Some.count c.checked_add.ensures c.in-Some.is))
-      (sym (c.is_beyond.ensures ∙ ap (λ (u : Option ℕ). is_beyond c.in-Some.count u) (c.upper.ensures ∙ ap (λ (s : Contents). (shape_of s.metas c.args.feature.0).upper) c.self.view_is)) ∙ c.if-is_beyond.false);
+      (sym (c.exceeds_bound.ensures ∙ ap (λ (u : Option ℕ). exceeds_bound c.in-Some.count u) (c.upper.ensures ∙ ap (λ (s : Contents). (shape_of s.metas c.args.feature.0).upper) c.self.view_is)) ∙ c.if-exceeds_bound.false);
   writable = sym c.is_writable.ensures ∙ c.if-not-is_writable.false;
   own = sym (c.crosses_more.ensures ∙ ap (λ (l : List Value). crosses c.args.self.now c.args.object.0 (slot_of c.args.self.now c.args.object.0 c.args.feature.0 ++ l)) c.as_slice.ensures) ∙ c.if-crosses_more.false;
 }

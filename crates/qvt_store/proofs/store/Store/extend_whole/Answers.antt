@@ -1,7 +1,7 @@
 use Rattle.std.proofs.Common.{◌≡◌, ◌∙◌, sym, subst, List}
 use Rattle.std.specs.Prelude.{Ok, Err, All}
 use Rattle.qvt_value.specs.declared.value.Value.{Value}
-use Rattle.qvt_slots.specs.Types.{IsAssignable, IsPlain}
+use Rattle.qvt_slots.specs.Types.{IsAssignable, HasCodeType}
 use Rattle.qvt_slots.specs.Repeats.{new_list}
 use Rattle.qvt_slots.specs.Assign.{assign}
 use Rattle.qvt_store.proofs.Appending.{list_assignable}
@@ -18,4 +18,4 @@ pub returns-clause-refused : goal.returns-clause-refused
 returns-clause-refused c n = subst (λ (l : List Value). assign c.args.self.now c.args.object.0 c.args.feature.0 l ≡ Err c.in-Err.fault) (c.as_slice.ensures ∙ c.in_ok-list.ensures) (c.in-Err.ensures.refused n)
 
 pub returns-in-Ok-clause-plain : goal.returns-in-Ok-clause-plain
-returns-in-Ok-clause-plain c = subst (λ (l : List Value). All IsPlain (new_list c.args.self.now.metas c.args.feature.0 l)) (c.as_slice.ensures ∙ c.in_ok-list.ensures) c.in-Ok.ensures.plain
+returns-in-Ok-clause-plain c = subst (λ (l : List Value). All HasCodeType (new_list c.args.self.now.metas c.args.feature.0 l)) (c.as_slice.ensures ∙ c.in_ok-list.ensures) c.in-Ok.ensures.plain

@@ -3,7 +3,7 @@ use Rattle.std.specs.Prelude.{All, filter}
 use Rattle.std.proofs.lemmas.List.Elements.{All-filter}
 use Rattle.qvt_value.specs.declared.value.Value.{Value}
 use Rattle.qvt_slots.specs.Contents.{slot_of}
-use Rattle.qvt_slots.specs.Types.{IsPlain}
+use Rattle.qvt_slots.specs.Types.{HasCodeType}
 use Rattle.qvt_value.specs.Kept.{firsts}
 use Rattle.qvt_value.specs.Order.{order_of}
 use Rattle.qvt_store.specs.Ready.{is_absent}
@@ -25,5 +25,5 @@ returns-clause-list c =
     (c.in_ok-fresh.ensures ∙ ap (λ (l : List Value). filter (is_absent (slot_of c.args.self.now c.args.object.0 c.args.feature.0)) l) c.as_slice.ensures)
 
 pub returns-clause-plain : goal.returns-clause-plain
-returns-clause-plain c = subst (All IsPlain) (sym (c.in_ok-fresh.ensures ∙ ap (λ (l : List Value). filter (is_absent (slot_of c.args.self.now c.args.object.0 c.args.feature.0)) l) c.as_slice.ensures))
-    (All-filter (is_absent (slot_of c.args.self.now c.args.object.0 c.args.feature.0)) IsPlain c.in_ok-news.news c.in_ok-news.ensures.plain)
+returns-clause-plain c = subst (All HasCodeType) (sym (c.in_ok-fresh.ensures ∙ ap (λ (l : List Value). filter (is_absent (slot_of c.args.self.now c.args.object.0 c.args.feature.0)) l) c.as_slice.ensures))
+    (All-filter (is_absent (slot_of c.args.self.now c.args.object.0 c.args.feature.0)) HasCodeType c.in_ok-news.news c.in_ok-news.ensures.plain)

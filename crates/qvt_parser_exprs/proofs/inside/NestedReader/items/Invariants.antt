@@ -8,7 +8,7 @@ use Rattle.qvt_language.specs.declared.class.Class.TheVariants.{Comma}
 use Rattle.qvt_language.specs.Reading.{item_at}
 use Rattle.qvt_language.specs.Nesting.{nested_at}
 use Rattle.qvt_tree_types.specs.View.{item_view}
-use Rattle.qvt_parser_exprs.proofs.inside.Inside.items.Given as goal
+use Rattle.qvt_parser_exprs.proofs.inside.NestedReader.items.Given as goal
 
 abbrev pub invariant-loop-parser : goal.invariant-loop-parser
 invariant-loop-parser g l = record {

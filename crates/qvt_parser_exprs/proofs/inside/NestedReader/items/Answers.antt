@@ -10,7 +10,7 @@ use Rattle.qvt_language.specs.Reading.{item_at}
 use Rattle.qvt_language.specs.Nesting.{nested_at}
 use Rattle.qvt_parser_grammar.proofs.LessExprs.{less_item}
 use Rattle.qvt_tree_types.specs.View.{item_view}
-use Rattle.qvt_parser_exprs.proofs.inside.Inside.items.Goals as goal
+use Rattle.qvt_parser_exprs.proofs.inside.NestedReader.items.Goals as goal
 
 pub loop-parser-preserved : goal.loop-parser-preserved
 loop-parser-preserved g c = record {

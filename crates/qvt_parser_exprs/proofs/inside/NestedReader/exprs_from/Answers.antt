@@ -10,7 +10,7 @@ use Rattle.qvt_language.specs.Reading.{expr_at}
 use Rattle.qvt_language.specs.Nesting.{nested_at}
 use Rattle.qvt_parser_grammar.proofs.LessExprs.{less_expr}
 use Rattle.qvt_tree_types.specs.View.{expr_view}
-use Rattle.qvt_parser_exprs.proofs.inside.Inside.exprs_from.Goals as goal
+use Rattle.qvt_parser_exprs.proofs.inside.NestedReader.exprs_from.Goals as goal
 
 pub loop-parser-preserved : goal.loop-parser-preserved
 loop-parser-preserved g c = record {

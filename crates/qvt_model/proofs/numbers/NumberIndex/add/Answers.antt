@@ -1,6 +1,6 @@
 use Rattle.std.proofs.Common.{◌≡◌, ◌∙◌, ◌==◌, [], ◌∷◌, ◌++◌, cond, false, ap}
 use Rattle.std.specs.List.{list_any}
-use Rattle.qvt_model.proofs.numbers.NumberSet.add.Goals as goal
+use Rattle.qvt_model.proofs.numbers.NumberIndex.add.Goals as goal
 
 pub returns-clause-ok : goal.returns-clause-ok
 returns-clause-ok c =

@@ -2,8 +2,8 @@ use Rattle.std.proofs.Common.{◌≡◌, ◌∙◌, ap, not, sym, subst, IfOk}
 use Rattle.std.specs.List.{list_any}
 use Rattle.qvt_conform.specs.Items.{same_item}
 use Rattle.qvt_conform.proofs.SameItems.{held}
-use Rattle.qvt_conform.proofs.seen.Seen.add.Goals as goal
-use Rattle.qvt_conform.proofs.seen.Seen.add.Goals.{in-Ok, in-Err}
+use Rattle.qvt_conform.proofs.seen.SeenItems.add.Goals as goal
+use Rattle.qvt_conform.proofs.seen.SeenItems.add.Goals.{in-Ok, in-Err}
 
 pub returns-clause-new : goal.returns-clause-new
 returns-clause-new c = elim c.match-insert.branch [

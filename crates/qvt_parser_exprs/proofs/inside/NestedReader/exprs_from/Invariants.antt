@@ -8,7 +8,7 @@ use Rattle.qvt_language.specs.declared.class.Class.TheVariants.{Comma}
 use Rattle.qvt_language.specs.Reading.{expr_at}
 use Rattle.qvt_language.specs.Nesting.{nested_at}
 use Rattle.qvt_tree_types.specs.View.{expr_view}
-use Rattle.qvt_parser_exprs.proofs.inside.Inside.exprs_from.Given as goal
+use Rattle.qvt_parser_exprs.proofs.inside.NestedReader.exprs_from.Given as goal
 
 abbrev pub invariant-loop-parser : goal.invariant-loop-parser
 invariant-loop-parser g l = record {

@@ -1,5 +1,5 @@
 use Rattle.std.proofs.Common.{◌≡◌, ℕ, length, slice_index_or}
-use Rattle.qvt_meta_tables.proofs.number_set.NumberSet.reach.Given as goal
+use Rattle.qvt_meta_tables.proofs.number_set.MarkedNumbers.reach.Given as goal
 
 abbrev pub invariant-loop-at : goal.invariant-loop-at
 invariant-loop-at l = record {
