@@ -99,7 +99,12 @@ remade() { properties X $(($1 / 75)) -1 0; front+='intermediate class K0 { } '; 
 texts "a chain of intermediate classes after one with their names, the last first" "" 'intermediate class K~ extends K# { a# : Integer; } ' ''
 remade() { properties K 1 1 $(($1 / 35)); }
 texts "intermediate classes below one with many properties, each with one more" "" 'intermediate class L# extends K { b# : Integer; } ' ''
+texts "intermediate classes below one with many properties, each with one more of the same name" "" 'intermediate class L# extends K { b : Integer; } ' ''
 texts "intermediate classes below one with many properties" "" 'intermediate class L# extends K { } ' ''
+remade() { properties K 1 1 $(($1 / 35)); front+='intermediate class E { } '; }
+texts "intermediate classes below two, of which one has many properties" "" 'intermediate class L# extends K, E { } ' ''
+remade() { properties K 1 1 $(($1 / 35)); front="${main}intermediate class X { b : Integer; } ${front#"$main"}"; }
+texts "intermediate classes below one with many properties, each with one more of a name that stood before" "" 'intermediate class L# extends K { b : Integer; } ' ''
 remade() { :; }
 texts "variables of one block" "${begin}main() { var first : Integer := 1; " 'var x# : Integer := first + #; if (x# = null) { first := x#; } ' '}'
 texts "variables of many blocks" "${begin}main() { var first : Integer := 1; " 'while (first < #) { var x := first; first := x + 1; } ' '}'
@@ -127,6 +132,7 @@ texts "queries of one name that answer each its class, of a chain" "$main" 'quer
 texts "queries of one name that answer each its class, side by side" "$main" 'query D#::q() : D# = self; ' ''
 texts "queries of one name with parameters, of a chain" "$main" 'query C#::q(a : Integer, b : String, c : Boolean, d : Set(Book)) : C# = self; ' ''
 texts "two queries of each of many names" "$main" 'query Book::q#() : Integer = #; query C0::q#() : Integer = #; ' ''
+texts "two queries of each of many names, of which one overrides the other" "$main" 'query Named::q#() : Integer = #; query C0::q#() : Integer = #; ' ''
 texts "a hundred queries of each of many names" "$main" "$(for i in $(seq 0 99); do printf 'query D%d::q#() : Integer = #; ' "$i"; done)" ''
 texts "constructors" "$main" 'constructor D#::D#(p : Integer) { pages := p; } ' ''
 # queries of one name, each of a class that is below several with a query of that name, and has a class below it

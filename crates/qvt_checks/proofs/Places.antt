@@ -4,7 +4,7 @@ use Rattle.std.proofs.lemmas.Bool.Decides.{Decides-eqb}
 use Rattle.std.proofs.lemmas.List.Folds.{list_any_at}
 use Rattle.std.specs.Prelude.{slice_index_or}
 use Rattle.qvt_base.specs.declared.numbers.FeatureNo.{FeatureNo}
-use Rattle.qvt_metamodel.specs.Metamodels.{among_features}
+use Rattle.qvt_metas.specs.Metamodels.{among_features}
 use Rattle.qvt_slots.specs.Cells.{IsPlaceOf}
 
 pub there : (gs : List FeatureNo) (f i : ℕ) → IsPlaceOf gs f i → among_features f gs ≡ true

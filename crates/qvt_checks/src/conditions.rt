@@ -2,12 +2,12 @@
 
 ghost use Rattle.std.specs.Prelude.{◌≡◌, IsTrue, IsFalse};
 ghost use Rattle.std.specs.List.{list_all};
-ghost use Rattle.qvt_metamodel.specs.Metamodels.{has_feature, is_containment};
-ghost use Rattle.qvt_metamodel.specs.Named.{metamodel_at};
+ghost use Rattle.qvt_metas.specs.Metamodels.{has_feature, is_containment};
+ghost use Rattle.qvt_metas.specs.Named.{metamodel_at};
 ghost use Rattle.qvt_store.specs.Contents.{AreNamed, is_named, is_slot};
 ghost use Rattle.qvt_store.specs.Sound.{IsClassFor};
 ghost use Rattle.qvt_store.specs.Place.{IsPlaceable};
-ghost use Rattle.qvt_store.specs.Types.{is_bool, is_int, is_text, is_literal, is_instance, is_of_type, IsAssignable};
+ghost use Rattle.qvt_store.specs.Types.{is_bool, is_int, is_text_value, is_literal, is_instance, is_of_type, IsAssignable};
 
 use qvt_base::numbers::{ClassNo, FeatureNo, Oid};
 use qvt_metas::info::TypeKind;
@@ -92,7 +92,7 @@ pub fn is_int(value: &Value) -> bool
 
 /// Whether the value is a String.
 pub fn is_text(value: &Value) -> bool
-    ensures { result ≡ is_text value.now }
+    ensures { result ≡ is_text_value value.now }
 {
     match value {
         Value::Str(_) => true,

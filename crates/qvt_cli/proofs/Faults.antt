@@ -2,12 +2,12 @@
 use Rattle.std.proofs.Common.{◌≡◌, ◌≢◌, ◌∙◌, ◌<◌, ap, sym, subst, arith, List, [], ◌∷◌, ◌++◌, length-append, true, false, Ok, Err}
 use Rattle.std.specs.Prelude.{length, if◌then◌else◌}
 use Rattle.std.specs.List.{AllByRecursion}
-use Rattle.qvt_metamodel.specs.Metamodels.{Metamodels}
+use Rattle.qvt_metas.specs.Metamodels.{Metamodels}
 use Rattle.qvt_metamodel.specs.Added.{added, numbered}
 use Rattle.qvt_metamodel.specs.Joined.{joined}
 use Rattle.qvt_metamodel.specs.declared.declared.MetaData.{MetaData}
 use Rattle.qvt_metamodel.specs.declared.info.MetamodelInfo.{MetamodelInfo}
-use Rattle.qvt_metamodel.specs.Named.{has_metamodel}
+use Rattle.qvt_metas.specs.Named.{has_metamodel}
 use Rattle.qvt_metamodel.specs.declared.fault.MetasFault.{MetasFault}
 use Rattle.qvt_metamodel.specs.declared.fault.MetasFault.TheVariants.{SameMetamodel}
 use Rattle.qvt_work.specs.Metas.{with_metamodel}

@@ -10,7 +10,7 @@ use Rattle.std.proofs.lemmas.List.Folds.{list_any_more}
 use Rattle.std.proofs.lemmas.List.Sorted.{list_any-IsPermutation}
 use Rattle.indexmap.specs.IndexMap.{IndexMap, get, IsEmpty, Updates}
 use Rattle.qvt_base.specs.declared.numbers.FeatureNo.{FeatureNo}
-use Rattle.qvt_metamodel.specs.Metamodels.{Metamodels, among_features, features_of}
+use Rattle.qvt_metas.specs.Metamodels.{Metamodels, among_features, features_of}
 use Rattle.qvt_model.specs.declared.data.SlotData.{SlotData}
 use Rattle.qvt_conform.specs.Asked.{asks, asking, has_slot, HasAsked, HaveAsked, AreMet, IfListed, AreListed}
 

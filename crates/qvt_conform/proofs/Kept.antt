@@ -6,7 +6,7 @@ use Rattle.std.proofs.lemmas.Bool.{eqb-true, eq-eqb, le-leb, ltb-false, or_left,
 use Rattle.qvt_base.specs.declared.numbers.FeatureNo.{FeatureNo}
 use Rattle.qvt_json.specs.Steps.{or_next}
 use Rattle.qvt_metamodel.specs.declared.info.FeatureShape.{FeatureShape}
-use Rattle.qvt_metamodel.specs.Metamodels.{Metamodels, shape_of, opposite, among_features, features_of}
+use Rattle.qvt_metas.specs.Metamodels.{Metamodels, shape_of, opposite, among_features, features_of}
 use Rattle.qvt_model.specs.Items.{items_in}
 use Rattle.qvt_model.specs.declared.data.SlotData.{SlotData}
 use Rattle.qvt_model.specs.declared.data.ObjectData.{ObjectData}

@@ -8,12 +8,12 @@ use Rattle.std.specs.declared.cmp.Ordering.TheVariants.{Greater}
 use Rattle.std.proofs.lemmas.Bool.{eqb-true, eq-eqb}
 use Rattle.qvt_base.specs.declared.numbers.FeatureNo.{FeatureNo}
 use Rattle.qvt_json.specs.Steps.{or_next}
-use Rattle.qvt_metamodel.specs.Metamodels.{Metamodels, class_at, feature_at, shape_of, opposite, is_opposite, is_feature_number, features_of}
+use Rattle.qvt_metas.specs.Metamodels.{Metamodels, class_at, feature_at, shape_of, opposite, is_opposite, is_feature_number, features_of}
 use Rattle.qvt_model.specs.declared.data.Datum.{Datum}
 use Rattle.qvt_model.specs.declared.data.Datum.TheVariants.{Bool as BoolDatum, Int, Str, Literal, Ref}
 use Rattle.qvt_model.specs.declared.data.SlotData.{SlotData}
 use Rattle.qvt_model.specs.declared.data.ObjectData.{ObjectData}
-use Rattle.qvt_model.specs.WellFormed.{IsModel, IsObjectIn, AreInNameOrder, ComeAfter, object_at}
+use Rattle.qvt_model.specs.WellFormed.{IsModel, IsObjectIn, AreInNameOrder, ComeAfter, object_data_at}
 use Rattle.qvt_conform.specs.declared.links.ObjectLink.{ObjectLink}
 use Rattle.qvt_conform.specs.declared.fault.ConformFault.TheVariants.{Abstract, Bounds, NotUnique, Opposite}
 use Rattle.qvt_model.specs.Items.{items_in}
@@ -143,7 +143,7 @@ abbrev AreOrdered : Metamodels → List ObjectData → Type 0
 AreOrdered m os = AllByRecursion (λ o. AreInNameOrder m o.slots) os
 
 linked : (m : Metamodels) (q i k j : ℕ) (os : List ObjectData) → is_some (opposite m q) ≡ true → AreOrdered m os
-    → list_any (same_link (link (k + j) q i)) (links_from m k os) ≡ list_any (is_ref i) (items_of (object_at os j) q)
+    → list_any (same_link (link (k + j) q i)) (links_from m k os) ≡ list_any (is_ref i) (items_of (object_data_at os j) q)
 linked m q i k j [] there h = refl
 linked m q i k zero (o ∷ os) there h =
     subst (λ x. list_any (same_link (link x q i)) (links_from m k (o ∷ os)) ≡ list_any (is_ref i) (items_of o q)) same
@@ -155,7 +155,7 @@ linked m q i k zero (o ∷ os) there h =
 linked m q i k (suc j) (o ∷ os) there h =
     any-append (same_link (link (k + suc j) q i)) (links_of_slots m k o.slots) (links_from m (suc k) os)
     ∙ both _ _ _ _ (slots_of_another m (k + suc j) q i k (λ e. absurd (omega (arith, e))) o.slots)
-    (subst (λ x. list_any (same_link (link x q i)) (links_from m (suc k) os) ≡ list_any (is_ref i) (items_of (object_at os j) q)) same (linked m q i (suc k) j os there h.1))
+    (subst (λ x. list_any (same_link (link x q i)) (links_from m (suc k) os) ≡ list_any (is_ref i) (items_of (object_data_at os j) q)) same (linked m q i (suc k) j os there h.1))
   where
     same : suc k + j ≡ k + suc j
     same = omega arith
@@ -175,7 +175,7 @@ item_lacks m os ls q i h there (BoolDatum b) = refl
 item_lacks m os ls q i h there (Int z) = refl
 item_lacks m os ls q i h there (Str s) = refl
 item_lacks m os ls q i h there (Literal l) = refl
-item_lacks m os ls q i h there (Ref j) = ap not (h.joined.holds (link j q i) ∙ subst (λ x. list_any (same_link (link x q i)) (links_from m 0 os) ≡ list_any (is_ref i) (items_of (object_at os j) q)) same (linked m q i 0 j os there h.ordered))
+item_lacks m os ls q i h there (Ref j) = ap not (h.joined.holds (link j q i) ∙ subst (λ x. list_any (same_link (link x q i)) (links_from m 0 os) ≡ list_any (is_ref i) (items_of (object_data_at os j) q)) same (linked m q i 0 j os there h.ordered))
   where
     same : 0 + j ≡ j
     same = omega arith

@@ -4,7 +4,7 @@ use Rattle.std.specs.Prelude.{slice_index_or, slice_get, Option, Some, None}
 use Rattle.std.proofs.lemmas.Bool.{eq-eqb, lt-ltb, or_left, or_right}
 use Rattle.qvt_base.specs.declared.numbers.FeatureNo.{FeatureNo}
 use Rattle.qvt_base.specs.declared.numbers.Oid.{Oid}
-use Rattle.qvt_metamodel.specs.Metamodels.{among_features}
+use Rattle.qvt_metas.specs.Metamodels.{among_features}
 use Rattle.qvt_store.specs.Contents.{Instance, Contents, members_from, members_of, is_live}
 
 pub among_at : (fs : List FeatureNo) (i : ℕ) (f : FeatureNo) → slice_get fs i ≡ Some f → among_features f.0 fs ≡ true

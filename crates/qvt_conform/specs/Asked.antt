@@ -3,7 +3,7 @@ use Rattle.std.specs.Prelude.{◌≡◌, ℕ, ◌==◌, Bool, nat_lt, nat_eq, if
 use Rattle.std.specs.List.{list_any}
 use Rattle.indexmap.specs.IndexMap.{IndexMap, get}
 use Rattle.qvt_base.specs.declared.numbers.FeatureNo.{FeatureNo}
-use Rattle.qvt_metamodel.specs.Metamodels.{Metamodels, shape_of, among_features, features_of}
+use Rattle.qvt_metas.specs.Metamodels.{Metamodels, shape_of, among_features, features_of}
 use Rattle.qvt_model.specs.declared.data.SlotData.{SlotData}
 
 abbrev pub asks : Metamodels → ℕ → Bool

@@ -4,7 +4,7 @@
 use Rattle.std.specs.Prelude.{ℕ, suc, Bool, not, ◌&&◌, nat_lt, length, List, [], ◌∷◌, Option, Some, None, if◌then◌else◌}
 use Rattle.qvt_base.specs.declared.numbers.FeatureNo.{FeatureNo}
 use Rattle.qvt_json.specs.Steps.{or_next}
-use Rattle.qvt_metamodel.specs.Metamodels.{Metamodels, class_at, feature_at, shape_of, opposite, features_of}
+use Rattle.qvt_metas.specs.Metamodels.{Metamodels, class_at, feature_at, shape_of, opposite, features_of}
 use Rattle.qvt_model.specs.declared.data.ObjectData.{ObjectData}
 use Rattle.qvt_model.specs.WellFormed.{IsModel}
 use Rattle.qvt_repeats.specs.Repeats.{repeats_by}

@@ -1,6 +1,6 @@
 -- Which objects of a model stand in containment slots of which (EMOF 12.4).
 use Rattle.std.specs.Prelude.{ℕ, List, [], ◌∷◌, ◌++◌, map, if◌then◌else◌}
-use Rattle.qvt_metamodel.specs.Metamodels.{Metamodels, is_containment}
+use Rattle.qvt_metas.specs.Metamodels.{Metamodels, is_containment}
 use Rattle.qvt_model.specs.declared.data.Datum.{Datum}
 use Rattle.qvt_model.specs.declared.data.Datum.TheVariants.{Bool as BoolDatum, Int, Str, Literal, Ref}
 use Rattle.qvt_model.specs.declared.data.SlotData.{SlotData}

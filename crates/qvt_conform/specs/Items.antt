@@ -11,7 +11,7 @@ use Rattle.qvt_model.specs.declared.data.Datum.{Datum}
 use Rattle.qvt_model.specs.declared.data.Datum.TheVariants.{Bool as BoolDatum, Int, Str, Literal, Ref}
 use Rattle.qvt_model.specs.declared.data.ObjectData.{ObjectData}
 use Rattle.qvt_model.specs.Items.{items_in}
-use Rattle.qvt_model.specs.WellFormed.{object_at}
+use Rattle.qvt_model.specs.WellFormed.{object_data_at}
 
 -- what an object holds for feature f: nothing where it has no slot of it
 abbrev pub items_of : ObjectData → ℕ → List Datum
@@ -50,7 +50,7 @@ lacks os q i (BoolDatum b) = false
 lacks os q i (Int z) = false
 lacks os q i (Str s) = false
 lacks os q i (Literal l) = false
-lacks os q i (Ref j) = not (list_any (is_ref i) (items_of (object_at os j) q))
+lacks os q i (Ref j) = not (list_any (is_ref i) (items_of (object_data_at os j) q))
 
 -- one of the items lacks object i for the opposite
 abbrev pub lack_opposite : Option FeatureNo → List ObjectData → ℕ → List Datum → Bool

@@ -2,7 +2,7 @@
 use Rattle.std.specs.Prelude.{ℕ, suc, List, [], ◌∷◌, Option, None, option_map}
 use Rattle.qvt_base.specs.declared.numbers.FeatureNo.{FeatureNo}
 use Rattle.qvt_json.specs.Steps.{or_next}
-use Rattle.qvt_metamodel.specs.Metamodels.{Metamodels, class_at, features_of}
+use Rattle.qvt_metas.specs.Metamodels.{Metamodels, class_at, features_of}
 use Rattle.qvt_model.specs.declared.data.ObjectData.{ObjectData}
 use Rattle.qvt_conform.specs.Items.{items_of}
 use Rattle.qvt_conform.specs.Breaches.{breach_of, fault_of}

@@ -1,6 +1,6 @@
 -- The references of a model by features that have an opposite: object, feature and what is referred to.
 use Rattle.std.specs.Prelude.{ℕ, suc, Bool, ◌==◌, ◌&&◌, List, [], ◌∷◌, ◌++◌, is_some, if◌then◌else◌}
-use Rattle.qvt_metamodel.specs.Metamodels.{Metamodels, opposite}
+use Rattle.qvt_metas.specs.Metamodels.{Metamodels, opposite}
 use Rattle.qvt_model.specs.declared.data.Datum.{Datum}
 use Rattle.qvt_model.specs.declared.data.Datum.TheVariants.{Bool as BoolDatum, Int, Str, Literal, Ref}
 use Rattle.qvt_model.specs.declared.data.SlotData.{SlotData}

@@ -3,7 +3,7 @@ use Rattle.std.specs.Prelude.{ℕ, Bool, nat_lt, length, List, [], ◌∷◌, Op
 use Rattle.qvt_base.specs.declared.numbers.FeatureNo.{FeatureNo}
 use Rattle.qvt_base.specs.declared.numbers.Oid.{Oid}
 use Rattle.qvt_json.specs.Steps.{or_next}
-use Rattle.qvt_metamodel.specs.Metamodels.{shape_of, features_of}
+use Rattle.qvt_metas.specs.Metamodels.{shape_of, features_of}
 use Rattle.qvt_store.specs.Contents.{Contents, class_of, slot_of, members_of}
 use Rattle.qvt_conform.specs.declared.fault.LowFault.{LowFault}
 

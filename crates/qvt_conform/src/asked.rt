@@ -1,7 +1,7 @@
 //! The features of classes that ask for an item.
 
 ghost use Rattle.std.specs.Prelude.{◌≡◌, IfOk, IsTrue};
-ghost use Rattle.qvt_metamodel.specs.Metamodels.{features_of};
+ghost use Rattle.qvt_metas.specs.Metamodels.{features_of};
 ghost use Rattle.qvt_conform.specs.Asked.{asking, HasAsked, HaveAsked, AreMet};
 
 use indexmap::IndexMap;
@@ -68,7 +68,7 @@ impl Drop for Asked<'_> {
 }
 
 impl<'a> Model for Asked<'a> {
-    ghost use Rattle.qvt_metamodel.specs.Metamodels.{Metamodels};
+    ghost use Rattle.qvt_metas.specs.Metamodels.{Metamodels};
     ghost use Rattle.qvt_conform.specs.Asked.{AreListed};
 
     ghost Value = { Metamodels };

@@ -1,7 +1,7 @@
 //! The first fault of a model.
 
 ghost use Rattle.std.specs.Prelude.{◌≡◌, ◌<◌, ◌^◌, length, IfOk};
-ghost use Rattle.qvt_metamodel.specs.Metamodels.{feature_at, features_of};
+ghost use Rattle.qvt_metas.specs.Metamodels.{feature_at, features_of};
 ghost use Rattle.qvt_conform.specs.declared.fault.ConformFault.TheVariants.{NoMemory};
 ghost use Rattle.qvt_conform.specs.Breaches.{fault_of};
 ghost use Rattle.qvt_conform.specs.Conformance.{IsSomeModel, conform_fault};

@@ -1,6 +1,6 @@
 ghost use Rattle.std.specs.Prelude.{◌≡◌, IsTrue};
 ghost use Rattle.qvt_store.specs.Contents.{is_live, is_extent, class_of};
-ghost use Rattle.qvt_metamodel.specs.Metamodels.{features_of, has_feature};
+ghost use Rattle.qvt_metas.specs.Metamodels.{features_of, has_feature};
 ghost use Rattle.qvt_conform.specs.LowerBounds.{is_low, low_feature, low_of};
 ghost use Rattle.qvt_conform.specs.Results.{err_of};
 

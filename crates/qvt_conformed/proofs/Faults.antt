@@ -11,23 +11,23 @@ use Rattle.qvt_value.specs.declared.value.Value.{Value}
 use Rattle.qvt_value.specs.declared.value.Value.TheVariants.{Bool as BoolValue, Int as IntValue, Str as StrValue, Enum as EnumValue, Obj}
 use Rattle.qvt_value.specs.Kept.{is_same}
 use Rattle.qvt_value.specs.Order.{order_of}
-use Rattle.qvt_metamodel.specs.Metamodels.{Metamodels, class_at, feature_at, features_of, among_features, has_feature, shape_of, opposite, is_opposite, is_feature_number, is_containment}
+use Rattle.qvt_metas.specs.Metamodels.{Metamodels, class_at, feature_at, features_of, among_features, has_feature, shape_of, opposite, is_opposite, is_feature_number, is_containment}
 use Rattle.qvt_relation.specs.Closure.{Closure}
 use Rattle.qvt_relation.specs.Closure.Closure.{directly as one_step, through as more_steps}
 use Rattle.qvt_relation.proofs.Bools.{and_left, and_right, and_both, or_cases, or_none, none_left, none_right, either, clash, refuted}
 use Rattle.qvt_relation.proofs.Closures.{closure-reaches}
 use Rattle.qvt_json.specs.Steps.{or_next}
 use Rattle.qvt_model.proofs.Steps.{neither}
-use Rattle.qvt_slots.specs.Slots.{is_object, has, Inside, directly, through}
-use Rattle.qvt_slots.specs.Repeats.{repeats}
+use Rattle.qvt_store.specs.Slots.{is_object, has, Inside, directly, through}
+use Rattle.qvt_store.specs.Repeats.{repeats}
 use Rattle.qvt_slots.proofs.Repeating.{same_true}
-use Rattle.qvt_slots.specs.Assign.{exceeds_bound}
+use Rattle.qvt_store.specs.Assign.{exceeds_bound}
 use Rattle.qvt_slots.proofs.Lists.{length-map, past_end}
 use Rattle.qvt_model.specs.declared.data.Datum.{Datum}
 use Rattle.qvt_model.specs.declared.data.Datum.TheVariants.{Bool as BoolDatum, Int, Str, Literal, Ref}
 use Rattle.qvt_model.specs.declared.data.SlotData.{SlotData}
 use Rattle.qvt_model.specs.declared.data.ObjectData.{ObjectData}
-use Rattle.qvt_model.specs.WellFormed.{object_at, no_object, IsItem, IsSlot, IsObjectIn, IsModel}
+use Rattle.qvt_model.specs.WellFormed.{object_data_at, no_object, IsItem, IsSlot, IsObjectIn, IsModel}
 use Rattle.qvt_cycle.specs.Successors.{among, leads, is_on_cycle, how_often, how_often_in}
 use Rattle.qvt_conform.specs.declared.fault.ConformFault.{ConformFault}
 use Rattle.qvt_conform.specs.declared.fault.ConformFault.TheVariants.{Bounds, NotUnique, Opposite, Abstract, TwoContainers, ContainmentCycle}
@@ -50,11 +50,11 @@ no_fault false f e = refl
 
 -- ---- each object, each feature
 
-objects_none : (m : Metamodels) (all : List ObjectData) (i : ℕ) (os : List ObjectData) → faults_from m all i os ≡ None → (j : ℕ) → j < length os → object_fault m all (j + i) (object_at os j) ≡ None
+objects_none : (m : Metamodels) (all : List ObjectData) (i : ℕ) (os : List ObjectData) → faults_from m all i os ≡ None → (j : ℕ) → j < length os → object_fault m all (j + i) (object_data_at os j) ≡ None
 objects_none m all i [] e j l = absurd (omega arith)
 objects_none m all i (o ∷ os) e zero l = ap (λ k. object_fault m all k o) (let q : 0 + i ≡ i = omega arith in q) ∙ (neither (object_fault m all i o) (faults_from m all (suc i) os) e).0
 objects_none m all i (o ∷ os) e (suc j) l =
-    ap (λ k. object_fault m all k (object_at os j)) (let q : suc j + i ≡ j + suc i = omega arith in q)
+    ap (λ k. object_fault m all k (object_data_at os j)) (let q : suc j + i ≡ j + suc i = omega arith in q)
     ∙ objects_none m all (suc i) os (neither (object_fault m all i o) (faults_from m all (suc i) os) e).1 j (omega arith)
 
 features_none : (m : Metamodels) (os : List ObjectData) (i : ℕ) (o : ObjectData) (fs : List FeatureNo) (f : ℕ) → features_fault m os i o fs ≡ None → among_features f fs ≡ true → feature_fault m os i o (record { 0 = f }) ≡ None
@@ -160,8 +160,8 @@ none_lacks os g i j (x ∷ xs) n h = elim (or_cases (is_object j (value_at 0 x))
     at (Int a) h n = clash false h refl
     at (Str a) h n = clash false h refl
     at (Literal a) h n = clash false h refl
-    at (Ref k) h n = has_ref (items_in g (object_at os j).slots) i
-        ∙ not_out _ (subst (λ z. not (list_any (is_ref i) (items_in g (object_at os z).slots)) ≡ false) (let q : 0 + k ≡ j = (Decides-eqb (0 + k) j).0 h in let r : k ≡ j = omega arith in r) n)
+    at (Ref k) h n = has_ref (items_in g (object_data_at os j).slots) i
+        ∙ not_out _ (subst (λ z. not (list_any (is_ref i) (items_in g (object_data_at os z).slots)) ≡ false) (let q : 0 + k ≡ j = (Decides-eqb (0 + k) j).0 h in let r : k ≡ j = omega arith in r) n)
 
 linked_back : (m : Metamodels) (os : List ObjectData) (q : Option FeatureNo) (g i j : ℕ) (xs : List Datum) → is_feature_number q g ≡ true → lack_opposite q os i xs ≡ false → has (map (value_at 0) xs) j ≡ true → has (slots_at os j g) i ≡ true
 linked_back m os None g i j xs o n h = clash false o refl
@@ -182,50 +182,50 @@ item_types m os c f (t ∷ ts) h = go (t.feature.0 == f) refl (item_types m os c
     go false e rest = rest
 
 module _ (m : Metamodels) (k : ℕ) (os : List ObjectData) (model : IsModel m k os) (none : faults_from m os 0 os ≡ None) where
-  is : (i : ℕ) → i < length os → IsObjectIn m k os (object_at os i)
+  is : (i : ℕ) → i < length os → IsObjectIn m k os (object_data_at os i)
   is i l = all_at m k os os i model.objects l
 
-  fine : (i : ℕ) → i < length os → ObjectFine m os i (object_at os i)
-  fine i l = object_fine m os i (object_at os i) (ap (λ z. object_fault m os z (object_at os i)) (let q : i ≡ i + 0 = omega arith in q) ∙ objects_none m os 0 os none i l)
+  fine : (i : ℕ) → i < length os → ObjectFine m os i (object_data_at os i)
+  fine i l = object_fine m os i (object_data_at os i) (ap (λ z. object_fault m os z (object_data_at os i)) (let q : i ≡ i + 0 = omega arith in q) ∙ objects_none m os 0 os none i l)
 
   -- a fact of each slot: of those that are there, and of no items
-  each_slot : (P : ℕ → ℕ → List Datum → Type 0) → ((i f : ℕ) → P i f []) → ((i f : ℕ) (l : i < length os) → has_feature m (object_at os i).class.0 f ≡ true → P i f (items_in f (object_at os i).slots)) → (i f : ℕ) → P i f (items_in f (object_at os i).slots)
+  each_slot : (P : ℕ → ℕ → List Datum → Type 0) → ((i f : ℕ) → P i f []) → ((i f : ℕ) (l : i < length os) → has_feature m (object_data_at os i).class.0 f ≡ true → P i f (items_in f (object_data_at os i).slots)) → (i f : ℕ) → P i f (items_in f (object_data_at os i).slots)
   each_slot P empty some i f = elim (cases_lt i (length os)) [
-    | inl l ↦ elim (either (has_feature m (object_at os i).class.0 f)) [
+    | inl l ↦ elim (either (has_feature m (object_data_at os i).class.0 f)) [
       | inl h ↦ some i f l h
-      | inr n ↦ let o : IsObjectIn m k os (object_at os i) = is i l in subst (P i f) (sym (not_own m os (object_at os i).class.0 f (object_at os i).slots o.slots n)) (empty i f)
+      | inr n ↦ let o : IsObjectIn m k os (object_data_at os i) = is i l in subst (P i f) (sym (not_own m os (object_data_at os i).class.0 f (object_data_at os i).slots o.slots n)) (empty i f)
     ]
     | inr l ↦ subst (P i f) (sym (ap (λ (o : ObjectData). items_in f o.slots) (past_end os i no_object l))) (empty i f)
   ]
 
   bounds : (i f : ℕ) → exceeds_bound (length (slots_at os i f)) (shape_of m f).upper ≡ false
   bounds = each_slot (λ i f xs. exceeds_bound (length (map (value_at 0) xs)) (shape_of m f).upper ≡ false) (λ i f. no_bound (shape_of m f).upper)
-      (λ i f l h. let s : SlotFine m os i f (items_in f (object_at os i).slots) = (fine i l).slots f h in
-      ap (λ n. exceeds_bound n (shape_of m f).upper) (length-map (value_at 0) (items_in f (object_at os i).slots)) ∙ within_bound (length (items_in f (object_at os i).slots)) (shape_of m f).upper s.bound)
+      (λ i f l h. let s : SlotFine m os i f (items_in f (object_data_at os i).slots) = (fine i l).slots f h in
+      ap (λ n. exceeds_bound n (shape_of m f).upper) (length-map (value_at 0) (items_in f (object_data_at os i).slots)) ∙ within_bound (length (items_in f (object_data_at os i).slots)) (shape_of m f).upper s.bound)
 
   unique : (i f : ℕ) → (shape_of m f).unique ≡ true → repeats (slots_at os i f) ≡ false
   unique = each_slot (λ i f xs. (shape_of m f).unique ≡ true → repeats (map (value_at 0) xs) ≡ false) (λ i f u. refl)
-      (λ i f l h u. let s : SlotFine m os i f (items_in f (object_at os i).slots) = (fine i l).slots f h in
-      (no_repeat (items_in f (object_at os i).slots) (refuted _ (λ t. clash _ (and_both _ _ u t) s.unique))))
+      (λ i f l h u. let s : SlotFine m os i f (items_in f (object_data_at os i).slots) = (fine i l).slots f h in
+      (no_repeat (items_in f (object_data_at os i).slots) (refuted _ (λ t. clash _ (and_both _ _ u t) s.unique))))
 
   linked : (g j i f : ℕ) → is_opposite m f g ≡ true → has (slots_at os i f) j ≡ true → has (slots_at os j g) i ≡ true
   linked g j = each_slot (λ i f xs. is_opposite m f g ≡ true → has (map (value_at 0) xs) j ≡ true → has (slots_at os j g) i ≡ true) (λ i f o h. clash false h refl)
-      (λ i f l h o held. let s : SlotFine m os i f (items_in f (object_at os i).slots) = (fine i l).slots f h in
-      linked_back m os (opposite m f) g i j (items_in f (object_at os i).slots) o s.linked held)
+      (λ i f l h o held. let s : SlotFine m os i f (items_in f (object_data_at os i).slots) = (fine i l).slots f h in
+      linked_back m os (opposite m f) g i j (items_in f (object_data_at os i).slots) o s.linked held)
 
   below : (j i f : ℕ) → has (slots_at os i f) j ≡ true → j < length os
   below j = each_slot (λ i f xs. has (map (value_at 0) xs) j ≡ true → j < length os) (λ i f h. clash false h refl)
-      (λ i f l h held. let o : IsObjectIn m k os (object_at os i) = is i l in
-      ref_below m os (shape_of m f).kind j (items_in f (object_at os i).slots) (item_types m os (object_at os i).class.0 f (object_at os i).slots o.slots) held)
+      (λ i f l h held. let o : IsObjectIn m k os (object_data_at os i) = is i l in
+      ref_below m os (shape_of m f).kind j (items_in f (object_data_at os i).slots) (item_types m os (object_data_at os i).class.0 f (object_data_at os i).slots o.slots) held)
 
-  lists_at : (i : ℕ) → slice_index_or (contents m os) i [] ≡ contents_of_object m (object_at os i)
+  lists_at : (i : ℕ) → slice_index_or (contents m os) i [] ≡ contents_of_object m (object_data_at os i)
   lists_at i = index-map (contents_of_object m) os i no_object
 
   few : (j : ℕ) → j < length os → how_often_in (contents m os) j ≤ 1
   few j l = ltb-false 1 (how_often_in (contents m os) j) (fine j l).alone
 
   member : (i f j : ℕ) → is_containment m f ≡ true → has (slots_at os i f) j ≡ true → among (slice_index_or (contents m os) i []) j ≡ true
-  member i f j c h = ap (λ l. among l j) (lists_at i) ∙ in_slots m (object_at os i).slots f j c (held_among (items_in f (object_at os i).slots) j h)
+  member i f j c h = ap (λ l. among l j) (lists_at i) ∙ in_slots m (object_data_at os i).slots f j c (held_among (items_in f (object_data_at os i).slots) j h)
 
   one : (i f i' f' j : ℕ) → is_containment m f ≡ true → is_containment m f' ≡ true → has (slots_at os i f) j ≡ true → has (slots_at os i' f') j ≡ true → (i ≡ i') × (f ≡ f')
   one i f i' f' j c c' h h' =
@@ -235,10 +235,10 @@ module _ (m : Metamodels) (k : ℕ) (os : List ObjectData) (model : IsModel m k 
         elim (cases_eq f f') [
           | inl e ↦ e
           | inr n ↦
-              let two : 2 ≤ how_often j (contents_of_slots m (object_at os i).slots) = two_slots m (object_at os i).slots f f' j c c' n (held_among (items_in f (object_at os i).slots) j h)
-              (held_among (items_in f' (object_at os i).slots) j (subst (λ z. has (slots_at os z f') j ≡ true) (sym same) h')) in
+              let two : 2 ≤ how_often j (contents_of_slots m (object_data_at os i).slots) = two_slots m (object_data_at os i).slots f f' j c c' n (held_among (items_in f (object_data_at os i).slots) j h)
+              (held_among (items_in f' (object_data_at os i).slots) j (subst (λ z. has (slots_at os z f') j ≡ true) (sym same) h')) in
               let most : how_often j (slice_index_or (contents m os) i []) ≤ 1 = at_most_here (contents m os) i j less in
-              let here : how_often j (slice_index_or (contents m os) i []) ≡ how_often j (contents_of_slots m (object_at os i).slots) = ap (how_often j) (lists_at i) in
+              let here : how_often j (slice_index_or (contents m os) i []) ≡ how_often j (contents_of_slots m (object_data_at os i).slots) = ap (how_often j) (lists_at i) in
               absurd (omega (arith, two, most, here))
         ],
       )

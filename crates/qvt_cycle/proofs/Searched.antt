@@ -6,7 +6,7 @@ use Rattle.qvt_relation.specs.Closure.{Closure, directly, through, Decides, IsBe
 use Rattle.qvt_relation.proofs.Bools.{or_cases, or_left, same_test}
 use Rattle.qvt_relation.proofs.Closures.{join, reaches-closure, closure-reaches}
 use Rattle.qvt_cycle.specs.Successors.{among, leads, is_on_cycle}
-use Rattle.qvt_cycle.specs.Search.{SearchState, is_marked, visit_all, unmarked, missing}
+use Rattle.qvt_cycle.specs.Search.{SearchState, is_visited, visit_all, unmarked, missing}
 use Rattle.qvt_cycle.proofs.Visits.{Visited, all_visited, among-here, among-joined, among-first, length-pushed}
 
 abbrev pub Step : List (List ℕ) → ℕ → ℕ → Type 0
@@ -22,13 +22,13 @@ starts_below (c ∷ lists) (suc x) y h = let ih = starts_below lists x y h in om
 
 -- the start, or what was found
 abbrev pub IsSeen : List (List ℕ) → ℕ → SearchState → ℕ → Type 0
-IsSeen lists start s x = (x ≡ start) ⊎ ((x < length lists) × (is_marked s.marks x ≡ true))
+IsSeen lists start s x = (x ≡ start) ⊎ ((x < length lists) × (is_visited s.marks x ≡ true))
 
 pub record IsSearch (lists : List (List ℕ)) (start : ℕ) (s : SearchState) : Type 0 where
   pub sizes : length s.marks ≡ length lists
-  pub found : (y : ℕ) → y < length lists → is_marked s.marks y ≡ true → Way lists start y
+  pub found : (y : ℕ) → y < length lists → is_visited s.marks y ≡ true → Way lists start y
   pub waits : (x : ℕ) → among s.pending x ≡ true → (x ≡ start) ⊎ Way lists start x
-  pub closed : (x y : ℕ) → IsSeen lists start s x → leads lists x y ≡ true → (is_marked s.marks y ≡ true) ⊎ (among s.pending x ≡ true)
+  pub closed : (x y : ℕ) → IsSeen lists start s x → leads lists x y ≡ true → (is_visited s.marks y ≡ true) ⊎ (among s.pending x ≡ true)
 
 onward : (lists : List (List ℕ)) (start x y : ℕ) → (x ≡ start) ⊎ Way lists start x → leads lists x y ≡ true → Way lists start y
 onward lists start x y h step = elim h [
@@ -60,7 +60,7 @@ looked lists start x marks rest h = record {
     last = h.waits x in_pending
 
     was : (z y : ℕ) → IsSeen lists start old_state z → leads lists z y ≡ true
-        → (is_marked (visit_all old_state (slice_index_or lists x [])).marks y ≡ true) ⊎ (among (visit_all old_state (slice_index_or lists x [])).pending z ≡ true)
+        → (is_visited (visit_all old_state (slice_index_or lists x [])).marks y ≡ true) ⊎ (among (visit_all old_state (slice_index_or lists x [])).pending z ≡ true)
     was z y seen step = elim (h.closed z y seen step) [
       | inl marked ↦ inl (v.kept y marked)
       | inr waiting ↦ elim (among-joined rest (x ∷ []) z waiting) [
@@ -73,7 +73,7 @@ looked lists start x marks rest h = record {
     ]
 
     closed : (z y : ℕ) → IsSeen lists start (visit_all old_state (slice_index_or lists x [])) z → leads lists z y ≡ true
-        → (is_marked (visit_all old_state (slice_index_or lists x [])).marks y ≡ true) ⊎ (among (visit_all old_state (slice_index_or lists x [])).pending z ≡ true)
+        → (is_visited (visit_all old_state (slice_index_or lists x [])).marks y ≡ true) ⊎ (among (visit_all old_state (slice_index_or lists x [])).pending z ≡ true)
     closed z y seen step = elim seen [
       | inl same ↦ was z y (inl same) step
       | inr m ↦ elim (v.only z m.1) [ inl old ↦ was z y (inr (m.0, old)) step | inr new ↦ inr new.1 ]
@@ -83,7 +83,7 @@ unmarked-long : (lists : List (List ℕ)) → length (unmarked lists) ≡ length
 unmarked-long [] = refl
 unmarked-long (c ∷ lists) = ap suc (unmarked-long lists)
 
-unmarked-none : (lists : List (List ℕ)) (y : ℕ) → y < length lists → is_marked (unmarked lists) y ≡ false
+unmarked-none : (lists : List (List ℕ)) (y : ℕ) → y < length lists → is_visited (unmarked lists) y ≡ false
 unmarked-none [] y lt = absurd (omega (arith, lt))
 unmarked-none (c ∷ lists) zero lt = refl
 unmarked-none (c ∷ lists) (suc y) lt = unmarked-none lists y (omega (arith, lt))
@@ -108,7 +108,7 @@ begins lists {x} {y} (through {y = z} step rest) = starts_below lists x z step
 
 -- nothing waits: all that steps lead to was found
 ended : (lists : List (List ℕ)) (start : ℕ) (marks : List Bool) → IsSearch lists start (record { marks = marks; pending = [] })
-    → (x y : ℕ) → IsSeen lists start (record { marks = marks; pending = [] }) x → Way lists x y → is_marked marks y ≡ true
+    → (x y : ℕ) → IsSeen lists start (record { marks = marks; pending = [] }) x → Way lists x y → is_visited marks y ≡ true
 ended lists start marks h x y seen (directly step) = elim (h.closed x y seen step) [ inl marked ↦ marked | inr none ↦ cc ]
 ended lists start marks h x y seen (through {y = z} step rest) = elim (h.closed x z seen step) [
   | inl marked ↦ ended lists start marks h z y (inr (begins lists rest, marked)) rest
@@ -128,7 +128,7 @@ pub on_cycle-way : (lists : List (List ℕ)) (x : ℕ) → is_on_cycle lists x �
 on_cycle-way lists x h = reaches-closure (leads lists) (Step lists) (decides lists) (length lists) x x h
 
 pub tells : (lists : List (List ℕ)) (start : ℕ) (marks : List Bool) → start < length lists → IsSearch lists start (record { marks = marks; pending = [] })
-    → is_marked marks start ≡ is_on_cycle lists start
+    → is_visited marks start ≡ is_on_cycle lists start
 tells lists start marks lt h = same_test _ _
     (λ m. way-on_cycle lists start (h.found start lt m))
     (λ c. ended lists start marks h start start (inl refl) (on_cycle-way lists start c))
@@ -148,7 +148,7 @@ fewer_left lists x before rest pending marks =
     let same = ap missing marks in
     omega (arith, v, long, same)
 
-pub tells_at : (lists : List (List ℕ)) (start : ℕ) (s : SearchState) → start < length lists → IsSearch lists start s → s.pending ≡ [] → is_marked s.marks start ≡ is_on_cycle lists start
+pub tells_at : (lists : List (List ℕ)) (start : ℕ) (s : SearchState) → start < length lists → IsSearch lists start s → s.pending ≡ [] → is_visited s.marks start ≡ is_on_cycle lists start
 tells_at lists start s lt h none = tells lists start s.marks lt (subst (IsSearch lists start) same h)
   where
     same : s ≡ record { marks = s.marks; pending = [] }

@@ -8,11 +8,11 @@ pub record SearchState : Type 0 where
   pub pending : List ℕ
 
 -- past the end everything counts as marked
-abbrev pub is_marked : List Bool → ℕ → Bool
-is_marked marks y = slice_index_or marks y true
+abbrev pub is_visited : List Bool → ℕ → Bool
+is_visited marks y = slice_index_or marks y true
 
 abbrev pub visit : SearchState → ℕ → SearchState
-visit found y = if is_marked found.marks y then found else record { marks = slice_set found.marks y true; pending = found.pending ++ y ∷ [] }
+visit found y = if is_visited found.marks y then found else record { marks = slice_set found.marks y true; pending = found.pending ++ y ∷ [] }
 
 abbrev pub visit_all : SearchState → List ℕ → SearchState
 visit_all found ys = fold visit found ys

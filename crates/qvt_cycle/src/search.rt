@@ -2,7 +2,7 @@
 
 ghost use Rattle.std.specs.Prelude.{◌≡◌, ◌<◌, length, IfOk, OnOk};
 ghost use Rattle.qvt_cycle.specs.Successors.{is_on_cycle};
-ghost use Rattle.qvt_cycle.specs.Search.{SearchState, visit, visit_all, unmarked, is_marked};
+ghost use Rattle.qvt_cycle.specs.Search.{SearchState, visit, visit_all, unmarked, is_visited};
 
 use crate::lists::Positions;
 use qvt_base::list_fault::ListFault;
@@ -41,7 +41,7 @@ impl Search {
 
     /// Whether the object was found; a position past the end counts as found.
     fn is_marked(&self, object: u32) -> bool
-        ensures { result ≡ is_marked self.now.marks object }
+        ensures { result ≡ is_visited self.now.marks object }
     {
         let at = object as usize;
         if at < self.marks.len() {

@@ -1,8 +1,8 @@
 -- The literals of the enumerations of a metamodel as sets.
 use Rattle.std.specs.Prelude.{◌≡◌, ℕ, ◌<◌, List, [], length, slice_index_or, position, Some}
 use Rattle.std.specs.Str.{bytes_eq}
-use Rattle.qvt_metamodel.specs.Metamodels.{Metamodels}
-use Rattle.qvt_metamodel.specs.Named.{enumeration_at}
+use Rattle.qvt_metas.specs.Metamodels.{Metamodels}
+use Rattle.qvt_metas.specs.Named.{enumeration_at}
 
 -- no two of the texts are equal: each is found first at its own place
 abbrev pub EachIsFirst : List (List ℕ) → Type 0

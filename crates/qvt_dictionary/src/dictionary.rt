@@ -1,8 +1,8 @@
 //! What a model is read by: metamodels, with the literals of the model's own looked up by hash.
 
 ghost use Rattle.std.specs.Prelude.{◌≡◌, [], ◌<◌, length, slice_index_or, IfOk};
-ghost use Rattle.qvt_metamodel.specs.Metamodels.{Metamodels};
-ghost use Rattle.qvt_metamodel.specs.Named.{enumeration_at, literal_named};
+ghost use Rattle.qvt_metas.specs.Metamodels.{Metamodels};
+ghost use Rattle.qvt_metas.specs.Named.{enumeration_at, literal_named};
 ghost use Rattle.qvt_dictionary.specs.Literals.{AreLiterals, EachIsFirst};
 
 use crate::texts::TextSet;

@@ -1,7 +1,7 @@
 -- What a resolve answers over a trace, a store and variables (QVT 1.3, 8.1.10 and 8.2.1.22).
 use Rattle.std.specs.Prelude.{List, Some}
 use Rattle.qvt_base.specs.declared.numbers.Place.{Place}
-use Rattle.qvt_slots.specs.Contents.{Contents}
+use Rattle.qvt_store.specs.Contents.{Contents}
 use Rattle.qvt_value.specs.declared.value.Value.{Value}
 use Rattle.qvt_run_data.specs.declared.late.LateWrite.{LateWrite}
 use Rattle.qvt_run_data.specs.declared.record.Record.{Record}

@@ -1,7 +1,7 @@
 -- What conditions say of candidates, with costs that are told by numbers of 64 bits.
 use Rattle.std.specs.Prelude.{◌≡◌}
 use Rattle.qvt_base.specs.declared.numbers.Oid.{Oid}
-use Rattle.qvt_slots.specs.Contents.{Contents}
+use Rattle.qvt_store.specs.Contents.{Contents}
 use Rattle.qvt_run_rules.specs.Resolve as rule
 use Rattle.qvt_meaning.specs.Plain.{weighed}
 use Rattle.qvt_exec_resolves.specs.Verdicts.{verdict_view}

@@ -3,7 +3,7 @@
 ghost use Rattle.std.specs.Prelude.{◌≡◌};
 ghost use Rattle.qvt_meaning.specs.Program.{known_class};
 ghost use Rattle.qvt_run_rules.specs.Mappings as rule;
-ghost use Rattle.qvt_slots.specs.Contents.{class_of};
+ghost use Rattle.qvt_store.specs.Contents.{class_of};
 ghost use Rattle.qvt_exec_state.specs.Runs.{Runs, seen};
 ghost use Rattle.qvt_exec_candidates.specs.Framed.{framed_holds};
 ghost use Rattle.qvt_exec_candidates.specs.Stage.{mappings_of, rule_of};

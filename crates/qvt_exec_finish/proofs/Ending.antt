@@ -1,6 +1,6 @@
 -- The end of a run, once its entries are answered.
 use Rattle.std.proofs.Common.{◌≡◌, ◌≢◌, ◌∙◌, ◌^◌, ◌-◌, min, ℕ, List, [], ◌∷◌, map, Result, Ok, Err, IsErrAnd, refl, sym, ap, subst, arith}
-use Rattle.qvt_slots.specs.Contents.{Contents}
+use Rattle.qvt_store.specs.Contents.{Contents}
 use Rattle.qvt_run_data.specs.declared.exit.End.{End}
 use Rattle.qvt_run_data.specs.declared.late.LateWrite.{LateWrite}
 use Rattle.qvt_run_data.specs.declared.record.Record.{Record}

@@ -1,6 +1,6 @@
 -- The trace of a run that has ended well has one record of a key at most, and exactly one where a call has one.
 use Rattle.std.proofs.Common.{ℕ, IfOk, IsTrue, Result, Ok, Err}
-use Rattle.qvt_slots.specs.Contents.{Contents}
+use Rattle.qvt_store.specs.Contents.{Contents}
 use Rattle.qvt_typing.specs.Accepts.{ProgramTerm}
 use Rattle.qvt_meaning.specs.Laws.{OneRecord, keys_differ}
 use Rattle.qvt_meaning.specs.Run as run

@@ -7,9 +7,9 @@ use Rattle.qvt_metamodel.specs.Descends.{descends}
 use Rattle.qvt_slots.specs.declared.fault.StoreFault.{StoreFault}
 use Rattle.qvt_slots.specs.declared.op.SetOp.{SetOp}
 use Rattle.qvt_slots.specs.declared.op.SetOp.TheVariants.{Put, Add}
-use Rattle.qvt_slots.specs.Assign.{assign, change_of, refusal_of, store_after, write}
-use Rattle.qvt_slots.specs.Change.{Change}
-use Rattle.qvt_slots.specs.Contents.{Contents, Instance, class_of, is_live, no_instance, slot_of}
+use Rattle.qvt_store.specs.Assign.{assign, change_of, refusal_of, store_after, write}
+use Rattle.qvt_store.specs.Change.{Change}
+use Rattle.qvt_store.specs.Contents.{Contents, Instance, class_of, is_live, no_instance, slot_of}
 use Rattle.qvt_store_laws.proofs.After.{length-after, instance-after}
 use Rattle.qvt_store_laws.proofs.SoundKept.{accepted}
 use Rattle.qvt_value.specs.declared.value.Value.{Value, Obj}

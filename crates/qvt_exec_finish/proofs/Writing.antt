@@ -4,9 +4,9 @@ use Rattle.std.proofs.lemmas.List.{drop_more, get_or-map, length-map}
 use Rattle.std.proofs.lemmas.List.Elements.{All-get_or, All-map, All-same, All-weaker}
 use Rattle.std.specs.List.{All}
 use Rattle.qvt_value.specs.declared.value.Value.{Obj}
-use Rattle.qvt_slots.specs.Contents.{Contents}
+use Rattle.qvt_store.specs.Contents.{Contents}
 use Rattle.qvt_slots.specs.declared.fault.StoreFault.{StoreFault}
-use Rattle.qvt_store_laws.specs.Stay.{IsStore, StaysIn}
+use Rattle.qvt_store.specs.Stay.{IsStore, StaysIn}
 use Rattle.qvt_store_laws.proofs.Stays.{write_stays}
 use Rattle.qvt_typing.specs.Accepts.{ProgramTerm}
 use Rattle.qvt_run_data.specs.declared.late.LateWrite.{LateWrite}

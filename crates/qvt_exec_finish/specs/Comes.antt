@@ -1,6 +1,6 @@
 -- How a run ends (QVT 1.3, 8.1.10).
 use Rattle.std.specs.Prelude.{Result, Ok, Err}
-use Rattle.qvt_slots.specs.Contents.{Contents}
+use Rattle.qvt_store.specs.Contents.{Contents}
 use Rattle.qvt_run_data.specs.declared.exit.End.{End}
 use Rattle.qvt_run_data.specs.declared.exit.Exit.TheVariants as exit
 use Rattle.qvt_run_data.specs.declared.exit.Halt.{Halt}

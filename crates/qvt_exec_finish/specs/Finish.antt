@@ -1,6 +1,6 @@
 -- A run that has ended well, as the definitions have it.
 use Rattle.std.specs.Prelude.{◌≡◌, map, Result, Ok, Err}
-use Rattle.qvt_slots.specs.Contents.{Contents}
+use Rattle.qvt_store.specs.Contents.{Contents}
 use Rattle.qvt_run_data.specs.declared.exit.End.{End}
 use Rattle.qvt_live_store.specs.Held.{contents_of}
 use Rattle.qvt_meaning.specs.Run as run

@@ -1,6 +1,6 @@
 -- What written entries leave as it was.
 use Rattle.std.specs.Prelude.{◌≡◌, List, Ok}
-use Rattle.qvt_slots.specs.Contents.{Contents}
+use Rattle.qvt_store.specs.Contents.{Contents}
 use Rattle.qvt_run_data.specs.declared.late.LateValue.{LateValue}
 use Rattle.qvt_run_data.specs.declared.record.Record.{Record}
 use Rattle.qvt_run_data.specs.declared.request.Request.{Request}

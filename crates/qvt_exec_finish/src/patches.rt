@@ -3,8 +3,8 @@
 ghost use Rattle.std.specs.Prelude.{◌≡◌, map, All, IfOk};
 ghost use Rattle.qvt_value.specs.declared.value.Value.{Obj};
 ghost use Rattle.qvt_run_rules.specs.Store.{fault_of};
-ghost use Rattle.qvt_slots.specs.Assign.{write};
-ghost use Rattle.qvt_slots.specs.Types.{IsAssignable};
+ghost use Rattle.qvt_store.specs.Assign.{write};
+ghost use Rattle.qvt_store.specs.Types.{IsAssignable};
 ghost use Rattle.qvt_live_store.specs.Held.{contents_of};
 ghost use Rattle.qvt_run_laws.specs.Entries.{CanBeWritten};
 ghost use Rattle.qvt_exec_finish.specs.Entries.{entry_view};

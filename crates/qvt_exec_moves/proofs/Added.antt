@@ -1,7 +1,7 @@
 -- What `+=` adds to a variable.
 use Rattle.std.proofs.Common.{◌≡◌, false, refl, [], ◌∷◌, Option}
 use Rattle.std.specs.Prelude.{if◌then◌else◌}
-use Rattle.qvt_metamodel.specs.Metamodels.{Metamodels}
+use Rattle.qvt_metas.specs.Metamodels.{Metamodels}
 use Rattle.qvt_types_data.specs.declared.ty.Ty.{Ty}
 use Rattle.qvt_types_words.specs.Types.{Collection}
 use Rattle.qvt_types_words.specs.Rulings.{items_conform}

@@ -10,7 +10,7 @@ use Rattle.qvt_value.specs.declared.value.Value.TheViews.{Coll}
 use Rattle.qvt_value.specs.declared.value.Kind.TheVariants.{Sequence}
 use Rattle.qvt_value.specs.declared.value.Reason.TheVariants.{TooLarge}
 use Rattle.qvt_value.specs.Limits.{most}
-use Rattle.qvt_slots.specs.Contents.{Contents}
+use Rattle.qvt_store.specs.Contents.{Contents}
 use Rattle.qvt_run_data.specs.declared.exit.End.{End}
 use Rattle.qvt_run_data.specs.declared.exit.End.TheVariants.{Fault}
 use Rattle.qvt_run_data.specs.declared.fault.RunFault.TheVariants.{InvalidValue, TypeFault}

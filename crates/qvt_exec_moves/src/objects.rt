@@ -7,10 +7,10 @@ ghost use Rattle.std.specs.Prelude.{◌<◌, length, true, nat_lt};
 ghost use Rattle.qvt_exec_state.specs.Held.{contents_of};
 ghost use Rattle.qvt_run_rules.specs.Statements.{object_or_new, set_object};
 ghost use Rattle.qvt_run_rules.specs.Store.{changed, made_one, new_object, put, slot_items, written};
-ghost use Rattle.qvt_slots.specs.Assign.{write};
-ghost use Rattle.qvt_slots.specs.Types.{IsAssignable};
-ghost use Rattle.qvt_slots.specs.Limits.{most_objects};
-ghost use Rattle.qvt_store_laws.specs.Sound.{IsClassFor};
+ghost use Rattle.qvt_store.specs.Assign.{write};
+ghost use Rattle.qvt_store.specs.Types.{IsAssignable};
+ghost use Rattle.qvt_store.specs.Limits.{most_objects};
+ghost use Rattle.qvt_store.specs.Sound.{IsClassFor};
 ghost use Rattle.qvt_exec_state.specs.Runs.{Runs, seen};
 ghost use Rattle.qvt_exec_moves.specs.Moves.{taken_from, variable_object};
 

@@ -2,7 +2,7 @@
 use Rattle.std.proofs.Common.{◌≡◌, ℕ, zero, suc, ◌+◌, ◌<◌, Bool, true, false, ◌==◌, cond, refl, sym, ap, ◌∙◌, List, [], ◌∷◌, ◌++◌, take, length, get_or, add-one, arith}
 use Rattle.std.specs.Prelude.{filter}
 use Rattle.qvt_base.specs.declared.numbers.Oid.{Oid}
-use Rattle.qvt_slots.specs.Contents.{Contents, Instance, extent_of, members_from, members_of, no_instance}
+use Rattle.qvt_store.specs.Contents.{Contents, Instance, extent_of, members_from, members_of, no_instance}
 use Rattle.qvt_run_rules.specs.declared.questions.ModelQuery.{ModelQuery}
 use Rattle.qvt_run_rules.specs.declared.questions.ModelQuery.TheVariants.{Objects, RootObjects, ObjectsOfType}
 use Rattle.qvt_run_rules.specs.Expressions.{model_objects}

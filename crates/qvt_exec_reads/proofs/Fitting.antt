@@ -5,11 +5,11 @@ use Rattle.std.specs.List.{list_all}
 use Rattle.std.proofs.lemmas.Bool.{eq-eqb, lt-ltb, ltb-true}
 use Rattle.std.proofs.lemmas.Bool.Decides.{Decides-eqb}
 use Rattle.qvt_value.specs.declared.value.Value.{Value}
-use Rattle.qvt_metamodel.specs.Metamodels.{class_at}
+use Rattle.qvt_metas.specs.Metamodels.{class_at}
 use Rattle.qvt_relation.proofs.Bools.{and_both, and_left, and_right, not_of_false, not_true, same_test}
-use Rattle.qvt_slots.specs.Contents.{Contents, extent_at, is_extent, is_live, is_slot}
-use Rattle.qvt_slots.specs.Types.{IsAssignable, is_of_type}
-use Rattle.qvt_store_laws.specs.Sound.{IsClassFor}
+use Rattle.qvt_store.specs.Contents.{Contents, extent_at, is_extent, is_live, is_slot}
+use Rattle.qvt_store.specs.Types.{IsAssignable, is_of_type}
+use Rattle.qvt_store.specs.Sound.{IsClassFor}
 use Rattle.qvt_run_rules.specs.Store.{are_fit, is_class_for}
 
 module _ (s : Contents) (c e : ℕ) where

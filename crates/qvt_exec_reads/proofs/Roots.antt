@@ -4,10 +4,10 @@ use Rattle.std.proofs.lemmas.Bool.{ltb-true}
 use Rattle.qvt_base.specs.declared.numbers.Oid.{Oid}
 use Rattle.qvt_relation.proofs.Bools.{and_left, clash, either, not_of_false, not_of_true, refuted}
 use Rattle.qvt_relation.proofs.Closures.{any_below-at, any_below-some}
-use Rattle.qvt_slots.specs.Slots.{Contains, has}
-use Rattle.qvt_slots.specs.Contents.{Contents, is_live, slot_of}
-use Rattle.qvt_slots.specs.Types.{AreTyped}
-use Rattle.qvt_slots.specs.Assign.{is_in}
+use Rattle.qvt_store.specs.Slots.{Contains, has}
+use Rattle.qvt_store.specs.Contents.{Contents, is_live, slot_of}
+use Rattle.qvt_store.specs.Types.{AreTyped}
+use Rattle.qvt_store.specs.Assign.{is_in}
 use Rattle.qvt_slots.proofs.Cyclic.{contains-is_in, is_in-contains}
 use Rattle.qvt_store_laws.proofs.After.{dead_empty, item_object}
 use Rattle.qvt_run_rules.specs.Store.{is_root}

@@ -1,8 +1,8 @@
 -- What an operation of a model asks of each object of it (QVT 1.3, 8.3.4.1 to 8.3.4.3).
 use Rattle.std.specs.Prelude.{Bool, true}
 use Rattle.qvt_base.specs.declared.numbers.Oid.{Oid}
-use Rattle.qvt_metamodel.specs.Descends.{descends}
-use Rattle.qvt_slots.specs.Contents.{Contents, class_of}
+use Rattle.qvt_metas.specs.Descends.{descends}
+use Rattle.qvt_store.specs.Contents.{Contents, class_of}
 use Rattle.qvt_run_rules.specs.declared.questions.ModelQuery.{ModelQuery}
 use Rattle.qvt_run_rules.specs.declared.questions.ModelQuery.TheVariants.{Objects, RootObjects, ObjectsOfType}
 use Rattle.qvt_run_rules.specs.Store.{is_root}

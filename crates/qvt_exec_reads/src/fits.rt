@@ -1,8 +1,8 @@
 //! Whether an object can be made, and a slot written.
 
 ghost use Rattle.std.specs.Prelude.{◌≡◌, IsTrue};
-ghost use Rattle.qvt_slots.specs.Types.{IsAssignable};
-ghost use Rattle.qvt_store_laws.specs.Sound.{IsClassFor};
+ghost use Rattle.qvt_store.specs.Types.{IsAssignable};
+ghost use Rattle.qvt_store.specs.Sound.{IsClassFor};
 ghost use Rattle.qvt_run_rules.specs.Store.{is_class_for, are_fit};
 
 use qvt_base::numbers::{ClassNo, FeatureNo, Oid};

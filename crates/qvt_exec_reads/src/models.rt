@@ -3,7 +3,7 @@
 ghost use Rattle.std.specs.Prelude.{◌≡◌, IfOk, map, filter};
 ghost use Rattle.qvt_value.specs.declared.value.Value.{Obj};
 ghost use Rattle.qvt_value.specs.Limits.{limited};
-ghost use Rattle.qvt_slots.specs.Contents.{members_of};
+ghost use Rattle.qvt_store.specs.Contents.{members_of};
 ghost use Rattle.qvt_run_rules.specs.Expressions.{model_objects};
 ghost use Rattle.qvt_run_rules.specs.Store.{is_root, ordered_set};
 ghost use Rattle.qvt_exec_reads.specs.Asked.{is_asked};

@@ -2,7 +2,7 @@
 
 ghost use Rattle.std.specs.Prelude.{◌≡◌, IfOk, filter};
 ghost use Rattle.std.specs.List.{list_all};
-ghost use Rattle.qvt_slots.specs.Contents.{class_of};
+ghost use Rattle.qvt_store.specs.Contents.{class_of};
 ghost use Rattle.qvt_run_rules.specs.Expressions.{object_test, tested, is_object, is_selected, selected};
 
 use crate::collections::built;

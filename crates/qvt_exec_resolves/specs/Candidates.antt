@@ -3,7 +3,7 @@ use Rattle.std.specs.Prelude.{◌≡◌, ℕ, Bool, true, List, filter, map, if�
 use Rattle.std.specs.List.{filter_map, fold}
 use Rattle.qvt_base.specs.declared.numbers.MappingNo.{MappingNo}
 use Rattle.qvt_base.specs.declared.numbers.Oid.{Oid}
-use Rattle.qvt_slots.specs.Contents.{Contents}
+use Rattle.qvt_store.specs.Contents.{Contents}
 use Rattle.qvt_run_data.specs.declared.record.Record.{Record}
 use Rattle.qvt_run_data.specs.declared.request.Request.{Request}
 use Rattle.qvt_run_rules.specs.Trace.{comes_from, far_end, is_listed, is_object_of, is_within, near_end, same_end, with_new}

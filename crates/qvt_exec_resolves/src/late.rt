@@ -1,7 +1,7 @@
 //! What a late assignment keeps (QVT 1.3, 8.1.10).
 
 ghost use Rattle.std.specs.Prelude.{◌≡◌, map, IfOk};
-ghost use Rattle.qvt_metamodel.specs.Descends.{is_class_kind};
+ghost use Rattle.qvt_metas.specs.Descends.{is_class_kind};
 ghost use Rattle.qvt_run_rules.specs.Locals.{var_of};
 ghost use Rattle.qvt_run_rules.specs.Resolve as rule;
 ghost use Rattle.qvt_run_rules.specs.State.{look};

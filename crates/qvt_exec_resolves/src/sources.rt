@@ -2,7 +2,7 @@
 
 ghost use Rattle.std.specs.Prelude.{◌≡◌, ◌∷◌, [], IfOk};
 ghost use Rattle.std.specs.List.{list_all};
-ghost use Rattle.qvt_slots.specs.Contents.{is_live};
+ghost use Rattle.qvt_store.specs.Contents.{is_live};
 ghost use Rattle.qvt_run_rules.specs.Resolve as rule;
 ghost use Rattle.qvt_run_rules.specs.Sources.{all_objects, present_items, sources_in};
 ghost use Rattle.qvt_exec_state.specs.Runs.{Runs, seen};

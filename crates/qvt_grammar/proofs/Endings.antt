@@ -2,7 +2,8 @@
 -- go on depends on whether the last one is there.
 use Rattle.std.proofs.Common.{◌≡◌, ℕ, zero, suc, ◌≤◌, ◌<◌, List, [], ◌∷◌, ◌++◌, length, Bool, true, false, IsTrue, ◌⊎◌, inl, inr, refl, sym, ap, ◌∙◌, subst, arith, append_assoc, Ok, Err, cond, Option, Some, None}
 use Rattle.qvt_grammar.specs.Language.{Language, turns, lastly, ended}
-use Rattle.qvt_grammar.specs.Reader.{At, Answer, ◌>>=◌, Begins, IsFarthest, starts, after_turn, ended_turns, ended_at}
+use Rattle.qvt_results.specs.Bind.{◌>>=◌}
+use Rattle.qvt_grammar.specs.Reader.{At, Answer, Begins, IsFarthest, starts, after_turn, ended_turns, ended_at}
 use Rattle.qvt_grammar.proofs.Lists.{regroup, grouped, rest_shorter, all_left, nil_right}
 use Rattle.qvt_grammar.proofs.Firsts.{Within, Apart, Firsts, Solid, begins_within, read_begins}
 use Rattle.qvt_grammar.proofs.Repeats.{begins_of, read_less}

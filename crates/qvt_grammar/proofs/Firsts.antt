@@ -1,7 +1,8 @@
 -- The tokens with which a language begins, single tokens, and what only makes other values.
 use Rattle.std.proofs.Common.{◌≡◌, ◌≤◌, List, [], ◌∷◌, ◌++◌, length, Bool, true, false, IsTrue, inl, inr, refl, sym, ap, ◌∙◌, subst, arith, Ok, Err, cond}
 use Rattle.qvt_grammar.specs.Language.{Language, token, made, never, empty, marked, head_of}
-use Rattle.qvt_grammar.specs.Reader.{At, Answer, ◌>>=◌, Begins, Exact, token_at, made_at, empty_at, marked_at}
+use Rattle.qvt_results.specs.Bind.{◌>>=◌}
+use Rattle.qvt_grammar.specs.Reader.{At, Answer, Begins, Exact, token_at, made_at, empty_at, marked_at}
 use Rattle.qvt_grammar.proofs.Lists.{all_left}
 
 abbrev pub Within : {T : Type 0} → (T → Bool) → (T → Bool) → Type 0

@@ -2,7 +2,8 @@
 use Rattle.std.proofs.Common.{◌≡◌, ℕ, zero, suc, ◌≤◌, List, [], ◌∷◌, ◌++◌, length, Bool, true, false, refl, sym, ap, ◌∙◌, subst, arith, append_assoc, append-nil, map, Ok, Err, cond}
 use Rattle.std.proofs.lemmas.List.{map-append}
 use Rattle.qvt_grammar.specs.Language.{Language}
-use Rattle.qvt_grammar.specs.Reader.{Fault, Answer, ◌>>=◌, Exact, then_at, made_at, starts, turns_at, many_at, with_front, Consumes}
+use Rattle.qvt_results.specs.Bind.{◌>>=◌}
+use Rattle.qvt_grammar.specs.Reader.{Fault, Answer, Exact, then_at, made_at, starts, turns_at, many_at, with_front, Consumes}
 use Rattle.qvt_grammar.proofs.Firsts.{Solid}
 use Rattle.qvt_grammar.proofs.Repeats.{read_less}
 

@@ -1,7 +1,8 @@
 -- Any number of turns.
 use Rattle.std.proofs.Common.{◌≡◌, ℕ, zero, suc, ◌≤◌, ◌<◌, List, [], ◌∷◌, ◌++◌, length, Bool, true, false, IsTrue, ◌⊎◌, inl, inr, refl, sym, ap, ◌∙◌, subst, arith, append_assoc, append-nil, length-append, Ok, Err, cond}
 use Rattle.qvt_grammar.specs.Language.{Language, then, many, turns}
-use Rattle.qvt_grammar.specs.Reader.{At, Answer, ◌>>=◌, Begins, IsFarthest, IsReading, IsStuck, Exact, then_at, made_at, starts, turns_at, many_at}
+use Rattle.qvt_results.specs.Bind.{◌>>=◌}
+use Rattle.qvt_grammar.specs.Reader.{At, Answer, Begins, IsFarthest, IsReading, IsStuck, Exact, then_at, made_at, starts, turns_at, many_at}
 use Rattle.qvt_grammar.proofs.Lists.{regroup, rest_shorter, all_left}
 use Rattle.qvt_grammar.proofs.Firsts.{Within, Apart, Firsts, Solid, begins_within, read_begins}
 use Rattle.qvt_grammar.proofs.Sequences.{then_exact_after}

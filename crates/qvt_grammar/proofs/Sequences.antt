@@ -1,7 +1,8 @@
 -- One part after the other.
 use Rattle.std.proofs.Common.{◌≡◌, ◌≤◌, List, [], ◌∷◌, ◌++◌, length, Bool, IsTrue, inl, inr, refl, sym, ap, ◌∙◌, subst, arith, Ok, Err}
 use Rattle.qvt_grammar.specs.Language.{Language, follow, then}
-use Rattle.qvt_grammar.specs.Reader.{At, Answer, ◌>>=◌, Begins, IsFarthest, IsReading, IsStuck, Exact, follow_at, then_at}
+use Rattle.qvt_results.specs.Bind.{◌>>=◌}
+use Rattle.qvt_grammar.specs.Reader.{At, Answer, Begins, IsFarthest, IsReading, IsStuck, Exact, follow_at, then_at}
 use Rattle.qvt_grammar.proofs.Lists.{regroup, grouped, rest_shorter, nil_left, nil_right}
 use Rattle.qvt_grammar.proofs.Firsts.{Within, Apart, Firsts, Solid, begins_within, read_begins}
 

@@ -1,7 +1,8 @@
 -- Exact readers where what may go on after a reading depends on the value that is read.
 use Rattle.std.proofs.Common.{◌≡◌, ◌≤◌, List, [], ◌∷◌, ◌++◌, length, Bool, true, false, IsTrue, ◌⊎◌, inl, inr, refl, sym, ap, ◌∙◌, subst, arith, Ok, Err, cond}
 use Rattle.qvt_grammar.specs.Language.{Language, follow, either, made, marked, head_of}
-use Rattle.qvt_grammar.specs.Reader.{At, Answer, ◌>>=◌, Begins, IsFarthest, Exact, follow_at, made_at, choose_at, starts, marked_at}
+use Rattle.qvt_results.specs.Bind.{◌>>=◌}
+use Rattle.qvt_grammar.specs.Reader.{At, Answer, Begins, IsFarthest, Exact, follow_at, made_at, choose_at, starts, marked_at}
 use Rattle.qvt_grammar.proofs.Lists.{regroup, grouped, rest_shorter}
 use Rattle.qvt_grammar.proofs.Firsts.{Within, Apart, Firsts, Solid, begins_within}
 

@@ -3,6 +3,7 @@
 use Rattle.std.specs.Prelude.{◌≡◌, ℕ, zero, suc, List, [], ◌∷◌, ◌++◌, length, ◌≤◌, ◌<◌, Bool, false, IsTrue, ◌⊎◌, Result, Ok, Err, cond, Option, Some, None}
 use Rattle.std.proofs.Common.{inl, inr}
 use Rattle.qvt_grammar.specs.Language.{Language, head_of}
+use Rattle.qvt_results.specs.Bind.{◌>>=◌}
 
 -- what is left, from the faulty token on
 pub data Fault (T : Type 0) : Type 0 where
@@ -10,11 +11,6 @@ pub data Fault (T : Type 0) : Type 0 where
 
 abbrev pub Answer : Type 0 → Type 0 → Type 0
 Answer T A = Result (A × List T) (Fault T)
-
-infixl 10 ◌>>=◌
-abbrev pub ◌>>=◌ : {T A B : Type 0} → Result A (Fault T) → (A → Result B (Fault T)) → Result B (Fault T)
-(Ok x) >>= f = f x
-(Err e) >>= f = Err e
 
 -- the list begins with a token of the set
 abbrev pub Begins : {T : Type 0} → (T → Bool) → List T → Type 0

@@ -1,8 +1,8 @@
 -- What is stated of a model that is read, where the code ends or goes on.
 use Rattle.std.proofs.Common.{◌≡◌, ◌≢◌, ◌∙◌, ap, ℕ, ◌+◌, List, length, true, false, Some, None, Ok, Err}
 use Rattle.std.specs.Prelude.{nat_lt, if◌then◌else◌, ⊤}
-use Rattle.qvt_json.specs.Steps.{◌>>=◌}
-use Rattle.qvt_metamodel.specs.Metamodels.{Metamodels}
+use Rattle.qvt_results.specs.Bind.{◌>>=◌}
+use Rattle.qvt_metas.specs.Metamodels.{Metamodels}
 use Rattle.qvt_model.specs.declared.data.ObjectData.{ObjectData}
 use Rattle.qvt_model.specs.WellFormed.{IsModel}
 use Rattle.qvt_conform.specs.Conformance.{IsSomeModel, conform_fault}

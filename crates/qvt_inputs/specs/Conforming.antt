@@ -1,8 +1,9 @@
 -- A model of a file, where models with so many objects were read before it: the first refusal of its form, then that there are
 -- too many objects, then its first fault against its metamodel (EMOF 12.4 and 12.5).
 use Rattle.std.specs.Prelude.{ℕ, ◌+◌, List, length, nat_lt, Option, option_map, Result, Ok, Err, if◌then◌else◌, ⊤}
-use Rattle.qvt_json.specs.Steps.{◌>>=◌, none_of}
-use Rattle.qvt_metamodel.specs.Metamodels.{Metamodels}
+use Rattle.qvt_results.specs.Bind.{◌>>=◌}
+use Rattle.qvt_json.specs.Steps.{none_of}
+use Rattle.qvt_metas.specs.Metamodels.{Metamodels}
 use Rattle.qvt_store.specs.Limits.{most_objects}
 use Rattle.qvt_model.specs.Reading.{model_of}
 use Rattle.qvt_model.specs.declared.data.ObjectData.{ObjectData}

@@ -8,8 +8,9 @@ use Rattle.serde_json.specs.Find.{get, as_str, as_array}
 use Rattle.qvt_base.specs.Names.{is_name, begins_name}
 use Rattle.qvt_json.specs.Json.{json, map_items}
 use Rattle.qvt_json.specs.Leaves.{is_text_of}
-use Rattle.qvt_json.specs.Shape.{leaf, list_of, list_fault, items_fault, key_fault, shown}
-use Rattle.qvt_json.specs.Steps.{◌>>=◌, or_fault, none_of, or_next}
+use Rattle.qvt_json.specs.Shape.{leaf, form_of_list, list_fault, items_fault, key_fault, shown}
+use Rattle.qvt_results.specs.Bind.{◌>>=◌}
+use Rattle.qvt_json.specs.Steps.{or_fault, none_of, or_next}
 use Rattle.qvt_job.specs.Job.{job_model_form, job_form, job_model_in, job_in, too_many, same_file, job_of}
 use Rattle.qvt_job.specs.Names.{HaveNames, ModelsHaveNames}
 use Rattle.qvt_job.specs.declared.job.JobFault.{JobFault}
@@ -62,9 +63,9 @@ list_named : (o : Option Items) → list_fault job_model_form o ≡ None → Hav
 list_named None h = tt
 list_named (Some ds) h = items_named 0 ds h
 
-models_at : (key : List ℕ) (o : Option Data) → key_fault key true (list_of job_model_form) o ≡ None → HaveNames (map_items job_model_in (unwrap_or (option_and_then as_array o) no_items))
+models_at : (key : List ℕ) (o : Option Data) → key_fault key true (form_of_list job_model_form) o ≡ None → HaveNames (map_items job_model_in (unwrap_or (option_and_then as_array o) no_items))
 models_at key None h = tt
-models_at key (Some d) h = list_named (as_array d) (map_none _ (list_of job_model_form d) h)
+models_at key (Some d) h = list_named (as_array d) (map_none _ (form_of_list job_model_form d) h)
 
 formed : (d : Data) → job_form d ≡ None → HaveNames (job_in d).inputs × HaveNames (job_in d).outputs
 unfolding job_form

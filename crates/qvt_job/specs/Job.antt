@@ -4,11 +4,12 @@ use Rattle.std.specs.List.{list_any}
 use Rattle.std.specs.Str.{bytes_eq}
 use Rattle.serde_json.specs.Data.{Data}
 use Rattle.qvt_base.specs.Names.{is_name, is_file}
-use Rattle.qvt_json.specs.Json.{json, text_at, number_at, items_or, text_or, texts_at, map_items}
+use Rattle.qvt_json.specs.Json.{json, text_at, count_under, items_or, text_or, texts_at, map_items}
 use Rattle.qvt_json.specs.Leaves.{is_text_of, is_count}
-use Rattle.qvt_json.specs.Shape.{Form, leaf, list_of, object_of, required, optional, shown}
+use Rattle.qvt_json.specs.Shape.{Form, leaf, form_of_list, form_of_object, required, optional, shown}
 use Rattle.qvt_json.specs.Repeated.{repeated}
-use Rattle.qvt_json.specs.Steps.{◌>>=◌, or_fault, none_of, or_next}
+use Rattle.qvt_results.specs.Bind.{◌>>=◌}
+use Rattle.qvt_json.specs.Steps.{or_fault, none_of, or_next}
 use Rattle.qvt_job.specs.declared.job.JobModel.{JobModel}
 use Rattle.qvt_job.specs.declared.job.Job.{Job}
 use Rattle.qvt_job.specs.declared.job.JobFault.{JobFault}
@@ -16,14 +17,14 @@ use Rattle.qvt_job.specs.declared.job.JobFault.TheVariants.{Json, Shape, TooMany
 
 -- a model of a job: its file, and its name in the transformation
 unfoldable pub job_model_form : Form
-job_model_form = object_of (required (codes "file") (leaf (is_text_of is_file)) ∷ required (codes "model") (leaf (is_text_of is_name)) ∷ [])
+job_model_form = form_of_object (required (codes "file") (leaf (is_text_of is_file)) ∷ required (codes "model") (leaf (is_text_of is_name)) ∷ [])
 
 unfoldable pub job_form : Form
-job_form = object_of (
+job_form = form_of_object (
     required (codes "fuel") (leaf (is_count 0 1000000000))
-    ∷ required (codes "inputs") (list_of job_model_form)
-    ∷ required (codes "metamodels") (list_of (leaf (is_text_of is_file)))
-    ∷ required (codes "outputs") (list_of job_model_form)
+    ∷ required (codes "inputs") (form_of_list job_model_form)
+    ∷ required (codes "metamodels") (form_of_list (leaf (is_text_of is_file)))
+    ∷ required (codes "outputs") (form_of_list job_model_form)
     ∷ required (codes "text") (leaf (is_text_of is_file))
     ∷ optional (codes "trace") (leaf (is_text_of is_file))
     ∷ [])
@@ -37,7 +38,7 @@ job_models_at key d = map_items job_model_in (items_or key d)
 -- what a value of the form of a job holds
 abbrev pub job_in : Data → Job
 job_in d = record {
-  fuel = unwrap_or (number_at (codes "fuel") d) 0;
+  fuel = unwrap_or (count_under (codes "fuel") d) 0;
   inputs = job_models_at (codes "inputs") d;
   metamodels = texts_at (codes "metamodels") d;
   outputs = job_models_at (codes "outputs") d;

@@ -1,5 +1,5 @@
 -- What is written is read as the same value.
-use Rattle.std.proofs.Common.{◌≡◌, ◌≤◌, List, [], ◌∷◌, ◌++◌, Some, true, refl, sym, ap, ◌∙◌, arith, append-nil}
+use Rattle.std.proofs.Common.{◌≡◌, ◌≤◌, [], ◌∷◌, ◌++◌, Some, true, refl, sym, ap, ◌∙◌, arith, append-nil}
 use Rattle.std.specs.Prelude.{option_and_then}
 use Rattle.std.specs.Str.{is_utf8}
 use Rattle.std.proofs.lemmas.Str.{is_utf8-from_IsUtf8, IsUtf8-append}
@@ -14,7 +14,6 @@ use Rattle.serde_json.specs.Data.{Data, depth}
 use Rattle.serde_json.specs.Read.{read, of_json, max_depth}
 use Rattle.serde_json.specs.Written.{compact_text, outline}
 use Rattle.serde_json.proofs.Texts.{print-outline}
-use Rattle.qvt_json.specs.Json as file
 use Rattle.qvt_json.specs.Plain.{IsPlain, file_text, WrittenIsRead}
 use Rattle.qvt_json.proofs.LineFeed.{tokens-line_feed}
 use Rattle.qvt_json.proofs.Trees.{of_json-outline, depth-outline, HasNumbers-outline}

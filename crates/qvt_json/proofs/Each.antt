@@ -2,7 +2,7 @@
 use Rattle.std.proofs.Common.{◌≡◌, List, [], ◌∷◌, ◌++◌, Option, Some, None, Result, Ok, Err, refl, ap, append_assoc}
 use Rattle.std.specs.Prelude.{option_map}
 use Rattle.std.proofs.lemmas.List.{append-nil}
-use Rattle.qvt_json.specs.Steps.{◌>>=◌}
+use Rattle.qvt_results.specs.Bind.{◌>>=◌}
 
 -- what was built, and what is still to be walked
 abbrev pub with_front : {X F : Type 0} → List X → Result (List X) F → Result (List X) F

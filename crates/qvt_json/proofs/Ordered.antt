@@ -1,5 +1,5 @@
 -- The keys of each object that is read ascend.
-use Rattle.std.proofs.Common.{◌≡◌, ◌∙◌, ℕ, List, Bool, true, false, Option, Some, None, Ordering, Less, Equal, Greater, refl, sym, ap, subst}
+use Rattle.std.proofs.Common.{◌≡◌, ◌∙◌, ℕ, List, Bool, true, false, Option, Some, None, Ordering, Less, Equal, Greater, refl, ap, subst}
 use Rattle.std.specs.Prelude.{⊤, option_and_then, option_map, unwrap_or, if◌then◌else◌}
 use Rattle.std.specs.Ordering.{nat_cmp, match_ordering, ordering_reverse}
 use Rattle.std.specs.Cmp.Lexicographic.{slice_cmp}

@@ -1,5 +1,5 @@
 -- A plain value is what the tree of its text stands for.
-use Rattle.std.proofs.Common.{◌≡◌, ℕ, ◌≤◌, ◌<◌, ◌^◌, pos, negsuc, List, [], ◌∷◌, Some, Greater, refl, sym, ap, ◌∙◌, arith}
+use Rattle.std.proofs.Common.{◌≡◌, ℕ, pos, negsuc, List, Some, Greater, refl, ap, ◌∙◌, arith}
 use Rattle.std.specs.Prelude.{⊤, max, suc}
 use Rattle.std.specs.Ordering.{nat_cmp}
 use Rattle.std.specs.Cmp.Lexicographic.{slice_cmp}

@@ -1,5 +1,5 @@
 -- JSON values (RFC 8259) as data: a file's value, and looking into it.
-use Rattle.std.specs.Prelude.{ℕ, List, [], ◌∷◌, Bool, true, false, ◌&&◌, Option, Some, None, option_and_then, unwrap_or, if◌then◌else◌}
+use Rattle.std.specs.Prelude.{ℕ, List, [], ◌∷◌, Bool, true, false, ◌&&◌, Option, None, option_and_then, unwrap_or, if◌then◌else◌}
 use Rattle.std.specs.List.{list_any}
 use Rattle.std.specs.Option.{option_map_or}
 use Rattle.std.specs.Str.{is_utf8, bytes_eq}
@@ -19,8 +19,8 @@ text_at key d = option_and_then as_str (get key d)
 abbrev pub as_count : Data → Option ℕ
 as_count d = option_and_then as_u64 (as_number d)
 
-abbrev pub number_at : List ℕ → Data → Option ℕ
-number_at key d = option_and_then as_count (get key d)
+abbrev pub count_under : List ℕ → Data → Option ℕ
+count_under key d = option_and_then as_count (get key d)
 
 -- the true or false at a key
 abbrev pub flag_at : List ℕ → Data → Option Bool

@@ -1,5 +1,5 @@
 -- The forms of single values.
-use Rattle.std.specs.Prelude.{ℕ, List, Bool, true, false, not, ◌&&◌, ◌==◌, nat_le, Option, Some, None, is_some}
+use Rattle.std.specs.Prelude.{ℕ, List, Bool, false, not, ◌&&◌, ◌==◌, nat_le, is_some}
 use Rattle.std.specs.List.{list_any}
 use Rattle.std.specs.Option.{option_map_or}
 use Rattle.qvt_base.specs.Names.{is_file}
@@ -11,8 +11,8 @@ use Rattle.qvt_json.specs.Json.{as_count}
 unfoldable pub is_id : List ℕ → Bool
 is_id s = is_file s && not (list_any (λ x. x == 58) s)
 
-abbrev pub is_text : Data → Bool
-is_text d = is_some (as_str d)
+abbrev pub is_json_text : Data → Bool
+is_json_text d = is_some (as_str d)
 
 -- a text that passes a test
 abbrev pub is_text_of : (List ℕ → Bool) → Data → Bool
@@ -21,8 +21,8 @@ is_text_of is d = option_map_or is (as_str d) false
 abbrev pub is_flag : Data → Bool
 is_flag d = is_some (as_bool d)
 
-abbrev pub is_object : Data → Bool
-is_object d = is_some (as_object d)
+abbrev pub is_json_object : Data → Bool
+is_json_object d = is_some (as_object d)
 
 -- a whole number from low to high
 abbrev pub is_count : ℕ → ℕ → Data → Bool

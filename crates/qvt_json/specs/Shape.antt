@@ -26,8 +26,8 @@ list_fault f None = Some []
 list_fault f (Some ds) = items_fault f 0 ds
 
 -- a list, each item of this form, in the order of the indices
-abbrev pub list_of : Form → Form
-list_of f d = list_fault f (as_array d)
+abbrev pub form_of_list : Form → Form
+form_of_list f d = list_fault f (as_array d)
 
 -- a key of an object, whether it is required, and the form of its value
 pub record KeyForm : Type 0 where
@@ -51,8 +51,8 @@ keys_fault (k ∷ ks) d = or_next (key_fault k.name k.required k.form (get k.nam
 
 -- an object with no keys but these, which stand in byte order: its own path where it is no object or has another key,
 -- then the first key that is missing or whose value is at fault
-abbrev pub object_of : List KeyForm → Form
-object_of keys d = if has_only (map (λ k. k.name) keys) d then keys_fault keys d else Some []
+abbrev pub form_of_object : List KeyForm → Form
+form_of_object keys d = if has_only (map (λ k. k.name) keys) d then keys_fault keys d else Some []
 
 -- the path from the root, which itself is `/`
 abbrev pub shown : List ℕ → List ℕ

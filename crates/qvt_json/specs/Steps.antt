@@ -1,11 +1,7 @@
 -- Steps of which the first that fails ends the whole, and walks over lists that end at the first fault.
-use Rattle.std.specs.Prelude.{◌≡◌, ◌≢◌, ℕ, List, [], ◌∷◌, Option, Some, None, option_map, option_and_then, Result, Ok, Err, ◌++◌, ⊤}
-use Rattle.serde_json.specs.Data.{Data, Items, no_items, item, Members, no_members, member}
-
-infixl 10 ◌>>=◌
-abbrev pub ◌>>=◌ : {A B F : Type 0} → Result A F → (A → Result B F) → Result B F
-(Ok x) >>= f = f x
-(Err e) >>= f = Err e
+use Rattle.std.specs.Prelude.{◌≡◌, ◌≢◌, List, [], ◌∷◌, Option, Some, None, option_map, option_and_then, Result, Ok, Err, ⊤}
+use Rattle.serde_json.specs.Data.{Data, Items, no_items, item}
+use Rattle.qvt_results.specs.Bind.{◌>>=◌}
 
 -- the value, or this fault where there is none
 abbrev pub or_fault : {A F : Type 0} → F → Option A → Result A F

@@ -2,7 +2,7 @@ ghost use Rattle.std.specs.Prelude.{◌≡◌, None, Some, [], if◌then◌else�
 ghost use Rattle.qvt_base.specs.Names.{is_name, is_file};
 ghost use Rattle.serde_json.specs.View.{view};
 ghost use Rattle.qvt_json.specs.Shape.{leaf};
-ghost use Rattle.qvt_json.specs.Leaves.{is_id, is_text, is_text_of, is_flag, is_object, is_count};
+ghost use Rattle.qvt_json.specs.Leaves.{is_id, is_json_text, is_text_of, is_flag, is_json_object, is_count};
 
 use crate::shape::Form;
 use qvt_base::list_fault::ListFault;
@@ -33,7 +33,7 @@ fn here(alloc: Global, is_right: bool) -> Option<Text>
 pub struct TextForm {}
 
 impl Form for TextForm {
-    ghost form = { λ f. leaf is_text };
+    ghost form = { λ f. leaf is_json_text };
 
     fn fault(&self, alloc: Global, value: &Value) -> Result<Option<Text>, ListFault> {
         Ok(here(alloc, value.as_str().is_some()))
@@ -97,7 +97,7 @@ impl Form for FlagForm {
 pub struct ObjectForm {}
 
 impl Form for ObjectForm {
-    ghost form = { λ f. leaf is_object };
+    ghost form = { λ f. leaf is_json_object };
 
     fn fault(&self, alloc: Global, value: &Value) -> Result<Option<Text>, ListFault> {
         Ok(here(alloc, value.as_object().is_some()))

@@ -2,7 +2,7 @@ ghost use Rattle.std.specs.Prelude.{◌≡◌, List, ℕ, Option, IfOk, decimal,
 ghost use Rattle.serde_json.specs.Data.{Data};
 ghost use Rattle.serde_json.specs.Find.{get};
 ghost use Rattle.serde_json.specs.View.{view, items_view};
-ghost use Rattle.qvt_json.specs.Shape.{under, items_fault, key_fault, list_of, shown};
+ghost use Rattle.qvt_json.specs.Shape.{under, items_fault, key_fault, form_of_list, shown};
 
 use qvt_base::list_fault::ListFault;
 use qvt_base::text::Text;
@@ -96,7 +96,7 @@ pub struct ListOf<F> {
 }
 
 impl<F: Form> Form for ListOf<F> {
-    ghost form = { λ l. list_of (F.form l.item) };
+    ghost form = { λ l. form_of_list (F.form l.item) };
 
     fn fault(&self, alloc: Global, value: &Value) -> Result<Option<Text>, ListFault> {
         let Some(items) = value.as_array() else {

@@ -2,7 +2,7 @@ ghost use Rattle.std.specs.Prelude.{◌≡◌, ◌∷◌, [], List, map, IfOk, o
 ghost use Rattle.std.specs.List.{list_any};
 ghost use Rattle.std.specs.Str.{bytes_eq};
 ghost use Rattle.serde_json.specs.View.{view, items_view, members_view};
-ghost use Rattle.qvt_json.specs.Json.{json, text_at, as_count, number_at, flag_at, items_at, members_at, text_or, text_of, texts_at, map_items, has_only, keys_among};
+ghost use Rattle.qvt_json.specs.Json.{json, text_at, as_count, count_under, flag_at, items_at, members_at, text_or, text_of, texts_at, map_items, has_only, keys_among};
 
 use qvt_base::list_fault::ListFault;
 use qvt_base::lists::NameList;
@@ -44,7 +44,7 @@ pub fn text_or<'a>(value: &'a Value, key: &str) -> &'a str
 
 /// The whole number without a sign at a key.
 pub fn number_at(value: &Value, key: &str) -> Option<u64>
-    ensures { result ≡ number_at key.now (view value.now) }
+    ensures { result ≡ count_under key.now (view value.now) }
 {
     value.get(key)?.as_u64()
 }

@@ -1,7 +1,8 @@
 -- What productions keep whose next tokens depend on their value, form by form.
 use Rattle.std.proofs.Common.{◌≡◌, ℕ, List, [], ◌∷◌, ◌++◌, length, Bool, true, false, ◌&&◌, IsTrue, ◌⊎◌, inl, inr, refl, sym, ap, ◌∙◌, subst, arith, Ok, Err, cond, Option, Some, None}
 use Rattle.qvt_grammar.specs.Language.{Language, follow, then, either, made, maybe}
-use Rattle.qvt_grammar.specs.Reader.{At, Answer, ◌>>=◌, Begins, Exact, follow_at, then_at, made_at, choose_at, starts, maybe_at, ended_at}
+use Rattle.qvt_results.specs.Bind.{◌>>=◌}
+use Rattle.qvt_grammar.specs.Reader.{At, Answer, Begins, Exact, follow_at, then_at, made_at, choose_at, starts, maybe_at, ended_at}
 use Rattle.qvt_grammar.proofs.Lists.{rest_shorter, all_left, nil_right}
 use Rattle.qvt_grammar.proofs.Firsts.{Within, Firsts, Solid, firsts_within, firsts_made, solid_made, firsts_marked, solid_marked}
 use Rattle.qvt_grammar.proofs.Sequences.{firsts_follow, firsts_then_over, solid_first}

@@ -3,7 +3,8 @@
 use Rattle.std.specs.Prelude.{◌≡◌, List, Option, Some, None, ◌⊎◌, Bool, false, cond, Ok, Err}
 use Rattle.std.proofs.Common.{inl, inr}
 use Rattle.qvt_grammar.specs.Language.{Language, ended}
-use Rattle.qvt_grammar.specs.Reader.{At, Answer, ◌>>=◌, starts, ended_at}
+use Rattle.qvt_results.specs.Bind.{◌>>=◌}
+use Rattle.qvt_grammar.specs.Reader.{At, Answer, starts, ended_at}
 
 abbrev pub left : {T A B : Type 0} → Language T (A ⊎ B) → Language T A
 left l = record { reads = λ ts a. l.reads ts (inl a); front = l.front }

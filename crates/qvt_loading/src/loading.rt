@@ -1,7 +1,7 @@
 //! Models read, loaded and written again, with the conditions of the calls asked at run time.
 
 ghost use Rattle.std.specs.Prelude.{◌≡◌, ◌<◌, ◌≤◌, ◌+◌, [], length, IsTrue, IfSome};
-ghost use Rattle.qvt_slots.specs.Contents.{AreNamed, extent_at, is_extent, is_model, members_of};
+ghost use Rattle.qvt_store.specs.Contents.{AreNamed, extent_at, is_extent, is_model, members_of};
 ghost use Rattle.qvt_store.specs.Sound.{Sound};
 ghost use Rattle.qvt_store.specs.Limits.{most_objects};
 ghost use Rattle.qvt_model.specs.Extents.{data_of};

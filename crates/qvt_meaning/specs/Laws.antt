@@ -1,8 +1,8 @@
 -- What is to hold of every run: that no answer of a late resolve reaches a statement, that its cost is exact and each key has one record at
 -- most, that one run which keeps requests alone comes to the same, and what the entries leave in one slot.
-use Rattle.std.specs.Prelude.{◌≡◌, ℕ, suc, ◌==◌, ◌&&◌, ◌++◌, Bool, true, not, List, [], ◌∷◌, filter, map, Option, None, Result, Ok, Err, IsTrue, IsFalse}
+use Rattle.std.specs.Prelude.{◌≡◌, ℕ, suc, ◌==◌, ◌&&◌, ◌++◌, Bool, not, List, [], ◌∷◌, filter, map, Option, None, Result, Ok, Err, IsTrue, IsFalse}
 use Rattle.std.specs.List.{fold}
-use Rattle.std.specs.Option.{is_some}
+use Rattle.qvt_repeats.specs.Repeats.{repeats_by}
 use Rattle.qvt_base.specs.declared.numbers.Place.{Place}
 use Rattle.qvt_metamodel.specs.Metamodels.{opposite, is_containment}
 use Rattle.qvt_metamodel.specs.WellFormed.{IsWellFormed}
@@ -22,7 +22,7 @@ use Rattle.qvt_run_data.specs.declared.exit.Exit.TheVariants.{Returned, Ends}
 use Rattle.qvt_run_rules.specs.State.{State, Done, Does}
 use Rattle.qvt_run_data.specs.declared.callee.Callee.{Callee}
 use Rattle.qvt_run_rules.specs.Statements.{in_order}
-use Rattle.qvt_run_rules.specs.Trace.{key_of, result_for}
+use Rattle.qvt_run_rules.specs.Trace.{same_key, key_of}
 use Rattle.qvt_types_data.specs.declared.ty.Ty.{Ty}
 use Rattle.qvt_types_nodes.specs.Tree.{TypedExprTerm, TypedStmtTerms}
 use Rattle.qvt_meaning.specs.Phrases.{expr, stmts}
@@ -82,8 +82,7 @@ ExactCost = (p : ProgramTerm) (store : Contents) (fuel : ℕ) (f : FinishedRun) 
 
 -- Each key has one record at most.
 abbrev pub keys_differ : List Record → Bool
-keys_differ [] = true
-keys_differ (r ∷ rs) = not (is_some (result_for (key_of r) rs)) && keys_differ rs
+keys_differ rs = not (repeats_by same_key (map key_of rs))
 
 abbrev pub OneRecord : Type 0
 OneRecord = (p : ProgramTerm) (store : Contents) (fuel : ℕ) (f : FinishedRun) → finished p store fuel ≡ Ok f → IsTrue (keys_differ f.finish.trace)

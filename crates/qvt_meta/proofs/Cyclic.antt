@@ -5,17 +5,17 @@ use Rattle.std.specs.List.{list_any}
 use Rattle.std.proofs.lemmas.List.{get_or_past}
 use Rattle.std.proofs.lemmas.Bool.Decides.{leb_tells}
 use Rattle.qvt_base.specs.declared.numbers.ClassNo.{ClassNo}
-use Rattle.qvt_relation.specs.Closure.{reaches}
+use Rattle.qvt_relation.specs.Closure.{reaches_by}
 use Rattle.qvt_metamodel.specs.declared.info.ClassInfo.{ClassInfo}
 use Rattle.qvt_metamodel.specs.declared.declared.DeclaredClass.{DeclaredClass}
 use Rattle.qvt_metamodel.specs.declared.declared.MetaData.{MetaData}
 use Rattle.qvt_metamodel.specs.MetaData.{class_names}
-use Rattle.qvt_metamodel.specs.Descends.{is_superclass}
+use Rattle.qvt_metas.specs.Descends.{is_superclass}
 use Rattle.qvt_metamodel.specs.Added.{declared_at, nothing_declared, names_of, place_in, first_begin, class_info, class_infos}
 use Rattle.qvt_metamodel.specs.Checks.{first_from, is_super, inheritance_cycle}
-use Rattle.qvt_meta_tables.specs.Tables.{of_classes}
+use Rattle.qvt_metas.specs.Tables.{of_classes}
 use Rattle.qvt_json.specs.Steps.{or_next}
-use Rattle.qvt_meta_tables.specs.Search.{AreLive}
+use Rattle.qvt_metas.specs.Search.{AreLive}
 use Rattle.qvt_meta_tables.specs.Cycles.{is_own_ancestor, cycle_from, first_cycle}
 use Rattle.qvt_metamodel.proofs.Bools.{ap2, clash}
 use Rattle.qvt_metamodel.proofs.Infos.{length-class_infos}
@@ -46,16 +46,16 @@ module _ (d : MetaData) where
         ∙ sym (ap (λ (k : DeclaredClass). list_any (λ name. place_in (class_names d) name == j) k.supers) (get_or_past ks i nothing_declared (omega (arith, f.1))))
   ]
 
-  own_same : (i : ℕ) → is_own_ancestor infos i ≡ reaches (is_super d) (length ks) i i
-  own_same i = (λ t. reaches (λ x y. super_same x y t) (total t) i i)
+  own_same : (i : ℕ) → is_own_ancestor infos i ≡ reaches_by (is_super d) (length ks) i i
+  own_same i = (λ t. reaches_by (λ x y. super_same x y t) (total t) i i)
 
   cycle_names : (c : ℕ) (left : List DeclaredClass) → ((i : ℕ) → i < length left → declared_at ks (c + i) ≡ get_or left i nothing_declared)
-      → first_from (λ i k. if reaches (is_super d) (length ks) i i then Some k.name else None) c left ≡ option_map (λ i. (declared_at ks i).name) (cycle_from infos c (length left))
+      → first_from (λ i k. if reaches_by (is_super d) (length ks) i i then Some k.name else None) c left ≡ option_map (λ i. (declared_at ks i).name) (cycle_from infos c (length left))
   cycle_names c [] at = refl
   cycle_names c (k ∷ left) at =
-      by (is_own_ancestor infos c) (reaches (is_super d) (length ks) c c) (own_same c) k.name
+      by (is_own_ancestor infos c) (reaches_by (is_super d) (length ks) c c) (own_same c) k.name
       (sym (ap (λ (x : DeclaredClass). x.name) (ap (declared_at ks) (let same : c ≡ c + 0 = omega arith in same) ∙ at 0 (omega arith))))
-      (first_from (λ i k. if reaches (is_super d) (length ks) i i then Some k.name else None) (suc c) left) (cycle_from infos (suc c) (length left))
+      (first_from (λ i k. if reaches_by (is_super d) (length ks) i i then Some k.name else None) (suc c) left) (cycle_from infos (suc c) (length left))
       (cycle_names (suc c) left (λ i l. ap (declared_at ks) (let same : suc c + i ≡ c + suc i = omega arith in same) ∙ at (suc i) (omega (arith, l))))
     where
       by : (a b : Bool) → a ≡ b → (x : List ℕ) → x ≡ (declared_at ks c).name → (o : Option (List ℕ)) (p : Option ℕ) → o ≡ option_map (λ i. (declared_at ks i).name) p

@@ -4,7 +4,8 @@ use Rattle.std.specs.Prelude.{option_map, ⊤}
 use Rattle.serde_json.specs.Data.{Data}
 use Rattle.qvt_json.specs.Json.{json}
 use Rattle.qvt_json.specs.Shape.{shown}
-use Rattle.qvt_json.specs.Steps.{◌>>=◌, or_fault, none_of}
+use Rattle.qvt_results.specs.Bind.{◌>>=◌}
+use Rattle.qvt_json.specs.Steps.{or_fault, none_of}
 use Rattle.qvt_metamodel.specs.declared.declared.MetaData.{MetaData}
 use Rattle.qvt_metamodel.specs.declared.fault.MetaFault.{MetaFault}
 use Rattle.qvt_metamodel.specs.declared.fault.MetaFault.TheVariants.{Json, Shape, SameName, UnknownType, InheritanceCycle, BadBounds, BadOpposite, SameFeature}
@@ -12,7 +13,7 @@ use Rattle.qvt_metamodel.specs.Checks.{same_name, unknown_type, inheritance_cycl
 use Rattle.qvt_meta_read.specs.MetaForm.{meta_form}
 use Rattle.qvt_meta_read.specs.DataOf.{meta_data}
 use Rattle.qvt_meta_checks.proofs.Passing.{map_none}
-use Rattle.qvt_meta.specs.MetaOf.{tell, features_checked, classes_checked, types_checked, checked, meta_of}
+use Rattle.qvt_meta.specs.MetaOf.{tell, checked, meta_of}
 use Rattle.qvt_meta.specs.Named.{MetaHasName}
 use Rattle.qvt_meta.proofs.NameThere.{named_data}
 
@@ -25,24 +26,19 @@ passed : {A : Type 0} (o : Option MetaFault) (r : Result A MetaFault) (x : A) �
 passed None r x e = record { nothing = refl; after = e }
 passed (Some f) r x e = absurd (cc)
 
-features_same : (d x : MetaData) → features_checked d ≡ Ok x → d ≡ x
-unfolding features_checked
-features_same d x e =
-    let a = passed (option_map (tell BadBounds) (bad_bounds d)) _ x e in
-    let b = passed (option_map (tell BadOpposite) (bad_opposite d)) _ x a.after in
-    let c = passed (option_map (tell SameFeature) (same_feature d)) (Ok d) x b.after in
-    ok_same d x c.after
+checked_same : (d x : MetaData) → checked d ≡ Ok x → d ≡ x
+unfolding checked
+checked_same d x e =
+    let a = passed (option_map SameName (same_name d)) _ x e in
+    let b = passed (option_map (tell UnknownType) (unknown_type d)) _ x a.after in
+    let c = passed (option_map InheritanceCycle (inheritance_cycle d)) _ x b.after in
+    let f = passed (option_map (tell BadBounds) (bad_bounds d)) _ x c.after in
+    let g = passed (option_map (tell BadOpposite) (bad_opposite d)) _ x f.after in
+    let h = passed (option_map (tell SameFeature) (same_feature d)) (Ok d) x g.after in
+    ok_same d x h.after
   where
     ok_same : (d x : MetaData) → ◌≡◌ {A = Result MetaData MetaFault} (Ok d) (Ok x) → d ≡ x
     ok_same d x e = cc
-
-checked_same : (d x : MetaData) → checked d ≡ Ok x → d ≡ x
-unfolding checked types_checked classes_checked
-checked_same d x e =
-    let a = passed (option_map SameName (same_name d)) (types_checked d) x e in
-    let b = passed (option_map (tell UnknownType) (unknown_type d)) (classes_checked d) x a.after in
-    let c = passed (option_map InheritanceCycle (inheritance_cycle d)) (features_checked d) x b.after in
-    features_same d x c.after
 
 abbrev shape_told : Data → Option MetaFault
 shape_told d = option_map (λ path. Shape (shown path)) (meta_form d)

@@ -9,7 +9,7 @@ use Rattle.std.proofs.lemmas.List.{get_or-map, length-map}
 use Rattle.std.proofs.lemmas.Slice.Eq.{bytes_eq-Decides}
 use Rattle.qvt_base.specs.declared.numbers.FeatureNo.{FeatureNo}
 use Rattle.qvt_metamodel.specs.declared.info.FeatureInfo.{FeatureInfo}
-use Rattle.qvt_metamodel.specs.Metamodels.{among_features, nowhere_feature}
+use Rattle.qvt_metas.specs.Metamodels.{among_features, nowhere_feature}
 use Rattle.qvt_metamodel.proofs.Bools.{clash, or_left, or_right}
 use Rattle.qvt_metamodel.proofs.Lookups.{bytes_eq-refl}
 use Rattle.qvt_metamodel.proofs.Positions.{any-passes, any-within, none-at}

@@ -7,7 +7,7 @@ use Rattle.qvt_metamodel.specs.declared.info.EnumInfo.{EnumInfo}
 use Rattle.qvt_meta.specs.declared.adding.Numbers.{Numbers}
 use Rattle.qvt_metamodel.specs.declared.declared.MetaData.{MetaData}
 use Rattle.qvt_metamodel.specs.MetaData.{enum_names}
-use Rattle.qvt_metamodel.specs.Metamodels.{nowhere_feature}
+use Rattle.qvt_metas.specs.Metamodels.{nowhere_feature}
 use Rattle.qvt_meta_names.specs.Named.{number_at}
 use Rattle.qvt_metamodel.specs.Added.{first_begin, names_of, class_infos, feature_infos, HasRoom}
 

@@ -4,11 +4,11 @@ ghost use Rattle.qvt_metamodel.specs.Added.{declared_at, first_begin, names_of, 
 ghost use Rattle.qvt_metamodel.specs.Checked.{Passes};
 ghost use Rattle.qvt_metamodel.specs.Checks.{same_name, unknown_type, inheritance_cycle};
 ghost use Rattle.qvt_metamodel.specs.MetaData.{class_names};
-ghost use Rattle.qvt_meta.specs.MetaOf.{features_checked, classes_checked, types_checked, checked, meta_of};
+ghost use Rattle.qvt_meta.specs.MetaOf.{checked, meta_of};
 ghost use Rattle.qvt_meta.specs.Numbers.{AreNumbers};
 ghost use Rattle.qvt_meta_lists.specs.Lists.{all_lists};
-ghost use Rattle.qvt_meta_tables.specs.Tables.{of_classes, AreTables};
-ghost use Rattle.qvt_meta_tables.specs.Search.{IsAcyclic};
+ghost use Rattle.qvt_metas.specs.Tables.{of_classes, AreTables};
+ghost use Rattle.qvt_metas.specs.Search.{IsAcyclic};
 
 use crate::adding::{Numbers, numbers_of};
 use crate::same_feature::same_feature;
@@ -81,7 +81,7 @@ fn inheritance_cycle(
 
 /// A metamodel whose names, types and classes passed the checks, or the first check of its features
 /// that fails.
-#[tactic(auto, unfolding(crate::specs::MetaOf::features_checked))]
+#[tactic(auto, unfolding(crate::specs::MetaOf::checked))]
 fn features_checked(
     alloc: Global,
     meta: MetaData,
@@ -96,7 +96,7 @@ fn features_checked(
     requires cycle { inheritance_cycle meta ≡ None }
     requires numbers { AreNumbers meta numbers }
     requires tables { AreTables (of_classes numbers.classes.items) (all_lists tables.lists) tables.rows.items tables.ranks.items }
-    ensures { GivesStated MetaFault.NoMemory (λ read. read) result (features_checked meta) }
+    ensures { GivesStated MetaFault.NoMemory (λ read. read) result (checked meta) }
 {
     if let Some((class, feature)) = bad_bounds(alloc, &meta)? {
         return Err(MetaFault::BadBounds(class, feature));
@@ -111,13 +111,13 @@ fn features_checked(
 }
 
 /// The same after the checks of names and types.
-#[tactic(auto, unfolding(crate::specs::MetaOf::classes_checked))]
+#[tactic(auto, unfolding(crate::specs::MetaOf::checked))]
 fn classes_checked(alloc: Global, meta: MetaData, names: &NameSet) -> Result<Meta, MetaFault>
     requires named { meta.name ≢ [] }
     requires names { names.now ≡ class_names meta }
     requires same_name { same_name meta ≡ None }
     requires unknown_type { unknown_type meta ≡ None }
-    ensures { GivesStated MetaFault.NoMemory (λ read. read) result (classes_checked meta) }
+    ensures { GivesStated MetaFault.NoMemory (λ read. read) result (checked meta) }
 {
     let numbers = numbers_of(alloc, &meta)?;
     let count = numbers.classes.len() as u32;
@@ -129,11 +129,11 @@ fn classes_checked(alloc: Global, meta: MetaData, names: &NameSet) -> Result<Met
 }
 
 /// The same after the check of names.
-#[tactic(auto, unfolding(crate::specs::MetaOf::types_checked))]
+#[tactic(auto, unfolding(crate::specs::MetaOf::checked))]
 fn types_checked(alloc: Global, meta: MetaData) -> Result<Meta, MetaFault>
     requires named { meta.name ≢ [] }
     requires same_name { same_name meta ≡ None }
-    ensures { GivesStated MetaFault.NoMemory (λ read. read) result (types_checked meta) }
+    ensures { GivesStated MetaFault.NoMemory (λ read. read) result (checked meta) }
 {
     let names = names_of(alloc, meta.classes.as_slice())?;
     let types = type_names(alloc, &meta)?;

@@ -1,7 +1,7 @@
 //! The check of the names among all features of a class.
 
 ghost use Rattle.std.specs.Prelude.{◌≡◌, ◌<◌, ◌^◌, ℕ, [], map, length, IsTrue, IfOk, slice_index_or};
-ghost use Rattle.qvt_metamodel.specs.Metamodels.{among_features, nowhere_feature, features_of};
+ghost use Rattle.qvt_metas.specs.Metamodels.{among_features, nowhere_feature, features_of};
 ghost use Rattle.qvt_metamodel.specs.Added.{numbered};
 ghost use Rattle.qvt_meta_lists.specs.Lists.{all_lists};
 ghost use Rattle.qvt_meta_repeats.specs.Flags.{name_flags};

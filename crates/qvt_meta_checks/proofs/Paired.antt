@@ -7,7 +7,7 @@ use Rattle.std.specs.Str.{bytes_eq}
 use Rattle.qvt_metamodel.specs.declared.declared.DeclaredFeature.{DeclaredFeature}
 use Rattle.qvt_metamodel.specs.declared.declared.DeclaredClass.{DeclaredClass}
 use Rattle.qvt_metamodel.specs.declared.declared.MetaData.{MetaData}
-use Rattle.qvt_metamodel.specs.Checks.{is_name, is_one_at_most, is_mutual, type_features, is_contained, has_no_class, may_repeat, is_undeclared, is_own_opposite, are_both_containments, has_many_containers, is_bad_opposite}
+use Rattle.qvt_metamodel.specs.Checks.{is_given_name, is_one_at_most, is_mutual, type_features, is_contained, has_no_class, may_repeat, is_undeclared, is_own_opposite, are_both_containments, has_many_containers, is_bad_opposite}
 use Rattle.qvt_metamodel.specs.Added.{declared_at, nothing_declared}
 use Rattle.qvt_metamodel.proofs.Bools.{not_true, clash}
 use Rattle.qvt_metamodel.proofs.Halves.{Half, old, new, half, old-at, new-at}
@@ -52,13 +52,13 @@ end_joined had has k is e = is e ∙ ap (λ t. cond t true (list_any (same_end e
 pub one_joined : (had has : List OppositeEnd) (g : DeclaredFeature) (k : OppositeEnd) → k.name ≡ g.name → k.kind ≡ g.kind → g.opposite ≡ Some k.opposite
     → ((e : OppositeEnd) → list_any (same_end e) has ≡ (list_any (same_end e) had || same_end e k)) → JoinedEnd false had g has
 one_joined had has g k en ek eo is = record {
-  holds = λ e. is e ∙ (λ i. list_any (same_end e) had || (bytes_eq e.name (en i) && (bytes_eq e.kind (ek i) && is_name (sym eo i) e.opposite)));
+  holds = λ e. is e ∙ (λ i. list_any (same_end e) had || (bytes_eq e.name (en i) && (bytes_eq e.kind (ek i) && is_given_name (sym eo i) e.opposite)));
 }
 
 pub none_joined : (only : Bool) (had : List OppositeEnd) (g : DeclaredFeature) → g.opposite ≡ None → JoinedEnd only had g had
 none_joined only had g e = record {
   holds = λ x. none only (list_any (same_end x) had) (bytes_eq x.name g.name) (bytes_eq x.kind g.kind) g.containment
-      ∙ ap (λ o. list_any (same_end x) had || ((not only || g.containment) && (bytes_eq x.name g.name && (bytes_eq x.kind g.kind && is_name o x.opposite)))) (sym e);
+      ∙ ap (λ o. list_any (same_end x) had || ((not only || g.containment) && (bytes_eq x.name g.name && (bytes_eq x.kind g.kind && is_given_name o x.opposite)))) (sym e);
 }
   where
     none : (only a b c d : Bool) → a ≡ (a || ((not only || d) && (b && (c && false))))
@@ -159,9 +159,9 @@ wanted k f name = record { name = name; kind = k.name; opposite = f.name }
 
 mutual_is : (k : DeclaredClass) (f : DeclaredFeature) (name : List ℕ) → f.opposite ≡ Some name → (g : DeclaredFeature) → is_end (wanted k f name) g ≡ is_mutual k f g
 mutual_is k f name e g =
-    and_and (bytes_eq name g.name) (bytes_eq k.name g.kind) (is_name g.opposite f.name)
-    ∙ (λ i. (flip name g.name i && flip k.name g.kind i) && is_name g.opposite f.name)
-    ∙ ap (λ o. (is_name o g.name && bytes_eq g.kind k.name) && is_name g.opposite f.name) (sym e)
+    and_and (bytes_eq name g.name) (bytes_eq k.name g.kind) (is_given_name g.opposite f.name)
+    ∙ (λ i. (flip name g.name i && flip k.name g.kind i) && is_given_name g.opposite f.name)
+    ∙ ap (λ o. (is_given_name o g.name && bytes_eq g.kind k.name) && is_given_name g.opposite f.name) (sym e)
 
 pub has_mutual : (k : DeclaredClass) (f : DeclaredFeature) (name : List ℕ) (gs : List DeclaredFeature) → f.opposite ≡ Some name → list_any (is_end (wanted k f name)) gs ≡ list_any (is_mutual k f) gs
 has_mutual k f name gs e = list_any-cong _ _ gs (all-every (λ g. is_end (wanted k f name) g ≡ is_mutual k f g) gs (mutual_is k f name e))
@@ -188,7 +188,7 @@ unpaired m k f name d c i e ed ec ei =
     let gs : List DeclaredFeature = type_features m f in
     let one : d ≡ list_any (is_mutual k f) gs = ed ∙ has_mutual k f name gs e in
     let two : c ≡ (may_not_be_contained f && is_contained m k f) = ec ∙ ap (λ t. may_not_be_contained f && t) (has_container k f name gs e) in
-    let three : i ≡ is_own_opposite k f = ei ∙ ap (λ o. bytes_eq f.kind k.name && is_name o f.name) (sym e) in
+    let three : i ≡ is_own_opposite k f = ei ∙ ap (λ o. bytes_eq f.kind k.name && is_given_name o f.name) (sym e) in
     (λ t. not (one t) || two t || three t)
     ∙ by (list_any (is_mutual k f) gs) f.containment (not (is_one_at_most f.upper)) (is_contained m k f) (is_own_opposite k f)
     ∙ ap (λ o. (is_some o && not (list_any (is_mutual k f) gs)) || is_own_opposite k f || are_both_containments m k f || has_many_containers m k f) (sym e)
@@ -213,11 +213,11 @@ unpaired m k f name d c i e ed ec ei =
 -- a feature without an opposite has none that is wrong
 pub alone : (m : MetaData) (k : DeclaredClass) (f : DeclaredFeature) → f.opposite ≡ None → (is_undeclared m k f || is_own_opposite k f || are_both_containments m k f || has_many_containers m k f) ≡ false
 alone m k f e =
-    (λ i. (is_some (e i) && not (list_any (is_mutual k f) (type_features m f))) || (bytes_eq f.kind k.name && is_name (e i) f.name) || (f.containment && none i) || (not (is_one_at_most f.upper) && none i))
+    (λ i. (is_some (e i) && not (list_any (is_mutual k f) (type_features m f))) || (bytes_eq f.kind k.name && is_given_name (e i) f.name) || (f.containment && none i) || (not (is_one_at_most f.upper) && none i))
     ∙ by (bytes_eq f.kind k.name) f.containment (not (is_one_at_most f.upper))
   where
     no_mutual : (g : DeclaredFeature) → (is_mutual k f g && g.containment) ≡ false
-    no_mutual g = ap (λ o. is_name o g.name && bytes_eq g.kind k.name && is_name g.opposite f.name && g.containment) e
+    no_mutual g = ap (λ o. is_given_name o g.name && bytes_eq g.kind k.name && is_given_name g.opposite f.name && g.containment) e
 
     none : is_contained m k f ≡ false
     none = list_any-none _ (type_features m f) (all-every (λ g. (is_mutual k f g && g.containment) ≡ false) (type_features m f) no_mutual)

@@ -12,7 +12,7 @@ use Rattle.qvt_json.specs.Repeated.{repeated}
 use Rattle.qvt_metamodel.specs.Names.{primitive_names, is_among}
 use Rattle.qvt_metamodel.specs.Named.{nowhere_enumeration}
 use Rattle.qvt_metamodel.specs.Added.{declared_at, nothing_declared}
-use Rattle.qvt_metamodel.specs.Checks.{first_in, first_from, feature_fault, same_enum, same_name}
+use Rattle.qvt_metamodel.specs.Checks.{first_in, first_from, failing_feature, same_enum, same_name}
 use Rattle.qvt_metamodel.proofs.Infos.{featured_at, nothing_featured}
 use Rattle.qvt_metamodel.proofs.Lookups.{none_repeated, repeated-fewer}
 
@@ -40,12 +40,12 @@ first_from-none f n (x ∷ xs) (suc i) d h l =
     ap (λ k. f k (get_or xs i d)) (omega arith) ∙ first_from-none f (suc n) xs i d (next_none (f n x) (first_from f (suc n) xs) h).1 (omega arith)
 
 -- a test that no feature fails, at each
-pub no_fault : (is : DeclaredClass → DeclaredFeature → Bool) (ks : List DeclaredClass) (c j : ℕ) → first_in (feature_fault is) ks ≡ None → c < length ks → j < length (declared_at ks c).features
+pub no_fault : (is : DeclaredClass → DeclaredFeature → Bool) (ks : List DeclaredClass) (c j : ℕ) → first_in (failing_feature is) ks ≡ None → c < length ks → j < length (declared_at ks c).features
     → is (declared_at ks c) (featured_at (declared_at ks c) j) ≡ false
 no_fault is ks c j h l w =
     let k : DeclaredClass = declared_at ks c in
     if_none (is k (featured_at k j)) (k.name, (featured_at k j).name)
-    (first_in-none (λ f. if is k f then Some (k.name, f.name) else None) k.features j nothing_featured (first_in-none (feature_fault is) ks c nothing_declared h l) w)
+    (first_in-none (λ f. if is k f then Some (k.name, f.name) else None) k.features j nothing_featured (first_in-none (failing_feature is) ks c nothing_declared h l) w)
 
 -- the next of those that are left
 pub from_next : {X F : Type 0} (f : ℕ → X → Option F) (n : ℕ) (xs : List X) (d : X) (all : Option F) → n < length xs → first_from f n (drop n xs) ≡ all → f n (get_or xs n d) ≡ None → first_from f (n + 1) (drop (n + 1) xs) ≡ all

@@ -5,7 +5,7 @@ use Rattle.std.specs.Str.{bytes_eq}
 use Rattle.qvt_metamodel.specs.declared.declared.DeclaredFeature.{DeclaredFeature}
 use Rattle.qvt_metamodel.specs.declared.declared.DeclaredClass.{DeclaredClass}
 use Rattle.qvt_metamodel.specs.Added.{declared_at}
-use Rattle.qvt_metamodel.specs.Checks.{is_name, is_one_at_most}
+use Rattle.qvt_metamodel.specs.Checks.{is_given_name, is_one_at_most}
 use Rattle.qvt_meta_checks.specs.declared.ends.OppositeEnd.{OppositeEnd}
 use Rattle.qvt_meta_checks.specs.declared.ends.Ends.{Ends}
 
@@ -14,7 +14,7 @@ same_end a b = bytes_eq a.name b.name && (bytes_eq a.kind b.kind && bytes_eq a.o
 
 -- the feature is this end
 abbrev pub is_end : OppositeEnd → DeclaredFeature → Bool
-is_end e g = bytes_eq e.name g.name && (bytes_eq e.kind g.kind && is_name g.opposite e.opposite)
+is_end e g = bytes_eq e.name g.name && (bytes_eq e.kind g.kind && is_given_name g.opposite e.opposite)
 
 -- the feature is this end, and where only these count a containment
 abbrev pub is_end_of : Bool → OppositeEnd → DeclaredFeature → Bool

@@ -7,7 +7,7 @@ ghost use Rattle.qvt_json.specs.Steps.{or_next};
 ghost use Rattle.qvt_metamodel.specs.MetaData.{class_names};
 ghost use Rattle.qvt_json.specs.Repeated.{repeated};
 ghost use Rattle.qvt_metamodel.specs.Names.{primitive_names, is_among};
-ghost use Rattle.qvt_metamodel.specs.Checks.{same_enum, same_name, unknown, unknown_in, unknown_type, type_names, first_in, is_below, bad_bounds, feature_fault};
+ghost use Rattle.qvt_metamodel.specs.Checks.{same_enum, same_name, unknown, unknown_in, unknown_type, type_names, first_in, is_below, bad_bounds, failing_feature};
 ghost use Rattle.qvt_metamodel.specs.declared.declared.DeclaredClass.{DeclaredClass};
 ghost use Rattle.qvt_metamodel.specs.declared.declared.DeclaredFeature.{DeclaredFeature};
 
@@ -127,7 +127,7 @@ fn feature_fault<'a, T: FeatureTest>(
     test: &T,
     class: &'a DeclaredClass,
 ) -> Result<Option<&'a Text>, ListFault>
-    ensures { IfOk result (λ o. option_map (λ name. (class.now.name, name)) (option_copied o) ≡ feature_fault (T.fails test.now) class.now) }
+    ensures { IfOk result (λ o. option_map (λ name. (class.now.name, name)) (option_copied o) ≡ failing_feature (T.fails test.now) class.now) }
 {
     for feature in class.features.as_slice() {
         if test.fails(alloc, class, feature)? {
@@ -143,7 +143,7 @@ pub fn first_fault<T: FeatureTest>(
     test: &T,
     classes: &[DeclaredClass],
 ) -> Result<Option<(Text, Text)>, ListFault>
-    ensures { IfOk result (λ o. o ≡ first_in (feature_fault (T.fails test.now)) classes.now) }
+    ensures { IfOk result (λ o. o ≡ first_in (failing_feature (T.fails test.now)) classes.now) }
 {
     for class in classes {
         if let Some(name) = feature_fault(alloc, test, class)? {

@@ -13,9 +13,9 @@ use Rattle.qvt_metamodel.specs.declared.info.MetamodelInfo.{MetamodelInfo}
 use Rattle.qvt_metamodel.specs.declared.info.TypeKind.{TypeKind}
 use Rattle.qvt_metamodel.specs.declared.info.TypeKind.TheVariants.{Bool as BoolKind, Int, Str, Enum, Class}
 use Rattle.qvt_metamodel.specs.declared.row.Row.{Row}
-use Rattle.qvt_metamodel.specs.Metamodels.{Metamodels, features_of, nowhere_class}
-use Rattle.qvt_metamodel.specs.Descends.{is_superclass}
-use Rattle.qvt_metamodel.specs.Named.{metamodel_at, nowhere_metamodel}
+use Rattle.qvt_metas.specs.Metamodels.{Metamodels, features_of, nowhere_class}
+use Rattle.qvt_metas.specs.Descends.{is_superclass}
+use Rattle.qvt_metas.specs.Named.{metamodel_at, nowhere_metamodel}
 use Rattle.qvt_metamodel.specs.WellFormed.{IsWellFormed, IsLiveKind}
 use Rattle.qvt_metamodel.specs.Checks.{repeated_feature}
 use Rattle.qvt_metamodel.specs.Extended.{extended, unnamed, element_class, given_classes, given_count, IsGivenNumber, IsLoose, AreGiven}
@@ -23,14 +23,14 @@ use Rattle.qvt_metamodel.proofs.Ancestors.{path}
 use Rattle.qvt_metamodel.proofs.Bools.{clash, and_both, and_left, and_right}
 use Rattle.qvt_metamodel.proofs.Halves.{Half, old, new, half, old-at, new-at}
 use Rattle.qvt_metamodel.proofs.Lookups.{none_from}
-use Rattle.qvt_meta_tables.specs.Tables.{of_classes, AreTables}
-use Rattle.qvt_meta_tables.specs.Search.{AreLive, IsAcyclic}
+use Rattle.qvt_metas.specs.Tables.{of_classes, AreTables}
+use Rattle.qvt_metas.specs.Search.{AreLive, IsAcyclic}
 use Rattle.qvt_meta_tables.specs.Cycles.{is_own_ancestor, cycle_from, first_cycle}
 use Rattle.qvt_meta_tables.proofs.Cyclic.{acyclic_of}
 use Rattle.qvt_meta_tables.proofs.Same.{features_of_same}
 use Rattle.qvt_metas.proofs.GivenOrder.{given_acyclic, whole_acyclic}
 use Rattle.qvt_metas.proofs.Extends.{W, is_extended, class_total, class_new, given_supers, super_in}
-use Rattle.qvt_meta_given.specs.Given.{fits, has_room_for, is_given_number, has_given_supers, is_live_kind, has_live_kind, has_live_kinds, are_live, is_loose, has_loose_features, are_loose, differ, AreSound}
+use Rattle.qvt_meta_given.specs.Given.{fits, has_room_for, is_given_number, has_given_supers, is_live_kind, has_live_kind, has_live_kinds, are_live, is_loose, has_loose_features, are_loose, are_named_apart, AreSound}
 
 -- tests of all items
 all_of : {X : Type 0} (p : X → Bool) (P : X → Type 0) (xs : List X) → ((x : X) → p x ≡ true → P x) → list_all p xs ≡ true → AllByRecursion P xs
@@ -202,19 +202,19 @@ module _ (m : Metamodels) (cs : List ClassData) where
     given_total : length (drop (length m.classes + 1) lists) ≡ length cs
     given_total = (let n : length (drop (length m.classes + 1) lists) ≡ length lists - (length m.classes + 1) = length-drop (length m.classes + 1) lists in omega (arith, n, lists_total))
 
-    names_of : list_all (differ (extended m cs).features) (drop (length m.classes + 1) lists) ≡ true → (i : ℕ) → i < length cs → repeated_feature (extended m cs) (length m.classes + (1 + i)) ≡ None
-    names_of h i l = none_from _ (sym (ap (differ (extended m cs).features) (list_at i)) ∙ at_all (differ (extended m cs).features) (drop (length m.classes + 1) lists) [] h i (omega (arith, l, given_total)))
+    names_of : list_all (are_named_apart (extended m cs).features) (drop (length m.classes + 1) lists) ≡ true → (i : ℕ) → i < length cs → repeated_feature (extended m cs) (length m.classes + (1 + i)) ≡ None
+    names_of h i l = none_from _ (sym (ap (are_named_apart (extended m cs).features) (list_at i)) ∙ at_all (are_named_apart (extended m cs).features) (drop (length m.classes + 1) lists) [] h i (omega (arith, l, given_total)))
 
-    of_names : ((i : ℕ) → i < length cs → repeated_feature (extended m cs) (length m.classes + (1 + i)) ≡ None) → list_all (differ (extended m cs).features) (drop (length m.classes + 1) lists) ≡ true
-    of_names f = all_at (differ (extended m cs).features) (drop (length m.classes + 1) lists) [] (λ i l. ap (differ (extended m cs).features) (list_at i) ∙ none_is _ (f i (omega (arith, l, given_total))))
+    of_names : ((i : ℕ) → i < length cs → repeated_feature (extended m cs) (length m.classes + (1 + i)) ≡ None) → list_all (are_named_apart (extended m cs).features) (drop (length m.classes + 1) lists) ≡ true
+    of_names f = all_at (are_named_apart (extended m cs).features) (drop (length m.classes + 1) lists) [] (λ i l. ap (are_named_apart (extended m cs).features) (list_at i) ∙ none_is _ (f i (omega (arith, l, given_total))))
 
-    pub sound_of : IsAcyclic ks → list_all (differ (extended m cs).features) (drop (length m.classes + 1) lists) ≡ true → AreSound m cs
+    pub sound_of : IsAcyclic ks → list_all (are_named_apart (extended m cs).features) (drop (length m.classes + 1) lists) ≡ true → AreSound m cs
     sound_of alone h = record {
       acyclic = given_acyclic m cs (subst IsAcyclic all_same alone);
       names = names_of h;
     }
 
-    pub of_sound : list_all (differ (extended m cs).features) (drop (length m.classes + 1) lists) ≡ false → AreSound m cs → ⊥
+    pub of_sound : list_all (are_named_apart (extended m cs).features) (drop (length m.classes + 1) lists) ≡ false → AreSound m cs → ⊥
     of_sound h sound = clash (of_names sound.names) h
 
   -- all together

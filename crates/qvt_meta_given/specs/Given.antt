@@ -10,9 +10,9 @@ use Rattle.qvt_metamodel.specs.declared.info.FeatureInfo.{FeatureInfo}
 use Rattle.qvt_metamodel.specs.declared.info.TypeKind.{TypeKind}
 use Rattle.qvt_metamodel.specs.declared.info.TypeKind.TheVariants.{Bool as BoolKind, Int, Str, Enum, Class}
 use Rattle.qvt_relation.specs.Closure.{Closure}
-use Rattle.qvt_metamodel.specs.Metamodels.{Metamodels, nowhere_feature}
+use Rattle.qvt_metas.specs.Metamodels.{Metamodels, nowhere_feature}
 use Rattle.qvt_metamodel.specs.Checks.{repeated_feature}
-use Rattle.qvt_metamodel.specs.Named.{metamodel_at}
+use Rattle.qvt_metas.specs.Named.{metamodel_at}
 use Rattle.qvt_metamodel.specs.Extended.{given_count, extended, is_given_superclass}
 
 -- the numbers fit 32 bits
@@ -55,8 +55,8 @@ abbrev pub known_names : List FeatureInfo → List (List ℕ)
 known_names fs = [] ∷ map (λ f. f.name) fs
 
 -- no two of the features have one name
-abbrev pub differ : List FeatureInfo → List FeatureNo → Bool
-differ fs list = is_none (repeated [] (map (name_in fs) list))
+abbrev pub are_named_apart : List FeatureInfo → List FeatureNo → Bool
+are_named_apart fs list = is_none (repeated [] (map (name_in fs) list))
 
 -- no feature is a containment or has a lower bound above 0
 abbrev pub is_loose : FeatureData → Bool

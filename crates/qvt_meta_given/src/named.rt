@@ -8,7 +8,7 @@ ghost use Rattle.std.specs.Str.{bytes_eq};
 ghost use Rattle.qvt_json.specs.Repeated.{repeated};
 ghost use Rattle.qvt_meta_lists.specs.Lists.{all_lists};
 ghost use Rattle.qvt_meta_repeats.specs.Flags.{name_flags};
-ghost use Rattle.qvt_meta_given.specs.Given.{name_in, differ, known_names};
+ghost use Rattle.qvt_meta_given.specs.Given.{name_in, are_named_apart, known_names};
 
 use qvt_base::list_fault::ListFault;
 use qvt_meta_lists::lists::FeatureLists;
@@ -81,7 +81,7 @@ pub fn all_differ(
 ) -> Result<bool, ListFault>
     requires first { first ≤ count }
     requires count { length (all_lists lists.now) ≡ count }
-    ensures { IfOk result (λ b. b ≡ list_all (differ features.now) (drop first (all_lists lists.now))) }
+    ensures { IfOk result (λ b. b ≡ list_all (are_named_apart features.now) (drop first (all_lists lists.now))) }
 {
     let repeats = name_repeats(alloc, features, lists)?;
     for class in first..count {

@@ -1,10 +1,11 @@
--- The first feature of a name among the first ones of a list.
-use Rattle.std.proofs.Common.{◌≡◌, ◌∙◌, ℕ, zero, suc, ◌<◌, ◌≤◌, List, [], ◌∷◌, length, take, get_or, Bool, true, false, Option, Some, None, refl, ap, sym, arith, position, cond}
+-- The first item that passes a test, among the first ones of a list and where one is put last.
+use Rattle.std.proofs.Common.{◌≡◌, ◌∙◌, ℕ, zero, suc, ◌+◌, ◌<◌, ◌≤◌, ◌⊎◌, inl, inr, List, [], ◌∷◌, ◌++◌, length, take, get_or, Bool, true, false, Option, Some, None, refl, ap, sym, arith, position, cond}
 use Rattle.std.specs.List.{list_any, position_or_len}
-use Rattle.std.proofs.lemmas.Bool.{lt-ltb}
-use Rattle.std.proofs.lemmas.List.{get_or-take}
+use Rattle.std.proofs.lemmas.Bool.{cases_lt, lt-ltb}
+use Rattle.std.proofs.lemmas.List.{get_or-take, length-append}
 use Rattle.std.proofs.lemmas.List.Quantifiers.{position-Some}
 use Rattle.qvt_metamodel.proofs.Bools.{clash, not_true, or_left, or_right}
+use Rattle.qvt_metamodel.proofs.Halves.{old-at, new-at}
 use Rattle.qvt_metamodel.proofs.Lookups.{position-first}
 use Rattle.qvt_metamodel.proofs.Positions.{any-within}
 
@@ -53,3 +54,24 @@ found_behind p xs n i d there h = (let at = position-Some p xs i d there in none
 
 pub not_found : {X : Type 0} (p : X → Bool) (xs : List X) (n : ℕ) (d : X) → position p xs ≡ None → position p (take n xs) ≡ None
 not_found p xs n d none = none_of_front p xs n d (λ j l k. position-none p xs j d none k)
+
+-- what is first among the first ones is first
+pub position-of_front : {X : Type 0} (p : X → Bool) (xs : List X) (n i : ℕ) (d : X) → position p (take n xs) ≡ Some i → position p xs ≡ Some i
+position-of_front p xs n i d there =
+    let at = position-Some p (take n xs) i d there in
+    let l : (i < n) × (i < length xs) = of_front xs n i at.0 in
+    position-first p xs i d l.1 (ap p (sym (get_or-take n xs i d l.0)) ∙ at.1) (λ j h. ap p (sym (get_or-take n xs j d (omega (arith, h, l.0)))) ∙ at.2 j h)
+
+-- what is first when an item is put last was first before, or is this item
+pub position-last : {X : Type 0} (p : X → Bool) (xs : List X) (x : X) (i : ℕ) → position p (xs ++ x ∷ []) ≡ Some i → (position p xs ≡ Some i) ⊎ ((i ≡ length xs) × (p x ≡ true) × (position p xs ≡ None))
+position-last p xs x i there =
+    let at = position-Some p (xs ++ x ∷ []) i x there in
+    elim (cases_lt i (length xs)) [
+      | inl l ↦ inl (position-first p xs i x l (ap p (sym (old-at xs (x ∷ []) i x l)) ∙ at.1) (λ j h. ap p (sym (old-at xs (x ∷ []) j x (omega (arith, h, l)))) ∙ at.2 j h))
+      | inr h ↦ (let last : i ≡ length xs + 0 = omega (arith, h, at.0, length-append xs (x ∷ [])) in
+          inr (last ∙ omega arith, ap p (sym (ap (λ k. get_or (xs ++ x ∷ []) k x) last ∙ new-at xs (x ∷ []) 0 x)) ∙ at.1, by (position p xs) refl (λ q l. ap p (sym (old-at xs (x ∷ []) q x l)) ∙ at.2 q (omega (arith, l, h)))))
+    ]
+  where
+    by : (o : Option ℕ) → position p xs ≡ o → ((q : ℕ) → q < length xs → p (get_or xs q x) ≡ false) → position p xs ≡ None
+    by None e none = e
+    by (Some q) e none = (let was = position-Some p xs q x e in clash was.1 (none q was.0))

@@ -1,3 +1,4 @@
 pub mod Tables
-pub mod Orders
+pub mod Trees
+pub mod FirstPlaces
 pub mod Fronts

@@ -1,4 +1,4 @@
 pub use Rattle.qvt_metamodel.specs.Names
 pub mod Named
 pub mod Enumerated
-pub mod Ordered
+pub mod Rooted

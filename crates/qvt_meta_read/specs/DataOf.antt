@@ -2,7 +2,7 @@
 use Rattle.std.specs.Prelude.{ℕ, List, Bool, true, false, Option, Some, None, unwrap_or, option_map, min, codes}
 use Rattle.serde_json.specs.Data.{Data, Items}
 use Rattle.serde_json.specs.Find.{get}
-use Rattle.qvt_json.specs.Json.{text_at, text_or, as_count, number_at, flag_at, items_or}
+use Rattle.qvt_json.specs.Json.{text_at, text_or, as_count, count_under, flag_at, items_or}
 pub use Rattle.qvt_json.specs.Json.{map_items, text_of}
 use Rattle.qvt_metamodel.specs.declared.info.EnumInfo.{EnumInfo}
 use Rattle.qvt_metamodel.specs.declared.declared.DeclaredFeature.{DeclaredFeature}
@@ -25,7 +25,7 @@ unfoldable pub feature_data : Data → DeclaredFeature
 feature_data d = record {
   name = text_or (codes "name") d;
   kind = text_or (codes "type") d;
-  lower = bound (unwrap_or (number_at (codes "lower") d) 0);
+  lower = bound (unwrap_or (count_under (codes "lower") d) 0);
   upper = upper_of (get (codes "upper") d);
   ordered = flag_or (codes "ordered") false d;
   unique = flag_or (codes "unique") true d;

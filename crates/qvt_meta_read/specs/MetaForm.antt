@@ -5,7 +5,7 @@ use Rattle.serde_json.specs.Data.{Data}
 use Rattle.qvt_base.specs.Names.{is_name}
 use Rattle.qvt_base.specs.Names.{is_file}
 use Rattle.qvt_json.specs.Leaves.{is_text_of, is_flag, is_count}
-use Rattle.qvt_json.specs.Shape.{Form, leaf, list_of, object_of, required, optional}
+use Rattle.qvt_json.specs.Shape.{Form, leaf, form_of_list, form_of_object, required, optional}
 
 abbrev pub name_form : Form
 name_form = leaf (is_text_of is_name)
@@ -15,20 +15,20 @@ abbrev pub is_upper : Data → Bool
 is_upper d = is_count 1 1000000 d || is_text_of (bytes_eq (codes "*")) d
 
 unfoldable pub feature_form : Form
-feature_form = object_of (
+feature_form = form_of_object (
     optional (codes "containment") (leaf is_flag) ∷ optional (codes "lower") (leaf (is_count 0 1000000)) ∷ required (codes "name") name_form
     ∷ optional (codes "opposite") name_form ∷ optional (codes "ordered") (leaf is_flag) ∷ required (codes "type") name_form
     ∷ optional (codes "unique") (leaf is_flag) ∷ optional (codes "upper") (leaf is_upper) ∷ [])
 
 unfoldable pub class_form : Form
-class_form = object_of (
-    optional (codes "abstract") (leaf is_flag) ∷ optional (codes "features") (list_of feature_form) ∷ required (codes "name") name_form
-    ∷ optional (codes "supers") (list_of name_form) ∷ [])
+class_form = form_of_object (
+    optional (codes "abstract") (leaf is_flag) ∷ optional (codes "features") (form_of_list feature_form) ∷ required (codes "name") name_form
+    ∷ optional (codes "supers") (form_of_list name_form) ∷ [])
 
 unfoldable pub enum_form : Form
-enum_form = object_of (required (codes "literals") (list_of name_form) ∷ required (codes "name") name_form ∷ [])
+enum_form = form_of_object (required (codes "literals") (form_of_list name_form) ∷ required (codes "name") name_form ∷ [])
 
 unfoldable pub meta_form : Form
-meta_form = object_of (
-    required (codes "classes") (list_of class_form) ∷ optional (codes "enums") (list_of enum_form) ∷ required (codes "name") name_form
+meta_form = form_of_object (
+    required (codes "classes") (form_of_list class_form) ∷ optional (codes "enums") (form_of_list enum_form) ∷ required (codes "name") name_form
     ∷ optional (codes "uri") (leaf (is_text_of is_file)) ∷ [])

@@ -6,6 +6,7 @@ use Rattle.std.specs.Str.{bytes_eq}
 use Rattle.qvt_base.specs.declared.numbers.FeatureNo.{FeatureNo}
 use Rattle.qvt_meta_lists.specs.declared.front.Front.{Front}
 use Rattle.qvt_meta_names.specs.Named.{number_at}
+use Rattle.qvt_meta_tables.specs.NumberSets.{has_number}
 
 -- for each of the items whether one before it, or one of these earlier ones, is the same
 abbrev pub repeat_flags : {X : Type 0} → (X → X → Bool) → List X → List X → List Bool
@@ -18,6 +19,10 @@ same_number numbers f g = number_at numbers g == number_at numbers f
 
 abbrev pub number_flags : List ℕ → List FeatureNo → List Bool
 number_flags numbers list = repeat_flags (same_number numbers) [] list
+
+-- the set has the numbers of the names of these features, and no others
+abbrev pub HasNames : List ℕ → List FeatureNo → List ℕ × ℕ → Type 0
+HasNames numbers features set = (n : ℕ) → has_number set n ≡ list_any (λ f. number_at numbers f == n) features
 
 -- the flags of a list that is the first ones of a line
 abbrev pub front_flags : List (List Bool) → Front → List Bool

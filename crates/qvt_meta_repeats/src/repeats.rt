@@ -41,7 +41,7 @@ impl<'a> Repeats<'a> {
     ) -> Result<Repeats<'a>, ListFault>
         ensures { IfOk result (λ r. r ≡ map (number_flags numbers.now) (all_lists lists.now)) }
     {
-        let lines = all_line_flags(alloc, numbers, lists.lines())?;
+        let lines = all_line_flags(alloc, numbers, lists)?;
         Ok(Repeats { lists, lines })
     }
 
@@ -65,15 +65,6 @@ impl<'a> Repeats<'a> {
         let Some(front) = self.lists.front(class) else {
             return None;
         };
-        match self.lines[front.line].first() {
-            None => None,
-            Some(place) => {
-                if place < front.count {
-                    Some(place)
-                } else {
-                    None
-                }
-            }
-        }
+        self.lines[front.line].first_below(front.count)
     }
 }

@@ -4,7 +4,7 @@ use Rattle.std.specs.List.{list_any}
 use Rattle.std.specs.Prelude.{if◌then◌else◌}
 use Rattle.std.proofs.lemmas.List.{length-map}
 use Rattle.qvt_base.specs.declared.numbers.ClassNo.{ClassNo}
-use Rattle.qvt_relation.specs.Closure.{Closure, directly, through, reaches}
+use Rattle.qvt_relation.specs.Closure.{Closure, directly, through, reaches_by}
 use Rattle.qvt_cycle.specs.Successors.{leads, is_on_cycle}
 use Rattle.qvt_metamodel.specs.declared.info.ClassInfo.{ClassInfo}
 use Rattle.qvt_metamodel.specs.Metamodels.{nowhere_class}
@@ -23,7 +23,7 @@ leads_is ks c d =
     ∙ list_any-map (λ x. x == d) (λ (s : ClassNo). s.0) (get_or ks c nowhere_class).supers
 
 pub on_cycle_is : (ks : List ClassInfo) (c : ℕ) → is_on_cycle (map super_numbers ks) c ≡ is_own_ancestor ks c
-on_cycle_is ks c = (λ t. reaches (λ x y. leads_is ks x y t) (length-map ks super_numbers t) c c)
+on_cycle_is ks c = (λ t. reaches_by (λ x y. leads_is ks x y t) (length-map ks super_numbers t) c c)
 
 pub cycle_next : (ks : List ClassInfo) (c n : ℕ) (all : Option ℕ) → c < n → is_own_ancestor ks c ≡ false → cycle_from ks c (n - c) ≡ all → cycle_from ks (c + 1) (n - (c + 1)) ≡ all
 cycle_next ks c n all l other e =

@@ -1,9 +1,12 @@
 -- Lists in which each feature stands once.
 use Rattle.std.proofs.Common.{◌≡◌, ◌∙◌, ℕ, zero, suc, ◌+◌, ◌<◌, List, [], ◌∷◌, ◌++◌, length, get_or, set, take, drop, Bool, true, false, refl, ap, sym, subst, arith, ◌==◌, ◌||◌, ◌⊎◌, inl, inr, append_assoc}
-use Rattle.std.specs.Prelude.{if◌then◌else◌}
-use Rattle.std.specs.List.{flat_map}
+use Rattle.std.specs.Prelude.{if◌then◌else◌, IfSome, Option, Some, None}
+use Rattle.std.specs.Option.{unwrap_or}
+use Rattle.std.specs.List.{flat_map, slice_range}
 use Rattle.std.proofs.Math.Bool.{or-false}
-use Rattle.std.proofs.lemmas.List.{append-nil, drop_more, take_more}
+use Rattle.std.proofs.Math.Seq.{take-length}
+use Rattle.std.proofs.lemmas.Bool.{eq-eqb, eqb-true}
+use Rattle.std.proofs.lemmas.List.{append-nil, append_cancel_left, drop_more, length-drop, take-append-drop, take_more}
 use Rattle.qvt_base.specs.declared.numbers.ClassNo.{ClassNo}
 use Rattle.qvt_base.specs.declared.numbers.FeatureNo.{FeatureNo}
 use Rattle.qvt_metamodel.specs.Metamodels.{among_features, each_once}
@@ -11,13 +14,74 @@ use Rattle.qvt_metamodel.proofs.Bools.{not_true, clash, or_cases, or_left, or_ri
 use Rattle.qvt_metamodel.proofs.Lists.{once-append}
 use Rattle.qvt_metamodel.proofs.Owners.{among-append, once-from}
 use Rattle.qvt_meta_tables.specs.NumberSets.{has_number}
-use Rattle.qvt_meta_tables.specs.Placed.{IsOnce, AreIn, AreNew, AreNoted}
+use Rattle.qvt_meta_tables.specs.Placed.{IsOnce, AreIn, AreNew, AreNoted, HasJust}
 
--- what the only one has, each once, is what all have, each once
-pub once-only : {X : Type 0} (f : X → List FeatureNo) (xs : List X) (d : X) → length xs ≡ 1 → IsOnce (f (get_or xs 0 d)) → f (get_or xs 0 d) ≡ each_once [] (flat_map f xs)
-once-only f [] d one h = absurd (omega arith)
-once-only f (x ∷ y ∷ xs) d one h = absurd (omega arith)
-once-only f (x ∷ []) d one h = sym (ap (each_once []) (append-nil (f x)) ∙ h)
+-- features behind the first ones, by two sets of their numbers
+
+pub seen_behind : (first later : List ℕ × ℕ) (gs list : List FeatureNo) (n : ℕ) → HasJust first gs → HasJust later list → among_features n (gs ++ list) ≡ (has_number first n || has_number later n)
+seen_behind first later gs list n a b = among-append n gs list ∙ (λ j. sym (a n) j || sym (b n) j)
+
+pub there_behind : (g : FeatureNo) (gs list : List FeatureNo) → among_features g.0 (gs ++ list) ≡ true → list ≡ list ++ each_once (gs ++ list) (g ∷ [])
+there_behind g gs list h = sym (ap (λ t. list ++ (if t then [] else g ∷ [])) h ∙ append-nil list)
+
+pub new_behind : (g : FeatureNo) (gs list : List FeatureNo) → among_features g.0 (gs ++ list) ≡ false → list ++ g ∷ [] ≡ list ++ each_once (gs ++ list) (g ∷ [])
+new_behind g gs list h = sym (ap (λ t. list ++ (if t then [] else g ∷ [])) h)
+
+-- a first part of those that are left
+pub behind_part : (gs all list next xs ys zs : List FeatureNo) → list ++ each_once (gs ++ list) xs ≡ all → xs ≡ ys ++ zs → next ≡ list ++ each_once (gs ++ list) ys
+    → next ++ each_once (gs ++ next) zs ≡ all
+behind_part gs all list next xs ys zs h split e =
+    append_cancel_left gs (next ++ each_once (gs ++ next) zs) all
+    (sym (append_assoc gs next (each_once (gs ++ next) zs))
+    ∙ ap (λ n. n ++ each_once n zs) (ap (λ x. gs ++ x) e ∙ sym (append_assoc gs list (each_once (gs ++ list) ys)))
+    ∙ once-append (gs ++ list) ys zs
+    ∙ sym (ap (λ x. (gs ++ list) ++ each_once (gs ++ list) x) split)
+    ∙ append_assoc gs list (each_once (gs ++ list) xs)
+    ∙ ap (λ x. gs ++ x) h)
+
+-- features that all are seen already
+once_known : (seen xs ys : List FeatureNo) → ((n : ℕ) → among_features n xs ≡ true → among_features n seen ≡ true) → each_once seen (xs ++ ys) ≡ each_once seen ys
+once_known seen [] ys known = refl
+once_known seen (x ∷ xs) ys known =
+    ap (λ t. if t then each_once seen (xs ++ ys) else x ∷ each_once (seen ++ x ∷ []) (xs ++ ys)) (known x.0 (or_left (x.0 == x.0) (among_features x.0 xs) (eq-eqb x.0 x.0 refl)))
+    ∙ once_known seen xs ys (λ n h. known n (or_right (x.0 == n) (among_features n xs) h))
+
+-- features behind those that are shared with the first ones
+pub once_beyond : (gs more list : List FeatureNo) (k : ℕ) → take k gs ≡ take k list → each_once (gs ++ more) (drop k list) ≡ each_once (gs ++ more) list
+once_beyond gs more list k same =
+    sym (once_known (gs ++ more) (take k gs) (drop k list) (λ n h. among-append n gs more ∙ or_left (among_features n gs) (among_features n more) (sym (ap (among_features n) (take-append-drop k gs))
+    ∙ among-append n (take k gs) (drop k gs) ∙ or_left (among_features n (take k gs)) (among_features n (drop k gs)) h)))
+    ∙ ap (each_once (gs ++ more)) (ap (λ xs. xs ++ drop k list) same ∙ take-append-drop k list)
+
+-- the first of several lists has nothing that is not seen
+pub none_beyond : (seen xs ys : List FeatureNo) → each_once seen xs ≡ [] → each_once seen (xs ++ ys) ≡ each_once seen ys
+none_beyond seen xs ys none =
+    sym (append_cancel_left seen (each_once seen ys) (each_once seen (xs ++ ys))
+    (ap (λ s. s ++ each_once s ys) (sym (append-nil seen) ∙ ap (λ l. seen ++ l) (sym none)) ∙ once-append seen xs ys))
+
+pub none_next : {X : Type 0} (f : X → List FeatureNo) (gs rest all : List FeatureNo) (xs : List X) (i : ℕ) (d : X) → i < length xs → each_once (gs ++ []) rest ≡ each_once (gs ++ []) (f (get_or xs i d)) → (length rest == 0) ≡ true
+    → each_once gs (flat_map f (drop i xs)) ≡ all → each_once gs (flat_map f (drop (i + 1) xs)) ≡ all
+none_next f gs (x ∷ rest) all xs i d l same none before = (let z : suc (length rest) ≡ 0 = eqb-true (suc (length rest)) 0 none in absurd (omega (arith, z)))
+none_next f gs [] all xs i d l same none before =
+    sym (none_beyond gs (f (get_or xs i d)) (flat_map f (drop (i + 1) xs)) (ap (λ s. each_once s (f (get_or xs i d))) (sym (append-nil gs)) ∙ sym same))
+    ∙ sym (ap (λ ys. each_once gs (flat_map f ys)) (drop_more xs i d l))
+    ∙ before
+
+-- what all have from one on, each once, where that one has no feature twice
+pub once_first : {X : Type 0} (f : X → List FeatureNo) (xs : List X) (i : ℕ) (d : X) → i < length xs → flat_map f xs ≡ flat_map f (drop i xs) → IsOnce (f (get_or xs i d))
+    → f (get_or xs i d) ++ each_once (f (get_or xs i d)) (flat_map f (slice_range xs (i + 1) (length xs))) ≡ each_once [] (flat_map f xs)
+once_first f xs i d l from once =
+    ap (λ ys. f (get_or xs i d) ++ each_once (f (get_or xs i d)) (flat_map f ys)) (ap (λ n. take n (drop (i + 1) xs)) (sym (length-drop (i + 1) xs)) ∙ take-length (drop (i + 1) xs))
+    ∙ ap (λ s. s ++ each_once s (flat_map f (drop (i + 1) xs))) (sym once)
+    ∙ once-append [] (f (get_or xs i d)) (flat_map f (drop (i + 1) xs))
+    ∙ ap (each_once []) (sym (from ∙ ap (flat_map f) (drop_more xs i d l)))
+
+-- the place of the first one that has features, or the first place
+pub at_first : {X : Type 0} (f : X → List FeatureNo) (xs : List X) (found : Option ℕ) → (length xs == 0) ≡ false → IfSome found (λ i. i < length xs) → IfSome found (λ i. flat_map f xs ≡ flat_map f (drop i xs))
+    → (unwrap_or found 0 < length xs) × (flat_map f xs ≡ flat_map f (drop (unwrap_or found 0) xs))
+at_first f [] found some within from = absurd (cc)
+at_first f (x ∷ xs) None some within from = (let l : 0 < suc (length xs) = omega arith in l, refl)
+at_first f (x ∷ xs) (Some i) some within from = (within, from)
 
 once_again : (seen gs : List FeatureNo) → each_once seen (each_once seen gs) ≡ each_once seen gs
 once_again seen [] = refl

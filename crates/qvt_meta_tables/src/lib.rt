@@ -2,6 +2,7 @@
 #![tactic(auto)]
 
 pub mod cycle;
+pub mod inherited;
 pub mod number_set;
 pub mod order;
 pub mod rows;

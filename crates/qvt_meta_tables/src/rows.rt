@@ -16,7 +16,7 @@ use qvt_metamodel::row::{Row, word_of};
 use std::alloc::Global;
 
 /// Where the words of a row end. Every class has a number below the bound.
-fn end_of(row: &Row, bound: u32) -> u32
+pub fn end_of(row: &Row, bound: u32) -> u32
     requires { EndsWithin bound row.now }
     ensures { result ≡ row.now.skipped + length row.now.words }
 {
@@ -25,7 +25,7 @@ fn end_of(row: &Row, bound: u32) -> u32
 }
 
 /// The number of the first word of a row, or this number if it is less or the row has no words.
-fn first_of(number: u32, row: &Row) -> u32
+pub fn first_word(number: u32, row: &Row) -> u32
     ensures number { result ≤ number }
     ensures first { 0 < length row.now.words → result ≤ row.now.skipped }
 {
@@ -37,7 +37,7 @@ fn first_of(number: u32, row: &Row) -> u32
 }
 
 /// The word with this number of a row where this class alone is marked.
-fn mark_of(class: u32, number: u32) -> u64
+pub fn mark_of(class: u32, number: u32) -> u64
     ensures { result ≡ mark_of class number }
 {
     if class / 64 == number {
@@ -55,7 +55,7 @@ fn with_row(alloc: Global, bound: u32, row: &Row, class: u32, other: &Row) -> Re
     ensures marks { IfOk result (λ r. (d : ℕ) → is_marked r d ≡ (is_marked row.now d || (class == d) || is_marked other.now d)) }
     ensures within { IfOk result (λ r. EndsWithin bound r) }
 {
-    let first = first_of(first_of(class / 64, row), other);
+    let first = first_word(first_word(class / 64, row), other);
     let end = (class / 64 + 1)
         .max(end_of(row, bound))
         .max(end_of(other, bound));

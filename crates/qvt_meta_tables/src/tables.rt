@@ -1,21 +1,18 @@
 //! The tables of classes: for each its features in order, and which classes are above it.
 
-ghost use Rattle.std.specs.Prelude.{◌≡◌, ◌++◌, ◌∷◌, ℕ, [], length, IfOk, IsTrue, OnOk, slice_index_or, slice_set};
-ghost use Rattle.std.specs.List.{flat_map};
-ghost use Rattle.qvt_metamodel.specs.Metamodels.{among_features, each_once, features_of, nowhere_class};
-ghost use Rattle.qvt_meta_tables.specs.NumberSets.{has_number};
+ghost use Rattle.std.specs.Prelude.{◌≡◌, ℕ, [], length, IfOk, IsTrue, OnOk, slice_index_or, slice_set};
+ghost use Rattle.qvt_metamodel.specs.Metamodels.{features_of, nowhere_class};
 ghost use Rattle.qvt_meta_lists.specs.Lists.{all_lists};
-ghost use Rattle.qvt_meta_tables.specs.Placed.{IsOnce, AreNew};
+ghost use Rattle.qvt_meta_tables.specs.Placed.{AreNew};
 ghost use Rattle.qvt_meta_tables.specs.Tables.{of_classes, IsOrder, AreTables};
 ghost use Rattle.qvt_meta_tables.specs.Search.{AreLive, IsAcyclic};
 
+use crate::inherited::{SeenFeatures, put_list};
 use crate::number_set::MarkedNumbers;
 use crate::order::{Order, order_of};
 use crate::rows::rows_of;
 use qvt_base::list_fault::ListFault;
-use qvt_base::lists::FeatureNoList;
 use qvt_base::numbers::{ClassNo, FeatureNo};
-use qvt_base::seq::Seq;
 use qvt_meta_lists::lists::FeatureLists;
 use qvt_metamodel::info::ClassInfo;
 use qvt_metamodel::row::Row;
@@ -35,78 +32,6 @@ pub struct Tables {
 pub struct Placed {
     pub features: MarkedNumbers,
     pub once: bool,
-}
-
-/// Puts a feature last that is not there.
-fn add_one(
-    seen: &mut MarkedNumbers,
-    list: &mut FeatureNoList,
-    feature: FeatureNo,
-) -> Result<(), ListFault>
-    requires { (n : ℕ) → has_number seen.old n ≡ among_features n list.old }
-    ensures list { OnOk result (list.new ≡ list.old ++ each_once list.old (feature ∷ [])) }
-    ensures seen { OnOk result ((n : ℕ) → has_number seen.new n ≡ among_features n list.new) }
-{
-    if seen.has(feature.0) {
-        return Ok(());
-    }
-    seen.put(feature.0)?;
-    list.push(feature)
-}
-
-/// Puts those of the features last that are not there.
-fn add_new(
-    seen: &mut MarkedNumbers,
-    list: &mut FeatureNoList,
-    features: &[FeatureNo],
-) -> Result<(), ListFault>
-    requires { (n : ℕ) → has_number seen.old n ≡ among_features n list.old }
-    ensures list { OnOk result (list.new ≡ list.old ++ each_once list.old features.now) }
-    ensures seen { OnOk result ((n : ℕ) → has_number seen.new n ≡ among_features n list.new) }
-{
-    for feature in features {
-        add_one(seen, list, *feature)?;
-    }
-    Ok(())
-}
-
-/// The features of these classes, each once, whatever the set held before.
-fn joined(
-    alloc: Global,
-    seen: &mut MarkedNumbers,
-    lists: &FeatureLists,
-    supers: &[ClassNo],
-) -> Result<FeatureNoList, ListFault>
-    ensures { IfOk result (λ s. s ≡ each_once [] (flat_map (λ s. slice_index_or (all_lists lists.now) s.0 []) supers.now)) }
-{
-    seen.clear();
-    let mut list = Seq::new(alloc);
-    for superclass in supers {
-        add_new(seen, &mut list, lists.at(superclass.0 as usize))?;
-    }
-    Ok(list)
-}
-
-/// Puts the list of a class there, by those of its superclasses and its own features. Where no list
-/// has a feature twice, nothing is to be taken out of that of the only superclass.
-fn put_list(
-    alloc: Global,
-    seen: &mut MarkedNumbers,
-    once: bool,
-    lists: &mut FeatureLists,
-    class: u32,
-    supers: &[ClassNo],
-    own: &[FeatureNo],
-) -> Result<(), ListFault>
-    requires { IsTrue once → (c : ℕ) → IsOnce (slice_index_or (all_lists lists.old) c []) }
-    ensures { OnOk result (all_lists lists.new ≡ slice_set (all_lists lists.old) class (each_once [] (flat_map (λ s. slice_index_or (all_lists lists.old) s.0 []) supers.now) ++ own.now)) }
-{
-    if once && supers.len() == 1 {
-        return lists.go_on(alloc, class as usize, supers[0].0 as usize, own);
-    }
-    let mut list = joined(alloc, seen, lists, supers)?;
-    list.extend(own)?;
-    lists.put(class as usize, list)
 }
 
 /// Puts these features there, and tells whether none of them was. Where one was, the others may not
@@ -173,7 +98,11 @@ fn lists_of(alloc: Global, order: &Order, classes: &[ClassInfo]) -> Result<Featu
     ensures each { IfOk result (λ ls. length (all_lists ls) ≡ length classes.now) }
     ensures features { IfOk result (λ ls. (c : ℕ) → slice_index_or (all_lists ls) c [] ≡ features_of (of_classes classes.now) c) }
 {
-    let mut seen = MarkedNumbers::new(alloc);
+    let mut seen = SeenFeatures {
+        class: None,
+        first: MarkedNumbers::new(alloc),
+        later: MarkedNumbers::new(alloc),
+    };
     let mut placed = Placed {
         features: MarkedNumbers::new(alloc),
         once: true,

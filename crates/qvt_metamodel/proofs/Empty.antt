@@ -4,7 +4,7 @@ use Rattle.std.specs.Str.{is_utf8}
 use Rattle.std.proofs.lemmas.Str.{is_utf8-from_IsUtf8, IsUtf8-nil}
 use Rattle.qvt_metamodel.specs.Metamodels.{Metamodels, features_of}
 use Rattle.std.proofs.lemmas.Bool.{eqb-true}
-use Rattle.qvt_relation.specs.Closure.{directly, through, reaches as reaches_by}
+use Rattle.qvt_relation.specs.Closure.{directly, through, reaches_by}
 use Rattle.qvt_metamodel.specs.Descends.{Inherits, reaches, descends}
 use Rattle.qvt_metamodel.specs.WellFormed.{IsWellFormed, IsRegular}
 use Rattle.qvt_metamodel.specs.Kept.{IsKept}

@@ -5,7 +5,7 @@ use Rattle.qvt_metamodel.specs.declared.declared.DeclaredFeature.{DeclaredFeatur
 use Rattle.qvt_metamodel.specs.declared.declared.DeclaredClass.{DeclaredClass}
 use Rattle.qvt_metamodel.specs.MetaData.{MetaData, class_names}
 use Rattle.qvt_metamodel.specs.Names.{is_among}
-use Rattle.qvt_metamodel.specs.Checks.{is_mutual, is_one_at_most, type_features, is_linked, has_no_class, may_repeat, is_undeclared, is_own_opposite, are_both_containments, has_many_containers, is_bad_opposite}
+use Rattle.qvt_metamodel.specs.Checks.{is_mutual, is_one_at_most, type_features, declares_link, has_no_class, may_repeat, is_undeclared, is_own_opposite, are_both_containments, has_many_containers, is_bad_opposite}
 
 -- both ends are containments, or one is and the other has another upper bound than 1
 abbrev pub is_contained_wrong : DeclaredFeature → DeclaredFeature → Bool
@@ -63,11 +63,11 @@ module _ (d : MetaData) (k : DeclaredClass) (f : DeclaredFeature) (fine : is_bad
   two : (has_no_class d f || may_repeat f) ≡ false
   two = left_no _ (is_undeclared d k f) three
 
-  pub typed_by_class : is_linked f ≡ true → is_among f.kind (class_names d) ≡ true
-  typed_by_class linked = not_no _ (and_left_no (is_linked f) _ linked (left_no _ (may_repeat f) two))
+  pub typed_by_class : declares_link f ≡ true → is_among f.kind (class_names d) ≡ true
+  typed_by_class linked = not_no _ (and_left_no (declares_link f) _ linked (left_no _ (may_repeat f) two))
 
-  pub linked_once : is_linked f ≡ true → f.unique ≡ true
-  linked_once linked = not_no _ (and_left_no (is_linked f) _ linked (right_no (has_no_class d f) _ two))
+  pub linked_once : declares_link f ≡ true → f.unique ≡ true
+  linked_once linked = not_no _ (and_left_no (declares_link f) _ linked (right_no (has_no_class d f) _ two))
 
   pub declared_opposite : is_some f.opposite ≡ true → list_any (is_mutual k f) (type_features d f) ≡ true
   declared_opposite some = not_no _ (and_left_no (is_some f.opposite) _ some (right_no (has_no_class d f || may_repeat f) _ three))

@@ -4,7 +4,7 @@ use Rattle.std.specs.List.{list_any}
 use Rattle.std.specs.Option.{option_map_or}
 use Rattle.std.specs.Str.{bytes_eq}
 use Rattle.qvt_json.specs.Steps.{or_next}
-use Rattle.qvt_relation.specs.Closure.{reaches}
+use Rattle.qvt_relation.specs.Closure.{reaches_by}
 use Rattle.qvt_metamodel.specs.declared.info.EnumInfo.{EnumInfo}
 use Rattle.qvt_metamodel.specs.declared.declared.DeclaredFeature.{DeclaredFeature}
 use Rattle.qvt_metamodel.specs.declared.declared.DeclaredClass.{DeclaredClass}
@@ -55,36 +55,36 @@ is_super d i j = list_any (λ name. place_in (class_names d) name == j) (declare
 
 -- a class that is its own ancestor, by the closure
 unfoldable pub inheritance_cycle : MetaData → Option (List ℕ)
-inheritance_cycle d = first_from (λ i k. if reaches (is_super d) (length d.classes) i i then Some k.name else None) zero d.classes
+inheritance_cycle d = first_from (λ i k. if reaches_by (is_super d) (length d.classes) i i then Some k.name else None) zero d.classes
 
 -- a fault of a feature, told with its class
-abbrev pub feature_fault : (DeclaredClass → DeclaredFeature → Bool) → DeclaredClass → Option ClassAndName
-feature_fault is k = first_in (λ f. if is k f then Some (k.name, f.name) else None) k.features
+abbrev pub failing_feature : (DeclaredClass → DeclaredFeature → Bool) → DeclaredClass → Option ClassAndName
+failing_feature is k = first_in (λ f. if is k f then Some (k.name, f.name) else None) k.features
 
 abbrev pub is_below : ℕ → Option ℕ → Bool
 is_below lower None = false
 is_below lower (Some upper) = nat_lt upper lower
 
 unfoldable pub bad_bounds : MetaData → Option ClassAndName
-bad_bounds d = first_in (feature_fault (λ k f. is_below f.lower f.upper)) d.classes
+bad_bounds d = first_in (failing_feature (λ k f. is_below f.lower f.upper)) d.classes
 
-abbrev pub is_name : Option (List ℕ) → List ℕ → Bool
-is_name o name = option_map_or (bytes_eq name) o false
+abbrev pub is_given_name : Option (List ℕ) → List ℕ → Bool
+is_given_name o name = option_map_or (bytes_eq name) o false
 
 abbrev pub is_one_at_most : Option ℕ → Bool
 is_one_at_most o = option_map_or (λ n. n == 1) o false
 
 -- g, of the type of f, has the class of f as its type and f as its opposite
 abbrev pub is_mutual : DeclaredClass → DeclaredFeature → DeclaredFeature → Bool
-is_mutual k f g = is_name f.opposite g.name && bytes_eq g.kind k.name && is_name g.opposite f.name
+is_mutual k f g = is_given_name f.opposite g.name && bytes_eq g.kind k.name && is_given_name g.opposite f.name
 
 -- the features that the type class of a feature declares itself
 abbrev pub type_features : MetaData → DeclaredFeature → List DeclaredFeature
 type_features d f = (declared_at d.classes (place_in (class_names d) f.kind)).features
 
 -- the feature is a containment or has an opposite
-abbrev pub is_linked : DeclaredFeature → Bool
-is_linked f = f.containment || is_some f.opposite
+abbrev pub declares_link : DeclaredFeature → Bool
+declares_link f = f.containment || is_some f.opposite
 
 -- the opposite is a containment
 abbrev pub is_contained : MetaData → DeclaredClass → DeclaredFeature → Bool
@@ -92,11 +92,11 @@ is_contained d k f = list_any (λ g. is_mutual k f g && g.containment) (type_fea
 
 -- a containment or an opposite on a type that is no class
 abbrev pub has_no_class : MetaData → DeclaredFeature → Bool
-has_no_class d f = is_linked f && not (is_among f.kind (class_names d))
+has_no_class d f = declares_link f && not (is_among f.kind (class_names d))
 
 -- a containment or an opposite that is not unique
 abbrev pub may_repeat : DeclaredFeature → Bool
-may_repeat f = is_linked f && not f.unique
+may_repeat f = declares_link f && not f.unique
 
 -- an opposite that the type class itself does not declare with this class as type and this feature as its opposite
 abbrev pub is_undeclared : MetaData → DeclaredClass → DeclaredFeature → Bool
@@ -104,7 +104,7 @@ is_undeclared d k f = is_some f.opposite && not (list_any (is_mutual k f) (type_
 
 -- an opposite that is the feature itself
 abbrev pub is_own_opposite : DeclaredClass → DeclaredFeature → Bool
-is_own_opposite k f = bytes_eq f.kind k.name && is_name f.opposite f.name
+is_own_opposite k f = bytes_eq f.kind k.name && is_given_name f.opposite f.name
 
 -- both ends are containments
 abbrev pub are_both_containments : MetaData → DeclaredClass → DeclaredFeature → Bool
@@ -119,7 +119,7 @@ abbrev pub is_bad_opposite : MetaData → DeclaredClass → DeclaredFeature → 
 is_bad_opposite d k f = has_no_class d f || may_repeat f || is_undeclared d k f || is_own_opposite k f || are_both_containments d k f || has_many_containers d k f
 
 unfoldable pub bad_opposite : MetaData → Option ClassAndName
-bad_opposite d = first_in (feature_fault (is_bad_opposite d)) d.classes
+bad_opposite d = first_in (failing_feature (is_bad_opposite d)) d.classes
 
 -- the first feature of a class whose name an earlier one has
 abbrev pub repeated_feature : Metamodels → ℕ → Option (List ℕ)

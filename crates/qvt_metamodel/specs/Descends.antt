@@ -2,7 +2,7 @@
 -- above these. The class Element, where there is one, is above every class. The subclass stands first.
 use Rattle.std.specs.Prelude.{◌≡◌, ℕ, Bool, true, false, ◌==◌, ◌||◌, ◌⊎◌, length, IsTrue}
 use Rattle.std.specs.List.{list_any}
-use Rattle.qvt_relation.specs.Closure.{Closure, reaches as reaches_by}
+use Rattle.qvt_relation.specs.Closure.{Closure, reaches_by}
 use Rattle.qvt_metamodel.specs.declared.info.TypeKind.{TypeKind}
 use Rattle.qvt_metamodel.specs.declared.info.TypeKind.TheVariants.{Bool as BoolKind, Int, Str, Enum, Class}
 use Rattle.qvt_metamodel.specs.Metamodels.{Metamodels, class_at, is_element}

@@ -18,8 +18,8 @@ use Rattle.qvt_metamodel.proofs.Bools.{clash, not_true, or_left, or_right}
 use Rattle.qvt_metamodel.proofs.Lookups.{position-first, bytes_eq-refl}
 use Rattle.qvt_metamodel.proofs.Positions.{any-within, any-passes, no-position}
 use Rattle.qvt_meta_names.specs.Named.{number_in, numbers_of, number_at}
-use Rattle.qvt_meta_names.specs.Ordered.{no_number}
-use Rattle.qvt_meta_names.specs.Ordered.{ArePlaced}
+use Rattle.qvt_meta_names.specs.declared.place_tables.PlaceTables.{PlaceTables}
+use Rattle.qvt_meta_names.specs.Rooted.{no_number, ArePlaced}
 use Rattle.qvt_meta_names.proofs.Fronts.{position-none}
 use Rattle.qvt_metas.specs.Held.{AreNameNumbers}
 
@@ -150,8 +150,8 @@ none_numbered features table numbers f t n = record {
   each = n ∙ sym (ap (numbers_of table) f);
 }
 
-pub none_placed : (numbers : List ℕ) (lists : List (List FeatureNo)) (orders : List (Option (List ℕ))) → lists ≡ [] → orders ≡ [] → ArePlaced numbers lists orders
-none_placed numbers lists orders l p = record {
+pub none_placed : (numbers : List ℕ) (lists : List (List FeatureNo)) (t : PlaceTables) → lists ≡ [] → t.roots ≡ [] → ArePlaced numbers lists t
+none_placed numbers lists t l p = record {
   each = ap length p ∙ sym (ap length l);
   at = λ c h. absurd (omega (arith, h, ap length l));
 }

@@ -19,7 +19,7 @@ use qvt_meta_names::class_tables::class_tables;
 use qvt_meta_names::enum_tables::{EnumTable, enum_tables};
 use qvt_meta_names::feature_tables::{feature_table, name_numbers};
 use qvt_meta_names::name_table::NameTable;
-use qvt_meta_names::place_orders::{PlaceOrder, place_in, place_orders};
+use qvt_meta_names::place_tables::{PlaceTables, place_in, place_tables};
 use qvt_meta_tables::tables::tables_of;
 use qvt_metamodel::begin::Begin;
 use qvt_metamodel::copied::{copies, joined};
@@ -46,7 +46,7 @@ pub struct Metas {
     names: Vec<NameTable>,
     feature_names: NameTable,
     numbers: Vec<u32>,
-    orders: Vec<PlaceOrder>,
+    places: PlaceTables,
     enum_tables: Vec<EnumTable>,
 }
 
@@ -63,7 +63,7 @@ impl Drop for Metas {
             names,
             feature_names,
             numbers,
-            orders,
+            places,
             enum_tables,
         } = self;
     }
@@ -77,7 +77,7 @@ impl Model for Metas {
 
     ghost view = { λ m. record { metamodels = m.metamodels.items; classes = m.classes.items; features = m.features.items; element = m.element } };
 
-    ghost invariant = { λ m. IsMetasKept (record { metamodels = m.metamodels.items; classes = m.classes.items; features = m.features.items; element = m.element }) m.lists m.rows.items m.ranks.items m.names.items m.feature_names m.numbers.items m.orders.items m.enum_tables.items };
+    ghost invariant = { λ m. IsMetasKept (record { metamodels = m.metamodels.items; classes = m.classes.items; features = m.features.items; element = m.element }) m.lists m.rows.items m.ranks.items m.names.items m.feature_names m.numbers.items m.places m.enum_tables.items };
 }
 
 impl Metas {
@@ -98,7 +98,7 @@ impl Metas {
             names: Vec::new(alloc),
             feature_names: NameTable::new(alloc),
             numbers: Vec::new(alloc),
-            orders: Vec::new(alloc),
+            places: PlaceTables::new(alloc),
             enum_tables: Vec::new(alloc),
         }
     }
@@ -121,7 +121,7 @@ impl Metas {
         let names = class_tables(alloc, metamodels.len() as u32, classes.as_slice(), count)?;
         let feature_names = feature_table(alloc, features.as_slice(), features.len() as u32)?;
         let numbers = name_numbers(alloc, &feature_names, features.as_slice())?;
-        let orders = place_orders(alloc, numbers.as_slice(), &lists)?;
+        let places = place_tables(alloc, numbers.as_slice(), &lists)?;
         let enumerations = enum_tables(alloc, metamodels.as_slice())?;
         Ok(Metas {
             metamodels,
@@ -134,7 +134,7 @@ impl Metas {
             names,
             feature_names,
             numbers,
-            orders,
+            places,
             enum_tables: enumerations,
         })
     }
@@ -434,8 +434,7 @@ impl Metas {
         let at = class.0 as usize;
         let features = self.lists.at(at);
         let numbers = self.numbers.as_slice();
-        let orders = self.orders.as_slice();
-        match place_in(numbers, &self.lists, orders, at, number) {
+        match place_in(numbers, &self.lists, &self.places, at, number) {
             Some(place) => Some(features[place]),
             None => None,
         }
@@ -453,8 +452,7 @@ impl Metas {
         let features = self.lists.at(at);
         let number = self.numbers[named];
         let numbers = self.numbers.as_slice();
-        let orders = self.orders.as_slice();
-        let Some(place) = place_in(numbers, &self.lists, orders, at, number) else {
+        let Some(place) = place_in(numbers, &self.lists, &self.places, at, number) else {
             return None;
         };
         if features[place].0 == feature.0 {

@@ -1,5 +1,5 @@
 -- The data of an extent are a model that a file can hold.
-use Rattle.std.proofs.Common.{◌≡◌, ◌≢◌, ◌∙◌, ℕ, zero, suc, ◌+◌, ◌<◌, ◌≤◌, ◌^◌, ◌==◌, ◌&&◌, ◌||◌, List, [], ◌∷◌, length, map, Bool, true, false, cond, nat_lt, IsTrue, IsUtf8, Option, Some, None, option_map, Ordering, Less, Equal, Greater, Ok, slice_index_or, refl, sym, ap, subst, arith, ltb-true, lt-ltb}
+use Rattle.std.proofs.Common.{◌≡◌, ◌≢◌, ◌∙◌, ℕ, zero, suc, ◌+◌, ◌<◌, ◌≤◌, ◌^◌, ◌==◌, ◌&&◌, ◌||◌, List, [], ◌∷◌, length, map, Bool, true, false, cond, not, nat_lt, IsTrue, IsUtf8, Option, Some, None, option_map, Ordering, Less, Equal, Greater, Ok, slice_index_or, refl, sym, ap, subst, arith, ltb-true, lt-ltb}
 use Rattle.std.specs.Prelude.{All}
 use Rattle.std.specs.Cmp.{IsTotalOrder, on_total}
 use Rattle.std.specs.List.{list_any, list_all, filter, filter_map, cons_option, AllByRecursion}
@@ -15,21 +15,23 @@ use Rattle.qvt_base.specs.declared.numbers.FeatureNo.{FeatureNo}
 use Rattle.qvt_value.specs.declared.value.Value.{Value}
 use Rattle.qvt_value.specs.declared.value.Value.TheVariants.{Bool as BoolValue, Int as IntValue, Str as StrValue, Enum as EnumValue, Obj}
 use Rattle.qvt_value.specs.Kept.{put_in, sorted}
+use Rattle.qvt_value.proofs.Sorting.{IsLevelWithNone, NoneAreLevel, all-sorted, apart-filter, apart-map, above, below}
 use Rattle.qvt_metamodel.specs.declared.info.TypeKind.{TypeKind}
 use Rattle.qvt_metamodel.specs.declared.info.TypeKind.TheVariants.{Bool as BoolKind, Int as IntKind, Str as StrKind, Enum as EnumKind, Class as ClassKind}
-use Rattle.qvt_metamodel.specs.Metamodels.{Metamodels, feature_at, shape_of, is_one, features_of, has_feature, among_features}
-use Rattle.qvt_metamodel.specs.Descends.{descends}
-use Rattle.qvt_metamodel.specs.Named.{metamodel_at, enumeration_at, feature_named}
+use Rattle.qvt_metas.specs.Metamodels.{Metamodels, feature_at, shape_of, is_one, features_of, has_feature, among_features}
+use Rattle.qvt_metas.specs.Descends.{descends}
+use Rattle.qvt_metas.specs.Named.{metamodel_at, enumeration_at, feature_named}
 use Rattle.qvt_metamodel.specs.WellFormed.{IsWellFormed}
+use Rattle.qvt_repeats.specs.Repeats.{repeats_by}
 use Rattle.qvt_json.specs.Leaves.{is_id}
 use Rattle.qvt_store.specs.Contents.{Instance, Contents, no_instance, class_of, extent_of, extent_at, is_extent, is_live, is_model, is_named, slot_of, members_from, members_of}
 use Rattle.qvt_store.specs.Types.{is_of_kind, is_of_type, HasCodeType}
 use Rattle.qvt_store.specs.Assign.{exceeds_bound}
 use Rattle.qvt_store.specs.Sound.{Sound}
-use Rattle.qvt_model.specs.Extents.{own_id, numbers, place_of, datum_in, slot_in, name_of, by_name, filled_slots, object_in, objects_from, data_of}
+use Rattle.qvt_model.specs.Extents.{own_id, numbers, place_within, datum_in, slot_data_of, name_of, by_name, filled_slots, object_data_of, objects_from, data_of}
 use Rattle.qvt_store.specs.Stay.{IsStore}
 use Rattle.qvt_model.specs.Reading.{model_of, has_items}
-use Rattle.qvt_model.specs.WellFormed.{object_at, ids, differ, IsItem, IsSlot, ComeAfter, AreInNameOrder, IsObjectIn, IsModel, HoldsOne, IsStorable}
+use Rattle.qvt_model.specs.WellFormed.{object_data_at, ids, none_repeats, IsItem, IsSlot, ComeAfter, AreInNameOrder, IsObjectIn, IsModel, HoldsOne, IsStorable}
 use Rattle.qvt_model.specs.Written.{model_text}
 use Rattle.qvt_model.specs.declared.data.Datum.{Datum}
 use Rattle.qvt_model.specs.declared.data.Datum.TheVariants.{Bool as BoolDatum, Int, Str, Literal, Ref}
@@ -38,7 +40,6 @@ use Rattle.qvt_model.specs.declared.data.ObjectData.{ObjectData}
 use Rattle.qvt_json.proofs.Ordered.{some-injective}
 use Rattle.qvt_model.proofs.Lists.{All-weaken}
 use Rattle.qvt_model.proofs.OwnIds.{own_id-apart, is_id-own_id, IsUtf8-own_id}
-use Rattle.qvt_model.proofs.Sorting.{IsLevelWithNone, NoneAreLevel, all-sorted, apart-filter, apart-map, above, below}
 use Rattle.qvt_model.proofs.Whole.{model_of-model_text}
 
 -- ---- slots in order
@@ -122,25 +123,25 @@ module _ (m : Metamodels) (known : IsWellFormed m) (c : ℕ) where
 -- ---- the slots of an object
 
 module _ (s : Contents) (xs : List ℕ) (x : ℕ) where
-  pub slots-apart : IsWellFormed s.metas → NoneAreLevel (by_name s.metas) (map (slot_in s xs x) (features_of s.metas (class_of s x)))
-  slots-apart known = apart-map (slot_in s xs x) (by_name s.metas) (features_of s.metas (class_of s x)) (features-apart s.metas known (class_of s x))
+  pub slots-apart : IsWellFormed s.metas → NoneAreLevel (by_name s.metas) (map (slot_data_of s xs x) (features_of s.metas (class_of s x)))
+  slots-apart known = apart-map (slot_data_of s xs x) (by_name s.metas) (features_of s.metas (class_of s x)) (features-apart s.metas known (class_of s x))
 
   pub filled-order : IsWellFormed s.metas → AreInNameOrder s.metas (filled_slots s xs x)
   filled-order known =
-      let slots = map (slot_in s xs x) (features_of s.metas (class_of s x)) in
+      let slots = map (slot_data_of s xs x) (features_of s.metas (class_of s x)) in
       order-sorted s.metas (filter has_items slots) (apart-filter (by_name s.metas) has_items slots (slots-apart known))
 
-  each-filled : (P : SlotData → Type 0) (fs : List FeatureNo) → AllByRecursion (λ f. has_items (slot_in s xs x f) ≡ true → P (slot_in s xs x f)) fs → AllByRecursion P (filter has_items (map (slot_in s xs x) fs))
+  each-filled : (P : SlotData → Type 0) (fs : List FeatureNo) → AllByRecursion (λ f. has_items (slot_data_of s xs x f) ≡ true → P (slot_data_of s xs x f)) fs → AllByRecursion P (filter has_items (map (slot_data_of s xs x) fs))
   each-filled P [] h = tt
-  each-filled P (f ∷ fs) h = by (has_items (slot_in s xs x f)) refl (each-filled P fs h.1)
+  each-filled P (f ∷ fs) h = by (has_items (slot_data_of s xs x f)) refl (each-filled P fs h.1)
     where
-      by : (b : Bool) → has_items (slot_in s xs x f) ≡ b → AllByRecursion P (filter has_items (map (slot_in s xs x) fs))
-          → AllByRecursion P (cond b (slot_in s xs x f ∷ filter has_items (map (slot_in s xs x) fs)) (filter has_items (map (slot_in s xs x) fs)))
+      by : (b : Bool) → has_items (slot_data_of s xs x f) ≡ b → AllByRecursion P (filter has_items (map (slot_data_of s xs x) fs))
+          → AllByRecursion P (cond b (slot_data_of s xs x f ∷ filter has_items (map (slot_data_of s xs x) fs)) (filter has_items (map (slot_data_of s xs x) fs)))
       by true e rest = (h.0 e, rest)
       by false e rest = rest
 
-  pub filled-all : (P : SlotData → Type 0) → AllByRecursion (λ f. has_items (slot_in s xs x f) ≡ true → P (slot_in s xs x f)) (features_of s.metas (class_of s x)) → AllByRecursion P (filled_slots s xs x)
-  filled-all P h = all-sorted (by_name s.metas) P (filter has_items (map (slot_in s xs x) (features_of s.metas (class_of s x)))) (each-filled P (features_of s.metas (class_of s x)) h)
+  pub filled-all : (P : SlotData → Type 0) → AllByRecursion (λ f. has_items (slot_data_of s xs x f) ≡ true → P (slot_data_of s xs x f)) (features_of s.metas (class_of s x)) → AllByRecursion P (filled_slots s xs x)
+  filled-all P h = all-sorted (by_name s.metas) P (filter has_items (map (slot_data_of s xs x) (features_of s.metas (class_of s x)))) (each-filled P (features_of s.metas (class_of s x)) h)
 
 -- ---- lists
 
@@ -200,49 +201,49 @@ module _ (s : Contents) (xs : List ℕ) where
   count-objects n [] = refl
   count-objects n (y ∷ ys) = ap suc (count-objects (suc n) ys)
 
-  class-there : (n : ℕ) (ys : List ℕ) (i : ℕ) → i < length ys → (object_at (objects_from s xs n ys) i).class.0 ≡ class_of s (slice_index_or ys i 0)
-  unfolding object_in
+  class-there : (n : ℕ) (ys : List ℕ) (i : ℕ) → i < length ys → (object_data_at (objects_from s xs n ys) i).class.0 ≡ class_of s (slice_index_or ys i 0)
+  unfolding object_data_of
   class-there n [] i lt = absurd (omega arith)
   class-there n (y ∷ ys) zero lt = refl
   class-there n (y ∷ ys) (suc i) lt = class-there (suc n) ys i (omega arith)
 
   ids-later : (n a : ℕ) (ys : List ℕ) → n < a → a + length ys < 2 ^ 64 → list_any (bytes_eq (own_id n)) (ids (objects_from s xs a ys)) ≡ false
-  unfolding object_in
+  unfolding object_data_of
   ids-later n a [] lt fits = refl
   ids-later n a (y ∷ ys) lt fits = rw (own_id-apart a n lt (omega arith), ids-later n (suc a) ys (omega arith) (omega arith)) refl
 
-  ids-differ : (n : ℕ) (ys : List ℕ) → n + length ys < 2 ^ 64 → differ (ids (objects_from s xs n ys)) ≡ true
-  unfolding object_in
+  ids-differ : (n : ℕ) (ys : List ℕ) → n + length ys < 2 ^ 64 → none_repeats (ids (objects_from s xs n ys)) ≡ true
+  unfolding object_data_of
   ids-differ n [] fits = refl
-  ids-differ n (y ∷ ys) fits = rw (ids-later n (suc n) ys (omega arith) (omega arith), ids-differ (suc n) ys (omega arith)) refl
+  ids-differ n (y ∷ ys) fits = ap (λ b. not (b || repeats_by bytes_eq (ids (objects_from s xs (suc n) ys)))) (ids-later n (suc n) ys (omega arith) (omega arith)) ∙ ids-differ (suc n) ys (omega arith)
 
   pub ids-texts : (n : ℕ) (ys : List ℕ) → n + length ys < 2 ^ 64 → AllByRecursion (λ o. IsUtf8 o.id) (objects_from s xs n ys)
-  unfolding object_in
+  unfolding object_data_of
   ids-texts n [] fits = tt
   ids-texts n (y ∷ ys) fits = (IsUtf8-own_id n (omega arith), ids-texts (suc n) ys (omega arith))
 
   ids-forms : (n : ℕ) (ys : List ℕ) → n + length ys < 2 ^ 64 → AllByRecursion (λ o. IsTrue (is_id o.id)) (objects_from s xs n ys)
-  unfolding object_in
+  unfolding object_data_of
   ids-forms n [] fits = tt
   ids-forms n (y ∷ ys) fits = (is_id-own_id n (omega arith), ids-forms (suc n) ys (omega arith))
 
-  pub all-objects : (P : ℕ → Type 0) (Q : ObjectData → Type 0) → ((n y : ℕ) → P y → Q (object_in s xs n y)) → (n : ℕ) (ys : List ℕ) → AllByRecursion P ys → AllByRecursion Q (objects_from s xs n ys)
+  pub all-objects : (P : ℕ → Type 0) (Q : ObjectData → Type 0) → ((n y : ℕ) → P y → Q (object_data_of s xs n y)) → (n : ℕ) (ys : List ℕ) → AllByRecursion P ys → AllByRecursion Q (objects_from s xs n ys)
   all-objects P Q step n [] a = tt
   all-objects P Q step n (y ∷ ys) a = (step n y a.0, all-objects P Q step (suc n) ys a.1)
 
 -- ---- items
 
-module _ (s : Contents) (xs : List ℕ) (os : List ObjectData) (count : length os ≡ length xs) (there : (i : ℕ) → i < length xs → (object_at os i).class.0 ≡ class_of s (slice_index_or xs i 0)) where
-  ref-item : (c y : ℕ) (x : Datum) → option_map Ref (place_of xs y) ≡ Some x → descends s.metas (class_of s y) c ≡ true → IsItem s.metas os (ClassKind (record { 0 = c })) x
-  ref-item c y x e h = by (place_of xs y) refl e
+module _ (s : Contents) (xs : List ℕ) (os : List ObjectData) (count : length os ≡ length xs) (there : (i : ℕ) → i < length xs → (object_data_at os i).class.0 ≡ class_of s (slice_index_or xs i 0)) where
+  ref-item : (c y : ℕ) (x : Datum) → option_map Ref (place_within xs y) ≡ Some x → descends s.metas (class_of s y) c ≡ true → IsItem s.metas os (ClassKind (record { 0 = c })) x
+  ref-item c y x e h = by (place_within xs y) refl e
     where
-      by : (o : Option ℕ) → place_of xs y ≡ o → option_map Ref o ≡ Some x → IsItem s.metas os (ClassKind (record { 0 = c })) x
+      by : (o : Option ℕ) → place_within xs y ≡ o → option_map Ref o ≡ Some x → IsItem s.metas os (ClassKind (record { 0 = c })) x
       by None is e = absurd (cc)
       by (Some i) is e =
           let at = position-Some (λ z. y == z) xs i 0 is in
           let same : y ≡ slice_index_or xs i 0 = eqb-true y (slice_index_or xs i 0) at.1 in
-          let class : (object_at os i).class.0 ≡ class_of s y = there i at.0 ∙ ap (class_of s) (sym same) in
-          let conforms : descends s.metas (object_at os i).class.0 c ≡ true = ap (λ a. descends s.metas a c) class ∙ h in
+          let class : (object_data_at os i).class.0 ≡ class_of s y = there i at.0 ∙ ap (class_of s) (sym same) in
+          let conforms : descends s.metas (object_data_at os i).class.0 c ≡ true = ap (λ a. descends s.metas a c) class ∙ h in
           subst (IsItem s.metas os (ClassKind (record { 0 = c }))) (some-injective (Ref i) x e) (omega (arith, at.0, count), conforms)
 
   value-item : (kind : TypeKind) (v : Value) (x : Datum) → datum_in xs v ≡ Some x → is_of_kind s kind v ≡ true → HasCodeType v → IsItem s.metas os kind x
@@ -274,17 +275,17 @@ module _ (s : Contents) (e : ℕ) (store : IsStore s) (sound : Sound s) where
   abbrev os : List ObjectData
   os = objects_from s xs 1 xs
 
-  is-slot : (x : ℕ) (f : FeatureNo) → among_features f.0 (features_of s.metas (class_of s x)) ≡ true → has_items (slot_in s xs x f) ≡ true → IsSlot s.metas os (class_of s x) (slot_in s xs x f)
+  is-slot : (x : ℕ) (f : FeatureNo) → among_features f.0 (features_of s.metas (class_of s x)) ≡ true → has_items (slot_data_of s xs x f) ≡ true → IsSlot s.metas os (class_of s x) (slot_data_of s xs x f)
   is-slot x f own some = record {
     own = own;
-    some = ltb-true 0 (length (slot_in s xs x f).items) some;
+    some = ltb-true 0 (length (slot_data_of s xs x f).items) some;
     items = given-all (datum_in xs) (λ v. is_of_type s f.0 v ≡ true) HasCodeType (IsItem s.metas os (shape_of s.metas f.0).kind)
         (λ v y e t p. value-item s xs os (count-objects s xs 1 xs) (λ i lt. class-there s xs 1 xs i lt) (shape_of s.metas f.0).kind v y e t p)
         (slot_of s x f.0) (all-passing (is_of_type s f.0) (slot_of s x f.0) (sound.parts.typed.types x f.0)) (by_recursion HasCodeType (slot_of s x f.0) (sound.parts.plain x f.0));
   }
 
-  is-object : (n x : ℕ) → IsMember s e x → IsObjectIn s.metas (extent_at s e).metamodel os (object_in s xs n x)
-  unfolding object_in
+  is-object : (n x : ℕ) → IsMember s e x → IsObjectIn s.metas (extent_at s e).metamodel os (object_data_of s xs n x)
+  unfolding object_data_of
   is-object n x h =
       let live : is_live s x ≡ true = lt-ltb x (length s.objects) h.0 in
       let features = features_of s.metas (class_of s x) in
@@ -292,23 +293,23 @@ module _ (s : Contents) (e : ℕ) (store : IsStore s) (sound : Sound s) where
         class = (sound.parts.classes x live).live;
         metamodel = (sound.parts.classes x live).metamodel ∙ ap (λ k. (extent_at s k).metamodel) h.1;
         slots = filled-all s xs x (IsSlot s.metas os (class_of s x))
-            (All-weaken (λ f. among_features f.0 features ≡ true) (λ f. has_items (slot_in s xs x f) ≡ true → IsSlot s.metas os (class_of s x) (slot_in s xs x f)) (λ f own some. is-slot x f own some) features (each-among features));
+            (All-weaken (λ f. among_features f.0 features ≡ true) (λ f. has_items (slot_data_of s xs x f) ≡ true → IsSlot s.metas os (class_of s x) (slot_data_of s xs x f)) (λ f own some. is-slot x f own some) features (each-among features));
         order = filled-order s xs x store.well_formed;
       }
 
-  holds-one : (x : ℕ) (f : FeatureNo) → HoldsOne s.metas (slot_in s xs x f)
+  holds-one : (x : ℕ) (f : FeatureNo) → HoldsOne s.metas (slot_data_of s xs x f)
   holds-one x f = record {
     one = λ single.
         let within = one-bound (length (slot_of s x f.0)) (shape_of s.metas f.0).upper single (sound.parts.bounds x f.0) in
         omega (arith, within, given-fewer (datum_in xs) (slot_of s x f.0));
   }
 
-  every : (fs : List FeatureNo) (x : ℕ) → AllByRecursion (λ f. has_items (slot_in s xs x f) ≡ true → HoldsOne s.metas (slot_in s xs x f)) fs
+  every : (fs : List FeatureNo) (x : ℕ) → AllByRecursion (λ f. has_items (slot_data_of s xs x f) ≡ true → HoldsOne s.metas (slot_data_of s xs x f)) fs
   every [] x = tt
   every (f ∷ fs) x = ((λ some. holds-one x f), every fs x)
 
-  object-ones : (n x : ℕ) → IsMember s e x → AllByRecursion (HoldsOne s.metas) (object_in s xs n x).slots
-  unfolding object_in
+  object-ones : (n x : ℕ) → IsMember s e x → AllByRecursion (HoldsOne s.metas) (object_data_of s xs n x).slots
+  unfolding object_data_of
   object-ones n x h = filled-all s xs x (HoldsOne s.metas) (every (features_of s.metas (class_of s x)) x)
 
   few : 1 + length xs < 2 ^ 64

@@ -7,17 +7,17 @@ use Rattle.std.proofs.lemmas.Bool.Decides.{Decides-eqb}
 use Rattle.std.proofs.lemmas.List.{get_or-map}
 use Rattle.qvt_base.specs.declared.numbers.FeatureNo.{FeatureNo}
 use Rattle.qvt_value.specs.declared.value.Value.{Value}
-use Rattle.qvt_metamodel.specs.Metamodels.{Metamodels, features_of, among_features, has_feature, is_containment}
+use Rattle.qvt_metas.specs.Metamodels.{Metamodels, features_of, among_features, has_feature, is_containment}
 use Rattle.qvt_relation.proofs.Bools.{and_left, or_left, or_cases, either, clash}
-use Rattle.qvt_slots.specs.Slots.{Slots, has, Contains, Inside, directly, through}
-use Rattle.qvt_slots.specs.Contents.{Contents, Instance, no_instance, is_live, list_of, slot_in, slot_of}
-use Rattle.qvt_slots.specs.Types.{AreTyped}
+use Rattle.qvt_store.specs.Slots.{Slots, has, Contains, Inside, directly, through}
+use Rattle.qvt_store.specs.Contents.{Contents, Instance, no_instance, is_live, list_of, slot_in, slot_of}
+use Rattle.qvt_store.specs.Types.{AreTyped}
 use Rattle.qvt_slots.proofs.Places.{list_of-nil}
 use Rattle.qvt_slots.proofs.Lists.{length-map, past_end}
 use Rattle.qvt_store_laws.proofs.After.{item_object}
 use Rattle.qvt_model.specs.declared.data.SlotData.{SlotData}
 use Rattle.qvt_model.specs.declared.data.ObjectData.{ObjectData}
-use Rattle.qvt_model.specs.WellFormed.{object_at, no_object, IsSlot, IsObjectIn, IsModel}
+use Rattle.qvt_model.specs.WellFormed.{object_data_at, no_object, IsSlot, IsObjectIn, IsModel}
 use Rattle.qvt_model.specs.Items.{items_in}
 use Rattle.qvt_model.specs.Loaded.{value_at, list_in, instance_at}
 use Rattle.qvt_model.specs.Conforming.{slots_at, Conforms}
@@ -59,7 +59,7 @@ not_own m all c f (t ∷ ts) h n = go (t.feature.0 == f) refl (not_own m all c f
     go true e rest = let is : IsSlot m all c t = h.0 in clash _ (subst (λ g. has_feature m c g ≡ true) ((Decides-eqb t.feature.0 f).0 e) is.own) n
     go false e rest = rest
 
-pub all_at : (m : Metamodels) (k : ℕ) (all os : List ObjectData) (i : ℕ) → AllByRecursion (IsObjectIn m k all) os → i < length os → IsObjectIn m k all (object_at os i)
+pub all_at : (m : Metamodels) (k : ℕ) (all os : List ObjectData) (i : ℕ) → AllByRecursion (IsObjectIn m k all) os → i < length os → IsObjectIn m k all (object_data_at os i)
 all_at m k all [] i h l = absurd (omega arith)
 all_at m k all (o ∷ os) zero h l = h.0
 all_at m k all (o ∷ os) (suc i) h l = all_at m k all os i h.1 (omega arith)
@@ -74,13 +74,13 @@ module _ (s : Contents) (e k : ℕ) (os : List ObjectData) (model : IsModel s.me
   abbrev pub final : List Instance
   final = s.objects ++ map (instance_at m e n) os
 
-  pub object : (i : ℕ) → i < length os → IsObjectIn m k os (object_at os i)
+  pub object : (i : ℕ) → i < length os → IsObjectIn m k os (object_data_at os i)
   object i h = all_at m k os os i model.objects h
 
   pub at_old : (x : ℕ) → x < n → slice_index_or final x no_instance ≡ slice_index_or s.objects x no_instance
   at_old x h = app_left s.objects (map (instance_at m e n) os) x no_instance h
 
-  pub at_new : (i : ℕ) → i < length os → slice_index_or final (n + i) no_instance ≡ instance_at m e n (object_at os i)
+  pub at_new : (i : ℕ) → i < length os → slice_index_or final (n + i) no_instance ≡ instance_at m e n (object_data_at os i)
   at_new i h = app_right s.objects (map (instance_at m e n) os) i no_instance ∙ get_or-map (instance_at m e n) os i no_object no_instance h
 
   pub count : length final ≡ n + length os
@@ -89,23 +89,23 @@ module _ (s : Contents) (e k : ℕ) (os : List ObjectData) (model : IsModel s.me
   pub slot-old : (x f : ℕ) → x < n → slot_in m final x f ≡ slot_of s x f
   slot-old x f h = ap (λ (ob : Instance). list_of (features_of m ob.class) ob.slots f) (at_old x h)
 
-  pub slot-new : (i f : ℕ) → slot_in m final (n + i) f ≡ list_in n (object_at os i) f
+  pub slot-new : (i f : ℕ) → slot_in m final (n + i) f ≡ list_in n (object_data_at os i) f
   slot-new i f = elim (cases_lt i (length os)) [
     | inl l ↦ ap (λ (ob : Instance). list_of (features_of m ob.class) ob.slots f) (at_new i l)
-        ∙ list_of-map (features_of m (object_at os i).class.0) (list_in n (object_at os i)) f
-        ∙ known i l (has_feature m (object_at os i).class.0 f) refl
+        ∙ list_of-map (features_of m (object_data_at os i).class.0) (list_in n (object_data_at os i)) f
+        ∙ known i l (has_feature m (object_data_at os i).class.0 f) refl
     | inr l ↦ ap (λ (ob : Instance). list_of (features_of m ob.class) ob.slots f) (past_end final (n + i) no_instance (let c : length final ≡ n + length os = count in omega arith))
         ∙ list_of-nil (features_of m 0) f
         ∙ sym (ap (λ (o : ObjectData). list_in n o f) (past_end os i no_object l))
   ]
     where
-      known : (i : ℕ) → i < length os → (b : Bool) → has_feature m (object_at os i).class.0 f ≡ b → cond b (list_in n (object_at os i) f) [] ≡ list_in n (object_at os i) f
+      known : (i : ℕ) → i < length os → (b : Bool) → has_feature m (object_data_at os i).class.0 f ≡ b → cond b (list_in n (object_data_at os i) f) [] ≡ list_in n (object_data_at os i) f
       known i l true e = refl
-      known i l false e = sym (ap (map (value_at n)) (let is : IsObjectIn m k os (object_at os i) = object i l in not_own m os (object_at os i).class.0 f (object_at os i).slots is.slots e))
+      known i l false e = sym (ap (map (value_at n)) (let is : IsObjectIn m k os (object_data_at os i) = object i l in not_own m os (object_data_at os i).class.0 f (object_data_at os i).slots is.slots e))
 
   -- a new object holds new objects alone
-  pub new_held : (i f y : ℕ) → has (slot_in m final (n + i) f) y ≡ true → HeldItem n y (items_in f (object_at os i).slots)
-  new_held i f y h = held_item n y (items_in f (object_at os i).slots) (ap (λ l. has l y) (sym (slot-new i f)) ∙ h)
+  pub new_held : (i f y : ℕ) → has (slot_in m final (n + i) f) y ≡ true → HeldItem n y (items_in f (object_data_at os i).slots)
+  new_held i f y h = held_item n y (items_in f (object_data_at os i).slots) (ap (λ l. has l y) (sym (slot-new i f)) ∙ h)
 
   module _ (typed : AreTyped s) where
     -- an old object holds old objects alone
@@ -116,12 +116,12 @@ module _ (s : Contents) (e k : ℕ) (os : List ObjectData) (model : IsModel s.me
       pub one_new : (x f x' f' y : ℕ) → is_containment m f ≡ true → is_containment m f' ≡ true → n ≤ x → has (slot_in m final x f) y ≡ true → has (slot_in m final x' f') y ≡ true → (x ≡ x') × (f ≡ f')
       one_new x f x' f' y k k' l h h' =
           let a : (i : ℕ) × (x ≡ n + i) = beyond n x l in
-          let p : HeldItem n y (items_in f (object_at os a.0).slots) = new_held a.0 f y (subst (λ z. has (slot_in m final z f) y ≡ true) a.1 h) in
+          let p : HeldItem n y (items_in f (object_data_at os a.0).slots) = new_held a.0 f y (subst (λ z. has (slot_in m final z f) y ≡ true) a.1 h) in
           elim (cases_lt x' n) [
             | inl old ↦ let b : y < n = old_held x' f' y old h' in let q : y ≡ n + p.place = p.number in absurd (omega arith)
             | inr new ↦
                 let b : (i : ℕ) × (x' ≡ n + i) = beyond n x' new in
-                let q : HeldItem n y (items_in f' (object_at os b.0).slots) = new_held b.0 f' y (subst (λ z. has (slot_in m final z f') y ≡ true) b.1 h') in
+                let q : HeldItem n y (items_in f' (object_data_at os b.0).slots) = new_held b.0 f' y (subst (λ z. has (slot_in m final z f') y ≡ true) b.1 h') in
                 let p_is : y ≡ n + p.place = p.number in
                 let q_is : y ≡ n + q.place = q.number in
                 let same : q.place ≡ p.place = omega arith in
@@ -140,10 +140,10 @@ module _ (s : Contents) (e k : ℕ) (os : List ObjectData) (model : IsModel s.me
 
       new_path : {x y : ℕ} → Inside m (slot_in m final) x y → (i : ℕ) → x ≡ n + i → NewPath i y
       new_path (directly {x} {y} c) i e =
-          let p : HeldItem n y (items_in c.feature (object_at os i).slots) = new_held i c.feature y (subst (λ z. has (slot_in m final z c.feature) y ≡ true) e c.held) in
+          let p : HeldItem n y (items_in c.feature (object_data_at os i).slots) = new_held i c.feature y (subst (λ z. has (slot_in m final z c.feature) y ≡ true) e c.held) in
           record { place = p.place; number = p.number; path = directly (record { feature = c.feature; containment = c.containment; held = p.held }) }
       new_path (through {x} {y} {z} c q) i e =
-          let p : HeldItem n y (items_in c.feature (object_at os i).slots) = new_held i c.feature y (subst (λ z. has (slot_in m final z c.feature) y ≡ true) e c.held) in
+          let p : HeldItem n y (items_in c.feature (object_data_at os i).slots) = new_held i c.feature y (subst (λ z. has (slot_in m final z c.feature) y ≡ true) e c.held) in
           let r : NewPath p.place z = new_path q p.place p.number in
           record { place = r.place; number = r.number; path = through (record { feature = c.feature; containment = c.containment; held = p.held }) r.path }
 

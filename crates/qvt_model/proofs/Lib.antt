@@ -15,4 +15,3 @@ pub mod Loading
 pub mod Told
 pub mod Loads
 pub mod RunIds
-pub mod Sorting

@@ -1,17 +1,19 @@
 -- Lists whose every item has a property, and look-ups in them.
-use Rattle.std.proofs.Common.{◌≡◌, ◌∙◌, ℕ, zero, suc, ◌+◌, ◌<◌, ◌≤◌, List, [], ◌∷◌, ◌++◌, length, map, Bool, true, false, cond, not, ◌&&◌, ◌||◌, nat_lt, Option, Some, None, position, slice_index_or, refl, sym, ap, arith, lt-ltb}
+use Rattle.std.proofs.Common.{◌≡◌, ◌∙◌, ℕ, zero, suc, ◌+◌, ◌<◌, List, [], ◌∷◌, ◌++◌, length, map, Bool, true, false, not, Option, Some, None, position, slice_index_or, refl, sym, ap, arith, lt-ltb}
 use Rattle.std.specs.Prelude.{⊤}
 use Rattle.std.specs.List.{list_any, position_or_len, AllByRecursion}
 use Rattle.std.specs.Str.{bytes_eq}
-use Rattle.std.proofs.lemmas.Bool.{and_parts, or_parts}
+use Rattle.std.proofs.lemmas.Bool.{or_parts}
 use Rattle.std.proofs.lemmas.Slice.Eq.{bytes_eq-Decides}
 use Rattle.serde_json.specs.Data.{Data}
 use Rattle.serde_json.specs.View.{items_of}
-use Rattle.std.proofs.Common.{Result, Ok, Err}
+use Rattle.std.proofs.Common.{Result, Ok}
+use Rattle.qvt_repeats.specs.Repeats.{repeats_by}
+use Rattle.qvt_repeats.proofs.Repeating.{none_by}
 use Rattle.qvt_json.specs.Json.{map_items}
 use Rattle.qvt_json.specs.Steps.{each_item, walk_items, all_items}
 use Rattle.qvt_json.specs.Repeated.{repeated}
-use Rattle.qvt_model.specs.WellFormed.{differ}
+use Rattle.qvt_model.specs.WellFormed.{none_repeats}
 
 pub All-weaken : {X : Type 0} (P Q : X → Type 0) (f : (x : X) → P x → Q x) (xs : List X) → AllByRecursion P xs → AllByRecursion Q xs
 All-weaken P Q f [] a = tt
@@ -69,12 +71,14 @@ map_items-is f g h (w ∷ ws) a = rw (a.0, map_items-is f g h ws a.1)
 pub bytes_eq-same : (xs : List ℕ) → bytes_eq xs xs ≡ true
 bytes_eq-same xs = (bytes_eq-Decides xs xs).1 refl
 
-pub bytes_eq-flip : (xs ys : List ℕ) → bytes_eq xs ys ≡ false → bytes_eq ys xs ≡ false
-bytes_eq-flip xs ys e = by (bytes_eq ys xs) refl
+pub bytes_eq-flip : (xs ys : List ℕ) → bytes_eq xs ys ≡ bytes_eq ys xs
+bytes_eq-flip xs ys = by (bytes_eq xs ys) (bytes_eq ys xs) refl refl
   where
-    by : (b : Bool) → bytes_eq ys xs ≡ b → b ≡ false
-    by false is = refl
-    by true is = let t : bytes_eq xs ys ≡ true = (bytes_eq-Decides xs ys).1 (sym ((bytes_eq-Decides ys xs).0 is)) in cc
+    by : (a b : Bool) → bytes_eq xs ys ≡ a → bytes_eq ys xs ≡ b → a ≡ b
+    by true true e f = refl
+    by true false e f = sym ((bytes_eq-Decides ys xs).1 (sym ((bytes_eq-Decides xs ys).0 e))) ∙ f
+    by false true e f = sym e ∙ (bytes_eq-Decides xs ys).1 (sym ((bytes_eq-Decides ys xs).0 f))
+    by false false e f = refl
 
 pub not-true : (b : Bool) → not b ≡ true → b ≡ false
 not-true false e = refl
@@ -82,41 +86,19 @@ not-true true e = cc
 
 not_first : (x : List ℕ) (xs : List (List ℕ)) (i : ℕ) → list_any (bytes_eq x) xs ≡ false → i < length xs → bytes_eq (slice_index_or xs i []) x ≡ false
 not_first x [] i e lt = absurd (omega arith)
-not_first x (y ∷ xs) zero e lt = bytes_eq-flip x y (or_parts (bytes_eq x y) _ e).0
+not_first x (y ∷ xs) zero e lt = bytes_eq-flip y x ∙ (or_parts (bytes_eq x y) _ e).0
 not_first x (y ∷ xs) (suc i) e lt = not_first x xs i (or_parts (bytes_eq x y) _ e).1 (omega arith)
 
-own_place : (xs : List (List ℕ)) (i : ℕ) → differ xs ≡ true → i < length xs → position_or_len (bytes_eq (slice_index_or xs i [])) xs ≡ i
+own_place : (xs : List (List ℕ)) (i : ℕ) → repeats_by bytes_eq xs ≡ false → i < length xs → position_or_len (bytes_eq (slice_index_or xs i [])) xs ≡ i
 own_place [] i e lt = absurd (omega arith)
 own_place (x ∷ xs) zero e lt = rw (bytes_eq-same x) refl
 own_place (x ∷ xs) (suc i) e lt =
-    let p = and_parts (not (list_any (bytes_eq x) xs)) (differ xs) e in
-    rw (not_first x xs i (not-true _ p.0) (omega arith)) (ap (λ n. 1 + n) (own_place xs i p.1 (omega arith)) ∙ omega arith)
+    let p = or_parts (list_any (bytes_eq x) xs) (repeats_by bytes_eq xs) e in
+    rw (not_first x xs i p.0 (omega arith)) (ap (λ n. 1 + n) (own_place xs i p.1 (omega arith)) ∙ omega arith)
 
 -- a text is found where it stands
-pub position-differ : (xs : List (List ℕ)) (i : ℕ) → differ xs ≡ true → i < length xs → position (bytes_eq (slice_index_or xs i [])) xs ≡ Some i
-position-differ xs i e lt = rw (own_place xs i e lt, lt-ltb i (length xs) lt) refl
+pub position-differ : (xs : List (List ℕ)) (i : ℕ) → none_repeats xs ≡ true → i < length xs → position (bytes_eq (slice_index_or xs i [])) xs ≡ Some i
+position-differ xs i e lt = rw (own_place xs i (not-true (repeats_by bytes_eq xs) e) lt, lt-ltb i (length xs) lt) refl
 
--- none of the texts is one of those before
-abbrev AreNew : List (List ℕ) → List (List ℕ) → Type 0
-AreNew earlier xs = AllByRecursion (λ x. list_any (bytes_eq x) earlier ≡ false) xs
-
-any-push : (x y : List ℕ) (earlier : List (List ℕ)) → list_any (bytes_eq y) earlier ≡ false → bytes_eq y x ≡ false → list_any (bytes_eq y) (earlier ++ x ∷ []) ≡ false
-any-push x y [] a e = rw e refl
-any-push x y (s ∷ earlier) a e = let p = or_parts (bytes_eq y s) (list_any (bytes_eq y) earlier) a in rw (p.0, any-push x y earlier p.1 e) refl
-
-new-push : (x : List ℕ) (earlier xs : List (List ℕ)) → list_any (bytes_eq x) xs ≡ false → AreNew earlier xs → AreNew (earlier ++ x ∷ []) xs
-new-push x earlier [] e a = tt
-new-push x earlier (y ∷ xs) e a = let p = or_parts (bytes_eq x y) _ e in (any-push x y earlier a.0 (bytes_eq-flip x y p.0), new-push x earlier xs p.1 a.1)
-
-none_repeated : (earlier xs : List (List ℕ)) → AreNew earlier xs → differ xs ≡ true → repeated earlier xs ≡ None
-none_repeated earlier [] a e = refl
-none_repeated earlier (x ∷ xs) a e =
-    let p = and_parts (not (list_any (bytes_eq x) xs)) (differ xs) e in
-    rw a.0 (none_repeated (earlier ++ x ∷ []) xs (new-push x earlier xs (not-true _ p.0) a.1) p.1)
-
-all_new : (xs : List (List ℕ)) → AreNew [] xs
-all_new [] = tt
-all_new (x ∷ xs) = (refl, all_new xs)
-
-pub repeated-differ : (xs : List (List ℕ)) → differ xs ≡ true → repeated [] xs ≡ None
-repeated-differ xs e = none_repeated [] xs (all_new xs) e
+pub repeated-differ : (xs : List (List ℕ)) → none_repeats xs ≡ true → repeated [] xs ≡ None
+repeated-differ xs e = none_by bytes_eq bytes_eq-flip xs (not-true (repeats_by bytes_eq xs) e)

@@ -3,11 +3,11 @@ use Rattle.std.proofs.Common.{◌≡◌, ℕ, suc, ◌+◌, ◌<◌, ◌≤◌, 
 use Rattle.std.specs.Prelude.{⊤}
 use Rattle.std.specs.List.{AllByRecursion}
 use Rattle.std.proofs.lemmas.Bool.{cases_lt}
-use Rattle.qvt_metamodel.specs.Metamodels.{Metamodels, class_at, is_opposite}
+use Rattle.qvt_metas.specs.Metamodels.{Metamodels, class_at, is_opposite}
 use Rattle.qvt_metamodel.specs.WellFormed.{IsWellFormed}
-use Rattle.qvt_slots.specs.Slots.{has, OppositesAgree, Inside}
-use Rattle.qvt_slots.specs.Contents.{Contents, Instance, slot_in, slot_of, extent_at, with_new}
-use Rattle.qvt_slots.specs.Types.{AreTyped}
+use Rattle.qvt_store.specs.Slots.{has, OppositesAgree, Inside}
+use Rattle.qvt_store.specs.Contents.{Contents, Instance, slot_in, slot_of, extent_at, with_new}
+use Rattle.qvt_store.specs.Types.{AreTyped}
 use Rattle.qvt_store.specs.Sound.{IsClassFor, Sound, SoundButOpposites}
 use Rattle.qvt_store_laws.proofs.SoundGrown.{add_keeps_loading}
 use Rattle.qvt_model.specs.declared.data.ObjectData.{ObjectData}
@@ -27,7 +27,7 @@ abbrev AreConcrete : Metamodels → List ObjectData → Type 0
 AreConcrete m [] = ⊤
 AreConcrete m (o ∷ os) = ((class_at m o.class.0).is_abstract ≡ false) × AreConcrete m os
 
-each_concrete : (m : Metamodels) (os : List ObjectData) → ((i : ℕ) → i < length os → (class_at m (parts.object_at os i).class.0).is_abstract ≡ false) → AreConcrete m os
+each_concrete : (m : Metamodels) (os : List ObjectData) → ((i : ℕ) → i < length os → (class_at m (parts.object_data_at os i).class.0).is_abstract ≡ false) → AreConcrete m os
 each_concrete m [] h = tt
 each_concrete m (o ∷ os) h = (h 0 (omega arith), each_concrete m os (λ i l. h (suc i) (omega arith)))
 
@@ -86,9 +86,9 @@ module _ (s : Contents) (e : ℕ) (os : List ObjectData) (load : IsLoadable s e 
       where
         new : (i f y g : ℕ) → is_opposite m f g ≡ true → has (slot_in m fin (n + i) f) y ≡ true → has (slot_in m fin y g) (n + i) ≡ true
         new i f y g o h =
-            let p : HeldItem n y (items_in f (parts.object_at os i).slots) = new_held s e k os load.model i f y h in
+            let p : HeldItem n y (items_in f (parts.object_data_at os i).slots) = new_held s e k os load.model i f y h in
             subst (λ z. has (slot_in m fin z g) (n + i) ≡ true) (sym p.number)
-            (ap (λ t. has t (n + i)) (slot-new s e k os load.model p.place g) ∙ has-shift n i (items_in g (parts.object_at os p.place).slots) ∙ conforms.opposites.agree i f p.place g o p.held)
+            (ap (λ t. has t (n + i)) (slot-new s e k os load.model p.place g) ∙ has-shift n i (items_in g (parts.object_data_at os p.place).slots) ∙ conforms.opposites.agree i f p.place g o p.held)
 
     loading : SoundButOpposites (with_objects s fin)
     loading = subst (λ (l : List Instance). SoundButOpposites (with_objects s l)) (put_is m well k e s.objects os load.model.objects)

@@ -5,16 +5,16 @@ use Rattle.std.specs.List.{AllByRecursion}
 use Rattle.std.proofs.lemmas.Bool.{cases_lt, eq-eqb, ne_eqb, ltb-true, ltb-false, lt-ltb, le-ltb}
 use Rattle.std.proofs.lemmas.List.{get_or-map}
 use Rattle.qvt_base.specs.declared.numbers.Oid.{Oid}
-use Rattle.qvt_metamodel.specs.Metamodels.{Metamodels}
-use Rattle.qvt_slots.specs.Contents.{Contents, Instance, no_instance, extent_at, extent_of, is_live, is_writable, members_from, members_of}
-use Rattle.qvt_slots.specs.Limits.{most_objects}
+use Rattle.qvt_metas.specs.Metamodels.{Metamodels}
+use Rattle.qvt_store.specs.Contents.{Contents, Instance, no_instance, extent_at, extent_of, is_live, is_writable, members_from, members_of}
+use Rattle.qvt_store.specs.Limits.{most_objects}
 use Rattle.qvt_slots.proofs.Lists.{length-map}
 use Rattle.qvt_store_laws.proofs.Stays.{members-append, stays_more}
 use Rattle.qvt_store_laws.proofs.ReadOnly.{more_leaves_inputs}
 use Rattle.qvt_model.specs.declared.data.ObjectData.{ObjectData}
 use Rattle.qvt_model.specs.IdTables.{id_in}
-use Rattle.qvt_model.specs.WellFormed.{object_at, no_object}
-use Rattle.qvt_model.specs.Extents.{own_id, numbers, place_of}
+use Rattle.qvt_model.specs.WellFormed.{object_data_at, no_object}
+use Rattle.qvt_model.specs.Extents.{own_id, numbers, place_within}
 use Rattle.qvt_model.specs.RunIds.{place_id, file_id, run_id}
 use Rattle.qvt_model.specs.Loaded.{instance_at, loaded, id_told, IsLoadable, MembersStay, TellsAll, TellsNoOther, AreTold, HaveRunIds, LoadLeaves, EachLoadLeaves, CanLoadEach, object_count, ElsewhereThan, AreApart, AreLoadable, LoadEach}
 use Rattle.qvt_model.proofs.Final.{app_right}
@@ -38,7 +38,7 @@ told_within n (o ∷ os) x old low high = elim (cases_lt x (suc n)) [
       ∙ told_within (suc n) os x old (omega arith) (omega arith)
 ]
 
-told_at : (n : ℕ) (os : List ObjectData) (i x : ℕ) (old : Option (List ℕ)) → n + i ≡ x → i < length os → id_told n os x old ≡ Some (object_at os i).id
+told_at : (n : ℕ) (os : List ObjectData) (i x : ℕ) (old : Option (List ℕ)) → n + i ≡ x → i < length os → id_told n os x old ≡ Some (object_data_at os i).id
 told_at n [] i x old q h = absurd (omega arith)
 told_at n (o ∷ os) zero x old q h = ap (λ b. cond b (Some o.id) (id_told (suc n) os x old)) (eq-eqb x n (omega arith))
 told_at n (o ∷ os) (suc i) x old q h = ap (λ b. cond b (Some o.id) (id_told (suc n) os x old)) (ne_eqb x n (λ p. let r : x ≡ n = p in omega arith)) ∙ told_at (suc n) os i x old (omega arith) (omega arith)
@@ -80,11 +80,11 @@ module _ (s : Contents) (e : ℕ) (os : List ObjectData) where
   members_new empty = members-append 0 s.objects (map (instance_at s.metas e (length s.objects)) os) e
       ∙ ap (λ l. l ++ members_from (0 + length s.objects) (map (instance_at s.metas e (length s.objects)) os) e) empty
 
-  placed : members_of s e ≡ [] → (i : ℕ) → i < length os → place_of (numbers (members_of after e)) (length s.objects + i) ≡ Some i
+  placed : members_of s e ≡ [] → (i : ℕ) → i < length os → place_within (numbers (members_of after e)) (length s.objects + i) ≡ Some i
   placed empty i h =
       let r : IsNth (members_of after e) i (length s.objects + i) =
       subst (λ (l : List Oid). IsNth l i (length s.objects + i)) (sym (members_new empty)) (nth s.metas e (length s.objects) (0 + length s.objects) os i (length s.objects + i) (omega arith) h) in
-      subst (λ y. place_of (numbers (members_of after e)) y ≡ Some i) r.here (found e after.objects i r.within)
+      subst (λ y. place_within (numbers (members_of after e)) y ≡ Some i) r.here (found e after.objects i r.within)
 
   module _ (old new : List (Option (List ℕ))) (told : AreTold s os old new) where
     ids : (x : ℕ) → is_live s x ≡ true → id_in new x ≡ id_in old x
@@ -99,17 +99,17 @@ module _ (s : Contents) (e : ℕ) (os : List ObjectData) where
     no_other : TellsNoOther s old → (x : ℕ) → length s.objects + length os ≤ x → id_in new x ≡ None
     no_other none_else x high = told x ∙ told_beyond (length s.objects) os x (id_in old x) high ∙ none_else x (le-ltb x (length s.objects) (omega arith))
 
-    read : (extent_at s e).writable ≡ false → (i : ℕ) → i < length os → run_id after new (length s.objects + i) ≡ (object_at os i).id
+    read : (extent_at s e).writable ≡ false → (i : ℕ) → i < length os → run_id after new (length s.objects + i) ≡ (object_data_at os i).id
     read locked i h =
-        ap (λ b. cond b (place_id (place_of (numbers (members_of after (extent_of after (length s.objects + i)))) (length s.objects + i))) (file_id (id_in new (length s.objects + i))))
+        ap (λ b. cond b (place_id (place_within (numbers (members_of after (extent_of after (length s.objects + i)))) (length s.objects + i))) (file_id (id_in new (length s.objects + i))))
         (ap (λ k. (extent_at s k).writable) (extent_new i h) ∙ locked)
         ∙ ap file_id (told (length s.objects + i) ∙ told_at (length s.objects) os i (length s.objects + i) (id_in old (length s.objects + i)) refl h)
 
     written : (extent_at s e).writable ≡ true → members_of s e ≡ [] → (i : ℕ) → i < length os → run_id after new (length s.objects + i) ≡ own_id (suc i)
     written open' empty i h =
-        ap (λ b. cond b (place_id (place_of (numbers (members_of after (extent_of after (length s.objects + i)))) (length s.objects + i))) (file_id (id_in new (length s.objects + i))))
+        ap (λ b. cond b (place_id (place_within (numbers (members_of after (extent_of after (length s.objects + i)))) (length s.objects + i))) (file_id (id_in new (length s.objects + i))))
         (ap (λ k. (extent_at s k).writable) (extent_new i h) ∙ open')
-        ∙ ap (λ k. place_id (place_of (numbers (members_of after k)) (length s.objects + i))) (extent_new i h)
+        ∙ ap (λ k. place_id (place_within (numbers (members_of after k)) (length s.objects + i))) (extent_new i h)
         ∙ ap place_id (placed empty i h)
 
     before : (x : ℕ) → is_live s x ≡ true → run_id after new x ≡ run_id s old x

@@ -12,15 +12,15 @@ use Rattle.qvt_base.specs.declared.numbers.ClassNo.{ClassNo}
 use Rattle.qvt_value.specs.declared.value.LiteralRef.{LiteralRef}
 use Rattle.qvt_metamodel.specs.declared.info.TypeKind.{TypeKind}
 use Rattle.qvt_metamodel.specs.declared.info.TypeKind.TheVariants.{Bool as BoolKind, Int as IntKind, Str as StrKind, Enum as EnumKind, Class as ClassKind}
-use Rattle.qvt_metamodel.specs.Metamodels.{Metamodels, class_at, feature_at, shape_of, is_single}
-use Rattle.qvt_metamodel.specs.Descends.{descends}
-use Rattle.qvt_metamodel.specs.Named.{metamodel_at, class_named, literal_named, literal_at}
+use Rattle.qvt_metas.specs.Metamodels.{Metamodels, class_at, feature_at, shape_of, is_single}
+use Rattle.qvt_metas.specs.Descends.{descends}
+use Rattle.qvt_metas.specs.Named.{metamodel_at, class_named, literal_named, literal_at}
 use Rattle.qvt_metamodel.specs.WellFormed.{IsWellFormed}
 use Rattle.qvt_json.specs.Json.{map_items}
 use Rattle.qvt_json.specs.Leaves.{is_id}
 use Rattle.qvt_model.specs.Reading.{id_of, class_read, feature_of, features_known, object_known, distinct_ids, class_at_place, ref_at, ref_of, literal_in, datum_of, one_item, items_read, slot_read, slots_of, object_read, is_dangling, slots_dangling, dangling, model_from, numbered_class}
-use Rattle.qvt_model.specs.WellFormed.{object_at, no_object, ids, differ, IsItem, IsSlot, IsObjectIn, IsModel, HoldsOne, IsStorable}
-use Rattle.qvt_model.specs.Written.{datum_value, first_value, slot_value, slot_members, object_value, object_values}
+use Rattle.qvt_model.specs.WellFormed.{object_data_at, no_object, ids, none_repeats, IsItem, IsSlot, IsObjectIn, IsModel, HoldsOne, IsStorable}
+use Rattle.qvt_model.specs.Written.{datum_value, first_value, slot_value, slot_members, written_object, object_values}
 use Rattle.qvt_model.specs.declared.places.Places.{Places}
 use Rattle.qvt_model.specs.declared.data.Datum.{Datum}
 use Rattle.qvt_model.specs.declared.data.Datum.TheVariants.{Bool as BoolDatum, Int, Str, Literal, Ref}
@@ -37,7 +37,7 @@ integer-back (pos n) h = let lt : n < 2 ^ 63 = h.sfits in rw (lt-ltb n (2 ^ 63) 
 integer-back (negsuc n) h = refl
 
 module _ (m : Metamodels) (k : ℕ) (os : List ObjectData) (named : IsWellFormed m) (name : (metamodel_at m k).name ≢ []) (model : IsModel m k os) (storable : IsStorable m os) where
-  class-back : (o : ObjectData) → IsObjectIn m k os o → class_read m k (object_value m os o) ≡ Ok o.class
+  class-back : (o : ObjectData) → IsObjectIn m k os o → class_read m k (written_object m os o) ≡ Ok o.class
   unfolding class_read
   class-back o h =
       let there : (metamodel_at m (class_at m o.class.0).metamodel).name ≢ [] = λ e. name (ap (λ n. (metamodel_at m n).name) (sym h.metamodel) ∙ e) in
@@ -50,18 +50,18 @@ module _ (m : Metamodels) (k : ℕ) (os : List ObjectData) (named : IsWellFormed
   features-known c id [] a = refl
   features-known c id (s ∷ ss) a = rw (named.feature_found c.0 s.feature.0 a.0.own) (features-known c id ss a.1)
 
-  object-known : (o : ObjectData) → IsObjectIn m k os o → object_known m k (object_value m os o) ≡ Ok tt
+  object-known : (o : ObjectData) → IsObjectIn m k os o → object_known m k (written_object m os o) ≡ Ok tt
   unfolding object_known
   object-known o h = rw (class-back o h) (features-known o.class o.id o.slots h.slots)
 
-  ref-back : (c : ClassNo) (i : ℕ) → i < length os → IsTrue (descends m (object_at os i).class.0 c.0) → ref_of m (places_of os) c (object_at os i).id ≡ Some (Ref i)
+  ref-back : (c : ClassNo) (i : ℕ) → i < length os → IsTrue (descends m (object_data_at os i).class.0 c.0) → ref_of m (places_of os) c (object_data_at os i).id ≡ Some (Ref i)
   unfolding ref_of
   ref-back c i lt conforms =
-      let form : is_id (object_at os i).id ≡ true = All-index (λ o. is_id o.id ≡ true) os i no_object storable.forms lt in
+      let form : is_id (object_data_at os i).id ≡ true = All-index (λ o. is_id o.id ≡ true) os i no_object storable.forms lt in
       let within : i < length (ids os) = omega (arith, length-map os (λ o. o.id), lt) in
-      let place : position (bytes_eq (object_at os i).id) (ids os) ≡ Some i =
+      let place : position (bytes_eq (object_data_at os i).id) (ids os) ≡ Some i =
       ap (λ id. position (bytes_eq id) (ids os)) (sym (index-map (λ o. o.id) os i no_object)) ∙ position-differ (ids os) i model.ids within in
-      let class : class_at_place (places_of os) i ≡ (object_at os i).class = index-map (λ o. o.class) os i no_object in
+      let class : class_at_place (places_of os) i ≡ (object_data_at os i).class = index-map (λ o. o.class) os i no_object in
       let fits : descends m (class_at_place (places_of os) i).0 c.0 ≡ true = ap (λ (a : ClassNo). descends m a.0 c.0) class ∙ conforms in
       rw form (ap (ref_at m (places_of os) c) place ∙ rw fits)
 
@@ -130,7 +130,7 @@ module _ (m : Metamodels) (k : ℕ) (os : List ObjectData) (named : IsWellFormed
       let some : nat_lt 0 (length s.items) ≡ true = lt-ltb 0 (length s.items) a.0.some in
       rw (named.feature_found c.0 s.feature.0 a.0.own, items-back c.0 s a.0 b.0, slots-back c id ss a.1 b.1, some)
 
-  object-back : (o : ObjectData) → IsObjectIn m k os o → AllByRecursion (HoldsOne m) o.slots → object_read m k (places_of os) (object_value m os o) ≡ Ok o
+  object-back : (o : ObjectData) → IsObjectIn m k os o → AllByRecursion (HoldsOne m) o.slots → object_read m k (places_of os) (written_object m os o) ≡ Ok o
   unfolding object_read
   object-back o h ones = rw (class-back o h, slots-back o.class o.id o.slots h.slots ones)
 
@@ -171,15 +171,15 @@ module _ (m : Metamodels) (k : ℕ) (os : List ObjectData) (named : IsWellFormed
   none-dangling [] a = refl
   none-dangling (w ∷ ws) a = rw (slots-not-dangling w.class.0 w.id w.slots a.0.slots) (none-dangling ws a.1)
 
-  ids-back : (ws : List ObjectData) → map_items id_of (items_of (map (object_value m os) ws)) ≡ ids ws
+  ids-back : (ws : List ObjectData) → map_items id_of (items_of (map (written_object m os) ws)) ≡ ids ws
   ids-back [] = refl
   ids-back (w ∷ ws) = ap (λ is. w.id ∷ is) (ids-back ws)
 
   pub model_from-object_values : model_from m k (object_values m os) ≡ Ok os
   unfolding model_from distinct_ids
   model_from-object_values =
-      let classes = each_item-is (class_read m k) (object_value m os) (λ o. o.class) os (All-weaken (IsObjectIn m k os) (λ o. class_read m k (object_value m os o) ≡ Ok o.class) (λ o h. class-back o h) os model.objects) in
-      let features = walk_items-ok (object_known m k) (object_value m os) os (All-weaken (IsObjectIn m k os) (λ o. object_known m k (object_value m os o) ≡ Ok tt) (λ o h. object-known o h) os model.objects) in
-      let objects = each_item-back (object_read m k (places_of os)) (object_value m os) os
-      (All-both (IsObjectIn m k os) (λ o. AllByRecursion (HoldsOne m) o.slots) (λ o. object_read m k (places_of os) (object_value m os o) ≡ Ok o) (λ o h ones. object-back o h ones) os model.objects storable.ones) in
+      let classes = each_item-is (class_read m k) (written_object m os) (λ o. o.class) os (All-weaken (IsObjectIn m k os) (λ o. class_read m k (written_object m os o) ≡ Ok o.class) (λ o h. class-back o h) os model.objects) in
+      let features = walk_items-ok (object_known m k) (written_object m os) os (All-weaken (IsObjectIn m k os) (λ o. object_known m k (written_object m os o) ≡ Ok tt) (λ o h. object-known o h) os model.objects) in
+      let objects = each_item-back (object_read m k (places_of os)) (written_object m os) os
+      (All-both (IsObjectIn m k os) (λ o. AllByRecursion (HoldsOne m) o.slots) (λ o. object_read m k (places_of os) (written_object m os o) ≡ Ok o) (λ o h ones. object-back o h ones) os model.objects storable.ones) in
       rw (ids-back os, repeated-differ (ids os) model.ids, classes, features, objects, none-dangling os model.objects)

@@ -8,15 +8,15 @@ use Rattle.std.proofs.lemmas.List.{length-set}
 use Rattle.qvt_value.specs.declared.value.Value.{Value}
 use Rattle.qvt_metamodel.specs.declared.info.TypeKind.{TypeKind}
 use Rattle.qvt_metamodel.specs.declared.info.TypeKind.TheVariants.{Bool as BoolKind, Int as IntKind, Str as StrKind, Enum as EnumKind, Class as ClassKind}
-use Rattle.qvt_metamodel.specs.Metamodels.{Metamodels, features_of, has_feature, shape_of, is_containment}
-use Rattle.qvt_metamodel.specs.Descends.{descends}
-use Rattle.qvt_metamodel.specs.Named.{enumeration_at}
+use Rattle.qvt_metas.specs.Metamodels.{Metamodels, features_of, has_feature, shape_of, is_containment}
+use Rattle.qvt_metas.specs.Descends.{descends}
+use Rattle.qvt_metas.specs.Named.{enumeration_at}
 use Rattle.qvt_relation.proofs.Bools.{and_left, and_right, and_both, and_false, or_left, or_right, or_cases, none_left, none_right, either, clash, refuted}
-use Rattle.qvt_slots.specs.Slots.{Slots, has, is_object, Contains, Inside, directly, through}
-use Rattle.qvt_slots.specs.Contents.{Contents, Instance, no_instance, object_at, is_live, is_model, class_of, extent_of, extent_at, list_of, slot_in, slot_of, with_slot}
-use Rattle.qvt_slots.specs.Types.{is_of_kind, is_of_type, AreTyped, HasCodeType}
-use Rattle.qvt_slots.specs.Repeats.{repeats}
-use Rattle.qvt_slots.specs.Assign.{exceeds_bound, crosses}
+use Rattle.qvt_store.specs.Slots.{Slots, has, is_object, Contains, Inside, directly, through}
+use Rattle.qvt_store.specs.Contents.{Contents, Instance, no_instance, object_at, is_live, is_model, class_of, extent_of, extent_at, list_of, slot_in, slot_of, with_slot}
+use Rattle.qvt_store.specs.Types.{is_of_kind, is_of_type, AreTyped, HasCodeType}
+use Rattle.qvt_store.specs.Repeats.{repeats}
+use Rattle.qvt_store.specs.Assign.{exceeds_bound, crosses}
 use Rattle.qvt_slots.specs.Cells.{with_list}
 use Rattle.qvt_slots.proofs.Places.{no_lists, list_of-nil}
 use Rattle.qvt_slots.proofs.Lists.{length-map, past_end}
@@ -75,14 +75,14 @@ module _ (s : Contents) (e k : ℕ) (os : List ObjectData) (model : IsModel s.me
 
   -- a slot of object i
   pub record IsFor (i : ℕ) (t : SlotData) : Type 0 where
-    pub is : IsSlot m os (parts.object_at os i).class.0 t
-    pub list : items_in t.feature.0 (parts.object_at os i).slots ≡ t.items
+    pub is : IsSlot m os (parts.object_data_at os i).class.0 t
+    pub list : items_in t.feature.0 (parts.object_data_at os i).slots ≡ t.items
 
   module _ (obs : List Instance) (part : Partial obs) where
     live_new : (i : ℕ) → i < length os → nat_lt (n + i) (length obs) ≡ true
     live_new i l = lt-ltb (n + i) (length obs) (let c : length obs ≡ length fin = part.count in let d : length fin ≡ n + length os = count s e k os model in omega arith)
 
-    class_new : (i : ℕ) → i < length os → (slice_index_or obs (n + i) no_instance).class ≡ (parts.object_at os i).class.0
+    class_new : (i : ℕ) → i < length os → (slice_index_or obs (n + i) no_instance).class ≡ (parts.object_data_at os i).class.0
     class_new i l = part.classes (n + i) ∙ ap (λ (ob : Instance). ob.class) (at_new s e k os model i l)
 
     extent_new : (i : ℕ) → i < length os → (slice_index_or obs (n + i) no_instance).extent ≡ e
@@ -243,7 +243,7 @@ module _ (s : Contents) (e k : ℕ) (os : List ObjectData) (model : IsModel s.me
       )
 
   -- the slots of a well formed object are for it
-  all_for : (i : ℕ) (all : List SlotData) (ts : List SlotData) → AllByRecursion (IsSlot m os (parts.object_at os i).class.0) ts → AllByRecursion (λ (t : SlotData). items_in t.feature.0 (parts.object_at os i).slots ≡ t.items) ts → AllByRecursion (IsFor i) ts
+  all_for : (i : ℕ) (all : List SlotData) (ts : List SlotData) → AllByRecursion (IsSlot m os (parts.object_data_at os i).class.0) ts → AllByRecursion (λ (t : SlotData). items_in t.feature.0 (parts.object_data_at os i).slots ≡ t.items) ts → AllByRecursion (IsFor i) ts
   all_for i all [] h l = tt
   all_for i all (t ∷ ts) h l = (record { is = h.0; list = l.0 }, all_for i all ts h.1 l.1)
 
@@ -270,13 +270,13 @@ module _ (s : Contents) (e k : ℕ) (os : List ObjectData) (model : IsModel s.me
     pub part : Partial (put_objects m n x obs rest)
     pub sound : SoundButOpposites (with_objects s obs) → SoundButOpposites (with_objects s (put_objects m n x obs rest))
 
-  objects_put : (obs : List Instance) (i : ℕ) (rest : List ObjectData) → Partial obs → ((j : ℕ) → parts.object_at rest j ≡ parts.object_at os (j + i)) → length rest + i ≡ length os →
+  objects_put : (obs : List Instance) (i : ℕ) (rest : List ObjectData) → Partial obs → ((j : ℕ) → parts.object_data_at rest j ≡ parts.object_data_at os (j + i)) → length rest + i ≡ length os →
       ((x f : ℕ) → n + i ≤ x → slot_in m obs x f ≡ []) → ObjectsPut (n + i) obs rest
   objects_put obs i [] part same len later = record { can = tt; part = part; sound = λ h. h }
   objects_put obs i (o ∷ rest) part same len later =
       let mine : SlotsPut obs i o.slots = slots_put obs i o.slots part below for distinct (all_free obs i o.slots (λ f. later (n + i) f (omega arith))) (λ x f h. later x f (omega arith)) in
       let r : ObjectsPut (suc (n + i)) next rest = subst (λ x. ObjectsPut x next rest) (let q : n + suc i ≡ suc (n + i) = omega arith in q)
-      (objects_put next (suc i) rest mine.part (λ j. same (suc j) ∙ ap (parts.object_at os) (let q : suc j + i ≡ j + suc i = omega arith in q)) (let q : length rest + suc i ≡ length os = omega arith in q) (λ x f h. mine.later x f (omega arith))) in
+      (objects_put next (suc i) rest mine.part (λ j. same (suc j) ∙ ap (parts.object_data_at os) (let q : suc j + i ≡ j + suc i = omega arith in q)) (let q : length rest + suc i ≡ length os = omega arith in q) (λ x f h. mine.later x f (omega arith))) in
       record { can = (mine.can, r.can); part = r.part; sound = λ h. r.sound (mine.sound h) }
     where
       next : List Instance
@@ -285,27 +285,27 @@ module _ (s : Contents) (e k : ℕ) (os : List ObjectData) (model : IsModel s.me
       below : i < length os
       below = omega arith
 
-      is : IsObjectIn m k os (parts.object_at os i)
+      is : IsObjectIn m k os (parts.object_data_at os i)
       is = object s e k os model i below
 
-      slots_same : o.slots ≡ (parts.object_at os i).slots
-      slots_same = ap (λ (q : ObjectData). q.slots) (same 0 ∙ ap (parts.object_at os) (let q : 0 + i ≡ i = omega arith in q))
+      slots_same : o.slots ≡ (parts.object_data_at os i).slots
+      slots_same = ap (λ (q : ObjectData). q.slots) (same 0 ∙ ap (parts.object_data_at os) (let q : 0 + i ≡ i = omega arith in q))
 
       distinct : AreDistinct o.slots
-      distinct = subst AreDistinct (sym slots_same) (distinct_slots m (parts.object_at os i).slots is.order)
+      distinct = subst AreDistinct (sym slots_same) (distinct_slots m (parts.object_data_at os i).slots is.order)
 
       for : AllByRecursion (IsFor i) o.slots
       for = subst (λ (ts : List SlotData). AllByRecursion (IsFor i) ts) (sym slots_same)
-          (all_for i (parts.object_at os i).slots (parts.object_at os i).slots is.slots (each_found (parts.object_at os i).slots (distinct_slots m (parts.object_at os i).slots is.order)))
+          (all_for i (parts.object_data_at os i).slots (parts.object_data_at os i).slots is.slots (each_found (parts.object_data_at os i).slots (distinct_slots m (parts.object_data_at os i).slots is.order)))
 
   -- the objects as they are added
   abbrev start : List Instance
   start = s.objects ++ map (empty_of m e) os
 
-  start_new : (i : ℕ) → i < length os → slice_index_or start (n + i) no_instance ≡ empty_of m e (parts.object_at os i)
+  start_new : (i : ℕ) → i < length os → slice_index_or start (n + i) no_instance ≡ empty_of m e (parts.object_data_at os i)
   start_new i l = app_right s.objects (map (empty_of m e) os) i no_instance ∙ mapped os i l
     where
-      mapped : (xs : List ObjectData) (i : ℕ) → i < length xs → slice_index_or (map (empty_of m e) xs) i no_instance ≡ empty_of m e (parts.object_at xs i)
+      mapped : (xs : List ObjectData) (i : ℕ) → i < length xs → slice_index_or (map (empty_of m e) xs) i no_instance ≡ empty_of m e (parts.object_data_at xs i)
       mapped [] i l = absurd (omega arith)
       mapped (x ∷ xs) zero l = refl
       mapped (x ∷ xs) (suc i) l = mapped xs i (omega arith)
@@ -324,7 +324,7 @@ module _ (s : Contents) (e k : ℕ) (os : List ObjectData) (model : IsModel s.me
   start_free x f h =
       let a : (i : ℕ) × (x ≡ n + i) = beyond n x h in
       subst (λ z. slot_in m start z f ≡ []) (sym a.1) (elim (cases_lt a.0 (length os)) [
-        | inl l ↦ ap (λ (ob : Instance). list_of (features_of m ob.class) ob.slots f) (start_new a.0 l) ∙ no_lists (features_of m (parts.object_at os a.0).class.0) f
+        | inl l ↦ ap (λ (ob : Instance). list_of (features_of m ob.class) ob.slots f) (start_new a.0 l) ∙ no_lists (features_of m (parts.object_data_at os a.0).class.0) f
         | inr l ↦ ap (λ (ob : Instance). list_of (features_of m ob.class) ob.slots f) (past_end start (n + a.0) no_instance (let c : length start ≡ n + length os = start_count in omega arith)) ∙ list_of-nil (features_of m 0) f
       ])
 
@@ -342,7 +342,7 @@ module _ (s : Contents) (e k : ℕ) (os : List ObjectData) (model : IsModel s.me
         (λ i l. ap (λ (ob : Instance). ob.class) (start_new i l) ∙ sym (ap (λ (ob : Instance). ob.class) (at_new s e k os model i l))) (λ i l. ap (λ (ob : Instance). ob.class) (start_past i l));
     extents = each_number (λ x. (slice_index_or start x no_instance).extent ≡ (slice_index_or fin x no_instance).extent) (λ x l. ap (λ (ob : Instance). ob.extent) (start_old x l))
         (λ i l. ap (λ (ob : Instance). ob.extent) (start_new i l) ∙ sym (ap (λ (ob : Instance). ob.extent) (at_new s e k os model i l))) (λ i l. ap (λ (ob : Instance). ob.extent) (start_past i l));
-    lists = λ i l. ap (λ (ob : Instance). length ob.slots) (start_new i l) ∙ length-map (λ _. []) (features_of m (parts.object_at os i).class.0)
+    lists = λ i l. ap (λ (ob : Instance). length ob.slots) (start_new i l) ∙ length-map (λ _. []) (features_of m (parts.object_data_at os i).class.0)
         ∙ sym (ap (λ (ob : Instance). length (features_of m ob.class)) (start_new i l));
     subs = λ x f. elim (cases_lt x n) [
       | inl l ↦ inl (ap (λ (ob : Instance). list_of (features_of m ob.class) ob.slots f) (start_old x l))
@@ -352,4 +352,4 @@ module _ (s : Contents) (e k : ℕ) (os : List ObjectData) (model : IsModel s.me
 
   pub all_put : ObjectsPut n start os
   all_put = subst (λ x. ObjectsPut x start os) (let q : n + 0 ≡ n = omega arith in q)
-      (objects_put start 0 os start_part (λ j. ap (parts.object_at os) (let q : j ≡ j + 0 = omega arith in q)) (let q : length os + 0 ≡ length os = omega arith in q) (λ x f h. start_free x f (omega arith)))
+      (objects_put start 0 os start_part (λ j. ap (parts.object_data_at os) (let q : j ≡ j + 0 = omega arith in q)) (let q : length os + 0 ≡ length os = omega arith in q) (λ x f h. start_free x f (omega arith)))

@@ -8,7 +8,7 @@ use Rattle.qvt_slots.proofs.Lists.{length-map}
 use Rattle.qvt_store.specs.Contents.{Contents, Instance, no_instance, no_extent, extent_at, extent_of, is_writable, members_from, members_of}
 use Rattle.qvt_store.specs.Stay.{IsBeginningOf}
 use Rattle.qvt_store_laws.proofs.Stays.{get-left}
-use Rattle.qvt_model.specs.Extents.{own_id, numbers, place_of, data_of}
+use Rattle.qvt_model.specs.Extents.{own_id, numbers, place_within, data_of}
 use Rattle.qvt_model.specs.IdTables.{id_in}
 use Rattle.qvt_model.specs.RunIds.{place_id, file_id, DataHaveRunIds, RunIdsStay}
 use Rattle.qvt_model.proofs.Extents.{IsMember, members-are}
@@ -50,7 +50,7 @@ place_is e n (o ∷ rest) i h = by (o.extent == e) i h (place_is e (suc n) rest)
         ∙ ap (λ k. 1 + k) at ∙ (let one : 1 + i ≡ suc i = omega arith in one)
     by false i h more = more i h
 
-pub found : (e : ℕ) (obs : List Instance) (i : ℕ) → i < length (members_from 0 obs e) → place_of (numbers (members_from 0 obs e)) (get_or (members_from 0 obs e) i none).0 ≡ Some i
+pub found : (e : ℕ) (obs : List Instance) (i : ℕ) → i < length (members_from 0 obs e) → place_within (numbers (members_from 0 obs e)) (get_or (members_from 0 obs e) i none).0 ≡ Some i
 found e obs i h =
     ap (λ k. cond (nat_lt k (length (numbers (members_from 0 obs e)))) (Some k) None) (place_is e 0 obs i h)
     ∙ ap (λ b. cond b (Some i) None) (lt-ltb i (length (numbers (members_from 0 obs e))) (subst (λ k. i < k) (sym (length-map (λ (o : Oid). o.0) (members_from 0 obs e))) h))
@@ -68,8 +68,8 @@ data_have_run_ids s ids e i h writable =
     let member : IsMember s e x = at_place (IsMember s e) (members_of s e) i (members-are s e 0 s.objects (λ i. ap (λ j. slice_index_or s.objects j no_instance) (omega arith)) (omega arith)) h in
     id-there s xs 1 xs i (subst (λ k. i < k) (sym (length-map (λ (o : Oid). o.0) (members_of s e))) h)
     ∙ ap own_id (let q : 1 + i ≡ suc i = omega arith in q)
-    ∙ sym (ap (λ b. cond b (place_id (place_of (numbers (members_of s (extent_of s x))) x)) (file_id (id_in ids x))) (ap (λ k. (extent_at s k).writable) member.1 ∙ writable)
-    ∙ ap (λ k. place_id (place_of (numbers (members_of s k)) x)) member.1 ∙ ap place_id (found e s.objects i h))
+    ∙ sym (ap (λ b. cond b (place_id (place_within (numbers (members_of s (extent_of s x))) x)) (file_id (id_in ids x))) (ap (λ k. (extent_at s k).writable) member.1 ∙ writable)
+    ∙ ap (λ k. place_id (place_within (numbers (members_of s k)) x)) member.1 ∙ ap place_id (found e s.objects i h))
 
 -- where object x stands among these
 record MemberAt (ms : List Oid) (x : ℕ) : Type 0 where
@@ -92,7 +92,7 @@ member_at e n (o ∷ rest) (suc x) y q h is = by (o.extent == e) (member_at e (s
 
 pub run_ids_stay : RunIdsStay
 run_ids_stay s s' old new x stays live told =
-    ap (λ b. cond b (place_id (place_of (numbers (members_of s' (extent_of s' x))) x)) (file_id (id_in new x))) writable
+    ap (λ b. cond b (place_id (place_within (numbers (members_of s' (extent_of s' x))) x)) (file_id (id_in new x))) writable
     ∙ (λ i. cond (is_writable s x) (place_id (places i)) (file_id (told i)))
   where
     e : ℕ
@@ -117,11 +117,11 @@ run_ids_stay s s' old new x stays live told =
     here : (get_or (members_of s' e) at.place none).0 ≡ x
     here = ap (λ (l : List Oid). (get_or l at.place none).0) front.more ∙ ap (λ (o : Oid). o.0) (get-left (members_of s e) front.rest at.place none at.within) ∙ at.here
 
-    before : place_of (numbers (members_of s e)) x ≡ Some at.place
-    before = subst (λ y. place_of (numbers (members_of s e)) y ≡ Some at.place) at.here (found e s.objects at.place at.within)
+    before : place_within (numbers (members_of s e)) x ≡ Some at.place
+    before = subst (λ y. place_within (numbers (members_of s e)) y ≡ Some at.place) at.here (found e s.objects at.place at.within)
 
-    later : place_of (numbers (members_of s' e)) x ≡ Some at.place
-    later = subst (λ y. place_of (numbers (members_of s' e)) y ≡ Some at.place) here (found e s'.objects at.place within)
+    later : place_within (numbers (members_of s' e)) x ≡ Some at.place
+    later = subst (λ y. place_within (numbers (members_of s' e)) y ≡ Some at.place) here (found e s'.objects at.place within)
 
-    places : place_of (numbers (members_of s' (extent_of s' x))) x ≡ place_of (numbers (members_of s e)) x
-    places = ap (λ k. place_of (numbers (members_of s' k)) x) same_extent ∙ later ∙ sym before
+    places : place_within (numbers (members_of s' (extent_of s' x))) x ≡ place_within (numbers (members_of s e)) x
+    places = ap (λ k. place_within (numbers (members_of s' k)) x) same_extent ∙ later ∙ sym before

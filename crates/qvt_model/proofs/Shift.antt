@@ -7,16 +7,16 @@ use Rattle.std.proofs.lemmas.Bool.Decides.{Decides-eqb}
 use Rattle.std.proofs.lemmas.List.Elements.{All-nil, All-cons}
 use Rattle.qvt_value.specs.declared.value.Value.{Value}
 use Rattle.qvt_relation.proofs.Bools.{or_left, or_right, or_cases, and_both, clash}
-use Rattle.qvt_slots.specs.Slots.{is_object, has}
-use Rattle.qvt_slots.specs.Types.{HasCodeType}
+use Rattle.qvt_store.specs.Slots.{is_object, has}
+use Rattle.qvt_store.specs.Types.{HasCodeType}
 use Rattle.qvt_value.specs.Kept.{is_same}
 use Rattle.qvt_value.specs.Order.{order_of}
 use Rattle.qvt_repeats.proofs.Repeating.{repeats-map, repeats-alike}
-use Rattle.qvt_slots.specs.Repeats.{repeats}
+use Rattle.qvt_store.specs.Repeats.{repeats}
 use Rattle.qvt_slots.proofs.Repeating.{same_as_object}
 use Rattle.qvt_metamodel.specs.declared.info.TypeKind.{TypeKind}
 use Rattle.qvt_metamodel.specs.declared.info.TypeKind.TheVariants.{Bool as BoolKind, Int as IntKind, Str as StrKind, Enum as EnumKind, Class as ClassKind}
-use Rattle.qvt_metamodel.specs.Metamodels.{Metamodels}
+use Rattle.qvt_metas.specs.Metamodels.{Metamodels}
 use Rattle.qvt_model.specs.declared.data.Datum.{Datum}
 use Rattle.qvt_model.specs.declared.data.Datum.TheVariants.{Bool as BoolDatum, Int, Str, Literal, Ref}
 use Rattle.qvt_model.specs.declared.data.ObjectData.{ObjectData}

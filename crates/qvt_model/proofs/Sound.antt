@@ -17,17 +17,18 @@ use Rattle.qvt_base.specs.declared.numbers.FeatureNo.{FeatureNo}
 use Rattle.qvt_value.specs.declared.value.LiteralRef.{LiteralRef}
 use Rattle.qvt_metamodel.specs.declared.info.TypeKind.{TypeKind}
 use Rattle.qvt_metamodel.specs.declared.info.TypeKind.TheVariants.{Bool as BoolKind, Int as IntKind, Str as StrKind, Enum as EnumKind, Class as ClassKind}
-use Rattle.qvt_metamodel.specs.Metamodels.{Metamodels, class_at, feature_at, shape_of, is_single, features_of, has_feature, nowhere_class}
-use Rattle.qvt_metamodel.specs.Descends.{descends}
-use Rattle.qvt_metamodel.specs.Named.{class_named, feature_named, literal_named, enumeration_at}
+use Rattle.qvt_metas.specs.Metamodels.{Metamodels, class_at, feature_at, shape_of, is_single, features_of, has_feature, nowhere_class}
+use Rattle.qvt_metas.specs.Descends.{descends}
+use Rattle.qvt_metas.specs.Named.{class_named, feature_named, literal_named, enumeration_at}
 use Rattle.qvt_json.specs.Json.{map_items, text_or}
 use Rattle.qvt_json.specs.Leaves.{is_id}
 use Rattle.qvt_json.specs.Plain.{KeysAfter}
 use Rattle.qvt_json.specs.Repeated.{repeated}
-use Rattle.qvt_json.specs.Steps.{◌>>=◌, or_fault, none_of, or_next, each_item, walk_items, all_items}
+use Rattle.qvt_results.specs.Bind.{◌>>=◌}
+use Rattle.qvt_json.specs.Steps.{or_fault, none_of, or_next, each_item, walk_items, all_items}
 use Rattle.qvt_json.proofs.Ordered.{some-injective, both-some, map-some, IsOrdered, ItemsOrdered, MembersOrdered, members_or-ordered}
 use Rattle.qvt_model.specs.Reading.{id_of, slots_in, numbered_class, distinct_ids, class_read, feature_of, object_known, class_at_place, ref_at, ref_of, literal_in, datum_of, one_item, items_read, slot_read, has_items, with_filled_slot, slots_of, object_read, is_dangling, slots_dangling, dangling, model_from}
-use Rattle.qvt_model.specs.WellFormed.{object_at, no_object, ids, differ, IsItem, IsPlainDatum, IsPlainSlot, IsPlainObject, IsSlot, ComeAfter, AreInNameOrder, IsObjectIn, IsModel}
+use Rattle.qvt_model.specs.WellFormed.{object_data_at, no_object, ids, none_repeats, IsItem, IsPlainDatum, IsPlainSlot, IsPlainObject, IsSlot, ComeAfter, AreInNameOrder, IsObjectIn, IsModel}
 use Rattle.qvt_model.specs.declared.places.Places.{Places}
 use Rattle.qvt_model.specs.declared.data.Datum.{Datum}
 use Rattle.qvt_model.specs.declared.data.Datum.TheVariants.{Bool as BoolDatum, Int, Str, Literal, Ref}
@@ -64,7 +65,7 @@ feature-parts m c id name f e =
 -- ---- items
 
 module _ (m : Metamodels) (places : Places) (os : List ObjectData) (classes : places.classes ≡ map (λ o. o.class) os) (count : length places.ids ≡ length os) where
-  class-here : (i : ℕ) → class_at_place places i ≡ (object_at os i).class
+  class-here : (i : ℕ) → class_at_place places i ≡ (object_data_at os i).class
   class-here i = ap (λ cs. slice_index_or cs i (record { 0 = 0 })) classes ∙ index-map (λ o. o.class) os i no_object
 
   not_past : (x : Datum) → Some (Ref (length places.ids)) ≡ Some x → is_dangling (length os) x ≡ false → ⊥
@@ -251,7 +252,7 @@ sound m k ds places os ordered same_ids none classes_are objects_are clear plain
     let named : map_items id_of ds ≡ ids os = sym (each_item-map id_of (object_read m k places) (λ o. o.id) (λ d o e. (object-parts m k places d o e).id) ds os objects_are) in
     let count : length places.ids ≡ length os = ap length (sym same_ids ∙ named) ∙ length-map os (λ o. o.id) in
     record {
-      ids = ap differ (sym named) ∙ differ-repeated (map_items id_of ds) none;
+      ids = ap none_repeats (sym named) ∙ differ-repeated (map_items id_of ds) none;
       objects = each_item-all (object_read m k places) (IsClear m (length os)) (IsObjectIn m k os)
           (λ d o in_order e c.
           let h = object-parts m k places d o e in

@@ -1,15 +1,16 @@
 -- What the parts of a chain of steps gave, where the whole has a value.
-use Rattle.std.proofs.Common.{◌≡◌, ◌∙◌, ℕ, List, [], ◌∷◌, ◌++◌, map, Bool, true, false, cond, not, ◌&&◌, ◌||◌, Option, Some, None, find, Result, Ok, Err, refl, sym, ap, subst}
+use Rattle.std.proofs.Common.{◌≡◌, ◌∙◌, ℕ, List, [], ◌∷◌, map, Bool, true, false, cond, not, ◌||◌, Option, Some, None, find, Result, Ok, Err, refl, sym, ap, subst}
 use Rattle.std.specs.Prelude.{⊤, option_map}
 use Rattle.std.specs.List.{list_any, AllByRecursion}
 use Rattle.std.specs.Str.{bytes_eq}
-use Rattle.std.proofs.lemmas.Bool.{or_parts}
 use Rattle.serde_json.specs.Data.{Data, Items, no_items, item}
+use Rattle.qvt_repeats.proofs.Repeating.{repeats_none}
 use Rattle.qvt_json.specs.Json.{map_items}
-use Rattle.qvt_json.specs.Steps.{◌>>=◌, or_fault, none_of, or_next, each_item, all_items}
+use Rattle.qvt_results.specs.Bind.{◌>>=◌}
+use Rattle.qvt_json.specs.Steps.{or_fault, none_of, or_next, each_item, all_items}
 use Rattle.qvt_json.specs.Repeated.{repeated}
 use Rattle.qvt_json.proofs.Ordered.{some-injective, both-some, map-some, IsOrdered, ItemsOrdered}
-use Rattle.qvt_model.specs.WellFormed.{differ}
+use Rattle.qvt_model.specs.WellFormed.{none_repeats}
 use Rattle.qvt_model.proofs.Lists.{bytes_eq-flip}
 
 pub ok-injective : {A F : Type 0} (x y : A) → ◌≡◌ {A = Result A F} (Ok x) (Ok y) → x ≡ y
@@ -88,31 +89,5 @@ find-any p q (y ∷ xs) x e h = by (find-any p q xs x) (p y) e
     by rest true e = rw (ap q (some-injective y x e) ∙ h) refl
     by rest false e = or-true (q y) (list_any q xs) (rest e h)
 
-any-push : (p : List ℕ → Bool) (earlier : List (List ℕ)) (x : List ℕ) → list_any p (earlier ++ x ∷ []) ≡ false → (list_any p earlier ≡ false) × (p x ≡ false)
-any-push p [] x e = (refl, (or_parts (p x) false e).0)
-any-push p (y ∷ earlier) x e =
-    let parts = or_parts (p y) (list_any p (earlier ++ x ∷ [])) e in
-    let rest = any-push p earlier x parts.1 in
-    (rw (parts.0, rest.0) refl, rest.1)
-
-abbrev AreNew : List (List ℕ) → List (List ℕ) → Type 0
-AreNew earlier xs = AllByRecursion (λ x. list_any (bytes_eq x) earlier ≡ false) xs
-
-earlier-part : (earlier : List (List ℕ)) (x : List ℕ) (xs : List (List ℕ)) → AreNew (earlier ++ x ∷ []) xs → AreNew earlier xs × (list_any (bytes_eq x) xs ≡ false)
-earlier-part earlier x [] a = (tt, refl)
-earlier-part earlier x (y ∷ xs) a =
-    let rest = earlier-part earlier x xs a.1 in
-    let here = any-push (bytes_eq y) earlier x a.0 in
-    ((here.0, rest.0), rw (bytes_eq-flip y x here.1, rest.1) refl)
-
-differ-from : (earlier xs : List (List ℕ)) → repeated earlier xs ≡ None → AreNew earlier xs × (differ xs ≡ true)
-differ-from earlier [] e = (tt, refl)
-differ-from earlier (x ∷ xs) e = by (differ-from (earlier ++ x ∷ []) xs) (list_any (bytes_eq x) earlier) refl e
-  where
-    by : (repeated (earlier ++ x ∷ []) xs ≡ None → AreNew (earlier ++ x ∷ []) xs × (differ xs ≡ true)) → (b : Bool) → list_any (bytes_eq x) earlier ≡ b
-        → cond b (Some x) (repeated (earlier ++ x ∷ []) xs) ≡ None → AreNew earlier (x ∷ xs) × (differ (x ∷ xs) ≡ true)
-    by rest true is e = absurd (cc)
-    by rest false is e = let r = rest e in let parts = earlier-part earlier x xs r.0 in ((is, parts.0), rw (parts.1, r.1) refl)
-
-pub differ-repeated : (xs : List (List ℕ)) → repeated [] xs ≡ None → differ xs ≡ true
-differ-repeated xs e = (differ-from [] xs e).1
+pub differ-repeated : (xs : List (List ℕ)) → repeated [] xs ≡ None → none_repeats xs ≡ true
+differ-repeated xs e = ap not (repeats_none bytes_eq bytes_eq-flip xs e)

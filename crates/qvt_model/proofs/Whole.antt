@@ -11,8 +11,8 @@ use Rattle.serde_json.specs.Read.{max_depth}
 use Rattle.serde_json.specs.View.{items_of}
 use Rattle.qvt_metamodel.specs.declared.info.TypeKind.{TypeKind}
 use Rattle.qvt_metamodel.specs.declared.info.TypeKind.TheVariants.{Bool as BoolKind, Int as IntKind, Str as StrKind, Enum as EnumKind, Class as ClassKind}
-use Rattle.qvt_metamodel.specs.Metamodels.{Metamodels, class_at, feature_at, shape_of, is_single}
-use Rattle.qvt_metamodel.specs.Named.{metamodel_at}
+use Rattle.qvt_metas.specs.Metamodels.{Metamodels, class_at, feature_at, shape_of, is_single}
+use Rattle.qvt_metas.specs.Named.{metamodel_at}
 use Rattle.qvt_metamodel.specs.WellFormed.{IsWellFormed}
 use Rattle.qvt_json.specs.Json.{json}
 use Rattle.qvt_json.specs.Plain.{IsInteger, KeysAfter, IsPlain, ItemsPlain, MembersPlain}
@@ -21,8 +21,8 @@ use Rattle.qvt_json.specs.Leaves.{is_id}
 use Rattle.qvt_json.proofs.Back.{json-file_text}
 use Rattle.qvt_model.specs.Forms.{object_form, model_form}
 use Rattle.qvt_model.specs.Reading.{model_of}
-use Rattle.qvt_model.specs.WellFormed.{object_at, no_object, IsItem, IsPlainDatum, IsPlainSlot, IsPlainObject, IsSlot, ComeAfter, AreInNameOrder, IsObjectIn, IsModel, IsStorable}
-use Rattle.qvt_model.specs.Written.{datum_value, first_value, slot_value, slot_members, object_value, model_value, model_text}
+use Rattle.qvt_model.specs.WellFormed.{object_data_at, no_object, IsItem, IsPlainDatum, IsPlainSlot, IsPlainObject, IsSlot, ComeAfter, AreInNameOrder, IsObjectIn, IsModel, IsStorable}
+use Rattle.qvt_model.specs.Written.{datum_value, first_value, slot_value, slot_members, written_object, model_value, model_text}
 use Rattle.qvt_model.specs.declared.data.Datum.{Datum}
 use Rattle.qvt_model.specs.declared.data.Datum.TheVariants.{Bool as BoolDatum, Int, Str, Literal, Ref}
 use Rattle.qvt_model.specs.declared.data.SlotData.{SlotData}
@@ -32,11 +32,11 @@ use Rattle.qvt_model.proofs.Passes.{model_from-object_values}
 
 -- ---- its form
 
-object-shape : (m : Metamodels) (os : List ObjectData) (o : ObjectData) → is_id o.id ≡ true → object_form (object_value m os o) ≡ None
+object-shape : (m : Metamodels) (os : List ObjectData) (o : ObjectData) → is_id o.id ≡ true → object_form (written_object m os o) ≡ None
 unfolding object_form
 object-shape m os o form = rw form
 
-objects-shape : (m : Metamodels) (os ws : List ObjectData) (n : ℕ) → AllByRecursion (λ o. IsTrue (is_id o.id)) ws → items_fault object_form n (items_of (map (object_value m os) ws)) ≡ None
+objects-shape : (m : Metamodels) (os ws : List ObjectData) (n : ℕ) → AllByRecursion (λ o. IsTrue (is_id o.id)) ws → items_fault object_form n (items_of (map (written_object m os) ws)) ≡ None
 objects-shape m os [] n a = refl
 objects-shape m os (w ∷ ws) n a = rw (object-shape m os w a.0) (objects-shape m os ws (suc n) a.1)
 
@@ -50,7 +50,7 @@ whole : (z : ℤ) → FitsSigned w64 z → IsInteger (of_integer z)
 whole (pos n) h = let lt : n < 2 ^ 63 = h.sfits in omega arith
 whole (negsuc n) h = h.sfits
 
-id_text : (os : List ObjectData) (i : ℕ) → AllByRecursion (λ o. IsUtf8 o.id) os → IsUtf8 (object_at os i).id
+id_text : (os : List ObjectData) (i : ℕ) → AllByRecursion (λ o. IsUtf8 o.id) os → IsUtf8 (object_data_at os i).id
 id_text [] i a = IsUtf8-nil
 id_text (o ∷ os) zero a = a.0
 id_text (o ∷ os) (suc i) a = id_text os i a.1
@@ -126,7 +126,7 @@ module _ (m : Metamodels) (os : List ObjectData) (named : IsWellFormed m) (texts
   plain_slots (s ∷ ss) h a =
       (IsUtf8-from_is_utf8 _ (named.text_feature s.feature.0), plain_slot s h.0, keys_after (feature_at m s.feature.0).name ss a.0, plain_slots ss h.1 a.1)
 
-  plain_object : (o : ObjectData) → IsUtf8 o.id → IsWrittenObject m o → IsPlain (object_value m os o)
+  plain_object : (o : ObjectData) → IsUtf8 o.id → IsWrittenObject m o → IsPlain (written_object m os o)
   plain_object o id h = (
     IsUtf8-are_ascii (codes "class") refl,
     IsUtf8-from_is_utf8 _ (named.text_class o.class.0),
@@ -144,7 +144,7 @@ module _ (m : Metamodels) (os : List ObjectData) (named : IsWellFormed m) (texts
     ),
   )
 
-  plain_objects : (ws : List ObjectData) → AllByRecursion (λ o. IsUtf8 o.id) ws → AllByRecursion (IsWrittenObject m) ws → ItemsPlain (items_of (map (object_value m os) ws))
+  plain_objects : (ws : List ObjectData) → AllByRecursion (λ o. IsUtf8 o.id) ws → AllByRecursion (IsWrittenObject m) ws → ItemsPlain (items_of (map (written_object m os) ws))
   plain_objects [] a h = tt
   plain_objects (o ∷ ws) a h = (plain_object o a.0 h.0, plain_objects ws a.1 h.1)
 
@@ -180,7 +180,7 @@ module _ (m : Metamodels) (os : List ObjectData) where
   slots_depth [] = omega arith
   slots_depth (s ∷ ss) = omega (arith, slot_depth s, slots_depth ss)
 
-  objects_depth : (ws : List ObjectData) → items_depth (items_of (map (object_value m os) ws)) ≤ 3
+  objects_depth : (ws : List ObjectData) → items_depth (items_of (map (written_object m os) ws)) ≤ 3
   objects_depth [] = omega arith
   objects_depth (o ∷ ws) = omega (arith, slots_depth o.slots, objects_depth ws)
 

@@ -9,7 +9,7 @@ use Rattle.qvt_base.specs.declared.numbers.Oid.{Oid}
 use Rattle.qvt_value.specs.declared.value.Value.{Value}
 use Rattle.qvt_value.specs.declared.value.Value.TheVariants.{Bool as BoolValue, Int as IntValue, Str as StrValue, Enum as EnumValue, Obj}
 use Rattle.qvt_value.specs.Kept.{sorted}
-use Rattle.qvt_metamodel.specs.Metamodels.{Metamodels, feature_at, features_of}
+use Rattle.qvt_metas.specs.Metamodels.{Metamodels, feature_at, features_of}
 use Rattle.qvt_store.specs.Contents.{Contents, class_of, slot_of, members_of}
 use Rattle.qvt_model.specs.Reading.{has_items, numbered_class}
 use Rattle.qvt_model.specs.declared.data.Datum.{Datum}
@@ -25,8 +25,8 @@ abbrev pub numbers : List Oid → List ℕ
 numbers members = map (λ o. o.0) members
 
 -- where object y stands among the numbers
-abbrev pub place_of : List ℕ → ℕ → Option ℕ
-place_of xs y = position (λ x. y == x) xs
+abbrev pub place_within : List ℕ → ℕ → Option ℕ
+place_within xs y = position (λ x. y == x) xs
 
 -- the item that a value of a slot is: an object is one of the extent, and nothing else stands in a slot
 abbrev pub datum_in : List ℕ → Value → Option Datum
@@ -34,11 +34,11 @@ datum_in xs (BoolValue b) = Some (BoolDatum b)
 datum_in xs (IntValue z) = Some (Int z)
 datum_in xs (StrValue t) = Some (Str t)
 datum_in xs (EnumValue l) = Some (Literal l)
-datum_in xs (Obj o) = option_map Ref (place_of xs o.0)
+datum_in xs (Obj o) = option_map Ref (place_within xs o.0)
 datum_in xs _ = None
 
-abbrev pub slot_in : Contents → List ℕ → ℕ → FeatureNo → SlotData
-slot_in s xs x f = record { feature = f; items = filter_map (datum_in xs) (slot_of s x f.0) }
+abbrev pub slot_data_of : Contents → List ℕ → ℕ → FeatureNo → SlotData
+slot_data_of s xs x f = record { feature = f; items = filter_map (datum_in xs) (slot_of s x f.0) }
 
 abbrev pub name_of : Metamodels → SlotData → List ℕ
 name_of m t = (feature_at m t.feature.0).name
@@ -49,15 +49,15 @@ by_name m t u = slice_cmp nat_cmp (name_of m t) (name_of m u)
 
 -- the slots of an object that are not empty, by the names of the features
 abbrev pub filled_slots : Contents → List ℕ → ℕ → List SlotData
-filled_slots s xs x = sorted (by_name s.metas) (filter has_items (map (slot_in s xs x) (features_of s.metas (class_of s x))))
+filled_slots s xs x = sorted (by_name s.metas) (filter has_items (map (slot_data_of s xs x) (features_of s.metas (class_of s x))))
 
-unfoldable pub object_in : Contents → List ℕ → ℕ → ℕ → ObjectData
-object_in s xs n x = record { class = numbered_class (class_of s x); id = own_id n; slots = filled_slots s xs x }
+unfoldable pub object_data_of : Contents → List ℕ → ℕ → ℕ → ObjectData
+object_data_of s xs n x = record { class = numbered_class (class_of s x); id = own_id n; slots = filled_slots s xs x }
 
 -- the objects of these numbers, the first of which stands n-th
 abbrev pub objects_from : Contents → List ℕ → ℕ → List ℕ → List ObjectData
 objects_from s xs n [] = []
-objects_from s xs n (y ∷ ys) = object_in s xs n y ∷ objects_from s xs (suc n) ys
+objects_from s xs n (y ∷ ys) = object_data_of s xs n y ∷ objects_from s xs (suc n) ys
 
 -- the data of a writable extent
 unfoldable pub data_of : Contents → ℕ → List ObjectData

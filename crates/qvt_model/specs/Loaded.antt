@@ -4,9 +4,9 @@ use Rattle.std.specs.List.{AllByRecursion}
 use Rattle.std.specs.Prelude.{⊤, ◌≡◌, ◌≢◌, ℕ, suc, ◌+◌, ◌<◌, ◌≤◌, ◌==◌, List, [], ◌∷◌, ◌++◌, map, length, if◌then◌else◌, IsTrue, IsFalse, Option, Some, None, is_some}
 use Rattle.qvt_value.specs.declared.value.Value.{Value}
 use Rattle.qvt_value.specs.declared.value.Value.TheVariants.{Bool as BoolValue, Int as IntValue, Str as StrValue, Enum as EnumValue, Obj}
-use Rattle.qvt_metamodel.specs.Metamodels.{Metamodels, features_of}
-use Rattle.qvt_slots.specs.Contents.{Contents, Instance, is_extent, is_live, extent_at, members_of}
-use Rattle.qvt_slots.specs.Limits.{most_objects}
+use Rattle.qvt_metas.specs.Metamodels.{Metamodels, features_of}
+use Rattle.qvt_store.specs.Contents.{Contents, Instance, is_extent, is_live, extent_at, members_of}
+use Rattle.qvt_store.specs.Limits.{most_objects}
 use Rattle.qvt_store.specs.Stay.{InputsStay, StaysIn}
 use Rattle.qvt_model.specs.declared.data.Datum.{Datum}
 use Rattle.qvt_model.specs.declared.data.Datum.TheVariants.{Bool as BoolDatum, Int, Str, Literal, Ref}
@@ -15,7 +15,7 @@ use Rattle.qvt_model.specs.Items.{items_in}
 use Rattle.qvt_model.specs.IdTables.{id_in, with_id}
 use Rattle.qvt_model.specs.Extents.{own_id}
 use Rattle.qvt_model.specs.RunIds.{run_id}
-use Rattle.qvt_model.specs.WellFormed.{object_at, IsModel}
+use Rattle.qvt_model.specs.WellFormed.{object_data_at, IsModel}
 
 -- the value of an item, where the first object of the model gets number n
 abbrev pub value_at : ℕ → Datum → Value
@@ -71,7 +71,7 @@ AreTold s os old new = (x : ℕ) → id_in new x ≡ id_told (length s.objects) 
 -- the ids of the loaded objects in a run, and those of the objects that were there before
 pub record HaveRunIds (s : Contents) (e : ℕ) (os : List ObjectData) (old new : List (Option (List ℕ))) : Type 0 where
   -- in an extent that is not writable those of their file
-  pub read : IsFalse (extent_at s e).writable → (i : ℕ) → i < length os → run_id (loaded s e os) new (length s.objects + i) ≡ (object_at os i).id
+  pub read : IsFalse (extent_at s e).writable → (i : ℕ) → i < length os → run_id (loaded s e os) new (length s.objects + i) ≡ (object_data_at os i).id
   -- in a writable one, which had no objects, by their places
   pub written : IsTrue (extent_at s e).writable → members_of s e ≡ [] → (i : ℕ) → i < length os → run_id (loaded s e os) new (length s.objects + i) ≡ own_id (suc i)
   pub before : (x : ℕ) → IsTrue (is_live s x) → run_id (loaded s e os) new x ≡ run_id s old x

@@ -10,13 +10,14 @@ use Rattle.qvt_base.specs.declared.numbers.FeatureNo.{FeatureNo}
 use Rattle.qvt_value.specs.declared.value.LiteralRef.{LiteralRef}
 use Rattle.qvt_metamodel.specs.declared.info.TypeKind.{TypeKind}
 use Rattle.qvt_metamodel.specs.declared.info.TypeKind.TheVariants.{Bool as BoolKind, Int as IntKind, Str as StrKind, Enum as EnumKind, Class as ClassKind}
-use Rattle.qvt_metamodel.specs.Metamodels.{Metamodels, feature_at, shape_of, is_single}
-use Rattle.qvt_metamodel.specs.Descends.{descends}
-use Rattle.qvt_metamodel.specs.Named.{class_named, feature_named, literal_named}
+use Rattle.qvt_metas.specs.Metamodels.{Metamodels, feature_at, shape_of, is_single}
+use Rattle.qvt_metas.specs.Descends.{descends}
+use Rattle.qvt_metas.specs.Named.{class_named, feature_named, literal_named}
 use Rattle.qvt_json.specs.Json.{json, text_or, items_or, members_or, map_items}
 use Rattle.qvt_json.specs.Leaves.{is_id}
 use Rattle.qvt_json.specs.Shape.{shown}
-use Rattle.qvt_json.specs.Steps.{◌>>=◌, or_fault, none_of, or_next, each_item, walk_items, all_items}
+use Rattle.qvt_results.specs.Bind.{◌>>=◌}
+use Rattle.qvt_json.specs.Steps.{or_fault, none_of, or_next, each_item, walk_items, all_items}
 use Rattle.qvt_json.specs.Repeated.{repeated}
 use Rattle.qvt_model.specs.Forms.{model_form}
 use Rattle.qvt_model.specs.declared.places.Places.{Places}

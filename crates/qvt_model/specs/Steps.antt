@@ -1,8 +1,8 @@
 -- How a model is loaded: its objects are added, and then their slots are set one by one.
 use Rattle.std.specs.Prelude.{⊤, ◌≡◌, ℕ, suc, Option, List, [], ◌∷◌, map, slice_index_or, slice_set}
 use Rattle.qvt_value.specs.declared.value.Value.{Value}
-use Rattle.qvt_metamodel.specs.Metamodels.{Metamodels, features_of}
-use Rattle.qvt_slots.specs.Contents.{Contents, Instance, no_instance, set_slot, with_new}
+use Rattle.qvt_metas.specs.Metamodels.{Metamodels, features_of}
+use Rattle.qvt_store.specs.Contents.{Contents, Instance, no_instance, set_slot, with_new}
 use Rattle.qvt_model.specs.declared.data.ObjectData.{ObjectData}
 use Rattle.qvt_model.specs.declared.data.SlotData.{SlotData}
 use Rattle.qvt_store.specs.Place.{IsPlaceable}

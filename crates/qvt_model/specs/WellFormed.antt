@@ -1,16 +1,17 @@
 -- Data that a model of a metamodel may be.
-use Rattle.std.specs.Prelude.{◌≡◌, ℕ, ◌<◌, ◌≤◌, List, [], ◌∷◌, length, map, Bool, true, false, not, ◌&&◌, IsTrue, slice_index_or, FitsSigned, ⊤}
+use Rattle.std.specs.Prelude.{◌≡◌, ℕ, ◌<◌, ◌≤◌, List, [], ◌∷◌, length, map, Bool, not, IsTrue, slice_index_or, FitsSigned, ⊤}
 use Rattle.std.specs.Int.{w64}
-use Rattle.std.specs.List.{list_any, AllByRecursion}
+use Rattle.std.specs.List.{AllByRecursion}
 use Rattle.std.specs.Str.{bytes_eq, IsUtf8}
 use Rattle.std.specs.Ordering.{nat_cmp}
 use Rattle.std.specs.Cmp.Lexicographic.{slice_cmp}
 use Rattle.std.specs.declared.cmp.Ordering.TheVariants.{Greater}
+use Rattle.qvt_repeats.specs.Repeats.{repeats_by}
 use Rattle.qvt_metamodel.specs.declared.info.TypeKind.{TypeKind}
 use Rattle.qvt_metamodel.specs.declared.info.TypeKind.TheVariants.{Bool as BoolKind, Int as IntKind, Str as StrKind, Enum as EnumKind, Class as ClassKind}
-use Rattle.qvt_metamodel.specs.Metamodels.{Metamodels, class_at, feature_at, shape_of, is_single, has_feature}
-use Rattle.qvt_metamodel.specs.Descends.{descends}
-use Rattle.qvt_metamodel.specs.Named.{enumeration_at}
+use Rattle.qvt_metas.specs.Metamodels.{Metamodels, class_at, feature_at, shape_of, is_single, has_feature}
+use Rattle.qvt_metas.specs.Descends.{descends}
+use Rattle.qvt_metas.specs.Named.{enumeration_at}
 use Rattle.qvt_json.specs.Leaves.{is_id}
 use Rattle.qvt_model.specs.declared.data.Datum.{Datum}
 use Rattle.qvt_model.specs.declared.data.Datum.TheVariants.{Bool as BoolDatum, Int, Str, Literal, Ref}
@@ -20,16 +21,15 @@ use Rattle.qvt_model.specs.declared.data.ObjectData.{ObjectData}
 abbrev pub no_object : ObjectData
 no_object = record { class = record { 0 = 0 }; id = []; slots = [] }
 
-abbrev pub object_at : List ObjectData → ℕ → ObjectData
-object_at os i = slice_index_or os i no_object
+abbrev pub object_data_at : List ObjectData → ℕ → ObjectData
+object_data_at os i = slice_index_or os i no_object
 
 abbrev pub ids : List ObjectData → List (List ℕ)
 ids os = map (λ o. o.id) os
 
 -- no two are equal
-abbrev pub differ : List (List ℕ) → Bool
-differ [] = true
-differ (x ∷ xs) = not (list_any (bytes_eq x) xs) && differ xs
+abbrev pub none_repeats : List (List ℕ) → Bool
+none_repeats xs = not (repeats_by bytes_eq xs)
 
 -- an item of a type: an Integer fits 64 bits, a String is UTF-8, a literal is one of the enumeration, an object is there and its
 -- class is the type or below it
@@ -38,7 +38,7 @@ IsItem m os BoolKind (BoolDatum b) = ⊤
 IsItem m os IntKind (Int z) = FitsSigned w64 z
 IsItem m os StrKind (Str s) = IsUtf8 s
 IsItem m os (EnumKind k e) (Literal l) = (l.metamodel ≡ k) × (l.enumeration ≡ e) × (l.literal < length (enumeration_at m k e).literals)
-IsItem m os (ClassKind c) (Ref i) = (i < length os) × IsTrue (descends m (object_at os i).class.0 c.0)
+IsItem m os (ClassKind c) (Ref i) = (i < length os) × IsTrue (descends m (object_data_at os i).class.0 c.0)
 IsItem m os _ _ = ⊥
 
 -- what an item has by its type in the code: an Integer fits 64 bits, a String is UTF-8
@@ -78,7 +78,7 @@ pub record IsObjectIn (m : Metamodels) (k : ℕ) (os : List ObjectData) (o : Obj
 
 -- the data of a model of metamodel k
 pub record IsModel (m : Metamodels) (k : ℕ) (os : List ObjectData) : Type 0 where
-  pub ids : IsTrue (differ (ids os))
+  pub ids : IsTrue (none_repeats (ids os))
   pub objects : AllByRecursion (IsObjectIn m k os) os
 
 -- a slot of upper bound 1 holds at most one item

@@ -1,16 +1,16 @@
 -- What is written for the values of a store: the values of slots of an extent whose objects have these numbers.
-use Rattle.std.specs.Prelude.{ℕ, suc, ◌==◌, ◌&&◌, not, true, false, codes, List, [], ◌∷◌, ◌++◌, Bool, Option, Some, None, option_map, if◌then◌else◌}
-use Rattle.std.specs.List.{filter_map, list_any}
+use Rattle.std.specs.Prelude.{ℕ, suc, codes, List, [], ◌∷◌, Option, Some, None, option_map, if◌then◌else◌}
+use Rattle.std.specs.List.{filter_map}
 use Rattle.serde_json.specs.Data.{Data, boolean, number, string, array, object, Members, no_members, member, put}
 use Rattle.serde_json.specs.Find.{of_integer}
 use Rattle.serde_json.specs.View.{items_of}
 use Rattle.qvt_base.specs.declared.numbers.FeatureNo.{FeatureNo}
 use Rattle.qvt_value.specs.declared.value.Value.{Value}
 use Rattle.qvt_value.specs.declared.value.Value.TheVariants.{Bool as BoolValue, Int as IntValue, Str as StrValue, Enum as EnumValue, Obj}
-use Rattle.qvt_metamodel.specs.Metamodels.{Metamodels, class_at, feature_at, features_of, is_single}
-use Rattle.qvt_metamodel.specs.Named.{literal_at}
+use Rattle.qvt_metas.specs.Metamodels.{Metamodels, class_at, feature_at, features_of, is_single}
+use Rattle.qvt_metas.specs.Named.{literal_at}
 use Rattle.qvt_store.specs.Contents.{Contents, class_of, slot_of}
-use Rattle.qvt_model.specs.Extents.{own_id, place_of}
+use Rattle.qvt_model.specs.Extents.{own_id, place_within}
 
 abbrev pub id_at : ℕ → Data
 id_at i = string (own_id (suc i))
@@ -20,7 +20,7 @@ value_written m xs (BoolValue b) = Some (boolean b)
 value_written m xs (IntValue z) = Some (number (of_integer z))
 value_written m xs (StrValue t) = Some (string t)
 value_written m xs (EnumValue l) = Some (string (literal_at m l.metamodel l.enumeration l.literal))
-value_written m xs (Obj o) = option_map id_at (place_of xs o.0)
+value_written m xs (Obj o) = option_map id_at (place_within xs o.0)
 value_written m xs _ = None
 
 abbrev pub values_written : Contents → List ℕ → ℕ → FeatureNo → List Data
@@ -59,8 +59,3 @@ objects_written s xs n (y ∷ ys) = object_written s xs n y ∷ objects_written 
 
 abbrev pub model_written : Contents → List ℕ → Data
 model_written s xs = object (member (codes "objects") (array (items_of (objects_written s xs 1 xs))) no_members)
-
--- none of the numbers stands before
-abbrev pub are_new : List ℕ → List ℕ → Bool
-are_new earlier [] = true
-are_new earlier (x ∷ xs) = not (list_any (λ y. x == y) earlier) && are_new (earlier ++ x ∷ []) xs

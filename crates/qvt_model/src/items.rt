@@ -2,7 +2,7 @@ ghost use Rattle.std.specs.Prelude.{◌≡◌, ◌<◌, ◌^◌, length, IfOk, I
 ghost use Rattle.std.specs.List.{AllByRecursion};
 ghost use Rattle.serde_json.specs.Find.{as_str};
 ghost use Rattle.serde_json.specs.View.{view, items_view};
-ghost use Rattle.qvt_metamodel.specs.Named.{literal_named};
+ghost use Rattle.qvt_metas.specs.Named.{literal_named};
 ghost use Rattle.qvt_json.specs.Steps.{all_items};
 ghost use Rattle.qvt_model.specs.Reading.{class_at_place, ref_of, literal_in, datum_of, one_item, items_read};
 ghost use Rattle.qvt_model.specs.WellFormed.{IsPlainDatum};

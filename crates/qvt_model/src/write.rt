@@ -1,13 +1,14 @@
-ghost use Rattle.std.specs.Prelude.{◌≡◌, [], suc, length, map, string_bytes, option_map, IsTrue, IfOk, IfErr, OnOk};
+ghost use Rattle.std.specs.Prelude.{◌≡◌, [], None, eqb, suc, length, map, string_bytes, option_map, IsTrue, IfOk, IfErr, OnOk};
 ghost use Rattle.std.specs.List.{filter_map, AllByRecursion};
+ghost use Rattle.qvt_repeats.specs.Repeats.{repeated_by};
 ghost use Rattle.serde_json.specs.Data.{string, object, no_members, put};
 ghost use Rattle.serde_json.specs.View.{view, members_view};
-ghost use Rattle.qvt_metamodel.specs.Metamodels.{class_at, feature_at, features_of, has_feature};
+ghost use Rattle.qvt_metas.specs.Metamodels.{class_at, feature_at, features_of, has_feature};
 ghost use Rattle.qvt_store.specs.Contents.{class_of, extent_at, is_extent, is_live, is_model};
 ghost use Rattle.qvt_store.specs.Sound.{Sound};
 ghost use Rattle.qvt_model.specs.Extents.{own_id, numbers, data_of};
 ghost use Rattle.qvt_model.specs.Written.{model_text};
-ghost use Rattle.qvt_model.specs.Writing.{value_written, values_written, head_of, list_value, slot_written, put_some, members_onto, object_written, objects_written, model_written, are_new};
+ghost use Rattle.qvt_model.specs.Writing.{value_written, values_written, head_of, list_value, slot_written, put_some, members_onto, object_written, objects_written, model_written};
 
 use crate::data::ModelFault;
 use crate::numbers::NumberIndex;
@@ -23,7 +24,7 @@ use std::alloc::Global;
 
 /// The numbers of the objects, in order.
 fn numbers_of(alloc: Global, members: &[Oid]) -> Result<NumberIndex, ListFault>
-    requires { IsTrue (are_new [] (numbers members.now)) }
+    requires { repeated_by eqb [] (numbers members.now) ≡ None }
     ensures { IfOk result (λ xs. xs ≡ numbers members.now) }
 {
     let mut places = NumberIndex::new(alloc);
@@ -301,7 +302,7 @@ fn objects_written(
 
 /// The value that is written for the objects.
 fn model_written(alloc: Global, store: &Store, members: &[Oid]) -> Result<Value, ListFault>
-    requires new { IsTrue (are_new [] (numbers members.now)) }
+    requires new { repeated_by eqb [] (numbers members.now) ≡ None }
     requires live { AllByRecursion (λ o. IsTrue (is_live store.now o.0)) members.now }
     ensures { IfOk result (λ v. view v ≡ model_written store.now (numbers members.now)) }
 {

@@ -1,6 +1,6 @@
 -- An early end by the fault of a file is one of what is stated, and so is a plan that was made.
 use Rattle.std.proofs.Common.{◌≡◌, ◌≢◌, ◌∙◌, ap, sym, subst, List, ℕ, Result, Ok, Err, IfOk, IfErr}
-use Rattle.qvt_json.specs.Steps.{◌>>=◌}
+use Rattle.qvt_results.specs.Bind.{◌>>=◌}
 use Rattle.qvt_outcome.specs.Outcome.{Outcome, refused}
 use Rattle.qvt_outcome.specs.Plans.{outcome_of}
 use Rattle.qvt_outcome.specs.Steps.{Stops, GivesOrStops, IsFaultWith, IfFaultOf, StopsBy, or_refused}

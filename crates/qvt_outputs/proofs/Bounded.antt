@@ -1,7 +1,8 @@
 -- A run that has ended well leaves its files where it is within its lower bounds.
 use Rattle.std.proofs.Common.{◌≡◌, ◌∙◌, refl, ap, sym, subst, ℕ, List, Option, Some, None, Result, Ok}
 use Rattle.std.specs.Option.{option_map}
-use Rattle.qvt_json.specs.Steps.{◌>>=◌, none_of}
+use Rattle.qvt_results.specs.Bind.{◌>>=◌}
+use Rattle.qvt_json.specs.Steps.{none_of}
 use Rattle.qvt_conform.specs.declared.fault.LowFault.{LowFault}
 use Rattle.qvt_store.specs.Contents.{Contents}
 use Rattle.qvt_job.specs.declared.job.Job.{Job}

@@ -1,6 +1,7 @@
 -- A name may begin a head, and no other expression does.
 use Rattle.std.proofs.Common.{◌≡◌, ◌∙◌, List, true, false, Option, Some, None, Ok, unwrap_or, refl, ap, sym, cond}
-use Rattle.qvt_grammar.specs.Reader.{made_at, starts, ◌>>=◌}
+use Rattle.qvt_results.specs.Bind.{◌>>=◌}
+use Rattle.qvt_grammar.specs.Reader.{made_at, starts}
 use Rattle.qvt_tree_types.specs.Parts.{path_in}
 use Rattle.qvt_tree_types.specs.Tree.{TypeTerm, AccumulatorTerm, ExprTerm, BareTarget, ResultTarget, MemberTarget}
 use Rattle.qvt_tree_types.specs.Tree.{IntExpr, StrExpr, BoolExpr, NullExpr, SelfExpr, ResultExpr, PathExpr, CallExpr, CollExpr, IfExpr, ObjectExpr, NewExpr, MapExpr, ResolveExpr, ChainExpr, PrefixExpr, PostExpr}

@@ -3,7 +3,8 @@ use Rattle.std.proofs.Common.{◌≡◌, ◌≤◌, ◌<◌, ◌+◌, ◌-◌, �
 use Rattle.qvt_base.specs.declared.numbers.Place.{Place}
 use Rattle.qvt_grammar.specs.Language.{head_of}
 use Rattle.qvt_grammar.proofs.Loops.{many_stop}
-use Rattle.qvt_grammar.specs.Reader.{At, Fault, Answer, ◌>>=◌, starts, Consumes}
+use Rattle.qvt_results.specs.Bind.{◌>>=◌}
+use Rattle.qvt_grammar.specs.Reader.{At, Fault, Answer, starts, Consumes}
 use Rattle.qvt_tree_types.specs.Tree.{LinkTerm}
 use Rattle.qvt_language.specs.Grammar.{level_of}
 use Rattle.qvt_parser_exprs.specs.declared.leading.Leading.{Leading}

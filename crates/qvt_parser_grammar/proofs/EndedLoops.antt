@@ -1,7 +1,8 @@
 -- A loop that reads turns until one is the last: what it has read, and what is read of the rest.
 use Rattle.std.proofs.Common.{◌≡◌, ℕ, zero, suc, ◌≤◌, ◌<◌, List, [], ◌∷◌, ◌++◌, length, Bool, true, false, ◌⊎◌, inl, inr, refl, sym, ap, ◌∙◌, arith, append_assoc, append-nil, map, Option, Some, None, Ok, Err, cond}
 use Rattle.std.proofs.lemmas.List.{map-append}
-use Rattle.qvt_grammar.specs.Reader.{Fault, Answer, ◌>>=◌, starts, after_turn, ended_turns, ended_at}
+use Rattle.qvt_results.specs.Bind.{◌>>=◌}
+use Rattle.qvt_grammar.specs.Reader.{Fault, Answer, starts, after_turn, ended_turns, ended_at}
 
 -- the turns before, and then those of the answer
 abbrev pub turns_before : {T A B : Type 0} → List A → Answer T (List A × Option B) → Answer T (List A × Option B)

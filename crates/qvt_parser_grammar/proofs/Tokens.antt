@@ -4,7 +4,8 @@ use Rattle.std.proofs.Math.Seq.{drop-cons}
 use Rattle.std.proofs.lemmas.List.{get_or-map, length-map}
 use Rattle.std.proofs.lemmas.Bool.{ne_eqb}
 use Rattle.qvt_grammar.specs.Language.{head_of}
-use Rattle.qvt_grammar.specs.Reader.{At, starts, maybe_at, made_at, ◌>>=◌}
+use Rattle.qvt_results.specs.Bind.{◌>>=◌}
+use Rattle.qvt_grammar.specs.Reader.{At, starts, maybe_at, made_at}
 use Rattle.qvt_language.specs.Tokens.{Tok, is, tok_of, toks_of, code_of, place_of, is_nil}
 use Rattle.qvt_language.specs.Readers.{the_at}
 use Rattle.qvt_language.specs.declared.class.Class.{Class}

@@ -2,7 +2,8 @@
 use Rattle.std.proofs.Common.{◌≡◌, List, Bool, true, false, ◌⊎◌, inr, refl, sym, ap, ◌∙◌, Ok, Err, cond}
 use Rattle.qvt_base.specs.declared.numbers.Place.{Place}
 use Rattle.qvt_grammar.specs.Language.{head_of}
-use Rattle.qvt_grammar.specs.Reader.{Answer, ◌>>=◌, starts, made_at, then_at, choose_at}
+use Rattle.qvt_results.specs.Bind.{◌>>=◌}
+use Rattle.qvt_grammar.specs.Reader.{Answer, starts, made_at, then_at, choose_at}
 use Rattle.qvt_tree_types.specs.Tree.{ExprTerm, StmtTerm}
 use Rattle.qvt_language.specs.Tokens.{Tok}
 use Rattle.qvt_language.specs.Readers.{Reader, the_at, nowhere}

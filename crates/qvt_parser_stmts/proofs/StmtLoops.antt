@@ -1,6 +1,7 @@
 -- The loop over the statements of a block: what it has read, and what is read of the rest.
 use Rattle.std.proofs.Common.{◌≡◌, List, [], ◌∷◌, ◌++◌, Bool, true, false, inl, inr, refl, sym, ap, ◌∙◌, append_assoc, append-nil, Option, Ok, Err}
-use Rattle.qvt_grammar.specs.Reader.{Fault, Answer, ◌>>=◌, Consumes, starts, made_at, ended_at}
+use Rattle.qvt_results.specs.Bind.{◌>>=◌}
+use Rattle.qvt_grammar.specs.Reader.{Fault, Answer, Consumes, starts, made_at, ended_at}
 use Rattle.qvt_tree_types.specs.Tree.{StmtTerm}
 use Rattle.qvt_language.specs.Tokens.{Tok}
 use Rattle.qvt_language.specs.Readers.{Reader}

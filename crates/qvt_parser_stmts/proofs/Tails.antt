@@ -1,7 +1,8 @@
 -- What stands after an expression at the front of a statement, read part by part.
 use Rattle.std.proofs.Common.{◌≡◌, List, Bool, true, false, ◌&&◌, refl, sym, ap, ◌∙◌, Option, Some, None, Ok, Err, cond}
 use Rattle.qvt_base.specs.declared.numbers.Place.{Place}
-use Rattle.qvt_grammar.specs.Reader.{Answer, ◌>>=◌, starts, made_at}
+use Rattle.qvt_results.specs.Bind.{◌>>=◌}
+use Rattle.qvt_grammar.specs.Reader.{Answer, starts, made_at}
 use Rattle.qvt_tree_types.specs.Tree.{ExprTerm, StmtTerm, AssignStmt, ValueStmt, TargetTerm}
 use Rattle.qvt_language.specs.Tokens.{Tok, of}
 use Rattle.qvt_language.specs.Readers.{Reader}

@@ -1,6 +1,7 @@
 -- The loop over the units of a transformation: what it has read, and what is read of the rest.
 use Rattle.std.proofs.Common.{◌≡◌, List, [], ◌∷◌, ◌++◌, Bool, true, false, refl, sym, ap, ◌∙◌, append_assoc, append-nil, Ok, Err}
-use Rattle.qvt_grammar.specs.Reader.{Fault, Answer, ◌>>=◌, Consumes, starts, made_at, many_at, with_front}
+use Rattle.qvt_results.specs.Bind.{◌>>=◌}
+use Rattle.qvt_grammar.specs.Reader.{Fault, Answer, Consumes, starts, made_at, many_at, with_front}
 use Rattle.qvt_grammar.proofs.Loops.{many_more, many_stop, many_stuck}
 use Rattle.qvt_tree_types.specs.Module.{UnitTerm}
 use Rattle.qvt_language.specs.Tokens.{Tok}

@@ -4,8 +4,8 @@ use Rattle.std.specs.Prelude.{if◌then◌else◌}
 use Rattle.std.specs.Str.{bytes_eq}
 use Rattle.std.proofs.lemmas.Bool.{eq-eqb}
 use Rattle.std.proofs.lemmas.Slice.Eq.{bytes_eq-Decides}
-use Rattle.qvt_metamodel.specs.Metamodels.{Metamodels, is_element}
-use Rattle.qvt_metamodel.specs.Descends.{descends, reaches}
+use Rattle.qvt_metas.specs.Metamodels.{Metamodels, is_element}
+use Rattle.qvt_metas.specs.Descends.{descends, reaches}
 use Rattle.qvt_types_units.specs.declared.choice.FoundUnit.{FoundUnit}
 use Rattle.qvt_types_units.specs.declared.choice.FoundUnit.TheVariants.{NoUnit, Untyped}
 use Rattle.qvt_types_units.specs.declared.signature.HeadClass.{HeadClass}

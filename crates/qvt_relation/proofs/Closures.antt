@@ -2,7 +2,7 @@
 use Rattle.std.proofs.Common.{◌≡◌, ℕ, zero, suc, ◌<◌, Bool, true, inl, inr, ◌↔◌, subst, arith}
 use Rattle.std.proofs.lemmas.Bool.{cases_eq}
 use Rattle.qvt_relation.proofs.Bools.{and_left, and_right, and_both, or_cases, or_left, or_right}
-use Rattle.qvt_relation.specs.Closure.{Closure, directly, through, any_below, reaches, Decides, IsBelow}
+use Rattle.qvt_relation.specs.Closure.{Closure, directly, through, any_below, reaches_by, Decides, IsBelow}
 
 pub any_below-at : (n : ℕ) (p : ℕ → Bool) (k : ℕ) → k < n → p k ≡ true → any_below n p ≡ true
 any_below-at zero p k h t = absurd (omega arith)
@@ -26,50 +26,50 @@ pub first_step : (r : ℕ → ℕ → Type 0) {x y : ℕ} → Closure r x y → 
 first_step r (directly {x} {y} h) = (y, h)
 first_step r (through {x} {y} {z} h p) = (y, h)
 
-pub reaches-step : (step : ℕ → ℕ → Bool) (k x y : ℕ) → step x y ≡ true → reaches step k x y ≡ true
-unfolding reaches
+pub reaches-step : (step : ℕ → ℕ → Bool) (k x y : ℕ) → step x y ≡ true → reaches_by step k x y ≡ true
+unfolding reaches_by
 reaches-step step zero x y h = h
 reaches-step step (suc k) x y h = or_left _ _ (reaches-step step k x y h)
 
-pub reaches-join : (step : ℕ → ℕ → Bool) (k x y z : ℕ) → y < k → reaches step k x y ≡ true → reaches step k y z ≡ true → reaches step k x z ≡ true
-unfolding reaches
+pub reaches-join : (step : ℕ → ℕ → Bool) (k x y z : ℕ) → y < k → reaches_by step k x y ≡ true → reaches_by step k y z ≡ true → reaches_by step k x z ≡ true
+unfolding reaches_by
 reaches-join step zero x y z h p q = absurd (omega arith)
 reaches-join step (suc k) x y z h p q = elim (cases_eq y k) [
   | inl same ↦
-      let p' : reaches step (suc k) x k ≡ true = subst (λ i. reaches step (suc k) x i ≡ true) same p in
-      let q' : reaches step (suc k) k z ≡ true = subst (λ i. reaches step (suc k) i z ≡ true) same q in
-      or_right (reaches step k x z) _ (and_both _ _ (to_last p') (from_last q'))
-  | inr other ↦ elim (or_cases (reaches step k x y) _ p) [
-    | inl p1 ↦ elim (or_cases (reaches step k y z) _ q) [
+      let p' : reaches_by step (suc k) x k ≡ true = subst (λ i. reaches_by step (suc k) x i ≡ true) same p in
+      let q' : reaches_by step (suc k) k z ≡ true = subst (λ i. reaches_by step (suc k) i z ≡ true) same q in
+      or_right (reaches_by step k x z) _ (and_both _ _ (to_last p') (from_last q'))
+  | inr other ↦ elim (or_cases (reaches_by step k x y) _ p) [
+    | inl p1 ↦ elim (or_cases (reaches_by step k y z) _ q) [
       | inl q1 ↦ or_left _ _ (reaches-join step k x y z (omega arith) p1 q1)
-      | inr q2 ↦ or_right (reaches step k x z) _ (and_both _ _ (reaches-join step k x y k (omega arith) p1 (and_left _ _ q2)) (and_right (reaches step k y k) _ q2))
+      | inr q2 ↦ or_right (reaches_by step k x z) _ (and_both _ _ (reaches-join step k x y k (omega arith) p1 (and_left _ _ q2)) (and_right (reaches_by step k y k) _ q2))
     ]
-    | inr p2 ↦ elim (or_cases (reaches step k y z) _ q) [
-      | inl q1 ↦ or_right (reaches step k x z) _ (and_both _ _ (and_left _ _ p2) (reaches-join step k k y z (omega arith) (and_right (reaches step k x k) _ p2) q1))
-      | inr q2 ↦ or_right (reaches step k x z) _ (and_both _ _ (and_left _ _ p2) (and_right (reaches step k y k) _ q2))
+    | inr p2 ↦ elim (or_cases (reaches_by step k y z) _ q) [
+      | inl q1 ↦ or_right (reaches_by step k x z) _ (and_both _ _ (and_left _ _ p2) (reaches-join step k k y z (omega arith) (and_right (reaches_by step k x k) _ p2) q1))
+      | inr q2 ↦ or_right (reaches_by step k x z) _ (and_both _ _ (and_left _ _ p2) (and_right (reaches_by step k y k) _ q2))
     ]
   ]
 ]
   where
-    to_last : reaches step (suc k) x k ≡ true → reaches step k x k ≡ true
-    to_last e = elim (or_cases (reaches step k x k) _ e) [ inl a ↦ a | inr b ↦ and_left _ _ b ]
+    to_last : reaches_by step (suc k) x k ≡ true → reaches_by step k x k ≡ true
+    to_last e = elim (or_cases (reaches_by step k x k) _ e) [ inl a ↦ a | inr b ↦ and_left _ _ b ]
 
-    from_last : reaches step (suc k) k z ≡ true → reaches step k k z ≡ true
-    from_last e = elim (or_cases (reaches step k k z) _ e) [ inl a ↦ a | inr b ↦ and_right (reaches step k k k) _ b ]
+    from_last : reaches_by step (suc k) k z ≡ true → reaches_by step k k z ≡ true
+    from_last e = elim (or_cases (reaches_by step k k z) _ e) [ inl a ↦ a | inr b ↦ and_right (reaches_by step k k k) _ b ]
 
-pub reaches-closure : (step : ℕ → ℕ → Bool) (r : ℕ → ℕ → Type 0) → Decides step r → (k x y : ℕ) → reaches step k x y ≡ true → Closure r x y
-unfolding reaches
+pub reaches-closure : (step : ℕ → ℕ → Bool) (r : ℕ → ℕ → Type 0) → Decides step r → (k x y : ℕ) → reaches_by step k x y ≡ true → Closure r x y
+unfolding reaches_by
 reaches-closure step r decides zero x y h = directly (decides.sound x y h)
-reaches-closure step r decides (suc k) x y h = elim (or_cases (reaches step k x y) _ h) [
+reaches-closure step r decides (suc k) x y h = elim (or_cases (reaches_by step k x y) _ h) [
   | inl a ↦ reaches-closure step r decides k x y a
-  | inr b ↦ join r (reaches-closure step r decides k x k (and_left _ _ b)) (reaches-closure step r decides k k y (and_right (reaches step k x k) _ b))
+  | inr b ↦ join r (reaches-closure step r decides k x k (and_left _ _ b)) (reaches-closure step r decides k k y (and_right (reaches_by step k x k) _ b))
 ]
 
-pub closure-reaches : (step : ℕ → ℕ → Bool) (r : ℕ → ℕ → Type 0) → Decides step r → (n : ℕ) → IsBelow n r → {x y : ℕ} → Closure r x y → reaches step n x y ≡ true
+pub closure-reaches : (step : ℕ → ℕ → Bool) (r : ℕ → ℕ → Type 0) → Decides step r → (n : ℕ) → IsBelow n r → {x y : ℕ} → Closure r x y → reaches_by step n x y ≡ true
 closure-reaches step r decides n below (directly {x} {y} h) = reaches-step step n x y (decides.complete x y h)
 closure-reaches step r decides n below (through {x} {y} {z} h p) =
     let next : (w : ℕ) × r y w = first_step r p in
     reaches-join step n x y z (below.starts y next.0 next.1) (reaches-step step n x y (decides.complete x y h)) (closure-reaches step r decides n below p)
 
-pub reaches_is_closure : (step : ℕ → ℕ → Bool) (r : ℕ → ℕ → Type 0) → Decides step r → (n : ℕ) → IsBelow n r → (x y : ℕ) → (reaches step n x y ≡ true) ↔ Closure r x y
+pub reaches_is_closure : (step : ℕ → ℕ → Bool) (r : ℕ → ℕ → Type 0) → Decides step r → (n : ℕ) → IsBelow n r → (x y : ℕ) → (reaches_by step n x y ≡ true) ↔ Closure r x y
 reaches_is_closure step r decides n below x y = (reaches-closure step r decides n x y, λ p. closure-reaches step r decides n below p)

@@ -12,9 +12,9 @@ any_below zero p = false
 any_below (suc n) p = p n || any_below n p
 
 -- whether steps lead from x to y, through numbers below k alone
-unfoldable pub reaches : (ℕ → ℕ → Bool) → ℕ → ℕ → ℕ → Bool
-reaches step zero x y = step x y
-reaches step (suc k) x y = reaches step k x y || (reaches step k x k && reaches step k k y)
+unfoldable pub reaches_by : (ℕ → ℕ → Bool) → ℕ → ℕ → ℕ → Bool
+reaches_by step zero x y = step x y
+reaches_by step (suc k) x y = reaches_by step k x y || (reaches_by step k x k && reaches_by step k k y)
 
 -- the test tells exactly where the relation holds
 pub record Decides (step : ℕ → ℕ → Bool) (r : ℕ → ℕ → Type 0) : Type 0 where

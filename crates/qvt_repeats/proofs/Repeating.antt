@@ -1,10 +1,10 @@
 -- What a list repeats: from its front, of a part of it, and by other tests.
-use Rattle.std.proofs.Common.{◌≡◌, ◌∙◌, ℕ, zero, suc, ◌+◌, ◌<◌, Bool, true, false, ◌||◌, cond, refl, sym, ap, List, [], ◌∷◌, ◌++◌, length, map, take, drop, get_or, arith}
-use Rattle.std.specs.Prelude.{filter}
+use Rattle.std.proofs.Common.{◌≡◌, ◌∙◌, ℕ, zero, suc, ◌+◌, ◌<◌, Bool, true, false, ◌||◌, cond, refl, sym, ap, List, [], ◌∷◌, ◌++◌, length, map, take, drop, get_or, Option, Some, None, arith}
+use Rattle.std.specs.Prelude.{filter, is_some, if◌then◌else◌}
 use Rattle.std.specs.List.{list_any}
 use Rattle.std.proofs.lemmas.List.{take_more, take-append-drop}
 use Rattle.qvt_relation.proofs.Bools.{or_left, or_right, or_none, none_left, none_right, or_false, refuted, clash}
-use Rattle.qvt_repeats.specs.Repeats.{repeats_by}
+use Rattle.qvt_repeats.specs.Repeats.{repeats_by, repeated_by}
 
 -- ---- whether some item passes
 
@@ -40,6 +40,17 @@ any-alike test other h (x ∷ xs) = λ i. h x i || any-alike test other h xs i
 any-fewer : {A : Type 0} (test other : A → Bool) → ((x : A) → test x ≡ true → other x ≡ true) → (xs : List A) → list_any other xs ≡ false → list_any test xs ≡ false
 any-fewer test other h [] n = refl
 any-fewer test other h (x ∷ xs) n = or_none _ _ (refuted (test x) (λ t. clash (other x) (h x t) (none_left (other x) _ n))) (any-fewer test other h xs (none_right (other x) _ n))
+
+-- some item passes one of two tests
+any-either : {A : Type 0} (test other : A → Bool) (xs : List A) → list_any (λ x. test x || other x) xs ≡ (list_any test xs || list_any other xs)
+any-either test other [] = refl
+any-either test other (x ∷ xs) = ap (λ b. (test x || other x) || b) (any-either test other xs) ∙ crossed (test x) (other x) (list_any test xs) (list_any other xs)
+  where
+    crossed : (a b c d : Bool) → ((a || b) || (c || d)) ≡ ((a || c) || (b || d))
+    crossed true b c d = refl
+    crossed false true true d = refl
+    crossed false true false d = refl
+    crossed false false c d = refl
 
 -- ---- repeats by other tests
 
@@ -108,3 +119,46 @@ module _ {A : Type 0} (same : A → A → Bool) where
     pub repeats_next : (xs : List A) (i : ℕ) (d : A) → i < length xs → repeats_by same (take i xs) ≡ false → repeats_by same (take (i + 1) xs) ≡ list_any (same (get_or xs i d)) (take i xs)
     repeats_next xs i d l none = ap (repeats_by same) (take_more xs i d l) ∙ repeats-last (take i xs) (get_or xs i d)
         ∙ ap (λ b. list_any (same (get_or xs i d)) (take i xs) || b) none ∙ or_false (list_any (same (get_or xs i d)) (take i xs))
+
+    -- ---- the first that repeats one
+
+    -- one of the items is one of the earlier ones
+    abbrev some_earlier : List A → List A → Bool
+    some_earlier earlier xs = list_any (λ x. list_any (same x) earlier) xs
+
+    some_earlier-last : (earlier : List A) (x : A) (xs : List A) → some_earlier (earlier ++ x ∷ []) xs ≡ (some_earlier earlier xs || list_any (same x) xs)
+    some_earlier-last earlier x xs =
+        any-alike (λ y. list_any (same y) (earlier ++ x ∷ [])) (λ y. list_any (same y) earlier || same y x) (λ y. any-last (same y) earlier x) xs
+        ∙ any-either (λ y. list_any (same y) earlier) (λ y. same y x) xs
+        ∙ ap (λ b. some_earlier earlier xs || b) (any-alike (λ y. same y x) (same x) (λ y. flip y x) xs)
+
+    some_after : (earlier xs : List A) → is_some (repeated_by same earlier xs) ≡ (some_earlier earlier xs || repeats_by same xs)
+    some_after earlier [] = refl
+    some_after earlier (x ∷ xs) = by (list_any (same x) earlier) (some_after (earlier ++ x ∷ []) xs ∙ ap (λ b. b || repeats_by same xs) (some_earlier-last earlier x xs))
+      where
+        joined : (a b c : Bool) → ((a || b) || c) ≡ (a || (b || c))
+        joined true b c = refl
+        joined false b c = refl
+
+        by : (b : Bool) → is_some (repeated_by same (earlier ++ x ∷ []) xs) ≡ ((some_earlier earlier xs || list_any (same x) xs) || repeats_by same xs)
+            → is_some (if b then Some x else repeated_by same (earlier ++ x ∷ []) xs) ≡ ((b || some_earlier earlier xs) || (list_any (same x) xs || repeats_by same xs))
+        by true next = refl
+        by false next = next ∙ joined (some_earlier earlier xs) (list_any (same x) xs) (repeats_by same xs)
+
+    -- a list repeats an item where there is a first that repeats one
+    pub some_repeated : (xs : List A) → is_some (repeated_by same [] xs) ≡ repeats_by same xs
+    some_repeated xs = some_after [] xs ∙ ap (λ b. b || repeats_by same xs) (none_before xs)
+      where
+        none_before : (xs : List A) → some_earlier [] xs ≡ false
+        none_before [] = refl
+        none_before (x ∷ xs) = none_before xs
+
+    pub repeats_none : (xs : List A) → repeated_by same [] xs ≡ None → repeats_by same xs ≡ false
+    repeats_none xs h = sym (some_repeated xs) ∙ ap is_some h
+
+    pub none_by : (xs : List A) → repeats_by same xs ≡ false → repeated_by same [] xs ≡ None
+    none_by xs h = absent (repeated_by same [] xs) (some_repeated xs ∙ h)
+      where
+        absent : (o : Option A) → is_some o ≡ false → o ≡ None
+        absent None e = refl
+        absent (Some x) e = absurd (cc)

@@ -1,3 +1,3 @@
 //! Lists that repeat an item, by a test of when two items are the same. It is generic in the type of the
-//! items, and has a definition and lemmas alone.
+//! items, and has definitions and lemmas alone.
 #![tactic(auto)]

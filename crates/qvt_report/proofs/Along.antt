@@ -3,7 +3,7 @@ use Rattle.std.proofs.Common.{◌≡◌, ◌∙◌, refl, sym, ap, ℕ, zero, su
 use Rattle.std.specs.List.{AllByRecursion, range_with_len}
 use Rattle.std.proofs.lemmas.Bool.{eqb-true, lt-ltb}
 use Rattle.qvt_slots.specs.declared.extent.Extent.{Extent}
-use Rattle.qvt_slots.specs.Contents.{Contents, extent_at, is_extent, is_named, no_extent}
+use Rattle.qvt_store.specs.Contents.{Contents, extent_at, is_extent, is_named, no_extent}
 use Rattle.qvt_meaning_report.specs.Meaning as report
 use Rattle.qvt_report.specs.Extents.{is_written, numbers_along}
 

@@ -4,7 +4,7 @@ use Rattle.qvt_conform.specs.declared.fault.LowFault.{LowFault}
 use Rattle.qvt_meaning.specs.Run.{FinishedRun}
 use Rattle.qvt_meaning_report.specs.Lines.{line_of, written_count}
 use Rattle.qvt_meaning_report.specs.Meaning.{low_in, outcome_of, unless_low}
-use Rattle.qvt_slots.specs.Contents.{Contents}
+use Rattle.qvt_store.specs.Contents.{Contents}
 use Rattle.qvt_report.specs.Lines.{IsDone, done_text, line_for}
 
 module _ (file : List ℕ) (fuel : ℕ) (ids : List (Option (List ℕ))) (f : FinishedRun) (s : Contents) (records entries cost : ℕ) where

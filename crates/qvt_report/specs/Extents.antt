@@ -1,7 +1,7 @@
 -- The extents that are written, by one walk over all.
 use Rattle.std.specs.Prelude.{ℕ, ◌+◌, Bool, ◌&&◌, List, [], ◌∷◌, if◌then◌else◌}
 use Rattle.qvt_slots.specs.declared.extent.Extent.{Extent}
-use Rattle.qvt_slots.specs.Contents.{is_named}
+use Rattle.qvt_store.specs.Contents.{is_named}
 
 abbrev pub is_written : Extent → Bool
 is_written x = is_named x.name && x.writable

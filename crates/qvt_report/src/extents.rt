@@ -3,7 +3,7 @@
 ghost use Rattle.std.specs.Prelude.{◌≡◌, ◌++◌, ◌∷◌, [], if◌then◌else◌, length, IfOk, IsTrue, OnOk};
 ghost use Rattle.std.specs.List.{AllByRecursion, flat_map};
 ghost use Rattle.qvt_conform.specs.LowerBounds.{low_of};
-ghost use Rattle.qvt_slots.specs.Contents.{is_extent, members_of};
+ghost use Rattle.qvt_store.specs.Contents.{is_extent, members_of};
 ghost use Rattle.qvt_meaning_report.specs.Lines.{written_count};
 ghost use Rattle.qvt_meaning_report.specs.Meaning as report;
 ghost use Rattle.qvt_report.specs.Extents.{is_written, numbers_along};

@@ -1,5 +1,5 @@
 -- Sets of classes that are put into those of their superclasses.
-use Rattle.std.proofs.Common.{◌≡◌, ◌∙◌, ℕ, ◌+◌, ◌<◌, ◌≤◌, List, length, get_or, set, take, Bool, true, false, refl, ap, sym, subst, arith, ◌==◌, ◌||◌, ◌&&◌, ◌⊎◌, inl, inr}
+use Rattle.std.proofs.Common.{◌≡◌, ◌≢◌, ◌∙◌, ℕ, ◌+◌, ◌<◌, ◌≤◌, List, length, get_or, set, take, Bool, true, false, refl, ap, sym, subst, arith, ◌==◌, ◌||◌, ◌&&◌, ◌⊎◌, inl, inr}
 use Rattle.std.specs.Prelude.{slice_index, nat_lt}
 use Rattle.std.specs.List.{list_any, list_all}
 use Rattle.std.proofs.lemmas.List.{get_or_past, get_or-set_same, get_or-set_other}
@@ -17,7 +17,7 @@ use Rattle.qvt_meta_tables.specs.Tables.{of_classes, IsOrder}
 use Rattle.qvt_rows.specs.Sets.{handed_on}
 use Rattle.qvt_meta_tables.proofs.Marks.{live_at}
 use Rattle.qvt_metamodel.proofs.Ancestors.{live, path, begins, complete}
-use Rattle.qvt_metamodel.proofs.Bools.{ap2, and_both, and_left, and_right, or_cases, or_left, or_right}
+use Rattle.qvt_metamodel.proofs.Bools.{and_both, and_left, and_right, or_cases, or_left, or_right}
 use Rattle.qvt_metamodel.proofs.Order.{transitive}
 use Rattle.qvt_metamodel.proofs.Owners.{all-there}
 
@@ -32,29 +32,44 @@ are_there ks n class ss i each same live l = (
   ],
 )
 
-met_once : (a t b u : Bool) → ((a || (t && b)) || (b || (u && b))) ≡ (a || ((t || true) && b))
-met_once true t b u = refl
-met_once false true true u = refl
-met_once false true false true = refl
-met_once false true false false = refl
-met_once false false true u = refl
-met_once false false false true = refl
-met_once false false false false = refl
+met : (a t b : Bool) → ((a || (t && b)) || b) ≡ (a || ((t || true) && b))
+met true t b = refl
+met false true true = refl
+met false true false = refl
+met false false b = refl
 
 -- the next of the superclasses
 pub handed_next : (old rows : List Row) (row : Row) (class : ℕ) (ss : List ClassNo) (i : ℕ) (e : ClassNo) → i < length ss → (get_or ss i e).0 < length rows
-    → ((c d : ℕ) → is_marked (get_or rows c no_row) d ≡ handed_on old class (take i ss) c d)
-    → ((d : ℕ) → is_marked row d ≡ (is_marked (get_or rows (get_or ss i e).0 no_row) d || is_marked (get_or rows class no_row) d))
-    → (c d : ℕ) → is_marked (get_or (set rows (get_or ss i e).0 row) c no_row) d ≡ handed_on old class (take (i + 1) ss) c d
-handed_next old rows row class ss i e l there before is c d = elim (cases_eq c (get_or ss i e).0) [
+    → ((c d : ℕ) → c ≢ class → is_marked (get_or rows c no_row) d ≡ handed_on old class (take i ss) c d)
+    → ((d : ℕ) → is_marked row d ≡ (is_marked (get_or rows (get_or ss i e).0 no_row) d || is_marked (get_or old class no_row) d))
+    → (c d : ℕ) → c ≢ class → is_marked (get_or (set rows (get_or ss i e).0 row) c no_row) d ≡ handed_on old class (take (i + 1) ss) c d
+handed_next old rows row class ss i e l there before is c d apart = elim (cases_eq c (get_or ss i e).0) [
   | inl same ↦ subst (λ x. is_marked (get_or (set rows (get_or ss i e).0 row) x no_row) d ≡ handed_on old class (take (i + 1) ss) x d) (sym same)
-      (ap (λ r. is_marked r d) (get_or-set_same rows (get_or ss i e).0 row no_row there) ∙ is d ∙ ap2 (λ a b. a || b) (before (get_or ss i e).0 d) (before class d)
-      ∙ met_once (is_marked (get_or old (get_or ss i e).0 no_row) d) (list_any (λ s. s.0 == (get_or ss i e).0) (take i ss)) (is_marked (get_or old class no_row) d) (list_any (λ s. s.0 == class) (take i ss))
+      (ap (λ r. is_marked r d) (get_or-set_same rows (get_or ss i e).0 row no_row there)
+      ∙ is d
+      ∙ ap (λ a. a || is_marked (get_or old class no_row) d) (before (get_or ss i e).0 d (λ h. apart (same ∙ h)))
+      ∙ met (is_marked (get_or old (get_or ss i e).0 no_row) d) (list_any (λ s. s.0 == (get_or ss i e).0) (take i ss)) (is_marked (get_or old class no_row) d)
       ∙ ap (λ b. is_marked (get_or old (get_or ss i e).0 no_row) d || ((list_any (λ s. s.0 == (get_or ss i e).0) (take i ss) || b) && is_marked (get_or old class no_row) d)) (sym (eq-eqb (get_or ss i e).0 (get_or ss i e).0 refl))
       ∙ ap (λ b. is_marked (get_or old (get_or ss i e).0 no_row) d || (b && is_marked (get_or old class no_row) d)) (sym (list_any_more (λ s. s.0 == (get_or ss i e).0) ss i e l)))
-  | inr other ↦ ap (λ r. is_marked r d) (get_or-set_other rows (get_or ss i e).0 c row no_row other) ∙ before c d
+  | inr other ↦ ap (λ r. is_marked r d) (get_or-set_other rows (get_or ss i e).0 c row no_row other) ∙ before c d apart
       ∙ ap (λ b. is_marked (get_or old c no_row) d || (b && is_marked (get_or old class no_row) d))
       (sym (list_any_more (λ s. s.0 == c) ss i e l ∙ ap (λ b. list_any (λ s. s.0 == c) (take i ss) || b) (ne_eqb (get_or ss i e).0 c (λ h. other (sym h))) ∙ or_false (list_any (λ s. s.0 == c) (take i ss))))
+]
+
+-- the set of the class has what it had
+absorbed : (a t : Bool) → a ≡ (a || (t && a))
+absorbed true t = refl
+absorbed false true = refl
+absorbed false false = refl
+
+pub handed_back : (old rows : List Row) (class : ℕ) (ss : List ClassNo) → class < length rows
+    → ((c d : ℕ) → c ≢ class → is_marked (get_or rows c no_row) d ≡ handed_on old class ss c d)
+    → (c d : ℕ) → is_marked (get_or (set rows class (get_or old class no_row)) c no_row) d ≡ handed_on old class ss c d
+handed_back old rows class ss there before c d = elim (cases_eq c class) [
+  | inl same ↦ subst (λ x. is_marked (get_or (set rows class (get_or old class no_row)) x no_row) d ≡ handed_on old class ss x d) (sym same)
+      (ap (λ r. is_marked r d) (get_or-set_same rows class (get_or old class no_row) no_row there)
+      ∙ absorbed (is_marked (get_or old class no_row) d) (list_any (λ s. s.0 == class) ss))
+  | inr other ↦ ap (λ r. is_marked r d) (get_or-set_other rows class c (get_or old class no_row) no_row other) ∙ before c d other
 ]
 
 abbrev pub has : List Row → ℕ → ℕ → Type 0

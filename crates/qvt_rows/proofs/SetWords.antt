@@ -1,14 +1,13 @@
 -- The words of rows as sets of numbers.
-use Rattle.std.proofs.Common.{◌≡◌, ◌≢◌, ◌∙◌, ℕ, zero, suc, ◌+◌, ◌-◌, ◌*◌, ◌/◌, ◌%◌, ◌^◌, ◌<◌, ◌≤◌, List, length, get_or, Bool, true, false, refl, ap, sym, arith, ◌==◌, ◌||◌, ◌&&◌, not, inl, inr, min, max, leb, w64}
+use Rattle.std.proofs.Common.{◌≡◌, ◌≢◌, ◌∙◌, ℕ, zero, suc, ◌+◌, ◌-◌, ◌*◌, ◌/◌, ◌%◌, ◌^◌, ◌<◌, ◌≤◌, List, [], ◌∷◌, ◌++◌, length, get_or, set, Bool, true, false, refl, ap, sym, subst, arith, ◌==◌, ◌||◌, ◌&&◌, not, inl, inr, min, max, leb, w64}
 use Rattle.std.specs.Prelude.{if◌then◌else◌, bit_and, bit_or}
 use Rattle.std.specs.Int.{bit_at, bit_not, trailing_zeros}
-use Rattle.std.proofs.lemmas.List.{get_or_past}
-use Rattle.std.proofs.lemmas.Bool.{eqb-true, eq-eqb, le-leb, lt-leb, cases_lt, and_parts, not-true}
+use Rattle.std.proofs.lemmas.List.{get_or_past, get_or-set_same, get_or-set_other, length-set}
+use Rattle.std.proofs.lemmas.Bool.{eqb-true, eq-eqb, le-leb, lt-leb, cases_eq, cases_lt, and_parts, not-true}
 use Rattle.std.proofs.lemmas.Nat.{or_comm}
 use Rattle.std.proofs.lemmas.Nat.Bits.{bit_at-lt, bit_at-zero, bit_at_or, bit_at_and, bit_at_not, bit_at-trailing_zeros}
 use Rattle.qvt_metamodel.specs.declared.row.Row.{Row}
 use Rattle.qvt_metamodel.specs.Kept.{word_of, is_bit, is_marked, no_row}
-use Rattle.qvt_meta_tables.specs.Tables.{mark_of}
 use Rattle.qvt_rows.specs.Sets.{Overlap, IsSubset}
 use Rattle.qvt_metamodel.proofs.Bools.{ap2, clash}
 use Rattle.qvt_metamodel.proofs.Rows.{no_bit, no_mark}
@@ -100,21 +99,20 @@ marks_are first words p within before behind d = elim (cases_lt (d / 64) first) 
   ]
 ]
 
-pub with_number : (row : Row) (number first : ℕ) (words : List ℕ) → row.start ≡ 0 → first ≤ number / 64 → number / 64 < first + length words
-    → (0 < length row.words → first ≤ row.skipped) → row.skipped + length row.words ≤ first + length words
-    → ((i : ℕ) → i < length words → get_or words i 0 ≡ bit_or (word_of row (first + i)) (mark_of number (first + i)))
-    → (d : ℕ) → is_marked (row_from first words) d ≡ (is_marked row d || (number == d))
-with_number row number first words start low high front end at d =
-    joined_marks row no_row (row_from first words) number start refl refl
-    (joined_words row no_row number first words low high front (λ h. absurd (omega (arith, h))) end (omega arith) (λ i l. at i l ∙ sym (nothing_more (first + i))))
+-- the set of one number
+pub alone : (c : ℕ) (words : List ℕ) → words ≡ 2 ^ (c % 64) ∷ [] → (d : ℕ) → is_marked (row_from (c / 64) words) d ≡ (c == d)
+alone c words are d = subst (λ ws. is_marked (row_from (c / 64) ws) d ≡ (c == d)) (sym are)
+    (joined_marks no_row no_row (row_from (c / 64) (2 ^ (c % 64) ∷ [])) c refl refl refl
+    (joined_words no_row no_row c (c / 64) (2 ^ (c % 64) ∷ []) (omega arith) (omega arith) (λ h. absurd (omega (arith, h))) (λ h. absurd (omega (arith, h))) (omega arith) (omega arith) at)
     d
-    ∙ ap (λ b. is_marked row d || (number == d) || b) (no_mark d) ∙ or_false (is_marked row d || (number == d))
+    ∙ ap2 (λ a b. a || (c == d) || b) (no_mark d) (no_mark d) ∙ or_false (c == d))
   where
     no_word : (n : ℕ) → word_of no_row n ≡ 0
     no_word n = ap (λ b. if b then 0 else 0) (le-leb 0 n (omega arith))
 
-    nothing_more : (n : ℕ) → joined_word row number no_row n ≡ bit_or (word_of row n) (mark_of number n)
-    nothing_more n = ap (bit_or (bit_or (word_of row n) (mark_of number n))) (no_word n) ∙ or_comm (bit_or (word_of row n) (mark_of number n)) 0
+    at : (i : ℕ) → i < 1 → get_or (2 ^ (c % 64) ∷ []) i 0 ≡ joined_word no_row c no_row (c / 64 + i)
+    at zero l = sym (ap2 (λ w b. bit_or (bit_or w (if b then 2 ^ (c % 64) else 0)) w) (no_word (c / 64 + 0)) (eq-eqb (c / 64) (c / 64 + 0) (omega arith)) ∙ or_comm (2 ^ (c % 64)) 0)
+    at (suc i) l = absurd (omega (arith, l))
 
 pub union : (one other : Row) (first : ℕ) (words : List ℕ) → one.start ≡ 0 → other.start ≡ 0
     → (0 < length one.words → first ≤ one.skipped) → (0 < length other.words → first ≤ other.skipped)
@@ -127,6 +125,80 @@ union one other first words start also front next_front end next_end at =
     ∙ bit_of_union (word_of one (d / 64)) (word_of other (d / 64)) (d % 64) ∙ sym (ap2 (λ a b. a || b) (marked one start d) (marked other also d)))
     (λ d l. ap2 (λ a b. a || b) (no_mark_in_front one start first d front l) (no_mark_in_front other also first d next_front l))
     (λ d l. ap2 (λ a b. a || b) (no_mark_behind one start d (omega (arith, l, end))) (no_mark_behind other also d (omega (arith, l, next_end))))
+
+-- a word without marks behind the others
+zero_behind : (ws : List ℕ) (k : ℕ) → get_or (ws ++ 0 ∷ []) k 0 ≡ get_or ws k 0
+zero_behind [] zero = refl
+zero_behind [] (suc k) = refl
+zero_behind (w ∷ ws) zero = refl
+zero_behind (w ∷ ws) (suc k) = zero_behind ws k
+
+pub no_more_marks : (r : Row) (words : List ℕ) → words ≡ r.words ++ 0 ∷ [] → (d : ℕ) → is_marked (record { start = r.start; skipped = r.skipped; words = words }) d ≡ is_marked r d
+no_more_marks r words are d =
+    ap (λ w. leb r.start d && is_bit w ((d - r.start) % 64))
+    (ap (λ w. if leb r.skipped ((d - r.start) / 64) then w else 0) (ap (λ ws. get_or ws ((d - r.start) / 64 - r.skipped) 0) are ∙ zero_behind r.words ((d - r.start) / 64 - r.skipped)))
+
+-- another word at a place
+module _ (r : Row) (p w : ℕ) (low : r.skipped ≤ p) (high : p < r.skipped + length r.words) where
+  abbrev with_word : Row
+  with_word = record { start = r.start; skipped = r.skipped; words = set r.words (p - r.skipped) w }
+
+  word_there : word_of with_word p ≡ w
+  word_there =
+      ap (λ b. if b then get_or (set r.words (p - r.skipped) w) (p - r.skipped) 0 else 0) (le-leb r.skipped p low)
+      ∙ get_or-set_same r.words (p - r.skipped) w 0 (omega (arith, low, high))
+
+  word_elsewhere : (n : ℕ) → n ≢ p → word_of with_word n ≡ word_of r n
+  word_elsewhere n other = elim (cases_lt n r.skipped) [
+    | inl l ↦ ap (λ b. if b then get_or (set r.words (p - r.skipped) w) (n - r.skipped) 0 else 0) (lt-leb r.skipped n l) ∙ sym (ap (λ b. if b then get_or r.words (n - r.skipped) 0 else 0) (lt-leb r.skipped n l))
+    | inr l ↦ ap (λ v. if leb r.skipped n then v else 0) (get_or-set_other r.words (p - r.skipped) (n - r.skipped) w 0 (λ same. other (omega (arith, same, l, low))))
+  ]
+
+-- the words of a row before place p are those of both, and the others as they were
+pub record UnitedBefore (one other row : Row) (p : ℕ) : Type 0 where
+  pub start : row.start ≡ 0
+  pub first : row.skipped ≡ one.skipped
+  pub each : length row.words ≡ length one.words
+  pub done : (n : ℕ) → n < p → word_of row n ≡ bit_or (word_of one n) (word_of other n)
+  pub rest : (n : ℕ) → p ≤ n → word_of row n ≡ word_of one n
+
+pub united_none : (one other : Row) → one.start ≡ 0 → UnitedBefore one other one other.skipped
+united_none one other start = record {
+  start = start;
+  first = refl;
+  each = refl;
+  done = λ n l. sym (ap (bit_or (word_of one n)) (ap (λ b. if b then get_or other.words (n - other.skipped) 0 else 0) (lt-leb other.skipped n l)) ∙ or_comm (word_of one n) 0);
+  rest = λ n l. refl;
+}
+
+pub united_next : (one other row : Row) (words : List ℕ) (p : ℕ) → row.skipped ≤ p → p < row.skipped + length row.words
+    → words ≡ set row.words (p - row.skipped) (bit_or (word_of row p) (word_of other p)) → UnitedBefore one other row p
+    → UnitedBefore one other (record { start = row.start; skipped = row.skipped; words = words }) (p + 1)
+united_next one other row words p low high are had = subst (λ ws. UnitedBefore one other (record { start = row.start; skipped = row.skipped; words = ws }) (p + 1)) (sym are) (record {
+  start = had.start;
+  first = had.first;
+  each = length-set row.words (p - row.skipped) (bit_or (word_of row p) (word_of other p)) ∙ had.each;
+  done = λ n l. elim (cases_eq n p) [
+    | inl same ↦ subst (λ k. word_of (with_word row p (bit_or (word_of row p) (word_of other p)) low high) k ≡ bit_or (word_of one k) (word_of other k)) (sym same)
+        (word_there row p (bit_or (word_of row p) (word_of other p)) low high ∙ ap (λ w. bit_or w (word_of other p)) (had.rest p (omega arith)))
+    | inr apart ↦ word_elsewhere row p (bit_or (word_of row p) (word_of other p)) low high n apart ∙ had.done n (omega (arith, l, apart))
+  ];
+  rest = λ n l. word_elsewhere row p (bit_or (word_of row p) (word_of other p)) low high n (λ same. absurd (omega (arith, same, l))) ∙ had.rest n (omega (arith, l));
+})
+
+pub united_all : (one other row : Row) (p : ℕ) → one.start ≡ 0 → other.start ≡ 0 → other.skipped + length other.words ≤ p → UnitedBefore one other row p
+    → (d : ℕ) → is_marked row d ≡ (is_marked one d || is_marked other d)
+united_all one other row p start also end had d =
+    marked row had.start d
+    ∙ ap (λ w. is_bit w (d % 64)) (elim (cases_lt (d / 64) p) [
+      | inl l ↦ had.done (d / 64) l
+      | inr l ↦ had.rest (d / 64) l ∙ sym (ap (bit_or (word_of one (d / 64))) (no_word_behind (d / 64) (omega (arith, l, end))) ∙ or_comm (word_of one (d / 64)) 0)
+    ])
+    ∙ bit_of_union (word_of one (d / 64)) (word_of other (d / 64)) (d % 64)
+    ∙ sym (ap2 (λ a b. a || b) (marked one start d) (marked other also d))
+  where
+    no_word_behind : (n : ℕ) → other.skipped + length other.words ≤ n → word_of other n ≡ 0
+    no_word_behind n l = ap (λ b. if b then get_or other.words (n - other.skipped) 0 else 0) (le-leb other.skipped n (omega (arith, l))) ∙ get_or_past other.words (n - other.skipped) 0 (omega (arith, l))
 
 pub rest : (one other : Row) (words : List ℕ) → one.start ≡ 0 → other.start ≡ 0 → length one.words ≤ length words
     → ((i : ℕ) → i < length words → (k : ℕ) → k < 64 → is_bit (get_or words i 0) k ≡ (is_bit (word_of one (one.skipped + i)) k && not (is_bit (word_of other (one.skipped + i)) k)))

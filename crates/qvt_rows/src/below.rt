@@ -1,6 +1,6 @@
 //! Which classes are below each class.
 
-ghost use Rattle.std.specs.Prelude.{◌≡◌, ◌<◌, ℕ, ◌||◌, ◌&&◌, ◌==◌, nat_lt, length, IfOk, IsTrue, OnOk, slice_index_or};
+ghost use Rattle.std.specs.Prelude.{◌≡◌, ◌<◌, ◌+◌, ℕ, ◌||◌, ◌&&◌, ◌==◌, nat_lt, length, IfOk, IsTrue, OnOk, slice_index_or, slice_set};
 ghost use Rattle.std.specs.List.{list_any, list_all};
 ghost use Rattle.qvt_metamodel.specs.Metamodels.{class_at};
 ghost use Rattle.qvt_metamodel.specs.Descends.{reaches};
@@ -8,7 +8,7 @@ ghost use Rattle.qvt_metamodel.specs.Kept.{no_row, is_marked};
 ghost use Rattle.qvt_meta_tables.specs.Tables.{of_classes, IsOrder, EndsWithin};
 ghost use Rattle.qvt_rows.specs.Sets.{handed_on};
 
-use crate::sets::{empty_row, united, with_mark};
+use crate::sets::{bit_of, empty_row, unite};
 use qvt_base::list_fault::ListFault;
 use qvt_base::seq::Seq;
 use qvt_meta_tables::order::Order;
@@ -16,6 +16,21 @@ use qvt_meta_tables::tables::{put, supers_at};
 use qvt_metamodel::info::ClassInfo;
 use qvt_metamodel::row::Row;
 use std::alloc::Global;
+use std::mem;
+
+/// The set of this class alone.
+fn row_of_one(alloc: Global, class: u32) -> Result<Row, ListFault>
+    ensures within { IfOk result (EndsWithin (class + 1)) }
+    ensures own { IfOk result (λ r. (d : ℕ) → is_marked r d ≡ (class == d)) }
+{
+    let mut words = Seq::new(alloc);
+    words.push(bit_of(class))?;
+    Ok(Row {
+        start: 0,
+        skipped: class / 64,
+        words,
+    })
+}
 
 /// For each of as many classes the set of itself alone.
 fn own_rows(alloc: Global, count: u32) -> Result<Vec<Row>, ListFault>
@@ -24,11 +39,19 @@ fn own_rows(alloc: Global, count: u32) -> Result<Vec<Row>, ListFault>
     ensures own { IfOk result (λ v. (c : ℕ) → c < count → (d : ℕ) → is_marked (slice_index_or v.items c no_row) d ≡ (c == d)) }
 {
     let mut rows = Seq::new(alloc);
-    let empty = empty_row(alloc);
     for class in 0..count {
-        rows.push(with_mark(alloc, count, &empty, class)?)?;
+        rows.push(row_of_one(alloc, class)?)?;
     }
     Ok(rows.into_vec())
+}
+
+/// Takes the set of a class out and leaves an empty one.
+fn take_row(alloc: Global, rows: &mut Vec<Row>, class: u32) -> Row
+    requires { class < length rows.old.items }
+    ensures row { result ≡ slice_index_or rows.old.items class no_row }
+    ensures rows { rows.new.items ≡ slice_set rows.old.items class no_row }
+{
+    mem::replace(&mut rows[class as usize], empty_row(alloc))
 }
 
 /// Puts what the set of a class has into those of its superclasses.
@@ -48,11 +71,14 @@ fn hand_on(
     ensures marks { OnOk result ((c d : ℕ) → is_marked (slice_index_or rows.new.items c no_row) d ≡ handed_on rows.old.items class (class_at (of_classes classes.now) class).supers c d) }
 {
     let supers = supers_at(classes, class);
-    for superclass in supers {
-        let at = superclass.0 as usize;
-        let row = united(alloc, bound, &rows[at], &rows[class as usize])?;
-        put(rows, at, row);
+    if supers.is_empty() {
+        return Ok(());
     }
+    let row = take_row(alloc, rows, class);
+    for superclass in supers {
+        unite(alloc, bound, &mut rows[superclass.0 as usize], &row)?;
+    }
+    put(rows, class as usize, row);
     Ok(())
 }
 

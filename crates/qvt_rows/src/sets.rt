@@ -1,9 +1,9 @@
 //! Rows as sets of numbers. Each function takes time in the words of its rows, from the first that
 //! is there to the last.
 
-ghost use Rattle.std.specs.Prelude.{◌≡◌, ◌<◌, ◌≤◌, ◌+◌, ◌↔◌, ℕ, ◌||◌, ◌&&◌, ◌==◌, not, length, IfOk, IsTrue};
+ghost use Rattle.std.specs.Prelude.{◌≡◌, ◌<◌, ◌≤◌, ◌+◌, ◌%◌, ◌^◌, ◌↔◌, ℕ, ◌||◌, ◌&&◌, not, length, IfOk, IsTrue, OnOk};
 ghost use Rattle.qvt_metamodel.specs.Kept.{no_row, is_bit, is_marked};
-ghost use Rattle.qvt_meta_tables.specs.Tables.{EndsWithin, mark_of};
+ghost use Rattle.qvt_meta_tables.specs.Tables.{EndsWithin};
 ghost use Rattle.qvt_rows.specs.Sets.{Overlap, IsSubset};
 
 use qvt_base::list_fault::ListFault;
@@ -32,15 +32,11 @@ fn first_of(place: u32, row: &Row) -> u32
     }
 }
 
-/// The word at a place where this number alone is marked.
-fn mark_at(number: u32, place: u32) -> u64
-    ensures { result ≡ mark_of number place }
+/// The word where the bit of the number alone is.
+pub fn bit_of(number: u32) -> u64
+    ensures { result ≡ 2 ^ (number % 64) }
 {
-    if number / 64 == place {
-        1 << (number % 64)
-    } else {
-        0
-    }
+    1 << (number % 64)
 }
 
 /// The marks of a word that the other does not have.
@@ -61,25 +57,6 @@ pub fn empty_row(alloc: Global) -> Row
     }
 }
 
-/// The set with one number more. Every number in it is below the bound.
-pub fn with_mark(alloc: Global, bound: u32, row: &Row, number: u32) -> Result<Row, ListFault>
-    requires number { number < bound }
-    requires row { EndsWithin bound row.now }
-    ensures marks { IfOk result (λ r. (d : ℕ) → is_marked r d ≡ (is_marked row.now d || (number == d))) }
-    ensures within { IfOk result (λ r. EndsWithin bound r) }
-{
-    let first = first_of(number / 64, row);
-    let mut words = Seq::new(alloc);
-    for place in first..(number / 64 + 1).max(end_of(row, bound)) {
-        words.push(word_of(row, place) | mark_at(number, place))?;
-    }
-    Ok(Row {
-        start: 0,
-        skipped: first,
-        words,
-    })
-}
-
 /// The numbers that are in one of the sets, or in both.
 pub fn united(alloc: Global, bound: u32, one: &Row, other: &Row) -> Result<Row, ListFault>
     requires one { EndsWithin bound one.now }
@@ -98,6 +75,54 @@ pub fn united(alloc: Global, bound: u32, one: &Row, other: &Row) -> Result<Row, 
         skipped: first,
         words,
     })
+}
+
+/// Puts words without marks behind those of a set, so that it ends at this place or later.
+fn lengthen(row: &mut Row, bound: u32, end: u32) -> Result<(), ListFault>
+    requires row { EndsWithin bound row.old }
+    requires end { end ≤ bound }
+    ensures marks { OnOk result ((d : ℕ) → is_marked row.new d ≡ is_marked row.old d) }
+    ensures within { OnOk result (EndsWithin bound row.new) }
+    ensures first { OnOk result (row.new.skipped ≡ row.old.skipped) }
+    ensures end { OnOk result (end ≤ row.new.skipped + length row.new.words) }
+{
+    for place in end_of(row, bound)..end {
+        row.words.push(0)?;
+    }
+    Ok(())
+}
+
+/// Puts the numbers of another set into a set that has words at all places where the other has
+/// some.
+fn put_words(row: &mut Row, bound: u32, other: &Row)
+    requires row { EndsWithin bound row.old }
+    requires other { EndsWithin bound other.now }
+    requires first { row.old.skipped ≤ other.now.skipped }
+    requires end { other.now.skipped + length other.now.words ≤ row.old.skipped + length row.old.words }
+    ensures marks { (d : ℕ) → is_marked row.new d ≡ (is_marked row.old d || is_marked other.now d) }
+    ensures within { EndsWithin bound row.new }
+{
+    for place in other.skipped..end_of(other, bound) {
+        let word = word_of(row, place) | word_of(other, place);
+        row.words.set((place - row.skipped) as usize, word);
+    }
+}
+
+/// Puts the numbers of another set into a set, in time in the words of the other alone where the
+/// set has words from the first of the other to its last.
+pub fn unite(alloc: Global, bound: u32, row: &mut Row, other: &Row) -> Result<(), ListFault>
+    requires row { EndsWithin bound row.old }
+    requires other { EndsWithin bound other.now }
+    ensures marks { OnOk result ((d : ℕ) → is_marked row.new d ≡ (is_marked row.old d || is_marked other.now d)) }
+    ensures within { OnOk result (EndsWithin bound row.new) }
+{
+    if row.words.is_empty() || other.skipped < row.skipped {
+        *row = united(alloc, bound, row, other)?;
+        return Ok(());
+    }
+    lengthen(row, bound, end_of(other, bound))?;
+    put_words(row, bound, other);
+    Ok(())
 }
 
 /// The numbers of the first set that are not in the other.

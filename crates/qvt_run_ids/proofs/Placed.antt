@@ -7,8 +7,8 @@ use Rattle.std.proofs.lemmas.List.{at_drop_more, length-set, get_or-set_same, ge
 use Rattle.qvt_base.specs.declared.numbers.Oid.{Oid}
 use Rattle.qvt_slots.proofs.Lists.{length-map}
 use Rattle.qvt_slots.specs.declared.extent.Extent.{Extent}
-use Rattle.qvt_slots.specs.Contents.{Contents, Instance, no_instance, no_extent, extent_of, is_writable, members_from, members_of}
-use Rattle.qvt_model.specs.Extents.{numbers, place_of}
+use Rattle.qvt_store.specs.Contents.{Contents, Instance, no_instance, no_extent, extent_of, is_writable, members_from, members_of}
+use Rattle.qvt_model.specs.Extents.{numbers, place_within}
 use Rattle.qvt_model.proofs.RunIds.{found}
 use Rattle.qvt_run_ids.specs.Places.{count_at, raised, places_from, no_counts, places_of}
 
@@ -108,7 +108,7 @@ nowhere_from e n (o ∷ os) x h = by (o.extent == e) (nowhere_from e (suc n) os 
         ∙ (let next : 1 + length (numbers later) ≡ suc (length (numbers later)) = omega arith in next)
     by false more = more
 
-nowhere : (s : Contents) (e x : ℕ) → length s.objects ≤ x → place_of (numbers (members_of s e)) x ≡ None
+nowhere : (s : Contents) (e x : ℕ) → length s.objects ≤ x → place_within (numbers (members_of s e)) x ≡ None
 nowhere s e x h =
     let all : List ℕ = numbers (members_of s e) in
     ap (λ k. cond (nat_lt k (length all)) (Some k) None) (nowhere_from e 0 s.objects x (omega arith))
@@ -137,7 +137,7 @@ none_counted [] e = refl
 none_counted (x ∷ xs) zero = refl
 none_counted (x ∷ xs) (suc e) = none_counted xs e
 
-placed : (s : Contents) (x : ℕ) → is_writable s x ≡ true → x < length s.objects → slice_get (places_of s) x ≡ place_of (numbers (members_of s (extent_of s x))) x
+placed : (s : Contents) (x : ℕ) → is_writable s x ≡ true → x < length s.objects → slice_get (places_of s) x ≡ place_within (numbers (members_of s (extent_of s x))) x
 unfolding places_of
 placed s x writable live =
     let e : ℕ = extent_of s x in
@@ -146,13 +146,13 @@ placed s x writable live =
     let place : get_or (places_from (no_counts s) s.objects) x 0 ≡ at.place = at.told ∙ ap (λ k. k + at.place) (none_counted s.extents e) ∙ (let none : 0 + at.place ≡ at.place = omega arith in none) in
     got (places_from (no_counts s) s.objects) x (subst (λ k. x < k) (sym (length_places (no_counts s) s.objects)) live)
     ∙ ap Some place
-    ∙ sym (subst (λ y. place_of (numbers (members_of s e)) y ≡ Some at.place) at.here (found e s.objects at.place at.within))
+    ∙ sym (subst (λ y. place_within (numbers (members_of s e)) y ≡ Some at.place) at.here (found e s.objects at.place at.within))
 
-pub place_found : (s : Contents) (x : ℕ) → is_writable s x ≡ true → slice_get (places_of s) x ≡ place_of (numbers (members_of s (extent_of s x))) x
+pub place_found : (s : Contents) (x : ℕ) → is_writable s x ≡ true → slice_get (places_of s) x ≡ place_within (numbers (members_of s (extent_of s x))) x
 unfolding places_of
 place_found s x writable = by (nat_lt x (length s.objects)) refl
   where
-    by : (b : Bool) → nat_lt x (length s.objects) ≡ b → slice_get (places_of s) x ≡ place_of (numbers (members_of s (extent_of s x))) x
+    by : (b : Bool) → nat_lt x (length s.objects) ≡ b → slice_get (places_of s) x ≡ place_within (numbers (members_of s (extent_of s x))) x
     by true live = placed s x writable (ltb-true x (length s.objects) live)
     by false gone =
         let beyond : length s.objects ≤ x = ltb-false x (length s.objects) gone in

@@ -1,6 +1,6 @@
 -- An object by the name of its model and its id.
 use Rattle.std.specs.Prelude.{ℕ, List, ◌++◌, codes, Option}
-use Rattle.qvt_slots.specs.Contents.{Contents, extent_at, extent_of}
+use Rattle.qvt_store.specs.Contents.{Contents, extent_at, extent_of}
 use Rattle.qvt_model.specs.RunIds.{run_id}
 
 abbrev pub model_name : Contents → ℕ → List ℕ

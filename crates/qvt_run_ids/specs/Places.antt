@@ -1,6 +1,6 @@
 -- Where each object stands in its extent: one walk over the objects, with a count for each extent.
 use Rattle.std.specs.Prelude.{ℕ, ◌+◌, nat_lt, List, [], ◌∷◌, map, slice_index_or, slice_set, length, if◌then◌else◌}
-use Rattle.qvt_slots.specs.Contents.{Instance, Contents}
+use Rattle.qvt_store.specs.Contents.{Instance, Contents}
 
 -- how many objects an extent had so far
 abbrev pub count_at : List ℕ → ℕ → ℕ

@@ -1,8 +1,8 @@
 //! The ids of the objects of a run.
 
 ghost use Rattle.std.specs.Prelude.{◌≡◌, IfOk, IsTrue, Option, option_map};
-ghost use Rattle.qvt_slots.specs.Contents.{extent_of, is_writable, members_of};
-ghost use Rattle.qvt_model.specs.Extents.{numbers, place_of};
+ghost use Rattle.qvt_store.specs.Contents.{extent_of, is_writable, members_of};
+ghost use Rattle.qvt_model.specs.Extents.{numbers, place_within};
 ghost use Rattle.qvt_model.specs.RunIds.{file_id, place_id, run_id};
 ghost use Rattle.qvt_run_ids.specs.Paths.{model_name, object_path};
 ghost use Rattle.qvt_run_ids.specs.Places.{places_of};
@@ -89,7 +89,7 @@ impl<'a> RunIds<'a> {
     /// Where an object of a writable extent stands in it.
     #[tactic(auto, using(crate::proofs::Placed::place_found))]
     fn place(&self, object: Oid) -> Option<u32>
-        ensures { IsTrue (is_writable self.now.store.now object.0) → result ≡ place_of (numbers (members_of self.now.store.now (extent_of self.now.store.now object.0))) object.0 }
+        ensures { IsTrue (is_writable self.now.store.now object.0) → result ≡ place_within (numbers (members_of self.now.store.now (extent_of self.now.store.now object.0))) object.0 }
     {
         self.places.get(object.0 as usize).copied()
     }

@@ -6,8 +6,11 @@ use Rattle.std.specs.Ordering.{is_eq}
 use Rattle.std.specs.declared.cmp.Ordering.{Ordering}
 use Rattle.std.specs.declared.cmp.Ordering.TheVariants.{Less, Equal, Greater}
 use Rattle.std.proofs.lemmas.Bool.Decides.{nat_tests}
+use Rattle.std.proofs.lemmas.List.{map-append}
 use Rattle.std.proofs.lemmas.List.Elements.{filter-append}
 use Rattle.std.proofs.lemmas.List.Folds.{list_any-append}
+use Rattle.qvt_repeats.specs.Repeats.{repeats_by}
+use Rattle.qvt_repeats.proofs.Repeating.{repeats-last}
 use Rattle.qvt_base.specs.declared.numbers.Oid.{Oid}
 use Rattle.qvt_value.specs.declared.value.Value.{Value}
 use Rattle.qvt_value.specs.Order.{order_of}
@@ -82,9 +85,14 @@ unfolding same_key
 key_self a = and_true (a.mapping.0 == a.mapping.0) (same_end a.context a.context && same_values a.args a.args) (nat_self a.mapping.0)
     (and_true (same_end a.context a.context) (same_values a.args a.args) (end_self a.context) (values_self a.args))
 
-turned : (a b : Key) (t : Bool) → same_key b a ≡ t → same_key a b ≡ false → t ≡ false
-turned a b true h e = let q : b ≡ a = key_same b a h in let r : same_key a b ≡ true = ap (same_key a) q ∙ key_self a in absurd (cc)
-turned a b false h e = refl
+key_flip : (a b : Key) → same_key a b ≡ same_key b a
+key_flip a b = by (same_key a b) (same_key b a) refl refl
+  where
+    by : (s t : Bool) → same_key a b ≡ s → same_key b a ≡ t → s ≡ t
+    by true true e h = refl
+    by true false e h = sym (key_self b) ∙ ap (same_key b) (sym (key_same a b e)) ∙ h
+    by false true e h = sym e ∙ ap (same_key a) (key_same b a h) ∙ key_self a
+    by false false e h = refl
 
 -- A record more.
 
@@ -105,17 +113,28 @@ none_of : (o : Option (Option Oid)) → not (is_some o) ≡ true → o ≡ None
 none_of None h = refl
 none_of (Some r) h = absurd (cc)
 
-of_none : (o : Option (Option Oid)) → o ≡ None → not (is_some o) ≡ true
-of_none o h = ap (λ x. not (is_some x)) h
+-- a key is among those of the records where they have a result for it
+among_keys : (k : Key) (rs : List Record) → list_any (same_key k) (map key_of rs) ≡ is_some (result_for k rs)
+among_keys k [] = refl
+among_keys k (r ∷ rs) = ap (λ b. b || list_any (same_key k) (map key_of rs)) (key_flip k (key_of r)) ∙ by (same_key (key_of r) k) (among_keys k rs)
+  where
+    by : (b : Bool) → list_any (same_key k) (map key_of rs) ≡ is_some (result_for k rs) → (b || list_any (same_key k) (map key_of rs)) ≡ is_some (cond b (Some r.result) (result_for k rs))
+    by true rest = refl
+    by false rest = rest
 
 pub differ_more : (rs : List Record) (r : Record) → keys_differ rs ≡ true → result_for (key_of r) rs ≡ None → keys_differ (rs ++ r ∷ []) ≡ true
-differ_more [] r d h = refl
-differ_more (x ∷ rs) r d h =
-    let z = both_true (not (is_some (result_for (key_of x) rs))) (keys_differ rs) d in
-    let w = other (same_key (key_of x) (key_of r)) x.result (result_for (key_of r) rs) h in
-    let free : result_for (key_of x) (rs ++ r ∷ []) ≡ None
-    = result_more (key_of x) rs r (none_of (result_for (key_of x) rs) z.0) (turned (key_of x) (key_of r) (same_key (key_of r) (key_of x)) refl w.0) in
-    and_true (not (is_some (result_for (key_of x) (rs ++ r ∷ [])))) (keys_differ (rs ++ r ∷ [])) (of_none (result_for (key_of x) (rs ++ r ∷ [])) free) (differ_more rs r z.1 w.1)
+differ_more rs r d h =
+    ap (λ ks. not (repeats_by same_key ks)) (map-append key_of rs (r ∷ []))
+    ∙ ap not (repeats-last same_key key_flip (map key_of rs) (key_of r))
+    ∙ ap (λ b. not (b || repeats_by same_key (map key_of rs))) (among_keys (key_of r) rs ∙ ap is_some h) ∙ d
+
+-- the key of the first has no other record, and those of the others differ
+first_differs : (r : Record) (rs : List Record) → keys_differ (r ∷ rs) ≡ true → (result_for (key_of r) rs ≡ None) × (keys_differ rs ≡ true)
+first_differs r rs d = by (list_any (same_key (key_of r)) (map key_of rs)) (among_keys (key_of r) rs) d
+  where
+    by : (b : Bool) → b ≡ is_some (result_for (key_of r) rs) → not (b || repeats_by same_key (map key_of rs)) ≡ true → (result_for (key_of r) rs ≡ None) × (keys_differ rs ≡ true)
+    by true e h = absurd (cc)
+    by false e h = (none_of (result_for (key_of r) rs) (ap not (sym e)), h)
 
 -- Keys that are open.
 
@@ -181,8 +200,8 @@ known_step k r rs v false e n h more = more h
 pub known : (k : Key) (rs : List Record) (v : Option Oid) → keys_differ rs ≡ true → result_for k rs ≡ Some v → results (records_of k rs) ≡ v ∷ []
 known k [] v d h = absurd (cc)
 known k (r ∷ rs) v d h =
-    let z = both_true (not (is_some (result_for (key_of r) rs))) (keys_differ rs) d in
-    known_step k r rs v (same_key (key_of r) k) refl (none_of (result_for (key_of r) rs) z.0) h (λ e. known k rs v z.1 e)
+    let z = first_differs r rs d in
+    known_step k r rs v (same_key (key_of r) k) refl z.0 h (λ e. known k rs v z.1 e)
 
 empty_list : (rs : List Record) → results rs ≡ [] → rs ≡ []
 empty_list [] h = refl

@@ -9,7 +9,7 @@ use Rattle.qvt_value.specs.declared.value.Reason.TheVariants.{NullSource}
 use Rattle.qvt_ocl_words.specs.Collections.{same_kind}
 use Rattle.qvt_ocl_words.specs.Lists.{is_null}
 use Rattle.qvt_slots.specs.Contents.{Contents}
-use Rattle.qvt_slots.specs.Types.{is_bool, is_int, is_text, is_literal, is_instance}
+use Rattle.qvt_slots.specs.Types.{is_bool, is_int, is_text_value, is_literal, is_instance}
 use Rattle.qvt_types_data.specs.Term.{TyTerm, Void, Boolean, Integer, Text, Literals, Class, Collection, ty_view}
 use Rattle.qvt_types_data.specs.declared.ty.Ty.{Ty}
 use Rattle.qvt_run_data.specs.declared.fault.RunFault.TheVariants as fault
@@ -26,7 +26,7 @@ abbrev pub is_sure : Contents → TyTerm → Value → Bool
 is_sure s Void v = false
 is_sure s Boolean v = is_bool v
 is_sure s Integer v = is_int v
-is_sure s Text v = is_text v
+is_sure s Text v = is_text_value v
 is_sure s (Literals m e) v = is_literal s.metas m e v
 is_sure s (Class c) v = is_instance s c v
 is_sure s (Collection k T) v = is_collection_of k (λ w. is_null w || is_sure s T w) v

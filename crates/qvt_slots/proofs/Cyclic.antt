@@ -1,12 +1,12 @@
 -- The test for cycles of containment tells exactly whether an object is inside itself.
 use Rattle.std.proofs.Common.{◌≡◌, ℕ, zero, suc, ◌<◌, true, false, ◌&&◌, refl, List, [], ◌∷◌, length, arith}
 use Rattle.std.specs.Prelude.{slice_index_or}
-use Rattle.qvt_relation.specs.Closure.{Closure, reaches, Decides, IsBelow}
+use Rattle.qvt_relation.specs.Closure.{Closure, reaches_by, Decides, IsBelow}
 use Rattle.qvt_relation.specs.Closure.Closure.{directly as one_step, through as more_steps}
 use Rattle.qvt_relation.proofs.Bools.{and_left, and_right, and_both}
 use Rattle.qvt_relation.proofs.Closures.{any_below-at, any_below-some, first_step, reaches-closure, closure-reaches}
 use Rattle.qvt_metamodel.specs.declared.info.FeatureInfo.{FeatureInfo}
-use Rattle.qvt_metamodel.specs.Metamodels.{Metamodels, is_containment}
+use Rattle.qvt_metas.specs.Metamodels.{Metamodels, is_containment}
 use Rattle.qvt_slots.specs.Slots.{Slots, has, Contains, Inside, directly, through}
 use Rattle.qvt_slots.specs.Assign.{is_in, is_cyclic}
 
@@ -41,7 +41,7 @@ pub record Bounded (s : Slots) (n : ℕ) : Type 0 where
 
 pub cyclic-inside : (m : Metamodels) (s : Slots) (n : ℕ) → is_cyclic m s n ≡ true → (x : ℕ) × (x < n) × Inside m s x x
 cyclic-inside m s n h =
-    let r : (x : ℕ) × (x < n) × (reaches (is_in m s) n x x ≡ true) = any_below-some n (λ x. reaches (is_in m s) n x x) h in
+    let r : (x : ℕ) × (x < n) × (reaches_by (is_in m s) n x x ≡ true) = any_below-some n (λ x. reaches_by (is_in m s) n x x) h in
     (r.0, r.1, closure-inside m s (reaches-closure (is_in m s) (Contains m s) (decides m s) n r.0 r.0 r.2))
 
 pub inside-cyclic : (m : Metamodels) (s : Slots) (n : ℕ) → Bounded s n → (x : ℕ) → Inside m s x x → is_cyclic m s n ≡ true
@@ -49,4 +49,4 @@ inside-cyclic m s n bound x i =
     let p : Closure (Contains m s) x x = inside-closure m s i in
     let below : IsBelow n (Contains m s) = record { starts = λ a b k. bound.held a k.feature b k.held } in
     let next : (w : ℕ) × Contains m s x w = first_step (Contains m s) p in
-    any_below-at n (λ z. reaches (is_in m s) n z z) x (below.starts x next.0 next.1) (closure-reaches (is_in m s) (Contains m s) (decides m s) n below p)
+    any_below-at n (λ z. reaches_by (is_in m s) n z z) x (below.starts x next.0 next.1) (closure-reaches (is_in m s) (Contains m s) (decides m s) n below p)

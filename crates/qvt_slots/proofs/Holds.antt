@@ -5,17 +5,17 @@ use Rattle.std.proofs.lemmas.List.{take_more, get_or-set_same, get_or-set_other,
 use Rattle.std.proofs.lemmas.Bool.{eq-eqb, ne_eqb, cases_eq}
 use Rattle.qvt_base.specs.declared.numbers.Oid.{Oid}
 use Rattle.qvt_value.specs.declared.value.Value.{Value}
-use Rattle.qvt_metamodel.specs.Metamodels.{Metamodels, is_containment, features_of, has_feature}
+use Rattle.qvt_metas.specs.Metamodels.{Metamodels, is_containment, features_of, has_feature}
 use Rattle.qvt_relation.proofs.Bools.{or_left, or_right, or_false}
 use Rattle.qvt_slots.specs.declared.cell.Holder.{Holder}
 use Rattle.qvt_slots.specs.declared.cell.Cell.{Cell}
 use Rattle.qvt_slots.specs.declared.commit.Write.{Write}
 use Rattle.qvt_slots.specs.declared.draft.Draft.{Draft}
 use Rattle.qvt_slots.specs.Slots.{Slots, has, is_object}
-use Rattle.qvt_slots.specs.Change.{among}
+use Rattle.qvt_slots.specs.Change.{among_objects}
 use Rattle.qvt_slots.specs.Contents.{Instance, no_instance, slot_in}
 use Rattle.qvt_slots.specs.Cells.{instance_of, instances, holder_at, holder_in, HaveSlots, SameObjects, IsPut, with_list}
-use Rattle.qvt_slots.specs.Writes.{IsWrite, written, AreWritten, IsHeld, AllLive, AreHeld, or_else, held_by, held_of, AreHeldBy, held_here, AreHeldHere, IsSettled}
+use Rattle.qvt_slots.specs.Writes.{IsWrite, written, AreWritten, IsHeld, AllLive, AreHeld, or_else, held_by, last_holder, AreHeldBy, held_here, AreHeldHere, IsSettled}
 use Rattle.qvt_slots.proofs.Objects.{has-push}
 use Rattle.qvt_slots.proofs.Cells.{length-instances, length-holders, cell-instance, instances-set, holders-set}
 
@@ -62,17 +62,17 @@ held_both old now next p q r holder are so step = record {
     go false true o n k = k
     go false false o n k = k
 
-pub among-push : (os : List Oid) (o : Oid) (z : ℕ) → among (os ++ o ∷ []) z ≡ (among os z || (o.0 == z))
+pub among-push : (os : List Oid) (o : Oid) (z : ℕ) → among_objects (os ++ o ∷ []) z ≡ (among_objects os z || (o.0 == z))
 among-push [] o z = or_false (o.0 == z)
-among-push (p ∷ os) o z = elim (p.0 == z) as (λ b. (b || among (os ++ o ∷ []) z) ≡ ((b || among os z) || (o.0 == z))) [ true ↦ refl | false ↦ among-push os o z ]
+among-push (p ∷ os) o z = elim (p.0 == z) as (λ b. (b || among_objects (os ++ o ∷ []) z) ≡ ((b || among_objects os z) || (o.0 == z))) [ true ↦ refl | false ↦ among-push os o z ]
 
-pub among-more : (os : List Oid) (i : ℕ) (d : Oid) (z : ℕ) → i < length os → among (take (i + 1) os) z ≡ (among (take i os) z || ((get_or os i d).0 == z))
-among-more os i d z h = ap (λ l. among l z) (take_more os i d h) ∙ among-push (take i os) (get_or os i d) z
+pub among-more : (os : List Oid) (i : ℕ) (d : Oid) (z : ℕ) → i < length os → among_objects (take (i + 1) os) z ≡ (among_objects (take i os) z || ((get_or os i d).0 == z))
+among-more os i d z h = ap (λ l. among_objects l z) (take_more os i d h) ∙ among-push (take i os) (get_or os i d) z
 
 pub has-more : (vs : List Value) (i : ℕ) (d : Value) (z : ℕ) → i < length vs → has (take (i + 1) vs) z ≡ (has (take i vs) z || has (get_or vs i d ∷ []) z)
 has-more vs i d z h = ap (λ l. has l z) (take_more vs i d h) ∙ has-push (take i vs) (get_or vs i d) z ∙ ap (λ b. has (take i vs) z || b) (sym (or_false (is_object z (get_or vs i d))))
 
-pub in_among : (os : List Oid) (i : ℕ) (d : Oid) → i < length os → among os (get_or os i d).0 ≡ true
+pub in_among : (os : List Oid) (i : ℕ) (d : Oid) → i < length os → among_objects os (get_or os i d).0 ≡ true
 in_among [] i d h = absurd (omega arith)
 in_among (o ∷ os) zero d h = or_left _ _ (eq-eqb o.0 o.0 refl)
 in_among (o ∷ os) (suc i) d h = or_right (o.0 == (get_or os i d).0) _ (in_among os i d (omega arith))
@@ -88,13 +88,13 @@ live_same old now test e live = record { live = λ y h. subst (λ n. y < n) (sym
 pub one_live : (old now : List Cell) (vs : List Value) (i : ℕ) (d : Value) → i < length vs → AllLive old (has vs) → instances now ≡ instances old → AllLive now (has (get_or vs i d ∷ []))
 one_live old now vs i d h live e = record { live = λ y k. subst (λ n. y < n) (sym (same_count old now e)) (live.live y (in_has vs i d y h (sym (or_false (is_object y (get_or vs i d))) ∙ k))) }
 
-pub held_of-push : (m : Metamodels) (ws : List Write) (w : Write) (z : ℕ) → held_of m (ws ++ w ∷ []) z ≡ or_else (held_by m w z) (held_of m ws z)
+pub held_of-push : (m : Metamodels) (ws : List Write) (w : Write) (z : ℕ) → last_holder m (ws ++ w ∷ []) z ≡ or_else (held_by m w z) (last_holder m ws z)
 held_of-push m [] w z = go (held_by m w z)
   where
     go : (a : Option Holder) → or_else None a ≡ or_else a None
     go None = refl
     go (Some h) = refl
-held_of-push m (v ∷ ws) w z = ap (λ o. or_else o (held_by m v z)) (held_of-push m ws w z) ∙ assoc (held_by m w z) (held_of m ws z) (held_by m v z)
+held_of-push m (v ∷ ws) w z = ap (λ o. or_else o (held_by m v z)) (held_of-push m ws w z) ∙ assoc (held_by m w z) (last_holder m ws z) (held_by m v z)
   where
     assoc : (a b d : Option Holder) → or_else (or_else a b) d ≡ or_else a (or_else b d)
     assoc None b d = refl
@@ -121,7 +121,7 @@ pub by_more : (m : Metamodels) (old now next : List Cell) (ws : List Write) (w :
 by_more m old now next ws w so step = record {
   objects = step.objects ∙ so.objects;
   holders = λ z. step.holders z ∙ ap (λ o. or_else (or_else None (held_by m w z)) o) (so.holders z)
-      ∙ assoc (held_by m w z) (held_of m ws z) (holder_at old z)
+      ∙ assoc (held_by m w z) (last_holder m ws z) (holder_at old z)
       ∙ sym (ap (λ o. or_else o (holder_at old z)) (held_of-push m ws w z));
 }
   where
@@ -185,13 +185,13 @@ not_false true h = refl
 not_false false h = cc
 
 pub here_plain : (m : Metamodels) (d : Draft) (cells : List Cell) → is_containment m d.feature.0 ≡ false → AreHeldHere m d cells cells
-here_plain m d cells k = record { objects = refl; holders = λ z. ap (λ b. or_else (cond (b && among d.added z) (Some (holder_in d.object.0 d.feature.0)) None) (holder_at cells z)) (sym k) }
+here_plain m d cells k = record { objects = refl; holders = λ z. ap (λ b. or_else (cond (b && among_objects d.added z) (Some (holder_in d.object.0 d.feature.0)) None) (holder_at cells z)) (sym k) }
 
-pub here_contained : (m : Metamodels) (d : Draft) (old new : List Cell) → is_containment m d.feature.0 ≡ true → AreHeld old new (among d.added) (Some (holder_in d.object.0 d.feature.0)) → AreHeldHere m d old new
+pub here_contained : (m : Metamodels) (d : Draft) (old new : List Cell) → is_containment m d.feature.0 ≡ true → AreHeld old new (among_objects d.added) (Some (holder_in d.object.0 d.feature.0)) → AreHeldHere m d old new
 here_contained m d old new k is = record {
   objects = is.objects;
-  holders = λ z. is.holders z ∙ go (among d.added z) (holder_in d.object.0 d.feature.0) (holder_at old z)
-      ∙ ap (λ b. or_else (cond (b && among d.added z) (Some (holder_in d.object.0 d.feature.0)) None) (holder_at old z)) (sym k);
+  holders = λ z. is.holders z ∙ go (among_objects d.added z) (holder_in d.object.0 d.feature.0) (holder_at old z)
+      ∙ ap (λ b. or_else (cond (b && among_objects d.added z) (Some (holder_in d.object.0 d.feature.0)) None) (holder_at old z)) (sym k);
 }
   where
     go : (b : Bool) (h : Holder) (o : Option Holder) → cond b (Some h) o ≡ or_else (cond b (Some h) None) o
@@ -199,7 +199,7 @@ here_contained m d old new k is = record {
     go false h o = refl
 
 pub settled : (m : Metamodels) (d : Draft) (old one two three new : List Cell) (ws : List Write) (released : List Oid) →
-    AreHeld old one (among released) None → AreHeldHere m d one two → AreHeldBy m two three ws → AreWritten m three new ws → IsSettled m d old new ws released
+    AreHeld old one (among_objects released) None → AreHeldHere m d one two → AreHeldBy m two three ws → AreWritten m three new ws → IsSettled m d old new ws released
 settled m d old one two three new ws released a h b w =
     let e : instances three ≡ instances old = b.objects ∙ h.objects ∙ a.objects in
     let o : SameObjects m three new = w.objects in
@@ -211,5 +211,5 @@ settled m d old one two three new ws released a h b w =
         have_slots = o.have_slots;
       };
       slots = λ x f. w.slots x f ∙ ap (λ (l : List Instance). written ws (slot_in m l) x f) e;
-      holders = λ z. w.holders z ∙ b.holders z ∙ ap (λ t. or_else (held_of m ws z) t) (h.holders z ∙ ap (λ t. or_else (held_here m d z) t) (a.holders z));
+      holders = λ z. w.holders z ∙ b.holders z ∙ ap (λ t. or_else (last_holder m ws z) t) (h.holders z ∙ ap (λ t. or_else (held_here m d z) t) (a.holders z));
     }

@@ -6,7 +6,7 @@ use Rattle.std.proofs.lemmas.Bool.Decides.{Decides-eqb}
 use Rattle.std.proofs.lemmas.List.{get_or-set_same, get_or-set_other, length-set}
 use Rattle.qvt_base.specs.declared.numbers.FeatureNo.{FeatureNo}
 use Rattle.qvt_value.specs.declared.value.Value.{Value}
-use Rattle.qvt_metamodel.specs.Metamodels.{Metamodels, among_features, features_of, has_feature}
+use Rattle.qvt_metas.specs.Metamodels.{Metamodels, among_features, features_of, has_feature}
 use Rattle.qvt_relation.proofs.Bools.{or_cases}
 use Rattle.qvt_slots.specs.Contents.{Instance, Contents, no_instance, object_at, class_of, extent_of, is_live, list_of, slot_in, slot_of, set_list, set_slot, with_new, with_slot}
 use Rattle.qvt_slots.specs.Cells.{with_list}

@@ -4,10 +4,10 @@ use Rattle.std.specs.Prelude.{filter}
 use Rattle.qvt_value.specs.declared.value.Value.{Value}
 use Rattle.qvt_value.specs.declared.value.Value.TheVariants.{Bool as BoolValue, Int as IntValue, Str as StrValue, Enum as EnumValue, Obj}
 use Rattle.qvt_slots.specs.Slots.{is_object_with, has}
-use Rattle.qvt_slots.specs.Change.{among, oid_of, objects_beyond}
+use Rattle.qvt_slots.specs.Change.{among_objects, oid_of, objects_beyond}
 use Rattle.qvt_slots.specs.Numbers.{objects_past}
 
-among_past : (vs : List Value) (y : ℕ) → among (objects_past [] vs) y ≡ has vs y
+among_past : (vs : List Value) (y : ℕ) → among_objects (objects_past [] vs) y ≡ has vs y
 among_past [] y = refl
 among_past (Obj x ∷ vs) y = ap (λ b. (x.0 == y) || b) (among_past vs y)
 among_past (BoolValue b ∷ vs) y = among_past vs y

@@ -8,7 +8,7 @@ use Rattle.qvt_value.specs.declared.value.Value.{Value}
 use Rattle.qvt_value.specs.declared.value.Value.TheVariants.{Obj}
 use Rattle.qvt_relation.proofs.Bools.{and_left, and_right, or_cases, or_left, none_left, none_right, not_true, or_false, clash, refuted}
 use Rattle.qvt_slots.specs.Slots.{object_in, passes, is_object_with, is_object, has}
-use Rattle.qvt_slots.specs.Change.{object_value, oid_of, is_new_object, objects_beyond, among, is_some_object}
+use Rattle.qvt_slots.specs.Change.{object_value, oid_of, is_new_object, objects_beyond, among_objects, is_some_object}
 
 step : (l ly e : Bool) (kept rest : Bool) → (e ≡ true → l ≡ ly) → kept ≡ (rest && not ly) →
     cond (not l) (e || kept) kept ≡ ((e || rest) && not ly)
@@ -85,29 +85,29 @@ one_object (v ∷ []) a b l p q =
 one_object (v ∷ w ∷ vs) a b l p q = absurd (omega arith)
 
 -- the objects beyond another list
-pub beyond-is : (others vs : List Value) (y : ℕ) → among (objects_beyond others vs) y ≡ (has vs y && not (has others y))
+pub beyond-is : (others vs : List Value) (y : ℕ) → among_objects (objects_beyond others vs) y ≡ (has vs y && not (has others y))
 beyond-is others [] y = refl
 beyond-is others (Obj o ∷ vs) y =
     pushed (not (has others o.0)) (filter (is_new_object others) vs)
-    ∙ step (has others o.0) (has others y) (o.0 == y) (among (objects_beyond others vs) y) (has vs y) (λ e. ap (has others) ((Decides-eqb o.0 y).0 e)) (beyond-is others vs y)
+    ∙ step (has others o.0) (has others y) (o.0 == y) (among_objects (objects_beyond others vs) y) (has vs y) (λ e. ap (has others) ((Decides-eqb o.0 y).0 e)) (beyond-is others vs y)
   where
-    pushed : (b : Bool) (xs : List Value) → among (map oid_of (cond b (Obj o ∷ xs) xs)) y ≡ cond b ((o.0 == y) || among (map oid_of xs) y) (among (map oid_of xs) y)
+    pushed : (b : Bool) (xs : List Value) → among_objects (map oid_of (cond b (Obj o ∷ xs) xs)) y ≡ cond b ((o.0 == y) || among_objects (map oid_of xs) y) (among_objects (map oid_of xs) y)
     pushed true xs = refl
     pushed false xs = refl
 beyond-is others (v ∷ vs) y = beyond-is others vs y
 
-pub some_among : (os : List Oid) (y : ℕ) → among os y ≡ true → is_some_object os ≡ true
+pub some_among : (os : List Oid) (y : ℕ) → among_objects os y ≡ true → is_some_object os ≡ true
 some_among [] y h = cc
 some_among (o ∷ os) y h = refl
 
-pub first_among : (os : List Oid) → is_some_object os ≡ true → (y : ℕ) × (among os y ≡ true)
+pub first_among : (os : List Oid) → is_some_object os ≡ true → (y : ℕ) × (among_objects os y ≡ true)
 first_among [] h = cc
 first_among (o ∷ os) h = (o.0, or_left _ _ ((Decides-eqb o.0 o.0).1 refl))
 
 -- where the one new item is an old one, nothing is beyond
 pub none_beyond : (others vs : List Value) (y : ℕ) → length vs ≤ 1 → has vs y ≡ true → has others y ≡ true → is_some_object (objects_beyond others vs) ≡ false
 none_beyond others vs y l h was = refuted _ (λ some.
-    let r : (z : ℕ) × (among (objects_beyond others vs) z ≡ true) = first_among (objects_beyond others vs) some in
+    let r : (z : ℕ) × (among_objects (objects_beyond others vs) z ≡ true) = first_among (objects_beyond others vs) some in
     let b : (has vs r.0 && not (has others r.0)) ≡ true = sym (beyond-is others vs r.0) ∙ r.1 in
     let same : r.0 ≡ y = one_object vs r.0 y l (and_left _ _ b) h in
     clash (has others y) was (subst (λ n. has others n ≡ false) same (not_true _ (and_right (has vs r.0) _ b))))
@@ -118,6 +118,6 @@ none_beyond_all others vs all = empty (objects_beyond others vs) (λ y. refuted 
     let b : (has vs y && not (has others y)) ≡ true = sym (beyond-is others vs y) ∙ h in
     clash _ (all y (and_left _ _ b)) (not_true _ (and_right (has vs y) _ b))))
   where
-    empty : (os : List Oid) → ((y : ℕ) → among os y ≡ false) → os ≡ []
+    empty : (os : List Oid) → ((y : ℕ) → among_objects os y ≡ false) → os ≡ []
     empty [] h = refl
-    empty (o ∷ os) h = clash (among (o ∷ os) o.0) (or_left _ _ ((Decides-eqb o.0 o.0).1 refl)) (h o.0)
+    empty (o ∷ os) h = clash (among_objects (o ∷ os) o.0) (or_left _ _ ((Decides-eqb o.0 o.0).1 refl)) (h o.0)

@@ -7,7 +7,7 @@ use Rattle.std.proofs.lemmas.List.Quantifiers.{position-Some}
 use Rattle.std.proofs.lemmas.Bool.Decides.{Decides-eqb}
 use Rattle.qvt_base.specs.declared.numbers.FeatureNo.{FeatureNo}
 use Rattle.qvt_value.specs.declared.value.Value.{Value}
-use Rattle.qvt_metamodel.specs.Metamodels.{among_features}
+use Rattle.qvt_metas.specs.Metamodels.{among_features}
 use Rattle.qvt_metamodel.proofs.Positions.{any-within}
 use Rattle.qvt_relation.proofs.Bools.{or_none, refuted, clash}
 use Rattle.qvt_slots.specs.Cells.{IsPlaceOf}

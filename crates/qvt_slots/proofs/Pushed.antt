@@ -7,7 +7,7 @@ use Rattle.std.proofs.lemmas.Bool.{cases_eq, ne_eqb}
 use Rattle.qvt_value.specs.declared.value.Value.{Value}
 use Rattle.qvt_slots.specs.declared.cell.Cell.{Cell}
 use Rattle.qvt_slots.specs.Cells.{instance_of, holder_at, IsSameCells, IsPut}
-use Rattle.qvt_metamodel.specs.Metamodels.{Metamodels}
+use Rattle.qvt_metas.specs.Metamodels.{Metamodels}
 use Rattle.qvt_slots.proofs.Cells.{cell-holder}
 use Rattle.qvt_slots.proofs.Holds.{hold_is}
 use Rattle.qvt_slots.specs.Writes.{IsHeld}

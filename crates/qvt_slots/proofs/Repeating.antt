@@ -13,7 +13,7 @@ use Rattle.qvt_value.specs.Kept.{is_same, firsts}
 use Rattle.qvt_value.specs.Order.{order_of}
 use Rattle.qvt_value.proofs.KeptItems.{same_is}
 use Rattle.qvt_value.proofs.OrderOfValues.{total, exact, itself}
-use Rattle.qvt_metamodel.specs.Metamodels.{Metamodels, is_one, shape_of}
+use Rattle.qvt_metas.specs.Metamodels.{Metamodels, is_one, shape_of}
 use Rattle.qvt_relation.proofs.Bools.{or_none, none_left, none_right, same_test}
 use Rattle.qvt_repeats.proofs.Repeating as general
 use Rattle.qvt_repeats.proofs.Repeating.{any-last}

@@ -6,8 +6,8 @@ use Rattle.qvt_value.specs.declared.value.Value.{Value}
 use Rattle.qvt_value.specs.declared.value.Value.TheVariants.{Obj}
 use Rattle.qvt_metamodel.specs.declared.info.TypeKind.{TypeKind}
 use Rattle.qvt_metamodel.specs.declared.info.TypeKind.TheVariants.{Bool as BoolKind, Int as IntKind, Str as StrKind, Enum as EnumKind, Class as ClassKind}
-use Rattle.qvt_metamodel.specs.Metamodels.{shape_of}
-use Rattle.qvt_metamodel.specs.Descends.{descends, is_class_type}
+use Rattle.qvt_metas.specs.Metamodels.{shape_of}
+use Rattle.qvt_metas.specs.Descends.{descends, is_class_type}
 use Rattle.qvt_relation.proofs.Bools.{and_left, and_right, and_both}
 use Rattle.qvt_slots.specs.Slots.{object_in, passes, has}
 use Rattle.qvt_slots.specs.Contents.{Contents, is_live, class_of}

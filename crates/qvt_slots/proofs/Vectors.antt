@@ -5,8 +5,8 @@ use Rattle.qvt_base.specs.declared.numbers.FeatureNo.{FeatureNo}
 use Rattle.qvt_value.specs.declared.value.Value.{Value}
 use Rattle.qvt_metamodel.specs.declared.info.TypeKind.TheVariants.{Class as ClassKind}
 use Rattle.qvt_metamodel.specs.declared.info.FeatureInfo.{FeatureInfo}
-use Rattle.qvt_metamodel.specs.Metamodels.{Metamodels, features_of}
-use Rattle.qvt_relation.specs.Closure.{reaches}
+use Rattle.qvt_metas.specs.Metamodels.{Metamodels, features_of}
+use Rattle.qvt_relation.specs.Closure.{reaches_by}
 use Rattle.qvt_slots.specs.declared.fault.StoreFault.TheVariants.{TooMany, ContainmentCycle, ReadOnly, CrossModel}
 use Rattle.qvt_slots.specs.Change.{object_value}
 use Rattle.qvt_slots.specs.Contents.{Contents, Instance}
@@ -66,7 +66,7 @@ item owner holder = record { class = 1; extent = 0; slots = owner ∷ holder ∷
 -- one statement changes four slots: an item moves from the parts of one box to the extras of another
 four_slots : append (of (box (obj 2 ∷ []) [] ∷ box [] [] ∷ item (obj 0 ∷ []) [] ∷ [])) 1 2 (obj 2)
     ≡ Ok (of (box [] [] ∷ box [] (obj 2 ∷ []) ∷ item [] (obj 1 ∷ []) ∷ []))
-unfolding reaches features_of
+unfolding reaches_by features_of
 four_slots = refl
 
 abbrev node : List Value → List Value → List Value → Instance
@@ -78,26 +78,26 @@ family = of (node (obj 1 ∷ []) [] [] ∷ node [] (obj 0 ∷ []) [] ∷ node []
 
 -- a kid moves to another parent
 moved : assign family 2 4 (obj 1 ∷ []) ≡ Ok (of (node [] [] [] ∷ node [] (obj 2 ∷ []) [] ∷ node (obj 1 ∷ []) [] [] ∷ []))
-unfolding reaches features_of
+unfolding reaches_by features_of
 moved = refl
 
 -- and by its own end
 moved_by_parent : assign family 1 5 (obj 2 ∷ []) ≡ Ok (of (node [] [] [] ∷ node [] (obj 2 ∷ []) [] ∷ node (obj 1 ∷ []) [] [] ∷ []))
-unfolding reaches features_of
+unfolding reaches_by features_of
 moved_by_parent = refl
 
 -- between two containments of one parent
 moved_within : assign family 0 6 (obj 1 ∷ []) ≡ Ok (of (node [] [] (obj 1 ∷ []) ∷ node [] [] [] ∷ node [] [] [] ∷ []))
-unfolding reaches features_of
+unfolding reaches_by features_of
 moved_within = refl
 
 -- a kid leaves
 emptied : assign family 0 4 [] ≡ Ok (of (node [] [] [] ∷ node [] [] [] ∷ node [] [] [] ∷ []))
-unfolding reaches features_of
+unfolding reaches_by features_of
 emptied = refl
 
 inside_itself : assign family 1 4 (obj 0 ∷ []) ≡ Err ContainmentCycle
-unfolding reaches features_of
+unfolding reaches_by features_of
 inside_itself = refl
 
 two_parents : assign family 1 5 (obj 0 ∷ obj 2 ∷ []) ≡ Err TooMany
@@ -106,7 +106,7 @@ two_parents = refl
 
 -- an equal value twice counts once
 repeated : assign family 2 4 (obj 1 ∷ obj 1 ∷ []) ≡ Ok (of (node [] [] [] ∷ node [] (obj 2 ∷ []) [] ∷ node (obj 1 ∷ []) [] [] ∷ []))
-unfolding reaches features_of
+unfolding reaches_by features_of
 repeated = refl
 
 abbrev known : ℕ → List Value → List Value → Instance
@@ -115,19 +115,19 @@ known e friends fans = record { class = 2; extent = e; slots = [] ∷ [] ∷ [] 
 -- an added opposite stands at the end of the opposite slot
 friends : append (of (known 0 (obj 2 ∷ []) [] ∷ known 0 [] [] ∷ known 0 [] (obj 0 ∷ []) ∷ [])) 1 7 (obj 2)
     ≡ Ok (of (known 0 (obj 2 ∷ []) [] ∷ known 0 (obj 2 ∷ []) [] ∷ known 0 [] (obj 0 ∷ obj 1 ∷ []) ∷ []))
-unfolding reaches features_of
+unfolding reaches_by features_of
 friends = refl
 
 -- the opposite slot is full
 too_many_fans : append (of (known 0 (obj 2 ∷ []) [] ∷ known 0 [] [] ∷ known 0 [] (obj 0 ∷ obj 2 ∷ []) ∷ [])) 1 7 (obj 2) ≡ Err TooMany
-unfolding reaches features_of
+unfolding reaches_by features_of
 too_many_fans = refl
 
 -- an extent that is not writable, and an object of another one
 read_only : assign (of (known 1 [] [] ∷ known 0 [] [] ∷ [])) 0 7 [] ≡ Err ReadOnly
-unfolding reaches features_of
+unfolding reaches_by features_of
 read_only = refl
 
 other_model : assign (of (known 1 [] [] ∷ known 0 [] [] ∷ [])) 1 7 (obj 0 ∷ []) ≡ Err CrossModel
-unfolding reaches features_of
+unfolding reaches_by features_of
 other_model = refl

@@ -3,14 +3,14 @@ use Rattle.std.proofs.Common.{◌≡◌, ℕ, zero, suc, ◌+◌, ◌<◌, ◌�
 use Rattle.std.specs.Prelude.{Some, None}
 use Rattle.std.proofs.lemmas.Bool.{cases_lt, cases_eq}
 use Rattle.qvt_base.specs.declared.numbers.Oid.{Oid}
-use Rattle.qvt_metamodel.specs.Metamodels.{Metamodels, is_containment}
-use Rattle.qvt_relation.specs.Closure.{reaches}
+use Rattle.qvt_metas.specs.Metamodels.{Metamodels, is_containment}
+use Rattle.qvt_relation.specs.Closure.{reaches_by}
 use Rattle.qvt_relation.proofs.Bools.{either, clash}
 use Rattle.qvt_relation.proofs.Closures.{reaches-step, reaches-join, reaches-closure}
 use Rattle.qvt_slots.specs.declared.cell.Holder.{Holder}
 use Rattle.qvt_slots.specs.declared.cell.Cell.{Cell}
 use Rattle.qvt_slots.specs.Slots.{Slots, has, Contains, Inside, directly, through}
-use Rattle.qvt_slots.specs.Change.{among}
+use Rattle.qvt_slots.specs.Change.{among_objects}
 use Rattle.qvt_slots.specs.Contents.{slot_in}
 use Rattle.qvt_slots.specs.Assign.{is_in}
 use Rattle.qvt_slots.specs.Cells.{instances, holder_at, holder_in, AreWhole}
@@ -80,7 +80,7 @@ count-lt (suc n) p q z h l pz qz = elim (cases_eq z n) [
 pub record Walked (m : Metamodels) (cells : List Cell) (objects : List Oid) (start at : ℕ) : Type 0 where
   pub live : at < length cells
   pub reached : IsOver m (slot_in m (instances cells)) at start
-  pub passed : (y : ℕ) → among objects y ≡ true → IsOver m (slot_in m (instances cells)) y start → IsOver m (slot_in m (instances cells)) y at
+  pub passed : (y : ℕ) → among_objects objects y ≡ true → IsOver m (slot_in m (instances cells)) y start → IsOver m (slot_in m (instances cells)) y at
 
 module _ (m : Metamodels) (cells : List Cell) (whole : AreWhole m cells) where
   abbrev s : Slots
@@ -117,10 +117,10 @@ module _ (m : Metamodels) (cells : List Cell) (whole : AreWhole m cells) where
       let k : Contains m s h.object.0 at = container at h e in
       let step : is_in m s h.object.0 at ≡ true = contains-is_in m s h.object.0 at k in
       let n = length cells in
-      count-lt n (λ y. reaches (is_in m s) n y h.object.0) (λ y. reaches (is_in m s) n y at) h.object.0
+      count-lt n (λ y. reaches_by (is_in m s) n y h.object.0) (λ y. reaches_by (is_in m s) n y at) h.object.0
       (λ y r. reaches-join (is_in m s) n y h.object.0 at (container_live at h e) r (reaches-step (is_in m s) n h.object.0 at step))
       (container_live at h e)
-      (elim (either (reaches (is_in m s) n h.object.0 h.object.0)) [
+      (elim (either (reaches_by (is_in m s) n h.object.0 h.object.0)) [
         | inl loop ↦ absurd (whole.acyclic h.object.0 (closure-inside m s (reaches-closure (is_in m s) (Contains m s) (decides m s) n h.object.0 h.object.0 loop)))
         | inr no' ↦ no'
       ])
@@ -129,21 +129,21 @@ module _ (m : Metamodels) (cells : List Cell) (whole : AreWhole m cells) where
   pub walk_starts : (objects : List Oid) (start : ℕ) → start < length cells → Walked m cells objects start start
   walk_starts objects start live = record { live = live; reached = inl refl; passed = λ y _ over. over }
 
-  pub walk_goes_on : (objects : List Oid) (start at : ℕ) (h : Holder) → Walked m cells objects start at → among objects at ≡ false → holder_at cells at ≡ Some h → Walked m cells objects start h.object.0
+  pub walk_goes_on : (objects : List Oid) (start at : ℕ) (h : Holder) → Walked m cells objects start at → among_objects objects at ≡ false → holder_at cells at ≡ Some h → Walked m cells objects start h.object.0
   walk_goes_on objects start at h w free e = record {
     live = container_live at h e;
     reached = inr (inside_directly m s h.object.0 at start (container at h e) w.reached);
     passed = λ y listed over. elim (w.passed y listed over) [
-      | inl same ↦ clash _ listed (subst (λ n. among objects n ≡ false) (sym same) free)
+      | inl same ↦ clash _ listed (subst (λ n. among_objects objects n ≡ false) (sym same) free)
       | inr more ↦ over_next y at h e more
     ];
   }
 
-  pub walk_finds : (objects : List Oid) (start at : ℕ) → Walked m cells objects start at → among objects at ≡ true → SomeOver m s objects start
+  pub walk_finds : (objects : List Oid) (start at : ℕ) → Walked m cells objects start at → among_objects objects at ≡ true → SomeOver m s objects start
   walk_finds objects start at w listed = record { object = at; listed = listed; over = w.reached }
 
-  pub walk_ends : (objects : List Oid) (start at : ℕ) → Walked m cells objects start at → among objects at ≡ false → holder_at cells at ≡ None → SomeOver m s objects start → ⊥
+  pub walk_ends : (objects : List Oid) (start at : ℕ) → Walked m cells objects start at → among_objects objects at ≡ false → holder_at cells at ≡ None → SomeOver m s objects start → ⊥
   walk_ends objects start at w free e some = elim (w.passed some.object some.listed some.over) [
-    | inl same ↦ clash _ some.listed (subst (λ n. among objects n ≡ false) (sym same) free)
+    | inl same ↦ clash _ some.listed (subst (λ n. among_objects objects n ≡ false) (sym same) free)
     | inr more ↦ at_top some.object at e more
   ]

@@ -4,8 +4,8 @@ use Rattle.std.specs.List.{list_any}
 use Rattle.qvt_base.specs.declared.numbers.FeatureNo.{FeatureNo}
 use Rattle.qvt_base.specs.declared.numbers.Oid.{Oid}
 use Rattle.qvt_value.specs.declared.value.Value.{Value}
-use Rattle.qvt_metamodel.specs.Metamodels.{Metamodels, features_of, shape_of, opposite, is_containment}
-use Rattle.qvt_relation.specs.Closure.{any_below, reaches}
+use Rattle.qvt_metas.specs.Metamodels.{Metamodels, features_of, shape_of, opposite, is_containment}
+use Rattle.qvt_relation.specs.Closure.{any_below, reaches_by}
 use Rattle.qvt_slots.specs.declared.fault.StoreFault.{StoreFault}
 use Rattle.qvt_slots.specs.declared.fault.StoreFault.TheVariants.{TooMany, ContainmentCycle, ReadOnly, CrossModel}
 use Rattle.qvt_slots.specs.declared.op.SetOp.{SetOp}
@@ -51,7 +51,7 @@ abbrev pub is_in : Metamodels → Slots → ℕ → ℕ → Bool
 is_in m s x y = any_below (length m.features) (λ f. is_containment m f && has (s x f) y)
 
 abbrev pub is_cyclic : Metamodels → Slots → ℕ → Bool
-is_cyclic m s n = any_below n (λ x. reaches (is_in m s) n x x)
+is_cyclic m s n = any_below n (λ x. reaches_by (is_in m s) n x x)
 
 -- ReadOnly: the object is in an extent of direction in
 abbrev pub is_read_only : Contents → ℕ → Bool

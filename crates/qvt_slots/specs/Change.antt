@@ -6,7 +6,7 @@ use Rattle.qvt_base.specs.declared.numbers.FeatureNo.{FeatureNo}
 use Rattle.qvt_base.specs.declared.numbers.Oid.{Oid}
 use Rattle.qvt_value.specs.declared.value.Value.{Value}
 use Rattle.qvt_value.specs.declared.value.Value.TheVariants.{Obj}
-use Rattle.qvt_metamodel.specs.Metamodels.{Metamodels, opposite, is_opposite, is_containment, is_single}
+use Rattle.qvt_metas.specs.Metamodels.{Metamodels, opposite, is_opposite, is_containment, is_single}
 use Rattle.qvt_slots.specs.Slots.{Slots, is_object_with, has}
 
 abbrev pub object_value : ℕ → Value
@@ -23,8 +23,8 @@ is_new_object others v = is_object_with (λ y. not (has others y)) v
 abbrev pub objects_beyond : List Value → List Value → List Oid
 objects_beyond others vs = map oid_of (filter (is_new_object others) vs)
 
-abbrev pub among : List Oid → ℕ → Bool
-among os y = list_any (λ o. o.0 == y) os
+abbrev pub among_objects : List Oid → ℕ → Bool
+among_objects os y = list_any (λ o. o.0 == y) os
 
 abbrev pub is_some_object : List Oid → Bool
 is_some_object [] = false
@@ -43,10 +43,10 @@ abbrev pub is_here : Change → ℕ → ℕ → Bool
 is_here c x f = (x == c.object) && (f == c.feature)
 
 abbrev pub is_added : Change → ℕ → Bool
-is_added c y = among c.added y
+is_added c y = among_objects c.added y
 
 abbrev pub is_removed : Change → ℕ → Bool
-is_removed c y = among c.removed y
+is_removed c y = among_objects c.removed y
 
 abbrev pub names_containment : Metamodels → Option FeatureNo → Bool
 names_containment m None = false

@@ -5,8 +5,8 @@ use Rattle.qvt_base.specs.declared.numbers.FeatureNo.{FeatureNo}
 use Rattle.qvt_base.specs.declared.numbers.Oid.{Oid}
 use Rattle.qvt_value.specs.declared.value.Value.{Value}
 use Rattle.qvt_slots.specs.declared.extent.Extent.{Extent}
-use Rattle.qvt_metamodel.specs.Metamodels.{Metamodels, features_of, has_feature}
-use Rattle.qvt_metamodel.specs.Named.{metamodel_at}
+use Rattle.qvt_metas.specs.Metamodels.{Metamodels, features_of, has_feature}
+use Rattle.qvt_metas.specs.Named.{metamodel_at}
 use Rattle.qvt_slots.specs.Slots.{Slots, has}
 
 -- `slots` has the list of each feature of the class, in their order

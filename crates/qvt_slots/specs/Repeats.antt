@@ -4,7 +4,7 @@ use Rattle.qvt_repeats.specs.Repeats.{repeats_by}
 use Rattle.qvt_value.specs.declared.value.Value.{Value}
 use Rattle.qvt_value.specs.Kept.{is_same, firsts}
 use Rattle.qvt_value.specs.Order.{order_of}
-use Rattle.qvt_metamodel.specs.Metamodels.{Metamodels, shape_of}
+use Rattle.qvt_metas.specs.Metamodels.{Metamodels, shape_of}
 use Rattle.qvt_slots.specs.Contents.{Contents, slot_of}
 
 abbrev pub repeats : List Value → Bool

@@ -3,7 +3,7 @@ use Rattle.std.specs.Prelude.{◌≡◌, ℕ, Bool, false, ◌==◌, List, IsTru
 use Rattle.std.specs.List.{list_any}
 use Rattle.qvt_value.specs.declared.value.Value.{Value}
 use Rattle.qvt_value.specs.declared.value.Value.TheVariants.{Obj}
-use Rattle.qvt_metamodel.specs.Metamodels.{Metamodels, is_opposite, is_containment}
+use Rattle.qvt_metas.specs.Metamodels.{Metamodels, is_opposite, is_containment}
 
 -- the list of each slot, by object and feature
 abbrev pub Slots : Type 0

@@ -7,9 +7,9 @@ use Rattle.qvt_value.specs.declared.value.Value.{Value}
 use Rattle.qvt_value.specs.declared.value.Value.TheVariants.{Bool as BoolValue, Int as IntValue, Str as StrValue, Enum as EnumValue}
 use Rattle.qvt_metamodel.specs.declared.info.TypeKind.{TypeKind}
 use Rattle.qvt_metamodel.specs.declared.info.TypeKind.TheVariants.{Bool as BoolKind, Int as IntKind, Str as StrKind, Enum as EnumKind, Class as ClassKind}
-use Rattle.qvt_metamodel.specs.Metamodels.{Metamodels, shape_of, is_single, has_feature}
-use Rattle.qvt_metamodel.specs.Named.{enumeration_at}
-use Rattle.qvt_metamodel.specs.Descends.{descends, is_class_type}
+use Rattle.qvt_metas.specs.Metamodels.{Metamodels, shape_of, is_single, has_feature}
+use Rattle.qvt_metas.specs.Named.{enumeration_at}
+use Rattle.qvt_metas.specs.Descends.{descends, is_class_type}
 use Rattle.qvt_slots.specs.Slots.{is_object_with}
 use Rattle.qvt_slots.specs.Contents.{Contents, is_live, is_writable, class_of, slot_of}
 
@@ -21,9 +21,9 @@ abbrev pub is_int : Value → Bool
 is_int (IntValue n) = true
 is_int _ = false
 
-abbrev pub is_text : Value → Bool
-is_text (StrValue t) = true
-is_text _ = false
+abbrev pub is_text_value : Value → Bool
+is_text_value (StrValue t) = true
+is_text_value _ = false
 
 -- a literal that is there, of enumeration e of metamodel k
 abbrev pub is_literal : Metamodels → ℕ → ℕ → Value → Bool
@@ -37,7 +37,7 @@ is_instance s d v = is_object_with (λ y. is_live s y && descends s.metas (class
 abbrev pub is_of_kind : Contents → TypeKind → Value → Bool
 is_of_kind s BoolKind v = is_bool v
 is_of_kind s IntKind v = is_int v
-is_of_kind s StrKind v = is_text v
+is_of_kind s StrKind v = is_text_value v
 is_of_kind s (EnumKind k e) v = is_literal s.metas k e v
 is_of_kind s (ClassKind c) v = is_instance s c.0 v
 

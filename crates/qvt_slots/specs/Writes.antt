@@ -2,13 +2,13 @@
 use Rattle.std.specs.Prelude.{◌≡◌, ℕ, ◌<◌, Bool, List, [], ◌∷◌, ◌++◌, length, IsTrue, Option, Some, None, ◌==◌, ◌&&◌, if◌then◌else◌}
 use Rattle.std.specs.List.{flat_map}
 use Rattle.qvt_base.specs.declared.numbers.Oid.{Oid}
-use Rattle.qvt_metamodel.specs.Metamodels.{Metamodels, has_feature, is_containment}
+use Rattle.qvt_metas.specs.Metamodels.{Metamodels, has_feature, is_containment}
 use Rattle.qvt_slots.specs.declared.cell.Holder.{Holder}
 use Rattle.qvt_slots.specs.declared.cell.Cell.{Cell}
 use Rattle.qvt_slots.specs.declared.commit.Write.{Write}
 use Rattle.qvt_slots.specs.declared.draft.Draft.{Draft}
 use Rattle.qvt_slots.specs.Slots.{Slots, has}
-use Rattle.qvt_slots.specs.Change.{among, objects_beyond}
+use Rattle.qvt_slots.specs.Change.{among_objects, objects_beyond}
 use Rattle.qvt_slots.specs.Contents.{slot_in}
 use Rattle.qvt_slots.specs.Cells.{instances, instance_in, holder_at, holder_in, SameObjects, with_list}
 
@@ -49,17 +49,17 @@ abbrev pub held_by : Metamodels → Write → ℕ → Option Holder
 held_by m w z = if is_containment m w.feature.0 && has w.items z then Some (holder_in w.object.0 w.feature.0) else None
 
 -- the holder that the last of the writes gives
-abbrev pub held_of : Metamodels → List Write → ℕ → Option Holder
-held_of m [] z = None
-held_of m (w ∷ ws) z = or_else (held_of m ws z) (held_by m w z)
+abbrev pub last_holder : Metamodels → List Write → ℕ → Option Holder
+last_holder m [] z = None
+last_holder m (w ∷ ws) z = or_else (last_holder m ws z) (held_by m w z)
 
 pub record AreHeldBy (m : Metamodels) (old new : List Cell) (ws : List Write) : Type 0 where
   pub objects : instances new ≡ instances old
-  pub holders : (z : ℕ) → holder_at new z ≡ or_else (held_of m ws z) (holder_at old z)
+  pub holders : (z : ℕ) → holder_at new z ≡ or_else (last_holder m ws z) (holder_at old z)
 
 -- the holder that the changed slot gives to an added object
 abbrev pub held_here : Metamodels → Draft → ℕ → Option Holder
-held_here m d z = if is_containment m d.feature.0 && among d.added z then Some (holder_in d.object.0 d.feature.0) else None
+held_here m d z = if is_containment m d.feature.0 && among_objects d.added z then Some (holder_in d.object.0 d.feature.0) else None
 
 pub record AreHeldHere (m : Metamodels) (d : Draft) (old new : List Cell) : Type 0 where
   pub objects : instances new ≡ instances old
@@ -67,7 +67,7 @@ pub record AreHeldHere (m : Metamodels) (d : Draft) (old new : List Cell) : Type
 
 -- the holder after a change: by a write, by the changed slot, none where released, else the old one
 abbrev pub holder_after : Metamodels → Draft → List Write → List Oid → ℕ → Option Holder → Option Holder
-holder_after m d ws released z old = or_else (held_of m ws z) (or_else (held_here m d z) (if among released z then None else old))
+holder_after m d ws released z old = or_else (last_holder m ws z) (or_else (held_here m d z) (if among_objects released z then None else old))
 
 -- the writes are carried out, and the holders follow
 pub record IsSettled (m : Metamodels) (d : Draft) (old new : List Cell) (ws : List Write) (released : List Oid) : Type 0 where

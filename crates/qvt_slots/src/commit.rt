@@ -1,9 +1,9 @@
 //! A change carried out in the cells. It takes no memory.
 
 ghost use Rattle.std.specs.Prelude.{◌≡◌, ◌<◌, ◌++◌, ◌∷◌, [], length, IsTrue, All, OnOk, OnErr};
-ghost use Rattle.qvt_metamodel.specs.Metamodels.{has_feature, is_containment};
+ghost use Rattle.qvt_metas.specs.Metamodels.{has_feature, is_containment};
 ghost use Rattle.qvt_slots.specs.Slots.{has, is_object};
-ghost use Rattle.qvt_slots.specs.Change.{among};
+ghost use Rattle.qvt_slots.specs.Change.{among_objects};
 ghost use Rattle.qvt_slots.specs.Cells.{HaveSlots, IsPut, instance_in, instances};
 ghost use Rattle.qvt_slots.specs.Writes.{IsWrite, AreWritten, IsHeld, AllLive, AreHeld, AreHeldBy, AreHeldHere, IsSettled};
 
@@ -45,8 +45,8 @@ fn hold(cells: &mut Vec<Cell>, child: Oid, holder: Option<Holder>)
 
 /// Sets the holder of each of these objects.
 pub fn hold_each(cells: &mut Vec<Cell>, objects: &[Oid], holder: Option<Holder>)
-    requires { AllLive cells.old.items (among objects.now) }
-    ensures { AreHeld cells.old.items cells.new.items (among objects.now) holder }
+    requires { AllLive cells.old.items (among_objects objects.now) }
+    ensures { AreHeld cells.old.items cells.new.items (among_objects objects.now) holder }
 {
     for object in objects {
         hold(cells, *object, holder);
@@ -99,7 +99,7 @@ pub fn hold_all(metas: &Metas, cells: &mut Vec<Cell>, writes: &[Write])
 
 /// Sets the holder of each object that is added to a containment slot.
 fn hold_added(metas: &Metas, cells: &mut Vec<Cell>, draft: &Draft)
-    requires { AllLive cells.old.items (among draft.now.added) }
+    requires { AllLive cells.old.items (among_objects draft.now.added) }
     ensures { AreHeldHere metas.now draft.now cells.old.items cells.new.items }
 {
     if !metas.shape(draft.feature).containment {
@@ -124,8 +124,8 @@ pub fn settle(
     requires have_slots { HaveSlots metas.now cells.old.items }
     requires writes { All (IsWrite metas.now cells.old.items) writes.items }
     requires items { All (λ w. IsTrue (is_containment metas.now w.feature.0) → AllLive cells.old.items (has w.items)) writes.items }
-    requires released { AllLive cells.old.items (among released.now) }
-    requires added { AllLive cells.old.items (among draft.now.added) }
+    requires released { AllLive cells.old.items (among_objects released.now) }
+    requires added { AllLive cells.old.items (among_objects draft.now.added) }
     ensures { IsSettled metas.now draft.now cells.old.items cells.new.items writes.items released.now }
 {
     hold_each(cells, released, None);

@@ -1,7 +1,7 @@
 //! Tests of features.
 
 ghost use Rattle.std.specs.Prelude.{◌≡◌};
-ghost use Rattle.qvt_metamodel.specs.Metamodels.{is_containment, is_single, is_opposite, opposite, shape_of};
+ghost use Rattle.qvt_metas.specs.Metamodels.{is_containment, is_single, is_opposite, opposite, shape_of};
 ghost use Rattle.qvt_slots.specs.Change.{is_container, is_linked, is_some_feature};
 ghost use Rattle.qvt_slots.specs.Assign.{exceeds_bound};
 

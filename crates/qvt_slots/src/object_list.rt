@@ -1,7 +1,7 @@
 //! Lists of objects that are looked up by hash.
 
 ghost use Rattle.std.specs.Prelude.{◌≡◌, ◌++◌, ◌∷◌, [], length, take, IfOk, OnOk, OnErr};
-ghost use Rattle.qvt_slots.specs.Change.{among, objects_beyond};
+ghost use Rattle.qvt_slots.specs.Change.{among_objects, objects_beyond};
 ghost use Rattle.qvt_slots.specs.Numbers.{AreNumbersOf, objects_past};
 
 use crate::values::is_among;
@@ -74,7 +74,7 @@ impl Objects {
 
     /// Whether the object is one of these.
     pub fn holds(&self, object: Oid) -> bool
-        ensures { result ≡ among self.now object.0 }
+        ensures { result ≡ among_objects self.now object.0 }
     {
         if self.list.len() <= FEW {
             return is_among(self.list.as_slice(), object);

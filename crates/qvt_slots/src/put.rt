@@ -1,7 +1,7 @@
 //! Slots set in the cells of a store.
 
 ghost use Rattle.std.specs.Prelude.{◌≡◌, ◌<◌, length, IsTrue, IsFalse, IfNone, IfSome};
-ghost use Rattle.qvt_metamodel.specs.Metamodels.{has_feature, features_of};
+ghost use Rattle.qvt_metas.specs.Metamodels.{has_feature, features_of};
 ghost use Rattle.qvt_slots.specs.Cells.{HaveSlots, IsPut, IsPlaceOf, IsSameCells, instance_in, instances};
 ghost use Rattle.std.specs.Prelude.{◌++◌, ◌∷◌, [], OnOk, OnErr};
 ghost use Rattle.qvt_slots.specs.Contents.{slot_in};

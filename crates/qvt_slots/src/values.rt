@@ -3,7 +3,7 @@
 ghost use Rattle.std.specs.Prelude.{◌≡◌, All, IfOk, if◌then◌else◌};
 ghost use Rattle.std.specs.List.{list_any};
 ghost use Rattle.qvt_slots.specs.Slots.{has, is_object};
-ghost use Rattle.qvt_slots.specs.Change.{among};
+ghost use Rattle.qvt_slots.specs.Change.{among_objects};
 ghost use Rattle.qvt_slots.specs.Types.{HasCodeType};
 ghost use Rattle.qvt_slots.specs.Repeats.{repeats};
 ghost use Rattle.qvt_value.specs.Kept.{is_same, firsts};
@@ -26,7 +26,7 @@ pub fn holds(values: &[Value], object: Oid) -> bool
 
 /// Whether the object is one of these.
 pub fn is_among(objects: &[Oid], object: Oid) -> bool
-    ensures { result ≡ among objects.now object.0 }
+    ensures { result ≡ among_objects objects.now object.0 }
 {
     objects.iter().any(|other| other.0 == object.0)
 }

@@ -12,7 +12,7 @@ use Rattle.qvt_slots.specs.declared.cell.Marks.{Marks}
 use Rattle.qvt_slots.specs.declared.draft.Draft.{Draft}
 use Rattle.qvt_slots.specs.declared.extent.Extent.{Extent}
 use Rattle.qvt_slots.specs.declared.fault.StoreFault.TheVariants.{TooMany, ReadOnly, CrossModel}
-use Rattle.qvt_slots.specs.Change.{objects_beyond, among, is_some_feature, is_linked, names_containment}
+use Rattle.qvt_slots.specs.Change.{objects_beyond, among_objects, is_some_feature, is_linked, names_containment}
 use Rattle.qvt_slots.specs.Contents.{Contents, extent_of, is_model, is_writable, slot_in, slot_of}
 use Rattle.qvt_slots.specs.Types.{IsAssignable}
 use Rattle.qvt_slots.specs.Repeats.{new_list}
@@ -101,7 +101,7 @@ pub settled : (m : Metamodels) (d : Draft) (old mid : List Cell) (o p : ℕ) (vs
 settled m d old mid o p vs plain put = record {
   objects = record { same_length = refl; classes = λ x. refl; extents = λ x. refl; have_slots = put.objects.have_slots };
   slots = λ x f. refl;
-  holders = λ z. sym (ap (λ b. or_else (cond (b && among d.added z) (Some (holder_in d.object.0 d.feature.0)) None) (holder_at mid z)) plain);
+  holders = λ z. sym (ap (λ b. or_else (cond (b && among_objects d.added z) (Some (holder_in d.object.0 d.feature.0)) None) (holder_at mid z)) plain);
 }
 
 -- the cells with the values put last are a store, which is the one after the change

@@ -13,7 +13,7 @@ use Rattle.qvt_slots.specs.declared.commit.Write.{Write}
 use Rattle.qvt_slots.specs.declared.draft.Draft.{Draft}
 use Rattle.qvt_slots.specs.declared.fault.StoreFault.{StoreFault}
 use Rattle.qvt_slots.specs.declared.fault.StoreFault.TheVariants.{TooMany, ContainmentCycle, ReadOnly, CrossModel, TooManyObjects, NoMemory}
-use Rattle.qvt_slots.specs.Change.{Change, objects_beyond, among}
+use Rattle.qvt_slots.specs.Change.{Change, objects_beyond, among_objects}
 use Rattle.qvt_slots.specs.Slots.{object_in, passes, is_object, has}
 use Rattle.qvt_slots.specs.Contents.{Contents, slot_of, extent_of, is_model}
 use Rattle.qvt_slots.specs.Types.{IsAssignable, IsAttributeChange}
@@ -49,7 +49,7 @@ module _ (s : Contents) (o : Oid) (p : FeatureNo) (vs items : List Value) (added
   live_added = adds_live s d items known.well_formed known.acyclic is fit
 
   pub removes_held : RemovesHeld s d
-  removes_held = record { held = λ y h. and_left _ _ (sym (beyond-is items (slot_of s o.0 p.0) y) ∙ ap (λ (os : List Oid). among os y) (sym removes) ∙ h) }
+  removes_held = record { held = λ y h. and_left _ _ (sym (beyond-is items (slot_of s o.0 p.0) y) ∙ ap (λ (os : List Oid). among_objects os y) (sym removes) ∙ h) }
 
   pub early : (fault : StoreFault) (n : ℕ) → n ≡ length items → IsEarlyFault s (drafted s d) n fault → fault ≢ NoMemory → assign s o.0 p.0 vs ≡ Err fault
   early fault n e f other = not_assigned s d items known.well_formed known.acyclic is fit vs fault new
@@ -121,8 +121,8 @@ module _ (s : Contents) (o : Oid) (p : FeatureNo) (vs items : List Value) (added
         (ap (λ os. list_any (overfills_elsewhere (drafted s d) (opposite s.metas p.0)) os) no_draft)
 
     no_cycle : ClosesCycle (drafted s d) → ⊥
-    no_cycle (by_items c some) = clash false (sym (ap (λ os. among os some.object) no_draft) ∙ some.listed) refl
-    no_cycle (by_end c some) = clash false (sym (ap (λ os. among os some.object) no_draft) ∙ some.listed) refl
+    no_cycle (by_items c some) = clash false (sym (ap (λ os. among_objects os some.object) no_draft) ∙ some.listed) refl
+    no_cycle (by_end c some) = clash false (sym (ap (λ os. among_objects os some.object) no_draft) ∙ some.listed) refl
 
     pub no_cross : crosses s o.0 items ≡ true → ⊥
     no_cross h = clash _ (and_right (is_model s (extent_of s o.0)) _ h) (nowhere items (λ y. no_item y))

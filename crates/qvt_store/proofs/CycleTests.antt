@@ -6,12 +6,12 @@ use Rattle.qvt_base.specs.declared.numbers.Oid.{Oid}
 use Rattle.qvt_metamodel.specs.Metamodels.{Metamodels, is_containment}
 use Rattle.qvt_relation.proofs.Bools.{or_cases, or_left, clash}
 use Rattle.qvt_slots.specs.Slots.{Slots}
-use Rattle.qvt_slots.specs.Change.{Change, among, is_container}
+use Rattle.qvt_slots.specs.Change.{Change, among_objects, is_container}
 use Rattle.qvt_slots.specs.Walk.{IsOver, SomeOver, IsOverSome, ClosesCycle, by_items, by_end}
 use Rattle.qvt_slots.proofs.Holds.{in_among}
 use Rattle.qvt_store.proofs.Plans.{more_cases}
 
-pub only_one : (o : Oid) (n : ℕ) → among (o ∷ []) n ≡ true → o.0 ≡ n
+pub only_one : (o : Oid) (n : ℕ) → among_objects (o ∷ []) n ≡ true → o.0 ≡ n
 only_one o n h = elim (or_cases (o.0 == n) false h) [ inl a ↦ (Decides-eqb o.0 n).0 a | inr b ↦ clash false b refl ]
 
 pub some_one : (m : Metamodels) (s : Slots) (o : Oid) (y : ℕ) → SomeOver m s (o ∷ []) y ↔ IsOver m s o.0 y

@@ -19,7 +19,7 @@ use Rattle.qvt_slots.specs.declared.commit.Write.{Write}
 use Rattle.qvt_slots.specs.declared.draft.Draft.{Draft}
 use Rattle.qvt_slots.specs.declared.extent.Extent.{Extent}
 use Rattle.qvt_slots.specs.Slots.{Slots, has, OneContainer, Inside}
-use Rattle.qvt_slots.specs.Change.{Change, is_linked, among, objects_beyond, is_here, is_added, slot_elsewhere, slot_after}
+use Rattle.qvt_slots.specs.Change.{Change, is_linked, among_objects, objects_beyond, is_here, is_added, slot_elsewhere, slot_after}
 use Rattle.qvt_slots.specs.Contents.{Contents, Instance, HoldOwn, no_instance, is_live, is_model, extent_of, is_slot, list_of, slot_in, slot_of, with_slot}
 use Rattle.qvt_slots.specs.Limits.{most_objects}
 use Rattle.qvt_slots.specs.Types.{is_of_type}
@@ -28,7 +28,7 @@ use Rattle.qvt_slots.specs.Assign.{change_to, instance_after, instances_after, s
 use Rattle.qvt_store_laws.specs.Law.{HasDifferences}
 use Rattle.qvt_store.specs.Draft.{change_with, drafted, IsDraft}
 use Rattle.qvt_slots.specs.Cells.{instances, instance_in, contents_of, holder_at, holder_in, AreWhole, IsStoreKept, IsPlaceOf, SameObjects, IsPut, with_list}
-use Rattle.qvt_slots.specs.Writes.{IsWrite, AllLive, written, or_else, held_by, held_of, held_here, holder_after, IsSettled, released_by, released_here}
+use Rattle.qvt_slots.specs.Writes.{IsWrite, AllLive, written, or_else, held_by, last_holder, held_here, holder_after, IsSettled, released_by, released_here}
 use Rattle.qvt_store.specs.Plan.{is_write_of, listed, IsRight, IsPlan}
 use Rattle.qvt_slots.proofs.Places.{list_of-place}
 use Rattle.qvt_slots.proofs.Cells.{length-instances, no_holder}
@@ -70,29 +70,29 @@ listed_elsewhere s c (w ∷ ws) x f right l = elim (or_cases (is_write_of x f w)
   | inr a ↦ listed_elsewhere s c ws x f (All-tail (IsRight s c) w ws right) a
 ]
 
-among-both : (us vs : List Oid) (y : ℕ) → among (us ++ vs) y ≡ true → (among us y ≡ true) ⊎ (among vs y ≡ true)
+among-both : (us vs : List Oid) (y : ℕ) → among_objects (us ++ vs) y ≡ true → (among_objects us y ≡ true) ⊎ (among_objects vs y ≡ true)
 among-both [] vs y h = inr h
-among-both (u ∷ us) vs y h = elim (or_cases (u.0 == y) (among (us ++ vs) y) h) [
+among-both (u ∷ us) vs y h = elim (or_cases (u.0 == y) (among_objects (us ++ vs) y) h) [
   | inl a ↦ inl (or_left _ _ a)
   | inr a ↦ elim (among-both us vs y a) [ inl b ↦ inl (or_right (u.0 == y) _ b) | inr b ↦ inr b ]
 ]
 
-among-left : (us vs : List Oid) (y : ℕ) → among us y ≡ true → among (us ++ vs) y ≡ true
+among-left : (us vs : List Oid) (y : ℕ) → among_objects us y ≡ true → among_objects (us ++ vs) y ≡ true
 among-left [] vs y h = clash false h refl
-among-left (u ∷ us) vs y h = elim (or_cases (u.0 == y) (among us y) h) [ inl a ↦ or_left _ _ a | inr a ↦ or_right (u.0 == y) _ (among-left us vs y a) ]
+among-left (u ∷ us) vs y h = elim (or_cases (u.0 == y) (among_objects us y) h) [ inl a ↦ or_left _ _ a | inr a ↦ or_right (u.0 == y) _ (among-left us vs y a) ]
 
-among-right : (us vs : List Oid) (y : ℕ) → among vs y ≡ true → among (us ++ vs) y ≡ true
+among-right : (us vs : List Oid) (y : ℕ) → among_objects vs y ≡ true → among_objects (us ++ vs) y ≡ true
 among-right [] vs y h = h
 among-right (u ∷ us) vs y h = or_right (u.0 == y) _ (among-right us vs y h)
 
 -- all objects of a list are beyond the empty one
-among_all : (vs : List Value) (y : ℕ) → has vs y ≡ true → among (objects_beyond [] vs) y ≡ true
+among_all : (vs : List Value) (y : ℕ) → has vs y ≡ true → among_objects (objects_beyond [] vs) y ≡ true
 among_all vs y h = beyond-is [] vs y ∙ and_both _ _ h refl
 
-all_among : (vs : List Value) (y : ℕ) → among (objects_beyond [] vs) y ≡ true → has vs y ≡ true
+all_among : (vs : List Value) (y : ℕ) → among_objects (objects_beyond [] vs) y ≡ true → has vs y ≡ true
 all_among vs y h = and_left _ _ (sym (beyond-is [] vs y) ∙ h)
 
-released_all : (m : Metamodels) (s : Slots) (ws : List Write) (x f y : ℕ) → listed ws x f ≡ true → is_containment m f ≡ true → has (s x f) y ≡ true → among (flat_map (released_by m s) ws) y ≡ true
+released_all : (m : Metamodels) (s : Slots) (ws : List Write) (x f y : ℕ) → listed ws x f ≡ true → is_containment m f ≡ true → has (s x f) y ≡ true → among_objects (flat_map (released_by m s) ws) y ≡ true
 released_all m s [] x f y l k h = clash false l refl
 released_all m s (w ∷ ws) x f y l k h = elim (or_cases (is_write_of x f w) (listed ws x f) l) [
   | inl a ↦
@@ -100,7 +100,7 @@ released_all m s (w ∷ ws) x f y l k h = elim (or_cases (is_write_of x f w) (li
       let f_is : f ≡ w.feature.0 = (Decides-eqb f w.feature.0).0 (and_right (x == w.object.0) _ a) in
       let k' : is_containment m w.feature.0 ≡ true = subst (λ n. is_containment m n ≡ true) f_is k in
       let h' : has (s w.object.0 w.feature.0) y ≡ true = subst (λ n. has (s w.object.0 n) y ≡ true) f_is (subst (λ n. has (s n f) y ≡ true) x_is h) in
-      among-left (released_by m s w) (flat_map (released_by m s) ws) y (ap (λ b. among (cond b (objects_beyond [] (s w.object.0 w.feature.0)) []) y) k' ∙ among_all (s w.object.0 w.feature.0) y h')
+      among-left (released_by m s w) (flat_map (released_by m s) ws) y (ap (λ b. among_objects (cond b (objects_beyond [] (s w.object.0 w.feature.0)) []) y) k' ∙ among_all (s w.object.0 w.feature.0) y h')
   | inr a ↦ among-right (released_by m s w) (flat_map (released_by m s) ws) y (released_all m s ws x f y a k h)
 ]
 
@@ -111,20 +111,20 @@ record Source (m : Metamodels) (s : Slots) (ws : List Write) (y : ℕ) : Type 0 
   cont : is_containment m feature ≡ true
   held : has (s object feature) y ≡ true
 
-released_from : (m : Metamodels) (s : Slots) (ws : List Write) (y : ℕ) → among (flat_map (released_by m s) ws) y ≡ true → Source m s ws y
+released_from : (m : Metamodels) (s : Slots) (ws : List Write) (y : ℕ) → among_objects (flat_map (released_by m s) ws) y ≡ true → Source m s ws y
 released_from m s [] y h = clash false h refl
 released_from m s (w ∷ ws) y h = elim (among-both (released_by m s w) (flat_map (released_by m s) ws) y h) [
   | inl a ↦ at (is_containment m w.feature.0) refl a
   | inr a ↦ let r : Source m s ws y = released_from m s ws y a in record { object = r.object; feature = r.feature; is_listed = or_right (is_write_of r.object r.feature w) _ r.is_listed; cont = r.cont; held = r.held }
 ]
   where
-    at : (b : Bool) → is_containment m w.feature.0 ≡ b → among (cond b (objects_beyond [] (s w.object.0 w.feature.0)) []) y ≡ true → Source m s (w ∷ ws) y
+    at : (b : Bool) → is_containment m w.feature.0 ≡ b → among_objects (cond b (objects_beyond [] (s w.object.0 w.feature.0)) []) y ≡ true → Source m s (w ∷ ws) y
     at true e a = record { object = w.object.0; feature = w.feature.0; is_listed = or_left _ _ (and_both _ _ ((Decides-eqb w.object.0 w.object.0).1 refl) ((Decides-eqb w.feature.0 w.feature.0).1 refl)); cont = e; held = all_among (s w.object.0 w.feature.0) y a }
     at false e a = clash false a refl
 
-held_all : (s : Contents) (c : Change) (m : Metamodels) (ws : List Write) (x f y : ℕ) → All (IsRight s c) ws → listed ws x f ≡ true → is_containment m f ≡ true → has (slot_elsewhere c x f) y ≡ true → held_of m ws y ≡ None → ⊥
+held_all : (s : Contents) (c : Change) (m : Metamodels) (ws : List Write) (x f y : ℕ) → All (IsRight s c) ws → listed ws x f ≡ true → is_containment m f ≡ true → has (slot_elsewhere c x f) y ≡ true → last_holder m ws y ≡ None → ⊥
 held_all s c m [] x f y right l k h e = clash false l refl
-held_all s c m (w ∷ ws) x f y right l k h e = rest (held_of m ws y) refl e (λ a eq. held_all s c m ws x f y (All-tail (IsRight s c) w ws right) a k h eq)
+held_all s c m (w ∷ ws) x f y right l k h e = rest (last_holder m ws y) refl e (λ a eq. held_all s c m ws x f y (All-tail (IsRight s c) w ws right) a k h eq)
   where
     is : IsRight s c w
     is = All-head (IsRight s c) w ws right
@@ -137,7 +137,7 @@ held_all s c m (w ∷ ws) x f y right l k h e = rest (held_of m ws y) refl e (λ
         let h' : has w.items y ≡ true = ap (λ l'. has l' y) is.items ∙ subst (λ n. has (slot_elsewhere c w.object.0 n) y ≡ true) f_is (subst (λ n. has (slot_elsewhere c n f) y ≡ true) x_is h) in
         ap (λ b. cond b (Some (holder_in w.object.0 w.feature.0)) None) (and_both _ _ k' h')
 
-    rest : (o : Option Holder) → held_of m ws y ≡ o → or_else o (held_by m w y) ≡ None → (listed ws x f ≡ true → held_of m ws y ≡ None → ⊥) → ⊥
+    rest : (o : Option Holder) → last_holder m ws y ≡ o → or_else o (held_by m w y) ≡ None → (listed ws x f ≡ true → last_holder m ws y ≡ None → ⊥) → ⊥
     rest (Some g) eq n ih = cc
     rest None eq n ih = elim (or_cases (is_write_of x f w) (listed ws x f) l) [
       | inl a ↦ let t : held_by m w y ≡ Some (holder_in w.object.0 w.feature.0) = at a in cc
@@ -148,9 +148,9 @@ record HeldBack (m : Metamodels) (after : Slots) (y : ℕ) (h : Holder) : Type 0
   cont : is_containment m h.feature.0 ≡ true
   held : has (after h.object.0 h.feature.0) y ≡ true
 
-held_right : (s : Contents) (c : Change) (m : Metamodels) (ws : List Write) (y : ℕ) (h : Holder) → All (IsRight s c) ws → held_of m ws y ≡ Some h → HeldBack m (slot_after c) y h
+held_right : (s : Contents) (c : Change) (m : Metamodels) (ws : List Write) (y : ℕ) (h : Holder) → All (IsRight s c) ws → last_holder m ws y ≡ Some h → HeldBack m (slot_after c) y h
 held_right s c m [] y h right e = cc
-held_right s c m (w ∷ ws) y h right e = rest (held_of m ws y) refl e (held_right s c m ws y h (All-tail (IsRight s c) w ws right))
+held_right s c m (w ∷ ws) y h right e = rest (last_holder m ws y) refl e (held_right s c m ws y h (All-tail (IsRight s c) w ws right))
   where
     is : IsRight s c w
     is = All-head (IsRight s c) w ws right
@@ -164,7 +164,7 @@ held_right s c m (w ∷ ws) y h right e = rest (held_of m ws y) refl e (held_rig
         subst (HeldBack m (slot_after c) y) same (record { cont = and_left _ _ t; held = ap (λ l. has l y) after_is ∙ and_right (is_containment m w.feature.0) _ t })
     by false t n = cc
 
-    rest : (o : Option Holder) → held_of m ws y ≡ o → or_else o (held_by m w y) ≡ Some h → (held_of m ws y ≡ Some h → HeldBack m (slot_after c) y h) → HeldBack m (slot_after c) y h
+    rest : (o : Option Holder) → last_holder m ws y ≡ o → or_else o (held_by m w y) ≡ Some h → (last_holder m ws y ≡ Some h → HeldBack m (slot_after c) y h) → HeldBack m (slot_after c) y h
     rest (Some g) eq n ih = ih (eq ∙ n)
     rest None eq n ih = by (is_containment m w.feature.0 && has w.items y) refl n
 
@@ -285,11 +285,11 @@ module _ (m : Metamodels) (extents : List Extent) (old : List Cell) (d : Draft) 
   ]
 
   -- added and removed, as the draft has them
-  draft_added : (y : ℕ) → among d.added y ≡ is_added c y
-  draft_added y = ap (λ l. among l y) ready.draft.adds
+  draft_added : (y : ℕ) → among_objects d.added y ≡ is_added c y
+  draft_added y = ap (λ l. among_objects l y) ready.draft.adds
 
-  released_is : (y : ℕ) → among released y ≡ true → (among (released_here m d) y ≡ true) ⊎ Source m (slot_of s) ws y
-  released_is y h = elim (among-both (released_here m d) (flat_map (released_by m (slot_of s)) ws) y (ap (λ l. among l y) (sym ready.is_released) ∙ h)) [
+  released_is : (y : ℕ) → among_objects released y ≡ true → (among_objects (released_here m d) y ≡ true) ⊎ Source m (slot_of s) ws y
+  released_is y h = elim (among-both (released_here m d) (flat_map (released_by m (slot_of s)) ws) y (ap (λ l. among_objects l y) (sym ready.is_released) ∙ h)) [
     | inl a ↦ inl a
     | inr a ↦ inr (released_from m (slot_of s) ws y a)
   ]
@@ -300,16 +300,16 @@ module _ (m : Metamodels) (extents : List Extent) (old : List Cell) (d : Draft) 
     was : has (slot_of s o p) y ≡ true
     gone : has items y ≡ false
 
-  removed_is : (y : ℕ) → among (released_here m d) y ≡ true → Removed y
+  removed_is : (y : ℕ) → among_objects (released_here m d) y ≡ true → Removed y
   removed_is y = go (is_containment m p) refl
     where
-      go : (b : Bool) → is_containment m p ≡ b → among (cond b d.removed []) y ≡ true → Removed y
+      go : (b : Bool) → is_containment m p ≡ b → among_objects (cond b d.removed []) y ≡ true → Removed y
       go false e h = clash false h refl
       go true e h =
-          let k : (has (slot_of s o p) y && not (has items y)) ≡ true = sym (ap (λ l. among l y) ready.draft.removes ∙ beyond-is items (slot_of s o p) y) ∙ h in
+          let k : (has (slot_of s o p) y && not (has items y)) ≡ true = sym (ap (λ l. among_objects l y) ready.draft.removes ∙ beyond-is items (slot_of s o p) y) ∙ h in
           record { cont = e; was = and_left _ _ k; gone = not_true _ (and_right (has (slot_of s o p) y) _ k) }
 
-  pub released_live : AllLive old (among released)
+  pub released_live : AllLive old (among_objects released)
   released_live = record {
     live = λ y h. elim (released_is y h) [
       | inl a ↦ let r : Removed y = removed_is y a in held_live o p y r.cont r.was
@@ -317,7 +317,7 @@ module _ (m : Metamodels) (extents : List Extent) (old : List Cell) (d : Draft) 
     ];
   }
 
-  pub added_live : AllLive old (among d.added)
+  pub added_live : AllLive old (among_objects d.added)
   added_live = record { live = λ y h. item_live y (added_new c made y (sym (draft_added y) ∙ h)) }
 
   pub writes_live : (k : ℕ) (w : Write) → k < length ws → IsWrite m old (get_or ws k w)
@@ -336,7 +336,7 @@ module _ (m : Metamodels) (extents : List Extent) (old : List Cell) (d : Draft) 
       is = plan.right k w h
 
   abbrev held_now : ℕ → Option Holder
-  held_now y = or_else (held_of m ws y) (held_here m d y)
+  held_now y = or_else (last_holder m ws y) (held_here m d y)
 
   assoc : (a b e : Option Holder) → or_else a (or_else b e) ≡ or_else (or_else a b) e
   assoc None b e = refl
@@ -347,9 +347,9 @@ module _ (m : Metamodels) (extents : List Extent) (old : List Cell) (d : Draft) 
 
   -- a holder that is given is right
   given_right : (y : ℕ) (h : Holder) → held_now y ≡ Some h → HeldBack m (slot_after c) y h
-  given_right y h = go (held_of m ws y) refl
+  given_right y h = go (last_holder m ws y) refl
     where
-      by : (b : Bool) → (is_containment m p && among d.added y) ≡ b → cond b (Some (holder_in o p)) None ≡ Some h → HeldBack m (slot_after c) y h
+      by : (b : Bool) → (is_containment m p && among_objects d.added y) ≡ b → cond b (Some (holder_in o p)) None ≡ Some h → HeldBack m (slot_after c) y h
       by true t n =
           let same : ◌≡◌ {A = Holder} (holder_in o p) h = cc in
           subst (HeldBack m (slot_after c) y) same (record {
@@ -358,20 +358,20 @@ module _ (m : Metamodels) (extents : List Extent) (old : List Cell) (d : Draft) 
           })
       by false t n = cc
 
-      go : (r : Option Holder) → held_of m ws y ≡ r → or_else r (held_here m d y) ≡ Some h → HeldBack m (slot_after c) y h
+      go : (r : Option Holder) → last_holder m ws y ≡ r → or_else r (held_here m d y) ≡ Some h → HeldBack m (slot_after c) y h
       go (Some g) e n = held_right s c m ws y h plan.right (e ∙ n)
-      go None e n = by (is_containment m p && among d.added y) refl n
+      go None e n = by (is_containment m p && among_objects d.added y) refl n
 
   -- an object of a written containment slot is given a holder
   listed_given : (x f y : ℕ) → listed ws x f ≡ true → is_containment m f ≡ true → has (slot_after c x f) y ≡ true → held_now y ≡ None → ⊥
-  listed_given x f y l k h = go (held_of m ws y) refl
+  listed_given x f y l k h = go (last_holder m ws y) refl
     where
-      go : (r : Option Holder) → held_of m ws y ≡ r → or_else r (held_here m d y) ≡ None → ⊥
+      go : (r : Option Holder) → last_holder m ws y ≡ r → or_else r (held_here m d y) ≡ None → ⊥
       go (Some g) e n = cc
       go None e n = held_all s c m ws x f y plan.right l k (ap (λ t. has t y) (sym (listed_after x f l)) ∙ h) e
 
   -- an object of the changed slot is given a holder, or keeps its own
-  here_given : (y : ℕ) → is_containment m p ≡ true → has items y ≡ true → held_now y ≡ None → (has (slot_of s o p) y ≡ true) × (among released y ≡ false)
+  here_given : (y : ℕ) → is_containment m p ≡ true → has items y ≡ true → held_now y ≡ None → (has (slot_of s o p) y ≡ true) × (among_objects released y ≡ false)
   here_given y k h none = elim (either (has (slot_of s o p) y)) [
     | inl was ↦ (
       was,
@@ -382,10 +382,10 @@ module _ (m : Metamodels) (extents : List Extent) (old : List Cell) (d : Draft) 
             clash (is_here c o p) here_is (subst (λ n. is_here c o n ≡ false) same.1 (subst (λ n. is_here c n t.feature ≡ false) same.0 (listed_elsewhere s c ws t.object t.feature plan.right t.is_listed)))
       ]),
     )
-    | inr free ↦ absurd (go (held_of m ws y) none (and_both _ _ k (draft_added y ∙ adds c made y h free)))
+    | inr free ↦ absurd (go (last_holder m ws y) none (and_both _ _ k (draft_added y ∙ adds c made y h free)))
   ]
     where
-      go : (r : Option Holder) → or_else r (held_here m d y) ≡ None → (is_containment m p && among d.added y) ≡ true → ⊥
+      go : (r : Option Holder) → or_else r (held_here m d y) ≡ None → (is_containment m p && among_objects d.added y) ≡ true → ⊥
       go (Some g) n t = cc
       go None n t = let q : held_here m d y ≡ Some (holder_in o p) = ap (λ b. cond b (Some (holder_in o p)) None) t in cc
 
@@ -400,10 +400,10 @@ module _ (m : Metamodels) (extents : List Extent) (old : List Cell) (d : Draft) 
     slots_are : (x f : ℕ) → slot_in m (instances new) x f ≡ slot_after c x f
     slots_are x f = done.slots x f ∙ written_same ws (slot_in m (instances mid)) (with_list (slot_of s) o p items) put.slots x f ∙ all_written x f
 
-    new_holder : (y : ℕ) → holder_at new y ≡ or_else (held_now y) (cond (among released y) None (holder_at old y))
-    new_holder y = done.holders y ∙ ap (λ h. holder_after m d ws released y h) (put.holders y) ∙ assoc (held_of m ws y) (held_here m d y) (cond (among released y) None (holder_at old y))
+    new_holder : (y : ℕ) → holder_at new y ≡ or_else (held_now y) (cond (among_objects released y) None (holder_at old y))
+    new_holder y = done.holders y ∙ ap (λ h. holder_after m d ws released y h) (put.holders y) ∙ assoc (last_holder m ws y) (held_here m d y) (cond (among_objects released y) None (holder_at old y))
 
-    find : (x f y : ℕ) → is_containment m f ≡ true → has (slot_after c x f) y ≡ true → (g : Option Holder) → held_now y ≡ g → or_else g (cond (among released y) None (holder_at old y)) ≡ Some (holder_in x f)
+    find : (x f y : ℕ) → is_containment m f ≡ true → has (slot_after c x f) y ≡ true → (g : Option Holder) → held_now y ≡ g → or_else g (cond (among_objects released y) None (holder_at old y)) ≡ Some (holder_in x f)
     find x f y k h (Some g) e =
         let right : HeldBack m (slot_after c) y g = given_right y g e in
         let at : (g.object.0 ≡ x) × (g.feature.0 ≡ f) = one_after.one g.object.0 g.feature.0 x f y right.cont k right.held h in
@@ -414,11 +414,11 @@ module _ (m : Metamodels) (extents : List Extent) (old : List Cell) (d : Draft) 
         | inl at ↦
             let x_is : x ≡ o = (here c x f at).0 in
             let f_is : f ≡ p = (here c x f at).1 in
-            let r : (has (slot_of s o p) y ≡ true) × (among released y ≡ false) = here_given y (subst (λ n. is_containment m n ≡ true) f_is k) (ap (λ l. has l y) (sym (here_after x f at)) ∙ h) e in
+            let r : (has (slot_of s o p) y ≡ true) × (among_objects released y ≡ false) = here_given y (subst (λ n. is_containment m n ≡ true) f_is k) (ap (λ l. has l y) (sym (here_after x f at)) ∙ h) e in
             ap (λ b. cond b None (holder_at old y)) r.1 ∙ store.holders.held x f y k (subst (λ n. has (slot_of s n f) y ≡ true) (sym x_is) (subst (λ n. has (slot_of s o n) y ≡ true) (sym f_is) r.0))
         | inr away ↦
             let was : has (slot_of s x f) y ≡ true = subst (λ l. has l y ≡ true) (others x f away no') h in
-            let free : among released y ≡ false = refuted _ (λ r. elim (released_is y r) [
+            let free : among_objects released y ≡ false = refuted _ (λ r. elim (released_is y r) [
               | inl a ↦
                   let g : Removed y = removed_is y a in
                   let at : (o ≡ x) × (p ≡ f) = one_old.one o p x f y g.cont k g.was was in
@@ -431,7 +431,7 @@ module _ (m : Metamodels) (extents : List Extent) (old : List Cell) (d : Draft) 
       ]
     ]
 
-    back : (h : Holder) (y : ℕ) (g : Option Holder) → held_now y ≡ g → (b : Bool) → among released y ≡ b → or_else g (cond b None (holder_at old y)) ≡ Some h → HeldBack m (slot_after c) y h
+    back : (h : Holder) (y : ℕ) (g : Option Holder) → held_now y ≡ g → (b : Bool) → among_objects released y ≡ b → or_else g (cond b None (holder_at old y)) ≡ Some h → HeldBack m (slot_after c) y h
     back h y (Some g) e b r is = given_right y h (e ∙ is)
     back h y None e true r is = cc
     back h y None e false r is =
@@ -439,7 +439,7 @@ module _ (m : Metamodels) (extents : List Extent) (old : List Cell) (d : Draft) 
         record {
           cont = was.0;
           held = elim (either (listed ws h.object.0 h.feature.0)) [
-            | inl yes' ↦ clash _ (ap (λ l. among l y) ready.is_released ∙ among-right (released_here m d) (flat_map (released_by m (slot_of s)) ws) y (released_all m (slot_of s) ws h.object.0 h.feature.0 y yes' was.0 was.1)) r
+            | inl yes' ↦ clash _ (ap (λ l. among_objects l y) ready.is_released ∙ among-right (released_here m d) (flat_map (released_by m (slot_of s)) ws) y (released_all m (slot_of s) ws h.object.0 h.feature.0 y yes' was.0 was.1)) r
             | inr no' ↦ elim (either (is_here c h.object.0 h.feature.0)) [
               | inl at ↦
                   let x_is : h.object.0 ≡ o = (here c h.object.0 h.feature.0 at).0 in
@@ -447,9 +447,9 @@ module _ (m : Metamodels) (extents : List Extent) (old : List Cell) (d : Draft) 
                   let was' : has (slot_of s o p) y ≡ true = subst (λ n. has (slot_of s o n) y ≡ true) f_is (subst (λ n. has (slot_of s n h.feature.0) y ≡ true) x_is was.1) in
                   ap (λ l. has l y) (here_after h.object.0 h.feature.0 at) ∙ elim (either (has items y)) [
                     | inl stays ↦ stays
-                    | inr gone ↦ clash _ (ap (λ l. among l y) ready.is_released ∙ among-left (released_here m d) (flat_map (released_by m (slot_of s)) ws) y
-                        (ap (λ b. among (cond b d.removed []) y) (subst (λ n. is_containment m n ≡ true) f_is was.0)
-                        ∙ ap (λ l. among l y) ready.draft.removes ∙ beyond-is items (slot_of s o p) y ∙ and_both _ _ was' (not_of_false _ gone))) r
+                    | inr gone ↦ clash _ (ap (λ l. among_objects l y) ready.is_released ∙ among-left (released_here m d) (flat_map (released_by m (slot_of s)) ws) y
+                        (ap (λ b. among_objects (cond b d.removed []) y) (subst (λ n. is_containment m n ≡ true) f_is was.0)
+                        ∙ ap (λ l. among_objects l y) ready.draft.removes ∙ beyond-is items (slot_of s o p) y ∙ and_both _ _ was' (not_of_false _ gone))) r
                   ]
               | inr away ↦ subst (λ l. has l y ≡ true) (sym (others h.object.0 h.feature.0 away no')) was.1
             ]
@@ -464,7 +464,7 @@ module _ (m : Metamodels) (extents : List Extent) (old : List Cell) (d : Draft) 
       holders = record {
         held = λ x f y k h. new_holder y ∙ find x f y k (subst (λ l. has l y ≡ true) (slots_are x f) h) (held_now y) refl;
         contains = λ h y e.
-            let r : HeldBack m (slot_after c) y h = back h y (held_now y) refl (among released y) refl (sym (new_holder y) ∙ e) in
+            let r : HeldBack m (slot_after c) y h = back h y (held_now y) refl (among_objects released y) refl (sym (new_holder y) ∙ e) in
             (r.cont, subst (λ l. has l y ≡ true) (sym (slots_are h.object.0 h.feature.0)) r.held);
       };
       acyclic = λ x i. ready.acyclic (record { object = x; inside = subst (λ (t : Slots). Inside m t x x) (λ j y f. slots_are y f j) i });

@@ -11,7 +11,7 @@ use Rattle.qvt_relation.proofs.Bools.{and_both, or_cases, or_left, or_right, or_
 use Rattle.qvt_slots.specs.declared.cell.Holder.{Holder}
 use Rattle.qvt_slots.specs.declared.commit.Write.{Write}
 use Rattle.qvt_slots.specs.Slots.{has}
-use Rattle.qvt_slots.specs.Change.{Change, among, is_here, is_container}
+use Rattle.qvt_slots.specs.Change.{Change, among_objects, is_here, is_container}
 use Rattle.qvt_slots.specs.Contents.{Contents, is_slot, slot_of}
 use Rattle.qvt_slots.specs.Cells.{holder_in}
 use Rattle.qvt_store.specs.Plan.{is_write_of, listed, IsRight, Extends, Plans, IsSlotOf, IsSlotOfSome, IsHeldSlot, IsOppositeSlot, IsOwnerSlot, IsAround, holding, opposed, IsAroundSome, IsOpposed, before, after, owner, IsRehoused, items, itself}
@@ -25,8 +25,8 @@ listed-push (v ∷ ws) w x f = go (is_write_of x f v) (listed-push ws w x f)
     go true ih = refl
     go false ih = ih
 
-pub more_cases : (os : List Oid) (i : ℕ) (d : Oid) (x : ℕ) → i < length os → among (take (i + 1) os) x ≡ true → (among (take i os) x ≡ true) ⊎ (x ≡ (get_or os i d).0)
-more_cases os i d x h k = elim (or_cases (among (take i os) x) ((get_or os i d).0 == x) (sym (among-more os i d x h) ∙ k)) [
+pub more_cases : (os : List Oid) (i : ℕ) (d : Oid) (x : ℕ) → i < length os → among_objects (take (i + 1) os) x ≡ true → (among_objects (take i os) x ≡ true) ⊎ (x ≡ (get_or os i d).0)
+more_cases os i d x h k = elim (or_cases (among_objects (take i os) x) ((get_or os i d).0 == x) (sym (among-more os i d x h) ∙ k)) [
   | inl l ↦ inl l
   | inr l ↦ inr (sym ((Decides-eqb (get_or os i d).0 x).0 l))
 ]

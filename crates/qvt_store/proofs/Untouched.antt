@@ -11,7 +11,7 @@ use Rattle.qvt_metamodel.specs.WellFormed.{IsWellFormed}
 use Rattle.qvt_relation.proofs.Bools.{and_left, and_right, and_false, and_false_left, or_left, or_right, or_cases, or_none, none_left, none_right, none_of, refuted, clash}
 use Rattle.qvt_slots.specs.declared.commit.Write.{Write}
 use Rattle.qvt_slots.specs.Slots.{Slots, object_in, passes, is_object, has}
-use Rattle.qvt_slots.specs.Change.{Change, is_some_object, among, is_here, is_added, is_removed, names_containment, is_container, gains, is_taken, is_replaced, is_moved_in, is_moved, leaves, is_left, loses, keeps, with_end, slot_elsewhere}
+use Rattle.qvt_slots.specs.Change.{Change, is_some_object, among_objects, is_here, is_added, is_removed, names_containment, is_container, gains, is_taken, is_replaced, is_moved_in, is_moved, leaves, is_left, loses, keeps, with_end, slot_elsewhere}
 use Rattle.qvt_slots.specs.Contents.{Contents, is_slot, slot_of}
 use Rattle.qvt_store.specs.Plan.{listed, IsRight, Plans, holding, opposed, IsOpposed, before, after, owner, IsRehoused, items, itself, IsPlan}
 use Rattle.qvt_store_laws.proofs.Touched.{Touched, touched_itself, opposite_old, opposite_new, other_owner, old_container, old_container_end, own_container, own_container_end, untouched}

@@ -9,7 +9,7 @@ use Rattle.qvt_slots.specs.declared.fault.StoreFault.{StoreFault}
 use Rattle.qvt_slots.specs.declared.fault.StoreFault.TheVariants.{TooMany, ContainmentCycle, ReadOnly, NoMemory}
 use Rattle.qvt_slots.specs.declared.draft.Draft.{Draft}
 use Rattle.qvt_slots.specs.Slots.{has}
-use Rattle.qvt_slots.specs.Change.{Change, among, objects_beyond, is_added, slot_elsewhere}
+use Rattle.qvt_slots.specs.Change.{Change, among_objects, objects_beyond, is_added, slot_elsewhere}
 use Rattle.qvt_slots.specs.Contents.{Contents, is_live, slot_of}
 use Rattle.qvt_slots.specs.Assign.{exceeds_bound, is_read_only}
 use Rattle.qvt_slots.specs.Walk.{ClosesCycle}
@@ -71,4 +71,4 @@ IsEarlyFault s c n _ = ⊥
 
 -- what is removed stands in the changed slot
 pub record RemovesHeld (s : Contents) (d : Draft) : Type 0 where
-  pub held : (y : ℕ) → IsTrue (among d.removed y) → IsTrue (has (slot_of s d.object.0 d.feature.0) y)
+  pub held : (y : ℕ) → IsTrue (among_objects d.removed y) → IsTrue (has (slot_of s d.object.0 d.feature.0) y)

@@ -6,7 +6,7 @@ use Rattle.qvt_metamodel.specs.Metamodels.{is_containment, is_opposite}
 use Rattle.qvt_slots.specs.declared.commit.Write.{Write}
 use Rattle.qvt_slots.specs.Slots.{has}
 pub use Rattle.qvt_slots.specs.Listed.{is_write_of, listed}
-use Rattle.qvt_slots.specs.Change.{Change, among, is_here, is_container, slot_elsewhere}
+use Rattle.qvt_slots.specs.Change.{Change, among_objects, is_here, is_container, slot_elsewhere}
 use Rattle.qvt_slots.specs.Contents.{Contents, is_slot, slot_of}
 
 -- a write of what the change gives
@@ -32,7 +32,7 @@ pub record IsSlotOf (o p x f : ℕ) : Type 0 where
 
 -- the slot of feature p of one of the objects
 pub record IsSlotOfSome (os : List Oid) (p x f : ℕ) : Type 0 where
-  pub object : IsTrue (among os x)
+  pub object : IsTrue (among_objects os x)
   pub feature : f ≡ p
 
 -- the slot of feature p of an object of the list
@@ -49,7 +49,7 @@ pub record IsOppositeSlot (s : Contents) (o g x f : ℕ) : Type 0 where
 pub record IsOwnerSlot (s : Contents) (os : List Oid) (q p x f : ℕ) : Type 0 where
   pub feature : f ≡ p
   pub owner : ℕ
-  pub is_listed : IsTrue (among os owner)
+  pub is_listed : IsTrue (among_objects os owner)
   pub held : IsTrue (has (slot_of s owner q) x)
 
 -- slot (x, f) is the containment slot that holds a, or the slot of a that is opposite to that one
@@ -59,13 +59,13 @@ pub data IsAround (s : Contents) (a x f : ℕ) : Type 0 where
 
 pub record IsAroundSome (s : Contents) (os : List Oid) (x f : ℕ) : Type 0 where
   pub object : ℕ
-  pub is_listed : IsTrue (among os object)
+  pub is_listed : IsTrue (among_objects os object)
   pub around : IsAround s object x f
 
 -- the slots that an opposite touches
 pub data IsOpposed (s : Contents) (c : Change) (x f : ℕ) : Type 0 where
-  before : IsTrue (is_opposite c.metas c.feature f) → IsTrue (among c.removed x) → IsOpposed s c x f
-  after : IsTrue (is_opposite c.metas c.feature f) → IsTrue (among c.added x) → IsOpposed s c x f
+  before : IsTrue (is_opposite c.metas c.feature f) → IsTrue (among_objects c.removed x) → IsOpposed s c x f
+  after : IsTrue (is_opposite c.metas c.feature f) → IsTrue (among_objects c.added x) → IsOpposed s c x f
   owner : (q : ℕ) → IsTrue (is_opposite c.metas c.feature q) → IsOwnerSlot s c.added q c.feature x f → IsOpposed s c x f
 
 -- the slots that a new container touches

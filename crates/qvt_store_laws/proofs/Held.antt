@@ -6,16 +6,16 @@ use Rattle.qvt_value.specs.declared.value.Value.{Value}
 use Rattle.qvt_metamodel.specs.Metamodels.{is_single}
 use Rattle.qvt_relation.proofs.Bools.{and_left, and_right, and_both, or_cases, or_left, or_right, none_left, none_right, not_true, not_of_false, either, or_false, clash, refuted}
 use Rattle.qvt_slots.specs.Slots.{has}
-use Rattle.qvt_slots.specs.Change.{Change, object_value, among, is_here, is_added, is_removed, gains, is_taken, is_replaced, is_moved_in, is_moved, leaves, loses, keeps, with_object, slot_elsewhere, slot_after}
+use Rattle.qvt_slots.specs.Change.{Change, object_value, among_objects, is_here, is_added, is_removed, gains, is_taken, is_replaced, is_moved_in, is_moved, leaves, loses, keeps, with_object, slot_elsewhere, slot_after}
 use Rattle.qvt_store_laws.specs.Law.{HasDifferences}
 use Rattle.qvt_slots.proofs.Objects.{has-filter, has-push, beyond-is}
 
 module _ (c : Change) (made : HasDifferences c) where
   pub added-is : (y : ℕ) → is_added c y ≡ (has c.items y && not (has (c.slots c.object c.feature) y))
-  added-is y = ap (λ os. among os y) made.adds ∙ beyond-is (c.slots c.object c.feature) c.items y
+  added-is y = ap (λ os. among_objects os y) made.adds ∙ beyond-is (c.slots c.object c.feature) c.items y
 
   pub removed-is : (y : ℕ) → is_removed c y ≡ (has (c.slots c.object c.feature) y && not (has c.items y))
-  removed-is y = ap (λ os. among os y) made.removes ∙ beyond-is c.items (c.slots c.object c.feature) y
+  removed-is y = ap (λ os. among_objects os y) made.removes ∙ beyond-is c.items (c.slots c.object c.feature) y
 
   pub added_new : (y : ℕ) → is_added c y ≡ true → has c.items y ≡ true
   added_new y h = and_left _ _ (sym (added-is y) ∙ h)

@@ -16,7 +16,7 @@ use Rattle.qvt_slots.specs.declared.fault.StoreFault.{StoreFault}
 use Rattle.qvt_slots.specs.declared.fault.StoreFault.TheVariants.{TooMany, ContainmentCycle, ReadOnly, CrossModel}
 use Rattle.qvt_slots.specs.declared.op.SetOp.TheVariants.{Put, Add}
 use Rattle.qvt_slots.specs.Slots.{Slots, has, OppositesAgree, OneContainer, Inside}
-use Rattle.qvt_slots.specs.Change.{Change, object_value, is_here, among, gains, keeps, with_object, with_end, slot_after}
+use Rattle.qvt_slots.specs.Change.{Change, object_value, is_here, among_objects, gains, keeps, with_object, with_end, slot_after}
 use Rattle.qvt_slots.specs.Contents.{Contents, AreNamed, class_of, extent_of, extent_at, is_extent, is_live, is_model, is_named, slot_of}
 use Rattle.qvt_slots.specs.Types.{is_of_type, AreTyped, HasCodeType, IsAssignable}
 use Rattle.qvt_value.specs.Kept.{is_same, firsts}
@@ -79,9 +79,9 @@ each_list c P x f new more rest = go (is_here c x f) refl (gains c x f) refl
     go false e true k = more k
     go false e false k = rest
 
-not_among : (test : Oid → Bool) (os : List Oid) (y : ℕ) → list_any test os ≡ false → among os y ≡ true → test (record { 0 = y }) ≡ false
+not_among : (test : Oid → Bool) (os : List Oid) (y : ℕ) → list_any test os ≡ false → among_objects os y ≡ true → test (record { 0 = y }) ≡ false
 not_among test [] y n h = cc
-not_among test (o ∷ os) y n h = elim (or_cases (o.0 == y) (among os y) h) [
+not_among test (o ∷ os) y n h = elim (or_cases (o.0 == y) (among_objects os y) h) [
   | inl same ↦ subst (λ k. test (record { 0 = k }) ≡ false) ((Decides-eqb o.0 y).0 same) (none_left _ _ n)
   | inr more ↦ not_among test os y (none_right (test o) _ n) more
 ]

@@ -9,7 +9,7 @@ use Rattle.qvt_metamodel.specs.Metamodels.{opposite, is_opposite, is_feature_num
 use Rattle.qvt_metamodel.specs.WellFormed.{IsWellFormed}
 use Rattle.qvt_relation.proofs.Bools.{and_left, and_right, and_false, and_false_left, or_left, or_right, or_cases, or_none, none_left, none_right, none_of, refuted, clash}
 use Rattle.qvt_slots.specs.Slots.{Slots, object_in, passes, is_object, has}
-use Rattle.qvt_slots.specs.Change.{Change, is_some_object, among, is_here, is_added, is_removed, names_containment, is_container, gains, is_taken, is_replaced, is_moved_in, is_moved, leaves, is_left, loses, keeps, with_end, slot_elsewhere}
+use Rattle.qvt_slots.specs.Change.{Change, is_some_object, among_objects, is_here, is_added, is_removed, names_containment, is_container, gains, is_taken, is_replaced, is_moved_in, is_moved, leaves, is_left, loses, keeps, with_end, slot_elsewhere}
 use Rattle.qvt_slots.specs.Contents.{Contents, is_slot, slot_of}
 use Rattle.qvt_store_laws.proofs.Opposites.{same_number, here}
 
@@ -126,10 +126,10 @@ module _ (c : Change) (well : IsWellFormed c.metas) (no_gain : (x f : ℕ) → g
 -- a change that adds and removes no object leaves all other slots
 module _ (c : Change) (well : IsWellFormed c.metas) (none : c.added ≡ []) (gone : c.removed ≡ []) where
   no_added : (y : ℕ) → is_added c y ≡ false
-  no_added y = ap (λ os. among os y) none
+  no_added y = ap (λ os. among_objects os y) none
 
   no_removed : (y : ℕ) → is_removed c y ≡ false
-  no_removed y = ap (λ os. among os y) gone
+  no_removed y = ap (λ os. among_objects os y) gone
 
   no_gain : (x f : ℕ) → gains c x f ≡ false
   no_gain x f = and_false (is_opposite c.metas c.feature f) _ (λ _. no_added x)
@@ -151,7 +151,7 @@ module _ (c : Change) (well : IsWellFormed c.metas) (alone : opposite c.metas c.
 
   never_leave : (x f y : ℕ) → leaves c x f y ≡ false
   never_leave x f y = none_of (is_taken c x f y) (is_replaced c x f y) (is_moved_in c x f y) (is_moved c x f y)
-      (and_false (is_here c x f) _ (λ _. ap (λ os. among os y) gone))
+      (and_false (is_here c x f) _ (λ _. ap (λ os. among_objects os y) gone))
       (and_false_left _ _ (and_false_left _ _ (never_gain x f)))
       (and_false_left _ _ (and_false_left _ _ (and_false_left _ _ plain)))
       (and_false_left _ _ (and_false_left _ _ (and_false_left _ _ (and_false_left _ _ (ap (names_containment c.metas) alone)))))

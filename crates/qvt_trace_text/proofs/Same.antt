@@ -7,9 +7,9 @@ use Rattle.serde_json.specs.View.{items_of}
 use Rattle.qvt_base.specs.declared.numbers.MappingNo.{MappingNo}
 use Rattle.qvt_base.specs.declared.numbers.Oid.{Oid}
 use Rattle.qvt_json.specs.Plain.{file_text}
-use Rattle.qvt_metamodel.specs.Metamodels.{feature_at}
+use Rattle.qvt_metas.specs.Metamodels.{feature_at}
 use Rattle.qvt_run_data.specs.declared.record.Record.{Record}
-use Rattle.qvt_slots.specs.Contents.{Contents}
+use Rattle.qvt_store.specs.Contents.{Contents}
 use Rattle.qvt_slots.specs.declared.op.SetOp.{SetOp}
 use Rattle.qvt_slots.specs.declared.op.SetOp.TheVariants as op
 use Rattle.qvt_typing.specs.Accepts.{ProgramTerm}

@@ -3,11 +3,11 @@ use Rattle.std.specs.Prelude.{ℕ, List, map, Option, codes}
 use Rattle.std.specs.Option.{is_some}
 use Rattle.serde_json.specs.Data.{Data, boolean, string, array, object, Items, Members, no_members, member, put}
 use Rattle.serde_json.specs.View.{items_of}
-use Rattle.qvt_metamodel.specs.Metamodels.{Metamodels, feature_at}
+use Rattle.qvt_metas.specs.Metamodels.{Metamodels, feature_at}
 use Rattle.qvt_run_data.specs.declared.late.LateWrite.{LateWrite}
 use Rattle.qvt_run_data.specs.declared.record.Record.{Record}
 use Rattle.qvt_run_data.specs.declared.request.Request.{Request}
-use Rattle.qvt_slots.specs.Contents.{Contents}
+use Rattle.qvt_store.specs.Contents.{Contents}
 use Rattle.qvt_typing.specs.Accepts.{ProgramTerm}
 use Rattle.qvt_value.specs.declared.value.Kind.{Kind}
 use Rattle.qvt_value.specs.declared.value.LiteralRef.{LiteralRef}

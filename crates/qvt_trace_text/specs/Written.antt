@@ -2,7 +2,7 @@
 use Rattle.std.specs.Prelude.{◌≡◌, List, map}
 use Rattle.qvt_run_data.specs.declared.record.Record.{Record}
 use Rattle.qvt_run_rules.specs.Trace.{candidates}
-use Rattle.qvt_slots.specs.Contents.{Contents}
+use Rattle.qvt_store.specs.Contents.{Contents}
 use Rattle.qvt_meaning.specs.Run.{AnsweredWrite, Finish, FinishedRun, late_value}
 use Rattle.qvt_trace_text.specs.declared.entry.WrittenEntry.{WrittenEntry}
 

@@ -1,6 +1,6 @@
 -- Laws of acceptance.
 use Rattle.std.specs.Prelude.{◌≡◌, Ok}
-use Rattle.qvt_metamodel.specs.Metamodels.{Metamodels}
+use Rattle.qvt_metas.specs.Metamodels.{Metamodels}
 use Rattle.qvt_tree_types.specs.Module.{ModuleTerm}
 use Rattle.qvt_types_nodes.specs.StripModule.{strip}
 use Rattle.qvt_types_program.specs.Accepts.{ProgramTerm, accepts}

@@ -3,8 +3,8 @@ use Rattle.std.proofs.Common.{◌≡◌, ◌∙◌, ℕ, List, [], ◌∷◌, le
 use Rattle.std.specs.Prelude.{nat_lt}
 use Rattle.std.specs.List.{list_all}
 use Rattle.qvt_base.specs.declared.numbers.MappingNo.{MappingNo}
-use Rattle.qvt_metamodel.specs.Metamodels.{Metamodels}
-use Rattle.qvt_metamodel.specs.Descends.{descends}
+use Rattle.qvt_metas.specs.Metamodels.{Metamodels}
+use Rattle.qvt_metas.specs.Descends.{descends}
 use Rattle.qvt_metamodel.proofs.Bools.{and_both, and_left, and_right}
 use Rattle.qvt_types_data.specs.Term.{TyTerm, Class, ty_view}
 use Rattle.qvt_types_data.specs.declared.ty.Ty.{Ty}

@@ -2,7 +2,7 @@
 use Rattle.std.proofs.Common.{◌≡◌, ◌∙◌, ℕ, List, [], ◌∷◌, set, replicate, Bool, true, false, ◌⊎◌, inl, inr, refl, sym, ap}
 use Rattle.std.specs.Prelude.{if◌then◌else◌}
 use Rattle.std.proofs.lemmas.Bool.{eqb-true}
-use Rattle.qvt_metamodel.specs.Metamodels.{Metamodels, is_element}
+use Rattle.qvt_metas.specs.Metamodels.{Metamodels, is_element}
 use Rattle.qvt_metamodel.proofs.Bools.{clash}
 use Rattle.qvt_types_groups.specs.declared.signature.HeadClass.{HeadClass}
 use Rattle.qvt_types_groups.specs.declared.signature.HeadClass.TheVariants.{Missing, Unknown, Known}

@@ -3,7 +3,7 @@ use Rattle.std.proofs.Common.{◌≡◌, List, [], ◌∷◌, length, true, ◌&
 use Rattle.std.specs.Prelude.{◌==◌}
 use Rattle.std.proofs.lemmas.Bool.{eqb-true}
 use Rattle.qvt_base.specs.declared.numbers.MappingNo.{MappingNo}
-use Rattle.qvt_metamodel.specs.Metamodels.{Metamodels}
+use Rattle.qvt_metas.specs.Metamodels.{Metamodels}
 use Rattle.qvt_metamodel.proofs.Bools.{and_left, and_right}
 use Rattle.qvt_types_data.specs.Term.{same_type, ty_view}
 use Rattle.qvt_types_data.specs.declared.ty.Ty.{Ty}

@@ -3,7 +3,7 @@
 use Rattle.std.specs.Prelude.{ℕ, ◌||◌, Bool, false, List, Option, Some, None, slice_index_or}
 use Rattle.std.specs.List.{list_all}
 use Rattle.qvt_base.specs.declared.numbers.ClassNo.{ClassNo}
-use Rattle.qvt_metamodel.specs.Metamodels.{Metamodels}
+use Rattle.qvt_metas.specs.Metamodels.{Metamodels}
 use Rattle.qvt_types_groups.specs.declared.signature.Signature.{Signature}
 use Rattle.qvt_types_above.specs.declared.asks.Guard.{Guard}
 use Rattle.qvt_types_above.specs.Covers.{covers_at}

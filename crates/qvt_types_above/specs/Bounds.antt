@@ -1,8 +1,8 @@
 -- Units that take the same and answer objects of classes of which all are above one class.
 use Rattle.std.specs.Prelude.{ℕ, ◌&&◌, Bool, false, List, [], ◌∷◌, length, nat_lt, Option, Some, None}
 use Rattle.std.specs.List.{list_all}
-use Rattle.qvt_metamodel.specs.Metamodels.{Metamodels}
-use Rattle.qvt_metamodel.specs.Descends.{descends}
+use Rattle.qvt_metas.specs.Metamodels.{Metamodels}
+use Rattle.qvt_metas.specs.Descends.{descends}
 use Rattle.qvt_types_data.specs.Term.{TyTerm, Class, ty_view}
 use Rattle.qvt_types_data.specs.declared.ty.Ty.{Ty}
 use Rattle.qvt_types_groups.specs.declared.signature.Signature.{Signature}

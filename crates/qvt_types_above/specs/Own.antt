@@ -1,6 +1,6 @@
 -- What is told of the units of each class by itself, and of those of the class above all.
 use Rattle.std.specs.Prelude.{ℕ, List, [], ◌∷◌, if◌then◌else◌, slice_set}
-use Rattle.qvt_metamodel.specs.Metamodels.{Metamodels, is_element}
+use Rattle.qvt_metas.specs.Metamodels.{Metamodels, is_element}
 use Rattle.qvt_types_groups.specs.declared.signature.HeadClass.{HeadClass}
 use Rattle.qvt_types_groups.specs.declared.signature.HeadClass.TheVariants.{Missing, Unknown, Known}
 use Rattle.qvt_types_groups.specs.declared.signature.Signature.{Signature}

@@ -1,7 +1,7 @@
 -- What the tellings mean.
 use Rattle.std.specs.Prelude.{◌≡◌, ℕ, ◌⊎◌, true, List, [], ◌∷◌, length, IfSome, slice_index_or}
 use Rattle.qvt_base.specs.declared.numbers.ClassNo.{ClassNo}
-use Rattle.qvt_metamodel.specs.Metamodels.{Metamodels}
+use Rattle.qvt_metas.specs.Metamodels.{Metamodels}
 use Rattle.qvt_types_groups.specs.declared.signature.HeadClass.{HeadClass}
 use Rattle.qvt_types_groups.specs.declared.signature.HeadClass.TheVariants.{Known}
 use Rattle.qvt_types_groups.specs.declared.signature.Signature.{Signature}

@@ -24,7 +24,7 @@ pub fn is_element(metas: &Metas, class: ClassNo) -> bool
     class.0 != nowhere && metas.descends(ClassNo(nowhere), class)
 }
 
-ghost use Rattle.qvt_metamodel.specs.Metamodels.{is_element};
+ghost use Rattle.qvt_metas.specs.Metamodels.{is_element};
 
 /// Tells it of a class, where it is there.
 pub fn tell(row: &mut AboveRow, class: u32, above: Above)

@@ -5,24 +5,20 @@ use Rattle.std.proofs.lemmas.Bool.{eq-eqb, eqb-true, lt-ltb, le-ltb}
 use Rattle.std.proofs.lemmas.Bool.Decides.{leb_tells}
 use Rattle.qvt_metamodel.specs.declared.info.ClassInfo.{ClassInfo}
 use Rattle.qvt_metamodel.specs.declared.row.Row.{Row}
-use Rattle.qvt_metamodel.specs.Metamodels.{Metamodels, is_element}
-use Rattle.qvt_metamodel.specs.Descends.{IsAncestor, descends, reaches}
+use Rattle.qvt_metas.specs.Metamodels.{Metamodels, is_element}
+use Rattle.qvt_metas.specs.Descends.{IsAncestor, descends, reaches}
 use Rattle.qvt_metamodel.specs.Kept.{no_row, is_marked}
 use Rattle.qvt_metamodel.specs.WellFormed.{IsWellFormed}
 use Rattle.qvt_metamodel.proofs.Bools.{not_true, clash, ap2}
 use Rattle.qvt_metamodel.proofs.Ancestors.{none_past, ends}
-use Rattle.qvt_meta_tables.specs.Tables.{of_classes, EndsWithin}
+use Rattle.qvt_metas.specs.Tables.{of_classes, EndsWithin}
 use Rattle.qvt_types_choices.specs.Sets.{IsSetOf}
 use Rattle.qvt_types_choices.proofs.ByClass.{AreLeast}
 use Rattle.qvt_types_choices.proofs.Lowest.{same_test}
-use Rattle.qvt_types_choices.proofs.Sets.{set_same}
+use Rattle.qvt_types_choices.proofs.Sets.{or_false, set_same}
 
 flipped : (c d : ℕ) → (c == d) ≡ (d == c)
 flipped c d = same_test (c == d) (d == c) (λ h. eq-eqb d c (sym (eqb-true c d h))) (λ h. eq-eqb c d (sym (eqb-true d c h)))
-
-or_false : (a : Bool) → (a || false) ≡ a
-or_false true = refl
-or_false false = refl
 
 module _ (m : Metamodels) where
   -- the sets that are made of the classes alone

@@ -6,8 +6,8 @@ use Rattle.std.proofs.lemmas.Bool.{eq-eqb, eqb-true}
 use Rattle.std.proofs.lemmas.List.{length-set, get_or-set_same, get_or-set_other, get_or_past}
 use Rattle.qvt_base.specs.declared.numbers.ClassNo.{ClassNo}
 use Rattle.qvt_metamodel.specs.declared.info.ClassInfo.{ClassInfo}
-use Rattle.qvt_metamodel.specs.Metamodels.{Metamodels, class_at, nowhere_class, is_element}
-use Rattle.qvt_metamodel.specs.Descends.{is_superclass, Inherits, IsAncestor, descends, Descends}
+use Rattle.qvt_metas.specs.Metamodels.{Metamodels, class_at, nowhere_class, is_element}
+use Rattle.qvt_metas.specs.Descends.{is_superclass, Inherits, IsAncestor, descends, Descends}
 use Rattle.qvt_metamodel.proofs.Ancestors.{begins}
 use Rattle.qvt_metamodel.proofs.Bools.{not_true, clash}
 use Rattle.qvt_metamodel.proofs.Halves.{Half, old, new, half}

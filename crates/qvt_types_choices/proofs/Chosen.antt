@@ -5,8 +5,8 @@ use Rattle.std.specs.List.{list_any, range_with_len}
 use Rattle.std.proofs.lemmas.Bool.{eq-eqb, lt-ltb}
 use Rattle.std.proofs.lemmas.Option.{slice_get_within, get_or_from_slice_get}
 use Rattle.std.proofs.lemmas.List.FromFn.{get_or-map-range_with_len, length-map-range_with_len}
-use Rattle.qvt_metamodel.specs.Metamodels.{Metamodels, class_at, is_element}
-use Rattle.qvt_metamodel.specs.Descends.{descends, reaches}
+use Rattle.qvt_metas.specs.Metamodels.{Metamodels, class_at, is_element}
+use Rattle.qvt_metas.specs.Descends.{descends, reaches}
 use Rattle.qvt_metamodel.specs.Kept.{is_marked}
 use Rattle.qvt_metamodel.specs.declared.row.Row.{Row}
 use Rattle.qvt_metamodel.proofs.Bools.{and_left, and_right, not_true, clash}

@@ -4,8 +4,8 @@ use Rattle.std.specs.Prelude.{if◌then◌else◌, is_some}
 use Rattle.std.specs.List.{list_any, list_all, IsDistinct}
 use Rattle.std.proofs.lemmas.Bool.{eq-eqb, eqb-true}
 use Rattle.qvt_base.specs.declared.numbers.ClassNo.{ClassNo}
-use Rattle.qvt_metamodel.specs.Metamodels.{Metamodels, class_at}
-use Rattle.qvt_metamodel.specs.Descends.{is_superclass, Inherits, IsAncestor, descends, Descends}
+use Rattle.qvt_metas.specs.Metamodels.{Metamodels, class_at}
+use Rattle.qvt_metas.specs.Descends.{is_superclass, Inherits, IsAncestor, descends, Descends}
 use Rattle.qvt_metamodel.proofs.Ancestors.{passing, begins, over as goes_over}
 use Rattle.qvt_metamodel.proofs.Bools.{and_both, and_left, and_right, and_no, or_left, or_right, or_cases, not_true, clash}
 use Rattle.qvt_types_units.specs.declared.choice.FoundUnit.{FoundUnit}
@@ -19,9 +19,10 @@ use Rattle.qvt_types_units.specs.Overrides.{is_strictly_below}
 use Rattle.qvt_types_choices.specs.Least.{stands_below, least_of}
 use Rattle.qvt_types_choices.specs.Only.{is_rival, is_only, least}
 use Rattle.qvt_types_choices.specs.ByClass.{choice_among, choice_for, own, known_at, top_choice, is_unclear, is_unclear_in, is_rival_in, with_chosen, chosens, are_known, some_unclear, some_rival, joined_by, inherited, AreKnown}
-use Rattle.qvt_types_choices.proofs.ByClass.{AreLeast, Antisymmetric, in_filter, into_filter, none_passes, some_in, some_none, same_some, by_top}
+use Rattle.qvt_types_choices.proofs.ByClass.{AreLeast, Antisymmetric, filter_same, in_filter, into_filter, none_passes, some_in, some_none, same_some, by_top}
 use Rattle.qvt_types_choices.proofs.Filtered.{all_told, single_is, none_among, lowest_is, chosen_by}
 use Rattle.qvt_types_choices.proofs.Lowest.{Transitive, In, none_kept, same_test, least_below}
+use Rattle.qvt_types_choices.proofs.Sets.{or_false}
 use Rattle.qvt_types_choices.proofs.Singly.{untrue, is_not, strict_apart, no_rival, below_by, strict_by, least_there, only_lowest, lowest_only}
 use Rattle.qvt_types_choices.proofs.Somewhere.{some_is, is_some_of}
 
@@ -77,6 +78,13 @@ module _ (m : Metamodels) (t : Transitive m) (least : AreLeast m) where
       ])
       (λ h. some_of (λ x. descends m x.0 d.0) (s ∷ cs) h
       (λ x there is. t c x.0 d.0 ((least c x.0).1 (inr (inl (goes_over m c x.0 x.0 (ap (list_any (λ (y : ClassNo). y.0 == x.0)) e ∙ there) (inl refl))))) is))
+
+-- a class without units of its own has the choice of its only superclass
+by_one : (m : Metamodels) (us : List Signature) → Transitive m → AreLeast m → (ns : List ℕ) (c : ℕ) (s : ClassNo) → own us ns c ≡ [] → (class_at m c).supers ≡ s ∷ []
+    → choice_for m us ns c ≡ choice_for m us ns s.0
+unfolding choice_for
+by_one m us t low ns c s none e = ap (choice_among m us) (filter_same (λ n. is_context_above m (context_at us n) c) (λ n. is_context_above m (context_at us n) s.0) ns
+    (λ n i. above_supers m t low (context_at us n) c s [] (none_passes (λ k. is_context (context_at us k) c) ns none n i) e ∙ or_false (is_context_above m (context_at us n) s.0)))
 
 -- What a choice says of the units above a class.
 
@@ -330,4 +338,5 @@ inherited_is m us t a low ns d known top c f are is none tells = by (class_at m 
 
     by : (ks : List ClassNo) → (class_at m c).supers ≡ ks → inherited m us known top ks ≡ Some f → f ≡ choice_for m us ns c
     by [] e tells = same_some top f tells ∙ is ∙ sym (by_top m us t low ns c none e)
-    by (s ∷ cs) e tells = told s cs e (are_known known (s ∷ cs)) refl tells
+    by (s ∷ []) e tells = are.told s.0 f tells ∙ sym (by_one m us t low ns c s none e)
+    by (s ∷ k ∷ cs) e tells = told s (k ∷ cs) e (are_known known (s ∷ k ∷ cs)) refl tells

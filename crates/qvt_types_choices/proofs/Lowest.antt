@@ -2,8 +2,8 @@
 use Rattle.std.proofs.Common.{◌≡◌, ◌∙◌, ℕ, List, [], ◌∷◌, ◌≤◌, length, get_or, Bool, true, false, Option, None, ◌⊎◌, inl, inr, refl, sym, ap, arith}
 use Rattle.std.specs.Prelude.{if◌then◌else◌, filter, IsTrue}
 use Rattle.std.specs.List.{list_all}
-use Rattle.qvt_metamodel.specs.Metamodels.{Metamodels}
-use Rattle.qvt_metamodel.specs.Descends.{descends}
+use Rattle.qvt_metas.specs.Metamodels.{Metamodels}
+use Rattle.qvt_metas.specs.Descends.{descends}
 use Rattle.qvt_metamodel.proofs.Bools.{and_both, and_left, and_right, not_true, clash}
 use Rattle.qvt_types_units.specs.declared.signature.HeadClass.{HeadClass}
 use Rattle.qvt_types_units.specs.declared.signature.HeadClass.TheVariants.{Missing, Unknown, Known}
@@ -98,6 +98,48 @@ module _ (m : Metamodels) (us : List Signature) (t : Transitive m) where
         | inr r ↦ elim r [
           | inl same ↦ absurd (clash (ap (λ x. R x b) (sym same) ∙ to_b) e)
           | inr s ↦ go b n (inr s) (and_both (R n b) (list_all (R n) ks) to_b others)
+        ]
+      ]
+
+  -- where of any two one is below the other, what is found is below each
+  pub least_of_chain : (b : ℕ) (ns : List ℕ) → ((x y : ℕ) → In x (b ∷ ns) → In y (b ∷ ns) → (R x y ≡ true) ⊎ (R y x ≡ true)) → (x : ℕ) → In x (b ∷ ns) → R (least_of m us b ns) x ≡ true
+  least_of_chain b [] related x i = elim i [
+    | inl same ↦ ap (R b) same ∙ elim (related b b (inl refl) (inl refl)) [ inl h ↦ h | inr h ↦ h ]
+    | inr r ↦ absurd r
+  ]
+  least_of_chain b (k ∷ ks) related x i = by (R k b) refl (λ c. least_of_chain c ks)
+    where
+      IsChain : ℕ → Type 0
+      IsChain c = (y z : ℕ) → In y (c ∷ ks) → In z (c ∷ ks) → (R y z ≡ true) ⊎ (R z y ≡ true)
+
+      of_k : IsChain k
+      of_k y z j l = related y z (inr j) (inr l)
+
+      wider : (y : ℕ) → In y (b ∷ ks) → In y (b ∷ k ∷ ks)
+      wider y j = elim j [
+        | inl same ↦ inl same
+        | inr r ↦ inr (inr r)
+      ]
+
+      of_b : IsChain b
+      of_b y z j l = related y z (wider y j) (wider z l)
+
+      b_to_k : R k b ≡ false → R b k ≡ true
+      b_to_k e = elim (related b k (inl refl) (inr (inl refl))) [
+        | inl h ↦ h
+        | inr h ↦ clash h e
+      ]
+
+      by : (t : Bool) → R k b ≡ t → ((c : ℕ) → IsChain c → (y : ℕ) → In y (c ∷ ks) → R (least_of m us c ks) y ≡ true) → R (least_of m us (if t then k else b) ks) x ≡ true
+      by true e go = elim i [
+        | inl same ↦ trans (least_of m us k ks) k x (go k of_k k (inl refl)) (ap (R k) same ∙ e)
+        | inr r ↦ go k of_k x r
+      ]
+      by false e go = elim i [
+        | inl same ↦ go b of_b x (inl same)
+        | inr r ↦ elim r [
+          | inl same ↦ trans (least_of m us b ks) b x (go b of_b b (inl refl)) (ap (R b) same ∙ b_to_k e)
+          | inr s ↦ go b of_b x (inr s)
         ]
       ]
 

@@ -8,12 +8,12 @@ use Rattle.std.proofs.lemmas.Nat.{le-div}
 use Rattle.std.proofs.lemmas.Bool.{cases_eq, eq-eqb, eqb-true, le-ltb}
 use Rattle.std.proofs.lemmas.Bool.Decides.{leb_tells}
 use Rattle.std.proofs.lemmas.List.{get_or-set_same, get_or-set_other}
-use Rattle.qvt_metamodel.specs.Metamodels.{Metamodels}
+use Rattle.qvt_metas.specs.Metamodels.{Metamodels}
 use Rattle.qvt_metamodel.specs.declared.row.Row.{Row}
 use Rattle.qvt_metamodel.specs.Kept.{no_row, word_of, is_bit, is_marked}
 use Rattle.qvt_metamodel.proofs.Bools.{and_no, not_true}
 use Rattle.qvt_metamodel.proofs.Rows.{no_bit, no_mark}
-use Rattle.qvt_meta_tables.specs.Tables.{mark_of}
+use Rattle.qvt_metas.specs.Tables.{mark_of}
 use Rattle.qvt_meta_tables.proofs.Words.{joined_word, joined_marks}
 use Rattle.qvt_types_choices.specs.Sets.{IsSetOf, bits}
 

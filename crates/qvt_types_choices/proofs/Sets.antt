@@ -5,11 +5,11 @@ use Rattle.std.specs.List.{list_any, range_with_len}
 use Rattle.std.proofs.lemmas.List.{take_all}
 use Rattle.std.proofs.lemmas.Bool.{eq-eqb, eqb-true, lt-ltb, ltb-true, le-ltb}
 use Rattle.qvt_metamodel.specs.declared.row.Row.{Row}
-use Rattle.qvt_metamodel.specs.Metamodels.{Metamodels}
+use Rattle.qvt_metas.specs.Metamodels.{Metamodels}
 use Rattle.qvt_metamodel.specs.Kept.{is_marked, no_row}
 use Rattle.qvt_metamodel.proofs.Bools.{and_both, and_left, and_right, clash, not_true, ap2}
 use Rattle.qvt_metamodel.proofs.Rows.{no_mark}
-use Rattle.qvt_meta_tables.specs.Tables.{EndsWithin}
+use Rattle.qvt_metas.specs.Tables.{EndsWithin}
 use Rattle.qvt_rows.specs.Sets.{Overlap, IsSubset}
 use Rattle.qvt_types_choices.specs.Sets.{IsSetOf}
 use Rattle.qvt_types_choices.proofs.Lowest.{In, same_test}
@@ -19,7 +19,7 @@ pub any_same : (p q : ℕ → Bool) (xs : List ℕ) → ((x : ℕ) → In x xs �
 any_same p q [] same = refl
 any_same p q (x ∷ xs) same = ap2 (λ a b. a || b) (same x (inl refl)) (any_same p q xs (λ y i. same y (inr i)))
 
-or_false : (a : Bool) → (a || false) ≡ a
+pub or_false : (a : Bool) → (a || false) ≡ a
 or_false true = refl
 or_false false = refl
 

@@ -4,8 +4,8 @@ use Rattle.std.specs.Prelude.{if◌then◌else◌, filter, is_some}
 use Rattle.std.specs.List.{list_any, list_all, IsDistinct, AllByRecursion}
 use Rattle.std.proofs.lemmas.Bool.{eq-eqb, eqb-true}
 use Rattle.std.proofs.lemmas.Map.Keys.{IsDistinct-head, IsDistinct-tail}
-use Rattle.qvt_metamodel.specs.Metamodels.{Metamodels, class_at, is_element}
-use Rattle.qvt_metamodel.specs.Descends.{descends, reaches}
+use Rattle.qvt_metas.specs.Metamodels.{Metamodels, class_at, is_element}
+use Rattle.qvt_metas.specs.Descends.{descends, reaches}
 use Rattle.qvt_metamodel.proofs.Bools.{and_both, and_left, and_right, not_true, clash, ap2}
 use Rattle.qvt_types_units.specs.declared.choice.FoundUnit.TheVariants.{NoUnit, Unclear, Chosen}
 use Rattle.qvt_types_units.specs.declared.signature.HeadClass.{HeadClass}

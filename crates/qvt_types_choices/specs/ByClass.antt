@@ -2,8 +2,8 @@
 use Rattle.std.specs.Prelude.{◌≡◌, ◌<◌, ℕ, ◌&&◌, not, Bool, true, false, List, [], ◌∷◌, length, map, filter, Option, Some, None, is_some, if◌then◌else◌, slice_index_or, slice_set}
 use Rattle.std.specs.List.{list_any, list_all, range_with_len}
 use Rattle.qvt_base.specs.declared.numbers.ClassNo.{ClassNo}
-use Rattle.qvt_metamodel.specs.Metamodels.{Metamodels, class_at, is_element}
-use Rattle.qvt_metamodel.specs.Descends.{descends}
+use Rattle.qvt_metas.specs.Metamodels.{Metamodels, class_at, is_element}
+use Rattle.qvt_metas.specs.Descends.{descends}
 use Rattle.qvt_metamodel.specs.Kept.{is_marked}
 use Rattle.qvt_metamodel.specs.declared.row.Row.{Row}
 use Rattle.qvt_types_units.specs.declared.choice.FoundUnit.{FoundUnit}
@@ -134,10 +134,11 @@ joined_by m us known cs (Some n) =
 abbrev pub joined : Metamodels → List Signature → List (Option FoundUnit) → List ClassNo → Option FoundUnit
 joined m us known cs = if are_known known cs then joined_by m us known cs (least m us (chosens known cs)) else None
 
--- the choice for a class without units of its own, by its superclasses
+-- the choice for a class without units of its own, by its superclasses: with one it has the choice of that
 abbrev pub inherited : Metamodels → List Signature → List (Option FoundUnit) → FoundUnit → List ClassNo → Option FoundUnit
 inherited m us known top [] = Some top
-inherited m us known top (c ∷ cs) = joined m us known (c ∷ cs)
+inherited m us known top (c ∷ []) = known_at known c.0
+inherited m us known top (c ∷ d ∷ cs) = joined m us known (c ∷ d ∷ cs)
 
 -- what is known of a class is its choice; one of which nothing is known has no units of its own
 pub record AreKnown (m : Metamodels) (us : List Signature) (ns : List ℕ) (known : List (Option FoundUnit)) : Type 0 where

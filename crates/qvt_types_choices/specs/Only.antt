@@ -1,8 +1,8 @@
 -- A unit is the single choice for a class where it is above the class, and each other unit of the name that is above the class is
 -- strictly above this one.
-use Rattle.std.specs.Prelude.{ℕ, eqb, not, ◌&&◌, Bool, List, [], ◌∷◌, length, Option, Some, None}
+use Rattle.std.specs.Prelude.{ℕ, eqb, nat_lt, not, ◌&&◌, Bool, List, [], ◌∷◌, length, Option, Some, None}
 use Rattle.std.specs.List.{list_any, range_with_len}
-use Rattle.qvt_metamodel.specs.Metamodels.{Metamodels}
+use Rattle.qvt_metas.specs.Metamodels.{Metamodels}
 use Rattle.qvt_types_units.specs.declared.signature.Signature.{Signature}
 use Rattle.qvt_types_units.specs.Choice.{is_context_above, context_at, candidates}
 use Rattle.qvt_types_units.specs.Overrides.{is_strictly_below}
@@ -17,10 +17,14 @@ is_only m us ns n c =
     is_context_above m (context_at us n) c
     && not (list_any (λ k. is_rival m us n k && is_context_above m (context_at us k) c) ns)
 
--- the other is a rival, and a class is below both
+-- each of the two is a rival of the other: neither is strictly above the other. Two are asked once, in the order of their numbers
+abbrev pub are_rivals : Metamodels → List Signature → ℕ → ℕ → Bool
+are_rivals m us n k = nat_lt n k && (is_rival m us n k && is_rival m us k n)
+
+-- the two are rivals of each other, and a class is below both
 abbrev pub is_contested : Metamodels → List Signature → ℕ → ℕ → Bool
 is_contested m us n k =
-    is_rival m us n k
+    are_rivals m us n k
     && list_any (λ d. is_context_above m (context_at us n) d && is_context_above m (context_at us k) d) (range_with_len 0 (length m.classes))
 
 -- of the units the lowest one, from the first to the last

@@ -1,10 +1,10 @@
 -- Sets of classes as rows of bits.
 use Rattle.std.specs.Prelude.{◌≡◌, ◌<◌, ℕ, nat_lt, ◌==◌, ◌&&◌, ◌||◌, Bool, true, false, List, length, slice_index_or}
-use Rattle.qvt_metamodel.specs.Metamodels.{Metamodels, class_at}
-use Rattle.qvt_metamodel.specs.Descends.{reaches}
+use Rattle.qvt_metas.specs.Metamodels.{Metamodels, class_at}
+use Rattle.qvt_metas.specs.Descends.{reaches}
 use Rattle.qvt_metamodel.specs.Kept.{no_row, is_marked}
 use Rattle.qvt_metamodel.specs.declared.row.Row.{Row}
-use Rattle.qvt_meta_tables.specs.Tables.{EndsWithin}
+use Rattle.qvt_metas.specs.Tables.{EndsWithin}
 use Rattle.qvt_types_choices.specs.declared.class_sets.ClassSets.{ClassSets}
 
 -- the set of those of the classes that pass

@@ -1,8 +1,8 @@
 -- The classes whose objects may be handed to some units of a name, and to no single one.
 use Rattle.std.specs.Prelude.{ℕ, ◌&&◌, ◌||◌, not, Bool, List, length, filter, Option, is_some, if◌then◌else◌}
 use Rattle.std.specs.List.{list_any, range_with_len}
-use Rattle.qvt_metamodel.specs.Metamodels.{Metamodels, class_at}
-use Rattle.qvt_metamodel.specs.Descends.{descends}
+use Rattle.qvt_metas.specs.Metamodels.{Metamodels, class_at}
+use Rattle.qvt_metas.specs.Descends.{descends}
 use Rattle.qvt_types_units.specs.declared.choice.FoundUnit.{FoundUnit}
 use Rattle.qvt_types_units.specs.declared.choice.FoundUnit.TheVariants.{NoUnit, Untyped, Chosen}
 use Rattle.qvt_types_units.specs.declared.signature.HeadClass.{HeadClass}

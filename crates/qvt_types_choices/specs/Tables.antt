@@ -1,7 +1,7 @@
 -- What is told once of the units of a name.
 use Rattle.std.specs.Prelude.{◌≡◌, ℕ, List, length, map}
 use Rattle.std.specs.List.{range_with_len}
-use Rattle.qvt_metamodel.specs.Metamodels.{Metamodels}
+use Rattle.qvt_metas.specs.Metamodels.{Metamodels}
 use Rattle.qvt_types_units.specs.declared.signature.Signature.{Signature}
 use Rattle.qvt_types_units.specs.Choice.{looked_up}
 use Rattle.qvt_types_choices.specs.Stuck.{is_stuck}

@@ -1,12 +1,13 @@
 //! Sets of numbers that are made in place.
 
-ghost use Rattle.std.specs.Prelude.{◌≡◌, ◌<◌, ◌/◌, ◌%◌, ◌^◌, ◌+◌, ◌||◌, ◌&&◌, ◌==◌, ℕ, min, replicate, length, IfOk};
+ghost use Rattle.std.specs.Prelude.{◌≡◌, ◌<◌, ◌/◌, ◌+◌, ◌||◌, ◌&&◌, ◌==◌, ℕ, min, replicate, length, IfOk};
 ghost use Rattle.qvt_metamodel.specs.Kept.{is_marked};
 ghost use Rattle.qvt_types_choices.specs.Sets.{bits};
 
 use qvt_base::list_fault::ListFault;
 use qvt_base::seq::Seq;
 use qvt_metamodel::row::Row;
+use qvt_rows::sets::bit_of;
 use std::alloc::Global;
 
 /// As many words without bits as a set of numbers below the bound has.
@@ -18,13 +19,6 @@ pub fn no_bits(alloc: Global, bound: u32) -> Result<Seq<u64>, ListFault>
         words.push(0)?;
     }
     Ok(words)
-}
-
-/// The word where the bit of the number alone is.
-fn bit_of(number: u32) -> u64
-    ensures { result ≡ 2 ^ (number % 64) }
-{
-    1 << (number % 64)
 }
 
 /// Puts the number into a set, if it is to be there.

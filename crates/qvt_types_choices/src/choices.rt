@@ -2,7 +2,7 @@
 
 ghost use Rattle.std.specs.Prelude.{◌≡◌, ◌∷◌, [], eqb, length, map, IfOk};
 ghost use Rattle.std.specs.List.{IsDistinct, range_with_len};
-ghost use Rattle.qvt_meta_tables.specs.Tables.{EndsWithin};
+ghost use Rattle.qvt_metas.specs.Tables.{EndsWithin};
 ghost use Rattle.qvt_types_units.specs.Choice as choice;
 ghost use Rattle.qvt_types_choices.specs.Sets.{AreSets};
 ghost use Rattle.qvt_types_choices.specs.ByClass as by_class;
@@ -64,7 +64,7 @@ pub fn found(
 }
 
 /// What is found where there is one unit alone.
-fn found_alone(metas: &Metas, units: &[Signature], number: u32, class: ClassNo) -> FoundUnit
+pub fn found_alone(metas: &Metas, units: &[Signature], number: u32, class: ClassNo) -> FoundUnit
     ensures { result ≡ choice.looked_up metas.now units.now (number ∷ []) class.0 }
 {
     metas.are_well_formed();
@@ -81,7 +81,7 @@ fn found_alone(metas: &Metas, units: &[Signature], number: u32, class: ClassNo) 
     }
 }
 
-/// What is found for the class.
+/// What is found for the class among several units.
 pub fn look_up(
     alloc: Global,
     metas: &Metas,
@@ -94,24 +94,18 @@ pub fn look_up(
     requires distinct { IsDistinct eqb group.now }
     ensures { IfOk result (λ f. f ≡ choice.looked_up metas.now units.now group.now class.0) }
 {
-    match group {
-        [] => Ok(FoundUnit::NoUnit),
-        [number] => Ok(found_alone(metas, units, *number, class)),
-        several => {
-            metas.are_well_formed();
-            let order = class_order(alloc, metas)?;
-            let ClassChoices { stuck, .. } = all_choices(
-                alloc,
-                metas,
-                units,
-                several,
-                order.classes.as_slice(),
-            )?;
-            let choice = choice_of(metas, units, several, class);
-            let is_unsure = is_unsure(units, several);
-            Ok(found(metas, sets, is_unsure, &stuck, class, choice))
-        }
-    }
+    metas.are_well_formed();
+    let order = class_order(alloc, metas)?;
+    let ClassChoices { stuck, .. } = all_choices(
+        alloc,
+        metas,
+        units,
+        group,
+        order.classes.as_slice(),
+    )?;
+    let choice = choice_of(metas, units, group, class);
+    let is_unsure = is_unsure(units, group);
+    Ok(found(metas, sets, is_unsure, &stuck, class, choice))
 }
 
 fn choice_at(choices: &[FoundUnit], class: u32) -> FoundUnit

@@ -2,7 +2,7 @@
 
 ghost use Rattle.std.specs.Prelude.{◌≡◌, ◌<◌, ℕ, eqb, length, replicate, false, None, is_some, IfOk};
 ghost use Rattle.std.specs.List.{IsDistinct};
-ghost use Rattle.qvt_metamodel.specs.Metamodels.{class_at};
+ghost use Rattle.qvt_metas.specs.Metamodels.{class_at};
 ghost use Rattle.qvt_types_units.specs.Choice as choice;
 ghost use Rattle.qvt_types_choices.specs.ByClass as by_class;
 ghost use Rattle.qvt_types_choices.specs.ByClass.{AreKnown, AreChosen};
@@ -61,11 +61,10 @@ fn choice_among(
 fn nothing_known(alloc: Global, count: u32) -> Result<KnownChoices, ListFault>
     ensures { IfOk result (λ known. known ≡ replicate count None) }
 {
-    let mut known = Seq::new(alloc);
-    for class in 0..count {
-        known.push(None)?;
+    match vec![in alloc; None; count as usize] {
+        Ok(known) => Ok(Seq::from_vec(known)),
+        Err(_) => Err(ListFault::NoMemory),
     }
-    Ok(known)
 }
 
 fn known_at(known: &[Option<FoundUnit>], class: u32) -> Option<FoundUnit>
@@ -134,7 +133,7 @@ pub fn is_element(metas: &Metas, class: ClassNo) -> bool
     class.0 != nowhere && metas.descends(ClassNo(nowhere), class)
 }
 
-ghost use Rattle.qvt_metamodel.specs.Metamodels.{is_element};
+ghost use Rattle.qvt_metas.specs.Metamodels.{is_element};
 
 fn is_top(metas: &Metas, context: HeadClass) -> bool
     ensures { result ≡ by_class.is_top metas.now context }
@@ -254,6 +253,7 @@ fn least_chosen(
 
 /// What classes tell of one below them all, where no other is above it. It is not told where one of them has no single choice, and the
 /// lowest of the units that are chosen for the others is the choice for these.
+#[inline(never)]
 fn joined(
     metas: &Metas,
     units: &[Signature],
@@ -296,6 +296,7 @@ fn inherited(
 {
     match supers_at(metas.class_infos(), class) {
         [] => Some(top),
+        [above] => known_at(known, above.0),
         supers => joined(metas, units, known, supers),
     }
 }
@@ -371,11 +372,8 @@ fn tell_all(
 fn is_stuck(metas: &Metas, class: ClassNo, choice: FoundUnit) -> bool
     ensures { result ≡ by_class.is_stuck_by metas.now class.0 choice }
 {
-    if metas.is_abstract(class) {
-        return false;
-    }
     match choice {
-        FoundUnit::Unclear => true,
+        FoundUnit::Unclear => !metas.is_abstract(class),
         _ => false,
     }
 }
@@ -418,7 +416,7 @@ pub fn class_order(alloc: Global, metas: &Metas) -> Result<Order, ListFault>
     Ok(order)
 }
 
-ghost use Rattle.qvt_meta_tables.specs.Tables.{IsOrder, of_classes};
+ghost use Rattle.qvt_metas.specs.Tables.{IsOrder, of_classes};
 
 /// The choice for each class, from what its own units tell and then along an order. It is the same along each, and soon told where each
 /// class comes after its superclasses.

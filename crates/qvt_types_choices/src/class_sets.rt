@@ -1,8 +1,8 @@
 //! Sets of classes as rows of bits.
 
 ghost use Rattle.std.specs.Prelude.{◌≡◌, true, IfOk};
-ghost use Rattle.qvt_metamodel.specs.Metamodels.{class_at};
-ghost use Rattle.qvt_metamodel.specs.Descends.{descends};
+ghost use Rattle.qvt_metas.specs.Metamodels.{class_at};
+ghost use Rattle.qvt_metas.specs.Descends.{descends};
 ghost use Rattle.qvt_types_choices.specs.Sets.{IsSetOf, AreSets};
 
 use crate::bits::{mark_if, no_bits, row_of};
@@ -63,7 +63,7 @@ pub fn class_sets(alloc: Global, metas: &Metas, order: &Order) -> Result<ClassSe
     })
 }
 
-ghost use Rattle.qvt_meta_tables.specs.Tables.{IsOrder, of_classes};
+ghost use Rattle.qvt_metas.specs.Tables.{IsOrder, of_classes};
 
 /// The set of the class and those below it.
 pub fn set_below<'a>(metas: &Metas, sets: &'a ClassSets, class: ClassNo) -> &'a Row

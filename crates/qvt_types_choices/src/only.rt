@@ -87,6 +87,7 @@ fn least_above(metas: &Metas, units: &[Signature], group: &[u32], class: ClassNo
 }
 
 /// The choice for the class, in time linear in the number of the units.
+#[inline(never)]
 pub fn choice_of(metas: &Metas, units: &[Signature], group: &[u32], class: ClassNo) -> FoundUnit
     requires { IsDistinct eqb group.now }
     ensures { result ≡ by_class.choice_for metas.now units.now group.now class.0 }

@@ -125,7 +125,14 @@ fn set_of_singles(
     Ok(row)
 }
 
-/// Whether the other is a rival of the unit, and a class is below both.
+/// Whether each of the two units is a rival of the other. Two are asked once, in the order of their numbers.
+fn are_rivals(metas: &Metas, units: &[Signature], number: u32, other: u32) -> bool
+    ensures { result ≡ only.are_rivals metas.now units.now number other }
+{
+    number < other && is_rival(metas, units, number, other) && is_rival(metas, units, other, number)
+}
+
+/// Whether the two units are rivals of each other, and a class is below both.
 fn is_contested(
     metas: &Metas,
     units: &[Signature],
@@ -136,7 +143,7 @@ fn is_contested(
     requires { AreSets metas.now sets.now }
     ensures { result ≡ only.is_contested metas.now units.now number other }
 {
-    is_rival(metas, units, number, other)
+    are_rivals(metas, units, number, other)
         && overlap(
             metas.class_count(),
             set_of(metas, units, sets, number),
@@ -144,7 +151,7 @@ fn is_contested(
         )
 }
 
-/// Whether one of the others is such a rival.
+/// Whether the unit and one of the others are such rivals.
 fn is_contested_by_any(
     metas: &Metas,
     units: &[Signature],
@@ -160,7 +167,7 @@ fn is_contested_by_any(
         .any(|other| is_contested(metas, units, sets, number, *other))
 }
 
-/// Whether one of the units has such a rival.
+/// Whether two of the units are such rivals.
 fn are_contested(metas: &Metas, units: &[Signature], sets: &ClassSets, group: &[u32]) -> bool
     requires { AreSets metas.now sets.now }
     ensures { result ≡ list_any (λ n. list_any (only.is_contested metas.now units.now n) group.now) group.now }
@@ -182,10 +189,10 @@ pub fn emptied(alloc: Global, metas: &Metas, set: Row) -> Row
 }
 
 ghost use Rattle.std.specs.Prelude.{ℕ, Bool};
-ghost use Rattle.qvt_meta_tables.specs.Tables.{EndsWithin};
+ghost use Rattle.qvt_metas.specs.Tables.{EndsWithin};
 
-/// The set of the concrete classes that some of the units are above and that have no single choice. Where no unit has a rival with a
-/// class below both, there is none.
+/// The set of the concrete classes that some of the units are above and that have no single choice. Where no two of them are rivals of
+/// each other with a class below both, there is none: those above a class then stand one strictly below another.
 pub fn set_of_stuck(
     alloc: Global,
     metas: &Metas,

@@ -8,8 +8,8 @@ use Rattle.qvt_base.specs.declared.numbers.ClassNo.{ClassNo}
 use Rattle.qvt_cycle.specs.Successors.{among, leads, is_on_cycle}
 use Rattle.qvt_relation.specs.Closure.{Closure, directly, through, Decides, IsBelow}
 use Rattle.qvt_relation.proofs.Closures.{closure-reaches, first_step}
-use Rattle.qvt_metamodel.specs.Metamodels.{nowhere_class}
-use Rattle.qvt_metamodel.specs.Descends.{is_superclass}
+use Rattle.qvt_metas.specs.Metamodels.{nowhere_class}
+use Rattle.qvt_metas.specs.Descends.{is_superclass}
 use Rattle.qvt_metamodel.proofs.Bools.{clash}
 use Rattle.qvt_metamodel.proofs.Halves.{Half, old, new, half}
 use Rattle.qvt_metamodel.proofs.Infos.{map-at_all}

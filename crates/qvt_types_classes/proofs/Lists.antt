@@ -4,7 +4,7 @@ use Rattle.std.specs.List.{range_with_len}
 use Rattle.qvt_base.specs.declared.numbers.FeatureNo.{FeatureNo}
 use Rattle.qvt_metamodel.specs.declared.info.ClassInfo.{ClassInfo}
 use Rattle.qvt_metamodel.specs.declared.row.Row.{Row}
-use Rattle.qvt_metamodel.specs.Metamodels.{features_of}
+use Rattle.qvt_metas.specs.Metamodels.{features_of}
 use Rattle.qvt_metas.specs.Tables.{of_classes, AreTables}
 use Rattle.qvt_types_classes.specs.Inherited.{property_lists}
 

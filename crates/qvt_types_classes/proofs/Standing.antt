@@ -6,8 +6,8 @@ use Rattle.std.proofs.lemmas.Bool.{eq-eqb, lt-ltb}
 use Rattle.std.proofs.lemmas.List.{length-map}
 use Rattle.qvt_base.specs.declared.numbers.FeatureNo.{FeatureNo}
 use Rattle.qvt_metamodel.specs.Extended.{AreGiven}
-use Rattle.qvt_metamodel.specs.Metamodels.{Metamodels}
-use Rattle.qvt_metamodel.specs.Named.{metamodel_at}
+use Rattle.qvt_metas.specs.Metamodels.{Metamodels}
+use Rattle.qvt_metas.specs.Named.{metamodel_at}
 use Rattle.qvt_metamodel.specs.declared.given.ClassData.{ClassData}
 use Rattle.qvt_metamodel.specs.declared.info.TypeKind.{TypeKind}
 use Rattle.qvt_metamodel.specs.declared.info.TypeKind.TheVariants as kind

@@ -5,7 +5,7 @@ use Rattle.std.specs.List.{flat_map, range_with_len}
 use Rattle.qvt_base.specs.declared.numbers.ClassNo.{ClassNo}
 use Rattle.qvt_base.specs.declared.numbers.Place.{Place}
 use Rattle.qvt_cycle.specs.Successors.{is_on_cycle}
-use Rattle.qvt_metamodel.specs.Metamodels.{Metamodels, nowhere_shape}
+use Rattle.qvt_metas.specs.Metamodels.{Metamodels, nowhere_shape}
 use Rattle.qvt_metamodel.specs.Names.{is_among}
 use Rattle.qvt_metamodel.specs.declared.info.FeatureShape.{FeatureShape}
 use Rattle.qvt_metamodel.specs.declared.info.TypeKind.{TypeKind}

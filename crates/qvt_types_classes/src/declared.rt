@@ -135,7 +135,7 @@ pub fn nowhere_shape() -> FeatureShape
     }
 }
 
-ghost use Rattle.qvt_metamodel.specs.Metamodels.{nowhere_shape};
+ghost use Rattle.qvt_metas.specs.Metamodels.{nowhere_shape};
 
 fn property_with(name: Text, place: Place, shape: Result<FeatureShape, TypingRefusal>) -> Property
     ensures { result ≡ declared.property name place shape }

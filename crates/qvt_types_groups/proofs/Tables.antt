@@ -1,16 +1,17 @@
 -- The tables of the units of a name.
 use Rattle.std.proofs.Common.{◌≡◌, ◌≢◌, ◌∙◌, ℕ, ◌+◌, ◌<◌, ◌≤◌, eqb, List, [], ◌∷◌, ◌++◌, length, get_or, Bool, true, false, ◌&&◌, Some, position, refl, sym, ap, subst, arith, ◌⊎◌, inl, inr, leb}
-use Rattle.std.specs.Prelude.{if◌then◌else◌, slice_get}
+use Rattle.std.specs.Prelude.{if◌then◌else◌, not, nat_lt, IsTrue, slice_get}
 use Rattle.std.specs.Str.{bytes_eq}
 use Rattle.std.specs.List.{IsDistinct, AllByRecursion}
-use Rattle.std.proofs.lemmas.Bool.{cases_eq, eqb-true}
+use Rattle.std.proofs.lemmas.Bool.{cases_eq, eqb-true, lt-ltb, not-true}
 use Rattle.std.proofs.lemmas.Bool.Decides.{leb_tells}
 use Rattle.std.proofs.lemmas.List.{get_or_append_left, get_or-append-add, get_or_past, length-append}
 use Rattle.std.proofs.lemmas.List.Quantifiers.{position-Some}
+use Rattle.std.proofs.lemmas.List.Folds.{list_any_at}
 use Rattle.std.proofs.lemmas.Map.Keys.{IsDistinct-cons}
 use Rattle.std.proofs.lemmas.Option.{get_or_from_slice_get}
-use Rattle.qvt_metamodel.specs.Metamodels.{Metamodels}
-use Rattle.qvt_metamodel.proofs.Bools.{and_left, and_right, not_true}
+use Rattle.qvt_metas.specs.Metamodels.{Metamodels}
+use Rattle.qvt_metamodel.proofs.Bools.{and_left, and_right, not_true, clash}
 use Rattle.qvt_types_units.specs.declared.signature.UnitSort.{UnitSort}
 use Rattle.qvt_types_units.specs.declared.signature.UnitSort.TheVariants as sort
 use Rattle.qvt_types_units.specs.declared.signature.Signature.{Signature}
@@ -19,8 +20,8 @@ use Rattle.qvt_types_choices.specs.Tables.{TellsOf}
 use Rattle.qvt_types_choices.specs.declared.tables.GroupTable.{GroupTable}
 use Rattle.qvt_types_choices.specs.declared.tables.GroupTable.TheVariants.{Untold}
 use Rattle.qvt_types_groups.specs.Lists.{first_of}
-use Rattle.qvt_types_groups.specs.Choices.{group_of, group_table_at, EachTells}
-use Rattle.qvt_types_groups.proofs.Firsts.{first_where}
+use Rattle.qvt_types_groups.specs.Choices.{called_like, group_of, are_several, group_table_at, EachTells}
+use Rattle.qvt_types_groups.proofs.Firsts.{first_where, first_is}
 use Rattle.qvt_types_groups.proofs.Lists.{same_bytes}
 
 helper_not_mapping : (s : UnitSort) → is_helper s ≡ true → is_mapping s ≡ false
@@ -46,6 +47,19 @@ same_group us maps name f first =
     let like : is_mapping u.sort ≡ maps = called_so maps u.sort (and_left (is_called maps u.sort) (bytes_eq name u.name && has_context u.context) passes) in
     let named : name ≡ u.name = same_bytes name u.name (and_left (bytes_eq name u.name) (has_context u.context) rest) in
     (λ i. group (like i) (sym named i) us)
+
+-- where no units are called like others, no name has several
+pub called_alone : (us : List Signature) (maps : Bool) (name : List ℕ) → IsTrue (not (are_several us)) → 1 < length (group maps name us) → ⊥
+unfolding group
+called_alone us maps name none several =
+    let f : ℕ = get_or (group maps name us) 0 0 in
+    let first : first_of (group maps name us) ≡ Some f = first_is (group maps name us) (omega (arith, several)) in
+    let at : position (is_in_group maps name) us ≡ Some f = sym (first_where (is_in_group maps name) us) ∙ first in
+    let like : group_of us f ≡ group maps name us = same_group us maps name f first in
+    clash
+    (list_any_at (λ u. nat_lt 1 (length (called_like us u))) us f no_unit (position-Some (is_in_group maps name) us f no_unit at).0
+    (lt-ltb 1 (length (group_of us f)) (omega (arith, several, ap length like))))
+    (not-true (are_several us) none)
 
 -- The numbers of units that pass are different ones.
 

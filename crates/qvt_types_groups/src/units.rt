@@ -1,6 +1,6 @@
 //! The units of a transformation: by their names, and which of those of a name is called on objects of a class.
 
-ghost use Rattle.std.specs.Prelude.{◌≡◌, IfOk, IfSome};
+ghost use Rattle.std.specs.Prelude.{◌≡◌, ◌<◌, length, nat_lt, IfOk, IfSome};
 ghost use Rattle.qvt_types_units.specs.Choice as choice;
 ghost use Rattle.qvt_types_choices.specs.Sets.{AreSets};
 ghost use Rattle.qvt_types_choices.specs.Tables.{TellsOf};
@@ -11,7 +11,7 @@ use crate::unit_names::UnitNames;
 use qvt_base::list_fault::ListFault;
 use qvt_base::numbers::ClassNo;
 use qvt_base::seq::Seq;
-use qvt_types_choices::choices::look_up;
+use qvt_types_choices::choices::{found_alone, look_up};
 use qvt_types_choices::class_sets::{ClassSets, class_sets};
 use qvt_types_choices::tables::{GroupTable, found_in, group_table};
 use qvt_types_paths::metas::Metas;
@@ -64,30 +64,104 @@ fn unit_tables(
     Ok(tables)
 }
 
-/// Metamodels with Element and the intermediate classes of a transformation, and its units. Of each name that several units have it is
-/// told once which classes have no single choice, and for many units what is found for each class.
-pub struct Units {
-    metas: Metas,
-    names: UnitNames,
+/// Whether several units are called like this one.
+fn is_one_of_several(names: &UnitNames, unit: &Signature) -> bool
+    ensures { result ≡ nat_lt 1 (length (choices_of.called_like names.now unit.now)) }
+{
+    names.group(is_mapping(unit.sort), unit.name.as_str()).len() > 1
+}
+
+/// Whether some units are called like others.
+fn are_several(names: &UnitNames) -> bool
+    ensures { result ≡ choices_of.are_several names.now }
+{
+    names
+        .signatures()
+        .iter()
+        .any(|unit| is_one_of_several(names, unit))
+}
+
+/// What is told of units that are called like others, by sets of classes.
+#[derive(Drop)]
+struct ToldUnits {
     sets: ClassSets,
     tables: Seq<GroupTable>,
 }
 
+impl ToldUnits {
+    /// What is found for the class by what is told of the units that are called like this one.
+    fn find(
+        &self,
+        metas: &Metas,
+        names: &UnitNames,
+        first: u32,
+        group: &[u32],
+        class: ClassNo,
+    ) -> Option<FoundUnit>
+        requires told { choices_of.HaveTables metas.now names.now self.now }
+        requires group { group.now ≡ choices_of.group_of names.now first }
+        ensures { IfSome result (λ f. f ≡ choice.looked_up metas.now names.now group.now class.0) }
+    {
+        let table = self.tables.get(first as usize)?;
+        found_in(metas, names.signatures(), &self.sets, group, table, class)
+    }
+
+    /// What is found for the class among these units, which are called like this one.
+    fn find_among(
+        &self,
+        alloc: Global,
+        metas: &Metas,
+        names: &UnitNames,
+        first: u32,
+        group: &[u32],
+        class: ClassNo,
+    ) -> Result<FoundUnit, ListFault>
+        requires told { choices_of.HaveTables metas.now names.now self.now }
+        requires group { group.now ≡ choices_of.group_of names.now first }
+        ensures { IfOk result (λ f. f ≡ choice.looked_up metas.now names.now group.now class.0) }
+    {
+        match self.find(metas, names, first, group, class) {
+            Some(found) => Ok(found),
+            None => look_up(alloc, metas, names.signatures(), &self.sets, group, class),
+        }
+    }
+}
+
+/// What is told of the units that are called like others, if there are some.
+fn told_units(
+    alloc: Global,
+    metas: &Metas,
+    names: &UnitNames,
+) -> Result<Option<ToldUnits>, ListFault>
+    ensures { IfOk result (choices_of.AreTold metas.now names.now) }
+{
+    if !are_several(names) {
+        return Ok(None);
+    }
+    let order = class_order(alloc, metas)?;
+    let sets = class_sets(alloc, metas, &order)?;
+    let tables = unit_tables(alloc, metas, names, &sets, order.classes.as_slice())?;
+    Ok(Some(ToldUnits { sets, tables }))
+}
+
+/// Metamodels with Element and the intermediate classes of a transformation, and its units. Of each name that several units have it is
+/// told once which classes have no single choice, and for many units what is found for each class; where no name has several, nothing.
+pub struct Units {
+    metas: Metas,
+    names: UnitNames,
+    told: Option<ToldUnits>,
+}
+
 impl Drop for Units {
     fn drop(self) {
-        let Units {
-            metas,
-            names,
-            sets,
-            tables,
-        } = self;
+        let Units { metas, names, told } = self;
     }
 }
 
 impl Model for Units {
     ghost use Rattle.std.specs.Coded.{codes};
     ghost use Rattle.qvt_types_data.specs.contracts.ty.Ty as ty_row;
-    ghost use Rattle.qvt_types_groups.specs.Choices.{ChosenUnits, HaveTables};
+    ghost use Rattle.qvt_types_groups.specs.Choices.{ChosenUnits, AreTold};
 
     ghost Value = { ChosenUnits };
 
@@ -95,7 +169,7 @@ impl Model for Units {
 
     ghost view = { λ t. record { metas = t.metas; units = t.names } };
 
-    ghost invariant = { λ t. HaveTables t.metas t.names t.sets t.tables };
+    ghost invariant = { λ t. AreTold t.metas t.names t.told };
 }
 
 impl Units {
@@ -103,15 +177,8 @@ impl Units {
     pub fn new(alloc: Global, metas: Metas, names: UnitNames) -> Result<Units, ListFault>
         ensures { IfOk result (λ t. t ≡ record { metas = metas; units = names }) }
     {
-        let order = class_order(alloc, &metas)?;
-        let sets = class_sets(alloc, &metas, &order)?;
-        let tables = unit_tables(alloc, &metas, &names, &sets, order.classes.as_slice())?;
-        Ok(Units {
-            metas,
-            names,
-            sets,
-            tables,
-        })
+        let told = told_units(alloc, &metas, &names)?;
+        Ok(Units { metas, names, told })
     }
 
     /// The metamodels with Element and the intermediate classes.
@@ -128,20 +195,22 @@ impl Units {
         &self.names
     }
 
-    /// What is found for the class by what is told of the units that are called like this one.
-    fn told(&self, first: u32, group: &[u32], class: ClassNo) -> Option<FoundUnit>
-        requires { group.now ≡ choices_of.group_of self.now.units first }
-        ensures { IfSome result (λ f. f ≡ choice.looked_up self.now.metas self.now.units group.now class.0) }
+    /// What is found for the class among these units, which are several and called like this one.
+    fn found_among(
+        &self,
+        alloc: Global,
+        first: u32,
+        group: &[u32],
+        class: ClassNo,
+    ) -> Result<FoundUnit, ListFault>
+        requires group { group.now ≡ choices_of.group_of self.now.units first }
+        requires several { 1 < length group.now }
+        ensures { IfOk result (λ f. f ≡ choice.looked_up self.now.metas self.now.units group.now class.0) }
     {
-        let table = self.tables.get(first as usize)?;
-        found_in(
-            &self.metas,
-            self.names.signatures(),
-            &self.sets,
-            group,
-            table,
-            class,
-        )
+        let Some(told) = &self.told else {
+            unreachable!()
+        };
+        told.find_among(alloc, &self.metas, &self.names, first, group, class)
     }
 
     /// What a call of a unit with a context by its name finds for objects of the class. Where the class is one of the metamodels' it
@@ -159,13 +228,11 @@ impl Units {
         let group = self.names.group(maps, name);
         match group {
             [] => Ok(FoundUnit::NoUnit),
-            [first, ..] => match self.told(*first, group, class) {
-                Some(found) => Ok(found),
-                None => {
-                    let units = self.names.signatures();
-                    look_up(alloc, &self.metas, units, &self.sets, group, class)
-                }
-            },
+            [number] => {
+                let units = self.names.signatures();
+                Ok(found_alone(&self.metas, units, *number, class))
+            }
+            [first, ..] => self.found_among(alloc, *first, group, class),
         }
     }
 }

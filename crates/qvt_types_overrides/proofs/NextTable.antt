@@ -1,7 +1,7 @@
 -- The table of a name more.
 use Rattle.std.proofs.Common.{◌≡◌, ◌∙◌, ℕ, zero, suc, ◌+◌, ◌<◌, List, [], ◌∷◌, ◌++◌, length, get_or, refl, sym, ap, subst, arith, length-append}
 use Rattle.std.proofs.lemmas.List.{get_or_past}
-use Rattle.qvt_metamodel.specs.Metamodels.{Metamodels}
+use Rattle.qvt_metas.specs.Metamodels.{Metamodels}
 use Rattle.qvt_metamodel.proofs.Halves.{Half, old, new, half, old-at, new-at}
 use Rattle.qvt_types_groups.specs.declared.signature.Signature.{Signature}
 use Rattle.qvt_types_above.specs.declared.above.Above.TheVariants.{Untold}

@@ -4,8 +4,8 @@ use Rattle.std.specs.List.{list_any}
 use Rattle.std.proofs.lemmas.Bool.{eq-eqb}
 use Rattle.std.proofs.lemmas.List.{at_drop_more}
 use Rattle.qvt_relation.specs.Closure.{directly, through}
-use Rattle.qvt_metamodel.specs.Metamodels.{Metamodels, is_element, nowhere_class}
-use Rattle.qvt_metamodel.specs.Descends.{Inherits, IsAncestor, descends}
+use Rattle.qvt_metas.specs.Metamodels.{Metamodels, is_element, nowhere_class}
+use Rattle.qvt_metas.specs.Descends.{Inherits, IsAncestor, descends}
 use Rattle.qvt_metamodel.specs.declared.info.ClassInfo.{ClassInfo}
 use Rattle.qvt_metamodel.proofs.Bools.{and_left, and_right, or_left, or_right, clash}
 use Rattle.qvt_types_groups.specs.declared.signature.HeadClass.{HeadClass}

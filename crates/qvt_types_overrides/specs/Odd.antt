@@ -2,7 +2,7 @@
 -- answer other than the first of the name.
 use Rattle.std.specs.Prelude.{◌≡◌, ℕ, ◌&&◌, ◌||◌, not, Bool, false, List, [], ◌∷◌, length, nat_lt}
 use Rattle.std.specs.List.{list_any}
-use Rattle.qvt_metamodel.specs.Metamodels.{Metamodels}
+use Rattle.qvt_metas.specs.Metamodels.{Metamodels}
 use Rattle.qvt_types_groups.specs.declared.signature.Signature.{Signature}
 use Rattle.qvt_types_groups.specs.Numbers.{unit_at, is_in_group, numbers_where}
 use Rattle.qvt_types_groups.specs.Overrides.{is_strictly_below, is_misfit}

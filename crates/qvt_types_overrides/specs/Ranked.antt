@@ -1,6 +1,6 @@
 -- What is told of the units of each name.
 use Rattle.std.specs.Prelude.{ℕ, ◌/◌, ◌&&◌, Bool, false, List, [], ◌∷◌, length, nat_lt, Option, Some, None, slice_index_or}
-use Rattle.qvt_metamodel.specs.Metamodels.{Metamodels}
+use Rattle.qvt_metas.specs.Metamodels.{Metamodels}
 use Rattle.qvt_types_groups.specs.declared.signature.HeadClass.{HeadClass}
 use Rattle.qvt_types_groups.specs.declared.signature.HeadClass.TheVariants.{Missing, Unknown, Known}
 use Rattle.qvt_types_groups.specs.declared.signature.Signature.{Signature}

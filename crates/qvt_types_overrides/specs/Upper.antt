@@ -1,7 +1,7 @@
 -- Classes that others may be below (EMOF 12.4.1, Class::superClass).
 use Rattle.std.specs.Prelude.{◌≡◌, ℕ, ◌==◌, ◌||◌, Bool, false, List}
 use Rattle.std.specs.List.{list_any}
-use Rattle.qvt_metamodel.specs.Metamodels.{Metamodels, is_element}
+use Rattle.qvt_metas.specs.Metamodels.{Metamodels, is_element}
 use Rattle.qvt_metamodel.specs.declared.info.ClassInfo.{ClassInfo}
 use Rattle.qvt_metas.specs.NumberSets.{has_number}
 use Rattle.qvt_types_groups.specs.declared.signature.HeadClass.{HeadClass}

@@ -2,11 +2,10 @@
 use Rattle.std.proofs.Common.{◌≡◌, ◌∙◌, ℕ, ◌+◌, List, [], ◌∷◌, ◌++◌, length, Bool, true, false, ◌||◌, Some, None, position, map, refl, sym, ap, arith}
 use Rattle.std.specs.List.{range_with_len}
 use Rattle.std.proofs.lemmas.List.{map-append}
-use Rattle.std.specs.Prelude.{◌<◌, if◌then◌else◌, suc, nat_lt, cond, is_some, IfSome}
+use Rattle.std.specs.Prelude.{◌<◌, if◌then◌else◌, zero, suc, nat_lt, cond, is_some, IfSome}
 use Rattle.std.specs.List.{position_or_len, list_any}
 use Rattle.std.proofs.lemmas.Bool.{ltb-true}
 use Rattle.std.specs.Option.{option_or}
-use Rattle.qvt_meta_names.proofs.Orders.{range-more}
 use Rattle.qvt_meta_names.proofs.Tables.{first_at, first-position}
 
 first_at-push : {X : Type 0} (p : X → Bool) (n : ℕ) (xs : List X) (y : X) → first_at p n (xs ++ y ∷ []) ≡ option_or (first_at p n xs) (if p y then Some (n + length xs) else None)
@@ -24,6 +23,13 @@ position-push p xs y =
     ∙ first_at-push p 0 xs y
     ∙ ap (λ o. option_or o (if p y then Some (0 + length xs) else None)) (first-position p xs)
     ∙ ap (λ k. option_or (position p xs) (if p y then Some k else None)) (let same : 0 + length xs ≡ length xs = omega arith in same)
+
+range-last : (a n : ℕ) → range_with_len a (suc n) ≡ range_with_len a n ++ (a + n) ∷ []
+range-last a zero = ap (λ k. k ∷ []) (let same : a ≡ a + 0 = omega arith in same)
+range-last a (suc n) = ap (λ xs. a ∷ xs) (range-last (a + 1) n ∙ ap (λ k. range_with_len (a + 1) n ++ k ∷ []) (let same : a + 1 + n ≡ a + suc n = omega arith in same))
+
+range-more : (n : ℕ) → range_with_len 0 n ++ n ∷ [] ≡ range_with_len 0 (n + 1)
+range-more n = ap (λ k. range_with_len 0 n ++ k ∷ []) (let same : n ≡ 0 + n = omega arith in same) ∙ sym (range-last 0 n) ∙ ap (range_with_len 0) (let one : suc n ≡ n + 1 = omega arith in one)
 
 pub map_range_more : {X : Type 0} (f : ℕ → X) (n : ℕ) → map f (range_with_len 0 n) ++ f n ∷ [] ≡ map f (range_with_len 0 (n + 1))
 map_range_more f n = sym (map-append f (range_with_len 0 n) (n ∷ [])) ∙ ap (map f) (range-more n)

@@ -1,6 +1,6 @@
 -- The metamodels of files, in order: each has a name that none before it has.
 use Rattle.std.specs.Prelude.{ℕ, List, [], None, Result, Ok, Err, if◌then◌else◌}
-use Rattle.qvt_json.specs.Steps.{◌>>=◌}
+use Rattle.qvt_results.specs.Bind.{◌>>=◌}
 use Rattle.qvt_metamodel.specs.Metamodels.{Metamodels}
 use Rattle.qvt_metamodel.specs.Added.{added}
 use Rattle.qvt_metamodel.specs.Named.{has_metamodel}

@@ -1,7 +1,8 @@
 -- What `run JOB` does over the bytes that the files hold: the job, its metamodels, its text, the types of the text's parts, whether its
 -- models are the text's, its inputs, and what the run of its program leaves, in this order.
 use Rattle.std.specs.Prelude.{ℕ, List, Option, option_map, Result, Ok, ⊤}
-use Rattle.qvt_json.specs.Steps.{◌>>=◌, none_of}
+use Rattle.qvt_results.specs.Bind.{◌>>=◌}
+use Rattle.qvt_json.specs.Steps.{none_of}
 use Rattle.qvt_metamodel.specs.Metamodels.{Metamodels}
 use Rattle.qvt_tree_types.specs.Module.{ModuleTerm}
 use Rattle.qvt_typing.specs.Accepts.{ProgramTerm}

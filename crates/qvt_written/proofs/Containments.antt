@@ -13,12 +13,12 @@ use Rattle.qvt_relation.proofs.Closures.{reaches-closure}
 use Rattle.qvt_cycle.specs.Successors.{among, leads, is_on_cycle, how_often, how_often_in}
 use Rattle.qvt_cycle.proofs.Visits.{among-joined}
 use Rattle.qvt_metamodel.specs.Metamodels.{Metamodels, feature_at, is_containment}
-use Rattle.qvt_slots.specs.Slots.{Slots, has, OneContainer, Contains, Inside, directly, through}
-use Rattle.qvt_slots.specs.Repeats.{repeats}
+use Rattle.qvt_store.specs.Slots.{Slots, has, OneContainer, Contains, Inside, directly, through}
+use Rattle.qvt_store.specs.Repeats.{repeats}
 use Rattle.qvt_slots.proofs.Lists.{past_end}
 use Rattle.qvt_model.specs.declared.data.SlotData.{SlotData}
 use Rattle.qvt_model.specs.declared.data.ObjectData.{ObjectData}
-use Rattle.qvt_model.specs.WellFormed.{object_at, no_object, ComeAfter, AreInNameOrder}
+use Rattle.qvt_model.specs.WellFormed.{object_data_at, no_object, ComeAfter, AreInNameOrder}
 use Rattle.qvt_model.proofs.Lists.{All-both, index-map}
 use Rattle.qvt_conform.specs.Containment.{refs, contents_of_slot, contents_of_slots, contents_of_object, contents}
 use Rattle.qvt_written.proofs.Datums.{back, count-app, absent, held_there, once}
@@ -121,9 +121,9 @@ module _ (m : Metamodels) (held : Slots) (at : ℕ → ℕ) (unique : (x f : ℕ
 
   -- ---- objects
 
-  module _ (os : List ObjectData) (all : (i : ℕ) → i < length os → AllByRecursion (IsOf (at i)) (object_at os i).slots) (order : (i : ℕ) → i < length os → AreInNameOrder m (object_at os i).slots)
+  module _ (os : List ObjectData) (all : (i : ℕ) → i < length os → AllByRecursion (IsOf (at i)) (object_data_at os i).slots) (order : (i : ℕ) → i < length os → AreInNameOrder m (object_data_at os i).slots)
       (apart : (i k : ℕ) → i < length os → k < length os → at i ≡ at k → i ≡ k) where
-    lists_at : (i : ℕ) → slice_index_or (contents m os) i [] ≡ contents_of_object m (object_at os i)
+    lists_at : (i : ℕ) → slice_index_or (contents m os) i [] ≡ contents_of_object m (object_data_at os i)
     lists_at i = index-map (contents_of_object m) os i no_object
 
     below : (i j : ℕ) → among (slice_index_or (contents m os) i []) j ≡ true → i < length os
@@ -133,11 +133,11 @@ module _ (m : Metamodels) (held : Slots) (at : ℕ → ℕ) (unique : (x f : ℕ
     ]
 
     holder : (i j : ℕ) → among (slice_index_or (contents m os) i []) j ≡ true → Found m (IsOf (at i)) j
-    holder i j h = find_slot m (IsOf (at i)) (object_at os i).slots j (all i (below i j h)) (sym (ap (λ l. among l j) (lists_at i)) ∙ h)
+    holder i j h = find_slot m (IsOf (at i)) (object_data_at os i).slots j (all i (below i j h)) (sym (ap (λ l. among l j) (lists_at i)) ∙ h)
 
     few : (j i : ℕ) → how_often j (slice_index_or (contents m os) i []) ≤ 1
     few j i = subst (λ l. how_often j l ≤ 1) (sym (lists_at i)) (elim (cases_lt i (length os)) [
-      | inl l ↦ once_slots (at i) (object_at os i).slots j (all i l) (order i l)
+      | inl l ↦ once_slots (at i) (object_data_at os i).slots j (all i l) (order i l)
       | inr l ↦ subst (λ (o : ObjectData). how_often j (contents_of_object m o) ≤ 1) (sym (past_end os i no_object l)) (let q : 0 ≤ 1 = omega arith in q)
     ])
 

@@ -13,12 +13,12 @@ use Rattle.qvt_value.specs.declared.value.Value.TheVariants.{Bool as BoolValue, 
 use Rattle.qvt_relation.proofs.Bools.{or_cases, or_left, or_right, or_false, none_left, none_right, clash, refuted}
 use Rattle.qvt_cycle.specs.Successors.{among, how_often}
 use Rattle.qvt_cycle.proofs.Visits.{among-joined}
-use Rattle.qvt_slots.specs.Slots.{is_object, has}
-use Rattle.qvt_slots.specs.Repeats.{repeats}
+use Rattle.qvt_store.specs.Slots.{is_object, has}
+use Rattle.qvt_store.specs.Repeats.{repeats}
 use Rattle.qvt_slots.proofs.Repeating.{same_itself, any_same_object}
 use Rattle.qvt_model.specs.declared.data.Datum.{Datum}
 use Rattle.qvt_model.specs.declared.data.Datum.TheVariants.{Bool as BoolDatum, Int, Str, Literal, Ref}
-use Rattle.qvt_model.specs.Extents.{place_of, datum_in}
+use Rattle.qvt_model.specs.Extents.{place_within, datum_in}
 use Rattle.qvt_json.proofs.Ordered.{some-injective}
 use Rattle.qvt_conform.specs.Items.{same_item, is_ref}
 use Rattle.qvt_conform.proofs.SameItems.{same_is}
@@ -123,9 +123,9 @@ module _ (xs : List ℕ) where
   stands (IntValue z) d e = subst (λ d. (back object_at d ≡ IntValue z) × IsWithin (length xs) d) (some-injective (Int z) d e) (refl, tt)
   stands (StrValue t) d e = subst (λ d. (back object_at d ≡ StrValue t) × IsWithin (length xs) d) (some-injective (Str t) d e) (refl, tt)
   stands (EnumValue l) d e = subst (λ d. (back object_at d ≡ EnumValue l) × IsWithin (length xs) d) (some-injective (Literal l) d e) (refl, tt)
-  stands (Obj o) d e = by (place_of xs o.0) refl e
+  stands (Obj o) d e = by (place_within xs o.0) refl e
     where
-      by : (p : Option ℕ) → place_of xs o.0 ≡ p → option_map Ref p ≡ Some d → (back object_at d ≡ Obj o) × IsWithin (length xs) d
+      by : (p : Option ℕ) → place_within xs o.0 ≡ p → option_map Ref p ≡ Some d → (back object_at d ≡ Obj o) × IsWithin (length xs) d
       by None is e = absurd (cc)
       by (Some i) is e =
           let found = position-Some (λ x. o.0 == x) xs i 0 is in

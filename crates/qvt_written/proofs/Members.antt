@@ -4,8 +4,8 @@ use Rattle.std.specs.Prelude.{Some, slice_index_or}
 use Rattle.qvt_base.specs.declared.numbers.Oid.{Oid}
 use Rattle.qvt_slots.proofs.Lists.{length-map}
 use Rattle.qvt_store.specs.Contents.{Contents, Instance, no_instance, extent_of, is_live, members_from, members_of}
-use Rattle.qvt_model.specs.Extents.{numbers, place_of, object_in, objects_from}
-use Rattle.qvt_model.specs.WellFormed.{object_at}
+use Rattle.qvt_model.specs.Extents.{numbers, place_within, object_data_of, objects_from}
+use Rattle.qvt_model.specs.WellFormed.{object_data_at}
 use Rattle.qvt_model.proofs.Extents.{IsMember, members-are}
 use Rattle.qvt_model.proofs.Lists.{All-index, index-map}
 use Rattle.qvt_model.proofs.RunIds.{found, none}
@@ -49,18 +49,18 @@ module _ (s : Contents) (e : ℕ) where
   pub member : (i : ℕ) → i < length members → IsMember s e (object i)
   member i l = All-index (IsMember s e) members i 0 (members-are s e 0 s.objects (λ i. ap (λ j. slice_index_or s.objects j no_instance) (omega arith)) (omega arith)) l
 
-  pub place : (i : ℕ) → i < length members → place_of members (object i) ≡ Some i
-  place i l = subst (λ x. place_of members x ≡ Some i) (sym (number i)) (found e s.objects i (subst (λ k. i < k) count l))
+  pub place : (i : ℕ) → i < length members → place_within members (object i) ≡ Some i
+  place i l = subst (λ x. place_within members x ≡ Some i) (sym (number i)) (found e s.objects i (subst (λ k. i < k) count l))
 
   -- each stands at one place
   pub apart : (i k : ℕ) → i < length members → k < length members → object i ≡ object k → i ≡ k
-  apart i k l l' same = some-injective i k (sym (place i l) ∙ ap (place_of members) same ∙ place k l')
+  apart i k l l' same = some-injective i k (sym (place i l) ∙ ap (place_within members) same ∙ place k l')
 
   -- an object of the extent is among them
-  pub placed : (x : ℕ) → is_live s x ≡ true → extent_of s x ≡ e → (i : ℕ) × (place_of members x ≡ Some i)
+  pub placed : (x : ℕ) → is_live s x ≡ true → extent_of s x ≡ e → (i : ℕ) × (place_within members x ≡ Some i)
   placed x live is =
       let at : MemberAt (members_of s e) x = member_at e 0 s.objects x x (omega arith) (ltb-true x (length s.objects) live) is in
-      (at.place, subst (λ y. place_of members y ≡ Some at.place) at.here (found e s.objects at.place at.within))
+      (at.place, subst (λ y. place_within members y ≡ Some at.place) at.here (found e s.objects at.place at.within))
 
 -- ---- their data
 
@@ -69,7 +69,7 @@ module _ (s : Contents) (xs : List ℕ) where
   count-objects n [] = refl
   count-objects n (y ∷ ys) = ap suc (count-objects (suc n) ys)
 
-  pub object-there : (n : ℕ) (ys : List ℕ) (i : ℕ) → i < length ys → object_at (objects_from s xs n ys) i ≡ object_in s xs (n + i) (slice_index_or ys i 0)
+  pub object-there : (n : ℕ) (ys : List ℕ) (i : ℕ) → i < length ys → object_data_at (objects_from s xs n ys) i ≡ object_data_of s xs (n + i) (slice_index_or ys i 0)
   object-there n [] i l = absurd (omega arith)
-  object-there n (y ∷ ys) zero l = ap (λ k. object_in s xs k y) (let q : n ≡ n + 0 = omega arith in q)
-  object-there n (y ∷ ys) (suc i) l = object-there (suc n) ys i (omega arith) ∙ ap (λ k. object_in s xs k (slice_index_or ys i 0)) (let q : suc n + i ≡ n + suc i = omega arith in q)
+  object-there n (y ∷ ys) zero l = ap (λ k. object_data_of s xs k y) (let q : n ≡ n + 0 = omega arith in q)
+  object-there n (y ∷ ys) (suc i) l = object-there (suc n) ys i (omega arith) ∙ ap (λ k. object_data_of s xs k (slice_index_or ys i 0)) (let q : suc n + i ≡ n + suc i = omega arith in q)

@@ -7,11 +7,11 @@ use Rattle.qvt_metamodel.specs.Metamodels.{features_of, among_features, has_feat
 use Rattle.qvt_relation.proofs.Bools.{or_cases, or_left, or_right, none_left, none_right, either, clash, refuted}
 use Rattle.qvt_store.specs.Contents.{Contents, class_of, slot_of}
 use Rattle.qvt_model.specs.declared.data.SlotData.{SlotData}
-use Rattle.qvt_model.specs.Extents.{datum_in, slot_in, by_name, filled_slots}
+use Rattle.qvt_model.specs.Extents.{datum_in, slot_data_of, by_name, filled_slots}
 use Rattle.qvt_model.specs.Items.{items_in}
 use Rattle.qvt_model.specs.Reading.{has_items}
 use Rattle.qvt_model.proofs.Extents.{filled-all}
-use Rattle.qvt_model.proofs.Sorting.{any-sorted}
+use Rattle.qvt_value.proofs.Sorting.{any-sorted}
 
 -- one of the slots is that of feature f
 abbrev has_slot : ℕ → List SlotData → Bool
@@ -28,25 +28,25 @@ empty (x ∷ xs) n = let q : length (x ∷ xs) ≤ 0 = ltb-false 0 (length (x �
 
 module _ (s : Contents) (xs : List ℕ) (x : ℕ) where
   abbrev filled_of : List FeatureNo → List SlotData
-  filled_of fs = filter has_items (map (slot_in s xs x) fs)
+  filled_of fs = filter has_items (map (slot_data_of s xs x) fs)
 
   -- a slot with items is among them
-  each-there : (f : ℕ) (fs : List FeatureNo) → among_features f fs ≡ true → has_items (slot_in s xs x (feature f)) ≡ true → has_slot f (filled_of fs) ≡ true
+  each-there : (f : ℕ) (fs : List FeatureNo) → among_features f fs ≡ true → has_items (slot_data_of s xs x (feature f)) ≡ true → has_slot f (filled_of fs) ≡ true
   each-there f [] h some = clash false h refl
   each-there f (g ∷ fs) h some = elim (or_cases (g.0 == f) (among_features f fs) h) [
-    | inl here ↦ first (has_items (slot_in s xs x g)) here (subst (λ k. has_items (slot_in s xs x (feature k)) ≡ true) (sym ((Decides-eqb g.0 f).0 here)) some)
-    | inr later ↦ behind (has_items (slot_in s xs x g)) (each-there f fs later some)
+    | inl here ↦ first (has_items (slot_data_of s xs x g)) here (subst (λ k. has_items (slot_data_of s xs x (feature k)) ≡ true) (sym ((Decides-eqb g.0 f).0 here)) some)
+    | inr later ↦ behind (has_items (slot_data_of s xs x g)) (each-there f fs later some)
   ]
     where
-      first : (b : Bool) → (g.0 == f) ≡ true → b ≡ true → has_slot f (cond b (slot_in s xs x g ∷ filled_of fs) (filled_of fs)) ≡ true
+      first : (b : Bool) → (g.0 == f) ≡ true → b ≡ true → has_slot f (cond b (slot_data_of s xs x g ∷ filled_of fs) (filled_of fs)) ≡ true
       first true here e = or_left (g.0 == f) (has_slot f (filled_of fs)) here
       first false here e = clash false e refl
 
-      behind : (b : Bool) → has_slot f (filled_of fs) ≡ true → has_slot f (cond b (slot_in s xs x g ∷ filled_of fs) (filled_of fs)) ≡ true
+      behind : (b : Bool) → has_slot f (filled_of fs) ≡ true → has_slot f (cond b (slot_data_of s xs x g ∷ filled_of fs) (filled_of fs)) ≡ true
       behind true later = or_right (g.0 == f) (has_slot f (filled_of fs)) later
       behind false later = later
 
-  filled-there : (f : ℕ) → has_feature s.metas (class_of s x) f ≡ true → has_items (slot_in s xs x (feature f)) ≡ true → has_slot f (filled_slots s xs x) ≡ true
+  filled-there : (f : ℕ) → has_feature s.metas (class_of s x) f ≡ true → has_items (slot_data_of s xs x (feature f)) ≡ true → has_slot f (filled_slots s xs x) ≡ true
   filled-there f of some =
       any-sorted (by_name s.metas) (λ (t : SlotData). t.feature.0 == f) (filled_of (features_of s.metas (class_of s x)))
       ∙ each-there f (features_of s.metas (class_of s x)) of some
@@ -56,7 +56,7 @@ module _ (s : Contents) (xs : List ℕ) (x : ℕ) where
   abbrev pub IsHeld : SlotData → Type 0
   IsHeld t = t.items ≡ filter_map (datum_in xs) (slot_of s x t.feature.0)
 
-  every : (fs : List FeatureNo) → AllByRecursion (λ (f : FeatureNo). has_items (slot_in s xs x f) ≡ true → IsHeld (slot_in s xs x f)) fs
+  every : (fs : List FeatureNo) → AllByRecursion (λ (f : FeatureNo). has_items (slot_data_of s xs x f) ≡ true → IsHeld (slot_data_of s xs x f)) fs
   every [] = tt
   every (f ∷ fs) = ((λ some. refl), every fs)
 
@@ -81,5 +81,5 @@ module _ (s : Contents) (xs : List ℕ) (x : ℕ) where
     | inl h ↦ held-there f (filled_slots s xs x) are_held h
     | inr n ↦ none-there f (filled_slots s xs x) n
         ∙ sym (empty (filter_map (datum_in xs) (slot_of s x f))
-        (refuted (has_items (slot_in s xs x (feature f))) (λ some. clash (has_slot f (filled_slots s xs x)) (filled-there f of some) n)))
+        (refuted (has_items (slot_data_of s xs x (feature f))) (λ some. clash (has_slot f (filled_slots s xs x)) (filled-there f of some) n)))
   ]

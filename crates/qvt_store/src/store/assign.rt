@@ -59,6 +59,13 @@ impl Store {
         Ok(list)
     }
 
+    /// A law: what the store's own calls ask of it. It tells the fact and does nothing.
+    pub(super) fn is_known(&self)
+        ensures { IsKnown self.now }
+    {
+        let _ = &self.metas;
+    }
+
     pub(super) fn is_unique_feature(&self, feature: FeatureNo) -> bool
         ensures value { result ≡ (shape_of self.now.metas feature.0).unique }
         ensures known { IsKnown self.now }

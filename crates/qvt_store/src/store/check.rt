@@ -3,7 +3,7 @@
 ghost use Rattle.std.specs.Prelude.{◌≡◌, ◌↔◌, ◌++◌, ◌∷◌, [], IsTrue, IfOk, IfErr, OnOk};
 ghost use Rattle.std.specs.List.{list_any};
 ghost use Rattle.qvt_metamodel.specs.Metamodels.{opposite};
-ghost use Rattle.qvt_slots.specs.Change.{among};
+ghost use Rattle.qvt_slots.specs.Change.{among_objects};
 ghost use Rattle.qvt_slots.specs.Contents.{HoldOwn, slot_of, is_live, extent_of, is_model, is_writable};
 ghost use Rattle.qvt_slots.specs.Assign.{is_elsewhere, crosses};
 ghost use Rattle.qvt_store.specs.Draft.{RemovesHeld, drafted, overfills_elsewhere, is_overfilling, AddsLive, IsAllowed, IsEarlyFault};
@@ -68,7 +68,7 @@ impl Store {
 
     /// Whether the object is one of these, or contains one of them.
     fn is_over_some(&self, object: Oid, objects: &[Oid]) -> bool
-        requires { (y : ℕ) → IsTrue (among objects.now y) → IsTrue (is_live self.now y) }
+        requires { (y : ℕ) → IsTrue (among_objects objects.now y) → IsTrue (is_live self.now y) }
         ensures { IsTrue result ↔ IsOverSome self.now.metas (slot_of self.now) object.0 objects.now }
     {
         for item in objects {

@@ -88,7 +88,7 @@ impl Store {
         ensures err { OnErr result (self.new ≡ self.old) }
         ensures plain { Sound self.old → OnOk result (All HasCodeType (new_list self.old.metas feature.0 (slot_of self.old object.0 feature.0 ++ values.now))) }
     {
-        let _unique = self.is_unique_feature(feature);
+        self.is_known();
         if self.looks_through(feature, values) {
             match self.extend_whole(alloc, object, feature, values) {
                 Ok(()) => return Ok(()),

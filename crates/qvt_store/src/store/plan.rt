@@ -2,7 +2,7 @@
 
 ghost use Rattle.std.specs.Prelude.{◌≡◌, ◌∷◌, [], IsTrue, IfOk, OnOk};
 ghost use Rattle.qvt_metamodel.specs.Metamodels.{is_containment, is_opposite};
-ghost use Rattle.qvt_slots.specs.Change.{among, is_container};
+ghost use Rattle.qvt_slots.specs.Change.{among_objects, is_container};
 ghost use Rattle.qvt_slots.specs.Contents.{slot_of, is_slot};
 ghost use Rattle.qvt_store.specs.Draft.{drafted, RemovesHeld};
 ghost use Rattle.qvt_store.specs.Plan.{Plans, IsSlotOf, IsSlotOfSome, IsOwnerSlot, IsAround, IsAroundSome, IsHeldSlot, IsOppositeSlot, IsOpposed, IsRehoused, IsPlan};

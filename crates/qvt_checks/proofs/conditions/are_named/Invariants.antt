@@ -1,6 +1,6 @@
 use Rattle.std.proofs.Common.{◌≡◌, ℕ, ◌<◌}
 use Rattle.std.specs.Prelude.{slice_index_or}
-use Rattle.qvt_metamodel.specs.Named.{metamodel_at}
+use Rattle.qvt_metas.specs.Named.{metamodel_at}
 use Rattle.qvt_store.specs.Contents.{is_named, no_extent}
 use Rattle.qvt_checks.proofs.conditions.are_named.Given as goal
 

@@ -1,5 +1,5 @@
 use Rattle.std.proofs.Common.{Ok, Err, subst}
-use Rattle.qvt_metamodel.specs.Metamodels.{Metamodels}
+use Rattle.qvt_metas.specs.Metamodels.{Metamodels}
 use Rattle.qvt_work.specs.Metas.{no_metamodels, metamodel_read}
 use Rattle.qvt_outcome.specs.Plans.{outcome_of}
 use Rattle.qvt_work.specs.Check.{check_of, after_metamodel}

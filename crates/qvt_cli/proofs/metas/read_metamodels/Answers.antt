@@ -1,5 +1,5 @@
 use Rattle.std.proofs.Common.{◌∙◌, ap, sym, arith, subst}
-use Rattle.qvt_metamodel.specs.Metamodels.{Metamodels}
+use Rattle.qvt_metas.specs.Metamodels.{Metamodels}
 use Rattle.qvt_outcome.specs.Chain.{folded}
 use Rattle.qvt_outcome.specs.Follows.{Follows}
 use Rattle.qvt_work.specs.Metas.{metamodel_read, metamodels_read}

@@ -1,5 +1,5 @@
 use Rattle.std.proofs.Common.{ℕ, List, subst, Ok, Err}
-use Rattle.qvt_metamodel.specs.Metamodels.{Metamodels}
+use Rattle.qvt_metas.specs.Metamodels.{Metamodels}
 use Rattle.qvt_outcome.specs.Follows.{Follows}
 use Rattle.qvt_work.specs.Metas.{metamodels_read}
 use Rattle.qvt_outcome.specs.Plans.{outcome_of}

@@ -1,6 +1,6 @@
 use Rattle.std.proofs.Common.{◌≡◌, ◌<◌, ℕ, [], length}
 use Rattle.std.specs.Prelude.{slice_index_or}
-use Rattle.qvt_metamodel.specs.Named.{enumeration_at}
+use Rattle.qvt_metas.specs.Named.{enumeration_at}
 use Rattle.qvt_dictionary.proofs.dictionary.all_literals.Given as goal
 
 abbrev pub invariant-loop-enumeration : goal.invariant-loop-enumeration

@@ -1,5 +1,5 @@
 use Rattle.std.proofs.Common.{◌≡◌, take}
-use Rattle.qvt_slots.specs.Contents.{members_from}
+use Rattle.qvt_store.specs.Contents.{members_from}
 use Rattle.qvt_exec_reads.proofs.models.looked_for.Given as goal
 
 abbrev pub invariant-loop-number : goal.invariant-loop-number

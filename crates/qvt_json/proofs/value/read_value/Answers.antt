@@ -1,5 +1,4 @@
-use Rattle.std.proofs.Common.{◌≡◌, ◌∙◌, Some, ap, sym}
-use Rattle.serde_json.specs.View.{view}
+use Rattle.std.proofs.Common.{◌∙◌, ap, sym}
 use Rattle.serde_json.specs.Read.{read}
 use Rattle.qvt_json.proofs.Json.{no_json, json_of_text}
 use Rattle.qvt_json.proofs.value.read_value.Goals as goal

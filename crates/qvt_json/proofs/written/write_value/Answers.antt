@@ -1,4 +1,4 @@
-use Rattle.std.proofs.Common.{◌≡◌, ◌∙◌, [], ◌∷◌, ◌++◌, ap}
+use Rattle.std.proofs.Common.{◌∙◌, [], ◌∷◌, ◌++◌, ap}
 use Rattle.serde_json.specs.View.{view}
 use Rattle.qvt_json.specs.Plain.{file_text}
 use Rattle.qvt_json.proofs.Utf8.{has_float-plain}

@@ -1,5 +1,5 @@
 use Rattle.std.proofs.Common.{◌∙◌, length, ap, sym, subst, arith}
-use Rattle.qvt_meta_tables.specs.Search.{AreLive}
+use Rattle.qvt_metas.specs.Search.{AreLive}
 use Rattle.qvt_meta.proofs.Cyclic.{total, live}
 use Rattle.qvt_meta.proofs.meta.classes_checked.Goals as goal
 

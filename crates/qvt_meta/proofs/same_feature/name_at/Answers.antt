@@ -2,7 +2,7 @@ use Rattle.std.proofs.Common.{◌≡◌, ◌∙◌, ◌<◌, [], ap, get_or, len
 use Rattle.std.specs.Prelude.{IfOk}
 use Rattle.std.proofs.lemmas.List.{get_or_read, get_or-map}
 use Rattle.qvt_base.specs.declared.numbers.FeatureNo.{FeatureNo}
-use Rattle.qvt_metamodel.specs.Metamodels.{nowhere_feature}
+use Rattle.qvt_metas.specs.Metamodels.{nowhere_feature}
 use Rattle.qvt_metamodel.specs.declared.info.FeatureInfo.{FeatureInfo}
 use Rattle.qvt_meta.proofs.NameNumbers.{live_at}
 use Rattle.qvt_meta.proofs.same_feature.name_at.Goals as goal

@@ -1,7 +1,7 @@
 use Rattle.std.proofs.Common.{◌∙◌, List, [], ap, arith, length, map, position, refl, slice_index_or, Some, sym, ℕ}
 use Rattle.std.proofs.lemmas.List.{length-map}
 use Rattle.qvt_base.specs.declared.numbers.FeatureNo.{FeatureNo}
-use Rattle.qvt_metamodel.specs.Metamodels.{nowhere_feature}
+use Rattle.qvt_metas.specs.Metamodels.{nowhere_feature}
 use Rattle.qvt_metamodel.specs.declared.info.FeatureInfo.{FeatureInfo}
 use Rattle.qvt_meta_lists.specs.Lists.{all_lists}
 use Rattle.qvt_meta_repeats.proofs.Names.{first_flagged, none_flagged}

@@ -4,7 +4,7 @@ use Rattle.qvt_metamodel.specs.Extended.{extended}
 use Rattle.qvt_metamodel.proofs.Bools.{ap2}
 use Rattle.qvt_meta_lists.specs.Lists.{all_lists}
 use Rattle.qvt_meta_tables.specs.Cycles.{first_cycle}
-use Rattle.qvt_meta_given.specs.Given.{differ}
+use Rattle.qvt_meta_given.specs.Given.{are_named_apart}
 use Rattle.qvt_meta_given.proofs.Sound.{few, are_there, not_found, none_found, lists_total, sound_of, of_sound}
 use Rattle.qvt_meta_given.proofs.given.are_sound.Goals as goal
 
@@ -35,14 +35,14 @@ all_differ-requires c =
 
 pub returns-clause-sound : goal.returns-clause-sound
 returns-clause-sound c =
-    let all : c.in_ok-differ.differ ≡ list_all (differ (extended c.args.metas.now c.args.classes.now).features) (drop (length c.args.metas.now.classes + 1) (all_lists c.in_ok-tables.tables.lists)) =
-    c.in_ok-differ.ensures ∙ ap2 (λ fs n. list_all (differ fs) (drop (n + 1) (all_lists c.in_ok-tables.tables.lists))) (c.as_slice-3.ensures.value ∙ c.in_ok-features.ensures) c.class_count-before.ensures.count in
+    let all : c.in_ok-differ.differ ≡ list_all (are_named_apart (extended c.args.metas.now c.args.classes.now).features) (drop (length c.args.metas.now.classes + 1) (all_lists c.in_ok-tables.tables.lists)) =
+    c.in_ok-differ.ensures ∙ ap2 (λ fs n. list_all (are_named_apart fs) (drop (n + 1) (all_lists c.in_ok-tables.tables.lists))) (c.as_slice-3.ensures.value ∙ c.in_ok-features.ensures) c.class_count-before.ensures.count in
     λ yes. sound_of c.args.metas.now c.args.classes.now _ _ _ _ (c.as_slice-2.ensures.value ∙ c.in_ok-infos.ensures) c.in_ok-tables.ensures
     (none_found c.args.metas.now c.args.classes.now c.as_slice-2.result.now _ (c.in_ok-first_cycle.ensures.cycle ∙ ap first_cycle (c.as_slice.ensures.value ∙ sym c.as_slice-2.ensures.value)) (sym c.is_some.ensures ∙ c.if-is_some.false))
     (sym all ∙ yes)
 
 pub returns-clause-refused : goal.returns-clause-refused
 returns-clause-refused c =
-    let all : c.in_ok-differ.differ ≡ list_all (differ (extended c.args.metas.now c.args.classes.now).features) (drop (length c.args.metas.now.classes + 1) (all_lists c.in_ok-tables.tables.lists)) =
-    c.in_ok-differ.ensures ∙ ap2 (λ fs n. list_all (differ fs) (drop (n + 1) (all_lists c.in_ok-tables.tables.lists))) (c.as_slice-3.ensures.value ∙ c.in_ok-features.ensures) c.class_count-before.ensures.count in
+    let all : c.in_ok-differ.differ ≡ list_all (are_named_apart (extended c.args.metas.now c.args.classes.now).features) (drop (length c.args.metas.now.classes + 1) (all_lists c.in_ok-tables.tables.lists)) =
+    c.in_ok-differ.ensures ∙ ap2 (λ fs n. list_all (are_named_apart fs) (drop (n + 1) (all_lists c.in_ok-tables.tables.lists))) (c.as_slice-3.ensures.value ∙ c.in_ok-features.ensures) c.class_count-before.ensures.count in
     λ no. of_sound c.args.metas.now c.args.classes.now _ _ _ _ (c.as_slice-2.ensures.value ∙ c.in_ok-infos.ensures) c.in_ok-tables.ensures (sym all ∙ no)

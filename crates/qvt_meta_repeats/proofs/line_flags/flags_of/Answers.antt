@@ -1,20 +1,21 @@
-use Rattle.std.proofs.Common.{◌∙◌, ◌||◌, ◌==◌, ap, sym}
-use Rattle.qvt_meta_tables.specs.NumberSets.{has_number}
-use Rattle.qvt_meta_repeats.specs.Flags.{same_number}
-use Rattle.qvt_meta_repeats.proofs.Flags.{flags_next, seen_next}
+use Rattle.std.proofs.Common.{◌∙◌, [], ap, arith, get_or, length, sym, take}
+use Rattle.std.proofs.lemmas.List.{get_or_read}
+use Rattle.qvt_meta_repeats.specs.Flags.{number_flags}
+use Rattle.qvt_meta_repeats.proofs.Flags.{flags_begun, flags_there, flags_within}
 use Rattle.qvt_meta_repeats.proofs.line_flags.flags_of.Goals as goal
 
-pub loop-feature-preserved : goal.loop-feature-preserved
-loop-feature-preserved c =
-    let numbers = c.args.numbers.now in
-    let line = c.args.line.now in
-    let i = c.loop-feature.feature-index in
-    record {
-      flags = flags_next (same_number numbers) c.loop-feature.flags _ _ c.has.result line i _ c.loop-feature-test.true
-          (c.has.ensures ∙ ap (has_number c.loop-feature.seen) c.number_at-number.ensures ∙ c.loop-feature.invariant.seen _)
-          c.loop-feature.invariant.flags c.in_ok-push.ensures.ok;
-      seen = λ n.
-          c.in_ok-put.ensures.ok n
-          ∙ (λ t. c.loop-feature.invariant.seen n t || (c.number_at-number.ensures t == n))
-          ∙ sym (seen_next numbers line i n _ c.loop-feature-test.true);
-    }
+pub begun-requires : goal.begun-requires
+begun-requires c =
+    let lines = c.args.lists.now.lines in
+    let there = flags_there c.args.numbers.now lines c.args.at c.in-Some.front c.in-Some.ensures c.args.all.now c.requires.all c.requires.at in
+    let within = flags_within c.args.numbers.now lines c.args.at c.in-Some.front c.in-Some.ensures c.args.all.now c.requires.all in
+    omega (arith, within, ap (λ x. length x) (get_or_read c.args.all.now c.in-Some.front.line _ there c.index-all-front.is []))
+
+pub add_flags-requires-2-clause-flags : goal.add_flags-requires-2-clause-flags
+add_flags-requires-2-clause-flags c =
+    let lines = c.args.lists.now.lines in
+    let there = flags_there c.args.numbers.now lines c.args.at c.in-Some.front c.in-Some.ensures c.args.all.now c.requires.all c.requires.at in
+    c.in_ok-flags-2.ensures
+    ∙ ap (take c.in-Some.front.count) (get_or_read c.args.all.now c.in-Some.front.line _ there c.index-all-front.is [])
+    ∙ flags_begun c.args.numbers.now lines c.args.at c.in-Some.front c.in-Some.ensures c.args.all.now c.requires.all
+    ∙ ap (λ line. take c.in-Some.front.count (number_flags c.args.numbers.now line)) (sym (c.as_slice-line.ensures ∙ get_or_read lines c.args.at _ c.requires.at (c.index-lines-at.is ∙ ap (λ ls. get_or ls c.args.at c.index-lines-at.result) c.lines.ensures) []))

@@ -1,5 +1,5 @@
 use Rattle.std.proofs.Common.{◌≡◌, ◌∙◌, sym, ap, subst, List}
-use Rattle.qvt_slots.specs.Contents.{Contents}
+use Rattle.qvt_store.specs.Contents.{Contents}
 use Rattle.qvt_store.specs.Sound.{Sound}
 use Rattle.qvt_store.specs.Stay.{InputsStay, StaysIn}
 use Rattle.qvt_model.specs.declared.data.ObjectData.{ObjectData}

@@ -1,5 +1,6 @@
-use Rattle.std.proofs.Common.{◌≡◌, ◌∙◌, ◌<◌, ◌^◌, [], length, sym, ap, subst, ◌≤◌, arith}
+use Rattle.std.proofs.Common.{◌≡◌, ◌∙◌, ◌<◌, ◌^◌, eqb, [], length, sym, ap, subst, ◌≤◌, arith}
 use Rattle.serde_json.specs.View.{view}
+use Rattle.qvt_repeats.specs.Repeats.{repeated_by}
 use Rattle.qvt_metamodel.specs.WellFormed.{IsWellFormed}
 use Rattle.qvt_json.specs.Plain.{IsPlain, file_text}
 use Rattle.qvt_store.specs.Contents.{is_live, members_of}
@@ -8,12 +9,12 @@ use Rattle.std.specs.List.{AllByRecursion}
 use Rattle.std.specs.Prelude.{IsTrue}
 use Rattle.qvt_model.specs.Extents.{numbers, data_of}
 use Rattle.qvt_model.specs.Written.{model_text, model_value}
-use Rattle.qvt_model.specs.Writing.{are_new, model_written}
+use Rattle.qvt_model.specs.Writing.{model_written}
 use Rattle.qvt_model.proofs.Writing.{members-new, members-live, model_written-is, IsPlain-model_written}
 use Rattle.qvt_model.proofs.write.write_model.Goals as goal
 
 pub model_written-requires-clause-new : goal.model_written-requires-clause-new
-model_written-requires-clause-new c = ap (λ ms. are_new [] (numbers ms)) c.extent.ensures ∙ members-new c.args.store.now c.args.extent
+model_written-requires-clause-new c = ap (λ ms. repeated_by eqb [] (numbers ms)) c.extent.ensures ∙ members-new c.args.store.now c.args.extent
 
 pub model_written-requires-clause-live : goal.model_written-requires-clause-live
 model_written-requires-clause-live c = subst (AllByRecursion (λ o. IsTrue (is_live c.args.store.now o.0))) (sym c.extent.ensures) (members-live c.args.store.now c.args.extent)

@@ -1,6 +1,6 @@
 use Rattle.std.proofs.Common.{◌≡◌, ◌+◌, length, drop}
 use Rattle.std.specs.List.{flat_map}
-use Rattle.qvt_slots.specs.Contents.{members_of}
+use Rattle.qvt_store.specs.Contents.{members_of}
 use Rattle.qvt_report.proofs.extents.count_of.Given as goal
 
 abbrev pub invariant-loop-extent : goal.invariant-loop-extent

@@ -1,7 +1,7 @@
 use Rattle.std.proofs.Common.{◌∙◌, subst, sym}
 use Rattle.std.specs.Prelude.{IsTrue}
 use Rattle.std.specs.List.{AllByRecursion}
-use Rattle.qvt_slots.specs.Contents.{is_extent}
+use Rattle.qvt_store.specs.Contents.{is_extent}
 use Rattle.qvt_report.proofs.Along.{are_extents}
 use Rattle.qvt_report.proofs.extents.written_count.Goals as goal
 

@@ -1,6 +1,6 @@
 use Rattle.std.proofs.Common.{◌≡◌, ◌∙◌, true, ◌++◌, ◌∷◌, [], sym, ap, subst, List, take}
 use Rattle.std.proofs.lemmas.List.{take_all, take_more}
-use Rattle.qvt_metamodel.specs.Metamodels.{is_containment}
+use Rattle.qvt_metas.specs.Metamodels.{is_containment}
 use Rattle.qvt_slots.proofs.Holds.{by_more, live_same}
 use Rattle.qvt_slots.specs.declared.commit.Write.{Write}
 use Rattle.qvt_slots.specs.Slots.{has}

@@ -1,14 +1,14 @@
 use Rattle.std.proofs.Common.{◌≡◌, ◌∙◌, ◌<◌, true, sym, subst, List, ℕ, length, get_or}
-use Rattle.qvt_metamodel.specs.Metamodels.{is_containment}
+use Rattle.qvt_metas.specs.Metamodels.{is_containment}
 use Rattle.qvt_slots.specs.declared.commit.Write.{Write}
 use Rattle.qvt_slots.specs.Slots.{has}
-use Rattle.qvt_slots.specs.Change.{among}
+use Rattle.qvt_slots.specs.Change.{among_objects}
 use Rattle.qvt_slots.specs.Writes.{AllLive, AreHeldBy}
 use Rattle.qvt_slots.proofs.Holds.{live_same, write_same, have_same, settled}
 use Rattle.qvt_slots.proofs.commit.settle.Goals as goal
 
 pub hold_added-requires : goal.hold_added-requires
-hold_added-requires c = live_same c.args.cells.now.items c.hold_each.new.cells.items (among c.args.draft.now.added) c.hold_each.ensures.objects c.requires.added
+hold_added-requires c = live_same c.args.cells.now.items c.hold_each.new.cells.items (among_objects c.args.draft.now.added) c.hold_each.ensures.objects c.requires.added
 
 pub hold_all-requires : goal.hold_all-requires
 hold_all-requires c = subst (λ (l : List Write). (k : ℕ) (d : Write) → k < length l → is_containment c.args.metas.now (get_or l k d).feature.0 ≡ true → AllLive c.hold_added.new.cells.items (has (get_or l k d).items)) (sym c.deref.ensures.value)

@@ -1,5 +1,5 @@
 use Rattle.std.proofs.Common.{◌∙◌, sym, ap, subst, slice_index_or}
-use Rattle.qvt_metamodel.specs.Metamodels.{nowhere_class}
+use Rattle.qvt_metas.specs.Metamodels.{nowhere_class}
 use Rattle.qvt_types_above.specs.Tells.{IsAboveTable}
 use Rattle.qvt_types_above.proofs.TableTold.{class_tells}
 use Rattle.qvt_types_above.proofs.table.tell_class.Goals as goal

@@ -1,4 +1,4 @@
-use Rattle.qvt_metamodel.specs.Descends.{descends}
+use Rattle.qvt_metas.specs.Descends.{descends}
 use Rattle.qvt_types_choices.proofs.Sets.{some_in_both}
 use Rattle.qvt_types_choices.proofs.choices.are_some_below.Goals as goal
 

@@ -1,5 +1,5 @@
 use Rattle.std.proofs.Common.{sym, subst}
-use Rattle.qvt_meta_tables.specs.Search.{IsAcyclic}
+use Rattle.qvt_metas.specs.Search.{IsAcyclic}
 use Rattle.qvt_types_choices.proofs.class_choices.class_order.Goals as goal
 
 pub order_of-requires-clause-acyclic : goal.order_of-requires-clause-acyclic

@@ -1,6 +1,6 @@
 use Rattle.std.proofs.Common.{◌≡◌, ℕ, ◌&&◌, length}
 use Rattle.std.specs.Prelude.{nat_lt}
-use Rattle.qvt_metamodel.specs.Metamodels.{class_at}
+use Rattle.qvt_metas.specs.Metamodels.{class_at}
 use Rattle.qvt_metamodel.specs.Kept.{is_marked}
 use Rattle.qvt_types_choices.specs.Sets.{bits}
 use Rattle.qvt_types_choices.proofs.Marked.{word_count}

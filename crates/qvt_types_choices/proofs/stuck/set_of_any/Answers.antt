@@ -1,6 +1,6 @@
 use Rattle.std.proofs.Common.{arith, subst}
 use Rattle.qvt_types_units.specs.Choice.{is_context_above, context_at}
-use Rattle.qvt_meta_tables.specs.Tables.{EndsWithin}
+use Rattle.qvt_metas.specs.Tables.{EndsWithin}
 use Rattle.qvt_types_choices.proofs.Sets.{set_next, set_end}
 use Rattle.qvt_types_choices.proofs.stuck.set_of_any.Goals as goal
 

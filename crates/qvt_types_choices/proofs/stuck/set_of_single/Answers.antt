@@ -1,7 +1,7 @@
 use Rattle.std.proofs.Common.{◌&&◌, subst}
 use Rattle.std.specs.List.{list_any}
 use Rattle.qvt_types_units.specs.Choice.{is_context_above, context_at}
-use Rattle.qvt_meta_tables.specs.Tables.{EndsWithin}
+use Rattle.qvt_metas.specs.Tables.{EndsWithin}
 use Rattle.qvt_types_choices.specs.Only.{is_rival}
 use Rattle.qvt_types_choices.proofs.Sets.{set_without}
 use Rattle.qvt_types_choices.proofs.stuck.set_of_single.Goals as goal

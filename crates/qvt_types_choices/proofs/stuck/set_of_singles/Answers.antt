@@ -1,5 +1,5 @@
 use Rattle.std.proofs.Common.{arith, subst}
-use Rattle.qvt_meta_tables.specs.Tables.{EndsWithin}
+use Rattle.qvt_metas.specs.Tables.{EndsWithin}
 use Rattle.qvt_types_choices.specs.Only.{is_only}
 use Rattle.qvt_types_choices.proofs.Sets.{set_next, set_end}
 use Rattle.qvt_types_choices.proofs.stuck.set_of_singles.Goals as goal

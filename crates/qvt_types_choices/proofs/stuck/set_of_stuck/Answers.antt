@@ -1,9 +1,9 @@
 use Rattle.std.proofs.Common.{◌≡◌, ◌∙◌, ℕ, Bool, true, false, length, ◌&&◌, not, refl, sym, subst}
 use Rattle.std.specs.List.{list_any}
 use Rattle.qvt_metamodel.specs.declared.row.Row.{Row}
-use Rattle.qvt_metamodel.specs.Metamodels.{class_at}
+use Rattle.qvt_metas.specs.Metamodels.{class_at}
 use Rattle.qvt_types_units.specs.Choice.{is_context_above, context_at}
-use Rattle.qvt_meta_tables.specs.Tables.{EndsWithin}
+use Rattle.qvt_metas.specs.Tables.{EndsWithin}
 use Rattle.qvt_types_choices.specs.Only.{is_only}
 use Rattle.qvt_types_choices.specs.Sets.{IsSetOf}
 use Rattle.qvt_types_choices.specs.Stuck.{is_stuck}
@@ -44,4 +44,4 @@ pub returns-then-not-are_contested : goal.returns-then-not-are_contested
 returns-then-not-are_contested c =
     subst (IsSetOf c.args.metas.now (is_stuck c.args.metas.now c.args.units.now c.args.group.now)) (sym c.empty_row.ensures)
     (set_of_none c.args.metas.now (is_stuck c.args.metas.now c.args.units.now c.args.group.now)
-    (none_stuck c.args.metas.now c.args.units.now c.args.group.now (sym c.are_contested.ensures ∙ c.if-not-are_contested.true) c.are_well_formed.ensures.regular.antisymmetric c.requires.distinct))
+    (none_stuck c.args.metas.now c.args.units.now c.args.group.now (sym c.are_contested.ensures ∙ c.if-not-are_contested.true) c.are_well_formed.ensures.regular.transitive c.are_well_formed.ensures.regular.antisymmetric c.requires.distinct))

@@ -8,6 +8,7 @@ use Rattle.qvt_metamodel.specs.Metamodels.{Metamodels}
 use Rattle.qvt_metamodel.specs.declared.row.Row.{Row}
 use Rattle.qvt_metamodel.proofs.Empty.{kept, no_metamodels}
 use Rattle.qvt_meta_lists.specs.Lists.{Lists, all_lists}
+use Rattle.qvt_meta_names.specs.declared.place_tables.PlaceTables.{PlaceTables}
 use Rattle.qvt_metas.proofs.FeaturePlaces.{none_numbered, none_placed}
 use Rattle.qvt_metas.proofs.metas.Metas.new.Goals as goal
 
@@ -25,7 +26,7 @@ invariant_of-result c = record {
   each = ap length c.new-7.ensures.items ∙ sym (ap length c.new.ensures.items);
   named = λ k h. absurd (omega (arith, h, ap length c.new.ensures.items));
   numbered = none_numbered _ _ _ c.new-3.ensures.items c.new-8.ensures c.new-9.ensures.items;
-  placed = none_placed _ _ _ (ap (λ (ls : Lists). ls.lines) c.new-4.ensures) c.new-10.ensures.items;
+  placed = none_placed _ _ _ (ap (λ (ls : Lists). ls.lines) c.new-4.ensures) (ap (λ (t : PlaceTables). t.roots) c.new-10.ensures);
   enumerated = record {
     each = ap length c.new-11.ensures.items ∙ sym (ap length c.new.ensures.items);
     at = λ k h. absurd (omega (arith, h, ap length c.new.ensures.items));

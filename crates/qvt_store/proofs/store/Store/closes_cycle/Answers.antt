@@ -3,7 +3,7 @@ use Rattle.qvt_base.specs.declared.numbers.Oid.{Oid}
 use Rattle.qvt_metamodel.specs.Metamodels.{is_containment}
 use Rattle.qvt_metamodel.specs.WellFormed.{IsWellFormed}
 use Rattle.qvt_relation.proofs.Bools.{clash}
-use Rattle.qvt_slots.specs.Change.{is_container, among}
+use Rattle.qvt_slots.specs.Change.{is_container, among_objects}
 use Rattle.qvt_slots.specs.Contents.{Contents, slot_of, is_live}
 use Rattle.qvt_store.specs.Draft.{drafted}
 use Rattle.qvt_slots.specs.Walk.{SomeOver, IsOverSome}
@@ -20,7 +20,7 @@ returns-then-is_containment c =
     (λ t. e.1 (here.0 t), λ k. here.1 (e.0 k))
 
 pub is_over_some-requires : goal.is_over_some-requires
-is_over_some-requires c = subst (λ (l : List Oid). (y : ℕ) → among l y ≡ true → is_live c.args.self.now y ≡ true) (sym c.as_slice-then-is_container.ensures) c.requires.added.live
+is_over_some-requires c = subst (λ (l : List Oid). (y : ℕ) → among_objects l y ≡ true → is_live c.args.self.now y ≡ true) (sym c.as_slice-then-is_container.ensures) c.requires.added.live
 
 pub returns-then-is_container : goal.returns-then-is_container
 returns-then-is_container c =
